@@ -1,0 +1,7 @@
+pub mod RingLemmas
+pub mod SumLemmas
+pub mod BernsteinLemmas
+pub mod DivisionLemmas
+pub mod MomentLemmas
+pub mod EdgeLemmas
+pub mod Rows

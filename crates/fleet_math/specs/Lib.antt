@@ -1,0 +1,6 @@
+pub mod Numbers
+pub mod Sums
+pub mod Bernstein
+pub mod Moments
+pub mod Decoded
+pub mod Near
