@@ -1,0 +1,110 @@
+-- The first piece of bytes that are cut, and what stands behind it.
+use Rattle.std.proofs.Common.{◌≡◌, ℕ, ◌+◌, ◌<◌, ◌≤◌, Bool, true, false, cond, ltb, List, [], ◌∷◌, ◌++◌, length, take, drop, refl, sym, ap, ◌∙◌, append_assoc, append-nil, Option, Some, None, inl, inr, arith}
+use Rattle.std.specs.Prelude.{unwrap_or, not}
+use Rattle.std.proofs.lemmas.Bool.{cases_lt, lt-ltb, le-ltb}
+use Rattle.std.specs.List.{slice_split, onto_first, position_or_len}
+use Rattle.std.proofs.lemmas.List.{length-take}
+use Rattle.std.proofs.lemmas.List.Splits.{slice_split_first, slice_split_none}
+use Rattle.std.proofs.lemmas.List.Sums.{fails_before_first, prefix_len-le-length}
+use Rattle.text_lines.specs.declared.token.Token.{Token}
+use Rattle.text_lines.specs.declared.token.Comments.{Comments}
+use Rattle.text_lines.specs.Lines.{is_line_feed, lines_of, without_empty_end}
+use Rattle.text_lines.specs.Words.{is_blank, visible}
+use Rattle.text_lines.specs.Tokens.{word_token, words_at, line_tokens, tokens_from}
+
+pub position_within : (p : ℕ → Bool) (xs : List ℕ) → position_or_len p xs ≤ length xs
+position_within p xs = prefix_len-le-length (λ x. not (p x)) xs
+
+-- the place that `position` finds, or the length
+pub unwrap_position : (p : ℕ → Bool) (xs : List ℕ) (o : Option ℕ) → o ≡ cond (ltb (position_or_len p xs) (length xs)) (Some (position_or_len p xs)) None → unwrap_or o (length xs) ≡ position_or_len p xs
+unwrap_position p xs o is = elim (cases_lt (position_or_len p xs) (length xs)) [
+  | inl lt ↦ rw (is, lt-ltb _ _ lt) refl
+  | inr le ↦ rw (is, le-ltb _ _ le) (omega (arith, position_within p xs))
+]
+
+-- bytes with an end in them are cut there
+pub cut_more : (p : ℕ → Bool) (n : ℕ) (xs : List ℕ) → n ≡ position_or_len p xs → n < length xs → slice_split p xs ≡ take n xs ∷ slice_split p (drop (n + 1) xs)
+cut_more p n xs is lt = rw is (slice_split_first p xs 0 (rw (← is) lt))
+
+-- bytes without an end are one piece
+pub cut_none : (p : ℕ → Bool) (n : ℕ) (xs : List ℕ) → n ≡ position_or_len p xs → n ≡ length xs → slice_split p xs ≡ xs ∷ []
+cut_none p n xs is all = slice_split_none p xs (λ k d lt. fails_before_first p xs k d (omega arith))
+
+-- ---- lines
+
+record SomePieces (ps : List (List ℕ)) : Type 0 where
+  first : List ℕ
+  others : List (List ℕ)
+  is : ps ≡ first ∷ others
+
+pieces_some_by : (b : Bool) (x : ℕ) (ps : List (List ℕ)) → SomePieces (cond b ([] ∷ ps) (onto_first x ps))
+pieces_some_by true x ps = record { first = []; others = ps; is = refl }
+pieces_some_by false x [] = record { first = x ∷ []; others = []; is = refl }
+pieces_some_by false x (p ∷ ps) = record { first = x ∷ p; others = ps; is = refl }
+
+pieces_some : (p : ℕ → Bool) (xs : List ℕ) → SomePieces (slice_split p xs)
+pieces_some p [] = record { first = []; others = []; is = refl }
+pieces_some p (x ∷ xs) = pieces_some_by (p x) x (slice_split p xs)
+
+not_last : (w p : List ℕ) (ps : List (List ℕ)) → without_empty_end (w ∷ p ∷ ps) ≡ w ∷ without_empty_end (p ∷ ps)
+not_last [] p ps = refl
+not_last (b ∷ w) p ps = refl
+
+alone : (w : List ℕ) → 0 < length w → without_empty_end (w ∷ []) ≡ w ∷ []
+alone [] h = absurd (omega arith)
+alone (b ∷ w) h = refl
+
+-- a line that a line feed ends
+pub line_more : (n : ℕ) (xs : List ℕ) → n ≡ position_or_len is_line_feed xs → n < length xs → lines_of xs ≡ take n xs ∷ lines_of (drop (n + 1) xs)
+line_more n xs is lt =
+    let s = pieces_some is_line_feed (drop (n + 1) xs) in
+    ap without_empty_end (cut_more is_line_feed n xs is lt)
+    ∙ ap (λ ps. without_empty_end (take n xs ∷ ps)) s.is
+    ∙ not_last (take n xs) s.first s.others
+    ∙ ap (λ ps. take n xs ∷ without_empty_end ps) (sym s.is)
+
+-- a last line without its line feed
+pub line_last : (n : ℕ) (xs : List ℕ) → n ≡ position_or_len is_line_feed xs → n ≡ length xs → 0 < length xs → lines_of xs ≡ xs ∷ []
+line_last n xs is all some = ap without_empty_end (cut_none is_line_feed n xs is all) ∙ alone xs some
+
+-- ---- words
+
+-- a word, and those behind the blank that ends it
+pub word_more : (line at n : ℕ) (xs : List ℕ) (old new total : List Token) → n ≡ position_or_len is_blank xs → n < length xs → new ≡ old ++ word_token line at n → old ++ line_tokens line at xs ≡ total → new ++ line_tokens line (at + (n + 1)) (drop (n + 1) xs) ≡ total
+word_more line at n xs old new total is lt made so_far =
+    let size : length (take n xs) ≡ n = omega (arith, length-take n xs) in
+    let place : at + (n + 1) ≡ at + n + 1 = omega arith in
+    let cut : line_tokens line at xs ≡ word_token line at n ++ line_tokens line (at + n + 1) (drop (n + 1) xs) =
+    ap (words_at line at) (cut_more is_blank n xs is lt)
+    ∙ ap (λ (k : ℕ). word_token line at k ++ line_tokens line (at + k + 1) (drop (n + 1) xs)) size in
+    ap (λ (k : ℕ). new ++ line_tokens line k (drop (n + 1) xs)) place
+    ∙ ap (λ ts. ts ++ line_tokens line (at + n + 1) (drop (n + 1) xs)) made
+    ∙ append_assoc old (word_token line at n) (line_tokens line (at + n + 1) (drop (n + 1) xs))
+    ∙ ap (λ ts. old ++ ts) (sym cut)
+    ∙ so_far
+
+-- the last word
+pub word_last : (line at n : ℕ) (xs : List ℕ) (old new total : List Token) → n ≡ position_or_len is_blank xs → n ≡ length xs → new ≡ old ++ word_token line at n → old ++ line_tokens line at xs ≡ total → new ≡ total
+word_last line at n xs old new total is all made so_far =
+    let cut : line_tokens line at xs ≡ word_token line at n =
+    ap (words_at line at) (cut_none is_blank n xs is all)
+    ∙ append-nil (word_token line at (length xs))
+    ∙ ap (word_token line at) (sym all) in
+    made ∙ ap (λ ts. old ++ ts) (sym cut) ∙ so_far
+
+-- the words of one more line
+pub line_put : (comments : Comments) (number at : ℕ) (line shown rest behind : List ℕ) (old new total : List Token) → lines_of rest ≡ line ∷ lines_of behind → shown ≡ visible comments line → new ≡ old ++ line_tokens number at shown → old ++ tokens_from comments number at (lines_of rest) ≡ total → new ++ tokens_from comments (number + 1) (at + (length line + 1)) (lines_of behind) ≡ total
+line_put comments number at line shown rest behind old new total cut seen made so_far =
+    let place : at + (length line + 1) ≡ at + length line + 1 = omega arith in
+    let later = tokens_from comments (number + 1) (at + length line + 1) (lines_of behind) in
+    ap (λ (k : ℕ). new ++ tokens_from comments (number + 1) k (lines_of behind)) place
+    ∙ ap (λ ts. ts ++ later) made
+    ∙ ap (λ bytes. (old ++ line_tokens number at bytes) ++ later) seen
+    ∙ append_assoc old (line_tokens number at (visible comments line)) later
+    ∙ ap (λ ls. old ++ tokens_from comments number at ls) (sym cut)
+    ∙ so_far
+
+-- no line is left
+pub lines_put : (comments : Comments) (number at : ℕ) (rest : List ℕ) (old total : List Token) → lines_of rest ≡ [] → old ++ tokens_from comments number at (lines_of rest) ≡ total → old ≡ total
+lines_put comments number at rest old total none so_far =
+    sym (append-nil old) ∙ ap (λ ls. old ++ tokens_from comments number at ls) (sym none) ∙ so_far

@@ -1,0 +1,4 @@
+pub mod Cuts
+pub mod ByLine
+pub mod Grouped
+pub mod NumberLaws

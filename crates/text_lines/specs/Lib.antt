@@ -1,0 +1,5 @@
+pub mod Lines
+pub mod Marker
+pub mod Words
+pub mod Tokens
+pub mod Numbers

@@ -1,0 +1,17 @@
+//! Lines, words and decimal numbers, for every text that the product reads.
+//!
+//! A text is cut into lines at each line feed; the last line may lack it. The bytes 9, 13 and 32 separate
+//! the words of a line. [`tokens`] gives the words of a text in order, each with its place, and
+//! [`line_word_count`] tells how many of them stand on the first line, so that a reader goes from line to line:
+//! its lines are those of `lines_with_words`, numbered from 1, lines without words counted too.
+#![tactic(auto)]
+
+mod line;
+mod number;
+#[cfg(test)]
+mod tests;
+mod token;
+
+pub use line::split_line;
+pub use number::{LARGE, NumberFault, natural, number_in};
+pub use token::{Comments, Token, line_word_count, tokens, visible, word_at};

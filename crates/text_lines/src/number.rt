@@ -1,0 +1,89 @@
+//! Decimal numbers.
+
+ghost use Rattle.std.specs.Prelude.{◌≡◌, ℕ, ◌≤◌, ◌≤ℤ◌, ◌<ℤ◌, pos, neg_ℤ, min, option_map, Option, IsTrue, IfOk, ◌<◌, length};
+ghost use Rattle.text_lines.specs.Numbers.{is_digit as is_digit_of, natural_of, signed, begins_with_minus as begins_with_minus_of, in_range as in_range_of, number_in as number_in_of};
+
+/// Why a word isn't a number that is wanted.
+#[derive(Clone, Copy, Debug, PartialEq, Eq)]
+pub enum NumberFault {
+    /// It isn't decimal digits, at least one, with an optional `-` before them.
+    NotANumber,
+    /// It is a number below the least or above the greatest that is wanted.
+    OutOfRange,
+}
+
+/// The greatest number that is told from greater ones. The bounds of all numbers that are read lie below it.
+pub const LARGE: u64 = 1_000_000_000_000;
+
+// Whether a byte is a decimal digit.
+fn is_digit(byte: u8) -> bool
+    ensures { result ≡ is_digit_of byte }
+{
+    matches!(byte, b'0'..=b'9')
+}
+
+/// The number that a word of decimal digits spells, or [`LARGE`] where it is greater. There may be any number of digits,
+/// at least one; leading zeros are allowed.
+pub fn natural(word: &[u8]) -> Option<u64>
+    ensures { result ≡ option_map (λ n. min n LARGE) (natural_of word.now) }
+{
+    if word.is_empty() {
+        return None;
+    }
+    let mut n: u64 = 0;
+    for digit in word {
+        if !is_digit(*digit) {
+            return None;
+        }
+        n = (10 * n + (*digit as u64 - 48)).min(LARGE);
+    }
+    Some(n)
+}
+
+fn begins_with_minus(word: &[u8]) -> bool
+    ensures value { result ≡ begins_with_minus_of word.now }
+    ensures some { IsTrue result → 0 < length word.now }
+{
+    match word {
+        [first, ..] => *first == b'-',
+        [] => false,
+    }
+}
+
+// The value of a size with its sign, in a range. A size above `LARGE` may be shown as that.
+fn in_range(size: Option<u64>, negative: bool, low: i64, high: i64) -> Result<i64, NumberFault>
+    requires low { neg_ℤ (pos LARGE) <ℤ low }
+    requires high { high <ℤ pos LARGE }
+    ensures within { IfOk result (λ v. (low ≤ℤ v) × (v ≤ℤ high)) }
+    ensures value { (n : Option ℕ) → size ≡ option_map (λ m. min m LARGE) n
+        → result ≡ in_range_of low high (option_map (signed negative) n) }
+{
+    let Some(size) = size else {
+        return Err(NumberFault::NotANumber);
+    };
+    let Ok(size) = i64::try_from(size) else {
+        return Err(NumberFault::OutOfRange);
+    };
+    let value = if negative { -size } else { size };
+    if value < low {
+        return Err(NumberFault::OutOfRange);
+    }
+    if high < value {
+        return Err(NumberFault::OutOfRange);
+    }
+    Ok(value)
+}
+
+/// The number that a word spells: decimal digits with an optional `-` before them. It has to lie from `low` to `high`.
+pub fn number_in(word: &[u8], low: i64, high: i64) -> Result<i64, NumberFault>
+    requires low { neg_ℤ (pos LARGE) <ℤ low }
+    requires high { high <ℤ pos LARGE }
+    ensures value { result ≡ number_in_of low high word.now }
+    ensures within { IfOk result (λ v. (low ≤ℤ v) × (v ≤ℤ high)) }
+{
+    if begins_with_minus(word) {
+        in_range(natural(&word[1..]), true, low, high)
+    } else {
+        in_range(natural(word), false, low, high)
+    }
+}

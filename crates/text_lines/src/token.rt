@@ -1,0 +1,128 @@
+//! The words of a text, as places in it.
+
+ghost use Rattle.std.specs.Prelude.{◌≡◌, ℕ, List, ◌+◌, ◌<◌, ◌≤◌, ◌++◌, ◌∷◌, length, ◌^◌, drop, take, IfOk, OnOk};
+ghost use Rattle.std.specs.List.{position_or_len};
+ghost use Rattle.text_lines.specs.Words.{is_blank as is_blank_of, visible as visible_of};
+ghost use Rattle.text_lines.specs.Tokens.{word_in, words_in, word_token, line_tokens, tokens_of, lines_in, first_token};
+
+use crate::line::{len_before, split_line};
+use std::alloc::{AllocError, Global};
+
+/// A word: the number of its line, from 1, where in the text it begins, and where it ends.
+#[derive(Clone, Copy, Debug, PartialEq, Eq)]
+pub struct Token {
+    pub line: u32,
+    pub start: usize,
+    pub end: usize,
+}
+
+/// Whether a text has comments.
+#[derive(Clone, Copy, Debug, PartialEq, Eq)]
+pub enum Comments {
+    /// A `#` begins one, which goes to the end of its line.
+    FromHash,
+    /// A `#` is a byte like others.
+    Absent,
+}
+
+/// What is read of a line: all of it, or what stands before its comment.
+pub fn visible(line: &[u8], comments: Comments) -> &[u8]
+    ensures value { result.now ≡ visible_of comments line.now }
+    ensures within { length result.now ≤ length line.now }
+{
+    match comments {
+        Comments::FromHash => &line[..len_before(line, b'#')],
+        Comments::Absent => line,
+    }
+}
+
+// How many bytes stand before the first blank.
+fn word_len(bytes: &[u8]) -> usize
+    ensures value { result ≡ position_or_len is_blank_of bytes.now }
+    ensures within { result ≤ length bytes.now }
+{
+    bytes
+        .iter()
+        .position(|b| matches!(*b, b'\t' | b'\r' | b' '))
+        .unwrap_or(bytes.len())
+}
+
+// One more word, unless it has no byte.
+fn put_word(tokens: &mut Vec<Token>, line: u32, start: usize, len: usize) -> Result<(), AllocError>
+    requires { start + len < 2 ^ 62 }
+    ensures { OnOk result (tokens.new.items ≡ tokens.old.items ++ word_token line start len) }
+{
+    if len == 0 {
+        return Ok(());
+    }
+    tokens.push(Token {
+        line,
+        start,
+        end: start + len,
+    })?;
+    Ok(())
+}
+
+// The words of what is read of a line, which begins at a place.
+fn put_words(tokens: &mut Vec<Token>, line: u32, at: usize, bytes: &[u8]) -> Result<(), AllocError>
+    requires { at + length bytes.now < 2 ^ 61 }
+    ensures { OnOk result (tokens.new.items ≡ tokens.old.items ++ line_tokens line at bytes.now) }
+{
+    let mut at = at;
+    let mut rest = bytes;
+    'words: loop {
+        let len = word_len(rest);
+        put_word(tokens, line, at, len)?;
+        if len == rest.len() {
+            return Ok(());
+        }
+        at += len + 1;
+        rest = &rest[len + 1..];
+    }
+}
+
+/// The words of a text in order, each with its line and its place.
+pub fn tokens(alloc: Global, text: &[u8], comments: Comments) -> Result<Vec<Token>, AllocError>
+    requires { length text.now < 2 ^ 31 }
+    ensures { IfOk result (λ tokens. tokens.items ≡ tokens_of comments text.now) }
+{
+    let mut tokens = Vec::new(alloc);
+    let mut number: u32 = 1;
+    let mut at: usize = 0;
+    let mut rest = text;
+    'lines: while let Some((line, behind)) = split_line(rest) {
+        put_words(&mut tokens, number, at, visible(line, comments))?;
+        number += 1;
+        at += line.len() + 1;
+        rest = behind;
+    }
+    Ok(tokens)
+}
+
+/// The bytes of a word, and none where it stands outside the text.
+pub fn word_at<'a>(text: &'a [u8], token: &Token) -> &'a [u8]
+    ensures { result.now ≡ word_in text.now token.now }
+{
+    if token.start <= token.end && token.end <= text.len() {
+        &text[token.start..token.end]
+    } else {
+        &[]
+    }
+}
+
+/// How many of these words stand on the line of the first one.
+pub fn line_word_count(tokens: &[Token]) -> usize
+    requires { 0 < length tokens.now }
+    ensures some { 0 < result }
+    ensures within { result ≤ length tokens.now }
+    ensures line { (text : List ℕ) → lines_in text tokens.now
+        ≡ record { number = (first_token tokens.now).line; words = words_in text (take result tokens.now) }
+        ∷ lines_in text (drop result tokens.now) }
+{
+    let line = tokens[0].line;
+    let mut n: usize = 1;
+    while n < tokens.len() && tokens[n].line == line {
+        n += 1;
+    }
+    n
+}
