@@ -1,0 +1,5 @@
+pub mod BlendLemmas
+pub mod RaisedLemmas
+pub mod EightLemmas
+pub mod CurveLemmas
+pub mod Rows

@@ -1,0 +1,4 @@
+pub mod Curves
+pub mod Raised
+pub mod Along
+pub mod Steps
