@@ -1,0 +1,78 @@
+-- The triangle of de Casteljau's rule, and its two edges.
+use Rattle.std.proofs.Common.{◌≡◌, ℕ, zero, suc, ◌≤◌, ◌+◌, ◌-◌, ◌*◌, ◌^◌, ℤ, pos, ◌+ℤ◌, ◌*ℤ◌, ◌≤ℤ◌, arith, sym, ◌∙◌, ap, All, List, lit<}
+use Rattle.std.proofs.lemmas.Int.{ints}
+use Rattle.std.proofs.lemmas.Nat.{pow-add}
+use Rattle.std.proofs.Math.Nat.{pow-le-pow_right}
+use Rattle.fleet_math.specs.Sums.{power}
+use Rattle.fleet_math.specs.Bernstein.{at, bernstein}
+use Rattle.fleet_math.proofs.RingLemmas.{linear, one_mul_ℤ, mul_assoc_ℤ}
+use Rattle.fleet_math.proofs.BernsteinLemmas.{bernstein-zero, bernstein-same, bernstein-scale, bernstein-suc, bernstein-at_zero, bernstein-at_end}
+use Rattle.fleet_math.specs.Numbers.{IsBelow}
+use Rattle.bezier_core.specs.Steps.{IsWithin}
+use Rattle.bezier_core.proofs.BlendLemmas.{within_blend, within_mul, power_pos}
+use Rattle.bezier_core.proofs.EightLemmas.{below_at}
+use Rattle.halving.specs.Part.{polar, part_value}
+
+-- the sums of a row keep a bound, scaled
+pub bernstein-within : (n : ℕ) (f : ℕ → ℤ) (m a c : ℤ) → pos 0 ≤ℤ a → a ≤ℤ c → ((k : ℕ) → k ≤ n → IsWithin m (f k)) → IsWithin (power c n *ℤ m) (bernstein n f a c)
+bernstein-within zero f m a c positive within small = rw (bernstein-zero f a c, one_mul_ℤ m) (small 0 (omega arith))
+bernstein-within (suc n) f m a c positive within small =
+    rw (bernstein-suc n f a c, mul_assoc_ℤ c (power c n) m)
+    (within_blend a c (power c n *ℤ m) (bernstein n f a c) (bernstein n (λ k. f (suc k)) a c) positive within
+    (bernstein-within n f m a c positive within (λ k low. small k (omega arith)))
+    (bernstein-within n (λ k. f (suc k)) m a c positive within (λ k low. small (suc k) (omega arith))))
+
+-- the next row
+pub row_after : (k i : ℕ) (f : ℕ → ℤ) → bernstein (k + 1) (λ j. f (i + j)) (pos 1) (pos 2) ≡ bernstein k (λ j. f (i + j)) (pos 1) (pos 2) +ℤ bernstein k (λ j. f (i + 1 + j)) (pos 1) (pos 2)
+row_after k i f =
+    let e : k + 1 ≡ suc k = omega arith in
+    rw e (bernstein-suc k (λ j. f (i + j)) (pos 1) (pos 2)
+    ∙ ap (λ (z : ℤ). pos 1 *ℤ bernstein k (λ j. f (i + j)) (pos 1) (pos 2) +ℤ pos 1 *ℤ z) (bernstein-same k _ (λ j. f (i + 1 + j)) (pos 1) (pos 2) (λ j low. ap f (omega arith)))
+    ∙ omega (arith, linear))
+
+-- the left edge
+pub left_edge : (k : ℕ) (f : ℕ → ℤ) → pos (2 ^ (7 - k)) *ℤ bernstein k (λ j. f (0 + j)) (pos 1) (pos 2) ≡ part_value 1 0 f k
+unfolding polar
+left_edge k f = sym (bernstein-at_zero (7 - k) (λ i. bernstein k (λ l. f (i + l)) (pos 1) (pos 2)) (pos 2) ∙ ap (λ (z : ℤ). z *ℤ bernstein k (λ j. f (0 + j)) (pos 1) (pos 2)) (power_pos 2 (7 - k)))
+
+-- the right edge
+pub right_edge : (k : ℕ) (f : ℕ → ℤ) → k ≤ 7 → pos (2 ^ (7 - k)) *ℤ bernstein k (λ j. f (7 - k + j)) (pos 1) (pos 2) ≡ part_value 1 1 f (7 - k)
+unfolding polar
+right_edge k f within =
+    let e : 7 - (7 - k) ≡ k = omega arith in
+    rw e (sym (
+    bernstein-same k _ (λ i. power (pos 2) (7 - k) *ℤ f (7 - k + i)) (pos 1) (pos 2)
+    (λ i low. bernstein-at_end (7 - k) (λ l. f (i + l)) (pos 2) ∙ ap (λ (n : ℕ). power (pos 2) (7 - k) *ℤ f n) (omega arith))
+    ∙ bernstein-scale k (power (pos 2) (7 - k)) (λ j. f (7 - k + j)) (pos 1) (pos 2)
+    ∙ ap (λ (z : ℤ). z *ℤ bernstein k (λ j. f (7 - k + j)) (pos 1) (pos 2)) (power_pos 2 (7 - k))))
+
+-- ---- bounds
+-- the values of a row are bounded by as many doublings as there were rows
+row_within : (k i : ℕ) (b : List ℤ) → All (IsBelow (2 ^ 118)) b → IsWithin (pos (2 ^ k * 2 ^ 118)) (bernstein k (λ j. at b (i + j)) (pos 1) (pos 2))
+row_within k i b small =
+    rw (sym (ap (λ (z : ℤ). z *ℤ pos (2 ^ 118)) (power_pos 2 k)))
+    (bernstein-within k (λ j. at b (i + j)) (pos (2 ^ 118)) (pos 1) (pos 2) (omega (arith, linear)) (omega (arith, linear))
+    (λ j low. loose _ (below_at (2 ^ 118) b (i + j) (lit< tt) small)))
+  where
+    loose : (x : ℤ) → IsBelow (2 ^ 118) x → IsWithin (pos (2 ^ 118)) x
+    loose x below = (omega (arith, linear), omega (arith, linear))
+
+-- a row's value has room for the sum with its neighbour
+pub row_small : (k i : ℕ) (b : List ℤ) → k ≤ 7 → All (IsBelow (2 ^ 118)) b → IsWithin (pos (2 ^ 125)) (bernstein k (λ j. at b (i + j)) (pos 1) (pos 2))
+row_small k i b few small = close (2 ^ k) (bernstein k (λ j. at b (i + j)) (pos 1) (pos 2)) (pow-le-pow_right {n = 2} (lit< tt) few) (row_within k i b small)
+  where
+    close : (p : ℕ) (x : ℤ) → p ≤ 2 ^ 7 → IsWithin (pos (p * 2 ^ 118)) x → IsWithin (pos (2 ^ 125)) x
+    close p x few within = (omega (arith, ints), omega (arith, ints))
+
+-- a row's value has room for the doublings that are left
+pub row_room : (k i : ℕ) (b : List ℤ) → k ≤ 7 → All (IsBelow (2 ^ 118)) b → IsWithin (pos (2 ^ 126)) (pos (2 ^ (7 - k)) *ℤ bernstein k (λ j. at b (i + j)) (pos 1) (pos 2))
+row_room k i b few small =
+    let e : 7 - k + k ≡ 7 = omega arith in
+    let whole : 2 ^ (7 - k) * 2 ^ k ≡ 2 ^ 7 = sym (pow-add 2 (7 - k) k) ∙ ap (λ (n : ℕ). 2 ^ n) e in
+    close (2 ^ (7 - k)) (2 ^ k) (pos (2 ^ (7 - k)) *ℤ bernstein k (λ j. at b (i + j)) (pos 1) (pos 2)) whole
+    (within_mul (pos (2 ^ (7 - k))) (pos (2 ^ k * 2 ^ 118)) _ (omega (arith, linear)) (row_within k i b small))
+  where
+    close : (p q : ℕ) (x : ℤ) → p * q ≡ 2 ^ 7 → IsWithin (pos (p * (q * 2 ^ 118))) x → IsWithin (pos (2 ^ 126)) x
+    close p q x whole within =
+        let e : p * (q * 2 ^ 118) ≡ 2 ^ 125 = omega (arith, ap (λ (n : ℕ). n * 2 ^ 118) whole) in
+        (omega (arith, ints), omega (arith, ints))

@@ -1,0 +1,4 @@
+pub mod PolarLemmas
+pub mod HalfLemmas
+pub mod SeparationLemmas
+pub mod Rows
