@@ -1,0 +1,11 @@
+use Rattle.std.proofs.Common.{◌≡◌, ◌+◌, length, take, ap, ◌∙◌, sym, arith}
+use Rattle.std.specs.List.{flat_map}
+use Rattle.std.proofs.lemmas.List.{take_all}
+use Rattle.traj_codec.specs.Spelling.{segment}
+use Rattle.traj_codec.proofs.Sizes.{total_size}
+use Rattle.traj_codec.proofs.writing.size_of.Goals as goal
+
+pub returns-clause-exact : goal.returns-clause-exact
+returns-clause-exact c =
+    let all : take c.loop-s.s-index c.args.t.now.segments ≡ c.args.t.now.segments = take_all _ _ (omega (arith, ap length c.as_slice-s-items.ensures)) in
+    c.loop-s.invariant.so_far ∙ ap (λ xs. 11 + length (flat_map segment xs)) all ∙ sym (total_size c.args.t.now.start (flat_map segment c.args.t.now.segments) (omega arith))

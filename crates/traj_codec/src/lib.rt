@@ -1,0 +1,16 @@
+//! Trajectories in the compressed format (docs/TRAJECTORY.md): a start, then segments of elements of four kinds.
+//!
+//! What `encode` answers is the one spelling of the trajectory by `specs/Spelling.antt`, and then three zero bytes;
+//! `size_of` is its length. Where the trajectory puts a drone at an instant is said by `specs/Positions.antt`.
+#![tactic(auto)]
+
+mod law;
+mod traj;
+mod writing;
+
+pub use law::spelling_law;
+pub use traj::{Element, Segment, Segments, Traj};
+pub use writing::{encode, size_of};
+
+#[cfg(test)]
+mod tests;
