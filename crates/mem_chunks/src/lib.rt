@@ -1,0 +1,49 @@
+//! The chunks in which a list of bytes is written to a drone's memory: 24 bytes each, the last one
+//! perhaps shorter. The chunks, one behind the other, are the bytes (`cover_law`). The crate takes
+//! the number 24 from `crtp_packets`; none of its calls takes memory. docs/RADIO.md, "Chunks",
+//! states the rule.
+#![tactic(auto)]
+
+ghost use Rattle.std.specs.Prelude.{◌≡◌, ℕ, ◌*◌, ◌<◌, ◌≤◌, List};
+ghost use Rattle.mem_chunks.specs.Chunks.{chunk_count_of, chunk_start, chunk_end, Covers};
+
+use crtp_packets::WRITE_BYTES;
+
+/// The bytes of a full chunk, as many as one write carries: docs/RADIO.md, "Chunks".
+pub const CHUNK: usize = WRITE_BYTES;
+
+/// The bytes of a drone's trajectory memory: docs/RADIO.md, "The drone that is modelled".
+pub const MEMORY: usize = 4096;
+
+/// How many chunks `len` bytes make: the least number whose chunks hold them all.
+pub fn chunk_count(len: usize) -> usize
+    requires { len ≤ MEMORY }
+    ensures value { result ≡ chunk_count_of len }
+    ensures holds_all { len ≤ CHUNK * result }
+    ensures least { (n : ℕ) → len ≤ CHUNK * n → result ≤ n }
+{
+    len.div_ceil(CHUNK)
+}
+
+/// Where chunk `k` of `len` bytes begins, and where it ends: its bytes are those from the first
+/// place up to, but not including, the second. Chunks count from 0.
+pub fn chunk(len: usize, k: usize) -> (usize, usize)
+    requires in_memory { len ≤ MEMORY }
+    requires in_range { k < chunk_count_of len }
+    ensures start { result.0 ≡ chunk_start k }
+    ensures end { result.1 ≡ chunk_end len k }
+    ensures not_empty { result.0 < result.1 }
+    ensures within { result.1 ≤ len }
+{
+    let start = CHUNK * k;
+    (start, (start + CHUNK).min(len))
+}
+
+/// The law of chunks, for every list of bytes: the chunks, one behind the other, are the bytes, and
+/// each has 1 to 24 of them. It does nothing when it runs.
+pub fn cover_law()
+    ensures { (bytes : List ℕ) → Covers bytes }
+{}
+
+#[cfg(test)]
+mod tests;
