@@ -30,7 +30,7 @@ fn places_chunks(rt: HostRuntime) -> Result<(), Fail> {
         (4096, 169, (4056, 4080)),
         (4096, 170, (4080, 4096)),
     ] {
-        assert!(rt; len <= MEMORY && k < chunk_count(len));
+        assert!(rt; len <= MEMORY_BYTES && k < chunk_count(len));
         assert_eq!(rt; chunk(len, k), place, "at {len} and {k}");
     }
     Ok(())
