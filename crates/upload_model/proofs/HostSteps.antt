@@ -1,0 +1,248 @@
+-- What one more event does to what is acknowledged, counted and answered.
+use Rattle.std.proofs.Common.{◌≡◌, ◌≢◌, ℕ, zero, suc, ◌+◌, ◌-◌, ◌<◌, ◌≤◌, Bool, true, false, not, cond, ◌&&◌, ◌||◌, eqb, List, [], ◌∷◌, ◌++◌, length, take, filter, refl, ap, sym, ◌∙◌, arith, Option, Some}
+use Rattle.std.specs.Prelude.{slice_get, find, count_by}
+use Rattle.std.specs.List.{range_with_len, list_any, list_all, flat_map}
+use Rattle.std.proofs.Math.Path.{fun_ext}
+use Rattle.std.proofs.lemmas.Bool.{false≢true}
+use Rattle.std.proofs.lemmas.List.{take-append-le, take_all, length_push, length-append, append-nil, append_assoc}
+use Rattle.std.proofs.lemmas.List.Sums.{length-filter}
+use Rattle.std.proofs.lemmas.List.Folds.{list_any-append}
+use Rattle.std.proofs.lemmas.List.Elements.{filter-append}
+use Rattle.upload_model.specs.declared.events.Event.{Event}
+use Rattle.upload_model.specs.declared.events.Event.TheVariants as event
+use Rattle.upload_model.specs.declared.events.Sent.{Sent}
+use Rattle.upload_model.specs.declared.events.Progress.{Progress}
+use Rattle.upload_model.specs.declared.events.Progress.TheVariants.{Going, Done, GaveUp, Refused}
+use Rattle.upload_model.specs.Sessions.{Upload, drone_count, write_count, packet_count}
+use Rattle.upload_model.specs.Hosts.{status_for, is_good, acked, Packets, open_writes, all_loaded, unless_done, flight_from, flight_of, flight_after, flight, sent_to, is_tick, includes, ticks, all_packets, gave_up, ended_by, ending, or_else, progress_within, progress}
+use Rattle.upload_model.proofs.HostLaws.{packet_count-plain, packet_count-start, acked-nil, all_packets-each}
+
+-- ---- lists
+
+pub range-more : (a n : ℕ) → range_with_len a (suc n) ≡ range_with_len a n ++ (a + n) ∷ []
+range-more a zero = ap (λ (k : ℕ). k ∷ []) (let e : a ≡ a + 0 = omega arith in e)
+range-more a (suc n) =
+    ap (λ (xs : List ℕ). a ∷ xs) (range-more (a + 1) n ∙ ap (λ (k : ℕ). range_with_len (a + 1) n ++ k ∷ []) (let e : a + 1 + n ≡ a + suc n = omega arith in e))
+
+pub filter-range-agree : (p q : ℕ → Bool) (a n : ℕ) → ((k : ℕ) → a ≤ k → k < a + n → p k ≡ q k) →
+    filter p (range_with_len a n) ≡ filter q (range_with_len a n)
+filter-range-agree p q a zero h = refl
+filter-range-agree p q a (suc n) h =
+    ap (λ (b : Bool). cond b (a ∷ filter p (range_with_len (a + 1) n)) (filter p (range_with_len (a + 1) n))) (h a (omega arith) (omega arith))
+    ∙ ap (λ (xs : List ℕ). cond (q a) (a ∷ xs) xs) (filter-range-agree p q (a + 1) n (λ k l b. h k (omega arith) (omega arith)))
+
+pub list_all-range-agree : (p q : ℕ → Bool) (a n : ℕ) → ((k : ℕ) → a ≤ k → k < a + n → p k ≡ q k) →
+    list_all p (range_with_len a n) ≡ list_all q (range_with_len a n)
+list_all-range-agree p q a zero h = refl
+list_all-range-agree p q a (suc n) h =
+    ap (λ (b : Bool). b && list_all p (range_with_len (a + 1) n)) (h a (omega arith) (omega arith))
+    ∙ ap (λ (b : Bool). q a && b) (list_all-range-agree p q (a + 1) n (λ k l b. h k (omega arith) (omega arith)))
+
+pub flat_map-range-agree : {X : Type 0} (f g : ℕ → List X) (a n : ℕ) → ((k : ℕ) → a ≤ k → k < a + n → f k ≡ g k) →
+    flat_map f (range_with_len a n) ≡ flat_map g (range_with_len a n)
+flat_map-range-agree f g a zero h = refl
+flat_map-range-agree {X} f g a (suc n) h =
+    ap (λ (xs : List X). xs ++ flat_map f (range_with_len (a + 1) n)) (h a (omega arith) (omega arith))
+    ∙ ap (λ (xs : List X). g a ++ xs) (flat_map-range-agree f g (a + 1) n (λ k l b. h k (omega arith) (omega arith)))
+
+count_by-range-agree : (p q : ℕ → Bool) (a n : ℕ) → ((k : ℕ) → a ≤ k → k < a + n → p k ≡ q k) →
+    count_by p (range_with_len a n) ≡ count_by q (range_with_len a n)
+count_by-range-agree p q a n h =
+    sym (length-filter p (range_with_len a n)) ∙ ap (λ (xs : List ℕ). length xs) (filter-range-agree p q a n h) ∙ length-filter q (range_with_len a n)
+
+count_by-range-more : (p : ℕ → Bool) (n : ℕ) → count_by p (range_with_len 0 (suc n)) ≡ count_by p (range_with_len 0 n) + cond (p n) 1 0
+count_by-range-more p n =
+    sym (length-filter p (range_with_len 0 (suc n)))
+    ∙ ap (λ (xs : List ℕ). length (filter p xs)) (range-more 0 n)
+    ∙ ap (λ (xs : List ℕ). length xs) (filter-append p (range_with_len 0 n) ((0 + n) ∷ []))
+    ∙ length-append (filter p (range_with_len 0 n)) (filter p ((0 + n) ∷ []))
+    ∙ ap (λ (k : ℕ). k + length (filter p ((0 + n) ∷ []))) (length-filter p (range_with_len 0 n))
+    ∙ ap (λ (k : ℕ). count_by p (range_with_len 0 n) + length (filter p (k ∷ []))) (let e : 0 + n ≡ n = omega arith in e)
+    ∙ ap (λ (k : ℕ). count_by p (range_with_len 0 n) + k) (one (p n)) where
+      one : (b : Bool) → length (cond b (n ∷ []) []) ≡ cond b 1 0
+      one true = refl
+      one false = refl
+
+slice_get-last : {X : Type 0} (xs : List X) (x : X) → slice_get (xs ++ x ∷ []) (length xs) ≡ Some x
+slice_get-last [] x = refl
+slice_get-last (y ∷ ys) x = slice_get-last ys x
+
+slice_get-before : {X : Type 0} (xs ys : List X) (i : ℕ) → i < length xs → slice_get (xs ++ ys) i ≡ slice_get xs i
+slice_get-before [] ys i h = absurd (omega arith)
+slice_get-before (x ∷ xs) ys zero h = refl
+slice_get-before (x ∷ xs) ys (suc i) h = slice_get-before xs ys i (omega arith)
+
+-- ---- one more event
+
+pub acked-push : (s : Upload) (h : List Event) (e : Event) (d k : ℕ) →
+    acked s (h ++ e ∷ []) d k ≡ (acked s h d k || is_good (status_for s d k e))
+unfolding acked
+acked-push s h e d k =
+    list_any-append (λ x. is_good (status_for s d k x)) h (e ∷ [])
+    ∙ ap (λ (b : Bool). list_any (λ x. is_good (status_for s d k x)) h || b) (or_end (is_good (status_for s d k e))) where
+      or_end : (b : Bool) → (b || false) ≡ b
+      or_end true = refl
+      or_end false = refl
+
+or_nothing : (b : Bool) → (b || false) ≡ b
+or_nothing true = refl
+or_nothing false = refl
+
+pub acked-tick : (s : Upload) (h : List Event) (d k : ℕ) → acked s (h ++ event.Tick ∷ []) d k ≡ acked s h d k
+acked-tick s h d k = acked-push s h event.Tick d k ∙ or_nothing (acked s h d k)
+
+pub ticks-push : (s : Upload) (h : List Event) (e : Event) (x : Sent) →
+    ticks s (h ++ e ∷ []) x ≡ ticks s h x + cond (is_tick (Some e) && includes (flight s h) x) 1 0
+unfolding ticks
+ticks-push s h e x =
+    ap (λ (n : ℕ). count_by new (range_with_len 0 n)) (length_push h e ∙ (let f : length h + 1 ≡ suc (length h) = omega arith in f))
+    ∙ count_by-range-more new (length h)
+    ∙ ap (λ (n : ℕ). n + cond (new (length h)) 1 0) (count_by-range-agree new old 0 (length h) same)
+    ∙ ap (λ (b : Bool). count_by old (range_with_len 0 (length h)) + cond b 1 0) here where
+      new : ℕ → Bool
+      new i = is_tick (slice_get (h ++ e ∷ []) i) && includes (flight s (take i (h ++ e ∷ []))) x
+
+      old : ℕ → Bool
+      old i = is_tick (slice_get h i) && includes (flight s (take i h)) x
+
+      same : (i : ℕ) → 0 ≤ i → i < 0 + length h → new i ≡ old i
+      same i l b =
+          ap (λ (o : Option Event). is_tick o && includes (flight s (take i (h ++ e ∷ []))) x) (slice_get-before h (e ∷ []) i (omega arith))
+          ∙ ap (λ (g : List Event). is_tick (slice_get h i) && includes (flight s g) x) (take-append-le i h (e ∷ []) (omega arith))
+
+      here : new (length h) ≡ (is_tick (Some e) && includes (flight s h) x)
+      here =
+          ap (λ (o : Option Event). is_tick o && includes (flight s (take (length h) (h ++ e ∷ []))) x) (slice_get-last h e)
+          ∙ ap (λ (g : List Event). is_tick (Some e) && includes (flight s g) x) (take-append-le (length h) h (e ∷ []) (omega arith) ∙ take_all (length h) h (omega arith))
+
+-- ---- progress, one event at a time
+
+progress_within-before : (s : Upload) (h t : List Event) (n : ℕ) → n ≤ length h → progress_within s (h ++ t) n ≡ progress_within s h n
+unfolding progress_within
+progress_within-before s h t zero l = refl
+progress_within-before s h t (suc n) l =
+    ap (λ (p : Progress). or_else p (ending s (take (suc n) (h ++ t)))) (progress_within-before s h t n (omega arith))
+    ∙ ap (λ (g : List Event). or_else (progress_within s h n) (ending s g)) (take-append-le (suc n) h t l)
+
+pub progress-push : (s : Upload) (h : List Event) (e : Event) → progress s (h ++ e ∷ []) ≡ or_else (progress s h) (ending s (h ++ e ∷ []))
+unfolding progress progress_within
+progress-push s h e =
+    ap (progress_within s (h ++ e ∷ [])) (length_push h e ∙ (let f : length h + 1 ≡ suc (length h) = omega arith in f))
+    ∙ ap (λ (p : Progress). or_else p (ending s (take (suc (length h)) (h ++ e ∷ [])))) (progress_within-before s h (e ∷ []) (length h) (omega arith))
+    ∙ ap (λ (g : List Event). or_else (progress_within s h (length h)) (ending s g))
+    (take_all (suc (length h)) (h ++ e ∷ []) (let l = length_push h e in omega arith))
+
+or_else-stays : (p q : Progress) → p ≢ Going → or_else p q ≡ p
+or_else-stays Going q h = absurd (h refl)
+or_else-stays Done q h = refl
+or_else-stays (GaveUp d k) q h = refl
+or_else-stays (Refused d k status) q h = refl
+
+-- an answer that ended the upload stays
+pub progress-stays : (s : Upload) (h t : List Event) → progress s h ≢ Going → progress s (h ++ t) ≡ progress s h
+progress-stays s h [] n = ap (progress s) (append-nil h)
+progress-stays s h (e ∷ t) n =
+    let one : progress s (h ++ e ∷ []) ≡ progress s h = progress-push s h e ∙ or_else-stays (progress s h) (ending s (h ++ e ∷ [])) n in
+    let rest = progress-stays s (h ++ e ∷ []) t (λ g. n (sym one ∙ g)) in
+    ap (progress s) (sym (append_assoc h (e ∷ []) t)) ∙ rest ∙ one
+
+or_else-going : (p q : Progress) → or_else p q ≡ Going → q ≡ Going
+or_else-going Going q h = h
+or_else-going Done q h = absurd (cc)
+or_else-going (GaveUp d k) q h = absurd (cc)
+or_else-going (Refused d k status) q h = absurd (cc)
+
+pub ending-going : (s : Upload) (h : List Event) → progress s h ≡ Going → ending s h ≡ Going
+unfolding progress progress_within
+ending-going s h g = by_len (length h) refl g where
+  by_len : (n : ℕ) → length h ≡ n → progress_within s h n ≡ Going → ending s h ≡ Going
+  by_len zero e p = ap (ending s) (sym (take_all 0 h (omega arith))) ∙ p
+  by_len (suc n) e p =
+      ap (ending s) (sym (take_all (suc n) h (omega arith))) ∙ or_else-going (progress_within s h n) (ending s (take (suc n) h)) p
+
+-- while the upload is going, something isn't acknowledged
+pub going-open : (s : Upload) (h : List Event) → progress s h ≡ Going → list_all (λ x. acked s h x.drone x.packet) (all_packets s) ≡ false
+unfolding ending
+going-open s h g = by_all (list_all (λ x. acked s h x.drone x.packet) (all_packets s)) refl (ending-going s h g) where
+  by_all : (b : Bool) → list_all (λ x. acked s h x.drone x.packet) (all_packets s) ≡ b → ending s h ≡ Going → b ≡ false
+  by_all false f e = refl
+  by_all true f e =
+      let done : ending s h ≡ Done = ap (λ (b : Bool). cond b Done (ended_by s h (slice_get h (length h - 1)))) f in
+      let no : Going ≡ Done = sym e ∙ done in
+      absurd (cc)
+
+last-push : (h : List Event) (e : Event) → slice_get (h ++ e ∷ []) (length (h ++ e ∷ []) - 1) ≡ Some e
+last-push h e =
+    ap (slice_get (h ++ e ∷ [])) (let l = length_push h e in let f : length (h ++ e ∷ []) - 1 ≡ length h = omega arith in f) ∙ slice_get-last h e
+
+-- one more event of an upload that is going
+pub progress-next : (s : Upload) (h : List Event) (e : Event) → progress s h ≡ Going →
+    progress s (h ++ e ∷ [])
+    ≡ cond (list_all (λ x. acked s (h ++ e ∷ []) x.drone x.packet) (all_packets s)) Done (ended_by s (h ++ e ∷ []) (Some e))
+unfolding ending
+progress-next s h e g =
+    progress-push s h e
+    ∙ ap (λ (p : Progress). or_else p (ending s (h ++ e ∷ []))) g
+    ∙ ap (λ (o : Option Event). cond (list_all (λ x. acked s (h ++ e ∷ []) x.drone x.packet) (all_packets s)) Done (ended_by s (h ++ e ∷ []) o)) (last-push h e)
+
+-- a tick of an upload that is going
+pub progress-tick : (s : Upload) (h : List Event) → progress s h ≡ Going →
+    progress s (h ++ event.Tick ∷ []) ≡ gave_up (find (λ x. eqb (ticks s (h ++ event.Tick ∷ []) x) 20) (all_packets s))
+progress-tick s h g =
+    progress-next s h event.Tick g
+    ∙ ap (λ (f : Sent → Bool). cond (list_all f (all_packets s)) Done (ended_by s (h ++ event.Tick ∷ []) (Some event.Tick))) (fun_ext (λ (x : Sent). acked-tick s h x.drone x.packet))
+    ∙ ap (λ (b : Bool). cond b Done (ended_by s (h ++ event.Tick ∷ []) (Some event.Tick))) (going-open s h g)
+
+-- ---- what is in flight depends on the packets of the session alone
+
+abbrev pub Agree : Upload → Packets → Packets → Type 0
+Agree s f g = (d k : ℕ) → d < drone_count s → k < packet_count s d → f d k ≡ g d k
+
+pub all_loaded-agree : (s : Upload) (f g : Packets) → Agree s f g → all_loaded s f ≡ all_loaded s g
+unfolding all_loaded
+all_loaded-agree s f g same =
+    list_all-range-agree (λ d. list_all (f d) (range_with_len 0 (write_count s d + 1))) (λ d. list_all (g d) (range_with_len 0 (write_count s d + 1))) 0 (drone_count s)
+    (λ d l b. list_all-range-agree (f d) (g d) 0 (write_count s d + 1) (λ k m c. let n = packet_count-plain s d in same d k (omega arith) (omega arith)))
+
+flight_from-agree : (s : Upload) (f g : Packets) (d : ℕ) (xs : List ℕ) → d < drone_count s → Agree s f g → flight_from s f d xs ≡ flight_from s g d xs
+flight_from-agree s f g d (k ∷ ks) l same = refl
+flight_from-agree s f g d [] l same =
+    ap (λ (b : Bool). cond b (late f) (unless_done (f d (write_count s d)) (write_count s d))) (all_loaded-agree s f g same)
+    ∙ ap (λ (b : Bool). cond (all_loaded s g) (late f) (unless_done b (write_count s d))) (same d (write_count s d) l (packet_count-plain s d))
+    ∙ ap (λ (xs : List ℕ). cond (all_loaded s g) xs (unless_done (g d (write_count s d)) (write_count s d))) (late_same s.start refl) where
+      late : Packets → List ℕ
+      late f = cond s.start (unless_done (f d (write_count s d + 1)) (write_count s d + 1)) []
+
+      late_same : (b : Bool) → s.start ≡ b →
+          cond b (unless_done (f d (write_count s d + 1)) (write_count s d + 1)) [] ≡ cond b (unless_done (g d (write_count s d + 1)) (write_count s d + 1)) []
+      late_same true e =
+          ap (λ (b : Bool). unless_done b (write_count s d + 1)) (same d (write_count s d + 1) l (let n = packet_count-start s d e in omega arith))
+      late_same false e = refl
+
+pub flight_of-agree : (s : Upload) (f g : Packets) (d : ℕ) → d < drone_count s → Agree s f g → flight_of s f d ≡ flight_of s g d
+unfolding flight_of open_writes
+flight_of-agree s f g d l same =
+    ap (flight_from s f d) (filter-range-agree (λ k. not (f d k)) (λ k. not (g d k)) 0 (write_count s d)
+    (λ k m c. ap not (same d k l (let n = packet_count-plain s d in omega arith))))
+    ∙ flight_from-agree s f g d (open_writes s g d) l same
+
+pub flight_after-agree : (s : Upload) (f g : Packets) → Agree s f g → flight_after s f ≡ flight_after s g
+unfolding flight_after
+flight_after-agree s f g same =
+    flat_map-range-agree (λ d. sent_to d (flight_of s f d)) (λ d. sent_to d (flight_of s g d)) 0 (drone_count s)
+    (λ d l b. ap (sent_to d) (flight_of-agree s f g d (omega arith) same))
+
+-- ---- no event
+
+pub ticks-nil : (s : Upload) (x : Sent) → ticks s [] x ≡ 0
+unfolding ticks
+ticks-nil s x = refl
+
+pub progress-nil : (s : Upload) → 1 ≤ drone_count s → progress s [] ≡ Going
+unfolding progress progress_within ending
+progress-nil s some = by_all (list_all (λ x. acked s [] x.drone x.packet) (all_packets s)) refl where
+  by_all : (b : Bool) → list_all (λ x. acked s [] x.drone x.packet) (all_packets s) ≡ b → cond b Done (ended_by s [] (slice_get [] (length {A = Event} [] - 1))) ≡ Going
+  by_all false e = refl
+  by_all true e =
+      let c = packet_count-plain s 0 in
+      absurd (false≢true (sym (acked-nil s 0 0) ∙ all_packets-each s (λ x. acked s [] x.drone x.packet) e 0 0 (omega arith) (omega arith)))

@@ -1,0 +1,20 @@
+//! An upload as mathematics: one drone, the packets of a session, the host as a function of all that
+//! happened to it, the world of host, link and drones, and the law that every list of events keeps.
+//!
+//! Code is in the crates above: `firmware_memory` is one drone, `upload_core` the host, `fleet_world`
+//! the world. They share the plain types of this crate, and their contracts cite its definitions.
+//! It stands on the bytes of the packets, of `mem_chunks`, `crtp_packets` and `commander_cmds`.
+#![tactic(auto)]
+
+mod events;
+mod law;
+mod limits;
+mod loads;
+
+pub use events::{Event, Progress, Sent, WorldEvent};
+pub use law::upload_law;
+pub use limits::{
+    ACCEPTED, MEMORY_BYTES, MOST_DRONES, MOST_SEGMENTS, NO_ROOM, PACKETS_IN_FLIGHT, TABLE_ENTRIES,
+    TICKS_TO_GIVE_UP, UNFIT,
+};
+pub use loads::{Bytes, Def, Load};
