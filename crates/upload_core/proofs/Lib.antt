@@ -1,0 +1,5 @@
+pub mod Walks
+pub mod Hearing
+pub mod Standing
+pub mod Known
+pub mod Loading

@@ -1,0 +1,6 @@
+-- What holds whenever a loop of `make` begins a turn.
+use Rattle.std.proofs.Common.{◌≡◌, take}
+use Rattle.upload_core.proofs.session.Session.make.Given as goal
+
+abbrev pub invariant-loop-load : goal.invariant-loop-load
+invariant-loop-load l = l.copies.items ≡ take l.load-index l.loads.items

@@ -1,0 +1,4 @@
+pub mod Uploads
+pub mod Rows
+pub mod HostState
+pub mod HostStandsFor

@@ -1,0 +1,22 @@
+//! The host of an upload: it sends packets, hears answers and ticks, and sends again what is in flight
+//! until each packet is acknowledged, a packet was in flight too long, or a drone refuses one.
+//!
+//! A [`Session`] is what is to be uploaded, and gives its packets; a [`Host`] stands for the list of all
+//! that happened to it (`HostStandsFor`), and tells after each event how far the upload is and what is
+//! to be sent. All memory is taken by the two `make`s. The definitions are those of `upload_model`, the
+//! packets those of `crtp_packets` and `commander_cmds`, the pieces those of `mem_chunks`.
+#![tactic(auto)]
+
+mod answers;
+mod flight;
+mod host;
+mod rows;
+mod session;
+#[cfg(test)]
+mod tests;
+mod tick;
+
+pub use flight::{MOST_SENT, Out};
+pub use host::Host;
+pub use session::{Session, Settings};
+pub use upload_model::{Bytes, Event, Load, Progress, Sent};
