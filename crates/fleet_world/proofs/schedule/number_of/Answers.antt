@@ -1,0 +1,16 @@
+-- Why `number_of` keeps its contract, at the places where the check needs to be told.
+use Rattle.std.proofs.Common.{◌≡◌, ◌∙◌, ◌<◌, sym, arith}
+use Rattle.text_lines.specs.Numbers.{natural_of}
+use Rattle.fleet_world.proofs.ScheduleLaws.{natural-read, number_of-read}
+use Rattle.fleet_world.proofs.schedule.number_of.Goals as goal
+
+pub overflow_cast-result : goal.overflow_cast-result
+overflow_cast-result c =
+    let read = natural-read c.args.word.now c.in-Some.n (omega arith) (sym c.natural.ensures ∙ c.in-Some.is) in
+    let small : c.in-Some.n < 1000000000 = read.1 in
+    omega (arith, small)
+
+pub returns-in-Some : goal.returns-in-Some
+returns-in-Some c =
+    number_of-read c.args.word.now c.in-Some.n (omega arith)
+    (natural-read c.args.word.now c.in-Some.n (omega arith) (sym c.natural.ensures ∙ c.in-Some.is)).0 (omega arith)

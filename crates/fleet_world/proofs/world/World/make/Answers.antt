@@ -1,0 +1,67 @@
+-- Why `make` keeps its contract, at the places where the check needs to be told.
+use Rattle.std.proofs.Common.{◌≡◌, ◌≤◌, ◌∙◌, ◌++◌, [], ℕ, List, length, replicate, ap, sym, subst, arith}
+use Rattle.std.specs.Vec.{with_items}
+use Rattle.std.proofs.lemmas.List.{with_items_is}
+use Rattle.upload_model.specs.declared.events.Progress.TheVariants.{Going}
+use Rattle.upload_model.specs.declared.events.Sent.{Sent}
+use Rattle.upload_model.specs.Hosts.{flight}
+use Rattle.upload_model.specs.Sessions.{Upload, IsSession, drone_count}
+use Rattle.upload_model.specs.Worlds.{start_world, packets_for}
+use Rattle.upload_model.proofs.HostSteps.{progress-nil}
+use Rattle.upload_core.specs.HostState.{HostState}
+use Rattle.fleet_world.specs.Mail.{Row, rows_of, row_of, HasRoom}
+use Rattle.fleet_world.specs.WorldState.{WorldStandsAt, state_at}
+use Rattle.fleet_world.proofs.RowLemmas.{length-empty, HasRoom-less}
+use Rattle.fleet_world.proofs.Points.{stands-start}
+use Rattle.fleet_world.proofs.world.World.make.Goals as goal
+use Rattle.fleet_world.proofs.world.World.make.Goals.{After-make_room}
+
+-- the rows in which there is room, and how many there are
+room_rows : (c : After-make_room) → (with_items c.in_ok-sent.sent c.make_room.new.rows).items ≡ c.make_room.new.rows
+room_rows c = with_items_is c.in_ok-sent.sent c.make_room.new.rows (c.make_room.ensures.len ∙ (omega arith))
+
+rows_count : (c : After-make_room) → length c.make_room.new.rows ≡ drone_count c.in_ok-host.host.session
+rows_count c =
+    c.make_room.ensures.len ∙ ap (λ (rows : List Row). length rows) c.as_mut_slice.ensures.value
+    ∙ length-empty c.in_ok-sent.sent.items c.drones-count.result c.in_ok-sent.ensures
+    ∙ c.drones-count.ensures.value ∙ ap drone_count c.session.ensures
+
+pub put_all-requires-clause-rows : goal.put_all-requires-clause-rows
+put_all-requires-clause-rows c =
+    ap (λ (rows : List Row). length rows) (c.as_mut_slice-2.ensures.value ∙ room_rows (goal.at.put_all-requires-clause-rows c).After-make_room)
+    ∙ rows_count (goal.at.put_all-requires-clause-rows c).After-make_room ∙ sym (ap drone_count c.session-2.ensures)
+
+pub put_all-requires-clause-room : goal.put_all-requires-clause-room
+put_all-requires-clause-room c =
+    subst (λ (rows : List Row). HasRoom rows (length c.as_slice.result.now))
+    (sym (c.as_mut_slice-2.ensures.value ∙ room_rows (goal.at.put_all-requires-clause-room c).After-make_room))
+    (HasRoom-less c.make_room.new.rows 128 (length c.as_slice.result.now) (omega arith) c.in_ok-make_room.ensures.room)
+
+pub invariant_of-result : goal.invariant_of-result
+invariant_of-result c =
+    let put_rows : (with_items (with_items c.in_ok-sent.sent c.make_room.new.rows) c.put_all.new.rows).items ≡ c.put_all.new.rows
+    = with_items_is (with_items c.in_ok-sent.sent c.make_room.new.rows) c.put_all.new.rows (c.put_all.ensures.len ∙ (omega arith)) in (
+      c.requires ∙ sym (ap drone_count c.in_ok-host.ensures.session),
+      ap (λ (rows : List Row). length rows) put_rows ∙ c.put_all.ensures.len
+          ∙ ap (λ (rows : List Row). length rows) (c.as_mut_slice-2.ensures.value ∙ room_rows (goal.at.invariant_of-result c).After-make_room)
+          ∙ rows_count (goal.at.invariant_of-result c).After-make_room,
+      length-empty c.in_ok-given.given.items c.drones-count.result c.in_ok-given.ensures ∙ c.drones-count.ensures.value ∙ ap drone_count c.session.ensures,
+    )
+
+pub returns : goal.returns
+returns c =
+    let put_rows : (with_items (with_items c.in_ok-sent.sent c.make_room.new.rows) c.put_all.new.rows).items ≡ c.put_all.new.rows
+    = with_items_is (with_items c.in_ok-sent.sent c.make_room.new.rows) c.put_all.new.rows (c.put_all.ensures.len ∙ (omega arith)) in
+    let same : rows_of c.as_mut_slice-2.result.now ≡ replicate c.drones-count.result []
+    = ap rows_of (c.as_mut_slice-2.ensures.value ∙ room_rows (goal.at.returns c).After-make_room) ∙ c.make_room.ensures.same ∙ ap rows_of c.as_mut_slice.ensures.value ∙ c.in_ok-sent.ensures in
+    let some : 1 ≤ drone_count c.args.session = (subst IsSession (ap (λ (v : HostState). v.session) c.host.view_is ∙ c.in_ok-host.ensures.session) c.host.invariant.2).some_drones in
+    let at = stands-start c.args.session c.args.drones.items c.in_ok-host.host (rows_of c.put_all.new.rows) c.drones-count.result c.drones-count.result c.in_ok-host.ensures.session c.in_ok-host.ensures.stands c.requires
+    (λ d. c.put_all.ensures.packets d
+    ∙ ap (λ (rows : List (List (List ℕ))). row_of rows d ++ packets_for c.session-2.result.now c.as_slice.result.now d) same
+    ∙ ap (λ (u : Upload). row_of (replicate c.drones-count.result []) d ++ packets_for u c.as_slice.result.now d) c.session-2.ensures
+    ∙ ap (λ (xs : List Sent). row_of (replicate c.drones-count.result []) d ++ packets_for c.in_ok-host.host.session xs d) (c.as_slice.ensures.value ∙ c.first.ensures.sent))
+    Going (sym (progress-nil c.args.session some)) in
+    subst (λ (rows : List (List (List ℕ))). WorldStandsAt (record { host = c.in_ok-host.host; drones = c.args.drones.items; sent = rows_of (with_items (with_items c.in_ok-sent.sent c.make_room.new.rows) c.put_all.new.rows).items; given = rows; progress = Going }) c.args.session (start_world c.args.session (state_at c.args.drones.items)))
+    (sym c.in_ok-given.ensures)
+    (subst (λ (rows : List Row). WorldStandsAt (record { host = c.in_ok-host.host; drones = c.args.drones.items; sent = rows_of rows; given = replicate c.drones-count.result []; progress = Going }) c.args.session (start_world c.args.session (state_at c.args.drones.items)))
+    (sym put_rows) at)

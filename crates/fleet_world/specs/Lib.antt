@@ -1,0 +1,4 @@
+pub mod Mail
+pub mod WorldState
+pub mod Schedules
+pub mod Faults

@@ -1,0 +1,59 @@
+-- A schedule as text: one event a line (docs/RADIO.md, "Schedules").
+use Rattle.std.specs.Prelude.{ℕ, ◌+◌, ◌-◌, ◌==◌, nat_le, if◌then◌else◌, List, [], ◌∷◌, length, codes, slice_index_or, Option, Some, None, Result, Ok, Err}
+use Rattle.std.specs.Str.{bytes_eq}
+use Rattle.text_lines.specs.declared.token.Comments.TheVariants.{Absent}
+use Rattle.text_lines.specs.Words.{Line, lines_with_words}
+use Rattle.text_lines.specs.Numbers.{natural_of}
+use Rattle.upload_model.specs.declared.events.WorldEvent.{WorldEvent}
+use Rattle.upload_model.specs.declared.events.WorldEvent.TheVariants.{Tick, Take, Hear}
+use Rattle.fleet_world.specs.declared.schedule.TheConstants.{MOST_DIGITS}
+
+-- The text counts packets and answers from 1, an event counts them from 0. There is no packet 0.
+abbrev pub counted_from_0 : Option ℕ → Option ℕ
+counted_from_0 None = None
+counted_from_0 (Some n) = if n == 0 then None else Some (n - 1)
+
+-- The number of a packet or an answer: 1 to 9 decimal digits, at least 1. Leading zeros are allowed.
+abbrev pub number_of : List ℕ → Option ℕ
+number_of word = if nat_le (length word) MOST_DIGITS then counted_from_0 (natural_of word) else None
+
+-- The place of a name among the names, where the first of them has this place.
+abbrev pub place_from : ℕ → List (List ℕ) → List ℕ → Option ℕ
+place_from place [] word = None
+place_from place (name ∷ names) word = if bytes_eq name word then Some place else place_from (place + 1) names word
+
+-- The drone of a name: its place among the names, from 0.
+abbrev pub drone_of : List (List ℕ) → List ℕ → Option ℕ
+drone_of names word = place_from 0 names word
+
+-- What a line of three words does with this packet or answer of this drone.
+abbrev pub event_with : List ℕ → Option ℕ → Option ℕ → Option WorldEvent
+event_with kind (Some drone) (Some n) =
+    if bytes_eq kind (codes "take") then Some (Take drone n)
+    else (if bytes_eq kind (codes "hear") then Some (Hear drone n) else None)
+event_with kind (Some drone) None = None
+event_with kind None n = None
+
+-- The event of a line: `tick`, or `take` or `hear` with a name and a number. None where the line is
+-- faulty.
+abbrev pub event_of : List (List ℕ) → List (List ℕ) → Option WorldEvent
+event_of names words =
+    if length words == 1 then (if bytes_eq (slice_index_or words 0 []) (codes "tick") then Some Tick else None)
+    else (if length words == 3 then event_with (slice_index_or words 0 []) (drone_of names (slice_index_or words 1 [])) (number_of (slice_index_or words 2 []))
+    else None)
+
+-- A line's event in front of those of the lines behind it; or the line, where it is faulty.
+abbrev pub put_event : ℕ → Option WorldEvent → Result (List WorldEvent) ℕ → Result (List WorldEvent) ℕ
+put_event number None later = Err number
+put_event number (Some event) (Ok events) = Ok (event ∷ events)
+put_event number (Some event) (Err faulty) = Err faulty
+
+-- The events of these lines, or the number of the first faulty one.
+abbrev pub events_of : List (List ℕ) → List Line → Result (List WorldEvent) ℕ
+events_of names [] = Ok []
+events_of names (line ∷ lines) = put_event line.number (event_of names line.words) (events_of names lines)
+
+-- What a schedule text says over drones with these names: the events of its lines with words in order,
+-- or the number of the first faulty line. A `#` is a byte like others.
+abbrev pub schedule_of : List (List ℕ) → List ℕ → Result (List WorldEvent) ℕ
+schedule_of names text = events_of names (lines_with_words Absent text)
