@@ -1,0 +1,10 @@
+pub mod SentLemmas
+pub mod TextLemmas
+pub mod FoundLemmas
+pub mod TakenLemmas
+pub mod CutLemmas
+pub mod MarkLemmas
+pub mod WaitingLemmas
+pub mod CopiedLemmas
+pub mod WordLaws
+pub mod AskingLemmas

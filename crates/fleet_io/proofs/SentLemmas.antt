@@ -1,0 +1,50 @@
+-- What has gone out of a list of bytes.
+use Rattle.std.proofs.Common.{◌≡◌, ℕ, List, [], ◌++◌, take, drop, Option, Some, None, refl, sym, ap, ◌∙◌, append_assoc}
+use Rattle.std.specs.Io.KnownBytes.{Appends, Keeps}
+use Rattle.std.proofs.lemmas.List.{take-append-drop, append-nil}
+use Rattle.fleet_io.specs.Taken.{AppendsFront}
+
+-- these bytes less the rest went out
+abbrev pub HasSent : Option (List ℕ) → Option (List ℕ) → List ℕ → List ℕ → Type 0
+HasSent old new bytes rest = (sent : List ℕ) × (bytes ≡ sent ++ rest) × Appends old new sent
+
+-- what went out in two writes went out in their order
+pub Appends-append : (a b c : Option (List ℕ)) (xs ys : List ℕ) → Appends a b xs → Appends b c ys → Appends a c (xs ++ ys)
+Appends-append None b c xs ys p q = tt
+Appends-append (Some a) None c xs ys p q = absurd p
+Appends-append (Some a) (Some b) None xs ys p q = absurd q
+Appends-append (Some a) (Some b) (Some c) xs ys p q = q ∙ ap (λ (z : List ℕ). z ++ ys) p ∙ append_assoc a xs ys
+
+-- no bytes went out
+pub Appends-nil : (a : Option (List ℕ)) → Appends a a []
+Appends-nil None = tt
+Appends-nil (Some a) = sym (append-nil a)
+
+-- a write that fails adds nothing
+pub Appends-keeps : (a b c : Option (List ℕ)) (xs : List ℕ) → Appends a b xs → Keeps b c → Appends a c xs
+Appends-keeps None b c xs p q = tt
+Appends-keeps (Some a) None c xs p q = absurd p
+Appends-keeps (Some a) (Some b) None xs p q = absurd q
+Appends-keeps (Some a) (Some b) (Some c) xs p q = q ∙ p
+
+-- at first nothing went out
+pub HasSent-none : (a : Option (List ℕ)) (bytes : List ℕ) → HasSent a a bytes bytes
+HasSent-none a bytes = ([], refl, Appends-nil a)
+
+-- what a write takes is no longer in the rest
+pub HasSent-more : (a b c : Option (List ℕ)) (bytes rest : List ℕ) (n : ℕ) → HasSent a b bytes rest → Appends b c (take n rest) → HasSent a c bytes (drop n rest)
+HasSent-more a b c bytes rest n p q = (
+  p.0 ++ take n rest,
+  p.1 ∙ ap (λ (z : List ℕ). p.0 ++ z) (sym (take-append-drop n rest)) ∙ sym (append_assoc p.0 (take n rest) (drop n rest)),
+  Appends-append a b c p.0 (take n rest) p.2 q,
+)
+
+-- with no rest all went out
+pub HasSent-all : (a b : Option (List ℕ)) (bytes rest : List ℕ) → rest ≡ [] → HasSent a b bytes rest → Appends a b bytes
+HasSent-all a b bytes rest e p =
+    let same : bytes ≡ p.0 = p.1 ∙ ap (λ (z : List ℕ). p.0 ++ z) e ∙ append-nil p.0 in
+    rw same p.2
+
+-- where a write fails a front went out
+pub HasSent-front : (a b c : Option (List ℕ)) (bytes rest : List ℕ) → HasSent a b bytes rest → Keeps b c → AppendsFront a c bytes
+HasSent-front a b c bytes rest p q = (p.0, rest, p.1, Appends-keeps a b c p.0 p.2 q)

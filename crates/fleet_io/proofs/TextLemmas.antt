@@ -1,0 +1,33 @@
+-- A text that grows keeps what it had.
+use Rattle.std.proofs.Common.{◌≡◌, ℕ, ◌+◌, ◌<◌, ◌≤◌, get_or, true, false, cond, List, [], ◌∷◌, ◌++◌, length, take, ◌∙◌, arith}
+use Rattle.std.proofs.lemmas.List.{take-append-le, length-append, take_all, take_more}
+use Rattle.fleet_io.specs.Words.{is_line_empty, with_word, with_hex, hex_word}
+use Rattle.std.proofs.lemmas.Grind.{fold-append}
+
+-- The text begins with the old one.
+pub record Keeps (old text : List ℕ) : Type 0 where
+  pub longer : length old ≤ length text
+  pub front : take (length old) text ≡ old
+
+-- bytes at the end keep the beginning
+pub Keeps-append : (old text more : List ℕ) → Keeps old text → Keeps old (text ++ more)
+Keeps-append old text more k = record {
+  longer = omega (arith, k.longer, length-append text more);
+  front = take-append-le (length old) text more k.longer ∙ k.front;
+}
+
+-- a word keeps the beginning
+pub Keeps-with_word : (old text word : List ℕ) → Keeps old text → Keeps old (with_word text word)
+unfolding with_word
+Keeps-with_word old text word k = elim (is_line_empty text) as (λ b. Keeps old (cond b (text ++ word) (text ++ 32 ∷ word))) [
+  | true ↦ Keeps-append old text word k
+  | false ↦ Keeps-append old text (32 ∷ word) k
+]
+
+-- a text begins with itself
+pub Keeps-same : (old : List ℕ) → Keeps old old
+Keeps-same old = record { longer = omega arith; front = take_all (length old) old (omega arith) }
+
+-- one byte more is one word more
+pub with_hex_more : (text bytes : List ℕ) (i : ℕ) → i < length bytes → with_hex text (take (i + 1) bytes) ≡ with_word (with_hex text (take i bytes)) (hex_word (get_or bytes i 0))
+with_hex_more text bytes i lt = rw (take_more bytes i 0 lt) (fold-append (λ (so_far : List ℕ) (byte : ℕ). with_word so_far (hex_word byte)) text (take i bytes) (get_or bytes i 0 ∷ []))

@@ -1,0 +1,116 @@
+-- Texts are made of words, one by one. These laws say which lines the words make.
+use Rattle.std.proofs.Common.{◌≡◌, ℕ, suc, ◌+◌, ◌≤◌, ◌-◌, ◌%◌, ◌^◌, ◌<◌, true, false, cond, eqb, List, [], ◌∷◌, ◌++◌, length, map, ltb, refl, sym, ap, ◌∙◌, append_assoc, append-nil, length-append, arith, ℤ, pos, negsuc}
+use lib.Signed.{mag}
+use Rattle.std.specs.Fmt.{decimal, signed_decimal}
+use Rattle.std.proofs.lemmas.Bool.{ne_eqb}
+use Rattle.std.proofs.lemmas.Fmt.{decimal_by_steps}
+use Rattle.std.proofs.lemmas.List.{get_or-append-add}
+use Rattle.fleet_io.specs.Words.{is_line_empty, with_word, with_words, with_hex, hex_word, hex_digit, IsWord, AreWords, spaced, line}
+
+-- ---- the last line of a text
+
+-- bytes behind a text decide whether its last line is empty
+pub is_line_empty-append : (text bytes : List ℕ) → 0 < length bytes → is_line_empty (text ++ bytes) ≡ is_line_empty bytes
+is_line_empty-append text bytes some =
+    let place : length (text ++ bytes) - 1 ≡ length text + (length bytes - 1) = omega (arith, length-append text bytes) in
+    rw place (ap (λ (b : ℕ). eqb b 10) (get_or-append-add text bytes (length bytes - 1) 10))
+
+-- a word has a byte
+pub word_has_bytes : (word : List ℕ) → IsWord word → 0 < length word
+word_has_bytes [] is = absurd (let e : true ≡ false = is in cc)
+word_has_bytes (b ∷ bytes) is = omega arith
+
+-- behind a line feed the last line is empty
+pub fresh_after_feed : (text : List ℕ) → is_line_empty (text ++ 10 ∷ []) ≡ true
+fresh_after_feed text = is_line_empty-append text (10 ∷ []) (omega arith)
+
+-- behind a line the last line is empty
+pub fresh_after_line : (text first : List ℕ) (others : List (List ℕ)) → is_line_empty (text ++ line first others) ≡ true
+fresh_after_line text first others =
+    let whole : text ++ line first others ≡ (text ++ (first ++ spaced others)) ++ 10 ∷ [] = sym (append_assoc text (first ++ spaced others) (10 ∷ [])) in
+    rw whole (fresh_after_feed (text ++ (first ++ spaced others)))
+
+-- behind a word the last line is not empty
+pub going_after_word : (text word : List ℕ) → IsWord word → is_line_empty (text ++ word) ≡ false
+going_after_word text word is = is_line_empty-append text word (word_has_bytes word is) ∙ is
+
+-- ---- one word
+
+-- the first word of a line stands at its beginning
+pub word_first : (text word : List ℕ) → is_line_empty text ≡ true → with_word text word ≡ text ++ word
+unfolding with_word
+word_first text word fresh = rw fresh refl
+
+-- a word behind others stands behind a space
+pub word_next : (text word : List ℕ) → is_line_empty text ≡ false → with_word text word ≡ text ++ 32 ∷ word
+unfolding with_word
+word_next text word going = rw going refl
+
+-- behind a space and a word the last line is not empty
+going_after_space : (text word : List ℕ) → IsWord word → is_line_empty (text ++ 32 ∷ word) ≡ false
+going_after_space text word is = rw (← append_assoc text (32 ∷ []) word) (going_after_word (text ++ 32 ∷ []) word is)
+
+-- ---- words that follow one another
+
+-- words behind others stand behind a space each
+pub words_next : (text : List ℕ) (words : List (List ℕ)) → is_line_empty text ≡ false → AreWords words → with_words text words ≡ text ++ spaced words
+words_next text [] going are = sym (append-nil text)
+words_next text (word ∷ words) going are =
+    let here = word_next text word going in
+    let more = words_next (text ++ 32 ∷ word) words (going_after_space text word are.0) are.1 in
+    rw here (more ∙ append_assoc text (32 ∷ word) (spaced words))
+
+-- The line law: on an empty line, a word, further words and a line feed make the line of these words.
+pub words_make_line : (text first : List ℕ) (others : List (List ℕ)) → is_line_empty text ≡ true → IsWord first → AreWords others → with_words text (first ∷ others) ++ 10 ∷ [] ≡ text ++ line first others
+words_make_line text first others fresh is are =
+    let here = word_first text first fresh in
+    let more = words_next (text ++ first) others (going_after_word text first is) are in
+    rw here (ap (λ (xs : List ℕ). xs ++ 10 ∷ []) (more ∙ append_assoc text first (spaced others)) ∙ append_assoc text (first ++ spaced others) (10 ∷ []))
+
+-- ---- bytes as words
+
+-- a hexadecimal digit is no line feed
+hex_digit_is_none : (n : ℕ) → eqb (hex_digit n) 10 ≡ false
+hex_digit_is_none n = elim (ltb n 10) as (λ b. eqb (cond b (48 + n) (55 + n)) 10 ≡ false) [
+  | true ↦ ne_eqb (48 + n) 10 (omega arith)
+  | false ↦ ne_eqb (55 + n) 10 (omega arith)
+]
+
+-- two hexadecimal digits are a word
+pub hex_is_word : (byte : ℕ) → IsWord (hex_word byte)
+hex_is_word byte = hex_digit_is_none (byte % 16)
+
+-- the digits of bytes are words
+hex_are_words : (bytes : List ℕ) → AreWords (map hex_word bytes)
+hex_are_words [] = tt
+hex_are_words (byte ∷ bytes) = (hex_is_word byte, hex_are_words bytes)
+
+-- bytes behind a text are the words of their digits
+pub hex_as_words : (text bytes : List ℕ) → with_hex text bytes ≡ with_words text (map hex_word bytes)
+hex_as_words text [] = refl
+hex_as_words text (byte ∷ bytes) = hex_as_words (with_word text (hex_word byte)) bytes
+
+-- The hex row: on an empty line, a word, bytes and a line feed make the line of the word and the bytes' digits.
+pub hex_makes_line : (text first bytes : List ℕ) → is_line_empty text ≡ true → IsWord first → with_hex (with_word text first) bytes ++ 10 ∷ [] ≡ text ++ line first (map hex_word bytes)
+hex_makes_line text first bytes fresh is = rw (hex_as_words (with_word text first) bytes) (words_make_line text first (map hex_word bytes) fresh is (hex_are_words bytes))
+
+-- ---- numbers as words
+
+-- the digits of a number are a word
+pub decimal_is_word : (n : ℕ) → n < 2 ^ 64 → IsWord (decimal n)
+decimal_is_word n small = decimal_by_steps (λ _ (digits : List ℕ). IsWord digits) (λ d _. ne_eqb (48 + d) 10 (omega arith)) (λ m digits _ _. is_line_empty-append digits ((48 + m % 10) ∷ []) (omega arith) ∙ ne_eqb (48 + m % 10) 10 (omega arith)) n small
+
+-- the digits of a number are a word, with a minus sign before them too
+pub signed_is_word : (z : ℤ) → mag z < 2 ^ 63 → IsWord (signed_decimal z)
+signed_is_word (pos n) small = decimal_is_word n (omega (arith, small))
+signed_is_word (negsuc n) small = going_after_word (45 ∷ []) (decimal (suc n)) (decimal_is_word (suc n) (omega (arith, small)))
+
+-- ---- room
+
+-- a word adds its bytes and at most a space
+pub word_adds : (text word : List ℕ) → length (with_word text word) ≤ length text + length word + 1
+unfolding with_word
+word_adds text word = elim (is_line_empty text) as (λ b. length (cond b (text ++ word) (text ++ 32 ∷ word)) ≤ length text + length word + 1) [
+  | true ↦ omega (arith, length-append text word)
+  | false ↦ omega (arith, length-append text (32 ∷ word))
+]

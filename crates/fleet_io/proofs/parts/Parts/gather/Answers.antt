@@ -1,0 +1,103 @@
+use Rattle.std.proofs.Common.{◌≡◌, true, [], ◌∷◌, take, drop, length-append, refl, sym, ◌∙◌, arith}
+use Rattle.std.proofs.lemmas.List.{length-drop, length-take}
+use Rattle.fleet_io.specs.Held.{given}
+use Rattle.fleet_io.proofs.TakenLemmas.{Consumes-append, Consumes-nil, TakesFront-trans, TakesFront-none}
+use Rattle.fleet_io.proofs.AskingLemmas.{Asking-step, Asking-none, promised, promised_after}
+use Rattle.fleet_io.proofs.MarkLemmas.{Gathers-add, Gathers-none, ends_marker_is}
+use Rattle.fleet_io.proofs.FoundLemmas.{at_marker, at_end, made, refused_at_start, long_already}
+use Rattle.fleet_io.proofs.parts.Parts.gather.Goals as goal
+
+pub returns-in-Err-clause-left : goal.returns-in-Err-clause-left
+returns-in-Err-clause-left g c = TakesFront-trans _ _ _ c.bytes.invariant.left c.next.ensures.left
+
+pub returns-then-ends_marker-clause-part : goal.returns-then-ends_marker-clause-part
+returns-then-ends_marker-clause-part g c =
+    let is = ends_marker_is c.in-Some.byte (drop c.bytes.start c.bytes.bytes.items) (rw c.deref.ensures.value at (sym c.if-ends_marker.ensures)) in
+    made _ _ _ true c.bytes.start c.args.limit c.up_to_marker.result (at_marker _ _ _ c.bytes.bytes.items c.bytes.start c.bytes.invariant.taken (rw (c.in-Some.is, is.0) at c.in-Ok.ensures.some) is.1 c.bytes.invariant.gathers) c.up_to_marker.ensures.ok
+
+pub returns-then-ends_marker-clause-too_long : goal.returns-then-ends_marker-clause-too_long
+returns-then-ends_marker-clause-too_long g c =
+    let is = ends_marker_is c.in-Some.byte (drop c.bytes.start c.bytes.bytes.items) (rw c.deref.ensures.value at (sym c.if-ends_marker.ensures)) in
+    refused_at_start _ _ c.bytes.bytes.items c.bytes.start c.args.limit c.up_to_marker.result c.bytes.invariant.gathers.within (at_marker _ _ _ c.bytes.bytes.items c.bytes.start c.bytes.invariant.taken (rw (c.in-Some.is, is.0) at c.in-Ok.ensures.some) is.1 c.bytes.invariant.gathers) c.up_to_marker.ensures.err
+
+pub returns-then-ends_marker-clause-left : goal.returns-then-ends_marker-clause-left
+returns-then-ends_marker-clause-left g c = TakesFront-trans _ _ _ c.bytes.invariant.left c.next.ensures.left
+
+pub bytes-preserved : goal.bytes-preserved
+bytes-preserved g c = record {
+  gathers = Gathers-add c.bytes.bytes.items _ c.bytes.start _ c.in-Some.byte c.bytes.invariant.gathers (rw c.deref.ensures.value at (sym c.if-ends_marker.ensures)) c.in_ok-add-in-Some.ensures.ok c.in_ok-add-in-Some.ensures.start;
+  taken = rw c.in_ok-add-in-Some.ensures.ok (Consumes-append _ _ _ _ _ c.bytes.invariant.taken (rw c.in-Some.is at c.in-Ok.ensures.some));
+  left = TakesFront-trans _ _ _ c.bytes.invariant.left c.next.ensures.left;
+  later = omega (arith, c.next.ensures.cause.later);
+  sound = c.next.ensures.sound ∙ c.bytes.invariant.sound;
+  at_end = c.next.ensures.at_end;
+  stays_ended = λ ended.
+      let before = c.bytes.invariant.stays_ended ended in
+      let now = c.next.ensures.stays_ended before.0 in
+      (now.0, now.1 ∙ before.1, now.2 ∙ before.2);
+  asking =
+      let gives : given c.next.result ≡ c.in-Some.byte ∷ [] = rw (c.in-Ok.is, c.in-Some.is) refl in
+      rw (c.in_ok-add-in-Some.ensures.ok, ← gives) (Asking-step _ _ _ (given c.next.result) _ c.bytes.start _ _ _ _ _ _ c.bytes.invariant.gathers c.bytes.invariant.asking c.next.ensures.unasked c.next.ensures.asked c.next.ensures.most);
+  most = omega (arith, c.next.ensures.most, length-append (given c.next.result) c.next.new.self.waiting);
+}
+
+pub returns-in_err-add-in-Some-clause-left : goal.returns-in_err-add-in-Some-clause-left
+returns-in_err-add-in-Some-clause-left g c = TakesFront-trans _ _ _ c.bytes.invariant.left c.next.ensures.left
+
+pub returns-in-None-clause-part : goal.returns-in-None-clause-part
+returns-in-None-clause-part g c =
+    let none = rw c.in-None.is at c.in-Ok.ensures.none in
+    (at_end _ _ _ c.bytes.bytes.items c.bytes.start c.args.limit c.up_to_end.result c.bytes.invariant.taken none.0 none.1 c.bytes.invariant.gathers c.up_to_end.ensures.marked c.up_to_end.ensures.whole).0
+
+pub returns-in-None-clause-too_long : goal.returns-in-None-clause-too_long
+returns-in-None-clause-too_long g c =
+    let none = rw c.in-None.is at c.in-Ok.ensures.none in
+    (at_end _ _ _ c.bytes.bytes.items c.bytes.start c.args.limit c.up_to_end.result c.bytes.invariant.taken none.0 none.1 c.bytes.invariant.gathers c.up_to_end.ensures.marked c.up_to_end.ensures.whole).1
+
+pub returns-clause-too_long : goal.returns-clause-too_long
+returns-clause-too_long g c = λ _. long_already _ _ c.bytes.bytes.items c.bytes.start c.args.limit (omega arith) c.bytes.invariant.taken c.bytes.invariant.gathers
+
+pub bytes-init : goal.bytes-init
+bytes-init g c = record {
+  gathers = rw c.new-bytes.ensures.items Gathers-none;
+  taken = rw c.new-bytes.ensures.items (Consumes-nil _);
+  left = TakesFront-none _;
+  later = omega arith;
+  sound = refl;
+  at_end = c.requires.at_end;
+  stays_ended = λ ended. (ended, refl, refl);
+  asking = rw c.new-bytes.ensures.items (Asking-none _ _ _);
+  most = rw (← c.self.view_is) (omega (arith, c.self.invariant.1, length-drop c.self.inside.start (take c.self.inside.end c.self.inside.buf), length-take c.self.inside.end c.self.inside.buf));
+}
+
+-- ---- how the source was asked
+
+pub returns-in-Err-clause-asks : goal.returns-in-Err-clause-asks
+returns-in-Err-clause-asks g c = (promised_after _ _ _ (given c.next.result) _ c.bytes.start _ _ _ _ _ _ c.bytes.invariant.gathers c.bytes.invariant.asking c.next.ensures.unasked c.next.ensures.asked c.next.ensures.most).0
+
+pub returns-in-Err-clause-patient : goal.returns-in-Err-clause-patient
+returns-in-Err-clause-patient g c = (promised_after _ _ _ (given c.next.result) _ c.bytes.start _ _ _ _ _ _ c.bytes.invariant.gathers c.bytes.invariant.asking c.next.ensures.unasked c.next.ensures.asked c.next.ensures.most).1
+
+pub returns-then-ends_marker-clause-asks : goal.returns-then-ends_marker-clause-asks
+returns-then-ends_marker-clause-asks g c = (promised_after _ _ _ (given c.next.result) _ c.bytes.start _ _ _ _ _ _ c.bytes.invariant.gathers c.bytes.invariant.asking c.next.ensures.unasked c.next.ensures.asked c.next.ensures.most).0
+
+pub returns-then-ends_marker-clause-patient : goal.returns-then-ends_marker-clause-patient
+returns-then-ends_marker-clause-patient g c = (promised_after _ _ _ (given c.next.result) _ c.bytes.start _ _ _ _ _ _ c.bytes.invariant.gathers c.bytes.invariant.asking c.next.ensures.unasked c.next.ensures.asked c.next.ensures.most).1
+
+pub returns-in_err-add-in-Some-clause-asks : goal.returns-in_err-add-in-Some-clause-asks
+returns-in_err-add-in-Some-clause-asks g c = (promised_after _ _ _ (given c.next.result) _ c.bytes.start _ _ _ _ _ _ c.bytes.invariant.gathers c.bytes.invariant.asking c.next.ensures.unasked c.next.ensures.asked c.next.ensures.most).0
+
+pub returns-in_err-add-in-Some-clause-patient : goal.returns-in_err-add-in-Some-clause-patient
+returns-in_err-add-in-Some-clause-patient g c = (promised_after _ _ _ (given c.next.result) _ c.bytes.start _ _ _ _ _ _ c.bytes.invariant.gathers c.bytes.invariant.asking c.next.ensures.unasked c.next.ensures.asked c.next.ensures.most).1
+
+pub returns-in-None-clause-asks : goal.returns-in-None-clause-asks
+returns-in-None-clause-asks g c = (promised_after _ _ _ (given c.next.result) _ c.bytes.start _ _ _ _ _ _ c.bytes.invariant.gathers c.bytes.invariant.asking c.next.ensures.unasked c.next.ensures.asked c.next.ensures.most).0
+
+pub returns-in-None-clause-patient : goal.returns-in-None-clause-patient
+returns-in-None-clause-patient g c = (promised_after _ _ _ (given c.next.result) _ c.bytes.start _ _ _ _ _ _ c.bytes.invariant.gathers c.bytes.invariant.asking c.next.ensures.unasked c.next.ensures.asked c.next.ensures.most).1
+
+pub returns-clause-asks : goal.returns-clause-asks
+returns-clause-asks g c = (promised _ _ _ _ _ _ _ c.bytes.invariant.asking).0
+
+pub returns-clause-patient : goal.returns-clause-patient
+returns-clause-patient g c = (promised _ _ _ _ _ _ _ c.bytes.invariant.asking).1

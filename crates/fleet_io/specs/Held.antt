@@ -1,0 +1,50 @@
+-- What a reader of parts holds, and how it asks its source.
+use Rattle.std.specs.Prelude.{◌≡◌, ℕ, ◌≤◌, List, [], ◌∷◌, ◌++◌, length, Bool, false, Option, Some, None, Result, Ok, Err}
+use Rattle.std.specs.Io.KnownBytes.{prepend_known, Consumes}
+use Rattle.text_lines.specs.Lines.{between_feeds}
+use Rattle.text_lines.specs.Marker.{has_marker}
+
+-- the most bytes that a reader of parts holds
+abbrev pub buffer_bytes : ℕ
+buffer_bytes = 4096
+
+-- the greatest limit of a part, in bytes: that of the longest text of the product, a certificate
+abbrev pub text_limit : ℕ
+text_limit = 80000000
+
+pub record Held : Type 0 where
+  -- taken from the source, and not yet in a part
+  pub waiting : List ℕ
+  -- no call was refused
+  pub sound : Bool
+  -- a call met the source's end
+  pub ended : Bool
+
+-- the bytes still to come, where the source tells what it has left
+abbrev pub stream : Held → Option (List ℕ) → Option (List ℕ)
+stream held left = prepend_known held.waiting left
+
+-- all pieces but the last
+abbrev pub without_last : List (List ℕ) → List (List ℕ)
+without_last [] = []
+without_last (piece ∷ []) = []
+without_last (piece ∷ next ∷ rest) = piece ∷ without_last (next ∷ rest)
+
+-- a marker line stands among these bytes, with its line feed
+abbrev pub has_whole_marker : List ℕ → Bool
+has_whole_marker bytes = has_marker (without_last (between_feeds bytes))
+
+-- A call that began with these waiting bytes asked its source, and each time what it held had no whole marker line:
+-- when it asked last it had taken the bytes before, and then it got the last ones.
+pub record Asked (waiting : List ℕ) (old new : Option (List ℕ)) : Type 0 where
+  pub before : List ℕ
+  pub last : List ℕ
+  pub taken : Consumes old new (before ++ last)
+  pub most : length last ≤ buffer_bytes
+  pub unmarked : has_whole_marker (waiting ++ before) ≡ false
+
+-- the byte that a step gives, if it gives one
+abbrev pub given : {E : Type 0} → Result (Option ℕ) E → List ℕ
+given (Ok (Some byte)) = byte ∷ []
+given (Ok None) = []
+given (Err e) = []

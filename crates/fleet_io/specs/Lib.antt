@@ -1,0 +1,6 @@
+pub mod Causes
+pub mod Taken
+pub mod Held
+pub mod Parts
+pub mod Words
+pub mod Memory

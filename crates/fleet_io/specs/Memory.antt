@@ -1,0 +1,60 @@
+-- Sources and sinks over memory: what one holds, and what a call makes of it.
+use Rattle.std.specs.Prelude.{ℕ, List, ◌++◌, Bool, ◌||◌, ◌&&◌, ◌==◌, nat_lt, nat_le, length, take, drop}
+use Rattle.std.specs.List.{list_any}
+use Rattle.fleet_io.specs.Causes.{counted}
+
+-- A number stands in a list.
+abbrev pub is_listed : List ℕ → ℕ → Bool
+is_listed numbers n = list_any (λ m. m == n) numbers
+
+-- what a source over memory holds
+pub record MemoryIn : Type 0 where
+  -- the bytes still to come
+  pub left : List ℕ
+  -- the most bytes that a call gives
+  pub cut : ℕ
+  -- the numbers of the calls that fail, counted from 1
+  pub fails : List ℕ
+  -- how many calls there were
+  pub calls : ℕ
+  -- how many of them failed
+  pub faults : ℕ
+
+-- the next call is one of those that fail
+abbrev pub read_fails : MemoryIn → Bool
+read_fails s = is_listed s.fails (counted s.calls)
+
+-- behind a call that failed
+abbrev pub read_failed : MemoryIn → MemoryIn
+read_failed s = record { left = s.left; cut = s.cut; fails = s.fails; calls = counted s.calls; faults = counted s.faults }
+
+-- behind a call that gave n bytes
+abbrev pub read_gave : MemoryIn → ℕ → MemoryIn
+read_gave s n = record { left = drop n s.left; cut = s.cut; fails = s.fails; calls = counted s.calls; faults = s.faults }
+
+-- what a sink over memory holds
+pub record MemoryOut : Type 0 where
+  -- the bytes that were taken
+  pub written : List ℕ
+  -- the most bytes that it keeps
+  pub room : ℕ
+  -- the most bytes that a call takes
+  pub cut : ℕ
+  -- the numbers of the calls that fail, counted from 1
+  pub fails : List ℕ
+  -- how many calls there were
+  pub calls : ℕ
+  -- how many of them failed
+  pub faults : ℕ
+
+-- the next call with these bytes fails: its number is one of those, or there are bytes and the room is full
+abbrev pub write_fails : MemoryOut → List ℕ → Bool
+write_fails s bytes = is_listed s.fails (counted s.calls) || (nat_lt 0 (length bytes) && nat_le s.room (length s.written))
+
+-- behind a call that failed
+abbrev pub write_failed : MemoryOut → MemoryOut
+write_failed s = record { written = s.written; room = s.room; cut = s.cut; fails = s.fails; calls = counted s.calls; faults = counted s.faults }
+
+-- behind a call that took the first n of these bytes
+abbrev pub write_took : MemoryOut → List ℕ → ℕ → MemoryOut
+write_took s bytes n = record { written = s.written ++ take n bytes; room = s.room; cut = s.cut; fails = s.fails; calls = counted s.calls; faults = s.faults }

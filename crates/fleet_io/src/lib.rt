@@ -1,0 +1,27 @@
+//! Bytes in and out, for every layer that reads or writes a text.
+//!
+//! A `Source` gives bytes and a `Sink` takes them; each counts its faults, and a call fails only where that count
+//! rose, so that a failed read is never taken for the end of the input. `Parts` cuts an input into the parts that
+//! marker lines divide. `write_whole` writes all or says that it failed. `Lines` and `ShortLine` build texts of
+//! words. Over memory every call is exact (`MemSource`, `MemSink`); `StdSource` and `StdSink` are the trusted edge.
+//!
+//! It stands on `text_lines` for what a line and a marker line are, on `arrayvec` for the short line's bytes, and
+//! on `itoa` for digits.
+#![tactic(auto)]
+
+mod lines;
+mod memory;
+mod parts;
+mod short_line;
+mod standard;
+mod stream;
+
+pub use lines::Lines;
+pub use memory::{MemSink, MemSource};
+pub use parts::{IoFault, Part, Parts};
+pub use short_line::ShortLine;
+pub use standard::{StdSink, StdSource};
+pub use stream::{Failed, Sink, Source, write_whole};
+
+#[cfg(test)]
+mod tests;

@@ -1,0 +1,131 @@
+//! A text that grows in memory, word by word.
+ghost use Rattle.std.specs.Prelude.{◌≡◌, ◌<◌, [], ◌∷◌, ◌++◌, OnOk, OnErr};
+ghost use Rattle.std.specs.Fmt.{signed_decimal};
+ghost use Rattle.fleet_io.specs.Words.{is_line_empty, with_word, with_hex, hex_digit};
+
+use itoa::Buffer;
+use std::alloc::{AllocError, Global};
+use std::marker::Model;
+
+/// A text that grows by words and lines.
+#[derive(Drop)]
+pub struct Lines {
+    text: Vec<u8>,
+}
+
+impl Model for Lines {
+    ghost use Rattle.std.specs.Prelude.{ℕ, List};
+
+    ghost Value = { List ℕ };
+
+    ghost view = { λ l. l.text.items };
+}
+
+impl Lines {
+    /// An empty text.
+    pub fn make(alloc: Global) -> Lines
+        ensures { result ≡ [] }
+    {
+        Lines {
+            text: Vec::new(alloc),
+        }
+    }
+
+    /// Adds a word, behind a space unless the line is empty. An `Err` changes nothing.
+    pub fn word(&mut self, w: &[u8]) -> Result<(), AllocError>
+        ensures ok { OnOk result (self.new ≡ with_word self.old w.now) }
+        ensures err { OnErr result (self.new ≡ self.old) }
+    {
+        put_word(&mut self.text, w)
+    }
+
+    /// Adds the digits of a number as a word. An `Err` changes nothing.
+    pub fn decimal(&mut self, v: i64) -> Result<(), AllocError>
+        ensures ok { OnOk result (self.new ≡ with_word self.old (signed_decimal v)) }
+        ensures err { OnErr result (self.new ≡ self.old) }
+    {
+        let mut digits = Buffer::new();
+        put_word(&mut self.text, digits.format(v).as_bytes())
+    }
+
+    /// Adds each byte as a word of two upper-case digits. An `Err` changes nothing.
+    pub fn hex(&mut self, bytes: &[u8]) -> Result<(), AllocError>
+        ensures ok { OnOk result (self.new ≡ with_hex self.old bytes.now) }
+        ensures err { OnErr result (self.new ≡ self.old) }
+    {
+        put_hex(&mut self.text, bytes)
+    }
+
+    /// Ends the line. An `Err` changes nothing.
+    pub fn end(&mut self) -> Result<(), AllocError>
+        ensures ok { OnOk result (self.new ≡ self.old ++ 10 ∷ []) }
+        ensures err { OnErr result (self.new ≡ self.old) }
+    {
+        self.text.push(b'\n')?;
+        Ok(())
+    }
+
+    /// The text so far.
+    pub fn bytes(&self) -> &[u8]
+        ensures { result.now ≡ self.now }
+    {
+        &self.text
+    }
+}
+
+// Whether nothing stands on the last line.
+pub(crate) fn is_line_empty(text: &[u8]) -> bool
+    ensures { result ≡ is_line_empty text.now }
+{
+    match text.last() {
+        None => true,
+        Some(last) => *last == b'\n',
+    }
+}
+
+// One word more. An `Err` changes nothing.
+#[tactic(auto, unfolding(crate::specs::Words::with_word))]
+fn put_word(text: &mut Vec<u8>, w: &[u8]) -> Result<(), AllocError>
+    ensures ok { OnOk result (text.new.items ≡ with_word text.old.items w.now) }
+    ensures err { OnErr result (text.new.items ≡ text.old.items) }
+{
+    if is_line_empty(text) {
+        return text.extend_from_slice(w);
+    }
+    let len = text.len();
+    text.push(b' ')?;
+    match text.extend_from_slice(w) {
+        Ok(()) => Ok(()),
+        Err(error) => {
+            text.truncate(len);
+            Err(error)
+        }
+    }
+}
+
+// An upper-case hexadecimal digit.
+fn hex_digit(n: u8) -> u8
+    requires { n < 16 }
+    ensures { result ≡ hex_digit n }
+{
+    if n < 10 { b'0' + n } else { b'A' - 10 + n }
+}
+
+// Each byte as a word. An `Err` changes nothing.
+fn put_hex(text: &mut Vec<u8>, bytes: &[u8]) -> Result<(), AllocError>
+    ensures ok { OnOk result (text.new.items ≡ with_hex text.old.items bytes.now) }
+    ensures err { OnErr result (text.new.items ≡ text.old.items) }
+{
+    let len = text.len();
+    for byte in bytes {
+        let word = [hex_digit(*byte / 16), hex_digit(*byte % 16)];
+        match put_word(text, &word) {
+            Ok(()) => {}
+            Err(error) => {
+                text.truncate(len);
+                return Err(error);
+            }
+        }
+    }
+    Ok(())
+}

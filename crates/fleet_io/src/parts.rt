@@ -1,0 +1,280 @@
+//! The parts of an input, which marker lines divide.
+ghost use Rattle.std.specs.Prelude.{◌≡◌, ℕ, ◌<◌, ◌≤◌, ◌+◌, ◌∷◌, [], List, length, true, false, IsTrue, IfOk, IfSome, IfNone, OnOk, OnErr, IfErr, ◌++◌, ◌⊎◌, ◌==◌, ◌&&◌, if◌then◌else◌, take, drop, is_ok, Some};
+ghost use Rattle.fleet_io.specs.declared.parts.IoFault.TheVariants.{Memory};
+ghost use Rattle.std.specs.Io.KnownBytes.{Consumes, Keeps, IsAtEnd};
+ghost use Rattle.fleet_io.specs.Causes.{HasCause, Rose};
+ghost use Rattle.fleet_io.specs.Taken.{TakesFront};
+ghost use Rattle.text_lines.specs.Marker.{is_marker, part_of};
+ghost use Rattle.fleet_io.specs.Held.{stream, given, Asked, has_whole_marker, buffer_bytes, text_limit};
+ghost use Rattle.fleet_io.specs.Parts.{TakesPart};
+
+use crate::stream::{Failed, Source};
+use std::alloc::{AllocError, AllocFailed, Global};
+use std::marker::Model;
+
+// The most bytes that a reader of parts holds.
+const BUFFER_BYTES: usize = 4096;
+
+/// A stretch of the input up to a marker line or the end. The marker line belongs to no part.
+#[derive(Drop)]
+pub struct Part {
+    /// The bytes, with their line feeds.
+    pub bytes: Vec<u8>,
+    /// A marker line ended the part.
+    pub marker: bool,
+}
+
+/// Why there is no part.
+#[derive(Clone, Copy, Debug, PartialEq, Eq)]
+pub enum IoFault {
+    /// A read failed.
+    Read,
+    /// The part has more bytes than the caller wants.
+    TooLong,
+    /// Memory is wanting.
+    Memory,
+}
+
+/// Cuts what a source gives into parts. It asks the source for up to 4,096 bytes at a time.
+#[derive(Drop)]
+pub struct Parts {
+    buf: [u8; BUFFER_BYTES],
+    start: usize,
+    end: usize,
+    sound: bool,
+    ended: bool,
+}
+
+impl Model for Parts {
+    ghost use Rattle.std.specs.Prelude.{◌≤◌, take, drop};
+    ghost use Rattle.fleet_io.specs.Held.{Held, buffer_bytes};
+
+    ghost Value = { Held };
+
+    ghost view = { λ p. record { waiting = drop p.start (take p.end p.buf); sound = p.sound; ended = p.ended } };
+
+    ghost invariant = { λ p. (p.start ≤ p.end) × (p.end ≤ buffer_bytes) };
+}
+
+impl Parts {
+    /// A reader that holds nothing yet.
+    pub fn make() -> Parts
+        ensures { result ≡ record { waiting = []; sound = true; ended = false } }
+    {
+        Parts {
+            buf: [0; BUFFER_BYTES],
+            start: 0,
+            end: 0,
+            sound: true,
+            ended: false,
+        }
+    }
+
+    /// No call was refused.
+    pub fn sound(&self) -> bool
+        ensures value { result ≡ self.now.sound }
+        ensures waiting { length self.now.waiting ≤ buffer_bytes }
+    {
+        self.sound
+    }
+
+    /// A call has met the source's end.
+    pub fn ended(&self) -> bool
+        ensures { result ≡ self.now.ended }
+    {
+        self.ended
+    }
+
+    // The next of the bytes to come. It asks the source only where none is waiting.
+    fn next<S: Source>(&mut self, source: &mut S) -> Result<Option<u8>, Failed>
+        requires { IsTrue self.old.ended → IsAtEnd (S.left source.old) }
+        ensures some { IfOk result (λ next. IfSome next (λ byte. Consumes (stream self.old (S.left source.old)) (stream self.new (S.left source.new)) (byte ∷ []))) }
+        ensures none { IfOk result (λ next. IfNone next (IsAtEnd (stream self.old (S.left source.old)) × Keeps (stream self.old (S.left source.old)) (stream self.new (S.left source.new)) × IsTrue self.new.ended)) }
+        ensures err { OnErr result (Keeps (stream self.old (S.left source.old)) (stream self.new (S.left source.new))) }
+        ensures left { TakesFront (S.left source.old) (S.left source.new) }
+        ensures cause { HasCause (S.faults source.old) (S.faults source.new) result }
+        ensures sound { self.new.sound ≡ self.old.sound }
+        ensures at_end { IsTrue self.new.ended → IsAtEnd (S.left source.new) }
+        ensures stays_ended { IsTrue self.old.ended → IsTrue self.new.ended × (S.left source.new ≡ S.left source.old) × (S.faults source.new ≡ S.faults source.old) }
+        ensures unasked { 0 < length self.old.waiting → (S.left source.new ≡ S.left source.old) × (S.faults source.new ≡ S.faults source.old) × (self.old.waiting ≡ given result ++ self.new.waiting) }
+        ensures asked { self.old.waiting ≡ [] → Consumes (S.left source.old) (S.left source.new) (given result ++ self.new.waiting) }
+        ensures most { length (given result ++ self.new.waiting) ≤ buffer_bytes }
+    {
+        if self.start == self.end {
+            if self.ended {
+                return Ok(None);
+            }
+            let count = source.read(&mut self.buf)?;
+            self.start = 0;
+            self.end = count;
+            if count == 0 {
+                self.ended = true;
+                return Ok(None);
+            }
+        }
+        let byte = self.buf[self.start];
+        self.start += 1;
+        Ok(Some(byte))
+    }
+
+    // The next part, where `sound` isn't kept.
+    fn gather<S: Source>(
+        &mut self,
+        alloc: Global,
+        source: &mut S,
+        limit: usize,
+    ) -> Result<Part, IoFault>
+        requires limit { limit ≤ text_limit }
+        requires at_end { IsTrue self.old.ended → IsAtEnd (S.left source.old) }
+        ensures part { IfOk result (λ part. TakesPart (stream self.old (S.left source.old)) (stream self.new (S.left source.new)) part.bytes.items part.marker) }
+        ensures fits { IfOk result (λ part. length part.bytes.items ≤ limit) }
+        ensures too_long { result ≡ Err IoFault.TooLong → IfSome (stream self.old (S.left source.old)) (λ all. limit < length (part_of all)) }
+        ensures read { result ≡ Err IoFault.Read → Rose (S.faults source.old) (S.faults source.new) }
+        ensures later { S.faults source.old ≤ S.faults source.new }
+        ensures left { TakesFront (S.left source.old) (S.left source.new) }
+        ensures sound { self.new.sound ≡ self.old.sound }
+        ensures to_end { IfOk result (λ part. part.marker ≡ false → IsTrue self.new.ended) }
+        ensures at_end { IsTrue self.new.ended → IsAtEnd (S.left source.new) }
+        ensures stays_ended { IsTrue self.old.ended → IsTrue self.new.ended × (S.left source.new ≡ S.left source.old) × (S.faults source.new ≡ S.faults source.old) }
+        ensures asks { ((S.left source.new ≡ S.left source.old) × (S.faults source.new ≡ S.faults source.old)) ⊎ Asked self.old.waiting (S.left source.old) (S.left source.new) }
+        ensures patient { has_whole_marker self.old.waiting ≡ true → (S.left source.new ≡ S.left source.old) × (S.faults source.new ≡ S.faults source.old) }
+        ensures most { length self.new.waiting ≤ buffer_bytes }
+    {
+        let _ = &self.buf;
+        let mut bytes = Vec::new(alloc);
+        let mut start = 0;
+        'bytes: while bytes.len() < limit + 4 {
+            let next = match self.next(source) {
+                Ok(next) => next,
+                Err(Failed) => return Err(IoFault::Read),
+            };
+            match next {
+                Some(byte) => {
+                    if ends_marker(&bytes, start, byte) {
+                        return up_to_marker(bytes, start, limit);
+                    }
+                    add(&mut bytes, &mut start, byte)?;
+                }
+                None => return up_to_end(bytes, start, limit),
+            }
+        }
+        Err(IoFault::TooLong)
+    }
+
+    /// The bytes up to the next marker line or the end. A marker line is a line that is `%%`, or `%%` and a carriage
+    /// return; it is taken, and belongs to no part. `TooLong` where more than `limit` bytes stand before it; `Read`
+    /// where a read failed. After an `Err` the reader isn't `sound`, and some front of what the source had is taken.
+    pub fn text<S: Source>(
+        &mut self,
+        alloc: Global,
+        source: &mut S,
+        limit: usize,
+    ) -> Result<Part, IoFault>
+        requires sound { IsTrue self.old.sound }
+        requires limit { limit ≤ text_limit }
+        requires at_end { IsTrue self.old.ended → IsAtEnd (S.left source.old) }
+        ensures part { IfOk result (λ part. TakesPart (stream self.old (S.left source.old)) (stream self.new (S.left source.new)) part.bytes.items part.marker) }
+        ensures fits { IfOk result (λ part. length part.bytes.items ≤ limit) }
+        ensures too_long { result ≡ Err IoFault.TooLong → IfSome (stream self.old (S.left source.old)) (λ all. limit < length (part_of all)) }
+        ensures read { result ≡ Err IoFault.Read → Rose (S.faults source.old) (S.faults source.new) }
+        ensures later { S.faults source.old ≤ S.faults source.new }
+        ensures left { TakesFront (S.left source.old) (S.left source.new) }
+        ensures sound { self.new.sound ≡ is_ok result }
+        ensures to_end { IfOk result (λ part. part.marker ≡ false → IsTrue self.new.ended) }
+        ensures at_end { IsTrue self.new.ended → IsAtEnd (S.left source.new) }
+        ensures stays_ended { IsTrue self.old.ended → IsTrue self.new.ended × (S.left source.new ≡ S.left source.old) × (S.faults source.new ≡ S.faults source.old) }
+        ensures asks { ((S.left source.new ≡ S.left source.old) × (S.faults source.new ≡ S.faults source.old)) ⊎ Asked self.old.waiting (S.left source.old) (S.left source.new) }
+        ensures patient { has_whole_marker self.old.waiting ≡ true → (S.left source.new ≡ S.left source.old) × (S.faults source.new ≡ S.faults source.old) }
+        ensures most { length self.new.waiting ≤ buffer_bytes }
+    {
+        match self.gather(alloc, source, limit) {
+            Ok(part) => Ok(part),
+            Err(fault) => {
+                self.sound = false;
+                Err(fault)
+            }
+        }
+    }
+}
+
+impl From<AllocError> for IoFault {
+    ghost from_gives = { λ _ e. e ≡ Memory };
+
+    fn from(_: AllocError) -> IoFault {
+        IoFault::Memory
+    }
+}
+
+impl<T: Drop> From<AllocFailed<T>> for IoFault {
+    ghost from_gives = { λ _ e. e ≡ Memory };
+
+    fn from(_: AllocFailed<T>) -> IoFault {
+        IoFault::Memory
+    }
+}
+
+// Whether a line is a marker line.
+fn is_marker(line: &[u8]) -> bool
+    ensures { result ≡ is_marker line.now }
+{
+    matches!(line, b"%%" | b"%%\r")
+}
+
+// Whether this byte ends a marker line that begins at `start`.
+fn ends_marker(bytes: &[u8], start: usize, byte: u8) -> bool
+    requires { start ≤ length bytes.now }
+    ensures { result ≡ (byte == 10 && is_marker (drop start bytes.now)) }
+{
+    byte == b'\n' && is_marker(&bytes[start..])
+}
+
+// One byte more of the lines that are gathered.
+fn add(bytes: &mut Vec<u8>, start: &mut usize, byte: u8) -> Result<(), AllocError>
+    requires within { start.old ≤ length bytes.old.items }
+    ensures ok { OnOk result (bytes.new.items ≡ bytes.old.items ++ byte ∷ []) }
+    ensures start { OnOk result (start.new ≡ (if byte == 10 then length bytes.old.items + 1 else start.old)) }
+{
+    bytes.push(byte)?;
+    if byte == b'\n' {
+        *start = bytes.len();
+    }
+    Ok(())
+}
+
+// The part of which the line that begins at `start` is the marker line.
+fn up_to_marker(mut bytes: Vec<u8>, start: usize, limit: usize) -> Result<Part, IoFault>
+    requires { start ≤ length bytes.items }
+    ensures ok { IfOk result (λ part. (part.bytes.items ≡ take start bytes.items) × (part.marker ≡ true) × (start ≤ limit)) }
+    ensures err { IfErr result (λ fault. (fault ≡ IoFault.TooLong) × (limit < start)) }
+{
+    bytes.truncate(start);
+    if start > limit {
+        return Err(IoFault::TooLong);
+    }
+    Ok(Part {
+        bytes,
+        marker: true,
+    })
+}
+
+// The part that ends with the input. Its last line begins at `start`, and may be a marker line.
+fn up_to_end(bytes: Vec<u8>, start: usize, limit: usize) -> Result<Part, IoFault>
+    requires { start ≤ length bytes.items }
+    ensures marked { is_marker (drop start bytes.items) ≡ true
+        → IfOk result (λ part. (part.bytes.items ≡ take start bytes.items) × (part.marker ≡ true) × (start ≤ limit))
+        × IfErr result (λ fault. (fault ≡ IoFault.TooLong) × (limit < start)) }
+    ensures whole { is_marker (drop start bytes.items) ≡ false
+        → IfOk result (λ part. (part.bytes.items ≡ bytes.items) × (part.marker ≡ false) × (length bytes.items ≤ limit))
+        × IfErr result (λ fault. (fault ≡ IoFault.TooLong) × (limit < length bytes.items)) }
+{
+    if is_marker(&bytes[start..]) {
+        return up_to_marker(bytes, start, limit);
+    }
+    if bytes.len() > limit {
+        return Err(IoFault::TooLong);
+    }
+    Ok(Part {
+        bytes,
+        marker: false,
+    })
+}

@@ -1,0 +1,55 @@
+//! Where bytes come from and where they go.
+ghost use Rattle.std.specs.Prelude.{◌≡◌, ℕ, ◌<◌, ◌≤◌, List, length, Option, IfOk, OnOk, OnErr};
+ghost use Rattle.std.specs.Io.{ReadsAtMost};
+ghost use Rattle.std.specs.Io.KnownBytes.{ReadConsumes, WriteAppends, Appends};
+ghost use Rattle.fleet_io.specs.Causes.{HasCause};
+ghost use Rattle.fleet_io.specs.Taken.{AppendsFront};
+
+/// A read or a write failed, and the count of faults of what it was asked of rose.
+#[derive(Clone, Copy, Debug, PartialEq, Eq)]
+pub struct Failed;
+
+/// Bytes that come in.
+pub trait Source {
+    /// The bytes still to come, where the source tells them.
+    ghost left: { Self → Option (List ℕ) };
+
+    /// How often it has failed. The count never falls.
+    ghost faults: { Self → ℕ };
+
+    /// Takes bytes from the front into `buf`. No byte for a non-empty `buf` is the end.
+    fn read(&mut self, buf: &mut [u8]) -> Result<usize, Failed>
+        ensures bound { ReadsAtMost result buf.new }
+        ensures bytes { ReadConsumes (left self.old) (left self.new) result buf.new }
+        ensures cause { HasCause (faults self.old) (faults self.new) result };
+}
+
+/// Bytes that go out.
+pub trait Sink {
+    /// The bytes that were taken, where the sink tells them.
+    ghost written: { Self → Option (List ℕ) };
+
+    /// How often it has failed. The count never falls.
+    ghost faults: { Self → ℕ };
+
+    /// Takes some front of the bytes, of non-empty bytes at least one.
+    fn write(&mut self, bytes: &[u8]) -> Result<usize, Failed>
+        ensures bound { IfOk result (λ n. n ≤ length bytes.now) }
+        ensures progress { IfOk result (λ n. 0 < length bytes.now → 0 < n) }
+        ensures bytes { WriteAppends (written self.old) (written self.new) result bytes.now }
+        ensures cause { HasCause (faults self.old) (faults self.new) result };
+}
+
+/// Writes all of the bytes. At `Failed` some front of them went out.
+pub fn write_whole<K: Sink>(sink: &mut K, bytes: &[u8]) -> Result<(), Failed>
+    ensures ok { OnOk result (Appends (K.written sink.old) (K.written sink.new) bytes.now) }
+    ensures front { OnErr result (AppendsFront (K.written sink.old) (K.written sink.new) bytes.now) }
+    ensures cause { HasCause (K.faults sink.old) (K.faults sink.new) result }
+{
+    let mut rest = bytes;
+    while !rest.is_empty() {
+        let taken = sink.write(rest)?;
+        rest = &rest[taken..];
+    }
+    Ok(())
+}
