@@ -1,0 +1,32 @@
+-- Names.
+use Rattle.std.specs.Prelude.{ℕ, Bool, false, not, ◌&&◌, ◌||◌, ◌==◌, List, [], ◌∷◌, length, nat_le, bytes_eq, codes}
+use Rattle.std.specs.List.{list_all}
+use Rattle.arrayvec.specs.ArrayVec.{ArrayVec}
+use Rattle.text_lines.specs.Numbers.{is_digit}
+
+-- the bytes of a name
+abbrev pub Name : Type 0
+Name = ArrayVec ℕ
+
+-- a lower-case letter
+abbrev pub is_lower : ℕ → Bool
+is_lower b = nat_le 97 b && nat_le b 122
+
+-- what may stand in a name behind its first byte
+abbrev pub goes_in_name : ℕ → Bool
+goes_in_name b = is_lower b || is_digit b || b == 95
+
+-- bytes that may all stand in a name behind its first byte
+abbrev pub all_go_in_name : List ℕ → Bool
+all_go_in_name word = list_all goes_in_name word
+
+-- bytes of which the first is a lower-case letter
+abbrev pub begins_lower : List ℕ → Bool
+begins_lower [] = false
+begins_lower (b ∷ bs) = is_lower b
+
+-- 1 to 16 bytes, a lower-case letter first, then lower-case letters, digits and `_`; not `form` or `end`
+abbrev pub is_name : List ℕ → Bool
+is_name word =
+    begins_lower word && all_go_in_name word && nat_le (length word) 16
+    && not (bytes_eq word (codes "form")) && not (bytes_eq word (codes "end"))

@@ -1,0 +1,19 @@
+//! The lines of the choreography language, one by one: what the words of a line say where it stands, or what is wrong
+//! with them.
+//!
+//! [`entry_of`] reads one line. It stands on `text_lines`, which cuts a text into lines and words; `choreo_reader` stands
+//! on it, and puts the lines together to a show.
+#![tactic(auto)]
+
+mod act;
+mod entry;
+mod field;
+mod line;
+mod parts;
+mod word;
+
+pub use entry::entry_of;
+pub use field::{name_kept, number};
+pub use line::{Entry, Keyword, LineError, LineKind, Place};
+pub use parts::{Act, Frame, Listed, Mirror, Name, Point};
+pub use word::{is_name, keyword};

@@ -1,0 +1,103 @@
+//! What the words of a line say: names, places, frames and acts.
+
+use arrayvec::ArrayVec;
+use std::marker::Model;
+
+/// A list that contracts see as a list, wherever it stands.
+#[derive(Drop)]
+pub struct Listed<T> {
+    items: Vec<T>,
+}
+
+impl<T> Model for Listed<T> {
+    ghost use Rattle.std.specs.Prelude.{List};
+
+    ghost Value = { List T };
+
+    ghost view = { λ l. l.items.items };
+}
+
+impl<T> Listed<T> {
+    ghost use Rattle.std.specs.Prelude.{◌≡◌};
+
+    pub fn from_vec(items: Vec<T>) -> Self
+        ensures { result ≡ items.items }
+    {
+        Listed { items }
+    }
+
+    pub fn into_vec(self) -> Vec<T>
+        ensures { result.items ≡ self }
+    {
+        let Listed { items } = self;
+        items
+    }
+
+    pub fn as_slice(&self) -> &[T]
+        ensures { result.now ≡ self.now }
+    {
+        self.items.as_slice()
+    }
+}
+
+/// A name, of 1 to 16 bytes: a lower-case letter, then lower-case letters, digits and `_`. It isn't `form` or `end`.
+pub type Name = ArrayVec<u8, 16>;
+
+/// A place and a yaw: x, y and z in micrometres, yaw in tenths of a degree.
+#[derive(Clone, Copy, PartialEq, Eq, Debug)]
+pub struct Point {
+    pub x: i64,
+    pub y: i64,
+    pub z: i64,
+    pub yaw: i64,
+}
+
+/// The axis along which a figure is mirrored, if it is.
+#[derive(Clone, Copy, PartialEq, Eq, Debug)]
+pub enum Mirror {
+    None,
+    X,
+    Y,
+}
+
+/// How a figure is put into the show: a mirror, then quarter turns counter-clockwise, then a shift in micrometres.
+#[derive(Clone, Copy, PartialEq, Eq, Debug)]
+pub struct Frame {
+    pub mirror: Mirror,
+    pub turns: u8,
+    pub dx: i64,
+    pub dy: i64,
+    pub dz: i64,
+}
+
+/// What a drone does in a cue. Coordinates are in micrometres, yaws in tenths of a degree.
+#[derive(Clone, Copy, PartialEq, Eq, Debug)]
+pub enum Act {
+    /// It stays.
+    Hold,
+    /// Straight, evenly.
+    Line {
+        to: Point,
+    },
+    /// Straight, from rest to rest.
+    Move {
+        to: Point,
+    },
+    /// It stays, and its yaw goes from rest to rest.
+    Turn {
+        yaw: i64,
+    },
+    /// A quarter circle around (`cx`, `cy`) at the same height, counter-clockwise where `ccw`; yaw evenly.
+    Arc {
+        ccw: bool,
+        cx: i64,
+        cy: i64,
+        yaw: i64,
+    },
+    /// The cubic Bézier curve with these control points after the present place; yaw evenly.
+    Curve {
+        p1: [i64; 3],
+        p2: [i64; 3],
+        to: Point,
+    },
+}
