@@ -1,0 +1,263 @@
+-- Every show's texts are read as that show.
+use Rattle.std.proofs.Common.{◌≡◌, ℕ, ◌+◌, ◌≤◌, Bool, true, false, List, [], ◌∷◌, ◌++◌, length, map, Option, Some, None, Ok, Err, refl, sym, ap, ◌∙◌, arith, cond, append_assoc}
+use Rattle.std.specs.Prelude.{not, is_some, unwrap_or}
+use Rattle.std.proofs.lemmas.List.{append-nil}
+use Rattle.text_lines.specs.Words.{Line}
+use Rattle.choreo_reader.specs.Text.{show_lines}
+use Rattle.choreo_reader.specs.Plain as plain
+use Rattle.choreo_lines.specs.Name.{Name}
+use Rattle.choreo_reader.specs.Plain.{Body, PlainFigure, PlainShow, has_block, ◌⨾◌}
+use Rattle.choreo_reader.specs.Grammar.{AreSaid, closing, place_said, body_said, Item, Memory, Trajectory, Ellipsoid, Drone, Formed, Figured, Blocks, item_said, items_said, memories, trajectories, ellipsoids, drones, formations, figures, body, first_or, show_of, IsItem, AreItems, HasSingleSettings, IsHeader, StandsFor}
+use Rattle.choreo_reader.specs.Context.{fault_if, is_header, end_fault}
+use Rattle.choreo_reader.specs.Text.{fault_at}
+use Rattle.choreo_reader.specs.Reading.{InFormation, InFigure, Built, nothing, add_block, built_show, is_any, lines_step, finish, finish_with, openings_of, reading, read_lines, unless_forbidden}
+use Rattle.choreo_reader.proofs.Blocks.{body_assoc, body_done}
+use Rattle.choreo_reader.proofs.Complete.{Reads, reads_none, reads_then, reads_to, reads_list, split, first_said, numbered_step, said_anywhere, with_open, enclosed, block_lines, body_reads}
+use Rattle.choreo_lines.specs.declared.line.Entry.TheVariants as entry
+use Rattle.choreo_lines.specs.declared.line.LineKind.TheVariants as kind
+use Rattle.choreo_reader.specs.declared.show.DroneLine.{DroneLine}
+
+-- the lines `at` of a formation
+places_read : (places done : List DroneLine) (s : Built) (line : ℕ) (name : Name) (ls : List Line) → AreSaid ls (map place_said places) → Reads (with_open s (InFormation line name done ∷ [])) ls (with_open s (InFormation line name (done ++ places) ∷ []))
+places_read [] done s line name [] h = reads_to _ _ _ [] (ap (λ xs. with_open s (InFormation line name xs ∷ [])) (sym (append-nil done))) (reads_none _)
+places_read [] done s line name (l ∷ ls) h = absurd h
+places_read (d ∷ places) done s line name [] h = absurd h
+places_read (d ∷ places) done s line name (l ∷ ls) h =
+    let one = numbered_step (with_open s (InFormation line name done ∷ [])) l d.line (entry.At d.name d.at) h.0 refl refl in
+    let others = places_read places (done ++ d ∷ []) s line name ls h.1 in
+    reads_to _ _ _ (l ∷ ls) (ap (λ xs. with_open s (InFormation line name xs ∷ [])) (append_assoc done (d ∷ []) places)) (reads_then _ _ _ (l ∷ []) ls one others)
+
+-- one more item
+abbrev pub add_item : Built → Item → Built
+add_item s (Memory id offset) = record s { memory = Some (id, offset); open_blocks = [] }
+add_item s (Trajectory id) = record s { trajectory = Some id; open_blocks = [] }
+add_item s (Ellipsoid r h) = record s { ellipsoid = Some (r, h); open_blocks = [] }
+add_item s (Drone d) = record s { drones = s.drones ++ d ∷ []; open_blocks = [] }
+add_item s (Formed f) = record s { formations = s.formations ++ f ∷ []; open_blocks = [] }
+add_item s (Figured f) = record s { figures = s.figures ++ f ∷ []; open_blocks = [] }
+add_item s (Blocks b) = add_block s [] b
+
+abbrev pub add_items : Built → List Item → Built
+add_items s [] = with_open s []
+add_items s (i ∷ is) = add_items (add_item s i) is
+
+abbrev pub count : {A : Type 0} → Option A → ℕ
+count None = 0
+count (Some x) = 1
+
+-- each setting stands once at most, counting those that stood before
+pub record Single (s : Built) (is : List Item) : Type 0 where
+  pub memory : count s.memory + length (memories is) ≤ 1
+  pub trajectory : count s.trajectory + length (trajectories is) ≤ 1
+  pub ellipsoid : count s.ellipsoid + length (ellipsoids is) ≤ 1
+
+unset : {A : Type 0} (o : Option A) → count o ≡ 0 → fault_if (is_some o) kind.DoubleSetting ≡ None
+unset None h = refl
+unset (Some x) h = cc
+
+some_places : (places : List DroneLine) → 1 ≤ length places → fault_if (not (is_any places)) kind.EmptyBlock ≡ None
+some_places [] h = absurd (omega arith)
+some_places (d ∷ places) h = refl
+
+some_blocks : (b : Bool) → b ≡ true → fault_if (not b) kind.EmptyBlock ≡ None
+some_blocks true h = refl
+some_blocks false h = cc
+
+-- the lines of a block that is the last
+last_lines : (s t : Built) (l e : Line) (ls inner back later : List Line) → ls ≡ inner ++ back → back ≡ e ∷ later → AreSaid later [] → Reads s (l ∷ (inner ++ e ∷ [])) t → Reads s (l ∷ ls) t
+last_lines s t l e ls inner back [] p q h r =
+    reads_list s t _ _ (sym (append-nil (l ∷ (inner ++ e ∷ []))) ∙ block_lines l e ls inner back [] p q) r
+last_lines s t l e ls inner back (m ∷ later) p q h r = absurd h
+
+no_lines : (i : Item) (s : Built) (is : List Item) → IsItem i → Single s (i ∷ is) → AreSaid [] (item_said i) → Reads (with_open s []) [] (add_item s i)
+no_lines (Memory id offset) s is k n h = absurd h
+no_lines (Trajectory id) s is k n h = absurd h
+no_lines (Ellipsoid r x) s is k n h = absurd h
+no_lines (Drone d) s is k n h = absurd h
+no_lines (Formed f) s is k n h = absurd h
+no_lines (Figured f) s is k n h = absurd h
+no_lines (Blocks b) s is k n h = body_reads b s [] [] (record { takes = tt; filled = k.filled; nested = omega (arith, k.nested); figure = λ q. cc }) h
+
+item_reads : (i : Item) (s : Built) (is : List Item) (ls : List Line) → IsItem i → Single s (i ∷ is) → AreSaid ls (item_said i) → Reads (with_open s []) ls (add_item s i)
+item_reads i s is [] k n h = no_lines i s is k n h
+item_reads (Memory id offset) s is (l ∷ []) k n h =
+    said_anywhere (with_open s []) l (entry.Memory id offset) h.0 refl (unset s.memory (omega (arith, n.memory))) (add_item s (Memory id offset)) (λ m. refl)
+item_reads (Trajectory id) s is (l ∷ []) k n h =
+    said_anywhere (with_open s []) l (entry.Trajectory id) h.0 refl (unset s.trajectory (omega (arith, n.trajectory))) (add_item s (Trajectory id)) (λ m. refl)
+item_reads (Ellipsoid r x) s is (l ∷ []) k n h =
+    said_anywhere (with_open s []) l (entry.Ellipsoid r x) h.0 refl (unset s.ellipsoid (omega (arith, n.ellipsoid))) (add_item s (Ellipsoid r x)) (λ m. refl)
+item_reads (Drone d) s is (l ∷ []) k n h = numbered_step (with_open s []) l d.line (entry.Drone d.name d.at) h.0 refl refl
+item_reads (Memory id offset) s is (l ∷ m ∷ ls) k n h = absurd h.1
+item_reads (Trajectory id) s is (l ∷ m ∷ ls) k n h = absurd h.1
+item_reads (Ellipsoid r x) s is (l ∷ m ∷ ls) k n h = absurd h.1
+item_reads (Drone d) s is (l ∷ m ∷ ls) k n h = absurd h.1
+item_reads (Formed f) s is (l ∷ ls) k n h =
+    let parts = split ls (map place_said f.places) (closing ∷ []) h.1 in
+    let ends = first_said parts.back closing [] parts.second in
+    let one = numbered_step (with_open s []) l f.line (entry.Formation f.name) h.0 refl refl in
+    let inside = places_read f.places [] s f.line f.name parts.front parts.first in
+    let block = enclosed s (add_item s (Formed f)) [] (InFormation f.line f.name []) (InFormation f.line f.name f.places) l ends.line parts.front one inside ends.here refl (some_places f.places k) refl in
+    last_lines _ _ l ends.line ls parts.front parts.back ends.others parts.is ends.is ends.later block
+item_reads (Figured f) s is (l ∷ ls) k n h =
+    let parts = split ls (body_said f.body) (closing ∷ []) h.1 in
+    let ends = first_said parts.back closing [] parts.second in
+    let o = InFigure f.line f.name f.roles plain.Done in
+    let one = numbered_step (with_open s []) l f.line (entry.Figure f.name f.roles) h.0 refl refl in
+    let inside = body_reads f.body s (o ∷ []) parts.front (record { takes = tt; filled = k.2.filled; nested = omega (arith, k.2.nested); figure = λ q. k.1 }) parts.first in
+    let block = enclosed s (add_item s (Figured f)) [] o (InFigure f.line f.name f.roles f.body) l ends.line parts.front one inside ends.here refl (some_blocks (has_block f.body) k.0) refl in
+    last_lines _ _ l ends.line ls parts.front parts.back ends.others parts.is ends.is ends.later block
+item_reads (Blocks b) s is (l ∷ ls) k n h = body_reads b s [] (l ∷ ls) (record { takes = tt; filled = k.filled; nested = omega (arith, k.nested); figure = λ q. cc }) h
+
+single_later : (i : Item) (s : Built) (is : List Item) → Single s (i ∷ is) → Single (add_item s i) is
+single_later (Memory id offset) s is n = record { memory = omega (arith, n.memory); trajectory = omega (arith, n.trajectory); ellipsoid = omega (arith, n.ellipsoid) }
+single_later (Trajectory id) s is n = record { memory = omega (arith, n.memory); trajectory = omega (arith, n.trajectory); ellipsoid = omega (arith, n.ellipsoid) }
+single_later (Ellipsoid r h) s is n = record { memory = omega (arith, n.memory); trajectory = omega (arith, n.trajectory); ellipsoid = omega (arith, n.ellipsoid) }
+single_later (Drone d) s is n = record { memory = omega (arith, n.memory); trajectory = omega (arith, n.trajectory); ellipsoid = omega (arith, n.ellipsoid) }
+single_later (Formed f) s is n = record { memory = omega (arith, n.memory); trajectory = omega (arith, n.trajectory); ellipsoid = omega (arith, n.ellipsoid) }
+single_later (Figured f) s is n = record { memory = omega (arith, n.memory); trajectory = omega (arith, n.trajectory); ellipsoid = omega (arith, n.ellipsoid) }
+single_later (Blocks b) s is n = record { memory = omega (arith, n.memory); trajectory = omega (arith, n.trajectory); ellipsoid = omega (arith, n.ellipsoid) }
+
+item_open : (s : Built) (i : Item) → add_item s i ≡ with_open (add_item s i) []
+item_open s (Memory id offset) = refl
+item_open s (Trajectory id) = refl
+item_open s (Ellipsoid r h) = refl
+item_open s (Drone d) = refl
+item_open s (Formed f) = refl
+item_open s (Figured f) = refl
+item_open s (Blocks b) = refl
+
+items_read : (is : List Item) (s : Built) (ls : List Line) → AreItems is → Single s is → AreSaid ls (items_said is) → Reads (with_open s []) ls (add_items s is)
+items_read [] s [] k n h = reads_none _
+items_read [] s (l ∷ ls) k n h = absurd h
+items_read (i ∷ is) s ls k n h =
+    let parts = split ls (item_said i) (items_said is) h in
+    let one = item_reads i s is parts.front k.0 n parts.first in
+    let others = items_read is (add_item s i) parts.back k.1 (single_later i s is n) parts.second in
+    reads_list _ _ _ _ (sym parts.is) (reads_then _ _ _ parts.front parts.back (reads_to _ _ _ parts.front (item_open s i) one) others)
+
+drones_in : (is : List Item) (s : Built) → (add_items s is).drones ≡ s.drones ++ drones is
+drones_in [] s = sym (append-nil s.drones)
+drones_in (Memory id offset ∷ is) s = drones_in is (add_item s (Memory id offset))
+drones_in (Trajectory id ∷ is) s = drones_in is (add_item s (Trajectory id))
+drones_in (Ellipsoid r h ∷ is) s = drones_in is (add_item s (Ellipsoid r h))
+drones_in (Drone d ∷ is) s = drones_in is (add_item s (Drone d)) ∙ append_assoc s.drones (d ∷ []) (drones is)
+drones_in (Formed f ∷ is) s = drones_in is (add_item s (Formed f))
+drones_in (Figured f ∷ is) s = drones_in is (add_item s (Figured f))
+drones_in (Blocks b ∷ is) s = drones_in is (add_item s (Blocks b))
+
+formations_in : (is : List Item) (s : Built) → (add_items s is).formations ≡ s.formations ++ formations is
+formations_in [] s = sym (append-nil s.formations)
+formations_in (Memory id offset ∷ is) s = formations_in is (add_item s (Memory id offset))
+formations_in (Trajectory id ∷ is) s = formations_in is (add_item s (Trajectory id))
+formations_in (Ellipsoid r h ∷ is) s = formations_in is (add_item s (Ellipsoid r h))
+formations_in (Drone d ∷ is) s = formations_in is (add_item s (Drone d))
+formations_in (Formed f ∷ is) s = formations_in is (add_item s (Formed f)) ∙ append_assoc s.formations (f ∷ []) (formations is)
+formations_in (Figured f ∷ is) s = formations_in is (add_item s (Figured f))
+formations_in (Blocks b ∷ is) s = formations_in is (add_item s (Blocks b))
+
+figures_in : (is : List Item) (s : Built) → (add_items s is).figures ≡ s.figures ++ figures is
+figures_in [] s = sym (append-nil s.figures)
+figures_in (Memory id offset ∷ is) s = figures_in is (add_item s (Memory id offset))
+figures_in (Trajectory id ∷ is) s = figures_in is (add_item s (Trajectory id))
+figures_in (Ellipsoid r h ∷ is) s = figures_in is (add_item s (Ellipsoid r h))
+figures_in (Drone d ∷ is) s = figures_in is (add_item s (Drone d))
+figures_in (Formed f ∷ is) s = figures_in is (add_item s (Formed f))
+figures_in (Figured f ∷ is) s = figures_in is (add_item s (Figured f)) ∙ append_assoc s.figures (f ∷ []) (figures is)
+figures_in (Blocks b ∷ is) s = figures_in is (add_item s (Blocks b))
+
+body_in : (is : List Item) (s : Built) → (add_items s is).body ≡ s.body ⨾ body is
+body_in [] s = sym (body_done s.body)
+body_in (Memory id offset ∷ is) s = body_in is (add_item s (Memory id offset))
+body_in (Trajectory id ∷ is) s = body_in is (add_item s (Trajectory id))
+body_in (Ellipsoid r h ∷ is) s = body_in is (add_item s (Ellipsoid r h))
+body_in (Drone d ∷ is) s = body_in is (add_item s (Drone d))
+body_in (Formed f ∷ is) s = body_in is (add_item s (Formed f))
+body_in (Figured f ∷ is) s = body_in is (add_item s (Figured f))
+body_in (Blocks b ∷ is) s = body_in is (add_item s (Blocks b)) ∙ body_assoc s.body b (body is)
+
+abbrev value_or : {A : Type 0} → A → Option A → List A → A
+value_or d None xs = first_or d xs
+value_or d (Some x) xs = x
+
+value_end : {A : Type 0} (d : A) (o : Option A) → unwrap_or o d ≡ value_or d o []
+value_end d None = refl
+value_end d (Some x) = refl
+
+value_first : {A : Type 0} (d x : A) (o : Option A) (xs : List A) → count o + length (x ∷ xs) ≤ 1 → x ≡ value_or d o (x ∷ xs)
+value_first d x None xs h = refl
+value_first d x (Some y) xs h = absurd (omega arith)
+
+memory_in : (e : ℕ × ℕ) (is : List Item) (s : Built) → Single s is → unwrap_or (add_items s is).memory e ≡ value_or e s.memory (memories is)
+memory_in e [] s n = value_end e s.memory
+memory_in e (Memory id offset ∷ is) s n = memory_in e is (add_item s (Memory id offset)) (single_later (Memory id offset) s is n) ∙ value_first e (id, offset) s.memory (memories is) n.memory
+memory_in e (Trajectory id ∷ is) s n = memory_in e is (add_item s (Trajectory id)) (single_later (Trajectory id) s is n)
+memory_in e (Ellipsoid r h ∷ is) s n = memory_in e is (add_item s (Ellipsoid r h)) (single_later (Ellipsoid r h) s is n)
+memory_in e (Drone d ∷ is) s n = memory_in e is (add_item s (Drone d)) (single_later (Drone d) s is n)
+memory_in e (Formed f ∷ is) s n = memory_in e is (add_item s (Formed f)) (single_later (Formed f) s is n)
+memory_in e (Figured f ∷ is) s n = memory_in e is (add_item s (Figured f)) (single_later (Figured f) s is n)
+memory_in e (Blocks b ∷ is) s n = memory_in e is (add_item s (Blocks b)) (single_later (Blocks b) s is n)
+
+trajectory_in : (e : ℕ) (is : List Item) (s : Built) → Single s is → unwrap_or (add_items s is).trajectory e ≡ value_or e s.trajectory (trajectories is)
+trajectory_in e [] s n = value_end e s.trajectory
+trajectory_in e (Memory id offset ∷ is) s n = trajectory_in e is (add_item s (Memory id offset)) (single_later (Memory id offset) s is n)
+trajectory_in e (Trajectory id ∷ is) s n = trajectory_in e is (add_item s (Trajectory id)) (single_later (Trajectory id) s is n) ∙ value_first e id s.trajectory (trajectories is) n.trajectory
+trajectory_in e (Ellipsoid r h ∷ is) s n = trajectory_in e is (add_item s (Ellipsoid r h)) (single_later (Ellipsoid r h) s is n)
+trajectory_in e (Drone d ∷ is) s n = trajectory_in e is (add_item s (Drone d)) (single_later (Drone d) s is n)
+trajectory_in e (Formed f ∷ is) s n = trajectory_in e is (add_item s (Formed f)) (single_later (Formed f) s is n)
+trajectory_in e (Figured f ∷ is) s n = trajectory_in e is (add_item s (Figured f)) (single_later (Figured f) s is n)
+trajectory_in e (Blocks b ∷ is) s n = trajectory_in e is (add_item s (Blocks b)) (single_later (Blocks b) s is n)
+
+ellipsoid_in : (e : ℕ × ℕ) (is : List Item) (s : Built) → Single s is → unwrap_or (add_items s is).ellipsoid e ≡ value_or e s.ellipsoid (ellipsoids is)
+ellipsoid_in e [] s n = value_end e s.ellipsoid
+ellipsoid_in e (Memory id offset ∷ is) s n = ellipsoid_in e is (add_item s (Memory id offset)) (single_later (Memory id offset) s is n)
+ellipsoid_in e (Trajectory id ∷ is) s n = ellipsoid_in e is (add_item s (Trajectory id)) (single_later (Trajectory id) s is n)
+ellipsoid_in e (Ellipsoid r h ∷ is) s n = ellipsoid_in e is (add_item s (Ellipsoid r h)) (single_later (Ellipsoid r h) s is n) ∙ value_first e (r, h) s.ellipsoid (ellipsoids is) n.ellipsoid
+ellipsoid_in e (Drone d ∷ is) s n = ellipsoid_in e is (add_item s (Drone d)) (single_later (Drone d) s is n)
+ellipsoid_in e (Formed f ∷ is) s n = ellipsoid_in e is (add_item s (Formed f)) (single_later (Formed f) s is n)
+ellipsoid_in e (Figured f ∷ is) s n = ellipsoid_in e is (add_item s (Figured f)) (single_later (Figured f) s is n)
+ellipsoid_in e (Blocks b ∷ is) s n = ellipsoid_in e is (add_item s (Blocks b)) (single_later (Blocks b) s is n)
+
+-- the show of the items
+pub items_show : (is : List Item) → Single nothing is → built_show (add_items nothing is) ≡ show_of is
+items_show is n =
+    let m = memory_in (2, 0) is nothing n in
+    let t = trajectory_in 0 is nothing n in
+    let e = ellipsoid_in (120, 300) is nothing n in
+    let d = drones_in is nothing in
+    let f = formations_in is nothing in
+    let g = figures_in is nothing in
+    let b = body_in is nothing in
+    cc
+
+items_closed : (is : List Item) (s : Built) → (add_items s is).open_blocks ≡ []
+items_closed [] s = refl
+items_closed (Memory id offset ∷ is) s = items_closed is (add_item s (Memory id offset))
+items_closed (Trajectory id ∷ is) s = items_closed is (add_item s (Trajectory id))
+items_closed (Ellipsoid r h ∷ is) s = items_closed is (add_item s (Ellipsoid r h))
+items_closed (Drone d ∷ is) s = items_closed is (add_item s (Drone d))
+items_closed (Formed f ∷ is) s = items_closed is (add_item s (Formed f))
+items_closed (Figured f ∷ is) s = items_closed is (add_item s (Figured f))
+items_closed (Blocks b ∷ is) s = items_closed is (add_item s (Blocks b))
+
+header_is : (l : Line) → IsHeader l → is_header l.words ≡ true
+header_is l h = ap is_header h
+
+single_first : (is : List Item) → HasSingleSettings is → Single nothing is
+single_first is h = record { memory = omega (arith, h.memory); trajectory = omega (arith, h.trajectory); ellipsoid = omega (arith, h.ellipsoid) }
+
+lines_read : (is : List Item) (lines : List Line) → AreItems is → Single nothing is → AreSaid lines (items_said is) → lines_step nothing lines ≡ Ok (add_items nothing is)
+lines_read is lines k n h = ap (lines_step nothing) (sym (append-nil lines)) ∙ (items_read is nothing lines k n h).by []
+
+finished : (is : List Item) → finish (Ok (add_items nothing is)) ≡ Ok (built_show (add_items nothing is))
+finished is = ap (λ os. finish_with (add_items nothing is) (end_fault (openings_of os))) (items_closed is nothing)
+
+-- what a text stands for is what is read
+pub complete : (text : List ℕ) (show : PlainShow) → StandsFor text show → reading text ≡ Ok show
+complete text show (is, header, lines, t, e) =
+    let n = single_first is t.single in
+    ap (λ f. unless_forbidden f (read_lines (show_lines text))) t.bytes
+    ∙ ap read_lines t.cut
+    ∙ ap (λ b. cond b (finish (lines_step nothing lines)) (Err (fault_at header.number kind.Header))) (header_is header t.first)
+    ∙ ap finish (lines_read is lines t.each n t.said)
+    ∙ finished is
+    ∙ ap (λ x. Ok x) (items_show is n ∙ e)

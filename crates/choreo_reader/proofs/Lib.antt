@@ -1,0 +1,9 @@
+pub mod Formed
+pub mod Blocks
+pub mod Opened
+pub mod Whole
+pub mod Complete
+pub mod CompleteShow
+pub mod Sound
+pub mod Faulty
+pub mod ValidShow

@@ -1,0 +1,571 @@
+-- What is read is what the text stands for.
+use Rattle.std.proofs.Common.{◌≡◌, ℕ, ◌+◌, ◌<◌, ◌≤◌, Bool, true, false, List, [], ◌∷◌, ◌++◌, length, map, Option, Some, None, Result, Ok, Err, refl, sym, ap, subst, ◌∙◌, arith, cond, append_assoc}
+use Rattle.std.specs.Prelude.{◌&&◌, ◌==◌, not, nat_le, is_some, option_to_list, unwrap_or, bytes_eq, codes}
+use Rattle.std.proofs.lemmas.List.{append-nil, map-append}
+use Rattle.std.proofs.lemmas.Bool.{and_parts, eqb-true}
+use Rattle.std.proofs.lemmas.Bool.Decides.{nat_tests}
+use Rattle.std.proofs.lemmas.Slice.Eq.{bytes_eq-Decides}
+use Rattle.text_lines.specs.Words.{Line}
+use Rattle.choreo_reader.specs.Text.{show_lines}
+use Rattle.choreo_reader.specs.Plain as plain
+use Rattle.choreo_lines.specs.Name.{Name}
+use Rattle.choreo_reader.specs.Plain.{Body, PlainFigure, PlainShow, has_block, ◌⨾◌}
+use Rattle.choreo_reader.specs.Grammar.{SaidLine, IsSaid, AreSaid, at, anywhere, closing, act_said, place_said, body_said, is_filled, depth, fits_figure, all_name_one, names_one, Item, Memory, Trajectory, Ellipsoid, Drone, Formed, Figured, Blocks, item_said, items_said, memories, trajectories, ellipsoids, drones, formations, figures, body, first_or, show_of, IsItem, AreItems, IsHeader, StandsFor}
+use Rattle.choreo_lines.specs.Says.{Says, may_say}
+use Rattle.choreo_reader.specs.Text.{Fault, fault_at, forbidden}
+use Rattle.choreo_reader.specs.Context.{OpenRepeat, OpenCue, fault_if, is_header, end_fault, place_of, place_in, in_figure, repeats}
+use Rattle.choreo_reader.specs.Reading.{Open, InFormation, InFigure, InRepeat, InCue, Built, Step, nothing, context_of, openings_of, is_any, add_block, build, built_by, unless, built_show, line_step, lines_step, then_step, finish, finish_with, read_lines, reading, unless_forbidden, entry_fault}
+use Rattle.choreo_lines.specs.Entry.{entry_of, word}
+use Rattle.choreo_reader.proofs.Blocks.{body_assoc, body_done}
+use Rattle.choreo_reader.proofs.Complete.{TakesBlocks, Kept, with_open, outer_figure, outer_repeats}
+use Rattle.choreo_reader.proofs.CompleteShow.{add_item}
+use Rattle.choreo_lines.proofs.SaysBack.{says_of, words2}
+use Rattle.choreo_lines.specs.declared.line.Place.TheVariants as place
+use Rattle.choreo_lines.specs.declared.line.Entry.{Entry}
+use Rattle.choreo_lines.specs.declared.line.Entry.TheVariants as entry
+use Rattle.choreo_lines.specs.declared.line.LineKind.{LineKind}
+use Rattle.choreo_lines.specs.declared.line.LineKind.TheVariants as kind
+use Rattle.choreo_reader.specs.declared.show.ActLine.{ActLine}
+use Rattle.choreo_reader.specs.declared.show.ActLine.TheVariants as on
+use Rattle.choreo_reader.specs.declared.show.DroneLine.{DroneLine}
+
+-- the lines of an open block so far, and those of all open blocks, the outermost first
+abbrev pub open_said : Open → List SaidLine
+open_said (InFormation line name places) = at line (entry.Formation name) ∷ map place_said places
+open_said (InFigure line name roles b) = at line (entry.Figure name roles) ∷ body_said b
+open_said (InRepeat line times b) = at line (entry.Repeat times) ∷ body_said b
+open_said (InCue line ms acts) = at line (entry.Cue ms) ∷ map act_said acts
+
+abbrev pub opens_said : List Open → List SaidLine
+opens_said [] = []
+opens_said (o ∷ os) = opens_said os ++ open_said o
+
+-- the open blocks stand where they may
+abbrev pub InOrder : List Open → Type 0
+InOrder [] = Unit {0}
+InOrder (InFormation line name places ∷ os) = os ≡ []
+InOrder (InFigure line name roles b ∷ os) = (os ≡ []) × Kept (InFigure line name roles b ∷ os) b
+InOrder (InRepeat line times b ∷ os) = TakesBlocks os × Kept (InRepeat line times b ∷ os) b × InOrder os
+InOrder (InCue line ms acts ∷ os) = TakesBlocks os × (in_figure (openings_of os) ≡ true → all_name_one acts ≡ true) × InOrder os
+
+-- a state stands for the lines read so far
+pub record Holds (s : Built) (done : List Line) : Type 0 where
+  pub items : List Item
+  pub said : AreSaid done (items_said items ++ opens_said s.open_blocks)
+  pub each : AreItems items
+  pub order : InOrder s.open_blocks
+  pub memory : memories items ≡ option_to_list s.memory
+  pub trajectory : trajectories items ≡ option_to_list s.trajectory
+  pub ellipsoid : ellipsoids items ≡ option_to_list s.ellipsoid
+  pub drones_are : drones items ≡ s.drones
+  pub formations_are : formations items ≡ s.formations
+  pub figures_are : figures items ≡ s.figures
+  pub body_is : body items ≡ s.body
+
+snoc : (ls : List Line) (l : Line) (xs : List SaidLine) (x : SaidLine) → AreSaid ls xs → IsSaid l x → AreSaid (ls ++ l ∷ []) (xs ++ x ∷ [])
+snoc [] l [] x h i = (i, tt)
+snoc [] l (y ∷ xs) x h i = absurd h
+snoc (k ∷ ls) l [] x h i = absurd h
+snoc (k ∷ ls) l (y ∷ xs) x h i = (h.0, snoc ls l xs x h.1 i)
+
+-- one more line, behind two stretches
+said_more : (ls : List Line) (l : Line) (xs ys : List SaidLine) (x : SaidLine) → AreSaid ls (xs ++ ys) → IsSaid l x → AreSaid (ls ++ l ∷ []) (xs ++ (ys ++ x ∷ []))
+said_more ls l xs ys x h i = subst (λ zs. AreSaid (ls ++ l ∷ []) zs) (append_assoc xs ys (x ∷ [])) (snoc ls l (xs ++ ys) x h i)
+
+here : (l : Line) (e : Entry) → Says l.words e → IsSaid l (at l.number e)
+here l e h = record { number = refl; says = h }
+
+somewhere : (l : Line) (e : Entry) → Says l.words e → IsSaid l (anywhere e)
+somewhere l e h = record { number = tt; says = h }
+
+-- One more item.
+
+items_said-more : (is : List Item) (i : Item) → items_said (is ++ i ∷ []) ≡ items_said is ++ item_said i
+items_said-more [] i = append-nil (item_said i)
+items_said-more (j ∷ is) i = ap (λ xs. item_said j ++ xs) (items_said-more is i) ∙ sym (append_assoc (item_said j) (items_said is) (item_said i))
+
+each-more : (is : List Item) (i : Item) → AreItems is → IsItem i → AreItems (is ++ i ∷ [])
+each-more [] i h k = (k, tt)
+each-more (j ∷ is) i h k = (h.0, each-more is i h.1 k)
+
+memories-more : (is : List Item) (i : Item) → memories (is ++ i ∷ []) ≡ memories is ++ memories (i ∷ [])
+memories-more [] i = refl
+memories-more (Memory id offset ∷ is) i = ap (λ xs. (id, offset) ∷ xs) (memories-more is i)
+memories-more (j ∷ is) i = memories-more is i
+
+trajectories-more : (is : List Item) (i : Item) → trajectories (is ++ i ∷ []) ≡ trajectories is ++ trajectories (i ∷ [])
+trajectories-more [] i = refl
+trajectories-more (Trajectory id ∷ is) i = ap (λ xs. id ∷ xs) (trajectories-more is i)
+trajectories-more (j ∷ is) i = trajectories-more is i
+
+ellipsoids-more : (is : List Item) (i : Item) → ellipsoids (is ++ i ∷ []) ≡ ellipsoids is ++ ellipsoids (i ∷ [])
+ellipsoids-more [] i = refl
+ellipsoids-more (Ellipsoid r h ∷ is) i = ap (λ xs. (r, h) ∷ xs) (ellipsoids-more is i)
+ellipsoids-more (j ∷ is) i = ellipsoids-more is i
+
+drones-more : (is : List Item) (i : Item) → drones (is ++ i ∷ []) ≡ drones is ++ drones (i ∷ [])
+drones-more [] i = refl
+drones-more (Drone d ∷ is) i = ap (λ xs. d ∷ xs) (drones-more is i)
+drones-more (j ∷ is) i = drones-more is i
+
+formations-more : (is : List Item) (i : Item) → formations (is ++ i ∷ []) ≡ formations is ++ formations (i ∷ [])
+formations-more [] i = refl
+formations-more (Formed f ∷ is) i = ap (λ xs. f ∷ xs) (formations-more is i)
+formations-more (j ∷ is) i = formations-more is i
+
+figures-more : (is : List Item) (i : Item) → figures (is ++ i ∷ []) ≡ figures is ++ figures (i ∷ [])
+figures-more [] i = refl
+figures-more (Figured f ∷ is) i = ap (λ xs. f ∷ xs) (figures-more is i)
+figures-more (j ∷ is) i = figures-more is i
+
+body-more : (is : List Item) (i : Item) → body (is ++ i ∷ []) ≡ body is ⨾ body (i ∷ [])
+body-more [] i = refl
+body-more (Blocks b ∷ is) i = ap (λ c. b ⨾ c) (body-more is i) ∙ sym (body_assoc b (body is) (body (i ∷ [])))
+body-more (j ∷ is) i = body-more is i
+
+-- no setting stands twice
+abbrev Fresh : Built → Item → Type 0
+Fresh s (Memory id offset) = s.memory ≡ None
+Fresh s (Trajectory id) = s.trajectory ≡ None
+Fresh s (Ellipsoid r h) = s.ellipsoid ≡ None
+Fresh s i = Unit {0}
+
+memories_after : (i : Item) (s : Built) (is : List Item) → Fresh s i → memories is ≡ option_to_list s.memory → memories (is ++ i ∷ []) ≡ option_to_list (add_item s i).memory
+memories_after (Memory id offset) s is f h = memories-more is (Memory id offset) ∙ ap (λ xs. xs ++ (id, offset) ∷ []) (h ∙ ap option_to_list f)
+memories_after i s is f h = memories-more is i ∙ append-nil (memories is) ∙ h
+
+trajectories_after : (i : Item) (s : Built) (is : List Item) → Fresh s i → trajectories is ≡ option_to_list s.trajectory → trajectories (is ++ i ∷ []) ≡ option_to_list (add_item s i).trajectory
+trajectories_after (Trajectory id) s is f h = trajectories-more is (Trajectory id) ∙ ap (λ xs. xs ++ id ∷ []) (h ∙ ap option_to_list f)
+trajectories_after i s is f h = trajectories-more is i ∙ append-nil (trajectories is) ∙ h
+
+ellipsoids_after : (i : Item) (s : Built) (is : List Item) → Fresh s i → ellipsoids is ≡ option_to_list s.ellipsoid → ellipsoids (is ++ i ∷ []) ≡ option_to_list (add_item s i).ellipsoid
+ellipsoids_after (Ellipsoid r x) s is f h = ellipsoids-more is (Ellipsoid r x) ∙ ap (λ xs. xs ++ (r, x) ∷ []) (h ∙ ap option_to_list f)
+ellipsoids_after i s is f h = ellipsoids-more is i ∙ append-nil (ellipsoids is) ∙ h
+
+drones_after : (i : Item) (s : Built) (is : List Item) → drones is ≡ s.drones → drones (is ++ i ∷ []) ≡ (add_item s i).drones
+drones_after (Drone d) s is h = drones-more is (Drone d) ∙ ap (λ xs. xs ++ d ∷ []) h
+drones_after i s is h = drones-more is i ∙ append-nil (drones is) ∙ h
+
+formations_after : (i : Item) (s : Built) (is : List Item) → formations is ≡ s.formations → formations (is ++ i ∷ []) ≡ (add_item s i).formations
+formations_after (Formed f) s is h = formations-more is (Formed f) ∙ ap (λ xs. xs ++ f ∷ []) h
+formations_after i s is h = formations-more is i ∙ append-nil (formations is) ∙ h
+
+figures_after : (i : Item) (s : Built) (is : List Item) → figures is ≡ s.figures → figures (is ++ i ∷ []) ≡ (add_item s i).figures
+figures_after (Figured f) s is h = figures-more is (Figured f) ∙ ap (λ xs. xs ++ f ∷ []) h
+figures_after i s is h = figures-more is i ∙ append-nil (figures is) ∙ h
+
+body_after : (i : Item) (s : Built) (is : List Item) → body is ≡ s.body → body (is ++ i ∷ []) ≡ (add_item s i).body
+body_after (Blocks b) s is h = body-more is (Blocks b) ∙ ap (λ c. body is ⨾ c) (body_done b) ∙ ap (λ c. c ⨾ b) h
+body_after i s is h = body-more is i ∙ body_done (body is) ∙ h
+
+none_open : (i : Item) (s : Built) → (add_item s i).open_blocks ≡ []
+none_open (Memory id offset) s = refl
+none_open i s = refl
+
+-- the state behind an item stands for its lines as well
+item_holds : (i : Item) (s : Built) (os : List Open) (done ls : List Line) → (h : Holds (with_open s os) done) → IsItem i → Fresh s i → AreSaid (done ++ ls) (items_said h.items ++ item_said i) → Holds (add_item s i) (done ++ ls)
+item_holds i s os done ls h k f said =
+    let same : items_said h.items ++ item_said i ≡ items_said (h.items ++ i ∷ []) ++ opens_said (add_item s i).open_blocks =
+    sym (items_said-more h.items i) ∙ sym (append-nil (items_said (h.items ++ i ∷ []))) ∙ ap (λ qs. items_said (h.items ++ i ∷ []) ++ opens_said qs) (sym (none_open i s)) in
+    record {
+      items = h.items ++ i ∷ [];
+      said = subst (λ xs. AreSaid (done ++ ls) xs) same said;
+      each = each-more h.items i h.each k;
+      order = subst InOrder (sym (none_open i s)) tt;
+      memory = memories_after i s h.items f h.memory;
+      trajectory = trajectories_after i s h.items f h.trajectory;
+      ellipsoid = ellipsoids_after i s h.items f h.ellipsoid;
+      drones_are = drones_after i s h.items h.drones_are;
+      formations_are = formations_after i s h.items h.formations_are;
+      figures_are = figures_after i s h.items h.figures_are;
+      body_is = body_after i s h.items h.body_is;
+    }
+
+-- other open blocks, for more lines
+opens_hold : (s : Built) (os qs : List Open) (done ls : List Line) → (h : Holds (with_open s os) done) → AreSaid (done ++ ls) (items_said h.items ++ opens_said qs) → InOrder qs → Holds (with_open s qs) (done ++ ls)
+opens_hold s os qs done ls h said k =
+    record { items = h.items; said = said; each = h.each; order = k; memory = h.memory; trajectory = h.trajectory; ellipsoid = h.ellipsoid; drones_are = h.drones_are; formations_are = h.formations_are; figures_are = h.figures_are; body_is = h.body_is }
+
+-- Bodies behind bodies.
+
+body_said-then : (a b : Body) → body_said (a ⨾ b) ≡ body_said a ++ body_said b
+body_said-then plain.Done b = refl
+body_said-then (plain.Cue line ms acts rest) b =
+    ap (λ xs. at line (entry.Cue ms) ∷ (map act_said acts ++ closing ∷ xs)) (body_said-then rest b)
+    ∙ ap (λ xs. at line (entry.Cue ms) ∷ xs) (sym (append_assoc (map act_said acts) (closing ∷ body_said rest) (body_said b)))
+body_said-then (plain.Repeat line times inside rest) b =
+    ap (λ xs. at line (entry.Repeat times) ∷ (body_said inside ++ closing ∷ xs)) (body_said-then rest b)
+    ∙ ap (λ xs. at line (entry.Repeat times) ∷ xs) (sym (append_assoc (body_said inside) (closing ∷ body_said rest) (body_said b)))
+body_said-then (plain.Perform line figure frame ds rest) b = ap (λ xs. at line (entry.Perform figure frame ds) ∷ xs) (body_said-then rest b)
+
+both : (x y : Bool) → x ≡ true → y ≡ true → (x && y) ≡ true
+both x y p q = ap (λ b. b && y) p ∙ q
+
+pub filled_then : (a b : Body) → is_filled a ≡ true → is_filled b ≡ true → is_filled (a ⨾ b) ≡ true
+filled_then plain.Done b p q = q
+filled_then (plain.Cue line ms acts rest) b p q = filled_then rest b p q
+filled_then (plain.Repeat line times inside rest) b p q =
+    let parts = and_parts (has_block inside && is_filled inside) (is_filled rest) p in
+    both (has_block inside && is_filled inside) (is_filled (rest ⨾ b)) parts.0 (filled_then rest b parts.1 q)
+filled_then (plain.Perform line figure frame ds rest) b p q = filled_then rest b p q
+
+pub depth_then : (a b : Body) (n : ℕ) → n + depth a ≤ 8 → n + depth b ≤ 8 → n + depth (a ⨾ b) ≤ 8
+depth_then plain.Done b n p q = q
+depth_then (plain.Cue line ms acts rest) b n p q = depth_then rest b n p q
+depth_then (plain.Repeat line times inside rest) b n p q = omega (arith, p, depth_then rest b n (omega (arith, p)) q)
+depth_then (plain.Perform line figure frame ds rest) b n p q = depth_then rest b n p q
+
+fits_then : (a b : Body) → fits_figure a ≡ true → fits_figure b ≡ true → fits_figure (a ⨾ b) ≡ true
+fits_then plain.Done b p q = q
+fits_then (plain.Cue line ms acts rest) b p q =
+    let parts = and_parts (all_name_one acts) (fits_figure rest) p in both (all_name_one acts) (fits_figure (rest ⨾ b)) parts.0 (fits_then rest b parts.1 q)
+fits_then (plain.Repeat line times inside rest) b p q =
+    let parts = and_parts (fits_figure inside) (fits_figure rest) p in both (fits_figure inside) (fits_figure (rest ⨾ b)) parts.0 (fits_then rest b parts.1 q)
+fits_then (plain.Perform line figure frame ds rest) b p q = cc
+
+-- one more block, in the innermost open one or at top
+block_added : (s : Built) (os qs : List Open) (a : Body) (done ls : List Line) → (h : Holds (with_open s qs) done) → AreSaid (done ++ ls) (items_said h.items ++ (opens_said os ++ body_said a)) → InOrder os → Kept os a → Holds (add_block s os a) (done ++ ls)
+block_added s [] qs a done ls h said k p =
+    item_holds (Blocks a) s qs done ls h (record { filled = p.filled; nested = omega (arith, p.nested) }) tt said
+block_added s (InFormation line name places ∷ os) qs a done ls h said k p = absurd p.takes
+block_added s (InFigure line name roles b ∷ os) qs a done ls h said k p =
+    let to = InFigure line name roles (b ⨾ a) ∷ os in
+    let same : (opens_said os ++ at line (entry.Figure name roles) ∷ body_said b) ++ body_said a ≡ opens_said os ++ at line (entry.Figure name roles) ∷ body_said (b ⨾ a) =
+    append_assoc (opens_said os) (at line (entry.Figure name roles) ∷ body_said b) (body_said a)
+    ∙ ap (λ xs. opens_said os ++ at line (entry.Figure name roles) ∷ xs) (sym (body_said-then b a)) in
+    opens_hold s qs (InFigure line name roles (b ⨾ a) ∷ os) done ls h (subst (λ xs. AreSaid (done ++ ls) (items_said h.items ++ xs)) same said)
+    (k.0, record { takes = tt; filled = filled_then b a k.1.filled p.filled; nested = depth_then b a _ k.1.nested p.nested; figure = λ e. fits_then b a (k.1.figure e) (p.figure e) })
+block_added s (InRepeat line times b ∷ os) qs a done ls h said k p =
+    let same : (opens_said os ++ at line (entry.Repeat times) ∷ body_said b) ++ body_said a ≡ opens_said os ++ at line (entry.Repeat times) ∷ body_said (b ⨾ a) =
+    append_assoc (opens_said os) (at line (entry.Repeat times) ∷ body_said b) (body_said a)
+    ∙ ap (λ xs. opens_said os ++ at line (entry.Repeat times) ∷ xs) (sym (body_said-then b a)) in
+    opens_hold s qs (InRepeat line times (b ⨾ a) ∷ os) done ls h (subst (λ xs. AreSaid (done ++ ls) (items_said h.items ++ xs)) same said)
+    (k.0, record { takes = tt; filled = filled_then b a k.1.filled p.filled; nested = depth_then b a _ k.1.nested p.nested; figure = λ e. fits_then b a (k.1.figure e) (p.figure e) }, k.2)
+block_added s (InCue line ms acts ∷ os) qs a done ls h said k p = absurd p.takes
+
+-- Where an entry stands.
+
+pub not_in_repeat : (b : Bool) (e : Entry) → may_say place.InFigure e ≡ false → may_say place.InRepeat e ≡ false → may_say (place_in OpenRepeat b) e ≡ true → ⊥
+not_in_repeat true e p q m = cc
+not_in_repeat false e p q m = cc
+
+pub not_in_cue : (b : Bool) (e : Entry) → may_say place.InCue e ≡ false → may_say place.InFigureCue e ≡ false → may_say (place_in OpenCue b) e ≡ true → ⊥
+not_in_cue true e p q m = cc
+not_in_cue false e p q m = cc
+
+-- an entry that may stand in no block
+abbrev pub IsOutside : Entry → Type 0
+IsOutside e = (may_say place.InFormation e ≡ false) × (may_say place.InFigure e ≡ false) × (may_say place.InRepeat e ≡ false) × (may_say place.InCue e ≡ false) × (may_say place.InFigureCue e ≡ false)
+
+pub top_is : (os : List Open) (e : Entry) → IsOutside e → may_say (place_of (openings_of os)) e ≡ true → os ≡ []
+top_is [] e o m = refl
+top_is (InFormation line name places ∷ os) e o m = let f = o.0 in cc
+top_is (InFigure line name roles b ∷ os) e o m = let f = o.1 in cc
+top_is (InRepeat line times b ∷ os) e o m = absurd (not_in_repeat (in_figure (openings_of (InRepeat line times b ∷ os))) e o.1 o.2 m)
+top_is (InCue line ms acts ∷ os) e o m = absurd (not_in_cue (in_figure (openings_of (InCue line ms acts ∷ os))) e o.3 o.4 m)
+
+pub takes_is : (os : List Open) (e : Entry) → may_say place.InFormation e ≡ false → may_say place.InCue e ≡ false → may_say place.InFigureCue e ≡ false → may_say (place_of (openings_of os)) e ≡ true → TakesBlocks os
+takes_is [] e f c d m = tt
+takes_is (InFormation line name places ∷ os) e f c d m = cc
+takes_is (InFigure line name roles b ∷ os) e f c d m = tt
+takes_is (InRepeat line times b ∷ os) e f c d m = tt
+takes_is (InCue line ms acts ∷ os) e f c d m = absurd (not_in_cue (in_figure (openings_of (InCue line ms acts ∷ os))) e c d m)
+
+repeat_outside : (b : Bool) (e : Entry) → may_say place.InFigure e ≡ false → may_say (place_in OpenRepeat b) e ≡ true → b ≡ false
+repeat_outside true e f m = cc
+repeat_outside false e f m = refl
+
+outside_is : (os : List Open) (e : Entry) → TakesBlocks os → may_say place.InFigure e ≡ false → may_say (place_of (openings_of os)) e ≡ true → in_figure (openings_of os) ≡ false
+outside_is [] e k f m = refl
+outside_is (InFormation line name places ∷ os) e k f m = absurd k
+outside_is (InFigure line name roles b ∷ os) e k f m = cc
+outside_is (InRepeat line times b ∷ os) e k f m = repeat_outside (in_figure (openings_of (InRepeat line times b ∷ os))) e f m
+outside_is (InCue line ms acts ∷ os) e k f m = absurd k
+
+few_repeats : (os : List Open) → InOrder os → TakesBlocks os → repeats (openings_of os) ≤ 8
+few_repeats [] k t = omega arith
+few_repeats (InFormation line name places ∷ os) k t = absurd t
+few_repeats (InFigure line name roles b ∷ os) k t = omega (arith, k.1.nested)
+few_repeats (InRepeat line times b ∷ os) k t = omega (arith, k.1.nested)
+few_repeats (InCue line ms acts ∷ os) k t = absurd t
+
+-- Without a fault.
+
+unset_back : {A : Type 0} (o : Option A) → fault_if (is_some o) kind.DoubleSetting ≡ None → o ≡ None
+unset_back None h = refl
+unset_back (Some x) h = cc
+
+fault_none : (b : Bool) (k : LineKind) → fault_if b k ≡ None → b ≡ false
+fault_none true k h = cc
+fault_none false k h = refl
+
+not_false : (b : Bool) → not b ≡ false → b ≡ true
+not_false true h = refl
+not_false false h = cc
+
+few_more : (n : ℕ) → nat_le 8 n ≡ false → n < 8
+few_more n h = grind (arith, nat_tests)
+
+any_place : (places : List DroneLine) → is_any places ≡ true → 1 ≤ length places
+any_place [] h = cc
+any_place (d ∷ places) h = omega arith
+
+-- What each kind of line does.
+
+abbrev Goes : Built → List Open → List Line → Line → Entry → Type 0
+Goes s os done l e = Holds (with_open s os) done → Says l.words e → entry_fault (context_of (with_open s os)) e ≡ None → Holds (build (with_open s os) l.number e) (done ++ l ∷ [])
+
+-- an item of one line
+item_line : (i : Item) (e : Entry) (x : SaidLine) (s : Built) (done : List Line) (l : Line) → (h : Holds (with_open s []) done) → IsItem i → Fresh s i → item_said i ≡ x ∷ [] → IsSaid l x → Holds (add_item s i) (done ++ l ∷ [])
+item_line i e x s done l h k f same is =
+    let said = said_more done l (items_said h.items) [] x h.said is in
+    item_holds i s [] done (l ∷ []) h k f (subst (λ xs. AreSaid (done ++ l ∷ []) (items_said h.items ++ xs)) (sym same) said)
+
+-- a line that opens a block
+block_opened : (s : Built) (os : List Open) (o : Open) (e : Entry) (done : List Line) (l : Line) → (h : Holds (with_open s os) done) → Says l.words e → open_said o ≡ at l.number e ∷ [] → InOrder (o ∷ os) → Holds (with_open s (o ∷ os)) (done ++ l ∷ [])
+block_opened s os o e done l h says same k =
+    let said = said_more done l (items_said h.items) (opens_said os) (at l.number e) h.said (here l e says) in
+    opens_hold s os (o ∷ os) done (l ∷ []) h (subst (λ xs. AreSaid (done ++ l ∷ []) (items_said h.items ++ (opens_said os ++ xs))) (sym same) said) k
+
+-- a line inside the innermost block
+line_added : (s : Built) (o p : Open) (os : List Open) (e : Entry) (done : List Line) (l : Line) → (h : Holds (with_open s (o ∷ os)) done) → Says l.words e → open_said p ≡ open_said o ++ at l.number e ∷ [] → InOrder (p ∷ os) → Holds (with_open s (p ∷ os)) (done ++ l ∷ [])
+line_added s o p os e done l h says same k =
+    let said = said_more done l (items_said h.items) (opens_said os ++ open_said o) (at l.number e) h.said (here l e says) in
+    let to : (opens_said os ++ open_said o) ++ at l.number e ∷ [] ≡ opens_said os ++ open_said p = append_assoc (opens_said os) (open_said o) (at l.number e ∷ []) ∙ ap (λ xs. opens_said os ++ xs) (sym same) in
+    opens_hold s (o ∷ os) (p ∷ os) done (l ∷ []) h (subst (λ xs. AreSaid (done ++ l ∷ []) (items_said h.items ++ xs)) to said) k
+
+-- `end` of a cue or a repeat
+block_closed : (s : Built) (o : Open) (os : List Open) (a : Body) (done : List Line) (l : Line) → (h : Holds (with_open s (o ∷ os)) done) → Says l.words entry.End → body_said a ≡ open_said o ++ closing ∷ [] → InOrder os → Kept os a → Holds (add_block s os a) (done ++ l ∷ [])
+block_closed s o os a done l h says same k p =
+    let said = said_more done l (items_said h.items) (opens_said os ++ open_said o) closing h.said (somewhere l entry.End says) in
+    let to : (opens_said os ++ open_said o) ++ closing ∷ [] ≡ opens_said os ++ body_said a = append_assoc (opens_said os) (open_said o) (closing ∷ []) ∙ ap (λ xs. opens_said os ++ xs) (sym same) in
+    block_added s os (o ∷ os) a done (l ∷ []) h (subst (λ xs. AreSaid (done ++ l ∷ []) (items_said h.items ++ xs)) to said) k p
+
+-- `end` of a formation or a figure
+item_closed : (s : Built) (o : Open) (i : Item) (done : List Line) (l : Line) → (h : Holds (with_open s (o ∷ [])) done) → Says l.words entry.End → item_said i ≡ open_said o ++ closing ∷ [] → IsItem i → Fresh s i → Holds (add_item s i) (done ++ l ∷ [])
+item_closed s o i done l h says same k f =
+    let said = said_more done l (items_said h.items) (open_said o) closing h.said (somewhere l entry.End says) in
+    item_holds i s (o ∷ []) done (l ∷ []) h k f (subst (λ xs. AreSaid (done ++ l ∷ []) (items_said h.items ++ xs)) (sym same) said)
+
+end_goes : (os : List Open) (s : Built) (done : List Line) (l : Line) → may_say (place_of (openings_of os)) entry.End ≡ true → Goes s os done l entry.End
+end_goes [] s done l m h says f = cc
+end_goes (InFormation line name places ∷ []) s done l m h says f =
+    let some = any_place places (not_false (is_any places) (fault_none _ kind.EmptyBlock f)) in
+    item_closed s (InFormation line name places) (Formed (record { line = line; name = name; places = places })) done l h says refl some tt
+end_goes (InFormation line name places ∷ o ∷ os) s done l m h says f = let k : o ∷ os ≡ [] = h.order in cc
+end_goes (InFigure line name roles b ∷ []) s done l m h says f =
+    let some = not_false (has_block b) (fault_none _ kind.EmptyBlock f) in
+    let k = h.order.1 in
+    item_closed s (InFigure line name roles b) (Figured (record { line = line; name = name; roles = roles; body = b })) done l h says refl (some, k.figure refl, record { filled = k.filled; nested = omega (arith, k.nested) }) tt
+end_goes (InFigure line name roles b ∷ o ∷ os) s done l m h says f = let k : o ∷ os ≡ [] = h.order.0 in cc
+end_goes (InRepeat line times b ∷ os) s done l m h says f =
+    let some = not_false (has_block b) (fault_none _ kind.EmptyBlock f) in
+    let k = h.order.1 in
+    block_closed s (InRepeat line times b) os (plain.Repeat line times b plain.Done) done l h says refl h.order.2 (record {
+      takes = h.order.0;
+      filled = both (has_block b && is_filled b) true (both (has_block b) (is_filled b) some k.filled) refl;
+      nested = omega (arith, k.nested, outer_repeats os);
+      figure = λ e. both (fits_figure b) true (k.figure (outer_figure os ∙ e)) refl;
+    })
+end_goes (InCue line ms acts ∷ os) s done l m h says f =
+    block_closed s (InCue line ms acts) os (plain.Cue line ms acts plain.Done) done l h says refl h.order.2 (record {
+      takes = h.order.0;
+      filled = refl;
+      nested = omega (arith, few_repeats os h.order.2 h.order.0);
+      figure = λ e. both (all_name_one acts) true (h.order.1 e) refl;
+    })
+
+place_goes : (os : List Open) (s : Built) (done : List Line) (l : Line) (name : Name) (to : _) → may_say (place_of (openings_of os)) (entry.At name to) ≡ true → Goes s os done l (entry.At name to)
+place_goes [] s done l name to m h says f = cc
+place_goes (InFormation line n places ∷ os) s done l name to m h says f =
+    let d : DroneLine = record { line = l.number; name = name; at = to } in
+    line_added s (InFormation line n places) (InFormation line n (places ++ d ∷ [])) os (entry.At name to) done l h says (ap (λ xs. at line (entry.Formation n) ∷ xs) (map-append place_said places (d ∷ []))) h.order
+place_goes (InFigure line n roles b ∷ os) s done l name to m h says f = cc
+place_goes (InRepeat line times b ∷ os) s done l name to m h says f = absurd (not_in_repeat (in_figure (openings_of (InRepeat line times b ∷ os))) (entry.At name to) refl refl m)
+place_goes (InCue line ms acts ∷ os) s done l name to m h says f = absurd (not_in_cue (in_figure (openings_of (InCue line ms acts ∷ os))) (entry.At name to) refl refl m)
+
+-- one more act line, which fits where the cue stands
+all_more : (acts : List ActLine) (a : ActLine) → all_name_one acts ≡ true → names_one a ≡ true → all_name_one (acts ++ a ∷ []) ≡ true
+all_more [] a h k = both (names_one a) true k refl
+all_more (b ∷ acts) a h k = let parts = and_parts (names_one b) (all_name_one acts) h in both (names_one b) (all_name_one (acts ++ a ∷ [])) parts.0 (all_more acts a parts.1 k)
+
+act_added : (s : Built) (line ms : ℕ) (acts : List ActLine) (os : List Open) (a : ActLine) (e : Entry) (done : List Line) (l : Line) → Holds (with_open s (InCue line ms acts ∷ os)) done → Says l.words e → act_said a ≡ at l.number e → (in_figure (openings_of os) ≡ true → names_one a ≡ true) → Holds (with_open s (InCue line ms (acts ++ a ∷ []) ∷ os)) (done ++ l ∷ [])
+act_added s line ms acts os a e done l h says same fits =
+    line_added s (InCue line ms acts) (InCue line ms (acts ++ a ∷ [])) os e done l h says
+    (ap (λ xs. at line (entry.Cue ms) ∷ xs) (map-append act_said acts (a ∷ []) ∙ ap (λ x. map act_said acts ++ x ∷ []) same))
+    (h.order.0, λ q. all_more acts a (h.order.1 q) (fits q), h.order.2)
+
+form_outside : (b : Bool) (e : Entry) → may_say place.InFigureCue e ≡ false → may_say (place_in OpenCue b) e ≡ true → b ≡ false
+form_outside true e f m = cc
+form_outside false e f m = refl
+
+one_goes : (os : List Open) (s : Built) (done : List Line) (l : Line) (name : Name) (a : _) → may_say (place_of (openings_of os)) (entry.One name a) ≡ true → Goes s os done l (entry.One name a)
+one_goes [] s done l name a m h says f = cc
+one_goes (InFormation line n places ∷ os) s done l name a m h says f = cc
+one_goes (InFigure line n roles b ∷ os) s done l name a m h says f = cc
+one_goes (InRepeat line times b ∷ os) s done l name a m h says f = absurd (not_in_repeat (in_figure (openings_of (InRepeat line times b ∷ os))) (entry.One name a) refl refl m)
+one_goes (InCue line ms acts ∷ os) s done l name a m h says f =
+    act_added s line ms acts os (on.One l.number name a) (entry.One name a) done l h says refl (λ q. refl)
+
+form_goes : (os : List Open) (s : Built) (done : List Line) (l : Line) (name : Name) (smooth : Bool) → may_say (place_of (openings_of os)) (entry.Form name smooth) ≡ true → Goes s os done l (entry.Form name smooth)
+form_goes [] s done l name smooth m h says f = cc
+form_goes (InFormation line n places ∷ os) s done l name smooth m h says f = cc
+form_goes (InFigure line n roles b ∷ os) s done l name smooth m h says f = cc
+form_goes (InRepeat line times b ∷ os) s done l name smooth m h says f = absurd (not_in_repeat (in_figure (openings_of (InRepeat line times b ∷ os))) (entry.Form name smooth) refl refl m)
+form_goes (InCue line ms acts ∷ os) s done l name smooth m h says f =
+    let outside = form_outside (in_figure (openings_of (InCue line ms acts ∷ os))) (entry.Form name smooth) refl m in
+    act_added s line ms acts os (on.Form l.number name smooth) (entry.Form name smooth) done l h says refl (λ q. sym outside ∙ outer_figure os ∙ q)
+
+-- a line at top
+at_top : (e : Entry) (os : List Open) (s : Built) (done : List Line) (l : Line) → IsOutside e → may_say (place_of (openings_of os)) e ≡ true → Goes s [] done l e → Goes s os done l e
+at_top e os s done l o m goes = subst (λ qs. Goes s qs done l e) (sym (top_is os e o m)) goes
+
+goes : (e : Entry) (os : List Open) (s : Built) (done : List Line) (l : Line) → may_say (place_of (openings_of os)) e ≡ true → Goes s os done l e
+goes (entry.Memory id offset) os s done l m = at_top (entry.Memory id offset) os s done l (refl, refl, refl, refl, refl) m
+    (λ h says f. item_line (Memory id offset) (entry.Memory id offset) _ s done l h tt (unset_back s.memory f) refl (somewhere l _ says))
+goes (entry.Trajectory id) os s done l m = at_top (entry.Trajectory id) os s done l (refl, refl, refl, refl, refl) m
+    (λ h says f. item_line (Trajectory id) (entry.Trajectory id) _ s done l h tt (unset_back s.trajectory f) refl (somewhere l _ says))
+goes (entry.Ellipsoid r x) os s done l m = at_top (entry.Ellipsoid r x) os s done l (refl, refl, refl, refl, refl) m
+    (λ h says f. item_line (Ellipsoid r x) (entry.Ellipsoid r x) _ s done l h tt (unset_back s.ellipsoid f) refl (somewhere l _ says))
+goes (entry.Drone name to) os s done l m = at_top (entry.Drone name to) os s done l (refl, refl, refl, refl, refl) m
+    (λ h says f. item_line (Drone (record { line = l.number; name = name; at = to })) (entry.Drone name to) _ s done l h tt tt refl (here l _ says))
+goes (entry.Formation name) os s done l m = at_top (entry.Formation name) os s done l (refl, refl, refl, refl, refl) m
+    (λ h says f. block_opened s [] (InFormation l.number name []) (entry.Formation name) done l h says refl refl)
+goes (entry.Figure name roles) os s done l m = at_top (entry.Figure name roles) os s done l (refl, refl, refl, refl, refl) m
+    (λ h says f. block_opened s [] (InFigure l.number name roles plain.Done) (entry.Figure name roles) done l h says refl
+    (refl, record { takes = tt; filled = refl; nested = omega arith; figure = λ q. refl }))
+goes (entry.Cue ms) os s done l m =
+    λ h says f. block_opened s os (InCue l.number ms []) (entry.Cue ms) done l h says refl
+    (takes_is os (entry.Cue ms) refl refl refl m, λ q. refl, h.order)
+goes (entry.Repeat times) os s done l m =
+    λ h says f. let few = few_more (repeats (openings_of os)) (fault_none _ kind.Nesting f) in
+    block_opened s os (InRepeat l.number times plain.Done) (entry.Repeat times) done l h says refl
+    (takes_is os (entry.Repeat times) refl refl refl m, record { takes = tt; filled = refl; nested = omega (arith, few, outer_repeats os); figure = λ q. refl }, h.order)
+goes (entry.Perform figure frame ds) os s done l m =
+    λ h says f.
+    let takes = takes_is os (entry.Perform figure frame ds) refl refl refl m in
+    let outside = outside_is os (entry.Perform figure frame ds) takes refl m in
+    let said = said_more done l (items_said h.items) (opens_said os) (at l.number (entry.Perform figure frame ds)) h.said (here l _ says) in
+    block_added s os os (plain.Perform l.number figure frame ds plain.Done) done (l ∷ []) h said h.order
+    (record { takes = takes; filled = refl; nested = omega (arith, few_repeats os h.order takes); figure = λ q. sym outside ∙ q })
+goes (entry.At name to) os s done l m = place_goes os s done l name to m
+goes (entry.Form name smooth) os s done l m = form_goes os s done l name smooth m
+goes (entry.One name a) os s done l m = one_goes os s done l name a m
+goes entry.End os s done l m = end_goes os s done l m
+
+-- one line that went well
+record Stepped (s t : Built) (l : Line) : Type 0 where
+  entry : Entry
+  says : Says l.words entry
+  stands : may_say (place_of (openings_of s.open_blocks)) entry ≡ true
+  faultless : entry_fault (context_of s) entry ≡ None
+  is : build s l.number entry ≡ t
+
+unless_by : (o : Option LineKind) (n : ℕ) (s t : Built) → unless n o s ≡ Ok t → (o ≡ None) × (s ≡ t)
+unless_by None n s t h = (refl, cc)
+unless_by (Some k) n s t h = cc
+
+stepped_by : (r : Result Entry LineKind) (s t : Built) (l : Line) → entry_of (place_of (openings_of s.open_blocks)) l.words ≡ r → built_by s l.number r ≡ Ok t → Stepped s t l
+stepped_by (Ok e) s t l q h =
+    let u = unless_by (entry_fault (context_of s) e) l.number (build s l.number e) t h in
+    let b = says_of (place_of (openings_of s.open_blocks)) l.words e q in
+    record { entry = e; says = b.0; stands = b.1; faultless = u.0; is = u.1 }
+stepped_by (Err k) s t l q h = cc
+
+pub step_holds : (s t : Built) (l : Line) (done : List Line) → Holds s done → line_step s l ≡ Ok t → Holds t (done ++ l ∷ [])
+step_holds s t l done h e =
+    let p = stepped_by (entry_of (place_of (openings_of s.open_blocks)) l.words) s t l refl e in
+    subst (λ u. Holds u (done ++ l ∷ [])) p.is (goes p.entry s.open_blocks s done l p.stands h p.says p.faultless)
+
+one_more : (r : Step) (l : Line) (ls done : List Line) (s t : Built) → Holds s done → line_step s l ≡ r → then_step r (λ u. lines_step u ls) ≡ Ok t → ((u : Built) → Holds u (done ++ l ∷ []) → lines_step u ls ≡ Ok t → Holds t ((done ++ l ∷ []) ++ ls)) → Holds t (done ++ l ∷ ls)
+one_more (Ok u) l ls done s t h e k ih = subst (λ xs. Holds t xs) (append_assoc done (l ∷ []) ls) (ih u (step_holds s u l done h e) k)
+one_more (Err f) l ls done s t h e k ih = cc
+
+steps_hold : (ls done : List Line) (s t : Built) → Holds s done → lines_step s ls ≡ Ok t → Holds t (done ++ ls)
+steps_hold [] done s t h e = let same : s ≡ t = cc in subst (λ xs. Holds t xs) (sym (append-nil done)) (subst (λ u. Holds u done) same h)
+steps_hold (l ∷ ls) done s t h e = one_more (line_step s l) l ls done s t h refl e (λ u k q. steps_hold ls (done ++ l ∷ []) u t k q)
+
+pub at_start : Holds nothing []
+at_start = record { items = []; said = tt; each = tt; order = tt; memory = refl; trajectory = refl; ellipsoid = refl; drones_are = refl; formations_are = refl; figures_are = refl; body_is = refl }
+
+one_set : {A : Type 0} (o : Option A) (xs : List A) → xs ≡ option_to_list o → length xs ≤ 1
+one_set None xs e = subst (λ ys. length ys ≤ 1) (sym e) (omega arith)
+one_set (Some x) xs e = subst (λ ys. length ys ≤ 1) (sym e) (omega arith)
+
+value_set : {A : Type 0} (d : A) (o : Option A) (xs : List A) → xs ≡ option_to_list o → first_or d xs ≡ unwrap_or o d
+value_set d None xs e = ap (first_or d) e
+value_set d (Some x) xs e = ap (first_or d) e
+
+shown : (s : Built) (done : List Line) (h : Holds s done) → show_of h.items ≡ built_show s
+shown s done h =
+    let m = value_set (2, 0) s.memory (memories h.items) h.memory in
+    let t = value_set 0 s.trajectory (trajectories h.items) h.trajectory in
+    let e = value_set (120, 300) s.ellipsoid (ellipsoids h.items) h.ellipsoid in
+    let d = h.drones_are in let f = h.formations_are in let g = h.figures_are in let b = h.body_is in
+    cc
+
+-- the parts of a reading that gave a show
+record Read (lines : List Line) (show : PlainShow) : Type 0 where
+  header : Line
+  others : List Line
+  state : Built
+  is : lines ≡ header ∷ others
+  first : is_header header.words ≡ true
+  steps : lines_step nothing others ≡ Ok state
+  closed : state.open_blocks ≡ []
+  shows : built_show state ≡ show
+
+closed_by : (os : List Open) (s : Built) (show : PlainShow) → s.open_blocks ≡ os → finish_with s (end_fault (openings_of os)) ≡ Ok show → (s.open_blocks ≡ []) × (built_show s ≡ show)
+closed_by [] s show e h = (e, cc)
+closed_by (o ∷ os) s show e h = cc
+
+finished_by : (r : Step) (l : Line) (ls : List Line) (show : PlainShow) → is_header l.words ≡ true → lines_step nothing ls ≡ r → finish r ≡ Ok show → Read (l ∷ ls) show
+finished_by (Ok s) l ls show b e h =
+    let p = closed_by s.open_blocks s show refl h in
+    record { header = l; others = ls; state = s; is = refl; first = b; steps = e; closed = p.0; shows = p.1 }
+finished_by (Err f) l ls show b e h = cc
+
+header_by : (b : Bool) (l : Line) (ls : List Line) (show : PlainShow) → is_header l.words ≡ b → cond b (finish (lines_step nothing ls)) (Err (fault_at l.number kind.Header)) ≡ Ok show → Read (l ∷ ls) show
+header_by true l ls show e h = finished_by (lines_step nothing ls) l ls show e refl h
+header_by false l ls show e h = cc
+
+lines_by : (ls : List Line) (show : PlainShow) → read_lines ls ≡ Ok show → Read ls show
+lines_by [] show h = cc
+lines_by (l ∷ ls) show h = header_by (is_header l.words) l ls show refl h
+
+record Unforbidden (text : List ℕ) (show : PlainShow) : Type 0 where
+  allowed : forbidden text ≡ None
+  read : read_lines (show_lines text) ≡ Ok show
+
+unforbidden_by : (o : Option Fault) (text : List ℕ) (show : PlainShow) → forbidden text ≡ o → unless_forbidden o (read_lines (show_lines text)) ≡ Ok show → Unforbidden text show
+unforbidden_by None text show e h = record { allowed = e; read = h }
+unforbidden_by (Some f) text show e h = cc
+
+header_words : (l : Line) → is_header l.words ≡ true → IsHeader l
+header_words l h =
+    let p = and_parts (length l.words == 2 && bytes_eq (word l.words 0) (codes "choreo")) (bytes_eq (word l.words 1) (codes "1")) h in
+    let q = and_parts (length l.words == 2) (bytes_eq (word l.words 0) (codes "choreo")) p.0 in
+    let first = (bytes_eq-Decides (word l.words 0) (codes "choreo")).0 q.1 in
+    let second = (bytes_eq-Decides (word l.words 1) (codes "1")).0 p.1 in
+    words2 l.words (eqb-true (length l.words) 2 q.0) ∙ ap (λ w. w ∷ word l.words 1 ∷ []) first ∙ ap (λ w. codes "choreo" ∷ w ∷ []) second
+
+-- what is read is what the text stands for
+pub sound : (text : List ℕ) (show : PlainShow) → reading text ≡ Ok show → StandsFor text show
+sound text show h =
+    let u = unforbidden_by (forbidden text) text show refl h in
+    let r = lines_by (show_lines text) show u.read in
+    let k = steps_hold r.others [] nothing r.state at_start r.steps in
+    let none : items_said k.items ++ opens_said r.state.open_blocks ≡ items_said k.items = ap (λ os. items_said k.items ++ opens_said os) r.closed ∙ append-nil (items_said k.items) in (
+      k.items,
+      r.header,
+      r.others,
+      record {
+        bytes = u.allowed;
+        cut = r.is;
+        first = header_words r.header r.first;
+        said = subst (λ ss. AreSaid r.others ss) none k.said;
+        each = k.each;
+        single = record { memory = one_set r.state.memory (memories k.items) k.memory; trajectory = one_set r.state.trajectory (trajectories k.items) k.trajectory; ellipsoid = one_set r.state.ellipsoid (ellipsoids k.items) k.ellipsoid };
+      },
+      shown r.state r.others k ∙ r.shows,
+    )

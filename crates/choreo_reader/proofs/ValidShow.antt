@@ -1,0 +1,427 @@
+-- A show that a text stands for is valid.
+use Rattle.std.proofs.Common.{◌≡◌, ℕ, ◌+◌, ◌<◌, ◌≤◌, Bool, true, false, cond, eqb-true, ne_eqb, List, [], ◌∷◌, ◌++◌, map, length, Option, Some, None, refl, sym, ap, subst, ◌∙◌, arith, append_assoc}
+use Rattle.std.specs.Prelude.{ℤ, IsTrue, ◌==◌}
+use Rattle.std.proofs.lemmas.Int.{ints}
+use Rattle.std.proofs.lemmas.List.{append-nil}
+use Rattle.text_lines.specs.declared.token.Comments.TheVariants.{FromHash}
+use Rattle.text_lines.specs.Words.{visible, Line, line_with, numbered, words_of}
+use Rattle.text_lines.specs.Lines.{lines_of}
+use Rattle.choreo_lines.specs.Name.{is_name}
+use Rattle.choreo_reader.specs.Plain as plain
+use Rattle.choreo_lines.specs.Name.{Name}
+use Rattle.choreo_reader.specs.Plain.{Body, PlainFigure, PlainShow, has_block, ◌⨾◌}
+use Rattle.choreo_lines.specs.Says.{Word, IsNamed, AreNamed, IsNatural, IsPoint, IsTriple, IsFrame, IsAct, Says}
+use Rattle.choreo_reader.specs.Grammar.{SaidLine, AreSaid, closing, act_said, place_said, body_said, is_filled, depth, Item, Memory, Trajectory, Ellipsoid, Drone, Formed, Figured, Blocks, item_said, items_said, memories, trajectories, ellipsoids, drones, formations, figures, body, first_or, settings, show_of, AreItems, HasNumber, StandsFor}
+use Rattle.choreo_reader.specs.Valid.{IsName, AreNames, FitsPoint, FitsTriple, FitsAct, FitsFrame, FitActLines, FitsBody, FitDroneLines, FitFormations, FitFigures, FitsSettings, act_lines, body_lines, drone_lines, formation_lines, figure_lines, AllAbove, times, all_lines, IsValid}
+use Rattle.choreo_reader.proofs.Sound.{filled_then, depth_then}
+use Rattle.choreo_lines.specs.declared.line.Entry.{Entry}
+use Rattle.choreo_lines.specs.declared.line.Entry.TheVariants as entry
+use Rattle.choreo_lines.specs.declared.parts.Act.{Act}
+use Rattle.choreo_lines.specs.declared.parts.Act.TheVariants as act
+use Rattle.choreo_reader.specs.declared.show.ActLine.{ActLine}
+use Rattle.choreo_reader.specs.declared.show.ActLine.TheVariants as on
+use Rattle.choreo_lines.specs.declared.parts.Point.{Point}
+use Rattle.choreo_lines.specs.declared.parts.Frame.{Frame}
+use Rattle.choreo_reader.specs.declared.show.DroneLine.{DroneLine}
+use Rattle.choreo_reader.specs.declared.show.Formation.{Formation}
+
+-- The ranges of what an entry names.
+
+abbrev FitsEntry : Entry → Type 0
+FitsEntry (entry.Memory id offset) = offset ≤ 4095
+FitsEntry (entry.Trajectory id) = id ≤ 9
+FitsEntry (entry.Ellipsoid r h) = (1 ≤ r) × (r ≤ 2000) × (1 ≤ h) × (h ≤ 2000)
+FitsEntry (entry.Drone name to) = IsName name × FitsPoint to
+FitsEntry (entry.Formation name) = IsName name
+FitsEntry (entry.At name to) = IsName name × FitsPoint to
+FitsEntry (entry.Figure name roles) = IsName name × AreNames roles × (1 ≤ length roles) × (length roles ≤ 32)
+FitsEntry (entry.Cue ms) = (1 ≤ ms) × (ms ≤ 65535)
+FitsEntry (entry.Repeat times) = (1 ≤ times) × (times ≤ 1000000000)
+FitsEntry (entry.Perform figure frame ds) = IsName figure × FitsFrame frame × AreNames ds × (1 ≤ length ds) × (length ds ≤ 32)
+FitsEntry (entry.Form formation smooth) = IsName formation
+FitsEntry (entry.One name a) = IsName name × FitsAct a
+FitsEntry entry.End = Unit {0}
+
+name_fits : (w : Word) (n : Name) → IsNamed w n → IsName n
+name_fits w n h = subst (λ x. IsTrue (is_name x)) h.0 h.1
+
+names_fit : (ws : List Word) (ns : List Name) → AreNamed ws ns → AreNames ns × (length ns ≡ length ws)
+names_fit [] [] h = (tt, refl)
+names_fit [] (n ∷ ns) h = absurd h
+names_fit (w ∷ ws) [] h = absurd h
+names_fit (w ∷ ws) (n ∷ ns) h = let r = names_fit ws ns h.1 in ((name_fits w n h.0, r.0), omega (arith, r.1))
+
+above : (low high n : ℕ) (w : Word) → IsNatural low high w n → low ≤ n
+above low high n w h = omega (arith, ints, h.from)
+
+below : (low high n : ℕ) (w : Word) → IsNatural low high w n → n ≤ high
+below low high n w h = omega (arith, ints, h.to)
+
+point_fits : (ws : List Word) (p : Point) → IsPoint ws p → FitsPoint p
+point_fits (x ∷ y ∷ z ∷ yaw ∷ []) p h = ((h.0.from, h.0.to), (h.1.from, h.1.to), (h.2.from, h.2.to), (h.3.from, h.3.to))
+point_fits [] p h = absurd h
+point_fits (x ∷ []) p h = absurd h
+point_fits (x ∷ y ∷ []) p h = absurd h
+point_fits (x ∷ y ∷ z ∷ []) p h = absurd h
+point_fits (x ∷ y ∷ z ∷ yaw ∷ w ∷ ws) p h = absurd h
+
+triple_fits : (ws : List Word) (t : List ℤ) → IsTriple ws t → FitsTriple t
+triple_fits (x ∷ y ∷ z ∷ []) (a ∷ b ∷ c ∷ []) h = ((h.0.from, h.0.to), (h.1.from, h.1.to), (h.2.from, h.2.to))
+triple_fits [] t h = absurd h
+triple_fits (x ∷ []) t h = absurd h
+triple_fits (x ∷ y ∷ []) t h = absurd h
+triple_fits (x ∷ y ∷ z ∷ w ∷ ws) t h = absurd h
+triple_fits (x ∷ y ∷ z ∷ []) [] h = absurd h
+triple_fits (x ∷ y ∷ z ∷ []) (a ∷ []) h = absurd h
+triple_fits (x ∷ y ∷ z ∷ []) (a ∷ b ∷ []) h = absurd h
+triple_fits (x ∷ y ∷ z ∷ []) (a ∷ b ∷ c ∷ d ∷ t) h = absurd h
+
+frame_fits : (ws : List Word) (f : Frame) → IsFrame ws f → FitsFrame f
+frame_fits (m ∷ t ∷ x ∷ y ∷ z ∷ []) f h = (below 0 3 f.turns t h.1, (h.2.from, h.2.to), (h.3.from, h.3.to), (h.4.from, h.4.to))
+frame_fits [] f h = absurd h
+frame_fits (m ∷ []) f h = absurd h
+frame_fits (m ∷ t ∷ []) f h = absurd h
+frame_fits (m ∷ t ∷ x ∷ []) f h = absurd h
+frame_fits (m ∷ t ∷ x ∷ y ∷ []) f h = absurd h
+frame_fits (m ∷ t ∷ x ∷ y ∷ z ∷ w ∷ ws) f h = absurd h
+
+act_fits : (ws : List Word) (a : Act) → IsAct ws a → FitsAct a
+act_fits ws act.Hold h = tt
+act_fits ws (act.Line to) (tw, e, p) = point_fits tw to p
+act_fits ws (act.Move to) (tw, e, p) = point_fits tw to p
+act_fits ws (act.Turn yaw) (w, e, y) = (y.from, y.to)
+act_fits ws (act.Arc ccw cx cy yaw) (x, y, a, e, p, q, r) = ((p.from, p.to), (q.from, q.to), (r.from, r.to))
+act_fits ws (act.Curve p1 p2 to) (f, g, tw, e, p, q, r) = (triple_fits f p1 p, triple_fits g p2 q, point_fits tw to r)
+
+says_fits : (ws : List Word) (e : Entry) → Says ws e → FitsEntry e
+says_fits ws (entry.Memory id offset) (i, o, e, a, b) = below 0 4095 offset o b
+says_fits ws (entry.Trajectory id) (i, e, a) = below 0 9 id i a
+says_fits ws (entry.Ellipsoid r h) (i, o, e, a, b) = (above 1 2000 r i a, below 1 2000 r i a, above 1 2000 h o b, below 1 2000 h o b)
+says_fits ws (entry.Drone name to) (n, point, e, nm, pt) = (name_fits n name nm, point_fits point to pt)
+says_fits ws (entry.Formation name) (n, e, nm) = name_fits n name nm
+says_fits ws (entry.At name to) (n, point, e, nm, pt) = (name_fits n name nm, point_fits point to pt)
+says_fits ws (entry.Figure name roles) (n, rs, e, low, high, nm, ns) =
+    let r = names_fit rs roles ns in (name_fits n name nm, r.0, omega (arith, r.1, low), omega (arith, r.1, high))
+says_fits ws (entry.Cue ms) (w, e, a) = (above 1 65535 ms w a, below 1 65535 ms w a)
+says_fits ws (entry.Repeat times) (w, e, a) = (above 1 1000000000 times w a, below 1 1000000000 times w a)
+says_fits ws (entry.Perform figure frame named) (n, fs, ds, e, low, high, nm, fr, ns) =
+    let r = names_fit ds named ns in (name_fits n figure nm, frame_fits fs frame fr, r.0, omega (arith, r.1, low), omega (arith, r.1, high))
+says_fits ws (entry.Form formation smooth) (n, e, nm) = name_fits n formation nm
+says_fits ws (entry.One name a) (n, rest, e, nm, ac) = (name_fits n name nm, act_fits rest a ac)
+says_fits ws entry.End h = tt
+
+-- The lines of a text, one by one.
+
+abbrev AllFit : List SaidLine → Type 0
+AllFit [] = Unit {0}
+AllFit (s ∷ ss) = FitsEntry s.entry × AllFit ss
+
+said_fit : (ls : List Line) (xs : List SaidLine) → AreSaid ls xs → AllFit xs
+said_fit [] [] h = tt
+said_fit [] (x ∷ xs) h = absurd h
+said_fit (l ∷ ls) [] h = absurd h
+said_fit (l ∷ ls) (x ∷ xs) h = (says_fits l.words x.entry h.0.says, said_fit ls xs h.1)
+
+front_fits : (xs ys : List SaidLine) → AllFit (xs ++ ys) → AllFit xs
+front_fits [] ys h = tt
+front_fits (x ∷ xs) ys h = (h.0, front_fits xs ys h.1)
+
+back_fits : (xs ys : List SaidLine) → AllFit (xs ++ ys) → AllFit ys
+back_fits [] ys h = h
+back_fits (x ∷ xs) ys h = back_fits xs ys h.1
+
+acts_fit : (acts : List ActLine) → AllFit (map act_said acts) → FitActLines acts
+acts_fit [] h = tt
+acts_fit (on.One line name a ∷ acts) h = (h.0, acts_fit acts h.1)
+acts_fit (on.Form line formation smooth ∷ acts) h = (h.0, acts_fit acts h.1)
+
+places_fit : (ps : List DroneLine) → AllFit (map place_said ps) → FitDroneLines ps
+places_fit [] h = tt
+places_fit (p ∷ ps) h = (h.0.0, h.0.1, places_fit ps h.1)
+
+body_fits : (b : Body) → AllFit (body_said b) → FitsBody b
+body_fits plain.Done h = tt
+body_fits (plain.Cue line ms acts rest) h =
+    (h.0.0, h.0.1, acts_fit acts (front_fits (map act_said acts) (closing ∷ body_said rest) h.1), body_fits rest (back_fits (map act_said acts) (closing ∷ body_said rest) h.1).1)
+body_fits (plain.Repeat line times inside rest) h =
+    (h.0.0, h.0.1, body_fits inside (front_fits (body_said inside) (closing ∷ body_said rest) h.1), body_fits rest (back_fits (body_said inside) (closing ∷ body_said rest) h.1).1)
+body_fits (plain.Perform line figure frame ds rest) h = (h.0.0, h.0.1, h.0.2, h.0.3, h.0.4, body_fits rest h.1)
+
+then_fits : (a b : Body) → FitsBody a → FitsBody b → FitsBody (a ⨾ b)
+then_fits plain.Done b h k = k
+then_fits (plain.Cue line ms acts rest) b h k = (h.0, h.1, h.2, then_fits rest b h.3 k)
+then_fits (plain.Repeat line times inside rest) b h k = (h.0, h.1, h.2, then_fits rest b h.3 k)
+then_fits (plain.Perform line figure frame ds rest) b h k = (h.0, h.1, h.2, h.3, h.4, then_fits rest b h.5 k)
+
+-- Item by item.
+
+drones_fit : (is : List Item) → AllFit (items_said is) → FitDroneLines (drones is)
+drones_fit [] h = tt
+drones_fit (Drone d ∷ is) h = (h.0.0, h.0.1, drones_fit is h.1)
+drones_fit (i ∷ is) h = drones_fit is (back_fits (item_said i) (items_said is) h)
+
+formations_fit : (is : List Item) → AreItems is → AllFit (items_said is) → FitFormations (formations is)
+formations_fit [] k h = tt
+formations_fit (Formed f ∷ is) k h =
+    (h.0, k.0, places_fit f.places (front_fits (map place_said f.places) (closing ∷ []) (front_fits (item_said (Formed f)) (items_said is) h).1), formations_fit is k.1 (back_fits (item_said (Formed f)) (items_said is) h))
+formations_fit (i ∷ is) k h = formations_fit is k.1 (back_fits (item_said i) (items_said is) h)
+
+figures_fit : (is : List Item) → AreItems is → AllFit (items_said is) → FitFigures (figures is)
+figures_fit [] k h = tt
+figures_fit (Figured f ∷ is) k h = (
+  h.0.0,
+  h.0.1,
+  h.0.2,
+  h.0.3,
+  k.0.0,
+  k.0.2.filled,
+  k.0.2.nested,
+  k.0.1,
+  body_fits f.body (front_fits (body_said f.body) (closing ∷ []) (front_fits (item_said (Figured f)) (items_said is) h).1),
+  figures_fit is k.1 (back_fits (item_said (Figured f)) (items_said is) h),
+)
+figures_fit (i ∷ is) k h = figures_fit is k.1 (back_fits (item_said i) (items_said is) h)
+
+show_body_fits : (is : List Item) → AllFit (items_said is) → FitsBody (body is)
+show_body_fits [] h = tt
+show_body_fits (Blocks b ∷ is) h = then_fits b (body is) (body_fits b (front_fits (body_said b) (items_said is) h)) (show_body_fits is (back_fits (body_said b) (items_said is) h))
+show_body_fits (i ∷ is) h = show_body_fits is (back_fits (item_said i) (items_said is) h)
+
+body_filled : (is : List Item) → AreItems is → is_filled (body is) ≡ true
+body_filled [] k = refl
+body_filled (Blocks b ∷ is) k = filled_then b (body is) k.0.filled (body_filled is k.1)
+body_filled (i ∷ is) k = body_filled is k.1
+
+body_nested : (is : List Item) → AreItems is → 0 + depth (body is) ≤ 8
+body_nested [] k = omega arith
+body_nested (Blocks b ∷ is) k = depth_then b (body is) 0 (omega (arith, k.0.nested)) (body_nested is k.1)
+body_nested (i ∷ is) k = body_nested is k.1
+
+memory_fits : (is : List Item) → AllFit (items_said is) → (first_or (2, 0) (memories is)).1 ≤ 4095
+memory_fits [] h = omega arith
+memory_fits (Memory id offset ∷ is) h = h.0
+memory_fits (i ∷ is) h = memory_fits is (back_fits (item_said i) (items_said is) h)
+
+trajectory_fits : (is : List Item) → AllFit (items_said is) → first_or 0 (trajectories is) ≤ 9
+trajectory_fits [] h = omega arith
+trajectory_fits (Trajectory id ∷ is) h = h.0
+trajectory_fits (i ∷ is) h = trajectory_fits is (back_fits (item_said i) (items_said is) h)
+
+abbrev FitsEllipsoid : (ℕ × ℕ) → Type 0
+FitsEllipsoid e = (1 ≤ e.0) × (e.0 ≤ 2000) × (1 ≤ e.1) × (e.1 ≤ 2000)
+
+ellipsoid_fits : (is : List Item) → AllFit (items_said is) → FitsEllipsoid (first_or (120, 300) (ellipsoids is))
+ellipsoid_fits [] h = (omega arith, omega arith, omega arith, omega arith)
+ellipsoid_fits (Ellipsoid r x ∷ is) h = h.0
+ellipsoid_fits (i ∷ is) h = ellipsoid_fits is (back_fits (item_said i) (items_said is) h)
+
+settings_fit : (is : List Item) → AllFit (items_said is) → FitsSettings (settings is)
+settings_fit is h = let e = ellipsoid_fits is h in (memory_fits is h, trajectory_fits is h, e.0, e.1, e.2, e.3)
+
+-- The numbers of the lines.
+
+abbrev number_then : Option ℕ → List ℕ → List ℕ
+number_then None ns = ns
+number_then (Some n) ns = n ∷ ns
+
+-- the numbers that lines of the grammar keep
+abbrev numbers : List SaidLine → List ℕ
+numbers [] = []
+numbers (s ∷ ss) = number_then s.number (numbers ss)
+
+abbrev line_numbers : List Line → List ℕ
+line_numbers [] = []
+line_numbers (l ∷ ls) = l.number ∷ line_numbers ls
+
+lower : (n m : ℕ) (ns : List ℕ) → n ≤ m → AllAbove m ns → AllAbove n ns
+lower n m [] h a = tt
+lower n m (k ∷ ns) h a = (omega (arith, a.0), a.1)
+
+with_rise : (ws : List Word) (n k : ℕ) (later : List Line) → k < n → AllAbove n (line_numbers later) → AllAbove k (line_numbers (line_with n ws later))
+with_rise [] n k later h a = lower k n (line_numbers later) (omega arith) a
+with_rise (w ∷ ws) n k later h a = (h, a)
+
+numbered_rise : (ls : List (List ℕ)) (n k : ℕ) → k < n → AllAbove k (line_numbers (numbered FromHash n ls))
+numbered_rise [] n k h = tt
+numbered_rise (l ∷ ls) n k h = with_rise (words_of (visible FromHash l)) n k (numbered FromHash (n + 1) ls) h (numbered_rise ls (n + 1) n (omega arith))
+
+number_rise : (o : Option ℕ) (k n : ℕ) (ns : List ℕ) → HasNumber o k → n < k → AllAbove k ns → AllAbove n (number_then o ns)
+number_rise None k n ns h l a = lower n k ns (omega arith) a
+number_rise (Some m) k n ns h l a = (omega arith, subst (λ j. AllAbove j ns) (sym h) a)
+
+said_rise : (ls : List Line) (xs : List SaidLine) (n : ℕ) → AreSaid ls xs → AllAbove n (line_numbers ls) → AllAbove n (numbers xs)
+said_rise [] [] n h a = tt
+said_rise [] (x ∷ xs) n h a = absurd h
+said_rise (l ∷ ls) [] n h a = absurd h
+said_rise (l ∷ ls) (x ∷ xs) n h a = number_rise x.number l.number n (numbers xs) h.0.number a.0 (said_rise ls xs l.number h.1 a.1)
+
+number_then-append : (o : Option ℕ) (xs ys : List ℕ) → number_then o (xs ++ ys) ≡ number_then o xs ++ ys
+number_then-append None xs ys = refl
+number_then-append (Some n) xs ys = refl
+
+numbers-append : (xs ys : List SaidLine) → numbers (xs ++ ys) ≡ numbers xs ++ numbers ys
+numbers-append [] ys = refl
+numbers-append (x ∷ xs) ys = ap (number_then x.number) (numbers-append xs ys) ∙ number_then-append x.number (numbers xs) (numbers ys)
+
+above_front : (n : ℕ) (xs ys : List ℕ) → AllAbove n (xs ++ ys) → AllAbove n xs
+above_front n [] ys a = tt
+above_front n (x ∷ xs) ys a = (a.0, above_front x xs ys a.1)
+
+above_back : (n : ℕ) (xs ys : List ℕ) → AllAbove n (xs ++ ys) → AllAbove n ys
+above_back n [] ys a = a
+above_back n (x ∷ xs) ys a = lower n x ys (omega (arith, a.0)) (above_back x xs ys a.1)
+
+-- other numbers behind the same ones
+above_keep : (n : ℕ) (xs ys zs : List ℕ) → ((m : ℕ) → AllAbove m ys → AllAbove m zs) → AllAbove n (xs ++ ys) → AllAbove n (xs ++ zs)
+above_keep n [] ys zs f a = f n a
+above_keep n (x ∷ xs) ys zs f a = (a.0, above_keep x xs ys zs f a.1)
+
+-- what stands behind an item
+items_above : (n : ℕ) (i : Item) (is : List Item) → AllAbove n (numbers (items_said (i ∷ is))) → AllAbove n (numbers (item_said i) ++ numbers (items_said is))
+items_above n i is a = subst (AllAbove n) (numbers-append (item_said i) (items_said is)) a
+
+later_above : (n : ℕ) (i : Item) (is : List Item) → AllAbove n (numbers (items_said (i ∷ is))) → AllAbove n (numbers (items_said is))
+later_above n i is a = above_back n (numbers (item_said i)) (numbers (items_said is)) (items_above n i is a)
+
+acts_numbers : (acts : List ActLine) → numbers (map act_said acts) ≡ act_lines acts
+acts_numbers [] = refl
+acts_numbers (on.One line name a ∷ acts) = ap (λ ns. line ∷ ns) (acts_numbers acts)
+acts_numbers (on.Form line formation smooth ∷ acts) = ap (λ ns. line ∷ ns) (acts_numbers acts)
+
+places_numbers : (ps : List DroneLine) → numbers (map place_said ps) ≡ drone_lines ps
+places_numbers [] = refl
+places_numbers (p ∷ ps) = ap (λ ns. p.line ∷ ns) (places_numbers ps)
+
+body_numbers : (b : Body) → numbers (body_said b) ≡ body_lines b
+body_numbers plain.Done = refl
+body_numbers (plain.Cue line ms acts rest) =
+    ap (λ ns. line ∷ ns) (numbers-append (map act_said acts) (closing ∷ body_said rest) ∙ ap (λ ns. ns ++ numbers (body_said rest)) (acts_numbers acts) ∙ ap (λ ns. act_lines acts ++ ns) (body_numbers rest))
+body_numbers (plain.Repeat line times inside rest) =
+    ap (λ ns. line ∷ ns) (numbers-append (body_said inside) (closing ∷ body_said rest) ∙ ap (λ ns. ns ++ numbers (body_said rest)) (body_numbers inside) ∙ ap (λ ns. body_lines inside ++ ns) (body_numbers rest))
+body_numbers (plain.Perform line figure frame ds rest) = ap (λ ns. line ∷ ns) (body_numbers rest)
+
+body_lines-then : (a b : Body) → body_lines (a ⨾ b) ≡ body_lines a ++ body_lines b
+body_lines-then plain.Done b = refl
+body_lines-then (plain.Cue line ms acts rest) b = ap (λ ns. line ∷ (act_lines acts ++ ns)) (body_lines-then rest b) ∙ ap (λ ns. line ∷ ns) (sym (append_assoc (act_lines acts) (body_lines rest) (body_lines b)))
+body_lines-then (plain.Repeat line times inside rest) b = ap (λ ns. line ∷ (body_lines inside ++ ns)) (body_lines-then rest b) ∙ ap (λ ns. line ∷ ns) (sym (append_assoc (body_lines inside) (body_lines rest) (body_lines b)))
+body_lines-then (plain.Perform line figure frame ds rest) b = ap (λ ns. line ∷ ns) (body_lines-then rest b)
+
+drones_rise : (is : List Item) (n : ℕ) → AllAbove n (numbers (items_said is)) → AllAbove n (drone_lines (drones is))
+drones_rise [] n a = tt
+drones_rise (Drone d ∷ is) n a = (a.0, drones_rise is d.line a.1)
+drones_rise (i ∷ is) n a = drones_rise is n (later_above n i is a)
+
+formation_numbers : (f : Formation) → numbers (item_said (Formed f)) ≡ f.line ∷ drone_lines f.places
+formation_numbers f = ap (λ ns. f.line ∷ ns) (numbers-append (map place_said f.places) (closing ∷ []) ∙ append-nil (numbers (map place_said f.places)) ∙ places_numbers f.places)
+
+formations_rise : (is : List Item) (n : ℕ) → AllAbove n (numbers (items_said is)) → AllAbove n (formation_lines (formations is))
+formations_rise [] n a = tt
+formations_rise (Formed f ∷ is) n a =
+    above_keep n (f.line ∷ drone_lines f.places) (numbers (items_said is)) (formation_lines (formations is)) (λ m b. formations_rise is m b)
+    (subst (λ ns. AllAbove n (ns ++ numbers (items_said is))) (formation_numbers f) (items_above n (Formed f) is a))
+formations_rise (i ∷ is) n a = formations_rise is n (later_above n i is a)
+
+figure_numbers : (f : PlainFigure) → numbers (item_said (Figured f)) ≡ f.line ∷ body_lines f.body
+figure_numbers f = ap (λ ns. f.line ∷ ns) (numbers-append (body_said f.body) (closing ∷ []) ∙ append-nil (numbers (body_said f.body)) ∙ body_numbers f.body)
+
+figures_rise : (is : List Item) (n : ℕ) → AllAbove n (numbers (items_said is)) → AllAbove n (figure_lines (figures is))
+figures_rise [] n a = tt
+figures_rise (Figured f ∷ is) n a =
+    above_keep n (f.line ∷ body_lines f.body) (numbers (items_said is)) (figure_lines (figures is)) (λ m b. figures_rise is m b)
+    (subst (λ ns. AllAbove n (ns ++ numbers (items_said is))) (figure_numbers f) (items_above n (Figured f) is a))
+figures_rise (i ∷ is) n a = figures_rise is n (later_above n i is a)
+
+body_rises : (is : List Item) (n : ℕ) → AllAbove n (numbers (items_said is)) → AllAbove n (body_lines (body is))
+body_rises [] n a = tt
+body_rises (Blocks b ∷ is) n a =
+    subst (AllAbove n) (sym (body_lines-then b (body is)))
+    (above_keep n (body_lines b) (numbers (items_said is)) (body_lines (body is)) (λ m c. body_rises is m c)
+    (subst (λ ns. AllAbove n (ns ++ numbers (items_said is))) (body_numbers b) (items_above n (Blocks b) is a)))
+body_rises (i ∷ is) n a = body_rises is n (later_above n i is a)
+
+-- ---- no line number stands twice
+
+times-append : (n : ℕ) (xs ys : List ℕ) → times n (xs ++ ys) ≡ times n xs + times n ys
+times-append n [] ys = omega arith
+times-append n (x ∷ xs) ys = omega (arith, times-append n xs ys)
+
+-- a number below all others stands nowhere among them
+times-below : (n k : ℕ) (ns : List ℕ) → n ≤ k → AllAbove k ns → times n ns ≡ 0
+times-below n k [] h a = refl
+times-below n k (m ∷ ns) h a =
+    let other : (n == m) ≡ false = ne_eqb n m (omega (arith, a.0)) in
+    let here : times n (m ∷ ns) ≡ 0 + times n ns = ap (λ b. (cond b 1 0) + times n ns) other in
+    omega (arith, here, times-below n m ns (omega (arith, a.0)) a.1)
+
+times-once_by : (b : Bool) (n m : ℕ) (ns : List ℕ) → (n == m) ≡ b → AllAbove m ns → times n ns ≤ 1 → times n (m ∷ ns) ≤ 1
+times-once_by true n m ns e a h =
+    let none : times n ns ≡ 0 = times-below n m ns (omega (arith, eqb-true n m e)) a in
+    let here : times n (m ∷ ns) ≡ 1 + times n ns = ap (λ b. (cond b 1 0) + times n ns) e in
+    omega arith
+times-once_by false n m ns e a h =
+    let here : times n (m ∷ ns) ≡ 0 + times n ns = ap (λ b. (cond b 1 0) + times n ns) e in
+    omega arith
+
+-- in a list that rises no number stands twice
+times-once : (n k : ℕ) (ns : List ℕ) → AllAbove k ns → times n ns ≤ 1
+times-once n k [] a = omega arith
+times-once n k (m ∷ ns) a = times-once_by (n == m) n m ns refl a.1 (times-once n m ns a.1)
+
+-- how often a number stands in the lists of a show
+abbrev times_in : ℕ → List Item → ℕ
+times_in n is = times n (drone_lines (drones is)) + times n (formation_lines (formations is)) + times n (figure_lines (figures is)) + times n (body_lines (body is))
+
+-- each line of the items stands in one list of the show
+times_shared : (n : ℕ) (is : List Item) → times_in n is ≡ times n (numbers (items_said is))
+times_shared n [] = refl
+times_shared n (Memory id offset ∷ is) = times_shared n is
+times_shared n (Trajectory id ∷ is) = times_shared n is
+times_shared n (Ellipsoid r h ∷ is) = times_shared n is
+times_shared n (Drone d ∷ is) = omega (arith, times_shared n is)
+times_shared n (Formed f ∷ is) =
+    let front : times n (formation_lines (formations (Formed f ∷ is))) ≡ times n (f.line ∷ drone_lines f.places) + times n (formation_lines (formations is)) = times-append n (f.line ∷ drone_lines f.places) (formation_lines (formations is)) in
+    let whole : times n (numbers (items_said (Formed f ∷ is))) ≡ times n (f.line ∷ drone_lines f.places) + times n (numbers (items_said is)) =
+    ap (times n) (numbers-append (item_said (Formed f)) (items_said is)) ∙ times-append n (numbers (item_said (Formed f))) (numbers (items_said is)) ∙ ap (λ ns. times n ns + times n (numbers (items_said is))) (formation_numbers f) in
+    omega (arith, times_shared n is, front, whole)
+times_shared n (Figured f ∷ is) =
+    let front : times n (figure_lines (figures (Figured f ∷ is))) ≡ times n (f.line ∷ body_lines f.body) + times n (figure_lines (figures is)) = times-append n (f.line ∷ body_lines f.body) (figure_lines (figures is)) in
+    let whole : times n (numbers (items_said (Figured f ∷ is))) ≡ times n (f.line ∷ body_lines f.body) + times n (numbers (items_said is)) =
+    ap (times n) (numbers-append (item_said (Figured f)) (items_said is)) ∙ times-append n (numbers (item_said (Figured f))) (numbers (items_said is)) ∙ ap (λ ns. times n ns + times n (numbers (items_said is))) (figure_numbers f) in
+    omega (arith, times_shared n is, front, whole)
+times_shared n (Blocks b ∷ is) =
+    let front : times n (body_lines (body (Blocks b ∷ is))) ≡ times n (body_lines b) + times n (body_lines (body is)) = ap (times n) (body_lines-then b (body is)) ∙ times-append n (body_lines b) (body_lines (body is)) in
+    let whole : times n (numbers (items_said (Blocks b ∷ is))) ≡ times n (body_lines b) + times n (numbers (items_said is)) =
+    ap (times n) (numbers-append (body_said b) (items_said is)) ∙ times-append n (numbers (body_said b)) (numbers (items_said is)) ∙ ap (λ ns. times n ns + times n (numbers (items_said is))) (body_numbers b) in
+    omega (arith, times_shared n is, front, whole)
+
+-- the numbers of all lines, list by list
+times_whole : (n : ℕ) (is : List Item) → times n (all_lines (show_of is)) ≡ times_in n is
+times_whole n is =
+    let d = times-append n (drone_lines (drones is)) (formation_lines (formations is) ++ (figure_lines (figures is) ++ body_lines (body is))) in
+    let f = times-append n (formation_lines (formations is)) (figure_lines (figures is) ++ body_lines (body is)) in
+    let g = times-append n (figure_lines (figures is)) (body_lines (body is)) in
+    omega (arith, d, f, g)
+
+-- the show of a text
+show_valid : (is : List Item) → AreItems is → AllFit (items_said is) → AllAbove 0 (numbers (items_said is)) → IsValid (show_of is)
+show_valid is k h a =
+    record {
+      settings = settings_fit is h;
+      drones = drones_fit is h;
+      formations = formations_fit is k h;
+      figures = figures_fit is k h;
+      body = show_body_fits is h;
+      filled = body_filled is k;
+      nested = omega (arith, body_nested is k);
+      drone_lines = drones_rise is 0 a;
+      formation_lines = formations_rise is 0 a;
+      figure_lines = figures_rise is 0 a;
+      body_lines = body_rises is 0 a;
+      distinct = λ n. omega (arith, times_whole n is, times_shared n is, times-once n 0 (numbers (items_said is)) a);
+    }
+
+pub valid : (text : List ℕ) (show : PlainShow) → StandsFor text show → IsValid show
+valid text show (is, header, lines, t, e) =
+    let rises : AllAbove 0 (line_numbers (header ∷ lines)) = subst (λ ls. AllAbove 0 (line_numbers ls)) t.cut (numbered_rise (lines_of text) 1 0 (omega arith)) in
+    let later = said_rise lines (items_said is) 0 t.said (lower 0 header.number (line_numbers lines) (omega arith) rises.1) in
+    subst IsValid e (show_valid is t.each (said_fit lines (items_said is) t.said) later)

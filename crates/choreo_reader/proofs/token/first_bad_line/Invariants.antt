@@ -1,0 +1,13 @@
+use Rattle.std.proofs.Common.{◌≡◌, ◌+◌, ◌≤◌, length}
+use Rattle.text_lines.specs.Lines.{lines_of}
+use Rattle.choreo_reader.specs.Text.{forbidden, forbidden_from}
+use Rattle.choreo_reader.proofs.token.first_bad_line.Given as goal
+
+abbrev pub invariant-lines : goal.invariant-lines
+invariant-lines l = record {
+  so_far : forbidden_from l.number (lines_of l.rest) ≡ forbidden l.text;
+  few : l.number + length l.rest ≤ length l.text + 1;
+}
+
+abbrev pub decreases-lines : goal.decreases-lines
+decreases-lines l = length l.rest

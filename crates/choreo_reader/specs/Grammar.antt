@@ -1,0 +1,232 @@
+-- Which text stands for which show.
+use Rattle.std.specs.Prelude.{◌≡◌, ℕ, ◌+◌, ◌≤◌, max, Bool, true, false, ◌&&◌, List, [], ◌∷◌, ◌++◌, map, length, Option, Some, None, codes, IsTrue}
+use Rattle.text_lines.specs.Words.{Line}
+use Rattle.choreo_reader.specs.Text.{show_lines, forbidden}
+use Rattle.choreo_lines.specs.Says.{Says}
+use Rattle.choreo_reader.specs.Plain as plain
+use Rattle.choreo_reader.specs.Plain.{Body, PlainFigure, PlainShow, has_block, ◌⨾◌}
+use Rattle.choreo_lines.specs.declared.line.Entry.{Entry}
+use Rattle.choreo_lines.specs.declared.line.Entry.TheVariants as entry
+use Rattle.choreo_reader.specs.declared.show.ActLine.{ActLine}
+use Rattle.choreo_reader.specs.declared.show.ActLine.TheVariants as on
+use Rattle.choreo_reader.specs.declared.show.DroneLine.{DroneLine}
+use Rattle.choreo_reader.specs.declared.show.Formation.{Formation}
+use Rattle.choreo_reader.specs.declared.show.Settings.{Settings}
+
+-- a line of the grammar: what it says, and its number where the show keeps it
+pub record SaidLine : Type 0 where
+  pub number : Option ℕ
+  pub entry : Entry
+
+-- a line whose number the show keeps
+abbrev pub at : ℕ → Entry → SaidLine
+at n e = record { number = Some n; entry = e }
+
+-- a line whose number the show doesn't keep
+abbrev pub anywhere : Entry → SaidLine
+anywhere e = record { number = None; entry = e }
+
+-- the line that closes a block
+abbrev pub closing : SaidLine
+closing = anywhere entry.End
+
+-- the number is that which the show keeps, if it keeps one
+abbrev pub HasNumber : Option ℕ → ℕ → Type 0
+HasNumber None n = Unit {0}
+HasNumber (Some m) n = m ≡ n
+
+-- a line of the text says this line of the grammar
+pub record IsSaid (l : Line) (s : SaidLine) : Type 0 where
+  pub number : HasNumber s.number l.number
+  pub says : Says l.words s.entry
+
+-- these lines say this, one by one
+abbrev pub AreSaid : List Line → List SaidLine → Type 0
+AreSaid [] [] = Unit {0}
+AreSaid (l ∷ ls) (s ∷ ss) = IsSaid l s × AreSaid ls ss
+AreSaid _ _ = ⊥
+
+-- The grammar: a block is its opening line, its contents, and `end`.
+
+-- the line of an act line
+abbrev pub act_said : ActLine → SaidLine
+act_said (on.One line name a) = at line (entry.One name a)
+act_said (on.Form line formation smooth) = at line (entry.Form formation smooth)
+
+-- the line of a place
+abbrev pub place_said : DroneLine → SaidLine
+place_said d = at d.line (entry.At d.name d.at)
+
+-- the lines of a body
+abbrev pub body_said : Body → List SaidLine
+body_said plain.Done = []
+body_said (plain.Cue line ms acts rest) = at line (entry.Cue ms) ∷ (map act_said acts ++ closing ∷ body_said rest)
+body_said (plain.Repeat line times inside rest) = at line (entry.Repeat times) ∷ (body_said inside ++ closing ∷ body_said rest)
+body_said (plain.Perform line figure frame drones rest) = at line (entry.Perform figure frame drones) ∷ body_said rest
+
+-- an item at top; Blocks is a stretch of cues, repeats and performs
+pub data Item : Type 0 where
+  Memory : (id offset : ℕ) → Item
+  Trajectory : (id : ℕ) → Item
+  Ellipsoid : (r h : ℕ) → Item
+  Drone : DroneLine → Item
+  Formed : Formation → Item
+  Figured : PlainFigure → Item
+  Blocks : Body → Item
+
+-- the lines of an item
+abbrev pub item_said : Item → List SaidLine
+item_said (Memory id offset) = anywhere (entry.Memory id offset) ∷ []
+item_said (Trajectory id) = anywhere (entry.Trajectory id) ∷ []
+item_said (Ellipsoid r h) = anywhere (entry.Ellipsoid r h) ∷ []
+item_said (Drone d) = at d.line (entry.Drone d.name d.at) ∷ []
+item_said (Formed f) = at f.line (entry.Formation f.name) ∷ (map place_said f.places ++ closing ∷ [])
+item_said (Figured f) = at f.line (entry.Figure f.name f.roles) ∷ (body_said f.body ++ closing ∷ [])
+item_said (Blocks b) = body_said b
+
+-- the lines of items, one after the other
+abbrev pub items_said : List Item → List SaidLine
+items_said [] = []
+items_said (i ∷ is) = item_said i ++ items_said is
+
+-- The lists of a show: the items of each kind in order.
+
+-- the settings of `memory`
+abbrev pub memories : List Item → List (ℕ × ℕ)
+memories [] = []
+memories (Memory id offset ∷ is) = (id, offset) ∷ memories is
+memories (_ ∷ is) = memories is
+
+-- the settings of `trajectory`
+abbrev pub trajectories : List Item → List ℕ
+trajectories [] = []
+trajectories (Trajectory id ∷ is) = id ∷ trajectories is
+trajectories (_ ∷ is) = trajectories is
+
+-- the settings of `ellipsoid`
+abbrev pub ellipsoids : List Item → List (ℕ × ℕ)
+ellipsoids [] = []
+ellipsoids (Ellipsoid r h ∷ is) = (r, h) ∷ ellipsoids is
+ellipsoids (_ ∷ is) = ellipsoids is
+
+-- the drones
+abbrev pub drones : List Item → List DroneLine
+drones [] = []
+drones (Drone d ∷ is) = d ∷ drones is
+drones (_ ∷ is) = drones is
+
+-- the formations
+abbrev pub formations : List Item → List Formation
+formations [] = []
+formations (Formed f ∷ is) = f ∷ formations is
+formations (_ ∷ is) = formations is
+
+-- the figures
+abbrev pub figures : List Item → List PlainFigure
+figures [] = []
+figures (Figured f ∷ is) = f ∷ figures is
+figures (_ ∷ is) = figures is
+
+-- the blocks
+abbrev pub body : List Item → Body
+body [] = plain.Done
+body (Blocks b ∷ is) = b ⨾ body is
+body (_ ∷ is) = body is
+
+-- the one that stands, or the default
+abbrev pub first_or : {A : Type 0} → A → List A → A
+first_or d [] = d
+first_or d (x ∷ xs) = x
+
+-- the settings, with their defaults
+abbrev pub settings : List Item → Settings
+settings is = record {
+  memory_id = (first_or (2, 0) (memories is)).0;
+  offset = (first_or (2, 0) (memories is)).1;
+  trajectory_id = first_or 0 (trajectories is);
+  r = (first_or (120, 300) (ellipsoids is)).0;
+  h = (first_or (120, 300) (ellipsoids is)).1;
+}
+
+-- the show of these items
+abbrev pub show_of : List Item → PlainShow
+show_of is = record {
+  settings = settings is;
+  drones = drones is;
+  formations = formations is;
+  figures = figures is;
+  body = body is;
+}
+
+-- What the blocks of a show keep to.
+
+-- how deep repeats stand inside each other
+abbrev pub depth : Body → ℕ
+depth plain.Done = 0
+depth (plain.Cue line ms acts rest) = depth rest
+depth (plain.Repeat line times inside rest) = max (depth inside + 1) (depth rest)
+depth (plain.Perform line figure frame drones rest) = depth rest
+
+-- no repeat is empty
+abbrev pub is_filled : Body → Bool
+is_filled plain.Done = true
+is_filled (plain.Cue line ms acts rest) = is_filled rest
+is_filled (plain.Repeat line times inside rest) = has_block inside && is_filled inside && is_filled rest
+is_filled (plain.Perform line figure frame drones rest) = is_filled rest
+
+-- an act line of one drone
+abbrev pub names_one : ActLine → Bool
+names_one (on.One line name a) = true
+names_one (on.Form line formation smooth) = false
+
+-- act lines of one drone each
+abbrev pub all_name_one : List ActLine → Bool
+all_name_one [] = true
+all_name_one (a ∷ others) = names_one a && all_name_one others
+
+-- no perform stands in a figure, and no `form`
+abbrev pub fits_figure : Body → Bool
+fits_figure plain.Done = true
+fits_figure (plain.Cue line ms acts rest) = all_name_one acts && fits_figure rest
+fits_figure (plain.Repeat line times inside rest) = fits_figure inside && fits_figure rest
+fits_figure (plain.Perform line figure frame drones rest) = false
+
+-- no repeat stands inside eight others
+pub record IsBody (b : Body) : Type 0 where
+  pub filled : IsTrue (is_filled b)
+  pub nested : depth b ≤ 8
+
+-- what an item keeps to
+abbrev pub IsItem : Item → Type 0
+IsItem (Formed f) = 1 ≤ length f.places
+IsItem (Figured f) = IsTrue (has_block f.body) × IsTrue (fits_figure f.body) × IsBody f.body
+IsItem (Blocks b) = IsBody b
+IsItem _ = Unit {0}
+
+-- what each of these items keeps to
+abbrev pub AreItems : List Item → Type 0
+AreItems [] = Unit {0}
+AreItems (i ∷ is) = IsItem i × AreItems is
+
+-- at most one setting of each kind
+pub record HasSingleSettings (is : List Item) : Type 0 where
+  pub memory : length (memories is) ≤ 1
+  pub trajectory : length (trajectories is) ≤ 1
+  pub ellipsoid : length (ellipsoids is) ≤ 1
+
+-- the words are `choreo 1`
+abbrev pub IsHeader : Line → Type 0
+IsHeader l = l.words ≡ codes "choreo" ∷ codes "1" ∷ []
+
+-- the text is its header and these items
+pub record IsText (text : List ℕ) (is : List Item) (header : Line) (lines : List Line) : Type 0 where
+  pub bytes : forbidden text ≡ None
+  pub cut : show_lines text ≡ header ∷ lines
+  pub first : IsHeader header
+  pub said : AreSaid lines (items_said is)
+  pub each : AreItems is
+  pub single : HasSingleSettings is
+
+-- The text stands for the show: it is a header and items, and these make the show.
+abbrev pub StandsFor : List ℕ → PlainShow → Type 0
+StandsFor text show = (is : List Item) × (header : Line) × (lines : List Line) × IsText text is header lines × (show_of is ≡ show)

@@ -1,0 +1,9 @@
+pub mod Text
+pub mod Plain
+pub mod Grammar
+pub mod Context
+pub mod Valid
+pub mod First
+pub mod FirstWords
+pub mod Reading
+pub mod Reader

@@ -1,0 +1,548 @@
+//! A show that is read line by line.
+
+ghost use Rattle.std.specs.Prelude.{◌≡◌, ℕ, List, take, drop, ◌+◌, ◌<◌, ◌≤◌, length, OnOk, IfOk, ◌++◌, ◌∷◌, []};
+ghost use Rattle.choreo_reader.specs.Plain.{block_of, body_of, plain as plain_show, PlainShow, ◌⨾◌};
+ghost use Rattle.choreo_reader.specs.Grammar.{StandsFor};
+ghost use Rattle.choreo_reader.specs.Plain as plain;
+ghost use Rattle.choreo_reader.specs.Valid.{IsValid};
+ghost use Rattle.choreo_reader.specs.Reader.{open_of, opens_of, built_of, Steps, ShowGives, FaultGives};
+ghost use Rattle.choreo_reader.specs.Context.{is_figure as is_figure_of, is_repeat as is_repeat_of, in_figure as in_figure_of, repeats as repeats_of, place_of, is_empty_block as is_empty_block_of, is_header as is_header_of, fault};
+ghost use Rattle.text_lines.specs.Tokens.{words_in, lines_in};
+ghost use Rattle.choreo_reader.specs.Reading.{entry_fault as entry_fault_of, with_block as with_block_of, act_added, place_added, add_block as add_block_of, close as close_of, close_innermost as close_innermost_of, with_act as with_act_of, with_place as with_place_of, nothing, build, opening_of, openings_of, context_of, line_step, lines_step, finish as finish_of, read_lines, reading};
+
+use crate::fault::ShowFault;
+use crate::show::{ActLine, Block, DroneLine, Figure, Formation, Settings, Show};
+use crate::token::{MOST_BYTES, tokens};
+use choreo_lines::{Entry, LineError, LineKind, Listed, Name, Place, entry_of};
+use std::alloc::{AllocError, Global};
+use text_lines::{Token, line_word_count, word_at};
+
+/// An open block with what stands in it so far.
+#[derive(Drop)]
+pub enum OpenBlock {
+    Formation {
+        line: u32,
+        name: Name,
+        places: Vec<DroneLine>,
+    },
+    Figure {
+        line: u32,
+        name: Name,
+        roles: Listed<Name>,
+        body: Vec<Block>,
+    },
+    Repeat {
+        line: u32,
+        times: u32,
+        body: Vec<Block>,
+    },
+    Cue {
+        line: u32,
+        ms: u16,
+        acts: Vec<ActLine>,
+    },
+}
+
+/// What was read so far.
+#[derive(Drop)]
+pub struct Reader {
+    pub memory: Option<(u8, u16)>,
+    pub trajectory: Option<u8>,
+    pub ellipsoid: Option<(u16, u16)>,
+    pub drones: Vec<DroneLine>,
+    pub formations: Vec<Formation>,
+    pub figures: Vec<Figure>,
+    pub body: Vec<Block>,
+    /// The open blocks, the innermost last.
+    pub opened: Vec<OpenBlock>,
+}
+
+fn is_figure(block: &OpenBlock) -> bool
+    ensures { result ≡ is_figure_of (opening_of (open_of block.now)).kind }
+{
+    match block {
+        OpenBlock::Figure { .. } => true,
+        _ => false,
+    }
+}
+
+fn is_repeat(block: &OpenBlock) -> bool
+    ensures { result ≡ is_repeat_of (opening_of (open_of block.now)).kind }
+{
+    match block {
+        OpenBlock::Repeat { .. } => true,
+        _ => false,
+    }
+}
+
+// Whether a figure is open.
+fn in_figure(opened: &[OpenBlock]) -> bool
+    ensures { result ≡ in_figure_of (openings_of (opens_of opened.now)) }
+{
+    for block in opened {
+        if is_figure(block) {
+            return true;
+        }
+    }
+    false
+}
+
+// How many repeats are open.
+#[tactic(auto, using(crate::proofs::Opened::repeats_opened))]
+fn repeats(opened: &[OpenBlock]) -> usize
+    ensures { result ≡ repeats_of (openings_of (opens_of opened.now)) }
+{
+    opened.iter().rev().filter(|b| is_repeat(b)).count()
+}
+
+// Where a line stands that comes next.
+fn place(opened: &[OpenBlock]) -> Place
+    ensures { result ≡ place_of (openings_of (opens_of opened.now)) }
+{
+    match opened.split_last() {
+        None => Place::Top,
+        Some((inner, _)) => match inner {
+            OpenBlock::Formation { .. } => Place::InFormation,
+            OpenBlock::Figure { .. } => Place::InFigure,
+            OpenBlock::Repeat { .. } => {
+                if in_figure(opened) {
+                    Place::InFigure
+                } else {
+                    Place::InRepeat
+                }
+            }
+            OpenBlock::Cue { .. } => {
+                if in_figure(opened) {
+                    Place::InFigureCue
+                } else {
+                    Place::InCue
+                }
+            }
+        },
+    }
+}
+
+// Whether the innermost block is a formation, a figure or a repeat without a line in it.
+fn is_empty_block(opened: &[OpenBlock]) -> bool
+    ensures { result ≡ is_empty_block_of (openings_of (opens_of opened.now)) }
+{
+    match opened.split_last() {
+        None => false,
+        Some((inner, _)) => match inner {
+            OpenBlock::Formation { places, .. } => places.is_empty(),
+            OpenBlock::Figure { body, .. } => body.is_empty(),
+            OpenBlock::Repeat { body, .. } => body.is_empty(),
+            OpenBlock::Cue { .. } => false,
+        },
+    }
+}
+
+// One more block at the end of a body.
+#[tactic(auto, using(crate::proofs::Blocks::body_push))]
+fn put(body: &mut Vec<Block>, block: Block) -> Result<(), AllocError>
+    ensures { OnOk result (body_of body.new.items ≡ body_of body.old.items ⨾ block_of block plain.Done) }
+{
+    body.push(block)?;
+    Ok(())
+}
+
+// An open block with one more block at its end.
+fn with_block(outer: OpenBlock, block: Block) -> Result<OpenBlock, AllocError>
+    ensures { IfOk result (λ o. open_of o ≡ with_block_of (open_of outer) (block_of block plain.Done)) }
+{
+    match outer {
+        OpenBlock::Figure {
+            line,
+            name,
+            roles,
+            mut body,
+        } => {
+            put(&mut body, block)?;
+            Ok(OpenBlock::Figure {
+                line,
+                name,
+                roles,
+                body,
+            })
+        }
+        OpenBlock::Repeat {
+            line,
+            times,
+            mut body,
+        } => {
+            put(&mut body, block)?;
+            Ok(OpenBlock::Repeat { line, times, body })
+        }
+        OpenBlock::Formation { line, name, places } => {
+            Ok(OpenBlock::Formation { line, name, places })
+        }
+        OpenBlock::Cue { line, ms, acts } => Ok(OpenBlock::Cue { line, ms, acts }),
+    }
+}
+
+// An open block with one more act line, where it is a cue.
+fn with_act(inner: OpenBlock, act: ActLine) -> Result<OpenBlock, AllocError>
+    ensures { IfOk result (λ o. open_of o ≡ act_added (open_of inner) act) }
+{
+    match inner {
+        OpenBlock::Cue { line, ms, mut acts } => {
+            acts.push(act)?;
+            Ok(OpenBlock::Cue { line, ms, acts })
+        }
+        other => Ok(other),
+    }
+}
+
+// An open block with one more place, where it is a formation.
+fn with_place(inner: OpenBlock, place: DroneLine) -> Result<OpenBlock, AllocError>
+    ensures { IfOk result (λ o. open_of o ≡ place_added (open_of inner) place) }
+{
+    match inner {
+        OpenBlock::Formation {
+            line,
+            name,
+            mut places,
+        } => {
+            places.push(place)?;
+            Ok(OpenBlock::Formation { line, name, places })
+        }
+        other => Ok(other),
+    }
+}
+
+impl Reader {
+    // Nothing yet.
+    fn new(alloc: Global) -> Self
+        ensures { built_of result ≡ nothing }
+    {
+        Reader {
+            memory: None,
+            trajectory: None,
+            ellipsoid: None,
+            drones: Vec::new(alloc),
+            formations: Vec::new(alloc),
+            figures: Vec::new(alloc),
+            body: Vec::new(alloc),
+            opened: Vec::new(alloc),
+        }
+    }
+
+    // One more block, in the innermost open one or at top.
+    fn add_block(&mut self, block: Block) -> Result<(), AllocError>
+        ensures { OnOk result (built_of self.new ≡ add_block_of (built_of self.old) (built_of self.old).open_blocks (block_of block plain.Done)) }
+    {
+        match self.opened.pop() {
+            None => put(&mut self.body, block),
+            Some(outer) => {
+                let outer = with_block(outer, block)?;
+                self.opened.push(outer)?;
+                Ok(())
+            }
+        }
+    }
+
+    // Closes a block that was taken off the open ones.
+    fn close(&mut self, inner: OpenBlock) -> Result<(), AllocError>
+        ensures { OnOk result (built_of self.new ≡ close_of (built_of self.old) (open_of inner) (built_of self.old).open_blocks) }
+    {
+        match inner {
+            OpenBlock::Formation { line, name, places } => {
+                self.formations.push(Formation {
+                    line,
+                    name,
+                    places: Listed::from_vec(places),
+                })?;
+                Ok(())
+            }
+            OpenBlock::Figure {
+                line,
+                name,
+                roles,
+                body,
+            } => {
+                self.figures.push(Figure {
+                    line,
+                    name,
+                    roles,
+                    body,
+                })?;
+                Ok(())
+            }
+            OpenBlock::Repeat { line, times, body } => {
+                self.add_block(Block::Repeat { line, times, body })
+            }
+            OpenBlock::Cue { line, ms, acts } => self.add_block(Block::Cue {
+                line,
+                ms,
+                acts: Listed::from_vec(acts),
+            }),
+        }
+    }
+
+    fn close_innermost(&mut self) -> Result<(), AllocError>
+        ensures { OnOk result (built_of self.new ≡ close_innermost_of (built_of self.old) (built_of self.old).open_blocks) }
+    {
+        match self.opened.pop() {
+            None => Ok(()),
+            Some(inner) => self.close(inner),
+        }
+    }
+
+    fn add_act(&mut self, act: ActLine) -> Result<(), AllocError>
+        ensures { OnOk result (built_of self.new ≡ record (built_of self.old) { open_blocks = with_act_of (built_of self.old).open_blocks act }) }
+    {
+        match self.opened.pop() {
+            None => Ok(()),
+            Some(inner) => {
+                let inner = with_act(inner, act)?;
+                self.opened.push(inner)?;
+                Ok(())
+            }
+        }
+    }
+
+    fn add_place(&mut self, place: DroneLine) -> Result<(), AllocError>
+        ensures { OnOk result (built_of self.new ≡ record (built_of self.old) { open_blocks = with_place_of (built_of self.old).open_blocks place }) }
+    {
+        match self.opened.pop() {
+            None => Ok(()),
+            Some(inner) => {
+                let inner = with_place(inner, place)?;
+                self.opened.push(inner)?;
+                Ok(())
+            }
+        }
+    }
+
+    fn begin(&mut self, inner: OpenBlock) -> Result<(), AllocError>
+        ensures { OnOk result (built_of self.new ≡ record (built_of self.old) { open_blocks = open_of inner ∷ (built_of self.old).open_blocks }) }
+    {
+        self.opened.push(inner)?;
+        Ok(())
+    }
+
+    fn add_drone(&mut self, drone: DroneLine) -> Result<(), AllocError>
+        ensures { OnOk result (built_of self.new ≡ record (built_of self.old) { drones = (built_of self.old).drones ++ drone ∷ [] }) }
+    {
+        self.drones.push(drone)?;
+        Ok(())
+    }
+
+    // What one more line says.
+    fn take(&mut self, alloc: Global, line: u32, entry: Entry) -> Result<(), AllocError>
+        ensures { OnOk result (built_of self.new ≡ build (built_of self.old) line entry) }
+    {
+        match entry {
+            Entry::Memory { id, offset } => {
+                self.memory = Some((id, offset));
+                Ok(())
+            }
+            Entry::Trajectory { id } => {
+                self.trajectory = Some(id);
+                Ok(())
+            }
+            Entry::Ellipsoid { r, h } => {
+                self.ellipsoid = Some((r, h));
+                Ok(())
+            }
+            Entry::Drone { name, at } => self.add_drone(DroneLine { line, name, at }),
+            Entry::Formation { name } => self.begin(OpenBlock::Formation {
+                line,
+                name,
+                places: Vec::new(alloc),
+            }),
+            Entry::At { name, at } => self.add_place(DroneLine { line, name, at }),
+            Entry::Figure { name, roles } => self.begin(OpenBlock::Figure {
+                line,
+                name,
+                roles,
+                body: Vec::new(alloc),
+            }),
+            Entry::Cue { ms } => self.begin(OpenBlock::Cue {
+                line,
+                ms,
+                acts: Vec::new(alloc),
+            }),
+            Entry::Repeat { times } => self.begin(OpenBlock::Repeat {
+                line,
+                times,
+                body: Vec::new(alloc),
+            }),
+            Entry::Perform {
+                figure,
+                frame,
+                drones,
+            } => self.add_block(Block::Perform {
+                line,
+                figure,
+                frame,
+                drones,
+            }),
+            Entry::Form { formation, smooth } => self.add_act(ActLine::Form {
+                line,
+                formation,
+                smooth,
+            }),
+            Entry::One { name, act } => self.add_act(ActLine::One { line, name, act }),
+            Entry::End => self.close_innermost(),
+        }
+    }
+
+    // What is wrong with an entry in its context.
+    fn fault(&self, entry: &Entry) -> Option<LineKind>
+        ensures { result ≡ entry_fault_of (context_of (built_of self.now)) entry.now }
+    {
+        match entry {
+            Entry::Memory { .. } if self.memory.is_some() => Some(LineKind::DoubleSetting),
+            Entry::Trajectory { .. } if self.trajectory.is_some() => Some(LineKind::DoubleSetting),
+            Entry::Ellipsoid { .. } if self.ellipsoid.is_some() => Some(LineKind::DoubleSetting),
+            Entry::Repeat { .. } if repeats(self.opened.as_slice()) >= 8 => Some(LineKind::Nesting),
+            Entry::End if is_empty_block(self.opened.as_slice()) => Some(LineKind::EmptyBlock),
+            _ => None,
+        }
+    }
+
+    // Reads one more line, which has words.
+    fn line(
+        &mut self,
+        alloc: Global,
+        text: &[u8],
+        words: &[Token],
+        number: u32,
+    ) -> Result<(), ShowFault>
+        requires { 0 < length words.now }
+        ensures { Steps result (built_of self.new) (line_step (built_of self.old) (record { number = number; words = words_in text.now words.now })) }
+    {
+        let entry = match entry_of(alloc, place(self.opened.as_slice()), text, words) {
+            Ok(entry) => entry,
+            Err(LineError::Kind(kind)) => return Err(ShowFault::Line { line: number, kind }),
+            Err(LineError::Memory) => return Err(ShowFault::Memory),
+        };
+        if let Some(kind) = self.fault(&entry) {
+            return Err(ShowFault::Line { line: number, kind });
+        }
+        match self.take(alloc, number, entry) {
+            Ok(()) => Ok(()),
+            Err(_) => Err(ShowFault::Memory),
+        }
+    }
+
+    // Reads the lines of these words.
+    fn lines(&mut self, alloc: Global, text: &[u8], tokens: &[Token]) -> Result<(), ShowFault>
+        ensures { Steps result (built_of self.new) (lines_step (built_of self.old) (lines_in text.now tokens.now)) }
+    {
+        let mut rest = tokens;
+        while !rest.is_empty() {
+            let (words, later) = rest.split_at(line_word_count(rest));
+            self.line(alloc, text, words, rest[0].line)?;
+            rest = later;
+        }
+        Ok(())
+    }
+
+    // The show, where no block is open.
+    fn finish(self) -> Result<Show, ShowFault>
+        ensures { ShowGives plain_show result (finish_of (Ok (built_of self))) }
+    {
+        let Reader {
+            memory,
+            trajectory,
+            ellipsoid,
+            drones,
+            formations,
+            figures,
+            body,
+            opened,
+        } = self;
+        if let Some(inner) = opened.last() {
+            return Err(ShowFault::Line {
+                line: opening_line(inner),
+                kind: LineKind::NoEnd,
+            });
+        }
+        let (memory_id, offset) = memory.unwrap_or((2, 0));
+        let (r, h) = ellipsoid.unwrap_or((120, 300));
+        Ok(Show {
+            settings: Settings {
+                memory_id,
+                offset,
+                trajectory_id: trajectory.unwrap_or(0),
+                r,
+                h,
+            },
+            drones: Listed::from_vec(drones),
+            formations: Listed::from_vec(formations),
+            figures: Listed::from_vec(figures),
+            body,
+        })
+    }
+}
+
+// The line that opened a block.
+fn opening_line(block: &OpenBlock) -> u32
+    ensures { result ≡ (opening_of (open_of block.now)).line }
+{
+    match block {
+        OpenBlock::Formation { line, .. } => *line,
+        OpenBlock::Figure { line, .. } => *line,
+        OpenBlock::Repeat { line, .. } => *line,
+        OpenBlock::Cue { line, .. } => *line,
+    }
+}
+
+// Whether a line is the header.
+fn is_header(text: &[u8], words: &[Token]) -> bool
+    ensures { result ≡ is_header_of (words_in text.now words.now) }
+{
+    words.len() == 2
+        && word_at(text, &words[0]) == b"choreo".as_slice()
+        && word_at(text, &words[1]) == b"1".as_slice()
+}
+
+// The show of these words.
+fn read_words(alloc: Global, text: &[u8], words: &[Token]) -> Result<Show, ShowFault>
+    ensures { ShowGives plain_show result (read_lines (lines_in text.now words.now)) }
+{
+    if words.is_empty() {
+        return Err(ShowFault::Line {
+            line: 1,
+            kind: LineKind::Header,
+        });
+    }
+    let (first, rest) = words.split_at(line_word_count(words));
+    if !is_header(text, first) {
+        return Err(ShowFault::Line {
+            line: words[0].line,
+            kind: LineKind::Header,
+        });
+    }
+    let mut reader = Reader::new(alloc);
+    reader.lines(alloc, text, rest)?;
+    reader.finish()
+}
+
+// The show of a text, or its first fault.
+#[tactic(auto, using(crate::proofs::Whole::whole))]
+fn read_text(alloc: Global, text: &[u8]) -> Result<Show, ShowFault>
+    requires { length text.now ≤ MOST_BYTES }
+    ensures { ShowGives plain_show result (reading text.now) }
+{
+    let words = tokens(alloc, text)?;
+    read_words(alloc, text, words.as_slice())
+}
+
+/// The show that a text of at most [`MOST_BYTES`] bytes stands for, or its first faulty line, from 1, and what is wrong
+/// with it. `Memory` where memory wants.
+pub fn read_show(alloc: Global, text: &[u8]) -> Result<Show, ShowFault>
+    requires { length text.now ≤ MOST_BYTES }
+    // What the text stands for is read, unless memory runs out.
+    ensures only { (show : PlainShow) → StandsFor text.now show → ShowGives plain_show result (Ok show) }
+    // The text stands for what is read.
+    ensures found { IfOk result (λ show. StandsFor text.now (plain_show show)) }
+    // Only valid shows are read.
+    ensures valid { IfOk result (λ show. IsValid (plain_show show)) }
+    // A refusal names the first fault of the text, and a show comes only without one.
+    ensures fault { FaultGives result (fault text.now) }
+{
+    read_text(alloc, text)
+}

@@ -1,0 +1,503 @@
+//! Texts, with what is read of them.
+
+ghost use Rattle.std.specs.Prelude.{◌≤◌, length};
+
+use super::*;
+use std::alloc::{AllocError, Global};
+use std::test::Fail;
+
+const SMALLEST: &[u8] =
+    b"choreo 1\ndrone solo 0 0 1000000 0\ncue 2000\nsolo move 1000000 0 1000000 0\nend\n";
+
+// What a text in the first form says: the name, the place at first, the duration, the place at last.
+fn says(
+    alloc: Global,
+    text: &[u8],
+    name: &[u8],
+    at: [i64; 4],
+    ms: u16,
+    to: [i64; 4],
+) -> Result<bool, FirstFault>
+    requires { length text.now ≤ MOST_BYTES }
+{
+    let first = read_first(alloc, text)?;
+    let (a, b) = (first.at, first.to);
+    Ok(
+        first.name.as_slice() == name
+            && [a.x, a.y, a.z, a.yaw] == at
+            && first.ms == ms
+            && [b.x, b.y, b.z, b.yaw] == to,
+    )
+}
+
+#[test]
+fn first_forms_are_read(rt: HostRuntime) {
+    let alloc = rt.alloc();
+    let wide =
+        b" \t#first\n\nchoreo 1 # one\r\ndrone a_1 -32768500 32767499 007 -32768\ncue 65535\na_1 move 0 -0 0 32767\nend";
+    assert!(rt;
+        says(
+            alloc,
+            SMALLEST,
+            b"solo",
+            [0, 0, 1_000_000, 0],
+            2000,
+            [1_000_000, 0, 1_000_000, 0]
+        ) == Ok(true)
+    );
+    assert!(rt;
+        says(
+            alloc,
+            wide,
+            b"a_1",
+            [-32_768_500, 32_767_499, 7, -32_768],
+            65_535,
+            [0, 0, 0, 32_767]
+        ) == Ok(true)
+    );
+}
+
+// Whether a text isn't in the first form.
+fn is_unread(alloc: Global, text: &[u8]) -> bool {
+    if text.len() > MOST_BYTES {
+        return false;
+    }
+    match read_first(alloc, text) {
+        Ok(_) => false,
+        Err(fault) => fault == FirstFault::Unread,
+    }
+}
+
+#[test]
+fn other_forms_are_unread(rt: HostRuntime) {
+    let alloc = rt.alloc();
+    let texts: [&[u8]; 10] = [
+        b"",
+        b"choreo 01\ndrone a 0 0 0 0\ncue 1\na move 0 0 0 0\nend\n",
+        b"choreo 1\ndrone a 0 0 0 0\ncue 1\nb move 0 0 0 0\nend\n",
+        b"choreo 1\ndrone a 32767500 0 0 0\ncue 1\na move 0 0 0 0\nend\n",
+        b"choreo 1\ndrone a 0 0 0 0\ncue 1\na move -32768501 0 0 0\nend\n",
+        b"choreo 1\ndrone a 0 0 0 0\ncue 65536\na move 0 0 0 0\nend\n",
+        b"choreo 1\ndrone end 0 0 0 0\ncue 1\nend move 0 0 0 0\nend\n",
+        b"choreo 1\ndrone a 0 0 0 0\ncue 1\na move 0 0 0 0\nend x\n",
+        b"choreo 1\ndrone a 0 0 0 0\ncue 1\na move 0 0 0 0\nend\nend\n",
+        b"choreo 1\ndrone a 0 0 0 0\ncue 1\na move 0 0 0 0\nend\x01\n",
+    ];
+    for text in texts {
+        assert!(rt; is_unread(alloc, text));
+    }
+}
+
+#[test]
+fn words_are_found(rt: HostRuntime) -> Result<(), Fail> {
+    let alloc = rt.alloc();
+    let words = tokens(alloc, b"choreo 1#\x01\n\n end").map_err(|_| AllocError)?;
+    let wanted = [
+        Token {
+            line: 1,
+            start: 0,
+            end: 6,
+        },
+        Token {
+            line: 1,
+            start: 7,
+            end: 8,
+        },
+        Token {
+            line: 3,
+            start: 13,
+            end: 16,
+        },
+    ];
+    assert!(rt; words.as_slice() == wanted.as_slice());
+    let bad = ShowFault::Line {
+        line: 2,
+        kind: LineKind::BadByte,
+    };
+    assert!(rt; tokens(alloc, b"a\n\x7f\n\x01").err() == Some(bad));
+    Ok(())
+}
+
+// Whether a drone's line, or a place, is this one.
+fn is_at(it: &DroneLine, line: u32, name: &[u8], at: [i64; 4]) -> bool {
+    let p = it.at;
+    it.line == line && it.name.as_slice() == name && [p.x, p.y, p.z, p.yaw] == at
+}
+
+// Whether an act line says that this drone does this.
+fn is_one(it: &ActLine, at_line: u32, who: &[u8], does: Act) -> bool {
+    match it {
+        ActLine::One { line, name, act } => {
+            *line == at_line && name.as_slice() == who && *act == does
+        }
+        ActLine::Form { .. } => false,
+    }
+}
+
+const FULL: &[u8] =
+    b"choreo 1\nmemory 3 4095\ntrajectory 9\nellipsoid 1 2000\ndrone a -100000000 100000000 0 -32768\ndrone cue 0 0 0 32767\nformation f\nat a 1 2 3 4\nend\nfigure g p\ncue 1\np hold\nend\nrepeat 1000000000\ncue 65535\np curve 1 2 3 4 5 6 7 8 9 10\nend\nend\nend\ncue 2\nform f line\na arc ccw 6 7 8\na turn 5\ncue line 1 2 3 4\nend\nrepeat 2\nperform g x 3 -1 -2 -3 a\nend\n";
+
+// Whether the cue of the full show is its cue.
+fn is_full_cue(acts: &[ActLine]) -> bool {
+    let to = Point {
+        x: 1,
+        y: 2,
+        z: 3,
+        yaw: 4,
+    };
+    match acts {
+        [
+            ActLine::Form {
+                line,
+                formation,
+                smooth,
+            },
+            a,
+            b,
+            c,
+        ] => {
+            *line == 21
+                && formation.as_slice() == b"f".as_slice()
+                && !*smooth
+                && is_one(
+                    a,
+                    22,
+                    b"a",
+                    Act::Arc {
+                        ccw: true,
+                        cx: 6,
+                        cy: 7,
+                        yaw: 8,
+                    },
+                )
+                && is_one(b, 23, b"a", Act::Turn { yaw: 5 })
+                && is_one(c, 24, b"cue", Act::Line { to })
+        }
+        _ => false,
+    }
+}
+
+// Whether the repeat of the full show has its perform.
+fn is_full_repeat(body: &[Block]) -> bool {
+    let frame = Frame {
+        mirror: Mirror::X,
+        turns: 3,
+        dx: -1,
+        dy: -2,
+        dz: -3,
+    };
+    match body {
+        [
+            Block::Perform {
+                line,
+                figure,
+                frame: put,
+                drones,
+            },
+        ] => {
+            *line == 27
+                && figure.as_slice() == b"g".as_slice()
+                && *put == frame
+                && drones.as_slice().len() == 1
+        }
+        _ => false,
+    }
+}
+
+// Whether the figure of the full show has its cue and its repeat.
+fn is_full_figure(it: &Figure) -> bool {
+    let p1 = [1, 2, 3];
+    let p2 = [4, 5, 6];
+    let to = Point {
+        x: 7,
+        y: 8,
+        z: 9,
+        yaw: 10,
+    };
+    let blocks = match it.body.as_slice() {
+        [
+            Block::Cue { ms: 1, acts, .. },
+            Block::Repeat {
+                line: 14,
+                times: 1_000_000_000,
+                body,
+            },
+        ] => {
+            match (acts.as_slice(), body.as_slice()) {
+                (
+                    [hold],
+                    [
+                        Block::Cue {
+                            ms: 65_535,
+                            acts: curved,
+                            ..
+                        },
+                    ],
+                ) => match curved.as_slice() {
+                    [curve] => {
+                        is_one(hold, 12, b"p", Act::Hold)
+                            && is_one(curve, 16, b"p", Act::Curve { p1, p2, to })
+                    }
+                    _ => false,
+                },
+                _ => false,
+            }
+        }
+        _ => false,
+    };
+    it.line == 10
+        && it.name.as_slice() == b"g".as_slice()
+        && it.roles.as_slice().len() == 1
+        && blocks
+}
+
+// Whether a show is the full one.
+fn is_full(show: &Show) -> bool {
+    let settings = Settings {
+        memory_id: 3,
+        offset: 4095,
+        trajectory_id: 9,
+        r: 1,
+        h: 2000,
+    };
+    let lists = match (
+        show.drones.as_slice(),
+        show.formations.as_slice(),
+        show.figures.as_slice(),
+    ) {
+        ([a, b], [f], [g]) => {
+            is_at(a, 5, b"a", [-100_000_000, 100_000_000, 0, -32_768])
+                && is_at(b, 6, b"cue", [0, 0, 0, 32_767])
+                && f.line == 7
+                && is_full_figure(g)
+                && match f.places.as_slice() {
+                    [place] => is_at(place, 8, b"a", [1, 2, 3, 4]),
+                    _ => false,
+                }
+        }
+        _ => false,
+    };
+    let body = match show.body.as_slice() {
+        [
+            Block::Cue {
+                line: 20,
+                ms: 2,
+                acts,
+            },
+            Block::Repeat {
+                line: 26,
+                times: 2,
+                body,
+            },
+        ] => { is_full_cue(acts.as_slice()) && is_full_repeat(body.as_slice()) }
+        _ => false,
+    };
+    show.settings == settings && lists && body
+}
+
+#[test]
+fn shows_are_read(rt: HostRuntime) {
+    let alloc = rt.alloc();
+    let full = match read_show(alloc, FULL) {
+        Ok(show) => is_full(&show),
+        Err(_) => false,
+    };
+    assert!(rt; full);
+    let defaults = Settings {
+        memory_id: 2,
+        offset: 0,
+        trajectory_id: 0,
+        r: 120,
+        h: 300,
+    };
+    let smallest = match read_show(alloc, SMALLEST) {
+        Ok(show) => show.settings == defaults,
+        Err(_) => false,
+    };
+    assert!(rt; smallest);
+}
+
+// Whether the first faulty line of a text is this one, and so faulty.
+fn has_fault(alloc: Global, text: &[u8], line: u32, kind: LineKind) -> bool {
+    if text.len() > MOST_BYTES {
+        return false;
+    }
+    match read_show(alloc, text) {
+        Ok(_) => false,
+        Err(fault) => fault == ShowFault::Line { line, kind },
+    }
+}
+
+#[test]
+fn lines_at_top_are_judged(rt: HostRuntime) {
+    let alloc = rt.alloc();
+    let faults: [(&[u8], u32, LineKind); 36] = [
+        (b"", 1, LineKind::Header),
+        (b"\n# choreo 1\n", 1, LineKind::Header),
+        (b"\nchoreo 2\n", 2, LineKind::Header),
+        (b"choreo 01\n", 1, LineKind::Header),
+        (b"choreo 1 1\n", 1, LineKind::Header),
+        (b"choreo 2\nbad\n\x01\n", 3, LineKind::BadByte),
+        (b"choreo 1\nend\n", 2, LineKind::BadWord),
+        (b"choreo 1\nat a 0 0 0 0\n", 2, LineKind::BadWord),
+        (b"choreo 1\na move 0 0 0 0\n", 2, LineKind::BadWord),
+        (b"choreo 1\nmemory 0\n", 2, LineKind::BadCount),
+        (b"choreo 1\nmemory 256 0\n", 2, LineKind::Range),
+        (b"choreo 1\nmemory 0 4096\n", 2, LineKind::Range),
+        (
+            b"choreo 1\nmemory 2 0\nmemory 2 0\n",
+            3,
+            LineKind::DoubleSetting,
+        ),
+        (b"choreo 1\nmemory 2 0\nmemory 2 4096\n", 3, LineKind::Range),
+        (b"choreo 1\ntrajectory 10\n", 2, LineKind::Range),
+        (b"choreo 1\ntrajectory a\n", 2, LineKind::BadNumber),
+        (
+            b"choreo 1\ntrajectory 1\ntrajectory 2\n",
+            3,
+            LineKind::DoubleSetting,
+        ),
+        (b"choreo 1\nellipsoid 0 1\n", 2, LineKind::Range),
+        (b"choreo 1\nellipsoid 1 2001\n", 2, LineKind::Range),
+        (
+            b"choreo 1\nellipsoid 1 1\n\nellipsoid 1 1\n",
+            4,
+            LineKind::DoubleSetting,
+        ),
+        (
+            b"choreo 1\ndrone Solo 0 0 1000000 0\n",
+            2,
+            LineKind::BadName,
+        ),
+        (b"choreo 1\ndrone Solo 0 0\n", 2, LineKind::BadCount),
+        (b"choreo 1\ndrone solo 0 0 1e6 0\n", 2, LineKind::BadNumber),
+        (
+            b"choreo 1\ndrone solo 0 0 100000001 0\n",
+            2,
+            LineKind::Range,
+        ),
+        (b"choreo 1\ndrone form 0 0 0 0\n", 2, LineKind::BadName),
+        (b"choreo 1\nformation f g\n", 2, LineKind::BadCount),
+        (b"choreo 1\nfigure g\n", 2, LineKind::BadCount),
+        (b"choreo 1\nfigure g Role\n", 2, LineKind::BadName),
+        (b"choreo 1\ncue 0\n", 2, LineKind::Range),
+        (
+            b"choreo 1\ncue 00000000000000000000000000065536\n",
+            2,
+            LineKind::Range,
+        ),
+        (b"choreo 1\nrepeat 1000000001\n", 2, LineKind::Range),
+        (b"choreo 1\nperform Go z\n", 2, LineKind::BadCount),
+        (b"choreo 1\nperform g z 0 0 0 0 a\n", 2, LineKind::BadWord),
+        (b"choreo 1\nperform g x 4 0 0 0 a\n", 2, LineKind::Range),
+        (b"choreo 1\nperform g x 0 0 0 0\n", 2, LineKind::BadCount),
+        (b"choreo 1\nform f line\n", 2, LineKind::BadWord),
+    ];
+    for (text, line, kind) in faults {
+        assert!(rt; has_fault(alloc, text, line, kind));
+    }
+}
+
+#[test]
+fn lines_in_blocks_are_judged(rt: HostRuntime) {
+    let alloc = rt.alloc();
+    let faults: [(&[u8], u32, LineKind); 24] = [
+        (b"choreo 1\nformation f\nend\n", 3, LineKind::EmptyBlock),
+        (b"choreo 1\nformation f\nend x\n", 3, LineKind::BadCount),
+        (
+            b"choreo 1\nformation f\nat a 0 0 0\n",
+            3,
+            LineKind::BadCount,
+        ),
+        (b"choreo 1\nformation f\ncue 1\n", 3, LineKind::BadWord),
+        (b"choreo 1\nfigure g p\nend\n", 3, LineKind::EmptyBlock),
+        (
+            b"choreo 1\nfigure g p\nperform g x 0 0 0 0 a\n",
+            3,
+            LineKind::BadWord,
+        ),
+        (
+            b"choreo 1\nfigure g p\nrepeat 1\nperform g x 0 0 0 0 a\n",
+            4,
+            LineKind::BadWord,
+        ),
+        (
+            b"choreo 1\nfigure g p\ncue 1\nform f line\n",
+            4,
+            LineKind::BadName,
+        ),
+        (b"choreo 1\nrepeat 2\nend\n", 3, LineKind::EmptyBlock),
+        (
+            b"choreo 1\nrepeat 2\ndrone a 0 0 0 0\n",
+            3,
+            LineKind::BadWord,
+        ),
+        (b"choreo 1\nrepeat 2\ncue 1\nend\n", 2, LineKind::NoEnd),
+        (b"choreo 1\ncue 1\nsolo\n", 3, LineKind::BadCount),
+        (b"choreo 1\ncue 1\nSolo\n", 3, LineKind::BadName),
+        (b"choreo 1\ncue 1\nsolo jump 0\n", 3, LineKind::BadWord),
+        (b"choreo 1\ncue 1\nSolo jump\n", 3, LineKind::BadName),
+        (b"choreo 1\ncue 1\nform f curve\n", 3, LineKind::BadWord),
+        (b"choreo 1\ncue 1\na hold 0\n", 3, LineKind::BadCount),
+        (
+            b"choreo 1\ncue 1\na line 0 0 0 0 0\n",
+            3,
+            LineKind::BadCount,
+        ),
+        (b"choreo 1\ncue 1\na move 0 0 0 -\n", 3, LineKind::BadNumber),
+        (b"choreo 1\ncue 1\na turn 32768\n", 3, LineKind::Range),
+        (b"choreo 1\ncue 1\na arc left 0 0 0\n", 3, LineKind::BadWord),
+        (
+            b"choreo 1\ncue 1\na curve 0 0 0 0 0 0 0 0 100000001 x\n",
+            3,
+            LineKind::Range,
+        ),
+        (
+            b"choreo 1\nrepeat 1\nrepeat 1\nrepeat 1\nrepeat 1\nrepeat 1\nrepeat 1\nrepeat 1\nrepeat 1\nrepeat 1\n",
+            10,
+            LineKind::Nesting,
+        ),
+        (
+            b"choreo 1\nrepeat 1\nrepeat 1\nrepeat 1\nrepeat 1\nrepeat 1\nrepeat 1\nrepeat 1\nrepeat 1\nrepeat 0\n",
+            10,
+            LineKind::Range,
+        ),
+    ];
+    for (text, line, kind) in faults {
+        assert!(rt; has_fault(alloc, text, line, kind));
+    }
+    // Names such as `cue` and `repeat` open no block in a cue, so what is open here is the cue of line 2.
+    assert!(rt;
+        has_fault(
+            alloc,
+            b"choreo 1\ncue 1\ncue hold\nrepeat hold\n",
+            2,
+            LineKind::NoEnd
+        )
+    );
+}
+
+// Whether a text is read, where it isn't too long.
+fn is_read(alloc: Global, text: &[u8]) -> bool {
+    if text.len() > MOST_BYTES {
+        return false;
+    }
+    match read_show(alloc, text) {
+        Ok(_) => true,
+        Err(_) => false,
+    }
+}
+
+#[test]
+fn the_longest_text_is_read(rt: HostRuntime) -> Result<(), Fail> {
+    let alloc = rt.alloc();
+    let mut text = Vec::new(alloc);
+    text.extend_from_slice(SMALLEST)?;
+    text.push(b'#')?;
+    for _ in SMALLEST.len() + 1..MOST_BYTES {
+        text.push(b'x')?;
+    }
+    assert_eq!(rt; text.len(), MOST_BYTES);
+    assert!(rt; is_read(alloc, text.as_slice()));
+    Ok(())
+}

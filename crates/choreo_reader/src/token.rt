@@ -1,0 +1,59 @@
+//! The words of a show's text.
+
+ghost use Rattle.std.specs.Prelude.{◌≡◌, ◌≤◌, length, MatchOption, None, Some};
+ghost use Rattle.choreo_lines.specs.declared.line.LineKind.TheVariants as kind;
+ghost use Rattle.choreo_reader.specs.Text.{is_allowed as is_allowed_of, are_allowed as are_allowed_of, forbidden, fault_at, TokensGive};
+
+use crate::fault::ShowFault;
+use choreo_lines::LineKind;
+use std::alloc::Global;
+use text_lines::{Comments, Token, split_line, visible};
+
+/// The bytes of the longest text of a show.
+pub const MOST_BYTES: usize = 1_048_576;
+
+fn is_allowed(byte: u8) -> bool
+    ensures { result ≡ is_allowed_of byte }
+{
+    matches!(byte, b'\t' | b'\r' | b' '..=b'~')
+}
+
+fn are_allowed(bytes: &[u8]) -> bool
+    ensures { result ≡ are_allowed_of bytes.now }
+{
+    bytes.iter().all(|byte| is_allowed(*byte))
+}
+
+// The first line that has a forbidden byte.
+fn first_bad_line(text: &[u8]) -> Option<u32>
+    requires { length text.now ≤ MOST_BYTES }
+    ensures { MatchOption result (forbidden text.now ≡ None) (λ line. forbidden text.now ≡ Some (fault_at line kind.BadByte)) }
+{
+    let mut number: u32 = 1;
+    let mut rest = text;
+    'lines: while let Some((line, behind)) = split_line(rest) {
+        if !are_allowed(visible(line, Comments::FromHash)) {
+            return Some(number);
+        }
+        number += 1;
+        rest = behind;
+    }
+    None
+}
+
+/// The words of a text outside comments in order, each with its line and its place.
+pub fn tokens(alloc: Global, text: &[u8]) -> Result<Vec<Token>, ShowFault>
+    requires { length text.now ≤ MOST_BYTES }
+    ensures { TokensGive result text.now }
+{
+    if let Some(line) = first_bad_line(text) {
+        return Err(ShowFault::Line {
+            line,
+            kind: LineKind::BadByte,
+        });
+    }
+    match text_lines::tokens(alloc, text, Comments::FromHash) {
+        Ok(tokens) => Ok(tokens),
+        Err(_) => Err(ShowFault::Memory),
+    }
+}
