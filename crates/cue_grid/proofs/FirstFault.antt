@@ -1,0 +1,64 @@
+-- The first fault of a show, of the faults of its parts.
+use Rattle.std.proofs.Common.{◌≡◌, ℕ, ◌≤◌, false, cond, List, length, map, Option, Some, None, refl, sym, ap, subst, ◌∙◌}
+use Rattle.std.specs.Prelude.{not, ◌==◌}
+use Rattle.std.proofs.lemmas.List.{drop_all}
+use Rattle.choreo_reader.specs.Plain as plain
+use Rattle.choreo_reader.specs.Plain.{Body, PlainShow, has_block, body_of, figure_of}
+use Rattle.choreo_reader.specs.Valid.{IsValid}
+use Rattle.choreo_reader.proofs.Opened.{blocks_none}
+use Rattle.choreo_reader.specs.declared.show.Block.{Block}
+use Rattle.choreo_reader.specs.declared.show.Figure.{Figure}
+use Rattle.choreo_reader.specs.declared.show.DroneLine.{DroneLine}
+use Rattle.cue_grid.specs.Counts.{over_at}
+use Rattle.cue_grid.specs.Faults.{drone_limit, no_drone, many_drones, too_many, no_cue, many_cues, or_else, earliest, name_faults, grid_fault}
+use Rattle.cue_grid.specs.Steps.{name_fault}
+use Rattle.cue_grid.specs.Unrolled.{GridFails}
+use Rattle.cue_grid.proofs.Earliest.{earliest_name}
+use Rattle.cue_grid.specs.declared.grid.GridFault.{GridFault}
+use Rattle.cue_grid.specs.declared.grid.GridFault.TheVariants as fault
+
+pub fails_by : (f : GridFault) (s : PlainShow) → grid_fault s ≡ Some f → GridFails f s
+fails_by fault.Memory s h = tt
+fails_by f s h = h
+
+pub few_drones : (s : PlainShow) (ds : List DroneLine) → ds ≡ s.drones → (length ds == 0) ≡ false → length ds ≤ drone_limit → None ≡ or_else (no_drone s) (many_drones s)
+few_drones s ds e n h =
+    let some : (length s.drones == 0) ≡ false = ap (λ xs. length xs == 0) (sym e) ∙ n in
+    let few : length s.drones ≤ drone_limit = subst (λ xs. length xs ≤ drone_limit) e h in
+    sym (ap (λ b. or_else (cond b (Some (fault.NoDrone 1)) None) (many_drones s)) some ∙ ap too_many (drop_all drone_limit s.drones few))
+
+some_cue : (b : Body) → not (has_block b) ≡ false → no_cue b ≡ None
+some_cue plain.Done h = cc
+some_cue (plain.Cue line ms acts rest) h = refl
+some_cue (plain.Repeat line times inside rest) h = refl
+some_cue (plain.Perform line figure frame drones rest) h = refl
+
+-- no fault of the counts
+pub few_cues : (given bs : List Block) (those figures : List Figure) (o : Option ℕ) → given ≡ bs → those ≡ figures → (length given == 0) ≡ false → o ≡ over_at (map figure_of those) 0 (body_of given) → o ≡ None → None ≡ or_else (no_cue (body_of bs)) (many_cues (over_at (map figure_of figures) 0 (body_of bs)))
+few_cues given bs those figures o p q n e h =
+    let some : no_cue (body_of bs) ≡ None = ap (λ xs. no_cue (body_of xs)) (sym p) ∙ some_cue (body_of given) (blocks_none given ∙ n) in
+    let none : over_at (map figure_of figures) 0 (body_of bs) ≡ None = ap (λ fs. over_at (map figure_of fs) 0 (body_of bs)) (sym q) ∙ ap (λ xs. over_at (map figure_of those) 0 (body_of xs)) (sym p) ∙ sym e ∙ h in
+    sym (ap (λ f. or_else f (many_cues (over_at (map figure_of figures) 0 (body_of bs)))) some ∙ ap many_cues none)
+
+or_else_assoc : (a b c : Option GridFault) → or_else (or_else a b) c ≡ or_else a (or_else b c)
+or_else_assoc None b c = refl
+or_else_assoc (Some f) b c = refl
+
+-- the fault of a valid show, of its parts
+pub grid_fault_by : (s : PlainShow) → IsValid s → (d n c : Option GridFault) → d ≡ or_else (no_drone s) (many_drones s) → n ≡ name_fault s → c ≡ or_else (no_cue s.body) (many_cues (over_at s.figures 0 s.body)) → or_else d (or_else n c) ≡ grid_fault s
+grid_fault_by s v d n c p q r =
+    ap (λ x. or_else x (or_else n c)) p
+    ∙ or_else_assoc (no_drone s) (many_drones s) (or_else n c)
+    ∙ ap (λ x. or_else (no_drone s) (or_else (many_drones s) (or_else x c))) (q ∙ earliest_name s v)
+    ∙ ap (λ x. or_else (no_drone s) (or_else (many_drones s) (or_else (earliest (name_faults s)) x))) r
+
+-- a fault of names, where the drones are of a good number
+pub name_fault_by : (s : PlainShow) → IsValid s → (d n : Option GridFault) (f : GridFault) → d ≡ or_else (no_drone s) (many_drones s) → d ≡ None → n ≡ name_fault s → n ≡ Some f → Some f ≡ grid_fault s
+name_fault_by s v d n f p dn q ns =
+    sym (ap (λ x. or_else x (or_else n (or_else (no_cue s.body) (many_cues (over_at s.figures 0 s.body))))) dn ∙ ap (λ x. or_else x (or_else (no_cue s.body) (many_cues (over_at s.figures 0 s.body)))) ns)
+    ∙ grid_fault_by s v d n (or_else (no_cue s.body) (many_cues (over_at s.figures 0 s.body))) p q refl
+
+-- a fault of the number of cues, where nothing else is wrong
+pub count_fault_by : (s : PlainShow) → IsValid s → (d n c : Option GridFault) → d ≡ or_else (no_drone s) (many_drones s) → d ≡ None → n ≡ name_fault s → n ≡ None → c ≡ or_else (no_cue s.body) (many_cues (over_at s.figures 0 s.body)) → c ≡ grid_fault s
+count_fault_by s v d n c p dn q nn r =
+    sym (ap (λ x. or_else x (or_else n c)) dn ∙ ap (λ x. or_else x c) nn) ∙ grid_fault_by s v d n c p q r

@@ -1,0 +1,8 @@
+use Rattle.std.proofs.Common.{◌≡◌, ◌++◌, take}
+use Rattle.choreo_reader.specs.Plain.{body_of}
+use Rattle.cue_grid.specs.Cues.{figure_cues}
+use Rattle.cue_grid.specs.Shown.{shown, played}
+use Rattle.cue_grid.proofs.cues.put_figure.Given as goal
+
+abbrev pub invariant-loop-block : goal.invariant-loop-block
+invariant-loop-block l = l.cues.items ≡ l.initial.cues.items ++ figure_cues (shown l.show) (played l.cast) (body_of (take l.block-index l.body))

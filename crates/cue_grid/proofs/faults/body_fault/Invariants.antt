@@ -1,0 +1,9 @@
+use Rattle.cue_grid.specs.Shown.{shown}
+use Rattle.std.proofs.Common.{◌≡◌, drop}
+use Rattle.choreo_reader.specs.Plain.{body_of}
+use Rattle.cue_grid.specs.Steps.{first_of}
+use Rattle.cue_grid.specs.Faults.{body_faults}
+use Rattle.cue_grid.proofs.faults.body_fault.Given as goal
+
+abbrev pub invariant-loop-block : goal.invariant-loop-block
+invariant-loop-block l = first_of (body_faults (shown l.show) l.known (body_of l.body)) ≡ first_of (body_faults (shown l.show) l.known (body_of (drop l.block-index l.body)))

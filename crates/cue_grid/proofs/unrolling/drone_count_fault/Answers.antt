@@ -1,0 +1,7 @@
+use Rattle.cue_grid.specs.Shown.{shown}
+use Rattle.std.proofs.Common.{sym, ◌∙◌}
+use Rattle.cue_grid.proofs.FirstFault.{few_drones}
+use Rattle.cue_grid.proofs.unrolling.drone_count_fault.Goals as goal
+
+pub returns-else-drones-gt-DRONE_LIMIT : goal.returns-else-drones-gt-DRONE_LIMIT
+returns-else-drones-gt-DRONE_LIMIT c = few_drones (shown c.args.show.now) _ c.as_slice-drones.ensures (sym c.is_empty.ensures ∙ c.if-is_empty.false) c.if-drones-gt-DRONE_LIMIT.false

@@ -1,0 +1,10 @@
+pub mod Names
+pub mod Frames
+pub mod Cues
+pub mod Counts
+pub mod Faults
+pub mod Grids
+pub mod Unrolled
+pub mod Numbers
+pub mod Shown
+pub mod Steps

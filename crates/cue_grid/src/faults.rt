@@ -1,0 +1,348 @@
+//! What is wrong with the names of a show: for each list its first fault, and of these the one of
+//! the earliest line.
+
+ghost use Rattle.std.specs.Prelude.{◌≡◌, ◌++◌, [], ◌∷◌, take, OnOk, IfOk};
+ghost use Rattle.choreo_reader.specs.Plain.{block_of, body_of, figure_of as plain_figure};
+ghost use Rattle.choreo_reader.specs.Plain as plain;
+ghost use Rattle.cue_grid.specs.Names.{names_of, has_name, has_some, figure_named};
+ghost use Rattle.cue_grid.specs.Numbers.{formation_names, figure_names};
+ghost use Rattle.cue_grid.specs.Shown.{shown};
+ghost use Rattle.cue_grid.specs.Steps.{HaveSameNames, first_of, name_fault as name_fault_of};
+ghost use Rattle.cue_grid.specs.Faults.{drone_faults, place_faults, one_formation_faults, formation_faults, act_line_faults, acted_by, act_faults, perform_faults, body_faults, one_figure_faults, figure_faults, earlier_of as earlier_of_two, line_of as line_of_fault};
+
+use crate::grid::GridFault;
+use crate::lookup::Lookup;
+use crate::names::{are_drones, copy_of, has_double, is_among, is_drone};
+use choreo_reader::{ActLine, Block, DroneLine, Figure, Formation, Name};
+use indexmap::IndexSet;
+use std::alloc::{AllocFailed, Global};
+
+/// The fault of names of the earliest line.
+pub fn name_fault(alloc: Global, show: &Lookup) -> Result<Option<GridFault>, AllocFailed<Name>>
+    ensures { IfOk result (λ fault. fault ≡ name_fault_of (shown show.now)) }
+{
+    let drones = show.show.drones.as_slice();
+    let mut known = Vec::new(alloc);
+    put_names(&mut known, drones)?;
+    let in_body = body_fault(alloc, show, known.as_slice(), show.show.body.as_slice())?;
+    let in_figures = figure_fault(alloc, show)?;
+    let in_formations = formation_fault(show);
+    Ok(earlier_of(
+        drone_fault(drones),
+        earlier_of(in_formations, earlier_of(in_figures, in_body)),
+    ))
+}
+
+// Appends the names of these drones.
+fn put_names(names: &mut Vec<Name>, drones: &[DroneLine]) -> Result<(), AllocFailed<Name>>
+    ensures { OnOk result (names.new.items ≡ names.old.items ++ names_of drones.now) }
+{
+    for drone in drones {
+        names.push(copy_of(&drone.name))?;
+    }
+    Ok(())
+}
+
+// The first fault of the lines of the drones.
+fn drone_fault(drones: &[DroneLine]) -> Option<GridFault>
+    ensures { result ≡ first_of (drone_faults [] drones.now) }
+{
+    for (i, drone) in drones.iter().enumerate() {
+        if is_drone(&drones[..i], &drone.name) {
+            return Some(GridFault::DoubleName { line: drone.line });
+        }
+    }
+    None
+}
+
+// The first fault of the lines of a formation.
+fn place_fault(drones: &[DroneLine], places: &[DroneLine]) -> Option<GridFault>
+    ensures { result ≡ first_of (place_faults (names_of drones.now) [] places.now) }
+{
+    for (i, place) in places.iter().enumerate() {
+        if !is_drone(drones, &place.name) {
+            return Some(GridFault::UnknownName { line: place.line });
+        }
+        if is_drone(&places[..i], &place.name) {
+            return Some(GridFault::DoubleAct { line: place.line });
+        }
+    }
+    None
+}
+
+// The first fault of a formation, behind so many formations.
+fn one_formation_fault(show: &Lookup, earlier: usize, formation: &Formation) -> Option<GridFault>
+    ensures { result
+        ≡ first_of (one_formation_faults (names_of (shown show.now).drones)
+        (formation_names (take earlier (shown show.now).formations)) formation.now) }
+{
+    if show.has_formation_before(earlier, &formation.name) {
+        return Some(GridFault::DoubleName {
+            line: formation.line,
+        });
+    }
+    place_fault(show.show.drones.as_slice(), formation.places.as_slice())
+}
+
+// The first fault of the formations.
+fn formation_fault(show: &Lookup) -> Option<GridFault>
+    ensures { result
+        ≡ first_of (formation_faults (names_of (shown show.now).drones) [] (shown show.now).formations) }
+{
+    let formations = show.show.formations.as_slice();
+    for (i, formation) in formations.iter().enumerate() {
+        if let Some(fault) = one_formation_fault(show, i, formation) {
+            return Some(fault);
+        }
+    }
+    None
+}
+
+// The first fault of the lines of a cue.
+fn cue_fault(
+    alloc: Global,
+    show: &Lookup,
+    known: &[Name],
+    acts: &[ActLine],
+) -> Result<Option<GridFault>, AllocFailed<Name>>
+    ensures { IfOk result (λ fault. fault
+        ≡ first_of (act_faults known.now (shown show.now).formations [] acts.now)) }
+{
+    let mut acted = IndexSet::new(alloc);
+    for line in acts {
+        if let Some(fault) = act_line_fault(show, known, &acted, line) {
+            return Ok(Some(fault));
+        }
+        put_acted(&mut acted, show, line)?;
+    }
+    Ok(None)
+}
+
+// The fault of a line of a cue, where these names have an act already.
+fn act_line_fault(
+    show: &Lookup,
+    known: &[Name],
+    acted: &IndexSet<Name>,
+    line: &ActLine,
+) -> Option<GridFault>
+    ensures { result
+        ≡ first_of (act_line_faults known.now (shown show.now).formations acted.now.keys line.now) }
+{
+    match line {
+        ActLine::One { line, name, .. } => {
+            if !is_among(known, name) {
+                Some(GridFault::UnknownName { line: *line })
+            } else if has_acted(acted, name) {
+                Some(GridFault::DoubleAct { line: *line })
+            } else {
+                None
+            }
+        }
+        ActLine::Form {
+            line,
+            formation,
+            ..
+        } => match show.find_formation(formation) {
+            None => Some(GridFault::UnknownName { line: *line }),
+            Some(found) => {
+                if is_some_among(acted, found.places.as_slice()) {
+                    Some(GridFault::DoubleAct { line: *line })
+                } else {
+                    None
+                }
+            }
+        },
+    }
+}
+
+// Whether one of the places is that of a name that has an act.
+fn is_some_among(acted: &IndexSet<Name>, places: &[DroneLine]) -> bool
+    ensures { result ≡ has_some acted.now.keys (names_of places.now) }
+{
+    for place in places {
+        if has_acted(acted, &place.name) {
+            return true;
+        }
+    }
+    false
+}
+
+// Adds who has an act by a line.
+fn put_acted(
+    acted: &mut IndexSet<Name>,
+    show: &Lookup,
+    line: &ActLine,
+) -> Result<(), AllocFailed<Name>>
+    ensures { OnOk result (HaveSameNames acted.new.keys
+        (acted.old.keys ++ acted_by (shown show.now).formations line.now)) }
+{
+    match line {
+        ActLine::One { name, .. } => {
+            note(acted, name)?;
+            Ok(())
+        }
+        ActLine::Form { formation, .. } => match show.find_formation(formation) {
+            None => Ok(()),
+            Some(found) => put_places(acted, found.places.as_slice()),
+        },
+    }
+}
+
+// Whether a name has an act.
+fn has_acted(acted: &IndexSet<Name>, name: &Name) -> bool
+    ensures { result ≡ has_name acted.now.keys name.now }
+{
+    acted.contains(name)
+}
+
+// Adds a name to those that have an act.
+fn note(acted: &mut IndexSet<Name>, name: &Name) -> Result<(), AllocFailed<Name>>
+    ensures { OnOk result (HaveSameNames acted.new.keys (acted.old.keys ++ name.now ∷ [])) }
+{
+    acted.insert(copy_of(name))?;
+    Ok(())
+}
+
+// Adds the names of the places of a formation.
+fn put_places(acted: &mut IndexSet<Name>, places: &[DroneLine]) -> Result<(), AllocFailed<Name>>
+    ensures { OnOk result (HaveSameNames acted.new.keys (acted.old.keys ++ names_of places.now)) }
+{
+    for place in places {
+        note(acted, &place.name)?;
+    }
+    Ok(())
+}
+
+// The fault of a perform.
+fn perform_fault(show: &Lookup, line: u32, figure: &Name, named: &[Name]) -> Option<GridFault>
+    ensures { result
+        ≡ first_of (perform_faults (names_of (shown show.now).drones) line
+        (figure_named (shown show.now).figures figure.now) named.now) }
+{
+    match show.find_figure(figure) {
+        None => Some(GridFault::UnknownName { line }),
+        Some(found) => {
+            if named.len() != found.roles.as_slice().len() {
+                Some(GridFault::RoleCount { line })
+            } else if !are_drones(show.show.drones.as_slice(), named) {
+                Some(GridFault::UnknownName { line })
+            } else if has_double(named) {
+                Some(GridFault::DoubleAct { line })
+            } else {
+                None
+            }
+        }
+    }
+}
+
+// The first fault of a block.
+fn block_fault(
+    alloc: Global,
+    show: &Lookup,
+    known: &[Name],
+    block: &Block,
+) -> Result<Option<GridFault>, AllocFailed<Name>>
+    ensures { IfOk result (λ fault. fault
+        ≡ first_of (body_faults (shown show.now) known.now (block_of block.now plain.Done))) }
+{
+    match block {
+        Block::Cue { acts, .. } => { cue_fault(alloc, show, known, acts.as_slice()) }
+        Block::Repeat { body, .. } => {
+            for inner in body {
+                if let Some(fault) = block_fault(alloc, show, known, inner)? {
+                    return Ok(Some(fault));
+                }
+            }
+            Ok(None)
+        }
+        Block::Perform {
+            line,
+            figure,
+            drones,
+            ..
+        } => Ok(perform_fault(show, *line, figure, drones.as_slice())),
+    }
+}
+
+// The first fault of a body.
+fn body_fault(
+    alloc: Global,
+    show: &Lookup,
+    known: &[Name],
+    body: &[Block],
+) -> Result<Option<GridFault>, AllocFailed<Name>>
+    ensures { IfOk result (λ fault. fault
+        ≡ first_of (body_faults (shown show.now) known.now (body_of body.now))) }
+{
+    for block in body {
+        if let Some(fault) = block_fault(alloc, show, known, block)? {
+            return Ok(Some(fault));
+        }
+    }
+    Ok(None)
+}
+
+// The first fault of a figure, behind so many figures.
+fn one_figure_fault(
+    alloc: Global,
+    show: &Lookup,
+    earlier: usize,
+    figure: &Figure,
+) -> Result<Option<GridFault>, AllocFailed<Name>>
+    ensures { IfOk result (λ fault. fault
+        ≡ first_of (one_figure_faults (shown show.now)
+        (figure_names (take earlier show.now.show.now.figures)) (plain_figure figure.now))) }
+{
+    if show.has_figure_before(earlier, &figure.name) || has_double(figure.roles.as_slice()) {
+        return Ok(Some(GridFault::DoubleName { line: figure.line }));
+    }
+    body_fault(alloc, show, figure.roles.as_slice(), figure.body.as_slice())
+}
+
+// The first fault of the figures.
+fn figure_fault(alloc: Global, show: &Lookup) -> Result<Option<GridFault>, AllocFailed<Name>>
+    ensures { IfOk result (λ fault. fault
+        ≡ first_of (figure_faults (shown show.now) [] (shown show.now).figures)) }
+{
+    let figures = show.show.figures.as_slice();
+    for (i, figure) in figures.iter().enumerate() {
+        if let Some(fault) = one_figure_fault(alloc, show, i, figure)? {
+            return Ok(Some(fault));
+        }
+    }
+    Ok(None)
+}
+
+// The line that a fault names.
+fn line_of(fault: GridFault) -> u32
+    ensures { result ≡ line_of_fault fault }
+{
+    match fault {
+        GridFault::NoDrone { line } => line,
+        GridFault::TooManyDrones { line } => line,
+        GridFault::DoubleName { line } => line,
+        GridFault::UnknownName { line } => line,
+        GridFault::DoubleAct { line } => line,
+        GridFault::RoleCount { line } => line,
+        GridFault::NoCue { line } => line,
+        GridFault::TooManyCues { line } => line,
+        GridFault::Memory => 0,
+    }
+}
+
+// The one of the earlier line.
+fn earlier_of(first: Option<GridFault>, second: Option<GridFault>) -> Option<GridFault>
+    ensures { result ≡ earlier_of_two first second }
+{
+    match (first, second) {
+        (None, second) => second,
+        (Some(fault), None) => Some(fault),
+        (Some(fault), Some(other)) => {
+            if line_of(other) < line_of(fault) {
+                Some(other)
+            } else {
+                Some(fault)
+            }
+        }
+    }
+}

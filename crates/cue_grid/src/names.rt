@@ -1,0 +1,66 @@
+//! Names: which are the same, and which are among others.
+
+ghost use Rattle.std.specs.Prelude.{◌≡◌};
+ghost use Rattle.cue_grid.specs.Names.{same_name as same_name_of, has_name, has_each, has_double as has_double_of, names_of};
+
+use arrayvec::ArrayVec;
+use choreo_reader::{DroneLine, Name};
+
+/// Whether two names are the same.
+pub fn same_name(a: &Name, b: &Name) -> bool
+    ensures { result ≡ same_name_of a.now b.now }
+{
+    a.as_slice() == b.as_slice()
+}
+
+/// Whether a name is one of these.
+pub fn is_among(names: &[Name], name: &Name) -> bool
+    ensures { result ≡ has_name names.now name.now }
+{
+    names.iter().any(|other| same_name(name, other))
+}
+
+/// Whether a name is that of one of these drones.
+pub fn is_drone(drones: &[DroneLine], name: &Name) -> bool
+    ensures { result ≡ has_name (names_of drones.now) name.now }
+{
+    for drone in drones {
+        if same_name(name, &drone.name) {
+            return true;
+        }
+    }
+    false
+}
+
+/// Whether each name is that of one of these drones.
+pub fn are_drones(drones: &[DroneLine], names: &[Name]) -> bool
+    ensures { result ≡ has_each (names_of drones.now) names.now }
+{
+    names.iter().all(|name| is_drone(drones, name))
+}
+
+/// Whether two of the names are equal.
+pub fn has_double(names: &[Name]) -> bool
+    ensures { result ≡ has_double_of names.now }
+{
+    let mut rest = names;
+    while !rest.is_empty() {
+        let (first, others) = rest.split_at(1);
+        if is_among(others, &first[0]) {
+            return true;
+        }
+        rest = others;
+    }
+    false
+}
+
+/// A name once more.
+pub fn copy_of(name: &Name) -> Name
+    ensures { result ≡ name.now }
+{
+    let mut copy = ArrayVec::new();
+    for byte in name.as_slice() {
+        copy.push(*byte);
+    }
+    copy
+}

@@ -1,0 +1,281 @@
+//! Shows by their texts: how many cues they have, or what is wrong with their names and cues; and where frames put a point.
+
+use crate::{GridFault, apply, mirror, quarter_turn, shift, unroll};
+use choreo_reader::{Frame, LineKind, Mirror, Point, ShowFault, read_show};
+use std::alloc::Global;
+
+/// What becomes of a text: so many cues, a faulty line, or a fault of names or cues.
+#[derive(Clone, Copy, PartialEq, Eq, Debug)]
+enum Outcome {
+    Cues(usize),
+    Line(u32, LineKind),
+    Fault(GridFault),
+    TooLarge,
+    Memory,
+}
+
+fn outcome_of(alloc: Global, text: &[u8]) -> Outcome {
+    if text.len() > 1_048_576 {
+        return Outcome::TooLarge;
+    }
+    match read_show(alloc, text) {
+        Err(ShowFault::Line { line, kind }) => Outcome::Line(line, kind),
+        Err(ShowFault::Memory) => Outcome::Memory,
+        Ok(show) => match unroll(alloc, &show) {
+            Ok(grid) => Outcome::Cues(grid.cues.as_slice().len()),
+            Err(fault) => Outcome::Fault(fault),
+        },
+    }
+}
+
+// The lines that are faulty for a name, a count of words or an open block.
+#[test]
+fn faulty_lines(rt: HostRuntime) {
+    let rows = [
+        // nothing at all
+        (b"".as_slice(), Outcome::Line(1, LineKind::Header)),
+        // another version
+        (
+            b"choreo 2\ndrone solo 0 0 1000000 0\ncue 2000\nsolo move 1000000 0 1000000 0\nend\n".as_slice(),
+            Outcome::Line(1, LineKind::Header),
+        ),
+        // an upper-case name
+        (
+            b"choreo 1\ndrone Solo 0 0 1000000 0\ncue 2000\nsolo move 1000000 0 1000000 0\nend\n".as_slice(),
+            Outcome::Line(2, LineKind::BadName),
+        ),
+        // an act line of one word
+        (
+            b"choreo 1\ndrone solo 0 0 1000000 0\ncue 2000\nsolo\nend\n".as_slice(),
+            Outcome::Line(4, LineKind::BadCount),
+        ),
+        // no such act
+        (
+            b"choreo 1\ndrone solo 0 0 1000000 0\ncue 2000\nsolo jump 0\nend\n".as_slice(),
+            Outcome::Line(4, LineKind::BadWord),
+        ),
+        // a repeat without a line
+        (
+            b"choreo 1\ndrone solo 0 0 1000000 0\ncue 2000\nsolo move 1000000 0 1000000 0\nend\nrepeat 2\nend\n".as_slice(),
+            Outcome::Line(7, LineKind::EmptyBlock),
+        ),
+        // a cue that is not closed
+        (
+            b"choreo 1\ndrone solo 0 0 1000000 0\ncue 2000\nsolo move 1000000 0 1000000 0\n".as_slice(),
+            Outcome::Line(3, LineKind::NoEnd),
+        ),
+        // a ninth repeat
+        (
+            b"choreo 1\ndrone solo 0 0 1000000 0\nrepeat 1000000000\nrepeat 1000000000\nrepeat 1000000000\nrepeat 1000000000\nrepeat 1000000000\nrepeat 1000000000\nrepeat 1000000000\nrepeat 1000000000\nrepeat 1000000000\ncue 1000\nend\nend\nend\nend\nend\nend\nend\nend\nend\nend\n".as_slice(),
+            Outcome::Line(11, LineKind::Nesting),
+        ),
+    ];
+    for (text, wanted) in rows {
+        assert_eq!(rt; outcome_of(rt.alloc(), text), wanted);
+    }
+}
+
+// What is wrong with names, and where.
+#[test]
+fn faults_of_names(rt: HostRuntime) {
+    let rows = [
+        // no drone comes before no cue
+        (
+            b"choreo 1\n".as_slice(),
+            Outcome::Fault(GridFault::NoDrone { line: 1 }),
+        ),
+        // a 33rd drone comes before a name that stands twice
+        (
+            b"choreo 1\ndrone a 0 0 0 0\ndrone a 0 0 0 0\ndrone a 0 0 0 0\ndrone a 0 0 0 0\ndrone a 0 0 0 0\ndrone a 0 0 0 0\ndrone a 0 0 0 0\ndrone a 0 0 0 0\ndrone a 0 0 0 0\ndrone a 0 0 0 0\ndrone a 0 0 0 0\ndrone a 0 0 0 0\ndrone a 0 0 0 0\ndrone a 0 0 0 0\ndrone a 0 0 0 0\ndrone a 0 0 0 0\ndrone a 0 0 0 0\ndrone a 0 0 0 0\ndrone a 0 0 0 0\ndrone a 0 0 0 0\ndrone a 0 0 0 0\ndrone a 0 0 0 0\ndrone a 0 0 0 0\ndrone a 0 0 0 0\ndrone a 0 0 0 0\ndrone a 0 0 0 0\ndrone a 0 0 0 0\ndrone a 0 0 0 0\ndrone a 0 0 0 0\ndrone a 0 0 0 0\ndrone a 0 0 0 0\ndrone a 0 0 0 0\ndrone a 0 0 0 0\n".as_slice(),
+            Outcome::Fault(GridFault::TooManyDrones { line: 34 }),
+        ),
+        // a drone twice
+        (
+            b"choreo 1\ndrone solo 0 0 1000000 0\ndrone solo 0 0 1000000 0\ncue 2000\nsolo move 1000000 0 1000000 0\nend\n".as_slice(),
+            Outcome::Fault(GridFault::DoubleName { line: 3 }),
+        ),
+        // an act twice
+        (
+            b"choreo 1\ndrone solo 0 0 1000000 0\ncue 2000\nsolo move 1000000 0 1000000 0\nsolo move 1000000 0 1000000 0\nend\n".as_slice(),
+            Outcome::Fault(GridFault::DoubleAct { line: 5 }),
+        ),
+        // an act of nobody
+        (
+            b"choreo 1\ndrone solo 0 0 1000000 0\ncue 2000\nother hold\nend\n".as_slice(),
+            Outcome::Fault(GridFault::UnknownName { line: 4 }),
+        ),
+        // a figure for nobody
+        (
+            b"choreo 1\ndrone solo 0 0 1000000 0\nfigure go p\ncue 1000\np line 1000000 0 1000000 0\nend\nend\nperform go y 1 0 0 500000 other\n".as_slice(),
+            Outcome::Fault(GridFault::UnknownName { line: 8 }),
+        ),
+        // a figure for too many
+        (
+            b"choreo 1\ndrone solo 0 0 1000000 0\nfigure go p\ncue 1000\np line 1000000 0 1000000 0\nend\nend\nperform go y 1 0 0 500000 solo solo\n".as_slice(),
+            Outcome::Fault(GridFault::RoleCount { line: 8 }),
+        ),
+        // no such figure
+        (
+            b"choreo 1\ndrone solo 0 0 1000000 0\nfigure go p\ncue 1000\np line 1000000 0 1000000 0\nend\nend\nperform come y 1 0 0 500000 solo\n".as_slice(),
+            Outcome::Fault(GridFault::UnknownName { line: 8 }),
+        ),
+        // two roles of one name
+        (
+            b"choreo 1\ndrone a 0 0 0 0\nfigure go p p\ncue 1\nend\nend\n".as_slice(),
+            Outcome::Fault(GridFault::DoubleName { line: 3 }),
+        ),
+        // one drone for two roles
+        (
+            b"choreo 1\ndrone a 0 0 0 0\nfigure go p q\ncue 1\nend\nend\nperform go none 0 0 0 0 a a\n".as_slice(),
+            Outcome::Fault(GridFault::DoubleAct { line: 7 }),
+        ),
+        // a figure twice
+        (
+            b"choreo 1\ndrone solo 0 0 1000000 0\nfigure go p\ncue 1000\np line 1000000 0 1000000 0\nend\nend\nfigure go p\ncue 1000\np line 1000000 0 1000000 0\nend\nend\n".as_slice(),
+            Outcome::Fault(GridFault::DoubleName { line: 8 }),
+        ),
+        // a formation twice
+        (
+            b"choreo 1\ndrone a 0 0 0 0\nformation f\nat a 0 0 0 0\nend\nformation f\nat a 0 0 0 0\nend\n".as_slice(),
+            Outcome::Fault(GridFault::DoubleName { line: 6 }),
+        ),
+        // a place of nobody
+        (
+            b"choreo 1\ndrone a 0 0 0 0\nformation f\nat b 0 0 0 0\nend\n".as_slice(),
+            Outcome::Fault(GridFault::UnknownName { line: 4 }),
+        ),
+        // a place twice
+        (
+            b"choreo 1\ndrone a 0 0 0 0\nformation f\nat a 0 0 0 0\nat a 1 0 0 0\nend\n".as_slice(),
+            Outcome::Fault(GridFault::DoubleAct { line: 5 }),
+        ),
+        // an act after a form
+        (
+            b"choreo 1\ndrone a 0 0 0 0\ncue 1\nform f line\na hold\nend\nformation f\nat a 0 0 0 0\nend\n".as_slice(),
+            Outcome::Fault(GridFault::DoubleAct { line: 5 }),
+        ),
+        // two formations place a name that is no drone's
+        (
+            b"choreo 1\ndrone a 0 0 0 0\ncue 1\nform f line\nform g line\nend\nformation f\nat z 0 0 0 0\nend\nformation g\nat z 0 0 0 0\nend\n".as_slice(),
+            Outcome::Fault(GridFault::DoubleAct { line: 5 }),
+        ),
+        // no such formation
+        (
+            b"choreo 1\ndrone a 0 0 0 0\ncue 1\nform f line\nend\n".as_slice(),
+            Outcome::Fault(GridFault::UnknownName { line: 4 }),
+        ),
+    ];
+    for (text, wanted) in rows {
+        assert_eq!(rt; outcome_of(rt.alloc(), text), wanted);
+    }
+}
+
+// How many cues there are.
+#[test]
+fn numbers_of_cues(rt: HostRuntime) {
+    let rows = [
+        // row one
+        (
+            b"choreo 1\ndrone solo 0 0 1000000 0\ncue 2000\nsolo move 1000000 0 1000000 0\nend\n".as_slice(),
+            Outcome::Cues(1),
+        ),
+        // no cue
+        (
+            b"choreo 1\ndrone solo 0 0 1000000 0\n".as_slice(),
+            Outcome::Fault(GridFault::NoCue { line: 1 }),
+        ),
+        // 255 cues
+        (
+            b"choreo 1\ndrone solo 0 0 1000000 0\nrepeat 255\ncue 1000\nend\nend\n".as_slice(),
+            Outcome::Cues(255),
+        ),
+        // 256 cues
+        (
+            b"choreo 1\ndrone solo 0 0 1000000 0\nrepeat 256\ncue 1000\nend\nend\n".as_slice(),
+            Outcome::Fault(GridFault::TooManyCues { line: 3 }),
+        ),
+        // eight repeats of a thousand million
+        (
+            b"choreo 1\ndrone solo 0 0 1000000 0\nrepeat 1000000000\nrepeat 1000000000\nrepeat 1000000000\nrepeat 1000000000\nrepeat 1000000000\nrepeat 1000000000\nrepeat 1000000000\nrepeat 1000000000\ncue 1000\nend\nend\nend\nend\nend\nend\nend\nend\nend\n".as_slice(),
+            Outcome::Fault(GridFault::TooManyCues { line: 3 }),
+        ),
+        // one cue behind 255
+        (
+            b"choreo 1\ndrone solo 0 0 1000000 0\nrepeat 255\ncue 1000\nend\nend\ncue 1\nend\n".as_slice(),
+            Outcome::Fault(GridFault::TooManyCues { line: 7 }),
+        ),
+        // repeats in repeats
+        (
+            b"choreo 1\ndrone solo 0 0 1000000 0\nrepeat 2\nrepeat 3\ncue 1\nend\nend\ncue 2\nend\nend\n".as_slice(),
+            Outcome::Cues(8),
+        ),
+        // a figure of two cues in a repeat
+        (
+            b"choreo 1\ndrone a 0 0 0 0\nrepeat 3\nperform go x 0 0 0 0 a\nend\nfigure go p\nrepeat 2\ncue 1\nend\nend\nend\n".as_slice(),
+            Outcome::Cues(6),
+        ),
+    ];
+    for (text, wanted) in rows {
+        assert_eq!(rt; outcome_of(rt.alloc(), text), wanted);
+    }
+}
+
+// The figure's place (1000000, 0, 1000000) with yaw 0, mirrored at y, turned once and lifted by half a metre, and the steps
+// at a point with four different numbers.
+#[test]
+fn frames(rt: HostRuntime) {
+    let lifted = Frame {
+        mirror: Mirror::Y,
+        turns: 1,
+        dx: 0,
+        dy: 0,
+        dz: 500_000,
+    };
+    let place = Point {
+        x: 1_000_000,
+        y: 0,
+        z: 1_000_000,
+        yaw: 0,
+    };
+    let put = Point {
+        x: 0,
+        y: 1_000_000,
+        z: 1_500_000,
+        yaw: 900,
+    };
+    assert_eq!(rt; apply(&lifted, place), put);
+    let frame = Frame {
+        mirror: Mirror::X,
+        turns: 3,
+        dx: 10,
+        dy: 20,
+        dz: 30,
+    };
+    let p = Point {
+        x: 1,
+        y: 2,
+        z: 3,
+        yaw: 4,
+    };
+    let mirrored = Point {
+        x: -1,
+        y: 2,
+        z: 3,
+        yaw: 1796,
+    };
+    let turned = Point {
+        x: 2,
+        y: -1,
+        z: 3,
+        yaw: 2704,
+    };
+    let shifted = Point {
+        x: 11,
+        y: 22,
+        z: 33,
+        yaw: 4,
+    };
+    assert_eq!(rt; mirror(&frame, p), mirrored);
+    assert_eq!(rt; quarter_turn(&frame, p), turned);
+    assert_eq!(rt; shift(&frame, p), shifted);
+}

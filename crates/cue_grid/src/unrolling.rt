@@ -1,0 +1,122 @@
+//! The cues of a show in order, or its first fault.
+
+ghost use Rattle.std.specs.Prelude.{◌≡◌, IfOk};
+ghost use Rattle.choreo_reader.specs.Plain.{plain, body_of};
+ghost use Rattle.choreo_reader.specs.Valid.{IsValid};
+ghost use Rattle.cue_grid.specs.Faults.{no_drone, many_drones, no_cue, many_cues, or_else, grid_fault};
+ghost use Rattle.cue_grid.specs.Counts.{over_at};
+ghost use Rattle.cue_grid.specs.Shown.{shown};
+ghost use Rattle.cue_grid.specs.Unrolled.{GridGives};
+ghost use Rattle.cue_grid.specs.Grids.{IsGrid};
+
+use crate::count::over_line;
+use crate::cues::cues_of;
+use crate::faults::name_fault;
+use crate::grid::{DRONE_LIMIT, Grid, GridFault};
+use crate::lookup::Lookup;
+use crate::names::copy_of;
+use choreo_reader::{DroneLine, Listed, Name, Show};
+use std::alloc::{AllocError, AllocFailed, Global};
+
+/// The cues of a show in order, repeats written out and figures played by their drones, or its first fault. A drone
+/// without an act in a cue holds. What is answered is a valid grid.
+pub fn unroll(alloc: Global, show: &Show) -> Result<Grid, GridFault>
+    requires { IsValid (plain show.now) }
+    ensures gives { GridGives result (plain show.now) }
+    ensures valid { IfOk result (λ g. IsGrid g) }
+{
+    match Lookup::of(alloc, show) {
+        Ok(lookup) => unrolled(alloc, &lookup),
+        Err(_) => Err(GridFault::Memory),
+    }
+}
+
+// The fault of too few or too many drones.
+fn drone_count_fault(show: &Lookup) -> Option<GridFault>
+    ensures { result ≡ or_else (no_drone (shown show.now)) (many_drones (shown show.now)) }
+{
+    let drones = show.show.drones.as_slice();
+    if drones.is_empty() {
+        Some(GridFault::NoDrone { line: 1 })
+    } else if drones.len() > DRONE_LIMIT {
+        Some(GridFault::TooManyDrones {
+            line: drones[DRONE_LIMIT].line,
+        })
+    } else {
+        None
+    }
+}
+
+// The fault of too few or too many cues.
+fn cue_count_fault(show: &Lookup) -> Option<GridFault>
+    ensures { result
+        ≡ or_else (no_cue (shown show.now).body)
+        (many_cues (over_at (shown show.now).figures 0 (shown show.now).body)) }
+{
+    let body = show.show.body.as_slice();
+    if body.is_empty() {
+        return Some(GridFault::NoCue { line: 1 });
+    }
+    match over_line(show, body) {
+        Some(line) => Some(GridFault::TooManyCues { line }),
+        None => None,
+    }
+}
+
+// The first fault of a show.
+#[tactic(auto, using(crate::proofs::Earliest::earliest_name))]
+fn first_fault(alloc: Global, show: &Lookup) -> Result<Option<GridFault>, AllocFailed<Name>>
+    requires { IsValid (shown show.now) }
+    ensures { IfOk result (λ fault. fault ≡ grid_fault (shown show.now)) }
+{
+    if let Some(fault) = drone_count_fault(show) {
+        return Ok(Some(fault));
+    }
+    if let Some(fault) = name_fault(alloc, show)? {
+        return Ok(Some(fault));
+    }
+    Ok(cue_count_fault(show))
+}
+
+// Lines of drones, once more.
+fn copies_of(alloc: Global, drones: &[DroneLine]) -> Result<Vec<DroneLine>, AllocError>
+    ensures { IfOk result (λ copies. copies.items ≡ drones.now) }
+{
+    let mut copies = Vec::new(alloc);
+    for drone in drones {
+        copies.push(DroneLine {
+            line: drone.line,
+            name: copy_of(&drone.name),
+            at: drone.at,
+        })?;
+    }
+    Ok(copies)
+}
+
+// The cues of a show in order, or its first fault.
+#[tactic(auto, using(crate::proofs::FirstFault::fails_by))]
+fn unrolled(alloc: Global, show: &Lookup) -> Result<Grid, GridFault>
+    requires { IsValid (shown show.now) }
+    ensures gives { GridGives result (shown show.now) }
+    ensures valid { IfOk result (λ g. IsGrid g) }
+{
+    let fault = match first_fault(alloc, show) {
+        Ok(fault) => fault,
+        Err(_) => return Err(GridFault::Memory),
+    };
+    if let Some(fault) = fault {
+        return Err(fault);
+    }
+    let starts = match copies_of(alloc, show.show.drones.as_slice()) {
+        Ok(starts) => starts,
+        Err(_) => return Err(GridFault::Memory),
+    };
+    let cues = match cues_of(alloc, show) {
+        Ok(cues) => cues,
+        Err(_) => return Err(GridFault::Memory),
+    };
+    Ok(Grid {
+        starts: Listed::from_vec(starts),
+        cues: Listed::from_vec(cues),
+    })
+}
