@@ -1,0 +1,3 @@
+pub mod Millimetres
+pub mod Curves
+pub mod Elements

@@ -1,0 +1,162 @@
+//! Numbers, curves and pieces rounded.
+
+ghost use Rattle.std.specs.Prelude.{◌≡◌, ◌≤◌, map, length, IfSome};
+ghost use Rattle.mm_rounding.specs.declared.piece.Axis.TheVariants.{Two, Four, Eight};
+ghost use Rattle.mm_rounding.specs.Rounding.{millimetres, short, shorts, rounded, all_equal, element_of, fitted, rounding};
+ghost use Rattle.mm_rounding.specs.Near.{StaysNear};
+
+use crate::piece::{Axis, MicroPiece};
+use fleet_math::floor_div;
+use traj_codec::{Element, Segment};
+
+// Micrometres in a millimetre.
+const MICROMETRES: i128 = 1000;
+
+// Micrometres in whole millimetres, a half up.
+fn millimetres(v: i64) -> i64
+    ensures { result ≡ millimetres v }
+{
+    floor_div(i128::from(v) + MICROMETRES / 2, MICROMETRES) as i64
+}
+
+// The number in two bytes, where it fits.
+fn short(v: i64) -> Option<i16>
+    ensures { result ≡ short v }
+{
+    i16::try_from(v).ok()
+}
+
+/// Micrometres in whole millimetres: `v + 500` divided by 1,000 and rounded down, so that a half goes up. Nothing exactly
+/// where the millimetres don't fit two bytes.
+pub fn to_mm(v: i64) -> Option<i16>
+    ensures { result ≡ short (millimetres v) }
+{
+    short(millimetres(v))
+}
+
+// Each number in whole millimetres.
+fn each_rounded<const N: usize>(v: &[i64; N]) -> [i64; N]
+    ensures { result ≡ map millimetres v.now }
+{
+    let mut row = [0; N];
+    for k in 0..N {
+        row[k] = millimetres(v[k]);
+    }
+    row
+}
+
+// Each number in two bytes, where all fit.
+fn shorts<const N: usize>(v: &[i64; N]) -> Option<[i16; N]>
+    ensures { result ≡ shorts v.now }
+{
+    let mut row = [0; N];
+    for k in 0..N {
+        match short(v[k]) {
+            Some(number) => row[k] = number,
+            None => return None,
+        }
+    }
+    Some(row)
+}
+
+// The axis with each control value in whole millimetres.
+fn rounded(axis: &Axis) -> Axis
+    ensures { result ≡ rounded axis.now }
+{
+    match axis {
+        Axis::One { v } => Axis::One { v: millimetres(*v) },
+        Axis::Two { v } => Axis::Two { v: each_rounded(v) },
+        Axis::Four { v } => Axis::Four { v: each_rounded(v) },
+        Axis::Eight { v } => Axis::Eight { v: each_rounded(v) },
+    }
+}
+
+// Whether all control values equal the first one.
+fn are_equal(v: &[i16]) -> bool
+    requires { 1 ≤ length v.now }
+    ensures { result ≡ all_equal v.now }
+{
+    let first = v[0];
+    v.iter().all(|number| *number == first)
+}
+
+// The element with two control values.
+fn linear(v: &[i16; 2]) -> Element
+    ensures { result ≡ element_of (Two v.now) }
+{
+    if are_equal(v) {
+        Element::Constant
+    } else {
+        Element::Linear { v: v[1] }
+    }
+}
+
+// The element with four control values.
+fn cubic(v: &[i16; 4]) -> Element
+    ensures { result ≡ element_of (Four v.now) }
+{
+    if are_equal(v) {
+        Element::Constant
+    } else {
+        Element::Cubic {
+            v: [v[1], v[2], v[3]],
+        }
+    }
+}
+
+// The element with eight control values.
+fn seven(v: &[i16; 8]) -> Element
+    ensures { result ≡ element_of (Eight v.now) }
+{
+    if are_equal(v) {
+        Element::Constant
+    } else {
+        Element::Seven {
+            v: [v[1], v[2], v[3], v[4], v[5], v[6], v[7]],
+        }
+    }
+}
+
+// The element of an axis, where it can hold each control value.
+fn element(axis: &Axis) -> Option<Element>
+    ensures { result ≡ fitted axis.now }
+{
+    match axis {
+        Axis::One { v } => match short(*v) {
+            Some(_) => Some(Element::Constant),
+            None => None,
+        },
+        Axis::Two { v } => match shorts(v) {
+            Some(row) => Some(linear(&row)),
+            None => None,
+        },
+        Axis::Four { v } => match shorts(v) {
+            Some(row) => Some(cubic(&row)),
+            None => None,
+        },
+        Axis::Eight { v } => match shorts(v) {
+            Some(row) => Some(seven(&row)),
+            None => None,
+        },
+    }
+}
+
+/// The segment that a piece rounds to: x, y and z in whole millimetres, yaw in tenths of a degree as it is. An element is
+/// constant exactly where all its rounded control values are equal, else it has the degree of its axis
+/// (docs/TRAJECTORY.md). Nothing exactly where a rounded position or a yaw doesn't fit two bytes, or where the piece lasts
+/// 0 milliseconds.
+pub fn round_piece(p: &MicroPiece) -> Option<Segment>
+    ensures { result ≡ rounding p.now }
+{
+    if p.ms == 0 {
+        return None;
+    }
+    let x = element(&rounded(&p.axes[0]))?;
+    let y = element(&rounded(&p.axes[1]))?;
+    let z = element(&rounded(&p.axes[2]))?;
+    let yaw = element(&p.axes[3])?;
+    Some(Segment {
+        ms: p.ms,
+        elements: [x, y, z, yaw],
+    })
+}
