@@ -1,0 +1,15 @@
+pub mod Cauchy
+pub mod Directed
+pub mod Leaf
+pub mod Roots
+pub mod Lows
+pub mod Parts
+pub mod Limits
+pub mod Differences
+pub mod Orders
+pub mod Table
+pub mod Bounds
+pub mod Fleets
+pub mod Standing
+pub mod Positions
+pub mod Weighted

@@ -1,0 +1,122 @@
+-- The parts of the curves at a place: how large they are, their halves, and their values along a direction.
+use Rattle.std.proofs.Common.{◌≡◌, ℕ, suc, ◌+◌, ◌-◌, ◌*◌, ◌^◌, ◌≤◌, ◌<◌, ℤ, pos, ◌+ℤ◌, ◌*ℤ◌, arith, sym, ◌∙◌, ap, List, [], length, All, lit<}
+use Rattle.std.proofs.lemmas.Int.{ints}
+use Rattle.std.proofs.Math.Nat.{pow-le-pow_right, pow-suc}
+use Rattle.std.proofs.lemmas.List.Elements.{All-from_get_or}
+use Rattle.fleet_math.specs.Sums.{power}
+use Rattle.fleet_math.proofs.SumLemmas.{power-add}
+use Rattle.fleet_math.specs.Bernstein.{at, bernstein}
+use Rattle.fleet_math.proofs.RingLemmas.{mul_assoc_ℤ}
+use Rattle.bezier_core.specs.declared.Bez.{Bez}
+use Rattle.bezier_core.specs.Steps.{IsWithin}
+use Rattle.fleet_math.specs.Numbers.{IsBelow}
+use Rattle.bezier_core.specs.Along.{along_value, controls}
+use Rattle.bezier_core.specs.Raised.{eight}
+use Rattle.bezier_core.proofs.CurveLemmas.{at-eight}
+use Rattle.bezier_core.proofs.EightLemmas.{same_eight, list_of_eight, controls_below}
+use Rattle.halving.specs.Part.{part_value, polar}
+use Rattle.halving.specs.Places.{IsPlace}
+use Rattle.halving.proofs.HalfLemmas.{bernstein-within}
+use Rattle.halving.proofs.PolarLemmas.{polar-same, part-part, part-whole}
+use Rattle.sep_parts.specs.declared.stack.Level.{Level}
+use Rattle.sep_parts.specs.Separates.{weights, first_low, part_along}
+use Rattle.sep_parts.specs.Levels.{IsLevel, left_half, right_half, root}
+use Rattle.sep_parts.proofs.Leaf.{power_seven}
+use Rattle.sep_parts.proofs.Lows.{first_low-same}
+
+power_split : (s : ℤ) (k : ℕ) → k ≤ 7 → power s (7 - k) *ℤ power s k ≡ power s 7
+power_split s k small = let e : 7 - k + k ≡ 7 = omega arith in sym (power-add s (7 - k) k) ∙ ap (λ (n : ℕ). power s n) e
+
+-- ---- how large the values of a part are
+part-within : (e m k : ℕ) (f : ℕ → ℤ) (b : ℤ) → m < 2 ^ e → k ≤ 7 → ((i : ℕ) → i ≤ 7 → IsWithin b (f i)) → IsWithin (pos (2 ^ (7 * e)) *ℤ b) (part_value e m f k)
+unfolding polar
+part-within e m k f b inside small within =
+    let s : ℤ = pos (2 ^ e) in
+    let inner : (i : ℕ) → i ≤ 7 - k → IsWithin (power s k *ℤ b) (bernstein k (λ l. f (i + l)) (pos (m + 1)) s) =
+    λ i low. bernstein-within k (λ l. f (i + l)) b (pos (m + 1)) s (omega (arith, ints)) (omega (arith, ints)) (λ l few. within (i + l) (omega arith)) in
+    let outer : IsWithin (power s (7 - k) *ℤ (power s k *ℤ b)) (part_value e m f k) =
+    bernstein-within (7 - k) (λ i. bernstein k (λ l. f (i + l)) (pos (m + 1)) s) (power s k *ℤ b) (pos m) s (omega (arith, ints)) (omega (arith, ints)) inner in
+    let e1 : power s (7 - k) *ℤ (power s k *ℤ b) ≡ pos (2 ^ (7 * e)) *ℤ b =
+    sym (mul_assoc_ℤ (power s (7 - k)) (power s k) b) ∙ ap (λ (z : ℤ). z *ℤ b) (power_split s k small ∙ power_seven e) in
+    rw e1 at outer
+
+below_wide : (p : ℕ) (x : ℤ) → p ≤ 2 ^ 56 → IsWithin (pos p *ℤ pos (2 ^ 30 - 1)) x → IsBelow (2 ^ 86) x
+below_wide p x few within = (omega (arith, ints), omega (arith, ints))
+
+within_of : (x : ℤ) → IsBelow (2 ^ 30) x → IsWithin (pos (2 ^ 30 - 1)) x
+within_of x below = (omega (arith, ints), omega (arith, ints))
+
+pub part-small : (e m k : ℕ) (f : ℕ → ℤ) → IsPlace e m → k ≤ 7 → ((i : ℕ) → i ≤ 7 → IsBelow (2 ^ 30) (f i)) → IsBelow (2 ^ 86) (part_value e m f k)
+part-small e m k f place small below =
+    let few : 7 * e ≤ 56 = omega (arith, place.0) in
+    below_wide (2 ^ (7 * e)) (part_value e m f k) (pow-le-pow_right {n = 2} (lit< tt) few)
+    (part-within e m k f (pos (2 ^ 30 - 1)) place.1 small (λ i low. within_of (f i) (below i low)))
+
+pub level_small : (diff : List (Bez 8)) (level : Level) → IsLevel diff level → All (λ (curve : Bez 8). All (IsBelow (2 ^ 30)) curve.b) diff →
+    All (λ (curve : Bez 8). All (IsBelow (2 ^ 86)) curve.b) level.part
+level_small diff level is small =
+    All-from_get_or (λ (curve : Bez 8). All (IsBelow (2 ^ 86)) curve.b) level.part (record { b = [] })
+    (λ axis inside. All-from_get_or (IsBelow (2 ^ 86)) (controls level.part axis) (pos 0) (λ k low. one axis k inside low))
+  where
+    one : (axis k : ℕ) → axis < length level.part → k < length (controls level.part axis) → IsBelow (2 ^ 86) (at (controls level.part axis) k)
+    one axis k inside low =
+        let axis_is : axis ≤ 2 = omega (arith, is.axes) in
+        let values : controls level.part axis ≡ eight (part_value level.place.depth level.place.index (at (controls diff axis))) = is.part axis axis_is in
+        let few : k ≤ 7 = omega (arith, ap (λ (xs : List ℤ). length xs) values) in
+        rw values (rw (at-eight (part_value level.place.depth level.place.index (at (controls diff axis))) k few)
+        (part-small level.place.depth level.place.index k (at (controls diff axis)) is.place few (λ i near. controls_below (2 ^ 30) diff axis i (lit< tt) small)))
+
+-- ---- halves
+half-part : (e m r : ℕ) (f : ℕ → ℤ) (b : List ℤ) → r ≤ 1 → b ≡ eight (part_value e m f) → eight (part_value 1 r (at b)) ≡ eight (part_value (e + 1) (2 * m + r) f)
+half-part e m r f b small is =
+    same_eight (part_value 1 r (at b)) (part_value (e + 1) (2 * m + r) f) (λ k low. one k (omega arith))
+  where
+    one : (k : ℕ) → k ≤ 7 → part_value 1 r (at b) k ≡ part_value (e + 1) (2 * m + r) f k
+    one k low =
+        let up : e + 1 ≡ suc e = omega arith in
+        rw up (polar-same (7 - k) k (at b) (part_value e m f) (pos r) (pos (r + 1)) (pos 2) (λ i near. ap (λ (xs : List ℤ). at xs i) is ∙ at-eight (part_value e m f) i (omega arith))
+        ∙ part-part e m r k f small low)
+
+next_depth : (e : ℕ) → 2 ^ (e + 1) ≡ 2 ^ e * 2
+next_depth e = let up : e + 1 ≡ suc e = omega arith in rw up (pow-suc 2 e)
+
+pub left_level : (diff part : List (Bez 8)) (level : Level) → IsLevel diff level → level.place.depth < 8 → length part ≡ 3 →
+    ((axis : ℕ) → axis ≤ 2 → controls part axis ≡ eight (part_value 1 0 (at (controls level.part axis)))) → IsLevel diff (record { place = left_half level.place; part = part })
+left_level diff part level is shallow len halves = record {
+  place = (omega arith, rw (next_depth level.place.depth) (omega (arith, is.place.1)));
+  axes = len;
+  part = λ axis small. halves axis small ∙ half-part level.place.depth level.place.index 0 (at (controls diff axis)) (controls level.part axis) (omega arith) (is.part axis small)
+      ∙ ap (λ (n : ℕ). eight (part_value (level.place.depth + 1) n (at (controls diff axis)))) (omega arith);
+}
+
+pub right_level : (diff part : List (Bez 8)) (level : Level) → IsLevel diff level → level.place.depth < 8 → length part ≡ 3 →
+    ((axis : ℕ) → axis ≤ 2 → controls part axis ≡ eight (part_value 1 1 (at (controls level.part axis)))) → IsLevel diff (record { place = right_half level.place; part = part })
+right_level diff part level is shallow len halves = record {
+  place = (omega arith, rw (next_depth level.place.depth) (omega (arith, is.place.1)));
+  axes = len;
+  part = λ axis small. halves axis small ∙ half-part level.place.depth level.place.index 1 (at (controls diff axis)) (controls level.part axis) (omega arith) (is.part axis small);
+}
+
+-- the whole curves are the part at the root
+pub root_level : (diff : List (Bez 8)) → length diff ≡ 3 → ((axis : ℕ) → axis ≤ 2 → length (controls diff axis) ≡ 8) → IsLevel diff (record { place = root; part = diff })
+root_level diff len sizes = record {
+  place = (omega arith, omega arith);
+  axes = len;
+  part = λ axis small. list_of_eight (controls diff axis) (sizes axis small)
+      ∙ same_eight (at (controls diff axis)) (part_value 0 0 (at (controls diff axis))) (λ k few. sym (part-whole (at (controls diff axis)) k));
+}
+
+-- ---- along a direction
+pub low-along : (diff : List (Bez 8)) (level : Level) (n : List ℤ) (r h : ℕ) (least : ℤ) → IsLevel diff level →
+    first_low (along_value level.part (weights n r h)) least ≡ first_low (part_along r h diff level.place n) least
+low-along diff level n r h least is =
+    first_low-same (along_value level.part (weights n r h)) (part_along r h diff level.place n) least (λ k small. one k small)
+  where
+    value : (axis k : ℕ) → axis ≤ 2 → k ≤ 7 → at (controls level.part axis) k ≡ part_value level.place.depth level.place.index (at (controls diff axis)) k
+    value axis k near small = ap (λ (xs : List ℤ). at xs k) (is.part axis near) ∙ at-eight (part_value level.place.depth level.place.index (at (controls diff axis))) k small
+
+    sums : {x y z u v w : ℤ} (a b c : ℤ) → x ≡ u → y ≡ v → z ≡ w → a *ℤ x +ℤ b *ℤ y +ℤ c *ℤ z ≡ a *ℤ u +ℤ b *ℤ v +ℤ c *ℤ w
+    sums {x} {y} {z} {u} {v} {w} a b c p q r = cc
+
+    one : (k : ℕ) → k ≤ 7 → along_value level.part (weights n r h) k ≡ part_along r h diff level.place n k
+    one k small = sums (at n 0 *ℤ pos h) (at n 1 *ℤ pos h) (at n 2 *ℤ pos r) (value 0 k (omega arith) small) (value 1 k (omega arith) small) (value 2 k (omega arith) small)

@@ -1,0 +1,101 @@
+-- From the raised differences to the decoded positions.
+use Rattle.std.proofs.Common.{◌≡◌, refl, ℕ, zero, suc, ◌*◌, ◌≤◌, ◌<◌, ℤ, pos, negsuc, neg_ℤ, ◌+ℤ◌, ◌-ℤ◌, ◌*ℤ◌, ◌<ℤ◌, arith, sym, subst, ◌∙◌, ap, List, length}
+use Rattle.std.proofs.lemmas.Int.{ints}
+use Rattle.fleet_math.specs.Sums.{power}
+use Rattle.fleet_math.specs.Bernstein.{at, bernstein}
+use Rattle.fleet_math.specs.Moments.{Moment}
+use Rattle.fleet_math.specs.Decoded as plain
+use Rattle.fleet_math.proofs.SumLemmas.{power-add}
+use Rattle.fleet_math.proofs.RingLemmas.{ring, linear, one_mul_ℤ, neg_mul_ℤ}
+use Rattle.fleet_math.proofs.DivisionLemmas.{lt_from_mul_ℤ}
+use Rattle.fleet_math.proofs.BernsteinLemmas.{bernstein-same, bernstein-mix, cong_add}
+use Rattle.bezier_core.specs.declared.Bez.{Bez}
+use Rattle.bezier_core.specs.Along.{controls}
+use Rattle.bezier_core.specs.Raised.{eight, raised}
+use Rattle.bezier_core.proofs.CurveLemmas.{at-eight, raise}
+use Rattle.traj_codec.specs.declared.traj.Traj.{Traj}
+use Rattle.traj_codec.specs.Positions.{decoded, points}
+use Rattle.sep_parts.specs.Raised.{Raised, curves_at, difference, less, raised_in}
+use Rattle.sep_parts.specs.Apart.{AreApart, gap}
+use Rattle.sep_parts.proofs.Directed.{IsApartRaised, cue_of}
+use Rattle.sep_parts.proofs.Standing.{has_points}
+
+-- ---- the gap is the difference of the curves, over 5,040
+minus_ring : (x y : ℤ) → pos 1 *ℤ x +ℤ negsuc 0 *ℤ y ≡ x -ℤ y
+minus_ring x y = cong_add (one_mul_ℤ x) (neg_mul_ℤ (pos 1) y ∙ ap (λ (z : ℤ). neg_ℤ z) (one_mul_ℤ y))
+
+-- the sum of differences is the difference of the sums
+difference_value : (f g : ℕ → ℤ) (a c : ℤ) → bernstein 7 (at (eight (λ k. f k -ℤ g k))) a c ≡ bernstein 7 f a c -ℤ bernstein 7 g a c
+difference_value f g a c =
+    bernstein-same 7 (at (eight (λ k. f k -ℤ g k))) (λ k. pos 1 *ℤ f k +ℤ negsuc 0 *ℤ g k) a c (λ k small. at-eight (λ k. f k -ℤ g k) k small ∙ sym (minus_ring (f k) (g k)))
+    ∙ bernstein-mix 7 (pos 1) (negsuc 0) f g a c ∙ minus_ring (bernstein 7 f a c) (bernstein 7 g a c)
+
+-- a drone's raised curves on an axis
+raised_axis : (t : Traj) (cue axis : ℕ) → axis ≤ 2 → controls (raised_in t cue) axis ≡ raised (points t cue axis)
+raised_axis t cue zero near = refl
+raised_axis t cue (suc zero) near = refl
+raised_axis t cue (suc (suc zero)) near = refl
+raised_axis t cue (suc (suc (suc k))) near = absurd (omega arith)
+
+-- the value of a raised curve is 5,040 times the decoded position
+curve_value : (t : Traj) (m : Moment) (axis : ℕ) (curves : List (Bez 8)) → curves ≡ raised_in t m.cue → m.cue < length t.segments → axis ≤ 2 → length (points t m.cue axis) ≤ 8 →
+    bernstein 7 (at (controls curves axis)) (pos m.a) (pos m.c) ≡ pos 5040 *ℤ decoded t axis m
+unfolding plain.decoded
+curve_value t m axis curves is inside near few =
+    ap (λ (cs : List (Bez 8)). bernstein 7 (at (controls cs axis)) (pos m.a) (pos m.c)) is
+    ∙ ap (λ (b : List ℤ). bernstein 7 (at b) (pos m.a) (pos m.c)) (raised_axis t m.cue axis near)
+    ∙ raise (points t m.cue axis) (length (points t m.cue axis)) (pos m.a) (pos m.c) refl (has_points t m.cue axis inside) few
+
+scale_minus : (s x y : ℤ) → s *ℤ x -ℤ s *ℤ y ≡ s *ℤ (x -ℤ y)
+scale_minus s x y = simp ring (omega (arith, linear))
+
+less_value : (t u : Traj) (m : Moment) (axis : ℕ) (first second : List (Bez 8)) → first ≡ raised_in t m.cue → second ≡ raised_in u m.cue →
+    m.cue < length t.segments → m.cue < length u.segments → axis ≤ 2 → length (points t m.cue axis) ≤ 8 → length (points u m.cue axis) ≤ 8 →
+    bernstein 7 (at (less second first axis).b) (pos m.a) (pos m.c) ≡ pos 5040 *ℤ gap t u m axis
+less_value t u m axis first second first_is second_is t_in u_in near t_few u_few =
+    difference_value (at (controls second axis)) (at (controls first axis)) (pos m.a) (pos m.c)
+    ∙ minus_same (curve_value u m axis second second_is u_in near u_few) (curve_value t m axis first first_is t_in near t_few)
+    ∙ scale_minus (pos 5040) (decoded u axis m) (decoded t axis m)
+  where
+    minus_same : {x y z w : ℤ} → x ≡ y → z ≡ w → x -ℤ z ≡ y -ℤ w
+    minus_same {x} {y} {z} {w} p q = cc
+
+-- ---- 5,040 cancels
+low_ring : (r s k : ℤ) → r *ℤ ((s *ℤ k) *ℤ (s *ℤ k)) ≡ (r *ℤ (k *ℤ k)) *ℤ (s *ℤ s)
+low_ring r s k = simp ring refl
+
+high_ring : (h r s x y z : ℤ) → h *ℤ ((s *ℤ x) *ℤ (s *ℤ x) +ℤ (s *ℤ y) *ℤ (s *ℤ y)) +ℤ r *ℤ ((s *ℤ z) *ℤ (s *ℤ z)) ≡ (h *ℤ (x *ℤ x +ℤ y *ℤ y) +ℤ r *ℤ (z *ℤ z)) *ℤ (s *ℤ s)
+high_ring h r s x y z = simp ring (omega (arith, linear))
+
+apart_unscaled : (r h g s k x y z : ℤ) → pos 0 <ℤ (s *ℤ s) →
+    (g *ℤ ((s *ℤ k) *ℤ (s *ℤ k))) <ℤ (h *ℤ ((s *ℤ x) *ℤ (s *ℤ x) +ℤ (s *ℤ y) *ℤ (s *ℤ y)) +ℤ r *ℤ ((s *ℤ z) *ℤ (s *ℤ z))) →
+    (g *ℤ (k *ℤ k)) <ℤ (h *ℤ (x *ℤ x +ℤ y *ℤ y) +ℤ r *ℤ (z *ℤ z))
+apart_unscaled r h g s k x y z positive apart =
+    lt_from_mul_ℤ (g *ℤ (k *ℤ k)) (h *ℤ (x *ℤ x +ℤ y *ℤ y) +ℤ r *ℤ (z *ℤ z)) (s *ℤ s) positive
+    (omega (arith, linear, low_ring g s k, high_ring h r s x y z))
+
+-- Where the raised differences are apart at a moment, the decoded positions are.
+pub decoded_apart : (curves : Raised) (a b r h : ℕ) (t u : Traj) (m : Moment) → curves_at curves a m.cue ≡ raised_in t m.cue → curves_at curves b m.cue ≡ raised_in u m.cue →
+    m.cue < length t.segments → m.cue < length u.segments → ((axis : ℕ) → axis ≤ 2 → length (points t m.cue axis) ≤ 8) → ((axis : ℕ) → axis ≤ 2 → length (points u m.cue axis) ≤ 8) →
+    IsApartRaised (cue_of (difference curves a b m.cue)) r h (pos m.a) (pos m.c) → AreApart t u r h m
+unfolding difference
+decoded_apart curves a b r h t u m first_is second_is t_in u_in t_few u_few apart =
+    let value : (axis : ℕ) → axis ≤ 2 → bernstein 7 (at (less (curves_at curves b m.cue) (curves_at curves a m.cue) axis).b) (pos m.a) (pos m.c) ≡ pos 5040 *ℤ gap t u m axis =
+    λ axis near. less_value t u m axis (curves_at curves a m.cue) (curves_at curves b m.cue) first_is second_is t_in u_in near (t_few axis near) (u_few axis near) in
+    record {
+      apart = subst (λ (z : ℤ). (pos (4 * (r * r) * (h * h)) *ℤ z) <ℤ (pos (h * h) *ℤ (gap t u m 0 *ℤ gap t u m 0 +ℤ gap t u m 1 *ℤ gap t u m 1) +ℤ pos (r * r) *ℤ (gap t u m 2 *ℤ gap t u m 2)))
+          (sym (power-add (pos m.c) 7 7))
+          (apart_unscaled (pos (r * r)) (pos (h * h)) (pos (4 * (r * r) * (h * h))) (pos 5040) (power (pos m.c) 7)
+          (gap t u m 0) (gap t u m 1) (gap t u m 2) (omega (arith, ints))
+          (rw (← value 0 (omega arith), ← value 1 (omega arith), ← value 2 (omega arith)) apart.apart));
+    }
+
+-- ---- the other way round
+turned : (x y : ℤ) → (x -ℤ y) *ℤ (x -ℤ y) ≡ (y -ℤ x) *ℤ (y -ℤ x)
+turned x y = simp ring (omega (arith, linear))
+
+-- The second drone is apart from the first where the first is from the second.
+pub apart_turned : (t u : Traj) (r h : ℕ) (m : Moment) → AreApart t u r h m → AreApart u t r h m
+apart_turned t u r h m apart = record {
+  apart = rw (turned (decoded t 0 m) (decoded u 0 m), turned (decoded t 1 m) (decoded u 1 m), turned (decoded t 2 m) (decoded u 2 m)) apart.apart;
+}

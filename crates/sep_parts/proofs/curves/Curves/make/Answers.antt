@@ -1,0 +1,34 @@
+use Rattle.std.proofs.Common.{◌≡◌, All, length, ap, subst, ◌∙◌, List, arith}
+use Rattle.std.specs.List.{flat_map}
+use Rattle.std.proofs.lemmas.List.{take_all}
+use Rattle.traj_codec.specs.declared.traj.Traj.{Traj}
+use Rattle.sep_parts.specs.Steps.{IsFormed, raised_traj}
+use Rattle.sep_parts.proofs.Fleets.{fleet_more, fleet_held, first_cues, all_more}
+use Rattle.sep_parts.proofs.Standing.{stands}
+use Rattle.sep_parts.proofs.curves.Curves.make.Goals as goal
+
+pub loop-t-preserved : goal.loop-t-preserved
+loop-t-preserved c = record {
+  curves = fleet_more raised_traj c.deref-t-items.result.now c.loop-t.t-index c.t-item.result c.loop-t.all.items c.add_traj.new.all.items c.loop-t-test.true c.t-item.is c.loop-t.invariant.curves c.in_ok-add_traj.ensures.curves;
+  formed = all_more (λ (t : Traj). All IsFormed t.segments) c.deref-t-items.result.now c.loop-t.t-index c.t-item.result c.loop-t-test.true c.loop-t.invariant.formed
+      (subst (λ (t : Traj). All IsFormed t.segments) c.t-item.is c.in_ok-add_traj.ensures.formed);
+  small = c.in_ok-add_traj.ensures.small;
+}
+
+pub invariant_of-result : goal.invariant_of-result
+invariant_of-result c =
+    let len : c.len.result ≡ length c.args.trajs.now.items = omega (arith, c.len.ensures, c.deref-t-items.ensures.len, ap (λ (ts : List Traj). length ts) c.deref-t-items.ensures.value) in
+    let curves_are : c.loop-t.all.items ≡ flat_map raised_traj c.args.trajs.now.items =
+    c.loop-t.invariant.curves ∙ ap (λ (ts : List Traj). flat_map raised_traj ts) (take_all c.loop-t.t-index c.deref-t-items.result.now c.loop-t-test.false ∙ c.deref-t-items.ensures.value) in
+    let cues : length c.as_slice.result.now ≡ length c.requires.0 = first_cues c.args.trajs.now.items c.requires.0 c.index.result.now c.as_slice.result.now c.requires.1 c.index.ensures c.as_slice.ensures in
+    fleet_held c.args.trajs.now.items c.requires.0 c.len.result (length c.as_slice.result.now) c.loop-t.all.items c.requires.1 len cues curves_are c.loop-t.invariant.small
+
+pub returns : goal.returns
+returns c =
+    let len : c.len.result ≡ length c.args.trajs.now.items = omega (arith, c.len.ensures, c.deref-t-items.ensures.len, ap (λ (ts : List Traj). length ts) c.deref-t-items.ensures.value) in
+    let curves_are : c.loop-t.all.items ≡ flat_map raised_traj c.args.trajs.now.items =
+    c.loop-t.invariant.curves ∙ ap (λ (ts : List Traj). flat_map raised_traj ts) (take_all c.loop-t.t-index c.deref-t-items.result.now c.loop-t-test.false ∙ c.deref-t-items.ensures.value) in
+    let cues : length c.as_slice.result.now ≡ length c.requires.0 = first_cues c.args.trajs.now.items c.requires.0 c.index.result.now c.as_slice.result.now c.requires.1 c.index.ensures c.as_slice.ensures in
+    stands _ c.args.trajs.now.items c.requires.0 c.requires.1
+    (subst (λ (ts : List Traj). All (λ (t : Traj). All IsFormed t.segments) ts) (take_all c.loop-t.t-index c.deref-t-items.result.now c.loop-t-test.false ∙ c.deref-t-items.ensures.value) c.loop-t.invariant.formed)
+    len cues curves_are

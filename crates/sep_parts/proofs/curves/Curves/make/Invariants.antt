@@ -1,0 +1,12 @@
+use Rattle.std.proofs.Common.{◌≡◌, take, All}
+use Rattle.std.specs.List.{flat_map}
+use Rattle.traj_codec.specs.declared.traj.Traj.{Traj}
+use Rattle.sep_parts.specs.Steps.{raised_traj, IsFormed, AreSmallCurves}
+use Rattle.sep_parts.proofs.curves.Curves.make.Given as goal
+
+abbrev pub invariant-loop-t : goal.invariant-loop-t
+invariant-loop-t l = record {
+  curves : l.all.items ≡ flat_map raised_traj (take l.t-index l.t-items);
+  formed : All (λ (t : Traj). All IsFormed t.segments) (take l.t-index l.t-items);
+  small : All AreSmallCurves l.all.items;
+}

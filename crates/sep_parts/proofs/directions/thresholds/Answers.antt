@@ -1,0 +1,13 @@
+use Rattle.std.proofs.Common.{rules, ◌≡◌, ℕ, ◌≤◌, List, ℤ, length, take, map, arith, sym, ◌∙◌, ap}
+use Rattle.std.proofs.lemmas.List.{take_all}
+use Rattle.sep_parts.specs.Directions.{threshold}
+use Rattle.sep_parts.proofs.directions.thresholds.Goals as goal
+
+whole : (f : List ℤ → ℤ) (m k : ℕ) (xs : List ℤ) (ys : List (List ℤ)) → length xs ≡ m → length ys ≡ m → m ≤ k → take k xs ≡ map f (take k ys) → xs ≡ map f ys
+whole f m k xs ys xs_len ys_len far done =
+    sym (take_all k xs (omega arith)) ∙ done ∙ ap (λ (zs : List (List ℤ)). map f zs) (take_all k ys (omega arith))
+
+pub returns : goal.returns
+returns g c =
+    let len : length c.args.dirs.now.n ≡ g.row.M = search rules in
+    whole (threshold c.args.r c.args.h) g.row.M c.loop-k.k c.loop-k.values c.args.dirs.now.n c.loop-k.invariant.same_length len (omega arith) c.loop-k.invariant.done

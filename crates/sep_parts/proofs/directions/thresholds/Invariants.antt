@@ -1,0 +1,9 @@
+use Rattle.std.proofs.Common.{◌≡◌, length, take, map}
+use Rattle.sep_parts.specs.Directions.{threshold}
+use Rattle.sep_parts.proofs.directions.thresholds.Given as goal
+
+abbrev pub invariant-loop-k : goal.invariant-loop-k
+invariant-loop-k g l = record {
+  same_length : length l.values ≡ g.row.M;
+  done : take l.k l.values ≡ map (threshold l.r l.h) (take l.k l.dirs.n);
+}

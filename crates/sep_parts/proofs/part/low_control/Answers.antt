@@ -1,0 +1,12 @@
+use Rattle.std.proofs.Common.{FitsSigned, ◌∙◌, ap, List, ℤ, int_lt}
+use Rattle.std.specs.List.{position}
+use Rattle.std.proofs.lemmas.Int.{to_z-of_z}
+use mir.Syntax.{w128}
+use Rattle.sep_parts.specs.Separates.{first_low, least_value}
+use Rattle.sep_parts.proofs.part.low_control.Goals as goal
+
+pub returns : goal.returns
+unfolding first_low
+returns c =
+    let fits : FitsSigned w128 c.args.threshold = c.ranges.threshold in
+    simp to_z-of_z at c.first_below.ensures ∙ ap (λ (xs : List ℤ). position (λ v. int_lt v (least_value c.args.threshold c.args.depth)) xs) c.projected.ensures.exact

@@ -1,0 +1,104 @@
+-- The directions along which two drones are told apart, and how far apart they must be along each.
+use Rattle.std.specs.Prelude.{◌≡◌, ◌⊎◌, ℕ, zero, suc, ◌*◌, ◌≤◌, ℤ, pos, negsuc, neg_ℤ, ◌+ℤ◌, ◌*ℤ◌, ◌≤ℤ◌, ◌<ℤ◌, Bool, true, false, not, ◌&&◌, ◌||◌, int_lt, List, [], ◌∷◌, map, filter, flat_map, unsigned_abs, slice_index_or, if◌then◌else◌}
+use Rattle.fleet_math.specs.Bernstein.{at}
+
+-- how many directions the table has
+abbrev pub direction_count : ℕ
+direction_count = 26
+
+-- a table has 26 directions, or 98
+abbrev pub IsTableSize : ℕ → Type 0
+IsTableSize m = (m ≡ 26) ⊎ (m ≡ 98)
+
+-- a half axis of an ellipsoid has 1 to 2,000 millimetres
+abbrev pub IsAxis : ℕ → Type 0
+IsAxis r = (1 ≤ r) × (r ≤ 2000)
+
+-- the three entries of a direction lie from -2 to 2
+pub record AreSmall (n : List ℤ) : Type 0 where
+  pub low : (k : ℕ) → k ≤ 2 → neg_ℤ (pos 2) ≤ℤ at n k
+  pub high : (k : ℕ) → k ≤ 2 → at n k ≤ℤ pos 2
+
+-- z lies from 0 to 4, as the square of an entry does
+abbrev pub IsEntrySquare : ℤ → Type 0
+IsEntrySquare z = (pos 0 ≤ℤ z) × (z ≤ℤ pos 4)
+
+-- n . n, the square of a direction's length
+abbrev pub length_squared : List ℤ → ℤ
+length_squared n = at n 0 *ℤ at n 0 +ℤ at n 1 *ℤ at n 1 +ℤ at n 2 *ℤ at n 2
+
+-- ---- the table
+abbrev pub entries : List ℤ
+entries = negsuc 0 ∷ pos 0 ∷ pos 1 ∷ []
+
+abbrev pub is_zero : ℤ → Bool
+is_zero x = not (int_lt x (pos 0)) && not (int_lt (pos 0) x)
+
+-- each of three numbers out of -1, 0 and 1, in lexicographic order
+abbrev pub triples : List (List ℤ)
+triples = flat_map (λ x. flat_map (λ y. map (λ z. x ∷ y ∷ z ∷ []) entries) entries) entries
+
+-- the directions: the triples that aren't all 0
+abbrev pub directions : List (List ℤ)
+directions = filter (λ n. not (is_zero (at n 0) && is_zero (at n 1) && is_zero (at n 2))) triples
+
+-- the one direction stands before the other in lexicographic order
+abbrev pub is_before : List ℤ → List ℤ → Bool
+is_before [] n = false
+is_before (x ∷ xs) [] = false
+is_before (x ∷ xs) (y ∷ ys) = int_lt x y || (not (int_lt y x) && is_before xs ys)
+
+-- each direction stands before the next one, so no two are the same
+abbrev pub is_rising : List (List ℤ) → Bool
+is_rising [] = true
+is_rising (m ∷ []) = true
+is_rising (m ∷ n ∷ rest) = is_before m n && is_rising (n ∷ rest)
+
+abbrev pub is_same : List ℤ → List ℤ → Bool
+is_same m n = not (is_before m n) && not (is_before n m)
+
+-- the direction stands in the table
+abbrev pub has : List (List ℤ) → List ℤ → Bool
+has [] n = false
+has (m ∷ rest) n = is_same m n || has rest n
+
+-- the opposite of each of these directions stands in the table
+abbrev pub are_closed : List (List ℤ) → List (List ℤ) → Bool
+are_closed table [] = true
+are_closed table (n ∷ rest) = has table (map neg_ℤ n) && are_closed table rest
+
+-- with each direction the table has the opposite one
+abbrev pub is_closed : List (List ℤ) → Bool
+is_closed table = are_closed table table
+
+-- the direction of a number, counted from 0; past the table no direction
+abbrev pub direction_of : List (List ℤ) → ℕ → List ℤ
+direction_of table dir = slice_index_or table dir []
+
+-- ---- thresholds
+-- the first number from k on whose square is above v, looking at n numbers
+abbrev pub root_from : ℤ → ℕ → ℕ → ℕ
+root_from v zero k = k
+root_from v (suc n) k = if int_lt v (pos (k * k)) then k else root_from v n (suc k)
+
+-- The least whole number whose square is above v: |v| + 1 numbers are enough to find one.
+unfoldable pub root_above : ℤ → ℕ
+root_above v = root_from v (suc (unsigned_abs v)) 0
+
+-- 4 r^2 h^2 (n . n)
+abbrev pub limit_along : ℕ → ℕ → List ℤ → ℤ
+limit_along r h n = pos (4 * (r * r) * (h * h)) *ℤ length_squared n
+
+-- The threshold of a direction: the least whole number that is not negative and whose square is above 4 r^2 h^2 (n . n).
+abbrev pub threshold : ℕ → ℕ → List ℤ → ℤ
+threshold r h n = pos (root_above (limit_along r h n))
+
+-- t is the least number that is not negative and whose square is above v
+pub record IsLeastRoot (v t : ℤ) : Type 0 where
+  pub not_negative : pos 0 ≤ℤ t
+  pub above : v <ℤ (t *ℤ t)
+  pub least : (s : ℤ) → pos 0 ≤ℤ s → v <ℤ (s *ℤ s) → t ≤ℤ s
+
+-- each threshold is that least number, whatever the half axes and the direction
+abbrev pub ThresholdLaw : Type 0
+ThresholdLaw = (r h : ℕ) (n : List ℤ) → IsLeastRoot (limit_along r h n) (threshold r h n)

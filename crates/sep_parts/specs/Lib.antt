@@ -1,0 +1,7 @@
+pub mod Directions
+pub mod Separates
+pub mod Raised
+pub mod Steps
+pub mod Apart
+pub mod Slots
+pub mod Levels

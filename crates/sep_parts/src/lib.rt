@@ -1,0 +1,21 @@
+//! What certificates of separation are made of: the directions with their thresholds, the raised curves of a fleet, the parts of
+//! a cue, and the order in which pairs and cues come.
+//!
+//! Drones are told apart along directions: where along one of them every control value of a part of the difference of two
+//! curves is at least that direction's threshold, the ellipsoids around the two drones share no point anywhere in that part.
+//! `sep_certificate` stands on it, and passes its public calls on.
+#![tactic(auto)]
+
+mod curves;
+mod directions;
+mod part;
+mod slot;
+mod stack;
+#[cfg(test)]
+mod tests;
+
+pub use curves::Curves;
+pub use directions::{DIRECTIONS, Dirs, table_law, threshold_law, thresholds};
+pub use part::{first_below, halves, low_control, projected, separates};
+pub use slot::Slot;
+pub use stack::{Level, Stack, level_halves};

@@ -1,0 +1,138 @@
+//! One part of three curves against one direction, and its halves.
+
+ghost use Rattle.std.specs.Prelude.{◌≡◌, ℕ, ◌+◌, ◌*◌, ◌^◌, ◌≤◌, ◌<◌, ℤ, pos, ◌+ℤ◌, ◌*ℤ◌, ◌≤ℤ◌, ◌<ℤ◌, int_lt, position, All, IsTrue, ◌↔◌, length};
+ghost use Rattle.fleet_math.specs.Numbers.{IsBelow};
+ghost use Rattle.fleet_math.specs.Bernstein.{at};
+ghost use Rattle.bezier_core.specs.Along.{along_value, controls};
+ghost use Rattle.bezier_core.specs.Raised.{eight};
+ghost use Rattle.halving.specs.Part.{part_value};
+ghost use Rattle.sep_parts.specs.Directions.{AreSmall, IsAxis};
+ghost use Rattle.sep_parts.specs.Separates.{first_low, least_value, weights};
+
+use bezier_core::{Bez, along};
+use halving::halve;
+
+/// Whether the direction `n` separates a part of the given depth: whether each control value of n_x h dx + n_y h dy + n_z r dz is
+/// at least the threshold, at the scale of raised curves and of the depth. `diff` has the part's control values on x, y and z.
+pub fn separates(diff: &[Bez<8>; 3], n: [i8; 3], r: u16, h: u16, threshold: i128, depth: u8) -> bool
+    requires values { All (λ curve. All (IsBelow (2 ^ 86)) curve.b) diff.now }
+    requires entries { AreSmall n }
+    requires r { IsAxis r }
+    requires h { IsAxis h }
+    requires positive { pos 0 ≤ℤ threshold }
+    requires small { threshold <ℤ pos (2 ^ 30) }
+    requires depth { depth ≤ 8 }
+    ensures { IsTrue result ↔ ((k : ℕ) → k ≤ 7 → least_value threshold depth ≤ℤ along_value diff.now (weights n r h) k) }
+{
+    low_control(diff, n, r, h, threshold, depth).is_none()
+}
+
+/// The place, 0 to 7, of the first control value along the direction that is below the threshold; none where the direction
+/// separates the part. Conditions as [`separates`].
+#[tactic(auto, unfolding(crate::specs::Separates::first_low))]
+pub fn low_control(
+    diff: &[Bez<8>; 3],
+    n: [i8; 3],
+    r: u16,
+    h: u16,
+    threshold: i128,
+    depth: u8,
+) -> Option<usize>
+    requires values { All (λ curve. All (IsBelow (2 ^ 86)) curve.b) diff.now }
+    requires entries { AreSmall n }
+    requires r { IsAxis r }
+    requires h { IsAxis h }
+    requires positive { pos 0 ≤ℤ threshold }
+    requires small { threshold <ℤ pos (2 ^ 30) }
+    requires depth { depth ≤ 8 }
+    ensures { result ≡ first_low (along_value diff.now (weights n r h)) (least_value threshold depth) }
+{
+    first_below(&projected(diff, n, r, h), threshold, depth)
+}
+
+/// Three curves along a direction: the weighted sums n_x h dx + n_y h dy + n_z r dz of their control values. None comes to 2^104.
+pub fn projected(diff: &[Bez<8>; 3], n: [i8; 3], r: u16, h: u16) -> Bez<8>
+    requires values { All (λ curve. All (IsBelow (2 ^ 86)) curve.b) diff.now }
+    requires entries { AreSmall n }
+    requires r { IsAxis r }
+    requires h { IsAxis h }
+    ensures exact { result.b ≡ eight (along_value diff.now (weights n r h)) }
+    ensures small { All (IsBelow (2 ^ 104)) result.b }
+{
+    along(diff, weights(n, r, h))
+}
+
+/// The place, 0 to 7, of the first control value below the threshold, at the scale of raised curves and of the depth.
+pub fn first_below(curve: &Bez<8>, threshold: i128, depth: u8) -> Option<usize>
+    requires positive { pos 0 ≤ℤ threshold }
+    requires small { threshold <ℤ pos (2 ^ 30) }
+    requires depth { depth ≤ 8 }
+    ensures { result ≡ position (λ v. int_lt v (least_value threshold depth)) curve.now.b }
+{
+    let least = scaled(threshold, depth);
+    curve.b.iter().position(|v| *v < least)
+}
+
+// The weights of the three curves along a direction.
+fn weights(n: [i8; 3], r: u16, h: u16) -> [i128; 3]
+    requires entries { AreSmall n }
+    requires r { IsAxis r }
+    requires h { IsAxis h }
+    ensures exact { result ≡ weights n r h }
+    ensures small { All (IsBelow 4001) result }
+{
+    [weight(n[0], h), weight(n[1], h), weight(n[2], r)]
+}
+
+// An entry times a half axis.
+fn weight(entry: i8, axis: u16) -> i128
+    requires entry { IsBelow 3 entry }
+    requires axis { IsAxis axis }
+    ensures exact { result ≡ entry *ℤ pos axis }
+    ensures small { IsBelow 4001 result }
+{
+    entry as i128 * axis as i128
+}
+
+// The threshold at the scale of a depth.
+fn scaled(threshold: i128, depth: u8) -> i128
+    requires positive { pos 0 ≤ℤ threshold }
+    requires small { threshold <ℤ pos (2 ^ 30) }
+    requires depth { depth ≤ 8 }
+    ensures { result ≡ least_value threshold depth }
+{
+    threshold * scale(depth)
+}
+
+// 5,040 times 2 to the 7 times the depth.
+fn scale(depth: u8) -> i128
+    requires { depth ≤ 8 }
+    ensures exact { result ≡ pos (5040 * 2 ^ (7 * depth)) }
+    ensures positive { pos 0 ≤ℤ result }
+    ensures small { result ≤ℤ pos (2 ^ 70) }
+{
+    match depth {
+        0 => 5040,
+        1 => 5040 << 7,
+        2 => 5040 << 14,
+        3 => 5040 << 21,
+        4 => 5040 << 28,
+        5 => 5040 << 35,
+        6 => 5040 << 42,
+        7 => 5040 << 49,
+        _ => 5040 << 56,
+    }
+}
+
+/// The left and the right halves of three curves, each times 2 to the 7.
+pub fn halves(part: &[Bez<8>; 3]) -> ([Bez<8>; 3], [Bez<8>; 3])
+    requires { All (λ curve. All (IsBelow (2 ^ 118)) curve.b) part.now }
+    ensures sizes { (length result.0 ≡ 3) × (length result.1 ≡ 3) }
+    ensures left { (axis : ℕ) → axis ≤ 2 → controls result.0 axis ≡ eight (part_value 1 0 (at (controls part.now axis))) }
+    ensures right { (axis : ℕ) → axis ≤ 2 → controls result.1 axis ≡ eight (part_value 1 1 (at (controls part.now axis))) }
+{
+    let (x_left, x_right) = halve(&part[0]);
+    let (y_left, y_right) = halve(&part[1]);
+    let (z_left, z_right) = halve(&part[2]);
+    ([x_left, y_left, z_left], [x_right, y_right, z_right])
+}

@@ -1,0 +1,55 @@
+//! Which pair of drones and which cue a tree is for.
+
+ghost use Rattle.std.specs.Prelude.{◌≡◌, ◌+◌, ◌-◌, ◌<◌, ◌≤◌, [], ◌∷◌, ◌++◌};
+
+/// A pair of drones and a cue, each counted from 0. Past the last pair of a show, `b` is none of its drones.
+#[derive(Clone, Copy, Debug, PartialEq, Eq)]
+pub struct Slot {
+    /// The first drone of the pair.
+    pub a: u8,
+    /// The second drone, above the first.
+    pub b: u8,
+    /// The cue.
+    pub cue: u8,
+}
+
+impl Slot {
+    ghost use Rattle.traj_codec.specs.Spelling.{most_segments};
+    ghost use Rattle.sep_parts.specs.Raised.{most_drones};
+    ghost use Rattle.sep_parts.specs.Slots.{IsSlot, following};
+
+    /// The first pair and cue.
+    pub fn first() -> Slot
+        ensures { result ≡ record { a = 0; b = 1; cue = 0 } }
+    {
+        Slot { a: 0, b: 1, cue: 0 }
+    }
+
+    /// The pair and cue behind this one: the next cue of the pair, else the next second drone, else the next first drone.
+    pub fn next(&self, drones: usize, cues: usize) -> Slot
+        requires drones { drones ≤ most_drones }
+        requires cues { cues ≤ most_segments }
+        requires slot { IsSlot drones cues self.now }
+        ensures { result ≡ following drones cues self.now }
+    {
+        if (self.cue as usize + 1) < cues {
+            Slot {
+                a: self.a,
+                b: self.b,
+                cue: self.cue + 1,
+            }
+        } else if (self.b as usize + 1) < drones {
+            Slot {
+                a: self.a,
+                b: self.b + 1,
+                cue: 0,
+            }
+        } else {
+            Slot {
+                a: self.a + 1,
+                b: self.a + 2,
+                cue: 0,
+            }
+        }
+    }
+}
