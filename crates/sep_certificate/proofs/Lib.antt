@@ -1,0 +1,10 @@
+pub mod Covers
+pub mod Stacks
+pub mod Walks
+pub mod Verdicts
+pub mod Members
+pub mod Keeping
+pub mod Spelled
+pub mod Readers
+pub mod FirstLines
+pub mod TextLaws

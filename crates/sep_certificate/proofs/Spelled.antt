@@ -1,0 +1,130 @@
+-- Bytes that spell trees.
+use Rattle.std.proofs.Common.{◌≡◌, inl, inr, ℕ, zero, suc, ◌+◌, ◌-◌, ◌≤◌, ◌<◌, Bool, true, false, cond, ◌&&◌, ◌==◌, nat_le, arith, refl, sym, ◌∙◌, ap, List, [], ◌∷◌, ◌++◌, append_assoc, append-nil, length, drop, get_or, map, All}
+use Rattle.std.proofs.Math.Seq.{drop-cons}
+use Rattle.std.proofs.lemmas.Bool.Decides.{nat_tests}
+use Rattle.std.proofs.lemmas.List.Elements.{All-cons}
+use Rattle.sep_certificate.specs.declared.certificate.Node.{Node}
+use Rattle.sep_certificate.specs.declared.certificate.Node.TheVariants.{Split, Leaf}
+use Rattle.sep_certificate.specs.Certificates.{Tree, IsTree, IsKnown, preorder}
+use Rattle.sep_certificate.specs.Certificates.Tree.{leaf, split}
+use Rattle.sep_certificate.specs.Steps.{IsNodeByte, node_of_byte}
+use Rattle.sep_certificate.specs.Texts.{is_spelled, is_letter, node_byte, tree_line}
+
+pub spelled_none : (line : List ℕ) (i : ℕ) → i < length line → is_spelled 0 (drop i line) ≡ false
+spelled_none line i inside = rw (drop-cons line i 0) refl
+
+split_test : (n b : ℕ) (rest : List ℕ) → b ≡ 46 → is_spelled (suc n) (b ∷ rest) ≡ is_spelled (suc (suc n)) rest
+split_test n b rest e = rw e refl
+
+letter_tests : (b : ℕ) → 97 ≤ b → b ≤ 122 → ((b == 46) ≡ false) × (nat_le 97 b ≡ true) × (nat_le b 122 ≡ true)
+letter_tests b low high = (grind (arith, nat_tests), grind (arith, nat_tests), grind (arith, nat_tests))
+
+pub leaf_test : (n b : ℕ) (rest : List ℕ) → 97 ≤ b → b ≤ 122 → is_spelled (suc n) (b ∷ rest) ≡ is_spelled n rest
+leaf_test n b rest low high = let tests = letter_tests b low high in rw (tests.0, tests.1, tests.2) refl
+
+pub spelled_split : (line : List ℕ) (n m i : ℕ) → i < length line → 1 ≤ n → m ≡ n + 1 → get_or line i 0 ≡ 46 → is_spelled m (drop (i + 1) line) ≡ is_spelled n (drop i line)
+spelled_split line zero m i inside some m_is e = absurd (omega arith)
+spelled_split line (suc n) m i inside some m_is e =
+    let up : i + 1 ≡ suc i = omega arith in
+    let more : m ≡ suc (suc n) = omega arith in
+    rw (up, more, drop-cons line i 0) (sym (split_test n (get_or line i 0) (drop (suc i) line) e))
+
+pub spelled_leaf : (line : List ℕ) (n m i : ℕ) → i < length line → m + 1 ≡ n → 97 ≤ get_or line i 0 → get_or line i 0 ≤ 122 → is_spelled m (drop (i + 1) line) ≡ is_spelled n (drop i line)
+spelled_leaf line n m i inside n_is low high =
+    let up : i + 1 ≡ suc i = omega arith in
+    let more : n ≡ suc m = omega arith in
+    rw (up, more, drop-cons line i 0) (sym (leaf_test m (get_or line i 0) (drop (suc i) line) low high))
+
+-- ---- what bytes that pass spell
+-- the nodes are so many trees, one behind the other
+abbrev IsForest : ℕ → List Node → Type 0
+IsForest zero nodes = nodes ≡ []
+IsForest (suc n) nodes = (tree : Tree) × (rest : List Node) × (nodes ≡ preorder tree ++ rest) × IsForest n rest
+
+joined : (n : ℕ) (nodes : List Node) → IsForest (suc (suc n)) nodes → IsForest (suc n) (Split ∷ nodes)
+joined n nodes (left, rest, is, (right, more, rest_is, forest)) = (
+  split left right,
+  more,
+  ap (λ (ns : List Node). Split ∷ ns) (is ∙ ap (λ (ns : List Node). preorder left ++ ns) rest_is ∙ sym (append_assoc (preorder left) (preorder right) more)),
+  forest,
+)
+
+-- the nodes that bytes spell as so many trees
+abbrev IsSpelling : ℕ → List ℕ → Type 0
+IsSpelling n line = (nodes : List Node) × (line ≡ tree_line nodes) × IsForest n nodes × All (IsKnown 26) nodes
+
+letter_told : (b : ℕ) → is_letter b ≡ true → (97 ≤ b) × (b ≤ 122)
+letter_told b e = go (nat_le 97 b) (nat_le b 122) refl refl e
+  where
+    go : (s t : Bool) → nat_le 97 b ≡ s → nat_le b 122 ≡ t → (s && t) ≡ true → (97 ≤ b) × (b ≤ 122)
+    go true true p q e = (grind (arith, nat_tests), grind (arith, nat_tests))
+    go true false p q e = cc
+    go false t p q e = cc
+
+dot_told : (b : ℕ) → (b == 46) ≡ true → b ≡ 46
+dot_told b e = grind (arith, nat_tests)
+
+dot_first : (n b : ℕ) (bytes : List ℕ) → b ≡ 46 → IsSpelling (suc (suc n)) bytes → IsSpelling (suc n) (b ∷ bytes)
+dot_first n b bytes e (nodes, is, forest, known) = (Split ∷ nodes, cc, joined n nodes forest, All-cons (IsKnown 26) Split nodes tt known)
+
+leaf_first : (n b : ℕ) (bytes : List ℕ) → 97 ≤ b → b ≤ 122 → IsSpelling n bytes → IsSpelling (suc n) (b ∷ bytes)
+leaf_first n b bytes low high (nodes, is, forest, known) =
+    let e : b ≡ 97 + (b - 97) = omega arith in
+    (Leaf (b - 97) ∷ nodes, cc, (leaf (b - 97), nodes, refl, forest), All-cons (IsKnown 26) (Leaf (b - 97)) nodes (omega arith) known)
+
+pub forest_of : (line : List ℕ) (n : ℕ) → is_spelled n line ≡ true → IsSpelling n line
+forest_of [] zero e = ([], refl, refl, λ k d inside. absurd (omega arith))
+forest_of [] (suc n) e = absurd (cc)
+forest_of (b ∷ bytes) zero e = absurd (cc)
+forest_of (b ∷ bytes) (suc n) e = go (b == 46) (is_letter b) refl refl e (forest_of bytes (suc (suc n))) (forest_of bytes n)
+  where
+    go : (s t : Bool) → (b == 46) ≡ s → is_letter b ≡ t → cond s (is_spelled (suc (suc n)) bytes) (cond t (is_spelled n bytes) false) ≡ true →
+        (is_spelled (suc (suc n)) bytes ≡ true → IsSpelling (suc (suc n)) bytes) → (is_spelled n bytes ≡ true → IsSpelling n bytes) → IsSpelling (suc n) (b ∷ bytes)
+    go true t p q e two one = dot_first n b bytes (dot_told b p) (two e)
+    go false true p q e two one = leaf_first n b bytes (letter_told b q).0 (letter_told b q).1 (one e)
+    go false false p q e two one = absurd (cc)
+
+-- a line that passes is one whole tree
+pub tree_of_line : (line : List ℕ) → is_spelled 1 line ≡ true → (nodes : List Node) × (line ≡ tree_line nodes) × IsTree nodes × All (IsKnown 26) nodes
+tree_of_line line e = close (forest_of line 1 e)
+  where
+    close : IsSpelling 1 line → (nodes : List Node) × (line ≡ tree_line nodes) × IsTree nodes × All (IsKnown 26) nodes
+    close (nodes, is, (tree, rest, nodes_are, none), known) =
+        (nodes, is, (tree, nodes_are ∙ ap (λ (ns : List Node). preorder tree ++ ns) none ∙ append-nil (preorder tree)), known)
+
+-- ---- from bytes to nodes
+back : (node : Node) → node_of_byte (node_byte node) ≡ node
+back Split = refl
+back (Leaf dir) = let e : ((97 + dir) == 46) ≡ false = grind (arith, nat_tests) in let f : 97 + dir - 97 ≡ dir = omega arith in rw e (ap (λ (n : ℕ). Leaf n) f)
+
+pub all_back : (nodes : List Node) → map node_of_byte (tree_line nodes) ≡ nodes
+all_back [] = refl
+all_back (node ∷ nodes) = two (back node) (all_back nodes)
+  where
+    two : {x y : Node} {xs ys : List Node} → x ≡ y → xs ≡ ys → x ∷ xs ≡ y ∷ ys
+    two {x} {y} {xs} {ys} p q = cc
+
+node_byte_told : (node : Node) → IsNodeByte (node_byte node)
+node_byte_told Split = inl refl
+node_byte_told (Leaf dir) = inr (omega arith)
+
+bytes_told : (nodes : List Node) (i : ℕ) → i < length (tree_line nodes) → IsNodeByte (get_or (tree_line nodes) i 0)
+bytes_told [] i inside = absurd (omega arith)
+bytes_told (node ∷ nodes) zero inside = node_byte_told node
+bytes_told (node ∷ nodes) (suc i) inside = bytes_told nodes i (omega arith)
+
+pub node_byte_at : (line : List ℕ) (i : ℕ) → is_spelled 1 line ≡ true → i < length line → IsNodeByte (get_or line i 0)
+node_byte_at line i e inside = go (tree_of_line line e)
+  where
+    go : (nodes : List Node) × (line ≡ tree_line nodes) × IsTree nodes × All (IsKnown 26) nodes → IsNodeByte (get_or line i 0)
+    go (nodes, is, tree, known) = rw is (bytes_told nodes i (omega (arith, ap (λ (xs : List ℕ). length xs) is)))
+
+-- the nodes of a line
+pub line_told : (line : List ℕ) → is_spelled 1 line ≡ true → (line ≡ tree_line (map node_of_byte line)) × IsTree (map node_of_byte line) × All (IsKnown 26) (map node_of_byte line)
+line_told line e = go (tree_of_line line e)
+  where
+    go : (nodes : List Node) × (line ≡ tree_line nodes) × IsTree nodes × All (IsKnown 26) nodes →
+        (line ≡ tree_line (map node_of_byte line)) × IsTree (map node_of_byte line) × All (IsKnown 26) (map node_of_byte line)
+    go (nodes, is, tree, known) =
+        let nodes_are : map node_of_byte line ≡ nodes = ap (λ (xs : List ℕ). map node_of_byte xs) is ∙ all_back nodes in
+        rw nodes_are (is, tree, known)

@@ -1,0 +1,81 @@
+-- The stack of a tree, and the first fault of what is left of its nodes.
+use Rattle.std.proofs.Common.{◌≡◌, ℕ, suc, ◌+◌, ◌≤◌, ◌<◌, arith, refl, sym, ◌∙◌, ap, List, [], ◌∷◌, ◌++◌, length, drop, get_or, Option, Some, None, ℤ, All}
+use Rattle.std.specs.Option.{option_or}
+use Rattle.std.proofs.Math.Seq.{drop-cons}
+use Rattle.std.proofs.lemmas.List.{drop_all}
+use Rattle.std.proofs.lemmas.List.Elements.{All-get_or}
+use Rattle.sep_parts.proofs.Parts.{root_level}
+use Rattle.bezier_core.specs.declared.Bez.{Bez}
+use Rattle.halving.specs.declared.Place.{Place}
+use Rattle.sep_parts.specs.declared.stack.Level.{Level}
+use Rattle.sep_parts.specs.declared.slot.Slot.{Slot}
+use Rattle.sep_certificate.specs.declared.judge.Rules.{Rules}
+use Rattle.sep_certificate.specs.declared.certificate.Node.{Node}
+use Rattle.sep_certificate.specs.declared.certificate.CertFault.{CertFault}
+use Rattle.sep_certificate.specs.Certificates.{first_fault, node_fault, places_below}
+use Rattle.sep_parts.specs.Levels.{IsLevel, IsStack, left_half, places_of, right_half, root}
+
+-- a stack with the two halves of a level on it
+pub pushed : (diff : List (Bez 8)) (level left right : Level) (old middle new : List Level) →
+    IsStack diff old → length old ≤ level.place.depth → left.place ≡ left_half level.place → right.place ≡ right_half level.place →
+    IsLevel diff left → IsLevel diff right → middle ≡ right ∷ old → new ≡ left ∷ middle → IsStack diff new
+pushed diff level left right old middle new is room left_is right_is left_level right_level middle_is new_is =
+    let left_depth : left.place.depth ≡ level.place.depth + 1 = ap (λ (p : Place). p.depth) left_is in
+    let right_depth : right.place.depth ≡ level.place.depth + 1 = ap (λ (p : Place). p.depth) right_is in
+    rw (new_is, middle_is) (omega (arith, left_depth), left_level, (omega (arith, right_depth), right_level, is))
+
+-- a stack of the whole cue
+pub first_stack : (diff : List (Bez 8)) (stack : List Level) → length diff ≡ 3 → All (λ (curve : Bez 8). length curve.b ≡ 8) diff → stack ≡ record { place = root; part = diff } ∷ [] → IsStack diff stack
+first_stack diff stack len sizes is =
+    rw is (omega arith, root_level diff len (λ axis small. All-get_or (λ (curve : Bez 8). length curve.b ≡ 8) diff axis (record { b = [] }) (omega arith) sizes), tt)
+
+-- ---- the first fault
+module _ (rules : Rules) (dirs : List (List ℤ)) (diff : List (Bez 8)) (slot : Slot) where
+  pub nothing_pending : (nodes : List Node) → first_fault rules dirs diff slot [] nodes ≡ None
+  unfolding first_fault
+  nothing_pending [] = refl
+  nothing_pending (node ∷ nodes) = refl
+
+  pub nothing_left : (places : List Place) → first_fault rules dirs diff slot places [] ≡ None
+  unfolding first_fault
+  nothing_left places = refl
+
+  step : (place : Place) (places : List Place) (node : Node) (nodes : List Node) →
+      first_fault rules dirs diff slot (place ∷ places) (node ∷ nodes)
+      ≡ option_or (node_fault rules dirs diff slot place node) (first_fault rules dirs diff slot (places_below place node ++ places) nodes)
+  unfolding first_fault
+  step place places node nodes = refl
+
+  -- what is left from a node on
+  pub left_from : (level : Level) (stack rest : List Level) (nodes : List Node) (i : ℕ) (d : Node) → i < length nodes → stack ≡ level ∷ rest →
+      first_fault rules dirs diff slot (places_of stack) (drop i nodes)
+      ≡ option_or (node_fault rules dirs diff slot level.place (get_or nodes i d)) (first_fault rules dirs diff slot (places_below level.place (get_or nodes i d) ++ places_of rest) (drop (suc i) nodes))
+  left_from level stack rest nodes i d inside is =
+      rw (is, drop-cons nodes i d) (step level.place (places_of rest) (get_or nodes i d) (drop (suc i) nodes))
+
+  -- a faulty node is the first fault
+  pub faulty : (level : Level) (stack rest : List Level) (nodes : List Node) (i : ℕ) (d : Node) (fault : CertFault) (whole : Option CertFault) → i < length nodes → stack ≡ level ∷ rest →
+      node_fault rules dirs diff slot level.place (get_or nodes i d) ≡ Some fault →
+      first_fault rules dirs diff slot (places_of stack) (drop i nodes) ≡ whole → Some fault ≡ whole
+  faulty level stack rest nodes i d fault whole inside is bad same =
+      sym (ap (λ (o : Option CertFault). option_or o (first_fault rules dirs diff slot (places_below level.place (get_or nodes i d) ++ places_of rest) (drop (suc i) nodes))) bad)
+      ∙ sym (left_from level stack rest nodes i d inside is) ∙ same
+
+  -- behind a node that is not faulty the first fault stays the same
+  pub clean : (level : Level) (stack rest next : List Level) (nodes : List Node) (i : ℕ) (d : Node) (whole : Option CertFault) → i < length nodes → stack ≡ level ∷ rest →
+      node_fault rules dirs diff slot level.place (get_or nodes i d) ≡ None →
+      places_of next ≡ places_below level.place (get_or nodes i d) ++ places_of rest →
+      first_fault rules dirs diff slot (places_of stack) (drop i nodes) ≡ whole → first_fault rules dirs diff slot (places_of next) (drop (i + 1) nodes) ≡ whole
+  clean level stack rest next nodes i d whole inside is good places same =
+      let up : i + 1 ≡ suc i = omega arith in
+      rw (up, places)
+      (sym (ap (λ (o : Option CertFault). option_or o (first_fault rules dirs diff slot (places_below level.place (get_or nodes i d) ++ places_of rest) (drop (suc i) nodes))) good)
+      ∙ sym (left_from level stack rest nodes i d inside is) ∙ same)
+
+  pub pending_none : (stack : List Level) (nodes : List Node) (i : ℕ) (whole : Option CertFault) → stack ≡ [] →
+      first_fault rules dirs diff slot (places_of stack) (drop i nodes) ≡ whole → None ≡ whole
+  pending_none stack nodes i whole is same = sym (nothing_pending (drop i nodes)) ∙ ap (λ (s : List Level). first_fault rules dirs diff slot (places_of s) (drop i nodes)) (sym is) ∙ same
+
+  pub left_none : (stack : List Level) (nodes : List Node) (i : ℕ) (whole : Option CertFault) → length nodes ≤ i →
+      first_fault rules dirs diff slot (places_of stack) (drop i nodes) ≡ whole → None ≡ whole
+  left_none stack nodes i whole far same = sym (nothing_left (places_of stack)) ∙ ap (λ (ns : List Node). first_fault rules dirs diff slot (places_of stack) ns) (sym (drop_all i nodes far)) ∙ same

@@ -1,0 +1,109 @@
+-- Certificates: trees of places, the lists that spell them, and when they are valid.
+use Rattle.std.specs.Prelude.{◌≡◌, ℕ, suc, ◌^◌, ◌≤◌, ◌<◌, ℤ, nat_lt, List, [], ◌∷◌, ◌++◌, length, Option, Some, None, if◌then◌else◌, All}
+use Rattle.std.specs.Option.{option_map, option_or}
+use Rattle.bezier_core.specs.declared.Bez.{Bez}
+use Rattle.halving.specs.declared.Place.{Place}
+use Rattle.sep_certificate.specs.declared.certificate.Node.{Node}
+use Rattle.sep_certificate.specs.declared.certificate.Node.TheVariants.{Split, Leaf}
+use Rattle.sep_certificate.specs.declared.certificate.CertFault.{CertFault}
+use Rattle.sep_certificate.specs.declared.certificate.CertFault.TheVariants.{Missing, Extra, TooDeep, Fails}
+use Rattle.sep_certificate.specs.declared.certificate.Certificate.{Certificate}
+use Rattle.sep_parts.specs.declared.slot.Slot.{Slot}
+use Rattle.sep_certificate.specs.declared.judge.Rules.{Rules}
+use Rattle.sep_parts.specs.Directions.{direction_of}
+use Rattle.sep_parts.specs.Separates.{Separates, low_value}
+use Rattle.sep_parts.specs.Slots.{slots}
+use Rattle.sep_parts.specs.Levels.{left_half, right_half, root}
+use Rattle.sep_parts.specs.Raised.{Raised, difference}
+
+-- ---- trees
+-- a tree of places: a leaf names a direction by its number, a split has the two halves
+pub data Tree : Type 0 where
+  leaf : ℕ → Tree
+  split : Tree → Tree → Tree
+
+-- the list that spells a tree: its nodes in preorder
+abbrev pub preorder : Tree → List Node
+preorder (leaf dir) = Leaf dir ∷ []
+preorder (split left right) = Split ∷ preorder left ++ preorder right
+
+-- the list spells a tree
+abbrev pub IsTree : List Node → Type 0
+IsTree nodes = (tree : Tree) × (nodes ≡ preorder tree)
+
+-- each leaf of a tree names one of so many directions
+abbrev pub IsKnown : ℕ → Node → Type 0
+IsKnown m Split = Unit {0}
+IsKnown m (Leaf dir) = dir < m
+
+-- A certificate is whole: its depth is at most 8, it has fewer than 2^31 trees,
+-- each of them is one whole tree in preorder, and each leaf names one of the directions.
+pub record IsWhole (m : ℕ) (cert : Certificate) : Type 0 where
+  pub depth : cert.depth ≤ 8
+  pub few : length cert.trees < 2 ^ 31
+  pub trees : All IsTree cert.trees
+  pub leaves : All (All (IsKnown m)) cert.trees
+
+-- ---- validity
+-- At a place of a pair and a cue, whose raised differences these are: no split stands at the depth or below it, and each
+-- leaf's direction separates its place.
+abbrev pub IsValidTree : Rules → List (List ℤ) → List (Bez 8) → Place → Tree → Type 0
+IsValidTree rules dirs diff place (leaf dir) = Separates rules.r rules.h diff place (direction_of dirs dir)
+IsValidTree rules dirs diff place (split left right) =
+    (place.depth < rules.depth) × IsValidTree rules dirs diff (left_half place) left × IsValidTree rules dirs diff (right_half place) right
+
+-- the list spells a tree that is valid for the slot
+abbrev pub IsValidAt : Rules → List (List ℤ) → Raised → Slot → List Node → Type 0
+IsValidAt rules dirs curves slot nodes =
+    (tree : Tree) × (nodes ≡ preorder tree) × IsValidTree rules dirs (difference curves slot.a slot.b slot.cue) root tree
+
+-- there is one tree for each slot, and each is valid
+abbrev pub AreValid : Rules → List (List ℤ) → Raised → List Slot → List (List Node) → Type 0
+AreValid rules dirs curves [] [] = Unit {0}
+AreValid rules dirs curves [] (nodes ∷ trees) = ⊥
+AreValid rules dirs curves (slot ∷ slots) [] = ⊥
+AreValid rules dirs curves (slot ∷ slots) (nodes ∷ trees) =
+    IsValidAt rules dirs curves slot nodes × AreValid rules dirs curves slots trees
+
+-- ---- the first fault
+-- what is wrong with a node at a place
+abbrev pub node_fault : Rules → List (List ℤ) → List (Bez 8) → Slot → Place → Node → Option CertFault
+node_fault rules dirs diff slot place Split =
+    if nat_lt place.depth rules.depth then None else Some (TooDeep slot.a slot.b slot.cue)
+node_fault rules dirs diff slot place (Leaf dir) =
+    option_map (Fails slot.a slot.b slot.cue place dir) (low_value rules.r rules.h diff place (direction_of dirs dir))
+
+-- the places that stand behind a node's place in preorder, before the others
+abbrev pub places_below : Place → Node → List Place
+places_below place Split = left_half place ∷ right_half place ∷ []
+places_below place (Leaf dir) = []
+
+-- The first fault of a list of nodes in preorder, whose trees stand at these places.
+unfoldable pub first_fault : Rules → List (List ℤ) → List (Bez 8) → Slot → List Place → List Node → Option CertFault
+first_fault rules dirs diff slot places [] = None
+first_fault rules dirs diff slot [] (node ∷ nodes) = None
+first_fault rules dirs diff slot (place ∷ places) (node ∷ nodes) =
+    option_or (node_fault rules dirs diff slot place node)
+    (first_fault rules dirs diff slot (places_below place node ++ places) nodes)
+
+-- The first fault of trees against slots: that of the trees in order, then the first slot without a tree,
+-- or the first tree too many, whose number is n and more.
+unfoldable pub first_fault_of : Rules → List (List ℤ) → Raised → List Slot → ℕ → List (List Node) → Option CertFault
+first_fault_of rules dirs curves [] n [] = None
+first_fault_of rules dirs curves [] n (nodes ∷ trees) = Some (Extra n)
+first_fault_of rules dirs curves (slot ∷ slots) n [] = Some (Missing slot.a slot.b slot.cue)
+first_fault_of rules dirs curves (slot ∷ slots) n (nodes ∷ trees) =
+    option_or (first_fault rules dirs (difference curves slot.a slot.b slot.cue) slot (root ∷ []) nodes)
+    (first_fault_of rules dirs curves slots (suc n) trees)
+
+-- ---- the certificate as a whole
+abbrev pub rules_of : ℕ → ℕ → Certificate → Rules
+rules_of r h cert = record { r = r; h = h; depth = cert.depth }
+
+-- A certificate is valid for curves: one tree for each pair and cue, no tree deeper than its depth,
+-- and each leaf's direction separates its place.
+abbrev pub IsValid : List (List ℤ) → Raised → ℕ → ℕ → Certificate → Type 0
+IsValid dirs curves r h cert = AreValid (rules_of r h cert) dirs curves (slots curves.drones curves.cues) cert.trees
+
+abbrev pub fault_of : List (List ℤ) → Raised → ℕ → ℕ → Certificate → Option CertFault
+fault_of dirs curves r h cert = first_fault_of (rules_of r h cert) dirs curves (slots curves.drones curves.cues) 0 cert.trees

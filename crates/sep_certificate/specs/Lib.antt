@@ -1,0 +1,4 @@
+pub mod Certificates
+pub mod Texts
+pub mod Readings
+pub mod Steps

@@ -1,0 +1,224 @@
+//! The checker of certificates.
+
+ghost use Rattle.std.specs.Prelude.{◌≡◌, ℕ, ◌+◌, ◌*◌, ◌^◌, ◌≤◌, ◌<◌, ◌↔◌, ◌∷◌, ◌++◌, [], length, map, All, IsOk, MatchResult};
+ghost use Rattle.std.specs.Option.{option_map};
+ghost use Rattle.fleet_math.specs.Numbers.{IsBelow};
+ghost use Rattle.sep_parts.specs.Directions.{AreSmall, IsAxis, direction_count, threshold};
+ghost use Rattle.sep_parts.specs.Apart.{KeepsApart};
+ghost use Rattle.sep_parts.specs.Slots.{slots};
+ghost use Rattle.sep_parts.specs.Levels.{IsLevel, IsStack, places_of, root};
+ghost use Rattle.sep_certificate.specs.Certificates.{IsKnown, IsValid, IsWhole, fault_of, first_fault, first_fault_of, node_fault, places_below};
+ghost use Rattle.sep_certificate.specs.Steps.{IsControl, IsShallow};
+
+use crate::certificate::{CertFault, Certificate, Node, Nodes};
+use bezier_core::Bez;
+use halving::Place;
+use sep_parts::{Curves, DIRECTIONS, Level, Slot, Stack, level_halves, low_control, thresholds};
+
+/// By what a certificate is judged.
+#[derive(Clone, Copy)]
+pub struct Rules {
+    /// The half axis of the ellipsoids on x and y, in millimetres.
+    pub r: u16,
+    /// The half axis on z, in millimetres.
+    pub h: u16,
+    /// The greatest depth of a part.
+    pub depth: u8,
+}
+
+/// Whether a certificate is valid for the curves of a fleet, with ellipsoids of half axes `r`, `r` and `h` in millimetres.
+///
+/// Ok exactly where there is one tree for each pair and cue, no tree has a split at the certificate's depth, and each leaf's
+/// direction separates its part. Else the first fault: trees of a pair and cue in order, in each the nodes in preorder; then
+/// the first pair and cue without a tree, or the first tree too many, whose nodes aren't judged. Takes no memory.
+///
+/// Where it is Ok, whoever made the certificate, each two different drones are apart at each instant p / q of the show, for
+/// all whole numbers p and q and for every list of trajectories that the curves stand for.
+pub fn check(curves: &Curves, r: u16, h: u16, cert: &Certificate) -> Result<(), CertFault>
+    requires r { IsAxis r }
+    requires h { IsAxis h }
+    requires whole { IsWhole direction_count cert.now }
+    ensures exact { MatchResult result (λ _. fault_of DIRECTIONS.n curves.now r h cert.now ≡ None)
+        (λ fault. fault_of DIRECTIONS.n curves.now r h cert.now ≡ Some fault) }
+    ensures valid { IsOk result ↔ IsValid DIRECTIONS.n curves.now r h cert.now }
+    ensures apart { IsOk result → KeepsApart curves.now r h }
+{
+    let rules = Rules {
+        r,
+        h,
+        depth: cert.depth,
+    };
+    match first_fault(
+        curves,
+        rules,
+        &DIRECTIONS.n,
+        &thresholds(&DIRECTIONS, r, h),
+        cert.trees.as_slice(),
+    ) {
+        Some(fault) => Err(fault),
+        None => Ok(()),
+    }
+}
+
+// The first fault of the trees, by a table of directions.
+fn first_fault(
+    curves: &Curves,
+    rules: Rules,
+    dirs: &[[i8; 3]],
+    thresholds: &[i128],
+    trees: &[Nodes],
+) -> Option<CertFault>
+    requires r { IsAxis rules.r }
+    requires h { IsAxis rules.h }
+    requires depth { rules.depth ≤ 8 }
+    requires few { length trees.now < 2 ^ 31 }
+    requires entries { All AreSmall dirs.now }
+    requires thresholds { thresholds.now ≡ map (threshold rules.r rules.h) dirs.now }
+    requires known { All (All (IsKnown (length dirs.now))) trees.now }
+    ensures { result ≡ first_fault_of rules dirs.now curves.now (slots curves.now.drones curves.now.cues) 0 trees.now }
+{
+    let drones = curves.drones();
+    let cues = curves.cues();
+    let mut slot = Slot::first();
+    let mut number: u32 = 0;
+    for nodes in trees {
+        if usize::from(slot.b) >= drones {
+            return Some(CertFault::Extra { tree: number });
+        }
+        let diff = curves.diff(slot.a as usize, slot.b as usize, slot.cue as usize);
+        if let Some(fault) = tree_fault(&diff, slot, rules, dirs, thresholds, nodes.as_slice()) {
+            return Some(fault);
+        }
+        slot = slot.next(drones, cues);
+        number += 1;
+    }
+    if usize::from(slot.b) < drones {
+        return Some(CertFault::Missing {
+            a: slot.a,
+            b: slot.b,
+            cue: slot.cue,
+        });
+    }
+    None
+}
+
+// The first fault of one tree.
+fn tree_fault(
+    diff: &[Bez<8>; 3],
+    slot: Slot,
+    rules: Rules,
+    dirs: &[[i8; 3]],
+    thresholds: &[i128],
+    nodes: &[Node],
+) -> Option<CertFault>
+    requires sizes { All (λ curve. length curve.b ≡ 8) diff.now }
+    requires values { All (λ curve. All (IsBelow (2 ^ 30)) curve.b) diff.now }
+    requires r { IsAxis rules.r }
+    requires h { IsAxis rules.h }
+    requires depth { rules.depth ≤ 8 }
+    requires entries { All AreSmall dirs.now }
+    requires thresholds { thresholds.now ≡ map (threshold rules.r rules.h) dirs.now }
+    requires known { All (IsKnown (length dirs.now)) nodes.now }
+    ensures { result ≡ first_fault rules dirs.now diff.now slot (root ∷ []) nodes.now }
+{
+    let mut stack = Stack::of(Level {
+        place: Place { depth: 0, index: 0 },
+        part: *diff,
+    });
+    for node in nodes {
+        let level = match stack.pop() {
+            Some(level) => level,
+            None => return None,
+        };
+        if let Some(fault) = node_fault(diff, &level, slot, rules, dirs, thresholds, *node) {
+            return Some(fault);
+        }
+        push_below(diff, &mut stack, &level, *node);
+    }
+    None
+}
+
+// What is wrong with one node.
+fn node_fault(
+    diff: &[Bez<8>; 3],
+    level: &Level,
+    slot: Slot,
+    rules: Rules,
+    dirs: &[[i8; 3]],
+    thresholds: &[i128],
+    node: Node,
+) -> Option<CertFault>
+    requires values { All (λ curve. All (IsBelow (2 ^ 30)) curve.b) diff.now }
+    requires level { IsLevel diff.now level.now }
+    requires r { IsAxis rules.r }
+    requires h { IsAxis rules.h }
+    requires entries { All AreSmall dirs.now }
+    requires thresholds { thresholds.now ≡ map (threshold rules.r rules.h) dirs.now }
+    requires known { IsKnown (length dirs.now) node }
+    ensures { result ≡ node_fault rules dirs.now diff.now slot level.now.place node }
+{
+    match node {
+        Node::Split => too_deep(level.place, slot, rules),
+        Node::Leaf { dir } => {
+            let low = low_control(
+                &level.part,
+                dirs[dir as usize],
+                rules.r,
+                rules.h,
+                thresholds[dir as usize],
+                level.place.depth,
+            );
+            fails(low, slot, level.place, dir)
+        }
+    }
+}
+
+// The fault of a split at the greatest depth.
+fn too_deep(place: Place, slot: Slot, rules: Rules) -> Option<CertFault>
+    ensures { result ≡ node_fault rules [] [] slot place Node.Split }
+{
+    if place.depth < rules.depth {
+        None
+    } else {
+        Some(CertFault::TooDeep {
+            a: slot.a,
+            b: slot.b,
+            cue: slot.cue,
+        })
+    }
+}
+
+// The fault of a leaf with a control value that is too low.
+fn fails(low: Option<usize>, slot: Slot, place: Place, dir: u8) -> Option<CertFault>
+    requires { IsControl low }
+    ensures { result ≡ option_map (CertFault.Fails slot.a slot.b slot.cue place dir) low }
+{
+    match low {
+        Some(control) => Some(CertFault::Fails {
+            a: slot.a,
+            b: slot.b,
+            cue: slot.cue,
+            place,
+            dir,
+            control: control as u8,
+        }),
+        None => None,
+    }
+}
+
+// The halves of a level onto the stack, the first half on top, where its node is a split.
+fn push_below(diff: &[Bez<8>; 3], stack: &mut Stack, level: &Level, node: Node)
+    requires values { All (λ curve. All (IsBelow (2 ^ 30)) curve.b) diff.now }
+    requires level { IsLevel diff.now level.now }
+    requires stack { IsStack diff.now stack.old }
+    requires room { length stack.old ≤ level.now.place.depth }
+    requires shallow { IsShallow level.now.place node }
+    ensures stack { IsStack diff.now stack.new }
+    ensures places { places_of stack.new ≡ places_below level.now.place node ++ places_of stack.old }
+{
+    if let Node::Split = node {
+        let (left, right) = level_halves(diff, level);
+        stack.push(right);
+        stack.push(left);
+    }
+}

@@ -1,0 +1,19 @@
+//! Certificates that a show keeps its drones apart, and their checker.
+//!
+//! A certificate has a tree for each pair of drones and each cue. A tree cuts the cue into parts, and names for each part a
+//! direction that separates the two drones there. A certificate that [`check`] accepts keeps each pair apart at every instant,
+//! whoever made it: the clause `apart` of [`check`] says so. The argument is in docs/SEPARATION.md.
+//!
+//! It stands on `sep_parts`, which has the directions, the curves and the parts, and passes its public calls on.
+#![tactic(auto)]
+
+mod certificate;
+mod judge;
+#[cfg(test)]
+mod tests;
+mod text;
+
+pub use certificate::{CertFault, Certificate, Node, Nodes, Trees};
+pub use judge::check;
+pub use sep_parts::{Curves, DIRECTIONS, Dirs, separates, thresholds};
+pub use text::{CERTIFICATE_LIMIT, CertTextFault, read_certificate, text_law, write_certificate};
