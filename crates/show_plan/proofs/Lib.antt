@@ -1,0 +1,4 @@
+pub mod Millimetres
+pub mod Curves
+pub mod Nearness
+pub mod Plannable

@@ -1,0 +1,3 @@
+pub mod Written
+pub mod Near
+pub mod Plan
