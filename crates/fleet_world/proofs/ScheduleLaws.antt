@@ -1,8 +1,8 @@
 -- Numbers of nine digits are small, and a schedule is read line by line.
 use Rattle.std.proofs.Common.{◌≡◌, ℕ, zero, suc, ◌+◌, ◌-◌, ◌*◌, ◌<◌, ◌≤◌, Bool, true, false, cond, List, [], ◌∷◌, ◌++◌, length, refl, ap, sym, ◌∙◌, arith, Option, Some, None, Result, Ok, Err}
 use Rattle.std.proofs.lemmas.Bool.{and_parts, leb-true, le-leb, ne_eqb}
-use Rattle.std.proofs.lemmas.List.{append-nil, append_assoc}
-use Rattle.std.specs.Prelude.{◌&&◌, nat_le, min, option_map}
+use Rattle.std.proofs.lemmas.List.{append_assoc}
+use Rattle.std.specs.Prelude.{nat_le, min, option_map}
 use Rattle.text_lines.specs.declared.number.TheConstants.{LARGE}
 use Rattle.text_lines.specs.Numbers.{is_digit, digits_after, natural_of}
 use Rattle.upload_model.specs.declared.events.WorldEvent.{WorldEvent}

@@ -3,7 +3,6 @@ use Rattle.std.proofs.Common.{◌≡◌, ◌∙◌, ◌+◌, ◌-◌, ◌∷◌,
 use Rattle.std.proofs.lemmas.Bool.{cases_eq}
 use Rattle.std.proofs.lemmas.List.{take_more, append_assoc}
 use Rattle.upload_model.specs.declared.events.Sent.{Sent}
-use Rattle.upload_model.specs.Sessions.{packet_at}
 use Rattle.upload_model.specs.Worlds.{packets_for}
 use Rattle.fleet_world.specs.Mail.{rows_of, row_of, HasRoom}
 use Rattle.fleet_world.proofs.RowLemmas.{packets_for-here, packets_for-other}

@@ -1,5 +1,5 @@
 -- Why `read_schedule` keeps its contract, at the places where the check needs to be told.
-use Rattle.std.proofs.Common.{◌≡◌, ◌∙◌, ◌-◌, ℕ, List, Option, Result, map, take, drop, length, ap, sym}
+use Rattle.std.proofs.Common.{◌∙◌, ℕ, List, Option, Result, map, drop, ap, sym}
 use Rattle.std.proofs.lemmas.List.{take_rest}
 use Rattle.text_lines.specs.declared.token.Comments.TheVariants.{Absent}
 use Rattle.text_lines.specs.declared.token.Token.{Token}

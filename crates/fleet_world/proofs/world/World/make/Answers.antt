@@ -4,7 +4,6 @@ use Rattle.std.specs.Vec.{with_items}
 use Rattle.std.proofs.lemmas.List.{with_items_is}
 use Rattle.upload_model.specs.declared.events.Progress.TheVariants.{Going}
 use Rattle.upload_model.specs.declared.events.Sent.{Sent}
-use Rattle.upload_model.specs.Hosts.{flight}
 use Rattle.upload_model.specs.Sessions.{Upload, IsSession, drone_count}
 use Rattle.upload_model.specs.Worlds.{start_world, packets_for}
 use Rattle.upload_model.proofs.HostSteps.{progress-nil}
