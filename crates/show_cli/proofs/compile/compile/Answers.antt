@@ -1,7 +1,7 @@
 use Rattle.std.proofs.Common.{Err, ap}
 use Rattle.choreo_reader.specs.First.{said}
 use Rattle.show_plan.proofs.Plannable.{first_is_plannable}
-use Rattle.show_cli.proofs.Input.{too_long_unread, part_unread, plans, read_whole}
+use Rattle.show_cli.proofs.InputLemmas.{too_long_unread, part_unread, plans, read_whole}
 use Rattle.show_cli.proofs.compile.compile.Goals as goal
 
 pub returns-in-Err-TooLong-clause-unread : goal.returns-in-Err-TooLong-clause-unread

@@ -1,5 +1,5 @@
 -- What the first part of the input says of all of it.
-use Rattle.std.proofs.Common.{◌≡◌, ℕ, ◌<◌, ◌≤◌, true, false, List, [], ◌∷◌, ◌++◌, length, Option, Some, None, sym, ap, subst, ◌∙◌, arith}
+use Rattle.std.proofs.Common.{◌≡◌, ℕ, ◌<◌, ◌≤◌, false, List, [], ◌∷◌, ◌++◌, length, Option, Some, None, sym, ap, subst, ◌∙◌, arith}
 use Rattle.std.specs.Io.KnownBytes.{prepend_known}
 use Rattle.std.specs.Prelude.{IfSome, Bool}
 use Rattle.text_lines.specs.Lines.{between_feeds}
@@ -17,11 +17,6 @@ too_long_unread (Some text) long = λ form.
     let unmarked : has_marker (between_feeds text) ≡ false = form.1.unmarked in
     let long' : 1048576 < length text = rw unmarked at long in
     omega (arith, form.1.short)
-
--- a text with a marker line is in no first form
-pub marked_unread : (input new : Option (List ℕ)) (bytes : List ℕ) (is_marked : Bool) → TakesPart (prepend_known [] input) new bytes is_marked → is_marked ≡ true → IsUnread input
-marked_unread None new bytes is_marked takes is = tt
-marked_unread (Some text) new bytes is_marked takes is = λ form. absurd (let e : true ≡ false = sym is ∙ takes.marker ∙ form.1.unmarked in cc)
 
 -- a part that no marker line ends is all of the input
 part_is_all : (text bytes : List ℕ) (new : Option (List ℕ)) (is_marked : Bool) → TakesPart (Some text) new bytes is_marked → is_marked ≡ false → (has_marker (between_feeds text) ≡ false) × (bytes ≡ text) × (new ≡ Some [])
