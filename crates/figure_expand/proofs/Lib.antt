@@ -1,0 +1,4 @@
+pub mod Reach
+pub mod Unfit
+pub mod Curves
+pub mod Pieces

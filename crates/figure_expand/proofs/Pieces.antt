@@ -1,0 +1,219 @@
+-- The pieces of a grid are where the text says.
+use Rattle.std.proofs.Common.{◌≡◌, ℕ, zero, suc, ◌+◌, ◌<◌, ◌≤◌, ℤ, pos, ◌+ℤ◌, ◌-ℤ◌, ◌*ℤ◌, List, [], ◌∷◌, ◌++◌, map, take, drop, append_assoc, length, get_or, arith, refl, sym, ap, ◌∙◌}
+use Rattle.std.specs.List.{All}
+use Rattle.std.proofs.lemmas.List.Elements.{All-nil, All-cons}
+use Rattle.std.proofs.lemmas.List.{drop_more}
+use Rattle.fleet_math.specs.Sums.{power}
+use Rattle.fleet_math.specs.Bernstein.{at}
+use Rattle.fleet_math.proofs.RingLemmas.{ring, linear, mul_comm_ℤ, one_mul_ℤ}
+use Rattle.fleet_math.proofs.BernsteinLemmas.{bernstein-zero, bernstein-suc, cong_add}
+use Rattle.choreo_lines.specs.declared.parts.Point.{Point}
+use Rattle.choreo_lines.specs.declared.parts.Act.{Act}
+use Rattle.choreo_lines.specs.declared.parts.Act.TheVariants as act
+use Rattle.choreo_reader.specs.declared.show.DroneLine.{DroneLine}
+use Rattle.cue_grid.specs.declared.grid.Job.{Job}
+use Rattle.cue_grid.specs.declared.grid.Cue.{Cue}
+use Rattle.cue_grid.specs.declared.grid.Grid.{Grid}
+use Rattle.mm_rounding.specs.Rounding.{controls, axis_on, first_control}
+use Rattle.mm_rounding.specs.Near.{position, IsAxis, IsPiece, last_control, AtEachFraction}
+use Rattle.mm_rounding.specs.declared.piece.Axis.{Axis}
+use Rattle.mm_rounding.specs.declared.piece.Axis.TheVariants.{One, Two, Four, Eight}
+use Rattle.mm_rounding.specs.declared.piece.MicroPiece.{MicroPiece}
+use Rattle.figure_expand.specs.Acts.{act_of, end_of, on_axis, point_after}
+use Rattle.figure_expand.specs.Written.{stays, straight, from_rest, written}
+use Rattle.figure_expand.specs.Controls.{even_controls, rest_controls, axes_of, piece_of}
+use Rattle.figure_expand.specs.Expanded.{job_in, no_job, pieces_from, expanded_from, expanded}
+use Rattle.figure_expand.specs.Flown.{start_of, jobs_in, job_at, point_before, written_at, piece_at, FliesAsWritten}
+use Rattle.figure_expand.proofs.Curves.{bern-steps, from_rest-share}
+
+-- ---- the polynomial of each kind of control values
+
+-- one value stays
+one : (v : ℤ) (a c : ℕ) → position (v ∷ []) a c ≡ stays v (pos c)
+one v a c = ap (λ (z : ℤ). power (pos c) 7 *ℤ z) (bernstein-zero (at (v ∷ [])) (pos a) (pos c)) ∙ mul_comm_ℤ (power (pos c) 7) v
+
+-- two values are a straight way
+two : (A B : ℤ) (a c : ℕ) → position (A ∷ B ∷ []) a c ≡ straight A B (pos a) (pos c)
+two A B a c =
+    ap (λ (z : ℤ). power (pos c) 6 *ℤ z)
+    (bernstein-suc 0 (at (A ∷ B ∷ [])) (pos a) (pos c)
+    ∙ cong_add (ap (λ (z : ℤ). (pos c -ℤ pos a) *ℤ z) (bernstein-zero (at (A ∷ B ∷ [])) (pos a) (pos c)))
+    (ap (λ (z : ℤ). pos a *ℤ z) (bernstein-zero (λ k. at (A ∷ B ∷ []) (suc k)) (pos a) (pos c))))
+    ∙ turned (power (pos c) 6) (pos c -ℤ pos a) (pos a) A B
+  where
+    turned : (q u a A B : ℤ) → q *ℤ (u *ℤ A +ℤ a *ℤ B) ≡ (A *ℤ u +ℤ B *ℤ a) *ℤ q
+    turned q u a A B = simp ring (omega (arith, linear))
+
+-- eight values, four times the first and four times the last, are the way from rest to rest
+eight : (A B : ℤ) (a c : ℕ) → position (A ∷ A ∷ A ∷ A ∷ B ∷ B ∷ B ∷ B ∷ []) a c ≡ from_rest A B (pos a) (pos c)
+eight A B a c = one_mul_ℤ _ ∙ bern-steps A B (pos a) (pos c) ∙ sym (from_rest-share A B (pos a) (pos c))
+
+-- ---- each act on each axis
+
+abbrev curve_of : Point → Act → ℕ → Axis
+curve_of p x axis = get_or (axes_of p x) axis (One (pos 0))
+
+by_act : (p : Point) (x : Act) (axis : ℕ) → axis < 4 → (a c : ℕ) → position (controls (curve_of p x axis)) a c ≡ written p x axis (pos a) (pos c)
+by_act p act.Hold zero small a c = one p.x a c
+by_act p act.Hold (suc zero) small a c = one p.y a c
+by_act p act.Hold (suc (suc zero)) small a c = one p.z a c
+by_act p act.Hold (suc (suc (suc zero))) small a c = one p.yaw a c
+by_act p act.Hold (suc (suc (suc (suc axis)))) small a c = absurd (omega arith)
+by_act p (act.Line to) zero small a c = two p.x to.x a c
+by_act p (act.Line to) (suc zero) small a c = two p.y to.y a c
+by_act p (act.Line to) (suc (suc zero)) small a c = two p.z to.z a c
+by_act p (act.Line to) (suc (suc (suc zero))) small a c = two p.yaw to.yaw a c
+by_act p (act.Line to) (suc (suc (suc (suc axis)))) small a c = absurd (omega arith)
+by_act p (act.Move to) zero small a c = eight p.x to.x a c
+by_act p (act.Move to) (suc zero) small a c = eight p.y to.y a c
+by_act p (act.Move to) (suc (suc zero)) small a c = eight p.z to.z a c
+by_act p (act.Move to) (suc (suc (suc zero))) small a c = eight p.yaw to.yaw a c
+by_act p (act.Move to) (suc (suc (suc (suc axis)))) small a c = absurd (omega arith)
+by_act p (act.Turn yaw) zero small a c = one p.x a c
+by_act p (act.Turn yaw) (suc zero) small a c = one p.y a c
+by_act p (act.Turn yaw) (suc (suc zero)) small a c = one p.z a c
+by_act p (act.Turn yaw) (suc (suc (suc zero))) small a c = eight p.yaw yaw a c
+by_act p (act.Turn yaw) (suc (suc (suc (suc axis)))) small a c = absurd (omega arith)
+by_act p (act.Arc ccw cx cy yaw) zero small a c = refl
+by_act p (act.Arc ccw cx cy yaw) (suc zero) small a c = refl
+by_act p (act.Arc ccw cx cy yaw) (suc (suc zero)) small a c = one p.z a c
+by_act p (act.Arc ccw cx cy yaw) (suc (suc (suc zero))) small a c = two p.yaw yaw a c
+by_act p (act.Arc ccw cx cy yaw) (suc (suc (suc (suc axis)))) small a c = absurd (omega arith)
+by_act p (act.Curve p1 p2 to) zero small a c = refl
+by_act p (act.Curve p1 p2 to) (suc zero) small a c = refl
+by_act p (act.Curve p1 p2 to) (suc (suc zero)) small a c = refl
+by_act p (act.Curve p1 p2 to) (suc (suc (suc zero))) small a c = two p.yaw to.yaw a c
+by_act p (act.Curve p1 p2 to) (suc (suc (suc (suc axis)))) small a c = absurd (omega arith)
+
+first_by_act : (p : Point) (x : Act) (axis : ℕ) → axis < 4 → first_control (curve_of p x axis) ≡ on_axis p axis
+first_by_act p act.Hold zero small = refl
+first_by_act p act.Hold (suc zero) small = refl
+first_by_act p act.Hold (suc (suc zero)) small = refl
+first_by_act p act.Hold (suc (suc (suc zero))) small = refl
+first_by_act p act.Hold (suc (suc (suc (suc axis)))) small = absurd (omega arith)
+first_by_act p (act.Line to) zero small = refl
+first_by_act p (act.Line to) (suc zero) small = refl
+first_by_act p (act.Line to) (suc (suc zero)) small = refl
+first_by_act p (act.Line to) (suc (suc (suc zero))) small = refl
+first_by_act p (act.Line to) (suc (suc (suc (suc axis)))) small = absurd (omega arith)
+first_by_act p (act.Move to) zero small = refl
+first_by_act p (act.Move to) (suc zero) small = refl
+first_by_act p (act.Move to) (suc (suc zero)) small = refl
+first_by_act p (act.Move to) (suc (suc (suc zero))) small = refl
+first_by_act p (act.Move to) (suc (suc (suc (suc axis)))) small = absurd (omega arith)
+first_by_act p (act.Turn yaw) zero small = refl
+first_by_act p (act.Turn yaw) (suc zero) small = refl
+first_by_act p (act.Turn yaw) (suc (suc zero)) small = refl
+first_by_act p (act.Turn yaw) (suc (suc (suc zero))) small = refl
+first_by_act p (act.Turn yaw) (suc (suc (suc (suc axis)))) small = absurd (omega arith)
+first_by_act p (act.Arc ccw cx cy yaw) zero small = refl
+first_by_act p (act.Arc ccw cx cy yaw) (suc zero) small = refl
+first_by_act p (act.Arc ccw cx cy yaw) (suc (suc zero)) small = refl
+first_by_act p (act.Arc ccw cx cy yaw) (suc (suc (suc zero))) small = refl
+first_by_act p (act.Arc ccw cx cy yaw) (suc (suc (suc (suc axis)))) small = absurd (omega arith)
+first_by_act p (act.Curve p1 p2 to) zero small = refl
+first_by_act p (act.Curve p1 p2 to) (suc zero) small = refl
+first_by_act p (act.Curve p1 p2 to) (suc (suc zero)) small = refl
+first_by_act p (act.Curve p1 p2 to) (suc (suc (suc zero))) small = refl
+first_by_act p (act.Curve p1 p2 to) (suc (suc (suc (suc axis)))) small = absurd (omega arith)
+
+last_by_act : (p : Point) (x : Act) (axis : ℕ) → axis < 4 → last_control (curve_of p x axis) ≡ on_axis (end_of p x) axis
+last_by_act p act.Hold zero small = refl
+last_by_act p act.Hold (suc zero) small = refl
+last_by_act p act.Hold (suc (suc zero)) small = refl
+last_by_act p act.Hold (suc (suc (suc zero))) small = refl
+last_by_act p act.Hold (suc (suc (suc (suc axis)))) small = absurd (omega arith)
+last_by_act p (act.Line to) zero small = refl
+last_by_act p (act.Line to) (suc zero) small = refl
+last_by_act p (act.Line to) (suc (suc zero)) small = refl
+last_by_act p (act.Line to) (suc (suc (suc zero))) small = refl
+last_by_act p (act.Line to) (suc (suc (suc (suc axis)))) small = absurd (omega arith)
+last_by_act p (act.Move to) zero small = refl
+last_by_act p (act.Move to) (suc zero) small = refl
+last_by_act p (act.Move to) (suc (suc zero)) small = refl
+last_by_act p (act.Move to) (suc (suc (suc zero))) small = refl
+last_by_act p (act.Move to) (suc (suc (suc (suc axis)))) small = absurd (omega arith)
+last_by_act p (act.Turn yaw) zero small = refl
+last_by_act p (act.Turn yaw) (suc zero) small = refl
+last_by_act p (act.Turn yaw) (suc (suc zero)) small = refl
+last_by_act p (act.Turn yaw) (suc (suc (suc zero))) small = refl
+last_by_act p (act.Turn yaw) (suc (suc (suc (suc axis)))) small = absurd (omega arith)
+last_by_act p (act.Arc ccw cx cy yaw) zero small = refl
+last_by_act p (act.Arc ccw cx cy yaw) (suc zero) small = refl
+last_by_act p (act.Arc ccw cx cy yaw) (suc (suc zero)) small = refl
+last_by_act p (act.Arc ccw cx cy yaw) (suc (suc (suc zero))) small = refl
+last_by_act p (act.Arc ccw cx cy yaw) (suc (suc (suc (suc axis)))) small = absurd (omega arith)
+last_by_act p (act.Curve p1 p2 to) zero small = refl
+last_by_act p (act.Curve p1 p2 to) (suc zero) small = refl
+last_by_act p (act.Curve p1 p2 to) (suc (suc zero)) small = refl
+last_by_act p (act.Curve p1 p2 to) (suc (suc (suc zero))) small = refl
+last_by_act p (act.Curve p1 p2 to) (suc (suc (suc (suc axis)))) small = absurd (omega arith)
+
+-- A piece begins where its drone is.
+pub piece_begins : (p : Point) (ms : ℕ) (j : Job) (axis : ℕ) → axis < 4 → first_control (axis_on (piece_of p ms j) axis) ≡ on_axis p axis
+piece_begins p ms j axis small = first_by_act p (act_of j) axis small
+
+-- A piece ends where its act ends.
+pub piece_ends : (p : Point) (ms : ℕ) (j : Job) (axis : ℕ) → axis < 4 → last_control (axis_on (piece_of p ms j) axis) ≡ on_axis (end_of p (act_of j)) axis
+piece_ends p ms j axis small = last_by_act p (act_of j) axis small
+
+four_axes : (x y z w : Axis) → IsAxis x → IsAxis y → IsAxis z → IsAxis w → All IsAxis (x ∷ y ∷ z ∷ w ∷ [])
+four_axes x y z w is_x is_y is_z is_w =
+    All-cons IsAxis x (y ∷ z ∷ w ∷ []) is_x (All-cons IsAxis y (z ∷ w ∷ []) is_y (All-cons IsAxis z (w ∷ []) is_z (All-cons IsAxis w [] is_w (All-nil IsAxis))))
+
+whole_by_act : (p : Point) (x : Act) → All IsAxis (axes_of p x)
+whole_by_act p act.Hold = four_axes _ _ _ _ tt tt tt tt
+whole_by_act p (act.Line to) = four_axes _ _ _ _ refl refl refl refl
+whole_by_act p (act.Move to) = four_axes _ _ _ _ refl refl refl refl
+whole_by_act p (act.Turn yaw) = four_axes _ _ _ _ tt tt tt refl
+whole_by_act p (act.Arc ccw cx cy yaw) = four_axes _ _ _ _ refl refl tt refl
+whole_by_act p (act.Curve p1 p2 to) = four_axes _ _ _ _ refl refl refl refl
+
+-- The axes of a piece have as many control values as their names say.
+pub piece_whole : (p : Point) (ms : ℕ) (j : Job) → IsPiece (piece_of p ms j)
+piece_whole p ms j = whole_by_act p (act_of j)
+
+-- ---- each drone and cue
+
+-- the axes of a drone's piece in a cue
+axes_are : (p : Point) (d : ℕ) (cues : List Cue) (k : ℕ) (other : MicroPiece) → k < length cues →
+    (get_or (pieces_from p d cues) k other).axes ≡ axes_of (point_after p (take k (jobs_in d cues))) (act_of (get_or (jobs_in d cues) k no_job))
+axes_are p d [] k other within = absurd (omega arith)
+axes_are p d (cue ∷ cues) zero other within = refl
+axes_are p d (cue ∷ cues) (suc k) other within = axes_are (end_of p (act_of (job_in cue d))) d cues k other (omega arith)
+
+-- the pieces of a drone
+row_is : (first : ℕ) (starts : List DroneLine) (cues : List Cue) (d : ℕ) (other : Point) → d < length starts →
+    get_or (expanded_from first starts cues) d [] ≡ pieces_from (get_or (map (λ (s : DroneLine). s.at) starts) d other) (first + d) cues
+row_is first [] cues d other within = absurd (omega arith)
+row_is first (s ∷ starts) cues zero other within = let e : first ≡ first + 0 = omega arith in ap (λ (d : ℕ). pieces_from s.at d cues) e
+row_is first (s ∷ starts) cues (suc d) other within =
+    let e : (first + 1) + d ≡ first + suc d = omega arith in
+    row_is (first + 1) starts cues d other (omega arith) ∙ ap (λ (n : ℕ). pieces_from (get_or (map (λ (s : DroneLine). s.at) starts) d other) n cues) e
+
+-- one piece more, as the code puts it behind the others
+pub piece_next : (pieces more : List MicroPiece) (p after : Point) (d : ℕ) (cues : List Cue) (k : ℕ) (cue : Cue) (piece : MicroPiece) → k < length cues → cue ≡ get_or cues k cue →
+    piece ≡ piece_of p cue.ms (job_in cue d) → after ≡ end_of p (act_of (job_in cue d)) → more ≡ pieces ++ piece ∷ [] →
+    more ++ pieces_from after d (drop (k + 1) cues) ≡ pieces ++ pieces_from p d (drop k cues)
+piece_next pieces more p after d cues k cue piece within is piece_is after_is more_is =
+    let rest : List Cue = drop (k + 1) cues in
+    let drops : pieces_from p d (drop k cues) ≡ piece_of p cue.ms (job_in cue d) ∷ pieces_from (end_of p (act_of (job_in cue d))) d rest =
+    ap (pieces_from p d) (drop_more cues k cue within ∙ ap (λ (here : Cue). here ∷ rest) (sym is)) in
+    ap (λ (items : List MicroPiece). items ++ pieces_from after d rest) more_is
+    ∙ append_assoc pieces (piece ∷ []) (pieces_from after d rest)
+    ∙ ap (λ (items : List MicroPiece). pieces ++ items)
+    (ap (λ (first : MicroPiece). first ∷ pieces_from after d rest) piece_is
+    ∙ ap (λ (q : Point). piece_of p cue.ms (job_in cue d) ∷ pieces_from q d rest) after_is
+    ∙ sym drops)
+
+-- The pieces of a grid are at the written position.
+pub flies_as_written : (g : Grid) → FliesAsWritten g
+unfolding expanded
+flies_as_written g d k axis drone cue small a c some within =
+    let e : 0 + d ≡ d = omega arith in
+    let other : MicroPiece = record { ms = 0; axes = [] } in
+    let row : get_or (expanded_from 0 g.starts g.cues) d [] ≡ pieces_from (start_of g d) d g.cues =
+    row_is 0 g.starts g.cues d _ drone ∙ ap (λ (n : ℕ). pieces_from (start_of g d) n g.cues) e in
+    let axes : (get_or (get_or (expanded_from 0 g.starts g.cues) d []) k other).axes ≡ axes_of (point_before g d k) (act_of (job_at g d k)) =
+    ap (λ (pieces : List MicroPiece). (get_or pieces k other).axes) row ∙ axes_are (start_of g d) d g.cues k other cue in
+    ap (λ (axes : List Axis). position (controls (get_or axes axis (One (pos 0)))) a c) axes ∙ by_act (point_before g d k) (act_of (job_at g d k)) axis small a c

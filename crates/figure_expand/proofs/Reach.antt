@@ -1,0 +1,263 @@
+-- How far the numbers of points and acts are from 0.
+use Rattle.std.proofs.Common.{◌≡◌, ℕ, zero, suc, ◌+◌, ◌*◌, ◌^◌, ◌<◌, ◌≤◌, Bool, true, false, ℤ, pos, neg_ℤ, ◌+ℤ◌, ◌-ℤ◌, ◌≤ℤ◌, List, [], ◌∷◌, length, get_or, to_z, of_z, w64, arith, refl, sym, ap, ◌∙◌, subst}
+use Rattle.std.specs.List.{All}
+use Rattle.std.proofs.lemmas.Int.{ints, to_z-of_z}
+use Rattle.std.proofs.lemmas.List.Elements.{All-nil, All-cons, All-get_or}
+use Rattle.choreo_lines.specs.declared.parts.Point.{Point}
+use Rattle.choreo_lines.specs.declared.parts.Frame.{Frame}
+use Rattle.choreo_lines.specs.declared.parts.Mirror.{Mirror}
+use Rattle.choreo_lines.specs.declared.parts.Mirror.TheVariants as mirror
+use Rattle.choreo_lines.specs.declared.parts.Act.{Act}
+use Rattle.choreo_lines.specs.declared.parts.Act.TheVariants as act
+use Rattle.choreo_reader.specs.declared.show.DroneLine.{DroneLine}
+use Rattle.choreo_reader.specs.Valid.{FitsFrame, FitsPoint, FitsCoordinate, FitsYaw, FitsTriple, FitsAct, FitDroneLines}
+use Rattle.cue_grid.specs.declared.grid.Job.{Job}
+use Rattle.cue_grid.specs.declared.grid.Cue.{Cue}
+use Rattle.cue_grid.specs.Frames.{mirrored, turned_once, turned, shifted, applied, IsUpTo, IsPointUpTo, IsShiftUpTo}
+use Rattle.cue_grid.specs.Grids.{FitsJob, FitJobs, FitsCue, FitCues}
+use Rattle.figure_expand.specs.Acts.{place, heading, place_at, act_in, act_of, end_x, end_y, end_of}
+use Rattle.figure_expand.specs.Expanded.{start_points, points_after, job_in, no_job}
+use Rattle.figure_expand.specs.Bounds.{IsActUpTo, reach, AreInReach}
+
+-- ---- the points of a show
+
+-- a bound may be larger
+pub wider : (m n : ℕ) (v : ℤ) → m ≤ n → IsUpTo m v → IsUpTo n v
+wider m n v less small = (omega (arith, ints, small.0), omega (arith, ints, small.1))
+
+-- a bound of a point's numbers may be larger
+pub wider_point : (m n : ℕ) (p : Point) → m ≤ n → IsPointUpTo m p → IsPointUpTo n p
+wider_point m n p less small = record {
+  x = wider m n p.x less small.x;
+  y = wider m n p.y less small.y;
+  z = wider m n p.z less small.z;
+  yaw = wider m n p.yaw less small.yaw;
+}
+
+yaw_small : (v : ℤ) → FitsYaw v → IsUpTo 100000000 v
+yaw_small v fits = (omega (arith, ints, fits.0), omega (arith, ints, fits.1))
+
+-- a point of a show
+pub point_small : (p : Point) → FitsPoint p → IsPointUpTo 100000000 p
+point_small p fits = record { x = fits.0; y = fits.1; z = fits.2; yaw = yaw_small p.yaw fits.3 }
+
+-- a point of a show, with the bound that `apply` asks for
+pub point_fits : (p : Point) → FitsPoint p → IsPointUpTo (2 ^ 40) p
+point_fits p fits = wider_point 100000000 (2 ^ 40) p (omega arith) (point_small p fits)
+
+shift_small : (f : Frame) → FitsFrame f → IsShiftUpTo 100000000 f
+shift_small f fits = record { dx = fits.1; dy = fits.2; dz = fits.3 }
+
+-- a shift of a show, with the bound that `apply` asks for
+pub shift_fits : (f : Frame) → FitsFrame f → IsShiftUpTo (2 ^ 40) f
+shift_fits f fits = record {
+  dx = wider 100000000 (2 ^ 40) f.dx (omega arith) fits.1;
+  dy = wider 100000000 (2 ^ 40) f.dy (omega arith) fits.2;
+  dz = wider 100000000 (2 ^ 40) f.dz (omega arith) fits.3;
+}
+
+-- the coordinate 0 and the yaw 0 are in range
+no_way : FitsCoordinate (pos 0)
+no_way = (omega (arith, ints), omega (arith, ints))
+
+ahead : FitsYaw (pos 0)
+ahead = (omega (arith, ints), omega (arith, ints))
+
+pub heading_fits : (yaw : ℤ) → FitsYaw yaw → FitsPoint (heading yaw)
+heading_fits yaw fits = (no_way, no_way, no_way, fits)
+
+pub centre_fits : (cx cy : ℤ) → FitsCoordinate cx → FitsCoordinate cy → FitsPoint (place cx cy (pos 0))
+centre_fits cx cy x y = (x, y, no_way, ahead)
+
+pub triple_fits : (v : List ℤ) → FitsTriple v → FitsPoint (place_at v)
+triple_fits [] fits = absurd fits
+triple_fits (x ∷ []) fits = absurd fits
+triple_fits (x ∷ y ∷ []) fits = absurd fits
+triple_fits (x ∷ y ∷ z ∷ []) fits = (fits.0, fits.1, fits.2, ahead)
+triple_fits (x ∷ y ∷ z ∷ w ∷ v) fits = absurd fits
+
+-- ---- acts in the show's frame
+
+mirrored_small : (m : Mirror) (n : ℕ) (p : Point) → IsPointUpTo n p → IsPointUpTo (n + 1800) (mirrored m p)
+mirrored_small mirror.None n p small = wider_point n (n + 1800) p (omega arith) small
+mirrored_small mirror.X n p small = record {
+  x = (omega (arith, ints, small.x.1), omega (arith, ints, small.x.0));
+  y = wider n (n + 1800) p.y (omega arith) small.y;
+  z = wider n (n + 1800) p.z (omega arith) small.z;
+  yaw = (omega (arith, ints, small.yaw.1), omega (arith, ints, small.yaw.0));
+}
+mirrored_small mirror.Y n p small = record {
+  x = wider n (n + 1800) p.x (omega arith) small.x;
+  y = (omega (arith, ints, small.y.1), omega (arith, ints, small.y.0));
+  z = wider n (n + 1800) p.z (omega arith) small.z;
+  yaw = (omega (arith, ints, small.yaw.1), omega (arith, ints, small.yaw.0));
+}
+
+turned_once_small : (n : ℕ) (p : Point) → IsPointUpTo n p → IsPointUpTo (n + 900) (turned_once p)
+turned_once_small n p small = record {
+  x = (omega (arith, ints, small.y.1), omega (arith, ints, small.y.0));
+  y = wider n (n + 900) p.x (omega arith) small.x;
+  z = wider n (n + 900) p.z (omega arith) small.z;
+  yaw = (omega (arith, ints, small.yaw.0), omega (arith, ints, small.yaw.1));
+}
+
+turned_small : (k n : ℕ) (p : Point) → IsPointUpTo n p → IsPointUpTo (n + 900 * k) (turned k p)
+turned_small zero n p small = wider_point n (n + 900 * 0) p (omega arith) small
+turned_small (suc k) n p small =
+    wider_point ((n + 900 * k) + 900) (n + 900 * suc k) (turned_once (turned k p)) (omega arith) (turned_once_small (n + 900 * k) (turned k p) (turned_small k n p small))
+
+moved_small : (m n : ℕ) (v by : ℤ) → IsUpTo m by → IsUpTo n v → IsUpTo (n + m) (v +ℤ by)
+moved_small m n v by shift small = (omega (arith, ints, shift.0, small.0), omega (arith, ints, shift.1, small.1))
+
+shifted_small : (m n : ℕ) (f : Frame) (p : Point) → IsShiftUpTo m f → IsPointUpTo n p → IsPointUpTo (n + m) (shifted f p)
+shifted_small m n f p shift small = record {
+  x = moved_small m n p.x f.dx shift.dx small.x;
+  y = moved_small m n p.y f.dy shift.dy small.y;
+  z = moved_small m n p.z f.dz shift.dz small.z;
+  yaw = wider n (n + m) p.yaw (omega arith) small.yaw;
+}
+
+-- where a frame of a show puts a point of it
+pub applied_small : (f : Frame) (p : Point) → FitsFrame f → FitsPoint p → IsPointUpTo (2 ^ 28) (applied f p)
+applied_small f p frame point =
+    wider_point (((100000000 + 1800) + 900 * f.turns) + 100000000) (2 ^ 28) (applied f p) (omega (arith, frame.0))
+    (shifted_small 100000000 ((100000000 + 1800) + 900 * f.turns) f (turned f.turns (mirrored f.mirror p)) (shift_small f frame)
+    (turned_small f.turns (100000000 + 1800) (mirrored f.mirror p) (mirrored_small f.mirror 100000000 p (point_small p point))))
+
+act_in_small : (f : Frame) (a : Act) → FitsFrame f → FitsAct a → IsActUpTo (2 ^ 28) (act_in f a)
+act_in_small f act.Hold frame fits = tt
+act_in_small f (act.Line to) frame fits = applied_small f to frame fits
+act_in_small f (act.Move to) frame fits = applied_small f to frame fits
+act_in_small f (act.Turn yaw) frame fits = (applied_small f (heading yaw) frame (heading_fits yaw fits)).yaw
+act_in_small f (act.Arc ccw cx cy yaw) frame fits =
+    let centre = applied_small f (place cx cy (pos 0)) frame (centre_fits cx cy fits.0 fits.1) in
+    (centre.x, centre.y, (applied_small f (heading yaw) frame (heading_fits yaw fits.2)).yaw)
+act_in_small f (act.Curve p1 p2 to) frame fits = applied_small f to frame fits.2
+
+-- The numbers of a job's act in the show's frame are small.
+pub act_small : (j : Job) → FitsJob j → IsActUpTo (2 ^ 28) (act_of j)
+act_small j fits = act_in_small j.frame j.act fits.0 fits.1
+
+-- ---- ends
+
+end_x_small : (n : ℕ) (ccw : Bool) (px py cx cy : ℤ) → IsUpTo n px → IsUpTo n py → IsUpTo (2 ^ 28) cx → IsUpTo (2 ^ 28) cy →
+    IsUpTo (n + 2 ^ 30) (cx +ℤ end_x ccw (px -ℤ cx) (py -ℤ cy))
+end_x_small n true px py cx cy x y c d = (omega (arith, ints, x.0, x.1, y.0, y.1, c.0, c.1, d.0, d.1), omega (arith, ints, x.0, x.1, y.0, y.1, c.0, c.1, d.0, d.1))
+end_x_small n false px py cx cy x y c d = (omega (arith, ints, x.0, x.1, y.0, y.1, c.0, c.1, d.0, d.1), omega (arith, ints, x.0, x.1, y.0, y.1, c.0, c.1, d.0, d.1))
+
+end_y_small : (n : ℕ) (ccw : Bool) (px py cx cy : ℤ) → IsUpTo n px → IsUpTo n py → IsUpTo (2 ^ 28) cx → IsUpTo (2 ^ 28) cy →
+    IsUpTo (n + 2 ^ 30) (cy +ℤ end_y ccw (px -ℤ cx) (py -ℤ cy))
+end_y_small n true px py cx cy x y c d = (omega (arith, ints, x.0, x.1, y.0, y.1, c.0, c.1, d.0, d.1), omega (arith, ints, x.0, x.1, y.0, y.1, c.0, c.1, d.0, d.1))
+end_y_small n false px py cx cy x y c d = (omega (arith, ints, x.0, x.1, y.0, y.1, c.0, c.1, d.0, d.1), omega (arith, ints, x.0, x.1, y.0, y.1, c.0, c.1, d.0, d.1))
+
+-- An act takes a drone at most 2 ^ 30 further away.
+pub end_small : (n : ℕ) (p : Point) (a : Act) → IsPointUpTo n p → IsActUpTo (2 ^ 28) a → IsPointUpTo (n + 2 ^ 30) (end_of p a)
+end_small n p act.Hold small fits = wider_point n (n + 2 ^ 30) p (omega arith) small
+end_small n p (act.Line to) small fits = wider_point (2 ^ 28) (n + 2 ^ 30) to (omega arith) fits
+end_small n p (act.Move to) small fits = wider_point (2 ^ 28) (n + 2 ^ 30) to (omega arith) fits
+end_small n p (act.Turn yaw) small fits = record {
+  x = wider n (n + 2 ^ 30) p.x (omega arith) small.x;
+  y = wider n (n + 2 ^ 30) p.y (omega arith) small.y;
+  z = wider n (n + 2 ^ 30) p.z (omega arith) small.z;
+  yaw = wider (2 ^ 28) (n + 2 ^ 30) yaw (omega arith) fits;
+}
+end_small n p (act.Arc ccw cx cy yaw) small fits = record {
+  x = end_x_small n ccw p.x p.y cx cy small.x small.y fits.0 fits.1;
+  y = end_y_small n ccw p.x p.y cx cy small.x small.y fits.0 fits.1;
+  z = wider n (n + 2 ^ 30) p.z (omega arith) small.z;
+  yaw = wider (2 ^ 28) (n + 2 ^ 30) yaw (omega arith) fits.2;
+}
+end_small n p (act.Curve p1 p2 to) small fits = wider_point (2 ^ 28) (n + 2 ^ 30) to (omega arith) fits
+
+-- one cue more
+reach_more : (k : ℕ) → reach k + 2 ^ 30 ≡ reach (k + 1)
+reach_more k = omega arith
+
+-- within reach after at most 255 cues
+pub reach_small : (k : ℕ) → k ≤ 255 → reach k ≤ 2 ^ 40
+reach_small k few = omega arith
+
+-- after one more cue
+pub end_in_reach : (k : ℕ) (p : Point) (j : Job) → IsPointUpTo (reach k) p → FitsJob j → IsPointUpTo (reach (k + 1)) (end_of p (act_of j))
+end_in_reach k p j small fits = subst (λ (n : ℕ). IsPointUpTo n (end_of p (act_of j))) (reach_more k) (end_small (reach k) p (act_of j) small (act_small j fits))
+
+pub point_in_reach : (k : ℕ) (p : Point) → k ≤ 255 → IsPointUpTo (reach k) p → IsPointUpTo (2 ^ 40) p
+point_in_reach k p few small = wider_point (reach k) (2 ^ 40) p (reach_small k few) small
+
+-- ---- lists
+
+-- a job of these jobs
+pub job_fits : (jobs : List Job) (d : ℕ) (other : Job) → d < length jobs → FitJobs jobs → FitsJob (get_or jobs d other)
+job_fits [] d other within fit = absurd (omega arith)
+job_fits (j ∷ jobs) zero other within fit = fit.0
+job_fits (j ∷ jobs) (suc d) other within fit = job_fits jobs d other (omega arith) fit.1
+
+-- a cue of these cues
+pub cue_fits : (n : ℕ) (cues : List Cue) (k : ℕ) (other : Cue) → k < length cues → FitCues n cues → FitsCue n (get_or cues k other)
+cue_fits n [] k other within fit = absurd (omega arith)
+cue_fits n (c ∷ cues) zero other within fit = fit.0
+cue_fits n (c ∷ cues) (suc k) other within fit = cue_fits n cues k other (omega arith) fit.1
+
+-- the next cue is as a grid has it
+pub next_fits : (n : ℕ) (cues : List Cue) (k : ℕ) (cue : Cue) → k < length cues → cue ≡ get_or cues k cue → FitCues n cues → FitsCue n cue
+next_fits n cues k cue within is fit = subst (FitsCue n) (sym is) (cue_fits n cues k cue within fit)
+
+-- as many points as starts
+pub length-start_points : (starts : List DroneLine) → length (start_points starts) ≡ length starts
+length-start_points [] = refl
+length-start_points (s ∷ starts) = ap suc (length-start_points starts)
+
+-- where drones start
+pub starts_in_reach : (starts : List DroneLine) → FitDroneLines starts → AreInReach 0 (start_points starts)
+starts_in_reach [] fit = All-nil (IsPointUpTo (reach 0))
+starts_in_reach (s ∷ starts) fit =
+    All-cons (IsPointUpTo (reach 0)) s.at (start_points starts) (wider_point 100000000 (reach 0) s.at (omega arith) (point_small s.at fit.1)) (starts_in_reach starts fit.2)
+
+pub start_in_reach : (starts : List DroneLine) (d : ℕ) (other : DroneLine) → d < length starts → FitDroneLines starts → IsPointUpTo (reach 0) (get_or starts d other).at
+start_in_reach [] d other within fit = absurd (omega arith)
+start_in_reach (s ∷ starts) zero other within fit = wider_point 100000000 (reach 0) s.at (omega arith) (point_small s.at fit.1)
+start_in_reach (s ∷ starts) (suc d) other within fit = start_in_reach starts d other (omega arith) fit.2
+
+-- after one more cue
+pub points_in_reach : (k : ℕ) (points : List Point) (jobs : List Job) → length points ≡ length jobs → AreInReach k points → FitJobs jobs → AreInReach (k + 1) (points_after points jobs)
+points_in_reach k [] jobs many small fit = All-nil (IsPointUpTo (reach (k + 1)))
+points_in_reach k (p ∷ points) [] many small fit = All-nil (IsPointUpTo (reach (k + 1)))
+points_in_reach k (p ∷ points) (j ∷ jobs) many small fit =
+    All-cons (IsPointUpTo (reach (k + 1))) (end_of p (act_of j)) (points_after points jobs)
+    (end_in_reach k p j (All-get_or (IsPointUpTo (reach k)) (p ∷ points) 0 p (omega arith) small) fit.0)
+    (points_in_reach k points jobs (omega arith) (λ i d within. small (suc i) d (omega arith)) fit.1)
+
+-- all are within the bound
+pub all_small : (k : ℕ) (points : List Point) → k ≤ 255 → AreInReach k points → All (IsPointUpTo (2 ^ 40)) points
+all_small k points few small = λ i d within. point_in_reach k (get_or points i d) few (small i d within)
+
+-- as many points as before
+pub length-points_after : (points : List Point) (jobs : List Job) → length points ≡ length jobs → length (points_after points jobs) ≡ length points
+length-points_after [] jobs many = refl
+length-points_after (p ∷ points) [] many = absurd (omega arith)
+length-points_after (p ∷ points) (j ∷ jobs) many = ap suc (length-points_after points jobs (omega arith))
+
+-- ---- sums of 64 bits
+
+-- a number kept in 64 bits
+pub kept : (x : ℤ) → IsUpTo (2 ^ 43) x → to_z w64 (of_z w64 x) ≡ x
+kept x small = to_z-of_z w64 x (omega (arith, ints, small.0, small.1))
+
+-- the four points of an arc, as they are kept in 64 bits
+pub arc_kept : (present centre w first second : ℤ) → IsUpTo (2 ^ 40) present → IsUpTo (2 ^ 28) centre → IsUpTo (2 ^ 41) w → IsUpTo (2 ^ 41) first → IsUpTo (2 ^ 41) second →
+    to_z w64 (of_z w64 present)
+    ∷ to_z w64 (of_z w64 (to_z w64 (of_z w64 present) +ℤ to_z w64 (of_z w64 first)))
+    ∷ to_z w64 (of_z w64 (to_z w64 (of_z w64 (to_z w64 (of_z w64 centre) +ℤ to_z w64 (of_z w64 w))) +ℤ to_z w64 (of_z w64 second)))
+    ∷ to_z w64 (of_z w64 (to_z w64 (of_z w64 centre) +ℤ to_z w64 (of_z w64 w)))
+    ∷ []
+    ≡ present ∷ (present +ℤ first) ∷ ((centre +ℤ w) +ℤ second) ∷ (centre +ℤ w) ∷ []
+arc_kept present centre w first second p c v f s =
+    let present_is : to_z w64 (of_z w64 present) ≡ present = kept present (wider (2 ^ 40) (2 ^ 43) present (omega arith) p) in
+    let centre_is : to_z w64 (of_z w64 centre) ≡ centre = kept centre (wider (2 ^ 28) (2 ^ 43) centre (omega arith) c) in
+    let w_is : to_z w64 (of_z w64 w) ≡ w = kept w (wider (2 ^ 41) (2 ^ 43) w (omega arith) v) in
+    let first_is : to_z w64 (of_z w64 first) ≡ first = kept first (wider (2 ^ 41) (2 ^ 43) first (omega arith) f) in
+    let second_is : to_z w64 (of_z w64 second) ≡ second = kept second (wider (2 ^ 41) (2 ^ 43) second (omega arith) s) in
+    let one_is : to_z w64 (of_z w64 (present +ℤ first)) ≡ present +ℤ first = kept (present +ℤ first) (omega (arith, ints, p.0, f.0), omega (arith, ints, p.1, f.1)) in
+    let three_is : to_z w64 (of_z w64 (centre +ℤ w)) ≡ centre +ℤ w = kept (centre +ℤ w) (omega (arith, ints, c.0, v.0), omega (arith, ints, c.1, v.1)) in
+    let two_is : to_z w64 (of_z w64 ((centre +ℤ w) +ℤ second)) ≡ (centre +ℤ w) +ℤ second = kept ((centre +ℤ w) +ℤ second) (omega (arith, ints, c.0, v.0, s.0), omega (arith, ints, c.1, v.1, s.1)) in
+    rw (present_is, centre_is, w_is, first_is, second_is, one_is, three_is, two_is) refl

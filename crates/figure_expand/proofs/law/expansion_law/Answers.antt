@@ -1,0 +1,10 @@
+use Rattle.figure_expand.proofs.Pieces.{flies_as_written, piece_whole, piece_begins, piece_ends}
+use Rattle.figure_expand.proofs.law.expansion_law.Goals as goal
+
+pub returns : goal.returns
+returns c = record {
+  written = flies_as_written;
+  whole = piece_whole;
+  begins = piece_begins;
+  ends = piece_ends;
+}

@@ -1,0 +1,7 @@
+use Rattle.std.proofs.Common.{◌≡◌, drop}
+use Rattle.figure_expand.specs.Expanded.{start_values, first_unfit}
+use Rattle.figure_expand.proofs.range.starts_fault.Given as goal
+
+-- the starts so far fit
+abbrev pub invariant-loop-start : goal.invariant-loop-start
+invariant-loop-start l = first_unfit (start_values l.starts) ≡ first_unfit (start_values (drop l.start-index l.starts))

@@ -1,0 +1,43 @@
+-- What a drone flies in a cue of a grid: its piece, and the written position.
+use Rattle.std.specs.Prelude.{◌≡◌, ℕ, ◌<◌, ◌≤◌, List, [], ◌∷◌, map, take, ℤ, pos, length, slice_index_or}
+use Rattle.choreo_lines.specs.declared.parts.Point.{Point}
+use Rattle.choreo_reader.specs.declared.show.DroneLine.{DroneLine}
+use Rattle.cue_grid.specs.declared.grid.Job.{Job}
+use Rattle.cue_grid.specs.declared.grid.Cue.{Cue}
+use Rattle.cue_grid.specs.declared.grid.Grid.{Grid}
+use Rattle.mm_rounding.specs.Rounding.{controls, axis_on}
+use Rattle.mm_rounding.specs.Near.{position, AtEachFraction}
+use Rattle.mm_rounding.specs.declared.piece.MicroPiece.{MicroPiece}
+use Rattle.figure_expand.specs.Acts.{act_of, point_after}
+use Rattle.figure_expand.specs.Written.{written}
+use Rattle.figure_expand.specs.Expanded.{job_in, no_job, expanded}
+
+-- where a drone starts; the numbers count from 0
+abbrev pub start_of : Grid → ℕ → Point
+start_of g d = slice_index_or (map (λ (s : DroneLine). s.at) g.starts) d (record { x = pos 0; y = pos 0; z = pos 0; yaw = pos 0 })
+
+-- the jobs of a drone in these cues
+abbrev pub jobs_in : ℕ → List Cue → List Job
+jobs_in d cues = map (λ cue. job_in cue d) cues
+
+-- the job of a drone in a cue
+abbrev pub job_at : Grid → ℕ → ℕ → Job
+job_at g d k = slice_index_or (jobs_in d g.cues) k no_job
+
+-- where a drone is before a cue: at the end of the cue before, or at its start
+abbrev pub point_before : Grid → ℕ → ℕ → Point
+point_before g d k = point_after (start_of g d) (take k (jobs_in d g.cues))
+
+-- the written position of a drone on an axis at the part a / c of a cue
+abbrev pub written_at : Grid → ℕ → ℕ → ℕ → ℕ → ℕ → ℤ
+written_at g d k axis a c = written (point_before g d k) (act_of (job_at g d k)) axis (pos a) (pos c)
+
+-- the piece of a drone in a cue
+abbrev pub piece_at : Grid → ℕ → ℕ → MicroPiece
+piece_at g d k = slice_index_or (slice_index_or (expanded g) d []) k (record { ms = 0; axes = [] })
+
+-- On each axis and at each fraction of each cue, the piece of each drone is at the written position.
+abbrev pub FliesAsWritten : Grid → Type 0
+FliesAsWritten g =
+    (d k axis : ℕ) → d < length g.starts → k < length g.cues → axis < 4 →
+    AtEachFraction (λ a c. position (controls (axis_on (piece_at g d k) axis)) a c ≡ written_at g d k axis a c)

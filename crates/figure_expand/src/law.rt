@@ -1,0 +1,22 @@
+//! What holds of all grids.
+
+ghost use Rattle.std.specs.Prelude.{ℕ, ◌≡◌, ◌<◌};
+ghost use Rattle.choreo_lines.specs.declared.parts.Point.{Point};
+ghost use Rattle.cue_grid.specs.declared.grid.Job.{Job};
+ghost use Rattle.cue_grid.specs.declared.grid.Grid.{Grid};
+ghost use Rattle.mm_rounding.specs.Rounding.{axis_on, first_control};
+ghost use Rattle.mm_rounding.specs.Near.{IsPiece, last_control};
+ghost use Rattle.figure_expand.specs.Acts.{act_of, end_of, on_axis};
+ghost use Rattle.figure_expand.specs.Controls.{piece_of};
+ghost use Rattle.figure_expand.specs.Flown.{FliesAsWritten};
+
+/// A law. The pieces of each grid are at the written position, on each axis and at each fraction of each cue. A piece
+/// begins where its drone is, and ends where the drone is before the next cue.
+pub fn expansion_law()
+    ensures written { (g : Grid) → FliesAsWritten g }
+    ensures whole { (p : Point) (ms : ℕ) (j : Job) → IsPiece (piece_of p ms j) }
+    ensures begins { (p : Point) (ms : ℕ) (j : Job) (axis : ℕ) → axis < 4
+        → first_control (axis_on (piece_of p ms j) axis) ≡ on_axis p axis }
+    ensures ends { (p : Point) (ms : ℕ) (j : Job) (axis : ℕ) → axis < 4
+        → last_control (axis_on (piece_of p ms j) axis) ≡ on_axis (end_of p (act_of j)) axis }
+{}
