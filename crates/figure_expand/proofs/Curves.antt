@@ -1,6 +1,6 @@
 -- The curve from rest to rest, as a closed polynomial and as a Bernstein sum: both are the first value times c^7, and the way times
 -- the share of it that is done.
-use Rattle.std.proofs.Common.{◌≡◌, ℕ, zero, suc, ◌≤◌, ℤ, pos, ◌+ℤ◌, ◌-ℤ◌, ◌*ℤ◌, ◌≤ℤ◌, [], ◌∷◌, arith, refl, sym, ap, ◌∙◌}
+use Rattle.std.proofs.Common.{◌≡◌, ℕ, zero, suc, ◌≤◌, ℤ, pos, ◌+ℤ◌, ◌-ℤ◌, ◌*ℤ◌, [], ◌∷◌, arith, sym, ap, ◌∙◌}
 use Rattle.std.proofs.lemmas.Int.{ints}
 use Rattle.fleet_math.specs.Sums.{power}
 use Rattle.fleet_math.specs.Bernstein.{at, bern, bernstein, weight}

@@ -1,5 +1,5 @@
 -- The pieces of a grid are where the text says.
-use Rattle.std.proofs.Common.{◌≡◌, ℕ, zero, suc, ◌+◌, ◌<◌, ◌≤◌, ℤ, pos, ◌+ℤ◌, ◌-ℤ◌, ◌*ℤ◌, List, [], ◌∷◌, ◌++◌, map, take, drop, append_assoc, length, get_or, arith, refl, sym, ap, ◌∙◌}
+use Rattle.std.proofs.Common.{◌≡◌, ℕ, zero, suc, ◌+◌, ◌<◌, ℤ, pos, ◌+ℤ◌, ◌-ℤ◌, ◌*ℤ◌, List, [], ◌∷◌, ◌++◌, map, take, drop, append_assoc, length, get_or, arith, refl, sym, ap, ◌∙◌}
 use Rattle.std.specs.List.{All}
 use Rattle.std.proofs.lemmas.List.Elements.{All-nil, All-cons}
 use Rattle.std.proofs.lemmas.List.{drop_more}
@@ -15,15 +15,15 @@ use Rattle.cue_grid.specs.declared.grid.Job.{Job}
 use Rattle.cue_grid.specs.declared.grid.Cue.{Cue}
 use Rattle.cue_grid.specs.declared.grid.Grid.{Grid}
 use Rattle.mm_rounding.specs.Rounding.{controls, axis_on, first_control}
-use Rattle.mm_rounding.specs.Near.{position, IsAxis, IsPiece, last_control, AtEachFraction}
+use Rattle.mm_rounding.specs.Near.{position, IsAxis, IsPiece, last_control}
 use Rattle.mm_rounding.specs.declared.piece.Axis.{Axis}
-use Rattle.mm_rounding.specs.declared.piece.Axis.TheVariants.{One, Two, Four, Eight}
+use Rattle.mm_rounding.specs.declared.piece.Axis.TheVariants.{One}
 use Rattle.mm_rounding.specs.declared.piece.MicroPiece.{MicroPiece}
 use Rattle.figure_expand.specs.Acts.{act_of, end_of, on_axis, point_after}
 use Rattle.figure_expand.specs.Written.{stays, straight, from_rest, written}
-use Rattle.figure_expand.specs.Controls.{even_controls, rest_controls, axes_of, piece_of}
+use Rattle.figure_expand.specs.Controls.{axes_of, piece_of}
 use Rattle.figure_expand.specs.Expanded.{job_in, no_job, pieces_from, expanded_from, expanded}
-use Rattle.figure_expand.specs.Flown.{start_of, jobs_in, job_at, point_before, written_at, piece_at, FliesAsWritten}
+use Rattle.figure_expand.specs.Flown.{start_of, jobs_in, job_at, point_before, FliesAsWritten}
 use Rattle.figure_expand.proofs.Curves.{bern-steps, from_rest-share}
 
 -- ---- the polynomial of each kind of control values

@@ -1,5 +1,5 @@
 -- How far the numbers of points and acts are from 0.
-use Rattle.std.proofs.Common.{◌≡◌, ℕ, zero, suc, ◌+◌, ◌*◌, ◌^◌, ◌<◌, ◌≤◌, Bool, true, false, ℤ, pos, neg_ℤ, ◌+ℤ◌, ◌-ℤ◌, ◌≤ℤ◌, List, [], ◌∷◌, length, get_or, to_z, of_z, w64, arith, refl, sym, ap, ◌∙◌, subst}
+use Rattle.std.proofs.Common.{◌≡◌, ℕ, zero, suc, ◌+◌, ◌*◌, ◌^◌, ◌<◌, ◌≤◌, Bool, true, false, ℤ, pos, ◌+ℤ◌, ◌-ℤ◌, List, [], ◌∷◌, length, get_or, to_z, of_z, w64, arith, refl, sym, ap, subst}
 use Rattle.std.specs.List.{All}
 use Rattle.std.proofs.lemmas.Int.{ints, to_z-of_z}
 use Rattle.std.proofs.lemmas.List.Elements.{All-nil, All-cons, All-get_or}
@@ -16,7 +16,7 @@ use Rattle.cue_grid.specs.declared.grid.Cue.{Cue}
 use Rattle.cue_grid.specs.Frames.{mirrored, turned_once, turned, shifted, applied, IsUpTo, IsPointUpTo, IsShiftUpTo}
 use Rattle.cue_grid.specs.Grids.{FitsJob, FitJobs, FitsCue, FitCues}
 use Rattle.figure_expand.specs.Acts.{place, heading, place_at, act_in, act_of, end_x, end_y, end_of}
-use Rattle.figure_expand.specs.Expanded.{start_points, points_after, job_in, no_job}
+use Rattle.figure_expand.specs.Expanded.{start_points, points_after}
 use Rattle.figure_expand.specs.Bounds.{IsActUpTo, reach, AreInReach}
 
 -- ---- the points of a show

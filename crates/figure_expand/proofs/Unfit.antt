@@ -1,5 +1,5 @@
 -- The first value that does not fit, step by step.
-use Rattle.std.proofs.Common.{◌≡◌, ℕ, zero, suc, ◌+◌, ◌<◌, ◌≤◌, Bool, true, false, cond, Option, Some, None, ℤ, List, [], ◌∷◌, ◌++◌, length, get_or, set, drop, arith, refl, sym, ap, ◌∙◌}
+use Rattle.std.proofs.Common.{◌≡◌, ℕ, zero, suc, ◌+◌, ◌<◌, ◌≤◌, Bool, true, false, cond, Some, None, List, [], ◌∷◌, ◌++◌, length, get_or, set, drop, arith, refl, sym, ap, ◌∙◌}
 use Rattle.choreo_lines.specs.declared.parts.Point.{Point}
 use Rattle.cue_grid.specs.declared.grid.Job.{Job}
 use Rattle.figure_expand.specs.declared.fault.ExpandFault.{ExpandFault}

@@ -8,7 +8,7 @@ use Rattle.cue_grid.specs.declared.grid.Job.{Job}
 use Rattle.mm_rounding.specs.declared.piece.Axis.{Axis}
 use Rattle.mm_rounding.specs.declared.piece.Axis.TheVariants.{One, Two, Four, Eight}
 use Rattle.mm_rounding.specs.declared.piece.MicroPiece.{MicroPiece}
-use Rattle.figure_expand.specs.Acts.{act_of, arc_x, arc_y, end_of, on_axis}
+use Rattle.figure_expand.specs.Acts.{act_of, arc_x, arc_y, on_axis}
 use Rattle.figure_expand.specs.Written.{four}
 
 -- straight from A to B, evenly: degree one

@@ -1,5 +1,5 @@
 -- What a drone flies in a cue of a grid: its piece, and the written position.
-use Rattle.std.specs.Prelude.{◌≡◌, ℕ, ◌<◌, ◌≤◌, List, [], ◌∷◌, map, take, ℤ, pos, length, slice_index_or}
+use Rattle.std.specs.Prelude.{◌≡◌, ℕ, ◌<◌, List, [], map, take, ℤ, pos, length, slice_index_or}
 use Rattle.choreo_lines.specs.declared.parts.Point.{Point}
 use Rattle.choreo_reader.specs.declared.show.DroneLine.{DroneLine}
 use Rattle.cue_grid.specs.declared.grid.Job.{Job}

@@ -1,14 +1,12 @@
 -- The written position: closed polynomials of what the text says. At the part a / c of a cue they are numerators over c ^ 7, in
 -- micrometres, and yaw in tenths of a degree.
-use Rattle.std.specs.Prelude.{ℕ, zero, suc, List, [], ◌∷◌, ℤ, pos, ◌+ℤ◌, ◌-ℤ◌, ◌*ℤ◌, slice_index_or, take}
+use Rattle.std.specs.Prelude.{ℕ, zero, suc, List, [], ◌∷◌, ℤ, pos, ◌+ℤ◌, ◌-ℤ◌, ◌*ℤ◌}
 use Rattle.fleet_math.specs.Sums.{power}
 use Rattle.fleet_math.specs.Bernstein.{at, bern}
-use Rattle.fleet_math.specs.Moments.{Moment}
 use Rattle.choreo_lines.specs.declared.parts.Point.{Point}
 use Rattle.choreo_lines.specs.declared.parts.Act.{Act}
 use Rattle.choreo_lines.specs.declared.parts.Act.TheVariants as act
-use Rattle.cue_grid.specs.declared.grid.Job.{Job}
-use Rattle.figure_expand.specs.Acts.{act_of, arc_x, arc_y, on_axis, point_after}
+use Rattle.figure_expand.specs.Acts.{arc_x, arc_y, on_axis}
 
 -- stays at A
 abbrev pub stays : ℤ → ℤ → ℤ

@@ -1,4 +1,7 @@
-//! Compiles a choreography of drones.
+//! The program: it compiles a choreography of drones.
+//!
+//! `run` (in `top`) is the program over any source and any sink, and has its contract. `main` is the trusted edge: it
+//! hands in the words and standard input and output, and ends with the status.
 #![tactic(auto)]
 
 mod compile;
@@ -7,18 +10,26 @@ mod top;
 use fleet_io::{StdSink, StdSource};
 use std::process::ExitCode;
 use std::{env, io};
+use top::{NO_MEMORY, run};
+
+/// The system didn't give the words, or they aren't UTF-8.
+const NO_WORDS: u8 = 17;
 
 fn main(rt: HostRuntime) -> ExitCode {
-    let Ok(mut args) = env::args(&rt) else {
-        return ExitCode::from(17);
+    let mut args = match env::args(&rt) {
+        Ok(args) => args,
+        Err(error) if error.kind() == io::ErrorKind::OutOfMemory => {
+            return ExitCode::from(NO_MEMORY);
+        }
+        Err(_) => return ExitCode::from(NO_WORDS),
     };
     let _ = args.next();
     let Ok(words) = args.collect(rt.alloc()) else {
-        return ExitCode::from(1);
+        return ExitCode::from(NO_MEMORY);
     };
     let mut source = StdSource::make(rt.reader());
     let mut sink = StdSink::make(io::writer(&rt));
-    ExitCode::from(top::run(rt.alloc(), &words, &mut source, &mut sink))
+    ExitCode::from(run(rt.alloc(), &words, &mut source, &mut sink))
 }
 
 #[cfg(test)]

@@ -12,7 +12,7 @@ use std::alloc::Global;
 /// The plan text was written.
 const DONE: u8 = 0;
 /// Memory is wanting, and nothing was written.
-const NO_MEMORY: u8 = 1;
+pub const NO_MEMORY: u8 = 1;
 /// The words are no command.
 const USAGE: u8 = 2;
 /// The text is not one that the program reads.

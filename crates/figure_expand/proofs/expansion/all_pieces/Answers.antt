@@ -1,5 +1,4 @@
 use Rattle.std.proofs.Common.{refl, sym, subst}
-use Rattle.cue_grid.specs.Grids.{FitCues}
 use Rattle.choreo_reader.specs.Valid.{FitDroneLines}
 use Rattle.figure_expand.specs.Expanded.{expanded}
 use Rattle.figure_expand.proofs.Reach.{start_in_reach}

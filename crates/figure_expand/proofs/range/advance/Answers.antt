@@ -1,4 +1,4 @@
-use Rattle.std.proofs.Common.{◌≡◌, ℤ, pos, ◌+◌, ◌^◌, ◌<◌, ◌≤◌, List, length, get_or, set, arith, sym, ap, ◌∙◌, subst}
+use Rattle.std.proofs.Common.{◌≡◌, pos, ◌^◌, List, get_or, set, arith, sym, ap, ◌∙◌, subst}
 use Rattle.std.proofs.lemmas.List.Elements.{All-get_or}
 use Rattle.choreo_lines.specs.declared.parts.Point.{Point}
 use Rattle.choreo_lines.specs.declared.parts.Act.{Act}

@@ -1,4 +1,4 @@
-use Rattle.std.proofs.Common.{pos, ◌^◌, List, get_or, arith, sym, ap, ◌∙◌}
+use Rattle.std.proofs.Common.{pos, List, get_or, arith, sym, ap, ◌∙◌}
 use Rattle.choreo_lines.specs.declared.parts.Point.{Point}
 use Rattle.choreo_lines.specs.declared.parts.Act.{Act}
 use Rattle.mm_rounding.specs.declared.piece.Axis.{Axis}

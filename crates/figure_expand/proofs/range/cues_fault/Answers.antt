@@ -1,7 +1,6 @@
-use Rattle.std.proofs.Common.{◌≡◌, ℕ, ◌+◌, ◌<◌, ◌≤◌, List, length, get_or, drop, arith, sym, ap, ◌∙◌, subst}
+use Rattle.std.proofs.Common.{◌≡◌, ◌+◌, List, length, drop, arith, sym, ap, ◌∙◌, subst}
 use Rattle.choreo_lines.specs.declared.parts.Point.{Point}
 use Rattle.cue_grid.specs.declared.grid.Job.{Job}
-use Rattle.cue_grid.specs.declared.grid.Cue.{Cue}
 use Rattle.cue_grid.specs.Grids.{FitJobs}
 use Rattle.figure_expand.specs.Bounds.{AreInReach}
 use Rattle.figure_expand.specs.Expanded.{cue_values, values_from, points_after, first_unfit}
