@@ -1,0 +1,4 @@
+pub mod Firsts
+pub mod Halves
+pub mod Trees
+pub mod SearchLaws

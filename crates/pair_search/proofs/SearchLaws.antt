@@ -1,0 +1,173 @@
+-- The laws of a search.
+use Rattle.std.proofs.Common.{◌≡◌, ◌↔◌, ℕ, zero, suc, ◌+◌, ◌^◌, ◌≤◌, ◌<◌, ℤ, Bool, true, false, nat_lt, arith, refl, sym, ◌∙◌, ap, List, [], length, get_or, Option, Some, None, is_none, Result, Ok, Err, IfOk}
+use Rattle.std.specs.Option.{option_map, option_or}
+use Rattle.std.proofs.lemmas.Bool.Decides.{nat_tests}
+use Rattle.std.proofs.lemmas.List.Quantifiers.{position-Some}
+use Rattle.std.specs.declared.alloc.AllocError.{AllocError}
+use Rattle.bezier_core.specs.declared.Bez.{Bez}
+use Rattle.halving.specs.declared.Place.{Place}
+use Rattle.sep_parts.specs.Directions.{direction_of, threshold}
+use Rattle.sep_parts.specs.Separates.{Separates, least_value, low_value, part_along}
+use Rattle.sep_parts.specs.Levels.{left_half, right_half, root}
+use Rattle.sep_parts.proofs.Lows.{first_low-none, first_low-values}
+use Rattle.sep_certificate.specs.declared.certificate.Node.{Node}
+use Rattle.sep_certificate.specs.declared.judge.Rules.{Rules}
+use Rattle.sep_certificate.specs.Certificates.{Tree, leaf, split, IsValidTree}
+use Rattle.pair_search.specs.declared.walk.Found.{Found}
+use Rattle.pair_search.specs.declared.walk.Found.TheVariants.{Clear, Blocked}
+use Rattle.pair_search.specs.Search.{HasDirection, IsClear, best_tree, blocked_place, first_direction, first_without, place_at, split_of}
+use Rattle.pair_search.specs.Laws.{IsFirstBlocked, IsFirstDirection, SearchLaw}
+use Rattle.pair_search.specs.Steps.{WalkGives}
+use Rattle.pair_search.proofs.Firsts.{position-is}
+use Rattle.pair_search.proofs.Trees.{Has, first_without-some, first_without-none}
+use Rattle.pair_search.proofs.Halves.{first-separates, first-there}
+
+-- ---- the first direction
+fails : (o : Option ℕ) → (o ≡ None → ⊥) → is_none o ≡ false
+fails None e = absurd (e refl)
+fails (Some k) e = refl
+
+first_law : (r h : ℕ) (diff : List (Bez 8)) (dirs : List (List ℤ)) (place : Place) (dir : ℕ) → (first_direction r h diff dirs place ≡ Some dir) ↔ IsFirstDirection r h diff dirs place dir
+unfolding first_direction
+first_law r h diff dirs place dir = (
+  λ e. record {
+    inside = (first-separates r h diff dirs place dir e).0;
+    separates = (first-separates r h diff dirs place dir e).1;
+    none_before = λ k before separates. clash (is_none (low_value r h diff place (get_or dirs k [])))
+        ((position-Some (λ n. is_none (low_value r h diff place n)) dirs dir [] e).2 k before)
+        (ap is_none (first_low-none (part_along r h diff place (get_or dirs k [])) (least_value (threshold r h (get_or dirs k [])) place.depth) separates));
+  },
+  λ is. position-is (λ n. is_none (low_value r h diff place n)) dirs dir [] is.inside
+      (λ k before. fails (low_value r h diff place (get_or dirs k []))
+      (λ none. is.none_before k before (first_low-values (part_along r h diff place (get_or dirs k [])) (least_value (threshold r h (get_or dirs k [])) place.depth) none)))
+      (ap is_none (first_low-none (part_along r h diff place (get_or dirs dir [])) (least_value (threshold r h (get_or dirs dir [])) place.depth) is.separates)),
+)
+  where
+    clash : (b : Bool) → b ≡ false → b ≡ true → ⊥
+    clash true e f = cc
+    clash false e f = cc
+
+-- ---- the first part that is blocked
+-- what the first number without something tells
+abbrev Told : (ℕ → Option ℕ) → ℕ → ℕ → Option ℕ → Type 0
+Told f n k None = (j : ℕ) → k ≤ j → j < k + n → (dir : ℕ) × (f j ≡ Some dir)
+Told f n k (Some i) = (i < k + n) × (f i ≡ None) × ((j : ℕ) → k ≤ j → j < i → (dir : ℕ) × (f j ≡ Some dir))
+
+told_more : (f : ℕ → Option ℕ) (n k dir : ℕ) (o : Option ℕ) → f k ≡ Some dir → Told f n (suc k) o → Told f (suc n) k o
+told_more f n k dir None e told = λ j from to. go j from to (nat_lt k j) refl
+  where
+    go : (j : ℕ) → k ≤ j → j < k + suc n → (b : Bool) → nat_lt k j ≡ b → (dir : ℕ) × (f j ≡ Some dir)
+    go j from to true is = told j (grind (arith, nat_tests)) (omega arith)
+    go j from to false is = let same : j ≡ k = grind (arith, nat_tests) in (dir, ap f same ∙ e)
+told_more f n k dir (Some i) e told = (omega (arith, told.0), told.1, λ j from to. go j to (nat_lt k j) refl from)
+  where
+    go : (j : ℕ) → j < i → (b : Bool) → nat_lt k j ≡ b → k ≤ j → (dir : ℕ) × (f j ≡ Some dir)
+    go j to true is from = told.2 j (grind (arith, nat_tests)) to
+    go j to false is from = let same : j ≡ k = grind (arith, nat_tests) in (dir, ap f same ∙ e)
+
+first_without-told : (f : ℕ → Option ℕ) (n k : ℕ) → Told f n k (first_without f n k)
+first_without-told f zero k = λ j from to. absurd (omega arith)
+first_without-told f (suc n) k = go (f k) refl (first_without-told f n (suc k))
+  where
+    go : (o : Option ℕ) → f k ≡ o → Told f n (suc k) (first_without f n (suc k)) → Told f (suc n) k (first_without f (suc n) k)
+    go None e told = rw e (omega arith, e, λ j from to. absurd (omega arith))
+    go (Some dir) e told = rw e (told_more f n k dir (first_without f n (suc k)) e told)
+
+module _ (r h : ℕ) (diff : List (Bez 8)) (dirs : List (List ℤ)) (depth : ℕ) where
+  first : Place → Option ℕ
+  first = first_direction r h diff dirs
+
+  has_of : (place : Place) → HasDirection r h diff dirs place → Has (first_direction r h diff dirs) place
+  has_of place has = first-there r h diff dirs place has.0 has.1 has.2
+
+  direction_there : (place : Place) → Has (first_direction r h diff dirs) place → HasDirection r h diff dirs place
+  direction_there place has = (has.0, (first-separates r h diff dirs place has.0 has.1).0, (first-separates r h diff dirs place has.0 has.1).1)
+
+  pub clear_law : (blocked_place (first_direction r h diff dirs) depth ≡ None) ↔ IsClear r h diff dirs depth
+  unfolding blocked_place
+  clear_law = (
+    λ none index inside. direction_there (place_at depth index) (told none index (omega arith) (omega arith)),
+    λ clear. first_without-none (λ index. first_direction r h diff dirs (place_at depth index)) (2 ^ depth) 0 (λ j below. has_of (place_at depth j) (clear j (omega arith))),
+  )
+    where
+      told : first_without (λ index. first_direction r h diff dirs (place_at depth index)) (2 ^ depth) 0 ≡ None →
+          Told (λ index. first_direction r h diff dirs (place_at depth index)) (2 ^ depth) 0 None
+      told none = rw none at (first_without-told (λ index. first_direction r h diff dirs (place_at depth index)) (2 ^ depth) 0)
+
+  pub blocked_law : (index : ℕ) → (blocked_place (first_direction r h diff dirs) depth ≡ Some index) ↔ IsFirstBlocked r h diff dirs depth index
+  unfolding blocked_place
+  blocked_law index = (
+    λ some. record {
+      inside = omega (arith, (told some).0);
+      blocked = λ has. clash (first_direction r h diff dirs (place_at depth index)) (has_of (place_at depth index) has) (told some).1;
+      clear_before = λ k before. direction_there (place_at depth k) ((told some).2 k (omega arith) before);
+    },
+    λ is. first_without-some (λ index. first_direction r h diff dirs (place_at depth index)) (2 ^ depth) 0 index (omega arith) (omega (arith, is.inside))
+        (none_of (first_direction r h diff dirs (place_at depth index)) refl is.blocked)
+        (λ j before. has_of (place_at depth j) (is.clear_before j before)),
+  )
+    where
+      told : first_without (λ index. first_direction r h diff dirs (place_at depth index)) (2 ^ depth) 0 ≡ Some index →
+          Told (λ index. first_direction r h diff dirs (place_at depth index)) (2 ^ depth) 0 (Some index)
+      told some = rw some at (first_without-told (λ index. first_direction r h diff dirs (place_at depth index)) (2 ^ depth) 0)
+
+      clash : (o : Option ℕ) → (dir : ℕ) × (o ≡ Some dir) → o ≡ None → ⊥
+      clash None has e = cc
+      clash (Some k) has e = cc
+
+      none_of : (o : Option ℕ) → first_direction r h diff dirs (place_at depth index) ≡ o → (HasDirection r h diff dirs (place_at depth index) → ⊥) → first_direction r h diff dirs (place_at depth index) ≡ None
+      none_of None e lacks = e
+      none_of (Some dir) e lacks = absurd (lacks (direction_there (place_at depth index) (dir, e)))
+
+-- ---- the best tree is valid
+module _ (rules : Rules) (diff : List (Bez 8)) (dirs : List (List ℤ)) where
+  leaf_valid : (place : Place) (dir : ℕ) (tree : Tree) → Separates rules.r rules.h diff place (direction_of dirs dir) → Some (leaf dir) ≡ Some tree → IsValidTree rules dirs diff place tree
+  leaf_valid place dir (leaf d) separates e = let same : dir ≡ d = cc in rw (← same) separates
+  leaf_valid place dir (split left right) separates e = cc
+
+  split_valid : (place : Place) (left right : Option Tree) (tree : Tree) → place.depth < rules.depth →
+      ((t : Tree) → left ≡ Some t → IsValidTree rules dirs diff (left_half place) t) → ((t : Tree) → right ≡ Some t → IsValidTree rules dirs diff (right_half place) t) →
+      split_of left right ≡ Some tree → IsValidTree rules dirs diff place tree
+  split_valid place None right tree shallow left_valid right_valid e = cc
+  split_valid place (Some l) None tree shallow left_valid right_valid e = cc
+  split_valid place (Some l) (Some r) (leaf d) shallow left_valid right_valid e = cc
+  split_valid place (Some l) (Some r) (split left right) shallow left_valid right_valid e =
+      (shallow, left_valid left (let same : l ≡ left = cc in ap Some same), right_valid right (let same : r ≡ right = cc in ap Some same))
+
+  best-valid : (n : ℕ) (place : Place) (tree : Tree) → place.depth + n ≤ rules.depth →
+      best_tree (first_direction rules.r rules.h diff dirs) n place ≡ Some tree → IsValidTree rules dirs diff place tree
+  best-valid zero place tree deep is = go (first_direction rules.r rules.h diff dirs place) refl is
+    where
+      go : (o : Option ℕ) → first_direction rules.r rules.h diff dirs place ≡ o → option_map leaf o ≡ Some tree → IsValidTree rules dirs diff place tree
+      go None e is = cc
+      go (Some dir) e is = leaf_valid place dir tree (first-separates rules.r rules.h diff dirs place dir e).1 is
+  best-valid (suc n) place tree deep is =
+      go (first_direction rules.r rules.h diff dirs place) refl is
+      (split_valid place (best_tree (first_direction rules.r rules.h diff dirs) n (left_half place)) (best_tree (first_direction rules.r rules.h diff dirs) n (right_half place)) tree (omega arith)
+      (λ t e. best-valid n (left_half place) t (omega arith) e) (λ t e. best-valid n (right_half place) t (omega arith) e))
+    where
+      go : (o : Option ℕ) → first_direction rules.r rules.h diff dirs place ≡ o →
+          option_or (option_map leaf o) (split_of (best_tree (first_direction rules.r rules.h diff dirs) n (left_half place)) (best_tree (first_direction rules.r rules.h diff dirs) n (right_half place))) ≡ Some tree →
+          (split_of (best_tree (first_direction rules.r rules.h diff dirs) n (left_half place)) (best_tree (first_direction rules.r rules.h diff dirs) n (right_half place)) ≡ Some tree → IsValidTree rules dirs diff place tree) →
+          IsValidTree rules dirs diff place tree
+      go None e is halves = halves is
+      go (Some dir) e is halves = leaf_valid place dir tree (first-separates rules.r rules.h diff dirs place dir e).1 is
+
+-- ---- all laws
+pub laws : SearchLaw
+laws = record {
+  first = first_law;
+  clear = clear_law;
+  blocked = blocked_law;
+  valid = λ rules diff dirs tree is. best-valid rules diff dirs rules.depth root tree (omega arith) is;
+}
+
+-- a search is clear exactly where each part of the depth has a direction
+pub clear_found : (r h : ℕ) (diff : List (Bez 8)) (dirs : List (List ℤ)) (depth : ℕ) (result : Result Found AllocError) (nodes : List Node) →
+    WalkGives (first_direction r h diff dirs) depth result nodes → IfOk result (λ (found : Found). (found ≡ Clear) ↔ IsClear r h diff dirs depth)
+clear_found r h diff dirs depth (Ok Clear) nodes gives = (λ e. (clear_law r h diff dirs depth).0 gives.0, λ clear. refl)
+clear_found r h diff dirs depth (Ok (Blocked index)) nodes gives = (λ e. cc, λ clear. absurd (none_some ((clear_law r h diff dirs depth).1 clear) gives))
+  where
+    none_some : {o : Option ℕ} → o ≡ None → o ≡ Some index → ⊥
+    none_some {o} e f = cc
+clear_found r h diff dirs depth (Err e) nodes gives = tt

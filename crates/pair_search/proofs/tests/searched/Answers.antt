@@ -1,0 +1,12 @@
+use Rattle.std.proofs.Common.{◌^◌, All, refl, inl, lit<, arith}
+use Rattle.bezier_core.specs.declared.Bez.{Bez}
+use Rattle.fleet_math.specs.Numbers.{IsBelow}
+use Rattle.sep_parts.specs.declared.directions.TheConstants.{DIRECTIONS}
+use Rattle.sep_parts.proofs.Lows.{three}
+use Rattle.sep_parts.proofs.Table.{small_table}
+use Rattle.pair_search.proofs.tests.searched.Goals as goal
+
+pub search-requires : goal.search-requires
+search-requires c =
+    (lit< tt, (c.requires, ((omega arith, omega arith), ((omega arith, omega arith), (c.new-nodes.ensures.items, (inl refl, (small_table DIRECTIONS.n refl,
+    three (λ (curve : Bez 8). All (IsBelow (2 ^ 30)) curve.b) c.raised.result c.raised-2.result c.raised-3.result c.raised.ensures c.raised-2.ensures c.raised-3.ensures)))))))

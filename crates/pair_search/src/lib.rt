@@ -1,0 +1,16 @@
+//! The search for a certificate of one pair of drones in one cue.
+//!
+//! [`search`] finds the tree with the largest possible leaves, each with the first direction of the table that separates its
+//! part of the cue, exactly where each part of the greatest depth has such a direction; else it names the first part that has
+//! none. The halves of a separated part are separated, so nothing is lost by stopping at the first leaf on a way down.
+//!
+//! It stands on `sep_certificate`, which has the trees and accepts what is found, and on `sep_parts`, which has the directions
+//! and the parts.
+#![tactic(auto)]
+
+mod first;
+#[cfg(test)]
+mod tests;
+mod walk;
+
+pub use walk::{Found, search, search_law};

@@ -1,0 +1,176 @@
+//! The walk over the parts of a cue, the first half of a part before the second.
+
+ghost use Rattle.std.specs.Prelude.{◌≡◌, ℕ, ◌+◌, ◌^◌, ◌≤◌, ◌<◌, ◌∷◌, ◌++◌, [], length, map, All, IfOk, OnOk, ◌↔◌};
+ghost use Rattle.fleet_math.specs.Numbers.{IsBelow};
+ghost use Rattle.sep_parts.specs.Directions.{AreSmall, IsAxis, IsTableSize, threshold};
+ghost use Rattle.sep_parts.specs.Levels.{IsLevel, IsStack, places_of};
+ghost use Rattle.sep_certificate.specs.Certificates.{places_below};
+ghost use Rattle.pair_search.specs.Search.{IsClear, SearchGives, first_direction};
+ghost use Rattle.pair_search.specs.Laws.{SearchLaw};
+ghost use Rattle.pair_search.specs.Steps.{IsShallow, WalkGives, node_for};
+
+use crate::first::first_direction;
+use bezier_core::Bez;
+use halving::Place;
+use sep_certificate::Node;
+use sep_parts::{Dirs, Level, Stack, level_halves, thresholds};
+use std::alloc::AllocError;
+
+/// What a search found.
+#[derive(Clone, Copy, Debug, PartialEq, Eq)]
+pub enum Found {
+    /// Each part of the greatest depth has a separating direction.
+    Clear,
+    /// The part `index` of the 2^depth parts of the greatest depth has no separating direction, and each part before it has
+    /// one. Parts count from 0.
+    Blocked { index: u16 },
+}
+
+// By what parts are judged: the half axes of the ellipsoids, and the greatest depth of a part.
+#[derive(Clone, Copy)]
+struct Rules {
+    r: u16,
+    h: u16,
+    depth: u8,
+}
+
+/// Searches the tree of a pair of drones in a cue, for ellipsoids of half axes `r`, `r` and `h` in millimetres. `diff` has the
+/// raised curves of the second drone less those of the first, `dirs` the table of directions, and `nodes` is empty.
+///
+/// `Clear` exactly where each of the 2^`depth` parts of the cue has a separating direction. Then `nodes` is, in preorder, the
+/// tree with the largest possible leaves, each with the first direction in the order of the table that separates its part.
+/// `Blocked` exactly where some part of that depth has no separating direction: the first such part; `nodes` is empty then. Want
+/// of memory is the only refusal, and leaves `nodes` empty.
+pub fn search<const M: usize>(
+    diff: &[Bez<8>; 3],
+    dirs: &Dirs<M>,
+    r: u16,
+    h: u16,
+    depth: u8,
+    nodes: &mut Vec<Node>,
+) -> Result<Found, AllocError>
+    requires depth { depth ≤ 8 }
+    requires r { IsAxis r }
+    requires h { IsAxis h }
+    requires empty { nodes.old.items ≡ [] }
+    requires size { IsTableSize M }
+    requires entries { All AreSmall dirs.now.n }
+    requires values { All (λ curve. All (IsBelow (2 ^ 30)) curve.b) diff.now }
+    ensures exact { SearchGives (first_direction r h diff.now dirs.now.n) depth result nodes.new.items }
+    ensures clear { IfOk result (λ found. (found ≡ Found.Clear) ↔ IsClear r h diff.now dirs.now.n depth) }
+{
+    sizes_law(diff);
+    let rules = Rules { r, h, depth };
+    let answer = walk(diff, rules, &dirs.n, &thresholds(dirs, r, h), nodes);
+    if !matches!(answer, Ok(Found::Clear)) {
+        nodes.clear();
+    }
+    answer
+}
+
+// The nodes of the parts in preorder, up to the first part that is blocked.
+fn walk(
+    diff: &[Bez<8>; 3],
+    rules: Rules,
+    dirs: &[[i8; 3]],
+    thresholds: &[i128],
+    nodes: &mut Vec<Node>,
+) -> Result<Found, AllocError>
+    requires empty { nodes.old.items ≡ [] }
+    requires depth { rules.depth ≤ 8 }
+    requires r { IsAxis rules.r }
+    requires h { IsAxis rules.h }
+    requires few { length dirs.now ≤ 98 }
+    requires entries { All AreSmall dirs.now }
+    requires thresholds { thresholds.now ≡ map (threshold rules.r rules.h) dirs.now }
+    requires sizes { All (λ curve. length curve.b ≡ 8) diff.now }
+    requires values { All (λ curve. All (IsBelow (2 ^ 30)) curve.b) diff.now }
+    ensures { WalkGives (first_direction rules.r rules.h diff.now dirs.now) rules.depth result nodes.new.items }
+{
+    let mut stack = Stack::of(Level {
+        place: Place { depth: 0, index: 0 },
+        part: *diff,
+    });
+    while let Some(level) = stack.pop() {
+        match node_for(diff, &level, rules, dirs, thresholds) {
+            Some(node) => put(diff, &mut stack, nodes, &level, node)?,
+            None => {
+                return Ok(Found::Blocked {
+                    index: level.place.index,
+                });
+            }
+        }
+    }
+    Ok(Found::Clear)
+}
+
+// The node of a part: a leaf where a direction separates it, else a split above the greatest depth.
+fn node_for(
+    diff: &[Bez<8>; 3],
+    level: &Level,
+    rules: Rules,
+    dirs: &[[i8; 3]],
+    thresholds: &[i128],
+) -> Option<Node>
+    requires level { IsLevel diff.now level.now }
+    requires r { IsAxis rules.r }
+    requires h { IsAxis rules.h }
+    requires few { length dirs.now ≤ 98 }
+    requires entries { All AreSmall dirs.now }
+    requires thresholds { thresholds.now ≡ map (threshold rules.r rules.h) dirs.now }
+    requires values { All (λ curve. All (IsBelow (2 ^ 30)) curve.b) diff.now }
+    ensures { result ≡ node_for (first_direction rules.r rules.h diff.now dirs.now) rules.depth level.now.place }
+{
+    match first_direction(diff, level, rules.r, rules.h, dirs, thresholds) {
+        Some(dir) => Some(Node::Leaf { dir }),
+        None if level.place.depth < rules.depth => Some(Node::Split),
+        None => None,
+    }
+}
+
+// A node behind the others, and where it is a split the halves of its part onto the stack, the first half on top.
+fn put(
+    diff: &[Bez<8>; 3],
+    stack: &mut Stack,
+    nodes: &mut Vec<Node>,
+    level: &Level,
+    node: Node,
+) -> Result<(), AllocError>
+    requires values { All (λ curve. All (IsBelow (2 ^ 30)) curve.b) diff.now }
+    requires level { IsLevel diff.now level.now }
+    requires stack { IsStack diff.now stack.old }
+    requires room { length stack.old ≤ level.now.place.depth }
+    requires shallow { IsShallow level.now.place node }
+    ensures stack { OnOk result (IsStack diff.now stack.new) }
+    ensures places { OnOk result (places_of stack.new ≡ places_below level.now.place node ++ places_of stack.old) }
+    ensures nodes { OnOk result (nodes.new.items ≡ nodes.old.items ++ node ∷ []) }
+{
+    nodes.push(node)?;
+    if let Node::Split = node {
+        let (left, right) = level_halves(diff, level);
+        stack.push(right);
+        stack.push(left);
+    }
+    Ok(())
+}
+
+/// A law. The definitions that the contract of [`search`] cites are what their names say: the first direction of a place separates
+/// it, and none before it in the table does; no part is blocked exactly where each has a separating direction, and a blocked
+/// part is the first that has none; the best tree is valid at its depth.
+pub fn search_law()
+    ensures { SearchLaw }
+{}
+
+// A law: each of three curves of degree seven has eight control values.
+fn sizes_law(diff: &[Bez<8>; 3])
+    ensures { All (λ curve. length curve.b ≡ 8) diff.now }
+{
+    size_law(diff[0].b);
+    size_law(diff[1].b);
+    size_law(diff[2].b);
+}
+
+// A law: eight numbers are eight.
+fn size_law(b: [i128; 8])
+    ensures { length b ≡ 8 }
+{}
