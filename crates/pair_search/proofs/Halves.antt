@@ -77,9 +77,11 @@ pub first-separates : (r h : ℕ) (diff : List (Bez 8)) (dirs : List (List ℤ))
 unfolding first_direction
 first-separates r h diff dirs p dir e =
     let found : (dir < length dirs) × (is_none (low_value r h diff p (get_or dirs dir [])) ≡ true) × ((k : ℕ) → k < dir → is_none (low_value r h diff p (get_or dirs k [])) ≡ false) =
-    position-Some (λ n. is_none (low_value r h diff p n)) dirs dir [] e in
-    (found.0, first_low-values (part_along r h diff p (get_or dirs dir [])) (least_value (threshold r h (get_or dirs dir [])) p.depth)
-    (is_nothing (low_value r h diff p (get_or dirs dir [])) found.1))
+    position-Some (λ n. is_none (low_value r h diff p n)) dirs dir [] e in (
+      found.0,
+      first_low-values (part_along r h diff p (get_or dirs dir [])) (least_value (threshold r h (get_or dirs dir [])) p.depth)
+          (is_nothing (low_value r h diff p (get_or dirs dir [])) found.1),
+    )
   where
     is_nothing : (o : Option ℕ) → is_none o ≡ true → o ≡ None
     is_nothing None e = refl

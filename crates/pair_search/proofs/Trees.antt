@@ -135,7 +135,7 @@ module _ (first : Place → Option ℕ) (depth : ℕ) (left_has : (p : Place) �
       let deep : p.depth + 1 + n ≡ p.depth + suc n = omega arith in
       let last : 2 * (p.index + 1) ≡ 2 * p.index + 1 + 1 = omega arith in
       let below : j < start n (2 * p.index + 1 + 1) = rw (← last) to in
-      subst (λ (d : ℕ). Has first (place_at d j)) deep 
+      subst (λ (d : ℕ). Has first (place_at d j)) deep
       (either (nat_lt j (start n (2 * p.index + 1))) refl
       (λ before. all_have n (left_half p) j (left_has p has) from before)
       (λ behind. all_have n (right_half p) j (right_has p has) behind below))
@@ -168,14 +168,20 @@ module _ (first : Place → Option ℕ) (depth : ℕ) (left_has : (p : Place) �
       let more : depth - p.depth ≡ suc (depth - (p.depth + 1)) = omega arith in
       let last : 2 * (p.index + 1) ≡ 2 * p.index + 1 + 1 = omega arith in
       record {
-    b = walk.b;
-    next = (omega arith, walk.next.1 ∙ ap (λ (n : ℕ). start n p.index) more,
-        (omega arith, refl,
-        subst (λ (m : ℕ). AreNext depth (start (depth - (p.depth + 1)) m) ps) last (subst (λ (n : ℕ). AreNext depth (start n (p.index + 1)) ps) more walk.next.2)));
-    done = walk.done;
-    same = sym (split-behind nodes (best_tree first (depth - (p.depth + 1)) (left_half p)) (best_tree first (depth - (p.depth + 1)) (right_half p)) (forest first depth ps))
-        ∙ ap (λ (o : Option Tree). behind nodes (joined o (forest first depth ps))) (sym (best-split first (depth - (p.depth + 1)) p e) ∙ ap (λ (n : ℕ). best_tree first n p) (sym more)) ∙ walk.same;
-  }
+        b = walk.b;
+        next = (
+          omega arith,
+          walk.next.1 ∙ ap (λ (n : ℕ). start n p.index) more,
+          (
+            omega arith,
+            refl,
+            subst (λ (m : ℕ). AreNext depth (start (depth - (p.depth + 1)) m) ps) last (subst (λ (n : ℕ). AreNext depth (start n (p.index + 1)) ps) more walk.next.2),
+          ),
+        );
+        done = walk.done;
+        same = sym (split-behind nodes (best_tree first (depth - (p.depth + 1)) (left_half p)) (best_tree first (depth - (p.depth + 1)) (right_half p)) (forest first depth ps))
+            ∙ ap (λ (o : Option Tree). behind nodes (joined o (forest first depth ps))) (sym (best-split first (depth - (p.depth + 1)) p e) ∙ ap (λ (n : ℕ). best_tree first n p) (sym more)) ∙ walk.same;
+      }
 
   -- past a node
   pub past : (p : Place) (ps : List Place) (nodes : List Node) (node : Node) → node_for first depth p ≡ Some node → IsWalk first depth (p ∷ ps) nodes → IsWalk first depth (places_below p node ++ ps) (nodes ++ node ∷ [])
@@ -187,11 +193,11 @@ pub begun : (first : Place → Option ℕ) (depth : ℕ) → IsWalk first depth 
 begun first depth =
     let whole : depth - 0 ≡ depth = omega arith in
     record {
-  b = 0;
-  next = (omega arith, sym (start-zero (depth - 0)), start-is (depth - 0) 1 ∙ ap (λ (n : ℕ). 2 ^ n * 1) whole ∙ one (2 ^ depth));
-  done = λ j below. absurd (omega arith);
-  same = alone (best_tree first (depth - 0) root) ∙ ap (λ (n : ℕ). option_map preorder (best_tree first n root)) whole;
-}
+      b = 0;
+      next = (omega arith, sym (start-zero (depth - 0)), start-is (depth - 0) 1 ∙ ap (λ (n : ℕ). 2 ^ n * 1) whole ∙ one (2 ^ depth));
+      done = λ j below. absurd (omega arith);
+      same = alone (best_tree first (depth - 0) root) ∙ ap (λ (n : ℕ). option_map preorder (best_tree first n root)) whole;
+    }
   where
     one : (n : ℕ) → n * 1 ≡ n
     one n = omega arith
@@ -233,9 +239,10 @@ blocked first depth p ps nodes inside is walk =
 pub ended : (first : Place → Option ℕ) (depth : ℕ) (nodes : List Node) → IsWalk first depth [] nodes →
     (blocked_place first depth ≡ None) × (option_map preorder (best_tree first depth root) ≡ Some nodes)
 unfolding blocked_place
-ended first depth nodes walk =
-    (first_without-none (λ index. first (place_at depth index)) (2 ^ depth) 0 (λ j below. walk.done j (omega (arith, walk.next))),
-    sym walk.same ∙ ap Some (append-nil nodes))
+ended first depth nodes walk = (
+  first_without-none (λ index. first (place_at depth index)) (2 ^ depth) 0 (λ j below. walk.done j (omega (arith, walk.next))),
+  sym walk.same ∙ ap Some (append-nil nodes),
+)
 
 -- ---- the work that is left
 pub less_work : (first : Place → Option ℕ) (depth : ℕ) (p : Place) (ps : List Place) (node : Node) → node_for first depth p ≡ Some node → work depth (places_below p node ++ ps) < work depth (p ∷ ps)

@@ -104,7 +104,8 @@ fn parts_by_parts(rt: HostRuntime) -> Result<(), Fail> {
             Node::Leaf { dir: 15 },
             Node::Leaf { dir: 3 },
             Node::Leaf { dir: 0 },
-        ].as_slice()
+        ]
+        .as_slice()
     );
     let (blocked, none) = searched(alloc, across, aside, above, 2)?;
     assert_eq!(rt; blocked, Found::Blocked { index: 2 });

@@ -7,6 +7,25 @@ use Rattle.sep_parts.proofs.Table.{small_table}
 use Rattle.pair_search.proofs.tests.searched.Goals as goal
 
 pub search-requires : goal.search-requires
-search-requires c =
-    (lit< tt, (c.requires, ((omega arith, omega arith), ((omega arith, omega arith), (c.new-nodes.ensures.items, (inl refl, (small_table DIRECTIONS.n refl,
-    three (λ (curve : Bez 8). All (IsBelow (2 ^ 30)) curve.b) c.raised.result c.raised-2.result c.raised-3.result c.raised.ensures c.raised-2.ensures c.raised-3.ensures)))))))
+search-requires c = (
+  lit< tt,
+  (
+    c.requires,
+    (
+      (omega arith, omega arith),
+      (
+        (omega arith, omega arith),
+        (
+          c.new-nodes.ensures.items,
+          (
+            inl refl,
+            (
+              small_table DIRECTIONS.n refl,
+              three (λ (curve : Bez 8). All (IsBelow (2 ^ 30)) curve.b) c.raised.result c.raised-2.result c.raised-3.result c.raised.ensures c.raised-2.ensures c.raised-3.ensures,
+            ),
+          ),
+        ),
+      ),
+    ),
+  ),
+)
