@@ -2,8 +2,9 @@
 # Times how shows of 64 KiB, 256 KiB and 1 MiB are read and unrolled, one row for each kind of show and size.
 # Usage: bench/unroll.sh [KIND ..]. It builds a program of its own in a temporary folder, over this checkout's crates, and
 # prints milliseconds. With KEEP=1 the folder stays, and its name is printed, so that the shows and the code can be read.
-# The kinds: formations, figures, performs, cues and acts, which are the default, and places: many cues form a faulty
-# formation that has very many places. Its time is the number of `form` lines times that of the places, minutes at 1 MiB.
+# The kinds: formations, figures, performs, cues and acts, which are the default, and three of faulty formations that have
+# very many places and are formed in many cues: places (each cue has one `form` line), holds (an act stands before it) and
+# pairs (two of them). Their time is the number of `form` lines times that of the places, with a look at a mark for each.
 set -eu
 top=$(cd "$(dirname "$0")/.." && pwd)
 place=$(mktemp -d)
@@ -99,11 +100,16 @@ show() {
                             " -10000006 -10000007 -10000008 -1000\n")
                     put("end\n")
                 }
-            } else if (kind == "places") {
+            } else if (kind == "places" || kind == "holds" || kind == "pairs") {
                 put("choreo 1\ndrone a 0 0 0 0\n")
-                for (i = 0; i < most / 60; i++) put("cue 1\nform f move\nend\n")
+                for (i = 0; i < most / 60; i++)
+                    put("cue 1\n" (kind == "holds" ? "a hold\n" : kind == "pairs" ? "form g move\n" : "") "form f move\nend\n")
                 put("formation f\n")
                 most -= 4
+                if (kind == "pairs") {
+                    for (i = 0; size < most * 3 / 4; i++) put("at m" i " 0 0 0 0\n")
+                    put("end\nformation g\n")
+                }
                 for (i = 0; put("at n" i " 0 0 0 0\n"); i++);
                 most += 4
                 put("end\n")

@@ -4,5 +4,6 @@ pub mod Faulty
 pub mod Earliest
 pub mod FirstFault
 pub mod Tables
-pub mod Acted
+pub mod Numbering
+pub mod Marking
 pub mod Fits

@@ -19,7 +19,7 @@ use Rattle.cue_grid.specs.Numbers.{number_from, number_or, IsNumbered, IsNoted, 
 pub same_is : (a b : Name) → same_name a b ≡ true → a ≡ b
 same_is a b h = ap (λ xs. record { items = xs }) ((bytes_eq-Decides a.items b.items).0 h)
 
-same_self : (a b : Name) → a ≡ b → same_name a b ≡ true
+pub same_self : (a b : Name) → a ≡ b → same_name a b ≡ true
 same_self a b h = (bytes_eq-Decides a.items b.items).1 (ap (λ n. n.items) h)
 
 -- a name with a number keeps it
@@ -52,7 +52,7 @@ number_one : (k : ℕ) (ms : List Name) (m n : Name) (b : Bool) → number_from 
 number_one k ms m n true h = refl
 number_one k ms m n false h = let e : k + 1 + length ms ≡ k + suc (length ms) = omega arith in h ∙ ap (λ j. number_or (number_from (k + 1) ms n) (same_name n m) j) e
 
-number_more : (k : ℕ) (ms : List Name) (m n : Name) → number_from k (ms ++ m ∷ []) n ≡ number_or (number_from k ms n) (same_name n m) (k + length ms)
+pub number_more : (k : ℕ) (ms : List Name) (m n : Name) → number_from k (ms ++ m ∷ []) n ≡ number_or (number_from k ms n) (same_name n m) (k + length ms)
 number_more k [] m n = let e : k ≡ k + 0 = omega arith in ap (λ j. cond (same_name n m) (Some j) None) e
 number_more k (x ∷ ms) m n = number_one k ms m n (same_name n x) (number_more (k + 1) ms m n)
 
@@ -82,7 +82,7 @@ is_new old new name key i b e h k g = noted old new name i (none_is (lookup (sam
 
 -- What a number finds.
 
-abbrev at_number : {A : Type 0} → List A → Option ℕ → Option A
+abbrev pub at_number : {A : Type 0} → List A → Option ℕ → Option A
 at_number xs None = None
 at_number xs (Some i) = slice_get xs i
 
@@ -90,7 +90,7 @@ shift_one : (k : ℕ) (b : Bool) (o p : Option ℕ) → p ≡ option_map suc o �
 shift_one k true o p h = ap (λ j. Some j) (add-one k)
 shift_one k false o p h = h
 
-number_shift : (k : ℕ) (ms : List Name) (n : Name) → number_from (k + 1) ms n ≡ option_map suc (number_from k ms n)
+pub number_shift : (k : ℕ) (ms : List Name) (n : Name) → number_from (k + 1) ms n ≡ option_map suc (number_from k ms n)
 number_shift k [] n = refl
 number_shift k (m ∷ ms) n = shift_one k (same_name n m) (number_from (k + 1) ms n) (number_from (k + 1 + 1) ms n) (number_shift (k + 1) ms n)
 
@@ -102,7 +102,7 @@ formation_one : (f : Formation) (fs : List Formation) (n : Name) (b : Bool) → 
 formation_one f fs n true h = refl
 formation_one f fs n false h = h ∙ at_shift f fs (number_from 0 (formation_names fs) n) ∙ ap (at_number (f ∷ fs)) (sym (number_shift 0 (formation_names fs) n))
 
-formation_at : (fs : List Formation) (n : Name) → formation_named fs n ≡ at_number fs (number_from 0 (formation_names fs) n)
+pub formation_at : (fs : List Formation) (n : Name) → formation_named fs n ≡ at_number fs (number_from 0 (formation_names fs) n)
 formation_at [] n = refl
 formation_at (f ∷ fs) n = formation_one f fs n (same_name n f.name) (formation_at fs n)
 
@@ -154,11 +154,11 @@ below_zero (Some j) = sym (none_below j)
     none_below : (j : ℕ) → nat_lt j 0 ≡ false
     none_below j = grind (arith, nat_tests)
 
-both_suc : (i j : ℕ) → (j < i) ⊎ (i ≤ j) → nat_lt j i ≡ nat_lt (suc j) (suc i)
+pub both_suc : (i j : ℕ) → (j < i) ⊎ (i ≤ j) → nat_lt j i ≡ nat_lt (suc j) (suc i)
 both_suc i j (inl h) = (let a : nat_lt j i ≡ true = grind (arith, nat_tests) in a) ∙ sym (let b : nat_lt (suc j) (suc i) ≡ true = grind (arith, nat_tests) in b)
 both_suc i j (inr h) = (let a : nat_lt j i ≡ false = grind (arith, nat_tests) in a) ∙ sym (let b : nat_lt (suc j) (suc i) ≡ false = grind (arith, nat_tests) in b)
 
-first_below : (i : ℕ) → true ≡ nat_lt 0 (suc i)
+pub first_below : (i : ℕ) → true ≡ nat_lt 0 (suc i)
 first_below i = sym (let a : nat_lt 0 (suc i) ≡ true = grind (arith, nat_tests) in a)
 
 below_suc : (i : ℕ) (o : Option ℕ) → is_below i o ≡ is_below (suc i) (option_map suc o)

@@ -8,3 +8,4 @@ pub mod Unrolled
 pub mod Numbers
 pub mod Shown
 pub mod Steps
+pub mod Marks

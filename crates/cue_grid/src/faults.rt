@@ -1,24 +1,26 @@
 //! What is wrong with the names of a show: for each list its first fault, and of these the one of
 //! the earliest line.
 
-ghost use Rattle.std.specs.Prelude.{◌≡◌, ◌++◌, [], ◌∷◌, take, OnOk, IfOk};
+ghost use Rattle.std.specs.Prelude.{◌≡◌, ◌++◌, [], ◌∷◌, take, OnOk, IfOk, List};
 ghost use Rattle.choreo_reader.specs.Plain.{block_of, body_of, figure_of as plain_figure};
 ghost use Rattle.choreo_reader.specs.Plain as plain;
-ghost use Rattle.cue_grid.specs.Names.{names_of, has_name, has_some, figure_named};
+ghost use Rattle.cue_grid.specs.Names.{names_of, has_name, formation_named, figure_named};
 ghost use Rattle.cue_grid.specs.Numbers.{formation_names, figure_names};
-ghost use Rattle.cue_grid.specs.Shown.{shown};
-ghost use Rattle.cue_grid.specs.Steps.{HaveSameNames, first_of, name_fault as name_fault_of};
-ghost use Rattle.cue_grid.specs.Faults.{drone_faults, place_faults, one_formation_faults, formation_faults, act_line_faults, acted_by, act_faults, perform_faults, body_faults, one_figure_faults, figure_faults, earlier_of as earlier_of_two, line_of as line_of_fault};
+ghost use Rattle.choreo_lines.specs.Name.{Name as NameOf};
+ghost use Rattle.cue_grid.specs.Marks.{number_in, has_act};
+ghost use Rattle.cue_grid.specs.Shown.{shown, place_names, HaveActs};
+ghost use Rattle.cue_grid.specs.Steps.{named_faults, first_of, name_fault as name_fault_of};
+ghost use Rattle.cue_grid.specs.Faults.{drone_faults, place_faults, one_formation_faults, formation_faults, act_line_faults, form_faults, act_faults, perform_faults, body_faults, one_figure_faults, figure_faults, earlier_of as earlier_of_two, line_of as line_of_fault};
 
+use crate::acted::{Acted, has_acted, has_some_acted, nobody, put_acted};
 use crate::grid::GridFault;
 use crate::lookup::Lookup;
 use crate::names::{are_drones, copy_of, has_double, is_among, is_drone};
 use choreo_reader::{ActLine, Block, DroneLine, Figure, Formation, Name};
-use indexmap::IndexSet;
-use std::alloc::{AllocFailed, Global};
+use std::alloc::{AllocError, Global};
 
 /// The fault of names of the earliest line.
-pub fn name_fault(alloc: Global, show: &Lookup) -> Result<Option<GridFault>, AllocFailed<Name>>
+pub fn name_fault(alloc: Global, show: &Lookup) -> Result<Option<GridFault>, AllocError>
     ensures { IfOk result (λ fault. fault ≡ name_fault_of (shown show.now)) }
 {
     let drones = show.show.drones.as_slice();
@@ -34,7 +36,7 @@ pub fn name_fault(alloc: Global, show: &Lookup) -> Result<Option<GridFault>, All
 }
 
 // Appends the names of these drones.
-fn put_names(names: &mut Vec<Name>, drones: &[DroneLine]) -> Result<(), AllocFailed<Name>>
+fn put_names(names: &mut Vec<Name>, drones: &[DroneLine]) -> Result<(), AllocError>
     ensures { OnOk result (names.new.items ≡ names.old.items ++ names_of drones.now) }
 {
     for drone in drones {
@@ -104,113 +106,77 @@ fn cue_fault(
     show: &Lookup,
     known: &[Name],
     acts: &[ActLine],
-) -> Result<Option<GridFault>, AllocFailed<Name>>
+) -> Result<Option<GridFault>, AllocError>
     ensures { IfOk result (λ fault. fault
         ≡ first_of (act_faults known.now (shown show.now).formations [] acts.now)) }
 {
-    let mut acted = IndexSet::new(alloc);
-    for line in acts {
+    let mut acted = nobody(alloc, show)?;
+    for (i, line) in acts.iter().enumerate() {
         if let Some(fault) = act_line_fault(show, known, &acted, line) {
             return Ok(Some(fault));
         }
-        put_acted(&mut acted, show, line)?;
+        // Who has an act by the last line matters to no line behind it.
+        if i + 1 < acts.len() {
+            put_acted(&mut acted, show, line)?;
+        }
     }
     Ok(None)
 }
 
-// The fault of a line of a cue, where these names have an act already.
-fn act_line_fault(
-    show: &Lookup,
-    known: &[Name],
-    acted: &IndexSet<Name>,
-    line: &ActLine,
-) -> Option<GridFault>
-    ensures { result
-        ≡ first_of (act_line_faults known.now (shown show.now).formations acted.now.keys line.now) }
+// The fault of a line of a cue, where some names have an act already.
+fn act_line_fault(show: &Lookup, known: &[Name], acted: &Acted, line: &ActLine) -> Option<GridFault>
+    ensures { (names : List NameOf)
+        → HaveActs (place_names show.now) acted.now names
+        → result ≡ first_of (act_line_faults known.now (shown show.now).formations names line.now) }
 {
     match line {
-        ActLine::One { line, name, .. } => {
-            if !is_among(known, name) {
-                Some(GridFault::UnknownName { line: *line })
-            } else if has_acted(acted, name) {
-                Some(GridFault::DoubleAct { line: *line })
-            } else {
-                None
-            }
-        }
+        ActLine::One { line, name, .. } => one_fault(show, known, acted, *line, name),
         ActLine::Form {
             line,
             formation,
             ..
-        } => match show.find_formation(formation) {
-            None => Some(GridFault::UnknownName { line: *line }),
-            Some(found) => {
-                if is_some_among(acted, found.places.as_slice()) {
-                    Some(GridFault::DoubleAct { line: *line })
-                } else {
-                    None
-                }
-            }
-        },
+        } => form_fault(show, acted, *line, formation),
     }
 }
 
-// Whether one of the places is that of a name that has an act.
-fn is_some_among(acted: &IndexSet<Name>, places: &[DroneLine]) -> bool
-    ensures { result ≡ has_some acted.now.keys (names_of places.now) }
-{
-    for place in places {
-        if has_acted(acted, &place.name) {
-            return true;
-        }
-    }
-    false
-}
-
-// Adds who has an act by a line.
-fn put_acted(
-    acted: &mut IndexSet<Name>,
+// The fault of a line that gives one name an act.
+fn one_fault(
     show: &Lookup,
-    line: &ActLine,
-) -> Result<(), AllocFailed<Name>>
-    ensures { OnOk result (HaveSameNames acted.new.keys
-        (acted.old.keys ++ acted_by (shown show.now).formations line.now)) }
+    known: &[Name],
+    acted: &Acted,
+    line: u32,
+    name: &Name,
+) -> Option<GridFault>
+    ensures { result ≡ first_of (named_faults line (has_name known.now name.now)
+        (has_act (number_in (place_names show.now) name.now) acted.now.marks.items
+        acted.now.others.keys name.now)) }
 {
-    match line {
-        ActLine::One { name, .. } => {
-            note(acted, name)?;
-            Ok(())
+    if !is_among(known, name) {
+        Some(GridFault::UnknownName { line })
+    } else if has_acted(acted, show, name) {
+        Some(GridFault::DoubleAct { line })
+    } else {
+        None
+    }
+}
+
+// The fault of a `form` line.
+fn form_fault(show: &Lookup, acted: &Acted, line: u32, formation: &Name) -> Option<GridFault>
+    ensures { (names : List NameOf)
+        → HaveActs (place_names show.now) acted.now names
+        → result ≡ first_of (form_faults line names
+        (formation_named (shown show.now).formations formation.now)) }
+{
+    match show.find_places(formation) {
+        None => Some(GridFault::UnknownName { line }),
+        Some(numbers) => {
+            if has_some_acted(acted, numbers) {
+                Some(GridFault::DoubleAct { line })
+            } else {
+                None
+            }
         }
-        ActLine::Form { formation, .. } => match show.find_formation(formation) {
-            None => Ok(()),
-            Some(found) => put_places(acted, found.places.as_slice()),
-        },
     }
-}
-
-// Whether a name has an act.
-fn has_acted(acted: &IndexSet<Name>, name: &Name) -> bool
-    ensures { result ≡ has_name acted.now.keys name.now }
-{
-    acted.contains(name)
-}
-
-// Adds a name to those that have an act.
-fn note(acted: &mut IndexSet<Name>, name: &Name) -> Result<(), AllocFailed<Name>>
-    ensures { OnOk result (HaveSameNames acted.new.keys (acted.old.keys ++ name.now ∷ [])) }
-{
-    acted.insert(copy_of(name))?;
-    Ok(())
-}
-
-// Adds the names of the places of a formation.
-fn put_places(acted: &mut IndexSet<Name>, places: &[DroneLine]) -> Result<(), AllocFailed<Name>>
-    ensures { OnOk result (HaveSameNames acted.new.keys (acted.old.keys ++ names_of places.now)) }
-{
-    for place in places {
-        note(acted, &place.name)?;
-    }
-    Ok(())
 }
 
 // The fault of a perform.
@@ -241,7 +207,7 @@ fn block_fault(
     show: &Lookup,
     known: &[Name],
     block: &Block,
-) -> Result<Option<GridFault>, AllocFailed<Name>>
+) -> Result<Option<GridFault>, AllocError>
     ensures { IfOk result (λ fault. fault
         ≡ first_of (body_faults (shown show.now) known.now (block_of block.now plain.Done))) }
 {
@@ -270,7 +236,7 @@ fn body_fault(
     show: &Lookup,
     known: &[Name],
     body: &[Block],
-) -> Result<Option<GridFault>, AllocFailed<Name>>
+) -> Result<Option<GridFault>, AllocError>
     ensures { IfOk result (λ fault. fault
         ≡ first_of (body_faults (shown show.now) known.now (body_of body.now))) }
 {
@@ -288,7 +254,7 @@ fn one_figure_fault(
     show: &Lookup,
     earlier: usize,
     figure: &Figure,
-) -> Result<Option<GridFault>, AllocFailed<Name>>
+) -> Result<Option<GridFault>, AllocError>
     ensures { IfOk result (λ fault. fault
         ≡ first_of (one_figure_faults (shown show.now)
         (figure_names (take earlier show.now.show.now.figures)) (plain_figure figure.now))) }
@@ -300,7 +266,7 @@ fn one_figure_fault(
 }
 
 // The first fault of the figures.
-fn figure_fault(alloc: Global, show: &Lookup) -> Result<Option<GridFault>, AllocFailed<Name>>
+fn figure_fault(alloc: Global, show: &Lookup) -> Result<Option<GridFault>, AllocError>
     ensures { IfOk result (λ fault. fault
         ≡ first_of (figure_faults (shown show.now) [] (shown show.now).figures)) }
 {

@@ -5,6 +5,7 @@
 //! functions say where a frame puts a point. The language is that of `docs/LANGUAGE.md`, the shows are choreo_reader's.
 #![tactic(auto)]
 
+mod acted;
 mod count;
 mod cues;
 mod faults;

@@ -1,14 +1,15 @@
 //! A show whose formations and figures are found by their names.
 
-ghost use Rattle.std.specs.Prelude.{◌≡◌, OnOk, IfOk, Some, None, MatchOption, map, take};
+ghost use Rattle.std.specs.Prelude.{◌≡◌, OnOk, IfOk, Some, None, MatchOption, map, take, length, vec_items};
 ghost use Rattle.choreo_reader.specs.Plain.{figure_of as plain_figure};
 ghost use Rattle.cue_grid.specs.Numbers.{IsNumbered, IsNoted, formation_names, figure_names};
-ghost use Rattle.cue_grid.specs.Names.{formation_named, figure_named, has_name};
+ghost use Rattle.cue_grid.specs.Names.{formation_named, figure_named, has_name, names_of};
+ghost use Rattle.cue_grid.specs.Marks.{number_in, Keeps, HasNumbers, IsPlaced, ArePlaced, AllPlaced};
 
 use crate::names::copy_of;
-use choreo_reader::{Figure, Formation, Name, Show};
-use indexmap::IndexMap;
-use std::alloc::{AllocFailed, Global};
+use choreo_reader::{DroneLine, Figure, Formation, Name, Show};
+use indexmap::{IndexMap, IndexSet};
+use std::alloc::{AllocError, AllocFailed, Global};
 
 type Numbers = IndexMap<Name, usize>;
 
@@ -48,28 +49,78 @@ fn figure_numbers(alloc: Global, figures: &[Figure]) -> Result<Numbers, AllocFai
     Ok(numbers)
 }
 
-/// A show with the numbers of the names of its formations and figures.
-/// The tables give each name the place of the first that has it.
+// The number of a name: a new name gets the next one.
+fn number_of(names: &mut IndexSet<Name>, name: &Name) -> Result<usize, AllocError>
+    ensures keeps { OnOk result (Keeps names.old.keys names.new.keys) }
+    ensures number { IfOk result (λ k. number_in names.new.keys name.now ≡ Some k) }
+{
+    let (number, _) = names.insert_full(copy_of(name))?;
+    Ok(number)
+}
+
+// The numbers of the names of places.
+fn numbers_of(
+    alloc: Global,
+    names: &mut IndexSet<Name>,
+    places: &[DroneLine],
+) -> Result<Vec<usize>, AllocError>
+    ensures keeps { OnOk result (Keeps names.old.keys names.new.keys) }
+    ensures numbers { IfOk result (λ numbers.
+        HasNumbers names.new.keys (names_of places.now) numbers.items) }
+{
+    let mut numbers = Vec::with_capacity(alloc, places.len())?;
+    for place in places {
+        let number = number_of(names, &place.name)?;
+        numbers.push(number)?;
+    }
+    Ok(numbers)
+}
+
+// The numbers of the names of the places of each formation.
+fn place_numbers(
+    alloc: Global,
+    names: &mut IndexSet<Name>,
+    formations: &[Formation],
+) -> Result<Vec<Vec<usize>>, AllocError>
+    ensures { IfOk result (λ all. ArePlaced vec_items names.new.keys formations.now all.items) }
+{
+    let mut all = Vec::with_capacity(alloc, formations.len())?;
+    for formation in formations {
+        let numbers = numbers_of(alloc, names, formation.places.as_slice())?;
+        all.push(numbers)?;
+    }
+    Ok(all)
+}
+
+/// A show with the numbers of the names of its formations and figures, and of the names on `at` lines.
+/// The tables give each name of a formation or figure the place of the first that has it.
 #[derive(Drop)]
 pub struct Lookup<'a> {
     pub show: &'a Show,
     formations: Numbers,
     figures: Numbers,
+    names: IndexSet<Name>,
+    places: Vec<Vec<usize>>,
     ghost formations_numbered: { IsNumbered (formation_names show.now.formations) formations.entries },
     ghost figures_numbered: { IsNumbered (figure_names show.now.figures) figures.entries },
+    ghost places_numbered: { AllPlaced vec_items names.keys show.now.formations places.items },
 }
 
 impl<'a> Lookup<'a> {
     /// This show, with its names in maps.
-    pub fn of(alloc: Global, show: &'a Show) -> Result<Lookup<'a>, AllocFailed<(Name, usize)>>
+    pub fn of(alloc: Global, show: &'a Show) -> Result<Lookup<'a>, AllocError>
         ensures { IfOk result (λ l. l.show.now ≡ show.now) }
     {
         let formations = formation_numbers(alloc, show.formations.as_slice())?;
         let figures = figure_numbers(alloc, show.figures.as_slice())?;
+        let mut names = IndexSet::new(alloc);
+        let places = place_numbers(alloc, &mut names, show.formations.as_slice())?;
         Ok(Lookup {
             show,
             formations,
             figures,
+            names,
+            places,
         })
     }
 
@@ -97,6 +148,37 @@ impl<'a> Lookup<'a> {
             Some(number) => self.show.figures.as_slice().get(*number),
         }
     }
+
+    /// The numbers of the names of the places of the first formation of a name.
+    pub fn find_places(&self, name: &Name) -> Option<&[usize]>
+        ensures { MatchOption result
+            (formation_named self.now.show.now.formations name.now ≡ None)
+            (λ numbers. IsPlaced (self.now.names.keys)
+            (formation_named self.now.show.now.formations name.now) numbers.now) }
+    {
+        match self.formations.get(name) {
+            None => None,
+            Some(number) => match self.places.as_slice().get(*number) {
+                None => None,
+                Some(numbers) => Some(numbers.as_slice()),
+            },
+        }
+    }
+
+    /// How many names are on `at` lines.
+    pub fn name_count(&self) -> usize
+        ensures { result ≡ length (self.now.names.keys) }
+    {
+        self.names.len()
+    }
+
+    /// The number of a name, if it is on an `at` line.
+    pub fn find_number(&self, name: &Name) -> Option<usize>
+        ensures { result ≡ number_in (self.now.names.keys) name.now }
+    {
+        self.names.get_index_of(name)
+    }
+
     /// Whether one of the first so many formations has this name.
     pub fn has_formation_before(&self, number: usize, name: &Name) -> bool
         ensures { result ≡ has_name (formation_names (take number self.now.show.now.formations)) name.now }

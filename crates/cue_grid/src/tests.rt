@@ -159,6 +159,16 @@ fn faults_of_names(rt: HostRuntime) {
             b"choreo 1\ndrone a 0 0 0 0\ncue 1\nform f line\nform g line\nend\nformation f\nat z 0 0 0 0\nend\nformation g\nat z 0 0 0 0\nend\n".as_slice(),
             Outcome::Fault(GridFault::DoubleAct { line: 5 }),
         ),
+        // a form after an act
+        (
+            b"choreo 1\ndrone a 0 0 0 0\ndrone b 0 0 0 0\ncue 1\nb hold\nform f line\nend\nformation f\nat a 0 0 0 0\nat b 0 0 0 0\nend\n".as_slice(),
+            Outcome::Fault(GridFault::DoubleAct { line: 6 }),
+        ),
+        // an act of a role twice
+        (
+            b"choreo 1\ndrone a 0 0 0 0\nfigure go p\ncue 1\np hold\np hold\nend\nend\nperform go none 0 0 0 0 a\n".as_slice(),
+            Outcome::Fault(GridFault::DoubleAct { line: 6 }),
+        ),
         // no such formation
         (
             b"choreo 1\ndrone a 0 0 0 0\ncue 1\nform f line\nend\n".as_slice(),
@@ -208,6 +218,11 @@ fn numbers_of_cues(rt: HostRuntime) {
         (
             b"choreo 1\ndrone solo 0 0 1000000 0\nrepeat 2\nrepeat 3\ncue 1\nend\nend\ncue 2\nend\nend\n".as_slice(),
             Outcome::Cues(8),
+        ),
+        // two cues, each of a form and an act
+        (
+            b"choreo 1\ndrone a 0 0 0 0\ndrone b 0 0 0 0\ncue 1\nform f line\nb hold\nend\ncue 1\na hold\nform g line\nend\nformation f\nat a 0 0 0 0\nend\nformation g\nat b 0 0 0 0\nend\n".as_slice(),
+            Outcome::Cues(2),
         ),
         // a figure of two cues in a repeat
         (

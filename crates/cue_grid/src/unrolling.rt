@@ -15,8 +15,8 @@ use crate::faults::name_fault;
 use crate::grid::{DRONE_LIMIT, Grid, GridFault};
 use crate::lookup::Lookup;
 use crate::names::copy_of;
-use choreo_reader::{DroneLine, Listed, Name, Show};
-use std::alloc::{AllocError, AllocFailed, Global};
+use choreo_reader::{DroneLine, Listed, Show};
+use std::alloc::{AllocError, Global};
 
 /// The cues of a show in order, repeats written out and figures played by their drones, or its first fault. A drone
 /// without an act in a cue holds. What is answered is a valid grid.
@@ -65,7 +65,7 @@ fn cue_count_fault(show: &Lookup) -> Option<GridFault>
 
 // The first fault of a show.
 #[tactic(auto, using(crate::proofs::Earliest::earliest_name))]
-fn first_fault(alloc: Global, show: &Lookup) -> Result<Option<GridFault>, AllocFailed<Name>>
+fn first_fault(alloc: Global, show: &Lookup) -> Result<Option<GridFault>, AllocError>
     requires { IsValid (shown show.now) }
     ensures { IfOk result (λ fault. fault ≡ grid_fault (shown show.now)) }
 {

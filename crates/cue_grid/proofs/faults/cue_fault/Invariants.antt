@@ -1,8 +1,13 @@
-use Rattle.std.proofs.Common.{◌≡◌, [], drop}
-use Rattle.cue_grid.specs.Shown.{shown}
+use Rattle.std.proofs.Common.{◌≡◌, ◌<◌, [], drop, length, take}
+use Rattle.cue_grid.specs.Shown.{shown, place_names, HaveActs}
 use Rattle.cue_grid.specs.Steps.{first_of}
 use Rattle.cue_grid.specs.Faults.{act_faults}
+use Rattle.cue_grid.proofs.Marking.{acted_all}
 use Rattle.cue_grid.proofs.faults.cue_fault.Given as goal
 
-abbrev pub invariant-loop-line : goal.invariant-loop-line
-invariant-loop-line l = first_of (act_faults l.known (shown l.show).formations [] l.acts) ≡ first_of (act_faults l.known (shown l.show).formations l.acted.keys (drop l.line-index l.acts))
+-- no fault so far, and behind the last line it doesn't matter who has an act
+abbrev pub invariant-loop-i : goal.invariant-loop-i
+invariant-loop-i l =
+    (first_of (act_faults l.known (shown l.show).formations [] l.acts)
+    ≡ first_of (act_faults l.known (shown l.show).formations (acted_all (shown l.show).formations (take l.i l.acts)) (drop l.i l.acts)))
+    × (l.i < length l.acts → HaveActs (place_names l.show) l.acted (acted_all (shown l.show).formations (take l.i l.acts)))

@@ -1,0 +1,267 @@
+-- The trajectories of a grid are near to what the show says, at every instant.
+use Rattle.std.proofs.Common.{◌≡◌, ℕ, zero, suc, ◌+◌, ◌*◌, ◌<◌, ◌≤◌, ℤ, pos, List, [], ◌∷◌, map, take, length, get_or, sum, arith, refl, sym, ap, ◌∙◌, subst}
+use Rattle.std.specs.List.{All}
+use Rattle.std.proofs.lemmas.List.Elements.{All-nil, All-cons, All-get_or}
+use Rattle.fleet_math.specs.Bernstein.{at}
+use Rattle.fleet_math.specs.Moments.{Moment, moment}
+use Rattle.fleet_math.specs.Near.{IsNear}
+use Rattle.fleet_math.specs.Decoded.{last_value}
+use Rattle.fleet_math.specs.Decoded as plain
+use Rattle.fleet_math.proofs.MomentLemmas.{IsInside, moment-inside}
+use Rattle.choreo_lines.specs.declared.parts.Point.{Point}
+use Rattle.choreo_reader.specs.declared.show.DroneLine.{DroneLine}
+use Rattle.cue_grid.specs.declared.grid.Job.{Job}
+use Rattle.cue_grid.specs.declared.grid.Cue.{Cue}
+use Rattle.cue_grid.specs.declared.grid.Grid.{Grid}
+use Rattle.cue_grid.specs.Grids.{FitsCue, FitCues, IsGrid}
+use Rattle.traj_codec.specs.declared.traj.Element.{Element}
+use Rattle.traj_codec.specs.declared.traj.Traj.{Traj}
+use Rattle.traj_codec.specs.Spelling.{stored}
+use Rattle.traj_codec.specs.Positions.{element_on, value_after, piece_on, durations, decoded}
+use Rattle.traj_codec.proofs.PositionLemmas.{decoded-points}
+use Rattle.mm_rounding.specs.declared.piece.Axis.{Axis}
+use Rattle.mm_rounding.specs.declared.piece.Axis.TheVariants.{One, Two, Four, Eight}
+use Rattle.mm_rounding.specs.declared.piece.MicroPiece.{MicroPiece}
+use Rattle.mm_rounding.specs.Rounding.{millimetres, controls, first_control, behind_first, rounded, element_of, axis_on, segment_of}
+use Rattle.mm_rounding.specs.Near.{IsAxis, IsPiece, position, last_control}
+use Rattle.mm_rounding.proofs.Elements.{rounded_is_axis, ends_there, stays_near}
+use Rattle.figure_expand.specs.Acts.{act_of, end_of, on_axis, point_after}
+use Rattle.figure_expand.specs.Controls.{axes_of, piece_of}
+use Rattle.figure_expand.specs.Expanded.{job_in, no_job, pieces_from, expanded_from, expanded}
+use Rattle.figure_expand.specs.Flown.{start_of, jobs_in, job_at, point_before, piece_at, written_at}
+use Rattle.figure_expand.proofs.Pieces.{piece_begins, piece_ends, piece_whole, flies_as_written}
+use Rattle.show_plan.specs.Plan.{start_at}
+use Rattle.show_plan.specs.Trajectories.{trajectory_of, trajectories_of, trajectories, cue_times}
+use Rattle.show_plan.specs.Flight.{FliesNearOn, FliesYaw, FliesNear, no_trajectory, KeepsNearShow}
+
+-- ---- the ends of rounded axes
+
+-- the first of rounded numbers is the first one rounded
+first_of : (v : List ℤ) → at (map millimetres v) 0 ≡ millimetres (at v 0)
+first_of [] = refl
+first_of (z ∷ v) = refl
+
+first_rounded : (axis : Axis) → first_control (rounded axis) ≡ millimetres (first_control axis)
+first_rounded (One v) = refl
+first_rounded (Two v) = first_of v
+first_rounded (Four v) = first_of v
+first_rounded (Eight v) = first_of v
+
+last_of : (z : ℤ) (v : List ℤ) → last_value (millimetres z) (map millimetres v) ≡ millimetres (last_value z v)
+last_of z [] = refl
+last_of z (y ∷ v) = last_of y v
+
+last_behind : (v : List ℤ) → last_value (at (map millimetres v) 0) (behind_first (map millimetres v)) ≡ millimetres (last_value (at v 0) (behind_first v))
+last_behind [] = refl
+last_behind (z ∷ v) = last_of z v
+
+last_rounded : (axis : Axis) → last_control (rounded axis) ≡ millimetres (last_control axis)
+last_rounded (One v) = refl
+last_rounded (Two v) = last_behind v
+last_rounded (Four v) = last_behind v
+last_rounded (Eight v) = last_behind v
+
+-- an element of x, y or z leads from one rounded value to the other
+leads : (axis : Axis) (from to : ℤ) → IsAxis axis → first_control axis ≡ from → last_control axis ≡ to →
+    value_after (millimetres from) (element_of (rounded axis)) ≡ millimetres to
+leads axis from to is begins ends =
+    ap (λ (z : ℤ). value_after z (element_of (rounded axis))) (ap millimetres (sym begins) ∙ sym (first_rounded axis))
+    ∙ ends_there (rounded axis) (rounded_is_axis axis is)
+    ∙ last_rounded axis
+    ∙ ap millimetres ends
+
+-- an element of yaw leads from one value to the other
+leads_yaw : (axis : Axis) (from to : ℤ) → IsAxis axis → first_control axis ≡ from → last_control axis ≡ to → value_after from (element_of axis) ≡ to
+leads_yaw axis from to is begins ends =
+    ap (λ (z : ℤ). value_after z (element_of axis)) (sym begins) ∙ ends_there axis is ∙ ends
+
+-- ---- segments
+
+-- an axis of a piece has as many control values as its name says
+axis_is : (p : Point) (ms : ℕ) (j : Job) (axis : ℕ) → axis < 4 → IsAxis (axis_on (piece_of p ms j) axis)
+axis_is p ms j axis small = All-get_or IsAxis (axes_of p (act_of j)) axis (One (pos 0)) small (piece_whole p ms j)
+
+-- a segment leads from where the drone is to where its act ends, both rounded
+joined : (p : Point) (ms : ℕ) (j : Job) (axis : ℕ) → axis < 4 →
+    value_after (at (start_at p) axis) (element_on (segment_of (piece_of p ms j)) axis) ≡ at (start_at (end_of p (act_of j))) axis
+joined p ms j zero small = leads (axis_on (piece_of p ms j) 0) _ _ (axis_is p ms j 0 small) (piece_begins p ms j 0 small) (piece_ends p ms j 0 small)
+joined p ms j (suc zero) small = leads (axis_on (piece_of p ms j) 1) _ _ (axis_is p ms j 1 small) (piece_begins p ms j 1 small) (piece_ends p ms j 1 small)
+joined p ms j (suc (suc zero)) small = leads (axis_on (piece_of p ms j) 2) _ _ (axis_is p ms j 2 small) (piece_begins p ms j 2 small) (piece_ends p ms j 2 small)
+joined p ms j (suc (suc (suc zero))) small = leads_yaw (axis_on (piece_of p ms j) 3) _ _ (axis_is p ms j 3 small) (piece_begins p ms j 3 small) (piece_ends p ms j 3 small)
+joined p ms j (suc (suc (suc (suc axis)))) small = absurd (omega arith)
+
+-- the piece of a drone in a cue
+piece_is : (p : Point) (d : ℕ) (cues : List Cue) (k : ℕ) (other : MicroPiece) → k < length cues →
+    get_or (pieces_from p d cues) k other ≡ piece_of (point_after p (take k (jobs_in d cues))) (get_or (map (λ (cue : Cue). cue.ms) cues) k 0) (get_or (jobs_in d cues) k no_job)
+piece_is p d [] k other within = absurd (omega arith)
+piece_is p d (cue ∷ cues) zero other within = refl
+piece_is p d (cue ∷ cues) (suc k) other within = piece_is (end_of p (act_of (job_in cue d))) d cues k other (omega arith)
+
+-- the control points of a trajectory in a cue: where the drone is before it, rounded, and then the segment's numbers
+points_are : (first : ℤ) (p : Point) (d : ℕ) (cues : List Cue) (k axis : ℕ) (other : MicroPiece) → k < length cues → axis < 4 → first ≡ at (start_at p) axis →
+    plain.points first (map (piece_on axis) (map segment_of (pieces_from p d cues))) k
+    ≡ at (start_at (point_after p (take k (jobs_in d cues)))) axis ∷ stored (element_on (segment_of (get_or (pieces_from p d cues) k other)) axis)
+points_are first p d [] k axis other within small is = absurd (omega arith)
+points_are first p d (cue ∷ cues) zero axis other within small is = ap (λ (z : ℤ). z ∷ stored (element_on (segment_of (piece_of p cue.ms (job_in cue d))) axis)) is
+points_are first p d (cue ∷ cues) (suc k) axis other within small is =
+    points_are (value_after first (element_on (segment_of (piece_of p cue.ms (job_in cue d))) axis)) (end_of p (act_of (job_in cue d))) d cues k axis other (omega arith) small
+    (ap (λ (z : ℤ). value_after z (element_on (segment_of (piece_of p cue.ms (job_in cue d))) axis)) is ∙ joined p cue.ms (job_in cue d) axis small)
+
+-- the segments last as long as the cues
+times_are : (p : Point) (d : ℕ) (cues : List Cue) → durations (map segment_of (pieces_from p d cues)) ≡ map (λ (cue : Cue). cue.ms) cues
+times_are p d [] = refl
+times_are p d (cue ∷ cues) = ap (λ (ms : List ℕ). cue.ms ∷ ms) (times_are (end_of p (act_of (job_in cue d))) d cues)
+
+-- ---- one drone
+
+-- the pieces of a drone
+pub row_is : (first : ℕ) (starts : List DroneLine) (cues : List Cue) (d : ℕ) (other : Point) → d < length starts →
+    get_or (expanded_from first starts cues) d [] ≡ pieces_from (get_or (map (λ (s : DroneLine). s.at) starts) d other) (first + d) cues
+row_is first [] cues d other within = absurd (omega arith)
+row_is first (s ∷ starts) cues zero other within = let e : first ≡ first + 0 = omega arith in ap (λ (d : ℕ). pieces_from s.at d cues) e
+row_is first (s ∷ starts) cues (suc d) other within =
+    let e : (first + 1) + d ≡ first + suc d = omega arith in
+    row_is (first + 1) starts cues d other (omega arith) ∙ ap (λ (n : ℕ). pieces_from (get_or (map (λ (s : DroneLine). s.at) starts) d other) n cues) e
+
+-- the trajectory of a drone
+flight_is : (first : ℕ) (starts : List DroneLine) (cues : List Cue) (d : ℕ) (other : Point) → d < length starts →
+    get_or (trajectories_of starts (expanded_from first starts cues)) d no_trajectory
+    ≡ trajectory_of (get_or (map (λ (s : DroneLine). s.at) starts) d other) (pieces_from (get_or (map (λ (s : DroneLine). s.at) starts) d other) (first + d) cues)
+flight_is first [] cues d other within = absurd (omega arith)
+flight_is first (s ∷ starts) cues zero other within = let e : first ≡ first + 0 = omega arith in ap (λ (d : ℕ). trajectory_of s.at (pieces_from s.at d cues)) e
+flight_is first (s ∷ starts) cues (suc d) other within =
+    let e : (first + 1) + d ≡ first + suc d = omega arith in
+    flight_is (first + 1) starts cues d other (omega arith)
+    ∙ ap (λ (n : ℕ). trajectory_of (get_or (map (λ (s : DroneLine). s.at) starts) d other) (pieces_from (get_or (map (λ (s : DroneLine). s.at) starts) d other) n cues)) e
+
+-- there are as many trajectories as drones
+pub flights_counted : (first : ℕ) (starts : List DroneLine) (cues : List Cue) → length (trajectories_of starts (expanded_from first starts cues)) ≡ length starts
+flights_counted first [] cues = refl
+flights_counted first (s ∷ starts) cues = ap suc (flights_counted (first + 1) starts cues)
+
+-- the piece of a drone in a cue of a grid
+piece_at_is : (g : Grid) (d k : ℕ) → d < length g.starts → k < length g.cues →
+    piece_at g d k ≡ piece_of (point_before g d k) (get_or (cue_times g) k 0) (job_at g d k)
+unfolding expanded
+piece_at_is g d k drone cue =
+    let other : MicroPiece = record { ms = 0; axes = [] } in
+    let e : 0 + d ≡ d = omega arith in
+    ap (λ (pieces : List MicroPiece). get_or pieces k other) (row_is 0 g.starts g.cues d _ drone ∙ ap (λ (n : ℕ). pieces_from (start_of g d) n g.cues) e)
+    ∙ piece_is (start_of g d) d g.cues k other cue
+
+-- the trajectory of a drone of a grid
+abbrev pub flight : Grid → ℕ → Traj
+flight g d = trajectory_of (start_of g d) (pieces_from (start_of g d) d g.cues)
+
+pub flight_at_is : (g : Grid) (d : ℕ) → d < length g.starts → get_or (trajectories g) d no_trajectory ≡ flight g d
+unfolding expanded
+flight_at_is g d drone =
+    let e : 0 + d ≡ d = omega arith in
+    flight_is 0 g.starts g.cues d _ drone ∙ ap (λ (n : ℕ). trajectory_of (start_of g d) (pieces_from (start_of g d) n g.cues)) e
+
+-- the decoded position of a drone within a cue, by its piece
+decoded_is : (g : Grid) (d axis : ℕ) (m : Moment) → m.cue < length g.cues → axis < 4 →
+    decoded (flight g d) axis m
+    ≡ position (at (start_at (point_before g d m.cue)) axis ∷ stored (element_on (segment_of (piece_of (point_before g d m.cue) (get_or (cue_times g) m.cue 0) (job_at g d m.cue))) axis)) m.a m.c
+decoded_is g d axis m cue small =
+    let p : Point = start_of g d in
+    let other : MicroPiece = record { ms = 0; axes = [] } in
+    decoded-points (flight g d) axis m
+    ∙ ap (λ (points : List ℤ). position points m.a m.c)
+    (points_are (at (start_at p) axis) p d g.cues m.cue axis other cue small refl
+    ∙ ap (λ (piece : MicroPiece). at (start_at (point_before g d m.cue)) axis ∷ stored (element_on (segment_of piece) axis)) (piece_is p d g.cues m.cue other cue))
+
+-- the written position of a drone within a cue, by its piece
+written_is : (g : Grid) (d axis : ℕ) (m : Moment) → d < length g.starts → IsInside (length g.cues) m → axis < 4 →
+    position (controls (axis_on (piece_of (point_before g d m.cue) (get_or (cue_times g) m.cue 0) (job_at g d m.cue)) axis)) m.a m.c ≡ written_at g d m.cue axis m.a m.c
+written_is g d axis m drone inside small =
+    ap (λ (piece : MicroPiece). position (controls (axis_on piece axis)) m.a m.c) (sym (piece_at_is g d m.cue drone inside.cue))
+    ∙ flies_as_written g d m.cue axis drone inside.cue small m.a m.c inside.some inside.within
+
+-- near on x, y or z, from near by the piece
+by_piece : (axis : Axis) (e : Element) (first w d : ℤ) (a c : ℕ) →
+    IsNear (position (controls axis) a c) (position (first_control (rounded axis) ∷ stored e) a c) c →
+    first_control axis ≡ first → position (controls axis) a c ≡ w → d ≡ position (millimetres first ∷ stored e) a c → IsNear w d c
+by_piece axis e first w d a c near begins written decoded =
+    subst (λ (z : ℤ). IsNear z d c) written
+    (subst (λ (z : ℤ). IsNear (position (controls axis) a c) z c)
+    (ap (λ (z : ℤ). position (z ∷ stored e) a c) (first_rounded axis ∙ ap millimetres begins) ∙ sym decoded) near)
+
+-- within a cue the drone flies near on x, y and z
+near_x : (g : Grid) (d : ℕ) (m : Moment) → d < length g.starts → IsInside (length g.cues) m → FliesNearOn g d (flight g d) 0 m
+near_x g d m drone inside =
+    let p : Point = point_before g d m.cue in
+    let j : Job = job_at g d m.cue in
+    let ms : ℕ = get_or (cue_times g) m.cue 0 in
+    by_piece (axis_on (piece_of p ms j) 0) (element_on (segment_of (piece_of p ms j)) 0) (on_axis p 0) (written_at g d m.cue 0 m.a m.c) (decoded (flight g d) 0 m) m.a m.c
+    ((stays_near (piece_of p ms j) (piece_whole p ms j)).x m.a m.c inside.some inside.within)
+    (piece_begins p ms j 0 (omega arith)) (written_is g d 0 m drone inside (omega arith)) (decoded_is g d 0 m inside.cue (omega arith))
+
+near_y : (g : Grid) (d : ℕ) (m : Moment) → d < length g.starts → IsInside (length g.cues) m → FliesNearOn g d (flight g d) 1 m
+near_y g d m drone inside =
+    let p : Point = point_before g d m.cue in
+    let j : Job = job_at g d m.cue in
+    let ms : ℕ = get_or (cue_times g) m.cue 0 in
+    by_piece (axis_on (piece_of p ms j) 1) (element_on (segment_of (piece_of p ms j)) 1) (on_axis p 1) (written_at g d m.cue 1 m.a m.c) (decoded (flight g d) 1 m) m.a m.c
+    ((stays_near (piece_of p ms j) (piece_whole p ms j)).y m.a m.c inside.some inside.within)
+    (piece_begins p ms j 1 (omega arith)) (written_is g d 1 m drone inside (omega arith)) (decoded_is g d 1 m inside.cue (omega arith))
+
+near_z : (g : Grid) (d : ℕ) (m : Moment) → d < length g.starts → IsInside (length g.cues) m → FliesNearOn g d (flight g d) 2 m
+near_z g d m drone inside =
+    let p : Point = point_before g d m.cue in
+    let j : Job = job_at g d m.cue in
+    let ms : ℕ = get_or (cue_times g) m.cue 0 in
+    by_piece (axis_on (piece_of p ms j) 2) (element_on (segment_of (piece_of p ms j)) 2) (on_axis p 2) (written_at g d m.cue 2 m.a m.c) (decoded (flight g d) 2 m) m.a m.c
+    ((stays_near (piece_of p ms j) (piece_whole p ms j)).z m.a m.c inside.some inside.within)
+    (piece_begins p ms j 2 (omega arith)) (written_is g d 2 m drone inside (omega arith)) (decoded_is g d 2 m inside.cue (omega arith))
+
+-- within a cue the yaw is equal
+same_yaw : (g : Grid) (d : ℕ) (m : Moment) → d < length g.starts → IsInside (length g.cues) m → FliesYaw g d (flight g d) m
+same_yaw g d m drone inside =
+    let p : Point = point_before g d m.cue in
+    let j : Job = job_at g d m.cue in
+    let ms : ℕ = get_or (cue_times g) m.cue 0 in
+    decoded_is g d 3 m inside.cue (omega arith)
+    ∙ ap (λ (z : ℤ). position (z ∷ stored (element_on (segment_of (piece_of p ms j)) 3)) m.a m.c) (sym (piece_begins p ms j 3 (omega arith)))
+    ∙ (stays_near (piece_of p ms j) (piece_whole p ms j)).yaw m.a m.c inside.some inside.within
+    ∙ written_is g d 3 m drone inside (omega arith)
+
+-- ---- all drones
+
+-- each cue lasts some time
+cues_last : (n : ℕ) (cues : List Cue) → FitCues n cues → All (λ ms. 1 ≤ ms) (map (λ (cue : Cue). cue.ms) cues)
+cues_last n [] fit = All-nil (λ (ms : ℕ). 1 ≤ ms)
+cues_last n (cue ∷ cues) fit = All-cons (λ (ms : ℕ). 1 ≤ ms) cue.ms (map (λ (cue : Cue). cue.ms) cues) fit.0.lasts (cues_last n cues fit.1)
+
+times_counted : (cues : List Cue) → length (map (λ (cue : Cue). cue.ms) cues) ≡ length cues
+times_counted [] = refl
+times_counted (cue ∷ cues) = ap suc (times_counted cues)
+
+-- an instant of the show lies in one of its cues
+instant_inside : (g : Grid) (p q : ℕ) → IsGrid g → 1 ≤ q → p ≤ q * sum (cue_times g) → IsInside (length g.cues) (moment (cue_times g) p q)
+instant_inside g p q is some before =
+    let count : length (cue_times g) ≡ length g.cues = times_counted g.cues in
+    subst (λ (n : ℕ). IsInside n (moment (cue_times g) p q)) count
+    (moment-inside (cue_times g) p q some (omega (arith, count, is.some_cue)) (cues_last (length g.starts) g.cues is.cues) before)
+
+-- a drone flies near to what the show says
+flies_near : (g : Grid) (d : ℕ) → IsGrid g → d < length g.starts → FliesNear g d (flight g d)
+flies_near g d is drone = record {
+  lasts = times_are (start_of g d) d g.cues;
+  x = λ p q some before. near_x g d (moment (cue_times g) p q) drone (instant_inside g p q is some before);
+  y = λ p q some before. near_y g d (moment (cue_times g) p q) drone (instant_inside g p q is some before);
+  z = λ p q some before. near_z g d (moment (cue_times g) p q) drone (instant_inside g p q is some before);
+  yaw = λ p q some before. same_yaw g d (moment (cue_times g) p q) drone (instant_inside g p q is some before);
+}
+
+-- The trajectories of a valid grid keep near to its show.
+pub keeps_near_show : (g : Grid) → IsGrid g → KeepsNearShow g (trajectories g)
+unfolding expanded
+keeps_near_show g is =
+    let count : length (trajectories g) ≡ length g.starts = flights_counted 0 g.starts g.cues in
+    record {
+      drones = count;
+      near = λ d small.
+          let drone : d < length g.starts = omega (arith, count) in
+          subst (λ (t : Traj). FliesNear g d t) (sym (flight_at_is g d drone)) (flies_near g d is drone);
+    }

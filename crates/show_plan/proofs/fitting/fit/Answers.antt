@@ -1,0 +1,6 @@
+use Rattle.choreo_reader.specs.Plain.{plain}
+use Rattle.show_plan.proofs.Sendable.{near_given}
+use Rattle.show_plan.proofs.fitting.fit.Goals as goal
+
+pub returns-clause-near : goal.returns-clause-near
+returns-clause-near c = near_given c.fitted.result (plain c.args.show.now) c.in-Ok.grid c.fitted.ensures c.in-Ok.ensures.valid c.in-Ok.ensures.gives.1

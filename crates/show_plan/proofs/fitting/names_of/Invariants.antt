@@ -1,0 +1,7 @@
+use Rattle.std.proofs.Common.{◌≡◌, map, take}
+use Rattle.choreo_reader.specs.declared.show.DroneLine.{DroneLine}
+use Rattle.show_plan.proofs.fitting.names_of.Given as goal
+
+-- the names so far
+abbrev pub invariant-loop-start : goal.invariant-loop-start
+invariant-loop-start l = l.names.items ≡ map (λ (d : DroneLine). d.name) (take l.start-index l.starts)

@@ -1,0 +1,92 @@
+-- What becomes of a show: its trajectories with their bytes, or the first reason why it has no plan.
+use Rattle.std.specs.Prelude.{◌≡◌, ℕ, ◌+◌, ◌-◌, ◌≤◌, List, [], ◌∷◌, ◌++◌, map, length, nat_le, Option, Some, None, Result, Ok, Err, if◌then◌else◌}
+use Rattle.std.specs.List.{sum, All}
+use Rattle.mem_chunks.specs.declared.TheConstants.{MEMORY_BYTES}
+use Rattle.choreo_reader.specs.declared.show.DroneLine.{DroneLine}
+use Rattle.choreo_reader.specs.Plain.{PlainShow}
+use Rattle.cue_grid.specs.declared.grid.GridFault.{GridFault}
+use Rattle.cue_grid.specs.Cues.{grid_of}
+use Rattle.cue_grid.specs.Faults.{grid_fault}
+use Rattle.traj_codec.specs.declared.traj.Traj.{Traj}
+use Rattle.traj_codec.specs.Spelling.{spelling, ending, IsEncoding, HasDuration, most_segments}
+use Rattle.mm_rounding.specs.declared.piece.MicroPiece.{MicroPiece}
+use Rattle.mm_rounding.specs.Rounding.{segment_of, rounding}
+use Rattle.figure_expand.specs.declared.fault.ExpandFault.{ExpandFault}
+use Rattle.figure_expand.specs.Expanded.{range_fault}
+use Rattle.show_plan.specs.declared.fitted.Fitted.{Fitted}
+use Rattle.show_plan.specs.declared.fitted.PlanFault.{PlanFault}
+use Rattle.show_plan.specs.declared.fitted.PlanFault.TheVariants as fault
+use Rattle.show_plan.specs.Plan.{IsFlyable}
+use Rattle.show_plan.specs.Trajectories.{trajectories, cue_times}
+
+-- ---- what steps are handed
+
+-- a trajectory can hold each number of the piece, which lasts some time
+abbrev pub IsHeld : MicroPiece → Type 0
+IsHeld p = rounding p ≡ Some (segment_of p)
+
+-- a trajectory can hold where the drone starts
+abbrev pub StartsFlyable : DroneLine → Type 0
+StartsFlyable s = IsFlyable s.at
+
+-- a trajectory of at most 255 segments, each of which lasts some time
+pub record IsSendable (t : Traj) : Type 0 where
+  pub few : length t.segments ≤ most_segments
+  pub last : All HasDuration t.segments
+
+-- ---- room
+
+-- how many bytes a trajectory is sent as: its spelling, and then the ending
+abbrev pub size : Traj → ℕ
+size t = length (spelling t ++ ending)
+
+-- how many bytes a drone's memory has from the show's offset on
+abbrev pub room : PlainShow → ℕ
+room s = MEMORY_BYTES - s.settings.offset
+
+-- the first of these trajectories, those of the drones from d on, that is sent as more bytes than there is room for
+abbrev pub first_long : ℕ → ℕ → List Traj → Option PlanFault
+first_long space d [] = None
+first_long space d (t ∷ ts) = if nat_le (size t) space then first_long space (d + 1) ts else Some (fault.TooLong d (size t) space)
+
+-- the first drone of a show whose trajectory is sent as more bytes than there is room for
+abbrev pub too_long : PlainShow → Option PlanFault
+too_long s = first_long (room s) 0 (trajectories (grid_of s))
+
+-- ---- what is answered
+
+-- the faults of names and cues come first, then the numbers, then the room
+abbrev pub in_order : Option GridFault → Option ExpandFault → Option PlanFault → Option PlanFault
+in_order (Some f) range long = Some (fault.Grid f)
+in_order None (Some f) long = Some (fault.Expand f)
+in_order None None long = long
+
+-- the first reason why a show has no plan
+abbrev pub plan_fault : PlainShow → Option PlanFault
+plan_fault s = in_order (grid_fault s) (range_fault (grid_of s)) (too_long s)
+
+-- the bytes are those of these trajectories, one by one
+abbrev pub AreEncodings : List (List ℕ) → List Traj → Type 0
+AreEncodings [] [] = Unit {0}
+AreEncodings (bytes ∷ others) (t ∷ ts) = IsEncoding bytes t × AreEncodings others ts
+AreEncodings _ _ = ⊥
+
+-- It has the settings and the names of the show, counts its cues and their milliseconds, and has its trajectories with their
+-- bytes.
+pub record IsFitted (f : Fitted) (s : PlainShow) : Type 0 where
+  pub settings : f.settings ≡ s.settings
+  pub names : f.names ≡ map (λ (d : DroneLine). d.name) s.drones
+  pub cues : f.cues ≡ length (grid_of s).cues
+  pub duration : f.duration ≡ sum (cue_times (grid_of s))
+  pub trajs : f.trajs ≡ trajectories (grid_of s)
+  pub bytes : AreEncodings f.bytes f.trajs
+
+-- A refusal is the first reason why the show has no plan; want of memory says nothing.
+abbrev pub PlanFails : PlanFault → PlainShow → Type 0
+PlanFails fault.Memory s = Unit {0}
+PlanFails f s = plan_fault s ≡ Some f
+
+-- What fits comes only without such a reason, and is that of the show.
+abbrev pub FitGives : Result Fitted PlanFault → PlainShow → Type 0
+FitGives (Ok f) s = (plan_fault s ≡ None) × IsFitted f s
+FitGives (Err f) s = PlanFails f s

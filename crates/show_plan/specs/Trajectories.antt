@@ -1,0 +1,29 @@
+-- The trajectories of a grid: each drone's start and each of its pieces rounded.
+use Rattle.std.specs.Prelude.{ℕ, List, [], ◌∷◌, map}
+use Rattle.choreo_lines.specs.declared.parts.Point.{Point}
+use Rattle.choreo_reader.specs.declared.show.DroneLine.{DroneLine}
+use Rattle.cue_grid.specs.declared.grid.Cue.{Cue}
+use Rattle.cue_grid.specs.declared.grid.Grid.{Grid}
+use Rattle.traj_codec.specs.declared.traj.Traj.{Traj}
+use Rattle.mm_rounding.specs.declared.piece.MicroPiece.{MicroPiece}
+use Rattle.mm_rounding.specs.Rounding.{segment_of}
+use Rattle.figure_expand.specs.Expanded.{expanded}
+use Rattle.show_plan.specs.Plan.{start_at}
+
+-- the trajectory of a drone that starts at this point: the start rounded, then one segment a piece
+abbrev pub trajectory_of : Point → List MicroPiece → Traj
+trajectory_of p pieces = record { start = start_at p; segments = map segment_of pieces }
+
+-- the trajectories of drones, from their lines and their pieces
+abbrev pub trajectories_of : List DroneLine → List (List MicroPiece) → List Traj
+trajectories_of [] rows = []
+trajectories_of (s ∷ starts) [] = []
+trajectories_of (s ∷ starts) (row ∷ rows) = trajectory_of s.at row ∷ trajectories_of starts rows
+
+-- per drone, its trajectory
+abbrev pub trajectories : Grid → List Traj
+trajectories g = trajectories_of g.starts (expanded g)
+
+-- how long each cue lasts, in milliseconds
+abbrev pub cue_times : Grid → List ℕ
+cue_times g = map (λ (cue : Cue). cue.ms) g.cues

@@ -1,0 +1,48 @@
+//! A show that fits, and why a show doesn't.
+
+use choreo_reader::{Listed, Name, Settings};
+use cue_grid::GridFault;
+use figure_expand::ExpandFault;
+use std::alloc::AllocError;
+use traj_codec::Traj;
+
+/// A show with the trajectories of its drones and their bytes. Names, trajectories and bytes have the order of the drones.
+#[derive(Drop)]
+pub struct Fitted {
+    /// The settings of the show.
+    pub settings: Settings,
+    /// The names of its drones.
+    pub names: Listed<Name>,
+    /// How many cues it has, repeats written out: 1 to 255.
+    pub cues: u8,
+    /// How long it lasts, in milliseconds.
+    pub duration: u32,
+    /// The trajectory of each drone, one segment for each cue.
+    pub trajs: Listed<Traj>,
+    /// The bytes of each trajectory: docs/TRAJECTORY.md.
+    pub bytes: Listed<Listed<u8>>,
+}
+
+/// Why a show has no plan.
+#[derive(Clone, Copy, PartialEq, Eq, Debug)]
+pub enum PlanFault {
+    /// A fault of its names or cues.
+    Grid { fault: GridFault },
+    /// A number that no trajectory can hold.
+    Expand { fault: ExpandFault },
+    /// The first drone, from 0, whose trajectory has more bytes than a drone's memory has room for behind the offset.
+    TooLong { drone: u8, bytes: u32, room: u32 },
+    /// Want of memory.
+    Memory,
+}
+
+impl From<AllocError> for PlanFault {
+    ghost use Rattle.std.specs.Prelude.{◌≡◌};
+    ghost use Rattle.show_plan.specs.declared.fitted.PlanFault.TheVariants.{Memory};
+
+    ghost from_gives = { λ _ e. e ≡ Memory };
+
+    fn from(_: AllocError) -> Self {
+        PlanFault::Memory
+    }
+}

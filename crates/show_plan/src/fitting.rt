@@ -1,0 +1,185 @@
+//! The trajectories of a whole show and their bytes, where they have room in the drones' memories.
+
+ghost use Rattle.std.specs.Prelude.{◌≡◌, ◌≤◌, None, map, length, IfOk};
+ghost use Rattle.std.specs.List.{All, sum};
+ghost use Rattle.choreo_reader.specs.Plain.{plain};
+ghost use Rattle.choreo_reader.specs.Valid.{IsValid};
+ghost use Rattle.cue_grid.specs.Cues.{grid_of};
+ghost use Rattle.cue_grid.specs.Faults.{grid_fault};
+ghost use Rattle.cue_grid.specs.Grids.{IsGrid};
+ghost use Rattle.figure_expand.specs.Expanded.{expanded, range_fault};
+ghost use Rattle.show_plan.specs.Plan.{IsFlyable};
+ghost use Rattle.show_plan.specs.Trajectories.{trajectory_of, trajectories_of};
+ghost use Rattle.show_plan.specs.Flight.{KeepsNearShow};
+ghost use Rattle.show_plan.specs.Fitting.{IsHeld, StartsFlyable, IsSendable, first_long};
+ghost use Rattle.show_plan.specs.Fitting.{AreEncodings, FitGives};
+
+use crate::fitted::{Fitted, PlanFault};
+use crate::rounding::rounded;
+use arrayvec::ArrayVec;
+use choreo_reader::{DroneLine, Listed, Name, Point, Show};
+use cue_grid::{Cue, Grid, GridFault, unroll};
+use figure_expand::{ExpandFault, expand};
+use mem_chunks::MEMORY_BYTES;
+use mm_rounding::{MicroPiece, round_piece};
+use std::alloc::{AllocError, Global};
+use traj_codec::{Segments, Traj, encode, size_of};
+
+// The trajectory of a drone that starts at this point.
+fn trajectory_of(alloc: Global, start: &Point, pieces: &[MicroPiece]) -> Result<Traj, AllocError>
+    requires start { IsFlyable start.now }
+    requires pieces { All IsHeld pieces.now }
+    ensures { IfOk result (λ t. t ≡ trajectory_of start.now pieces.now) }
+{
+    let mut segments = Vec::new(alloc);
+    for piece in pieces {
+        let segment = round_piece(piece).unwrap();
+        segments.push(segment)?;
+    }
+    Ok(Traj {
+        start: rounded(start),
+        segments: Segments::new(segments),
+    })
+}
+
+// The trajectory of each drone.
+fn trajectories_of(
+    alloc: Global,
+    starts: &[DroneLine],
+    rows: &[Vec<MicroPiece>],
+) -> Result<Vec<Traj>, AllocError>
+    requires count { length rows.now ≡ length starts.now }
+    requires starts { All StartsFlyable starts.now }
+    requires pieces { All (λ row. All IsHeld row) (map (λ row. row.items) rows.now) }
+    ensures { IfOk result (λ ts. ts.items ≡ trajectories_of starts.now (map (λ row. row.items) rows.now)) }
+{
+    let mut trajs = Vec::new(alloc);
+    for d in 0..starts.len() {
+        let t = trajectory_of(alloc, &starts[d].at, rows[d].as_slice())?;
+        trajs.push(t)?;
+    }
+    Ok(trajs)
+}
+
+// The first trajectory that is sent as more bytes than there is room for.
+fn first_long(room: u32, trajs: &[Traj]) -> Option<PlanFault>
+    requires few { length trajs.now ≤ 32 }
+    requires sendable { All IsSendable trajs.now }
+    ensures { result ≡ first_long room 0 trajs.now }
+{
+    for d in 0..trajs.len() {
+        let bytes = size_of(&trajs[d]) as u32;
+        if bytes > room {
+            return Some(PlanFault::TooLong {
+                drone: d as u8,
+                bytes,
+                room,
+            });
+        }
+    }
+    None
+}
+
+// The bytes of each trajectory.
+fn encodings(alloc: Global, trajs: &[Traj]) -> Result<Vec<Listed<u8>>, AllocError>
+    requires { All IsSendable trajs.now }
+    ensures { IfOk result (λ rows. AreEncodings rows.items trajs.now) }
+{
+    let mut rows = Vec::new(alloc);
+    for d in 0..trajs.len() {
+        let bytes = encode(alloc, &trajs[d])?;
+        rows.push(Listed::from_vec(bytes))?;
+    }
+    Ok(rows)
+}
+
+// A name once more.
+fn copy_of(name: &Name) -> Name
+    ensures { result ≡ name.now }
+{
+    let mut copy = ArrayVec::new();
+    for byte in name.as_slice() {
+        copy.push(*byte);
+    }
+    copy
+}
+
+// The names of drones.
+fn names_of(alloc: Global, starts: &[DroneLine]) -> Result<Vec<Name>, AllocError>
+    ensures { IfOk result (λ names. names.items ≡ map (λ (d : DroneLine). d.name) starts.now) }
+{
+    let mut names = Vec::new(alloc);
+    for start in starts {
+        names.push(copy_of(&start.name))?;
+    }
+    Ok(names)
+}
+
+// How long cues last together, in milliseconds.
+fn duration_of(cues: &[Cue]) -> u32
+    requires { length cues.now ≤ 255 }
+    ensures { result ≡ sum (map (λ (cue : Cue). cue.ms) cues.now) }
+{
+    let mut total = 0;
+    for cue in cues {
+        total += u32::from(cue.ms);
+    }
+    total
+}
+
+// What becomes of a show whose pieces a trajectory can hold.
+fn fitted(
+    alloc: Global,
+    show: &Show,
+    grid: &Grid,
+    rows: &[Vec<MicroPiece>],
+) -> Result<Fitted, PlanFault>
+    requires valid { IsValid (plain show.now) }
+    requires unrolled { grid_fault (plain show.now) ≡ None }
+    requires is { grid.now ≡ grid_of (plain show.now) }
+    requires whole { IsGrid grid.now }
+    requires held { range_fault grid.now ≡ None }
+    requires pieces { map (λ row. row.items) rows.now ≡ expanded grid.now }
+    ensures { FitGives result (plain show.now) }
+{
+    let starts = grid.starts.as_slice();
+    let cues = grid.cues.as_slice();
+    let trajs = trajectories_of(alloc, starts, rows)?;
+    let room = MEMORY_BYTES as u32 - u32::from(show.settings.offset);
+    if let Some(fault) = first_long(room, trajs.as_slice()) {
+        return Err(fault);
+    }
+    let bytes = encodings(alloc, trajs.as_slice())?;
+    let names = names_of(alloc, starts)?;
+    Ok(Fitted {
+        settings: show.settings,
+        names: Listed::from_vec(names),
+        cues: cues.len() as u8,
+        duration: duration_of(cues),
+        trajs: Listed::from_vec(trajs),
+        bytes: Listed::from_vec(bytes),
+    })
+}
+
+/// The trajectories of a show's drones and their bytes, or the first reason why the show has no plan: a fault of its names or
+/// cues, then a number that no trajectory can hold, then the first drone whose bytes exceed 4,096 less the offset.
+///
+/// At every instant of the show, also between whole milliseconds, what each trajectory decodes to is within half a millimetre
+/// of what the show says, on x, y and z, and the yaw is equal (docs/TRAJECTORY.md).
+pub fn fit(alloc: Global, show: &Show) -> Result<Fitted, PlanFault>
+    requires { IsValid (plain show.now) }
+    ensures gives { FitGives result (plain show.now) }
+    ensures near { IfOk result (λ f. KeepsNearShow (grid_of (plain show.now)) f.trajs) }
+{
+    let grid = match unroll(alloc, show) {
+        Ok(grid) => grid,
+        Err(GridFault::Memory) => return Err(PlanFault::Memory),
+        Err(fault) => return Err(PlanFault::Grid { fault }),
+    };
+    let rows = match expand(alloc, &grid) {
+        Ok(rows) => rows,
+        Err(ExpandFault::Memory) => return Err(PlanFault::Memory),
+        Err(fault) => return Err(PlanFault::Expand { fault }),
+    };
+    fitted(alloc, show, &grid, rows.as_slice())
+}
