@@ -2,3 +2,4 @@ pub mod Reach
 pub mod Unfit
 pub mod Curves
 pub mod Pieces
+pub mod Fitting

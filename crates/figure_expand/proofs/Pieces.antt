@@ -183,13 +183,13 @@ axes_are p d (cue ∷ cues) zero other within = refl
 axes_are p d (cue ∷ cues) (suc k) other within = axes_are (end_of p (act_of (job_in cue d))) d cues k other (omega arith)
 
 -- the pieces of a drone
-row_is : (first : ℕ) (starts : List DroneLine) (cues : List Cue) (d : ℕ) (other : Point) → d < length starts →
-    get_or (expanded_from first starts cues) d [] ≡ pieces_from (get_or (map (λ (s : DroneLine). s.at) starts) d other) (first + d) cues
-row_is first [] cues d other within = absurd (omega arith)
-row_is first (s ∷ starts) cues zero other within = let e : first ≡ first + 0 = omega arith in ap (λ (d : ℕ). pieces_from s.at d cues) e
-row_is first (s ∷ starts) cues (suc d) other within =
+pub row_is : (first : ℕ) (starts : List DroneLine) (cues : List Cue) (d : ℕ) (other : Point) (rest : List MicroPiece) → d < length starts →
+    get_or (expanded_from first starts cues) d rest ≡ pieces_from (get_or (map (λ (s : DroneLine). s.at) starts) d other) (first + d) cues
+row_is first [] cues d other rest within = absurd (omega arith)
+row_is first (s ∷ starts) cues zero other rest within = let e : first ≡ first + 0 = omega arith in ap (λ (d : ℕ). pieces_from s.at d cues) e
+row_is first (s ∷ starts) cues (suc d) other rest within =
     let e : (first + 1) + d ≡ first + suc d = omega arith in
-    row_is (first + 1) starts cues d other (omega arith) ∙ ap (λ (n : ℕ). pieces_from (get_or (map (λ (s : DroneLine). s.at) starts) d other) n cues) e
+    row_is (first + 1) starts cues d other rest (omega arith) ∙ ap (λ (n : ℕ). pieces_from (get_or (map (λ (s : DroneLine). s.at) starts) d other) n cues) e
 
 -- one piece more, as the code puts it behind the others
 pub piece_next : (pieces more : List MicroPiece) (p after : Point) (d : ℕ) (cues : List Cue) (k : ℕ) (cue : Cue) (piece : MicroPiece) → k < length cues → cue ≡ get_or cues k cue →
@@ -213,7 +213,7 @@ flies_as_written g d k axis drone cue small a c some within =
     let e : 0 + d ≡ d = omega arith in
     let other : MicroPiece = record { ms = 0; axes = [] } in
     let row : get_or (expanded_from 0 g.starts g.cues) d [] ≡ pieces_from (start_of g d) d g.cues =
-    row_is 0 g.starts g.cues d _ drone ∙ ap (λ (n : ℕ). pieces_from (start_of g d) n g.cues) e in
+    row_is 0 g.starts g.cues d _ [] drone ∙ ap (λ (n : ℕ). pieces_from (start_of g d) n g.cues) e in
     let axes : (get_or (get_or (expanded_from 0 g.starts g.cues) d []) k other).axes ≡ axes_of (point_before g d k) (act_of (job_at g d k)) =
     ap (λ (pieces : List MicroPiece). (get_or pieces k other).axes) row ∙ axes_are (start_of g d) d g.cues k other cue in
     ap (λ (axes : List Axis). position (controls (get_or axes axis (One (pos 0)))) a c) axes ∙ by_act (point_before g d k) (act_of (job_at g d k)) axis small a c

@@ -1,11 +1,12 @@
 -- What a drone flies in a cue of a grid: its piece, and the written position.
-use Rattle.std.specs.Prelude.{◌≡◌, ℕ, ◌<◌, List, [], map, take, ℤ, pos, length, slice_index_or}
+use Rattle.std.specs.Prelude.{◌≡◌, Some, ℕ, ◌<◌, List, [], map, take, ℤ, pos, length, slice_index_or}
+use Rattle.std.specs.List.{All}
 use Rattle.choreo_lines.specs.declared.parts.Point.{Point}
 use Rattle.choreo_reader.specs.declared.show.DroneLine.{DroneLine}
 use Rattle.cue_grid.specs.declared.grid.Job.{Job}
 use Rattle.cue_grid.specs.declared.grid.Cue.{Cue}
 use Rattle.cue_grid.specs.declared.grid.Grid.{Grid}
-use Rattle.mm_rounding.specs.Rounding.{controls, axis_on}
+use Rattle.mm_rounding.specs.Rounding.{millimetres, short, controls, axis_on, rounding, segment_of}
 use Rattle.mm_rounding.specs.Near.{position, AtEachFraction}
 use Rattle.mm_rounding.specs.declared.piece.MicroPiece.{MicroPiece}
 use Rattle.figure_expand.specs.Acts.{act_of, point_after}
@@ -41,3 +42,19 @@ abbrev pub FliesAsWritten : Grid → Type 0
 FliesAsWritten g =
     (d k axis : ℕ) → d < length g.starts → k < length g.cues → axis < 4 →
     AtEachFraction (λ a c. position (controls (axis_on (piece_at g d k) axis)) a c ≡ written_at g d k axis a c)
+
+-- the piece rounds to a segment: each of its numbers fits a trajectory
+abbrev pub RoundsWell : MicroPiece → Type 0
+RoundsWell p = rounding p ≡ Some (segment_of p)
+
+-- each number of a start fits a trajectory, rounded to millimetres, a yaw as it is
+pub record StartsWell (p : Point) : Type 0 where
+  pub x : short (millimetres p.x) ≡ Some (millimetres p.x)
+  pub y : short (millimetres p.y) ≡ Some (millimetres p.y)
+  pub z : short (millimetres p.z) ≡ Some (millimetres p.z)
+  pub yaw : short p.yaw ≡ Some p.yaw
+
+-- Each start of a grid and each of its pieces fits a trajectory.
+pub record FitsWell (g : Grid) : Type 0 where
+  pub starts : All (λ (s : DroneLine). StartsWell s.at) g.starts
+  pub pieces : All (All RoundsWell) (expanded g)

@@ -1,19 +1,23 @@
 //! What holds of all grids.
 
-ghost use Rattle.std.specs.Prelude.{ℕ, ◌≡◌, ◌<◌};
+ghost use Rattle.std.specs.Prelude.{ℕ, None, ◌≡◌, ◌<◌};
 ghost use Rattle.choreo_lines.specs.declared.parts.Point.{Point};
 ghost use Rattle.cue_grid.specs.declared.grid.Job.{Job};
 ghost use Rattle.cue_grid.specs.declared.grid.Grid.{Grid};
+ghost use Rattle.cue_grid.specs.Grids.{IsGrid};
 ghost use Rattle.mm_rounding.specs.Rounding.{axis_on, first_control};
 ghost use Rattle.mm_rounding.specs.Near.{IsPiece, last_control};
 ghost use Rattle.figure_expand.specs.Acts.{act_of, end_of, on_axis};
 ghost use Rattle.figure_expand.specs.Controls.{piece_of};
-ghost use Rattle.figure_expand.specs.Flown.{FliesAsWritten};
+ghost use Rattle.figure_expand.specs.Expanded.{range_fault};
+ghost use Rattle.figure_expand.specs.Flown.{FliesAsWritten, FitsWell};
 
 /// A law. The pieces of each grid are at the written position, on each axis and at each fraction of each cue. A piece
-/// begins where its drone is, and ends where the drone is before the next cue.
+/// begins where its drone is, and ends where the drone is before the next cue. Where no value is out of range, each start
+/// and each piece fits a trajectory.
 pub fn expansion_law()
     ensures written { (g : Grid) → FliesAsWritten g }
+    ensures fits { (g : Grid) → IsGrid g → range_fault g ≡ None → FitsWell g }
     ensures whole { (p : Point) (ms : ℕ) (j : Job) → IsPiece (piece_of p ms j) }
     ensures begins { (p : Point) (ms : ℕ) (j : Job) (axis : ℕ) → axis < 4
         → first_control (axis_on (piece_of p ms j) axis) ≡ on_axis p axis }

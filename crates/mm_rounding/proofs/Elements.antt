@@ -17,8 +17,8 @@ use Rattle.traj_codec.specs.Positions.{value_after}
 use Rattle.mm_rounding.specs.declared.piece.Axis.{Axis}
 use Rattle.mm_rounding.specs.declared.piece.Axis.TheVariants.{One, Two, Four, Eight}
 use Rattle.mm_rounding.specs.declared.piece.MicroPiece.{MicroPiece}
-use Rattle.mm_rounding.specs.Rounding.{millimetres, controls, rounded, all_equal, behind_first, element_of, fits, fitted, axis_on, segment_of}
-use Rattle.mm_rounding.specs.Near.{IsAxis, position, KeepsNear, KeepsEqual, EndsThere, IsPiece, StaysNear}
+use Rattle.mm_rounding.specs.Rounding.{millimetres, controls, first_control, rounded, all_equal, behind_first, element_of, fits, fitted, axis_on, segment_of}
+use Rattle.mm_rounding.specs.Near.{IsAxis, position, KeepsNear, KeepsEqual, last_control, EndsThere, IsPiece, StaysNear}
 use Rattle.mm_rounding.proofs.Curves.{near_curve, position-constant}
 
 int_eq_true : (x y : ℤ) → int_eq x y ≡ true → x ≡ y
@@ -185,6 +185,25 @@ ends_there (One v) is = refl
 ends_there (Two v) is = ends_by_test v (all_equal v) (Linear (at v 1)) (omega arith) refl (two_behind v is)
 ends_there (Four v) is = ends_by_test v (all_equal v) (Cubic (behind_first v)) (omega arith) refl refl
 ends_there (Eight v) is = ends_by_test v (all_equal v) (Seven (behind_first v)) (omega arith) refl refl
+
+-- ---- edges
+
+last-map : (first : ℤ) (v : List ℤ) → last_value (millimetres first) (map millimetres v) ≡ millimetres (last_value first v)
+last-map first [] = refl
+last-map first (z ∷ v) = last-map z v
+
+edges_of : (v : List ℤ) → 1 ≤ length v →
+    (at (map millimetres v) 0 ≡ millimetres (at v 0)) × (last_value (at (map millimetres v) 0) (behind_first (map millimetres v)) ≡ millimetres (last_value (at v 0) (behind_first v)))
+edges_of [] some = absurd (omega arith)
+edges_of (z ∷ v) some = (refl, last-map z v)
+
+-- The rounded axis begins and ends with the rounded ends.
+pub rounded_edges : (axis : Axis) → IsAxis axis →
+    (first_control (rounded axis) ≡ millimetres (first_control axis)) × (last_control (rounded axis) ≡ millimetres (last_control axis))
+rounded_edges (One v) is = (refl, refl)
+rounded_edges (Two v) is = edges_of v (omega arith)
+rounded_edges (Four v) is = edges_of v (omega arith)
+rounded_edges (Eight v) is = edges_of v (omega arith)
 
 -- ---- pieces
 

@@ -7,7 +7,6 @@ use mir.Syntax.{w128}
 use Rattle.fleet_math.specs.Bernstein.{at}
 use Rattle.bezier_core.specs.declared.Bez.{Bez}
 use Rattle.bezier_core.specs.Along.{along_value}
-use Rattle.halving.specs.declared.Place.{Place}
 use Rattle.sep_parts.specs.declared.stack.Level.{Level}
 use Rattle.sep_parts.specs.Directions.{threshold, AreSmall, IsAxis}
 use Rattle.sep_parts.specs.Separates.{first_low, least_value, low_value, weights}
@@ -15,7 +14,6 @@ use Rattle.sep_parts.specs.Levels.{IsLevel}
 use Rattle.sep_parts.proofs.Parts.{low-along}
 use Rattle.sep_parts.proofs.Lows.{first_low-none, first_low-values}
 use Rattle.sep_parts.proofs.Limits.{threshold_told}
-use Rattle.pair_search.specs.Search.{first_direction}
 
 -- the first place where a test passes
 pub position-is : {X : Type 0} (p : X → Bool) (xs : List X) (i : ℕ) (d : X) → i < length xs → ((k : ℕ) → k < i → p (get_or xs k d) ≡ false) → p (get_or xs i d) ≡ true → position p xs ≡ Some i

@@ -1,11 +1,9 @@
 -- The halves of a separated place are separated.
 use Rattle.std.proofs.Common.{◌≡◌, ℕ, suc, ◌+◌, ◌-◌, ◌*◌, ◌^◌, ◌≤◌, ◌<◌, ℤ, pos, ◌+ℤ◌, ◌*ℤ◌, ◌≤ℤ◌, true, false, arith, refl, sym, ◌∙◌, ap, List, [], length, get_or, Option, Some, None, is_none}
-use Rattle.std.proofs.Math.Nat.{pow-suc}
 use Rattle.std.proofs.lemmas.Nat.{pow-add}
-use Rattle.std.proofs.lemmas.Int.{ints}
 use Rattle.fleet_math.specs.Sums.{power}
 use Rattle.fleet_math.specs.Bernstein.{at}
-use Rattle.fleet_math.proofs.RingLemmas.{ring, linear, mul_assoc_ℤ, one_mul_ℤ}
+use Rattle.fleet_math.proofs.RingLemmas.{mul_assoc_ℤ, one_mul_ℤ}
 use Rattle.fleet_math.proofs.SumLemmas.{power-add}
 use Rattle.bezier_core.specs.declared.Bez.{Bez}
 use Rattle.bezier_core.specs.Along.{controls}

@@ -1,5 +1,5 @@
 -- The walk over the places of a tree: what is pending, what is done, and what is found at the end.
-use Rattle.std.proofs.Common.{◌≡◌, ◌⊎◌, inl, inr, ℕ, zero, suc, ◌+◌, ◌-◌, ◌*◌, ◌^◌, ◌≤◌, ◌<◌, Bool, true, false, cond, nat_lt, arith, refl, sym, ◌∙◌, ap, subst, List, [], ◌∷◌, ◌++◌, append_assoc, append-nil, Option, Some, None, is_none}
+use Rattle.std.proofs.Common.{◌≡◌, ℕ, zero, suc, ◌+◌, ◌-◌, ◌*◌, ◌^◌, ◌≤◌, ◌<◌, Bool, true, false, cond, nat_lt, arith, refl, sym, ◌∙◌, ap, subst, List, [], ◌∷◌, ◌++◌, append_assoc, append-nil, Option, Some, None}
 use Rattle.std.specs.Option.{option_map, option_or}
 use Rattle.std.proofs.Math.Nat.{pow-suc}
 use Rattle.std.proofs.lemmas.Bool.Decides.{nat_tests}
@@ -8,7 +8,7 @@ use Rattle.sep_parts.specs.declared.stack.Level.{Level}
 use Rattle.sep_parts.specs.Levels.{left_half, places_of, right_half, root}
 use Rattle.sep_certificate.specs.declared.certificate.Node.{Node}
 use Rattle.sep_certificate.specs.declared.certificate.Node.TheVariants.{Split, Leaf}
-use Rattle.sep_certificate.specs.Certificates.{Tree, leaf, split, preorder, places_below}
+use Rattle.sep_certificate.specs.Certificates.{Tree, leaf, preorder, places_below}
 use Rattle.pair_search.specs.Search.{best_tree, blocked_place, first_without, place_at, split_of}
 use Rattle.pair_search.specs.Steps.{node_for}
 
@@ -67,11 +67,11 @@ size-some : (n : ℕ) → 1 ≤ size n
 size-some zero = omega arith
 size-some (suc n) = omega arith
 
-start-zero : (n : ℕ) → start n 0 ≡ 0
+pub start-zero : (n : ℕ) → start n 0 ≡ 0
 start-zero zero = refl
 start-zero (suc n) = start-zero n
 
-start-is : (n m : ℕ) → start n m ≡ 2 ^ n * m
+pub start-is : (n m : ℕ) → start n m ≡ 2 ^ n * m
 start-is zero m = omega arith
 start-is (suc n) m = start-is n (2 * m) ∙ rw (pow-suc 2 n) (twice (2 ^ n) m)
   where
@@ -124,9 +124,9 @@ split-behind nodes (Some left) (Some right) (Some more) =
     ap Some (ap (λ (ns : List Node). nodes ++ Split ∷ ns) (append_assoc (preorder left) (preorder right) more) ∙ sym (append_assoc nodes (Split ∷ []) (preorder left ++ (preorder right ++ more))))
 
 -- ---- the steps of a walk
-module _ (first : Place → Option ℕ) (depth : ℕ) (left_has : (p : Place) → Has first p → Has first (left_half p)) (right_has : (p : Place) → Has first p → Has first (right_half p)) where
+module _ (first : Place → Option ℕ) (left_has : (p : Place) → Has first p → Has first (left_half p)) (right_has : (p : Place) → Has first p → Has first (right_half p)) where
   -- where a place has a direction, each of its parts has
-  all_have : (n : ℕ) (p : Place) (j : ℕ) → Has first p → start n p.index ≤ j → j < start n (p.index + 1) → Has first (place_at (p.depth + n) j)
+  pub all_have : (n : ℕ) (p : Place) (j : ℕ) → Has first p → start n p.index ≤ j → j < start n (p.index + 1) → Has first (place_at (p.depth + n) j)
   all_have zero p j has from to =
       let same : p.index ≡ j = omega arith in
       let deep : p.depth ≡ p.depth + 0 = omega arith in
@@ -145,6 +145,7 @@ module _ (first : Place → Option ℕ) (depth : ℕ) (left_has : (p : Place) �
       either true is left right = left (grind (arith, nat_tests))
       either false is left right = right (grind (arith, nat_tests))
 
+module _ (first : Place → Option ℕ) (depth : ℕ) (left_has : (p : Place) → Has first p → Has first (left_half p)) (right_has : (p : Place) → Has first p → Has first (right_half p)) where
   -- past a leaf
   past_leaf : (p : Place) (ps : List Place) (nodes : List Node) (dir : ℕ) → first p ≡ Some dir → IsWalk first depth (p ∷ ps) nodes → IsWalk first depth ps (nodes ++ Leaf dir ∷ [])
   past_leaf p ps nodes dir e walk = record {
@@ -160,7 +161,7 @@ module _ (first : Place → Option ℕ) (depth : ℕ) (left_has : (p : Place) �
       go j false is below =
           let from : start (depth - p.depth) p.index ≤ j = rw (← walk.next.1) (grind (arith, nat_tests)) in
           let deep : p.depth + (depth - p.depth) ≡ depth = omega (arith, walk.next.0) in
-          subst (λ (d : ℕ). Has first (place_at d j)) deep (all_have (depth - p.depth) p j (dir, e) from below)
+          subst (λ (d : ℕ). Has first (place_at d j)) deep (all_have first left_has right_has (depth - p.depth) p j (dir, e) from below)
 
   -- past a split
   past_split : (p : Place) (ps : List Place) (nodes : List Node) → first p ≡ None → p.depth < depth → IsWalk first depth (p ∷ ps) nodes → IsWalk first depth (left_half p ∷ right_half p ∷ ps) (nodes ++ Split ∷ [])

@@ -1,4 +1,4 @@
-//! Pairs of drones with ellipsoids of half axes 120, 120 and 300 mm, and what a model of the definitions in Python finds for them.
+//! Pairs of drones with ellipsoids of half axes 120, 120 and 300 mm. Directions and parts were computed from the definitions by exact sums.
 
 ghost use Rattle.std.specs.Prelude.{◌^◌, ◌≤◌, All};
 ghost use Rattle.fleet_math.specs.Numbers.{IsBelow};

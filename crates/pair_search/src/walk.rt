@@ -156,7 +156,8 @@ fn put(
 
 /// A law. The definitions that the contract of [`search`] cites are what their names say: the first direction of a place separates
 /// it, and none before it in the table does; no part is blocked exactly where each has a separating direction, and a blocked
-/// part is the first that has none; the best tree is valid at its depth.
+/// part is the first that has none. There is a best tree exactly where each part of the depth has a separating direction; it is
+/// valid at that depth, and its leaves are the largest parts with a direction, each with its first.
 pub fn search_law()
     ensures { SearchLaw }
 {}

@@ -13,7 +13,7 @@ use Rattle.choreo_reader.specs.declared.show.DroneLine.{DroneLine}
 use Rattle.cue_grid.specs.declared.grid.Job.{Job}
 use Rattle.cue_grid.specs.declared.grid.Cue.{Cue}
 use Rattle.cue_grid.specs.declared.grid.Grid.{Grid}
-use Rattle.cue_grid.specs.Grids.{FitsCue, FitCues, IsGrid}
+use Rattle.cue_grid.specs.Grids.{FitCues, IsGrid}
 use Rattle.traj_codec.specs.declared.traj.Element.{Element}
 use Rattle.traj_codec.specs.declared.traj.Traj.{Traj}
 use Rattle.traj_codec.specs.Spelling.{stored}
@@ -23,7 +23,7 @@ use Rattle.mm_rounding.specs.declared.piece.Axis.{Axis}
 use Rattle.mm_rounding.specs.declared.piece.Axis.TheVariants.{One, Two, Four, Eight}
 use Rattle.mm_rounding.specs.declared.piece.MicroPiece.{MicroPiece}
 use Rattle.mm_rounding.specs.Rounding.{millimetres, controls, first_control, behind_first, rounded, element_of, axis_on, segment_of}
-use Rattle.mm_rounding.specs.Near.{IsAxis, IsPiece, position, last_control}
+use Rattle.mm_rounding.specs.Near.{IsAxis, position, last_control}
 use Rattle.mm_rounding.proofs.Elements.{rounded_is_axis, ends_there, stays_near}
 use Rattle.figure_expand.specs.Acts.{act_of, end_of, on_axis, point_after}
 use Rattle.figure_expand.specs.Controls.{axes_of, piece_of}
@@ -229,11 +229,11 @@ same_yaw g d m drone inside =
 -- ---- all drones
 
 -- each cue lasts some time
-cues_last : (n : ℕ) (cues : List Cue) → FitCues n cues → All (λ ms. 1 ≤ ms) (map (λ (cue : Cue). cue.ms) cues)
+pub cues_last : (n : ℕ) (cues : List Cue) → FitCues n cues → All (λ ms. 1 ≤ ms) (map (λ (cue : Cue). cue.ms) cues)
 cues_last n [] fit = All-nil (λ (ms : ℕ). 1 ≤ ms)
 cues_last n (cue ∷ cues) fit = All-cons (λ (ms : ℕ). 1 ≤ ms) cue.ms (map (λ (cue : Cue). cue.ms) cues) fit.0.lasts (cues_last n cues fit.1)
 
-times_counted : (cues : List Cue) → length (map (λ (cue : Cue). cue.ms) cues) ≡ length cues
+pub times_counted : (cues : List Cue) → length (map (λ (cue : Cue). cue.ms) cues) ≡ length cues
 times_counted [] = refl
 times_counted (cue ∷ cues) = ap suc (times_counted cues)
 

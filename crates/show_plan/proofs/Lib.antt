@@ -5,3 +5,4 @@ pub mod Plannable
 pub mod Flight
 pub mod Held
 pub mod Sendable
+pub mod Valid

@@ -1,13 +1,17 @@
 -- What becomes of a show: its trajectories with their bytes, or the first reason why it has no plan.
-use Rattle.std.specs.Prelude.{◌≡◌, ℕ, ◌+◌, ◌-◌, ◌≤◌, List, [], ◌∷◌, ◌++◌, map, length, nat_le, Option, Some, None, Result, Ok, Err, if◌then◌else◌}
+use Rattle.std.specs.Prelude.{false, ◌≡◌, ℕ, ◌+◌, ◌-◌, ◌≤◌, List, [], ◌∷◌, ◌++◌, map, length, nat_le, Option, Some, None, Result, Ok, Err, if◌then◌else◌}
 use Rattle.std.specs.List.{sum, All}
 use Rattle.mem_chunks.specs.declared.TheConstants.{MEMORY_BYTES}
 use Rattle.choreo_reader.specs.declared.show.DroneLine.{DroneLine}
 use Rattle.choreo_reader.specs.Plain.{PlainShow}
+use Rattle.choreo_reader.specs.Valid.{FitsSettings}
 use Rattle.cue_grid.specs.declared.grid.GridFault.{GridFault}
 use Rattle.cue_grid.specs.Cues.{grid_of}
-use Rattle.cue_grid.specs.Faults.{grid_fault}
+use Rattle.cue_grid.specs.Counts.{cue_limit}
+use Rattle.cue_grid.specs.Faults.{drone_limit, grid_fault}
+use Rattle.cue_grid.specs.Names.{has_double}
 use Rattle.traj_codec.specs.declared.traj.Traj.{Traj}
+use Rattle.traj_codec.specs.Positions.{durations}
 use Rattle.traj_codec.specs.Spelling.{spelling, ending, IsEncoding, HasDuration, most_segments}
 use Rattle.mm_rounding.specs.declared.piece.MicroPiece.{MicroPiece}
 use Rattle.mm_rounding.specs.Rounding.{segment_of, rounding}
@@ -90,3 +94,22 @@ PlanFails f s = plan_fault s ≡ Some f
 abbrev pub FitGives : Result Fitted PlanFault → PlainShow → Type 0
 FitGives (Ok f) s = (plan_fault s ≡ None) × IsFitted f s
 FitGives (Err f) s = PlanFails f s
+
+-- Valid: settings in range; 1 to 32 names, no two of them equal; as many trajectories and lists of bytes; 1 to 255 cues, each
+-- of which lasts some time; these are the durations of each trajectory's segments; and each list of bytes is the encoding of
+-- its trajectory, and has room in a drone's memory behind the offset.
+pub record IsValidFitted (f : Fitted) : Type 0 where
+  pub settings : FitsSettings f.settings
+  pub some_drone : 1 ≤ length f.names
+  pub few_drones : length f.names ≤ drone_limit
+  pub distinct : has_double f.names ≡ false
+  pub trajs_counted : length f.trajs ≡ length f.names
+  pub some_cue : 1 ≤ f.cues
+  pub few_cues : f.cues ≤ cue_limit
+  pub times : List ℕ
+  pub times_counted : length times ≡ f.cues
+  pub last : All (λ ms. 1 ≤ ms) times
+  pub duration : sum times ≡ f.duration
+  pub lasting : All (λ (t : Traj). durations t.segments ≡ times) f.trajs
+  pub encoded : AreEncodings f.bytes f.trajs
+  pub room : All (λ (bytes : List ℕ). length bytes ≤ MEMORY_BYTES - f.settings.offset) f.bytes

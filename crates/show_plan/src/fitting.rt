@@ -12,7 +12,7 @@ ghost use Rattle.show_plan.specs.Plan.{IsFlyable};
 ghost use Rattle.show_plan.specs.Trajectories.{trajectory_of, trajectories_of};
 ghost use Rattle.show_plan.specs.Flight.{KeepsNearShow};
 ghost use Rattle.show_plan.specs.Fitting.{IsHeld, StartsFlyable, IsSendable, first_long};
-ghost use Rattle.show_plan.specs.Fitting.{AreEncodings, FitGives};
+ghost use Rattle.show_plan.specs.Fitting.{AreEncodings, FitGives, IsValidFitted};
 
 use crate::fitted::{Fitted, PlanFault};
 use crate::rounding::rounded;
@@ -169,6 +169,7 @@ fn fitted(
 pub fn fit(alloc: Global, show: &Show) -> Result<Fitted, PlanFault>
     requires { IsValid (plain show.now) }
     ensures gives { FitGives result (plain show.now) }
+    ensures valid { IfOk result (λ f. IsValidFitted f) }
     ensures near { IfOk result (λ f. KeepsNearShow (grid_of (plain show.now)) f.trajs) }
 {
     let grid = match unroll(alloc, show) {

@@ -1,4 +1,4 @@
-use Rattle.std.proofs.Common.{◌≡◌, true, false, not, ◌<◌, [], length, get_or, arith, ap, sym, ◌∙◌, below_more, is_none}
+use Rattle.std.proofs.Common.{[], get_or, arith, sym, ◌∙◌, below_more, is_none}
 use Rattle.std.proofs.lemmas.Int.{ints}
 use Rattle.std.proofs.lemmas.List.Elements.{All-get_or}
 use Rattle.sep_parts.specs.Directions.{AreSmall}

@@ -1,12 +1,10 @@
-use Rattle.std.proofs.Common.{◌≡◌, refl, sym, ◌∙◌, ap, subst, List, [], ◌∷◌, ◌++◌, Some, None}
+use Rattle.std.proofs.Common.{sym, ◌∙◌, subst, List, ◌∷◌}
 use Rattle.sep_parts.specs.declared.stack.Level.{Level}
-use Rattle.halving.specs.declared.Place.{Place}
 use Rattle.sep_parts.specs.Levels.{IsStack}
-use Rattle.sep_certificate.specs.Certificates.{places_below}
 use Rattle.sep_certificate.proofs.Stacks.{first_stack}
 use Rattle.pair_search.specs.Search.{first_direction}
 use Rattle.pair_search.proofs.Halves.{left_has, right_has}
-use Rattle.pair_search.proofs.Trees.{begun, blocked, ended, less_pending, past_pending, blocked_pending, ended_pending}
+use Rattle.pair_search.proofs.Trees.{begun, less_pending, past_pending, blocked_pending, ended_pending}
 use Rattle.pair_search.proofs.walk.walk.Goals as goal
 
 pub loop-level-init : goal.loop-level-init

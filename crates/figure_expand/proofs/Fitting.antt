@@ -1,0 +1,165 @@
+-- Where no value of a grid is out of range, each of its starts and pieces fits a trajectory.
+use Rattle.std.proofs.Common.{◌≡◌, ℕ, zero, suc, ◌+◌, ◌<◌, ◌≤◌, Bool, true, false, cond, ◌&&◌, nat_le, Some, None, ℤ, pos, List, [], ◌∷◌, ◌++◌, map, length, get_or, arith, refl, sym, ap, ◌∙◌, subst}
+use Rattle.std.specs.List.{list_all}
+use Rattle.std.proofs.lemmas.Bool.Decides.{nat_tests}
+use Rattle.choreo_lines.specs.declared.parts.Point.{Point}
+use Rattle.choreo_reader.specs.declared.show.DroneLine.{DroneLine}
+use Rattle.cue_grid.specs.declared.grid.Job.{Job}
+use Rattle.cue_grid.specs.declared.grid.Cue.{Cue}
+use Rattle.cue_grid.specs.declared.grid.Grid.{Grid}
+use Rattle.cue_grid.specs.Grids.{FitCues, IsGrid}
+use Rattle.mm_rounding.specs.Rounding.{millimetres, is_short, short, controls, rounded, fits, counted, segment_of}
+use Rattle.mm_rounding.specs.declared.piece.Axis.{Axis}
+use Rattle.mm_rounding.specs.declared.piece.Axis.TheVariants.{One, Two, Four, Eight}
+use Rattle.mm_rounding.specs.declared.piece.MicroPiece.{MicroPiece}
+use Rattle.figure_expand.specs.Acts.{act_of, end_of}
+use Rattle.figure_expand.specs.Controls.{place_controls, yaw_controls, axes_of, piece_of}
+use Rattle.figure_expand.specs.Expanded as expanding
+use Rattle.figure_expand.specs.Expanded.{Value, fits_axis, values_on, values_of, point_values, start_values, start_points, cue_values, points_after, values_from, first_unfit, range_fault, job_in, no_job, pieces_from, expanded_from, expanded}
+use Rattle.figure_expand.specs.declared.fault.ExpandFault.TheVariants as fault
+use Rattle.figure_expand.specs.Flown.{RoundsWell, StartsWell, FitsWell}
+use Rattle.figure_expand.proofs.Reach.{length-points_after, length-start_points}
+use Rattle.figure_expand.proofs.Pieces.{row_is}
+
+-- ---- no value is out of range
+
+-- a value that fits, and the rest
+first_fits : (v : Value) (vs : List Value) → first_unfit (v ∷ vs) ≡ None → (expanding.fits v ≡ true) × (first_unfit vs ≡ None)
+first_fits v vs none = by_fit (expanding.fits v) refl none
+  where
+    by_fit : (b : Bool) → expanding.fits v ≡ b → cond b (first_unfit vs) (Some (fault.OutOfRange v.line v.axis v.value)) ≡ None → (expanding.fits v ≡ true) × (first_unfit vs ≡ None)
+    by_fit true is none = (is, none)
+    by_fit false is none = absurd (cc)
+
+-- both of two lists
+both_fit : (xs ys : List Value) → first_unfit (xs ++ ys) ≡ None → (first_unfit xs ≡ None) × (first_unfit ys ≡ None)
+both_fit [] ys none = (refl, none)
+both_fit (v ∷ xs) ys none =
+    let here = first_fits v (xs ++ ys) none in
+    let later = both_fit xs ys here.1 in
+    (ap (λ (b : Bool). cond b (first_unfit xs) (Some (fault.OutOfRange v.line v.axis v.value))) here.0 ∙ later.0, later.1)
+
+-- the control values of an axis
+each_fits : (line axis : ℕ) (vs : List ℤ) → first_unfit (values_on line axis vs) ≡ None → list_all (fits_axis axis) vs ≡ true
+each_fits line axis [] none = refl
+each_fits line axis (v ∷ vs) none =
+    let here = first_fits (record { line = line; axis = axis; value = v }) (values_on line axis vs) none in
+    ap (λ (b : Bool). b && list_all (fits_axis axis) vs) here.0 ∙ each_fits line axis vs here.1
+
+-- numbers that fit in millimetres
+rounded_fit : (vs : List ℤ) → list_all (λ v. is_short (millimetres v)) vs ≡ list_all is_short (map millimetres vs)
+rounded_fit [] = refl
+rounded_fit (v ∷ vs) = ap (λ (b : Bool). is_short (millimetres v) && b) (rounded_fit vs)
+
+place_fits : (axis : Axis) → list_all (λ v. is_short (millimetres v)) (controls axis) ≡ true → fits (rounded axis) ≡ true
+place_fits (One v) all = sym (rounded_fit (v ∷ [])) ∙ all
+place_fits (Two v) all = sym (rounded_fit v) ∙ all
+place_fits (Four v) all = sym (rounded_fit v) ∙ all
+place_fits (Eight v) all = sym (rounded_fit v) ∙ all
+
+-- four axes
+axes_fit : (line : ℕ) (x y z w : Axis) → first_unfit (values_of line 0 (x ∷ y ∷ z ∷ w ∷ [])) ≡ None → list_all fits (rounded x ∷ rounded y ∷ rounded z ∷ w ∷ []) ≡ true
+axes_fit line x y z w none =
+    let at_x = both_fit (values_on line 0 (controls x)) (values_of line 1 (y ∷ z ∷ w ∷ [])) none in
+    let at_y = both_fit (values_on line 1 (controls y)) (values_of line 2 (z ∷ w ∷ [])) at_x.1 in
+    let at_z = both_fit (values_on line 2 (controls z)) (values_of line 3 (w ∷ [])) at_y.1 in
+    let at_w = both_fit (values_on line 3 (controls w)) [] at_z.1 in
+    let x_fits : fits (rounded x) ≡ true = place_fits x (each_fits line 0 (controls x) at_x.0) in
+    let y_fits : fits (rounded y) ≡ true = place_fits y (each_fits line 1 (controls y) at_y.0) in
+    let z_fits : fits (rounded z) ≡ true = place_fits z (each_fits line 2 (controls z) at_z.0) in
+    let w_fits : fits w ≡ true = each_fits line 3 (controls w) at_w.0 in
+    rw (x_fits, y_fits, z_fits, w_fits) refl
+
+some_time : (ms : ℕ) → 1 ≤ ms → nat_le 1 ms ≡ true
+some_time ms some = grind (arith, nat_tests)
+
+-- a piece
+piece_rounds : (line : ℕ) (p : Point) (ms : ℕ) (j : Job) → 1 ≤ ms → first_unfit (values_of line 0 (axes_of p (act_of j))) ≡ None → RoundsWell (piece_of p ms j)
+piece_rounds line p ms j some none =
+    let long : nat_le 1 ms ≡ true = some_time ms some in
+    let all : list_all fits (counted (piece_of p ms j)) ≡ true = axes_fit line (place_controls p (act_of j) 0) (place_controls p (act_of j) 1) (place_controls p (act_of j) 2) (yaw_controls p (act_of j)) none in
+    ap (λ (b : Bool). cond (b && list_all fits (counted (piece_of p ms j))) (Some (segment_of (piece_of p ms j))) None) long
+    ∙ ap (λ (b : Bool). cond b (Some (segment_of (piece_of p ms j))) None) all
+
+-- ---- each drone and cue
+
+drone_fits : (points : List Point) (jobs : List Job) (d : ℕ) (o : Point) → d < length points → length points ≡ length jobs → first_unfit (cue_values points jobs) ≡ None →
+    first_unfit (values_of (get_or jobs d no_job).line 0 (axes_of (get_or points d o) (act_of (get_or jobs d no_job)))) ≡ None
+drone_fits [] jobs d o within many none = absurd (omega arith)
+drone_fits (p ∷ points) [] d o within many none = absurd (omega arith)
+drone_fits (p ∷ points) (j ∷ jobs) zero o within many none = (both_fit (values_of j.line 0 (axes_of p (act_of j))) (cue_values points jobs) none).0
+drone_fits (p ∷ points) (j ∷ jobs) (suc d) o within many none =
+    drone_fits points jobs d o (omega arith) (omega arith) (both_fit (values_of j.line 0 (axes_of p (act_of j))) (cue_values points jobs) none).1
+
+moves : (points : List Point) (jobs : List Job) (d : ℕ) (o : Point) → d < length points → length points ≡ length jobs →
+    get_or (points_after points jobs) d o ≡ end_of (get_or points d o) (act_of (get_or jobs d no_job))
+moves [] jobs d o within many = absurd (omega arith)
+moves (p ∷ points) [] d o within many = absurd (omega arith)
+moves (p ∷ points) (j ∷ jobs) zero o within many = refl
+moves (p ∷ points) (j ∷ jobs) (suc d) o within many = moves points jobs d o (omega arith) (omega arith)
+
+-- the pieces of a drone
+pieces_round : (points : List Point) (p o : Point) (d n : ℕ) (cues : List Cue) (k : ℕ) (other : MicroPiece) → length points ≡ n → d < n → FitCues n cues → get_or points d o ≡ p →
+    first_unfit (values_from points cues) ≡ None → k < length (pieces_from p d cues) → RoundsWell (get_or (pieces_from p d cues) k other)
+pieces_round points p o d n [] k other many within fit is none small = absurd (omega arith)
+pieces_round points p o d n (cue ∷ cues) zero other many within fit is none small =
+    let parts = both_fit (cue_values points cue.jobs) (values_from (points_after points cue.jobs) cues) none in
+    let here = drone_fits points cue.jobs d o (omega arith) (many ∙ sym fit.0.count) parts.0 in
+    piece_rounds (job_in cue d).line p cue.ms (job_in cue d) fit.0.lasts
+    (subst (λ (q : Point). first_unfit (values_of (job_in cue d).line 0 (axes_of q (act_of (job_in cue d)))) ≡ None) is here)
+pieces_round points p o d n (cue ∷ cues) (suc k) other many within fit is none small =
+    let parts = both_fit (cue_values points cue.jobs) (values_from (points_after points cue.jobs) cues) none in
+    let count : length points ≡ length cue.jobs = many ∙ sym fit.0.count in
+    pieces_round (points_after points cue.jobs) (end_of p (act_of (job_in cue d))) o d n cues k other (length-points_after points cue.jobs count ∙ many) within fit.1
+    (moves points cue.jobs d o (omega arith) count ∙ ap (λ (q : Point). end_of q (act_of (job_in cue d))) is) parts.1 (omega arith)
+
+start_at : (starts : List DroneLine) (d : ℕ) (o : Point) → get_or (start_points starts) d o ≡ get_or (map (λ (s : DroneLine). s.at) starts) d o
+start_at [] d o = refl
+start_at (s ∷ starts) zero o = refl
+start_at (s ∷ starts) (suc d) o = start_at starts d o
+
+length-rows : (first : ℕ) (starts : List DroneLine) (cues : List Cue) → length (expanded_from first starts cues) ≡ length starts
+length-rows first [] cues = refl
+length-rows first (s ∷ starts) cues = ap suc (length-rows (first + 1) starts cues)
+
+-- ---- starts
+
+short_is : (z : ℤ) → is_short z ≡ true → short z ≡ Some z
+short_is z is = ap (λ (b : Bool). cond b (Some z) None) is
+
+start_fits : (line : ℕ) (p : Point) → first_unfit (point_values line p) ≡ None → StartsWell p
+start_fits line p none =
+    let value : ℕ → ℤ → Value = λ axis v. record { line = line; axis = axis; value = v } in
+    let at_x = first_fits (value 0 p.x) (value 1 p.y ∷ value 2 p.z ∷ value 3 p.yaw ∷ []) none in
+    let at_y = first_fits (value 1 p.y) (value 2 p.z ∷ value 3 p.yaw ∷ []) at_x.1 in
+    let at_z = first_fits (value 2 p.z) (value 3 p.yaw ∷ []) at_y.1 in
+    let at_yaw = first_fits (value 3 p.yaw) [] at_z.1 in
+    record {
+      x = short_is (millimetres p.x) at_x.0;
+      y = short_is (millimetres p.y) at_y.0;
+      z = short_is (millimetres p.z) at_z.0;
+      yaw = short_is p.yaw at_yaw.0;
+    }
+
+starts_fit : (starts : List DroneLine) → first_unfit (start_values starts) ≡ None → (k : ℕ) (other : DroneLine) → k < length starts → StartsWell (get_or starts k other).at
+starts_fit [] none k other within = absurd (omega arith)
+starts_fit (s ∷ starts) none zero other within = start_fits s.line s.at (both_fit (point_values s.line s.at) (start_values starts) none).0
+starts_fit (s ∷ starts) none (suc k) other within = starts_fit starts (both_fit (point_values s.line s.at) (start_values starts) none).1 k other (omega arith)
+
+-- Each start and each piece of a grid without a value out of range fits a trajectory.
+pub fits_well : (g : Grid) → IsGrid g → range_fault g ≡ None → FitsWell g
+unfolding range_fault expanded
+fits_well g is none =
+    let parts = both_fit (start_values g.starts) (values_from (start_points g.starts) g.cues) none in
+    record {
+      starts = starts_fit g.starts parts.0;
+      pieces = λ d rest within k other small.
+          let o : Point = record { x = pos 0; y = pos 0; z = pos 0; yaw = pos 0 } in
+          let drone : d < length g.starts = omega (arith, length-rows 0 g.starts g.cues) in
+          let e : 0 + d ≡ d = omega arith in
+          let row : get_or (expanded_from 0 g.starts g.cues) d rest ≡ pieces_from (get_or (map (λ (s : DroneLine). s.at) g.starts) d o) d g.cues =
+          row_is 0 g.starts g.cues d o rest drone ∙ ap (λ (n : ℕ). pieces_from (get_or (map (λ (s : DroneLine). s.at) g.starts) d o) n g.cues) e in
+          subst (λ (pieces : List MicroPiece). RoundsWell (get_or pieces k other)) (sym row)
+          (pieces_round (start_points g.starts) (get_or (map (λ (s : DroneLine). s.at) g.starts) d o) o d (length g.starts) g.cues k other (length-start_points g.starts) drone is.cues (start_at g.starts d o) parts.1
+          (subst (λ (pieces : List MicroPiece). k < length pieces) row small));
+    }
