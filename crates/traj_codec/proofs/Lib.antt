@@ -1,3 +1,5 @@
 pub mod Sizes
 pub mod SpellingLemmas
 pub mod PositionLemmas
+pub mod ReadingLemmas
+pub mod DecodeLemmas

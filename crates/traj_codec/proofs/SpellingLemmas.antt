@@ -59,7 +59,7 @@ stored_cut (Seven v) (Linear w) r s is is' same t = absurd (omega arith)
 stored_cut (Seven v) (Cubic w) r s is is' same t = absurd (omega arith)
 
 -- a kind takes two bits
-kind_small : (e : Element) → kind e < 4
+pub kind_small : (e : Element) → kind e < 4
 kind_small Constant = omega arith
 kind_small (Linear v) = omega arith
 kind_small (Cubic v) = omega arith

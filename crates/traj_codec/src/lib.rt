@@ -5,10 +5,12 @@
 #![tactic(auto)]
 
 mod law;
+mod reading;
 mod traj;
 mod writing;
 
 pub use law::spelling_law;
+pub use reading::{CodecFault, decode};
 pub use traj::{Element, Segment, Segments, Traj};
 pub use writing::{encode, size_of};
 
