@@ -1,5 +1,5 @@
 -- A trajectory's start and its segments, and why bytes that begin with a spelling have no fault and stand for one trajectory.
-use Rattle.std.proofs.Common.{◌≡◌, ℕ, ◌+◌, ◌*◌, ◌≤◌, ℤ, List, ◌++◌, length, drop, Option, Some, None, Result, Ok, Err, refl, sym, ap, ◌∙◌, subst, length-append, arith}
+use Rattle.std.proofs.Common.{◌≡◌, ℕ, ◌+◌, ◌≤◌, ℤ, List, ◌++◌, length, drop, Option, None, Result, Ok, Err, refl, sym, ap, ◌∙◌, subst, length-append, arith}
 use Rattle.std.specs.Option.{option_or}
 use Rattle.std.specs.List.{flat_map}
 use Rattle.std.proofs.lemmas.List.{drop_at}
@@ -7,8 +7,8 @@ use Rattle.traj_codec.specs.declared.reading.CodecFault.{CodecFault}
 use Rattle.traj_codec.specs.declared.reading.CodecFault.TheVariants.{Short, ZeroDuration, Memory}
 use Rattle.traj_codec.specs.declared.traj.Segment.{Segment}
 use Rattle.traj_codec.specs.declared.traj.Traj.{Traj}
-use Rattle.traj_codec.specs.Spelling.{numbers, segment, spelling, HasDuration, IsSegment}
-use Rattle.traj_codec.specs.Reading.{BeginsWith, DecodeGives, IsDecoded, numbers_fault, segments_fault, decode_fault}
+use Rattle.traj_codec.specs.Spelling.{numbers, segment, spelling}
+use Rattle.traj_codec.specs.Reading.{BeginsWith, DecodeGives, IsDecoded, segments_fault, decode_fault}
 use Rattle.traj_codec.specs.Reading.{Spans, NumbersStand, SegmentsStand, SegmentsGive}
 use Rattle.traj_codec.proofs.Sizes.{length-numbers}
 use Rattle.traj_codec.proofs.SpellingLemmas.{spelling_is_one}

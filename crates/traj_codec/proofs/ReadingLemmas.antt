@@ -122,11 +122,13 @@ spans_split bytes a c s t small p =
     let whole : drop a bytes ≡ s ++ (t ++ drop c bytes) = p.here ∙ append_assoc s t (drop c bytes) in
     let behind : drop (a + length s) bytes ≡ t ++ drop c bytes =
     sym (drop-drop (length s) a bytes) ∙ ap (λ (xs : List ℕ). drop (length s) xs) whole ∙ drop_at s (t ++ drop c bytes) (length s) refl in
-    let size : c ≡ a + length (s ++ t) = spans_length bytes a c (s ++ t) small p in
-    (record {
-      within = omega (arith, size, length-append s t, p.within);
-      here = whole ∙ ap (λ (xs : List ℕ). s ++ xs) (sym behind);
-    }, record { within = p.within; here = behind })
+    let size : c ≡ a + length (s ++ t) = spans_length bytes a c (s ++ t) small p in (
+      record {
+        within = omega (arith, size, length-append s t, p.within);
+        here = whole ∙ ap (λ (xs : List ℕ). s ++ xs) (sym behind);
+      },
+      record { within = p.within; here = behind },
+    )
 
 -- the first byte of a segment that stands there is its header
 header_stands : (bytes : List ℕ) (at next : ℕ) (s : Segment) → Spans bytes at next (segment s) → slice_index bytes at ≡ header s.elements

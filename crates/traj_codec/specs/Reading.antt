@@ -8,7 +8,7 @@ use Rattle.traj_codec.specs.declared.reading.CodecFault.TheVariants.{Short, Zero
 use Rattle.traj_codec.specs.declared.traj.Element.{Element}
 use Rattle.traj_codec.specs.declared.traj.Segment.{Segment}
 use Rattle.traj_codec.specs.declared.traj.Traj.{Traj}
-use Rattle.traj_codec.specs.Spelling.{number, numbers, kind, stored, header, bodies, segment, HasDuration, Spells, IsNumber, IsElement, IsSegment, IsTrajectory}
+use Rattle.traj_codec.specs.Spelling.{numbers, kind, stored, header, bodies, segment, HasDuration, Spells, IsNumber, IsElement, IsSegment, IsTrajectory}
 
 -- The bytes begin with a spelling of this trajectory, of so many segments, that takes so many bytes.
 pub record BeginsWith (bytes : List ℕ) (pieces : ℕ) (t : Traj) (used : ℕ) : Type 0 where

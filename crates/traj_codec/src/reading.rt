@@ -44,17 +44,28 @@ impl<T: Drop> From<AllocFailed<T>> for CodecFault {
     }
 }
 
+// The bytes from a place on, of which a field takes so many.
+fn field_at(bytes: &[u8], at: usize, size: usize) -> Result<&[u8], CodecFault>
+    requires { at ≤ length bytes.now }
+    ensures { MatchResult result
+        (λ rest. (rest.now ≡ drop at bytes.now) × (size ≤ length rest.now))
+        (λ e. field_fault bytes.now size at ≡ Some e) }
+{
+    let rest = &bytes[at..];
+    if rest.len() < size {
+        return Err(CodecFault::Short { at });
+    }
+    Ok(rest)
+}
+
 fn number_at(bytes: &[u8], at: usize) -> Result<i16, CodecFault>
     requires { at ≤ length bytes.now }
     ensures { MatchResult result
         (λ z. NumbersStand bytes.now at (at + 2) (z ∷ []))
         (λ e. field_fault bytes.now 2 at ≡ Some e) }
 {
-    let rest = &bytes[at..];
-    if rest.len() < 2 {
-        return Err(CodecFault::Short { at });
-    }
-    Ok(LittleEndian::read_i16(rest))
+    let field = field_at(bytes, at, 2)?;
+    Ok(LittleEndian::read_i16(field))
 }
 
 // Fills `out` with numbers, and answers the place behind them.
@@ -152,11 +163,7 @@ fn yaw_at(bytes: &[u8], at: usize, header: u8) -> Result<(Element, usize), Codec
     element_at!(bytes, at, header / 64)
 }
 
-fn elements_at(
-    bytes: &[u8],
-    at: usize,
-    header: u8,
-) -> Result<([Element; 4], usize), CodecFault>
+fn elements_at(bytes: &[u8], at: usize, header: u8) -> Result<([Element; 4], usize), CodecFault>
     requires { at ≤ length bytes.now }
     ensures { MatchResult result
         (λ r. ElementsStand bytes.now at header r.0 r.1)
@@ -175,10 +182,8 @@ fn header_at(bytes: &[u8], at: usize) -> Result<u8, CodecFault>
         (λ h. (at < length bytes.now) × (h ≡ slice_index bytes.now at))
         (λ e. field_fault bytes.now 1 at ≡ Some e) }
 {
-    if at == bytes.len() {
-        return Err(CodecFault::Short { at });
-    }
-    Ok(bytes[at])
+    let field = field_at(bytes, at, 1)?;
+    Ok(field[0])
 }
 
 fn duration_at(bytes: &[u8], at: usize) -> Result<u16, CodecFault>
@@ -187,16 +192,14 @@ fn duration_at(bytes: &[u8], at: usize) -> Result<u16, CodecFault>
         (DurationStands bytes.now at)
         (λ e. duration_fault bytes.now at ≡ Some e) }
 {
-    let rest = &bytes[at..];
-    if rest.len() < 2 {
-        return Err(CodecFault::Short { at });
-    }
-    match LittleEndian::read_u16(rest) {
+    let field = field_at(bytes, at, 2)?;
+    match LittleEndian::read_u16(field) {
         0 => Err(CodecFault::ZeroDuration { at }),
         ms => Ok(ms),
     }
 }
 
+// A header takes one byte, and a duration two.
 fn segment_at(bytes: &[u8], at: usize) -> Result<(Segment, usize), CodecFault>
     requires { at ≤ length bytes.now }
     ensures { MatchResult result

@@ -1,5 +1,6 @@
-//! Trajectories whose bytes are known from outside: the two worked examples of docs/TRAJECTORY.md, and one of all kinds.
-ghost use Rattle.std.specs.Prelude.{◌≡◌, ◌<◌, IfOk, [], ◌∷◌};
+//! Trajectories whose bytes are known from outside: the two worked examples of docs/TRAJECTORY.md, and one of all kinds;
+//! bytes with a fault; and each header.
+ghost use Rattle.std.specs.Prelude.{◌≡◌, ◌<◌, ◌≤◌, IfOk, [], ◌∷◌};
 
 use super::*;
 use std::alloc::{AllocError, Global};
@@ -15,6 +16,16 @@ fn traj(alloc: Global, start: [i16; 4], segment: Segment) -> Result<Traj, AllocE
         start,
         segments: Segments::new(segments),
     })
+}
+
+// Whether bytes are read as a trajectory of this segment, which takes so many of them.
+fn reads(alloc: Global, bytes: &[u8], start: [i16; 4], segment: Segment, length: usize) -> bool {
+    match decode(alloc, bytes, 1) {
+        Ok((t, used)) => {
+            used == length && t.start == start && t.segments.as_slice() == [segment].as_slice()
+        }
+        Err(_) => false,
+    }
 }
 
 #[test]
@@ -39,6 +50,8 @@ fn a_move_from_rest_to_rest(rt: HostRuntime) -> Result<(), Fail> {
     assert_eq!(rt; size_of(&t), 28);
     let segments = t.segments.into_vec();
     assert_eq!(rt; segments.as_slice(), [segment].as_slice());
+    assert!(rt; reads(rt.alloc(), &wanted, [0, 0, 1000, 0], segment, 25));
+    assert!(rt; reads(rt.alloc(), &wanted[..25], [0, 0, 1000, 0], segment, 25));
     Ok(())
 }
 
@@ -63,6 +76,12 @@ fn a_quarter_arc(rt: HostRuntime) -> Result<(), Fail> {
     ];
     assert_eq!(rt; bytes.as_slice(), wanted.as_slice());
     assert_eq!(rt; size_of(&t), 26);
+    assert!(rt; reads(rt.alloc(), &wanted, [1000, 0, 1000, 0], segment, 23));
+    assert!(rt; reads(rt.alloc(), &wanted[..23], [1000, 0, 1000, 0], segment, 23));
+    let fault = fault_in(rt.alloc(), &wanted, 2);
+    assert_eq!(rt; fault, Some(CodecFault::ZeroDuration { at: 24 }));
+    let fault = fault_in(rt.alloc(), &wanted[..23], 2);
+    assert_eq!(rt; fault, Some(CodecFault::Short { at: 23 }));
     Ok(())
 }
 
@@ -87,5 +106,91 @@ fn all_four_kinds(rt: HostRuntime) -> Result<(), Fail> {
     ];
     assert_eq!(rt; bytes.as_slice(), wanted.as_slice());
     assert_eq!(rt; size_of(&t), 36);
+    let start = [-32_768, 32_767, 256, -256];
+    assert!(rt; reads(rt.alloc(), &wanted, start, segment, 33));
+    Ok(())
+}
+
+// The start 0, 0, 0, 0, and then bytes.
+fn behind_start(alloc: Global, bytes: &[u8]) -> Result<Vec<u8>, AllocError> {
+    let mut all = Vec::new(alloc);
+    all.extend_from_slice(&[0; 8])?;
+    all.extend_from_slice(bytes)?;
+    Ok(all)
+}
+
+fn fault_in(alloc: Global, bytes: &[u8], pieces: u8) -> Option<CodecFault> {
+    match decode(alloc, bytes, pieces) {
+        Ok(_) => None,
+        Err(fault) => Some(fault),
+    }
+}
+
+#[test]
+fn first_faults(rt: HostRuntime) -> Result<(), Fail> {
+    let cases: [(&[u8], u8, Option<CodecFault>); 9] = [
+        (&[], 0, None),
+        (&[], 1, Some(CodecFault::Short { at: 8 })),
+        (&[3], 1, Some(CodecFault::Short { at: 9 })),
+        (&[3, 0xE8], 1, Some(CodecFault::Short { at: 9 })),
+        (&[0, 0, 0], 1, Some(CodecFault::ZeroDuration { at: 9 })),
+        (&[3, 0, 0, 1], 1, Some(CodecFault::ZeroDuration { at: 9 })),
+        (&[0, 0, 0, 0], 2, Some(CodecFault::ZeroDuration { at: 9 })),
+        (&[0, 1, 0, 0], 2, Some(CodecFault::Short { at: 12 })),
+        (
+            &[2, 0xE8, 3, 1, 0, 2, 0, 3],
+            1,
+            Some(CodecFault::Short { at: 15 }),
+        ),
+    ];
+    for (bytes, pieces, fault) in cases {
+        let all = behind_start(rt.alloc(), bytes)?;
+        assert_eq!(rt; fault_in(rt.alloc(), &all, pieces), fault);
+    }
+    assert_eq!(rt;
+        fault_in(rt.alloc(), &[], 1),
+        Some(CodecFault::Short { at: 0 })
+    );
+    assert_eq!(rt;
+        fault_in(rt.alloc(), &[0; 7], 1),
+        Some(CodecFault::Short { at: 6 })
+    );
+    Ok(())
+}
+
+// How many numbers an element of this kind has.
+fn numbers_of(kind: u8) -> u8
+    ensures { result ≤ 7 }
+{
+    match kind {
+        0 => 0,
+        1 => 1,
+        2 => 3,
+        _ => 7,
+    }
+}
+
+#[test]
+fn each_header(rt: HostRuntime) -> Result<(), Fail> {
+    for header in 0..=255 {
+        let count = numbers_of(header % 4)
+            + numbers_of(header / 4 % 4)
+            + numbers_of(header / 16 % 4)
+            + numbers_of(header / 64);
+        let mut bytes = behind_start(rt.alloc(), &[header, 0xE8, 3])?;
+        for n in 0..count {
+            bytes.push(n + 1)?;
+            bytes.push(0)?;
+        }
+        bytes.extend_from_slice(&[0; 3])?;
+        match decode(rt.alloc(), &bytes, 1) {
+            Ok((t, used)) => {
+                assert_eq!(rt; used, 11 + 2 * usize::from(count), "header {header}");
+                let back = encode(rt.alloc(), &t)?;
+                assert_eq!(rt; back.as_slice(), bytes.as_slice(), "header {header}");
+            }
+            Err(fault) => assert_eq!(rt; Some(fault), None, "header {header}"),
+        }
+    }
     Ok(())
 }

@@ -17,12 +17,12 @@ loop-preserved c =
     let inside : c.loop.next ≤ length bytes = c.loop.invariant.so_far.spans.within in
     record {
       so_far =
-        subst (λ (ss : List Segment). SegmentsStand bytes c.args.at ss c.in_ok-segment.behind) (sym c.in_ok-push.ensures.items)
-        (segments_more c.loop.invariant.so_far c.in_ok-segment.ensures);
+          subst (λ (ss : List Segment). SegmentsStand bytes c.args.at ss c.in_ok-segment.behind) (sym c.in_ok-push.ensures.items)
+          (segments_more c.loop.invariant.so_far c.in_ok-segment.ensures);
       many = omega (arith, c.in_ok-push.ensures.len);
       behind = λ n.
-        let e : c.loop.counter + 1 + n ≡ c.loop.counter + suc n = omega arith in
-        ap (λ k. segments_fault bytes k c.args.at) e
-        ∙ c.loop.invariant.behind (suc n)
-        ∙ segment_step bytes c.loop.next c.in_ok-segment.behind n c.in_ok-segment.segment inside c.in_ok-segment.ensures;
+          let e : c.loop.counter + 1 + n ≡ c.loop.counter + suc n = omega arith in
+          ap (λ k. segments_fault bytes k c.args.at) e
+          ∙ c.loop.invariant.behind (suc n)
+          ∙ segment_step bytes c.loop.next c.in_ok-segment.behind n c.in_ok-segment.segment inside c.in_ok-segment.ensures;
     }
