@@ -7,6 +7,7 @@ ghost use Rattle.sep_parts.specs.Directions.{AreSmall, IsAxis, direction_count, 
 ghost use Rattle.sep_parts.specs.Apart.{KeepsApart};
 ghost use Rattle.sep_parts.specs.Slots.{slots};
 ghost use Rattle.sep_parts.specs.Levels.{IsLevel, IsStack, places_of, root};
+ghost use Rattle.sep_certificate.specs.Laws.{CertificateLaw};
 ghost use Rattle.sep_certificate.specs.Certificates.{IsKnown, IsValid, IsWhole, fault_of, first_fault, first_fault_of, node_fault, places_below};
 ghost use Rattle.sep_certificate.specs.Steps.{IsControl, IsShallow};
 
@@ -59,6 +60,12 @@ pub fn check(curves: &Curves, r: u16, h: u16, cert: &Certificate) -> Result<(), 
         None => Ok(()),
     }
 }
+
+/// The law of valid certificates: they keep each two different drones apart at each instant p / q of the show, for all whole
+/// numbers p and q and for every list of trajectories that the curves stand for.
+pub fn certificate_law()
+    ensures { CertificateLaw }
+{}
 
 // The first fault of the trees, by a table of directions.
 fn first_fault(

@@ -1,5 +1,5 @@
 -- The raised curves of a list of trajectories, one after the other.
-use Rattle.std.proofs.Common.{◌≡◌, ℕ, suc, ◌+◌, ◌*◌, ◌<◌, ℤ, arith, sym, subst, ◌∙◌, ap, List, [], ◌∷◌, ◌++◌, append_assoc, append-nil, length, length-append, drop, take, get_or, All}
+use Rattle.std.proofs.Common.{◌≡◌, ℕ, suc, ◌+◌, ◌*◌, ◌<◌, ◌≤◌, ℤ, arith, sym, subst, ◌∙◌, ap, List, [], ◌∷◌, ◌++◌, append_assoc, append-nil, length, length-append, drop, take, get_or, All}
 use Rattle.std.specs.List.{flat_map}
 use Rattle.std.proofs.Math.Seq.{drop-cons}
 use Rattle.std.proofs.lemmas.List.{take_more}
@@ -9,8 +9,8 @@ use Rattle.traj_codec.specs.declared.traj.Segment.{Segment}
 use Rattle.traj_codec.specs.Positions.{durations, element_on, value_after}
 use Rattle.std.proofs.lemmas.Grind.{flat_map-append}
 use Rattle.traj_codec.specs.declared.traj.Traj.{Traj}
-use Rattle.sep_parts.specs.Raised.{AreOneShow}
-use Rattle.sep_parts.specs.Steps.{raised_element, raised_from, raised_traj, AreHeld, AreSmallCurves}
+use Rattle.sep_parts.specs.Raised.{AreOneShow, raised_element, raised_from, raised_traj, cues_in}
+use Rattle.sep_parts.specs.Steps.{AreHeld, AreSmallCurves}
 use Rattle.sep_parts.proofs.Standing.{length-durations, fleet_lengths}
 
 all_one : {X : Type 0} (P : X → Type 0) (x : X) → P x → All P (x ∷ [])
@@ -69,3 +69,8 @@ first_cues trajs times t segments show t_is segments_is =
     ap (λ (ss : List Segment). length ss) segments_is
     ∙ sym (length-durations t.segments)
     ∙ ap (λ (ns : List ℕ). length ns) (subst (λ (u : Traj). durations u.segments ≡ times) (sym t_is) (show.same_times 0 t show.some_drones))
+
+-- the first trajectory has as many segments as a fleet has cues
+pub first_cues_in : (trajs : List Traj) (t : Traj) (segments : List Segment) → 1 ≤ length trajs → t ≡ get_or trajs 0 t → segments ≡ t.segments → length segments ≡ cues_in trajs
+first_cues_in [] t segments some t_is segments_is = absurd (omega (arith, some))
+first_cues_in (u ∷ us) t segments some t_is segments_is = ap (λ (ss : List Segment). length ss) (segments_is ∙ ap (λ (v : Traj). v.segments) t_is)

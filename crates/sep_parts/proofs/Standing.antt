@@ -13,8 +13,8 @@ use Rattle.traj_codec.specs.declared.traj.Segment.{Segment}
 use Rattle.traj_codec.specs.declared.traj.Traj.{Traj}
 use Rattle.traj_codec.specs.Spelling.{stored}
 use Rattle.traj_codec.specs.Positions.{durations, element_on, piece_on, points, value_after}
-use Rattle.sep_parts.specs.Raised.{Raised, AreOneShow, CurvesStandFor, curves_at, raised_in}
-use Rattle.sep_parts.specs.Steps.{IsFormed, raised_from, raised_traj}
+use Rattle.sep_parts.specs.Raised.{Raised, AreOneShow, CurvesStandFor, curves_at, raised_in, raised_from, raised_traj}
+use Rattle.sep_parts.specs.Steps.{IsFormed}
 
 -- there are as many durations as segments
 pub length-durations : (segments : List Segment) → length (durations segments) ≡ length segments

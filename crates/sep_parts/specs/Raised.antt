@@ -1,12 +1,15 @@
 -- The raised curves of a fleet, and the trajectories that they stand for.
-use Rattle.std.specs.Prelude.{◌≡◌, ℕ, ◌+◌, ◌*◌, ◌≤◌, ◌<◌, ◌-ℤ◌, List, [], ◌∷◌, length, slice_index_or, slice_get, Some, All}
+use Rattle.std.specs.Prelude.{◌≡◌, ℕ, ◌+◌, ◌*◌, ◌≤◌, ◌<◌, ℤ, ◌-ℤ◌, List, [], ◌∷◌, length, slice_index_or, slice_get, Some, All}
+use Rattle.std.specs.List.{flat_map}
 use Rattle.fleet_math.specs.Bernstein.{at}
 use Rattle.bezier_core.specs.declared.Bez.{Bez}
 use Rattle.bezier_core.specs.Along.{controls}
 use Rattle.bezier_core.specs.Raised.{eight, raised}
+use Rattle.traj_codec.specs.declared.traj.Element.{Element}
+use Rattle.traj_codec.specs.declared.traj.Segment.{Segment}
 use Rattle.traj_codec.specs.declared.traj.Traj.{Traj}
-use Rattle.traj_codec.specs.Spelling.{most_segments}
-use Rattle.traj_codec.specs.Positions.{durations, points}
+use Rattle.traj_codec.specs.Spelling.{most_segments, stored}
+use Rattle.traj_codec.specs.Positions.{durations, points, element_on, value_after}
 
 -- how many drones a fleet has at most
 abbrev pub most_drones : ℕ
@@ -65,3 +68,28 @@ pub record CurvesStandFor (c : Raised) (trajs : List Traj) : Type 0 where
   pub drones : c.drones ≡ length trajs
   pub cues : c.cues ≡ length times
   pub curves : (drone cue : ℕ) (t : Traj) → slice_get trajs drone ≡ Some t → cue < length times → curves_at c drone cue ≡ raised_in t cue
+
+-- ---- the curves of trajectories
+-- the raised curve of an element, from the value before it
+abbrev pub raised_element : ℤ → Element → Bez 8
+raised_element first e = record { b = raised (first ∷ stored e) }
+
+-- the raised curves of segments, from the three values before the first
+abbrev pub raised_from : ℤ → ℤ → ℤ → List Segment → List (List (Bez 8))
+raised_from x y z [] = []
+raised_from x y z (s ∷ rest) =
+    (raised_element x (element_on s 0) ∷ raised_element y (element_on s 1) ∷ raised_element z (element_on s 2) ∷ [])
+    ∷ raised_from (value_after x (element_on s 0)) (value_after y (element_on s 1)) (value_after z (element_on s 2)) rest
+
+-- the raised curves of a trajectory, cue by cue
+abbrev pub raised_traj : Traj → List (List (Bez 8))
+raised_traj t = raised_from (at t.start 0) (at t.start 1) (at t.start 2) t.segments
+
+-- how many segments the first of these trajectories has
+abbrev pub cues_in : List Traj → ℕ
+cues_in [] = 0
+cues_in (t ∷ ts) = length t.segments
+
+-- the raised curves of a fleet: those of its trajectories, one trajectory after another
+unfoldable pub raised_of : List Traj → Raised
+raised_of ts = record { drones = length ts; cues = cues_in ts; curves = flat_map raised_traj ts }

@@ -7,8 +7,8 @@ ghost use Rattle.bezier_core.specs.Curves.{IsLength};
 ghost use Rattle.bezier_core.specs.Raised.{raised};
 ghost use Rattle.traj_codec.specs.Spelling.{most_segments, stored};
 ghost use Rattle.traj_codec.specs.Positions.{element_on, value_after};
-ghost use Rattle.sep_parts.specs.Raised.{CurvesStandFor, IsOneShow, difference, less, most_drones};
-ghost use Rattle.sep_parts.specs.Steps.{AreSmallCurves, IsFormed, raised_element, raised_traj};
+ghost use Rattle.sep_parts.specs.Raised.{CurvesStandFor, IsOneShow, difference, less, most_drones, raised_element, raised_traj, raised_of};
+ghost use Rattle.sep_parts.specs.Steps.{AreSmallCurves, IsFormed};
 
 use bezier_core::Bez;
 use std::alloc::{AllocError, Global};
@@ -40,7 +40,8 @@ impl Curves {
     /// of them 0. Want of memory is the only refusal.
     pub fn make(alloc: Global, trajs: &Vec<Traj>) -> Result<Curves, AllocError>
         requires { IsOneShow trajs.now.items }
-        ensures { IfOk result (λ curves. CurvesStandFor curves trajs.now.items) }
+        ensures stands { IfOk result (λ curves. CurvesStandFor curves trajs.now.items) }
+        ensures exact { IfOk result (λ curves. curves ≡ raised_of trajs.now.items) }
     {
         let mut all = Vec::new(alloc);
         for t in trajs {

@@ -1,5 +1,6 @@
 use Rattle.std.proofs.Common.{◌≡◌, ◌++◌, drop, take, All}
-use Rattle.sep_parts.specs.Steps.{raised_from, raised_traj, IsFormed, AreSmallCurves}
+use Rattle.sep_parts.specs.Raised.{raised_from, raised_traj}
+use Rattle.sep_parts.specs.Steps.{IsFormed, AreSmallCurves}
 use Rattle.sep_parts.proofs.curves.add_traj.Given as goal
 
 abbrev pub invariant-loop-s : goal.invariant-loop-s

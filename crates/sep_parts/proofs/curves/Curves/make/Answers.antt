@@ -1,9 +1,11 @@
-use Rattle.std.proofs.Common.{◌≡◌, All, length, ap, subst, ◌∙◌, List, arith}
+use Rattle.std.proofs.Common.{◌≡◌, refl, ℕ, All, length, ap, subst, ◌∙◌, List, arith}
 use Rattle.std.specs.List.{flat_map}
 use Rattle.std.proofs.lemmas.List.{take_all}
+use Rattle.bezier_core.specs.declared.Bez.{Bez}
 use Rattle.traj_codec.specs.declared.traj.Traj.{Traj}
-use Rattle.sep_parts.specs.Steps.{IsFormed, raised_traj}
-use Rattle.sep_parts.proofs.Fleets.{fleet_more, fleet_held, first_cues, all_more}
+use Rattle.sep_parts.specs.Raised.{Raised, raised_traj, cues_in, raised_of}
+use Rattle.sep_parts.specs.Steps.{IsFormed}
+use Rattle.sep_parts.proofs.Fleets.{fleet_more, fleet_held, first_cues, first_cues_in, all_more}
 use Rattle.sep_parts.proofs.Standing.{stands}
 use Rattle.sep_parts.proofs.curves.Curves.make.Goals as goal
 
@@ -23,8 +25,8 @@ invariant_of-result c =
     let cues : length c.as_slice.result.now ≡ length c.requires.0 = first_cues c.args.trajs.now.items c.requires.0 c.index.result.now c.as_slice.result.now c.requires.1 c.index.ensures c.as_slice.ensures in
     fleet_held c.args.trajs.now.items c.requires.0 c.len.result (length c.as_slice.result.now) c.loop-t.all.items c.requires.1 len cues curves_are c.loop-t.invariant.small
 
-pub returns : goal.returns
-returns c =
+pub returns-clause-stands : goal.returns-clause-stands
+returns-clause-stands c =
     let len : c.len.result ≡ length c.args.trajs.now.items = omega (arith, c.len.ensures, c.deref-t-items.ensures.len, ap (λ (ts : List Traj). length ts) c.deref-t-items.ensures.value) in
     let curves_are : c.loop-t.all.items ≡ flat_map raised_traj c.args.trajs.now.items =
     c.loop-t.invariant.curves ∙ ap (λ (ts : List Traj). flat_map raised_traj ts) (take_all c.loop-t.t-index c.deref-t-items.result.now c.loop-t-test.false ∙ c.deref-t-items.ensures.value) in
@@ -32,3 +34,15 @@ returns c =
     stands _ c.args.trajs.now.items c.requires.0 c.requires.1
     (subst (λ (ts : List Traj). All (λ (t : Traj). All IsFormed t.segments) ts) (take_all c.loop-t.t-index c.deref-t-items.result.now c.loop-t-test.false ∙ c.deref-t-items.ensures.value) c.loop-t.invariant.formed)
     len cues curves_are
+
+is_raised : (trajs : List Traj) (drones cues : ℕ) (curves : List (List (Bez 8))) → drones ≡ length trajs → cues ≡ cues_in trajs → curves ≡ flat_map raised_traj trajs →
+    (record { drones = drones; cues = cues; curves = curves }) ≡ raised_of trajs
+unfolding raised_of
+is_raised trajs drones cues curves drones_are cues_are curves_are = rw (drones_are, cues_are, curves_are) refl
+
+pub returns-clause-exact : goal.returns-clause-exact
+returns-clause-exact c =
+    is_raised c.args.trajs.now.items c.len.result (length c.as_slice.result.now) c.loop-t.all.items
+    (omega (arith, c.len.ensures, c.deref-t-items.ensures.len, ap (λ (ts : List Traj). length ts) c.deref-t-items.ensures.value))
+    (first_cues_in c.args.trajs.now.items c.index.result.now c.as_slice.result.now c.requires.1.some_drones c.index.ensures c.as_slice.ensures)
+    (c.loop-t.invariant.curves ∙ ap (λ (ts : List Traj). flat_map raised_traj ts) (take_all c.loop-t.t-index c.deref-t-items.result.now c.loop-t-test.false ∙ c.deref-t-items.ensures.value))

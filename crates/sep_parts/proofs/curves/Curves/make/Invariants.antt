@@ -1,7 +1,8 @@
 use Rattle.std.proofs.Common.{◌≡◌, take, All}
 use Rattle.std.specs.List.{flat_map}
 use Rattle.traj_codec.specs.declared.traj.Traj.{Traj}
-use Rattle.sep_parts.specs.Steps.{raised_traj, IsFormed, AreSmallCurves}
+use Rattle.sep_parts.specs.Raised.{raised_traj}
+use Rattle.sep_parts.specs.Steps.{IsFormed, AreSmallCurves}
 use Rattle.sep_parts.proofs.curves.Curves.make.Given as goal
 
 abbrev pub invariant-loop-t : goal.invariant-loop-t
