@@ -139,8 +139,9 @@ fn combine(i: usize, j: usize, x: i128, y: i128) -> i128
     i as i128 * x + j as i128 * y
 }
 
-// The weighted sum of the control values at one place.
-fn along_at(xyz: &[Bez<8>; 3], w: [i128; 3], k: usize) -> i128
+/// The weighted sum of the control values of three curves at one place, 0 to 7: one of the eight that [`along`] answers, under
+/// the same conditions.
+pub fn along_at(xyz: &[Bez<8>; 3], w: [i128; 3], k: usize) -> i128
     requires place { k < 8 }
     requires values { All (λ curve. All (IsBelow (2 ^ 100)) curve.b) xyz.now }
     requires weights { All (IsBelow 4001) w }

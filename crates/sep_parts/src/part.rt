@@ -9,7 +9,7 @@ ghost use Rattle.halving.specs.Part.{part_value};
 ghost use Rattle.sep_parts.specs.Directions.{AreSmall, IsAxis};
 ghost use Rattle.sep_parts.specs.Separates.{first_low, least_value, weights};
 
-use bezier_core::{Bez, along};
+use bezier_core::{Bez, along, along_at};
 use halving::halve;
 
 /// Whether the direction `n` separates a part of the given depth: whether each control value of n_x h dx + n_y h dy + n_z r dz is
@@ -24,7 +24,37 @@ pub fn separates(diff: &[Bez<8>; 3], n: [i8; 3], r: u16, h: u16, threshold: i128
     requires depth { depth ≤ 8 }
     ensures { IsTrue result ↔ ((k : ℕ) → k ≤ 7 → least_value threshold depth ≤ℤ along_value diff.now (weights n r h) k) }
 {
+    // The two ends are the curve itself, and most directions fail there.
+    if is_low(diff, n, r, h, threshold, depth, 0) {
+        return false;
+    }
+    if is_low(diff, n, r, h, threshold, depth, 7) {
+        return false;
+    }
     low_control(diff, n, r, h, threshold, depth).is_none()
+}
+
+// Whether one control value along the direction is below the threshold.
+fn is_low(
+    diff: &[Bez<8>; 3],
+    n: [i8; 3],
+    r: u16,
+    h: u16,
+    threshold: i128,
+    depth: u8,
+    k: usize,
+) -> bool
+    requires values { All (λ curve. All (IsBelow (2 ^ 86)) curve.b) diff.now }
+    requires entries { AreSmall n }
+    requires r { IsAxis r }
+    requires h { IsAxis h }
+    requires positive { pos 0 ≤ℤ threshold }
+    requires small { threshold <ℤ pos (2 ^ 30) }
+    requires depth { depth ≤ 8 }
+    requires place { k < 8 }
+    ensures { result ≡ int_lt (along_value diff.now (weights n r h) k) (least_value threshold depth) }
+{
+    along_at(diff, weights(n, r, h), k) < scaled(threshold, depth)
 }
 
 /// The place, 0 to 7, of the first control value along the direction that is below the threshold; none where the direction
