@@ -43,6 +43,15 @@ impl Curves {
         ensures stands { IfOk result (λ curves. CurvesStandFor curves trajs.now.items) }
         ensures exact { IfOk result (λ curves. curves ≡ raised_of trajs.now.items) }
     {
+        Curves::of_slice(alloc, trajs.as_slice())
+    }
+
+    /// The curves of trajectories of one show that are lent as a slice. Conditions and refusal as [`Curves::make`].
+    pub fn of_slice(alloc: Global, trajs: &[Traj]) -> Result<Curves, AllocError>
+        requires { IsOneShow trajs.now }
+        ensures stands { IfOk result (λ curves. CurvesStandFor curves trajs.now) }
+        ensures exact { IfOk result (λ curves. curves ≡ raised_of trajs.now) }
+    {
         let mut all = Vec::new(alloc);
         for t in trajs {
             add_traj(&mut all, t)?;
