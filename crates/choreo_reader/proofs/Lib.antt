@@ -1,4 +1,3 @@
-pub mod Formed
 pub mod Blocks
 pub mod Opened
 pub mod Whole

@@ -1,6 +1,7 @@
 -- The context of a line, and its faults.
 use Rattle.std.specs.Prelude.{ℕ, ◌+◌, Bool, true, false, not, ◌&&◌, ◌||◌, List, [], ◌∷◌, length, ◌==◌, nat_le, Option, Some, None, if◌then◌else◌, bytes_eq, codes}
 use Rattle.text_lines.specs.Words.{Line}
+use Rattle.choreo_reader.specs.Plain.{most_nested}
 use Rattle.choreo_reader.specs.Text.{Fault, fault_at, show_lines, forbidden}
 use Rattle.choreo_lines.specs.FirstWord.{keyword_of}
 use Rattle.choreo_lines.specs.Table.{word, or_else, kind_in, as_read}
@@ -157,7 +158,7 @@ abbrev pub open_fault : Context → Keyword → Option LineKind
 open_fault c first.Memory = fault_if c.memory kind.DoubleSetting
 open_fault c first.Trajectory = fault_if c.trajectory kind.DoubleSetting
 open_fault c first.Ellipsoid = fault_if c.ellipsoid kind.DoubleSetting
-open_fault c first.Repeat = fault_if (nat_le 8 (repeats c.open_blocks)) kind.Nesting
+open_fault c first.Repeat = fault_if (nat_le most_nested (repeats c.open_blocks)) kind.Nesting
 open_fault c first.End = fault_if (is_empty_block c.open_blocks) kind.EmptyBlock
 open_fault c keyword = None
 

@@ -4,7 +4,7 @@ use Rattle.text_lines.specs.Words.{Line}
 use Rattle.choreo_reader.specs.Text.{show_lines, forbidden}
 use Rattle.choreo_lines.specs.Says.{Says}
 use Rattle.choreo_reader.specs.Plain as plain
-use Rattle.choreo_reader.specs.Plain.{Body, PlainFigure, PlainShow, has_block, ◌⨾◌}
+use Rattle.choreo_reader.specs.Plain.{Body, PlainFigure, PlainShow, has_block, ◌⨾◌, most_nested}
 use Rattle.choreo_lines.specs.declared.line.Entry.{Entry}
 use Rattle.choreo_lines.specs.declared.line.Entry.TheVariants as entry
 use Rattle.choreo_reader.specs.declared.show.ActLine.{ActLine}
@@ -194,7 +194,7 @@ fits_figure (plain.Perform line figure frame drones rest) = false
 -- no repeat stands inside eight others
 pub record IsBody (b : Body) : Type 0 where
   pub filled : IsTrue (is_filled b)
-  pub nested : depth b ≤ 8
+  pub nested : depth b ≤ most_nested
 
 -- what an item keeps to
 abbrev pub IsItem : Item → Type 0

@@ -3,7 +3,5 @@ pub mod Plain
 pub mod Grammar
 pub mod Context
 pub mod Valid
-pub mod First
-pub mod FirstWords
 pub mod Reading
 pub mod Reader

@@ -11,6 +11,10 @@ use Rattle.choreo_lines.specs.declared.parts.Frame.{Frame}
 use Rattle.choreo_reader.specs.declared.show.Settings.{Settings}
 use Rattle.choreo_reader.specs.declared.show.Show.{Show}
 
+-- how many repeats may stand inside each other
+abbrev pub most_nested : ℕ
+most_nested = 8
+
 -- blocks one after another; each constructor but the first is one block and the blocks after it
 pub data Body : Type 0 where
   Done : Body

@@ -5,7 +5,7 @@ use Rattle.choreo_reader.specs.Text.{show_lines}
 use Rattle.choreo_lines.specs.Entry.{entry_of}
 use Rattle.choreo_reader.specs.Plain as plain
 use Rattle.choreo_lines.specs.Name.{Name}
-use Rattle.choreo_reader.specs.Plain.{Body, PlainFigure, PlainShow, has_block, ◌⨾◌}
+use Rattle.choreo_reader.specs.Plain.{Body, PlainFigure, PlainShow, has_block, ◌⨾◌, most_nested}
 use Rattle.choreo_reader.specs.Context.{Context, Opening, OpenFormation, OpenFigure, OpenRepeat, OpenCue, fault_if, repeats, is_empty_block, place_of, is_header, end_fault}
 use Rattle.choreo_reader.specs.Text.{Fault, fault_at, forbidden}
 use Rattle.choreo_lines.specs.declared.line.LineKind.{LineKind}
@@ -23,7 +23,7 @@ abbrev pub entry_fault : Context → Entry → Option LineKind
 entry_fault c (entry.Memory id offset) = fault_if c.memory kind.DoubleSetting
 entry_fault c (entry.Trajectory id) = fault_if c.trajectory kind.DoubleSetting
 entry_fault c (entry.Ellipsoid r h) = fault_if c.ellipsoid kind.DoubleSetting
-entry_fault c (entry.Repeat times) = fault_if (nat_le 8 (repeats c.open_blocks)) kind.Nesting
+entry_fault c (entry.Repeat times) = fault_if (nat_le most_nested (repeats c.open_blocks)) kind.Nesting
 entry_fault c entry.End = fault_if (is_empty_block c.open_blocks) kind.EmptyBlock
 entry_fault c _ = None
 

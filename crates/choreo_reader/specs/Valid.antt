@@ -2,7 +2,7 @@
 use Rattle.std.specs.Prelude.{ℕ, ◌+◌, ◌==◌, if◌then◌else◌, ◌<◌, ◌≤◌, ℤ, pos, neg_ℤ, ◌≤ℤ◌, List, [], ◌∷◌, ◌++◌, map, length, IsTrue}
 use Rattle.choreo_reader.specs.Plain as plain
 use Rattle.choreo_lines.specs.Name.{Name}
-use Rattle.choreo_reader.specs.Plain.{Body, PlainFigure, PlainShow, has_block}
+use Rattle.choreo_reader.specs.Plain.{Body, PlainFigure, PlainShow, has_block, most_nested}
 use Rattle.choreo_lines.specs.Name.{is_name}
 use Rattle.choreo_reader.specs.Grammar.{is_filled, depth, fits_figure}
 use Rattle.choreo_lines.specs.declared.parts.Act.{Act}
@@ -87,7 +87,7 @@ abbrev pub FitFigures : List PlainFigure → Type 0
 FitFigures [] = Unit {0}
 FitFigures (f ∷ fs) =
     IsName f.name × AreNames f.roles × (1 ≤ length f.roles) × (length f.roles ≤ 32)
-    × IsTrue (has_block f.body) × IsTrue (is_filled f.body) × (depth f.body ≤ 8) × IsTrue (fits_figure f.body)
+    × IsTrue (has_block f.body) × IsTrue (is_filled f.body) × (depth f.body ≤ most_nested) × IsTrue (fits_figure f.body)
     × FitsBody f.body × FitFigures fs
 
 -- settings in their ranges
@@ -151,7 +151,7 @@ pub record IsValid (s : PlainShow) : Type 0 where
   pub figures : FitFigures s.figures
   pub body : FitsBody s.body
   pub filled : IsTrue (is_filled s.body)
-  pub nested : depth s.body ≤ 8
+  pub nested : depth s.body ≤ most_nested
   pub drone_lines : Rise (drone_lines s.drones)
   pub formation_lines : Rise (formation_lines s.formations)
   pub figure_lines : Rise (figure_lines s.figures)

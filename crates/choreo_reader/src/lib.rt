@@ -1,13 +1,11 @@
 //! The choreography language: its texts, and the shows that they stand for.
 //!
 //! [`read_show`] answers a show exactly where the text stands for it, by the grammar in `specs/Grammar.antt`, and else the
-//! first faulty line and what is wrong with it. [`read_first`] reads the first form, a show of one drone that makes one
-//! move, and [`tokens`] the words of a text. `docs/LANGUAGE.md` has the language. The crate stands on `choreo_lines`, which
-//! reads one line, and on `text_lines`, which cuts a text.
+//! first faulty line and what is wrong with it. [`tokens`] answers the words of a text. `docs/LANGUAGE.md` has the language.
+//! The crate stands on `choreo_lines`, which reads one line, and on `text_lines`, which cuts a text.
 #![tactic(auto)]
 
 mod fault;
-mod first;
 mod reader;
 mod show;
 #[cfg(test)]
@@ -16,7 +14,6 @@ mod token;
 
 pub use choreo_lines::{Act, Frame, LineKind, Listed, Mirror, Name, Point};
 pub use fault::ShowFault;
-pub use first::{First, FirstFault, read_first};
 pub use reader::read_show;
 pub use show::{ActLine, Block, DroneLine, Figure, Formation, Settings, Show};
 pub use text_lines::Token;

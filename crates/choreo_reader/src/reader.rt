@@ -17,6 +17,9 @@ use choreo_lines::{Entry, LineError, LineKind, Listed, Name, Place, entry_of};
 use std::alloc::{AllocError, Global};
 use text_lines::{Token, line_word_count, word_at};
 
+/// How many repeats may stand inside each other (docs/LANGUAGE.md, "A repeat").
+const MOST_NESTED: usize = 8;
+
 /// An open block with what stands in it so far.
 #[derive(Drop)]
 pub enum OpenBlock {
@@ -396,7 +399,9 @@ impl Reader {
             Entry::Memory { .. } if self.memory.is_some() => Some(LineKind::DoubleSetting),
             Entry::Trajectory { .. } if self.trajectory.is_some() => Some(LineKind::DoubleSetting),
             Entry::Ellipsoid { .. } if self.ellipsoid.is_some() => Some(LineKind::DoubleSetting),
-            Entry::Repeat { .. } if repeats(self.opened.as_slice()) >= 8 => Some(LineKind::Nesting),
+            Entry::Repeat { .. } if repeats(self.opened.as_slice()) >= MOST_NESTED => Some(
+                LineKind::Nesting,
+            ),
             Entry::End if is_empty_block(self.opened.as_slice()) => Some(LineKind::EmptyBlock),
             _ => None,
         }
