@@ -1,0 +1,14 @@
+-- Words that are added one by one make a line of refusal.
+use Rattle.std.proofs.Common.{◌≡◌, ℕ, ◌<◌, ◌+◌, List, [], ◌∷◌, ◌++◌, codes, refl, arith}
+use Rattle.fleet_io.specs.Words.{with_words, IsWord, AreWords}
+use Rattle.fleet_io.proofs.WordLaws.{words_make_line, decimal_is_word}
+use Rattle.fault_lines.specs.Lines.{refusal, pair_words}
+
+-- behind `error` and a status, words and a line feed make the line of these
+pub refusal_made : (status : List ℕ) (words : List (List ℕ)) → AreWords (status ∷ words) → with_words [] (codes "error" ∷ status ∷ words) ++ 10 ∷ [] ≡ refusal status words
+refusal_made status words are = words_make_line [] (codes "error") (status ∷ words) refl refl are
+
+-- two names and a cue are words where the names are
+pub pair_are_words : (first second : List ℕ) (cue : ℕ) (more : List (List ℕ)) → IsWord first → IsWord second → cue < 256 → AreWords more → AreWords (pair_words first second cue ++ more)
+pair_are_words first second cue more is is_too small are =
+    (refl, (is, (is_too, (refl, (decimal_is_word (cue + 1) (omega (arith, small)), are)))))

@@ -1,0 +1,92 @@
+-- The lines that the program writes where it refuses: the word `error`, the status that the program ends with, and what is wrong.
+-- docs/COMMANDS.md says what to do at each.
+use Rattle.std.specs.Prelude.{ℕ, ◌+◌, ◌^◌, ℤ, List, [], ◌∷◌, ◌++◌, codes, decimal}
+use Rattle.std.specs.Fmt.{signed_decimal}
+use Rattle.fleet_io.specs.Words.{line}
+use Rattle.choreo_lines.specs.declared.line.LineKind.{LineKind}
+use Rattle.cue_grid.specs.declared.grid.GridFault.{GridFault}
+use Rattle.cue_grid.specs.Faults.{line_of}
+use Rattle.halving.specs.declared.Place.{Place}
+use Rattle.fault_lines.specs.KindWords.{kind_word, grid_word, axis_word}
+
+-- the line of a status and these words behind it
+abbrev pub refusal : List ℕ → List (List ℕ) → List ℕ
+refusal status words = line (codes "error") (status ∷ words)
+
+-- ---- the command and the show
+
+-- the words of the command aren't those of a command
+abbrev pub usage_line : List ℕ
+usage_line = refusal (codes "2") (codes "usage" ∷ [])
+
+-- the show is longer than a text may be
+abbrev pub too_large_line : List ℕ
+too_large_line = refusal (codes "3") (codes "too-large" ∷ [])
+
+-- a line of the show, and the words on what is wrong there
+abbrev pub show_line : ℕ → List (List ℕ) → List ℕ
+show_line number words = refusal (codes "3") (codes "line" ∷ decimal number ∷ words)
+
+-- a faulty line
+abbrev pub faulty_line : ℕ → LineKind → List ℕ
+faulty_line number kind = show_line number (kind_word kind ∷ [])
+
+-- a fault of names or cues, with the line that it names
+abbrev pub grid_line : GridFault → List ℕ
+grid_line fault = show_line (line_of fault) (grid_word fault ∷ [])
+
+-- a number that doesn't fit two bytes when it is rounded, as it is before: in micrometres, or on yaw in tenths of a degree
+abbrev pub range_line : ℕ → ℕ → ℤ → List ℕ
+range_line number axis value = show_line number (codes "out-of-range" ∷ axis_word axis ∷ signed_decimal value ∷ [])
+
+-- a drone whose trajectory takes more bytes than it has room for
+abbrev pub room_line : List ℕ → ℕ → ℕ → List ℕ
+room_line name bytes room =
+    refusal (codes "4") (codes "drone" ∷ name ∷ codes "bytes" ∷ decimal bytes ∷ codes "room" ∷ decimal room ∷ [])
+
+-- a read failed
+abbrev pub read_line : List ℕ
+read_line = refusal (codes "6") (codes "read" ∷ [])
+
+-- ---- two drones in a cue
+
+-- the two drones by name, and the cue, which counts from 0 in the program and from 1 in the line
+abbrev pub pair_words : List ℕ → List ℕ → ℕ → List (List ℕ)
+pair_words first second cue = codes "pair" ∷ first ∷ second ∷ codes "cue" ∷ decimal (cue + 1) ∷ []
+
+-- no direction separates the two in this part of the cue, which is one of 2 ^ depth equal parts; the first part is 0
+abbrev pub blocked_line : List ℕ → List ℕ → ℕ → ℕ → ℕ → List ℕ
+blocked_line first second cue index depth =
+    refusal (codes "5") (pair_words first second cue ++ codes "part" ∷ decimal index ∷ codes "of" ∷ decimal (2 ^ depth) ∷ [])
+
+-- ---- the second text, which is a certificate
+
+-- a faulty line of the second text
+abbrev pub second_line : ℕ → List ℕ
+second_line number = refusal (codes "11") (codes "line" ∷ decimal number ∷ [])
+
+-- the second text is longer than it may be
+abbrev pub second_too_large_line : List ℕ
+second_too_large_line = refusal (codes "11") (codes "too-large" ∷ [])
+
+-- the two have no tree in this cue
+abbrev pub missing_line : List ℕ → List ℕ → ℕ → List ℕ
+missing_line first second cue = refusal (codes "12") (codes "missing" ∷ pair_words first second cue)
+
+-- a tree of no pair and cue: trees count from 0, and stand from the second line on
+abbrev pub extra_line : ℕ → List ℕ
+extra_line tree = refusal (codes "12") (codes "extra" ∷ codes "line" ∷ decimal (tree + 2) ∷ [])
+
+-- a split of the tree of the two in this cue stands at the greatest depth of the certificate
+abbrev pub too_deep_line : List ℕ → List ℕ → ℕ → List ℕ
+too_deep_line first second cue = refusal (codes "12") (codes "too-deep" ∷ pair_words first second cue)
+
+-- the letter of a direction: the first one's is `a`
+abbrev pub letter : ℕ → List ℕ
+letter dir = (97 + dir) ∷ []
+
+-- a leaf of the tree of the two: its part, its direction, and the first control value that the direction fails to separate
+abbrev pub fails_line : List ℕ → List ℕ → ℕ → Place → ℕ → ℕ → List ℕ
+fails_line first second cue place dir control =
+    refusal (codes "12") (codes "fails" ∷ pair_words first second cue
+    ++ codes "part" ∷ decimal place.depth ∷ decimal place.index ∷ codes "direction" ∷ letter dir ∷ codes "control" ∷ decimal control ∷ [])
