@@ -20,54 +20,29 @@ use Rattle.traj_codec.specs.Spelling.{stored}
 use Rattle.traj_codec.specs.Positions.{element_on, value_after, piece_on, durations, decoded}
 use Rattle.traj_codec.proofs.PositionLemmas.{decoded-points}
 use Rattle.mm_rounding.specs.declared.piece.Axis.{Axis}
-use Rattle.mm_rounding.specs.declared.piece.Axis.TheVariants.{One, Two, Four, Eight}
+use Rattle.mm_rounding.specs.declared.piece.Axis.TheVariants.{One}
 use Rattle.mm_rounding.specs.declared.piece.MicroPiece.{MicroPiece}
-use Rattle.mm_rounding.specs.Rounding.{millimetres, controls, first_control, behind_first, rounded, element_of, axis_on, segment_of}
+use Rattle.mm_rounding.specs.Rounding.{millimetres, controls, first_control, rounded, element_of, axis_on, segment_of}
 use Rattle.mm_rounding.specs.Near.{IsAxis, position, last_control}
-use Rattle.mm_rounding.proofs.Elements.{rounded_is_axis, ends_there, stays_near}
+use Rattle.mm_rounding.proofs.Elements.{rounded_is_axis, rounded_edges, ends_there, stays_near}
 use Rattle.figure_expand.specs.Acts.{act_of, end_of, on_axis, point_after}
 use Rattle.figure_expand.specs.Controls.{axes_of, piece_of}
 use Rattle.figure_expand.specs.Expanded.{job_in, no_job, pieces_from, expanded_from, expanded}
 use Rattle.figure_expand.specs.Flown.{start_of, jobs_in, job_at, point_before, piece_at, written_at}
-use Rattle.figure_expand.proofs.Pieces.{piece_begins, piece_ends, piece_whole, flies_as_written}
-use Rattle.show_plan.specs.Plan.{start_at}
-use Rattle.show_plan.specs.Trajectories.{trajectory_of, trajectories_of, trajectories, cue_times}
+use Rattle.figure_expand.proofs.Pieces.{row_is, piece_begins, piece_ends, piece_whole, flies_as_written}
+use Rattle.show_plan.specs.Trajectories.{start_at, trajectory_of, trajectories_of, trajectories, cue_times}
 use Rattle.show_plan.specs.Flight.{FliesNearOn, FliesYaw, FliesNear, no_trajectory, KeepsNearShow}
 
--- ---- the ends of rounded axes
-
--- the first of rounded numbers is the first one rounded
-first_of : (v : List ℤ) → at (map millimetres v) 0 ≡ millimetres (at v 0)
-first_of [] = refl
-first_of (z ∷ v) = refl
-
-first_rounded : (axis : Axis) → first_control (rounded axis) ≡ millimetres (first_control axis)
-first_rounded (One v) = refl
-first_rounded (Two v) = first_of v
-first_rounded (Four v) = first_of v
-first_rounded (Eight v) = first_of v
-
-last_of : (z : ℤ) (v : List ℤ) → last_value (millimetres z) (map millimetres v) ≡ millimetres (last_value z v)
-last_of z [] = refl
-last_of z (y ∷ v) = last_of y v
-
-last_behind : (v : List ℤ) → last_value (at (map millimetres v) 0) (behind_first (map millimetres v)) ≡ millimetres (last_value (at v 0) (behind_first v))
-last_behind [] = refl
-last_behind (z ∷ v) = last_of z v
-
-last_rounded : (axis : Axis) → last_control (rounded axis) ≡ millimetres (last_control axis)
-last_rounded (One v) = refl
-last_rounded (Two v) = last_behind v
-last_rounded (Four v) = last_behind v
-last_rounded (Eight v) = last_behind v
+-- ---- the ends of axes
 
 -- an element of x, y or z leads from one rounded value to the other
 leads : (axis : Axis) (from to : ℤ) → IsAxis axis → first_control axis ≡ from → last_control axis ≡ to →
     value_after (millimetres from) (element_of (rounded axis)) ≡ millimetres to
 leads axis from to is begins ends =
-    ap (λ (z : ℤ). value_after z (element_of (rounded axis))) (ap millimetres (sym begins) ∙ sym (first_rounded axis))
+    let edges = rounded_edges axis is in
+    ap (λ (z : ℤ). value_after z (element_of (rounded axis))) (ap millimetres (sym begins) ∙ sym edges.0)
     ∙ ends_there (rounded axis) (rounded_is_axis axis is)
-    ∙ last_rounded axis
+    ∙ edges.1
     ∙ ap millimetres ends
 
 -- an element of yaw leads from one value to the other
@@ -114,15 +89,6 @@ times_are p d (cue ∷ cues) = ap (λ (ms : List ℕ). cue.ms ∷ ms) (times_are
 
 -- ---- one drone
 
--- the pieces of a drone
-pub row_is : (first : ℕ) (starts : List DroneLine) (cues : List Cue) (d : ℕ) (other : Point) → d < length starts →
-    get_or (expanded_from first starts cues) d [] ≡ pieces_from (get_or (map (λ (s : DroneLine). s.at) starts) d other) (first + d) cues
-row_is first [] cues d other within = absurd (omega arith)
-row_is first (s ∷ starts) cues zero other within = let e : first ≡ first + 0 = omega arith in ap (λ (d : ℕ). pieces_from s.at d cues) e
-row_is first (s ∷ starts) cues (suc d) other within =
-    let e : (first + 1) + d ≡ first + suc d = omega arith in
-    row_is (first + 1) starts cues d other (omega arith) ∙ ap (λ (n : ℕ). pieces_from (get_or (map (λ (s : DroneLine). s.at) starts) d other) n cues) e
-
 -- the trajectory of a drone
 flight_is : (first : ℕ) (starts : List DroneLine) (cues : List Cue) (d : ℕ) (other : Point) → d < length starts →
     get_or (trajectories_of starts (expanded_from first starts cues)) d no_trajectory
@@ -146,7 +112,7 @@ unfolding expanded
 piece_at_is g d k drone cue =
     let other : MicroPiece = record { ms = 0; axes = [] } in
     let e : 0 + d ≡ d = omega arith in
-    ap (λ (pieces : List MicroPiece). get_or pieces k other) (row_is 0 g.starts g.cues d _ drone ∙ ap (λ (n : ℕ). pieces_from (start_of g d) n g.cues) e)
+    ap (λ (pieces : List MicroPiece). get_or pieces k other) (row_is 0 g.starts g.cues d _ [] drone ∙ ap (λ (n : ℕ). pieces_from (start_of g d) n g.cues) e)
     ∙ piece_is (start_of g d) d g.cues k other cue
 
 -- the trajectory of a drone of a grid
@@ -179,13 +145,13 @@ written_is g d axis m drone inside small =
     ∙ flies_as_written g d m.cue axis drone inside.cue small m.a m.c inside.some inside.within
 
 -- near on x, y or z, from near by the piece
-by_piece : (axis : Axis) (e : Element) (first w d : ℤ) (a c : ℕ) →
+by_piece : (axis : Axis) (e : Element) (first w d : ℤ) (a c : ℕ) → IsAxis axis →
     IsNear (position (controls axis) a c) (position (first_control (rounded axis) ∷ stored e) a c) c →
     first_control axis ≡ first → position (controls axis) a c ≡ w → d ≡ position (millimetres first ∷ stored e) a c → IsNear w d c
-by_piece axis e first w d a c near begins written decoded =
+by_piece axis e first w d a c is near begins written decoded =
     subst (λ (z : ℤ). IsNear z d c) written
     (subst (λ (z : ℤ). IsNear (position (controls axis) a c) z c)
-    (ap (λ (z : ℤ). position (z ∷ stored e) a c) (first_rounded axis ∙ ap millimetres begins) ∙ sym decoded) near)
+    (ap (λ (z : ℤ). position (z ∷ stored e) a c) ((rounded_edges axis is).0 ∙ ap millimetres begins) ∙ sym decoded) near)
 
 -- within a cue the drone flies near on x, y and z
 near_x : (g : Grid) (d : ℕ) (m : Moment) → d < length g.starts → IsInside (length g.cues) m → FliesNearOn g d (flight g d) 0 m
@@ -193,7 +159,7 @@ near_x g d m drone inside =
     let p : Point = point_before g d m.cue in
     let j : Job = job_at g d m.cue in
     let ms : ℕ = get_or (cue_times g) m.cue 0 in
-    by_piece (axis_on (piece_of p ms j) 0) (element_on (segment_of (piece_of p ms j)) 0) (on_axis p 0) (written_at g d m.cue 0 m.a m.c) (decoded (flight g d) 0 m) m.a m.c
+    by_piece (axis_on (piece_of p ms j) 0) (element_on (segment_of (piece_of p ms j)) 0) (on_axis p 0) (written_at g d m.cue 0 m.a m.c) (decoded (flight g d) 0 m) m.a m.c (axis_is p ms j 0 (omega arith))
     ((stays_near (piece_of p ms j) (piece_whole p ms j)).x m.a m.c inside.some inside.within)
     (piece_begins p ms j 0 (omega arith)) (written_is g d 0 m drone inside (omega arith)) (decoded_is g d 0 m inside.cue (omega arith))
 
@@ -202,7 +168,7 @@ near_y g d m drone inside =
     let p : Point = point_before g d m.cue in
     let j : Job = job_at g d m.cue in
     let ms : ℕ = get_or (cue_times g) m.cue 0 in
-    by_piece (axis_on (piece_of p ms j) 1) (element_on (segment_of (piece_of p ms j)) 1) (on_axis p 1) (written_at g d m.cue 1 m.a m.c) (decoded (flight g d) 1 m) m.a m.c
+    by_piece (axis_on (piece_of p ms j) 1) (element_on (segment_of (piece_of p ms j)) 1) (on_axis p 1) (written_at g d m.cue 1 m.a m.c) (decoded (flight g d) 1 m) m.a m.c (axis_is p ms j 1 (omega arith))
     ((stays_near (piece_of p ms j) (piece_whole p ms j)).y m.a m.c inside.some inside.within)
     (piece_begins p ms j 1 (omega arith)) (written_is g d 1 m drone inside (omega arith)) (decoded_is g d 1 m inside.cue (omega arith))
 
@@ -211,7 +177,7 @@ near_z g d m drone inside =
     let p : Point = point_before g d m.cue in
     let j : Job = job_at g d m.cue in
     let ms : ℕ = get_or (cue_times g) m.cue 0 in
-    by_piece (axis_on (piece_of p ms j) 2) (element_on (segment_of (piece_of p ms j)) 2) (on_axis p 2) (written_at g d m.cue 2 m.a m.c) (decoded (flight g d) 2 m) m.a m.c
+    by_piece (axis_on (piece_of p ms j) 2) (element_on (segment_of (piece_of p ms j)) 2) (on_axis p 2) (written_at g d m.cue 2 m.a m.c) (decoded (flight g d) 2 m) m.a m.c (axis_is p ms j 2 (omega arith))
     ((stays_near (piece_of p ms j) (piece_whole p ms j)).z m.a m.c inside.some inside.within)
     (piece_begins p ms j 2 (omega arith)) (written_is g d 2 m drone inside (omega arith)) (decoded_is g d 2 m inside.cue (omega arith))
 

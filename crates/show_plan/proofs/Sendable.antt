@@ -1,5 +1,5 @@
 -- Trajectories and their bytes one after another, and what is known of those of a valid grid.
-use Rattle.std.proofs.Common.{◌≡◌, ℕ, suc, ◌+◌, ◌<◌, ◌≤◌, IfOk, Ok, Err, Result, Vec, Global, List, [], ◌∷◌, ◌++◌, map, take, drop, append_assoc, length, get_or, arith, refl, sym, ap, ◌∙◌, subst}
+use Rattle.std.proofs.Common.{◌≡◌, ℕ, suc, ◌+◌, ◌<◌, ◌≤◌, Bool, true, false, cond, Option, Some, None, IfOk, Ok, Err, Result, Vec, Global, List, [], ◌∷◌, ◌++◌, map, take, drop, append_assoc, length, get_or, nat_le, arith, refl, sym, ap, ◌∙◌, subst}
 use Rattle.std.specs.List.{All}
 use Rattle.std.proofs.lemmas.List.{drop_more, take_more, get_or-map}
 use Rattle.std.proofs.lemmas.List.Elements.{All-nil, All-cons, All-get_or, All-from_get_or}
@@ -8,7 +8,9 @@ use Rattle.choreo_reader.specs.declared.show.DroneLine.{DroneLine}
 use Rattle.choreo_reader.specs.Plain.{PlainShow}
 use Rattle.cue_grid.specs.declared.grid.Cue.{Cue}
 use Rattle.cue_grid.specs.declared.grid.Grid.{Grid}
+use Rattle.cue_grid.specs.declared.grid.GridFault.{GridFault}
 use Rattle.cue_grid.specs.Cues.{grid_of}
+use Rattle.cue_grid.specs.Faults.{grid_fault}
 use Rattle.cue_grid.specs.Grids.{FitCues, IsGrid}
 use Rattle.traj_codec.specs.declared.traj.Traj.{Traj}
 use Rattle.traj_codec.specs.Spelling.{IsEncoding, HasDuration}
@@ -16,13 +18,15 @@ use Rattle.mm_rounding.specs.declared.piece.MicroPiece.{MicroPiece}
 use Rattle.mm_rounding.specs.Rounding.{segment_of}
 use Rattle.figure_expand.specs.Acts.{act_of, end_of}
 use Rattle.figure_expand.specs.Controls.{piece_of}
-use Rattle.figure_expand.specs.Expanded.{job_in, pieces_from, expanded}
-use Rattle.figure_expand.specs.Flown.{start_of}
+use Rattle.figure_expand.specs.declared.fault.ExpandFault.{ExpandFault}
+use Rattle.figure_expand.specs.Expanded.{job_in, pieces_from, expanded_from, expanded, range_fault}
+use Rattle.figure_expand.specs.Flown.{start_of, RoundsWell}
 use Rattle.show_plan.specs.declared.fitted.Fitted.{Fitted}
 use Rattle.show_plan.specs.declared.fitted.PlanFault.{PlanFault}
+use Rattle.show_plan.specs.declared.fitted.PlanFault.TheVariants as fault
 use Rattle.show_plan.specs.Trajectories.{trajectory_of, trajectories_of, trajectories}
 use Rattle.show_plan.specs.Flight.{no_trajectory, KeepsNearShow}
-use Rattle.show_plan.specs.Fitting.{IsHeld, IsSendable, AreEncodings, FitGives}
+use Rattle.show_plan.specs.Fitting.{IsSendable, size, room, first_long, too_long, in_order, plan_fault, AreEncodings, PlanFails, FitGives}
 use Rattle.show_plan.proofs.Flight.{flight, flight_at_is, flights_counted, keeps_near_show}
 
 -- ---- lists as the code has them
@@ -45,10 +49,10 @@ row_at rows k row items within is items_are = items_are ∙ ap items_of is ∙ s
 
 -- what holds of each list of pieces holds of this row
 pub row_holds : (rows : List (Vec MicroPiece Global)) (k : ℕ) (row : Vec MicroPiece Global) (items : List MicroPiece) → k < length rows → row ≡ get_or rows k row → items ≡ row.items →
-    All (λ (pieces : List MicroPiece). All IsHeld pieces) (map items_of rows) → All IsHeld items
+    All (All RoundsWell) (map items_of rows) → All RoundsWell items
 row_holds rows k row items within is items_are all =
-    subst (All IsHeld) (sym (row_at rows k row items within is items_are))
-    (All-get_or (λ (pieces : List MicroPiece). All IsHeld pieces) (map items_of rows) k items (omega (arith, as_many rows, within)) all)
+    subst (All RoundsWell) (sym (row_at rows k row items within is items_are))
+    (All-get_or (All RoundsWell) (map items_of rows) k items (omega (arith, as_many rows, within)) all)
 
 -- one trajectory more, as the code puts it behind the others
 pub trajectory_next : (ts more : List Traj) (starts : List DroneLine) (rows : List (Vec MicroPiece Global)) (k : ℕ) (s : DroneLine) (row : List MicroPiece) (t : Traj) →
@@ -78,6 +82,15 @@ bytes_next rows ts k t bytes within is so_far encoded =
     subst (AreEncodings (rows ++ bytes ∷ [])) (sym (take_more ts k t within)) (one_behind rows (take k ts) bytes (get_or ts k t) so_far (subst (IsEncoding bytes) is encoded))
 
 -- ---- the trajectories of a grid
+
+rows_from : (first : ℕ) (starts : List DroneLine) (cues : List Cue) → length (expanded_from first starts cues) ≡ length starts
+rows_from first [] cues = refl
+rows_from first (s ∷ starts) cues = ap suc (rows_from (first + 1) starts cues)
+
+-- a grid has as many rows of pieces as drones
+pub rows_counted : (g : Grid) → length (expanded g) ≡ length g.starts
+unfolding expanded
+rows_counted g = rows_from 0 g.starts g.cues
 
 -- the trajectories as the code makes them
 pub all_are : (g : Grid) (starts : List DroneLine) (rows : List (List MicroPiece)) (ts : List Traj) → starts ≡ g.starts → rows ≡ expanded g → ts ≡ trajectories_of starts rows → ts ≡ trajectories g
@@ -112,6 +125,39 @@ pub sendable : (g : Grid) → IsGrid g → All IsSendable (trajectories g)
 sendable g is =
     All-from_get_or IsSendable (trajectories g) no_trajectory
     (λ d small. subst IsSendable (sym (flight_at_is g d (omega (arith, counted g)))) (flight_sendable g d is))
+
+-- ---- what is too long
+
+-- the fault of a long trajectory names no part of a cue
+names_no_part : (space d : ℕ) (ts : List Traj) (a b cue index : ℕ) → first_long space d ts ≡ Some (fault.Blocked a b cue index) → ⊥
+names_no_part space d [] a b cue index is = cc
+names_no_part space d (t ∷ ts) a b cue index is = by_test (nat_le (size t) space) is (names_no_part space (d + 1) ts a b cue index)
+  where
+    by_test : (fits : Bool) → cond fits (first_long space (d + 1) ts) (Some (fault.TooLong d (size t) space)) ≡ Some (fault.Blocked a b cue index) →
+        (first_long space (d + 1) ts ≡ Some (fault.Blocked a b cue index) → ⊥) → ⊥
+    by_test true is later = later is
+    by_test false is later = cc
+
+long_fails : (s : PlainShow) (space : ℕ) (ts : List Traj) (f : PlanFault) → first_long space 0 ts ≡ Some f → plan_fault s ≡ Some f → PlanFails f s
+long_fails s space ts fault.Memory long is = tt
+long_fails s space ts (fault.Blocked a b cue index) long is = names_no_part space 0 ts a b cue index long
+long_fails s space ts (fault.Grid f) long is = is
+long_fails s space ts (fault.Expand f) long is = is
+long_fails s space ts (fault.TooLong d bytes room) long is = is
+
+-- Where names, cues and numbers have no fault, the first trajectory that is too long is the reason why the show has no plan.
+pub long_given : (s : PlainShow) (g : Grid) (space : ℕ) (ts : List Traj) (f : PlanFault) →
+    grid_fault s ≡ None → g ≡ grid_of s → range_fault g ≡ None → space ≡ room s → ts ≡ trajectories g → Some f ≡ first_long space 0 ts → PlanFails f s
+long_given s g space ts f unrolled is fits space_is ts_are long =
+    let range : range_fault (grid_of s) ≡ None = subst (λ (g : Grid). range_fault g ≡ None) is fits in
+    let here : too_long s ≡ Some f =
+    sym (long ∙ ap (λ (n : ℕ). first_long n 0 ts) space_is ∙ ap (first_long (room s) 0) (ts_are ∙ ap trajectories is)) in
+    long_fails s space ts f (sym long) (by_order (grid_fault s) (range_fault (grid_of s)) unrolled range here)
+  where
+    by_order : (a : Option GridFault) (b : Option ExpandFault) → a ≡ None → b ≡ None → too_long s ≡ Some f → in_order a b (too_long s) ≡ Some f
+    by_order None None p q here = here
+    by_order (Some e) b p q here = absurd (cc)
+    by_order None (Some e) p q here = absurd (cc)
 
 -- What fits is near to the show.
 pub near_given : (r : Result Fitted PlanFault) (s : PlainShow) (g : Grid) → FitGives r s → IsGrid g → g ≡ grid_of s → IfOk r (λ f. KeepsNearShow (grid_of s) f.trajs)

@@ -1,16 +1,19 @@
 -- What fits is valid.
-use Rattle.std.proofs.Common.{◌≡◌, ℕ, suc, ◌+◌, ◌-◌, ◌≤◌, Bool, true, false, cond, Option, Some, None, IfOk, Ok, Err, Result, List, [], ◌∷◌, ◌++◌, map, length, nat_le, arith, refl, sym, ap, ◌∙◌, subst}
+use Rattle.std.proofs.Common.{◌≡◌, ℕ, suc, ◌+◌, ◌-◌, ◌<◌, ◌≤◌, Bool, true, false, cond, Option, Some, None, IfOk, Ok, Err, Result, List, [], ◌∷◌, ◌++◌, map, length, nat_le, eqb, arith, refl, sym, ap, ◌∙◌, subst}
 use Rattle.std.specs.Prelude.{◌||◌, nat_lt}
 use Rattle.std.specs.List.{All}
 use Rattle.std.proofs.lemmas.Bool.Decides.{nat_tests}
+use Rattle.std.proofs.lemmas.List.{get_or_default}
 use Rattle.std.proofs.lemmas.List.Elements.{All-nil, All-cons, All-from_get_or}
 use Rattle.std.proofs.lemmas.Slice.Eq.{bytes_eq-Decides}
 use Rattle.mem_chunks.specs.declared.TheConstants.{MEMORY_BYTES}
-use Rattle.choreo_lines.specs.Name.{Name}
+use Rattle.fleet_io.specs.Words.{IsWord}
+use Rattle.choreo_lines.specs.Name.{Name, is_name}
+use Rattle.choreo_lines.proofs.Names.{name_has_bytes, name_has_no_line_feed}
 use Rattle.choreo_reader.specs.declared.show.DroneLine.{DroneLine}
 use Rattle.choreo_reader.specs.declared.show.Settings.{Settings}
 use Rattle.choreo_reader.specs.Plain.{PlainShow}
-use Rattle.choreo_reader.specs.Valid.{FitsSettings, IsValid}
+use Rattle.choreo_reader.specs.Valid.{FitDroneLines, FitsSettings, IsValid}
 use Rattle.cue_grid.specs.declared.grid.Grid.{Grid}
 use Rattle.cue_grid.specs.declared.grid.GridFault.{GridFault}
 use Rattle.cue_grid.specs.declared.grid.GridFault.TheVariants.{DoubleName}
@@ -30,8 +33,8 @@ use Rattle.show_plan.specs.declared.fitted.Fitted.{Fitted}
 use Rattle.show_plan.specs.declared.fitted.PlanFault.{PlanFault}
 use Rattle.show_plan.specs.declared.fitted.PlanFault.TheVariants as fault
 use Rattle.show_plan.specs.Trajectories.{trajectories, cue_times}
-use Rattle.show_plan.specs.Flight.{no_trajectory, KeepsNearShow}
-use Rattle.show_plan.specs.Fitting.{size, room, first_long, too_long, in_order, AreEncodings, IsFitted, FitGives, IsValidFitted}
+use Rattle.show_plan.specs.Flight.{no_trajectory}
+use Rattle.show_plan.specs.Fitting.{StandsAsWord, size, room, first_long, too_long, in_order, AreEncodings, IsFitted, FitGives, IsValidFitted}
 use Rattle.show_plan.proofs.Flight.{cues_last, times_counted, keeps_near_show}
 use Rattle.show_plan.proofs.Sendable.{counted}
 
@@ -121,6 +124,19 @@ names_apart s none =
     let without = no_earliest (name_faults s) names.0 in
     (apart [] s.drones (both_empty (drones_faults s) (formations_faults s ++ (figures_faults s ++ show_faults s)) without).0).0
 
+-- a name can stand as a word
+pub name_is_word : (word : List ℕ) → is_name word ≡ true → IsWord word
+name_is_word word named =
+    let some : 0 < length word = name_has_bytes word named in
+    let inside : length word - 1 < length word = omega arith in
+    ap (λ (b : ℕ). eqb b 10) (sym (get_or_default word (length word - 1) 0 10 inside)) ∙ name_has_no_line_feed word (length word - 1) named inside
+
+-- so can the names of drones that are as the language has them
+names_are_words : (ds : List DroneLine) → FitDroneLines ds → All StandsAsWord (map (λ (d : DroneLine). d.name) ds)
+names_are_words [] fit = All-nil StandsAsWord
+names_are_words (d ∷ ds) fit =
+    All-cons StandsAsWord d.name (map (λ (d : DroneLine). d.name) ds) (name_is_word d.name.items fit.0) (names_are_words ds fit.2)
+
 names_counted : (ds : List DroneLine) → length (map (λ (d : DroneLine). d.name) ds) ≡ length ds
 names_counted [] = refl
 names_counted (d ∷ ds) = ap suc (names_counted ds)
@@ -167,6 +183,7 @@ valid_by f s v none short is =
       some_drone = omega (arith, names, grid.some_start);
       few_drones = omega (arith, names, grid.few_starts);
       distinct = ap has_double is.names ∙ names_apart s none;
+      words = subst (All StandsAsWord) (sym is.names) (names_are_words s.drones v.drones);
       trajs_counted = trajs ∙ sym names;
       some_cue = omega (arith, is.cues, grid.some_cue);
       few_cues = omega (arith, is.cues, grid.few_cues);

@@ -2,6 +2,8 @@
 use Rattle.std.specs.Prelude.{false, ◌≡◌, ℕ, ◌+◌, ◌-◌, ◌≤◌, List, [], ◌∷◌, ◌++◌, map, length, nat_le, Option, Some, None, Result, Ok, Err, if◌then◌else◌}
 use Rattle.std.specs.List.{sum, All}
 use Rattle.mem_chunks.specs.declared.TheConstants.{MEMORY_BYTES}
+use Rattle.fleet_io.specs.Words.{IsWord}
+use Rattle.choreo_lines.specs.Name.{Name}
 use Rattle.choreo_reader.specs.declared.show.DroneLine.{DroneLine}
 use Rattle.choreo_reader.specs.Plain.{PlainShow}
 use Rattle.choreo_reader.specs.Valid.{FitsSettings}
@@ -13,25 +15,14 @@ use Rattle.cue_grid.specs.Names.{has_double}
 use Rattle.traj_codec.specs.declared.traj.Traj.{Traj}
 use Rattle.traj_codec.specs.Positions.{durations}
 use Rattle.traj_codec.specs.Spelling.{spelling, ending, IsEncoding, HasDuration, most_segments}
-use Rattle.mm_rounding.specs.declared.piece.MicroPiece.{MicroPiece}
-use Rattle.mm_rounding.specs.Rounding.{segment_of, rounding}
 use Rattle.figure_expand.specs.declared.fault.ExpandFault.{ExpandFault}
 use Rattle.figure_expand.specs.Expanded.{range_fault}
 use Rattle.show_plan.specs.declared.fitted.Fitted.{Fitted}
 use Rattle.show_plan.specs.declared.fitted.PlanFault.{PlanFault}
 use Rattle.show_plan.specs.declared.fitted.PlanFault.TheVariants as fault
-use Rattle.show_plan.specs.Plan.{IsFlyable}
 use Rattle.show_plan.specs.Trajectories.{trajectories, cue_times}
 
 -- ---- what steps are handed
-
--- a trajectory can hold each number of the piece, which lasts some time
-abbrev pub IsHeld : MicroPiece → Type 0
-IsHeld p = rounding p ≡ Some (segment_of p)
-
--- a trajectory can hold where the drone starts
-abbrev pub StartsFlyable : DroneLine → Type 0
-StartsFlyable s = IsFlyable s.at
 
 -- a trajectory of at most 255 segments, each of which lasts some time
 pub record IsSendable (t : Traj) : Type 0 where
@@ -47,6 +38,10 @@ size t = length (spelling t ++ ending)
 -- how many bytes a drone's memory has from the show's offset on
 abbrev pub room : PlainShow → ℕ
 room s = MEMORY_BYTES - s.settings.offset
+
+-- a name can stand as a word of a line
+abbrev pub StandsAsWord : Name → Type 0
+StandsAsWord name = IsWord name.items
 
 -- the first of these trajectories, those of the drones from d on, that is sent as more bytes than there is room for
 abbrev pub first_long : ℕ → ℕ → List Traj → Option PlanFault
@@ -85,9 +80,10 @@ pub record IsFitted (f : Fitted) (s : PlainShow) : Type 0 where
   pub trajs : f.trajs ≡ trajectories (grid_of s)
   pub bytes : AreEncodings f.bytes f.trajs
 
--- A refusal is the first reason why the show has no plan; want of memory says nothing.
+-- A refusal is the first reason why the show has no plan; want of memory says nothing. Separation isn't judged here.
 abbrev pub PlanFails : PlanFault → PlainShow → Type 0
 PlanFails fault.Memory s = Unit {0}
+PlanFails (fault.Blocked a b cue index) s = ⊥
 PlanFails f s = plan_fault s ≡ Some f
 
 -- What fits comes only without such a reason, and is that of the show.
@@ -95,7 +91,7 @@ abbrev pub FitGives : Result Fitted PlanFault → PlainShow → Type 0
 FitGives (Ok f) s = (plan_fault s ≡ None) × IsFitted f s
 FitGives (Err f) s = PlanFails f s
 
--- Valid: settings in range; 1 to 32 names, no two of them equal; as many trajectories and lists of bytes; 1 to 255 cues, each
+-- Valid: settings in range; 1 to 32 names, no two of them equal, each of which can stand as a word; as many trajectories and lists of bytes; 1 to 255 cues, each
 -- of which lasts some time; these are the durations of each trajectory's segments; and each list of bytes is the encoding of
 -- its trajectory, and has room in a drone's memory behind the offset.
 pub record IsValidFitted (f : Fitted) : Type 0 where
@@ -103,6 +99,7 @@ pub record IsValidFitted (f : Fitted) : Type 0 where
   pub some_drone : 1 ≤ length f.names
   pub few_drones : length f.names ≤ drone_limit
   pub distinct : has_double f.names ≡ false
+  pub words : All StandsAsWord f.names
   pub trajs_counted : length f.trajs ≡ length f.names
   pub some_cue : 1 ≤ f.cues
   pub few_cues : f.cues ≤ cue_limit

@@ -1,19 +1,18 @@
 -- How near the trajectories of drones are to the show, at every instant.
-use Rattle.std.specs.Prelude.{◌≡◌, ℕ, ◌<◌, List, [], length, slice_index_or}
+use Rattle.std.specs.Prelude.{◌≡◌, ℕ, ◌*◌, ◌<◌, ◌≤◌, List, [], length, slice_index_or}
 use Rattle.std.specs.List.{sum}
-use Rattle.fleet_math.specs.Moments.{Moment}
+use Rattle.fleet_math.specs.Moments.{Moment, moment}
 use Rattle.fleet_math.specs.Near.{IsNear}
 use Rattle.cue_grid.specs.declared.grid.Grid.{Grid}
 use Rattle.traj_codec.specs.declared.traj.Traj.{Traj}
 use Rattle.traj_codec.specs.Positions.{durations, decoded}
 use Rattle.figure_expand.specs.Flown.{written_at}
-use Rattle.show_plan.specs.Near.{AtEachInstant}
 use Rattle.show_plan.specs.Trajectories.{cue_times}
 
 -- At every instant p / q of a show, its ends too, this holds of the cue that the instant lies in and of the part of it that has
 -- passed.
 abbrev pub AtEachMoment : Grid → (Moment → Type 0) → Type 0
-AtEachMoment g Holds = AtEachInstant (sum (cue_times g)) (cue_times g) Holds
+AtEachMoment g Holds = (p q : ℕ) → 1 ≤ q → p ≤ q * sum (cue_times g) → Holds (moment (cue_times g) p q)
 
 -- on an axis the decoded position is within half a millimetre of the written position of the drone
 abbrev pub FliesNearOn : Grid → ℕ → Traj → ℕ → Moment → Type 0

@@ -1,6 +1,6 @@
-pub mod Written
-pub mod Near
-pub mod Plan
 pub mod Trajectories
 pub mod Flight
 pub mod Fitting
+pub mod Texts
+pub mod Separation
+pub mod Steps

@@ -1,14 +1,17 @@
 -- The trajectories of a grid: each drone's start and each of its pieces rounded.
-use Rattle.std.specs.Prelude.{ℕ, List, [], ◌∷◌, map}
+use Rattle.std.specs.Prelude.{ℕ, ℤ, List, [], ◌∷◌, map}
 use Rattle.choreo_lines.specs.declared.parts.Point.{Point}
 use Rattle.choreo_reader.specs.declared.show.DroneLine.{DroneLine}
 use Rattle.cue_grid.specs.declared.grid.Cue.{Cue}
 use Rattle.cue_grid.specs.declared.grid.Grid.{Grid}
 use Rattle.traj_codec.specs.declared.traj.Traj.{Traj}
 use Rattle.mm_rounding.specs.declared.piece.MicroPiece.{MicroPiece}
-use Rattle.mm_rounding.specs.Rounding.{segment_of}
+use Rattle.mm_rounding.specs.Rounding.{millimetres, segment_of}
 use Rattle.figure_expand.specs.Expanded.{expanded}
-use Rattle.show_plan.specs.Plan.{start_at}
+
+-- where a trajectory starts that begins at this point: x, y and z in whole millimetres, yaw as it is, in tenths of a degree
+abbrev pub start_at : Point → List ℤ
+start_at p = millimetres p.x ∷ millimetres p.y ∷ millimetres p.z ∷ p.yaw ∷ []
 
 -- the trajectory of a drone that starts at this point: the start rounded, then one segment a piece
 abbrev pub trajectory_of : Point → List MicroPiece → Traj

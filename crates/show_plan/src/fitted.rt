@@ -32,6 +32,9 @@ pub enum PlanFault {
     Expand { fault: ExpandFault },
     /// The first drone, from 0, whose trajectory has more bytes than a drone's memory has room for behind the offset.
     TooLong { drone: u8, bytes: u32, room: u32 },
+    /// The first part of a cue in which no direction separates two drones, in the order pair, cue, part, all counted from 0: part
+    /// `index` of as many equal parts as the depth gives.
+    Blocked { a: u8, b: u8, cue: u8, index: u16 },
     /// Want of memory.
     Memory,
 }

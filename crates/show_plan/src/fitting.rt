@@ -1,34 +1,54 @@
 //! The trajectories of a whole show and their bytes, where they have room in the drones' memories.
 
-ghost use Rattle.std.specs.Prelude.{◌≡◌, ◌≤◌, None, map, length, IfOk};
+ghost use Rattle.std.specs.Prelude.{◌≡◌, ◌≤◌, Some, None, map, length, IfOk};
 ghost use Rattle.std.specs.List.{All, sum};
 ghost use Rattle.choreo_reader.specs.Plain.{plain};
 ghost use Rattle.choreo_reader.specs.Valid.{IsValid};
 ghost use Rattle.cue_grid.specs.Cues.{grid_of};
 ghost use Rattle.cue_grid.specs.Faults.{grid_fault};
 ghost use Rattle.cue_grid.specs.Grids.{IsGrid};
+ghost use Rattle.mm_rounding.specs.Rounding.{short};
 ghost use Rattle.figure_expand.specs.Expanded.{expanded, range_fault};
-ghost use Rattle.show_plan.specs.Plan.{IsFlyable};
-ghost use Rattle.show_plan.specs.Trajectories.{trajectory_of, trajectories_of};
+ghost use Rattle.figure_expand.specs.Flown.{StartsWell, RoundsWell};
+ghost use Rattle.show_plan.specs.Trajectories.{start_at, trajectory_of, trajectories_of};
 ghost use Rattle.show_plan.specs.Flight.{KeepsNearShow};
-ghost use Rattle.show_plan.specs.Fitting.{IsHeld, StartsFlyable, IsSendable, first_long};
+ghost use Rattle.show_plan.specs.Fitting.{IsSendable, first_long};
 ghost use Rattle.show_plan.specs.Fitting.{AreEncodings, FitGives, IsValidFitted};
 
 use crate::fitted::{Fitted, PlanFault};
-use crate::rounding::rounded;
 use arrayvec::ArrayVec;
 use choreo_reader::{DroneLine, Listed, Name, Point, Show};
 use cue_grid::{Cue, Grid, GridFault, unroll};
-use figure_expand::{ExpandFault, expand};
+use figure_expand::{ExpandFault, expand, expansion_law};
 use mem_chunks::MEMORY_BYTES;
-use mm_rounding::{MicroPiece, round_piece};
+use mm_rounding::{MicroPiece, round_piece, to_mm};
 use std::alloc::{AllocError, Global};
 use traj_codec::{Segments, Traj, encode, size_of};
 
+// A yaw in two bytes.
+fn yaw_of(v: i64) -> i16
+    requires { short v ≡ Some v }
+    ensures { result ≡ v }
+{
+    i16::try_from(v).unwrap()
+}
+
+// Where a trajectory starts that begins at this point.
+fn start_at(p: &Point) -> [i16; 4]
+    requires { StartsWell p.now }
+    ensures { result ≡ start_at p.now }
+{
+    let x = to_mm(p.x).unwrap();
+    let y = to_mm(p.y).unwrap();
+    let z = to_mm(p.z).unwrap();
+    let yaw = yaw_of(p.yaw);
+    [x, y, z, yaw]
+}
+
 // The trajectory of a drone that starts at this point.
 fn trajectory_of(alloc: Global, start: &Point, pieces: &[MicroPiece]) -> Result<Traj, AllocError>
-    requires start { IsFlyable start.now }
-    requires pieces { All IsHeld pieces.now }
+    requires start { StartsWell start.now }
+    requires pieces { All RoundsWell pieces.now }
     ensures { IfOk result (λ t. t ≡ trajectory_of start.now pieces.now) }
 {
     let mut segments = Vec::new(alloc);
@@ -37,7 +57,7 @@ fn trajectory_of(alloc: Global, start: &Point, pieces: &[MicroPiece]) -> Result<
         segments.push(segment)?;
     }
     Ok(Traj {
-        start: rounded(start),
+        start: start_at(start),
         segments: Segments::new(segments),
     })
 }
@@ -49,8 +69,8 @@ fn trajectories_of(
     rows: &[Vec<MicroPiece>],
 ) -> Result<Vec<Traj>, AllocError>
     requires count { length rows.now ≡ length starts.now }
-    requires starts { All StartsFlyable starts.now }
-    requires pieces { All (λ row. All IsHeld row) (map (λ row. row.items) rows.now) }
+    requires starts { All (λ (s : DroneLine). StartsWell s.at) starts.now }
+    requires pieces { All (All RoundsWell) (map (λ row. row.items) rows.now) }
     ensures { IfOk result (λ ts. ts.items ≡ trajectories_of starts.now (map (λ row. row.items) rows.now)) }
 {
     let mut trajs = Vec::new(alloc);
@@ -142,6 +162,7 @@ fn fitted(
     requires pieces { map (λ row. row.items) rows.now ≡ expanded grid.now }
     ensures { FitGives result (plain show.now) }
 {
+    expansion_law();
     let starts = grid.starts.as_slice();
     let cues = grid.cues.as_slice();
     let trajs = trajectories_of(alloc, starts, rows)?;

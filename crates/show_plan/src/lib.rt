@@ -1,27 +1,32 @@
-//! The plan of a show: from what a show says to the text that says the bytes of its trajectory.
+//! The plan of a show: from what a show says to the text that says the bytes of its trajectories.
 //!
-//! `fit` answers the trajectories of a whole show and their bytes, or the first reason why the show has no plan. What it
-//! answers is pinned by `specs/Fitting.antt`; `specs/Flight.antt` says how near the trajectories are to the show.
+//! `fit` answers the trajectories of a show and their bytes, or the first reason why the show has no plan. What it answers is
+//! pinned by `specs/Fitting.antt`: the trajectories are the rounded ones (`specs/Trajectories.antt`), the bytes are their
+//! spelling by `traj_codec` (docs/TRAJECTORY.md). At every instant, also between whole milliseconds, what a trajectory decodes
+//! to is within half a millimetre of what the show says, and the yaw is equal (`specs/Flight.antt`).
 //!
-//! `first_plan` answers the plan of a show of one drone that makes one move. What it answers is pinned by
-//! `specs/Plan.antt`: the trajectory is the rounded one, the bytes are its spelling by `traj_codec` (docs/TRAJECTORY.md),
-//! and at every instant, also between whole milliseconds, the position that they decode to is within half a millimetre of
-//! the one that the show says, and the yaw is equal (`specs/Near.antt`).
+//! `certificate` answers what keeps the drones of a show that fits apart, or the first part of a cue in which no direction
+//! separates two of them (`specs/Separation.antt`).
+//!
+//! `plan_text` answers the text with each drone's bytes, `ok_line` and `valid_line` what is said of an accepted show and of a
+//! valid certificate: byte by byte those of `specs/Texts.antt`.
 //!
 //! It stands on `choreo_reader` for what a show says, on `cue_grid` for its cues, on `figure_expand` and `mm_rounding` for
-//! its pieces, on `traj_codec` for trajectories, on `fleet_math` for floors and Bernstein sums, on `mem_chunks` for the size
-//! of a drone's memory, and on `fleet_io` for texts that grow.
+//! its pieces and where they round to, on `traj_codec` for trajectories, on `sep_parts`, `pair_search` and `sep_certificate`
+//! for their separation, on `mem_chunks` for the size of a drone's memory, and on `fleet_io` and `fault_lines` for texts.
 #![tactic(auto)]
 
 mod fitted;
 mod fitting;
-mod plan;
-mod rounding;
+mod separation;
 mod text;
 
 pub use fitted::{Fitted, PlanFault};
 pub use fitting::fit;
-pub use plan::first_plan;
+pub use separation::certificate;
+pub use text::{ok_line, plan_text, valid_line};
 
+#[cfg(test)]
+mod separation_tests;
 #[cfg(test)]
 mod tests;

@@ -1,47 +1,29 @@
 //! Shows whose plans or bytes are known from outside.
-ghost use Rattle.std.specs.Prelude.{◌≡◌, codes};
+ghost use Rattle.std.specs.Prelude.{IfOk};
+ghost use Rattle.show_plan.specs.Fitting.{IsValidFitted};
 
 use super::*;
-use arrayvec::ArrayVec;
-use choreo_reader::{First, MOST_BYTES, Point, read_show};
+use choreo_reader::{MOST_BYTES, read_show};
 use cue_grid::GridFault;
 use figure_expand::ExpandFault;
+use fleet_io::Lines;
 use std::alloc::Global;
-use std::test::Fail;
 
-fn solo() -> ArrayVec<u8, 16>
-    ensures { result.items ≡ codes "solo" }
+// What a text fits, or why not; nothing where it isn't a show.
+fn fitted_of(alloc: Global, text: &[u8]) -> Result<Fitted, Option<PlanFault>>
+    ensures { IfOk result (λ f. IsValidFitted f) }
 {
-    let mut name = ArrayVec::new();
-    name.try_extend_from_slice(b"solo").unwrap();
-    name
-}
-
-#[test]
-fn one_move(rt: HostRuntime) -> Result<(), Fail> {
-    let at = Point {
-        x: 0,
-        y: 0,
-        z: 1_000_000,
-        yaw: 0,
+    if text.len() > MOST_BYTES {
+        return Err(None);
+    }
+    let show = match read_show(alloc, text) {
+        Ok(show) => show,
+        Err(_) => return Err(None),
     };
-    let to = Point {
-        x: 1_000_000,
-        y: 0,
-        z: 1_000_000,
-        yaw: 0,
-    };
-    let first = First {
-        name: solo(),
-        at,
-        ms: 2000,
-        to,
-    };
-    let text = first_plan(rt.alloc(), &first)?;
-    let wanted =
-        b"plan 1\ndrone solo bytes 28 pieces 1\ndata 00 00 00 00 E8 03 00 00 03 D0 07 00 00 00 00 00 00 E8 03 E8 03 E8 03 E8 03 00 00 00\nend\n";
-    assert_eq!(rt; text.bytes(), wanted.as_slice());
-    Ok(())
+    match fit(alloc, &show) {
+        Ok(fitted) => Ok(fitted),
+        Err(fault) => Err(Some(fault)),
+    }
 }
 
 /// What becomes of a text: how many cues it has, its milliseconds, how many bytes its first drone has, and whether they begin
@@ -54,16 +36,10 @@ enum Outcome {
 }
 
 fn outcome_of(alloc: Global, text: &[u8], wanted: &[u8]) -> Outcome {
-    if text.len() > MOST_BYTES {
-        return Outcome::Other;
-    }
-    let show = match read_show(alloc, text) {
-        Ok(show) => show,
-        Err(_) => return Outcome::Other,
-    };
-    let fitted = match fit(alloc, &show) {
+    let fitted = match fitted_of(alloc, text) {
         Ok(fitted) => fitted,
-        Err(fault) => return Outcome::Fault(fault),
+        Err(Some(fault)) => return Outcome::Fault(fault),
+        Err(None) => return Outcome::Other,
     };
     match fitted.bytes.as_slice().first() {
         Some(bytes) => {
@@ -198,4 +174,56 @@ fn refusals(rt: HostRuntime) {
     for (text, fault) in rows {
         assert_eq!(rt; outcome_of(rt.alloc(), text, b""), Outcome::Fault(fault));
     }
+}
+
+fn plan_of(alloc: Global, text: &[u8]) -> Option<Lines> {
+    match fitted_of(alloc, text) {
+        Ok(fitted) => plan_text(alloc, &fitted).ok(),
+        Err(_) => None,
+    }
+}
+
+// The whole text: one drone, two drones with different bytes, and two pieces.
+#[test]
+fn plans(rt: HostRuntime) {
+    let rows = [
+        (
+            b"choreo 1\ndrone solo 0 0 1000000 0\ncue 2000\nsolo move 1000000 0 1000000 0\nend\n".as_slice(),
+            b"plan 1\ndrone solo bytes 28 pieces 1\ndata 00 00 00 00 E8 03 00 00 03 D0 07 00 00 00 00 00 00 E8 03 E8 03 E8 03 E8 03 00 00 00\nend\n".as_slice(),
+        ),
+        (
+            b"choreo 1\ndrone a 0 0 1000000 0\ndrone b 1000000 0 1000000 0\ncue 3000\nb move 1000000 0 2000000 0\nend\n".as_slice(),
+            b"plan 1\ndrone a bytes 14 pieces 1\ndata 00 00 00 00 E8 03 00 00 00 B8 0B 00 00 00\ndrone b bytes 28 pieces 1\ndata E8 03 00 00 E8 03 00 00 30 B8 0B E8 03 E8 03 E8 03 D0 07 D0 07 D0 07 D0 07 00 00 00\nend\n".as_slice(),
+        ),
+        (
+            b"choreo 1\ndrone solo 0 0 1000000 0\ncue 1000\nend\ncue 2000\nend\n".as_slice(),
+            b"plan 1\ndrone solo bytes 17 pieces 2\ndata 00 00 00 00 E8 03 00 00 00 E8 03 00 D0 07 00 00 00\nend\n".as_slice(),
+        ),
+    ];
+    for (text, wanted) in rows {
+        match plan_of(rt.alloc(), text) {
+            Some(plan) => assert_eq!(rt; plan.bytes(), wanted),
+            None => panic!(rt; "no plan of {text:?}"),
+        }
+    }
+}
+
+#[test]
+fn lines(rt: HostRuntime) {
+    assert_eq!(rt;
+        ok_line(2, 3, 9000).bytes(),
+        b"ok drones 2 cues 3 duration_ms 9000\n".as_slice()
+    );
+    assert_eq!(rt;
+        ok_line(32, 255, 16_711_425).bytes(),
+        b"ok drones 32 cues 255 duration_ms 16711425\n".as_slice()
+    );
+    assert_eq!(rt;
+        valid_line(6, 3).bytes(),
+        b"valid depth 6 trees 3\n".as_slice()
+    );
+    assert_eq!(rt;
+        valid_line(0, 0).bytes(),
+        b"valid depth 0 trees 0\n".as_slice()
+    );
 }

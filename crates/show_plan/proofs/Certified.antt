@@ -1,0 +1,183 @@
+-- What is true of the certificate with the largest leaves, where no part of a show is blocked.
+use Rattle.std.proofs.Common.{◌≡◌, ℕ, zero, suc, ◌*◌, ◌^◌, ◌≤◌, ◌<◌, arith, refl, sym, ap, subst, List, [], ◌∷◌, ◌++◌, length, length-append, map, All, Option, Some, None}
+use Rattle.std.specs.Option.{option_map, option_or}
+use Rattle.std.proofs.lemmas.List.{length-map}
+use Rattle.std.proofs.lemmas.List.Elements.{All-nil, All-cons, All-append}
+use Rattle.halving.specs.declared.Place.{Place}
+use Rattle.traj_codec.specs.declared.traj.Traj.{Traj}
+use Rattle.sep_parts.specs.declared.directions.TheConstants.{DIRECTIONS}
+use Rattle.sep_parts.specs.declared.slot.Slot.{Slot}
+use Rattle.sep_parts.specs.Directions.{direction_count}
+use Rattle.sep_parts.specs.Levels.{left_half, right_half, root}
+use Rattle.sep_parts.specs.Raised.{CurvesStandFor, Raised, difference, raised_of}
+use Rattle.sep_parts.specs.Slots.{cues_from, drones_from, pairs_from, slots}
+use Rattle.sep_certificate.specs.declared.certificate.Certificate.{Certificate}
+use Rattle.sep_certificate.specs.declared.certificate.Node.{Node}
+use Rattle.sep_certificate.specs.declared.certificate.Node.TheVariants.{Split, Leaf}
+use Rattle.sep_certificate.specs.Certificates.{AreValid, IsKnown, IsTree, IsValid, IsValidTree, IsWhole, Tree, leaf, split, preorder}
+use Rattle.sep_certificate.specs.Laws.{CertificateLaw}
+use Rattle.pair_search.specs.Laws.{SearchLaw}
+use Rattle.pair_search.specs.Search.{best_tree, blocked_place, split_of}
+use Rattle.choreo_reader.specs.declared.show.Settings.{Settings}
+use Rattle.show_plan.specs.declared.fitted.PlanFault.{PlanFault}
+use Rattle.show_plan.specs.Separation.{FlyApart, IsShowClear, IsSlotClear, best_certificate, best_nodes, blocked_at, blocked_in, blocked_part, direction_at, nodes_of, slots_of}
+use Rattle.show_plan.specs.Steps.{blocked_slot}
+
+-- ---- how many slots there are
+
+cues_counted : (n a b k : ℕ) → length (cues_from n a b k) ≡ n
+cues_counted zero a b k = refl
+cues_counted (suc n) a b k = ap suc (cues_counted n a b (suc k))
+
+few_pairs : (n cues a b : ℕ) → cues ≤ 255 → length (pairs_from n cues a b) ≤ n * 255
+few_pairs zero cues a b few = omega arith
+few_pairs (suc n) cues a b few =
+    omega (arith, length-append (cues_from cues a b 0) (pairs_from n cues a (suc b)), cues_counted cues a b 0, few_pairs n cues a (suc b) few, few)
+
+few_drones : (n cues a : ℕ) → n ≤ 32 → cues ≤ 255 → length (drones_from n cues a) ≤ n * 8160
+few_drones zero cues a small few = omega arith
+few_drones (suc n) cues a small few =
+    let others : length (drones_from n cues (suc a)) ≤ n * 8160 = few_drones n cues (suc a) (omega arith) few in
+    omega (arith, length-append (pairs_from n cues a (suc a)) (drones_from n cues (suc a)), few_pairs n cues a (suc a) few, others, small)
+
+few_slots : (drones cues : ℕ) → drones ≤ 32 → cues ≤ 255 → length (slots drones cues) < 2 ^ 31
+unfolding slots
+few_slots drones cues small few = omega (arith, few_drones drones cues 0 small few, small)
+
+-- ---- the leaves of a best tree
+
+module _ (first : Place → Option ℕ) (m : ℕ) (known : (place : Place) (dir : ℕ) → first place ≡ Some dir → dir < m) where
+  leaf_known : (place : Place) (o : Option ℕ) (tree : Tree) → first place ≡ o → option_map leaf o ≡ Some tree → All (IsKnown m) (preorder tree)
+  leaf_known place None tree e is = absurd (cc)
+  leaf_known place (Some dir) tree e is =
+      let tree_is : leaf dir ≡ tree = cc in
+      subst (λ (t : Tree). All (IsKnown m) (preorder t)) tree_is (All-cons (IsKnown m) (Leaf dir) [] (known place dir e) (All-nil (IsKnown m)))
+
+  split_known : (left right : Option Tree) (tree : Tree) → ((t : Tree) → left ≡ Some t → All (IsKnown m) (preorder t)) → ((t : Tree) → right ≡ Some t → All (IsKnown m) (preorder t)) →
+      split_of left right ≡ Some tree → All (IsKnown m) (preorder tree)
+  split_known None right tree on_left on_right is = absurd (cc)
+  split_known (Some left) None tree on_left on_right is = absurd (cc)
+  split_known (Some left) (Some right) tree on_left on_right is =
+      let tree_is : split left right ≡ tree = cc in
+      subst (λ (t : Tree). All (IsKnown m) (preorder t)) tree_is
+      (All-cons (IsKnown m) Split (preorder left ++ preorder right) tt (All-append (IsKnown m) (preorder left) (preorder right) (on_left left refl) (on_right right refl)))
+
+  either_known : (place : Place) (o : Option ℕ) (left right : Option Tree) (tree : Tree) → first place ≡ o →
+      ((t : Tree) → left ≡ Some t → All (IsKnown m) (preorder t)) → ((t : Tree) → right ≡ Some t → All (IsKnown m) (preorder t)) →
+      option_or (option_map leaf o) (split_of left right) ≡ Some tree → All (IsKnown m) (preorder tree)
+  either_known place None left right tree e on_left on_right is = split_known left right tree on_left on_right is
+  either_known place (Some dir) left right tree e on_left on_right is = leaf_known place (Some dir) tree e is
+
+  -- each leaf names a direction that is given for some place
+  pub best_known : (n : ℕ) (place : Place) (tree : Tree) → best_tree first n place ≡ Some tree → All (IsKnown m) (preorder tree)
+  best_known zero place tree is = leaf_known place (first place) tree refl is
+  best_known (suc n) place tree is =
+      either_known place (first place) (best_tree first n (left_half place)) (best_tree first n (right_half place)) tree refl
+      (best_known n (left_half place)) (best_known n (right_half place)) is
+
+-- ---- slot by slot
+
+none_mapped : (slot : Slot) (o : Option ℕ) → option_map (blocked_at slot) o ≡ None → o ≡ None
+none_mapped slot None e = refl
+none_mapped slot (Some index) e = absurd (cc)
+
+none_first : (a b : Option PlanFault) → option_or a b ≡ None → (a ≡ None) × (b ≡ None)
+none_first None b e = (refl, e)
+none_first (Some f) b e = absurd (cc)
+
+module _ (law : SearchLaw) (e : Settings) (depth : ℕ) (curves : Raised) where
+  slot_clear : (slot : Slot) → blocked_slot e depth curves slot ≡ None → IsSlotClear e depth curves slot
+  unfolding direction_at
+  slot_clear slot none =
+      (law.clear e.r e.h (difference curves slot.a slot.b slot.cue) DIRECTIONS.n depth).0
+      (none_mapped slot (blocked_place (direction_at e curves slot) depth) none)
+
+  -- the best tree of a slot without a blocked part
+  tree_there : (slot : Slot) → IsSlotClear e depth curves slot → (tree : Tree) × (best_tree (direction_at e curves slot) depth root ≡ Some tree)
+  unfolding direction_at
+  tree_there slot clear = (law.there e.r e.h (difference curves slot.a slot.b slot.cue) DIRECTIONS.n depth).1 clear
+
+  tree_valid : (slot : Slot) (tree : Tree) → best_tree (direction_at e curves slot) depth root ≡ Some tree →
+      IsValidTree (record { r = e.r; h = e.h; depth = depth }) DIRECTIONS.n (difference curves slot.a slot.b slot.cue) root tree
+  unfolding direction_at
+  tree_valid slot tree is = law.valid (record { r = e.r; h = e.h; depth = depth }) (difference curves slot.a slot.b slot.cue) DIRECTIONS.n tree is
+
+  direction_known : (slot : Slot) (place : Place) (dir : ℕ) → direction_at e curves slot place ≡ Some dir → dir < direction_count
+  unfolding direction_at
+  direction_known slot place dir is = ((law.first e.r e.h (difference curves slot.a slot.b slot.cue) DIRECTIONS.n place dir).0 is).inside
+
+  tree_known : (slot : Slot) (tree : Tree) → best_tree (direction_at e curves slot) depth root ≡ Some tree → All (IsKnown direction_count) (best_nodes e depth curves slot)
+  tree_known slot tree is =
+      subst (λ (nodes : List Node). All (IsKnown direction_count) nodes) (sym (ap nodes_of is))
+      (best_known (direction_at e curves slot) direction_count (direction_known slot) depth root tree is)
+
+  -- no slot is blocked: each is clear
+  pub all_clear : (ss : List Slot) → blocked_in e depth curves ss ≡ None → All (IsSlotClear e depth curves) ss
+  all_clear [] none = All-nil (IsSlotClear e depth curves)
+  all_clear (s ∷ ss) none =
+      let parts = none_first (blocked_slot e depth curves s) (blocked_in e depth curves ss) none in
+      All-cons (IsSlotClear e depth curves) s ss (slot_clear s parts.0) (all_clear ss parts.1)
+
+  all_valid : (ss : List Slot) → blocked_in e depth curves ss ≡ None → AreValid (record { r = e.r; h = e.h; depth = depth }) DIRECTIONS.n curves ss (map (best_nodes e depth curves) ss)
+  all_valid [] none = tt
+  all_valid (s ∷ ss) none =
+      let parts = none_first (blocked_slot e depth curves s) (blocked_in e depth curves ss) none in
+      let there = tree_there s (slot_clear s parts.0) in
+      ((there.0, ap nodes_of there.1, tree_valid s there.0 there.1), all_valid ss parts.1)
+
+  all_trees : (ss : List Slot) → blocked_in e depth curves ss ≡ None → All IsTree (map (best_nodes e depth curves) ss)
+  all_trees [] none = All-nil IsTree
+  all_trees (s ∷ ss) none =
+      let parts = none_first (blocked_slot e depth curves s) (blocked_in e depth curves ss) none in
+      let there = tree_there s (slot_clear s parts.0) in
+      All-cons IsTree (best_nodes e depth curves s) (map (best_nodes e depth curves) ss) (there.0, ap nodes_of there.1) (all_trees ss parts.1)
+
+  all_known : (ss : List Slot) → blocked_in e depth curves ss ≡ None → All (All (IsKnown direction_count)) (map (best_nodes e depth curves) ss)
+  all_known [] none = All-nil (All (IsKnown direction_count))
+  all_known (s ∷ ss) none =
+      let parts = none_first (blocked_slot e depth curves s) (blocked_in e depth curves ss) none in
+      let there = tree_there s (slot_clear s parts.0) in
+      All-cons (All (IsKnown direction_count)) (best_nodes e depth curves s) (map (best_nodes e depth curves) ss) (tree_known s there.0 there.1) (all_known ss parts.1)
+
+-- ---- the certificate
+
+-- what is promised of a certificate
+pub record IsCertified (e : Settings) (depth : ℕ) (trajs : List Traj) (cert : Certificate) : Type 0 where
+  pub whole : IsWhole direction_count cert
+  pub valid : IsValid DIRECTIONS.n (raised_of trajs) e.r e.h cert
+  pub clear : IsShowClear e depth trajs
+  pub apart : FlyApart e trajs
+
+best_whole : (e : Settings) (depth : ℕ) (trajs : List Traj) → SearchLaw → depth ≤ 8 → CurvesStandFor (raised_of trajs) trajs → blocked_part e depth trajs ≡ None →
+    IsWhole direction_count (best_certificate e depth trajs)
+best_whole e depth trajs law shallow stands none =
+    let curves : Raised = raised_of trajs in
+    let drones : curves.drones ≤ 32 = omega (arith, stands.drones, stands.one_show.few_drones) in
+    let cues : curves.cues ≤ 255 = omega (arith, stands.cues, stands.one_show.few_cues) in
+    record {
+      depth = shallow;
+      few = omega (arith, length-map (slots_of trajs) (best_nodes e depth curves), few_slots curves.drones curves.cues drones cues);
+      trees = all_trees law e depth curves (slots_of trajs) none;
+      leaves = all_known law e depth curves (slots_of trajs) none;
+    }
+
+best_certified : (e : Settings) (depth : ℕ) (trajs : List Traj) → SearchLaw → CertificateLaw → depth ≤ 8 → CurvesStandFor (raised_of trajs) trajs → blocked_part e depth trajs ≡ None →
+    IsCertified e depth trajs (best_certificate e depth trajs)
+best_certified e depth trajs law keeps shallow stands none =
+    let valid : IsValid DIRECTIONS.n (raised_of trajs) e.r e.h (best_certificate e depth trajs) = all_valid law e depth (raised_of trajs) (slots_of trajs) none in
+    record {
+      whole = best_whole e depth trajs law shallow stands none;
+      valid = valid;
+      clear = all_clear law e depth (raised_of trajs) (slots_of trajs) none;
+      apart = keeps DIRECTIONS.n (raised_of trajs) e.r e.h (best_certificate e depth trajs) valid trajs stands;
+    }
+
+-- The trees that are found over the curves of trajectories are a certificate of these.
+pub certified : (e : Settings) (depth : ℕ) (trajs : List Traj) (curves : Raised) (trees : List (List Node)) → SearchLaw → CertificateLaw → depth ≤ 8 → CurvesStandFor curves trajs → curves ≡ raised_of trajs →
+    (blocked_in e depth curves (slots curves.drones curves.cues) ≡ None) × (trees ≡ map (best_nodes e depth curves) (slots curves.drones curves.cues)) →
+    IsCertified e depth trajs (record { depth = depth; trees = trees })
+certified e depth trajs curves trees law keeps shallow stands is found =
+    let none : blocked_part e depth trajs ≡ None = subst (λ (c : Raised). blocked_in e depth c (slots c.drones c.cues) ≡ None) is found.0 in
+    let all : trees ≡ map (best_nodes e depth (raised_of trajs)) (slots_of trajs) = subst (λ (c : Raised). trees ≡ map (best_nodes e depth c) (slots c.drones c.cues)) is found.1 in
+    subst (λ (ts : List (List Node)). IsCertified e depth trajs (record { depth = depth; trees = ts })) (sym all)
+    (best_certified e depth trajs law keeps shallow (subst (λ (c : Raised). CurvesStandFor c trajs) is stands) none)

@@ -1,0 +1,70 @@
+-- The lines of drones, one drone after another.
+use Rattle.std.proofs.Common.{◌≡◌, ℕ, zero, suc, ◌+◌, ◌<◌, ◌≤◌, true, List, [], ◌∷◌, ◌++◌, map, length, drop, get_or, codes, append_assoc, append-nil, arith, refl, sym, ap, ◌∙◌}
+use Rattle.std.proofs.lemmas.List.{drop_all, drop_more}
+use Rattle.fleet_io.specs.Words.{is_line_empty, hex_word}
+use Rattle.fleet_io.proofs.WordLaws.{fresh_after_line}
+use Rattle.choreo_lines.specs.Name.{Name}
+use Rattle.traj_codec.specs.declared.traj.Traj.{Traj}
+use Rattle.traj_codec.specs.Spelling.{ending, IsEncoding}
+use Rattle.show_plan.specs.Fitting.{AreEncodings}
+use Rattle.show_plan.specs.Texts.{sent_bytes, drone_line, data_line, drone_part, drone_parts}
+
+-- an encoding is what a trajectory is sent as
+sent_is : (bytes : List ℕ) (t : Traj) → IsEncoding bytes t → bytes ≡ sent_bytes t
+sent_is bytes t is = is.ended ∙ ap (λ (spelled : List ℕ). spelled ++ ending) is.spells.text
+
+-- the line of a drone and then that of its bytes are its lines
+pub part_is : (text first : List ℕ) (name bytes : List ℕ) (t : Traj) → IsEncoding bytes t → first ≡ text ++ drone_line name bytes (length t.segments) →
+    first ++ data_line bytes ≡ text ++ drone_part name t
+part_is text first name bytes t is first_is =
+    ap (λ (xs : List ℕ). xs ++ data_line bytes) first_is
+    ∙ append_assoc text (drone_line name bytes (length t.segments)) (data_line bytes)
+    ∙ ap (λ (sent : List ℕ). text ++ (drone_line name sent (length t.segments) ++ data_line sent)) (sent_is bytes t is)
+
+-- behind the lines of a drone the last line is empty
+part_fresh : (text name : List ℕ) (t : Traj) → is_line_empty (text ++ drone_part name t) ≡ true
+part_fresh text name t =
+    ap is_line_empty (sym (append_assoc text (drone_line name (sent_bytes t) (length t.segments)) (data_line (sent_bytes t))))
+    ∙ fresh_after_line (text ++ drone_line name (sent_bytes t) (length t.segments)) (codes "data") (map hex_word (sent_bytes t))
+
+-- one drone's lines more: what is to come is less by them, and the last line is empty
+pub parts_next : (text more : List ℕ) (names : List Name) (ts : List Traj) (k : ℕ) (name : Name) (t : Traj) →
+    k < length names → length ts ≡ length names → name ≡ get_or names k name → t ≡ get_or ts k t → more ≡ text ++ drone_part name.items t →
+    (more ++ drone_parts (drop (k + 1) names) (drop (k + 1) ts) ≡ text ++ drone_parts (drop k names) (drop k ts)) × (is_line_empty more ≡ true)
+parts_next text more names ts k name t within many name_is t_is more_is =
+    let also : k < length ts = omega (arith, many, within) in
+    let here : List ℕ = drone_part name.items t in
+    let rest : List ℕ = drone_parts (drop (k + 1) names) (drop (k + 1) ts) in
+    let drops : drone_parts (drop k names) (drop k ts) ≡ here ++ rest =
+    ap (λ (ns : List Name). drone_parts ns (drop k ts)) (drop_more names k name within ∙ ap (λ (n : Name). n ∷ drop (k + 1) names) (sym name_is))
+    ∙ ap (λ (us : List Traj). drone_parts (name ∷ drop (k + 1) names) us) (drop_more ts k t also ∙ ap (λ (u : Traj). u ∷ drop (k + 1) ts) (sym t_is)) in (
+      ap (λ (xs : List ℕ). xs ++ rest) more_is ∙ append_assoc text here rest ∙ ap (λ (xs : List ℕ). text ++ xs) (sym drops),
+      ap is_line_empty more_is ∙ part_fresh text name.items t,
+    )
+
+-- behind the last drone nothing is to come
+pub parts_over : (text : List ℕ) (names : List Name) (ts : List Traj) (k : ℕ) → length names ≤ k → text ++ drone_parts (drop k names) (drop k ts) ≡ text
+parts_over text names ts k over = ap (λ (ns : List Name). text ++ drone_parts ns (drop k ts)) (drop_all k names over) ∙ append-nil text
+
+-- behind the lines of drones the last line is empty, where it was before
+pub parts_fresh : (text : List ℕ) (names : List Name) (ts : List Traj) → is_line_empty text ≡ true → is_line_empty (text ++ drone_parts names ts) ≡ true
+parts_fresh text [] ts fresh = ap is_line_empty (append-nil text) ∙ fresh
+parts_fresh text (name ∷ names) [] fresh = ap is_line_empty (append-nil text) ∙ fresh
+parts_fresh text (name ∷ names) (t ∷ ts) fresh =
+    ap is_line_empty (sym (append_assoc text (drone_part name.items t) (drone_parts names ts)))
+    ∙ parts_fresh (text ++ drone_part name.items t) names ts (part_fresh text name.items t)
+
+-- there are as many lists of bytes as trajectories
+pub encodings_counted : (rows : List (List ℕ)) (ts : List Traj) → AreEncodings rows ts → length rows ≡ length ts
+encodings_counted [] [] are = refl
+encodings_counted [] (t ∷ ts) are = absurd are
+encodings_counted (bytes ∷ rows) [] are = absurd are
+encodings_counted (bytes ∷ rows) (t ∷ ts) are = ap suc (encodings_counted rows ts are.1)
+
+-- the bytes with a number are the encoding of the trajectory with this number
+pub encoding_at : (rows : List (List ℕ)) (ts : List Traj) (k : ℕ) (other : List ℕ) (unlike : Traj) → AreEncodings rows ts → k < length ts → IsEncoding (get_or rows k other) (get_or ts k unlike)
+encoding_at [] [] k other unlike are within = absurd (omega arith)
+encoding_at [] (t ∷ ts) k other unlike are within = absurd are
+encoding_at (bytes ∷ rows) [] k other unlike are within = absurd are
+encoding_at (bytes ∷ rows) (t ∷ ts) zero other unlike are within = are.0
+encoding_at (bytes ∷ rows) (t ∷ ts) (suc k) other unlike are within = encoding_at rows ts k other unlike are.1 (omega arith)

@@ -1,0 +1,24 @@
+use Rattle.std.proofs.Common.{List, subst, ◌∙◌, ap}
+use Rattle.traj_codec.specs.declared.traj.Traj.{Traj}
+use Rattle.sep_parts.specs.Raised.{CurvesStandFor, raised_of}
+use Rattle.show_plan.proofs.Certified.{IsCertified, certified}
+use Rattle.show_plan.proofs.separation.certificate.Goals as goal
+
+found : (c : goal.After-drop-curves-inside-2) → IsCertified c.args.f.now.settings c.args.depth c.args.f.now.trajs (record { depth = c.args.depth; trees = c.in_ok-trees.trees })
+found c =
+    certified c.args.f.now.settings c.args.depth c.args.f.now.trajs c.in_ok-curves.curves c.in_ok-trees.trees c.search_law.ensures c.certificate_law.ensures c.requires.depth
+    (subst (λ (ts : List Traj). CurvesStandFor c.in_ok-curves.curves ts) c.as_slice.ensures c.in_ok-curves.ensures.stands)
+    (c.in_ok-curves.ensures.exact ∙ ap (λ (ts : List Traj). raised_of ts) c.as_slice.ensures)
+    c.in_ok-trees.ensures
+
+pub returns-clause-whole : goal.returns-clause-whole
+returns-clause-whole c = (found c).whole
+
+pub returns-clause-valid : goal.returns-clause-valid
+returns-clause-valid c = (found c).valid
+
+pub returns-clause-clear : goal.returns-clause-clear
+returns-clause-clear c ok = (found c).clear
+
+pub returns-clause-apart : goal.returns-clause-apart
+returns-clause-apart c ok = (found c).apart

@@ -1,0 +1,11 @@
+use Rattle.std.proofs.Common.{◌≡◌, ◌++◌, true, drop}
+use Rattle.fleet_io.specs.Words.{is_line_empty}
+use Rattle.show_plan.specs.Texts.{drone_parts}
+use Rattle.show_plan.proofs.text.put_parts.Given as goal
+
+-- the lines so far
+abbrev pub invariant-loop-d : goal.invariant-loop-d
+invariant-loop-d l = record {
+  fresh : is_line_empty l.text ≡ true;
+  so_far : l.text ++ drone_parts (drop l.d l.names) (drop l.d l.trajs) ≡ l.initial.text ++ drone_parts l.names l.trajs;
+}

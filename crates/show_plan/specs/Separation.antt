@@ -1,0 +1,79 @@
+-- What keeps the drones of a show apart: a certificate with the largest possible leaves, or the first part of a cue in which no
+-- direction separates two drones.
+use Rattle.std.specs.Prelude.{◌≡◌, ℕ, ◌*◌, ◌≤◌, List, [], ◌∷◌, length, map, slice_get, Option, Some, None, Result, Ok, Err}
+use Rattle.std.specs.Option.{option_map, option_or}
+use Rattle.std.specs.List.{All, sum}
+use Rattle.fleet_math.specs.Moments.{moment}
+use Rattle.halving.specs.declared.Place.{Place}
+use Rattle.traj_codec.specs.declared.traj.Traj.{Traj}
+use Rattle.traj_codec.specs.Positions.{durations}
+use Rattle.sep_parts.specs.declared.directions.TheConstants.{DIRECTIONS}
+use Rattle.sep_parts.specs.declared.slot.Slot.{Slot}
+use Rattle.sep_parts.specs.Apart.{AreApart}
+use Rattle.sep_parts.specs.Levels.{root}
+use Rattle.sep_parts.specs.Raised.{Raised, difference, raised_of}
+use Rattle.sep_parts.specs.Slots.{slots}
+use Rattle.sep_certificate.specs.declared.certificate.Node.{Node}
+use Rattle.sep_certificate.specs.declared.certificate.Certificate.{Certificate}
+use Rattle.sep_certificate.specs.Certificates.{Tree, preorder}
+use Rattle.pair_search.specs.Search.{first_direction, blocked_place, best_tree, IsClear}
+use Rattle.choreo_reader.specs.declared.show.Settings.{Settings}
+use Rattle.show_plan.specs.declared.fitted.PlanFault.{PlanFault}
+use Rattle.show_plan.specs.declared.fitted.PlanFault.TheVariants as fault
+
+-- the first direction of the table that separates the pair of a slot in a place of its cue
+unfoldable pub direction_at : Settings → Raised → Slot → Place → Option ℕ
+direction_at e curves slot = first_direction e.r e.h (difference curves slot.a slot.b slot.cue) DIRECTIONS.n
+
+-- the pair of a slot is blocked in this part of its cue
+abbrev pub blocked_at : Slot → ℕ → PlanFault
+blocked_at slot index = fault.Blocked slot.a slot.b slot.cue index
+
+-- the first part of the depth, slot by slot, that no direction separates
+abbrev pub blocked_in : Settings → ℕ → Raised → List Slot → Option PlanFault
+blocked_in e depth curves [] = None
+blocked_in e depth curves (slot ∷ others) =
+    option_or (option_map (blocked_at slot) (blocked_place (direction_at e curves slot) depth)) (blocked_in e depth curves others)
+
+-- the slots of trajectories of one show: each pair in each cue
+abbrev pub slots_of : List Traj → List Slot
+slots_of trajs = slots (raised_of trajs).drones (raised_of trajs).cues
+
+-- the first part of the depth, in the order pair, cue, part, in which no direction separates two of these trajectories
+abbrev pub blocked_part : Settings → ℕ → List Traj → Option PlanFault
+blocked_part e depth trajs = blocked_in e depth (raised_of trajs) (slots_of trajs)
+
+-- a tree's nodes in preorder, where there is a tree
+abbrev pub nodes_of : Option Tree → List Node
+nodes_of None = []
+nodes_of (Some tree) = preorder tree
+
+-- the nodes of the tree with the largest possible leaves, each with its first separating direction
+abbrev pub best_nodes : Settings → ℕ → Raised → Slot → List Node
+best_nodes e depth curves slot = nodes_of (best_tree (direction_at e curves slot) depth root)
+
+-- the certificate with the largest possible leaves, for trajectories of which no part of the depth is blocked
+abbrev pub best_certificate : Settings → ℕ → List Traj → Certificate
+best_certificate e depth trajs = record { depth = depth; trees = map (best_nodes e depth (raised_of trajs)) (slots_of trajs) }
+
+-- The certificate with the largest leaves, where no part is blocked; else the first part that is. Want of memory says nothing.
+abbrev pub CertificateGives : Settings → ℕ → List Traj → Result Certificate PlanFault → Type 0
+CertificateGives e depth trajs (Ok cert) = (blocked_part e depth trajs ≡ None) × (cert ≡ best_certificate e depth trajs)
+CertificateGives e depth trajs (Err (fault.Blocked a b cue index)) = blocked_part e depth trajs ≡ Some (fault.Blocked a b cue index)
+CertificateGives e depth trajs (Err fault.Memory) = Unit {0}
+CertificateGives e depth trajs (Err _) = ⊥
+
+-- each part of the depth of the pair's cue has a separating direction
+abbrev pub IsSlotClear : Settings → ℕ → Raised → Slot → Type 0
+IsSlotClear e depth curves slot = IsClear e.r e.h (difference curves slot.a slot.b slot.cue) DIRECTIONS.n depth
+
+-- each part of the depth has a separating direction, for each pair in each cue
+abbrev pub IsShowClear : Settings → ℕ → List Traj → Type 0
+IsShowClear e depth trajs = All (IsSlotClear e depth (raised_of trajs)) (slots_of trajs)
+
+-- Each two different drones are apart at each instant p / q of the show, p and q any whole numbers: the closed ellipsoids around
+-- their decoded positions share no point.
+abbrev pub FlyApart : Settings → List Traj → Type 0
+FlyApart e trajs =
+    (a b : ℕ) (t u : Traj) → (a ≡ b → ⊥) → slice_get trajs a ≡ Some t → slice_get trajs b ≡ Some u →
+    (p q : ℕ) → 1 ≤ q → p ≤ q * sum (durations t.segments) → AreApart t u e.r e.h (moment (durations t.segments) p q)
