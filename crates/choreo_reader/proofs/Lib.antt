@@ -1,6 +1,6 @@
 pub mod Blocks
 pub mod Opened
-pub mod Whole
+pub mod OneLine
 pub mod Complete
 pub mod CompleteShow
 pub mod Sound

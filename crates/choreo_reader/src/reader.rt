@@ -1,21 +1,25 @@
 //! A show that is read line by line.
 
-ghost use Rattle.std.specs.Prelude.{◌≡◌, ℕ, List, take, drop, ◌+◌, ◌<◌, ◌≤◌, length, OnOk, IfOk, ◌++◌, ◌∷◌, []};
+ghost use Rattle.std.specs.Prelude.{◌≡◌, ℕ, List, take, drop, ◌+◌, ◌<◌, ◌≤◌, length, OnOk, IfOk, MatchResult, ◌++◌, ◌∷◌, []};
 ghost use Rattle.choreo_reader.specs.Plain.{block_of, body_of, plain as plain_show, PlainShow, ◌⨾◌};
 ghost use Rattle.choreo_reader.specs.Grammar.{StandsFor};
 ghost use Rattle.choreo_reader.specs.Plain as plain;
 ghost use Rattle.choreo_reader.specs.Valid.{IsValid};
-ghost use Rattle.choreo_reader.specs.Reader.{open_of, opens_of, built_of, Steps, ShowGives, FaultGives};
+ghost use Rattle.choreo_reader.specs.Reader.{open_of, opens_of, built_of, Steps, ShowGives, ReadingFails, FaultGives};
 ghost use Rattle.choreo_reader.specs.Context.{is_figure as is_figure_of, is_repeat as is_repeat_of, in_figure as in_figure_of, repeats as repeats_of, place_of, is_empty_block as is_empty_block_of, is_header as is_header_of, fault};
-ghost use Rattle.text_lines.specs.Tokens.{words_in, lines_in};
+ghost use Rattle.choreo_reader.specs.Text.{show_lines};
+ghost use Rattle.text_lines.specs.Lines.{lines_of, between_feeds};
+ghost use Rattle.text_lines.specs.Words.{visible, words_of, line_with, numbered};
+ghost use Rattle.text_lines.specs.Tokens.{words_in};
+ghost use Rattle.text_lines.specs.declared.token.Comments.TheVariants.{FromHash};
 ghost use Rattle.choreo_reader.specs.Reading.{entry_fault as entry_fault_of, with_block as with_block_of, act_added, place_added, add_block as add_block_of, close as close_of, close_innermost as close_innermost_of, with_act as with_act_of, with_place as with_place_of, nothing, build, opening_of, openings_of, context_of, line_step, lines_step, finish as finish_of, read_lines, reading};
 
 use crate::fault::ShowFault;
 use crate::show::{ActLine, Block, DroneLine, Figure, Formation, Settings, Show};
-use crate::token::{MOST_BYTES, tokens};
+use crate::token::{MOST_BYTES, first_bad_line, line_words};
 use choreo_lines::{Entry, LineError, LineKind, Listed, Name, Place, entry_of};
 use std::alloc::{AllocError, Global};
-use text_lines::{Token, line_word_count, word_at};
+use text_lines::{Token, split_line, word_at};
 
 /// How many repeats may stand inside each other (docs/LANGUAGE.md, "A repeat").
 const MOST_NESTED: usize = 8;
@@ -432,15 +436,31 @@ impl Reader {
         }
     }
 
-    // Reads the lines of these words.
-    fn lines(&mut self, alloc: Global, text: &[u8], tokens: &[Token]) -> Result<(), ShowFault>
-        ensures { Steps result (built_of self.new) (lines_step (built_of self.old) (lines_in text.now tokens.now)) }
+    // Reads one more line of the text, which may have no words.
+    fn text_line(&mut self, alloc: Global, line: &[u8], number: u32) -> Result<(), ShowFault>
+        requires within { length line.now ≤ MOST_BYTES }
+        requires one { between_feeds line.now ≡ line.now ∷ [] }
+        ensures { Steps result (built_of self.new) (lines_step (built_of self.old) (line_with number (words_of (visible FromHash line.now)) [])) }
     {
-        let mut rest = tokens;
-        while !rest.is_empty() {
-            let (words, later) = rest.split_at(line_word_count(rest));
-            self.line(alloc, text, words, rest[0].line)?;
-            rest = later;
+        let words = line_words(alloc, line)?;
+        if words.is_empty() {
+            return Ok(());
+        }
+        self.line(alloc, line, words.as_slice(), number)
+    }
+
+    // Reads the lines of a text, the first of which has this number.
+    fn lines(&mut self, alloc: Global, text: &[u8], first: u32) -> Result<(), ShowFault>
+        requires within { length text.now ≤ MOST_BYTES }
+        requires few { first + length text.now ≤ MOST_BYTES + 1 }
+        ensures { Steps result (built_of self.new) (lines_step (built_of self.old) (numbered FromHash first (lines_of text.now))) }
+    {
+        let mut number = first;
+        let mut rest = text;
+        'lines: while let Some((line, behind)) = split_line(rest) {
+            self.text_line(alloc, line, number)?;
+            number += 1;
+            rest = behind;
         }
         Ok(())
     }
@@ -504,36 +524,60 @@ fn is_header(text: &[u8], words: &[Token]) -> bool
         && word_at(text, &words[1]) == b"1".as_slice()
 }
 
-// The show of these words.
-fn read_words(alloc: Global, text: &[u8], words: &[Token]) -> Result<Show, ShowFault>
-    ensures { ShowGives plain_show result (read_lines (lines_in text.now words.now)) }
+// What stands behind the header, which is the first line with words, and the number of the line there.
+fn behind_header(alloc: Global, text: &[u8]) -> Result<(&[u8], u32), ShowFault>
+    requires { length text.now ≤ MOST_BYTES }
+    ensures { MatchResult result
+        (λ cut. (read_lines (show_lines text.now) ≡ finish_of (lines_step nothing (numbered FromHash cut.1 (lines_of cut.0.now))))
+        × (cut.1 + length cut.0.now ≤ length text.now + 1)
+        × (length cut.0.now ≤ length text.now))
+        (λ e. ReadingFails e (read_lines (show_lines text.now))) }
 {
-    if words.is_empty() {
-        return Err(ShowFault::Line {
-            line: 1,
-            kind: LineKind::Header,
-        });
+    let mut number: u32 = 1;
+    let mut rest = text;
+    'lines: while let Some((line, behind)) = split_line(rest) {
+        let words = line_words(alloc, line)?;
+        if !words.is_empty() {
+            if is_header(line, words.as_slice()) {
+                return Ok((behind, number + 1));
+            }
+            return Err(ShowFault::Line {
+                line: number,
+                kind: LineKind::Header,
+            });
+        }
+        number += 1;
+        rest = behind;
     }
-    let (first, rest) = words.split_at(line_word_count(words));
-    if !is_header(text, first) {
-        return Err(ShowFault::Line {
-            line: words[0].line,
-            kind: LineKind::Header,
-        });
-    }
+    Err(ShowFault::Line {
+        line: 1,
+        kind: LineKind::Header,
+    })
+}
+
+// The show of a text without a forbidden byte. The words of one line at a time are in memory.
+fn read_allowed(alloc: Global, text: &[u8]) -> Result<Show, ShowFault>
+    requires { length text.now ≤ MOST_BYTES }
+    ensures { ShowGives plain_show result (read_lines (show_lines text.now)) }
+{
+    let (rest, number) = behind_header(alloc, text)?;
     let mut reader = Reader::new(alloc);
-    reader.lines(alloc, text, rest)?;
+    reader.lines(alloc, rest, number)?;
     reader.finish()
 }
 
 // The show of a text, or its first fault.
-#[tactic(auto, using(crate::proofs::Whole::whole))]
 fn read_text(alloc: Global, text: &[u8]) -> Result<Show, ShowFault>
     requires { length text.now ≤ MOST_BYTES }
     ensures { ShowGives plain_show result (reading text.now) }
 {
-    let words = tokens(alloc, text)?;
-    read_words(alloc, text, words.as_slice())
+    if let Some(line) = first_bad_line(text) {
+        return Err(ShowFault::Line {
+            line,
+            kind: LineKind::BadByte,
+        });
+    }
+    read_allowed(alloc, text)
 }
 
 /// The show that a text of at most [`MOST_BYTES`] bytes stands for, or its first faulty line, from 1, and what is wrong

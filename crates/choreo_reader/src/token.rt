@@ -1,12 +1,16 @@
 //! The words of a show's text.
 
-ghost use Rattle.std.specs.Prelude.{◌≡◌, ◌≤◌, length, MatchOption, None, Some};
+ghost use Rattle.std.specs.Prelude.{◌≡◌, ◌≤◌, length, [], ◌∷◌, MatchOption, None, Some, IfOk};
 ghost use Rattle.choreo_lines.specs.declared.line.LineKind.TheVariants as kind;
+ghost use Rattle.text_lines.specs.declared.token.Comments.TheVariants.{FromHash};
+ghost use Rattle.text_lines.specs.Lines.{between_feeds};
+ghost use Rattle.text_lines.specs.Words.{visible as visible_of, words_of};
+ghost use Rattle.text_lines.specs.Tokens.{words_in};
 ghost use Rattle.choreo_reader.specs.Text.{is_allowed as is_allowed_of, are_allowed as are_allowed_of, forbidden, fault_at, TokensGive};
 
 use crate::fault::ShowFault;
 use choreo_lines::LineKind;
-use std::alloc::Global;
+use std::alloc::{AllocError, Global};
 use text_lines::{Comments, Token, split_line, visible};
 
 /// The bytes of the longest text of a show.
@@ -25,7 +29,7 @@ fn are_allowed(bytes: &[u8]) -> bool
 }
 
 // The first line that has a forbidden byte.
-fn first_bad_line(text: &[u8]) -> Option<u32>
+pub(crate) fn first_bad_line(text: &[u8]) -> Option<u32>
     requires { length text.now ≤ MOST_BYTES }
     ensures { MatchOption result (forbidden text.now ≡ None) (λ line. forbidden text.now ≡ Some (fault_at line kind.BadByte)) }
 {
@@ -39,6 +43,16 @@ fn first_bad_line(text: &[u8]) -> Option<u32>
         rest = behind;
     }
     None
+}
+
+// The words of a line on its own, outside its comment.
+#[tactic(auto, using(crate::proofs::OneLine::one_line))]
+pub(crate) fn line_words(alloc: Global, line: &[u8]) -> Result<Vec<Token>, AllocError>
+    requires within { length line.now ≤ MOST_BYTES }
+    requires one { between_feeds line.now ≡ line.now ∷ [] }
+    ensures { IfOk result (λ words. words_in line.now words.items ≡ words_of (visible_of FromHash line.now)) }
+{
+    text_lines::tokens(alloc, line, Comments::FromHash)
 }
 
 /// The words of a text outside comments in order, each with its line and its place.

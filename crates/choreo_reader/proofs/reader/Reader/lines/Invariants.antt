@@ -1,12 +1,17 @@
-use Rattle.std.proofs.Common.{◌≡◌, length}
-use Rattle.text_lines.specs.Tokens.{lines_in}
+use Rattle.std.proofs.Common.{◌≡◌, ◌+◌, ◌≤◌, length}
+use Rattle.text_lines.specs.declared.token.Comments.TheVariants.{FromHash}
+use Rattle.text_lines.specs.Lines.{lines_of}
+use Rattle.text_lines.specs.Words.{numbered}
 use Rattle.choreo_reader.specs.Reading.{lines_step}
 use Rattle.choreo_reader.specs.Reader.{built_of}
 use Rattle.choreo_reader.proofs.reader.Reader.lines.Given as goal
 
-abbrev pub invariant-loop-rest : goal.invariant-loop-rest
-invariant-loop-rest l =
-    lines_step (built_of l.fn.self) (lines_in l.text l.tokens) ≡ lines_step (built_of l.self) (lines_in l.text l.rest)
+abbrev pub invariant-lines : goal.invariant-lines
+invariant-lines l = record {
+  so_far : lines_step (built_of l.fn.self) (numbered FromHash l.first (lines_of l.text)) ≡ lines_step (built_of l.self) (numbered FromHash l.number (lines_of l.rest));
+  within : length l.rest ≤ length l.text;
+  few : l.number + length l.rest ≤ l.first + length l.text;
+}
 
-abbrev pub decreases-loop-rest : goal.decreases-loop-rest
-decreases-loop-rest l = length l.rest
+abbrev pub decreases-lines : goal.decreases-lines
+decreases-lines l = length l.rest
