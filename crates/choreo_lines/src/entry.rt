@@ -276,7 +276,7 @@ fn end_line(text: &[u8], words: &[Token]) -> Result<Entry, LineKind>
 fn names_in(alloc: Global, text: &[u8], words: &[Token]) -> Result<Listed<Name>, LineError>
     ensures { Gives result (spec.names_in (words_in text.now words.now)) }
 {
-    let mut names = Vec::new(alloc);
+    let mut names = Vec::with_capacity(alloc, words.len())?;
     for token in words {
         let name = name(word_at(text, token))?;
         names.push(name)?;

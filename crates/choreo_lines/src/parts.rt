@@ -20,9 +20,11 @@ impl<T> Model for Listed<T> {
 impl<T> Listed<T> {
     ghost use Rattle.std.specs.Prelude.{◌≡◌};
 
-    pub fn from_vec(items: Vec<T>) -> Self
+    /// These items, which stay as they are from here on: room for more of them is given back.
+    pub fn from_vec(mut items: Vec<T>) -> Self
         ensures { result ≡ items.items }
     {
+        items.shrink_to_fit();
         Listed { items }
     }
 

@@ -153,6 +153,14 @@ fn put(body: &mut Vec<Block>, block: Block) -> Result<(), AllocError>
     Ok(())
 }
 
+// A body that is whole, so that it needs no room for more blocks.
+fn fitted(mut body: Vec<Block>) -> Vec<Block>
+    ensures { result.items ≡ body.items }
+{
+    body.shrink_to_fit();
+    body
+}
+
 // An open block with one more block at its end.
 fn with_block(outer: OpenBlock, block: Block) -> Result<OpenBlock, AllocError>
     ensures { IfOk result (λ o. open_of o ≡ with_block_of (open_of outer) (block_of block plain.Done)) }
@@ -271,12 +279,16 @@ impl Reader {
                     line,
                     name,
                     roles,
-                    body,
+                    body: fitted(body),
                 })?;
                 Ok(())
             }
             OpenBlock::Repeat { line, times, body } => {
-                self.add_block(Block::Repeat { line, times, body })
+                self.add_block(Block::Repeat {
+                    line,
+                    times,
+                    body: fitted(body),
+                })
             }
             OpenBlock::Cue { line, ms, acts } => self.add_block(Block::Cue {
                 line,
@@ -498,7 +510,7 @@ impl Reader {
             drones: Listed::from_vec(drones),
             formations: Listed::from_vec(formations),
             figures: Listed::from_vec(figures),
-            body,
+            body: fitted(body),
         })
     }
 }

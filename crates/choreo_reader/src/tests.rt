@@ -322,7 +322,12 @@ fn lines_at_top_are_judged(rt: HostRuntime) {
 #[test]
 fn lines_in_blocks_are_judged(rt: HostRuntime) {
     let alloc = rt.alloc();
-    let faults: [(&[u8], u32, LineKind); 24] = [
+    let faults: [(&[u8], u32, LineKind); 25] = [
+        (
+            b"# a show\n \t\r\nchoreo 1 # first\r\n\ncue 1#\x01\n# inside\n\nsolo jump 0",
+            8,
+            LineKind::BadWord,
+        ),
         (b"choreo 1\nformation f\nend\n", 3, LineKind::EmptyBlock),
         (b"choreo 1\nformation f\nend x\n", 3, LineKind::BadCount),
         (

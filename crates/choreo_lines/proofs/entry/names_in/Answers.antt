@@ -13,7 +13,7 @@ loop-token-preserved c =
 
 pub returns-in_err-name : goal.returns-in_err-name
 returns-in_err-name c =
-    let p = err_from_is_err_and c.from_residual.result c.from_residual.ensures.1 in
+    let p = err_from_is_err_and c.from_residual-in_err-name.result c.from_residual-in_err-name.ensures.1 in
     rw (p.1, p.2)
     (c.loop-token.invariant ∙ names_err _ _ _ _ _ _ c.loop-token-test.true (sym (c.in_err-name.ensures ∙ ap name_in c.word_at.ensures)))
 
