@@ -1,1 +1,5 @@
+pub mod Commands
 pub mod Outcome
+pub mod Input
+pub mod Answers
+pub mod Runs

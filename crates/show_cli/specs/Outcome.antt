@@ -1,22 +1,47 @@
 -- What a run of the program answers, and what it writes.
-use Rattle.std.specs.Prelude.{◌≡◌, ◌⊎◌, ℕ, ◌≤◌, List, [], ◌∷◌, false, length, map, codes, string_bytes, Option, Some, IfSome}
-use Rattle.std.specs.Prelude.{String}
-use Rattle.std.specs.declared.alloc.Global.{Global}
+use Rattle.std.specs.Prelude.{◌≡◌, ◌⊎◌, ℕ, suc, ◌≤◌, nat_lt, ◌==◌, Bool, List, [], ◌∷◌, length, map, slice_index_or, Option, Some, None, if◌then◌else◌}
+use Rattle.std.specs.Option.{option_map, option_or}
+use Rattle.std.specs.List.{sum}
+use Rattle.std.specs.Str.Lines.{lines}
 use Rattle.text_lines.specs.Lines.{between_feeds}
-use Rattle.text_lines.specs.Marker.{has_marker}
-use Rattle.fleet_io.specs.Causes.{Rose}
-use Rattle.choreo_reader.specs.First.{Said, IsFirst}
-use Rattle.show_plan.specs.Plan.{IsPlan}
+use Rattle.text_lines.specs.Marker.{has_marker, part_of, rest_of}
+use Rattle.choreo_lines.specs.Name.{Name}
+use Rattle.choreo_reader.specs.declared.show.DroneLine.{DroneLine}
+use Rattle.choreo_reader.specs.Plain.{PlainShow}
+use Rattle.choreo_reader.specs.Grammar.{StandsFor}
+use Rattle.choreo_reader.specs.Context.{fault}
+use Rattle.choreo_reader.specs.Text.{Fault}
+use Rattle.cue_grid.specs.Cues.{grid_of}
+use Rattle.cue_grid.specs.Faults.{grid_fault}
+use Rattle.figure_expand.specs.declared.fault.ExpandFault.TheVariants as expand
+use Rattle.figure_expand.specs.Expanded.{range_fault}
+use Rattle.traj_codec.specs.declared.traj.Traj.{Traj}
+use Rattle.sep_parts.specs.declared.directions.TheConstants.{DIRECTIONS}
+use Rattle.sep_parts.specs.Raised.{raised_of}
+use Rattle.sep_certificate.specs.declared.certificate.CertFault.{CertFault}
+use Rattle.sep_certificate.specs.declared.certificate.CertFault.TheVariants as cert
+use Rattle.sep_certificate.specs.declared.certificate.Certificate.{Certificate}
+use Rattle.sep_certificate.specs.Certificates.{fault_of}
+use Rattle.sep_certificate.specs.Texts.{Says, bad_line, text_of}
+use Rattle.fault_lines.specs.Lines as refuse
+use Rattle.show_plan.specs.declared.fitted.PlanFault.{PlanFault}
+use Rattle.show_plan.specs.declared.fitted.PlanFault.TheVariants as plan
+use Rattle.show_plan.specs.Fitting.{in_order, too_long}
+use Rattle.show_plan.specs.Flight.{KeepsNearShow}
+use Rattle.show_plan.specs.Separation.{FlyApart, best_certificate, blocked_part}
+use Rattle.show_plan.specs.Texts.{ok_line, plan_text, valid_line}
+use Rattle.show_plan.specs.Trajectories.{cue_times, trajectories}
+use Rattle.show_cli.specs.declared.command.Command.{Command}
+use Rattle.show_cli.specs.declared.command.Command.TheVariants.{Check, Compile, Certify, Verify}
 
--- ---- the words
+-- a status, and what is written
+pub record Outcome : Type 0 where
+  pub status : ℕ
+  pub output : List ℕ
 
--- the list of words is the command `compile`
-abbrev pub IsCompile : List (String Global) → Type 0
-IsCompile words = map string_bytes words ≡ codes "compile" ∷ []
-
--- the list of words is no command
-abbrev pub IsNoCommand : List (String Global) → Type 0
-IsNoCommand words = IsCompile words → ⊥
+-- a status with its line
+abbrev pub outcome : ℕ → List ℕ → Outcome
+outcome status output = record { status = status; output = output }
 
 -- ---- the input
 
@@ -24,45 +49,147 @@ IsNoCommand words = IsCompile words → ⊥
 abbrev pub show_limit : ℕ
 show_limit = 1048576
 
--- The text has at most 1,048,576 bytes and no marker line, and it is one drone's show of one move, which says this.
-pub record IsFirstForm (text : List ℕ) (s : Said) : Type 0 where
-  pub short : length text ≤ show_limit
-  pub unmarked : has_marker (between_feeds text) ≡ false
-  pub first : IsFirst text s
+-- the most bytes of a certificate's text
+abbrev pub certificate_limit : ℕ
+certificate_limit = 80000000
 
--- The text is in the first form.
-abbrev pub HasFirstForm : List ℕ → Type 0
-HasFirstForm text = (s : Said) × IsFirstForm text s
+-- The input, cut at its marker lines: the show's text, whether a marker line stands behind it, and the same of the second text.
+pub record Cut : Type 0 where
+  pub show : List ℕ
+  pub is_marked : Bool
+  pub second : List ℕ
+  pub is_second_marked : Bool
 
--- The input, where the source tells it, is in the first form, and this is the plan text of what it says.
-abbrev pub Plans : Option (List ℕ) → List ℕ → Type 0
-Plans input output = IfSome input (λ text. (s : Said) × IsFirstForm text s × IsPlan s output)
+abbrev pub cut_of : List ℕ → Cut
+cut_of input = record {
+  show = part_of input;
+  is_marked = has_marker (between_feeds input);
+  second = part_of (rest_of input);
+  is_second_marked = has_marker (between_feeds (rest_of input));
+}
 
--- The input, where the source tells it, is not in the first form.
-abbrev pub IsUnread : Option (List ℕ) → Type 0
-IsUnread input = IfSome input (λ text. HasFirstForm text → ⊥)
+-- how many line feeds there are
+abbrev pub feeds : List ℕ → ℕ
+feeds [] = 0
+feeds (b ∷ bs) = if b == 10 then suc (feeds bs) else feeds bs
 
--- The input was read to its end.
-abbrev pub IsReadWhole : Option (List ℕ) → Option (List ℕ) → Type 0
-IsReadWhole input left = IfSome input (λ _. left ≡ Some [])
+-- the number of the marker line behind a text, which counts from 1: each line of the text ends with a line feed
+abbrev pub marker_number : List ℕ → ℕ
+marker_number text = suc (feeds text)
 
--- ---- the output
+-- ---- refusals
 
--- the fault lines
-abbrev pub usage_line : List ℕ
-usage_line = codes "error 2 usage\n"
+-- the names of a show's drones
+abbrev pub names_of : PlainShow → List Name
+names_of s = map (λ (d : DroneLine). d.name) s.drones
 
-abbrev pub unread_line : List ℕ
-unread_line = codes "error 3 unread\n"
+-- the trajectories of a show's drones
+abbrev pub trajectories_of : PlainShow → List Traj
+trajectories_of s = trajectories (grid_of s)
 
-abbrev pub read_line : List ℕ
-read_line = codes "error 6 read\n"
+-- the name of a drone, which counts from 0
+abbrev pub name_at : List Name → ℕ → List ℕ
+name_at names drone = (slice_index_or names drone (record { items = [] })).items
 
--- What a run would write: the usage line where the words are no command; else the plan text, the line that the input
--- is not in the first form, or, where the source's count of faults rose, the line of a failed read.
-abbrev pub IsOutput : List (String Global) → Option (List ℕ) → ℕ → ℕ → List ℕ → Type 0
-IsOutput words input before after output =
-    (IsNoCommand words × (output ≡ usage_line))
-    ⊎ ((IsCompile words × Plans input output)
-    ⊎ ((IsCompile words × IsUnread input × (output ≡ unread_line))
-    ⊎ (IsCompile words × Rose before after × (output ≡ read_line))))
+-- what a faulty line comes to
+abbrev pub faulty : Fault → Outcome
+faulty f = outcome 3 (refuse.faulty_line f.line f.kind)
+
+-- the refusal of a show's text: it is too long, or it has a first faulty line
+abbrev pub text_refusal : List ℕ → Option Outcome
+text_refusal text = if nat_lt show_limit (length text) then Some (outcome 3 refuse.too_large_line) else option_map faulty (fault text)
+
+-- what a reason comes to why a show has no plan; the depth is that of the search. Want of memory is no refusal.
+abbrev pub no_plan : List Name → ℕ → PlanFault → Outcome
+no_plan names depth (plan.Grid f) = outcome 3 (refuse.grid_line f)
+no_plan names depth (plan.Expand (expand.OutOfRange line axis value)) = outcome 3 (refuse.range_line line axis value)
+no_plan names depth (plan.Expand expand.Memory) = outcome 1 []
+no_plan names depth (plan.TooLong drone bytes room) = outcome 4 (refuse.room_line (name_at names drone) bytes room)
+no_plan names depth (plan.Blocked a b cue index) = outcome 5 (refuse.blocked_line (name_at names a) (name_at names b) cue index depth)
+no_plan names depth plan.Memory = outcome 1 []
+
+-- the depth to which a command searches
+abbrev pub depth_of_search : Command → Option ℕ
+depth_of_search (Check depth) = Some depth
+depth_of_search (Compile depth) = Some depth
+depth_of_search (Certify depth) = Some depth
+depth_of_search Verify = None
+
+-- a marker line is refused by each command that wants no second text
+abbrev pub marker_refusal : Command → Cut → Option Outcome
+marker_refusal Verify cut = None
+marker_refusal c cut = if cut.is_marked then Some (outcome 11 (refuse.second_line (marker_number cut.show))) else None
+
+-- the first part in which no direction separates two drones, for each command that searches
+abbrev pub blocked_by : Option ℕ → PlainShow → Option Outcome
+blocked_by None s = None
+blocked_by (Some depth) s = option_map (no_plan (names_of s) depth) (blocked_part s.settings depth (trajectories_of s))
+
+-- The first refusal of a show: its names and cues, its numbers, a marker line, room, separation.
+abbrev pub show_refusal : Command → Cut → PlainShow → Option Outcome
+show_refusal c cut s =
+    option_or (option_map (no_plan (names_of s) 0) (in_order (grid_fault s) (range_fault (grid_of s)) None))
+    (option_or (marker_refusal c cut)
+    (option_or (option_map (no_plan (names_of s) 0) (too_long s))
+    (blocked_by (depth_of_search c) s)))
+
+-- ---- certificates
+
+-- The refusal of a second text: it is too long, has a first faulty line, or a marker line stands behind it.
+abbrev pub second_refusal : Cut → Option Outcome
+second_refusal cut =
+    if nat_lt certificate_limit (length cut.second) then Some (outcome 11 refuse.second_too_large_line)
+    else option_or (option_map (λ (line : ℕ). outcome 11 (refuse.second_line line)) (bad_line (lines cut.second)))
+    (if cut.is_second_marked then Some (outcome 11 (refuse.second_line (marker_number cut.second))) else None)
+
+-- what a certificate comes to that has this first fault, or none
+abbrev pub judged : List Name → Certificate → Option CertFault → Outcome
+judged names c None = outcome 0 (valid_line c.depth (length c.trees))
+judged names c (Some (cert.Missing a b cue)) = outcome 12 (refuse.missing_line (name_at names a) (name_at names b) cue)
+judged names c (Some (cert.Extra tree)) = outcome 12 (refuse.extra_line tree)
+judged names c (Some (cert.TooDeep a b cue)) = outcome 12 (refuse.too_deep_line (name_at names a) (name_at names b) cue)
+judged names c (Some (cert.Fails a b cue place dir control)) =
+    outcome 12 (refuse.fails_line (name_at names a) (name_at names b) cue place dir control)
+
+-- what a certificate comes to for the trajectories of a show
+abbrev pub judged_for : PlainShow → Certificate → Outcome
+judged_for s c = judged (names_of s) c (fault_of DIRECTIONS.n (raised_of (trajectories_of s)) s.settings.r s.settings.h c)
+
+-- a second text comes to its refusal, or to what the certificate comes to that it says
+abbrev pub SecondGives : Option Outcome → PlainShow → Cut → Outcome → Type 0
+SecondGives (Some refused) s cut o = o ≡ refused
+SecondGives None s cut o = (c : Certificate) × Says cut.second c × (o ≡ judged_for s c)
+
+-- ---- the outcome
+
+-- what a show comes to: its first refusal, or else what the command answers
+abbrev pub ShowGives : Command → Option Outcome → PlainShow → Cut → Outcome → Type 0
+ShowGives c (Some refused) s cut o = o ≡ refused
+ShowGives (Check depth) None s cut o = o ≡ outcome 0 (ok_line (length s.drones) (length (grid_of s).cues) (sum (cue_times (grid_of s))))
+ShowGives (Compile depth) None s cut o = o ≡ outcome 0 (plan_text (names_of s) (trajectories_of s))
+ShowGives (Certify depth) None s cut o = o ≡ outcome 0 (text_of (best_certificate s.settings depth (trajectories_of s)))
+ShowGives Verify None s cut o = SecondGives (second_refusal cut) s cut o
+
+-- The show's text stands for this show, and it comes to this outcome.
+pub record ShowComesTo (c : Command) (cut : Cut) (o : Outcome) : Type 0 where
+  pub s : PlainShow
+  pub short : length cut.show ≤ show_limit
+  pub stands : StandsFor cut.show s
+  pub gives : ShowGives c (show_refusal c cut s) s cut o
+
+-- The outcome of a command on an input: the show's text is refused, or it stands for a show, which comes to it.
+abbrev pub IsOutcomeOf : Command → Cut → Outcome → Type 0
+IsOutcomeOf c cut o = (text_refusal cut.show ≡ Some o) ⊎ ShowComesTo c cut o
+
+abbrev pub IsOutcome : Command → List ℕ → Outcome → Type 0
+IsOutcome c input o = IsOutcomeOf c (cut_of input) o
+
+-- ---- what status 0 promises
+
+-- The show's text stands for a show whose drones' trajectories keep near to it at every instant, and keep each two drones apart
+-- at every instant.
+pub record IsSafe (text : List ℕ) : Type 0 where
+  pub s : PlainShow
+  pub stands : StandsFor text s
+  pub near : KeepsNearShow (grid_of s) (trajectories_of s)
+  pub apart : FlyApart s.settings (trajectories_of s)

@@ -4,8 +4,14 @@
 //! hands in the words and standard input and output, and ends with the status.
 #![tactic(auto)]
 
-mod compile;
+mod answer;
+mod command;
+mod input;
+mod outcome;
+mod refusals;
+mod search;
 mod top;
+mod verify;
 
 use fleet_io::{StdSink, StdSource};
 use std::process::ExitCode;
@@ -32,5 +38,3 @@ fn main(rt: HostRuntime) -> ExitCode {
     ExitCode::from(run(rt.alloc(), &words, &mut source, &mut sink))
 }
 
-#[cfg(test)]
-mod tests;

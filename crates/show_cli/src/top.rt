@@ -1,37 +1,32 @@
 //! The program over any source and any sink.
-ghost use Rattle.std.specs.Prelude.{◌≡◌, ◌≢◌, ◌⊎◌, ℕ, ◌≤◌, List, [], ◌∷◌, Some, IsTrue, IsFalse, Contains};
+ghost use Rattle.std.specs.Prelude.{◌≡◌, ◌≢◌, ◌⊎◌, ℕ, ◌≤◌, List, [], ◌∷◌, Some, None, IfSome, IsSome, Contains};
 ghost use Rattle.std.specs.Io.KnownBytes.{Appends};
+ghost use Rattle.text_lines.specs.Marker.{part_of};
 ghost use Rattle.fleet_io.specs.Causes.{Rose};
-ghost use Rattle.fleet_io.specs.Taken.{TakesFront, AppendsFront};
-ghost use Rattle.show_cli.specs.Outcome.{IsCompile, IsNoCommand, HasFirstForm, Plans, IsUnread, IsReadWhole, IsOutput, usage_line, unread_line, read_line};
+ghost use Rattle.fleet_io.specs.Taken.{AppendsFront, TakesFront};
+ghost use Rattle.fault_lines.specs.Lines.{read_line, usage_line};
+ghost use Rattle.show_cli.specs.Answers.{status_number};
+ghost use Rattle.show_cli.specs.Commands.{HasDepth};
+ghost use Rattle.show_cli.specs.Input.{EndsUnmarked, IsRead, IsReadWhole, IsWithin};
+ghost use Rattle.show_cli.specs.Outcome.{Cut, IsOutcome, IsOutcomeOf, IsSafe, Outcome, certificate_limit, cut_of, show_limit};
+ghost use Rattle.show_cli.specs.Runs.{Answers, IsJudged, IsOutput, IsOutputFor, command_in};
 
-use crate::compile::{Refusal, compile};
+use crate::answer::Status;
+use crate::command::{Command, command_of};
+use crate::input::{Failure, Input, read_input};
+use crate::outcome::answer;
+use fault_lines::{read_line, usage_line};
 use fleet_io::{Failed, Sink, Source, write_whole};
 use std::alloc::Global;
 
-/// The plan text was written.
-const DONE: u8 = 0;
 /// Memory is wanting, and nothing was written.
 pub const NO_MEMORY: u8 = 1;
 /// The words are no command.
 const USAGE: u8 = 2;
-/// The text is not one that the program reads.
-const UNREAD: u8 = 3;
 /// A read failed.
 const READ_FAILED: u8 = 6;
 /// A write failed, and only a front of the output went out.
 const WRITE_FAILED: u8 = 7;
-
-// Whether the words are the command `compile`.
-fn is_command(words: &Vec<String>) -> bool
-    ensures yes { IsTrue result → IsCompile words.now.items }
-    ensures no { IsFalse result → IsNoCommand words.now.items }
-{
-    match words.as_slice() {
-        [word] => word.as_bytes() == b"compile".as_slice(),
-        _ => false,
-    }
-}
 
 // Writes all, and answers this status unless the sink fails.
 fn finish<K: Sink>(sink: &mut K, bytes: &[u8], status: u8) -> u8
@@ -47,6 +42,59 @@ fn finish<K: Sink>(sink: &mut K, bytes: &[u8], status: u8) -> u8
     }
 }
 
+// Writes what the command answers where this was read.
+fn answer_input<K: Sink>(alloc: Global, command: Command, input: &Input, sink: &mut K) -> u8
+    requires depth { HasDepth command }
+    requires show { IsWithin show_limit input.now.show }
+    requires second { IsWithin certificate_limit input.now.second }
+    ensures outcome { (cut : Cut) → IsRead command input.now cut → result ≢ 1 → result ≢ 7 → Answers command cut result (K.written sink.old) (K.written sink.new) }
+    ensures exact { (cut : Cut) (o : Outcome) → IsRead command input.now cut → IsOutcomeOf command cut o
+        → (Rose (K.faults sink.old) (K.faults sink.new) → ⊥) → (result ≡ o.status) ⊎ (result ≡ 1) }
+    ensures safe { result ≡ 0 → (cut : Cut) → IsRead command input.now cut → IsSafe cut.show }
+    ensures whole { result ≡ 0 → EndsUnmarked command input.now.show input.now.second }
+    ensures one { result ≡ 1 → (K.written sink.new ≡ K.written sink.old) × (K.faults sink.new ≡ K.faults sink.old) }
+    ensures seven { result ≡ 7 → Rose (K.faults sink.old) (K.faults sink.new)
+        × ((output : List ℕ) × IsOutputFor command input.now output × AppendsFront (K.written sink.old) (K.written sink.new) output) }
+    ensures known { ((status : Status) × (result ≡ status_number status)) ⊎ ((result ≡ 1) ⊎ (result ≡ 7)) }
+    ensures later { K.faults sink.old ≤ K.faults sink.new }
+{
+    match answer(alloc, command, input) {
+        Ok(answer) => finish(sink, answer.output.bytes(), answer.status.number()),
+        Err(_) => NO_MEMORY,
+    }
+}
+
+// Runs a command.
+fn run_command<S: Source, K: Sink>(
+    alloc: Global,
+    command: Command,
+    source: &mut S,
+    sink: &mut K,
+) -> u8
+    requires depth { HasDepth command }
+    ensures outcome { (input : List ℕ) → S.left source.old ≡ Some input → IsJudged result
+        → Answers command (cut_of input) result (K.written sink.old) (K.written sink.new) }
+    ensures exact { (input : List ℕ) (o : Outcome) → S.left source.old ≡ Some input → IsOutcome command input o
+        → (Rose (S.faults source.old) (S.faults source.new) → ⊥) → (Rose (K.faults sink.old) (K.faults sink.new) → ⊥) → (result ≡ o.status) ⊎ (result ≡ 1) }
+    ensures safe { result ≡ 0 → IfSome (S.left source.old) (λ input. IsSafe (part_of input)) }
+    ensures whole { result ≡ 0 → IsReadWhole (S.left source.old) (S.left source.new) }
+    ensures one { result ≡ 1 → (K.written sink.new ≡ K.written sink.old) × (K.faults sink.new ≡ K.faults sink.old) }
+    ensures six { result ≡ 6 → Rose (S.faults source.old) (S.faults source.new) × Appends (K.written sink.old) (K.written sink.new) read_line }
+    ensures seven { result ≡ 7 → Rose (K.faults sink.old) (K.faults sink.new)
+        × ((output : List ℕ) × IsOutput (Some command) (S.left source.old) (S.faults source.old) (S.faults source.new) output
+        × AppendsFront (K.written sink.old) (K.written sink.new) output) }
+    ensures known { Contains (0 ∷ 1 ∷ 3 ∷ 4 ∷ 5 ∷ 6 ∷ 7 ∷ 11 ∷ 12 ∷ []) result }
+    ensures taken { TakesFront (S.left source.old) (S.left source.new) }
+    ensures source_later { S.faults source.old ≤ S.faults source.new }
+    ensures sink_later { K.faults sink.old ≤ K.faults sink.new }
+{
+    match read_input(alloc, command, source) {
+        Ok(input) => answer_input(alloc, command, &input, sink),
+        Err(Failure::Read) => finish(sink, read_line().bytes(), READ_FAILED),
+        Err(Failure::Memory) => NO_MEMORY,
+    }
+}
+
 /// Runs the command that the words, without the program's name, are, and answers its status.
 pub fn run<S: Source, K: Sink>(
     alloc: Global,
@@ -54,48 +102,43 @@ pub fn run<S: Source, K: Sink>(
     source: &mut S,
     sink: &mut K,
 ) -> u8
-    // 0: the input was read to its end and is in the first form, and its plan text was written.
-    ensures zero { result ≡ 0 → IsCompile words.now.items × IsReadWhole (S.left source.old) (S.left source.new)
-        × ((text : List ℕ) × Plans (S.left source.old) text × Appends (K.written sink.old) (K.written sink.new) text) }
+    // 2, or 7 in its place, exactly where the words are no command; then nothing is read.
+    ensures usage { command_in words.now.items ≡ None → ((result ≡ 2) ⊎ (result ≡ 7)) × (S.left source.new ≡ S.left source.old) × (S.faults source.new ≡ S.faults source.old) }
+    ensures two { result ≡ 2 → (command_in words.now.items ≡ None) × Appends (K.written sink.old) (K.written sink.new) usage_line }
+
+    // Every status but 1, 2, 6 and 7 is that of an outcome of the input, whose output was written whole, whether or not a fault was counted.
+    ensures outcome { (c : Command) (input : List ℕ) → command_in words.now.items ≡ Some c → S.left source.old ≡ Some input → IsJudged result
+        → (o : Outcome) × IsOutcome c input o × (result ≡ o.status) × Appends (K.written sink.old) (K.written sink.new) o.output }
+
+    // With no fault counted the status is that of each outcome of the input, or want of memory.
+    ensures exact { (c : Command) (input : List ℕ) (o : Outcome) → command_in words.now.items ≡ Some c → S.left source.old ≡ Some input → IsOutcome c input o
+        → (Rose (S.faults source.old) (S.faults source.new) → ⊥) → (Rose (K.faults sink.old) (K.faults sink.new) → ⊥) → (result ≡ o.status) ⊎ (result ≡ 1) }
+
+    // 0: the show's trajectories keep near to it and keep each two drones apart, at every instant; the input was read to its end.
+    ensures safe { result ≡ 0 → IsSome (command_in words.now.items) × IfSome (S.left source.old) (λ input. IsSafe (part_of input)) }
+    ensures whole { result ≡ 0 → IsReadWhole (S.left source.old) (S.left source.new) }
 
     // 1: memory is wanting, and nothing was written.
-    ensures one { result ≡ 1 → IsCompile words.now.items × (K.written sink.new ≡ K.written sink.old) × (K.faults sink.new ≡ K.faults sink.old) }
-
-    // 2, or 7 in its place, exactly where the words are no command, and then nothing is read.
-    ensures two { result ≡ 2 → IsNoCommand words.now.items × Appends (K.written sink.old) (K.written sink.new) usage_line }
-    ensures usage { IsNoCommand words.now.items → ((result ≡ 2) ⊎ (result ≡ 7)) × (S.left source.new ≡ S.left source.old) × (S.faults source.new ≡ S.faults source.old) }
-
-    // 3: the input is not in the first form.
-    ensures three { result ≡ 3 → IsCompile words.now.items × IsUnread (S.left source.old) × Appends (K.written sink.old) (K.written sink.new) unread_line }
+    ensures one { result ≡ 1 → IsSome (command_in words.now.items) × (K.written sink.new ≡ K.written sink.old) × (K.faults sink.new ≡ K.faults sink.old) }
 
     // 6: the source failed.
-    ensures six { result ≡ 6 → IsCompile words.now.items × Rose (S.faults source.old) (S.faults source.new) × Appends (K.written sink.old) (K.written sink.new) read_line }
+    ensures six { result ≡ 6 → IsSome (command_in words.now.items) × Rose (S.faults source.old) (S.faults source.new)
+        × Appends (K.written sink.old) (K.written sink.new) read_line }
 
     // 7: the sink failed, and a front of the output went out.
     ensures seven { result ≡ 7 → Rose (K.faults sink.old) (K.faults sink.new)
-        × ((output : List ℕ) × IsOutput words.now.items (S.left source.old) (S.faults source.old) (S.faults source.new) output
+        × ((output : List ℕ) × IsOutput (command_in words.now.items) (S.left source.old) (S.faults source.old) (S.faults source.new) output
         × AppendsFront (K.written sink.old) (K.written sink.new) output) }
 
     // There is no other status.
-    ensures known { Contains (0 ∷ 1 ∷ 2 ∷ 3 ∷ 6 ∷ 7 ∷ []) result }
-
-    // With no fault counted, a text in the first form gives 0 and any other text 3, unless memory is wanting.
-    ensures compiles { (text : List ℕ) → S.left source.old ≡ Some text → HasFirstForm text → IsCompile words.now.items
-        → (Rose (S.faults source.old) (S.faults source.new) → ⊥) → (Rose (K.faults sink.old) (K.faults sink.new) → ⊥) → (result ≡ 0) ⊎ (result ≡ 1) }
-    ensures refuses { (text : List ℕ) → S.left source.old ≡ Some text → (HasFirstForm text → ⊥) → IsCompile words.now.items
-        → (Rose (S.faults source.old) (S.faults source.new) → ⊥) → (Rose (K.faults sink.old) (K.faults sink.new) → ⊥) → (result ≡ 3) ⊎ (result ≡ 1) }
+    ensures known { Contains (0 ∷ 1 ∷ 2 ∷ 3 ∷ 4 ∷ 5 ∷ 6 ∷ 7 ∷ 11 ∷ 12 ∷ []) result }
 
     ensures taken { TakesFront (S.left source.old) (S.left source.new) }
     ensures source_later { S.faults source.old ≤ S.faults source.new }
     ensures sink_later { K.faults sink.old ≤ K.faults sink.new }
 {
-    if !is_command(words) {
-        return finish(sink, b"error 2 usage\n", USAGE);
-    }
-    match compile(alloc, source) {
-        Ok(text) => finish(sink, text.bytes(), DONE),
-        Err(Refusal::Unread) => finish(sink, b"error 3 unread\n", UNREAD),
-        Err(Refusal::Read) => finish(sink, b"error 6 read\n", READ_FAILED),
-        Err(Refusal::Memory) => NO_MEMORY,
+    match command_of(words) {
+        Some(command) => run_command(alloc, command, source, sink),
+        None => finish(sink, usage_line().bytes(), USAGE),
     }
 }

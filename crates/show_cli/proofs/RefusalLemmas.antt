@@ -1,0 +1,162 @@
+-- In which order a show's refusals come.
+use Rattle.std.proofs.Common.{◌≡◌, ◌⊎◌, inl, inr, ℕ, zero, suc, ◌+◌, ◌<◌, ◌≤◌, ℤ, Bool, true, false, cond, nat_le, List, [], ◌∷◌, length, get_or, map, Option, Some, None, refl, sym, ap, subst, ◌∙◌, arith}
+use Rattle.std.specs.Option.{option_map, option_or}
+use Rattle.std.proofs.lemmas.List.{length-map}
+use Rattle.fleet_io.specs.Words.{IsWord}
+use Rattle.choreo_reader.specs.declared.show.DroneLine.{DroneLine}
+use Rattle.choreo_reader.specs.Valid.{FitDroneLines}
+use Rattle.choreo_reader.specs.Plain.{PlainShow}
+use Rattle.cue_grid.specs.declared.grid.GridFault.{GridFault}
+use Rattle.cue_grid.specs.Cues.{grid_of}
+use Rattle.cue_grid.specs.Faults.{grid_fault}
+use Rattle.traj_codec.specs.declared.traj.Traj.{Traj}
+use Rattle.figure_expand.specs.declared.fault.ExpandFault.{ExpandFault}
+use Rattle.figure_expand.specs.declared.fault.ExpandFault.TheVariants as expand
+use Rattle.figure_expand.specs.Expanded.{range_fault}
+use Rattle.show_plan.specs.declared.fitted.PlanFault.{PlanFault}
+use Rattle.show_plan.specs.declared.fitted.PlanFault.TheVariants as fault
+use Rattle.show_plan.specs.Fitting.{first_long, in_order, plan_fault, room, size, too_long}
+use Rattle.show_plan.specs.Trajectories.{trajectories}
+use Rattle.show_plan.proofs.Sendable.{counted}
+use Rattle.show_plan.proofs.Valid.{names_are_words}
+use Rattle.show_cli.proofs.AxisLemmas.{range_axis}
+use Rattle.show_cli.specs.declared.command.Command.{Command}
+use Rattle.show_cli.specs.Outcome.{Cut, Outcome, blocked_by, depth_of_search, marker_refusal, name_at, names_of, no_plan, show_refusal}
+
+-- ---- four refusals in order
+
+module _ (to : PlanFault → Outcome) (early long : Option PlanFault) (marked search : Option Outcome) where
+  -- the first of a fault of names and numbers, a marker line, want of room, and a blocked part
+  abbrev first_of : Option Outcome
+  first_of = option_or (option_map to early) (option_or marked (option_or (option_map to long) search))
+
+  by_early : (f : PlanFault) → early ≡ Some f → first_of ≡ Some (to f)
+  by_early f is = rw is refl
+
+  by_marker : (o : Outcome) → early ≡ None → marked ≡ Some o → first_of ≡ Some o
+  by_marker o none is = rw (none, is) refl
+
+  by_room : (f : PlanFault) → early ≡ None → marked ≡ None → long ≡ Some f → first_of ≡ Some (to f)
+  by_room f none unmarked is = rw (none, unmarked, is) refl
+
+  by_search : early ≡ None → marked ≡ None → long ≡ None → first_of ≡ search
+  by_search none unmarked fits = rw (none, unmarked, fits) refl
+
+-- the faults of names and numbers of a show
+abbrev pub early_fault : PlainShow → Option PlanFault
+early_fault s = in_order (grid_fault s) (range_fault (grid_of s)) None
+
+-- ---- which fault it is
+
+-- the fault is that a trajectory is too long, of a drone among so many
+record IsLongAmong (n : ℕ) (f : PlanFault) : Type 0 where
+  pub drone : ℕ
+  pub bytes : ℕ
+  pub space : ℕ
+  pub is : f ≡ fault.TooLong drone bytes space
+  pub among : drone < n
+
+-- the first trajectory that is too long is that of a drone
+long_names : (space d : ℕ) (ts : List Traj) (f : PlanFault) → first_long space d ts ≡ Some f → IsLongAmong (d + length ts) f
+long_names space d [] f is = absurd (cc)
+long_names space d (t ∷ ts) f is = by_test (nat_le (size t) space) is (long_names space (d + 1) ts f)
+  where
+    by_test : (b : Bool) → cond b (first_long space (d + 1) ts) (Some (fault.TooLong d (size t) space)) ≡ Some f → (first_long space (d + 1) ts ≡ Some f → IsLongAmong (d + 1 + length ts) f) →
+        IsLongAmong (d + length (t ∷ ts)) f
+    by_test true is later = let named = later is in record { drone = named.drone; bytes = named.bytes; space = named.space; is = named.is; among = omega arith }
+    by_test false is later = record { drone = d; bytes = size t; space = space; is = cc; among = omega arith }
+
+-- a fault is one of names and numbers, or these have none and it is one of room
+either : (a : Option GridFault) (b : Option ExpandFault) (long : Option PlanFault) (f : PlanFault) → in_order a b long ≡ Some f →
+    (in_order a b None ≡ Some f) ⊎ ((in_order a b None ≡ None) × (long ≡ Some f))
+either (Some e) b long f is = inl is
+either None (Some e) long f is = inl is
+either None None long f is = inr (refl, is)
+
+-- no fault of names and numbers is one of room
+not_early : (a : Option GridFault) (b : Option ExpandFault) (drone bytes space : ℕ) → in_order a b None ≡ Some (fault.TooLong drone bytes space) → ⊥
+not_early (Some e) b drone bytes space is = cc
+not_early None (Some e) drone bytes space is = cc
+not_early None None drone bytes space is = cc
+
+no_part : (a : Option GridFault) (b : Option ExpandFault) (long : Option PlanFault) → in_order a b long ≡ None → (in_order a b None ≡ None) × (long ≡ None)
+no_part (Some e) b long none = absurd (cc)
+no_part None (Some e) long none = absurd (cc)
+no_part None None long none = (refl, none)
+
+-- ---- of a show
+
+-- a fault of names and numbers comes first
+pub early_refused : (c : Command) (cut : Cut) (s : PlainShow) (f : PlanFault) → ((drone bytes space : ℕ) → f ≡ fault.TooLong drone bytes space → ⊥) →
+    plan_fault s ≡ Some f → show_refusal c cut s ≡ Some (no_plan (names_of s) 0 f)
+early_refused c cut s f other is = elim (either (grid_fault s) (range_fault (grid_of s)) (too_long s) f is) [
+  | inl early ↦ by_early (no_plan (names_of s) 0) (early_fault s) (too_long s) (marker_refusal c cut) (blocked_by (depth_of_search c) s) f early
+  | inr late ↦ let named = long_names (room s) 0 (trajectories (grid_of s)) f late.1 in absurd (other named.drone named.bytes named.space named.is)
+]
+
+-- where room is wanting, names and numbers have no fault
+pub long_late : (s : PlainShow) (drone bytes space : ℕ) → plan_fault s ≡ Some (fault.TooLong drone bytes space) →
+    (early_fault s ≡ None) × (too_long s ≡ Some (fault.TooLong drone bytes space))
+long_late s drone bytes space is = elim (either (grid_fault s) (range_fault (grid_of s)) (too_long s) (fault.TooLong drone bytes space) is) [
+  | inl early ↦ absurd (not_early (grid_fault s) (range_fault (grid_of s)) drone bytes space early)
+  | inr late ↦ late
+]
+
+-- the drone that has no room is one of the show's
+pub long_drone : (s : PlainShow) (drone bytes space : ℕ) → plan_fault s ≡ Some (fault.TooLong drone bytes space) → drone < length s.drones
+long_drone s drone bytes space is =
+    let named = long_names (room s) 0 (trajectories (grid_of s)) (fault.TooLong drone bytes space) (long_late s drone bytes space is).1 in
+    let e : drone ≡ named.drone = same drone bytes space named.drone named.bytes named.space named.is in
+    omega (arith, e, named.among, counted (grid_of s))
+  where
+    same : (a b c d e f : ℕ) → fault.TooLong a b c ≡ fault.TooLong d e f → a ≡ d
+    same a b c d e f is = cc
+
+-- a number that no trajectory can hold stands on one of four axes
+pub refused_axis : (s : PlainShow) (line axis : ℕ) (value : ℤ) → plan_fault s ≡ Some (fault.Expand (expand.OutOfRange line axis value)) → axis ≤ 3
+refused_axis s line axis value is = by_part (grid_fault s) (range_fault (grid_of s)) refl is
+  where
+    by_part : (a : Option GridFault) (b : Option ExpandFault) → range_fault (grid_of s) ≡ b → in_order a b (too_long s) ≡ Some (fault.Expand (expand.OutOfRange line axis value)) → axis ≤ 3
+    by_part (Some e) b at is = absurd (cc)
+    by_part None (Some e) at is = let same : e ≡ expand.OutOfRange line axis value = cc in range_axis (grid_of s) line axis value (at ∙ ap (λ (f : ExpandFault). Some f) same)
+    by_part None None at is =
+        let named = long_names (room s) 0 (trajectories (grid_of s)) (fault.Expand (expand.OutOfRange line axis value)) is in
+        let other : fault.Expand (expand.OutOfRange line axis value) ≡ fault.TooLong named.drone named.bytes named.space = named.is in
+        absurd (cc)
+
+-- ---- names
+
+-- the name of a drone that is read from the drones' lines
+pub name_read : (ds xs : List DroneLine) (k j : ℕ) (d : DroneLine) → xs ≡ ds → j ≡ k → k < length ds → (get_or xs j d).name.items ≡ name_at (map (λ (d : DroneLine). d.name) ds) k
+name_read ds xs k j d xs_are j_is inside = rw (xs_are, j_is) (here ds k inside)
+  where
+    here : (ds : List DroneLine) (k : ℕ) → k < length ds → (get_or ds k d).name.items ≡ name_at (map (λ (d : DroneLine). d.name) ds) k
+    here [] k inside = absurd (omega arith)
+    here (x ∷ ds) zero inside = refl
+    here (x ∷ ds) (suc k) inside = here ds k (omega arith)
+
+-- it can stand as a word
+pub word_read : (ds xs : List DroneLine) (k j : ℕ) (d : DroneLine) → FitDroneLines ds → xs ≡ ds → j ≡ k → k < length ds → IsWord (get_or xs j d).name.items
+word_read ds xs k j d fit xs_are j_is inside =
+    subst IsWord (sym (name_read ds xs k j d xs_are j_is inside))
+    (names_are_words ds fit k (record { items = [] }) (omega (arith, length-map ds (λ (d : DroneLine). d.name))))
+
+-- ---- the later refusals
+
+-- then comes a marker line
+pub marker_refused : (c : Command) (cut : Cut) (s : PlainShow) (o : Outcome) → early_fault s ≡ None → marker_refusal c cut ≡ Some o → show_refusal c cut s ≡ Some o
+marker_refused c cut s o none is = by_marker (no_plan (names_of s) 0) (early_fault s) (too_long s) (marker_refusal c cut) (blocked_by (depth_of_search c) s) o none is
+
+-- then want of room
+pub room_refused : (c : Command) (cut : Cut) (s : PlainShow) (f : PlanFault) → early_fault s ≡ None → marker_refusal c cut ≡ None → too_long s ≡ Some f →
+    show_refusal c cut s ≡ Some (no_plan (names_of s) 0 f)
+room_refused c cut s f none unmarked is = by_room (no_plan (names_of s) 0) (early_fault s) (too_long s) (marker_refusal c cut) (blocked_by (depth_of_search c) s) f none unmarked is
+
+-- a show that fits has none of these before the search
+pub fits_early : (s : PlainShow) → plan_fault s ≡ None → early_fault s ≡ None
+fits_early s fits = (no_part (grid_fault s) (range_fault (grid_of s)) (too_long s) fits).0
+
+pub search_left : (c : Command) (cut : Cut) (s : PlainShow) → plan_fault s ≡ None → marker_refusal c cut ≡ None → show_refusal c cut s ≡ blocked_by (depth_of_search c) s
+search_left c cut s fits unmarked =
+    let none = no_part (grid_fault s) (range_fault (grid_of s)) (too_long s) fits in
+    by_search (no_plan (names_of s) 0) (early_fault s) (too_long s) (marker_refusal c cut) (blocked_by (depth_of_search c) s) none.0 unmarked none.1
