@@ -1,5 +1,6 @@
 -- The first control value below a number.
-use Rattle.std.proofs.Common.{◌≡◌, ℕ, zero, suc, ◌+◌, ◌^◌, ◌≤◌, ◌<◌, ℤ, pos, ◌≤ℤ◌, Bool, true, false, cond, not, int_lt, nat_lt, arith, refl, ◌∙◌, ap, List, [], ◌∷◌, length, get_or, Option, Some, None, is_some, IsTrue, All, FitsSigned, to_z, of_z}
+use Rattle.std.proofs.Common.{◌≡◌, ℕ, zero, suc, ◌+◌, ◌^◌, ◌≤◌, ◌<◌, ℤ, pos, ◌≤ℤ◌, Bool, true, false, cond, not, int_lt, nat_lt, arith, refl, ◌∙◌, ap, subst, List, [], ◌∷◌, length, get_or, Option, Some, None, IsTrue, All, FitsSigned, to_z, of_z}
+use Rattle.std.specs.Prelude.{◌↔◌}
 use Rattle.std.specs.List.{position, position_or_len}
 use Rattle.std.proofs.lemmas.Int.{ints}
 use Rattle.std.proofs.lemmas.List.Sums.{position_or_len_is}
@@ -9,6 +10,8 @@ use Rattle.std.proofs.lemmas.Int.{to_z-of_z}
 use mir.Syntax.{w16, w128}
 use Rattle.fleet_math.specs.Bernstein.{at}
 use Rattle.fleet_math.specs.Numbers.{IsBelow}
+use Rattle.bezier_core.specs.declared.Bez.{Bez}
+use Rattle.bezier_core.specs.Along.{along_value}
 use Rattle.bezier_core.specs.Raised.{eight}
 use Rattle.bezier_core.proofs.CurveLemmas.{at-eight}
 use Rattle.bezier_core.proofs.EightLemmas.{same_eight}
@@ -76,16 +79,6 @@ three P x y z px py pz (suc zero) d inside = py
 three P x y z px py pz (suc (suc zero)) d inside = pz
 three P x y z px py pz (suc (suc (suc k))) d inside = absurd (omega arith)
 
-pub none_of : (o : Option ℕ) (b : Bool) → is_some o ≡ not b → IsTrue b → o ≡ None
-none_of None b e holds = refl
-none_of (Some k) true e holds = cc
-none_of (Some k) false e holds = cc
-
-pub is_none_of : (o : Option ℕ) (b : Bool) → is_some o ≡ not b → o ≡ None → IsTrue b
-is_none_of None true e none = refl
-is_none_of None false e none = cc
-is_none_of (Some k) b e none = cc
-
 pub kept : (n : ℕ) (x : ℤ) → FitsSigned w128 x → IsBelow n x → IsBelow n (to_z w128 (of_z w128 x))
 kept n x fits small = rw (to_z-of_z w128 x fits) small
 
@@ -98,3 +91,21 @@ told x y small is = let fits : FitsSigned w128 x = omega (arith, ints) in to_z-o
 
 pub told_short : (x y : ℤ) → IsBelow 32769 x → FitsSigned w16 y → x ≡ to_z w16 (of_z w16 y) → to_z w128 (of_z w128 x) ≡ y
 told_short x y small fits is = told x (to_z w16 (of_z w16 y)) small is ∙ to_z-of_z w16 y fits
+
+-- eight values, the two ends before the others, are at least so much
+pub ends_and_others : (f : ℕ → ℤ) (least : ℤ) → least ≤ℤ f 0 → least ≤ℤ f 7 → least ≤ℤ f 1 → least ≤ℤ f 2 → least ≤ℤ f 3 → least ≤ℤ f 4 → least ≤ℤ f 5 → least ≤ℤ f 6 →
+    (k : ℕ) → k ≤ 7 → least ≤ℤ f k
+ends_and_others f least zeroth last first second third fourth fifth sixth zero small = zeroth
+ends_and_others f least zeroth last first second third fourth fifth sixth (suc zero) small = first
+ends_and_others f least zeroth last first second third fourth fifth sixth (suc (suc zero)) small = second
+ends_and_others f least zeroth last first second third fourth fifth sixth (suc (suc (suc zero))) small = third
+ends_and_others f least zeroth last first second third fourth fifth sixth (suc (suc (suc (suc zero)))) small = fourth
+ends_and_others f least zeroth last first second third fourth fifth sixth (suc (suc (suc (suc (suc zero))))) small = fifth
+ends_and_others f least zeroth last first second third fourth fifth sixth (suc (suc (suc (suc (suc (suc zero)))))) small = sixth
+ends_and_others f least zeroth last first second third fourth fifth sixth (suc (suc (suc (suc (suc (suc (suc zero))))))) small = last
+ends_and_others f least zeroth last first second third fourth fifth sixth (suc (suc (suc (suc (suc (suc (suc (suc k)))))))) small = absurd (omega arith)
+
+-- the same of an equal number and of equal weights
+pub reach_same : (diff : List (Bez 8)) (w v : List ℤ) (x y : ℤ) (b : Bool) → w ≡ v → x ≡ y → IsTrue b ↔ ((k : ℕ) → k ≤ 7 → x ≤ℤ along_value diff w k) → IsTrue b ↔ ((k : ℕ) → k ≤ 7 → y ≤ℤ along_value diff v k)
+reach_same diff w v x y b p q same =
+    subst (λ (z : ℤ). IsTrue b ↔ ((k : ℕ) → k ≤ 7 → z ≤ℤ along_value diff v k)) q (subst (λ (u : List ℤ). IsTrue b ↔ ((k : ℕ) → k ≤ 7 → x ≤ℤ along_value diff u k)) p same)

@@ -24,37 +24,38 @@ pub fn separates(diff: &[Bez<8>; 3], n: [i8; 3], r: u16, h: u16, threshold: i128
     requires depth { depth ≤ 8 }
     ensures { IsTrue result ↔ ((k : ℕ) → k ≤ 7 → least_value threshold depth ≤ℤ along_value diff.now (weights n r h) k) }
 {
-    // The two ends are the curve itself, and most directions fail there.
-    if is_low(diff, n, r, h, threshold, depth, 0) {
-        return false;
-    }
-    if is_low(diff, n, r, h, threshold, depth, 7) {
-        return false;
-    }
-    low_control(diff, n, r, h, threshold, depth).is_none()
+    all_reach(diff, weights(n, r, h), scaled(threshold, depth))
 }
 
-// Whether one control value along the direction is below the threshold.
-fn is_low(
-    diff: &[Bez<8>; 3],
-    n: [i8; 3],
-    r: u16,
-    h: u16,
-    threshold: i128,
-    depth: u8,
-    k: usize,
-) -> bool
+// The places are written out, so that each is a test of its own.
+macro_rules! each_reaches {
+    ($diff:expr, $w:expr, $least:expr; $($k:literal)*) => {
+        $(
+            if !reaches($diff, $w, $least, $k) {
+                return false;
+            }
+        )*
+    };
+}
+
+// Whether each weighted sum is at least so much. The ends of the curves come first: where a direction fails, it mostly fails there.
+fn all_reach(diff: &[Bez<8>; 3], w: [i128; 3], least: i128) -> bool
     requires values { All (λ curve. All (IsBelow (2 ^ 86)) curve.b) diff.now }
-    requires entries { AreSmall n }
-    requires r { IsAxis r }
-    requires h { IsAxis h }
-    requires positive { pos 0 ≤ℤ threshold }
-    requires small { threshold <ℤ pos (2 ^ 30) }
-    requires depth { depth ≤ 8 }
-    requires place { k < 8 }
-    ensures { result ≡ int_lt (along_value diff.now (weights n r h) k) (least_value threshold depth) }
+    requires weights { All (IsBelow 4001) w }
+    ensures { IsTrue result ↔ ((k : ℕ) → k ≤ 7 → least ≤ℤ along_value diff.now w k) }
 {
-    along_at(diff, weights(n, r, h), k) < scaled(threshold, depth)
+    each_reaches!(diff, w, least; 0 7 1 2 3 4 5 6);
+    true
+}
+
+// Whether one weighted sum is at least so much.
+fn reaches(diff: &[Bez<8>; 3], w: [i128; 3], least: i128, k: usize) -> bool
+    requires place { k < 8 }
+    requires values { All (λ curve. All (IsBelow (2 ^ 86)) curve.b) diff.now }
+    requires weights { All (IsBelow 4001) w }
+    ensures { IsTrue result ↔ (least ≤ℤ along_value diff.now w k) }
+{
+    least <= along_at(diff, w, k)
 }
 
 /// The place, 0 to 7, of the first control value along the direction that is below the threshold; none where the direction

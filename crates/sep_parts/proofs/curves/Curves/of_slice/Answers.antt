@@ -1,9 +1,9 @@
-use Rattle.std.proofs.Common.{◌≡◌, refl, ℕ, All, length, ap, subst, sym, ◌∙◌, List, arith}
+use Rattle.std.proofs.Common.{◌≡◌, refl, ℕ, All, length, ap, subst, sym, ◌∙◌, List}
 use Rattle.std.specs.List.{flat_map}
 use Rattle.std.proofs.lemmas.List.{take_all}
 use Rattle.bezier_core.specs.declared.Bez.{Bez}
 use Rattle.traj_codec.specs.declared.traj.Traj.{Traj}
-use Rattle.sep_parts.specs.Raised.{Raised, raised_traj, cues_in, raised_of}
+use Rattle.sep_parts.specs.Raised.{raised_traj, cues_in, raised_of}
 use Rattle.sep_parts.specs.Steps.{IsFormed}
 use Rattle.sep_parts.proofs.Fleets.{fleet_more, fleet_held, first_cues, first_cues_in, all_more}
 use Rattle.sep_parts.proofs.Standing.{stands}
