@@ -132,7 +132,7 @@ name_is_word word named =
     ap (λ (b : ℕ). eqb b 10) (sym (get_or_default word (length word - 1) 0 10 inside)) ∙ name_has_no_line_feed word (length word - 1) named inside
 
 -- so can the names of drones that are as the language has them
-names_are_words : (ds : List DroneLine) → FitDroneLines ds → All StandsAsWord (map (λ (d : DroneLine). d.name) ds)
+pub names_are_words : (ds : List DroneLine) → FitDroneLines ds → All StandsAsWord (map (λ (d : DroneLine). d.name) ds)
 names_are_words [] fit = All-nil StandsAsWord
 names_are_words (d ∷ ds) fit =
     All-cons StandsAsWord d.name (map (λ (d : DroneLine). d.name) ds) (name_is_word d.name.items fit.0) (names_are_words ds fit.2)
