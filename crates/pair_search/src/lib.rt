@@ -13,4 +13,4 @@ mod first;
 mod tests;
 mod walk;
 
-pub use walk::{Found, search, search_law};
+pub use walk::{Found, search, search_law, search_with};

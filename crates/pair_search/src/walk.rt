@@ -59,9 +59,34 @@ pub fn search<const M: usize>(
     ensures exact { SearchGives (first_direction r h diff.now dirs.now.n) depth result nodes.new.items }
     ensures clear { IfOk result (λ found. (found ≡ Found.Clear) ↔ IsClear r h diff.now dirs.now.n depth) }
 {
+    search_with(diff, dirs, &thresholds(dirs, r, h), r, h, depth, nodes)
+}
+
+/// As [`search`], with the thresholds of the directions worked out before: for who searches many pairs and cues, since working
+/// them out takes longer than most searches.
+pub fn search_with<const M: usize>(
+    diff: &[Bez<8>; 3],
+    dirs: &Dirs<M>,
+    thresholds: &[i128; M],
+    r: u16,
+    h: u16,
+    depth: u8,
+    nodes: &mut Vec<Node>,
+) -> Result<Found, AllocError>
+    requires depth { depth ≤ 8 }
+    requires r { IsAxis r }
+    requires h { IsAxis h }
+    requires empty { nodes.old.items ≡ [] }
+    requires size { IsTableSize M }
+    requires entries { All AreSmall dirs.now.n }
+    requires thresholds { thresholds.now ≡ map (threshold r h) dirs.now.n }
+    requires values { All (λ curve. All (IsBelow (2 ^ 30)) curve.b) diff.now }
+    ensures exact { SearchGives (first_direction r h diff.now dirs.now.n) depth result nodes.new.items }
+    ensures clear { IfOk result (λ found. (found ≡ Found.Clear) ↔ IsClear r h diff.now dirs.now.n depth) }
+{
     sizes_law(diff);
     let rules = Rules { r, h, depth };
-    let answer = walk(diff, rules, &dirs.n, &thresholds(dirs, r, h), nodes);
+    let answer = walk(diff, rules, &dirs.n, thresholds, nodes);
     if !matches!(answer, Ok(Found::Clear)) {
         nodes.clear();
     }

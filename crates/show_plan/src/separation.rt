@@ -1,7 +1,7 @@
 //! The certificate of a show, or the first part of a cue in which no direction separates two drones.
 
-ghost use Rattle.std.specs.Prelude.{◌≤◌, IfOk, IsOk};
-ghost use Rattle.sep_parts.specs.Directions.{IsAxis, direction_count};
+ghost use Rattle.std.specs.Prelude.{◌≡◌, ◌≤◌, map, IfOk, IsOk};
+ghost use Rattle.sep_parts.specs.Directions.{IsAxis, direction_count, threshold};
 ghost use Rattle.sep_parts.specs.Raised.{raised_of};
 ghost use Rattle.sep_parts.specs.Slots.{IsSlot};
 ghost use Rattle.sep_certificate.specs.Certificates.{IsWhole, IsValid};
@@ -11,8 +11,8 @@ ghost use Rattle.show_plan.specs.Steps.{FindsTree, FindsTrees};
 
 use crate::fitted::{Fitted, PlanFault};
 use choreo_reader::Settings;
-use pair_search::{Found, search, search_law};
-use sep_certificate::{Certificate, Curves, DIRECTIONS, Nodes, Trees, certificate_law};
+use pair_search::{Found, search_law, search_with};
+use sep_certificate::{Certificate, Curves, DIRECTIONS, Nodes, Trees, certificate_law, thresholds};
 use sep_parts::Slot;
 use std::alloc::Global;
 
@@ -21,20 +21,23 @@ fn tree_of(
     alloc: Global,
     curves: &Curves,
     settings: Settings,
+    thresholds: &[i128; 26],
     depth: u8,
     slot: Slot,
 ) -> Result<Nodes, PlanFault>
     requires r { IsAxis settings.r }
     requires h { IsAxis settings.h }
+    requires thresholds { thresholds.now ≡ map (threshold settings.r settings.h) DIRECTIONS.n }
     requires depth { depth ≤ 8 }
     requires slot { IsSlot curves.now.drones curves.now.cues slot }
     ensures { FindsTree settings depth curves.now slot result }
 {
     let diff = curves.diff(slot.a as usize, slot.b as usize, slot.cue as usize);
     let mut nodes = Vec::new(alloc);
-    let found = search(
+    let found = search_with(
         &diff,
         &DIRECTIONS,
+        thresholds,
         settings.r,
         settings.h,
         depth,
@@ -65,10 +68,11 @@ fn trees_of(
 {
     let drones = curves.drones();
     let cues = curves.cues();
+    let thresholds = thresholds(&DIRECTIONS, settings.r, settings.h);
     let mut trees = Vec::new(alloc);
     let mut slot = Slot::first();
     while usize::from(slot.b) < drones {
-        let nodes = tree_of(alloc, curves, settings, depth, slot)?;
+        let nodes = tree_of(alloc, curves, settings, &thresholds, depth, slot)?;
         let Ok(()) = trees.push(nodes) else {
             return Err(PlanFault::Memory);
         };

@@ -4,15 +4,15 @@ use Rattle.sep_parts.proofs.Table.{small_table}
 use Rattle.show_plan.proofs.Separated.{clear_found, blocked_found}
 use Rattle.show_plan.proofs.separation.tree_of.Goals as goal
 
-pub search-requires : goal.search-requires
-search-requires c = (lit< tt, (c.requires.depth, (c.requires.r, (c.requires.h, (c.new-nodes.ensures.items, (inl refl, (small_table DIRECTIONS.n refl, c.diff-diff.ensures.small)))))))
+pub search_with-requires : goal.search_with-requires
+search_with-requires c = (lit< tt, (lit< tt, (c.requires.depth, (c.requires.r, (c.requires.h, (c.new-nodes.ensures.items, (inl refl, (small_table DIRECTIONS.n refl, (c.requires.thresholds, c.diff-diff.ensures.small)))))))))
 
 pub returns-in-Clear : goal.returns-in-Clear
 returns-in-Clear c =
-    clear_found c.args.settings c.args.depth c.args.curves.now c.args.slot c.diff-diff.result c.in_ok-found.found c.search.new.nodes.items c.new.result
+    clear_found c.args.settings c.args.depth c.args.curves.now c.args.slot c.diff-diff.result c.in_ok-found.found c.search_with.new.nodes.items c.new.result
     c.diff-diff.ensures.exact c.in-Clear.is c.new.ensures c.in_ok-found.ensures.exact
 
 pub returns-in-Blocked : goal.returns-in-Blocked
 returns-in-Blocked c =
-    blocked_found c.args.settings c.args.depth c.args.curves.now c.args.slot c.diff-diff.result c.in_ok-found.found c.in-Blocked.index c.search.new.nodes.items
+    blocked_found c.args.settings c.args.depth c.args.curves.now c.args.slot c.diff-diff.result c.in_ok-found.found c.in-Blocked.index c.search_with.new.nodes.items
     c.diff-diff.ensures.exact c.in-Blocked.is c.in_ok-found.ensures.exact

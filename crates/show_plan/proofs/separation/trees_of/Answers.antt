@@ -1,12 +1,17 @@
-use Rattle.std.proofs.Common.{◌≡◌, ◌∷◌, refl, List, ◌∙◌, ap, arith, ℕ, map}
+use Rattle.std.proofs.Common.{◌≡◌, ◌∷◌, inl, lit<, refl, List, ◌∙◌, ap, arith, ℕ, map}
 use Rattle.std.proofs.lemmas.Result.{err_from_is_err_and}
 use Rattle.sep_parts.specs.declared.slot.Slot.{Slot}
+use Rattle.sep_parts.specs.declared.directions.TheConstants.{DIRECTIONS}
+use Rattle.sep_parts.proofs.Table.{small_table}
 use Rattle.sep_parts.specs.Slots.{following, slots}
 use Rattle.sep_parts.proofs.Orders.{IsAhead, IsFrom, first_ahead, next_ahead}
 use Rattle.sep_certificate.proofs.Walks.{some_ahead}
 use Rattle.show_plan.specs.Separation.{best_nodes}
 use Rattle.show_plan.proofs.Separated.{blocked_next, clear_next, tree_next}
 use Rattle.show_plan.proofs.separation.trees_of.Goals as goal
+
+pub thresholds-thresholds-requires : goal.thresholds-thresholds-requires
+thresholds-thresholds-requires c = (lit< tt, (lit< tt, (inl refl, (small_table DIRECTIONS.n refl, (c.requires.r, c.requires.h)))))
 
 pub loop-alloc-init : goal.loop-alloc-init
 loop-alloc-init c = (
