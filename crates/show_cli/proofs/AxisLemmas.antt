@@ -1,5 +1,5 @@
 -- A value that no trajectory can hold stands on one of four axes.
-use Rattle.std.proofs.Common.{◌≡◌, ℕ, ◌+◌, ◌≤◌, ℤ, Bool, true, false, cond, All, List, [], ◌∷◌, ◌++◌, length, Option, Some, None, subst, arith}
+use Rattle.std.proofs.Common.{◌≡◌, ℕ, ◌+◌, ◌≤◌, ℤ, Bool, true, false, cond, All, List, [], ◌∷◌, length, Some, subst, arith}
 use Rattle.std.proofs.lemmas.List.Elements.{All-nil, All-cons, All-head, All-tail, All-append, All-from_recursion}
 use Rattle.choreo_lines.specs.declared.parts.Point.{Point}
 use Rattle.choreo_reader.specs.declared.show.DroneLine.{DroneLine}
@@ -9,7 +9,7 @@ use Rattle.cue_grid.specs.declared.grid.Job.{Job}
 use Rattle.mm_rounding.specs.Rounding.{controls}
 use Rattle.mm_rounding.specs.declared.piece.Axis.{Axis}
 use Rattle.figure_expand.specs.declared.fault.ExpandFault.TheVariants as fault
-use Rattle.figure_expand.specs.Acts.{act_of, end_of}
+use Rattle.figure_expand.specs.Acts.{act_of}
 use Rattle.figure_expand.specs.Controls.{axes_of}
 use Rattle.figure_expand.specs.Expanded.{Value, cue_values, first_unfit, fits, point_values, points_after, range_fault, start_points, start_values, values, values_from, values_of, values_on}
 

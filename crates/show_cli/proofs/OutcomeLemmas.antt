@@ -1,5 +1,5 @@
 -- An input comes to one outcome alone, and what a certificate comes to.
-use Rattle.std.proofs.Common.{◌≡◌, ◌⊎◌, inl, inr, ℕ, ◌<◌, ◌≤◌, Bool, true, false, cond, nat_lt, List, [], length, Option, Some, None, Result, Ok, Err, IfOk, refl, sym, ap, subst, ◌∙◌, arith}
+use Rattle.std.proofs.Common.{◌≡◌, inl, inr, ℕ, ◌<◌, ◌≤◌, Bool, true, false, cond, nat_lt, List, [], length, Option, Some, None, Result, Ok, Err, IfOk, refl, sym, ap, subst, ◌∙◌, arith}
 use Rattle.std.specs.Option.{option_map}
 use Rattle.std.proofs.lemmas.Bool.Decides.{nat_tests}
 use Rattle.std.specs.declared.alloc.AllocError.{AllocError}
@@ -77,6 +77,7 @@ refusal_is text short = by_test (nat_lt show_limit (length text)) refl
   where
     long : (m n : ℕ) → nat_lt m n ≡ true → m < n
     long m n test = grind (arith, nat_tests)
+
     by_test : (b : Bool) → nat_lt show_limit (length text) ≡ b → cond b (Some (outcome 3 too_large_line)) (option_map faulty (fault text)) ≡ option_map faulty (fault text)
     by_test true test = absurd (let over : show_limit < length text = long show_limit (length text) test in omega arith)
     by_test false test = refl

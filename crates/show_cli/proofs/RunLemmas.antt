@@ -1,12 +1,12 @@
 -- What a run answers and writes, from what its steps do.
-use Rattle.std.proofs.Common.{◌≡◌, ◌⊎◌, inl, inr, ℕ, zero, suc, List, [], ◌∷◌, Contains, Option, Some, None, IfSome, refl, ap, arith}
+use Rattle.std.proofs.Common.{◌≡◌, ◌⊎◌, inl, inr, ℕ, zero, suc, List, [], ◌∷◌, Contains, Option, Some, None, IfSome, refl, arith}
 use Rattle.show_cli.specs.declared.answer.Status.{Status}
 use Rattle.show_cli.specs.declared.answer.Status.TheVariants.{Done, FaultyShow, NoRoom, Blocked, FaultySecond, Invalid}
 use Rattle.show_cli.specs.declared.command.Command.{Command}
 use Rattle.show_cli.specs.declared.input.Input.{Input}
 use Rattle.show_cli.specs.Answers.{status_number}
 use Rattle.show_cli.specs.Input.{IsRead}
-use Rattle.show_cli.specs.Outcome.{IsOutcome, Outcome, cut_of}
+use Rattle.show_cli.specs.Outcome.{cut_of}
 use Rattle.show_cli.specs.Runs.{IsOutputFor, IsOutputOf}
 
 -- the output for what was read is that of the input, where the source tells it

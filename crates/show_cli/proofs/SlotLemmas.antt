@@ -56,6 +56,7 @@ blocked_among e depth curves n (s ∷ ss) a b cue index all is =
   where
     here : IsAmong n s
     here = All-head (IsAmong n) s ss all
+
     by_place : (o : Option ℕ) → option_or (option_map (blocked_at s) o) (blocked_in e depth curves ss) ≡ Some (fault.Blocked a b cue index) →
         (blocked_in e depth curves ss ≡ Some (fault.Blocked a b cue index) → (a < n) × (b < n)) → (a < n) × (b < n)
     by_place None is later = later is

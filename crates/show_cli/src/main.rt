@@ -1,4 +1,4 @@
-//! The program: it compiles a choreography of drones.
+//! The program: it checks, compiles and certifies choreographies of drones, and verifies their certificates.
 //!
 //! `run` (in `top`) is the program over any source and any sink, and has its contract. `main` is the trusted edge: it
 //! hands in the words and standard input and output, and ends with the status.
@@ -38,3 +38,5 @@ fn main(rt: HostRuntime) -> ExitCode {
     ExitCode::from(run(rt.alloc(), &words, &mut source, &mut sink))
 }
 
+#[cfg(test)]
+mod tests;

@@ -19,7 +19,10 @@ use crate::command::Command;
 use crate::input::Text;
 use choreo_reader::{Name, Show};
 use cue_grid::GridFault;
-use fault_lines::{blocked_line, extra_line, fails_line, grid_line, missing_line, range_line, room_line, second_line, too_deep_line};
+use fault_lines::{
+    blocked_line, extra_line, fails_line, grid_line, missing_line, range_line, room_line,
+    second_line, too_deep_line,
+};
 use figure_expand::ExpandFault;
 use fleet_io::Part;
 use sep_certificate::CertFault;

@@ -22,14 +22,12 @@ pub fn check(alloc: Global, fitted: &Fitted, depth: u8) -> Result<Answer, AllocE
         → IfOk result (λ a. ShowGives (Command.Check depth) (blocked_by (Some depth) s) s cut (outcome_of a)) }
     ensures apart { IfOk result (λ a. status_number a.status ≡ 0 → FlyApart fitted.now.settings fitted.now.trajs) }
 {
-    match certificate(alloc, fitted, depth) {
-        Ok(_) => {
-            let drones = fitted.names.as_slice().len() as u8;
-            let line = ok_line(drones, fitted.cues, fitted.duration);
-            Ok(answer_line(Status::Done, line))
-        }
-        Err(fault) => unseparated(fitted, depth, fault),
+    if let Err(fault) = certificate(alloc, fitted, depth) {
+        return unseparated(fitted, depth, fault);
     }
+    let drones = fitted.names.as_slice().len() as u8;
+    let line = ok_line(drones, fitted.cues, fitted.duration);
+    Ok(answer_line(Status::Done, line))
 }
 
 /// The plan text of a show, where it has a certificate of the depth.

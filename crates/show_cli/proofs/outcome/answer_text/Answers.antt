@@ -5,7 +5,7 @@ use Rattle.choreo_reader.specs.Plain.{PlainShow, plain}
 use Rattle.choreo_reader.specs.Text.{Fault, fault_at}
 use Rattle.show_cli.specs.declared.answer.Answer.{Answer}
 use Rattle.show_cli.specs.Answers.{IsSafeShow, outcome_of, status_number}
-use Rattle.show_cli.specs.Outcome.{IsSafe, Outcome, ShowGives, outcome, show_refusal}
+use Rattle.show_cli.specs.Outcome.{IsSafe, ShowGives, outcome, show_refusal}
 use Rattle.show_cli.proofs.OutcomeLemmas.{only_line, only_show, weaker}
 use Rattle.show_cli.proofs.outcome.answer_text.Goals as goal
 

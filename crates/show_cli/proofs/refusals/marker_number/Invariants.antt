@@ -1,4 +1,4 @@
-use Rattle.std.proofs.Common.{◌≡◌, ℕ, ◌+◌, ◌≤◌, drop}
+use Rattle.std.proofs.Common.{◌≡◌, ◌+◌, ◌≤◌, drop}
 use Rattle.show_cli.specs.Outcome.{feeds, marker_number}
 use Rattle.show_cli.proofs.refusals.marker_number.Given as goal
 

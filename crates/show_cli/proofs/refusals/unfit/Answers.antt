@@ -5,7 +5,6 @@ use Rattle.choreo_reader.specs.Plain.{plain}
 use Rattle.figure_expand.specs.declared.fault.ExpandFault.TheVariants as expand
 use Rattle.show_plan.specs.Fitting.{plan_fault}
 use Rattle.show_plan.specs.declared.fitted.PlanFault.TheVariants as fault
-use Rattle.show_cli.specs.Answers.{outcome_of}
 use Rattle.show_cli.specs.Outcome.{Outcome, outcome}
 use Rattle.show_cli.proofs.RefusalLemmas.{early_refused, refused_axis}
 use Rattle.show_cli.proofs.refusals.unfit.Goals as goal

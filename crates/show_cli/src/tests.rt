@@ -1,0 +1,510 @@
+//! Runs of the whole program over memory, with answers that are known from outside.
+use crate::top::run;
+use fleet_io::{MemSink, MemSource};
+use std::alloc::{AllocError, Global};
+use std::test::Fail;
+
+const START: &[u8] = b"choreo 1\ndrone solo 0 0 1000000 0\n";
+
+const CUE: &[u8] = b"cue 2000\nsolo move 1000000 0 1000000 0\nend\n";
+
+const SHOW: &[u8] =
+    b"choreo 1\ndrone solo 0 0 1000000 0\ncue 2000\nsolo move 1000000 0 1000000 0\nend\n";
+
+const PLAN: &[u8] = b"plan 1\ndrone solo bytes 28 pieces 1\n\
+data 00 00 00 00 E8 03 00 00 03 D0 07 00 00 00 00 00 00 E8 03 E8 03 E8 03 E8 03 00 00 00\nend\n";
+
+// Two drones that change places, one of them a metre higher than the other.
+const APART: &[u8] =
+    b"choreo 1\nellipsoid 120 300\ndrone a 0 0 1000000 0\ndrone b 1000000 0 1000000 0\n\
+cue 3000\nb move 1000000 0 2000000 0\nend\ncue 3000\na move 1000000 0 1000000 0\nb move 0 0 2000000 0\nend\n\
+cue 3000\nb move 0 0 1000000 0\nend\n";
+
+// Two drones that change places at one height.
+const CROSSING: &[u8] =
+    b"choreo 1\nellipsoid 120 300\ndrone a 0 0 1000000 0\ndrone b 1000000 0 1000000 0\n\
+cue 3000\na move 1000000 0 1000000 0\nb move 0 0 1000000 0\nend\n";
+
+// A drone whose trajectory has one byte more than there is room for.
+const WITHOUT_ROOM: &[u8] =
+    b"choreo 1\nmemory 2 4069\ndrone solo 0 0 1000000 0\ncue 2000\nsolo move 1000000 0 1000000 0\nend\n";
+
+const FIGURE: &[u8] =
+    b"choreo 1\ndrone solo 0 0 1000000 0\nfigure go p\ncue 1000\np line 1000000 0 1000000 0\nend\nend\n";
+
+const MARKER: &[u8] = b"%%\n";
+
+// How a source or a sink behaves: the most bytes of a call, and the number of the call that fails.
+#[derive(Clone, Copy)]
+struct Manner {
+    cut: usize,
+    fails: u64,
+}
+
+const FINE: Manner = Manner {
+    cut: 1000,
+    fails: 0,
+};
+
+fn source_of(
+    alloc: Global,
+    front: &[u8],
+    rest: &[u8],
+    manner: Manner,
+) -> Result<MemSource, AllocError> {
+    let mut bytes = Vec::from_slice(alloc, front)?;
+    bytes.extend_from_slice(rest)?;
+    let fails = Vec::from_slice(alloc, &[manner.fails])?;
+    Ok(MemSource::make(bytes, manner.cut.max(1), fails))
+}
+
+// The status of a run on an input in two halves, and the sink with what was written.
+fn answer(
+    alloc: Global,
+    words: &[&str],
+    front: &[u8],
+    rest: &[u8],
+    reads: Manner,
+    writes: Manner,
+) -> Result<(u8, MemSink), AllocError> {
+    let mut list = Vec::new(alloc);
+    for word in words {
+        list.push(String::from_str(alloc, word)?)?;
+    }
+    let mut source = source_of(alloc, front, rest, reads)?;
+    let fails = Vec::from_slice(alloc, &[writes.fails])?;
+    let mut sink = MemSink::make(alloc, 10_000, writes.cut.max(1), fails)?;
+    let status = run(alloc, &list, &mut source, &mut sink);
+    Ok((status, sink))
+}
+
+// Whether a run answers this.
+fn is_met(
+    alloc: Global,
+    words: &[&str],
+    front: &[u8],
+    rest: &[u8],
+    status: u8,
+    written: &[u8],
+) -> Result<bool, AllocError> {
+    let (met, sink) = answer(alloc, words, front, rest, FINE, FINE)?;
+    Ok(met == status && sink.written() == written)
+}
+
+#[test]
+fn commands(rt: HostRuntime) -> Result<(), Fail> {
+    let rows: [(&[&str], &[u8], u8, &[u8]); 18] = [
+        (&["compile"], SHOW, 0, PLAN),
+        (&["compile", "--depth", "000000008"], SHOW, 0, PLAN),
+        (
+            &["check"],
+            APART,
+            0,
+            b"ok drones 2 cues 3 duration_ms 9000\n",
+        ),
+        (&["certify"], APART, 0, b"certificate 6\nr\nl\na\n"),
+        (
+            &["certify", "--depth", "0"],
+            APART,
+            0,
+            b"certificate 0\nr\nl\na\n",
+        ),
+        (
+            &["check"],
+            CROSSING,
+            5,
+            b"error 5 pair a b cue 1 part 28 of 64\n",
+        ),
+        (
+            &["compile"],
+            CROSSING,
+            5,
+            b"error 5 pair a b cue 1 part 28 of 64\n",
+        ),
+        (
+            &["compile", "--depth", "0"],
+            CROSSING,
+            5,
+            b"error 5 pair a b cue 1 part 0 of 1\n",
+        ),
+        (
+            &["certify", "--depth", "0"],
+            CROSSING,
+            5,
+            b"error 5 pair a b cue 1 part 0 of 1\n",
+        ),
+        (&[], SHOW, 2, b"error 2 usage\n"),
+        (&["Compile"], SHOW, 2, b"error 2 usage\n"),
+        (
+            &["play", "--step", "5", "--step", "5"],
+            SHOW,
+            2,
+            b"error 2 usage\n",
+        ),
+        (&["compile", "--depth"], SHOW, 2, b"error 2 usage\n"),
+        (&["compile", "--depth", "9"], SHOW, 2, b"error 2 usage\n"),
+        (
+            &["compile", "--depth", "0000000008"],
+            SHOW,
+            2,
+            b"error 2 usage\n",
+        ),
+        (&["compile", "--Depth", "6"], SHOW, 2, b"error 2 usage\n"),
+        (&["verify", "--depth", "6"], APART, 2, b"error 2 usage\n"),
+        (&["help"], SHOW, 2, b"error 2 usage\n"),
+    ];
+    for (words, input, status, written) in rows {
+        assert!(rt; is_met(rt.alloc(), words, input, b"", status, written)?);
+    }
+    Ok(())
+}
+
+#[test]
+fn plans(rt: HostRuntime) -> Result<(), Fail> {
+    let repeated = b"repeat 255\ncue 1000\nend\nend\n";
+    let greatest = b"plan 1\ndrone solo bytes 28 pieces 1\n\
+data FF 7F 00 00 E8 03 00 00 03 D0 07 FF 7F FF 7F FF 7F E8 03 E8 03 E8 03 E8 03 00 00 00\nend\n";
+    let least = b"plan 1\ndrone solo bytes 28 pieces 1\n\
+data 00 80 00 00 E8 03 00 00 03 D0 07 00 80 00 80 00 80 E8 03 E8 03 E8 03 E8 03 00 00 00\nend\n";
+    let arc = b"plan 1\ndrone solo bytes 26 pieces 1\n\
+data E8 03 00 00 E8 03 00 00 0A E8 03 E8 03 28 02 00 00 28 02 E8 03 E8 03 00 00 00\nend\n";
+    let mirrored = b"plan 1\ndrone solo bytes 20 pieces 1\n\
+data 00 00 00 00 E8 03 00 00 54 E8 03 E8 03 DC 05 84 03 00 00 00\nend\n";
+    let rows: [(&[u8], &[u8], &[u8]); 5] = [
+        (
+            b"choreo 1\ndrone solo 32767499 0 1000000 0\n",
+            CUE,
+            greatest,
+        ),
+        (b"choreo 1\ndrone solo -32768500 0 1000000 0\n", CUE, least),
+        (
+            b"choreo 1\nmemory 2 4068\ndrone solo 0 0 1000000 0\n",
+            CUE,
+            PLAN,
+        ),
+        (
+            b"choreo 1\ndrone solo 1000000 0 1000000 0\n",
+            b"cue 1000\nsolo arc ccw 0 0 0\nend\n",
+            arc,
+        ),
+        (FIGURE, b"perform go y 1 0 0 500000 solo\n", mirrored),
+    ];
+    for (front, rest, written) in rows {
+        assert!(rt; is_met(rt.alloc(), &["compile"], front, rest, 0, written)?);
+    }
+    let ok = b"ok drones 1 cues 255 duration_ms 255000\n";
+    assert!(rt; is_met(rt.alloc(), &["check"], START, repeated, 0, ok)?);
+    let (status, sink) = answer(rt.alloc(), &["compile"], START, repeated, FINE, FINE)?;
+    assert_eq!(rt; status, 0);
+    assert!(rt;
+        sink.written()
+            .starts_with(b"plan 1\ndrone solo bytes 776 pieces 255\n")
+    );
+    Ok(())
+}
+
+#[test]
+fn refused_shows(rt: HostRuntime) -> Result<(), Fail> {
+    let rows: [(&[u8], &[u8], u8, &[u8]); 20] = [
+        (b"", b"", 3, b"error 3 line 1 header\n"),
+        (START, b"", 3, b"error 3 line 1 no-cue\n"),
+        (START, MARKER, 3, b"error 3 line 1 no-cue\n"),
+        (b"choreo 1\n", b"", 3, b"error 3 line 1 no-drone\n"),
+        (
+            b"choreo 2\ndrone solo 0 0 1000000 0\n",
+            CUE,
+            3,
+            b"error 3 line 1 header\n",
+        ),
+        (
+            b"choreo 1\ndrone solo 32767500 0 1000000 0\n",
+            CUE,
+            3,
+            b"error 3 line 2 out-of-range x 32767500\n",
+        ),
+        (
+            b"choreo 1\ndrone solo -32768501 0 1000000 0\n",
+            CUE,
+            3,
+            b"error 3 line 2 out-of-range x -32768501\n",
+        ),
+        (
+            b"choreo 1\ndrone Solo 0 0 1000000 0\n",
+            CUE,
+            3,
+            b"error 3 line 2 bad-name\n",
+        ),
+        (
+            b"choreo 1\ndrone solo 0 0 1000000\n",
+            CUE,
+            3,
+            b"error 3 line 2 bad-count\n",
+        ),
+        (
+            b"choreo 1\ndrone solo 0 0 1e6 0\n",
+            CUE,
+            3,
+            b"error 3 line 2 bad-number\n",
+        ),
+        (
+            b"choreo 1\ndrone solo 0 0 100000001 0\n",
+            CUE,
+            3,
+            b"error 3 line 2 range\n",
+        ),
+        (
+            b"choreo 1\nmemory 2 0\nmemory 2 0\ndrone solo 0 0 1000000 0\n",
+            CUE,
+            3,
+            b"error 3 line 3 double-setting\n",
+        ),
+        (SHOW, MARKER, 11, b"error 11 line 6\n"),
+        (
+            b"choreo 2\ndrone solo 0 0 1000000 0\n",
+            b"cue 2000\nsolo move 1000000 0 1000000 0\nend\x01\n",
+            3,
+            b"error 3 line 5 bad-byte\n",
+        ),
+        (SHOW, b"end\n", 3, b"error 3 line 6 bad-word\n"),
+        (SHOW, b"repeat 2\nend\n", 3, b"error 3 line 7 empty-block\n"),
+        (
+            WITHOUT_ROOM,
+            b"",
+            4,
+            b"error 4 drone solo bytes 28 room 27\n",
+        ),
+        (WITHOUT_ROOM, MARKER, 11, b"error 11 line 7\n"),
+        (CROSSING, MARKER, 11, b"error 11 line 9\n"),
+        (
+            b"choreo 1\nellipsoid 120 300\ndrone a 0 0 1000000 0\n",
+            b"drone b 223000 112000 1000000 0\ncue 1000\nend\n",
+            5,
+            b"error 5 pair a b cue 1 part 0 of 64\n",
+        ),
+    ];
+    for (front, rest, status, written) in rows {
+        assert!(rt; is_met(rt.alloc(), &["compile"], front, rest, status, written)?);
+    }
+    Ok(())
+}
+
+#[test]
+fn refused_cues(rt: HostRuntime) -> Result<(), Fail> {
+    let eight = b"repeat 1000000000\nrepeat 1000000000\nrepeat 1000000000\nrepeat 1000000000\n\
+repeat 1000000000\nrepeat 1000000000\nrepeat 1000000000\nrepeat 1000000000\n\
+cue 1000\nend\nend\nend\nend\nend\nend\nend\nend\nend\n";
+    let nine = b"repeat 1000000000\nrepeat 1000000000\nrepeat 1000000000\nrepeat 1000000000\n\
+repeat 1000000000\nrepeat 1000000000\nrepeat 1000000000\nrepeat 1000000000\nrepeat 1000000000\n\
+cue 1000\nend\nend\nend\nend\nend\nend\nend\nend\nend\nend\n";
+    let rows: [(&[u8], &[u8], &[u8]); 10] = [
+        (
+            START,
+            b"repeat 256\ncue 1000\nend\nend\n",
+            b"error 3 line 3 too-many-cues\n",
+        ),
+        (START, eight, b"error 3 line 3 too-many-cues\n"),
+        (START, nine, b"error 3 line 11 nesting\n"),
+        (
+            START,
+            b"cue 2000\nsolo move 1000000 0 1000000 0\n",
+            b"error 3 line 3 no-end\n",
+        ),
+        (
+            START,
+            b"cue 2000\nsolo\nend\n",
+            b"error 3 line 4 bad-count\n",
+        ),
+        (
+            START,
+            b"cue 2000\nsolo jump 0\nend\n",
+            b"error 3 line 4 bad-word\n",
+        ),
+        (
+            START,
+            b"cue 2000\nsolo move 1000000 0 1000000 0\nsolo move 1000000 0 1000000 0\nend\n",
+            b"error 3 line 5 double-act\n",
+        ),
+        (
+            b"choreo 1\ndrone solo 0 0 1000000 0\ndrone solo 0 0 1000000 0\n",
+            CUE,
+            b"error 3 line 3 double-name\n",
+        ),
+        (
+            FIGURE,
+            b"perform go y 1 0 0 500000 other\n",
+            b"error 3 line 8 unknown-name\n",
+        ),
+        (
+            FIGURE,
+            b"perform go y 1 0 0 500000 solo solo\n",
+            b"error 3 line 8 role-count\n",
+        ),
+    ];
+    for (front, rest, written) in rows {
+        assert!(rt; is_met(rt.alloc(), &["compile"], front, rest, 3, written)?);
+    }
+    Ok(())
+}
+
+#[test]
+fn certificates(rt: HostRuntime) -> Result<(), Fail> {
+    let rows: [(&[u8], &[u8], u8, &[u8]); 18] = [
+        (
+            APART,
+            b"%%\ncertificate 6\nr\nl\na\n",
+            0,
+            b"valid depth 6 trees 3\n",
+        ),
+        (
+            APART,
+            b"%%\r\ncertificate 6\r\nr\r\nl\r\na",
+            0,
+            b"valid depth 6 trees 3\n",
+        ),
+        (
+            APART,
+            b"%%\ncertificate 6\nr\nl\n",
+            12,
+            b"error 12 missing pair a b cue 3\n",
+        ),
+        (
+            APART,
+            b"%%\ncertificate 6\nr\na\n",
+            12,
+            b"error 12 fails pair a b cue 2 part 0 0 direction a control 0\n",
+        ),
+        (
+            APART,
+            b"%%\ncertificate 6\nr\nl\na\nr\n",
+            12,
+            b"error 12 extra line 5\n",
+        ),
+        (
+            APART,
+            b"%%\ncertificate 0\n.rr\nl\na\n",
+            12,
+            b"error 12 too-deep pair a b cue 1\n",
+        ),
+        (
+            APART,
+            b"%%\ncertificate 6\n.r\nl\na\n",
+            11,
+            b"error 11 line 2\n",
+        ),
+        (
+            APART,
+            b"%%\ncertificate 6\nr\nl\na\n%%\n",
+            11,
+            b"error 11 line 5\n",
+        ),
+        (APART, b"%%\n", 11, b"error 11 line 1\n"),
+        (APART, b"", 11, b"error 11 line 1\n"),
+        (APART, b"%%\ncertificate 9\n", 11, b"error 11 line 1\n"),
+        (APART, b"%%\ncertificate 06\n", 11, b"error 11 line 1\n"),
+        (APART, b"%%\ncertificate 6\naa\n", 11, b"error 11 line 2\n"),
+        (
+            APART,
+            b"%%\ncertificate 6\n..aa\n",
+            11,
+            b"error 11 line 2\n",
+        ),
+        (APART, b"%%\ncertificate 6\nA\n", 11, b"error 11 line 2\n"),
+        (
+            APART,
+            b"%%\nversion 2\ncertificate 6\n58\n46\n00\n",
+            11,
+            b"error 11 line 1\n",
+        ),
+        (START, b"%%\ncertificate 9\n", 3, b"error 3 line 1 no-cue\n"),
+        (
+            WITHOUT_ROOM,
+            b"%%\ncertificate 9\n",
+            4,
+            b"error 4 drone solo bytes 28 room 27\n",
+        ),
+    ];
+    for (front, rest, status, written) in rows {
+        assert!(rt; is_met(rt.alloc(), &["verify"], front, rest, status, written)?);
+    }
+    Ok(())
+}
+
+#[test]
+fn failures(rt: HostRuntime) -> Result<(), Fail> {
+    let first = Manner { cut: 30, fails: 1 };
+    let second = Manner { cut: 30, fails: 2 };
+    let third = Manner { cut: 40, fails: 3 };
+    let narrow = Manner { cut: 16, fails: 2 };
+    let behind = Manner { cut: 112, fails: 3 };
+    let rows: [(&[&str], &[u8], &[u8], Manner, Manner, u8, &[u8]); 8] = [
+        (&["compile"], SHOW, b"", first, FINE, 6, b"error 6 read\n"),
+        (&["compile"], SHOW, b"", second, FINE, 6, b"error 6 read\n"),
+        (&["compile"], SHOW, b"", third, FINE, 6, b"error 6 read\n"),
+        (
+            &["compile"],
+            SHOW,
+            b"",
+            FINE,
+            narrow,
+            7,
+            b"plan 1\ndrone sol",
+        ),
+        (&["compile"], SHOW, b"", first, first, 7, b""),
+        (
+            &["verify"],
+            APART,
+            b"%%\ncertificate 6\nr\nl\na\n",
+            behind,
+            FINE,
+            6,
+            b"error 6 read\n",
+        ),
+        (
+            &["verify"],
+            APART,
+            b"%%\ncertificate 6\nr\nl\na\n",
+            FINE,
+            narrow,
+            7,
+            b"valid depth 6 tr",
+        ),
+        (&["play"], SHOW, b"", FINE, first, 7, b""),
+    ];
+    for (words, front, rest, reads, writes, status, written) in rows {
+        let (met, sink) = answer(rt.alloc(), words, front, rest, reads, writes)?;
+        assert_eq!(rt; met, status);
+        assert_eq!(rt; sink.written(), written);
+    }
+    Ok(())
+}
+
+#[test]
+fn great_texts(rt: HostRuntime) -> Result<(), Fail> {
+    let alloc = rt.alloc();
+    let mut comment = Vec::new(alloc);
+    for _ in 0..1_048_576 - 77 {
+        comment.push(b'#')?;
+    }
+    assert!(rt; is_met(alloc, &["compile"], SHOW, &comment, 0, PLAN)?);
+    comment.push(b'#')?;
+    assert!(rt;
+        is_met(
+            alloc,
+            &["compile"],
+            SHOW,
+            &comment,
+            3,
+            b"error 3 too-large\n"
+        )?
+    );
+    let mut tree = Vec::from_slice(alloc, b"%%\ncertificate 6\n")?;
+    for _ in 0..100_000 {
+        tree.push(b'.')?;
+    }
+    for _ in 0..100_001 {
+        tree.push(b'a')?;
+    }
+    let deep = b"error 12 too-deep pair a b cue 1\n";
+    assert!(rt; is_met(alloc, &["verify"], APART, &tree, 12, deep)?);
+    Ok(())
+}
