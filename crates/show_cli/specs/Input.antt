@@ -1,6 +1,7 @@
 -- What the program has read of its input.
 use Rattle.std.specs.Prelude.{◌≡◌, ℕ, ◌<◌, ◌≤◌, Bool, false, List, [], length, Option, Some, IfSome}
-use Rattle.text_lines.specs.Marker.{rest_of}
+use Rattle.text_lines.specs.Lines.{between_feeds}
+use Rattle.text_lines.specs.Marker.{has_marker, part_of, rest_of}
 use Rattle.show_cli.specs.declared.command.Command.{Command}
 use Rattle.show_cli.specs.declared.command.Command.TheVariants.{Verify}
 use Rattle.show_cli.specs.declared.input.Text.{Text}
@@ -13,6 +14,10 @@ use Rattle.show_cli.specs.Outcome.{Cut, show_limit, certificate_limit}
 abbrev pub IsText : ℕ → Text → List ℕ → Bool → Type 0
 IsText limit TooLarge bytes is_marked = limit < length bytes
 IsText limit (Whole part) bytes is_marked = (part.bytes.items ≡ bytes) × (part.marker ≡ is_marked) × (length bytes ≤ limit)
+
+-- the text is the first one of these bytes to come, where they are known
+abbrev pub IsNextText : ℕ → Text → Option (List ℕ) → Type 0
+IsNextText limit text coming = IfSome coming (λ all. IsText limit text (part_of all) (has_marker (between_feeds all)))
 
 -- the text isn't too large
 abbrev pub IsWholeText : Text → Type 0

@@ -1,12 +1,10 @@
 //! What the program reads before it judges: a show's text, and for `verify` a certificate's behind it.
 ghost use Rattle.std.specs.Prelude.{◌≡◌, ◌≤◌, IsTrue, IfOk, IfSome};
 ghost use Rattle.std.specs.Io.KnownBytes.{IsAtEnd};
-ghost use Rattle.text_lines.specs.Lines.{between_feeds};
-ghost use Rattle.text_lines.specs.Marker.{has_marker, part_of};
 ghost use Rattle.fleet_io.specs.Causes.{Rose};
 ghost use Rattle.fleet_io.specs.Held.{stream, text_limit};
 ghost use Rattle.fleet_io.specs.Taken.{TakesFront};
-ghost use Rattle.show_cli.specs.Input.{EndsUnmarked, GoesOn, IsRead, IsReadWhole, IsText, IsUnmarked, IsWholeText, IsWithin};
+ghost use Rattle.show_cli.specs.Input.{EndsUnmarked, GoesOn, IsNextText, IsRead, IsReadWhole, IsUnmarked, IsWholeText, IsWithin};
 ghost use Rattle.show_cli.specs.Outcome.{certificate_limit, cut_of, show_limit};
 
 use crate::command::Command;
@@ -52,7 +50,7 @@ fn next_text<S: Source>(
     requires sound { IsTrue parts.old.sound }
     requires limit { limit ≤ text_limit }
     requires at_end { IsTrue parts.old.ended → IsAtEnd (S.left source.old) }
-    ensures text { IfOk result (λ text. IfSome (stream parts.old (S.left source.old)) (λ all. IsText limit text (part_of all) (has_marker (between_feeds all)))) }
+    ensures text { IfOk result (λ text. IsNextText limit text (stream parts.old (S.left source.old))) }
     ensures within { IfOk result (λ text. IsWithin limit text) }
     ensures rest { IfOk result (λ text. GoesOn text (stream parts.old (S.left source.old)) (stream parts.new (S.left source.new))) }
     ensures sound { IfOk result (λ text. IsWholeText text → IsTrue parts.new.sound) }
@@ -91,7 +89,7 @@ fn read_second<S: Source>(
 ) -> Result<Text, Failure>
     requires sound { IsWholeText show.now → IsTrue parts.old.sound }
     requires at_end { IsTrue parts.old.ended → IsAtEnd (S.left source.old) }
-    ensures text { IsWholeText show.now → IfOk result (λ text. IfSome (stream parts.old (S.left source.old)) (λ all. IsText certificate_limit text (part_of all) (has_marker (between_feeds all)))) }
+    ensures text { IsWholeText show.now → IfOk result (λ text. IsNextText certificate_limit text (stream parts.old (S.left source.old))) }
     ensures within { IfOk result (λ text. IsWithin certificate_limit text) }
     ensures whole { IsWholeText show.now → IfOk result (λ text. IsUnmarked text → IsAtEnd (S.left source.new)) }
     ensures failed { result ≡ Err Failure.Read → Rose (S.faults source.old) (S.faults source.new) }
