@@ -25,6 +25,14 @@ const CROSSING: &[u8] =
     b"choreo 1\nellipsoid 120 300\ndrone a 0 0 1000000 0\ndrone b 1000000 0 1000000 0\n\
 cue 3000\na move 1000000 0 1000000 0\nb move 0 0 1000000 0\nend\n";
 
+// Two drones 240.8 mm apart along x, whose trajectories are 240 mm apart; 241 suffice.
+const NEARER_WHEN_ROUNDED: &[u8] =
+    b"choreo 1\nellipsoid 120 300\ndrone a -400 0 1000000 0\ndrone b 240400 0 1000000 0\ncue 1000\nend\n";
+
+// Two drones 240.001 mm apart along x, whose trajectories are 241 mm apart.
+const FARTHER_WHEN_ROUNDED: &[u8] =
+    b"choreo 1\nellipsoid 120 300\ndrone a 499 0 1000000 0\ndrone b 240500 0 1000000 0\ncue 1000\nend\n";
+
 // A drone whose trajectory has one byte more than there is room for.
 const WITHOUT_ROOM: &[u8] =
     b"choreo 1\nmemory 2 4069\ndrone solo 0 0 1000000 0\ncue 2000\nsolo move 1000000 0 1000000 0\nend\n";
@@ -93,7 +101,7 @@ fn is_met(
 
 #[test]
 fn commands(rt: HostRuntime) -> Result<(), Fail> {
-    let rows: [(&[&str], &[u8], u8, &[u8]); 18] = [
+    let rows: [(&[&str], &[u8], u8, &[u8]); 20] = [
         (&["compile"], SHOW, 0, PLAN),
         (&["compile", "--depth", "000000008"], SHOW, 0, PLAN),
         (
@@ -133,6 +141,13 @@ fn commands(rt: HostRuntime) -> Result<(), Fail> {
             5,
             b"error 5 pair a b cue 1 part 0 of 1\n",
         ),
+        (
+            &["check"],
+            NEARER_WHEN_ROUNDED,
+            5,
+            b"error 5 pair a b cue 1 part 0 of 64\n",
+        ),
+        (&["certify"], FARTHER_WHEN_ROUNDED, 0, b"certificate 6\nv\n"),
         (&[], SHOW, 2, b"error 2 usage\n"),
         (&["Compile"], SHOW, 2, b"error 2 usage\n"),
         (
