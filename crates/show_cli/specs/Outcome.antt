@@ -1,18 +1,18 @@
 -- What a run of the program answers, and what it writes.
-use Rattle.std.specs.Prelude.{◌≡◌, ◌⊎◌, ℕ, suc, ◌≤◌, nat_lt, ◌==◌, Bool, List, [], ◌∷◌, length, map, slice_index_or, Option, Some, None, if◌then◌else◌}
+use Rattle.std.specs.Prelude.{◌≡◌, ◌⊎◌, ℕ, suc, ◌≤◌, nat_lt, ◌==◌, Bool, List, [], ◌∷◌, length, slice_index_or, Option, Some, None, if◌then◌else◌}
 use Rattle.std.specs.Option.{option_map, option_or}
 use Rattle.std.specs.List.{sum}
 use Rattle.std.specs.Str.Lines.{lines}
 use Rattle.text_lines.specs.Lines.{between_feeds}
 use Rattle.text_lines.specs.Marker.{has_marker, part_of, rest_of}
 use Rattle.choreo_lines.specs.Name.{Name}
-use Rattle.choreo_reader.specs.declared.show.DroneLine.{DroneLine}
 use Rattle.choreo_reader.specs.Plain.{PlainShow}
 use Rattle.choreo_reader.specs.Grammar.{StandsFor}
 use Rattle.choreo_reader.specs.Context.{fault}
 use Rattle.choreo_reader.specs.Text.{Fault}
 use Rattle.cue_grid.specs.Cues.{grid_of}
 use Rattle.cue_grid.specs.Faults.{grid_fault}
+use Rattle.cue_grid.specs.Names as drones
 use Rattle.figure_expand.specs.declared.fault.ExpandFault.TheVariants as expand
 use Rattle.figure_expand.specs.Expanded.{range_fault}
 use Rattle.traj_codec.specs.declared.traj.Traj.{Traj}
@@ -81,7 +81,7 @@ marker_number text = suc (feeds text)
 
 -- the names of a show's drones
 abbrev pub names_of : PlainShow → List Name
-names_of s = map (λ (d : DroneLine). d.name) s.drones
+names_of s = drones.names_of s.drones
 
 -- the trajectories of a show's drones
 abbrev pub trajectories_of : PlainShow → List Traj
