@@ -10,7 +10,7 @@ ghost use Rattle.choreo_lines.specs.Table.{kind_in};
 use crate::act::act_line;
 use crate::field::{coordinate, name, natural_field, nth, point};
 use crate::line::{Entry, Keyword, LineError, LineKind, Place};
-use crate::parts::{Frame, Listed, Mirror, Name};
+use crate::parts::{DRONE_LIMIT, Frame, Listed, Mirror, Name};
 use crate::word::keyword;
 use std::alloc::Global;
 use text_lines::{Token, word_at};
@@ -301,7 +301,7 @@ fn figure_fields(
 fn figure_line(alloc: Global, text: &[u8], words: &[Token]) -> Result<Entry, LineError>
     ensures { Gives result (spec.figure_line (words_in text.now words.now)) }
 {
-    if 2 <= words.len() && words.len() <= 33 {
+    if 2 <= words.len() && words.len() <= 1 + DRONE_LIMIT {
         figure_fields(alloc, nth(text, words, 0), text, &words[1..])
     } else {
         Err(LineError::Kind(LineKind::BadCount))
@@ -337,7 +337,7 @@ fn perform_fields(
 fn perform_line(alloc: Global, text: &[u8], words: &[Token]) -> Result<Entry, LineError>
     ensures { Gives result (spec.perform_line (words_in text.now words.now)) }
 {
-    if 7 <= words.len() && words.len() <= 38 {
+    if 7 <= words.len() && words.len() <= 6 + DRONE_LIMIT {
         perform_fields(alloc, text, words, &words[6..])
     } else {
         Err(LineError::Kind(LineKind::BadCount))

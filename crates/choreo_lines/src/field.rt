@@ -69,6 +69,13 @@ pub fn name_kept(word: &[u8]) -> Name
     name
 }
 
+/// A name once more.
+pub fn copy_of(name: &Name) -> Name
+    ensures { result ≡ name.now }
+{
+    name_kept(name.as_slice())
+}
+
 /// The name that a word is.
 pub fn name(word: &[u8]) -> Result<Name, LineKind>
     ensures { result ≡ name_in word.now }

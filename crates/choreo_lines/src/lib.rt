@@ -13,7 +13,7 @@ mod parts;
 mod word;
 
 pub use entry::entry_of;
-pub use field::{name_kept, number};
+pub use field::{copy_of, name_kept, number};
 pub use line::{Entry, Keyword, LineError, LineKind, Place};
-pub use parts::{Act, Frame, Listed, Mirror, Name, Point};
+pub use parts::{Act, DRONE_LIMIT, Frame, Listed, Mirror, Name, Point};
 pub use word::{is_name, keyword};

@@ -3,6 +3,9 @@
 use arrayvec::ArrayVec;
 use std::marker::Model;
 
+/// So many drones a show may have, and so many roles a figure (docs/LANGUAGE.md, "How many").
+pub const DRONE_LIMIT: usize = 32;
+
 /// A list that contracts see as a list, wherever it stands.
 #[derive(Drop)]
 pub struct Listed<T> {

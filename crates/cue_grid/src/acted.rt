@@ -7,7 +7,7 @@ ghost use Rattle.cue_grid.specs.Faults.{acted_by};
 ghost use Rattle.cue_grid.specs.Shown.{shown, place_names, HaveActs};
 
 use crate::lookup::Lookup;
-use crate::names::copy_of;
+use choreo_lines::copy_of;
 use choreo_reader::{ActLine, Name};
 use indexmap::IndexSet;
 use std::alloc::{AllocError, Global};

@@ -15,7 +15,8 @@ ghost use Rattle.cue_grid.specs.Faults.{drone_faults, place_faults, one_formatio
 use crate::acted::{Acted, has_acted, has_some_acted, nobody, put_acted};
 use crate::grid::GridFault;
 use crate::lookup::Lookup;
-use crate::names::{are_drones, copy_of, has_double, is_among, is_drone};
+use crate::names::{are_drones, has_double, is_among, is_drone};
+use choreo_lines::copy_of;
 use choreo_reader::{ActLine, Block, DroneLine, Figure, Formation, Name};
 use std::alloc::{AllocError, Global};
 

@@ -2,9 +2,6 @@
 
 use choreo_reader::{Act, DroneLine, Frame, Listed};
 
-/// So many drones a show may have.
-pub const DRONE_LIMIT: usize = 32;
-
 /// So many cues a show may have, repeats written out.
 pub const CUE_LIMIT: u32 = 255;
 

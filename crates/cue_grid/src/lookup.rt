@@ -6,7 +6,7 @@ ghost use Rattle.cue_grid.specs.Numbers.{IsNumbered, IsNoted, formation_names, f
 ghost use Rattle.cue_grid.specs.Names.{formation_named, figure_named, has_name, names_of};
 ghost use Rattle.cue_grid.specs.Marks.{number_in, Keeps, HasNumbers, IsPlaced, ArePlaced, AllPlaced};
 
-use crate::names::copy_of;
+use choreo_lines::copy_of;
 use choreo_reader::{DroneLine, Figure, Formation, Name, Show};
 use indexmap::{IndexMap, IndexSet};
 use std::alloc::{AllocError, AllocFailed, Global};

@@ -3,7 +3,6 @@
 ghost use Rattle.std.specs.Prelude.{◌≡◌};
 ghost use Rattle.cue_grid.specs.Names.{same_name as same_name_of, has_name, has_each, has_double as has_double_of, names_of};
 
-use arrayvec::ArrayVec;
 use choreo_reader::{DroneLine, Name};
 
 /// Whether two names are the same.
@@ -52,15 +51,4 @@ pub fn has_double(names: &[Name]) -> bool
         rest = others;
     }
     false
-}
-
-/// A name once more.
-pub fn copy_of(name: &Name) -> Name
-    ensures { result ≡ name.now }
-{
-    let mut copy = ArrayVec::new();
-    for byte in name.as_slice() {
-        copy.push(*byte);
-    }
-    copy
 }

@@ -12,9 +12,9 @@ ghost use Rattle.cue_grid.specs.Grids.{IsGrid};
 use crate::count::over_line;
 use crate::cues::cues_of;
 use crate::faults::name_fault;
-use crate::grid::{DRONE_LIMIT, Grid, GridFault};
+use crate::grid::{Grid, GridFault};
 use crate::lookup::Lookup;
-use crate::names::copy_of;
+use choreo_lines::{DRONE_LIMIT, copy_of};
 use choreo_reader::{DroneLine, Listed, Show};
 use std::alloc::{AllocError, Global};
 

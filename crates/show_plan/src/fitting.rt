@@ -16,7 +16,7 @@ ghost use Rattle.show_plan.specs.Fitting.{IsSendable, first_long};
 ghost use Rattle.show_plan.specs.Fitting.{AreEncodings, FitGives, IsValidFitted};
 
 use crate::fitted::{Fitted, PlanFault};
-use arrayvec::ArrayVec;
+use choreo_lines::copy_of;
 use choreo_reader::{DroneLine, Listed, Name, Point, Show};
 use cue_grid::{Cue, Grid, GridFault, unroll};
 use figure_expand::{ExpandFault, expand, expansion_law};
@@ -111,17 +111,6 @@ fn encodings(alloc: Global, trajs: &[Traj]) -> Result<Vec<Listed<u8>>, AllocErro
         rows.push(Listed::from_vec(bytes))?;
     }
     Ok(rows)
-}
-
-// A name once more.
-fn copy_of(name: &Name) -> Name
-    ensures { result ≡ name.now }
-{
-    let mut copy = ArrayVec::new();
-    for byte in name.as_slice() {
-        copy.push(*byte);
-    }
-    copy
 }
 
 // The names of drones.
