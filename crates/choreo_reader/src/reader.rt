@@ -24,6 +24,9 @@ use text_lines::{Token, split_line, word_at};
 /// How many repeats may stand inside each other (docs/LANGUAGE.md, "A repeat").
 const MOST_NESTED: usize = 8;
 
+// For how many items a list without any takes room.
+const LEAST_ROOM: usize = 4;
+
 /// An open block with what stands in it so far.
 #[derive(Drop)]
 pub enum OpenBlock {
@@ -144,13 +147,23 @@ fn is_empty_block(opened: &[OpenBlock]) -> bool
     }
 }
 
+// One more item at the end of a list. A full list takes room for a quarter more, where the standard library would double it.
+fn push<T: Drop>(list: &mut Vec<T>, item: T) -> Result<(), AllocError>
+    ensures { OnOk result (list.new.items ≡ list.old.items ++ item ∷ []) }
+{
+    if list.len() == list.capacity() {
+        list.reserve_exact(list.len() / 4 + LEAST_ROOM)?;
+    }
+    list.push(item)?;
+    Ok(())
+}
+
 // One more block at the end of a body.
 #[tactic(auto, using(crate::proofs::Blocks::body_push))]
 fn put(body: &mut Vec<Block>, block: Block) -> Result<(), AllocError>
     ensures { OnOk result (body_of body.new.items ≡ body_of body.old.items ⨾ block_of block plain.Done) }
 {
-    body.push(block)?;
-    Ok(())
+    push(body, block)
 }
 
 // A body that is whole, so that it needs no room for more blocks.
@@ -201,7 +214,7 @@ fn with_act(inner: OpenBlock, act: ActLine) -> Result<OpenBlock, AllocError>
 {
     match inner {
         OpenBlock::Cue { line, ms, mut acts } => {
-            acts.push(act)?;
+            push(&mut acts, act)?;
             Ok(OpenBlock::Cue { line, ms, acts })
         }
         other => Ok(other),
@@ -218,7 +231,7 @@ fn with_place(inner: OpenBlock, place: DroneLine) -> Result<OpenBlock, AllocErro
             name,
             mut places,
         } => {
-            places.push(place)?;
+            push(&mut places, place)?;
             Ok(OpenBlock::Formation { line, name, places })
         }
         other => Ok(other),
@@ -262,12 +275,14 @@ impl Reader {
     {
         match inner {
             OpenBlock::Formation { line, name, places } => {
-                self.formations.push(Formation {
-                    line,
-                    name,
-                    places: Listed::from_vec(places),
-                })?;
-                Ok(())
+                push(
+                    &mut self.formations,
+                    Formation {
+                        line,
+                        name,
+                        places: Listed::from_vec(places),
+                    },
+                )
             }
             OpenBlock::Figure {
                 line,
@@ -275,13 +290,15 @@ impl Reader {
                 roles,
                 body,
             } => {
-                self.figures.push(Figure {
-                    line,
-                    name,
-                    roles,
-                    body: fitted(body),
-                })?;
-                Ok(())
+                push(
+                    &mut self.figures,
+                    Figure {
+                        line,
+                        name,
+                        roles,
+                        body: fitted(body),
+                    },
+                )
             }
             OpenBlock::Repeat { line, times, body } => {
                 self.add_block(Block::Repeat {
@@ -343,8 +360,7 @@ impl Reader {
     fn add_drone(&mut self, drone: DroneLine) -> Result<(), AllocError>
         ensures { OnOk result (built_of self.new ≡ record (built_of self.old) { drones = (built_of self.old).drones ++ drone ∷ [] }) }
     {
-        self.drones.push(drone)?;
-        Ok(())
+        push(&mut self.drones, drone)
     }
 
     // What one more line says.
