@@ -241,6 +241,15 @@ fn add(bytes: &mut Vec<u8>, start: &mut usize, byte: u8) -> Result<(), AllocErro
     Ok(())
 }
 
+// A part that is whole, so that it needs no room for more bytes.
+fn whole_part(mut bytes: Vec<u8>, marker: bool) -> Part
+    ensures bytes { result.bytes.items ≡ bytes.items }
+    ensures marker { result.marker ≡ marker }
+{
+    bytes.shrink_to_fit();
+    Part { bytes, marker }
+}
+
 // The part of which the line that begins at `start` is the marker line.
 fn up_to_marker(mut bytes: Vec<u8>, start: usize, limit: usize) -> Result<Part, IoFault>
     requires { start ≤ length bytes.items }
@@ -251,10 +260,7 @@ fn up_to_marker(mut bytes: Vec<u8>, start: usize, limit: usize) -> Result<Part, 
     if start > limit {
         return Err(IoFault::TooLong);
     }
-    Ok(Part {
-        bytes,
-        marker: true,
-    })
+    Ok(whole_part(bytes, true))
 }
 
 // The part that ends with the input. Its last line begins at `start`, and may be a marker line.
@@ -273,8 +279,5 @@ fn up_to_end(bytes: Vec<u8>, start: usize, limit: usize) -> Result<Part, IoFault
     if bytes.len() > limit {
         return Err(IoFault::TooLong);
     }
-    Ok(Part {
-        bytes,
-        marker: false,
-    })
+    Ok(whole_part(bytes, false))
 }
