@@ -1,6 +1,7 @@
 //! Numbers, curves and pieces rounded.
 
-ghost use Rattle.std.specs.Prelude.{◌≡◌, ◌≤◌, map, length, IfSome};
+ghost use Rattle.std.specs.Prelude.{◌≡◌, ◌≤◌, ◌*ℤ◌, ◌-ℤ◌, pos, neg_ℤ, map, length, IfSome};
+ghost use Rattle.fleet_math.specs.Numbers.{IsIn};
 ghost use Rattle.mm_rounding.specs.declared.piece.Axis.TheVariants.{Two, Four, Eight};
 ghost use Rattle.mm_rounding.specs.Rounding.{millimetres, short, shorts, rounded, all_equal, element_of, fitted, rounding};
 ghost use Rattle.mm_rounding.specs.Near.{StaysNear};
@@ -29,7 +30,9 @@ fn short(v: i64) -> Option<i16>
 /// Micrometres in whole millimetres: `v + 500` divided by 1,000 and rounded down, so that a half goes up. Nothing exactly
 /// where the millimetres don't fit two bytes.
 pub fn to_mm(v: i64) -> Option<i16>
-    ensures { result ≡ short (millimetres v) }
+    ensures value { result ≡ short (millimetres v) }
+    // It errs by at most 500 micrometres.
+    ensures near { IfSome result (λ mm. IsIn (neg_ℤ (pos 500)) (pos 500) (pos 1000 *ℤ mm -ℤ v)) }
 {
     short(millimetres(v))
 }
