@@ -31,6 +31,7 @@ impl<T> Listed<T> {
         Listed { items }
     }
 
+    /// The vector again; no memory is taken.
     pub fn into_vec(self) -> Vec<T>
         ensures { result.items ≡ self }
     {
@@ -38,6 +39,7 @@ impl<T> Listed<T> {
         items
     }
 
+    /// The items, to be read.
     pub fn as_slice(&self) -> &[T]
         ensures { result.now ≡ self.now }
     {

@@ -31,7 +31,7 @@ impl Model for Nodes {
 
 impl Nodes {
     /// The nodes of a vector.
-    pub fn new(items: Vec<Node>) -> Nodes
+    pub fn from_vec(items: Vec<Node>) -> Nodes
         ensures { result ≡ items.items }
     {
         Nodes { items }
@@ -42,6 +42,14 @@ impl Nodes {
         ensures { result.now ≡ self.now }
     {
         &self.items
+    }
+
+    /// The vector again; no memory is taken.
+    pub fn into_vec(self) -> Vec<Node>
+        ensures { result.items ≡ self }
+    {
+        let Nodes { items } = self;
+        items
     }
 }
 
@@ -62,7 +70,7 @@ impl Model for Trees {
 
 impl Trees {
     /// The trees of a vector.
-    pub fn new(items: Vec<Nodes>) -> Trees
+    pub fn from_vec(items: Vec<Nodes>) -> Trees
         ensures { result ≡ items.items }
     {
         Trees { items }
@@ -73,6 +81,14 @@ impl Trees {
         ensures { result.now ≡ self.now }
     {
         &self.items
+    }
+
+    /// The vector again; no memory is taken.
+    pub fn into_vec(self) -> Vec<Nodes>
+        ensures { result.items ≡ self }
+    {
+        let Trees { items } = self;
+        items
     }
 }
 

@@ -49,7 +49,7 @@ fn way(alloc: Global, places: [[i16; 3]; 4]) -> Result<Traj, AllocError>
     ]?;
     Ok(Traj {
         start: [x, y, z, 0],
-        segments: Segments::new(legs),
+        segments: Segments::from_vec(legs),
     })
 }
 

@@ -102,7 +102,7 @@ pub fn read_certificate(alloc: Global, text: &[u8]) -> Result<Certificate, CertT
         let Ok(nodes) = nodes_of(alloc, bytes) else {
             return Err(CertTextFault::Memory);
         };
-        let Ok(()) = trees.push(Nodes::new(nodes)) else {
+        let Ok(()) = trees.push(Nodes::from_vec(nodes)) else {
             return Err(CertTextFault::Memory);
         };
         rest = behind;
@@ -110,7 +110,7 @@ pub fn read_certificate(alloc: Global, text: &[u8]) -> Result<Certificate, CertT
     }
     Ok(Certificate {
         depth,
-        trees: Trees::new(trees),
+        trees: Trees::from_vec(trees),
     })
 }
 

@@ -58,7 +58,7 @@ fn trajectory_of(alloc: Global, start: &Point, pieces: &[MicroPiece]) -> Result<
     }
     Ok(Traj {
         start: start_at(start),
-        segments: Segments::new(segments),
+        segments: Segments::from_vec(segments),
     })
 }
 

@@ -44,7 +44,7 @@ fn tree_of(
         &mut nodes,
     )?;
     match found {
-        Found::Clear => Ok(Nodes::new(nodes)),
+        Found::Clear => Ok(Nodes::from_vec(nodes)),
         Found::Blocked { index } => Err(PlanFault::Blocked {
             a: slot.a,
             b: slot.b,
@@ -78,7 +78,7 @@ fn trees_of(
         };
         slot = slot.next(drones, cues);
     }
-    Ok(Trees::new(trees))
+    Ok(Trees::from_vec(trees))
 }
 
 /// The certificate of a show that fits: for each pair of drones and each cue the tree with the largest possible leaves, each with

@@ -228,7 +228,7 @@ fn segments_at(
         segments.push(segment)?;
         next = behind;
     }
-    Ok((Segments::new(segments), next))
+    Ok((Segments::from_vec(segments), next))
 }
 
 /// The trajectory of so many segments that the bytes begin with, and how many bytes it takes (docs/TRAJECTORY.md). What

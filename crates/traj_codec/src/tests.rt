@@ -14,7 +14,7 @@ fn traj(alloc: Global, start: [i16; 4], segment: Segment) -> Result<Traj, AllocE
     segments.push(segment)?;
     Ok(Traj {
         start,
-        segments: Segments::new(segments),
+        segments: Segments::from_vec(segments),
     })
 }
 

@@ -45,7 +45,7 @@ impl Model for Segments {
 
 impl Segments {
     /// The segments of a vector.
-    pub fn new(items: Vec<Segment>) -> Segments
+    pub fn from_vec(items: Vec<Segment>) -> Segments
         ensures { result ≡ items.items }
     {
         Segments { items }

@@ -55,7 +55,7 @@ impl Session {
         let mut copies = Vec::new(alloc);
         for load in loads {
             copies.push(Load {
-                bytes: Bytes::make(load.bytes.as_slice().to_vec(alloc)?),
+                bytes: Bytes::from_vec(load.bytes.as_slice().to_vec(alloc)?),
                 pieces: load.pieces,
             })?;
         }

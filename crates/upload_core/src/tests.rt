@@ -20,11 +20,11 @@ fn two_drones(alloc: Global, start: bool) -> Result<Session, AllocError>
 {
     let mut loads = Vec::new(alloc);
     loads.push(Load {
-        bytes: Bytes::make(PATH.to_vec(alloc)?),
+        bytes: Bytes::from_vec(PATH.to_vec(alloc)?),
         pieces: 1,
     })?;
     loads.push(Load {
-        bytes: Bytes::make(PATH.to_vec(alloc)?),
+        bytes: Bytes::from_vec(PATH.to_vec(alloc)?),
         pieces: 1,
     })?;
     let settings = Settings {

@@ -19,8 +19,8 @@ impl Model for Bytes {
 }
 
 impl Bytes {
-    /// The bytes that the vector has.
-    pub fn make(bytes: Vec<u8>) -> Bytes
+    /// The bytes of a vector.
+    pub fn from_vec(bytes: Vec<u8>) -> Bytes
         ensures { result ≡ bytes.items }
     {
         Bytes { bytes }
@@ -31,6 +31,14 @@ impl Bytes {
         ensures { result.now ≡ self.now }
     {
         self.bytes.as_slice()
+    }
+
+    /// The vector again; no memory is taken.
+    pub fn into_vec(self) -> Vec<u8>
+        ensures { result.items ≡ self }
+    {
+        let Bytes { bytes } = self;
+        bytes
     }
 }
 

@@ -26,7 +26,7 @@ pub loop-rest-preserved : goal.loop-rest-preserved
 loop-rest-preserved c =
     let some : 0 < length c.loop-rest.rest.now = some_left c.loop-rest.rest.now c.loop-rest-test.ensures in
     let items : c.push.new.self.items ≡ c.loop-rest.trees.items ++ c.in-Ok.nodes.items ∷ [] =
-    c.in-Ok-push.ensures.items ∙ ap (λ (ns : List Node). c.loop-rest.trees.items ++ ns ∷ []) c.new.ensures in
+    c.in-Ok-push.ensures.items ∙ ap (λ (ns : List Node). c.loop-rest.trees.items ++ ns ∷ []) c.from_vec.ensures in
     let longer : length c.push.new.self.items ≡ length c.loop-rest.trees.items + 1 =
     ap (λ (ts : List (List Node)). length ts) items ∙ length-append c.loop-rest.trees.items (c.in-Ok.nodes.items ∷ []) in
     record {
@@ -44,7 +44,7 @@ loop-rest-preserved c =
 pub returns : goal.returns
 returns c =
     let none : lines c.loop-rest.rest.now ≡ [] = no_lines c.loop-rest.rest.now c.loop-rest-test.ensures in (
-      rw c.new-2.ensures (record {
+      rw c.from_vec-2.ensures (record {
         whole = record { depth = c.loop-rest.invariant.depth; few = omega (arith, c.loop-rest.invariant.few); trees = c.loop-rest.invariant.trees; leaves = c.loop-rest.invariant.leaves };
         lines_are = c.loop-rest.invariant.lines_are ∙ ap (λ (ls : List (List ℕ)). header c.in-Some.depth ∷ (map tree_line c.loop-rest.trees.items ++ ls)) none
             ∙ ap (λ (ls : List (List ℕ)). header c.in-Some.depth ∷ ls) (append-nil (map tree_line c.loop-rest.trees.items));

@@ -9,8 +9,8 @@ search_with-requires c = (lit< tt, (lit< tt, (c.requires.depth, (c.requires.r, (
 
 pub returns-in-Clear : goal.returns-in-Clear
 returns-in-Clear c =
-    clear_found c.args.settings c.args.depth c.args.curves.now c.args.slot c.diff-diff.result c.in_ok-found.found c.search_with.new.nodes.items c.new.result
-    c.diff-diff.ensures.exact c.in-Clear.is c.new.ensures c.in_ok-found.ensures.exact
+    clear_found c.args.settings c.args.depth c.args.curves.now c.args.slot c.diff-diff.result c.in_ok-found.found c.search_with.new.nodes.items c.from_vec.result
+    c.diff-diff.ensures.exact c.in-Clear.is c.from_vec.ensures c.in_ok-found.ensures.exact
 
 pub returns-in-Blocked : goal.returns-in-Blocked
 returns-in-Blocked c =
