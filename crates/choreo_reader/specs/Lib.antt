@@ -5,3 +5,4 @@ pub mod Context
 pub mod Valid
 pub mod Reading
 pub mod Reader
+pub mod Laws

@@ -14,7 +14,7 @@ mod token;
 
 pub use choreo_lines::{Act, Frame, LineKind, Listed, Mirror, Name, Point};
 pub use fault::ShowFault;
-pub use reader::read_show;
+pub use reader::{read_show, show_law};
 pub use show::{ActLine, Block, DroneLine, Figure, Formation, Settings, Show};
 pub use text_lines::Token;
 pub use token::{MOST_BYTES, tokens};

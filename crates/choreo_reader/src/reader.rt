@@ -5,6 +5,7 @@ ghost use Rattle.choreo_reader.specs.Plain.{block_of, body_of, plain as plain_sh
 ghost use Rattle.choreo_reader.specs.Grammar.{StandsFor};
 ghost use Rattle.choreo_reader.specs.Plain as plain;
 ghost use Rattle.choreo_reader.specs.Valid.{IsValid};
+ghost use Rattle.choreo_reader.specs.Laws.{ShowLaw};
 ghost use Rattle.choreo_reader.specs.Reader.{open_of, opens_of, built_of, Steps, ShowGives, ReadingFails, FaultGives};
 ghost use Rattle.choreo_reader.specs.Context.{is_figure as is_figure_of, is_repeat as is_repeat_of, in_figure as in_figure_of, repeats as repeats_of, place_of, is_empty_block as is_empty_block_of, is_header as is_header_of, fault};
 ghost use Rattle.choreo_reader.specs.Text.{show_lines};
@@ -623,3 +624,8 @@ pub fn read_show(alloc: Global, text: &[u8]) -> Result<Show, ShowFault>
 {
     read_text(alloc, text)
 }
+
+/// The law of shows' texts: a text stands for at most one show, which is valid, and for one exactly where it has no fault.
+pub fn show_law()
+    ensures { ShowLaw }
+{}
