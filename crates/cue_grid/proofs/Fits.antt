@@ -1,13 +1,15 @@
 -- The grid of a valid show without a fault is valid.
 use Rattle.std.proofs.Common.{◌≡◌, ℕ, zero, suc, ◌+◌, ◌*◌, ◌≤◌, Bool, true, false, cond, List, [], ◌∷◌, ◌++◌, map, length, drop, Option, Some, None, refl, sym, ap, subst, ◌∙◌, arith}
 use Rattle.std.specs.Prelude.{◌&&◌, nat_lt, ◌==◌, IsTrue, neg_ℤ, pos, ◌≤ℤ◌}
+use Rattle.std.specs.List.{All}
 use Rattle.std.proofs.lemmas.List.{length-append, length-map}
+use Rattle.std.proofs.lemmas.List.Elements.{All-nil, All-cons}
 use Rattle.std.proofs.lemmas.Bool.Decides.{nat_tests}
 use Rattle.choreo_reader.specs.Plain as plain
 use Rattle.choreo_lines.specs.Name.{Name}
 use Rattle.choreo_reader.specs.Plain.{Body, PlainFigure, PlainShow, has_block}
 use Rattle.choreo_reader.specs.Grammar.{is_filled, fits_figure}
-use Rattle.choreo_reader.specs.Valid.{FitsCoordinate, FitsPoint, FitsAct, FitsFrame, FitsActLine, FitActLines, FitsBody, FitDroneLines, FitFormations, FitFigures, IsValid}
+use Rattle.choreo_reader.specs.Valid.{IsName, FitsCoordinate, FitsPoint, FitsAct, FitsFrame, FitsActLine, FitActLines, FitsBody, FitDroneLines, FitFormations, FitFigures, IsValid}
 use Rattle.choreo_reader.specs.declared.show.ActLine.{ActLine}
 use Rattle.choreo_reader.specs.declared.show.ActLine.TheVariants as on
 use Rattle.choreo_lines.specs.declared.parts.Act.{Act}
@@ -276,6 +278,16 @@ zero_fits = ((let a : neg_ℤ (pos 100000000) ≤ℤ pos 0 = search arith in a),
 no_frame_fits : FitsFrame no_frame
 no_frame_fits = (omega arith, zero_fits, zero_fits, zero_fits)
 
+-- drones that are as the language has them start in the ranges of a point
+points_fit : (ds : List DroneLine) → FitDroneLines ds → All (λ (s : DroneLine). FitsPoint s.at) ds
+points_fit [] h = All-nil (λ (s : DroneLine). FitsPoint s.at)
+points_fit (d ∷ ds) h = All-cons (λ (s : DroneLine). FitsPoint s.at) d ds h.1 (points_fit ds h.2)
+
+-- and have names of the language
+names_fit : (ds : List DroneLine) → FitDroneLines ds → All (λ (s : DroneLine). IsName s.name) ds
+names_fit [] h = All-nil (λ (s : DroneLine). IsName s.name)
+names_fit (d ∷ ds) h = All-cons (λ (s : DroneLine). IsName s.name) d ds h.0 (names_fit ds h.2)
+
 pub fit_grid : (s : PlainShow) → IsValid s → grid_fault s ≡ None → IsGrid (grid_of s)
 fit_grid s v h =
     let drones = neither (no_drone s) (or_else (many_drones s) (or_else (earliest (name_faults s)) (or_else (no_cue s.body) (many_cues (over_at s.figures 0 s.body))))) h in
@@ -291,7 +303,7 @@ fit_grid s v h =
     record {
       some_start = some_drone s.drones drones.0;
       few_starts = all_dropped drone_limit s.drones (not_many (drop drone_limit s.drones) many.0);
-      starts = v.drones;
+      starts = points_fit s.drones v.drones;
       some_cue = omega (arith, one, cues_counted s);
       few_cues = omega (arith, limit, cues_counted s);
       cues = cues_fit s as_written (performed_cues s) v.formations no_frame_fits (λ figure frame drones f. figure_cues_fit s (figure_named s.figures figure) frame drones v.formations (figure_fits s.figures figure v.figures) f) s.body v.body;
@@ -305,3 +317,7 @@ pub answered : (s : PlainShow) (o : Option GridFault) (starts : List DroneLine) 
 answered s o starts cues v h k p q =
     let e : grid_with starts cues ≡ grid_of s = ap (λ x. grid_with x cues) p ∙ ap (grid_with s.drones) q in
     subst IsGrid (sym e) (fit_grid s v (sym h ∙ k))
+
+-- the starts of a valid show have names of the language
+pub answered_names : (s : PlainShow) (starts : List DroneLine) → IsValid s → starts ≡ s.drones → All (λ (d : DroneLine). IsName d.name) starts
+answered_names s starts v p = subst (All (λ (d : DroneLine). IsName d.name)) (sym p) (names_fit s.drones v.drones)

@@ -3,6 +3,7 @@
 use Rattle.std.specs.Prelude.{ℕ, Bool, true, false, not, ◌||◌, List, [], ◌∷◌, ◌++◌, length, drop, Option, Some, None, ◌==◌, nat_lt, if◌then◌else◌}
 use Rattle.choreo_reader.specs.Plain as plain
 use Rattle.choreo_lines.specs.Name.{Name}
+use Rattle.choreo_lines.specs.declared.parts.TheConstants.{DRONE_LIMIT}
 use Rattle.choreo_reader.specs.Plain.{Body, PlainFigure, PlainShow}
 use Rattle.choreo_reader.specs.declared.show.ActLine.{ActLine}
 use Rattle.choreo_reader.specs.declared.show.ActLine.TheVariants as on
@@ -136,7 +137,7 @@ no_drone s = if length s.drones == 0 then Some (NoDrone 1) else None
 
 -- so many drones a show may have
 abbrev pub drone_limit : ℕ
-drone_limit = 32
+drone_limit = DRONE_LIMIT
 
 abbrev pub too_many : List DroneLine → Option GridFault
 too_many [] = None

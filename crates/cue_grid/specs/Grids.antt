@@ -1,6 +1,8 @@
 -- Which grids are valid: those of which every count and every number is as the language lets it be.
 use Rattle.std.specs.Prelude.{◌≡◌, ℕ, ◌≤◌, List, [], ◌∷◌, length}
-use Rattle.choreo_reader.specs.Valid.{FitDroneLines, FitsFrame, FitsAct}
+use Rattle.std.specs.List.{All}
+use Rattle.choreo_reader.specs.Valid.{FitsPoint, FitsFrame, FitsAct}
+use Rattle.choreo_reader.specs.declared.show.DroneLine.{DroneLine}
 use Rattle.cue_grid.specs.Counts.{cue_limit}
 use Rattle.cue_grid.specs.Faults.{drone_limit}
 use Rattle.cue_grid.specs.declared.grid.Job.{Job}
@@ -30,7 +32,7 @@ FitCues n (c ∷ cs) = FitsCue n c × FitCues n cs
 pub record IsGrid (g : Grid) : Type 0 where
   pub some_start : 1 ≤ length g.starts
   pub few_starts : length g.starts ≤ drone_limit
-  pub starts : FitDroneLines g.starts
+  pub starts : All (λ (s : DroneLine). FitsPoint s.at) g.starts
   pub some_cue : 1 ≤ length g.cues
   pub few_cues : length g.cues ≤ cue_limit
   pub cues : FitCues (length g.starts) g.cues

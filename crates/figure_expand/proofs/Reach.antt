@@ -2,7 +2,7 @@
 use Rattle.std.proofs.Common.{◌≡◌, ℕ, zero, suc, ◌+◌, ◌*◌, ◌^◌, ◌<◌, ◌≤◌, Bool, true, false, ℤ, pos, ◌+ℤ◌, ◌-ℤ◌, List, [], ◌∷◌, length, get_or, to_z, of_z, w64, arith, refl, sym, ap, subst}
 use Rattle.std.specs.List.{All}
 use Rattle.std.proofs.lemmas.Int.{ints, to_z-of_z}
-use Rattle.std.proofs.lemmas.List.Elements.{All-nil, All-cons, All-get_or}
+use Rattle.std.proofs.lemmas.List.Elements.{All-nil, All-cons, All-get_or, All-tail}
 use Rattle.choreo_lines.specs.declared.parts.Point.{Point}
 use Rattle.choreo_lines.specs.declared.parts.Frame.{Frame}
 use Rattle.choreo_lines.specs.declared.parts.Mirror.{Mirror}
@@ -10,7 +10,7 @@ use Rattle.choreo_lines.specs.declared.parts.Mirror.TheVariants as mirror
 use Rattle.choreo_lines.specs.declared.parts.Act.{Act}
 use Rattle.choreo_lines.specs.declared.parts.Act.TheVariants as act
 use Rattle.choreo_reader.specs.declared.show.DroneLine.{DroneLine}
-use Rattle.choreo_reader.specs.Valid.{FitsFrame, FitsPoint, FitsCoordinate, FitsYaw, FitsTriple, FitsAct, FitDroneLines}
+use Rattle.choreo_reader.specs.Valid.{FitsFrame, FitsPoint, FitsCoordinate, FitsYaw, FitsTriple, FitsAct}
 use Rattle.cue_grid.specs.declared.grid.Job.{Job}
 use Rattle.cue_grid.specs.declared.grid.Cue.{Cue}
 use Rattle.cue_grid.specs.Frames.{mirrored, turned_once, turned, shifted, applied, IsUpTo, IsPointUpTo, IsShiftUpTo}
@@ -207,16 +207,17 @@ pub length-start_points : (starts : List DroneLine) → length (start_points sta
 length-start_points [] = refl
 length-start_points (s ∷ starts) = ap suc (length-start_points starts)
 
+-- where one of the drones starts
+pub start_in_reach : (starts : List DroneLine) (d : ℕ) (other : DroneLine) → d < length starts → All (λ (s : DroneLine). FitsPoint s.at) starts → IsPointUpTo (reach 0) (get_or starts d other).at
+start_in_reach starts d other within fit =
+    let start : Point = (get_or starts d other).at in
+    wider_point 100000000 (reach 0) start (omega arith) (point_small start (All-get_or (λ (s : DroneLine). FitsPoint s.at) starts d other within fit))
+
 -- where drones start
-pub starts_in_reach : (starts : List DroneLine) → FitDroneLines starts → AreInReach 0 (start_points starts)
+pub starts_in_reach : (starts : List DroneLine) → All (λ (s : DroneLine). FitsPoint s.at) starts → AreInReach 0 (start_points starts)
 starts_in_reach [] fit = All-nil (IsPointUpTo (reach 0))
 starts_in_reach (s ∷ starts) fit =
-    All-cons (IsPointUpTo (reach 0)) s.at (start_points starts) (wider_point 100000000 (reach 0) s.at (omega arith) (point_small s.at fit.1)) (starts_in_reach starts fit.2)
-
-pub start_in_reach : (starts : List DroneLine) (d : ℕ) (other : DroneLine) → d < length starts → FitDroneLines starts → IsPointUpTo (reach 0) (get_or starts d other).at
-start_in_reach [] d other within fit = absurd (omega arith)
-start_in_reach (s ∷ starts) zero other within fit = wider_point 100000000 (reach 0) s.at (omega arith) (point_small s.at fit.1)
-start_in_reach (s ∷ starts) (suc d) other within fit = start_in_reach starts d other (omega arith) fit.2
+    All-cons (IsPointUpTo (reach 0)) s.at (start_points starts) (start_in_reach (s ∷ starts) 0 s (omega arith) fit) (starts_in_reach starts (All-tail (λ (s : DroneLine). FitsPoint s.at) s starts fit))
 
 -- after one more cue
 pub points_in_reach : (k : ℕ) (points : List Point) (jobs : List Job) → length points ≡ length jobs → AreInReach k points → FitJobs jobs → AreInReach (k + 1) (points_after points jobs)
