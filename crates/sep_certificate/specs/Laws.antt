@@ -1,11 +1,14 @@
--- What a valid certificate promises.
-use Rattle.std.specs.Prelude.{ℕ, ℤ, List}
+-- What a valid certificate promises, and how a certificate is seen to be valid.
+use Rattle.std.specs.Prelude.{◌≡◌, ◌↔◌, ℕ, ℤ, List, length, None}
 use Rattle.sep_parts.specs.Apart.{KeepsApart}
 use Rattle.sep_parts.specs.Raised.{Raised}
 use Rattle.sep_certificate.specs.declared.certificate.Certificate.{Certificate}
-use Rattle.sep_certificate.specs.Certificates.{IsValid}
+use Rattle.sep_certificate.specs.Certificates.{IsValid, IsWhole, fault_of}
 
--- Where a certificate is valid for curves, by any table of directions, each two different drones are apart at each instant.
-abbrev pub CertificateLaw : Type 0
-CertificateLaw =
-    (dirs : List (List ℤ)) (curves : Raised) (r h : ℕ) (cert : Certificate) → IsValid dirs curves r h cert → KeepsApart curves r h
+-- By any table of directions, a valid certificate keeps drones apart, and a whole one is valid exactly where no fault is found.
+pub record CertificateLaw : Type 0 where
+  -- Where a certificate is valid for curves, by any table of directions, each two different drones are apart at each instant.
+  pub apart : (dirs : List (List ℤ)) (curves : Raised) (r h : ℕ) (cert : Certificate) → IsValid dirs curves r h cert → KeepsApart curves r h
+  -- A whole certificate, whose leaves name directions of the table, has no first fault exactly where it is valid for the curves.
+  pub exact : (dirs : List (List ℤ)) (curves : Raised) (r h : ℕ) (cert : Certificate) → IsWhole (length dirs) cert →
+      (fault_of dirs curves r h cert ≡ None) ↔ IsValid dirs curves r h cert

@@ -61,8 +61,9 @@ pub fn check(curves: &Curves, r: u16, h: u16, cert: &Certificate) -> Result<(), 
     }
 }
 
-/// The law of valid certificates: they keep each two different drones apart at each instant p / q of the show, for all whole
-/// numbers p and q and for every list of trajectories that the curves stand for.
+/// The law of certificates, by any table of directions. Valid ones keep each two different drones apart at each instant p / q of
+/// the show, for all whole numbers p and q and for every list of trajectories that the curves stand for. And a whole certificate,
+/// whose leaves name directions of the table, is valid exactly where it has no first fault.
 pub fn certificate_law()
     ensures { CertificateLaw }
 {}
