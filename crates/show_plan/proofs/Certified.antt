@@ -17,11 +17,11 @@ use Rattle.sep_certificate.specs.declared.certificate.Node.TheVariants.{Split, L
 use Rattle.sep_certificate.specs.Certificates.{AreValid, IsKnown, IsTree, IsValid, IsValidTree, IsWhole, Tree, leaf, split, preorder}
 use Rattle.sep_certificate.specs.Laws.{CertificateLaw}
 use Rattle.pair_search.specs.Laws.{SearchLaw}
-use Rattle.pair_search.specs.Search.{best_tree, blocked_place, split_of}
+use Rattle.pair_search.specs.Search.{best_tree, split_of}
 use Rattle.choreo_reader.specs.declared.show.Settings.{Settings}
-use Rattle.show_plan.specs.declared.fitted.PlanFault.{PlanFault}
-use Rattle.show_plan.specs.Separation.{FlyApart, IsShowClear, IsSlotClear, best_certificate, best_nodes, blocked_at, blocked_in, blocked_part, direction_at, nodes_of, slots_of}
+use Rattle.show_plan.specs.Separation.{FlyApart, IsShowClear, IsSlotClear, best_certificate, best_nodes, blocked_in, blocked_part, direction_at, nodes_of, slots_of}
 use Rattle.show_plan.specs.Steps.{blocked_slot}
+use Rattle.show_plan.proofs.SeparationLaws.{all_clear, none_first, slot_law}
 
 -- ---- how many slots there are
 
@@ -77,21 +77,7 @@ module _ (first : Place → Option ℕ) (m : ℕ) (known : (place : Place) (dir 
 
 -- ---- slot by slot
 
-none_mapped : (slot : Slot) (o : Option ℕ) → option_map (blocked_at slot) o ≡ None → o ≡ None
-none_mapped slot None e = refl
-none_mapped slot (Some index) e = absurd (cc)
-
-none_first : (a b : Option PlanFault) → option_or a b ≡ None → (a ≡ None) × (b ≡ None)
-none_first None b e = (refl, e)
-none_first (Some f) b e = absurd (cc)
-
 module _ (law : SearchLaw) (e : Settings) (depth : ℕ) (curves : Raised) where
-  slot_clear : (slot : Slot) → blocked_slot e depth curves slot ≡ None → IsSlotClear e depth curves slot
-  unfolding direction_at
-  slot_clear slot none =
-      (law.clear e.r e.h (difference curves slot.a slot.b slot.cue) DIRECTIONS.n depth).0
-      (none_mapped slot (blocked_place (direction_at e curves slot) depth) none)
-
   -- the best tree of a slot without a blocked part
   tree_there : (slot : Slot) → IsSlotClear e depth curves slot → (tree : Tree) × (best_tree (direction_at e curves slot) depth root ≡ Some tree)
   unfolding direction_at
@@ -111,32 +97,25 @@ module _ (law : SearchLaw) (e : Settings) (depth : ℕ) (curves : Raised) where
       subst (λ (nodes : List Node). All (IsKnown direction_count) nodes) (sym (ap nodes_of is))
       (best_known (direction_at e curves slot) direction_count (direction_known slot) depth root tree is)
 
-  -- no slot is blocked: each is clear
-  pub all_clear : (ss : List Slot) → blocked_in e depth curves ss ≡ None → All (IsSlotClear e depth curves) ss
-  all_clear [] none = All-nil (IsSlotClear e depth curves)
-  all_clear (s ∷ ss) none =
-      let parts = none_first (blocked_slot e depth curves s) (blocked_in e depth curves ss) none in
-      All-cons (IsSlotClear e depth curves) s ss (slot_clear s parts.0) (all_clear ss parts.1)
-
   all_valid : (ss : List Slot) → blocked_in e depth curves ss ≡ None → AreValid (record { r = e.r; h = e.h; depth = depth }) DIRECTIONS.n curves ss (map (best_nodes e depth curves) ss)
   all_valid [] none = tt
   all_valid (s ∷ ss) none =
       let parts = none_first (blocked_slot e depth curves s) (blocked_in e depth curves ss) none in
-      let there = tree_there s (slot_clear s parts.0) in
+      let there = tree_there s ((slot_law e depth curves s).0 parts.0) in
       ((there.0, ap nodes_of there.1, tree_valid s there.0 there.1), all_valid ss parts.1)
 
   all_trees : (ss : List Slot) → blocked_in e depth curves ss ≡ None → All IsTree (map (best_nodes e depth curves) ss)
   all_trees [] none = All-nil IsTree
   all_trees (s ∷ ss) none =
       let parts = none_first (blocked_slot e depth curves s) (blocked_in e depth curves ss) none in
-      let there = tree_there s (slot_clear s parts.0) in
+      let there = tree_there s ((slot_law e depth curves s).0 parts.0) in
       All-cons IsTree (best_nodes e depth curves s) (map (best_nodes e depth curves) ss) (there.0, ap nodes_of there.1) (all_trees ss parts.1)
 
   all_known : (ss : List Slot) → blocked_in e depth curves ss ≡ None → All (All (IsKnown direction_count)) (map (best_nodes e depth curves) ss)
   all_known [] none = All-nil (All (IsKnown direction_count))
   all_known (s ∷ ss) none =
       let parts = none_first (blocked_slot e depth curves s) (blocked_in e depth curves ss) none in
-      let there = tree_there s (slot_clear s parts.0) in
+      let there = tree_there s ((slot_law e depth curves s).0 parts.0) in
       All-cons (All (IsKnown direction_count)) (best_nodes e depth curves s) (map (best_nodes e depth curves) ss) (tree_known s there.0 there.1) (all_known ss parts.1)
 
 -- ---- the certificate
@@ -168,8 +147,8 @@ best_certified e depth trajs law keeps shallow stands none =
     record {
       whole = best_whole e depth trajs law shallow stands none;
       valid = valid;
-      clear = all_clear law e depth (raised_of trajs) (slots_of trajs) none;
-      apart = keeps DIRECTIONS.n (raised_of trajs) e.r e.h (best_certificate e depth trajs) valid trajs stands;
+      clear = all_clear e depth (raised_of trajs) (slots_of trajs) none;
+      apart = keeps.apart DIRECTIONS.n (raised_of trajs) e.r e.h (best_certificate e depth trajs) valid trajs stands;
     }
 
 -- The trees that are found over the curves of trajectories are a certificate of these.

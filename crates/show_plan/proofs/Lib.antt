@@ -2,5 +2,6 @@ pub mod Flight
 pub mod Sendable
 pub mod Valid
 pub mod Separated
+pub mod SeparationLaws
 pub mod Certified
 pub mod PlanLines

@@ -128,22 +128,24 @@ sendable g is =
 
 -- ---- what is too long
 
--- the fault of a long trajectory names no part of a cue
-names_no_part : (space d : ℕ) (ts : List Traj) (a b cue index : ℕ) → first_long space d ts ≡ Some (fault.Blocked a b cue index) → ⊥
-names_no_part space d [] a b cue index is = cc
-names_no_part space d (t ∷ ts) a b cue index is = by_test (nat_le (size t) space) is (names_no_part space (d + 1) ts a b cue index)
-  where
-    by_test : (fits : Bool) → cond fits (first_long space (d + 1) ts) (Some (fault.TooLong d (size t) space)) ≡ Some (fault.Blocked a b cue index) →
-        (first_long space (d + 1) ts ≡ Some (fault.Blocked a b cue index) → ⊥) → ⊥
-    by_test true is later = later is
-    by_test false is later = cc
+-- the fault is that some trajectory is too long
+record IsTooLong (f : PlanFault) : Type 0 where
+  pub drone : ℕ
+  pub bytes : ℕ
+  pub space : ℕ
+  pub is : f ≡ fault.TooLong drone bytes space
 
-long_fails : (s : PlainShow) (space : ℕ) (ts : List Traj) (f : PlanFault) → first_long space 0 ts ≡ Some f → plan_fault s ≡ Some f → PlanFails f s
-long_fails s space ts fault.Memory long is = tt
-long_fails s space ts (fault.Blocked a b cue index) long is = names_no_part space 0 ts a b cue index long
-long_fails s space ts (fault.Grid f) long is = is
-long_fails s space ts (fault.Expand f) long is = is
-long_fails s space ts (fault.TooLong d bytes room) long is = is
+-- the fault of the first long trajectory is that it is too long
+long_is : (space d : ℕ) (ts : List Traj) (f : PlanFault) → first_long space d ts ≡ Some f → IsTooLong f
+long_is space d [] f is = absurd (cc)
+long_is space d (t ∷ ts) f is = by_test (nat_le (size t) space) is (long_is space (d + 1) ts f)
+  where
+    by_test : (fits : Bool) → cond fits (first_long space (d + 1) ts) (Some (fault.TooLong d (size t) space)) ≡ Some f → (first_long space (d + 1) ts ≡ Some f → IsTooLong f) → IsTooLong f
+    by_test true is later = later is
+    by_test false is later = record { drone = d; bytes = size t; space = space; is = cc }
+
+long_fails : (s : PlainShow) (f : PlanFault) → IsTooLong f → plan_fault s ≡ Some f → PlanFails f s
+long_fails s f long is = subst (λ (f : PlanFault). PlanFails f s) (sym long.is) (is ∙ ap (λ (f : PlanFault). Some f) long.is)
 
 -- Where names, cues and numbers have no fault, the first trajectory that is too long is the reason why the show has no plan.
 pub long_given : (s : PlainShow) (g : Grid) (space : ℕ) (ts : List Traj) (f : PlanFault) →
@@ -152,7 +154,7 @@ long_given s g space ts f unrolled is fits space_is ts_are long =
     let range : range_fault (grid_of s) ≡ None = subst (λ (g : Grid). range_fault g ≡ None) is fits in
     let here : too_long s ≡ Some f =
     sym (long ∙ ap (λ (n : ℕ). first_long n 0 ts) space_is ∙ ap (first_long (room s) 0) (ts_are ∙ ap trajectories is)) in
-    long_fails s space ts f (sym long) (by_order (grid_fault s) (range_fault (grid_of s)) unrolled range here)
+    long_fails s f (long_is space 0 ts f (sym long)) (by_order (grid_fault s) (range_fault (grid_of s)) unrolled range here)
   where
     by_order : (a : Option GridFault) (b : Option ExpandFault) → a ≡ None → b ≡ None → too_long s ≡ Some f → in_order a b (too_long s) ≡ Some f
     by_order None None p q here = here

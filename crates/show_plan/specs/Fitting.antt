@@ -8,6 +8,7 @@ use Rattle.choreo_reader.specs.declared.show.DroneLine.{DroneLine}
 use Rattle.choreo_reader.specs.Plain.{PlainShow}
 use Rattle.choreo_reader.specs.Valid.{FitsSettings}
 use Rattle.cue_grid.specs.declared.grid.GridFault.{GridFault}
+use Rattle.cue_grid.specs.declared.grid.GridFault.TheVariants as grid
 use Rattle.cue_grid.specs.Cues.{grid_of}
 use Rattle.cue_grid.specs.Counts.{cue_limit}
 use Rattle.cue_grid.specs.Faults.{drone_limit, grid_fault}
@@ -16,6 +17,7 @@ use Rattle.traj_codec.specs.declared.traj.Traj.{Traj}
 use Rattle.traj_codec.specs.Positions.{durations}
 use Rattle.traj_codec.specs.Spelling.{spelling, ending, IsEncoding, HasDuration, most_segments}
 use Rattle.figure_expand.specs.declared.fault.ExpandFault.{ExpandFault}
+use Rattle.figure_expand.specs.declared.fault.ExpandFault.TheVariants as expand
 use Rattle.figure_expand.specs.Expanded.{range_fault}
 use Rattle.show_plan.specs.declared.fitted.Fitted.{Fitted}
 use Rattle.show_plan.specs.declared.fitted.PlanFault.{PlanFault}
@@ -80,10 +82,13 @@ pub record IsFitted (f : Fitted) (s : PlainShow) : Type 0 where
   pub trajs : f.trajs ≡ trajectories (grid_of s)
   pub bytes : AreEncodings f.bytes f.trajs
 
--- A refusal is the first reason why the show has no plan; want of memory says nothing. Separation isn't judged here.
+-- A refusal is the first reason why the show has no plan. Want of memory says nothing, and is no fault of names, cues or numbers.
+-- Separation isn't judged here.
 abbrev pub PlanFails : PlanFault → PlainShow → Type 0
 PlanFails fault.Memory s = Unit {0}
 PlanFails (fault.Blocked a b cue index) s = ⊥
+PlanFails (fault.Grid grid.Memory) s = ⊥
+PlanFails (fault.Expand expand.Memory) s = ⊥
 PlanFails f s = plan_fault s ≡ Some f
 
 -- What fits comes only without such a reason, and is that of the show.

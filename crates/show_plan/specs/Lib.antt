@@ -3,4 +3,5 @@ pub mod Flight
 pub mod Fitting
 pub mod Texts
 pub mod Separation
+pub mod Laws
 pub mod Steps

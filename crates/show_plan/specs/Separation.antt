@@ -1,6 +1,6 @@
 -- What keeps the drones of a show apart: a certificate with the largest possible leaves, or the first part of a cue in which no
 -- direction separates two drones.
-use Rattle.std.specs.Prelude.{◌≡◌, ℕ, ◌*◌, ◌≤◌, List, [], ◌∷◌, length, map, slice_get, Option, Some, None, Result, Ok, Err}
+use Rattle.std.specs.Prelude.{◌≡◌, ℕ, ◌*◌, ◌≤◌, List, [], ◌∷◌, map, slice_get, Option, Some, None, Result, Ok, Err}
 use Rattle.std.specs.Option.{option_map, option_or}
 use Rattle.std.specs.List.{All, sum}
 use Rattle.fleet_math.specs.Moments.{moment}

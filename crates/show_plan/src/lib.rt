@@ -6,7 +6,7 @@
 //! to is within half a millimetre of what the show says, and the yaw is equal (`specs/Flight.antt`).
 //!
 //! `certificate` answers what keeps the drones of a show that fits apart, or the first part of a cue in which no direction
-//! separates two of them (`specs/Separation.antt`).
+//! separates two of them (`specs/Separation.antt`); `separation_law` says what that first part is (`specs/Laws.antt`).
 //!
 //! `plan_text` answers the text with each drone's bytes, `ok_line` and `valid_line` what is said of an accepted show and of a
 //! valid certificate: byte by byte those of `specs/Texts.antt`.
@@ -23,7 +23,7 @@ mod text;
 
 pub use fitted::{Fitted, PlanFault};
 pub use fitting::fit;
-pub use separation::certificate;
+pub use separation::{certificate, separation_law};
 pub use text::{ok_line, plan_text, valid_line};
 
 #[cfg(test)]

@@ -1,12 +1,14 @@
 //! The certificate of a show, or the first part of a cue in which no direction separates two drones.
 
-ghost use Rattle.std.specs.Prelude.{◌≡◌, ◌≤◌, map, IfOk, IsOk};
+ghost use Rattle.std.specs.Prelude.{◌≡◌, ◌≤◌, ℕ, map, Err, IfOk, IsOk};
 ghost use Rattle.sep_parts.specs.Directions.{IsAxis, direction_count, threshold};
+ghost use Rattle.sep_parts.specs.declared.slot.Slot.{Slot};
 ghost use Rattle.sep_parts.specs.Raised.{raised_of};
 ghost use Rattle.sep_parts.specs.Slots.{IsSlot};
 ghost use Rattle.sep_certificate.specs.Certificates.{IsWhole, IsValid};
 ghost use Rattle.show_plan.specs.Fitting.{IsValidFitted};
-ghost use Rattle.show_plan.specs.Separation.{CertificateGives, IsShowClear, FlyApart};
+ghost use Rattle.show_plan.specs.Separation.{CertificateGives, IsShowClear, FlyApart, blocked_at};
+ghost use Rattle.show_plan.specs.Laws.{IsFirstPart, SeparationLaw};
 ghost use Rattle.show_plan.specs.Steps.{FindsTree, FindsTrees};
 
 use crate::fitted::{Fitted, PlanFault};
@@ -81,6 +83,13 @@ fn trees_of(
     Ok(Trees::from_vec(trees))
 }
 
+/// A law. The blocked part that the contract of [`certificate`] cites is what its name says, whatever the trajectories: there is
+/// none exactly where each part of the depth has a separating direction, for each pair in each cue; else it is the first that has
+/// none, in the order pair, cue, part.
+pub fn separation_law()
+    ensures { SeparationLaw }
+{}
+
 /// The certificate of a show that fits: for each pair of drones and each cue the tree with the largest possible leaves, each with
 /// the first direction in the order of the table that separates its part. `depth` is the greatest depth of a part, 0 to 8.
 ///
@@ -94,9 +103,12 @@ pub fn certificate(alloc: Global, f: &Fitted, depth: u8) -> Result<Certificate, 
     ensures whole { IfOk result (λ cert. IsWhole direction_count cert) }
     ensures valid { IfOk result (λ cert. IsValid DIRECTIONS.n (raised_of f.now.trajs) f.now.settings.r f.now.settings.h cert) }
     ensures clear { IsOk result → IsShowClear f.now.settings depth f.now.trajs }
+    ensures blocked { (slot : Slot) (index : ℕ) → result ≡ Err (blocked_at slot index)
+        → IsFirstPart f.now.settings depth f.now.trajs slot index }
     ensures apart { IsOk result → FlyApart f.now.settings f.now.trajs }
 {
     search_law();
+    separation_law();
     certificate_law();
     let curves = Curves::of_slice(alloc, f.trajs.as_slice())?;
     let trees = trees_of(alloc, &curves, f.settings, depth)?;

@@ -1,0 +1,138 @@
+-- What the recursion over the slots of a show means: it finds the first part that no direction separates.
+use Rattle.std.proofs.Common.{◌≡◌, ◌↔◌, ℕ, ap, refl, subst, ◌∙◌, List, [], ◌∷◌, ◌++◌, All, Option, Some, None}
+use Rattle.std.specs.Option.{option_map, option_or}
+use Rattle.std.proofs.lemmas.List.Elements.{All-nil, All-cons, All-head, All-tail}
+use Rattle.traj_codec.specs.declared.traj.Traj.{Traj}
+use Rattle.sep_parts.specs.declared.directions.TheConstants.{DIRECTIONS}
+use Rattle.sep_parts.specs.declared.slot.Slot.{Slot}
+use Rattle.sep_parts.specs.Raised.{Raised, difference, raised_of}
+use Rattle.sep_parts.specs.Slots.{slot_at}
+use Rattle.pair_search.specs.Laws.{IsFirstBlocked}
+use Rattle.pair_search.specs.Search.{blocked_place}
+use Rattle.pair_search.proofs.SearchLaws.{laws}
+use Rattle.choreo_reader.specs.declared.show.Settings.{Settings}
+use Rattle.show_plan.specs.declared.fitted.PlanFault.{PlanFault}
+use Rattle.show_plan.specs.Separation.{IsSlotClear, blocked_at, blocked_in, blocked_part, direction_at, slots_of}
+use Rattle.show_plan.specs.Steps.{blocked_slot}
+use Rattle.show_plan.specs.Laws.{IsFirstPart, SeparationLaw}
+
+none_mapped : (slot : Slot) (o : Option ℕ) → option_map (blocked_at slot) o ≡ None → o ≡ None
+none_mapped slot None e = refl
+none_mapped slot (Some index) e = absurd (cc)
+
+-- where neither of two is there, the first isn't, and the second isn't
+pub none_first : (a b : Option PlanFault) → option_or a b ≡ None → (a ≡ None) × (b ≡ None)
+none_first None b e = (refl, e)
+none_first (Some f) b e = absurd (cc)
+
+-- blocked parts are the same where their pairs, cues and indices are
+same_slot : (s slot : Slot) (k index : ℕ) → blocked_at s k ≡ blocked_at slot index → s ≡ slot
+same_slot s slot k index is =
+    let a : s.a ≡ slot.a = cc in
+    let b : s.b ≡ slot.b = cc in
+    let cue : s.cue ≡ slot.cue = cc in
+    ap (λ (n : ℕ). slot_at n s.b s.cue) a ∙ ap (λ (n : ℕ). slot_at slot.a n s.cue) b ∙ ap (λ (n : ℕ). slot_at slot.a slot.b n) cue
+
+same_index : (s slot : Slot) (k index : ℕ) → blocked_at s k ≡ blocked_at slot index → k ≡ index
+same_index s slot k index is = cc
+
+module _ (e : Settings) (depth : ℕ) (curves : Raised) where
+  -- the part of a slot with this index is the first of its cue without a direction
+  abbrev IsBlockedAt : Slot → ℕ → Type 0
+  IsBlockedAt slot index = IsFirstBlocked e.r e.h (difference curves slot.a slot.b slot.cue) DIRECTIONS.n depth index
+
+  -- ---- one slot
+  place_clear : (slot : Slot) → (blocked_place (direction_at e curves slot) depth ≡ None) ↔ IsSlotClear e depth curves slot
+  unfolding direction_at
+  place_clear slot = laws.clear e.r e.h (difference curves slot.a slot.b slot.cue) DIRECTIONS.n depth
+
+  place_blocked : (slot : Slot) (index : ℕ) → (blocked_place (direction_at e curves slot) depth ≡ Some index) ↔ IsBlockedAt slot index
+  unfolding direction_at
+  place_blocked slot index = laws.blocked e.r e.h (difference curves slot.a slot.b slot.cue) DIRECTIONS.n depth index
+
+  -- no part of a slot is blocked exactly where it is clear
+  pub slot_law : (slot : Slot) → (blocked_slot e depth curves slot ≡ None) ↔ IsSlotClear e depth curves slot
+  slot_law slot = (
+    λ none. (place_clear slot).0 (none_mapped slot (blocked_place (direction_at e curves slot) depth) none),
+    λ clear. ap (option_map (blocked_at slot)) ((place_clear slot).1 clear),
+  )
+
+  -- ---- slot by slot
+  -- no slot is blocked: each is clear
+  pub all_clear : (ss : List Slot) → blocked_in e depth curves ss ≡ None → All (IsSlotClear e depth curves) ss
+  all_clear [] none = All-nil (IsSlotClear e depth curves)
+  all_clear (s ∷ ss) none =
+      let parts = none_first (blocked_slot e depth curves s) (blocked_in e depth curves ss) none in
+      All-cons (IsSlotClear e depth curves) s ss ((slot_law s).0 parts.0) (all_clear ss parts.1)
+
+  -- slots that are clear are passed over
+  passed : (earlier later : List Slot) → All (IsSlotClear e depth curves) earlier → blocked_in e depth curves (earlier ++ later) ≡ blocked_in e depth curves later
+  passed [] later clear = refl
+  passed (s ∷ earlier) later clear =
+      ap (λ (o : Option PlanFault). option_or o (blocked_in e depth curves (earlier ++ later))) ((slot_law s).1 (All-head (IsSlotClear e depth curves) s earlier clear))
+      ∙ passed earlier later (All-tail (IsSlotClear e depth curves) s earlier clear)
+
+  none_blocked : (ss : List Slot) → All (IsSlotClear e depth curves) ss → blocked_in e depth curves ss ≡ None
+  none_blocked [] clear = refl
+  none_blocked (s ∷ ss) clear =
+      ap (λ (o : Option PlanFault). option_or o (blocked_in e depth curves ss)) ((slot_law s).1 (All-head (IsSlotClear e depth curves) s ss clear))
+      ∙ none_blocked ss (All-tail (IsSlotClear e depth curves) s ss clear)
+
+  -- the first of these slots that isn't clear, and its first part without a direction
+  record IsFirstOf (ss : List Slot) (slot : Slot) (index : ℕ) : Type 0 where
+    pub earlier : List Slot
+    pub later : List Slot
+    pub slots : ss ≡ earlier ++ slot ∷ later
+    pub clear : All (IsSlotClear e depth curves) earlier
+    pub blocked : IsBlockedAt slot index
+
+  -- what is found is the first
+  found : (ss : List Slot) (slot : Slot) (index : ℕ) → blocked_in e depth curves ss ≡ Some (blocked_at slot index) → IsFirstOf ss slot index
+  found [] slot index is = absurd (cc)
+  found (s ∷ ss) slot index is = by_place (blocked_place (direction_at e curves s) depth) refl is (found ss slot index)
+    where
+      by_place : (o : Option ℕ) → blocked_place (direction_at e curves s) depth ≡ o → option_or (option_map (blocked_at s) o) (blocked_in e depth curves ss) ≡ Some (blocked_at slot index) →
+          (blocked_in e depth curves ss ≡ Some (blocked_at slot index) → IsFirstOf ss slot index) → IsFirstOf (s ∷ ss) slot index
+      by_place None none is others =
+          let rest = others is in
+          record {
+            earlier = s ∷ rest.earlier;
+            later = rest.later;
+            slots = ap (λ (next : List Slot). s ∷ next) rest.slots;
+            clear = All-cons (IsSlotClear e depth curves) s rest.earlier ((place_clear s).0 none) rest.clear;
+            blocked = rest.blocked;
+          }
+      by_place (Some k) some is others =
+          let here : blocked_at s k ≡ blocked_at slot index = cc in
+          record {
+            earlier = [];
+            later = ss;
+            slots = ap (λ (first : Slot). first ∷ ss) (same_slot s slot k index here);
+            clear = All-nil (IsSlotClear e depth curves);
+            blocked =
+                subst (λ (n : ℕ). IsBlockedAt slot n) (same_index s slot k index here)
+                (subst (λ (first : Slot). IsBlockedAt first k) (same_slot s slot k index here) ((place_blocked s k).0 some));
+          }
+
+  -- the first is what is found
+  finds : (ss : List Slot) (slot : Slot) (index : ℕ) → IsFirstOf ss slot index → blocked_in e depth curves ss ≡ Some (blocked_at slot index)
+  finds ss slot index first =
+      ap (blocked_in e depth curves) first.slots
+      ∙ passed first.earlier (slot ∷ first.later) first.clear
+      ∙ ap (λ (o : Option ℕ). option_or (option_map (blocked_at slot) o) (blocked_in e depth curves first.later)) ((place_blocked slot index).1 first.blocked)
+
+-- ---- of a show
+first_law : (e : Settings) (depth : ℕ) (trajs : List Traj) (slot : Slot) (index : ℕ) → (blocked_part e depth trajs ≡ Some (blocked_at slot index)) ↔ IsFirstPart e depth trajs slot index
+first_law e depth trajs slot index = (
+  λ is. let first = found e depth (raised_of trajs) (slots_of trajs) slot index is in
+      record { earlier = first.earlier; later = first.later; slots = first.slots; clear = first.clear; blocked = first.blocked },
+  λ first. finds e depth (raised_of trajs) (slots_of trajs) slot index
+      (record { earlier = first.earlier; later = first.later; slots = first.slots; clear = first.clear; blocked = first.blocked }),
+)
+
+-- The recursion finds the first part that no direction separates, and nothing exactly where there is none.
+pub separation : SeparationLaw
+separation = record {
+  clear = λ e depth trajs. (all_clear e depth (raised_of trajs) (slots_of trajs), none_blocked e depth (raised_of trajs) (slots_of trajs));
+  blocked = first_law;
+}

@@ -1,0 +1,26 @@
+-- What the words of the separation of a show mean.
+use Rattle.std.specs.Prelude.{◌≡◌, ◌↔◌, ℕ, List, ◌∷◌, ◌++◌, Some, None}
+use Rattle.std.specs.List.{All}
+use Rattle.traj_codec.specs.declared.traj.Traj.{Traj}
+use Rattle.sep_parts.specs.declared.directions.TheConstants.{DIRECTIONS}
+use Rattle.sep_parts.specs.declared.slot.Slot.{Slot}
+use Rattle.sep_parts.specs.Raised.{difference, raised_of}
+use Rattle.pair_search.specs.Laws.{IsFirstBlocked}
+use Rattle.choreo_reader.specs.declared.show.Settings.{Settings}
+use Rattle.show_plan.specs.Separation.{IsShowClear, IsSlotClear, blocked_at, blocked_part, slots_of}
+
+-- A part of a cue is the first, in the order pair, cue, part, in which no direction separates two drones: each slot before its
+-- own is clear, and in its own it is the first part without a direction.
+pub record IsFirstPart (e : Settings) (depth : ℕ) (trajs : List Traj) (slot : Slot) (index : ℕ) : Type 0 where
+  pub earlier : List Slot
+  pub later : List Slot
+  pub slots : slots_of trajs ≡ earlier ++ slot ∷ later
+  pub clear : All (IsSlotClear e depth (raised_of trajs)) earlier
+  pub blocked : IsFirstBlocked e.r e.h (difference (raised_of trajs) slot.a slot.b slot.cue) DIRECTIONS.n depth index
+
+-- What the first part that no direction separates is: there is none exactly where each part of each cue has a direction for
+-- each pair; else it is the first.
+pub record SeparationLaw : Type 0 where
+  pub clear : (e : Settings) (depth : ℕ) (trajs : List Traj) → (blocked_part e depth trajs ≡ None) ↔ IsShowClear e depth trajs
+  pub blocked : (e : Settings) (depth : ℕ) (trajs : List Traj) (slot : Slot) (index : ℕ) →
+      (blocked_part e depth trajs ≡ Some (blocked_at slot index)) ↔ IsFirstPart e depth trajs slot index
