@@ -1,15 +1,24 @@
 -- An input comes to one outcome alone, and what a certificate comes to.
 use Rattle.std.proofs.Common.{◌≡◌, inl, inr, ℕ, ◌<◌, ◌≤◌, Bool, true, false, cond, nat_lt, List, [], length, Option, Some, None, Result, Ok, Err, IfOk, refl, sym, ap, subst, ◌∙◌, arith}
-use Rattle.std.specs.Option.{option_map}
+use Rattle.std.specs.Option.{option_map, option_or}
 use Rattle.std.proofs.lemmas.Bool.Decides.{nat_tests}
 use Rattle.std.specs.declared.alloc.AllocError.{AllocError}
 use Rattle.fleet_io.specs.declared.parts.Part.{Part}
 use Rattle.choreo_lines.specs.Name.{Name}
 use Rattle.choreo_reader.specs.Plain.{PlainShow}
 use Rattle.choreo_reader.specs.Grammar.{StandsFor}
+use Rattle.choreo_reader.specs.Laws.{ShowLaw}
 use Rattle.choreo_reader.specs.Context.{fault}
 use Rattle.choreo_reader.specs.Text.{Fault}
 use Rattle.fault_lines.specs.Lines.{too_large_line}
+use Rattle.cue_grid.specs.Cues.{grid_of}
+use Rattle.cue_grid.specs.Faults.{grid_fault}
+use Rattle.figure_expand.specs.declared.fault.ExpandFault.TheVariants as expand
+use Rattle.figure_expand.specs.Expanded.{range_fault}
+use Rattle.show_plan.specs.declared.fitted.PlanFault.{PlanFault}
+use Rattle.show_plan.specs.declared.fitted.PlanFault.TheVariants as plan
+use Rattle.show_plan.specs.Fitting.{in_order, too_long}
+use Rattle.show_plan.specs.Separation.{blocked_part}
 use Rattle.sep_parts.specs.declared.directions.TheConstants.{DIRECTIONS}
 use Rattle.sep_parts.specs.Raised.{Raised, raised_of}
 use Rattle.sep_certificate.specs.declared.certificate.CertFault.{CertFault}
@@ -22,7 +31,13 @@ use Rattle.show_cli.specs.declared.command.Command.TheVariants.{Check, Compile, 
 use Rattle.show_cli.specs.declared.input.Text.{Text}
 use Rattle.show_cli.specs.declared.input.Text.TheVariants.{Whole}
 use Rattle.show_cli.specs.Input.{EndsUnmarked, IsUnmarked}
-use Rattle.show_cli.specs.Outcome.{Cut, IsOutcomeOf, Outcome, SecondGives, ShowGives, faulty, judged, judged_for, marker_refusal, names_of, outcome, second_refusal, show_limit, show_refusal, text_refusal, trajectories_of}
+use Rattle.show_cli.specs.Answers.{IsSafeShow}
+use Rattle.show_cli.specs.Outcome.{Cut, IsOutcomeOf, IsSafe, Outcome, OutcomeLaw, SecondGives, ShowGives, blocked_by, depth_of_search, faulty, judged, judged_for, marker_refusal, names_of, no_plan, outcome, second_refusal, show_limit, show_refusal, text_refusal, trajectories_of}
+
+-- where an answer is two things, it is a third
+pub both : (r : Result Answer AllocError) (P Q R : Answer → Type 0) → ((a : Answer) → P a → Q a → R a) → IfOk r P → IfOk r Q → IfOk r R
+both (Ok a) P Q R by first second = by a first second
+both (Err e) P Q R by first second = tt
 
 -- where an answer is one thing, it is another
 pub weaker : (r : Result Answer AllocError) (P Q : Answer → Type 0) → ((a : Answer) → P a → Q a) → IfOk r P → IfOk r Q
@@ -82,23 +97,76 @@ refusal_is text short = by_test (nat_lt show_limit (length text)) refl
     by_test true test = absurd (let over : show_limit < length text = long show_limit (length text) test in omega arith)
     by_test false test = refl
 
--- where a text stands for one show alone, it comes to what the show comes to
-pub only_show : TextLaw → (c : Command) (cut : Cut) (text : List ℕ) (s : PlainShow) (o p : Outcome) → text ≡ cut.show → length cut.show ≤ show_limit → fault text ≡ None →
-    ((t : PlainShow) → StandsFor text t → t ≡ s) → ShowGives c (show_refusal c cut s) s cut p → IsOutcomeOf c cut o → o ≡ p
-only_show law c cut text s o p is short none alone gives (inl refused) = absurd (differ (sym (refusal_is cut.show short ∙ ap (λ (bs : List ℕ). option_map faulty (fault bs)) (sym is) ∙ ap (option_map faulty) none) ∙ refused))
+-- a text that stands for a show isn't refused
+stands_unrefused : ShowLaw → (text : List ℕ) (s : PlainShow) (o : Outcome) → length text ≤ show_limit → StandsFor text s → text_refusal text ≡ Some o → ⊥
+stands_unrefused law text s o short stands refused = differ (sym (refusal_is text short ∙ ap (option_map faulty) ((law.faultless text).0 (s, stands))) ∙ refused)
   where
     differ : None ≡ Some o → ⊥
     differ e = cc
-only_show law c cut text s o p is short none alone gives (inr comes) =
-    one_outcome law c (show_refusal c cut s) s cut o p
-    (subst (λ (t : PlainShow). ShowGives c (show_refusal c cut t) t cut o) (alone comes.s (subst (λ (bs : List ℕ). StandsFor bs comes.s) (sym is) comes.stands)) comes.gives) gives
 
--- where a text has a faulty line and stands for no show, it comes to the line
-pub only_line : (c : Command) (cut : Cut) (text : List ℕ) (f : Fault) (o : Outcome) → text ≡ cut.show → length cut.show ≤ show_limit → fault text ≡ Some f →
-    ((t : PlainShow) → StandsFor text t → ⊥) → IsOutcomeOf c cut o → o ≡ faulty f
-only_line c cut text f o is short at alone (inl refused) =
-    same (sym refused ∙ refusal_is cut.show short ∙ ap (λ (bs : List ℕ). option_map faulty (fault bs)) (sym is) ∙ ap (option_map faulty) at)
+-- an input comes to one outcome
+pub one_alone : ShowLaw → TextLaw → OutcomeLaw
+one_alone show text c cut o p (inl first) (inl second) = same (sym first ∙ second)
   where
-    same : Some o ≡ Some (faulty f) → o ≡ faulty f
+    same : Some o ≡ Some p → o ≡ p
     same e = cc
-only_line c cut text f o is short at alone (inr comes) = absurd (alone comes.s (subst (λ (bs : List ℕ). StandsFor bs comes.s) (sym is) comes.stands))
+one_alone show text c cut o p (inl refused) (inr comes) = absurd (stands_unrefused show cut.show comes.s o comes.short comes.stands refused)
+one_alone show text c cut o p (inr comes) (inl refused) = absurd (stands_unrefused show cut.show comes.s p comes.short comes.stands refused)
+one_alone show text c cut o p (inr first) (inr second) =
+    one_outcome text c (show_refusal c cut first.s) first.s cut o p first.gives
+    (subst (λ (s : PlainShow). ShowGives c (show_refusal c cut s) s cut p) (show.one cut.show second.s first.s second.stands first.stands) second.gives)
+
+-- ---- success
+
+-- what refuses, if anything does, has another status than 0
+abbrev Fails : Option Outcome → Type 0
+Fails None = Unit {0}
+Fails (Some o) = o.status ≡ 0 → ⊥
+
+either_fails : (a b : Option Outcome) → Fails a → Fails b → Fails (option_or a b)
+either_fails None b first second = second
+either_fails (Some o) b first second = first
+
+plan_fails : (names : List Name) (depth : ℕ) (f : Option PlanFault) → Fails (option_map (no_plan names depth) f)
+plan_fails names depth None = tt
+plan_fails names depth (Some (plan.Grid f)) = λ e. omega (arith, e)
+plan_fails names depth (Some (plan.Expand (expand.OutOfRange line axis value))) = λ e. omega (arith, e)
+plan_fails names depth (Some (plan.Expand expand.Memory)) = λ e. omega (arith, e)
+plan_fails names depth (Some (plan.TooLong drone bytes room)) = λ e. omega (arith, e)
+plan_fails names depth (Some (plan.Blocked a b cue index)) = λ e. omega (arith, e)
+plan_fails names depth (Some plan.Memory) = λ e. omega (arith, e)
+
+marked_fails : (b : Bool) (output : List ℕ) → Fails (cond b (Some (outcome 11 output)) None)
+marked_fails true output = λ e. omega (arith, e)
+marked_fails false output = tt
+
+marker_fails : (c : Command) (cut : Cut) → Fails (marker_refusal c cut)
+marker_fails (Check depth) cut = marked_fails cut.is_marked _
+marker_fails (Compile depth) cut = marked_fails cut.is_marked _
+marker_fails (Certify depth) cut = marked_fails cut.is_marked _
+marker_fails Verify cut = tt
+
+blocked_fails : (depth : Option ℕ) (s : PlainShow) → Fails (blocked_by depth s)
+blocked_fails None s = tt
+blocked_fails (Some depth) s = plan_fails (names_of s) depth (blocked_part s.settings depth (trajectories_of s))
+
+show_fails : (c : Command) (cut : Cut) (s : PlainShow) → Fails (show_refusal c cut s)
+show_fails c cut s =
+    either_fails _ _ (plan_fails (names_of s) 0 (in_order (grid_fault s) (range_fault (grid_of s)) None))
+    (either_fails _ _ (marker_fails c cut)
+    (either_fails _ _ (plan_fails (names_of s) 0 (too_long s)) (blocked_fails (depth_of_search c) s)))
+
+-- what a show comes to with status 0 is no refusal
+record IsAccepted (c : Command) (refused : Option Outcome) (s : PlainShow) (cut : Cut) (o : Outcome) : Type 0 where
+  none : refused ≡ None
+  gives : ShowGives c None s cut o
+
+accepted_by : (c : Command) (refused : Option Outcome) (s : PlainShow) (cut : Cut) (o : Outcome) → Fails refused → ShowGives c refused s cut o → o.status ≡ 0 → IsAccepted c refused s cut o
+accepted_by c (Some r) s cut o fails gives done = absurd (fails (sym (ap (λ (p : Outcome). p.status) gives) ∙ done))
+accepted_by c None s cut o fails gives done = record { none = refl; gives = gives }
+
+-- an answer with status 0 for the show of a text, whose trajectories keep near and apart, is a safe one
+pub safe_answer : (c : Command) (cut : Cut) (s : PlainShow) (o : Outcome) → StandsFor cut.show s → ShowGives c (show_refusal c cut s) s cut o → IsSafeShow s → o.status ≡ 0 → IsSafe c cut o
+safe_answer c cut s o stands gives safe done =
+    let accepted = accepted_by c (show_refusal c cut s) s cut o (show_fails c cut s) gives done in
+    record { s = s; stands = stands; near = safe.near; apart = safe.apart; accepted = accepted.none; gives = accepted.gives }

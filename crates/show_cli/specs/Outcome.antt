@@ -184,12 +184,18 @@ IsOutcomeOf c cut o = (text_refusal cut.show ≡ Some o) ⊎ ShowComesTo c cut o
 abbrev pub IsOutcome : Command → List ℕ → Outcome → Type 0
 IsOutcome c input o = IsOutcomeOf c (cut_of input) o
 
+-- An input comes to one outcome alone.
+abbrev pub OutcomeLaw : Type 0
+OutcomeLaw = (c : Command) (cut : Cut) (o p : Outcome) → IsOutcomeOf c cut o → IsOutcomeOf c cut p → o ≡ p
+
 -- ---- what status 0 promises
 
 -- The show's text stands for a show whose drones' trajectories keep near to it at every instant, and keep each two drones apart
--- at every instant.
-pub record IsSafe (text : List ℕ) : Type 0 where
+-- at every instant; nothing refuses the show, and this outcome is what the command answers for it.
+pub record IsSafe (c : Command) (cut : Cut) (o : Outcome) : Type 0 where
   pub s : PlainShow
-  pub stands : StandsFor text s
+  pub stands : StandsFor cut.show s
   pub near : KeepsNearShow (grid_of s) (trajectories_of s)
   pub apart : FlyApart s.settings (trajectories_of s)
+  pub accepted : show_refusal c cut s ≡ None
+  pub gives : ShowGives c None s cut o

@@ -8,7 +8,7 @@ use Rattle.show_cli.specs.declared.command.Command.{Command}
 use Rattle.show_cli.specs.declared.input.Input.{Input}
 use Rattle.show_cli.specs.Commands.{command_of}
 use Rattle.show_cli.specs.Input.{IsRead}
-use Rattle.show_cli.specs.Outcome.{Cut, IsOutcomeOf, Outcome, cut_of}
+use Rattle.show_cli.specs.Outcome.{Cut, IsOutcomeOf, IsSafe, Outcome, cut_of}
 
 -- the command that these words are
 abbrev pub command_in : List (String Global) → Option Command
@@ -21,6 +21,10 @@ IsJudged status = (status ≢ 1) × (status ≢ 6) × (status ≢ 7)
 -- the status is that of an outcome of the command on the input that is cut so, whose output was written whole
 abbrev pub Answers : Command → Cut → ℕ → Option (List ℕ) → Option (List ℕ) → Type 0
 Answers c cut status old new = (o : Outcome) × IsOutcomeOf c cut o × (status ≡ o.status) × Appends old new o.output
+
+-- the show is safe, and what the command answers for it was written whole
+abbrev pub AnswersSafely : Command → Cut → Option (List ℕ) → Option (List ℕ) → Type 0
+AnswersSafely c cut old new = (o : Outcome) × IsSafe c cut o × Appends old new o.output
 
 -- these bytes are the output of an outcome of the command on the input that is cut so
 abbrev pub IsOutputOf : Command → Cut → List ℕ → Type 0

@@ -7,7 +7,7 @@ ghost use Rattle.show_plan.specs.Separation.{FlyApart};
 ghost use Rattle.show_cli.specs.Answers.{IsSafeShow, outcome_of, status_number};
 ghost use Rattle.show_cli.specs.Commands.{HasDepth};
 ghost use Rattle.show_cli.specs.Input.{EndsUnmarked, IsRead, IsSecond, IsText, IsUnmarked, IsWithin};
-ghost use Rattle.show_cli.specs.Outcome.{Cut, IsOutcomeOf, IsSafe, Outcome, ShowGives, blocked_by, certificate_limit, depth_of_search, show_limit, show_refusal};
+ghost use Rattle.show_cli.specs.Outcome.{Cut, IsOutcomeOf, IsSafe, OutcomeLaw, ShowGives, blocked_by, certificate_limit, depth_of_search, show_limit, show_refusal};
 
 use crate::answer::{Answer, Status, answer_line};
 use crate::command::Command;
@@ -15,7 +15,7 @@ use crate::input::{Input, Text};
 use crate::refusals::{marker_refusal, unfit};
 use crate::search::{certify, check, compile};
 use crate::verify::verify;
-use choreo_reader::{Show, ShowFault, read_show};
+use choreo_reader::{Show, ShowFault, read_show, show_law};
 use fault_lines::{faulty_line, too_large_line};
 use fleet_io::Part;
 use sep_certificate::text_law;
@@ -104,12 +104,10 @@ fn answer_text(
     requires short { IsWithin certificate_limit second.now }
     ensures gives { (cut : Cut) → IsText show_limit (Text.Whole part.now) cut.show cut.is_marked → IsSecond command second.now cut
         → IfOk result (λ a. IsOutcomeOf command cut (outcome_of a)) }
-    ensures only { (cut : Cut) (o : Outcome) → IsText show_limit (Text.Whole part.now) cut.show cut.is_marked → IsSecond command second.now cut
-        → IsOutcomeOf command cut o → IfOk result (λ a. o ≡ outcome_of a) }
-    ensures safe { IfOk result (λ a. status_number a.status ≡ 0 → IsSafe part.now.bytes.items) }
+    ensures safe { (cut : Cut) → IsText show_limit (Text.Whole part.now) cut.show cut.is_marked → IsSecond command second.now cut
+        → IfOk result (λ a. status_number a.status ≡ 0 → IsSafe command cut (outcome_of a)) }
     ensures whole { IfOk result (λ a. status_number a.status ≡ 0 → EndsUnmarked command (Text.Whole part.now) second.now) }
 {
-    text_law();
     match read_show(alloc, &part.bytes) {
         Ok(show) => answer_show(alloc, command, &show, part, second),
         Err(ShowFault::Line { line, kind }) => {
@@ -119,17 +117,24 @@ fn answer_text(
     }
 }
 
-/// What a command answers where this was read: the outcome, which is one alone, or want of memory.
+/// The law of outcomes: what a command comes to for an input is one outcome alone.
+pub fn outcome_law()
+    ensures { OutcomeLaw }
+{
+    show_law();
+    text_law();
+}
+
+/// What a command answers where this was read: the outcome, or want of memory.
 ///
-/// With status 0 the drones' trajectories keep near to the show and apart at every instant, and no text was too large and none
-/// is left.
+/// With status 0 it is what the command answers for a show whose trajectories keep near to it and apart at every instant; no text
+/// was too large and none is left.
 pub fn answer(alloc: Global, command: Command, input: &Input) -> Result<Answer, AllocError>
     requires depth { HasDepth command }
     requires show { IsWithin show_limit input.now.show }
     requires second { IsWithin certificate_limit input.now.second }
     ensures gives { (cut : Cut) → IsRead command input.now cut → IfOk result (λ a. IsOutcomeOf command cut (outcome_of a)) }
-    ensures only { (cut : Cut) (o : Outcome) → IsRead command input.now cut → IsOutcomeOf command cut o → IfOk result (λ a. o ≡ outcome_of a) }
-    ensures safe { (cut : Cut) → IsRead command input.now cut → IfOk result (λ a. status_number a.status ≡ 0 → IsSafe cut.show) }
+    ensures safe { (cut : Cut) → IsRead command input.now cut → IfOk result (λ a. status_number a.status ≡ 0 → IsSafe command cut (outcome_of a)) }
     ensures whole { IfOk result (λ a. status_number a.status ≡ 0 → EndsUnmarked command input.now.show input.now.second) }
 {
     match &input.show {

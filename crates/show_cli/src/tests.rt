@@ -101,7 +101,7 @@ fn is_met(
 
 #[test]
 fn commands(rt: HostRuntime) -> Result<(), Fail> {
-    let rows: [(&[&str], &[u8], u8, &[u8]); 20] = [
+    let rows: [(&[&str], &[u8], u8, &[u8]); 11] = [
         (&["compile"], SHOW, 0, PLAN),
         (&["compile", "--depth", "000000008"], SHOW, 0, PLAN),
         (
@@ -148,28 +148,28 @@ fn commands(rt: HostRuntime) -> Result<(), Fail> {
             b"error 5 pair a b cue 1 part 0 of 64\n",
         ),
         (&["certify"], FARTHER_WHEN_ROUNDED, 0, b"certificate 6\nv\n"),
-        (&[], SHOW, 2, b"error 2 usage\n"),
-        (&["Compile"], SHOW, 2, b"error 2 usage\n"),
-        (
-            &["play", "--step", "5", "--step", "5"],
-            SHOW,
-            2,
-            b"error 2 usage\n",
-        ),
-        (&["compile", "--depth"], SHOW, 2, b"error 2 usage\n"),
-        (&["compile", "--depth", "9"], SHOW, 2, b"error 2 usage\n"),
-        (
-            &["compile", "--depth", "0000000008"],
-            SHOW,
-            2,
-            b"error 2 usage\n",
-        ),
-        (&["compile", "--Depth", "6"], SHOW, 2, b"error 2 usage\n"),
-        (&["verify", "--depth", "6"], APART, 2, b"error 2 usage\n"),
-        (&["help"], SHOW, 2, b"error 2 usage\n"),
     ];
     for (words, input, status, written) in rows {
         assert!(rt; is_met(rt.alloc(), words, input, b"", status, written)?);
+    }
+    Ok(())
+}
+
+#[test]
+fn words_that_are_no_command(rt: HostRuntime) -> Result<(), Fail> {
+    let rows: [&[&str]; 9] = [
+        &[],
+        &["Compile"],
+        &["play", "--step", "5", "--step", "5"],
+        &["compile", "--depth"],
+        &["compile", "--depth", "9"],
+        &["compile", "--depth", "0000000008"],
+        &["compile", "--Depth", "6"],
+        &["verify", "--depth", "6"],
+        &["help"],
+    ];
+    for words in rows {
+        assert!(rt; is_met(rt.alloc(), words, APART, b"", 2, b"error 2 usage\n")?);
     }
     Ok(())
 }
@@ -363,83 +363,88 @@ cue 1000\nend\nend\nend\nend\nend\nend\nend\nend\nend\nend\n";
 
 #[test]
 fn certificates(rt: HostRuntime) -> Result<(), Fail> {
-    let rows: [(&[u8], &[u8], u8, &[u8]); 18] = [
+    let rows: [(&[u8], u8, &[u8]); 8] = [
         (
-            APART,
             b"%%\ncertificate 6\nr\nl\na\n",
             0,
             b"valid depth 6 trees 3\n",
         ),
         (
-            APART,
             b"%%\r\ncertificate 6\r\nr\r\nl\r\na",
             0,
             b"valid depth 6 trees 3\n",
         ),
         (
-            APART,
             b"%%\ncertificate 6\nr\nl\n",
             12,
             b"error 12 missing pair a b cue 3\n",
         ),
         (
-            APART,
             b"%%\ncertificate 6\nr\na\n",
             12,
             b"error 12 fails pair a b cue 2 part 0 0 direction a control 0\n",
         ),
         (
-            APART,
+            b"%%\ncertificate 6\nr\n.rl\na\n",
+            12,
+            b"error 12 fails pair a b cue 2 part 1 0 direction r control 5\n",
+        ),
+        (
+            b"%%\ncertificate 6\nr\n.w.wl\na\n",
+            12,
+            b"error 12 fails pair a b cue 2 part 2 2 direction w control 1\n",
+        ),
+        (
             b"%%\ncertificate 6\nr\nl\na\nr\n",
             12,
             b"error 12 extra line 5\n",
         ),
         (
-            APART,
             b"%%\ncertificate 0\n.rr\nl\na\n",
             12,
             b"error 12 too-deep pair a b cue 1\n",
         ),
+    ];
+    for (second, status, written) in rows {
+        assert!(rt; is_met(rt.alloc(), &["verify"], APART, second, status, written)?);
+    }
+    Ok(())
+}
+
+#[test]
+fn faulty_certificates(rt: HostRuntime) -> Result<(), Fail> {
+    let rows: [(&[u8], &[u8]); 10] = [
+        (b"%%\ncertificate 6\n.r\nl\na\n", b"error 11 line 2\n"),
+        (b"%%\ncertificate 6\nr\nl\na\n%%\n", b"error 11 line 5\n"),
+        (b"%%\n", b"error 11 line 1\n"),
+        (b"", b"error 11 line 1\n"),
+        (b"%%\ncertificate 9\n", b"error 11 line 1\n"),
+        (b"%%\ncertificate 06\n", b"error 11 line 1\n"),
+        (b"%%\ncertificate 6\naa\n", b"error 11 line 2\n"),
+        (b"%%\ncertificate 6\n..aa\n", b"error 11 line 2\n"),
+        (b"%%\ncertificate 6\nA\n", b"error 11 line 2\n"),
+        // another first line
         (
-            APART,
-            b"%%\ncertificate 6\n.r\nl\na\n",
-            11,
-            b"error 11 line 2\n",
-        ),
-        (
-            APART,
-            b"%%\ncertificate 6\nr\nl\na\n%%\n",
-            11,
-            b"error 11 line 5\n",
-        ),
-        (APART, b"%%\n", 11, b"error 11 line 1\n"),
-        (APART, b"", 11, b"error 11 line 1\n"),
-        (APART, b"%%\ncertificate 9\n", 11, b"error 11 line 1\n"),
-        (APART, b"%%\ncertificate 06\n", 11, b"error 11 line 1\n"),
-        (APART, b"%%\ncertificate 6\naa\n", 11, b"error 11 line 2\n"),
-        (
-            APART,
-            b"%%\ncertificate 6\n..aa\n",
-            11,
-            b"error 11 line 2\n",
-        ),
-        (APART, b"%%\ncertificate 6\nA\n", 11, b"error 11 line 2\n"),
-        (
-            APART,
             b"%%\nversion 2\ncertificate 6\n58\n46\n00\n",
-            11,
             b"error 11 line 1\n",
         ),
-        (START, b"%%\ncertificate 9\n", 3, b"error 3 line 1 no-cue\n"),
-        (
-            WITHOUT_ROOM,
-            b"%%\ncertificate 9\n",
-            4,
-            b"error 4 drone solo bytes 28 room 27\n",
-        ),
     ];
-    for (front, rest, status, written) in rows {
-        assert!(rt; is_met(rt.alloc(), &["verify"], front, rest, status, written)?);
+    for (second, written) in rows {
+        assert!(rt; is_met(rt.alloc(), &["verify"], APART, second, 11, written)?);
+    }
+    Ok(())
+}
+
+// What is wrong with the show comes before anything of the certificate.
+#[test]
+fn certificates_of_refused_shows(rt: HostRuntime) -> Result<(), Fail> {
+    let second = b"%%\ncertificate 9\n";
+    let rows: [(&[u8], u8, &[u8]); 2] = [
+        (START, 3, b"error 3 line 1 no-cue\n"),
+        (WITHOUT_ROOM, 4, b"error 4 drone solo bytes 28 room 27\n"),
+    ];
+    for (show, status, written) in rows {
+        assert!(rt; is_met(rt.alloc(), &["verify"], show, second, status, written)?);
     }
     Ok(())
 }

@@ -9,12 +9,12 @@ ghost use Rattle.show_cli.specs.Answers.{status_number};
 ghost use Rattle.show_cli.specs.Commands.{HasDepth};
 ghost use Rattle.show_cli.specs.Input.{EndsUnmarked, IsRead, IsReadWhole, IsWithin};
 ghost use Rattle.show_cli.specs.Outcome.{Cut, IsOutcome, IsOutcomeOf, IsSafe, Outcome, certificate_limit, cut_of, show_limit};
-ghost use Rattle.show_cli.specs.Runs.{Answers, IsJudged, IsOutput, IsOutputFor, command_in};
+ghost use Rattle.show_cli.specs.Runs.{Answers, AnswersSafely, IsJudged, IsOutput, IsOutputFor, command_in};
 
 use crate::answer::Status;
 use crate::command::{Command, command_of};
 use crate::input::{Failure, Input, read_input};
-use crate::outcome::answer;
+use crate::outcome::{answer, outcome_law};
 use fault_lines::{read_line, usage_line};
 use fleet_io::{Failed, Sink, Source, write_whole};
 use std::alloc::Global;
@@ -49,8 +49,9 @@ fn answer_input<K: Sink>(alloc: Global, command: Command, input: &Input, sink: &
     requires second { IsWithin certificate_limit input.now.second }
     ensures outcome { (cut : Cut) → IsRead command input.now cut → result ≢ 1 → result ≢ 7 → Answers command cut result (K.written sink.old) (K.written sink.new) }
     ensures exact { (cut : Cut) (o : Outcome) → IsRead command input.now cut → IsOutcomeOf command cut o
-        → (Rose (K.faults sink.old) (K.faults sink.new) → ⊥) → (result ≡ o.status) ⊎ (result ≡ 1) }
-    ensures safe { result ≡ 0 → (cut : Cut) → IsRead command input.now cut → IsSafe cut.show }
+        → (Rose (K.faults sink.old) (K.faults sink.new) → ⊥)
+        → ((result ≡ o.status) × Appends (K.written sink.old) (K.written sink.new) o.output) ⊎ (result ≡ 1) }
+    ensures safe { (cut : Cut) → IsRead command input.now cut → result ≡ 0 → AnswersSafely command cut (K.written sink.old) (K.written sink.new) }
     ensures whole { result ≡ 0 → EndsUnmarked command input.now.show input.now.second }
     ensures one { result ≡ 1 → (K.written sink.new ≡ K.written sink.old) × (K.faults sink.new ≡ K.faults sink.old) }
     ensures seven { result ≡ 7 → Rose (K.faults sink.old) (K.faults sink.new)
@@ -58,6 +59,7 @@ fn answer_input<K: Sink>(alloc: Global, command: Command, input: &Input, sink: &
     ensures known { ((status : Status) × (result ≡ status_number status)) ⊎ ((result ≡ 1) ⊎ (result ≡ 7)) }
     ensures later { K.faults sink.old ≤ K.faults sink.new }
 {
+    outcome_law();
     match answer(alloc, command, input) {
         Ok(answer) => finish(sink, answer.output.bytes(), answer.status.number()),
         Err(_) => NO_MEMORY,
@@ -75,8 +77,10 @@ fn run_command<S: Source, K: Sink>(
     ensures outcome { (input : List ℕ) → S.left source.old ≡ Some input → IsJudged result
         → Answers command (cut_of input) result (K.written sink.old) (K.written sink.new) }
     ensures exact { (input : List ℕ) (o : Outcome) → S.left source.old ≡ Some input → IsOutcome command input o
-        → (Rose (S.faults source.old) (S.faults source.new) → ⊥) → (Rose (K.faults sink.old) (K.faults sink.new) → ⊥) → (result ≡ o.status) ⊎ (result ≡ 1) }
-    ensures safe { result ≡ 0 → IfSome (S.left source.old) (λ input. IsSafe (part_of input)) }
+        → (Rose (S.faults source.old) (S.faults source.new) → ⊥) → (Rose (K.faults sink.old) (K.faults sink.new) → ⊥)
+        → ((result ≡ o.status) × Appends (K.written sink.old) (K.written sink.new) o.output) ⊎ (result ≡ 1) }
+    ensures safe { (input : List ℕ) → S.left source.old ≡ Some input → result ≡ 0
+        → AnswersSafely command (cut_of input) (K.written sink.old) (K.written sink.new) }
     ensures whole { result ≡ 0 → IsReadWhole (S.left source.old) (S.left source.new) }
     ensures one { result ≡ 1 → (K.written sink.new ≡ K.written sink.old) × (K.faults sink.new ≡ K.faults sink.old) }
     ensures six { result ≡ 6 → Rose (S.faults source.old) (S.faults source.new) × Appends (K.written sink.old) (K.written sink.new) read_line }
@@ -110,12 +114,15 @@ pub fn run<S: Source, K: Sink>(
     ensures outcome { (c : Command) (input : List ℕ) → command_in words.now.items ≡ Some c → S.left source.old ≡ Some input → IsJudged result
         → (o : Outcome) × IsOutcome c input o × (result ≡ o.status) × Appends (K.written sink.old) (K.written sink.new) o.output }
 
-    // With no fault counted the status is that of each outcome of the input, or want of memory.
+    // With no fault counted the outcome of the input, of which there is one alone, is what comes, whole, or want of memory.
     ensures exact { (c : Command) (input : List ℕ) (o : Outcome) → command_in words.now.items ≡ Some c → S.left source.old ≡ Some input → IsOutcome c input o
-        → (Rose (S.faults source.old) (S.faults source.new) → ⊥) → (Rose (K.faults sink.old) (K.faults sink.new) → ⊥) → (result ≡ o.status) ⊎ (result ≡ 1) }
+        → (Rose (S.faults source.old) (S.faults source.new) → ⊥) → (Rose (K.faults sink.old) (K.faults sink.new) → ⊥)
+        → ((result ≡ o.status) × Appends (K.written sink.old) (K.written sink.new) o.output) ⊎ (result ≡ 1) }
 
-    // 0: the show's trajectories keep near to it and keep each two drones apart, at every instant; the input was read to its end.
-    ensures safe { result ≡ 0 → IsSome (command_in words.now.items) × IfSome (S.left source.old) (λ input. IsSafe (part_of input)) }
+    // 0: what was written is the command's answer for the show that the text stands for, whose trajectories keep near to it and keep
+    // each two drones apart, at every instant; the input was read to its end.
+    ensures safe { (c : Command) (input : List ℕ) → command_in words.now.items ≡ Some c → S.left source.old ≡ Some input → result ≡ 0
+        → (o : Outcome) × IsSafe c (cut_of input) o × Appends (K.written sink.old) (K.written sink.new) o.output }
     ensures whole { result ≡ 0 → IsReadWhole (S.left source.old) (S.left source.new) }
 
     // 1: memory is wanting, and nothing was written.

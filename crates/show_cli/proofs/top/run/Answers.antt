@@ -9,5 +9,9 @@ returns-in-Some-clause-exact g c = λ d input o is left outcome quiet_source qui
     c.run_command.ensures.exact input o left
     (subst (λ (e : Command). IsOutcome e input o) (one_command _ d c.in-Some.command is (sym c.command_of.ensures.value ∙ c.in-Some.is)) outcome) quiet_source quiet_sink
 
+pub returns-in-Some-clause-safe : goal.returns-in-Some-clause-safe
+returns-in-Some-clause-safe g c = λ d input is left zero.
+    rw (one_command _ d c.in-Some.command is (sym c.command_of.ensures.value ∙ c.in-Some.is)) (c.run_command.ensures.safe input left zero)
+
 pub returns-in-Some-clause-known : goal.returns-in-Some-clause-known
 returns-in-Some-clause-known g c = with_third 0 1 2 (3 ∷ 4 ∷ 5 ∷ 6 ∷ 7 ∷ 11 ∷ 12 ∷ []) _ c.run_command.ensures.known

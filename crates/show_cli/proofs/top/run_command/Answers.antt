@@ -7,6 +7,9 @@ pub returns-in-Ok-clause-exact : goal.returns-in-Ok-clause-exact
 returns-in-Ok-clause-exact g c = λ input o left is quiet_source quiet_sink.
     c.answer_input.ensures.exact (cut_of input) o (rw left at c.in-Ok.ensures.read) is quiet_sink
 
+pub returns-in-Ok-clause-safe : goal.returns-in-Ok-clause-safe
+returns-in-Ok-clause-safe g c = λ input left zero. c.answer_input.ensures.safe (cut_of input) (rw left at c.in-Ok.ensures.read) zero
+
 pub returns-in-Ok-clause-seven : goal.returns-in-Ok-clause-seven
 returns-in-Ok-clause-seven g c = λ seven.
     let failed = c.answer_input.ensures.seven seven in
