@@ -7,6 +7,7 @@ use Rattle.choreo_reader.specs.declared.show.DroneLine.{DroneLine}
 use Rattle.choreo_reader.specs.Valid.{FitDroneLines}
 use Rattle.choreo_reader.specs.Plain.{PlainShow}
 use Rattle.cue_grid.specs.declared.grid.GridFault.{GridFault}
+use Rattle.cue_grid.specs.declared.grid.GridFault.TheVariants as grid
 use Rattle.cue_grid.specs.Cues.{grid_of}
 use Rattle.cue_grid.specs.Faults.{grid_fault}
 use Rattle.traj_codec.specs.declared.traj.Traj.{Traj}
@@ -15,7 +16,7 @@ use Rattle.figure_expand.specs.declared.fault.ExpandFault.TheVariants as expand
 use Rattle.figure_expand.specs.Expanded.{range_fault}
 use Rattle.show_plan.specs.declared.fitted.PlanFault.{PlanFault}
 use Rattle.show_plan.specs.declared.fitted.PlanFault.TheVariants as fault
-use Rattle.show_plan.specs.Fitting.{first_long, in_order, plan_fault, room, size, too_long}
+use Rattle.show_plan.specs.Fitting.{PlanFails, first_long, in_order, plan_fault, room, size, too_long}
 use Rattle.show_plan.specs.Trajectories.{trajectories}
 use Rattle.show_plan.proofs.Sendable.{counted}
 use Rattle.show_plan.proofs.Valid.{names_are_words}
@@ -47,6 +48,18 @@ abbrev pub early_fault : PlainShow → Option PlanFault
 early_fault s = in_order (grid_fault s) (range_fault (grid_of s)) None
 
 -- ---- which fault it is
+
+-- a fault of names or cues for which a show has no plan is the first reason for that
+pub grid_fails : (f : GridFault) (s : PlainShow) → PlanFails (fault.Grid f) s → plan_fault s ≡ Some (fault.Grid f)
+grid_fails (grid.NoDrone line) s fails = fails
+grid_fails (grid.TooManyDrones line) s fails = fails
+grid_fails (grid.DoubleName line) s fails = fails
+grid_fails (grid.UnknownName line) s fails = fails
+grid_fails (grid.DoubleAct line) s fails = fails
+grid_fails (grid.RoleCount line) s fails = fails
+grid_fails (grid.NoCue line) s fails = fails
+grid_fails (grid.TooManyCues line) s fails = fails
+grid_fails grid.Memory s fails = absurd fails
 
 -- the fault is that a trajectory is too long, of a drone among so many
 record IsLongAmong (n : ℕ) (f : PlanFault) : Type 0 where

@@ -112,14 +112,14 @@ pub fn unfit(
 {
     match fault {
         PlanFault::Grid { fault } => match fault {
-            GridFault::Memory => Err(AllocError),
+            GridFault::Memory => unreachable!(),
             _ => Ok(answer_line(Status::FaultyShow, grid_line(fault))),
         },
         PlanFault::Expand { fault } => match fault {
             ExpandFault::OutOfRange { line, axis, value } => {
                 Ok(answer_line(Status::FaultyShow, range_line(line, axis, value)))
             }
-            ExpandFault::Memory => Err(AllocError),
+            ExpandFault::Memory => unreachable!(),
         },
         PlanFault::TooLong { drone, bytes, room } => {
             Ok(without_room(command, show, part, drone, bytes, room))

@@ -6,7 +6,7 @@ use Rattle.figure_expand.specs.declared.fault.ExpandFault.TheVariants as expand
 use Rattle.show_plan.specs.Fitting.{plan_fault}
 use Rattle.show_plan.specs.declared.fitted.PlanFault.TheVariants as fault
 use Rattle.show_cli.specs.Outcome.{Outcome, outcome}
-use Rattle.show_cli.proofs.RefusalLemmas.{early_refused, refused_axis}
+use Rattle.show_cli.proofs.RefusalLemmas.{early_refused, grid_fails, refused_axis}
 use Rattle.show_cli.proofs.refusals.unfit.Goals as goal
 
 pub range_line-requires : goal.range_line-requires
@@ -14,7 +14,7 @@ range_line-requires c = refused_axis (plain c.args.show.now) _ c.in-OutOfRange.a
 
 pub returns-in_default-clause-gives : goal.returns-in_default-clause-gives
 returns-in_default-clause-gives c = λ cut is.
-    let grid : plan_fault (plain c.args.show.now) ≡ Some (fault.Grid c.in-Grid.fault) = rw c.in-Grid.is at c.requires.fault in
+    let grid : plan_fault (plain c.args.show.now) ≡ Some (fault.Grid c.in-Grid.fault) = grid_fails c.in-Grid.fault (plain c.args.show.now) (rw c.in-Grid.is at c.requires.fault) in
     early_refused c.args.command cut (plain c.args.show.now) (fault.Grid c.in-Grid.fault) (λ drone bytes space e. cc) grid
     ∙ ap (λ (o : Outcome). Some o) (sym (c.answer_line.ensures.outcome ∙ ap (λ (line : List ℕ). outcome 3 line) c.grid_line.ensures))
 
