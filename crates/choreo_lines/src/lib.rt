@@ -10,6 +10,8 @@ mod entry;
 mod field;
 mod line;
 mod parts;
+#[cfg(test)]
+mod tests;
 mod word;
 
 pub use entry::entry_of;

@@ -4,6 +4,7 @@ ghost use Rattle.std.specs.Prelude.{◌≡◌, ◌≤◌, length};
 use super::*;
 use choreo_reader::{LineKind, Name};
 use cue_grid::GridFault;
+use fleet_io::ShortLine;
 use halving::Place;
 
 fn named(bytes: &[u8]) -> Name
@@ -16,16 +17,10 @@ fn named(bytes: &[u8]) -> Name
 }
 
 #[test]
-fn each_line_at_one_value(rt: HostRuntime) {
+fn a_show_that_is_refused(rt: HostRuntime) {
     let a = named(b"a");
     let b = named(b"b");
     let solo = named(b"solo");
-    let long = named(b"abcdefghijklmnop");
-    let start = Place { depth: 0, index: 0 };
-    let last = Place {
-        depth: 8,
-        index: 255,
-    };
     let rows = [
         (usage_line(), b"error 2 usage\n".as_slice()),
         (too_large_line(), b"error 3 too-large\n"),
@@ -62,7 +57,24 @@ fn each_line_at_one_value(rt: HostRuntime) {
             b"error 5 pair a b cue 1 part 0 of 1\n",
         ),
         (read_line(), b"error 6 read\n"),
-        (second_line(6), b"error 11 line 6\n"),
+    ];
+    for (line, wanted) in &rows {
+        assert_eq!(rt; line.bytes(), *wanted);
+    }
+}
+
+#[test]
+fn a_certificate_that_is_refused(rt: HostRuntime) {
+    let a = named(b"a");
+    let b = named(b"b");
+    let long = named(b"abcdefghijklmnop");
+    let start = Place { depth: 0, index: 0 };
+    let last = Place {
+        depth: 8,
+        index: 255,
+    };
+    let rows = [
+        (second_line(6), b"error 11 line 6\n".as_slice()),
         (second_too_large_line(), b"error 11 too-large\n"),
         (
             missing_line(&a, &b, 2),
@@ -85,6 +97,17 @@ fn each_line_at_one_value(rt: HostRuntime) {
     for (line, wanted) in &rows {
         assert_eq!(rt; line.bytes(), *wanted);
     }
+}
+
+// Words of another crate's line.
+#[test]
+fn words_one_by_one(rt: HostRuntime) {
+    let mut line = ShortLine::make();
+    put(&mut line, b"flown");
+    put_number(&mut line, 4_294_967_295);
+    put(&mut line, b"ms");
+    put_number(&mut line, 0);
+    assert_eq!(rt; line.bytes(), b"flown 4294967295 ms 0".as_slice());
 }
 
 #[test]

@@ -61,6 +61,5 @@ fn tells_differences(rt: HostRuntime) -> Result<(), Fail> {
     ] {
         assert_eq!(rt; abs_diff(a, b), apart, "of {a} and {b}");
     }
-    edge_law();
     Ok(())
 }

@@ -6,7 +6,7 @@ ghost use Rattle.fleet_math.specs.Numbers.{IsBelow};
 use super::*;
 use bezier_core::Bez;
 use sep_certificate::Node;
-use sep_parts::DIRECTIONS;
+use sep_parts::{DIRECTIONS, thresholds};
 use std::alloc::{AllocError, Global};
 use std::test::Fail;
 
@@ -109,6 +109,40 @@ fn parts_by_parts(rt: HostRuntime) -> Result<(), Fail> {
     );
     let (blocked, none) = searched(alloc, across, aside, above, 2)?;
     assert_eq!(rt; blocked, Found::Blocked { index: 2 });
+    assert_eq!(rt; none.len(), 0);
+    Ok(())
+}
+
+// The thresholds worked out before: with 1 m between them the drones pass, without they are blocked.
+#[tactic(auto, using(sep_parts::proofs::Table::small_table))]
+#[test]
+fn one_table_of_thresholds(rt: HostRuntime) -> Result<(), Fail> {
+    let alloc = rt.alloc();
+    let least = thresholds(&DIRECTIONS, 120, 300);
+    let x = raised(moved(1000, -1000));
+    let mut nodes = Vec::new(alloc);
+    let passed = search_with(
+        &[x, raised([0; 8]), raised([1000; 8])],
+        &DIRECTIONS,
+        &least,
+        120,
+        300,
+        6,
+        &mut nodes,
+    )?;
+    assert_eq!(rt; passed, Found::Clear);
+    assert_eq!(rt; nodes.as_slice(), [Node::Leaf { dir: 11 }].as_slice());
+    let mut none = Vec::new(alloc);
+    let met = search_with(
+        &[x, raised([0; 8]), raised([0; 8])],
+        &DIRECTIONS,
+        &least,
+        120,
+        300,
+        6,
+        &mut none,
+    )?;
+    assert_eq!(rt; met, Found::Blocked { index: 28 });
     assert_eq!(rt; none.len(), 0);
     Ok(())
 }

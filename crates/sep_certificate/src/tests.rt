@@ -6,7 +6,6 @@ ghost use Rattle.traj_codec.specs.Positions.{durations};
 ghost use Rattle.sep_parts.specs.Raised.{AreOneShow};
 
 use super::*;
-use halving::Place;
 use std::alloc::{AllocError, Global};
 use std::test::Fail;
 use traj_codec::{Element, Segment, Segments, Traj};
@@ -67,28 +66,46 @@ fn fleet(alloc: Global) -> Result<Vec<Traj>, AllocError>
     Ok(vec![in alloc; first, second]?)
 }
 
-// What becomes of a text.
-#[derive(Clone, Copy)]
+/// What becomes of a text. Drones, cues, places, directions and control values are those of the fault, in its order.
+#[derive(Clone, Copy, PartialEq, Eq, Debug)]
 enum Outcome {
     Valid,
-    TooLong,
-    Line { line: u32 },
-    Fault { fault: CertFault },
-    Memory,
+    Line(u32),
+    Missing(u8, u8, u8),
+    Extra(u32),
+    TooDeep(u8, u8, u8),
+    Fails([u8; 3], (u8, u16), u8, u8),
+    Other,
 }
 
 fn judged(alloc: Global, curves: &Curves, text: &[u8]) -> Outcome {
     if text.len() > CERTIFICATE_LIMIT {
-        return Outcome::TooLong;
+        return Outcome::Other;
     }
     let cert = match read_certificate(alloc, text) {
         Ok(cert) => cert,
-        Err(CertTextFault::Line { line }) => return Outcome::Line { line },
-        Err(CertTextFault::Memory) => return Outcome::Memory,
+        Err(CertTextFault::Line { line }) => return Outcome::Line(line),
+        Err(CertTextFault::Memory) => return Outcome::Other,
     };
     match check(curves, 120, 300, &cert) {
         Ok(()) => Outcome::Valid,
-        Err(fault) => Outcome::Fault { fault },
+        Err(fault) => outcome_of(fault),
+    }
+}
+
+fn outcome_of(fault: CertFault) -> Outcome {
+    match fault {
+        CertFault::Missing { a, b, cue } => Outcome::Missing(a, b, cue),
+        CertFault::Extra { tree } => Outcome::Extra(tree),
+        CertFault::TooDeep { a, b, cue } => Outcome::TooDeep(a, b, cue),
+        CertFault::Fails {
+            a,
+            b,
+            cue,
+            place,
+            dir,
+            control,
+        } => Outcome::Fails([a, b, cue], (place.depth, place.index), dir, control),
     }
 }
 
@@ -108,68 +125,75 @@ fn differences_of_two_drones(rt: HostRuntime) -> Result<(), Fail> {
     Ok(())
 }
 
+const FOR_TWO: [(&[u8], Outcome); 7] = [
+    (b"certificate 6\nr\nl\na\n", Outcome::Valid),
+    (b"certificate 6\r\nr\r\nl\r\na", Outcome::Valid),
+    (b"certificate 1\n.rr\n.ll\n.aa\n", Outcome::Valid),
+    (b"certificate 6\nr\nl\n", Outcome::Missing(0, 1, 2)),
+    (
+        b"certificate 6\nr\na\n",
+        Outcome::Fails([0, 1, 1], (0, 0), 0, 0),
+    ),
+    (b"certificate 6\nr\nl\na\nr\n", Outcome::Extra(3)),
+    (b"certificate 0\n.rr\nl\na\n", Outcome::TooDeep(0, 1, 0)),
+];
+
 #[test]
 fn certificates_of_two_drones(rt: HostRuntime) -> Result<(), Fail> {
     let alloc = rt.alloc();
     let trajs = fleet(alloc)?;
+    let curves = Curves::of_slice(alloc, trajs.as_slice())?;
+    for (text, wanted) in FOR_TWO {
+        assert_eq!(rt; judged(alloc, &curves, text), wanted);
+    }
+    Ok(())
+}
+
+// Three drones that stay, the second 1 m along x from the first and the third 1 m along y. So (1, 0, 0), `v`, separates the first
+// two, (0, 1, 0), `p`, the first and the third, and (-1, 0, 0), `e`, the last two; none of them does for another pair.
+fn three(alloc: Global) -> Result<Vec<Traj>, AllocError>
+    ensures { IfOk result (λ trajs. AreOneShow (3000 ∷ 3000 ∷ 3000 ∷ []) trajs.items) }
+{
+    let first = way(alloc, [[0, 0, 1000]; 4])?;
+    let second = way(alloc, [[1000, 0, 1000]; 4])?;
+    let third = way(alloc, [[0, 1000, 1000]; 4])?;
+    Ok(vec![in alloc; first, second, third]?)
+}
+
+const FOR_THREE: [(&[u8], Outcome); 5] = [
+    // the pairs (1, 2), (1, 3) and (2, 3), each with its three cues
+    (
+        b"certificate 0\nv\nv\nv\np\np\np\ne\ne\ne\n",
+        Outcome::Valid,
+    ),
+    // (2, 3) before (1, 3)
+    (
+        b"certificate 0\nv\nv\nv\ne\ne\ne\np\np\np\n",
+        Outcome::Fails([0, 2, 0], (0, 0), 4, 0),
+    ),
+    // by cue and then by pair
+    (
+        b"certificate 0\nv\np\ne\nv\np\ne\nv\np\ne\n",
+        Outcome::Fails([0, 1, 1], (0, 0), 15, 0),
+    ),
+    (
+        b"certificate 0\nv\nv\nv\np\np\np\ne\ne\n",
+        Outcome::Missing(1, 2, 2),
+    ),
+    (
+        b"certificate 0\nv\nv\nv\np\np\np\ne\ne\ne\ne\n",
+        Outcome::Extra(9),
+    ),
+];
+
+#[test]
+fn certificates_of_three_drones(rt: HostRuntime) -> Result<(), Fail> {
+    let alloc = rt.alloc();
+    let trajs = three(alloc)?;
     let curves = Curves::make(alloc, &trajs)?;
-    assert!(rt;
-        matches!(
-            judged(alloc, &curves, b"certificate 6\nr\nl\na\n"),
-            Outcome::Valid
-        )
-    );
-    assert!(rt;
-        matches!(
-            judged(alloc, &curves, b"certificate 6\r\nr\r\nl\r\na"),
-            Outcome::Valid
-        )
-    );
-    assert!(rt;
-        matches!(
-            judged(alloc, &curves, b"certificate 1\n.rr\n.ll\n.aa\n"),
-            Outcome::Valid
-        )
-    );
-    assert!(rt;
-        matches!(
-            judged(alloc, &curves, b"certificate 6\nr\nl\n"),
-            Outcome::Fault {
-                fault: CertFault::Missing { a: 0, b: 1, cue: 2 }
-            }
-        )
-    );
-    assert!(rt;
-        matches!(
-            judged(alloc, &curves, b"certificate 6\nr\na\n"),
-            Outcome::Fault {
-                fault: CertFault::Fails {
-                    a: 0,
-                    b: 1,
-                    cue: 1,
-                    place: Place { depth: 0, index: 0 },
-                    dir: 0,
-                    control: 0
-                }
-            }
-        )
-    );
-    assert!(rt;
-        matches!(
-            judged(alloc, &curves, b"certificate 6\nr\nl\na\nr\n"),
-            Outcome::Fault {
-                fault: CertFault::Extra { tree: 3 }
-            }
-        )
-    );
-    assert!(rt;
-        matches!(
-            judged(alloc, &curves, b"certificate 0\n.rr\nl\na\n"),
-            Outcome::Fault {
-                fault: CertFault::TooDeep { a: 0, b: 1, cue: 0 }
-            }
-        )
-    );
+    for (text, wanted) in FOR_THREE {
+        assert_eq!(rt; judged(alloc, &curves, text), wanted);
+    }
     Ok(())
 }
 
@@ -195,9 +219,10 @@ fn faulty_lines(rt: HostRuntime) -> Result<(), Fail> {
         b"certificate 9\n".as_slice(),
         b"certificate 06\n".as_slice(),
         b"certificate 6\r".as_slice(),
+        // another first line
         b"version 2\r".as_slice(),
     ] {
-        assert!(rt; matches!(judged(alloc, &curves, text), Outcome::Line { line: 1 }));
+        assert!(rt; judged(alloc, &curves, text) == Outcome::Line(1));
     }
     for text in [
         b"certificate 6\naa".as_slice(),
@@ -207,7 +232,7 @@ fn faulty_lines(rt: HostRuntime) -> Result<(), Fail> {
         b"certificate 6\n\nr\n".as_slice(),
         b"certificate 6\nr\r".as_slice(),
     ] {
-        assert!(rt; matches!(judged(alloc, &curves, text), Outcome::Line { line: 2 }));
+        assert!(rt; judged(alloc, &curves, text) == Outcome::Line(2));
     }
     Ok(())
 }

@@ -4,7 +4,7 @@ ghost use Rattle.std.specs.Prelude.{◌^◌, All};
 ghost use Rattle.fleet_math.specs.Numbers.{IsBelow};
 
 use super::*;
-use bezier_core::Bez;
+use bezier_core::{Bez, along_at};
 use std::test::Fail;
 
 #[test]
@@ -51,5 +51,78 @@ fn a_direction_at_its_threshold(rt: HostRuntime) -> Result<(), Fail> {
     assert!(rt; !separates(&aside(240, 240), along_x, 120, 1, 241, 0));
     assert!(rt; !separates(&aside(241, 240), along_x, 120, 300, 72001, 0));
     assert!(rt; !separates(&aside(241, 241), along_x, 120, 300, 72001, 1));
+    Ok(())
+}
+
+// The difference of 241 mm along x dips to 240 mm at the control value 3: 241 times 300 is 72,300, and 240 times 300 is 72,000.
+#[test]
+fn the_first_control_value_that_is_too_low(rt: HostRuntime) -> Result<(), Fail> {
+    let along_x = [1, 0, 0];
+    let dips = aside(241, 240);
+    assert_eq!(rt; low_control(&dips, along_x, 120, 300, 72001, 0), Some(3));
+    assert_eq!(rt; low_control(&dips, along_x, 120, 300, 72000, 0), None);
+    assert_eq!(rt; low_control(&dips, along_x, 120, 300, 72301, 0), Some(0));
+    let seen = projected(&dips, along_x, 120, 300);
+    // 72,300 and 72,000 times 5,040
+    assert_eq!(rt;
+        [seen.b[0], seen.b[3], seen.b[7]],
+        [364392000, 362880000, 364392000]
+    );
+    assert_eq!(rt; first_below(&seen, 72001, 0), Some(3));
+    assert_eq!(rt; first_below(&seen, 72000, 0), None);
+    assert_eq!(rt; first_below(&seen, 1, 2), None);
+    assert_eq!(rt; first_below(&seen, 5, 2), Some(0));
+    Ok(())
+}
+
+#[test]
+fn one_weighted_sum(rt: HostRuntime) -> Result<(), Fail> {
+    let x = Bez {
+        b: [1, 2, 3, 4, 5, 6, 7, 8],
+    };
+    let y = Bez {
+        b: [0, 1, 0, 1, 0, 1, 0, 1],
+    };
+    let z = Bez {
+        b: [-3, 0, 0, 0, 0, 0, 0, 9],
+    };
+    assert_eq!(rt; along_at(&[x, y, z], [300, -300, 120], 0), -60);
+    assert_eq!(rt; along_at(&[x, y, z], [300, -300, 120], 7), 3180);
+    Ok(())
+}
+
+// Three drones in two cues: the pairs by first and then second drone, for each the cues, and then a pair that is none.
+#[test]
+fn pairs_and_cues_in_order(rt: HostRuntime) -> Result<(), Fail> {
+    let mut slot = Slot::first();
+    assert_eq!(rt; slot, Slot { a: 0, b: 1, cue: 0 });
+    slot = slot.next(3, 2);
+    assert_eq!(rt; slot, Slot { a: 0, b: 1, cue: 1 });
+    slot = slot.next(3, 2);
+    assert_eq!(rt; slot, Slot { a: 0, b: 2, cue: 0 });
+    slot = slot.next(3, 2);
+    assert_eq!(rt; slot, Slot { a: 0, b: 2, cue: 1 });
+    slot = slot.next(3, 2);
+    assert_eq!(rt; slot, Slot { a: 1, b: 2, cue: 0 });
+    slot = slot.next(3, 2);
+    assert_eq!(rt; slot, Slot { a: 1, b: 2, cue: 1 });
+    slot = slot.next(3, 2);
+    assert_eq!(rt; slot, Slot { a: 2, b: 3, cue: 0 });
+    Ok(())
+}
+
+// The halves of a step on x, by the double sum over whole numbers without a bound.
+#[test]
+fn both_halves_of_a_cue(rt: HostRuntime) -> Result<(), Fail> {
+    let step = Bez::<8> {
+        b: [0, 0, 0, 0, 1, 1, 1, 1],
+    };
+    let level = Bez::<8> { b: [0; 8] };
+    let above = Bez::<8> { b: [5; 8] };
+    let (first, second) = halves(&[step, level, above]);
+    assert_eq!(rt; first[0].b, [0, 0, 0, 0, 8, 24, 44, 64]);
+    assert_eq!(rt; second[0].b, [64, 84, 104, 120, 128, 128, 128, 128]);
+    assert_eq!(rt; first[1].b, [0; 8]);
+    assert_eq!(rt; second[2].b, [640; 8]);
     Ok(())
 }

@@ -1,0 +1,200 @@
+//! Lines by the tables of docs/LANGUAGE.md: what they say where they stand, or what is wrong with them.
+
+use super::*;
+use std::alloc::Global;
+use text_lines::{Comments, tokens};
+
+/// What is read of one line: the numbers and fixed words of what it says, or what is wrong with it.
+#[derive(Clone, Copy, PartialEq, Eq, Debug)]
+enum Outcome {
+    Memory(u8, u16),
+    Trajectory(u8),
+    Ellipsoid(u16, u16),
+    Drone(Point),
+    Formation,
+    At(Point),
+    Figure(usize),
+    Cue(u16),
+    Repeat(u32),
+    Perform(Frame, usize),
+    Form(bool),
+    One(Act),
+    End,
+    Fault(LineKind),
+    Other,
+}
+
+fn outcome_of(alloc: Global, place: Place, line: &[u8]) -> Outcome {
+    if line.len() > 1000 {
+        return Outcome::Other;
+    }
+    let Ok(words) = tokens(alloc, line, Comments::FromHash) else {
+        return Outcome::Other;
+    };
+    if words.is_empty() {
+        return Outcome::Other;
+    }
+    match entry_of(alloc, place, line, words.as_slice()) {
+        Ok(entry) => said(&entry),
+        Err(LineError::Kind(kind)) => Outcome::Fault(kind),
+        Err(LineError::Memory) => Outcome::Other,
+    }
+}
+
+fn said(entry: &Entry) -> Outcome {
+    match entry {
+        Entry::Memory { id, offset } => Outcome::Memory(*id, *offset),
+        Entry::Trajectory { id } => Outcome::Trajectory(*id),
+        Entry::Ellipsoid { r, h } => Outcome::Ellipsoid(*r, *h),
+        Entry::Drone { at, .. } => Outcome::Drone(*at),
+        Entry::Formation { .. } => Outcome::Formation,
+        Entry::At { at, .. } => Outcome::At(*at),
+        Entry::Figure { roles, .. } => Outcome::Figure(roles.as_slice().len()),
+        Entry::Cue { ms } => Outcome::Cue(*ms),
+        Entry::Repeat { times } => Outcome::Repeat(*times),
+        Entry::Perform { frame, drones, .. } => Outcome::Perform(*frame, drones.as_slice().len()),
+        Entry::Form { smooth, .. } => Outcome::Form(*smooth),
+        Entry::One { act, .. } => Outcome::One(*act),
+        Entry::End => Outcome::End,
+    }
+}
+
+const POINT: Point = Point {
+    x: 1,
+    y: -2,
+    z: 3,
+    yaw: -4,
+};
+
+const FRAME: Frame = Frame {
+    mirror: Mirror::Y,
+    turns: 3,
+    dx: 1,
+    dy: -2,
+    dz: 3,
+};
+
+const BLOCK_LINES: [(Place, &[u8], Outcome); 12] = [
+    (Place::Top, b"memory 255 4095", Outcome::Memory(255, 4095)),
+    (Place::Top, b"trajectory 009 # last", Outcome::Trajectory(9)),
+    (Place::Top, b"ellipsoid 1 2000", Outcome::Ellipsoid(1, 2000)),
+    (Place::Top, b"drone cue 1 -2 3 -4", Outcome::Drone(POINT)),
+    (Place::Top, b"formation f", Outcome::Formation),
+    (Place::InFormation, b"at a 1 -2 3 -4", Outcome::At(POINT)),
+    (Place::Top, b"figure g p q", Outcome::Figure(2)),
+    (Place::InFigure, b"cue 65535", Outcome::Cue(65_535)),
+    (
+        Place::InRepeat,
+        b"repeat 1000000000",
+        Outcome::Repeat(1_000_000_000),
+    ),
+    (
+        Place::InRepeat,
+        b"perform g y 3 1 -2 3 a b",
+        Outcome::Perform(FRAME, 2),
+    ),
+    (Place::InFigure, b"end", Outcome::End),
+    (Place::InFigureCue, b" \tend\r", Outcome::End),
+];
+
+#[test]
+fn lines_of_blocks_are_read(rt: HostRuntime) {
+    for (place, line, wanted) in BLOCK_LINES {
+        assert_eq!(rt; outcome_of(rt.alloc(), place, line), wanted);
+    }
+}
+
+const ACT_LINES: [(&[u8], Outcome); 9] = [
+    (b"form f line", Outcome::Form(false)),
+    (b"form f move", Outcome::Form(true)),
+    (b"a hold", Outcome::One(Act::Hold)),
+    (b"a line 1 -2 3 -4", Outcome::One(Act::Line { to: POINT })),
+    (b"a move 1 -2 3 -4", Outcome::One(Act::Move { to: POINT })),
+    (b"a turn -32768", Outcome::One(Act::Turn { yaw: -32_768 })),
+    (
+        b"a arc ccw 5 6 7",
+        Outcome::One(Act::Arc {
+            ccw: true,
+            cx: 5,
+            cy: 6,
+            yaw: 7,
+        }),
+    ),
+    (
+        b"a arc cw 5 6 7",
+        Outcome::One(Act::Arc {
+            ccw: false,
+            cx: 5,
+            cy: 6,
+            yaw: 7,
+        }),
+    ),
+    (
+        b"a curve 5 6 7 8 9 10 1 -2 3 -4",
+        Outcome::One(Act::Curve {
+            p1: [5, 6, 7],
+            p2: [8, 9, 10],
+            to: POINT,
+        }),
+    ),
+];
+
+#[test]
+fn lines_of_a_cue_are_read(rt: HostRuntime) {
+    for (line, wanted) in ACT_LINES {
+        assert_eq!(rt; outcome_of(rt.alloc(), Place::InCue, line), wanted);
+    }
+}
+
+const REFUSALS: [(Place, &[u8], LineKind); 12] = [
+    // the first word, then how many there are, then the others from the left
+    (Place::Top, b"at a 0 0 0 0", LineKind::BadWord),
+    (Place::InFigure, b"perform g x 0 0 0 0 a", LineKind::BadWord),
+    (Place::Top, b"drone Solo 0 0 0", LineKind::BadCount),
+    (Place::Top, b"drone Solo 0 0 0 x", LineKind::BadName),
+    (Place::Top, b"drone form 0 0 0 0", LineKind::BadName),
+    (Place::Top, b"cue 1.5", LineKind::BadNumber),
+    (Place::Top, b"cue 65536", LineKind::Range),
+    // in a cue the name and the act come before the number of words
+    (Place::InCue, b"Solo jump", LineKind::BadName),
+    (Place::InCue, b"solo jump 0", LineKind::BadWord),
+    (Place::InCue, b"solo", LineKind::BadCount),
+    (Place::InCue, b"form f curve", LineKind::BadWord),
+    (Place::InFigureCue, b"form f line", LineKind::BadName),
+];
+
+#[test]
+fn faulty_lines_are_refused(rt: HostRuntime) {
+    for (place, line, kind) in REFUSALS {
+        assert_eq!(rt; outcome_of(rt.alloc(), place, line), Outcome::Fault(kind));
+    }
+}
+
+// Whether a line opens the figure `g` with the roles `p` and `q_2`, in this order.
+fn is_figure(entry: &Entry) -> bool {
+    match entry {
+        Entry::Figure { name, roles } => match roles.as_slice() {
+            [p, q] => {
+                name.as_slice() == b"g".as_slice()
+                    && p.as_slice() == b"p".as_slice()
+                    && q.as_slice() == b"q_2".as_slice()
+            }
+            _ => false,
+        },
+        _ => false,
+    }
+}
+
+#[test]
+fn names_are_kept_in_order(rt: HostRuntime) {
+    let line = b"figure g p q_2".as_slice();
+    let Ok(words) = tokens(rt.alloc(), line, Comments::FromHash) else {
+        panic!(rt; "no words");
+    };
+    assert!(rt; !words.is_empty());
+    let kept = match entry_of(rt.alloc(), Place::Top, line, words.as_slice()) {
+        Ok(entry) => is_figure(&entry),
+        Err(_) => false,
+    };
+    assert!(rt; kept);
+}
