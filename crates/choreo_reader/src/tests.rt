@@ -249,147 +249,151 @@ fn has_fault(alloc: Global, text: &[u8], line: u32, kind: LineKind) -> bool {
     }
 }
 
+// Texts with the line that is faulty, and how.
+const AT_TOP: [(&[u8], u32, LineKind); 36] = [
+    (b"", 1, LineKind::Header),
+    (b"\n# choreo 1\n", 1, LineKind::Header),
+    (b"\nchoreo 2\n", 2, LineKind::Header),
+    (b"choreo 01\n", 1, LineKind::Header),
+    (b"choreo 1 1\n", 1, LineKind::Header),
+    (b"choreo 2\nbad\n\x01\n", 3, LineKind::BadByte),
+    (b"choreo 1\nend\n", 2, LineKind::BadWord),
+    (b"choreo 1\nat a 0 0 0 0\n", 2, LineKind::BadWord),
+    (b"choreo 1\na move 0 0 0 0\n", 2, LineKind::BadWord),
+    (b"choreo 1\nmemory 0\n", 2, LineKind::BadCount),
+    (b"choreo 1\nmemory 256 0\n", 2, LineKind::Range),
+    (b"choreo 1\nmemory 0 4096\n", 2, LineKind::Range),
+    (
+        b"choreo 1\nmemory 2 0\nmemory 2 0\n",
+        3,
+        LineKind::DoubleSetting,
+    ),
+    (b"choreo 1\nmemory 2 0\nmemory 2 4096\n", 3, LineKind::Range),
+    (b"choreo 1\ntrajectory 10\n", 2, LineKind::Range),
+    (b"choreo 1\ntrajectory a\n", 2, LineKind::BadNumber),
+    (
+        b"choreo 1\ntrajectory 1\ntrajectory 2\n",
+        3,
+        LineKind::DoubleSetting,
+    ),
+    (b"choreo 1\nellipsoid 0 1\n", 2, LineKind::Range),
+    (b"choreo 1\nellipsoid 1 2001\n", 2, LineKind::Range),
+    (
+        b"choreo 1\nellipsoid 1 1\n\nellipsoid 1 1\n",
+        4,
+        LineKind::DoubleSetting,
+    ),
+    (
+        b"choreo 1\ndrone Solo 0 0 1000000 0\n",
+        2,
+        LineKind::BadName,
+    ),
+    (b"choreo 1\ndrone Solo 0 0\n", 2, LineKind::BadCount),
+    (b"choreo 1\ndrone solo 0 0 1e6 0\n", 2, LineKind::BadNumber),
+    (
+        b"choreo 1\ndrone solo 0 0 100000001 0\n",
+        2,
+        LineKind::Range,
+    ),
+    (b"choreo 1\ndrone form 0 0 0 0\n", 2, LineKind::BadName),
+    (b"choreo 1\nformation f g\n", 2, LineKind::BadCount),
+    (b"choreo 1\nfigure g\n", 2, LineKind::BadCount),
+    (b"choreo 1\nfigure g Role\n", 2, LineKind::BadName),
+    (b"choreo 1\ncue 0\n", 2, LineKind::Range),
+    (
+        b"choreo 1\ncue 00000000000000000000000000065536\n",
+        2,
+        LineKind::Range,
+    ),
+    (b"choreo 1\nrepeat 1000000001\n", 2, LineKind::Range),
+    (b"choreo 1\nperform Go z\n", 2, LineKind::BadCount),
+    (b"choreo 1\nperform g z 0 0 0 0 a\n", 2, LineKind::BadWord),
+    (b"choreo 1\nperform g x 4 0 0 0 a\n", 2, LineKind::Range),
+    (b"choreo 1\nperform g x 0 0 0 0\n", 2, LineKind::BadCount),
+    (b"choreo 1\nform f line\n", 2, LineKind::BadWord),
+];
+
 #[test]
 fn lines_at_top_are_judged(rt: HostRuntime) {
     let alloc = rt.alloc();
-    let faults: [(&[u8], u32, LineKind); 36] = [
-        (b"", 1, LineKind::Header),
-        (b"\n# choreo 1\n", 1, LineKind::Header),
-        (b"\nchoreo 2\n", 2, LineKind::Header),
-        (b"choreo 01\n", 1, LineKind::Header),
-        (b"choreo 1 1\n", 1, LineKind::Header),
-        (b"choreo 2\nbad\n\x01\n", 3, LineKind::BadByte),
-        (b"choreo 1\nend\n", 2, LineKind::BadWord),
-        (b"choreo 1\nat a 0 0 0 0\n", 2, LineKind::BadWord),
-        (b"choreo 1\na move 0 0 0 0\n", 2, LineKind::BadWord),
-        (b"choreo 1\nmemory 0\n", 2, LineKind::BadCount),
-        (b"choreo 1\nmemory 256 0\n", 2, LineKind::Range),
-        (b"choreo 1\nmemory 0 4096\n", 2, LineKind::Range),
-        (
-            b"choreo 1\nmemory 2 0\nmemory 2 0\n",
-            3,
-            LineKind::DoubleSetting,
-        ),
-        (b"choreo 1\nmemory 2 0\nmemory 2 4096\n", 3, LineKind::Range),
-        (b"choreo 1\ntrajectory 10\n", 2, LineKind::Range),
-        (b"choreo 1\ntrajectory a\n", 2, LineKind::BadNumber),
-        (
-            b"choreo 1\ntrajectory 1\ntrajectory 2\n",
-            3,
-            LineKind::DoubleSetting,
-        ),
-        (b"choreo 1\nellipsoid 0 1\n", 2, LineKind::Range),
-        (b"choreo 1\nellipsoid 1 2001\n", 2, LineKind::Range),
-        (
-            b"choreo 1\nellipsoid 1 1\n\nellipsoid 1 1\n",
-            4,
-            LineKind::DoubleSetting,
-        ),
-        (
-            b"choreo 1\ndrone Solo 0 0 1000000 0\n",
-            2,
-            LineKind::BadName,
-        ),
-        (b"choreo 1\ndrone Solo 0 0\n", 2, LineKind::BadCount),
-        (b"choreo 1\ndrone solo 0 0 1e6 0\n", 2, LineKind::BadNumber),
-        (
-            b"choreo 1\ndrone solo 0 0 100000001 0\n",
-            2,
-            LineKind::Range,
-        ),
-        (b"choreo 1\ndrone form 0 0 0 0\n", 2, LineKind::BadName),
-        (b"choreo 1\nformation f g\n", 2, LineKind::BadCount),
-        (b"choreo 1\nfigure g\n", 2, LineKind::BadCount),
-        (b"choreo 1\nfigure g Role\n", 2, LineKind::BadName),
-        (b"choreo 1\ncue 0\n", 2, LineKind::Range),
-        (
-            b"choreo 1\ncue 00000000000000000000000000065536\n",
-            2,
-            LineKind::Range,
-        ),
-        (b"choreo 1\nrepeat 1000000001\n", 2, LineKind::Range),
-        (b"choreo 1\nperform Go z\n", 2, LineKind::BadCount),
-        (b"choreo 1\nperform g z 0 0 0 0 a\n", 2, LineKind::BadWord),
-        (b"choreo 1\nperform g x 4 0 0 0 a\n", 2, LineKind::Range),
-        (b"choreo 1\nperform g x 0 0 0 0\n", 2, LineKind::BadCount),
-        (b"choreo 1\nform f line\n", 2, LineKind::BadWord),
-    ];
-    for (text, line, kind) in faults {
+    for (text, line, kind) in AT_TOP {
         assert!(rt; has_fault(alloc, text, line, kind));
     }
 }
 
+// The same for lines in blocks.
+const IN_BLOCKS: [(&[u8], u32, LineKind); 25] = [
+    (
+        b"# a show\n \t\r\nchoreo 1 # first\r\n\ncue 1#\x01\n# inside\n\nsolo jump 0",
+        8,
+        LineKind::BadWord,
+    ),
+    (b"choreo 1\nformation f\nend\n", 3, LineKind::EmptyBlock),
+    (b"choreo 1\nformation f\nend x\n", 3, LineKind::BadCount),
+    (
+        b"choreo 1\nformation f\nat a 0 0 0\n",
+        3,
+        LineKind::BadCount,
+    ),
+    (b"choreo 1\nformation f\ncue 1\n", 3, LineKind::BadWord),
+    (b"choreo 1\nfigure g p\nend\n", 3, LineKind::EmptyBlock),
+    (
+        b"choreo 1\nfigure g p\nperform g x 0 0 0 0 a\n",
+        3,
+        LineKind::BadWord,
+    ),
+    (
+        b"choreo 1\nfigure g p\nrepeat 1\nperform g x 0 0 0 0 a\n",
+        4,
+        LineKind::BadWord,
+    ),
+    (
+        b"choreo 1\nfigure g p\ncue 1\nform f line\n",
+        4,
+        LineKind::BadName,
+    ),
+    (b"choreo 1\nrepeat 2\nend\n", 3, LineKind::EmptyBlock),
+    (
+        b"choreo 1\nrepeat 2\ndrone a 0 0 0 0\n",
+        3,
+        LineKind::BadWord,
+    ),
+    (b"choreo 1\nrepeat 2\ncue 1\nend\n", 2, LineKind::NoEnd),
+    (b"choreo 1\ncue 1\nsolo\n", 3, LineKind::BadCount),
+    (b"choreo 1\ncue 1\nSolo\n", 3, LineKind::BadName),
+    (b"choreo 1\ncue 1\nsolo jump 0\n", 3, LineKind::BadWord),
+    (b"choreo 1\ncue 1\nSolo jump\n", 3, LineKind::BadName),
+    (b"choreo 1\ncue 1\nform f curve\n", 3, LineKind::BadWord),
+    (b"choreo 1\ncue 1\na hold 0\n", 3, LineKind::BadCount),
+    (
+        b"choreo 1\ncue 1\na line 0 0 0 0 0\n",
+        3,
+        LineKind::BadCount,
+    ),
+    (b"choreo 1\ncue 1\na move 0 0 0 -\n", 3, LineKind::BadNumber),
+    (b"choreo 1\ncue 1\na turn 32768\n", 3, LineKind::Range),
+    (b"choreo 1\ncue 1\na arc left 0 0 0\n", 3, LineKind::BadWord),
+    (
+        b"choreo 1\ncue 1\na curve 0 0 0 0 0 0 0 0 100000001 x\n",
+        3,
+        LineKind::Range,
+    ),
+    (
+        b"choreo 1\nrepeat 1\nrepeat 1\nrepeat 1\nrepeat 1\nrepeat 1\nrepeat 1\nrepeat 1\nrepeat 1\nrepeat 1\n",
+        10,
+        LineKind::Nesting,
+    ),
+    (
+        b"choreo 1\nrepeat 1\nrepeat 1\nrepeat 1\nrepeat 1\nrepeat 1\nrepeat 1\nrepeat 1\nrepeat 1\nrepeat 0\n",
+        10,
+        LineKind::Range,
+    ),
+];
+
 #[test]
 fn lines_in_blocks_are_judged(rt: HostRuntime) {
     let alloc = rt.alloc();
-    let faults: [(&[u8], u32, LineKind); 25] = [
-        (
-            b"# a show\n \t\r\nchoreo 1 # first\r\n\ncue 1#\x01\n# inside\n\nsolo jump 0",
-            8,
-            LineKind::BadWord,
-        ),
-        (b"choreo 1\nformation f\nend\n", 3, LineKind::EmptyBlock),
-        (b"choreo 1\nformation f\nend x\n", 3, LineKind::BadCount),
-        (
-            b"choreo 1\nformation f\nat a 0 0 0\n",
-            3,
-            LineKind::BadCount,
-        ),
-        (b"choreo 1\nformation f\ncue 1\n", 3, LineKind::BadWord),
-        (b"choreo 1\nfigure g p\nend\n", 3, LineKind::EmptyBlock),
-        (
-            b"choreo 1\nfigure g p\nperform g x 0 0 0 0 a\n",
-            3,
-            LineKind::BadWord,
-        ),
-        (
-            b"choreo 1\nfigure g p\nrepeat 1\nperform g x 0 0 0 0 a\n",
-            4,
-            LineKind::BadWord,
-        ),
-        (
-            b"choreo 1\nfigure g p\ncue 1\nform f line\n",
-            4,
-            LineKind::BadName,
-        ),
-        (b"choreo 1\nrepeat 2\nend\n", 3, LineKind::EmptyBlock),
-        (
-            b"choreo 1\nrepeat 2\ndrone a 0 0 0 0\n",
-            3,
-            LineKind::BadWord,
-        ),
-        (b"choreo 1\nrepeat 2\ncue 1\nend\n", 2, LineKind::NoEnd),
-        (b"choreo 1\ncue 1\nsolo\n", 3, LineKind::BadCount),
-        (b"choreo 1\ncue 1\nSolo\n", 3, LineKind::BadName),
-        (b"choreo 1\ncue 1\nsolo jump 0\n", 3, LineKind::BadWord),
-        (b"choreo 1\ncue 1\nSolo jump\n", 3, LineKind::BadName),
-        (b"choreo 1\ncue 1\nform f curve\n", 3, LineKind::BadWord),
-        (b"choreo 1\ncue 1\na hold 0\n", 3, LineKind::BadCount),
-        (
-            b"choreo 1\ncue 1\na line 0 0 0 0 0\n",
-            3,
-            LineKind::BadCount,
-        ),
-        (b"choreo 1\ncue 1\na move 0 0 0 -\n", 3, LineKind::BadNumber),
-        (b"choreo 1\ncue 1\na turn 32768\n", 3, LineKind::Range),
-        (b"choreo 1\ncue 1\na arc left 0 0 0\n", 3, LineKind::BadWord),
-        (
-            b"choreo 1\ncue 1\na curve 0 0 0 0 0 0 0 0 100000001 x\n",
-            3,
-            LineKind::Range,
-        ),
-        (
-            b"choreo 1\nrepeat 1\nrepeat 1\nrepeat 1\nrepeat 1\nrepeat 1\nrepeat 1\nrepeat 1\nrepeat 1\nrepeat 1\n",
-            10,
-            LineKind::Nesting,
-        ),
-        (
-            b"choreo 1\nrepeat 1\nrepeat 1\nrepeat 1\nrepeat 1\nrepeat 1\nrepeat 1\nrepeat 1\nrepeat 1\nrepeat 0\n",
-            10,
-            LineKind::Range,
-        ),
-    ];
-    for (text, line, kind) in faults {
+    for (text, line, kind) in IN_BLOCKS {
         assert!(rt; has_fault(alloc, text, line, kind));
     }
     // Names such as `cue` and `repeat` open no block in a cue, so what is open here is the cue of line 2.

@@ -29,208 +29,211 @@ fn outcome_of(alloc: Global, text: &[u8]) -> Outcome {
 }
 
 // The lines that are faulty for a name, a count of words or an open block.
+const FAULTY_LINES: [(&[u8], Outcome); 8] = [
+    // nothing at all
+    (b"", Outcome::Line(1, LineKind::Header)),
+    // another version
+    (
+        b"choreo 2\ndrone solo 0 0 1000000 0\ncue 2000\nsolo move 1000000 0 1000000 0\nend\n",
+        Outcome::Line(1, LineKind::Header),
+    ),
+    // an upper-case name
+    (
+        b"choreo 1\ndrone Solo 0 0 1000000 0\ncue 2000\nsolo move 1000000 0 1000000 0\nend\n",
+        Outcome::Line(2, LineKind::BadName),
+    ),
+    // an act line of one word
+    (
+        b"choreo 1\ndrone solo 0 0 1000000 0\ncue 2000\nsolo\nend\n",
+        Outcome::Line(4, LineKind::BadCount),
+    ),
+    // no such act
+    (
+        b"choreo 1\ndrone solo 0 0 1000000 0\ncue 2000\nsolo jump 0\nend\n",
+        Outcome::Line(4, LineKind::BadWord),
+    ),
+    // a repeat without a line
+    (
+        b"choreo 1\ndrone solo 0 0 1000000 0\ncue 2000\nsolo move 1000000 0 1000000 0\nend\nrepeat 2\nend\n",
+        Outcome::Line(7, LineKind::EmptyBlock),
+    ),
+    // a cue that is not closed
+    (
+        b"choreo 1\ndrone solo 0 0 1000000 0\ncue 2000\nsolo move 1000000 0 1000000 0\n",
+        Outcome::Line(3, LineKind::NoEnd),
+    ),
+    // a ninth repeat
+    (
+        b"choreo 1\ndrone solo 0 0 1000000 0\nrepeat 1000000000\nrepeat 1000000000\nrepeat 1000000000\nrepeat 1000000000\nrepeat 1000000000\nrepeat 1000000000\nrepeat 1000000000\nrepeat 1000000000\nrepeat 1000000000\ncue 1000\nend\nend\nend\nend\nend\nend\nend\nend\nend\nend\n",
+        Outcome::Line(11, LineKind::Nesting),
+    ),
+];
+
 #[test]
 fn faulty_lines(rt: HostRuntime) {
-    let rows = [
-        // nothing at all
-        (b"".as_slice(), Outcome::Line(1, LineKind::Header)),
-        // another version
-        (
-            b"choreo 2\ndrone solo 0 0 1000000 0\ncue 2000\nsolo move 1000000 0 1000000 0\nend\n".as_slice(),
-            Outcome::Line(1, LineKind::Header),
-        ),
-        // an upper-case name
-        (
-            b"choreo 1\ndrone Solo 0 0 1000000 0\ncue 2000\nsolo move 1000000 0 1000000 0\nend\n".as_slice(),
-            Outcome::Line(2, LineKind::BadName),
-        ),
-        // an act line of one word
-        (
-            b"choreo 1\ndrone solo 0 0 1000000 0\ncue 2000\nsolo\nend\n".as_slice(),
-            Outcome::Line(4, LineKind::BadCount),
-        ),
-        // no such act
-        (
-            b"choreo 1\ndrone solo 0 0 1000000 0\ncue 2000\nsolo jump 0\nend\n".as_slice(),
-            Outcome::Line(4, LineKind::BadWord),
-        ),
-        // a repeat without a line
-        (
-            b"choreo 1\ndrone solo 0 0 1000000 0\ncue 2000\nsolo move 1000000 0 1000000 0\nend\nrepeat 2\nend\n".as_slice(),
-            Outcome::Line(7, LineKind::EmptyBlock),
-        ),
-        // a cue that is not closed
-        (
-            b"choreo 1\ndrone solo 0 0 1000000 0\ncue 2000\nsolo move 1000000 0 1000000 0\n".as_slice(),
-            Outcome::Line(3, LineKind::NoEnd),
-        ),
-        // a ninth repeat
-        (
-            b"choreo 1\ndrone solo 0 0 1000000 0\nrepeat 1000000000\nrepeat 1000000000\nrepeat 1000000000\nrepeat 1000000000\nrepeat 1000000000\nrepeat 1000000000\nrepeat 1000000000\nrepeat 1000000000\nrepeat 1000000000\ncue 1000\nend\nend\nend\nend\nend\nend\nend\nend\nend\nend\n".as_slice(),
-            Outcome::Line(11, LineKind::Nesting),
-        ),
-    ];
-    for (text, wanted) in rows {
+    for (text, wanted) in FAULTY_LINES {
         assert_eq!(rt; outcome_of(rt.alloc(), text), wanted);
     }
 }
 
 // What is wrong with names, and where.
+const FAULTS_OF_NAMES: [(&[u8], Outcome); 19] = [
+    // no drone comes before no cue
+    (
+        b"choreo 1\n",
+        Outcome::Fault(GridFault::NoDrone { line: 1 }),
+    ),
+    // a 33rd drone comes before a name that stands twice
+    (
+        b"choreo 1\ndrone a 0 0 0 0\ndrone a 0 0 0 0\ndrone a 0 0 0 0\ndrone a 0 0 0 0\ndrone a 0 0 0 0\ndrone a 0 0 0 0\ndrone a 0 0 0 0\ndrone a 0 0 0 0\ndrone a 0 0 0 0\ndrone a 0 0 0 0\ndrone a 0 0 0 0\ndrone a 0 0 0 0\ndrone a 0 0 0 0\ndrone a 0 0 0 0\ndrone a 0 0 0 0\ndrone a 0 0 0 0\ndrone a 0 0 0 0\ndrone a 0 0 0 0\ndrone a 0 0 0 0\ndrone a 0 0 0 0\ndrone a 0 0 0 0\ndrone a 0 0 0 0\ndrone a 0 0 0 0\ndrone a 0 0 0 0\ndrone a 0 0 0 0\ndrone a 0 0 0 0\ndrone a 0 0 0 0\ndrone a 0 0 0 0\ndrone a 0 0 0 0\ndrone a 0 0 0 0\ndrone a 0 0 0 0\ndrone a 0 0 0 0\ndrone a 0 0 0 0\n",
+        Outcome::Fault(GridFault::TooManyDrones { line: 34 }),
+    ),
+    // a drone twice
+    (
+        b"choreo 1\ndrone solo 0 0 1000000 0\ndrone solo 0 0 1000000 0\ncue 2000\nsolo move 1000000 0 1000000 0\nend\n",
+        Outcome::Fault(GridFault::DoubleName { line: 3 }),
+    ),
+    // an act twice
+    (
+        b"choreo 1\ndrone solo 0 0 1000000 0\ncue 2000\nsolo move 1000000 0 1000000 0\nsolo move 1000000 0 1000000 0\nend\n",
+        Outcome::Fault(GridFault::DoubleAct { line: 5 }),
+    ),
+    // an act of nobody
+    (
+        b"choreo 1\ndrone solo 0 0 1000000 0\ncue 2000\nother hold\nend\n",
+        Outcome::Fault(GridFault::UnknownName { line: 4 }),
+    ),
+    // a figure for nobody
+    (
+        b"choreo 1\ndrone solo 0 0 1000000 0\nfigure go p\ncue 1000\np line 1000000 0 1000000 0\nend\nend\nperform go y 1 0 0 500000 other\n",
+        Outcome::Fault(GridFault::UnknownName { line: 8 }),
+    ),
+    // a figure for too many
+    (
+        b"choreo 1\ndrone solo 0 0 1000000 0\nfigure go p\ncue 1000\np line 1000000 0 1000000 0\nend\nend\nperform go y 1 0 0 500000 solo solo\n",
+        Outcome::Fault(GridFault::RoleCount { line: 8 }),
+    ),
+    // no such figure
+    (
+        b"choreo 1\ndrone solo 0 0 1000000 0\nfigure go p\ncue 1000\np line 1000000 0 1000000 0\nend\nend\nperform come y 1 0 0 500000 solo\n",
+        Outcome::Fault(GridFault::UnknownName { line: 8 }),
+    ),
+    // two roles of one name
+    (
+        b"choreo 1\ndrone a 0 0 0 0\nfigure go p p\ncue 1\nend\nend\n",
+        Outcome::Fault(GridFault::DoubleName { line: 3 }),
+    ),
+    // one drone for two roles
+    (
+        b"choreo 1\ndrone a 0 0 0 0\nfigure go p q\ncue 1\nend\nend\nperform go none 0 0 0 0 a a\n",
+        Outcome::Fault(GridFault::DoubleAct { line: 7 }),
+    ),
+    // a figure twice
+    (
+        b"choreo 1\ndrone solo 0 0 1000000 0\nfigure go p\ncue 1000\np line 1000000 0 1000000 0\nend\nend\nfigure go p\ncue 1000\np line 1000000 0 1000000 0\nend\nend\n",
+        Outcome::Fault(GridFault::DoubleName { line: 8 }),
+    ),
+    // a formation twice
+    (
+        b"choreo 1\ndrone a 0 0 0 0\nformation f\nat a 0 0 0 0\nend\nformation f\nat a 0 0 0 0\nend\n",
+        Outcome::Fault(GridFault::DoubleName { line: 6 }),
+    ),
+    // a place of nobody
+    (
+        b"choreo 1\ndrone a 0 0 0 0\nformation f\nat b 0 0 0 0\nend\n",
+        Outcome::Fault(GridFault::UnknownName { line: 4 }),
+    ),
+    // a place twice
+    (
+        b"choreo 1\ndrone a 0 0 0 0\nformation f\nat a 0 0 0 0\nat a 1 0 0 0\nend\n",
+        Outcome::Fault(GridFault::DoubleAct { line: 5 }),
+    ),
+    // an act after a form
+    (
+        b"choreo 1\ndrone a 0 0 0 0\ncue 1\nform f line\na hold\nend\nformation f\nat a 0 0 0 0\nend\n",
+        Outcome::Fault(GridFault::DoubleAct { line: 5 }),
+    ),
+    // two formations place a name that is no drone's
+    (
+        b"choreo 1\ndrone a 0 0 0 0\ncue 1\nform f line\nform g line\nend\nformation f\nat z 0 0 0 0\nend\nformation g\nat z 0 0 0 0\nend\n",
+        Outcome::Fault(GridFault::DoubleAct { line: 5 }),
+    ),
+    // a form after an act
+    (
+        b"choreo 1\ndrone a 0 0 0 0\ndrone b 0 0 0 0\ncue 1\nb hold\nform f line\nend\nformation f\nat a 0 0 0 0\nat b 0 0 0 0\nend\n",
+        Outcome::Fault(GridFault::DoubleAct { line: 6 }),
+    ),
+    // an act of a role twice
+    (
+        b"choreo 1\ndrone a 0 0 0 0\nfigure go p\ncue 1\np hold\np hold\nend\nend\nperform go none 0 0 0 0 a\n",
+        Outcome::Fault(GridFault::DoubleAct { line: 6 }),
+    ),
+    // no such formation
+    (
+        b"choreo 1\ndrone a 0 0 0 0\ncue 1\nform f line\nend\n",
+        Outcome::Fault(GridFault::UnknownName { line: 4 }),
+    ),
+];
+
 #[test]
 fn faults_of_names(rt: HostRuntime) {
-    let rows = [
-        // no drone comes before no cue
-        (
-            b"choreo 1\n".as_slice(),
-            Outcome::Fault(GridFault::NoDrone { line: 1 }),
-        ),
-        // a 33rd drone comes before a name that stands twice
-        (
-            b"choreo 1\ndrone a 0 0 0 0\ndrone a 0 0 0 0\ndrone a 0 0 0 0\ndrone a 0 0 0 0\ndrone a 0 0 0 0\ndrone a 0 0 0 0\ndrone a 0 0 0 0\ndrone a 0 0 0 0\ndrone a 0 0 0 0\ndrone a 0 0 0 0\ndrone a 0 0 0 0\ndrone a 0 0 0 0\ndrone a 0 0 0 0\ndrone a 0 0 0 0\ndrone a 0 0 0 0\ndrone a 0 0 0 0\ndrone a 0 0 0 0\ndrone a 0 0 0 0\ndrone a 0 0 0 0\ndrone a 0 0 0 0\ndrone a 0 0 0 0\ndrone a 0 0 0 0\ndrone a 0 0 0 0\ndrone a 0 0 0 0\ndrone a 0 0 0 0\ndrone a 0 0 0 0\ndrone a 0 0 0 0\ndrone a 0 0 0 0\ndrone a 0 0 0 0\ndrone a 0 0 0 0\ndrone a 0 0 0 0\ndrone a 0 0 0 0\ndrone a 0 0 0 0\n".as_slice(),
-            Outcome::Fault(GridFault::TooManyDrones { line: 34 }),
-        ),
-        // a drone twice
-        (
-            b"choreo 1\ndrone solo 0 0 1000000 0\ndrone solo 0 0 1000000 0\ncue 2000\nsolo move 1000000 0 1000000 0\nend\n".as_slice(),
-            Outcome::Fault(GridFault::DoubleName { line: 3 }),
-        ),
-        // an act twice
-        (
-            b"choreo 1\ndrone solo 0 0 1000000 0\ncue 2000\nsolo move 1000000 0 1000000 0\nsolo move 1000000 0 1000000 0\nend\n".as_slice(),
-            Outcome::Fault(GridFault::DoubleAct { line: 5 }),
-        ),
-        // an act of nobody
-        (
-            b"choreo 1\ndrone solo 0 0 1000000 0\ncue 2000\nother hold\nend\n".as_slice(),
-            Outcome::Fault(GridFault::UnknownName { line: 4 }),
-        ),
-        // a figure for nobody
-        (
-            b"choreo 1\ndrone solo 0 0 1000000 0\nfigure go p\ncue 1000\np line 1000000 0 1000000 0\nend\nend\nperform go y 1 0 0 500000 other\n".as_slice(),
-            Outcome::Fault(GridFault::UnknownName { line: 8 }),
-        ),
-        // a figure for too many
-        (
-            b"choreo 1\ndrone solo 0 0 1000000 0\nfigure go p\ncue 1000\np line 1000000 0 1000000 0\nend\nend\nperform go y 1 0 0 500000 solo solo\n".as_slice(),
-            Outcome::Fault(GridFault::RoleCount { line: 8 }),
-        ),
-        // no such figure
-        (
-            b"choreo 1\ndrone solo 0 0 1000000 0\nfigure go p\ncue 1000\np line 1000000 0 1000000 0\nend\nend\nperform come y 1 0 0 500000 solo\n".as_slice(),
-            Outcome::Fault(GridFault::UnknownName { line: 8 }),
-        ),
-        // two roles of one name
-        (
-            b"choreo 1\ndrone a 0 0 0 0\nfigure go p p\ncue 1\nend\nend\n".as_slice(),
-            Outcome::Fault(GridFault::DoubleName { line: 3 }),
-        ),
-        // one drone for two roles
-        (
-            b"choreo 1\ndrone a 0 0 0 0\nfigure go p q\ncue 1\nend\nend\nperform go none 0 0 0 0 a a\n".as_slice(),
-            Outcome::Fault(GridFault::DoubleAct { line: 7 }),
-        ),
-        // a figure twice
-        (
-            b"choreo 1\ndrone solo 0 0 1000000 0\nfigure go p\ncue 1000\np line 1000000 0 1000000 0\nend\nend\nfigure go p\ncue 1000\np line 1000000 0 1000000 0\nend\nend\n".as_slice(),
-            Outcome::Fault(GridFault::DoubleName { line: 8 }),
-        ),
-        // a formation twice
-        (
-            b"choreo 1\ndrone a 0 0 0 0\nformation f\nat a 0 0 0 0\nend\nformation f\nat a 0 0 0 0\nend\n".as_slice(),
-            Outcome::Fault(GridFault::DoubleName { line: 6 }),
-        ),
-        // a place of nobody
-        (
-            b"choreo 1\ndrone a 0 0 0 0\nformation f\nat b 0 0 0 0\nend\n".as_slice(),
-            Outcome::Fault(GridFault::UnknownName { line: 4 }),
-        ),
-        // a place twice
-        (
-            b"choreo 1\ndrone a 0 0 0 0\nformation f\nat a 0 0 0 0\nat a 1 0 0 0\nend\n".as_slice(),
-            Outcome::Fault(GridFault::DoubleAct { line: 5 }),
-        ),
-        // an act after a form
-        (
-            b"choreo 1\ndrone a 0 0 0 0\ncue 1\nform f line\na hold\nend\nformation f\nat a 0 0 0 0\nend\n".as_slice(),
-            Outcome::Fault(GridFault::DoubleAct { line: 5 }),
-        ),
-        // two formations place a name that is no drone's
-        (
-            b"choreo 1\ndrone a 0 0 0 0\ncue 1\nform f line\nform g line\nend\nformation f\nat z 0 0 0 0\nend\nformation g\nat z 0 0 0 0\nend\n".as_slice(),
-            Outcome::Fault(GridFault::DoubleAct { line: 5 }),
-        ),
-        // a form after an act
-        (
-            b"choreo 1\ndrone a 0 0 0 0\ndrone b 0 0 0 0\ncue 1\nb hold\nform f line\nend\nformation f\nat a 0 0 0 0\nat b 0 0 0 0\nend\n".as_slice(),
-            Outcome::Fault(GridFault::DoubleAct { line: 6 }),
-        ),
-        // an act of a role twice
-        (
-            b"choreo 1\ndrone a 0 0 0 0\nfigure go p\ncue 1\np hold\np hold\nend\nend\nperform go none 0 0 0 0 a\n".as_slice(),
-            Outcome::Fault(GridFault::DoubleAct { line: 6 }),
-        ),
-        // no such formation
-        (
-            b"choreo 1\ndrone a 0 0 0 0\ncue 1\nform f line\nend\n".as_slice(),
-            Outcome::Fault(GridFault::UnknownName { line: 4 }),
-        ),
-    ];
-    for (text, wanted) in rows {
+    for (text, wanted) in FAULTS_OF_NAMES {
         assert_eq!(rt; outcome_of(rt.alloc(), text), wanted);
     }
 }
 
 // How many cues there are.
+const NUMBERS_OF_CUES: [(&[u8], Outcome); 9] = [
+    // one cue
+    (
+        b"choreo 1\ndrone solo 0 0 1000000 0\ncue 2000\nsolo move 1000000 0 1000000 0\nend\n",
+        Outcome::Cues(1),
+    ),
+    // no cue
+    (
+        b"choreo 1\ndrone solo 0 0 1000000 0\n",
+        Outcome::Fault(GridFault::NoCue { line: 1 }),
+    ),
+    // 255 cues
+    (
+        b"choreo 1\ndrone solo 0 0 1000000 0\nrepeat 255\ncue 1000\nend\nend\n",
+        Outcome::Cues(255),
+    ),
+    // 256 cues
+    (
+        b"choreo 1\ndrone solo 0 0 1000000 0\nrepeat 256\ncue 1000\nend\nend\n",
+        Outcome::Fault(GridFault::TooManyCues { line: 3 }),
+    ),
+    // eight repeats of a thousand million
+    (
+        b"choreo 1\ndrone solo 0 0 1000000 0\nrepeat 1000000000\nrepeat 1000000000\nrepeat 1000000000\nrepeat 1000000000\nrepeat 1000000000\nrepeat 1000000000\nrepeat 1000000000\nrepeat 1000000000\ncue 1000\nend\nend\nend\nend\nend\nend\nend\nend\nend\n",
+        Outcome::Fault(GridFault::TooManyCues { line: 3 }),
+    ),
+    // one cue behind 255
+    (
+        b"choreo 1\ndrone solo 0 0 1000000 0\nrepeat 255\ncue 1000\nend\nend\ncue 1\nend\n",
+        Outcome::Fault(GridFault::TooManyCues { line: 7 }),
+    ),
+    // repeats in repeats
+    (
+        b"choreo 1\ndrone solo 0 0 1000000 0\nrepeat 2\nrepeat 3\ncue 1\nend\nend\ncue 2\nend\nend\n",
+        Outcome::Cues(8),
+    ),
+    // two cues, each of a form and an act
+    (
+        b"choreo 1\ndrone a 0 0 0 0\ndrone b 0 0 0 0\ncue 1\nform f line\nb hold\nend\ncue 1\na hold\nform g line\nend\nformation f\nat a 0 0 0 0\nend\nformation g\nat b 0 0 0 0\nend\n",
+        Outcome::Cues(2),
+    ),
+    // a figure of two cues in a repeat
+    (
+        b"choreo 1\ndrone a 0 0 0 0\nrepeat 3\nperform go x 0 0 0 0 a\nend\nfigure go p\nrepeat 2\ncue 1\nend\nend\nend\n",
+        Outcome::Cues(6),
+    ),
+];
+
 #[test]
 fn numbers_of_cues(rt: HostRuntime) {
-    let rows = [
-        // row one
-        (
-            b"choreo 1\ndrone solo 0 0 1000000 0\ncue 2000\nsolo move 1000000 0 1000000 0\nend\n".as_slice(),
-            Outcome::Cues(1),
-        ),
-        // no cue
-        (
-            b"choreo 1\ndrone solo 0 0 1000000 0\n".as_slice(),
-            Outcome::Fault(GridFault::NoCue { line: 1 }),
-        ),
-        // 255 cues
-        (
-            b"choreo 1\ndrone solo 0 0 1000000 0\nrepeat 255\ncue 1000\nend\nend\n".as_slice(),
-            Outcome::Cues(255),
-        ),
-        // 256 cues
-        (
-            b"choreo 1\ndrone solo 0 0 1000000 0\nrepeat 256\ncue 1000\nend\nend\n".as_slice(),
-            Outcome::Fault(GridFault::TooManyCues { line: 3 }),
-        ),
-        // eight repeats of a thousand million
-        (
-            b"choreo 1\ndrone solo 0 0 1000000 0\nrepeat 1000000000\nrepeat 1000000000\nrepeat 1000000000\nrepeat 1000000000\nrepeat 1000000000\nrepeat 1000000000\nrepeat 1000000000\nrepeat 1000000000\ncue 1000\nend\nend\nend\nend\nend\nend\nend\nend\nend\n".as_slice(),
-            Outcome::Fault(GridFault::TooManyCues { line: 3 }),
-        ),
-        // one cue behind 255
-        (
-            b"choreo 1\ndrone solo 0 0 1000000 0\nrepeat 255\ncue 1000\nend\nend\ncue 1\nend\n".as_slice(),
-            Outcome::Fault(GridFault::TooManyCues { line: 7 }),
-        ),
-        // repeats in repeats
-        (
-            b"choreo 1\ndrone solo 0 0 1000000 0\nrepeat 2\nrepeat 3\ncue 1\nend\nend\ncue 2\nend\nend\n".as_slice(),
-            Outcome::Cues(8),
-        ),
-        // two cues, each of a form and an act
-        (
-            b"choreo 1\ndrone a 0 0 0 0\ndrone b 0 0 0 0\ncue 1\nform f line\nb hold\nend\ncue 1\na hold\nform g line\nend\nformation f\nat a 0 0 0 0\nend\nformation g\nat b 0 0 0 0\nend\n".as_slice(),
-            Outcome::Cues(2),
-        ),
-        // a figure of two cues in a repeat
-        (
-            b"choreo 1\ndrone a 0 0 0 0\nrepeat 3\nperform go x 0 0 0 0 a\nend\nfigure go p\nrepeat 2\ncue 1\nend\nend\nend\n".as_slice(),
-            Outcome::Cues(6),
-        ),
-    ];
-    for (text, wanted) in rows {
+    for (text, wanted) in NUMBERS_OF_CUES {
         assert_eq!(rt; outcome_of(rt.alloc(), text), wanted);
     }
 }

@@ -46,110 +46,112 @@ fn piece(axes: [Axis; 4]) -> Outcome {
 }
 
 // Control values that are known from outside.
+const FIGURES: [(&[u8], [Axis; 4]); 5] = [
+    // a quarter circle
+    (
+        b"choreo 1\ndrone solo 1000000 0 1000000 0\ncue 1000\nsolo arc ccw 0 0 0\nend\n",
+        [
+            Axis::Four {
+                v: [1_000_000, 1_000_000, 552_285, 0],
+            },
+            Axis::Four {
+                v: [0, 552_285, 1_000_000, 1_000_000],
+            },
+            Axis::One { v: 1_000_000 },
+            Axis::Two { v: [0, 0] },
+        ],
+    ),
+    // the same in a mirror goes round the other way
+    (
+        b"choreo 1\ndrone solo 1000000 0 1000000 0\nfigure go p\ncue 1000\np arc ccw 0 0 0\nend\nend\nperform go y 0 0 0 0 solo\n",
+        [
+            Axis::Four {
+                v: [1_000_000, 1_000_000, 552_285, 0],
+            },
+            Axis::Four {
+                v: [0, -552_285, -1_000_000, -1_000_000],
+            },
+            Axis::One { v: 1_000_000 },
+            Axis::Two { v: [0, 0] },
+        ],
+    ),
+    // a figure mirrored, turned and shifted
+    (
+        b"choreo 1\ndrone solo 0 0 1000000 0\nfigure go p\ncue 1000\np line 1000000 0 1000000 0\nend\nend\nperform go y 1 0 0 500000 solo\n",
+        [
+            Axis::Two { v: [0, 0] },
+            Axis::Two { v: [0, 1_000_000] },
+            Axis::Two {
+                v: [1_000_000, 1_500_000],
+            },
+            Axis::Two { v: [0, 900] },
+        ],
+    ),
+    // a turn, behind a movement
+    (
+        b"choreo 1\ndrone solo 0 0 1000000 0\ncue 2000\nsolo move 5 6 7 8\nend\ncue 1000\nsolo turn 900\nend\n",
+        [
+            Axis::One { v: 5 },
+            Axis::One { v: 6 },
+            Axis::One { v: 7 },
+            Axis::Eight {
+                v: [8, 8, 8, 8, 900, 900, 900, 900],
+            },
+        ],
+    ),
+    // a curve
+    (
+        b"choreo 1\ndrone solo 0 0 1000000 0\ncue 1000\nsolo curve 1 2 3 4 5 6 7 8 9 10\nend\n",
+        [
+            Axis::Four { v: [0, 1, 4, 7] },
+            Axis::Four { v: [0, 2, 5, 8] },
+            Axis::Four {
+                v: [1_000_000, 3, 6, 9],
+            },
+            Axis::Two { v: [0, 10] },
+        ],
+    ),
+];
+
 #[test]
 fn figures(rt: HostRuntime) {
-    let rows = [
-        // a quarter circle
-        (
-            b"choreo 1\ndrone solo 1000000 0 1000000 0\ncue 1000\nsolo arc ccw 0 0 0\nend\n".as_slice(),
-            piece([
-                Axis::Four {
-                    v: [1_000_000, 1_000_000, 552_285, 0],
-                },
-                Axis::Four {
-                    v: [0, 552_285, 1_000_000, 1_000_000],
-                },
-                Axis::One { v: 1_000_000 },
-                Axis::Two { v: [0, 0] },
-            ]),
-        ),
-        // the same in a mirror goes round the other way
-        (
-            b"choreo 1\ndrone solo 1000000 0 1000000 0\nfigure go p\ncue 1000\np arc ccw 0 0 0\nend\nend\nperform go y 0 0 0 0 solo\n".as_slice(),
-            piece([
-                Axis::Four {
-                    v: [1_000_000, 1_000_000, 552_285, 0],
-                },
-                Axis::Four {
-                    v: [0, -552_285, -1_000_000, -1_000_000],
-                },
-                Axis::One { v: 1_000_000 },
-                Axis::Two { v: [0, 0] },
-            ]),
-        ),
-        // a figure mirrored, turned and shifted
-        (
-            b"choreo 1\ndrone solo 0 0 1000000 0\nfigure go p\ncue 1000\np line 1000000 0 1000000 0\nend\nend\nperform go y 1 0 0 500000 solo\n".as_slice(),
-            piece([
-                Axis::Two { v: [0, 0] },
-                Axis::Two { v: [0, 1_000_000] },
-                Axis::Two {
-                    v: [1_000_000, 1_500_000],
-                },
-                Axis::Two { v: [0, 900] },
-            ]),
-        ),
-        // a turn, behind a movement
-        (
-            b"choreo 1\ndrone solo 0 0 1000000 0\ncue 2000\nsolo move 5 6 7 8\nend\ncue 1000\nsolo turn 900\nend\n".as_slice(),
-            piece([
-                Axis::One { v: 5 },
-                Axis::One { v: 6 },
-                Axis::One { v: 7 },
-                Axis::Eight {
-                    v: [8, 8, 8, 8, 900, 900, 900, 900],
-                },
-            ]),
-        ),
-        // a curve
-        (
-            b"choreo 1\ndrone solo 0 0 1000000 0\ncue 1000\nsolo curve 1 2 3 4 5 6 7 8 9 10\nend\n".as_slice(),
-            piece([
-                Axis::Four { v: [0, 1, 4, 7] },
-                Axis::Four { v: [0, 2, 5, 8] },
-                Axis::Four {
-                    v: [1_000_000, 3, 6, 9],
-                },
-                Axis::Two { v: [0, 10] },
-            ]),
-        ),
-    ];
-    for (text, wanted) in rows {
-        assert_eq!(rt; outcome_of(rt.alloc(), text), wanted);
+    for (text, axes) in FIGURES {
+        assert_eq!(rt; outcome_of(rt.alloc(), text), piece(axes));
     }
 }
 
 // The first value that no trajectory can hold.
+const RANGES: [(&[u8], ExpandFault); 3] = [
+    (
+        b"choreo 1\ndrone solo 32767500 0 1000000 0\ncue 2000\nsolo move 1000000 0 1000000 0\nend\n",
+        ExpandFault::OutOfRange {
+            line: 2,
+            axis: 0,
+            value: 32_767_500,
+        },
+    ),
+    (
+        b"choreo 1\ndrone solo -32768501 0 1000000 0\ncue 2000\nsolo move 1000000 0 1000000 0\nend\n",
+        ExpandFault::OutOfRange {
+            line: 2,
+            axis: 0,
+            value: -32_768_501,
+        },
+    ),
+    // the end of a movement
+    (
+        b"choreo 1\ndrone solo -32768500 32767499 1000000 0\ncue 2000\nsolo move 0 40000000 1000000 0\nend\n",
+        ExpandFault::OutOfRange {
+            line: 4,
+            axis: 1,
+            value: 40_000_000,
+        },
+    ),
+];
+
 #[test]
 fn ranges(rt: HostRuntime) {
-    let rows = [
-        (
-            b"choreo 1\ndrone solo 32767500 0 1000000 0\ncue 2000\nsolo move 1000000 0 1000000 0\nend\n".as_slice(),
-            ExpandFault::OutOfRange {
-                line: 2,
-                axis: 0,
-                value: 32_767_500,
-            },
-        ),
-        (
-            b"choreo 1\ndrone solo -32768501 0 1000000 0\ncue 2000\nsolo move 1000000 0 1000000 0\nend\n".as_slice(),
-            ExpandFault::OutOfRange {
-                line: 2,
-                axis: 0,
-                value: -32_768_501,
-            },
-        ),
-        // the end of a movement
-        (
-            b"choreo 1\ndrone solo -32768500 32767499 1000000 0\ncue 2000\nsolo move 0 40000000 1000000 0\nend\n".as_slice(),
-            ExpandFault::OutOfRange {
-                line: 4,
-                axis: 1,
-                value: 40_000_000,
-            },
-        ),
-    ];
-    for (text, wanted) in rows {
+    for (text, wanted) in RANGES {
         assert_eq!(rt; outcome_of(rt.alloc(), text), Outcome::Fault(wanted));
     }
 }

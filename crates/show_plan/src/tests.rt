@@ -104,74 +104,75 @@ fn bytes_of_shows(rt: HostRuntime) {
 }
 
 // The first reason why a show has no plan.
+const REFUSALS: [(&[u8], PlanFault); 7] = [
+    // a number out of range
+    (
+        b"choreo 1\ndrone solo 32767500 0 1000000 0\ncue 2000\nsolo move 1000000 0 1000000 0\nend\n",
+        PlanFault::Expand {
+            fault: ExpandFault::OutOfRange {
+                line: 2,
+                axis: 0,
+                value: 32_767_500,
+            },
+        },
+    ),
+    // a fault of names comes before a number out of range
+    (
+        b"choreo 1\ndrone solo 32767500 0 1000000 0\ncue 2000\nother hold\nend\n",
+        PlanFault::Grid {
+            fault: GridFault::UnknownName { line: 4 },
+        },
+    ),
+    // a number out of range comes before want of room
+    (
+        b"choreo 1\nmemory 2 4095\ndrone solo -32768501 0 1000000 0\ncue 2000\nend\n",
+        PlanFault::Expand {
+            fault: ExpandFault::OutOfRange {
+                line: 3,
+                axis: 0,
+                value: -32_768_501,
+            },
+        },
+    ),
+    // one byte too many
+    (
+        b"choreo 1\nmemory 2 4069\ndrone solo 0 0 1000000 0\ncue 2000\nsolo move 1000000 0 1000000 0\nend\n",
+        PlanFault::TooLong {
+            drone: 0,
+            bytes: 28,
+            room: 27,
+        },
+    ),
+    // the second drone alone
+    (
+        b"choreo 1\nmemory 2 4076\ndrone a 0 0 1000000 0\ndrone b 0 0 1000000 0\ncue 2000\nb move 1000000 0 1000000 0\nend\n",
+        PlanFault::TooLong {
+            drone: 1,
+            bytes: 28,
+            room: 20,
+        },
+    ),
+    // both drones
+    (
+        b"choreo 1\nmemory 2 4090\ndrone a 0 0 1000000 0\ndrone b 0 0 1000000 0\ncue 2000\nb move 1000000 0 1000000 0\nend\n",
+        PlanFault::TooLong {
+            drone: 0,
+            bytes: 14,
+            room: 6,
+        },
+    ),
+    // too many cues
+    (
+        b"choreo 1\ndrone solo 0 0 1000000 0\nrepeat 256\ncue 1000\nend\nend\n",
+        PlanFault::Grid {
+            fault: GridFault::TooManyCues { line: 3 },
+        },
+    ),
+];
+
 #[test]
 fn refusals(rt: HostRuntime) {
-    let rows = [
-        // a number out of range
-        (
-            b"choreo 1\ndrone solo 32767500 0 1000000 0\ncue 2000\nsolo move 1000000 0 1000000 0\nend\n".as_slice(),
-            PlanFault::Expand {
-                fault: ExpandFault::OutOfRange {
-                    line: 2,
-                    axis: 0,
-                    value: 32_767_500,
-                },
-            },
-        ),
-        // a fault of names comes before a number out of range
-        (
-            b"choreo 1\ndrone solo 32767500 0 1000000 0\ncue 2000\nother hold\nend\n".as_slice(),
-            PlanFault::Grid {
-                fault: GridFault::UnknownName { line: 4 },
-            },
-        ),
-        // a number out of range comes before want of room
-        (
-            b"choreo 1\nmemory 2 4095\ndrone solo -32768501 0 1000000 0\ncue 2000\nend\n".as_slice(),
-            PlanFault::Expand {
-                fault: ExpandFault::OutOfRange {
-                    line: 3,
-                    axis: 0,
-                    value: -32_768_501,
-                },
-            },
-        ),
-        // one byte too many
-        (
-            b"choreo 1\nmemory 2 4069\ndrone solo 0 0 1000000 0\ncue 2000\nsolo move 1000000 0 1000000 0\nend\n".as_slice(),
-            PlanFault::TooLong {
-                drone: 0,
-                bytes: 28,
-                room: 27,
-            },
-        ),
-        // the second drone alone
-        (
-            b"choreo 1\nmemory 2 4076\ndrone a 0 0 1000000 0\ndrone b 0 0 1000000 0\ncue 2000\nb move 1000000 0 1000000 0\nend\n".as_slice(),
-            PlanFault::TooLong {
-                drone: 1,
-                bytes: 28,
-                room: 20,
-            },
-        ),
-        // both drones
-        (
-            b"choreo 1\nmemory 2 4090\ndrone a 0 0 1000000 0\ndrone b 0 0 1000000 0\ncue 2000\nb move 1000000 0 1000000 0\nend\n".as_slice(),
-            PlanFault::TooLong {
-                drone: 0,
-                bytes: 14,
-                room: 6,
-            },
-        ),
-        // too many cues
-        (
-            b"choreo 1\ndrone solo 0 0 1000000 0\nrepeat 256\ncue 1000\nend\nend\n".as_slice(),
-            PlanFault::Grid {
-                fault: GridFault::TooManyCues { line: 3 },
-            },
-        ),
-    ];
-    for (text, fault) in rows {
+    for (text, fault) in REFUSALS {
         assert_eq!(rt; outcome_of(rt.alloc(), text, b""), Outcome::Fault(fault));
     }
 }
