@@ -15,6 +15,9 @@ const PATH: [u8; 28] = [
     0, 0,
 ];
 
+/// A load of one write.
+const FOUR_BYTES: [u8; 4] = [9, 8, 7, 6];
+
 /// The path for one drone.
 fn solo(alloc: Global, start: bool) -> Result<Session, AllocError>
     ensures { IfOk result (λ s. drone_count s ≡ 1) }
@@ -42,24 +45,76 @@ fn solo_world(alloc: Global, start: bool) -> Result<World, AllocError>
     World::make(alloc, session, drones)
 }
 
-/// The names of the drones: the one.
-fn names(alloc: Global) -> Result<Vec<Name>, AllocError>
+/// The path for one drone and four bytes with two segments for another, which are started.
+fn pair(alloc: Global) -> Result<Session, AllocError>
+    ensures { IfOk result (λ s. drone_count s ≡ 2) }
+{
+    let mut loads = Vec::new(alloc);
+    loads.push(Load {
+        bytes: Bytes::from_vec(PATH.to_vec(alloc)?),
+        pieces: 1,
+    })?;
+    loads.push(Load {
+        bytes: Bytes::from_vec(FOUR_BYTES.to_vec(alloc)?),
+        pieces: 2,
+    })?;
+    let settings = Settings {
+        memory_id: 2,
+        offset: 0,
+        trajectory_id: 0,
+    };
+    Session::make(alloc, settings, &loads, true)
+}
+
+/// The two loads on their way to two drones whose memories are blank.
+fn pair_world(alloc: Global) -> Result<World, AllocError>
+    ensures { IfOk result (λ w. length w.drones ≡ 2) }
+{
+    let session = pair(alloc)?;
+    let mut drones = Vec::new(alloc);
+    drones.push(make(2, [0xFF; 4096]))?;
+    drones.push(make(2, [0xFF; 4096]))?;
+    World::make(alloc, session, drones)
+}
+
+/// A name of at most 16 bytes.
+fn name_of(bytes: &[u8]) -> Name {
+    let mut name = Name::new();
+    let _ = name.try_extend_from_slice(bytes);
+    name
+}
+
+/// The name of one drone.
+fn solo_name(alloc: Global) -> Result<Vec<Name>, AllocError>
     ensures { IfOk result (λ names. length names.items ≡ 1) }
 {
-    let mut name = Name::new();
-    let _ = name.try_extend_from_slice(b"solo");
     let mut names = Vec::new(alloc);
-    names.push(name)?;
+    names.push(name_of(b"solo"))?;
+    Ok(names)
+}
+
+/// The names of two drones.
+fn pair_names(alloc: Global, first: &[u8], second: &[u8]) -> Result<Vec<Name>, AllocError>
+    ensures { IfOk result (λ names. length names.items ≡ 2) }
+{
+    let mut names = Vec::new(alloc);
+    names.push(name_of(first))?;
+    names.push(name_of(second))?;
     Ok(names)
 }
 
 /// What a schedule leads the world to.
-fn run(alloc: Global, world: &mut World, text: &[u8]) -> Result<Progress, AllocError>
-    requires { length text.now ≤ 1048576 }
+fn run(
+    alloc: Global,
+    world: &mut World,
+    names: &Vec<Name>,
+    text: &[u8],
+) -> Result<Progress, AllocError>
+    requires text { length text.now ≤ 1048576 }
+    requires names { length names.now.items ≤ 32 }
     ensures { length world.new.drones ≡ length world.old.drones }
 {
-    let names = names(alloc)?;
-    let events = match read_schedule(alloc, text, &names) {
+    let events = match read_schedule(alloc, text, names) {
         Ok(events) => events,
         Err(_) => return Err(AllocError),
     };
@@ -69,58 +124,113 @@ fn run(alloc: Global, world: &mut World, text: &[u8]) -> Result<Progress, AllocE
     Ok(world.progress())
 }
 
+/// Whether a drone has this load and its entry, and all else is blank.
+fn has_load(drone: &Drone, load: &[u8], pieces: u8) -> bool {
+    load.len() <= drone.memory.len()
+        && &drone.memory[..load.len()] == load
+        && drone.memory[load.len()..].iter().all(|byte| *byte == 0xFF)
+        && drone.defs[0] == Some(Def { offset: 0, pieces })
+        && drone.defs[1..].iter().all(|def| def.is_none())
+}
+
 /// Whether a drone has the path and its entry, and all else is blank.
 fn has_path(drone: &Drone) -> bool {
-    drone.memory[..28] == PATH[..]
-        && drone.memory[28..].iter().all(|byte| *byte == 0xFF)
-        && drone.defs[0]
-            == Some(Def {
-                offset: 0,
-                pieces: 1,
-            })
-        && drone.defs[1..].iter().all(|def| def.is_none())
+    has_load(drone, &PATH, 1)
+}
+
+/// Whether a drone has no load, no entry, and isn't started.
+fn is_blank(drone: &Drone) -> bool {
+    drone.memory.iter().all(|byte| *byte == 0xFF)
+        && drone.defs.iter().all(|def| def.is_none())
+        && drone.started.is_none()
 }
 
 #[test]
 fn packets_come_turned_round_and_twice(rt: HostRuntime) -> Result<(), Fail> {
     let alloc = rt.alloc();
+    let names = solo_name(alloc)?;
     let text =
         b"take solo 2\ntake solo 1\n\ntake solo 1\nhear solo 1\n hear solo 1\r\nhear solo 2\ntake\tsolo 3\nhear solo 000000004";
     let mut world = solo_world(alloc, false)?;
-    assert!(rt; run(alloc, &mut world, text)? == Progress::Done);
+    assert!(rt; run(alloc, &mut world, &names, text)? == Progress::Done);
     assert!(rt; has_path(world.drone(0)));
     assert!(rt; world.drone(0).started.is_none());
     let mut world = solo_world(alloc, true)?;
-    assert!(rt; run(alloc, &mut world, text)? == Progress::Going);
+    assert!(rt; run(alloc, &mut world, &names, text)? == Progress::Going);
     assert!(rt; world.drone(0).started.is_none());
     // What names no packet, no answer or no later packet changes nothing.
-    assert!(rt; run(alloc, &mut world, b"take solo 9\nhear solo 6\n")? == Progress::Going);
-    assert!(rt; run(alloc, &mut world, b"take solo 4\nhear solo 5\n")? == Progress::Done);
+    assert!(rt; run(alloc, &mut world, &names, b"take solo 9\nhear solo 6\n")? == Progress::Going);
+    assert!(rt; run(alloc, &mut world, &names, b"take solo 4\nhear solo 5\n")? == Progress::Done);
     assert!(rt; has_path(world.drone(0)));
     assert!(rt; world.drone(0).started == Some(0));
     Ok(())
 }
 
 #[test]
+fn packets_go_to_their_drones(rt: HostRuntime) -> Result<(), Fail> {
+    let alloc = rt.alloc();
+    let names = pair_names(alloc, b"a", b"b")?;
+    let mut world = pair_world(alloc)?;
+    let going = Progress::Going;
+    let text = b"take b 1\nhear b 1\ntake b 2\nhear b 2\n";
+    assert!(rt; run(alloc, &mut world, &names, text)? == going);
+    assert!(rt; has_load(world.drone(1), &FOUR_BYTES, 2));
+    assert!(rt; is_blank(world.drone(0)));
+    // No start is sent while a drone is without its load.
+    assert!(rt; run(alloc, &mut world, &names, b"take b 3\nhear b 3\n")? == going);
+    assert!(rt; world.drone(1).started.is_none());
+    let text = b"take a 1\nhear a 1\ntake a 2\nhear a 2\ntake a 3\nhear a 3\n";
+    assert!(rt; run(alloc, &mut world, &names, text)? == going);
+    assert!(rt; has_path(world.drone(0)));
+    assert!(rt; run(alloc, &mut world, &names, b"take b 3\nhear b 3\n")? == going);
+    assert!(rt; world.drone(1).started == Some(0));
+    assert!(rt; world.drone(0).started.is_none());
+    assert!(rt; run(alloc, &mut world, &names, b"take a 4\nhear a 4\n")? == Progress::Done);
+    assert!(rt; world.drone(0).started == Some(0));
+    assert!(rt; has_load(world.drone(1), &FOUR_BYTES, 2));
+    Ok(())
+}
+
+#[test]
+fn names_are_places(rt: HostRuntime) -> Result<(), Fail> {
+    let alloc = rt.alloc();
+    // A show has no equal names; of such the first counts.
+    let rows: [(&[u8], &[u8], u8); 3] = [(b"b", b"a", 0), (b"a", b"b", 1), (b"b", b"b", 0)];
+    for (first, second, drone) in rows {
+        let names = pair_names(alloc, first, second)?;
+        let wanted = [
+            WorldEvent::Take { drone, n: 0 },
+            WorldEvent::Hear { drone, n: 11 },
+        ];
+        match read_schedule(alloc, b"take b 1\nhear b 12", &names) {
+            Ok(events) => assert!(rt; events.as_slice() == wanted.as_slice()),
+            Err(_) => assert!(rt; false),
+        }
+    }
+    Ok(())
+}
+
+#[test]
 fn silence_ends_at_twenty_ticks(rt: HostRuntime) -> Result<(), Fail> {
     let alloc = rt.alloc();
+    let names = solo_name(alloc)?;
     let mut world = solo_world(alloc, false)?;
     let nineteen =
         b"tick\ntick\ntick\ntick\ntick\ntick\ntick\ntick\ntick\ntick\ntick\ntick\ntick\ntick\ntick\ntick\ntick\ntick\ntick\n";
-    assert!(rt; run(alloc, &mut world, nineteen)? == Progress::Going);
+    assert!(rt; run(alloc, &mut world, &names, nineteen)? == Progress::Going);
     let ended = Progress::GaveUp {
         drone: 0,
         packet: 0,
     };
-    assert!(rt; run(alloc, &mut world, b"tick")? == ended);
-    assert!(rt; run(alloc, &mut world, b"")? == ended);
+    assert!(rt; run(alloc, &mut world, &names, b"tick")? == ended);
+    assert!(rt; run(alloc, &mut world, &names, b"")? == ended);
     Ok(())
 }
 
 #[test]
 fn schedules_are_judged(rt: HostRuntime) -> Result<(), Fail> {
     let alloc = rt.alloc();
-    let names = names(alloc)?;
+    let names = solo_name(alloc)?;
     let faults: [(&[u8], u32); 12] = [
         (b"tock", 1),
         (b"take solo 0", 1),
