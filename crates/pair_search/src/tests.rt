@@ -56,6 +56,23 @@ fn searched(
     Ok((found, nodes))
 }
 
+// The same with the thresholds worked out before.
+fn searched_with(
+    alloc: Global,
+    x: [i16; 8],
+    y: [i16; 8],
+    z: [i16; 8],
+    depth: u8,
+) -> Result<(Found, Vec<Node>), AllocError>
+    requires { depth ≤ 8 }
+{
+    let diff = [raised(x), raised(y), raised(z)];
+    let least = thresholds(&DIRECTIONS, 120, 300);
+    let mut nodes = Vec::new(alloc);
+    let found = search_with(&diff, &DIRECTIONS, &least, 120, 300, depth, &mut nodes)?;
+    Ok((found, nodes))
+}
+
 #[test]
 fn one_direction_is_enough(rt: HostRuntime) -> Result<(), Fail> {
     let alloc = rt.alloc();
@@ -113,35 +130,14 @@ fn parts_by_parts(rt: HostRuntime) -> Result<(), Fail> {
     Ok(())
 }
 
-// The thresholds worked out before: with 1 m between them the drones pass, without they are blocked.
-#[tactic(auto, using(sep_parts::proofs::Table::small_table))]
 #[test]
-fn one_table_of_thresholds(rt: HostRuntime) -> Result<(), Fail> {
+fn thresholds_worked_out_before(rt: HostRuntime) -> Result<(), Fail> {
     let alloc = rt.alloc();
-    let least = thresholds(&DIRECTIONS, 120, 300);
-    let x = raised(moved(1000, -1000));
-    let mut nodes = Vec::new(alloc);
-    let passed = search_with(
-        &[x, raised([0; 8]), raised([1000; 8])],
-        &DIRECTIONS,
-        &least,
-        120,
-        300,
-        6,
-        &mut nodes,
-    )?;
+    let across = moved(1000, -1000);
+    let (passed, nodes) = searched_with(alloc, across, [0; 8], [1000; 8], 6)?;
     assert_eq!(rt; passed, Found::Clear);
     assert_eq!(rt; nodes.as_slice(), [Node::Leaf { dir: 11 }].as_slice());
-    let mut none = Vec::new(alloc);
-    let met = search_with(
-        &[x, raised([0; 8]), raised([0; 8])],
-        &DIRECTIONS,
-        &least,
-        120,
-        300,
-        6,
-        &mut none,
-    )?;
+    let (met, none) = searched_with(alloc, across, [0; 8], [0; 8], 6)?;
     assert_eq!(rt; met, Found::Blocked { index: 28 });
     assert_eq!(rt; none.len(), 0);
     Ok(())
