@@ -9,7 +9,6 @@ use Rattle.choreo_reader.specs.Plain.{PlainShow}
 use Rattle.choreo_reader.specs.Grammar.{StandsFor}
 use Rattle.choreo_reader.specs.Laws.{ShowLaw}
 use Rattle.choreo_reader.specs.Context.{fault}
-use Rattle.choreo_reader.specs.Text.{Fault}
 use Rattle.fault_lines.specs.Lines.{too_large_line}
 use Rattle.cue_grid.specs.Cues.{grid_of}
 use Rattle.cue_grid.specs.Faults.{grid_fault}
@@ -32,7 +31,7 @@ use Rattle.show_cli.specs.declared.input.Text.{Text}
 use Rattle.show_cli.specs.declared.input.Text.TheVariants.{Whole}
 use Rattle.show_cli.specs.Input.{EndsUnmarked, IsUnmarked}
 use Rattle.show_cli.specs.Answers.{IsSafeShow}
-use Rattle.show_cli.specs.Outcome.{Cut, IsOutcomeOf, IsSafe, Outcome, OutcomeLaw, SecondGives, ShowGives, blocked_by, depth_of_search, faulty, judged, judged_for, marker_refusal, names_of, no_plan, outcome, second_refusal, show_limit, show_refusal, text_refusal, trajectories_of}
+use Rattle.show_cli.specs.Outcome.{Cut, IsSafe, Outcome, OutcomeLaw, SecondGives, ShowGives, blocked_by, depth_of_search, faulty, judged, judged_for, marker_refusal, names_of, no_plan, outcome, second_refusal, show_limit, show_refusal, text_refusal, trajectories_of}
 
 -- where an answer is two things, it is a third
 pub both : (r : Result Answer AllocError) (P Q R : Answer → Type 0) → ((a : Answer) → P a → Q a → R a) → IfOk r P → IfOk r Q → IfOk r R

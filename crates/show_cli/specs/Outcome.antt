@@ -10,6 +10,7 @@ use Rattle.choreo_reader.specs.Plain.{PlainShow}
 use Rattle.choreo_reader.specs.Grammar.{StandsFor}
 use Rattle.choreo_reader.specs.Context.{fault}
 use Rattle.choreo_reader.specs.Text.{Fault}
+use Rattle.choreo_reader.specs.declared.token.TheConstants.{MOST_BYTES}
 use Rattle.cue_grid.specs.Cues.{grid_of}
 use Rattle.cue_grid.specs.Faults.{grid_fault}
 use Rattle.cue_grid.specs.Names as drones
@@ -22,6 +23,7 @@ use Rattle.sep_certificate.specs.declared.certificate.CertFault.{CertFault}
 use Rattle.sep_certificate.specs.declared.certificate.CertFault.TheVariants as cert
 use Rattle.sep_certificate.specs.declared.certificate.Certificate.{Certificate}
 use Rattle.sep_certificate.specs.Certificates.{fault_of}
+use Rattle.sep_certificate.specs.declared.text.TheConstants.{CERTIFICATE_LIMIT}
 use Rattle.sep_certificate.specs.Texts.{Says, bad_line, text_of}
 use Rattle.fault_lines.specs.Lines as refuse
 use Rattle.show_plan.specs.declared.fitted.PlanFault.{PlanFault}
@@ -47,11 +49,11 @@ outcome status output = record { status = status; output = output }
 
 -- the most bytes of a show's text
 abbrev pub show_limit : ℕ
-show_limit = 1048576
+show_limit = MOST_BYTES
 
 -- the most bytes of a certificate's text
 abbrev pub certificate_limit : ℕ
-certificate_limit = 80000000
+certificate_limit = CERTIFICATE_LIMIT
 
 -- The input, cut at its marker lines: the show's text, whether a marker line stands behind it, and the same of the second text.
 pub record Cut : Type 0 where
