@@ -218,70 +218,73 @@ data 00 00 00 00 E8 03 00 00 54 E8 03 E8 03 DC 05 84 03 00 00 00\nend\n";
     Ok(())
 }
 
+const FAULTY_SHOWS: [(&[u8], &[u8], &[u8]); 15] = [
+    (b"", b"", b"error 3 line 1 header\n"),
+    (START, b"", b"error 3 line 1 no-cue\n"),
+    (START, MARKER, b"error 3 line 1 no-cue\n"),
+    (b"choreo 1\n", b"", b"error 3 line 1 no-drone\n"),
+    (
+        b"choreo 2\ndrone solo 0 0 1000000 0\n",
+        CUE,
+        b"error 3 line 1 header\n",
+    ),
+    (
+        b"choreo 1\ndrone solo 32767500 0 1000000 0\n",
+        CUE,
+        b"error 3 line 2 out-of-range x 32767500\n",
+    ),
+    (
+        b"choreo 1\ndrone solo -32768501 0 1000000 0\n",
+        CUE,
+        b"error 3 line 2 out-of-range x -32768501\n",
+    ),
+    (
+        b"choreo 1\ndrone Solo 0 0 1000000 0\n",
+        CUE,
+        b"error 3 line 2 bad-name\n",
+    ),
+    (
+        b"choreo 1\ndrone solo 0 0 1000000\n",
+        CUE,
+        b"error 3 line 2 bad-count\n",
+    ),
+    (
+        b"choreo 1\ndrone solo 0 0 1e6 0\n",
+        CUE,
+        b"error 3 line 2 bad-number\n",
+    ),
+    (
+        b"choreo 1\ndrone solo 0 0 100000001 0\n",
+        CUE,
+        b"error 3 line 2 range\n",
+    ),
+    (
+        b"choreo 1\nmemory 2 0\nmemory 2 0\ndrone solo 0 0 1000000 0\n",
+        CUE,
+        b"error 3 line 3 double-setting\n",
+    ),
+    (
+        b"choreo 2\ndrone solo 0 0 1000000 0\n",
+        b"cue 2000\nsolo move 1000000 0 1000000 0\nend\x01\n",
+        b"error 3 line 5 bad-byte\n",
+    ),
+    (SHOW, b"end\n", b"error 3 line 6 bad-word\n"),
+    (SHOW, b"repeat 2\nend\n", b"error 3 line 7 empty-block\n"),
+];
+
+#[test]
+fn faulty_shows(rt: HostRuntime) -> Result<(), Fail> {
+    for (front, rest, written) in FAULTY_SHOWS {
+        assert!(rt; is_met(rt.alloc(), &["compile"], front, rest, 3, written)?);
+    }
+    Ok(())
+}
+
+// A marker line, want of room, drones that come too near, in this order.
 #[test]
 fn refused_shows(rt: HostRuntime) -> Result<(), Fail> {
-    let rows: [(&[u8], &[u8], u8, &[u8]); 20] = [
-        (b"", b"", 3, b"error 3 line 1 header\n"),
-        (START, b"", 3, b"error 3 line 1 no-cue\n"),
-        (START, MARKER, 3, b"error 3 line 1 no-cue\n"),
-        (b"choreo 1\n", b"", 3, b"error 3 line 1 no-drone\n"),
-        (
-            b"choreo 2\ndrone solo 0 0 1000000 0\n",
-            CUE,
-            3,
-            b"error 3 line 1 header\n",
-        ),
-        (
-            b"choreo 1\ndrone solo 32767500 0 1000000 0\n",
-            CUE,
-            3,
-            b"error 3 line 2 out-of-range x 32767500\n",
-        ),
-        (
-            b"choreo 1\ndrone solo -32768501 0 1000000 0\n",
-            CUE,
-            3,
-            b"error 3 line 2 out-of-range x -32768501\n",
-        ),
-        (
-            b"choreo 1\ndrone Solo 0 0 1000000 0\n",
-            CUE,
-            3,
-            b"error 3 line 2 bad-name\n",
-        ),
-        (
-            b"choreo 1\ndrone solo 0 0 1000000\n",
-            CUE,
-            3,
-            b"error 3 line 2 bad-count\n",
-        ),
-        (
-            b"choreo 1\ndrone solo 0 0 1e6 0\n",
-            CUE,
-            3,
-            b"error 3 line 2 bad-number\n",
-        ),
-        (
-            b"choreo 1\ndrone solo 0 0 100000001 0\n",
-            CUE,
-            3,
-            b"error 3 line 2 range\n",
-        ),
-        (
-            b"choreo 1\nmemory 2 0\nmemory 2 0\ndrone solo 0 0 1000000 0\n",
-            CUE,
-            3,
-            b"error 3 line 3 double-setting\n",
-        ),
+    let rows: [(&[u8], &[u8], u8, &[u8]); 5] = [
         (SHOW, MARKER, 11, b"error 11 line 6\n"),
-        (
-            b"choreo 2\ndrone solo 0 0 1000000 0\n",
-            b"cue 2000\nsolo move 1000000 0 1000000 0\nend\x01\n",
-            3,
-            b"error 3 line 5 bad-byte\n",
-        ),
-        (SHOW, b"end\n", 3, b"error 3 line 6 bad-word\n"),
-        (SHOW, b"repeat 2\nend\n", 3, b"error 3 line 7 empty-block\n"),
         (
             WITHOUT_ROOM,
             b"",
@@ -303,59 +306,65 @@ fn refused_shows(rt: HostRuntime) -> Result<(), Fail> {
     Ok(())
 }
 
-#[test]
-fn refused_cues(rt: HostRuntime) -> Result<(), Fail> {
-    let eight = b"repeat 1000000000\nrepeat 1000000000\nrepeat 1000000000\nrepeat 1000000000\n\
+// 10^72 cues.
+const EIGHT_REPEATS: &[u8] =
+    b"repeat 1000000000\nrepeat 1000000000\nrepeat 1000000000\nrepeat 1000000000\n\
 repeat 1000000000\nrepeat 1000000000\nrepeat 1000000000\nrepeat 1000000000\n\
 cue 1000\nend\nend\nend\nend\nend\nend\nend\nend\nend\n";
-    let nine = b"repeat 1000000000\nrepeat 1000000000\nrepeat 1000000000\nrepeat 1000000000\n\
+
+const NINE_REPEATS: &[u8] =
+    b"repeat 1000000000\nrepeat 1000000000\nrepeat 1000000000\nrepeat 1000000000\n\
 repeat 1000000000\nrepeat 1000000000\nrepeat 1000000000\nrepeat 1000000000\nrepeat 1000000000\n\
 cue 1000\nend\nend\nend\nend\nend\nend\nend\nend\nend\nend\n";
-    let rows: [(&[u8], &[u8], &[u8]); 10] = [
-        (
-            START,
-            b"repeat 256\ncue 1000\nend\nend\n",
-            b"error 3 line 3 too-many-cues\n",
-        ),
-        (START, eight, b"error 3 line 3 too-many-cues\n"),
-        (START, nine, b"error 3 line 11 nesting\n"),
-        (
-            START,
-            b"cue 2000\nsolo move 1000000 0 1000000 0\n",
-            b"error 3 line 3 no-end\n",
-        ),
-        (
-            START,
-            b"cue 2000\nsolo\nend\n",
-            b"error 3 line 4 bad-count\n",
-        ),
-        (
-            START,
-            b"cue 2000\nsolo jump 0\nend\n",
-            b"error 3 line 4 bad-word\n",
-        ),
-        (
-            START,
-            b"cue 2000\nsolo move 1000000 0 1000000 0\nsolo move 1000000 0 1000000 0\nend\n",
-            b"error 3 line 5 double-act\n",
-        ),
-        (
-            b"choreo 1\ndrone solo 0 0 1000000 0\ndrone solo 0 0 1000000 0\n",
-            CUE,
-            b"error 3 line 3 double-name\n",
-        ),
-        (
-            FIGURE,
-            b"perform go y 1 0 0 500000 other\n",
-            b"error 3 line 8 unknown-name\n",
-        ),
-        (
-            FIGURE,
-            b"perform go y 1 0 0 500000 solo solo\n",
-            b"error 3 line 8 role-count\n",
-        ),
-    ];
-    for (front, rest, written) in rows {
+
+const FAULTY_CUES: [(&[u8], &[u8], &[u8]); 10] = [
+    (
+        START,
+        b"repeat 256\ncue 1000\nend\nend\n",
+        b"error 3 line 3 too-many-cues\n",
+    ),
+    (START, EIGHT_REPEATS, b"error 3 line 3 too-many-cues\n"),
+    (START, NINE_REPEATS, b"error 3 line 11 nesting\n"),
+    (
+        START,
+        b"cue 2000\nsolo move 1000000 0 1000000 0\n",
+        b"error 3 line 3 no-end\n",
+    ),
+    (
+        START,
+        b"cue 2000\nsolo\nend\n",
+        b"error 3 line 4 bad-count\n",
+    ),
+    (
+        START,
+        b"cue 2000\nsolo jump 0\nend\n",
+        b"error 3 line 4 bad-word\n",
+    ),
+    (
+        START,
+        b"cue 2000\nsolo move 1000000 0 1000000 0\nsolo move 1000000 0 1000000 0\nend\n",
+        b"error 3 line 5 double-act\n",
+    ),
+    (
+        b"choreo 1\ndrone solo 0 0 1000000 0\ndrone solo 0 0 1000000 0\n",
+        CUE,
+        b"error 3 line 3 double-name\n",
+    ),
+    (
+        FIGURE,
+        b"perform go y 1 0 0 500000 other\n",
+        b"error 3 line 8 unknown-name\n",
+    ),
+    (
+        FIGURE,
+        b"perform go y 1 0 0 500000 solo solo\n",
+        b"error 3 line 8 role-count\n",
+    ),
+];
+
+#[test]
+fn faulty_cues(rt: HostRuntime) -> Result<(), Fail> {
+    for (front, rest, written) in FAULTY_CUES {
         assert!(rt; is_met(rt.alloc(), &["compile"], front, rest, 3, written)?);
     }
     Ok(())
