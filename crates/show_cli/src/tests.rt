@@ -99,57 +99,58 @@ fn is_met(
     Ok(met == status && sink.written() == written)
 }
 
+const COMMANDS: [(&[&str], &[u8], u8, &[u8]); 11] = [
+    (&["compile"], SHOW, 0, PLAN),
+    (&["compile", "--depth", "000000008"], SHOW, 0, PLAN),
+    (
+        &["check"],
+        APART,
+        0,
+        b"ok drones 2 cues 3 duration_ms 9000\n",
+    ),
+    (&["certify"], APART, 0, b"certificate 6\nr\nl\na\n"),
+    (
+        &["certify", "--depth", "0"],
+        APART,
+        0,
+        b"certificate 0\nr\nl\na\n",
+    ),
+    (
+        &["check"],
+        CROSSING,
+        5,
+        b"error 5 pair a b cue 1 part 28 of 64\n",
+    ),
+    (
+        &["compile"],
+        CROSSING,
+        5,
+        b"error 5 pair a b cue 1 part 28 of 64\n",
+    ),
+    (
+        &["compile", "--depth", "0"],
+        CROSSING,
+        5,
+        b"error 5 pair a b cue 1 part 0 of 1\n",
+    ),
+    (
+        &["certify", "--depth", "0"],
+        CROSSING,
+        5,
+        b"error 5 pair a b cue 1 part 0 of 1\n",
+    ),
+    (
+        &["check"],
+        NEARER_WHEN_ROUNDED,
+        5,
+        b"error 5 pair a b cue 1 part 0 of 64\n",
+    ),
+    (&["certify"], FARTHER_WHEN_ROUNDED, 0, b"certificate 6\nv\n"),
+];
+
 #[test]
 fn commands(rt: HostRuntime) -> Result<(), Fail> {
-    let rows: [(&[&str], &[u8], u8, &[u8]); 11] = [
-        (&["compile"], SHOW, 0, PLAN),
-        (&["compile", "--depth", "000000008"], SHOW, 0, PLAN),
-        (
-            &["check"],
-            APART,
-            0,
-            b"ok drones 2 cues 3 duration_ms 9000\n",
-        ),
-        (&["certify"], APART, 0, b"certificate 6\nr\nl\na\n"),
-        (
-            &["certify", "--depth", "0"],
-            APART,
-            0,
-            b"certificate 0\nr\nl\na\n",
-        ),
-        (
-            &["check"],
-            CROSSING,
-            5,
-            b"error 5 pair a b cue 1 part 28 of 64\n",
-        ),
-        (
-            &["compile"],
-            CROSSING,
-            5,
-            b"error 5 pair a b cue 1 part 28 of 64\n",
-        ),
-        (
-            &["compile", "--depth", "0"],
-            CROSSING,
-            5,
-            b"error 5 pair a b cue 1 part 0 of 1\n",
-        ),
-        (
-            &["certify", "--depth", "0"],
-            CROSSING,
-            5,
-            b"error 5 pair a b cue 1 part 0 of 1\n",
-        ),
-        (
-            &["check"],
-            NEARER_WHEN_ROUNDED,
-            5,
-            b"error 5 pair a b cue 1 part 0 of 64\n",
-        ),
-        (&["certify"], FARTHER_WHEN_ROUNDED, 0, b"certificate 6\nv\n"),
-    ];
-    for (words, input, status, written) in rows {
+    for (words, input, status, written) in COMMANDS {
         assert!(rt; is_met(rt.alloc(), words, input, b"", status, written)?);
     }
     Ok(())
@@ -370,51 +371,52 @@ fn faulty_cues(rt: HostRuntime) -> Result<(), Fail> {
     Ok(())
 }
 
+const CERTIFICATES: [(&[u8], u8, &[u8]); 8] = [
+    (
+        b"%%\ncertificate 6\nr\nl\na\n",
+        0,
+        b"valid depth 6 trees 3\n",
+    ),
+    (
+        b"%%\r\ncertificate 6\r\nr\r\nl\r\na",
+        0,
+        b"valid depth 6 trees 3\n",
+    ),
+    (
+        b"%%\ncertificate 6\nr\nl\n",
+        12,
+        b"error 12 missing pair a b cue 3\n",
+    ),
+    (
+        b"%%\ncertificate 6\nr\na\n",
+        12,
+        b"error 12 fails pair a b cue 2 part 0 0 direction a control 0\n",
+    ),
+    (
+        b"%%\ncertificate 6\nr\n.rl\na\n",
+        12,
+        b"error 12 fails pair a b cue 2 part 1 0 direction r control 5\n",
+    ),
+    (
+        b"%%\ncertificate 6\nr\n.w.wl\na\n",
+        12,
+        b"error 12 fails pair a b cue 2 part 2 2 direction w control 1\n",
+    ),
+    (
+        b"%%\ncertificate 6\nr\nl\na\nr\n",
+        12,
+        b"error 12 extra line 5\n",
+    ),
+    (
+        b"%%\ncertificate 0\n.rr\nl\na\n",
+        12,
+        b"error 12 too-deep pair a b cue 1\n",
+    ),
+];
+
 #[test]
 fn certificates(rt: HostRuntime) -> Result<(), Fail> {
-    let rows: [(&[u8], u8, &[u8]); 8] = [
-        (
-            b"%%\ncertificate 6\nr\nl\na\n",
-            0,
-            b"valid depth 6 trees 3\n",
-        ),
-        (
-            b"%%\r\ncertificate 6\r\nr\r\nl\r\na",
-            0,
-            b"valid depth 6 trees 3\n",
-        ),
-        (
-            b"%%\ncertificate 6\nr\nl\n",
-            12,
-            b"error 12 missing pair a b cue 3\n",
-        ),
-        (
-            b"%%\ncertificate 6\nr\na\n",
-            12,
-            b"error 12 fails pair a b cue 2 part 0 0 direction a control 0\n",
-        ),
-        (
-            b"%%\ncertificate 6\nr\n.rl\na\n",
-            12,
-            b"error 12 fails pair a b cue 2 part 1 0 direction r control 5\n",
-        ),
-        (
-            b"%%\ncertificate 6\nr\n.w.wl\na\n",
-            12,
-            b"error 12 fails pair a b cue 2 part 2 2 direction w control 1\n",
-        ),
-        (
-            b"%%\ncertificate 6\nr\nl\na\nr\n",
-            12,
-            b"error 12 extra line 5\n",
-        ),
-        (
-            b"%%\ncertificate 0\n.rr\nl\na\n",
-            12,
-            b"error 12 too-deep pair a b cue 1\n",
-        ),
-    ];
-    for (second, status, written) in rows {
+    for (second, status, written) in CERTIFICATES {
         assert!(rt; is_met(rt.alloc(), &["verify"], APART, second, status, written)?);
     }
     Ok(())
