@@ -5,3 +5,4 @@ pub mod DivisionLemmas
 pub mod MomentLemmas
 pub mod EdgeLemmas
 pub mod Rows
+pub mod NearLemmas

@@ -1,9 +1,9 @@
 -- The laws of a ring for whole numbers, and the two rule sets that close polynomial identities:
 -- `simp ring (omega (arith, linear))`.
 use Rattle.std.proofs.Common.{◌≡◌, ℕ, ◌+◌, ◌*◌, ℤ, pos, negsuc, ◌+ℤ◌, ◌-ℤ◌, ◌*ℤ◌, neg_ℤ, arith, sym, ◌∙◌, ap, subst}
-use Rattle.std.proofs.Common.{◌≤ℤ◌}
+use Rattle.std.proofs.Common.{◌≤ℤ◌, ◌<ℤ◌}
 use Rattle.std.proofs.Math.Nat.{mul-le-mul_left}
-use Rattle.std.proofs.lemmas.Int.{ints}
+use Rattle.std.proofs.lemmas.Int.{ints, by_lt_z}
 use borrow.Author.Differences.{up, down, sum_is_lem, product_is, neg_is, same_in, same_out, Apart-out, lt_out, le_out, below_in, at_most_in}
 
 -- the difference of two naturals
@@ -114,3 +114,20 @@ le_mul_pos n x y below = omega (arith, ints, mul-le-mul_left n (le_out x y below
 pub le_mul_ℤ : (a x y : ℤ) → pos 0 ≤ℤ a → x ≤ℤ y → (a *ℤ x) ≤ℤ (a *ℤ y)
 le_mul_ℤ (pos n) x y positive below = le_mul_pos n x y below
 le_mul_ℤ (negsuc n) x y positive below = absurd (omega (arith, le_out (pos 0) (negsuc n) positive))
+
+-- a positive factor keeps the order, strictly
+pub lt_mul_ℤ : (x y b : ℤ) → pos 0 <ℤ b → x <ℤ y → (x *ℤ b) <ℤ (y *ℤ b)
+lt_mul_ℤ x y b positive less =
+    let h : (b *ℤ (x +ℤ pos 1)) ≤ℤ (b *ℤ y) = le_mul_ℤ b (x +ℤ pos 1) y (omega (arith, linear)) (omega (arith, linear)) in
+    omega (arith, linear, h, mul_add_ℤ b x (pos 1), mul_comm_ℤ b x, mul_comm_ℤ b y, mul_comm_ℤ b (pos 1))
+
+-- what is at most after both were multiplied was so before
+pub le_from_mul_ℤ : (x y b : ℤ) → pos 0 <ℤ b → (x *ℤ b) ≤ℤ (y *ℤ b) → x ≤ℤ y
+le_from_mul_ℤ x y b positive below = by_lt_z y x (λ more. absurd (omega (arith, linear, lt_mul_ℤ y x b positive more))) (λ h. h)
+
+-- signs of products
+pub mul_positive : (x y : ℤ) → pos 0 <ℤ x → pos 0 <ℤ y → pos 0 <ℤ (x *ℤ y)
+mul_positive x y first second = omega (arith, linear, lt_mul_ℤ (pos 0) x y second first, zero_mul_ℤ y)
+
+pub mul_not_negative : (x y : ℤ) → pos 0 ≤ℤ x → pos 0 ≤ℤ y → pos 0 ≤ℤ (x *ℤ y)
+mul_not_negative x y first second = omega (arith, linear, le_mul_ℤ x (pos 0) y first second, mul_comm_ℤ x (pos 0), zero_mul_ℤ x)

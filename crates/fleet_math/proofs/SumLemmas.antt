@@ -1,8 +1,8 @@
 -- Laws of sums and powers.
-use Rattle.std.proofs.Common.{◌≡◌, ℕ, zero, suc, ◌<◌, ℤ, ◌+ℤ◌, ◌*ℤ◌, ◌+◌, arith, refl, sym, ◌∙◌, ap}
+use Rattle.std.proofs.Common.{◌≡◌, ℕ, zero, suc, ◌<◌, ℤ, pos, ◌+ℤ◌, ◌*ℤ◌, ◌≤ℤ◌, ◌<ℤ◌, ◌+◌, arith, refl, sym, ◌∙◌, ap}
 use Rattle.std.proofs.lemmas.Int.{ints}
 use Rattle.fleet_math.specs.Sums.{sum_below, power}
-use Rattle.fleet_math.proofs.RingLemmas.{linear, mul_add_ℤ, mul_assoc_ℤ, one_mul_ℤ}
+use Rattle.fleet_math.proofs.RingLemmas.{ring, linear, mul_add_ℤ, mul_assoc_ℤ, mul_not_negative, mul_positive, one_mul_ℤ}
 
 -- the sum depends on no more than its terms
 pub sum_below-same : (n : ℕ) (f g : ℕ → ℤ) → ((k : ℕ) → k < n → f k ≡ g k) → sum_below n f ≡ sum_below n g
@@ -33,3 +33,20 @@ power-add x zero n = let e : 0 + n ≡ n = omega arith in rw e (sym (one_mul_ℤ
 power-add x (suc m) n =
     let e : suc m + n ≡ suc (m + n) = omega arith in
     rw e (ap (λ (z : ℤ). x *ℤ z) (power-add x m n) ∙ sym (mul_assoc_ℤ x (power x m) (power x n)))
+
+-- the power of a product
+pub power-mul : (x y : ℤ) (n : ℕ) → power (x *ℤ y) n ≡ power x n *ℤ power y n
+power-mul x y zero = refl
+power-mul x y (suc n) = rw (power-mul x y n) (regroup x y (power x n) (power y n))
+  where
+    regroup : (x y p q : ℤ) → (x *ℤ y) *ℤ (p *ℤ q) ≡ (x *ℤ p) *ℤ (y *ℤ q)
+    regroup x y p q = simp ring refl
+
+-- signs of powers
+pub power_positive : (c : ℤ) (n : ℕ) → pos 0 <ℤ c → pos 0 <ℤ power c n
+power_positive c zero positive = omega (arith, linear)
+power_positive c (suc n) positive = mul_positive c (power c n) positive (power_positive c n positive)
+
+pub power_natural : (n k : ℕ) → pos 0 ≤ℤ power (pos n) k
+power_natural n zero = omega (arith, linear)
+power_natural n (suc k) = mul_not_negative (pos n) (power (pos n) k) (omega (arith, ints)) (power_natural n k)

@@ -10,9 +10,19 @@ ghost use Rattle.std.specs.Int.{int_max};
 ghost use Rattle.fleet_math.specs.Numbers.{IsBelow};
 ghost use Rattle.fleet_math.specs.Moments.{moment, moment_in, edge};
 ghost use Rattle.fleet_math.specs.Decoded.{Piece, IsPiece, durations, IsSamePosition};
+ghost use Rattle.fleet_math.specs.Limits.{most_cues};
+ghost use Rattle.fleet_math.specs.Near.{NearLaw};
 
 #[cfg(test)]
 mod tests;
+
+/// How many cues a show has at most.
+pub const MOST_CUES: usize = 1000;
+
+/// A law: the limits are the numbers of the definitions.
+pub fn limits_law()
+    ensures cues { MOST_CUES ≡ most_cues }
+{}
 
 /// The floor of a quotient: the greatest whole number whose product with `b` is at most `a`. Rust's `/` rounds toward
 /// 0 instead, which differs where `a` is negative.
@@ -71,4 +81,9 @@ pub fn edge_law()
         → IsSamePosition start pieces
         (moment_in (durations pieces) cue (edge (durations pieces) cue q) q)
         (moment_in (durations pieces) (cue + 1) (edge (durations pieces) cue q) q) }
+{}
+
+/// A law. What is near by one segment is near by another that makes the same curve.
+pub fn near_law()
+    ensures { NearLaw }
 {}

@@ -3,7 +3,8 @@ use Rattle.std.proofs.Common.{◌≡◌, ℕ, zero, suc, ◌+◌, ◌*◌, ◌^�
 use Rattle.std.proofs.lemmas.Int.{by_lt_z}
 use Rattle.fleet_math.specs.Sums.{power}
 use Rattle.fleet_math.specs.Bernstein.{bernstein}
-use Rattle.fleet_math.proofs.RingLemmas.{ring, linear, le_mul_ℤ, mul_comm_ℤ, one_mul_ℤ, zero_mul_ℤ, mul_add_ℤ, add_mul_ℤ}
+use Rattle.fleet_math.proofs.RingLemmas.{ring, linear, le_mul_ℤ, lt_mul_ℤ, le_from_mul_ℤ, mul_positive, mul_not_negative, one_mul_ℤ, add_mul_ℤ}
+use Rattle.fleet_math.proofs.SumLemmas.{power-mul, power_positive}
 use Rattle.fleet_math.proofs.DivisionLemmas.{square_le}
 use Rattle.fleet_math.proofs.BernsteinLemmas.{bernstein-zero, bernstein-suc, bernstein-at_least}
 use Rattle.std.proofs.Math.Nat.{pow-suc}
@@ -33,21 +34,6 @@ bernstein-scaled (suc n) f x a c =
     ∙ rw (bernstein-scaled n f x a c, bernstein-scaled n (λ k. f (suc k)) x a c, scale_minus x a c, bernstein-suc n f a c)
     (scale_ring x (power x n) a (c -ℤ a) (bernstein n f a c) (bernstein n (λ k. f (suc k)) a c))
 
--- ---- order
-lt_mul_ℤ : (x y b : ℤ) → pos 0 <ℤ b → x <ℤ y → (x *ℤ b) <ℤ (y *ℤ b)
-lt_mul_ℤ x y b positive less =
-    let h : (b *ℤ (x +ℤ pos 1)) ≤ℤ (b *ℤ y) = le_mul_ℤ b (x +ℤ pos 1) y (omega (arith, linear)) (omega (arith, linear)) in
-    omega (arith, linear, h, mul_add_ℤ b x (pos 1), mul_comm_ℤ b x, mul_comm_ℤ b y, mul_comm_ℤ b (pos 1))
-
-le_from_mul_ℤ : (x y b : ℤ) → pos 0 <ℤ b → (x *ℤ b) ≤ℤ (y *ℤ b) → x ≤ℤ y
-le_from_mul_ℤ x y b positive below = by_lt_z y x (λ more. absurd (omega (arith, linear, lt_mul_ℤ y x b positive more))) (λ h. h)
-
-mul_positive : (x y : ℤ) → pos 0 <ℤ x → pos 0 <ℤ y → pos 0 <ℤ (x *ℤ y)
-mul_positive x y first second = omega (arith, linear, lt_mul_ℤ (pos 0) x y second first, zero_mul_ℤ y)
-
-mul_not_negative : (x y : ℤ) → pos 0 ≤ℤ x → pos 0 ≤ℤ y → pos 0 ≤ℤ (x *ℤ y)
-mul_not_negative x y first second = omega (arith, linear, le_mul_ℤ x (pos 0) y first second, mul_comm_ℤ x (pos 0), zero_mul_ℤ x)
-
 squares : (t k : ℤ) → (t *ℤ k) *ℤ (t *ℤ k) ≡ (t *ℤ t) *ℤ (k *ℤ k)
 squares t k = simp ring refl
 
@@ -64,10 +50,6 @@ above_from t k n r q w t_pos k_pos n_pos threshold along bound = by_lt_z (r *ℤ
     let third : ((r *ℤ n) *ℤ (k *ℤ k)) <ℤ ((t *ℤ t) *ℤ (k *ℤ k)) = lt_mul_ℤ (r *ℤ n) (t *ℤ t) (k *ℤ k) (mul_positive k k k_pos k_pos) threshold in
     absurd (omega (arith, linear, squares t k, turn n r k)))
 
-power_positive : (c : ℤ) (n : ℕ) → pos 0 <ℤ c → pos 0 <ℤ power c n
-power_positive c zero positive = omega (arith, linear)
-power_positive c (suc n) positive = mul_positive c (power c n) positive (power_positive c n positive)
-
 -- the sum over the control values of a part, at the instant of the part
 place_ring : (m s a c : ℤ) → m *ℤ (c -ℤ (s *ℤ a -ℤ m *ℤ c)) +ℤ (m +ℤ pos 1) *ℤ (s *ℤ a -ℤ m *ℤ c) ≡ s *ℤ a
 place_ring m s a c = between (s *ℤ a -ℤ m *ℤ c) ∙ omega (arith, linear)
@@ -81,13 +63,6 @@ part-instant e m f a c =
     bernstein-blossom 7 f (pos m) (pos (m + 1)) (pos (2 ^ e)) (pos (2 ^ e) *ℤ a -ℤ pos m *ℤ c) c
     ∙ ap (λ (z : ℤ). bernstein 7 f z (pos (2 ^ e) *ℤ c)) (place_ring (pos m) (pos (2 ^ e)) a c)
     ∙ bernstein-scaled 7 f (pos (2 ^ e)) a c
-
-power-mul : (x y : ℤ) (n : ℕ) → power (x *ℤ y) n ≡ power x n *ℤ power y n
-power-mul x y zero = refl
-power-mul x y (suc n) = rw (power-mul x y n) (regroup x y (power x n) (power y n))
-  where
-    regroup : (x y p q : ℤ) → (x *ℤ y) *ℤ (p *ℤ q) ≡ (x *ℤ p) *ℤ (y *ℤ q)
-    regroup x y p q = simp ring refl
 
 pub power_seven : (e : ℕ) → power (pos (2 ^ e)) 7 ≡ pos (2 ^ (7 * e))
 power_seven zero = refl
