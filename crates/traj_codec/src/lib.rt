@@ -3,14 +3,16 @@
 //! What `encode` answers is the one spelling of the trajectory by `specs/Spelling.antt`, and then three zero bytes;
 //! `size_of` is its length. `decode` answers the one trajectory of so many segments whose spelling bytes begin with, or the
 //! first field that is faulty, by `specs/Reading.antt`. Where the trajectory puts a drone at an instant is said by
-//! `specs/Positions.antt`.
+//! `specs/Positions.antt`. `join_holds` joins whole holds that follow each other; by `join_law` the curve is the same.
 #![tactic(auto)]
 
+mod joining;
 mod law;
 mod reading;
 mod traj;
 mod writing;
 
+pub use joining::{join_holds, join_law};
 pub use law::spelling_law;
 pub use reading::{CodecFault, decode};
 pub use traj::{Element, Segment, Segments, Traj};

@@ -194,3 +194,60 @@ fn each_header(rt: HostRuntime) -> Result<(), Fail> {
     }
     Ok(())
 }
+
+// The hold of so many milliseconds.
+fn hold(ms: u16) -> Segment
+    ensures { result.ms ≡ ms }
+{
+    Segment {
+        ms,
+        elements: [Element::Constant; 4],
+    }
+}
+
+// A trajectory of three segments.
+fn three(alloc: Global, a: Segment, b: Segment, c: Segment) -> Result<Traj, AllocError>
+    ensures { IfOk result (λ t. t.segments ≡ a ∷ b ∷ c ∷ []) }
+{
+    let mut segments = Vec::new(alloc);
+    segments.push(a)?;
+    segments.push(b)?;
+    segments.push(c)?;
+    Ok(Traj {
+        start: [0, 0, 0, 0],
+        segments: Segments::from_vec(segments),
+    })
+}
+
+#[test]
+fn holds_are_joined_from_the_left(rt: HostRuntime) -> Result<(), Fail> {
+    let t = three(rt.alloc(), hold(40_000), hold(30_000), hold(30_000))?;
+    let joined = join_holds(rt.alloc(), &t)?;
+    assert_eq!(rt; joined.segments.as_slice(), [hold(40_000), hold(60_000)].as_slice());
+    Ok(())
+}
+
+#[test]
+fn holds_are_joined_up_to_the_longest_duration(rt: HostRuntime) -> Result<(), Fail> {
+    let t = three(rt.alloc(), hold(32_767), hold(32_768), hold(1))?;
+    let joined = join_holds(rt.alloc(), &t)?;
+    assert_eq!(rt; joined.segments.as_slice(), [hold(65_535), hold(1)].as_slice());
+    Ok(())
+}
+
+#[test]
+fn a_turn_is_no_hold(rt: HostRuntime) -> Result<(), Fail> {
+    let turn = Segment {
+        ms: 1000,
+        elements: [
+            Element::Constant,
+            Element::Constant,
+            Element::Constant,
+            Element::Linear { v: 900 },
+        ],
+    };
+    let t = three(rt.alloc(), hold(1000), turn, hold(1000))?;
+    let joined = join_holds(rt.alloc(), &t)?;
+    assert_eq!(rt; joined.segments.as_slice(), [hold(1000), turn, hold(1000)].as_slice());
+    Ok(())
+}
