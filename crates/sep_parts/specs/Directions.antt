@@ -1,5 +1,5 @@
 -- The directions along which two drones are told apart, and how far apart they must be along each.
-use Rattle.std.specs.Prelude.{◌≡◌, ◌⊎◌, ℕ, zero, suc, ◌*◌, ◌≤◌, ℤ, pos, negsuc, neg_ℤ, ◌+ℤ◌, ◌*ℤ◌, ◌≤ℤ◌, ◌<ℤ◌, Bool, true, false, not, ◌&&◌, ◌||◌, int_lt, List, [], ◌∷◌, map, filter, flat_map, unsigned_abs, slice_index_or, if◌then◌else◌}
+use Rattle.std.specs.Prelude.{◌≡◌, ◌⊎◌, ℕ, zero, suc, ◌*◌, ◌%◌, ◌==◌, ◌≤◌, ℤ, pos, negsuc, neg_ℤ, ◌+ℤ◌, ◌*ℤ◌, ◌≤ℤ◌, ◌<ℤ◌, Bool, true, false, not, ◌&&◌, ◌||◌, int_lt, List, [], ◌∷◌, map, filter, flat_map, unsigned_abs, slice_index_or, if◌then◌else◌}
 use Rattle.fleet_math.specs.Bernstein.{at}
 
 -- how many directions the table has
@@ -27,20 +27,40 @@ IsEntrySquare z = (pos 0 ≤ℤ z) × (z ≤ℤ pos 4)
 abbrev pub length_squared : List ℤ → ℤ
 length_squared n = at n 0 *ℤ at n 0 +ℤ at n 1 *ℤ at n 1 +ℤ at n 2 *ℤ at n 2
 
--- ---- the table
+-- ---- the tables
 abbrev pub entries : List ℤ
 entries = negsuc 0 ∷ pos 0 ∷ pos 1 ∷ []
 
 abbrev pub is_zero : ℤ → Bool
 is_zero x = not (int_lt x (pos 0)) && not (int_lt (pos 0) x)
 
--- each of three numbers out of -1, 0 and 1, in lexicographic order
-abbrev pub triples : List (List ℤ)
-triples = flat_map (λ x. flat_map (λ y. map (λ z. x ∷ y ∷ z ∷ []) entries) entries) entries
+-- each of three numbers out of some, in lexicographic order where these rise
+abbrev pub triples_of : List ℤ → List (List ℤ)
+triples_of numbers = flat_map (λ x. flat_map (λ y. map (λ z. x ∷ y ∷ z ∷ []) numbers) numbers) numbers
 
--- the directions: the triples that aren't all 0
+-- the directions of the old table: the triples out of -1, 0 and 1 that aren't all 0
 abbrev pub directions : List (List ℤ)
-directions = filter (λ n. not (is_zero (at n 0) && is_zero (at n 1) && is_zero (at n 2))) triples
+directions = filter (λ n. not (is_zero (at n 0) && is_zero (at n 1) && is_zero (at n 2))) (triples_of entries)
+
+-- the greatest common divisor by Euclid's rule, in so many steps at most; that of 0 and 0 is 0
+abbrev pub divisor_in : ℕ → ℕ → ℕ → ℕ
+divisor_in zero a b = a
+divisor_in (suc n) a b = if b == 0 then a else divisor_in n b (a % b)
+
+-- eight steps are enough for entries of directions
+abbrev pub common_divisor : ℕ → ℕ → ℕ
+common_divisor a b = divisor_in 8 a b
+
+-- the greatest common divisor of a direction's entries
+abbrev pub divisor_of : List ℤ → ℕ
+divisor_of n = common_divisor (common_divisor (unsigned_abs (at n 0)) (unsigned_abs (at n 1))) (unsigned_abs (at n 2))
+
+abbrev pub wide_entries : List ℤ
+wide_entries = negsuc 1 ∷ negsuc 0 ∷ pos 0 ∷ pos 1 ∷ pos 2 ∷ []
+
+-- the directions of the wide table: the triples out of -2 to 2 whose entries have the greatest common divisor 1
+abbrev pub wide_directions : List (List ℤ)
+wide_directions = filter (λ n. divisor_of n == 1) (triples_of wide_entries)
 
 -- the one direction stands before the other in lexicographic order
 abbrev pub is_before : List ℤ → List ℤ → Bool

@@ -1,7 +1,7 @@
 //! The directions along which drones are told apart, and how far apart they must be along each.
 
 ghost use Rattle.std.specs.Prelude.{◌≡◌, ℕ, ◌+◌, ◌*◌, ◌^◌, ◌≤◌, ◌<◌, ℤ, pos, neg_ℤ, ◌+ℤ◌, ◌*ℤ◌, ◌≤ℤ◌, ◌<ℤ◌, All, map, IsTrue};
-ghost use Rattle.sep_parts.specs.Directions.{AreSmall, IsAxis, IsEntrySquare, IsTableSize, ThresholdLaw, directions, is_closed, is_rising, length_squared, limit_along, threshold};
+ghost use Rattle.sep_parts.specs.Directions.{AreSmall, IsAxis, IsEntrySquare, IsTableSize, ThresholdLaw, directions, is_closed, is_rising, length_squared, limit_along, threshold, wide_directions};
 
 use fleet_math::least_root_above;
 
@@ -45,12 +45,122 @@ pub const DIRECTIONS: Dirs<26> = Dirs {
     ],
 };
 
-/// A law: the table has each direction with entries -1, 0 and 1 that aren't all 0; each stands before the next one in
-/// lexicographic order, so that no two are the same; and with each the opposite one is there.
+/// The directions with entries from -2 to 2 whose greatest common divisor is 1, in lexicographic order.
+pub const WIDE: Dirs<98> = Dirs {
+    n: [
+        [-2, -2, -1],
+        [-2, -2, 1],
+        [-2, -1, -2],
+        [-2, -1, -1],
+        [-2, -1, 0],
+        [-2, -1, 1],
+        [-2, -1, 2],
+        [-2, 0, -1],
+        [-2, 0, 1],
+        [-2, 1, -2],
+        [-2, 1, -1],
+        [-2, 1, 0],
+        [-2, 1, 1],
+        [-2, 1, 2],
+        [-2, 2, -1],
+        [-2, 2, 1],
+        [-1, -2, -2],
+        [-1, -2, -1],
+        [-1, -2, 0],
+        [-1, -2, 1],
+        [-1, -2, 2],
+        [-1, -1, -2],
+        [-1, -1, -1],
+        [-1, -1, 0],
+        [-1, -1, 1],
+        [-1, -1, 2],
+        [-1, 0, -2],
+        [-1, 0, -1],
+        [-1, 0, 0],
+        [-1, 0, 1],
+        [-1, 0, 2],
+        [-1, 1, -2],
+        [-1, 1, -1],
+        [-1, 1, 0],
+        [-1, 1, 1],
+        [-1, 1, 2],
+        [-1, 2, -2],
+        [-1, 2, -1],
+        [-1, 2, 0],
+        [-1, 2, 1],
+        [-1, 2, 2],
+        [0, -2, -1],
+        [0, -2, 1],
+        [0, -1, -2],
+        [0, -1, -1],
+        [0, -1, 0],
+        [0, -1, 1],
+        [0, -1, 2],
+        [0, 0, -1],
+        [0, 0, 1],
+        [0, 1, -2],
+        [0, 1, -1],
+        [0, 1, 0],
+        [0, 1, 1],
+        [0, 1, 2],
+        [0, 2, -1],
+        [0, 2, 1],
+        [1, -2, -2],
+        [1, -2, -1],
+        [1, -2, 0],
+        [1, -2, 1],
+        [1, -2, 2],
+        [1, -1, -2],
+        [1, -1, -1],
+        [1, -1, 0],
+        [1, -1, 1],
+        [1, -1, 2],
+        [1, 0, -2],
+        [1, 0, -1],
+        [1, 0, 0],
+        [1, 0, 1],
+        [1, 0, 2],
+        [1, 1, -2],
+        [1, 1, -1],
+        [1, 1, 0],
+        [1, 1, 1],
+        [1, 1, 2],
+        [1, 2, -2],
+        [1, 2, -1],
+        [1, 2, 0],
+        [1, 2, 1],
+        [1, 2, 2],
+        [2, -2, -1],
+        [2, -2, 1],
+        [2, -1, -2],
+        [2, -1, -1],
+        [2, -1, 0],
+        [2, -1, 1],
+        [2, -1, 2],
+        [2, 0, -1],
+        [2, 0, 1],
+        [2, 1, -2],
+        [2, 1, -1],
+        [2, 1, 0],
+        [2, 1, 1],
+        [2, 1, 2],
+        [2, 2, -1],
+        [2, 2, 1],
+    ],
+};
+
+/// A law: `DIRECTIONS` has each direction with entries -1, 0 and 1 that aren't all 0, and `WIDE` each with entries from -2 to 2 whose
+/// greatest common divisor is 1; in both each stands before the next one in lexicographic order, so that no two are the same, and
+/// with each the opposite one is there.
 pub fn table_law()
     ensures whole { DIRECTIONS.n ≡ directions }
     ensures rising { IsTrue (is_rising DIRECTIONS.n) }
     ensures closed { IsTrue (is_closed DIRECTIONS.n) }
+    ensures small { All AreSmall DIRECTIONS.n }
+    ensures wide { WIDE.n ≡ wide_directions }
+    ensures wide_rising { IsTrue (is_rising WIDE.n) }
+    ensures wide_closed { IsTrue (is_closed WIDE.n) }
+    ensures wide_small { All AreSmall WIDE.n }
 {}
 
 /// A law: each threshold is the least number that is not negative and whose square is above 4 r^2 h^2 (n . n).

@@ -15,7 +15,7 @@ mod stack;
 mod tests;
 
 pub use curves::Curves;
-pub use directions::{DIRECTIONS, Dirs, table_law, threshold_law, thresholds};
+pub use directions::{DIRECTIONS, Dirs, WIDE, table_law, threshold_law, thresholds};
 pub use part::{first_below, halves, low_control, projected, separates};
 pub use slot::Slot;
 pub use stack::{Level, Stack, level_halves};
