@@ -13,3 +13,4 @@ pub mod Fleets
 pub mod Standing
 pub mod Positions
 pub mod Weighted
+pub mod Lifts

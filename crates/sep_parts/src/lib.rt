@@ -6,6 +6,7 @@
 //! `sep_certificate` stands on it, and passes its public calls on.
 #![tactic(auto)]
 
+mod apart;
 mod curves;
 mod directions;
 mod part;
@@ -14,6 +15,7 @@ mod stack;
 #[cfg(test)]
 mod tests;
 
+pub use apart::apart_law;
 pub use curves::Curves;
 pub use directions::{DIRECTIONS, Dirs, WIDE, table_law, threshold_law, thresholds};
 pub use part::{first_below, halves, low_control, projected, separates};

@@ -1,0 +1,157 @@
+-- From one cutting into segments to another.
+use Rattle.std.proofs.Common.{◌≡◌, ℕ, suc, zero, ◌+◌, ◌-◌, ◌*◌, ◌≤◌, ℤ, pos, ◌+ℤ◌, ◌-ℤ◌, ◌*ℤ◌, ◌<ℤ◌, arith, refl, sym, ap, ◌∙◌, subst, Bool, true, false, cond, nat_le, List, [], ◌∷◌, All, map, Option, Some, slice_get}
+use Rattle.std.specs.List.{sum}
+use Rattle.std.proofs.lemmas.List.Elements.{All-head, All-tail}
+use Rattle.std.proofs.lemmas.Int.{ints}
+use Rattle.fleet_math.specs.Sums.{power}
+use Rattle.fleet_math.specs.Moments.{Moment, moment, moment_from}
+use Rattle.fleet_math.proofs.RingLemmas.{ring, linear, lt_mul_ℤ, mul_positive}
+use Rattle.fleet_math.proofs.DivisionLemmas.{lt_from_mul_ℤ}
+use Rattle.fleet_math.proofs.SumLemmas.{power-add, power-mul, power_positive}
+use Rattle.traj_codec.specs.declared.traj.Traj.{Traj}
+use Rattle.traj_codec.specs.Positions.{decoded, durations}
+use Rattle.traj_codec.specs.Joined.{own, SameCurve, IsLasting, joined, JoinLaw}
+use Rattle.sep_parts.specs.Flying.{AreApart, ApartLaw, SentLaw, FlyApart, gap}
+
+-- ---- numbers
+square_of : (x : ℤ) → power x 14 ≡ power x 7 *ℤ power x 7
+square_of x = power-add x 7 7
+
+-- ---- apart
+
+-- the gap over both denominators, times those of the other cutting
+gap_lift : (x y X Y R S P Q : ℤ) → (P *ℤ x) ≡ (R *ℤ X) → (Q *ℤ y) ≡ (S *ℤ Y) → (Y *ℤ P -ℤ X *ℤ Q) *ℤ (R *ℤ S) ≡ (y *ℤ R -ℤ x *ℤ S) *ℤ (P *ℤ Q)
+gap_lift x y X Y R S P Q first second = spread X Y R S P Q ∙ rw (sym first, sym second) (gather x y R S P Q)
+  where
+    spread : (X Y R S P Q : ℤ) → (Y *ℤ P -ℤ X *ℤ Q) *ℤ (R *ℤ S) ≡ ((S *ℤ Y) *ℤ P) *ℤ R -ℤ ((R *ℤ X) *ℤ Q) *ℤ S
+    spread X Y R S P Q = simp ring (omega (arith, linear))
+
+    gather : (x y R S P Q : ℤ) → ((Q *ℤ y) *ℤ P) *ℤ R -ℤ ((P *ℤ x) *ℤ Q) *ℤ S ≡ (y *ℤ R -ℤ x *ℤ S) *ℤ (P *ℤ Q)
+    gather x y R S P Q = simp ring (omega (arith, linear))
+
+-- a sum of squares, each gap times a number
+squares : (a b u v w n : ℤ) → (a *ℤ (u *ℤ u +ℤ v *ℤ v) +ℤ b *ℤ (w *ℤ w)) *ℤ (n *ℤ n) ≡ a *ℤ ((u *ℤ n) *ℤ (u *ℤ n) +ℤ (v *ℤ n) *ℤ (v *ℤ n)) +ℤ b *ℤ ((w *ℤ n) *ℤ (w *ℤ n))
+squares a b u v w n = simp ring (omega (arith, linear))
+
+turn : (k c n : ℤ) → (k *ℤ (c *ℤ c)) *ℤ (n *ℤ n) ≡ (k *ℤ (n *ℤ n)) *ℤ (c *ℤ c)
+turn k c n = simp ring refl
+
+lift : (k a b C N u v w U V W : ℤ) → pos 0 <ℤ C → pos 0 <ℤ N → (U *ℤ C) ≡ (u *ℤ N) → (V *ℤ C) ≡ (v *ℤ N) → (W *ℤ C) ≡ (w *ℤ N) →
+    (k *ℤ (C *ℤ C)) <ℤ (a *ℤ (u *ℤ u +ℤ v *ℤ v) +ℤ b *ℤ (w *ℤ w)) → (k *ℤ (N *ℤ N)) <ℤ (a *ℤ (U *ℤ U +ℤ V *ℤ V) +ℤ b *ℤ (W *ℤ W))
+lift k a b C N u v w U V W c_pos n_pos eu ev ew far =
+    let more : ((k *ℤ (C *ℤ C)) *ℤ (N *ℤ N)) <ℤ ((a *ℤ (u *ℤ u +ℤ v *ℤ v) +ℤ b *ℤ (w *ℤ w)) *ℤ (N *ℤ N)) =
+    lt_mul_ℤ (k *ℤ (C *ℤ C)) (a *ℤ (u *ℤ u +ℤ v *ℤ v) +ℤ b *ℤ (w *ℤ w)) (N *ℤ N) (mul_positive N N n_pos n_pos) far in
+    let right : (a *ℤ (u *ℤ u +ℤ v *ℤ v) +ℤ b *ℤ (w *ℤ w)) *ℤ (N *ℤ N) ≡ (a *ℤ (U *ℤ U +ℤ V *ℤ V) +ℤ b *ℤ (W *ℤ W)) *ℤ (C *ℤ C) =
+    squares a b u v w N ∙ rw (sym eu, sym ev, sym ew) (sym (squares a b U V W C)) in
+    lt_from_mul_ℤ (k *ℤ (N *ℤ N)) (a *ℤ (U *ℤ U +ℤ V *ℤ V) +ℤ b *ℤ (W *ℤ W)) (C *ℤ C) (mul_positive C C c_pos c_pos)
+    (swap (turn k C N) right more)
+  where
+    swap : {x y z t : ℤ} → x ≡ y → z ≡ t → x <ℤ z → y <ℤ t
+    swap {x} {y} {z} {t} p q h = omega (arith, linear)
+
+-- an instant has a denominator of at least 1
+own_some : (t : Traj) (p q : ℕ) → 1 ≤ q → IsLasting t → 1 ≤ (own t p q).c
+unfolding moment
+own_some t p q some lasting = go (durations t.segments) 0 0 lasting
+  where
+    go : (times : List ℕ) (t0 k : ℕ) → All (λ ms. 1 ≤ ms) times → 1 ≤ (moment_from t0 k times p q).c
+    go [] t0 k all = some
+    go (ms ∷ rest) t0 k all = by_test (nat_le p (q * (t0 + ms))) _ (go rest (t0 + ms) (suc k) (All-tail (λ (ms : ℕ). 1 ≤ ms) ms rest all))
+      where
+        here : 1 ≤ q * ms
+        here = let last : 1 ≤ ms = All-head (λ (ms : ℕ). 1 ≤ ms) ms rest all in grind arith
+
+        by_test : (b : Bool) (m : Moment) → 1 ≤ m.c → 1 ≤ (cond b (record { cue = k; a = p - q * t0; c = q * ms }) m).c
+        by_test true m h = here
+        by_test false m h = h
+
+seventh_positive : (c : ℕ) → 1 ≤ c → pos 0 <ℤ power (pos c) 7
+seventh_positive c some = power_positive (pos c) 7 (omega (arith, ints))
+
+-- both denominators to the fourteenth
+whole_of : (x y : ℤ) → power (x *ℤ y) 14 ≡ (power x 7 *ℤ power y 7) *ℤ (power x 7 *ℤ power y 7)
+whole_of x y = square_of (x *ℤ y) ∙ ap (λ (z : ℤ). z *ℤ z) (power-mul x y 7)
+
+pub apart_lifts : ApartLaw
+apart_lifts t u other_t other_u r h p q some t_lasts u_lasts other_t_lasts other_u_lasts t_same u_same far =
+    let R : ℤ = power (pos (own t p q).c) 7 in
+    let S : ℤ = power (pos (own u p q).c) 7 in
+    let P : ℤ = power (pos (own other_t p q).c) 7 in
+    let Q : ℤ = power (pos (own other_u p q).c) 7 in
+    let old : (pos (4 * (r * r) * (h * h)) *ℤ ((R *ℤ S) *ℤ (R *ℤ S))) <ℤ _ =
+    subst (λ (z : ℤ). (pos (4 * (r * r) * (h * h)) *ℤ z) <ℤ (pos (h * h) *ℤ (gap t u p q 0 *ℤ gap t u p q 0 +ℤ gap t u p q 1 *ℤ gap t u p q 1) +ℤ pos (r * r) *ℤ (gap t u p q 2 *ℤ gap t u p q 2)))
+    (whole_of (pos (own t p q).c) (pos (own u p q).c)) far.apart in
+    let new = lift (pos (4 * (r * r) * (h * h))) (pos (h * h)) (pos (r * r)) (R *ℤ S) (P *ℤ Q) (gap t u p q 0) (gap t u p q 1) (gap t u p q 2)
+    (gap other_t other_u p q 0) (gap other_t other_u p q 1) (gap other_t other_u p q 2)
+    (mul_positive R S (seventh_positive (own t p q).c (own_some t p q some t_lasts)) (seventh_positive (own u p q).c (own_some u p q some u_lasts)))
+    (mul_positive P Q (seventh_positive (own other_t p q).c (own_some other_t p q some other_t_lasts)) (seventh_positive (own other_u p q).c (own_some other_u p q some other_u_lasts)))
+    (axis_lift 0) (axis_lift 1) (axis_lift 2) old in
+    record { apart = subst (λ (z : ℤ). (pos (4 * (r * r) * (h * h)) *ℤ z) <ℤ
+        (pos (h * h) *ℤ (gap other_t other_u p q 0 *ℤ gap other_t other_u p q 0 +ℤ gap other_t other_u p q 1 *ℤ gap other_t other_u p q 1) +ℤ pos (r * r) *ℤ (gap other_t other_u p q 2 *ℤ gap other_t other_u p q 2)))
+        (sym (whole_of (pos (own other_t p q).c) (pos (own other_u p q).c))) new }
+  where
+    axis_lift : (axis : ℕ) → gap other_t other_u p q axis *ℤ (power (pos (own t p q).c) 7 *ℤ power (pos (own u p q).c) 7)
+        ≡ gap t u p q axis *ℤ (power (pos (own other_t p q).c) 7 *ℤ power (pos (own other_u p q).c) 7)
+    axis_lift axis = gap_lift (decoded t axis (own t p q)) (decoded u axis (own u p q)) (decoded other_t axis (own other_t p q)) (decoded other_u axis (own other_u p q))
+        (power (pos (own t p q).c) 7) (power (pos (own u p q).c) 7) (power (pos (own other_t p q).c) 7) (power (pos (own other_u p q).c) 7) (t_same axis p q) (u_same axis p q)
+
+-- the gap where both are over one c
+abbrev pub near_gap : Traj → Traj → Moment → ℕ → ℤ
+near_gap t u m axis = decoded u axis m -ℤ decoded t axis m
+
+-- Where both drones' segments have the same durations, the inequality over one c says it.
+pub one_moment : (t u : Traj) (r h p q : ℕ) (m : Moment) → 1 ≤ m.c → own t p q ≡ m → own u p q ≡ m →
+    (pos (4 * (r * r) * (h * h)) *ℤ power (pos m.c) 14)
+    <ℤ (pos (h * h) *ℤ (near_gap t u m 0 *ℤ near_gap t u m 0 +ℤ near_gap t u m 1 *ℤ near_gap t u m 1) +ℤ pos (r * r) *ℤ (near_gap t u m 2 *ℤ near_gap t u m 2)) →
+    AreApart t u r h p q
+one_moment t u r h p q m some t_is u_is far =
+    let C : ℤ = power (pos m.c) 7 in
+    let old = subst (λ (z : ℤ). (pos (4 * (r * r) * (h * h)) *ℤ z) <ℤ
+        (pos (h * h) *ℤ (near_gap t u m 0 *ℤ near_gap t u m 0 +ℤ near_gap t u m 1 *ℤ near_gap t u m 1) +ℤ pos (r * r) *ℤ (near_gap t u m 2 *ℤ near_gap t u m 2))) (square_of (pos m.c)) far in
+    let c_pos : pos 0 <ℤ C = seventh_positive m.c some in
+    let new = lift (pos (4 * (r * r) * (h * h))) (pos (h * h)) (pos (r * r)) C (C *ℤ C) (near_gap t u m 0) (near_gap t u m 1) (near_gap t u m 2)
+    (wide 0) (wide 1) (wide 2) c_pos (mul_positive C C c_pos c_pos) (widened 0) (widened 1) (widened 2) old in
+    record { apart = rw (t_is, u_is) (subst (λ (z : ℤ). (pos (4 * (r * r) * (h * h)) *ℤ z) <ℤ
+        (pos (h * h) *ℤ (wide 0 *ℤ wide 0 +ℤ wide 1 *ℤ wide 1) +ℤ pos (r * r) *ℤ (wide 2 *ℤ wide 2))) (sym (whole_of (pos m.c) (pos m.c))) new) }
+  where
+    wide : ℕ → ℤ
+    wide axis = decoded u axis m *ℤ power (pos m.c) 7 -ℤ decoded t axis m *ℤ power (pos m.c) 7
+
+    times : (x y C : ℤ) → (y *ℤ C -ℤ x *ℤ C) *ℤ C ≡ (y -ℤ x) *ℤ (C *ℤ C)
+    times x y C = simp ring (omega (arith, linear))
+
+    widened : (axis : ℕ) → wide axis *ℤ power (pos m.c) 7 ≡ near_gap t u m axis *ℤ (power (pos m.c) 7 *ℤ power (pos m.c) 7)
+    widened axis = times (decoded t axis m) (decoded u axis m) (power (pos m.c) 7)
+
+-- ---- a list of trajectories
+
+-- what is at a place of the joined ones
+sent_at : (trajs : List Traj) (a : ℕ) (u : Traj) → slice_get (map joined trajs) a ≡ Some u → (t : Traj) × (slice_get trajs a ≡ Some t) × (u ≡ joined t)
+sent_at [] zero u e = absurd (cc)
+sent_at [] (suc a) u e = absurd (cc)
+sent_at (t ∷ trajs) zero u e = (t, refl, sym (some_inside (joined t) u e))
+  where
+    some_inside : (x y : Traj) → ◌≡◌ {A = Option Traj} (Some x) (Some y) → x ≡ y
+    some_inside x y e = cc
+sent_at (t ∷ trajs) (suc a) u e = sent_at trajs a u e
+
+lasting_at : (trajs : List Traj) (a : ℕ) (t : Traj) → All IsLasting trajs → slice_get trajs a ≡ Some t → IsLasting t
+lasting_at [] zero t all e = absurd (cc)
+lasting_at [] (suc a) t all e = absurd (cc)
+lasting_at (u ∷ trajs) zero t all e = subst IsLasting (some_inside u t e) (All-head IsLasting u trajs all)
+  where
+    some_inside : (x y : Traj) → ◌≡◌ {A = Option Traj} (Some x) (Some y) → x ≡ y
+    some_inside x y e = cc
+lasting_at (u ∷ trajs) (suc a) t all e = lasting_at trajs a t (All-tail IsLasting u trajs all) e
+
+pub sent_apart : JoinLaw → SentLaw
+sent_apart law r h trajs lasting far a b t u differ t_is u_is p q some before =
+    let first = sent_at trajs a t t_is in
+    let second = sent_at trajs b u u_is in
+    let one : IsLasting first.0 = lasting_at trajs a first.0 lasting first.1 in
+    let two : IsLasting second.0 = lasting_at trajs b second.0 lasting second.1 in
+    let t_sum : sum (durations t.segments) ≡ sum (durations first.0.segments) = ap (λ (x : Traj). sum (durations x.segments)) first.2 ∙ law.lasts first.0 in
+    let old : AreApart first.0 second.0 r h p q = far a b first.0 second.0 differ first.1 second.1 p q some (subst (λ (n : ℕ). p ≤ q * n) t_sum before) in
+    let new : AreApart (joined first.0) (joined second.0) r h p q =
+    apart_lifts first.0 second.0 (joined first.0) (joined second.0) r h p q some one two (law.last first.0 one) (law.last second.0 two) (law.same first.0 one) (law.same second.0 two) old in
+    subst (λ (x : Traj). AreApart x u r h p q) (sym first.2) (subst (λ (y : Traj). AreApart (joined first.0) y r h p q) (sym second.2) new)
