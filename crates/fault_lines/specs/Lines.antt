@@ -44,6 +44,10 @@ abbrev pub room_line : List ℕ → ℕ → ℕ → List ℕ
 room_line name bytes room =
     refusal (codes "4") (codes "drone" ∷ name ∷ codes "bytes" ∷ decimal bytes ∷ codes "room" ∷ decimal room ∷ [])
 
+-- a drone whose trajectory has more segments than one may have, whole holds that follow each other joined
+abbrev pub segments_line : List ℕ → ℕ → List ℕ
+segments_line name segments = refusal (codes "4") (codes "drone" ∷ name ∷ codes "segments" ∷ decimal segments ∷ [])
+
 -- a read failed
 abbrev pub read_line : List ℕ
 read_line = refusal (codes "6") (codes "read" ∷ [])

@@ -19,5 +19,5 @@ pub use builder::{put, put_number};
 pub use pairs::{blocked_line, fails_line, missing_line, too_deep_line};
 pub use refusals::{
     extra_line, faulty_line, grid_line, range_line, read_line, room_line, second_line,
-    second_too_large_line, too_large_line, usage_line,
+    second_too_large_line, segments_line, too_large_line, usage_line,
 };

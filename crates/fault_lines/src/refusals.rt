@@ -3,7 +3,7 @@
 ghost use Rattle.std.specs.Prelude.{◌≡◌, ◌≢◌, ◌≤◌, ◌<◌, ◌^◌, [], ◌∷◌, length};
 ghost use Rattle.fleet_io.specs.Words.{IsWord};
 ghost use Rattle.cue_grid.specs.declared.grid.GridFault.TheVariants.{Memory};
-ghost use Rattle.fault_lines.specs.Lines.{refusal, usage_line, too_large_line, show_line, faulty_line, grid_line, range_line, room_line, read_line, second_line, second_too_large_line, extra_line};
+ghost use Rattle.fault_lines.specs.Lines.{refusal, usage_line, too_large_line, show_line, faulty_line, grid_line, range_line, room_line, read_line, second_line, second_too_large_line, segments_line, extra_line};
 
 use crate::builder::{begin, put, put_number, put_signed};
 use crate::kinds::{axis_word, kind_word, line_and_word};
@@ -84,6 +84,21 @@ pub fn room_line(name: &Name, bytes: u32, room: u32) -> ShortLine
     put_number(&mut text, bytes);
     put(&mut text, b"room");
     put_number(&mut text, room);
+    text.end();
+    text
+}
+
+/// `error 4 drone NAME segments N`: the drone's trajectory has more segments than one may have, whole holds that follow each other
+/// joined.
+pub fn segments_line(name: &Name, segments: u32) -> ShortLine
+    requires { IsWord name.now.items }
+    ensures { result ≡ segments_line name.now.items segments }
+{
+    let mut text = begin(b"4");
+    put(&mut text, b"drone");
+    put(&mut text, name.as_slice());
+    put(&mut text, b"segments");
+    put_number(&mut text, segments);
     text.end();
     text
 }

@@ -49,6 +49,10 @@ fn a_show_that_is_refused(rt: HostRuntime) {
             b"error 4 drone solo bytes 28 room 27\n",
         ),
         (
+            segments_line(&solo, 256),
+            b"error 4 drone solo segments 256\n",
+        ),
+        (
             blocked_line(&a, &b, 0, 28, 6),
             b"error 5 pair a b cue 1 part 28 of 64\n",
         ),
