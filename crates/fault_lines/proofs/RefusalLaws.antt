@@ -9,6 +9,6 @@ pub refusal_made : (status : List ℕ) (words : List (List ℕ)) → AreWords (s
 refusal_made status words are = words_make_line [] (codes "error") (status ∷ words) refl refl are
 
 -- two names and a cue are words where the names are
-pub pair_are_words : (first second : List ℕ) (cue : ℕ) (more : List (List ℕ)) → IsWord first → IsWord second → cue < 256 → AreWords more → AreWords (pair_words first second cue ++ more)
+pub pair_are_words : (first second : List ℕ) (cue : ℕ) (more : List (List ℕ)) → IsWord first → IsWord second → cue < 65536 → AreWords more → AreWords (pair_words first second cue ++ more)
 pair_are_words first second cue more is is_too small are =
     (refl, (is, (is_too, (refl, (decimal_is_word (cue + 1) (omega (arith, small)), are)))))

@@ -18,7 +18,7 @@ fn parts(depth: u8) -> u32
 }
 
 // The two drones and the cue, which counts from 0 in the argument and from 1 in the line.
-fn put_pair(line: &mut ShortLine, first: &Name, second: &Name, cue: u8)
+fn put_pair(line: &mut ShortLine, first: &Name, second: &Name, cue: u16)
     requires { length line.old ≤ 40 }
     ensures words { line.new ≡ with_words line.old (pair_words first.now.items second.now.items cue) }
     ensures room { length line.new ≤ length line.old + 54 }
@@ -32,7 +32,7 @@ fn put_pair(line: &mut ShortLine, first: &Name, second: &Name, cue: u8)
 
 /// `error 5 pair NAME NAME cue C part I of P`: no direction separates the two drones in a part of a cue. The cue counts from
 /// 0 in the argument and from 1 in the line; the part is one of `2^depth` equal ones, and its index counts from 0.
-pub fn blocked_line(first: &Name, second: &Name, cue: u8, index: u16, depth: u8) -> ShortLine
+pub fn blocked_line(first: &Name, second: &Name, cue: u16, index: u16, depth: u8) -> ShortLine
     requires first { IsWord first.now.items }
     requires second { IsWord second.now.items }
     requires depth { depth ≤ 8 }
@@ -50,7 +50,7 @@ pub fn blocked_line(first: &Name, second: &Name, cue: u8, index: u16, depth: u8)
 
 /// `error 12 missing pair NAME NAME cue C`: the certificate has no tree for the two drones in this cue, which counts from 0
 /// in the argument and from 1 in the line.
-pub fn missing_line(first: &Name, second: &Name, cue: u8) -> ShortLine
+pub fn missing_line(first: &Name, second: &Name, cue: u16) -> ShortLine
     requires first { IsWord first.now.items }
     requires second { IsWord second.now.items }
     ensures { result ≡ missing_line first.now.items second.now.items cue }
@@ -60,7 +60,7 @@ pub fn missing_line(first: &Name, second: &Name, cue: u8) -> ShortLine
 
 /// `error 12 too-deep pair NAME NAME cue C`: a split of the tree for the two drones in this cue stands at the certificate's
 /// depth. The cue counts from 0 in the argument and from 1 in the line.
-pub fn too_deep_line(first: &Name, second: &Name, cue: u8) -> ShortLine
+pub fn too_deep_line(first: &Name, second: &Name, cue: u16) -> ShortLine
     requires first { IsWord first.now.items }
     requires second { IsWord second.now.items }
     ensures { result ≡ too_deep_line first.now.items second.now.items cue }
@@ -69,7 +69,7 @@ pub fn too_deep_line(first: &Name, second: &Name, cue: u8) -> ShortLine
 }
 
 // What the certificate lacks for two drones in a cue, in one word.
-fn unproved_pair(word: &[u8], first: &Name, second: &Name, cue: u8) -> ShortLine
+fn unproved_pair(word: &[u8], first: &Name, second: &Name, cue: u16) -> ShortLine
     requires word { IsWord word.now }
     requires short { length word.now ≤ 8 }
     requires first { IsWord first.now.items }
@@ -89,7 +89,7 @@ fn unproved_pair(word: &[u8], first: &Name, second: &Name, cue: u8) -> ShortLine
 pub fn fails_line(
     first: &Name,
     second: &Name,
-    cue: u8,
+    cue: u16,
     place: Place,
     dir: u8,
     control: u8,

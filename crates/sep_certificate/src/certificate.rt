@@ -108,7 +108,7 @@ pub enum CertFault {
     Missing {
         a: u8,
         b: u8,
-        cue: u8,
+        cue: u16,
     },
     /// This tree is the first behind those of all pairs and cues.
     Extra {
@@ -118,13 +118,13 @@ pub enum CertFault {
     TooDeep {
         a: u8,
         b: u8,
-        cue: u8,
+        cue: u16,
     },
     /// The direction doesn't separate the part at the place: this control value is the first below the threshold.
     Fails {
         a: u8,
         b: u8,
-        cue: u8,
+        cue: u16,
         place: Place,
         dir: u8,
         control: u8,

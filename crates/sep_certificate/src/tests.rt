@@ -71,10 +71,10 @@ fn fleet(alloc: Global) -> Result<Vec<Traj>, AllocError>
 enum Outcome {
     Valid,
     Line(u32),
-    Missing(u8, u8, u8),
+    Missing(u8, u8, u16),
     Extra(u32),
-    TooDeep(u8, u8, u8),
-    Fails([u8; 3], (u8, u16), u8, u8),
+    TooDeep(u8, u8, u16),
+    Fails((u8, u8, u16), (u8, u16), u8, u8),
     Other,
 }
 
@@ -105,7 +105,7 @@ fn outcome_of(fault: CertFault) -> Outcome {
             place,
             dir,
             control,
-        } => Outcome::Fails([a, b, cue], (place.depth, place.index), dir, control),
+        } => Outcome::Fails((a, b, cue), (place.depth, place.index), dir, control),
     }
 }
 
@@ -132,7 +132,7 @@ const FOR_TWO: [(&[u8], Outcome); 7] = [
     (b"certificate 6\nr\nl\n", Outcome::Missing(0, 1, 2)),
     (
         b"certificate 6\nr\na\n",
-        Outcome::Fails([0, 1, 1], (0, 0), 0, 0),
+        Outcome::Fails((0, 1, 1), (0, 0), 0, 0),
     ),
     (b"certificate 6\nr\nl\na\nr\n", Outcome::Extra(3)),
     (b"certificate 0\n.rr\nl\na\n", Outcome::TooDeep(0, 1, 0)),
@@ -169,12 +169,12 @@ const FOR_THREE: [(&[u8], Outcome); 5] = [
     // (2, 3) before (1, 3)
     (
         b"certificate 0\nv\nv\nv\ne\ne\ne\np\np\np\n",
-        Outcome::Fails([0, 2, 0], (0, 0), 4, 0),
+        Outcome::Fails((0, 2, 0), (0, 0), 4, 0),
     ),
     // by cue and then by pair
     (
         b"certificate 0\nv\np\ne\nv\np\ne\nv\np\ne\n",
-        Outcome::Fails([0, 1, 1], (0, 0), 15, 0),
+        Outcome::Fails((0, 1, 1), (0, 0), 15, 0),
     ),
     (
         b"certificate 0\nv\nv\nv\np\np\np\ne\ne\n",

@@ -2,13 +2,14 @@
 use Rattle.std.specs.Prelude.{◌≡◌, ℕ, ◌+◌, ◌*◌, ◌≤◌, ◌<◌, ℤ, ◌-ℤ◌, List, [], ◌∷◌, length, slice_index_or, slice_get, Some, All}
 use Rattle.std.specs.List.{flat_map}
 use Rattle.fleet_math.specs.Bernstein.{at}
+use Rattle.fleet_math.specs.Limits.{most_cues}
 use Rattle.bezier_core.specs.declared.Bez.{Bez}
 use Rattle.bezier_core.specs.Along.{controls}
 use Rattle.bezier_core.specs.Raised.{eight, raised}
 use Rattle.traj_codec.specs.declared.traj.Element.{Element}
 use Rattle.traj_codec.specs.declared.traj.Segment.{Segment}
 use Rattle.traj_codec.specs.declared.traj.Traj.{Traj}
-use Rattle.traj_codec.specs.Spelling.{most_segments, stored}
+use Rattle.traj_codec.specs.Spelling.{stored}
 use Rattle.traj_codec.specs.Positions.{durations, points, element_on, value_after}
 
 -- how many drones a fleet has at most
@@ -42,12 +43,12 @@ abbrev pub raised_in : Traj → ℕ → List (Bez 8)
 raised_in t cue =
     record { b = raised (points t cue 0) } ∷ record { b = raised (points t cue 1) } ∷ record { b = raised (points t cue 2) } ∷ []
 
--- Trajectories of one show: 1 to 32, each of the same 1 to 255 durations, none of them 0.
+-- Trajectories of one show: 1 to 32, each of the same 1 to 1,000 durations, none of them 0.
 pub record AreOneShow (times : List ℕ) (trajs : List Traj) : Type 0 where
   pub some_drones : 1 ≤ length trajs
   pub few_drones : length trajs ≤ most_drones
   pub some_cues : 1 ≤ length times
-  pub few_cues : length times ≤ most_segments
+  pub few_cues : length times ≤ most_cues
   pub lasting : All (λ ms. 1 ≤ ms) times
   pub same_times : All (λ (t : Traj). durations t.segments ≡ times) trajs
 

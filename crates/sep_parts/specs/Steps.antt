@@ -1,9 +1,10 @@
 -- Words of private steps and of what Curves keep. No public clause cites them.
 use Rattle.std.specs.Prelude.{◌≡◌, ℕ, ◌*◌, ◌^◌, ◌≤◌, List, length, All}
+use Rattle.fleet_math.specs.Limits.{most_cues}
 use Rattle.fleet_math.specs.Numbers.{IsBelow}
 use Rattle.bezier_core.specs.declared.Bez.{Bez}
 use Rattle.traj_codec.specs.declared.traj.Segment.{Segment}
-use Rattle.traj_codec.specs.Spelling.{most_segments, stored}
+use Rattle.traj_codec.specs.Spelling.{stored}
 use Rattle.traj_codec.specs.Positions.{element_on}
 use Rattle.sep_parts.specs.Raised.{Raised, most_drones}
 
@@ -20,6 +21,6 @@ pub record AreHeld (c : Raised) : Type 0 where
   pub some_drones : 1 ≤ c.drones
   pub few_drones : c.drones ≤ most_drones
   pub some_cues : 1 ≤ c.cues
-  pub few_cues : c.cues ≤ most_segments
+  pub few_cues : c.cues ≤ most_cues
   pub total : length c.curves ≡ c.drones * c.cues
   pub small : All AreSmallCurves c.curves

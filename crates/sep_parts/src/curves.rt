@@ -5,7 +5,8 @@ ghost use Rattle.fleet_math.specs.Numbers.{IsBelow};
 ghost use Rattle.fleet_math.specs.Decoded.{last_value};
 ghost use Rattle.bezier_core.specs.Curves.{IsLength};
 ghost use Rattle.bezier_core.specs.Raised.{raised};
-ghost use Rattle.traj_codec.specs.Spelling.{most_segments, stored};
+ghost use Rattle.fleet_math.specs.Limits.{most_cues};
+ghost use Rattle.traj_codec.specs.Spelling.{stored};
 ghost use Rattle.traj_codec.specs.Positions.{element_on, value_after};
 ghost use Rattle.sep_parts.specs.Raised.{CurvesStandFor, IsOneShow, difference, less, most_drones, raised_element, raised_traj, raised_of};
 ghost use Rattle.sep_parts.specs.Steps.{AreSmallCurves, IsFormed};
@@ -20,7 +21,7 @@ use traj_codec::{Element, Segment, Traj};
 #[derive(Drop)]
 pub struct Curves {
     drones: u8,
-    cues: u8,
+    cues: u16,
     all: Vec<[Bez<8>; 3]>,
 }
 
@@ -36,7 +37,7 @@ impl Model for Curves {
 }
 
 impl Curves {
-    /// The curves of trajectories of one show: 1 to 32 of them, each of the same 1 to 255 segments with the same durations, none
+    /// The curves of trajectories of one show: 1 to 32 of them, each of the same 1 to 1,000 segments with the same durations, none
     /// of them 0. Want of memory is the only refusal.
     pub fn make(alloc: Global, trajs: &Vec<Traj>) -> Result<Curves, AllocError>
         requires { IsOneShow trajs.now.items }
@@ -58,7 +59,7 @@ impl Curves {
         }
         Ok(Curves {
             drones: trajs.len() as u8,
-            cues: trajs[0].segments.as_slice().len() as u8,
+            cues: trajs[0].segments.as_slice().len() as u16,
             all,
         })
     }
@@ -76,7 +77,7 @@ impl Curves {
     pub fn cues(&self) -> usize
         ensures exact { result ≡ self.now.cues }
         ensures some { 1 ≤ result }
-        ensures few { result ≤ most_segments }
+        ensures few { result ≤ most_cues }
     {
         self.cues as usize
     }
@@ -122,7 +123,7 @@ fn one_less(second: &[Bez<8>; 3], first: &[Bez<8>; 3], axis: usize) -> Bez<8>
 }
 
 // Where the curves of a drone and a cue stand.
-fn place_of(drones: u8, cues: u8, drone: usize, cue: usize) -> usize
+fn place_of(drones: u8, cues: u16, drone: usize, cue: usize) -> usize
     requires drone { drone < drones }
     requires cue { cue < cues }
     ensures exact { result ≡ drone * cues + cue }

@@ -10,11 +10,11 @@ pub struct Slot {
     /// The second drone, above the first.
     pub b: u8,
     /// The cue.
-    pub cue: u8,
+    pub cue: u16,
 }
 
 impl Slot {
-    ghost use Rattle.traj_codec.specs.Spelling.{most_segments};
+    ghost use Rattle.fleet_math.specs.Limits.{most_cues};
     ghost use Rattle.sep_parts.specs.Raised.{most_drones};
     ghost use Rattle.sep_parts.specs.Slots.{IsSlot, following};
 
@@ -28,7 +28,7 @@ impl Slot {
     /// The pair and cue behind this one: the next cue of the pair, else the next second drone, else the next first drone.
     pub fn next(&self, drones: usize, cues: usize) -> Slot
         requires drones { drones ≤ most_drones }
-        requires cues { cues ≤ most_segments }
+        requires cues { cues ≤ most_cues }
         requires slot { IsSlot drones cues self.now }
         ensures { result ≡ following drones cues self.now }
     {

@@ -29,18 +29,18 @@ cues_counted : (n a b k : ℕ) → length (cues_from n a b k) ≡ n
 cues_counted zero a b k = refl
 cues_counted (suc n) a b k = ap suc (cues_counted n a b (suc k))
 
-few_pairs : (n cues a b : ℕ) → cues ≤ 255 → length (pairs_from n cues a b) ≤ n * 255
+few_pairs : (n cues a b : ℕ) → cues ≤ 1000 → length (pairs_from n cues a b) ≤ n * 1000
 few_pairs zero cues a b few = omega arith
 few_pairs (suc n) cues a b few =
     omega (arith, length-append (cues_from cues a b 0) (pairs_from n cues a (suc b)), cues_counted cues a b 0, few_pairs n cues a (suc b) few, few)
 
-few_drones : (n cues a : ℕ) → n ≤ 32 → cues ≤ 255 → length (drones_from n cues a) ≤ n * 8160
+few_drones : (n cues a : ℕ) → n ≤ 32 → cues ≤ 1000 → length (drones_from n cues a) ≤ n * 32000
 few_drones zero cues a small few = omega arith
 few_drones (suc n) cues a small few =
-    let others : length (drones_from n cues (suc a)) ≤ n * 8160 = few_drones n cues (suc a) (omega arith) few in
+    let others : length (drones_from n cues (suc a)) ≤ n * 32000 = few_drones n cues (suc a) (omega arith) few in
     omega (arith, length-append (pairs_from n cues a (suc a)) (drones_from n cues (suc a)), few_pairs n cues a (suc a) few, others, small)
 
-few_slots : (drones cues : ℕ) → drones ≤ 32 → cues ≤ 255 → length (slots drones cues) < 2 ^ 31
+few_slots : (drones cues : ℕ) → drones ≤ 32 → cues ≤ 1000 → length (slots drones cues) < 2 ^ 31
 unfolding slots
 few_slots drones cues small few = omega (arith, few_drones drones cues 0 small few, small)
 
@@ -132,7 +132,7 @@ best_whole : (e : Settings) (depth : ℕ) (trajs : List Traj) → SearchLaw → 
 best_whole e depth trajs law shallow stands none =
     let curves : Raised = raised_of trajs in
     let drones : curves.drones ≤ 32 = omega (arith, stands.drones, stands.one_show.few_drones) in
-    let cues : curves.cues ≤ 255 = omega (arith, stands.cues, stands.one_show.few_cues) in
+    let cues : curves.cues ≤ 1000 = omega (arith, stands.cues, stands.one_show.few_cues) in
     record {
       depth = shallow;
       few = omega (arith, length-map (slots_of trajs) (best_nodes e depth curves), few_slots curves.drones curves.cues drones cues);

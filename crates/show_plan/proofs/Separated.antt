@@ -51,7 +51,7 @@ blocked_found e depth curves slot diff answer index nodes is blocked gives =
 
 -- at most so many slots are still to come
 abbrev pub left : Slot → ℕ
-left s = (32 - s.a) * 8448 + ((33 - s.b) * 256 + (255 - s.cue))
+left s = (32 - s.a) * 33033 + ((33 - s.b) * 1001 + (1000 - s.cue))
 
 module _ (e : Settings) (depth : ℕ) (curves : Raised) where
   -- past a slot that isn't blocked

@@ -14,7 +14,7 @@ pub struct Fitted {
     /// The names of its drones.
     pub names: Listed<Name>,
     /// How many cues it has, repeats written out: 1 to 255.
-    pub cues: u8,
+    pub cues: u16,
     /// How long it lasts, in milliseconds.
     pub duration: u32,
     /// The trajectory of each drone, one segment for each cue.
@@ -34,7 +34,7 @@ pub enum PlanFault {
     TooLong { drone: u8, bytes: u32, room: u32 },
     /// The first part of a cue in which no direction separates two drones, in the order pair, cue, part, all counted from 0: part
     /// `index` of as many equal parts as the depth gives.
-    Blocked { a: u8, b: u8, cue: u8, index: u16 },
+    Blocked { a: u8, b: u8, cue: u16, index: u16 },
     /// Want of memory.
     Memory,
 }

@@ -164,7 +164,7 @@ fn fitted(
     Ok(Fitted {
         settings: show.settings,
         names: Listed::from_vec(names),
-        cues: cues.len() as u8,
+        cues: cues.len() as u16,
         duration: duration_of(cues),
         trajs: Listed::from_vec(trajs),
         bytes: Listed::from_vec(bytes),

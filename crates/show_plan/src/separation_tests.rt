@@ -53,7 +53,7 @@ fn one_drone_has_no_trees(rt: HostRuntime) -> Result<(), Fail> {
 }
 
 // The part of this index is the first that is blocked, for two drones in a cue.
-fn blocked(a: u8, b: u8, cue: u8, index: u16) -> Answer {
+fn blocked(a: u8, b: u8, cue: u16, index: u16) -> Answer {
     Answer::Fault(PlanFault::Blocked { a, b, cue, index })
 }
 

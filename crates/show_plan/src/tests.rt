@@ -30,7 +30,7 @@ fn fitted_of(alloc: Global, text: &[u8]) -> Result<Fitted, Option<PlanFault>>
 /// as wanted; a fault; or something else.
 #[derive(Clone, Copy, PartialEq, Eq, Debug)]
 enum Outcome {
-    Fits(u8, u32, usize, bool),
+    Fits(u16, u32, usize, bool),
     Fault(PlanFault),
     Other,
 }

@@ -122,7 +122,7 @@ pub fn plan_text(alloc: Global, f: &Fitted) -> Result<Lines, AllocError>
 }
 
 /// What is said of a show that is accepted: how many drones and cues it has, and how many milliseconds it lasts.
-pub fn ok_line(drones: u8, cues: u8, ms: u32) -> ShortLine
+pub fn ok_line(drones: u8, cues: u16, ms: u32) -> ShortLine
     ensures { result ≡ ok_line drones cues ms }
 {
     let mut line = ShortLine::make();
