@@ -11,6 +11,6 @@ pub mod Table
 pub mod Bounds
 pub mod Fleets
 pub mod Standing
+pub mod Lifts
 pub mod Positions
 pub mod Weighted
-pub mod Lifts

@@ -10,8 +10,8 @@ use Rattle.fleet_math.proofs.DivisionLemmas.{lt_from_mul_ℤ}
 use Rattle.fleet_math.proofs.SumLemmas.{power-add, power-mul, power_positive}
 use Rattle.traj_codec.specs.declared.traj.Traj.{Traj}
 use Rattle.traj_codec.specs.Positions.{decoded, durations}
-use Rattle.traj_codec.specs.Joined.{own, SameCurve, IsLasting, joined, JoinLaw}
-use Rattle.sep_parts.specs.Flying.{AreApart, ApartLaw, SentLaw, FlyApart, gap}
+use Rattle.traj_codec.specs.Joined.{own, IsLasting, joined, JoinLaw}
+use Rattle.sep_parts.specs.Apart.{AreApart, ApartLaw, SentLaw, gap}
 
 -- ---- numbers
 square_of : (x : ℤ) → power x 14 ≡ power x 7 *ℤ power x 7
@@ -95,19 +95,22 @@ apart_lifts t u other_t other_u r h p q some t_lasts u_lasts other_t_lasts other
     axis_lift axis = gap_lift (decoded t axis (own t p q)) (decoded u axis (own u p q)) (decoded other_t axis (own other_t p q)) (decoded other_u axis (own other_u p q))
         (power (pos (own t p q).c) 7) (power (pos (own u p q).c) 7) (power (pos (own other_t p q).c) 7) (power (pos (own other_u p q).c) 7) (t_same axis p q) (u_same axis p q)
 
--- the gap where both are over one c
+-- how far the second drone's decoded position is from the first one's on an axis where both are over one c
 abbrev pub near_gap : Traj → Traj → Moment → ℕ → ℤ
 near_gap t u m axis = decoded u axis m -ℤ decoded t axis m
 
+-- apart where both are over one c
+pub record AreApartAt (t u : Traj) (r h : ℕ) (m : Moment) : Type 0 where
+  pub apart :
+      (pos (4 * (r * r) * (h * h)) *ℤ power (pos m.c) 14)
+      <ℤ (pos (h * h) *ℤ (near_gap t u m 0 *ℤ near_gap t u m 0 +ℤ near_gap t u m 1 *ℤ near_gap t u m 1) +ℤ pos (r * r) *ℤ (near_gap t u m 2 *ℤ near_gap t u m 2))
+
 -- Where both drones' segments have the same durations, the inequality over one c says it.
-pub one_moment : (t u : Traj) (r h p q : ℕ) (m : Moment) → 1 ≤ m.c → own t p q ≡ m → own u p q ≡ m →
-    (pos (4 * (r * r) * (h * h)) *ℤ power (pos m.c) 14)
-    <ℤ (pos (h * h) *ℤ (near_gap t u m 0 *ℤ near_gap t u m 0 +ℤ near_gap t u m 1 *ℤ near_gap t u m 1) +ℤ pos (r * r) *ℤ (near_gap t u m 2 *ℤ near_gap t u m 2)) →
-    AreApart t u r h p q
+pub one_moment : (t u : Traj) (r h p q : ℕ) (m : Moment) → 1 ≤ m.c → own t p q ≡ m → own u p q ≡ m → AreApartAt t u r h m → AreApart t u r h p q
 one_moment t u r h p q m some t_is u_is far =
     let C : ℤ = power (pos m.c) 7 in
     let old = subst (λ (z : ℤ). (pos (4 * (r * r) * (h * h)) *ℤ z) <ℤ
-        (pos (h * h) *ℤ (near_gap t u m 0 *ℤ near_gap t u m 0 +ℤ near_gap t u m 1 *ℤ near_gap t u m 1) +ℤ pos (r * r) *ℤ (near_gap t u m 2 *ℤ near_gap t u m 2))) (square_of (pos m.c)) far in
+        (pos (h * h) *ℤ (near_gap t u m 0 *ℤ near_gap t u m 0 +ℤ near_gap t u m 1 *ℤ near_gap t u m 1) +ℤ pos (r * r) *ℤ (near_gap t u m 2 *ℤ near_gap t u m 2))) (square_of (pos m.c)) far.apart in
     let c_pos : pos 0 <ℤ C = seventh_positive m.c some in
     let new = lift (pos (4 * (r * r) * (h * h))) (pos (h * h)) (pos (r * r)) C (C *ℤ C) (near_gap t u m 0) (near_gap t u m 1) (near_gap t u m 2)
     (wide 0) (wide 1) (wide 2) c_pos (mul_positive C C c_pos c_pos) (widened 0) (widened 1) (widened 2) old in

@@ -16,7 +16,7 @@ use Rattle.bezier_core.proofs.CurveLemmas.{at-eight, raise}
 use Rattle.traj_codec.specs.declared.traj.Traj.{Traj}
 use Rattle.traj_codec.specs.Positions.{decoded, points}
 use Rattle.sep_parts.specs.Raised.{Raised, curves_at, difference, less, raised_in}
-use Rattle.sep_parts.specs.Apart.{AreApart, gap}
+use Rattle.sep_parts.proofs.Lifts.{AreApartAt, near_gap}
 use Rattle.sep_parts.proofs.Directed.{IsApartRaised, cue_of}
 use Rattle.sep_parts.proofs.Standing.{has_points}
 
@@ -51,7 +51,7 @@ scale_minus s x y = simp ring (omega (arith, linear))
 
 less_value : (t u : Traj) (m : Moment) (axis : ℕ) (first second : List (Bez 8)) → first ≡ raised_in t m.cue → second ≡ raised_in u m.cue →
     m.cue < length t.segments → m.cue < length u.segments → axis ≤ 2 → length (points t m.cue axis) ≤ 8 → length (points u m.cue axis) ≤ 8 →
-    bernstein 7 (at (less second first axis).b) (pos m.a) (pos m.c) ≡ pos 5040 *ℤ gap t u m axis
+    bernstein 7 (at (less second first axis).b) (pos m.a) (pos m.c) ≡ pos 5040 *ℤ near_gap t u m axis
 less_value t u m axis first second first_is second_is t_in u_in near t_few u_few =
     difference_value (at (controls second axis)) (at (controls first axis)) (pos m.a) (pos m.c)
     ∙ minus_same (curve_value u m axis second second_is u_in near u_few) (curve_value t m axis first first_is t_in near t_few)
@@ -77,16 +77,16 @@ apart_unscaled r h g s k x y z positive apart =
 -- Where the raised differences are apart at a moment, the decoded positions are.
 pub decoded_apart : (curves : Raised) (a b r h : ℕ) (t u : Traj) (m : Moment) → curves_at curves a m.cue ≡ raised_in t m.cue → curves_at curves b m.cue ≡ raised_in u m.cue →
     m.cue < length t.segments → m.cue < length u.segments → ((axis : ℕ) → axis ≤ 2 → length (points t m.cue axis) ≤ 8) → ((axis : ℕ) → axis ≤ 2 → length (points u m.cue axis) ≤ 8) →
-    IsApartRaised (cue_of (difference curves a b m.cue)) r h (pos m.a) (pos m.c) → AreApart t u r h m
+    IsApartRaised (cue_of (difference curves a b m.cue)) r h (pos m.a) (pos m.c) → AreApartAt t u r h m
 unfolding difference
 decoded_apart curves a b r h t u m first_is second_is t_in u_in t_few u_few apart =
-    let value : (axis : ℕ) → axis ≤ 2 → bernstein 7 (at (less (curves_at curves b m.cue) (curves_at curves a m.cue) axis).b) (pos m.a) (pos m.c) ≡ pos 5040 *ℤ gap t u m axis =
+    let value : (axis : ℕ) → axis ≤ 2 → bernstein 7 (at (less (curves_at curves b m.cue) (curves_at curves a m.cue) axis).b) (pos m.a) (pos m.c) ≡ pos 5040 *ℤ near_gap t u m axis =
     λ axis near. less_value t u m axis (curves_at curves a m.cue) (curves_at curves b m.cue) first_is second_is t_in u_in near (t_few axis near) (u_few axis near) in
     record {
-      apart = subst (λ (z : ℤ). (pos (4 * (r * r) * (h * h)) *ℤ z) <ℤ (pos (h * h) *ℤ (gap t u m 0 *ℤ gap t u m 0 +ℤ gap t u m 1 *ℤ gap t u m 1) +ℤ pos (r * r) *ℤ (gap t u m 2 *ℤ gap t u m 2)))
+      apart = subst (λ (z : ℤ). (pos (4 * (r * r) * (h * h)) *ℤ z) <ℤ (pos (h * h) *ℤ (near_gap t u m 0 *ℤ near_gap t u m 0 +ℤ near_gap t u m 1 *ℤ near_gap t u m 1) +ℤ pos (r * r) *ℤ (near_gap t u m 2 *ℤ near_gap t u m 2)))
           (sym (power-add (pos m.c) 7 7))
           (apart_unscaled (pos (r * r)) (pos (h * h)) (pos (4 * (r * r) * (h * h))) (pos 5040) (power (pos m.c) 7)
-          (gap t u m 0) (gap t u m 1) (gap t u m 2) (omega (arith, ints))
+          (near_gap t u m 0) (near_gap t u m 1) (near_gap t u m 2) (omega (arith, ints))
           (rw (← value 0 (omega arith), ← value 1 (omega arith), ← value 2 (omega arith)) apart.apart));
     }
 
@@ -95,7 +95,7 @@ turned : (x y : ℤ) → (x -ℤ y) *ℤ (x -ℤ y) ≡ (y -ℤ x) *ℤ (y -ℤ 
 turned x y = simp ring (omega (arith, linear))
 
 -- The second drone is apart from the first where the first is from the second.
-pub apart_turned : (t u : Traj) (r h : ℕ) (m : Moment) → AreApart t u r h m → AreApart u t r h m
+pub apart_turned : (t u : Traj) (r h : ℕ) (m : Moment) → AreApartAt t u r h m → AreApartAt u t r h m
 apart_turned t u r h m apart = record {
   apart = rw (turned (decoded t 0 m) (decoded u 0 m), turned (decoded t 1 m) (decoded u 1 m), turned (decoded t 2 m) (decoded u 2 m)) apart.apart;
 }

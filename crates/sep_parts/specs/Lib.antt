@@ -3,6 +3,5 @@ pub mod Separates
 pub mod Raised
 pub mod Steps
 pub mod Apart
-pub mod Flying
 pub mod Slots
 pub mod Levels

@@ -1,10 +1,13 @@
 -- The trajectories of a grid are near to what the show says, at every instant.
-use Rattle.std.proofs.Common.{◌≡◌, ℕ, zero, suc, ◌+◌, ◌*◌, ◌<◌, ◌≤◌, ℤ, pos, List, [], ◌∷◌, map, take, length, get_or, sum, arith, refl, sym, ap, ◌∙◌, subst}
+use Rattle.std.proofs.Common.{◌≡◌, ℕ, zero, suc, ◌+◌, ◌*◌, ◌<◌, ◌≤◌, ℤ, pos, ◌*ℤ◌, List, [], ◌∷◌, map, take, length, get_or, sum, arith, refl, sym, ap, ◌∙◌, subst}
 use Rattle.std.specs.List.{All}
 use Rattle.std.proofs.lemmas.List.Elements.{All-nil, All-cons, All-get_or}
 use Rattle.fleet_math.specs.Bernstein.{at}
 use Rattle.fleet_math.specs.Moments.{Moment, moment}
 use Rattle.fleet_math.specs.Near.{IsNear}
+use Rattle.fleet_math.specs.Sums.{power}
+use Rattle.fleet_math.proofs.NearLemmas.{near_lifts}
+use Rattle.fleet_math.proofs.RingLemmas.{mul_comm_ℤ}
 use Rattle.fleet_math.specs.Decoded.{last_value}
 use Rattle.fleet_math.specs.Decoded as plain
 use Rattle.fleet_math.proofs.MomentLemmas.{IsInside, moment-inside}
@@ -18,6 +21,7 @@ use Rattle.traj_codec.specs.declared.traj.Element.{Element}
 use Rattle.traj_codec.specs.declared.traj.Traj.{Traj}
 use Rattle.traj_codec.specs.Spelling.{stored}
 use Rattle.traj_codec.specs.Positions.{element_on, value_after, piece_on, durations, decoded}
+use Rattle.traj_codec.specs.Joined.{own, SameCurve}
 use Rattle.traj_codec.proofs.PositionLemmas.{decoded-points}
 use Rattle.mm_rounding.specs.declared.piece.Axis.{Axis}
 use Rattle.mm_rounding.specs.declared.piece.Axis.TheVariants.{One}
@@ -31,7 +35,7 @@ use Rattle.figure_expand.specs.Expanded.{job_in, no_job, pieces_from, expanded_f
 use Rattle.figure_expand.specs.Flown.{start_of, jobs_in, job_at, point_before, piece_at, written_at}
 use Rattle.figure_expand.proofs.Pieces.{row_is, piece_begins, piece_ends, piece_whole, flies_as_written}
 use Rattle.show_plan.specs.Trajectories.{start_at, trajectory_of, trajectories_of, trajectories, cue_times}
-use Rattle.show_plan.specs.Flight.{FliesNearOn, FliesYaw, FliesNear, no_trajectory, KeepsNearShow}
+use Rattle.show_plan.specs.Flight.{FliesNearOn, FliesNear, written, no_trajectory, KeepsNearShow}
 
 -- ---- the ends of axes
 
@@ -153,8 +157,12 @@ by_piece axis e first w d a c is near begins written decoded =
     (subst (λ (z : ℤ). IsNear (position (controls axis) a c) z c)
     (ap (λ (z : ℤ). position (z ∷ stored e) a c) ((rounded_edges axis is).0 ∙ ap millimetres begins) ∙ sym decoded) near)
 
+-- within a cue, both over its c
+abbrev NearAt : Grid → ℕ → ℕ → Moment → Type 0
+NearAt g d axis m = IsNear (written_at g d m.cue axis m.a m.c) (decoded (flight g d) axis m) m.c
+
 -- within a cue the drone flies near on x, y and z
-near_x : (g : Grid) (d : ℕ) (m : Moment) → d < length g.starts → IsInside (length g.cues) m → FliesNearOn g d (flight g d) 0 m
+near_x : (g : Grid) (d : ℕ) (m : Moment) → d < length g.starts → IsInside (length g.cues) m → NearAt g d 0 m
 near_x g d m drone inside =
     let p : Point = point_before g d m.cue in
     let j : Job = job_at g d m.cue in
@@ -163,7 +171,7 @@ near_x g d m drone inside =
     ((stays_near (piece_of p ms j) (piece_whole p ms j)).x m.a m.c inside.some inside.within)
     (piece_begins p ms j 0 (omega arith)) (written_is g d 0 m drone inside (omega arith)) (decoded_is g d 0 m inside.cue (omega arith))
 
-near_y : (g : Grid) (d : ℕ) (m : Moment) → d < length g.starts → IsInside (length g.cues) m → FliesNearOn g d (flight g d) 1 m
+near_y : (g : Grid) (d : ℕ) (m : Moment) → d < length g.starts → IsInside (length g.cues) m → NearAt g d 1 m
 near_y g d m drone inside =
     let p : Point = point_before g d m.cue in
     let j : Job = job_at g d m.cue in
@@ -172,7 +180,7 @@ near_y g d m drone inside =
     ((stays_near (piece_of p ms j) (piece_whole p ms j)).y m.a m.c inside.some inside.within)
     (piece_begins p ms j 1 (omega arith)) (written_is g d 1 m drone inside (omega arith)) (decoded_is g d 1 m inside.cue (omega arith))
 
-near_z : (g : Grid) (d : ℕ) (m : Moment) → d < length g.starts → IsInside (length g.cues) m → FliesNearOn g d (flight g d) 2 m
+near_z : (g : Grid) (d : ℕ) (m : Moment) → d < length g.starts → IsInside (length g.cues) m → NearAt g d 2 m
 near_z g d m drone inside =
     let p : Point = point_before g d m.cue in
     let j : Job = job_at g d m.cue in
@@ -182,7 +190,7 @@ near_z g d m drone inside =
     (piece_begins p ms j 2 (omega arith)) (written_is g d 2 m drone inside (omega arith)) (decoded_is g d 2 m inside.cue (omega arith))
 
 -- within a cue the yaw is equal
-same_yaw : (g : Grid) (d : ℕ) (m : Moment) → d < length g.starts → IsInside (length g.cues) m → FliesYaw g d (flight g d) m
+same_yaw : (g : Grid) (d : ℕ) (m : Moment) → d < length g.starts → IsInside (length g.cues) m → decoded (flight g d) 3 m ≡ written_at g d m.cue 3 m.a m.c
 same_yaw g d m drone inside =
     let p : Point = point_before g d m.cue in
     let j : Job = job_at g d m.cue in
@@ -210,15 +218,40 @@ instant_inside g p q is some before =
     subst (λ (n : ℕ). IsInside n (moment (cue_times g) p q)) count
     (moment-inside (cue_times g) p q some (omega (arith, count, is.some_cue)) (cues_last (length g.starts) g.cues is.cues) before)
 
--- a drone flies near to what the show says
-flies_near : (g : Grid) (d : ℕ) → IsGrid g → d < length g.starts → FliesNear g d (flight g d)
-flies_near g d is drone = record {
-  lasts = times_are (start_of g d) d g.cues;
-  x = λ p q some before. near_x g d (moment (cue_times g) p q) drone (instant_inside g p q is some before);
-  y = λ p q some before. near_y g d (moment (cue_times g) p q) drone (instant_inside g p q is some before);
-  z = λ p q some before. near_z g d (moment (cue_times g) p q) drone (instant_inside g p q is some before);
-  yaw = λ p q some before. same_yaw g d (moment (cue_times g) p q) drone (instant_inside g p q is some before);
+-- ---- within a cue, and at every instant
+
+-- A trajectory that makes the same curve as a drone's own, of one segment a cue, flies near to what the show says.
+flies_near : (g : Grid) (d : ℕ) (t : Traj) → IsGrid g → d < length g.starts → SameCurve (flight g d) t → sum (durations t.segments) ≡ sum (cue_times g) → FliesNear g d t
+flies_near g d t is drone same lasts = record {
+  lasts = lasts;
+  x = λ p q some before. near 0 p q (near_x g d (moment (cue_times g) p q) drone (instant_inside g p q is some before));
+  y = λ p q some before. near 1 p q (near_y g d (moment (cue_times g) p q) drone (instant_inside g p q is some before));
+  z = λ p q some before. near 2 p q (near_z g d (moment (cue_times g) p q) drone (instant_inside g p q is some before));
+  yaw = λ p q some before.
+      same_at 3 p q ∙ ap (λ (z : ℤ). z *ℤ power (pos (own t p q).c) 7) (same_yaw g d (moment (cue_times g) p q) drone (instant_inside g p q is some before));
 }
+  where
+    -- the drone's own moment is that of the cue
+    own_is : (p q : ℕ) → own (flight g d) p q ≡ moment (cue_times g) p q
+    own_is p q = ap (λ (ms : List ℕ). moment ms p q) (times_are (start_of g d) d g.cues)
+
+    turned : (x y a b : ℤ) → (a *ℤ x) ≡ (b *ℤ y) → (y *ℤ b) ≡ (x *ℤ a)
+    turned x y a b e = mul_comm_ℤ y b ∙ sym e ∙ mul_comm_ℤ a x
+
+    same_at : (axis p q : ℕ) → (decoded t axis (own t p q) *ℤ power (pos (moment (cue_times g) p q).c) 7)
+        ≡ (decoded (flight g d) axis (moment (cue_times g) p q) *ℤ power (pos (own t p q).c) 7)
+    same_at axis p q =
+        subst (λ (m : Moment). (decoded t axis (own t p q) *ℤ power (pos m.c) 7) ≡ (decoded (flight g d) axis m *ℤ power (pos (own t p q).c) 7)) (own_is p q)
+        (turned (decoded (flight g d) axis (own (flight g d) p q)) (decoded t axis (own t p q)) (power (pos (own t p q).c) 7) (power (pos (own (flight g d) p q).c) 7) (same axis p q))
+
+    near : (axis p q : ℕ) → NearAt g d axis (moment (cue_times g) p q) → FliesNearOn g d t axis p q
+    near axis p q at_cue =
+        near_lifts (written g d axis p q) (decoded (flight g d) axis (moment (cue_times g) p q)) (decoded t axis (own t p q)) (moment (cue_times g) p q).c (own t p q).c
+        at_cue (same_at axis p q)
+
+-- a drone's trajectory lasts as long as the show, cue by cue
+pub flight_lasts : (g : Grid) (d : ℕ) → d < length g.starts → durations (get_or (trajectories g) d no_trajectory).segments ≡ cue_times g
+flight_lasts g d drone = ap (λ (t : Traj). durations t.segments) (flight_at_is g d drone) ∙ times_are (start_of g d) d g.cues
 
 -- The trajectories of a valid grid keep near to its show.
 pub keeps_near_show : (g : Grid) → IsGrid g → KeepsNearShow g (trajectories g)
@@ -229,5 +262,6 @@ keeps_near_show g is =
       drones = count;
       near = λ d small.
           let drone : d < length g.starts = omega (arith, count) in
-          subst (λ (t : Traj). FliesNear g d t) (sym (flight_at_is g d drone)) (flies_near g d is drone);
+          subst (λ (t : Traj). FliesNear g d t) (sym (flight_at_is g d drone))
+          (flies_near g d (flight g d) is drone (λ axis p q. refl) (ap (λ (ms : List ℕ). sum ms) (times_are (start_of g d) d g.cues)));
     }

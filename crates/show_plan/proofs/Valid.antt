@@ -35,7 +35,7 @@ use Rattle.show_plan.specs.declared.fitted.PlanFault.TheVariants as fault
 use Rattle.show_plan.specs.Trajectories.{trajectories, cue_times}
 use Rattle.show_plan.specs.Flight.{no_trajectory}
 use Rattle.show_plan.specs.Fitting.{StandsAsWord, size, room, first_long, too_long, in_order, AreEncodings, IsFitted, FitGives, IsValidFitted}
-use Rattle.show_plan.proofs.Flight.{cues_last, times_counted, keeps_near_show}
+use Rattle.show_plan.proofs.Flight.{cues_last, flight_lasts, times_counted}
 use Rattle.show_plan.proofs.Sendable.{counted}
 
 -- ---- no fault
@@ -170,7 +170,7 @@ rows_fit space d (bytes ∷ rows) (t ∷ ts) none are =
 -- ---- all of it
 
 each_lasts : (g : Grid) → IsGrid g → All (λ (t : Traj). durations t.segments ≡ cue_times g) (trajectories g)
-each_lasts g is = All-from_get_or (λ (t : Traj). durations t.segments ≡ cue_times g) (trajectories g) no_trajectory (λ d small. ((keeps_near_show g is).near d small).lasts)
+each_lasts g is = All-from_get_or (λ (t : Traj). durations t.segments ≡ cue_times g) (trajectories g) no_trajectory (λ d small. flight_lasts g d (omega (arith, counted g)))
 
 valid_by : (f : Fitted) (s : PlainShow) → IsValid s → grid_fault s ≡ None → too_long s ≡ None → IsFitted f s → IsValidFitted f
 valid_by f s v none short is =

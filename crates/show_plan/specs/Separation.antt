@@ -1,15 +1,13 @@
 -- What keeps the drones of a show apart: a certificate with the largest possible leaves, or the first part of a cue in which no
 -- direction separates two drones.
-use Rattle.std.specs.Prelude.{◌≡◌, ℕ, ◌*◌, ◌≤◌, List, [], ◌∷◌, map, slice_get, Option, Some, None, Result, Ok, Err}
+use Rattle.std.specs.Prelude.{◌≡◌, ℕ, List, [], ◌∷◌, map, Option, Some, None, Result, Ok, Err}
 use Rattle.std.specs.Option.{option_map, option_or}
-use Rattle.std.specs.List.{All, sum}
-use Rattle.fleet_math.specs.Moments.{moment}
+use Rattle.std.specs.List.{All}
 use Rattle.halving.specs.declared.Place.{Place}
 use Rattle.traj_codec.specs.declared.traj.Traj.{Traj}
-use Rattle.traj_codec.specs.Positions.{durations}
 use Rattle.sep_parts.specs.declared.directions.TheConstants.{DIRECTIONS}
 use Rattle.sep_parts.specs.declared.slot.Slot.{Slot}
-use Rattle.sep_parts.specs.Apart.{AreApart}
+use Rattle.sep_parts.specs.Apart as apart
 use Rattle.sep_parts.specs.Levels.{root}
 use Rattle.sep_parts.specs.Raised.{Raised, difference, raised_of}
 use Rattle.sep_parts.specs.Slots.{slots}
@@ -72,8 +70,6 @@ abbrev pub IsShowClear : Settings → ℕ → List Traj → Type 0
 IsShowClear e depth trajs = All (IsSlotClear e depth (raised_of trajs)) (slots_of trajs)
 
 -- Each two different drones are apart at each instant p / q of the show, p and q any whole numbers: the closed ellipsoids around
--- their decoded positions share no point.
+-- their decoded positions, each by its own segment, share no point.
 abbrev pub FlyApart : Settings → List Traj → Type 0
-FlyApart e trajs =
-    (a b : ℕ) (t u : Traj) → (a ≡ b → ⊥) → slice_get trajs a ≡ Some t → slice_get trajs b ≡ Some u →
-    (p q : ℕ) → 1 ≤ q → p ≤ q * sum (durations t.segments) → AreApart t u e.r e.h (moment (durations t.segments) p q)
+FlyApart e trajs = apart.FlyApart e.r e.h trajs
