@@ -13,6 +13,8 @@ import sys
 TOP = os.path.dirname(os.path.dirname(os.path.abspath(__file__)))
 LONGEST_TEXT = 1048576
 MEMORY = 4096
+MOST_CUES = 1000
+MOST_SEGMENTS = 255
 ALLOWED = bytes([9, 13, *range(32, 127)])
 COORDINATE, YAW = (-100000000, 100000000), (-32768, 32767)
 POINT = [COORDINATE] * 3
@@ -265,7 +267,7 @@ def judge_names(show):
     if not show.body:
         raise fault(1, "no-cue")
     for k, line in enumerate(show.body):
-        if count(show, show.body[:k + 1]) > 255:
+        if count(show, show.body[:k + 1]) > MOST_CUES:
             raise fault(line.number, "too-many-cues")
 
 
@@ -382,9 +384,12 @@ class Verdict:
         if markers:
             raise Refused(11, "line %d" % markers[0], "marker line")
         names = [line.values[0] for line in show.drones]
-        self.sizes = [len(reference.bytes_of(start, flight)) for start, flight in zip(starts, flights)]
+        sent = [reference.joined(flight) for flight in flights]
+        self.sizes = [len(reference.bytes_of(start, flight)) for start, flight in zip(starts, sent)]
         room = MEMORY - show.settings["memory"][1]
-        for name, size in zip(names, self.sizes):
+        for name, size, flight in zip(names, self.sizes, sent):
+            if len(flight) > MOST_SEGMENTS:
+                raise Refused(4, "drone %s segments %d" % (name, len(flight)), "too many segments")
             if size > room:
                 raise Refused(4, "drone %s bytes %d room %d" % (name, size, room), "no room")
         self.flown, self.near = (names, starts, flights), not far_apart(show, flights)

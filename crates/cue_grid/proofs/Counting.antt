@@ -16,7 +16,8 @@ use Rattle.choreo_reader.specs.declared.show.Block.TheFolds.{map-Block}
 use Rattle.choreo_lines.specs.declared.parts.Frame.{Frame}
 use Rattle.std.specs.declared.alloc.Global.{Global}
 use Rattle.cue_grid.specs.Names.{figure_named}
-use Rattle.cue_grid.specs.Counts.{cue_limit, count_in, perform_count, count_of_figure, body_count, over_at, line_if_over}
+use Rattle.fleet_math.specs.Limits.{most_cues}
+use Rattle.cue_grid.specs.Counts.{count_in, perform_count, count_of_figure, body_count, over_at, line_if_over}
 use Rattle.cue_grid.specs.Steps.{line_in}
 
 -- blocks one after the other count their sum
@@ -75,10 +76,10 @@ perform_body_count figures c b line figure frame drones f e g =
 
 -- The first block with which there are too many.
 
-is_over : (n : ℕ) → cue_limit < n → nat_lt cue_limit n ≡ true
+is_over : (n : ℕ) → most_cues < n → nat_lt most_cues n ≡ true
 is_over n h = grind (arith, nat_tests)
 
-not_over : (n : ℕ) → n ≤ cue_limit → nat_lt cue_limit n ≡ false
+not_over : (n : ℕ) → n ≤ most_cues → nat_lt most_cues n ≡ false
 not_over n h = grind (arith, nat_tests)
 
 over_layer : (figures : List PlainFigure) (n : ℕ) (x : Block-F (Body → Body)) (rest : Body) → over_at figures n (block_step x rest) ≡ line_if_over (n + body_count figures (block_step x plain.Done)) (line_in (block_step x plain.Done)) (over_at figures (n + body_count figures (block_step x plain.Done)) rest)
@@ -100,13 +101,13 @@ over_first figures n bs i d h =
     ap (λ xs. over_at figures n (body_of xs)) (drop-cons bs i d h) ∙ over_block figures n (get_or bs i d) (body_of (drop (suc i) bs))
 
 -- the block at hand is the first with which there are too many
-pub over_here : (figures : List PlainFigure) (n c : ℕ) (bs : List Block) (i : ℕ) (d : Block) → i < length bs → c ≡ min (cue_limit + 1) (body_count figures (block_of (get_or bs i d) plain.Done)) → cue_limit < n + c → n ≤ cue_limit → over_at figures n (body_of (drop i bs)) ≡ Some (line_in (block_of (get_or bs i d) plain.Done))
+pub over_here : (figures : List PlainFigure) (n c : ℕ) (bs : List Block) (i : ℕ) (d : Block) → i < length bs → c ≡ min (most_cues + 1) (body_count figures (block_of (get_or bs i d) plain.Done)) → most_cues < n + c → n ≤ most_cues → over_at figures n (body_of (drop i bs)) ≡ Some (line_in (block_of (get_or bs i d) plain.Done))
 over_here figures n c bs i d h e g l =
     over_first figures n bs i d h
     ∙ ap (λ b. cond b (Some (line_in (block_of (get_or bs i d) plain.Done))) (over_at figures (n + body_count figures (block_of (get_or bs i d) plain.Done)) (body_of (drop (suc i) bs)))) (is_over (n + body_count figures (block_of (get_or bs i d) plain.Done)) (omega arith))
 
 -- it is not, so the first one is behind it
-pub over_later : (figures : List PlainFigure) (n c : ℕ) (bs : List Block) (i : ℕ) (d : Block) → i < length bs → c ≡ min (cue_limit + 1) (body_count figures (block_of (get_or bs i d) plain.Done)) → n + c ≤ cue_limit → over_at figures n (body_of (drop i bs)) ≡ over_at figures (n + c) (body_of (drop (i + 1) bs))
+pub over_later : (figures : List PlainFigure) (n c : ℕ) (bs : List Block) (i : ℕ) (d : Block) → i < length bs → c ≡ min (most_cues + 1) (body_count figures (block_of (get_or bs i d) plain.Done)) → n + c ≤ most_cues → over_at figures n (body_of (drop i bs)) ≡ over_at figures (n + c) (body_of (drop (i + 1) bs))
 over_later figures n c bs i d h e g =
     let same : body_count figures (block_of (get_or bs i d) plain.Done) ≡ c = omega arith in
     over_first figures n bs i d h

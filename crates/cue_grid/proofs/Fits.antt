@@ -20,7 +20,8 @@ use Rattle.choreo_lines.specs.declared.parts.Point.{Point}
 use Rattle.cue_grid.specs.Names.{same_name, formation_named, figure_named, place_named, places_in, names_of}
 use Rattle.cue_grid.specs.Frames.{no_frame}
 use Rattle.cue_grid.specs.Cues.{Playing, as_written, player, way_if, act_if, act_by, act_line_number, job_or, job_of, times_over, cues_in, nothing_performed, cues_of_figure, performed_cues, cues_of, grid_of}
-use Rattle.cue_grid.specs.Counts.{cue_limit, count_in, none_performed, figure_count, count_of_figure, perform_count, body_count, line_if_over, over_at}
+use Rattle.fleet_math.specs.Limits.{most_cues}
+use Rattle.cue_grid.specs.Counts.{count_in, none_performed, figure_count, count_of_figure, perform_count, body_count, line_if_over, over_at}
 use Rattle.cue_grid.specs.Faults.{drone_limit, line_of, perform_faults, body_faults, drones_faults, formations_faults, figures_faults, show_faults, name_faults, earlier_of, earliest, no_drone, too_many, many_drones, no_cue, many_cues, or_else, grid_fault}
 use Rattle.cue_grid.specs.Grids.{FitsJob, FitJobs, FitCues, IsGrid}
 use Rattle.cue_grid.specs.declared.grid.GridFault.{GridFault}
@@ -76,15 +77,15 @@ not_many_cues (Some line) h = cc
 
 -- How many cues there are.
 
-over_by : (b : Bool) (n line : ℕ) (later : Option ℕ) → nat_lt cue_limit n ≡ b → cond b (Some line) later ≡ None → (n ≤ cue_limit) × (later ≡ None)
+over_by : (b : Bool) (n line : ℕ) (later : Option ℕ) → nat_lt most_cues n ≡ b → cond b (Some line) later ≡ None → (n ≤ most_cues) × (later ≡ None)
 over_by true n line later e h = cc
 over_by false n line later e h = (grind (arith, nat_tests), h)
 
-not_over : (n line : ℕ) (later : Option ℕ) → line_if_over n line later ≡ None → (n ≤ cue_limit) × (later ≡ None)
-not_over n line later h = over_by (nat_lt cue_limit n) n line later refl h
+not_over : (n line : ℕ) (later : Option ℕ) → line_if_over n line later ≡ None → (n ≤ most_cues) × (later ≡ None)
+not_over n line later h = over_by (nat_lt most_cues n) n line later refl h
 
 -- where no block exceeds the limit, all together do not
-few : (figures : List PlainFigure) (n : ℕ) (b : Body) → n ≤ cue_limit → over_at figures n b ≡ None → n + body_count figures b ≤ cue_limit
+few : (figures : List PlainFigure) (n : ℕ) (b : Body) → n ≤ most_cues → over_at figures n b ≡ None → n + body_count figures b ≤ most_cues
 few figures n plain.Done l h = omega arith
 few figures n (plain.Cue line ms acts rest) l h =
     let k = not_over (n + 1) line (over_at figures (n + 1) rest) h in

@@ -1,13 +1,10 @@
 -- How many cues there are, without writing them out.
 use Rattle.std.specs.Prelude.{ℕ, ◌+◌, ◌*◌, List, Option, Some, None, nat_lt, if◌then◌else◌}
+use Rattle.fleet_math.specs.Limits.{most_cues}
 use Rattle.choreo_reader.specs.Plain as plain
 use Rattle.choreo_lines.specs.Name.{Name}
 use Rattle.choreo_reader.specs.Plain.{Body, PlainFigure, PlainShow}
 use Rattle.cue_grid.specs.Names.{figure_named}
-
--- so many cues a show may have
-abbrev pub cue_limit : ℕ
-cue_limit = 255
 
 -- the number of cues of blocks: a cue counts 1, a repeat its number times its body, and a perform what is handed in for its figure
 abbrev pub count_in : (Name → ℕ) → Body → ℕ
@@ -38,7 +35,7 @@ body_count figures b = count_in (perform_count figures) b
 
 -- this line, where the number of cues exceeds the limit, or else later
 abbrev pub line_if_over : ℕ → ℕ → Option ℕ → Option ℕ
-line_if_over n line later = if nat_lt cue_limit n then Some line else later
+line_if_over n line later = if nat_lt most_cues n then Some line else later
 
 -- the line of the first block with which the number of cues exceeds the limit, behind so many cues
 abbrev pub over_at : List PlainFigure → ℕ → Body → Option ℕ

@@ -2,9 +2,6 @@
 
 use choreo_reader::{Act, DroneLine, Frame, Listed};
 
-/// So many cues a show may have, repeats written out.
-pub const CUE_LIMIT: u32 = 255;
-
 /// What one drone does in a cue.
 #[derive(Clone, Copy, PartialEq, Eq, Debug)]
 pub struct Job {
@@ -30,7 +27,7 @@ pub struct Cue {
 pub struct Grid {
     /// The lines of the drones: 1 to 32.
     pub starts: Listed<DroneLine>,
-    /// The cues, repeats written out: 1 to 255.
+    /// The cues, repeats written out: 1 to 1,000.
     pub cues: Listed<Cue>,
 }
 
@@ -51,7 +48,7 @@ pub enum GridFault {
     RoleCount { line: u32 },
     /// There is no cue, repeat or perform outside the figures; named is line 1.
     NoCue { line: u32 },
-    /// There are more than 255 cues; named is the first block with which there are.
+    /// There are more than 1,000 cues; named is the first block with which there are.
     TooManyCues { line: u32 },
     /// Want of memory.
     Memory,

@@ -194,14 +194,14 @@ const NUMBERS_OF_CUES: [(&[u8], Outcome); 9] = [
         b"choreo 1\ndrone solo 0 0 1000000 0\n",
         Outcome::Fault(GridFault::NoCue { line: 1 }),
     ),
-    // 255 cues
+    // 1,000 cues
     (
-        b"choreo 1\ndrone solo 0 0 1000000 0\nrepeat 255\ncue 1000\nend\nend\n",
-        Outcome::Cues(255),
+        b"choreo 1\ndrone solo 0 0 1000000 0\nrepeat 1000\ncue 1000\nend\nend\n",
+        Outcome::Cues(1000),
     ),
-    // 256 cues
+    // 1,001 cues
     (
-        b"choreo 1\ndrone solo 0 0 1000000 0\nrepeat 256\ncue 1000\nend\nend\n",
+        b"choreo 1\ndrone solo 0 0 1000000 0\nrepeat 1001\ncue 1000\nend\nend\n",
         Outcome::Fault(GridFault::TooManyCues { line: 3 }),
     ),
     // eight repeats of a thousand million
@@ -209,9 +209,9 @@ const NUMBERS_OF_CUES: [(&[u8], Outcome); 9] = [
         b"choreo 1\ndrone solo 0 0 1000000 0\nrepeat 1000000000\nrepeat 1000000000\nrepeat 1000000000\nrepeat 1000000000\nrepeat 1000000000\nrepeat 1000000000\nrepeat 1000000000\nrepeat 1000000000\ncue 1000\nend\nend\nend\nend\nend\nend\nend\nend\nend\n",
         Outcome::Fault(GridFault::TooManyCues { line: 3 }),
     ),
-    // one cue behind 255
+    // one cue behind 1,000
     (
-        b"choreo 1\ndrone solo 0 0 1000000 0\nrepeat 255\ncue 1000\nend\nend\ncue 1\nend\n",
+        b"choreo 1\ndrone solo 0 0 1000000 0\nrepeat 1000\ncue 1000\nend\nend\ncue 1\nend\n",
         Outcome::Fault(GridFault::TooManyCues { line: 7 }),
     ),
     // repeats in repeats

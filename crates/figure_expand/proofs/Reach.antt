@@ -3,6 +3,7 @@ use Rattle.std.proofs.Common.{◌≡◌, ℕ, zero, suc, ◌+◌, ◌*◌, ◌^�
 use Rattle.std.specs.List.{All}
 use Rattle.std.proofs.lemmas.Int.{ints, to_z-of_z}
 use Rattle.std.proofs.lemmas.List.Elements.{All-nil, All-cons, All-get_or, All-tail}
+use Rattle.fleet_math.specs.Limits.{most_cues}
 use Rattle.choreo_lines.specs.declared.parts.Point.{Point}
 use Rattle.choreo_lines.specs.declared.parts.Frame.{Frame}
 use Rattle.choreo_lines.specs.declared.parts.Mirror.{Mirror}
@@ -173,15 +174,15 @@ end_small n p (act.Curve p1 p2 to) small fits = wider_point (2 ^ 28) (n + 2 ^ 30
 reach_more : (k : ℕ) → reach k + 2 ^ 30 ≡ reach (k + 1)
 reach_more k = omega arith
 
--- within reach after at most 255 cues
-pub reach_small : (k : ℕ) → k ≤ 255 → reach k ≤ 2 ^ 40
+-- within reach after at most 1,000 cues
+pub reach_small : (k : ℕ) → k ≤ most_cues → reach k ≤ 2 ^ 40
 reach_small k few = omega arith
 
 -- after one more cue
 pub end_in_reach : (k : ℕ) (p : Point) (j : Job) → IsPointUpTo (reach k) p → FitsJob j → IsPointUpTo (reach (k + 1)) (end_of p (act_of j))
 end_in_reach k p j small fits = subst (λ (n : ℕ). IsPointUpTo n (end_of p (act_of j))) (reach_more k) (end_small (reach k) p (act_of j) small (act_small j fits))
 
-pub point_in_reach : (k : ℕ) (p : Point) → k ≤ 255 → IsPointUpTo (reach k) p → IsPointUpTo (2 ^ 40) p
+pub point_in_reach : (k : ℕ) (p : Point) → k ≤ most_cues → IsPointUpTo (reach k) p → IsPointUpTo (2 ^ 40) p
 point_in_reach k p few small = wider_point (reach k) (2 ^ 40) p (reach_small k few) small
 
 -- ---- lists
@@ -229,7 +230,7 @@ points_in_reach k (p ∷ points) (j ∷ jobs) many small fit =
     (points_in_reach k points jobs (omega arith) (λ i d within. small (suc i) d (omega arith)) fit.1)
 
 -- all are within the bound
-pub all_small : (k : ℕ) (points : List Point) → k ≤ 255 → AreInReach k points → All (IsPointUpTo (2 ^ 40)) points
+pub all_small : (k : ℕ) (points : List Point) → k ≤ most_cues → AreInReach k points → All (IsPointUpTo (2 ^ 40)) points
 all_small k points few small = λ i d within. point_in_reach k (get_or points i d) few (small i d within)
 
 -- as many points as before

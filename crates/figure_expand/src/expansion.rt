@@ -1,6 +1,7 @@
 //! The pieces of a grid.
 
 ghost use Rattle.std.specs.Prelude.{◌≡◌, ◌<◌, ◌≤◌, ◌^◌, ℕ, None, map, length, IfOk, IfErr};
+ghost use Rattle.fleet_math.specs.Limits.{most_cues};
 ghost use Rattle.cue_grid.specs.Frames.{IsPointUpTo};
 ghost use Rattle.cue_grid.specs.Grids.{FitJobs, FitCues, IsGrid};
 ghost use Rattle.figure_expand.specs.Acts.{act_of, end_of};
@@ -42,7 +43,7 @@ fn pieces_of(
 ) -> Result<Vec<MicroPiece>, AllocError>
     requires start { IsPointUpTo (reach 0) start }
     requires drone { d < drones }
-    requires few { length cues.now ≤ 255 }
+    requires few { length cues.now ≤ most_cues }
     requires cues { FitCues drones cues.now }
     ensures { IfOk result (λ pieces. pieces.items ≡ pieces_from start d cues.now) }
 {

@@ -3,6 +3,7 @@
 ghost use Rattle.std.specs.Prelude.{◌≡◌, ◌+◌, ◌<◌, ◌≤◌, ◌^◌, length, IfOk};
 ghost use Rattle.std.specs.List.{All};
 ghost use Rattle.mm_rounding.specs.Rounding.{controls};
+ghost use Rattle.fleet_math.specs.Limits.{most_cues};
 ghost use Rattle.cue_grid.specs.Frames.{IsPointUpTo};
 ghost use Rattle.cue_grid.specs.Grids.{FitJobs, FitCues, IsGrid};
 ghost use Rattle.figure_expand.specs.Bounds.{AreInReach};
@@ -127,7 +128,7 @@ fn advance(points: &mut [Point], jobs: &[Job])
 // The first control value of these cues that does not fit; the drones start at these points.
 fn cues_fault(points: &mut [Point], cues: &[Cue]) -> Option<ExpandFault>
     requires points { AreInReach 0 points.old }
-    requires few { length cues.now ≤ 255 }
+    requires few { length cues.now ≤ most_cues }
     requires cues { FitCues (length points.old) cues.now }
     ensures { result ≡ first_unfit (values_from points.old cues.now) }
 {

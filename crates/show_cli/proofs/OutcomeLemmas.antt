@@ -16,7 +16,7 @@ use Rattle.figure_expand.specs.declared.fault.ExpandFault.TheVariants as expand
 use Rattle.figure_expand.specs.Expanded.{range_fault}
 use Rattle.show_plan.specs.declared.fitted.PlanFault.{PlanFault}
 use Rattle.show_plan.specs.declared.fitted.PlanFault.TheVariants as plan
-use Rattle.show_plan.specs.Fitting.{in_order, too_long}
+use Rattle.show_plan.specs.Fitting.{in_order, unsendable}
 use Rattle.show_plan.specs.Separation.{blocked_part}
 use Rattle.sep_parts.specs.declared.directions.TheConstants.{DIRECTIONS}
 use Rattle.sep_parts.specs.Raised.{Raised, raised_of}
@@ -131,6 +131,7 @@ plan_fails names depth None = tt
 plan_fails names depth (Some (plan.Grid f)) = λ e. omega (arith, e)
 plan_fails names depth (Some (plan.Expand (expand.OutOfRange line axis value))) = λ e. omega (arith, e)
 plan_fails names depth (Some (plan.Expand expand.Memory)) = λ e. omega (arith, e)
+plan_fails names depth (Some (plan.TooManySegments drone segments)) = λ e. omega (arith, e)
 plan_fails names depth (Some (plan.TooLong drone bytes room)) = λ e. omega (arith, e)
 plan_fails names depth (Some (plan.Blocked a b cue index)) = λ e. omega (arith, e)
 plan_fails names depth (Some plan.Memory) = λ e. omega (arith, e)
@@ -153,7 +154,7 @@ show_fails : (c : Command) (cut : Cut) (s : PlainShow) → Fails (show_refusal c
 show_fails c cut s =
     either_fails _ _ (plan_fails (names_of s) 0 (in_order (grid_fault s) (range_fault (grid_of s)) None))
     (either_fails _ _ (marker_fails c cut)
-    (either_fails _ _ (plan_fails (names_of s) 0 (too_long s)) (blocked_fails (depth_of_search c) s)))
+    (either_fails _ _ (plan_fails (names_of s) 0 (unsendable s)) (blocked_fails (depth_of_search c) s)))
 
 -- what a show comes to with status 0 is no refusal
 record IsAccepted (c : Command) (refused : Option Outcome) (s : PlainShow) (cut : Cut) (o : Outcome) : Type 0 where

@@ -16,9 +16,10 @@ use Rattle.figure_expand.specs.declared.fault.ExpandFault.TheVariants as expand
 use Rattle.figure_expand.specs.Expanded.{range_fault}
 use Rattle.show_plan.specs.declared.fitted.PlanFault.{PlanFault}
 use Rattle.show_plan.specs.declared.fitted.PlanFault.TheVariants as fault
-use Rattle.show_plan.specs.Fitting.{PlanFails, first_long, in_order, plan_fault, room, size, too_long}
-use Rattle.show_plan.specs.Trajectories.{trajectories}
-use Rattle.show_plan.proofs.Sendable.{counted}
+use Rattle.show_plan.specs.Fitting.{PlanFails, in_order, plan_fault, room, unsendable}
+use Rattle.show_plan.specs.Trajectories.{sent}
+use Rattle.show_plan.proofs.Flight.{sent_counted}
+use Rattle.show_plan.proofs.Sendable.{IsSendFault, unsendable_names}
 use Rattle.show_plan.proofs.Valid.{names_are_words}
 use Rattle.show_cli.proofs.AxisLemmas.{range_axis}
 use Rattle.show_cli.specs.declared.command.Command.{Command}
@@ -27,7 +28,7 @@ use Rattle.show_cli.specs.Outcome.{Cut, Outcome, blocked_by, depth_of_search, ma
 -- ---- four refusals in order
 
 module _ (to : PlanFault → Outcome) (early long : Option PlanFault) (marked search : Option Outcome) where
-  -- the first of a fault of names and numbers, a marker line, want of room, and a blocked part
+  -- the first of a fault of names and numbers, a marker line, what can't be sent, and a blocked part
   abbrev first_of : Option Outcome
   first_of = option_or (option_map to early) (option_or marked (option_or (option_map to long) search))
 
@@ -37,8 +38,8 @@ module _ (to : PlanFault → Outcome) (early long : Option PlanFault) (marked se
   by_marker : (o : Outcome) → early ≡ None → marked ≡ Some o → first_of ≡ Some o
   by_marker o none is = rw (none, is) refl
 
-  by_room : (f : PlanFault) → early ≡ None → marked ≡ None → long ≡ Some f → first_of ≡ Some (to f)
-  by_room f none unmarked is = rw (none, unmarked, is) refl
+  by_late : (f : PlanFault) → early ≡ None → marked ≡ None → long ≡ Some f → first_of ≡ Some (to f)
+  by_late f none unmarked is = rw (none, unmarked, is) refl
 
   by_search : early ≡ None → marked ≡ None → long ≡ None → first_of ≡ search
   by_search none unmarked fits = rw (none, unmarked, fits) refl
@@ -61,36 +62,48 @@ grid_fails (grid.NoCue line) s fails = fails
 grid_fails (grid.TooManyCues line) s fails = fails
 grid_fails grid.Memory s fails = absurd fails
 
--- the fault is that a trajectory is too long, of a drone among so many
-record IsLongAmong (n : ℕ) (f : PlanFault) : Type 0 where
-  pub drone : ℕ
-  pub bytes : ℕ
-  pub space : ℕ
-  pub is : f ≡ fault.TooLong drone bytes space
-  pub among : drone < n
+-- the fault is that a trajectory can't be sent
+abbrev pub IsLate : PlanFault → Type 0
+IsLate (fault.TooManySegments drone segments) = Unit {0}
+IsLate (fault.TooLong drone bytes space) = Unit {0}
+IsLate _ = ⊥
 
--- the first trajectory that is too long is that of a drone
-long_names : (space d : ℕ) (ts : List Traj) (f : PlanFault) → first_long space d ts ≡ Some f → IsLongAmong (d + length ts) f
-long_names space d [] f is = absurd (cc)
-long_names space d (t ∷ ts) f is = by_test (nat_le (size t) space) is (long_names space (d + 1) ts f)
-  where
-    by_test : (b : Bool) → cond b (first_long space (d + 1) ts) (Some (fault.TooLong d (size t) space)) ≡ Some f → (first_long space (d + 1) ts ≡ Some f → IsLongAmong (d + 1 + length ts) f) →
-        IsLongAmong (d + length (t ∷ ts)) f
-    by_test true is later = let named = later is in record { drone = named.drone; bytes = named.bytes; space = named.space; is = named.is; among = omega arith }
-    by_test false is later = record { drone = d; bytes = size t; space = space; is = cc; among = omega arith }
+-- the drone whose trajectory can't be
+abbrev pub drone_of : PlanFault → ℕ
+drone_of (fault.TooManySegments drone segments) = drone
+drone_of (fault.TooLong drone bytes space) = drone
+drone_of _ = 0
 
--- a fault is one of names and numbers, or these have none and it is one of room
+send_fault_late : (n : ℕ) (f : PlanFault) → IsSendFault n f → IsLate f × (drone_of f < n)
+send_fault_late n f named = elim named.is [
+  | inl many ↦ subst (λ (f : PlanFault). IsLate f × (drone_of f < n)) (sym many.1) (tt, named.among)
+  | inr long ↦ subst (λ (f : PlanFault). IsLate f × (drone_of f < n)) (sym long.2) (tt, named.among)
+]
+
+-- the first trajectory that can't be sent is that of a drone
+late_named : (s : PlainShow) (f : PlanFault) → unsendable s ≡ Some f → IsLate f × (drone_of f < length s.drones)
+late_named s f is =
+    let named = send_fault_late (0 + length (sent (grid_of s))) f (unsendable_names (room s) 0 (sent (grid_of s)) f is) in
+    (named.0, omega (arith, named.1, sent_counted (grid_of s)))
+
+-- a fault is one of names and numbers, or these have none and it is one of what can't be sent
 either : (a : Option GridFault) (b : Option ExpandFault) (long : Option PlanFault) (f : PlanFault) → in_order a b long ≡ Some f →
     (in_order a b None ≡ Some f) ⊎ ((in_order a b None ≡ None) × (long ≡ Some f))
 either (Some e) b long f is = inl is
 either None (Some e) long f is = inl is
 either None None long f is = inr (refl, is)
 
--- no fault of names and numbers is one of room
-not_early : (a : Option GridFault) (b : Option ExpandFault) (drone bytes space : ℕ) → in_order a b None ≡ Some (fault.TooLong drone bytes space) → ⊥
-not_early (Some e) b drone bytes space is = cc
-not_early None (Some e) drone bytes space is = cc
-not_early None None drone bytes space is = cc
+-- no fault of names and numbers is one of what can't be sent
+not_early : (a : Option GridFault) (b : Option ExpandFault) (f : PlanFault) → in_order a b None ≡ Some f → IsLate f → ⊥
+not_early (Some e) b f is late = subst IsLate (sym (inside (fault.Grid e) f is)) late
+  where
+    inside : (x y : PlanFault) → ◌≡◌ {A = Option PlanFault} (Some x) (Some y) → x ≡ y
+    inside x y is = cc
+not_early None (Some e) f is late = subst IsLate (sym (inside (fault.Expand e) f is)) late
+  where
+    inside : (x y : PlanFault) → ◌≡◌ {A = Option PlanFault} (Some x) (Some y) → x ≡ y
+    inside x y is = cc
+not_early None None f is late = absurd (cc)
 
 no_part : (a : Option GridFault) (b : Option ExpandFault) (long : Option PlanFault) → in_order a b long ≡ None → (in_order a b None ≡ None) × (long ≡ None)
 no_part (Some e) b long none = absurd (cc)
@@ -100,42 +113,32 @@ no_part None None long none = (refl, none)
 -- ---- of a show
 
 -- a fault of names and numbers comes first
-pub early_refused : (c : Command) (cut : Cut) (s : PlainShow) (f : PlanFault) → ((drone bytes space : ℕ) → f ≡ fault.TooLong drone bytes space → ⊥) →
-    plan_fault s ≡ Some f → show_refusal c cut s ≡ Some (no_plan (names_of s) 0 f)
-early_refused c cut s f other is = elim (either (grid_fault s) (range_fault (grid_of s)) (too_long s) f is) [
-  | inl early ↦ by_early (no_plan (names_of s) 0) (early_fault s) (too_long s) (marker_refusal c cut) (blocked_by (depth_of_search c) s) f early
-  | inr late ↦ let named = long_names (room s) 0 (trajectories (grid_of s)) f late.1 in absurd (other named.drone named.bytes named.space named.is)
+pub early_refused : (c : Command) (cut : Cut) (s : PlainShow) (f : PlanFault) → (IsLate f → ⊥) → plan_fault s ≡ Some f → show_refusal c cut s ≡ Some (no_plan (names_of s) 0 f)
+early_refused c cut s f other is = elim (either (grid_fault s) (range_fault (grid_of s)) (unsendable s) f is) [
+  | inl early ↦ by_early (no_plan (names_of s) 0) (early_fault s) (unsendable s) (marker_refusal c cut) (blocked_by (depth_of_search c) s) f early
+  | inr late ↦ absurd (other (late_named s f late.1).0)
 ]
 
--- where room is wanting, names and numbers have no fault
-pub long_late : (s : PlainShow) (drone bytes space : ℕ) → plan_fault s ≡ Some (fault.TooLong drone bytes space) →
-    (early_fault s ≡ None) × (too_long s ≡ Some (fault.TooLong drone bytes space))
-long_late s drone bytes space is = elim (either (grid_fault s) (range_fault (grid_of s)) (too_long s) (fault.TooLong drone bytes space) is) [
-  | inl early ↦ absurd (not_early (grid_fault s) (range_fault (grid_of s)) drone bytes space early)
+-- where a trajectory can't be sent, names and numbers have no fault
+pub late_is : (s : PlainShow) (f : PlanFault) → IsLate f → plan_fault s ≡ Some f → (early_fault s ≡ None) × (unsendable s ≡ Some f)
+late_is s f sends is = elim (either (grid_fault s) (range_fault (grid_of s)) (unsendable s) f is) [
+  | inl early ↦ absurd (not_early (grid_fault s) (range_fault (grid_of s)) f early sends)
   | inr late ↦ late
 ]
 
--- the drone that has no room is one of the show's
-pub long_drone : (s : PlainShow) (drone bytes space : ℕ) → plan_fault s ≡ Some (fault.TooLong drone bytes space) → drone < length s.drones
-long_drone s drone bytes space is =
-    let named = long_names (room s) 0 (trajectories (grid_of s)) (fault.TooLong drone bytes space) (long_late s drone bytes space is).1 in
-    let e : drone ≡ named.drone = same drone bytes space named.drone named.bytes named.space named.is in
-    omega (arith, e, named.among, counted (grid_of s))
-  where
-    same : (a b c d e f : ℕ) → fault.TooLong a b c ≡ fault.TooLong d e f → a ≡ d
-    same a b c d e f is = cc
+-- its drone is one of the show's
+pub late_drone : (s : PlainShow) (f : PlanFault) → IsLate f → plan_fault s ≡ Some f → drone_of f < length s.drones
+late_drone s f sends is = (late_named s f (late_is s f sends is).1).1
 
 -- a number that no trajectory can hold stands on one of four axes
 pub refused_axis : (s : PlainShow) (line axis : ℕ) (value : ℤ) → plan_fault s ≡ Some (fault.Expand (expand.OutOfRange line axis value)) → axis ≤ 3
 refused_axis s line axis value is = by_part (grid_fault s) (range_fault (grid_of s)) refl is
   where
-    by_part : (a : Option GridFault) (b : Option ExpandFault) → range_fault (grid_of s) ≡ b → in_order a b (too_long s) ≡ Some (fault.Expand (expand.OutOfRange line axis value)) → axis ≤ 3
+    by_part : (a : Option GridFault) (b : Option ExpandFault) → range_fault (grid_of s) ≡ b → in_order a b (unsendable s) ≡ Some (fault.Expand (expand.OutOfRange line axis value)) → axis ≤ 3
     by_part (Some e) b at is = absurd (cc)
     by_part None (Some e) at is = let same : e ≡ expand.OutOfRange line axis value = cc in range_axis (grid_of s) line axis value (at ∙ ap (λ (f : ExpandFault). Some f) same)
     by_part None None at is =
-        let named = long_names (room s) 0 (trajectories (grid_of s)) (fault.Expand (expand.OutOfRange line axis value)) is in
-        let other : fault.Expand (expand.OutOfRange line axis value) ≡ fault.TooLong named.drone named.bytes named.space = named.is in
-        absurd (cc)
+        absurd (late_named s (fault.Expand (expand.OutOfRange line axis value)) is).0
 
 -- ---- names
 
@@ -158,18 +161,18 @@ word_read ds xs k j d fit xs_are j_is inside =
 
 -- then comes a marker line
 pub marker_refused : (c : Command) (cut : Cut) (s : PlainShow) (o : Outcome) → early_fault s ≡ None → marker_refusal c cut ≡ Some o → show_refusal c cut s ≡ Some o
-marker_refused c cut s o none is = by_marker (no_plan (names_of s) 0) (early_fault s) (too_long s) (marker_refusal c cut) (blocked_by (depth_of_search c) s) o none is
+marker_refused c cut s o none is = by_marker (no_plan (names_of s) 0) (early_fault s) (unsendable s) (marker_refusal c cut) (blocked_by (depth_of_search c) s) o none is
 
--- then want of room
-pub room_refused : (c : Command) (cut : Cut) (s : PlainShow) (f : PlanFault) → early_fault s ≡ None → marker_refusal c cut ≡ None → too_long s ≡ Some f →
+-- then what can't be sent
+pub late_refused : (c : Command) (cut : Cut) (s : PlainShow) (f : PlanFault) → early_fault s ≡ None → marker_refusal c cut ≡ None → unsendable s ≡ Some f →
     show_refusal c cut s ≡ Some (no_plan (names_of s) 0 f)
-room_refused c cut s f none unmarked is = by_room (no_plan (names_of s) 0) (early_fault s) (too_long s) (marker_refusal c cut) (blocked_by (depth_of_search c) s) f none unmarked is
+late_refused c cut s f none unmarked is = by_late (no_plan (names_of s) 0) (early_fault s) (unsendable s) (marker_refusal c cut) (blocked_by (depth_of_search c) s) f none unmarked is
 
 -- a show that fits has none of these before the search
 pub fits_early : (s : PlainShow) → plan_fault s ≡ None → early_fault s ≡ None
-fits_early s fits = (no_part (grid_fault s) (range_fault (grid_of s)) (too_long s) fits).0
+fits_early s fits = (no_part (grid_fault s) (range_fault (grid_of s)) (unsendable s) fits).0
 
 pub search_left : (c : Command) (cut : Cut) (s : PlainShow) → plan_fault s ≡ None → marker_refusal c cut ≡ None → show_refusal c cut s ≡ blocked_by (depth_of_search c) s
 search_left c cut s fits unmarked =
-    let none = no_part (grid_fault s) (range_fault (grid_of s)) (too_long s) fits in
-    by_search (no_plan (names_of s) 0) (early_fault s) (too_long s) (marker_refusal c cut) (blocked_by (depth_of_search c) s) none.0 unmarked none.1
+    let none = no_part (grid_fault s) (range_fault (grid_of s)) (unsendable s) fits in
+    by_search (no_plan (names_of s) 0) (early_fault s) (unsendable s) (marker_refusal c cut) (blocked_by (depth_of_search c) s) none.0 unmarked none.1

@@ -12,7 +12,7 @@ use Rattle.show_cli.specs.declared.answer.Status.TheVariants.{Done, FaultyShow, 
 use Rattle.show_cli.specs.declared.answer.Output.{Output}
 use Rattle.show_cli.specs.declared.answer.Output.TheVariants.{Line, Text, Bytes}
 use Rattle.show_cli.specs.declared.answer.Answer.{Answer}
-use Rattle.show_cli.specs.Outcome.{Outcome, trajectories_of}
+use Rattle.show_cli.specs.Outcome.{Outcome, sent_of}
 
 -- the number that the program ends with
 abbrev pub status_number : Status → ℕ
@@ -44,7 +44,7 @@ IsFaultAmong drones (cert.Extra tree) = tree < 2 ^ 31
 IsFaultAmong drones (cert.TooDeep a b cue) = (a < drones) × (b < drones)
 IsFaultAmong drones (cert.Fails a b cue place dir control) = (a < drones) × (b < drones) × (dir < direction_count)
 
--- the trajectories of the show keep near to it and keep each two drones apart, at every instant
+-- what the drones of the show are sent keeps near to it and keeps each two drones apart, at every instant
 pub record IsSafeShow (s : PlainShow) : Type 0 where
-  pub near : KeepsNearShow (grid_of s) (trajectories_of s)
-  pub apart : FlyApart s.settings (trajectories_of s)
+  pub near : KeepsNearShow (grid_of s) (sent_of s)
+  pub apart : FlyApart s.settings (sent_of s)

@@ -28,11 +28,11 @@ use Rattle.sep_certificate.specs.Texts.{Says, bad_line, text_of}
 use Rattle.fault_lines.specs.Lines as refuse
 use Rattle.show_plan.specs.declared.fitted.PlanFault.{PlanFault}
 use Rattle.show_plan.specs.declared.fitted.PlanFault.TheVariants as plan
-use Rattle.show_plan.specs.Fitting.{in_order, too_long}
+use Rattle.show_plan.specs.Fitting.{in_order, unsendable}
 use Rattle.show_plan.specs.Flight.{KeepsNearShow}
 use Rattle.show_plan.specs.Separation.{FlyApart, best_certificate, blocked_part}
 use Rattle.show_plan.specs.Texts.{ok_line, plan_text, valid_line}
-use Rattle.show_plan.specs.Trajectories.{cue_times, trajectories}
+use Rattle.show_plan.specs.Trajectories.{by_cue, cue_times, sent}
 use Rattle.show_cli.specs.declared.command.Command.{Command}
 use Rattle.show_cli.specs.declared.command.Command.TheVariants.{Check, Compile, Certify, Verify}
 
@@ -85,9 +85,13 @@ marker_number text = suc (feeds text)
 abbrev pub names_of : PlainShow → List Name
 names_of s = drones.names_of s.drones
 
--- the trajectories of a show's drones
+-- the trajectories of a show's drones, one segment a cue
 abbrev pub trajectories_of : PlainShow → List Traj
-trajectories_of s = trajectories (grid_of s)
+trajectories_of s = by_cue (grid_of s)
+
+-- what a show's drones are sent: these with their holds joined
+abbrev pub sent_of : PlainShow → List Traj
+sent_of s = sent (grid_of s)
 
 -- the name of a drone, which counts from 0
 abbrev pub name_at : List Name → ℕ → List ℕ
@@ -106,6 +110,7 @@ abbrev pub no_plan : List Name → ℕ → PlanFault → Outcome
 no_plan names depth (plan.Grid f) = outcome 3 (refuse.grid_line f)
 no_plan names depth (plan.Expand (expand.OutOfRange line axis value)) = outcome 3 (refuse.range_line line axis value)
 no_plan names depth (plan.Expand expand.Memory) = outcome 1 []
+no_plan names depth (plan.TooManySegments drone segments) = outcome 4 (refuse.segments_line (name_at names drone) segments)
 no_plan names depth (plan.TooLong drone bytes room) = outcome 4 (refuse.room_line (name_at names drone) bytes room)
 no_plan names depth (plan.Blocked a b cue index) = outcome 5 (refuse.blocked_line (name_at names a) (name_at names b) cue index depth)
 no_plan names depth plan.Memory = outcome 1 []
@@ -127,12 +132,12 @@ abbrev pub blocked_by : Option ℕ → PlainShow → Option Outcome
 blocked_by None s = None
 blocked_by (Some depth) s = option_map (no_plan (names_of s) depth) (blocked_part s.settings depth (trajectories_of s))
 
--- The first refusal of a show: its names and cues, its numbers, a marker line, room, separation.
+-- The first refusal of a show: its names and cues, its numbers, a marker line, what can't be sent, separation.
 abbrev pub show_refusal : Command → Cut → PlainShow → Option Outcome
 show_refusal c cut s =
     option_or (option_map (no_plan (names_of s) 0) (in_order (grid_fault s) (range_fault (grid_of s)) None))
     (option_or (marker_refusal c cut)
-    (option_or (option_map (no_plan (names_of s) 0) (too_long s))
+    (option_or (option_map (no_plan (names_of s) 0) (unsendable s))
     (blocked_by (depth_of_search c) s)))
 
 -- ---- certificates
@@ -168,7 +173,7 @@ SecondGives None s cut o = (c : Certificate) × Says cut.second c × (o ≡ judg
 abbrev pub ShowGives : Command → Option Outcome → PlainShow → Cut → Outcome → Type 0
 ShowGives c (Some refused) s cut o = o ≡ refused
 ShowGives (Check depth) None s cut o = o ≡ outcome 0 (ok_line (length s.drones) (length (grid_of s).cues) (sum (cue_times (grid_of s))))
-ShowGives (Compile depth) None s cut o = o ≡ outcome 0 (plan_text (names_of s) (trajectories_of s))
+ShowGives (Compile depth) None s cut o = o ≡ outcome 0 (plan_text (names_of s) (sent_of s))
 ShowGives (Certify depth) None s cut o = o ≡ outcome 0 (text_of (best_certificate s.settings depth (trajectories_of s)))
 ShowGives Verify None s cut o = SecondGives (second_refusal cut) s cut o
 
@@ -192,12 +197,12 @@ OutcomeLaw = (c : Command) (cut : Cut) (o p : Outcome) → IsOutcomeOf c cut o �
 
 -- ---- what status 0 promises
 
--- The show's text stands for a show whose drones' trajectories keep near to it at every instant, and keep each two drones apart
+-- The show's text stands for a show, and what its drones are sent keeps near to it at every instant, and keeps each two drones apart
 -- at every instant; nothing refuses the show, and this outcome is what the command answers for it.
 pub record IsSafe (c : Command) (cut : Cut) (o : Outcome) : Type 0 where
   pub s : PlainShow
   pub stands : StandsFor cut.show s
-  pub near : KeepsNearShow (grid_of s) (trajectories_of s)
-  pub apart : FlyApart s.settings (trajectories_of s)
+  pub near : KeepsNearShow (grid_of s) (sent_of s)
+  pub apart : FlyApart s.settings (sent_of s)
   pub accepted : show_refusal c cut s ≡ None
   pub gives : ShowGives c None s cut o

@@ -34,7 +34,7 @@ fn answer_unmarked(
     requires short { IsWithin certificate_limit second.now }
     ensures gives { (s : PlainShow) (cut : Cut) → IsFitted fitted.now s → IsSecond command second.now cut
         → IfOk result (λ a. ShowGives command (blocked_by (depth_of_search command) s) s cut (outcome_of a)) }
-    ensures apart { IfOk result (λ a. status_number a.status ≡ 0 → FlyApart fitted.now.settings fitted.now.trajs) }
+    ensures apart { IfOk result (λ a. status_number a.status ≡ 0 → FlyApart fitted.now.settings fitted.now.sent) }
     ensures whole { IfOk result (λ a. status_number a.status ≡ 0 → command ≡ Command.Verify → IsUnmarked second.now) }
 {
     match command {
@@ -60,7 +60,7 @@ fn answer_fitted(
     ensures gives { (s : PlainShow) (cut : Cut) → plan_fault s ≡ None → IsFitted fitted.now s
         → IsText show_limit (Text.Whole part.now) cut.show cut.is_marked → IsSecond command second.now cut
         → IfOk result (λ a. ShowGives command (show_refusal command cut s) s cut (outcome_of a)) }
-    ensures apart { IfOk result (λ a. status_number a.status ≡ 0 → FlyApart fitted.now.settings fitted.now.trajs) }
+    ensures apart { IfOk result (λ a. status_number a.status ≡ 0 → FlyApart fitted.now.settings fitted.now.sent) }
     ensures whole { IfOk result (λ a. status_number a.status ≡ 0 → EndsUnmarked command (Text.Whole part.now) second.now) }
 {
     match marker_refusal(command, part) {

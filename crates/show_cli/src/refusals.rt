@@ -21,7 +21,7 @@ use choreo_reader::{Name, Show};
 use cue_grid::GridFault;
 use fault_lines::{
     blocked_line, extra_line, fails_line, grid_line, missing_line, range_line, room_line,
-    second_line, too_deep_line,
+    second_line, segments_line, too_deep_line,
 };
 use figure_expand::ExpandFault;
 use fleet_io::Part;
@@ -96,6 +96,29 @@ fn without_room(
     }
 }
 
+// A drone of the show whose trajectory has too many segments, unless a marker line is refused before.
+fn without_segments(
+    command: Command,
+    show: &Show,
+    part: &Part,
+    drone: u8,
+    segments: u32,
+) -> Answer
+    requires valid { IsValid (plain show.now) }
+    requires short { length part.now.bytes.items ≤ show_limit }
+    requires fault { PlanFails (PlanFault.TooManySegments drone segments) (plain show.now) }
+    ensures gives { (cut : Cut) → IsText show_limit (Text.Whole part.now) cut.show cut.is_marked → show_refusal command cut (plain show.now) ≡ Some (outcome_of result) }
+    ensures refused { IsRefusal result.status }
+{
+    match marker_refusal(command, part) {
+        Some(answer) => answer,
+        None => {
+            let name = &show.drones.as_slice()[usize::from(drone)].name;
+            answer_line(Status::NoRoom, segments_line(name, segments))
+        }
+    }
+}
+
 /// Why a show doesn't fit.
 pub fn unfit(
     command: Command,
@@ -121,6 +144,9 @@ pub fn unfit(
             }
             ExpandFault::Memory => unreachable!(),
         },
+        PlanFault::TooManySegments { drone, segments } => {
+            Ok(without_segments(command, show, part, drone, segments))
+        }
         PlanFault::TooLong { drone, bytes, room } => {
             Ok(without_room(command, show, part, drone, bytes, room))
         }

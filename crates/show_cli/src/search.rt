@@ -20,7 +20,7 @@ pub fn check(alloc: Global, fitted: &Fitted, depth: u8) -> Result<Answer, AllocE
     requires depth { depth ≤ most_depth }
     ensures gives { (s : PlainShow) (cut : Cut) → IsFitted fitted.now s
         → IfOk result (λ a. ShowGives (Command.Check depth) (blocked_by (Some depth) s) s cut (outcome_of a)) }
-    ensures apart { IfOk result (λ a. status_number a.status ≡ 0 → FlyApart fitted.now.settings fitted.now.trajs) }
+    ensures apart { IfOk result (λ a. status_number a.status ≡ 0 → FlyApart fitted.now.settings fitted.now.sent) }
 {
     if let Err(fault) = certificate(alloc, fitted, depth) {
         return unseparated(fitted, depth, fault);
@@ -36,7 +36,7 @@ pub fn compile(alloc: Global, fitted: &Fitted, depth: u8) -> Result<Answer, Allo
     requires depth { depth ≤ most_depth }
     ensures gives { (s : PlainShow) (cut : Cut) → IsFitted fitted.now s
         → IfOk result (λ a. ShowGives (Command.Compile depth) (blocked_by (Some depth) s) s cut (outcome_of a)) }
-    ensures apart { IfOk result (λ a. status_number a.status ≡ 0 → FlyApart fitted.now.settings fitted.now.trajs) }
+    ensures apart { IfOk result (λ a. status_number a.status ≡ 0 → FlyApart fitted.now.settings fitted.now.sent) }
 {
     match certificate(alloc, fitted, depth) {
         Ok(_) => {
@@ -56,7 +56,7 @@ pub fn certify(alloc: Global, fitted: &Fitted, depth: u8) -> Result<Answer, Allo
     requires depth { depth ≤ most_depth }
     ensures gives { (s : PlainShow) (cut : Cut) → IsFitted fitted.now s
         → IfOk result (λ a. ShowGives (Command.Certify depth) (blocked_by (Some depth) s) s cut (outcome_of a)) }
-    ensures apart { IfOk result (λ a. status_number a.status ≡ 0 → FlyApart fitted.now.settings fitted.now.trajs) }
+    ensures apart { IfOk result (λ a. status_number a.status ≡ 0 → FlyApart fitted.now.settings fitted.now.sent) }
 {
     match certificate(alloc, fitted, depth) {
         Ok(found) => {

@@ -214,7 +214,7 @@ data 00 00 00 00 E8 03 00 00 54 E8 03 E8 03 DC 05 84 03 00 00 00\nend\n";
     assert_eq!(rt; status, 0);
     assert!(rt;
         sink.written()
-            .starts_with(b"plan 1\ndrone solo bytes 776 pieces 255\n")
+            .starts_with(b"plan 1\ndrone solo bytes 23 pieces 4\n")
     );
     Ok(())
 }
@@ -284,8 +284,14 @@ fn faulty_shows(rt: HostRuntime) -> Result<(), Fail> {
 // A marker line, want of room, drones that come too near, in this order.
 #[test]
 fn refused_shows(rt: HostRuntime) -> Result<(), Fail> {
-    let rows: [(&[u8], &[u8], u8, &[u8]); 5] = [
+    let rows: [(&[u8], &[u8], u8, &[u8]); 6] = [
         (SHOW, MARKER, 11, b"error 11 line 6\n"),
+        (
+            START,
+            b"repeat 128\ncue 1000\nsolo line 100000 0 1000000 0\nend\ncue 1000\nsolo line 0 0 1000000 0\nend\nend\n",
+            4,
+            b"error 4 drone solo segments 256\n",
+        ),
         (
             WITHOUT_ROOM,
             b"",
@@ -321,7 +327,7 @@ cue 1000\nend\nend\nend\nend\nend\nend\nend\nend\nend\nend\n";
 const FAULTY_CUES: [(&[u8], &[u8], &[u8]); 10] = [
     (
         START,
-        b"repeat 256\ncue 1000\nend\nend\n",
+        b"repeat 1001\ncue 1000\nend\nend\n",
         b"error 3 line 3 too-many-cues\n",
     ),
     (START, EIGHT_REPEATS, b"error 3 line 3 too-many-cues\n"),

@@ -15,6 +15,7 @@ use crate::refusals::{invalid, marker_number};
 use fault_lines::{second_line, second_too_large_line};
 use fleet_io::Part;
 use sep_certificate::{CertTextFault, Certificate, Curves, check, read_certificate};
+use sep_parts::apart_law;
 use show_plan::{Fitted, valid_line};
 use std::alloc::{AllocError, Global};
 
@@ -23,8 +24,9 @@ fn judge(alloc: Global, fitted: &Fitted, certificate: &Certificate) -> Result<An
     requires valid { IsValidFitted fitted.now }
     requires whole { IsWhole direction_count certificate.now }
     ensures gives { (s : PlainShow) → IsFitted fitted.now s → IfOk result (λ a. outcome_of a ≡ judged_for s certificate.now) }
-    ensures apart { IfOk result (λ a. status_number a.status ≡ 0 → FlyApart fitted.now.settings fitted.now.trajs) }
+    ensures apart { IfOk result (λ a. status_number a.status ≡ 0 → FlyApart fitted.now.settings fitted.now.sent) }
 {
+    apart_law();
     let curves = Curves::of_slice(alloc, fitted.trajs.as_slice())?;
     match check(&curves, fitted.settings.r, fitted.settings.h, certificate) {
         Ok(()) => {
@@ -41,7 +43,7 @@ fn judge_text(alloc: Global, fitted: &Fitted, part: &Part) -> Result<Answer, All
     requires short { length part.now.bytes.items ≤ certificate_limit }
     ensures gives { (s : PlainShow) (cut : Cut) → IsFitted fitted.now s → IsText certificate_limit (Text.Whole part.now) cut.second cut.is_second_marked
         → IfOk result (λ a. SecondGives (second_refusal cut) s cut (outcome_of a)) }
-    ensures apart { IfOk result (λ a. status_number a.status ≡ 0 → FlyApart fitted.now.settings fitted.now.trajs) }
+    ensures apart { IfOk result (λ a. status_number a.status ≡ 0 → FlyApart fitted.now.settings fitted.now.sent) }
     ensures whole { IfOk result (λ a. status_number a.status ≡ 0 → IsUnmarked (Text.Whole part.now)) }
 {
     let certificate = match read_certificate(alloc, &part.bytes) {
@@ -65,7 +67,7 @@ pub fn verify(alloc: Global, fitted: &Fitted, second: &Text) -> Result<Answer, A
     requires short { IsWithin certificate_limit second.now }
     ensures gives { (s : PlainShow) (cut : Cut) → IsFitted fitted.now s → IsText certificate_limit second.now cut.second cut.is_second_marked
         → IfOk result (λ a. SecondGives (second_refusal cut) s cut (outcome_of a)) }
-    ensures apart { IfOk result (λ a. status_number a.status ≡ 0 → FlyApart fitted.now.settings fitted.now.trajs) }
+    ensures apart { IfOk result (λ a. status_number a.status ≡ 0 → FlyApart fitted.now.settings fitted.now.sent) }
     ensures whole { IfOk result (λ a. status_number a.status ≡ 0 → IsUnmarked second.now) }
 {
     match second {

@@ -2,9 +2,12 @@
 use Rattle.std.proofs.Common.{◌≡◌, ℕ, zero, suc, ◌*◌, ◌^◌, ◌≤◌, ◌<◌, arith, refl, sym, ap, subst, List, [], ◌∷◌, ◌++◌, length, length-append, map, All, Option, Some, None}
 use Rattle.std.specs.Option.{option_map, option_or}
 use Rattle.std.proofs.lemmas.List.{length-map}
-use Rattle.std.proofs.lemmas.List.Elements.{All-nil, All-cons, All-append}
+use Rattle.std.proofs.lemmas.List.Elements.{All-nil, All-cons, All-head, All-tail, All-append}
 use Rattle.halving.specs.declared.Place.{Place}
 use Rattle.traj_codec.specs.declared.traj.Traj.{Traj}
+use Rattle.traj_codec.specs.Joined.{IsLasting}
+use Rattle.traj_codec.specs.Positions.{durations}
+use Rattle.sep_parts.specs.Apart.{SentLaw}
 use Rattle.sep_parts.specs.declared.directions.TheConstants.{DIRECTIONS}
 use Rattle.sep_parts.specs.declared.slot.Slot.{Slot}
 use Rattle.sep_parts.specs.Directions.{direction_count}
@@ -19,6 +22,8 @@ use Rattle.sep_certificate.specs.Laws.{CertificateLaw}
 use Rattle.pair_search.specs.Laws.{SearchLaw}
 use Rattle.pair_search.specs.Search.{best_tree, split_of}
 use Rattle.choreo_reader.specs.declared.show.Settings.{Settings}
+use Rattle.show_plan.specs.declared.fitted.Fitted.{Fitted}
+use Rattle.show_plan.specs.Fitting.{IsValidFitted}
 use Rattle.show_plan.specs.Separation.{FlyApart, IsShowClear, IsSlotClear, best_certificate, best_nodes, blocked_in, blocked_part, direction_at, nodes_of, slots_of}
 use Rattle.show_plan.specs.Steps.{blocked_slot}
 use Rattle.show_plan.proofs.SeparationLaws.{all_clear, none_first, slot_law}
@@ -160,3 +165,15 @@ certified e depth trajs curves trees law keeps shallow stands is found =
     let all : trees ≡ map (best_nodes e depth (raised_of trajs)) (slots_of trajs) = subst (λ (c : Raised). trees ≡ map (best_nodes e depth c) (slots c.drones c.cues)) is found.1 in
     subst (λ (ts : List (List Node)). IsCertified e depth trajs (record { depth = depth; trees = ts })) (sym all)
     (best_certified e depth trajs law keeps shallow (subst (λ (c : Raised). CurvesStandFor c trajs) is stands) none)
+
+-- What is sent flies apart where the trajectories by cue do.
+pub sent_flies_apart : (f : Fitted) → IsValidFitted f → SentLaw → FlyApart f.settings f.trajs → FlyApart f.settings f.sent
+sent_flies_apart f valid law apart =
+    subst (FlyApart f.settings) (sym valid.sent) (law f.settings.r f.settings.h f.trajs (all_lasting f.trajs valid.lasting) apart)
+  where
+    all_lasting : (ts : List Traj) → All (λ (t : Traj). durations t.segments ≡ valid.times) ts → All IsLasting ts
+    all_lasting [] all = All-nil IsLasting
+    all_lasting (t ∷ ts) all =
+        All-cons IsLasting t ts
+        (subst (λ (ms : List ℕ). All (λ ms. 1 ≤ ms) ms) (sym (All-head (λ (t : Traj). durations t.segments ≡ valid.times) t ts all)) valid.last)
+        (all_lasting ts (All-tail (λ (t : Traj). durations t.segments ≡ valid.times) t ts all))

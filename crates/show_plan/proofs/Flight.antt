@@ -1,6 +1,7 @@
 -- The trajectories of a grid are near to what the show says, at every instant.
 use Rattle.std.proofs.Common.{◌≡◌, ℕ, zero, suc, ◌+◌, ◌*◌, ◌<◌, ◌≤◌, ℤ, pos, ◌*ℤ◌, List, [], ◌∷◌, map, take, length, get_or, sum, arith, refl, sym, ap, ◌∙◌, subst}
 use Rattle.std.specs.List.{All}
+use Rattle.std.proofs.lemmas.List.{get_or-map, length-map}
 use Rattle.std.proofs.lemmas.List.Elements.{All-nil, All-cons, All-get_or}
 use Rattle.fleet_math.specs.Bernstein.{at}
 use Rattle.fleet_math.specs.Moments.{Moment, moment}
@@ -21,7 +22,8 @@ use Rattle.traj_codec.specs.declared.traj.Element.{Element}
 use Rattle.traj_codec.specs.declared.traj.Traj.{Traj}
 use Rattle.traj_codec.specs.Spelling.{stored}
 use Rattle.traj_codec.specs.Positions.{element_on, value_after, piece_on, durations, decoded}
-use Rattle.traj_codec.specs.Joined.{own, SameCurve}
+use Rattle.traj_codec.specs.Joined.{own, joined, IsLasting, SameCurve}
+use Rattle.traj_codec.proofs.JoinedLemmas.{join_holds_law}
 use Rattle.traj_codec.proofs.PositionLemmas.{decoded-points}
 use Rattle.mm_rounding.specs.declared.piece.Axis.{Axis}
 use Rattle.mm_rounding.specs.declared.piece.Axis.TheVariants.{One}
@@ -34,7 +36,7 @@ use Rattle.figure_expand.specs.Controls.{axes_of, piece_of}
 use Rattle.figure_expand.specs.Expanded.{job_in, no_job, pieces_from, expanded_from, expanded}
 use Rattle.figure_expand.specs.Flown.{start_of, jobs_in, job_at, point_before, piece_at, written_at}
 use Rattle.figure_expand.proofs.Pieces.{row_is, piece_begins, piece_ends, piece_whole, flies_as_written}
-use Rattle.show_plan.specs.Trajectories.{start_at, trajectory_of, trajectories_of, trajectories, cue_times}
+use Rattle.show_plan.specs.Trajectories.{start_at, trajectory_of, trajectories_of, by_cue, sent, cue_times}
 use Rattle.show_plan.specs.Flight.{FliesNearOn, FliesNear, written, no_trajectory, KeepsNearShow}
 
 -- ---- the ends of axes
@@ -61,13 +63,13 @@ axis_is : (p : Point) (ms : ℕ) (j : Job) (axis : ℕ) → axis < 4 → IsAxis 
 axis_is p ms j axis small = All-get_or IsAxis (axes_of p (act_of j)) axis (One (pos 0)) small (piece_whole p ms j)
 
 -- a segment leads from where the drone is to where its act ends, both rounded
-joined : (p : Point) (ms : ℕ) (j : Job) (axis : ℕ) → axis < 4 →
+goes_on : (p : Point) (ms : ℕ) (j : Job) (axis : ℕ) → axis < 4 →
     value_after (at (start_at p) axis) (element_on (segment_of (piece_of p ms j)) axis) ≡ at (start_at (end_of p (act_of j))) axis
-joined p ms j zero small = leads (axis_on (piece_of p ms j) 0) _ _ (axis_is p ms j 0 small) (piece_begins p ms j 0 small) (piece_ends p ms j 0 small)
-joined p ms j (suc zero) small = leads (axis_on (piece_of p ms j) 1) _ _ (axis_is p ms j 1 small) (piece_begins p ms j 1 small) (piece_ends p ms j 1 small)
-joined p ms j (suc (suc zero)) small = leads (axis_on (piece_of p ms j) 2) _ _ (axis_is p ms j 2 small) (piece_begins p ms j 2 small) (piece_ends p ms j 2 small)
-joined p ms j (suc (suc (suc zero))) small = leads_yaw (axis_on (piece_of p ms j) 3) _ _ (axis_is p ms j 3 small) (piece_begins p ms j 3 small) (piece_ends p ms j 3 small)
-joined p ms j (suc (suc (suc (suc axis)))) small = absurd (omega arith)
+goes_on p ms j zero small = leads (axis_on (piece_of p ms j) 0) _ _ (axis_is p ms j 0 small) (piece_begins p ms j 0 small) (piece_ends p ms j 0 small)
+goes_on p ms j (suc zero) small = leads (axis_on (piece_of p ms j) 1) _ _ (axis_is p ms j 1 small) (piece_begins p ms j 1 small) (piece_ends p ms j 1 small)
+goes_on p ms j (suc (suc zero)) small = leads (axis_on (piece_of p ms j) 2) _ _ (axis_is p ms j 2 small) (piece_begins p ms j 2 small) (piece_ends p ms j 2 small)
+goes_on p ms j (suc (suc (suc zero))) small = leads_yaw (axis_on (piece_of p ms j) 3) _ _ (axis_is p ms j 3 small) (piece_begins p ms j 3 small) (piece_ends p ms j 3 small)
+goes_on p ms j (suc (suc (suc (suc axis)))) small = absurd (omega arith)
 
 -- the piece of a drone in a cue
 piece_is : (p : Point) (d : ℕ) (cues : List Cue) (k : ℕ) (other : MicroPiece) → k < length cues →
@@ -84,7 +86,7 @@ points_are first p d [] k axis other within small is = absurd (omega arith)
 points_are first p d (cue ∷ cues) zero axis other within small is = ap (λ (z : ℤ). z ∷ stored (element_on (segment_of (piece_of p cue.ms (job_in cue d))) axis)) is
 points_are first p d (cue ∷ cues) (suc k) axis other within small is =
     points_are (value_after first (element_on (segment_of (piece_of p cue.ms (job_in cue d))) axis)) (end_of p (act_of (job_in cue d))) d cues k axis other (omega arith) small
-    (ap (λ (z : ℤ). value_after z (element_on (segment_of (piece_of p cue.ms (job_in cue d))) axis)) is ∙ joined p cue.ms (job_in cue d) axis small)
+    (ap (λ (z : ℤ). value_after z (element_on (segment_of (piece_of p cue.ms (job_in cue d))) axis)) is ∙ goes_on p cue.ms (job_in cue d) axis small)
 
 -- the segments last as long as the cues
 times_are : (p : Point) (d : ℕ) (cues : List Cue) → durations (map segment_of (pieces_from p d cues)) ≡ map (λ (cue : Cue). cue.ms) cues
@@ -109,6 +111,10 @@ pub flights_counted : (first : ℕ) (starts : List DroneLine) (cues : List Cue) 
 flights_counted first [] cues = refl
 flights_counted first (s ∷ starts) cues = ap suc (flights_counted (first + 1) starts cues)
 
+pub by_cue_counted : (g : Grid) → length (by_cue g) ≡ length g.starts
+unfolding expanded
+by_cue_counted g = flights_counted 0 g.starts g.cues
+
 -- the piece of a drone in a cue of a grid
 piece_at_is : (g : Grid) (d k : ℕ) → d < length g.starts → k < length g.cues →
     piece_at g d k ≡ piece_of (point_before g d k) (get_or (cue_times g) k 0) (job_at g d k)
@@ -123,7 +129,7 @@ piece_at_is g d k drone cue =
 abbrev pub flight : Grid → ℕ → Traj
 flight g d = trajectory_of (start_of g d) (pieces_from (start_of g d) d g.cues)
 
-pub flight_at_is : (g : Grid) (d : ℕ) → d < length g.starts → get_or (trajectories g) d no_trajectory ≡ flight g d
+pub flight_at_is : (g : Grid) (d : ℕ) → d < length g.starts → get_or (by_cue g) d no_trajectory ≡ flight g d
 unfolding expanded
 flight_at_is g d drone =
     let e : 0 + d ≡ d = omega arith in
@@ -250,18 +256,28 @@ flies_near g d t is drone same lasts = record {
         at_cue (same_at axis p q)
 
 -- a drone's trajectory lasts as long as the show, cue by cue
-pub flight_lasts : (g : Grid) (d : ℕ) → d < length g.starts → durations (get_or (trajectories g) d no_trajectory).segments ≡ cue_times g
+pub flight_lasts : (g : Grid) (d : ℕ) → d < length g.starts → durations (get_or (by_cue g) d no_trajectory).segments ≡ cue_times g
 flight_lasts g d drone = ap (λ (t : Traj). durations t.segments) (flight_at_is g d drone) ∙ times_are (start_of g d) d g.cues
 
--- The trajectories of a valid grid keep near to its show.
-pub keeps_near_show : (g : Grid) → IsGrid g → KeepsNearShow g (trajectories g)
-unfolding expanded
-keeps_near_show g is =
-    let count : length (trajectories g) ≡ length g.starts = flights_counted 0 g.starts g.cues in
-    record {
-      drones = count;
-      near = λ d small.
-          let drone : d < length g.starts = omega (arith, count) in
-          subst (λ (t : Traj). FliesNear g d t) (sym (flight_at_is g d drone))
-          (flies_near g d (flight g d) is drone (λ axis p q. refl) (ap (λ (ms : List ℕ). sum ms) (times_are (start_of g d) d g.cues)));
-    }
+-- what a place of the trajectories that are sent has
+sent_at_is : (g : Grid) (d : ℕ) → d < length g.starts → get_or (sent g) d no_trajectory ≡ joined (flight g d)
+sent_at_is g d drone =
+    get_or-map joined (by_cue g) d no_trajectory no_trajectory (omega (arith, by_cue_counted g, drone)) ∙ ap joined (flight_at_is g d drone)
+
+pub sent_counted : (g : Grid) → length (sent g) ≡ length g.starts
+sent_counted g = length-map (by_cue g) joined ∙ by_cue_counted g
+
+flight_is_lasting : (g : Grid) (d : ℕ) → IsGrid g → IsLasting (flight g d)
+flight_is_lasting g d is =
+    subst (λ (ms : List ℕ). All (λ ms. 1 ≤ ms) ms) (sym (times_are (start_of g d) d g.cues)) (cues_last (length g.starts) g.cues is.cues)
+
+-- What is sent of a valid grid keeps near to its show.
+pub keeps_near_show : (g : Grid) → IsGrid g → KeepsNearShow g (sent g)
+keeps_near_show g is = record {
+  drones = sent_counted g;
+  near = λ d small.
+      let drone : d < length g.starts = omega (arith, sent_counted g) in
+      subst (λ (t : Traj). FliesNear g d t) (sym (sent_at_is g d drone))
+      (flies_near g d (joined (flight g d)) is drone (join_holds_law.same (flight g d) (flight_is_lasting g d is))
+      (join_holds_law.lasts (flight g d) ∙ ap (λ (ms : List ℕ). sum ms) (times_are (start_of g d) d g.cues)));
+}

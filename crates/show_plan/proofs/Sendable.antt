@@ -1,8 +1,11 @@
 -- Trajectories and their bytes one after another, and what is known of those of a valid grid.
-use Rattle.std.proofs.Common.{◌≡◌, ℕ, suc, ◌+◌, ◌<◌, ◌≤◌, Bool, true, false, cond, Option, Some, None, IfOk, Ok, Err, Result, Vec, Global, List, [], ◌∷◌, ◌++◌, map, take, drop, append_assoc, length, get_or, nat_le, arith, refl, sym, ap, ◌∙◌, subst}
+use Rattle.std.proofs.Common.{◌≡◌, ◌⊎◌, inl, inr, ℕ, suc, ◌+◌, ◌<◌, ◌≤◌, Bool, true, false, cond, Option, Some, None, IfOk, Ok, Err, Result, Vec, Global, List, [], ◌∷◌, ◌++◌, map, take, drop, append_assoc, length, get_or, nat_le, arith, refl, sym, ap, ◌∙◌, subst}
 use Rattle.std.specs.List.{All}
+use Rattle.std.specs.Option.{option_or}
+use Rattle.std.specs.Prelude.{nat_lt}
+use Rattle.std.proofs.lemmas.Bool.Decides.{nat_tests}
 use Rattle.std.proofs.lemmas.List.{drop_more, take_more, get_or-map}
-use Rattle.std.proofs.lemmas.List.Elements.{All-nil, All-cons, All-get_or, All-from_get_or}
+use Rattle.std.proofs.lemmas.List.Elements.{All-nil, All-cons, All-head, All-tail, All-get_or, All-from_get_or}
 use Rattle.choreo_lines.specs.declared.parts.Point.{Point}
 use Rattle.choreo_reader.specs.declared.show.DroneLine.{DroneLine}
 use Rattle.choreo_reader.specs.Plain.{PlainShow}
@@ -13,7 +16,9 @@ use Rattle.cue_grid.specs.Cues.{grid_of}
 use Rattle.cue_grid.specs.Faults.{grid_fault}
 use Rattle.cue_grid.specs.Grids.{FitCues, IsGrid}
 use Rattle.traj_codec.specs.declared.traj.Traj.{Traj}
-use Rattle.traj_codec.specs.Spelling.{IsEncoding, HasDuration}
+use Rattle.traj_codec.specs.Joined.{joined}
+use Rattle.traj_codec.specs.Spelling.{IsEncoding, HasDuration, most_segments}
+use Rattle.traj_codec.proofs.JoinedLemmas.{durations_of, join_holds_law, lasting_of}
 use Rattle.mm_rounding.specs.declared.piece.MicroPiece.{MicroPiece}
 use Rattle.mm_rounding.specs.Rounding.{segment_of}
 use Rattle.figure_expand.specs.Acts.{act_of, end_of}
@@ -24,10 +29,10 @@ use Rattle.figure_expand.specs.Flown.{start_of, RoundsWell}
 use Rattle.show_plan.specs.declared.fitted.Fitted.{Fitted}
 use Rattle.show_plan.specs.declared.fitted.PlanFault.{PlanFault}
 use Rattle.show_plan.specs.declared.fitted.PlanFault.TheVariants as fault
-use Rattle.show_plan.specs.Trajectories.{trajectory_of, trajectories_of, trajectories}
+use Rattle.show_plan.specs.Trajectories.{trajectory_of, trajectories_of, by_cue, sent}
 use Rattle.show_plan.specs.Flight.{no_trajectory, KeepsNearShow}
-use Rattle.show_plan.specs.Fitting.{IsSendable, size, room, first_long, too_long, in_order, plan_fault, AreEncodings, PlanFails, FitGives}
-use Rattle.show_plan.proofs.Flight.{flight, flight_at_is, flights_counted, keeps_near_show}
+use Rattle.show_plan.specs.Fitting.{IsFlown, IsSendable, size, room, send_fault, first_unsendable, unsendable, in_order, plan_fault, AreEncodings, PlanFails, FitGives}
+use Rattle.show_plan.proofs.Flight.{by_cue_counted, flight, flight_at_is, keeps_near_show}
 
 -- ---- lists as the code has them
 
@@ -93,14 +98,9 @@ unfolding expanded
 rows_counted g = rows_from 0 g.starts g.cues
 
 -- the trajectories as the code makes them
-pub all_are : (g : Grid) (starts : List DroneLine) (rows : List (List MicroPiece)) (ts : List Traj) → starts ≡ g.starts → rows ≡ expanded g → ts ≡ trajectories_of starts rows → ts ≡ trajectories g
+pub all_are : (g : Grid) (starts : List DroneLine) (rows : List (List MicroPiece)) (ts : List Traj) → starts ≡ g.starts → rows ≡ expanded g → ts ≡ trajectories_of starts rows → ts ≡ by_cue g
 all_are g starts rows ts starts_are rows_are ts_are =
     ts_are ∙ ap (λ (ss : List DroneLine). trajectories_of ss rows) starts_are ∙ ap (λ (rs : List (List MicroPiece)). trajectories_of g.starts rs) rows_are
-
--- there is one for each drone
-pub counted : (g : Grid) → length (trajectories g) ≡ length g.starts
-unfolding expanded
-counted g = flights_counted 0 g.starts g.cues
 
 segments_counted : (p : Point) (d : ℕ) (cues : List Cue) → length (map segment_of (pieces_from p d cues)) ≡ length cues
 segments_counted p d [] = refl
@@ -112,57 +112,137 @@ segments_last n p d (cue ∷ cues) fit =
     All-cons HasDuration (segment_of (piece_of p cue.ms (job_in cue d))) (map segment_of (pieces_from (end_of p (act_of (job_in cue d))) d cues))
     fit.0.lasts (segments_last n (end_of p (act_of (job_in cue d))) d cues fit.1)
 
-flight_sendable : (g : Grid) (d : ℕ) → IsGrid g → IsSendable (flight g d)
-flight_sendable g d is =
-    let few : length g.cues ≤ 255 = is.few_cues in
-    record {
-      few = omega (arith, few, segments_counted (start_of g d) d g.cues);
-      last = segments_last (length g.starts) (start_of g d) d g.cues is.cues;
-    }
+flight_flown : (g : Grid) (d : ℕ) → IsGrid g → IsFlown (flight g d)
+flight_flown g d is = record {
+  few = omega (arith, is.few_cues, segments_counted (start_of g d) d g.cues);
+  last = segments_last (length g.starts) (start_of g d) d g.cues is.cues;
+}
 
--- Each can be sent.
-pub sendable : (g : Grid) → IsGrid g → All IsSendable (trajectories g)
-sendable g is =
-    All-from_get_or IsSendable (trajectories g) no_trajectory
-    (λ d small. subst IsSendable (sym (flight_at_is g d (omega (arith, counted g)))) (flight_sendable g d is))
+-- the trajectories of a grid have at most 1,000 segments, each of which lasts some time
+pub flown : (g : Grid) → IsGrid g → All IsFlown (by_cue g)
+flown g is =
+    All-from_get_or IsFlown (by_cue g) no_trajectory
+    (λ d small. subst IsFlown (sym (flight_at_is g d (omega (arith, by_cue_counted g)))) (flight_flown g d is))
 
--- ---- what is too long
+-- and at least one
+pub has_segments : (g : Grid) → IsGrid g → All (λ (t : Traj). 1 ≤ length t.segments) (by_cue g)
+has_segments g is =
+    All-from_get_or (λ (t : Traj). 1 ≤ length t.segments) (by_cue g) no_trajectory
+    (λ d small. subst (λ (t : Traj). 1 ≤ length t.segments) (sym (flight_at_is g d (omega (arith, by_cue_counted g))))
+    (omega (arith, is.some_cue, segments_counted (start_of g d) d g.cues)))
 
--- the fault is that some trajectory is too long
-record IsTooLong (f : PlanFault) : Type 0 where
+joined_flown : (t : Traj) → IsFlown t → IsFlown (joined t)
+joined_flown t is = record {
+  few = omega (arith, is.few, join_holds_law.fewer t);
+  last = durations_of (joined t) (join_holds_law.last t (lasting_of t is.last));
+}
+
+all_joined_flown : (ts : List Traj) → All IsFlown ts → All IsFlown (map joined ts)
+all_joined_flown [] all = All-nil IsFlown
+all_joined_flown (t ∷ ts) all = All-cons IsFlown (joined t) (map joined ts) (joined_flown t (All-head IsFlown t ts all)) (all_joined_flown ts (All-tail IsFlown t ts all))
+
+-- so has what is sent
+pub sent_flown : (g : Grid) → IsGrid g → All IsFlown (sent g)
+sent_flown g is = all_joined_flown (by_cue g) (flown g is)
+
+-- what is sent, as the code makes it
+pub sent_are : (g : Grid) (ts all : List Traj) → ts ≡ by_cue g → all ≡ map joined ts → all ≡ sent g
+sent_are g ts all ts_are all_are = all_are ∙ ap (map joined) ts_are
+
+-- ---- what can't be sent
+
+-- a trajectory that can be sent has few segments, and bytes that have room
+pub one_sendable : (space d : ℕ) (t : Traj) → send_fault space d t ≡ None → (length t.segments ≤ most_segments) × (size t ≤ space)
+one_sendable space d t none = by_tests (nat_lt most_segments (length t.segments)) (nat_le (size t) space) refl refl none
+  where
+    few_told : (m n : ℕ) → nat_lt m n ≡ false → n ≤ m
+    few_told m n e = grind (arith, nat_tests)
+
+    room_told : (m n : ℕ) → nat_le m n ≡ true → m ≤ n
+    room_told m n e = grind (arith, nat_tests)
+
+    by_tests : (a b : Bool) → nat_lt most_segments (length t.segments) ≡ a → nat_le (size t) space ≡ b →
+        cond a (Some (fault.TooManySegments d (length t.segments))) (cond b None (Some (fault.TooLong d (size t) space))) ≡ None → (length t.segments ≤ most_segments) × (size t ≤ space)
+    by_tests true b p q none = absurd (cc)
+    by_tests false true p q none = (few_told most_segments (length t.segments) p, room_told (size t) space q)
+    by_tests false false p q none = absurd (cc)
+
+-- the first one and the others
+pub none_unsendable : (space d : ℕ) (t : Traj) (ts : List Traj) → first_unsendable space d (t ∷ ts) ≡ None → (send_fault space d t ≡ None) × (first_unsendable space (d + 1) ts ≡ None)
+none_unsendable space d t ts none = by_first (send_fault space d t) none
+  where
+    by_first : (o : Option PlanFault) → option_or o (first_unsendable space (d + 1) ts) ≡ None → (o ≡ None) × (first_unsendable space (d + 1) ts ≡ None)
+    by_first None none = (refl, none)
+    by_first (Some f) none = absurd (cc)
+
+-- where none is named, each can be sent
+pub sendable : (space d : ℕ) (ts : List Traj) → All IsFlown ts → first_unsendable space d ts ≡ None → All IsSendable ts
+sendable space d [] all none = All-nil IsSendable
+sendable space d (t ∷ ts) all none =
+    let parts = none_unsendable space d t ts none in
+    All-cons IsSendable t ts (record { few = (one_sendable space d t parts.0).0; last = (All-head IsFlown t ts all).last })
+    (sendable space (d + 1) ts (All-tail IsFlown t ts all) parts.1)
+
+-- the fault is that a trajectory can't be sent, of a drone from d on
+pub record IsSendFault (n : ℕ) (f : PlanFault) : Type 0 where
   pub drone : ℕ
-  pub bytes : ℕ
-  pub space : ℕ
-  pub is : f ≡ fault.TooLong drone bytes space
+  pub is : ((segments : ℕ) × (f ≡ fault.TooManySegments drone segments)) ⊎ ((bytes : ℕ) × (space : ℕ) × (f ≡ fault.TooLong drone bytes space))
+  pub among : drone < n
 
--- the fault of the first long trajectory is that it is too long
-long_is : (space d : ℕ) (ts : List Traj) (f : PlanFault) → first_long space d ts ≡ Some f → IsTooLong f
-long_is space d [] f is = absurd (cc)
-long_is space d (t ∷ ts) f is = by_test (nat_le (size t) space) is (long_is space (d + 1) ts f)
+send_names : (space d : ℕ) (t : Traj) (f : PlanFault) (n : ℕ) → d < n → send_fault space d t ≡ Some f → IsSendFault n f
+send_names space d t f n small is = by_tests (nat_lt most_segments (length t.segments)) (nat_le (size t) space) is
   where
-    by_test : (fits : Bool) → cond fits (first_long space (d + 1) ts) (Some (fault.TooLong d (size t) space)) ≡ Some f → (first_long space (d + 1) ts ≡ Some f → IsTooLong f) → IsTooLong f
-    by_test true is later = later is
-    by_test false is later = record { drone = d; bytes = size t; space = space; is = cc }
+    by_tests : (a b : Bool) → cond a (Some (fault.TooManySegments d (length t.segments))) (cond b None (Some (fault.TooLong d (size t) space))) ≡ Some f → IsSendFault n f
+    by_tests true b is = record { drone = d; is = inl (length t.segments, cc); among = small }
+    by_tests false true is = absurd (cc)
+    by_tests false false is = record { drone = d; is = inr (size t, space, cc); among = small }
 
-long_fails : (s : PlainShow) (f : PlanFault) → IsTooLong f → plan_fault s ≡ Some f → PlanFails f s
-long_fails s f long is = subst (λ (f : PlanFault). PlanFails f s) (sym long.is) (is ∙ ap (λ (f : PlanFault). Some f) long.is)
+-- the first trajectory that can't be sent is that of a drone
+pub unsendable_names : (space d : ℕ) (ts : List Traj) (f : PlanFault) → first_unsendable space d ts ≡ Some f → IsSendFault (d + length ts) f
+unsendable_names space d [] f is = absurd (cc)
+unsendable_names space d (t ∷ ts) f is = by_first (send_fault space d t) refl is (unsendable_names space (d + 1) ts f)
+  where
+    by_first : (o : Option PlanFault) → send_fault space d t ≡ o → option_or o (first_unsendable space (d + 1) ts) ≡ Some f →
+        (first_unsendable space (d + 1) ts ≡ Some f → IsSendFault (d + 1 + length ts) f) → IsSendFault (d + length (t ∷ ts)) f
+    by_first None e is later = let named = later is in record { drone = named.drone; is = named.is; among = omega (arith, named.among) }
+    by_first (Some g) e is later = send_names space d t f (d + length (t ∷ ts)) (omega arith) (e ∙ is)
 
--- Where names, cues and numbers have no fault, the first trajectory that is too long is the reason why the show has no plan.
-pub long_given : (s : PlainShow) (g : Grid) (space : ℕ) (ts : List Traj) (f : PlanFault) →
-    grid_fault s ≡ None → g ≡ grid_of s → range_fault g ≡ None → space ≡ room s → ts ≡ trajectories g → Some f ≡ first_long space 0 ts → PlanFails f s
-long_given s g space ts f unrolled is fits space_is ts_are long =
+send_fails : (s : PlainShow) (n : ℕ) (f : PlanFault) → IsSendFault n f → plan_fault s ≡ Some f → PlanFails f s
+send_fails s n f named is = elim named.is [
+  | inl many ↦ subst (λ (f : PlanFault). PlanFails f s) (sym many.1) (is ∙ ap (λ (f : PlanFault). Some f) many.1)
+  | inr long ↦ subst (λ (f : PlanFault). PlanFails f s) (sym long.2) (is ∙ ap (λ (f : PlanFault). Some f) long.2)
+]
+
+-- Where names, cues and numbers have no fault, the first trajectory that can't be sent is the reason why the show has no plan.
+pub unsendable_given : (s : PlainShow) (g : Grid) (space : ℕ) (ts : List Traj) (f : PlanFault) →
+    grid_fault s ≡ None → g ≡ grid_of s → range_fault g ≡ None → space ≡ room s → ts ≡ sent g → Some f ≡ first_unsendable space 0 ts → PlanFails f s
+unsendable_given s g space ts f unrolled is fits space_is ts_are late =
     let range : range_fault (grid_of s) ≡ None = subst (λ (g : Grid). range_fault g ≡ None) is fits in
-    let here : too_long s ≡ Some f =
-    sym (long ∙ ap (λ (n : ℕ). first_long n 0 ts) space_is ∙ ap (first_long (room s) 0) (ts_are ∙ ap trajectories is)) in
-    long_fails s f (long_is space 0 ts f (sym long)) (by_order (grid_fault s) (range_fault (grid_of s)) unrolled range here)
+    let here : unsendable s ≡ Some f =
+    sym (late ∙ ap (λ (n : ℕ). first_unsendable n 0 ts) space_is ∙ ap (first_unsendable (room s) 0) (ts_are ∙ ap sent is)) in
+    send_fails s (0 + length ts) f (unsendable_names space 0 ts f (sym late)) (by_order (grid_fault s) (range_fault (grid_of s)) unrolled range here)
   where
-    by_order : (a : Option GridFault) (b : Option ExpandFault) → a ≡ None → b ≡ None → too_long s ≡ Some f → in_order a b (too_long s) ≡ Some f
+    by_order : (a : Option GridFault) (b : Option ExpandFault) → a ≡ None → b ≡ None → unsendable s ≡ Some f → in_order a b (unsendable s) ≡ Some f
+    by_order None None p q here = here
+    by_order (Some e) b p q here = absurd (cc)
+    by_order None (Some e) p q here = absurd (cc)
+
+-- Where these have no fault and each trajectory can be sent, the show has a plan.
+pub fits_given : (s : PlainShow) (g : Grid) (space : ℕ) (ts : List Traj) →
+    grid_fault s ≡ None → g ≡ grid_of s → range_fault g ≡ None → space ≡ room s → ts ≡ sent g → first_unsendable space 0 ts ≡ None → plan_fault s ≡ None
+fits_given s g space ts unrolled is fits space_is ts_are none =
+    let range : range_fault (grid_of s) ≡ None = subst (λ (g : Grid). range_fault g ≡ None) is fits in
+    let here : unsendable s ≡ None =
+    sym (ap (λ (n : ℕ). first_unsendable n 0 ts) space_is ∙ ap (first_unsendable (room s) 0) (ts_are ∙ ap sent is)) ∙ none in
+    by_order (grid_fault s) (range_fault (grid_of s)) unrolled range here
+  where
+    by_order : (a : Option GridFault) (b : Option ExpandFault) → a ≡ None → b ≡ None → unsendable s ≡ None → in_order a b (unsendable s) ≡ None
     by_order None None p q here = here
     by_order (Some e) b p q here = absurd (cc)
     by_order None (Some e) p q here = absurd (cc)
 
 -- What fits is near to the show.
-pub near_given : (r : Result Fitted PlanFault) (s : PlainShow) (g : Grid) → FitGives r s → IsGrid g → g ≡ grid_of s → IfOk r (λ f. KeepsNearShow (grid_of s) f.trajs)
+pub near_given : (r : Result Fitted PlanFault) (s : PlainShow) (g : Grid) → FitGives r s → IsGrid g → g ≡ grid_of s → IfOk r (λ f. KeepsNearShow (grid_of s) f.sent)
 near_given (Ok f) s g gives is e =
-    subst (λ (ts : List Traj). KeepsNearShow (grid_of s) ts) (sym gives.1.trajs) (keeps_near_show (grid_of s) (subst IsGrid e is))
+    subst (λ (ts : List Traj). KeepsNearShow (grid_of s) ts) (sym gives.1.sent) (keeps_near_show (grid_of s) (subst IsGrid e is))
 near_given (Err f) s g gives is e = tt

@@ -76,6 +76,7 @@ module _ (e : Settings) (depth : ℕ) (curves : Raised) where
       Finds (blocked_slot e depth curves slot) (best_nodes e depth curves slot) (Err f) → blocked_in e depth curves rest ≡ whole → Finds whole wanted (Err f)
   blocked_next rest next slot whole wanted (fault.Grid f) is finds same = finds
   blocked_next rest next slot whole wanted (fault.Expand f) is finds same = finds
+  blocked_next rest next slot whole wanted (fault.TooManySegments drone segments) is finds same = finds
   blocked_next rest next slot whole wanted (fault.TooLong drone bytes room) is finds same = finds
   blocked_next rest next slot whole wanted (fault.Blocked a b cue index) is finds same =
       sym same ∙ ap (blocked_in e depth curves) is ∙ ap (λ (o : Option PlanFault). option_or o (blocked_in e depth curves next)) finds

@@ -2,7 +2,6 @@
 use Rattle.std.proofs.Common.{◌≡◌, ℕ, suc, ◌+◌, ◌-◌, ◌<◌, ◌≤◌, Bool, true, false, cond, Option, Some, None, IfOk, Ok, Err, Result, List, [], ◌∷◌, ◌++◌, map, length, nat_le, eqb, arith, refl, sym, ap, ◌∙◌, subst}
 use Rattle.std.specs.Prelude.{◌||◌, nat_lt}
 use Rattle.std.specs.List.{All}
-use Rattle.std.proofs.lemmas.Bool.Decides.{nat_tests}
 use Rattle.std.proofs.lemmas.List.{get_or_default}
 use Rattle.std.proofs.lemmas.List.Elements.{All-nil, All-cons, All-from_get_or}
 use Rattle.std.proofs.lemmas.Slice.Eq.{bytes_eq-Decides}
@@ -26,17 +25,18 @@ use Rattle.cue_grid.proofs.Fits.{fit_grid}
 use Rattle.cue_grid.proofs.Tables.{same_is}
 use Rattle.traj_codec.specs.declared.traj.Traj.{Traj}
 use Rattle.traj_codec.specs.Positions.{durations}
-use Rattle.traj_codec.specs.Spelling.{ending, IsEncoding}
+use Rattle.traj_codec.specs.Joined.{joined}
+use Rattle.traj_codec.specs.Spelling.{ending, most_segments, IsEncoding}
 use Rattle.figure_expand.specs.declared.fault.ExpandFault.{ExpandFault}
 use Rattle.figure_expand.specs.Expanded.{range_fault}
 use Rattle.show_plan.specs.declared.fitted.Fitted.{Fitted}
 use Rattle.show_plan.specs.declared.fitted.PlanFault.{PlanFault}
 use Rattle.show_plan.specs.declared.fitted.PlanFault.TheVariants as fault
-use Rattle.show_plan.specs.Trajectories.{trajectories, cue_times}
+use Rattle.show_plan.specs.Trajectories.{by_cue, sent, cue_times}
 use Rattle.show_plan.specs.Flight.{no_trajectory}
-use Rattle.show_plan.specs.Fitting.{StandsAsWord, size, room, first_long, too_long, in_order, AreEncodings, IsFitted, FitGives, IsValidFitted}
-use Rattle.show_plan.proofs.Flight.{cues_last, flight_lasts, times_counted}
-use Rattle.show_plan.proofs.Sendable.{counted}
+use Rattle.show_plan.specs.Fitting.{StandsAsWord, size, room, first_unsendable, unsendable, in_order, AreEncodings, IsFitted, FitGives, IsValidFitted}
+use Rattle.show_plan.proofs.Flight.{by_cue_counted, cues_last, flight_lasts, times_counted}
+use Rattle.show_plan.proofs.Sendable.{none_unsendable, one_sendable}
 
 -- ---- no fault
 
@@ -143,41 +143,37 @@ names_counted (d ∷ ds) = ap suc (names_counted ds)
 
 -- ---- bytes
 
--- a trajectory that isn't too long, and none behind it is
-short_enough : (space d : ℕ) (t : Traj) (ts : List Traj) → first_long space d (t ∷ ts) ≡ None → (size t ≤ space) × (first_long space (d + 1) ts ≡ None)
-short_enough space d t ts none = by_test (nat_le (size t) space) refl none
-  where
-    by_test : (b : Bool) → nat_le (size t) space ≡ b → cond b (first_long space (d + 1) ts) (Some (fault.TooLong d (size t) space)) ≡ None →
-        (size t ≤ space) × (first_long space (d + 1) ts ≡ None)
-    by_test true test none = (told (size t) space test, none)
-      where
-        told : (m n : ℕ) → nat_le m n ≡ true → m ≤ n
-        told m n test = grind (arith, nat_tests)
-    by_test false test none = absurd (cc)
-
 encoding_size : (bytes : List ℕ) (t : Traj) → IsEncoding bytes t → length bytes ≡ size t
 encoding_size bytes t is = ap (λ (xs : List ℕ). length xs) (is.ended ∙ ap (λ (spelled : List ℕ). spelled ++ ending) is.spells.text)
 
--- where no trajectory is too long, each has room
-rows_fit : (space d : ℕ) (rows : List (List ℕ)) (ts : List Traj) → first_long space d ts ≡ None → AreEncodings rows ts → All (λ (bytes : List ℕ). length bytes ≤ space) rows
+-- where each trajectory can be sent, its bytes have room
+rows_fit : (space d : ℕ) (rows : List (List ℕ)) (ts : List Traj) → first_unsendable space d ts ≡ None → AreEncodings rows ts → All (λ (bytes : List ℕ). length bytes ≤ space) rows
 rows_fit space d [] [] none are = All-nil (λ (bytes : List ℕ). length bytes ≤ space)
 rows_fit space d [] (t ∷ ts) none are = absurd are
 rows_fit space d (bytes ∷ rows) [] none are = absurd are
 rows_fit space d (bytes ∷ rows) (t ∷ ts) none are =
-    let here = short_enough space d t ts none in
-    All-cons (λ (bytes : List ℕ). length bytes ≤ space) bytes rows (omega (arith, here.0, encoding_size bytes t are.0)) (rows_fit space (d + 1) rows ts here.1 are.1)
+    let parts = none_unsendable space d t ts none in
+    All-cons (λ (bytes : List ℕ). length bytes ≤ space) bytes rows (omega (arith, (one_sendable space d t parts.0).1, encoding_size bytes t are.0))
+    (rows_fit space (d + 1) rows ts parts.1 are.1)
+
+-- and it has few segments
+few_all : (space d : ℕ) (ts : List Traj) → first_unsendable space d ts ≡ None → All (λ (t : Traj). length t.segments ≤ most_segments) ts
+few_all space d [] none = All-nil (λ (t : Traj). length t.segments ≤ most_segments)
+few_all space d (t ∷ ts) none =
+    let parts = none_unsendable space d t ts none in
+    All-cons (λ (t : Traj). length t.segments ≤ most_segments) t ts (one_sendable space d t parts.0).0 (few_all space (d + 1) ts parts.1)
 
 -- ---- all of it
 
-each_lasts : (g : Grid) → IsGrid g → All (λ (t : Traj). durations t.segments ≡ cue_times g) (trajectories g)
-each_lasts g is = All-from_get_or (λ (t : Traj). durations t.segments ≡ cue_times g) (trajectories g) no_trajectory (λ d small. flight_lasts g d (omega (arith, counted g)))
+each_lasts : (g : Grid) → IsGrid g → All (λ (t : Traj). durations t.segments ≡ cue_times g) (by_cue g)
+each_lasts g is = All-from_get_or (λ (t : Traj). durations t.segments ≡ cue_times g) (by_cue g) no_trajectory (λ d small. flight_lasts g d (omega (arith, by_cue_counted g)))
 
-valid_by : (f : Fitted) (s : PlainShow) → IsValid s → grid_fault s ≡ None → too_long s ≡ None → IsFitted f s → IsValidFitted f
-valid_by f s v none short is =
+valid_by : (f : Fitted) (s : PlainShow) → IsValid s → grid_fault s ≡ None → unsendable s ≡ None → IsFitted f s → IsValidFitted f
+valid_by f s v none sendable is =
     let g : Grid = grid_of s in
     let grid : IsGrid g = fit_grid s v none in
     let names : length f.names ≡ length s.drones = ap (λ (ns : List Name). length ns) is.names ∙ names_counted s.drones in
-    let trajs : length f.trajs ≡ length s.drones = ap (λ (ts : List Traj). length ts) is.trajs ∙ counted g in
+    let trajs : length f.trajs ≡ length s.drones = ap (λ (ts : List Traj). length ts) is.trajs ∙ by_cue_counted g in
     record {
       settings = subst FitsSettings (sym is.settings) v.settings;
       some_drone = omega (arith, names, grid.some_start);
@@ -192,15 +188,17 @@ valid_by f s v none short is =
       last = cues_last (length g.starts) g.cues grid.cues;
       duration = sym is.duration;
       lasting = subst (All (λ (t : Traj). durations t.segments ≡ cue_times g)) (sym is.trajs) (each_lasts g grid);
+      sent = is.sent ∙ ap (map joined) (sym is.trajs);
+      few_segments = subst (All (λ (t : Traj). length t.segments ≤ most_segments)) (sym is.sent) (few_all (room s) 0 (sent g) sendable);
       encoded = is.bytes;
       room =
           subst (λ (settings : Settings). All (λ (bytes : List ℕ). length bytes ≤ MEMORY_BYTES - settings.offset) f.bytes) (sym is.settings)
-          (rows_fit (room s) 0 f.bytes f.trajs (ap (first_long (room s) 0) is.trajs ∙ short) is.bytes);
+          (rows_fit (room s) 0 f.bytes f.sent (ap (first_unsendable (room s) 0) is.sent ∙ sendable) is.bytes);
     }
 
 -- What is answered is valid.
 pub valid_given : (r : Result Fitted PlanFault) (s : PlainShow) → IsValid s → FitGives r s → IfOk r (λ f. IsValidFitted f)
 valid_given (Ok f) s v gives =
-    let none = no_part (grid_fault s) (range_fault (grid_of s)) (too_long s) gives.0 in
+    let none = no_part (grid_fault s) (range_fault (grid_of s)) (unsendable s) gives.0 in
     valid_by f s v none.0 none.2 gives.1
 valid_given (Err f) s v gives = tt

@@ -1,6 +1,8 @@
 -- What becomes of a show: its trajectories with their bytes, or the first reason why it has no plan.
-use Rattle.std.specs.Prelude.{false, ◌≡◌, ℕ, ◌+◌, ◌-◌, ◌≤◌, List, [], ◌∷◌, ◌++◌, map, length, nat_le, Option, Some, None, Result, Ok, Err, if◌then◌else◌}
+use Rattle.std.specs.Prelude.{false, ◌≡◌, ℕ, ◌+◌, ◌-◌, ◌≤◌, List, [], ◌∷◌, ◌++◌, map, length, nat_le, nat_lt, Option, Some, None, Result, Ok, Err, if◌then◌else◌}
+use Rattle.std.specs.Option.{option_or}
 use Rattle.std.specs.List.{sum, All}
+use Rattle.fleet_math.specs.Limits.{most_cues}
 use Rattle.mem_chunks.specs.declared.TheConstants.{MEMORY_BYTES}
 use Rattle.fleet_io.specs.Words.{IsWord}
 use Rattle.choreo_lines.specs.Name.{Name}
@@ -10,11 +12,11 @@ use Rattle.choreo_reader.specs.Valid.{FitsSettings}
 use Rattle.cue_grid.specs.declared.grid.GridFault.{GridFault}
 use Rattle.cue_grid.specs.declared.grid.GridFault.TheVariants as grid
 use Rattle.cue_grid.specs.Cues.{grid_of}
-use Rattle.cue_grid.specs.Counts.{cue_limit}
 use Rattle.cue_grid.specs.Faults.{drone_limit, grid_fault}
 use Rattle.cue_grid.specs.Names.{has_double}
 use Rattle.traj_codec.specs.declared.traj.Traj.{Traj}
 use Rattle.traj_codec.specs.Positions.{durations}
+use Rattle.traj_codec.specs.Joined.{joined}
 use Rattle.traj_codec.specs.Spelling.{spelling, ending, IsEncoding, HasDuration, most_segments}
 use Rattle.figure_expand.specs.declared.fault.ExpandFault.{ExpandFault}
 use Rattle.figure_expand.specs.declared.fault.ExpandFault.TheVariants as expand
@@ -22,13 +24,18 @@ use Rattle.figure_expand.specs.Expanded.{range_fault}
 use Rattle.show_plan.specs.declared.fitted.Fitted.{Fitted}
 use Rattle.show_plan.specs.declared.fitted.PlanFault.{PlanFault}
 use Rattle.show_plan.specs.declared.fitted.PlanFault.TheVariants as fault
-use Rattle.show_plan.specs.Trajectories.{trajectories, cue_times}
+use Rattle.show_plan.specs.Trajectories.{by_cue, sent, cue_times}
 
 -- ---- what steps are handed
 
 -- a trajectory of at most 255 segments, each of which lasts some time
 pub record IsSendable (t : Traj) : Type 0 where
   pub few : length t.segments ≤ most_segments
+  pub last : All HasDuration t.segments
+
+-- a trajectory of at most 1,000 segments, each of which lasts some time
+pub record IsFlown (t : Traj) : Type 0 where
+  pub few : length t.segments ≤ most_cues
   pub last : All HasDuration t.segments
 
 -- ---- room
@@ -45,26 +52,32 @@ room s = MEMORY_BYTES - s.settings.offset
 abbrev pub StandsAsWord : Name → Type 0
 StandsAsWord name = IsWord name.items
 
--- the first of these trajectories, those of the drones from d on, that is sent as more bytes than there is room for
-abbrev pub first_long : ℕ → ℕ → List Traj → Option PlanFault
-first_long space d [] = None
-first_long space d (t ∷ ts) = if nat_le (size t) space then first_long space (d + 1) ts else Some (fault.TooLong d (size t) space)
+-- what keeps a drone's trajectory from being sent: too many segments, which are judged first; or more bytes than there is room for
+abbrev pub send_fault : ℕ → ℕ → Traj → Option PlanFault
+send_fault space d t =
+    if nat_lt most_segments (length t.segments) then Some (fault.TooManySegments d (length t.segments))
+    else if nat_le (size t) space then None else Some (fault.TooLong d (size t) space)
 
--- the first drone of a show whose trajectory is sent as more bytes than there is room for
-abbrev pub too_long : PlainShow → Option PlanFault
-too_long s = first_long (room s) 0 (trajectories (grid_of s))
+-- the first of these trajectories, those of the drones from d on, that can't be sent
+abbrev pub first_unsendable : ℕ → ℕ → List Traj → Option PlanFault
+first_unsendable space d [] = None
+first_unsendable space d (t ∷ ts) = option_or (send_fault space d t) (first_unsendable space (d + 1) ts)
+
+-- the first drone of a show whose trajectory can't be sent
+abbrev pub unsendable : PlainShow → Option PlanFault
+unsendable s = first_unsendable (room s) 0 (sent (grid_of s))
 
 -- ---- what is answered
 
--- the faults of names and cues come first, then the numbers, then the room
+-- the faults of names and cues come first, then the numbers, then what can't be sent
 abbrev pub in_order : Option GridFault → Option ExpandFault → Option PlanFault → Option PlanFault
-in_order (Some f) range long = Some (fault.Grid f)
-in_order None (Some f) long = Some (fault.Expand f)
-in_order None None long = long
+in_order (Some f) range late = Some (fault.Grid f)
+in_order None (Some f) late = Some (fault.Expand f)
+in_order None None late = late
 
 -- the first reason why a show has no plan
 abbrev pub plan_fault : PlainShow → Option PlanFault
-plan_fault s = in_order (grid_fault s) (range_fault (grid_of s)) (too_long s)
+plan_fault s = in_order (grid_fault s) (range_fault (grid_of s)) (unsendable s)
 
 -- the bytes are those of these trajectories, one by one
 abbrev pub AreEncodings : List (List ℕ) → List Traj → Type 0
@@ -72,15 +85,16 @@ AreEncodings [] [] = Unit {0}
 AreEncodings (bytes ∷ others) (t ∷ ts) = IsEncoding bytes t × AreEncodings others ts
 AreEncodings _ _ = ⊥
 
--- It has the settings and the names of the show, counts its cues and their milliseconds, and has its trajectories with their
--- bytes.
+-- It has the settings and the names of the show, counts its cues and their milliseconds, and has its trajectories, by cue and as they
+-- are sent, with the bytes of the latter.
 pub record IsFitted (f : Fitted) (s : PlainShow) : Type 0 where
   pub settings : f.settings ≡ s.settings
   pub names : f.names ≡ map (λ (d : DroneLine). d.name) s.drones
   pub cues : f.cues ≡ length (grid_of s).cues
   pub duration : f.duration ≡ sum (cue_times (grid_of s))
-  pub trajs : f.trajs ≡ trajectories (grid_of s)
-  pub bytes : AreEncodings f.bytes f.trajs
+  pub trajs : f.trajs ≡ by_cue (grid_of s)
+  pub sent : f.sent ≡ sent (grid_of s)
+  pub bytes : AreEncodings f.bytes f.sent
 
 -- A refusal is the first reason why the show has no plan. Want of memory says nothing, and is no fault of names, cues or numbers.
 -- Separation isn't judged here.
@@ -96,9 +110,10 @@ abbrev pub FitGives : Result Fitted PlanFault → PlainShow → Type 0
 FitGives (Ok f) s = (plan_fault s ≡ None) × IsFitted f s
 FitGives (Err f) s = PlanFails f s
 
--- Valid: settings in range; 1 to 32 names, no two of them equal, each of which can stand as a word; as many trajectories and lists of bytes; 1 to 255 cues, each
--- of which lasts some time; these are the durations of each trajectory's segments; and each list of bytes is the encoding of
--- its trajectory, and has room in a drone's memory behind the offset.
+-- Valid: settings in range; 1 to 32 names, no two of them equal, each of which can stand as a word; as many trajectories, by cue and sent, and lists of bytes; 1 to 1,000
+-- cues, each of which lasts some time; these are the durations of the segments of each trajectory by cue; what is sent are these
+-- trajectories with their holds joined, each of at most 255 segments; and each list of bytes is the encoding of what is sent, and
+-- has room in a drone's memory behind the offset.
 pub record IsValidFitted (f : Fitted) : Type 0 where
   pub settings : FitsSettings f.settings
   pub some_drone : 1 ≤ length f.names
@@ -107,11 +122,13 @@ pub record IsValidFitted (f : Fitted) : Type 0 where
   pub words : All StandsAsWord f.names
   pub trajs_counted : length f.trajs ≡ length f.names
   pub some_cue : 1 ≤ f.cues
-  pub few_cues : f.cues ≤ cue_limit
+  pub few_cues : f.cues ≤ most_cues
   pub times : List ℕ
   pub times_counted : length times ≡ f.cues
   pub last : All (λ ms. 1 ≤ ms) times
   pub duration : sum times ≡ f.duration
   pub lasting : All (λ (t : Traj). durations t.segments ≡ times) f.trajs
-  pub encoded : AreEncodings f.bytes f.trajs
+  pub sent : f.sent ≡ map joined f.trajs
+  pub few_segments : All (λ (t : Traj). length t.segments ≤ most_segments) f.sent
+  pub encoded : AreEncodings f.bytes f.sent
   pub room : All (λ (bytes : List ℕ). length bytes ≤ MEMORY_BYTES - f.settings.offset) f.bytes

@@ -5,6 +5,7 @@ use Rattle.choreo_reader.specs.declared.show.DroneLine.{DroneLine}
 use Rattle.cue_grid.specs.declared.grid.Cue.{Cue}
 use Rattle.cue_grid.specs.declared.grid.Grid.{Grid}
 use Rattle.traj_codec.specs.declared.traj.Traj.{Traj}
+use Rattle.traj_codec.specs.Joined.{joined}
 use Rattle.mm_rounding.specs.declared.piece.MicroPiece.{MicroPiece}
 use Rattle.mm_rounding.specs.Rounding.{millimetres, segment_of}
 use Rattle.figure_expand.specs.Expanded.{expanded}
@@ -23,9 +24,13 @@ trajectories_of [] rows = []
 trajectories_of (s ∷ starts) [] = []
 trajectories_of (s ∷ starts) (row ∷ rows) = trajectory_of s.at row ∷ trajectories_of starts rows
 
--- per drone, its trajectory
-abbrev pub trajectories : Grid → List Traj
-trajectories g = trajectories_of g.starts (expanded g)
+-- per drone, its trajectory of one segment a cue
+abbrev pub by_cue : Grid → List Traj
+by_cue g = trajectories_of g.starts (expanded g)
+
+-- per drone, the trajectory that is sent: its whole holds that follow each other joined
+abbrev pub sent : Grid → List Traj
+sent g = map joined (by_cue g)
 
 -- how long each cue lasts, in milliseconds
 abbrev pub cue_times : Grid → List ℕ

@@ -13,13 +13,15 @@ pub struct Fitted {
     pub settings: Settings,
     /// The names of its drones.
     pub names: Listed<Name>,
-    /// How many cues it has, repeats written out: 1 to 255.
+    /// How many cues it has, repeats written out: 1 to 1,000.
     pub cues: u16,
     /// How long it lasts, in milliseconds.
     pub duration: u32,
     /// The trajectory of each drone, one segment for each cue.
     pub trajs: Listed<Traj>,
-    /// The bytes of each trajectory: docs/TRAJECTORY.md.
+    /// What each drone is sent: its trajectory with whole holds that follow each other joined.
+    pub sent: Listed<Traj>,
+    /// The bytes of what each drone is sent: docs/TRAJECTORY.md.
     pub bytes: Listed<Listed<u8>>,
 }
 
@@ -30,6 +32,8 @@ pub enum PlanFault {
     Grid { fault: GridFault },
     /// A number that no trajectory can hold.
     Expand { fault: ExpandFault },
+    /// The first drone, from 0, whose trajectory has more segments than a drone's memory can hold, its holds joined.
+    TooManySegments { drone: u8, segments: u32 },
     /// The first drone, from 0, whose trajectory has more bytes than a drone's memory has room for behind the offset.
     TooLong { drone: u8, bytes: u32, room: u32 },
     /// The first part of a cue in which no direction separates two drones, in the order pair, cue, part, all counted from 0: part

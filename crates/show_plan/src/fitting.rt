@@ -7,12 +7,14 @@ ghost use Rattle.choreo_reader.specs.Valid.{IsValid};
 ghost use Rattle.cue_grid.specs.Cues.{grid_of};
 ghost use Rattle.cue_grid.specs.Faults.{grid_fault};
 ghost use Rattle.cue_grid.specs.Grids.{IsGrid};
+ghost use Rattle.fleet_math.specs.Limits.{most_cues};
+ghost use Rattle.traj_codec.specs.Joined.{joined};
 ghost use Rattle.mm_rounding.specs.Rounding.{short};
 ghost use Rattle.figure_expand.specs.Expanded.{expanded, range_fault};
 ghost use Rattle.figure_expand.specs.Flown.{StartsWell, RoundsWell};
 ghost use Rattle.show_plan.specs.Trajectories.{start_at, trajectory_of, trajectories_of};
 ghost use Rattle.show_plan.specs.Flight.{KeepsNearShow};
-ghost use Rattle.show_plan.specs.Fitting.{IsSendable, first_long};
+ghost use Rattle.show_plan.specs.Fitting.{IsFlown, IsSendable, first_unsendable, send_fault};
 ghost use Rattle.show_plan.specs.Fitting.{AreEncodings, FitGives, IsValidFitted};
 
 use crate::fitted::{Fitted, PlanFault};
@@ -23,7 +25,7 @@ use figure_expand::{ExpandFault, expand, expansion_law};
 use mem_chunks::MEMORY_BYTES;
 use mm_rounding::{MicroPiece, round_piece, to_mm};
 use std::alloc::{AllocError, Global};
-use traj_codec::{Segments, Traj, encode, size_of};
+use traj_codec::{MOST_SEGMENTS, Segments, Traj, encode, join_holds, size_of};
 
 // A yaw in two bytes.
 fn yaw_of(v: i64) -> i16
@@ -81,20 +83,49 @@ fn trajectories_of(
     Ok(trajs)
 }
 
-// The first trajectory that is sent as more bytes than there is room for.
-fn first_long(room: u32, trajs: &[Traj]) -> Option<PlanFault>
+// The trajectories with whole holds that follow each other joined.
+fn joined_all(alloc: Global, trajs: &[Traj]) -> Result<Vec<Traj>, AllocError>
+    requires some { All (λ (t : Traj). 1 ≤ length t.segments) trajs.now }
+    requires flown { All IsFlown trajs.now }
+    ensures { IfOk result (λ ts. ts.items ≡ map joined trajs.now) }
+{
+    let mut sent = Vec::new(alloc);
+    for t in trajs {
+        let joined = join_holds(alloc, t)?;
+        sent.push(joined)?;
+    }
+    Ok(sent)
+}
+
+// What keeps a drone's trajectory from being sent.
+fn send_fault(room: u32, drone: u8, t: &Traj) -> Option<PlanFault>
+    requires { IsFlown t.now }
+    ensures { result ≡ send_fault room drone t.now }
+{
+    let segments = t.segments.as_slice().len();
+    if segments > MOST_SEGMENTS {
+        return Some(PlanFault::TooManySegments {
+            drone,
+            segments: segments as u32,
+        });
+    }
+    let bytes = size_of(t) as u32;
+    if bytes > room {
+        return Some(PlanFault::TooLong { drone, bytes, room });
+    }
+    None
+}
+
+// The first trajectory that can't be sent.
+fn first_unsendable(room: u32, trajs: &[Traj]) -> Option<PlanFault>
     requires few { length trajs.now ≤ 32 }
-    requires sendable { All IsSendable trajs.now }
-    ensures { result ≡ first_long room 0 trajs.now }
+    requires flown { All IsFlown trajs.now }
+    ensures { result ≡ first_unsendable room 0 trajs.now }
 {
     for d in 0..trajs.len() {
-        let bytes = size_of(&trajs[d]) as u32;
-        if bytes > room {
-            return Some(PlanFault::TooLong {
-                drone: d as u8,
-                bytes,
-                room,
-            });
+        let fault = send_fault(room, d as u8, &trajs[d]);
+        if fault.is_some() {
+            return fault;
         }
     }
     None
@@ -126,7 +157,7 @@ fn names_of(alloc: Global, starts: &[DroneLine]) -> Result<Vec<Name>, AllocError
 
 // How long cues last together, in milliseconds.
 fn duration_of(cues: &[Cue]) -> u32
-    requires { length cues.now ≤ 255 }
+    requires { length cues.now ≤ most_cues }
     ensures { result ≡ sum (map (λ (cue : Cue). cue.ms) cues.now) }
 {
     let mut total = 0;
@@ -155,11 +186,12 @@ fn fitted(
     let starts = grid.starts.as_slice();
     let cues = grid.cues.as_slice();
     let trajs = trajectories_of(alloc, starts, rows)?;
+    let sent = joined_all(alloc, trajs.as_slice())?;
     let room = MEMORY_BYTES as u32 - u32::from(show.settings.offset);
-    if let Some(fault) = first_long(room, trajs.as_slice()) {
+    if let Some(fault) = first_unsendable(room, sent.as_slice()) {
         return Err(fault);
     }
-    let bytes = encodings(alloc, trajs.as_slice())?;
+    let bytes = encodings(alloc, sent.as_slice())?;
     let names = names_of(alloc, starts)?;
     Ok(Fitted {
         settings: show.settings,
@@ -167,20 +199,22 @@ fn fitted(
         cues: cues.len() as u16,
         duration: duration_of(cues),
         trajs: Listed::from_vec(trajs),
+        sent: Listed::from_vec(sent),
         bytes: Listed::from_vec(bytes),
     })
 }
 
 /// The trajectories of a show's drones and their bytes, or the first reason why the show has no plan: a fault of its names or
-/// cues, then a number that no trajectory can hold, then the first drone whose bytes exceed 4,096 less the offset.
+/// cues, then a number that no trajectory can hold, then the first drone whose trajectory, its holds joined, has more than 255 segments
+/// or more bytes than 4,096 less the offset.
 ///
-/// At every instant of the show, also between whole milliseconds, what each trajectory decodes to is within half a millimetre
+/// At every instant of the show, also between whole milliseconds, what each drone is sent decodes to is within half a millimetre
 /// of what the show says, on x, y and z, and the yaw is equal (docs/TRAJECTORY.md).
 pub fn fit(alloc: Global, show: &Show) -> Result<Fitted, PlanFault>
     requires { IsValid (plain show.now) }
     ensures gives { FitGives result (plain show.now) }
     ensures valid { IfOk result (λ f. IsValidFitted f) }
-    ensures near { IfOk result (λ f. KeepsNearShow (grid_of (plain show.now)) f.trajs) }
+    ensures near { IfOk result (λ f. KeepsNearShow (grid_of (plain show.now)) f.sent) }
 {
     let grid = match unroll(alloc, show) {
         Ok(grid) => grid,

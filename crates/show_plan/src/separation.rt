@@ -15,7 +15,7 @@ use crate::fitted::{Fitted, PlanFault};
 use choreo_reader::Settings;
 use pair_search::{Found, search_law, search_with};
 use sep_certificate::{Certificate, Curves, DIRECTIONS, Nodes, Trees, certificate_law, thresholds};
-use sep_parts::Slot;
+use sep_parts::{Slot, apart_law};
 use std::alloc::Global;
 
 // The nodes of a slot's tree, or the first part of its cue that no direction separates.
@@ -105,11 +105,13 @@ pub fn certificate(alloc: Global, f: &Fitted, depth: u8) -> Result<Certificate, 
     ensures clear { IsOk result → IsShowClear f.now.settings depth f.now.trajs }
     ensures blocked { (slot : Slot) (index : ℕ) → result ≡ Err (blocked_at slot index)
         → IsFirstPart f.now.settings depth f.now.trajs slot index }
-    ensures apart { IsOk result → FlyApart f.now.settings f.now.trajs }
+    ensures apart { IsOk result → FlyApart f.now.settings f.now.sent }
+    ensures apart_by_cue { IsOk result → FlyApart f.now.settings f.now.trajs }
 {
     search_law();
     separation_law();
     certificate_law();
+    apart_law();
     let curves = Curves::of_slice(alloc, f.trajs.as_slice())?;
     let trees = trees_of(alloc, &curves, f.settings, depth)?;
     Ok(Certificate { depth, trees })

@@ -79,11 +79,41 @@ fn bytes_of_shows(rt: HostRuntime) {
             b"\x00\x00\x00\x00\xE8\x03\x00\x00\x03\xD0\x07".as_slice(),
             Outcome::Fits(1, 2000, 28, true),
         ),
-        // 255 cues
+        // 255 holds of a second: three segments of 65 seconds, and one of 60
         (
             b"choreo 1\ndrone solo 0 0 1000000 0\nrepeat 255\ncue 1000\nend\nend\n".as_slice(),
-            b"\x00\x00\x00\x00\xE8\x03\x00\x00\x00\xE8\x03\x00\xE8\x03".as_slice(),
-            Outcome::Fits(255, 255_000, 776, true),
+            b"\x00\x00\x00\x00\xE8\x03\x00\x00\x00\xE8\xFD\x00\xE8\xFD\x00\xE8\xFD\x00\x60\xEA\x00\x00\x00".as_slice(),
+            Outcome::Fits(255, 255_000, 23, true),
+        ),
+        // 1,000 cues
+        (
+            b"choreo 1\ndrone solo 0 0 1000000 0\nrepeat 1000\ncue 1000\nend\nend\n".as_slice(),
+            b"\x00\x00\x00\x00\xE8\x03\x00\x00\x00\xE8\xFD\x00\xE8\xFD".as_slice(),
+            Outcome::Fits(1000, 1_000_000, 59, true),
+        ),
+        // 127 times there and back
+        (
+            b"choreo 1\ndrone solo 0 0 1000000 0\nrepeat 127\ncue 1000\nsolo line 100000 0 1000000 0\nend\ncue 1000\nsolo line 0 0 1000000 0\nend\nend\n".as_slice(),
+            b"\x00\x00\x00\x00\xE8\x03\x00\x00\x01\xE8\x03\x64\x00".as_slice(),
+            Outcome::Fits(254, 254_000, 1281, true),
+        ),
+        // holds of 40,000, 30,000 and 30,000 ms are joined from the left
+        (
+            b"choreo 1\ndrone solo 0 0 1000000 0\ncue 40000\nend\ncue 30000\nend\ncue 30000\nend\n".as_slice(),
+            b"\x00\x00\x00\x00\xE8\x03\x00\x00\x00\x40\x9C\x00\x60\xEA\x00\x00\x00".as_slice(),
+            Outcome::Fits(3, 100_000, 17, true),
+        ),
+        // a turn is no hold
+        (
+            b"choreo 1\ndrone solo 0 0 1000000 0\ncue 1000\nend\ncue 1000\nsolo turn 900\nend\ncue 1000\nend\n".as_slice(),
+            b"\x00\x00\x00\x00\xE8\x03\x00\x00\x00\xE8\x03".as_slice(),
+            Outcome::Fits(3, 3000, 34, true),
+        ),
+        // what rounds to a hold is one
+        (
+            b"choreo 1\ndrone solo 0 0 1000000 0\ncue 1000\nend\ncue 1000\nsolo move 400 0 1000000 0\nend\ncue 1000\nend\n".as_slice(),
+            b"\x00\x00\x00\x00\xE8\x03\x00\x00\x00\xB8\x0B\x00\x00\x00".as_slice(),
+            Outcome::Fits(3, 3000, 14, true),
         ),
         // a quarter arc
         (
@@ -104,7 +134,7 @@ fn bytes_of_shows(rt: HostRuntime) {
 }
 
 // The first reason why a show has no plan.
-const REFUSALS: [(&[u8], PlanFault); 7] = [
+const REFUSALS: [(&[u8], PlanFault); 8] = [
     // a number out of range
     (
         b"choreo 1\ndrone solo 32767500 0 1000000 0\ncue 2000\nsolo move 1000000 0 1000000 0\nend\n",
@@ -161,9 +191,17 @@ const REFUSALS: [(&[u8], PlanFault); 7] = [
             room: 6,
         },
     ),
+    // one segment too many, judged before its bytes
+    (
+        b"choreo 1\nmemory 2 4090\ndrone solo 0 0 1000000 0\nrepeat 128\ncue 1000\nsolo line 100000 0 1000000 0\nend\ncue 1000\nsolo line 0 0 1000000 0\nend\nend\n",
+        PlanFault::TooManySegments {
+            drone: 0,
+            segments: 256,
+        },
+    ),
     // too many cues
     (
-        b"choreo 1\ndrone solo 0 0 1000000 0\nrepeat 256\ncue 1000\nend\nend\n",
+        b"choreo 1\ndrone solo 0 0 1000000 0\nrepeat 1001\ncue 1000\nend\nend\n",
         PlanFault::Grid {
             fault: GridFault::TooManyCues { line: 3 },
         },
@@ -196,10 +234,10 @@ const PLANS: [(&[u8], &[u8]); 5] = [
         b"choreo 1\ndrone a 0 0 1000000 0\ndrone b 1000000 0 1000000 0\ncue 3000\nb move 1000000 0 2000000 0\nend\n",
         b"plan 1\ndrone a bytes 14 pieces 1\ndata 00 00 00 00 E8 03 00 00 00 B8 0B 00 00 00\ndrone b bytes 28 pieces 1\ndata E8 03 00 00 E8 03 00 00 30 B8 0B E8 03 E8 03 E8 03 D0 07 D0 07 D0 07 D0 07 00 00 00\nend\n",
     ),
-    // two pieces
+    // two holds in one piece
     (
         b"choreo 1\ndrone solo 0 0 1000000 0\ncue 1000\nend\ncue 2000\nend\n",
-        b"plan 1\ndrone solo bytes 17 pieces 2\ndata 00 00 00 00 E8 03 00 00 00 E8 03 00 D0 07 00 00 00\nend\n",
+        b"plan 1\ndrone solo bytes 14 pieces 1\ndata 00 00 00 00 E8 03 00 00 00 B8 0B 00 00 00\nend\n",
     ),
     // a formation that names its drones in another order, and a figure of two roles that are played in another order
     (
@@ -209,7 +247,7 @@ const PLANS: [(&[u8], &[u8]); 5] = [
     // a repeat of a cue and a figure, in which one drone holds
     (
         b"choreo 1\ndrone a 0 0 1000000 0\ndrone b 1000000 0 1000000 0\nfigure back p\ncue 2000\np line 0 0 1000000 0\nend\nend\nrepeat 2\ncue 1000\na line 0 1000000 1000000 0\nend\nperform back none 0 0 0 0 a\nend\n",
-        b"plan 1\ndrone a bytes 31 pieces 4\ndata 00 00 00 00 E8 03 00 00 04 E8 03 E8 03 04 D0 07 00 00 04 E8 03 E8 03 04 D0 07 00 00 00 00 00\ndrone b bytes 23 pieces 4\ndata E8 03 00 00 E8 03 00 00 00 E8 03 00 D0 07 00 E8 03 00 D0 07 00 00 00\nend\n",
+        b"plan 1\ndrone a bytes 31 pieces 4\ndata 00 00 00 00 E8 03 00 00 04 E8 03 E8 03 04 D0 07 00 00 04 E8 03 E8 03 04 D0 07 00 00 00 00 00\ndrone b bytes 14 pieces 1\ndata E8 03 00 00 E8 03 00 00 00 70 17 00 00 00\nend\n",
     ),
 ];
 
@@ -230,8 +268,8 @@ fn lines(rt: HostRuntime) {
         b"ok drones 2 cues 3 duration_ms 9000\n".as_slice()
     );
     assert_eq!(rt;
-        ok_line(32, 255, 16_711_425).bytes(),
-        b"ok drones 32 cues 255 duration_ms 16711425\n".as_slice()
+        ok_line(32, 1000, 65_535_000).bytes(),
+        b"ok drones 32 cues 1000 duration_ms 65535000\n".as_slice()
     );
     assert_eq!(rt;
         valid_line(6, 3).bytes(),

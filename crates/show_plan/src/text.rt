@@ -107,7 +107,7 @@ fn put_parts(
 /// and a line with its bytes in two hexadecimal digits each; and `end` (docs/COMMANDS.md). Want of memory is the only refusal.
 pub fn plan_text(alloc: Global, f: &Fitted) -> Result<Lines, AllocError>
     requires { IsValidFitted f.now }
-    ensures { IfOk result (λ text. text ≡ plan_text f.now.names f.now.trajs) }
+    ensures { IfOk result (λ text. text ≡ plan_text f.now.names f.now.sent) }
 {
     let mut text = Lines::make(alloc);
     put_head(&mut text)?;
@@ -115,7 +115,7 @@ pub fn plan_text(alloc: Global, f: &Fitted) -> Result<Lines, AllocError>
         &mut text,
         f.names.as_slice(),
         f.bytes.as_slice(),
-        f.trajs.as_slice(),
+        f.sent.as_slice(),
     )?;
     put_end(&mut text)?;
     Ok(text)

@@ -339,6 +339,15 @@ lasting_from (s ∷ rest) all =
 pub lasting_of : (t : Traj) → All HasDuration t.segments → IsLasting t
 lasting_of t all = lasting_from t.segments all
 
+durations_from : (segs : List Segment) → All (λ ms. 1 ≤ ms) (durations segs) → All HasDuration segs
+durations_from [] all = All-nil HasDuration
+durations_from (s ∷ rest) all =
+    let first : 1 ≤ s.ms = All-head (λ (ms : ℕ). 1 ≤ ms) s.ms (durations rest) all in
+    All-cons HasDuration s rest (omega (arith)) (durations_from rest (All-tail (λ (ms : ℕ). 1 ≤ ms) s.ms (durations rest) all))
+
+pub durations_of : (t : Traj) → IsLasting t → All HasDuration t.segments
+durations_of t all = durations_from t.segments all
+
 -- ---- each segment is formed
 formed_hold : (ms : ℕ) → ms ≤ most_ms → IsSegment (hold ms)
 formed_hold ms short = record {

@@ -13,9 +13,9 @@ mod traj;
 mod writing;
 
 pub use joining::{join_holds, join_law};
-pub use law::spelling_law;
+pub use law::{limits_law, spelling_law};
 pub use reading::{CodecFault, decode};
-pub use traj::{Element, Segment, Segments, Traj};
+pub use traj::{Element, MOST_SEGMENTS, Segment, Segments, Traj};
 pub use writing::{encode, size_of};
 
 #[cfg(test)]

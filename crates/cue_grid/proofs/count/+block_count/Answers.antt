@@ -1,17 +1,18 @@
 use Rattle.std.proofs.Common.{◌+◌, ◌∙◌, arith}
 use Rattle.cue_grid.specs.Shown.{shown}
-use Rattle.cue_grid.specs.Counts.{cue_limit, perform_count}
+use Rattle.fleet_math.specs.Limits.{most_cues}
+use Rattle.cue_grid.specs.Counts.{perform_count}
 use Rattle.cue_grid.proofs.Counting.{added, stays_full, repeat_count}
 use Rattle.cue_grid.proofs.count.+block_count.Goals as goal
-use Rattle.cue_grid.proofs.count.+block_count.Goals.{then-inside-le-CUE_LIMIT, else-inside-le-CUE_LIMIT}
+use Rattle.cue_grid.proofs.count.+block_count.Goals.{then-inside-le-MOST_CUES, else-inside-le-MOST_CUES}
 
 pub loop-inner-preserved : goal.loop-inner-preserved
 loop-inner-preserved t c =
-    elim c.if-inside-le-CUE_LIMIT.branch [
-      | then-inside-le-CUE_LIMIT w ↦ added (perform_count (shown c.args.show.now).figures) (cue_limit + 1) _ _ _ _ _ _ c.loop-inner-test.true c.inner-item.is c.loop-inner.invariant w.block_count.ensures (w.inside-is ∙ w.capped-inside.ensures)
-      | else-inside-le-CUE_LIMIT w ↦ w.inside-is ∙ stays_full (perform_count (shown c.args.show.now).figures) (cue_limit + 1) _ _ _ _ c.loop-inner-test.true c.inner-item.is c.loop-inner.invariant (omega (arith, w.if-inside-le-CUE_LIMIT.false))
+    elim c.if-inside-le-MOST_CUES.branch [
+      | then-inside-le-MOST_CUES w ↦ added (perform_count (shown c.args.show.now).figures) (most_cues + 1) _ _ _ _ _ _ c.loop-inner-test.true c.inner-item.is c.loop-inner.invariant w.block_count.ensures (w.inside-is ∙ w.capped-inside.ensures)
+      | else-inside-le-MOST_CUES w ↦ w.inside-is ∙ stays_full (perform_count (shown c.args.show.now).figures) (most_cues + 1) _ _ _ _ c.loop-inner-test.true c.inner-item.is c.loop-inner.invariant (omega (arith, w.if-inside-le-MOST_CUES.false))
     ]
 
 pub returns-after-loop-inner : goal.returns-after-loop-inner
 returns-after-loop-inner t c =
-    c.times_over.ensures ∙ repeat_count (perform_count (shown c.args.show.now).figures) (cue_limit + 1) _ _ _ _ _ _ _ c.in-Repeat.is c.deref-inner-items.ensures.value c.loop-inner-test.false c.loop-inner.invariant
+    c.times_over.ensures ∙ repeat_count (perform_count (shown c.args.show.now).figures) (most_cues + 1) _ _ _ _ _ _ _ c.in-Repeat.is c.deref-inner-items.ensures.value c.loop-inner-test.false c.loop-inner.invariant

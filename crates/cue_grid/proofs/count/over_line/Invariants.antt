@@ -1,10 +1,11 @@
 use Rattle.std.proofs.Common.{◌≡◌, ◌≤◌, drop}
 use Rattle.choreo_reader.specs.Plain.{body_of}
 use Rattle.cue_grid.specs.Shown.{shown}
-use Rattle.cue_grid.specs.Counts.{cue_limit, over_at}
+use Rattle.fleet_math.specs.Limits.{most_cues}
+use Rattle.cue_grid.specs.Counts.{over_at}
 use Rattle.cue_grid.proofs.count.over_line.Given as goal
 
 abbrev pub invariant-loop-block : goal.invariant-loop-block
 invariant-loop-block l =
-    (l.total ≤ cue_limit)
+    (l.total ≤ most_cues)
     × (over_at (shown l.show).figures 0 (body_of l.body) ≡ over_at (shown l.show).figures l.total (body_of (drop l.block-index l.body)))

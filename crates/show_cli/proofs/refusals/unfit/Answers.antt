@@ -15,7 +15,7 @@ range_line-requires c = refused_axis (plain c.args.show.now) _ c.in-OutOfRange.a
 pub returns-in_default-clause-gives : goal.returns-in_default-clause-gives
 returns-in_default-clause-gives c = λ cut is.
     let grid : plan_fault (plain c.args.show.now) ≡ Some (fault.Grid c.in-Grid.fault) = grid_fails c.in-Grid.fault (plain c.args.show.now) (rw c.in-Grid.is at c.requires.fault) in
-    early_refused c.args.command cut (plain c.args.show.now) (fault.Grid c.in-Grid.fault) (λ drone bytes space e. cc) grid
+    early_refused c.args.command cut (plain c.args.show.now) (fault.Grid c.in-Grid.fault) (λ late. late) grid
     ∙ ap (λ (o : Outcome). Some o) (sym (c.answer_line.ensures.outcome ∙ ap (λ (line : List ℕ). outcome 3 line) c.grid_line.ensures))
 
 pub returns-in-OutOfRange-clause-gives : goal.returns-in-OutOfRange-clause-gives
@@ -24,5 +24,5 @@ returns-in-OutOfRange-clause-gives c = λ cut is.
     let line : c.range_line.result ≡ range_line c.in-OutOfRange.line c.in-OutOfRange.axis c.in-OutOfRange.value = simp to_z-of_z at c.range_line.ensures in
     let range : plan_fault (plain c.args.show.now) ≡ Some (fault.Expand (expand.OutOfRange c.in-OutOfRange.line c.in-OutOfRange.axis c.in-OutOfRange.value)) =
     rw (c.in-Expand.is, c.in-OutOfRange.is) at c.requires.fault in
-    early_refused c.args.command cut (plain c.args.show.now) (fault.Expand (expand.OutOfRange c.in-OutOfRange.line c.in-OutOfRange.axis c.in-OutOfRange.value)) (λ drone bytes space e. cc) range
+    early_refused c.args.command cut (plain c.args.show.now) (fault.Expand (expand.OutOfRange c.in-OutOfRange.line c.in-OutOfRange.axis c.in-OutOfRange.value)) (λ late. late) range
     ∙ ap (λ (o : Outcome). Some o) (sym (c.answer_line-in-OutOfRange.ensures.outcome ∙ ap (λ (line : List ℕ). outcome 3 line) line))

@@ -1,12 +1,16 @@
-use Rattle.std.proofs.Common.{ℕ, ◌-◌, ◌≤◌, ◌∙◌, List, length, sym, ap, subst, arith}
+use Rattle.std.proofs.Common.{◌≡◌, ℕ, ◌-◌, ◌≤◌, ◌∙◌, List, length, map, sum, refl, sym, ap, subst, arith}
 use Rattle.std.specs.List.{All}
 use Rattle.mem_chunks.specs.declared.TheConstants.{MEMORY_BYTES}
 use Rattle.choreo_reader.specs.Plain.{plain}
 use Rattle.choreo_reader.specs.declared.show.DroneLine.{DroneLine}
 use Rattle.traj_codec.specs.declared.traj.Traj.{Traj}
 use Rattle.figure_expand.specs.Flown.{StartsWell, RoundsWell}
-use Rattle.show_plan.specs.Fitting.{IsSendable}
-use Rattle.show_plan.proofs.Sendable.{same_count, rows_counted, all_are, counted, sendable, long_given}
+use Rattle.cue_grid.specs.declared.grid.Cue.{Cue}
+use Rattle.cue_grid.specs.declared.grid.Grid.{Grid}
+use Rattle.show_plan.specs.Fitting.{AreEncodings, IsFlown, IsSendable}
+use Rattle.show_plan.specs.Trajectories.{by_cue, sent}
+use Rattle.show_plan.proofs.Flight.{sent_counted}
+use Rattle.show_plan.proofs.Sendable.{same_count, rows_counted, all_are, fits_given, flown, has_segments, sendable, sent_are, sent_flown, unsendable_given}
 use Rattle.show_plan.proofs.fitting.fitted.Goals as goal
 
 pub trajectories_of-requires-clause-count : goal.trajectories_of-requires-clause-count
@@ -23,23 +27,56 @@ trajectories_of-requires-clause-pieces c =
     let fits = c.expansion_law.ensures.fits c.args.grid.now c.requires.whole c.requires.held in
     subst (All (All RoundsWell)) (sym c.requires.pieces) fits.pieces
 
-pub first_long-requires-clause-few : goal.first_long-requires-clause-few
-first_long-requires-clause-few c =
+pub joined_all-requires-clause-some : goal.joined_all-requires-clause-some
+joined_all-requires-clause-some c =
     let all = all_are c.args.grid.now c.as_slice-starts.result.now _ c.as_slice.result.now c.as_slice-starts.ensures c.requires.pieces (c.as_slice.ensures.value ∙ c.in_ok-trajs.ensures) in
-    let few : length c.args.grid.now.starts ≤ 32 = c.requires.whole.few_starts in
-    omega (arith, ap (λ (ts : List Traj). length ts) all, counted c.args.grid.now, few)
+    subst (All (λ (t : Traj). 1 ≤ length t.segments)) (sym all) (has_segments c.args.grid.now c.requires.whole)
 
-pub first_long-requires-clause-sendable : goal.first_long-requires-clause-sendable
-first_long-requires-clause-sendable c =
+pub joined_all-requires-clause-flown : goal.joined_all-requires-clause-flown
+joined_all-requires-clause-flown c =
     let all = all_are c.args.grid.now c.as_slice-starts.result.now _ c.as_slice.result.now c.as_slice-starts.ensures c.requires.pieces (c.as_slice.ensures.value ∙ c.in_ok-trajs.ensures) in
-    subst (All IsSendable) (sym all) (sendable c.args.grid.now c.requires.whole)
+    subst (All IsFlown) (sym all) (flown c.args.grid.now c.requires.whole)
 
-pub encodings-requires : goal.encodings-requires
-encodings-requires c =
-    let all = all_are c.args.grid.now c.as_slice-starts.result.now _ c.as_slice-2.result.now c.as_slice-starts.ensures c.requires.pieces (c.as_slice-2.ensures.value ∙ c.in_ok-trajs.ensures) in
-    subst (All IsSendable) (sym all) (sendable c.args.grid.now c.requires.whole)
+pub first_unsendable-requires-clause-few : goal.first_unsendable-requires-clause-few
+first_unsendable-requires-clause-few c =
+    let trajs = all_are c.args.grid.now c.as_slice-starts.result.now _ c.as_slice.result.now c.as_slice-starts.ensures c.requires.pieces (c.as_slice.ensures.value ∙ c.in_ok-trajs.ensures) in
+    let all : c.as_slice-2.result.now ≡ sent c.args.grid.now = sent_are c.args.grid.now c.as_slice.result.now c.as_slice-2.result.now trajs (c.as_slice-2.ensures.value ∙ c.in_ok-sent.ensures) in
+    omega (arith, ap (λ (ts : List Traj). length ts) all, sent_counted c.args.grid.now, c.requires.whole.few_starts)
+
+pub first_unsendable-requires-clause-flown : goal.first_unsendable-requires-clause-flown
+first_unsendable-requires-clause-flown c =
+    let trajs = all_are c.args.grid.now c.as_slice-starts.result.now _ c.as_slice.result.now c.as_slice-starts.ensures c.requires.pieces (c.as_slice.ensures.value ∙ c.in_ok-trajs.ensures) in
+    let all : c.as_slice-2.result.now ≡ sent c.args.grid.now = sent_are c.args.grid.now c.as_slice.result.now c.as_slice-2.result.now trajs (c.as_slice-2.ensures.value ∙ c.in_ok-sent.ensures) in
+    subst (All IsFlown) (sym all) (sent_flown c.args.grid.now c.requires.whole)
 
 pub returns-in-Some : goal.returns-in-Some
 returns-in-Some c =
-    let all = all_are c.args.grid.now c.as_slice-starts.result.now _ c.as_slice.result.now c.as_slice-starts.ensures c.requires.pieces (c.as_slice.ensures.value ∙ c.in_ok-trajs.ensures) in
-    long_given (plain c.args.show.now) c.args.grid.now _ c.as_slice.result.now c.in-Some.fault c.requires.unrolled c.requires.is c.requires.held (ap (λ (n : ℕ). MEMORY_BYTES - n) c.from.ensures) all c.in-Some.ensures
+    let trajs = all_are c.args.grid.now c.as_slice-starts.result.now _ c.as_slice.result.now c.as_slice-starts.ensures c.requires.pieces (c.as_slice.ensures.value ∙ c.in_ok-trajs.ensures) in
+    let all : c.as_slice-2.result.now ≡ sent c.args.grid.now = sent_are c.args.grid.now c.as_slice.result.now c.as_slice-2.result.now trajs (c.as_slice-2.ensures.value ∙ c.in_ok-sent.ensures) in
+    unsendable_given (plain c.args.show.now) c.args.grid.now _ c.as_slice-2.result.now c.in-Some.fault c.requires.unrolled c.requires.is c.requires.held (ap (λ (n : ℕ). MEMORY_BYTES - n) c.from.ensures) all c.in-Some.ensures
+
+pub encodings-requires : goal.encodings-requires
+encodings-requires c =
+    let trajs = all_are c.args.grid.now c.as_slice-starts.result.now _ c.as_slice.result.now c.as_slice-starts.ensures c.requires.pieces (c.as_slice.ensures.value ∙ c.in_ok-trajs.ensures) in
+    let all : c.as_slice-2.result.now ≡ sent c.args.grid.now = sent_are c.args.grid.now c.as_slice.result.now c.as_slice-2.result.now trajs (c.as_slice-2.ensures.value ∙ c.in_ok-sent.ensures) in
+    subst (All IsSendable) (c.as_slice-2.ensures.value ∙ sym c.as_slice-3.ensures.value)
+    (sendable _ 0 c.as_slice-2.result.now (subst (All IsFlown) (sym all) (sent_flown c.args.grid.now c.requires.whole)) (sym c.first_unsendable.ensures ∙ c.in_default.is))
+
+pub returns : goal.returns
+returns c =
+    let trajs = all_are c.args.grid.now c.as_slice-starts.result.now _ c.as_slice.result.now c.as_slice-starts.ensures c.requires.pieces (c.as_slice.ensures.value ∙ c.in_ok-trajs.ensures) in
+    let all : c.as_slice-2.result.now ≡ sent c.args.grid.now = sent_are c.args.grid.now c.as_slice.result.now c.as_slice-2.result.now trajs (c.as_slice-2.ensures.value ∙ c.in_ok-sent.ensures) in
+    let cues = c.as_slice-cues.ensures ∙ ap (λ (g : Grid). g.cues) c.requires.is in (
+      fits_given (plain c.args.show.now) c.args.grid.now _ c.as_slice-2.result.now c.requires.unrolled c.requires.is c.requires.held (ap (λ (n : ℕ). MEMORY_BYTES - n) c.from.ensures) all
+      (sym c.first_unsendable.ensures ∙ c.in_default.is),
+      record {
+        settings = refl;
+        names = c.from_vec.ensures ∙ c.in_ok-names.ensures ∙ ap (λ (ds : List DroneLine). map (λ (d : DroneLine). d.name) ds) (c.as_slice-starts.ensures ∙ ap (λ (g : Grid). g.starts) c.requires.is);
+        cues = ap (λ (cs : List Cue). length cs) cues;
+        duration = c.duration_of.ensures ∙ ap (λ (cs : List Cue). sum (map (λ (cue : Cue). cue.ms) cs)) cues;
+        trajs = c.from_vec-2.ensures ∙ sym c.as_slice.ensures.value ∙ trajs ∙ ap by_cue c.requires.is;
+        sent = c.from_vec-3.ensures ∙ sym c.as_slice-2.ensures.value ∙ all ∙ ap sent c.requires.is;
+        bytes = subst (λ (bs : List (List ℕ)). AreEncodings bs c.from_vec-3.result) (sym c.from_vec-4.ensures)
+            (subst (λ (ts : List Traj). AreEncodings c.in_ok-bytes.bytes.items ts) (c.as_slice-3.ensures.value ∙ sym c.from_vec-3.ensures) c.in_ok-bytes.ensures);
+      },
+    )

@@ -1,7 +1,7 @@
 use Rattle.std.proofs.Common.{List, subst, ◌∙◌, ap}
 use Rattle.traj_codec.specs.declared.traj.Traj.{Traj}
 use Rattle.sep_parts.specs.Raised.{CurvesStandFor, raised_of}
-use Rattle.show_plan.proofs.Certified.{IsCertified, certified}
+use Rattle.show_plan.proofs.Certified.{IsCertified, certified, sent_flies_apart}
 use Rattle.show_plan.proofs.separation.certificate.Goals as goal
 
 found : (c : goal.After-drop-curves-inside-2) → IsCertified c.args.f.now.settings c.args.depth c.args.f.now.trajs (record { depth = c.args.depth; trees = c.in_ok-trees.trees })
@@ -20,5 +20,9 @@ returns-clause-valid c = (found c).valid
 pub returns-clause-clear : goal.returns-clause-clear
 returns-clause-clear c ok = (found c).clear
 
+pub returns-clause-apart_by_cue : goal.returns-clause-apart_by_cue
+returns-clause-apart_by_cue c ok = (found c).apart
+
 pub returns-clause-apart : goal.returns-clause-apart
-returns-clause-apart c ok = (found c).apart
+returns-clause-apart c ok =
+    sent_flies_apart c.args.f.now c.requires.valid c.apart_law.ensures.sent (found c).apart

@@ -1,7 +1,9 @@
-use Rattle.std.proofs.Common.{◌++◌, List, ℕ, append_assoc, ap, ◌∙◌}
+use Rattle.std.proofs.Common.{◌++◌, List, ℕ, append_assoc, ap, sym, length, ◌∙◌}
+use Rattle.std.proofs.lemmas.List.{length-map}
 use Rattle.fleet_io.specs.Words.{is_line_empty}
 use Rattle.choreo_lines.specs.Name.{Name}
 use Rattle.traj_codec.specs.declared.traj.Traj.{Traj}
+use Rattle.traj_codec.specs.Joined.{joined}
 use Rattle.show_plan.specs.Texts.{head_line, end_line, drone_parts, plan_text}
 use Rattle.show_plan.proofs.PlanLines.{parts_fresh}
 use Rattle.show_plan.proofs.text.plan_text.Goals as goal
@@ -21,3 +23,8 @@ returns c =
     ∙ append_assoc head_line parts end_line
     ∙ ap (λ (names : List Name). head_line ++ (drone_parts names c.as_slice-3.result.now ++ end_line)) c.as_slice.ensures
     ∙ ap (λ (ts : List Traj). head_line ++ (drone_parts c.args.f.now.names ts ++ end_line)) c.as_slice-3.ensures
+
+pub put_parts-requires-clause-count : goal.put_parts-requires-clause-count
+put_parts-requires-clause-count c =
+    ap (λ (ts : List Traj). length ts) (c.as_slice-3.ensures ∙ c.requires.sent) ∙ length-map c.args.f.now.trajs joined ∙ c.requires.trajs_counted
+    ∙ sym (ap (λ (names : List Name). length names) c.as_slice.ensures)
