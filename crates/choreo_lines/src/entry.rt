@@ -10,7 +10,7 @@ ghost use Rattle.choreo_lines.specs.Table.{kind_in};
 use crate::act::act_line;
 use crate::field::{coordinate, name, natural_field, nth, point};
 use crate::line::{Entry, Keyword, LineError, LineKind, Place};
-use crate::parts::{DRONE_LIMIT, Frame, Listed, Mirror, Name};
+use crate::parts::{DRONE_LIMIT, Frame, Mirror, Name};
 use crate::word::keyword;
 use std::alloc::Global;
 use text_lines::{Token, word_at};

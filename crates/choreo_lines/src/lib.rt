@@ -8,6 +8,7 @@
 mod act;
 mod entry;
 mod field;
+mod law;
 mod line;
 mod parts;
 #[cfg(test)]
@@ -16,6 +17,8 @@ mod word;
 
 pub use entry::entry_of;
 pub use field::{copy_of, name_kept, number};
+pub use law::limits_law;
 pub use line::{Entry, Keyword, LineError, LineKind, Place};
-pub use parts::{Act, DRONE_LIMIT, Frame, Listed, Mirror, Name, Point};
+pub use listed::Listed;
+pub use parts::{Act, DRONE_LIMIT, Frame, Mirror, Name, Point};
 pub use word::{is_name, keyword};

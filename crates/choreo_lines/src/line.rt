@@ -1,6 +1,7 @@
 //! What one line of a text says.
 
-use crate::parts::{Act, Frame, Listed, Name, Point};
+use crate::parts::{Act, Frame, Name, Point};
+use listed::Listed;
 use std::alloc::{AllocError, AllocFailed};
 
 /// What is wrong with a line, in the order in which the kinds are judged.

@@ -1,51 +1,9 @@
 //! What the words of a line say: names, places, frames and acts.
 
 use arrayvec::ArrayVec;
-use std::marker::Model;
 
 /// So many drones a show may have, and so many roles a figure (docs/LANGUAGE.md, "How many").
 pub const DRONE_LIMIT: usize = 32;
-
-/// A list that contracts see as a list, wherever it stands.
-#[derive(Drop)]
-pub struct Listed<T> {
-    items: Vec<T>,
-}
-
-impl<T> Model for Listed<T> {
-    ghost use Rattle.std.specs.Prelude.{List};
-
-    ghost Value = { List T };
-
-    ghost view = { λ l. l.items.items };
-}
-
-impl<T> Listed<T> {
-    ghost use Rattle.std.specs.Prelude.{◌≡◌};
-
-    /// These items, which stay as they are from here on: room for more of them is given back.
-    pub fn from_vec(mut items: Vec<T>) -> Self
-        ensures { result ≡ items.items }
-    {
-        items.shrink_to_fit();
-        Listed { items }
-    }
-
-    /// The vector again; no memory is taken.
-    pub fn into_vec(self) -> Vec<T>
-        ensures { result.items ≡ self }
-    {
-        let Listed { items } = self;
-        items
-    }
-
-    /// The items, to be read.
-    pub fn as_slice(&self) -> &[T]
-        ensures { result.now ≡ self.now }
-    {
-        self.items.as_slice()
-    }
-}
 
 /// A name, of 1 to 16 bytes: a lower-case letter, then lower-case letters, digits and `_`. It isn't `form` or `end`.
 pub type Name = ArrayVec<u8, 16>;

@@ -28,6 +28,15 @@ pub const COMMAND_BYTES: usize = 9;
 /// The time scale 1.0, as the four bytes that it has. No other is sent, and no number is made of it.
 pub const PLAIN_SCALE: [u8; 4] = [0, 0, 0x80, 0x3F];
 
+/// A law. The numbers of commands, which the definitions cite by their names (docs/RADIO.md, "Commands").
+pub fn limits_law()
+    ensures define { DEFINE ≡ 6 }
+    ensures start { START ≡ 5 }
+    ensures location { IN_MEMORY ≡ 1 }
+    ensures form { COMPRESSED ≡ 1 }
+    ensures bytes { COMMAND_BYTES ≡ 9 }
+{}
+
 /// A command that a drone is given.
 #[derive(Clone, Copy, Debug, PartialEq, Eq)]
 pub enum Command {

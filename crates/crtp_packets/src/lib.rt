@@ -5,9 +5,11 @@
 //! table.
 #![tactic(auto)]
 
+mod law;
 mod packet;
 mod reading;
 
+pub use law::limits_law;
 pub use packet::{
     COMMAND_CHANNEL, COMMAND_HEADER, COMMANDER_PORT, LINK_BITS, MEMORY_PORT, PACKET_BYTES, Packet,
     READ_BYTES, READ_CHANNEL, WRITE_BYTES, WRITE_CHANNEL, from_bytes, read_answer, read_request,

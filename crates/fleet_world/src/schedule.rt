@@ -16,6 +16,12 @@ pub const MOST_TEXT: usize = 1_048_576;
 /// The most digits of a number in a schedule.
 const MOST_DIGITS: usize = 9;
 
+/// A law. The limit of a schedule's text and of its numbers' digits (docs/RADIO.md, "Schedules").
+pub fn limits_law()
+    ensures text { MOST_TEXT ≡ 1048576 }
+    ensures digits { MOST_DIGITS ≡ 9 }
+{}
+
 /// A drone's name.
 pub type Name = ArrayVec<u8, 16>;
 

@@ -7,7 +7,7 @@ use super::*;
 use firmware_memory::{Def, Drone, make};
 use std::alloc::{AllocError, Global};
 use std::test::Fail;
-use upload_core::{Bytes, Load, Progress, Session, Settings};
+use upload_core::{Listed, Load, Progress, Session, Settings};
 
 /// A trajectory of 28 bytes, so of two writes, with one segment.
 const PATH: [u8; 28] = [
@@ -24,7 +24,7 @@ fn solo(alloc: Global, start: bool) -> Result<Session, AllocError>
 {
     let mut loads = Vec::new(alloc);
     loads.push(Load {
-        bytes: Bytes::from_vec(PATH.to_vec(alloc)?),
+        bytes: Listed::from_vec(PATH.to_vec(alloc)?),
         pieces: 1,
     })?;
     let settings = Settings {
@@ -51,11 +51,11 @@ fn pair(alloc: Global) -> Result<Session, AllocError>
 {
     let mut loads = Vec::new(alloc);
     loads.push(Load {
-        bytes: Bytes::from_vec(PATH.to_vec(alloc)?),
+        bytes: Listed::from_vec(PATH.to_vec(alloc)?),
         pieces: 1,
     })?;
     loads.push(Load {
-        bytes: Bytes::from_vec(FOUR_BYTES.to_vec(alloc)?),
+        bytes: Listed::from_vec(FOUR_BYTES.to_vec(alloc)?),
         pieces: 2,
     })?;
     let settings = Settings {

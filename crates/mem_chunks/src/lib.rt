@@ -36,6 +36,11 @@ pub fn chunk(len: usize, k: usize) -> (usize, usize)
     (start, (start + WRITE_BYTES).min(len))
 }
 
+/// A law. The bytes of a drone's trajectory memory, which definitions cite by their name (docs/RADIO.md, "A drone").
+pub fn limits_law()
+    ensures memory { MEMORY_BYTES ≡ 4096 }
+{}
+
 /// The law of chunks, for every list of bytes: the chunks, one behind the other, are the bytes, and
 /// each has 1 to 24 of them. It does nothing when it runs.
 pub fn cover_law()

@@ -25,7 +25,7 @@ use figure_expand::{ExpandFault, expand, expansion_law};
 use mem_chunks::MEMORY_BYTES;
 use mm_rounding::{MicroPiece, round_piece, to_mm};
 use std::alloc::{AllocError, Global};
-use traj_codec::{MOST_SEGMENTS, Segments, Traj, encode, join_holds, size_of};
+use traj_codec::{MOST_SEGMENTS, Traj, encode, join_holds, size_of};
 
 // A yaw in two bytes.
 fn yaw_of(v: i64) -> i16
@@ -60,7 +60,7 @@ fn trajectory_of(alloc: Global, start: &Point, pieces: &[MicroPiece]) -> Result<
     }
     Ok(Traj {
         start: start_at(start),
-        segments: Segments::from_vec(segments),
+        segments: Listed::from_vec(segments),
     })
 }
 

@@ -6,7 +6,8 @@ ghost use Rattle.traj_codec.specs.declared.traj.Segment.{Segment};
 ghost use Rattle.traj_codec.specs.Spelling.{HasDuration};
 ghost use Rattle.traj_codec.specs.Joined.{GroupLaw, JoinLaw, SameCurve, hold, is_hold, joined, next_held, put_held, put_next, stays};
 
-use crate::{Element, Segment, Segments, Traj};
+use crate::{Element, Segment, Traj};
+use listed::Listed;
 use std::alloc::{AllocError, Global};
 
 /// A law: a trajectory with its holds joined is the same curve, as long, with no more segments; and the holds are joined from the left.
@@ -32,7 +33,7 @@ pub fn join_holds(alloc: Global, t: &Traj) -> Result<Traj, AllocError>
     put_held(&mut segments, held)?;
     Ok(Traj {
         start: t.start,
-        segments: Segments::from_vec(segments),
+        segments: Listed::from_vec(segments),
     })
 }
 

@@ -14,8 +14,9 @@ mod writing;
 
 pub use joining::{join_holds, join_law};
 pub use law::{limits_law, spelling_law};
+pub use listed::Listed;
 pub use reading::{CodecFault, decode};
-pub use traj::{Element, MOST_SEGMENTS, Segment, Segments, Traj};
+pub use traj::{Element, MOST_SEGMENTS, Segment, Traj};
 pub use writing::{encode, size_of};
 
 #[cfg(test)]

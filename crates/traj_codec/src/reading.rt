@@ -7,7 +7,8 @@ ghost use Rattle.traj_codec.specs.Reading.{count_of_kind, count_under, segment_f
 ghost use Rattle.traj_codec.specs.Reading.{NumbersStand, DurationStands, ElementStands, ElementsStand, SegmentsStand, SegmentsGive};
 ghost use Rattle.traj_codec.specs.declared.traj.Traj.{Traj};
 
-use crate::traj::{Element, Segment, Segments, Traj};
+use crate::traj::{Element, Segment, Traj};
+use listed::Listed;
 use byteorder::{ByteOrder, LittleEndian};
 use std::alloc::{AllocError, AllocFailed, Global};
 
@@ -217,7 +218,7 @@ fn segments_at(
     bytes: &[u8],
     at: usize,
     pieces: u8,
-) -> Result<(Segments, usize), CodecFault>
+) -> Result<(Listed<Segment>, usize), CodecFault>
     requires { at ≤ length bytes.now }
     ensures { SegmentsGive bytes.now at pieces result }
 {
@@ -228,7 +229,7 @@ fn segments_at(
         segments.push(segment)?;
         next = behind;
     }
-    Ok((Segments::from_vec(segments), next))
+    Ok((Listed::from_vec(segments), next))
 }
 
 /// The trajectory of so many segments that the bytes begin with, and how many bytes it takes (docs/TRAJECTORY.md). What

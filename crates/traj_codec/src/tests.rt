@@ -14,7 +14,7 @@ fn traj(alloc: Global, start: [i16; 4], segment: Segment) -> Result<Traj, AllocE
     segments.push(segment)?;
     Ok(Traj {
         start,
-        segments: Segments::from_vec(segments),
+        segments: Listed::from_vec(segments),
     })
 }
 
@@ -215,7 +215,7 @@ fn three(alloc: Global, a: Segment, b: Segment, c: Segment) -> Result<Traj, Allo
     segments.push(c)?;
     Ok(Traj {
         start: [0, 0, 0, 0],
-        segments: Segments::from_vec(segments),
+        segments: Listed::from_vec(segments),
     })
 }
 

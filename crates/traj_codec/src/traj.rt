@@ -1,8 +1,6 @@
 //! What a trajectory is made of.
 
-ghost use Rattle.std.specs.Prelude.{◌≡◌};
-
-use std::marker::Model;
+use listed::Listed;
 
 /// How a segment moves on one axis: a Bézier curve's control points behind the first one, which is the last value
 /// before the segment. In millimetres, and on the axis of yaw in tenths of a degree. The four kinds are those of
@@ -28,45 +26,6 @@ pub struct Segment {
     pub elements: [Element; 4],
 }
 
-/// A list of segments, which contracts see as the list.
-#[derive(Debug, Drop)]
-pub struct Segments {
-    items: Vec<Segment>,
-}
-
-impl Model for Segments {
-    ghost use Rattle.std.specs.Prelude.{List};
-    ghost use Rattle.traj_codec.specs.declared.traj.Segment.{Segment};
-
-    ghost Value = { List Segment };
-
-    ghost view = { λ s. s.items.items };
-}
-
-impl Segments {
-    /// The segments of a vector.
-    pub fn from_vec(items: Vec<Segment>) -> Segments
-        ensures { result ≡ items.items }
-    {
-        Segments { items }
-    }
-
-    /// The segments, to be read.
-    pub fn as_slice(&self) -> &[Segment]
-        ensures { result.now ≡ self.now }
-    {
-        &self.items
-    }
-
-    /// The vector again; no memory is taken.
-    pub fn into_vec(self) -> Vec<Segment>
-        ensures { result.items ≡ self }
-    {
-        let Segments { items } = self;
-        items
-    }
-}
-
 /// The most segments that a trajectory in a drone's memory has.
 pub const MOST_SEGMENTS: usize = 255;
 
@@ -76,5 +35,5 @@ pub struct Traj {
     /// x, y and z in millimetres, and yaw in tenths of a degree.
     pub start: [i16; 4],
     /// One after another.
-    pub segments: Segments,
+    pub segments: Listed<Segment>,
 }

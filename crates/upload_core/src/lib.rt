@@ -19,4 +19,4 @@ mod tick;
 pub use flight::{MOST_SENT, Out};
 pub use host::Host;
 pub use session::{Session, Settings};
-pub use upload_model::{Bytes, Event, Load, Progress, Sent};
+pub use upload_model::{Event, Listed, Load, Progress, Sent};

@@ -10,7 +10,7 @@ use crtp_packets::{Packet, write_request};
 use mem_chunks::{chunk, chunk_count};
 use std::alloc::{AllocError, Global};
 use std::marker::Model;
-use upload_model::{Bytes, Load};
+use upload_model::{Listed, Load};
 
 /// Where the bytes of all loads go: the id of the drones' trajectory memory, the place of the first
 /// byte in it, 0 to 4,095, and the trajectory's id in the table, 0 to 9.
@@ -55,7 +55,7 @@ impl Session {
         let mut copies = Vec::new(alloc);
         for load in loads {
             copies.push(Load {
-                bytes: Bytes::from_vec(load.bytes.as_slice().to_vec(alloc)?),
+                bytes: Listed::from_vec(load.bytes.as_slice().to_vec(alloc)?),
                 pieces: load.pieces,
             })?;
         }

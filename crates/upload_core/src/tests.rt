@@ -21,11 +21,11 @@ fn two_drones(alloc: Global, start: bool) -> Result<Session, AllocError>
 {
     let mut loads = Vec::new(alloc);
     loads.push(Load {
-        bytes: Bytes::from_vec(PATH.to_vec(alloc)?),
+        bytes: Listed::from_vec(PATH.to_vec(alloc)?),
         pieces: 1,
     })?;
     loads.push(Load {
-        bytes: Bytes::from_vec(PATH.to_vec(alloc)?),
+        bytes: Listed::from_vec(PATH.to_vec(alloc)?),
         pieces: 1,
     })?;
     let settings = Settings {
@@ -42,11 +42,11 @@ fn last_places(alloc: Global) -> Result<Session, AllocError>
 {
     let mut loads = Vec::new(alloc);
     loads.push(Load {
-        bytes: Bytes::from_vec([7].to_vec(alloc)?),
+        bytes: Listed::from_vec([7].to_vec(alloc)?),
         pieces: 255,
     })?;
     loads.push(Load {
-        bytes: Bytes::from_vec(PATH.to_vec(alloc)?),
+        bytes: Listed::from_vec(PATH.to_vec(alloc)?),
         pieces: 2,
     })?;
     let settings = Settings {

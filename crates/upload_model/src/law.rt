@@ -1,6 +1,9 @@
 //! The law of an upload.
 
+ghost use Rattle.std.specs.Prelude.{◌≡◌};
 ghost use Rattle.upload_model.specs.Theorem.{UploadLaw, StartLaw, UnstartedLaw, LastingLaw};
+
+use crate::limits::*;
 
 /// Whatever the link loses, repeats, delays or reorders: what holds at every moment of an upload,
 /// for every session, every drone at the start and every list of events.
@@ -9,4 +12,18 @@ pub fn upload_law()
     ensures starts { StartLaw }
     ensures unstarted { UnstartedLaw }
     ensures lasts { LastingLaw }
+{}
+
+/// A law. The numbers of the drone's model and of the upload, which the definitions cite by their names
+/// (docs/RADIO.md, "A drone" and "The upload").
+pub fn limits_law()
+    ensures memory { MEMORY_BYTES ≡ 4096 }
+    ensures entries { TABLE_ENTRIES ≡ 10 }
+    ensures accepted { ACCEPTED ≡ 0 }
+    ensures unfit { UNFIT ≡ 2 }
+    ensures no_room { NO_ROOM ≡ 5 }
+    ensures drones { MOST_DRONES ≡ 32 }
+    ensures segments { MOST_SEGMENTS ≡ 255 }
+    ensures window { PACKETS_IN_FLIGHT ≡ 4 }
+    ensures patience { TICKS_TO_GIVE_UP ≡ 20 }
 {}

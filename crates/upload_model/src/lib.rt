@@ -12,9 +12,10 @@ mod limits;
 mod loads;
 
 pub use events::{Event, Progress, Sent, WorldEvent};
-pub use law::upload_law;
+pub use law::{limits_law, upload_law};
 pub use limits::{
     ACCEPTED, MEMORY_BYTES, MOST_DRONES, MOST_SEGMENTS, NO_ROOM, PACKETS_IN_FLIGHT, TABLE_ENTRIES,
     TICKS_TO_GIVE_UP, UNFIT,
 };
-pub use loads::{Bytes, Def, Load};
+pub use listed::Listed;
+pub use loads::{Def, Load};
