@@ -1,5 +1,6 @@
 -- Words that are added one by one make a line of refusal.
-use Rattle.std.proofs.Common.{◌≡◌, ℕ, ◌<◌, ◌+◌, List, [], ◌∷◌, ◌++◌, codes, refl, arith}
+use Rattle.std.proofs.Common.{◌≡◌, ℕ, Bool, true, false, cond, ◌<◌, ◌+◌, ◌/◌, ◌%◌, List, [], ◌∷◌, ◌++◌, codes, refl, arith}
+use Rattle.std.proofs.lemmas.Bool.{ne_eqb}
 use Rattle.fleet_io.specs.Words.{with_words, IsWord, AreWords}
 use Rattle.fleet_io.proofs.WordLaws.{words_make_line, decimal_is_word}
 use Rattle.fault_lines.specs.Lines.{refusal, pair_words}
@@ -12,3 +13,8 @@ refusal_made status words are = words_make_line [] (codes "error") (status ∷ w
 pub pair_are_words : (first second : List ℕ) (cue : ℕ) (more : List (List ℕ)) → IsWord first → IsWord second → cue < 65536 → AreWords more → AreWords (pair_words first second cue ++ more)
 pair_are_words first second cue more is is_too small are =
     (refl, (is, (is_too, (refl, (decimal_is_word (cue + 1) (omega (arith, small)), are)))))
+
+-- the word of a direction is a word, whatever the version
+pub direction_is_word : (b : Bool) (dir : ℕ) → IsWord (cond b ((97 + dir) ∷ []) ((48 + dir / 10) ∷ (48 + dir % 10) ∷ []))
+direction_is_word true dir = ne_eqb (97 + dir) 10 (omega arith)
+direction_is_word false dir = ne_eqb (48 + dir % 10) 10 (omega arith)

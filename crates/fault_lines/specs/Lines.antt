@@ -7,6 +7,7 @@ use Rattle.choreo_lines.specs.declared.line.LineKind.{LineKind}
 use Rattle.cue_grid.specs.declared.grid.GridFault.{GridFault}
 use Rattle.cue_grid.specs.Faults.{line_of}
 use Rattle.halving.specs.declared.Place.{Place}
+use Rattle.sep_parts.specs.Versions.{direction_word, head_count}
 use Rattle.fault_lines.specs.KindWords.{kind_word, grid_word, axis_word}
 
 -- the line of a status and these words behind it
@@ -77,20 +78,16 @@ second_too_large_line = refusal (codes "11") (codes "too-large" ∷ [])
 abbrev pub missing_line : List ℕ → List ℕ → ℕ → List ℕ
 missing_line first second cue = refusal (codes "12") (codes "missing" ∷ pair_words first second cue)
 
--- a tree of no pair and cue: trees count from 0, and stand from the second line on
-abbrev pub extra_line : ℕ → List ℕ
-extra_line tree = refusal (codes "12") (codes "extra" ∷ codes "line" ∷ decimal (tree + 2) ∷ [])
+-- a tree of no pair and cue, in a text of this version: trees count from 0, and stand behind its first lines
+abbrev pub extra_line : ℕ → ℕ → List ℕ
+extra_line version tree = refusal (codes "12") (codes "extra" ∷ codes "line" ∷ decimal (tree + 1 + head_count version) ∷ [])
 
 -- a split of the tree of the two in this cue stands at the greatest depth of the certificate
 abbrev pub too_deep_line : List ℕ → List ℕ → ℕ → List ℕ
 too_deep_line first second cue = refusal (codes "12") (codes "too-deep" ∷ pair_words first second cue)
 
--- the letter of a direction: the first one's is `a`
-abbrev pub letter : ℕ → List ℕ
-letter dir = (97 + dir) ∷ []
-
--- a leaf of the tree of the two: its part, its direction, and the first control value that the direction fails to separate
-abbrev pub fails_line : List ℕ → List ℕ → ℕ → Place → ℕ → ℕ → List ℕ
-fails_line first second cue place dir control =
+-- a leaf of the tree of the two: its part, its direction by the word of the version, and the first control value that the direction fails to separate
+abbrev pub fails_line : List ℕ → List ℕ → ℕ → Place → ℕ → ℕ → ℕ → List ℕ
+fails_line first second cue place version dir control =
     refusal (codes "12") (codes "fails" ∷ pair_words first second cue
-    ++ codes "part" ∷ decimal place.depth ∷ decimal place.index ∷ codes "direction" ∷ letter dir ∷ codes "control" ∷ decimal control ∷ [])
+    ++ codes "part" ∷ decimal place.depth ∷ decimal place.index ∷ codes "direction" ∷ direction_word version dir ∷ codes "control" ∷ decimal control ∷ [])

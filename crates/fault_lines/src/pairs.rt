@@ -1,7 +1,8 @@
 //! What is wrong with two drones in a cue.
 
 ghost use Rattle.std.specs.Prelude.{◌≡◌, ◌≤◌, ◌<◌, ◌+◌, ◌^◌, ◌∷◌, codes, length};
-ghost use Rattle.fleet_io.specs.Words.{IsWord, with_words, short_line_bytes};
+ghost use Rattle.fleet_io.specs.Words.{IsWord, with_word, with_words, short_line_bytes};
+ghost use Rattle.sep_parts.specs.Versions.{IsVersion, direction_word, known_in};
 ghost use Rattle.fault_lines.specs.Lines.{refusal, pair_words, blocked_line, missing_line, too_deep_line, fails_line};
 
 use crate::builder::{begin, put, put_number};
@@ -83,21 +84,38 @@ fn unproved_pair(word: &[u8], first: &Name, second: &Name, cue: u16) -> ShortLin
     text
 }
 
-/// `error 12 fails pair NAME NAME cue C part DEPTH INDEX direction LETTER control K`: a leaf of the tree for the two drones
-/// in this cue names a direction that doesn't separate its part. Directions 0 to 25 are the letters a to z; the control value
+// A direction, by the word of the version.
+fn put_direction(line: &mut ShortLine, version: u8, dir: u8)
+    requires version { IsVersion version }
+    requires known { dir < known_in version }
+    requires line { length line.old + 3 ≤ short_line_bytes }
+    ensures word { line.new ≡ with_word line.old (direction_word version dir) }
+    ensures room { length line.new ≤ length line.old + 3 }
+{
+    if version == 1 {
+        put(line, &[b'a' + dir]);
+    } else {
+        put(line, &[b'0' + dir / 10, b'0' + dir % 10]);
+    }
+}
+
+/// `error 12 fails pair NAME NAME cue C part DEPTH INDEX direction DIR control K`: a leaf of the tree for the two drones
+/// in this cue names a direction that doesn't separate its part. Directions are letters in version 1, two digits in version 2; the control value
 /// counts from 0. The cue counts from 0 in the argument and from 1 in the line.
 pub fn fails_line(
     first: &Name,
     second: &Name,
     cue: u16,
     place: Place,
+    version: u8,
     dir: u8,
     control: u8,
 ) -> ShortLine
     requires first { IsWord first.now.items }
     requires second { IsWord second.now.items }
-    requires dir { dir < 26 }
-    ensures { result ≡ fails_line first.now.items second.now.items cue place dir control }
+    requires version { IsVersion version }
+    requires dir { dir < known_in version }
+    ensures { result ≡ fails_line first.now.items second.now.items cue place version dir control }
 {
     let mut text = begin(b"12");
     put(&mut text, b"fails");
@@ -106,7 +124,7 @@ pub fn fails_line(
     put_number(&mut text, u32::from(place.depth));
     put_number(&mut text, u32::from(place.index));
     put(&mut text, b"direction");
-    put(&mut text, &[b'a' + dir]);
+    put_direction(&mut text, version, dir);
     put(&mut text, b"control");
     put_number(&mut text, u32::from(control));
     text.end();

@@ -2,6 +2,7 @@
 
 ghost use Rattle.std.specs.Prelude.{◌≡◌, ◌≢◌, ◌≤◌, ◌<◌, ◌^◌, [], ◌∷◌, length};
 ghost use Rattle.fleet_io.specs.Words.{IsWord};
+ghost use Rattle.sep_parts.specs.Versions.{IsVersion, head_count};
 ghost use Rattle.cue_grid.specs.declared.grid.GridFault.TheVariants.{Memory};
 ghost use Rattle.fault_lines.specs.Lines.{refusal, usage_line, too_large_line, show_line, faulty_line, grid_line, range_line, room_line, read_line, second_line, second_too_large_line, segments_line, extra_line};
 
@@ -128,17 +129,28 @@ pub fn second_too_large_line() -> ShortLine
     one_word(b"11", b"too-large")
 }
 
-/// `error 12 extra line N`: a tree of no pair and cue. Trees count from 0, and stand from the second line on.
-pub fn extra_line(tree: u32) -> ShortLine
-    requires { tree < 2 ^ 31 }
-    ensures { result ≡ extra_line tree }
+/// `error 12 extra line N`: a tree of no pair and cue, in a text of this version. Trees count from 0, and stand from the second line on
+/// in version 1, from the third in version 2.
+pub fn extra_line(version: u8, tree: u32) -> ShortLine
+    requires version { IsVersion version }
+    requires tree { tree < 2 ^ 31 }
+    ensures { result ≡ extra_line version tree }
 {
     let mut text = begin(b"12");
     put(&mut text, b"extra");
     put(&mut text, b"line");
-    put_number(&mut text, tree + 2);
+    put_number(&mut text, tree + 1 + head_count(version));
     text.end();
     text
+}
+
+// How many lines stand in front of the trees.
+fn head_count(version: u8) -> u32
+    requires { IsVersion version }
+    ensures exact { result ≡ head_count version }
+    ensures small { result ≤ 2 }
+{
+    if version == 1 { 1 } else { 2 }
 }
 
 // A status and one word.

@@ -84,18 +84,23 @@ fn a_certificate_that_is_refused(rt: HostRuntime) {
             missing_line(&a, &b, 2),
             b"error 12 missing pair a b cue 3\n",
         ),
-        (extra_line(3), b"error 12 extra line 5\n"),
+        (extra_line(1, 3), b"error 12 extra line 5\n"),
+        (extra_line(2, 3), b"error 12 extra line 6\n"),
         (
             too_deep_line(&a, &b, 0),
             b"error 12 too-deep pair a b cue 1\n",
         ),
         (
-            fails_line(&a, &b, 1, start, 0, 0),
+            fails_line(&a, &b, 1, start, 1, 0, 0),
             b"error 12 fails pair a b cue 2 part 0 0 direction a control 0\n",
         ),
         (
-            fails_line(&long, &long, 254, last, 25, 7),
+            fails_line(&long, &long, 254, last, 1, 25, 7),
             b"error 12 fails pair abcdefghijklmnop abcdefghijklmnop cue 255 part 8 255 direction z control 7\n",
+        ),
+        (
+            fails_line(&long, &long, 999, last, 2, 97, 7),
+            b"error 12 fails pair abcdefghijklmnop abcdefghijklmnop cue 1000 part 8 255 direction 97 control 7\n",
         ),
     ];
     for (line, wanted) in &rows {

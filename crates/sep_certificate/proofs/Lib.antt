@@ -5,6 +5,8 @@ pub mod Verdicts
 pub mod Members
 pub mod Keeping
 pub mod Spelled
+pub mod Digits
 pub mod Readers
 pub mod FirstLines
 pub mod TextLaws
+pub mod Choices

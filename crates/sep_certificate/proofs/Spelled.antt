@@ -8,7 +8,7 @@ use Rattle.sep_certificate.specs.declared.certificate.Node.TheVariants.{Split, L
 use Rattle.sep_certificate.specs.Certificates.{Tree, IsTree, IsKnown, preorder}
 use Rattle.sep_certificate.specs.Certificates.Tree.{leaf, split}
 use Rattle.sep_certificate.specs.Steps.{IsNodeByte, node_of_byte}
-use Rattle.sep_certificate.specs.Texts.{is_spelled, is_letter, node_byte, tree_line}
+use Rattle.sep_certificate.specs.Texts.{is_spelled, is_letter, tree_line}
 
 pub spelled_none : (line : List ℕ) (i : ℕ) → i < length line → is_spelled 0 (drop i line) ≡ false
 spelled_none line i inside = rw (drop-cons line i 0) refl
@@ -37,12 +37,12 @@ spelled_leaf line n m i inside n_is low high =
 
 -- ---- what bytes that pass spell
 -- the nodes are so many trees, one behind the other
-abbrev IsForest : ℕ → List Node → Type 0
+abbrev pub IsForest : ℕ → List Node → Type 0
 IsForest zero nodes = nodes ≡ []
 IsForest (suc n) nodes = (tree : Tree) × (rest : List Node) × (nodes ≡ preorder tree ++ rest) × IsForest n rest
 
-joined : (n : ℕ) (nodes : List Node) → IsForest (suc (suc n)) nodes → IsForest (suc n) (Split ∷ nodes)
-joined n nodes (left, rest, is, (right, more, rest_is, forest)) = (
+pub two_in_one : (n : ℕ) (nodes : List Node) → IsForest (suc (suc n)) nodes → IsForest (suc n) (Split ∷ nodes)
+two_in_one n nodes (left, rest, is, (right, more, rest_is, forest)) = (
   split left right,
   more,
   ap (λ (ns : List Node). Split ∷ ns) (is ∙ ap (λ (ns : List Node). preorder left ++ ns) rest_is ∙ sym (append_assoc (preorder left) (preorder right) more)),
@@ -51,7 +51,7 @@ joined n nodes (left, rest, is, (right, more, rest_is, forest)) = (
 
 -- the nodes that bytes spell as so many trees
 abbrev IsSpelling : ℕ → List ℕ → Type 0
-IsSpelling n line = (nodes : List Node) × (line ≡ tree_line nodes) × IsForest n nodes × All (IsKnown 26) nodes
+IsSpelling n line = (nodes : List Node) × (line ≡ tree_line 1 nodes) × IsForest n nodes × All (IsKnown 26) nodes
 
 letter_told : (b : ℕ) → is_letter b ≡ true → (97 ≤ b) × (b ≤ 122)
 letter_told b e = go (nat_le 97 b) (nat_le b 122) refl refl e
@@ -61,11 +61,11 @@ letter_told b e = go (nat_le 97 b) (nat_le b 122) refl refl e
     go true false p q e = cc
     go false t p q e = cc
 
-dot_told : (b : ℕ) → (b == 46) ≡ true → b ≡ 46
+pub dot_told : (b : ℕ) → (b == 46) ≡ true → b ≡ 46
 dot_told b e = grind (arith, nat_tests)
 
 dot_first : (n b : ℕ) (bytes : List ℕ) → b ≡ 46 → IsSpelling (suc (suc n)) bytes → IsSpelling (suc n) (b ∷ bytes)
-dot_first n b bytes e (nodes, is, forest, known) = (Split ∷ nodes, cc, joined n nodes forest, All-cons (IsKnown 26) Split nodes tt known)
+dot_first n b bytes e (nodes, is, forest, known) = (Split ∷ nodes, cc, two_in_one n nodes forest, All-cons (IsKnown 26) Split nodes tt known)
 
 leaf_first : (n b : ℕ) (bytes : List ℕ) → 97 ≤ b → b ≤ 122 → IsSpelling n bytes → IsSpelling (suc n) (b ∷ bytes)
 leaf_first n b bytes low high (nodes, is, forest, known) =
@@ -85,46 +85,44 @@ forest_of (b ∷ bytes) (suc n) e = go (b == 46) (is_letter b) refl refl e (fore
     go false false p q e two one = absurd (cc)
 
 -- a line that passes is one whole tree
-pub tree_of_line : (line : List ℕ) → is_spelled 1 line ≡ true → (nodes : List Node) × (line ≡ tree_line nodes) × IsTree nodes × All (IsKnown 26) nodes
+pub tree_of_line : (line : List ℕ) → is_spelled 1 line ≡ true → (nodes : List Node) × (line ≡ tree_line 1 nodes) × IsTree nodes × All (IsKnown 26) nodes
 tree_of_line line e = close (forest_of line 1 e)
   where
-    close : IsSpelling 1 line → (nodes : List Node) × (line ≡ tree_line nodes) × IsTree nodes × All (IsKnown 26) nodes
+    close : IsSpelling 1 line → (nodes : List Node) × (line ≡ tree_line 1 nodes) × IsTree nodes × All (IsKnown 26) nodes
     close (nodes, is, (tree, rest, nodes_are, none), known) =
         (nodes, is, (tree, nodes_are ∙ ap (λ (ns : List Node). preorder tree ++ ns) none ∙ append-nil (preorder tree)), known)
 
 -- ---- from bytes to nodes
-back : (node : Node) → node_of_byte (node_byte node) ≡ node
-back Split = refl
-back (Leaf dir) = let e : ((97 + dir) == 46) ≡ false = grind (arith, nat_tests) in let f : 97 + dir - 97 ≡ dir = omega arith in rw e (ap (λ (n : ℕ). Leaf n) f)
+back : (dir : ℕ) → node_of_byte (97 + dir) ≡ Leaf dir
+back dir = let e : ((97 + dir) == 46) ≡ false = grind (arith, nat_tests) in let f : 97 + dir - 97 ≡ dir = omega arith in rw e (ap (λ (n : ℕ). Leaf n) f)
 
-pub all_back : (nodes : List Node) → map node_of_byte (tree_line nodes) ≡ nodes
+pub all_back : (nodes : List Node) → map node_of_byte (tree_line 1 nodes) ≡ nodes
 all_back [] = refl
-all_back (node ∷ nodes) = two (back node) (all_back nodes)
+all_back (Split ∷ nodes) = ap (λ (ns : List Node). Split ∷ ns) (all_back nodes)
+all_back (Leaf dir ∷ nodes) = two (back dir) (all_back nodes)
   where
     two : {x y : Node} {xs ys : List Node} → x ≡ y → xs ≡ ys → x ∷ xs ≡ y ∷ ys
     two {x} {y} {xs} {ys} p q = cc
 
-node_byte_told : (node : Node) → IsNodeByte (node_byte node)
-node_byte_told Split = inl refl
-node_byte_told (Leaf dir) = inr (omega arith)
-
-bytes_told : (nodes : List Node) (i : ℕ) → i < length (tree_line nodes) → IsNodeByte (get_or (tree_line nodes) i 0)
+bytes_told : (nodes : List Node) (i : ℕ) → i < length (tree_line 1 nodes) → IsNodeByte (get_or (tree_line 1 nodes) i 0)
 bytes_told [] i inside = absurd (omega arith)
-bytes_told (node ∷ nodes) zero inside = node_byte_told node
-bytes_told (node ∷ nodes) (suc i) inside = bytes_told nodes i (omega arith)
+bytes_told (Split ∷ nodes) zero inside = inl refl
+bytes_told (Split ∷ nodes) (suc i) inside = bytes_told nodes i (omega arith)
+bytes_told (Leaf dir ∷ nodes) zero inside = inr (omega arith)
+bytes_told (Leaf dir ∷ nodes) (suc i) inside = bytes_told nodes i (omega arith)
 
 pub node_byte_at : (line : List ℕ) (i : ℕ) → is_spelled 1 line ≡ true → i < length line → IsNodeByte (get_or line i 0)
 node_byte_at line i e inside = go (tree_of_line line e)
   where
-    go : (nodes : List Node) × (line ≡ tree_line nodes) × IsTree nodes × All (IsKnown 26) nodes → IsNodeByte (get_or line i 0)
+    go : (nodes : List Node) × (line ≡ tree_line 1 nodes) × IsTree nodes × All (IsKnown 26) nodes → IsNodeByte (get_or line i 0)
     go (nodes, is, tree, known) = rw is (bytes_told nodes i (omega (arith, ap (λ (xs : List ℕ). length xs) is)))
 
 -- the nodes of a line
-pub line_told : (line : List ℕ) → is_spelled 1 line ≡ true → (line ≡ tree_line (map node_of_byte line)) × IsTree (map node_of_byte line) × All (IsKnown 26) (map node_of_byte line)
+pub line_told : (line : List ℕ) → is_spelled 1 line ≡ true → (line ≡ tree_line 1 (map node_of_byte line)) × IsTree (map node_of_byte line) × All (IsKnown 26) (map node_of_byte line)
 line_told line e = go (tree_of_line line e)
   where
-    go : (nodes : List Node) × (line ≡ tree_line nodes) × IsTree nodes × All (IsKnown 26) nodes →
-        (line ≡ tree_line (map node_of_byte line)) × IsTree (map node_of_byte line) × All (IsKnown 26) (map node_of_byte line)
+    go : (nodes : List Node) × (line ≡ tree_line 1 nodes) × IsTree nodes × All (IsKnown 26) nodes →
+        (line ≡ tree_line 1 (map node_of_byte line)) × IsTree (map node_of_byte line) × All (IsKnown 26) (map node_of_byte line)
     go (nodes, is, tree, known) =
         let nodes_are : map node_of_byte line ≡ nodes = ap (λ (xs : List ℕ). map node_of_byte xs) is ∙ all_back nodes in
         rw nodes_are (is, tree, known)

@@ -1,23 +1,24 @@
 -- The law of certificate texts.
-use Rattle.std.proofs.Common.{◌≡◌, ℕ, zero, suc, ◌+◌, ◌-◌, ◌≤◌, ◌<◌, Bool, true, false, cond, not, ◌&&◌, ◌==◌, slice_index, take, arith, refl, sym, ◌∙◌, ap, subst, List, [], ◌∷◌, ◌++◌, append_assoc, append-nil, length, map, Some, None, All}
+use Rattle.std.proofs.Common.{◌≡◌, ℕ, zero, suc, ◌+◌, ◌-◌, ◌/◌, ◌%◌, ◌≤◌, ◌<◌, inl, inr, Bool, true, false, cond, not, ◌&&◌, ◌==◌, slice_index, take, arith, refl, sym, ◌∙◌, ap, subst, List, [], ◌∷◌, ◌++◌, append_assoc, append-nil, length, map, Some, None, All}
 use Rattle.std.specs.List.{flat_map, slice_split}
 use Rattle.std.specs.Str.Lines.{lines, lines_of_parts, strip_carriage_return}
 use Rattle.std.proofs.lemmas.Bool.Decides.{nat_tests}
-use Rattle.std.proofs.lemmas.List.{map-append}
+use Rattle.std.proofs.lemmas.List.Concat.{flat_map-append}
 use Rattle.std.proofs.lemmas.List.Splits.{slice_split_at, length-slice_split}
 use Rattle.std.proofs.lemmas.List.Elements.{All-cons, All-head, All-tail}
-use Rattle.sep_parts.specs.Directions.{direction_count}
+use Rattle.sep_parts.specs.Versions.{IsVersion, known_in}
 use Rattle.sep_certificate.specs.declared.certificate.Node.{Node}
 use Rattle.sep_certificate.specs.declared.certificate.Node.TheVariants.{Split, Leaf}
 use Rattle.sep_certificate.specs.declared.certificate.Certificate.{Certificate}
 use Rattle.sep_certificate.specs.Certificates.{IsKnown, IsTree, IsWhole, Tree, preorder}
 use Rattle.sep_certificate.specs.Certificates.Tree.{leaf, split}
-use Rattle.sep_certificate.specs.Steps.{node_of_byte}
-use Rattle.sep_certificate.specs.Texts.{Says, bad_line, bad_tree, header, is_spelled, node_byte, text_of, tree_line}
+use Rattle.sep_certificate.specs.Steps.{node_of_byte, wide_nodes}
+use Rattle.sep_certificate.specs.Texts.{Says, bad_from, bad_line, bad_tree, depth_line, fed, head_lines, is_spelled, is_spelled_wide, is_tree_line, node_text, text_of, tree_line, version_line}
 use Rattle.sep_certificate.specs.Readings.{TextLaw}
 use Rattle.sep_certificate.proofs.FirstLines.{strip_first}
 use Rattle.sep_certificate.proofs.Readers.{header_told}
 use Rattle.sep_certificate.proofs.Spelled.{all_back, leaf_test}
+use Rattle.sep_certificate.proofs.Digits.{dot_spelled, wide_back, word_spelled}
 
 -- ---- lines without a line feed or a carriage return
 abbrev are_plain : List ℕ → Bool
@@ -55,28 +56,45 @@ plain_byte b above = (grind (arith, nat_tests), grind (arith, nat_tests))
 plain_more : (b : ℕ) (bytes : List ℕ) → 14 ≤ b → are_plain bytes ≡ true → are_plain (b ∷ bytes) ≡ true
 plain_more b bytes above plain = let told = plain_byte b above in rw (told.0, told.1) plain
 
-tree_plain : (nodes : List Node) → are_plain (tree_line nodes) ≡ true
-tree_plain [] = refl
-tree_plain (Split ∷ nodes) = tree_plain nodes
-tree_plain (Leaf dir ∷ nodes) = plain_more (97 + dir) (tree_line nodes) (omega arith) (tree_plain nodes)
+node_plain : (b : Bool) (dir : ℕ) (rest : List ℕ) → are_plain rest ≡ true → are_plain (cond b ((97 + dir) ∷ []) ((48 + dir / 10) ∷ (48 + dir % 10) ∷ []) ++ rest) ≡ true
+node_plain true dir rest plain = plain_more (97 + dir) rest (omega arith) plain
+node_plain false dir rest plain = plain_more (48 + dir / 10) ((48 + dir % 10) ∷ rest) (omega arith) (plain_more (48 + dir % 10) rest (omega arith) plain)
 
-header_plain : (depth : ℕ) → are_plain (header depth) ≡ true
-header_plain depth = plain_more (48 + depth) [] (omega arith) refl
+tree_plain : (version : ℕ) (nodes : List Node) → are_plain (tree_line version nodes) ≡ true
+tree_plain version [] = refl
+tree_plain version (Split ∷ nodes) = tree_plain version nodes
+tree_plain version (Leaf dir ∷ nodes) = node_plain (version == 1) dir (tree_line version nodes) (tree_plain version nodes)
+
+depth_plain : (depth : ℕ) → are_plain (depth_line depth) ≡ true
+depth_plain depth = plain_more (48 + depth) [] (omega arith) refl
 
 -- the lines of written trees
-tree_lines : (trees : List (List Node)) → lines (flat_map (λ nodes. tree_line nodes ++ 10 ∷ []) trees) ≡ map tree_line trees
-tree_lines [] = refl
-tree_lines (nodes ∷ trees) =
-    first_plain (tree_line nodes) (flat_map (λ nodes. tree_line nodes ++ 10 ∷ []) trees) (tree_plain nodes)
-    ∙ ap (λ (ls : List (List ℕ)). tree_line nodes ∷ ls) (tree_lines trees)
+tree_lines : (version : ℕ) (trees : List (List Node)) → lines (flat_map (λ nodes. fed (tree_line version nodes)) trees) ≡ map (tree_line version) trees
+tree_lines version [] = refl
+tree_lines version (nodes ∷ trees) =
+    first_plain (tree_line version nodes) (flat_map (λ nodes. fed (tree_line version nodes)) trees) (tree_plain version nodes)
+    ∙ ap (λ (ls : List (List ℕ)). tree_line version nodes ∷ ls) (tree_lines version trees)
+
+-- the lines in front
+depth_first : (depth : ℕ) (text : List ℕ) → lines ((fed (depth_line depth) ++ []) ++ text) ≡ depth_line depth ∷ lines text
+depth_first depth text =
+    ap (λ (bytes : List ℕ). lines (bytes ++ text)) (append-nil (fed (depth_line depth))) ∙ first_plain (depth_line depth) text (depth_plain depth)
+
+head_first : (b : Bool) (depth : ℕ) (text : List ℕ) →
+    lines (flat_map fed (cond b (depth_line depth ∷ []) (version_line ∷ depth_line depth ∷ [])) ++ text) ≡ cond b (depth_line depth ∷ []) (version_line ∷ depth_line depth ∷ []) ++ lines text
+head_first true depth text = depth_first depth text
+head_first false depth text =
+    ap lines (append_assoc (fed version_line) (fed (depth_line depth) ++ []) text)
+    ∙ first_plain version_line ((fed (depth_line depth) ++ []) ++ text) refl
+    ∙ ap (λ (ls : List (List ℕ)). version_line ∷ ls) (depth_first depth text)
 
 -- What is written says its certificate.
-written : (cert : Certificate) → IsWhole direction_count cert → Says (text_of cert) cert
+written : (cert : Certificate) → IsWhole cert → Says (text_of cert) cert
 unfolding text_of
 written cert whole = record {
   whole = whole;
-  lines_are = first_plain (header cert.depth) (flat_map (λ nodes. tree_line nodes ++ 10 ∷ []) cert.trees) (header_plain cert.depth)
-      ∙ ap (λ (ls : List (List ℕ)). header cert.depth ∷ ls) (tree_lines cert.trees);
+  lines_are = head_first (cert.version == 1) cert.depth (flat_map (λ nodes. fed (tree_line cert.version nodes)) cert.trees)
+      ∙ ap (λ (ls : List (List ℕ)). head_lines cert.version cert.depth ++ ls) (tree_lines cert.version cert.trees);
 }
 
 -- ---- no line is faulty
@@ -88,43 +106,73 @@ all_rest : {X : Type 0} (P : X → Type 0) (xs ys : List X) → All P (xs ++ ys)
 all_rest P [] ys all = all
 all_rest P (x ∷ xs) ys all = all_rest P xs ys (All-tail P x (xs ++ ys) all)
 
--- the line of a tree spells one tree more
-tree_spelled : (tree : Tree) (n : ℕ) (rest : List ℕ) → All (IsKnown direction_count) (preorder tree) → is_spelled (suc n) (tree_line (preorder tree) ++ rest) ≡ is_spelled n rest
+-- the line of a tree of version 1 spells one tree more
+tree_spelled : (tree : Tree) (n : ℕ) (rest : List ℕ) → All (IsKnown 26) (preorder tree) → is_spelled (suc n) (tree_line 1 (preorder tree) ++ rest) ≡ is_spelled n rest
 tree_spelled (leaf dir) n rest known =
-    let small : dir < direction_count = All-head (IsKnown direction_count) (Leaf dir) [] known in
+    let small : dir < 26 = All-head (IsKnown 26) (Leaf dir) [] known in
     leaf_test n (97 + dir) rest (omega arith) (omega arith)
 tree_spelled (split left right) n rest known =
-    let both : All (IsKnown direction_count) (preorder left ++ preorder right) = All-tail (IsKnown direction_count) Split (preorder left ++ preorder right) known in
+    let both : All (IsKnown 26) (preorder left ++ preorder right) = All-tail (IsKnown 26) Split (preorder left ++ preorder right) known in
     ap (λ (bytes : List ℕ). is_spelled (suc (suc n)) bytes)
-    (ap (λ (bytes : List ℕ). bytes ++ rest) (map-append node_byte (preorder left) (preorder right)) ∙ append_assoc (tree_line (preorder left)) (tree_line (preorder right)) rest)
-    ∙ tree_spelled left (suc n) (tree_line (preorder right) ++ rest) (all_front (IsKnown direction_count) (preorder left) (preorder right) both)
-    ∙ tree_spelled right n rest (all_rest (IsKnown direction_count) (preorder left) (preorder right) both)
+    (ap (λ (bytes : List ℕ). bytes ++ rest) (flat_map-append (node_text 1) (preorder left) (preorder right)) ∙ append_assoc (tree_line 1 (preorder left)) (tree_line 1 (preorder right)) rest)
+    ∙ tree_spelled left (suc n) (tree_line 1 (preorder right) ++ rest) (all_front (IsKnown 26) (preorder left) (preorder right) both)
+    ∙ tree_spelled right n rest (all_rest (IsKnown 26) (preorder left) (preorder right) both)
 
-line_spelled : (nodes : List Node) → IsTree nodes → All (IsKnown direction_count) nodes → is_spelled 1 (tree_line nodes) ≡ true
-line_spelled nodes (tree, is) known =
-    ap (λ (ns : List Node). is_spelled 1 (tree_line ns)) is
-    ∙ ap (λ (bytes : List ℕ). is_spelled 1 bytes) (sym (append-nil (tree_line (preorder tree))))
-    ∙ tree_spelled tree 0 [] (subst (λ (ns : List Node). All (IsKnown direction_count) ns) is known)
+-- so does that of a tree of version 2
+wide_spelled : (tree : Tree) (n : ℕ) (rest : List ℕ) → All (IsKnown 98) (preorder tree) → is_spelled_wide (suc n) (tree_line 2 (preorder tree) ++ rest) ≡ is_spelled_wide n rest
+wide_spelled (leaf dir) n rest known = word_spelled n dir rest (All-head (IsKnown 98) (Leaf dir) [] known)
+wide_spelled (split left right) n rest known =
+    let both : All (IsKnown 98) (preorder left ++ preorder right) = All-tail (IsKnown 98) Split (preorder left ++ preorder right) known in
+    dot_spelled n (tree_line 2 (preorder left ++ preorder right) ++ rest)
+    ∙ ap (λ (bytes : List ℕ). is_spelled_wide (suc (suc n)) bytes)
+    (ap (λ (bytes : List ℕ). bytes ++ rest) (flat_map-append (node_text 2) (preorder left) (preorder right)) ∙ append_assoc (tree_line 2 (preorder left)) (tree_line 2 (preorder right)) rest)
+    ∙ wide_spelled left (suc n) (tree_line 2 (preorder right) ++ rest) (all_front (IsKnown 98) (preorder left) (preorder right) both)
+    ∙ wide_spelled right n rest (all_rest (IsKnown 98) (preorder left) (preorder right) both)
 
-no_bad : (n : ℕ) (trees : List (List Node)) → All IsTree trees → All (All (IsKnown direction_count)) trees → bad_tree n (map tree_line trees) ≡ None
-no_bad n [] whole known = refl
-no_bad n (nodes ∷ trees) whole known =
-    ap (λ (b : Bool). cond b (bad_tree (suc n) (map tree_line trees)) (Some n))
-    (line_spelled nodes (All-head IsTree nodes trees whole) (All-head (All (IsKnown direction_count)) nodes trees known))
-    ∙ no_bad (suc n) trees (All-tail IsTree nodes trees whole) (All-tail (All (IsKnown direction_count)) nodes trees known)
+line_spelled : (version : ℕ) → IsVersion version → (nodes : List Node) → IsTree nodes → All (IsKnown (known_in version)) nodes → is_tree_line version (tree_line version nodes) ≡ true
+line_spelled version is nodes (tree, nodes_are) known = elim is [
+  | inl e ↦
+      subst (λ (v : ℕ). is_tree_line v (tree_line v nodes) ≡ true) (sym e)
+      (ap (λ (ns : List Node). is_spelled 1 (tree_line 1 ns)) nodes_are
+      ∙ ap (λ (bytes : List ℕ). is_spelled 1 bytes) (sym (append-nil (tree_line 1 (preorder tree))))
+      ∙ tree_spelled tree 0 [] (subst (λ (ns : List Node). All (IsKnown 26) ns) nodes_are (subst (λ (v : ℕ). All (IsKnown (known_in v)) nodes) e known)))
+  | inr e ↦
+      subst (λ (v : ℕ). is_tree_line v (tree_line v nodes) ≡ true) (sym e)
+      (ap (λ (ns : List Node). is_spelled_wide 1 (tree_line 2 ns)) nodes_are
+      ∙ ap (λ (bytes : List ℕ). is_spelled_wide 1 bytes) (sym (append-nil (tree_line 2 (preorder tree))))
+      ∙ wide_spelled tree 0 [] (subst (λ (ns : List Node). All (IsKnown 98) ns) nodes_are (subst (λ (v : ℕ). All (IsKnown (known_in v)) nodes) e known)))
+]
+
+no_bad : (version n : ℕ) → IsVersion version → (trees : List (List Node)) → All IsTree trees → All (All (IsKnown (known_in version))) trees → bad_tree version n (map (tree_line version) trees) ≡ None
+no_bad version n is [] whole known = refl
+no_bad version n is (nodes ∷ trees) whole known =
+    ap (λ (b : Bool). cond b (bad_tree version (suc n) (map (tree_line version) trees)) (Some n))
+    (line_spelled version is nodes (All-head IsTree nodes trees whole) (All-head (All (IsKnown (known_in version))) nodes trees known))
+    ∙ no_bad version (suc n) is trees (All-tail IsTree nodes trees whole) (All-tail (All (IsKnown (known_in version))) nodes trees known)
+
+no_bad_from : (version n depth : ℕ) (more : List (List ℕ)) → depth ≤ 8 → bad_tree version (suc n) more ≡ None → bad_from version n (depth_line depth ∷ more) ≡ None
+no_bad_from version n depth more small none = ap (λ (b : Bool). cond b (bad_tree version (suc n) more) (Some n)) (header_told depth small) ∙ none
 
 -- A text that says a certificate has no faulty line.
 clean : (text : List ℕ) (cert : Certificate) → Says text cert → bad_line (lines text) ≡ None
-clean text cert says =
-    ap bad_line says.lines_are
-    ∙ ap (λ (b : Bool). cond b (bad_tree 2 (map tree_line cert.trees)) (Some 1)) (header_told cert.depth says.whole.depth)
-    ∙ no_bad 2 cert.trees says.whole.trees says.whole.leaves
+clean text cert says = ap bad_line says.lines_are ∙ by_version cert.version says.whole.version (λ n. no_bad cert.version n says.whole.version cert.trees says.whole.whole.trees says.whole.whole.leaves)
+  where
+    by_version : (version : ℕ) → IsVersion version → ((n : ℕ) → bad_tree version n (map (tree_line version) cert.trees) ≡ None) →
+        bad_line (head_lines version cert.depth ++ map (tree_line version) cert.trees) ≡ None
+    by_version version is none = elim is [
+      | inl e ↦
+          subst (λ (v : ℕ). ((n : ℕ) → bad_tree v n (map (tree_line v) cert.trees) ≡ None) → bad_line (head_lines v cert.depth ++ map (tree_line v) cert.trees) ≡ None) (sym e)
+          (λ none. no_bad_from 1 1 cert.depth (map (tree_line 1) cert.trees) says.whole.whole.depth (none 2)) none
+      | inr e ↦
+          subst (λ (v : ℕ). ((n : ℕ) → bad_tree v n (map (tree_line v) cert.trees) ≡ None) → bad_line (head_lines v cert.depth ++ map (tree_line v) cert.trees) ≡ None) (sym e)
+          (λ none. no_bad_from 2 2 cert.depth (map (tree_line 2) cert.trees) says.whole.whole.depth (none 3)) none
+    ]
 
 -- ---- one certificate
-trees_back : (trees : List (List Node)) → map (map node_of_byte) (map tree_line trees) ≡ trees
-trees_back [] = refl
-trees_back (nodes ∷ trees) =
-    ap (λ (ns : List Node). ns ∷ map (map node_of_byte) (map tree_line trees)) (all_back nodes) ∙ ap (λ (ts : List (List Node)). nodes ∷ ts) (trees_back trees)
+trees_back : (back : List ℕ → List Node) (version : ℕ) → ((nodes : List Node) → back (tree_line version nodes) ≡ nodes) → (trees : List (List Node)) → map back (map (tree_line version) trees) ≡ trees
+trees_back back version each [] = refl
+trees_back back version each (nodes ∷ trees) =
+    ap (λ (ns : List Node). ns ∷ map back (map (tree_line version) trees)) (each nodes) ∙ ap (λ (ts : List (List Node)). nodes ∷ ts) (trees_back back version each trees)
 
 abbrev first_of : List (List ℕ) → List ℕ
 first_of [] = []
@@ -134,22 +182,58 @@ abbrev others_of : List (List ℕ) → List (List ℕ)
 others_of [] = []
 others_of (line ∷ more) = more
 
-digit_at : (depth : ℕ) → slice_index (header depth) 12 ≡ 48 + depth
+digit_at : (depth : ℕ) → slice_index (depth_line depth) 12 ≡ 48 + depth
 digit_at depth = refl
 
 digits : (depth other : ℕ) → 48 + depth ≡ 48 + other → depth ≡ other
 digits depth other same = omega (arith, same)
 
-same_cert : (cert other : Certificate) → cert.depth ≡ other.depth → cert.trees ≡ other.trees → cert ≡ other
-same_cert cert other depth trees =
-    ap (λ (n : ℕ). record { depth = n; trees = cert.trees }) depth ∙ ap (λ (ts : List (List Node)). record { depth = other.depth; trees = ts }) trees
+-- the lines from the one on that says the depth say one depth and one list of trees
+same_lines : (back : List ℕ → List Node) (version : ℕ) → ((nodes : List Node) → back (tree_line version nodes) ≡ nodes) → (depth other : ℕ) (trees others : List (List Node)) →
+    depth_line depth ∷ map (tree_line version) trees ≡ depth_line other ∷ map (tree_line version) others → (depth ≡ other) × (trees ≡ others)
+same_lines back version each depth other trees others same = (
+  digits depth other (sym (digit_at depth) ∙ ap (λ (ls : List (List ℕ)). slice_index (first_of ls) 12) same ∙ digit_at other),
+  sym (trees_back back version each trees) ∙ ap (λ (ls : List (List ℕ)). map back (others_of ls)) same ∙ trees_back back version each others,
+)
+
+same_cert : (cert other : Certificate) → cert.version ≡ other.version → cert.depth ≡ other.depth → cert.trees ≡ other.trees → cert ≡ other
+same_cert cert other version depth trees =
+    ap (λ (n : ℕ). record { version = n; depth = cert.depth; trees = cert.trees }) version
+    ∙ ap (λ (n : ℕ). record { version = other.version; depth = n; trees = cert.trees }) depth
+    ∙ ap (λ (ts : List (List Node)). record { version = other.version; depth = other.depth; trees = ts }) trees
+
+-- a text of one version is none of the other
+differ : (depth : ℕ) (more others : List (List ℕ)) → depth_line depth ∷ more ≡ version_line ∷ others → ⊥
+differ depth more others same = absurd (lengths (length (depth_line depth)) (length version_line) refl refl (ap (λ (ls : List (List ℕ)). length (first_of ls)) same))
+  where
+    lengths : (n m : ℕ) → n ≡ 13 → m ≡ 9 → n ≡ m → ⊥
+    lengths n m first second e = omega (arith, first, second, e)
+
+-- the lines of two certificates
+abbrev lines_by : ℕ → Certificate → List (List ℕ)
+lines_by version cert = head_lines version cert.depth ++ map (tree_line version) cert.trees
+
+by_versions : (v w : ℕ) (cert other : Certificate) → IsVersion v → IsVersion w → lines_by v cert ≡ lines_by w other → (v ≡ w) × (cert.depth ≡ other.depth) × (cert.trees ≡ other.trees)
+by_versions v w cert other v_is w_is same = elim v_is [
+  | inl e ↦ elim w_is [
+    | inl f ↦
+        let parts = same_lines (map node_of_byte) 1 all_back cert.depth other.depth cert.trees other.trees (rw (e, f) at same) in
+        (e ∙ sym f, parts.0, parts.1)
+    | inr f ↦ absurd (differ cert.depth (map (tree_line 1) cert.trees) (depth_line other.depth ∷ map (tree_line 2) other.trees) (rw (e, f) at same))
+  ]
+  | inr e ↦ elim w_is [
+    | inl f ↦ absurd (differ other.depth (map (tree_line 1) other.trees) (depth_line cert.depth ∷ map (tree_line 2) cert.trees) (sym (rw (e, f) at same)))
+    | inr f ↦
+        let parts = same_lines wide_nodes 2 wide_back cert.depth other.depth cert.trees other.trees (ap others_of (rw (e, f) at same)) in
+        (e ∙ sym f, parts.0, parts.1)
+  ]
+]
 
 -- A text says one certificate alone.
 one : (text : List ℕ) (cert other : Certificate) → Says text cert → Says text other → cert ≡ other
 one text cert other says also =
-    let same : header cert.depth ∷ map tree_line cert.trees ≡ header other.depth ∷ map tree_line other.trees = sym says.lines_are ∙ also.lines_are in
-    same_cert cert other (digits cert.depth other.depth (sym (digit_at cert.depth) ∙ ap (λ (ls : List (List ℕ)). slice_index (first_of ls) 12) same ∙ digit_at other.depth))
-    (sym (trees_back cert.trees) ∙ ap (λ (ls : List (List ℕ)). map (map node_of_byte) (others_of ls)) same ∙ trees_back other.trees)
+    let parts = by_versions cert.version other.version cert other says.whole.version also.whole.version (sym says.lines_are ∙ also.lines_are) in
+    same_cert cert other parts.0 parts.1 parts.2
 
 pub texts : TextLaw
 texts = record { written = written; clean = clean; one = one }

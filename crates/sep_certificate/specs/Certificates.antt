@@ -11,6 +11,7 @@ use Rattle.sep_certificate.specs.declared.certificate.Certificate.{Certificate}
 use Rattle.sep_parts.specs.declared.slot.Slot.{Slot}
 use Rattle.sep_certificate.specs.declared.judge.Rules.{Rules}
 use Rattle.sep_parts.specs.Directions.{direction_of}
+use Rattle.sep_parts.specs.Versions.{IsVersion, known_in}
 use Rattle.sep_parts.specs.Separates.{Separates, low_value}
 use Rattle.sep_parts.specs.Slots.{slots}
 use Rattle.sep_parts.specs.Levels.{left_half, right_half, root}
@@ -36,13 +37,18 @@ abbrev pub IsKnown : ℕ → Node → Type 0
 IsKnown m Split = Unit {0}
 IsKnown m (Leaf dir) = dir < m
 
--- A certificate is whole: its depth is at most 8, it has fewer than 2^31 trees,
--- each of them is one whole tree in preorder, and each leaf names one of the directions.
-pub record IsWhole (m : ℕ) (cert : Certificate) : Type 0 where
+-- A certificate is whole among so many directions: its depth is at most 8, it has fewer than 2^31 trees, each of them is one whole
+-- tree in preorder, and each leaf names one of the directions.
+pub record IsWholeIn (m : ℕ) (cert : Certificate) : Type 0 where
   pub depth : cert.depth ≤ 8
   pub few : length cert.trees < 2 ^ 31
   pub trees : All IsTree cert.trees
   pub leaves : All (All (IsKnown m)) cert.trees
+
+-- A certificate is whole: its version is 1 or 2, and it is whole among the directions of that version.
+pub record IsWhole (cert : Certificate) : Type 0 where
+  pub version : IsVersion cert.version
+  pub whole : IsWholeIn (known_in cert.version) cert
 
 -- ---- validity
 -- At a place of a pair and a cue, whose raised differences these are: no split stands at the depth or below it, and each

@@ -4,7 +4,6 @@ use Rattle.std.specs.Str.Lines.{lines}
 use Rattle.sep_certificate.specs.declared.certificate.Certificate.{Certificate}
 use Rattle.sep_certificate.specs.declared.text.CertTextFault.{CertTextFault}
 use Rattle.sep_certificate.specs.declared.text.CertTextFault.TheVariants.{Line, Memory}
-use Rattle.sep_parts.specs.Directions.{direction_count}
 use Rattle.sep_certificate.specs.Certificates.{IsWhole}
 use Rattle.sep_certificate.specs.Texts.{Says, bad_line, text_of}
 
@@ -16,6 +15,6 @@ ReadingGives text (Err Memory) = Unit {0}
 
 -- The text that is written says its certificate; a text that says one has no faulty line, and says no other.
 pub record TextLaw : Type 0 where
-  pub written : (cert : Certificate) → IsWhole direction_count cert → Says (text_of cert) cert
+  pub written : (cert : Certificate) → IsWhole cert → Says (text_of cert) cert
   pub clean : (text : List ℕ) (cert : Certificate) → Says text cert → bad_line (lines text) ≡ None
   pub one : (text : List ℕ) (cert other : Certificate) → Says text cert → Says text other → cert ≡ other

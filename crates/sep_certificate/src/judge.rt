@@ -3,7 +3,8 @@
 ghost use Rattle.std.specs.Prelude.{◌≡◌, ℕ, ◌+◌, ◌*◌, ◌^◌, ◌≤◌, ◌<◌, ◌↔◌, ◌∷◌, ◌++◌, [], length, map, All, IsOk, MatchResult};
 ghost use Rattle.std.specs.Option.{option_map};
 ghost use Rattle.fleet_math.specs.Numbers.{IsBelow};
-ghost use Rattle.sep_parts.specs.Directions.{AreSmall, IsAxis, direction_count, threshold};
+ghost use Rattle.sep_parts.specs.Directions.{AreSmall, IsAxis, threshold};
+ghost use Rattle.sep_parts.specs.Versions.{IsVersion, known_in, table_of};
 ghost use Rattle.sep_parts.specs.Apart.{KeepsApart};
 ghost use Rattle.sep_parts.specs.Slots.{slots};
 ghost use Rattle.sep_parts.specs.Levels.{IsLevel, IsStack, places_of, root};
@@ -11,10 +12,13 @@ ghost use Rattle.sep_certificate.specs.Laws.{CertificateLaw};
 ghost use Rattle.sep_certificate.specs.Certificates.{IsKnown, IsValid, IsWhole, fault_of, first_fault, first_fault_of, node_fault, places_below};
 ghost use Rattle.sep_certificate.specs.Steps.{IsControl, IsShallow};
 
-use crate::certificate::{CertFault, Certificate, Node, Nodes};
+use crate::certificate::{CertFault, Certificate, Node};
 use bezier_core::Bez;
 use halving::Place;
-use sep_parts::{Curves, DIRECTIONS, Level, Slot, Stack, level_halves, low_control, thresholds};
+use listed::Listed;
+use sep_parts::{
+    Curves, DIRECTIONS, Level, Slot, Stack, WIDE, level_halves, low_control, thresholds,
+};
 
 /// By what a certificate is judged.
 #[derive(Clone, Copy)]
@@ -30,7 +34,7 @@ pub struct Rules {
 /// Whether a certificate is valid for the curves of a fleet, with ellipsoids of half axes `r`, `r` and `h` in millimetres.
 ///
 /// Ok exactly where there is one tree for each pair and cue, no tree has a split at the certificate's depth, and each leaf's
-/// direction separates its part. Else the first fault: trees of a pair and cue in order, in each the nodes in preorder; then
+/// direction, one of the table of its version, separates its part. Else the first fault: trees of a pair and cue in order, in each the nodes in preorder; then
 /// the first pair and cue without a tree, or the first tree too many, whose nodes aren't judged. Takes no memory.
 ///
 /// Where it is Ok, whoever made the certificate, each two different drones are apart at each instant p / q of the show, for
@@ -38,10 +42,10 @@ pub struct Rules {
 pub fn check(curves: &Curves, r: u16, h: u16, cert: &Certificate) -> Result<(), CertFault>
     requires r { IsAxis r }
     requires h { IsAxis h }
-    requires whole { IsWhole direction_count cert.now }
-    ensures exact { MatchResult result (λ _. fault_of DIRECTIONS.n curves.now r h cert.now ≡ None)
-        (λ fault. fault_of DIRECTIONS.n curves.now r h cert.now ≡ Some fault) }
-    ensures valid { IsOk result ↔ IsValid DIRECTIONS.n curves.now r h cert.now }
+    requires whole { IsWhole cert.now }
+    ensures exact { MatchResult result (λ _. fault_of (table_of cert.now.version) curves.now r h cert.now ≡ None)
+        (λ fault. fault_of (table_of cert.now.version) curves.now r h cert.now ≡ Some fault) }
+    ensures valid { IsOk result ↔ IsValid (table_of cert.now.version) curves.now r h cert.now }
     ensures apart { IsOk result → KeepsApart curves.now r h }
 {
     let rules = Rules {
@@ -49,13 +53,7 @@ pub fn check(curves: &Curves, r: u16, h: u16, cert: &Certificate) -> Result<(), 
         h,
         depth: cert.depth,
     };
-    match first_fault(
-        curves,
-        rules,
-        &DIRECTIONS.n,
-        &thresholds(&DIRECTIONS, r, h),
-        cert.trees.as_slice(),
-    ) {
+    match fault_in(curves, rules, cert.version, cert.trees.as_slice()) {
         Some(fault) => Err(fault),
         None => Ok(()),
     }
@@ -68,13 +66,56 @@ pub fn certificate_law()
     ensures { CertificateLaw }
 {}
 
+// The first fault of the trees, by the table of the version.
+fn fault_in(curves: &Curves, rules: Rules, version: u8, trees: &[Listed<Node>]) -> Option<CertFault>
+    requires r { IsAxis rules.r }
+    requires h { IsAxis rules.h }
+    requires depth { rules.depth ≤ 8 }
+    requires version { IsVersion version }
+    requires few { length trees.now < 2 ^ 31 }
+    requires known { All (All (IsKnown (known_in version))) trees.now }
+    ensures { result ≡ first_fault_of rules (table_of version) curves.now (slots curves.now.drones curves.now.cues) 0 trees.now }
+{
+    if version == 1 {
+        old_fault(curves, rules, trees)
+    } else {
+        wide_fault(curves, rules, trees)
+    }
+}
+
+// The first fault of the trees, by the 26 directions.
+fn old_fault(curves: &Curves, rules: Rules, trees: &[Listed<Node>]) -> Option<CertFault>
+    requires r { IsAxis rules.r }
+    requires h { IsAxis rules.h }
+    requires depth { rules.depth ≤ 8 }
+    requires few { length trees.now < 2 ^ 31 }
+    requires known { All (All (IsKnown 26)) trees.now }
+    ensures { result ≡ first_fault_of rules (table_of 1) curves.now (slots curves.now.drones curves.now.cues) 0 trees.now }
+{
+    let thresholds = thresholds(&DIRECTIONS, rules.r, rules.h);
+    first_fault(curves, rules, &DIRECTIONS.n, &thresholds, trees)
+}
+
+// The first fault of the trees, by the 98 directions.
+fn wide_fault(curves: &Curves, rules: Rules, trees: &[Listed<Node>]) -> Option<CertFault>
+    requires r { IsAxis rules.r }
+    requires h { IsAxis rules.h }
+    requires depth { rules.depth ≤ 8 }
+    requires few { length trees.now < 2 ^ 31 }
+    requires known { All (All (IsKnown 98)) trees.now }
+    ensures { result ≡ first_fault_of rules (table_of 2) curves.now (slots curves.now.drones curves.now.cues) 0 trees.now }
+{
+    let thresholds = thresholds(&WIDE, rules.r, rules.h);
+    first_fault(curves, rules, &WIDE.n, &thresholds, trees)
+}
+
 // The first fault of the trees, by a table of directions.
 fn first_fault(
     curves: &Curves,
     rules: Rules,
     dirs: &[[i8; 3]],
     thresholds: &[i128],
-    trees: &[Nodes],
+    trees: &[Listed<Node>],
 ) -> Option<CertFault>
     requires r { IsAxis rules.r }
     requires h { IsAxis rules.h }

@@ -8,7 +8,7 @@ ghost use Rattle.sep_parts.specs.Raised.{AreOneShow};
 use super::*;
 use std::alloc::{AllocError, Global};
 use std::test::Fail;
-use traj_codec::{Element, Segment, Segments, Traj};
+use traj_codec::{Element, Listed, Segment, Traj};
 
 // From rest to rest.
 fn moved(from: i16, to: i16) -> Element {
@@ -48,7 +48,7 @@ fn way(alloc: Global, places: [[i16; 3]; 4]) -> Result<Traj, AllocError>
     ]?;
     Ok(Traj {
         start: [x, y, z, 0],
-        segments: Segments::from_vec(legs),
+        segments: Listed::from_vec(legs),
     })
 }
 
@@ -125,7 +125,7 @@ fn differences_of_two_drones(rt: HostRuntime) -> Result<(), Fail> {
     Ok(())
 }
 
-const FOR_TWO: [(&[u8], Outcome); 7] = [
+const FOR_TWO: [(&[u8], Outcome); 11] = [
     (b"certificate 6\nr\nl\na\n", Outcome::Valid),
     (b"certificate 6\r\nr\r\nl\r\na", Outcome::Valid),
     (b"certificate 1\n.rr\n.ll\n.aa\n", Outcome::Valid),
@@ -136,6 +136,20 @@ const FOR_TWO: [(&[u8], Outcome); 7] = [
     ),
     (b"certificate 6\nr\nl\na\nr\n", Outcome::Extra(3)),
     (b"certificate 0\n.rr\nl\na\n", Outcome::TooDeep(0, 1, 0)),
+    // version 2
+    (b"version 2\ncertificate 6\n58\n46\n00\n", Outcome::Valid),
+    (
+        b"version 2\r\ncertificate 6\r\n.5858\r\n46\r\n00",
+        Outcome::Valid,
+    ),
+    (
+        b"version 2\ncertificate 6\n58\n46\n",
+        Outcome::Missing(0, 1, 2),
+    ),
+    (
+        b"version 2\ncertificate 6\n58\n46\n00\n58\n",
+        Outcome::Extra(3),
+    ),
 ];
 
 #[test]
@@ -206,6 +220,14 @@ fn a_certificate_written_back(rt: HostRuntime) -> Result<(), Fail> {
     assert_eq!(rt; cert.depth, 6);
     let text = write_certificate(rt.alloc(), &cert)?;
     assert!(rt; text.as_slice() == b"certificate 6\nr\n..lll\na\n".as_slice());
+    let wide = b"version 2\ncertificate 6\n58\n..460797\n00\n".as_slice();
+    let Ok(cert) = read_certificate(rt.alloc(), wide) else {
+        assert!(rt; false);
+        return Ok(());
+    };
+    assert_eq!(rt; cert.version, 2);
+    let text = write_certificate(rt.alloc(), &cert)?;
+    assert!(rt; text.as_slice() == wide);
     Ok(())
 }
 
@@ -219,8 +241,8 @@ fn faulty_lines(rt: HostRuntime) -> Result<(), Fail> {
         b"certificate 9\n".as_slice(),
         b"certificate 06\n".as_slice(),
         b"certificate 6\r".as_slice(),
-        // another first line
         b"version 2\r".as_slice(),
+        b"version 02\ncertificate 6\n".as_slice(),
     ] {
         assert!(rt; judged(alloc, &curves, text) == Outcome::Line(1));
     }
@@ -231,8 +253,18 @@ fn faulty_lines(rt: HostRuntime) -> Result<(), Fail> {
         b"certificate 6\n.r\nl\n".as_slice(),
         b"certificate 6\n\nr\n".as_slice(),
         b"certificate 6\nr\r".as_slice(),
+        b"version 2".as_slice(),
+        b"version 2\n58\n".as_slice(),
     ] {
         assert!(rt; judged(alloc, &curves, text) == Outcome::Line(2));
+    }
+    for text in [
+        b"version 2\ncertificate 6\n98\n".as_slice(),
+        b"version 2\ncertificate 6\n5".as_slice(),
+        b"version 2\ncertificate 6\n5.8\n".as_slice(),
+        b"version 2\ncertificate 6\nr\n".as_slice(),
+    ] {
+        assert!(rt; judged(alloc, &curves, text) == Outcome::Line(3));
     }
     Ok(())
 }

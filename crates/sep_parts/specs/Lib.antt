@@ -1,4 +1,5 @@
 pub mod Directions
+pub mod Versions
 pub mod Separates
 pub mod Raised
 pub mod Steps

@@ -18,7 +18,7 @@ use Rattle.show_plan.specs.declared.fitted.PlanFault.{PlanFault}
 use Rattle.show_plan.specs.declared.fitted.PlanFault.TheVariants as plan
 use Rattle.show_plan.specs.Fitting.{in_order, unsendable}
 use Rattle.show_plan.specs.Separation.{blocked_part}
-use Rattle.sep_parts.specs.declared.directions.TheConstants.{DIRECTIONS}
+use Rattle.sep_parts.specs.Versions.{table_of}
 use Rattle.sep_parts.specs.Raised.{Raised, raised_of}
 use Rattle.sep_certificate.specs.declared.certificate.CertFault.{CertFault}
 use Rattle.sep_certificate.specs.declared.certificate.Certificate.{Certificate}
@@ -58,14 +58,14 @@ one_outcome law Verify None s cut o p first second = one_second law (second_refu
 
 -- a certificate that is judged by the curves and settings of a show comes to what it comes to for the show
 pub judged_same : (s : PlainShow) (c : Certificate) (names : List Name) (curves : Raised) (r h : ℕ) (o : Option CertFault) →
-    names ≡ names_of s → curves ≡ raised_of (trajectories_of s) → r ≡ s.settings.r → h ≡ s.settings.h → fault_of DIRECTIONS.n curves r h c ≡ o → judged names c o ≡ judged_for s c
+    names ≡ names_of s → curves ≡ raised_of (trajectories_of s) → r ≡ s.settings.r → h ≡ s.settings.h → fault_of (table_of c.version) curves r h c ≡ o → judged names c o ≡ judged_for s c
 judged_same s c names curves r h o names_are curves_are r_is h_is is =
     ap (λ (ns : List Name). judged ns c o) names_are
     ∙ ap (λ (f : Option CertFault). judged (names_of s) c f)
     (sym is
-    ∙ ap (λ (cs : Raised). fault_of DIRECTIONS.n cs r h c) curves_are
-    ∙ ap (λ (n : ℕ). fault_of DIRECTIONS.n (raised_of (trajectories_of s)) n h c) r_is
-    ∙ ap (λ (n : ℕ). fault_of DIRECTIONS.n (raised_of (trajectories_of s)) s.settings.r n c) h_is)
+    ∙ ap (λ (cs : Raised). fault_of (table_of c.version) cs r h c) curves_are
+    ∙ ap (λ (n : ℕ). fault_of (table_of c.version) (raised_of (trajectories_of s)) n h c) r_is
+    ∙ ap (λ (n : ℕ). fault_of (table_of c.version) (raised_of (trajectories_of s)) s.settings.r n c) h_is)
 
 -- a test that refuses nothing fails
 no_refusal : (b : Bool) (o : Outcome) → cond b (Some o) None ≡ None → b ≡ false

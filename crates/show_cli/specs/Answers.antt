@@ -2,7 +2,7 @@
 use Rattle.std.specs.Prelude.{◌≡◌, ℕ, ◌<◌, ◌^◌, List}
 use Rattle.choreo_reader.specs.Plain.{PlainShow}
 use Rattle.cue_grid.specs.Cues.{grid_of}
-use Rattle.sep_parts.specs.Directions.{direction_count}
+use Rattle.sep_parts.specs.Versions.{known_in}
 use Rattle.sep_certificate.specs.declared.certificate.CertFault.{CertFault}
 use Rattle.sep_certificate.specs.declared.certificate.CertFault.TheVariants as cert
 use Rattle.show_plan.specs.Flight.{KeepsNearShow}
@@ -37,12 +37,12 @@ outcome_of a = record { status = status_number a.status; output = output_of a.ou
 abbrev pub IsRefusal : Status → Type 0
 IsRefusal status = status_number status ≡ 0 → ⊥
 
--- a fault of a certificate for so many drones: it names two of them, a tree that a text has a line for, a direction of the table
-abbrev pub IsFaultAmong : ℕ → CertFault → Type 0
-IsFaultAmong drones (cert.Missing a b cue) = (a < drones) × (b < drones)
-IsFaultAmong drones (cert.Extra tree) = tree < 2 ^ 31
-IsFaultAmong drones (cert.TooDeep a b cue) = (a < drones) × (b < drones)
-IsFaultAmong drones (cert.Fails a b cue place dir control) = (a < drones) × (b < drones) × (dir < direction_count)
+-- a fault of a certificate of this version for so many drones: it names two of them, a tree that a text has a line for, a direction of the table
+abbrev pub IsFaultAmong : ℕ → ℕ → CertFault → Type 0
+IsFaultAmong drones version (cert.Missing a b cue) = (a < drones) × (b < drones)
+IsFaultAmong drones version (cert.Extra tree) = tree < 2 ^ 31
+IsFaultAmong drones version (cert.TooDeep a b cue) = (a < drones) × (b < drones)
+IsFaultAmong drones version (cert.Fails a b cue place dir control) = (a < drones) × (b < drones) × (dir < known_in version)
 
 -- what the drones of the show are sent keeps near to it and keeps each two drones apart, at every instant
 pub record IsSafeShow (s : PlainShow) : Type 0 where

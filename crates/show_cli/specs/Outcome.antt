@@ -17,7 +17,7 @@ use Rattle.cue_grid.specs.Names as drones
 use Rattle.figure_expand.specs.declared.fault.ExpandFault.TheVariants as expand
 use Rattle.figure_expand.specs.Expanded.{range_fault}
 use Rattle.traj_codec.specs.declared.traj.Traj.{Traj}
-use Rattle.sep_parts.specs.declared.directions.TheConstants.{DIRECTIONS}
+use Rattle.sep_parts.specs.Versions.{table_of}
 use Rattle.sep_parts.specs.Raised.{raised_of}
 use Rattle.sep_certificate.specs.declared.certificate.CertFault.{CertFault}
 use Rattle.sep_certificate.specs.declared.certificate.CertFault.TheVariants as cert
@@ -153,14 +153,14 @@ second_refusal cut =
 abbrev pub judged : List Name → Certificate → Option CertFault → Outcome
 judged names c None = outcome 0 (valid_line c.depth (length c.trees))
 judged names c (Some (cert.Missing a b cue)) = outcome 12 (refuse.missing_line (name_at names a) (name_at names b) cue)
-judged names c (Some (cert.Extra tree)) = outcome 12 (refuse.extra_line tree)
+judged names c (Some (cert.Extra tree)) = outcome 12 (refuse.extra_line c.version tree)
 judged names c (Some (cert.TooDeep a b cue)) = outcome 12 (refuse.too_deep_line (name_at names a) (name_at names b) cue)
 judged names c (Some (cert.Fails a b cue place dir control)) =
-    outcome 12 (refuse.fails_line (name_at names a) (name_at names b) cue place dir control)
+    outcome 12 (refuse.fails_line (name_at names a) (name_at names b) cue place c.version dir control)
 
 -- what a certificate comes to for the trajectories of a show
 abbrev pub judged_for : PlainShow → Certificate → Outcome
-judged_for s c = judged (names_of s) c (fault_of DIRECTIONS.n (raised_of (trajectories_of s)) s.settings.r s.settings.h c)
+judged_for s c = judged (names_of s) c (fault_of (table_of c.version) (raised_of (trajectories_of s)) s.settings.r s.settings.h c)
 
 -- a second text comes to its refusal, or to what the certificate comes to that it says
 abbrev pub SecondGives : Option Outcome → PlainShow → Cut → Outcome → Type 0

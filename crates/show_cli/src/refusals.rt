@@ -6,6 +6,7 @@ ghost use Rattle.fleet_io.specs.Held.{text_limit};
 ghost use Rattle.fleet_io.specs.Words.{IsWord};
 ghost use Rattle.choreo_reader.specs.Plain.{PlainShow, plain};
 ghost use Rattle.choreo_reader.specs.Valid.{IsValid};
+ghost use Rattle.sep_parts.specs.Versions.{IsVersion};
 ghost use Rattle.sep_certificate.specs.declared.certificate.Certificate.{Certificate};
 ghost use Rattle.show_plan.specs.Fitting.{IsFitted, IsValidFitted, PlanFails, StandsAsWord};
 ghost use Rattle.show_plan.specs.Separation.{CertificateGives};
@@ -173,11 +174,12 @@ pub fn unseparated(fitted: &Fitted, depth: u8, fault: PlanFault) -> Result<Answe
     }
 }
 
-/// What is wrong with a certificate for a show of these drones.
-pub fn invalid(names: &[Name], fault: CertFault) -> Answer
+/// What is wrong with a certificate of this version for a show of these drones.
+pub fn invalid(names: &[Name], version: u8, fault: CertFault) -> Answer
     requires words { All StandsAsWord names.now }
-    requires fault { IsFaultAmong (length names.now) fault }
-    ensures outcome { (c : Certificate) → outcome_of result ≡ judged names.now c (Some fault) }
+    requires version { IsVersion version }
+    requires fault { IsFaultAmong (length names.now) version fault }
+    ensures outcome { (c : Certificate) → c.version ≡ version → outcome_of result ≡ judged names.now c (Some fault) }
     ensures refused { IsRefusal result.status }
 {
     match fault {
@@ -185,7 +187,7 @@ pub fn invalid(names: &[Name], fault: CertFault) -> Answer
             let line = missing_line(name_at(names, a), name_at(names, b), cue);
             answer_line(Status::Invalid, line)
         }
-        CertFault::Extra { tree } => answer_line(Status::Invalid, extra_line(tree)),
+        CertFault::Extra { tree } => answer_line(Status::Invalid, extra_line(version, tree)),
         CertFault::TooDeep { a, b, cue } => {
             let line = too_deep_line(name_at(names, a), name_at(names, b), cue);
             answer_line(Status::Invalid, line)
@@ -200,7 +202,7 @@ pub fn invalid(names: &[Name], fault: CertFault) -> Answer
         } => {
             let first = name_at(names, a);
             let second = name_at(names, b);
-            let line = fails_line(first, second, cue, place, dir, control);
+            let line = fails_line(first, second, cue, place, version, dir, control);
             answer_line(Status::Invalid, line)
         }
     }

@@ -430,7 +430,7 @@ fn certificates(rt: HostRuntime) -> Result<(), Fail> {
 
 #[test]
 fn faulty_certificates(rt: HostRuntime) -> Result<(), Fail> {
-    let rows: [(&[u8], &[u8]); 10] = [
+    let rows: [(&[u8], &[u8]); 11] = [
         (b"%%\ncertificate 6\n.r\nl\na\n", b"error 11 line 2\n"),
         (b"%%\ncertificate 6\nr\nl\na\n%%\n", b"error 11 line 5\n"),
         (b"%%\n", b"error 11 line 1\n"),
@@ -440,10 +440,11 @@ fn faulty_certificates(rt: HostRuntime) -> Result<(), Fail> {
         (b"%%\ncertificate 6\naa\n", b"error 11 line 2\n"),
         (b"%%\ncertificate 6\n..aa\n", b"error 11 line 2\n"),
         (b"%%\ncertificate 6\nA\n", b"error 11 line 2\n"),
-        // another first line
+        // version 2: no depth, and a direction too many
+        (b"%%\nversion 2\n58\n46\n00\n", b"error 11 line 2\n"),
         (
-            b"%%\nversion 2\ncertificate 6\n58\n46\n00\n",
-            b"error 11 line 1\n",
+            b"%%\nversion 2\ncertificate 6\n98\n46\n00\n",
+            b"error 11 line 3\n",
         ),
     ];
     for (second, written) in rows {

@@ -1,7 +1,6 @@
 //! Whether a certificate is valid for a show.
 ghost use Rattle.std.specs.Prelude.{◌≡◌, ◌≤◌, length, IfOk};
 ghost use Rattle.choreo_reader.specs.Plain.{PlainShow};
-ghost use Rattle.sep_parts.specs.Directions.{direction_count};
 ghost use Rattle.sep_certificate.specs.Certificates.{IsWhole};
 ghost use Rattle.show_plan.specs.Fitting.{IsFitted, IsValidFitted};
 ghost use Rattle.show_plan.specs.Separation.{FlyApart};
@@ -22,7 +21,7 @@ use std::alloc::{AllocError, Global};
 // What a certificate comes to for a show.
 fn judge(alloc: Global, fitted: &Fitted, certificate: &Certificate) -> Result<Answer, AllocError>
     requires valid { IsValidFitted fitted.now }
-    requires whole { IsWhole direction_count certificate.now }
+    requires whole { IsWhole certificate.now }
     ensures gives { (s : PlainShow) → IsFitted fitted.now s → IfOk result (λ a. outcome_of a ≡ judged_for s certificate.now) }
     ensures apart { IfOk result (λ a. status_number a.status ≡ 0 → FlyApart fitted.now.settings fitted.now.sent) }
 {
@@ -33,7 +32,11 @@ fn judge(alloc: Global, fitted: &Fitted, certificate: &Certificate) -> Result<An
             let trees = certificate.trees.as_slice().len() as u32;
             Ok(answer_line(Status::Done, valid_line(certificate.depth, trees)))
         }
-        Err(fault) => Ok(invalid(fitted.names.as_slice(), fault)),
+        Err(fault) => Ok(invalid(
+            fitted.names.as_slice(),
+            certificate.version,
+            fault,
+        )),
     }
 }
 

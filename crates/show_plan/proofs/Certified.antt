@@ -1,5 +1,5 @@
 -- What is true of the certificate with the largest leaves, where no part of a show is blocked.
-use Rattle.std.proofs.Common.{◌≡◌, ℕ, zero, suc, ◌*◌, ◌^◌, ◌≤◌, ◌<◌, arith, refl, sym, ap, subst, List, [], ◌∷◌, ◌++◌, length, length-append, map, All, Option, Some, None}
+use Rattle.std.proofs.Common.{◌≡◌, inl, ℕ, zero, suc, ◌*◌, ◌^◌, ◌≤◌, ◌<◌, arith, refl, sym, ap, subst, List, [], ◌∷◌, ◌++◌, length, length-append, map, All, Option, Some, None}
 use Rattle.std.specs.Option.{option_map, option_or}
 use Rattle.std.proofs.lemmas.List.{length-map}
 use Rattle.std.proofs.lemmas.List.Elements.{All-nil, All-cons, All-head, All-tail, All-append}
@@ -127,22 +127,25 @@ module _ (law : SearchLaw) (e : Settings) (depth : ℕ) (curves : Raised) where
 
 -- what is promised of a certificate
 pub record IsCertified (e : Settings) (depth : ℕ) (trajs : List Traj) (cert : Certificate) : Type 0 where
-  pub whole : IsWhole direction_count cert
+  pub whole : IsWhole cert
   pub valid : IsValid DIRECTIONS.n (raised_of trajs) e.r e.h cert
   pub clear : IsShowClear e depth trajs
   pub apart : FlyApart e trajs
 
 best_whole : (e : Settings) (depth : ℕ) (trajs : List Traj) → SearchLaw → depth ≤ 8 → CurvesStandFor (raised_of trajs) trajs → blocked_part e depth trajs ≡ None →
-    IsWhole direction_count (best_certificate e depth trajs)
+    IsWhole (best_certificate e depth trajs)
 best_whole e depth trajs law shallow stands none =
     let curves : Raised = raised_of trajs in
     let drones : curves.drones ≤ 32 = omega (arith, stands.drones, stands.one_show.few_drones) in
     let cues : curves.cues ≤ 1000 = omega (arith, stands.cues, stands.one_show.few_cues) in
     record {
-      depth = shallow;
-      few = omega (arith, length-map (slots_of trajs) (best_nodes e depth curves), few_slots curves.drones curves.cues drones cues);
-      trees = all_trees law e depth curves (slots_of trajs) none;
-      leaves = all_known law e depth curves (slots_of trajs) none;
+      version = inl refl;
+      whole = record {
+        depth = shallow;
+        few = omega (arith, length-map (slots_of trajs) (best_nodes e depth curves), few_slots curves.drones curves.cues drones cues);
+        trees = all_trees law e depth curves (slots_of trajs) none;
+        leaves = all_known law e depth curves (slots_of trajs) none;
+      };
     }
 
 best_certified : (e : Settings) (depth : ℕ) (trajs : List Traj) → SearchLaw → CertificateLaw → depth ≤ 8 → CurvesStandFor (raised_of trajs) trajs → blocked_part e depth trajs ≡ None →
@@ -159,11 +162,11 @@ best_certified e depth trajs law keeps shallow stands none =
 -- The trees that are found over the curves of trajectories are a certificate of these.
 pub certified : (e : Settings) (depth : ℕ) (trajs : List Traj) (curves : Raised) (trees : List (List Node)) → SearchLaw → CertificateLaw → depth ≤ 8 → CurvesStandFor curves trajs → curves ≡ raised_of trajs →
     (blocked_in e depth curves (slots curves.drones curves.cues) ≡ None) × (trees ≡ map (best_nodes e depth curves) (slots curves.drones curves.cues)) →
-    IsCertified e depth trajs (record { depth = depth; trees = trees })
+    IsCertified e depth trajs (record { version = 1; depth = depth; trees = trees })
 certified e depth trajs curves trees law keeps shallow stands is found =
     let none : blocked_part e depth trajs ≡ None = subst (λ (c : Raised). blocked_in e depth c (slots c.drones c.cues) ≡ None) is found.0 in
     let all : trees ≡ map (best_nodes e depth (raised_of trajs)) (slots_of trajs) = subst (λ (c : Raised). trees ≡ map (best_nodes e depth c) (slots c.drones c.cues)) is found.1 in
-    subst (λ (ts : List (List Node)). IsCertified e depth trajs (record { depth = depth; trees = ts })) (sym all)
+    subst (λ (ts : List (List Node)). IsCertified e depth trajs (record { version = 1; depth = depth; trees = ts })) (sym all)
     (best_certified e depth trajs law keeps shallow (subst (λ (c : Raised). CurvesStandFor c trajs) is stands) none)
 
 -- What is sent flies apart where the trajectories by cue do.

@@ -52,7 +52,7 @@ best_nodes e depth curves slot = nodes_of (best_tree (direction_at e curves slot
 
 -- the certificate with the largest possible leaves, for trajectories of which no part of the depth is blocked
 abbrev pub best_certificate : Settings → ℕ → List Traj → Certificate
-best_certificate e depth trajs = record { depth = depth; trees = map (best_nodes e depth (raised_of trajs)) (slots_of trajs) }
+best_certificate e depth trajs = record { version = 1; depth = depth; trees = map (best_nodes e depth (raised_of trajs)) (slots_of trajs) }
 
 -- The certificate with the largest leaves, where no part is blocked; else the first part that is. Want of memory says nothing.
 abbrev pub CertificateGives : Settings → ℕ → List Traj → Result Certificate PlanFault → Type 0

@@ -1,7 +1,7 @@
 //! The certificate of a show, or the first part of a cue in which no direction separates two drones.
 
 ghost use Rattle.std.specs.Prelude.{◌≡◌, ◌≤◌, ℕ, map, Err, IfOk, IsOk};
-ghost use Rattle.sep_parts.specs.Directions.{IsAxis, direction_count, threshold};
+ghost use Rattle.sep_parts.specs.Directions.{IsAxis, threshold};
 ghost use Rattle.sep_parts.specs.declared.slot.Slot.{Slot};
 ghost use Rattle.sep_parts.specs.Raised.{raised_of};
 ghost use Rattle.sep_parts.specs.Slots.{IsSlot};
@@ -12,9 +12,9 @@ ghost use Rattle.show_plan.specs.Laws.{IsFirstPart, SeparationLaw};
 ghost use Rattle.show_plan.specs.Steps.{FindsTree, FindsTrees};
 
 use crate::fitted::{Fitted, PlanFault};
-use choreo_reader::Settings;
+use choreo_reader::{Listed, Settings};
 use pair_search::{Found, search_law, search_with};
-use sep_certificate::{Certificate, Curves, DIRECTIONS, Nodes, Trees, certificate_law, thresholds};
+use sep_certificate::{Certificate, Curves, DIRECTIONS, Node, certificate_law, thresholds};
 use sep_parts::{Slot, apart_law};
 use std::alloc::Global;
 
@@ -26,7 +26,7 @@ fn tree_of(
     thresholds: &[i128; 26],
     depth: u8,
     slot: Slot,
-) -> Result<Nodes, PlanFault>
+) -> Result<Listed<Node>, PlanFault>
     requires r { IsAxis settings.r }
     requires h { IsAxis settings.h }
     requires thresholds { thresholds.now ≡ map (threshold settings.r settings.h) DIRECTIONS.n }
@@ -46,7 +46,7 @@ fn tree_of(
         &mut nodes,
     )?;
     match found {
-        Found::Clear => Ok(Nodes::from_vec(nodes)),
+        Found::Clear => Ok(Listed::from_vec(nodes)),
         Found::Blocked { index } => Err(PlanFault::Blocked {
             a: slot.a,
             b: slot.b,
@@ -62,7 +62,7 @@ fn trees_of(
     curves: &Curves,
     settings: Settings,
     depth: u8,
-) -> Result<Trees, PlanFault>
+) -> Result<Listed<Listed<Node>>, PlanFault>
     requires r { IsAxis settings.r }
     requires h { IsAxis settings.h }
     requires depth { depth ≤ 8 }
@@ -80,7 +80,7 @@ fn trees_of(
         };
         slot = slot.next(drones, cues);
     }
-    Ok(Trees::from_vec(trees))
+    Ok(Listed::from_vec(trees))
 }
 
 /// A law. The blocked part that the contract of [`certificate`] cites is what its name says, whatever the trajectories: there is
@@ -100,7 +100,7 @@ pub fn certificate(alloc: Global, f: &Fitted, depth: u8) -> Result<Certificate, 
     requires valid { IsValidFitted f.now }
     requires depth { depth ≤ 8 }
     ensures gives { CertificateGives f.now.settings depth f.now.trajs result }
-    ensures whole { IfOk result (λ cert. IsWhole direction_count cert) }
+    ensures whole { IfOk result (λ cert. IsWhole cert) }
     ensures valid { IfOk result (λ cert. IsValid DIRECTIONS.n (raised_of f.now.trajs) f.now.settings.r f.now.settings.h cert) }
     ensures clear { IsOk result → IsShowClear f.now.settings depth f.now.trajs }
     ensures blocked { (slot : Slot) (index : ℕ) → result ≡ Err (blocked_at slot index)
@@ -114,5 +114,9 @@ pub fn certificate(alloc: Global, f: &Fitted, depth: u8) -> Result<Certificate, 
     apart_law();
     let curves = Curves::of_slice(alloc, f.trajs.as_slice())?;
     let trees = trees_of(alloc, &curves, f.settings, depth)?;
-    Ok(Certificate { depth, trees })
+    Ok(Certificate {
+        version: 1,
+        depth,
+        trees,
+    })
 }

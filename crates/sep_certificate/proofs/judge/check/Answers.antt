@@ -1,19 +1,12 @@
-use Rattle.std.proofs.Common.{◌≡◌, inl, refl, lit<, sym, ◌∙◌, ap, List, Option, Some, None, true, false}
+use Rattle.std.proofs.Common.{◌≡◌, refl, sym, ◌∙◌, ap, List, Option, Some, None, true, false}
 use Rattle.sep_certificate.specs.declared.certificate.Node.{Node}
 use Rattle.sep_certificate.specs.declared.certificate.CertFault.{CertFault}
-use Rattle.sep_parts.specs.declared.directions.TheConstants.{DIRECTIONS}
+use Rattle.sep_parts.specs.Versions.{table_of}
 use Rattle.sep_parts.specs.Slots.{slots}
 use Rattle.sep_certificate.specs.Certificates.{fault_of, first_fault_of, rules_of}
-use Rattle.sep_parts.proofs.Table.{small_table}
 use Rattle.sep_certificate.proofs.Verdicts.{valid_of, none_of_valid}
 use Rattle.sep_certificate.proofs.Keeping.{keeps}
 use Rattle.sep_certificate.proofs.judge.check.Goals as goal
-
-pub thresholds-requires : goal.thresholds-requires
-thresholds-requires c = (lit< tt, (lit< tt, (inl refl, (small_table DIRECTIONS.n refl, (c.requires.r, c.requires.h)))))
-
-pub first_fault-requires-clause-entries : goal.first_fault-requires-clause-entries
-first_fault-requires-clause-entries c = small_table DIRECTIONS.n refl
 
 some_is : (o p : Option CertFault) (f : CertFault) → o ≡ Some f → o ≡ p → p ≡ None → ⊥
 some_is o p f a b c = cc
@@ -21,9 +14,9 @@ some_is o p f a b c = cc
 pub returns-in-Some-clause-valid : goal.returns-in-Some-clause-valid
 returns-in-Some-clause-valid c = (
   λ no. absurd (never no),
-  λ valid. absurd (some_is c.first_fault.result (fault_of DIRECTIONS.n c.args.curves.now c.args.r c.args.h c.args.cert.now) c.in-Some.fault c.in-Some.is
-      (c.first_fault.ensures ∙ ap (λ (ts : List (List Node)). first_fault_of (rules_of c.args.r c.args.h c.args.cert.now) DIRECTIONS.n c.args.curves.now (slots c.args.curves.now.drones c.args.curves.now.cues) 0 ts) c.as_slice.ensures)
-      (none_of_valid (rules_of c.args.r c.args.h c.args.cert.now) DIRECTIONS.n c.args.curves.now (slots c.args.curves.now.drones c.args.curves.now.cues) 0 c.args.cert.now.trees valid)),
+  λ valid. absurd (some_is c.fault_in.result (fault_of (table_of c.args.cert.now.version) c.args.curves.now c.args.r c.args.h c.args.cert.now) c.in-Some.fault c.in-Some.is
+      (c.fault_in.ensures ∙ ap (λ (ts : List (List Node)). first_fault_of (rules_of c.args.r c.args.h c.args.cert.now) (table_of c.args.cert.now.version) c.args.curves.now (slots c.args.curves.now.drones c.args.curves.now.cues) 0 ts) c.as_slice.ensures)
+      (none_of_valid (rules_of c.args.r c.args.h c.args.cert.now) (table_of c.args.cert.now.version) c.args.curves.now (slots c.args.curves.now.drones c.args.curves.now.cues) 0 c.args.cert.now.trees valid)),
 )
   where
     never : false ≡ true → ⊥
@@ -31,15 +24,15 @@ returns-in-Some-clause-valid c = (
 
 pub returns-in-None-clause-valid : goal.returns-in-None-clause-valid
 returns-in-None-clause-valid c = (
-  λ ok. valid_of (rules_of c.args.r c.args.h c.args.cert.now) DIRECTIONS.n c.args.curves.now (slots c.args.curves.now.drones c.args.curves.now.cues) 0 c.args.cert.now.trees c.requires.whole.trees
-      (ap (λ (ts : List (List Node)). first_fault_of (rules_of c.args.r c.args.h c.args.cert.now) DIRECTIONS.n c.args.curves.now (slots c.args.curves.now.drones c.args.curves.now.cues) 0 ts) (sym c.as_slice.ensures)
-      ∙ sym c.first_fault.ensures ∙ c.in-None.is),
+  λ ok. valid_of (rules_of c.args.r c.args.h c.args.cert.now) (table_of c.args.cert.now.version) c.args.curves.now (slots c.args.curves.now.drones c.args.curves.now.cues) 0 c.args.cert.now.trees c.requires.whole.whole.trees
+      (ap (λ (ts : List (List Node)). first_fault_of (rules_of c.args.r c.args.h c.args.cert.now) (table_of c.args.cert.now.version) c.args.curves.now (slots c.args.curves.now.drones c.args.curves.now.cues) 0 ts) (sym c.as_slice.ensures)
+      ∙ sym c.fault_in.ensures ∙ c.in-None.is),
   λ valid. refl,
 )
 
 pub returns-in-None-clause-apart : goal.returns-in-None-clause-apart
 returns-in-None-clause-apart c ok =
-    keeps (rules_of c.args.r c.args.h c.args.cert.now) DIRECTIONS.n c.args.curves.now c.args.cert.now.trees
-    (valid_of (rules_of c.args.r c.args.h c.args.cert.now) DIRECTIONS.n c.args.curves.now (slots c.args.curves.now.drones c.args.curves.now.cues) 0 c.args.cert.now.trees c.requires.whole.trees
-    (ap (λ (ts : List (List Node)). first_fault_of (rules_of c.args.r c.args.h c.args.cert.now) DIRECTIONS.n c.args.curves.now (slots c.args.curves.now.drones c.args.curves.now.cues) 0 ts) (sym c.as_slice.ensures)
-    ∙ sym c.first_fault.ensures ∙ c.in-None.is))
+    keeps (rules_of c.args.r c.args.h c.args.cert.now) (table_of c.args.cert.now.version) c.args.curves.now c.args.cert.now.trees
+    (valid_of (rules_of c.args.r c.args.h c.args.cert.now) (table_of c.args.cert.now.version) c.args.curves.now (slots c.args.curves.now.drones c.args.curves.now.cues) 0 c.args.cert.now.trees c.requires.whole.whole.trees
+    (ap (λ (ts : List (List Node)). first_fault_of (rules_of c.args.r c.args.h c.args.cert.now) (table_of c.args.cert.now.version) c.args.curves.now (slots c.args.curves.now.drones c.args.curves.now.cues) 0 ts) (sym c.as_slice.ensures)
+    ∙ sym c.fault_in.ensures ∙ c.in-None.is))

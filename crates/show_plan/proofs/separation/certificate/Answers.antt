@@ -4,7 +4,7 @@ use Rattle.sep_parts.specs.Raised.{CurvesStandFor, raised_of}
 use Rattle.show_plan.proofs.Certified.{IsCertified, certified, sent_flies_apart}
 use Rattle.show_plan.proofs.separation.certificate.Goals as goal
 
-found : (c : goal.After-drop-curves-inside-2) → IsCertified c.args.f.now.settings c.args.depth c.args.f.now.trajs (record { depth = c.args.depth; trees = c.in_ok-trees.trees })
+found : (c : goal.After-drop-curves-inside-2) → IsCertified c.args.f.now.settings c.args.depth c.args.f.now.trajs (record { version = 1; depth = c.args.depth; trees = c.in_ok-trees.trees })
 found c =
     certified c.args.f.now.settings c.args.depth c.args.f.now.trajs c.in_ok-curves.curves c.in_ok-trees.trees c.search_law.ensures c.certificate_law.ensures c.requires.depth
     (subst (λ (ts : List Traj). CurvesStandFor c.in_ok-curves.curves ts) c.as_slice.ensures c.in_ok-curves.ensures.stands)

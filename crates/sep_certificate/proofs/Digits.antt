@@ -1,0 +1,246 @@
+-- Bytes that spell trees of version 2: leaves are two digits.
+use Rattle.std.proofs.Common.{◌≡◌, ℕ, zero, suc, ◌+◌, ◌-◌, ◌*◌, ◌/◌, ◌%◌, ◌≤◌, ◌<◌, Bool, true, false, cond, ◌&&◌, ◌==◌, nat_le, arith, refl, sym, ◌∙◌, ap, List, [], ◌∷◌, ◌++◌, append-nil, append_assoc, length, drop, get_or, All, Option, Some, None}
+use Rattle.std.specs.Prelude.{nat_lt}
+use Rattle.std.proofs.Math.Seq.{drop-cons}
+use Rattle.std.proofs.lemmas.Bool.Decides.{nat_tests}
+use Rattle.std.proofs.lemmas.List.{drop_all}
+use Rattle.std.proofs.lemmas.List.Elements.{All-nil, All-cons}
+use Rattle.sep_certificate.specs.declared.certificate.Node.{Node}
+use Rattle.sep_certificate.specs.declared.certificate.Node.TheVariants.{Split, Leaf}
+use Rattle.sep_certificate.specs.Certificates.{Tree, IsTree, IsKnown, preorder}
+use Rattle.sep_certificate.specs.Certificates.Tree.{leaf}
+use Rattle.sep_certificate.specs.Steps.{leaf_in, wide_nodes}
+use Rattle.sep_certificate.specs.Texts.{is_digit, is_spelled_wide, is_wide_leaf, tree_line, two_digits}
+use Rattle.sep_certificate.proofs.Spelled.{IsForest, dot_told, two_in_one}
+
+-- ---- two digits
+tens : (x y : ℕ) → x ≤ 9 → y ≤ 9 → ((x * 10 + y) / 10 ≡ x) × ((x * 10 + y) % 10 ≡ y)
+tens x y small also = (omega arith, omega arith)
+
+both : (a b : Bool) → (a && b) ≡ true → (a ≡ true) × (b ≡ true)
+both true true e = (refl, refl)
+both true false e = cc
+both false b e = cc
+
+digit_told : (b : ℕ) → is_digit b ≡ true → (48 ≤ b) × (b ≤ 57)
+digit_told b e = let parts = both (nat_le 48 b) (nat_le b 57) e in (low 48 b parts.0, low b 57 parts.1)
+  where
+    low : (m n : ℕ) → nat_le m n ≡ true → m ≤ n
+    low m n e = grind (arith, nat_tests)
+
+-- two digits that name a direction
+record IsLeafOf (b c : ℕ) : Type 0 where
+  first_low : 48 ≤ b
+  first_high : b ≤ 57
+  second_low : 48 ≤ c
+  second_high : c ≤ 57
+  small : two_digits b c < 98
+
+leaf_told : (b c : ℕ) → is_wide_leaf b c ≡ true → IsLeafOf b c
+leaf_told b c e =
+    let first = both (is_digit b && is_digit c) (nat_lt (two_digits b c) 98) e in
+    let digits = both (is_digit b) (is_digit c) first.0 in
+    let one = digit_told b digits.0 in
+    let two = digit_told c digits.1 in
+    record { first_low = one.0; first_high = one.1; second_low = two.0; second_high = two.1; small = below (two_digits b c) 98 first.1 }
+  where
+    below : (m n : ℕ) → nat_lt m n ≡ true → m < n
+    below m n e = grind (arith, nat_tests)
+
+-- they are the word of the direction
+word_is : (b c : ℕ) → IsLeafOf b c → (48 + two_digits b c / 10 ≡ b) × (48 + two_digits b c % 10 ≡ c)
+word_is b c is =
+    let parts = tens (b - 48) (c - 48) (omega (arith, is.first_high)) (omega (arith, is.second_high)) in
+    (omega (arith, parts.0, is.first_low), omega (arith, parts.1, is.second_low))
+
+-- ---- what bytes that pass spell
+record SpellsWide (n : ℕ) (line : List ℕ) (nodes : List Node) : Type 0 where
+  is : line ≡ tree_line 2 nodes
+  forest : IsForest n nodes
+  known : All (IsKnown 98) nodes
+
+dot_first : (n b : ℕ) (bytes : List ℕ) (nodes : List Node) → b ≡ 46 → SpellsWide (suc (suc n)) bytes nodes → SpellsWide (suc n) (b ∷ bytes) (Split ∷ nodes)
+dot_first n b bytes nodes e spells = record {
+  is = ap (λ (x : ℕ). x ∷ bytes) e ∙ ap (λ (xs : List ℕ). 46 ∷ xs) spells.is;
+  forest = two_in_one n nodes spells.forest;
+  known = All-cons (IsKnown 98) Split nodes tt spells.known;
+}
+
+leaf_first : (n b c : ℕ) (bytes : List ℕ) (nodes : List Node) → IsLeafOf b c → SpellsWide n bytes nodes → SpellsWide (suc n) (b ∷ c ∷ bytes) (Leaf (two_digits b c) ∷ nodes)
+leaf_first n b c bytes nodes is spells =
+    let word = word_is b c is in
+    record {
+      is = ap (λ (x : ℕ). x ∷ c ∷ bytes) (sym word.0) ∙ ap (λ (x : ℕ). (48 + two_digits b c / 10) ∷ x ∷ bytes) (sym word.1)
+          ∙ ap (λ (xs : List ℕ). (48 + two_digits b c / 10) ∷ (48 + two_digits b c % 10) ∷ xs) spells.is;
+      forest = (leaf (two_digits b c), nodes, refl, spells.forest);
+      known = All-cons (IsKnown 98) (Leaf (two_digits b c)) nodes is.small spells.known;
+    }
+
+wide_forest : (line : List ℕ) (n : ℕ) → is_spelled_wide n line ≡ true → SpellsWide n line (wide_nodes line)
+wide_forest [] zero e = record { is = refl; forest = refl; known = All-nil (IsKnown 98) }
+wide_forest [] (suc n) e = absurd (cc)
+wide_forest (b ∷ []) zero e = absurd (cc)
+wide_forest (b ∷ []) (suc n) e = absurd (cc)
+wide_forest (b ∷ c ∷ bytes) zero e = absurd (cc)
+wide_forest (b ∷ c ∷ bytes) (suc n) e = go (b == 46) (is_wide_leaf b c) refl refl e (wide_forest (c ∷ bytes) (suc (suc n))) (wide_forest bytes n)
+  where
+    go : (s t : Bool) → (b == 46) ≡ s → is_wide_leaf b c ≡ t → cond s (is_spelled_wide (suc (suc n)) (c ∷ bytes)) (cond t (is_spelled_wide n bytes) false) ≡ true →
+        (is_spelled_wide (suc (suc n)) (c ∷ bytes) ≡ true → SpellsWide (suc (suc n)) (c ∷ bytes) (wide_nodes (c ∷ bytes))) →
+        (is_spelled_wide n bytes ≡ true → SpellsWide n bytes (wide_nodes bytes)) →
+        SpellsWide (suc n) (b ∷ c ∷ bytes) (cond s (Split ∷ wide_nodes (c ∷ bytes)) (Leaf (two_digits b c) ∷ wide_nodes bytes))
+    go true t p q e two one = dot_first n b (c ∷ bytes) (wide_nodes (c ∷ bytes)) (dot_told b p) (two e)
+    go false true p q e two one = leaf_first n b c bytes (wide_nodes bytes) (leaf_told b c q) (one e)
+    go false false p q e two one = absurd (cc)
+
+-- a line that passes is one whole tree
+pub wide_told : (line : List ℕ) → is_spelled_wide 1 line ≡ true → (line ≡ tree_line 2 (wide_nodes line)) × IsTree (wide_nodes line) × All (IsKnown 98) (wide_nodes line)
+wide_told line e = close (wide_nodes line) (wide_forest line 1 e)
+  where
+    close : (nodes : List Node) → SpellsWide 1 line nodes → (line ≡ tree_line 2 nodes) × IsTree nodes × All (IsKnown 98) nodes
+    close nodes spells =
+        let tree : Tree = spells.forest.0 in
+        (spells.is, (tree, spells.forest.2 ∙ ap (λ (ns : List Node). preorder tree ++ ns) spells.forest.3 ∙ append-nil (preorder tree)), spells.known)
+
+-- ---- the walk over a line
+wide_none : (line : List ℕ) (i : ℕ) → i < length line → is_spelled_wide 0 (drop i line) ≡ false
+wide_none line i inside = rw (drop-cons line i 0 inside) refl
+
+-- a split in front
+dot_step : (n : ℕ) (bytes : List ℕ) → (is_spelled_wide (suc n) (46 ∷ bytes) ≡ is_spelled_wide (suc (suc n)) bytes) × (wide_nodes (46 ∷ bytes) ≡ Split ∷ wide_nodes bytes)
+dot_step n [] = (refl, refl)
+dot_step n (c ∷ bytes) = (refl, refl)
+
+pub wide_split : (line : List ℕ) (n m i : ℕ) → i < length line → 1 ≤ n → m ≡ n + 1 → get_or line i 0 ≡ 46 →
+    (is_spelled_wide m (drop (i + 1) line) ≡ is_spelled_wide n (drop i line)) × (wide_nodes (drop i line) ≡ Split ∷ wide_nodes (drop (i + 1) line))
+wide_split line zero m i inside some m_is e = absurd (omega arith)
+wide_split line (suc n) m i inside some m_is e =
+    let up : i + 1 ≡ suc i = omega arith in
+    let more : m ≡ suc (suc n) = omega arith in
+    rw (up, more, drop-cons line i 0 inside, e) (sym (dot_step n (drop (suc i) line)).0, (dot_step n (drop (suc i) line)).1)
+
+not_dot : (b : ℕ) → (b ≡ 46 → ⊥) → (b == 46) ≡ false
+not_dot b other = go (b == 46) refl
+  where
+    go : (s : Bool) → (b == 46) ≡ s → s ≡ false
+    go true e = absurd (other (dot_told b e))
+    go false e = refl
+
+-- a leaf in front
+leaf_step : (n b dir : ℕ) (bytes : List ℕ) → (b ≡ 46 → ⊥) → Some dir ≡ leaf_in (b ∷ bytes) →
+    (is_spelled_wide (suc n) (b ∷ bytes) ≡ is_spelled_wide n (drop 1 bytes)) × (wide_nodes (b ∷ bytes) ≡ Leaf dir ∷ wide_nodes (drop 1 bytes)) × (1 ≤ length bytes)
+leaf_step n b dir [] other is = absurd (cc)
+leaf_step n b dir (c ∷ bytes) other is = go (b == 46) (is_wide_leaf b c) (not_dot b other) is
+  where
+    go : (s t : Bool) → s ≡ false → Some dir ≡ cond t (Some (two_digits b c)) None →
+        (cond s (is_spelled_wide (suc (suc n)) (c ∷ bytes)) (cond t (is_spelled_wide n bytes) false) ≡ is_spelled_wide n bytes)
+        × (cond s (Split ∷ wide_nodes (c ∷ bytes)) (Leaf (two_digits b c) ∷ wide_nodes bytes) ≡ Leaf dir ∷ wide_nodes bytes) × (1 ≤ length (c ∷ bytes))
+    go true t e is = absurd (cc)
+    go false true e is = (refl, ap (λ (d : ℕ). Leaf d ∷ wide_nodes bytes) (inside (two_digits b c) dir (sym is)), omega arith)
+      where
+        inside : (x y : ℕ) → ◌≡◌ {A = Option ℕ} (Some x) (Some y) → x ≡ y
+        inside x y e = cc
+    go false false e is = absurd (cc)
+
+pub wide_leaf : (line : List ℕ) (n m i dir : ℕ) → i < length line → m + 1 ≡ n → (get_or line i 0 ≡ 46 → ⊥) → Some dir ≡ leaf_in (drop i line) →
+    (is_spelled_wide m (drop (i + 2) line) ≡ is_spelled_wide n (drop i line)) × (wide_nodes (drop i line) ≡ Leaf dir ∷ wide_nodes (drop (i + 2) line)) × (i + 2 ≤ length line)
+wide_leaf line n m i dir inside n_is other is =
+    let more : n ≡ suc m = omega arith in
+    let here : drop i line ≡ get_or line i 0 ∷ drop (suc i) line = drop-cons line i 0 inside in
+    let step = leaf_step m (get_or line i 0) dir (drop (suc i) line) other (is ∙ ap leaf_in here) in
+    let behind : drop (i + 2) line ≡ drop 1 (drop (suc i) line) = two_more line i in (
+      ap (is_spelled_wide m) behind ∙ sym step.0 ∙ ap (is_spelled_wide (suc m)) (sym here) ∙ ap (λ (k : ℕ). is_spelled_wide k (drop i line)) (sym more),
+      ap wide_nodes here ∙ step.1 ∙ ap (λ (xs : List ℕ). Leaf dir ∷ wide_nodes xs) (sym behind),
+      far line i inside step.2,
+    )
+  where
+    next : (xs : List ℕ) (i : ℕ) → drop (suc (suc i)) xs ≡ drop 1 (drop (suc i) xs)
+    next [] i = refl
+    next (x ∷ xs) zero = refl
+    next (x ∷ xs) (suc i) = next xs i
+
+    two_more : (xs : List ℕ) (i : ℕ) → drop (i + 2) xs ≡ drop 1 (drop (suc i) xs)
+    two_more xs i = let up : i + 2 ≡ suc (suc i) = omega arith in rw up (next xs i)
+
+    far : (xs : List ℕ) (i : ℕ) → i < length xs → 1 ≤ length (drop (suc i) xs) → i + 2 ≤ length xs
+    far [] i inside some = absurd (omega arith)
+    far (x ∷ []) zero inside some = absurd (omega arith)
+    far (x ∷ y ∷ xs) zero inside some = omega arith
+    far (x ∷ xs) (suc i) inside some = omega (arith, far xs i (omega arith) some)
+
+-- no leaf in front, where one is wanted
+none_step : (n b : ℕ) (bytes : List ℕ) → (b ≡ 46 → ⊥) → None ≡ leaf_in (b ∷ bytes) → is_spelled_wide (suc n) (b ∷ bytes) ≡ false
+none_step n b [] other is = refl
+none_step n b (c ∷ bytes) other is = go (b == 46) (is_wide_leaf b c) (not_dot b other) is
+  where
+    go : (s t : Bool) → s ≡ false → None ≡ cond t (Some (two_digits b c)) None → cond s (is_spelled_wide (suc (suc n)) (c ∷ bytes)) (cond t (is_spelled_wide n bytes) false) ≡ false
+    go true t e is = absurd (cc)
+    go false true e is = absurd (cc)
+    go false false e is = refl
+
+pub wide_stop : (line : List ℕ) (n i : ℕ) → i < length line → 1 ≤ n → (get_or line i 0 ≡ 46 → ⊥) → None ≡ leaf_in (drop i line) → is_spelled_wide n (drop i line) ≡ false
+wide_stop line zero i inside some other is = absurd (omega arith)
+wide_stop line (suc n) i inside some other is =
+    let here : drop i line ≡ get_or line i 0 ∷ drop (suc i) line = drop-cons line i 0 inside in
+    ap (is_spelled_wide (suc n)) here ∙ none_step n (get_or line i 0) (drop (suc i) line) other (is ∙ ap leaf_in here)
+
+pub wide_over : (line : List ℕ) (n i : ℕ) → i < length line → n ≡ 0 → is_spelled_wide n (drop i line) ≡ false
+wide_over line n i inside e = ap (λ (k : ℕ). is_spelled_wide k (drop i line)) e ∙ wide_none line i inside
+
+pub wide_end : (line : List ℕ) (i : ℕ) → length line ≤ i → (is_spelled_wide 0 (drop i line) ≡ true) × (wide_nodes (drop i line) ≡ [])
+wide_end line i far = rw (drop_all i line far) (refl, refl)
+
+pub wide_short : (line : List ℕ) (n i : ℕ) → length line ≤ i → 1 ≤ n → is_spelled_wide n (drop i line) ≡ false
+wide_short line zero i far some = absurd (omega arith)
+wide_short line (suc n) i far some = ap (is_spelled_wide (suc n)) (drop_all i line far)
+
+-- ---- from nodes to bytes and back
+word_back : (dir : ℕ) → two_digits (48 + dir / 10) (48 + dir % 10) ≡ dir
+word_back dir = omega arith
+
+word_no_dot : (dir : ℕ) → ((48 + dir / 10) == 46) ≡ false
+word_no_dot dir = not_dot (48 + dir / 10) (λ e. absurd (omega (arith, e)))
+
+pub wide_back : (nodes : List Node) → wide_nodes (tree_line 2 nodes) ≡ nodes
+wide_back [] = refl
+wide_back (Split ∷ nodes) = (dot_step 0 (tree_line 2 nodes)).1 ∙ ap (λ (ns : List Node). Split ∷ ns) (wide_back nodes)
+wide_back (Leaf dir ∷ nodes) =
+    ap (λ (s : Bool). cond s (Split ∷ wide_nodes ((48 + dir % 10) ∷ tree_line 2 nodes)) (Leaf (two_digits (48 + dir / 10) (48 + dir % 10)) ∷ wide_nodes (tree_line 2 nodes))) (word_no_dot dir)
+    ∙ ap (λ (d : ℕ). Leaf d ∷ wide_nodes (tree_line 2 nodes)) (word_back dir)
+    ∙ ap (λ (ns : List Node). Leaf dir ∷ ns) (wide_back nodes)
+
+digit_is : (d : ℕ) → d ≤ 9 → is_digit (48 + d) ≡ true
+digit_is d small = two (nat_le 48 (48 + d)) (nat_le (48 + d) 57) (above 48 (48 + d) (omega arith)) (above (48 + d) 57 (omega arith))
+  where
+    above : (m n : ℕ) → m ≤ n → nat_le m n ≡ true
+    above m n h = grind (arith, nat_tests)
+
+    two : (a b : Bool) → a ≡ true → b ≡ true → (a && b) ≡ true
+    two a b p q = rw (p, q) refl
+
+leaf_is : (dir : ℕ) → dir < 98 → is_wide_leaf (48 + dir / 10) (48 + dir % 10) ≡ true
+leaf_is dir small =
+    three (is_digit (48 + dir / 10)) (is_digit (48 + dir % 10)) (nat_lt (two_digits (48 + dir / 10) (48 + dir % 10)) 98)
+    (digit_is (dir / 10) (omega arith)) (digit_is (dir % 10) (omega arith)) (below (two_digits (48 + dir / 10) (48 + dir % 10)) 98 (omega (arith, word_back dir)))
+  where
+    below : (m n : ℕ) → m < n → nat_lt m n ≡ true
+    below m n h = grind (arith, nat_tests)
+
+    three : (a b c : Bool) → a ≡ true → b ≡ true → c ≡ true → (a && b && c) ≡ true
+    three a b c p q r = rw (p, q, r) refl
+
+-- the word of a known direction spells one tree more
+pub word_spelled : (n dir : ℕ) (rest : List ℕ) → dir < 98 → is_spelled_wide (suc n) ((48 + dir / 10) ∷ (48 + dir % 10) ∷ rest) ≡ is_spelled_wide n rest
+word_spelled n dir rest small = rw (word_no_dot dir, leaf_is dir small) refl
+
+pub dot_spelled : (n : ℕ) (rest : List ℕ) → is_spelled_wide (suc n) (46 ∷ rest) ≡ is_spelled_wide (suc (suc n)) rest
+dot_spelled n rest = (dot_step n rest).0
+
+-- a node more
+pub nodes_next : (old new whole here rest : List Node) (node : Node) → new ≡ old ++ node ∷ [] → here ≡ node ∷ rest → old ++ here ≡ whole → new ++ rest ≡ whole
+nodes_next old new whole here rest node new_is here_is same =
+    ap (λ (ns : List Node). ns ++ rest) new_is ∙ append_assoc old (node ∷ []) rest ∙ ap (λ (ns : List Node). old ++ ns) (sym here_is) ∙ same
+
+-- what a line that passes is, where these are its nodes
+pub tells_wide : (line : List ℕ) (nodes : List Node) → is_spelled_wide 1 line ≡ true → nodes ≡ wide_nodes line →
+    (is_spelled_wide 1 line ≡ true) × (line ≡ tree_line 2 nodes) × IsTree nodes × All (IsKnown 98) nodes
+tells_wide line nodes spelled are = let told = wide_told line spelled in rw are (spelled, told.0, told.1, told.2)
