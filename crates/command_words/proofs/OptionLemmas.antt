@@ -1,0 +1,96 @@
+-- Words are read as options exactly where they are these options.
+use Rattle.std.proofs.Common.{◌≡◌, ℕ, Bool, true, false, cond, List, [], ◌∷◌, ◌++◌, Option, Some, None, codes, refl, sym, ap, subst, ◌∙◌}
+use Rattle.std.specs.Prelude.{bytes_eq, option_map}
+use Rattle.std.proofs.lemmas.Slice.Eq.{bytes_eq-Decides}
+use Rattle.command_words.specs.Commands.{Given, given_depth, given_step, given_start, options_of, before, valued, depth_of, step_of, SpellsOption, SpellsOptions, WordsLaw}
+
+-- `--start` before other words is an option before theirs
+start_then : (rest : List (List ℕ)) → options_of (codes "--start" ∷ rest) ≡ before (Some given_start) (options_of rest)
+start_then [] = refl
+start_then (value ∷ words) = refl
+
+-- ---- words that are options are read
+
+reads : (gs : List Given) (words : List (List ℕ)) → SpellsOptions gs words → options_of words ≡ Some gs
+reads [] words is = ap options_of is
+reads (given_depth n ∷ gs) words (front, rest, (value, front_is, n_is), spells, is) =
+    ap options_of is ∙ ap (λ (f : List (List ℕ)). options_of (f ++ rest)) front_is
+    ∙ ap (λ (o : Option ℕ). before (option_map given_depth o) (options_of rest)) n_is ∙ ap (before (Some (given_depth n))) (reads gs rest spells)
+reads (given_step n ∷ gs) words (front, rest, (value, front_is, n_is), spells, is) =
+    ap options_of is ∙ ap (λ (f : List (List ℕ)). options_of (f ++ rest)) front_is
+    ∙ ap (λ (o : Option ℕ). before (option_map given_step o) (options_of rest)) n_is ∙ ap (before (Some (given_step n))) (reads gs rest spells)
+reads (given_start ∷ gs) words (front, rest, front_is, spells, is) =
+    ap options_of is ∙ ap (λ (f : List (List ℕ)). options_of (f ++ rest)) front_is ∙ start_then rest ∙ ap (before (Some given_start)) (reads gs rest spells)
+
+-- ---- words that are read are options
+
+-- what is read before the rest, and the rest
+pub record Splits (first : Option Given) (rest : Option (List Given)) (gs : List Given) : Type 0 where
+  pub given : Given
+  pub more : List Given
+  pub first_is : first ≡ Some given
+  pub rest_is : rest ≡ Some more
+  pub is : gs ≡ given ∷ more
+
+splits : (first : Option Given) (rest : Option (List Given)) (gs : List Given) → before first rest ≡ Some gs → Splits first rest gs
+splits None rest gs are = absurd (cc)
+splits (Some given) None gs are = absurd (cc)
+splits (Some given) (Some more) gs are = record { given = given; more = more; first_is = refl; rest_is = refl; is = cc }
+
+-- a depth that is read is spelled
+depth_found : (word value : List ℕ) (found : Option ℕ) (given : Given) → word ≡ codes "--depth" → depth_of value ≡ found → option_map given_depth found ≡ Some given → SpellsOption given (word ∷ value ∷ [])
+depth_found word value None given is from are = absurd (cc)
+depth_found word value (Some n) given is from are =
+    let e : given_depth n ≡ given = cc in
+    subst (λ (g : Given). SpellsOption g (word ∷ value ∷ [])) e (value, ap (λ (w : List ℕ). w ∷ value ∷ []) is, from)
+
+-- a step that is read is spelled
+step_found : (word value : List ℕ) (found : Option ℕ) (given : Given) → word ≡ codes "--step" → step_of value ≡ found → option_map given_step found ≡ Some given → SpellsOption given (word ∷ value ∷ [])
+step_found word value None given is from are = absurd (cc)
+step_found word value (Some n) given is from are =
+    let e : given_step n ≡ given = cc in
+    subst (λ (g : Given). SpellsOption g (word ∷ value ∷ [])) e (value, ap (λ (w : List ℕ). w ∷ value ∷ []) is, from)
+
+-- an option of two words is spelled by them
+valued_is : (word value : List ℕ) (depth step : Bool) (given : Given) → (depth ≡ true → word ≡ codes "--depth") → (step ≡ true → word ≡ codes "--step") →
+    cond depth (option_map given_depth (depth_of value)) (cond step (option_map given_step (step_of value)) None) ≡ Some given → SpellsOption given (word ∷ value ∷ [])
+valued_is word value true step given is_depth is_step are = depth_found word value (depth_of value) given (is_depth refl) refl are
+valued_is word value false true given is_depth is_step are = step_found word value (step_of value) given (is_step refl) refl are
+valued_is word value false false given is_depth is_step are = absurd (cc)
+
+-- one word that is read is `--start`
+single_is : (word : List ℕ) (start : Bool) (gs : List Given) → (start ≡ true → word ≡ codes "--start") → cond start (Some (given_start ∷ [])) None ≡ Some gs → SpellsOptions gs (word ∷ [])
+single_is word false gs is_start are = absurd (cc)
+single_is word true gs is_start are =
+    let e : given_start ∷ [] ≡ gs = cc in
+    subst (λ (g : List Given). SpellsOptions g (word ∷ [])) e (word ∷ [], [], ap (λ (w : List ℕ). w ∷ []) (is_start refl), refl, refl)
+
+-- words that are read begin with `--start` or with an option of two words
+several_are : (word value : List ℕ) (words : List (List ℕ)) (start : Bool) (gs : List Given) → (start ≡ true → word ≡ codes "--start") →
+    ((more : List Given) → options_of (value ∷ words) ≡ Some more → SpellsOptions more (value ∷ words)) → ((more : List Given) → options_of words ≡ Some more → SpellsOptions more words) →
+    cond start (before (Some given_start) (options_of (value ∷ words))) (before (valued word value) (options_of words)) ≡ Some gs → SpellsOptions gs (word ∷ value ∷ words)
+several_are word value words true gs is_start after_one after_two are =
+    let s = splits (Some given_start) (options_of (value ∷ words)) gs are in
+    let first : s.given ≡ given_start = cc (s.first_is) in
+    let e : given_start ∷ s.more ≡ gs = cc (s.is, first) in
+    subst (λ (g : List Given). SpellsOptions g (word ∷ value ∷ words)) e (word ∷ [], value ∷ words, ap (λ (w : List ℕ). w ∷ []) (is_start refl), after_one s.more s.rest_is, refl)
+several_are word value words false gs is_start after_one after_two are =
+    let s = splits (valued word value) (options_of words) gs are in
+    subst (λ (g : List Given). SpellsOptions g (word ∷ value ∷ words)) (sym s.is) (
+      word ∷ value ∷ [],
+      words,
+      valued_is word value (bytes_eq word (codes "--depth")) (bytes_eq word (codes "--step")) s.given (bytes_eq-Decides word (codes "--depth")).0 (bytes_eq-Decides word (codes "--step")).0 s.first_is,
+      after_two s.more s.rest_is,
+      refl,
+    )
+
+are_spelled : (words : List (List ℕ)) (gs : List Given) → options_of words ≡ Some gs → SpellsOptions gs words
+are_spelled [] [] are = refl
+are_spelled [] (given ∷ gs) are = absurd (cc)
+are_spelled (word ∷ []) gs are = single_is word (bytes_eq word (codes "--start")) gs (bytes_eq-Decides word (codes "--start")).0 are
+are_spelled (word ∷ value ∷ words) gs are =
+    several_are word value words (bytes_eq word (codes "--start")) gs (bytes_eq-Decides word (codes "--start")).0
+    (λ more is. are_spelled (value ∷ words) more is) (λ more is. are_spelled words more is) are
+
+pub words_law : WordsLaw
+words_law words gs = (are_spelled words gs, reads gs words)

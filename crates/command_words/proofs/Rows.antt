@@ -1,0 +1,50 @@
+-- Words and what they are.
+use Rattle.std.proofs.Common.{◌≡◌, [], ◌∷◌, Some, None, true, refl}
+use Rattle.std.specs.Prelude.{codes}
+use Rattle.command_words.specs.declared.command.Command.TheVariants.{Play, Rehearse, Upload, Drill}
+use Rattle.command_words.specs.Commands.{command_of}
+
+either_order : command_of (codes "play" ∷ codes "--step" ∷ codes "500" ∷ codes "--depth" ∷ codes "3" ∷ []) ≡ Some (Play 3 500)
+either_order = refl
+
+start_first : command_of (codes "rehearse" ∷ codes "--start" ∷ codes "--depth" ∷ codes "0" ∷ []) ≡ Some (Rehearse 0 true)
+start_first = refl
+
+start_last : command_of (codes "upload" ∷ codes "--depth" ∷ codes "000000008" ∷ codes "--start" ∷ []) ≡ Some (Upload 8 true)
+start_last = refl
+
+twice : command_of (codes "upload" ∷ codes "--start" ∷ codes "--start" ∷ []) ≡ None
+twice = refl
+
+swallowed : command_of (codes "rehearse" ∷ codes "--start" ∷ codes "3" ∷ []) ≡ None
+swallowed = refl
+
+taken_for_option : command_of (codes "play" ∷ codes "--depth" ∷ codes "--step" ∷ codes "5" ∷ []) ≡ None
+taken_for_option = refl
+
+no_value : command_of (codes "compile" ∷ codes "--depth" ∷ []) ≡ None
+no_value = refl
+
+of_another : command_of (codes "check" ∷ codes "--start" ∷ []) ≡ None
+of_another = refl
+
+zeros : command_of (codes "drill" ∷ codes "004" ∷ []) ≡ Some (Drill 4 6)
+zeros = refl
+
+behind : command_of (codes "drill" ∷ codes "--depth" ∷ codes "3" ∷ codes "4" ∷ []) ≡ None
+behind = refl
+
+too_many : command_of (codes "drill" ∷ codes "33" ∷ []) ≡ None
+too_many = refl
+
+too_great : command_of (codes "play" ∷ codes "--step" ∷ codes "60001" ∷ []) ≡ None
+too_great = refl
+
+digits : command_of (codes "play" ∷ codes "--step" ∷ codes "0000000005" ∷ []) ≡ None
+digits = refl
+
+bare : command_of (codes "verify" ∷ codes "--depth" ∷ codes "6" ∷ []) ≡ None
+bare = refl
+
+nothing : command_of [] ≡ None
+nothing = refl

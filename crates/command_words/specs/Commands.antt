@@ -1,0 +1,195 @@
+-- The words of the command line, and what they ask for.
+use Rattle.std.specs.Prelude.{◌≡◌, ◌↔◌, ℕ, ◌≤◌, Bool, true, false, ◌&&◌, List, [], ◌∷◌, ◌++◌, length, nat_le, bytes_eq, codes, Option, Some, None, if◌then◌else◌}
+use Rattle.std.specs.Option.{option_map, option_and_then}
+use Rattle.text_lines.specs.Numbers.{natural_of}
+use Rattle.command_words.specs.declared.command.Command.{Command}
+use Rattle.command_words.specs.declared.command.Command.TheVariants.{Help, Check, Compile, Certify, Play, Report, Verify, Rehearse, Upload, Drill}
+
+-- ---- numbers
+
+-- the depth where no option names one, and the greatest
+abbrev pub default_depth : ℕ
+default_depth = 6
+
+abbrev pub most_depth : ℕ
+most_depth = 8
+
+-- the step where no option names one, and the greatest, in milliseconds
+abbrev pub default_step : ℕ
+default_step = 100
+
+abbrev pub most_step : ℕ
+most_step = 60000
+
+-- the most drones of a drill
+abbrev pub most_drill : ℕ
+most_drill = 32
+
+-- the most digits of a number on the command line
+abbrev pub most_digits : ℕ
+most_digits = 9
+
+-- The number that a word is, where it lies between the two: 1 to 9 decimal digits, leading zeros allowed.
+abbrev pub between : ℕ → ℕ → Option ℕ → Option ℕ
+between least most None = None
+between least most (Some n) = if nat_le least n && nat_le n most then Some n else None
+
+abbrev pub number_from : ℕ → ℕ → List ℕ → Option ℕ
+number_from least most word = if nat_le (length word) most_digits then between least most (natural_of word) else None
+
+abbrev pub depth_of : List ℕ → Option ℕ
+depth_of word = number_from 0 most_depth word
+
+abbrev pub step_of : List ℕ → Option ℕ
+step_of word = number_from 1 most_step word
+
+abbrev pub drones_of : List ℕ → Option ℕ
+drones_of word = number_from 1 most_drill word
+
+-- ---- options
+
+-- an option that is given
+pub data Given : Type 0 where
+  given_depth : ℕ → Given
+  given_step : ℕ → Given
+  given_start : Given
+
+-- an option of two words
+abbrev pub valued : List ℕ → List ℕ → Option Given
+valued word value =
+    if bytes_eq word (codes "--depth") then option_map given_depth (depth_of value)
+    else (if bytes_eq word (codes "--step") then option_map given_step (step_of value) else None)
+
+-- one option before others, where all of them are options
+abbrev pub before : Option Given → Option (List Given) → Option (List Given)
+before None rest = None
+before (Some given) rest = option_map (λ (gs : List Given). given ∷ gs) rest
+
+-- The options that words are, in their order; None where some word has no place among them.
+abbrev pub options_of : List (List ℕ) → Option (List Given)
+options_of [] = Some []
+options_of (word ∷ []) = if bytes_eq word (codes "--start") then Some (given_start ∷ []) else None
+options_of (word ∷ value ∷ words) =
+    if bytes_eq word (codes "--start") then before (Some given_start) (options_of (value ∷ words))
+    else before (valued word value) (options_of words)
+
+-- ---- which options a command takes, each at most once, in any order
+
+abbrev pub depths : List Given → List ℕ
+depths [] = []
+depths (given_depth n ∷ gs) = n ∷ depths gs
+depths (given_step n ∷ gs) = depths gs
+depths (given_start ∷ gs) = depths gs
+
+abbrev pub steps : List Given → List ℕ
+steps [] = []
+steps (given_depth n ∷ gs) = steps gs
+steps (given_step n ∷ gs) = n ∷ steps gs
+steps (given_start ∷ gs) = steps gs
+
+abbrev pub starts : List Given → List Bool
+starts [] = []
+starts (given_depth n ∷ gs) = starts gs
+starts (given_step n ∷ gs) = starts gs
+starts (given_start ∷ gs) = true ∷ starts gs
+
+-- the one that is given, or the default; None where it is given twice
+abbrev pub single : {A : Type 0} → A → List A → Option A
+single default [] = Some default
+single default (a ∷ []) = Some a
+single default (a ∷ b ∷ rest) = None
+
+-- this where none is given
+abbrev pub without : {A B : Type 0} → List A → Option B → Option B
+without [] b = b
+without (a ∷ rest) b = None
+
+-- a command that takes no option, `--depth`, `--depth` and `--step`, `--depth` and `--start`
+abbrev pub bare : Command → List Given → Option Command
+bare c gs = without gs (Some c)
+
+abbrev pub with_depth : (ℕ → Command) → List Given → Option Command
+with_depth make gs =
+    without (steps gs) (without (starts gs) (option_map make (single default_depth (depths gs))))
+
+abbrev pub with_step : List Given → Option Command
+with_step gs =
+    without (starts gs) (option_and_then
+    (λ (depth : ℕ). option_map (λ (step : ℕ). Play depth step) (single default_step (steps gs)))
+    (single default_depth (depths gs)))
+
+abbrev pub with_start : (ℕ → Bool → Command) → List Given → Option Command
+with_start make gs =
+    without (steps gs) (option_and_then
+    (λ (depth : ℕ). option_map (λ (start : Bool). make depth start) (single false (starts gs)))
+    (single default_depth (depths gs)))
+
+-- the command of a name with these options
+abbrev pub named : List ℕ → List Given → Option Command
+named name gs =
+    if bytes_eq name (codes "help") then bare Help gs
+    else (if bytes_eq name (codes "check") then with_depth Check gs
+    else (if bytes_eq name (codes "compile") then with_depth Compile gs
+    else (if bytes_eq name (codes "certify") then with_depth Certify gs
+    else (if bytes_eq name (codes "play") then with_step gs
+    else (if bytes_eq name (codes "report") then with_depth Report gs
+    else (if bytes_eq name (codes "verify") then bare Verify gs
+    else (if bytes_eq name (codes "rehearse") then with_start Rehearse gs
+    else (if bytes_eq name (codes "upload") then with_start Upload gs
+    else None))))))))
+
+-- a drill of so many drones
+abbrev pub drill_with : Option ℕ → List (List ℕ) → Option Command
+drill_with None words = None
+drill_with (Some drones) words =
+    option_and_then (λ (gs : List Given). with_depth (λ (depth : ℕ). Drill drones depth) gs) (options_of words)
+
+abbrev pub drill_in : List (List ℕ) → Option Command
+drill_in [] = None
+drill_in (number ∷ words) = drill_with (drones_of number) words
+
+-- The command that a list of words is: its name, for `drill` a number, and then options.
+abbrev pub command_of : List (List ℕ) → Option Command
+command_of [] = None
+command_of (name ∷ words) =
+    if bytes_eq name (codes "drill") then drill_in words else option_and_then (named name) (options_of words)
+
+-- the numbers of a command are those that the program takes
+abbrev pub IsCommand : Command → Type 0
+IsCommand Help = Unit {0}
+IsCommand (Check depth) = depth ≤ most_depth
+IsCommand (Compile depth) = depth ≤ most_depth
+IsCommand (Certify depth) = depth ≤ most_depth
+IsCommand (Play depth step) = (depth ≤ most_depth) × (1 ≤ step) × (step ≤ most_step)
+IsCommand (Report depth) = depth ≤ most_depth
+IsCommand Verify = Unit {0}
+IsCommand (Rehearse depth start) = depth ≤ most_depth
+IsCommand (Upload depth start) = depth ≤ most_depth
+IsCommand (Drill drones depth) = (1 ≤ drones) × (drones ≤ most_drill) × (depth ≤ most_depth)
+
+-- ---- what that means
+
+-- the words of an option
+abbrev pub SpellsOption : Given → List (List ℕ) → Type 0
+SpellsOption (given_depth n) words =
+    (value : List ℕ) × (words ≡ codes "--depth" ∷ value ∷ []) × (depth_of value ≡ Some n)
+SpellsOption (given_step n) words =
+    (value : List ℕ) × (words ≡ codes "--step" ∷ value ∷ []) × (step_of value ≡ Some n)
+SpellsOption given_start words = words ≡ codes "--start" ∷ []
+
+-- words are these options, one after the other
+abbrev pub SpellsOptions : List Given → List (List ℕ) → Type 0
+SpellsOptions [] words = words ≡ []
+SpellsOptions (given ∷ gs) words =
+    (front rest : List (List ℕ)) × SpellsOption given front × SpellsOptions gs rest × (words ≡ front ++ rest)
+
+-- Options are read exactly where words are options.
+abbrev pub WordsLaw : Type 0
+WordsLaw = (words : List (List ℕ)) (gs : List Given) → (options_of words ≡ Some gs) ↔ SpellsOptions gs words
+
+-- what `help` writes
+abbrev pub help_text : List ℕ
+help_text =
+    codes "help\ncheck [--depth D]\ncompile [--depth D]\ncertify [--depth D]\n"
+    ++ codes "play [--depth D] [--step MS]\nreport [--depth D]\nverify\n"
+    ++ codes "rehearse [--depth D] [--start]\nupload [--depth D] [--start]\ndrill N [--depth D]\n"

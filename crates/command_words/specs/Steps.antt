@@ -1,0 +1,73 @@
+-- The walk over the words: what was given so far, and which command that makes.
+use Rattle.std.specs.Prelude.{ℕ, ◌≤◌, Bool, true, false, not, ◌||◌, List, [], ◌∷◌, bytes_eq, codes, Option, Some, None, IfSome, is_some, unwrap_or, option_map, option_and_then, if◌then◌else◌}
+use Rattle.command_words.specs.declared.command.Command.{Command}
+use Rattle.command_words.specs.declared.command.Command.TheVariants.{Help, Check, Compile, Certify, Play, Report, Verify, Rehearse, Upload}
+use Rattle.command_words.specs.declared.options.Options.{Options}
+use Rattle.command_words.specs.Commands.{Given, given_depth, given_step, given_start, options_of, default_depth, most_depth, default_step, most_step}
+
+-- nothing is given
+abbrev pub no_options : Options
+no_options = record { depth = None; step = None; start = false }
+
+-- one option more; None where it is there already
+abbrev pub noted : Options → Given → Option Options
+noted o (given_depth n) =
+    if is_some o.depth then None else Some (record { depth = Some n; step = o.step; start = o.start })
+noted o (given_step n) =
+    if is_some o.step then None else Some (record { depth = o.depth; step = Some n; start = o.start })
+noted o given_start = if o.start then None else Some (record { depth = o.depth; step = o.step; start = true })
+
+-- more options, in their order
+abbrev pub collected : Options → List Given → Option Options
+collected o [] = Some o
+collected o (given ∷ gs) = option_and_then (λ (next : Options). collected next gs) (noted o given)
+
+-- the options that words add to these
+abbrev pub continued : Options → List (List ℕ) → Option Options
+continued o words = option_and_then (collected o) (options_of words)
+
+-- the values are those that the program takes
+pub record AreInRange (o : Options) : Type 0 where
+  pub depth : IfSome o.depth (λ depth. depth ≤ most_depth)
+  pub step_from : IfSome o.step (λ step. 1 ≤ step)
+  pub step_to : IfSome o.step (λ step. step ≤ most_step)
+
+-- ---- what a command takes of them
+
+-- no option is given
+abbrev pub is_bare : Options → Bool
+is_bare o = not (is_some o.depth || (is_some o.step || o.start))
+
+-- the depth, where no other option is given
+abbrev pub depth_alone : Options → Option ℕ
+depth_alone o = if is_some o.step || o.start then None else Some (unwrap_or o.depth default_depth)
+
+-- a command that takes no option
+abbrev pub at_bare : Command → Options → Option Command
+at_bare c o = if is_bare o then Some c else None
+
+-- a command that takes a depth
+abbrev pub at_depth : (ℕ → Command) → Options → Option Command
+at_depth make o = option_map make (depth_alone o)
+
+-- the command that takes a depth and a step
+abbrev pub at_step : Options → Option Command
+at_step o = if o.start then None else Some (Play (unwrap_or o.depth default_depth) (unwrap_or o.step default_step))
+
+-- a command that takes a depth and starts
+abbrev pub at_start : (ℕ → Bool → Command) → Options → Option Command
+at_start make o = if is_some o.step then None else Some (make (unwrap_or o.depth default_depth) o.start)
+
+-- the command of a name with these options
+abbrev pub named_with : List ℕ → Options → Option Command
+named_with name o =
+    if bytes_eq name (codes "help") then at_bare Help o
+    else (if bytes_eq name (codes "check") then at_depth Check o
+    else (if bytes_eq name (codes "compile") then at_depth Compile o
+    else (if bytes_eq name (codes "certify") then at_depth Certify o
+    else (if bytes_eq name (codes "play") then at_step o
+    else (if bytes_eq name (codes "report") then at_depth Report o
+    else (if bytes_eq name (codes "verify") then at_bare Verify o
+    else (if bytes_eq name (codes "rehearse") then at_start Rehearse o
+    else (if bytes_eq name (codes "upload") then at_start Upload o
+    else None))))))))

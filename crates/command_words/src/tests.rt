@@ -1,0 +1,212 @@
+//! Chosen words and the commands that they are.
+use super::*;
+use std::alloc::{AllocError, Global};
+use std::test::Fail;
+
+// The command that the words of a line are, which one space each divides.
+fn command(alloc: Global, line: &str) -> Result<Option<Command>, AllocError> {
+    let mut words = Vec::new(alloc);
+    for word in line.split(' ') {
+        words.push(String::from_str(alloc, word)?)?;
+    }
+    Ok(command_of(&words))
+}
+
+const COMMANDS: [(&str, Command); 24] = [
+    ("help", Command::Help),
+    ("check", Command::Check { depth: 6 }),
+    ("check --depth 0", Command::Check { depth: 0 }),
+    ("compile --depth 8", Command::Compile { depth: 8 }),
+    ("compile --depth 000000008", Command::Compile { depth: 8 }),
+    ("certify --depth 05", Command::Certify { depth: 5 }),
+    (
+        "play",
+        Command::Play {
+            depth: 6,
+            step: 100,
+        },
+    ),
+    ("play --step 1", Command::Play { depth: 6, step: 1 }),
+    (
+        "play --step 60000",
+        Command::Play {
+            depth: 6,
+            step: 60_000,
+        },
+    ),
+    (
+        "play --step 500 --depth 3",
+        Command::Play {
+            depth: 3,
+            step: 500,
+        },
+    ),
+    (
+        "play --depth 3 --step 000000500",
+        Command::Play {
+            depth: 3,
+            step: 500,
+        },
+    ),
+    ("report", Command::Report { depth: 6 }),
+    ("report --depth 2", Command::Report { depth: 2 }),
+    ("verify", Command::Verify),
+    (
+        "rehearse",
+        Command::Rehearse {
+            depth: 6,
+            start: false,
+        },
+    ),
+    (
+        "rehearse --start --depth 3",
+        Command::Rehearse {
+            depth: 3,
+            start: true,
+        },
+    ),
+    (
+        "rehearse --depth 3 --start",
+        Command::Rehearse {
+            depth: 3,
+            start: true,
+        },
+    ),
+    (
+        "upload --start",
+        Command::Upload {
+            depth: 6,
+            start: true,
+        },
+    ),
+    (
+        "upload --depth 7",
+        Command::Upload {
+            depth: 7,
+            start: false,
+        },
+    ),
+    (
+        "upload --depth 7 --start",
+        Command::Upload {
+            depth: 7,
+            start: true,
+        },
+    ),
+    (
+        "drill 1",
+        Command::Drill {
+            drones: 1,
+            depth: 6,
+        },
+    ),
+    (
+        "drill 32 --depth 8",
+        Command::Drill {
+            drones: 32,
+            depth: 8,
+        },
+    ),
+    (
+        "drill 004 --depth 6",
+        Command::Drill {
+            drones: 4,
+            depth: 6,
+        },
+    ),
+    (
+        "drill 000000016",
+        Command::Drill {
+            drones: 16,
+            depth: 6,
+        },
+    ),
+];
+
+#[test]
+fn words_that_are_a_command(rt: HostRuntime) -> Result<(), Fail> {
+    for (line, wanted) in COMMANDS {
+        assert_eq!(rt; command(rt.alloc(), line)?, Some(wanted));
+    }
+    Ok(())
+}
+
+const NO_COMMANDS: [&str; 44] = [
+    "",
+    "Compile",
+    "compil",
+    "compiled",
+    "--help",
+    "--version",
+    "help help",
+    "help --depth 3",
+    "verify --depth 6",
+    "verify --start",
+    "check --start",
+    "check --step 5",
+    "compile --step 100",
+    "compile --depth",
+    "compile --depth 9",
+    "compile --depth 0000000008",
+    "compile --depth -1",
+    "compile --depth +1",
+    "compile --depth x",
+    "compile --depth ",
+    "compile --depth=6",
+    "compile 6",
+    "compile --Depth 6",
+    "certify --depth 6 --depth 6",
+    "certify --depth 6 --depth",
+    "report --step 5",
+    "report --start",
+    "play --step 0",
+    "play --step 60001",
+    "play --step 5 --step 5",
+    "play --start",
+    "play --depth --step 5",
+    "play --step 5 --depth 3 --step 5",
+    "rehearse --start 3",
+    "rehearse --start --start",
+    "rehearse --step 5",
+    "upload --start --depth 3 --start",
+    "upload --step 5 --start",
+    "drill",
+    "drill 0",
+    "drill 33",
+    "drill 2 2",
+    "drill --depth 3 4",
+    "drill 4 --start",
+];
+
+#[test]
+fn words_that_are_no_command(rt: HostRuntime) -> Result<(), Fail> {
+    for line in NO_COMMANDS {
+        assert_eq!(rt; command(rt.alloc(), line)?, None);
+    }
+    assert_eq!(rt; command_of(&Vec::new(rt.alloc())), None);
+    Ok(())
+}
+
+#[test]
+fn the_forms_of_the_commands(rt: HostRuntime) {
+    let lines: [&[u8]; 10] = [
+        b"help",
+        b"check [--depth D]",
+        b"compile [--depth D]",
+        b"certify [--depth D]",
+        b"play [--depth D] [--step MS]",
+        b"report [--depth D]",
+        b"verify",
+        b"rehearse [--depth D] [--start]",
+        b"upload [--depth D] [--start]",
+        b"drill N [--depth D]",
+    ];
+    let mut rest = help_text();
+    for line in lines {
+        assert!(rt; rest.starts_with(line));
+        rest = &rest[line.len()..];
+        assert!(rt; rest.starts_with(b"\n".as_slice()));
+        rest = &rest[1..];
+    }
+    assert!(rt; rest.is_empty());
+}
