@@ -6,7 +6,7 @@ ghost use Rattle.command_words.specs.Steps.{AreInRange, named_with};
 use crate::options::{Options, number_from, options_of};
 
 /// What the program is asked for. `depth` says into how small parts a cue is cut: at most into 2^depth, 0 to 8.
-/// `start` says whether the drones are started. The forms are those of docs/COMMANDS.md.
+/// `start` says whether the drones are started. The forms are those of [`help_text`].
 #[derive(Clone, Copy, Debug, PartialEq, Eq)]
 pub enum Command {
     /// The forms of the commands.
@@ -82,7 +82,7 @@ fn drill(words: &[String]) -> Option<Command>
 }
 
 /// The command that the words, without the program's name, are: a name, for `drill` a number of drones, and then the
-/// options that the command takes, each at most once and in any order (docs/COMMANDS.md, "Words").
+/// options that the command takes, each at most once and in any order (`specs/Commands.antt`).
 pub fn command_of(words: &Vec<String>) -> Option<Command>
     ensures value { result ≡ command_of (map string_bytes words.now.items) }
     ensures command { IfSome result IsCommand }

@@ -18,7 +18,7 @@ mod tests;
 pub use command::{Command, command_of, help_text};
 
 /// A law. Words are read as options exactly where they are these options, one after the other
-/// (docs/COMMANDS.md, "Words").
+/// (`specs/Commands.antt`).
 pub fn words_law()
     ensures { WordsLaw }
 {}
