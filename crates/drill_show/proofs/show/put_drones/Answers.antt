@@ -1,0 +1,9 @@
+use Rattle.std.proofs.Common.{◌∙◌, string_bytes, arith}
+use Rattle.drill_show.specs.Drill.{drone_line}
+use Rattle.drill_show.proofs.DrillLemmas.{part_next}
+use Rattle.drill_show.proofs.show.put_drones.Goals as goal
+
+pub loop-i-preserved : goal.loop-i-preserved
+loop-i-preserved c =
+    part_next drone_line (string_bytes c.loop-i.text) (string_bytes c.put_drone.new.text) c.loop-i.i c.args.n (omega arith) c.in_ok-put_drone.ensures
+    ∙ c.loop-i.invariant

@@ -1,0 +1,11 @@
+use Rattle.std.proofs.Common.{◌≡◌, ◌++◌, ◌-◌}
+use Rattle.std.specs.List.{flat_map, range_with_len}
+use Rattle.std.specs.Prelude.{string_bytes}
+use Rattle.drill_show.specs.Drill.{drone_line}
+use Rattle.drill_show.proofs.show.put_drones.Given as goal
+
+-- the lines so far
+abbrev pub invariant-loop-i : goal.invariant-loop-i
+invariant-loop-i l =
+    string_bytes l.text ++ flat_map (drone_line) (range_with_len l.i (l.n - l.i))
+    ≡ string_bytes l.initial.text ++ flat_map (drone_line) (range_with_len 0 l.n)

@@ -1,0 +1,114 @@
+//! The text of the drill's show.
+ghost use Rattle.std.specs.Prelude.{◌≡◌, ◌≤◌, ◌<◌, ◌++◌, [], ◌∷◌, codes, decimal, string_bytes, IfOk, OnOk};
+ghost use Rattle.std.specs.List.{flat_map, range_with_len};
+ghost use Rattle.fleet_io.specs.Words.{line};
+ghost use Rattle.drill_show.specs.Drill.{cue_lines, drill_text, drone_line, height_in, move_line, shift_in, x_of, y_of};
+
+use std::alloc::{AllocError, Global};
+
+// Drones stand in rows of this many.
+const ROW: u8 = 6;
+
+// The distance from a drone to its neighbours, in micrometres.
+const METRE: u32 = 1_000_000;
+
+// Where drone i starts along x, in micrometres.
+fn x_of(i: u8) -> u32
+    ensures { result ≡ x_of i }
+{
+    METRE * u32::from(i % ROW)
+}
+
+// Where drone i starts along y, in micrometres.
+fn y_of(i: u8) -> u32
+    ensures { result ≡ y_of i }
+{
+    METRE * u32::from(i / ROW)
+}
+
+// How far the drones are from their starts along x in a cue, in micrometres.
+fn shift_in(cue: u8) -> u32
+    ensures { result ≡ shift_in cue }
+{
+    if cue == 1 || cue == 2 { METRE / 2 } else { 0 }
+}
+
+// How high drone i is in a cue, in micrometres.
+fn height_in(cue: u8, i: u8) -> u32
+    ensures { result ≡ height_in cue i }
+{
+    if (cue == 0 || cue == 1) && i % 2 == 1 {
+        2 * METRE
+    } else {
+        METRE
+    }
+}
+
+fn put_drone(text: &mut String, i: u8) -> Result<(), AllocError>
+    requires { i < 32 }
+    ensures { OnOk result (string_bytes text.new ≡ string_bytes text.old ++ drone_line i) }
+{
+    let (number, x, y) = (i + 1, x_of(i), y_of(i));
+    writeln!(text, "drone d{number} {x} {y} 1000000 0")
+}
+
+fn put_move(text: &mut String, cue: u8, i: u8) -> Result<(), AllocError>
+    requires cue { cue < 4 }
+    requires drone { i < 32 }
+    ensures { OnOk result (string_bytes text.new ≡ string_bytes text.old ++ move_line cue i) }
+{
+    let (number, x, y) = (i + 1, x_of(i) + shift_in(cue), y_of(i));
+    let z = height_in(cue, i);
+    writeln!(text, "d{number} move {x} {y} {z} 0")
+}
+
+// The lines of a cue of n drones.
+fn put_cue(text: &mut String, n: u8, cue: u8) -> Result<(), AllocError>
+    requires few { n ≤ 32 }
+    requires cue { cue < 4 }
+    ensures { OnOk result (string_bytes text.new ≡ string_bytes text.old ++ cue_lines n cue) }
+{
+    text.push_str("cue 3000\n")?;
+    for i in 0..n {
+        put_move(text, cue, i)?;
+    }
+    text.push_str("end\n")
+}
+
+// The lines of the drones.
+fn put_drones(text: &mut String, n: u8) -> Result<(), AllocError>
+    requires { n ≤ 32 }
+    ensures { OnOk result (string_bytes text.new ≡ string_bytes text.old ++ flat_map drone_line (range_with_len 0 n)) }
+{
+    for i in 0..n {
+        put_drone(text, i)?;
+    }
+    Ok(())
+}
+
+// The lines of the four cues.
+fn put_cues(text: &mut String, n: u8) -> Result<(), AllocError>
+    requires { n ≤ 32 }
+    ensures { OnOk result
+        (string_bytes text.new ≡ string_bytes text.old ++ flat_map (cue_lines n) (range_with_len 0 4)) }
+{
+    for cue in 0..4 {
+        put_cue(text, n, cue)?;
+    }
+    Ok(())
+}
+
+/// The text of the drill's show of n drones, 1 to 32 (`specs/Drill.antt`). Out of memory is the only refusal.
+pub fn drill_text(alloc: Global, n: u8) -> Result<Vec<u8>, AllocError>
+    requires some { 1 ≤ n }
+    requires few { n ≤ 32 }
+    ensures { IfOk result (λ text. text.items ≡ drill_text n) }
+{
+    let mut text = String::new(alloc);
+    text.push_str("choreo 1\n")?;
+    put_drones(&mut text, n)?;
+    text.push_str("repeat 10\n")?;
+    put_cues(&mut text, n)?;
+    text.push_str("end\n")?;
+    Ok(text.into_bytes())
+}
