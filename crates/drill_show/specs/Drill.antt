@@ -18,8 +18,8 @@ y_of i = 1000000 * (i / 6)
 abbrev pub drone_line : ℕ → List ℕ
 drone_line i = line (codes "drone") (name_of i ∷ decimal (x_of i) ∷ decimal (y_of i) ∷ decimal 1000000 ∷ decimal 0 ∷ [])
 
--- Cues count from 0. In the middle two each drone is half a metre further along x, in the first two every second drone is
--- a metre higher.
+-- Cues count from 0. In the middle two each drone is half a metre further along x, in the first two every second
+-- drone is a metre higher.
 abbrev pub shift_in : ℕ → ℕ
 shift_in cue = if cue == 1 || cue == 2 then 500000 else 0
 
@@ -29,7 +29,8 @@ height_in cue i = if (cue == 0 || cue == 1) && i % 2 == 1 then 2000000 else 1000
 -- the move of a drone in a cue
 abbrev pub move_line : ℕ → ℕ → List ℕ
 move_line cue i =
-    line (name_of i) (codes "move" ∷ decimal (x_of i + shift_in cue) ∷ decimal (y_of i) ∷ decimal (height_in cue i) ∷ decimal 0 ∷ [])
+    line (name_of i)
+    (codes "move" ∷ decimal (x_of i + shift_in cue) ∷ decimal (y_of i) ∷ decimal (height_in cue i) ∷ decimal 0 ∷ [])
 
 -- a cue of three seconds
 abbrev pub cue_lines : ℕ → ℕ → List ℕ
