@@ -59,11 +59,20 @@ impl Session {
                 pieces: load.pieces,
             })?;
         }
-        Ok(Session {
+        Ok(Session::of_loads(settings, copies, start))
+    }
+
+    /// A session of these loads, one for each drone. It takes no memory. `start` tells whether the
+    /// drones are started when all of them have their loads.
+    pub fn of_loads(settings: Settings, loads: Vec<Load>, start: bool) -> Session
+        requires { IsSession (upload_of settings loads.items start) }
+        ensures { result ≡ upload_of settings loads.items start }
+    {
+        Session {
             settings,
-            loads: copies,
+            loads,
             start,
-        })
+        }
     }
 
     /// How many drones there are.
@@ -77,7 +86,7 @@ impl Session {
     }
 
     /// Where the bytes go, and under which id.
-    pub(crate) fn settings(&self) -> Settings
+    pub fn settings(&self) -> Settings
         ensures memory_id { result.memory_id ≡ self.now.memory_id }
         ensures offset { result.offset ≡ self.now.offset }
         ensures trajectory_id { result.trajectory_id ≡ self.now.trajectory_id }

@@ -54,7 +54,7 @@ fn last_places(alloc: Global) -> Result<Session, AllocError>
         offset: 4068,
         trajectory_id: 9,
     };
-    Session::make(alloc, settings, &loads, true)
+    Ok(Session::of_loads(settings, loads, true))
 }
 
 /// These bytes come up from a drone; the test ends where they are no packet.
@@ -120,6 +120,10 @@ fn packets_are_those_of_the_format(rt: HostRuntime) -> Result<(), Fail> {
     let session = last_places(alloc)?;
     assert!(rt; has_packets(&session, 0, &LAST_BYTE));
     assert!(rt; has_packets(&session, 1, &LAST_PATH));
+    let settings = session.settings();
+    assert_eq!(rt; settings.memory_id, 3);
+    assert_eq!(rt; settings.offset, 4068);
+    assert_eq!(rt; settings.trajectory_id, 9);
     Ok(())
 }
 
