@@ -14,7 +14,7 @@ mod world;
 
 ghost use Rattle.upload_model.specs.Theorem.{UploadLaw, StartLaw, UnstartedLaw, LastingLaw};
 
-pub use schedule::{MOST_TEXT, Name, ScheduleFault, limits_law, read_schedule};
+pub use schedule::{MOST_TEXT, Name, ScheduleFault, limits_law, read_schedule, read_schedule_of};
 pub use upload_model::WorldEvent;
 pub use world::World;
 

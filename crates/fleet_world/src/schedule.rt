@@ -87,9 +87,9 @@ fn named_event(kind: &[u8], drone: Option<u8>, n: Option<u32>) -> Option<WorldEv
 }
 
 /// The event of a line with these words.
-fn event_on(text: &[u8], names: &Vec<Name>, words: &[Token]) -> Option<WorldEvent>
-    requires { length names.now.items ≤ MOST_DRONES }
-    ensures { result ≡ event_of (map (λ name. name.items) names.now.items) (words_in text.now words.now) }
+fn event_on(text: &[u8], names: &[Name], words: &[Token]) -> Option<WorldEvent>
+    requires { length names.now ≤ MOST_DRONES }
+    ensures { result ≡ event_of (map (λ name. name.items) names.now) (words_in text.now words.now) }
 {
     if words.len() == 1 {
         if word_at(text, &words[0]) == b"tick".as_slice() {
@@ -102,7 +102,7 @@ fn event_on(text: &[u8], names: &Vec<Name>, words: &[Token]) -> Option<WorldEven
     }
     named_event(
         word_at(text, &words[0]),
-        drone_of(names.as_slice(), word_at(text, &words[1])),
+        drone_of(names, word_at(text, &words[1])),
         number_of(word_at(text, &words[2])),
     )
 }
@@ -118,17 +118,17 @@ fn put(events: &mut Vec<WorldEvent>, event: WorldEvent) -> Result<(), AllocError
 /// The events of a schedule, in order, for drones with these names. Lines without words are skipped.
 /// Else a line is `tick`, or `take NAME N` or `hear NAME N`, where N counts from 1 and has 1 to 9
 /// digits; the first line that is none of these is the fault.
-pub fn read_schedule(
+pub fn read_schedule_of(
     alloc: Global,
     text: &[u8],
-    names: &Vec<Name>,
+    names: &[Name],
 ) -> Result<Vec<WorldEvent>, ScheduleFault>
     requires text { length text.now ≤ MOST_TEXT }
-    requires names { length names.now.items ≤ MOST_DRONES }
+    requires names { length names.now ≤ MOST_DRONES }
     ensures ok { IfOk result (λ events.
-        schedule_of (map (λ name. name.items) names.now.items) text.now ≡ Ok events.items) }
+        schedule_of (map (λ name. name.items) names.now) text.now ≡ Ok events.items) }
     ensures fault { IfErr result (λ fault.
-        FaultGives fault (schedule_of (map (λ name. name.items) names.now.items) text.now)) }
+        FaultGives fault (schedule_of (map (λ name. name.items) names.now) text.now)) }
 {
     let words = tokens(alloc, text, Comments::Absent)?;
     let mut events = Vec::new(alloc);
@@ -142,4 +142,21 @@ pub fn read_schedule(
         rest = &rest[count..];
     }
     Ok(events)
+}
+
+/// The events of a schedule for drones with the names of this vector, as `read_schedule_of` reads
+/// them.
+pub fn read_schedule(
+    alloc: Global,
+    text: &[u8],
+    names: &Vec<Name>,
+) -> Result<Vec<WorldEvent>, ScheduleFault>
+    requires text { length text.now ≤ MOST_TEXT }
+    requires names { length names.now.items ≤ MOST_DRONES }
+    ensures ok { IfOk result (λ events.
+        schedule_of (map (λ name. name.items) names.now.items) text.now ≡ Ok events.items) }
+    ensures fault { IfErr result (λ fault.
+        FaultGives fault (schedule_of (map (λ name. name.items) names.now.items) text.now)) }
+{
+    read_schedule_of(alloc, text, names.as_slice())
 }

@@ -211,6 +211,23 @@ fn names_are_places(rt: HostRuntime) -> Result<(), Fail> {
 }
 
 #[test]
+fn names_stand_in_a_slice(rt: HostRuntime) -> Result<(), Fail> {
+    let names = [name_of(b"a"), name_of(b"b"), name_of(b"c")];
+    let wanted = [
+        WorldEvent::Take { drone: 2, n: 0 },
+        WorldEvent::Tick,
+        WorldEvent::Hear { drone: 1, n: 6 },
+    ];
+    match read_schedule_of(rt.alloc(), b"take c 1\n\ntick\nhear b 07\n", &names) {
+        Ok(events) => assert!(rt; events.as_slice() == wanted.as_slice()),
+        Err(_) => assert!(rt; false),
+    }
+    let fault = ScheduleFault::Line { line: 1 };
+    assert!(rt; matches!(read_schedule_of(rt.alloc(), b"take a 1", &[]), Err(f) if f == fault));
+    Ok(())
+}
+
+#[test]
 fn silence_ends_at_twenty_ticks(rt: HostRuntime) -> Result<(), Fail> {
     let alloc = rt.alloc();
     let names = solo_name(alloc)?;

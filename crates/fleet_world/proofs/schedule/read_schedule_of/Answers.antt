@@ -1,4 +1,4 @@
--- Why `read_schedule` keeps its contract, at the places where the check needs to be told.
+-- Why `read_schedule_of` keeps its contract, at the places where the check needs to be told.
 use Rattle.std.proofs.Common.{◌∙◌, ℕ, List, Option, Result, map, drop, ap, sym}
 use Rattle.std.proofs.lemmas.List.{take_rest}
 use Rattle.text_lines.specs.declared.token.Comments.TheVariants.{Absent}
@@ -9,11 +9,11 @@ use Rattle.text_lines.proofs.Grouped.{lines_grouped}
 use Rattle.upload_model.specs.declared.events.WorldEvent.{WorldEvent}
 use Rattle.fleet_world.specs.Schedules.{put_event, events_of}
 use Rattle.fleet_world.proofs.ScheduleLaws.{behind, behind-nothing, behind-more}
-use Rattle.fleet_world.proofs.schedule.read_schedule.Goals as goal
+use Rattle.fleet_world.proofs.schedule.read_schedule_of.Goals as goal
 
 pub loop-rest-init : goal.loop-rest-init
 loop-rest-init c =
-    let names : List (List ℕ) = map (λ name. name.items) c.args.names.now.items in
+    let names : List (List ℕ) = map (λ name. name.items) c.args.names.now in
     ap (λ (es : List WorldEvent). behind es (events_of names (lines_in c.args.text.now c.as_slice-rest.result.now))) c.new-events.ensures.items
     ∙ behind-nothing (events_of names (lines_in c.args.text.now c.as_slice-rest.result.now))
     ∙ ap (λ (ts : List Token). events_of names (lines_in c.args.text.now ts)) (c.as_slice-rest.ensures.value ∙ c.in_ok-words.ensures)
@@ -21,7 +21,7 @@ loop-rest-init c =
 
 pub loop-rest-preserved : goal.loop-rest-preserved
 loop-rest-preserved c =
-    let names : List (List ℕ) = map (λ name. name.items) c.args.names.now.items in
+    let names : List (List ℕ) = map (λ name. name.items) c.args.names.now in
     let rest : List Token = c.loop-rest.rest.now in
     let count : ℕ = c.line_word_count-count.result in
     let later : Result (List WorldEvent) ℕ = events_of names (lines_in c.args.text.now (drop count rest)) in

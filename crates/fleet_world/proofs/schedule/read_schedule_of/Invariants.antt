@@ -1,14 +1,14 @@
--- What holds whenever a loop of `read_schedule` begins a turn.
+-- What holds whenever a loop of `read_schedule_of` begins a turn.
 use Rattle.std.proofs.Common.{◌≡◌, map, length}
 use Rattle.text_lines.specs.Tokens.{lines_in}
 use Rattle.fleet_world.specs.Schedules.{events_of, schedule_of}
 use Rattle.fleet_world.proofs.ScheduleLaws.{behind}
-use Rattle.fleet_world.proofs.schedule.read_schedule.Given as goal
+use Rattle.fleet_world.proofs.schedule.read_schedule_of.Given as goal
 
 abbrev pub decreases-loop-rest : goal.decreases-loop-rest
 decreases-loop-rest l = length l.rest
 
 abbrev pub invariant-loop-rest : goal.invariant-loop-rest
 invariant-loop-rest l =
-    behind l.events.items (events_of (map (λ name. name.items) l.names.items) (lines_in l.text l.rest))
-    ≡ schedule_of (map (λ name. name.items) l.names.items) l.text
+    behind l.events.items (events_of (map (λ name. name.items) l.names) (lines_in l.text l.rest))
+    ≡ schedule_of (map (λ name. name.items) l.names) l.text
