@@ -12,6 +12,7 @@ use crate::field::{coordinate, name, natural_field, nth, point};
 use crate::line::{Entry, Keyword, LineError, LineKind, Place};
 use crate::parts::{DRONE_LIMIT, Frame, Mirror, Name};
 use crate::word::keyword;
+use listed::Listed;
 use std::alloc::Global;
 use text_lines::{Token, word_at};
 

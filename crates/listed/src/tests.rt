@@ -16,8 +16,7 @@ fn a_vector_comes_back_whole(rt: HostRuntime) -> Result<(), Fail> {
 #[test]
 fn lists_stand_in_lists(rt: HostRuntime) -> Result<(), Fail> {
     let alloc = rt.alloc();
-    let rows = Listed::from_vec(vec![
-        in alloc;
+    let rows = Listed::from_vec(vec![in alloc;
         Listed::from_vec(vec![in alloc; 7u8]?),
         Listed::from_vec(Vec::new(alloc)),
     ]?);

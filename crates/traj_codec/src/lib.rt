@@ -13,7 +13,7 @@ mod traj;
 mod writing;
 
 pub use joining::{join_holds, join_law};
-pub use law::{limits_law, spelling_law};
+pub use law::{limits_law, segment_law, spelling_law, start_law};
 pub use listed::Listed;
 pub use reading::{CodecFault, decode};
 pub use traj::{Element, MOST_SEGMENTS, Segment, Traj};

@@ -8,8 +8,8 @@ ghost use Rattle.traj_codec.specs.Reading.{NumbersStand, DurationStands, Element
 ghost use Rattle.traj_codec.specs.declared.traj.Traj.{Traj};
 
 use crate::traj::{Element, Segment, Traj};
-use listed::Listed;
 use byteorder::{ByteOrder, LittleEndian};
+use listed::Listed;
 use std::alloc::{AllocError, AllocFailed, Global};
 
 /// Why bytes are no trajectory of so many segments. Places count bytes from 0.

@@ -223,7 +223,10 @@ fn three(alloc: Global, a: Segment, b: Segment, c: Segment) -> Result<Traj, Allo
 fn holds_are_joined_from_the_left(rt: HostRuntime) -> Result<(), Fail> {
     let t = three(rt.alloc(), hold(40_000), hold(30_000), hold(30_000))?;
     let joined = join_holds(rt.alloc(), &t)?;
-    assert_eq!(rt; joined.segments.as_slice(), [hold(40_000), hold(60_000)].as_slice());
+    assert_eq!(rt;
+        joined.segments.as_slice(),
+        [hold(40_000), hold(60_000)].as_slice()
+    );
     Ok(())
 }
 
@@ -231,7 +234,10 @@ fn holds_are_joined_from_the_left(rt: HostRuntime) -> Result<(), Fail> {
 fn holds_are_joined_up_to_the_longest_duration(rt: HostRuntime) -> Result<(), Fail> {
     let t = three(rt.alloc(), hold(32_767), hold(32_768), hold(1))?;
     let joined = join_holds(rt.alloc(), &t)?;
-    assert_eq!(rt; joined.segments.as_slice(), [hold(65_535), hold(1)].as_slice());
+    assert_eq!(rt;
+        joined.segments.as_slice(),
+        [hold(65_535), hold(1)].as_slice()
+    );
     Ok(())
 }
 
@@ -248,6 +254,9 @@ fn a_turn_is_no_hold(rt: HostRuntime) -> Result<(), Fail> {
     };
     let t = three(rt.alloc(), hold(1000), turn, hold(1000))?;
     let joined = join_holds(rt.alloc(), &t)?;
-    assert_eq!(rt; joined.segments.as_slice(), [hold(1000), turn, hold(1000)].as_slice());
+    assert_eq!(rt;
+        joined.segments.as_slice(),
+        [hold(1000), turn, hold(1000)].as_slice()
+    );
     Ok(())
 }

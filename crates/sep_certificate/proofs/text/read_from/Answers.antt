@@ -51,6 +51,6 @@ returns c =
       refl,
       record { depth = c.loop-rest.invariant.depth; few = omega (arith, c.loop-rest.invariant.few); trees = c.loop-rest.invariant.trees; leaves = c.loop-rest.invariant.leaves },
       c.loop-rest.invariant.lines_are ∙ ap (λ (ls : List (List ℕ)). depth_line c.in-Some.depth ∷ (map (tree_line c.args.version) c.loop-rest.trees.items ++ ls)) none
-      ∙ ap (λ (ls : List (List ℕ)). depth_line c.in-Some.depth ∷ ls) (append-nil (map (tree_line c.args.version) c.loop-rest.trees.items)),
+          ∙ ap (λ (ls : List (List ℕ)). depth_line c.in-Some.depth ∷ ls) (append-nil (map (tree_line c.args.version) c.loop-rest.trees.items)),
       c.loop-rest.invariant.bad ∙ ap (λ (ls : List (List ℕ)). bad_tree c.args.version c.loop-rest.line ls) none,
     )
