@@ -169,4 +169,4 @@ accepted_by c None s cut o fails gives done = record { none = refl; gives = give
 pub safe_answer : (c : Command) (cut : Cut) (s : PlainShow) (o : Outcome) → StandsFor cut.show s → ShowGives c (show_refusal c cut s) s cut o → IsSafeShow s → o.status ≡ 0 → IsSafe c cut o
 safe_answer c cut s o stands gives safe done =
     let accepted = accepted_by c (show_refusal c cut s) s cut o (show_fails c cut s) gives done in
-    record { s = s; stands = stands; near = safe.near; apart = safe.apart; accepted = accepted.none; gives = accepted.gives }
+    record { s = s; stands = stands; near = safe.near; apart = safe.apart; accepted = accepted.none; gives = accepted.gives; done = done }

@@ -197,8 +197,8 @@ OutcomeLaw = (c : Command) (cut : Cut) (o p : Outcome) → IsOutcomeOf c cut o �
 
 -- ---- what status 0 promises
 
--- The show's text stands for a show, and what its drones are sent keeps near to it at every instant, and keeps each two drones apart
--- at every instant; nothing refuses the show, and this outcome is what the command answers for it.
+-- The show's text stands for a show, and what its drones are sent keeps near to it at every instant, and keeps any two drones apart
+-- at every instant; nothing refuses the show, and this outcome, of status 0, is what the command answers for it.
 pub record IsSafe (c : Command) (cut : Cut) (o : Outcome) : Type 0 where
   pub s : PlainShow
   pub stands : StandsFor cut.show s
@@ -206,3 +206,4 @@ pub record IsSafe (c : Command) (cut : Cut) (o : Outcome) : Type 0 where
   pub apart : FlyApart s.settings (sent_of s)
   pub accepted : show_refusal c cut s ≡ None
   pub gives : ShowGives c None s cut o
+  pub done : o.status ≡ 0

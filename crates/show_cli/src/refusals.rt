@@ -9,7 +9,7 @@ ghost use Rattle.choreo_reader.specs.Valid.{IsValid};
 ghost use Rattle.sep_parts.specs.Versions.{IsVersion};
 ghost use Rattle.sep_certificate.specs.declared.certificate.Certificate.{Certificate};
 ghost use Rattle.show_plan.specs.Fitting.{IsFitted, IsValidFitted, PlanFails, StandsAsWord};
-ghost use Rattle.show_plan.specs.Separation.{CertificateGives};
+ghost use Rattle.show_plan.specs.Separation.{FailsBy, blocked_part};
 ghost use Rattle.show_cli.specs.Answers.{IsFaultAmong, IsRefusal, outcome_of};
 ghost use Rattle.show_cli.specs.Commands.{most_depth};
 ghost use Rattle.show_cli.specs.Input.{IsText};
@@ -98,13 +98,7 @@ fn without_room(
 }
 
 // A drone of the show whose trajectory has too many segments, unless a marker line is refused before.
-fn without_segments(
-    command: Command,
-    show: &Show,
-    part: &Part,
-    drone: u8,
-    segments: u32,
-) -> Answer
+fn without_segments(command: Command, show: &Show, part: &Part, drone: u8, segments: u32) -> Answer
     requires valid { IsValid (plain show.now) }
     requires short { length part.now.bytes.items ≤ show_limit }
     requires fault { PlanFails (PlanFault.TooManySegments drone segments) (plain show.now) }
@@ -160,7 +154,7 @@ pub fn unfit(
 pub fn unseparated(fitted: &Fitted, depth: u8, fault: PlanFault) -> Result<Answer, AllocError>
     requires valid { IsValidFitted fitted.now }
     requires depth { depth ≤ most_depth }
-    requires fault { CertificateGives fitted.now.settings depth fitted.now.trajs (Err fault) }
+    requires fault { FailsBy (blocked_part fitted.now.settings depth fitted.now.trajs) fault }
     ensures gives { (s : PlainShow) → IsFitted fitted.now s → IfOk result (λ a. blocked_by (Some depth) s ≡ Some (outcome_of a)) }
     ensures refused { IfOk result (λ a. IsRefusal a.status) }
 {

@@ -11,7 +11,7 @@ use crate::answer::{Answer, Output, Status, answer_line};
 use crate::command::Command;
 use crate::refusals::unseparated;
 use sep_certificate::write_certificate;
-use show_plan::{Fitted, certificate, ok_line, plan_text};
+use show_plan::{Fitted, certificate, count_nodes, ok_line, plan_text};
 use std::alloc::{AllocError, Global};
 
 /// How many drones and cues a show has and how long it lasts, where it has a certificate of the depth.
@@ -22,7 +22,7 @@ pub fn check(alloc: Global, fitted: &Fitted, depth: u8) -> Result<Answer, AllocE
         → IfOk result (λ a. ShowGives (Command.Check depth) (blocked_by (Some depth) s) s cut (outcome_of a)) }
     ensures apart { IfOk result (λ a. status_number a.status ≡ 0 → FlyApart fitted.now.settings fitted.now.sent) }
 {
-    if let Err(fault) = certificate(alloc, fitted, depth) {
+    if let Err(fault) = count_nodes(alloc, fitted, depth) {
         return unseparated(fitted, depth, fault);
     }
     let drones = fitted.names.as_slice().len() as u8;
@@ -38,7 +38,7 @@ pub fn compile(alloc: Global, fitted: &Fitted, depth: u8) -> Result<Answer, Allo
         → IfOk result (λ a. ShowGives (Command.Compile depth) (blocked_by (Some depth) s) s cut (outcome_of a)) }
     ensures apart { IfOk result (λ a. status_number a.status ≡ 0 → FlyApart fitted.now.settings fitted.now.sent) }
 {
-    match certificate(alloc, fitted, depth) {
+    match count_nodes(alloc, fitted, depth) {
         Ok(_) => {
             let lines = plan_text(alloc, fitted)?;
             Ok(Answer {

@@ -33,6 +33,10 @@ const NEARER_WHEN_ROUNDED: &[u8] =
 const FARTHER_WHEN_ROUNDED: &[u8] =
     b"choreo 1\nellipsoid 120 300\ndrone a 499 0 1000000 0\ndrone b 240500 0 1000000 0\ncue 1000\nend\n";
 
+// Two drones that only a direction with an entry 2 separates: (2, 1, 0).
+const STEEP: &[u8] =
+    b"choreo 1\nellipsoid 120 300\ndrone a 0 0 1000000 0\ndrone b 223000 112000 1000000 0\ncue 1000\nend\n";
+
 // A drone whose trajectory has one byte more than there is room for.
 const WITHOUT_ROOM: &[u8] =
     b"choreo 1\nmemory 2 4069\ndrone solo 0 0 1000000 0\ncue 2000\nsolo move 1000000 0 1000000 0\nend\n";
@@ -99,7 +103,7 @@ fn is_met(
     Ok(met == status && sink.written() == written)
 }
 
-const COMMANDS: [(&[&str], &[u8], u8, &[u8]); 11] = [
+const COMMANDS: [(&[&str], &[u8], u8, &[u8]); 13] = [
     (&["compile"], SHOW, 0, PLAN),
     (&["compile", "--depth", "000000008"], SHOW, 0, PLAN),
     (
@@ -108,12 +112,17 @@ const COMMANDS: [(&[&str], &[u8], u8, &[u8]); 11] = [
         0,
         b"ok drones 2 cues 3 duration_ms 9000\n",
     ),
-    (&["certify"], APART, 0, b"certificate 6\nr\nl\na\n"),
+    (
+        &["certify"],
+        APART,
+        0,
+        b"version 2\ncertificate 6\n58\n46\n00\n",
+    ),
     (
         &["certify", "--depth", "0"],
         APART,
         0,
-        b"certificate 0\nr\nl\na\n",
+        b"version 2\ncertificate 0\n58\n46\n00\n",
     ),
     (
         &["check"],
@@ -145,7 +154,19 @@ const COMMANDS: [(&[&str], &[u8], u8, &[u8]); 11] = [
         5,
         b"error 5 pair a b cue 1 part 0 of 64\n",
     ),
-    (&["certify"], FARTHER_WHEN_ROUNDED, 0, b"certificate 6\nv\n"),
+    (
+        &["certify"],
+        FARTHER_WHEN_ROUNDED,
+        0,
+        b"version 2\ncertificate 6\n69\n",
+    ),
+    (&["certify"], STEEP, 0, b"version 2\ncertificate 6\n93\n"),
+    (
+        &["check"],
+        STEEP,
+        0,
+        b"ok drones 2 cues 1 duration_ms 1000\n",
+    ),
 ];
 
 #[test]
@@ -219,6 +240,48 @@ data 00 00 00 00 E8 03 00 00 54 E8 03 E8 03 DC 05 84 03 00 00 00\nend\n";
     Ok(())
 }
 
+// Cues of one drone that begins at rest, and the beginning of its plan.
+const JOINED: [(&[u8], &[u8]); 7] = [
+    (
+        b"cue 32767\nend\ncue 32768\nend\n",
+        b"plan 1\ndrone solo bytes 14 pieces 1\ndata 00 00 00 00 E8 03 00 00 00 FF FF 00 00 00\nend\n",
+    ),
+    (
+        b"cue 32767\nend\ncue 32768\nend\ncue 1\nend\n",
+        b"plan 1\ndrone solo bytes 17 pieces 2\ndata 00 00 00 00 E8 03 00 00 00 FF FF 00 01 00 00 00 00\nend\n",
+    ),
+    (
+        b"cue 40000\nend\ncue 30000\nend\ncue 30000\nend\n",
+        b"plan 1\ndrone solo bytes 17 pieces 2\ndata 00 00 00 00 E8 03 00 00 00 40 9C 00 60 EA 00 00 00\nend\n",
+    ),
+    (
+        b"cue 1000\nend\ncue 1000\nsolo turn 900\nend\ncue 1000\nend\n",
+        b"plan 1\ndrone solo bytes 34 pieces 3\n",
+    ),
+    (
+        b"cue 1000\nend\ncue 1000\nsolo move 400 0 1000000 0\nend\ncue 1000\nend\n",
+        b"plan 1\ndrone solo bytes 14 pieces 1\ndata 00 00 00 00 E8 03 00 00 00 B8 0B 00 00 00\nend\n",
+    ),
+    (
+        b"repeat 1000\ncue 1000\nend\nend\n",
+        b"plan 1\ndrone solo bytes 59 pieces 16\n",
+    ),
+    (
+        b"repeat 127\ncue 100\nsolo line 1000000 0 1000000 0\nend\ncue 100\nsolo line 0 0 1000000 0\nend\nend\n",
+        b"plan 1\ndrone solo bytes 1281 pieces 254\n",
+    ),
+];
+
+#[test]
+fn joined_holds(rt: HostRuntime) -> Result<(), Fail> {
+    for (cues, front) in JOINED {
+        let (status, sink) = answer(rt.alloc(), &["compile"], START, cues, FINE, FINE)?;
+        assert_eq!(rt; status, 0);
+        assert!(rt; sink.written().starts_with(front));
+    }
+    Ok(())
+}
+
 const FAULTY_SHOWS: [(&[u8], &[u8], &[u8]); 15] = [
     (b"", b"", b"error 3 line 1 header\n"),
     (START, b"", b"error 3 line 1 no-cue\n"),
@@ -284,7 +347,7 @@ fn faulty_shows(rt: HostRuntime) -> Result<(), Fail> {
 // A marker line, want of room, drones that come too near, in this order.
 #[test]
 fn refused_shows(rt: HostRuntime) -> Result<(), Fail> {
-    let rows: [(&[u8], &[u8], u8, &[u8]); 6] = [
+    let rows: [(&[u8], &[u8], u8, &[u8]); 7] = [
         (SHOW, MARKER, 11, b"error 11 line 6\n"),
         (
             START,
@@ -302,9 +365,15 @@ fn refused_shows(rt: HostRuntime) -> Result<(), Fail> {
         (CROSSING, MARKER, 11, b"error 11 line 9\n"),
         (
             b"choreo 1\nellipsoid 120 300\ndrone a 0 0 1000000 0\n",
-            b"drone b 223000 112000 1000000 0\ncue 1000\nend\n",
+            b"drone b 236000 56000 1000000 0\ncue 1000\nend\n",
             5,
             b"error 5 pair a b cue 1 part 0 of 64\n",
+        ),
+        (
+            b"choreo 1\nellipsoid 120 300\ndrone a 0 0 1000000 0\ndrone b 1000000 0 1000000 0\nrepeat 999\ncue 10\nend\nend\n",
+            b"cue 3000\na move 1000000 0 1000000 0\nb move 0 0 1000000 0\nend\n",
+            5,
+            b"error 5 pair a b cue 1000 part 28 of 64\n",
         ),
     ];
     for (front, rest, status, written) in rows {
@@ -377,7 +446,7 @@ fn faulty_cues(rt: HostRuntime) -> Result<(), Fail> {
     Ok(())
 }
 
-const CERTIFICATES: [(&[u8], u8, &[u8]); 8] = [
+const CERTIFICATES: [(&[u8], u8, &[u8]); 12] = [
     (
         b"%%\ncertificate 6\nr\nl\na\n",
         0,
@@ -418,6 +487,26 @@ const CERTIFICATES: [(&[u8], u8, &[u8]); 8] = [
         12,
         b"error 12 too-deep pair a b cue 1\n",
     ),
+    (
+        b"%%\nversion 2\ncertificate 6\n58\n46\n00\n",
+        0,
+        b"valid depth 6 trees 3\n",
+    ),
+    (
+        b"%%\nversion 2\ncertificate 6\n.5858\n46\n00",
+        0,
+        b"valid depth 6 trees 3\n",
+    ),
+    (
+        b"%%\nversion 2\ncertificate 6\n58\n45\n00\n",
+        12,
+        b"error 12 fails pair a b cue 2 part 0 0 direction 45 control 0\n",
+    ),
+    (
+        b"%%\nversion 2\ncertificate 6\n58\n46\n00\n58\n",
+        12,
+        b"error 12 extra line 6\n",
+    ),
 ];
 
 #[test]
@@ -430,7 +519,7 @@ fn certificates(rt: HostRuntime) -> Result<(), Fail> {
 
 #[test]
 fn faulty_certificates(rt: HostRuntime) -> Result<(), Fail> {
-    let rows: [(&[u8], &[u8]); 11] = [
+    let rows: [(&[u8], &[u8]); 17] = [
         (b"%%\ncertificate 6\n.r\nl\na\n", b"error 11 line 2\n"),
         (b"%%\ncertificate 6\nr\nl\na\n%%\n", b"error 11 line 5\n"),
         (b"%%\n", b"error 11 line 1\n"),
@@ -445,6 +534,26 @@ fn faulty_certificates(rt: HostRuntime) -> Result<(), Fail> {
         (
             b"%%\nversion 2\ncertificate 6\n98\n46\n00\n",
             b"error 11 line 3\n",
+        ),
+        // half a leaf, half a leaf before a split, letters
+        (
+            b"%%\nversion 2\ncertificate 6\n5\n46\n00\n",
+            b"error 11 line 3\n",
+        ),
+        (
+            b"%%\nversion 2\ncertificate 6\n5.8\n46\n00\n",
+            b"error 11 line 3\n",
+        ),
+        (
+            b"%%\nversion 2\ncertificate 6\nr\nl\na\n",
+            b"error 11 line 3\n",
+        ),
+        // no second line; a carriage return that no line feed follows; a fixed word with a zero
+        (b"%%\nversion 2\n", b"error 11 line 2\n"),
+        (b"%%\nversion 2\r", b"error 11 line 1\n"),
+        (
+            b"%%\nversion 02\ncertificate 6\n58\n46\n00\n",
+            b"error 11 line 1\n",
         ),
     ];
     for (second, written) in rows {

@@ -32,11 +32,7 @@ fn judge(alloc: Global, fitted: &Fitted, certificate: &Certificate) -> Result<An
             let trees = certificate.trees.as_slice().len() as u32;
             Ok(answer_line(Status::Done, valid_line(certificate.depth, trees)))
         }
-        Err(fault) => Ok(invalid(
-            fitted.names.as_slice(),
-            certificate.version,
-            fault,
-        )),
+        Err(fault) => Ok(invalid(fitted.names.as_slice(), certificate.version, fault)),
     }
 }
 

@@ -1,5 +1,5 @@
 -- What is true of the certificate with the largest leaves, where no part of a show is blocked.
-use Rattle.std.proofs.Common.{◌≡◌, inl, ℕ, zero, suc, ◌*◌, ◌^◌, ◌≤◌, ◌<◌, arith, refl, sym, ap, subst, List, [], ◌∷◌, ◌++◌, length, length-append, map, All, Option, Some, None}
+use Rattle.std.proofs.Common.{◌≡◌, inr, ℕ, zero, suc, ◌*◌, ◌^◌, ◌≤◌, ◌<◌, arith, refl, sym, ap, subst, List, [], ◌∷◌, ◌++◌, length, length-append, map, All, Option, Some, None, Result, Ok, Err, IsOk}
 use Rattle.std.specs.Option.{option_map, option_or}
 use Rattle.std.proofs.lemmas.List.{length-map}
 use Rattle.std.proofs.lemmas.List.Elements.{All-nil, All-cons, All-head, All-tail, All-append}
@@ -8,9 +8,8 @@ use Rattle.traj_codec.specs.declared.traj.Traj.{Traj}
 use Rattle.traj_codec.specs.Joined.{IsLasting}
 use Rattle.traj_codec.specs.Positions.{durations}
 use Rattle.sep_parts.specs.Apart.{SentLaw}
-use Rattle.sep_parts.specs.declared.directions.TheConstants.{DIRECTIONS}
 use Rattle.sep_parts.specs.declared.slot.Slot.{Slot}
-use Rattle.sep_parts.specs.Directions.{direction_count}
+use Rattle.sep_parts.specs.Versions.{table_of}
 use Rattle.sep_parts.specs.Levels.{left_half, right_half, root}
 use Rattle.sep_parts.specs.Raised.{CurvesStandFor, Raised, difference, raised_of}
 use Rattle.sep_parts.specs.Slots.{cues_from, drones_from, pairs_from, slots}
@@ -23,9 +22,10 @@ use Rattle.pair_search.specs.Laws.{SearchLaw}
 use Rattle.pair_search.specs.Search.{best_tree, split_of}
 use Rattle.choreo_reader.specs.declared.show.Settings.{Settings}
 use Rattle.show_plan.specs.declared.fitted.Fitted.{Fitted}
+use Rattle.show_plan.specs.declared.fitted.PlanFault.{PlanFault}
 use Rattle.show_plan.specs.Fitting.{IsValidFitted}
-use Rattle.show_plan.specs.Separation.{FlyApart, IsShowClear, IsSlotClear, best_certificate, best_nodes, blocked_in, blocked_part, direction_at, nodes_of, slots_of}
-use Rattle.show_plan.specs.Steps.{blocked_slot}
+use Rattle.show_plan.specs.Separation.{CountGives, FlyApart, IsShowClear, IsSlotClear, best_certificate, best_nodes, blocked_in, blocked_part, direction_at, nodes_of, slots_of, searched}
+use Rattle.show_plan.specs.Steps.{FindsNodes, blocked_slot}
 use Rattle.show_plan.proofs.SeparationLaws.{all_clear, none_first, slot_law}
 
 -- ---- how many slots there are
@@ -39,7 +39,7 @@ few_pairs zero cues a b few = omega arith
 few_pairs (suc n) cues a b few =
     omega (arith, length-append (cues_from cues a b 0) (pairs_from n cues a (suc b)), cues_counted cues a b 0, few_pairs n cues a (suc b) few, few)
 
-few_drones : (n cues a : ℕ) → n ≤ 32 → cues ≤ 1000 → length (drones_from n cues a) ≤ n * 32000
+pub few_drones : (n cues a : ℕ) → n ≤ 32 → cues ≤ 1000 → length (drones_from n cues a) ≤ n * 32000
 few_drones zero cues a small few = omega arith
 few_drones (suc n) cues a small few =
     let others : length (drones_from n cues (suc a)) ≤ n * 32000 = few_drones n cues (suc a) (omega arith) few in
@@ -86,23 +86,23 @@ module _ (law : SearchLaw) (e : Settings) (depth : ℕ) (curves : Raised) where
   -- the best tree of a slot without a blocked part
   tree_there : (slot : Slot) → IsSlotClear e depth curves slot → (tree : Tree) × (best_tree (direction_at e curves slot) depth root ≡ Some tree)
   unfolding direction_at
-  tree_there slot clear = (law.there e.r e.h (difference curves slot.a slot.b slot.cue) DIRECTIONS.n depth).1 clear
+  tree_there slot clear = (law.there e.r e.h (difference curves slot.a slot.b slot.cue) searched depth).1 clear
 
   tree_valid : (slot : Slot) (tree : Tree) → best_tree (direction_at e curves slot) depth root ≡ Some tree →
-      IsValidTree (record { r = e.r; h = e.h; depth = depth }) DIRECTIONS.n (difference curves slot.a slot.b slot.cue) root tree
+      IsValidTree (record { r = e.r; h = e.h; depth = depth }) searched (difference curves slot.a slot.b slot.cue) root tree
   unfolding direction_at
-  tree_valid slot tree is = law.valid (record { r = e.r; h = e.h; depth = depth }) (difference curves slot.a slot.b slot.cue) DIRECTIONS.n tree is
+  tree_valid slot tree is = law.valid (record { r = e.r; h = e.h; depth = depth }) (difference curves slot.a slot.b slot.cue) searched tree is
 
-  direction_known : (slot : Slot) (place : Place) (dir : ℕ) → direction_at e curves slot place ≡ Some dir → dir < direction_count
-  unfolding direction_at
-  direction_known slot place dir is = ((law.first e.r e.h (difference curves slot.a slot.b slot.cue) DIRECTIONS.n place dir).0 is).inside
+  direction_known : (slot : Slot) (place : Place) (dir : ℕ) → direction_at e curves slot place ≡ Some dir → dir < 98
+  unfolding direction_at table_of
+  direction_known slot place dir is = ((law.first e.r e.h (difference curves slot.a slot.b slot.cue) searched place dir).0 is).inside
 
-  tree_known : (slot : Slot) (tree : Tree) → best_tree (direction_at e curves slot) depth root ≡ Some tree → All (IsKnown direction_count) (best_nodes e depth curves slot)
+  tree_known : (slot : Slot) (tree : Tree) → best_tree (direction_at e curves slot) depth root ≡ Some tree → All (IsKnown 98) (best_nodes e depth curves slot)
   tree_known slot tree is =
-      subst (λ (nodes : List Node). All (IsKnown direction_count) nodes) (sym (ap nodes_of is))
-      (best_known (direction_at e curves slot) direction_count (direction_known slot) depth root tree is)
+      subst (λ (nodes : List Node). All (IsKnown 98) nodes) (sym (ap nodes_of is))
+      (best_known (direction_at e curves slot) 98 (direction_known slot) depth root tree is)
 
-  all_valid : (ss : List Slot) → blocked_in e depth curves ss ≡ None → AreValid (record { r = e.r; h = e.h; depth = depth }) DIRECTIONS.n curves ss (map (best_nodes e depth curves) ss)
+  all_valid : (ss : List Slot) → blocked_in e depth curves ss ≡ None → AreValid (record { r = e.r; h = e.h; depth = depth }) searched curves ss (map (best_nodes e depth curves) ss)
   all_valid [] none = tt
   all_valid (s ∷ ss) none =
       let parts = none_first (blocked_slot e depth curves s) (blocked_in e depth curves ss) none in
@@ -116,19 +116,19 @@ module _ (law : SearchLaw) (e : Settings) (depth : ℕ) (curves : Raised) where
       let there = tree_there s ((slot_law e depth curves s).0 parts.0) in
       All-cons IsTree (best_nodes e depth curves s) (map (best_nodes e depth curves) ss) (there.0, ap nodes_of there.1) (all_trees ss parts.1)
 
-  all_known : (ss : List Slot) → blocked_in e depth curves ss ≡ None → All (All (IsKnown direction_count)) (map (best_nodes e depth curves) ss)
-  all_known [] none = All-nil (All (IsKnown direction_count))
+  all_known : (ss : List Slot) → blocked_in e depth curves ss ≡ None → All (All (IsKnown 98)) (map (best_nodes e depth curves) ss)
+  all_known [] none = All-nil (All (IsKnown 98))
   all_known (s ∷ ss) none =
       let parts = none_first (blocked_slot e depth curves s) (blocked_in e depth curves ss) none in
       let there = tree_there s ((slot_law e depth curves s).0 parts.0) in
-      All-cons (All (IsKnown direction_count)) (best_nodes e depth curves s) (map (best_nodes e depth curves) ss) (tree_known s there.0 there.1) (all_known ss parts.1)
+      All-cons (All (IsKnown 98)) (best_nodes e depth curves s) (map (best_nodes e depth curves) ss) (tree_known s there.0 there.1) (all_known ss parts.1)
 
 -- ---- the certificate
 
 -- what is promised of a certificate
 pub record IsCertified (e : Settings) (depth : ℕ) (trajs : List Traj) (cert : Certificate) : Type 0 where
   pub whole : IsWhole cert
-  pub valid : IsValid DIRECTIONS.n (raised_of trajs) e.r e.h cert
+  pub valid : IsValid searched (raised_of trajs) e.r e.h cert
   pub clear : IsShowClear e depth trajs
   pub apart : FlyApart e trajs
 
@@ -139,7 +139,7 @@ best_whole e depth trajs law shallow stands none =
     let drones : curves.drones ≤ 32 = omega (arith, stands.drones, stands.one_show.few_drones) in
     let cues : curves.cues ≤ 1000 = omega (arith, stands.cues, stands.one_show.few_cues) in
     record {
-      version = inl refl;
+      version = inr refl;
       whole = record {
         depth = shallow;
         few = omega (arith, length-map (slots_of trajs) (best_nodes e depth curves), few_slots curves.drones curves.cues drones cues);
@@ -151,22 +151,32 @@ best_whole e depth trajs law shallow stands none =
 best_certified : (e : Settings) (depth : ℕ) (trajs : List Traj) → SearchLaw → CertificateLaw → depth ≤ 8 → CurvesStandFor (raised_of trajs) trajs → blocked_part e depth trajs ≡ None →
     IsCertified e depth trajs (best_certificate e depth trajs)
 best_certified e depth trajs law keeps shallow stands none =
-    let valid : IsValid DIRECTIONS.n (raised_of trajs) e.r e.h (best_certificate e depth trajs) = all_valid law e depth (raised_of trajs) (slots_of trajs) none in
+    let valid : IsValid searched (raised_of trajs) e.r e.h (best_certificate e depth trajs) = all_valid law e depth (raised_of trajs) (slots_of trajs) none in
     record {
       whole = best_whole e depth trajs law shallow stands none;
       valid = valid;
       clear = all_clear e depth (raised_of trajs) (slots_of trajs) none;
-      apart = keeps.apart DIRECTIONS.n (raised_of trajs) e.r e.h (best_certificate e depth trajs) valid trajs stands;
+      apart = keeps.apart searched (raised_of trajs) e.r e.h (best_certificate e depth trajs) valid trajs stands;
     }
+
+-- Where nodes are counted, their trees are a certificate.
+pub count_certified : (e : Settings) (depth : ℕ) (trajs : List Traj) (r : Result ℕ PlanFault) → SearchLaw → CertificateLaw → depth ≤ 8 → CurvesStandFor (raised_of trajs) trajs → CountGives e depth trajs r → IsOk r →
+    IsCertified e depth trajs (best_certificate e depth trajs)
+count_certified e depth trajs (Ok n) law keeps shallow stands gives ok = best_certified e depth trajs law keeps shallow stands gives.0
+count_certified e depth trajs (Err f) law keeps shallow stands gives ok = absurd (cc)
+
+-- What is counted over the curves of trajectories is counted for these.
+pub count_gives : (e : Settings) (depth : ℕ) (trajs : List Traj) (curves : Raised) (r : Result ℕ PlanFault) → curves ≡ raised_of trajs → FindsNodes e depth curves r → CountGives e depth trajs r
+count_gives e depth trajs curves r is finds = subst (λ (c : Raised). FindsNodes e depth c r) is finds
 
 -- The trees that are found over the curves of trajectories are a certificate of these.
 pub certified : (e : Settings) (depth : ℕ) (trajs : List Traj) (curves : Raised) (trees : List (List Node)) → SearchLaw → CertificateLaw → depth ≤ 8 → CurvesStandFor curves trajs → curves ≡ raised_of trajs →
     (blocked_in e depth curves (slots curves.drones curves.cues) ≡ None) × (trees ≡ map (best_nodes e depth curves) (slots curves.drones curves.cues)) →
-    IsCertified e depth trajs (record { version = 1; depth = depth; trees = trees })
+    IsCertified e depth trajs (record { version = 2; depth = depth; trees = trees })
 certified e depth trajs curves trees law keeps shallow stands is found =
     let none : blocked_part e depth trajs ≡ None = subst (λ (c : Raised). blocked_in e depth c (slots c.drones c.cues) ≡ None) is found.0 in
     let all : trees ≡ map (best_nodes e depth (raised_of trajs)) (slots_of trajs) = subst (λ (c : Raised). trees ≡ map (best_nodes e depth c) (slots c.drones c.cues)) is found.1 in
-    subst (λ (ts : List (List Node)). IsCertified e depth trajs (record { version = 1; depth = depth; trees = ts })) (sym all)
+    subst (λ (ts : List (List Node)). IsCertified e depth trajs (record { version = 2; depth = depth; trees = ts })) (sym all)
     (best_certified e depth trajs law keeps shallow (subst (λ (c : Raised). CurvesStandFor c trajs) is stands) none)
 
 -- What is sent flies apart where the trajectories by cue do.

@@ -4,4 +4,5 @@ pub mod Valid
 pub mod Separated
 pub mod SeparationLaws
 pub mod Certified
+pub mod Counted
 pub mod PlanLines

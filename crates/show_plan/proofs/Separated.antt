@@ -1,9 +1,9 @@
 -- The walk over the slots of a show: what is found at one of them, and what has been found of those before it.
-use Rattle.std.proofs.Common.{◌≡◌, ℕ, ◌+◌, ◌-◌, ◌*◌, sym, ◌∙◌, ap, subst, List, [], ◌∷◌, ◌++◌, append_assoc, map, Option, Some, None, Ok, Err}
+use Rattle.std.proofs.Common.{◌≡◌, ℕ, ◌+◌, ◌-◌, ◌*◌, ℤ, arith, refl, length, sym, ◌∙◌, ap, subst, List, [], ◌∷◌, ◌++◌, append_assoc, map, Option, Some, None, Ok, Err}
 use Rattle.std.specs.Option.{option_map, option_or}
+use Rattle.std.proofs.lemmas.List.Sums.{sum_by-cons}
 use Rattle.bezier_core.specs.declared.Bez.{Bez}
 use Rattle.halving.specs.declared.Place.{Place}
-use Rattle.sep_parts.specs.declared.directions.TheConstants.{DIRECTIONS}
 use Rattle.sep_parts.specs.declared.slot.Slot.{Slot}
 use Rattle.sep_parts.specs.Raised.{Raised, difference}
 use Rattle.sep_certificate.specs.declared.certificate.Node.{Node}
@@ -14,38 +14,43 @@ use Rattle.pair_search.specs.Search.{SearchGives, first_direction}
 use Rattle.choreo_reader.specs.declared.show.Settings.{Settings}
 use Rattle.show_plan.specs.declared.fitted.PlanFault.{PlanFault}
 use Rattle.show_plan.specs.declared.fitted.PlanFault.TheVariants as fault
-use Rattle.show_plan.specs.Separation.{best_nodes, blocked_at, blocked_in, direction_at, nodes_of}
-use Rattle.show_plan.specs.Steps.{blocked_slot, Finds}
+use Rattle.show_plan.specs.Separation.{FailsBy, Finds, best_nodes, blocked_at, blocked_in, direction_at, nodes_of, searched}
+use Rattle.show_plan.specs.Steps.{blocked_slot, nodes_in}
 
 -- ---- one slot
 
 -- the first directions of a slot are those by its differences
-direction_is : (e : Settings) (curves : Raised) (slot : Slot) (diff : List (Bez 8)) → diff ≡ difference curves slot.a slot.b slot.cue →
-    first_direction e.r e.h diff DIRECTIONS.n ≡ direction_at e curves slot
+direction_is : (e : Settings) (curves : Raised) (slot : Slot) (diff : List (Bez 8)) (dirs : List (List ℤ)) → dirs ≡ searched → diff ≡ difference curves slot.a slot.b slot.cue →
+    first_direction e.r e.h diff dirs ≡ direction_at e curves slot
 unfolding direction_at
-direction_is e curves slot diff is = ap (λ (d : List (Bez 8)). first_direction e.r e.h d DIRECTIONS.n) is
+direction_is e curves slot diff dirs table is =
+    ap (λ (t : List (List ℤ)). first_direction e.r e.h diff t) table ∙ ap (λ (d : List (Bez 8)). first_direction e.r e.h d searched) is
 
 tree_nodes : (o : Option Tree) (nodes : List Node) → option_map preorder o ≡ Some nodes → nodes ≡ nodes_of o
 tree_nodes None nodes is = absurd (cc)
 tree_nodes (Some tree) nodes is = cc
 
--- a search that finds a tree
-pub clear_found : (e : Settings) (depth : ℕ) (curves : Raised) (slot : Slot) (diff : List (Bez 8)) (answer : Found) (nodes tree : List Node) → diff ≡ difference curves slot.a slot.b slot.cue →
-    answer ≡ found.Clear → tree ≡ nodes → SearchGives (first_direction e.r e.h diff DIRECTIONS.n) depth (Ok answer) nodes →
-    (blocked_slot e depth curves slot ≡ None) × (tree ≡ best_nodes e depth curves slot)
-clear_found e depth curves slot diff answer nodes tree is clear tree_is gives =
-    let here = subst (λ (first : Place → Option ℕ). SearchGives first depth (Ok found.Clear) nodes) (direction_is e curves slot diff is)
-    (subst (λ (a : Found). SearchGives (first_direction e.r e.h diff DIRECTIONS.n) depth (Ok a) nodes) clear gives) in
-    (ap (option_map (blocked_at slot)) here.0, tree_is ∙ tree_nodes _ nodes here.1)
+module _ (e : Settings) (depth : ℕ) (curves : Raised) (slot : Slot) (diff : List (Bez 8)) (dirs : List (List ℤ)) (table : dirs ≡ searched) (is : diff ≡ difference curves slot.a slot.b slot.cue) where
+  -- what a search of the slot's differences gives, by its first directions
+  searched_slot : (answer given : Found) (nodes : List Node) → answer ≡ given → SearchGives (first_direction e.r e.h diff dirs) depth (Ok answer) nodes →
+      SearchGives (direction_at e curves slot) depth (Ok given) nodes
+  searched_slot answer given nodes same gives =
+      subst (λ (first : Place → Option ℕ). SearchGives first depth (Ok given) nodes) (direction_is e curves slot diff dirs table is)
+      (subst (λ (a : Found). SearchGives (first_direction e.r e.h diff dirs) depth (Ok a) nodes) same gives)
 
--- a search that finds a part without a direction
-pub blocked_found : (e : Settings) (depth : ℕ) (curves : Raised) (slot : Slot) (diff : List (Bez 8)) (answer : Found) (index : ℕ) (nodes : List Node) → diff ≡ difference curves slot.a slot.b slot.cue →
-    answer ≡ found.Blocked index → SearchGives (first_direction e.r e.h diff DIRECTIONS.n) depth (Ok answer) nodes →
-    blocked_slot e depth curves slot ≡ Some (fault.Blocked slot.a slot.b slot.cue index)
-blocked_found e depth curves slot diff answer index nodes is blocked gives =
-    let here = subst (λ (first : Place → Option ℕ). SearchGives first depth (Ok (found.Blocked index)) nodes) (direction_is e curves slot diff is)
-    (subst (λ (a : Found). SearchGives (first_direction e.r e.h diff DIRECTIONS.n) depth (Ok a) nodes) blocked gives) in
-    ap (option_map (blocked_at slot)) here.0
+  -- a search that finds a tree
+  pub clear_found : (answer : Found) (nodes : List Node) → answer ≡ found.Clear → SearchGives (first_direction e.r e.h diff dirs) depth (Ok answer) nodes →
+      (blocked_slot e depth curves slot ≡ None) × (nodes ≡ best_nodes e depth curves slot)
+  clear_found answer nodes clear gives =
+      let here = searched_slot answer found.Clear nodes clear gives in
+      (ap (option_map (blocked_at slot)) here.0, tree_nodes _ nodes here.1)
+
+  -- a search that finds a part without a direction
+  pub blocked_found : (answer : Found) (index : ℕ) (nodes : List Node) → answer ≡ found.Blocked index → SearchGives (first_direction e.r e.h diff dirs) depth (Ok answer) nodes →
+      (blocked_slot e depth curves slot ≡ Some (fault.Blocked slot.a slot.b slot.cue index)) × (nodes ≡ [])
+  blocked_found answer index nodes blocked gives =
+      let here = searched_slot answer (found.Blocked index) nodes blocked gives in
+      (ap (option_map (blocked_at slot)) here.0, here.1)
 
 -- ---- the walk
 
@@ -71,13 +76,20 @@ module _ (e : Settings) (depth : ℕ) (curves : Raised) where
       ∙ sym (ap (λ (slots : List Slot). trees ++ map (best_nodes e depth curves) slots) is)
       ∙ same
 
+  -- its nodes counted with those before it
+  pub count_next : (rest next : List Slot) (slot : Slot) (count more whole : ℕ) (nodes : List Node) → rest ≡ slot ∷ next → nodes ≡ best_nodes e depth curves slot →
+      more ≡ count + length nodes → count + nodes_in e depth curves rest ≡ whole → more + nodes_in e depth curves next ≡ whole
+  count_next rest next slot count more whole nodes is nodes_is more_is same =
+      let one : nodes_in e depth curves (slot ∷ next) ≡ length (best_nodes e depth curves slot) + nodes_in e depth curves next = sum_by-cons (λ (n : ℕ). n) (length (best_nodes e depth curves slot)) (map length (map (best_nodes e depth curves) next)) in
+      omega (arith, one, ap (nodes_in e depth curves) is, ap (λ (ns : List Node). length ns) nodes_is, more_is, same)
+
   -- a slot that is blocked is the first one that is
-  pub blocked_next : (rest next : List Slot) (slot : Slot) (whole : Option PlanFault) (wanted : List (List Node)) (f : PlanFault) → rest ≡ slot ∷ next →
-      Finds (blocked_slot e depth curves slot) (best_nodes e depth curves slot) (Err f) → blocked_in e depth curves rest ≡ whole → Finds whole wanted (Err f)
-  blocked_next rest next slot whole wanted (fault.Grid f) is finds same = finds
-  blocked_next rest next slot whole wanted (fault.Expand f) is finds same = finds
-  blocked_next rest next slot whole wanted (fault.TooManySegments drone segments) is finds same = finds
-  blocked_next rest next slot whole wanted (fault.TooLong drone bytes room) is finds same = finds
-  blocked_next rest next slot whole wanted (fault.Blocked a b cue index) is finds same =
+  pub blocked_next : (rest next : List Slot) (slot : Slot) (whole : Option PlanFault) (f : PlanFault) → rest ≡ slot ∷ next →
+      FailsBy (blocked_slot e depth curves slot) f → blocked_in e depth curves rest ≡ whole → FailsBy whole f
+  blocked_next rest next slot whole (fault.Grid f) is finds same = finds
+  blocked_next rest next slot whole (fault.Expand f) is finds same = finds
+  blocked_next rest next slot whole (fault.TooManySegments drone segments) is finds same = finds
+  blocked_next rest next slot whole (fault.TooLong drone bytes room) is finds same = finds
+  blocked_next rest next slot whole (fault.Blocked a b cue index) is finds same =
       sym same ∙ ap (blocked_in e depth curves) is ∙ ap (λ (o : Option PlanFault). option_or o (blocked_in e depth curves next)) finds
-  blocked_next rest next slot whole wanted fault.Memory is finds same = tt
+  blocked_next rest next slot whole fault.Memory is finds same = tt

@@ -3,7 +3,6 @@ use Rattle.std.proofs.Common.{◌≡◌, ◌↔◌, ℕ, ap, refl, subst, ◌∙
 use Rattle.std.specs.Option.{option_map, option_or}
 use Rattle.std.proofs.lemmas.List.Elements.{All-nil, All-cons, All-head, All-tail}
 use Rattle.traj_codec.specs.declared.traj.Traj.{Traj}
-use Rattle.sep_parts.specs.declared.directions.TheConstants.{DIRECTIONS}
 use Rattle.sep_parts.specs.declared.slot.Slot.{Slot}
 use Rattle.sep_parts.specs.Raised.{Raised, difference, raised_of}
 use Rattle.sep_parts.specs.Slots.{slot_at}
@@ -12,7 +11,7 @@ use Rattle.pair_search.specs.Search.{blocked_place}
 use Rattle.pair_search.proofs.SearchLaws.{laws}
 use Rattle.choreo_reader.specs.declared.show.Settings.{Settings}
 use Rattle.show_plan.specs.declared.fitted.PlanFault.{PlanFault}
-use Rattle.show_plan.specs.Separation.{IsSlotClear, blocked_at, blocked_in, blocked_part, direction_at, slots_of}
+use Rattle.show_plan.specs.Separation.{IsSlotClear, blocked_at, blocked_in, blocked_part, direction_at, slots_of, searched}
 use Rattle.show_plan.specs.Steps.{blocked_slot}
 use Rattle.show_plan.specs.Laws.{IsFirstPart, SeparationLaw}
 
@@ -39,16 +38,16 @@ same_index s slot k index is = cc
 module _ (e : Settings) (depth : ℕ) (curves : Raised) where
   -- the part of a slot with this index is the first of its cue without a direction
   abbrev IsBlockedAt : Slot → ℕ → Type 0
-  IsBlockedAt slot index = IsFirstBlocked e.r e.h (difference curves slot.a slot.b slot.cue) DIRECTIONS.n depth index
+  IsBlockedAt slot index = IsFirstBlocked e.r e.h (difference curves slot.a slot.b slot.cue) searched depth index
 
   -- ---- one slot
   place_clear : (slot : Slot) → (blocked_place (direction_at e curves slot) depth ≡ None) ↔ IsSlotClear e depth curves slot
   unfolding direction_at
-  place_clear slot = laws.clear e.r e.h (difference curves slot.a slot.b slot.cue) DIRECTIONS.n depth
+  place_clear slot = laws.clear e.r e.h (difference curves slot.a slot.b slot.cue) searched depth
 
   place_blocked : (slot : Slot) (index : ℕ) → (blocked_place (direction_at e curves slot) depth ≡ Some index) ↔ IsBlockedAt slot index
   unfolding direction_at
-  place_blocked slot index = laws.blocked e.r e.h (difference curves slot.a slot.b slot.cue) DIRECTIONS.n depth index
+  place_blocked slot index = laws.blocked e.r e.h (difference curves slot.a slot.b slot.cue) searched depth index
 
   -- no part of a slot is blocked exactly where it is clear
   pub slot_law : (slot : Slot) → (blocked_slot e depth curves slot ≡ None) ↔ IsSlotClear e depth curves slot

@@ -26,7 +26,7 @@ use Rattle.cue_grid.proofs.Tables.{same_is}
 use Rattle.traj_codec.specs.declared.traj.Traj.{Traj}
 use Rattle.traj_codec.specs.Positions.{durations}
 use Rattle.traj_codec.specs.Joined.{joined}
-use Rattle.traj_codec.specs.Spelling.{ending, most_segments, IsEncoding}
+use Rattle.traj_codec.specs.Spelling.{ending, most_segments, IsEncoding, IsTrajectory}
 use Rattle.figure_expand.specs.declared.fault.ExpandFault.{ExpandFault}
 use Rattle.figure_expand.specs.Expanded.{range_fault}
 use Rattle.show_plan.specs.declared.fitted.Fitted.{Fitted}
@@ -137,6 +137,12 @@ names_are_words [] fit = All-nil StandsAsWord
 names_are_words (d ∷ ds) fit =
     All-cons StandsAsWord d.name (map (λ (d : DroneLine). d.name) ds) (name_is_word d.name.items fit.0) (names_are_words ds fit.2)
 
+-- they are names of the language
+names_are_named : (ds : List DroneLine) → FitDroneLines ds → All (λ (n : Name). is_name n.items ≡ true) (map (λ (d : DroneLine). d.name) ds)
+names_are_named [] fit = All-nil (λ (n : Name). is_name n.items ≡ true)
+names_are_named (d ∷ ds) fit =
+    All-cons (λ (n : Name). is_name n.items ≡ true) d.name (map (λ (d : DroneLine). d.name) ds) fit.0 (names_are_named ds fit.2)
+
 names_counted : (ds : List DroneLine) → length (map (λ (d : DroneLine). d.name) ds) ≡ length ds
 names_counted [] = refl
 names_counted (d ∷ ds) = ap suc (names_counted ds)
@@ -168,8 +174,8 @@ few_all space d (t ∷ ts) none =
 each_lasts : (g : Grid) → IsGrid g → All (λ (t : Traj). durations t.segments ≡ cue_times g) (by_cue g)
 each_lasts g is = All-from_get_or (λ (t : Traj). durations t.segments ≡ cue_times g) (by_cue g) no_trajectory (λ d small. flight_lasts g d (omega (arith, by_cue_counted g)))
 
-valid_by : (f : Fitted) (s : PlainShow) → IsValid s → grid_fault s ≡ None → unsendable s ≡ None → IsFitted f s → IsValidFitted f
-valid_by f s v none sendable is =
+valid_by : (f : Fitted) (s : PlainShow) → IsValid s → grid_fault s ≡ None → unsendable s ≡ None → IsFitted f s → All IsTrajectory f.trajs → IsValidFitted f
+valid_by f s v none sendable is formed =
     let g : Grid = grid_of s in
     let grid : IsGrid g = fit_grid s v none in
     let names : length f.names ≡ length s.drones = ap (λ (ns : List Name). length ns) is.names ∙ names_counted s.drones in
@@ -179,6 +185,7 @@ valid_by f s v none sendable is =
       some_drone = omega (arith, names, grid.some_start);
       few_drones = omega (arith, names, grid.few_starts);
       distinct = ap has_double is.names ∙ names_apart s none;
+      named = subst (All (λ (n : Name). is_name n.items ≡ true)) (sym is.names) (names_are_named s.drones v.drones);
       words = subst (All StandsAsWord) (sym is.names) (names_are_words s.drones v.drones);
       trajs_counted = trajs ∙ sym names;
       some_cue = omega (arith, is.cues, grid.some_cue);
@@ -188,6 +195,7 @@ valid_by f s v none sendable is =
       last = cues_last (length g.starts) g.cues grid.cues;
       duration = sym is.duration;
       lasting = subst (All (λ (t : Traj). durations t.segments ≡ cue_times g)) (sym is.trajs) (each_lasts g grid);
+      formed = formed;
       sent = is.sent ∙ ap (map joined) (sym is.trajs);
       few_segments = subst (All (λ (t : Traj). length t.segments ≤ most_segments)) (sym is.sent) (few_all (room s) 0 (sent g) sendable);
       encoded = is.bytes;
@@ -197,8 +205,8 @@ valid_by f s v none sendable is =
     }
 
 -- What is answered is valid.
-pub valid_given : (r : Result Fitted PlanFault) (s : PlainShow) → IsValid s → FitGives r s → IfOk r (λ f. IsValidFitted f)
-valid_given (Ok f) s v gives =
+pub valid_given : (r : Result Fitted PlanFault) (s : PlainShow) → IsValid s → FitGives r s → IfOk r (λ f. All IsTrajectory f.trajs) → IfOk r (λ f. IsValidFitted f)
+valid_given (Ok f) s v gives formed =
     let none = no_part (grid_fault s) (range_fault (grid_of s)) (unsendable s) gives.0 in
-    valid_by f s v none.0 none.2 gives.1
-valid_given (Err f) s v gives = tt
+    valid_by f s v none.0 none.2 gives.1 formed
+valid_given (Err f) s v gives formed = tt

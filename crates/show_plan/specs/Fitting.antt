@@ -1,11 +1,11 @@
 -- What becomes of a show: its trajectories with their bytes, or the first reason why it has no plan.
-use Rattle.std.specs.Prelude.{false, ◌≡◌, ℕ, ◌+◌, ◌-◌, ◌≤◌, List, [], ◌∷◌, ◌++◌, map, length, nat_le, nat_lt, Option, Some, None, Result, Ok, Err, if◌then◌else◌}
+use Rattle.std.specs.Prelude.{false, true, ◌≡◌, ℕ, ◌+◌, ◌-◌, ◌≤◌, List, [], ◌∷◌, ◌++◌, map, length, nat_le, nat_lt, Option, Some, None, Result, Ok, Err, if◌then◌else◌}
 use Rattle.std.specs.Option.{option_or}
 use Rattle.std.specs.List.{sum, All}
 use Rattle.fleet_math.specs.Limits.{most_cues}
 use Rattle.mem_chunks.specs.declared.TheConstants.{MEMORY_BYTES}
 use Rattle.fleet_io.specs.Words.{IsWord}
-use Rattle.choreo_lines.specs.Name.{Name}
+use Rattle.choreo_lines.specs.Name.{Name, is_name}
 use Rattle.choreo_reader.specs.declared.show.DroneLine.{DroneLine}
 use Rattle.choreo_reader.specs.Plain.{PlainShow}
 use Rattle.choreo_reader.specs.Valid.{FitsSettings}
@@ -17,7 +17,7 @@ use Rattle.cue_grid.specs.Names.{has_double}
 use Rattle.traj_codec.specs.declared.traj.Traj.{Traj}
 use Rattle.traj_codec.specs.Positions.{durations}
 use Rattle.traj_codec.specs.Joined.{joined}
-use Rattle.traj_codec.specs.Spelling.{spelling, ending, IsEncoding, HasDuration, most_segments}
+use Rattle.traj_codec.specs.Spelling.{spelling, ending, IsEncoding, IsTrajectory, HasDuration, most_segments}
 use Rattle.figure_expand.specs.declared.fault.ExpandFault.{ExpandFault}
 use Rattle.figure_expand.specs.declared.fault.ExpandFault.TheVariants as expand
 use Rattle.figure_expand.specs.Expanded.{range_fault}
@@ -110,15 +110,16 @@ abbrev pub FitGives : Result Fitted PlanFault → PlainShow → Type 0
 FitGives (Ok f) s = (plan_fault s ≡ None) × IsFitted f s
 FitGives (Err f) s = PlanFails f s
 
--- Valid: settings in range; 1 to 32 names, no two of them equal, each of which can stand as a word; as many trajectories, by cue and sent, and lists of bytes; 1 to 1,000
--- cues, each of which lasts some time; these are the durations of the segments of each trajectory by cue; what is sent are these
--- trajectories with their holds joined, each of at most 255 segments; and each list of bytes is the encoding of what is sent, and
--- has room in a drone's memory behind the offset.
+-- Valid: settings in range; 1 to 32 names of the language, each of which can stand as a word, no two of them equal; as many trajectories,
+-- by cue and sent, and lists of bytes; 1 to 1,000 cues, each of which lasts some time; these are the durations of the segments of each trajectory by cue, whose
+-- numbers fit their bytes; what is sent are these trajectories with their holds joined, each of at most 255 segments; and each list of
+-- bytes is the encoding of what is sent, and has room in a drone's memory from the offset on.
 pub record IsValidFitted (f : Fitted) : Type 0 where
   pub settings : FitsSettings f.settings
   pub some_drone : 1 ≤ length f.names
   pub few_drones : length f.names ≤ drone_limit
   pub distinct : has_double f.names ≡ false
+  pub named : All (λ (name : Name). is_name name.items ≡ true) f.names
   pub words : All StandsAsWord f.names
   pub trajs_counted : length f.trajs ≡ length f.names
   pub some_cue : 1 ≤ f.cues
@@ -128,6 +129,7 @@ pub record IsValidFitted (f : Fitted) : Type 0 where
   pub last : All (λ ms. 1 ≤ ms) times
   pub duration : sum times ≡ f.duration
   pub lasting : All (λ (t : Traj). durations t.segments ≡ times) f.trajs
+  pub formed : All IsTrajectory f.trajs
   pub sent : f.sent ≡ map joined f.trajs
   pub few_segments : All (λ (t : Traj). length t.segments ≤ most_segments) f.sent
   pub encoded : AreEncodings f.bytes f.sent

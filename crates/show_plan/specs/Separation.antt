@@ -1,16 +1,16 @@
 -- What keeps the drones of a show apart: a certificate with the largest possible leaves, or the first part of a cue in which no
 -- direction separates two drones.
-use Rattle.std.specs.Prelude.{◌≡◌, ℕ, List, [], ◌∷◌, map, Option, Some, None, Result, Ok, Err}
+use Rattle.std.specs.Prelude.{◌≡◌, ℕ, ℤ, List, [], ◌∷◌, length, map, Option, Some, None, Result, Ok, Err}
 use Rattle.std.specs.Option.{option_map, option_or}
-use Rattle.std.specs.List.{All}
+use Rattle.std.specs.List.{All, sum}
 use Rattle.halving.specs.declared.Place.{Place}
 use Rattle.traj_codec.specs.declared.traj.Traj.{Traj}
-use Rattle.sep_parts.specs.declared.directions.TheConstants.{DIRECTIONS}
 use Rattle.sep_parts.specs.declared.slot.Slot.{Slot}
 use Rattle.sep_parts.specs.Apart as apart
 use Rattle.sep_parts.specs.Levels.{root}
 use Rattle.sep_parts.specs.Raised.{Raised, difference, raised_of}
 use Rattle.sep_parts.specs.Slots.{slots}
+use Rattle.sep_parts.specs.Versions.{table_of}
 use Rattle.sep_certificate.specs.declared.certificate.Node.{Node}
 use Rattle.sep_certificate.specs.declared.certificate.Certificate.{Certificate}
 use Rattle.sep_certificate.specs.Certificates.{Tree, preorder}
@@ -19,9 +19,13 @@ use Rattle.choreo_reader.specs.declared.show.Settings.{Settings}
 use Rattle.show_plan.specs.declared.fitted.PlanFault.{PlanFault}
 use Rattle.show_plan.specs.declared.fitted.PlanFault.TheVariants as fault
 
+-- the directions that are searched: the 98 of version 2
+abbrev pub searched : List (List ℤ)
+searched = table_of 2
+
 -- the first direction of the table that separates the pair of a slot in a place of its cue
 unfoldable pub direction_at : Settings → Raised → Slot → Place → Option ℕ
-direction_at e curves slot = first_direction e.r e.h (difference curves slot.a slot.b slot.cue) DIRECTIONS.n
+direction_at e curves slot = first_direction e.r e.h (difference curves slot.a slot.b slot.cue) searched
 
 -- the pair of a slot is blocked in this part of its cue
 abbrev pub blocked_at : Slot → ℕ → PlanFault
@@ -52,18 +56,34 @@ best_nodes e depth curves slot = nodes_of (best_tree (direction_at e curves slot
 
 -- the certificate with the largest possible leaves, for trajectories of which no part of the depth is blocked
 abbrev pub best_certificate : Settings → ℕ → List Traj → Certificate
-best_certificate e depth trajs = record { version = 1; depth = depth; trees = map (best_nodes e depth (raised_of trajs)) (slots_of trajs) }
+best_certificate e depth trajs = record { version = 2; depth = depth; trees = map (best_nodes e depth (raised_of trajs)) (slots_of trajs) }
 
--- The certificate with the largest leaves, where no part is blocked; else the first part that is. Want of memory says nothing.
+-- how many nodes the trees of a certificate have together
+abbrev pub node_count : Certificate → ℕ
+node_count cert = sum (map length cert.trees)
+
+-- Why nothing is found: this part is blocked, the first one. Out of memory says nothing, and no other fault comes.
+abbrev pub FailsBy : Option PlanFault → PlanFault → Type 0
+FailsBy blocked (fault.Blocked a b cue index) = blocked ≡ Some (fault.Blocked a b cue index)
+FailsBy blocked fault.Memory = Unit {0}
+FailsBy blocked _ = ⊥
+
+-- What is wanted, where no part is blocked; else the part that is.
+abbrev pub Finds : {A : Type 0} → Option PlanFault → A → Result A PlanFault → Type 0
+Finds blocked wanted (Ok found) = (blocked ≡ None) × (found ≡ wanted)
+Finds blocked wanted (Err f) = FailsBy blocked f
+
+-- The certificate with the largest leaves, where no part is blocked; else the first part that is.
 abbrev pub CertificateGives : Settings → ℕ → List Traj → Result Certificate PlanFault → Type 0
-CertificateGives e depth trajs (Ok cert) = (blocked_part e depth trajs ≡ None) × (cert ≡ best_certificate e depth trajs)
-CertificateGives e depth trajs (Err (fault.Blocked a b cue index)) = blocked_part e depth trajs ≡ Some (fault.Blocked a b cue index)
-CertificateGives e depth trajs (Err fault.Memory) = Unit {0}
-CertificateGives e depth trajs (Err _) = ⊥
+CertificateGives e depth trajs result = Finds (blocked_part e depth trajs) (best_certificate e depth trajs) result
+
+-- How many nodes that certificate has, where no part is blocked; else the first part that is.
+abbrev pub CountGives : Settings → ℕ → List Traj → Result ℕ PlanFault → Type 0
+CountGives e depth trajs result = Finds (blocked_part e depth trajs) (node_count (best_certificate e depth trajs)) result
 
 -- each part of the depth of the pair's cue has a separating direction
 abbrev pub IsSlotClear : Settings → ℕ → Raised → Slot → Type 0
-IsSlotClear e depth curves slot = IsClear e.r e.h (difference curves slot.a slot.b slot.cue) DIRECTIONS.n depth
+IsSlotClear e depth curves slot = IsClear e.r e.h (difference curves slot.a slot.b slot.cue) searched depth
 
 -- each part of the depth has a separating direction, for each pair in each cue
 abbrev pub IsShowClear : Settings → ℕ → List Traj → Type 0

@@ -9,6 +9,7 @@ ghost use Rattle.cue_grid.specs.Faults.{grid_fault};
 ghost use Rattle.cue_grid.specs.Grids.{IsGrid};
 ghost use Rattle.fleet_math.specs.Limits.{most_cues};
 ghost use Rattle.traj_codec.specs.Joined.{joined};
+ghost use Rattle.traj_codec.specs.Spelling.{AreNumbers, IsTrajectory};
 ghost use Rattle.mm_rounding.specs.Rounding.{short};
 ghost use Rattle.figure_expand.specs.Expanded.{expanded, range_fault};
 ghost use Rattle.figure_expand.specs.Flown.{StartsWell, RoundsWell};
@@ -25,7 +26,7 @@ use figure_expand::{ExpandFault, expand, expansion_law};
 use mem_chunks::MEMORY_BYTES;
 use mm_rounding::{MicroPiece, round_piece, to_mm};
 use std::alloc::{AllocError, Global};
-use traj_codec::{MOST_SEGMENTS, Traj, encode, join_holds, size_of};
+use traj_codec::{MOST_SEGMENTS, Traj, encode, join_holds, segment_law, size_of, start_law};
 
 // A yaw in two bytes.
 fn yaw_of(v: i64) -> i16
@@ -38,24 +39,28 @@ fn yaw_of(v: i64) -> i16
 // Where a trajectory starts that begins at this point.
 fn start_at(p: &Point) -> [i16; 4]
     requires { StartsWell p.now }
-    ensures { result ≡ start_at p.now }
+    ensures exact { result ≡ start_at p.now }
+    ensures formed { AreNumbers 4 result }
 {
     let x = to_mm(p.x).unwrap();
     let y = to_mm(p.y).unwrap();
     let z = to_mm(p.z).unwrap();
-    let yaw = yaw_of(p.yaw);
-    [x, y, z, yaw]
+    let start = [x, y, z, yaw_of(p.yaw)];
+    start_law(start);
+    start
 }
 
 // The trajectory of a drone that starts at this point.
 fn trajectory_of(alloc: Global, start: &Point, pieces: &[MicroPiece]) -> Result<Traj, AllocError>
     requires start { StartsWell start.now }
     requires pieces { All RoundsWell pieces.now }
-    ensures { IfOk result (λ t. t ≡ trajectory_of start.now pieces.now) }
+    ensures exact { IfOk result (λ t. t ≡ trajectory_of start.now pieces.now) }
+    ensures formed { IfOk result IsTrajectory }
 {
     let mut segments = Vec::new(alloc);
     for piece in pieces {
         let segment = round_piece(piece).unwrap();
+        segment_law(segment);
         segments.push(segment)?;
     }
     Ok(Traj {
@@ -73,7 +78,8 @@ fn trajectories_of(
     requires count { length rows.now ≡ length starts.now }
     requires starts { All (λ (s : DroneLine). StartsWell s.at) starts.now }
     requires pieces { All (All RoundsWell) (map (λ row. row.items) rows.now) }
-    ensures { IfOk result (λ ts. ts.items ≡ trajectories_of starts.now (map (λ row. row.items) rows.now)) }
+    ensures exact { IfOk result (λ ts. ts.items ≡ trajectories_of starts.now (map (λ row. row.items) rows.now)) }
+    ensures formed { IfOk result (λ ts. All IsTrajectory ts.items) }
 {
     let mut trajs = Vec::new(alloc);
     for d in 0..starts.len() {
@@ -180,7 +186,8 @@ fn fitted(
     requires whole { IsGrid grid.now }
     requires held { range_fault grid.now ≡ None }
     requires pieces { map (λ row. row.items) rows.now ≡ expanded grid.now }
-    ensures { FitGives result (plain show.now) }
+    ensures gives { FitGives result (plain show.now) }
+    ensures formed { IfOk result (λ f. All IsTrajectory f.trajs) }
 {
     expansion_law();
     let starts = grid.starts.as_slice();

@@ -23,7 +23,7 @@ mod text;
 
 pub use fitted::{Fitted, PlanFault};
 pub use fitting::fit;
-pub use separation::{certificate, separation_law};
+pub use separation::{certificate, count_nodes, separation_law};
 pub use text::{ok_line, plan_text, valid_line};
 
 #[cfg(test)]

@@ -39,7 +39,12 @@ fn answer_of(alloc: Global, show: &[u8], depth: u8, wanted: &[u8]) -> Answer {
 fn one_drone_steps_aside_and_passes_under_the_other(rt: HostRuntime) -> Result<(), Fail> {
     let show =
         b"choreo 1\nellipsoid 120 300\ndrone a 0 0 1000000 0\ndrone b 1000000 0 1000000 0\ncue 3000\nb move 1000000 0 2000000 0\nend\ncue 3000\na move 1000000 0 1000000 0\nb move 0 0 2000000 0\nend\ncue 3000\nb move 0 0 1000000 0\nend\n";
-    let answer = answer_of(rt.alloc(), show.as_slice(), 6, b"certificate 6\nr\nl\na\n");
+    let answer = answer_of(
+        rt.alloc(),
+        show.as_slice(),
+        6,
+        b"version 2\ncertificate 6\n58\n46\n00\n",
+    );
     assert_eq!(rt; answer, Answer::Certified(true));
     Ok(())
 }
@@ -47,8 +52,55 @@ fn one_drone_steps_aside_and_passes_under_the_other(rt: HostRuntime) -> Result<(
 #[test]
 fn one_drone_has_no_trees(rt: HostRuntime) -> Result<(), Fail> {
     let show = b"choreo 1\ndrone a 0 0 1000000 0\ncue 1000\nend\n";
-    let answer = answer_of(rt.alloc(), show.as_slice(), 8, b"certificate 8\n");
+    let answer = answer_of(
+        rt.alloc(),
+        show.as_slice(),
+        8,
+        b"version 2\ncertificate 8\n",
+    );
     assert_eq!(rt; answer, Answer::Certified(true));
+    Ok(())
+}
+
+// Only a direction with an entry 2 separates them: (2, 1, 0).
+#[test]
+fn drones_that_a_steep_direction_separates(rt: HostRuntime) -> Result<(), Fail> {
+    let show =
+        b"choreo 1\nellipsoid 120 300\ndrone a 0 0 1000000 0\ndrone b 223000 112000 1000000 0\ncue 1000\nend\n";
+    let answer = answer_of(
+        rt.alloc(),
+        show.as_slice(),
+        6,
+        b"version 2\ncertificate 6\n93\n",
+    );
+    assert_eq!(rt; answer, Answer::Certified(true));
+    Ok(())
+}
+
+// How many nodes are counted, where no part is blocked.
+fn nodes_of(alloc: Global, show: &[u8], depth: u8) -> Option<u32> {
+    if show.len() > MOST_BYTES || depth > 8 {
+        return None;
+    }
+    let Ok(show) = read_show(alloc, show) else {
+        return None;
+    };
+    let Ok(fitted) = fit(alloc, &show) else {
+        return None;
+    };
+    count_nodes(alloc, &fitted, depth).ok()
+}
+
+#[test]
+fn nodes_are_counted(rt: HostRuntime) -> Result<(), Fail> {
+    let aside =
+        b"choreo 1\nellipsoid 120 300\ndrone a 0 0 1000000 0\ndrone b 1000000 0 1000000 0\ncue 3000\nb move 1000000 0 2000000 0\nend\ncue 3000\na move 1000000 0 1000000 0\nb move 0 0 2000000 0\nend\ncue 3000\nb move 0 0 1000000 0\nend\n";
+    assert_eq!(rt; nodes_of(rt.alloc(), aside.as_slice(), 6), Some(3));
+    let alone = b"choreo 1\ndrone a 0 0 1000000 0\ncue 1000\nend\n";
+    assert_eq!(rt; nodes_of(rt.alloc(), alone.as_slice(), 6), Some(0));
+    let across =
+        b"choreo 1\nellipsoid 120 300\ndrone a 0 0 1000000 0\ndrone b 1000000 0 1000000 0\ncue 3000\na move 1000000 0 1000000 0\nb move 0 0 1000000 0\nend\n";
+    assert_eq!(rt; nodes_of(rt.alloc(), across.as_slice(), 6), None);
     Ok(())
 }
 
@@ -69,9 +121,9 @@ fn drones_that_meet_are_blocked(rt: HostRuntime) -> Result<(), Fail> {
         answer_of(rt.alloc(), across.as_slice(), 0, b""),
         blocked(0, 1, 0, 0)
     );
-    // apart, but along none of the 26 directions
+    // apart, but along none of the 98 directions
     let near =
-        b"choreo 1\nellipsoid 120 300\ndrone a 0 0 1000000 0\ndrone b 223000 112000 1000000 0\ncue 1000\nend\n";
+        b"choreo 1\nellipsoid 120 300\ndrone a 0 0 1000000 0\ndrone b 236000 56000 1000000 0\ncue 1000\nend\n";
     assert_eq!(rt;
         answer_of(rt.alloc(), near.as_slice(), 6, b""),
         blocked(0, 1, 0, 0)

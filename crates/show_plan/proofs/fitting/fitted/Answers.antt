@@ -29,46 +29,49 @@ trajectories_of-requires-clause-pieces c =
 
 pub joined_all-requires-clause-some : goal.joined_all-requires-clause-some
 joined_all-requires-clause-some c =
-    let all = all_are c.args.grid.now c.as_slice-starts.result.now _ c.as_slice.result.now c.as_slice-starts.ensures c.requires.pieces (c.as_slice.ensures.value ∙ c.in_ok-trajs.ensures) in
+    let all = all_are c.args.grid.now c.as_slice-starts.result.now _ c.as_slice.result.now c.as_slice-starts.ensures c.requires.pieces (c.as_slice.ensures.value ∙ c.in_ok-trajs.ensures.exact) in
     subst (All (λ (t : Traj). 1 ≤ length t.segments)) (sym all) (has_segments c.args.grid.now c.requires.whole)
 
 pub joined_all-requires-clause-flown : goal.joined_all-requires-clause-flown
 joined_all-requires-clause-flown c =
-    let all = all_are c.args.grid.now c.as_slice-starts.result.now _ c.as_slice.result.now c.as_slice-starts.ensures c.requires.pieces (c.as_slice.ensures.value ∙ c.in_ok-trajs.ensures) in
+    let all = all_are c.args.grid.now c.as_slice-starts.result.now _ c.as_slice.result.now c.as_slice-starts.ensures c.requires.pieces (c.as_slice.ensures.value ∙ c.in_ok-trajs.ensures.exact) in
     subst (All IsFlown) (sym all) (flown c.args.grid.now c.requires.whole)
 
 pub first_unsendable-requires-clause-few : goal.first_unsendable-requires-clause-few
 first_unsendable-requires-clause-few c =
-    let trajs = all_are c.args.grid.now c.as_slice-starts.result.now _ c.as_slice.result.now c.as_slice-starts.ensures c.requires.pieces (c.as_slice.ensures.value ∙ c.in_ok-trajs.ensures) in
+    let trajs = all_are c.args.grid.now c.as_slice-starts.result.now _ c.as_slice.result.now c.as_slice-starts.ensures c.requires.pieces (c.as_slice.ensures.value ∙ c.in_ok-trajs.ensures.exact) in
     let all : c.as_slice-2.result.now ≡ sent c.args.grid.now = sent_are c.args.grid.now c.as_slice.result.now c.as_slice-2.result.now trajs (c.as_slice-2.ensures.value ∙ c.in_ok-sent.ensures) in
     omega (arith, ap (λ (ts : List Traj). length ts) all, sent_counted c.args.grid.now, c.requires.whole.few_starts)
 
 pub first_unsendable-requires-clause-flown : goal.first_unsendable-requires-clause-flown
 first_unsendable-requires-clause-flown c =
-    let trajs = all_are c.args.grid.now c.as_slice-starts.result.now _ c.as_slice.result.now c.as_slice-starts.ensures c.requires.pieces (c.as_slice.ensures.value ∙ c.in_ok-trajs.ensures) in
+    let trajs = all_are c.args.grid.now c.as_slice-starts.result.now _ c.as_slice.result.now c.as_slice-starts.ensures c.requires.pieces (c.as_slice.ensures.value ∙ c.in_ok-trajs.ensures.exact) in
     let all : c.as_slice-2.result.now ≡ sent c.args.grid.now = sent_are c.args.grid.now c.as_slice.result.now c.as_slice-2.result.now trajs (c.as_slice-2.ensures.value ∙ c.in_ok-sent.ensures) in
     subst (All IsFlown) (sym all) (sent_flown c.args.grid.now c.requires.whole)
 
 pub returns-in-Some : goal.returns-in-Some
 returns-in-Some c =
-    let trajs = all_are c.args.grid.now c.as_slice-starts.result.now _ c.as_slice.result.now c.as_slice-starts.ensures c.requires.pieces (c.as_slice.ensures.value ∙ c.in_ok-trajs.ensures) in
+    let trajs = all_are c.args.grid.now c.as_slice-starts.result.now _ c.as_slice.result.now c.as_slice-starts.ensures c.requires.pieces (c.as_slice.ensures.value ∙ c.in_ok-trajs.ensures.exact) in
     let all : c.as_slice-2.result.now ≡ sent c.args.grid.now = sent_are c.args.grid.now c.as_slice.result.now c.as_slice-2.result.now trajs (c.as_slice-2.ensures.value ∙ c.in_ok-sent.ensures) in
-    unsendable_given (plain c.args.show.now) c.args.grid.now _ c.as_slice-2.result.now c.in-Some.fault c.requires.unrolled c.requires.is c.requires.held (ap (λ (n : ℕ). MEMORY_BYTES - n) c.from.ensures) all c.in-Some.ensures
+    record {
+      gives = unsendable_given (plain c.args.show.now) c.args.grid.now _ c.as_slice-2.result.now c.in-Some.fault c.requires.unrolled c.requires.is c.requires.held (ap (λ (n : ℕ). MEMORY_BYTES - n) c.from.ensures) all c.in-Some.ensures;
+      formed = tt;
+    }
 
 pub encodings-requires : goal.encodings-requires
 encodings-requires c =
-    let trajs = all_are c.args.grid.now c.as_slice-starts.result.now _ c.as_slice.result.now c.as_slice-starts.ensures c.requires.pieces (c.as_slice.ensures.value ∙ c.in_ok-trajs.ensures) in
+    let trajs = all_are c.args.grid.now c.as_slice-starts.result.now _ c.as_slice.result.now c.as_slice-starts.ensures c.requires.pieces (c.as_slice.ensures.value ∙ c.in_ok-trajs.ensures.exact) in
     let all : c.as_slice-2.result.now ≡ sent c.args.grid.now = sent_are c.args.grid.now c.as_slice.result.now c.as_slice-2.result.now trajs (c.as_slice-2.ensures.value ∙ c.in_ok-sent.ensures) in
     subst (All IsSendable) (c.as_slice-2.ensures.value ∙ sym c.as_slice-3.ensures.value)
     (sendable _ 0 c.as_slice-2.result.now (subst (All IsFlown) (sym all) (sent_flown c.args.grid.now c.requires.whole)) (sym c.first_unsendable.ensures ∙ c.in_default.is))
 
-pub returns : goal.returns
-returns c =
-    let trajs = all_are c.args.grid.now c.as_slice-starts.result.now _ c.as_slice.result.now c.as_slice-starts.ensures c.requires.pieces (c.as_slice.ensures.value ∙ c.in_ok-trajs.ensures) in
+pub returns-clause-gives : goal.returns-clause-gives
+returns-clause-gives c =
+    let trajs = all_are c.args.grid.now c.as_slice-starts.result.now _ c.as_slice.result.now c.as_slice-starts.ensures c.requires.pieces (c.as_slice.ensures.value ∙ c.in_ok-trajs.ensures.exact) in
     let all : c.as_slice-2.result.now ≡ sent c.args.grid.now = sent_are c.args.grid.now c.as_slice.result.now c.as_slice-2.result.now trajs (c.as_slice-2.ensures.value ∙ c.in_ok-sent.ensures) in
     let cues = c.as_slice-cues.ensures ∙ ap (λ (g : Grid). g.cues) c.requires.is in (
       fits_given (plain c.args.show.now) c.args.grid.now _ c.as_slice-2.result.now c.requires.unrolled c.requires.is c.requires.held (ap (λ (n : ℕ). MEMORY_BYTES - n) c.from.ensures) all
-      (sym c.first_unsendable.ensures ∙ c.in_default.is),
+          (sym c.first_unsendable.ensures ∙ c.in_default.is),
       record {
         settings = refl;
         names = c.from_vec.ensures ∙ c.in_ok-names.ensures ∙ ap (λ (ds : List DroneLine). map (λ (d : DroneLine). d.name) ds) (c.as_slice-starts.ensures ∙ ap (λ (g : Grid). g.starts) c.requires.is);

@@ -1,17 +1,12 @@
 use Rattle.std.proofs.Common.{◌≡◌, ◌∷◌, inl, lit<, refl, List, ◌∙◌, ap, arith, ℕ, map}
 use Rattle.std.proofs.lemmas.Result.{err_from_is_err_and}
 use Rattle.sep_parts.specs.declared.slot.Slot.{Slot}
-use Rattle.sep_parts.specs.declared.directions.TheConstants.{DIRECTIONS}
-use Rattle.sep_parts.proofs.Table.{small_table}
 use Rattle.sep_parts.specs.Slots.{following, slots}
 use Rattle.sep_parts.proofs.Orders.{IsAhead, IsFrom, first_ahead, next_ahead}
 use Rattle.sep_certificate.proofs.Walks.{some_ahead}
 use Rattle.show_plan.specs.Separation.{best_nodes}
 use Rattle.show_plan.proofs.Separated.{blocked_next, clear_next, tree_next}
 use Rattle.show_plan.proofs.separation.trees_of.Goals as goal
-
-pub thresholds-thresholds-requires : goal.thresholds-thresholds-requires
-thresholds-thresholds-requires c = (lit< tt, (lit< tt, (inl refl, (small_table DIRECTIONS.n refl, (c.requires.r, c.requires.h)))))
 
 pub loop-alloc-init : goal.loop-alloc-init
 loop-alloc-init c = (
@@ -21,15 +16,14 @@ loop-alloc-init c = (
   rw c.new-trees.ensures.items refl,
 )
 
-pub returns-in_err-nodes : goal.returns-in_err-nodes
-returns-in_err-nodes c =
+pub returns-in_err-tree_of : goal.returns-in_err-tree_of
+returns-in_err-tree_of c =
     let from : IsFrom c.args.curves.now.drones c.args.curves.now.cues c.loop-alloc.slot c.loop-alloc.invariant.0 =
     some_ahead c.args.curves.now.drones c.args.curves.now.cues c.loop-alloc.slot c.loop-alloc.invariant.0 (omega arith) c.loop-alloc.invariant.1 in
     let next : (next : List Slot) × (c.loop-alloc.invariant.0 ≡ c.loop-alloc.slot ∷ next) × IsAhead c.args.curves.now.drones c.args.curves.now.cues (following c.args.curves.now.drones c.args.curves.now.cues c.loop-alloc.slot) next =
     next_ahead c.args.curves.now.drones c.args.curves.now.cues c.loop-alloc.slot c.loop-alloc.invariant.0 from in
     let p = err_from_is_err_and c.from_residual.result c.from_residual.ensures.1 in
-    rw (p.1, p.2) (blocked_next c.args.settings c.args.depth c.args.curves.now c.loop-alloc.invariant.0 next.0 c.loop-alloc.slot _
-    (map (best_nodes c.args.settings c.args.depth c.args.curves.now) (slots c.args.curves.now.drones c.args.curves.now.cues)) c.in_err-nodes.field-0.0 next.1 c.in_err-nodes.ensures c.loop-alloc.invariant.2)
+    rw (p.1, p.2) (blocked_next c.args.search.now.settings c.args.search.now.depth c.args.curves.now c.loop-alloc.invariant.0 next.0 c.loop-alloc.slot _ c.in_err-tree_of.field-0.0 next.1 c.in_err-tree_of.ensures.0 c.loop-alloc.invariant.2)
 
 pub loop-alloc-preserved : goal.loop-alloc-preserved
 loop-alloc-preserved c =
@@ -42,7 +36,7 @@ loop-alloc-preserved c =
     ∙ ap (λ (n : ℕ). following c.args.curves.now.drones n c.loop-alloc.slot) c.cues-cues.ensures.exact in (
       next.0,
       rw slot_is next.2,
-      clear_next c.args.settings c.args.depth c.args.curves.now c.loop-alloc.invariant.0 next.0 c.loop-alloc.slot _ next.1 c.in_ok-nodes.ensures.0 c.loop-alloc.invariant.2,
-      tree_next c.args.settings c.args.depth c.args.curves.now c.loop-alloc.invariant.0 next.0 c.loop-alloc.slot c.loop-alloc.trees.items c.push.new.self.items _ c.in_ok-nodes.nodes
-          next.1 c.in-Ok.ensures.items c.in_ok-nodes.ensures.1 c.loop-alloc.invariant.3,
+      clear_next c.args.search.now.settings c.args.search.now.depth c.args.curves.now c.loop-alloc.invariant.0 next.0 c.loop-alloc.slot _ next.1 c.in_ok-tree_of.ensures.0 c.loop-alloc.invariant.2,
+      tree_next c.args.search.now.settings c.args.search.now.depth c.args.curves.now c.loop-alloc.invariant.0 next.0 c.loop-alloc.slot c.loop-alloc.trees.items c.push.new.self.items _ c.from_vec.result
+          next.1 c.in-Ok.ensures.items (c.from_vec.ensures ∙ c.in_ok-tree_of.ensures.1) c.loop-alloc.invariant.3,
     )

@@ -10,8 +10,8 @@ use Rattle.show_plan.proofs.separation.trees_of.Given as goal
 abbrev pub invariant-loop-alloc : goal.invariant-loop-alloc
 invariant-loop-alloc l =
     (rest : List Slot) × IsAhead l.curves.drones l.curves.cues l.slot rest
-    × (blocked_in l.settings l.depth l.curves rest ≡ blocked_in l.settings l.depth l.curves (slots l.curves.drones l.curves.cues))
-    × (l.trees.items ++ map (best_nodes l.settings l.depth l.curves) rest ≡ map (best_nodes l.settings l.depth l.curves) (slots l.curves.drones l.curves.cues))
+    × (blocked_in l.search.settings l.search.depth l.curves rest ≡ blocked_in l.search.settings l.search.depth l.curves (slots l.curves.drones l.curves.cues))
+    × (l.trees.items ++ map (best_nodes l.search.settings l.search.depth l.curves) rest ≡ map (best_nodes l.search.settings l.search.depth l.curves) (slots l.curves.drones l.curves.cues))
 
 abbrev pub decreases-loop-alloc : goal.decreases-loop-alloc
 decreases-loop-alloc l = left l.slot

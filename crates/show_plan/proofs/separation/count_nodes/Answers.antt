@@ -1,0 +1,30 @@
+use Rattle.std.proofs.Common.{ℕ, IsOk, List, subst, ◌∙◌, ap}
+use Rattle.choreo_reader.specs.declared.show.Settings.{Settings}
+use Rattle.traj_codec.specs.declared.traj.Traj.{Traj}
+use Rattle.sep_parts.specs.Raised.{CurvesStandFor, Raised, raised_of}
+use Rattle.show_plan.specs.Separation.{best_certificate}
+use Rattle.show_plan.specs.Steps.{FindsNodes}
+use Rattle.show_plan.proofs.Certified.{IsCertified, count_certified, count_gives, sent_flies_apart}
+use Rattle.show_plan.proofs.separation.count_nodes.Goals as goal
+
+-- where nodes are counted, their trees are a certificate
+counted : (c : goal.After-drop-curves-inside) → IsOk c.nodes_of.result → IsCertified c.args.f.now.settings c.args.depth c.args.f.now.trajs (best_certificate c.args.f.now.settings c.args.depth c.args.f.now.trajs)
+counted c ok =
+    let is = c.in_ok-curves.ensures.exact ∙ ap (λ (ts : List Traj). raised_of ts) c.as_slice.ensures in
+    let here = subst (λ (e : Settings). FindsNodes e c.search_of.result.depth c.in_ok-curves.curves c.nodes_of.result) c.search_of.ensures.settings c.nodes_of.ensures in
+    let gives =
+    count_gives c.args.f.now.settings c.args.depth c.args.f.now.trajs c.in_ok-curves.curves c.nodes_of.result is
+    (subst (λ (d : ℕ). FindsNodes c.args.f.now.settings d c.in_ok-curves.curves c.nodes_of.result) c.search_of.ensures.same_depth here) in
+    let stands =
+    subst (λ (curves : Raised). CurvesStandFor curves c.args.f.now.trajs) is
+    (subst (λ (ts : List Traj). CurvesStandFor c.in_ok-curves.curves ts) c.as_slice.ensures c.in_ok-curves.ensures.stands) in
+    count_certified c.args.f.now.settings c.args.depth c.args.f.now.trajs c.nodes_of.result c.search_law.ensures c.certificate_law.ensures c.requires.depth stands gives ok
+
+pub returns-clause-clear : goal.returns-clause-clear
+returns-clause-clear c ok = (counted c ok).clear
+
+pub returns-clause-apart_by_cue : goal.returns-clause-apart_by_cue
+returns-clause-apart_by_cue c ok = (counted c ok).apart
+
+pub returns-clause-apart : goal.returns-clause-apart
+returns-clause-apart c ok = sent_flies_apart c.args.f.now c.requires.valid c.apart_law.ensures.sent (counted c ok).apart
