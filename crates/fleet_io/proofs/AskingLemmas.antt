@@ -6,7 +6,7 @@ use Rattle.fleet_io.proofs.TakenLemmas.{Consumes-append}
 use Rattle.fleet_io.proofs.MarkLemmas.{Gathers}
 
 -- all but the last of these are the front of them
-without_last-push : (pieces : List (List ℕ)) (last : List ℕ) → without_last (pieces ++ last ∷ []) ≡ pieces
+pub without_last-push : (pieces : List (List ℕ)) (last : List ℕ) → without_last (pieces ++ last ∷ []) ≡ pieces
 without_last-push [] last = refl
 without_last-push (piece ∷ []) last = refl
 without_last-push (piece ∷ next ∷ rest) last = ap (λ (ps : List (List ℕ)). piece ∷ ps) (without_last-push (next ∷ rest) last)

@@ -1,6 +1,7 @@
--- What a source in memory gives.
-use Rattle.std.proofs.Common.{◌≡◌, ℕ, ◌+◌, ◌<◌, ◌≤◌, min, List, [], ◌++◌, length, take, drop, sym, arith}
-use Rattle.std.proofs.lemmas.List.{take_at, take-append-drop, drop-drop, drop_all, length-drop, length-take, length-append}
+-- What a source in memory gives, and what a sink in memory keeps.
+use Rattle.std.proofs.Common.{◌≡◌, ℕ, ◌+◌, ◌-◌, ◌<◌, ◌≤◌, min, List, [], ◌++◌, length, take, drop, sym, ap, ◌∙◌, arith}
+use Rattle.std.proofs.Math.Seq.{take-append-add}
+use Rattle.std.proofs.lemmas.List.{take_at, take_min, take-append-drop, drop-drop, drop_all, length-drop, length-take, length-append}
 
 -- the bytes that are copied are the front of what is left, and none only at the end
 pub gives : (bytes from buf to : List ℕ) (at cut n : ℕ) → from ≡ drop at bytes → 1 ≤ cut → n ≡ min (min (length from) cut) (length buf) → to ≡ take n from ++ drop n buf
@@ -12,3 +13,11 @@ gives bytes from buf to at cut n front some count made =
       rw (given, left, ← front) (sym (take-append-drop n from)),
       λ none room. rw left (drop_all n from (omega arith)),
     )
+
+-- a sink keeps of all that was written as much as it has room for
+pub keeps : (kept bytes : List ℕ) (room n : ℕ) → length kept ≤ room → n ≡ min (length bytes) (room - length kept) → kept ++ take n bytes ≡ take room (kept ++ bytes)
+keeps kept bytes room n within is =
+    let count : n ≡ min (room - length kept) (length bytes) = omega (arith, is) in
+    let all : length kept + (room - length kept) ≡ room = omega (arith, within) in
+    ap (λ (xs : List ℕ). kept ++ xs) (ap (λ (k : ℕ). take k bytes) count ∙ take_min (room - length kept) bytes)
+    ∙ sym (take-append-add kept bytes (room - length kept)) ∙ ap (λ (k : ℕ). take k (kept ++ bytes)) all

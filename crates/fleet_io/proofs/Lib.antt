@@ -8,3 +8,8 @@ pub mod WaitingLemmas
 pub mod CopiedLemmas
 pub mod WordLaws
 pub mod AskingLemmas
+pub mod AloneLemmas
+pub mod MarkerLaws
+pub mod ReadingLemmas
+pub mod PartLemmas
+pub mod ByteLemmas

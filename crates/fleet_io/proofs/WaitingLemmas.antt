@@ -1,7 +1,12 @@
--- A buffer with nothing in it.
-use Rattle.std.proofs.Common.{◌≡◌, ℕ, List, [], take, drop, Option, Some, None, refl, arith}
-use Rattle.std.specs.Io.KnownBytes.{Keeps, prepend_known}
-use Rattle.std.proofs.lemmas.List.{drop_all, length-take}
+-- The bytes that wait in a buffer.
+use Rattle.std.proofs.Common.{◌≡◌, ℕ, ◌+◌, ◌-◌, ◌≤◌, min, List, [], ◌++◌, length, take, drop, append_assoc, length-append, Option, Some, None, refl, sym, ap, ◌∙◌, inl, inr, arith}
+use Rattle.std.specs.List.{copy_within}
+use Rattle.std.specs.Io.KnownBytes.{Consumes, Keeps, prepend_known}
+use Rattle.std.proofs.lemmas.Bool.{cases_lt}
+use Rattle.std.proofs.Math.Seq.{take-append-add}
+use Rattle.std.proofs.lemmas.List.{drop_all, drop-drop, drop-take, length-drop, length-take, length-take-le, take_at, take-take}
+use Rattle.std.proofs.lemmas.Slice.{take-put_mid, take-put_mid_below}
+use borrow.Rule.Slice.PartMut.{put_mid}
 
 -- no byte stands between a place and itself
 pub nothing_between : (a b : ℕ) (buf : List ℕ) → a ≡ b → drop a (take b buf) ≡ []
@@ -12,3 +17,50 @@ pub Keeps-prepend : (xs ys : List ℕ) (old new : Option (List ℕ)) → xs ≡ 
 Keeps-prepend xs ys None new e k = tt
 Keeps-prepend xs ys (Some old) None e k = absurd k
 Keeps-prepend xs ys (Some old) (Some new) e k = rw (e, k) refl
+
+-- the bytes between two places, cut from either side
+pub between_is : (start end : ℕ) (buf : List ℕ) → start ≤ end → take (end - start) (drop start buf) ≡ drop start (take end buf)
+between_is start end buf order =
+    let whole : start + (end - start) ≡ end = omega (arith, order) in
+    sym (drop-take start (end - start) buf) ∙ ap (λ (n : ℕ). drop start (take n buf)) whole
+
+-- some bytes fewer
+pub skipped : (start end count : ℕ) (buf : List ℕ) → start ≤ end → drop (min end (start + count)) (take end buf) ≡ drop count (drop start (take end buf))
+skipped start end count buf order = elim (cases_lt end (start + count)) [
+  | inr few ↦ let at : min end (start + count) ≡ start + count = omega (arith, few) in rw at (sym (drop-drop count start (take end buf)))
+  | inl more ↦
+      drop_all (min end (start + count)) (take end buf) (omega (arith, length-take end buf, more))
+      ∙ sym (drop_all count (drop start (take end buf)) (omega (arith, length-drop start (take end buf), length-take end buf, more)))
+]
+
+-- What waits after a read behind what was moved to the front.
+pub moved : (buf shifted given : List ℕ) (start end n k : ℕ) → start ≤ end → end ≤ length buf → shifted ≡ copy_within buf start end 0 → length given ≡ k → n ≤ k →
+    take (end - start + n) (put_mid (end - start) k shifted given) ≡ drop start (take end buf) ++ take n given
+moved buf shifted given start end n k order within is long few =
+    let size : ℕ = end - start in
+    let front : List ℕ = take size (drop start buf) in
+    let sized : length front ≡ size = length-take-le size (drop start buf) (omega (arith, length-drop start buf, within)) in
+    let kept : take size shifted ≡ front = ap (λ (xs : List ℕ). take size xs) is ∙ take_at front (drop (0 + size) buf) size sized in
+    let total : length shifted ≡ length buf = ap length is ∙ omega (arith, length-append front (drop (0 + size) buf), sized, length-drop (0 + size) buf, within) in
+    let whole : take (size + length given) (put_mid size k shifted given) ≡ take size shifted ++ given = take-put_mid size k shifted given (size + length given) refl (omega (arith, total, within)) in
+    sym (take-take (size + n) (size + length given) (put_mid size k shifted given) (omega (arith, long, few)))
+    ∙ ap (λ (xs : List ℕ). take (size + n) xs) (whole ∙ ap (λ (xs : List ℕ). xs ++ given) kept)
+    ∙ ap (λ (m : ℕ). take (m + n) (front ++ given)) (sym sized) ∙ take-append-add front given n
+    ∙ ap (λ (xs : List ℕ). xs ++ take n given) (between_is start end buf order)
+
+-- what was read is still to come
+pub Keeps-read : (waiting given : List ℕ) (old new : Option (List ℕ)) → Consumes old new given → Keeps (prepend_known waiting old) (prepend_known (waiting ++ given) new)
+Keeps-read waiting given None new is = tt
+Keeps-read waiting given (Some old) None is = absurd is
+Keeps-read waiting given (Some old) (Some new) is = append_assoc waiting given new ∙ ap (λ (xs : List ℕ). waiting ++ xs) (sym is)
+
+-- what waits where a read behind what was moved to the front failed
+pub unmoved : (buf shifted given : List ℕ) (start end k : ℕ) → start ≤ end → end ≤ length buf → shifted ≡ copy_within buf start end 0 →
+    drop start (take end buf) ≡ take (end - start) (put_mid (end - start) k shifted given)
+unmoved buf shifted given start end k order within is =
+    let size : ℕ = end - start in
+    let front : List ℕ = take size (drop start buf) in
+    let sized : length front ≡ size = length-take-le size (drop start buf) (omega (arith, length-drop start buf, within)) in
+    let kept : take size shifted ≡ front = ap (λ (xs : List ℕ). take size xs) is ∙ take_at front (drop (0 + size) buf) size sized in
+    let total : length shifted ≡ length buf = ap length is ∙ omega (arith, length-append front (drop (0 + size) buf), sized, length-drop (0 + size) buf, within) in
+    sym (take-put_mid_below size k shifted given size (omega arith) (omega (arith, total, within)) ∙ kept ∙ between_is start end buf order)

@@ -19,6 +19,10 @@ pub record Held : Type 0 where
   pub sound : Bool
   -- a call met the source's end
   pub ended : Bool
+  -- `byte` was never called
+  pub lines : Bool
+  -- the next byte of the part begins a line
+  pub at_line : Bool
 
 -- the bytes still to come, where the source tells what it has left
 abbrev pub stream : Held → Option (List ℕ) → Option (List ℕ)

@@ -58,3 +58,14 @@ write_failed s = record { written = s.written; room = s.room; cut = s.cut; fails
 -- behind a call that took the first n of these bytes
 abbrev pub write_took : MemoryOut → List ℕ → ℕ → MemoryOut
 write_took s bytes n = record { written = s.written ++ take n bytes; room = s.room; cut = s.cut; fails = s.fails; calls = counted s.calls; faults = s.faults }
+
+-- what a sink that never fails holds
+pub record SureOut : Type 0 where
+  -- the first bytes that were written
+  pub kept : List ℕ
+  -- the most bytes that it keeps
+  pub room : ℕ
+
+-- behind a call with these bytes
+abbrev pub sure_took : SureOut → List ℕ → SureOut
+sure_took s bytes = record { kept = take s.room (s.kept ++ bytes); room = s.room }

@@ -1,10 +1,27 @@
 -- What a part is of the bytes to come.
-use Rattle.std.specs.Prelude.{◌≡◌, ℕ, List, Bool, Option, Some, IfSome}
+use Rattle.std.specs.Prelude.{◌≡◌, ℕ, ◌+◌, ◌≤◌, List, ◌++◌, length, Bool, true, Option, Some, IfSome}
+use Rattle.std.specs.Io.KnownBytes.{Consumes}
 use Rattle.text_lines.specs.Lines.{between_feeds}
 use Rattle.text_lines.specs.Marker.{has_marker, part_of, rest_of}
+use Rattle.fleet_io.specs.Held.{has_whole_marker}
 
 -- Of the bytes to come, where they are known, this part was taken, with the marker line behind it if there is one.
 pub record TakesPart (old new : Option (List ℕ)) (bytes : List ℕ) (is_marked : Bool) : Type 0 where
   pub part : IfSome old (λ all. bytes ≡ part_of all)
   pub marker : IfSome old (λ all. is_marked ≡ has_marker (between_feeds all))
   pub rest : IfSome old (λ all. new ≡ Some (rest_of all))
+
+-- Of the bytes to come some were taken in which a marker line stands with its line feed.
+abbrev pub TakesMarked : Option (List ℕ) → Option (List ℕ) → Type 0
+TakesMarked old new = (taken : List ℕ) × Consumes old new taken × (has_whole_marker taken ≡ true)
+
+-- Of what stands behind the part and its marker line a source has given at most 4,096 bytes, where both are known.
+abbrev pub TakesFewBehind : Option (List ℕ) → Option (List ℕ) → Type 0
+TakesFewBehind old left = IfSome old (λ all. IfSome left (λ rest. length (rest_of all) ≤ length rest + 4096))
+
+-- A text in which a marker line stands with its line feed has the same part, whatever comes behind it, and what comes behind it
+-- comes behind its rest.
+abbrev pub MarkerLaw : Type 0
+MarkerLaw =
+    (text more : List ℕ) → has_whole_marker text ≡ true →
+    (part_of (text ++ more) ≡ part_of text) × (rest_of (text ++ more) ≡ rest_of text ++ more) × (has_marker (between_feeds (text ++ more)) ≡ true)

@@ -2,8 +2,10 @@
 //!
 //! A `Source` gives bytes and a `Sink` takes them; each counts its faults, and a call fails only where that count
 //! rose, so that a failed read is never taken for the end of the input. `Parts` cuts an input into the parts that
-//! marker lines divide. `write_whole` writes all or says that it failed. `Lines` and `ShortLine` build texts of
-//! words. Over memory every call is exact (`MemSource`, `MemSink`); `StdSource` and `StdSink` are the trusted edge.
+//! marker lines divide, whole by `text` or byte by byte by `part_byte`; `byte` takes the bytes behind them.
+//! `write_whole` writes all or says that it failed. `Lines` and `ShortLine` build texts of words. Over memory every
+//! call is exact (`MemSource`, `MemSink`; `SureSource` and `SureSink` never fail); `StdSource` and `StdSink` are the
+//! trusted edge.
 //!
 //! It stands on `text_lines` for what a line and a marker line are, on `arrayvec` for the short line's bytes, and
 //! on `itoa` for digits.
@@ -15,13 +17,15 @@ mod parts;
 mod short_line;
 mod standard;
 mod stream;
+mod sure;
 
 pub use lines::Lines;
 pub use memory::{MemSink, MemSource};
-pub use parts::{IoFault, Part, Parts};
+pub use parts::{Ask, IoFault, Part, Parts, marker_law, part_law};
 pub use short_line::ShortLine;
 pub use standard::{StdSink, StdSource};
 pub use stream::{Failed, Sink, Source, write_whole};
+pub use sure::{SureSink, SureSource};
 
 #[cfg(test)]
 mod tests;

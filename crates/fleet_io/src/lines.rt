@@ -1,5 +1,5 @@
 //! A text that grows in memory, word by word.
-ghost use Rattle.std.specs.Prelude.{◌≡◌, ◌<◌, [], ◌∷◌, ◌++◌, OnOk, OnErr};
+ghost use Rattle.std.specs.Prelude.{◌≡◌, ◌<◌, [], ◌∷◌, ◌++◌, IfOk, OnOk, OnErr};
 ghost use Rattle.std.specs.Fmt.{signed_decimal};
 ghost use Rattle.fleet_io.specs.Words.{is_line_empty, with_word, with_hex, hex_digit};
 
@@ -29,6 +29,15 @@ impl Lines {
         Lines {
             text: Vec::new(alloc),
         }
+    }
+
+    /// An empty text that takes its memory for so many bytes at once.
+    pub fn with_room(alloc: Global, bytes: usize) -> Result<Lines, AllocError>
+        ensures { IfOk result (λ lines. lines ≡ []) }
+    {
+        Ok(Lines {
+            text: Vec::with_capacity(alloc, bytes)?,
+        })
     }
 
     /// Adds a word, behind a space unless the line is empty. An `Err` changes nothing.

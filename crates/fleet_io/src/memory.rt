@@ -10,7 +10,7 @@ use std::alloc::{AllocError, Global};
 use std::marker::Model;
 
 // Copies as much of the front of `from` as `to` and `most` let it.
-fn copy_front(to: &mut [u8], from: &[u8], most: usize) -> usize
+pub(crate) fn copy_front(to: &mut [u8], from: &[u8], most: usize) -> usize
     ensures count { result ≡ min (min (length from.now) most) (length to.old) }
     ensures bytes { to.new ≡ take result from.now ++ drop result to.old }
 {

@@ -1,12 +1,13 @@
 //! The parts of an input, which marker lines divide.
-ghost use Rattle.std.specs.Prelude.{◌≡◌, ℕ, ◌<◌, ◌≤◌, ◌+◌, ◌∷◌, [], List, length, true, false, IsTrue, IfOk, IfSome, IfNone, OnOk, OnErr, IfErr, ◌++◌, ◌⊎◌, ◌==◌, ◌&&◌, if◌then◌else◌, take, drop, is_ok, Some};
+ghost use Rattle.std.specs.Prelude.{◌≡◌, ℕ, ◌<◌, ◌≤◌, ◌+◌, ◌∷◌, [], List, length, Bool, true, false, IsTrue, IfOk, IfSome, IfNone, OnOk, OnErr, IfErr, ◌++◌, ◌⊎◌, ◌==◌, ◌&&◌, if◌then◌else◌, take, drop, is_ok, Some};
 ghost use Rattle.fleet_io.specs.declared.parts.IoFault.TheVariants.{Memory};
 ghost use Rattle.std.specs.Io.KnownBytes.{Consumes, Keeps, IsAtEnd};
 ghost use Rattle.fleet_io.specs.Causes.{HasCause, Rose};
-ghost use Rattle.fleet_io.specs.Taken.{TakesFront};
+ghost use Rattle.fleet_io.specs.Taken.{TakesAtMost, TakesFront};
 ghost use Rattle.text_lines.specs.Marker.{is_marker, part_of};
 ghost use Rattle.fleet_io.specs.Held.{stream, given, Asked, has_whole_marker, buffer_bytes, text_limit};
-ghost use Rattle.fleet_io.specs.Parts.{TakesPart};
+ghost use Rattle.fleet_io.specs.PartBytes.{AsksNext, begins_line, first_piece, is_marked_here, may_be_marker, next_of, PartLaw};
+ghost use Rattle.fleet_io.specs.Parts.{MarkerLaw, TakesFewBehind, TakesMarked, TakesPart};
 
 use crate::stream::{Failed, Source};
 use std::alloc::{AllocError, AllocFailed, Global};
@@ -31,8 +32,19 @@ pub enum IoFault {
     Read,
     /// The part has more bytes than the caller wants.
     TooLong,
-    /// Memory is wanting.
+    /// Out of memory.
     Memory,
+}
+
+/// What comes next of a part.
+#[derive(Clone, Copy, Debug, PartialEq, Eq)]
+pub enum Ask {
+    /// A byte of the part.
+    Byte { b: u8 },
+    /// The marker line that ends the part. It is taken.
+    Marker,
+    /// The end of the input, which ends the part.
+    End,
 }
 
 /// Cuts what a source gives into parts. It asks the source for up to 4,096 bytes at a time.
@@ -43,6 +55,8 @@ pub struct Parts {
     end: usize,
     sound: bool,
     ended: bool,
+    lines: bool,
+    at_line: bool,
 }
 
 impl Model for Parts {
@@ -51,7 +65,7 @@ impl Model for Parts {
 
     ghost Value = { Held };
 
-    ghost view = { λ p. record { waiting = drop p.start (take p.end p.buf); sound = p.sound; ended = p.ended } };
+    ghost view = { λ p. record { waiting = drop p.start (take p.end p.buf); sound = p.sound; ended = p.ended; lines = p.lines; at_line = p.at_line } };
 
     ghost invariant = { λ p. (p.start ≤ p.end) × (p.end ≤ buffer_bytes) };
 }
@@ -59,7 +73,7 @@ impl Model for Parts {
 impl Parts {
     /// A reader that holds nothing yet.
     pub fn make() -> Parts
-        ensures { result ≡ record { waiting = []; sound = true; ended = false } }
+        ensures { result ≡ record { waiting = []; sound = true; ended = false; lines = true; at_line = true } }
     {
         Parts {
             buf: [0; BUFFER_BYTES],
@@ -67,6 +81,8 @@ impl Parts {
             end: 0,
             sound: true,
             ended: false,
+            lines: true,
+            at_line: true,
         }
     }
 
@@ -85,15 +101,25 @@ impl Parts {
         self.ended
     }
 
+    /// `byte` was never called.
+    pub fn lines(&self) -> bool
+        ensures { result ≡ self.now.lines }
+    {
+        self.lines
+    }
+
     // The next of the bytes to come. It asks the source only where none is waiting.
     fn next<S: Source>(&mut self, source: &mut S) -> Result<Option<u8>, Failed>
         requires { IsTrue self.old.ended → IsAtEnd (S.left source.old) }
         ensures some { IfOk result (λ next. IfSome next (λ byte. Consumes (stream self.old (S.left source.old)) (stream self.new (S.left source.new)) (byte ∷ []))) }
         ensures none { IfOk result (λ next. IfNone next (IsAtEnd (stream self.old (S.left source.old)) × Keeps (stream self.old (S.left source.old)) (stream self.new (S.left source.new)) × IsTrue self.new.ended)) }
         ensures err { OnErr result (Keeps (stream self.old (S.left source.old)) (stream self.new (S.left source.new))) }
+        ensures alone { OnErr result ((self.old.waiting ≡ []) × (self.new.waiting ≡ []) × (self.old.ended ≡ false)) }
         ensures left { TakesFront (S.left source.old) (S.left source.new) }
         ensures cause { HasCause (S.faults source.old) (S.faults source.new) result }
         ensures sound { self.new.sound ≡ self.old.sound }
+        ensures lines { self.new.lines ≡ self.old.lines }
+        ensures at_line { self.new.at_line ≡ self.old.at_line }
         ensures at_end { IsTrue self.new.ended → IsAtEnd (S.left source.new) }
         ensures stays_ended { IsTrue self.old.ended → IsTrue self.new.ended × (S.left source.new ≡ S.left source.old) × (S.faults source.new ≡ S.faults source.old) }
         ensures unasked { 0 < length self.old.waiting → (S.left source.new ≡ S.left source.old) × (S.faults source.new ≡ S.faults source.old) × (self.old.waiting ≡ given result ++ self.new.waiting) }
@@ -117,6 +143,80 @@ impl Parts {
         Ok(Some(byte))
     }
 
+    // The bytes that wait.
+    fn waiting(&self) -> &[u8]
+        ensures value { result.now ≡ self.now.waiting }
+        ensures most { length self.now.waiting ≤ buffer_bytes }
+    {
+        &self.buf[self.start..self.end]
+    }
+
+    // Drops the first of the bytes that wait, or all where they are fewer.
+    fn skip(&mut self, count: usize)
+        requires { count ≤ buffer_bytes + 1 }
+        ensures waiting { self.new.waiting ≡ drop count self.old.waiting }
+        ensures sound { self.new.sound ≡ self.old.sound }
+        ensures lines { self.new.lines ≡ self.old.lines }
+        ensures at_line { self.new.at_line ≡ self.old.at_line }
+        ensures ended { self.new.ended ≡ self.old.ended }
+    {
+        self.start = self.end.min(self.start + count);
+    }
+
+    // Reads behind the few bytes that wait.
+    fn more<S: Source>(&mut self, source: &mut S) -> Result<(), Failed>
+        requires few { length self.old.waiting < 4 }
+        requires at_end { IsTrue self.old.ended → IsAtEnd (S.left source.old) }
+        ensures keeps { Keeps (stream self.old (S.left source.old)) (stream self.new (S.left source.new)) }
+        ensures grew { OnOk result (length self.old.waiting < length self.new.waiting ⊎ IsTrue self.new.ended) }
+        ensures left { TakesFront (S.left source.old) (S.left source.new) }
+        ensures cause { HasCause (S.faults source.old) (S.faults source.new) result }
+        ensures sound { self.new.sound ≡ self.old.sound }
+        ensures lines { self.new.lines ≡ self.old.lines }
+        ensures at_line { self.new.at_line ≡ self.old.at_line }
+        ensures at_end { IsTrue self.new.ended → IsAtEnd (S.left source.new) }
+        ensures stays_ended { IsTrue self.old.ended → IsTrue self.new.ended × (S.left source.new ≡ S.left source.old) × (S.faults source.new ≡ S.faults source.old) }
+        ensures most { length self.new.waiting ≤ buffer_bytes }
+    {
+        if self.ended {
+            return Ok(());
+        }
+        self.buf.copy_within(self.start..self.end, 0);
+        self.end -= self.start;
+        self.start = 0;
+        match source.read(&mut self.buf[self.end..]) {
+            Ok(count) => {
+                self.end += count;
+                self.ended = count == 0;
+                Ok(())
+            }
+            Err(Failed) => Err(Failed),
+        }
+    }
+
+    // Reads until what waits tells whether a marker line stands there, where a line begins.
+    fn fill<S: Source>(&mut self, source: &mut S) -> Result<(), Failed>
+        requires { IsTrue self.old.ended → IsAtEnd (S.left source.old) }
+        ensures keeps { Keeps (stream self.old (S.left source.old)) (stream self.new (S.left source.new)) }
+        ensures tells { OnOk result ((may_be_marker self.new.waiting ≡ false) ⊎ IsTrue self.new.ended) }
+        ensures left { TakesFront (S.left source.old) (S.left source.new) }
+        ensures cause { HasCause (S.faults source.old) (S.faults source.new) result }
+        ensures sound { self.new.sound ≡ self.old.sound }
+        ensures lines { self.new.lines ≡ self.old.lines }
+        ensures at_line { self.new.at_line ≡ self.old.at_line }
+        ensures at_end { IsTrue self.new.ended → IsAtEnd (S.left source.new) }
+        ensures stays_ended { IsTrue self.old.ended → IsTrue self.new.ended × (S.left source.new ≡ S.left source.old) × (S.faults source.new ≡ S.faults source.old) }
+        ensures most { length self.new.waiting ≤ buffer_bytes }
+    {
+        'reads: while !self.ended && may_be_marker(self.waiting()) {
+            match self.more(source) {
+                Ok(()) => {}
+                Err(Failed) => return Err(Failed),
+            }
+        }
+        Ok(())
+    }
+
     // The next part, where `sound` isn't kept.
     fn gather<S: Source>(
         &mut self,
@@ -133,11 +233,16 @@ impl Parts {
         ensures later { S.faults source.old ≤ S.faults source.new }
         ensures left { TakesFront (S.left source.old) (S.left source.new) }
         ensures sound { self.new.sound ≡ self.old.sound }
+        ensures lines { self.new.lines ≡ self.old.lines }
+        ensures at_line { self.new.at_line ≡ self.old.at_line }
+        ensures unmarked { result ≡ Err IoFault.Read → (self.old.ended ≡ false) × (self.new.waiting ≡ []) × ((taken : List ℕ) × Consumes (stream self.old (S.left source.old)) (S.left source.new) taken × (has_whole_marker taken ≡ false)) }
+        ensures fed { IfOk result (λ part. part.marker ≡ true → IsTrue self.new.ended ⊎ TakesMarked (stream self.old (S.left source.old)) (stream self.new (S.left source.new))) }
         ensures to_end { IfOk result (λ part. part.marker ≡ false → IsTrue self.new.ended) }
         ensures at_end { IsTrue self.new.ended → IsAtEnd (S.left source.new) }
         ensures stays_ended { IsTrue self.old.ended → IsTrue self.new.ended × (S.left source.new ≡ S.left source.old) × (S.faults source.new ≡ S.faults source.old) }
         ensures asks { ((S.left source.new ≡ S.left source.old) × (S.faults source.new ≡ S.faults source.old)) ⊎ Asked self.old.waiting (S.left source.old) (S.left source.new) }
         ensures patient { has_whole_marker self.old.waiting ≡ true → (S.left source.new ≡ S.left source.old) × (S.faults source.new ≡ S.faults source.old) }
+        ensures few { TakesAtMost (limit + 4 + 4096) (S.left source.old) (S.left source.new) }
         ensures most { length self.new.waiting ≤ buffer_bytes }
     {
         let _ = &self.buf;
@@ -171,6 +276,7 @@ impl Parts {
         limit: usize,
     ) -> Result<Part, IoFault>
         requires sound { IsTrue self.old.sound }
+        requires lines { IsTrue self.old.lines }
         requires limit { limit ≤ text_limit }
         requires at_end { IsTrue self.old.ended → IsAtEnd (S.left source.old) }
         ensures part { IfOk result (λ part. TakesPart (stream self.old (S.left source.old)) (stream self.new (S.left source.new)) part.bytes.items part.marker) }
@@ -180,18 +286,143 @@ impl Parts {
         ensures later { S.faults source.old ≤ S.faults source.new }
         ensures left { TakesFront (S.left source.old) (S.left source.new) }
         ensures sound { self.new.sound ≡ is_ok result }
+        ensures lines { self.new.lines ≡ self.old.lines }
+        ensures at_line { OnOk result (self.new.at_line ≡ true) }
+        ensures unmarked { result ≡ Err IoFault.Read → (self.old.ended ≡ false) × (self.new.waiting ≡ []) × ((taken : List ℕ) × Consumes (stream self.old (S.left source.old)) (S.left source.new) taken × (has_whole_marker taken ≡ false)) }
+        // Where a marker line ended the part before the source's end was met, it had its line feed.
+        ensures fed { IfOk result (λ part. part.marker ≡ true → IsTrue self.new.ended ⊎ TakesMarked (stream self.old (S.left source.old)) (stream self.new (S.left source.new))) }
         ensures to_end { IfOk result (λ part. part.marker ≡ false → IsTrue self.new.ended) }
         ensures at_end { IsTrue self.new.ended → IsAtEnd (S.left source.new) }
         ensures stays_ended { IsTrue self.old.ended → IsTrue self.new.ended × (S.left source.new ≡ S.left source.old) × (S.faults source.new ≡ S.faults source.old) }
         ensures asks { ((S.left source.new ≡ S.left source.old) × (S.faults source.new ≡ S.faults source.old)) ⊎ Asked self.old.waiting (S.left source.old) (S.left source.new) }
         ensures patient { has_whole_marker self.old.waiting ≡ true → (S.left source.new ≡ S.left source.old) × (S.faults source.new ≡ S.faults source.old) }
         ensures most { length self.new.waiting ≤ buffer_bytes }
+        // How much it reads: at `TooLong`, and else, up to 4,096 bytes more than the part may have with a marker line; of what stands
+        // after the part and its marker line at most 4,096 bytes. Without a whole marker line it reads to the end.
+        ensures few { TakesAtMost (limit + 4 + 4096) (S.left source.old) (S.left source.new) }
+        ensures behind { IfOk result (λ _. TakesFewBehind (stream self.old (S.left source.old)) (S.left source.new)) }
+        ensures met { IfOk result (λ _. IfSome (stream self.old (S.left source.old)) (λ all. has_whole_marker all ≡ false → IsTrue self.new.ended)) }
     {
         match self.gather(alloc, source, limit) {
-            Ok(part) => Ok(part),
+            Ok(part) => {
+                self.at_line = true;
+                Ok(part)
+            }
             Err(fault) => {
                 self.sound = false;
                 Err(fault)
+            }
+        }
+    }
+
+    /// The next of the bytes to come; `None` is the end. It asks the source only where none is waiting, and takes no memory. After
+    /// `Failed` the reader isn't `sound`; behind a byte no part can be read.
+    pub fn byte<S: Source>(&mut self, source: &mut S) -> Result<Option<u8>, Failed>
+        requires sound { IsTrue self.old.sound }
+        requires at_end { IsTrue self.old.ended → IsAtEnd (S.left source.old) }
+        ensures some { IfOk result (λ next. IfSome next (λ byte. Consumes (stream self.old (S.left source.old)) (stream self.new (S.left source.new)) (byte ∷ []))) }
+        ensures none { IfOk result (λ next. IfNone next (IsAtEnd (stream self.old (S.left source.old)) × Keeps (stream self.old (S.left source.old)) (stream self.new (S.left source.new)) × IsTrue self.new.ended)) }
+        ensures err { OnErr result (Keeps (stream self.old (S.left source.old)) (stream self.new (S.left source.new))) }
+        // It failed while nothing was waiting, and before the end was met.
+        ensures alone { OnErr result ((self.old.waiting ≡ []) × (self.new.waiting ≡ []) × (self.old.ended ≡ false)) }
+        ensures left { TakesFront (S.left source.old) (S.left source.new) }
+        ensures cause { HasCause (S.faults source.old) (S.faults source.new) result }
+        ensures sound { self.new.sound ≡ is_ok result }
+        ensures lines { self.new.lines ≡ false }
+        ensures at_end { IsTrue self.new.ended → IsAtEnd (S.left source.new) }
+        ensures stays_ended { IsTrue self.old.ended → IsTrue self.new.ended × (S.left source.new ≡ S.left source.old) × (S.faults source.new ≡ S.faults source.old) }
+        ensures unasked { 0 < length self.old.waiting → (S.left source.new ≡ S.left source.old) × (S.faults source.new ≡ S.faults source.old) × (self.old.waiting ≡ given result ++ self.new.waiting) }
+        ensures most { length self.new.waiting ≤ buffer_bytes }
+    {
+        self.lines = false;
+        match self.next(source) {
+            Ok(next) => Ok(next),
+            Err(Failed) => {
+                self.sound = false;
+                Err(Failed)
+            }
+        }
+    }
+
+    // The next byte of the part, or its end, where no marker line stands.
+    fn plain<S: Source>(&mut self, source: &mut S) -> Result<Ask, Failed>
+        requires { IsTrue self.old.ended → IsAtEnd (S.left source.old) }
+        ensures asks { IfOk result (λ ask. IfSome (stream self.old (S.left source.old)) (λ all. (at_line : Bool) → is_marked_here at_line all ≡ false → AsksNext ask (next_of at_line all) (stream self.new (S.left source.new)))) }
+        ensures line { IfOk result (λ ask. self.new.at_line ≡ begins_line ask) }
+        ensures ended { IfOk result (λ ask. ask ≡ Ask.«End» → IsTrue self.new.ended) }
+        ensures left { TakesFront (S.left source.old) (S.left source.new) }
+        ensures cause { HasCause (S.faults source.old) (S.faults source.new) result }
+        ensures sound { self.new.sound ≡ self.old.sound }
+        ensures lines { self.new.lines ≡ self.old.lines }
+        ensures at_end { IsTrue self.new.ended → IsAtEnd (S.left source.new) }
+        ensures stays_ended { IsTrue self.old.ended → IsTrue self.new.ended × (S.left source.new ≡ S.left source.old) × (S.faults source.new ≡ S.faults source.old) }
+        ensures most { length self.new.waiting ≤ buffer_bytes }
+    {
+        match self.next(source) {
+            Ok(Some(byte)) => {
+                self.at_line = byte == b'\n';
+                Ok(Ask::Byte { b: byte })
+            }
+            Ok(None) => {
+                self.at_line = true;
+                Ok(Ask::End)
+            }
+            Err(Failed) => Err(Failed),
+        }
+    }
+
+    // What comes next of the part, where `sound` isn't kept.
+    fn ask<S: Source>(&mut self, source: &mut S) -> Result<Ask, Failed>
+        requires { IsTrue self.old.ended → IsAtEnd (S.left source.old) }
+        ensures asks { IfOk result (λ ask. IfSome (stream self.old (S.left source.old)) (λ all. AsksNext ask (next_of self.old.at_line all) (stream self.new (S.left source.new)))) }
+        ensures line { IfOk result (λ ask. self.new.at_line ≡ begins_line ask) }
+        ensures ended { IfOk result (λ ask. ask ≡ Ask.«End» → IsTrue self.new.ended) }
+        ensures left { TakesFront (S.left source.old) (S.left source.new) }
+        ensures cause { HasCause (S.faults source.old) (S.faults source.new) result }
+        ensures sound { self.new.sound ≡ self.old.sound }
+        ensures lines { self.new.lines ≡ self.old.lines }
+        ensures at_end { IsTrue self.new.ended → IsAtEnd (S.left source.new) }
+        ensures stays_ended { IsTrue self.old.ended → IsTrue self.new.ended × (S.left source.new ≡ S.left source.old) × (S.faults source.new ≡ S.faults source.old) }
+        ensures most { length self.new.waiting ≤ buffer_bytes }
+    {
+        if !self.at_line {
+            return self.plain(source);
+        }
+        match self.fill(source) {
+            Ok(()) => {}
+            Err(Failed) => return Err(Failed),
+        }
+        let len = line_len(self.waiting());
+        if !is_marker(&self.waiting()[..len]) {
+            return self.plain(source);
+        }
+        self.skip(len + 1);
+        Ok(Ask::Marker)
+    }
+
+    /// What comes next of the part: a byte, the marker line that ends it, which is taken, or the end of the input. It takes no
+    /// memory. Byte by byte a part is what `text` gives of it (`part_law`), where the calls begin at the part's first byte: the
+    /// lines that `text` cuts begin where its call begins. After `Failed` the reader isn't `sound`.
+    pub fn part_byte<S: Source>(&mut self, source: &mut S) -> Result<Ask, Failed>
+        requires sound { IsTrue self.old.sound }
+        requires lines { IsTrue self.old.lines }
+        requires at_end { IsTrue self.old.ended → IsAtEnd (S.left source.old) }
+        ensures asks { IfOk result (λ ask. IfSome (stream self.old (S.left source.old)) (λ all. AsksNext ask (next_of self.old.at_line all) (stream self.new (S.left source.new)))) }
+        ensures line { IfOk result (λ ask. self.new.at_line ≡ begins_line ask) }
+        ensures ended { IfOk result (λ ask. ask ≡ Ask.«End» → IsTrue self.new.ended) }
+        ensures left { TakesFront (S.left source.old) (S.left source.new) }
+        ensures cause { HasCause (S.faults source.old) (S.faults source.new) result }
+        ensures sound { self.new.sound ≡ is_ok result }
+        ensures lines { self.new.lines ≡ self.old.lines }
+        ensures at_end { IsTrue self.new.ended → IsAtEnd (S.left source.new) }
+        ensures stays_ended { IsTrue self.old.ended → IsTrue self.new.ended × (S.left source.new ≡ S.left source.old) × (S.faults source.new ≡ S.faults source.old) }
+        ensures most { length self.new.waiting ≤ buffer_bytes }
+    {
+        match self.ask(source) {
+            Ok(ask) => Ok(ask),
+            Err(Failed) => {
+                self.sound = false;
+                Err(Failed)
             }
         }
     }
@@ -220,6 +451,24 @@ fn is_marker(line: &[u8]) -> bool
     matches!(line, b"%%" | b"%%\r")
 }
 
+// Whether these bytes can still begin a marker line, and none of them is its line feed.
+fn may_be_marker(bytes: &[u8]) -> bool
+    ensures { result ≡ may_be_marker bytes.now }
+{
+    matches!(bytes, b"" | b"%" | b"%%" | b"%%\r")
+}
+
+// How many bytes stand before the first line feed.
+fn line_len(bytes: &[u8]) -> usize
+    ensures value { result ≡ length (first_piece bytes.now) }
+    ensures within { result ≤ length bytes.now }
+{
+    bytes
+        .iter()
+        .position(|byte| *byte == b'\n')
+        .unwrap_or(bytes.len())
+}
+
 // Whether this byte ends a marker line that begins at `start`.
 fn ends_marker(bytes: &[u8], start: usize, byte: u8) -> bool
     requires { start ≤ length bytes.now }
@@ -240,6 +489,16 @@ fn add(bytes: &mut Vec<u8>, start: &mut usize, byte: u8) -> Result<(), AllocErro
     }
     Ok(())
 }
+
+/// A law. What a text whose marker line is whole is cut into doesn't depend on what comes behind it.
+pub fn marker_law()
+    ensures { MarkerLaw }
+{}
+
+/// A law. Byte by byte a part is the same as by lines: what `part_byte` gives, call by call, is what `text` gives.
+pub fn part_law()
+    ensures { PartLaw }
+{}
 
 // A part that is whole, so that it needs no room for more bytes.
 fn whole_part(mut bytes: Vec<u8>, marker: bool) -> Part

@@ -1,10 +1,14 @@
-use Rattle.std.proofs.Common.{◌≡◌, true, [], ◌∷◌, take, drop, length-append, refl, sym, ◌∙◌, arith}
+use Rattle.std.proofs.Common.{◌≡◌, inl, inr, true, [], ◌∷◌, ◌++◌, ◌+◌, take, drop, length, length-append, refl, sym, ap, ◌∙◌, arith}
 use Rattle.std.proofs.lemmas.List.{length-drop, length-take}
 use Rattle.fleet_io.specs.Held.{given}
 use Rattle.fleet_io.proofs.TakenLemmas.{Consumes-append, Consumes-nil, TakesFront-trans, TakesFront-none}
-use Rattle.fleet_io.proofs.AskingLemmas.{Asking-step, Asking-none, promised, promised_after}
+use Rattle.fleet_io.proofs.AskingLemmas.{Asking-step, Asking-none, Gathers-unmarked, promised, promised_after}
+use Rattle.fleet_io.proofs.AloneLemmas.{taken_alone, unless}
 use Rattle.fleet_io.proofs.MarkLemmas.{Gathers-add, Gathers-none, ends_marker_is}
+use Rattle.fleet_io.proofs.MarkerLaws.{fed_marked, ok_marked}
 use Rattle.fleet_io.proofs.FoundLemmas.{at_marker, at_end, made, refused_at_start, long_already}
+use Rattle.fleet_io.proofs.ReadingLemmas.{takes_at_most}
+use Rattle.std.proofs.KnownBytes.{Consumes-kept}
 use Rattle.fleet_io.proofs.parts.Parts.gather.Goals as goal
 
 pub returns-in-Err-clause-left : goal.returns-in-Err-clause-left
@@ -30,6 +34,8 @@ bytes-preserved g c = record {
   left = TakesFront-trans _ _ _ c.bytes.invariant.left c.next.ensures.left;
   later = omega (arith, c.next.ensures.cause.later);
   sound = c.next.ensures.sound ∙ c.bytes.invariant.sound;
+  lines = c.next.ensures.lines ∙ c.bytes.invariant.lines;
+  at_line = c.next.ensures.at_line ∙ c.bytes.invariant.at_line;
   at_end = c.next.ensures.at_end;
   stays_ended = λ ended.
       let before = c.bytes.invariant.stays_ended ended in
@@ -38,6 +44,7 @@ bytes-preserved g c = record {
   asking =
       let gives : given c.next.result ≡ c.in-Some.byte ∷ [] = rw (c.in-Ok.is, c.in-Some.is) refl in
       rw (c.in_ok-add-in-Some.ensures.ok, ← gives) (Asking-step _ _ _ (given c.next.result) _ c.bytes.start _ _ _ _ _ _ c.bytes.invariant.gathers c.bytes.invariant.asking c.next.ensures.unasked c.next.ensures.asked c.next.ensures.most);
+  short = omega (arith, ap length c.in_ok-add-in-Some.ensures.ok, length-append c.bytes.bytes.items (c.in-Some.byte ∷ []));
   most = omega (arith, c.next.ensures.most, length-append (given c.next.result) c.next.new.self.waiting);
 }
 
@@ -64,9 +71,12 @@ bytes-init g c = record {
   left = TakesFront-none _;
   later = omega arith;
   sound = refl;
+  lines = refl;
+  at_line = refl;
   at_end = c.requires.at_end;
   stays_ended = λ ended. (ended, refl, refl);
   asking = rw c.new-bytes.ensures.items (Asking-none _ _ _);
+  short = omega arith;
   most = rw (← c.self.view_is) (omega (arith, c.self.invariant.1, length-drop c.self.inside.start (take c.self.inside.end c.self.inside.buf), length-take c.self.inside.end c.self.inside.buf));
 }
 
@@ -101,3 +111,47 @@ returns-clause-asks g c = (promised _ _ _ _ _ _ _ c.bytes.invariant.asking).0
 
 pub returns-clause-patient : goal.returns-clause-patient
 returns-clause-patient g c = (promised _ _ _ _ _ _ _ c.bytes.invariant.asking).1
+
+-- ---- a failed read
+
+pub returns-in-Err-clause-unmarked : goal.returns-in-Err-clause-unmarked
+returns-in-Err-clause-unmarked g c = λ _.
+    let alone = c.in-Err.ensures.alone in (
+      unless _ _ (λ ended. (c.bytes.invariant.stays_ended ended).0) alone.2,
+      alone.1,
+      (c.bytes.bytes.items, taken_alone _ _ _ _ _ alone.1 c.bytes.invariant.taken c.in-Err.ensures.err, Gathers-unmarked _ c.bytes.start c.bytes.invariant.gathers),
+    )
+
+-- ---- the line feed of a marker line
+
+pub returns-then-ends_marker-clause-fed : goal.returns-then-ends_marker-clause-fed
+returns-then-ends_marker-clause-fed g c =
+    let is = ends_marker_is c.in-Some.byte (drop c.bytes.start c.bytes.bytes.items) (rw c.deref.ensures.value at (sym c.if-ends_marker.ensures)) in
+    ok_marked c.up_to_marker.result _ (inr (fed_marked _ _ _ c.bytes.bytes.items c.bytes.start c.bytes.invariant.taken (rw (c.in-Some.is, is.0) at c.in-Ok.ensures.some) is.1 c.bytes.invariant.gathers))
+
+pub returns-in-None-clause-fed : goal.returns-in-None-clause-fed
+returns-in-None-clause-fed g c =
+    let none = rw c.in-None.is at c.in-Ok.ensures.none in
+    ok_marked c.up_to_end.result _ (inl none.2)
+
+-- ---- how much was read
+
+pub returns-in-Err-clause-few : goal.returns-in-Err-clause-few
+returns-in-Err-clause-few g c =
+    takes_at_most _ _ c.bytes.bytes.items _ _ (c.args.limit + 4) (Consumes-kept _ _ _ _ c.bytes.invariant.taken c.in-Err.ensures.err) c.bytes.invariant.short (omega (arith, c.next.ensures.most, length-append (given c.next.result) c.next.new.self.waiting))
+
+pub returns-then-ends_marker-clause-few : goal.returns-then-ends_marker-clause-few
+returns-then-ends_marker-clause-few g c =
+    takes_at_most _ _ (c.bytes.bytes.items ++ c.in-Some.byte ∷ []) _ _ (c.args.limit + 4) (Consumes-append _ _ _ _ _ c.bytes.invariant.taken (rw c.in-Some.is at c.in-Ok.ensures.some)) (omega (arith, length-append c.bytes.bytes.items (c.in-Some.byte ∷ []))) (omega (arith, c.next.ensures.most, length-append (given c.next.result) c.next.new.self.waiting))
+
+pub returns-in_err-add-in-Some-clause-few : goal.returns-in_err-add-in-Some-clause-few
+returns-in_err-add-in-Some-clause-few g c =
+    takes_at_most _ _ (c.bytes.bytes.items ++ c.in-Some.byte ∷ []) _ _ (c.args.limit + 4) (Consumes-append _ _ _ _ _ c.bytes.invariant.taken (rw c.in-Some.is at c.in-Ok.ensures.some)) (omega (arith, length-append c.bytes.bytes.items (c.in-Some.byte ∷ []))) (omega (arith, c.next.ensures.most, length-append (given c.next.result) c.next.new.self.waiting))
+
+pub returns-in-None-clause-few : goal.returns-in-None-clause-few
+returns-in-None-clause-few g c =
+    let none = rw c.in-None.is at c.in-Ok.ensures.none in
+    takes_at_most _ _ c.bytes.bytes.items _ _ (c.args.limit + 4) (Consumes-kept _ _ _ _ c.bytes.invariant.taken none.1) c.bytes.invariant.short (omega (arith, c.next.ensures.most, length-append (given c.next.result) c.next.new.self.waiting))
+
+pub returns-clause-few : goal.returns-clause-few
+returns-clause-few g c = takes_at_most _ _ c.bytes.bytes.items _ _ (c.args.limit + 4) c.bytes.invariant.taken c.bytes.invariant.short c.bytes.invariant.most

@@ -14,9 +14,12 @@ invariant-bytes g l = record {
   left : TakesFront (g.S.Source.left l.initial.source) (g.S.Source.left l.source);
   later : g.S.Source.faults l.initial.source ≤ g.S.Source.faults l.source;
   sound : l.self.sound ≡ l.initial.self.sound;
+  lines : l.self.lines ≡ l.initial.self.lines;
+  at_line : l.self.at_line ≡ l.initial.self.at_line;
   at_end : IsTrue l.self.ended → IsAtEnd (g.S.Source.left l.source);
   stays_ended : IsTrue l.initial.self.ended → IsTrue l.self.ended × (g.S.Source.left l.source ≡ g.S.Source.left l.initial.source) × (g.S.Source.faults l.source ≡ g.S.Source.faults l.initial.source);
   asking : Asking l.initial.self.waiting l.bytes.items l.self.waiting (g.S.Source.left l.initial.source) (g.S.Source.left l.source) (g.S.Source.faults l.initial.source) (g.S.Source.faults l.source);
+  short : length l.bytes.items ≤ l.limit + 4;
   most : length l.self.waiting ≤ 4096;
 }
 

@@ -1,0 +1,183 @@
+-- What comes next of a part, from the bytes that wait.
+use Rattle.std.proofs.Common.{◌≡◌, ℕ, suc, ◌+◌, ◌<◌, Bool, true, false, eqb, ◌||◌, List, [], ◌∷◌, ◌++◌, length, take, drop, append-nil, Option, Some, None, refl, sym, ap, ◌∙◌, inl, inr, ◌⊎◌, arith}
+use Rattle.std.specs.Prelude.{IfSome, IsTrue, bytes_eq}
+use Rattle.std.specs.Io.KnownBytes.{Consumes, Keeps, IsAtEnd, prepend_known}
+use Rattle.std.specs.List.{position_or_len}
+use Rattle.std.proofs.lemmas.Bool.{cases_Bool}
+use Rattle.std.proofs.lemmas.Slice.Eq.{bytes_eq-Decides}
+use Rattle.text_lines.specs.Marker.{is_marker}
+use Rattle.fleet_io.specs.declared.parts.Ask.TheVariants as ask
+use Rattle.fleet_io.specs.PartBytes.{NextMarker, next_of, first_piece, behind_piece, is_marked_here, may_be_marker, AsksNext}
+
+-- ---- the first line
+
+pub position_is : (bytes : List ℕ) → position_or_len (λ b. eqb b 10) bytes ≡ length (first_piece bytes)
+position_is [] = refl
+position_is (b ∷ bytes) = elim (cases_Bool (eqb b 10)) [
+  | inl feed ↦ rw feed refl
+  | inr other ↦ rw other (omega (arith, position_is bytes))
+]
+
+pub take_piece : (bytes : List ℕ) → take (length (first_piece bytes)) bytes ≡ first_piece bytes
+take_piece [] = refl
+take_piece (b ∷ bytes) = elim (cases_Bool (eqb b 10)) [
+  | inl feed ↦ rw feed refl
+  | inr other ↦ rw other (ap (λ (xs : List ℕ). b ∷ xs) (take_piece bytes))
+]
+
+pub drop_piece : (bytes : List ℕ) → drop (suc (length (first_piece bytes))) bytes ≡ behind_piece bytes
+drop_piece [] = refl
+drop_piece (b ∷ bytes) = elim (cases_Bool (eqb b 10)) [
+  | inl feed ↦ rw feed refl
+  | inr other ↦ rw other (drop_piece bytes)
+]
+
+-- a line feed ends the first line, or all bytes belong to it
+record HasFeed (bytes : List ℕ) : Type 0 where
+  first : (more : List ℕ) → first_piece (bytes ++ more) ≡ first_piece bytes
+  behind : (more : List ℕ) → behind_piece (bytes ++ more) ≡ behind_piece bytes ++ more
+
+record HasNone (bytes : List ℕ) : Type 0 where
+  first : (more : List ℕ) → first_piece (bytes ++ more) ≡ bytes ++ first_piece more
+  all : first_piece bytes ≡ bytes
+
+fed : (bytes : List ℕ) → HasFeed bytes ⊎ HasNone bytes
+fed [] = inr (record { first = λ more. refl; all = refl })
+fed (b ∷ bytes) = elim (cases_Bool (eqb b 10)) [
+  | inl feed ↦ inl (record { first = λ more. rw feed refl; behind = λ more. rw feed refl })
+  | inr other ↦ elim (fed bytes) [
+    | inl has ↦ inl (record { first = λ more. rw other (ap (λ (xs : List ℕ). b ∷ xs) (has.first more)); behind = λ more. rw other (has.behind more) })
+    | inr none ↦ inr (record { first = λ more. rw other (ap (λ (xs : List ℕ). b ∷ xs) (none.first more)); all = rw other (ap (λ (xs : List ℕ). b ∷ xs) none.all) })
+  ]
+]
+
+-- ---- what may be a marker line yet
+
+plain_front : (bytes more : List ℕ) → bytes ++ more ≡ 37 ∷ 37 ∷ [] → may_be_marker bytes ≡ true
+plain_front [] more is = refl
+plain_front (a ∷ []) more is = let first : a ≡ 37 = cc in rw first refl
+plain_front (a ∷ b ∷ []) more is = let first : a ≡ 37 = cc in let second : b ≡ 37 = cc in rw (first, second) refl
+plain_front (a ∷ b ∷ c ∷ bytes) more is = absurd (omega (arith, ap length is))
+
+return_front : (bytes more : List ℕ) → bytes ++ more ≡ 37 ∷ 37 ∷ 13 ∷ [] → may_be_marker bytes ≡ true
+return_front [] more is = refl
+return_front (a ∷ []) more is = let first : a ≡ 37 = cc in rw first refl
+return_front (a ∷ b ∷ []) more is = let first : a ≡ 37 = cc in let second : b ≡ 37 = cc in rw (first, second) refl
+return_front (a ∷ b ∷ c ∷ []) more is = let first : a ≡ 37 = cc in let second : b ≡ 37 = cc in let third : c ≡ 13 = cc in rw (first, second, third) refl
+return_front (a ∷ b ∷ c ∷ d ∷ bytes) more is = absurd (omega (arith, ap length is))
+
+either : (a b : Bool) → (a || b) ≡ true → (a ≡ true) ⊎ (b ≡ true)
+either true b is = inl refl
+either false b is = inr is
+
+marker_front : (bytes more : List ℕ) → is_marker (bytes ++ more) ≡ true → may_be_marker bytes ≡ true
+marker_front bytes more is = elim (either (bytes_eq (bytes ++ more) (37 ∷ 37 ∷ [])) (bytes_eq (bytes ++ more) (37 ∷ 37 ∷ 13 ∷ [])) is) [
+  | inl e ↦ plain_front bytes more ((bytes_eq-Decides (bytes ++ more) (37 ∷ 37 ∷ [])).0 e)
+  | inr e ↦ return_front bytes more ((bytes_eq-Decides (bytes ++ more) (37 ∷ 37 ∷ 13 ∷ [])).0 e)
+]
+
+never : (bytes more : List ℕ) → may_be_marker bytes ≡ false → is_marker (bytes ++ more) ≡ false
+never bytes more off = elim (cases_Bool (is_marker (bytes ++ more))) [
+  | inl is ↦ absurd (let e : true ≡ false = sym (marker_front bytes more is) ∙ off in cc)
+  | inr none ↦ none
+]
+
+-- few bytes may be one yet
+pub few_wait : (bytes : List ℕ) → may_be_marker bytes ≡ true → length bytes < 4
+few_wait [] is = omega arith
+few_wait (a ∷ []) is = omega arith
+few_wait (a ∷ b ∷ []) is = omega arith
+few_wait (a ∷ b ∷ c ∷ []) is = omega arith
+few_wait (a ∷ b ∷ c ∷ d ∷ bytes) is = absurd (elim (either (bytes_eq (a ∷ b ∷ c ∷ d ∷ bytes) (37 ∷ [])) (bytes_eq (a ∷ b ∷ c ∷ d ∷ bytes) (37 ∷ 37 ∷ []) || bytes_eq (a ∷ b ∷ c ∷ d ∷ bytes) (37 ∷ 37 ∷ 13 ∷ [])) is) [
+  | inl e ↦ omega (arith, ap length ((bytes_eq-Decides (a ∷ b ∷ c ∷ d ∷ bytes) (37 ∷ [])).0 e))
+  | inr two ↦ elim (either (bytes_eq (a ∷ b ∷ c ∷ d ∷ bytes) (37 ∷ 37 ∷ [])) (bytes_eq (a ∷ b ∷ c ∷ d ∷ bytes) (37 ∷ 37 ∷ 13 ∷ [])) two) [
+    | inl e ↦ omega (arith, ap length ((bytes_eq-Decides (a ∷ b ∷ c ∷ d ∷ bytes) (37 ∷ 37 ∷ [])).0 e))
+    | inr e ↦ omega (arith, ap length ((bytes_eq-Decides (a ∷ b ∷ c ∷ d ∷ bytes) (37 ∷ 37 ∷ 13 ∷ [])).0 e))
+  ]
+])
+
+-- ---- what waits tells whether a marker line stands here
+
+record Settled (bytes more : List ℕ) : Type 0 where
+  same : is_marker (first_piece (bytes ++ more)) ≡ is_marker (first_piece bytes)
+  behind : is_marker (first_piece bytes) ≡ true → behind_piece (bytes ++ more) ≡ behind_piece bytes ++ more
+
+settled : (bytes more : List ℕ) → (may_be_marker bytes ≡ false) ⊎ (more ≡ []) → Settled bytes more
+settled bytes more why = elim why [
+  | inr none ↦
+      let all : bytes ++ more ≡ bytes = ap (λ (xs : List ℕ). bytes ++ xs) none ∙ append-nil bytes in
+      record { same = ap (λ (xs : List ℕ). is_marker (first_piece xs)) all; behind = λ _. ap behind_piece all ∙ sym (ap (λ (xs : List ℕ). behind_piece bytes ++ xs) none ∙ append-nil (behind_piece bytes)) }
+  | inl off ↦ elim (fed bytes) [
+    | inl has ↦ record { same = ap is_marker (has.first more); behind = λ _. has.behind more }
+    | inr none ↦
+        let whole : is_marker bytes ≡ false = ap is_marker (sym (append-nil bytes)) ∙ never bytes [] off in
+        record {
+          same = ap is_marker (none.first more) ∙ never bytes (first_piece more) off ∙ sym (ap is_marker none.all ∙ whole);
+          behind = λ is. absurd (let e : true ≡ false = sym is ∙ ap is_marker none.all ∙ whole in cc);
+        }
+  ]
+]
+
+next_marked : (all : List ℕ) → is_marker (first_piece all) ≡ true → next_of true all ≡ NextMarker (behind_piece all)
+next_marked [] is = absurd (let e : false ≡ true = is in cc)
+next_marked (b ∷ bytes) is = rw is refl
+
+-- why what waits tells it, with what the source still has
+told : (bytes rest : List ℕ) → (may_be_marker bytes ≡ false) ⊎ IsAtEnd (Some rest) → (may_be_marker bytes ≡ false) ⊎ (rest ≡ [])
+told bytes rest why = why
+
+-- the marker line stands here, and is taken
+pub asks_marker : (old left : Option (List ℕ)) (waiting kept : List ℕ) → Keeps old (prepend_known waiting left) → (may_be_marker waiting ≡ false) ⊎ IsAtEnd left → is_marker (first_piece waiting) ≡ true →
+    kept ≡ behind_piece waiting → IfSome old (λ all. AsksNext ask.Marker (next_of true all) (prepend_known kept left))
+asks_marker None left waiting kept same why is taken = tt
+asks_marker (Some all) None waiting kept same why is taken = absurd same
+asks_marker (Some all) (Some rest) waiting kept same why is taken =
+    let s = settled waiting rest why in
+    let marked : is_marker (first_piece all) ≡ true = ap (λ (xs : List ℕ). is_marker (first_piece xs)) (sym same) ∙ s.same ∙ is in
+    let behind : kept ++ rest ≡ behind_piece all = ap (λ (xs : List ℕ). xs ++ rest) taken ∙ sym (s.behind is) ∙ ap behind_piece same in
+    rw (next_marked all marked) (ap Some behind)
+
+-- no marker line stands here
+pub asks_plain : (old left : Option (List ℕ)) (waiting : List ℕ) (P : Bool → List ℕ → Type 0) → Keeps old (prepend_known waiting left) → (may_be_marker waiting ≡ false) ⊎ IsAtEnd left →
+    is_marker (first_piece waiting) ≡ false → IfSome (prepend_known waiting left) (λ all. (at_line : Bool) → is_marked_here at_line all ≡ false → P at_line all) → IfSome old (λ all. P true all)
+asks_plain None left waiting P same why off then = tt
+asks_plain (Some all) None waiting P same why off then = absurd same
+asks_plain (Some all) (Some rest) waiting P same why off then =
+    let s = settled waiting rest why in
+    rw (← same) (then true (s.same ∙ off))
+
+-- where no line begins none stands here
+pub asks_within : (old : Option (List ℕ)) (here : Bool) (P : Bool → List ℕ → Type 0) → here ≡ false → IfSome old (λ all. (at_line : Bool) → is_marked_here at_line all ≡ false → P at_line all) → IfSome old (λ all. P here all)
+asks_within None here P off then = tt
+asks_within (Some all) here P off then = rw off (then false refl)
+
+-- a byte is taken
+pub asks_byte : (old new : Option (List ℕ)) (b : ℕ) → Consumes old new (b ∷ []) → IfSome old (λ all. (at_line : Bool) → is_marked_here at_line all ≡ false → AsksNext (ask.Byte b) (next_of at_line all) new)
+asks_byte None new b is = tt
+asks_byte (Some all) None b is = absurd is
+asks_byte (Some all) (Some rest) b is = rw is (λ at_line off. rw off (refl, refl))
+
+-- nothing is left
+pub asks_end : (old new : Option (List ℕ)) → IsAtEnd old → Keeps old new → IfSome old (λ all. (at_line : Bool) → is_marked_here at_line all ≡ false → AsksNext ask.«End» (next_of at_line all) new)
+asks_end None new none same = tt
+asks_end (Some all) None none same = absurd same
+asks_end (Some all) (Some rest) none same = rw (same, none) (λ at_line off. refl)
+
+-- ---- from the code's tests
+
+-- what tells it
+pub tells : (waiting : List ℕ) (left : Option (List ℕ)) (ended : Bool) → (may_be_marker waiting ≡ false) ⊎ IsTrue ended → (IsTrue ended → IsAtEnd left) → (may_be_marker waiting ≡ false) ⊎ IsAtEnd left
+tells waiting left ended why at_end = elim why [
+  | inl off ↦ inl off
+  | inr is ↦ inr (at_end is)
+]
+
+-- the bytes before the first line feed
+pub line_is : (bytes : List ℕ) (len : ℕ) → len ≡ length (first_piece bytes) → is_marker (take len bytes) ≡ is_marker (first_piece bytes)
+line_is bytes len is = ap (λ (n : ℕ). is_marker (take n bytes)) is ∙ ap is_marker (take_piece bytes)
+
+-- the bytes behind it
+pub behind_is : (bytes : List ℕ) (len : ℕ) → len ≡ length (first_piece bytes) → drop (len + 1) bytes ≡ behind_piece bytes
+behind_is bytes len is =
+    let at : len + 1 ≡ suc (length (first_piece bytes)) = omega (arith, is) in
+    ap (λ (n : ℕ). drop n bytes) at ∙ drop_piece bytes

@@ -1,0 +1,140 @@
+-- A part byte by byte is the part by lines.
+use Rattle.std.proofs.Common.{◌≡◌, ℕ, Bool, true, false, cond, ◌&&◌, ◌||◌, eqb, List, [], ◌∷◌, ◌++◌, append_assoc, refl, sym, ap, ◌∙◌}
+use Rattle.std.specs.List.{join_with_byte, onto_first}
+use Rattle.std.proofs.lemmas.Bool.{eqb-true}
+use Rattle.std.proofs.lemmas.List.Splits.{join_with_byte-slice_split}
+use Rattle.text_lines.specs.Lines.{between_feeds}
+use Rattle.text_lines.specs.Marker.{is_marker, has_marker, lines_before, lines_after, ended, part_of, rest_of}
+use Rattle.fleet_io.specs.PartBytes.{first_piece, behind_piece, part_left, is_marked_left, rest_left, PartLaw}
+
+-- the pieces behind the first
+abbrev tail_pieces : List ℕ → List (List ℕ)
+tail_pieces [] = []
+tail_pieces (b ∷ bytes) = cond (eqb b 10) (between_feeds bytes) (tail_pieces bytes)
+
+split_is : (xs : List ℕ) → between_feeds xs ≡ first_piece xs ∷ tail_pieces xs
+split_is [] = refl
+split_is (b ∷ bytes) = go (eqb b 10) (split_is bytes)
+  where
+    go : (c : Bool) → between_feeds bytes ≡ first_piece bytes ∷ tail_pieces bytes →
+        cond c ([] ∷ between_feeds bytes) (onto_first b (between_feeds bytes)) ≡ cond c [] (b ∷ first_piece bytes) ∷ cond c (between_feeds bytes) (tail_pieces bytes)
+    go true is = refl
+    go false is = ap (onto_first b) is
+
+-- ---- marked
+marked_is : (bytes : List ℕ) (at_line : Bool) → is_marked_left at_line bytes ≡ ((at_line && is_marker (first_piece bytes)) || has_marker (tail_pieces bytes))
+marked_is [] true = refl
+marked_is [] false = refl
+marked_is (b ∷ bytes) at_line = go (at_line && is_marker (first_piece (b ∷ bytes))) (marked_is bytes (eqb b 10))
+  where
+    later : (c : Bool) → ((c && is_marker (first_piece bytes)) || has_marker (tail_pieces bytes)) ≡ has_marker (cond c (between_feeds bytes) (tail_pieces bytes))
+    later true = ap has_marker (sym (split_is bytes))
+    later false = refl
+
+    go : (m : Bool) → is_marked_left (eqb b 10) bytes ≡ ((eqb b 10 && is_marker (first_piece bytes)) || has_marker (tail_pieces bytes)) →
+        cond m true (is_marked_left (eqb b 10) bytes) ≡ (m || has_marker (tail_pieces (b ∷ bytes)))
+    go true before = refl
+    go false before = before ∙ later (eqb b 10)
+
+-- ---- the part
+abbrev left_of : Bool → List ℕ → List ℕ → List (List ℕ) → List ℕ
+left_of m bytes first tail = cond m [] (cond (has_marker tail) (first ++ 10 ∷ ended (lines_before tail)) bytes)
+
+part_is : (bytes : List ℕ) (at_line : Bool) → part_left at_line bytes ≡ left_of (at_line && is_marker (first_piece bytes)) bytes (first_piece bytes) (tail_pieces bytes)
+part_is [] true = refl
+part_is [] false = refl
+part_is (b ∷ bytes) at_line = go (at_line && is_marker (first_piece (b ∷ bytes))) (eqb b 10) refl (part_is bytes (eqb b 10))
+  where
+    -- behind a line feed
+    feed : (m k : Bool) → is_marker (first_piece bytes) ≡ m → has_marker (tail_pieces bytes) ≡ k →
+        b ∷ cond m [] (cond k (first_piece bytes ++ 10 ∷ ended (lines_before (tail_pieces bytes))) bytes)
+        ≡ cond (m || k) (b ∷ ended (cond m [] (first_piece bytes ∷ lines_before (tail_pieces bytes)))) (b ∷ bytes)
+    feed true k f g = refl
+    feed false true f g = ap (λ (xs : List ℕ). b ∷ xs) (sym (append_assoc (first_piece bytes) (10 ∷ []) (ended (lines_before (tail_pieces bytes)))))
+    feed false false f g = refl
+
+    plain : (k : Bool) → b ∷ cond k (first_piece bytes ++ 10 ∷ ended (lines_before (tail_pieces bytes))) bytes ≡ cond k ((b ∷ first_piece bytes) ++ 10 ∷ ended (lines_before (tail_pieces bytes))) (b ∷ bytes)
+    plain true = refl
+    plain false = refl
+
+    go : (m c : Bool) → eqb b 10 ≡ c → part_left (eqb b 10) bytes ≡ left_of (eqb b 10 && is_marker (first_piece bytes)) bytes (first_piece bytes) (tail_pieces bytes) →
+        cond m [] (b ∷ part_left (eqb b 10) bytes) ≡ left_of m (b ∷ bytes) (cond (eqb b 10) [] (b ∷ first_piece bytes)) (cond (eqb b 10) (between_feeds bytes) (tail_pieces bytes))
+    go true c is before = refl
+    go false true is before =
+        let ten : b ≡ 10 = eqb-true b 10 is in
+        ap (λ (xs : List ℕ). b ∷ xs) before
+        ∙ ap (λ (d : Bool). b ∷ left_of (d && is_marker (first_piece bytes)) bytes (first_piece bytes) (tail_pieces bytes)) is
+        ∙ feed (is_marker (first_piece bytes)) (has_marker (tail_pieces bytes)) refl refl
+        ∙ ap (λ (n : ℕ). cond (has_marker (first_piece bytes ∷ tail_pieces bytes)) (n ∷ ended (lines_before (first_piece bytes ∷ tail_pieces bytes))) (b ∷ bytes)) ten
+        ∙ ap (λ (ps : List (List ℕ)). left_of false (b ∷ bytes) [] ps) (sym (split_is bytes))
+        ∙ ap (λ (d : Bool). left_of false (b ∷ bytes) (cond d [] (b ∷ first_piece bytes)) (cond d (between_feeds bytes) (tail_pieces bytes))) (sym is)
+    go false false is before =
+        ap (λ (xs : List ℕ). b ∷ xs) before
+        ∙ ap (λ (d : Bool). b ∷ left_of (d && is_marker (first_piece bytes)) bytes (first_piece bytes) (tail_pieces bytes)) is
+        ∙ plain (has_marker (tail_pieces bytes))
+        ∙ ap (λ (d : Bool). left_of false (b ∷ bytes) (cond d [] (b ∷ first_piece bytes)) (cond d (between_feeds bytes) (tail_pieces bytes))) (sym is)
+
+part_law : (all : List ℕ) → part_left true all ≡ part_of all
+unfolding part_of
+part_law all =
+    part_is all true ∙ go (is_marker (first_piece all)) (has_marker (tail_pieces all)) refl refl
+    ∙ ap (λ (ps : List (List ℕ)). cond (has_marker ps) (ended (lines_before ps)) all) (sym (split_is all))
+  where
+    go : (m k : Bool) → is_marker (first_piece all) ≡ m → has_marker (tail_pieces all) ≡ k →
+        cond m [] (cond k (first_piece all ++ 10 ∷ ended (lines_before (tail_pieces all))) all)
+        ≡ cond (m || k) (ended (cond m [] (first_piece all ∷ lines_before (tail_pieces all)))) all
+    go true k f g = refl
+    go false true f g = sym (append_assoc (first_piece all) (10 ∷ []) (ended (lines_before (tail_pieces all))))
+    go false false f g = refl
+
+-- ---- the rest
+behind_is : (bytes : List ℕ) → behind_piece bytes ≡ join_with_byte 10 (tail_pieces bytes)
+behind_is [] = refl
+behind_is (b ∷ bytes) = go (eqb b 10) (behind_is bytes)
+  where
+    go : (c : Bool) → behind_piece bytes ≡ join_with_byte 10 (tail_pieces bytes) →
+        cond c bytes (behind_piece bytes) ≡ join_with_byte 10 (cond c (between_feeds bytes) (tail_pieces bytes))
+    go true before = sym (join_with_byte-slice_split 10 bytes)
+    go false before = before
+
+abbrev behind_of : Bool → List (List ℕ) → List ℕ
+behind_of m tail = cond m (join_with_byte 10 tail) (cond (has_marker tail) (join_with_byte 10 (lines_after tail)) [])
+
+rest_is : (bytes : List ℕ) (at_line : Bool) → rest_left at_line bytes ≡ behind_of (at_line && is_marker (first_piece bytes)) (tail_pieces bytes)
+rest_is [] true = refl
+rest_is [] false = refl
+rest_is (b ∷ bytes) at_line = go (at_line && is_marker (first_piece (b ∷ bytes))) (rest_is bytes (eqb b 10))
+  where
+    feed : (m k : Bool) → is_marker (first_piece bytes) ≡ m → has_marker (tail_pieces bytes) ≡ k →
+        cond m (join_with_byte 10 (tail_pieces bytes)) (cond k (join_with_byte 10 (lines_after (tail_pieces bytes))) [])
+        ≡ cond (m || k) (join_with_byte 10 (cond m (tail_pieces bytes) (lines_after (tail_pieces bytes)))) []
+    feed true k f g = refl
+    feed false k f g = refl
+
+    later : (c : Bool) → behind_of (c && is_marker (first_piece bytes)) (tail_pieces bytes) ≡ behind_of false (cond c (between_feeds bytes) (tail_pieces bytes))
+    later true = feed (is_marker (first_piece bytes)) (has_marker (tail_pieces bytes)) refl refl ∙ ap (behind_of false) (sym (split_is bytes))
+    later false = refl
+
+    go : (m : Bool) → rest_left (eqb b 10) bytes ≡ behind_of (eqb b 10 && is_marker (first_piece bytes)) (tail_pieces bytes) →
+        cond m (behind_piece (b ∷ bytes)) (rest_left (eqb b 10) bytes) ≡ behind_of m (tail_pieces (b ∷ bytes))
+    go true before = behind_is (b ∷ bytes)
+    go false before = before ∙ later (eqb b 10)
+
+rest_law : (all : List ℕ) → rest_left true all ≡ rest_of all
+unfolding rest_of
+rest_law all =
+    rest_is all true ∙ go (is_marker (first_piece all)) (has_marker (tail_pieces all)) refl refl
+    ∙ ap (λ (ps : List (List ℕ)). cond (has_marker ps) (join_with_byte 10 (lines_after ps)) []) (sym (split_is all))
+  where
+    go : (m k : Bool) → is_marker (first_piece all) ≡ m → has_marker (tail_pieces all) ≡ k →
+        cond m (join_with_byte 10 (tail_pieces all)) (cond k (join_with_byte 10 (lines_after (tail_pieces all))) [])
+        ≡ cond (m || k) (join_with_byte 10 (cond m (tail_pieces all) (lines_after (tail_pieces all)))) []
+    go true k f g = refl
+    go false k f g = refl
+
+pub part_by_bytes : PartLaw
+part_by_bytes = record {
+  part = part_law;
+  marked = λ all. marked_is all true ∙ ap has_marker (sym (split_is all));
+  rest = rest_law;
+}
