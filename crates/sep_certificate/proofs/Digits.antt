@@ -9,8 +9,8 @@ use Rattle.sep_certificate.specs.declared.certificate.Node.{Node}
 use Rattle.sep_certificate.specs.declared.certificate.Node.TheVariants.{Split, Leaf}
 use Rattle.sep_certificate.specs.Certificates.{Tree, IsTree, IsKnown, preorder}
 use Rattle.sep_certificate.specs.Certificates.Tree.{leaf}
-use Rattle.sep_certificate.specs.Steps.{leaf_in, wide_nodes}
-use Rattle.sep_certificate.specs.Texts.{is_digit, is_spelled_wide, is_wide_leaf, tree_line, two_digits}
+use Rattle.sep_certificate.specs.Steps.{is_spelled_wide, leaf_in, wide_nodes}
+use Rattle.sep_certificate.specs.Texts.{is_digit, is_wide_leaf, tree_line, two_digits}
 use Rattle.sep_certificate.proofs.Spelled.{IsForest, dot_told, two_in_one}
 
 -- ---- two digits
@@ -29,14 +29,14 @@ digit_told b e = let parts = both (nat_le 48 b) (nat_le b 57) e in (low 48 b par
     low m n e = grind (arith, nat_tests)
 
 -- two digits that name a direction
-record IsLeafOf (b c : ℕ) : Type 0 where
-  first_low : 48 ≤ b
-  first_high : b ≤ 57
-  second_low : 48 ≤ c
-  second_high : c ≤ 57
-  small : two_digits b c < 98
+pub record IsLeafOf (b c : ℕ) : Type 0 where
+  pub first_low : 48 ≤ b
+  pub first_high : b ≤ 57
+  pub second_low : 48 ≤ c
+  pub second_high : c ≤ 57
+  pub small : two_digits b c < 98
 
-leaf_told : (b c : ℕ) → is_wide_leaf b c ≡ true → IsLeafOf b c
+pub leaf_told : (b c : ℕ) → is_wide_leaf b c ≡ true → IsLeafOf b c
 leaf_told b c e =
     let first = both (is_digit b && is_digit c) (nat_lt (two_digits b c) 98) e in
     let digits = both (is_digit b) (is_digit c) first.0 in
@@ -48,7 +48,7 @@ leaf_told b c e =
     below m n e = grind (arith, nat_tests)
 
 -- they are the word of the direction
-word_is : (b c : ℕ) → IsLeafOf b c → (48 + two_digits b c / 10 ≡ b) × (48 + two_digits b c % 10 ≡ c)
+pub word_is : (b c : ℕ) → IsLeafOf b c → (48 + two_digits b c / 10 ≡ b) × (48 + two_digits b c % 10 ≡ c)
 word_is b c is =
     let parts = tens (b - 48) (c - 48) (omega (arith, is.first_high)) (omega (arith, is.second_high)) in
     (omega (arith, parts.0, is.first_low), omega (arith, parts.1, is.second_low))
@@ -93,8 +93,8 @@ wide_forest (b ∷ c ∷ bytes) (suc n) e = go (b == 46) (is_wide_leaf b c) refl
     go false false p q e two one = absurd (cc)
 
 -- a line that passes is one whole tree
-pub wide_told : (line : List ℕ) → is_spelled_wide 1 line ≡ true → (line ≡ tree_line 2 (wide_nodes line)) × IsTree (wide_nodes line) × All (IsKnown 98) (wide_nodes line)
-wide_told line e = close (wide_nodes line) (wide_forest line 1 e)
+pub wide_nodes_told : (line : List ℕ) → is_spelled_wide 1 line ≡ true → (line ≡ tree_line 2 (wide_nodes line)) × IsTree (wide_nodes line) × All (IsKnown 98) (wide_nodes line)
+wide_nodes_told line e = close (wide_nodes line) (wide_forest line 1 e)
   where
     close : (nodes : List Node) → SpellsWide 1 line nodes → (line ≡ tree_line 2 nodes) × IsTree nodes × All (IsKnown 98) nodes
     close nodes spells =
@@ -118,7 +118,7 @@ wide_split line (suc n) m i inside some m_is e =
     let more : m ≡ suc (suc n) = omega arith in
     rw (up, more, drop-cons line i 0 inside, e) (sym (dot_step n (drop (suc i) line)).0, (dot_step n (drop (suc i) line)).1)
 
-not_dot : (b : ℕ) → (b ≡ 46 → ⊥) → (b == 46) ≡ false
+pub not_dot : (b : ℕ) → (b ≡ 46 → ⊥) → (b == 46) ≡ false
 not_dot b other = go (b == 46) refl
   where
     go : (s : Bool) → (b == 46) ≡ s → s ≡ false
@@ -194,10 +194,10 @@ wide_short line zero i far some = absurd (omega arith)
 wide_short line (suc n) i far some = ap (is_spelled_wide (suc n)) (drop_all i line far)
 
 -- ---- from nodes to bytes and back
-word_back : (dir : ℕ) → two_digits (48 + dir / 10) (48 + dir % 10) ≡ dir
+pub word_back : (dir : ℕ) → two_digits (48 + dir / 10) (48 + dir % 10) ≡ dir
 word_back dir = omega arith
 
-word_no_dot : (dir : ℕ) → ((48 + dir / 10) == 46) ≡ false
+pub word_no_dot : (dir : ℕ) → ((48 + dir / 10) == 46) ≡ false
 word_no_dot dir = not_dot (48 + dir / 10) (λ e. absurd (omega (arith, e)))
 
 pub wide_back : (nodes : List Node) → wide_nodes (tree_line 2 nodes) ≡ nodes
@@ -217,7 +217,7 @@ digit_is d small = two (nat_le 48 (48 + d)) (nat_le (48 + d) 57) (above 48 (48 +
     two : (a b : Bool) → a ≡ true → b ≡ true → (a && b) ≡ true
     two a b p q = rw (p, q) refl
 
-leaf_is : (dir : ℕ) → dir < 98 → is_wide_leaf (48 + dir / 10) (48 + dir % 10) ≡ true
+pub leaf_is : (dir : ℕ) → dir < 98 → is_wide_leaf (48 + dir / 10) (48 + dir % 10) ≡ true
 leaf_is dir small =
     three (is_digit (48 + dir / 10)) (is_digit (48 + dir % 10)) (nat_lt (two_digits (48 + dir / 10) (48 + dir % 10)) 98)
     (digit_is (dir / 10) (omega arith)) (digit_is (dir % 10) (omega arith)) (below (two_digits (48 + dir / 10) (48 + dir % 10)) 98 (omega (arith, word_back dir)))
@@ -239,8 +239,3 @@ dot_spelled n rest = (dot_step n rest).0
 pub nodes_next : (old new whole here rest : List Node) (node : Node) → new ≡ old ++ node ∷ [] → here ≡ node ∷ rest → old ++ here ≡ whole → new ++ rest ≡ whole
 nodes_next old new whole here rest node new_is here_is same =
     ap (λ (ns : List Node). ns ++ rest) new_is ∙ append_assoc old (node ∷ []) rest ∙ ap (λ (ns : List Node). old ++ ns) (sym here_is) ∙ same
-
--- what a line that passes is, where these are its nodes
-pub tells_wide : (line : List ℕ) (nodes : List Node) → is_spelled_wide 1 line ≡ true → nodes ≡ wide_nodes line →
-    (is_spelled_wide 1 line ≡ true) × (line ≡ tree_line 2 nodes) × IsTree nodes × All (IsKnown 98) nodes
-tells_wide line nodes spelled are = let told = wide_told line spelled in rw are (spelled, told.0, told.1, told.2)

@@ -1,11 +1,14 @@
 pub mod Covers
 pub mod Stacks
 pub mod Walks
+pub mod Trees
 pub mod Verdicts
+pub mod Named
 pub mod Members
 pub mod Keeping
 pub mod Spelled
 pub mod Digits
+pub mod Grammar
 pub mod Readers
 pub mod FirstLines
 pub mod TextLaws

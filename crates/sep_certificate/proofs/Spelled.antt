@@ -7,8 +7,8 @@ use Rattle.sep_certificate.specs.declared.certificate.Node.{Node}
 use Rattle.sep_certificate.specs.declared.certificate.Node.TheVariants.{Split, Leaf}
 use Rattle.sep_certificate.specs.Certificates.{Tree, IsTree, IsKnown, preorder}
 use Rattle.sep_certificate.specs.Certificates.Tree.{leaf, split}
-use Rattle.sep_certificate.specs.Steps.{IsNodeByte, node_of_byte}
-use Rattle.sep_certificate.specs.Texts.{is_spelled, is_letter, tree_line}
+use Rattle.sep_certificate.specs.Steps.{IsNodeByte, is_spelled, node_of_byte}
+use Rattle.sep_certificate.specs.Texts.{is_letter, tree_line}
 
 pub spelled_none : (line : List ℕ) (i : ℕ) → i < length line → is_spelled 0 (drop i line) ≡ false
 spelled_none line i inside = rw (drop-cons line i 0) refl
@@ -18,6 +18,9 @@ split_test n b rest e = rw e refl
 
 letter_tests : (b : ℕ) → 97 ≤ b → b ≤ 122 → ((b == 46) ≡ false) × (nat_le 97 b ≡ true) × (nat_le b 122 ≡ true)
 letter_tests b low high = (grind (arith, nat_tests), grind (arith, nat_tests), grind (arith, nat_tests))
+
+pub letter_is : (dir : ℕ) → dir < 26 → is_letter (97 + dir) ≡ true
+letter_is dir small = let tests = letter_tests (97 + dir) (omega arith) (omega arith) in rw (tests.1, tests.2) refl
 
 pub leaf_test : (n b : ℕ) (rest : List ℕ) → 97 ≤ b → b ≤ 122 → is_spelled (suc n) (b ∷ rest) ≡ is_spelled n rest
 leaf_test n b rest low high = let tests = letter_tests b low high in rw (tests.0, tests.1, tests.2) refl
@@ -53,7 +56,7 @@ two_in_one n nodes (left, rest, is, (right, more, rest_is, forest)) = (
 abbrev IsSpelling : ℕ → List ℕ → Type 0
 IsSpelling n line = (nodes : List Node) × (line ≡ tree_line 1 nodes) × IsForest n nodes × All (IsKnown 26) nodes
 
-letter_told : (b : ℕ) → is_letter b ≡ true → (97 ≤ b) × (b ≤ 122)
+pub letter_told : (b : ℕ) → is_letter b ≡ true → (97 ≤ b) × (b ≤ 122)
 letter_told b e = go (nat_le 97 b) (nat_le b 122) refl refl e
   where
     go : (s t : Bool) → nat_le 97 b ≡ s → nat_le b 122 ≡ t → (s && t) ≡ true → (97 ≤ b) × (b ≤ 122)

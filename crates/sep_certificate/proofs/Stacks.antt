@@ -12,7 +12,8 @@ use Rattle.sep_parts.specs.declared.slot.Slot.{Slot}
 use Rattle.sep_certificate.specs.declared.judge.Rules.{Rules}
 use Rattle.sep_certificate.specs.declared.certificate.Node.{Node}
 use Rattle.sep_certificate.specs.declared.certificate.CertFault.{CertFault}
-use Rattle.sep_certificate.specs.Certificates.{first_fault, node_fault, places_below}
+use Rattle.sep_certificate.specs.Certificates.{node_fault, places_below}
+use Rattle.sep_certificate.specs.Steps.{first_fault}
 use Rattle.sep_parts.specs.Levels.{IsLevel, IsStack, left_half, places_of, right_half, root}
 
 -- a stack with the two halves of a level on it

@@ -1,24 +1,23 @@
 -- The law of certificate texts.
-use Rattle.std.proofs.Common.{◌≡◌, ℕ, zero, suc, ◌+◌, ◌-◌, ◌/◌, ◌%◌, ◌≤◌, ◌<◌, inl, inr, Bool, true, false, cond, not, ◌&&◌, ◌==◌, slice_index, take, arith, refl, sym, ◌∙◌, ap, subst, List, [], ◌∷◌, ◌++◌, append_assoc, append-nil, length, map, Some, None, All}
+use Rattle.std.proofs.Common.{◌≡◌, ℕ, zero, suc, ◌+◌, ◌-◌, ◌/◌, ◌%◌, ◌≤◌, inl, inr, Bool, true, false, cond, not, ◌&&◌, ◌==◌, slice_index, take, arith, refl, sym, ◌∙◌, ap, subst, List, [], ◌∷◌, ◌++◌, append_assoc, append-nil, length, map, Some, None, All}
 use Rattle.std.specs.List.{flat_map, slice_split}
 use Rattle.std.specs.Str.Lines.{lines, lines_of_parts, strip_carriage_return}
 use Rattle.std.proofs.lemmas.Bool.Decides.{nat_tests}
-use Rattle.std.proofs.lemmas.List.Concat.{flat_map-append}
 use Rattle.std.proofs.lemmas.List.Splits.{slice_split_at, length-slice_split}
 use Rattle.std.proofs.lemmas.List.Elements.{All-cons, All-head, All-tail}
 use Rattle.sep_parts.specs.Versions.{IsVersion, known_in}
 use Rattle.sep_certificate.specs.declared.certificate.Node.{Node}
 use Rattle.sep_certificate.specs.declared.certificate.Node.TheVariants.{Split, Leaf}
 use Rattle.sep_certificate.specs.declared.certificate.Certificate.{Certificate}
-use Rattle.sep_certificate.specs.Certificates.{IsKnown, IsTree, IsWhole, Tree, preorder}
-use Rattle.sep_certificate.specs.Certificates.Tree.{leaf, split}
+use Rattle.sep_certificate.specs.Certificates.{IsKnown, IsTree, IsWhole}
 use Rattle.sep_certificate.specs.Steps.{node_of_byte, wide_nodes}
-use Rattle.sep_certificate.specs.Texts.{Says, bad_from, bad_line, bad_tree, depth_line, fed, head_lines, is_spelled, is_spelled_wide, is_tree_line, node_text, text_of, tree_line, version_line}
+use Rattle.sep_certificate.specs.Texts.{Says, bad_from, bad_line, bad_tree, depth_line, fed, head_lines, text_of, tree_line, version_line}
 use Rattle.sep_certificate.specs.Readings.{TextLaw}
 use Rattle.sep_certificate.proofs.FirstLines.{strip_first}
 use Rattle.sep_certificate.proofs.Readers.{header_told}
-use Rattle.sep_certificate.proofs.Spelled.{all_back, leaf_test}
-use Rattle.sep_certificate.proofs.Digits.{dot_spelled, wide_back, word_spelled}
+use Rattle.sep_certificate.proofs.Spelled.{all_back}
+use Rattle.sep_certificate.proofs.Digits.{wide_back}
+use Rattle.sep_certificate.proofs.Grammar.{line_spelled, line_told_back, told_line}
 
 -- ---- lines without a line feed or a carriage return
 abbrev are_plain : List ℕ → Bool
@@ -98,51 +97,6 @@ written cert whole = record {
 }
 
 -- ---- no line is faulty
-all_front : {X : Type 0} (P : X → Type 0) (xs ys : List X) → All P (xs ++ ys) → All P xs
-all_front P [] ys all = λ k d inside. absurd (omega arith)
-all_front P (x ∷ xs) ys all = All-cons P x xs (All-head P x (xs ++ ys) all) (all_front P xs ys (All-tail P x (xs ++ ys) all))
-
-all_rest : {X : Type 0} (P : X → Type 0) (xs ys : List X) → All P (xs ++ ys) → All P ys
-all_rest P [] ys all = all
-all_rest P (x ∷ xs) ys all = all_rest P xs ys (All-tail P x (xs ++ ys) all)
-
--- the line of a tree of version 1 spells one tree more
-tree_spelled : (tree : Tree) (n : ℕ) (rest : List ℕ) → All (IsKnown 26) (preorder tree) → is_spelled (suc n) (tree_line 1 (preorder tree) ++ rest) ≡ is_spelled n rest
-tree_spelled (leaf dir) n rest known =
-    let small : dir < 26 = All-head (IsKnown 26) (Leaf dir) [] known in
-    leaf_test n (97 + dir) rest (omega arith) (omega arith)
-tree_spelled (split left right) n rest known =
-    let both : All (IsKnown 26) (preorder left ++ preorder right) = All-tail (IsKnown 26) Split (preorder left ++ preorder right) known in
-    ap (λ (bytes : List ℕ). is_spelled (suc (suc n)) bytes)
-    (ap (λ (bytes : List ℕ). bytes ++ rest) (flat_map-append (node_text 1) (preorder left) (preorder right)) ∙ append_assoc (tree_line 1 (preorder left)) (tree_line 1 (preorder right)) rest)
-    ∙ tree_spelled left (suc n) (tree_line 1 (preorder right) ++ rest) (all_front (IsKnown 26) (preorder left) (preorder right) both)
-    ∙ tree_spelled right n rest (all_rest (IsKnown 26) (preorder left) (preorder right) both)
-
--- so does that of a tree of version 2
-wide_spelled : (tree : Tree) (n : ℕ) (rest : List ℕ) → All (IsKnown 98) (preorder tree) → is_spelled_wide (suc n) (tree_line 2 (preorder tree) ++ rest) ≡ is_spelled_wide n rest
-wide_spelled (leaf dir) n rest known = word_spelled n dir rest (All-head (IsKnown 98) (Leaf dir) [] known)
-wide_spelled (split left right) n rest known =
-    let both : All (IsKnown 98) (preorder left ++ preorder right) = All-tail (IsKnown 98) Split (preorder left ++ preorder right) known in
-    dot_spelled n (tree_line 2 (preorder left ++ preorder right) ++ rest)
-    ∙ ap (λ (bytes : List ℕ). is_spelled_wide (suc (suc n)) bytes)
-    (ap (λ (bytes : List ℕ). bytes ++ rest) (flat_map-append (node_text 2) (preorder left) (preorder right)) ∙ append_assoc (tree_line 2 (preorder left)) (tree_line 2 (preorder right)) rest)
-    ∙ wide_spelled left (suc n) (tree_line 2 (preorder right) ++ rest) (all_front (IsKnown 98) (preorder left) (preorder right) both)
-    ∙ wide_spelled right n rest (all_rest (IsKnown 98) (preorder left) (preorder right) both)
-
-line_spelled : (version : ℕ) → IsVersion version → (nodes : List Node) → IsTree nodes → All (IsKnown (known_in version)) nodes → is_tree_line version (tree_line version nodes) ≡ true
-line_spelled version is nodes (tree, nodes_are) known = elim is [
-  | inl e ↦
-      subst (λ (v : ℕ). is_tree_line v (tree_line v nodes) ≡ true) (sym e)
-      (ap (λ (ns : List Node). is_spelled 1 (tree_line 1 ns)) nodes_are
-      ∙ ap (λ (bytes : List ℕ). is_spelled 1 bytes) (sym (append-nil (tree_line 1 (preorder tree))))
-      ∙ tree_spelled tree 0 [] (subst (λ (ns : List Node). All (IsKnown 26) ns) nodes_are (subst (λ (v : ℕ). All (IsKnown (known_in v)) nodes) e known)))
-  | inr e ↦
-      subst (λ (v : ℕ). is_tree_line v (tree_line v nodes) ≡ true) (sym e)
-      (ap (λ (ns : List Node). is_spelled_wide 1 (tree_line 2 ns)) nodes_are
-      ∙ ap (λ (bytes : List ℕ). is_spelled_wide 1 bytes) (sym (append-nil (tree_line 2 (preorder tree))))
-      ∙ wide_spelled tree 0 [] (subst (λ (ns : List Node). All (IsKnown 98) ns) nodes_are (subst (λ (v : ℕ). All (IsKnown (known_in v)) nodes) e known)))
-]
-
 no_bad : (version n : ℕ) → IsVersion version → (trees : List (List Node)) → All IsTree trees → All (All (IsKnown (known_in version))) trees → bad_tree version n (map (tree_line version) trees) ≡ None
 no_bad version n is [] whole known = refl
 no_bad version n is (nodes ∷ trees) whole known =
@@ -236,4 +190,4 @@ one text cert other says also =
     same_cert cert other parts.0 parts.1 parts.2
 
 pub texts : TextLaw
-texts = record { written = written; clean = clean; one = one }
+texts = record { tree = λ version line is. (told_line version line is, line_told_back version line is); written = written; clean = clean; one = one }

@@ -1,5 +1,5 @@
 -- No fault is found exactly where a certificate is valid.
-use Rattle.std.proofs.Common.{◌≡◌, ℕ, suc, ◌<◌, Bool, true, false, cond, nat_lt, arith, refl, sym, ◌∙◌, ap, List, [], ◌∷◌, ◌++◌, append_assoc, append-nil, Option, Some, None, ℤ, All}
+use Rattle.std.proofs.Common.{◌≡◌, ℕ, suc, ◌<◌, Bool, true, false, cond, nat_lt, arith, refl, sym, ◌∙◌, ap, List, [], ◌∷◌, Option, Some, None, ℤ, All}
 use Rattle.std.specs.Option.{option_or, option_map}
 use Rattle.std.proofs.lemmas.Bool.Decides.{nat_tests}
 use Rattle.std.proofs.lemmas.List.Elements.{All-head, All-tail}
@@ -14,9 +14,10 @@ use Rattle.sep_parts.specs.Directions.{direction_of, threshold}
 use Rattle.sep_parts.specs.Separates.{low_value, least_value, part_along}
 use Rattle.sep_parts.specs.Levels.{left_half, right_half, root}
 use Rattle.sep_parts.specs.Raised.{Raised, difference}
-use Rattle.sep_certificate.specs.Certificates.{Tree, IsTree, IsValidTree, AreValid, preorder, first_fault, first_fault_of}
+use Rattle.sep_certificate.specs.Certificates.{Tree, IsTree, IsValidTree, AreValid, first_fault_of, spelled_fault, tree_fault}
 use Rattle.sep_certificate.specs.Certificates.Tree.{leaf, split}
 use Rattle.sep_parts.proofs.Lows.{first_low-values, first_low-none}
+use Rattle.sep_certificate.proofs.Trees.{fault_of_tree}
 
 or_none : {X : Type 0} (a b : Option X) → option_or a b ≡ None → (a ≡ None) × (b ≡ None)
 or_none None b e = (refl, e)
@@ -31,41 +32,6 @@ map_none f None e = refl
 map_none f (Some x) e = cc
 
 module _ (rules : Rules) (dirs : List (List ℤ)) (diff : List (Bez 8)) (slot : Slot) where
-  -- ---- the fault of a tree
-  abbrev tree_fault : Place → Tree → Option CertFault
-  tree_fault place (leaf dir) = option_map (Fails slot.a slot.b slot.cue place dir) (low_value rules.r rules.h diff place (direction_of dirs dir))
-  tree_fault place (split left right) =
-      option_or (cond (nat_lt place.depth rules.depth) None (Some (TooDeep slot.a slot.b slot.cue)))
-      (option_or (tree_fault (left_half place) left) (tree_fault (right_half place) right))
-
-  or_assoc : (a b c : Option CertFault) → option_or (option_or a b) c ≡ option_or a (option_or b c)
-  or_assoc None b c = refl
-  or_assoc (Some x) b c = refl
-
-  -- the nodes of a tree have its fault, and then comes what stands behind them
-  spelled : (tree : Tree) (place : Place) (places : List Place) (nodes : List Node) →
-      first_fault rules dirs diff slot (place ∷ places) (preorder tree ++ nodes) ≡ option_or (tree_fault place tree) (first_fault rules dirs diff slot places nodes)
-  unfolding first_fault
-  spelled (leaf dir) place places nodes = refl
-  spelled (split left right) place places nodes =
-      let none : Option CertFault = cond (nat_lt place.depth rules.depth) None (Some (TooDeep slot.a slot.b slot.cue)) in
-      ap (λ (ns : List Node). option_or none (first_fault rules dirs diff slot (left_half place ∷ right_half place ∷ places) ns)) (append_assoc (preorder left) (preorder right) nodes)
-      ∙ ap (λ (o : Option CertFault). option_or none o)
-      (spelled left (left_half place) (right_half place ∷ places) (preorder right ++ nodes)
-      ∙ ap (λ (o : Option CertFault). option_or (tree_fault (left_half place) left) o) (spelled right (right_half place) places nodes)
-      ∙ sym (or_assoc (tree_fault (left_half place) left) (tree_fault (right_half place) right) (first_fault rules dirs diff slot places nodes)))
-      ∙ sym (or_assoc none (option_or (tree_fault (left_half place) left) (tree_fault (right_half place) right)) (first_fault rules dirs diff slot places nodes))
-
-  pub tree_fault_of : (tree : Tree) → first_fault rules dirs diff slot (root ∷ []) (preorder tree) ≡ tree_fault root tree
-  unfolding first_fault
-  tree_fault_of tree =
-      ap (λ (ns : List Node). first_fault rules dirs diff slot (root ∷ []) ns) (sym (append-nil (preorder tree)))
-      ∙ spelled tree root [] [] ∙ or_nothing (tree_fault root tree)
-    where
-      or_nothing : (o : Option CertFault) → option_or o None ≡ o
-      or_nothing None = refl
-      or_nothing (Some x) = refl
-
   -- ---- no fault is validity
   depth_told : (d e : ℕ) (f : CertFault) → cond (nat_lt d e) None (Some f) ≡ None → d < e
   depth_told d e f is = go (nat_lt d e) refl is
@@ -74,23 +40,23 @@ module _ (rules : Rules) (dirs : List (List ℤ)) (diff : List (Bez 8)) (slot : 
       go true test is = grind (arith, nat_tests)
       go false test is = cc
 
-  pub valid_from : (tree : Tree) (place : Place) → tree_fault place tree ≡ None → IsValidTree rules dirs diff place tree
+  pub valid_from : (tree : Tree) (place : Place) → tree_fault rules dirs diff slot place tree ≡ None → IsValidTree rules dirs diff place tree
   valid_from (leaf dir) place none =
       first_low-values (part_along rules.r rules.h diff place (direction_of dirs dir)) (least_value (threshold rules.r rules.h (direction_of dirs dir)) place.depth)
       (map_none (Fails slot.a slot.b slot.cue place dir) (low_value rules.r rules.h diff place (direction_of dirs dir)) none)
   valid_from (split left right) place none =
-      let first : _ × _ = or_none (cond (nat_lt place.depth rules.depth) None (Some (TooDeep slot.a slot.b slot.cue))) (option_or (tree_fault (left_half place) left) (tree_fault (right_half place) right)) none in
-      let second : _ × _ = or_none (tree_fault (left_half place) left) (tree_fault (right_half place) right) first.1 in
+      let first : _ × _ = or_none (cond (nat_lt place.depth rules.depth) None (Some (TooDeep slot.a slot.b slot.cue))) (option_or (tree_fault rules dirs diff slot (left_half place) left) (tree_fault rules dirs diff slot (right_half place) right)) none in
+      let second : _ × _ = or_none (tree_fault rules dirs diff slot (left_half place) left) (tree_fault rules dirs diff slot (right_half place) right) first.1 in
       (depth_told place.depth rules.depth (TooDeep slot.a slot.b slot.cue) first.0, valid_from left (left_half place) second.0, valid_from right (right_half place) second.1)
 
-  pub none_from : (tree : Tree) (place : Place) → IsValidTree rules dirs diff place tree → tree_fault place tree ≡ None
+  pub none_from : (tree : Tree) (place : Place) → IsValidTree rules dirs diff place tree → tree_fault rules dirs diff slot place tree ≡ None
   none_from (leaf dir) place valid =
       ap (λ (o : Option ℕ). option_map (Fails slot.a slot.b slot.cue place dir) o)
       (first_low-none (part_along rules.r rules.h diff place (direction_of dirs dir)) (least_value (threshold rules.r rules.h (direction_of dirs dir)) place.depth) valid)
   none_from (split left right) place valid =
-      or_first (cond (nat_lt place.depth rules.depth) None (Some (TooDeep slot.a slot.b slot.cue))) (option_or (tree_fault (left_half place) left) (tree_fault (right_half place) right))
+      or_first (cond (nat_lt place.depth rules.depth) None (Some (TooDeep slot.a slot.b slot.cue))) (option_or (tree_fault rules dirs diff slot (left_half place) left) (tree_fault rules dirs diff slot (right_half place) right))
       (let test : nat_lt place.depth rules.depth ≡ true = shallow place.depth rules.depth valid.0 in rw test refl)
-      (or_first (tree_fault (left_half place) left) (tree_fault (right_half place) right) (none_from left (left_half place) valid.1) (none_from right (right_half place) valid.2))
+      (or_first (tree_fault rules dirs diff slot (left_half place) left) (tree_fault rules dirs diff slot (right_half place) right) (none_from left (left_half place) valid.1) (none_from right (right_half place) valid.2))
     where
       shallow : (d e : ℕ) → d < e → nat_lt d e ≡ true
       shallow d e less = grind (arith, nat_tests)
@@ -103,15 +69,10 @@ valid_of rules dirs curves [] n [] whole none = tt
 valid_of rules dirs curves [] n (nodes ∷ trees) whole none = absurd (cc)
 valid_of rules dirs curves (slot ∷ slots) n [] whole none = absurd (cc)
 valid_of rules dirs curves (slot ∷ slots) n (nodes ∷ trees) whole none =
-    let parts : _ × _ = or_none (first_fault rules dirs (difference curves slot.a slot.b slot.cue) slot (root ∷ []) nodes) (first_fault_of rules dirs curves slots (suc n) trees) none in
+    let diff : List (Bez 8) = difference curves slot.a slot.b slot.cue in
+    let parts : _ × _ = or_none (spelled_fault rules dirs diff slot nodes) (first_fault_of rules dirs curves slots (suc n) trees) none in
     let tree : IsTree nodes = All-head IsTree nodes trees whole in (
-      (
-        tree.0,
-        tree.1,
-        valid_from rules dirs (difference curves slot.a slot.b slot.cue) slot tree.0 root
-            (sym (tree_fault_of rules dirs (difference curves slot.a slot.b slot.cue) slot tree.0)
-            ∙ ap (λ (ns : List Node). first_fault rules dirs (difference curves slot.a slot.b slot.cue) slot (root ∷ []) ns) (sym tree.1) ∙ parts.0),
-      ),
+      (tree.0, tree.1, valid_from rules dirs diff slot tree.0 root (sym (fault_of_tree rules dirs diff slot tree.0 nodes tree.1) ∙ parts.0)),
       valid_of rules dirs curves slots (suc n) trees (All-tail IsTree nodes trees whole) parts.1,
     )
 
@@ -122,8 +83,7 @@ none_of_valid rules dirs curves [] n [] valid = refl
 none_of_valid rules dirs curves [] n (nodes ∷ trees) valid = absurd valid
 none_of_valid rules dirs curves (slot ∷ slots) n [] valid = absurd valid
 none_of_valid rules dirs curves (slot ∷ slots) n (nodes ∷ trees) valid =
-    or_first (first_fault rules dirs (difference curves slot.a slot.b slot.cue) slot (root ∷ []) nodes) (first_fault_of rules dirs curves slots (suc n) trees)
-    (ap (λ (ns : List Node). first_fault rules dirs (difference curves slot.a slot.b slot.cue) slot (root ∷ []) ns) valid.0.1
-    ∙ tree_fault_of rules dirs (difference curves slot.a slot.b slot.cue) slot valid.0.0
-    ∙ none_from rules dirs (difference curves slot.a slot.b slot.cue) slot valid.0.0 root valid.0.2)
+    let diff : List (Bez 8) = difference curves slot.a slot.b slot.cue in
+    or_first (spelled_fault rules dirs diff slot nodes) (first_fault_of rules dirs curves slots (suc n) trees)
+    (fault_of_tree rules dirs diff slot valid.0.0 nodes valid.0.1 ∙ none_from rules dirs diff slot valid.0.0 root valid.0.2)
     (none_of_valid rules dirs curves slots (suc n) trees valid.1)

@@ -11,8 +11,7 @@ use Rattle.sep_certificate.specs.declared.certificate.CertFault.TheVariants.{Mis
 use Rattle.bezier_core.specs.declared.Bez.{Bez}
 use Rattle.sep_parts.proofs.Differences.{same_default}
 use Rattle.sep_parts.specs.Raised.{Raised, difference}
-use Rattle.sep_parts.specs.Levels.{root}
-use Rattle.sep_certificate.specs.Certificates.{first_fault, first_fault_of}
+use Rattle.sep_certificate.specs.Certificates.{first_fault_of, spelled_fault}
 use Rattle.sep_parts.proofs.Orders.{IsAhead, IsFrom}
 
 pub none_ahead : (drones cues : ℕ) (s : Slot) (rest : List Slot) → drones ≤ s.b → IsAhead drones cues s rest → rest ≡ []
@@ -44,19 +43,19 @@ module _ (rules : Rules) (dirs : List (List ℤ)) (curves : Raised) where
 
   tree_step : (rest next : List Slot) (s : Slot) (n i : ℕ) (trees : List (List Node)) → rest ≡ s ∷ next → i < length trees →
       first_fault_of rules dirs curves rest n (drop i trees)
-      ≡ option_or (first_fault rules dirs (difference curves s.a s.b s.cue) s (root ∷ []) (get_or trees i [])) (first_fault_of rules dirs curves next (suc n) (drop (suc i) trees))
+      ≡ option_or (spelled_fault rules dirs (difference curves s.a s.b s.cue) s (get_or trees i [])) (first_fault_of rules dirs curves next (suc n) (drop (suc i) trees))
   unfolding first_fault_of
   tree_step rest next s n i trees some inside = rw (some, drop-cons trees i []) refl
 
   pub tree_faulty : (rest next : List Slot) (s : Slot) (n i : ℕ) (trees : List (List Node)) (fault : CertFault) (whole : Option CertFault) → rest ≡ s ∷ next → i < length trees →
-      first_fault rules dirs (difference curves s.a s.b s.cue) s (root ∷ []) (get_or trees i []) ≡ Some fault →
+      spelled_fault rules dirs (difference curves s.a s.b s.cue) s (get_or trees i []) ≡ Some fault →
       first_fault_of rules dirs curves rest n (drop i trees) ≡ whole → Some fault ≡ whole
   tree_faulty rest next s n i trees fault whole some inside bad same =
       sym (ap (λ (o : Option CertFault). option_or o (first_fault_of rules dirs curves next (suc n) (drop (suc i) trees))) bad)
       ∙ sym (tree_step rest next s n i trees some inside) ∙ same
 
   pub tree_clean : (rest next : List Slot) (s : Slot) (n i : ℕ) (trees : List (List Node)) (whole : Option CertFault) → rest ≡ s ∷ next → i < length trees →
-      first_fault rules dirs (difference curves s.a s.b s.cue) s (root ∷ []) (get_or trees i []) ≡ None →
+      spelled_fault rules dirs (difference curves s.a s.b s.cue) s (get_or trees i []) ≡ None →
       first_fault_of rules dirs curves rest n (drop i trees) ≡ whole → first_fault_of rules dirs curves next (n + 1) (drop (i + 1) trees) ≡ whole
   tree_clean rest next s n i trees whole some inside good same =
       let n_up : n + 1 ≡ suc n = omega arith in
@@ -66,8 +65,8 @@ module _ (rules : Rules) (dirs : List (List ℤ)) (curves : Raised) where
 
   -- what a check of the tree at a place told
   pub tree_told : (s : Slot) (trees : List (List Node)) (i : ℕ) (diff : List (Bez 8)) (nodes item : List Node) (answer : Option CertFault) → i < length trees →
-      diff ≡ difference curves s.a s.b s.cue → nodes ≡ item → item ≡ get_or trees i item → answer ≡ first_fault rules dirs diff s (root ∷ []) nodes →
-      first_fault rules dirs (difference curves s.a s.b s.cue) s (root ∷ []) (get_or trees i []) ≡ answer
+      diff ≡ difference curves s.a s.b s.cue → nodes ≡ item → item ≡ get_or trees i item → answer ≡ spelled_fault rules dirs diff s nodes →
+      spelled_fault rules dirs (difference curves s.a s.b s.cue) s (get_or trees i []) ≡ answer
   tree_told s trees i diff nodes item answer inside diff_is nodes_is item_is is =
       let e : nodes ≡ get_or trees i [] = nodes_is ∙ item_is ∙ same_default trees i item [] inside in
-      sym (is ∙ ap (λ (d : List (Bez 8)). first_fault rules dirs d s (root ∷ []) nodes) diff_is ∙ ap (λ (ns : List Node). first_fault rules dirs (difference curves s.a s.b s.cue) s (root ∷ []) ns) e)
+      sym (is ∙ ap (λ (d : List (Bez 8)). spelled_fault rules dirs d s nodes) diff_is ∙ ap (λ (ns : List Node). spelled_fault rules dirs (difference curves s.a s.b s.cue) s ns) e)

@@ -1,6 +1,6 @@
 -- Certificates: trees of places, the lists that spell them, and when they are valid.
 use Rattle.std.specs.Prelude.{◌≡◌, ℕ, suc, ◌^◌, ◌≤◌, ◌<◌, ℤ, nat_lt, List, [], ◌∷◌, ◌++◌, length, Option, Some, None, if◌then◌else◌, All}
-use Rattle.std.specs.Option.{option_map, option_or}
+use Rattle.std.specs.Option.{option_flatten, option_map, option_or}
 use Rattle.bezier_core.specs.declared.Bez.{Bez}
 use Rattle.halving.specs.declared.Place.{Place}
 use Rattle.sep_certificate.specs.declared.certificate.Node.{Node}
@@ -13,7 +13,7 @@ use Rattle.sep_certificate.specs.declared.judge.Rules.{Rules}
 use Rattle.sep_parts.specs.Directions.{direction_of}
 use Rattle.sep_parts.specs.Versions.{IsVersion, known_in}
 use Rattle.sep_parts.specs.Separates.{Separates, low_value}
-use Rattle.sep_parts.specs.Slots.{slots}
+use Rattle.sep_parts.specs.Slots.{IsSlot, slot_at, slots}
 use Rattle.sep_parts.specs.Levels.{left_half, right_half, root}
 use Rattle.sep_parts.specs.Raised.{Raised, difference}
 
@@ -31,6 +31,28 @@ preorder (split left right) = Split ∷ preorder left ++ preorder right
 -- the list spells a tree
 abbrev pub IsTree : List Node → Type 0
 IsTree nodes = (tree : Tree) × (nodes ≡ preorder tree)
+
+-- a split before trees: the first two are its halves, and without two there is none
+abbrev pub split_before : List Tree → Option (List Tree)
+split_before [] = None
+split_before (left ∷ []) = None
+split_before (left ∷ right ∷ trees) = Some (split left right ∷ trees)
+
+-- the trees that a list of nodes spells, one after another; none where a split lacks a half
+abbrev pub spelled_trees : List Node → Option (List Tree)
+spelled_trees [] = Some []
+spelled_trees (Leaf dir ∷ nodes) = option_map (λ trees. leaf dir ∷ trees) (spelled_trees nodes)
+spelled_trees (Split ∷ nodes) = option_flatten (option_map split_before (spelled_trees nodes))
+
+-- the first of trees, where it is the only one
+abbrev pub only_tree : List Tree → Option Tree
+only_tree [] = None
+only_tree (tree ∷ []) = Some tree
+only_tree (tree ∷ other ∷ trees) = None
+
+-- The tree that a list of nodes spells, where it is the preorder of one.
+abbrev pub spelled_tree : List Node → Option Tree
+spelled_tree nodes = option_flatten (option_map only_tree (spelled_trees nodes))
 
 -- each leaf of a tree names one of so many directions
 abbrev pub IsKnown : ℕ → Node → Type 0
@@ -79,18 +101,21 @@ node_fault rules dirs diff slot place Split =
 node_fault rules dirs diff slot place (Leaf dir) =
     option_map (Fails slot.a slot.b slot.cue place dir) (low_value rules.r rules.h diff place (direction_of dirs dir))
 
--- the places that stand behind a node's place in preorder, before the others
+-- the places that stand after a node's place in preorder, before the others
 abbrev pub places_below : Place → Node → List Place
 places_below place Split = left_half place ∷ right_half place ∷ []
 places_below place (Leaf dir) = []
 
--- The first fault of a list of nodes in preorder, whose trees stand at these places.
-unfoldable pub first_fault : Rules → List (List ℤ) → List (Bez 8) → Slot → List Place → List Node → Option CertFault
-first_fault rules dirs diff slot places [] = None
-first_fault rules dirs diff slot [] (node ∷ nodes) = None
-first_fault rules dirs diff slot (place ∷ places) (node ∷ nodes) =
-    option_or (node_fault rules dirs diff slot place node)
-    (first_fault rules dirs diff slot (places_below place node ++ places) nodes)
+-- The first fault of a tree at a place: of a leaf its own; of a split its own, else that of the first half, else that of the second.
+abbrev pub tree_fault : Rules → List (List ℤ) → List (Bez 8) → Slot → Place → Tree → Option CertFault
+tree_fault rules dirs diff slot place (leaf dir) = node_fault rules dirs diff slot place (Leaf dir)
+tree_fault rules dirs diff slot place (split left right) =
+    option_or (node_fault rules dirs diff slot place Split)
+    (option_or (tree_fault rules dirs diff slot (left_half place) left) (tree_fault rules dirs diff slot (right_half place) right))
+
+-- The first fault of the tree that a list of nodes spells.
+unfoldable pub spelled_fault : Rules → List (List ℤ) → List (Bez 8) → Slot → List Node → Option CertFault
+spelled_fault rules dirs diff slot nodes = option_flatten (option_map (tree_fault rules dirs diff slot root) (spelled_tree nodes))
 
 -- The first fault of trees against slots: that of the trees in order, then the first slot without a tree,
 -- or the first tree too many, whose number is n and more.
@@ -99,7 +124,7 @@ first_fault_of rules dirs curves [] n [] = None
 first_fault_of rules dirs curves [] n (nodes ∷ trees) = Some (Extra n)
 first_fault_of rules dirs curves (slot ∷ slots) n [] = Some (Missing slot.a slot.b slot.cue)
 first_fault_of rules dirs curves (slot ∷ slots) n (nodes ∷ trees) =
-    option_or (first_fault rules dirs (difference curves slot.a slot.b slot.cue) slot (root ∷ []) nodes)
+    option_or (spelled_fault rules dirs (difference curves slot.a slot.b slot.cue) slot nodes)
     (first_fault_of rules dirs curves slots (suc n) trees)
 
 -- ---- the certificate as a whole
@@ -113,3 +138,12 @@ IsValid dirs curves r h cert = AreValid (rules_of r h cert) dirs curves (slots c
 
 abbrev pub fault_of : List (List ℤ) → Raised → ℕ → ℕ → Certificate → Option CertFault
 fault_of dirs curves r h cert = first_fault_of (rules_of r h cert) dirs curves (slots curves.drones curves.cues) 0 cert.trees
+
+-- What a fault names is there: a pair of drones and a cue of the curves, a tree of the certificate, a direction of its version,
+-- one of eight control values.
+abbrev pub IsFaultOf : Raised → Certificate → CertFault → Type 0
+IsFaultOf curves cert (Missing a b cue) = IsSlot curves.drones curves.cues (slot_at a b cue)
+IsFaultOf curves cert (Extra tree) = tree < length cert.trees
+IsFaultOf curves cert (TooDeep a b cue) = IsSlot curves.drones curves.cues (slot_at a b cue)
+IsFaultOf curves cert (Fails a b cue place dir control) =
+    IsSlot curves.drones curves.cues (slot_at a b cue) × (dir < known_in cert.version) × (control < 8)

@@ -1,11 +1,12 @@
 -- What a reading of a certificate text gives, and the law of such texts.
-use Rattle.std.specs.Prelude.{◌≡◌, ℕ, List, Some, None, Result, Ok, Err}
+use Rattle.std.specs.Prelude.{◌≡◌, ◌↔◌, ℕ, true, List, Some, None, Result, Ok, Err}
 use Rattle.std.specs.Str.Lines.{lines}
+use Rattle.sep_parts.specs.Versions.{IsVersion}
 use Rattle.sep_certificate.specs.declared.certificate.Certificate.{Certificate}
 use Rattle.sep_certificate.specs.declared.text.CertTextFault.{CertTextFault}
 use Rattle.sep_certificate.specs.declared.text.CertTextFault.TheVariants.{Line, Memory}
 use Rattle.sep_certificate.specs.Certificates.{IsWhole}
-use Rattle.sep_certificate.specs.Texts.{Says, bad_line, text_of}
+use Rattle.sep_certificate.specs.Texts.{IsTreeLine, Says, bad_line, is_tree_line, text_of}
 
 -- the certificate that the text says, where no line is faulty; its first faulty line; or want of memory
 abbrev pub ReadingGives : List ℕ → Result Certificate CertTextFault → Type 0
@@ -13,8 +14,10 @@ ReadingGives text (Ok cert) = Says text cert × (bad_line (lines text) ≡ None)
 ReadingGives text (Err (Line line)) = bad_line (lines text) ≡ Some line
 ReadingGives text (Err Memory) = Unit {0}
 
--- The text that is written says its certificate; a text that says one has no faulty line, and says no other.
+-- A line is one whole tree exactly where it is the line of one. The text that is written says its certificate; a text that says one
+-- has no faulty line, and says no other.
 pub record TextLaw : Type 0 where
+  pub tree : (version : ℕ) (line : List ℕ) → IsVersion version → (is_tree_line version line ≡ true) ↔ IsTreeLine version line
   pub written : (cert : Certificate) → IsWhole cert → Says (text_of cert) cert
   pub clean : (text : List ℕ) (cert : Certificate) → Says text cert → bad_line (lines text) ≡ None
   pub one : (text : List ℕ) (cert other : Certificate) → Says text cert → Says text other → cert ≡ other

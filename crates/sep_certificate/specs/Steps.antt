@@ -1,15 +1,28 @@
 -- Words of private steps of the checker and of the reader. No public clause cites them.
-use Rattle.std.specs.Prelude.{◌≡◌, ◌⊎◌, ℕ, ◌-◌, ◌≤◌, ◌<◌, ◌==◌, true, false, List, [], ◌∷◌, map, All, Option, Some, None, Result, Ok, Err, if◌then◌else◌}
+use Rattle.std.specs.Prelude.{◌≡◌, ◌⊎◌, ℕ, zero, suc, ◌-◌, ◌≤◌, ◌<◌, ◌==◌, ℤ, Bool, true, false, List, [], ◌∷◌, ◌++◌, map, All, Option, Some, None, Result, Ok, Err, if◌then◌else◌}
+use Rattle.std.specs.Option.{option_or}
 use Rattle.std.specs.Str.Lines.{lines}
+use Rattle.bezier_core.specs.declared.Bez.{Bez}
 use Rattle.halving.specs.declared.Place.{Place}
 use Rattle.sep_certificate.specs.declared.certificate.Node.{Node}
 use Rattle.sep_certificate.specs.declared.certificate.Node.TheVariants.{Split, Leaf}
 use Rattle.sep_certificate.specs.declared.certificate.Certificate.{Certificate}
 use Rattle.sep_certificate.specs.declared.text.CertTextFault.{CertTextFault}
 use Rattle.sep_certificate.specs.declared.text.CertTextFault.TheVariants.{Line, Memory}
+use Rattle.sep_certificate.specs.declared.certificate.CertFault.{CertFault}
+use Rattle.sep_certificate.specs.declared.judge.Rules.{Rules}
+use Rattle.sep_parts.specs.declared.slot.Slot.{Slot}
 use Rattle.sep_parts.specs.Versions.{known_in}
-use Rattle.sep_certificate.specs.Certificates.{IsKnown, IsTree, IsWholeIn}
-use Rattle.sep_certificate.specs.Texts.{bad_from, depth_line, is_tree_line, is_wide_leaf, tree_line, two_digits}
+use Rattle.sep_certificate.specs.Certificates.{IsKnown, IsTree, IsWholeIn, node_fault, places_below}
+use Rattle.sep_certificate.specs.Texts.{bad_from, depth_line, is_letter, is_tree_line, is_wide_leaf, tree_line, two_digits}
+
+-- The first fault of a list of nodes in preorder, whose trees stand at these places: what the checker finds with its stack.
+unfoldable pub first_fault : Rules → List (List ℤ) → List (Bez 8) → Slot → List Place → List Node → Option CertFault
+first_fault rules dirs diff slot places [] = None
+first_fault rules dirs diff slot [] (node ∷ nodes) = None
+first_fault rules dirs diff slot (place ∷ places) (node ∷ nodes) =
+    option_or (node_fault rules dirs diff slot place node)
+    (first_fault rules dirs diff slot (places_below place node ++ places) nodes)
 
 -- a control value has one of eight numbers
 abbrev pub IsControl : Option ℕ → Type 0
@@ -24,6 +37,23 @@ IsShallow place (Leaf dir) = Unit {0}
 -- a byte of a line is `.` or not below `a`
 abbrev pub IsNodeByte : ℕ → Type 0
 IsNodeByte b = (b ≡ 46) ⊎ (97 ≤ b)
+
+-- the bytes spell n trees of version 1, one after another, and nothing more: what the reader counts
+abbrev pub is_spelled : ℕ → List ℕ → Bool
+is_spelled zero [] = true
+is_spelled zero (b ∷ bytes) = false
+is_spelled (suc n) [] = false
+is_spelled (suc n) (b ∷ bytes) =
+    if b == 46 then is_spelled (suc (suc n)) bytes else if is_letter b then is_spelled n bytes else false
+
+-- the same of version 2
+abbrev pub is_spelled_wide : ℕ → List ℕ → Bool
+is_spelled_wide zero [] = true
+is_spelled_wide zero (b ∷ bytes) = false
+is_spelled_wide (suc n) [] = false
+is_spelled_wide (suc n) (b ∷ []) = false
+is_spelled_wide (suc n) (b ∷ c ∷ bytes) =
+    if b == 46 then is_spelled_wide (suc (suc n)) (c ∷ bytes) else if is_wide_leaf b c then is_spelled_wide n bytes else false
 
 -- the direction that two digits in front of a line name, where they name one
 abbrev pub leaf_in : List ℕ → Option ℕ

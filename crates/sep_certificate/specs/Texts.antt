@@ -1,11 +1,12 @@
 -- The text of a certificate.
-use Rattle.std.specs.Prelude.{◌≡◌, ℕ, zero, suc, ◌+◌, ◌-◌, ◌*◌, Bool, true, false, ◌&&◌, nat_le, nat_lt, ◌==◌, bytes_eq, List, [], ◌∷◌, ◌++◌, map, flat_map, slice_index, Option, Some, None, codes, if◌then◌else◌}
+use Rattle.std.specs.Prelude.{◌≡◌, ℕ, suc, ◌+◌, ◌-◌, ◌*◌, Bool, ◌&&◌, nat_le, nat_lt, ◌==◌, bytes_eq, List, [], ◌∷◌, ◌++◌, map, flat_map, slice_index, All, Option, Some, None, codes, if◌then◌else◌}
+use Rattle.std.specs.Option.{is_some, option_flatten, option_map}
 use Rattle.std.specs.Str.Lines.{lines}
-use Rattle.sep_parts.specs.Versions.{direction_word}
+use Rattle.sep_parts.specs.Versions.{direction_word, known_in}
 use Rattle.sep_certificate.specs.declared.certificate.Node.{Node}
 use Rattle.sep_certificate.specs.declared.certificate.Node.TheVariants.{Split, Leaf}
 use Rattle.sep_certificate.specs.declared.certificate.Certificate.{Certificate}
-use Rattle.sep_certificate.specs.Certificates.{IsWhole}
+use Rattle.sep_certificate.specs.Certificates.{IsKnown, IsWhole, Tree, preorder, spelled_tree}
 
 -- `.` is a split, and a leaf is the word of its direction in the version: a letter in version 1, two digits in version 2
 abbrev pub node_text : ℕ → Node → List ℕ
@@ -45,13 +46,12 @@ pub record Says (text : List ℕ) (cert : Certificate) : Type 0 where
 abbrev pub is_letter : ℕ → Bool
 is_letter b = nat_le 97 b && nat_le b 122
 
--- the bytes spell so many trees of version 1, one behind the other, and nothing more
-abbrev pub is_spelled : ℕ → List ℕ → Bool
-is_spelled zero [] = true
-is_spelled zero (b ∷ bytes) = false
-is_spelled (suc n) [] = false
-is_spelled (suc n) (b ∷ bytes) =
-    if b == 46 then is_spelled (suc (suc n)) bytes else if is_letter b then is_spelled n bytes else false
+-- the nodes that the bytes of a line of version 1 spell: `.` is a split, and a letter a leaf with the direction of its number
+abbrev pub letter_nodes : List ℕ → Option (List Node)
+letter_nodes [] = Some []
+letter_nodes (b ∷ bytes) =
+    if b == 46 then option_map (λ nodes. Split ∷ nodes) (letter_nodes bytes)
+    else if is_letter b then option_map (λ nodes. Leaf (b - 97) ∷ nodes) (letter_nodes bytes) else None
 
 abbrev pub is_digit : ℕ → Bool
 is_digit b = nat_le 48 b && nat_le b 57
@@ -64,18 +64,25 @@ two_digits b c = (b - 48) * 10 + (c - 48)
 abbrev pub is_wide_leaf : ℕ → ℕ → Bool
 is_wide_leaf b c = is_digit b && is_digit c && nat_lt (two_digits b c) 98
 
--- the bytes spell so many trees of version 2, one behind the other, and nothing more
-abbrev pub is_spelled_wide : ℕ → List ℕ → Bool
-is_spelled_wide zero [] = true
-is_spelled_wide zero (b ∷ bytes) = false
-is_spelled_wide (suc n) [] = false
-is_spelled_wide (suc n) (b ∷ []) = false
-is_spelled_wide (suc n) (b ∷ c ∷ bytes) =
-    if b == 46 then is_spelled_wide (suc (suc n)) (c ∷ bytes) else if is_wide_leaf b c then is_spelled_wide n bytes else false
+-- the nodes that the bytes of a line of version 2 spell: `.` is a split, and two digits below 98 are a leaf
+abbrev pub digit_nodes : List ℕ → Option (List Node)
+digit_nodes [] = Some []
+digit_nodes (b ∷ []) = if b == 46 then Some (Split ∷ []) else None
+digit_nodes (b ∷ c ∷ bytes) =
+    if b == 46 then option_map (λ nodes. Split ∷ nodes) (digit_nodes (c ∷ bytes))
+    else if is_wide_leaf b c then option_map (λ nodes. Leaf (two_digits b c) ∷ nodes) (digit_nodes bytes) else None
 
--- the line is one whole tree of the version
-abbrev pub is_tree_line : ℕ → List ℕ → Bool
-is_tree_line version line = if version == 1 then is_spelled 1 line else is_spelled_wide 1 line
+-- the nodes that a line spells, by the version
+abbrev pub line_nodes : ℕ → List ℕ → Option (List Node)
+line_nodes version line = if version == 1 then letter_nodes line else digit_nodes line
+
+-- Whether a line is one whole tree of the version: its bytes spell nodes, and these spell one tree.
+unfoldable pub is_tree_line : ℕ → List ℕ → Bool
+is_tree_line version line = is_some (option_flatten (option_map spelled_tree (line_nodes version line)))
+
+-- The line is that of a tree whose leaves name directions of the version.
+abbrev pub IsTreeLine : ℕ → List ℕ → Type 0
+IsTreeLine version line = (tree : Tree) × (line ≡ tree_line version (preorder tree)) × All (IsKnown (known_in version)) (preorder tree)
 
 -- the line says some depth from 0 to 8
 abbrev pub is_depth_line : List ℕ → Bool

@@ -1,15 +1,15 @@
 //! The checker of certificates.
 
-ghost use Rattle.std.specs.Prelude.{◌≡◌, ℕ, ◌+◌, ◌*◌, ◌^◌, ◌≤◌, ◌<◌, ◌↔◌, ◌∷◌, ◌++◌, [], length, map, All, IsOk, MatchResult};
+ghost use Rattle.std.specs.Prelude.{◌≡◌, ℕ, ◌+◌, ◌*◌, ◌^◌, ◌≤◌, ◌<◌, ◌↔◌, ◌∷◌, ◌++◌, [], length, map, All, IfErr, IsOk, MatchResult};
 ghost use Rattle.std.specs.Option.{option_map};
 ghost use Rattle.fleet_math.specs.Numbers.{IsBelow};
 ghost use Rattle.sep_parts.specs.Directions.{AreSmall, IsAxis, threshold};
 ghost use Rattle.sep_parts.specs.Versions.{IsVersion, known_in, table_of};
 ghost use Rattle.sep_parts.specs.Apart.{KeepsApart};
 ghost use Rattle.sep_parts.specs.Slots.{slots};
-ghost use Rattle.sep_parts.specs.Levels.{IsLevel, IsStack, places_of, root};
+ghost use Rattle.sep_parts.specs.Levels.{IsLevel, IsStack, places_of};
 ghost use Rattle.sep_certificate.specs.Laws.{CertificateLaw};
-ghost use Rattle.sep_certificate.specs.Certificates.{IsKnown, IsValid, IsWhole, fault_of, first_fault, first_fault_of, node_fault, places_below};
+ghost use Rattle.sep_certificate.specs.Certificates.{IsFaultOf, IsKnown, IsTree, IsValid, IsWhole, fault_of, first_fault_of, node_fault, places_below, spelled_fault};
 ghost use Rattle.sep_certificate.specs.Steps.{IsControl, IsShallow};
 
 use crate::certificate::{CertFault, Certificate, Node};
@@ -34,8 +34,9 @@ pub struct Rules {
 /// Whether a certificate is valid for the curves of a fleet, with ellipsoids of half axes `r`, `r` and `h` in millimetres.
 ///
 /// Ok exactly where there is one tree for each pair and cue, no tree has a split at the certificate's depth, and each leaf's
-/// direction, one of the table of its version, separates its part. Else the first fault: trees of a pair and cue in order, in each the nodes in preorder; then
-/// the first pair and cue without a tree, or the first tree too many, whose nodes aren't judged. Takes no memory.
+/// direction, one of the table of its version, separates its part. Else the first fault: trees of a pair and cue in order, in each a
+/// part before its halves and the first half before the second; then the first pair and cue without a tree, or the first tree too
+/// many, whose nodes aren't judged. It names drones and a cue of the curves, and a direction of the version. Takes no memory.
 ///
 /// Where it is Ok, whoever made the certificate, each two different drones are apart at each instant p / q of the show, for
 /// all whole numbers p and q and for every list of trajectories that the curves stand for.
@@ -45,6 +46,7 @@ pub fn check(curves: &Curves, r: u16, h: u16, cert: &Certificate) -> Result<(), 
     requires whole { IsWhole cert.now }
     ensures exact { MatchResult result (λ _. fault_of (table_of cert.now.version) curves.now r h cert.now ≡ None)
         (λ fault. fault_of (table_of cert.now.version) curves.now r h cert.now ≡ Some fault) }
+    ensures named { IfErr result (IsFaultOf curves.now cert.now) }
     ensures valid { IsOk result ↔ IsValid (table_of cert.now.version) curves.now r h cert.now }
     ensures apart { IsOk result → KeepsApart curves.now r h }
 {
@@ -59,9 +61,10 @@ pub fn check(curves: &Curves, r: u16, h: u16, cert: &Certificate) -> Result<(), 
     }
 }
 
-/// The law of certificates, by any table of directions. Valid ones keep each two different drones apart at each instant p / q of
-/// the show, for all whole numbers p and q and for every list of trajectories that the curves stand for. And a whole certificate,
-/// whose leaves name directions of the table, is valid exactly where it has no first fault.
+/// The law of certificates, by any table of directions. Nodes spell a tree exactly where they are its preorder. Valid certificates
+/// keep each two different drones apart at each instant p / q of the show, for all whole numbers p and q and for every list of
+/// trajectories that the curves stand for. And a whole certificate, whose leaves name directions of the table, is valid exactly
+/// where it has no first fault.
 pub fn certificate_law()
     ensures { CertificateLaw }
 {}
@@ -73,6 +76,7 @@ fn fault_in(curves: &Curves, rules: Rules, version: u8, trees: &[Listed<Node>]) 
     requires depth { rules.depth ≤ 8 }
     requires version { IsVersion version }
     requires few { length trees.now < 2 ^ 31 }
+    requires whole { All IsTree trees.now }
     requires known { All (All (IsKnown (known_in version))) trees.now }
     ensures { result ≡ first_fault_of rules (table_of version) curves.now (slots curves.now.drones curves.now.cues) 0 trees.now }
 {
@@ -89,6 +93,7 @@ fn old_fault(curves: &Curves, rules: Rules, trees: &[Listed<Node>]) -> Option<Ce
     requires h { IsAxis rules.h }
     requires depth { rules.depth ≤ 8 }
     requires few { length trees.now < 2 ^ 31 }
+    requires whole { All IsTree trees.now }
     requires known { All (All (IsKnown 26)) trees.now }
     ensures { result ≡ first_fault_of rules (table_of 1) curves.now (slots curves.now.drones curves.now.cues) 0 trees.now }
 {
@@ -102,6 +107,7 @@ fn wide_fault(curves: &Curves, rules: Rules, trees: &[Listed<Node>]) -> Option<C
     requires h { IsAxis rules.h }
     requires depth { rules.depth ≤ 8 }
     requires few { length trees.now < 2 ^ 31 }
+    requires whole { All IsTree trees.now }
     requires known { All (All (IsKnown 98)) trees.now }
     ensures { result ≡ first_fault_of rules (table_of 2) curves.now (slots curves.now.drones curves.now.cues) 0 trees.now }
 {
@@ -123,6 +129,7 @@ fn first_fault(
     requires few { length trees.now < 2 ^ 31 }
     requires entries { All AreSmall dirs.now }
     requires thresholds { thresholds.now ≡ map (threshold rules.r rules.h) dirs.now }
+    requires whole { All IsTree trees.now }
     requires known { All (All (IsKnown (length dirs.now))) trees.now }
     ensures { result ≡ first_fault_of rules dirs.now curves.now (slots curves.now.drones curves.now.cues) 0 trees.now }
 {
@@ -167,8 +174,9 @@ fn tree_fault(
     requires depth { rules.depth ≤ 8 }
     requires entries { All AreSmall dirs.now }
     requires thresholds { thresholds.now ≡ map (threshold rules.r rules.h) dirs.now }
+    requires whole { IsTree nodes.now }
     requires known { All (IsKnown (length dirs.now)) nodes.now }
-    ensures { result ≡ first_fault rules dirs.now diff.now slot (root ∷ []) nodes.now }
+    ensures { result ≡ spelled_fault rules dirs.now diff.now slot nodes.now }
 {
     let mut stack = Stack::of(Level {
         place: Place { depth: 0, index: 0 },

@@ -11,7 +11,7 @@ ghost use Rattle.sep_parts.specs.Versions.{IsVersion, direction_word, known_in};
 ghost use Rattle.sep_certificate.specs.Certificates.{IsKnown, IsTree, IsWhole};
 ghost use Rattle.sep_certificate.specs.Readings.{ReadingGives, TextLaw};
 ghost use Rattle.sep_certificate.specs.Steps.{IsNodeByte, ReadsFrom, TellsTree, leaf_in, node_of_byte};
-ghost use Rattle.sep_certificate.specs.Texts.{Says, depth_line, fed, head_lines, is_depth_line, is_spelled, node_text, text_of, tree_line};
+ghost use Rattle.sep_certificate.specs.Texts.{Says, depth_line, fed, head_lines, is_depth_line, is_tree_line, node_text, text_of, tree_line};
 
 use crate::certificate::{Certificate, Node};
 use listed::Listed;
@@ -34,7 +34,7 @@ pub enum CertTextFault {
     Memory,
 }
 
-/// A law of certificate texts: the text that is written says its certificate; a text that says a certificate has no faulty
+/// A law of certificate texts: a line passes exactly where it is that of a tree; the text that is written says its certificate; a text that says a certificate has no faulty
 /// line; and it says one certificate alone.
 pub fn text_law()
     ensures { TextLaw }
@@ -276,7 +276,7 @@ fn old_tree(alloc: Global, line: &[u8]) -> Result<Option<Listed<Node>>, AllocErr
 // Whether a line of version 1 is one whole tree.
 fn is_tree(line: &[u8]) -> bool
     requires { length line.now ≤ CERTIFICATE_LIMIT }
-    ensures { result ≡ is_spelled 1 line.now }
+    ensures { result ≡ is_tree_line 1 line.now }
 {
     let mut owed: u32 = 1;
     for b in line {
@@ -294,7 +294,7 @@ fn is_tree(line: &[u8]) -> bool
 
 // The nodes of a line of version 1.
 fn nodes_of(alloc: Global, line: &[u8]) -> Result<Vec<Node>, AllocError>
-    requires { IsTrue (is_spelled 1 line.now) }
+    requires { IsTrue (is_tree_line 1 line.now) }
     ensures spelled { IfOk result (λ nodes. line.now ≡ tree_line 1 nodes.items) }
     ensures tree { IfOk result (λ nodes. IsTree nodes.items) }
     ensures known { IfOk result (λ nodes. All (IsKnown 26) nodes.items) }

@@ -4,12 +4,19 @@ use Rattle.sep_certificate.specs.declared.certificate.CertFault.{CertFault}
 use Rattle.sep_parts.specs.Versions.{table_of}
 use Rattle.sep_parts.specs.Slots.{slots}
 use Rattle.sep_certificate.specs.Certificates.{fault_of, first_fault_of, rules_of}
+use Rattle.sep_certificate.proofs.Named.{fault_named}
 use Rattle.sep_certificate.proofs.Verdicts.{valid_of, none_of_valid}
 use Rattle.sep_certificate.proofs.Keeping.{keeps}
 use Rattle.sep_certificate.proofs.judge.check.Goals as goal
 
 some_is : (o p : Option CertFault) (f : CertFault) → o ≡ Some f → o ≡ p → p ≡ None → ⊥
 some_is o p f a b c = cc
+
+pub returns-in-Some-clause-named : goal.returns-in-Some-clause-named
+returns-in-Some-clause-named c =
+    fault_named c.args.curves.now c.args.cert.now (rules_of c.args.r c.args.h c.args.cert.now) (table_of c.args.cert.now.version) c.in-Some.fault c.requires.whole.whole.leaves
+    (ap (λ (ts : List (List Node)). first_fault_of (rules_of c.args.r c.args.h c.args.cert.now) (table_of c.args.cert.now.version) c.args.curves.now (slots c.args.curves.now.drones c.args.curves.now.cues) 0 ts) (sym c.as_slice.ensures)
+    ∙ sym c.fault_in.ensures ∙ c.in-Some.is)
 
 pub returns-in-Some-clause-valid : goal.returns-in-Some-clause-valid
 returns-in-Some-clause-valid c = (

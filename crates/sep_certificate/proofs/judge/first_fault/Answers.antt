@@ -1,7 +1,9 @@
-use Rattle.std.proofs.Common.{◌≡◌, ◌+◌, ◌∷◌, refl, List, ◌∙◌, ap, arith, ℕ}
+use Rattle.std.proofs.Common.{◌≡◌, ◌+◌, ◌∷◌, refl, List, sym, ◌∙◌, ap, subst, arith, ℕ}
+use Rattle.std.proofs.lemmas.List.Elements.{All-get_or}
 use Rattle.sep_parts.specs.declared.slot.Slot.{Slot}
 use Rattle.sep_parts.specs.Slots.{following, slots}
 use Rattle.sep_parts.proofs.Orders.{IsAhead, IsFrom, first_ahead, next_ahead}
+use Rattle.sep_certificate.specs.Certificates.{IsTree}
 use Rattle.sep_certificate.proofs.Walks.{none_ahead, some_ahead, extra_found, missing_found, none_found, tree_faulty, tree_clean, tree_told}
 use Rattle.sep_certificate.proofs.judge.first_fault.Goals as goal
 
@@ -13,6 +15,11 @@ returns-then-from-drones c =
     extra_found c.args.rules c.args.dirs.now c.args.curves.now c.loop-nodes.invariant.0 c.loop-nodes.number c.loop-nodes.nodes-index c.args.trees.now _
     (none_ahead c.args.curves.now.drones c.args.curves.now.cues c.loop-nodes.slot c.loop-nodes.invariant.0 (omega arith) c.loop-nodes.invariant.1)
     c.loop-nodes-test.true c.loop-nodes.invariant.2
+
+pub tree_fault-requires-clause-whole : goal.tree_fault-requires-clause-whole
+tree_fault-requires-clause-whole c =
+    subst IsTree (sym (c.as_slice.ensures ∙ c.nodes-item.is))
+    (All-get_or IsTree c.args.trees.now c.loop-nodes.nodes-index c.nodes-item.result c.loop-nodes-test.true c.requires.whole)
 
 pub returns-in-Some : goal.returns-in-Some
 returns-in-Some c =

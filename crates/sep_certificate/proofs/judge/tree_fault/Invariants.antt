@@ -1,11 +1,11 @@
-use Rattle.std.proofs.Common.{◌≡◌, [], drop}
-use Rattle.std.proofs.Common.{◌∷◌}
-use Rattle.sep_certificate.specs.Certificates.{first_fault}
-use Rattle.sep_parts.specs.Levels.{IsStack, places_of, root}
+use Rattle.std.proofs.Common.{◌≡◌, drop}
+use Rattle.sep_certificate.specs.Certificates.{spelled_fault}
+use Rattle.sep_certificate.specs.Steps.{first_fault}
+use Rattle.sep_parts.specs.Levels.{IsStack, places_of}
 use Rattle.sep_certificate.proofs.judge.tree_fault.Given as goal
 
 abbrev pub invariant-loop-node : goal.invariant-loop-node
 invariant-loop-node l = record {
   stack : IsStack l.diff l.stack;
-  same : first_fault l.rules l.dirs l.diff l.slot (places_of l.stack) (drop l.node-index l.nodes) ≡ first_fault l.rules l.dirs l.diff l.slot (root ∷ []) l.nodes;
+  same : first_fault l.rules l.dirs l.diff l.slot (places_of l.stack) (drop l.node-index l.nodes) ≡ spelled_fault l.rules l.dirs l.diff l.slot l.nodes;
 }
