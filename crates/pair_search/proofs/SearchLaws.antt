@@ -10,9 +10,9 @@ use Rattle.sep_parts.specs.Directions.{direction_of, threshold}
 use Rattle.sep_parts.specs.Separates.{Separates, least_value, low_value, part_along}
 use Rattle.sep_parts.specs.Levels.{left_half, right_half, root}
 use Rattle.sep_parts.proofs.Lows.{first_low-none, first_low-values}
-use Rattle.sep_certificate.specs.declared.certificate.Node.{Node}
-use Rattle.sep_certificate.specs.declared.judge.Rules.{Rules}
-use Rattle.sep_certificate.specs.Certificates.{Tree, leaf, split, IsValidTree}
+use Rattle.sep_parts.specs.declared.node.Node.{Node}
+use Rattle.sep_parts.specs.declared.rules.Rules.{Rules}
+use Rattle.sep_parts.specs.Trees.{Tree, leaf, split, IsValidTree}
 use Rattle.pair_search.specs.declared.walk.Found.{Found}
 use Rattle.pair_search.specs.declared.walk.Found.TheVariants.{Clear, Blocked}
 use Rattle.pair_search.specs.Search.{HasDirection, IsClear, best_tree, blocked_place, first_direction, first_without, place_at, split_of}

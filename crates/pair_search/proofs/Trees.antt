@@ -6,9 +6,9 @@ use Rattle.std.proofs.lemmas.Bool.Decides.{nat_tests}
 use Rattle.halving.specs.declared.Place.{Place}
 use Rattle.sep_parts.specs.declared.stack.Level.{Level}
 use Rattle.sep_parts.specs.Levels.{left_half, places_of, right_half, root}
-use Rattle.sep_certificate.specs.declared.certificate.Node.{Node}
-use Rattle.sep_certificate.specs.declared.certificate.Node.TheVariants.{Split, Leaf}
-use Rattle.sep_certificate.specs.Certificates.{Tree, leaf, preorder, places_below}
+use Rattle.sep_parts.specs.declared.node.Node.{Node}
+use Rattle.sep_parts.specs.declared.node.Node.TheVariants.{Split, Leaf}
+use Rattle.sep_parts.specs.Trees.{Tree, leaf, preorder, places_below}
 use Rattle.pair_search.specs.Search.{best_tree, blocked_place, first_without, place_at, split_of}
 use Rattle.pair_search.specs.Steps.{node_for}
 

@@ -5,8 +5,8 @@ use Rattle.halving.specs.declared.Place.{Place}
 use Rattle.sep_parts.specs.Directions.{direction_of}
 use Rattle.sep_parts.specs.Separates.{Separates}
 use Rattle.sep_parts.specs.Levels.{left_half, right_half, root}
-use Rattle.sep_certificate.specs.declared.judge.Rules.{Rules}
-use Rattle.sep_certificate.specs.Certificates.{Tree, leaf, split, IsValidTree}
+use Rattle.sep_parts.specs.declared.rules.Rules.{Rules}
+use Rattle.sep_parts.specs.Trees.{Tree, leaf, split, IsValidTree}
 use Rattle.pair_search.specs.Search.{HasDirection, IsClear, best_tree, blocked_place, first_direction, place_at}
 
 -- the direction with this number separates the place, and none before it in the table does

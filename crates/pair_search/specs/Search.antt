@@ -8,8 +8,8 @@ use Rattle.halving.specs.declared.Place.{Place}
 use Rattle.sep_parts.specs.Directions.{direction_of}
 use Rattle.sep_parts.specs.Separates.{Separates, low_value}
 use Rattle.sep_parts.specs.Levels.{left_half, right_half, root}
-use Rattle.sep_certificate.specs.declared.certificate.Node.{Node}
-use Rattle.sep_certificate.specs.Certificates.{Tree, leaf, split, preorder}
+use Rattle.sep_parts.specs.declared.node.Node.{Node}
+use Rattle.sep_parts.specs.Trees.{Tree, leaf, split, preorder}
 use Rattle.pair_search.specs.declared.walk.Found.{Found}
 use Rattle.pair_search.specs.declared.walk.Found.TheVariants.{Clear, Blocked}
 

@@ -5,8 +5,7 @@ ghost use Rattle.fleet_math.specs.Numbers.{IsBelow};
 
 use super::*;
 use bezier_core::Bez;
-use sep_certificate::Node;
-use sep_parts::{DIRECTIONS, thresholds};
+use sep_parts::{DIRECTIONS, Node, thresholds};
 use std::alloc::{AllocError, Global};
 use std::test::Fail;
 

@@ -4,16 +4,15 @@ ghost use Rattle.std.specs.Prelude.{◌≡◌, ℕ, ◌+◌, ◌^◌, ◌≤◌,
 ghost use Rattle.fleet_math.specs.Numbers.{IsBelow};
 ghost use Rattle.sep_parts.specs.Directions.{AreSmall, IsAxis, IsTableSize, threshold};
 ghost use Rattle.sep_parts.specs.Levels.{IsLevel, IsStack, places_of};
-ghost use Rattle.sep_certificate.specs.Certificates.{places_below};
+ghost use Rattle.sep_parts.specs.Trees.{places_below, IsShallow};
 ghost use Rattle.pair_search.specs.Search.{IsClear, SearchGives, first_direction};
 ghost use Rattle.pair_search.specs.Laws.{SearchLaw};
-ghost use Rattle.pair_search.specs.Steps.{IsShallow, WalkGives, node_for};
+ghost use Rattle.pair_search.specs.Steps.{WalkGives, node_for};
 
 use crate::first::first_direction;
 use bezier_core::Bez;
 use halving::Place;
-use sep_certificate::Node;
-use sep_parts::{Dirs, Level, Stack, level_halves, thresholds};
+use sep_parts::{Dirs, Level, Node, Rules, Stack, thresholds};
 use std::alloc::AllocError;
 
 /// What a search found.
@@ -24,14 +23,6 @@ pub enum Found {
     /// The part `index` of the 2^depth parts of the greatest depth has no separating direction, and each part before it has
     /// one. Parts count from 0.
     Blocked { index: u16 },
-}
-
-// By what parts are judged: the half axes of the ellipsoids, and the greatest depth of a part.
-#[derive(Clone, Copy)]
-struct Rules {
-    r: u16,
-    h: u16,
-    depth: u8,
 }
 
 /// Searches the tree of a pair of drones in a cue, for ellipsoids of half axes `r`, `r` and `h` in millimetres. `diff` has the
@@ -171,11 +162,7 @@ fn put(
     ensures nodes { OnOk result (nodes.new.items ≡ nodes.old.items ++ node ∷ []) }
 {
     nodes.push(node)?;
-    if let Node::Split = node {
-        let (left, right) = level_halves(diff, level);
-        stack.push(right);
-        stack.push(left);
-    }
+    stack.push_below(diff, level, node);
     Ok(())
 }
 

@@ -5,11 +5,11 @@ use Rattle.std.proofs.lemmas.Int.{by_lt_z}
 use Rattle.fleet_math.proofs.RingLemmas.{linear}
 use Rattle.bezier_core.specs.declared.Bez.{Bez}
 use Rattle.halving.specs.declared.Place.{Place}
-use Rattle.sep_certificate.specs.declared.judge.Rules.{Rules}
+use Rattle.sep_parts.specs.declared.rules.Rules.{Rules}
 use Rattle.sep_parts.specs.Directions.{direction_of}
 use Rattle.sep_parts.specs.Levels.{left_half, right_half}
-use Rattle.sep_certificate.specs.Certificates.{Tree, IsValidTree}
-use Rattle.sep_certificate.specs.Certificates.Tree.{leaf, split}
+use Rattle.sep_parts.specs.Trees.{Tree, IsValidTree}
+use Rattle.sep_parts.specs.Trees.Tree.{leaf, split}
 use Rattle.sep_parts.proofs.Directed.{IsApartRaised, cue_of}
 use Rattle.sep_parts.proofs.Leaf.{leaf_apart}
 

@@ -5,10 +5,10 @@ use Rattle.std.proofs.Math.Seq.{drop-cons}
 use Rattle.std.proofs.lemmas.Bool.Decides.{nat_tests}
 use Rattle.std.proofs.lemmas.List.{drop_all}
 use Rattle.std.proofs.lemmas.List.Elements.{All-nil, All-cons}
-use Rattle.sep_certificate.specs.declared.certificate.Node.{Node}
-use Rattle.sep_certificate.specs.declared.certificate.Node.TheVariants.{Split, Leaf}
-use Rattle.sep_certificate.specs.Certificates.{Tree, IsTree, IsKnown, preorder}
-use Rattle.sep_certificate.specs.Certificates.Tree.{leaf}
+use Rattle.sep_parts.specs.declared.node.Node.{Node}
+use Rattle.sep_parts.specs.declared.node.Node.TheVariants.{Split, Leaf}
+use Rattle.sep_parts.specs.Trees.{Tree, IsTree, IsKnown, preorder}
+use Rattle.sep_parts.specs.Trees.Tree.{leaf}
 use Rattle.sep_certificate.specs.Steps.{is_spelled_wide, leaf_in, wide_nodes}
 use Rattle.sep_certificate.specs.Texts.{is_digit, is_wide_leaf, tree_line, two_digits}
 use Rattle.sep_certificate.proofs.Spelled.{IsForest, dot_told, two_in_one}

@@ -7,13 +7,14 @@ use Rattle.fleet_math.proofs.BernsteinLemmas.{by_lt}
 use Rattle.fleet_math.proofs.MomentLemmas.{moment-inside, IsInside}
 use Rattle.traj_codec.specs.declared.traj.Traj.{Traj}
 use Rattle.traj_codec.specs.Positions.{durations}
-use Rattle.sep_certificate.specs.declared.judge.Rules.{Rules}
-use Rattle.sep_certificate.specs.declared.certificate.Node.{Node}
+use Rattle.sep_parts.specs.declared.rules.Rules.{Rules}
+use Rattle.sep_parts.specs.declared.node.Node.{Node}
 use Rattle.sep_parts.specs.Raised.{CurvesStandFor, HasFewPoints, Raised, difference}
 use Rattle.sep_parts.specs.Apart.{KeepsApart}
 use Rattle.sep_parts.specs.Levels.{root}
 use Rattle.sep_parts.specs.Slots.{slots}
-use Rattle.sep_certificate.specs.Certificates.{AreValid, Tree}
+use Rattle.sep_certificate.specs.Certificates.{AreValid}
+use Rattle.sep_parts.specs.Trees.{Tree}
 use Rattle.sep_parts.proofs.Standing.{at_place, segments_of}
 use Rattle.sep_parts.proofs.Lifts.{AreApartAt, one_moment}
 use Rattle.sep_parts.proofs.Positions.{apart_turned, decoded_apart}

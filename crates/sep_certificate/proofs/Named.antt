@@ -1,7 +1,7 @@
 -- What a fault of a certificate names is there.
-use Rattle.std.proofs.Common.{◌≡◌, ℕ, zero, suc, ◌+◌, ◌≤◌, ◌<◌, ℤ, Bool, true, false, cond, nat_lt, All, List, [], ◌∷◌, ◌++◌, length, Option, Some, None, refl, subst, arith}
+use Rattle.std.proofs.Common.{◌≡◌, ℕ, suc, ◌+◌, ◌≤◌, ℤ, Bool, true, false, cond, nat_lt, All, List, [], ◌∷◌, ◌++◌, length, Option, Some, None, refl, subst, arith}
 use Rattle.std.specs.Option.{option_flatten, option_map, option_or}
-use Rattle.std.proofs.lemmas.List.Elements.{All-nil, All-cons, All-head, All-tail, All-append}
+use Rattle.std.proofs.lemmas.List.Elements.{All-nil, All-cons, All-head, All-tail}
 use Rattle.bezier_core.specs.declared.Bez.{Bez}
 use Rattle.halving.specs.declared.Place.{Place}
 use Rattle.sep_parts.specs.declared.slot.Slot.{Slot}
@@ -9,44 +9,21 @@ use Rattle.sep_parts.specs.Directions.{direction_of, threshold}
 use Rattle.sep_parts.specs.Levels.{left_half, right_half, root}
 use Rattle.sep_parts.specs.Raised.{Raised, difference}
 use Rattle.sep_parts.specs.Separates.{least_value, low_value, part_along}
-use Rattle.sep_parts.specs.Slots.{IsSlot, cues_from, drones_from, pairs_from, slot_at, slots}
+use Rattle.sep_parts.specs.Slots.{IsSlot, slots}
 use Rattle.sep_parts.specs.Versions.{known_in}
 use Rattle.sep_parts.proofs.Lows.{first_low-small}
 use Rattle.sep_certificate.specs.declared.certificate.Certificate.{Certificate}
-use Rattle.sep_certificate.specs.declared.judge.Rules.{Rules}
-use Rattle.sep_certificate.specs.declared.certificate.Node.{Node}
-use Rattle.sep_certificate.specs.declared.certificate.Node.TheVariants.{Split, Leaf}
+use Rattle.sep_parts.specs.declared.rules.Rules.{Rules}
+use Rattle.sep_parts.specs.declared.node.Node.{Node}
+use Rattle.sep_parts.specs.declared.node.Node.TheVariants.{Split, Leaf}
 use Rattle.sep_certificate.specs.declared.certificate.CertFault.{CertFault}
 use Rattle.sep_certificate.specs.declared.certificate.CertFault.TheVariants.{Missing, Extra, TooDeep, Fails}
-use Rattle.sep_certificate.specs.Certificates.{IsFaultOf, IsKnown, Tree, first_fault_of, node_fault, preorder, spelled_fault, spelled_tree, tree_fault}
-use Rattle.sep_certificate.specs.Certificates.Tree.{leaf, split}
-use Rattle.sep_certificate.proofs.Trees.{tree_told}
+use Rattle.sep_certificate.specs.Certificates.{IsFaultOf, first_fault_of, node_fault, spelled_fault, tree_fault}
+use Rattle.sep_parts.specs.Trees.{IsKnown, Tree, preorder, spelled_tree}
+use Rattle.sep_parts.specs.Trees.Tree.{leaf, split}
+use Rattle.sep_parts.proofs.Trees.{tree_told}
+use Rattle.sep_parts.proofs.Orders.{slots_named}
 
--- ---- slots
-cues_named : (n drones cues a b cue : ℕ) → a < b → b < drones → n + cue ≤ cues → All (IsSlot drones cues) (cues_from n a b cue)
-cues_named zero drones cues a b cue order inside few = All-nil (IsSlot drones cues)
-cues_named (suc n) drones cues a b cue order inside few =
-    All-cons (IsSlot drones cues) (slot_at a b cue) (cues_from n a b (suc cue)) (record { first = order; second = inside; cue = omega arith })
-    (cues_named n drones cues a b (suc cue) order inside (omega arith))
-
-pairs_named : (n drones cues a b : ℕ) → a < b → b + n ≤ drones → All (IsSlot drones cues) (pairs_from n cues a b)
-pairs_named zero drones cues a b order few = All-nil (IsSlot drones cues)
-pairs_named (suc n) drones cues a b order few =
-    All-append (IsSlot drones cues) (cues_from cues a b 0) (pairs_from n cues a (suc b))
-    (cues_named cues drones cues a b 0 order (omega arith) (omega arith)) (pairs_named n drones cues a (suc b) (omega arith) (omega arith))
-
-drones_named : (n drones cues a : ℕ) → a + n ≤ drones → All (IsSlot drones cues) (drones_from n cues a)
-drones_named zero drones cues a few = All-nil (IsSlot drones cues)
-drones_named (suc n) drones cues a few =
-    All-append (IsSlot drones cues) (pairs_from n cues a (suc a)) (drones_from n cues (suc a))
-    (pairs_named n drones cues a (suc a) (omega arith) (omega arith)) (drones_named n drones cues (suc a) (omega arith))
-
--- the slots of a show are pairs of its drones and its cues
-pub slots_named : (drones cues : ℕ) → All (IsSlot drones cues) (slots drones cues)
-unfolding slots
-slots_named drones cues = drones_named drones drones cues 0 (omega arith)
-
--- ---- faults
 pub all_front : {X : Type 0} (P : X → Type 0) (xs ys : List X) → All P (xs ++ ys) → All P xs
 all_front P [] ys all = All-nil P
 all_front P (x ∷ xs) ys all = All-cons P x xs (All-head P x (xs ++ ys) all) (all_front P xs ys (All-tail P x (xs ++ ys) all))

@@ -4,7 +4,7 @@ use Rattle.std.specs.Str.{bytes_eq}
 use Rattle.std.specs.Str.Lines.{lines}
 use Rattle.std.proofs.lemmas.Bool.Decides.{nat_tests}
 use Rattle.std.proofs.lemmas.Slice.Eq.{bytes_eq-Decides}
-use Rattle.sep_certificate.specs.declared.certificate.Node.{Node}
+use Rattle.sep_parts.specs.declared.node.Node.{Node}
 use Rattle.sep_certificate.specs.Texts.{bad_from, bad_tree, depth_line, is_depth_line, is_tree_line, tree_line}
 
 map_more : (version : ℕ) (xs : List (List Node)) (nodes : List Node) → map (tree_line version) (xs ++ nodes ∷ []) ≡ map (tree_line version) xs ++ (tree_line version nodes ∷ [])

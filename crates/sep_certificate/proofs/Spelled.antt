@@ -3,10 +3,10 @@ use Rattle.std.proofs.Common.{◌≡◌, inl, inr, ℕ, zero, suc, ◌+◌, ◌-
 use Rattle.std.proofs.Math.Seq.{drop-cons}
 use Rattle.std.proofs.lemmas.Bool.Decides.{nat_tests}
 use Rattle.std.proofs.lemmas.List.Elements.{All-cons}
-use Rattle.sep_certificate.specs.declared.certificate.Node.{Node}
-use Rattle.sep_certificate.specs.declared.certificate.Node.TheVariants.{Split, Leaf}
-use Rattle.sep_certificate.specs.Certificates.{Tree, IsTree, IsKnown, preorder}
-use Rattle.sep_certificate.specs.Certificates.Tree.{leaf, split}
+use Rattle.sep_parts.specs.declared.node.Node.{Node}
+use Rattle.sep_parts.specs.declared.node.Node.TheVariants.{Split, Leaf}
+use Rattle.sep_parts.specs.Trees.{Tree, IsTree, IsKnown, preorder}
+use Rattle.sep_parts.specs.Trees.Tree.{leaf, split}
 use Rattle.sep_certificate.specs.Steps.{IsNodeByte, is_spelled, node_of_byte}
 use Rattle.sep_certificate.specs.Texts.{is_letter, tree_line}
 

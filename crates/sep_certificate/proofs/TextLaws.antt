@@ -6,10 +6,11 @@ use Rattle.std.proofs.lemmas.Bool.Decides.{nat_tests}
 use Rattle.std.proofs.lemmas.List.Splits.{slice_split_at, length-slice_split}
 use Rattle.std.proofs.lemmas.List.Elements.{All-cons, All-head, All-tail}
 use Rattle.sep_parts.specs.Versions.{IsVersion, known_in}
-use Rattle.sep_certificate.specs.declared.certificate.Node.{Node}
-use Rattle.sep_certificate.specs.declared.certificate.Node.TheVariants.{Split, Leaf}
+use Rattle.sep_parts.specs.declared.node.Node.{Node}
+use Rattle.sep_parts.specs.declared.node.Node.TheVariants.{Split, Leaf}
 use Rattle.sep_certificate.specs.declared.certificate.Certificate.{Certificate}
-use Rattle.sep_certificate.specs.Certificates.{IsKnown, IsTree, IsWhole}
+use Rattle.sep_certificate.specs.Certificates.{IsWhole}
+use Rattle.sep_parts.specs.Trees.{IsKnown, IsTree}
 use Rattle.sep_certificate.specs.Steps.{node_of_byte, wide_nodes}
 use Rattle.sep_certificate.specs.Texts.{Says, bad_from, bad_line, bad_tree, depth_line, fed, head_lines, text_of, tree_line, version_line}
 use Rattle.sep_certificate.specs.Readings.{TextLaw}

@@ -6,16 +6,17 @@ use Rattle.std.proofs.lemmas.List.Elements.{All-head, All-tail}
 use Rattle.bezier_core.specs.declared.Bez.{Bez}
 use Rattle.halving.specs.declared.Place.{Place}
 use Rattle.sep_parts.specs.declared.slot.Slot.{Slot}
-use Rattle.sep_certificate.specs.declared.judge.Rules.{Rules}
-use Rattle.sep_certificate.specs.declared.certificate.Node.{Node}
+use Rattle.sep_parts.specs.declared.rules.Rules.{Rules}
+use Rattle.sep_parts.specs.declared.node.Node.{Node}
 use Rattle.sep_certificate.specs.declared.certificate.CertFault.{CertFault}
 use Rattle.sep_certificate.specs.declared.certificate.CertFault.TheVariants.{TooDeep, Fails}
 use Rattle.sep_parts.specs.Directions.{direction_of, threshold}
 use Rattle.sep_parts.specs.Separates.{low_value, least_value, part_along}
 use Rattle.sep_parts.specs.Levels.{left_half, right_half, root}
 use Rattle.sep_parts.specs.Raised.{Raised, difference}
-use Rattle.sep_certificate.specs.Certificates.{Tree, IsTree, IsValidTree, AreValid, first_fault_of, spelled_fault, tree_fault}
-use Rattle.sep_certificate.specs.Certificates.Tree.{leaf, split}
+use Rattle.sep_certificate.specs.Certificates.{AreValid, first_fault_of, spelled_fault, tree_fault}
+use Rattle.sep_parts.specs.Trees.{Tree, IsTree, IsValidTree}
+use Rattle.sep_parts.specs.Trees.Tree.{leaf, split}
 use Rattle.sep_parts.proofs.Lows.{first_low-values, first_low-none}
 use Rattle.sep_certificate.proofs.Trees.{fault_of_tree}
 

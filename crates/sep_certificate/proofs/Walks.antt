@@ -1,26 +1,17 @@
 -- The first fault of what is left of the trees and of the slots.
-use Rattle.std.proofs.Common.{◌≡◌, inl, inr, ℕ, suc, ◌+◌, ◌≤◌, ◌<◌, arith, refl, sym, ◌∙◌, ap, List, [], ◌∷◌, length, drop, get_or, Option, Some, None, ℤ}
+use Rattle.std.proofs.Common.{◌≡◌, ℕ, suc, ◌+◌, ◌≤◌, ◌<◌, arith, refl, sym, ◌∙◌, ap, List, [], ◌∷◌, length, drop, get_or, Option, Some, None, ℤ}
 use Rattle.std.specs.Option.{option_or}
 use Rattle.std.proofs.Math.Seq.{drop-cons}
 use Rattle.std.proofs.lemmas.List.{drop_all}
 use Rattle.sep_parts.specs.declared.slot.Slot.{Slot}
-use Rattle.sep_certificate.specs.declared.judge.Rules.{Rules}
-use Rattle.sep_certificate.specs.declared.certificate.Node.{Node}
+use Rattle.sep_parts.specs.declared.rules.Rules.{Rules}
+use Rattle.sep_parts.specs.declared.node.Node.{Node}
 use Rattle.sep_certificate.specs.declared.certificate.CertFault.{CertFault}
 use Rattle.sep_certificate.specs.declared.certificate.CertFault.TheVariants.{Missing, Extra}
 use Rattle.bezier_core.specs.declared.Bez.{Bez}
 use Rattle.sep_parts.proofs.Differences.{same_default}
 use Rattle.sep_parts.specs.Raised.{Raised, difference}
 use Rattle.sep_certificate.specs.Certificates.{first_fault_of, spelled_fault}
-use Rattle.sep_parts.proofs.Orders.{IsAhead, IsFrom}
-
-pub none_ahead : (drones cues : ℕ) (s : Slot) (rest : List Slot) → drones ≤ s.b → IsAhead drones cues s rest → rest ≡ []
-none_ahead drones cues s rest past (inl from) = absurd (omega (arith, from.is_slot.second))
-none_ahead drones cues s rest past (inr over) = over.1
-
-pub some_ahead : (drones cues : ℕ) (s : Slot) (rest : List Slot) → s.b < drones → IsAhead drones cues s rest → IsFrom drones cues s rest
-some_ahead drones cues s rest here (inl from) = from
-some_ahead drones cues s rest here (inr over) = absurd (omega (arith, over.0))
 
 module _ (rules : Rules) (dirs : List (List ℤ)) (curves : Raised) where
   pub extra_found : (rest : List Slot) (n i : ℕ) (trees : List (List Node)) (whole : Option CertFault) → rest ≡ [] → i < length trees →

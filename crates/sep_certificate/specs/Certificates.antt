@@ -1,63 +1,23 @@
--- Certificates: trees of places, the lists that spell them, and when they are valid.
-use Rattle.std.specs.Prelude.{◌≡◌, ℕ, suc, ◌^◌, ◌≤◌, ◌<◌, ℤ, nat_lt, List, [], ◌∷◌, ◌++◌, length, Option, Some, None, if◌then◌else◌, All}
+-- Certificates: when one is whole, when it is valid, and its first fault.
+use Rattle.std.specs.Prelude.{◌≡◌, ℕ, suc, ◌^◌, ◌≤◌, ◌<◌, ℤ, nat_lt, List, [], ◌∷◌, length, Option, Some, None, if◌then◌else◌, All}
 use Rattle.std.specs.Option.{option_flatten, option_map, option_or}
 use Rattle.bezier_core.specs.declared.Bez.{Bez}
 use Rattle.halving.specs.declared.Place.{Place}
-use Rattle.sep_certificate.specs.declared.certificate.Node.{Node}
-use Rattle.sep_certificate.specs.declared.certificate.Node.TheVariants.{Split, Leaf}
+use Rattle.sep_parts.specs.declared.node.Node.{Node}
+use Rattle.sep_parts.specs.declared.node.Node.TheVariants.{Split, Leaf}
 use Rattle.sep_certificate.specs.declared.certificate.CertFault.{CertFault}
 use Rattle.sep_certificate.specs.declared.certificate.CertFault.TheVariants.{Missing, Extra, TooDeep, Fails}
 use Rattle.sep_certificate.specs.declared.certificate.Certificate.{Certificate}
 use Rattle.sep_parts.specs.declared.slot.Slot.{Slot}
-use Rattle.sep_certificate.specs.declared.judge.Rules.{Rules}
+use Rattle.sep_parts.specs.declared.rules.Rules.{Rules}
 use Rattle.sep_parts.specs.Directions.{direction_of}
 use Rattle.sep_parts.specs.Versions.{IsVersion, known_in}
-use Rattle.sep_parts.specs.Separates.{Separates, low_value}
+use Rattle.sep_parts.specs.Separates.{low_value}
 use Rattle.sep_parts.specs.Slots.{IsSlot, slot_at, slots}
 use Rattle.sep_parts.specs.Levels.{left_half, right_half, root}
 use Rattle.sep_parts.specs.Raised.{Raised, difference}
-
--- ---- trees
--- a tree of places: a leaf names a direction by its number, a split has the two halves
-pub data Tree : Type 0 where
-  leaf : ℕ → Tree
-  split : Tree → Tree → Tree
-
--- the list that spells a tree: its nodes in preorder
-abbrev pub preorder : Tree → List Node
-preorder (leaf dir) = Leaf dir ∷ []
-preorder (split left right) = Split ∷ preorder left ++ preorder right
-
--- the list spells a tree
-abbrev pub IsTree : List Node → Type 0
-IsTree nodes = (tree : Tree) × (nodes ≡ preorder tree)
-
--- a split before trees: the first two are its halves, and without two there is none
-abbrev pub split_before : List Tree → Option (List Tree)
-split_before [] = None
-split_before (left ∷ []) = None
-split_before (left ∷ right ∷ trees) = Some (split left right ∷ trees)
-
--- the trees that a list of nodes spells, one after another; none where a split lacks a half
-abbrev pub spelled_trees : List Node → Option (List Tree)
-spelled_trees [] = Some []
-spelled_trees (Leaf dir ∷ nodes) = option_map (λ trees. leaf dir ∷ trees) (spelled_trees nodes)
-spelled_trees (Split ∷ nodes) = option_flatten (option_map split_before (spelled_trees nodes))
-
--- the first of trees, where it is the only one
-abbrev pub only_tree : List Tree → Option Tree
-only_tree [] = None
-only_tree (tree ∷ []) = Some tree
-only_tree (tree ∷ other ∷ trees) = None
-
--- The tree that a list of nodes spells, where it is the preorder of one.
-abbrev pub spelled_tree : List Node → Option Tree
-spelled_tree nodes = option_flatten (option_map only_tree (spelled_trees nodes))
-
--- each leaf of a tree names one of so many directions
-abbrev pub IsKnown : ℕ → Node → Type 0
-IsKnown m Split = Unit {0}
-IsKnown m (Leaf dir) = dir < m
+use Rattle.sep_parts.specs.Trees.{IsKnown, IsTree, IsValidTree, Tree, preorder, spelled_tree}
+use Rattle.sep_parts.specs.Trees.Tree.{leaf, split}
 
 -- A certificate is whole among so many directions: its depth is at most 8, it has fewer than 2^31 trees, each of them is one whole
 -- tree in preorder, and each leaf names one of the directions.
@@ -73,13 +33,6 @@ pub record IsWhole (cert : Certificate) : Type 0 where
   pub whole : IsWholeIn (known_in cert.version) cert
 
 -- ---- validity
--- At a place of a pair and a cue, whose raised differences these are: no split stands at the depth or below it, and each
--- leaf's direction separates its place.
-abbrev pub IsValidTree : Rules → List (List ℤ) → List (Bez 8) → Place → Tree → Type 0
-IsValidTree rules dirs diff place (leaf dir) = Separates rules.r rules.h diff place (direction_of dirs dir)
-IsValidTree rules dirs diff place (split left right) =
-    (place.depth < rules.depth) × IsValidTree rules dirs diff (left_half place) left × IsValidTree rules dirs diff (right_half place) right
-
 -- the list spells a tree that is valid for the slot
 abbrev pub IsValidAt : Rules → List (List ℤ) → Raised → Slot → List Node → Type 0
 IsValidAt rules dirs curves slot nodes =
@@ -100,11 +53,6 @@ node_fault rules dirs diff slot place Split =
     if nat_lt place.depth rules.depth then None else Some (TooDeep slot.a slot.b slot.cue)
 node_fault rules dirs diff slot place (Leaf dir) =
     option_map (Fails slot.a slot.b slot.cue place dir) (low_value rules.r rules.h diff place (direction_of dirs dir))
-
--- the places that stand after a node's place in preorder, before the others
-abbrev pub places_below : Place → Node → List Place
-places_below place Split = left_half place ∷ right_half place ∷ []
-places_below place (Leaf dir) = []
 
 -- The first fault of a tree at a place: of a leaf its own; of a split its own, else that of the first half, else that of the second.
 abbrev pub tree_fault : Rules → List (List ℤ) → List (Bez 8) → Slot → Place → Tree → Option CertFault

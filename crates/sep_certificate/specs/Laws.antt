@@ -1,15 +1,12 @@
 -- What a valid certificate promises, and how a certificate is seen to be valid.
-use Rattle.std.specs.Prelude.{◌≡◌, ◌↔◌, ℕ, ℤ, List, length, Some, None}
+use Rattle.std.specs.Prelude.{◌≡◌, ◌↔◌, ℕ, ℤ, List, length, None}
 use Rattle.sep_parts.specs.Apart.{KeepsApart}
 use Rattle.sep_parts.specs.Raised.{Raised}
 use Rattle.sep_certificate.specs.declared.certificate.Certificate.{Certificate}
-use Rattle.sep_certificate.specs.declared.certificate.Node.{Node}
-use Rattle.sep_certificate.specs.Certificates.{IsValid, IsWholeIn, Tree, fault_of, preorder, spelled_tree}
+use Rattle.sep_certificate.specs.Certificates.{IsValid, IsWholeIn, fault_of}
 
--- Nodes spell a tree exactly where they are its preorder. By any table of directions, a valid certificate keeps drones apart, and a
--- whole one is valid exactly where no fault is found.
+-- By any table of directions, a valid certificate keeps drones apart, and a whole one is valid exactly where no fault is found.
 pub record CertificateLaw : Type 0 where
-  pub spelled : (nodes : List Node) (tree : Tree) → (spelled_tree nodes ≡ Some tree) ↔ (nodes ≡ preorder tree)
   -- Where a certificate is valid for curves, by any table of directions, each two different drones are apart at each instant.
   pub apart : (dirs : List (List ℤ)) (curves : Raised) (r h : ℕ) (cert : Certificate) → IsValid dirs curves r h cert → KeepsApart curves r h
   -- A whole certificate, whose leaves name directions of the table, has no first fault exactly where it is valid for the curves.

@@ -4,16 +4,17 @@ use Rattle.std.specs.Option.{option_or}
 use Rattle.std.specs.Str.Lines.{lines}
 use Rattle.bezier_core.specs.declared.Bez.{Bez}
 use Rattle.halving.specs.declared.Place.{Place}
-use Rattle.sep_certificate.specs.declared.certificate.Node.{Node}
-use Rattle.sep_certificate.specs.declared.certificate.Node.TheVariants.{Split, Leaf}
+use Rattle.sep_parts.specs.declared.node.Node.{Node}
+use Rattle.sep_parts.specs.declared.node.Node.TheVariants.{Split, Leaf}
 use Rattle.sep_certificate.specs.declared.certificate.Certificate.{Certificate}
 use Rattle.sep_certificate.specs.declared.text.CertTextFault.{CertTextFault}
 use Rattle.sep_certificate.specs.declared.text.CertTextFault.TheVariants.{Line, Memory}
 use Rattle.sep_certificate.specs.declared.certificate.CertFault.{CertFault}
-use Rattle.sep_certificate.specs.declared.judge.Rules.{Rules}
+use Rattle.sep_parts.specs.declared.rules.Rules.{Rules}
 use Rattle.sep_parts.specs.declared.slot.Slot.{Slot}
 use Rattle.sep_parts.specs.Versions.{known_in}
-use Rattle.sep_certificate.specs.Certificates.{IsKnown, IsTree, IsWholeIn, node_fault, places_below}
+use Rattle.sep_certificate.specs.Certificates.{IsWholeIn, node_fault}
+use Rattle.sep_parts.specs.Trees.{IsKnown, IsTree, places_below}
 use Rattle.sep_certificate.specs.Texts.{bad_from, depth_line, is_letter, is_tree_line, is_wide_leaf, tree_line, two_digits}
 
 -- The first fault of a list of nodes in preorder, whose trees stand at these places: what the checker finds with its stack.
@@ -28,11 +29,6 @@ first_fault rules dirs diff slot (place ∷ places) (node ∷ nodes) =
 abbrev pub IsControl : Option ℕ → Type 0
 IsControl None = Unit {0}
 IsControl (Some k) = k < 8
-
--- a split stands at a depth below 8
-abbrev pub IsShallow : Place → Node → Type 0
-IsShallow place Split = place.depth < 8
-IsShallow place (Leaf dir) = Unit {0}
 
 -- a byte of a line is `.` or not below `a`
 abbrev pub IsNodeByte : ℕ → Type 0

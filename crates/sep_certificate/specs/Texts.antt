@@ -3,10 +3,11 @@ use Rattle.std.specs.Prelude.{◌≡◌, ℕ, suc, ◌+◌, ◌-◌, ◌*◌, Bo
 use Rattle.std.specs.Option.{is_some, option_flatten, option_map}
 use Rattle.std.specs.Str.Lines.{lines}
 use Rattle.sep_parts.specs.Versions.{direction_word, known_in}
-use Rattle.sep_certificate.specs.declared.certificate.Node.{Node}
-use Rattle.sep_certificate.specs.declared.certificate.Node.TheVariants.{Split, Leaf}
+use Rattle.sep_parts.specs.declared.node.Node.{Node}
+use Rattle.sep_parts.specs.declared.node.Node.TheVariants.{Split, Leaf}
 use Rattle.sep_certificate.specs.declared.certificate.Certificate.{Certificate}
-use Rattle.sep_certificate.specs.Certificates.{IsKnown, IsWhole, Tree, preorder, spelled_tree}
+use Rattle.sep_certificate.specs.Certificates.{IsWhole}
+use Rattle.sep_parts.specs.Trees.{IsKnown, Tree, preorder, spelled_tree}
 
 -- `.` is a split, and a leaf is the word of its direction in the version: a letter in version 1, two digits in version 2
 abbrev pub node_text : ℕ → Node → List ℕ

@@ -2,15 +2,7 @@
 
 use halving::Place;
 use listed::Listed;
-
-/// A node of a tree of parts of a cue: a split into halves, or a leaf with the direction that separates the part.
-#[derive(Clone, Copy, Debug, PartialEq, Eq)]
-pub enum Node {
-    /// The part is cut into its two halves, whose trees follow, the first half's before the second's.
-    Split,
-    /// The direction with the number `dir` separates the part. Directions count from 0 in the order of the table.
-    Leaf { dir: u8 },
-}
+use sep_parts::Node;
 
 /// A certificate: for each pair of drones and each cue a tree, none deeper than `depth`.
 #[derive(Debug, Drop)]

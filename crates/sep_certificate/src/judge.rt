@@ -9,27 +9,17 @@ ghost use Rattle.sep_parts.specs.Apart.{KeepsApart};
 ghost use Rattle.sep_parts.specs.Slots.{slots};
 ghost use Rattle.sep_parts.specs.Levels.{IsLevel, IsStack, places_of};
 ghost use Rattle.sep_certificate.specs.Laws.{CertificateLaw};
-ghost use Rattle.sep_certificate.specs.Certificates.{IsFaultOf, IsKnown, IsTree, IsValid, IsWhole, fault_of, first_fault_of, node_fault, places_below, spelled_fault};
-ghost use Rattle.sep_certificate.specs.Steps.{IsControl, IsShallow};
+ghost use Rattle.sep_certificate.specs.Certificates.{IsFaultOf, IsValid, IsWhole, fault_of, first_fault_of, node_fault, spelled_fault};
+ghost use Rattle.sep_parts.specs.Trees.{IsKnown, IsTree, places_below, IsShallow};
+ghost use Rattle.sep_certificate.specs.Steps.{IsControl};
 
-use crate::certificate::{CertFault, Certificate, Node};
+use crate::certificate::{CertFault, Certificate};
 use bezier_core::Bez;
 use halving::Place;
 use listed::Listed;
 use sep_parts::{
-    Curves, DIRECTIONS, Level, Slot, Stack, WIDE, level_halves, low_control, thresholds,
+    Curves, DIRECTIONS, Level, Node, Rules, Slot, Stack, WIDE, low_control, thresholds,
 };
-
-/// By what a certificate is judged.
-#[derive(Clone, Copy)]
-pub struct Rules {
-    /// The half axis of the ellipsoids on x and y, in millimetres.
-    pub r: u16,
-    /// The half axis on z, in millimetres.
-    pub h: u16,
-    /// The greatest depth of a part.
-    pub depth: u8,
-}
 
 /// Whether a certificate is valid for the curves of a fleet, with ellipsoids of half axes `r`, `r` and `h` in millimetres.
 ///
@@ -61,10 +51,9 @@ pub fn check(curves: &Curves, r: u16, h: u16, cert: &Certificate) -> Result<(), 
     }
 }
 
-/// The law of certificates, by any table of directions. Nodes spell a tree exactly where they are its preorder. Valid certificates
-/// keep each two different drones apart at each instant p / q of the show, for all whole numbers p and q and for every list of
-/// trajectories that the curves stand for. And a whole certificate, whose leaves name directions of the table, is valid exactly
-/// where it has no first fault.
+/// The law of certificates, by any table of directions. Valid ones keep each two different drones apart at each instant p / q of the show,
+/// for all whole numbers p and q and for every list of trajectories that the curves stand for. And a whole certificate, whose leaves
+/// name directions of the table, is valid exactly where it has no first fault.
 pub fn certificate_law()
     ensures { CertificateLaw }
 {}
@@ -190,7 +179,7 @@ fn tree_fault(
         if let Some(fault) = node_fault(diff, &level, slot, rules, dirs, thresholds, *node) {
             return Some(fault);
         }
-        push_below(diff, &mut stack, &level, *node);
+        stack.push_below(diff, &level, *node);
     }
     None
 }
@@ -260,22 +249,5 @@ fn fails(low: Option<usize>, slot: Slot, place: Place, dir: u8) -> Option<CertFa
             control: control as u8,
         }),
         None => None,
-    }
-}
-
-// The halves of a level onto the stack, the first half on top, where its node is a split.
-fn push_below(diff: &[Bez<8>; 3], stack: &mut Stack, level: &Level, node: Node)
-    requires values { All (λ curve. All (IsBelow (2 ^ 30)) curve.b) diff.now }
-    requires level { IsLevel diff.now level.now }
-    requires stack { IsStack diff.now stack.old }
-    requires room { length stack.old ≤ level.now.place.depth }
-    requires shallow { IsShallow level.now.place node }
-    ensures stack { IsStack diff.now stack.new }
-    ensures places { places_of stack.new ≡ places_below level.now.place node ++ places_of stack.old }
-{
-    if let Node::Split = node {
-        let (left, right) = level_halves(diff, level);
-        stack.push(right);
-        stack.push(left);
     }
 }

@@ -13,7 +13,7 @@ mod judge;
 mod tests;
 mod text;
 
-pub use certificate::{CertFault, Certificate, Node};
+pub use certificate::{CertFault, Certificate};
 pub use judge::{certificate_law, check};
-pub use sep_parts::{Curves, DIRECTIONS, Dirs, WIDE, separates, thresholds};
+pub use sep_parts::{Curves, DIRECTIONS, Dirs, Node, WIDE, separates, thresholds};
 pub use text::{CERTIFICATE_LIMIT, CertTextFault, read_certificate, text_law, write_certificate};

@@ -8,13 +8,15 @@
 ghost use Rattle.std.specs.Prelude.{◌≡◌, ◌↔◌, ◌+◌, ◌≤◌, ◌<◌, ◌++◌, ◌∷◌, [], length, flat_map, position, ◌==◌, All, IfOk, OnOk, MatchOption, IsFalse, IsTrue};
 ghost use Rattle.std.specs.Str.Lines.{lines, strip_carriage_return};
 ghost use Rattle.sep_parts.specs.Versions.{IsVersion, direction_word, known_in};
-ghost use Rattle.sep_certificate.specs.Certificates.{IsKnown, IsTree, IsWhole};
+ghost use Rattle.sep_certificate.specs.Certificates.{IsWhole};
+ghost use Rattle.sep_parts.specs.Trees.{IsKnown, IsTree};
 ghost use Rattle.sep_certificate.specs.Readings.{ReadingGives, TextLaw};
 ghost use Rattle.sep_certificate.specs.Steps.{IsNodeByte, ReadsFrom, TellsTree, leaf_in, node_of_byte};
 ghost use Rattle.sep_certificate.specs.Texts.{Says, depth_line, fed, head_lines, is_depth_line, is_tree_line, node_text, text_of, tree_line};
 
-use crate::certificate::{Certificate, Node};
+use crate::certificate::Certificate;
 use listed::Listed;
+use sep_parts::Node;
 use std::alloc::{AllocError, Global};
 
 /// How many bytes of text a certificate has at most.

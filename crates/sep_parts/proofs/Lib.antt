@@ -7,6 +7,8 @@ pub mod Parts
 pub mod Limits
 pub mod Differences
 pub mod Orders
+pub mod Stacks
+pub mod Trees
 pub mod Table
 pub mod Bounds
 pub mod Fleets

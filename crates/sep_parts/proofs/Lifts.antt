@@ -86,9 +86,11 @@ apart_lifts t u other_t other_u r h p q some t_lasts u_lasts other_t_lasts other
     (mul_positive R S (seventh_positive (own t p q).c (own_some t p q some t_lasts)) (seventh_positive (own u p q).c (own_some u p q some u_lasts)))
     (mul_positive P Q (seventh_positive (own other_t p q).c (own_some other_t p q some other_t_lasts)) (seventh_positive (own other_u p q).c (own_some other_u p q some other_u_lasts)))
     (axis_lift 0) (axis_lift 1) (axis_lift 2) old in
-    record { apart = subst (λ (z : ℤ). (pos (4 * (r * r) * (h * h)) *ℤ z) <ℤ
-        (pos (h * h) *ℤ (gap other_t other_u p q 0 *ℤ gap other_t other_u p q 0 +ℤ gap other_t other_u p q 1 *ℤ gap other_t other_u p q 1) +ℤ pos (r * r) *ℤ (gap other_t other_u p q 2 *ℤ gap other_t other_u p q 2)))
-        (sym (whole_of (pos (own other_t p q).c) (pos (own other_u p q).c))) new }
+    record {
+      apart = subst (λ (z : ℤ). (pos (4 * (r * r) * (h * h)) *ℤ z) <ℤ
+          (pos (h * h) *ℤ (gap other_t other_u p q 0 *ℤ gap other_t other_u p q 0 +ℤ gap other_t other_u p q 1 *ℤ gap other_t other_u p q 1) +ℤ pos (r * r) *ℤ (gap other_t other_u p q 2 *ℤ gap other_t other_u p q 2)))
+          (sym (whole_of (pos (own other_t p q).c) (pos (own other_u p q).c))) new;
+    }
   where
     axis_lift : (axis : ℕ) → gap other_t other_u p q axis *ℤ (power (pos (own t p q).c) 7 *ℤ power (pos (own u p q).c) 7)
         ≡ gap t u p q axis *ℤ (power (pos (own other_t p q).c) 7 *ℤ power (pos (own other_u p q).c) 7)
@@ -110,12 +112,14 @@ pub one_moment : (t u : Traj) (r h p q : ℕ) (m : Moment) → 1 ≤ m.c → own
 one_moment t u r h p q m some t_is u_is far =
     let C : ℤ = power (pos m.c) 7 in
     let old = subst (λ (z : ℤ). (pos (4 * (r * r) * (h * h)) *ℤ z) <ℤ
-        (pos (h * h) *ℤ (near_gap t u m 0 *ℤ near_gap t u m 0 +ℤ near_gap t u m 1 *ℤ near_gap t u m 1) +ℤ pos (r * r) *ℤ (near_gap t u m 2 *ℤ near_gap t u m 2))) (square_of (pos m.c)) far.apart in
+    (pos (h * h) *ℤ (near_gap t u m 0 *ℤ near_gap t u m 0 +ℤ near_gap t u m 1 *ℤ near_gap t u m 1) +ℤ pos (r * r) *ℤ (near_gap t u m 2 *ℤ near_gap t u m 2))) (square_of (pos m.c)) far.apart in
     let c_pos : pos 0 <ℤ C = seventh_positive m.c some in
     let new = lift (pos (4 * (r * r) * (h * h))) (pos (h * h)) (pos (r * r)) C (C *ℤ C) (near_gap t u m 0) (near_gap t u m 1) (near_gap t u m 2)
     (wide 0) (wide 1) (wide 2) c_pos (mul_positive C C c_pos c_pos) (widened 0) (widened 1) (widened 2) old in
-    record { apart = rw (t_is, u_is) (subst (λ (z : ℤ). (pos (4 * (r * r) * (h * h)) *ℤ z) <ℤ
-        (pos (h * h) *ℤ (wide 0 *ℤ wide 0 +ℤ wide 1 *ℤ wide 1) +ℤ pos (r * r) *ℤ (wide 2 *ℤ wide 2))) (sym (whole_of (pos m.c) (pos m.c))) new) }
+    record {
+      apart = rw (t_is, u_is) (subst (λ (z : ℤ). (pos (4 * (r * r) * (h * h)) *ℤ z) <ℤ
+          (pos (h * h) *ℤ (wide 0 *ℤ wide 0 +ℤ wide 1 *ℤ wide 1) +ℤ pos (r * r) *ℤ (wide 2 *ℤ wide 2))) (sym (whole_of (pos m.c) (pos m.c))) new);
+    }
   where
     wide : ℕ → ℤ
     wide axis = decoded u axis m *ℤ power (pos m.c) 7 -ℤ decoded t axis m *ℤ power (pos m.c) 7

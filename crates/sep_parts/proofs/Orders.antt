@@ -1,5 +1,6 @@
 -- The slots of a show in order: those from a slot on, and the slot behind it.
-use Rattle.std.proofs.Common.{◌≡◌, ◌⊎◌, inl, inr, ℕ, zero, suc, ◌+◌, ◌≤◌, nat_lt, true, false, arith, refl, List, [], ◌∷◌, ◌++◌, append_assoc}
+use Rattle.std.proofs.Common.{◌≡◌, ◌⊎◌, inl, inr, ℕ, zero, suc, ◌+◌, ◌≤◌, ◌<◌, nat_lt, true, false, arith, refl, List, [], ◌∷◌, ◌++◌, append_assoc, All}
+use Rattle.std.proofs.lemmas.List.Elements.{All-nil, All-cons, All-append}
 use Rattle.std.proofs.lemmas.Bool.Decides.{nat_tests}
 use Rattle.sep_parts.specs.declared.slot.Slot.{Slot}
 use Rattle.sep_parts.specs.Slots.{IsSlot, following, slots, slot_at, cues_from, pairs_from, drones_from}
@@ -90,3 +91,36 @@ next_ahead drones cues s rest from = go from.n from.cues_left from.rest_is
         (next : List Slot) × (rest ≡ s ∷ next) × IsAhead drones cues (following drones cues s) next
     go zero left is = absurd (omega (arith, left, from.is_slot.cue))
     go (suc n) left is = (behind n from.m from.k cues s, is, next_cue drones cues s n from.m from.k from.is_slot left from.pairs_left from.drones_left)
+
+-- ---- what is still to come
+pub none_ahead : (drones cues : ℕ) (s : Slot) (rest : List Slot) → drones ≤ s.b → IsAhead drones cues s rest → rest ≡ []
+none_ahead drones cues s rest past (inl from) = absurd (omega (arith, from.is_slot.second))
+none_ahead drones cues s rest past (inr over) = over.1
+
+pub some_ahead : (drones cues : ℕ) (s : Slot) (rest : List Slot) → s.b < drones → IsAhead drones cues s rest → IsFrom drones cues s rest
+some_ahead drones cues s rest here (inl from) = from
+some_ahead drones cues s rest here (inr over) = absurd (omega (arith, over.0))
+
+-- ---- what slots name
+cues_named : (n drones cues a b cue : ℕ) → a < b → b < drones → n + cue ≤ cues → All (IsSlot drones cues) (cues_from n a b cue)
+cues_named zero drones cues a b cue order inside few = All-nil (IsSlot drones cues)
+cues_named (suc n) drones cues a b cue order inside few =
+    All-cons (IsSlot drones cues) (slot_at a b cue) (cues_from n a b (suc cue)) (record { first = order; second = inside; cue = omega arith })
+    (cues_named n drones cues a b (suc cue) order inside (omega arith))
+
+pairs_named : (n drones cues a b : ℕ) → a < b → b + n ≤ drones → All (IsSlot drones cues) (pairs_from n cues a b)
+pairs_named zero drones cues a b order few = All-nil (IsSlot drones cues)
+pairs_named (suc n) drones cues a b order few =
+    All-append (IsSlot drones cues) (cues_from cues a b 0) (pairs_from n cues a (suc b))
+    (cues_named cues drones cues a b 0 order (omega arith) (omega arith)) (pairs_named n drones cues a (suc b) (omega arith) (omega arith))
+
+drones_named : (n drones cues a : ℕ) → a + n ≤ drones → All (IsSlot drones cues) (drones_from n cues a)
+drones_named zero drones cues a few = All-nil (IsSlot drones cues)
+drones_named (suc n) drones cues a few =
+    All-append (IsSlot drones cues) (pairs_from n cues a (suc a)) (drones_from n cues (suc a))
+    (pairs_named n drones cues a (suc a) (omega arith) (omega arith)) (drones_named n drones cues (suc a) (omega arith))
+
+-- the slots of a show are pairs of its drones and its cues
+pub slots_named : (drones cues : ℕ) → All (IsSlot drones cues) (slots drones cues)
+unfolding slots
+slots_named drones cues = drones_named drones drones cues 0 (omega arith)

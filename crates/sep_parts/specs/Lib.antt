@@ -6,3 +6,4 @@ pub mod Steps
 pub mod Apart
 pub mod Slots
 pub mod Levels
+pub mod Trees

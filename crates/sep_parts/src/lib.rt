@@ -9,7 +9,9 @@
 mod apart;
 mod curves;
 mod directions;
+mod node;
 mod part;
+mod rules;
 mod slot;
 mod stack;
 #[cfg(test)]
@@ -18,6 +20,8 @@ mod tests;
 pub use apart::apart_law;
 pub use curves::Curves;
 pub use directions::{DIRECTIONS, Dirs, WIDE, table_law, threshold_law, thresholds};
+pub use node::{Node, tree_law};
 pub use part::{first_below, halves, low_control, projected, separates};
+pub use rules::Rules;
 pub use slot::Slot;
 pub use stack::{Level, Stack, level_halves};

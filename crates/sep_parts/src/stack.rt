@@ -1,9 +1,11 @@
 //! The places of a tree that are still to be judged, with the parts of the curves there.
 
-ghost use Rattle.std.specs.Prelude.{◌≡◌, ◌<◌, ◌^◌, [], ◌∷◌, length, All, MatchOption};
+ghost use Rattle.std.specs.Prelude.{◌≡◌, ◌<◌, ◌≤◌, ◌^◌, [], ◌∷◌, ◌++◌, length, All, MatchOption};
 ghost use Rattle.fleet_math.specs.Numbers.{IsBelow};
-ghost use Rattle.sep_parts.specs.Levels.{IsLevel, left_half, right_half};
+ghost use Rattle.sep_parts.specs.Levels.{IsLevel, IsStack, left_half, places_of, right_half};
+ghost use Rattle.sep_parts.specs.Trees.{IsShallow, places_below};
 
+use crate::node::Node;
 use crate::part::halves;
 use bezier_core::Bez;
 use halving::Place;
@@ -89,5 +91,23 @@ impl Stack {
         let level = self.levels[self.top];
         self.top += 1;
         Some(level)
+    }
+
+    /// The halves of a level on top, the first half first, where its node is a split. `diff` are the differences whose parts stand
+    /// in the stack.
+    pub fn push_below(&mut self, diff: &[Bez<8>; 3], level: &Level, node: Node)
+        requires values { All (λ curve. All (IsBelow (2 ^ 30)) curve.b) diff.now }
+        requires level { IsLevel diff.now level.now }
+        requires stack { IsStack diff.now self.old }
+        requires room { length self.old ≤ level.now.place.depth }
+        requires shallow { IsShallow level.now.place node }
+        ensures stack { IsStack diff.now self.new }
+        ensures places { places_of self.new ≡ places_below level.now.place node ++ places_of self.old }
+    {
+        if let Node::Split = node {
+            let (left, right) = level_halves(diff, level);
+            self.push(right);
+            self.push(left);
+        }
     }
 }

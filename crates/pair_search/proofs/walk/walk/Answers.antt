@@ -1,7 +1,7 @@
 use Rattle.std.proofs.Common.{sym, ◌∙◌, subst, List, ◌∷◌}
 use Rattle.sep_parts.specs.declared.stack.Level.{Level}
 use Rattle.sep_parts.specs.Levels.{IsStack}
-use Rattle.sep_certificate.proofs.Stacks.{first_stack}
+use Rattle.sep_parts.proofs.Stacks.{first_stack}
 use Rattle.pair_search.specs.Search.{first_direction}
 use Rattle.pair_search.proofs.Halves.{left_has, right_has}
 use Rattle.pair_search.proofs.Trees.{begun, less_pending, past_pending, blocked_pending, ended_pending}

@@ -1,14 +1,11 @@
-use Rattle.std.proofs.Common.{◌∙◌, ap}
 use Rattle.sep_parts.specs.Slots.{slots}
-use Rattle.sep_certificate.specs.Certificates.{rules_of, spelled_tree}
+use Rattle.sep_certificate.specs.Certificates.{rules_of}
 use Rattle.sep_certificate.proofs.Keeping.{keeps}
-use Rattle.sep_certificate.proofs.Trees.{tree_back, tree_told}
 use Rattle.sep_certificate.proofs.Verdicts.{valid_of, none_of_valid}
 use Rattle.sep_certificate.proofs.judge.certificate_law.Goals as goal
 
 pub returns : goal.returns
 returns c = record {
-  spelled = λ nodes tree. (tree_told nodes tree, λ is. ap spelled_tree is ∙ tree_back tree);
   apart = λ dirs curves r h cert valid. keeps (rules_of r h cert) dirs curves cert.trees valid;
   exact = λ dirs curves r h cert whole. (
     valid_of (rules_of r h cert) dirs curves (slots curves.drones curves.cues) 0 cert.trees whole.trees,

@@ -2,9 +2,9 @@ use Rattle.std.proofs.Common.{◌≡◌, ◌+◌, ◌∷◌, refl, List, sym, �
 use Rattle.std.proofs.lemmas.List.Elements.{All-get_or}
 use Rattle.sep_parts.specs.declared.slot.Slot.{Slot}
 use Rattle.sep_parts.specs.Slots.{following, slots}
-use Rattle.sep_parts.proofs.Orders.{IsAhead, IsFrom, first_ahead, next_ahead}
-use Rattle.sep_certificate.specs.Certificates.{IsTree}
-use Rattle.sep_certificate.proofs.Walks.{none_ahead, some_ahead, extra_found, missing_found, none_found, tree_faulty, tree_clean, tree_told}
+use Rattle.sep_parts.proofs.Orders.{IsAhead, IsFrom, first_ahead, next_ahead, none_ahead, some_ahead}
+use Rattle.sep_parts.specs.Trees.{IsTree}
+use Rattle.sep_certificate.proofs.Walks.{extra_found, missing_found, none_found, tree_faulty, tree_clean, tree_told}
 use Rattle.sep_certificate.proofs.judge.first_fault.Goals as goal
 
 pub loop-nodes-init : goal.loop-nodes-init

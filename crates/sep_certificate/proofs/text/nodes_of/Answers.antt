@@ -1,6 +1,6 @@
 use Rattle.std.proofs.Common.{◌≡◌, ◌≤◌, [], length, take, map, ap, ◌∙◌, List, ℕ}
 use Rattle.std.proofs.lemmas.List.{take_all}
-use Rattle.sep_certificate.specs.declared.certificate.Node.{Node}
+use Rattle.sep_parts.specs.declared.node.Node.{Node}
 use Rattle.sep_certificate.specs.Steps.{node_of_byte}
 use Rattle.sep_certificate.proofs.Grammar.{counted_old}
 use Rattle.sep_certificate.proofs.Spelled.{node_byte_at, line_told}

@@ -2,8 +2,8 @@ use Rattle.std.proofs.Common.{◌≡◌, ◌<◌, ◌+◌, ◌∷◌, ◌++◌, 
 use Rattle.std.specs.Str.Lines.{lines}
 use Rattle.sep_parts.specs.Versions.{known_in}
 use Rattle.sep_parts.proofs.Fleets.{all_push}
-use Rattle.sep_certificate.specs.declared.certificate.Node.{Node}
-use Rattle.sep_certificate.specs.Certificates.{IsKnown, IsTree}
+use Rattle.sep_parts.specs.declared.node.Node.{Node}
+use Rattle.sep_parts.specs.Trees.{IsKnown, IsTree}
 use Rattle.sep_certificate.specs.Steps.{TellsTree}
 use Rattle.sep_certificate.specs.Texts.{bad_tree, depth_line, tree_line}
 use Rattle.sep_certificate.proofs.Readers.{lines_next, bad_next, bad_first, first_some, some_left, no_lines}

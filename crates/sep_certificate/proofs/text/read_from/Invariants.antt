@@ -1,7 +1,7 @@
 use Rattle.std.proofs.Common.{◌≡◌, ◌≤◌, ◌+◌, ◌++◌, ◌∷◌, length, map, All}
 use Rattle.std.specs.Str.Lines.{lines}
 use Rattle.sep_parts.specs.Versions.{known_in}
-use Rattle.sep_certificate.specs.Certificates.{IsKnown, IsTree}
+use Rattle.sep_parts.specs.Trees.{IsKnown, IsTree}
 use Rattle.sep_certificate.specs.Texts.{bad_from, bad_tree, depth_line, tree_line}
 use Rattle.sep_certificate.proofs.text.read_from.Given as goal
 

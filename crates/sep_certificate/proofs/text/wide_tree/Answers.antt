@@ -1,9 +1,9 @@
 use Rattle.std.proofs.Common.{◌≡◌, ℕ, ◌+◌, ◌-◌, ◌≤◌, true, refl, arith, sym, ◌∙◌, ap, List, ◌++◌, append-nil, length, length-drop, drop, take, All, Some, None}
 use Rattle.std.proofs.lemmas.List.{take_all}
-use Rattle.sep_certificate.specs.declared.certificate.Node.{Node}
-use Rattle.sep_certificate.specs.declared.certificate.Node.TheVariants.{Split, Leaf}
+use Rattle.sep_parts.specs.declared.node.Node.{Node}
+use Rattle.sep_parts.specs.declared.node.Node.TheVariants.{Split, Leaf}
 use Rattle.sep_certificate.specs.Steps.{is_spelled_wide, leaf_in, wide_nodes}
-use Rattle.sep_certificate.specs.Certificates.{IsKnown, IsTree}
+use Rattle.sep_parts.specs.Trees.{IsKnown, IsTree}
 use Rattle.sep_certificate.specs.Texts.{is_tree_line, tree_line}
 use Rattle.sep_certificate.proofs.Grammar.{counted_wide}
 use Rattle.sep_certificate.proofs.Digits.{nodes_next, wide_end, wide_nodes_told, wide_leaf, wide_over, wide_split, wide_stop}

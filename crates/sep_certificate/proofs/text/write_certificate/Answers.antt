@@ -1,7 +1,7 @@
 use Rattle.std.proofs.Common.{◌≡◌, ◌++◌, List, ℕ, sym, subst, ◌∙◌, ap, take}
 use Rattle.std.specs.List.{flat_map}
 use Rattle.std.proofs.lemmas.List.{take_all}
-use Rattle.sep_certificate.specs.declared.certificate.Node.{Node}
+use Rattle.sep_parts.specs.declared.node.Node.{Node}
 use Rattle.sep_certificate.specs.Texts.{Says, fed, head_lines, text_of, tree_line}
 use Rattle.sep_certificate.proofs.TextLaws.{texts}
 use Rattle.sep_certificate.proofs.text.write_certificate.Goals as goal
