@@ -7,6 +7,7 @@ pub mod Parts
 pub mod Limits
 pub mod Differences
 pub mod Orders
+pub mod Rows
 pub mod Stacks
 pub mod Trees
 pub mod Table

@@ -1,5 +1,5 @@
 -- Words of private steps and of what Curves keep. No public clause cites them.
-use Rattle.std.specs.Prelude.{◌≡◌, ℕ, ◌*◌, ◌^◌, ◌≤◌, List, length, All}
+use Rattle.std.specs.Prelude.{◌≡◌, ℕ, ◌*◌, ◌^◌, ◌≤◌, ℤ, List, length, map, All}
 use Rattle.fleet_math.specs.Limits.{most_cues}
 use Rattle.fleet_math.specs.Numbers.{IsBelow}
 use Rattle.bezier_core.specs.declared.Bez.{Bez}
@@ -16,7 +16,15 @@ IsFormed s = (axis : ℕ) → axis ≤ 2 → length (stored (element_on s axis))
 abbrev pub AreSmallCurves : List (Bez 8) → Type 0
 AreSmallCurves curves = All (λ (curve : Bez 8). All (IsBelow (2 ^ 28)) curve.b) curves
 
--- what Curves keep: 1 to 32 drones, 1 to 255 cues, the curves of each, and their values below 2^28
+-- the curves of rows of control values
+abbrev pub curves_of : List (List ℤ) → List (Bez 8)
+curves_of rows = map (λ row. record { b = row }) rows
+
+-- those of a fleet
+abbrev pub all_curves : List (List (List ℤ)) → List (List (Bez 8))
+all_curves all = map curves_of all
+
+-- what Curves keep: 1 to 32 drones, 1 to 1,000 cues, the curves of each, and their values below 2^28
 pub record AreHeld (c : Raised) : Type 0 where
   pub some_drones : 1 ≤ c.drones
   pub few_drones : c.drones ≤ most_drones

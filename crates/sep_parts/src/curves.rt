@@ -4,12 +4,13 @@ ghost use Rattle.std.specs.Prelude.{◌≡◌, ℕ, ◌+◌, ◌*◌, ◌^◌, �
 ghost use Rattle.fleet_math.specs.Numbers.{IsBelow};
 ghost use Rattle.fleet_math.specs.Decoded.{last_value};
 ghost use Rattle.bezier_core.specs.Curves.{IsLength};
+ghost use Rattle.bezier_core.specs.Along.{controls};
 ghost use Rattle.bezier_core.specs.Raised.{raised};
 ghost use Rattle.fleet_math.specs.Limits.{most_cues};
 ghost use Rattle.traj_codec.specs.Spelling.{stored};
 ghost use Rattle.traj_codec.specs.Positions.{element_on, value_after};
 ghost use Rattle.sep_parts.specs.Raised.{CurvesStandFor, IsOneShow, difference, less, most_drones, raised_element, raised_traj, raised_of};
-ghost use Rattle.sep_parts.specs.Steps.{AreSmallCurves, IsFormed};
+ghost use Rattle.sep_parts.specs.Steps.{AreSmallCurves, IsFormed, all_curves, curves_of};
 
 use bezier_core::Bez;
 use std::alloc::{AllocError, Global};
@@ -17,23 +18,23 @@ use std::marker::Model;
 use traj_codec::{Element, Segment, Traj};
 
 /// The raised curves of a fleet: of each drone in each cue the three on x, y and z, each as the eight control values of degree
-/// seven of 5,040 times the curve, in millimetres.
+/// seven of 5,040 times the curve, in millimetres. A control value is below 2^28, so they are kept in 32 bits.
 #[derive(Drop)]
 pub struct Curves {
     drones: u8,
     cues: u16,
-    all: Vec<[Bez<8>; 3]>,
+    all: Vec<[[i32; 8]; 3]>,
 }
 
 impl Model for Curves {
     ghost use Rattle.sep_parts.specs.Raised.{Raised};
-    ghost use Rattle.sep_parts.specs.Steps.{AreHeld};
+    ghost use Rattle.sep_parts.specs.Steps.{AreHeld, all_curves};
 
     ghost Value = { Raised };
 
-    ghost view = { λ c. record { drones = c.drones; cues = c.cues; curves = c.all.items } };
+    ghost view = { λ c. record { drones = c.drones; cues = c.cues; curves = all_curves c.all.items } };
 
-    ghost invariant = { λ c. AreHeld (record { drones = c.drones; cues = c.cues; curves = c.all.items }) };
+    ghost invariant = { λ c. AreHeld (record { drones = c.drones; cues = c.cues; curves = all_curves c.all.items }) };
 }
 
 impl Curves {
@@ -98,10 +99,10 @@ impl Curves {
 }
 
 // The first three curves less the others.
-fn differences(second: &[Bez<8>; 3], first: &[Bez<8>; 3]) -> [Bez<8>; 3]
-    requires second { All (λ curve. All (IsBelow (2 ^ 28)) curve.b) second.now }
-    requires first { All (λ curve. All (IsBelow (2 ^ 28)) curve.b) first.now }
-    ensures exact { result ≡ less second.now first.now 0 ∷ less second.now first.now 1 ∷ less second.now first.now 2 ∷ [] }
+fn differences(second: &[[i32; 8]; 3], first: &[[i32; 8]; 3]) -> [Bez<8>; 3]
+    requires second { AreSmallCurves (curves_of second.now) }
+    requires first { AreSmallCurves (curves_of first.now) }
+    ensures exact { result ≡ less (curves_of second.now) (curves_of first.now) 0 ∷ less (curves_of second.now) (curves_of first.now) 1 ∷ less (curves_of second.now) (curves_of first.now) 2 ∷ [] }
     ensures small { All (λ curve. All (IsBelow (2 ^ 30)) curve.b) result }
 {
     [
@@ -112,14 +113,55 @@ fn differences(second: &[Bez<8>; 3], first: &[Bez<8>; 3]) -> [Bez<8>; 3]
 }
 
 // One curve less another.
-fn one_less(second: &[Bez<8>; 3], first: &[Bez<8>; 3], axis: usize) -> Bez<8>
+fn one_less(second: &[[i32; 8]; 3], first: &[[i32; 8]; 3], axis: usize) -> Bez<8>
     requires axis { axis < 3 }
-    requires second { All (λ curve. All (IsBelow (2 ^ 28)) curve.b) second.now }
-    requires first { All (λ curve. All (IsBelow (2 ^ 28)) curve.b) first.now }
-    ensures exact { result ≡ less second.now first.now axis }
+    requires second { AreSmallCurves (curves_of second.now) }
+    requires first { AreSmallCurves (curves_of first.now) }
+    ensures exact { result ≡ less (curves_of second.now) (curves_of first.now) axis }
     ensures small { All (IsBelow (2 ^ 30)) result.b }
 {
-    second[axis].minus(&first[axis])
+    curve_on(second, axis).minus(&curve_on(first, axis))
+}
+
+// The curve on an axis.
+fn curve_on(rows: &[[i32; 8]; 3], axis: usize) -> Bez<8>
+    requires axis { axis < 3 }
+    requires rows { AreSmallCurves (curves_of rows.now) }
+    ensures exact { result.b ≡ controls (curves_of rows.now) axis }
+    ensures small { All (IsBelow (2 ^ 28)) result.b }
+{
+    widened(&rows[axis])
+}
+
+// A curve whose control values are kept in 32 bits.
+fn widened(row: &[i32; 8]) -> Bez<8>
+    ensures { result.b ≡ row.now }
+{
+    let mut b = [0; 8];
+    for k in 0..8 {
+        b[k] = row[k] as i128;
+    }
+    Bez { b }
+}
+
+// The control values of a curve in 32 bits.
+fn narrowed(curve: &Bez<8>) -> [i32; 8]
+    requires { All (IsBelow (2 ^ 28)) curve.now.b }
+    ensures { result ≡ curve.now.b }
+{
+    let mut row = [0; 8];
+    for k in 0..8 {
+        row[k] = narrow(curve.b[k]);
+    }
+    row
+}
+
+// A control value in 32 bits.
+fn narrow(value: i128) -> i32
+    requires { IsBelow (2 ^ 28) value }
+    ensures { result ≡ value }
+{
+    value as i32
 }
 
 // Where the curves of a drone and a cue stand.
@@ -133,11 +175,11 @@ fn place_of(drones: u8, cues: u16, drone: usize, cue: usize) -> usize
 }
 
 // The raised curves of one trajectory, behind others.
-fn add_traj(all: &mut Vec<[Bez<8>; 3]>, t: &Traj) -> Result<(), AllocError>
-    requires { All AreSmallCurves all.old.items }
-    ensures curves { OnOk result (all.new.items ≡ all.old.items ++ raised_traj t.now) }
+fn add_traj(all: &mut Vec<[[i32; 8]; 3]>, t: &Traj) -> Result<(), AllocError>
+    requires { All AreSmallCurves (all_curves all.old.items) }
+    ensures curves { OnOk result (all_curves all.new.items ≡ all_curves all.old.items ++ raised_traj t.now) }
     ensures formed { OnOk result (All IsFormed t.now.segments) }
-    ensures small { OnOk result (All AreSmallCurves all.new.items) }
+    ensures small { OnOk result (All AreSmallCurves (all_curves all.new.items)) }
 {
     let mut x = t.start[0];
     let mut y = t.start[1];
@@ -152,15 +194,15 @@ fn add_traj(all: &mut Vec<[Bez<8>; 3]>, t: &Traj) -> Result<(), AllocError>
 }
 
 // The raised curves of one segment.
-fn raised_segment(x: i16, y: i16, z: i16, s: &Segment) -> [Bez<8>; 3]
-    ensures exact { result ≡ raised_element x (element_on s.now 0) ∷ raised_element y (element_on s.now 1) ∷ raised_element z (element_on s.now 2) ∷ [] }
+fn raised_segment(x: i16, y: i16, z: i16, s: &Segment) -> [[i32; 8]; 3]
+    ensures exact { curves_of result ≡ raised_element x (element_on s.now 0) ∷ raised_element y (element_on s.now 1) ∷ raised_element z (element_on s.now 2) ∷ [] }
     ensures formed { IsFormed s.now }
-    ensures small { AreSmallCurves result }
+    ensures small { AreSmallCurves (curves_of result) }
 {
     [
-        raised(x, s.elements[0]),
-        raised(y, s.elements[1]),
-        raised(z, s.elements[2]),
+        narrowed(&raised(x, s.elements[0])),
+        narrowed(&raised(y, s.elements[1])),
+        narrowed(&raised(z, s.elements[2])),
     ]
 }
 

@@ -4,14 +4,14 @@ use Rattle.std.proofs.lemmas.List.{take_all}
 use Rattle.bezier_core.specs.declared.Bez.{Bez}
 use Rattle.traj_codec.specs.declared.traj.Traj.{Traj}
 use Rattle.sep_parts.specs.Raised.{raised_traj, cues_in, raised_of}
-use Rattle.sep_parts.specs.Steps.{IsFormed}
+use Rattle.sep_parts.specs.Steps.{IsFormed, all_curves}
 use Rattle.sep_parts.proofs.Fleets.{fleet_more, fleet_held, first_cues, first_cues_in, all_more}
 use Rattle.sep_parts.proofs.Standing.{stands}
 use Rattle.sep_parts.proofs.curves.Curves.of_slice.Goals as goal
 
 pub loop-t-preserved : goal.loop-t-preserved
 loop-t-preserved c = record {
-  curves = fleet_more raised_traj c.args.trajs.now c.loop-t.t-index c.t-item.result c.loop-t.all.items c.add_traj.new.all.items c.loop-t-test.true c.t-item.is c.loop-t.invariant.curves c.in_ok-add_traj.ensures.curves;
+  curves = fleet_more raised_traj c.args.trajs.now c.loop-t.t-index c.t-item.result (all_curves c.loop-t.all.items) (all_curves c.add_traj.new.all.items) c.loop-t-test.true c.t-item.is c.loop-t.invariant.curves c.in_ok-add_traj.ensures.curves;
   formed = all_more (λ (t : Traj). All IsFormed t.segments) c.args.trajs.now c.loop-t.t-index c.t-item.result c.loop-t-test.true c.loop-t.invariant.formed
       (subst (λ (t : Traj). All IsFormed t.segments) c.t-item.is c.in_ok-add_traj.ensures.formed);
   small = c.in_ok-add_traj.ensures.small;
@@ -19,14 +19,14 @@ loop-t-preserved c = record {
 
 pub invariant_of-result : goal.invariant_of-result
 invariant_of-result c =
-    let curves_are : c.loop-t.all.items ≡ flat_map raised_traj c.args.trajs.now =
+    let curves_are : all_curves c.loop-t.all.items ≡ flat_map raised_traj c.args.trajs.now =
     c.loop-t.invariant.curves ∙ ap (λ (ts : List Traj). flat_map raised_traj ts) (take_all c.loop-t.t-index c.args.trajs.now c.loop-t-test.false) in
     let cues : length c.as_slice.result.now ≡ length c.requires.0 = first_cues c.args.trajs.now c.requires.0 c.index-trajs-0.result c.as_slice.result.now c.requires.1 c.index-trajs-0.is (c.as_slice.ensures ∙ sym (ap (λ (t : Traj). t.segments) c.index-trajs-0.is)) in
-    fleet_held c.args.trajs.now c.requires.0 (length c.args.trajs.now) (length c.as_slice.result.now) c.loop-t.all.items c.requires.1 refl cues curves_are c.loop-t.invariant.small
+    fleet_held c.args.trajs.now c.requires.0 (length c.args.trajs.now) (length c.as_slice.result.now) (all_curves c.loop-t.all.items) c.requires.1 refl cues curves_are c.loop-t.invariant.small
 
 pub returns-clause-stands : goal.returns-clause-stands
 returns-clause-stands c =
-    let curves_are : c.loop-t.all.items ≡ flat_map raised_traj c.args.trajs.now =
+    let curves_are : all_curves c.loop-t.all.items ≡ flat_map raised_traj c.args.trajs.now =
     c.loop-t.invariant.curves ∙ ap (λ (ts : List Traj). flat_map raised_traj ts) (take_all c.loop-t.t-index c.args.trajs.now c.loop-t-test.false) in
     let cues : length c.as_slice.result.now ≡ length c.requires.0 = first_cues c.args.trajs.now c.requires.0 c.index-trajs-0.result c.as_slice.result.now c.requires.1 c.index-trajs-0.is (c.as_slice.ensures ∙ sym (ap (λ (t : Traj). t.segments) c.index-trajs-0.is)) in
     stands _ c.args.trajs.now c.requires.0 c.requires.1
@@ -40,7 +40,7 @@ is_raised trajs drones cues curves drones_are cues_are curves_are = rw (drones_a
 
 pub returns-clause-exact : goal.returns-clause-exact
 returns-clause-exact c =
-    is_raised c.args.trajs.now (length c.args.trajs.now) (length c.as_slice.result.now) c.loop-t.all.items
+    is_raised c.args.trajs.now (length c.args.trajs.now) (length c.as_slice.result.now) (all_curves c.loop-t.all.items)
     refl
     (first_cues_in c.args.trajs.now c.index-trajs-0.result c.as_slice.result.now c.requires.1.some_drones c.index-trajs-0.is (c.as_slice.ensures ∙ sym (ap (λ (t : Traj). t.segments) c.index-trajs-0.is)))
     (c.loop-t.invariant.curves ∙ ap (λ (ts : List Traj). flat_map raised_traj ts) (take_all c.loop-t.t-index c.args.trajs.now c.loop-t-test.false))
