@@ -125,6 +125,21 @@ fn differences_of_two_drones(rt: HostRuntime) -> Result<(), Fail> {
     Ok(())
 }
 
+// From one end of the range to the other: 65,535 mm, times 5,040.
+#[test]
+fn the_largest_difference(rt: HostRuntime) -> Result<(), Fail> {
+    let alloc = rt.alloc();
+    let low = way(alloc, [[-32768, 32767, 0]; 4])?;
+    let high = way(alloc, [[32767, -32768, 0]; 4])?;
+    let trajs = vec![in alloc; low, high]?;
+    let curves = Curves::make(alloc, &trajs)?;
+    let apart = curves.diff(0, 1, 2);
+    assert_eq!(rt; apart[0].b, [330296400; 8]);
+    assert_eq!(rt; apart[1].b, [-330296400; 8]);
+    assert_eq!(rt; apart[2].b, [0; 8]);
+    Ok(())
+}
+
 const FOR_TWO: [(&[u8], Outcome); 11] = [
     (b"certificate 6\nr\nl\na\n", Outcome::Valid),
     (b"certificate 6\r\nr\r\nl\r\na", Outcome::Valid),

@@ -4,7 +4,8 @@ ghost use Rattle.std.specs.Prelude.{◌^◌, All};
 ghost use Rattle.fleet_math.specs.Numbers.{IsBelow};
 
 use super::*;
-use bezier_core::{Bez, along_at};
+use bezier_core::Bez;
+use halving::Place;
 use std::test::Fail;
 
 #[test]
@@ -75,22 +76,6 @@ fn the_first_control_value_that_is_too_low(rt: HostRuntime) -> Result<(), Fail> 
     Ok(())
 }
 
-#[test]
-fn one_weighted_sum(rt: HostRuntime) -> Result<(), Fail> {
-    let x = Bez {
-        b: [1, 2, 3, 4, 5, 6, 7, 8],
-    };
-    let y = Bez {
-        b: [0, 1, 0, 1, 0, 1, 0, 1],
-    };
-    let z = Bez {
-        b: [-3, 0, 0, 0, 0, 0, 0, 9],
-    };
-    assert_eq!(rt; along_at(&[x, y, z], [300, -300, 120], 0), -60);
-    assert_eq!(rt; along_at(&[x, y, z], [300, -300, 120], 7), 3180);
-    Ok(())
-}
-
 // Three drones in two cues: the pairs by first and then second drone, for each the cues, and then a pair that is none.
 #[test]
 fn pairs_and_cues_in_order(rt: HostRuntime) -> Result<(), Fail> {
@@ -124,5 +109,60 @@ fn both_halves_of_a_cue(rt: HostRuntime) -> Result<(), Fail> {
     assert_eq!(rt; second[0].b, [64, 84, 104, 120, 128, 128, 128, 128]);
     assert_eq!(rt; first[1].b, [0; 8]);
     assert_eq!(rt; second[2].b, [640; 8]);
+    Ok(())
+}
+
+// Whether a level stands at a place, and has these control values on x.
+fn is_at(level: &Level, depth: u8, index: u16, x: [i128; 8]) -> bool {
+    level.place.depth == depth && level.place.index == index && level.part[0].b == x
+}
+
+// The halves of the step, and those of its second half, whose first is the third quarter: by the double sum.
+#[test]
+fn halves_wait_in_order(rt: HostRuntime) -> Result<(), Fail> {
+    let step = Bez::<8> {
+        b: [0, 0, 0, 0, 1, 1, 1, 1],
+    };
+    let diff = [step, Bez::<8> { b: [0; 8] }, Bez::<8> { b: [5; 8] }];
+    let whole = Level {
+        place: Place { depth: 0, index: 0 },
+        part: diff,
+    };
+    let (first, second) = level_halves(&diff, &whole);
+    assert!(rt; is_at(&first, 1, 0, [0, 0, 0, 0, 8, 24, 44, 64]));
+    assert!(rt; is_at(&second, 1, 1, [64, 84, 104, 120, 128, 128, 128, 128]));
+    let mut stack = Stack::of(second);
+    let Some(top) = stack.pop() else {
+        assert!(rt; false);
+        return Ok(());
+    };
+    stack.push_below(&diff, &top, Node::Leaf { dir: 0 });
+    assert!(rt; stack.pop().is_none());
+    stack.push_below(&diff, &top, Node::Split);
+    let Some(third) = stack.pop() else {
+        assert!(rt; false);
+        return Ok(());
+    };
+    assert!(rt;
+        is_at(
+            &third,
+            2,
+            2,
+            [8192, 9472, 10752, 11968, 13056, 13968, 14688, 15228]
+        )
+    );
+    let Some(last) = stack.pop() else {
+        assert!(rt; false);
+        return Ok(());
+    };
+    assert!(rt;
+        is_at(
+            &last,
+            2,
+            3,
+            [15228, 15768, 16128, 16320, 16384, 16384, 16384, 16384]
+        )
+    );
+    assert!(rt; stack.pop().is_none());
     Ok(())
 }
