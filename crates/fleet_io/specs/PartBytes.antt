@@ -29,7 +29,8 @@ abbrev pub next_of : Bool → List ℕ → Next
 next_of at_line [] = NextEnd
 next_of at_line (b ∷ bytes) = if is_marked_here at_line (b ∷ bytes) then NextMarker (behind_piece (b ∷ bytes)) else NextByte b bytes
 
--- What is left of the part, whether a marker line ends it, and what stands behind that, where a line begins here or not.
+-- What is left of the part, whether a marker line ends it, and what stands after that, where a line begins here or
+-- not.
 abbrev pub part_left : Bool → List ℕ → List ℕ
 part_left at_line [] = []
 part_left at_line (b ∷ bytes) = if is_marked_here at_line (b ∷ bytes) then [] else b ∷ part_left (b == 10) bytes

@@ -19,8 +19,8 @@ TakesMarked old new = (taken : List ℕ) × Consumes old new taken × (has_whole
 abbrev pub TakesFewBehind : Option (List ℕ) → Option (List ℕ) → Type 0
 TakesFewBehind old left = IfSome old (λ all. IfSome left (λ rest. length (rest_of all) ≤ length rest + 4096))
 
--- A text in which a marker line stands with its line feed has the same part, whatever comes behind it, and what comes behind it
--- comes behind its rest.
+-- A text in which a marker line stands with its line feed has the same part, whatever comes after it, and what comes
+-- after it comes after its rest.
 abbrev pub MarkerLaw : Type 0
 MarkerLaw =
     (text more : List ℕ) → has_whole_marker text ≡ true →

@@ -297,8 +297,8 @@ impl Parts {
         ensures asks { ((S.left source.new ≡ S.left source.old) × (S.faults source.new ≡ S.faults source.old)) ⊎ Asked self.old.waiting (S.left source.old) (S.left source.new) }
         ensures patient { has_whole_marker self.old.waiting ≡ true → (S.left source.new ≡ S.left source.old) × (S.faults source.new ≡ S.faults source.old) }
         ensures most { length self.new.waiting ≤ buffer_bytes }
-        // How much it reads: at `TooLong`, and else, up to 4,096 bytes more than the part may have with a marker line; of what stands
-        // after the part and its marker line at most 4,096 bytes. Without a whole marker line it reads to the end.
+        // How much it reads: in any case at most 4,096 bytes more than `limit` and a marker line; of what stands after the
+        // part and its marker line at most 4,096 bytes; and to the end where no marker line is whole.
         ensures few { TakesAtMost (limit + 4 + 4096) (S.left source.old) (S.left source.new) }
         ensures behind { IfOk result (λ _. TakesFewBehind (stream self.old (S.left source.old)) (S.left source.new)) }
         ensures met { IfOk result (λ _. IfSome (stream self.old (S.left source.old)) (λ all. has_whole_marker all ≡ false → IsTrue self.new.ended)) }
@@ -315,8 +315,8 @@ impl Parts {
         }
     }
 
-    /// The next of the bytes to come; `None` is the end. It asks the source only where none is waiting, and takes no memory. After
-    /// `Failed` the reader isn't `sound`; behind a byte no part can be read.
+    /// The next of the bytes to come; `None` is the end. It asks the source only where none is waiting, and takes no
+    /// memory. After `Failed` the reader isn't `sound`; after a byte no part can be read.
     pub fn byte<S: Source>(&mut self, source: &mut S) -> Result<Option<u8>, Failed>
         requires sound { IsTrue self.old.sound }
         requires at_end { IsTrue self.old.ended → IsAtEnd (S.left source.old) }
@@ -400,9 +400,9 @@ impl Parts {
         Ok(Ask::Marker)
     }
 
-    /// What comes next of the part: a byte, the marker line that ends it, which is taken, or the end of the input. It takes no
-    /// memory. Byte by byte a part is what `text` gives of it (`part_law`), where the calls begin at the part's first byte: the
-    /// lines that `text` cuts begin where its call begins. After `Failed` the reader isn't `sound`.
+    /// What comes next of the part: a byte, the marker line that ends it, which is taken, or the end of the input. It takes
+    /// no memory. Byte by byte a part is what `text` gives of it (`part_law`), where the calls begin at the part's first
+    /// byte: the lines that `text` cuts begin where its call begins. After `Failed` the reader isn't `sound`.
     pub fn part_byte<S: Source>(&mut self, source: &mut S) -> Result<Ask, Failed>
         requires sound { IsTrue self.old.sound }
         requires lines { IsTrue self.old.lines }
