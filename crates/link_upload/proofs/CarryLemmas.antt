@@ -1,0 +1,333 @@
+-- What is carried from frame to frame, and how it ends.
+use Rattle.std.proofs.Common.{◌≡◌, inl, inr, ℕ, ◌+◌, ◌<◌, ◌≤◌, Bool, false, List, [], ◌∷◌, ◌++◌, length, take, append_assoc, append-nil, length-append, Option, Some, None, IfSome, refl, sym, ap, ◌∙◌, arith}
+use Rattle.std.specs.Prelude.{◌==◌}
+use Rattle.std.specs.List.{All}
+use Rattle.std.specs.Io.KnownBytes.{Appends, Consumes, IsAtEnd, prepend_known}
+use Rattle.std.proofs.lemmas.List.{length_push}
+use Rattle.std.proofs.lemmas.List.Elements.{All-head, All-nil, All-push}
+use Rattle.fleet_io.specs.Causes.{Rose}
+use Rattle.fleet_io.specs.Held.{buffer_bytes}
+use Rattle.fleet_io.specs.Taken.{AppendsFront}
+use Rattle.fleet_io.proofs.SentLemmas.{Appends-append}
+use Rattle.fleet_io.proofs.TakenLemmas.{Consumes-append, Consumes-nil}
+use Rattle.link_frames.specs.declared.frame.Frame.{Frame}
+use Rattle.link_frames.specs.Frames.{BeginsNoFrame, IsBegun, IsFrame, frame_bytes, frames_bytes}
+use Rattle.link_frames.proofs.FrameLemmas.{frame_law}
+use Rattle.upload_model.specs.declared.events.Event.{Event}
+use Rattle.upload_model.specs.declared.events.Progress.{Progress}
+use Rattle.upload_model.specs.declared.events.Sent.{Sent}
+use Rattle.upload_model.specs.declared.events.Progress.TheVariants.{Going}
+use Rattle.upload_model.specs.Sessions.{Upload}
+use Rattle.upload_model.specs.Hosts.{flight, progress}
+use Rattle.upload_core.specs.HostState.{HostView}
+use Rattle.upload_core.specs.HostStandsFor.{HostStandsFor}
+use Rattle.link_upload.specs.Sends.{answers_after, event_in, events_in, packet_frames, sent_over}
+use Rattle.link_upload.specs.Steps.{Breaks, Ends, Fails}
+use Rattle.link_upload.specs.Uploads.{BeginsWith, EndsGoing, EndsWith, StaysPrompt, Takes, frame_limit}
+use Rattle.link_upload.proofs.StepLemmas.{short}
+use Rattle.link_upload.proofs.SendLemmas.{BeginsWith-trans, events-push, sent-front, sent-none, sent-push}
+use Rattle.link_upload.proofs.FrontLemmas.{compare}
+use Rattle.link_upload.proofs.UploadLemmas.{All-later, Takes-none, bytes-push, frame_some, going-push, not_full, some}
+
+-- ---- known bytes
+
+-- what was taken of bytes that are known leaves bytes that are known
+abbrev pub Left : Option (List ℕ) → List ℕ → List ℕ → Type 0
+Left new bytes taken = (rest : List ℕ) × (new ≡ Some rest) × (bytes ≡ taken ++ rest)
+
+left_of : (bytes taken : List ℕ) (new : Option (List ℕ)) → Consumes (Some bytes) new taken → Left new bytes taken
+left_of bytes taken None c = absurd c
+left_of bytes taken (Some rest) c = (rest, refl, c)
+
+-- what is told of known bytes holds of them
+at_some : (P : List ℕ → Type 0) (a : Option (List ℕ)) (bytes : List ℕ) → a ≡ Some bytes → IfSome a P → P bytes
+at_some P a bytes e h = rw e at h
+
+-- a fact on known bytes is proved where they are known
+when_some : (P : List ℕ → Type 0) (a : Option (List ℕ)) → ((bytes : List ℕ) → a ≡ Some bytes → P bytes) → IfSome a P
+when_some P None h = tt
+when_some P (Some bytes) h = h bytes refl
+
+-- what grew from known bytes is known
+grown : (before now output : List ℕ) (old new : Option (List ℕ)) → old ≡ Some before → new ≡ Some now → Appends old new output → now ≡ before ++ output
+grown before now output None new e f a = absurd (cc)
+grown before now output (Some b) None e f a = absurd a
+grown before now output (Some b) (Some n) e f a = let x : b ≡ before = cc in let y : n ≡ now = cc in sym y ∙ a ∙ ap (λ (l : List ℕ). l ++ output) x
+
+pub same_front : (a b c : List ℕ) → a ++ b ≡ a ++ c → b ≡ c
+same_front [] b c e = e
+same_front (x ∷ a) b c e = same_front a b c (cc)
+
+-- a count that rose after a later one rose
+pub Rose-later : (a b c : ℕ) → a ≤ b → Rose b c → Rose a c
+Rose-later a b c l r = elim r [
+  | inl less ↦ inl (omega (arith, l, less))
+  | inr last ↦ inr last
+]
+
+-- ---- an answer
+
+-- what a host that stands for these events makes of one frame more
+pub record Answered (s : Upload) (next : HostView) (h : List Event) (f : Frame) (p : Progress) (items : List Sent) : Type 0 where
+  pub stands : HostStandsFor next (h ++ event_in s f)
+  pub answer : p ≡ progress s (h ++ event_in s f)
+  pub sent : packet_frames s items ≡ answers_after s h (event_in s f)
+
+-- the same, where the host's session is that of the upload
+pub answered : (s t : Upload) (old next : HostView) (f : Frame) (p : Progress) (items : List Sent) (h : List Event) → t ≡ s → HostStandsFor old h → progress s h ≡ Going →
+    ((g : List Event) → HostStandsFor old g → progress t g ≡ Going → HostStandsFor next (g ++ event_in t f)) →
+    ((g : List Event) → HostStandsFor old g → progress t g ≡ Going → p ≡ progress t (g ++ event_in t f)) →
+    ((g : List Event) → HostStandsFor old g → progress t g ≡ Going → packet_frames t items ≡ answers_after t g (event_in t f)) → Answered s next h f p items
+answered s t old next f p items h is stands going a b c =
+    let g : progress t h ≡ Going = rw is going in
+    record { stands = rw is at (a h stands g); answer = rw is at (b h stands g); sent = rw is at (c h stands g) }
+
+-- ---- from frame to frame
+
+-- Of the bytes to come these frames were taken, and what they lead to was sent. The upload went on before each of them,
+-- and it goes on.
+pub record Carries (s : Upload) (stream now old new : Option (List ℕ)) (n : ℕ) (host : HostView) : Type 0 where
+  pub frames : List Frame
+  pub each : All IsFrame frames
+  pub counted : length frames ≡ n
+  pub before : (k : ℕ) → k < length frames → progress s (events_in s (take k frames)) ≡ Going
+  pub going : progress s (events_in s frames) ≡ Going
+  pub taken : Consumes stream now (frames_bytes frames)
+  pub sent : Appends old new (sent_over s (events_in s frames))
+  pub stands : HostStandsFor host (events_in s frames)
+
+-- before any frame
+pub Carries-none : (s : Upload) (stream old new : Option (List ℕ)) (host : HostView) → HostStandsFor host [] → progress s [] ≡ Going →
+    Appends old new (packet_frames s (flight s [])) → Carries s stream stream old new 0 host
+Carries-none s stream old new host stands going sent = record {
+  frames = [];
+  each = All-nil IsFrame;
+  counted = refl;
+  before = λ k below. absurd (omega (arith, below));
+  going = going;
+  taken = Consumes-nil stream;
+  sent = rw (sent-none s) sent;
+  stands = stands;
+}
+
+-- what was sent with the answer to one frame more
+sent_more : (s : Upload) (old mid new : Option (List ℕ)) (frames : List Frame) (f : Frame) → Appends old mid (sent_over s (events_in s frames)) →
+    Appends mid new (answers_after s (events_in s frames) (event_in s f)) → Appends old new (sent_over s (events_in s (frames ++ f ∷ [])))
+sent_more s old mid new frames f a b = rw (sent-push s frames f) (Appends-append old mid new _ _ a b)
+
+taken_more : (stream mid now : Option (List ℕ)) (frames : List Frame) (f : Frame) → Consumes stream mid (frames_bytes frames) → Consumes mid now (frame_bytes f) →
+    Consumes stream now (frames_bytes (frames ++ f ∷ []))
+taken_more stream mid now frames f a b = rw (bytes-push frames f) (Consumes-append stream mid now _ _ a b)
+
+-- one frame more, after which the upload goes on
+pub Carries-push : (s : Upload) (stream mid now old sent new : Option (List ℕ)) (n m : ℕ) (host next : HostView) (c : Carries s stream mid old sent n host) (f : Frame) → IsFrame f →
+    Consumes mid now (frame_bytes f) → Appends sent new (answers_after s (events_in s c.frames) (event_in s f)) → m ≡ n + 1 →
+    progress s (events_in s c.frames ++ event_in s f) ≡ Going → HostStandsFor next (events_in s c.frames ++ event_in s f) → Carries s stream now old new m next
+Carries-push s stream mid now old sent new n m host next c f formed taken answered more going stands = record {
+  frames = c.frames ++ f ∷ [];
+  each = All-push IsFrame c.frames f c.each formed;
+  counted = omega (arith, length_push c.frames f, c.counted, more);
+  before = going-push s c.frames f c.before c.going;
+  going = rw (events-push s c.frames f) going;
+  taken = taken_more stream mid now c.frames f c.taken taken;
+  sent = sent_more s old sent new c.frames f c.sent answered;
+  stands = rw (events-push s c.frames f) stands;
+}
+
+takes_of : (s : Upload) (stream now old new : Option (List ℕ)) (n : ℕ) (host : HostView) (c : Carries s stream now old new n host) (bytes rest : List ℕ) → n ≤ frame_limit →
+    bytes ≡ frames_bytes c.frames ++ rest → Takes s bytes c.frames rest
+takes_of s stream now old new n host c bytes rest few cut = record { cut = cut; each = c.each; few = omega (arith, c.counted, few); going = c.before }
+
+-- ---- how it ends
+
+-- it ends where it goes on
+end_going : (s : Upload) (stream now old new : Option (List ℕ)) (n : ℕ) (host : HostView) (c : Carries s stream now old new n host) (status : ℕ) → n ≤ frame_limit →
+    ((rest : List ℕ) → now ≡ Some rest → EndsGoing (length c.frames == frame_limit) rest status) → Ends s status stream old new
+end_going s stream now old new n host c status few ends = when_some _ stream (λ bytes known.
+    let left = left_of bytes (frames_bytes c.frames) now (rw known at c.taken) in
+    (c.frames, left.0, takes_of s stream now old new n host c bytes left.0 few left.2, rw c.going (ends left.0 left.1), c.sent))
+
+pub end_none : (s : Upload) (stream now old new : Option (List ℕ)) (n : ℕ) (host : HostView) → Carries s stream now old new n host → n < frame_limit → IsAtEnd now → Ends s 8 stream old new
+end_none s stream now old new n host c few at_end = end_going s stream now old new n host c 8 (omega (arith, few)) (λ rest known.
+    let none : rest ≡ [] = rw known at at_end in rw (none, not_full (length c.frames) (omega (arith, c.counted, few))) refl)
+
+pub end_faulty : (s : Upload) (stream now old new : Option (List ℕ)) (n : ℕ) (host : HostView) → Carries s stream now old new n host → n < frame_limit →
+    IfSome now (λ bytes. (1 ≤ length bytes) × BeginsNoFrame bytes) → Ends s 11 stream old new
+end_faulty s stream now old new n host c few faulty = end_going s stream now old new n host c 11 (omega (arith, few)) (λ rest known.
+    let f : (1 ≤ length rest) × BeginsNoFrame rest = at_some (λ bytes. (1 ≤ length bytes) × BeginsNoFrame bytes) now rest known faulty in
+    rw (not_full (length c.frames) (omega (arith, c.counted, few))) (by rest f.0 f.1))
+  where
+    by : (rest : List ℕ) → 1 ≤ length rest → BeginsNoFrame rest → EndsGoing false rest 11
+    by [] some none = absurd (omega (arith, some))
+    by (b ∷ bs) some none = (refl, none)
+
+pub end_full : (s : Upload) (stream now old new : Option (List ℕ)) (n : ℕ) (host : HostView) → Carries s stream now old new n host → n ≡ frame_limit → Ends s 13 stream old new
+end_full s stream now old new n host c full = end_going s stream now old new n host c 13 (omega (arith, full)) (λ rest known.
+    let is : length c.frames ≡ frame_limit = c.counted ∙ full in rw is refl)
+
+-- it ends with the answer to one frame more
+pub end_answered : (s : Upload) (stream mid now old sent new : Option (List ℕ)) (n : ℕ) (host : HostView) (c : Carries s stream mid old sent n host) (f : Frame) → IsFrame f → n < frame_limit →
+    Consumes mid now (frame_bytes f) → Appends sent new (answers_after s (events_in s c.frames) (event_in s f)) → (p : Progress) →
+    p ≡ progress s (events_in s c.frames ++ event_in s f) → (status : ℕ) → ((full : Bool) (rest : List ℕ) → EndsWith p full rest status) → Ends s status stream old new
+end_answered s stream mid now old sent new n host c f formed few taken answered p is status ends = when_some _ stream (λ bytes known.
+    let fs : List Frame = c.frames ++ f ∷ [] in
+    let left = left_of bytes (frames_bytes fs) now (rw known at (taken_more stream mid now c.frames f c.taken taken)) in
+    let takes : Takes s bytes fs left.0 = record {
+      cut = left.2;
+      each = All-push IsFrame c.frames f c.each formed;
+      few = omega (arith, length_push c.frames f, c.counted, few);
+      going = going-push s c.frames f c.before c.going;
+    } in
+    (fs, left.0, takes, rw (events-push s c.frames f, ← is) (ends (length fs == frame_limit) left.0), sent_more s old sent new c.frames f c.sent answered))
+
+-- a read failed
+pub fails : (s : Upload) (stream now left old new : Option (List ℕ)) (n : ℕ) (host : HostView) → Carries s stream now old new n host → n < frame_limit → (begun : List ℕ) → IsBegun begun →
+    Consumes now left begun → Fails s stream left old new
+fails s stream now left old new n host c few begun is taken = when_some _ stream (λ bytes known.
+    let fs : List Frame = c.frames in (
+      frames_bytes fs ++ begun,
+      fs,
+      begun,
+      Consumes-append stream now left (frames_bytes fs) begun c.taken taken,
+      takes_of s stream now old new n host c (frames_bytes fs ++ begun) begun (omega (arith, few)) refl,
+      omega (arith, c.counted, few),
+      c.going,
+      is,
+      c.sent,
+    ))
+
+-- ---- a write failed
+
+-- what went out before, and then some front of more, is a front of what goes on so
+pub front_more : (old mid new : Option (List ℕ)) (xs ys all : List ℕ) → Appends old mid xs → AppendsFront mid new ys → BeginsWith (xs ++ ys) all → AppendsFront old new all
+front_more old mid new xs ys all a b more = (
+  xs ++ b.0,
+  b.1 ++ more.0,
+  more.1 ∙ ap (λ (l : List ℕ). (xs ++ l) ++ more.0) b.2 ∙ ap (λ (l : List ℕ). l ++ more.0) (sym (append_assoc xs b.0 b.1)) ∙ append_assoc (xs ++ b.0) b.1 more.0,
+  Appends-append old mid new xs b.0 a b.3,
+)
+
+pub breaks_first : (s : Upload) (stream old new : Option (List ℕ)) → AppendsFront old new (packet_frames s (flight s [])) → Breaks s stream old new
+breaks_first s stream old new front = when_some _ stream (λ bytes known.
+    let c = some s bytes bytes [] (Takes-none s bytes) in
+    let begins : BeginsWith (packet_frames s (flight s [])) c.1 = rw (sent-none s) at c.3 in
+    (c.1, (front.0, front.1 ++ begins.0, begins.1 ∙ ap (λ (l : List ℕ). l ++ begins.0) front.2 ∙ append_assoc front.0 front.1 begins.0, front.3), (c.0, c.2)))
+
+pub breaks : (s : Upload) (stream mid now old sent new : Option (List ℕ)) (n : ℕ) (host : HostView) (c : Carries s stream mid old sent n host) (f : Frame) → IsFrame f → n < frame_limit →
+    Consumes mid now (frame_bytes f) → AppendsFront sent new (answers_after s (events_in s c.frames) (event_in s f)) → Breaks s stream old new
+breaks s stream mid now old sent new n host c f formed few taken front = when_some _ stream (λ bytes known.
+    let fs : List Frame = c.frames ++ f ∷ [] in
+    let left = left_of bytes (frames_bytes fs) now (rw known at (taken_more stream mid now c.frames f c.taken taken)) in
+    let takes : Takes s bytes fs left.0 = record {
+      cut = left.2;
+      each = All-push IsFrame c.frames f c.each formed;
+      few = omega (arith, length_push c.frames f, c.counted, few);
+      going = going-push s c.frames f c.before c.going;
+    } in
+    let come = some s bytes left.0 fs takes in
+    (come.1, front_more old sent new _ _ come.1 c.sent front (rw (sent-push s c.frames f) at come.3), (come.0, come.2)))
+
+-- ---- no answer waits
+
+-- No frame stands at the front of what is left and has more after it than may wait.
+abbrev pub IsShort : Option (List ℕ) → Option (List ℕ) → Type 0
+IsShort now left = (rest behind : List ℕ) → now ≡ Some rest → left ≡ Some behind → (g : Frame) (more : List ℕ) → IsFrame g → buffer_bytes + length behind < length more →
+    rest ≡ frame_bytes g ++ more → ⊥
+
+prompt_by : (s : Upload) (frames gs : List Frame) (rest behind taken sent tail : List ℕ) → taken ++ behind ≡ frames_bytes frames ++ rest →
+    BeginsWith (sent_over s (events_in s frames)) sent →
+    ((g : Frame) (more : List ℕ) → IsFrame g → buffer_bytes + length behind < length more → rest ≡ frame_bytes g ++ more → ⊥) →
+    All IsFrame gs → taken ≡ frames_bytes gs ++ tail → buffer_bytes < length tail → BeginsWith (sent_over s (events_in s gs)) sent
+prompt_by s frames gs rest behind taken sent tail all began none formed cut long =
+    let both : frames_bytes gs ++ (tail ++ behind) ≡ frames_bytes frames ++ rest = sym (ap (λ (l : List ℕ). l ++ behind) cut ∙ append_assoc (frames_bytes gs) tail behind) ∙ all in
+    elim (compare gs frames (tail ++ behind) rest both) [
+      | inl p ↦ BeginsWith-trans _ _ _ (rw (← p.1) at (sent-front s gs p.0)) began
+      | inr p ↦ later p.0 p.1 p.2
+    ]
+  where
+    later : (more : List Frame) → gs ≡ frames ++ more → rest ≡ frames_bytes more ++ (tail ++ behind) → BeginsWith (sent_over s (events_in s gs)) sent
+    later [] is left = let same : gs ≡ frames = is ∙ append-nil frames in rw same began
+    later (g ∷ more) is left =
+        absurd (none g (frames_bytes more ++ (tail ++ behind)) (All-head IsFrame g more (All-later frames (g ∷ more) (rw is at formed)))
+        (omega (arith, long, length-append tail behind, length-append (frames_bytes more) (tail ++ behind))) (left ∙ append_assoc (frame_bytes g) (frames_bytes more) (tail ++ behind)))
+
+-- what was sent for frames is prompt where what is left is short
+pub prompt : (s : Upload) (stream now left old new : Option (List ℕ)) (frames : List Frame) (output : List ℕ) → Consumes stream now (frames_bytes frames) → Appends old new output →
+    BeginsWith (sent_over s (events_in s frames)) output → IsShort now left → StaysPrompt s stream left old new
+prompt s stream now left old new frames output taken_so sent_so began is_short bytes behind before taken sent known_bytes known_left cut known_before known_sent gs tail formed cut_so long =
+    let l = left_of bytes (frames_bytes frames) now (rw known_bytes at taken_so) in
+    let sent_is : output ≡ sent = same_front before output sent (sym (grown before (before ++ sent) output old new known_before known_sent sent_so)) in
+    prompt_by s frames gs l.0 behind taken sent tail (sym cut ∙ l.2) (rw sent_is at began) (is_short l.0 behind l.1 known_left) formed cut_so long
+
+pub prompt_carried : (s : Upload) (stream now left old new : Option (List ℕ)) (n : ℕ) (host : HostView) → Carries s stream now old new n host → IsShort now left → StaysPrompt s stream left old new
+prompt_carried s stream now left old new n host c is_short = prompt s stream now left old new c.frames _ c.taken c.sent ([], sym (append-nil _)) is_short
+
+pub prompt_answered : (s : Upload) (stream mid now left old sent new : Option (List ℕ)) (n : ℕ) (host : HostView) (c : Carries s stream mid old sent n host) (f : Frame) →
+    Consumes mid now (frame_bytes f) → Appends sent new (answers_after s (events_in s c.frames) (event_in s f)) → IsShort now left → StaysPrompt s stream left old new
+prompt_answered s stream mid now left old sent new n host c f taken out is_short =
+    prompt s stream now left old new (c.frames ++ f ∷ []) (sent_over s (events_in s (c.frames ++ f ∷ []))) (taken_more stream mid now c.frames f c.taken taken)
+    (sent_more s old sent new c.frames f c.sent out) ([], sym (append-nil _)) is_short
+
+pub prompt_broken : (s : Upload) (stream mid left old sent new : Option (List ℕ)) (n : ℕ) (host : HostView) (bytes : List ℕ) → Carries s stream mid old sent n host →
+    AppendsFront sent new bytes → IsShort mid left → StaysPrompt s stream left old new
+prompt_broken s stream mid left old sent new n host bytes c front is_short =
+    prompt s stream mid left old new c.frames (sent_over s (events_in s c.frames) ++ front.0) c.taken (Appends-append old sent new _ _ c.sent front.3) (front.0, refl) is_short
+
+-- before any frame no more was taken than waited
+pub prompt_first : (s : Upload) (waiting : List ℕ) (left old new : Option (List ℕ)) → length waiting ≤ buffer_bytes → StaysPrompt s (prepend_known waiting left) left old new
+prompt_first s waiting None old new few bytes behind before taken sent known_bytes known_left cut known_before known_sent gs tail formed cut_so long = absurd (cc)
+prompt_first s waiting (Some xs) old new few bytes behind before taken sent known_bytes known_left cut known_before known_sent gs tail formed cut_so long =
+    let e : xs ≡ behind = cc in
+    let b : waiting ++ xs ≡ bytes = cc in
+    absurd (omega (
+      arith,
+      few,
+      long,
+      length-append waiting xs,
+      length-append taken behind,
+      length-append (frames_bytes gs) tail,
+      ap (λ (l : List ℕ). length l) b,
+      ap (λ (l : List ℕ). length l) cut,
+      ap (λ (l : List ℕ). length l) cut_so,
+      ap (λ (l : List ℕ). length l) e,
+    ))
+
+-- at most so many bytes wait
+pub short_waiting : (waiting : List ℕ) (left : Option (List ℕ)) → length waiting ≤ buffer_bytes → IsShort (prepend_known waiting left) left
+short_waiting waiting None few rest behind known known_left g more formed long is = absurd (cc)
+short_waiting waiting (Some xs) few rest behind known known_left g more formed long is =
+    let e : xs ≡ behind = cc in
+    let r : waiting ++ xs ≡ rest = cc in
+    omega (arith, long, few, length-append waiting xs, length-append (frame_bytes g) more, ap (λ (l : List ℕ). length l) r, ap (λ (l : List ℕ). length l) is, ap (λ (l : List ℕ). length l) e)
+
+-- one frame stands before those
+pub short_frame : (mid : Option (List ℕ)) (waiting : List ℕ) (left : Option (List ℕ)) (f : Frame) → length waiting ≤ buffer_bytes → Consumes mid (prepend_known waiting left) (frame_bytes f) → IsShort mid left
+short_frame None waiting left f few taken rest behind known known_left g more formed long is = absurd (cc)
+short_frame (Some xs) waiting None f few taken rest behind known known_left g more formed long is = absurd taken
+short_frame (Some xs) waiting (Some ys) f few taken rest behind known known_left g more formed long is =
+    let e : ys ≡ behind = cc in
+    let r : xs ≡ rest = cc in
+    let step = frame_law.step f g (waiting ++ ys) more (sym taken ∙ r ∙ is) in
+    omega (arith, long, few, length-append waiting ys, ap (λ (l : List ℕ). length l) step.1, ap (λ (l : List ℕ). length l) e)
+
+-- nothing is left
+pub short_end : (now left : Option (List ℕ)) → IsAtEnd now → IsShort now left
+short_end None left at_end rest behind known known_left g more formed long is = absurd (cc)
+short_end (Some xs) left at_end rest behind known known_left g more formed long is =
+    let r : xs ≡ rest = cc in
+    omega (arith, long, length-append (frame_bytes g) more, ap (λ (l : List ℕ). length l) (sym at_end ∙ r ∙ is), frame_some g)
+
+-- what is left begins with no frame
+pub short_faulty : (now left : Option (List ℕ)) → IfSome now (λ bytes. (1 ≤ length bytes) × BeginsNoFrame bytes) → IsShort now left
+short_faulty None left faulty rest behind known known_left g more formed long is = absurd (cc)
+short_faulty (Some xs) left faulty rest behind known known_left g more formed long is =
+    let r : xs ≡ rest = cc in faulty.1 g more formed (r ∙ is)
+
+-- less than a frame was taken of what is left
+pub short_begun : (now left : Option (List ℕ)) (begun : List ℕ) → IsBegun begun → Consumes now left begun → IsShort now left
+short_begun None left begun b taken rest behind known known_left g more formed long is = absurd (cc)
+short_begun (Some xs) None begun b taken rest behind known known_left g more formed long is = absurd taken
+short_begun (Some xs) (Some ys) begun b taken rest behind known known_left g more formed long is =
+    let e : ys ≡ behind = cc in
+    let r : xs ≡ rest = cc in
+    omega (arith, long, short begun b, length-append begun ys, length-append (frame_bytes g) more, ap (λ (l : List ℕ). length l) (sym taken ∙ r ∙ is), ap (λ (l : List ℕ). length l) e)

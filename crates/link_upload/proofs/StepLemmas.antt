@@ -1,0 +1,22 @@
+-- Steps from frame to frame.
+use Rattle.std.proofs.Common.{◌≡◌, ℕ, ◌<◌, ◌≤◌, List, [], ◌∷◌, ◌++◌, length, length-append, append_assoc, Option, Some, None, IfSome, ap, ◌∙◌, arith}
+use Rattle.std.specs.Io.KnownBytes.{Consumes}
+use Rattle.link_frames.specs.declared.frame.Frame.{Frame}
+use Rattle.link_frames.specs.declared.frame.Frame.TheVariants as frame
+use Rattle.link_frames.specs.Frames.{BeginsNoFrame, IsBegun, IsFrame, frame_bytes}
+
+-- bytes that begin with a byte out of place
+pub bad_front : (a b : Option (List ℕ)) (bytes : List ℕ) (byte : ℕ) → Consumes a b (bytes ++ byte ∷ []) → ((later : List ℕ) → BeginsNoFrame (bytes ++ byte ∷ later)) → IfSome a (λ all. (1 ≤ length all) × BeginsNoFrame all)
+bad_front None b bytes byte taken none = tt
+bad_front (Some xs) None bytes byte taken none = absurd taken
+bad_front (Some xs) (Some ys) bytes byte taken none =
+    let is : xs ≡ bytes ++ byte ∷ ys = taken ∙ append_assoc bytes (byte ∷ []) ys in
+    rw is (omega (arith, length-append bytes (byte ∷ ys)), none ys)
+
+short_of : (f : Frame) (bytes more : List ℕ) → IsFrame f → frame_bytes f ≡ bytes ++ more → 1 ≤ length more → length bytes < 34
+short_of frame.Tick bytes more formed cut some = let e = ap (λ (xs : List ℕ). length xs) cut in omega (arith, e, length-append bytes more, some)
+short_of (frame.Packet d p) bytes more formed cut some = let e = ap (λ (xs : List ℕ). length xs) cut in omega (arith, e, length-append bytes more, some, formed.3)
+
+-- a frame that is begun has fewer than 34 bytes
+pub short : (bytes : List ℕ) → IsBegun bytes → length bytes < 34
+short bytes b = short_of b.frame bytes b.more b.formed b.cut b.some

@@ -1,0 +1,185 @@
+//! An upload between a source and a sink, from the first packets to the end frame.
+
+ghost use Rattle.std.specs.Prelude.{◌≡◌, ◌≢◌, ◌⊎◌, ◌≤◌, ◌++◌, [], ◌∷◌, ℕ, List, length, false, IsTrue, All, Contains, IfOk, IfSome, Err};
+ghost use Rattle.std.specs.Io.KnownBytes.{Appends, Consumes, IsAtEnd};
+ghost use Rattle.fleet_io.specs.Causes.{Rose};
+ghost use Rattle.fleet_io.specs.Held.{buffer_bytes, stream};
+ghost use Rattle.fleet_io.specs.Taken.{AppendsFront, TakesFront};
+ghost use Rattle.link_frames.specs.Frames.{IsFrame, end_frame};
+ghost use Rattle.link_upload.specs.Sends.{answers_after, event_in, packet_frames};
+ghost use Rattle.link_upload.specs.Steps.{Breaks, Ends, Fails};
+ghost use Rattle.link_upload.specs.Uploads.{StaysPrompt, UploadFails, UploadGives};
+ghost use Rattle.upload_core.specs.HostStandsFor.{HostStandsFor};
+ghost use Rattle.upload_core.specs.HostState.{IsPacketOf, view_of};
+ghost use Rattle.upload_model.specs.Hosts.{progress};
+ghost use Rattle.upload_model.specs.declared.events.Event.{Event};
+ghost use Rattle.upload_model.specs.declared.events.Progress.TheVariants as progress_is;
+
+use crate::input::{Next, next_frame};
+use crate::output::send;
+use fleet_io::{Failed, Parts, Sink, Source, write_whole};
+use link_frames::{END_BYTE, Frame};
+use upload_core::{Event, Host, Out, Progress};
+
+// Hands a frame to the host of an upload that is going. A packet of a drone that isn't in the session is no event.
+fn answer(host: &mut Host, frame: Frame, out: &mut Out) -> Progress
+    requires formed { IsFrame frame }
+    ensures session { host.new.session ≡ host.old.session }
+    ensures stands { (h : List Event) → HostStandsFor (view_of host.old) h → progress host.old.session h ≡ progress_is.Going
+        → HostStandsFor (view_of host.new) (h ++ event_in host.old.session frame) }
+    ensures answer { (h : List Event) → HostStandsFor (view_of host.old) h → progress host.old.session h ≡ progress_is.Going
+        → result ≡ progress host.old.session (h ++ event_in host.old.session frame) }
+    ensures sent { (h : List Event) → HostStandsFor (view_of host.old) h → progress host.old.session h ≡ progress_is.Going
+        → packet_frames host.old.session out.new.items ≡ answers_after host.old.session h (event_in host.old.session frame) }
+    ensures known { All (IsPacketOf host.old.session) out.new.items }
+{
+    match frame {
+        Frame::Tick => host.event(Event::Tick, out),
+        Frame::Packet { drone, packet } => {
+            if usize::from(drone) > host.session().drones() {
+                out.clear();
+                return Progress::Going;
+            }
+            host.event(
+                Event::Up {
+                    drone: drone - 1,
+                    packet,
+                },
+                out,
+            )
+        }
+    }
+}
+
+// Why frames are carried no further, short of the end of the upload.
+#[derive(Clone, Copy, Debug, PartialEq, Eq)]
+enum Broken {
+    Read,
+    Write,
+}
+
+// The most frames that are taken in one upload.
+const FRAME_LIMIT: u32 = 4_000_000;
+
+// How an upload ends.
+const DONE: u8 = 0;
+
+const READ_FAILED: u8 = 6;
+
+const WRITE_FAILED: u8 = 7;
+
+const ENDED: u8 = 8;
+
+const GAVE_UP: u8 = 9;
+
+const REFUSED: u8 = 10;
+
+const FAULTY: u8 = 11;
+
+const TOO_MANY_FRAMES: u8 = 13;
+
+// Carries an upload to its end, and returns the status. All that the frames lead to has gone out then, but not the end
+// frame.
+fn carry<S: Source, K: Sink>(
+    parts: &mut Parts,
+    source: &mut S,
+    mut host: Host,
+    sink: &mut K,
+) -> Result<u8, Broken>
+    requires sound { IsTrue parts.old.sound }
+    requires at_end { IsTrue parts.old.ended → IsAtEnd (S.left source.old) }
+    requires holds { length parts.old.waiting ≤ buffer_bytes }
+    requires new { HostStandsFor (view_of host) [] }
+    ensures ends { IfOk result (λ status. Ends host.session status (stream parts.old (S.left source.old)) (K.written sink.old) (K.written sink.new)) }
+    ensures read { result ≡ Err Broken.Read → Rose (S.faults source.old) (S.faults source.new) × (parts.old.ended ≡ false)
+        × Fails host.session (stream parts.old (S.left source.old)) (S.left source.new) (K.written sink.old) (K.written sink.new) }
+    ensures write { result ≡ Err Broken.Write → Rose (K.faults sink.old) (K.faults sink.new)
+        × Breaks host.session (stream parts.old (S.left source.old)) (K.written sink.old) (K.written sink.new) }
+    ensures prompt { StaysPrompt host.session (stream parts.old (S.left source.old)) (S.left source.new) (K.written sink.old) (K.written sink.new) }
+    ensures known { IfOk result (λ status. Contains (0 ∷ 8 ∷ 9 ∷ 10 ∷ 11 ∷ 13 ∷ []) status) }
+    ensures left { TakesFront (S.left source.old) (S.left source.new) }
+    ensures source_later { S.faults source.old ≤ S.faults source.new }
+    ensures sink_later { K.faults sink.old ≤ K.faults sink.new }
+{
+    // There is a drone, so the upload goes on before any frame.
+    let _ = host.session().drones();
+    let mut out = Out::new();
+    host.first(&mut out);
+    match send(host.session(), out.as_slice(), sink) {
+        Ok(()) => {}
+        Err(Failed) => return Err(Broken::Write),
+    }
+    'frames: for n in 0..FRAME_LIMIT {
+        let next = match next_frame(parts, source) {
+            Ok(next) => next,
+            Err(Failed) => return Err(Broken::Read),
+        };
+        let frame = match next {
+            Next::Whole { f } => f,
+            Next::End => return Ok(ENDED),
+            Next::Faulty => return Ok(FAULTY),
+        };
+        let progress = answer(&mut host, frame, &mut out);
+        match send(host.session(), out.as_slice(), sink) {
+            Ok(()) => {}
+            Err(Failed) => return Err(Broken::Write),
+        }
+        match progress {
+            Progress::Going => {}
+            Progress::Done => return Ok(DONE),
+            Progress::GaveUp { .. } => return Ok(GAVE_UP),
+            Progress::Refused { .. } => return Ok(REFUSED),
+        }
+    }
+    Ok(TOO_MANY_FRAMES)
+}
+
+// Writes the end frame.
+fn finish<K: Sink>(sink: &mut K, status: u8) -> u8
+    ensures ok { result ≢ 7 → (result ≡ status) × Appends (K.written sink.old) (K.written sink.new) (end_frame status) }
+    ensures front { AppendsFront (K.written sink.old) (K.written sink.new) (end_frame status) }
+    ensures cause { result ≡ 7 → status ≢ 7 → Rose (K.faults sink.old) (K.faults sink.new) }
+    ensures later { K.faults sink.old ≤ K.faults sink.new }
+    ensures known { (result ≡ status) ⊎ (result ≡ 7) }
+{
+    match write_whole(sink, &[END_BYTE, status]) {
+        Ok(()) => status,
+        Err(Failed) => WRITE_FAILED,
+    }
+}
+
+/// Carries an upload through link frames (docs/RADIO.md, "Link frames"). What the host sends goes into the sink, and what
+/// the source gives goes to the host, until the upload is done (0), given up (9) or refused (10), 4,000,000 frames were
+/// taken (13), a byte has no place or the last frame isn't finished (11), the source ends (8), or a read fails (6). The end
+/// frame with that status goes out last. It returns the status, or 7 where a write failed. It takes no memory.
+pub fn upload<S: Source, K: Sink>(parts: &mut Parts, source: &mut S, host: Host, sink: &mut K) -> u8
+    requires sound { IsTrue parts.old.sound }
+    requires at_end { IsTrue parts.old.ended → IsAtEnd (S.left source.old) }
+    requires holds { length parts.old.waiting ≤ buffer_bytes }
+    requires new { HostStandsFor (view_of host) [] }
+    // Each status but 6 and 7 is that to which the bytes lead, and all that they lead to was sent.
+    ensures ends { result ≢ 6 → result ≢ 7 → IfSome (stream parts.old (S.left source.old)) (λ bytes. (output : List ℕ)
+        × UploadGives host.session bytes result output × Appends (K.written sink.old) (K.written sink.new) output) }
+    // A read failed: what the frames before it lead to was sent, and the end frame of 6.
+    ensures six { result ≡ 6 → Rose (S.faults source.old) (S.faults source.new) × (parts.old.ended ≡ false)
+        × IfSome (stream parts.old (S.left source.old)) (λ _. (taken output : List ℕ) × Consumes (stream parts.old (S.left source.old)) (S.left source.new) taken
+        × UploadFails host.session taken output × Appends (K.written sink.old) (K.written sink.new) output) }
+    // A write failed: a prefix was sent of what the bytes lead to, or those before a failed read.
+    ensures seven { result ≡ 7 → Rose (K.faults sink.old) (K.faults sink.new)
+        × IfSome (stream parts.old (S.left source.old)) (λ bytes. (output : List ℕ) × AppendsFront (K.written sink.old) (K.written sink.new) output
+        × (((status : ℕ) × UploadGives host.session bytes status output)
+        ⊎ (Rose (S.faults source.old) (S.faults source.new) × (parts.old.ended ≡ false)
+        × ((taken : List ℕ) × Consumes (stream parts.old (S.left source.old)) (S.left source.new) taken × UploadFails host.session taken output)))) }
+    // No answer waits for much further input.
+    ensures prompt { StaysPrompt host.session (stream parts.old (S.left source.old)) (S.left source.new) (K.written sink.old) (K.written sink.new) }
+    ensures known { Contains (0 ∷ 6 ∷ 7 ∷ 8 ∷ 9 ∷ 10 ∷ 11 ∷ 13 ∷ []) result }
+    ensures taken { TakesFront (S.left source.old) (S.left source.new) }
+    ensures source_later { S.faults source.old ≤ S.faults source.new }
+    ensures sink_later { K.faults sink.old ≤ K.faults sink.new }
+{
+    match carry(parts, source, host, sink) {
+        Ok(status) => finish(sink, status),
+        Err(Broken::Read) => finish(sink, READ_FAILED),
+        Err(Broken::Write) => WRITE_FAILED,
+    }
+}

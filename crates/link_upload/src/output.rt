@@ -1,0 +1,49 @@
+//! Frames that go out.
+
+ghost use Rattle.std.specs.Prelude.{◌≡◌, ◌+◌, ◌≤◌, ◌++◌, [], ◌∷◌, length, All, OnOk, OnErr};
+ghost use Rattle.std.specs.Io.KnownBytes.{Appends};
+ghost use Rattle.fleet_io.specs.Causes.{HasCause};
+ghost use Rattle.fleet_io.specs.Taken.{AppendsFront};
+ghost use Rattle.link_upload.specs.Sends.{packet_frames};
+ghost use Rattle.upload_core.specs.HostState.{IsPacketOf};
+
+use arrayvec::ArrayVec;
+use fleet_io::{Failed, Sink, write_whole};
+use link_frames::{FRAME_BYTES, put_frame};
+use upload_core::{MOST_SENT, Sent, Session};
+
+// The most bytes that one event sends.
+const MOST_OUT: usize = MOST_SENT * FRAME_BYTES;
+
+// The frame of a packet after those of others.
+fn put(session: &Session, x: Sent, bytes: &mut ArrayVec<u8, MOST_OUT>)
+    requires known { IsPacketOf session.now x }
+    requires room { length bytes.old.items + FRAME_BYTES ≤ MOST_OUT }
+    ensures bytes { bytes.new.items ≡ bytes.old.items ++ packet_frames session.now (x ∷ []) }
+    ensures most { length bytes.new.items ≤ length bytes.old.items + FRAME_BYTES }
+{
+    // There are at most 32.
+    let _ = session.drones();
+    let packet = session.packet(usize::from(x.drone), usize::from(x.packet));
+    let mut frame = ArrayVec::new();
+    put_frame(x.drone + 1, &packet, &mut frame);
+    let _ = bytes.try_extend_from_slice(frame.as_slice());
+}
+
+// Sends packets, in their order.
+pub fn send<K: Sink>(session: &Session, sent: &[Sent], sink: &mut K) -> Result<(), Failed>
+    requires known { All (IsPacketOf session.now) sent.now }
+    requires few { length sent.now ≤ MOST_SENT }
+    ensures ok { OnOk result (Appends (K.written sink.old) (K.written sink.new) (packet_frames session.now sent.now)) }
+    ensures front { OnErr result (AppendsFront (K.written sink.old) (K.written sink.new) (packet_frames session.now sent.now)) }
+    ensures cause { HasCause (K.faults sink.old) (K.faults sink.new) result }
+{
+    if sent.is_empty() {
+        return Ok(());
+    }
+    let mut bytes = ArrayVec::new();
+    for x in sent {
+        put(session, *x, &mut bytes);
+    }
+    write_whole(sink, bytes.as_slice())
+}
