@@ -68,7 +68,7 @@ judged_same s c names curves r h o names_are curves_are r_is h_is is =
     ∙ ap (λ (n : ℕ). fault_of (table_of c.version) (raised_of (trajectories_of s)) s.settings.r n c) h_is)
 
 -- a test that refuses nothing fails
-no_refusal : (b : Bool) (o : Outcome) → cond b (Some o) None ≡ None → b ≡ false
+pub no_refusal : (b : Bool) (o : Outcome) → cond b (Some o) None ≡ None → b ≡ false
 no_refusal true o none = absurd (cc)
 no_refusal false o none = refl
 
@@ -169,4 +169,4 @@ accepted_by c None s cut o fails gives done = record { none = refl; gives = give
 pub safe_answer : (c : Command) (cut : Cut) (s : PlainShow) (o : Outcome) → StandsFor cut.show s → ShowGives c (show_refusal c cut s) s cut o → IsSafeShow s → o.status ≡ 0 → IsSafe c cut o
 safe_answer c cut s o stands gives safe done =
     let accepted = accepted_by c (show_refusal c cut s) s cut o (show_fails c cut s) gives done in
-    record { s = s; stands = stands; near = safe.near; apart = safe.apart; accepted = accepted.none; gives = accepted.gives; done = done }
+    record { s = s; stands = stands; near = safe.near; apart = safe.apart; lands = safe.lands; accepted = accepted.none; gives = accepted.gives; done = done }

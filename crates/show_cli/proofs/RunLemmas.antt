@@ -1,13 +1,21 @@
 -- What a run answers and writes, from what its steps do.
-use Rattle.std.proofs.Common.{◌≡◌, ◌⊎◌, inl, inr, ℕ, zero, suc, List, [], ◌∷◌, Contains, Option, Some, None, IfSome, refl, arith}
+use Rattle.std.proofs.Common.{◌≡◌, ◌⊎◌, inl, inr, ℕ, zero, suc, false, List, [], ◌∷◌, Contains, Option, Some, None, IfSome, refl, ap, subst, arith}
+use Rattle.std.specs.Option.{option_or}
+use Rattle.std.specs.Io.KnownBytes.{Appends}
+use Rattle.text_lines.specs.Lines.{between_feeds}
+use Rattle.text_lines.specs.Marker.{has_marker, part_of}
+use Rattle.choreo_reader.specs.Grammar.{StandsFor}
 use Rattle.show_cli.specs.declared.answer.Status.{Status}
 use Rattle.show_cli.specs.declared.answer.Status.TheVariants.{Done, FaultyShow, NoRoom, Blocked, FaultySecond, Invalid}
 use Rattle.show_cli.specs.declared.command.Command.{Command}
+use Rattle.show_cli.specs.declared.command.Command.TheVariants.{Compile}
 use Rattle.show_cli.specs.declared.input.Input.{Input}
 use Rattle.show_cli.specs.Answers.{status_number}
 use Rattle.show_cli.specs.Input.{IsRead}
-use Rattle.show_cli.specs.Outcome.{cut_of}
-use Rattle.show_cli.specs.Runs.{IsOutputFor, IsOutputOf}
+use Rattle.show_cli.specs.Headline.{Headline}
+use Rattle.show_cli.specs.Outcome.{Outcome, cut_of}
+use Rattle.show_cli.specs.Runs.{AnswersSafely, IsOutputFor, IsOutputOf}
+use Rattle.show_cli.proofs.OutcomeLemmas.{no_refusal}
 
 -- the output for what was read is that of the input, where the source tells it
 pub output_told : (c : Command) (left : Option (List ℕ)) (input : Input) (output : List ℕ) →
@@ -42,3 +50,27 @@ with_third a b c rest n (suc (suc k), inside, is) = (suc (suc (suc k)), omega ar
 -- words are one command
 pub one_command : (words : Option Command) (c d : Command) → words ≡ Some c → words ≡ Some d → c ≡ d
 one_command words c d first second = cc
+
+-- ---- the headline
+
+-- where neither is there, both aren't
+none_both : (a b : Option Outcome) → option_or a b ≡ None → (a ≡ None) × (b ≡ None)
+none_both None b none = (refl, none)
+none_both (Some o) b none = absurd (cc)
+
+-- an input without a marker line is its own part
+part_whole : (input : List ℕ) → has_marker (between_feeds input) ≡ false → part_of input ≡ input
+unfolding part_of
+part_whole input unmarked = rw unmarked refl
+
+-- What was written safely for `compile` is a plan that lands.
+pub headline : (depth : ℕ) (input : List ℕ) (old new : Option (List ℕ)) → AnswersSafely (Compile depth) (cut_of input) old new → Headline input old new
+headline depth input old new (o, safe, appended) =
+    let later = none_both _ _ safe.accepted in
+    let unmarked : has_marker (between_feeds input) ≡ false = no_refusal (has_marker (between_feeds input)) _ (none_both _ _ later.1).0 in
+    record {
+      s = safe.s;
+      stands = subst (λ (text : List ℕ). StandsFor text safe.s) (part_whole input unmarked) safe.stands;
+      planned = subst (λ (output : List ℕ). Appends old new output) (ap (λ (p : Outcome). p.output) safe.gives) appended;
+      lands = safe.lands;
+    }

@@ -6,6 +6,7 @@ use Rattle.sep_parts.specs.Versions.{known_in}
 use Rattle.sep_certificate.specs.declared.certificate.CertFault.{CertFault}
 use Rattle.sep_certificate.specs.declared.certificate.CertFault.TheVariants as cert
 use Rattle.show_plan.specs.Flight.{KeepsNearShow}
+use Rattle.show_plan.specs.Landing.{Lands}
 use Rattle.show_plan.specs.Separation.{FlyApart}
 use Rattle.show_cli.specs.declared.answer.Status.{Status}
 use Rattle.show_cli.specs.declared.answer.Status.TheVariants.{Done, FaultyShow, NoRoom, Blocked, FaultySecond, Invalid}
@@ -44,7 +45,8 @@ IsFaultAmong drones version (cert.Extra tree) = tree < 2 ^ 31
 IsFaultAmong drones version (cert.TooDeep a b cue) = (a < drones) × (b < drones)
 IsFaultAmong drones version (cert.Fails a b cue place dir control) = (a < drones) × (b < drones) × (dir < known_in version)
 
--- what the drones of the show are sent keeps near to it and keeps each two drones apart, at every instant
+-- what the drones of the show are sent keeps near to it and keeps any two drones apart, at every instant, and lands so in their memories
 pub record IsSafeShow (s : PlainShow) : Type 0 where
   pub near : KeepsNearShow (grid_of s) (sent_of s)
   pub apart : FlyApart s.settings (sent_of s)
+  pub lands : Lands (grid_of s) s.settings (sent_of s)

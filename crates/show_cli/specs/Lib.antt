@@ -3,3 +3,4 @@ pub mod Outcome
 pub mod Input
 pub mod Answers
 pub mod Runs
+pub mod Headline

@@ -30,6 +30,7 @@ use Rattle.show_plan.specs.declared.fitted.PlanFault.{PlanFault}
 use Rattle.show_plan.specs.declared.fitted.PlanFault.TheVariants as plan
 use Rattle.show_plan.specs.Fitting.{in_order, unsendable}
 use Rattle.show_plan.specs.Flight.{KeepsNearShow}
+use Rattle.show_plan.specs.Landing.{Lands}
 use Rattle.show_plan.specs.Separation.{FlyApart, best_certificate, blocked_part}
 use Rattle.show_plan.specs.Texts.{ok_line, plan_text, valid_line}
 use Rattle.show_plan.specs.Trajectories.{by_cue, cue_times, sent}
@@ -173,7 +174,7 @@ SecondGives None s cut o = (c : Certificate) × Says cut.second c × (o ≡ judg
 abbrev pub ShowGives : Command → Option Outcome → PlainShow → Cut → Outcome → Type 0
 ShowGives c (Some refused) s cut o = o ≡ refused
 ShowGives (Check depth) None s cut o = o ≡ outcome 0 (ok_line (length s.drones) (length (grid_of s).cues) (sum (cue_times (grid_of s))))
-ShowGives (Compile depth) None s cut o = o ≡ outcome 0 (plan_text (names_of s) (sent_of s))
+ShowGives (Compile depth) None s cut o = o ≡ outcome 0 (plan_text s.settings (names_of s) (sent_of s))
 ShowGives (Certify depth) None s cut o = o ≡ outcome 0 (text_of (best_certificate s.settings depth (trajectories_of s)))
 ShowGives Verify None s cut o = SecondGives (second_refusal cut) s cut o
 
@@ -197,13 +198,15 @@ OutcomeLaw = (c : Command) (cut : Cut) (o p : Outcome) → IsOutcomeOf c cut o �
 
 -- ---- what status 0 promises
 
--- The show's text stands for a show, and what its drones are sent keeps near to it at every instant, and keeps any two drones apart
--- at every instant; nothing refuses the show, and this outcome, of status 0, is what the command answers for it.
+-- The show's text stands for a show, and what its drones are sent keeps near to it at every instant, keeps any two drones apart at every
+-- instant, and lands so in their memories once its packets are acknowledged; nothing refuses the show, and this outcome, of status 0, is
+-- what the command answers for it.
 pub record IsSafe (c : Command) (cut : Cut) (o : Outcome) : Type 0 where
   pub s : PlainShow
   pub stands : StandsFor cut.show s
   pub near : KeepsNearShow (grid_of s) (sent_of s)
   pub apart : FlyApart s.settings (sent_of s)
+  pub lands : Lands (grid_of s) s.settings (sent_of s)
   pub accepted : show_refusal c cut s ≡ None
   pub gives : ShowGives c None s cut o
   pub done : o.status ≡ 0

@@ -19,7 +19,7 @@ use choreo_reader::{Show, ShowFault, read_show, show_law};
 use fault_lines::{faulty_line, too_large_line};
 use fleet_io::Part;
 use sep_certificate::text_law;
-use show_plan::{Fitted, fit};
+use show_plan::{Fitted, fit, landing_law, uploadable_law};
 use std::alloc::{AllocError, Global};
 
 // What a command answers for a show that fits, where a marker line isn't refused.
@@ -87,7 +87,11 @@ fn answer_show(
     ensures whole { IfOk result (λ a. status_number a.status ≡ 0 → EndsUnmarked command (Text.Whole part.now) second.now) }
 {
     match fit(alloc, show) {
-        Ok(fitted) => answer_fitted(alloc, command, &fitted, part, second),
+        Ok(fitted) => {
+            landing_law();
+            uploadable_law(&fitted);
+            answer_fitted(alloc, command, &fitted, part, second)
+        }
         Err(fault) => unfit(command, show, part, fault),
     }
 }

@@ -6,6 +6,7 @@ ghost use Rattle.fleet_io.specs.Taken.{AppendsFront, TakesFront};
 ghost use Rattle.fault_lines.specs.Lines.{read_line, usage_line};
 ghost use Rattle.show_cli.specs.Answers.{status_number};
 ghost use Rattle.show_cli.specs.Commands.{HasDepth};
+ghost use Rattle.show_cli.specs.Headline.{Headline};
 ghost use Rattle.show_cli.specs.Input.{EndsUnmarked, IsRead, IsReadWhole, IsWithin};
 ghost use Rattle.show_cli.specs.Outcome.{Cut, IsOutcome, IsOutcomeOf, IsSafe, Outcome, certificate_limit, cut_of, show_limit};
 ghost use Rattle.show_cli.specs.Runs.{Answers, AnswersSafely, IsJudged, IsOutput, IsOutputFor, command_in};
@@ -118,11 +119,16 @@ pub fn run<S: Source, K: Sink>(
         → (Rose (S.faults source.old) (S.faults source.new) → ⊥) → (Rose (K.faults sink.old) (K.faults sink.new) → ⊥)
         → ((result ≡ o.status) × Appends (K.written sink.old) (K.written sink.new) o.output) ⊎ (result ≡ 1) }
 
-    // 0: what was written is the command's answer for the show that the text stands for, whose trajectories keep near to it and keep
-    // each two drones apart, at every instant; the input was read to its end.
+    // 0: what was written is the command's answer for the show that the text stands for, whose trajectories keep near to it, keep any two
+    // drones apart, at every instant, and land so in their memories; the input was read to its end.
     ensures safe { (c : Command) (input : List ℕ) → command_in words.now.items ≡ Some c → S.left source.old ≡ Some input → result ≡ 0
         → (o : Outcome) × IsSafe c (cut_of input) o × Appends (K.written sink.old) (K.written sink.new) o.output }
     ensures whole { result ≡ 0 → IsReadWhole (S.left source.old) (S.left source.new) }
+
+    // 0 of `compile`: the input stands for a show, its plan was written, and once the plan's packets are acknowledged, whatever the link
+    // does, each drone's memory decodes to one curve, near to the show and apart from every other, at every instant.
+    ensures headline { (depth : ℕ) (input : List ℕ) → command_in words.now.items ≡ Some (Command.Compile depth) → S.left source.old ≡ Some input → result ≡ 0
+        → Headline input (K.written sink.old) (K.written sink.new) }
 
     // 1: memory is wanting, and nothing was written.
     ensures one { result ≡ 1 → IsSome (command_in words.now.items) × (K.written sink.new ≡ K.written sink.old) × (K.faults sink.new ≡ K.faults sink.old) }

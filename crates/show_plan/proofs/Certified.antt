@@ -14,9 +14,10 @@ use Rattle.sep_parts.specs.Levels.{left_half, right_half, root}
 use Rattle.sep_parts.specs.Raised.{CurvesStandFor, Raised, difference, raised_of}
 use Rattle.sep_parts.specs.Slots.{cues_from, drones_from, pairs_from, slots}
 use Rattle.sep_certificate.specs.declared.certificate.Certificate.{Certificate}
-use Rattle.sep_certificate.specs.declared.certificate.Node.{Node}
-use Rattle.sep_certificate.specs.declared.certificate.Node.TheVariants.{Split, Leaf}
-use Rattle.sep_certificate.specs.Certificates.{AreValid, IsKnown, IsTree, IsValid, IsValidTree, IsWhole, Tree, leaf, split, preorder}
+use Rattle.sep_parts.specs.declared.node.Node.{Node}
+use Rattle.sep_parts.specs.declared.node.Node.TheVariants.{Split, Leaf}
+use Rattle.sep_certificate.specs.Certificates.{AreValid, IsValid, IsWhole}
+use Rattle.sep_parts.specs.Trees.{IsKnown, IsTree, IsValidTree, Tree, leaf, split, preorder}
 use Rattle.sep_certificate.specs.Laws.{CertificateLaw}
 use Rattle.pair_search.specs.Laws.{SearchLaw}
 use Rattle.pair_search.specs.Search.{best_tree, split_of}

@@ -7,7 +7,7 @@ use Rattle.sep_parts.specs.declared.slot.Slot.{Slot}
 use Rattle.sep_parts.specs.Levels.{left_half, right_half, root}
 use Rattle.sep_parts.specs.Raised.{Raised}
 use Rattle.sep_parts.specs.Slots.{slots}
-use Rattle.sep_certificate.specs.Certificates.{Tree, leaf, split, preorder}
+use Rattle.sep_parts.specs.Trees.{Tree, leaf, split, preorder}
 use Rattle.pair_search.specs.Search.{best_tree, split_of}
 use Rattle.choreo_reader.specs.declared.show.Settings.{Settings}
 use Rattle.show_plan.specs.Separation.{best_nodes, direction_at, nodes_of}

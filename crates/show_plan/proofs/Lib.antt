@@ -6,3 +6,6 @@ pub mod SeparationLaws
 pub mod Certified
 pub mod Counted
 pub mod PlanLines
+pub mod Landing
+pub mod Uploadable
+pub mod PacketLines

@@ -6,53 +6,39 @@ use Rattle.fleet_io.proofs.WordLaws.{fresh_after_line}
 use Rattle.choreo_lines.specs.Name.{Name}
 use Rattle.traj_codec.specs.declared.traj.Traj.{Traj}
 use Rattle.traj_codec.specs.Spelling.{ending, IsEncoding}
+use Rattle.upload_model.specs.Sessions.{Upload}
 use Rattle.show_plan.specs.Fitting.{AreEncodings}
-use Rattle.show_plan.specs.Texts.{sent_bytes, drone_line, data_line, drone_part, drone_parts}
+use Rattle.show_plan.specs.Texts.{sent_bytes, drone_line, data_line, drone_part, drone_parts, packet_lines}
 
 -- an encoding is what a trajectory is sent as
-sent_is : (bytes : List ℕ) (t : Traj) → IsEncoding bytes t → bytes ≡ sent_bytes t
+pub sent_is : (bytes : List ℕ) (t : Traj) → IsEncoding bytes t → bytes ≡ sent_bytes t
 sent_is bytes t is = is.ended ∙ ap (λ (spelled : List ℕ). spelled ++ ending) is.spells.text
 
--- the line of a drone and then that of its bytes are its lines
-pub part_is : (text first : List ℕ) (name bytes : List ℕ) (t : Traj) → IsEncoding bytes t → first ≡ text ++ drone_line name bytes (length t.segments) →
-    first ++ data_line bytes ≡ text ++ drone_part name t
-part_is text first name bytes t is first_is =
-    ap (λ (xs : List ℕ). xs ++ data_line bytes) first_is
-    ∙ append_assoc text (drone_line name bytes (length t.segments)) (data_line bytes)
-    ∙ ap (λ (sent : List ℕ). text ++ (drone_line name sent (length t.segments) ++ data_line sent)) (sent_is bytes t is)
+-- the line of a drone, that of its bytes and those of its packets are its lines
+pub part_is : (text first sent : List ℕ) (s : Upload) (d : ℕ) (name bytes : List ℕ) (t : Traj) → IsEncoding bytes t → first ≡ text ++ drone_line name bytes (length t.segments) →
+    sent ≡ first ++ data_line bytes → sent ++ packet_lines s d ≡ text ++ drone_part s d name t
+part_is text first sent s d name bytes t is first_is sent_made =
+    ap (λ (xs : List ℕ). xs ++ packet_lines s d) (sent_made ∙ ap (λ (xs : List ℕ). xs ++ data_line bytes) first_is)
+    ∙ ap (λ (xs : List ℕ). xs ++ packet_lines s d) (append_assoc text (drone_line name bytes (length t.segments)) (data_line bytes))
+    ∙ append_assoc text (drone_line name bytes (length t.segments) ++ data_line bytes) (packet_lines s d)
+    ∙ ap (λ (all : List ℕ). text ++ (drone_line name all (length t.segments) ++ data_line all ++ packet_lines s d)) (sent_is bytes t is)
 
--- behind the lines of a drone the last line is empty
-part_fresh : (text name : List ℕ) (t : Traj) → is_line_empty (text ++ drone_part name t) ≡ true
-part_fresh text name t =
-    ap is_line_empty (sym (append_assoc text (drone_line name (sent_bytes t) (length t.segments)) (data_line (sent_bytes t))))
-    ∙ fresh_after_line (text ++ drone_line name (sent_bytes t) (length t.segments)) (codes "data") (map hex_word (sent_bytes t))
-
--- one drone's lines more: what is to come is less by them, and the last line is empty
-pub parts_next : (text more : List ℕ) (names : List Name) (ts : List Traj) (k : ℕ) (name : Name) (t : Traj) →
-    k < length names → length ts ≡ length names → name ≡ get_or names k name → t ≡ get_or ts k t → more ≡ text ++ drone_part name.items t →
-    (more ++ drone_parts (drop (k + 1) names) (drop (k + 1) ts) ≡ text ++ drone_parts (drop k names) (drop k ts)) × (is_line_empty more ≡ true)
-parts_next text more names ts k name t within many name_is t_is more_is =
+-- one drone's lines more: what is to come is less by them
+pub parts_next : (text more : List ℕ) (s : Upload) (names : List Name) (ts : List Traj) (k : ℕ) (name : Name) (t : Traj) →
+    k < length names → length ts ≡ length names → name ≡ get_or names k name → t ≡ get_or ts k t → more ≡ text ++ drone_part s k name.items t →
+    more ++ drone_parts s (k + 1) (drop (k + 1) names) (drop (k + 1) ts) ≡ text ++ drone_parts s k (drop k names) (drop k ts)
+parts_next text more s names ts k name t within many name_is t_is more_is =
     let also : k < length ts = omega (arith, many, within) in
-    let here : List ℕ = drone_part name.items t in
-    let rest : List ℕ = drone_parts (drop (k + 1) names) (drop (k + 1) ts) in
-    let drops : drone_parts (drop k names) (drop k ts) ≡ here ++ rest =
-    ap (λ (ns : List Name). drone_parts ns (drop k ts)) (drop_more names k name within ∙ ap (λ (n : Name). n ∷ drop (k + 1) names) (sym name_is))
-    ∙ ap (λ (us : List Traj). drone_parts (name ∷ drop (k + 1) names) us) (drop_more ts k t also ∙ ap (λ (u : Traj). u ∷ drop (k + 1) ts) (sym t_is)) in (
-      ap (λ (xs : List ℕ). xs ++ rest) more_is ∙ append_assoc text here rest ∙ ap (λ (xs : List ℕ). text ++ xs) (sym drops),
-      ap is_line_empty more_is ∙ part_fresh text name.items t,
-    )
+    let here : List ℕ = drone_part s k name.items t in
+    let rest : List ℕ = drone_parts s (k + 1) (drop (k + 1) names) (drop (k + 1) ts) in
+    let drops : drone_parts s k (drop k names) (drop k ts) ≡ here ++ rest =
+    ap (λ (ns : List Name). drone_parts s k ns (drop k ts)) (drop_more names k name within ∙ ap (λ (n : Name). n ∷ drop (k + 1) names) (sym name_is))
+    ∙ ap (λ (us : List Traj). drone_parts s k (name ∷ drop (k + 1) names) us) (drop_more ts k t also ∙ ap (λ (u : Traj). u ∷ drop (k + 1) ts) (sym t_is)) in
+    ap (λ (xs : List ℕ). xs ++ rest) more_is ∙ append_assoc text here rest ∙ ap (λ (xs : List ℕ). text ++ xs) (sym drops)
 
--- behind the last drone nothing is to come
-pub parts_over : (text : List ℕ) (names : List Name) (ts : List Traj) (k : ℕ) → length names ≤ k → text ++ drone_parts (drop k names) (drop k ts) ≡ text
-parts_over text names ts k over = ap (λ (ns : List Name). text ++ drone_parts ns (drop k ts)) (drop_all k names over) ∙ append-nil text
-
--- behind the lines of drones the last line is empty, where it was before
-pub parts_fresh : (text : List ℕ) (names : List Name) (ts : List Traj) → is_line_empty text ≡ true → is_line_empty (text ++ drone_parts names ts) ≡ true
-parts_fresh text [] ts fresh = ap is_line_empty (append-nil text) ∙ fresh
-parts_fresh text (name ∷ names) [] fresh = ap is_line_empty (append-nil text) ∙ fresh
-parts_fresh text (name ∷ names) (t ∷ ts) fresh =
-    ap is_line_empty (sym (append_assoc text (drone_part name.items t) (drone_parts names ts)))
-    ∙ parts_fresh (text ++ drone_part name.items t) names ts (part_fresh text name.items t)
+-- after the last drone nothing is to come
+pub parts_over : (text : List ℕ) (s : Upload) (names : List Name) (ts : List Traj) (k : ℕ) → length names ≤ k → text ++ drone_parts s k (drop k names) (drop k ts) ≡ text
+parts_over text s names ts k over = ap (λ (ns : List Name). text ++ drone_parts s k ns (drop k ts)) (drop_all k names over) ∙ append-nil text
 
 -- there are as many lists of bytes as trajectories
 pub encodings_counted : (rows : List (List ℕ)) (ts : List Traj) → AreEncodings rows ts → length rows ≡ length ts

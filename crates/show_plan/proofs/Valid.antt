@@ -149,7 +149,7 @@ names_counted (d ∷ ds) = ap suc (names_counted ds)
 
 -- ---- bytes
 
-encoding_size : (bytes : List ℕ) (t : Traj) → IsEncoding bytes t → length bytes ≡ size t
+pub encoding_size : (bytes : List ℕ) (t : Traj) → IsEncoding bytes t → length bytes ≡ size t
 encoding_size bytes t is = ap (λ (xs : List ℕ). length xs) (is.ended ∙ ap (λ (spelled : List ℕ). spelled ++ ending) is.spells.text)
 
 -- where each trajectory can be sent, its bytes have room

@@ -5,3 +5,4 @@ pub mod Texts
 pub mod Separation
 pub mod Laws
 pub mod Steps
+pub mod Landing

@@ -11,9 +11,9 @@ use Rattle.sep_parts.specs.Levels.{root}
 use Rattle.sep_parts.specs.Raised.{Raised, difference, raised_of}
 use Rattle.sep_parts.specs.Slots.{slots}
 use Rattle.sep_parts.specs.Versions.{table_of}
-use Rattle.sep_certificate.specs.declared.certificate.Node.{Node}
+use Rattle.sep_parts.specs.declared.node.Node.{Node}
 use Rattle.sep_certificate.specs.declared.certificate.Certificate.{Certificate}
-use Rattle.sep_certificate.specs.Certificates.{Tree, preorder}
+use Rattle.sep_parts.specs.Trees.{Tree, preorder}
 use Rattle.pair_search.specs.Search.{first_direction, blocked_place, best_tree, IsClear}
 use Rattle.choreo_reader.specs.declared.show.Settings.{Settings}
 use Rattle.show_plan.specs.declared.fitted.PlanFault.{PlanFault}

@@ -1,12 +1,13 @@
--- Words of private steps of the separation of a show. No public clause cites them.
-use Rattle.std.specs.Prelude.{◌≡◌, ℕ, ◌≤◌, List, [], length, map, Option, Some, None, Result, Ok, Err}
+-- Words of private steps. No public clause cites them.
+use Rattle.std.specs.Prelude.{◌≡◌, ℕ, ◌≤◌, List, [], ◌∷◌, true, length, map, Option, Some, None, Result, Ok, Err}
 use Rattle.std.specs.Option.{option_map}
 use Rattle.std.specs.List.{All, sum}
 use Rattle.sep_parts.specs.Directions.{AreSmall, IsAxis, threshold}
 use Rattle.sep_parts.specs.declared.slot.Slot.{Slot}
 use Rattle.sep_parts.specs.Raised.{Raised}
 use Rattle.sep_parts.specs.Slots.{slots}
-use Rattle.sep_certificate.specs.declared.certificate.Node.{Node}
+use Rattle.sep_parts.specs.declared.node.Node.{Node}
+use Rattle.upload_model.specs.Sessions.{Upload}
 use Rattle.pair_search.specs.Search.{blocked_place}
 use Rattle.choreo_reader.specs.declared.show.Settings.{Settings}
 use Rattle.show_plan.specs.declared.fitted.PlanFault.{PlanFault}
@@ -46,3 +47,15 @@ pub record IsSearch (e : Settings) (depth : ℕ) (s : Search) : Type 0 where
   pub r : IsAxis e.r
   pub h : IsAxis e.h
   pub shallow : depth ≤ 8
+
+-- ---- packets
+
+-- the session of one drone, with its start: where the show's settings say, these bytes of so many segments
+abbrev pub alone : Settings → List ℕ → ℕ → Upload
+alone e bytes pieces = record {
+  memory_id = e.memory_id;
+  offset = e.offset;
+  trajectory_id = e.trajectory_id;
+  loads = record { bytes = bytes; pieces = pieces } ∷ [];
+  start = true;
+}

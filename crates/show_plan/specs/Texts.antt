@@ -1,9 +1,13 @@
 -- The texts that say a plan.
-use Rattle.std.specs.Prelude.{ℕ, List, [], ◌∷◌, ◌++◌, length, map, codes, decimal}
+use Rattle.std.specs.Prelude.{ℕ, ◌+◌, ◌==◌, nat_lt, if◌then◌else◌, true, List, [], ◌∷◌, ◌++◌, length, map, codes, decimal}
+use Rattle.std.specs.List.{flat_map, range_with_len}
 use Rattle.fleet_io.specs.Words.{hex_word, line}
 use Rattle.choreo_lines.specs.Name.{Name}
 use Rattle.traj_codec.specs.declared.traj.Traj.{Traj}
 use Rattle.traj_codec.specs.Spelling.{spelling, ending}
+use Rattle.upload_model.specs.Sessions.{Upload, packet_at, packet_count, write_count}
+use Rattle.choreo_reader.specs.declared.show.Settings.{Settings}
+use Rattle.show_plan.specs.Landing.{session_for}
 
 -- the bytes that a trajectory is sent as: its spelling, and then the ending
 abbrev pub sent_bytes : Traj → List ℕ
@@ -25,19 +29,31 @@ data_line bytes = line (codes "data") (map hex_word bytes)
 abbrev pub end_line : List ℕ
 end_line = line (codes "end") []
 
--- the lines of a drone
-abbrev pub drone_part : List ℕ → Traj → List ℕ
-drone_part name t = drone_line name (sent_bytes t) (length t.segments) ++ data_line (sent_bytes t)
+-- what packet k of a drone is: a write of a part of its load, its define, its start
+abbrev pub packet_word : Upload → ℕ → ℕ → List ℕ
+packet_word s d k = if nat_lt k (write_count s d) then codes "write" else (if k == write_count s d then codes "define" else codes "start")
 
--- the lines of drones, one drone after another
-abbrev pub drone_parts : List Name → List Traj → List ℕ
-drone_parts [] ts = []
-drone_parts (name ∷ names) [] = []
-drone_parts (name ∷ names) (t ∷ ts) = drone_part name.items t ++ drone_parts names ts
+-- a packet with its bytes
+abbrev pub packet_line : Upload → ℕ → ℕ → List ℕ
+packet_line s d k = line (packet_word s d k) (map hex_word (packet_at s d k))
 
--- the plan of drones with these names and trajectories
-unfoldable pub plan_text : List Name → List Traj → List ℕ
-plan_text names ts = head_line ++ (drone_parts names ts ++ end_line)
+-- the packets of a drone, in order
+abbrev pub packet_lines : Upload → ℕ → List ℕ
+packet_lines s d = flat_map (packet_line s d) (range_with_len 0 (packet_count s d))
+
+-- the lines of drone d of a session: what it is sent, as bytes and as packets
+abbrev pub drone_part : Upload → ℕ → List ℕ → Traj → List ℕ
+drone_part s d name t = drone_line name (sent_bytes t) (length t.segments) ++ data_line (sent_bytes t) ++ packet_lines s d
+
+-- the lines of drones, one drone after another, the first of which has number d
+abbrev pub drone_parts : Upload → ℕ → List Name → List Traj → List ℕ
+drone_parts s d [] ts = []
+drone_parts s d (name ∷ names) [] = []
+drone_parts s d (name ∷ names) (t ∷ ts) = drone_part s d name.items t ++ drone_parts s (d + 1) names ts
+
+-- The plan of drones with these names and trajectories: its packets are those of their session, with starts.
+unfoldable pub plan_text : Settings → List Name → List Traj → List ℕ
+plan_text e names ts = head_line ++ (drone_parts (session_for e ts true) 0 names ts ++ end_line)
 
 -- what is said of a show that is accepted: how many drones and cues it has, and how many milliseconds it lasts
 unfoldable pub ok_line : ℕ → ℕ → ℕ → List ℕ

@@ -18,13 +18,16 @@
 
 mod fitted;
 mod fitting;
+mod packets;
 mod separation;
 mod text;
+mod upload;
 
 pub use fitted::{Fitted, PlanFault};
 pub use fitting::fit;
 pub use separation::{certificate, count_nodes, separation_law};
 pub use text::{ok_line, plan_text, valid_line};
+pub use upload::{landing_law, session, uploadable_law};
 
 #[cfg(test)]
 mod separation_tests;

@@ -227,27 +227,27 @@ const PLANS: [(&[u8], &[u8]); 5] = [
     // one drone
     (
         b"choreo 1\ndrone solo 0 0 1000000 0\ncue 2000\nsolo move 1000000 0 1000000 0\nend\n",
-        b"plan 1\ndrone solo bytes 28 pieces 1\ndata 00 00 00 00 E8 03 00 00 03 D0 07 00 00 00 00 00 00 E8 03 E8 03 E8 03 E8 03 00 00 00\nend\n",
+        b"plan 1\ndrone solo bytes 28 pieces 1\ndata 00 00 00 00 E8 03 00 00 03 D0 07 00 00 00 00 00 00 E8 03 E8 03 E8 03 E8 03 00 00 00\nwrite 4E 02 00 00 00 00 00 00 00 00 E8 03 00 00 03 D0 07 00 00 00 00 00 00 E8 03 E8 03 E8 03 E8\nwrite 4E 02 18 00 00 00 03 00 00 00\ndefine 8C 06 00 01 01 00 00 00 00 01\nstart 8C 05 00 00 00 00 00 00 80 3F\nend\n",
     ),
     // two drones with different bytes
     (
         b"choreo 1\ndrone a 0 0 1000000 0\ndrone b 1000000 0 1000000 0\ncue 3000\nb move 1000000 0 2000000 0\nend\n",
-        b"plan 1\ndrone a bytes 14 pieces 1\ndata 00 00 00 00 E8 03 00 00 00 B8 0B 00 00 00\ndrone b bytes 28 pieces 1\ndata E8 03 00 00 E8 03 00 00 30 B8 0B E8 03 E8 03 E8 03 D0 07 D0 07 D0 07 D0 07 00 00 00\nend\n",
+        b"plan 1\ndrone a bytes 14 pieces 1\ndata 00 00 00 00 E8 03 00 00 00 B8 0B 00 00 00\nwrite 4E 02 00 00 00 00 00 00 00 00 E8 03 00 00 00 B8 0B 00 00 00\ndefine 8C 06 00 01 01 00 00 00 00 01\nstart 8C 05 00 00 00 00 00 00 80 3F\ndrone b bytes 28 pieces 1\ndata E8 03 00 00 E8 03 00 00 30 B8 0B E8 03 E8 03 E8 03 D0 07 D0 07 D0 07 D0 07 00 00 00\nwrite 4E 02 00 00 00 00 E8 03 00 00 E8 03 00 00 30 B8 0B E8 03 E8 03 E8 03 D0 07 D0 07 D0 07 D0\nwrite 4E 02 18 00 00 00 07 00 00 00\ndefine 8C 06 00 01 01 00 00 00 00 01\nstart 8C 05 00 00 00 00 00 00 80 3F\nend\n",
     ),
     // two holds in one piece
     (
         b"choreo 1\ndrone solo 0 0 1000000 0\ncue 1000\nend\ncue 2000\nend\n",
-        b"plan 1\ndrone solo bytes 14 pieces 1\ndata 00 00 00 00 E8 03 00 00 00 B8 0B 00 00 00\nend\n",
+        b"plan 1\ndrone solo bytes 14 pieces 1\ndata 00 00 00 00 E8 03 00 00 00 B8 0B 00 00 00\nwrite 4E 02 00 00 00 00 00 00 00 00 E8 03 00 00 00 B8 0B 00 00 00\ndefine 8C 06 00 01 01 00 00 00 00 01\nstart 8C 05 00 00 00 00 00 00 80 3F\nend\n",
     ),
     // a formation that names its drones in another order, and a figure of two roles that are played in another order
     (
         b"choreo 1\ndrone a 0 0 1000000 0\ndrone b 2000000 0 1000000 0\nformation f\nat b 2000000 1000000 1000000 0\nat a 0 1000000 1000000 0\nend\nfigure g p q\ncue 1000\np line 0 0 1000000 0\nq line 1000000 0 1000000 0\nend\nend\ncue 1000\nform f line\nend\nperform g none 1 0 2000000 0 b a\n",
-        b"plan 1\ndrone a bytes 23 pieces 2\ndata 00 00 00 00 E8 03 00 00 04 E8 03 E8 03 44 E8 03 B8 0B 84 03 00 00 00\ndrone b bytes 25 pieces 2\ndata D0 07 00 00 E8 03 00 00 04 E8 03 E8 03 45 E8 03 00 00 D0 07 84 03 00 00 00\nend\n",
+        b"plan 1\ndrone a bytes 23 pieces 2\ndata 00 00 00 00 E8 03 00 00 04 E8 03 E8 03 44 E8 03 B8 0B 84 03 00 00 00\nwrite 4E 02 00 00 00 00 00 00 00 00 E8 03 00 00 04 E8 03 E8 03 44 E8 03 B8 0B 84 03 00 00 00\ndefine 8C 06 00 01 01 00 00 00 00 02\nstart 8C 05 00 00 00 00 00 00 80 3F\ndrone b bytes 25 pieces 2\ndata D0 07 00 00 E8 03 00 00 04 E8 03 E8 03 45 E8 03 00 00 D0 07 84 03 00 00 00\nwrite 4E 02 00 00 00 00 D0 07 00 00 E8 03 00 00 04 E8 03 E8 03 45 E8 03 00 00 D0 07 84 03 00 00\nwrite 4E 02 18 00 00 00 00\ndefine 8C 06 00 01 01 00 00 00 00 02\nstart 8C 05 00 00 00 00 00 00 80 3F\nend\n",
     ),
     // a repeat of a cue and a figure, in which one drone holds
     (
         b"choreo 1\ndrone a 0 0 1000000 0\ndrone b 1000000 0 1000000 0\nfigure back p\ncue 2000\np line 0 0 1000000 0\nend\nend\nrepeat 2\ncue 1000\na line 0 1000000 1000000 0\nend\nperform back none 0 0 0 0 a\nend\n",
-        b"plan 1\ndrone a bytes 31 pieces 4\ndata 00 00 00 00 E8 03 00 00 04 E8 03 E8 03 04 D0 07 00 00 04 E8 03 E8 03 04 D0 07 00 00 00 00 00\ndrone b bytes 14 pieces 1\ndata E8 03 00 00 E8 03 00 00 00 70 17 00 00 00\nend\n",
+        b"plan 1\ndrone a bytes 31 pieces 4\ndata 00 00 00 00 E8 03 00 00 04 E8 03 E8 03 04 D0 07 00 00 04 E8 03 E8 03 04 D0 07 00 00 00 00 00\nwrite 4E 02 00 00 00 00 00 00 00 00 E8 03 00 00 04 E8 03 E8 03 04 D0 07 00 00 04 E8 03 E8 03 04\nwrite 4E 02 18 00 00 00 D0 07 00 00 00 00 00\ndefine 8C 06 00 01 01 00 00 00 00 04\nstart 8C 05 00 00 00 00 00 00 80 3F\ndrone b bytes 14 pieces 1\ndata E8 03 00 00 E8 03 00 00 00 70 17 00 00 00\nwrite 4E 02 00 00 00 00 E8 03 00 00 E8 03 00 00 00 70 17 00 00 00\ndefine 8C 06 00 01 01 00 00 00 00 01\nstart 8C 05 00 00 00 00 00 00 80 3F\nend\n",
     ),
 ];
 

@@ -1,16 +1,22 @@
 //! The texts that say a plan.
 
-ghost use Rattle.std.specs.Prelude.{◌≡◌, ◌++◌, true, length, decimal, IfOk, OnOk};
+ghost use Rattle.std.specs.Prelude.{◌≡◌, ◌≤◌, ◌++◌, ℕ, List, true, length, decimal, IfOk, OnOk};
 ghost use Rattle.std.specs.List.{All};
 ghost use Rattle.fleet_io.specs.Words.{is_line_empty, with_word, IsWord};
-ghost use Rattle.traj_codec.specs.Spelling.{IsEncoding};
+ghost use Rattle.traj_codec.specs.declared.traj.Traj.{Traj};
+ghost use Rattle.traj_codec.specs.Spelling.{IsEncoding, most_segments};
+ghost use Rattle.upload_model.specs.Sessions.{Upload};
 ghost use Rattle.show_plan.specs.Fitting.{StandsAsWord, AreEncodings, IsValidFitted};
-ghost use Rattle.show_plan.specs.Texts.{head_line, drone_line, data_line, end_line, drone_part, drone_parts, plan_text, ok_line, valid_line};
+ghost use Rattle.show_plan.specs.Landing.{session_for};
+ghost use Rattle.show_plan.specs.Steps.{alone};
+ghost use Rattle.show_plan.specs.Texts.{head_line, drone_line, end_line, drone_part, drone_parts, packet_lines, plan_text, ok_line, valid_line};
 
 use crate::fitted::Fitted;
-use choreo_reader::{Listed, Name};
+use crate::packets::{put_bytes, put_packets};
+use choreo_reader::{Listed, Name, Settings};
 use fault_lines::{put, put_number};
 use fleet_io::{Lines, ShortLine};
+use mem_chunks::MEMORY_BYTES;
 use std::alloc::{AllocError, Global};
 use traj_codec::{Segment, Traj};
 
@@ -56,15 +62,6 @@ fn put_drone(
     text.end()
 }
 
-fn put_data(text: &mut Lines, bytes: &[u8]) -> Result<(), AllocError>
-    requires { is_line_empty text.old ≡ true }
-    ensures { OnOk result (text.new ≡ text.old ++ data_line bytes.now) }
-{
-    text.word(b"data")?;
-    text.hex(bytes)?;
-    text.end()
-}
-
 fn put_end(text: &mut Lines) -> Result<(), AllocError>
     requires { is_line_empty text.old ≡ true }
     ensures { OnOk result (text.new ≡ text.old ++ end_line) }
@@ -73,20 +70,33 @@ fn put_end(text: &mut Lines) -> Result<(), AllocError>
     text.end()
 }
 
-// The lines of a drone.
-fn put_part(text: &mut Lines, name: &[u8], bytes: &[u8], t: &Traj) -> Result<(), AllocError>
+// The lines of drone d of a session: its trajectory's bytes, and the packets that bring them.
+fn put_part(
+    text: &mut Lines,
+    settings: Settings,
+    name: &[u8],
+    bytes: &[u8],
+    t: &Traj,
+) -> Result<(), AllocError>
     requires fresh { is_line_empty text.old ≡ true }
     requires name { IsWord name.now }
     requires encoded { IsEncoding bytes.now t.now }
-    ensures { OnOk result (text.new ≡ text.old ++ drone_part name.now t.now) }
+    requires short { length bytes.now ≤ MEMORY_BYTES }
+    requires few { length t.now.segments ≤ most_segments }
+    ensures part { (s : Upload) (d : ℕ) → packet_lines (alone settings bytes.now (length t.now.segments)) 0 ≡ packet_lines s d
+        → OnOk result (text.new ≡ text.old ++ drone_part s d name.now t.now) }
+    ensures fresh { OnOk result (is_line_empty text.new ≡ true) }
 {
-    put_drone(text, name, bytes, t.segments.as_slice())?;
-    put_data(text, bytes)
+    let segments = t.segments.as_slice();
+    put_drone(text, name, bytes, segments)?;
+    put_bytes(text, b"data", bytes)?;
+    put_packets(text, settings, bytes, segments.len() as u8)
 }
 
 // The lines of each drone.
 fn put_parts(
     text: &mut Lines,
+    settings: Settings,
     names: &[Name],
     bytes: &[Listed<u8>],
     trajs: &[Traj],
@@ -95,24 +105,35 @@ fn put_parts(
     requires words { All StandsAsWord names.now }
     requires count { length trajs.now ≡ length names.now }
     requires encoded { AreEncodings bytes.now trajs.now }
-    ensures { OnOk result (text.new ≡ text.old ++ drone_parts names.now trajs.now) }
+    requires short { All (λ (bytes : List ℕ). length bytes ≤ MEMORY_BYTES) bytes.now }
+    requires few { All (λ (t : Traj). length t.segments ≤ most_segments) trajs.now }
+    ensures parts { OnOk result (text.new ≡ text.old ++ drone_parts (session_for settings trajs.now true) 0 names.now trajs.now) }
+    ensures fresh { OnOk result (is_line_empty text.new ≡ true) }
 {
     for d in 0..names.len() {
-        put_part(text, names[d].as_slice(), bytes[d].as_slice(), &trajs[d])?;
+        put_part(
+            text,
+            settings,
+            names[d].as_slice(),
+            bytes[d].as_slice(),
+            &trajs[d],
+        )?;
     }
     Ok(())
 }
 
-/// The plan text of a show that fits: `plan 1`; for each drone a line with its name, the number of its bytes and of its pieces,
-/// and a line with its bytes in two hexadecimal digits each; and `end` (docs/COMMANDS.md). Want of memory is the only refusal.
+/// The plan text of a show that fits: `plan 1`; for each drone a line with its name, the number of its bytes and of its segments, a line
+/// with its bytes in two hexadecimal digits each, and a line for each packet that writes them, defines the trajectory and starts it; and
+/// `end` (docs/COMMANDS.md). Out of memory is the only refusal.
 pub fn plan_text(alloc: Global, f: &Fitted) -> Result<Lines, AllocError>
     requires { IsValidFitted f.now }
-    ensures { IfOk result (λ text. text ≡ plan_text f.now.names f.now.sent) }
+    ensures { IfOk result (λ text. text ≡ plan_text f.now.settings f.now.names f.now.sent) }
 {
     let mut text = Lines::make(alloc);
     put_head(&mut text)?;
     put_parts(
         &mut text,
+        f.settings,
         f.names.as_slice(),
         f.bytes.as_slice(),
         f.sent.as_slice(),

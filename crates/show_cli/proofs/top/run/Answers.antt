@@ -1,7 +1,8 @@
 use Rattle.std.proofs.Common.{[], ◌∷◌, sym, subst, ◌∙◌}
 use Rattle.show_cli.specs.declared.command.Command.{Command}
+use Rattle.show_cli.specs.declared.command.Command.TheVariants as Command
 use Rattle.show_cli.specs.Outcome.{IsOutcome}
-use Rattle.show_cli.proofs.RunLemmas.{one_command, with_third}
+use Rattle.show_cli.proofs.RunLemmas.{headline, one_command, with_third}
 use Rattle.show_cli.proofs.top.run.Goals as goal
 
 pub returns-in-Some-clause-exact : goal.returns-in-Some-clause-exact
@@ -15,3 +16,7 @@ returns-in-Some-clause-safe g c = λ d input is left zero.
 
 pub returns-in-Some-clause-known : goal.returns-in-Some-clause-known
 returns-in-Some-clause-known g c = with_third 0 1 2 (3 ∷ 4 ∷ 5 ∷ 6 ∷ 7 ∷ 11 ∷ 12 ∷ []) _ c.run_command.ensures.known
+
+pub returns-in-Some-clause-headline : goal.returns-in-Some-clause-headline
+returns-in-Some-clause-headline g c = λ depth input is left zero.
+    headline depth input _ _ (rw (one_command _ (Command.Compile depth) c.in-Some.command is (sym c.command_of.ensures.value ∙ c.in-Some.is)) (c.run_command.ensures.safe input left zero))

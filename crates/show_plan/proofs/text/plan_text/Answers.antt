@@ -1,28 +1,26 @@
-use Rattle.std.proofs.Common.{◌++◌, List, ℕ, append_assoc, ap, sym, length, ◌∙◌}
+use Rattle.std.proofs.Common.{◌++◌, true, List, ℕ, append_assoc, ap, sym, length, ◌∙◌}
 use Rattle.std.proofs.lemmas.List.{length-map}
-use Rattle.fleet_io.specs.Words.{is_line_empty}
 use Rattle.choreo_lines.specs.Name.{Name}
 use Rattle.traj_codec.specs.declared.traj.Traj.{Traj}
 use Rattle.traj_codec.specs.Joined.{joined}
+use Rattle.show_plan.specs.Landing.{session_for}
 use Rattle.show_plan.specs.Texts.{head_line, end_line, drone_parts, plan_text}
-use Rattle.show_plan.proofs.PlanLines.{parts_fresh}
 use Rattle.show_plan.proofs.text.plan_text.Goals as goal
 
 pub put_end-requires : goal.put_end-requires
-put_end-requires c =
-    let head = c.in_ok-put_head.ensures ∙ ap (λ (t : List ℕ). t ++ head_line) c.make-text.ensures in
-    ap is_line_empty c.in_ok-put_parts.ensures ∙ parts_fresh c.put_head.new.text c.as_slice.result.now c.as_slice-3.result.now (ap is_line_empty head)
+put_end-requires c = c.in_ok-put_parts.ensures.fresh
 
 pub returns : goal.returns
 unfolding plan_text
 returns c =
+    let e = c.args.f.now.settings in
     let head = c.in_ok-put_head.ensures ∙ ap (λ (t : List ℕ). t ++ head_line) c.make-text.ensures in
-    let parts = drone_parts c.as_slice.result.now c.as_slice-3.result.now in
+    let parts = drone_parts (session_for e c.as_slice-3.result.now true) 0 c.as_slice.result.now c.as_slice-3.result.now in
     c.in_ok-put_end.ensures
-    ∙ ap (λ (t : List ℕ). t ++ end_line) (c.in_ok-put_parts.ensures ∙ ap (λ (t : List ℕ). t ++ parts) head)
+    ∙ ap (λ (t : List ℕ). t ++ end_line) (c.in_ok-put_parts.ensures.parts ∙ ap (λ (t : List ℕ). t ++ parts) head)
     ∙ append_assoc head_line parts end_line
-    ∙ ap (λ (names : List Name). head_line ++ (drone_parts names c.as_slice-3.result.now ++ end_line)) c.as_slice.ensures
-    ∙ ap (λ (ts : List Traj). head_line ++ (drone_parts c.args.f.now.names ts ++ end_line)) c.as_slice-3.ensures
+    ∙ ap (λ (names : List Name). head_line ++ (drone_parts (session_for e c.as_slice-3.result.now true) 0 names c.as_slice-3.result.now ++ end_line)) c.as_slice.ensures
+    ∙ ap (λ (ts : List Traj). head_line ++ (drone_parts (session_for e ts true) 0 c.args.f.now.names ts ++ end_line)) c.as_slice-3.ensures
 
 pub put_parts-requires-clause-count : goal.put_parts-requires-clause-count
 put_parts-requires-clause-count c =

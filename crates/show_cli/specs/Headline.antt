@@ -1,0 +1,18 @@
+-- What status 0 of `compile` promises, from the text to the drones' memories.
+use Rattle.std.specs.Prelude.{ℕ, List, Option}
+use Rattle.std.specs.Io.KnownBytes.{Appends}
+use Rattle.choreo_reader.specs.Grammar.{StandsFor}
+use Rattle.choreo_reader.specs.Plain.{PlainShow}
+use Rattle.cue_grid.specs.Cues.{grid_of}
+use Rattle.show_plan.specs.Landing.{Lands}
+use Rattle.show_plan.specs.Texts.{plan_text}
+use Rattle.show_cli.specs.Outcome.{names_of, sent_of}
+
+-- The input stands for a show, and what was written is its plan. Whatever the drones hold at the start, and whatever the link loses, repeats,
+-- delays or reorders: once all packets of the plan are acknowledged, with the starts or without, each drone's memory decodes to one curve,
+-- near to what the show says, and any two of these curves keep their drones apart, at every instant, then and at each later moment.
+pub record Headline (input : List ℕ) (old new : Option (List ℕ)) : Type 0 where
+  pub s : PlainShow
+  pub stands : StandsFor input s
+  pub planned : Appends old new (plan_text s.settings (names_of s) (sent_of s))
+  pub lands : Lands (grid_of s) s.settings (sent_of s)

@@ -1,0 +1,12 @@
+use Rattle.std.proofs.Common.{◌≡◌, ◌++◌, true}
+use Rattle.fleet_io.specs.Words.{is_line_empty}
+use Rattle.show_plan.specs.Steps.{alone}
+use Rattle.show_plan.proofs.PacketLines.{first_lines}
+use Rattle.show_plan.proofs.packets.put_packets.Given as goal
+
+-- the lines of the packets so far
+abbrev pub invariant-loop-k : goal.invariant-loop-k
+invariant-loop-k l = record {
+  fresh : is_line_empty l.text ≡ true;
+  so_far : l.text ≡ l.initial.text ++ first_lines (alone l.settings l.bytes l.pieces) 0 l.k;
+}

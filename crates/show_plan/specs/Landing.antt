@@ -1,0 +1,58 @@
+-- What is uploaded to the drones of a show, and what the upload leaves in their memories.
+use Rattle.std.specs.Prelude.{◌≡◌, ℕ, ◌-◌, ◌<◌, ◌≤◌, Bool, List, ◌++◌, length, map, slice_index_or}
+use Rattle.std.specs.List.{All}
+use Rattle.cue_grid.specs.declared.grid.Grid.{Grid}
+use Rattle.cue_grid.specs.Faults.{drone_limit}
+use Rattle.traj_codec.specs.declared.traj.Traj.{Traj}
+use Rattle.traj_codec.specs.Spelling.{IsTrajectory}
+use Rattle.memory_curves.specs.Decoded.{DecodesTo, load_for}
+use Rattle.upload_model.specs.declared.events.Progress.TheVariants.{Done}
+use Rattle.upload_model.specs.declared.events.WorldEvent.{WorldEvent}
+use Rattle.upload_model.specs.Drones.{DroneState}
+use Rattle.upload_model.specs.Hosts.{progress}
+use Rattle.upload_model.specs.Sessions.{Upload}
+use Rattle.upload_model.specs.Theorem.{IsDrone}
+use Rattle.upload_model.specs.Worlds.{World, world}
+use Rattle.choreo_reader.specs.declared.show.Settings.{Settings}
+use Rattle.choreo_reader.specs.Valid.{FitsSettings}
+use Rattle.show_plan.specs.Fitting.{IsSendable, size}
+use Rattle.show_plan.specs.Flight.{KeepsNearShow, no_trajectory}
+use Rattle.show_plan.specs.Separation.{FlyApart}
+
+-- The session of trajectories: to the memory, the offset and the trajectory id of the show's settings, one load for each; with starts or
+-- without.
+abbrev pub session_for : Settings → List Traj → Bool → Upload
+session_for e trajs start =
+    record { memory_id = e.memory_id; offset = e.offset; trajectory_id = e.trajectory_id; loads = map load_for trajs; start = start }
+
+-- Each drone's memory decodes to one trajectory and to no other. These keep near to what the show says at every instant, and keep any two
+-- drones apart at every instant.
+pub record IsLanded (g : Grid) (e : Settings) (w : World) : Type 0 where
+  pub flown : List Traj
+  pub counted : length flown ≡ length g.starts
+  pub decoded : (d : ℕ) → d < length flown → DecodesTo (w.drones d) e.trajectory_id (slice_index_or flown d no_trajectory)
+  pub only : (d : ℕ) (t : Traj) → d < length flown → DecodesTo (w.drones d) e.trajectory_id t → t ≡ slice_index_or flown d no_trajectory
+  pub near : KeepsNearShow g flown
+  pub apart : FlyApart e flown
+
+-- Whatever the drones hold at the start, and whatever the link loses, repeats, delays or reorders: once all packets of the session of these
+-- trajectories are acknowledged, with starts or without, the memories hold such curves, then and at each later moment.
+abbrev pub Lands : Grid → Settings → List Traj → Type 0
+Lands g e trajs =
+    (start : Bool) (drones : ℕ → DroneState) (events later : List WorldEvent) → ((d : ℕ) → d < length trajs → IsDrone (drones d)) →
+    progress (session_for e trajs start) (world (session_for e trajs start) drones events).heard ≡ Done →
+    IsLanded g e (world (session_for e trajs start) drones (events ++ later))
+
+-- Trajectories that can be uploaded: 1 to 32 of them, of some segments each, with room from the offset on.
+pub record AreUploadable (e : Settings) (trajs : List Traj) : Type 0 where
+  pub settings : FitsSettings e
+  pub some : 1 ≤ length trajs
+  pub few : length trajs ≤ drone_limit
+  pub formed : All IsTrajectory trajs
+  pub sendable : All IsSendable trajs
+  pub segments : All (λ (t : Traj). 1 ≤ length t.segments) trajs
+  pub room : All (λ (t : Traj). size t ≤ 4096 - e.offset) trajs
+
+-- Trajectories that can be uploaded, keep near to a show and keep apart land so.
+abbrev pub LandingLaw : Type 0
+LandingLaw = (g : Grid) (e : Settings) (trajs : List Traj) → AreUploadable e trajs → KeepsNearShow g trajs → FlyApart e trajs → Lands g e trajs

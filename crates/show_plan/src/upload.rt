@@ -1,0 +1,78 @@
+//! What is uploaded of a show that fits, and what it leaves in the drones' memories.
+
+ghost use Rattle.std.specs.Prelude.{◌≡◌, ◌≤◌, length, map, IfOk};
+ghost use Rattle.std.specs.List.{All};
+ghost use Rattle.traj_codec.specs.declared.traj.Traj.{Traj};
+ghost use Rattle.traj_codec.specs.Spelling.{IsEncoding, most_segments};
+ghost use Rattle.memory_curves.specs.Decoded.{load_for};
+ghost use Rattle.show_plan.specs.Fitting.{AreEncodings, IsValidFitted};
+ghost use Rattle.show_plan.specs.Landing.{AreUploadable, LandingLaw, session_for};
+
+use crate::fitted::Fitted;
+use memory_curves::curve_law;
+use std::alloc::{AllocError, Global};
+use traj_codec::{Traj, join_law};
+use upload_core::{Listed, Load, Session, Settings};
+use upload_model::upload_law;
+
+// The load of a trajectory: a copy of its bytes, and how many segments they are.
+fn load_of(alloc: Global, bytes: &[u8], t: &Traj) -> Result<Load, AllocError>
+    requires encoded { IsEncoding bytes.now t.now }
+    requires few { length t.now.segments ≤ most_segments }
+    ensures { IfOk result (λ load. load ≡ load_for t.now) }
+{
+    Ok(Load {
+        bytes: Listed::from_vec(bytes.to_vec(alloc)?),
+        pieces: t.segments.as_slice().len() as u8,
+    })
+}
+
+// The load of each trajectory.
+fn loads_of(
+    alloc: Global,
+    bytes: &[Listed<u8>],
+    trajs: &[Traj],
+) -> Result<Vec<Load>, AllocError>
+    requires encoded { AreEncodings bytes.now trajs.now }
+    requires few { All (λ (t : Traj). length t.segments ≤ most_segments) trajs.now }
+    ensures { IfOk result (λ loads. loads.items ≡ map load_for trajs.now) }
+{
+    let mut loads = Vec::new(alloc);
+    for d in 0..trajs.len() {
+        let load = load_of(alloc, bytes[d].as_slice(), &trajs[d])?;
+        loads.push(load)?;
+    }
+    Ok(loads)
+}
+
+/// What is uploaded of a show that fits, with starts or without: to the memory, the offset and under the trajectory id of its settings, one
+/// load for each drone (docs/RADIO.md, "The packets of a session"). Out of memory is the only refusal.
+pub fn session(alloc: Global, f: &Fitted, start: bool) -> Result<Session, AllocError>
+    requires { IsValidFitted f.now }
+    ensures { IfOk result (λ s. s ≡ session_for f.now.settings f.now.sent start) }
+{
+    join_law();
+    let loads = loads_of(alloc, f.bytes.as_slice(), f.sent.as_slice())?;
+    let settings = Settings {
+        memory_id: f.settings.memory_id,
+        offset: f.settings.offset,
+        trajectory_id: f.settings.trajectory_id,
+    };
+    Ok(Session::of_loads(settings, loads, start))
+}
+
+/// A law. Trajectories that can be uploaded, keep near to a show and keep apart land so in the drones' memories, whatever the link does.
+pub fn landing_law()
+    ensures { LandingLaw }
+{
+    curve_law();
+    upload_law();
+}
+
+/// A law. What is sent of a show that fits can be uploaded.
+pub fn uploadable_law(f: &Fitted)
+    requires { IsValidFitted f.now }
+    ensures { AreUploadable f.now.settings f.now.sent }
+{
+    join_law();
+}
