@@ -11,5 +11,6 @@ pub mod Digits
 pub mod Grammar
 pub mod Readers
 pub mod FirstLines
+pub mod Sayings
 pub mod TextLaws
 pub mod Choices

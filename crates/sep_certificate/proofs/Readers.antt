@@ -71,7 +71,7 @@ some_left [] e = cc
 some_left (b ∷ bytes) e = omega arith
 
 -- bytes that pass the test are the same
-same_told : (xs ys : List ℕ) → bytes_eq xs ys ≡ true → xs ≡ ys
+pub same_told : (xs ys : List ℕ) → bytes_eq xs ys ≡ true → xs ≡ ys
 same_told xs ys e = (bytes_eq-Decides xs ys).0 e
 
 -- a first line is that of some depth

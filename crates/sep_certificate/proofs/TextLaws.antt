@@ -19,6 +19,7 @@ use Rattle.sep_certificate.proofs.Readers.{header_told}
 use Rattle.sep_certificate.proofs.Spelled.{all_back}
 use Rattle.sep_certificate.proofs.Digits.{wide_back}
 use Rattle.sep_certificate.proofs.Grammar.{line_spelled, line_told_back, told_line}
+use Rattle.sep_certificate.proofs.Sayings.{said}
 
 -- ---- lines without a line feed or a carriage return
 abbrev are_plain : List ℕ → Bool
@@ -191,4 +192,4 @@ one text cert other says also =
     same_cert cert other parts.0 parts.1 parts.2
 
 pub texts : TextLaw
-texts = record { tree = λ version line is. (told_line version line is, line_told_back version line is); written = written; clean = clean; one = one }
+texts = record { tree = λ version line is. (told_line version line is, line_told_back version line is); written = written; clean = clean; said = said; one = one }
