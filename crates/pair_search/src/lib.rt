@@ -4,7 +4,8 @@
 //! part of the cue, exactly where each part of the greatest depth has such a direction; else it names the first part that has
 //! none. The halves of a separated part are separated, so nothing is lost by stopping at the first leaf on a way down.
 //!
-//! It stands on `sep_parts`, which has the directions, the parts and the trees; `sep_certificate` beside it accepts what is found.
+//! It stands on `sep_parts`, which has the directions, the parts and the trees; `sep_certificate` beside it accepts
+//! what is found.
 #![tactic(auto)]
 
 mod first;

@@ -54,16 +54,19 @@ node_fault rules dirs diff slot place Split =
 node_fault rules dirs diff slot place (Leaf dir) =
     option_map (Fails slot.a slot.b slot.cue place dir) (low_value rules.r rules.h diff place (direction_of dirs dir))
 
--- The first fault of a tree at a place: of a leaf its own; of a split its own, else that of the first half, else that of the second.
+-- The first fault of a tree at a place: of a leaf its own; of a split its own, else that of the first half, else that
+-- of the second.
 abbrev pub tree_fault : Rules → List (List ℤ) → List (Bez 8) → Slot → Place → Tree → Option CertFault
 tree_fault rules dirs diff slot place (leaf dir) = node_fault rules dirs diff slot place (Leaf dir)
 tree_fault rules dirs diff slot place (split left right) =
     option_or (node_fault rules dirs diff slot place Split)
-    (option_or (tree_fault rules dirs diff slot (left_half place) left) (tree_fault rules dirs diff slot (right_half place) right))
+    (option_or (tree_fault rules dirs diff slot (left_half place) left)
+    (tree_fault rules dirs diff slot (right_half place) right))
 
 -- The first fault of the tree that a list of nodes spells.
 unfoldable pub spelled_fault : Rules → List (List ℤ) → List (Bez 8) → Slot → List Node → Option CertFault
-spelled_fault rules dirs diff slot nodes = option_flatten (option_map (tree_fault rules dirs diff slot root) (spelled_tree nodes))
+spelled_fault rules dirs diff slot nodes =
+    option_flatten (option_map (tree_fault rules dirs diff slot root) (spelled_tree nodes))
 
 -- The first fault of trees against slots: that of the trees in order, then the first slot without a tree,
 -- or the first tree too many, whose number is n and more.
@@ -87,8 +90,8 @@ IsValid dirs curves r h cert = AreValid (rules_of r h cert) dirs curves (slots c
 abbrev pub fault_of : List (List ℤ) → Raised → ℕ → ℕ → Certificate → Option CertFault
 fault_of dirs curves r h cert = first_fault_of (rules_of r h cert) dirs curves (slots curves.drones curves.cues) 0 cert.trees
 
--- What a fault names is there: a pair of drones and a cue of the curves, a tree of the certificate, a direction of its version,
--- one of eight control values.
+-- What a fault names is there: a pair of drones and a cue of the curves, a tree of the certificate, a direction of
+-- its version, one of eight control values.
 abbrev pub IsFaultOf : Raised → Certificate → CertFault → Type 0
 IsFaultOf curves cert (Missing a b cue) = IsSlot curves.drones curves.cues (slot_at a b cue)
 IsFaultOf curves cert (Extra tree) = tree < length cert.trees

@@ -17,7 +17,8 @@ use Rattle.sep_certificate.specs.Certificates.{IsWholeIn, node_fault}
 use Rattle.sep_parts.specs.Trees.{IsKnown, IsTree, places_below}
 use Rattle.sep_certificate.specs.Texts.{bad_from, depth_line, is_letter, is_tree_line, is_wide_leaf, tree_line, two_digits}
 
--- The first fault of a list of nodes in preorder, whose trees stand at these places: what the checker finds with its stack.
+-- The first fault of a list of nodes in preorder, whose trees stand at these places: what the checker finds with its
+-- stack.
 unfoldable pub first_fault : Rules → List (List ℤ) → List (Bez 8) → Slot → List Place → List Node → Option CertFault
 first_fault rules dirs diff slot places [] = None
 first_fault rules dirs diff slot [] (node ∷ nodes) = None

@@ -47,7 +47,8 @@ pub record Says (text : List ℕ) (cert : Certificate) : Type 0 where
 abbrev pub is_letter : ℕ → Bool
 is_letter b = nat_le 97 b && nat_le b 122
 
--- the nodes that the bytes of a line of version 1 spell: `.` is a split, and a letter a leaf with the direction of its number
+-- the nodes that the bytes of a line of version 1 spell: `.` is a split, and a letter a leaf with the direction of
+-- its number
 abbrev pub letter_nodes : List ℕ → Option (List Node)
 letter_nodes [] = Some []
 letter_nodes (b ∷ bytes) =
@@ -83,7 +84,8 @@ is_tree_line version line = is_some (option_flatten (option_map spelled_tree (li
 
 -- The line is that of a tree whose leaves name directions of the version.
 abbrev pub IsTreeLine : ℕ → List ℕ → Type 0
-IsTreeLine version line = (tree : Tree) × (line ≡ tree_line version (preorder tree)) × All (IsKnown (known_in version)) (preorder tree)
+IsTreeLine version line =
+    (tree : Tree) × (line ≡ tree_line version (preorder tree)) × All (IsKnown (known_in version)) (preorder tree)
 
 -- the line says some depth from 0 to 8
 abbrev pub is_depth_line : List ℕ → Bool

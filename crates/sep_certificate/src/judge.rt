@@ -23,10 +23,11 @@ use sep_parts::{
 
 /// Whether a certificate is valid for the curves of a fleet, with ellipsoids of half axes `r`, `r` and `h` in millimetres.
 ///
-/// Ok exactly where there is one tree for each pair and cue, no tree has a split at the certificate's depth, and each leaf's
-/// direction, one of the table of its version, separates its part. Else the first fault: trees of a pair and cue in order, in each a
-/// part before its halves and the first half before the second; then the first pair and cue without a tree, or the first tree too
-/// many, whose nodes aren't judged. It names drones and a cue of the curves, and a direction of the version. Takes no memory.
+/// Ok exactly where there is one tree for each pair and cue, no tree has a split at the certificate's depth, and each
+/// leaf's direction, one of the table of its version, separates its part. Else the first fault: trees of a pair and
+/// cue in order, in each a part before its halves and the first half before the second; then the first pair and cue
+/// without a tree, or the first tree too many, whose nodes aren't judged. It names drones and a cue of the curves,
+/// and a direction of the version. Takes no memory.
 ///
 /// Where it is Ok, whoever made the certificate, each two different drones are apart at each instant p / q of the show, for
 /// all whole numbers p and q and for every list of trajectories that the curves stand for.
@@ -51,9 +52,10 @@ pub fn check(curves: &Curves, r: u16, h: u16, cert: &Certificate) -> Result<(), 
     }
 }
 
-/// The law of certificates, by any table of directions. Valid ones keep each two different drones apart at each instant p / q of the show,
-/// for all whole numbers p and q and for every list of trajectories that the curves stand for. And a whole certificate, whose leaves
-/// name directions of the table, is valid exactly where it has no first fault.
+/// The law of certificates, by any table of directions. Valid ones keep each two different drones apart at each
+/// instant p / q of the show, for all whole numbers p and q and for every list of trajectories that the curves stand
+/// for. And a whole certificate, whose leaves name directions of the table, is valid exactly where it has no first
+/// fault.
 pub fn certificate_law()
     ensures { CertificateLaw }
 {}

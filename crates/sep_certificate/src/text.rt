@@ -36,9 +36,9 @@ pub enum CertTextFault {
     Memory,
 }
 
-/// A law of certificate texts: a line passes exactly where it is that of a tree; the text that is written says its certificate; a text
-/// that says a certificate has no faulty line, and says that one alone; and a text without a faulty line says a certificate, where it
-/// has fewer than 2^30 bytes.
+/// A law of certificate texts: a line passes exactly where it is that of a tree; the text that is written says its
+/// certificate; a text that says a certificate has no faulty line, and says that one alone; and a text without a
+/// faulty line says a certificate, where it has fewer than 2^30 bytes.
 pub fn text_law()
     ensures { TextLaw }
 {}

@@ -102,7 +102,8 @@ impl Curves {
 fn differences(second: &[[i32; 8]; 3], first: &[[i32; 8]; 3]) -> [Bez<8>; 3]
     requires second { AreSmallCurves (curves_of second.now) }
     requires first { AreSmallCurves (curves_of first.now) }
-    ensures exact { result ≡ less (curves_of second.now) (curves_of first.now) 0 ∷ less (curves_of second.now) (curves_of first.now) 1 ∷ less (curves_of second.now) (curves_of first.now) 2 ∷ [] }
+    ensures exact { result ≡ less (curves_of second.now) (curves_of first.now) 0
+        ∷ less (curves_of second.now) (curves_of first.now) 1 ∷ less (curves_of second.now) (curves_of first.now) 2 ∷ [] }
     ensures small { All (λ curve. All (IsBelow (2 ^ 30)) curve.b) result }
 {
     [
@@ -195,7 +196,8 @@ fn add_traj(all: &mut Vec<[[i32; 8]; 3]>, t: &Traj) -> Result<(), AllocError>
 
 // The raised curves of one segment.
 fn raised_segment(x: i16, y: i16, z: i16, s: &Segment) -> [[i32; 8]; 3]
-    ensures exact { curves_of result ≡ raised_element x (element_on s.now 0) ∷ raised_element y (element_on s.now 1) ∷ raised_element z (element_on s.now 2) ∷ [] }
+    ensures exact { curves_of result ≡ raised_element x (element_on s.now 0) ∷ raised_element y (element_on s.now 1)
+        ∷ raised_element z (element_on s.now 2) ∷ [] }
     ensures formed { IsFormed s.now }
     ensures small { AreSmallCurves (curves_of result) }
 {

@@ -11,8 +11,8 @@ pub enum Node {
     Leaf { dir: u8 },
 }
 
-/// A law: what the definitions read as the tree of a list of nodes is the tree whose preorder the list is, and there is none where
-/// the list is the preorder of no tree.
+/// A law: what the definitions read as the tree of a list of nodes is the tree whose preorder the list is, and there
+/// is none where the list is the preorder of no tree.
 pub fn tree_law()
     ensures { TreeLaw }
 {}

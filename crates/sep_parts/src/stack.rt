@@ -93,8 +93,8 @@ impl Stack {
         Some(level)
     }
 
-    /// The halves of a level on top, the first half first, where its node is a split. `diff` are the differences whose parts stand
-    /// in the stack.
+    /// The halves of a level on top, the first half first, where its node is a split. `diff` are the differences
+    /// whose parts stand in the stack.
     pub fn push_below(&mut self, diff: &[Bez<8>; 3], level: &Level, node: Node)
         requires values { All (λ curve. All (IsBelow (2 ^ 30)) curve.b) diff.now }
         requires level { IsLevel diff.now level.now }
