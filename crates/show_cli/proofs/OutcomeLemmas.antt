@@ -2,6 +2,7 @@
 use Rattle.std.proofs.Common.{◌≡◌, inl, inr, ℕ, ◌<◌, ◌≤◌, Bool, true, false, cond, nat_lt, List, [], length, Option, Some, None, Result, Ok, Err, IfOk, refl, sym, ap, subst, ◌∙◌, arith}
 use Rattle.std.specs.Option.{option_map, option_or}
 use Rattle.std.proofs.lemmas.Bool.Decides.{nat_tests}
+use Rattle.std.specs.Str.Lines.{lines}
 use Rattle.std.specs.declared.alloc.AllocError.{AllocError}
 use Rattle.fleet_io.specs.declared.parts.Part.{Part}
 use Rattle.choreo_lines.specs.Name.{Name}
@@ -24,6 +25,7 @@ use Rattle.sep_certificate.specs.declared.certificate.CertFault.{CertFault}
 use Rattle.sep_certificate.specs.declared.certificate.Certificate.{Certificate}
 use Rattle.sep_certificate.specs.Certificates.{fault_of}
 use Rattle.sep_certificate.specs.Readings.{TextLaw}
+use Rattle.sep_certificate.specs.Texts.{bad_line}
 use Rattle.show_cli.specs.declared.answer.Answer.{Answer}
 use Rattle.show_cli.specs.declared.command.Command.{Command}
 use Rattle.show_cli.specs.declared.command.Command.TheVariants.{Check, Compile, Certify, Verify}
@@ -31,7 +33,7 @@ use Rattle.show_cli.specs.declared.input.Text.{Text}
 use Rattle.show_cli.specs.declared.input.Text.TheVariants.{Whole}
 use Rattle.show_cli.specs.Input.{EndsUnmarked, IsUnmarked}
 use Rattle.show_cli.specs.Answers.{IsSafeShow}
-use Rattle.show_cli.specs.Outcome.{Cut, IsSafe, Outcome, OutcomeLaw, SecondGives, ShowGives, blocked_by, depth_of_search, faulty, judged, judged_for, marker_refusal, names_of, no_plan, outcome, second_refusal, show_limit, show_refusal, text_refusal, trajectories_of}
+use Rattle.show_cli.specs.Outcome.{Cut, IsOutcomeOf, IsSafe, Outcome, OutcomeLaw, SecondGives, ShowGives, blocked_by, certificate_limit, depth_of_search, faulty, judged, judged_for, marker_refusal, names_of, no_plan, outcome, second_refusal, show_limit, show_refusal, text_refusal, trajectories_of}
 
 -- where an answer is two things, it is a third
 pub both : (r : Result Answer AllocError) (P Q R : Answer → Type 0) → ((a : Answer) → P a → Q a → R a) → IfOk r P → IfOk r Q → IfOk r R
@@ -104,7 +106,7 @@ stands_unrefused law text s o short stands refused = differ (sym (refusal_is tex
     differ e = cc
 
 -- an input comes to one outcome
-pub one_alone : ShowLaw → TextLaw → OutcomeLaw
+one_alone : ShowLaw → TextLaw → (c : Command) (cut : Cut) (o p : Outcome) → IsOutcomeOf c cut o → IsOutcomeOf c cut p → o ≡ p
 one_alone show text c cut o p (inl first) (inl second) = same (sym first ∙ second)
   where
     same : Some o ≡ Some p → o ≡ p
@@ -114,6 +116,60 @@ one_alone show text c cut o p (inr comes) (inl refused) = absurd (stands_unrefus
 one_alone show text c cut o p (inr first) (inr second) =
     one_outcome text c (show_refusal c cut first.s) first.s cut o p first.gives
     (subst (λ (s : PlainShow). ShowGives c (show_refusal c cut s) s cut p) (show.one cut.show second.s first.s second.stands first.stands) second.gives)
+
+-- a test that refuses nothing, with what it stands for
+within_limit : (limit n : ℕ) (o : Outcome) (more : Option Outcome) → cond (nat_lt limit n) (Some o) more ≡ None → (n ≤ limit) × (more ≡ None)
+within_limit limit n o more none = by_test (nat_lt limit n) refl none
+  where
+    short : (m n : ℕ) → nat_lt m n ≡ false → n ≤ m
+    short m n test = grind (arith, nat_tests)
+
+    by_test : (b : Bool) → nat_lt limit n ≡ b → cond b (Some o) more ≡ None → (n ≤ limit) × (more ≡ None)
+    by_test true test none = absurd (cc)
+    by_test false test none = (short limit n test, none)
+
+-- what comes to nothing comes of nothing
+none_mapped : {A : Type 0} (f : A → Outcome) (o : Option A) → option_map f o ≡ None → o ≡ None
+none_mapped f None none = refl
+none_mapped f (Some a) none = absurd (cc)
+
+-- where neither is there, the first isn't
+none_first : (a b : Option Outcome) → option_or a b ≡ None → a ≡ None
+none_first None b none = refl
+none_first (Some o) b none = absurd (cc)
+
+-- a second text that isn't refused says a certificate, so it comes to an outcome
+some_second : TextLaw → (refused : Option Outcome) (s : PlainShow) (cut : Cut) → second_refusal cut ≡ refused → (o : Outcome) × SecondGives refused s cut o
+some_second law (Some r) s cut is = (r, refl)
+some_second law None s cut is =
+    let parts = within_limit certificate_limit (length cut.second) _ _ is in
+    let clean : bad_line (lines cut.second) ≡ None = none_mapped _ (bad_line (lines cut.second)) (none_first _ _ parts.1) in
+    let said = law.said cut.second (omega (arith, parts.0)) clean in
+    (judged_for s said.0, (said.0, (said.1, refl)))
+
+-- a show comes to an outcome
+some_outcome : TextLaw → (c : Command) (refused : Option Outcome) (s : PlainShow) (cut : Cut) → (o : Outcome) × ShowGives c refused s cut o
+some_outcome law c (Some r) s cut = (r, refl)
+some_outcome law (Check depth) None s cut = (_, refl)
+some_outcome law (Compile depth) None s cut = (_, refl)
+some_outcome law (Certify depth) None s cut = (_, refl)
+some_outcome law Verify None s cut = some_second law (second_refusal cut) s cut refl
+
+-- an input comes to an outcome
+some_there : ShowLaw → TextLaw → (c : Command) (cut : Cut) → (o : Outcome) × IsOutcomeOf c cut o
+some_there show text c cut = by_refusal (text_refusal cut.show) refl
+  where
+    by_refusal : (r : Option Outcome) → text_refusal cut.show ≡ r → (o : Outcome) × IsOutcomeOf c cut o
+    by_refusal (Some r) is = (r, inl is)
+    by_refusal None is =
+        let parts = within_limit show_limit (length cut.show) _ _ is in
+        let found = (show.faultless cut.show).1 (none_mapped faulty (fault cut.show) parts.1) in
+        let given = some_outcome text c (show_refusal c cut found.0) found.0 cut in
+        (given.0, inr (record { s = found.0; short = parts.0; stands = found.1; gives = given.1 }))
+
+-- both
+pub outcomes : ShowLaw → TextLaw → OutcomeLaw
+outcomes show text = record { one = one_alone show text; some = some_there show text }
 
 -- ---- success
 

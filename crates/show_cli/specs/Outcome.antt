@@ -192,9 +192,10 @@ IsOutcomeOf c cut o = (text_refusal cut.show ≡ Some o) ⊎ ShowComesTo c cut o
 abbrev pub IsOutcome : Command → List ℕ → Outcome → Type 0
 IsOutcome c input o = IsOutcomeOf c (cut_of input) o
 
--- An input comes to one outcome alone.
-abbrev pub OutcomeLaw : Type 0
-OutcomeLaw = (c : Command) (cut : Cut) (o p : Outcome) → IsOutcomeOf c cut o → IsOutcomeOf c cut p → o ≡ p
+-- An input comes to an outcome, and to one alone.
+pub record OutcomeLaw : Type 0 where
+  pub one : (c : Command) (cut : Cut) (o p : Outcome) → IsOutcomeOf c cut o → IsOutcomeOf c cut p → o ≡ p
+  pub some : (c : Command) (cut : Cut) → (o : Outcome) × IsOutcomeOf c cut o
 
 -- ---- what status 0 promises
 

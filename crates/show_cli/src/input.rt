@@ -48,12 +48,14 @@ fn next_text<S: Source>(
     limit: usize,
 ) -> Result<Text, Failure>
     requires sound { IsTrue parts.old.sound }
+    requires lines { IsTrue parts.old.lines }
     requires limit { limit ≤ text_limit }
     requires at_end { IsTrue parts.old.ended → IsAtEnd (S.left source.old) }
     ensures text { IfOk result (λ text. IsNextText limit text (stream parts.old (S.left source.old))) }
     ensures within { IfOk result (λ text. IsWithin limit text) }
     ensures rest { IfOk result (λ text. GoesOn text (stream parts.old (S.left source.old)) (stream parts.new (S.left source.new))) }
     ensures sound { IfOk result (λ text. IsWholeText text → IsTrue parts.new.sound) }
+    ensures lines { parts.new.lines ≡ parts.old.lines }
     ensures at_end { IsTrue parts.new.ended → IsAtEnd (S.left source.new) }
     ensures whole { IfOk result (λ text. IsUnmarked text → IsAtEnd (S.left source.new)) }
     ensures failed { result ≡ Err Failure.Read → Rose (S.faults source.old) (S.faults source.new) }
@@ -88,6 +90,7 @@ fn read_second<S: Source>(
     show: &Text,
 ) -> Result<Text, Failure>
     requires sound { IsWholeText show.now → IsTrue parts.old.sound }
+    requires lines { IsTrue parts.old.lines }
     requires at_end { IsTrue parts.old.ended → IsAtEnd (S.left source.old) }
     ensures text { IsWholeText show.now → IfOk result (λ text. IsNextText certificate_limit text (stream parts.old (S.left source.old))) }
     ensures within { IfOk result (λ text. IsWithin certificate_limit text) }

@@ -121,7 +121,7 @@ fn answer_text(
     }
 }
 
-/// The law of outcomes: what a command comes to for an input is one outcome alone.
+/// The law of outcomes: a command comes to an outcome on each input, and to one alone.
 pub fn outcome_law()
     ensures { OutcomeLaw }
 {

@@ -5,7 +5,7 @@ use Rattle.show_cli.proofs.top.answer_input.Goals as goal
 
 pub returns-in-Ok-clause-exact : goal.returns-in-Ok-clause-exact
 returns-in-Ok-clause-exact g c = λ cut o read is quiet.
-    let same : outcome_of c.in-Ok.answer ≡ o = c.outcome_law.ensures c.args.command cut (outcome_of c.in-Ok.answer) o (c.in-Ok.ensures.gives cut read) is in
+    let same : outcome_of c.in-Ok.answer ≡ o = c.outcome_law.ensures.one c.args.command cut (outcome_of c.in-Ok.answer) o (c.in-Ok.ensures.gives cut read) is in
     let done = c.finish.ensures.done (λ seven. quiet (c.finish.ensures.failed seven).0) in
     inl (
       done.0 ∙ c.number.ensures ∙ ap (λ (p : Outcome). p.status) same,
