@@ -1,0 +1,151 @@
+"""What the tools have in common: reading files, asking `check`, places and times as people read them."""
+import argparse
+import os
+import signal
+import subprocess
+import sys
+
+sys.dont_write_bytecode = True  # so that importing leaves no file beside the tools
+import choreo
+from choreo import Refused
+
+signal.signal(signal.SIGPIPE, signal.SIG_DFL)  # so that `| head` ends a tool without a trace
+TOOL = os.path.basename(sys.argv[0])
+NO_ANSWER = 70
+
+
+def stop(text, status=NO_ANSWER):
+    """Ends the tool with a line on standard error."""
+    print("%s: %s" % (TOOL, text), file=sys.stderr)
+    sys.exit(status)
+
+
+def parser(text):
+    """A parser of a tool's words."""
+    return argparse.ArgumentParser(prog="tools/" + TOOL, description=text, formatter_class=argparse.RawDescriptionHelpFormatter)
+
+
+def depth(word):
+    """A depth from 0 to 8."""
+    if not word.isdigit() or len(word) > 9 or int(word) > 8:
+        raise argparse.ArgumentTypeError("the depth is 0 to 8, not %s" % word)
+    return int(word)
+
+
+def read_file(path):
+    """The bytes of a file; `-` is standard input."""
+    try:
+        if path == "-":
+            return sys.stdin.buffer.read()
+        with open(path, "rb") as file:
+            return file.read()
+    except OSError as error:
+        return stop("%s: %s" % (path, error.strerror or error))
+
+
+def flown_of(path):
+    """What the drones of a show's file fly; a faulty show ends the tool with the program's status and line."""
+    text = read_file(path)
+    try:
+        if choreo.parts_of(text)[2]:
+            stop("%s: a tool reads a show alone, without a marker line" % path)
+        return text, choreo.flown_of(text)
+    except Refused as refusal:
+        return stop("%s: %s; ./show check %s says more" % (path, refusal, path), refusal.status)
+
+
+def ask_check(text, deep=choreo.DEPTH):
+    """The status and the line of the proved program's `check` on a show, or None where the program isn't built."""
+    if not os.access(choreo.PROGRAM, os.X_OK):
+        return None
+    done = subprocess.run([choreo.PROGRAM, "check", "--depth", str(deep)], input=text, stdout=subprocess.PIPE)
+    return done.returncode, done.stdout.decode(errors="replace").strip()
+
+
+def missing():
+    """What to do where the program isn't built."""
+    return "`check` was not asked: the program isn't built; ./show check FILE builds it"
+
+
+def value(row, u):
+    """The place on an axis at a fraction of a cue, by its control values."""
+    while len(row) > 1:
+        row = [a + (b - a) * u for a, b in zip(row, row[1:])]
+    return row[0]
+
+
+def place(flown, drone, cue, u):
+    """Where a drone is at a fraction of a cue, in millimetres."""
+    return [value(row, u) for row in flown.by_cue[drone][cue][1][:3]]
+
+
+def begins(flown):
+    """The milliseconds at which each cue begins, and the end of the show."""
+    out = [0]
+    for cue in flown.cues:
+        out.append(out[-1] + cue.milliseconds)
+    return out
+
+
+def seconds(milliseconds):
+    """A time as it is printed."""
+    return "%.3f s" % (milliseconds / 1000)
+
+
+def cue_words(cue):
+    """Where a cue stands in the text: its line, and the repeats and performs that it is played in."""
+    out = "line %d" % cue.number
+    for kind, line, *rest in reversed(cue.within):
+        if kind == "repeat":
+            out += ", turn %d of %d of the repeat in line %d" % (*rest, line)
+        else:
+            out += ", in the figure %s performed in line %d" % (rest[0], line)
+    return out
+
+
+def many(number, word):
+    """A number and its word, with an s where it isn't one."""
+    return "%d %s%s" % (number, word, "" if number == 1 else "s")
+
+
+def plan_of(path):
+    """The drones of a plan's text: name, bytes and number of pieces each; anything else ends the tool."""
+    lines = read_file(path).decode(errors="replace").split("\n")
+    drones, name = [], None
+    if lines[:1] != ["plan 1"]:
+        stop("%s, line 1: a plan begins with `plan 1`; ./show compile FILE writes one" % path)
+    for number, line in enumerate(lines[1:], 2):
+        words = line.split(" ")
+        try:
+            if words[0] == "drone" and words[2] == "bytes" and words[4] == "pieces":
+                name, size, pieces = words[1], int(words[3]), int(words[5])
+            elif words[0] == "data" and name:
+                data = bytes(int(word, 16) for word in words[1:])
+                if len(data) != size:
+                    raise ValueError
+                drones.append((name, data, pieces))
+                name = None
+            elif words == ["end"]:
+                return drones
+            elif words[0] not in ("write", "define", "start"):
+                raise ValueError
+        except (ValueError, IndexError):
+            stop("%s, line %d: this is no line of a plan: %s" % (path, number, line[:60]))
+    return stop("%s: the plan has no last line `end`" % path)
+
+
+def decoded(data, pieces):
+    """A trajectory's start and its segments as (milliseconds, elements), from its bytes; None where they are too few."""
+    def number(at, signed=True):
+        return int.from_bytes(data[at:at + 2], "little", signed=signed)
+    last, at, segments = [number(k) for k in (0, 2, 4, 6)], 8, []
+    start = list(last)
+    for _ in range(pieces):
+        header, milliseconds, elements, at = data[at], number(at + 1, False), [], at + 3
+        for axis in range(4):
+            many_numbers = [0, 1, 3, 7][header >> (2 * axis) & 3]
+            elements.append([last[axis]] + [number(at + 2 * k) for k in range(many_numbers)])
+            at += 2 * many_numbers
+            last[axis] = elements[-1][-1]
+        segments.append((milliseconds, elements))
+    return start, segments
