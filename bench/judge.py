@@ -1,7 +1,7 @@
 """Judges texts of shows from the documents alone: their first fault, or what the commands answer.
 
-For bench/language. `tools/choreo.py` and `tools/separation.py` read texts, write cues out and search for directions; this module
-puts their refusals into the order of docs/COMMANDS.md.
+For bench/language. `tools/choreo.py` and `tools/separation.py` read texts, write cues out and search for directions;
+this module puts their refusals into the order of docs/COMMANDS.md.
 """
 import os
 import sys

@@ -10,9 +10,10 @@ sys.dont_write_bytecode = True
 sys.path.insert(0, os.path.join(os.path.dirname(os.path.dirname(os.path.abspath(__file__))), "tools"))
 from figures import Show, grid, ring, straight, turn
 
-show = Show("""Eight drones in two rows gather on a ring, the ring turns by 100 degrees, and they come back.
+COMMENT = """Eight drones in two rows gather on a ring, the ring turns by 100 degrees, and they come back.
 Shows a turn by any angle, eased at both ends: each cue has a `curve` a drone, and what is cut is cut for all at once.
-Written by examples/ring.py, which uses tools/figures.py. Run: ./show check examples/ring.choreo""", ellipsoid=(120, 300))
+Written by examples/ring.py, which uses tools/figures.py. Run: ./show check examples/ring.choreo"""
+show = Show(COMMENT, ellipsoid=(120, 300))
 rows, places = grid(4, 2, 0.8), ring(8, 1.2, first=22.5)
 # Drone k of the rows gets the place of the ring that lies in its direction, so that ways don't cross.
 order = [4, 5, 6, 7, 3, 2, 1, 0]

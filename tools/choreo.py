@@ -1,8 +1,9 @@
 """The reader of the language that tools and benches share: from a show's text to its plan and its certificate.
 
-It is written from the documents alone and shares nothing with the program: lines, names and cues by docs/LANGUAGE.md, the order of
-refusals and fault lines by docs/COMMANDS.md, curves, rounding and bytes by docs/TRAJECTORY.md, separation and certificates by
-docs/SEPARATION.md. All numbers are whole. It proves nothing; where it and the program differ, one of them is wrong.
+It is written from the documents alone and shares nothing with the program: lines, names and cues by docs/LANGUAGE.md,
+the order of refusals and fault lines by docs/COMMANDS.md, curves, rounding and bytes by docs/TRAJECTORY.md,
+separation and certificates by docs/SEPARATION.md. All numbers are whole. It proves nothing; where it and the program
+differ, one of them is wrong.
 """
 import os
 import re
@@ -24,9 +25,10 @@ POINT = [COORDINATE] * 3
 AXES = ["x", "y", "z", "yaw"]
 # The slots of a line after its first word: a name, one or more names, the limits of a number, or a set of fixed words.
 LINES = {
-    "memory": [(0, 255), (0, 4095)], "trajectory": [(0, 9)], "ellipsoid": [(1, 2000), (1, 2000)], "drone": ["name", *POINT, YAW],
-    "formation": ["name"], "at": ["name", *POINT, YAW], "figure": ["name", "names"], "cue": [(1, LONGEST_SEGMENT)],
-    "repeat": [(1, 1000000000)], "perform": ["name", {"none", "x", "y"}, (0, 3), *POINT, "names"],
+    "memory": [(0, 255), (0, 4095)], "trajectory": [(0, 9)], "ellipsoid": [(1, 2000), (1, 2000)],
+    "drone": ["name", *POINT, YAW], "formation": ["name"], "at": ["name", *POINT, YAW], "figure": ["name", "names"],
+    "cue": [(1, LONGEST_SEGMENT)], "repeat": [(1, 1000000000)],
+    "perform": ["name", {"none", "x", "y"}, (0, 3), *POINT, "names"],
     "form": ["name", {"line", "move"}], "end": [],
 }
 ACTS = {"hold": [], "line": [*POINT, YAW], "move": [*POINT, YAW], "turn": [YAW],
@@ -36,18 +38,20 @@ PLAYED = ["cue", "repeat", "perform"]
 PLACES = {"top": [*SETTINGS, "drone", "formation", "figure", *PLAYED], "formation": ["at", "end"],
           "figure": ["cue", "repeat", "end"], "repeat": [*PLAYED, "end"], "cue": ["form", "end"]}
 OPENING = [kind for kind in PLACES if kind != "top"]
-LINE_FAULTS = ["bad-byte", "header", "bad-word", "bad-name", "bad-count", "bad-number", "range", "double-setting", "nesting",
-               "empty-block", "no-end"]
-# The faults of names on one line, in the order of their table: the word, and what tells its row from others with this word.
-NAME_FAULTS = ["double-name drone", "double-name formation, figure", "double-name role", "unknown-name at", "double-act at",
-               "unknown-name act", "unknown-name act in a figure", "double-act act", "unknown-name form", "double-act form",
-               "double-act act after form", "unknown-name figure", "role-count", "unknown-name performer", "double-act perform"]
+LINE_FAULTS = ["bad-byte", "header", "bad-word", "bad-name", "bad-count", "bad-number", "range", "double-setting",
+               "nesting", "empty-block", "no-end"]
+# The faults of names on one line, in the order of their table: the word, and what tells its row from others with it.
+NAME_FAULTS = ["double-name drone", "double-name formation, figure", "double-name role", "unknown-name at",
+               "double-act at", "unknown-name act", "unknown-name act in a figure", "double-act act",
+               "unknown-name form", "double-act form", "double-act act after form", "unknown-name figure", "role-count",
+               "unknown-name performer", "double-act perform"]
 
 
 # ---- lines
 
 class Refused(Exception):
-    """A refusal: its status, the words of its fault line, the outcome that it counts as, and its line number if it has one."""
+    """A refusal: its status, the words of its fault line, the outcome that it counts as, and its line number if it has
+    one."""
 
     def __init__(self, status, words, outcome, number=None):
         super().__init__("error %d %s" % (status, words))
@@ -297,8 +301,8 @@ def goal(frame, act, numbers):
 
 
 class Cue:
-    """A cue written out: milliseconds, by drone the line, the act and its goal, its line, and what it stands in, from outside in:
-    ("repeat", line, turn, of) and ("perform", line, figure)."""
+    """A cue written out: milliseconds, by drone the line, the act and its goal, its line, and what it stands in, from
+    outside in: ("repeat", line, turn, of) and ("perform", line, figure)."""
 
     def __init__(self, milliseconds, acts, number, within):
         self.milliseconds, self.acts, self.number, self.within = milliseconds, acts, number, within
@@ -319,8 +323,9 @@ def written_out(show, lines, frame=("none", 0, 0, 0, 0), players=None, within=()
             acts = {}
             for inner in line.body:
                 if inner.kind == "form":
-                    for place in show.formations[inner.values[0]].body:
-                        acts[place.values[0]] = inner.number, inner.values[1], goal(frame, inner.values[1], place.values[1:])
+                    formation, act = inner.values
+                    for place in show.formations[formation].body:
+                        acts[place.values[0]] = inner.number, act, goal(frame, act, place.values[1:])
                 else:
                     name, act, *numbers = inner.values
                     acts[players[name] if players else name] = inner.number, act, goal(frame, act, numbers)
@@ -397,7 +402,8 @@ def two_bytes(v):
 def segment_bytes(milliseconds, elements):
     """The bytes of a segment."""
     header = sum(KINDS[len(e)] << (2 * k) for k, e in enumerate(elements))
-    return bytes([header]) + milliseconds.to_bytes(2, "little") + b"".join(two_bytes(v) for e in elements for v in e[1:])
+    numbers = b"".join(two_bytes(v) for e in elements for v in e[1:])
+    return bytes([header]) + milliseconds.to_bytes(2, "little") + numbers
 
 
 def bytes_of(start, segments):
@@ -407,8 +413,8 @@ def bytes_of(start, segments):
 
 
 class Flown:
-    """What a show's drones fly: its cues, and for each drone its start in micrometres and tenths of a degree, one segment a cue as
-    (milliseconds, elements) in `by_cue`, and what it is sent, holds joined, in `sent`."""
+    """What a show's drones fly: its cues, and for each drone its start in micrometres and tenths of a degree, one
+    segment a cue as (milliseconds, elements) in `by_cue`, and what it is sent, holds joined, in `sent`."""
 
     def __init__(self, show):
         self.show, self.names = show, show.names
@@ -445,7 +451,8 @@ class Flown:
 
 
 def parts_of(whole):
-    """The show's text, the second text or None where there is no marker line, and the lines of the first two marker lines."""
+    """The show's text, the second text or None where there is no marker line, and the lines of the first two marker
+    lines."""
     lines, markers = whole.split(b"\n"), []
     for number, line in enumerate(lines, 1):
         if line in (b"%%", b"%%\r"):

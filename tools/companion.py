@@ -22,7 +22,13 @@ def stop(text, status=NO_ANSWER):
 
 def parser(text):
     """A parser of a tool's words."""
-    return argparse.ArgumentParser(prog="tools/" + TOOL, description=text, formatter_class=argparse.RawDescriptionHelpFormatter)
+    return argparse.ArgumentParser(prog="tools/" + TOOL, description=text,
+                                   formatter_class=argparse.RawDescriptionHelpFormatter)
+
+
+def add_depth(words, text="as for check: 0 to 8, without it 6"):
+    """Adds the option --depth."""
+    words.add_argument("--depth", type=depth, default=choreo.DEPTH, metavar="D", help=text)
 
 
 def depth(word):
@@ -135,7 +141,7 @@ def plan_of(path):
 
 
 def decoded(data, pieces):
-    """A trajectory's start and its segments as (milliseconds, elements), from its bytes; None where they are too few."""
+    """A trajectory's start and its segments as (milliseconds, elements), from its bytes."""
     def number(at, signed=True):
         return int.from_bytes(data[at:at + 2], "little", signed=signed)
     last, at, segments = [number(k) for k in (0, 2, 4, 6)], 8, []

@@ -9,10 +9,10 @@
     show.fly(6, {name: turn(show.at(name), (0, 0), 100) for name in show.names}, cuts=6)
     print(show.text(), end="")
 
-Lengths are in metres, times in seconds, angles in degrees. A place is (x, y, z). A path is a function from the part u of its time, 0
-to 1, to a place; those of this module begin and end at rest. `Show.fly` cuts a path into so many cues, writes each piece as the cubic
-with the path's place and velocity at both ends, and returns by how much the cubics leave the paths, in metres. Nothing is proved of
-what it writes: ./show check judges it as any other show.
+Lengths are in metres, times in seconds, angles in degrees. A place is (x, y, z). A path is a function from the part u
+of its time, 0 to 1, to a place; those of this module begin and end at rest. `Show.fly` cuts a path into so many cues,
+writes each piece as the cubic with the path's place and velocity at both ends, and returns by how much the cubics
+leave the paths, in metres. Nothing is proved of what it writes: ./show check judges it as any other show.
 """
 from math import cos, dist, pi, radians, sin
 
@@ -29,7 +29,8 @@ def ring(count, radius, centre=(0, 0, 1), first=0):
 
 def grid(columns, rows, spacing, centre=(0, 0, 1)):
     """Places in rows along x, from the least y on."""
-    return [(centre[0] + spacing * (column - (columns - 1) / 2), centre[1] + spacing * (row - (rows - 1) / 2), centre[2])
+    left, front = centre[0] - spacing * (columns - 1) / 2, centre[1] - spacing * (rows - 1) / 2
+    return [(left + spacing * column, front + spacing * row, centre[2])
             for row in range(rows) for column in range(columns)]
 
 
@@ -129,7 +130,8 @@ class Show:
         self.lines += ["cue %d" % round(1000 * seconds), "end"]
 
     def fly(self, seconds, paths, cuts=1, yaws=None):
-        """Drones fly their paths, by name; the others hold. A drone's yaw turns evenly to that in `yaws`, if it is there."""
+        """Drones fly their paths, by name; the others hold. A drone's yaw turns evenly to that in `yaws`, if it is
+        there."""
         worst, yaws = 0, yaws or {}
         for name, path in paths.items():
             if dist(path(0), self.places[name]) > 0.001:
@@ -162,11 +164,13 @@ def slope(path, u):
 
 
 def piece(path, u, v):
-    """The four control points of the cubic with a path's places and velocities at u and v, and how far it leaves the path."""
+    """The four control points of the cubic with a path's places and velocities at u and v, and how far it leaves the
+    path."""
     first, last = path(u), path(v)
     out = [first, [a + s * (v - u) / 3 for a, s in zip(first, slope(path, u))],
            [b - s * (v - u) / 3 for b, s in zip(last, slope(path, v))], last]
 
     def cubic(t):
-        return [(1 - t) ** 3 * a + 3 * t * (1 - t) ** 2 * b + 3 * t * t * (1 - t) * c + t ** 3 * d for a, b, c, d in zip(*out)]
+        weights = (1 - t) ** 3, 3 * t * (1 - t) ** 2, 3 * t * t * (1 - t), t ** 3
+        return [sum(weight * value for weight, value in zip(weights, row)) for row in zip(*out)]
     return out, max(dist(cubic(t / 8), path(u + (v - u) * t / 8)) for t in range(1, 8))

@@ -1,7 +1,8 @@
-"""Whether drones are apart: directions, thresholds, parts of a cue, certificates of both versions, and how near two drones come.
+"""Whether drones are apart: directions, thresholds, parts of a cue, certificates of both versions, and how near two
+drones come.
 
-It is written from docs/SEPARATION.md alone, in exact whole numbers, and shares nothing with the program. `choreo` has the reader of
-the language; flights come from there, as control values in millimetres. It proves nothing.
+It is written from docs/SEPARATION.md alone, in exact whole numbers, and shares nothing with the program. `choreo` has
+the reader of the language; flights come from there, as control values in millimetres. It proves nothing.
 """
 import heapq
 from itertools import combinations
@@ -60,7 +61,7 @@ class Ruler:
     def __init__(self, r, h, version=2):
         self.r, self.h, self.version = r, h, version
         self.weights = [(x * h, y * h, z * r) for x, y, z in TABLES[version]]
-        self.thresholds = [5040 * (isqrt(4 * r * r * h * h * (x * x + y * y + z * z)) + 1) for x, y, z in TABLES[version]]
+        self.thresholds = [5040 * (isqrt(4 * r * r * h * h * sum(v * v for v in n)) + 1) for n in TABLES[version]]
 
     def low_control(self, part, depth, number):
         """The first of the eight control values that is below the threshold of a direction, or None."""
@@ -84,7 +85,8 @@ class Ruler:
 
 
 def tree(part, ruler, most, depth=0):
-    """The tree with the largest leaves, in each the first direction, as a line; or None where a part of depth `most` has none."""
+    """The tree with the largest leaves, in each the first direction, as a line; or None where a part of depth `most`
+    has none."""
     number = ruler.first(part, depth)
     if number is not None:
         return word_of(ruler.version, number)
@@ -108,7 +110,8 @@ def blocked(part, ruler, most, depth=0, index=0, hint=0):
 
 
 def are_far(first, second, r, h):
-    """Whether the boxes around two curves are so far apart along one axis that this axis' direction separates the whole cue."""
+    """Whether the boxes around two curves are so far apart along one axis that this axis' direction separates the whole
+    cue."""
     for a, b, reach in zip(first, second, (2 * r, 2 * r, 2 * h)):
         if max(min(b) - max(a), min(a) - max(b)) > reach:
             return True
@@ -116,7 +119,7 @@ def are_far(first, second, r, h):
 
 
 def slots(flown):
-    """Each pair of drones and each cue, in the order of certificates: two drone numbers and a cue number, all from 0."""
+    """Each pair of drones and each cue, in the order of certificates: two drones and a cue, numbered from 0."""
     for i, j in combinations(range(len(flown.names)), 2):
         for cue in range(len(flown.cues)):
             yield i, j, cue
@@ -157,7 +160,8 @@ def certificate(flown, depth, version=2):
 
 
 def nodes_of(line, version):
-    """The nodes of a tree in preorder, None for a split and else the number of a direction; or None where it isn't one tree."""
+    """The nodes of a tree in preorder, None for a split and else the number of a direction; or None where it isn't one
+    tree."""
     nodes, owed, at, width = [], 1, 0, version
     while at < len(line):
         if owed == 0:
@@ -196,7 +200,7 @@ def read_certificate(text):
 
 
 def tree_fault(part, nodes, ruler, most):
-    """What is wrong with a tree of a cue, or None: `too-deep`, or a leaf that fails with its place and control value."""
+    """What is wrong with a tree of a cue, or None: `too-deep`, or a leaf that fails, its place and control value."""
     stack = [(part, 0, 0)]
     for node in nodes:
         part, depth, index = stack.pop()
@@ -245,9 +249,9 @@ def square(b):
 
 
 class Nearest:
-    """Where two drones come nearest in a cue, measured by their ellipsoids: at `index` / 2^`depth` of its time. There `squared` and
-    `needed` are the squares of their distance and of the one at which the ellipsoids touch, in one scale of whole numbers. At no
-    other instant of the cue is the square of the distance less by a 4,096th or more."""
+    """Where two drones come nearest in a cue, measured by their ellipsoids: at `index` / 2^`depth` of its time. There
+    `squared` and `needed` are the squares of their distance and of the one at which the ellipsoids touch, in one
+    scale of whole numbers. At no other instant of the cue is the square of the distance less by a 4,096th or more."""
 
     def __init__(self, part, r, h):
         rows = [square(b) for b in part]
