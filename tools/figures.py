@@ -34,6 +34,42 @@ def grid(columns, rows, spacing, centre=(0, 0, 1)):
             for row in range(rows) for column in range(columns)]
 
 
+def dealt(begins, goals):
+    """The goals in the order in which they go to these begins, so that the sum of the squared ways is least."""
+    cost = [[micrometres(dist(begin, goal)) ** 2 for goal in goals] for begin in begins]
+    columns = least(cost)
+    return [goals[columns[k]] for k in range(len(begins))]
+
+
+def least(cost):
+    """For each row its column, so that the sum is least: the assignment by shortest ways, each with potentials."""
+    size = len(cost)
+    rows, columns, taken, back = [0] * (size + 1), [0] * (size + 1), [0] * (size + 1), [0] * (size + 1)
+    for row in range(1, size + 1):
+        taken[0], column, lowest, used = row, 0, [None] * (size + 1), set()
+        while taken[column]:
+            used.add(column)
+            at, gap, nearest = taken[column], None, 0
+            for other in range(1, size + 1):
+                if other not in used:
+                    slack = cost[at - 1][other - 1] - rows[at] - columns[other]
+                    if lowest[other] is None or slack < lowest[other]:
+                        lowest[other], back[other] = slack, column
+                    if gap is None or lowest[other] < gap:
+                        gap, nearest = lowest[other], other
+            for other in range(size + 1):
+                if other in used:
+                    rows[taken[other]] += gap
+                    columns[other] -= gap
+                elif other:
+                    lowest[other] -= gap
+            column = nearest
+        while column:
+            taken[column] = taken[back[column]]
+            column = back[column]
+    return {taken[column] - 1: column - 1 for column in range(1, size + 1)}
+
+
 # ---- paths
 
 def ease(u):
