@@ -8,6 +8,7 @@ import sys
 sys.dont_write_bytecode = True  # so that importing leaves no file beside the tools
 import choreo
 from choreo import Refused
+from cures import print_cure
 
 signal.signal(signal.SIGPIPE, signal.SIG_DFL)  # so that `| head` ends a tool without a trace
 TOOL = os.path.basename(sys.argv[0])
@@ -57,7 +58,9 @@ def flown_of(path):
             stop("%s: a tool reads a show alone, without a marker line" % path)
         return text, choreo.flown_of(text)
     except Refused as refusal:
-        return stop("%s: %s; ./show check %s says more" % (path, refusal, path), refusal.status)
+        if refusal.number:
+            print_cure(TOOL, refusal.number, refusal.outcome.split()[0], text)
+        return stop("%s: %s" % (path, refusal), refusal.status)
 
 
 def ask_check(text, deep=choreo.DEPTH):
