@@ -443,11 +443,28 @@ class Flown:
 
     def plan(self):
         """The text of the plan."""
+        memory, offset = self.show.settings["memory"]
+        (trajectory,) = self.show.settings["trajectory"]
         out = "plan 1\n"
         for name, segments, data in zip(self.names, self.sent, self.data()):
-            digits = " ".join("%02X" % b for b in data)
-            out += "drone %s bytes %d pieces %d\ndata %s\n" % (name, len(data), len(segments), digits)
+            out += "drone %s bytes %d pieces %d\ndata %s\n" % (name, len(data), len(segments), digits(data))
+            for word, packet in packets(memory, offset, trajectory, data, len(segments)):
+                out += "%s %s\n" % (word, digits(packet))
         return out + "end\n"
+
+
+def digits(data):
+    """Bytes in two hexadecimal digits each."""
+    return " ".join("%02X" % b for b in data)
+
+
+def packets(memory, offset, trajectory, data, pieces):
+    """The packets that write a trajectory's bytes, define it and start it (docs/RADIO.md), each with its word."""
+    for begin in range(0, len(data), 24):
+        address = (offset + begin).to_bytes(4, "little")
+        yield "write", bytes([0x4E, memory]) + address + data[begin:begin + 24]
+    yield "define", bytes([0x8C, 6, trajectory, 1, 1]) + offset.to_bytes(4, "little") + bytes([pieces])
+    yield "start", bytes([0x8C, 5, 0, 0, 0, trajectory, 0, 0, 0x80, 0x3F])
 
 
 def parts_of(whole):

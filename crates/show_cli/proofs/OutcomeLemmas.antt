@@ -145,7 +145,7 @@ some_second law None s cut is =
     let parts = within_limit certificate_limit (length cut.second) _ _ is in
     let clean : bad_line (lines cut.second) ≡ None = none_mapped _ (bad_line (lines cut.second)) (none_first _ _ parts.1) in
     let said = law.said cut.second (omega (arith, parts.0)) clean in
-    (judged_for s said.0, (said.0, (said.1, refl)))
+    (judged_for s said.0, (said.0, said.1, refl))
 
 -- a show comes to an outcome
 some_outcome : TextLaw → (c : Command) (refused : Option Outcome) (s : PlainShow) (cut : Cut) → (o : Outcome) × ShowGives c refused s cut o
