@@ -196,8 +196,9 @@ fn last_value(first: i16, element: &Element) -> i16
     }
 }
 
-// The values with which a segment ends that begins with these.
-fn last_values(first: &[i16; 4], s: &Segment) -> [i16; 4]
+/// The values with which a segment ends that begins with these: x, y and z in millimetres, and yaw in
+/// tenths of a degree (docs/TRAJECTORY.md).
+pub fn last_values(first: &[i16; 4], s: &Segment) -> [i16; 4]
     ensures { (axis : ℕ) → axis < 4 → at result axis ≡ value_after (at first.now axis) (element_on s.now axis) }
 {
     let [x, y, z, yaw] = &s.elements;
