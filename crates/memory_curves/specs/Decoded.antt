@@ -13,8 +13,8 @@ use Rattle.upload_model.specs.Drones.{DroneState}
 use Rattle.upload_model.specs.Sessions.{IsSession, Upload, drone_count, load_of}
 use Rattle.upload_model.specs.Theorem.{HasEntry, HasLoad}
 
--- A drone's memory decodes to this trajectory: its table has an entry of this id, and the bytes of its memory from the entry's
--- offset on begin with the spelling of the trajectory, which has as many segments as the entry says.
+-- A drone's memory decodes to this trajectory: its table has an entry of this id, and the bytes of its memory from the
+-- entry's offset on begin with the spelling of the trajectory, which has as many segments as the entry says.
 pub record DecodesTo (drone : DroneState) (id : ℕ) (t : Traj) : Type 0 where
   pub entry : Def
   pub used : ℕ
@@ -32,6 +32,6 @@ last_value t axis = fold (λ (v : ℤ) (s : Segment). value_after v (element_on 
 -- A memory decodes to one trajectory alone, and one that has the load and the entry of a trajectory decodes to it.
 pub record CurveLaw : Type 0 where
   pub one : (drone : DroneState) (id : ℕ) (t u : Traj) → DecodesTo drone id t → DecodesTo drone id u → t ≡ u
-  pub loaded : (s : Upload) (drone : DroneState) (d : ℕ) (t : Traj) → IsSession s → d < drone_count s → load_of s d ≡ load_for t →
-      IsTrajectory t → All HasDuration t.segments → length drone.memory ≡ 4096 → HasLoad s (load_of s d) drone →
+  pub loaded : (s : Upload) (drone : DroneState) (d : ℕ) (t : Traj) → IsSession s → d < drone_count s →
+      load_of s d ≡ load_for t → IsTrajectory t → All HasDuration t.segments → length drone.memory ≡ 4096 → HasLoad s (load_of s d) drone →
       HasEntry s (load_of s d) drone → DecodesTo drone s.trajectory_id t
