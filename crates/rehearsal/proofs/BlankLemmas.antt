@@ -1,0 +1,103 @@
+-- Worlds whose drones are the same at the start are the same, as far as the session's drones go.
+use Rattle.std.proofs.Common.{◌≡◌, ◌∙◌, ℕ, zero, suc, ◌<◌, ◌==◌, Bool, true, false, cond, List, [], ◌∷◌, ◌++◌, length, Option, Some, None, refl, ap, arith, All, inl, inr}
+use Rattle.std.specs.Prelude.{slice_get}
+use Rattle.std.proofs.lemmas.List.Elements.{All-head, All-tail}
+use Rattle.std.proofs.lemmas.Bool.{cases_lt, le-ltb, lt-ltb}
+use Rattle.upload_model.specs.declared.events.Event.{Event}
+use Rattle.upload_model.specs.declared.events.Event.TheVariants as event
+use Rattle.upload_model.specs.declared.events.WorldEvent.{WorldEvent}
+use Rattle.upload_model.specs.declared.events.WorldEvent.TheVariants.{Tick, Take, Hear}
+use Rattle.upload_model.specs.Drones.{DroneState, Handled, handled}
+use Rattle.upload_model.specs.Sessions.{Upload, drone_count}
+use Rattle.upload_model.specs.Hosts.{out, progress}
+use Rattle.upload_model.specs.Worlds as Worlds
+use Rattle.upload_model.specs.Worlds.{packets_for, host_event, start_world, run, world, happens, took, take_named, hear_named, option_list}
+use Rattle.firmware_memory.specs.declared.Drone.{Drone}
+use Rattle.firmware_memory.specs.Shown.{shown}
+use Rattle.fleet_world.specs.WorldState.{WorldState, WorldStandsAt, WorldStandsFor, state_at}
+use Rattle.rehearsal.specs.Rehearsed.{blank_drone, rehearsed}
+
+-- Two worlds are the same, but for drones past the session's last.
+pub record Agree (s : Upload) (v w : Worlds.World) : Type 0 where
+  pub heard : v.heard ≡ w.heard
+  pub drones : (d : ℕ) → d < drone_count s → v.drones d ≡ w.drones d
+  pub sent : (d : ℕ) → v.sent d ≡ w.sent d
+  pub given : (d : ℕ) → d < drone_count s → v.given d ≡ w.given d
+
+agree-event : (s : Upload) (v w : Worlds.World) (e : Event) → Agree s v w → Agree s (host_event s v e) (host_event s w e)
+unfolding host_event
+agree-event s v w e a = record {
+  heard = ap (λ (h : List Event). h ++ e ∷ []) a.heard;
+  drones = a.drones;
+  sent = λ d. ap (λ (ps : List (List ℕ)). ps ++ packets_for s (out s v.heard e) d) (a.sent d)
+      ∙ ap (λ (h : List Event). w.sent d ++ packets_for s (out s h e) d) a.heard;
+  given = a.given;
+}
+
+changed-same : {A : Type 0} (b : Bool) (x y p q : A) → x ≡ y → p ≡ q → cond b x p ≡ cond b y q
+changed-same true x y p q first second = first
+changed-same false x y p q first second = second
+
+agree-take : (s : Upload) (v w : Worlds.World) (d : ℕ) (packet : Option (List ℕ)) → d < drone_count s → Agree s v w → Agree s (take_named v d packet) (take_named w d packet)
+agree-take s v w d None below a = a
+agree-take s v w d (Some packet) below a =
+    let same : handled (v.drones d) packet ≡ handled (w.drones d) packet = ap (λ (x : DroneState). handled x packet) (a.drones d below) in
+    record {
+      heard = a.heard;
+      drones = λ i l. changed-same (i == d) (handled (v.drones d) packet).drone (handled (w.drones d) packet).drone (v.drones i) (w.drones i)
+          (ap (λ (h : Handled). h.drone) same) (a.drones i l);
+      sent = a.sent;
+      given = λ i l. changed-same (i == d) (v.given d ++ option_list (handled (v.drones d) packet).answer) (w.given d ++ option_list (handled (w.drones d) packet).answer) (v.given i) (w.given i)
+          (ap (λ (xs : List (List ℕ)). xs ++ option_list (handled (v.drones d) packet).answer) (a.given d below)
+          ∙ ap (λ (h : Handled). w.given d ++ option_list h.answer) same) (a.given i l);
+    }
+
+agree-hear : (s : Upload) (v w : Worlds.World) (d : ℕ) (packet : Option (List ℕ)) → Agree s v w → Agree s (hear_named s v d packet) (hear_named s w d packet)
+agree-hear s v w d None a = a
+agree-hear s v w d (Some packet) a = agree-event s v w (event.Up d packet) a
+
+agree-happens : (s : Upload) (v w : Worlds.World) (e : WorldEvent) → Agree s v w → Agree s (happens s v e) (happens s w e)
+unfolding happens
+agree-happens s v w Tick a = agree-event s v w event.Tick a
+agree-happens s v w (Take d n) a = elim (cases_lt d (drone_count s)) [
+  | inl below ↦ rw (lt-ltb d (drone_count s) below, a.sent d) (agree-take s v w d (slice_get (w.sent d) n) below a)
+  | inr past ↦ rw (le-ltb d (drone_count s) past) a
+]
+agree-happens s v w (Hear d n) a = elim (cases_lt d (drone_count s)) [
+  | inl below ↦ rw (lt-ltb d (drone_count s) below, a.given d below) (agree-hear s v w d (slice_get (w.given d) n) a)
+  | inr past ↦ rw (le-ltb d (drone_count s) past) a
+]
+
+agree-run : (s : Upload) (v w : Worlds.World) (es : List WorldEvent) → Agree s v w → Agree s (run s v es) (run s w es)
+agree-run s v w [] a = a
+agree-run s v w (e ∷ es) a = agree-run s (happens s v e) (happens s w e) es (agree-happens s v w e a)
+
+agree-start : (s : Upload) (f g : ℕ → DroneState) → ((d : ℕ) → d < drone_count s → f d ≡ g d) → Agree s (start_world s f) (start_world s g)
+unfolding start_world
+agree-start s f g same = record { heard = refl; drones = same; sent = λ d. refl; given = λ d l. refl }
+
+-- what stands for one of them stands for the other
+agree-stands : (x : WorldState) (s : Upload) (v w : Worlds.World) → Agree s v w → WorldStandsAt x s v → WorldStandsAt x s w
+agree-stands x s v w a at = record {
+  session = at.session;
+  host = rw a.heard at at.host;
+  progress = at.progress ∙ ap (progress s) a.heard;
+  count = at.count;
+  drones = λ d l. at.drones d l ∙ a.drones d l;
+  sent = λ d l. at.sent d l ∙ a.sent d;
+  given = λ d l. at.given d l ∙ a.given d l;
+}
+
+-- one of a list of blank drones
+blank-at : (s : Upload) (drones : List Drone) (d : ℕ) → All (λ (x : Drone). shown x ≡ blank_drone s) drones → d < length drones → state_at drones d ≡ blank_drone s
+blank-at s [] d blank below = absurd (omega arith)
+blank-at s (x ∷ drones) zero blank below = All-head (λ (y : Drone). shown y ≡ blank_drone s) x drones blank
+blank-at s (x ∷ drones) (suc d) blank below = blank-at s drones d (All-tail (λ (y : Drone). shown y ≡ blank_drone s) x drones blank) (omega arith)
+
+-- a world of blank drones is that of the rehearsal
+pub stands-rehearsed : (x : WorldState) (s : Upload) (drones : List Drone) (events : List WorldEvent) → length drones ≡ drone_count s →
+    All (λ (d : Drone). shown d ≡ blank_drone s) drones → WorldStandsFor x s drones events → WorldStandsAt x s (rehearsed s events)
+stands-rehearsed x s drones events many blank at =
+    agree-stands x s (world s (state_at drones) events) (rehearsed s events)
+    (agree-run s (start_world s (state_at drones)) (start_world s (λ d. blank_drone s)) events
+    (agree-start s (state_at drones) (λ d. blank_drone s) (λ d l. blank-at s drones d blank (omega arith)))) at

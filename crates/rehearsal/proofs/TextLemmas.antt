@@ -1,0 +1,106 @@
+-- Lines of a memory and of a table, one after another.
+use Rattle.std.proofs.Common.{◌≡◌, ◌∙◌, ℕ, zero, suc, ◌+◌, ◌*◌, ◌/◌, ◌%◌, ◌<◌, true, List, [], ◌∷◌, ◌++◌, length, drop, take, map, get_or, slice_get, ℤ, Option, Some, None, codes, decimal, refl, sym, ap, append_assoc, append-nil, arith}
+use Rattle.std.specs.List.{flat_map, range_with_len}
+use Rattle.std.proofs.lemmas.List.{drop_more, map-append, length-map, length-take}
+use Rattle.std.proofs.lemmas.Grind.{flat_map-append, take_at_read}
+use Rattle.upload_model.proofs.HostSteps.{range-more}
+use Rattle.upload_model.specs.declared.loads.Def.{Def}
+use Rattle.upload_model.specs.Drones.{DroneState}
+use Rattle.traj_codec.specs.declared.traj.Traj.{Traj}
+use Rattle.memory_curves.specs.Decoded.{DecodesTo}
+use Rattle.fleet_io.specs.Words.{is_line_empty, hex_word, IsWord}
+use Rattle.fleet_io.proofs.WordLaws.{is_line_empty-append, hex_is_word, fresh_after_line}
+use Rattle.rehearsal.specs.Texts.{address_word, memory_line, memory_lines, entry_line, entry_lines, drone_text, AreTexts}
+
+-- an address is a word
+pub address_is_word : (address : ℕ) → IsWord (address_word address)
+address_is_word address = is_line_empty-append (hex_word (address / 256)) (hex_word (address % 256)) (omega arith) ∙ hex_is_word (address % 256)
+
+-- one row more
+pub rows-more : (text : List ℕ) (memory : List ℕ) (k : ℕ) (old new : List ℕ) → old ≡ text ++ flat_map (memory_line memory) (range_with_len 0 k) → new ≡ old ++ memory_line memory k →
+    (is_line_empty new ≡ true) × (new ≡ text ++ flat_map (memory_line memory) (range_with_len 0 (k + 1)))
+rows-more text memory k old new is more =
+    let so_far : List ℕ = flat_map (memory_line memory) (range_with_len 0 k) in
+    let e : k + 1 ≡ suc k = omega arith in
+    let one : range_with_len 0 (k + 1) ≡ range_with_len 0 k ++ k ∷ [] =
+    ap (range_with_len 0) e ∙ range-more 0 k ∙ ap (λ (n : ℕ). range_with_len 0 k ++ n ∷ []) (let z : 0 + k ≡ k = omega arith in z) in
+    let all : flat_map (memory_line memory) (range_with_len 0 (k + 1)) ≡ so_far ++ memory_line memory k =
+    ap (flat_map (memory_line memory)) one ∙ flat_map-append (memory_line memory) (range_with_len 0 k) (k ∷ [])
+    ∙ ap (λ (xs : List ℕ). so_far ++ xs) (append-nil (memory_line memory k)) in (
+      ap is_line_empty more ∙ fresh_after_line old (address_word (32 * k)) (map hex_word (take 32 (drop (32 * k) memory))),
+      more ∙ ap (λ (xs : List ℕ). xs ++ memory_line memory k) is ∙ append_assoc text so_far (memory_line memory k) ∙ ap (λ (xs : List ℕ). text ++ xs) (sym all),
+    )
+
+-- after what stands under an id the last line is empty
+pub entry-fresh : (text : List ℕ) (id : ℕ) (entry : Option Def) → is_line_empty text ≡ true → is_line_empty (text ++ entry_line id entry) ≡ true
+entry-fresh text id None fresh = ap is_line_empty (append-nil text) ∙ fresh
+entry-fresh text id (Some entry) fresh =
+    fresh_after_line text (codes "trajectory") (decimal id ∷ codes "offset" ∷ decimal entry.offset ∷ codes "pieces" ∷ decimal entry.pieces ∷ [])
+
+-- what stands under an id is said, and less is to come
+pub entries-next : (text old new : List ℕ) (table : List (Option Def)) (id : ℕ) (d : Option Def) → id < length table →
+    is_line_empty old ≡ true → old ++ entry_lines id (drop id table) ≡ text → new ≡ old ++ entry_line id (get_or table id d) →
+    (is_line_empty new ≡ true) × (new ++ entry_lines (id + 1) (drop (id + 1) table) ≡ text)
+entries-next text old new table id d below fresh so_far more =
+    let entry : Option Def = get_or table id d in
+    let e : id + 1 ≡ suc id = omega arith in
+    let here : entry_lines id (drop id table) ≡ entry_line id entry ++ entry_lines (id + 1) (drop (id + 1) table) =
+    ap (entry_lines id) (drop_more table id d below)
+    ∙ ap (λ (n : ℕ). entry_line id entry ++ entry_lines n (drop (id + 1) table)) (sym e) in (
+      ap is_line_empty more ∙ entry-fresh old id entry fresh,
+      ap (λ (xs : List ℕ). xs ++ entry_lines (id + 1) (drop (id + 1) table)) more
+          ∙ append_assoc old (entry_line id entry) (entry_lines (id + 1) (drop (id + 1) table))
+          ∙ ap (λ (xs : List ℕ). old ++ xs) (sym here) ∙ so_far,
+    )
+
+-- after a memory the last line is empty
+pub memory-fresh : (text memory : List ℕ) → is_line_empty (text ++ memory_lines memory) ≡ true
+unfolding memory_lines
+memory-fresh text memory =
+    let old : List ℕ = text ++ flat_map (memory_line memory) (range_with_len 0 127) in
+    let last = rows-more text memory 127 old (old ++ memory_line memory 127) refl refl in
+    ap is_line_empty (sym last.1) ∙ last.0
+
+-- and after a table
+pub entries-fresh : (text : List ℕ) (id : ℕ) (table : List (Option Def)) → is_line_empty text ≡ true → is_line_empty (text ++ entry_lines id table) ≡ true
+entries-fresh text id [] fresh = ap is_line_empty (append-nil text) ∙ fresh
+entries-fresh text id (entry ∷ table) fresh =
+    ap is_line_empty (sym (append_assoc text (entry_line id entry) (entry_lines (suc id) table)))
+    ∙ entries-fresh (text ++ entry_line id entry) (suc id) table (entry-fresh text id entry fresh)
+
+-- four equal numbers
+pub four-same : (f : ℤ → List ℕ) (a b c d a' b' c' d' : ℤ) → a ≡ a' → b ≡ b' → c ≡ c' → d ≡ d' →
+    ◌≡◌ {A = List (List ℕ)} (f a ∷ f b ∷ f c ∷ f d ∷ []) (f a' ∷ f b' ∷ f c' ∷ f d' ∷ [])
+four-same f a b c d a' b' c' d' p q r s = cc
+
+-- ---- drone by drone
+
+-- what stands at a place of a table is below its length
+pub place-below : (table : List (Option Def)) (id : ℕ) (o : Option Def) → slice_get table id ≡ Some o → id < length table
+place-below [] id o is = absurd (cc)
+place-below (x ∷ table) zero o is = omega arith
+place-below (x ∷ table) (suc id) o is = omega (arith, place-below table id o is)
+
+-- one drone more
+pub texts-push : (drones : ℕ → DroneState) (id n m : ℕ) (names : List (List ℕ)) (said : List ℕ) (name : List ℕ) (t : Traj) → n + length names ≡ m →
+    AreTexts drones id n names said → DecodesTo (drones m) id t → AreTexts drones id n (names ++ name ∷ []) (said ++ drone_text name (drones m) t)
+texts-push drones id n m [] said name t here are decodes =
+    let same : n ≡ m = omega arith in
+    (t, [], rw same decodes, refl, rw (are, same) (sym (append-nil (drone_text name (drones m) t))))
+texts-push drones id n m (x ∷ names) said name t here are decodes =
+    let later = texts-push drones id (suc n) m names are.1 name t (omega arith) are.3 decodes in (
+      are.0,
+      are.1 ++ drone_text name (drones m) t,
+      are.2,
+      later,
+      ap (λ (xs : List ℕ). xs ++ drone_text name (drones m) t) are.4 ∙ append_assoc (drone_text x (drones n) are.0) are.1 (drone_text name (drones m) t),
+    )
+
+-- the text of the first drones, and of one more
+pub texts-next : {N : Type 0} (f : N → List ℕ) (names : List N) (n0 : N) (drones : ℕ → DroneState) (id d : ℕ) (said name : List ℕ) (t : Traj) → d < length names → name ≡ f (get_or names d n0) →
+    AreTexts drones id 0 (map f (take d names)) said → DecodesTo (drones d) id t → AreTexts drones id 0 (map f (take (d + 1) names)) (said ++ drone_text name (drones d) t)
+texts-next f names n0 drones id d said name t below is are decodes =
+    let more : map f (take (d + 1) names) ≡ map f (take d names) ++ name ∷ [] =
+    ap (map f) (take_at_read names d n0 below).1 ∙ map-append f (take d names) (get_or names d n0 ∷ []) ∙ ap (λ (n : List ℕ). map f (take d names) ++ n ∷ []) (sym is) in
+    let many : length (map f (take d names)) ≡ d = omega (arith, length-map (take d names) f, length-take d names) in
+    rw more (texts-push drones id 0 d (map f (take d names)) said name t (omega arith) are decodes)

@@ -1,0 +1,10 @@
+-- What holds whenever the loop of `ends_of` begins a turn.
+use Rattle.std.proofs.Common.{◌≡◌, ℕ, ℤ, ◌<◌, take}
+use Rattle.std.specs.List.{fold}
+use Rattle.fleet_math.specs.Bernstein.{at}
+use Rattle.traj_codec.specs.declared.traj.Segment.{Segment}
+use Rattle.traj_codec.specs.Positions.{element_on, value_after}
+use Rattle.rehearsal.proofs.text.ends_of.Given as goal
+
+abbrev pub invariant-loop-s : goal.invariant-loop-s
+invariant-loop-s l = (axis : ℕ) → axis < 4 → at l.ends axis ≡ fold (λ (v : ℤ) (s : Segment). value_after v (element_on s axis)) (at l.fn.t.start axis) (take l.s-index l.fn.t.segments)
