@@ -1,23 +1,17 @@
 -- What is acknowledged has landed.
-use Rattle.std.proofs.Common.{◌≡◌, ℕ, ◌+◌, ◌-◌, ◌<◌, ◌≤◌, Bool, List, [], ◌∷◌, ◌++◌, map, length, length-append, get_or, sym, ap, subst, ◌∙◌, arith}
-use Rattle.std.specs.List.{All}
+use Rattle.std.proofs.Common.{◌≡◌, ℕ, ◌-◌, ◌<◌, ◌≤◌, Bool, List, [], ◌++◌, length, length-append, get_or, sym, subst, ◌∙◌, arith}
 use Rattle.std.proofs.lemmas.List.{get_or-map, length-map}
 use Rattle.std.proofs.lemmas.List.Elements.{All-get_or}
-use Rattle.cue_grid.specs.declared.grid.Grid.{Grid}
 use Rattle.choreo_reader.specs.declared.show.Settings.{Settings}
 use Rattle.traj_codec.specs.declared.traj.Traj.{Traj}
 use Rattle.traj_codec.specs.Spelling.{IsTrajectory, ending, spelling}
 use Rattle.memory_curves.specs.Decoded.{CurveLaw, DecodesTo, load_for}
-use Rattle.upload_model.specs.declared.events.Progress.TheVariants.{Done}
-use Rattle.upload_model.specs.declared.events.WorldEvent.{WorldEvent}
-use Rattle.upload_model.specs.declared.loads.Load.{Load}
-use Rattle.upload_model.specs.Drones.{DroneState}
 use Rattle.upload_model.specs.Sessions.{IsLoad, IsSession, Upload, drone_count, load_of}
-use Rattle.upload_model.specs.Theorem.{IsDrone, IsSafe, LastingLaw, UploadLaw}
-use Rattle.upload_model.specs.Worlds.{World, world}
+use Rattle.upload_model.specs.Theorem.{IsSafe, LastingLaw, UploadLaw}
+use Rattle.upload_model.specs.Worlds.{world}
 use Rattle.show_plan.specs.Fitting.{IsSendable, size}
 use Rattle.show_plan.specs.Flight.{no_trajectory}
-use Rattle.show_plan.specs.Landing.{AreUploadable, IsLanded, LandingLaw, session_for}
+use Rattle.show_plan.specs.Landing.{AreUploadable, LandingLaw, session_for}
 
 -- the load of a drone is that of its trajectory
 load_is : (e : Settings) (trajs : List Traj) (start : Bool) (d : ℕ) → d < length trajs → load_of (session_for e trajs start) d ≡ load_for (get_or trajs d no_trajectory)
@@ -53,11 +47,11 @@ landing curve upload lasting g e trajs u near apart start drones events later fr
     let still = (lasting s drones events later).1 done in
     let safe : IsSafe s drones (world s drones (events ++ later)) = upload s drones session (λ d known. fresh d (omega (arith, count, known))) (events ++ later) in
     let decodes : (d : ℕ) → d < length trajs → DecodesTo ((world s drones (events ++ later)).drones d) e.trajectory_id (get_or trajs d no_trajectory) = λ d within.
-        let known : d < drone_count s = omega (arith, count, within) in
-        let only = safe.only d known in
-        curve.loaded s ((world s drones (events ++ later)).drones d) d (get_or trajs d no_trajectory) session known (load_is e trajs start d within)
-        (All-get_or IsTrajectory trajs d no_trajectory within u.formed) (All-get_or IsSendable trajs d no_trajectory within u.sendable).last
-        (only.length_kept ∙ (fresh d within).memory) (safe.loaded d known still) (safe.listed d known still) in
+    let known : d < drone_count s = omega (arith, count, within) in
+    let only = safe.only d known in
+    curve.loaded s ((world s drones (events ++ later)).drones d) d (get_or trajs d no_trajectory) session known (load_is e trajs start d within)
+    (All-get_or IsTrajectory trajs d no_trajectory within u.formed) (All-get_or IsSendable trajs d no_trajectory within u.sendable).last
+    (only.length_kept ∙ (fresh d within).memory) (safe.loaded d known still) (safe.listed d known still) in
     record {
       flown = trajs;
       counted = near.drones;

@@ -1,5 +1,5 @@
 -- The packet lines of a drone, one after another.
-use Rattle.std.proofs.Common.{◌≡◌, ℕ, zero, suc, ◌+◌, ◌<◌, true, List, [], ◌∷◌, ◌++◌, map, length, get_or, codes, sym, ap, ◌∙◌}
+use Rattle.std.proofs.Common.{◌≡◌, ℕ, ◌+◌, ◌<◌, true, List, [], ◌++◌, map, length, get_or, codes, sym, ap, ◌∙◌}
 use Rattle.std.specs.Prelude.{◌==◌, nat_lt, if◌then◌else◌}
 use Rattle.std.specs.List.{flat_map, range_with_len}
 use Rattle.std.proofs.lemmas.List.{flat_map_more, get_or-map}
@@ -38,10 +38,10 @@ fresh_after_packet text more s d n is = ap is_line_empty is ∙ fresh_after_line
 abbrev lines_of : Settings → Load → List ℕ
 lines_of e l =
     flat_map (λ (k : ℕ). line
-        (if nat_lt k (chunk_count_of (length l.bytes)) then codes "write" else (if k == chunk_count_of (length l.bytes) then codes "define" else codes "start"))
-        (map hex_word (if nat_lt k (chunk_count_of (length l.bytes)) then write_request_of e.memory_id (e.offset + chunk_start k) (chunk_of l.bytes k)
-            else (if k == chunk_count_of (length l.bytes) then define_of e.trajectory_id e.offset l.pieces
-            else start_of e.trajectory_id))))
+    (if nat_lt k (chunk_count_of (length l.bytes)) then codes "write" else (if k == chunk_count_of (length l.bytes) then codes "define" else codes "start"))
+    (map hex_word (if nat_lt k (chunk_count_of (length l.bytes)) then write_request_of e.memory_id (e.offset + chunk_start k) (chunk_of l.bytes k)
+    else (if k == chunk_count_of (length l.bytes) then define_of e.trajectory_id e.offset l.pieces
+    else start_of e.trajectory_id))))
     (range_with_len 0 (chunk_count_of (length l.bytes) + 2))
 
 -- The packets of a drone in the session of a show are those of its load alone.

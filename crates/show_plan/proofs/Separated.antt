@@ -1,5 +1,5 @@
 -- The walk over the slots of a show: what is found at one of them, and what has been found of those before it.
-use Rattle.std.proofs.Common.{◌≡◌, ℕ, ◌+◌, ◌-◌, ◌*◌, ℤ, arith, refl, length, sym, ◌∙◌, ap, subst, List, [], ◌∷◌, ◌++◌, append_assoc, map, Option, Some, None, Ok, Err}
+use Rattle.std.proofs.Common.{◌≡◌, ℕ, ◌+◌, ◌-◌, ◌*◌, ℤ, arith, length, sym, ◌∙◌, ap, subst, List, [], ◌∷◌, ◌++◌, append_assoc, map, Option, Some, None, Ok}
 use Rattle.std.specs.Option.{option_map, option_or}
 use Rattle.std.proofs.lemmas.List.Sums.{sum_by-cons}
 use Rattle.bezier_core.specs.declared.Bez.{Bez}
@@ -14,7 +14,7 @@ use Rattle.pair_search.specs.Search.{SearchGives, first_direction}
 use Rattle.choreo_reader.specs.declared.show.Settings.{Settings}
 use Rattle.show_plan.specs.declared.fitted.PlanFault.{PlanFault}
 use Rattle.show_plan.specs.declared.fitted.PlanFault.TheVariants as fault
-use Rattle.show_plan.specs.Separation.{FailsBy, Finds, best_nodes, blocked_at, blocked_in, direction_at, nodes_of, searched}
+use Rattle.show_plan.specs.Separation.{FailsBy, best_nodes, blocked_at, blocked_in, direction_at, nodes_of, searched}
 use Rattle.show_plan.specs.Steps.{blocked_slot, nodes_in}
 
 -- ---- one slot

@@ -1,5 +1,5 @@
 -- What fits is valid.
-use Rattle.std.proofs.Common.{◌≡◌, ℕ, suc, ◌+◌, ◌-◌, ◌<◌, ◌≤◌, Bool, true, false, cond, Option, Some, None, IfOk, Ok, Err, Result, List, [], ◌∷◌, ◌++◌, map, length, nat_le, eqb, arith, refl, sym, ap, ◌∙◌, subst}
+use Rattle.std.proofs.Common.{◌≡◌, ℕ, suc, ◌+◌, ◌-◌, ◌<◌, ◌≤◌, Bool, true, false, cond, Option, Some, None, IfOk, Ok, Err, Result, List, [], ◌∷◌, ◌++◌, map, length, eqb, arith, refl, sym, ap, ◌∙◌, subst}
 use Rattle.std.specs.Prelude.{◌||◌, nat_lt}
 use Rattle.std.specs.List.{All}
 use Rattle.std.proofs.lemmas.List.{get_or_default}
@@ -31,7 +31,6 @@ use Rattle.figure_expand.specs.declared.fault.ExpandFault.{ExpandFault}
 use Rattle.figure_expand.specs.Expanded.{range_fault}
 use Rattle.show_plan.specs.declared.fitted.Fitted.{Fitted}
 use Rattle.show_plan.specs.declared.fitted.PlanFault.{PlanFault}
-use Rattle.show_plan.specs.declared.fitted.PlanFault.TheVariants as fault
 use Rattle.show_plan.specs.Trajectories.{by_cue, sent, cue_times}
 use Rattle.show_plan.specs.Flight.{no_trajectory}
 use Rattle.show_plan.specs.Fitting.{StandsAsWord, size, room, first_unsendable, unsendable, in_order, AreEncodings, IsFitted, FitGives, IsValidFitted}

@@ -42,11 +42,7 @@ fn packet_of(settings: Settings, bytes: &[u8], pieces: u8, k: usize) -> Packet
         );
     }
     if k == writes {
-        return define(
-            settings.trajectory_id,
-            u32::from(settings.offset),
-            pieces,
-        );
+        return define(settings.trajectory_id, u32::from(settings.offset), pieces);
     }
     start(settings.trajectory_id)
 }

@@ -28,11 +28,7 @@ fn load_of(alloc: Global, bytes: &[u8], t: &Traj) -> Result<Load, AllocError>
 }
 
 // The load of each trajectory.
-fn loads_of(
-    alloc: Global,
-    bytes: &[Listed<u8>],
-    trajs: &[Traj],
-) -> Result<Vec<Load>, AllocError>
+fn loads_of(alloc: Global, bytes: &[Listed<u8>], trajs: &[Traj]) -> Result<Vec<Load>, AllocError>
     requires encoded { AreEncodings bytes.now trajs.now }
     requires few { All (λ (t : Traj). length t.segments ≤ most_segments) trajs.now }
     ensures { IfOk result (λ loads. loads.items ≡ map load_for trajs.now) }

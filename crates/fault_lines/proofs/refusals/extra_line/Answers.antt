@@ -1,4 +1,4 @@
-use Rattle.std.proofs.Common.{ℕ, Bool, true, false, cond, ◌≤◌, ◌==◌, ◌+◌, [], ◌∷◌, codes, decimal, refl, arith}
+use Rattle.std.proofs.Common.{◌+◌, [], ◌∷◌, codes, decimal, refl, arith}
 use Rattle.fleet_io.proofs.WordLaws.{decimal_is_word}
 use Rattle.sep_parts.specs.Versions.{head_count}
 use Rattle.fault_lines.proofs.RefusalLaws.{refusal_made}

@@ -1,4 +1,4 @@
-use Rattle.std.proofs.Common.{◌≡◌, ℕ, List, ap, sym, ◌∙◌}
+use Rattle.std.proofs.Common.{ℕ, List, ap, sym, ◌∙◌}
 use Rattle.fault_lines.specs.Lines.{fails_line}
 use Rattle.show_cli.specs.Outcome.{name_at, outcome}
 use Rattle.show_cli.proofs.refusals.invalid.Goals as goal

@@ -1,6 +1,5 @@
 use Rattle.std.proofs.Common.{[], ◌∷◌, sym, subst, ◌∙◌}
 use Rattle.show_cli.specs.declared.command.Command.{Command}
-use Rattle.show_cli.specs.declared.command.Command.TheVariants as Command
 use Rattle.show_cli.specs.Outcome.{IsOutcome}
 use Rattle.show_cli.proofs.RunLemmas.{headline, one_command, with_third}
 use Rattle.show_cli.proofs.top.run.Goals as goal

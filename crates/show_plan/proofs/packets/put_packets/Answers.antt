@@ -1,4 +1,4 @@
-use Rattle.std.proofs.Common.{◌≡◌, ◌++◌, arith, ℕ, List, append-nil, refl, sym, ap, ◌∙◌}
+use Rattle.std.proofs.Common.{◌≡◌, ◌++◌, arith, ℕ, append-nil, sym, ap, ◌∙◌}
 use Rattle.upload_model.specs.Sessions.{packet_count, write_count}
 use Rattle.show_plan.specs.Steps.{alone}
 use Rattle.show_plan.proofs.PacketLines.{first_lines, fresh_after_packet, one_line_more}

@@ -1,4 +1,3 @@
-use Rattle.std.proofs.Common.{inr, lit<, refl}
 use Rattle.show_plan.proofs.Separated.{clear_found, blocked_found}
 use Rattle.show_plan.proofs.separation.tree_of.Goals as goal
 

@@ -1,9 +1,8 @@
-use Rattle.std.proofs.Common.{◌≡◌, ◌∷◌, inl, lit<, refl, List, ◌∙◌, ap, arith, ℕ, map}
+use Rattle.std.proofs.Common.{◌≡◌, ◌∷◌, refl, List, ◌∙◌, ap, arith, ℕ}
 use Rattle.std.proofs.lemmas.Result.{err_from_is_err_and}
 use Rattle.sep_parts.specs.declared.slot.Slot.{Slot}
 use Rattle.sep_parts.specs.Slots.{following, slots}
 use Rattle.sep_parts.proofs.Orders.{IsAhead, IsFrom, first_ahead, next_ahead, some_ahead}
-use Rattle.show_plan.specs.Separation.{best_nodes}
 use Rattle.show_plan.proofs.Separated.{blocked_next, clear_next, tree_next}
 use Rattle.show_plan.proofs.separation.trees_of.Goals as goal
 

@@ -1,4 +1,4 @@
-use Rattle.std.proofs.Common.{◌≡◌, ◌++◌, ◌∷◌, [], List, ℕ, length, map, codes, decimal, OnOk, ap, refl, sym, ◌∙◌, subst}
+use Rattle.std.proofs.Common.{◌≡◌, ◌++◌, ◌∷◌, [], List, ℕ, length, map, codes, decimal, OnOk, ap, ◌∙◌, subst}
 use Rattle.fleet_io.specs.Words.{hex_word, is_line_empty}
 use Rattle.fleet_io.proofs.WordLaws.{fresh_after_line}
 use Rattle.traj_codec.specs.declared.traj.Segment.{Segment}
