@@ -659,3 +659,24 @@ fn great_texts(rt: HostRuntime) -> Result<(), Fail> {
     assert!(rt; is_met(alloc, &["verify"], APART, &tree, 12, deep)?);
     Ok(())
 }
+
+// 32 drones in a row, a metre apart, that hold through 1,000 cues of a second; and one cue or one drone more.
+#[test]
+fn shows_of_full_size(rt: HostRuntime) -> Result<(), Fail> {
+    let alloc = rt.alloc();
+    let mut show = Vec::from_slice(alloc, b"choreo 1\n")?;
+    for d in 0..32 {
+        let line = format!(in alloc; "drone d{d} {d}000000 0 1000000 0\n")?;
+        show.extend_from_slice(line.as_bytes())?;
+    }
+    let cues = b"repeat 1000\ncue 1000\nend\nend\n";
+    let ok = b"ok drones 32 cues 1000 duration_ms 1000000\n";
+    assert!(rt; is_met(alloc, &["check"], &show, cues, 0, ok)?);
+    let many = b"repeat 1001\ncue 1000\nend\nend\n";
+    let late = b"error 3 line 34 too-many-cues\n";
+    assert!(rt; is_met(alloc, &["check"], &show, many, 3, late)?);
+    show.extend_from_slice(b"drone d32 32000000 0 1000000 0\n")?;
+    let crowded = b"error 3 line 34 too-many-drones\n";
+    assert!(rt; is_met(alloc, &["check"], &show, cues, 3, crowded)?);
+    Ok(())
+}
