@@ -128,6 +128,8 @@ def plan_of(path):
         try:
             if words[0] == "drone" and words[2] == "bytes" and words[4] == "pieces":
                 name, size, pieces = words[1], int(words[3]), int(words[5])
+                if not choreo.is_name(name):
+                    raise ValueError
             elif words[0] == "data" and name:
                 data = bytes(int(word, 16) for word in words[1:])
                 if len(data) != size:
@@ -144,12 +146,15 @@ def plan_of(path):
 
 
 def decoded(data, pieces):
-    """A trajectory's start and its segments as (milliseconds, elements), from its bytes."""
+    """A trajectory's start and its segments as (milliseconds, elements), from its bytes; or None where they aren't one of
+    this many segments and the three zero bytes."""
     def number(at, signed=True):
         return int.from_bytes(data[at:at + 2], "little", signed=signed)
     last, at, segments = [number(k) for k in (0, 2, 4, 6)], 8, []
     start = list(last)
     for _ in range(pieces):
+        if at + 3 > len(data) or number(at + 1) == 0:
+            return None
         header, milliseconds, elements, at = data[at], number(at + 1, False), [], at + 3
         for axis in range(4):
             many_numbers = [0, 1, 3, 7][header >> (2 * axis) & 3]
@@ -157,4 +162,4 @@ def decoded(data, pieces):
             at += 2 * many_numbers
             last[axis] = elements[-1][-1]
         segments.append((milliseconds, elements))
-    return start, segments
+    return (start, segments) if data[at:] == bytes(3) else None
