@@ -25,15 +25,15 @@ const DEFINE: &[u8] = b"\x50\x01\x0A\x8C\x06\x00\x01\x01\x00\x00\x00\x00\x01";
 const START: &[u8] = b"\x50\x01\x0A\x8C\x05\x00\x00\x00\x00\x00\x00\x80\x3F";
 
 // Frames that come in: the answers to the writes, the define and the start.
-const W1: &[u8] = b"\x50\x01\x07\x4E\x02\x00\x00\x00\x00\x00";
+const WROTE_FIRST: &[u8] = b"\x50\x01\x07\x4E\x02\x00\x00\x00\x00\x00";
 
-const W2: &[u8] = b"\x50\x01\x07\x4E\x02\x18\x00\x00\x00\x00";
+const WROTE_SECOND: &[u8] = b"\x50\x01\x07\x4E\x02\x18\x00\x00\x00\x00";
 
-const D: &[u8] = b"\x50\x01\x05\x8C\x06\x00\x01\x00";
+const DEFINED: &[u8] = b"\x50\x01\x05\x8C\x06\x00\x01\x00";
 
-const S: &[u8] = b"\x50\x01\x05\x8C\x05\x00\x00\x00";
+const STARTED: &[u8] = b"\x50\x01\x05\x8C\x05\x00\x00\x00";
 
-const W1_REFUSED: &[u8] = b"\x50\x01\x07\x4E\x02\x00\x00\x00\x00\x05";
+const FIRST_REFUSED: &[u8] = b"\x50\x01\x07\x4E\x02\x00\x00\x00\x00\x05";
 
 // A packet of another port, which acknowledges nothing.
 const OTHER: &[u8] = b"\x50\x01\x03\x00\x48\x69";
@@ -96,17 +96,32 @@ fn each_end(rt: HostRuntime) -> Result<(), Fail> {
     let alloc = rt.alloc();
     let rows: [(bool, &[&[u8]], u8, &[&[u8]]); 20] = [
         (false, &[], 8, &[FIRST]),
-        (false, &[W1, W2, D], 0, &[FIRST, DEFINE]),
-        (true, &[W1, W2, D, S], 0, &[FIRST, DEFINE, START]),
+        (
+            false,
+            &[WROTE_FIRST, WROTE_SECOND, DEFINED],
+            0,
+            &[FIRST, DEFINE],
+        ),
+        (
+            true,
+            &[WROTE_FIRST, WROTE_SECOND, DEFINED, STARTED],
+            0,
+            &[FIRST, DEFINE, START],
+        ),
         // The answer to a start that wasn't sent is one.
         (true, &[b"\x50\x01\x05\x8C\x05\x00\x00\x05"], 10, &[FIRST]),
         (false, &[b"\x50\x01\x05\x8C\x05\x00\x00\x05"], 8, &[FIRST]),
-        (true, &[S, W1, W2, D], 0, &[FIRST, DEFINE]),
+        (
+            true,
+            &[STARTED, WROTE_FIRST, WROTE_SECOND, DEFINED],
+            0,
+            &[FIRST, DEFINE],
+        ),
         // What was acknowledged early is not sent.
-        (false, &[D, W1, W2], 0, &[FIRST]),
+        (false, &[DEFINED, WROTE_FIRST, WROTE_SECOND], 0, &[FIRST]),
         // The same answer twice acknowledges once.
-        (false, &[W1, W1], 8, &[FIRST]),
-        (false, &[W1_REFUSED, b"\x51"], 10, &[FIRST]),
+        (false, &[WROTE_FIRST, WROTE_FIRST], 8, &[FIRST]),
+        (false, &[FIRST_REFUSED, b"\x51"], 10, &[FIRST]),
         // Bits of the link are of no account.
         (
             false,
@@ -117,7 +132,7 @@ fn each_end(rt: HostRuntime) -> Result<(), Fail> {
         // The example of docs/RADIO.md, "Link frames".
         (
             false,
-            &[W1, b"T", W2, D],
+            &[WROTE_FIRST, b"T", WROTE_SECOND, DEFINED],
             0,
             &[
                 FIRST,
@@ -133,11 +148,16 @@ fn each_end(rt: HostRuntime) -> Result<(), Fail> {
             &[FIRST],
         ),
         // Behind the end no byte is judged.
-        (false, &[W1, W2, D, b"\x51"], 0, &[FIRST, DEFINE]),
+        (
+            false,
+            &[WROTE_FIRST, WROTE_SECOND, DEFINED, b"\x51"],
+            0,
+            &[FIRST, DEFINE],
+        ),
         // A tick sends what is in flight.
         (
             false,
-            &[b"T", W1, b"T"],
+            &[b"T", WROTE_FIRST, b"T"],
             8,
             &[
                 FIRST,
@@ -155,10 +175,10 @@ fn each_end(rt: HostRuntime) -> Result<(), Fail> {
             11,
             &[FIRST],
         ),
-        (false, &[W1, b"%%\n"], 11, &[FIRST]),
+        (false, &[WROTE_FIRST, b"%%\n"], 11, &[FIRST]),
         (
             false,
-            &[W1, W2, b"TT\x50\x01\x20", D],
+            &[WROTE_FIRST, WROTE_SECOND, b"TT\x50\x01\x20", DEFINED],
             11,
             &[FIRST, DEFINE, DEFINE, DEFINE],
         ),
@@ -212,7 +232,7 @@ fn no_read_behind_the_end(rt: HostRuntime) -> Result<(), Fail> {
         (b"\x50\x01\x00", 11),
         (b"\x50\x01\x20", 11),
         (b"\x51", 11),
-        (W1_REFUSED, 10),
+        (FIRST_REFUSED, 10),
     ];
     for (input, status) in rows {
         let count = u64::try_from(input.len()).unwrap_or(0);
@@ -240,13 +260,27 @@ fn failing_ends(rt: HostRuntime) -> Result<(), Fail> {
         &[FIRST, DEFINE, b"\x45\x00"],
     ];
     for (fails, output) in [1, 11, 21, 29].into_iter().zip(outputs) {
-        let ran = run(alloc, false, joined(alloc, &[W1, W2, D])?, 1, fails, 0)?;
+        let ran = run(
+            alloc,
+            false,
+            joined(alloc, &[WROTE_FIRST, WROTE_SECOND, DEFINED])?,
+            1,
+            fails,
+            0,
+        )?;
         assert_eq!(rt; ran.status, if fails == 29 { 0 } else { 6 });
         assert_eq!(rt; ran.sink.written(), joined(alloc, output)?.as_slice());
     }
     let written: [&[&[u8]]; 3] = [&[], &[FIRST], &[FIRST, DEFINE]];
     for (fails, output) in [1, 2, 3].into_iter().zip(written) {
-        let ran = run(alloc, false, joined(alloc, &[W1, W2, D])?, 100, 0, fails)?;
+        let ran = run(
+            alloc,
+            false,
+            joined(alloc, &[WROTE_FIRST, WROTE_SECOND, DEFINED])?,
+            100,
+            0,
+            fails,
+        )?;
         assert_eq!(rt; ran.status, 7);
         assert_eq!(rt; ran.sink.written(), joined(alloc, output)?.as_slice());
     }
@@ -293,7 +327,7 @@ fn four_million_frames(rt: HostRuntime) -> Result<(), Fail> {
         (3_999_999, &[b"\x51"], 11, &[FIRST, b"\x45\x0B"]),
         (
             3_999_997,
-            &[W1, W2, D, b"\x51"],
+            &[WROTE_FIRST, WROTE_SECOND, DEFINED, b"\x51"],
             0,
             &[FIRST, DEFINE, b"\x45\x00"],
         ),
