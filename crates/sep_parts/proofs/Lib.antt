@@ -17,3 +17,4 @@ pub mod Standing
 pub mod Lifts
 pub mod Positions
 pub mod Weighted
+pub mod Rulers

@@ -1,0 +1,24 @@
+use Rattle.std.proofs.Common.{◌<◌, length, sym}
+use Rattle.sep_parts.proofs.Parts.{level_small}
+use Rattle.sep_parts.proofs.Rulers.{positive, small, none_low}
+use Rattle.sep_parts.proofs.ruler.Ruler.separates.Goals as goal
+
+pub separates-requires-clause-values : goal.separates-requires-clause-values
+separates-requires-clause-values g c = level_small c.args.diff.now c.args.level.now c.requires.level c.requires.values
+
+pub separates-requires-clause-positive : goal.separates-requires-clause-positive
+separates-requires-clause-positive g c =
+    let dir : c.args.dir < length c.self.inside.directions.n = rw (sym c.self.view_is) at c.requires.dir in
+    rw c.as_slice-thresholds.ensures (positive c.self.inside.directions.n c.self.inside.thresholds c.self.inside.r c.self.inside.h c.args.dir c.self.invariant dir)
+
+pub separates-requires-clause-small : goal.separates-requires-clause-small
+separates-requires-clause-small g c =
+    let dir : c.args.dir < length c.self.inside.directions.n = rw (sym c.self.view_is) at c.requires.dir in
+    rw c.as_slice-thresholds.ensures (small c.self.inside.directions.n c.self.inside.thresholds c.self.inside.r c.self.inside.h c.args.dir c.self.invariant dir)
+
+pub returns : goal.returns
+returns g c =
+    let dir : c.args.dir < length c.self.inside.directions.n = rw (sym c.self.view_is) at c.requires.dir in
+    rw (sym c.self.view_is)
+    (none_low c.self.inside.directions.n c.self.inside.thresholds c.self.inside.r c.self.inside.h c.args.dir c.self.invariant dir c.args.diff.now c.args.level.now c.separates.result c.requires.level
+    (rw (c.as_slice-thresholds.ensures, c.as_slice-directions.ensures) at c.separates.ensures))

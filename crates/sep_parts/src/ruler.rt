@@ -1,0 +1,100 @@
+//! A table of directions with the threshold of each.
+
+ghost use Rattle.std.specs.Prelude.{◌≡◌, ◌^◌, ◌<◌, ◌≤◌, length, All, is_none};
+ghost use Rattle.fleet_math.specs.Numbers.{IsBelow};
+ghost use Rattle.sep_parts.specs.Directions.{AreSmall, IsAxis, IsTableSize, direction_of};
+ghost use Rattle.sep_parts.specs.Levels.{IsLevel};
+ghost use Rattle.sep_parts.specs.Separates.{low_value};
+
+use crate::directions::{Dirs, thresholds};
+use crate::part::{low_control, separates};
+use crate::stack::Level;
+use bezier_core::Bez;
+use std::marker::Model;
+
+/// A table of directions with the threshold of each, for ellipsoids of half axes `r`, `r` and `h` in millimetres. Contracts see
+/// the directions and the half axes, which determine the thresholds.
+#[derive(Drop)]
+pub struct Ruler<const M: usize> {
+    directions: Dirs<M>,
+    thresholds: [i128; M],
+    r: u16,
+    h: u16,
+}
+
+impl<const M: usize> Model for Ruler<M> {
+    ghost use Rattle.sep_parts.specs.Rulers.{Measure, IsRuler};
+
+    ghost Value = { Measure };
+
+    ghost view = { λ s. record { directions = s.directions.n; r = s.r; h = s.h } };
+
+    ghost invariant = { λ s. IsRuler s.directions.n s.thresholds s.r s.h };
+}
+
+impl<const M: usize> Ruler<M> {
+    /// The ruler of a table for half axes of 1 to 2,000 mm. Working the thresholds out takes longer than most searches, so it is
+    /// made once for all pairs and cues.
+    pub fn make(directions: &Dirs<M>, r: u16, h: u16) -> Ruler<M>
+        requires size { IsTableSize M }
+        requires entries { All AreSmall directions.now.n }
+        requires r { IsAxis r }
+        requires h { IsAxis h }
+        ensures { result ≡ record { directions = directions.now.n; r = r; h = h } }
+    {
+        Ruler {
+            directions: *directions,
+            thresholds: thresholds(directions, r, h),
+            r,
+            h,
+        }
+    }
+
+    /// How many directions the table has.
+    pub fn count(&self) -> usize
+        ensures exact { result ≡ length self.now.directions }
+        ensures few { result ≤ 98 }
+    {
+        self.directions.n.as_slice().len()
+    }
+
+    /// Whether the direction with the number `dir` separates a part of the differences `diff` of raised curves: whether along it no
+    /// control value of the part is below the threshold.
+    pub fn separates(&self, diff: &[Bez<8>; 3], level: &Level, dir: usize) -> bool
+        requires values { All (λ curve. All (IsBelow (2 ^ 30)) curve.b) diff.now }
+        requires level { IsLevel diff.now level.now }
+        requires dir { dir < length self.now.directions }
+        ensures { result ≡ is_none (low_value self.now.r self.now.h diff.now level.now.place (direction_of self.now.directions dir)) }
+    {
+        let directions = self.directions.n.as_slice();
+        let thresholds = self.thresholds.as_slice();
+        separates(
+            &level.part,
+            directions[dir],
+            self.r,
+            self.h,
+            thresholds[dir],
+            level.place.depth,
+        )
+    }
+
+    /// The place, 0 to 7, of the first control value of a part that is below the threshold along the direction with the number
+    /// `dir`; none where the direction separates the part. `diff` are the differences of raised curves whose part it is.
+    pub fn low_control(&self, diff: &[Bez<8>; 3], level: &Level, dir: usize) -> Option<usize>
+        requires values { All (λ curve. All (IsBelow (2 ^ 30)) curve.b) diff.now }
+        requires level { IsLevel diff.now level.now }
+        requires dir { dir < length self.now.directions }
+        ensures { result ≡ low_value self.now.r self.now.h diff.now level.now.place (direction_of self.now.directions dir) }
+    {
+        let directions = self.directions.n.as_slice();
+        let thresholds = self.thresholds.as_slice();
+        low_control(
+            &level.part,
+            directions[dir],
+            self.r,
+            self.h,
+            thresholds[dir],
+            level.place.depth,
+        )
+    }
+}
