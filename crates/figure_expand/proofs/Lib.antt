@@ -3,3 +3,4 @@ pub mod Unfit
 pub mod Curves
 pub mod Pieces
 pub mod Fitting
+pub mod Axes

@@ -1,5 +1,5 @@
 -- The pieces of a grid, and the first value that no trajectory can hold.
-use Rattle.std.specs.Prelude.{◌≡◌, ℕ, ◌+◌, Bool, ◌==◌, List, [], ◌∷◌, ◌++◌, Option, Some, None, ℤ, slice_index_or, if◌then◌else◌}
+use Rattle.std.specs.Prelude.{◌≡◌, ℕ, ◌+◌, ◌≤◌, Bool, ◌==◌, List, [], ◌∷◌, ◌++◌, Option, Some, None, ℤ, slice_index_or, if◌then◌else◌}
 use Rattle.choreo_lines.specs.declared.parts.Point.{Point}
 use Rattle.choreo_reader.specs.declared.show.DroneLine.{DroneLine}
 use Rattle.choreo_lines.specs.declared.parts.Act.TheVariants as act
@@ -117,3 +117,8 @@ range_fault g = first_unfit (values g)
 abbrev pub ExpandFails : ExpandFault → Grid → Type 0
 ExpandFails fault.Memory g = Unit {0}
 ExpandFails f g = range_fault g ≡ Some f
+
+-- The value of a refusal is on one of the axes 0 to 3: x, y, z and yaw.
+abbrev pub IsOnAnAxis : ExpandFault → Type 0
+IsOnAnAxis fault.Memory = Unit {0}
+IsOnAnAxis (fault.OutOfRange line axis value) = axis ≤ 3

@@ -7,7 +7,7 @@ ghost use Rattle.cue_grid.specs.Grids.{FitJobs, FitCues, IsGrid};
 ghost use Rattle.figure_expand.specs.Acts.{act_of, end_of};
 ghost use Rattle.figure_expand.specs.Controls.{piece_of};
 ghost use Rattle.figure_expand.specs.Bounds.{reach};
-ghost use Rattle.figure_expand.specs.Expanded.{job_in, pieces_from, expanded, range_fault, ExpandFails};
+ghost use Rattle.figure_expand.specs.Expanded.{job_in, pieces_from, expanded, range_fault, ExpandFails, IsOnAnAxis};
 
 use crate::acts::act_of;
 use crate::fault::ExpandFault;
@@ -75,13 +75,14 @@ fn all_pieces(alloc: Global, grid: &Grid) -> Result<Vec<Vec<MicroPiece>>, AllocE
 /// tenths of a degree, from where the drone is at the end of the cue before, or from its start (docs/LANGUAGE.md).
 ///
 /// `OutOfRange` names the first value that rounds outside two bytes, starts by drone and axis first, then cues, drones,
-/// axes and control points. `Memory` is want of memory.
-#[tactic(auto, using(crate::proofs::Unfit::fails_by))]
+/// axes and control points; its axis is one of 0 to 3, for x, y, z and yaw. `Memory` is out of memory.
+#[tactic(auto, using(crate::proofs::Unfit::fails_by, crate::proofs::Axes::axis_by))]
 pub fn expand(alloc: Global, grid: &Grid) -> Result<Vec<Vec<MicroPiece>>, ExpandFault>
     requires { IsGrid grid.now }
     ensures fits { IfOk result (λ rows. range_fault grid.now ≡ None) }
     ensures pieces { IfOk result (λ rows. map (λ row. row.items) rows.items ≡ expanded grid.now) }
     ensures fails { IfErr result (λ fault. ExpandFails fault grid.now) }
+    ensures axis { IfErr result (λ fault. IsOnAnAxis fault) }
 {
     let fault = match range_fault(alloc, grid) {
         Ok(fault) => fault,
