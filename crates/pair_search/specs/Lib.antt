@@ -1,3 +1,4 @@
 pub mod Search
 pub mod Steps
 pub mod Laws
+pub mod Fleets

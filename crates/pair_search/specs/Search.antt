@@ -6,6 +6,7 @@ use Rattle.std.specs.declared.alloc.AllocError.{AllocError}
 use Rattle.bezier_core.specs.declared.Bez.{Bez}
 use Rattle.halving.specs.declared.Place.{Place}
 use Rattle.sep_parts.specs.Directions.{direction_of}
+use Rattle.sep_parts.specs.Rulers.{Measure}
 use Rattle.sep_parts.specs.Separates.{Separates, low_value}
 use Rattle.sep_parts.specs.Levels.{left_half, right_half, root}
 use Rattle.sep_parts.specs.declared.node.Node.{Node}
@@ -21,6 +22,10 @@ place_at depth index = record { depth = depth; index = index }
 -- threshold.
 unfoldable pub first_direction : ℕ → ℕ → List (Bez 8) → List (List ℤ) → Place → Option ℕ
 first_direction r h diff dirs place = position (λ n. is_none (low_value r h diff place n)) dirs
+
+-- the same by a ruler
+abbrev pub first_by : Measure → List (Bez 8) → Place → Option ℕ
+first_by m diff = first_direction m.r m.h diff m.directions
 
 -- some direction of the table separates the place
 abbrev pub HasDirection : ℕ → ℕ → List (Bez 8) → List (List ℤ) → Place → Type 0

@@ -4,12 +4,18 @@ use Rattle.std.specs.Option.{option_map, option_or}
 use Rattle.std.specs.declared.alloc.AllocError.{AllocError}
 use Rattle.halving.specs.declared.Place.{Place}
 use Rattle.sep_parts.specs.Levels.{root}
+use Rattle.sep_parts.specs.Raised.{Raised}
+use Rattle.sep_parts.specs.Rulers.{Measure}
+use Rattle.sep_parts.specs.declared.slot.Slot.{Slot}
 use Rattle.sep_parts.specs.declared.node.Node.{Node}
 use Rattle.sep_parts.specs.declared.node.Node.TheVariants.{Split, Leaf}
 use Rattle.sep_parts.specs.Trees.{preorder}
 use Rattle.pair_search.specs.declared.walk.Found.{Found}
 use Rattle.pair_search.specs.declared.walk.Found.TheVariants.{Clear, Blocked}
+use Rattle.pair_search.specs.declared.fleet.SearchFault.{SearchFault}
+use Rattle.pair_search.specs.declared.fleet.SearchFault.TheVariants as fault
 use Rattle.pair_search.specs.Search.{best_tree, blocked_place}
+use Rattle.pair_search.specs.Fleets.{StopsBy, best_nodes, direction_at}
 
 -- The node of a place: a leaf with its first direction, else a split where the place is less deep than the greatest depth.
 abbrev pub node_for : (Place → Option ℕ) → ℕ → Place → Option Node
@@ -20,3 +26,12 @@ abbrev pub WalkGives : (Place → Option ℕ) → ℕ → Result Found AllocErro
 WalkGives first depth (Ok Clear) nodes = (blocked_place first depth ≡ None) × (option_map preorder (best_tree first depth root) ≡ Some nodes)
 WalkGives first depth (Ok (Blocked index)) nodes = blocked_place first depth ≡ Some index
 WalkGives first depth (Err e) nodes = Unit {0}
+
+-- the first part of a slot's cue, of this depth, that no direction separates
+abbrev pub blocked_slot : Measure → ℕ → Raised → Slot → Option SearchFault
+blocked_slot m depth curves slot = option_map (fault.Blocked slot) (blocked_place (direction_at m curves slot) depth)
+
+-- what is found at a slot: the nodes of its tree
+abbrev pub FindsTree : Measure → ℕ → Raised → Slot → List Node → Result (Unit {0}) SearchFault → Type 0
+FindsTree m depth curves slot nodes (Ok found) = (blocked_slot m depth curves slot ≡ None) × (nodes ≡ best_nodes m depth curves slot)
+FindsTree m depth curves slot nodes (Err f) = StopsBy (blocked_slot m depth curves slot) f

@@ -5,7 +5,7 @@ ghost use Rattle.fleet_math.specs.Numbers.{IsBelow};
 
 use super::*;
 use bezier_core::Bez;
-use sep_parts::{DIRECTIONS, Node, thresholds};
+use sep_parts::{DIRECTIONS, Node, Ruler};
 use std::alloc::{AllocError, Global};
 use std::test::Fail;
 
@@ -55,7 +55,7 @@ fn searched(
     Ok((found, nodes))
 }
 
-// The same with the thresholds worked out before.
+// The same with a ruler made before.
 fn searched_with(
     alloc: Global,
     x: [i16; 8],
@@ -66,9 +66,9 @@ fn searched_with(
     requires { depth ≤ 8 }
 {
     let diff = [raised(x), raised(y), raised(z)];
-    let least = thresholds(&DIRECTIONS, 120, 300);
+    let ruler = Ruler::make(&DIRECTIONS, 120, 300);
     let mut nodes = Vec::new(alloc);
-    let found = search_with(&diff, &DIRECTIONS, &least, 120, 300, depth, &mut nodes)?;
+    let found = search_with(&diff, &ruler, depth, &mut nodes)?;
     Ok((found, nodes))
 }
 
@@ -130,7 +130,7 @@ fn parts_by_parts(rt: HostRuntime) -> Result<(), Fail> {
 }
 
 #[test]
-fn thresholds_worked_out_before(rt: HostRuntime) -> Result<(), Fail> {
+fn a_ruler_made_before(rt: HostRuntime) -> Result<(), Fail> {
     let alloc = rt.alloc();
     let across = moved(1000, -1000);
     let (passed, nodes) = searched_with(alloc, across, [0; 8], [1000; 8], 6)?;

@@ -1,18 +1,18 @@
 //! The walk over the parts of a cue, the first half of a part before the second.
 
-ghost use Rattle.std.specs.Prelude.{◌≡◌, ℕ, ◌+◌, ◌^◌, ◌≤◌, ◌<◌, ◌∷◌, ◌++◌, [], length, map, All, IfOk, OnOk, ◌↔◌};
+ghost use Rattle.std.specs.Prelude.{◌≡◌, ℕ, ◌+◌, ◌^◌, ◌≤◌, ◌<◌, ◌∷◌, ◌++◌, [], length, All, IfOk, OnOk, ◌↔◌};
 ghost use Rattle.fleet_math.specs.Numbers.{IsBelow};
-ghost use Rattle.sep_parts.specs.Directions.{AreSmall, IsAxis, IsTableSize, threshold};
+ghost use Rattle.sep_parts.specs.Directions.{AreSmall, IsAxis, IsTableSize};
 ghost use Rattle.sep_parts.specs.Levels.{IsLevel, IsStack, places_of};
 ghost use Rattle.sep_parts.specs.Trees.{places_below, IsShallow};
-ghost use Rattle.pair_search.specs.Search.{IsClear, SearchGives, first_direction};
+ghost use Rattle.pair_search.specs.Search.{IsClear, SearchGives, first_by, first_direction};
 ghost use Rattle.pair_search.specs.Laws.{SearchLaw};
 ghost use Rattle.pair_search.specs.Steps.{WalkGives, node_for};
 
 use crate::first::first_direction;
 use bezier_core::Bez;
 use halving::Place;
-use sep_parts::{Dirs, Level, Node, Rules, Stack, thresholds};
+use sep_parts::{Dirs, Level, Node, Ruler, Stack};
 use std::alloc::AllocError;
 
 /// What a search found.
@@ -50,34 +50,26 @@ pub fn search<const M: usize>(
     ensures exact { SearchGives (first_direction r h diff.now dirs.now.n) depth result nodes.new.items }
     ensures clear { IfOk result (λ found. (found ≡ Found.Clear) ↔ IsClear r h diff.now dirs.now.n depth) }
 {
-    search_with(diff, dirs, &thresholds(dirs, r, h), r, h, depth, nodes)
+    search_with(diff, &Ruler::make(dirs, r, h), depth, nodes)
 }
 
-/// As [`search`], with the thresholds of the directions worked out before: for who searches many pairs and cues, since working
-/// them out takes longer than most searches.
+/// As [`search`], with a ruler made before: for who searches many pairs and cues, since working the thresholds out takes longer
+/// than most searches.
 pub fn search_with<const M: usize>(
     diff: &[Bez<8>; 3],
-    dirs: &Dirs<M>,
-    thresholds: &[i128; M],
-    r: u16,
-    h: u16,
+    ruler: &Ruler<M>,
     depth: u8,
     nodes: &mut Vec<Node>,
 ) -> Result<Found, AllocError>
     requires depth { depth ≤ 8 }
-    requires r { IsAxis r }
-    requires h { IsAxis h }
     requires empty { nodes.old.items ≡ [] }
-    requires size { IsTableSize M }
-    requires entries { All AreSmall dirs.now.n }
-    requires thresholds { thresholds.now ≡ map (threshold r h) dirs.now.n }
     requires values { All (λ curve. All (IsBelow (2 ^ 30)) curve.b) diff.now }
-    ensures exact { SearchGives (first_direction r h diff.now dirs.now.n) depth result nodes.new.items }
-    ensures clear { IfOk result (λ found. (found ≡ Found.Clear) ↔ IsClear r h diff.now dirs.now.n depth) }
+    ensures exact { SearchGives (first_by ruler.now diff.now) depth result nodes.new.items }
+    ensures clear { IfOk result (λ found.
+        (found ≡ Found.Clear) ↔ IsClear ruler.now.r ruler.now.h diff.now ruler.now.directions depth) }
 {
     sizes_law(diff);
-    let rules = Rules { r, h, depth };
-    let answer = walk(diff, rules, &dirs.n, thresholds, nodes);
+    let answer = walk(diff, ruler, depth, nodes);
     if !matches!(answer, Ok(Found::Clear)) {
         nodes.clear();
     }
@@ -85,30 +77,24 @@ pub fn search_with<const M: usize>(
 }
 
 // The nodes of the parts in preorder, up to the first part that is blocked.
-fn walk(
+fn walk<const M: usize>(
     diff: &[Bez<8>; 3],
-    rules: Rules,
-    dirs: &[[i8; 3]],
-    thresholds: &[i128],
+    ruler: &Ruler<M>,
+    depth: u8,
     nodes: &mut Vec<Node>,
 ) -> Result<Found, AllocError>
     requires empty { nodes.old.items ≡ [] }
-    requires depth { rules.depth ≤ 8 }
-    requires r { IsAxis rules.r }
-    requires h { IsAxis rules.h }
-    requires few { length dirs.now ≤ 98 }
-    requires entries { All AreSmall dirs.now }
-    requires thresholds { thresholds.now ≡ map (threshold rules.r rules.h) dirs.now }
+    requires depth { depth ≤ 8 }
     requires sizes { All (λ curve. length curve.b ≡ 8) diff.now }
     requires values { All (λ curve. All (IsBelow (2 ^ 30)) curve.b) diff.now }
-    ensures { WalkGives (first_direction rules.r rules.h diff.now dirs.now) rules.depth result nodes.new.items }
+    ensures { WalkGives (first_by ruler.now diff.now) depth result nodes.new.items }
 {
     let mut stack = Stack::of(Level {
         place: Place { depth: 0, index: 0 },
         part: *diff,
     });
     while let Some(level) = stack.pop() {
-        match node_for(diff, &level, rules, dirs, thresholds) {
+        match node_for(diff, &level, ruler, depth) {
             Some(node) => put(diff, &mut stack, nodes, &level, node)?,
             None => {
                 return Ok(Found::Blocked {
@@ -121,25 +107,19 @@ fn walk(
 }
 
 // The node of a part: a leaf where a direction separates it, else a split above the greatest depth.
-fn node_for(
+fn node_for<const M: usize>(
     diff: &[Bez<8>; 3],
     level: &Level,
-    rules: Rules,
-    dirs: &[[i8; 3]],
-    thresholds: &[i128],
+    ruler: &Ruler<M>,
+    depth: u8,
 ) -> Option<Node>
     requires level { IsLevel diff.now level.now }
-    requires r { IsAxis rules.r }
-    requires h { IsAxis rules.h }
-    requires few { length dirs.now ≤ 98 }
-    requires entries { All AreSmall dirs.now }
-    requires thresholds { thresholds.now ≡ map (threshold rules.r rules.h) dirs.now }
     requires values { All (λ curve. All (IsBelow (2 ^ 30)) curve.b) diff.now }
-    ensures { result ≡ node_for (first_direction rules.r rules.h diff.now dirs.now) rules.depth level.now.place }
+    ensures { result ≡ node_for (first_by ruler.now diff.now) depth level.now.place }
 {
-    match first_direction(diff, level, rules.r, rules.h, dirs, thresholds) {
+    match first_direction(diff, level, ruler) {
         Some(dir) => Some(Node::Leaf { dir }),
-        None if level.place.depth < rules.depth => Some(Node::Split),
+        None if level.place.depth < depth => Some(Node::Split),
         None => None,
     }
 }

@@ -2,37 +2,37 @@ use Rattle.std.proofs.Common.{sym, ◌∙◌, subst, List, ◌∷◌}
 use Rattle.sep_parts.specs.declared.stack.Level.{Level}
 use Rattle.sep_parts.specs.Levels.{IsStack}
 use Rattle.sep_parts.proofs.Stacks.{first_stack}
-use Rattle.pair_search.specs.Search.{first_direction}
+use Rattle.pair_search.specs.Search.{first_by}
 use Rattle.pair_search.proofs.Halves.{left_has, right_has}
 use Rattle.pair_search.proofs.Trees.{begun, less_pending, past_pending, blocked_pending, ended_pending}
 use Rattle.pair_search.proofs.walk.walk.Goals as goal
 
 pub loop-level-init : goal.loop-level-init
-loop-level-init c = record {
+loop-level-init g c = record {
   stack = first_stack c.args.diff.now c.of-stack.result c.told-diff c.requires.sizes c.of-stack.ensures;
-  walk = rw (c.of-stack.ensures, c.requires.empty) (begun (first_direction c.args.rules.r c.args.rules.h c.args.diff.now c.args.dirs.now) c.args.rules.depth);
+  walk = rw (c.of-stack.ensures, c.requires.empty) (begun (first_by c.args.ruler.now c.args.diff.now) c.args.depth);
 }
 
 pub loop-level-smaller : goal.loop-level-smaller
-loop-level-smaller c =
-    less_pending (first_direction c.args.rules.r c.args.rules.h c.args.diff.now c.args.dirs.now) c.args.rules.depth c.loop-level.stack c.pop.new.self c.put.new.stack c.in-Some.level c.in-Some-node_for.node
+loop-level-smaller g c =
+    less_pending (first_by c.args.ruler.now c.args.diff.now) c.args.depth c.loop-level.stack c.pop.new.self c.put.new.stack c.in-Some.level c.in-Some-node_for.node
     c.in-Some.ensures (sym c.node_for.ensures ∙ c.in-Some-node_for.is) c.in_ok-put-in-Some-node_for.ensures.places
 
 pub loop-level-preserved : goal.loop-level-preserved
-loop-level-preserved c = record {
+loop-level-preserved g c = record {
   stack = c.in_ok-put-in-Some-node_for.ensures.stack;
-  walk = past_pending (first_direction c.args.rules.r c.args.rules.h c.args.diff.now c.args.dirs.now) c.args.rules.depth
-      (left_has c.args.rules.r c.args.rules.h c.args.diff.now c.args.dirs.now) (right_has c.args.rules.r c.args.rules.h c.args.diff.now c.args.dirs.now)
+  walk = past_pending (first_by c.args.ruler.now c.args.diff.now) c.args.depth
+      (left_has c.args.ruler.now.r c.args.ruler.now.h c.args.diff.now c.args.ruler.now.directions) (right_has c.args.ruler.now.r c.args.ruler.now.h c.args.diff.now c.args.ruler.now.directions)
       c.loop-level.stack c.pop.new.self c.put.new.stack c.in-Some.level c.loop-level.nodes.items c.put.new.nodes.items c.in-Some-node_for.node
       c.in-Some.ensures (sym c.node_for.ensures ∙ c.in-Some-node_for.is) c.in_ok-put-in-Some-node_for.ensures.places c.in_ok-put-in-Some-node_for.ensures.nodes c.loop-level.invariant.walk;
 }
 
 pub returns-in-None : goal.returns-in-None
-returns-in-None c =
+returns-in-None g c =
     let stack : IsStack c.args.diff.now (c.in-Some.level ∷ c.pop.new.self) = subst (λ (s : List Level). IsStack c.args.diff.now s) c.in-Some.ensures c.loop-level.invariant.stack in
-    blocked_pending (first_direction c.args.rules.r c.args.rules.h c.args.diff.now c.args.dirs.now) c.args.rules.depth c.loop-level.stack c.pop.new.self c.in-Some.level c.loop-level.nodes.items
+    blocked_pending (first_by c.args.ruler.now c.args.diff.now) c.args.depth c.loop-level.stack c.pop.new.self c.in-Some.level c.loop-level.nodes.items
     c.in-Some.ensures stack.1.place.1 (sym c.node_for.ensures ∙ c.in-None.is) c.loop-level.invariant.walk
 
 pub returns : goal.returns
-returns c =
-    ended_pending (first_direction c.args.rules.r c.args.rules.h c.args.diff.now c.args.dirs.now) c.args.rules.depth c.loop-level.stack c.loop-level.nodes.items c.in_default.ensures.0 c.loop-level.invariant.walk
+returns g c =
+    ended_pending (first_by c.args.ruler.now c.args.diff.now) c.args.depth c.loop-level.stack c.loop-level.nodes.items c.in_default.ensures.0 c.loop-level.invariant.walk

@@ -1,13 +1,13 @@
 use Rattle.sep_parts.specs.Levels.{IsStack, places_of}
-use Rattle.pair_search.specs.Search.{first_direction}
+use Rattle.pair_search.specs.Search.{first_by}
 use Rattle.pair_search.proofs.Trees.{IsWalk, work}
 use Rattle.pair_search.proofs.walk.walk.Given as goal
 
 abbrev pub invariant-loop-level : goal.invariant-loop-level
-invariant-loop-level l = record {
+invariant-loop-level g l = record {
   stack : IsStack l.diff l.stack;
-  walk : IsWalk (first_direction l.rules.r l.rules.h l.diff l.dirs) l.rules.depth (places_of l.stack) l.nodes.items;
+  walk : IsWalk (first_by l.ruler l.diff) l.depth (places_of l.stack) l.nodes.items;
 }
 
 abbrev pub decreases-loop-level : goal.decreases-loop-level
-decreases-loop-level l = work l.rules.depth (places_of l.stack)
+decreases-loop-level g l = work l.depth (places_of l.stack)

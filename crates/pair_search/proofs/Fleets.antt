@@ -1,0 +1,136 @@
+-- The walk over the slots of a fleet: what is found at one of them, and what has been found of those before it.
+use Rattle.std.proofs.Common.{◌≡◌, ℕ, ◌+◌, ◌-◌, ◌*◌, ◌^◌, ◌<◌, ◌≤◌, arith, length, refl, sym, ◌∙◌, ap, subst, List, [], ◌∷◌, ◌++◌, append_assoc, map, Option, Some, None, Ok}
+use Rattle.std.specs.Option.{option_map, option_or}
+use Rattle.std.proofs.lemmas.List.Sums.{sum_by-cons}
+use Rattle.bezier_core.specs.declared.Bez.{Bez}
+use Rattle.halving.specs.declared.Place.{Place}
+use Rattle.sep_parts.specs.declared.slot.Slot.{Slot}
+use Rattle.sep_parts.specs.Raised.{Raised, difference}
+use Rattle.sep_parts.specs.Rulers.{Measure}
+use Rattle.sep_parts.specs.Slots.{following, slots}
+use Rattle.sep_parts.specs.declared.node.Node.{Node}
+use Rattle.sep_parts.specs.Trees.{Tree, preorder}
+use Rattle.sep_parts.proofs.Orders.{IsAhead, next_ahead, some_ahead}
+use Rattle.pair_search.specs.declared.fleet.SearchFault.{SearchFault}
+use Rattle.pair_search.specs.declared.fleet.SearchFault.TheVariants as fault
+use Rattle.pair_search.specs.declared.walk.Found.{Found}
+use Rattle.pair_search.specs.declared.walk.Found.TheVariants as found
+use Rattle.pair_search.specs.Search.{SearchGives, first_by}
+use Rattle.pair_search.specs.Fleets.{StopsBy, best_nodes, blocked_in, direction_at, nodes_in, nodes_of}
+use Rattle.pair_search.specs.Steps.{blocked_slot}
+use Rattle.pair_search.proofs.Counted.{nodes_fit}
+
+-- ---- one slot
+
+-- the first directions of a slot are those by its differences
+direction_is : (m : Measure) (curves : Raised) (slot : Slot) (diff : List (Bez 8)) → diff ≡ difference curves slot.a slot.b slot.cue →
+    first_by m diff ≡ direction_at m curves slot
+unfolding direction_at
+direction_is m curves slot diff is = ap (λ (d : List (Bez 8)). first_by m d) is
+
+tree_nodes : (o : Option Tree) (nodes : List Node) → option_map preorder o ≡ Some nodes → nodes ≡ nodes_of o
+tree_nodes None nodes is = absurd (cc)
+tree_nodes (Some tree) nodes is = cc
+
+module _ (m : Measure) (depth : ℕ) (curves : Raised) (slot : Slot) (diff : List (Bez 8)) (is : diff ≡ difference curves slot.a slot.b slot.cue) where
+  -- what a search of the slot's differences gives, by its first directions
+  searched_slot : (answer given : Found) (nodes : List Node) → answer ≡ given → SearchGives (first_by m diff) depth (Ok answer) nodes →
+      SearchGives (direction_at m curves slot) depth (Ok given) nodes
+  searched_slot answer given nodes same gives =
+      subst (λ (first : Place → Option ℕ). SearchGives first depth (Ok given) nodes) (direction_is m curves slot diff is)
+      (subst (λ (a : Found). SearchGives (first_by m diff) depth (Ok a) nodes) same gives)
+
+  -- a search that finds a tree
+  pub clear_found : (answer : Found) (nodes : List Node) → answer ≡ found.Clear → SearchGives (first_by m diff) depth (Ok answer) nodes →
+      (blocked_slot m depth curves slot ≡ None) × (nodes ≡ best_nodes m depth curves slot)
+  clear_found answer nodes clear gives =
+      let here = searched_slot answer found.Clear nodes clear gives in
+      (ap (option_map (fault.Blocked slot)) here.0, tree_nodes _ nodes here.1)
+
+  -- a search that finds a part without a direction
+  pub blocked_found : (answer : Found) (index : ℕ) (nodes : List Node) → answer ≡ found.Blocked index → SearchGives (first_by m diff) depth (Ok answer) nodes →
+      blocked_slot m depth curves slot ≡ Some (fault.Blocked slot index)
+  blocked_found answer index nodes blocked gives =
+      let here = searched_slot answer (found.Blocked index) nodes blocked gives in
+      ap (option_map (fault.Blocked slot)) here.0
+
+-- ---- the walk
+
+-- at most so many slots are still to come
+abbrev pub left : Slot → ℕ
+left s = (32 - s.a) * 33033 + ((33 - s.b) * 1001 + (1000 - s.cue))
+
+module _ (m : Measure) (depth : ℕ) (curves : Raised) where
+  -- past a slot that isn't blocked
+  pub clear_next : (rest next : List Slot) (slot : Slot) (whole : Option SearchFault) → rest ≡ slot ∷ next → blocked_slot m depth curves slot ≡ None → blocked_in fault.Blocked m depth curves rest ≡ whole →
+      blocked_in fault.Blocked m depth curves next ≡ whole
+  clear_next rest next slot whole is clear same =
+      sym (ap (λ (o : Option SearchFault). option_or o (blocked_in fault.Blocked m depth curves next)) clear) ∙ sym (ap (blocked_in fault.Blocked m depth curves) is) ∙ same
+
+  -- its tree behind those before it
+  pub tree_next : (rest next : List Slot) (slot : Slot) (trees more whole : List (List Node)) (nodes : List Node) → rest ≡ slot ∷ next → more ≡ trees ++ nodes ∷ [] →
+      nodes ≡ best_nodes m depth curves slot → trees ++ map (best_nodes m depth curves) rest ≡ whole → more ++ map (best_nodes m depth curves) next ≡ whole
+  tree_next rest next slot trees more whole nodes is more_is nodes_is same =
+      let later : List (List Node) = map (best_nodes m depth curves) next in
+      ap (λ (items : List (List Node)). items ++ later) more_is
+      ∙ append_assoc trees (nodes ∷ []) later
+      ∙ ap (λ (here : List Node). trees ++ here ∷ later) nodes_is
+      ∙ sym (ap (λ (slots : List Slot). trees ++ map (best_nodes m depth curves) slots) is)
+      ∙ same
+
+  -- its nodes counted with those before it
+  pub count_next : (rest next : List Slot) (slot : Slot) (count more whole : ℕ) (nodes : List Node) → rest ≡ slot ∷ next → nodes ≡ best_nodes m depth curves slot →
+      more ≡ count + length nodes → count + nodes_in m depth curves rest ≡ whole → more + nodes_in m depth curves next ≡ whole
+  count_next rest next slot count more whole nodes is nodes_is more_is same =
+      let one : nodes_in m depth curves (slot ∷ next) ≡ length (best_nodes m depth curves slot) + nodes_in m depth curves next = sum_by-cons (λ (n : ℕ). n) (length (best_nodes m depth curves slot)) (map length (map (best_nodes m depth curves) next)) in
+      omega (arith, one, ap (nodes_in m depth curves) is, ap (λ (ns : List Node). length ns) nodes_is, more_is, same)
+
+  -- a slot that is blocked is the first one that is
+  pub blocked_next : (rest next : List Slot) (slot : Slot) (whole : Option SearchFault) (f : SearchFault) → rest ≡ slot ∷ next →
+      StopsBy (blocked_slot m depth curves slot) f → blocked_in fault.Blocked m depth curves rest ≡ whole → StopsBy whole f
+  blocked_next rest next slot whole (fault.Blocked at index) is finds same =
+      sym same ∙ ap (blocked_in fault.Blocked m depth curves) is ∙ ap (λ (o : Option SearchFault). option_or o (blocked_in fault.Blocked m depth curves next)) finds
+  blocked_next rest next slot whole fault.Memory is finds same = tt
+
+-- ---- both walks, step by step
+
+-- These slots are still to come, and the first blocked part of a fleet is theirs.
+pub record IsPending (m : Measure) (depth : ℕ) (curves : Raised) (slot : Slot) (rest : List Slot) : Type 0 where
+  pub ahead : IsAhead curves.drones curves.cues slot rest
+  pub blocked : blocked_in fault.Blocked m depth curves rest ≡ blocked_in fault.Blocked m depth curves (slots curves.drones curves.cues)
+
+-- what is pending past a slot whose tree was found
+pub record IsPast (m : Measure) (depth : ℕ) (curves : Raised) (slot after : Slot) (rest : List Slot) : Type 0 where
+  pub next : List Slot
+  pub is : rest ≡ slot ∷ next
+  pub pending : IsPending m depth curves after next
+
+pub past : (m : Measure) (depth : ℕ) (curves : Raised) (slot after : Slot) (rest : List Slot) (drones cues : ℕ) → slot.b < curves.drones → blocked_slot m depth curves slot ≡ None →
+    after ≡ following drones cues slot → drones ≡ curves.drones → cues ≡ curves.cues → IsPending m depth curves slot rest → IsPast m depth curves slot after rest
+past m depth curves slot after rest drones cues here clear after_is drones_are cues_are pending =
+    let next = next_ahead curves.drones curves.cues slot rest (some_ahead curves.drones curves.cues slot rest here pending.ahead) in
+    let is : after ≡ following curves.drones curves.cues slot =
+    after_is ∙ ap (λ (n : ℕ). following n cues slot) drones_are ∙ ap (λ (n : ℕ). following curves.drones n slot) cues_are in
+    record {
+      next = next.0;
+      is = next.1;
+      pending = record {
+        ahead = subst (λ (s : Slot). IsAhead curves.drones curves.cues s next.0) (sym is) next.2;
+        blocked = clear_next m depth curves rest next.0 slot _ next.1 clear pending.blocked;
+      };
+    }
+
+-- a slot that is blocked stops the walk
+pub stopped : (m : Measure) (depth : ℕ) (curves : Raised) (slot : Slot) (rest : List Slot) (f : SearchFault) → slot.b < curves.drones →
+    StopsBy (blocked_slot m depth curves slot) f → IsPending m depth curves slot rest → StopsBy (blocked_in fault.Blocked m depth curves (slots curves.drones curves.cues)) f
+stopped m depth curves slot rest f here found pending =
+    let next = next_ahead curves.drones curves.cues slot rest (some_ahead curves.drones curves.cues slot rest here pending.ahead) in
+    blocked_next m depth curves rest next.0 slot _ f next.1 found pending.blocked
+
+-- the nodes so far and those of this slot's tree are few
+pub count_fits : (m : Measure) (depth : ℕ) (curves : Raised) (slot : Slot) (rest : List Slot) (count : ℕ) (nodes : List Node) → depth ≤ 8 → curves.drones ≤ 32 → curves.cues ≤ 1000 → slot.b < curves.drones →
+    nodes ≡ best_nodes m depth curves slot → count + nodes_in m depth curves rest ≡ nodes_in m depth curves (slots curves.drones curves.cues) → IsPending m depth curves slot rest → count + length nodes < 2 ^ 32
+count_fits m depth curves slot rest count nodes shallow drones cues here nodes_is same pending =
+    let next = next_ahead curves.drones curves.cues slot rest (some_ahead curves.drones curves.cues slot rest here pending.ahead) in
+    let counted = count_next m depth curves rest next.0 slot count (count + length nodes) _ nodes next.1 nodes_is refl same in
+    omega (arith, counted, nodes_fit m depth curves shallow curves.drones curves.cues drones cues)

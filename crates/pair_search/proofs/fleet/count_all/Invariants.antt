@@ -1,0 +1,15 @@
+use Rattle.std.proofs.Common.{◌≡◌, ◌+◌, List, []}
+use Rattle.sep_parts.specs.declared.slot.Slot.{Slot}
+use Rattle.pair_search.specs.Fleets.{nodes_in, slots_in}
+use Rattle.pair_search.proofs.Fleets.{IsPending, left}
+use Rattle.pair_search.proofs.fleet.count_all.Given as goal
+
+-- the slots so far aren't blocked, and their nodes are counted; no node is kept
+abbrev pub invariant-loop-slot : goal.invariant-loop-slot
+invariant-loop-slot g l =
+    (rest : List Slot) × IsPending l.ruler l.depth l.curves l.slot rest
+    × (l.count + nodes_in l.ruler l.depth l.curves rest ≡ nodes_in l.ruler l.depth l.curves (slots_in l.curves))
+    × (l.nodes.items ≡ [])
+
+abbrev pub decreases-loop-slot : goal.decreases-loop-slot
+decreases-loop-slot g l = left l.slot

@@ -1,0 +1,30 @@
+use Rattle.std.proofs.Common.{refl, ◌∙◌, arith}
+use Rattle.std.proofs.lemmas.Result.{err_from_is_err_and}
+use Rattle.sep_parts.proofs.Orders.{first_ahead}
+use Rattle.pair_search.specs.Fleets.{slots_in}
+use Rattle.pair_search.proofs.Fleets.{past, stopped, tree_next}
+use Rattle.pair_search.proofs.fleet.search_all.Goals as goal
+
+pub loop-alloc-init : goal.loop-alloc-init
+loop-alloc-init g c = (
+  slots_in c.args.curves.now,
+  record { ahead = rw c.first-slot.ensures (first_ahead c.args.curves.now.drones c.args.curves.now.cues (omega arith) (omega arith)); blocked = refl },
+  rw c.new-trees.ensures.items refl,
+)
+
+pub returns-in_err-tree_of : goal.returns-in_err-tree_of
+returns-in_err-tree_of g c =
+    let p = err_from_is_err_and c.from_residual.result c.from_residual.ensures.1 in
+    rw (p.1, p.2)
+    (stopped c.args.ruler.now c.args.depth c.args.curves.now c.loop-alloc.slot c.loop-alloc.invariant.0 c.in_err-tree_of.field-0.0 (omega arith) c.in_err-tree_of.ensures c.loop-alloc.invariant.1)
+
+pub loop-alloc-preserved : goal.loop-alloc-preserved
+loop-alloc-preserved g c =
+    let on =
+    past c.args.ruler.now c.args.depth c.args.curves.now c.loop-alloc.slot c.next-slot.result c.loop-alloc.invariant.0 c.drones-drones.result c.cues-cues.result (omega arith) c.in_ok-tree_of.ensures.0
+    c.next-slot.ensures c.drones-drones.ensures.exact c.cues-cues.ensures.exact c.loop-alloc.invariant.1 in (
+      on.next,
+      on.pending,
+      tree_next c.args.ruler.now c.args.depth c.args.curves.now c.loop-alloc.invariant.0 on.next c.loop-alloc.slot c.loop-alloc.trees.items c.push.new.self.items _ c.from_vec.result
+          on.is c.in-Ok.ensures.items (c.from_vec.ensures ∙ c.in_ok-tree_of.ensures.1) c.loop-alloc.invariant.2,
+    )
