@@ -32,11 +32,11 @@ use Rattle.cue_grid.specs.declared.grid.Grid.{Grid}
 
 -- What no fault says.
 
-neither : (a b : Option GridFault) → or_else a b ≡ None → (a ≡ None) × (b ≡ None)
+pub neither : (a b : Option GridFault) → or_else a b ≡ None → (a ≡ None) × (b ≡ None)
 neither None b h = (refl, h)
 neither (Some f) b h = cc
 
-both_empty : (xs ys : List GridFault) → xs ++ ys ≡ [] → (xs ≡ []) × (ys ≡ [])
+pub both_empty : (xs ys : List GridFault) → xs ++ ys ≡ [] → (xs ≡ []) × (ys ≡ [])
 both_empty [] ys h = (refl, h)
 both_empty (x ∷ xs) ys h = cc
 
@@ -48,7 +48,7 @@ earlier_some : (f : GridFault) (o : Option GridFault) → earlier_of (Some f) o 
 earlier_some f None h = cc
 earlier_some f (Some g) h = chosen (nat_lt (line_of g) (line_of f)) f g h
 
-no_earliest : (fs : List GridFault) → earliest fs ≡ None → fs ≡ []
+pub no_earliest : (fs : List GridFault) → earliest fs ≡ None → fs ≡ []
 no_earliest [] h = refl
 no_earliest (f ∷ fs) h = absurd (earlier_some f (earliest fs) h)
 

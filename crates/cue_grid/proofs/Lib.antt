@@ -7,3 +7,4 @@ pub mod Tables
 pub mod Numbering
 pub mod Marking
 pub mod Fits
+pub mod Distinct

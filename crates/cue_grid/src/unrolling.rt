@@ -1,11 +1,12 @@
 //! The cues of a show in order, or its first fault.
 
-ghost use Rattle.std.specs.Prelude.{◌≡◌, IfOk};
+ghost use Rattle.std.specs.Prelude.{◌≡◌, false, IfOk};
 ghost use Rattle.std.specs.List.{All};
 ghost use Rattle.choreo_reader.specs.Plain.{plain, body_of};
 ghost use Rattle.choreo_reader.specs.Valid.{IsName, IsValid};
 ghost use Rattle.cue_grid.specs.Faults.{no_drone, many_drones, no_cue, many_cues, or_else, grid_fault};
 ghost use Rattle.cue_grid.specs.Counts.{over_at};
+ghost use Rattle.cue_grid.specs.Names.{has_double, names_of};
 ghost use Rattle.cue_grid.specs.Shown.{shown};
 ghost use Rattle.cue_grid.specs.Unrolled.{GridGives};
 ghost use Rattle.cue_grid.specs.Grids.{IsGrid};
@@ -20,12 +21,14 @@ use choreo_reader::{DroneLine, Listed, Show};
 use std::alloc::{AllocError, Global};
 
 /// The cues of a show in order, repeats written out and figures played by their drones, or its first fault. A drone
-/// without an act in a cue holds. What is answered is a valid grid, whose starts have names as the language has them.
+/// without an act in a cue holds. What is returned is a valid grid, whose starts have names as the language has them, no two of
+/// them the same.
 pub fn unroll(alloc: Global, show: &Show) -> Result<Grid, GridFault>
     requires { IsValid (plain show.now) }
     ensures gives { GridGives result (plain show.now) }
     ensures valid { IfOk result (λ g. IsGrid g) }
     ensures names { IfOk result (λ g. All (λ (s : DroneLine). IsName s.name) g.starts) }
+    ensures distinct { IfOk result (λ g. has_double (names_of g.starts) ≡ false) }
 {
     match Lookup::of(alloc, show) {
         Ok(lookup) => unrolled(alloc, &lookup),
@@ -102,6 +105,7 @@ fn unrolled(alloc: Global, show: &Lookup) -> Result<Grid, GridFault>
     ensures gives { GridGives result (shown show.now) }
     ensures valid { IfOk result (λ g. IsGrid g) }
     ensures names { IfOk result (λ g. All (λ (s : DroneLine). IsName s.name) g.starts) }
+    ensures distinct { IfOk result (λ g. has_double (names_of g.starts) ≡ false) }
 {
     let fault = match first_fault(alloc, show) {
         Ok(fault) => fault,

@@ -1,5 +1,6 @@
 use Rattle.std.proofs.Common.{◌∙◌}
 use Rattle.cue_grid.specs.Shown.{shown}
+use Rattle.cue_grid.proofs.Distinct.{answered_distinct}
 use Rattle.cue_grid.proofs.Fits.{answered, answered_names}
 use Rattle.cue_grid.proofs.unrolling.unrolled.Goals as goal
 
@@ -11,3 +12,7 @@ returns-clause-valid c =
 pub returns-clause-names : goal.returns-clause-names
 returns-clause-names c =
     answered_names (shown c.args.show.now) _ c.requires (c.from_vec.ensures ∙ c.in-Ok-copies_of.ensures ∙ c.as_slice.ensures)
+
+pub returns-clause-distinct : goal.returns-clause-distinct
+returns-clause-distinct c =
+    answered_distinct (shown c.args.show.now) _ _ c.in-Ok.ensures c.in_default.is (c.from_vec.ensures ∙ c.in-Ok-copies_of.ensures ∙ c.as_slice.ensures)

@@ -1,0 +1,74 @@
+-- No two drones of a show without a fault have one name.
+use Rattle.std.proofs.Common.{◌≡◌, Bool, true, false, refl, sym, ap, ◌∙◌, List, [], ◌∷◌, ◌++◌, Option, None}
+use Rattle.std.specs.Prelude.{◌||◌}
+use Rattle.std.proofs.lemmas.Slice.Eq.{bytes_eq-Decides}
+use Rattle.choreo_lines.specs.Name.{Name}
+use Rattle.choreo_reader.specs.declared.show.DroneLine.{DroneLine}
+use Rattle.choreo_reader.specs.Plain.{PlainShow}
+use Rattle.cue_grid.specs.declared.grid.GridFault.{GridFault}
+use Rattle.cue_grid.specs.declared.grid.GridFault.TheVariants.{DoubleName}
+use Rattle.cue_grid.specs.Counts.{over_at}
+use Rattle.cue_grid.specs.Faults.{fault_if, drone_faults, drones_faults, formations_faults, figures_faults, show_faults, name_faults, earliest, no_drone, many_drones, no_cue, many_cues, or_else, grid_fault}
+use Rattle.cue_grid.specs.Names.{same_name, has_name, has_double, names_of}
+use Rattle.cue_grid.proofs.Fits.{neither, both_empty, no_earliest}
+use Rattle.cue_grid.proofs.Tables.{same_is}
+
+by_first : (a b c : Bool) → (a || b) ≡ true → (b ≡ true → c ≡ true) → (a || c) ≡ true
+by_first true b c h next = refl
+by_first false b c h next = next h
+
+or_right : (a b : Bool) → b ≡ true → (a || b) ≡ true
+or_right true b h = refl
+or_right false b h = h
+
+or_false : (a b : Bool) → a ≡ false → b ≡ false → (a || b) ≡ false
+or_false a b p q = rw (p, q) refl
+
+left_has : (xs ys : List Name) (n : Name) → has_name xs n ≡ true → has_name (xs ++ ys) n ≡ true
+left_has [] ys n has = absurd (cc)
+left_has (x ∷ xs) ys n has = by_first (same_name n x) (has_name xs n) (has_name (xs ++ ys) n) has (λ later. left_has xs ys n later)
+
+self_has : (xs : List Name) (n : Name) → has_name (xs ++ n ∷ []) n ≡ true
+self_has [] n = here (same_name n n) ((bytes_eq-Decides n.items n.items).1 refl)
+  where
+    here : (b : Bool) → b ≡ true → (b || false) ≡ true
+    here b h = rw h refl
+self_has (x ∷ xs) n = or_right (same_name n x) (has_name (xs ++ n ∷ []) n) (self_has xs n)
+
+-- a test that gives no fault fails
+no_fault : (b : Bool) (f : GridFault) → fault_if b f [] ≡ [] → b ≡ false
+no_fault true f empty = absurd (cc)
+no_fault false f empty = refl
+
+-- a name that is the same as one that these names haven't is none of them
+other_name : (b : Bool) (earlier : List Name) (n m : Name) → same_name n m ≡ b → has_name earlier n ≡ true → has_name earlier m ≡ false → b ≡ false
+other_name true earlier n m same has hasnt = absurd (differ (sym (ap (has_name earlier) (same_is n m same)) ∙ has) hasnt)
+  where
+    differ : has_name earlier m ≡ true → has_name earlier m ≡ false → ⊥
+    differ h k = cc
+other_name false earlier n m same has hasnt = refl
+
+-- drones behind these names, without a fault: no two have one name, and none has one of these
+apart : (earlier : List Name) (ds : List DroneLine) → drone_faults earlier ds ≡ [] →
+    (has_double (names_of ds) ≡ false) × ((n : Name) → has_name earlier n ≡ true → has_name (names_of ds) n ≡ false)
+apart earlier [] empty = (refl, λ n has. refl)
+apart earlier (d ∷ ds) empty =
+    let parts = both_empty (fault_if (has_name earlier d.name) (DoubleName d.line) []) (drone_faults (earlier ++ d.name ∷ []) ds) empty in
+    let fresh : has_name earlier d.name ≡ false = no_fault (has_name earlier d.name) (DoubleName d.line) parts.0 in
+    let later = apart (earlier ++ d.name ∷ []) ds parts.1 in (
+      or_false (has_name (names_of ds) d.name) (has_double (names_of ds)) (later.1 d.name (self_has earlier d.name)) later.0,
+      λ n has. or_false (same_name n d.name) (has_name (names_of ds) n) (other_name (same_name n d.name) earlier n d.name refl has fresh) (later.1 n (left_has earlier (d.name ∷ []) n has)),
+    )
+
+-- no two drones of a show without a fault have one name
+pub names_apart : (s : PlainShow) → grid_fault s ≡ None → has_double (names_of s.drones) ≡ false
+names_apart s none =
+    let drones = neither (no_drone s) (or_else (many_drones s) (or_else (earliest (name_faults s)) (or_else (no_cue s.body) (many_cues (over_at s.figures 0 s.body))))) none in
+    let many = neither (many_drones s) (or_else (earliest (name_faults s)) (or_else (no_cue s.body) (many_cues (over_at s.figures 0 s.body)))) drones.1 in
+    let names = neither (earliest (name_faults s)) (or_else (no_cue s.body) (many_cues (over_at s.figures 0 s.body))) many.1 in
+    let without = no_earliest (name_faults s) names.0 in
+    (apart [] s.drones (both_empty (drones_faults s) (formations_faults s ++ (figures_faults s ++ show_faults s)) without).0).0
+
+-- nor have the starts of what is answered of such a show
+pub answered_distinct : (s : PlainShow) (o : Option GridFault) (starts : List DroneLine) → o ≡ grid_fault s → o ≡ None → starts ≡ s.drones → has_double (names_of starts) ≡ false
+answered_distinct s o starts is none same = ap (λ (ds : List DroneLine). has_double (names_of ds)) same ∙ names_apart s (sym is ∙ none)
