@@ -1,5 +1,5 @@
 -- What is true of the certificate with the largest leaves, where no part of a show is blocked.
-use Rattle.std.proofs.Common.{◌≡◌, inr, ℕ, zero, suc, ◌*◌, ◌^◌, ◌≤◌, ◌<◌, arith, refl, sym, ap, subst, List, [], ◌∷◌, ◌++◌, length, length-append, map, All, Option, Some, None, Result, Ok, Err, IsOk}
+use Rattle.std.proofs.Common.{◌≡◌, inr, ℕ, zero, suc, ◌≤◌, ◌<◌, arith, refl, sym, ap, subst, List, [], ◌∷◌, ◌++◌, map, All, Option, Some, None, Result, Ok, Err, IsOk}
 use Rattle.std.specs.Option.{option_map, option_or}
 use Rattle.std.proofs.lemmas.List.{length-map}
 use Rattle.std.proofs.lemmas.List.Elements.{All-nil, All-cons, All-head, All-tail, All-append}
@@ -12,7 +12,7 @@ use Rattle.sep_parts.specs.declared.slot.Slot.{Slot}
 use Rattle.sep_parts.specs.Versions.{table_of}
 use Rattle.sep_parts.specs.Levels.{left_half, right_half, root}
 use Rattle.sep_parts.specs.Raised.{CurvesStandFor, Raised, difference, raised_of}
-use Rattle.sep_parts.specs.Slots.{cues_from, drones_from, pairs_from, slots}
+use Rattle.sep_parts.specs.Slots.{slots}
 use Rattle.sep_certificate.specs.declared.certificate.Certificate.{Certificate}
 use Rattle.sep_parts.specs.declared.node.Node.{Node}
 use Rattle.sep_parts.specs.declared.node.Node.TheVariants.{Split, Leaf}
@@ -20,35 +20,17 @@ use Rattle.sep_certificate.specs.Certificates.{AreValid, IsValid, IsWhole}
 use Rattle.sep_parts.specs.Trees.{IsKnown, IsTree, IsValidTree, Tree, leaf, split, preorder}
 use Rattle.sep_certificate.specs.Laws.{CertificateLaw}
 use Rattle.pair_search.specs.Laws.{SearchLaw}
+use Rattle.pair_search.specs.Fleets as fleet
+use Rattle.pair_search.specs.Fleets.{nodes_of}
 use Rattle.pair_search.specs.Search.{best_tree, split_of}
+use Rattle.pair_search.proofs.Counted.{few_slots}
 use Rattle.choreo_reader.specs.declared.show.Settings.{Settings}
 use Rattle.show_plan.specs.declared.fitted.Fitted.{Fitted}
 use Rattle.show_plan.specs.declared.fitted.PlanFault.{PlanFault}
 use Rattle.show_plan.specs.Fitting.{IsValidFitted}
-use Rattle.show_plan.specs.Separation.{CountGives, FlyApart, IsShowClear, IsSlotClear, best_certificate, best_nodes, blocked_in, blocked_part, direction_at, nodes_of, slots_of, searched}
+use Rattle.show_plan.specs.Separation.{CountGives, FlyApart, IsShowClear, IsSlotClear, best_certificate, best_nodes, blocked_in, blocked_part, direction_at, slots_of, searched}
 use Rattle.show_plan.specs.Steps.{FindsNodes, blocked_slot}
 use Rattle.show_plan.proofs.SeparationLaws.{all_clear, none_first, slot_law}
-
--- ---- how many slots there are
-
-cues_counted : (n a b k : ℕ) → length (cues_from n a b k) ≡ n
-cues_counted zero a b k = refl
-cues_counted (suc n) a b k = ap suc (cues_counted n a b (suc k))
-
-few_pairs : (n cues a b : ℕ) → cues ≤ 1000 → length (pairs_from n cues a b) ≤ n * 1000
-few_pairs zero cues a b few = omega arith
-few_pairs (suc n) cues a b few =
-    omega (arith, length-append (cues_from cues a b 0) (pairs_from n cues a (suc b)), cues_counted cues a b 0, few_pairs n cues a (suc b) few, few)
-
-pub few_drones : (n cues a : ℕ) → n ≤ 32 → cues ≤ 1000 → length (drones_from n cues a) ≤ n * 32000
-few_drones zero cues a small few = omega arith
-few_drones (suc n) cues a small few =
-    let others : length (drones_from n cues (suc a)) ≤ n * 32000 = few_drones n cues (suc a) (omega arith) few in
-    omega (arith, length-append (pairs_from n cues a (suc a)) (drones_from n cues (suc a)), few_pairs n cues a (suc a) few, others, small)
-
-few_slots : (drones cues : ℕ) → drones ≤ 32 → cues ≤ 1000 → length (slots drones cues) < 2 ^ 31
-unfolding slots
-few_slots drones cues small few = omega (arith, few_drones drones cues 0 small few, small)
 
 -- ---- the leaves of a best tree
 
@@ -86,16 +68,16 @@ module _ (first : Place → Option ℕ) (m : ℕ) (known : (place : Place) (dir 
 module _ (law : SearchLaw) (e : Settings) (depth : ℕ) (curves : Raised) where
   -- the best tree of a slot without a blocked part
   tree_there : (slot : Slot) → IsSlotClear e depth curves slot → (tree : Tree) × (best_tree (direction_at e curves slot) depth root ≡ Some tree)
-  unfolding direction_at
+  unfolding fleet.direction_at
   tree_there slot clear = (law.there e.r e.h (difference curves slot.a slot.b slot.cue) searched depth).1 clear
 
   tree_valid : (slot : Slot) (tree : Tree) → best_tree (direction_at e curves slot) depth root ≡ Some tree →
       IsValidTree (record { r = e.r; h = e.h; depth = depth }) searched (difference curves slot.a slot.b slot.cue) root tree
-  unfolding direction_at
+  unfolding fleet.direction_at
   tree_valid slot tree is = law.valid (record { r = e.r; h = e.h; depth = depth }) (difference curves slot.a slot.b slot.cue) searched tree is
 
   direction_known : (slot : Slot) (place : Place) (dir : ℕ) → direction_at e curves slot place ≡ Some dir → dir < 98
-  unfolding direction_at table_of
+  unfolding fleet.direction_at table_of
   direction_known slot place dir is = ((law.first e.r e.h (difference curves slot.a slot.b slot.cue) searched place dir).0 is).inside
 
   tree_known : (slot : Slot) (tree : Tree) → best_tree (direction_at e curves slot) depth root ≡ Some tree → All (IsKnown 98) (best_nodes e depth curves slot)

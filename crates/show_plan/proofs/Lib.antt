@@ -4,7 +4,6 @@ pub mod Valid
 pub mod Separated
 pub mod SeparationLaws
 pub mod Certified
-pub mod Counted
 pub mod PlanLines
 pub mod Landing
 pub mod Uploadable

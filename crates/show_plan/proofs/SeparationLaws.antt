@@ -7,6 +7,7 @@ use Rattle.sep_parts.specs.declared.slot.Slot.{Slot}
 use Rattle.sep_parts.specs.Raised.{Raised, difference, raised_of}
 use Rattle.sep_parts.specs.Slots.{slot_at}
 use Rattle.pair_search.specs.Laws.{IsFirstBlocked}
+use Rattle.pair_search.specs.Fleets as fleet
 use Rattle.pair_search.specs.Search.{blocked_place}
 use Rattle.pair_search.proofs.SearchLaws.{laws}
 use Rattle.choreo_reader.specs.declared.show.Settings.{Settings}
@@ -42,11 +43,11 @@ module _ (e : Settings) (depth : ℕ) (curves : Raised) where
 
   -- ---- one slot
   place_clear : (slot : Slot) → (blocked_place (direction_at e curves slot) depth ≡ None) ↔ IsSlotClear e depth curves slot
-  unfolding direction_at
+  unfolding fleet.direction_at
   place_clear slot = laws.clear e.r e.h (difference curves slot.a slot.b slot.cue) searched depth
 
   place_blocked : (slot : Slot) (index : ℕ) → (blocked_place (direction_at e curves slot) depth ≡ Some index) ↔ IsBlockedAt slot index
-  unfolding direction_at
+  unfolding fleet.direction_at
   place_blocked slot index = laws.blocked e.r e.h (difference curves slot.a slot.b slot.cue) searched depth index
 
   -- no part of a slot is blocked exactly where it is clear

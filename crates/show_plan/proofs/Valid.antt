@@ -1,10 +1,8 @@
 -- What fits is valid.
-use Rattle.std.proofs.Common.{◌≡◌, ℕ, suc, ◌+◌, ◌-◌, ◌<◌, ◌≤◌, Bool, true, false, cond, Option, Some, None, IfOk, Ok, Err, Result, List, [], ◌∷◌, ◌++◌, map, length, eqb, arith, refl, sym, ap, ◌∙◌, subst}
-use Rattle.std.specs.Prelude.{◌||◌, nat_lt}
+use Rattle.std.proofs.Common.{◌≡◌, ℕ, suc, ◌+◌, ◌-◌, ◌<◌, ◌≤◌, true, Option, Some, None, IfOk, Ok, Err, Result, List, [], ◌∷◌, ◌++◌, map, length, eqb, arith, refl, sym, ap, ◌∙◌, subst}
 use Rattle.std.specs.List.{All}
 use Rattle.std.proofs.lemmas.List.{get_or_default}
 use Rattle.std.proofs.lemmas.List.Elements.{All-nil, All-cons, All-from_get_or}
-use Rattle.std.proofs.lemmas.Slice.Eq.{bytes_eq-Decides}
 use Rattle.mem_chunks.specs.declared.TheConstants.{MEMORY_BYTES}
 use Rattle.fleet_io.specs.Words.{IsWord}
 use Rattle.choreo_lines.specs.Name.{Name, is_name}
@@ -15,14 +13,12 @@ use Rattle.choreo_reader.specs.Plain.{PlainShow}
 use Rattle.choreo_reader.specs.Valid.{FitDroneLines, FitsSettings, IsValid}
 use Rattle.cue_grid.specs.declared.grid.Grid.{Grid}
 use Rattle.cue_grid.specs.declared.grid.GridFault.{GridFault}
-use Rattle.cue_grid.specs.declared.grid.GridFault.TheVariants.{DoubleName}
-use Rattle.cue_grid.specs.Counts.{over_at}
 use Rattle.cue_grid.specs.Cues.{grid_of}
-use Rattle.cue_grid.specs.Faults.{fault_if, drone_faults, drones_faults, formations_faults, figures_faults, show_faults, name_faults, line_of, earlier_of, earliest, no_drone, many_drones, no_cue, many_cues, or_else, grid_fault}
+use Rattle.cue_grid.specs.Faults.{grid_fault}
 use Rattle.cue_grid.specs.Grids.{IsGrid}
-use Rattle.cue_grid.specs.Names.{same_name, has_name, has_double, names_of}
+use Rattle.cue_grid.specs.Names.{has_double}
+use Rattle.cue_grid.proofs.Distinct.{names_apart}
 use Rattle.cue_grid.proofs.Fits.{fit_grid}
-use Rattle.cue_grid.proofs.Tables.{same_is}
 use Rattle.traj_codec.specs.declared.traj.Traj.{Traj}
 use Rattle.traj_codec.specs.Positions.{durations}
 use Rattle.traj_codec.specs.Joined.{joined}
@@ -45,83 +41,7 @@ no_part None None c none = (refl, refl, none)
 no_part None (Some f) c none = absurd (cc)
 no_part (Some f) b c none = absurd (cc)
 
-neither : (a b : Option GridFault) → or_else a b ≡ None → (a ≡ None) × (b ≡ None)
-neither None b none = (refl, none)
-neither (Some f) b none = absurd (cc)
-
-both_empty : (xs ys : List GridFault) → xs ++ ys ≡ [] → (xs ≡ []) × (ys ≡ [])
-both_empty [] ys empty = (refl, empty)
-both_empty (x ∷ xs) ys empty = absurd (cc)
-
-chosen : (b : Bool) (f g : GridFault) → cond b (Some g) (Some f) ≡ None → ⊥
-chosen true f g none = cc
-chosen false f g none = cc
-
-earlier_some : (f : GridFault) (o : Option GridFault) → earlier_of (Some f) o ≡ None → ⊥
-earlier_some f None none = cc
-earlier_some f (Some g) none = chosen (nat_lt (line_of g) (line_of f)) f g none
-
-no_earliest : (fs : List GridFault) → earliest fs ≡ None → fs ≡ []
-no_earliest [] none = refl
-no_earliest (f ∷ fs) none = absurd (earlier_some f (earliest fs) none)
-
 -- ---- names
-
-by_first : (a b c : Bool) → (a || b) ≡ true → (b ≡ true → c ≡ true) → (a || c) ≡ true
-by_first true b c h next = refl
-by_first false b c h next = next h
-
-or_right : (a b : Bool) → b ≡ true → (a || b) ≡ true
-or_right true b h = refl
-or_right false b h = h
-
-or_false : (a b : Bool) → a ≡ false → b ≡ false → (a || b) ≡ false
-or_false a b p q = rw (p, q) refl
-
-left_has : (xs ys : List Name) (n : Name) → has_name xs n ≡ true → has_name (xs ++ ys) n ≡ true
-left_has [] ys n has = absurd (cc)
-left_has (x ∷ xs) ys n has = by_first (same_name n x) (has_name xs n) (has_name (xs ++ ys) n) has (λ later. left_has xs ys n later)
-
-self_has : (xs : List Name) (n : Name) → has_name (xs ++ n ∷ []) n ≡ true
-self_has [] n = here (same_name n n) ((bytes_eq-Decides n.items n.items).1 refl)
-  where
-    here : (b : Bool) → b ≡ true → (b || false) ≡ true
-    here b h = rw h refl
-self_has (x ∷ xs) n = or_right (same_name n x) (has_name (xs ++ n ∷ []) n) (self_has xs n)
-
--- a test that gives no fault fails
-no_fault : (b : Bool) (f : GridFault) → fault_if b f [] ≡ [] → b ≡ false
-no_fault true f empty = absurd (cc)
-no_fault false f empty = refl
-
--- a name that is the same as one that these names haven't is none of them
-other_name : (b : Bool) (earlier : List Name) (n m : Name) → same_name n m ≡ b → has_name earlier n ≡ true → has_name earlier m ≡ false → b ≡ false
-other_name true earlier n m same has hasnt = absurd (differ (sym (ap (has_name earlier) (same_is n m same)) ∙ has) hasnt)
-  where
-    differ : has_name earlier m ≡ true → has_name earlier m ≡ false → ⊥
-    differ h k = cc
-other_name false earlier n m same has hasnt = refl
-
--- drones behind these names, without a fault: no two have one name, and none has one of these
-apart : (earlier : List Name) (ds : List DroneLine) → drone_faults earlier ds ≡ [] →
-    (has_double (names_of ds) ≡ false) × ((n : Name) → has_name earlier n ≡ true → has_name (names_of ds) n ≡ false)
-apart earlier [] empty = (refl, λ n has. refl)
-apart earlier (d ∷ ds) empty =
-    let parts = both_empty (fault_if (has_name earlier d.name) (DoubleName d.line) []) (drone_faults (earlier ++ d.name ∷ []) ds) empty in
-    let fresh : has_name earlier d.name ≡ false = no_fault (has_name earlier d.name) (DoubleName d.line) parts.0 in
-    let later = apart (earlier ++ d.name ∷ []) ds parts.1 in (
-      or_false (has_name (names_of ds) d.name) (has_double (names_of ds)) (later.1 d.name (self_has earlier d.name)) later.0,
-      λ n has. or_false (same_name n d.name) (has_name (names_of ds) n) (other_name (same_name n d.name) earlier n d.name refl has fresh) (later.1 n (left_has earlier (d.name ∷ []) n has)),
-    )
-
--- no two drones of a show without a fault have one name
-names_apart : (s : PlainShow) → grid_fault s ≡ None → has_double (names_of s.drones) ≡ false
-names_apart s none =
-    let drones = neither (no_drone s) (or_else (many_drones s) (or_else (earliest (name_faults s)) (or_else (no_cue s.body) (many_cues (over_at s.figures 0 s.body))))) none in
-    let many = neither (many_drones s) (or_else (earliest (name_faults s)) (or_else (no_cue s.body) (many_cues (over_at s.figures 0 s.body)))) drones.1 in
-    let names = neither (earliest (name_faults s)) (or_else (no_cue s.body) (many_cues (over_at s.figures 0 s.body))) many.1 in
-    let without = no_earliest (name_faults s) names.0 in
-    (apart [] s.drones (both_empty (drones_faults s) (formations_faults s ++ (figures_faults s ++ show_faults s)) without).0).0
 
 -- a name can stand as a word
 pub name_is_word : (word : List ℕ) → is_name word ≡ true → IsWord word

@@ -1,20 +1,19 @@
 -- What keeps the drones of a show apart: a certificate with the largest possible leaves, or the first part of a cue in which no
 -- direction separates two drones.
-use Rattle.std.specs.Prelude.{◌≡◌, ℕ, ℤ, List, [], ◌∷◌, length, map, Option, Some, None, Result, Ok, Err}
-use Rattle.std.specs.Option.{option_map, option_or}
+use Rattle.std.specs.Prelude.{◌≡◌, ℕ, ℤ, List, length, map, Option, Some, None, Result, Ok, Err}
 use Rattle.std.specs.List.{All, sum}
 use Rattle.halving.specs.declared.Place.{Place}
 use Rattle.traj_codec.specs.declared.traj.Traj.{Traj}
 use Rattle.sep_parts.specs.declared.slot.Slot.{Slot}
 use Rattle.sep_parts.specs.Apart as apart
-use Rattle.sep_parts.specs.Levels.{root}
 use Rattle.sep_parts.specs.Raised.{Raised, difference, raised_of}
+use Rattle.sep_parts.specs.Rulers.{Measure}
 use Rattle.sep_parts.specs.Slots.{slots}
 use Rattle.sep_parts.specs.Versions.{table_of}
 use Rattle.sep_parts.specs.declared.node.Node.{Node}
 use Rattle.sep_certificate.specs.declared.certificate.Certificate.{Certificate}
-use Rattle.sep_parts.specs.Trees.{Tree, preorder}
-use Rattle.pair_search.specs.Search.{first_direction, blocked_place, best_tree, IsClear}
+use Rattle.pair_search.specs.Fleets as fleet
+use Rattle.pair_search.specs.Search.{IsClear}
 use Rattle.choreo_reader.specs.declared.show.Settings.{Settings}
 use Rattle.show_plan.specs.declared.fitted.PlanFault.{PlanFault}
 use Rattle.show_plan.specs.declared.fitted.PlanFault.TheVariants as fault
@@ -23,9 +22,13 @@ use Rattle.show_plan.specs.declared.fitted.PlanFault.TheVariants as fault
 abbrev pub searched : List (List ℤ)
 searched = table_of 2
 
+-- the ruler of a show: these directions, for its half axes
+abbrev pub measure_of : Settings → Measure
+measure_of e = record { directions = searched; r = e.r; h = e.h }
+
 -- the first direction of the table that separates the pair of a slot in a place of its cue
-unfoldable pub direction_at : Settings → Raised → Slot → Place → Option ℕ
-direction_at e curves slot = first_direction e.r e.h (difference curves slot.a slot.b slot.cue) searched
+abbrev pub direction_at : Settings → Raised → Slot → Place → Option ℕ
+direction_at e curves slot = fleet.direction_at (measure_of e) curves slot
 
 -- the pair of a slot is blocked in this part of its cue
 abbrev pub blocked_at : Slot → ℕ → PlanFault
@@ -33,9 +36,7 @@ blocked_at slot index = fault.Blocked slot.a slot.b slot.cue index
 
 -- the first part of the depth, slot by slot, that no direction separates
 abbrev pub blocked_in : Settings → ℕ → Raised → List Slot → Option PlanFault
-blocked_in e depth curves [] = None
-blocked_in e depth curves (slot ∷ others) =
-    option_or (option_map (blocked_at slot) (blocked_place (direction_at e curves slot) depth)) (blocked_in e depth curves others)
+blocked_in e depth curves = fleet.blocked_in blocked_at (measure_of e) depth curves
 
 -- the slots of trajectories of one show: each pair in each cue
 abbrev pub slots_of : List Traj → List Slot
@@ -45,14 +46,9 @@ slots_of trajs = slots (raised_of trajs).drones (raised_of trajs).cues
 abbrev pub blocked_part : Settings → ℕ → List Traj → Option PlanFault
 blocked_part e depth trajs = blocked_in e depth (raised_of trajs) (slots_of trajs)
 
--- a tree's nodes in preorder, where there is a tree
-abbrev pub nodes_of : Option Tree → List Node
-nodes_of None = []
-nodes_of (Some tree) = preorder tree
-
 -- the nodes of the tree with the largest possible leaves, each with its first separating direction
 abbrev pub best_nodes : Settings → ℕ → Raised → Slot → List Node
-best_nodes e depth curves slot = nodes_of (best_tree (direction_at e curves slot) depth root)
+best_nodes e depth curves slot = fleet.best_nodes (measure_of e) depth curves slot
 
 -- the certificate with the largest possible leaves, for trajectories of which no part of the depth is blocked
 abbrev pub best_certificate : Settings → ℕ → List Traj → Certificate

@@ -4,75 +4,41 @@ ghost use Rattle.std.specs.Prelude.{◌≡◌, ◌≤◌, ℕ, [], Err, IfOk, Is
 ghost use Rattle.sep_parts.specs.Directions.{IsAxis};
 ghost use Rattle.sep_parts.specs.declared.slot.Slot.{Slot};
 ghost use Rattle.sep_parts.specs.Raised.{raised_of};
-ghost use Rattle.sep_parts.specs.Slots.{IsSlot};
 ghost use Rattle.sep_certificate.specs.Certificates.{IsWhole, IsValid};
 ghost use Rattle.show_plan.specs.Fitting.{IsValidFitted};
-ghost use Rattle.show_plan.specs.Separation.{CertificateGives, CountGives, IsShowClear, FlyApart, blocked_at, searched};
+ghost use Rattle.show_plan.specs.Separation.{CertificateGives, CountGives, IsShowClear, FlyApart, blocked_at, measure_of, searched};
 ghost use Rattle.show_plan.specs.Laws.{IsFirstPart, SeparationLaw};
-ghost use Rattle.show_plan.specs.Steps.{FindsNodes, FindsTree, FindsTrees, IsSearch};
+ghost use Rattle.show_plan.specs.Steps.{FindsNodes, FindsTrees, plan_fault};
 
 use crate::fitted::{Fitted, PlanFault};
 use choreo_reader::{Listed, Settings};
-use pair_search::{Found, search_law, search_with};
-use sep_certificate::{Certificate, Curves, Node, certificate_law, thresholds};
-use sep_parts::{Dirs, Slot, WIDE, apart_law, table_law};
+use pair_search::{SearchFault, count_all, search_all, search_law};
+use sep_certificate::{Certificate, Curves, Node, certificate_law};
+use sep_parts::{Ruler, WIDE, apart_law, table_law};
 use std::alloc::Global;
 
-// What is searched: the directions with their thresholds, for the half axes of a show, down to a depth.
-#[derive(Drop)]
-struct Search {
-    dirs: Dirs<98>,
-    thresholds: [i128; 98],
-    settings: Settings,
-    depth: u8,
-}
-
-// The search of a show's parts down to a depth.
-fn search_of(settings: Settings, depth: u8) -> Search
+// The ruler of a show: the 98 directions, for its half axes.
+fn ruler_of(settings: Settings) -> Ruler<98>
     requires r { IsAxis settings.r }
     requires h { IsAxis settings.h }
-    requires depth { depth ≤ 8 }
-    ensures { IsSearch settings depth result }
+    ensures { result ≡ measure_of settings }
 {
     table_law();
-    Search {
-        dirs: WIDE,
-        thresholds: thresholds(&WIDE, settings.r, settings.h),
-        settings,
-        depth,
-    }
+    Ruler::make(&WIDE, settings.r, settings.h)
 }
 
-// The nodes of a slot's tree, or the first part of its cue that no direction separates. `nodes` is empty before, and where it isn't Ok.
-fn tree_of(
-    curves: &Curves,
-    search: &Search,
-    slot: Slot,
-    nodes: &mut Vec<Node>,
-) -> Result<(), PlanFault>
-    requires search { IsSearch search.now.settings search.now.depth search.now }
-    requires slot { IsSlot curves.now.drones curves.now.cues slot }
-    requires empty { nodes.old.items ≡ [] }
-    ensures { FindsTree search.now.settings search.now.depth curves.now slot nodes.new.items result }
+// What a search stops at, as the reason why a show has no plan.
+fn plan_fault(fault: SearchFault) -> PlanFault
+    ensures { result ≡ plan_fault fault }
 {
-    let diff = curves.diff(slot.a as usize, slot.b as usize, slot.cue as usize);
-    let found = search_with(
-        &diff,
-        &search.dirs,
-        &search.thresholds,
-        search.settings.r,
-        search.settings.h,
-        search.depth,
-        nodes,
-    )?;
-    match found {
-        Found::Clear => Ok(()),
-        Found::Blocked { index } => Err(PlanFault::Blocked {
+    match fault {
+        SearchFault::Blocked { slot, index } => PlanFault::Blocked {
             a: slot.a,
             b: slot.b,
             cue: slot.cue,
             index,
-        }),
+        },
+        SearchFault::Memory => PlanFault::Memory,
     }
 }
 
@@ -80,43 +46,31 @@ fn tree_of(
 fn trees_of(
     alloc: Global,
     curves: &Curves,
-    search: &Search,
+    settings: Settings,
+    depth: u8,
 ) -> Result<Listed<Listed<Node>>, PlanFault>
-    requires { IsSearch search.now.settings search.now.depth search.now }
-    ensures { FindsTrees search.now.settings search.now.depth curves.now result }
+    requires r { IsAxis settings.r }
+    requires h { IsAxis settings.h }
+    requires depth { depth ≤ 8 }
+    ensures { FindsTrees settings depth curves.now result }
 {
-    let drones = curves.drones();
-    let cues = curves.cues();
-    let mut trees = Vec::new(alloc);
-    let mut slot = Slot::first();
-    while usize::from(slot.b) < drones {
-        let mut nodes = Vec::new(alloc);
-        tree_of(curves, search, slot, &mut nodes)?;
-        let Ok(()) = trees.push(Listed::from_vec(nodes)) else {
-            return Err(PlanFault::Memory);
-        };
-        slot = slot.next(drones, cues);
+    match search_all(alloc, curves, &ruler_of(settings), depth) {
+        Ok(trees) => Ok(trees),
+        Err(fault) => Err(plan_fault(fault)),
     }
-    Ok(Listed::from_vec(trees))
 }
 
-// How many nodes the trees of all slots have, or the first part that no direction separates. One tree is kept at a time.
-fn nodes_of(alloc: Global, curves: &Curves, search: &Search) -> Result<u32, PlanFault>
-    requires { IsSearch search.now.settings search.now.depth search.now }
-    ensures { FindsNodes search.now.settings search.now.depth curves.now result }
+// How many nodes the trees of all slots have, or the first part that no direction separates.
+fn nodes_of(alloc: Global, curves: &Curves, settings: Settings, depth: u8) -> Result<u32, PlanFault>
+    requires r { IsAxis settings.r }
+    requires h { IsAxis settings.h }
+    requires depth { depth ≤ 8 }
+    ensures { FindsNodes settings depth curves.now result }
 {
-    let drones = curves.drones();
-    let cues = curves.cues();
-    let mut nodes = Vec::new(alloc);
-    let mut count = 0;
-    let mut slot = Slot::first();
-    while usize::from(slot.b) < drones {
-        tree_of(curves, search, slot, &mut nodes)?;
-        count += nodes.len() as u32;
-        nodes.clear();
-        slot = slot.next(drones, cues);
+    match count_all(alloc, curves, &ruler_of(settings), depth) {
+        Ok(count) => Ok(count),
+        Err(fault) => Err(plan_fault(fault)),
     }
-    Ok(count)
 }
 
 /// A law. The blocked part that the contract of [`certificate`] cites is what its name says, whatever the trajectories: there is
@@ -149,7 +103,7 @@ pub fn certificate(alloc: Global, f: &Fitted, depth: u8) -> Result<Certificate, 
     certificate_law();
     apart_law();
     let curves = Curves::of_slice(alloc, f.trajs.as_slice())?;
-    let trees = trees_of(alloc, &curves, &search_of(f.settings, depth))?;
+    let trees = trees_of(alloc, &curves, f.settings, depth)?;
     Ok(Certificate {
         version: 2,
         depth,
@@ -174,5 +128,5 @@ pub fn count_nodes(alloc: Global, f: &Fitted, depth: u8) -> Result<u32, PlanFaul
     certificate_law();
     apart_law();
     let curves = Curves::of_slice(alloc, f.trajs.as_slice())?;
-    nodes_of(alloc, &curves, &search_of(f.settings, depth))
+    nodes_of(alloc, &curves, f.settings, depth)
 }

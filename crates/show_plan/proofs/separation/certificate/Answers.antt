@@ -1,19 +1,15 @@
-use Rattle.std.proofs.Common.{ℕ, List, Ok, subst, ◌∙◌, ap}
-use Rattle.choreo_reader.specs.declared.show.Settings.{Settings}
+use Rattle.std.proofs.Common.{List, subst, ◌∙◌, ap}
 use Rattle.traj_codec.specs.declared.traj.Traj.{Traj}
 use Rattle.sep_parts.specs.Raised.{CurvesStandFor, raised_of}
-use Rattle.show_plan.specs.Steps.{FindsTrees}
 use Rattle.show_plan.proofs.Certified.{IsCertified, certified, sent_flies_apart}
 use Rattle.show_plan.proofs.separation.certificate.Goals as goal
 
 found : (c : goal.After-drop-curves-inside-2) → IsCertified c.args.f.now.settings c.args.depth c.args.f.now.trajs (record { version = 2; depth = c.args.depth; trees = c.in_ok-trees.trees })
 found c =
-    let searched = c.search_of.ensures in
-    let here = subst (λ (e : Settings). FindsTrees e c.search_of.result.depth c.in_ok-curves.curves (Ok c.in_ok-trees.trees)) searched.settings c.in_ok-trees.ensures in
     certified c.args.f.now.settings c.args.depth c.args.f.now.trajs c.in_ok-curves.curves c.in_ok-trees.trees c.search_law.ensures c.certificate_law.ensures c.requires.depth
     (subst (λ (ts : List Traj). CurvesStandFor c.in_ok-curves.curves ts) c.as_slice.ensures c.in_ok-curves.ensures.stands)
     (c.in_ok-curves.ensures.exact ∙ ap (λ (ts : List Traj). raised_of ts) c.as_slice.ensures)
-    (subst (λ (d : ℕ). FindsTrees c.args.f.now.settings d c.in_ok-curves.curves (Ok c.in_ok-trees.trees)) searched.same_depth here)
+    c.in_ok-trees.ensures
 
 pub returns-clause-whole : goal.returns-clause-whole
 returns-clause-whole c = (found c).whole

@@ -1,9 +1,7 @@
-use Rattle.std.proofs.Common.{ℕ, IsOk, List, subst, ◌∙◌, ap}
-use Rattle.choreo_reader.specs.declared.show.Settings.{Settings}
+use Rattle.std.proofs.Common.{IsOk, List, subst, ◌∙◌, ap}
 use Rattle.traj_codec.specs.declared.traj.Traj.{Traj}
 use Rattle.sep_parts.specs.Raised.{CurvesStandFor, Raised, raised_of}
 use Rattle.show_plan.specs.Separation.{best_certificate}
-use Rattle.show_plan.specs.Steps.{FindsNodes}
 use Rattle.show_plan.proofs.Certified.{IsCertified, count_certified, count_gives, sent_flies_apart}
 use Rattle.show_plan.proofs.separation.count_nodes.Goals as goal
 
@@ -11,10 +9,7 @@ use Rattle.show_plan.proofs.separation.count_nodes.Goals as goal
 counted : (c : goal.After-drop-curves-inside) → IsOk c.nodes_of.result → IsCertified c.args.f.now.settings c.args.depth c.args.f.now.trajs (best_certificate c.args.f.now.settings c.args.depth c.args.f.now.trajs)
 counted c ok =
     let is = c.in_ok-curves.ensures.exact ∙ ap (λ (ts : List Traj). raised_of ts) c.as_slice.ensures in
-    let here = subst (λ (e : Settings). FindsNodes e c.search_of.result.depth c.in_ok-curves.curves c.nodes_of.result) c.search_of.ensures.settings c.nodes_of.ensures in
-    let gives =
-    count_gives c.args.f.now.settings c.args.depth c.args.f.now.trajs c.in_ok-curves.curves c.nodes_of.result is
-    (subst (λ (d : ℕ). FindsNodes c.args.f.now.settings d c.in_ok-curves.curves c.nodes_of.result) c.search_of.ensures.same_depth here) in
+    let gives = count_gives c.args.f.now.settings c.args.depth c.args.f.now.trajs c.in_ok-curves.curves c.nodes_of.result is c.nodes_of.ensures in
     let stands =
     subst (λ (curves : Raised). CurvesStandFor curves c.args.f.now.trajs) is
     (subst (λ (ts : List Traj). CurvesStandFor c.in_ok-curves.curves ts) c.as_slice.ensures c.in_ok-curves.ensures.stands) in
