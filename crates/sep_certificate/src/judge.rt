@@ -1,11 +1,12 @@
 //! The checker of certificates.
 
-ghost use Rattle.std.specs.Prelude.{◌≡◌, ℕ, ◌+◌, ◌*◌, ◌^◌, ◌≤◌, ◌<◌, ◌↔◌, ◌∷◌, ◌++◌, [], length, map, All, IfErr, IsOk, MatchResult};
+ghost use Rattle.std.specs.Prelude.{◌≡◌, ℕ, ◌+◌, ◌*◌, ◌^◌, ◌≤◌, ◌<◌, ◌↔◌, ◌∷◌, ◌++◌, [], length, All, IfErr, IsOk, MatchResult};
 ghost use Rattle.std.specs.Option.{option_map};
 ghost use Rattle.fleet_math.specs.Numbers.{IsBelow};
-ghost use Rattle.sep_parts.specs.Directions.{AreSmall, IsAxis, threshold};
+ghost use Rattle.sep_parts.specs.Directions.{IsAxis};
 ghost use Rattle.sep_parts.specs.Versions.{IsVersion, known_in, table_of};
 ghost use Rattle.sep_parts.specs.Apart.{KeepsApart};
+ghost use Rattle.sep_parts.specs.Rulers.{rules_by};
 ghost use Rattle.sep_parts.specs.Slots.{slots};
 ghost use Rattle.sep_parts.specs.Levels.{IsLevel, IsStack, places_of};
 ghost use Rattle.sep_certificate.specs.Laws.{CertificateLaw};
@@ -17,9 +18,7 @@ use crate::certificate::{CertFault, Certificate};
 use bezier_core::Bez;
 use halving::Place;
 use listed::Listed;
-use sep_parts::{
-    Curves, DIRECTIONS, Level, Node, Rules, Slot, Stack, WIDE, low_control, thresholds,
-};
+use sep_parts::{Curves, DIRECTIONS, Level, Node, Ruler, Rules, Slot, Stack, WIDE};
 
 /// Whether a certificate is valid for the curves of a fleet, with ellipsoids of half axes `r`, `r` and `h` in millimetres.
 ///
@@ -88,8 +87,8 @@ fn old_fault(curves: &Curves, rules: Rules, trees: &[Listed<Node>]) -> Option<Ce
     requires known { All (All (IsKnown 26)) trees.now }
     ensures { result ≡ first_fault_of rules (table_of 1) curves.now (slots curves.now.drones curves.now.cues) 0 trees.now }
 {
-    let thresholds = thresholds(&DIRECTIONS, rules.r, rules.h);
-    first_fault(curves, rules, &DIRECTIONS.n, &thresholds, trees)
+    let ruler = Ruler::make(&DIRECTIONS, rules.r, rules.h);
+    first_fault(curves, &ruler, rules.depth, trees)
 }
 
 // The first fault of the trees, by the 98 directions.
@@ -102,27 +101,23 @@ fn wide_fault(curves: &Curves, rules: Rules, trees: &[Listed<Node>]) -> Option<C
     requires known { All (All (IsKnown 98)) trees.now }
     ensures { result ≡ first_fault_of rules (table_of 2) curves.now (slots curves.now.drones curves.now.cues) 0 trees.now }
 {
-    let thresholds = thresholds(&WIDE, rules.r, rules.h);
-    first_fault(curves, rules, &WIDE.n, &thresholds, trees)
+    let ruler = Ruler::make(&WIDE, rules.r, rules.h);
+    first_fault(curves, &ruler, rules.depth, trees)
 }
 
-// The first fault of the trees, by a table of directions.
-fn first_fault(
+// The first fault of the trees, by the directions of a ruler.
+fn first_fault<const M: usize>(
     curves: &Curves,
-    rules: Rules,
-    dirs: &[[i8; 3]],
-    thresholds: &[i128],
+    ruler: &Ruler<M>,
+    depth: u8,
     trees: &[Listed<Node>],
 ) -> Option<CertFault>
-    requires r { IsAxis rules.r }
-    requires h { IsAxis rules.h }
-    requires depth { rules.depth ≤ 8 }
+    requires depth { depth ≤ 8 }
     requires few { length trees.now < 2 ^ 31 }
-    requires entries { All AreSmall dirs.now }
-    requires thresholds { thresholds.now ≡ map (threshold rules.r rules.h) dirs.now }
     requires whole { All IsTree trees.now }
-    requires known { All (All (IsKnown (length dirs.now))) trees.now }
-    ensures { result ≡ first_fault_of rules dirs.now curves.now (slots curves.now.drones curves.now.cues) 0 trees.now }
+    requires known { All (All (IsKnown (length ruler.now.directions))) trees.now }
+    ensures { result ≡ first_fault_of (rules_by ruler.now depth) ruler.now.directions curves.now
+        (slots curves.now.drones curves.now.cues) 0 trees.now }
 {
     let drones = curves.drones();
     let cues = curves.cues();
@@ -133,7 +128,7 @@ fn first_fault(
             return Some(CertFault::Extra { tree: number });
         }
         let diff = curves.diff(slot.a as usize, slot.b as usize, slot.cue as usize);
-        if let Some(fault) = tree_fault(&diff, slot, rules, dirs, thresholds, nodes.as_slice()) {
+        if let Some(fault) = tree_fault(&diff, slot, ruler, depth, nodes.as_slice()) {
             return Some(fault);
         }
         slot = slot.next(drones, cues);
@@ -150,24 +145,19 @@ fn first_fault(
 }
 
 // The first fault of one tree.
-fn tree_fault(
+fn tree_fault<const M: usize>(
     diff: &[Bez<8>; 3],
     slot: Slot,
-    rules: Rules,
-    dirs: &[[i8; 3]],
-    thresholds: &[i128],
+    ruler: &Ruler<M>,
+    depth: u8,
     nodes: &[Node],
 ) -> Option<CertFault>
     requires sizes { All (λ curve. length curve.b ≡ 8) diff.now }
     requires values { All (λ curve. All (IsBelow (2 ^ 30)) curve.b) diff.now }
-    requires r { IsAxis rules.r }
-    requires h { IsAxis rules.h }
-    requires depth { rules.depth ≤ 8 }
-    requires entries { All AreSmall dirs.now }
-    requires thresholds { thresholds.now ≡ map (threshold rules.r rules.h) dirs.now }
+    requires depth { depth ≤ 8 }
     requires whole { IsTree nodes.now }
-    requires known { All (IsKnown (length dirs.now)) nodes.now }
-    ensures { result ≡ spelled_fault rules dirs.now diff.now slot nodes.now }
+    requires known { All (IsKnown (length ruler.now.directions)) nodes.now }
+    ensures { result ≡ spelled_fault (rules_by ruler.now depth) ruler.now.directions diff.now slot nodes.now }
 {
     let mut stack = Stack::of(Level {
         place: Place { depth: 0, index: 0 },
@@ -178,7 +168,7 @@ fn tree_fault(
             Some(level) => level,
             None => return None,
         };
-        if let Some(fault) = node_fault(diff, &level, slot, rules, dirs, thresholds, *node) {
+        if let Some(fault) = node_fault(diff, &level, slot, ruler, depth, *node) {
             return Some(fault);
         }
         stack.push_below(diff, &level, *node);
@@ -187,45 +177,33 @@ fn tree_fault(
 }
 
 // What is wrong with one node.
-fn node_fault(
+fn node_fault<const M: usize>(
     diff: &[Bez<8>; 3],
     level: &Level,
     slot: Slot,
-    rules: Rules,
-    dirs: &[[i8; 3]],
-    thresholds: &[i128],
+    ruler: &Ruler<M>,
+    depth: u8,
     node: Node,
 ) -> Option<CertFault>
     requires values { All (λ curve. All (IsBelow (2 ^ 30)) curve.b) diff.now }
     requires level { IsLevel diff.now level.now }
-    requires r { IsAxis rules.r }
-    requires h { IsAxis rules.h }
-    requires entries { All AreSmall dirs.now }
-    requires thresholds { thresholds.now ≡ map (threshold rules.r rules.h) dirs.now }
-    requires known { IsKnown (length dirs.now) node }
-    ensures { result ≡ node_fault rules dirs.now diff.now slot level.now.place node }
+    requires known { IsKnown (length ruler.now.directions) node }
+    ensures { result ≡ node_fault (rules_by ruler.now depth) ruler.now.directions diff.now slot level.now.place node }
 {
     match node {
-        Node::Split => too_deep(level.place, slot, rules),
+        Node::Split => too_deep(level.place, slot, depth),
         Node::Leaf { dir } => {
-            let low = low_control(
-                &level.part,
-                dirs[dir as usize],
-                rules.r,
-                rules.h,
-                thresholds[dir as usize],
-                level.place.depth,
-            );
+            let low = ruler.low_control(diff, level, dir as usize);
             fails(low, slot, level.place, dir)
         }
     }
 }
 
 // The fault of a split at the greatest depth.
-fn too_deep(place: Place, slot: Slot, rules: Rules) -> Option<CertFault>
-    ensures { result ≡ node_fault rules [] [] slot place Node.Split }
+fn too_deep(place: Place, slot: Slot, depth: u8) -> Option<CertFault>
+    ensures { result ≡ node_fault (record { r = 0; h = 0; depth = depth }) [] [] slot place Node.Split }
 {
-    if place.depth < rules.depth {
+    if place.depth < depth {
         None
     } else {
         Some(CertFault::TooDeep {

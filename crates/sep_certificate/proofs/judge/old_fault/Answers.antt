@@ -4,12 +4,9 @@ use Rattle.sep_parts.specs.Versions.{table_of}
 use Rattle.sep_parts.proofs.Table.{small_table}
 use Rattle.sep_certificate.proofs.judge.old_fault.Goals as goal
 
-pub thresholds-thresholds-requires : goal.thresholds-thresholds-requires
-thresholds-thresholds-requires c = (lit< tt, (lit< tt, (inl refl, (small_table DIRECTIONS.n refl, (c.requires.r, c.requires.h)))))
-
-pub first_fault-requires-clause-entries : goal.first_fault-requires-clause-entries
-first_fault-requires-clause-entries c = small_table DIRECTIONS.n refl
+pub make-ruler-requires : goal.make-ruler-requires
+make-ruler-requires c = (lit< tt, (lit< tt, (inl refl, (small_table DIRECTIONS.n refl, (c.requires.r, c.requires.h)))))
 
 pub returns : goal.returns
 unfolding table_of
-returns c = c.first_fault.ensures
+returns c = rw c.make-ruler.ensures at c.first_fault.ensures
