@@ -28,7 +28,7 @@ use Rattle.choreo_reader.specs.declared.show.Settings.{Settings}
 use Rattle.show_plan.specs.declared.fitted.Fitted.{Fitted}
 use Rattle.show_plan.specs.declared.fitted.PlanFault.{PlanFault}
 use Rattle.show_plan.specs.Fitting.{IsValidFitted}
-use Rattle.show_plan.specs.Separation.{CountGives, FlyApart, IsShowClear, IsSlotClear, best_certificate, best_nodes, blocked_in, blocked_part, direction_at, slots_of, searched}
+use Rattle.show_plan.specs.Separation.{CountGives, FlyApart, IsShowClear, IsSlotClear, best_certificate, best_nodes, blocked_in, blocked_part, direction_at, measure_of, slots_of, searched}
 use Rattle.show_plan.specs.Steps.{FindsNodes, blocked_slot}
 use Rattle.show_plan.proofs.SeparationLaws.{all_clear, none_first, slot_law}
 
@@ -68,16 +68,16 @@ module _ (first : Place → Option ℕ) (m : ℕ) (known : (place : Place) (dir 
 module _ (law : SearchLaw) (e : Settings) (depth : ℕ) (curves : Raised) where
   -- the best tree of a slot without a blocked part
   tree_there : (slot : Slot) → IsSlotClear e depth curves slot → (tree : Tree) × (best_tree (direction_at e curves slot) depth root ≡ Some tree)
-  unfolding fleet.direction_at
+  unfolding fleet.direction_at measure_of
   tree_there slot clear = (law.there e.r e.h (difference curves slot.a slot.b slot.cue) searched depth).1 clear
 
   tree_valid : (slot : Slot) (tree : Tree) → best_tree (direction_at e curves slot) depth root ≡ Some tree →
       IsValidTree (record { r = e.r; h = e.h; depth = depth }) searched (difference curves slot.a slot.b slot.cue) root tree
-  unfolding fleet.direction_at
+  unfolding fleet.direction_at measure_of
   tree_valid slot tree is = law.valid (record { r = e.r; h = e.h; depth = depth }) (difference curves slot.a slot.b slot.cue) searched tree is
 
   direction_known : (slot : Slot) (place : Place) (dir : ℕ) → direction_at e curves slot place ≡ Some dir → dir < 98
-  unfolding fleet.direction_at table_of
+  unfolding fleet.direction_at measure_of table_of
   direction_known slot place dir is = ((law.first e.r e.h (difference curves slot.a slot.b slot.cue) searched place dir).0 is).inside
 
   tree_known : (slot : Slot) (tree : Tree) → best_tree (direction_at e curves slot) depth root ≡ Some tree → All (IsKnown 98) (best_nodes e depth curves slot)

@@ -12,7 +12,7 @@ use Rattle.pair_search.specs.Search.{blocked_place}
 use Rattle.pair_search.proofs.SearchLaws.{laws}
 use Rattle.choreo_reader.specs.declared.show.Settings.{Settings}
 use Rattle.show_plan.specs.declared.fitted.PlanFault.{PlanFault}
-use Rattle.show_plan.specs.Separation.{IsSlotClear, blocked_at, blocked_in, blocked_part, direction_at, slots_of, searched}
+use Rattle.show_plan.specs.Separation.{IsSlotClear, blocked_at, blocked_in, blocked_part, direction_at, measure_of, slots_of, searched}
 use Rattle.show_plan.specs.Steps.{blocked_slot}
 use Rattle.show_plan.specs.Laws.{IsFirstPart, SeparationLaw}
 
@@ -43,11 +43,11 @@ module _ (e : Settings) (depth : ℕ) (curves : Raised) where
 
   -- ---- one slot
   place_clear : (slot : Slot) → (blocked_place (direction_at e curves slot) depth ≡ None) ↔ IsSlotClear e depth curves slot
-  unfolding fleet.direction_at
+  unfolding fleet.direction_at measure_of
   place_clear slot = laws.clear e.r e.h (difference curves slot.a slot.b slot.cue) searched depth
 
   place_blocked : (slot : Slot) (index : ℕ) → (blocked_place (direction_at e curves slot) depth ≡ Some index) ↔ IsBlockedAt slot index
-  unfolding fleet.direction_at
+  unfolding fleet.direction_at measure_of
   place_blocked slot index = laws.blocked e.r e.h (difference curves slot.a slot.b slot.cue) searched depth index
 
   -- no part of a slot is blocked exactly where it is clear

@@ -23,7 +23,7 @@ abbrev pub searched : List (List ℤ)
 searched = table_of 2
 
 -- the ruler of a show: these directions, for its half axes
-abbrev pub measure_of : Settings → Measure
+unfoldable pub measure_of : Settings → Measure
 measure_of e = record { directions = searched; r = e.r; h = e.h }
 
 -- the first direction of the table that separates the pair of a slot in a place of its cue

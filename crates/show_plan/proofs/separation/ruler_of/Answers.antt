@@ -1,6 +1,7 @@
 use Rattle.sep_parts.specs.Versions.{table_of}
+use Rattle.show_plan.specs.Separation.{measure_of}
 use Rattle.show_plan.proofs.separation.ruler_of.Goals as goal
 
 pub returns : goal.returns
-unfolding table_of
+unfolding measure_of table_of
 returns c = c.make.ensures
