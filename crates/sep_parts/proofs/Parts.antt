@@ -28,7 +28,7 @@ power_split : (s : ℤ) (k : ℕ) → k ≤ 7 → power s (7 - k) *ℤ power s k
 power_split s k small = let e : 7 - k + k ≡ 7 = omega arith in sym (power-add s (7 - k) k) ∙ ap (λ (n : ℕ). power s n) e
 
 -- ---- how large the values of a part are
-part-within : (e m k : ℕ) (f : ℕ → ℤ) (b : ℤ) → m < 2 ^ e → k ≤ 7 → ((i : ℕ) → i ≤ 7 → IsWithin b (f i)) → IsWithin (pos (2 ^ (7 * e)) *ℤ b) (part_value e m f k)
+pub part-within : (e m k : ℕ) (f : ℕ → ℤ) (b : ℤ) → m < 2 ^ e → k ≤ 7 → ((i : ℕ) → i ≤ 7 → IsWithin b (f i)) → IsWithin (pos (2 ^ (7 * e)) *ℤ b) (part_value e m f k)
 unfolding polar
 part-within e m k f b inside small within =
     let s : ℤ = pos (2 ^ e) in

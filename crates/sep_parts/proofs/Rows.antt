@@ -56,3 +56,15 @@ pub less_told : (second first : List (Bez 8)) (axis : ℕ) (x y : List ℤ) (r :
 less_told second first axis x y r x_is y_is is =
     ap (λ (row : List ℤ). record { b = row })
     (is ∙ ap (λ (v : List ℤ). eight (λ k. at v k -ℤ at y k)) x_is ∙ ap (λ (v : List ℤ). eight (λ k. at (controls second axis) k -ℤ at v k)) y_is)
+
+-- one of some small curves is small
+pub small_among : (curves : List (Bez 8)) (i : ℕ) → i < length curves → All (λ (curve : Bez 8). All (IsBelow (2 ^ 28)) curve.b) curves → All (IsBelow (2 ^ 28)) (controls curves i)
+small_among curves i inside small = All-get_or (λ (curve : Bez 8). All (IsBelow (2 ^ 28)) curve.b) curves i (record { b = [] }) inside small
+
+-- three curves are those of their control values
+pub three_curves : (curves : List (Bez 8)) → length curves ≡ 3 → curves ≡ (record { b = controls curves 0 } ∷ record { b = controls curves 1 } ∷ record { b = controls curves 2 } ∷ [])
+three_curves [] e = absurd (omega arith)
+three_curves (x ∷ []) e = absurd (omega arith)
+three_curves (x ∷ y ∷ []) e = absurd (omega arith)
+three_curves (x ∷ y ∷ z ∷ []) e = refl
+three_curves (x ∷ y ∷ z ∷ v ∷ xs) e = absurd (omega arith)

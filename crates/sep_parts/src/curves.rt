@@ -9,7 +9,7 @@ ghost use Rattle.bezier_core.specs.Raised.{raised};
 ghost use Rattle.fleet_math.specs.Limits.{most_cues};
 ghost use Rattle.traj_codec.specs.Spelling.{stored};
 ghost use Rattle.traj_codec.specs.Positions.{element_on, value_after};
-ghost use Rattle.sep_parts.specs.Raised.{CurvesStandFor, IsOneShow, difference, less, most_drones, raised_element, raised_traj, raised_of};
+ghost use Rattle.sep_parts.specs.Raised.{CurvesStandFor, IsOneShow, curves_at, difference, less, most_drones, raised_element, raised_traj, raised_of};
 ghost use Rattle.sep_parts.specs.Steps.{AreSmallCurves, IsFormed, all_curves, curves_of};
 
 use bezier_core::Bez;
@@ -96,6 +96,24 @@ impl Curves {
         let second = &self.all[place_of(self.drones, self.cues, b, cue)];
         differences(second, first)
     }
+
+    /// The raised curves of a drone in a cue, both counted from 0: on x, y and z 5,040 times the curve in millimetres. No
+    /// control value comes to 2^28. Takes no memory.
+    pub fn one(&self, drone: usize, cue: usize) -> [Bez<8>; 3]
+        requires drone { drone < self.now.drones }
+        requires cue { cue < self.now.cues }
+        ensures exact { result ≡ curves_at self.now drone cue }
+        ensures small { All (λ curve. All (IsBelow (2 ^ 28)) curve.b) result }
+    {
+        widened_rows(&self.all[place_of(self.drones, self.cues, drone, cue)])
+    }
+}
+
+// The curves of three rows.
+fn widened_rows(rows: &[[i32; 8]; 3]) -> [Bez<8>; 3]
+    ensures { result ≡ curves_of rows.now }
+{
+    [widened(&rows[0]), widened(&rows[1]), widened(&rows[2])]
 }
 
 // The first three curves less the others.
@@ -186,7 +204,7 @@ fn add_traj(all: &mut Vec<[[i32; 8]; 3]>, t: &Traj) -> Result<(), AllocError>
     let mut y = t.start[1];
     let mut z = t.start[2];
     for s in t.segments.as_slice() {
-        all.push(raised_segment(x, y, z, s))?;
+        all.push(narrowed_segment(x, y, z, s))?;
         x = value_after(x, s.elements[0]);
         y = value_after(y, s.elements[1]);
         z = value_after(z, s.elements[2]);
@@ -194,22 +212,35 @@ fn add_traj(all: &mut Vec<[[i32; 8]; 3]>, t: &Traj) -> Result<(), AllocError>
     Ok(())
 }
 
-// The raised curves of one segment.
-fn raised_segment(x: i16, y: i16, z: i16, s: &Segment) -> [[i32; 8]; 3]
+// The raised curves of one segment, in 32 bits.
+fn narrowed_segment(x: i16, y: i16, z: i16, s: &Segment) -> [[i32; 8]; 3]
     ensures exact { curves_of result ≡ raised_element x (element_on s.now 0) ∷ raised_element y (element_on s.now 1)
         ∷ raised_element z (element_on s.now 2) ∷ [] }
     ensures formed { IsFormed s.now }
     ensures small { AreSmallCurves (curves_of result) }
 {
+    let [on_x, on_y, on_z] = raised_segment(x, y, z, s);
+    [narrowed(&on_x), narrowed(&on_y), narrowed(&on_z)]
+}
+
+/// The raised curves of one segment that begins with these values, in millimetres: on x, y and z 5,040 times the curve, as
+/// control values of degree seven. No control value comes to 2^28, and no element has more than seven numbers behind its
+/// first value.
+pub fn raised_segment(x: i16, y: i16, z: i16, s: &Segment) -> [Bez<8>; 3]
+    ensures exact { result ≡ raised_element x (element_on s.now 0) ∷ raised_element y (element_on s.now 1)
+        ∷ raised_element z (element_on s.now 2) ∷ [] }
+    ensures formed { (axis : ℕ) → axis ≤ 2 → length (stored (element_on s.now axis)) ≤ 7 }
+    ensures small { All (λ curve. All (IsBelow (2 ^ 28)) curve.b) result }
+{
     [
-        narrowed(&raised(x, s.elements[0])),
-        narrowed(&raised(y, s.elements[1])),
-        narrowed(&raised(z, s.elements[2])),
+        raised(x, s.elements[0]),
+        raised(y, s.elements[1]),
+        raised(z, s.elements[2]),
     ]
 }
 
-// The last value of an element.
-fn value_after(first: i16, element: Element) -> i16
+/// The value with which an element ends that begins with the first one, in millimetres or, of yaw, in tenths of a degree.
+pub fn value_after(first: i16, element: Element) -> i16
     ensures { result ≡ value_after first element }
 {
     match element {
@@ -265,16 +296,16 @@ macro_rules! row {
     };
 }
 
-// The control values of a cubic.
-fn row_of_four(first: i16, v: [i16; 3]) -> [i128; 4]
+/// The control values of a cubic: the first value and the others.
+pub fn row_of_four(first: i16, v: [i16; 3]) -> [i128; 4]
     ensures exact { result ≡ first ∷ v }
     ensures small { All (IsBelow 32769) result }
 {
     row!(first, v; 0 1 2)
 }
 
-// The control values of degree seven.
-fn row_of_eight(first: i16, v: [i16; 7]) -> [i128; 8]
+/// The control values of a curve of degree seven: the first value and the others.
+pub fn row_of_eight(first: i16, v: [i16; 7]) -> [i128; 8]
     ensures exact { result ≡ first ∷ v }
     ensures small { All (IsBelow 32769) result }
 {

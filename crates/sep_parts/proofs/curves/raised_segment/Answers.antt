@@ -1,4 +1,4 @@
-use Rattle.std.proofs.Common.{◌≤◌, ◌^◌, length, All, ◌∙◌, FitsSigned}
+use Rattle.std.proofs.Common.{◌≤◌, ◌^◌, length, All, FitsSigned}
 use Rattle.std.proofs.lemmas.Int.{to_z-of_z}
 use mir.Syntax.{w16}
 use Rattle.bezier_core.specs.declared.Bez.{Bez}
@@ -14,12 +14,11 @@ returns-clause-exact c =
     let x_fits : FitsSigned w16 c.args.x = c.ranges.x in
     let y_fits : FitsSigned w16 c.args.y = c.ranges.y in
     let z_fits : FitsSigned w16 c.args.z = c.ranges.z in
-    same_curves (record { b = c.narrowed.result }) (record { b = c.narrowed-2.result }) (record { b = c.narrowed-3.result }) _ _ _
-    (c.narrowed.ensures ∙ simp to_z-of_z at c.raised.ensures.exact) (c.narrowed-2.ensures ∙ simp to_z-of_z at c.raised-2.ensures.exact) (c.narrowed-3.ensures ∙ simp to_z-of_z at c.raised-3.ensures.exact)
+    same_curves c.raised.result c.raised-2.result c.raised-3.result _ _ _
+    (simp to_z-of_z at c.raised.ensures.exact) (simp to_z-of_z at c.raised-2.ensures.exact) (simp to_z-of_z at c.raised-3.ensures.exact)
 
 pub returns-clause-formed : goal.returns-clause-formed
 returns-clause-formed c = three_axes (λ axis. length (stored (element_on c.args.s.now axis)) ≤ 7) c.raised.ensures.formed c.raised-2.ensures.formed c.raised-3.ensures.formed
 
 pub returns-clause-small : goal.returns-clause-small
-returns-clause-small c = three (λ (curve : Bez 8). All (IsBelow (2 ^ 28)) curve.b) (record { b = c.narrowed.result }) (record { b = c.narrowed-2.result }) (record { b = c.narrowed-3.result })
-    (rw c.narrowed.ensures c.raised.ensures.small) (rw c.narrowed-2.ensures c.raised-2.ensures.small) (rw c.narrowed-3.ensures c.raised-3.ensures.small)
+returns-clause-small c = three (λ (curve : Bez 8). All (IsBelow (2 ^ 28)) curve.b) c.raised.result c.raised-2.result c.raised-3.result c.raised.ensures.small c.raised-2.ensures.small c.raised-3.ensures.small
