@@ -18,3 +18,5 @@ pub mod Lifts
 pub mod Positions
 pub mod Weighted
 pub mod Rulers
+pub mod Instants
+pub mod PartBounds

@@ -31,14 +31,14 @@ difference_value f g a c =
     ∙ bernstein-mix 7 (pos 1) (negsuc 0) f g a c ∙ minus_ring (bernstein 7 f a c) (bernstein 7 g a c)
 
 -- a drone's raised curves on an axis
-raised_axis : (t : Traj) (cue axis : ℕ) → axis ≤ 2 → controls (raised_in t cue) axis ≡ raised (points t cue axis)
+pub raised_axis : (t : Traj) (cue axis : ℕ) → axis ≤ 2 → controls (raised_in t cue) axis ≡ raised (points t cue axis)
 raised_axis t cue zero near = refl
 raised_axis t cue (suc zero) near = refl
 raised_axis t cue (suc (suc zero)) near = refl
 raised_axis t cue (suc (suc (suc k))) near = absurd (omega arith)
 
 -- the value of a raised curve is 5,040 times the decoded position
-curve_value : (t : Traj) (m : Moment) (axis : ℕ) (curves : List (Bez 8)) → curves ≡ raised_in t m.cue → m.cue < length t.segments → axis ≤ 2 → length (points t m.cue axis) ≤ 8 →
+pub curve_value : (t : Traj) (m : Moment) (axis : ℕ) (curves : List (Bez 8)) → curves ≡ raised_in t m.cue → m.cue < length t.segments → axis ≤ 2 → length (points t m.cue axis) ≤ 8 →
     bernstein 7 (at (controls curves axis)) (pos m.a) (pos m.c) ≡ pos 5040 *ℤ decoded t axis m
 unfolding plain.decoded
 curve_value t m axis curves is inside near few =

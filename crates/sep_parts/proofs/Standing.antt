@@ -108,6 +108,17 @@ at_place P [] i x all is = absurd (cc)
 at_place {A} P (y ∷ xs) zero x all is = let y_is : y ≡ x = cc in subst P y_is (All-head P y xs all)
 at_place P (y ∷ xs) (suc i) x all is = at_place P xs i x (All-tail P y xs all) is
 
+-- what stands at a place is found there, and nothing else
+pub item_there : {A : Type 0} (xs : List A) (k : ℕ) (x : A) → x ≡ get_or xs k x → k < length xs → slice_get xs k ≡ Some x
+item_there [] k x told inside = absurd (omega arith)
+item_there (y ∷ xs) zero x told inside = ap (λ z. Some z) (sym told)
+item_there (y ∷ xs) (suc k) x told inside = item_there xs k x told (omega arith)
+
+pub same_item : {A : Type 0} (xs : List A) (k : ℕ) (t x : A) → slice_get xs k ≡ Some t → x ≡ get_or xs k x → t ≡ x
+same_item [] k t x is told = absurd (cc)
+same_item (y ∷ xs) zero t x is told = cc
+same_item (y ∷ xs) (suc k) t x is told = same_item xs k t x is told
+
 pub fleet_lengths : (trajs : List Traj) (times : List ℕ) → All (λ (t : Traj). durations t.segments ≡ times) trajs → All (λ (t : Traj). length (raised_traj t) ≡ length times) trajs
 fleet_lengths trajs times same = λ k d near.
     length-raised_from (get_or trajs k d).segments (at (get_or trajs k d).start 0) (at (get_or trajs k d).start 1) (at (get_or trajs k d).start 2)
