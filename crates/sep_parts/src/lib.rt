@@ -20,7 +20,7 @@ mod stack;
 mod tests;
 
 pub use apart::apart_law;
-pub use curves::{Curves, raised_segment, row_of_eight, row_of_four, value_after};
+pub use curves::{Curves, raised_segment, row_of_four, value_after};
 pub use directions::{DIRECTIONS, Dirs, WIDE, table_law, threshold_law, thresholds};
 pub use node::{Node, tree_law};
 pub use part::{first_below, halves, low_control, projected, separates};
