@@ -1,0 +1,4 @@
+pub mod Slopes
+pub mod Speeds
+pub mod Widths
+pub mod Rests

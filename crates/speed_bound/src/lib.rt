@@ -1,0 +1,16 @@
+//! How fast a trajectory is at most.
+//!
+//! [`bound`] gives a number for each of the axes x, y and z, in micrometres per second: between any two instants the
+//! decoded position moves by at most that speed times the time between them. Nothing is sampled: the number is computed
+//! from the control values of the parts of each segment, since a curve of degree seven moves by at most seven times the
+//! widest step between two neighbouring control values. Takes no memory.
+//!
+//! The crate stands on `halving` for the parts, and on `sep_parts` for the raised curves of a segment.
+#![tactic(auto)]
+
+mod parts;
+#[cfg(test)]
+mod tests;
+mod trajectory;
+
+pub use trajectory::bound;
