@@ -1,0 +1,46 @@
+-- The first part that isn't kept, of all regions.
+use Rattle.std.proofs.Common.{◌≡◌, ℕ, ◌^◌, ◌<◌, sym, subst, ◌∙◌, ap, inl, inr, List, length, get_or, Some, slice_get}
+use Rattle.sep_parts.specs.Raised.{Raised}
+use Rattle.sep_parts.proofs.Differences.{same_default}
+use Rattle.sep_parts.proofs.Standing.{item_there, same_item}
+use Rattle.keepout_boxes.specs.declared.region.Region.{Region}
+use Rattle.keepout_boxes.specs.Kept.{IsBefore, IsFirstEntry, IsSpot, KeptAt, Spot}
+use Rattle.keepout_boxes.specs.Steps.{IsFirstOfRegion, KeptHere, RegionsKept}
+
+-- one region more is kept
+pub region_more : (c : Raised) (r h depth : ℕ) (regions : List Region) (k : ℕ) (x : Region) → x ≡ get_or regions k x → ((drone : ℕ) → drone < c.drones → (cue : ℕ) → cue < c.cues → (index : ℕ) → index < 2 ^ depth → KeptHere c r h depth x drone cue index) →
+    (region : Region) → slice_get regions k ≡ Some region → (drone : ℕ) → drone < c.drones → (cue : ℕ) → cue < c.cues → (index : ℕ) → index < 2 ^ depth → KeptHere c r h depth region drone cue index
+region_more c r h depth regions k x told kept region is drone drone_in cue cue_in index index_in =
+    subst (λ (y : Region). KeptHere c r h depth y drone cue index) (sym (same_item regions k region x is told)) (kept drone drone_in cue cue_in index index_in)
+
+before : (c : Raised) (r h depth : ℕ) (regions : List Region) (k drone cue index : ℕ) (x : Region) → x ≡ get_or regions k x → RegionsKept c r h depth regions k → IsFirstOfRegion c r h depth x drone cue index →
+    (t : Spot) → IsSpot c regions depth t → IsBefore t (record { region = k; drone = drone; cue = cue; index = index }) → KeptAt c r h depth regions t
+before c r h depth regions k drone cue index x told earlier found t spot (inl less) region is = earlier t.region less region is t.drone spot.has_drone t.cue spot.has_cue t.index spot.has_part
+before c r h depth regions k drone cue index x told earlier found t spot (inr (same, inl less)) region is =
+    subst (λ (y : Region). KeptHere c r h depth y t.drone t.cue t.index) (sym (same_item regions k region x (ap (λ (n : ℕ). slice_get regions n) (sym same) ∙ is) told))
+    (found.drones_before t.drone less t.cue spot.has_cue t.index spot.has_part)
+before c r h depth regions k drone cue index x told earlier found t spot (inr (same, inr (same_drone, inl less))) region is =
+    subst (λ (y : Region). KeptHere c r h depth y t.drone t.cue t.index) (sym (same_item regions k region x (ap (λ (n : ℕ). slice_get regions n) (sym same) ∙ is) told))
+    (subst (λ (d : ℕ). KeptHere c r h depth x d t.cue t.index) (sym same_drone) (found.first.cues_before t.cue less t.index spot.has_part))
+before c r h depth regions k drone cue index x told earlier found t spot (inr (same, inr (same_drone, inr (same_cue, less)))) region is =
+    subst (λ (y : Region). KeptHere c r h depth y t.drone t.cue t.index) (sym (same_item regions k region x (ap (λ (n : ℕ). slice_get regions n) (sym same) ∙ is) told))
+    (subst (λ (d : ℕ). KeptHere c r h depth x d t.cue t.index) (sym same_drone)
+    (subst (λ (q : ℕ). KeptHere c r h depth x drone q t.index) (sym same_cue) (found.first.first.parts_before t.index less)))
+
+pub first_entry : (c : Raised) (r h depth : ℕ) (regions : List Region) (k drone cue index : ℕ) (x : Region) → k < length regions → x ≡ get_or regions k x → RegionsKept c r h depth regions k → IsFirstOfRegion c r h depth x drone cue index →
+    IsFirstEntry c r h depth regions (record { region = k; drone = drone; cue = cue; index = index })
+first_entry c r h depth regions k drone cue index x inside told earlier found = record {
+  spot = record { has_region = inside; has_drone = found.has_drone; has_cue = found.first.has_cue; has_part = found.first.first.has_part };
+  enters = λ kept. found.first.first.enters (kept x (item_there regions k x told inside));
+  kept_before = before c r h depth regions k drone cue index x told earlier found;
+}
+
+-- the same of an element that is read
+pub region_read : (c : Raised) (r h depth : ℕ) (regions : List Region) (k : ℕ) (d : Region) → k < length regions → ((drone : ℕ) → drone < c.drones → (cue : ℕ) → cue < c.cues → (index : ℕ) → index < 2 ^ depth → KeptHere c r h depth (get_or regions k d) drone cue index) →
+    (region : Region) → slice_get regions k ≡ Some region → (drone : ℕ) → drone < c.drones → (cue : ℕ) → cue < c.cues → (index : ℕ) → index < 2 ^ depth → KeptHere c r h depth region drone cue index
+region_read c r h depth regions k d inside kept = region_more c r h depth regions k (get_or regions k d) (same_default regions k d (get_or regions k d) inside) kept
+
+pub entry_read : (c : Raised) (r h depth : ℕ) (regions : List Region) (k drone cue index : ℕ) (d : Region) → k < length regions → RegionsKept c r h depth regions k → IsFirstOfRegion c r h depth (get_or regions k d) drone cue index →
+    IsFirstEntry c r h depth regions (record { region = k; drone = drone; cue = cue; index = index })
+entry_read c r h depth regions k drone cue index d inside earlier found =
+    first_entry c r h depth regions k drone cue index (get_or regions k d) inside (same_default regions k d (get_or regions k d) inside) earlier found

@@ -1,0 +1,4 @@
+pub mod Kept
+pub mod Regions
+pub mod Lines
+pub mod Steps

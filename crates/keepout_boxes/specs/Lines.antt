@@ -1,0 +1,7 @@
+-- The line that says that a show keeps to its regions.
+use Rattle.std.specs.Prelude.{ℕ, List, [], ◌∷◌, codes, decimal}
+use Rattle.fleet_io.specs.Words.{line}
+
+-- each drone keeps to each of so many regions
+abbrev pub kept_line : ℕ → List ℕ
+kept_line regions = line (codes "kept") (codes "regions" ∷ decimal regions ∷ [])

@@ -1,0 +1,125 @@
+//! The judge.
+
+ghost use Rattle.std.specs.Prelude.{◌≡◌, ℕ, ◌*◌, ◌^◌, ◌≤◌, ◌<◌, pos, length, All, MatchOption};
+ghost use Rattle.sep_parts.specs.Directions.{IsAxis};
+ghost use Rattle.keepout_boxes.specs.Kept.{IsNear, JudgeGives, StaysClear, most_regions};
+ghost use Rattle.keepout_boxes.specs.Steps.{CueKept, DroneKept, IsFirstOfCue, IsFirstOfDrone, IsFirstOfRegion, RegionKept};
+
+use crate::region::Region;
+use crate::walk::first_entering;
+use sep_parts::Curves;
+
+/// What is judged.
+#[derive(Clone, Copy, Debug, PartialEq, Eq)]
+pub enum Judged {
+    /// Each part is kept from each keepout and in each volume.
+    Kept,
+    /// The first part that isn't: of the region, the drone and the cue, all counted from 0, the part `index` of the
+    /// 2^depth.
+    Enters {
+        region: u8,
+        drone: u8,
+        cue: u16,
+        index: u16,
+    },
+}
+
+/// Whether each drone keeps out of each keepout and stays in each volume throughout the show, with ellipsoids of half
+/// axes `r`, `r` and `h` in millimetres around them.
+///
+/// `Enters` exactly where some part of the depth isn't kept: the first, in the order region, drone, cue and part. Where
+/// it is `Kept`, for each list of trajectories that the curves stand for, each drone's decoded position lies outside of
+/// each closed keepout, widened by the ellipsoid's extents, and inside of each volume, narrowed by them, at each
+/// instant p / q of the show, for all whole numbers p and q. Takes no memory.
+pub fn judge(curves: &Curves, r: u16, h: u16, depth: u8, regions: &Vec<Region>) -> Judged
+    requires r { IsAxis r }
+    requires h { IsAxis h }
+    requires depth { depth ≤ 8 }
+    requires few { length regions.now.items ≤ most_regions }
+    requires near { All IsNear regions.now.items }
+    ensures exact { JudgeGives curves.now r h depth regions.now.items result }
+    ensures clear { result ≡ Judged.Kept → StaysClear curves.now r h regions.now.items }
+{
+    let regions = regions.as_slice();
+    for k in 0..regions.len() {
+        if let Some((drone, cue, index)) = entry_of_region(curves, &regions[k], r, h, depth) {
+            return Judged::Enters {
+                region: k as u8,
+                drone,
+                cue,
+                index,
+            };
+        }
+    }
+    Judged::Kept
+}
+
+// The first part of a region's first drone that isn't kept: the drone, the cue and the index.
+fn entry_of_region(
+    curves: &Curves,
+    region: &Region,
+    r: u16,
+    h: u16,
+    depth: u8,
+) -> Option<(u8, u16, u16)>
+    requires near { IsNear region.now }
+    requires r { IsAxis r }
+    requires h { IsAxis h }
+    requires depth { depth ≤ 8 }
+    ensures { MatchOption result (RegionKept curves.now r h depth region.now curves.now.drones)
+        (λ entry. IsFirstOfRegion curves.now r h depth region.now entry.0 entry.1 entry.2) }
+{
+    for drone in 0..curves.drones() {
+        if let Some((cue, index)) = entry_of_drone(curves, drone, region, r, h, depth) {
+            return Some((drone as u8, cue, index));
+        }
+    }
+    None
+}
+
+// The first part of a drone that isn't kept: the cue and the index.
+fn entry_of_drone(
+    curves: &Curves,
+    drone: usize,
+    region: &Region,
+    r: u16,
+    h: u16,
+    depth: u8,
+) -> Option<(u16, u16)>
+    requires drone { drone < curves.now.drones }
+    requires near { IsNear region.now }
+    requires r { IsAxis r }
+    requires h { IsAxis h }
+    requires depth { depth ≤ 8 }
+    ensures { MatchOption result (DroneKept curves.now r h depth region.now drone curves.now.cues)
+        (λ entry. IsFirstOfDrone curves.now r h depth region.now drone entry.0 entry.1) }
+{
+    for cue in 0..curves.cues() {
+        if let Some(index) = first_part(curves, drone, cue, region, r, h, depth) {
+            return Some((cue as u16, index));
+        }
+    }
+    None
+}
+
+// The first part of a drone's cue that isn't kept.
+fn first_part(
+    curves: &Curves,
+    drone: usize,
+    cue: usize,
+    region: &Region,
+    r: u16,
+    h: u16,
+    depth: u8,
+) -> Option<u16>
+    requires drone { drone < curves.now.drones }
+    requires cue { cue < curves.now.cues }
+    requires near { IsNear region.now }
+    requires r { IsAxis r }
+    requires h { IsAxis h }
+    requires depth { depth ≤ 8 }
+    ensures { MatchOption result (CueKept curves.now r h depth region.now drone cue)
+        (IsFirstOfCue curves.now r h depth region.now drone cue) }
+{
+    first_entering(&curves.one(drone, cue), region, r, h, 5040, depth)
+}
