@@ -1,0 +1,29 @@
+-- From points to drones: two points are apart exactly where the drones there are.
+use Rattle.std.proofs.Common.{◌≡◌, ℕ, ◌*◌, ℤ, pos, ◌+ℤ◌, ◌-ℤ◌, ◌*ℤ◌, ◌≤ℤ◌, ◌<ℤ◌, subst, List}
+use Rattle.traj_codec.specs.declared.traj.Traj.{Traj}
+use Rattle.touch_witness.specs.declared.places.Point.{Point}
+use Rattle.touch_witness.specs.Sites.{left_of, listed}
+use Rattle.touch_witness.specs.Steps.{ArePlaces, IsPlace, PairApart, PairTouches, SidesApart, SidesTouch, left_side, point_at, right_side}
+
+-- the left side is that of the drones
+pub sides : (t u : Traj) (r h fine cue at : ℕ) (p q : Point) → IsPlace t fine cue at p → IsPlace u fine cue at q →
+    left_side r h p q ≡ left_of t u r h (listed fine cue at)
+unfolding left_side
+sides t u r h fine cue at p q first second = same first.x first.y first.z second.x second.y second.z
+  where
+    same : {a b c d e f x y z k l m : ℤ} → a ≡ x → b ≡ y → c ≡ z → d ≡ k → e ≡ l → f ≡ m →
+        pos (h * h) *ℤ ((d -ℤ a) *ℤ (d -ℤ a) +ℤ (e -ℤ b) *ℤ (e -ℤ b)) +ℤ pos (r * r) *ℤ ((f -ℤ c) *ℤ (f -ℤ c))
+        ≡ pos (h * h) *ℤ ((k -ℤ x) *ℤ (k -ℤ x) +ℤ (l -ℤ y) *ℤ (l -ℤ y)) +ℤ pos (r * r) *ℤ ((m -ℤ z) *ℤ (m -ℤ z))
+    same {a} {b} {c} {d} {e} {f} {x} {y} {z} {k} {l} {m} e1 e2 e3 e4 e5 e6 = cc
+
+-- points that are apart are drones that are
+pub pair_apart : (trajs : List Traj) (r h fine cue at a b : ℕ) (points : List Point) → ArePlaces trajs fine cue at points → PairApart points r h fine a b → SidesApart trajs r h fine (record { cue = cue; at = at; a = a; b = b })
+unfolding right_side
+pair_apart trajs r h fine cue at a b points places apart t u t_is u_is =
+    subst (λ (z : ℤ). right_side r h fine <ℤ z) (sides t u r h fine cue at (point_at points a) (point_at points b) (places a t t_is) (places b u u_is)) apart
+
+-- points that touch are drones that do
+pub pair_touches : (trajs : List Traj) (r h fine cue at a b : ℕ) (points : List Point) → ArePlaces trajs fine cue at points → PairTouches points r h fine a b → SidesTouch trajs r h fine (record { cue = cue; at = at; a = a; b = b })
+unfolding right_side
+pair_touches trajs r h fine cue at a b points places touches t u t_is u_is =
+    subst (λ (z : ℤ). z ≤ℤ right_side r h fine) (sides t u r h fine cue at (point_at points a) (point_at points b) (places a t t_is) (places b u u_is)) touches

@@ -1,0 +1,14 @@
+use Rattle.std.proofs.Common.{All, List, subst}
+use Rattle.std.proofs.lemmas.List.{take_all}
+use Rattle.traj_codec.specs.declared.traj.Traj.{Traj}
+use Rattle.sep_parts.specs.Steps.{IsFormed}
+use Rattle.sep_parts.proofs.Fleets.{all_more}
+use Rattle.touch_witness.proofs.formed.formed_law.Goals as goal
+
+pub loop-t-preserved : goal.loop-t-preserved
+loop-t-preserved c =
+    all_more (λ (t : Traj). All IsFormed t.segments) c.args.trajs.now c.loop-t.t-index c.t-item.result c.loop-t-test.true c.loop-t.invariant
+    (subst (λ (t : Traj). All IsFormed t.segments) c.t-item.is c.segments_law.ensures)
+
+pub returns : goal.returns
+returns c = subst (λ (ts : List Traj). All (λ (t : Traj). All IsFormed t.segments) ts) (take_all c.loop-t.t-index c.args.trajs.now c.loop-t-test.false) c.loop-t.invariant

@@ -1,0 +1,3 @@
+pub mod Sites
+pub mod Lines
+pub mod Steps

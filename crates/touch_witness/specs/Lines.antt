@@ -1,0 +1,37 @@
+-- The lines that say where drones are closest, and where they touch. Drones, cues and fractions are named as people
+-- count: drones by their names, cues from 1, fractions from 0.
+use Rattle.std.specs.Prelude.{ℕ, ◌+◌, ◌*◌, ◌^◌, List, [], ◌∷◌, ◌++◌, codes, decimal}
+use Rattle.fleet_io.specs.Words.{line}
+use Rattle.touch_witness.specs.declared.site.Touch.{Touch}
+use Rattle.touch_witness.specs.declared.site.Closest.{Closest}
+use Rattle.touch_witness.specs.Sites.{site_of}
+
+-- a pair of drones, a cue, and a fraction of it
+abbrev pub site_words : (ℕ → List ℕ) → ℕ → Touch → List (List ℕ)
+site_words name fine s =
+    codes "pair" ∷ name s.a ∷ name s.b ∷ codes "cue" ∷ decimal (s.cue + 1) ∷ codes "at" ∷ decimal s.at ∷ codes "of"
+    ∷ decimal (2 ^ fine) ∷ []
+
+-- each part of each cue is separated
+abbrev pub separated_line : List ℕ
+separated_line = line (codes "separated") []
+
+-- the pair and the part of a cue, one of 2^depth, that no direction separates
+abbrev pub blocked_pair_line : List ℕ → List ℕ → ℕ → ℕ → ℕ → List ℕ
+blocked_pair_line first second cue index depth =
+    line (codes "blocked")
+    (codes "pair" ∷ first ∷ second ∷ codes "cue" ∷ decimal (cue + 1) ∷ codes "part" ∷ decimal index ∷ codes "of"
+    ∷ decimal (2 ^ depth) ∷ [])
+
+-- where two drones are closest, and the level there
+abbrev pub closest_line : (ℕ → List ℕ) → ℕ → Closest → List ℕ
+closest_line name fine c =
+    line (codes "closest") (site_words name fine (site_of c) ++ codes "level" ∷ decimal c.level ∷ [])
+
+-- where two drones touch first
+abbrev pub touch_line : (ℕ → List ℕ) → ℕ → Touch → List ℕ
+touch_line name fine s = line (codes "touch") (site_words name fine s)
+
+-- no two drones touch at a listed instant: how many there are, 2^fine + 1 for each cue
+abbrev pub no_touch_line : ℕ → ℕ → List ℕ
+no_touch_line cues fine = line (codes "no-touch") (codes "instants" ∷ decimal (cues * (2 ^ fine + 1)) ∷ [])

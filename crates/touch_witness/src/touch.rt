@@ -1,0 +1,134 @@
+//! The first touch.
+
+ghost use Rattle.std.specs.Prelude.{◌≡◌, ℕ, ◌+◌, ◌*◌, ◌^◌, ◌≤◌, ◌<◌, None, length, All, MatchOption};
+ghost use Rattle.fleet_math.specs.Limits.{most_cues};
+ghost use Rattle.sep_parts.specs.Apart.{FlyApart};
+ghost use Rattle.sep_parts.specs.Directions.{IsAxis};
+ghost use Rattle.sep_parts.specs.Raised.{IsOneShow, most_drones};
+ghost use Rattle.touch_witness.specs.Sites.{IsFirstTouch, NoTouch};
+ghost use Rattle.touch_witness.specs.Steps.{AllApart, AllApartFrom, ApartInCue, AreStarts, HasCue, IsFirstInCue, IsFirstPair, IsFirstSite, IsFirstWith, IsShort, NoneTouch};
+
+use crate::distance::is_touching;
+use crate::formed::formed_law;
+use crate::places::{DRONES, Point, Start, next_starts, places, starts};
+use crate::site::Touch;
+use traj_codec::Traj;
+
+/// The first of the listed instants and pairs at which two drones touch, for ellipsoids of half axes `r`, `r` and `h`
+/// in millimetres: that of the first cue, in it of the first of the fractions 0 / 2^`fine` to 2^`fine` / 2^`fine`, then
+/// of the first drone, then of the second. At it the two closed ellipsoids share a point. None exactly where any two
+/// drones are apart at each of these instants, and so always where they are apart throughout the show. The trajectories
+/// are those of one show, each with a segment a cue. Takes no memory.
+pub fn first_touch(trajs: &Vec<Traj>, r: u16, h: u16, fine: u8) -> Option<Touch>
+    requires show { IsOneShow trajs.now.items }
+    requires r { IsAxis r }
+    requires h { IsAxis h }
+    requires fine { fine ≤ 5 }
+    ensures exact { MatchOption result (NoTouch trajs.now.items r h fine) (IsFirstTouch trajs.now.items r h fine) }
+    ensures clear { FlyApart r h trajs.now.items → result ≡ None }
+{
+    let trajs = trajs.as_slice();
+    formed_law(trajs);
+    first_site(trajs, r, h, fine)
+}
+
+// The first listed instant and pair at which the left side of the test is not above the right one.
+fn first_site(trajs: &[Traj], r: u16, h: u16, fine: u8) -> Option<Touch>
+    requires show { IsOneShow trajs.now }
+    requires r { IsAxis r }
+    requires h { IsAxis h }
+    requires fine { fine ≤ 5 }
+    ensures { MatchOption result (NoneTouch trajs.now r h fine) (IsFirstSite trajs.now r h fine) }
+{
+    let mut here = starts(trajs);
+    for cue in 0..trajs[0].segments.as_slice().len() {
+        if let Some(touch) = touch_in_cue(trajs, &here, cue, r, h, fine) {
+            return Some(touch);
+        }
+        here = next_starts(trajs, &here, cue);
+    }
+    None
+}
+
+// The first touch in a cue.
+fn touch_in_cue(
+    trajs: &[Traj],
+    starts: &[Start; DRONES],
+    cue: usize,
+    r: u16,
+    h: u16,
+    fine: u8,
+) -> Option<Touch>
+    requires few { length trajs.now ≤ most_drones }
+    requires cue { All (HasCue cue) trajs.now }
+    requires number { cue < most_cues }
+    requires starts { AreStarts trajs.now cue starts.now }
+    requires r { IsAxis r }
+    requires h { IsAxis h }
+    requires fine { fine ≤ 5 }
+    ensures { MatchOption result (ApartInCue trajs.now r h fine cue (2 ^ fine + 1))
+        (IsFirstInCue trajs.now r h fine cue) }
+{
+    for at in 0..2u8.pow(fine as u32) + 1 {
+        let points = places(trajs, starts, cue, at, fine);
+        if let Some((a, b)) = first_pair(&points, trajs.len(), r, h, fine) {
+            return Some(Touch {
+                cue: cue as u16,
+                at,
+                a: a as u8,
+                b: b as u8,
+            });
+        }
+    }
+    None
+}
+
+// The first two of the first drones that touch.
+fn first_pair(
+    points: &[Point; DRONES],
+    drones: usize,
+    r: u16,
+    h: u16,
+    fine: u8,
+) -> Option<(usize, usize)>
+    requires few { drones ≤ most_drones }
+    requires short { All IsShort points.now }
+    requires r { IsAxis r }
+    requires h { IsAxis h }
+    requires fine { fine ≤ 5 }
+    ensures { MatchOption result (AllApart points.now r h fine drones drones)
+        (λ pair. IsFirstPair points.now r h fine drones pair.0 pair.1) }
+{
+    for a in 0..drones {
+        if let Some(b) = first_with(points, a, drones, r, h, fine) {
+            return Some((a, b));
+        }
+    }
+    None
+}
+
+// The first drone after this one that it touches.
+fn first_with(
+    points: &[Point; DRONES],
+    a: usize,
+    drones: usize,
+    r: u16,
+    h: u16,
+    fine: u8,
+) -> Option<usize>
+    requires few { drones ≤ most_drones }
+    requires drone { a < drones }
+    requires short { All IsShort points.now }
+    requires r { IsAxis r }
+    requires h { IsAxis h }
+    requires fine { fine ≤ 5 }
+    ensures { MatchOption result (AllApartFrom points.now r h fine a drones)
+        (IsFirstWith points.now r h fine a drones) }
+{
+    for b in a + 1..drones {
+        if is_touching(&points[a], &points[b], r, h, fine) {
+            return Some(b);
+        }
+    }
+    None
+}
