@@ -50,7 +50,7 @@ lift k a b C N u v w U V W c_pos n_pos eu ev ew far =
     swap {x} {y} {z} {t} p q h = omega (arith, linear)
 
 -- an instant has a denominator of at least 1
-own_some : (t : Traj) (p q : ℕ) → 1 ≤ q → IsLasting t → 1 ≤ (own t p q).c
+pub own_some : (t : Traj) (p q : ℕ) → 1 ≤ q → IsLasting t → 1 ≤ (own t p q).c
 unfolding moment
 own_some t p q some lasting = go (durations t.segments) 0 0 lasting
   where
@@ -65,7 +65,7 @@ own_some t p q some lasting = go (durations t.segments) 0 0 lasting
         by_test true m h = here
         by_test false m h = h
 
-seventh_positive : (c : ℕ) → 1 ≤ c → pos 0 <ℤ power (pos c) 7
+pub seventh_positive : (c : ℕ) → 1 ≤ c → pos 0 <ℤ power (pos c) 7
 seventh_positive c some = power_positive (pos c) 7 (omega (arith, ints))
 
 -- both denominators to the fourteenth
@@ -133,7 +133,7 @@ one_moment t u r h p q m some t_is u_is far =
 -- ---- a list of trajectories
 
 -- what is at a place of the joined ones
-sent_at : (trajs : List Traj) (a : ℕ) (u : Traj) → slice_get (map joined trajs) a ≡ Some u → (t : Traj) × (slice_get trajs a ≡ Some t) × (u ≡ joined t)
+pub sent_at : (trajs : List Traj) (a : ℕ) (u : Traj) → slice_get (map joined trajs) a ≡ Some u → (t : Traj) × (slice_get trajs a ≡ Some t) × (u ≡ joined t)
 sent_at [] zero u e = absurd (cc)
 sent_at [] (suc a) u e = absurd (cc)
 sent_at (t ∷ trajs) zero u e = (t, refl, sym (some_inside (joined t) u e))
@@ -142,7 +142,7 @@ sent_at (t ∷ trajs) zero u e = (t, refl, sym (some_inside (joined t) u e))
     some_inside x y e = cc
 sent_at (t ∷ trajs) (suc a) u e = sent_at trajs a u e
 
-lasting_at : (trajs : List Traj) (a : ℕ) (t : Traj) → All IsLasting trajs → slice_get trajs a ≡ Some t → IsLasting t
+pub lasting_at : (trajs : List Traj) (a : ℕ) (t : Traj) → All IsLasting trajs → slice_get trajs a ≡ Some t → IsLasting t
 lasting_at [] zero t all e = absurd (cc)
 lasting_at [] (suc a) t all e = absurd (cc)
 lasting_at (u ∷ trajs) zero t all e = subst IsLasting (some_inside u t e) (All-head IsLasting u trajs all)
