@@ -1,5 +1,5 @@
 -- Regions of space, when a part of a drone's way keeps to one, and what that promises of the decoded positions.
-use Rattle.std.specs.Prelude.{◌≡◌, ◌⊎◌, ℕ, ◌*◌, ◌^◌, ◌≤◌, ◌<◌, ℤ, pos, ◌+ℤ◌, ◌-ℤ◌, ◌*ℤ◌, ◌<ℤ◌, ◌≤ℤ◌, neg_ℤ, List, [], ◌∷◌, length, Some, slice_get, sum, All}
+use Rattle.std.specs.Prelude.{◌≡◌, ◌⊎◌, ℕ, ◌*◌, ◌^◌, ◌≤◌, ◌<◌, ℤ, pos, ◌+ℤ◌, ◌-ℤ◌, ◌*ℤ◌, ◌<ℤ◌, ◌≤ℤ◌, neg_ℤ, List, [], ◌∷◌, length, Some, slice_get, sum, All, map}
 use Rattle.fleet_math.specs.Numbers.{IsIn}
 use Rattle.fleet_math.specs.Sums.{power}
 use Rattle.fleet_math.specs.Bernstein.{at}
@@ -9,7 +9,7 @@ use Rattle.bezier_core.specs.Along.{controls}
 use Rattle.halving.specs.Part.{part_value}
 use Rattle.traj_codec.specs.declared.traj.Traj.{Traj}
 use Rattle.traj_codec.specs.Positions.{decoded, durations}
-use Rattle.traj_codec.specs.Joined.{own}
+use Rattle.traj_codec.specs.Joined.{IsLasting, SameCurve, joined, own}
 use Rattle.sep_parts.specs.Raised.{CurvesStandFor, Raised, curves_at}
 use Rattle.keepout_boxes.specs.declared.region.Region.{Region}
 use Rattle.keepout_boxes.specs.declared.region.Region.TheVariants.{Keepout, Volume}
@@ -119,10 +119,24 @@ KeepsTo r h (Volume low high) t m =
     IsIn ((at low axis +ℤ extent r h axis) *ℤ power (pos m.c) 7)
     ((at high axis -ℤ extent r h axis) *ℤ power (pos m.c) 7) (decoded t axis m)
 
--- For each list of trajectories that the curves stand for, each drone keeps to each region at each instant p / q of the
--- show, p and q any whole numbers.
-abbrev pub StaysClear : Raised → ℕ → ℕ → List Region → Type 0
-StaysClear c r h regions =
-    (trajs : List Traj) → CurvesStandFor c trajs → (drone : ℕ) (t : Traj) → slice_get trajs drone ≡ Some t →
-    (p q : ℕ) → 1 ≤ q → p ≤ q * sum (durations t.segments) →
+-- Each drone keeps to each region at each instant p / q of the show, p and q any whole numbers.
+abbrev pub KeepClear : ℕ → ℕ → List Region → List Traj → Type 0
+KeepClear r h regions trajs =
+    (drone : ℕ) (t : Traj) → slice_get trajs drone ≡ Some t → (p q : ℕ) → 1 ≤ q → p ≤ q * sum (durations t.segments) →
     All (λ region. KeepsTo r h region t (own t p q)) regions
+
+-- For each list of trajectories that the curves stand for, each drone keeps to each region at each instant of the show.
+abbrev pub StaysClear : Raised → ℕ → ℕ → List Region → Type 0
+StaysClear c r h regions = (trajs : List Traj) → CurvesStandFor c trajs → KeepClear r h regions trajs
+
+-- What keeps to a region by some segments does so by others that make the same curve.
+abbrev pub KeepsLaw : Type 0
+KeepsLaw =
+    (t u : Traj) (r h : ℕ) (region : Region) (p q : ℕ) → 1 ≤ q → IsLasting t → IsLasting u → SameCurve t u →
+    KeepsTo r h region t (own t p q) → KeepsTo r h region u (own u p q)
+
+-- Where the trajectories of a show keep clear, they do so with their holds joined.
+abbrev pub SentLaw : Type 0
+SentLaw =
+    (r h : ℕ) (regions : List Region) (trajs : List Traj) → All IsLasting trajs → KeepClear r h regions trajs →
+    KeepClear r h regions (map joined trajs)

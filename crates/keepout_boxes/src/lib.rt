@@ -13,6 +13,7 @@ mod judging;
 mod part;
 mod reading;
 mod region;
+mod sent;
 #[cfg(test)]
 mod tests;
 mod walk;
@@ -20,3 +21,4 @@ mod walk;
 pub use judging::{Judged, judge};
 pub use reading::{RegionFault, read_regions};
 pub use region::Region;
+pub use sent::sent_law;

@@ -175,3 +175,57 @@ fn the_first_region(rt: HostRuntime) -> Result<(), Fail> {
     assert_eq!(rt; judge(&curves, 120, 300, 6, &regions), entry);
     Ok(())
 }
+
+// A second from one place to another along one axis, from rest to rest.
+fn leg(on_x: Element, on_z: Element) -> Segment
+    ensures { result.ms ≡ 1000 }
+{
+    Segment {
+        ms: 1000,
+        elements: [on_x, Element::Constant, on_z, Element::Constant],
+    }
+}
+
+// The first drone stays; the second one rises by 1 m and then flies 1 m back along x.
+fn pair(alloc: Global) -> Result<Vec<Traj>, AllocError>
+    ensures { IfOk result (λ trajs. AreOneShow (1000 ∷ 1000 ∷ []) trajs.items) }
+{
+    let rise = Element::Seven {
+        v: [1000, 1000, 1000, 2000, 2000, 2000, 2000],
+    };
+    let back = Element::Seven {
+        v: [1000, 1000, 1000, 0, 0, 0, 0],
+    };
+    let stay = leg(Element::Constant, Element::Constant);
+    let first = Traj {
+        start: [0, 0, 1000, 0],
+        segments: Listed::from_vec(vec![in alloc; stay, stay]?),
+    };
+    let second = Traj {
+        start: [1000, 0, 1000, 0],
+        segments: Listed::from_vec(vec![in alloc;
+            leg(Element::Constant, rise),
+            leg(back, Element::Constant),
+        ]?),
+    };
+    Ok(vec![in alloc; first, second]?)
+}
+
+#[test]
+fn the_second_drone_in_the_second_cue(rt: HostRuntime) -> Result<(), Fail> {
+    let trajs = pair(rt.alloc())?;
+    let curves = Curves::make(rt.alloc(), &trajs)?;
+    let below = vec![in rt.alloc(); keepout([300, -50, 1200], [400, 50, 1690])]?;
+    assert_eq!(rt; judge(&curves, 120, 300, 6, &below), Judged::Kept);
+    let reached = vec![in rt.alloc(); keepout([300, -50, 1310], [400, 50, 1710])]?;
+    assert_eq!(rt;
+        judge(&curves, 120, 300, 6, &reached),
+        Judged::Enters {
+            region: 0,
+            drone: 1,
+            cue: 1,
+            index: 31
+        }
+    );
+    Ok(())
+}

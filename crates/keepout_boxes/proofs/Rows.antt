@@ -1,0 +1,26 @@
+-- Values of the definitions, compared with the lines and numbers that docs/COMMANDS.md shows.
+use Rattle.std.proofs.Common.{◌≡◌, pos, negsuc, [], ◌∷◌, ◌++◌, refl}
+use Rattle.std.specs.Fmt.{digits}
+use Rattle.std.specs.Prelude.{codes, Ok, Err}
+use Rattle.keepout_boxes.specs.declared.region.Region.TheVariants.{Keepout, Volume}
+use Rattle.keepout_boxes.specs.Regions.{regions_of}
+use Rattle.keepout_boxes.specs.Lines.{kept_line}
+
+-- the line of one region
+kept-row : kept_line 1 ≡ codes "kept regions 1" ++ 10 ∷ []
+unfolding digits
+kept-row = refl
+
+-- no region is no fault
+none-row : regions_of [] ≡ Ok []
+none-row = refl
+
+-- one box and one volume
+regions-row : regions_of (codes "keepout 400 -200 0 600 400 2000" ++ 10 ∷ 10 ∷ codes "volume 0 0 0 1 1 1")
+    ≡ Ok (Keepout (pos 400 ∷ negsuc 199 ∷ pos 0 ∷ []) (pos 600 ∷ pos 400 ∷ pos 2000 ∷ [])
+    ∷ Volume (pos 0 ∷ pos 0 ∷ pos 0 ∷ []) (pos 1 ∷ pos 1 ∷ pos 1 ∷ []) ∷ [])
+regions-row = refl
+
+-- a lower end above its upper one
+ends-row : regions_of (codes "keepout 1 0 0 0 0 0") ≡ Err 1
+ends-row = refl
