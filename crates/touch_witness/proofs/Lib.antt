@@ -6,3 +6,4 @@ pub mod Shows
 pub mod Least
 pub mod Levels
 pub mod Sharing
+mod Rows

@@ -1,7 +1,7 @@
 //! Touches that were computed elsewhere, by whole numbers without a bound, for ellipsoids of half axes 120, 120 and 300
 //! mm.
 
-ghost use Rattle.std.specs.Prelude.{◌≡◌, ◌∷◌, [], IfOk};
+ghost use Rattle.std.specs.Prelude.{◌≡◌, ◌≤ℤ◌, ◌∷◌, [], pos, IfOk};
 ghost use Rattle.traj_codec.specs.Positions.{durations};
 ghost use Rattle.sep_parts.specs.Raised.{AreOneShow};
 
@@ -219,6 +219,54 @@ fn side_by_side(rt: HostRuntime) -> Result<(), Fail> {
             at: 15,
             a: 0,
             b: 1
+        })
+    );
+    Ok(())
+}
+
+// Two drones come near a third one from both sides.
+fn three(alloc: Global, last: i16) -> Result<Vec<Traj>, AllocError>
+    requires high { last ≤ℤ pos 1000 }
+    requires low { pos 0 ≤ℤ last }
+    ensures { IfOk result (λ trajs. AreOneShow (3000 ∷ 3000 ∷ []) trajs.items) }
+{
+    let a = way(alloc, [[0, 0, 1000]; 3])?;
+    let b = way(alloc, [[600, 0, 1000], [600, 0, 1000], [last, 0, 1000]])?;
+    let c = way(alloc, [[-600, 0, 1000], [-600, 0, 1000], [-last, 0, 1000]])?;
+    Ok(vec![in alloc; a, b, c]?)
+}
+
+// Of pairs at one instant the first is named.
+#[test]
+fn two_pairs_at_once(rt: HostRuntime) -> Result<(), Fail> {
+    let trajs = three(rt.alloc(), 200)?;
+    let touch = Touch {
+        cue: 1,
+        at: 24,
+        a: 0,
+        b: 1,
+    };
+    assert_eq!(rt; first_touch(&trajs, 120, 300, 5), Some(touch));
+    assert_eq!(rt;
+        closest(&trajs, 120, 300, 5),
+        Some(Closest {
+            cue: 1,
+            at: 32,
+            a: 0,
+            b: 1,
+            level: 694
+        })
+    );
+    let trajs = three(rt.alloc(), 300)?;
+    assert_eq!(rt; first_touch(&trajs, 120, 300, 5), None);
+    assert_eq!(rt;
+        closest(&trajs, 120, 300, 2),
+        Some(Closest {
+            cue: 1,
+            at: 4,
+            a: 0,
+            b: 1,
+            level: 1562
         })
     );
     Ok(())
