@@ -19,6 +19,6 @@ mod site;
 mod tests;
 mod touch;
 
-pub use nearest::closest;
+pub use nearest::{closest, closest_of};
 pub use site::{Closest, Touch};
-pub use touch::first_touch;
+pub use touch::{first_touch, first_touch_of};

@@ -38,7 +38,17 @@ pub fn closest(trajs: &Vec<Traj>, r: u16, h: u16, fine: u8) -> Option<Closest>
     requires fine { fine ≤ 5 }
     ensures { MatchOption result (length trajs.now.items ≡ 1) (IsClosest trajs.now.items r h fine) }
 {
-    let trajs = trajs.as_slice();
+    closest_of(trajs.as_slice(), r, h, fine)
+}
+
+/// The closest of trajectories that are lent as a slice. Conditions and result as [`closest`].
+pub fn closest_of(trajs: &[Traj], r: u16, h: u16, fine: u8) -> Option<Closest>
+    requires show { IsOneShow trajs.now }
+    requires r { IsAxis r }
+    requires h { IsAxis h }
+    requires fine { fine ≤ 5 }
+    ensures { MatchOption result (length trajs.now ≡ 1) (IsClosest trajs.now r h fine) }
+{
     if trajs.len() < 2 {
         return None;
     }

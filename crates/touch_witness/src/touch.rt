@@ -27,7 +27,18 @@ pub fn first_touch(trajs: &Vec<Traj>, r: u16, h: u16, fine: u8) -> Option<Touch>
     ensures exact { MatchOption result (NoTouch trajs.now.items r h fine) (IsFirstTouch trajs.now.items r h fine) }
     ensures clear { FlyApart r h trajs.now.items → result ≡ None }
 {
-    let trajs = trajs.as_slice();
+    first_touch_of(trajs.as_slice(), r, h, fine)
+}
+
+/// The first touch of trajectories that are lent as a slice. Conditions and result as [`first_touch`].
+pub fn first_touch_of(trajs: &[Traj], r: u16, h: u16, fine: u8) -> Option<Touch>
+    requires show { IsOneShow trajs.now }
+    requires r { IsAxis r }
+    requires h { IsAxis h }
+    requires fine { fine ≤ 5 }
+    ensures exact { MatchOption result (NoTouch trajs.now r h fine) (IsFirstTouch trajs.now r h fine) }
+    ensures clear { FlyApart r h trajs.now → result ≡ None }
+{
     formed_law(trajs);
     first_site(trajs, r, h, fine)
 }
