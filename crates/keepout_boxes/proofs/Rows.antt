@@ -1,4 +1,4 @@
--- Values of the definitions, compared with the lines and numbers that docs/COMMANDS.md shows.
+-- Values of the definitions, compared with lines and numbers that were written down elsewhere.
 use Rattle.std.proofs.Common.{◌≡◌, pos, negsuc, [], ◌∷◌, ◌++◌, refl}
 use Rattle.std.specs.Fmt.{digits}
 use Rattle.std.specs.Prelude.{codes, Ok, Err}

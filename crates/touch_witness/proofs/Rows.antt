@@ -1,4 +1,4 @@
--- Values of the definitions, compared with the lines that docs/COMMANDS.md shows.
+-- Values of the definitions, compared with lines and numbers that were written down elsewhere.
 use Rattle.std.proofs.Common.{◌≡◌, ℕ, List, [], ◌∷◌, ◌++◌, refl}
 use Rattle.std.specs.Fmt.{digits}
 use Rattle.std.specs.Prelude.{codes, ◌==◌, if◌then◌else◌}
