@@ -1,7 +1,7 @@
 //! What is to be uploaded, and the packets that do it.
 
-ghost use Rattle.std.specs.Prelude.{◌≡◌, ℕ, ◌+◌, ◌*◌, ◌<◌, ◌≤◌, List, [], ◌∷◌, ◌++◌, length, take, map, IfOk, Bool, slice_index_or};
-ghost use Rattle.upload_model.specs.Sessions.{IsSession, drone_count, write_count, packet_count, packet_at};
+ghost use Rattle.std.specs.Prelude.{◌≡◌, ℕ, ◌+◌, ◌*◌, ◌<◌, ◌≤◌, List, [], ◌∷◌, ◌++◌, length, take, map, IfOk, Bool, slice_index, slice_index_or};
+ghost use Rattle.upload_model.specs.Sessions.{IsSession, drone_count, load_of, write_count, packet_count, packet_at};
 ghost use Rattle.upload_core.specs.Uploads.{upload_of};
 
 use crate::rows::ROW;
@@ -92,6 +92,26 @@ impl Session {
         ensures trajectory_id { result.trajectory_id ≡ self.now.trajectory_id }
     {
         self.settings
+    }
+
+    /// How many bytes the load of a drone has.
+    pub fn load_len(&self, drone: usize) -> usize
+        requires { drone < drone_count self.now }
+        ensures value { result ≡ length (load_of self.now drone).bytes }
+        ensures some { 1 ≤ result }
+        ensures fits { self.now.offset + result ≤ 4096 }
+        ensures valid { IsSession self.now }
+    {
+        self.loads[drone].bytes.as_slice().len()
+    }
+
+    /// Byte `i` of the load of a drone, counted from 0.
+    pub fn load_byte(&self, drone: usize, i: usize) -> u8
+        requires known { drone < drone_count self.now }
+        requires in_range { i < length (load_of self.now drone).bytes }
+        ensures { result ≡ slice_index (load_of self.now drone).bytes i }
+    {
+        self.loads[drone].bytes.as_slice()[i]
     }
 
     /// Whether the drones are started.
