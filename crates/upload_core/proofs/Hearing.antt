@@ -1,9 +1,9 @@
 -- What one answer does to the marks, to what is in flight and to the upload's answer.
-use Rattle.std.proofs.Common.{◌≡◌, ◌==◌, ℕ, ◌<◌, ◌≤◌, Bool, true, false, not, cond, ◌&&◌, ◌||◌, eqb, List, [], ◌∷◌, ◌++◌, length, filter, set, get_or, refl, ap, sym, ◌∙◌, arith, Option, Some, None, inl, inr}
+use Rattle.std.proofs.Common.{◌≡◌, ◌==◌, ℕ, ◌<◌, ◌≤◌, Bool, true, false, not, cond, ◌&&◌, ◌||◌, eqb, List, [], ◌∷◌, ◌++◌, filter, refl, ap, sym, ◌∙◌, arith, Option, Some, None, inl, inr}
 use Rattle.std.specs.Prelude.{find}
 use Rattle.std.specs.List.{list_any, list_all}
 use Rattle.std.proofs.lemmas.Bool.{cases_Bool, and_parts, and_from, or_left, or_right, false≢true, eqb-true, eq-eqb, false_from_ne_true}
-use Rattle.std.proofs.lemmas.List.{append_assoc, get_or-set_same, get_or-set_other}
+use Rattle.std.proofs.lemmas.List.{append_assoc}
 use Rattle.std.proofs.lemmas.List.Folds.{list_any-append}
 use Rattle.upload_model.specs.declared.events.Event.{Event}
 use Rattle.upload_model.specs.declared.events.Event.TheVariants as event
@@ -13,7 +13,6 @@ use Rattle.upload_model.specs.Sessions.{Upload, drone_count, packet_count}
 use Rattle.upload_model.specs.Hosts.{Packets, status_for, is_good, is_bad, includes, refused, refused_with, all_packets}
 use Rattle.upload_model.proofs.HostLaws.{find_passes, all_packets-each}
 use Rattle.upload_model.proofs.Matches.{IsMatch-from, match_unique, good-some, bad-some}
-use Rattle.upload_core.specs.Rows.{place_of, marked}
 
 find_none : {X : Type 0} (p : X → Bool) (xs : List X) → ((x : X) → p x ≡ true → ⊥) → find p xs ≡ None
 find_none p [] never = refl
@@ -138,23 +137,28 @@ module _ (s : Upload) (from : ℕ) (packet : List ℕ) (k status : ℕ) (is : st
             = all_packets-each s (λ x. not (test m x)) (find-none_all (test m) (all_packets s) none) from k l b in
             false≢true (sym (ap not here) ∙ never)
 
-  pub done-set : (done : List Bool) → status ≡ 0 → k < 173 → place_of from k < length done → (d j : ℕ) → j < 173 →
-      marked (set done (place_of from k) true) d j ≡ (marked done d j || is_good (status_for s d j event'))
-  done-set done zero few room d j narrow = elim (cases_Bool (is_good (status_for s d j event'))) [
+  -- what marking this packet does
+  pub done-marked : (marks marks' : Packets) → status ≡ 0 → ((d j : ℕ) → marks' d j ≡ (marks d j || (d == from && j == k))) → (d j : ℕ) →
+      marks' d j ≡ (marks d j || is_good (status_for s d j event'))
+  done-marked marks marks' zero is_marked d j = is_marked d j ∙ ap (λ (b : Bool). marks d j || b) (elim (cases_Bool (is_good (status_for s d j event'))) [
     | inl g ↦
         let u = match_unique s d j from k from packet 0 status (good-some (status_for s d j event') g) is in
-        ap (λ (n : ℕ). get_or (set done (place_of from k) true) (place_of n j) false) u.0
-        ∙ ap (λ (n : ℕ). get_or (set done (place_of from k) true) (place_of from n) false) u.1
-        ∙ get_or-set_same done (place_of from k) true false room
-        ∙ sym (or_right (marked done d j) (is_good (status_for s d j event')) g)
+        and_from (d == from) (j == k) (eq-eqb d from u.0) (eq-eqb j k u.1) ∙ sym g
     | inr f ↦
-        let apart : place_of d j ≡ place_of from k → ⊥ = λ e.
-        let same_drone : d ≡ from = omega arith in
-        let same_number : j ≡ k = omega arith in
+        false_from_ne_true (d == from && j == k) (λ both.
+        let parts = and_parts (d == from) (j == k) both in
         let fine : is_good (status_for s d j event') ≡ true
-        = ap (λ (n : ℕ). is_good (status_for s n j event')) same_drone ∙ ap (λ (n : ℕ). is_good (status_for s from n event')) same_number
+        = ap (λ (n : ℕ). is_good (status_for s n j event')) (eqb-true d from parts.0) ∙ ap (λ (n : ℕ). is_good (status_for s from n event')) (eqb-true j k parts.1)
         ∙ ap is_good is ∙ ap (λ (n : ℕ). eqb n 0) zero in
-        false≢true (sym f ∙ fine) in
-        get_or-set_other done (place_of from k) (place_of d j) true false apart
-        ∙ sym (ap (λ (b : Bool). marked done d j || b) f ∙ or_nothing (marked done d j))
-  ]
+        false≢true (sym f ∙ fine)) ∙ sym f
+  ])
+
+  -- what an answer of another status does
+  pub done-refused : (m : Packets) → (status ≡ 0 → ⊥) → (d j : ℕ) → m d j ≡ (m d j || is_good (status_for s d j event'))
+  done-refused m bad d j =
+      sym (ap (λ (b : Bool). m d j || b) (false_from_ne_true (is_good (status_for s d j event')) (λ g.
+      let good : status_for s d j event' ≡ Some 0 = good-some (status_for s d j event') g in
+      let u = match_unique s d j from k from packet 0 status good is in
+      let same : Some 0 ≡ Some status
+      = sym good ∙ ap (λ (n : ℕ). status_for s n j event') u.0 ∙ ap (λ (n : ℕ). status_for s from n event') u.1 ∙ is in
+      bad (let e : status ≡ 0 = cc in e))) ∙ or_nothing (m d j))

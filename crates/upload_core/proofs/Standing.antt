@@ -3,8 +3,8 @@ use Rattle.std.proofs.Common.{◌≡◌, ◌==◌, ◌≢◌, ℕ, zero, suc, �
 use Rattle.std.specs.Prelude.{find}
 use Rattle.std.specs.List.{range_with_len, list_any, list_all, flat_map}
 use Rattle.std.specs.Option.{option_or}
-use Rattle.std.proofs.lemmas.Bool.{cases_eq, eq-eqb, ne_eqb, and_left}
-use Rattle.std.proofs.lemmas.List.Folds.{list_any-append, list_all-append, find-append}
+use Rattle.std.proofs.lemmas.Bool.{eq-eqb, ne_eqb}
+use Rattle.std.proofs.lemmas.List.Folds.{list_all-append, find-append}
 use Rattle.upload_model.specs.declared.events.Event.{Event}
 use Rattle.upload_model.specs.declared.events.Event.TheVariants as event
 use Rattle.upload_model.specs.declared.events.Sent.{Sent}
@@ -15,7 +15,9 @@ use Rattle.upload_model.specs.Hosts.{Packets, status_for, is_good, is_bad, inclu
 use Rattle.std.proofs.lemmas.Bool.{false≢true}
 use Rattle.upload_model.proofs.HostLaws.{all_packets-each, acked-done, acked-more}
 use Rattle.upload_core.proofs.Hearing.{find-none_all}
-use Rattle.upload_core.specs.Rows.{IsReady}
+use Rattle.upload_core.specs.Steps.{IsReady}
+use Rattle.upload_core.proofs.Flights.{includes-flight}
+use Rattle.upload_core.proofs.HostLemmas.{ticks_low, flight_stays, flight-open, never_ticked}
 use Rattle.upload_model.proofs.HostSteps.{acked-push, acked-tick, ticks-push, progress-stays, progress-next, progress-tick, Agree, flight_of-agree, flight_after-agree}
 use Rattle.upload_core.specs.HostState.{HostView}
 use Rattle.upload_core.specs.HostStandsFor.{HostStandsFor}
@@ -67,59 +69,12 @@ pub list_all-packets_agree : (s : Upload) (p q : Sent → Bool) → SameTest s p
 unfolding all_packets
 list_all-packets_agree s p q h = list_all-rows_agree p q (packet_count s) 0 (drone_count s) (λ d k l b. h d k (omega arith) b)
 
--- ---- what is in flight, packet by packet
-
-includes-sent_to : (i : ℕ) (ks : List ℕ) (x : Sent) → includes (sent_to i ks) x ≡ (eqb i x.drone && list_any (λ j. j == x.packet) ks)
-includes-sent_to i [] x = at (eqb i x.drone) where
-  at : (b : Bool) → false ≡ (b && false)
-  at true = refl
-  at false = refl
-includes-sent_to i (k ∷ ks) x =
-    ap (λ (b : Bool). (eqb i x.drone && eqb k x.packet) || b) (includes-sent_to i ks x) ∙ at (eqb i x.drone) (eqb k x.packet) (list_any (λ j. j == x.packet) ks) where
-      at : (a b c : Bool) → ((a && b) || (a && c)) ≡ (a && (b || c))
-      at true b c = refl
-      at false b c = refl
-
-or_nothing : (b : Bool) → (b || false) ≡ b
-or_nothing true = refl
-or_nothing false = refl
-
--- the rows after a drone don't have its packets
-includes-after : (f : ℕ → List ℕ) (a n : ℕ) (x : Sent) → x.drone < a → includes (flat_map (λ d. sent_to d (f d)) (range_with_len a n)) x ≡ false
-includes-after f a zero x h = refl
-includes-after f a (suc n) x h =
-    list_any-append (λ y. y.drone == x.drone && y.packet == x.packet) (sent_to a (f a)) (flat_map (λ d. sent_to d (f d)) (range_with_len (a + 1) n))
-    ∙ ap (λ (b : Bool). b || includes (flat_map (λ d. sent_to d (f d)) (range_with_len (a + 1) n)) x)
-    (includes-sent_to a (f a) x ∙ and_left (eqb a x.drone) (list_any (λ j. j == x.packet) (f a)) (ne_eqb a x.drone (omega arith)))
-    ∙ includes-after f (a + 1) n x (omega arith)
-
-includes-rows : (f : ℕ → List ℕ) (a n : ℕ) (x : Sent) → a ≤ x.drone → x.drone < a + n →
-    includes (flat_map (λ d. sent_to d (f d)) (range_with_len a n)) x ≡ list_any (λ j. j == x.packet) (f x.drone)
-includes-rows f a zero x l h = absurd (omega arith)
-includes-rows f a (suc n) x l h =
-    list_any-append (λ y. y.drone == x.drone && y.packet == x.packet) (sent_to a (f a)) (flat_map (λ d. sent_to d (f d)) (range_with_len (a + 1) n))
-    ∙ elim (cases_eq a x.drone) [
-      | inl same ↦
-          ap (λ (b : Bool). b || includes (flat_map (λ d. sent_to d (f d)) (range_with_len (a + 1) n)) x)
-          (includes-sent_to a (f a) x ∙ ap (λ (b : Bool). b && list_any (λ j. j == x.packet) (f a)) (eq-eqb a x.drone same) ∙ ap (λ (i : ℕ). list_any (λ j. j == x.packet) (f i)) same)
-          ∙ ap (λ (b : Bool). list_any (λ j. j == x.packet) (f x.drone) || b) (includes-after f (a + 1) n x (omega arith))
-          ∙ or_nothing (list_any (λ j. j == x.packet) (f x.drone))
-      | inr other ↦
-          ap (λ (b : Bool). b || includes (flat_map (λ d. sent_to d (f d)) (range_with_len (a + 1) n)) x)
-          (includes-sent_to a (f a) x ∙ and_left (eqb a x.drone) (list_any (λ j. j == x.packet) (f a)) (ne_eqb a x.drone other))
-          ∙ includes-rows f (a + 1) n x (omega arith) (omega arith)
-    ]
-
-pub includes-flight : (s : Upload) (m : Packets) (d k : ℕ) → d < drone_count s →
-    includes (flight_after s m) (record { drone = d; packet = k }) ≡ list_any (λ j. j == k) (flight_of s m d)
-unfolding flight_after
-includes-flight s m d k l = includes-rows (flight_of s m) 0 (drone_count s) (record { drone = d; packet = k }) (omega arith) (omega arith)
-
 -- ---- a tick
 
 module _ (s : Upload) (marks : Packets) (counts counts' : ℕ → ℕ → ℕ) (answer : Progress)
     (counted_is : (d k : ℕ) → d < drone_count s → k < packet_count s d →
     counts' d k ≡ counts d k + cond (list_any (λ j. j == k) (flight_of s marks d)) 1 0)
+    (ready : IsReady s marks counts)
     (answer_is : answer ≡ gave_up (find (λ x. counts' x.drone x.packet == 20) (all_packets s))) where
   none_tired : answer ≡ Going → find (λ x. counts' x.drone x.packet == 20) (all_packets s) ≡ None
   none_tired going = at (find (λ x. counts' x.drone x.packet == 20) (all_packets s)) (sym answer_is ∙ going) where
@@ -127,8 +82,8 @@ module _ (s : Upload) (marks : Packets) (counts counts' : ℕ → ℕ → ℕ) (
     at None h = refl
     at (Some x) h = absurd (cc)
 
-  pub ready-tick : IsReady s marks counts → answer ≡ Going → IsReady s marks counts'
-  ready-tick ready going = record {
+  pub ready-tick : answer ≡ Going → IsReady s marks counts'
+  ready-tick going = record {
     unfinished = ready.unfinished;
     low = λ d k l b.
         let old = ready.low d k l b in
@@ -138,6 +93,9 @@ module _ (s : Upload) (marks : Packets) (counts counts' : ℕ → ℕ → ℕ) (
         (find-none_all (λ x. counts' x.drone x.packet == 20) (all_packets s) (none_tired going)) d k l b in
         let other : counts' d k ≡ 20 → ⊥ = λ e. false≢true (sym (ap not (eq-eqb (counts' d k) 20 e)) ∙ each) in
         omega (arith, old, is, one, other);
+    idle = λ d k l b missing out.
+        counted_is d k l b ∙ ap (λ (n : ℕ). n + cond (list_any (λ j. j == k) (flight_of s marks d)) 1 0) (ready.idle d k l b missing out)
+        ∙ ap (λ (t : Bool). 0 + cond t 1 0) out;
   } where
     at_most : (b : Bool) → cond b 1 0 ≤ 1
     at_most true = omega arith
@@ -147,26 +105,50 @@ module _ (s : Upload) (marks : Packets) (counts counts' : ℕ → ℕ → ℕ) (
     agree : Agree s marks (acked s h)
     agree d k l b = stands.marked (inl refl) d k l b
 
-    counts_stand : (d k : ℕ) → d < drone_count s → k < packet_count s d → counts' d k ≡ ticks s (h ++ event.Tick ∷ []) (record { drone = d; packet = k })
-    counts_stand d k l b =
+    in_flight : (d k : ℕ) → d < drone_count s → list_any (λ j. j == k) (flight_of s marks d) ≡ list_any (λ j. j == k) (flight_of s (acked s h) d)
+    in_flight d k l = ap (λ (xs : List ℕ). list_any (λ j. j == k) xs) (flight_of-agree s marks (acked s h) d l agree)
+
+    ticks_more : (d k : ℕ) → d < drone_count s → ticks s (h ++ event.Tick ∷ []) (record { drone = d; packet = k })
+        ≡ ticks s h (record { drone = d; packet = k }) + cond (list_any (λ j. j == k) (flight_of s marks d)) 1 0
+    ticks_more d k l =
+        ticks-push s h event.Tick (record { drone = d; packet = k })
+        ∙ ap (λ (t : Bool). ticks s h (record { drone = d; packet = k }) + cond t 1 0) (includes-flight s (acked s h) d k l ∙ sym (in_flight d k l))
+
+    counts_stand : (d k : ℕ) → d < drone_count s → k < packet_count s d → list_any (λ j. j == k) (flight_of s marks d) ≡ true →
+        counts' d k ≡ ticks s (h ++ event.Tick ∷ []) (record { drone = d; packet = k })
+    counts_stand d k l b there =
         counted_is d k l b
-        ∙ ap (λ (n : ℕ). n + cond (list_any (λ j. j == k) (flight_of s marks d)) 1 0) (stands.counted refl d k l b)
-        ∙ ap (λ (xs : List ℕ). ticks s h (record { drone = d; packet = k }) + cond (list_any (λ j. j == k) xs) 1 0) (flight_of-agree s marks (acked s h) d l agree)
-        ∙ ap (λ (t : Bool). ticks s h (record { drone = d; packet = k }) + cond t 1 0) (sym (includes-flight s (acked s h) d k l))
-        ∙ sym (ticks-push s h event.Tick (record { drone = d; packet = k }))
+        ∙ ap (λ (n : ℕ). n + cond (list_any (λ j. j == k) (flight_of s marks d)) 1 0) (stands.counted refl d k l b (sym (in_flight d k l) ∙ there))
+        ∙ sym (ticks_more d k l)
+
+    same_test : (d k : ℕ) → d < drone_count s → k < packet_count s d → (counts' d k == 20) ≡ eqb (ticks s (h ++ event.Tick ∷ []) (record { drone = d; packet = k })) 20
+    same_test d k l b = by_flight (list_any (λ j. j == k) (flight_of s marks d)) refl where
+      by_flight : (t : Bool) → list_any (λ j. j == k) (flight_of s marks d) ≡ t → (counts' d k == 20) ≡ eqb (ticks s (h ++ event.Tick ∷ []) (record { drone = d; packet = k })) 20
+      by_flight true e = ap (λ (n : ℕ). n == 20) (counts_stand d k l b e)
+      by_flight false e =
+          let low = ready.low d k l b in
+          let few = ticks_low s h (record { drone = d; packet = k }) (sym stands.answer) l b in
+          let ours : counts' d k ≡ counts d k = counted_is d k l b ∙ ap (λ (t : Bool). counts d k + cond t 1 0) e ∙ (let f : counts d k + 0 ≡ counts d k = omega arith in f) in
+          let theirs : ticks s (h ++ event.Tick ∷ []) (record { drone = d; packet = k }) ≡ ticks s h (record { drone = d; packet = k })
+          = ticks_more d k l ∙ ap (λ (t : Bool). ticks s h (record { drone = d; packet = k }) + cond t 1 0) e
+          ∙ (let f : ticks s h (record { drone = d; packet = k }) + 0 ≡ ticks s h (record { drone = d; packet = k }) = omega arith in f) in
+          ne_eqb (counts' d k) 20 (λ f. omega (arith, low, ours, f))
+          ∙ sym (ne_eqb (ticks s (h ++ event.Tick ∷ []) (record { drone = d; packet = k })) 20 (λ f. omega (arith, few, theirs, f)))
 
     pub answer-tick : answer ≡ progress s (h ++ event.Tick ∷ [])
     answer-tick =
         answer_is
         ∙ ap gave_up (find-packets_agree s (λ x. counts' x.drone x.packet == 20) (λ x. eqb (ticks s (h ++ event.Tick ∷ []) x) 20)
-        (λ d k l b. ap (λ (n : ℕ). n == 20) (counts_stand d k l b)))
+        same_test)
         ∙ sym (progress-tick s h (sym stands.answer))
 
     pub stands-tick : HostStandsFor (record { session = s; marked = marks; counted = counts'; progress = answer }) (h ++ event.Tick ∷ [])
     stands-tick = record {
       answer = answer-tick;
       marked = λ either d k l b. agree d k l b ∙ sym (acked-tick s h d k);
-      counted = λ going d k l b. counts_stand d k l b;
+      counted = λ going d k l b there.
+          counts_stand d k l b
+          (ap (λ (xs : List ℕ). list_any (λ j. j == k) xs) (flight_of-agree s marks (acked s (h ++ event.Tick ∷ [])) d l (λ e i m n. agree e i m n ∙ sym (acked-tick s h e i))) ∙ there);
     }
 
     pub sent-tick : if_going answer (flight_after s marks) ≡ out s h event.Tick
@@ -176,7 +158,11 @@ module _ (s : Upload) (marks : Packets) (counts counts' : ℕ → ℕ → ℕ) (
 
 -- ---- an answer
 
-module _ (s : Upload) (marks marks' : Packets) (counts : ℕ → ℕ → ℕ) (from : ℕ) (packet : List ℕ) (answer : Progress)
+module _ (s : Upload) (marks marks' : Packets) (counts counts' : ℕ → ℕ → ℕ) (from : ℕ) (packet : List ℕ) (answer : Progress)
+    (ready : IsReady s marks counts)
+    (kept : (d k : ℕ) → marks d k ≡ true → marks' d k ≡ true)
+    (counted_is : (d k : ℕ) → marks' d k ≡ false → counts' d k ≡ counts d k)
+    (fewer : (d k : ℕ) → counts' d k ≤ counts d k)
     (done_is : (d k : ℕ) → d < drone_count s → k < packet_count s d → marks' d k ≡ (marks d k || is_good (status_for s d k (event.Up from packet))))
     (finished : list_all (λ x. marks' x.drone x.packet) (all_packets s) ≡ true → answer ≡ Done)
     (unfinished : list_all (λ x. marks' x.drone x.packet) (all_packets s) ≡ false → answer
@@ -184,8 +170,25 @@ module _ (s : Upload) (marks marks' : Packets) (counts : ℕ → ℕ → ℕ) (f
   abbrev up : Event
   up = event.Up from packet
 
-  pub ready-hear : IsReady s marks counts → answer ≡ Going → IsReady s marks' counts
-  ready-hear ready going = record { unfinished = at (list_all (λ x. marks' x.drone x.packet) (all_packets s)) refl; low = ready.low } where
+  unmarked : (d k : ℕ) → marks' d k ≡ false → marks d k ≡ false
+  unmarked d k e = at (marks d k) refl where
+    at : (b : Bool) → marks d k ≡ b → b ≡ false
+    at true f = absurd (false≢true (sym e ∙ kept d k f))
+    at false f = refl
+
+  -- what isn't in flight and isn't marked wasn't in flight before
+  out_before : (d k : ℕ) → d < drone_count s → marks' d k ≡ false → list_any (λ j. j == k) (flight_of s marks' d) ≡ false → list_any (λ j. j == k) (flight_of s marks d) ≡ false
+  out_before d k l missing out = at (list_any (λ j. j == k) (flight_of s marks d)) refl where
+    at : (b : Bool) → list_any (λ j. j == k) (flight_of s marks d) ≡ b → b ≡ false
+    at true f = absurd (false≢true (sym out ∙ flight_stays s marks marks' d k l kept f missing))
+    at false f = refl
+
+  pub ready-hear : answer ≡ Going → IsReady s marks' counts'
+  ready-hear going = record {
+    unfinished = at (list_all (λ x. marks' x.drone x.packet) (all_packets s)) refl;
+    low = λ d k l b. let few = fewer d k in let low = ready.low d k l b in omega arith;
+    idle = λ d k l b missing out. counted_is d k missing ∙ ready.idle d k l b (unmarked d k missing) (out_before d k l missing out);
+  } where
     at : (b : Bool) → list_all (λ x. marks' x.drone x.packet) (all_packets s) ≡ b → b ≡ false
     at true e = let done_now = finished e in absurd (cc)
     at false e = refl
@@ -211,13 +214,31 @@ module _ (s : Upload) (marks marks' : Packets) (counts : ℕ → ℕ → ℕ) (f
           (λ d k l b. ap (λ (t : Bool). is_bad (status_for s d k up) && not t) (marks_stand d k l b)))
           ∙ sym (ap (λ (t : Bool). cond t Done (ended_by s (h ++ up ∷ []) (Some up))) (sym all_same ∙ e))
 
-    pub stands-hear : HostStandsFor (record { session = s; marked = marks'; counted = counts; progress = answer }) (h ++ up ∷ [])
+    counts_hear : (d k : ℕ) → d < drone_count s → k < packet_count s d → list_any (λ j. j == k) (flight_of s marks' d) ≡ true →
+        counts' d k ≡ ticks s (h ++ up ∷ []) (record { drone = d; packet = k })
+    counts_hear d k l b there =
+        counted_is d k missing ∙ before (list_any (λ j. j == k) (flight_of s marks d)) refl
+        ∙ (let e : ticks s h (record { drone = d; packet = k }) ≡ ticks s h (record { drone = d; packet = k }) + 0 = omega arith in e)
+        ∙ sym (ticks-push s h up (record { drone = d; packet = k })) where
+          missing : marks' d k ≡ false
+          missing = flight-open s marks' d k there
+
+          in_flight : list_any (λ j. j == k) (flight_of s marks d) ≡ list_any (λ j. j == k) (flight_of s (acked s h) d)
+          in_flight = ap (λ (xs : List ℕ). list_any (λ j. j == k) xs) (flight_of-agree s marks (acked s h) d l (λ e i m n. stands.marked (inl refl) e i m n))
+
+          before : (t : Bool) → list_any (λ j. j == k) (flight_of s marks d) ≡ t → counts d k ≡ ticks s h (record { drone = d; packet = k })
+          before true e = stands.counted refl d k l b (sym in_flight ∙ e)
+          before false e =
+              ready.idle d k l b (unmarked d k missing) e
+              ∙ sym (never_ticked s h d k l (sym (stands.marked (inl refl) d k l b) ∙ unmarked d k missing) (sym in_flight ∙ e))
+
+    pub stands-hear : HostStandsFor (record { session = s; marked = marks'; counted = counts'; progress = answer }) (h ++ up ∷ [])
     stands-hear = record {
       answer = answer-hear;
       marked = λ either d k l b. marks_stand d k l b;
-      counted = λ going d k l b. stands.counted refl d k l b
-          ∙ (let e : ticks s h (record { drone = d; packet = k }) ≡ ticks s h (record { drone = d; packet = k }) + 0 = omega arith in e)
-          ∙ sym (ticks-push s h up (record { drone = d; packet = k }));
+      counted = λ going d k l b there.
+          counts_hear d k l b
+          (ap (λ (xs : List ℕ). list_any (λ j. j == k) xs) (flight_of-agree s marks' (acked s (h ++ up ∷ [])) d l marks_stand) ∙ there);
     }
 
     pub sent-hear : if_going answer (filter (λ x. not (includes (flight_after s marks) x)) (flight_after s marks')) ≡ out s h up

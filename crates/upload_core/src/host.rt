@@ -1,15 +1,19 @@
-//! The host: it keeps a mark and a count for each packet, and its last answer.
+//! The host: it keeps a row of bits and the packets in flight of each drone, and its last answer.
 
-ghost use Rattle.std.specs.Prelude.{◌≡◌, ℕ, ◌+◌, ◌*◌, ◌<◌, ◌≤◌, Bool, List, [], ◌∷◌, ◌++◌, length, take, map, IfOk, All};
+ghost use Rattle.std.specs.Prelude.{◌≡◌, ℕ, ◌+◌, ◌*◌, ◌<◌, ◌≤◌, ◌⊎◌, Bool, List, [], ◌∷◌, ◌++◌, length, take, map, IfOk, All};
 ghost use Rattle.upload_model.specs.declared.events.Event.{Event};
+ghost use Rattle.upload_model.specs.declared.events.Progress.{Progress};
 ghost use Rattle.upload_model.specs.Sessions.{drone_count, write_count, packet_count};
-ghost use Rattle.upload_model.specs.Hosts.{progress, flight, out as out_of};
+ghost use Rattle.upload_model.specs.Hosts.{acked, progress, flight, out as out_of};
 ghost use Rattle.upload_core.specs.HostState.{HostState, IsPacketOf, view_of};
 ghost use Rattle.upload_core.specs.HostStandsFor.{HostStandsFor};
+ghost use Rattle.upload_core.specs.Rows.{IsWord, cursor_of, row_at};
+ghost use Rattle.upload_core.specs.Steps.{IsStarting};
 
 use crate::answers::hear;
 use crate::flight::{Out, put_first};
-use crate::rows::ROW;
+use crate::row::Row;
+use crate::rows::{first_open, word_at};
 use crate::session::Session;
 use crate::tick::tick;
 use crtp_packets::Packet;
@@ -22,47 +26,54 @@ use upload_model::{Event, Progress};
 #[derive(Drop)]
 pub struct Host {
     session: Session,
-    done: Vec<bool>,
-    counts: Vec<u8>,
+    rows: Vec<Row>,
     progress: Progress,
 }
 
 impl Model for Host {
-    ghost use Rattle.std.specs.Prelude.{◌≡◌, ◌*◌, length};
-    ghost use Rattle.upload_model.specs.Sessions.{drone_count, IsSession};
+    ghost use Rattle.std.specs.Prelude.{◌≡◌};
+    ghost use Rattle.upload_model.specs.Sessions.{IsSession};
     ghost use Rattle.upload_core.specs.HostState.{HostState};
-    ghost use Rattle.upload_core.specs.Rows.{marked, counted, IsReady};
-    ghost use Rattle.upload_core.specs.declared.rows.TheConstants.{ROW};
+    ghost use Rattle.upload_core.specs.Rows.{marked, counted};
+    ghost use Rattle.upload_core.specs.Steps.{RowsStand, IsReady};
     ghost use Rattle.upload_model.specs.declared.events.Progress.TheVariants.{Going};
 
     ghost Value = { HostState };
 
     ghost view = { λ h. record {
       session = h.session;
-      marks = h.done.items;
-      counts = h.counts.items;
+      rows = h.rows.items;
       progress = h.progress;
     } };
 
-    ghost invariant = { λ h. (length h.done.items ≡ ROW * drone_count h.session)
-        × (length h.counts.items ≡ ROW * drone_count h.session)
-        × IsSession h.session × (h.progress ≡ Going → IsReady h.session (marked h.done.items) (counted h.counts.items)) };
+    ghost invariant = { λ h. RowsStand h.session h.rows.items
+        × IsSession h.session
+        × (h.progress ≡ Going → IsReady h.session (marked h.rows.items) (counted h.session h.rows.items)) };
+}
+
+/// The row of a drone to which nothing has happened.
+fn first_row(session: &Session, drone: usize) -> Row
+    requires { drone < drone_count session.now }
+    ensures { IsStarting session.now drone result }
+{
+    Row::make(session.writes(drone))
 }
 
 impl Host {
-    /// A host to which nothing has happened. It takes all memory that the upload needs; where memory
-    /// wants, the session is dropped.
+    /// A host to which nothing has happened. It takes all memory that the upload needs; out of memory,
+    /// the session is dropped.
     pub fn make(alloc: Global, session: Session) -> Result<Host, AllocError>
         ensures session { IfOk result (λ host. host.session ≡ session) }
         ensures stands { IfOk result (λ host. HostStandsFor (view_of host) []) }
     {
-        let places = ROW * session.drones();
-        let done = vec![in alloc; false; places]?;
-        let counts = vec![in alloc; 0u8; places]?;
+        let drones = session.drones();
+        let mut rows = Vec::with_capacity(alloc, drones)?;
+        for drone in 0..drones {
+            rows.push(first_row(&session, drone))?;
+        }
         Ok(Host {
             session,
-            done,
-            counts,
+            rows,
             progress: Progress::Going,
         })
     }
@@ -105,6 +116,29 @@ impl Host {
         }
     }
 
+    /// The first packet of a drone that isn't acknowledged, or how many packets the drone has where all
+    /// are. After giving up and after a refusal it is the value from before.
+    pub fn cursor(&self, drone: usize) -> usize
+        requires { drone < drone_count self.now.session }
+        ensures { (h : List Event) → HostStandsFor (view_of self.now) h →
+            (progress self.now.session h ≡ Progress.Going) ⊎ (progress self.now.session h ≡ Progress.Done) →
+            result ≡ cursor_of self.now.session (acked self.now.session h) drone }
+    {
+        first_open(&self.session, self.rows.as_slice(), drone)
+    }
+
+    /// Word `w` of the packets of a drone: bit k is 1 exactly where the drone has a packet 64 w + k and
+    /// it is acknowledged. After giving up and after a refusal it is the value from before.
+    pub fn word(&self, drone: usize, w: usize) -> u64
+        requires known { drone < drone_count self.now.session }
+        requires in_range { 64 * w < packet_count self.now.session drone }
+        ensures { (h : List Event) → HostStandsFor (view_of self.now) h →
+            (progress self.now.session h ≡ Progress.Going) ⊎ (progress self.now.session h ≡ Progress.Done) →
+            IsWord self.now.session (acked self.now.session h) drone w result }
+    {
+        word_at(&self.session, self.rows.as_slice(), drone, w)
+    }
+
     /// A tick while the upload is going.
     fn on_tick(&mut self, out: &mut Out) -> Progress
         requires going { self.old.progress ≡ Progress.Going }
@@ -117,12 +151,7 @@ impl Host {
         ensures answer { (h : List Event) → HostStandsFor (view_of self.old) h →
             result ≡ progress self.old.session (h ++ Event.Tick ∷ []) }
     {
-        let answer = tick(
-            &self.session,
-            self.done.as_slice(),
-            self.counts.as_mut_slice(),
-            out,
-        );
+        let answer = tick(&self.session, self.rows.as_mut_slice(), out);
         self.progress = answer;
         answer
     }
@@ -139,7 +168,7 @@ impl Host {
         ensures answer { (h : List Event) → HostStandsFor (view_of self.old) h →
             result ≡ progress self.old.session (h ++ Event.Up drone packet.now ∷ []) }
     {
-        let answer = hear(&self.session, self.done.as_mut_slice(), drone, packet, out);
+        let answer = hear(&self.session, self.rows.as_mut_slice(), drone, packet, out);
         self.progress = answer;
         answer
     }

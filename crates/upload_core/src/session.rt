@@ -4,13 +4,16 @@ ghost use Rattle.std.specs.Prelude.{◌≡◌, ℕ, ◌+◌, ◌*◌, ◌<◌, �
 ghost use Rattle.upload_model.specs.Sessions.{IsSession, drone_count, load_of, write_count, packet_count, packet_at};
 ghost use Rattle.upload_core.specs.Uploads.{upload_of};
 
-use crate::rows::ROW;
+use crate::row::MOST_WRITES;
 use commander_cmds::{define, start};
 use crtp_packets::{Packet, write_request};
 use mem_chunks::{chunk, chunk_count};
 use std::alloc::{AllocError, Global};
 use std::marker::Model;
 use upload_model::{Listed, Load};
+
+/// The most packets of a drone: a write for each piece of a whole memory, a define and a start.
+pub const MOST_PACKETS: usize = MOST_WRITES + 2;
 
 /// Where the bytes of all loads go: the id of the drones' trajectory memory, the place of the first
 /// byte in it, 0 to 4,095, and the trajectory's id in the table, 0 to 9.
@@ -127,7 +130,7 @@ impl Session {
         requires { drone < drone_count self.now }
         ensures value { result ≡ write_count self.now drone }
         ensures some { 1 ≤ result }
-        ensures few { result + 2 ≤ ROW }
+        ensures few { result + 2 ≤ MOST_PACKETS }
         ensures valid { IsSession self.now }
     {
         let load = &self.loads[drone];
@@ -139,7 +142,7 @@ impl Session {
     pub fn count(&self, drone: usize) -> usize
         requires { drone < drone_count self.now }
         ensures value { result ≡ packet_count self.now drone }
-        ensures few { result ≤ ROW }
+        ensures few { result ≤ MOST_PACKETS }
         ensures more { write_count self.now drone < result }
     {
         let writes = self.writes(drone);

@@ -124,6 +124,44 @@ fn packets_are_those_of_the_format(rt: HostRuntime) -> Result<(), Fail> {
     assert_eq!(rt; settings.memory_id, 3);
     assert_eq!(rt; settings.offset, 4068);
     assert_eq!(rt; settings.trajectory_id, 9);
+    assert_eq!(rt; session.load_len(0), 1);
+    assert_eq!(rt; session.load_len(1), 28);
+    let bytes: [(usize, u8); 3] = [(0, 0), (9, 0xD0), (27, 0)];
+    for (i, byte) in bytes {
+        assert!(rt; i < session.load_len(1) && session.load_byte(1, i) == byte);
+    }
+    Ok(())
+}
+
+/// Whether a drone's first open packet is this one, and these bits are those of its first 64 packets.
+fn is_at(host: &Host, drone: usize, cursor: usize, word: u64) -> bool {
+    drone < host.session().drones()
+        && host.session().count(drone) > 0
+        && host.cursor(drone) == cursor
+        && host.word(drone, 0) == word
+}
+
+#[test]
+fn cursors_and_words(rt: HostRuntime) -> Result<(), Fail> {
+    let alloc = rt.alloc();
+    let mut host = Host::make(alloc, two_drones(alloc, true)?)?;
+    let mut out = Out::new();
+    assert!(rt; is_at(&host, 0, 0, 0));
+    // The define is acknowledged before it is sent, and so is a start.
+    let steps: [(&[u8], usize, u64); 4] = [
+        (&[0x8C, 6, 0, 1, 0], 0, 0b0100),
+        (&[0x4E, 2, 0, 0, 0, 0, 0], 1, 0b0101),
+        (&[0x8C, 5, 0, 0, 0], 1, 0b1101),
+        (&[0x4E, 2, 24, 0, 0, 0, 0], 4, 0b1111),
+    ];
+    for (bytes, cursor, word) in steps {
+        assert!(rt; host.event(up(0, bytes)?, &mut out) == Progress::Going);
+        assert!(rt; is_at(&host, 0, cursor, word));
+        assert!(rt; is_at(&host, 1, 0, 0));
+    }
+    assert!(rt; host.event(Event::Tick, &mut out) == Progress::Going);
+    let writes = [sent(1, 0), sent(1, 1)];
+    assert!(rt; out.as_slice() == writes.as_slice());
     Ok(())
 }
 

@@ -1,0 +1,22 @@
+-- Why `is_last` keeps its contract, at the places where the check needs to be told.
+use Rattle.std.proofs.Common.{◌≡◌, ◌+◌, ◌∙◌, ℕ, Bool, cond, false, ap, sym, arith}
+use Rattle.std.specs.List.{range_with_len, list_all}
+use Rattle.upload_model.specs.Sessions.{drone_count, write_count, packet_count}
+use Rattle.upload_model.specs.Hosts.{all_packets}
+use Rattle.upload_core.specs.declared.row.Row.{Row}
+use Rattle.upload_core.specs.Rows.{is_in, marked}
+use Rattle.upload_core.proofs.Walks.{list_all-rows_fails}
+use Rattle.upload_core.proofs.Drones.{row-at, packet_count-is}
+use Rattle.upload_core.proofs.answers.is_last.Goals as goal
+
+pub returns-else-is_done : goal.returns-else-is_done
+unfolding all_packets
+returns-else-is_done c =
+    let row : list_all (marked c.args.rows.now c.args.drone) (range_with_len 0 (packet_count c.args.session.now c.args.drone)) ≡ false
+    = ap (λ (n : ℕ). list_all (marked c.args.rows.now c.args.drone) (range_with_len 0 n)) (packet_count-is c.args.session.now c.args.drone)
+    ∙ ap (λ (r : Row). list_all (is_in r.words) (range_with_len 0 (write_count c.args.session.now c.args.drone + cond c.args.session.now.start 2 1)))
+    (row-at c.args.rows.now c.args.drone c.index-rows-drone.result c.index-rows-drone.is (let n = c.requires.rows.count in let l = c.requires.known in omega arith))
+    ∙ ap (λ (n : ℕ). list_all (is_in c.index-rows-drone.result.words) (range_with_len 0 (n + cond c.args.session.now.start 2 1))) (sym c.writes.ensures.value)
+    ∙ ap (λ (b : Bool). list_all (is_in c.index-rows-drone.result.words) (range_with_len 0 (c.writes.result + cond b 2 1))) (sym c.starts.ensures)
+    ∙ sym c.is_done.ensures ∙ c.if-is_done.false in
+    c.if-is_done.false ∙ sym (list_all-rows_fails (λ x. marked c.args.rows.now x.drone x.packet) (packet_count c.args.session.now) (drone_count c.args.session.now) c.args.drone c.requires.known row)

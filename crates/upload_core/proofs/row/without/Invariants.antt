@@ -1,0 +1,7 @@
+-- What holds whenever the loop of `without` begins a turn.
+use Rattle.std.proofs.Common.{◌≡◌, ◌≤◌, ◌==◌, not, take, filter, length}
+use Rattle.upload_core.proofs.row.without.Given as goal
+
+abbrev pub invariant-loop-entry : goal.invariant-loop-entry
+invariant-loop-entry l =
+    (l.left.items ≡ filter (λ e. not (e.packet == l.k)) (take l.entry-index l.entries)) × (length l.left.items ≤ l.entry-index)
