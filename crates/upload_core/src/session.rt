@@ -126,7 +126,7 @@ impl Session {
 
     /// How many of the packets of a drone are writes.
     #[tactic(auto, unfolding(upload_model::specs::Sessions::write_count))]
-    pub(crate) fn writes(&self, drone: usize) -> usize
+    pub fn writes(&self, drone: usize) -> usize
         requires { drone < drone_count self.now }
         ensures value { result ≡ write_count self.now drone }
         ensures some { 1 ≤ result }
