@@ -20,19 +20,18 @@ use Rattle.upload_model.proofs.OneDrone.{slice_get-set_same, slice_get-set_other
 use Rattle.upload_core.specs.HostState.{HostState, view_of}
 use Rattle.upload_core.specs.HostStandsFor.{HostStandsFor}
 use Rattle.upload_model.specs.Hosts.{flight}
-use Rattle.fleet_world.specs.WorldState.{WorldState, WorldStandsAt, state_of, state_at}
-use Rattle.fleet_world.specs.Mail.{row_of}
+use Rattle.fleet_world.specs.WorldState.{WorldView, IsAt, state_of, state_at}
 
 -- the rows after these packets were put behind those of their drones
-abbrev pub AfterPut : Upload → List Sent → List (List (List ℕ)) → List (List (List ℕ)) → Type 0
-AfterPut s out old new = (d : ℕ) → row_of new d ≡ row_of old d ++ packets_for s out d
+abbrev pub AfterPut : Upload → List Sent → (ℕ → List (List ℕ)) → (ℕ → List (List ℕ)) → Type 0
+AfterPut s out old new = (d : ℕ) → new d ≡ old d ++ packets_for s out d
 
-pub stands-host_event : (v : WorldState) (s : Upload) (w : Worlds.World) (e : Event) (host' : HostState) (sent : List Sent) (sent' : List (List (List ℕ))) (progress' : Progress) →
-    WorldStandsAt v s w → host'.session ≡ v.host.session → HostStandsFor (view_of host') (w.heard ++ e ∷ []) → sent ≡ out v.host.session w.heard e →
+pub stands-host_event : (v : WorldView) (s : Upload) (w : Worlds.World) (e : Event) (host' : HostState) (sent : List Sent) (sent' given' : ℕ → List (List ℕ)) (progress' : Progress) →
+    IsAt v s w → ((d : ℕ) → given' d ≡ v.given d) → host'.session ≡ v.host.session → HostStandsFor (view_of host') (w.heard ++ e ∷ []) → sent ≡ out v.host.session w.heard e →
     AfterPut host'.session sent v.sent sent' → progress' ≡ progress v.host.session (w.heard ++ e ∷ []) →
-    WorldStandsAt (record { host = host'; drones = v.drones; sent = sent'; given = v.given; progress = progress' }) s (host_event s w e)
+    IsAt (record { host = host'; drones = v.drones; sent = sent'; given = given'; progress = progress' }) s (host_event s w e)
 unfolding host_event
-stands-host_event v s w e host' sent sent' progress' at same stands sent_is put progress_is = record {
+stands-host_event v s w e host' sent sent' given' progress' at kept same stands sent_is put progress_is = record {
   session = same ∙ at.session;
   host = stands;
   progress = progress_is ∙ ap (λ (u : Upload). progress u (w.heard ++ e ∷ [])) at.session;
@@ -44,28 +43,23 @@ stands-host_event v s w e host' sent sent' progress' at same stands sent_is put 
       ∙ ap (λ (ps : List (List ℕ)). w.sent d ++ ps)
       (ap (λ (u : Upload). packets_for u sent d) (same ∙ at.session)
       ∙ ap (λ (xs : List Sent). packets_for s xs d) (sent_is ∙ ap (λ (u : Upload). out u w.heard e) at.session));
-  given = at.given;
+  given = λ d l. kept d ∙ at.given d l;
 }
 
-row_of-empty : (n d : ℕ) → row_of (replicate n []) d ≡ []
-row_of-empty zero d = refl
-row_of-empty (suc n) zero = refl
-row_of-empty (suc n) (suc d) = row_of-empty n d
-
-pub stands-start : (s : Upload) (drones : List Drone) (host : HostState) (sent : List (List (List ℕ))) (n m : ℕ) → host.session ≡ s → HostStandsFor (view_of host) [] → length drones ≡ drone_count s →
-    AfterPut host.session (flight host.session []) (replicate n []) sent → (p : Progress) → p ≡ progress s [] →
-    WorldStandsAt (record { host = host; drones = drones; sent = sent; given = replicate m []; progress = p }) s (start_world s (state_at drones))
+pub stands-start : (s : Upload) (drones : List Drone) (host : HostState) (sent given : ℕ → List (List ℕ)) → host.session ≡ s → HostStandsFor (view_of host) [] → length drones ≡ drone_count s →
+    AfterPut host.session (flight host.session []) (λ d. []) sent → ((d : ℕ) → given d ≡ []) → (p : Progress) → p ≡ progress s [] →
+    IsAt (record { host = host; drones = drones; sent = sent; given = given; progress = p }) s (start_world s (state_at drones))
 unfolding start_world
-stands-start s drones host sent n m same stands count put p is = record {
+stands-start s drones host sent given same stands count put none p is = record {
   session = same;
   host = stands;
   progress = is;
   count = count;
   drones = λ d l. refl;
   sent = λ d l.
-      put d ∙ ap (λ (ps : List (List ℕ)). ps ++ packets_for host.session (flight host.session []) d) (row_of-empty n d)
+      put d
       ∙ ap (λ (u : Upload). packets_for u (flight u []) d) same;
-  given = λ d l. row_of-empty m d;
+  given = λ d l. none d;
 }
 
 pub run-push : (s : Upload) (w : Worlds.World) (es : List WorldEvent) (e : WorldEvent) → run s w (es ++ e ∷ []) ≡ happens s (run s w es) e
@@ -110,10 +104,10 @@ state_at-set_same drones d x h = ap state_of (slice_get-set_same drones d x h)
 state_at-set_other : (drones : List Drone) (d i : ℕ) (x : Drone) → (i ≡ d → ⊥) → state_at (slice_set drones d x) i ≡ state_at drones i
 state_at-set_other drones d i x h = ap state_of (slice_get-set_other drones d i x h)
 
-pub stands-took : (v : WorldState) (s : Upload) (w : Worlds.World) (d : ℕ) (packet : List ℕ) (x : Drone) (answer : Option (List ℕ)) (given' : List (List (List ℕ))) →
-    WorldStandsAt v s w → d < drone_count s → shown x ≡ (handled (state_at v.drones d) packet).drone → answer ≡ (handled (state_at v.drones d) packet).answer →
-    row_of given' d ≡ row_of v.given d ++ option_list answer → ((i : ℕ) → i ≢ d → row_of given' i ≡ row_of v.given i) →
-    WorldStandsAt (record { host = v.host; drones = slice_set v.drones d x; sent = v.sent; given = given'; progress = v.progress }) s (took w d (handled (w.drones d) packet))
+pub stands-took : (v : WorldView) (s : Upload) (w : Worlds.World) (d : ℕ) (packet : List ℕ) (x : Drone) (answer : Option (List ℕ)) (given' : ℕ → List (List ℕ)) →
+    IsAt v s w → d < drone_count s → shown x ≡ (handled (state_at v.drones d) packet).drone → answer ≡ (handled (state_at v.drones d) packet).answer →
+    given' d ≡ v.given d ++ option_list answer → ((i : ℕ) → i ≢ d → given' i ≡ v.given i) →
+    IsAt (record { host = v.host; drones = slice_set v.drones d x; sent = v.sent; given = given'; progress = v.progress }) s (took w d (handled (w.drones d) packet))
 stands-took v s w d packet x answer given' at l drone_is answer_is here others = record {
   session = at.session;
   host = at.host;
@@ -132,7 +126,7 @@ stands-took v s w d packet x answer given' at l drone_is answer_is here others =
   sent = at.sent;
   given = λ i b. elim (cases_eq i d) [
     | inl same ↦
-        ap (row_of given') same ∙ here
+        ap given' same ∙ here
         ∙ ap (λ (ps : List (List ℕ)). ps ++ option_list answer) (at.given d l)
         ∙ ap (λ (o : Option (List ℕ)). w.given d ++ option_list o) (answer_is ∙ ap (λ (y : DroneState). (handled y packet).answer) (at.drones d l))
         ∙ sym (cond-true (i == d) (w.given d ++ option_list (handled (w.drones d) packet).answer) (w.given i) (eq-eqb i d same))

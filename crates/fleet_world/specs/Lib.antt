@@ -1,4 +1,5 @@
 pub mod Mail
+pub mod Again
 pub mod WorldState
 pub mod Schedules
 pub mod Faults

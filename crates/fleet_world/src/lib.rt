@@ -1,11 +1,13 @@
 //! The world of an upload: a host, a link that loses, repeats, delays and reorders packets, and the
 //! drones; and schedules, which tell as text what happens in it.
 //!
-//! A [`World`] takes one event after the other and stands for the list of them (`WorldStandsFor`).
+//! A [`World`] takes one event after the other and stands for the list of them (`WorldStandsFor`). It keeps
+//! packets and answers by their numbers, and makes them again when they are taken or heard.
 //! [`upload_law`] says what holds for every list. It stands on the host of `upload_core`, the drone of
 //! `firmware_memory`, the definitions of `upload_model` and the lines and words of `text_lines`.
 #![tactic(auto)]
 
+mod again;
 mod mail;
 mod schedule;
 #[cfg(test)]

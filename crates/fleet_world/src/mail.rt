@@ -1,27 +1,21 @@
-//! The packets of each drone in order, in one list for each drone, so that any of them is found at once.
+//! The packets and the answers of each drone in order, by the numbers of the packets, in one list for each
+//! drone, so that any of them is found at once.
 
 ghost use Rattle.std.specs.Prelude.{◌≡◌, ◌≢◌, ℕ, ◌+◌, ◌<◌, ◌≤◌, [], ◌∷◌, ◌++◌, length, replicate, slice_get, IfOk, OnOk, All};
-ghost use Rattle.upload_model.specs.Sessions.{drone_count, packet_at};
-ghost use Rattle.upload_model.specs.Worlds.{packets_for, option_list};
-ghost use Rattle.upload_core.specs.HostState.{IsPacketOf};
-ghost use Rattle.fleet_world.specs.Mail.{rows_of, row_of, HasRoom};
+ghost use Rattle.fleet_world.specs.Mail.{rows_of, row_of, HasRoom, notes_of};
 
-use crtp_packets::{Packet, from_bytes};
 use std::alloc::{AllocError, Global};
-use upload_core::{Sent, Session};
+use upload_core::Sent;
 
-/// A packet of the same bytes.
-fn copy_of(packet: &Packet) -> Packet
-    ensures { result ≡ packet.now }
-{
-    match from_bytes(packet.bytes()) {
-        Ok(copy) => copy,
-        Err(_) => unreachable!(),
-    }
+/// A packet of a drone by its number, and the status of its answer; 0 where it stands for no answer.
+#[derive(Clone, Copy)]
+pub struct Note {
+    pub packet: u16,
+    pub status: u8,
 }
 
-/// No packet for each of so many drones.
-pub fn empty_rows(alloc: Global, drones: usize) -> Result<Vec<Vec<Packet>>, AllocError>
+/// No note for each of so many drones.
+pub fn empty_rows(alloc: Global, drones: usize) -> Result<Vec<Vec<Note>>, AllocError>
     ensures { IfOk result (λ rows. rows_of rows.items ≡ replicate drones []) }
 {
     let mut rows = Vec::new(alloc);
@@ -31,8 +25,8 @@ pub fn empty_rows(alloc: Global, drones: usize) -> Result<Vec<Vec<Packet>>, Allo
     Ok(rows)
 }
 
-/// Room for so many packets more of each drone.
-pub fn make_room(rows: &mut [Vec<Packet>], packets: usize) -> Result<(), AllocError>
+/// Room for so many notes more of each drone.
+pub fn make_room(rows: &mut [Vec<Note>], packets: usize) -> Result<(), AllocError>
     ensures same { rows_of rows.new ≡ rows_of rows.old }
     ensures len { length rows.new ≡ length rows.old }
     ensures room { OnOk result (HasRoom rows.new packets) }
@@ -43,55 +37,46 @@ pub fn make_room(rows: &mut [Vec<Packet>], packets: usize) -> Result<(), AllocEr
     Ok(())
 }
 
-/// A copy of packet `n` of a drone.
-pub fn named(rows: &[Vec<Packet>], drone: usize, n: u32) -> Option<Packet>
+/// Note `n` of a drone.
+pub fn named(rows: &[Vec<Note>], drone: usize, n: u32) -> Option<Note>
     requires { drone < length rows.now }
     ensures { result ≡ slice_get (row_of (rows_of rows.now) drone) n }
 {
     match rows[drone].get(n as usize) {
-        Some(packet) => Some(copy_of(packet)),
+        Some(note) => Some(*note),
         None => None,
     }
 }
 
-/// One packet behind those of its drone, for which there is room.
-fn put(rows: &mut [Vec<Packet>], drone: usize, packet: Packet)
+/// One note after those of its drone, for which there is room.
+pub fn put(rows: &mut [Vec<Note>], drone: usize, note: Note)
     requires known { drone < length rows.old }
     requires room { HasRoom rows.old 1 }
     ensures len { length rows.new ≡ length rows.old }
-    ensures here { row_of (rows_of rows.new) drone ≡ row_of (rows_of rows.old) drone ++ packet ∷ [] }
+    ensures here { row_of (rows_of rows.new) drone ≡ row_of (rows_of rows.old) drone ++ note ∷ [] }
     ensures others { (d : ℕ) → d ≢ drone →
         row_of (rows_of rows.new) d ≡ row_of (rows_of rows.old) d }
     ensures room { (n : ℕ) → HasRoom rows.old (n + 1) → HasRoom rows.new n }
 {
-    rows[drone].push_reserved(packet);
+    rows[drone].push_reserved(note);
 }
 
-/// These packets behind those of their drones, for which there is room.
-pub fn put_all(session: &Session, out: &[Sent], rows: &mut [Vec<Packet>])
-    requires known { All (IsPacketOf session.now) out.now }
-    requires rows { length rows.old ≡ drone_count session.now }
+/// These packets after those of their drones, for which there is room.
+pub fn put_all(out: &[Sent], rows: &mut [Vec<Note>])
+    requires known { All (λ x. x.drone < length rows.old) out.now }
     requires room { HasRoom rows.old (length out.now) }
     ensures len { length rows.new ≡ length rows.old }
     ensures packets { (d : ℕ) → row_of (rows_of rows.new) d
-        ≡ row_of (rows_of rows.old) d ++ packets_for session.now out.now d }
+        ≡ row_of (rows_of rows.old) d ++ notes_of out.now d }
 {
     for x in out {
-        let packet = session.packet(x.drone as usize, x.packet as usize);
-        put(rows, x.drone as usize, packet);
-    }
-}
-
-/// A drone's answer, if it gave one, behind its others, for which there is room.
-pub fn put_answer(rows: &mut [Vec<Packet>], drone: usize, answer: Option<Packet>)
-    requires known { drone < length rows.old }
-    requires room { HasRoom rows.old 1 }
-    ensures len { length rows.new ≡ length rows.old }
-    ensures here { row_of (rows_of rows.new) drone ≡ row_of (rows_of rows.old) drone ++ option_list answer }
-    ensures others { (d : ℕ) → d ≢ drone →
-        row_of (rows_of rows.new) d ≡ row_of (rows_of rows.old) d }
-{
-    if let Some(packet) = answer {
-        put(rows, drone, packet);
+        put(
+            rows,
+            x.drone as usize,
+            Note {
+                packet: x.packet,
+                status: 0,
+            },
+        );
     }
 }

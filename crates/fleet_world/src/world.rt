@@ -2,7 +2,7 @@
 
 ghost use Rattle.std.specs.Prelude.{◌≡◌, ℕ, ◌+◌, ◌<◌, ◌≤◌, List, [], ◌∷◌, ◌++◌, length, IfOk, OnOk, OnErr, slice_get, Some};
 ghost use Rattle.upload_model.specs.declared.events.WorldEvent.{WorldEvent};
-ghost use Rattle.upload_model.specs.Sessions.{Upload, drone_count};
+ghost use Rattle.upload_model.specs.Sessions.{Upload, IsSession, drone_count, packet_at, packet_count};
 ghost use Rattle.upload_model.specs.Hosts.{progress as progress_of};
 ghost use Rattle.upload_model.specs.Worlds.{world, host_event, happens, took};
 ghost use Rattle.upload_model.specs.Drones.{handled};
@@ -10,8 +10,8 @@ ghost use Rattle.upload_model.specs.Worlds as Worlds;
 ghost use Rattle.firmware_memory.specs.declared.Drone.{Drone};
 ghost use Rattle.fleet_world.specs.WorldState.{WorldState, WorldStandsFor, WorldStandsAt, state_at};
 
-use crate::mail::{empty_rows, make_room, named, put_all, put_answer};
-use crtp_packets::Packet;
+use crate::again::{answer_again, answered};
+use crate::mail::{Note, empty_rows, make_room, named, put, put_all};
 use firmware_memory::Drone;
 use std::alloc::{AllocError, Global};
 use std::marker::Model;
@@ -23,15 +23,15 @@ use upload_model::WorldEvent;
 pub struct World {
     host: Host,
     drones: Vec<Drone>,
-    sent: Vec<Vec<Packet>>,
-    given: Vec<Vec<Packet>>,
+    sent: Vec<Vec<Note>>,
+    given: Vec<Vec<Note>>,
     progress: Progress,
 }
 
 impl Model for World {
     ghost use Rattle.std.specs.Prelude.{◌≡◌, length};
     ghost use Rattle.upload_model.specs.Sessions.{drone_count};
-    ghost use Rattle.fleet_world.specs.Mail.{rows_of};
+    ghost use Rattle.fleet_world.specs.Mail.{rows_of, AreKnown};
     ghost use Rattle.fleet_world.specs.WorldState.{WorldState};
 
     ghost Value = { WorldState };
@@ -46,7 +46,9 @@ impl Model for World {
 
     ghost invariant = { λ w. (length w.drones.items ≡ drone_count w.host.session)
         × (length w.sent.items ≡ drone_count w.host.session)
-        × (length w.given.items ≡ drone_count w.host.session) };
+        × (length w.given.items ≡ drone_count w.host.session)
+        × AreKnown w.host.session (rows_of w.sent.items)
+        × AreKnown w.host.session (rows_of w.given.items) };
 }
 
 impl World {
@@ -63,7 +65,7 @@ impl World {
         make_room(sent.as_mut_slice(), MOST_SENT)?;
         let mut out = Out::new();
         host.first(&mut out);
-        put_all(host.session(), out.as_slice(), sent.as_mut_slice());
+        put_all(out.as_slice(), sent.as_mut_slice());
         Ok(World {
             host,
             drones,
@@ -103,7 +105,10 @@ impl World {
                     return Ok(self.progress);
                 }
                 match named(self.given.as_slice(), drone as usize, n) {
-                    Some(packet) => self.happen(Event::Up { drone, packet }),
+                    Some(note) => {
+                        let packet = answer_again(self.host.session(), drone as usize, note);
+                        self.happen(Event::Up { drone, packet })
+                    }
                     None => Ok(self.progress),
                 }
             }
@@ -111,29 +116,36 @@ impl World {
                 if drone as usize >= self.host.session().drones() {
                     return Ok(self.progress);
                 }
-                let packet = match named(self.sent.as_slice(), drone as usize, n) {
-                    Some(packet) => packet,
+                let note = match named(self.sent.as_slice(), drone as usize, n) {
+                    Some(note) => note,
                     None => return Ok(self.progress),
                 };
-                self.take(drone, &packet)?;
+                self.take(drone, note.packet)?;
                 Ok(self.progress)
             }
         }
     }
 
-    /// A drone takes a packet.
-    fn take(&mut self, drone: u8, packet: &Packet) -> Result<(), AllocError>
+    /// A drone takes a packet, which is made again from its number.
+    fn take(&mut self, drone: u8, packet: u16) -> Result<(), AllocError>
         requires known { drone < drone_count self.old.host.session }
+        requires in_range { packet < packet_count self.old.host.session drone }
+        requires session { IsSession self.old.host.session }
         ensures stands { OnOk result ((s : Upload) (w : Worlds.World) → WorldStandsAt self.old s w →
-            WorldStandsAt self.new s (took w drone (handled (w.drones drone) packet.now))) }
+            WorldStandsAt self.new s (took w drone (handled (w.drones drone) (packet_at self.old.host.session drone packet)))) }
         ensures progress { self.new.progress ≡ self.old.progress }
         ensures count { length self.new.drones ≡ length self.old.drones }
         ensures err { OnErr result (self.new ≡ self.old) }
     {
         make_room(self.given.as_mut_slice(), 1)?;
+        let made = self.host.session().packet(drone as usize, packet as usize);
         let taker = &mut self.drones[drone as usize];
-        let answer = taker.handle(packet);
-        put_answer(self.given.as_mut_slice(), drone as usize, answer);
+        let status = answered(taker.handle(&made));
+        put(
+            self.given.as_mut_slice(),
+            drone as usize,
+            Note { packet, status },
+        );
         Ok(())
     }
 
@@ -148,11 +160,7 @@ impl World {
         make_room(self.sent.as_mut_slice(), MOST_SENT)?;
         let mut out = Out::new();
         let progress = self.host.event(e, &mut out);
-        put_all(
-            self.host.session(),
-            out.as_slice(),
-            self.sent.as_mut_slice(),
-        );
+        put_all(out.as_slice(), self.sent.as_mut_slice());
         self.progress = progress;
         Ok(progress)
     }

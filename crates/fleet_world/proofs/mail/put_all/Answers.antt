@@ -3,9 +3,9 @@ use Rattle.std.proofs.Common.{◌≡◌, ◌∙◌, ◌+◌, ◌-◌, ◌∷◌,
 use Rattle.std.proofs.lemmas.Bool.{cases_eq}
 use Rattle.std.proofs.lemmas.List.{take_more, append_assoc}
 use Rattle.upload_model.specs.declared.events.Sent.{Sent}
-use Rattle.upload_model.specs.Worlds.{packets_for}
-use Rattle.fleet_world.specs.Mail.{rows_of, row_of, HasRoom}
-use Rattle.fleet_world.proofs.RowLemmas.{packets_for-here, packets_for-other}
+use Rattle.fleet_world.specs.declared.mail.Note.{Note}
+use Rattle.fleet_world.specs.Mail.{rows_of, row_of, HasRoom, notes_of}
+use Rattle.fleet_world.proofs.RowLemmas.{notes_of-here, notes_of-other}
 use Rattle.fleet_world.proofs.mail.put_all.Goals as goal
 
 pub loop-x-preserved : goal.loop-x-preserved
@@ -17,17 +17,16 @@ loop-x-preserved c =
       c.put.ensures.len ∙ c.loop-x.invariant.0,
       (λ d. elim (cases_eq d x.drone) [
         | inl same ↦
-            subst (λ (i : ℕ). row_of (rows_of c.put.new.rows) i ≡ row_of (rows_of c.args.rows.now) i ++ packets_for c.args.session.now (take (c.loop-x.x-index + 1) c.args.out.now) i) (sym same)
+            subst (λ (i : ℕ). row_of (rows_of c.put.new.rows) i ≡ row_of (rows_of c.args.rows.now) i ++ notes_of (take (c.loop-x.x-index + 1) c.args.out.now) i) (sym same)
             (c.put.ensures.here
-            ∙ ap (λ (ps : List (List ℕ)). ps ++ c.packet-packet.result ∷ []) (c.loop-x.invariant.1 x.drone)
-            ∙ append_assoc (row_of (rows_of c.args.rows.now) x.drone) (packets_for c.args.session.now before x.drone) (c.packet-packet.result ∷ [])
-            ∙ ap (λ (p : List ℕ). row_of (rows_of c.args.rows.now) x.drone ++ (packets_for c.args.session.now before x.drone ++ p ∷ [])) c.packet-packet.ensures
-            ∙ ap (λ (ps : List (List ℕ)). row_of (rows_of c.args.rows.now) x.drone ++ ps)
-            (sym (packets_for-here c.args.session.now before x) ∙ ap (λ (xs : List Sent). packets_for c.args.session.now xs x.drone) (sym more)))
+            ∙ ap (λ (ns : List Note). ns ++ record { packet = x.packet; status = 0 } ∷ []) (c.loop-x.invariant.1 x.drone)
+            ∙ append_assoc (row_of (rows_of c.args.rows.now) x.drone) (notes_of before x.drone) (record { packet = x.packet; status = 0 } ∷ [])
+            ∙ ap (λ (ns : List Note). row_of (rows_of c.args.rows.now) x.drone ++ ns)
+            (sym (notes_of-here before x) ∙ ap (λ (xs : List Sent). notes_of xs x.drone) (sym more)))
         | inr other ↦
             c.put.ensures.others d other ∙ c.loop-x.invariant.1 d
-            ∙ ap (λ (ps : List (List ℕ)). row_of (rows_of c.args.rows.now) d ++ ps)
-            (sym (packets_for-other c.args.session.now before x d other) ∙ ap (λ (xs : List Sent). packets_for c.args.session.now xs d) (sym more))
+            ∙ ap (λ (ns : List Note). row_of (rows_of c.args.rows.now) d ++ ns)
+            (sym (notes_of-other before x d other) ∙ ap (λ (xs : List Sent). notes_of xs d) (sym more))
       ]),
       c.put.ensures.room (length c.args.out.now - (c.loop-x.x-index + 1)) (subst (λ (n : ℕ). HasRoom c.loop-x.rows n) left c.loop-x.invariant.2),
     )
