@@ -40,8 +40,8 @@ class Link:
 
 
 class Drone:
-    """A drone: its memory's id and bytes, its table of trajectories as (offset, pieces) or None, and the one that it has
-    started."""
+    """A drone: its memory's id and bytes, its table of trajectories as (offset, pieces) or None, and the one that it
+    has started."""
 
     def __init__(self, memory_id):
         self.memory_id, self.memory = memory_id, bytearray(b"\xFF" * MEMORY)
@@ -164,5 +164,5 @@ class SimulatedLink(Link):
         self.thread.join()
 
     def report(self):
-        return ["simulated link, seed %d: %d packets to drones, %d answers back; %d of them lost, %d repeated, %d late" % (self.options.seed, *(self.counts[it] for it in (
-                    "down", "up", "lost", "again", "late")))]
+        words = "simulated link, seed %d: %d packets to drones, %d answers back; %d of them lost, %d repeated, %d late"
+        return [words % (self.options.seed, *(self.counts[it] for it in ("down", "up", "lost", "again", "late")))]
