@@ -1,0 +1,74 @@
+"""Builds a plain Rust program of bench/plain and times it beside the program: for bench/play and bench/upload."""
+import importlib.util
+import os
+import resource
+import shutil
+import subprocess
+import sys
+import time
+from importlib.machinery import SourceFileLoader
+
+TOP = os.path.dirname(os.path.dirname(os.path.abspath(__file__)))
+RUNS = 5
+
+
+def shows():
+    """bench/shows, which makes the shows."""
+    loader = SourceFileLoader("shows", os.path.join(TOP, "bench", "shows"))
+    module = importlib.util.module_from_spec(importlib.util.spec_from_loader("shows", loader))
+    loader.exec_module(module)
+    return module
+
+
+def built(name, folder):
+    """The plain program of this name, built into a folder by rustc alone."""
+    if not shutil.which("rustc"):
+        sys.exit("no rustc on the PATH: there is nothing to compare with")
+    path = os.path.join(folder, name)
+    source = os.path.join(TOP, "bench", "plain", name + ".rs")
+    subprocess.run(["rustc", "--edition", "2021", "-C", "opt-level=3", "-o", path, source], check=True)
+    return path
+
+
+class Run:
+    """A command over an input and an output, and the seconds of the best of its runs."""
+
+    def __init__(self, command, source, sink=os.devnull):
+        self.command, self.source, self.sink, self.seconds = command, source, sink, float("inf")
+
+    def status(self, most=None):
+        """The status of one run, with at most so many KiB of address space."""
+        def limit():
+            if most is not None:
+                resource.setrlimit(resource.RLIMIT_AS, (most << 10, most << 10))
+        with open(self.source, "rb") as source, open(self.sink, "wb") as sink:
+            return subprocess.run(self.command, stdin=source, stdout=sink, stderr=subprocess.DEVNULL,
+                                  preexec_fn=limit).returncode
+
+    def once(self):
+        """Runs it once."""
+        begin = time.perf_counter()
+        status = self.status()
+        self.seconds = min(self.seconds, time.perf_counter() - begin)
+        if status:
+            sys.exit("%s ended with %d" % (" ".join(self.command), status))
+
+    def least_kib(self):
+        """The least KiB of address space with which it ends well."""
+        low, high = 0, 1 << 20
+        while high - low > 64:
+            middle = (low + high) // 2
+            low, high = (low, middle) if self.status(middle) == 0 else (middle, high)
+        return high
+
+
+def run_in_turns(runs, times=RUNS):
+    """Runs all of them in turns, so that a load of the machine meets each."""
+    for _ in range(times):
+        for run in runs:
+            run.once()
+
+
+def same(first, second):
+    """Whether two files hold the same bytes."""
+    return subprocess.run(["cmp", "-s", first, second]).returncode == 0

@@ -1,0 +1,175 @@
+//! A plain program that does what `play` does, from a plan: for bench/play, which compares the two. It has no checks of
+//! its input beyond what Rust makes it have.
+//!
+//!     play STEP positions|digits|all < PLAN
+//!
+//! `positions` works the rows' numbers out, `digits` writes them into a buffer too, and `all` hands the buffer on.
+use std::io::{self, Read, Write};
+
+const BUFFER: usize = 65536;
+
+struct Segment {
+    ms: u64,
+    axes: [Vec<i64>; 4],
+}
+
+struct Drone {
+    name: Vec<u8>,
+    segments: Vec<Segment>,
+    at: usize,
+    begin: u64,
+}
+
+/// The weights of an instant of a segment by degree, as 64-bit numbers where they fit.
+struct Weights {
+    ms: u64,
+    t: u64,
+    small: [[i64; 8]; 3],
+    large: [[i128; 8]; 3],
+    fits: [bool; 3],
+}
+
+const DEGREES: [usize; 3] = [1, 3, 7];
+const CHOOSE: [[i128; 8]; 3] = [[1, 1, 0, 0, 0, 0, 0, 0], [1, 3, 3, 1, 0, 0, 0, 0], [1, 7, 21, 35, 35, 21, 7, 1]];
+
+impl Weights {
+    fn of(ms: u64, t: u64) -> Weights {
+        let mut it = Weights { ms, t, small: [[0; 8]; 3], large: [[0; 8]; 3], fits: [false; 3] };
+        for (row, &n) in DEGREES.iter().enumerate() {
+            let whole = (ms as i128).pow(n as u32);
+            it.fits[row] = whole.checked_mul(32768 * 1000).is_some_and(|v| v < 1 << 62);
+            for k in 0..=n {
+                let weight = CHOOSE[row][k] * (t as i128).pow(k as u32) * ((ms - t) as i128).pow((n - k) as u32);
+                it.large[row][k] = weight;
+                if it.fits[row] {
+                    it.small[row][k] = weight as i64;
+                }
+            }
+        }
+        it
+    }
+
+    fn value(&self, points: &[i64], scale: i64) -> i64 {
+        let n = points.len() - 1;
+        if n == 0 {
+            return scale * points[0];
+        }
+        let row = [0, 0, 0, 1, 0, 0, 0, 2][n];
+        if self.fits[row] {
+            let sum: i64 = points.iter().zip(&self.small[row]).map(|(p, w)| p * w).sum();
+            return (scale * sum).div_euclid((self.ms as i64).pow(n as u32));
+        }
+        let whole = (self.ms as i128).pow(n as u32);
+        let sum: i128 = points.iter().zip(&self.large[row]).map(|(&p, w)| p as i128 * w).sum();
+        let scale = scale as i128;
+        (scale * sum.div_euclid(whole) + scale * sum.rem_euclid(whole) / whole) as i64
+    }
+}
+
+fn put(out: &mut Vec<u8>, v: i64) {
+    let mut digits = [0u8; 20];
+    let mut at = 20;
+    let mut rest = v.unsigned_abs();
+    loop {
+        at -= 1;
+        digits[at] = b'0' + (rest % 10) as u8;
+        rest /= 10;
+        if rest == 0 {
+            break;
+        }
+    }
+    if v < 0 {
+        out.push(b'-');
+    }
+    out.extend_from_slice(&digits[at..]);
+}
+
+fn decoded(name: &str, pieces: usize, data: &[u8]) -> Drone {
+    let number = |at: usize| i16::from_le_bytes([data[at], data[at + 1]]) as i64;
+    let mut last = [number(0), number(2), number(4), number(6)];
+    let mut at = 8;
+    let mut segments = Vec::with_capacity(pieces);
+    for _ in 0..pieces {
+        let header = data[at];
+        let ms = u16::from_le_bytes([data[at + 1], data[at + 2]]) as u64;
+        at += 3;
+        let axes = std::array::from_fn(|axis| {
+            let mut points = vec![last[axis]];
+            for _ in 0..[0, 1, 3, 7][(header >> (2 * axis) & 3) as usize] {
+                points.push(number(at));
+                at += 2;
+            }
+            last[axis] = points[points.len() - 1];
+            points
+        });
+        segments.push(Segment { ms, axes });
+    }
+    Drone { name: name.as_bytes().to_vec(), segments, at: 0, begin: 0 }
+}
+
+fn main() -> io::Result<()> {
+    let words: Vec<String> = std::env::args().collect();
+    let step: u64 = words[1].parse().expect("a step");
+    let (digits, writes) = (words[2] != "positions", words[2] == "all");
+    let mut plan = String::new();
+    io::stdin().read_to_string(&mut plan)?;
+    let mut drones = Vec::new();
+    let mut head = Vec::new();
+    for line in plan.lines() {
+        if let Some(rest) = line.strip_prefix("drone ") {
+            head = rest.split(' ').collect();
+        } else if let Some(rest) = line.strip_prefix("data ") {
+            let data: Vec<u8> = rest.split(' ').map(|it| u8::from_str_radix(it, 16).expect("a byte")).collect();
+            drones.push(decoded(head[0], head[4].parse().expect("pieces"), &data));
+        }
+    }
+    let end: u64 = drones[0].segments.iter().map(|it| it.ms).sum();
+    let mut out = Vec::with_capacity(2 * BUFFER);
+    let mut sink = io::stdout().lock();
+    let mut weights = Weights::of(1, 0);
+    let mut mixed = 0i64;
+    let mut instant = 0;
+    loop {
+        for drone in &mut drones {
+            while drone.segments[drone.at].ms < instant - drone.begin {
+                drone.begin += drone.segments[drone.at].ms;
+                drone.at += 1;
+            }
+            let (segment, t) = (&drone.segments[drone.at], instant - drone.begin);
+            if weights.ms != segment.ms || weights.t != t {
+                weights = Weights::of(segment.ms, t);
+            }
+            let [x, y, z, yaw] = &segment.axes;
+            let row = [weights.value(x, 1000), weights.value(y, 1000), weights.value(z, 1000), weights.value(yaw, 10)];
+            if !digits {
+                mixed = row.iter().fold(mixed, |sum, v| sum.wrapping_mul(31).wrapping_add(*v));
+                continue;
+            }
+            put(&mut out, instant as i64);
+            out.push(b' ');
+            out.extend_from_slice(&drone.name);
+            for v in row {
+                out.push(b' ');
+                put(&mut out, v);
+            }
+            out.push(b'\n');
+        }
+        if out.len() >= BUFFER {
+            if writes {
+                sink.write_all(&out)?;
+            }
+            mixed = mixed.wrapping_add(out[out.len() / 2] as i64);
+            out.clear();
+        }
+        if instant == end {
+            break;
+        }
+        instant = (instant + step).min(end);
+    }
+    if writes {
+        sink.write_all(&out)?;
+    } else {
+        eprintln!("{mixed}");
+    }
+    Ok(())
+}

@@ -1,0 +1,188 @@
+//! A plain program that does what `upload` does, from a plan: for bench/upload, which compares the two. The host is
+//! that of docs/RADIO.md.
+//!
+//!     upload PLAN < FRAMES
+use std::io::{self, Read, Write};
+
+const MOST_FRAMES: u32 = 4_000_000;
+
+/// A drone's packets, which of them are acknowledged, their ticks, and the first write that isn't acknowledged.
+struct Drone {
+    packets: Vec<Vec<u8>>,
+    writes: usize,
+    acked: Vec<bool>,
+    ticks: Vec<u8>,
+    cursor: usize,
+}
+
+impl Drone {
+    /// The packets that are in flight, at most four.
+    fn flight(&self) -> impl Iterator<Item = usize> + '_ {
+        let writes = (self.cursor..self.writes).filter(move |&k| !self.acked[k]).take(4);
+        let define = (self.cursor == self.writes && !self.acked[self.writes]).then_some(self.writes);
+        writes.chain(define)
+    }
+
+    /// The packet that an answer acknowledges.
+    fn named(&self, answer: &[u8]) -> Option<usize> {
+        let (port, least, key) = match answer[0] & 0xF3 {
+            0x42 => (0x42, 7, 6),
+            0x80 => (0x80, 5, 4),
+            _ => return None,
+        };
+        if answer.len() < least {
+            return None;
+        }
+        if port == 0x80 {
+            let k = self.writes;
+            return (self.packets[k][1..key] == answer[1..key]).then_some(k);
+        }
+        let first = u32::from_le_bytes(self.packets[0][2..6].try_into().ok()?);
+        let address = u32::from_le_bytes(answer[2..6].try_into().ok()?);
+        let k = address.checked_sub(first)? as usize / 24;
+        (k < self.writes && self.packets[k][1..key] == answer[1..key]).then_some(k)
+    }
+}
+
+struct Host {
+    drones: Vec<Drone>,
+    left: usize,
+}
+
+impl Host {
+    fn send(&self, drone: usize, k: usize, out: &mut Vec<u8>) {
+        let packet = &self.drones[drone].packets[k];
+        out.extend_from_slice(&[0x50, drone as u8 + 1, packet.len() as u8]);
+        out.extend_from_slice(packet);
+    }
+
+    fn send_all(&self, out: &mut Vec<u8>) {
+        for (d, drone) in self.drones.iter().enumerate() {
+            for k in drone.flight() {
+                self.send(d, k, out);
+            }
+        }
+    }
+
+    fn tick(&mut self, out: &mut Vec<u8>) -> Option<u8> {
+        let mut gave_up = false;
+        for drone in &mut self.drones {
+            let flight: Vec<usize> = drone.flight().collect();
+            for k in flight {
+                drone.ticks[k] += 1;
+                gave_up |= drone.ticks[k] == 20;
+            }
+        }
+        if gave_up {
+            return Some(9);
+        }
+        self.send_all(out);
+        None
+    }
+
+    fn hear(&mut self, d: usize, answer: &[u8], out: &mut Vec<u8>) -> Option<u8> {
+        let drone = &mut self.drones[d];
+        let k = drone.named(answer)?;
+        if drone.acked[k] {
+            return None;
+        }
+        if answer[if answer[0] & 0xF3 == 0x42 { 6 } else { 4 }] != 0 {
+            return Some(10);
+        }
+        let mut before = [usize::MAX; 4];
+        for (slot, it) in before.iter_mut().zip(drone.flight()) {
+            *slot = it;
+        }
+        drone.acked[k] = true;
+        while drone.cursor < drone.writes && drone.acked[drone.cursor] {
+            drone.cursor += 1;
+        }
+        self.left -= 1;
+        if self.left == 0 {
+            return Some(0);
+        }
+        let mut after = [usize::MAX; 4];
+        for (slot, it) in after.iter_mut().zip(self.drones[d].flight()) {
+            *slot = it;
+        }
+        for it in after {
+            if it != usize::MAX && !before.contains(&it) {
+                self.send(d, it, out);
+            }
+        }
+        None
+    }
+}
+
+fn host_of(plan: &str) -> Host {
+    let mut drones: Vec<Drone> = Vec::new();
+    for line in plan.lines() {
+        let mut words = line.split(' ');
+        match words.next() {
+            Some("drone") => {
+                drones.push(Drone { packets: Vec::new(), writes: 0, acked: Vec::new(), ticks: Vec::new(), cursor: 0 })
+            }
+            Some(kind @ ("write" | "define")) => {
+                let packet = words.map(|it| u8::from_str_radix(it, 16).expect("a byte")).collect();
+                let drone = drones.last_mut().expect("a drone");
+                drone.packets.push(packet);
+                drone.writes += (kind == "write") as usize;
+                drone.acked.push(false);
+                drone.ticks.push(0);
+            }
+            _ => {}
+        }
+    }
+    let left = drones.iter().map(|it| it.packets.len()).sum();
+    Host { drones, left }
+}
+
+fn main() -> io::Result<()> {
+    let path = std::env::args().nth(1).expect("a plan");
+    let mut host = host_of(&std::fs::read_to_string(path)?);
+    let (mut source, mut sink) = (io::stdin().lock(), io::stdout().lock());
+    let mut out = Vec::new();
+    host.send_all(&mut out);
+    let mut buffer = [0u8; 4096];
+    let (mut begin, mut end, mut frames) = (0, 0, 0);
+    let status = loop {
+        let rest = &buffer[begin..end];
+        let size = match rest {
+            [] | [0x50] | [0x50, 1..=32] => 0,
+            [0x54, ..] => 1,
+            [0x50, 1..=32, length @ 1..=31, ..] => 3 + *length as usize,
+            _ => break 11,
+        };
+        if size == 0 || size > rest.len() {
+            sink.write_all(&out)?;
+            sink.flush()?;
+            out.clear();
+            buffer.copy_within(begin..end, 0);
+            (begin, end) = (0, end - begin);
+            let more = source.read(&mut buffer[end..])?;
+            if more == 0 {
+                break if end == 0 { 8 } else { 11 };
+            }
+            end += more;
+            continue;
+        }
+        let status = if size == 1 {
+            host.tick(&mut out)
+        } else if (rest[1] as usize) <= host.drones.len() {
+            host.hear(rest[1] as usize - 1, &rest[3..size], &mut out)
+        } else {
+            None
+        };
+        if let Some(status) = status {
+            break status;
+        }
+        begin += size;
+        frames += 1;
+        if frames == MOST_FRAMES {
+            break 13;
+        }
+    };
+    out.extend_from_slice(&[0x45, status]);
+    sink.write_all(&out)?;
+    std::process::exit(status as i32)
+}
