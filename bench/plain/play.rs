@@ -20,63 +20,93 @@ struct Drone {
     begin: u64,
 }
 
-/// The weights of an instant of a segment by degree, as 64-bit numbers where they fit.
+/// The weights of an instant of a segment by degree, as 64-bit numbers where they fit. They are worked out where a
+/// drone needs them, and drones at the same instant of a segment share them.
 struct Weights {
     ms: u64,
     t: u64,
+    made: [bool; 3],
+    fits: [bool; 3],
     small: [[i64; 8]; 3],
     large: [[i128; 8]; 3],
-    fits: [bool; 3],
 }
 
-const DEGREES: [usize; 3] = [1, 3, 7];
-const CHOOSE: [[i128; 8]; 3] = [[1, 1, 0, 0, 0, 0, 0, 0], [1, 3, 3, 1, 0, 0, 0, 0], [1, 7, 21, 35, 35, 21, 7, 1]];
+const DEGREES: [u32; 3] = [1, 3, 7];
+const CHOOSE: [[i64; 8]; 3] = [[1, 1, 0, 0, 0, 0, 0, 0], [1, 3, 3, 1, 0, 0, 0, 0], [1, 7, 21, 35, 35, 21, 7, 1]];
 
 impl Weights {
     fn of(ms: u64, t: u64) -> Weights {
-        let mut it = Weights { ms, t, small: [[0; 8]; 3], large: [[0; 8]; 3], fits: [false; 3] };
-        for (row, &n) in DEGREES.iter().enumerate() {
-            let whole = (ms as i128).pow(n as u32);
-            it.fits[row] = whole.checked_mul(32768 * 1000).is_some_and(|v| v < 1 << 62);
-            for k in 0..=n {
-                let weight = CHOOSE[row][k] * (t as i128).pow(k as u32) * ((ms - t) as i128).pow((n - k) as u32);
-                it.large[row][k] = weight;
-                if it.fits[row] {
-                    it.small[row][k] = weight as i64;
-                }
-            }
-        }
-        it
+        let fits = DEGREES.map(|n| (ms as i128).pow(n) < (1 << 62) / (32768 * 1000));
+        Weights { ms, t, made: [false; 3], fits, small: [[0; 8]; 3], large: [[0; 8]; 3] }
     }
 
-    fn value(&self, points: &[i64], scale: i64) -> i64 {
-        let n = points.len() - 1;
-        if n == 0 {
-            return scale * points[0];
+    fn move_to(&mut self, ms: u64, t: u64) {
+        if self.ms != ms {
+            *self = Weights::of(ms, t);
+        } else if self.t != t {
+            self.t = t;
+            self.made = [false; 3];
         }
-        let row = [0, 0, 0, 1, 0, 0, 0, 2][n];
+    }
+
+    fn make(&mut self, row: usize) {
+        let n = DEGREES[row];
+        for k in 0..=n {
+            let choose = CHOOSE[row][k as usize];
+            if self.fits[row] {
+                self.small[row][k as usize] = choose * (self.t as i64).pow(k) * ((self.ms - self.t) as i64).pow(n - k);
+            } else {
+                let (t, rest) = (self.t as i128, (self.ms - self.t) as i128);
+                self.large[row][k as usize] = choose as i128 * t.pow(k) * rest.pow(n - k);
+            }
+        }
+        self.made[row] = true;
+    }
+
+    fn value(&mut self, points: &[i64], scale: i64) -> i64 {
+        let row = match points.len() {
+            1 => return scale * points[0],
+            2 => 0,
+            4 => 1,
+            _ => 2,
+        };
+        if !self.made[row] {
+            self.make(row);
+        }
+        let n = DEGREES[row];
         if self.fits[row] {
             let sum: i64 = points.iter().zip(&self.small[row]).map(|(p, w)| p * w).sum();
-            return (scale * sum).div_euclid((self.ms as i64).pow(n as u32));
+            return (scale * sum).div_euclid((self.ms as i64).pow(n));
         }
-        let whole = (self.ms as i128).pow(n as u32);
+        let whole = (self.ms as i128).pow(n);
         let sum: i128 = points.iter().zip(&self.large[row]).map(|(&p, w)| p as i128 * w).sum();
         let scale = scale as i128;
         (scale * sum.div_euclid(whole) + scale * sum.rem_euclid(whole) / whole) as i64
     }
 }
 
+const PAIRS: [[u8; 2]; 100] = {
+    let mut pairs = [[0; 2]; 100];
+    let mut k = 0;
+    while k < 100 {
+        pairs[k] = [b'0' + (k / 10) as u8, b'0' + (k % 10) as u8];
+        k += 1;
+    }
+    pairs
+};
+
 fn put(out: &mut Vec<u8>, v: i64) {
     let mut digits = [0u8; 20];
     let mut at = 20;
     let mut rest = v.unsigned_abs();
-    loop {
+    while rest >= 10 {
+        at -= 2;
+        digits[at..at + 2].copy_from_slice(&PAIRS[(rest % 100) as usize]);
+        rest /= 100;
+    }
+    if rest > 0 || at == 20 {
         at -= 1;
-        digits[at] = b'0' + (rest % 10) as u8;
-        rest /= 10;
-        if rest == 0 {
-            break;
-        }
+        digits[at] = b'0' + rest as u8;
     }
     if v < 0 {
         out.push(b'-');
@@ -136,9 +166,7 @@ fn main() -> io::Result<()> {
                 drone.at += 1;
             }
             let (segment, t) = (&drone.segments[drone.at], instant - drone.begin);
-            if weights.ms != segment.ms || weights.t != t {
-                weights = Weights::of(segment.ms, t);
-            }
+            weights.move_to(segment.ms, t);
             let [x, y, z, yaw] = &segment.axes;
             let row = [weights.value(x, 1000), weights.value(y, 1000), weights.value(z, 1000), weights.value(yaw, 10)];
             if !digits {
