@@ -103,7 +103,7 @@ class SimulatedLink(Link):
     def __init__(self, names, heard, drones, options):
         super().__init__(names, heard)
         self.drones, self.options, self.chance = drones, options, random.Random(options.seed)
-        self.answer_time = max(0.005, 5 * options.delay / 1000)
+        self.answer_time = max(0.005, 5 * options.delay / 1000, 2 / options.rate)
         self.counts = dict.fromkeys(("down", "up", "lost", "again", "late"), 0)
         self.under_way, self.number, self.free_at, self.open = [], 0, 0.0, True
         self.changed = threading.Condition()
