@@ -53,7 +53,6 @@ landing curve upload lasting g e trajs u near apart start drones events later fr
     (All-get_or IsTrajectory trajs d no_trajectory within u.formed) (All-get_or IsSendable trajs d no_trajectory within u.sendable).last
     (only.length_kept ∙ (fresh d within).memory) (safe.loaded d known still) (safe.listed d known still) in
     record {
-      flown = trajs;
       counted = near.drones;
       decoded = decodes;
       only = λ d t within other. curve.one ((world s drones (events ++ later)).drones d) e.trajectory_id t (get_or trajs d no_trajectory) other (decodes d within);

@@ -25,23 +25,22 @@ abbrev pub session_for : Settings → List Traj → Bool → Upload
 session_for e trajs start =
     record { memory_id = e.memory_id; offset = e.offset; trajectory_id = e.trajectory_id; loads = map load_for trajs; start = start }
 
--- Each drone's memory decodes to one trajectory and to no other. These keep near to what the show says at every instant, and keep any two
--- drones apart at every instant.
-pub record IsLanded (g : Grid) (e : Settings) (w : World) : Type 0 where
-  pub flown : List Traj
-  pub counted : length flown ≡ length g.starts
-  pub decoded : (d : ℕ) → d < length flown → DecodesTo (w.drones d) e.trajectory_id (slice_index_or flown d no_trajectory)
-  pub only : (d : ℕ) (t : Traj) → d < length flown → DecodesTo (w.drones d) e.trajectory_id t → t ≡ slice_index_or flown d no_trajectory
-  pub near : KeepsNearShow g flown
-  pub apart : FlyApart e flown
+-- Each drone's memory decodes to its trajectory of this list and to no other. These keep near to what the show says at every instant, and keep
+-- any two drones apart at every instant.
+pub record IsLanded (g : Grid) (e : Settings) (trajs : List Traj) (w : World) : Type 0 where
+  pub counted : length trajs ≡ length g.starts
+  pub decoded : (d : ℕ) → d < length trajs → DecodesTo (w.drones d) e.trajectory_id (slice_index_or trajs d no_trajectory)
+  pub only : (d : ℕ) (t : Traj) → d < length trajs → DecodesTo (w.drones d) e.trajectory_id t → t ≡ slice_index_or trajs d no_trajectory
+  pub near : KeepsNearShow g trajs
+  pub apart : FlyApart e trajs
 
 -- Whatever the drones hold at the start, and whatever the link loses, repeats, delays or reorders: once all packets of the session of these
--- trajectories are acknowledged, with starts or without, the memories hold such curves, then and at each later moment.
+-- trajectories are acknowledged, with starts or without, the memories hold these curves, then and at each later moment.
 abbrev pub Lands : Grid → Settings → List Traj → Type 0
 Lands g e trajs =
     (start : Bool) (drones : ℕ → DroneState) (events later : List WorldEvent) → ((d : ℕ) → d < length trajs → IsDrone (drones d)) →
     progress (session_for e trajs start) (world (session_for e trajs start) drones events).heard ≡ Done →
-    IsLanded g e (world (session_for e trajs start) drones (events ++ later))
+    IsLanded g e trajs (world (session_for e trajs start) drones (events ++ later))
 
 -- Trajectories that can be uploaded: 1 to 32 of them, of some segments each, with room from the offset on.
 pub record AreUploadable (e : Settings) (trajs : List Traj) : Type 0 where

@@ -54,11 +54,3 @@ drone_parts s d (name ∷ names) (t ∷ ts) = drone_part s d name.items t ++ dro
 -- The plan of drones with these names and trajectories: its packets are those of their session, with starts.
 unfoldable pub plan_text : Settings → List Name → List Traj → List ℕ
 plan_text e names ts = head_line ++ (drone_parts (session_for e ts true) 0 names ts ++ end_line)
-
--- what is said of a show that is accepted: how many drones and cues it has, and how many milliseconds it lasts
-unfoldable pub ok_line : ℕ → ℕ → ℕ → List ℕ
-ok_line drones cues ms = line (codes "ok") (codes "drones" ∷ decimal drones ∷ codes "cues" ∷ decimal cues ∷ codes "duration_ms" ∷ decimal ms ∷ [])
-
--- what is said of a certificate that is valid: its depth, and how many trees it has
-unfoldable pub valid_line : ℕ → ℕ → List ℕ
-valid_line depth trees = line (codes "valid") (codes "depth" ∷ decimal depth ∷ codes "trees" ∷ decimal trees ∷ [])

@@ -8,12 +8,13 @@
 //! `certificate` answers what keeps the drones of a show that fits apart, or the first part of a cue in which no direction
 //! separates two of them (`specs/Separation.antt`); `separation_law` says what that first part is (`specs/Laws.antt`).
 //!
-//! `plan_text` answers the text with each drone's bytes, `ok_line` and `valid_line` what is said of an accepted show and of a
-//! valid certificate: byte by byte those of `specs/Texts.antt`.
+//! `plan_text` returns the text with each drone's bytes and the packets that bring them, byte by byte that of `specs/Texts.antt`.
+//! `session` is what is uploaded, and `landing_law` says what it leaves in the drones' memories (`specs/Landing.antt`).
 //!
 //! It stands on `choreo_reader` for what a show says, on `cue_grid` for its cues, on `figure_expand` and `mm_rounding` for
 //! its pieces and where they round to, on `traj_codec` for trajectories, on `sep_parts`, `pair_search` and `sep_certificate`
-//! for their separation, on `mem_chunks` for the size of a drone's memory, and on `fleet_io` and `fault_lines` for texts.
+//! for their separation, on `mem_chunks` for the size of a drone's memory, on `upload_core`, `upload_model` and `memory_curves`
+//! for uploads, and on `fleet_io` for texts.
 #![tactic(auto)]
 
 mod fitted;
@@ -26,7 +27,7 @@ mod upload;
 pub use fitted::{Fitted, PlanFault};
 pub use fitting::fit;
 pub use separation::{certificate, count_nodes, separation_law};
-pub use text::{ok_line, plan_text, valid_line};
+pub use text::plan_text;
 pub use upload::{landing_law, session, uploadable_law};
 
 #[cfg(test)]

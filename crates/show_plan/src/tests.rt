@@ -260,23 +260,3 @@ fn plans(rt: HostRuntime) {
         }
     }
 }
-
-#[test]
-fn lines(rt: HostRuntime) {
-    assert_eq!(rt;
-        ok_line(2, 3, 9000).bytes(),
-        b"ok drones 2 cues 3 duration_ms 9000\n".as_slice()
-    );
-    assert_eq!(rt;
-        ok_line(32, 1000, 65_535_000).bytes(),
-        b"ok drones 32 cues 1000 duration_ms 65535000\n".as_slice()
-    );
-    assert_eq!(rt;
-        valid_line(6, 3).bytes(),
-        b"valid depth 6 trees 3\n".as_slice()
-    );
-    assert_eq!(rt;
-        valid_line(0, 0).bytes(),
-        b"valid depth 0 trees 0\n".as_slice()
-    );
-}

@@ -9,13 +9,12 @@ ghost use Rattle.upload_model.specs.Sessions.{Upload};
 ghost use Rattle.show_plan.specs.Fitting.{StandsAsWord, AreEncodings, IsValidFitted};
 ghost use Rattle.show_plan.specs.Landing.{session_for};
 ghost use Rattle.show_plan.specs.Steps.{alone};
-ghost use Rattle.show_plan.specs.Texts.{head_line, drone_line, end_line, drone_part, drone_parts, packet_lines, plan_text, ok_line, valid_line};
+ghost use Rattle.show_plan.specs.Texts.{head_line, drone_line, end_line, drone_part, drone_parts, packet_lines, plan_text};
 
 use crate::fitted::Fitted;
 use crate::packets::{put_bytes, put_packets};
 use choreo_reader::{Listed, Name, Settings};
-use fault_lines::{put, put_number};
-use fleet_io::{Lines, ShortLine};
+use fleet_io::Lines;
 use mem_chunks::MEMORY_BYTES;
 use std::alloc::{AllocError, Global};
 use traj_codec::{Segment, Traj};
@@ -122,6 +121,27 @@ fn put_parts(
     Ok(())
 }
 
+// The bytes of these rows together.
+fn total(rows: &[Listed<u8>]) -> usize
+    requires few { length rows.now ≤ 32 }
+    requires short { All (λ (row : List ℕ). length row ≤ 4096) rows.now }
+    ensures { result ≤ 131072 }
+{
+    let mut total = 0;
+    for k in 0..rows.len() {
+        total += rows[k].as_slice().len();
+    }
+    total
+}
+
+// How many bytes the plan text of a show takes at most. A byte of a trajectory stands in the line `data` and in a write, with three
+// characters each, and the head of its write takes one more for it.
+fn room_for(f: &Fitted) -> usize
+    requires { IsValidFitted f.now }
+{
+    100 + 250 * f.names.as_slice().len() + 7 * total(f.bytes.as_slice())
+}
+
 /// The plan text of a show that fits: `plan 1`; for each drone a line with its name, the number of its bytes and of its segments, a line
 /// with its bytes in two hexadecimal digits each, and a line for each packet that writes them, defines the trajectory and starts it; and
 /// `end` (docs/COMMANDS.md). Out of memory is the only refusal.
@@ -129,7 +149,7 @@ pub fn plan_text(alloc: Global, f: &Fitted) -> Result<Lines, AllocError>
     requires { IsValidFitted f.now }
     ensures { IfOk result (λ text. text ≡ plan_text f.now.settings f.now.names f.now.sent) }
 {
-    let mut text = Lines::make(alloc);
+    let mut text = Lines::with_room(alloc, room_for(f))?;
     put_head(&mut text)?;
     put_parts(
         &mut text,
@@ -140,34 +160,4 @@ pub fn plan_text(alloc: Global, f: &Fitted) -> Result<Lines, AllocError>
     )?;
     put_end(&mut text)?;
     Ok(text)
-}
-
-/// What is said of a show that is accepted: how many drones and cues it has, and how many milliseconds it lasts.
-pub fn ok_line(drones: u8, cues: u16, ms: u32) -> ShortLine
-    ensures { result ≡ ok_line drones cues ms }
-{
-    let mut line = ShortLine::make();
-    put(&mut line, b"ok");
-    put(&mut line, b"drones");
-    put_number(&mut line, u32::from(drones));
-    put(&mut line, b"cues");
-    put_number(&mut line, u32::from(cues));
-    put(&mut line, b"duration_ms");
-    put_number(&mut line, ms);
-    line.end();
-    line
-}
-
-/// What is said of a certificate that is valid: its depth, and how many trees it has.
-pub fn valid_line(depth: u8, trees: u32) -> ShortLine
-    ensures { result ≡ valid_line depth trees }
-{
-    let mut line = ShortLine::make();
-    put(&mut line, b"valid");
-    put(&mut line, b"depth");
-    put_number(&mut line, u32::from(depth));
-    put(&mut line, b"trees");
-    put_number(&mut line, trees);
-    line.end();
-    line
 }

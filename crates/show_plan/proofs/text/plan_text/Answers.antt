@@ -14,7 +14,7 @@ pub returns : goal.returns
 unfolding plan_text
 returns c =
     let e = c.args.f.now.settings in
-    let head = c.in_ok-put_head.ensures ∙ ap (λ (t : List ℕ). t ++ head_line) c.make-text.ensures in
+    let head = c.in_ok-put_head.ensures ∙ ap (λ (t : List ℕ). t ++ head_line) c.in_ok-text.ensures in
     let parts = drone_parts (session_for e c.as_slice-3.result.now true) 0 c.as_slice.result.now c.as_slice-3.result.now in
     c.in_ok-put_end.ensures
     ∙ ap (λ (t : List ℕ). t ++ end_line) (c.in_ok-put_parts.ensures.parts ∙ ap (λ (t : List ℕ). t ++ parts) head)

@@ -1,0 +1,3 @@
+pub mod KindWords
+pub mod Lines
+pub mod Refusals
