@@ -1,89 +1,57 @@
--- An input comes to one outcome alone, and what a certificate comes to.
-use Rattle.std.proofs.Common.{◌≡◌, inl, inr, ℕ, ◌<◌, ◌≤◌, Bool, true, false, cond, nat_lt, List, [], length, Option, Some, None, Result, Ok, Err, IfOk, refl, sym, ap, subst, ◌∙◌, arith}
+-- An input comes to one outcome alone, and to one.
+use Rattle.std.proofs.Common.{◌≡◌, inl, inr, ℕ, ◌<◌, ◌≤◌, Bool, true, false, cond, nat_lt, List, [], length, map, Option, Some, None, All, refl, sym, ap, subst, ◌∙◌, arith}
 use Rattle.std.specs.Option.{option_map, option_or}
 use Rattle.std.proofs.lemmas.Bool.Decides.{nat_tests}
+use Rattle.std.proofs.lemmas.List.{length-map}
+use Rattle.std.proofs.lemmas.List.Elements.{All-nil}
 use Rattle.std.specs.Str.Lines.{lines}
-use Rattle.std.specs.declared.alloc.AllocError.{AllocError}
-use Rattle.fleet_io.specs.declared.parts.Part.{Part}
 use Rattle.choreo_lines.specs.Name.{Name}
+use Rattle.choreo_reader.specs.declared.show.DroneLine.{DroneLine}
 use Rattle.choreo_reader.specs.Plain.{PlainShow}
 use Rattle.choreo_reader.specs.Grammar.{StandsFor}
 use Rattle.choreo_reader.specs.Laws.{ShowLaw}
 use Rattle.choreo_reader.specs.Context.{fault}
-use Rattle.fault_lines.specs.Lines.{too_large_line}
 use Rattle.cue_grid.specs.Cues.{grid_of}
-use Rattle.cue_grid.specs.Faults.{grid_fault}
-use Rattle.figure_expand.specs.declared.fault.ExpandFault.TheVariants as expand
-use Rattle.figure_expand.specs.Expanded.{range_fault}
-use Rattle.show_plan.specs.declared.fitted.PlanFault.{PlanFault}
-use Rattle.show_plan.specs.declared.fitted.PlanFault.TheVariants as plan
-use Rattle.show_plan.specs.Fitting.{in_order, unsendable}
-use Rattle.show_plan.specs.Separation.{blocked_part}
-use Rattle.sep_parts.specs.Versions.{table_of}
-use Rattle.sep_parts.specs.Raised.{Raised, raised_of}
-use Rattle.sep_certificate.specs.declared.certificate.CertFault.{CertFault}
-use Rattle.sep_certificate.specs.declared.certificate.Certificate.{Certificate}
-use Rattle.sep_certificate.specs.Certificates.{fault_of}
+use Rattle.link_upload.specs.Uploads.{UploadLaw}
+use Rattle.memory_curves.specs.Decoded.{CurveLaw}
+use Rattle.fleet_world.specs.Schedules.{schedule_of}
 use Rattle.sep_certificate.specs.Readings.{TextLaw}
 use Rattle.sep_certificate.specs.Texts.{bad_line}
-use Rattle.show_cli.specs.declared.answer.Answer.{Answer}
-use Rattle.show_cli.specs.declared.command.Command.{Command}
-use Rattle.show_cli.specs.declared.command.Command.TheVariants.{Check, Compile, Certify, Verify}
-use Rattle.show_cli.specs.declared.input.Text.{Text}
-use Rattle.show_cli.specs.declared.input.Text.TheVariants.{Whole}
-use Rattle.show_cli.specs.Input.{EndsUnmarked, IsUnmarked}
-use Rattle.show_cli.specs.Answers.{IsSafeShow}
-use Rattle.show_cli.specs.Outcome.{Cut, IsOutcomeOf, IsSafe, Outcome, OutcomeLaw, SecondGives, ShowGives, blocked_by, certificate_limit, depth_of_search, faulty, judged, judged_for, marker_refusal, names_of, no_plan, outcome, second_refusal, show_limit, show_refusal, text_refusal, trajectories_of}
+use Rattle.command_words.specs.declared.command.Command.{Command}
+use Rattle.command_words.specs.declared.command.Command.TheVariants.{Help, Check, Compile, Certify, Play, Report, Verify, Rehearse, Upload, Drill}
+use Rattle.refusals.specs.declared.refusal.Refusal.{Refusal}
+use Rattle.refusals.specs.declared.refusal.Refusal.TheVariants as refusal
+use Rattle.show_plan.specs.Landing.{Lands}
+use Rattle.show_plan.proofs.Flight.{sent_counted}
+use Rattle.show_cli.specs.Outcome.{CertificateGives, Gives, IsOutcomeOf, LandsWhereAccepted, Outcome, OutcomeLaw, ShowGives, judged_for, said}
+use Rattle.show_cli.specs.Refused.{faulty, faulty_event, second_refusal, show_refusal, text_refusal}
+use Rattle.show_cli.specs.Shows.{Cut, certificate_limit, schedule_limit, sent_of, session_of, show_limit, words_of}
+use Rattle.show_cli.proofs.RehearsalLemmas.{outcome_by, schedule_one, schedule_some}
 
--- where an answer is two things, it is a third
-pub both : (r : Result Answer AllocError) (P Q R : Answer → Type 0) → ((a : Answer) → P a → Q a → R a) → IfOk r P → IfOk r Q → IfOk r R
-both (Ok a) P Q R by first second = by a first second
-both (Err e) P Q R by first second = tt
+-- ---- one show
 
--- where an answer is one thing, it is another
-pub weaker : (r : Result Answer AllocError) (P Q : Answer → Type 0) → ((a : Answer) → P a → Q a) → IfOk r P → IfOk r Q
-weaker (Ok a) P Q by is = by a is
-weaker (Err e) P Q by is = tt
+-- a certificate's text comes to one outcome
+certificate_one : TextLaw → (refused : Option Refusal) (s : PlainShow) (cut : Cut) (o p : Outcome) → CertificateGives refused s cut o → CertificateGives refused s cut p → o ≡ p
+certificate_one law (Some r) s cut o p first second = first ∙ sym second
+certificate_one law None s cut o p first second = first.2 ∙ ap (judged_for s) (law.one cut.second first.0 second.0 first.1 second.1) ∙ sym second.2
 
--- a second text comes to one outcome
-one_second : TextLaw → (refused : Option Outcome) (s : PlainShow) (cut : Cut) (o p : Outcome) → SecondGives refused s cut o → SecondGives refused s cut p → o ≡ p
-one_second law (Some r) s cut o p first second = first ∙ sym second
-one_second law None s cut o p first second = first.2 ∙ ap (judged_for s) (law.one cut.second first.0 second.0 first.1 second.1) ∙ sym second.2
+given_one : TextLaw → UploadLaw → CurveLaw → (c : Command) (s : PlainShow) (cut : Cut) (o p : Outcome) → Gives c s cut o → Gives c s cut p → o ≡ p
+given_one text upload curve Help s cut o p first second = first ∙ sym second
+given_one text upload curve (Check depth) s cut o p first second = first ∙ sym second
+given_one text upload curve (Compile depth) s cut o p first second = first ∙ sym second
+given_one text upload curve (Certify depth) s cut o p first second = first ∙ sym second
+given_one text upload curve (Play depth step) s cut o p first second = first ∙ sym second
+given_one text upload curve (Report depth) s cut o p first second = first ∙ sym second
+given_one text upload curve Verify s cut o p first second = certificate_one text (second_refusal certificate_limit (bad_line (lines cut.second)) cut) s cut o p first second
+given_one text upload curve (Rehearse depth start) s cut o p first second =
+    schedule_one curve (second_refusal schedule_limit (faulty_event (schedule_of (words_of s) cut.second)) cut) s start cut o p first second
+given_one text upload curve (Upload depth start) s cut o p first second =
+    let same = upload.one (session_of s start) cut.frames o.status p.status o.output p.output first second in outcome_by o p same.0 same.1
+given_one text upload curve (Drill drones depth) s cut o p first second = first ∙ sym second
 
--- a show comes to one outcome
-pub one_outcome : TextLaw → (c : Command) (refused : Option Outcome) (s : PlainShow) (cut : Cut) (o p : Outcome) → ShowGives c refused s cut o → ShowGives c refused s cut p → o ≡ p
-one_outcome law c (Some r) s cut o p first second = first ∙ sym second
-one_outcome law (Check depth) None s cut o p first second = first ∙ sym second
-one_outcome law (Compile depth) None s cut o p first second = first ∙ sym second
-one_outcome law (Certify depth) None s cut o p first second = first ∙ sym second
-one_outcome law Verify None s cut o p first second = one_second law (second_refusal cut) s cut o p first second
-
--- a certificate that is judged by the curves and settings of a show comes to what it comes to for the show
-pub judged_same : (s : PlainShow) (c : Certificate) (names : List Name) (curves : Raised) (r h : ℕ) (o : Option CertFault) →
-    names ≡ names_of s → curves ≡ raised_of (trajectories_of s) → r ≡ s.settings.r → h ≡ s.settings.h → fault_of (table_of c.version) curves r h c ≡ o → judged names c o ≡ judged_for s c
-judged_same s c names curves r h o names_are curves_are r_is h_is is =
-    ap (λ (ns : List Name). judged ns c o) names_are
-    ∙ ap (λ (f : Option CertFault). judged (names_of s) c f)
-    (sym is
-    ∙ ap (λ (cs : Raised). fault_of (table_of c.version) cs r h c) curves_are
-    ∙ ap (λ (n : ℕ). fault_of (table_of c.version) (raised_of (trajectories_of s)) n h c) r_is
-    ∙ ap (λ (n : ℕ). fault_of (table_of c.version) (raised_of (trajectories_of s)) s.settings.r n c) h_is)
-
--- a test that refuses nothing fails
-pub no_refusal : (b : Bool) (o : Outcome) → cond b (Some o) None ≡ None → b ≡ false
-no_refusal true o none = absurd (cc)
-no_refusal false o none = refl
-
--- the input that is cut behind a show's text
-abbrev pub cut_at : Part → Cut
-cut_at part = record { show = part.bytes.items; is_marked = part.marker; second = []; is_second_marked = false }
-
--- where no marker line is refused and the second text has none, none stands behind the last text
-pub ends_unmarked : (c : Command) (part : Part) (second : Text) → marker_refusal c (cut_at part) ≡ None → (c ≡ Verify → IsUnmarked second) → EndsUnmarked c (Whole part) second
-ends_unmarked (Check depth) part second none last = no_refusal part.marker _ none
-ends_unmarked (Compile depth) part second none last = no_refusal part.marker _ none
-ends_unmarked (Certify depth) part second none last = no_refusal part.marker _ none
-ends_unmarked Verify part second none last = (tt, last refl)
+show_one : TextLaw → UploadLaw → CurveLaw → (c : Command) (r : Option Refusal) (s : PlainShow) (cut : Cut) (o p : Outcome) → ShowGives c r s cut o → ShowGives c r s cut p → o ≡ p
+show_one text upload curve c (Some r) s cut o p first second = first ∙ sym second
+show_one text upload curve c None s cut o p first second = given_one text upload curve c s cut o p first second
 
 -- ---- the show's text
 
@@ -94,135 +62,104 @@ refusal_is text short = by_test (nat_lt show_limit (length text)) refl
     long : (m n : ℕ) → nat_lt m n ≡ true → m < n
     long m n test = grind (arith, nat_tests)
 
-    by_test : (b : Bool) → nat_lt show_limit (length text) ≡ b → cond b (Some (outcome 3 too_large_line)) (option_map faulty (fault text)) ≡ option_map faulty (fault text)
+    by_test : (b : Bool) → nat_lt show_limit (length text) ≡ b → cond b (Some refusal.TooLarge) (option_map faulty (fault text)) ≡ option_map faulty (fault text)
     by_test true test = absurd (let over : show_limit < length text = long show_limit (length text) test in omega arith)
     by_test false test = refl
 
 -- a text that stands for a show isn't refused
-stands_unrefused : ShowLaw → (text : List ℕ) (s : PlainShow) (o : Outcome) → length text ≤ show_limit → StandsFor text s → text_refusal text ≡ Some o → ⊥
-stands_unrefused law text s o short stands refused = differ (sym (refusal_is text short ∙ ap (option_map faulty) ((law.faultless text).0 (s, stands))) ∙ refused)
-  where
-    differ : None ≡ Some o → ⊥
-    differ e = cc
+stands_unrefused : ShowLaw → (text : List ℕ) (s : PlainShow) → length text ≤ show_limit → StandsFor text s → text_refusal text ≡ None
+stands_unrefused law text s short stands = refusal_is text short ∙ ap (option_map faulty) ((law.faultless text).0 (s, stands))
+
+none_said : (c : Command) (r : Option Refusal) (o : Outcome) → r ≡ None → option_map (said c) r ≡ Some o → ⊥
+none_said c None o is said = absurd (cc)
+none_said c (Some r) o is said = absurd (cc)
 
 -- an input comes to one outcome
-one_alone : ShowLaw → TextLaw → (c : Command) (cut : Cut) (o p : Outcome) → IsOutcomeOf c cut o → IsOutcomeOf c cut p → o ≡ p
-one_alone show text c cut o p (inl first) (inl second) = same (sym first ∙ second)
+one_alone : ShowLaw → TextLaw → UploadLaw → CurveLaw → (c : Command) (cut : Cut) (o p : Outcome) → IsOutcomeOf c cut o → IsOutcomeOf c cut p → o ≡ p
+one_alone show text upload curve c cut o p (inl first) (inl second) = same (sym first ∙ second)
   where
     same : Some o ≡ Some p → o ≡ p
     same e = cc
-one_alone show text c cut o p (inl refused) (inr comes) = absurd (stands_unrefused show cut.show comes.s o comes.short comes.stands refused)
-one_alone show text c cut o p (inr comes) (inl refused) = absurd (stands_unrefused show cut.show comes.s p comes.short comes.stands refused)
-one_alone show text c cut o p (inr first) (inr second) =
-    one_outcome text c (show_refusal c cut first.s) first.s cut o p first.gives
+one_alone show text upload curve c cut o p (inl refused) (inr comes) =
+    absurd (none_said c (text_refusal cut.show) o (stands_unrefused show cut.show comes.s comes.short comes.stands) refused)
+one_alone show text upload curve c cut o p (inr comes) (inl refused) =
+    absurd (none_said c (text_refusal cut.show) p (stands_unrefused show cut.show comes.s comes.short comes.stands) refused)
+one_alone show text upload curve c cut o p (inr first) (inr second) =
+    show_one text upload curve c (show_refusal c cut first.s) first.s cut o p first.gives
     (subst (λ (s : PlainShow). ShowGives c (show_refusal c cut s) s cut p) (show.one cut.show second.s first.s second.stands first.stands) second.gives)
 
+-- ---- there is one
+
 -- a test that refuses nothing, with what it stands for
-within_limit : (limit n : ℕ) (o : Outcome) (more : Option Outcome) → cond (nat_lt limit n) (Some o) more ≡ None → (n ≤ limit) × (more ≡ None)
-within_limit limit n o more none = by_test (nat_lt limit n) refl none
+within_limit : (limit n : ℕ) (r : Refusal) (more : Option Refusal) → cond (nat_lt limit n) (Some r) more ≡ None → (n ≤ limit) × (more ≡ None)
+within_limit limit n r more none = by_test (nat_lt limit n) refl none
   where
     short : (m n : ℕ) → nat_lt m n ≡ false → n ≤ m
     short m n test = grind (arith, nat_tests)
 
-    by_test : (b : Bool) → nat_lt limit n ≡ b → cond b (Some o) more ≡ None → (n ≤ limit) × (more ≡ None)
+    by_test : (b : Bool) → nat_lt limit n ≡ b → cond b (Some r) more ≡ None → (n ≤ limit) × (more ≡ None)
     by_test true test none = absurd (cc)
     by_test false test none = (short limit n test, none)
 
 -- what comes to nothing comes of nothing
-none_mapped : {A : Type 0} (f : A → Outcome) (o : Option A) → option_map f o ≡ None → o ≡ None
+none_mapped : {A : Type 0} (f : A → Refusal) (o : Option A) → option_map f o ≡ None → o ≡ None
 none_mapped f None none = refl
 none_mapped f (Some a) none = absurd (cc)
 
 -- where neither is there, the first isn't
-none_first : (a b : Option Outcome) → option_or a b ≡ None → a ≡ None
+none_first : (a b : Option Refusal) → option_or a b ≡ None → a ≡ None
 none_first None b none = refl
-none_first (Some o) b none = absurd (cc)
+none_first (Some r) b none = absurd (cc)
 
--- a second text that isn't refused says a certificate, so it comes to an outcome
-some_second : TextLaw → (refused : Option Outcome) (s : PlainShow) (cut : Cut) → second_refusal cut ≡ refused → (o : Outcome) × SecondGives refused s cut o
-some_second law (Some r) s cut is = (r, refl)
-some_second law None s cut is =
+-- a certificate's text that isn't refused says a certificate, so it comes to an outcome
+certificate_some : TextLaw → (refused : Option Refusal) (s : PlainShow) (cut : Cut) → second_refusal certificate_limit (bad_line (lines cut.second)) cut ≡ refused → (o : Outcome) × CertificateGives refused s cut o
+certificate_some law (Some r) s cut is = (_, refl)
+certificate_some law None s cut is =
     let parts = within_limit certificate_limit (length cut.second) _ _ is in
     let clean : bad_line (lines cut.second) ≡ None = none_mapped _ (bad_line (lines cut.second)) (none_first _ _ parts.1) in
     let said = law.said cut.second (omega (arith, parts.0)) clean in
     (judged_for s said.0, (said.0, said.1, refl))
 
--- a show comes to an outcome
-some_outcome : TextLaw → (c : Command) (refused : Option Outcome) (s : PlainShow) (cut : Cut) → (o : Outcome) × ShowGives c refused s cut o
-some_outcome law c (Some r) s cut = (r, refl)
-some_outcome law (Check depth) None s cut = (_, refl)
-some_outcome law (Compile depth) None s cut = (_, refl)
-some_outcome law (Certify depth) None s cut = (_, refl)
-some_outcome law Verify None s cut = some_second law (second_refusal cut) s cut refl
+-- any frames lead to an end
+upload_some : UploadLaw → (s : PlainShow) (start : Bool) (cut : Cut) (depth : ℕ) → (o : Outcome) × Gives (Upload depth start) s cut o
+upload_some law s start cut depth =
+    let some = law.some (session_of s start) cut.frames cut.frames [] (record { cut = refl; each = All-nil _; few = omega arith; going = λ n under. absurd (omega (arith, under)) }) in
+    (record { status = some.0; output = some.1 }, some.2)
 
--- an input comes to an outcome
-some_there : ShowLaw → TextLaw → (c : Command) (cut : Cut) → (o : Outcome) × IsOutcomeOf c cut o
-some_there show text c cut = by_refusal (text_refusal cut.show) refl
+given_some : TextLaw → UploadLaw → (c : Command) (s : PlainShow) (cut : Cut) → ((depth : ℕ) (start : Bool) → c ≡ Rehearse depth start → Lands (grid_of s) s.settings (sent_of s)) →
+    (o : Outcome) × Gives c s cut o
+given_some text upload Help s cut lands = (_, refl)
+given_some text upload (Check depth) s cut lands = (_, refl)
+given_some text upload (Compile depth) s cut lands = (_, refl)
+given_some text upload (Certify depth) s cut lands = (_, refl)
+given_some text upload (Play depth step) s cut lands = (_, refl)
+given_some text upload (Report depth) s cut lands = (_, refl)
+given_some text upload Verify s cut lands = certificate_some text (second_refusal certificate_limit (bad_line (lines cut.second)) cut) s cut refl
+given_some text upload (Rehearse depth start) s cut lands =
+    schedule_some (second_refusal schedule_limit (faulty_event (schedule_of (words_of s) cut.second)) cut) s start cut refl (lands depth start refl) (words_counted s)
   where
-    by_refusal : (r : Option Outcome) → text_refusal cut.show ≡ r → (o : Outcome) × IsOutcomeOf c cut o
-    by_refusal (Some r) is = (r, inl is)
+    words_counted : (s : PlainShow) → length (sent_of s) ≡ length (words_of s)
+    words_counted s =
+        sent_counted (grid_of s) ∙ sym (length-map s.drones (λ (d : DroneLine). d.name))
+        ∙ sym (length-map (map (λ (d : DroneLine). d.name) s.drones) (λ (name : Name). name.items))
+given_some text upload (Upload depth start) s cut lands = upload_some upload s start cut depth
+given_some text upload (Drill drones depth) s cut lands = (_, refl)
+
+show_some : TextLaw → UploadLaw → (c : Command) (r : Option Refusal) (s : PlainShow) (cut : Cut) → (r ≡ None → (depth : ℕ) (start : Bool) → c ≡ Rehearse depth start → Lands (grid_of s) s.settings (sent_of s)) →
+    (o : Outcome) × ShowGives c r s cut o
+show_some text upload c (Some r) s cut lands = (_, refl)
+show_some text upload c None s cut lands = given_some text upload c s cut (lands refl)
+
+some_there : ShowLaw → TextLaw → UploadLaw → (c : Command) (cut : Cut) → ((depth : ℕ) (start : Bool) → c ≡ Rehearse depth start → LandsWhereAccepted c cut) → (o : Outcome) × IsOutcomeOf c cut o
+some_there show text upload c cut lands = by_refusal (text_refusal cut.show) refl
+  where
+    by_refusal : (r : Option Refusal) → text_refusal cut.show ≡ r → (o : Outcome) × IsOutcomeOf c cut o
+    by_refusal (Some r) is = (said c r, inl (ap (option_map (said c)) is))
     by_refusal None is =
         let parts = within_limit show_limit (length cut.show) _ _ is in
         let found = (show.faultless cut.show).1 (none_mapped faulty (fault cut.show) parts.1) in
-        let given = some_outcome text c (show_refusal c cut found.0) found.0 cut in
+        let given = show_some text upload c (show_refusal c cut found.0) found.0 cut (λ none depth start is. lands depth start is found.0 found.1 none) in
         (given.0, inr (record { s = found.0; short = parts.0; stands = found.1; gives = given.1 }))
 
--- both
-pub outcomes : ShowLaw → TextLaw → OutcomeLaw
-outcomes show text = record { one = one_alone show text; some = some_there show text }
-
--- ---- success
-
--- what refuses, if anything does, has another status than 0
-abbrev Fails : Option Outcome → Type 0
-Fails None = Unit {0}
-Fails (Some o) = o.status ≡ 0 → ⊥
-
-either_fails : (a b : Option Outcome) → Fails a → Fails b → Fails (option_or a b)
-either_fails None b first second = second
-either_fails (Some o) b first second = first
-
-plan_fails : (names : List Name) (depth : ℕ) (f : Option PlanFault) → Fails (option_map (no_plan names depth) f)
-plan_fails names depth None = tt
-plan_fails names depth (Some (plan.Grid f)) = λ e. omega (arith, e)
-plan_fails names depth (Some (plan.Expand (expand.OutOfRange line axis value))) = λ e. omega (arith, e)
-plan_fails names depth (Some (plan.Expand expand.Memory)) = λ e. omega (arith, e)
-plan_fails names depth (Some (plan.TooManySegments drone segments)) = λ e. omega (arith, e)
-plan_fails names depth (Some (plan.TooLong drone bytes room)) = λ e. omega (arith, e)
-plan_fails names depth (Some (plan.Blocked a b cue index)) = λ e. omega (arith, e)
-plan_fails names depth (Some plan.Memory) = λ e. omega (arith, e)
-
-marked_fails : (b : Bool) (output : List ℕ) → Fails (cond b (Some (outcome 11 output)) None)
-marked_fails true output = λ e. omega (arith, e)
-marked_fails false output = tt
-
-marker_fails : (c : Command) (cut : Cut) → Fails (marker_refusal c cut)
-marker_fails (Check depth) cut = marked_fails cut.is_marked _
-marker_fails (Compile depth) cut = marked_fails cut.is_marked _
-marker_fails (Certify depth) cut = marked_fails cut.is_marked _
-marker_fails Verify cut = tt
-
-blocked_fails : (depth : Option ℕ) (s : PlainShow) → Fails (blocked_by depth s)
-blocked_fails None s = tt
-blocked_fails (Some depth) s = plan_fails (names_of s) depth (blocked_part s.settings depth (trajectories_of s))
-
-show_fails : (c : Command) (cut : Cut) (s : PlainShow) → Fails (show_refusal c cut s)
-show_fails c cut s =
-    either_fails _ _ (plan_fails (names_of s) 0 (in_order (grid_fault s) (range_fault (grid_of s)) None))
-    (either_fails _ _ (marker_fails c cut)
-    (either_fails _ _ (plan_fails (names_of s) 0 (unsendable s)) (blocked_fails (depth_of_search c) s)))
-
--- what a show comes to with status 0 is no refusal
-record IsAccepted (c : Command) (refused : Option Outcome) (s : PlainShow) (cut : Cut) (o : Outcome) : Type 0 where
-  none : refused ≡ None
-  gives : ShowGives c None s cut o
-
-accepted_by : (c : Command) (refused : Option Outcome) (s : PlainShow) (cut : Cut) (o : Outcome) → Fails refused → ShowGives c refused s cut o → o.status ≡ 0 → IsAccepted c refused s cut o
-accepted_by c (Some r) s cut o fails gives done = absurd (fails (sym (ap (λ (p : Outcome). p.status) gives) ∙ done))
-accepted_by c None s cut o fails gives done = record { none = refl; gives = gives }
-
--- an answer with status 0 for the show of a text, whose trajectories keep near and apart, is a safe one
-pub safe_answer : (c : Command) (cut : Cut) (s : PlainShow) (o : Outcome) → StandsFor cut.show s → ShowGives c (show_refusal c cut s) s cut o → IsSafeShow s → o.status ≡ 0 → IsSafe c cut o
-safe_answer c cut s o stands gives safe done =
-    let accepted = accepted_by c (show_refusal c cut s) s cut o (show_fails c cut s) gives done in
-    record { s = s; stands = stands; near = safe.near; apart = safe.apart; lands = safe.lands; accepted = accepted.none; gives = accepted.gives; done = done }
+pub outcomes : ShowLaw → TextLaw → UploadLaw → CurveLaw → OutcomeLaw
+outcomes show text upload curve = record { one = one_alone show text upload curve; some = some_there show text upload }

@@ -1,6 +1,6 @@
 -- In which order a show's refusals come.
 use Rattle.std.proofs.Common.{◌≡◌, ◌⊎◌, inl, inr, ℕ, zero, suc, ◌+◌, ◌<◌, ◌≤◌, ℤ, List, [], ◌∷◌, length, get_or, map, Option, Some, None, refl, sym, ap, subst, ◌∙◌, arith}
-use Rattle.std.specs.Option.{option_map, option_or}
+use Rattle.std.specs.Option.{option_or, option_and_then}
 use Rattle.std.proofs.lemmas.List.{length-map}
 use Rattle.fleet_io.specs.Words.{IsWord}
 use Rattle.choreo_reader.specs.declared.show.DroneLine.{DroneLine}
@@ -15,30 +15,35 @@ use Rattle.figure_expand.specs.declared.fault.ExpandFault.TheVariants as expand
 use Rattle.figure_expand.specs.Expanded.{range_fault}
 use Rattle.show_plan.specs.declared.fitted.PlanFault.{PlanFault}
 use Rattle.show_plan.specs.declared.fitted.PlanFault.TheVariants as fault
-use Rattle.show_plan.specs.Fitting.{PlanFails, in_order, plan_fault, room, unsendable}
+use Rattle.std.proofs.lemmas.List.Elements.{All-get_or}
+use Rattle.show_plan.specs.Fitting.{StandsAsWord, PlanFails, in_order, plan_fault, room, unsendable}
 use Rattle.show_plan.specs.Trajectories.{sent}
 use Rattle.show_plan.proofs.Flight.{sent_counted}
 use Rattle.show_plan.proofs.Sendable.{IsSendFault, unsendable_names}
 use Rattle.show_plan.proofs.Valid.{names_are_words}
-use Rattle.show_cli.proofs.AxisLemmas.{range_axis}
-use Rattle.show_cli.specs.declared.command.Command.{Command}
-use Rattle.show_cli.specs.Outcome.{Cut, Outcome, blocked_by, depth_of_search, marker_refusal, name_at, names_of, no_plan, show_refusal}
+use Rattle.figure_expand.proofs.Axes.{range_axis}
+use Rattle.choreo_lines.specs.Name.{Name}
+use Rattle.command_words.specs.declared.command.Command.{Command}
+use Rattle.refusals.specs.declared.refusal.Refusal.{Refusal}
+use Rattle.show_cli.specs.Refused.{blocked_by, marker_refusal, no_plan, show_refusal}
+use Rattle.show_cli.specs.Shows.{Cut, name_at, names_of}
+use Rattle.show_cli.specs.Ways.{ways_of}
 
 -- ---- four refusals in order
 
-module _ (to : PlanFault → Outcome) (early long : Option PlanFault) (marked search : Option Outcome) where
+module _ (to : PlanFault → Option Refusal) (early long : Option PlanFault) (marked search : Option Refusal) where
   -- the first of a fault of names and numbers, a marker line, what can't be sent, and a blocked part
-  abbrev first_of : Option Outcome
-  first_of = option_or (option_map to early) (option_or marked (option_or (option_map to long) search))
+  abbrev first_of : Option Refusal
+  first_of = option_or (option_and_then to early) (option_or marked (option_or (option_and_then to long) search))
 
-  by_early : (f : PlanFault) → early ≡ Some f → first_of ≡ Some (to f)
-  by_early f is = rw is refl
+  by_early : (f : PlanFault) (r : Refusal) → early ≡ Some f → to f ≡ Some r → first_of ≡ Some r
+  by_early f r is said = rw (is, said) refl
 
-  by_marker : (o : Outcome) → early ≡ None → marked ≡ Some o → first_of ≡ Some o
-  by_marker o none is = rw (none, is) refl
+  by_marker : (r : Refusal) → early ≡ None → marked ≡ Some r → first_of ≡ Some r
+  by_marker r none is = rw (none, is) refl
 
-  by_late : (f : PlanFault) → early ≡ None → marked ≡ None → long ≡ Some f → first_of ≡ Some (to f)
-  by_late f none unmarked is = rw (none, unmarked, is) refl
+  by_late : (f : PlanFault) (r : Refusal) → early ≡ None → marked ≡ None → long ≡ Some f → to f ≡ Some r → first_of ≡ Some r
+  by_late f r none unmarked is said = rw (none, unmarked, is, said) refl
 
   by_search : early ≡ None → marked ≡ None → long ≡ None → first_of ≡ search
   by_search none unmarked fits = rw (none, unmarked, fits) refl
@@ -60,6 +65,10 @@ grid_fails (grid.RoleCount line) s fails = fails
 grid_fails (grid.NoCue line) s fails = fails
 grid_fails (grid.TooManyCues line) s fails = fails
 grid_fails grid.Memory s fails = absurd fails
+
+-- out of memory is none of them
+pub no_grid_memory : (f : GridFault) (s : PlainShow) → PlanFails (fault.Grid f) s → f ≡ grid.Memory → ⊥
+no_grid_memory f s fails is = subst (λ (g : GridFault). PlanFails (fault.Grid g) s) is fails
 
 -- the fault is that a trajectory can't be sent
 abbrev pub IsLate : PlanFault → Type 0
@@ -112,9 +121,10 @@ no_part None None long none = (refl, none)
 -- ---- of a show
 
 -- a fault of names and numbers comes first
-pub early_refused : (c : Command) (cut : Cut) (s : PlainShow) (f : PlanFault) → (IsLate f → ⊥) → plan_fault s ≡ Some f → show_refusal c cut s ≡ Some (no_plan (names_of s) 0 f)
-early_refused c cut s f other is = elim (either (grid_fault s) (range_fault (grid_of s)) (unsendable s) f is) [
-  | inl early ↦ by_early (no_plan (names_of s) 0) (early_fault s) (unsendable s) (marker_refusal c cut) (blocked_by (depth_of_search c) s) f early
+pub early_refused : (c : Command) (cut : Cut) (s : PlainShow) (f : PlanFault) (r : Refusal) → (IsLate f → ⊥) → plan_fault s ≡ Some f → no_plan (names_of s) 0 f ≡ Some r →
+    show_refusal c cut s ≡ Some r
+early_refused c cut s f r other is said = elim (either (grid_fault s) (range_fault (grid_of s)) (unsendable s) f is) [
+  | inl early ↦ by_early (no_plan (names_of s) 0) (early_fault s) (unsendable s) (marker_refusal c cut) (blocked_by (ways_of c).depth s) f r early said
   | inr late ↦ absurd (other (late_named s f late.1).0)
 ]
 
@@ -142,10 +152,10 @@ refused_axis s line axis value is = by_part (grid_fault s) (range_fault (grid_of
 -- ---- names
 
 -- the name of a drone that is read from the drones' lines
-pub name_read : (ds xs : List DroneLine) (k j : ℕ) (d : DroneLine) → xs ≡ ds → j ≡ k → k < length ds → (get_or xs j d).name.items ≡ name_at (map (λ (d : DroneLine). d.name) ds) k
+pub name_read : (ds xs : List DroneLine) (k j : ℕ) (d : DroneLine) → xs ≡ ds → j ≡ k → k < length ds → (get_or xs j d).name ≡ name_at (map (λ (d : DroneLine). d.name) ds) k
 name_read ds xs k j d xs_are j_is inside = rw (xs_are, j_is) (here ds k inside)
   where
-    here : (ds : List DroneLine) (k : ℕ) → k < length ds → (get_or ds k d).name.items ≡ name_at (map (λ (d : DroneLine). d.name) ds) k
+    here : (ds : List DroneLine) (k : ℕ) → k < length ds → (get_or ds k d).name ≡ name_at (map (λ (d : DroneLine). d.name) ds) k
     here [] k inside = absurd (omega arith)
     here (x ∷ ds) zero inside = refl
     here (x ∷ ds) (suc k) inside = here ds k (omega arith)
@@ -153,25 +163,26 @@ name_read ds xs k j d xs_are j_is inside = rw (xs_are, j_is) (here ds k inside)
 -- it can stand as a word
 pub word_read : (ds xs : List DroneLine) (k j : ℕ) (d : DroneLine) → FitDroneLines ds → xs ≡ ds → j ≡ k → k < length ds → IsWord (get_or xs j d).name.items
 word_read ds xs k j d fit xs_are j_is inside =
-    subst IsWord (sym (name_read ds xs k j d xs_are j_is inside))
-    (names_are_words ds fit k (record { items = [] }) (omega (arith, length-map ds (λ (d : DroneLine). d.name))))
+    subst (λ (n : Name). IsWord n.items) (sym (name_read ds xs k j d xs_are j_is inside))
+    (All-get_or StandsAsWord (map (λ (d : DroneLine). d.name) ds) k (record { items = [] }) (omega (arith, length-map ds (λ (d : DroneLine). d.name), inside)) (names_are_words ds fit))
 
 -- ---- the later refusals
 
 -- then comes a marker line
-pub marker_refused : (c : Command) (cut : Cut) (s : PlainShow) (o : Outcome) → early_fault s ≡ None → marker_refusal c cut ≡ Some o → show_refusal c cut s ≡ Some o
-marker_refused c cut s o none is = by_marker (no_plan (names_of s) 0) (early_fault s) (unsendable s) (marker_refusal c cut) (blocked_by (depth_of_search c) s) o none is
+pub marker_refused : (c : Command) (cut : Cut) (s : PlainShow) (r : Refusal) → early_fault s ≡ None → marker_refusal c cut ≡ Some r → show_refusal c cut s ≡ Some r
+marker_refused c cut s r none is = by_marker (no_plan (names_of s) 0) (early_fault s) (unsendable s) (marker_refusal c cut) (blocked_by (ways_of c).depth s) r none is
 
 -- then what can't be sent
-pub late_refused : (c : Command) (cut : Cut) (s : PlainShow) (f : PlanFault) → early_fault s ≡ None → marker_refusal c cut ≡ None → unsendable s ≡ Some f →
-    show_refusal c cut s ≡ Some (no_plan (names_of s) 0 f)
-late_refused c cut s f none unmarked is = by_late (no_plan (names_of s) 0) (early_fault s) (unsendable s) (marker_refusal c cut) (blocked_by (depth_of_search c) s) f none unmarked is
+pub late_refused : (c : Command) (cut : Cut) (s : PlainShow) (f : PlanFault) (r : Refusal) → early_fault s ≡ None → marker_refusal c cut ≡ None → unsendable s ≡ Some f →
+    no_plan (names_of s) 0 f ≡ Some r → show_refusal c cut s ≡ Some r
+late_refused c cut s f r none unmarked is said =
+    by_late (no_plan (names_of s) 0) (early_fault s) (unsendable s) (marker_refusal c cut) (blocked_by (ways_of c).depth s) f r none unmarked is said
 
 -- a show that fits has none of these before the search
 pub fits_early : (s : PlainShow) → plan_fault s ≡ None → early_fault s ≡ None
 fits_early s fits = (no_part (grid_fault s) (range_fault (grid_of s)) (unsendable s) fits).0
 
-pub search_left : (c : Command) (cut : Cut) (s : PlainShow) → plan_fault s ≡ None → marker_refusal c cut ≡ None → show_refusal c cut s ≡ blocked_by (depth_of_search c) s
+pub search_left : (c : Command) (cut : Cut) (s : PlainShow) → plan_fault s ≡ None → marker_refusal c cut ≡ None → show_refusal c cut s ≡ blocked_by (ways_of c).depth s
 search_left c cut s fits unmarked =
     let none = no_part (grid_fault s) (range_fault (grid_of s)) (unsendable s) fits in
-    by_search (no_plan (names_of s) 0) (early_fault s) (unsendable s) (marker_refusal c cut) (blocked_by (depth_of_search c) s) none.0 unmarked none.1
+    by_search (no_plan (names_of s) 0) (early_fault s) (unsendable s) (marker_refusal c cut) (blocked_by (ways_of c).depth s) none.0 unmarked none.1

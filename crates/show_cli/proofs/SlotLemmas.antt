@@ -14,7 +14,7 @@ use Rattle.sep_certificate.specs.Certificates.{IsFaultOf}
 use Rattle.pair_search.specs.Search.{blocked_place}
 use Rattle.show_plan.specs.declared.fitted.PlanFault.TheVariants as fault
 use Rattle.show_plan.specs.Separation.{blocked_at, blocked_in, blocked_part, direction_at, slots_of}
-use Rattle.show_cli.specs.Answers.{IsFaultAmong}
+use Rattle.show_cli.specs.Steps.{IsFaultAmong}
 
 -- both drones of the slot are among so many
 abbrev pub IsAmong : ℕ → Slot → Type 0

@@ -1,52 +1,154 @@
 -- What the program answers, as an outcome.
-use Rattle.std.specs.Prelude.{◌≡◌, ℕ, ◌<◌, ◌^◌, List}
+use Rattle.std.specs.Prelude.{◌≡◌, ◌⊎◌, ℕ, ◌≤◌, false, List, [], Option, Some, None, Result, Ok, Err, IfOk, IfSome, length}
+use Rattle.std.specs.Io.KnownBytes.{Appends}
+use Rattle.std.specs.declared.alloc.AllocError.{AllocError}
+use Rattle.choreo_reader.specs.Grammar.{StandsFor}
 use Rattle.choreo_reader.specs.Plain.{PlainShow}
 use Rattle.cue_grid.specs.Cues.{grid_of}
-use Rattle.sep_parts.specs.Versions.{known_in}
-use Rattle.sep_certificate.specs.declared.certificate.CertFault.{CertFault}
-use Rattle.sep_certificate.specs.declared.certificate.CertFault.TheVariants as cert
+use Rattle.fleet_io.specs.Causes.{Rose}
+use Rattle.fleet_io.specs.Taken.{AppendsFront}
+use Rattle.command_words.specs.declared.command.Command.{Command}
+use Rattle.refusals.specs.declared.refusal.Refusal.{Refusal}
+use Rattle.refusals.specs.Lines.{read_line}
+use Rattle.show_plan.specs.declared.fitted.Fitted.{Fitted}
+use Rattle.show_plan.specs.Fitting.{IsFitted, IsValidFitted}
 use Rattle.show_plan.specs.Flight.{KeepsNearShow}
 use Rattle.show_plan.specs.Landing.{Lands}
 use Rattle.show_plan.specs.Separation.{FlyApart}
-use Rattle.show_cli.specs.declared.answer.Status.{Status}
-use Rattle.show_cli.specs.declared.answer.Status.TheVariants.{Done, FaultyShow, NoRoom, Blocked, FaultySecond, Invalid}
-use Rattle.show_cli.specs.declared.answer.Output.{Output}
-use Rattle.show_cli.specs.declared.answer.Output.TheVariants.{Line, Text, Bytes}
-use Rattle.show_cli.specs.declared.answer.Answer.{Answer}
-use Rattle.show_cli.specs.Outcome.{Outcome, sent_of}
+use Rattle.show_cli.specs.declared.ends.Answer.{Answer}
+use Rattle.show_cli.specs.declared.ends.Answer.TheVariants.{Done, Refused}
+use Rattle.show_cli.specs.declared.ends.Failure.{Failure}
+use Rattle.show_cli.specs.declared.ends.Failure.TheVariants.{Read, Memory}
+use Rattle.show_cli.specs.declared.ends.Output.{Output}
+use Rattle.show_cli.specs.declared.ends.Output.TheVariants.{Line, Text as Lines, Bytes}
+use Rattle.show_cli.specs.declared.input.Text.{Text}
+use Rattle.show_cli.specs.declared.input.Input.{Input}
+use Rattle.show_cli.specs.declared.accept.Accepted.{Accepted}
+use Rattle.show_cli.specs.declared.accept.Judged.{Judged}
+use Rattle.show_cli.specs.declared.accept.Judged.TheVariants as judged
+use Rattle.show_cli.specs.declared.accept.Planned.{Planned}
+use Rattle.show_cli.specs.declared.accept.Planned.TheVariants as planned
+use Rattle.show_cli.specs.Shows.{Cut, cut_of, names_of, sent_of, show_limit, trajectories_of}
+use Rattle.show_cli.specs.Ways.{ways_of}
+use Rattle.show_cli.specs.Refused.{IsOfInput, blocked_by, show_refusal, text_refusal}
+use Rattle.show_cli.specs.Reports.{nodes_of}
+use Rattle.show_cli.specs.Input.{AreTexts, IsReadWhole, IsShowText, IsUnmarked, IsWholeText}
+use Rattle.show_cli.specs.Outcome.{IsOutcome, IsOutcomeOf, IsSafe, IsSafeOutcome, IsSafeShow, Outcome, outcome, refused}
 
--- the number that the program ends with
-abbrev pub status_number : Status → ℕ
-status_number Done = 0
-status_number FaultyShow = 3
-status_number NoRoom = 4
-status_number Blocked = 5
-status_number FaultySecond = 11
-status_number Invalid = 12
+-- ---- an answer
 
 -- the bytes that are written
 abbrev pub output_of : Output → List ℕ
 output_of (Line line) = line
-output_of (Text lines) = lines
+output_of (Lines lines) = lines
 output_of (Bytes bytes) = bytes.items
 
 -- the outcome that an answer is
 abbrev pub outcome_of : Answer → Outcome
-outcome_of a = record { status = status_number a.status; output = output_of a.output }
+outcome_of (Done output) = outcome 0 (output_of output)
+outcome_of (Refused r) = refused r
 
--- the status of a refusal
-abbrev pub IsRefusal : Status → Type 0
-IsRefusal status = status_number status ≡ 0 → ⊥
+-- a refusal among the answers is one of an input
+abbrev pub IsSaid : Answer → Type 0
+IsSaid (Done output) = Unit {0}
+IsSaid (Refused r) = IsOfInput r
 
--- a fault of a certificate of this version for so many drones: it names two of them, a tree that a text has a line for, a direction of the table
-abbrev pub IsFaultAmong : ℕ → ℕ → CertFault → Type 0
-IsFaultAmong drones version (cert.Missing a b cue) = (a < drones) × (b < drones)
-IsFaultAmong drones version (cert.Extra tree) = tree < 2 ^ 31
-IsFaultAmong drones version (cert.TooDeep a b cue) = (a < drones) × (b < drones)
-IsFaultAmong drones version (cert.Fails a b cue place dir control) = (a < drones) × (b < drones) × (dir < known_in version)
+-- ---- a show's text, judged
 
--- what the drones of the show are sent keeps near to it and keeps any two drones apart, at every instant, and lands so in their memories
-pub record IsSafeShow (s : PlainShow) : Type 0 where
+-- a command refuses the show's text of an input that is cut so
+abbrev pub IsRefusedBy : Command → Cut → Refusal → Type 0
+IsRefusedBy c cut r =
+    (text_refusal cut.show ≡ Some r) ⊎ ((s : PlainShow) × (length cut.show ≤ show_limit) × StandsFor cut.show s × (show_refusal c cut s ≡ Some r))
+
+-- The show's text stands for a show that fits, as which it is given, and of which nothing is left to refuse but that two drones aren't kept apart.
+pub record Fits (c : Command) (cut : Cut) (f : Fitted) : Type 0 where
+  pub s : PlainShow
+  pub short : length cut.show ≤ show_limit
+  pub stands : StandsFor cut.show s
+  pub left : show_refusal c cut s ≡ blocked_by (ways_of c).depth s
+  pub fitted : IsFitted f s
   pub near : KeepsNearShow (grid_of s) (sent_of s)
-  pub apart : FlyApart s.settings (sent_of s)
-  pub lands : Lands (grid_of s) s.settings (sent_of s)
+  pub lands : FlyApart s.settings (sent_of s) → Lands (grid_of s) s.settings (sent_of s)
+
+-- The show's text stands for a show that fits and that nothing refuses; it is given with the number of nodes of its certificate.
+pub record IsAccepted (c : Command) (depth : ℕ) (cut : Cut) (a : Accepted) : Type 0 where
+  pub s : PlainShow
+  pub short : length cut.show ≤ show_limit
+  pub stands : StandsFor cut.show s
+  pub accepted : show_refusal c cut s ≡ None
+  pub fitted : IsFitted a.fitted s
+  pub safe : IsSafeShow s
+  pub nodes : a.nodes ≡ nodes_of s depth
+
+-- a show that fits, or why the command refuses it
+abbrev pub PlanGives : Command → Cut → Planned → Type 0
+PlanGives c cut (planned.Fits f) = Fits c cut f
+PlanGives c cut (planned.Refused r) = IsRefusedBy c cut r
+
+-- what fits is valid, and a refusal is one of an input
+abbrev pub IsSoundPlan : Planned → Type 0
+IsSoundPlan (planned.Fits f) = IsValidFitted f
+IsSoundPlan (planned.Refused r) = IsOfInput r
+
+-- where a show fits, its text isn't too large, and no marker line stands where none may
+abbrev pub EndsWell : Command → Text → Planned → Type 0
+EndsWell c text (planned.Fits f) = IsWholeText text × ((ways_of c).has_second ≡ false → IsUnmarked text)
+EndsWell c text (planned.Refused r) = Unit {0}
+
+-- a show that is accepted, or why the command refuses it
+abbrev pub JudgedGives : Command → ℕ → Cut → Judged → Type 0
+JudgedGives c depth cut (judged.Accepted a) = IsAccepted c depth cut a
+JudgedGives c depth cut (judged.Refused r) = IsRefusedBy c cut r
+
+abbrev pub IsSoundJudged : Judged → Type 0
+IsSoundJudged (judged.Accepted a) = IsValidFitted a.fitted
+IsSoundJudged (judged.Refused r) = IsOfInput r
+
+abbrev pub EndsJudged : Command → Text → Judged → Type 0
+EndsJudged c text (judged.Accepted a) = IsWholeText text × ((ways_of c).has_second ≡ false → IsUnmarked text)
+EndsJudged c text (judged.Refused r) = Unit {0}
+
+-- ---- what a command answers
+
+-- for a show's text
+pub record AnswersText (c : Command) (text : Text) (result : Result Answer AllocError) : Type 0 where
+  pub gives : (cut : Cut) → IsShowText text cut → IfOk result (λ a. IsOutcomeOf c cut (outcome_of a))
+  pub safe : (cut : Cut) → IsShowText text cut → IfOk result (λ a. (outcome_of a).status ≡ 0 → IsSafe c cut (outcome_of a))
+  pub whole : IfOk result (λ a. (outcome_of a).status ≡ 0 → IsUnmarked text)
+  pub said : IfOk result IsSaid
+
+-- for a show's text and a second one of at most this many bytes
+pub record AnswersTwo (c : Command) (limit : ℕ) (input : Input) (result : Result Answer AllocError) : Type 0 where
+  pub gives : (cut : Cut) → AreTexts limit input cut → IfOk result (λ a. IsOutcomeOf c cut (outcome_of a))
+  pub safe : (cut : Cut) → AreTexts limit input cut → IfOk result (λ a. (outcome_of a).status ≡ 0 → IsSafe c cut (outcome_of a))
+  pub whole : IfOk result (λ a. (outcome_of a).status ≡ 0 → IsWholeText input.show × IsUnmarked input.second)
+  pub said : IfOk result IsSaid
+
+-- for the input of a source
+pub record AnswersInput (c : Command) (left left_after : Option (List ℕ)) (result : Result Answer Failure) : Type 0 where
+  pub gives : IfSome left (λ input. IfOk result (λ a. IsOutcomeOf c (cut_of input) (outcome_of a)))
+  pub safe : IfSome left (λ input. IfOk result (λ a. (outcome_of a).status ≡ 0 → IsSafe c (cut_of input) (outcome_of a)))
+  pub whole : IfOk result (λ a. (outcome_of a).status ≡ 0 → IsReadWhole left left_after)
+  pub said : IfOk result IsSaid
+
+-- what a command judges of the input of a source; where a show is accepted, the input was read to its end
+abbrev pub EndsRead : Option (List ℕ) → Option (List ℕ) → Judged → Type 0
+EndsRead left left_after (judged.Accepted a) = IsReadWhole left left_after
+EndsRead left left_after (judged.Refused r) = Unit {0}
+
+pub record JudgesInput (c : Command) (depth : ℕ) (left left_after : Option (List ℕ)) (result : Result Judged Failure) : Type 0 where
+  pub gives : IfSome left (λ input. IfOk result (JudgedGives c depth (cut_of input)))
+  pub whole : IfOk result (EndsRead left left_after)
+
+-- ---- what is written
+
+-- These bytes were written, and this is the status; or the sink failed after a prefix of them.
+abbrev pub Wrote : ℕ → List ℕ → Option (List ℕ) → Option (List ℕ) → ℕ → ℕ → ℕ → Type 0
+Wrote wanted bytes old new before after status =
+    ((status ≡ wanted) × Appends old new bytes × (before ≤ after)) ⊎ ((status ≡ 7) × Rose before after × AppendsFront old new bytes × (before ≤ after))
+
+-- What was written for an answer, or for a failed read; nothing where the program is out of memory.
+abbrev pub Responds : Result Answer Failure → Option (List ℕ) → Option (List ℕ) → ℕ → ℕ → ℕ → Type 0
+Responds (Ok a) old new before after status = Wrote (outcome_of a).status (outcome_of a).output old new before after status
+Responds (Err Read) old new before after status = Wrote 6 read_line old new before after status
+Responds (Err Memory) old new before after status = (status ≡ 1) × (new ≡ old) × (after ≡ before)

@@ -6,7 +6,7 @@ use Rattle.choreo_reader.specs.Plain.{PlainShow}
 use Rattle.cue_grid.specs.Cues.{grid_of}
 use Rattle.show_plan.specs.Landing.{Lands}
 use Rattle.show_plan.specs.Texts.{plan_text}
-use Rattle.show_cli.specs.Outcome.{names_of, sent_of}
+use Rattle.show_cli.specs.Shows.{names_of, sent_of}
 
 -- The input stands for a show, and what was written is its plan. Whatever the drones hold at the start, and whatever the link loses, repeats,
 -- delays or reorders: once all packets of the plan are acknowledged, with the starts or without, each drone's memory decodes to one curve,

@@ -2,14 +2,12 @@
 use Rattle.std.specs.Prelude.{◌≡◌, ℕ, ◌<◌, ◌≤◌, Bool, false, List, [], length, Option, Some, IfSome}
 use Rattle.text_lines.specs.Lines.{between_feeds}
 use Rattle.text_lines.specs.Marker.{has_marker, part_of, rest_of}
-use Rattle.show_cli.specs.declared.command.Command.{Command}
-use Rattle.show_cli.specs.declared.command.Command.TheVariants.{Verify}
 use Rattle.show_cli.specs.declared.input.Text.{Text}
 use Rattle.show_cli.specs.declared.input.Text.TheVariants.{TooLarge, Whole}
 use Rattle.show_cli.specs.declared.input.Input.{Input}
-use Rattle.show_cli.specs.Outcome.{Cut, show_limit, certificate_limit}
+use Rattle.show_cli.specs.Shows.{Cut, cut_of, show_limit}
 
--- A text that was read is these bytes, of which there are at most so many, with a marker line behind them or none; it is too large
+-- A text that was read is these bytes, of which there are at most this many, with a marker line after them or none; it is too large
 -- where there are more.
 abbrev pub IsText : ℕ → Text → List ℕ → Bool → Type 0
 IsText limit TooLarge bytes is_marked = limit < length bytes
@@ -24,33 +22,17 @@ abbrev pub IsWholeText : Text → Type 0
 IsWholeText TooLarge = ⊥
 IsWholeText (Whole part) = Unit {0}
 
--- the text isn't too large, and no marker line stands behind it
+-- the text isn't too large, and no marker line stands after it
 abbrev pub IsUnmarked : Text → Type 0
 IsUnmarked TooLarge = ⊥
 IsUnmarked (Whole part) = part.marker ≡ false
 
--- a text that isn't too large has at most so many bytes
+-- a text that isn't too large has at most this many bytes
 abbrev pub IsWithin : ℕ → Text → Type 0
 IsWithin limit TooLarge = Unit {0}
 IsWithin limit (Whole part) = length part.bytes.items ≤ limit
 
--- The second text, which `verify` alone reads, is that of the input that is cut so.
-abbrev pub IsSecond : Command → Text → Cut → Type 0
-IsSecond Verify second cut = IsText certificate_limit second cut.second cut.is_second_marked
-IsSecond _ second cut = Unit {0}
-
--- What was read is the input that is cut so, as far as the command wants it: nothing is wanted behind a show's text that is too
--- large.
-pub record IsRead (command : Command) (input : Input) (cut : Cut) : Type 0 where
-  pub show : IsText show_limit input.show cut.show cut.is_marked
-  pub second : IsWholeText input.show → IsSecond command input.second cut
-
--- no text was too large, and no marker line stands behind the last one that the command reads
-abbrev pub EndsUnmarked : Command → Text → Text → Type 0
-EndsUnmarked Verify show second = IsWholeText show × IsUnmarked second
-EndsUnmarked _ show second = IsUnmarked show
-
--- behind a text that was read whole, these bytes are still to come
+-- after a text that was read whole, these bytes are still to come
 abbrev pub GoesOn : Text → Option (List ℕ) → Option (List ℕ) → Type 0
 GoesOn TooLarge old new = Unit {0}
 GoesOn (Whole part) old new = IfSome old (λ all. new ≡ Some (rest_of all))
@@ -58,3 +40,26 @@ GoesOn (Whole part) old new = IfSome old (λ all. new ≡ Some (rest_of all))
 -- The input was read to its end.
 abbrev pub IsReadWhole : Option (List ℕ) → Option (List ℕ) → Type 0
 IsReadWhole input left = IfSome input (λ _. left ≡ Some [])
+
+-- The show's text is the first one of the input that is cut so.
+abbrev pub IsShowText : Text → Cut → Type 0
+IsShowText text cut = IsText show_limit text cut.show cut.is_marked
+
+-- The two texts are those of the input that is cut so, the second of at most this many bytes; nothing is wanted after a show's text that is
+-- too large.
+pub record AreTexts (limit : ℕ) (input : Input) (cut : Cut) : Type 0 where
+  pub show : IsShowText input.show cut
+  pub second : IsWholeText input.show → IsText limit input.second cut.second cut.is_second_marked
+
+-- The show's text was read: it is that of the input, and where no marker line stands after it, the input was read to its end.
+pub record ReadsShow (left left_after : Option (List ℕ)) (text : Text) : Type 0 where
+  pub show : IfSome left (λ all. IsShowText text (cut_of all))
+  pub short : IsWithin show_limit text
+  pub whole : IsUnmarked text → IsReadWhole left left_after
+
+-- The show's text and a second one were read.
+pub record ReadsTwo (limit : ℕ) (left left_after : Option (List ℕ)) (input : Input) : Type 0 where
+  pub texts : IfSome left (λ all. AreTexts limit input (cut_of all))
+  pub short : IsWithin show_limit input.show
+  pub second : IsWithin limit input.second
+  pub whole : IsWholeText input.show → IsUnmarked input.second → IsReadWhole left left_after

@@ -1,6 +1,10 @@
-pub mod Commands
+pub mod Ways
+pub mod Shows
+pub mod Refused
+pub mod Reports
 pub mod Outcome
 pub mod Input
 pub mod Answers
+pub mod Steps
 pub mod Runs
 pub mod Headline

@@ -1,182 +1,115 @@
--- What a run of the program answers, and what it writes.
-use Rattle.std.specs.Prelude.{◌≡◌, ◌⊎◌, ℕ, suc, ◌≤◌, nat_lt, ◌==◌, Bool, List, [], ◌∷◌, length, slice_index_or, Option, Some, None, if◌then◌else◌}
-use Rattle.std.specs.Option.{option_map, option_or}
-use Rattle.std.specs.List.{sum}
+-- What the program comes to on an input: the status that it ends with, and what it writes.
+use Rattle.std.specs.Prelude.{◌≡◌, ◌⊎◌, ℕ, ◌≤◌, Bool, List, length, Option, Some, None, Ok, if◌then◌else◌}
+use Rattle.std.specs.Option.{option_map}
 use Rattle.std.specs.Str.Lines.{lines}
-use Rattle.text_lines.specs.Lines.{between_feeds}
-use Rattle.text_lines.specs.Marker.{has_marker, part_of, rest_of}
 use Rattle.choreo_lines.specs.Name.{Name}
 use Rattle.choreo_reader.specs.Plain.{PlainShow}
 use Rattle.choreo_reader.specs.Grammar.{StandsFor}
-use Rattle.choreo_reader.specs.Context.{fault}
-use Rattle.choreo_reader.specs.Text.{Fault}
-use Rattle.choreo_reader.specs.declared.token.TheConstants.{MOST_BYTES}
 use Rattle.cue_grid.specs.Cues.{grid_of}
-use Rattle.cue_grid.specs.Faults.{grid_fault}
-use Rattle.cue_grid.specs.Names as drones
-use Rattle.figure_expand.specs.declared.fault.ExpandFault.TheVariants as expand
-use Rattle.figure_expand.specs.Expanded.{range_fault}
-use Rattle.traj_codec.specs.declared.traj.Traj.{Traj}
 use Rattle.sep_parts.specs.Versions.{table_of}
 use Rattle.sep_parts.specs.Raised.{raised_of}
 use Rattle.sep_certificate.specs.declared.certificate.CertFault.{CertFault}
-use Rattle.sep_certificate.specs.declared.certificate.CertFault.TheVariants as cert
 use Rattle.sep_certificate.specs.declared.certificate.Certificate.{Certificate}
 use Rattle.sep_certificate.specs.Certificates.{fault_of}
-use Rattle.sep_certificate.specs.declared.text.TheConstants.{CERTIFICATE_LIMIT}
 use Rattle.sep_certificate.specs.Texts.{Says, bad_line, text_of}
-use Rattle.fault_lines.specs.Lines as refuse
-use Rattle.show_plan.specs.declared.fitted.PlanFault.{PlanFault}
-use Rattle.show_plan.specs.declared.fitted.PlanFault.TheVariants as plan
-use Rattle.show_plan.specs.Fitting.{in_order, unsendable}
+use Rattle.upload_model.specs.declared.events.Progress.{Progress}
+use Rattle.upload_model.specs.declared.events.Progress.TheVariants.{Going, Done, GaveUp, Refused}
+use Rattle.upload_model.specs.declared.events.WorldEvent.{WorldEvent}
+use Rattle.upload_model.specs.Hosts.{progress}
+use Rattle.upload_model.specs.Worlds.{World}
+use Rattle.fleet_world.specs.Schedules.{schedule_of}
+use Rattle.link_frames.specs.Frames.{end_frame}
+use Rattle.link_upload.specs.Uploads.{UploadGives}
+use Rattle.rehearsal.specs.Rehearsed.{rehearsed}
+use Rattle.rehearsal.specs.Texts.{IsRehearsalText}
+use Rattle.integer_player.specs.Played.{play_text}
+use Rattle.drill_show.specs.Drill.{drill_text}
+use Rattle.report_text.specs.Report.{report_text}
+use Rattle.command_words.specs.Commands.{help_text}
+use Rattle.command_words.specs.declared.command.Command.{Command}
+use Rattle.command_words.specs.declared.command.Command.TheVariants.{Help, Check, Compile, Certify, Play, Report, Verify, Rehearse, Upload, Drill}
+use Rattle.refusals.specs.declared.refusal.Refusal.{Refusal}
+use Rattle.refusals.specs.declared.refusal.Refusal.TheVariants as refusal
+use Rattle.refusals.specs.Refusals.{line_of, status_of}
 use Rattle.show_plan.specs.Flight.{KeepsNearShow}
 use Rattle.show_plan.specs.Landing.{Lands}
-use Rattle.show_plan.specs.Separation.{FlyApart, best_certificate, blocked_part}
-use Rattle.show_plan.specs.Texts.{ok_line, plan_text, valid_line}
-use Rattle.show_plan.specs.Trajectories.{by_cue, cue_times, sent}
-use Rattle.show_cli.specs.declared.command.Command.{Command}
-use Rattle.show_cli.specs.declared.command.Command.TheVariants.{Check, Compile, Certify, Verify}
+use Rattle.show_plan.specs.Separation.{FlyApart, best_certificate}
+use Rattle.show_plan.specs.Texts.{plan_text}
+use Rattle.show_cli.specs.Shows.{Cut, certificate_limit, cut_of, name_at, names_of, schedule_limit, sent_of, session_of, show_limit, trajectories_of, words_of}
+use Rattle.show_cli.specs.Ways.{ways_of}
+use Rattle.show_cli.specs.Refused.{faulty_event, not_valid, second_refusal, show_refusal, text_refusal}
+use Rattle.show_cli.specs.Reports.{cues_in, drill_of, duration_of, ok_line, report_of, valid_line}
 
 -- a status, and what is written
 pub record Outcome : Type 0 where
   pub status : ℕ
   pub output : List ℕ
 
--- a status with its line
 abbrev pub outcome : ℕ → List ℕ → Outcome
 outcome status output = record { status = status; output = output }
 
--- ---- the input
+-- a refusal comes to its status and its line
+abbrev pub refused : Refusal → Outcome
+refused r = outcome (status_of r) (line_of r)
 
--- the most bytes of a show's text
-abbrev pub show_limit : ℕ
-show_limit = MOST_BYTES
-
--- the most bytes of a certificate's text
-abbrev pub certificate_limit : ℕ
-certificate_limit = CERTIFICATE_LIMIT
-
--- The input, cut at its marker lines: the show's text, whether a marker line stands behind it, and the same of the second text.
-pub record Cut : Type 0 where
-  pub show : List ℕ
-  pub is_marked : Bool
-  pub second : List ℕ
-  pub is_second_marked : Bool
-
-abbrev pub cut_of : List ℕ → Cut
-cut_of input = record {
-  show = part_of input;
-  is_marked = has_marker (between_feeds input);
-  second = part_of (rest_of input);
-  is_second_marked = has_marker (between_feeds (rest_of input));
-}
-
--- how many line feeds there are
-abbrev pub feeds : List ℕ → ℕ
-feeds [] = 0
-feeds (b ∷ bs) = if b == 10 then suc (feeds bs) else feeds bs
-
--- the number of the marker line behind a text, which counts from 1: each line of the text ends with a line feed
-abbrev pub marker_number : List ℕ → ℕ
-marker_number text = suc (feeds text)
-
--- ---- refusals
-
--- the names of a show's drones
-abbrev pub names_of : PlainShow → List Name
-names_of s = drones.names_of s.drones
-
--- the trajectories of a show's drones, one segment a cue
-abbrev pub trajectories_of : PlainShow → List Traj
-trajectories_of s = by_cue (grid_of s)
-
--- what a show's drones are sent: these with their holds joined
-abbrev pub sent_of : PlainShow → List Traj
-sent_of s = sent (grid_of s)
-
--- the name of a drone, which counts from 0
-abbrev pub name_at : List Name → ℕ → List ℕ
-name_at names drone = (slice_index_or names drone (record { items = [] })).items
-
--- what a faulty line comes to
-abbrev pub faulty : Fault → Outcome
-faulty f = outcome 3 (refuse.faulty_line f.line f.kind)
-
--- the refusal of a show's text: it is too long, or it has a first faulty line
-abbrev pub text_refusal : List ℕ → Option Outcome
-text_refusal text = if nat_lt show_limit (length text) then Some (outcome 3 refuse.too_large_line) else option_map faulty (fault text)
-
--- what a reason comes to why a show has no plan; the depth is that of the search. Want of memory is no refusal.
-abbrev pub no_plan : List Name → ℕ → PlanFault → Outcome
-no_plan names depth (plan.Grid f) = outcome 3 (refuse.grid_line f)
-no_plan names depth (plan.Expand (expand.OutOfRange line axis value)) = outcome 3 (refuse.range_line line axis value)
-no_plan names depth (plan.Expand expand.Memory) = outcome 1 []
-no_plan names depth (plan.TooManySegments drone segments) = outcome 4 (refuse.segments_line (name_at names drone) segments)
-no_plan names depth (plan.TooLong drone bytes room) = outcome 4 (refuse.room_line (name_at names drone) bytes room)
-no_plan names depth (plan.Blocked a b cue index) = outcome 5 (refuse.blocked_line (name_at names a) (name_at names b) cue index depth)
-no_plan names depth plan.Memory = outcome 1 []
-
--- the depth to which a command searches
-abbrev pub depth_of_search : Command → Option ℕ
-depth_of_search (Check depth) = Some depth
-depth_of_search (Compile depth) = Some depth
-depth_of_search (Certify depth) = Some depth
-depth_of_search Verify = None
-
--- a marker line is refused by each command that wants no second text
-abbrev pub marker_refusal : Command → Cut → Option Outcome
-marker_refusal Verify cut = None
-marker_refusal c cut = if cut.is_marked then Some (outcome 11 (refuse.second_line (marker_number cut.show))) else None
-
--- the first part in which no direction separates two drones, for each command that searches
-abbrev pub blocked_by : Option ℕ → PlainShow → Option Outcome
-blocked_by None s = None
-blocked_by (Some depth) s = option_map (no_plan (names_of s) depth) (blocked_part s.settings depth (trajectories_of s))
-
--- The first refusal of a show: its names and cues, its numbers, a marker line, what can't be sent, separation.
-abbrev pub show_refusal : Command → Cut → PlainShow → Option Outcome
-show_refusal c cut s =
-    option_or (option_map (no_plan (names_of s) 0) (in_order (grid_fault s) (range_fault (grid_of s)) None))
-    (option_or (marker_refusal c cut)
-    (option_or (option_map (no_plan (names_of s) 0) (unsendable s))
-    (blocked_by (depth_of_search c) s)))
+-- how a command says a refusal: by its line, or where it writes frames by the end frame with the status
+abbrev pub said : Command → Refusal → Outcome
+said c r = if (ways_of c).by_frames then outcome (status_of r) (end_frame (status_of r)) else refused r
 
 -- ---- certificates
-
--- The refusal of a second text: it is too long, has a first faulty line, or a marker line stands behind it.
-abbrev pub second_refusal : Cut → Option Outcome
-second_refusal cut =
-    if nat_lt certificate_limit (length cut.second) then Some (outcome 11 refuse.second_too_large_line)
-    else option_or (option_map (λ (line : ℕ). outcome 11 (refuse.second_line line)) (bad_line (lines cut.second)))
-    (if cut.is_second_marked then Some (outcome 11 (refuse.second_line (marker_number cut.second))) else None)
 
 -- what a certificate comes to that has this first fault, or none
 abbrev pub judged : List Name → Certificate → Option CertFault → Outcome
 judged names c None = outcome 0 (valid_line c.depth (length c.trees))
-judged names c (Some (cert.Missing a b cue)) = outcome 12 (refuse.missing_line (name_at names a) (name_at names b) cue)
-judged names c (Some (cert.Extra tree)) = outcome 12 (refuse.extra_line c.version tree)
-judged names c (Some (cert.TooDeep a b cue)) = outcome 12 (refuse.too_deep_line (name_at names a) (name_at names b) cue)
-judged names c (Some (cert.Fails a b cue place dir control)) =
-    outcome 12 (refuse.fails_line (name_at names a) (name_at names b) cue place c.version dir control)
+judged names c (Some fault) = refused (not_valid names c.version fault)
 
 -- what a certificate comes to for the trajectories of a show
 abbrev pub judged_for : PlainShow → Certificate → Outcome
 judged_for s c = judged (names_of s) c (fault_of (table_of c.version) (raised_of (trajectories_of s)) s.settings.r s.settings.h c)
 
--- a second text comes to its refusal, or to what the certificate comes to that it says
-abbrev pub SecondGives : Option Outcome → PlainShow → Cut → Outcome → Type 0
-SecondGives (Some refused) s cut o = o ≡ refused
-SecondGives None s cut o = (c : Certificate) × Says cut.second c × (o ≡ judged_for s c)
+-- a certificate's text comes to its refusal, or to what the certificate comes to that it says
+abbrev pub CertificateGives : Option Refusal → PlainShow → Cut → Outcome → Type 0
+CertificateGives (Some r) s cut o = o ≡ refused r
+CertificateGives None s cut o = (c : Certificate) × Says cut.second c × (o ≡ judged_for s c)
+
+-- ---- schedules
+
+-- How a rehearsal ends, by how far the upload is after the whole schedule.
+abbrev pub RehearsalEnds : Progress → PlainShow → World → Outcome → Type 0
+RehearsalEnds Going s w o = o ≡ refused refusal.Ended
+RehearsalEnds (GaveUp drone packet) s w o = o ≡ refused (refusal.GaveUp (name_at (names_of s) drone) packet)
+RehearsalEnds (Refused drone packet status) s w o = o ≡ refused (refusal.Refused (name_at (names_of s) drone) packet status)
+RehearsalEnds Done s w o = (o.status ≡ 0) × IsRehearsalText w.drones s.settings.trajectory_id (words_of s) o.output
+
+-- what the events of a schedule come to, over drones that are blank at the start
+abbrev pub Rehearses : PlainShow → Bool → List WorldEvent → Outcome → Type 0
+Rehearses s start events o =
+    RehearsalEnds (progress (session_of s start) (rehearsed (session_of s start) events).heard) s (rehearsed (session_of s start) events) o
+
+-- a schedule's text comes to its refusal, or to what its events come to
+abbrev pub ScheduleGives : Option Refusal → PlainShow → Bool → Cut → Outcome → Type 0
+ScheduleGives (Some r) s start cut o = o ≡ refused r
+ScheduleGives None s start cut o = (events : List WorldEvent) × (schedule_of (words_of s) cut.second ≡ Ok events) × Rehearses s start events o
 
 -- ---- the outcome
 
+-- What a command answers for a show that nothing refuses. `help` judges no show.
+abbrev pub Gives : Command → PlainShow → Cut → Outcome → Type 0
+Gives Help s cut o = o ≡ outcome 0 help_text
+Gives (Check depth) s cut o = o ≡ outcome 0 (ok_line (length s.drones) (cues_in s) (duration_of s))
+Gives (Compile depth) s cut o = o ≡ outcome 0 (plan_text s.settings (names_of s) (sent_of s))
+Gives (Certify depth) s cut o = o ≡ outcome 0 (text_of (best_certificate s.settings depth (trajectories_of s)))
+Gives (Play depth step) s cut o = o ≡ outcome 0 (play_text (duration_of s) step (words_of s) (sent_of s))
+Gives (Report depth) s cut o = o ≡ outcome 0 (report_text (report_of s depth))
+Gives Verify s cut o = CertificateGives (second_refusal certificate_limit (bad_line (lines cut.second)) cut) s cut o
+Gives (Rehearse depth start) s cut o = ScheduleGives (second_refusal schedule_limit (faulty_event (schedule_of (words_of s) cut.second)) cut) s start cut o
+Gives (Upload depth start) s cut o = UploadGives (session_of s start) cut.frames o.status o.output
+Gives (Drill drones depth) s cut o = o ≡ outcome 0 (drill_of (report_of s depth))
+
 -- what a show comes to: its first refusal, or else what the command answers
-abbrev pub ShowGives : Command → Option Outcome → PlainShow → Cut → Outcome → Type 0
-ShowGives c (Some refused) s cut o = o ≡ refused
-ShowGives (Check depth) None s cut o = o ≡ outcome 0 (ok_line (length s.drones) (length (grid_of s).cues) (sum (cue_times (grid_of s))))
-ShowGives (Compile depth) None s cut o = o ≡ outcome 0 (plan_text s.settings (names_of s) (sent_of s))
-ShowGives (Certify depth) None s cut o = o ≡ outcome 0 (text_of (best_certificate s.settings depth (trajectories_of s)))
-ShowGives Verify None s cut o = SecondGives (second_refusal cut) s cut o
+abbrev pub ShowGives : Command → Option Refusal → PlainShow → Cut → Outcome → Type 0
+ShowGives c (Some r) s cut o = o ≡ said c r
+ShowGives c None s cut o = Gives c s cut o
 
 -- The show's text stands for this show, and it comes to this outcome.
 pub record ShowComesTo (c : Command) (cut : Cut) (o : Outcome) : Type 0 where
@@ -185,19 +118,47 @@ pub record ShowComesTo (c : Command) (cut : Cut) (o : Outcome) : Type 0 where
   pub stands : StandsFor cut.show s
   pub gives : ShowGives c (show_refusal c cut s) s cut o
 
--- The outcome of a command on an input: the show's text is refused, or it stands for a show, which comes to it.
+-- The outcome of a command on an input that is cut so: the show's text is refused, or it stands for a show, which comes to it.
 abbrev pub IsOutcomeOf : Command → Cut → Outcome → Type 0
-IsOutcomeOf c cut o = (text_refusal cut.show ≡ Some o) ⊎ ShowComesTo c cut o
+IsOutcomeOf c cut o = (option_map (said c) (text_refusal cut.show) ≡ Some o) ⊎ ShowComesTo c cut o
 
+-- the text that a command judges: none, its input, or for a drill the show of the drill
+abbrev pub judged_text : Command → List ℕ → Option (List ℕ)
+judged_text Help input = None
+judged_text (Check depth) input = Some input
+judged_text (Compile depth) input = Some input
+judged_text (Certify depth) input = Some input
+judged_text (Play depth step) input = Some input
+judged_text (Report depth) input = Some input
+judged_text Verify input = Some input
+judged_text (Rehearse depth start) input = Some input
+judged_text (Upload depth start) input = Some input
+judged_text (Drill drones depth) input = Some (drill_text drones)
+
+abbrev pub IsOutcomeFor : Command → Option (List ℕ) → Outcome → Type 0
+IsOutcomeFor c None o = o ≡ outcome 0 help_text
+IsOutcomeFor c (Some text) o = IsOutcomeOf c (cut_of text) o
+
+-- The outcome of a command on an input.
 abbrev pub IsOutcome : Command → List ℕ → Outcome → Type 0
-IsOutcome c input o = IsOutcomeOf c (cut_of input) o
+IsOutcome c input o = IsOutcomeFor c (judged_text c input) o
 
--- An input comes to an outcome, and to one alone.
+-- a show of this text that the command accepts lands in the drones' memories; `run` says so of each that it accepts
+abbrev pub LandsWhereAccepted : Command → Cut → Type 0
+LandsWhereAccepted c cut = (s : PlainShow) → StandsFor cut.show s → show_refusal c cut s ≡ None → Lands (grid_of s) s.settings (sent_of s)
+
+-- An input comes to one outcome alone, and to one; with `rehearse` where the show that it accepts lands.
 pub record OutcomeLaw : Type 0 where
   pub one : (c : Command) (cut : Cut) (o p : Outcome) → IsOutcomeOf c cut o → IsOutcomeOf c cut p → o ≡ p
-  pub some : (c : Command) (cut : Cut) → (o : Outcome) × IsOutcomeOf c cut o
+  pub some : (c : Command) (cut : Cut) → ((depth : ℕ) (start : Bool) → c ≡ Rehearse depth start → LandsWhereAccepted c cut) → (o : Outcome) × IsOutcomeOf c cut o
 
 -- ---- what status 0 promises
+
+-- What the drones of the show are sent keeps near to it and keeps any two drones apart, at every instant, and lands so in their memories.
+pub record IsSafeShow (s : PlainShow) : Type 0 where
+  pub near : KeepsNearShow (grid_of s) (sent_of s)
+  pub apart : FlyApart s.settings (sent_of s)
+  pub lands : Lands (grid_of s) s.settings (sent_of s)
 
 -- The show's text stands for a show, and what its drones are sent keeps near to it at every instant, keeps any two drones apart at every
 -- instant, and lands so in their memories once its packets are acknowledged; nothing refuses the show, and this outcome, of status 0, is
@@ -209,5 +170,13 @@ pub record IsSafe (c : Command) (cut : Cut) (o : Outcome) : Type 0 where
   pub apart : FlyApart s.settings (sent_of s)
   pub lands : Lands (grid_of s) s.settings (sent_of s)
   pub accepted : show_refusal c cut s ≡ None
-  pub gives : ShowGives c None s cut o
+  pub gives : Gives c s cut o
   pub done : o.status ≡ 0
+
+abbrev pub IsSafeFor : Command → Option (List ℕ) → Outcome → Type 0
+IsSafeFor c None o = o ≡ outcome 0 help_text
+IsSafeFor c (Some text) o = IsSafe c (cut_of text) o
+
+-- the same for a command on an input; `help` judges none
+abbrev pub IsSafeOutcome : Command → List ℕ → Outcome → Type 0
+IsSafeOutcome c input o = IsSafeFor c (judged_text c input) o

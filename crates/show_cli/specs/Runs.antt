@@ -1,41 +1,156 @@
--- What a run answers and writes.
-use Rattle.std.specs.Prelude.{◌≡◌, ◌≢◌, ◌⊎◌, ℕ, List, map, string_bytes, Option, Some, None, String, IfSome}
+-- What a run answers, reads and writes.
+use Rattle.std.specs.Prelude.{◌≡◌, ◌≢◌, ◌⊎◌, ℕ, ◌≤◌, Bool, true, false, List, [], ◌∷◌, ◌++◌, Contains, map, string_bytes, Option, Some, None, String, IfSome, if◌then◌else◌}
 use Rattle.std.specs.Io.KnownBytes.{Appends}
 use Rattle.std.specs.declared.alloc.Global.{Global}
+use Rattle.text_lines.specs.Marker.{part_of, rest_of}
+use Rattle.choreo_reader.specs.Plain.{PlainShow}
+use Rattle.choreo_reader.specs.Grammar.{StandsFor}
 use Rattle.fleet_io.specs.Causes.{Rose}
-use Rattle.fault_lines.specs.Lines.{read_line, usage_line}
-use Rattle.show_cli.specs.declared.command.Command.{Command}
-use Rattle.show_cli.specs.declared.input.Input.{Input}
-use Rattle.show_cli.specs.Commands.{command_of}
-use Rattle.show_cli.specs.Input.{IsRead}
-use Rattle.show_cli.specs.Outcome.{Cut, IsOutcomeOf, IsSafe, Outcome, cut_of}
+use Rattle.fleet_io.specs.Held.{has_whole_marker}
+use Rattle.fleet_io.specs.Taken.{AppendsFront, TakesFront}
+use Rattle.link_frames.specs.Frames.{end_frame}
+use Rattle.link_upload.specs.Uploads.{IsPrompt, UploadFails}
+use Rattle.command_words.specs.Commands.{command_of, help_text}
+use Rattle.command_words.specs.declared.command.Command.{Command}
+use Rattle.command_words.specs.declared.command.Command.TheVariants.{Help, Check, Compile, Certify, Play, Report, Verify, Rehearse, Upload, Drill}
+use Rattle.refusals.specs.Lines.{read_line}
+use Rattle.show_cli.specs.Shows.{cut_of, session_of}
+use Rattle.show_cli.specs.Ways.{reads_all, ways_of}
+use Rattle.show_cli.specs.Refused.{show_refusal}
+use Rattle.show_cli.specs.Outcome.{IsOutcome, IsSafeOutcome, Outcome}
 
 -- the command that these words are
 abbrev pub command_in : List (String Global) → Option Command
 command_in words = command_of (map string_bytes words)
 
--- neither memory was wanting, nor did a read or a write fail
+-- What a source and a sink tell before and after a run, where they tell it: the bytes still to come and those that were taken, and how
+-- often each failed.
+pub record Run : Type 0 where
+  pub left : Option (List ℕ)
+  pub left_after : Option (List ℕ)
+  pub reads_failed : ℕ
+  pub reads_failed_after : ℕ
+  pub written : Option (List ℕ)
+  pub written_after : Option (List ℕ)
+  pub writes_failed : ℕ
+  pub writes_failed_after : ℕ
+
+-- a run that read and wrote so
+abbrev pub run_of : Option (List ℕ) → Option (List ℕ) → ℕ → ℕ → Option (List ℕ) → Option (List ℕ) → ℕ → ℕ → Run
+run_of left left_after reads reads_after written written_after writes writes_after = record {
+  left = left;
+  left_after = left_after;
+  reads_failed = reads;
+  reads_failed_after = reads_after;
+  written = written;
+  written_after = written_after;
+  writes_failed = writes;
+  writes_failed_after = writes_after;
+}
+
+-- no fault was counted
+abbrev pub IsQuiet : Run → Type 0
+IsQuiet r = (Rose r.reads_failed r.reads_failed_after → ⊥) × (Rose r.writes_failed r.writes_failed_after → ⊥)
+
+-- the program wasn't out of memory, nor did a read or a write fail
 abbrev pub IsJudged : ℕ → Type 0
 IsJudged status = (status ≢ 1) × (status ≢ 6) × (status ≢ 7)
 
--- the status is that of an outcome of the command on the input that is cut so, whose output was written whole
-abbrev pub Answers : Command → Cut → ℕ → Option (List ℕ) → Option (List ℕ) → Type 0
-Answers c cut status old new = (o : Outcome) × IsOutcomeOf c cut o × (status ≡ o.status) × Appends old new o.output
+-- the command reads its input
+abbrev pub reads : Command → Bool
+reads c = (ways_of c).reads
 
--- the show is safe, and what the command answers for it was written whole
-abbrev pub AnswersSafely : Command → Cut → Option (List ℕ) → Option (List ℕ) → Type 0
-AnswersSafely c cut old new = (o : Outcome) × IsSafe c cut o × Appends old new o.output
+-- the input of a run, where it is told; a command that reads nothing needs none
+abbrev pub told : Command → Run → Option (List ℕ)
+told c r = if reads c then r.left else Some []
 
--- these bytes are the output of an outcome of the command on the input that is cut so
-abbrev pub IsOutputOf : Command → Cut → List ℕ → Type 0
-IsOutputOf c cut output = (o : Outcome) × IsOutcomeOf c cut o × (output ≡ o.output)
+-- These bytes were taken from the source, and those given to the sink; both tell it.
+pub record Carried (r : Run) (taken sent : List ℕ) : Type 0 where
+  pub later : List ℕ
+  pub old : List ℕ
+  pub left : r.left ≡ Some (taken ++ later)
+  pub left_after : r.left_after ≡ Some later
+  pub written : r.written ≡ Some old
+  pub written_after : r.written_after ≡ Some (old ++ sent)
 
--- the same for what was read, where the input is one that was read so
-abbrev pub IsOutputFor : Command → Input → List ℕ → Type 0
-IsOutputFor c input output = (cut : Cut) → IsRead c input cut → IsOutputOf c cut output
+-- ---- status 6
 
--- What a run would write: the usage line where the words are no command; else the output of an outcome of the input, where the
--- source tells it, or, where the source's count of faults rose, the line of a failed read.
-abbrev pub IsOutput : Option Command → Option (List ℕ) → ℕ → ℕ → List ℕ → Type 0
-IsOutput None input before after output = output ≡ usage_line
-IsOutput (Some c) input before after output = IfSome input (λ all. IsOutputOf c (cut_of all) output) ⊎ (Rose before after × (output ≡ read_line))
+-- What `upload` writes where a read failed after these bytes. Without a whole marker line among them, the end frame. Else they hold a show that
+-- is accepted, and each whole frame after the marker line was answered.
+abbrev pub UploadStops : Command → Bool → Bool → List ℕ → List ℕ → Type 0
+UploadStops c start false taken output = output ≡ end_frame 6
+UploadStops c start true taken output =
+    (s : PlainShow) × StandsFor (part_of taken) s × (show_refusal c (cut_of taken) s ≡ None) × UploadFails (session_of s start) (rest_of taken) output
+
+-- what is written where a read failed after these bytes
+abbrev pub Stops : Command → List ℕ → List ℕ → Type 0
+Stops Help taken output = ⊥
+Stops (Check depth) taken output = output ≡ read_line
+Stops (Compile depth) taken output = output ≡ read_line
+Stops (Certify depth) taken output = output ≡ read_line
+Stops (Play depth step) taken output = output ≡ read_line
+Stops (Report depth) taken output = output ≡ read_line
+Stops Verify taken output = output ≡ read_line
+Stops (Rehearse depth start) taken output = output ≡ read_line
+Stops (Upload depth start) taken output = UploadStops (Upload depth start) start (has_whole_marker taken) taken output
+Stops (Drill drones depth) taken output = ⊥
+
+-- The output of a run whose read failed, where the source tells what was taken.
+abbrev pub IsStopped : Command → Run → List ℕ → Type 0
+IsStopped c r output = IfSome r.left (λ input. (taken later : List ℕ) × (input ≡ taken ++ later) × (r.left_after ≡ Some later) × Stops c taken output)
+
+-- ---- status 7
+
+-- What would have been written: the output of an outcome of the input, where the source tells it; or, where the source's count of faults rose
+-- too, that of a failed read.
+abbrev pub IsOutput : Command → Run → List ℕ → Type 0
+IsOutput c r output =
+    IfSome (told c r) (λ input. (o : Outcome) × IsOutcome c input o × (output ≡ o.output))
+    ⊎ (Rose r.reads_failed r.reads_failed_after × IsStopped c r output)
+
+-- No answer of `upload` waits for much further input, for a show that is accepted.
+abbrev pub UploadsPromptly : Command → Bool → Run → Type 0
+UploadsPromptly c start r =
+    (taken sent : List ℕ) → Carried r taken sent → has_whole_marker taken ≡ true →
+    (s : PlainShow) → StandsFor (part_of taken) s → show_refusal c (cut_of taken) s ≡ None → IsPrompt (session_of s start) (rest_of taken) sent
+
+-- the other commands answer once, at their end, or write rows and read nothing meanwhile
+abbrev pub AnswersPromptly : Command → Run → Type 0
+AnswersPromptly Help r = Unit {0}
+AnswersPromptly (Check depth) r = Unit {0}
+AnswersPromptly (Compile depth) r = Unit {0}
+AnswersPromptly (Certify depth) r = Unit {0}
+AnswersPromptly (Play depth step) r = Unit {0}
+AnswersPromptly (Report depth) r = Unit {0}
+AnswersPromptly Verify r = Unit {0}
+AnswersPromptly (Rehearse depth start) r = Unit {0}
+AnswersPromptly (Upload depth start) r = UploadsPromptly (Upload depth start) start r
+AnswersPromptly (Drill drones depth) r = Unit {0}
+
+-- ---- a run of a command
+
+pub record Runs (c : Command) (r : Run) (status : ℕ) : Type 0 where
+  -- Every status but 1, 6 and 7 is that of an outcome of the input, whose output was written whole, whether or not a fault was counted.
+  pub outcome : IsJudged status → IfSome (told c r) (λ input. (o : Outcome) × IsOutcome c input o × (status ≡ o.status) × Appends r.written r.written_after o.output)
+  -- With no fault counted the outcome of the input, of which there is one alone, is what comes, whole; or 1, out of memory.
+  pub exact : IsQuiet r → IfSome (told c r) (λ input. (o : Outcome) → IsOutcome c input o → ((status ≡ o.status) × Appends r.written r.written_after o.output) ⊎ (status ≡ 1))
+  -- 0: the show is safe, and what the command answers for it was written; the input was read to its end.
+  pub safe : status ≡ 0 → IfSome (told c r) (λ input. (o : Outcome) × IsSafeOutcome c input o × Appends r.written r.written_after o.output)
+  pub whole : status ≡ 0 → reads_all c ≡ true → IfSome r.left (λ _. r.left_after ≡ Some [])
+  -- 1: out of memory, and nothing was written.
+  pub one : status ≡ 1 → (r.written_after ≡ r.written) × (r.writes_failed_after ≡ r.writes_failed)
+  -- `help` takes no memory: it ends with 0 and its lines, or with 7.
+  pub helped : c ≡ Help → (status ≡ 7) ⊎ ((status ≡ 0) × Appends r.written r.written_after help_text)
+  -- 6: the source failed, and what was written is that of a failed read.
+  pub six : status ≡ 6 → Rose r.reads_failed r.reads_failed_after × (reads c ≡ true)
+  pub stopped : status ≡ 6 → IfSome r.left (λ _. (output : List ℕ) × IsStopped c r output × Appends r.written r.written_after output)
+  -- 7: the sink failed, and a prefix of the output went out.
+  pub seven : status ≡ 7 → Rose r.writes_failed r.writes_failed_after × ((output : List ℕ) × IsOutput c r output × AppendsFront r.written r.written_after output)
+  pub prompt : status ≡ 7 → AnswersPromptly c r
+  -- `help` and `drill` read nothing.
+  pub unread : reads c ≡ false → (r.left_after ≡ r.left) × (r.reads_failed_after ≡ r.reads_failed)
+  -- There is no other status; 2 is none of a command.
+  pub known : Contains (0 ∷ 1 ∷ 3 ∷ 4 ∷ 5 ∷ 6 ∷ 7 ∷ 8 ∷ 9 ∷ 10 ∷ 11 ∷ 12 ∷ 13 ∷ []) status
+  pub taken : TakesFront r.left r.left_after
+  pub reads_later : r.reads_failed ≤ r.reads_failed_after
+  pub writes_later : r.writes_failed ≤ r.writes_failed_after

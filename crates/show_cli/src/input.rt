@@ -1,16 +1,14 @@
-//! What the program reads before it judges: a show's text, and for `verify` a certificate's behind it.
-ghost use Rattle.std.specs.Prelude.{◌≡◌, ◌≤◌, IsTrue, IfOk, IfSome};
+//! What the program reads before it judges: a show's text, and for some commands a second text after it.
+ghost use Rattle.std.specs.Prelude.{◌≡◌, ◌≤◌, IsTrue, IfOk};
 ghost use Rattle.std.specs.Io.KnownBytes.{IsAtEnd};
-ghost use Rattle.fleet_io.specs.Causes.{Rose};
 ghost use Rattle.fleet_io.specs.Held.{stream, text_limit};
+ghost use Rattle.fleet_io.specs.Causes.{Rose};
 ghost use Rattle.fleet_io.specs.Taken.{TakesFront};
-ghost use Rattle.show_cli.specs.Input.{EndsUnmarked, GoesOn, IsNextText, IsRead, IsReadWhole, IsUnmarked, IsWholeText, IsWithin};
-ghost use Rattle.show_cli.specs.Outcome.{certificate_limit, cut_of, show_limit};
+ghost use Rattle.show_cli.specs.Input.{GoesOn, IsNextText, IsUnmarked, IsWholeText, IsWithin, ReadsShow, ReadsTwo};
 
-use crate::command::Command;
+use crate::ends::Failure;
 use choreo_reader::MOST_BYTES;
 use fleet_io::{IoFault, Part, Parts, Source};
-use sep_certificate::CERTIFICATE_LIMIT;
 use std::alloc::Global;
 
 /// A text that was read.
@@ -18,7 +16,7 @@ use std::alloc::Global;
 pub enum Text {
     /// It is longer than such a text may be.
     TooLarge,
-    /// All of it, and whether a marker line stands behind it.
+    /// All of it, and whether a marker line stands after it.
     Whole { part: Part },
 }
 
@@ -27,17 +25,8 @@ pub enum Text {
 pub struct Input {
     /// The show's.
     pub show: Text,
-    /// The certificate's. It has no bytes where the command reads none, or where the show's text is too large.
+    /// The second. It has no bytes where the show's text is too large.
     pub second: Text,
-}
-
-/// Why nothing can be judged.
-#[derive(Clone, Copy, Debug, PartialEq, Eq)]
-pub enum Failure {
-    /// A read failed.
-    Read,
-    /// Memory is wanting.
-    Memory,
 }
 
 // The next text of the input.
@@ -82,54 +71,53 @@ fn no_text(alloc: Global) -> Text
     }
 }
 
-// What `verify` reads behind the show's text.
+// The text after the show's.
 fn read_second<S: Source>(
     alloc: Global,
     parts: &mut Parts,
     source: &mut S,
     show: &Text,
+    limit: usize,
 ) -> Result<Text, Failure>
+    requires limit { limit ≤ text_limit }
     requires sound { IsWholeText show.now → IsTrue parts.old.sound }
     requires lines { IsTrue parts.old.lines }
     requires at_end { IsTrue parts.old.ended → IsAtEnd (S.left source.old) }
-    ensures text { IsWholeText show.now → IfOk result (λ text. IsNextText certificate_limit text (stream parts.old (S.left source.old))) }
-    ensures within { IfOk result (λ text. IsWithin certificate_limit text) }
+    ensures text { IsWholeText show.now → IfOk result (λ text. IsNextText limit text (stream parts.old (S.left source.old))) }
+    ensures within { IfOk result (λ text. IsWithin limit text) }
     ensures whole { IsWholeText show.now → IfOk result (λ text. IsUnmarked text → IsAtEnd (S.left source.new)) }
     ensures failed { result ≡ Err Failure.Read → Rose (S.faults source.old) (S.faults source.new) }
     ensures later { S.faults source.old ≤ S.faults source.new }
     ensures left { TakesFront (S.left source.old) (S.left source.new) }
 {
     match show {
-        Text::Whole { .. } => next_text(alloc, parts, source, CERTIFICATE_LIMIT),
+        Text::Whole { .. } => next_text(alloc, parts, source, limit),
         Text::TooLarge => Ok(no_text(alloc)),
     }
 }
 
-/// Reads the show's text, and for `verify` the certificate's behind its marker line. A text that is too large ends the
+/// Reads the show's text. A text that is too large ends the reading. `Read` where a read failed.
+pub fn read_show_text<S: Source>(alloc: Global, source: &mut S) -> Result<Text, Failure>
+    ensures show { IfOk result (λ text. ReadsShow (S.left source.old) (S.left source.new) text) }
+    ensures failed { result ≡ Err Failure.Read → Rose (S.faults source.old) (S.faults source.new) }
+    ensures later { S.faults source.old ≤ S.faults source.new }
+    ensures left { TakesFront (S.left source.old) (S.left source.new) }
+{
+    let mut parts = Parts::make();
+    next_text(alloc, &mut parts, source, MOST_BYTES)
+}
+
+/// Reads the show's text, and after its marker line a second one of at most `limit` bytes. A text that is too large ends the
 /// reading. `Read` where a read failed.
-pub fn read_input<S: Source>(
-    alloc: Global,
-    command: Command,
-    source: &mut S,
-) -> Result<Input, Failure>
-    ensures read { IfOk result (λ input. IfSome (S.left source.old) (λ all. IsRead command input (cut_of all))) }
-    ensures show { IfOk result (λ input. IsWithin show_limit input.show) }
-    ensures second { IfOk result (λ input. IsWithin certificate_limit input.second) }
-    ensures whole { IfOk result (λ input. EndsUnmarked command input.show input.second → IsReadWhole (S.left source.old) (S.left source.new)) }
+pub fn read_two<S: Source>(alloc: Global, source: &mut S, limit: usize) -> Result<Input, Failure>
+    requires { limit ≤ text_limit }
+    ensures texts { IfOk result (λ input. ReadsTwo limit (S.left source.old) (S.left source.new) input) }
     ensures failed { result ≡ Err Failure.Read → Rose (S.faults source.old) (S.faults source.new) }
     ensures later { S.faults source.old ≤ S.faults source.new }
     ensures left { TakesFront (S.left source.old) (S.left source.new) }
 {
     let mut parts = Parts::make();
     let show = next_text(alloc, &mut parts, source, MOST_BYTES)?;
-    match command {
-        Command::Verify => {
-            let second = read_second(alloc, &mut parts, source, &show)?;
-            Ok(Input { show, second })
-        }
-        _ => Ok(Input {
-            show,
-            second: no_text(alloc),
-        }),
-    }
+    let second = read_second(alloc, &mut parts, source, &show, limit)?;
+    Ok(Input { show, second })
 }

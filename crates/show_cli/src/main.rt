@@ -1,22 +1,27 @@
-//! The program: it checks, compiles and certifies choreographies of drones, and verifies their certificates.
+//! The program: it checks, compiles, certifies, plays and reports choreographies of drones, verifies their certificates, and
+//! rehearses and carries their uploads.
 //!
-//! `run` (in `top`) is the program over any source and any sink, and has its contract. `main` is the trusted edge: it
-//! hands in the words and standard input and output, and ends with the status.
+//! `run` (in `top`) is the program over any source and any sink, and has its contract: what each command answers stands in
+//! `specs/Outcome.antt`, what a run reads and writes in `specs/Runs.antt`. Each command is a function over source and sink in a
+//! file of its own under `commands`. `main` is the trusted edge: it hands in the words and standard input and output, and
+//! ends with the status.
 #![tactic(auto)]
 
-mod answer;
-mod command;
+mod accept;
+mod commands;
+mod ends;
 mod input;
-mod outcome;
-mod refusals;
-mod search;
+mod lines;
+mod numbers;
+mod outcomes;
+mod refuse;
 mod top;
-mod verify;
 
+use ends::NO_MEMORY;
 use fleet_io::{StdSink, StdSource};
 use std::process::ExitCode;
 use std::{env, io};
-use top::{NO_MEMORY, run};
+use top::run;
 
 /// The system didn't give the words, or they aren't UTF-8.
 const NO_WORDS: u8 = 17;
@@ -38,5 +43,7 @@ fn main(rt: HostRuntime) -> ExitCode {
     ExitCode::from(run(rt.alloc(), &words, &mut source, &mut sink))
 }
 
+#[cfg(test)]
+mod rehearse_tests;
 #[cfg(test)]
 mod tests;

@@ -107,7 +107,61 @@ fn is_met(
     Ok(met == status && sink.written() == written)
 }
 
-const COMMANDS: [(&[&str], &[u8], u8, &[u8]); 13] = [
+const HELP: &[u8] = b"help\ncheck [--depth D]\ncompile [--depth D]\ncertify [--depth D]\n\
+play [--depth D] [--step MS]\nreport [--depth D]\nverify\nrehearse [--depth D] [--start]\n\
+upload [--depth D] [--start]\ndrill N [--depth D]\n";
+
+// A drone that moves a metre along x in two seconds: its first, middle and last instants.
+const ROWS: &[u8] =
+    b"0 solo 0 0 1000000 0\n1000 solo 500000 0 1000000 0\n2000 solo 1000000 0 1000000 0\n";
+
+// A millimetre backwards and a turn by a tenth of a degree in three milliseconds, each rounded down.
+const BACK: &[u8] =
+    b"choreo 1\ndrone solo 0 0 1000000 0\ncue 3\nsolo line -1000 0 1000000 1\nend\n";
+
+const BACK_ROWS: &[u8] = b"0 solo 0 0 1000000 0\n1 solo -334 0 1000000 3\n2 solo -667 0 1000000 6\n\
+3 solo -1000 0 1000000 10\n";
+
+const COMMANDS: [(&[&str], &[u8], u8, &[u8]); 22] = [
+    (&["help"], b"", 0, HELP),
+    (&["play", "--step", "1000"], SHOW, 0, ROWS),
+    (
+        &["play", "--step", "60000"],
+        SHOW,
+        0,
+        b"0 solo 0 0 1000000 0\n2000 solo 1000000 0 1000000 0\n",
+    ),
+    (&["play", "--step", "1"], BACK, 0, BACK_ROWS),
+    (
+        &["play"],
+        CROSSING,
+        5,
+        b"error 5 pair a b cue 1 part 28 of 64\n",
+    ),
+    (
+        &["report"],
+        SHOW,
+        0,
+        b"{\"bytes\":[28],\"cues\":1,\"drones\":[\"solo\"],\"duration_ms\":2000,\"nodes\":0,\"packets\":[3]}\n",
+    ),
+    (
+        &["drill", "1", "--depth", "0"],
+        b"",
+        0,
+        b"drones 1 cues 40 pairs 0 bytes 411 packets 19 nodes 0\n",
+    ),
+    (
+        &["drill", "2"],
+        b"",
+        0,
+        b"drones 2 cues 40 pairs 1 bytes 1102 packets 49 nodes 40\n",
+    ),
+    (
+        &["drill", "004", "--depth", "6"],
+        b"",
+        0,
+        b"drones 4 cues 40 pairs 6 bytes 2204 packets 98 nodes 240\n",
+    ),
     (&["compile"], SHOW, 0, PLAN),
     (&["compile", "--depth", "000000008"], SHOW, 0, PLAN),
     (
@@ -183,7 +237,7 @@ fn commands(rt: HostRuntime) -> Result<(), Fail> {
 
 #[test]
 fn words_that_are_no_command(rt: HostRuntime) -> Result<(), Fail> {
-    let rows: [&[&str]; 9] = [
+    let rows: [&[&str]; 8] = [
         &[],
         &["Compile"],
         &["play", "--step", "5", "--step", "5"],
@@ -192,7 +246,6 @@ fn words_that_are_no_command(rt: HostRuntime) -> Result<(), Fail> {
         &["compile", "--depth", "0000000008"],
         &["compile", "--Depth", "6"],
         &["verify", "--depth", "6"],
-        &["help"],
     ];
     for words in rows {
         assert!(rt; is_met(rt.alloc(), words, APART, b"", 2, b"error 2 usage\n")?);

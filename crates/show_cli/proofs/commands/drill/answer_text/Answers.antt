@@ -1,0 +1,12 @@
+use Rattle.std.proofs.Common.{refl}
+use Rattle.command_words.specs.declared.command.Command.TheVariants.{Drill}
+use Rattle.show_cli.specs.declared.accept.Judged.TheVariants.{Accepted}
+use Rattle.show_cli.specs.Answers.{EndsJudged}
+use Rattle.show_cli.proofs.AnswerLemmas.{answers_accepted}
+use Rattle.show_cli.proofs.commands.drill.answer_text.Goals as goal
+
+pub returns-in-Accepted : goal.returns-in-Accepted
+returns-in-Accepted c =
+    let ends : EndsJudged (Drill c.args.drones c.args.depth) c.args.text.now (Accepted c.in-Accepted.accepted) = rw c.in-Accepted.is at c.in_ok-accepted.ensures.whole in
+    answers_accepted (Drill c.args.drones c.args.depth) c.args.depth c.args.text.now c.in-Accepted.accepted c.answer_accepted.result
+    (λ cut is. rw c.in-Accepted.is at (c.in_ok-accepted.ensures.gives cut is)) (λ cut s fitted nodes. c.answer_accepted.ensures.line s c.args.depth fitted nodes) (ends.1 refl) c.answer_accepted.ensures.said

@@ -1,0 +1,7 @@
+use Rattle.std.proofs.Common.{subst, List, ℕ}
+use Rattle.show_cli.specs.Answers.{Wrote}
+use Rattle.show_cli.proofs.RunLemmas.{runs_help}
+use Rattle.show_cli.proofs.commands.help.help.Goals as goal
+
+pub returns : goal.returns
+returns g c = runs_help _ _ _ _ _ _ _ (rw c.help_text.ensures at c.finish.ensures)

@@ -1,0 +1,76 @@
+//! `play`: the positions of a show in whole numbers.
+ghost use Rattle.std.specs.Prelude.{◌≡◌, ◌≤◌, map, IfOk};
+ghost use Rattle.choreo_lines.specs.Name.{Name};
+ghost use Rattle.command_words.specs.Commands.{most_depth};
+ghost use Rattle.fleet_io.specs.Causes.{Rose};
+ghost use Rattle.fleet_io.specs.Taken.{TakesFront};
+ghost use Rattle.integer_player.specs.Played.{play_text};
+ghost use Rattle.show_plan.specs.Fitting.{IsValidFitted};
+ghost use Rattle.show_cli.specs.Answers.{IsSoundJudged, JudgesInput, Wrote};
+ghost use Rattle.show_cli.specs.Runs.{Runs, run_of};
+
+use crate::accept::{Judged, accept};
+use crate::ends::{DONE, Failure, NO_MEMORY, WRITE_FAILED, fail, refuse};
+use crate::input::read_show_text;
+use crate::outcomes::outcome_law;
+use command_words::Command;
+use fleet_io::{Failed, Sink, Source};
+use show_plan::{Fitted, uploadable_law};
+use std::alloc::Global;
+use traj_codec::join_law;
+
+// What `play` judges of what its source gives.
+fn judge_input<S: Source>(
+    alloc: Global,
+    depth: u8,
+    step: u16,
+    source: &mut S,
+) -> Result<Judged, Failure>
+    requires depth { depth ≤ most_depth }
+    ensures judges { JudgesInput (Command.Play depth step) depth (S.left source.old) (S.left source.new) result }
+    ensures sound { IfOk result IsSoundJudged }
+    ensures failed { result ≡ Err Failure.Read → Rose (S.faults source.old) (S.faults source.new) }
+    ensures later { S.faults source.old ≤ S.faults source.new }
+    ensures left { TakesFront (S.left source.old) (S.left source.new) }
+{
+    let text = read_show_text(alloc, source)?;
+    Ok(accept(alloc, Command::Play { depth, step }, depth, &text)?)
+}
+
+// Writes the rows of a show that fits, and returns the status.
+fn write_rows<K: Sink>(fitted: &Fitted, step: u16, sink: &mut K) -> u8
+    requires valid { IsValidFitted fitted.now }
+    requires step { 1 ≤ step }
+    ensures { Wrote 0 (play_text fitted.now.duration step (map (λ (name : Name). name.items) fitted.now.names) fitted.now.sent)
+        (K.written sink.old) (K.written sink.new) (K.faults sink.old) (K.faults sink.new) result }
+{
+    join_law();
+    uploadable_law(fitted);
+    let names = fitted.names.as_slice();
+    let sent = fitted.sent.as_slice();
+    match integer_player::play(names, sent, fitted.duration, step, sink) {
+        Ok(()) => DONE,
+        Err(Failed) => WRITE_FAILED,
+    }
+}
+
+/// Runs `play` (docs/COMMANDS.md): the rows of the show's instants, every `step` milliseconds, 1 to 60,000; or the first reason why the
+/// show is refused. All memory is taken before the first row.
+pub fn play<S: Source, K: Sink>(
+    alloc: Global,
+    depth: u8,
+    step: u16,
+    source: &mut S,
+    sink: &mut K,
+) -> u8
+    requires depth { depth ≤ most_depth }
+    requires step { 1 ≤ step }
+    ensures { Runs (Command.Play depth step) (run_of (S.left source.old) (S.left source.new) (S.faults source.old) (S.faults source.new) (K.written sink.old) (K.written sink.new) (K.faults sink.old) (K.faults sink.new)) result }
+{
+    outcome_law();
+    match judge_input(alloc, depth, step, source) {
+        Ok(Judged::Accepted { accepted }) => write_rows(&accepted.fitted, step, sink),
+        Ok(Judged::Refused { refusal }) => refuse(sink, &refusal),
+        Err(failure) => fail(sink, failure),
+    }
+}

@@ -1,0 +1,191 @@
+//! `rehearse`: what an upload leaves in drones after a schedule.
+ghost use Rattle.std.specs.Prelude.{◌≡◌, ◌≤◌, length, IfOk};
+ghost use Rattle.choreo_reader.specs.Plain.{PlainShow};
+ghost use Rattle.cue_grid.specs.declared.grid.Grid.{Grid};
+ghost use Rattle.fleet_world.specs.Schedules.{schedule_of};
+ghost use Rattle.show_plan.specs.Fitting.{IsFitted, IsValidFitted};
+ghost use Rattle.show_plan.specs.Landing.{Lands};
+ghost use Rattle.command_words.specs.Commands.{most_depth};
+ghost use Rattle.fleet_io.specs.Causes.{Rose};
+ghost use Rattle.fleet_io.specs.Taken.{TakesFront};
+ghost use Rattle.show_cli.specs.Answers.{AnswersInput, AnswersTwo, IsSaid, outcome_of};
+ghost use Rattle.show_cli.specs.Input.{IsText, IsUnmarked, IsWithin};
+ghost use Rattle.show_cli.specs.Outcome.{Rehearses, ScheduleGives};
+ghost use Rattle.show_cli.specs.Refused.{faulty_event, second_refusal};
+ghost use Rattle.show_cli.specs.Runs.{Runs, run_of};
+ghost use Rattle.show_cli.specs.Shows.{Cut, schedule_limit, show_limit, words_of};
+
+use crate::accept::{Judged, accept};
+use crate::ends::{Answer, Failure, Output, respond};
+use crate::input::{Input, Text, read_two};
+use crate::outcomes::outcome_law;
+use crate::refuse::{marker_number, name_at};
+use command_words::Command;
+use fleet_io::{Part, Sink, Source};
+use fleet_world::{MOST_TEXT, ScheduleFault, WorldEvent, read_schedule_of};
+use refusals::Refusal;
+use rehearsal::memory_text;
+use show_plan::{Fitted, session};
+use std::alloc::{AllocError, Global};
+use upload_model::Progress;
+
+// What an upload comes to, after these events, over drones that are blank at the start.
+fn rehearse_events(
+    alloc: Global,
+    fitted: &Fitted,
+    start: bool,
+    events: &[WorldEvent],
+) -> Result<Answer, AllocError>
+    requires valid { IsValidFitted fitted.now }
+    requires lands { (g : Grid) × Lands g fitted.now.settings fitted.now.sent }
+    ensures gives { (s : PlainShow) → IsFitted fitted.now s
+        → IfOk result (λ a. Rehearses s start events.now (outcome_of a)) }
+    ensures said { IfOk result IsSaid }
+{
+    let session = session(alloc, fitted, start)?;
+    let world = rehearsal::rehearse(alloc, session, events)?;
+    let names = fitted.names.as_slice();
+    match world.progress() {
+        Progress::Going => Ok(Answer::Refused {
+            refusal: Refusal::Ended,
+        }),
+        Progress::GaveUp { drone, packet } => Ok(Answer::Refused {
+            refusal: Refusal::GaveUp {
+                drone: name_at(names, drone),
+                packet,
+            },
+        }),
+        Progress::Refused {
+            drone,
+            packet,
+            status,
+        } => Ok(Answer::Refused {
+            refusal: Refusal::Refused {
+                drone: name_at(names, drone),
+                packet,
+                status,
+            },
+        }),
+        Progress::Done => {
+            let lines = memory_text(alloc, &world, names, fitted.settings.trajectory_id)?;
+            Ok(Answer::Done {
+                output: Output::Text { lines },
+            })
+        }
+    }
+}
+
+// What a second text comes to that isn't too large.
+fn judge_part(
+    alloc: Global,
+    fitted: &Fitted,
+    start: bool,
+    part: &Part,
+) -> Result<Answer, AllocError>
+    requires valid { IsValidFitted fitted.now }
+    requires lands { (g : Grid) × Lands g fitted.now.settings fitted.now.sent }
+    requires short { length part.now.bytes.items ≤ schedule_limit }
+    ensures gives { (s : PlainShow) (cut : Cut) → IsFitted fitted.now s
+        → IsText schedule_limit (Text.Whole part.now) cut.second cut.is_second_marked
+        → IfOk result (λ a. ScheduleGives
+        (second_refusal schedule_limit (faulty_event (schedule_of (words_of s) cut.second)) cut)
+        s start cut (outcome_of a)) }
+    ensures whole { IfOk result (λ a. (outcome_of a).status ≡ 0 → IsUnmarked (Text.Whole part.now)) }
+    ensures said { IfOk result IsSaid }
+{
+    let events = match read_schedule_of(alloc, &part.bytes, fitted.names.as_slice()) {
+        Ok(events) => events,
+        Err(ScheduleFault::Line { line }) => {
+            return Ok(Answer::Refused {
+                refusal: Refusal::SecondLine { line },
+            });
+        }
+        Err(ScheduleFault::Memory) => return Err(AllocError),
+    };
+    if part.marker {
+        let line = marker_number(&part.bytes);
+        return Ok(Answer::Refused {
+            refusal: Refusal::SecondLine { line },
+        });
+    }
+    rehearse_events(alloc, fitted, start, &events)
+}
+
+// What a second text comes to for a show that nothing refuses.
+fn judge_second(
+    alloc: Global,
+    fitted: &Fitted,
+    start: bool,
+    second: &Text,
+) -> Result<Answer, AllocError>
+    requires valid { IsValidFitted fitted.now }
+    requires lands { (g : Grid) × Lands g fitted.now.settings fitted.now.sent }
+    requires short { IsWithin schedule_limit second.now }
+    ensures gives { (s : PlainShow) (cut : Cut) → IsFitted fitted.now s
+        → IsText schedule_limit second.now cut.second cut.is_second_marked
+        → IfOk result (λ a. ScheduleGives
+        (second_refusal schedule_limit (faulty_event (schedule_of (words_of s) cut.second)) cut)
+        s start cut (outcome_of a)) }
+    ensures whole { IfOk result (λ a. (outcome_of a).status ≡ 0 → IsUnmarked second.now) }
+    ensures said { IfOk result IsSaid }
+{
+    match second {
+        Text::TooLarge => Ok(Answer::Refused {
+            refusal: Refusal::SecondTooLarge,
+        }),
+        Text::Whole { part } => judge_part(alloc, fitted, start, part),
+    }
+}
+
+// What `rehearse` answers for two texts.
+fn answer_two(alloc: Global, depth: u8, start: bool, input: &Input) -> Result<Answer, AllocError>
+    requires depth { depth ≤ most_depth }
+    requires show { IsWithin show_limit input.now.show }
+    requires second { IsWithin schedule_limit input.now.second }
+    ensures { AnswersTwo (Command.Rehearse depth start) schedule_limit input.now result }
+{
+    let command = Command::Rehearse { depth, start };
+    match accept(alloc, command, depth, &input.show)? {
+        Judged::Accepted { accepted } => {
+            judge_second(alloc, &accepted.fitted, start, &input.second)
+        }
+        Judged::Refused { refusal } => Ok(Answer::Refused { refusal }),
+    }
+}
+
+// What `rehearse` answers for what its source gives.
+fn answer_input<S: Source>(
+    alloc: Global,
+    depth: u8,
+    start: bool,
+    source: &mut S,
+) -> Result<Answer, Failure>
+    requires depth { depth ≤ most_depth }
+    ensures answers { AnswersInput (Command.Rehearse depth start) (S.left source.old) (S.left source.new) result }
+    ensures failed { result ≡ Err Failure.Read → Rose (S.faults source.old) (S.faults source.new) }
+    ensures later { S.faults source.old ≤ S.faults source.new }
+    ensures left { TakesFront (S.left source.old) (S.left source.new) }
+{
+    let input = read_two(alloc, source, MOST_TEXT)?;
+    Ok(answer_two(alloc, depth, start, &input)?)
+}
+
+/// Runs `rehearse` (docs/COMMANDS.md, `rehearse`) at a depth of 0 to 8, with starts or without: what the drones hold
+/// after the events of a schedule, where the upload is done then. Else the first thing that is wrong with the show,
+/// with the schedule or with how the upload ended. Returns the status.
+pub fn rehearse<S: Source, K: Sink>(
+    alloc: Global,
+    depth: u8,
+    start: bool,
+    source: &mut S,
+    sink: &mut K,
+) -> u8
+    requires depth { depth ≤ most_depth }
+    ensures { Runs (Command.Rehearse depth start)
+        (run_of (S.left source.old) (S.left source.new) (S.faults source.old) (S.faults source.new)
+        (K.written sink.old) (K.written sink.new) (K.faults sink.old) (K.faults sink.new)) result }
+{
+    outcome_law();
+    let answer = answer_input(alloc, depth, start, source);
+    respond(sink, &answer)
+}
