@@ -227,6 +227,17 @@ breaks s stream mid now old sent new n host c f formed few taken front = when_so
     let come = some s bytes left.0 fs takes in
     (come.1, front_more old sent new _ _ come.1 c.sent front (rw (sent-push s c.frames f) at come.3), (come.0, come.2)))
 
+-- ---- what was sent, whether or not the source tells its bytes
+
+pub grown_front : (old new : Option (List ℕ)) (bytes : List ℕ) → AppendsFront old new bytes → (sent : List ℕ) × Appends old new sent
+grown_front old new bytes front = (front.0, front.3)
+
+pub grown_more : (old mid new : Option (List ℕ)) (xs ys : List ℕ) → Appends old mid xs → AppendsFront mid new ys → (sent : List ℕ) × Appends old new sent
+grown_more old mid new xs ys a b = (xs ++ b.0, Appends-append old mid new xs b.0 a b.3)
+
+pub grown_by : (old mid new : Option (List ℕ)) (xs ys : List ℕ) → Appends old mid xs → Appends mid new ys → (sent : List ℕ) × Appends old new sent
+grown_by old mid new xs ys a b = (xs ++ ys, Appends-append old mid new xs ys a b)
+
 -- ---- no answer waits
 
 -- No frame stands at the front of what is left and has more after it than may wait.

@@ -96,6 +96,7 @@ fn carry<S: Source, K: Sink>(
     ensures write { result ≡ Err Broken.Write → Rose (K.faults sink.old) (K.faults sink.new)
         × Breaks host.session (stream parts.old (S.left source.old)) (K.written sink.old) (K.written sink.new) }
     ensures prompt { StaysPrompt host.session (stream parts.old (S.left source.old)) (S.left source.new) (K.written sink.old) (K.written sink.new) }
+    ensures grown { (sent : List ℕ) × Appends (K.written sink.old) (K.written sink.new) sent }
     ensures known { IfOk result (λ status. Contains (0 ∷ 8 ∷ 9 ∷ 10 ∷ 11 ∷ 13 ∷ []) status) }
     ensures left { TakesFront (S.left source.old) (S.left source.new) }
     ensures source_later { S.faults source.old ≤ S.faults source.new }
@@ -172,6 +173,8 @@ pub fn upload<S: Source, K: Sink>(parts: &mut Parts, source: &mut S, host: Host,
         × ((taken : List ℕ) × Consumes (stream parts.old (S.left source.old)) (S.left source.new) taken × UploadFails host.session taken output)))) }
     // No answer waits for much further input.
     ensures prompt { StaysPrompt host.session (stream parts.old (S.left source.old)) (S.left source.new) (K.written sink.old) (K.written sink.new) }
+    // Whether or not the source tells its bytes: what the sink holds only grows.
+    ensures grown { (sent : List ℕ) × Appends (K.written sink.old) (K.written sink.new) sent }
     ensures known { Contains (0 ∷ 6 ∷ 7 ∷ 8 ∷ 9 ∷ 10 ∷ 11 ∷ 13 ∷ []) result }
     ensures taken { TakesFront (S.left source.old) (S.left source.new) }
     ensures source_later { S.faults source.old ≤ S.faults source.new }

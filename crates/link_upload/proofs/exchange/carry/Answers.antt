@@ -3,7 +3,7 @@ use Rattle.upload_core.specs.HostState.{view_of}
 use Rattle.upload_model.proofs.HostSteps.{progress-nil}
 use Rattle.fleet_io.proofs.TakenLemmas.{TakesFront-none, TakesFront-trans}
 use Rattle.link_upload.specs.Sends.{events_in}
-use Rattle.link_upload.proofs.CarryLemmas.{Carries-none, Carries-push, Rose-later, answered, breaks, breaks_first, end_answered, end_faulty, end_full, end_none, fails, prompt_answered, prompt_broken, prompt_carried, prompt_first, short_begun, short_end, short_faulty, short_frame, short_waiting}
+use Rattle.link_upload.proofs.CarryLemmas.{Carries-none, Carries-push, Rose-later, answered, breaks, breaks_first, end_answered, end_faulty, end_full, end_none, fails, grown_by, grown_front, grown_more, prompt_answered, prompt_broken, prompt_carried, prompt_first, short_begun, short_end, short_faulty, short_frame, short_waiting}
 use Rattle.link_upload.proofs.exchange.carry.Goals as goal
 
 -- ---- before any frame
@@ -203,3 +203,32 @@ returns-clause-prompt g c = prompt_carried c.args.host.session _ _ _ _ _ _ _ c.f
 
 pub returns-clause-known : goal.returns-clause-known
 returns-clause-known g c = (5, omega arith, refl)
+
+-- ---- what was sent only grows
+
+pub returns-in-Err-clause-grown : goal.returns-in-Err-clause-grown
+returns-in-Err-clause-grown g c = grown_front _ _ _ c.in-Err.ensures.front
+
+pub returns-in-Err-next_frame-clause-grown : goal.returns-in-Err-next_frame-clause-grown
+returns-in-Err-next_frame-clause-grown g c = (_, c.frames.invariant.carries.sent)
+
+pub returns-in-End-clause-grown : goal.returns-in-End-clause-grown
+returns-in-End-clause-grown g c = (_, c.frames.invariant.carries.sent)
+
+pub returns-in-Faulty-clause-grown : goal.returns-in-Faulty-clause-grown
+returns-in-Faulty-clause-grown g c = (_, c.frames.invariant.carries.sent)
+
+pub returns-in-Err-send-clause-grown : goal.returns-in-Err-send-clause-grown
+returns-in-Err-send-clause-grown g c = grown_more _ _ _ _ _ c.frames.invariant.carries.sent c.in-Err-send.ensures.front
+
+pub returns-in-Done-clause-grown : goal.returns-in-Done-clause-grown
+returns-in-Done-clause-grown g c = grown_by _ _ _ _ _ c.frames.invariant.carries.sent c.in-Ok-send.ensures.ok
+
+pub returns-in-GaveUp-clause-grown : goal.returns-in-GaveUp-clause-grown
+returns-in-GaveUp-clause-grown g c = grown_by _ _ _ _ _ c.frames.invariant.carries.sent c.in-Ok-send.ensures.ok
+
+pub returns-in-Refused-clause-grown : goal.returns-in-Refused-clause-grown
+returns-in-Refused-clause-grown g c = grown_by _ _ _ _ _ c.frames.invariant.carries.sent c.in-Ok-send.ensures.ok
+
+pub returns-clause-grown : goal.returns-clause-grown
+returns-clause-grown g c = (_, c.frames.invariant.carries.sent)

@@ -1,6 +1,6 @@
 use Rattle.std.proofs.Common.{refl, sym, ◌∙◌, arith}
 use Rattle.link_frames.specs.Frames.{end_frame}
-use Rattle.link_upload.proofs.CarryLemmas.{Rose-later}
+use Rattle.link_upload.proofs.CarryLemmas.{Rose-later, grown_more}
 use Rattle.link_upload.proofs.FinishLemmas.{cut_broken, cut_ended, cut_failed, ended, failed, grew_ended, grew_failed, is_end, known_by, prompt_kept}
 use Rattle.link_upload.proofs.exchange.upload.Goals as goal
 
@@ -59,3 +59,11 @@ returns-in-Err-Write-clause-seven g c = λ _.
 
 pub returns-in-Err-Write-clause-known : goal.returns-in-Err-Write-clause-known
 returns-in-Err-Write-clause-known g c = (2, omega arith, refl)
+
+-- ---- what was sent only grows
+
+pub returns-in-Ok-clause-grown : goal.returns-in-Ok-clause-grown
+returns-in-Ok-clause-grown g c = grown_more _ _ _ _ _ c.carry.ensures.grown.1 c.finish.ensures.front
+
+pub returns-in-Err-Read-clause-grown : goal.returns-in-Err-Read-clause-grown
+returns-in-Err-Read-clause-grown g c = grown_more _ _ _ _ _ c.carry.ensures.grown.1 c.finish-in-Err-Read.ensures.front
