@@ -8,3 +8,4 @@ pub mod Answers
 pub mod Steps
 pub mod Runs
 pub mod Headline
+pub mod Uploads

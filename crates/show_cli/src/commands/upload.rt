@@ -1,16 +1,102 @@
 //! `upload`: an upload of a show through link frames.
-ghost use Rattle.std.specs.Prelude.{◌≤◌};
+ghost use Rattle.std.specs.Prelude.{◌≡◌, ◌≤◌, ℕ, List, [], length, false, IsTrue, IfOk, IfSome};
+ghost use Rattle.std.specs.Io.KnownBytes.{Consumes, IsAtEnd};
 ghost use Rattle.command_words.specs.Commands.{most_depth};
+ghost use Rattle.fleet_io.specs.Causes.{Rose};
+ghost use Rattle.fleet_io.specs.Held.{buffer_bytes, has_whole_marker, stream};
+ghost use Rattle.fleet_io.specs.Parts.{TakesFewBehind};
+ghost use Rattle.fleet_io.specs.Taken.{TakesFront};
+ghost use Rattle.link_frames.specs.Frames.{end_frame};
+ghost use Rattle.refusals.specs.Refusals.{status_of};
+ghost use Rattle.show_cli.specs.Answers.{Wrote};
+ghost use Rattle.show_cli.specs.Input.{IsShowText, IsWithin};
 ghost use Rattle.show_cli.specs.Runs.{Runs, run_of};
+ghost use Rattle.show_cli.specs.Shows.{Cut, cut_of, show_limit};
+ghost use Rattle.show_cli.specs.Uploads.{GoesOnReady, IsSoundReady, ReadyGives};
 
-use crate::ends::NO_MEMORY;
+use crate::accept::{Judged, accept};
+use crate::ends::{Failure, NO_MEMORY, finish};
+use crate::input::Text;
+use crate::outcomes::outcome_law;
+use choreo_reader::{MOST_BYTES, show_law};
 use command_words::Command;
-use fleet_io::{Sink, Source};
-use std::alloc::Global;
+use fleet_io::{IoFault, Parts, Sink, Source, marker_law};
+use link_frames::END_BYTE;
+use refusals::Refusal;
+use show_plan::session;
+use std::alloc::{AllocError, Global};
+use upload_core::Host;
 
-/// Runs `upload`.
+/// The host of an upload, or why the show is refused.
+#[derive(Drop)]
+pub enum Ready {
+    Host { host: Host },
+    Refused { refusal: Refusal },
+}
+
+// The host of an upload of the show that a text stands for, or why the show is refused.
+fn make_ready(alloc: Global, depth: u8, start: bool, text: &Text) -> Result<Ready, AllocError>
+    requires depth { depth ≤ most_depth }
+    requires short { IsWithin show_limit text.now }
+    ensures gives { (cut : Cut) → IsShowText text.now cut → IfOk result (ReadyGives (Command.Upload depth start) start cut) }
+    ensures sound { IfOk result IsSoundReady }
+{
+    match accept(alloc, Command::Upload { depth, start }, depth, text)? {
+        Judged::Accepted { accepted } => {
+            let session = session(alloc, &accepted.fitted, start)?;
+            let host = Host::make(alloc, session)?;
+            Ok(Ready::Host { host })
+        }
+        Judged::Refused { refusal } => Ok(Ready::Refused { refusal }),
+    }
+}
+
+// Reads the show's text, and makes the host of its upload.
+fn read_ready<S: Source>(
+    alloc: Global,
+    depth: u8,
+    start: bool,
+    parts: &mut Parts,
+    source: &mut S,
+) -> Result<Ready, Failure>
+    requires depth { depth ≤ most_depth }
+    requires new { parts.old.waiting ≡ [] }
+    requires sound { IsTrue parts.old.sound }
+    requires lines { IsTrue parts.old.lines }
+    requires at_end { IsTrue parts.old.ended → IsAtEnd (S.left source.old) }
+    ensures gives { IfOk result (λ ready. IfSome (stream parts.old (S.left source.old)) (λ all. ReadyGives (Command.Upload depth start) start (cut_of all) ready)) }
+    ensures sound { IfOk result IsSoundReady }
+    ensures goes_on { IfOk result (λ ready. GoesOnReady ready parts.new (stream parts.old (S.left source.old)) (stream parts.new (S.left source.new))) }
+    ensures few { IfOk result (λ _. TakesFewBehind (stream parts.old (S.left source.old)) (S.left source.new)) }
+    ensures most { length parts.new.waiting ≤ buffer_bytes }
+    ensures at_end { IsTrue parts.new.ended → IsAtEnd (S.left source.new) }
+    ensures failed { result ≡ Err Failure.Read → Rose (S.faults source.old) (S.faults source.new) }
+    ensures unmarked { result ≡ Err Failure.Read → (taken : List ℕ) × Consumes (stream parts.old (S.left source.old)) (S.left source.new) taken × (has_whole_marker taken ≡ false) }
+    ensures later { S.faults source.old ≤ S.faults source.new }
+    ensures left { TakesFront (S.left source.old) (S.left source.new) }
+{
+    match parts.text(alloc, source, MOST_BYTES) {
+        Ok(part) => Ok(make_ready(alloc, depth, start, &Text::Whole { part })?),
+        Err(IoFault::TooLong) => Ok(Ready::Refused {
+            refusal: Refusal::TooLarge,
+        }),
+        Err(IoFault::Read) => Err(Failure::Read),
+        Err(IoFault::Memory) => Err(Failure::Memory),
+    }
+}
+
+// Writes the end frame with a refusal's status, and returns that status, or 7 where the sink failed.
+fn refuse_by_frame<K: Sink>(sink: &mut K, refusal: &Refusal) -> u8
+    ensures { Wrote (status_of refusal.now) (end_frame (status_of refusal.now)) (K.written sink.old) (K.written sink.new) (K.faults sink.old) (K.faults sink.new) result }
+{
+    let status = refusal.status();
+    finish(sink, &[END_BYTE, status], status)
+}
+
+/// Runs `upload` (docs/COMMANDS.md): reads the show, and carries its upload through link frames (docs/RADIO.md, "Link frames") to an
+/// end frame; or writes the end frame alone, with the status of the first reason why the show is refused.
 pub fn upload<S: Source, K: Sink>(
-    _alloc: Global,
+    alloc: Global,
     depth: u8,
     start: bool,
     source: &mut S,
@@ -19,7 +105,14 @@ pub fn upload<S: Source, K: Sink>(
     requires depth { depth ≤ most_depth }
     ensures { Runs (Command.Upload depth start) (run_of (S.left source.old) (S.left source.new) (S.faults source.old) (S.faults source.new) (K.written sink.old) (K.written sink.new) (K.faults sink.old) (K.faults sink.new)) result }
 {
-    let _ = &source;
-    let _ = &sink;
-    NO_MEMORY
+    outcome_law();
+    marker_law();
+    show_law();
+    let mut parts = Parts::make();
+    match read_ready(alloc, depth, start, &mut parts, source) {
+        Ok(Ready::Host { host }) => link_upload::upload(&mut parts, source, host, sink),
+        Ok(Ready::Refused { refusal }) => refuse_by_frame(sink, &refusal),
+        Err(Failure::Read) => refuse_by_frame(sink, &Refusal::Read),
+        Err(Failure::Memory) => NO_MEMORY,
+    }
 }
