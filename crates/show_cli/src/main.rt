@@ -47,3 +47,5 @@ fn main(rt: HostRuntime) -> ExitCode {
 mod rehearse_tests;
 #[cfg(test)]
 mod tests;
+#[cfg(test)]
+mod upload_tests;

@@ -8,7 +8,7 @@ const START: &[u8] = b"choreo 1\ndrone solo 0 0 1000000 0\n";
 
 const CUE: &[u8] = b"cue 2000\nsolo move 1000000 0 1000000 0\nend\n";
 
-const SHOW: &[u8] =
+pub const SHOW: &[u8] =
     b"choreo 1\ndrone solo 0 0 1000000 0\ncue 2000\nsolo move 1000000 0 1000000 0\nend\n";
 
 const PLAN: &[u8] = b"plan 1\ndrone solo bytes 28 pieces 1\n\
@@ -25,7 +25,7 @@ cue 3000\nb move 1000000 0 2000000 0\nend\ncue 3000\na move 1000000 0 1000000 0\
 cue 3000\nb move 0 0 1000000 0\nend\n";
 
 // Two drones that change places at one height.
-const CROSSING: &[u8] =
+pub const CROSSING: &[u8] =
     b"choreo 1\nellipsoid 120 300\ndrone a 0 0 1000000 0\ndrone b 1000000 0 1000000 0\n\
 cue 3000\na move 1000000 0 1000000 0\nb move 0 0 1000000 0\nend\n";
 
@@ -42,7 +42,7 @@ const STEEP: &[u8] =
     b"choreo 1\nellipsoid 120 300\ndrone a 0 0 1000000 0\ndrone b 223000 112000 1000000 0\ncue 1000\nend\n";
 
 // A drone whose trajectory has one byte more than there is room for.
-const WITHOUT_ROOM: &[u8] =
+pub const WITHOUT_ROOM: &[u8] =
     b"choreo 1\nmemory 2 4069\ndrone solo 0 0 1000000 0\ncue 2000\nsolo move 1000000 0 1000000 0\nend\n";
 
 const FIGURE: &[u8] =
@@ -52,12 +52,12 @@ const MARKER: &[u8] = b"%%\n";
 
 // How a source or a sink behaves: the most bytes of a call, and the number of the call that fails.
 #[derive(Clone, Copy)]
-struct Manner {
-    cut: usize,
-    fails: u64,
+pub struct Manner {
+    pub cut: usize,
+    pub fails: u64,
 }
 
-const FINE: Manner = Manner {
+pub const FINE: Manner = Manner {
     cut: 1000,
     fails: 0,
 };
@@ -75,7 +75,7 @@ fn source_of(
 }
 
 // The status of a run on an input in two halves, and the sink with what was written.
-fn answer(
+pub fn answer(
     alloc: Global,
     words: &[&str],
     front: &[u8],
