@@ -15,6 +15,7 @@ use Rattle.cue_grid.specs.Cues.{grid_of}
 use Rattle.link_upload.specs.Uploads.{UploadLaw}
 use Rattle.memory_curves.specs.Decoded.{CurveLaw}
 use Rattle.fleet_world.specs.Schedules.{schedule_of}
+use Rattle.sep_certificate.specs.Laws.{CertificateLaw}
 use Rattle.sep_certificate.specs.Readings.{TextLaw}
 use Rattle.sep_certificate.specs.Texts.{bad_line}
 use Rattle.command_words.specs.declared.command.Command.{Command}
@@ -26,6 +27,8 @@ use Rattle.show_plan.proofs.Flight.{sent_counted}
 use Rattle.show_cli.specs.Outcome.{CertificateGives, Gives, IsOutcomeOf, LandsWhereAccepted, Outcome, OutcomeLaw, ShowGives, judged_for, said}
 use Rattle.show_cli.specs.Refused.{faulty, faulty_event, second_refusal, show_refusal, text_refusal}
 use Rattle.show_cli.specs.Shows.{Cut, certificate_limit, schedule_limit, sent_of, session_of, show_limit, words_of}
+use Rattle.show_cli.proofs.CompleteLemmas.{complete_done}
+use Rattle.show_cli.proofs.TextLemmas.{none_said, stands_unrefused}
 use Rattle.show_cli.proofs.RehearsalLemmas.{outcome_by, schedule_one, schedule_some}
 
 -- ---- one show
@@ -54,25 +57,6 @@ show_one text upload curve c (Some r) s cut o p first second = first ∙ sym sec
 show_one text upload curve c None s cut o p first second = given_one text upload curve c s cut o p first second
 
 -- ---- the show's text
-
--- a text that isn't too long is refused for its first fault alone
-refusal_is : (text : List ℕ) → length text ≤ show_limit → text_refusal text ≡ option_map faulty (fault text)
-refusal_is text short = by_test (nat_lt show_limit (length text)) refl
-  where
-    long : (m n : ℕ) → nat_lt m n ≡ true → m < n
-    long m n test = grind (arith, nat_tests)
-
-    by_test : (b : Bool) → nat_lt show_limit (length text) ≡ b → cond b (Some refusal.TooLarge) (option_map faulty (fault text)) ≡ option_map faulty (fault text)
-    by_test true test = absurd (let over : show_limit < length text = long show_limit (length text) test in omega arith)
-    by_test false test = refl
-
--- a text that stands for a show isn't refused
-stands_unrefused : ShowLaw → (text : List ℕ) (s : PlainShow) → length text ≤ show_limit → StandsFor text s → text_refusal text ≡ None
-stands_unrefused law text s short stands = refusal_is text short ∙ ap (option_map faulty) ((law.faultless text).0 (s, stands))
-
-none_said : (c : Command) (r : Option Refusal) (o : Outcome) → r ≡ None → option_map (said c) r ≡ Some o → ⊥
-none_said c None o is said = absurd (cc)
-none_said c (Some r) o is said = absurd (cc)
 
 -- an input comes to one outcome
 one_alone : ShowLaw → TextLaw → UploadLaw → CurveLaw → (c : Command) (cut : Cut) (o p : Outcome) → IsOutcomeOf c cut o → IsOutcomeOf c cut p → o ≡ p
@@ -161,5 +145,6 @@ some_there show text upload c cut lands = by_refusal (text_refusal cut.show) ref
         let given = show_some text upload c (show_refusal c cut found.0) found.0 cut (λ none depth start is. lands depth start is found.0 found.1 none) in
         (given.0, inr (record { s = found.0; short = parts.0; stands = found.1; gives = given.1 }))
 
-pub outcomes : ShowLaw → TextLaw → UploadLaw → CurveLaw → OutcomeLaw
-outcomes show text upload curve = record { one = one_alone show text upload curve; some = some_there show text upload }
+pub outcomes : ShowLaw → TextLaw → CertificateLaw → UploadLaw → CurveLaw → OutcomeLaw
+outcomes show text certificate upload curve =
+    record { one = one_alone show text upload curve; some = some_there show text upload; complete = complete_done show text certificate upload }

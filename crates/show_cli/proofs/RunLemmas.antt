@@ -22,11 +22,12 @@ use Rattle.show_cli.specs.declared.ends.Answer.TheVariants.{Done, Refused}
 use Rattle.show_cli.specs.declared.ends.Failure.{Failure}
 use Rattle.show_cli.specs.declared.ends.Failure.TheVariants.{Read, Memory}
 use Rattle.show_cli.specs.Answers.{AnswersInput, IsSaid, Responds, Wrote, outcome_of}
+use Rattle.show_cli.specs.Complete.{IsComplete}
 use Rattle.show_cli.specs.Headline.{Headline}
 use Rattle.show_cli.specs.Input.{IsReadWhole}
-use Rattle.show_cli.specs.Outcome.{IsOutcome, IsOutcomeOf, IsSafe, IsSafeOutcome, Outcome, OutcomeLaw, judged_text, outcome}
+use Rattle.show_cli.specs.Outcome.{IsOutcome, IsOutcomeFor, IsOutcomeOf, IsSafe, IsSafeOutcome, Outcome, OutcomeLaw, judged_text, outcome}
 use Rattle.show_cli.specs.Refused.{IsOfInput}
-use Rattle.show_cli.specs.Runs.{AnswersPromptly, IsJudged, IsStopped, Run, Runs, Stops, reads, run_of, told}
+use Rattle.show_cli.specs.Runs.{AnswersPromptly, Completes, IsJudged, IsStopped, Run, Runs, Stops, reads, run_of, told}
 use Rattle.show_cli.specs.Shows.{cut_of}
 use Rattle.show_cli.specs.Ways.{reads_all, ways_of}
 
@@ -34,6 +35,11 @@ use Rattle.show_cli.specs.Ways.{reads_all, ways_of}
 pub some_map : (a : Option (List ℕ)) (P Q : List ℕ → Type 0) → ((x : List ℕ) → P x → Q x) → IfSome a P → IfSome a Q
 some_map None P Q by holds = tt
 some_map (Some x) P Q by holds = by x holds
+
+-- what holds of all bytes holds of known ones
+some_each : (a : Option (List ℕ)) (P : List ℕ → Type 0) → ((x : List ℕ) → P x) → IfSome a P
+some_each None P by = tt
+some_each (Some x) P by = by x
 
 -- the statuses of a command
 abbrev pub statuses : List ℕ
@@ -239,10 +245,6 @@ runs_memory c r status other prompt is written faults unread taken reads_later =
   reads_later = reads_later;
   writes_later = omega (arith, faults);
 }
-  where
-    some_each : (a : Option (List ℕ)) (P : List ℕ → Type 0) → ((x : List ℕ) → P x) → IfSome a P
-    some_each None P by = tt
-    some_each (Some x) P by = by x
 
 -- A command that reads its input whole answered, failed to read or was out of memory.
 pub runs_answer : (c : Command) (r : Run) (result : Result Answer Failure) (status : ℕ) → IsPlain c → OutcomeLaw → AnswersInput c r.left r.left_after result →
@@ -409,6 +411,46 @@ pub headline_of : (depth : ℕ) (input : List ℕ) (r : Run) (status : ℕ) → 
 headline_of depth input r status runs left is_done =
     let safe : (o : Outcome) × IsSafeOutcome (Compile depth) input o × Appends r.written r.written_after o.output = rw left at (runs.safe is_done) in
     headline depth input r.written r.written_after safe.0 safe.1 safe.2
+
+-- ---- inputs that lack nothing, and ends that never fail
+
+-- a status that is no failure is judged, or the program was out of memory
+judged_or : (n : ℕ) → (n ≡ 6 → ⊥) → (n ≡ 7 → ⊥) → (n ≡ 1) ⊎ IsJudged n
+judged_or zero six seven = inr ((λ e. omega (arith, e)), six, seven)
+judged_or (suc zero) six seven = inl refl
+judged_or (suc (suc n)) six seven = inr ((λ e. omega (arith, e)), six, seven)
+
+outcome_done : OutcomeLaw → (c : Command) (text : Option (List ℕ)) (o : Outcome) → IfSome text (λ t. IsComplete c (cut_of t)) → IsOutcomeFor c text o → o.status ≡ 0
+outcome_done law c None o lacks is = ap (λ (p : Outcome). p.status) is
+outcome_done law c (Some text) o lacks is = law.complete c (cut_of text) o lacks is
+
+pub completes : OutcomeLaw → (c : Command) (r : Run) (status : ℕ) → Runs c r status → Completes c r status
+completes law c r status runs quiet = elim (judged_or status (λ six. quiet.0 (runs.six six).0) (λ seven. quiet.1 (runs.seven seven).0)) [
+  | inl one ↦ some_each (told c r) _ (λ input lacks. inr one)
+  | inr judged ↦ some_map (told c r) _ _ (λ input came lacks. inl (came.2 ∙ outcome_done law c (judged_text c input) came.0 lacks came.1)) (runs.outcome judged)
+]
+
+-- a count that never rises doesn't rise
+pub never_rose : Rose 0 0 → ⊥
+never_rose rose = elim rose [
+  | inl more ↦ omega (arith, more)
+  | inr last ↦ omega (arith, last)
+]
+
+-- where no read fails, no run ends with 6
+pub never_six : (words : Option Command) (r : Run) (status : ℕ) → (words ≡ None → (status ≡ 2) ⊎ (status ≡ 7)) → ((c : Command) → words ≡ Some c → Runs c r status) →
+    (Rose r.reads_failed r.reads_failed_after → ⊥) → status ≡ 6 → ⊥
+never_six None r status usage runs quiet six = elim (usage refl) [
+  | inl e ↦ omega (arith, e, six)
+  | inr e ↦ omega (arith, e, six)
+]
+never_six (Some c) r status usage runs quiet six = quiet ((runs c refl).six six).0
+
+-- where no write fails, no run ends with 7
+pub never_seven : (words : Option Command) (r : Run) (status : ℕ) → (words ≡ None → status ≡ 7 → Rose r.writes_failed r.writes_failed_after) → ((c : Command) → words ≡ Some c → Runs c r status) →
+    (Rose r.writes_failed r.writes_failed_after → ⊥) → status ≡ 7 → ⊥
+never_seven None r status usage runs quiet seven = quiet (usage refl seven)
+never_seven (Some c) r status usage runs quiet seven = quiet ((runs c refl).seven seven).0
 
 -- no status is above 13
 pub known_small : (n : ℕ) → Contains statuses n → n ≤ 13

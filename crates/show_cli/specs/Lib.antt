@@ -2,6 +2,7 @@ pub mod Ways
 pub mod Shows
 pub mod Refused
 pub mod Reports
+pub mod Complete
 pub mod Outcome
 pub mod Input
 pub mod Answers

@@ -35,6 +35,7 @@ use Rattle.show_plan.specs.Flight.{KeepsNearShow}
 use Rattle.show_plan.specs.Landing.{Lands}
 use Rattle.show_plan.specs.Separation.{FlyApart, best_certificate}
 use Rattle.show_plan.specs.Texts.{plan_text}
+use Rattle.show_cli.specs.Complete.{IsComplete}
 use Rattle.show_cli.specs.Shows.{Cut, certificate_limit, cut_of, name_at, names_of, schedule_limit, sent_of, session_of, show_limit, trajectories_of, words_of}
 use Rattle.show_cli.specs.Ways.{ways_of}
 use Rattle.show_cli.specs.Refused.{faulty_event, not_valid, second_refusal, show_refusal, text_refusal}
@@ -147,10 +148,12 @@ IsOutcome c input o = IsOutcomeFor c (judged_text c input) o
 abbrev pub LandsWhereAccepted : Command → Cut → Type 0
 LandsWhereAccepted c cut = (s : PlainShow) → StandsFor cut.show s → show_refusal c cut s ≡ None → Lands (grid_of s) s.settings (sent_of s)
 
--- An input comes to one outcome alone, and to one; with `rehearse` where the show that it accepts lands.
+-- An input comes to one outcome alone, and to one; with `rehearse` where the show that it accepts lands. An input that lacks nothing comes to
+-- status 0.
 pub record OutcomeLaw : Type 0 where
   pub one : (c : Command) (cut : Cut) (o p : Outcome) → IsOutcomeOf c cut o → IsOutcomeOf c cut p → o ≡ p
   pub some : (c : Command) (cut : Cut) → ((depth : ℕ) (start : Bool) → c ≡ Rehearse depth start → LandsWhereAccepted c cut) → (o : Outcome) × IsOutcomeOf c cut o
+  pub complete : (c : Command) (cut : Cut) (o : Outcome) → IsComplete c cut → IsOutcomeOf c cut o → o.status ≡ 0
 
 -- ---- what status 0 promises
 

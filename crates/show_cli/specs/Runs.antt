@@ -17,7 +17,8 @@ use Rattle.refusals.specs.Lines.{read_line}
 use Rattle.show_cli.specs.Shows.{cut_of, session_of}
 use Rattle.show_cli.specs.Ways.{reads_all, ways_of}
 use Rattle.show_cli.specs.Refused.{show_refusal}
-use Rattle.show_cli.specs.Outcome.{IsOutcome, IsSafeOutcome, Outcome}
+use Rattle.show_cli.specs.Complete.{IsComplete}
+use Rattle.show_cli.specs.Outcome.{IsOutcome, IsSafeOutcome, Outcome, judged_text}
 
 -- the command that these words are
 abbrev pub command_in : List (String Global) → Option Command
@@ -154,3 +155,8 @@ pub record Runs (c : Command) (r : Run) (status : ℕ) : Type 0 where
   pub taken : TakesFront r.left r.left_after
   pub reads_later : r.reads_failed ≤ r.reads_failed_after
   pub writes_later : r.writes_failed ≤ r.writes_failed_after
+
+-- With no fault counted, an input that lacks nothing gives 0, or the program is out of memory. `help` judges none, and a drill its own show.
+abbrev pub Completes : Command → Run → ℕ → Type 0
+Completes c r status =
+    IsQuiet r → IfSome (told c r) (λ input. IfSome (judged_text c input) (λ text. IsComplete c (cut_of text)) → (status ≡ 0) ⊎ (status ≡ 1))

@@ -1,6 +1,6 @@
 //! Runs of the whole program over memory, with answers that are known from outside.
-use crate::top::run;
-use fleet_io::{MemSink, MemSource};
+use crate::top::{run, run_surely};
+use fleet_io::{MemSink, MemSource, SureSink, SureSource};
 use std::alloc::{AllocError, Global};
 use std::test::Fail;
 
@@ -231,6 +231,28 @@ const COMMANDS: [(&[&str], &[u8], u8, &[u8]); 22] = [
 fn commands(rt: HostRuntime) -> Result<(), Fail> {
     for (words, input, status, written) in COMMANDS {
         assert!(rt; is_met(rt.alloc(), words, input, b"", status, written)?);
+    }
+    Ok(())
+}
+
+#[test]
+fn ends_that_never_fail(rt: HostRuntime) -> Result<(), Fail> {
+    let alloc = rt.alloc();
+    for (word, status, written) in [
+        (
+            "check",
+            0,
+            b"ok drones 1 cues 1 duration_ms 2000\n".as_slice(),
+        ),
+        ("compile", 0, PLAN),
+        ("upload", 8, b"P\x01\x1eN\x02\x00".as_slice()),
+    ] {
+        let mut words = Vec::new(alloc);
+        words.push(String::from_str(alloc, word)?)?;
+        let mut source = SureSource::make(Vec::from_slice(alloc, SHOW)?);
+        let mut sink = SureSink::make(alloc, written.len())?;
+        assert_eq!(rt; run_surely(alloc, &words, &mut source, &mut sink), status);
+        assert!(rt; sink.kept() == written);
     }
     Ok(())
 }

@@ -6,7 +6,7 @@ ghost use Rattle.fleet_io.specs.Taken.{AppendsFront, TakesFront};
 ghost use Rattle.command_words.specs.Commands.{IsCommand};
 ghost use Rattle.refusals.specs.Lines.{usage_line};
 ghost use Rattle.show_cli.specs.Headline.{Headline};
-ghost use Rattle.show_cli.specs.Runs.{Runs, command_in, run_of};
+ghost use Rattle.show_cli.specs.Runs.{Completes, Runs, command_in, run_of};
 
 use crate::commands::certify::certify;
 use crate::commands::check::check;
@@ -19,8 +19,9 @@ use crate::commands::report::report;
 use crate::commands::upload::upload;
 use crate::commands::verify::verify;
 use crate::ends::refuse;
+use crate::outcomes::outcome_law;
 use command_words::{Command, command_of};
-use fleet_io::{Sink, Source};
+use fleet_io::{Sink, Source, SureSink, SureSource};
 use refusals::Refusal;
 use std::alloc::Global;
 
@@ -64,6 +65,10 @@ pub fn run<S: Source, K: Sink>(
     ensures runs { (c : Command) → command_in words.now.items ≡ Some c
         → Runs c (run_of (S.left source.old) (S.left source.new) (S.faults source.old) (S.faults source.new) (K.written sink.old) (K.written sink.new) (K.faults sink.old) (K.faults sink.new)) result }
 
+    // With no fault counted, an input that lacks nothing gives 0, or the program is out of memory.
+    ensures complete { (c : Command) → command_in words.now.items ≡ Some c
+        → Completes c (run_of (S.left source.old) (S.left source.new) (S.faults source.old) (S.faults source.new) (K.written sink.old) (K.written sink.new) (K.faults sink.old) (K.faults sink.new)) result }
+
     // 0 of `compile`: the input stands for a show, its plan was written, and once the plan's packets are acknowledged, whatever the link
     // does, each drone's memory decodes to one curve, near to the show and apart from every other, at every instant.
     ensures headline { (depth : ℕ) (input : List ℕ) → command_in words.now.items ≡ Some (Command.Compile depth) → S.left source.old ≡ Some input → result ≡ 0
@@ -75,8 +80,22 @@ pub fn run<S: Source, K: Sink>(
     ensures source_later { S.faults source.old ≤ S.faults source.new }
     ensures sink_later { K.faults sink.old ≤ K.faults sink.new }
 {
+    outcome_law();
     match command_of(words) {
         Some(command) => run_command(alloc, command, source, sink),
         None => refuse(sink, &Refusal::Usage),
     }
+}
+
+/// Runs a command over ends that never fail: it never ends with 6 or 7.
+pub fn run_surely(
+    alloc: Global,
+    words: &Vec<String>,
+    source: &mut SureSource,
+    sink: &mut SureSink,
+) -> u8
+    ensures read { result ≢ 6 }
+    ensures write { result ≢ 7 }
+{
+    run(alloc, words, source, sink)
 }

@@ -1,0 +1,8 @@
+use Rattle.show_cli.proofs.RunLemmas.{never_rose, never_seven, never_six}
+use Rattle.show_cli.proofs.top.run_surely.Goals as goal
+
+pub returns-clause-read : goal.returns-clause-read
+returns-clause-read c = λ six. never_six _ _ _ (λ none. (c.run.ensures.usage none).0) c.run.ensures.runs never_rose six
+
+pub returns-clause-write : goal.returns-clause-write
+returns-clause-write c = λ seven. never_seven _ _ _ (λ none failed. (c.run.ensures.usage_failed none failed).0) c.run.ensures.runs never_rose seven

@@ -1,0 +1,54 @@
+-- Inputs that lack nothing: with no fault counted, the program ends with 0 on them, or it is out of memory.
+use Rattle.std.specs.Prelude.{◌≡◌, ℕ, ◌≤◌, List, length, None, Ok}
+use Rattle.std.specs.Str.Lines.{lines}
+use Rattle.choreo_reader.specs.Grammar.{StandsFor}
+use Rattle.choreo_reader.specs.Plain.{PlainShow}
+use Rattle.link_frames.specs.declared.frame.Frame.{Frame}
+use Rattle.link_upload.specs.Sends.{events_in}
+use Rattle.link_upload.specs.Uploads.{Takes}
+use Rattle.rehearsal.specs.Rehearsed.{rehearsed}
+use Rattle.fleet_world.specs.Schedules.{schedule_of}
+use Rattle.sep_parts.specs.Raised.{raised_of}
+use Rattle.sep_parts.specs.Versions.{table_of}
+use Rattle.sep_certificate.specs.declared.certificate.Certificate.{Certificate}
+use Rattle.sep_certificate.specs.Certificates.{IsValid}
+use Rattle.sep_certificate.specs.Texts.{Says, bad_line}
+use Rattle.upload_model.specs.declared.events.Progress.TheVariants.{Done}
+use Rattle.upload_model.specs.declared.events.WorldEvent.{WorldEvent}
+use Rattle.upload_model.specs.Hosts.{progress}
+use Rattle.command_words.specs.declared.command.Command.{Command}
+use Rattle.command_words.specs.declared.command.Command.TheVariants.{Help, Check, Compile, Certify, Play, Report, Verify, Rehearse, Upload, Drill}
+use Rattle.show_cli.specs.Refused.{second_refusal, show_refusal}
+use Rattle.show_cli.specs.Shows.{Cut, certificate_limit, schedule_limit, session_of, show_limit, trajectories_of, words_of}
+
+-- The show's text stands for a show that nothing refuses: it is well-formed, it fits, at the command's depth each part has a direction that
+-- separates, and no marker line stands where none may.
+pub record IsSound (c : Command) (cut : Cut) : Type 0 where
+  pub s : PlainShow
+  pub short : length cut.show ≤ show_limit
+  pub stands : StandsFor cut.show s
+  pub accepted : show_refusal c cut s ≡ None
+
+-- What a command asks for besides such a show. `verify`: the second text says a certificate that is valid. `rehearse`: it says a schedule after
+-- which the upload is done. `upload`: its frames lead there, and no more of them than are taken in one upload.
+abbrev pub Succeeds : Command → PlainShow → Cut → Type 0
+Succeeds Help s cut = Unit {0}
+Succeeds (Check depth) s cut = Unit {0}
+Succeeds (Compile depth) s cut = Unit {0}
+Succeeds (Certify depth) s cut = Unit {0}
+Succeeds (Play depth step) s cut = Unit {0}
+Succeeds (Report depth) s cut = Unit {0}
+Succeeds Verify s cut =
+    (c : Certificate) × (second_refusal certificate_limit (bad_line (lines cut.second)) cut ≡ None) × Says cut.second c
+    × IsValid (table_of c.version) (raised_of (trajectories_of s)) s.settings.r s.settings.h c
+Succeeds (Rehearse depth start) s cut =
+    (events : List WorldEvent) × (second_refusal schedule_limit None cut ≡ None) × (schedule_of (words_of s) cut.second ≡ Ok events)
+    × (progress (session_of s start) (rehearsed (session_of s start) events).heard ≡ Done)
+Succeeds (Upload depth start) s cut =
+    (frames : List Frame) × (rest : List ℕ) × Takes (session_of s start) cut.frames frames rest
+    × (progress (session_of s start) (events_in (session_of s start) frames) ≡ Done)
+Succeeds (Drill drones depth) s cut = Unit {0}
+
+-- an input that lacks nothing
+abbrev pub IsComplete : Command → Cut → Type 0
+IsComplete c cut = (sound : IsSound c cut) × Succeeds c sound.s cut
