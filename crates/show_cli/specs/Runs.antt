@@ -1,5 +1,5 @@
 -- What a run answers, reads and writes.
-use Rattle.std.specs.Prelude.{◌≡◌, ◌≢◌, ◌⊎◌, ℕ, ◌≤◌, Bool, true, false, List, [], ◌∷◌, ◌++◌, Contains, map, string_bytes, Option, Some, None, String, IfSome, if◌then◌else◌}
+use Rattle.std.specs.Prelude.{◌≡◌, ◌≢◌, ◌⊎◌, ℕ, ◌+◌, ◌<◌, ◌≤◌, Bool, true, false, List, [], ◌∷◌, ◌++◌, Contains, length, map, string_bytes, Option, Some, None, String, IfSome, if◌then◌else◌}
 use Rattle.std.specs.Io.KnownBytes.{Appends}
 use Rattle.std.specs.declared.alloc.Global.{Global}
 use Rattle.text_lines.specs.Marker.{part_of, rest_of}
@@ -7,14 +7,15 @@ use Rattle.choreo_reader.specs.Plain.{PlainShow}
 use Rattle.choreo_reader.specs.Grammar.{StandsFor}
 use Rattle.fleet_io.specs.Causes.{Rose}
 use Rattle.fleet_io.specs.Held.{has_whole_marker}
-use Rattle.fleet_io.specs.Taken.{AppendsFront, TakesFront}
+use Rattle.fleet_io.specs.Parts.{TakesFewBehind}
+use Rattle.fleet_io.specs.Taken.{AppendsFront, TakesAtMost, TakesFront}
 use Rattle.link_frames.specs.Frames.{end_frame}
 use Rattle.link_upload.specs.Uploads.{IsPrompt, UploadFails}
 use Rattle.command_words.specs.Commands.{command_of, help_text}
 use Rattle.command_words.specs.declared.command.Command.{Command}
 use Rattle.command_words.specs.declared.command.Command.TheVariants.{Help, Check, Compile, Certify, Play, Report, Verify, Rehearse, Upload, Drill}
 use Rattle.refusals.specs.Lines.{read_line}
-use Rattle.show_cli.specs.Shows.{cut_of, session_of}
+use Rattle.show_cli.specs.Shows.{cut_of, session_of, show_limit}
 use Rattle.show_cli.specs.Ways.{reads_all, ways_of}
 use Rattle.show_cli.specs.Refused.{show_refusal}
 use Rattle.show_cli.specs.Complete.{IsComplete}
@@ -155,6 +156,23 @@ pub record Runs (c : Command) (r : Run) (status : ℕ) : Type 0 where
   pub taken : TakesFront r.left r.left_after
   pub reads_later : r.reads_failed ≤ r.reads_failed_after
   pub writes_later : r.writes_failed ≤ r.writes_failed_after
+
+-- ---- how much is read
+
+-- At most the bytes of the longest show's text were taken, those of a marker line, and 4,096 that were asked for at once.
+abbrev pub TakesOneText : Option (List ℕ) → Option (List ℕ) → Type 0
+TakesOneText left left_after = TakesAtMost (show_limit + 4 + 4096) left left_after
+
+-- A command that wants nothing after a marker line takes no more of its input; nor does one that wants a second text, where the show's is too
+-- long.
+abbrev pub TakesLittle : Command → Run → Type 0
+TakesLittle c r = ((ways_of c).has_second ≡ false) ⊎ IfSome r.left (λ input. show_limit < length (part_of input)) → TakesOneText r.left r.left_after
+
+-- A command that wants nothing after a marker line takes at most 4,096 bytes after it, where it judges its input.
+abbrev pub StopsAtMarker : Command → Run → ℕ → Type 0
+StopsAtMarker c r status = (ways_of c).has_second ≡ false → reads c ≡ true → IsJudged status → TakesFewBehind r.left r.left_after
+
+-- ---- completeness
 
 -- With no fault counted, an input that lacks nothing gives 0, or the program is out of memory. `help` judges none, and a drill its own show.
 abbrev pub Completes : Command → Run → ℕ → Type 0

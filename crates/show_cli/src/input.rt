@@ -1,9 +1,13 @@
 //! What the program reads before it judges: a show's text, and for some commands a second text after it.
-ghost use Rattle.std.specs.Prelude.{◌≡◌, ◌≤◌, IsTrue, IfOk};
+ghost use Rattle.std.specs.Prelude.{◌≡◌, ◌+◌, ◌<◌, ◌≤◌, [], length, IsTrue, IfOk, IfSome};
 ghost use Rattle.std.specs.Io.KnownBytes.{IsAtEnd};
 ghost use Rattle.fleet_io.specs.Held.{stream, text_limit};
 ghost use Rattle.fleet_io.specs.Causes.{Rose};
-ghost use Rattle.fleet_io.specs.Taken.{TakesFront};
+ghost use Rattle.fleet_io.specs.Parts.{TakesFewBehind};
+ghost use Rattle.fleet_io.specs.Taken.{TakesAtMost, TakesFront};
+ghost use Rattle.text_lines.specs.Marker.{part_of};
+ghost use Rattle.show_cli.specs.Runs.{TakesOneText};
+ghost use Rattle.show_cli.specs.Shows.{show_limit};
 ghost use Rattle.show_cli.specs.Input.{GoesOn, IsNextText, IsUnmarked, IsWholeText, IsWithin, ReadsShow, ReadsTwo};
 
 use crate::ends::Failure;
@@ -47,6 +51,8 @@ fn next_text<S: Source>(
     ensures lines { parts.new.lines ≡ parts.old.lines }
     ensures at_end { IsTrue parts.new.ended → IsAtEnd (S.left source.new) }
     ensures whole { IfOk result (λ text. IsUnmarked text → IsAtEnd (S.left source.new)) }
+    ensures few { TakesAtMost (limit + 4 + 4096) (S.left source.old) (S.left source.new) }
+    ensures behind { parts.old.waiting ≡ [] → limit ≡ show_limit → IfOk result (λ _. TakesFewBehind (S.left source.old) (S.left source.new)) }
     ensures failed { result ≡ Err Failure.Read → Rose (S.faults source.old) (S.faults source.new) }
     ensures later { S.faults source.old ≤ S.faults source.new }
     ensures left { TakesFront (S.left source.old) (S.left source.new) }
@@ -86,6 +92,7 @@ fn read_second<S: Source>(
     ensures text { IsWholeText show.now → IfOk result (λ text. IsNextText limit text (stream parts.old (S.left source.old))) }
     ensures within { IfOk result (λ text. IsWithin limit text) }
     ensures whole { IsWholeText show.now → IfOk result (λ text. IsUnmarked text → IsAtEnd (S.left source.new)) }
+    ensures stays { (IsWholeText show.now → ⊥) → S.left source.new ≡ S.left source.old }
     ensures failed { result ≡ Err Failure.Read → Rose (S.faults source.old) (S.faults source.new) }
     ensures later { S.faults source.old ≤ S.faults source.new }
     ensures left { TakesFront (S.left source.old) (S.left source.new) }
@@ -99,6 +106,8 @@ fn read_second<S: Source>(
 /// Reads the show's text. A text that is too large ends the reading. `Read` where a read failed.
 pub fn read_show_text<S: Source>(alloc: Global, source: &mut S) -> Result<Text, Failure>
     ensures show { IfOk result (λ text. ReadsShow (S.left source.old) (S.left source.new) text) }
+    ensures few { TakesOneText (S.left source.old) (S.left source.new) }
+    ensures behind { IfOk result (λ _. TakesFewBehind (S.left source.old) (S.left source.new)) }
     ensures failed { result ≡ Err Failure.Read → Rose (S.faults source.old) (S.faults source.new) }
     ensures later { S.faults source.old ≤ S.faults source.new }
     ensures left { TakesFront (S.left source.old) (S.left source.new) }
@@ -112,6 +121,7 @@ pub fn read_show_text<S: Source>(alloc: Global, source: &mut S) -> Result<Text, 
 pub fn read_two<S: Source>(alloc: Global, source: &mut S, limit: usize) -> Result<Input, Failure>
     requires { limit ≤ text_limit }
     ensures texts { IfOk result (λ input. ReadsTwo limit (S.left source.old) (S.left source.new) input) }
+    ensures few { IfSome (S.left source.old) (λ all. show_limit < length (part_of all)) → TakesOneText (S.left source.old) (S.left source.new) }
     ensures failed { result ≡ Err Failure.Read → Rose (S.faults source.old) (S.faults source.new) }
     ensures later { S.faults source.old ≤ S.faults source.new }
     ensures left { TakesFront (S.left source.old) (S.left source.new) }

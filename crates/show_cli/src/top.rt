@@ -6,7 +6,7 @@ ghost use Rattle.fleet_io.specs.Taken.{AppendsFront, TakesFront};
 ghost use Rattle.command_words.specs.Commands.{IsCommand};
 ghost use Rattle.refusals.specs.Lines.{usage_line};
 ghost use Rattle.show_cli.specs.Headline.{Headline};
-ghost use Rattle.show_cli.specs.Runs.{Completes, Runs, command_in, run_of};
+ghost use Rattle.show_cli.specs.Runs.{Completes, Runs, StopsAtMarker, TakesLittle, command_in, run_of};
 
 use crate::commands::certify::certify;
 use crate::commands::check::check;
@@ -33,7 +33,9 @@ fn run_command<S: Source, K: Sink>(
     sink: &mut K,
 ) -> u8
     requires { IsCommand command }
-    ensures { Runs command (run_of (S.left source.old) (S.left source.new) (S.faults source.old) (S.faults source.new) (K.written sink.old) (K.written sink.new) (K.faults sink.old) (K.faults sink.new)) result }
+    ensures few { TakesLittle command (run_of (S.left source.old) (S.left source.new) (S.faults source.old) (S.faults source.new) (K.written sink.old) (K.written sink.new) (K.faults sink.old) (K.faults sink.new)) }
+    ensures marker { StopsAtMarker command (run_of (S.left source.old) (S.left source.new) (S.faults source.old) (S.faults source.new) (K.written sink.old) (K.written sink.new) (K.faults sink.old) (K.faults sink.new)) result }
+    ensures runs { Runs command (run_of (S.left source.old) (S.left source.new) (S.faults source.old) (S.faults source.new) (K.written sink.old) (K.written sink.new) (K.faults sink.old) (K.faults sink.new)) result }
 {
     match command {
         Command::Help => help(source, sink),
@@ -64,6 +66,10 @@ pub fn run<S: Source, K: Sink>(
     // The words are a command: what it answers, reads and writes. The fields of `Runs` say it one by one (`specs/Runs.antt`).
     ensures runs { (c : Command) → command_in words.now.items ≡ Some c
         → Runs c (run_of (S.left source.old) (S.left source.new) (S.faults source.old) (S.faults source.new) (K.written sink.old) (K.written sink.new) (K.faults sink.old) (K.faults sink.new)) result }
+
+    // Nothing is read beyond what is judged but the 4,096 bytes that were asked for at once.
+    ensures few { (c : Command) → command_in words.now.items ≡ Some c → TakesLittle c (run_of (S.left source.old) (S.left source.new) (S.faults source.old) (S.faults source.new) (K.written sink.old) (K.written sink.new) (K.faults sink.old) (K.faults sink.new)) }
+    ensures marker { (c : Command) → command_in words.now.items ≡ Some c → StopsAtMarker c (run_of (S.left source.old) (S.left source.new) (S.faults source.old) (S.faults source.new) (K.written sink.old) (K.written sink.new) (K.faults sink.old) (K.faults sink.new)) result }
 
     // With no fault counted, an input that lacks nothing gives 0, or the program is out of memory.
     ensures complete { (c : Command) → command_in words.now.items ≡ Some c

@@ -1,15 +1,16 @@
 //! `check`: whether a show fits and its drones keep apart.
-ghost use Rattle.std.specs.Prelude.{◌≡◌, ◌≤◌, length};
+ghost use Rattle.std.specs.Prelude.{◌≡◌, ◌≤◌, length, IfOk};
 ghost use Rattle.choreo_reader.specs.Plain.{PlainShow};
 ghost use Rattle.show_plan.specs.Fitting.{IsFitted, IsValidFitted};
 ghost use Rattle.command_words.specs.Commands.{most_depth};
 ghost use Rattle.fleet_io.specs.Causes.{Rose};
+ghost use Rattle.fleet_io.specs.Parts.{TakesFewBehind};
 ghost use Rattle.fleet_io.specs.Taken.{TakesFront};
 ghost use Rattle.show_cli.specs.Answers.{AnswersInput, AnswersText, IsSaid, outcome_of};
 ghost use Rattle.show_cli.specs.Outcome.{outcome};
 ghost use Rattle.show_cli.specs.Reports.{cues_in, duration_of, ok_line};
 ghost use Rattle.show_cli.specs.Input.{IsWithin};
-ghost use Rattle.show_cli.specs.Runs.{Runs, run_of};
+ghost use Rattle.show_cli.specs.Runs.{Runs, StopsAtMarker, TakesLittle, TakesOneText, run_of};
 ghost use Rattle.show_cli.specs.Shows.{show_limit};
 
 use crate::accept::{Judged, accept};
@@ -54,6 +55,8 @@ fn answer_input<S: Source>(alloc: Global, depth: u8, source: &mut S) -> Result<A
     ensures answers { AnswersInput (Command.Check depth) (S.left source.old) (S.left source.new) result }
     ensures failed { result ≡ Err Failure.Read → Rose (S.faults source.old) (S.faults source.new) }
     ensures later { S.faults source.old ≤ S.faults source.new }
+    ensures few { TakesOneText (S.left source.old) (S.left source.new) }
+    ensures behind { IfOk result (λ _. TakesFewBehind (S.left source.old) (S.left source.new)) }
     ensures left { TakesFront (S.left source.old) (S.left source.new) }
 {
     let text = read_show_text(alloc, source)?;
@@ -63,7 +66,9 @@ fn answer_input<S: Source>(alloc: Global, depth: u8, source: &mut S) -> Result<A
 /// Runs `check` (docs/COMMANDS.md): the numbers of its drones and cues and its milliseconds, or the first reason why it is refused.
 pub fn check<S: Source, K: Sink>(alloc: Global, depth: u8, source: &mut S, sink: &mut K) -> u8
     requires depth { depth ≤ most_depth }
-    ensures { Runs (Command.Check depth) (run_of (S.left source.old) (S.left source.new) (S.faults source.old) (S.faults source.new) (K.written sink.old) (K.written sink.new) (K.faults sink.old) (K.faults sink.new)) result }
+    ensures runs { Runs (Command.Check depth) (run_of (S.left source.old) (S.left source.new) (S.faults source.old) (S.faults source.new) (K.written sink.old) (K.written sink.new) (K.faults sink.old) (K.faults sink.new)) result }
+    ensures few { TakesLittle (Command.Check depth) (run_of (S.left source.old) (S.left source.new) (S.faults source.old) (S.faults source.new) (K.written sink.old) (K.written sink.new) (K.faults sink.old) (K.faults sink.new)) }
+    ensures marker { StopsAtMarker (Command.Check depth) (run_of (S.left source.old) (S.left source.new) (S.faults source.old) (S.faults source.new) (K.written sink.old) (K.written sink.new) (K.faults sink.old) (K.faults sink.new)) result }
 {
     outcome_law();
     let answer = answer_input(alloc, depth, source);

@@ -1,11 +1,12 @@
 //! `compile`: the plan of a show.
-ghost use Rattle.std.specs.Prelude.{◌≡◌, ◌≤◌};
+ghost use Rattle.std.specs.Prelude.{◌≡◌, ◌≤◌, IfOk};
 ghost use Rattle.command_words.specs.Commands.{most_depth};
 ghost use Rattle.fleet_io.specs.Causes.{Rose};
+ghost use Rattle.fleet_io.specs.Parts.{TakesFewBehind};
 ghost use Rattle.fleet_io.specs.Taken.{TakesFront};
 ghost use Rattle.show_cli.specs.Answers.{AnswersInput, AnswersText};
 ghost use Rattle.show_cli.specs.Input.{IsWithin};
-ghost use Rattle.show_cli.specs.Runs.{Runs, run_of};
+ghost use Rattle.show_cli.specs.Runs.{Runs, StopsAtMarker, TakesLittle, TakesOneText, run_of};
 ghost use Rattle.show_cli.specs.Shows.{show_limit};
 
 use crate::accept::{Judged, accept};
@@ -40,6 +41,8 @@ fn answer_input<S: Source>(alloc: Global, depth: u8, source: &mut S) -> Result<A
     ensures answers { AnswersInput (Command.Compile depth) (S.left source.old) (S.left source.new) result }
     ensures failed { result ≡ Err Failure.Read → Rose (S.faults source.old) (S.faults source.new) }
     ensures later { S.faults source.old ≤ S.faults source.new }
+    ensures few { TakesOneText (S.left source.old) (S.left source.new) }
+    ensures behind { IfOk result (λ _. TakesFewBehind (S.left source.old) (S.left source.new)) }
     ensures left { TakesFront (S.left source.old) (S.left source.new) }
 {
     let text = read_show_text(alloc, source)?;
@@ -49,7 +52,9 @@ fn answer_input<S: Source>(alloc: Global, depth: u8, source: &mut S) -> Result<A
 /// Runs `compile` (docs/COMMANDS.md): its plan, or the first reason why it is refused.
 pub fn compile<S: Source, K: Sink>(alloc: Global, depth: u8, source: &mut S, sink: &mut K) -> u8
     requires depth { depth ≤ most_depth }
-    ensures { Runs (Command.Compile depth) (run_of (S.left source.old) (S.left source.new) (S.faults source.old) (S.faults source.new) (K.written sink.old) (K.written sink.new) (K.faults sink.old) (K.faults sink.new)) result }
+    ensures runs { Runs (Command.Compile depth) (run_of (S.left source.old) (S.left source.new) (S.faults source.old) (S.faults source.new) (K.written sink.old) (K.written sink.new) (K.faults sink.old) (K.faults sink.new)) result }
+    ensures few { TakesLittle (Command.Compile depth) (run_of (S.left source.old) (S.left source.new) (S.faults source.old) (S.faults source.new) (K.written sink.old) (K.written sink.new) (K.faults sink.old) (K.faults sink.new)) }
+    ensures marker { StopsAtMarker (Command.Compile depth) (run_of (S.left source.old) (S.left source.new) (S.faults source.old) (S.faults source.new) (K.written sink.old) (K.written sink.new) (K.faults sink.old) (K.faults sink.new)) result }
 {
     outcome_law();
     let answer = answer_input(alloc, depth, source);

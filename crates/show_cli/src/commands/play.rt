@@ -3,11 +3,12 @@ ghost use Rattle.std.specs.Prelude.{◌≡◌, ◌≤◌, map, IfOk};
 ghost use Rattle.choreo_lines.specs.Name.{Name};
 ghost use Rattle.command_words.specs.Commands.{most_depth};
 ghost use Rattle.fleet_io.specs.Causes.{Rose};
+ghost use Rattle.fleet_io.specs.Parts.{TakesFewBehind};
 ghost use Rattle.fleet_io.specs.Taken.{TakesFront};
 ghost use Rattle.integer_player.specs.Played.{play_text};
 ghost use Rattle.show_plan.specs.Fitting.{IsValidFitted};
 ghost use Rattle.show_cli.specs.Answers.{IsSoundJudged, JudgesInput, Wrote};
-ghost use Rattle.show_cli.specs.Runs.{Runs, run_of};
+ghost use Rattle.show_cli.specs.Runs.{Runs, StopsAtMarker, TakesLittle, TakesOneText, run_of};
 
 use crate::accept::{Judged, accept};
 use crate::ends::{DONE, Failure, NO_MEMORY, WRITE_FAILED, fail, refuse};
@@ -31,6 +32,8 @@ fn judge_input<S: Source>(
     ensures sound { IfOk result IsSoundJudged }
     ensures failed { result ≡ Err Failure.Read → Rose (S.faults source.old) (S.faults source.new) }
     ensures later { S.faults source.old ≤ S.faults source.new }
+    ensures few { TakesOneText (S.left source.old) (S.left source.new) }
+    ensures behind { IfOk result (λ _. TakesFewBehind (S.left source.old) (S.left source.new)) }
     ensures left { TakesFront (S.left source.old) (S.left source.new) }
 {
     let text = read_show_text(alloc, source)?;
@@ -65,7 +68,9 @@ pub fn play<S: Source, K: Sink>(
 ) -> u8
     requires depth { depth ≤ most_depth }
     requires step { 1 ≤ step }
-    ensures { Runs (Command.Play depth step) (run_of (S.left source.old) (S.left source.new) (S.faults source.old) (S.faults source.new) (K.written sink.old) (K.written sink.new) (K.faults sink.old) (K.faults sink.new)) result }
+    ensures runs { Runs (Command.Play depth step) (run_of (S.left source.old) (S.left source.new) (S.faults source.old) (S.faults source.new) (K.written sink.old) (K.written sink.new) (K.faults sink.old) (K.faults sink.new)) result }
+    ensures few { TakesLittle (Command.Play depth step) (run_of (S.left source.old) (S.left source.new) (S.faults source.old) (S.faults source.new) (K.written sink.old) (K.written sink.new) (K.faults sink.old) (K.faults sink.new)) }
+    ensures marker { StopsAtMarker (Command.Play depth step) (run_of (S.left source.old) (S.left source.new) (S.faults source.old) (S.faults source.new) (K.written sink.old) (K.written sink.new) (K.faults sink.old) (K.faults sink.new)) result }
 {
     outcome_law();
     match judge_input(alloc, depth, step, source) {

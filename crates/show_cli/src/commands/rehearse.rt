@@ -1,5 +1,5 @@
 //! `rehearse`: what an upload leaves in drones after a schedule.
-ghost use Rattle.std.specs.Prelude.{◌≡◌, ◌≤◌, length, IfOk};
+ghost use Rattle.std.specs.Prelude.{◌≡◌, ◌<◌, ◌≤◌, length, IfOk, IfSome};
 ghost use Rattle.choreo_reader.specs.Plain.{PlainShow};
 ghost use Rattle.cue_grid.specs.declared.grid.Grid.{Grid};
 ghost use Rattle.fleet_world.specs.Schedules.{schedule_of};
@@ -12,7 +12,8 @@ ghost use Rattle.show_cli.specs.Answers.{AnswersInput, AnswersTwo, IsSaid, outco
 ghost use Rattle.show_cli.specs.Input.{IsText, IsUnmarked, IsWithin};
 ghost use Rattle.show_cli.specs.Outcome.{Rehearses, ScheduleGives};
 ghost use Rattle.show_cli.specs.Refused.{faulty_event, second_refusal};
-ghost use Rattle.show_cli.specs.Runs.{Runs, run_of};
+ghost use Rattle.text_lines.specs.Marker.{part_of};
+ghost use Rattle.show_cli.specs.Runs.{Runs, StopsAtMarker, TakesLittle, TakesOneText, run_of};
 ghost use Rattle.show_cli.specs.Shows.{Cut, schedule_limit, show_limit, words_of};
 
 use crate::accept::{Judged, accept};
@@ -164,6 +165,7 @@ fn answer_input<S: Source>(
     ensures answers { AnswersInput (Command.Rehearse depth start) (S.left source.old) (S.left source.new) result }
     ensures failed { result ≡ Err Failure.Read → Rose (S.faults source.old) (S.faults source.new) }
     ensures later { S.faults source.old ≤ S.faults source.new }
+    ensures few { IfSome (S.left source.old) (λ all. show_limit < length (part_of all)) → TakesOneText (S.left source.old) (S.left source.new) }
     ensures left { TakesFront (S.left source.old) (S.left source.new) }
 {
     let input = read_two(alloc, source, MOST_TEXT)?;
@@ -181,9 +183,9 @@ pub fn rehearse<S: Source, K: Sink>(
     sink: &mut K,
 ) -> u8
     requires depth { depth ≤ most_depth }
-    ensures { Runs (Command.Rehearse depth start)
-        (run_of (S.left source.old) (S.left source.new) (S.faults source.old) (S.faults source.new)
-        (K.written sink.old) (K.written sink.new) (K.faults sink.old) (K.faults sink.new)) result }
+    ensures runs { Runs (Command.Rehearse depth start) (run_of (S.left source.old) (S.left source.new) (S.faults source.old) (S.faults source.new) (K.written sink.old) (K.written sink.new) (K.faults sink.old) (K.faults sink.new)) result }
+    ensures few { TakesLittle (Command.Rehearse depth start) (run_of (S.left source.old) (S.left source.new) (S.faults source.old) (S.faults source.new) (K.written sink.old) (K.written sink.new) (K.faults sink.old) (K.faults sink.new)) }
+    ensures marker { StopsAtMarker (Command.Rehearse depth start) (run_of (S.left source.old) (S.left source.new) (S.faults source.old) (S.faults source.new) (K.written sink.old) (K.written sink.new) (K.faults sink.old) (K.faults sink.new)) result }
 {
     outcome_law();
     let answer = answer_input(alloc, depth, start, source);

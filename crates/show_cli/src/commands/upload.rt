@@ -10,7 +10,7 @@ ghost use Rattle.link_frames.specs.Frames.{end_frame};
 ghost use Rattle.refusals.specs.Refusals.{status_of};
 ghost use Rattle.show_cli.specs.Answers.{Wrote};
 ghost use Rattle.show_cli.specs.Input.{IsShowText, IsWithin};
-ghost use Rattle.show_cli.specs.Runs.{Runs, run_of};
+ghost use Rattle.show_cli.specs.Runs.{Runs, StopsAtMarker, TakesLittle, TakesOneText, run_of};
 ghost use Rattle.show_cli.specs.Shows.{Cut, cut_of, show_limit};
 ghost use Rattle.show_cli.specs.Uploads.{GoesOnReady, IsSoundReady, ReadyGives};
 
@@ -68,6 +68,7 @@ fn read_ready<S: Source>(
     ensures sound { IfOk result IsSoundReady }
     ensures goes_on { IfOk result (λ ready. GoesOnReady ready parts.new (stream parts.old (S.left source.old)) (stream parts.new (S.left source.new))) }
     ensures few { IfOk result (λ _. TakesFewBehind (stream parts.old (S.left source.old)) (S.left source.new)) }
+    ensures taken { TakesOneText (S.left source.old) (S.left source.new) }
     ensures most { length parts.new.waiting ≤ buffer_bytes }
     ensures at_end { IsTrue parts.new.ended → IsAtEnd (S.left source.new) }
     ensures failed { result ≡ Err Failure.Read → Rose (S.faults source.old) (S.faults source.new) }
@@ -103,7 +104,9 @@ pub fn upload<S: Source, K: Sink>(
     sink: &mut K,
 ) -> u8
     requires depth { depth ≤ most_depth }
-    ensures { Runs (Command.Upload depth start) (run_of (S.left source.old) (S.left source.new) (S.faults source.old) (S.faults source.new) (K.written sink.old) (K.written sink.new) (K.faults sink.old) (K.faults sink.new)) result }
+    ensures runs { Runs (Command.Upload depth start) (run_of (S.left source.old) (S.left source.new) (S.faults source.old) (S.faults source.new) (K.written sink.old) (K.written sink.new) (K.faults sink.old) (K.faults sink.new)) result }
+    ensures few { TakesLittle (Command.Upload depth start) (run_of (S.left source.old) (S.left source.new) (S.faults source.old) (S.faults source.new) (K.written sink.old) (K.written sink.new) (K.faults sink.old) (K.faults sink.new)) }
+    ensures marker { StopsAtMarker (Command.Upload depth start) (run_of (S.left source.old) (S.left source.new) (S.faults source.old) (S.faults source.new) (K.written sink.old) (K.written sink.new) (K.faults sink.old) (K.faults sink.new)) result }
 {
     outcome_law();
     marker_law();

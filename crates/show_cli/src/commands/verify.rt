@@ -1,5 +1,5 @@
 //! `verify`: whether a certificate is valid for a show.
-ghost use Rattle.std.specs.Prelude.{◌≡◌, ◌≤◌, length, IfOk};
+ghost use Rattle.std.specs.Prelude.{◌≡◌, ◌<◌, ◌≤◌, length, IfOk, IfSome};
 ghost use Rattle.std.specs.Str.Lines.{lines};
 ghost use Rattle.choreo_reader.specs.Plain.{PlainShow};
 ghost use Rattle.sep_certificate.specs.Certificates.{IsWhole};
@@ -12,7 +12,8 @@ ghost use Rattle.show_cli.specs.Answers.{AnswersInput, AnswersTwo, IsSaid, outco
 ghost use Rattle.show_cli.specs.Input.{IsText, IsUnmarked, IsWithin};
 ghost use Rattle.show_cli.specs.Outcome.{CertificateGives, judged_for};
 ghost use Rattle.show_cli.specs.Refused.{second_refusal};
-ghost use Rattle.show_cli.specs.Runs.{Runs, run_of};
+ghost use Rattle.text_lines.specs.Marker.{part_of};
+ghost use Rattle.show_cli.specs.Runs.{Runs, StopsAtMarker, TakesLittle, TakesOneText, run_of};
 ghost use Rattle.show_cli.specs.Shows.{Cut, certificate_limit, show_limit};
 
 use crate::accept::{Planned, fit_text};
@@ -119,6 +120,7 @@ fn answer_input<S: Source>(alloc: Global, source: &mut S) -> Result<Answer, Fail
     ensures answers { AnswersInput Command.Verify (S.left source.old) (S.left source.new) result }
     ensures failed { result ≡ Err Failure.Read → Rose (S.faults source.old) (S.faults source.new) }
     ensures later { S.faults source.old ≤ S.faults source.new }
+    ensures few { IfSome (S.left source.old) (λ all. show_limit < length (part_of all)) → TakesOneText (S.left source.old) (S.left source.new) }
     ensures left { TakesFront (S.left source.old) (S.left source.new) }
 {
     let input = read_two(alloc, source, CERTIFICATE_LIMIT)?;
@@ -128,7 +130,9 @@ fn answer_input<S: Source>(alloc: Global, source: &mut S) -> Result<Answer, Fail
 /// Runs `verify` (docs/COMMANDS.md): the depth and the number of trees of a certificate that is valid for the show, or the first thing
 /// that is wrong with either text.
 pub fn verify<S: Source, K: Sink>(alloc: Global, source: &mut S, sink: &mut K) -> u8
-    ensures { Runs Command.Verify (run_of (S.left source.old) (S.left source.new) (S.faults source.old) (S.faults source.new) (K.written sink.old) (K.written sink.new) (K.faults sink.old) (K.faults sink.new)) result }
+    ensures runs { Runs Command.Verify (run_of (S.left source.old) (S.left source.new) (S.faults source.old) (S.faults source.new) (K.written sink.old) (K.written sink.new) (K.faults sink.old) (K.faults sink.new)) result }
+    ensures few { TakesLittle Command.Verify (run_of (S.left source.old) (S.left source.new) (S.faults source.old) (S.faults source.new) (K.written sink.old) (K.written sink.new) (K.faults sink.old) (K.faults sink.new)) }
+    ensures marker { StopsAtMarker Command.Verify (run_of (S.left source.old) (S.left source.new) (S.faults source.old) (S.faults source.new) (K.written sink.old) (K.written sink.new) (K.faults sink.old) (K.faults sink.new)) result }
 {
     outcome_law();
     let answer = answer_input(alloc, source);

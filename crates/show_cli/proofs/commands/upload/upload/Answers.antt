@@ -4,8 +4,8 @@ use Rattle.fleet_io.proofs.TakenLemmas.{TakesFront-trans}
 use Rattle.show_cli.proofs.UploadLemmas.{stream_new, upload_carried, upload_failed, upload_refused}
 use Rattle.show_cli.proofs.commands.upload.upload.Goals as goal
 
-pub returns-in-Ok-Host : goal.returns-in-Ok-Host
-returns-in-Ok-Host g c =
+pub returns-in-Ok-Host-clause-runs : goal.returns-in-Ok-Host-clause-runs
+returns-in-Ok-Host-clause-runs g c =
     let is = stream_new c.make-parts.result (g.S.Source.left c.args.source.now) (ap (λ (h : Held). h.waiting) c.make-parts.ensures) in
     let gives = rw (is, c.in-Ok-Host.field-0-is) at c.in-Ok-Host.ensures.gives in
     let goes_on = rw (is, c.in-Ok-Host.field-0-is) at c.in-Ok-Host.ensures.goes_on in
@@ -15,8 +15,8 @@ returns-in-Ok-Host g c =
     (record { is = gives; rest = goes_on.1; fed = goes_on.2 }) c.read_ready.ensures.later (TakesFront-trans _ _ _ c.read_ready.ensures.left u.taken)
     (record { ends = u.ends; six = u.six; seven = u.seven; prompt = u.prompt; grown = u.grown; known = u.known; reads_later = u.source_later; writes_later = u.sink_later })
 
-pub returns-in-Ok-Refused : goal.returns-in-Ok-Refused
-returns-in-Ok-Refused g c =
+pub returns-in-Ok-Refused-clause-runs : goal.returns-in-Ok-Refused-clause-runs
+returns-in-Ok-Refused-clause-runs g c =
     let is = stream_new c.make-parts.result (g.S.Source.left c.args.source.now) (ap (λ (h : Held). h.waiting) c.make-parts.ensures) in
     let gives = rw (is, c.in-Ok-Refused.field-0-is) at c.in-Ok-Refused.ensures.gives in
     let sound = rw c.in-Ok-Refused.field-0-is at c.in-Ok-Refused.ensures.sound in
@@ -24,8 +24,8 @@ returns-in-Ok-Refused g c =
     upload_refused c.args.depth c.args.start _ c.in-Ok-Refused.refusal c.refuse_by_frame.result c.outcome_law.ensures c.marker_law.ensures gives sound few c.read_ready.ensures.left c.read_ready.ensures.later
     c.refuse_by_frame.ensures
 
-pub returns-in-Err-Read : goal.returns-in-Err-Read
-returns-in-Err-Read g c =
+pub returns-in-Err-Read-clause-runs : goal.returns-in-Err-Read-clause-runs
+returns-in-Err-Read-clause-runs g c =
     let is = stream_new c.make-parts.result (g.S.Source.left c.args.source.now) (ap (λ (h : Held). h.waiting) c.make-parts.ensures) in
     let early = (rw (is, c.in-Err-Read.field-0-is) at c.in-Err-Read.ensures.unmarked) refl in
     let rose = (rw c.in-Err-Read.field-0-is at c.in-Err-Read.ensures.failed) refl in

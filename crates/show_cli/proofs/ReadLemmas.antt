@@ -1,0 +1,35 @@
+-- How much a run reads.
+use Rattle.std.proofs.Common.{◌≡◌, ◌≢◌, ◌⊎◌, inl, inr, ℕ, ◌+◌, ◌<◌, ◌≤◌, List, Option, Some, None, Result, Ok, Err, IfOk, IfSome, length, refl, sym, subst, arith}
+use Rattle.fleet_io.specs.Taken.{TakesAtMost}
+use Rattle.show_cli.specs.declared.ends.Answer.{Answer}
+use Rattle.show_cli.specs.declared.ends.Failure.{Failure}
+use Rattle.show_cli.specs.declared.ends.Failure.TheVariants.{Read, Memory}
+use Rattle.show_cli.specs.Answers.{Responds}
+use Rattle.text_lines.specs.Marker.{part_of}
+use Rattle.show_cli.specs.declared.input.Text.{Text}
+use Rattle.show_cli.specs.declared.input.Text.TheVariants.{TooLarge, Whole}
+use Rattle.show_cli.specs.Input.{IsNextText, IsWholeText}
+use Rattle.show_cli.specs.Shows.{show_limit}
+use Rattle.show_cli.specs.Runs.{IsJudged, TakesOneText}
+
+-- where an answer was judged, it is there
+pub judged_answer : (answer : Result Answer Failure) (old new : Option (List ℕ)) (before after status : ℕ) (P : Type 0) → Responds answer old new before after status →
+    IfOk answer (λ _. P) → IsJudged status → P
+judged_answer (Ok a) old new before after status P responds holds judged = holds
+judged_answer (Err Read) old new before after status P responds holds judged = absurd (elim responds [
+  | inl wrote ↦ judged.1 wrote.0
+  | inr failed ↦ judged.2 failed.0
+])
+judged_answer (Err Memory) old new before after status P responds holds judged = absurd (judged.0 responds.0)
+
+-- nothing was taken
+pub takes_nothing : (left : Option (List ℕ)) (most : ℕ) → TakesAtMost most left left
+takes_nothing None most = tt
+takes_nothing (Some x) most = omega arith
+
+-- after a show's text that is too long nothing is taken
+pub little_two : (left mid after : Option (List ℕ)) (show : Text) → IsNextText show_limit show left → TakesOneText left mid → ((IsWholeText show → ⊥) → after ≡ mid) →
+    IfSome left (λ all. show_limit < length (part_of all)) → TakesOneText left after
+little_two None mid after show text few stays long = tt
+little_two (Some all) mid after TooLarge text few stays long = subst (TakesOneText (Some all)) (sym (stays (λ whole. whole))) few
+little_two (Some all) mid after (Whole part) text few stays long = absurd (omega (arith, text.2, long))
