@@ -14,7 +14,7 @@ use Rattle.upload_model.specs.declared.events.Sent.{Sent}
 use Rattle.upload_model.specs.declared.events.Progress.{Progress}
 use Rattle.upload_model.specs.declared.events.Progress.TheVariants.{Going, Done, GaveUp, Refused}
 use Rattle.upload_model.specs.Sessions.{Upload, drone_count, write_count, packet_count}
-use Rattle.upload_model.specs.Hosts.{status_for, is_good, acked, Packets, open_writes, all_loaded, unless_done, flight_from, flight_of, flight_after, flight, sent_to, is_tick, includes, ticks, all_packets, gave_up, ended_by, ending, or_else, progress_within, progress}
+use Rattle.upload_model.specs.Hosts.{status_for, is_good, acked, Packets, open_writes, all_loaded, unless_done, flight_from, flight_of, flight_after, flight, sent_to, is_tick, includes, ticks_by, ticks, all_packets, gave_up, ended_by, ending, or_else, progress_within, progress}
 use Rattle.upload_model.proofs.HostLaws.{packet_count-plain, packet_count-start, acked-nil, all_packets-each}
 
 -- ---- lists
@@ -45,7 +45,7 @@ flat_map-range-agree {X} f g a (suc n) h =
     ap (λ (xs : List X). xs ++ flat_map f (range_with_len (a + 1) n)) (h a (omega arith) (omega arith))
     ∙ ap (λ (xs : List X). g a ++ xs) (flat_map-range-agree f g (a + 1) n (λ k l b. h k (omega arith) (omega arith)))
 
-count_by-range-agree : (p q : ℕ → Bool) (a n : ℕ) → ((k : ℕ) → a ≤ k → k < a + n → p k ≡ q k) →
+pub count_by-range-agree : (p q : ℕ → Bool) (a n : ℕ) → ((k : ℕ) → a ≤ k → k < a + n → p k ≡ q k) →
     count_by p (range_with_len a n) ≡ count_by q (range_with_len a n)
 count_by-range-agree p q a n h =
     sym (length-filter p (range_with_len a n)) ∙ ap (λ (xs : List ℕ). length xs) (filter-range-agree p q a n h) ∙ length-filter q (range_with_len a n)
@@ -91,29 +91,33 @@ or_nothing false = refl
 pub acked-tick : (s : Upload) (h : List Event) (d k : ℕ) → acked s (h ++ event.Tick ∷ []) d k ≡ acked s h d k
 acked-tick s h d k = acked-push s h event.Tick d k ∙ or_nothing (acked s h d k)
 
-pub ticks-push : (s : Upload) (h : List Event) (e : Event) (x : Sent) →
-    ticks s (h ++ e ∷ []) x ≡ ticks s h x + cond (is_tick (Some e) && includes (flight s h) x) 1 0
-unfolding ticks
-ticks-push s h e x =
-    ap (λ (n : ℕ). count_by new (range_with_len 0 n)) (length_push h e ∙ (let f : length h + 1 ≡ suc (length h) = omega arith in f))
+pub ticks_by-push : (f : List Event → List Sent) (h : List Event) (e : Event) (x : Sent) →
+    ticks_by f (h ++ e ∷ []) x ≡ ticks_by f h x + cond (is_tick (Some e) && includes (f h) x) 1 0
+ticks_by-push f h e x =
+    ap (λ (n : ℕ). count_by new (range_with_len 0 n)) (length_push h e ∙ (let g : length h + 1 ≡ suc (length h) = omega arith in g))
     ∙ count_by-range-more new (length h)
     ∙ ap (λ (n : ℕ). n + cond (new (length h)) 1 0) (count_by-range-agree new old 0 (length h) same)
     ∙ ap (λ (b : Bool). count_by old (range_with_len 0 (length h)) + cond b 1 0) here where
       new : ℕ → Bool
-      new i = is_tick (slice_get (h ++ e ∷ []) i) && includes (flight s (take i (h ++ e ∷ []))) x
+      new i = is_tick (slice_get (h ++ e ∷ []) i) && includes (f (take i (h ++ e ∷ []))) x
 
       old : ℕ → Bool
-      old i = is_tick (slice_get h i) && includes (flight s (take i h)) x
+      old i = is_tick (slice_get h i) && includes (f (take i h)) x
 
       same : (i : ℕ) → 0 ≤ i → i < 0 + length h → new i ≡ old i
       same i l b =
-          ap (λ (o : Option Event). is_tick o && includes (flight s (take i (h ++ e ∷ []))) x) (slice_get-before h (e ∷ []) i (omega arith))
-          ∙ ap (λ (g : List Event). is_tick (slice_get h i) && includes (flight s g) x) (take-append-le i h (e ∷ []) (omega arith))
+          ap (λ (o : Option Event). is_tick o && includes (f (take i (h ++ e ∷ []))) x) (slice_get-before h (e ∷ []) i (omega arith))
+          ∙ ap (λ (g : List Event). is_tick (slice_get h i) && includes (f g) x) (take-append-le i h (e ∷ []) (omega arith))
 
-      here : new (length h) ≡ (is_tick (Some e) && includes (flight s h) x)
+      here : new (length h) ≡ (is_tick (Some e) && includes (f h) x)
       here =
-          ap (λ (o : Option Event). is_tick o && includes (flight s (take (length h) (h ++ e ∷ []))) x) (slice_get-last h e)
-          ∙ ap (λ (g : List Event). is_tick (Some e) && includes (flight s g) x) (take-append-le (length h) h (e ∷ []) (omega arith) ∙ take_all (length h) h (omega arith))
+          ap (λ (o : Option Event). is_tick o && includes (f (take (length h) (h ++ e ∷ []))) x) (slice_get-last h e)
+          ∙ ap (λ (g : List Event). is_tick (Some e) && includes (f g) x) (take-append-le (length h) h (e ∷ []) (omega arith) ∙ take_all (length h) h (omega arith))
+
+pub ticks-push : (s : Upload) (h : List Event) (e : Event) (x : Sent) →
+    ticks s (h ++ e ∷ []) x ≡ ticks s h x + cond (is_tick (Some e) && includes (flight s h) x) 1 0
+unfolding ticks
+ticks-push s h e x = ticks_by-push (λ g. flight s g) h e x
 
 -- ---- progress, one event at a time
 

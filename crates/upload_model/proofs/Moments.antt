@@ -122,7 +122,7 @@ holds-host s start w e h good quiet = record {
   there d k l b a = elim (acked-cases s w.heard e d k a) [ inl before ↦ h.acknowledged d k l b before | inr here ↦ good d k l b here ]
 
 -- an answer that a drone gave
-good_heard : (s : Upload) (from : ℕ) (drones : ℕ → DroneState) (a : List ℕ) → IsGiven s from (drones from) a →
+pub good_heard : (s : Upload) (from : ℕ) (drones : ℕ → DroneState) (a : List ℕ) → IsGiven s from (drones from) a →
     (d k : ℕ) → d < drone_count s → k < packet_count s d → is_good (status_for s d k (event.Up from a)) ≡ true → Effect s d k (drones d)
 good_heard s from drones a given d k l b g =
     at (eqb from d && ltb d (drone_count s) && ltb k (packet_count s d)) refl g where
@@ -134,7 +134,7 @@ good_heard s from drones a given d k l b g =
           subst (λ (i : ℕ). IsGiven s i (drones i) a) same given k b f
       at false e f = absurd (false≢true f)
 
-quiet_heard : (s : Upload) (from : ℕ) (a : List ℕ) → IsFriendly s from a → IsQuiet s (event.Up from a)
+pub quiet_heard : (s : Upload) (from : ℕ) (a : List ℕ) → IsFriendly s from a → IsQuiet s (event.Up from a)
 quiet_heard s from a friendly d k =
     at (eqb from d && ltb d (drone_count s) && ltb k (packet_count s d)) refl where
       at : (t : Bool) → (eqb from d && ltb d (drone_count s) && ltb k (packet_count s d)) ≡ t → is_bad (cond t (status_in s d k (up_of a)) None) ≡ false
@@ -146,10 +146,10 @@ quiet_heard s from a friendly d k =
 
 -- ---- a drone takes a packet
 
-at_changed : {A : Type 0} (P : A → Type 0) (f : ℕ → A) (d : ℕ) (y : A) (i : ℕ) → (i ≡ d → P y) → P (f i) → P (changed f d y i)
+pub at_changed : {A : Type 0} (P : A → Type 0) (f : ℕ → A) (d : ℕ) (y : A) (i : ℕ) → (i ≡ d → P y) → P (f i) → P (changed f d y i)
 at_changed P f d y i same other = cond_both (eqb i d) y (f i) P (λ e. same (eqb-true i d e)) (λ e. other)
 
-options_all : (P : List ℕ → Type 0) (o : Option (List ℕ)) → IfSome o P → All P (option_list o)
+pub options_all : (P : List ℕ → Type 0) (o : Option (List ℕ)) → IfSome o P → All P (option_list o)
 options_all P None h = All-nil P
 options_all P (Some a) h = All-cons P a [] h (All-nil P)
 
@@ -219,7 +219,7 @@ module _ (s : Upload) (start : ℕ → DroneState) (w : World) (session : IsSess
 
 -- ---- one event, and a list of them
 
-All-slice_get : {X : Type 0} (P : X → Type 0) (xs : List X) (n : ℕ) (x : X) → slice_get xs n ≡ Some x → All P xs → P x
+pub All-slice_get : {X : Type 0} (P : X → Type 0) (xs : List X) (n : ℕ) (x : X) → slice_get xs n ≡ Some x → All P xs → P x
 All-slice_get P xs n x at all = subst P (get_or_from_slice_get xs n x x at) (all n x (slice_get_within xs n x at))
 
 holds-take : (s : Upload) (start : ℕ → DroneState) (w : World) → IsSession s → Holds s start w → (d : ℕ) → d < drone_count s →
@@ -271,7 +271,7 @@ start_number s d k b is = by_kind (packet_kind s d k b) where
   by_kind (a_define f) = let kinds : ◌≡◌ {A = ℕ} 5 6 = ap (λ (xs : List ℕ). get_or xs 1 0) (is ∙ packet_at-define s d k f) in absurd (omega arith)
   by_kind (a_start f g) = f
 
-there_loaded : (s : Upload) (drones : ℕ → DroneState) → AllThere s drones → (i : ℕ) → i < drone_count s →
+pub there_loaded : (s : Upload) (drones : ℕ → DroneState) → AllThere s drones → (i : ℕ) → i < drone_count s →
     HasLoad s (load_of s i) (drones i) × HasEntry s (load_of s i) (drones i)
 there_loaded s drones there i l =
     (pieces_make_load s i (drones i) (λ k b. (there i l k (omega arith)).piece b), (there i l (write_count s i) (omega arith)).entry refl)

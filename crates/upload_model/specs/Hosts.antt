@@ -106,10 +106,15 @@ is_tick None = false
 abbrev pub includes : List Sent → Sent → Bool
 includes xs x = list_any (λ y. y.drone == x.drone && y.packet == x.packet) xs
 
+-- How many events are ticks at which this packet was in flight, from what is in flight after each list
+-- of events.
+abbrev pub ticks_by : (List Event → List Sent) → List Event → Sent → ℕ
+ticks_by in_flight h x =
+    count_by (λ i. is_tick (slice_get h i) && includes (in_flight (take i h)) x) (range_with_len 0 (length h))
+
 -- How many events are ticks at which this packet was in flight.
 unfoldable pub ticks : Upload → List Event → Sent → ℕ
-ticks s h x =
-    count_by (λ i. is_tick (slice_get h i) && includes (flight s (take i h)) x) (range_with_len 0 (length h))
+ticks s h x = ticks_by (λ g. flight s g) h x
 
 -- ---- how far the upload is
 
@@ -155,10 +160,15 @@ or_else Done later = Done
 or_else (GaveUp d k) later = GaveUp d k
 or_else (Refused d k status) later = Refused d k status
 
+-- The answer of the shortest prefix of at most n events that ends something, from what each list of
+-- events ends it with, and from the choice of the first of two answers that does not go on.
+abbrev pub first_within : {P : Type 0} → (P → P → P) → (List Event → P) → List Event → ℕ → P
+first_within earlier ends h zero = ends (take 0 h)
+first_within earlier ends h (suc n) = earlier (first_within earlier ends h n) (ends (take (suc n) h))
+
 -- The answer of the shortest prefix of at most n events that ends the upload.
 unfoldable pub progress_within : Upload → List Event → ℕ → Progress
-progress_within s h zero = ending s (take 0 h)
-progress_within s h (suc n) = or_else (progress_within s h n) (ending s (take (suc n) h))
+progress_within s h n = first_within or_else (λ g. ending s g) h n
 
 -- How far the upload is after the events h: the answer of their shortest prefix that ends it.
 unfoldable pub progress : Upload → List Event → Progress
@@ -166,12 +176,16 @@ progress s h = progress_within s h (length h)
 
 -- ---- what is sent
 
--- What the event e after the events g sends, where the upload goes on: on a tick all that is in
--- flight, on an answer what is in flight now and wasn't before.
+-- What the event e after the events g sends, from what is in flight after each list of events: on a
+-- tick all that is in flight, on an answer what is in flight now and wasn't before.
+abbrev pub sent_by : (List Event → List Sent) → List Event → Event → List Sent
+sent_by in_flight g event.Tick = in_flight g
+sent_by in_flight g (event.Up from packet) =
+    filter (λ x. not (includes (in_flight g) x)) (in_flight (g ++ event.Up from packet ∷ []))
+
+-- What the event e after the events g sends, where the upload goes on.
 abbrev pub sent_at : Upload → List Event → Event → List Sent
-sent_at s g event.Tick = flight s g
-sent_at s g (event.Up from packet) =
-    filter (λ x. not (includes (flight s g) x)) (flight s (g ++ event.Up from packet ∷ []))
+sent_at s g e = sent_by (λ h. flight s h) g e
 
 -- These packets while an upload is going, and none after its end.
 abbrev pub if_going : Progress → List Sent → List Sent
