@@ -13,7 +13,7 @@ ghost use Rattle.text_lines.specs.Lines.{lines_of, between_feeds};
 ghost use Rattle.text_lines.specs.Words.{visible, words_of, line_with, numbered};
 ghost use Rattle.text_lines.specs.Tokens.{words_in};
 ghost use Rattle.text_lines.specs.declared.token.Comments.TheVariants.{FromHash};
-ghost use Rattle.choreo_reader.specs.Reading.{entry_fault as entry_fault_of, with_block as with_block_of, act_added, place_added, add_block as add_block_of, close as close_of, close_innermost as close_innermost_of, with_act as with_act_of, with_place as with_place_of, nothing, build, opening_of, openings_of, context_of, line_step, lines_step, finish as finish_of, read_lines, reading};
+ghost use Rattle.choreo_reader.specs.Reading.{InFormation, InFigure, InRepeat, InCue, entry_fault as entry_fault_of, with_block as with_block_of, act_added, place_added, add_block as add_block_of, close as close_of, close_innermost as close_innermost_of, with_act as with_act_of, with_place as with_place_of, nothing, build, opening_of, openings_of, context_of, line_step, lines_step, finish as finish_of, read_lines, reading};
 
 use crate::fault::ShowFault;
 use crate::show::{ActLine, Block, DroneLine, Figure, Formation, Settings, Show};
@@ -52,6 +52,51 @@ pub enum OpenBlock {
         ms: u16,
         acts: Vec<ActLine>,
     },
+}
+
+// A formation in which no drone has a place yet.
+fn no_places(alloc: Global, line: u32, name: Name) -> OpenBlock
+    ensures { open_of result ≡ InFormation line name [] }
+{
+    OpenBlock::Formation {
+        line,
+        name,
+        places: Vec::new(alloc),
+    }
+}
+
+// A figure in which nothing stands yet.
+fn no_figure_body(alloc: Global, line: u32, name: Name, roles: Listed<Name>) -> OpenBlock
+    ensures { open_of result ≡ InFigure line name roles [] }
+{
+    OpenBlock::Figure {
+        line,
+        name,
+        roles,
+        body: Vec::new(alloc),
+    }
+}
+
+// A repeat in which nothing stands yet.
+fn no_repeat_body(alloc: Global, line: u32, times: u32) -> OpenBlock
+    ensures { open_of result ≡ InRepeat line times [] }
+{
+    OpenBlock::Repeat {
+        line,
+        times,
+        body: Vec::new(alloc),
+    }
+}
+
+// A cue in which no act stands yet.
+fn no_acts(alloc: Global, line: u32, ms: u16) -> OpenBlock
+    ensures { open_of result ≡ InCue line ms [] }
+{
+    OpenBlock::Cue {
+        line,
+        ms,
+        acts: Vec::new(alloc),
+    }
 }
 
 /// What was read so far.
@@ -382,28 +427,11 @@ impl Reader {
                 Ok(())
             }
             Entry::Drone { name, at } => self.add_drone(DroneLine { line, name, at }),
-            Entry::Formation { name } => self.begin(OpenBlock::Formation {
-                line,
-                name,
-                places: Vec::new(alloc),
-            }),
+            Entry::Formation { name } => self.begin(no_places(alloc, line, name)),
             Entry::At { name, at } => self.add_place(DroneLine { line, name, at }),
-            Entry::Figure { name, roles } => self.begin(OpenBlock::Figure {
-                line,
-                name,
-                roles,
-                body: Vec::new(alloc),
-            }),
-            Entry::Cue { ms } => self.begin(OpenBlock::Cue {
-                line,
-                ms,
-                acts: Vec::new(alloc),
-            }),
-            Entry::Repeat { times } => self.begin(OpenBlock::Repeat {
-                line,
-                times,
-                body: Vec::new(alloc),
-            }),
+            Entry::Figure { name, roles } => self.begin(no_figure_body(alloc, line, name, roles)),
+            Entry::Cue { ms } => self.begin(no_acts(alloc, line, ms)),
+            Entry::Repeat { times } => self.begin(no_repeat_body(alloc, line, times)),
             Entry::Perform {
                 figure,
                 frame,
@@ -610,7 +638,7 @@ fn read_text(alloc: Global, text: &[u8]) -> Result<Show, ShowFault>
 }
 
 /// The show that a text of at most [`MOST_BYTES`] bytes stands for, or its first faulty line, from 1, and what is wrong
-/// with it. `Memory` where memory wants.
+/// with it. `Memory` where the program is out of memory.
 pub fn read_show(alloc: Global, text: &[u8]) -> Result<Show, ShowFault>
     requires { length text.now ≤ MOST_BYTES }
     // What the text stands for is read, unless memory runs out.

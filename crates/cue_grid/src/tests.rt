@@ -238,6 +238,10 @@ fn numbers_of_cues(rt: HostRuntime) {
     }
 }
 
+fn point(x: i64, y: i64, z: i64, yaw: i64) -> Point {
+    Point { x, y, z, yaw }
+}
+
 // The figure's place (1000000, 0, 1000000) with yaw 0, mirrored at y, turned once and lifted by half a metre, and the steps
 // at a point with four different numbers.
 #[test]
@@ -249,19 +253,8 @@ fn frames(rt: HostRuntime) {
         dy: 0,
         dz: 500_000,
     };
-    let place = Point {
-        x: 1_000_000,
-        y: 0,
-        z: 1_000_000,
-        yaw: 0,
-    };
-    let put = Point {
-        x: 0,
-        y: 1_000_000,
-        z: 1_500_000,
-        yaw: 900,
-    };
-    assert_eq!(rt; apply(&lifted, place), put);
+    let place = point(1_000_000, 0, 1_000_000, 0);
+    assert_eq!(rt; apply(&lifted, place), point(0, 1_000_000, 1_500_000, 900));
     let frame = Frame {
         mirror: Mirror::X,
         turns: 3,
@@ -269,31 +262,8 @@ fn frames(rt: HostRuntime) {
         dy: 20,
         dz: 30,
     };
-    let p = Point {
-        x: 1,
-        y: 2,
-        z: 3,
-        yaw: 4,
-    };
-    let mirrored = Point {
-        x: -1,
-        y: 2,
-        z: 3,
-        yaw: 1796,
-    };
-    let turned = Point {
-        x: 2,
-        y: -1,
-        z: 3,
-        yaw: 2704,
-    };
-    let shifted = Point {
-        x: 11,
-        y: 22,
-        z: 33,
-        yaw: 4,
-    };
-    assert_eq!(rt; mirror(&frame, p), mirrored);
-    assert_eq!(rt; quarter_turn(&frame, p), turned);
-    assert_eq!(rt; shift(&frame, p), shifted);
+    let p = point(1, 2, 3, 4);
+    assert_eq!(rt; mirror(&frame, p), point(-1, 2, 3, 1796));
+    assert_eq!(rt; quarter_turn(&frame, p), point(2, -1, 3, 2704));
+    assert_eq!(rt; shift(&frame, p), point(11, 22, 33, 4));
 }

@@ -101,7 +101,7 @@ impl Parts {
         self.ended
     }
 
-    /// `byte` was never called.
+    /// Neither `byte` nor `take_waiting` was ever called.
     pub fn lines(&self) -> bool
         ensures { result ≡ self.now.lines }
     {
@@ -143,8 +143,8 @@ impl Parts {
         Ok(Some(byte))
     }
 
-    // The bytes that wait.
-    fn waiting(&self) -> &[u8]
+    /// The bytes that the source has given and no call has taken: at most 4,096.
+    pub fn waiting(&self) -> &[u8]
         ensures value { result.now ≡ self.now.waiting }
         ensures most { length self.now.waiting ≤ buffer_bytes }
     {
@@ -342,6 +342,19 @@ impl Parts {
                 Err(Failed)
             }
         }
+    }
+
+    /// Takes the first bytes of those that wait, as as many calls of `byte` do, and asks the source for none. No part can be
+    /// read afterwards.
+    pub fn take_waiting(&mut self, count: usize)
+        requires { count ≤ length self.old.waiting }
+        ensures waiting { self.new.waiting ≡ drop count self.old.waiting }
+        ensures sound { self.new.sound ≡ self.old.sound }
+        ensures ended { self.new.ended ≡ self.old.ended }
+        ensures lines { self.new.lines ≡ false }
+    {
+        self.lines = false;
+        self.start += count;
     }
 
     // The next byte of the part, or its end, where no marker line stands.

@@ -1,5 +1,5 @@
 //! One line of text that takes no memory.
-ghost use Rattle.std.specs.Prelude.{◌≡◌, ◌≤◌, ◌<◌, [], ◌∷◌, ◌++◌, length};
+ghost use Rattle.std.specs.Prelude.{◌≡◌, ◌+◌, ◌≤◌, ◌<◌, [], ◌∷◌, ◌++◌, decimal, length};
 ghost use Rattle.std.specs.Fmt.{signed_decimal};
 ghost use Rattle.fleet_io.specs.Words.{with_word, short_line_bytes};
 
@@ -11,7 +11,7 @@ use std::marker::Model;
 // The most bytes of a short line, with its line feed.
 const SHORT_LINE_BYTES: usize = 160;
 
-/// One line of at most 160 bytes. Its calls append what the calls of `Lines` with these names append.
+/// One line of at most 160 bytes, which takes no memory. Each call says how many bytes it adds at most.
 #[derive(Drop)]
 pub struct ShortLine {
     text: ArrayVec<u8, SHORT_LINE_BYTES>,
@@ -38,8 +38,9 @@ impl ShortLine {
     /// Adds a word, behind a space unless the line is empty.
     #[tactic(auto, unfolding(crate::specs::Words::with_word))]
     pub fn word(&mut self, w: &[u8])
-        requires { length (with_word self.old w.now) ≤ short_line_bytes }
-        ensures { self.new ≡ with_word self.old w.now }
+        requires { length self.old + length w.now + 1 ≤ short_line_bytes }
+        ensures word { self.new ≡ with_word self.old w.now }
+        ensures room { length self.new ≤ length self.old + length w.now + 1 }
     {
         if !is_line_empty(self.text.as_slice()) {
             self.text.push(b' ');
@@ -47,10 +48,22 @@ impl ShortLine {
         self.text.try_extend_from_slice(w).unwrap();
     }
 
-    /// Adds the digits of a number as a word.
+    /// Adds the digits of a number, of which there are at most ten, as a word.
+    pub fn number(&mut self, v: u32)
+        requires { length self.old + 11 ≤ short_line_bytes }
+        ensures word { self.new ≡ with_word self.old (decimal v) }
+        ensures room { length self.new ≤ length self.old + 11 }
+    {
+        let mut digits = Buffer::new();
+        self.word(digits.format(v).as_bytes());
+    }
+
+    /// Adds the digits of a number, of which there are at most 19, with a minus sign before them where it is below 0, as a
+    /// word.
     pub fn decimal(&mut self, v: i64)
-        requires { length (with_word self.old (signed_decimal v)) ≤ short_line_bytes }
-        ensures { self.new ≡ with_word self.old (signed_decimal v) }
+        requires { length self.old + 21 ≤ short_line_bytes }
+        ensures word { self.new ≡ with_word self.old (signed_decimal v) }
+        ensures room { length self.new ≤ length self.old + 21 }
     {
         let mut digits = Buffer::new();
         self.word(digits.format(v).as_bytes());

@@ -281,6 +281,7 @@ fn short_line(rt: HostRuntime) {
     let mut line = ShortLine::make();
     line.word(b"at");
     line.decimal(-12);
+    line.number(7);
     line.end();
-    assert_eq!(rt; line.bytes(), b"at -12\n".as_slice());
+    assert_eq!(rt; line.bytes(), b"at -12 7\n".as_slice());
 }

@@ -13,8 +13,8 @@ pub(crate) fn begin(status: &[u8]) -> ShortLine
     ensures room { length result ≤ 9 }
 {
     let mut line = ShortLine::make();
-    put(&mut line, b"error");
-    put(&mut line, status);
+    line.word(b"error");
+    line.word(status);
     line
 }
 

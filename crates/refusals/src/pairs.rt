@@ -26,11 +26,11 @@ fn put_pair(line: &mut ShortLine, pair: &Pair)
     ensures room { length line.new ≤ length line.old + 54 }
     ensures cue { pair.now.cue < 65536 }
 {
-    put(line, b"pair");
-    put(line, pair.first.as_slice());
-    put(line, pair.second.as_slice());
-    put(line, b"cue");
-    put_number(line, u32::from(pair.cue) + 1);
+    line.word(b"pair");
+    line.word(pair.first.as_slice());
+    line.word(pair.second.as_slice());
+    line.word(b"cue");
+    line.number(u32::from(pair.cue) + 1);
 }
 
 // `error 5 pair NAME NAME cue C part I of P`.
@@ -41,10 +41,10 @@ pub(crate) fn blocked_line(pair: &Pair, index: u16, depth: u8) -> ShortLine
 {
     let mut text = begin(b"5");
     put_pair(&mut text, pair);
-    put(&mut text, b"part");
-    put_number(&mut text, u32::from(index));
-    put(&mut text, b"of");
-    put_number(&mut text, parts(depth));
+    text.word(b"part");
+    text.number(u32::from(index));
+    text.word(b"of");
+    text.number(parts(depth));
     text.end();
     text
 }
@@ -73,7 +73,7 @@ fn unproved_pair(word: &[u8], pair: &Pair) -> ShortLine
     ensures { result ≡ refusal (codes "12") (word.now ∷ pair_words pair.now) }
 {
     let mut text = begin(b"12");
-    put(&mut text, word);
+    text.word(word);
     put_pair(&mut text, pair);
     text.end();
     text
@@ -88,9 +88,9 @@ fn put_direction(line: &mut ShortLine, version: u8, dir: u8)
     ensures room { length line.new ≤ length line.old + 3 }
 {
     if version == 1 {
-        put(line, &[b'a' + dir]);
+        line.word(&[b'a' + dir]);
     } else {
-        put(line, &[b'0' + dir / 10, b'0' + dir % 10]);
+        line.word(&[b'0' + dir / 10, b'0' + dir % 10]);
     }
 }
 
@@ -103,15 +103,15 @@ pub(crate) fn fails_line(pair: &Pair, place: Place, version: u8, dir: u8, contro
     ensures { result ≡ fails_line pair.now place version dir control }
 {
     let mut text = begin(b"12");
-    put(&mut text, b"fails");
+    text.word(b"fails");
     put_pair(&mut text, pair);
-    put(&mut text, b"part");
-    put_number(&mut text, u32::from(place.depth));
-    put_number(&mut text, u32::from(place.index));
-    put(&mut text, b"direction");
+    text.word(b"part");
+    text.number(u32::from(place.depth));
+    text.number(u32::from(place.index));
+    text.word(b"direction");
     put_direction(&mut text, version, dir);
-    put(&mut text, b"control");
-    put_number(&mut text, u32::from(control));
+    text.word(b"control");
+    text.number(u32::from(control));
     text.end();
     text
 }

@@ -50,9 +50,9 @@ fn show_line(line: u32, word: &[u8]) -> ShortLine
     ensures { result ≡ show_line line (word.now ∷ []) }
 {
     let mut text = begin(b"3");
-    put(&mut text, b"line");
-    put_number(&mut text, line);
-    put(&mut text, word);
+    text.word(b"line");
+    text.number(line);
+    text.word(word);
     text.end();
     text
 }
@@ -64,11 +64,11 @@ pub(crate) fn range_line(line: u32, axis: u8, value: i64) -> ShortLine
     ensures { result ≡ range_line line axis value }
 {
     let mut text = begin(b"3");
-    put(&mut text, b"line");
-    put_number(&mut text, line);
-    put(&mut text, b"out-of-range");
-    put(&mut text, axis_word(axis));
-    put_signed(&mut text, value);
+    text.word(b"line");
+    text.number(line);
+    text.word(b"out-of-range");
+    text.word(axis_word(axis));
+    text.decimal(value);
     text.end();
     text
 }
@@ -79,12 +79,12 @@ pub(crate) fn room_line(name: &Name, bytes: u32, room: u32) -> ShortLine
     ensures { result ≡ room_line name.now.items bytes room }
 {
     let mut text = begin(b"4");
-    put(&mut text, b"drone");
-    put(&mut text, name.as_slice());
-    put(&mut text, b"bytes");
-    put_number(&mut text, bytes);
-    put(&mut text, b"room");
-    put_number(&mut text, room);
+    text.word(b"drone");
+    text.word(name.as_slice());
+    text.word(b"bytes");
+    text.number(bytes);
+    text.word(b"room");
+    text.number(room);
     text.end();
     text
 }
@@ -96,10 +96,10 @@ pub(crate) fn segments_line(name: &Name, segments: u32) -> ShortLine
     ensures { result ≡ segments_line name.now.items segments }
 {
     let mut text = begin(b"4");
-    put(&mut text, b"drone");
-    put(&mut text, name.as_slice());
-    put(&mut text, b"segments");
-    put_number(&mut text, segments);
+    text.word(b"drone");
+    text.word(name.as_slice());
+    text.word(b"segments");
+    text.number(segments);
     text.end();
     text
 }
@@ -124,10 +124,10 @@ pub(crate) fn gave_up_line(name: &Name, packet: u16) -> ShortLine
     ensures { result ≡ gave_up_line name.now.items packet }
 {
     let mut text = begin(b"9");
-    put(&mut text, b"drone");
-    put(&mut text, name.as_slice());
-    put(&mut text, b"packet");
-    put_number(&mut text, u32::from(packet) + 1);
+    text.word(b"drone");
+    text.word(name.as_slice());
+    text.word(b"packet");
+    text.number(u32::from(packet) + 1);
     text.end();
     text
 }
@@ -138,12 +138,12 @@ pub(crate) fn refused_line(name: &Name, packet: u16, status: u8) -> ShortLine
     ensures { result ≡ refused_line name.now.items packet status }
 {
     let mut text = begin(b"10");
-    put(&mut text, b"drone");
-    put(&mut text, name.as_slice());
-    put(&mut text, b"packet");
-    put_number(&mut text, u32::from(packet) + 1);
-    put(&mut text, b"status");
-    put_number(&mut text, u32::from(status));
+    text.word(b"drone");
+    text.word(name.as_slice());
+    text.word(b"packet");
+    text.number(u32::from(packet) + 1);
+    text.word(b"status");
+    text.number(u32::from(status));
     text.end();
     text
 }
@@ -153,8 +153,8 @@ pub(crate) fn second_line(line: u32) -> ShortLine
     ensures { result ≡ second_line line }
 {
     let mut text = begin(b"11");
-    put(&mut text, b"line");
-    put_number(&mut text, line);
+    text.word(b"line");
+    text.number(line);
     text.end();
     text
 }
@@ -174,9 +174,9 @@ pub(crate) fn extra_line(version: u8, tree: u32) -> ShortLine
     ensures { result ≡ extra_line version tree }
 {
     let mut text = begin(b"12");
-    put(&mut text, b"extra");
-    put(&mut text, b"line");
-    put_number(&mut text, tree + 1 + head_count(version));
+    text.word(b"extra");
+    text.word(b"line");
+    text.number(tree + 1 + head_count(version));
     text.end();
     text
 }
@@ -199,7 +199,7 @@ fn one_word(status: &[u8], word: &[u8]) -> ShortLine
     ensures { result ≡ refusal status.now (word.now ∷ []) }
 {
     let mut text = begin(status);
-    put(&mut text, word);
+    text.word(word);
     text.end();
     text
 }

@@ -188,10 +188,10 @@ fn certificates(rt: HostRuntime) {
 #[test]
 fn words_one_by_one(rt: HostRuntime) {
     let mut line = ShortLine::make();
-    put(&mut line, b"flown");
-    put_number(&mut line, 4_294_967_295);
-    put(&mut line, b"ms");
-    put_number(&mut line, 0);
+    line.word(b"flown");
+    line.number(4_294_967_295);
+    line.word(b"ms");
+    line.number(0);
     assert_eq!(rt; line.bytes(), b"flown 4294967295 ms 0".as_slice());
 }
 

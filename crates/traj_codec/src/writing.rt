@@ -98,7 +98,7 @@ fn put_segment(out: &mut Vec<u8>, s: &Segment) -> Result<(), AllocError>
 }
 
 /// The bytes of a trajectory of at most 255 segments, none of which has the duration 0: its spelling and three zero
-/// bytes (docs/TRAJECTORY.md). The one refusal is want of memory.
+/// bytes (docs/TRAJECTORY.md). Out of memory is the one refusal.
 pub fn encode(alloc: Global, t: &Traj) -> Result<Vec<u8>, AllocError>
     requires count { length t.now.segments ≤ most_segments }
     requires durations { All HasDuration t.now.segments }
