@@ -67,7 +67,7 @@ fn no_places(alloc: Global, line: u32, name: Name) -> OpenBlock
 
 // A figure in which nothing stands yet.
 fn no_figure_body(alloc: Global, line: u32, name: Name, roles: Listed<Name>) -> OpenBlock
-    ensures { open_of result ≡ InFigure line name roles [] }
+    ensures { open_of result ≡ InFigure line name roles plain.Done }
 {
     OpenBlock::Figure {
         line,
@@ -79,7 +79,7 @@ fn no_figure_body(alloc: Global, line: u32, name: Name, roles: Listed<Name>) -> 
 
 // A repeat in which nothing stands yet.
 fn no_repeat_body(alloc: Global, line: u32, times: u32) -> OpenBlock
-    ensures { open_of result ≡ InRepeat line times [] }
+    ensures { open_of result ≡ InRepeat line times plain.Done }
 {
     OpenBlock::Repeat {
         line,
