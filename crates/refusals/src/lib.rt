@@ -3,8 +3,7 @@
 //! `Refusal` has one variant a cause, with what it is about: drones by their names, cues, parts and packets by their
 //! numbers. `status` and `line` are exactly those of `specs/Refusals.antt`, whose lines stand byte by byte in
 //! `specs/Lines.antt`, with the word of each kind in `specs/KindWords.antt`. A line is a `ShortLine`, which takes no
-//! memory, so that being out of memory can't keep a refusal from being written. `put` and `put_number` add a word to any
-//! short line, for the lines of other crates.
+//! memory, so that being out of memory can't keep a refusal from being written.
 //!
 //! It stands on `fleet_io` for lines, on `choreo_lines`, `choreo_reader` and `cue_grid` for what can be wrong with a
 //! show, on `halving` for the parts of a cue, and on `sep_parts` for the versions of certificates.
@@ -18,5 +17,4 @@ mod singles;
 #[cfg(test)]
 mod tests;
 
-pub use builder::{put, put_number};
 pub use refusal::{Pair, Refusal};

@@ -6,7 +6,7 @@ ghost use Rattle.sep_parts.specs.Versions.{IsVersion, direction_word, known_in};
 ghost use Rattle.refusals.specs.Lines.{refusal, pair_words, blocked_line, missing_line, too_deep_line, fails_line};
 ghost use Rattle.refusals.specs.Refusals.{AreNamed};
 
-use crate::builder::{begin, put, put_number};
+use crate::builder::begin;
 use crate::refusal::Pair;
 use fleet_io::ShortLine;
 use halving::Place;

@@ -6,7 +6,7 @@ ghost use Rattle.sep_parts.specs.Versions.{IsVersion, head_count};
 ghost use Rattle.cue_grid.specs.declared.grid.GridFault.TheVariants.{Memory};
 ghost use Rattle.refusals.specs.Lines.{refusal, usage_line, too_large_line, show_line, faulty_line, grid_line, range_line, room_line, read_line, ended_line, gave_up_line, refused_line, second_line, second_too_large_line, segments_line, extra_line};
 
-use crate::builder::{begin, put, put_number, put_signed};
+use crate::builder::begin;
 use crate::kinds::{axis_word, kind_word, line_and_word};
 use choreo_reader::{LineKind, Name};
 use cue_grid::GridFault;

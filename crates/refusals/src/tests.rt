@@ -41,7 +41,6 @@ fn long_names(cue: u16) -> Pair
 
 #[test]
 fn shows(rt: HostRuntime) {
-    let solo = named(b"solo");
     assert_eq!(rt;
         Refusal::Usage.line().bytes(),
         b"error 2 usage\n".as_slice()
@@ -70,8 +69,13 @@ fn shows(rt: HostRuntime) {
         assert_eq!(rt; refusal.line().bytes(), wanted);
         assert_eq!(rt; refusal.status(), 3);
     }
+    assert_eq!(rt; Refusal::Read.line().bytes(), b"error 6 read\n".as_slice());
+}
+
+#[test]
+fn shows_that_are_refused(rt: HostRuntime) {
     let room = Refusal::Room {
-        drone: solo,
+        drone: named(b"solo"),
         bytes: 28,
         room: 27,
     };
@@ -98,7 +102,6 @@ fn shows(rt: HostRuntime) {
         b"error 5 pair a b cue 1 part 28 of 64\n".as_slice()
     );
     assert_eq!(rt; blocked.status(), 5);
-    assert_eq!(rt; Refusal::Read.line().bytes(), b"error 6 read\n".as_slice());
 }
 
 #[test]
@@ -151,6 +154,10 @@ fn certificates(rt: HostRuntime) {
         tree: 3,
     };
     assert_eq!(rt; late.line().bytes(), b"error 12 extra line 6\n".as_slice());
+}
+
+#[test]
+fn trees_that_fail(rt: HostRuntime) {
     let deep = Refusal::TooDeep { pair: a_and_b(0) };
     assert_eq!(rt;
         deep.line().bytes(),
