@@ -45,7 +45,7 @@ forbidden_from number (line ∷ lines) =
 abbrev pub forbidden : List ℕ → Option Fault
 forbidden text = forbidden_from 1 (lines_of text)
 
--- a refusal names the first line with a forbidden byte, unless memory wants
+-- a refusal names the first line with a forbidden byte, unless the program is out of memory
 abbrev pub TokensFail : ShowFault → List ℕ → Type 0
 TokensFail (failing.Line line kind) text = forbidden text ≡ Some (fault_at line kind)
 TokensFail failing.Memory text = Unit {0}

@@ -135,7 +135,7 @@ earliest (f ∷ fs) = earlier_of (Some f) (earliest fs)
 abbrev pub no_drone : PlainShow → Option GridFault
 no_drone s = if length s.drones == 0 then Some (NoDrone 1) else None
 
--- so many drones a show may have
+-- the most drones of a show
 abbrev pub drone_limit : ℕ
 drone_limit = DRONE_LIMIT
 

@@ -7,7 +7,7 @@ use Rattle.cue_grid.specs.declared.grid.Grid.{Grid}
 use Rattle.cue_grid.specs.declared.grid.GridFault.{GridFault}
 use Rattle.cue_grid.specs.declared.grid.GridFault.TheVariants as fault
 
--- a refusal is the first fault of the show; want of memory says nothing
+-- a refusal is the first fault of the show; out of memory says nothing
 abbrev pub GridFails : GridFault → PlainShow → Type 0
 GridFails fault.Memory show = Unit {0}
 GridFails f show = grid_fault show ≡ Some f

@@ -50,6 +50,6 @@ pub enum GridFault {
     NoCue { line: u32 },
     /// There are more than 1,000 cues; named is the first block with which there are.
     TooManyCues { line: u32 },
-    /// Want of memory.
+    /// Out of memory.
     Memory,
 }

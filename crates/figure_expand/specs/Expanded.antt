@@ -113,7 +113,7 @@ first_unfit (v ∷ vs) = if fits v then first_unfit vs else Some (fault.OutOfRan
 unfoldable pub range_fault : Grid → Option ExpandFault
 range_fault g = first_unfit (values g)
 
--- A refusal is the first value of the grid that no trajectory can hold; want of memory says nothing.
+-- A refusal is the first value of the grid that no trajectory can hold; out of memory says nothing.
 abbrev pub ExpandFails : ExpandFault → Grid → Type 0
 ExpandFails fault.Memory g = Unit {0}
 ExpandFails f g = range_fault g ≡ Some f

@@ -6,6 +6,6 @@ pub enum ExpandFault {
     /// The first value that rounds outside two bytes: the line that it comes from, its axis, 0 to 3 for x, y, z and yaw, and
     /// the value, in micrometres, or on yaw in tenths of a degree.
     OutOfRange { line: u32, axis: u8, value: i64 },
-    /// Want of memory.
+    /// Out of memory.
     Memory,
 }

@@ -52,8 +52,8 @@ impl Model for World {
 }
 
 impl World {
-    /// A world before any event: what is in flight was sent. Session and drones are dropped where
-    /// memory wants.
+    /// A world before any event: what is in flight was sent. Session and drones are dropped where the program is out of
+    /// memory.
     pub fn make(alloc: Global, session: Session, drones: Vec<Drone>) -> Result<World, AllocError>
         requires { length drones.items ≡ drone_count session }
         ensures { IfOk result (λ w. WorldStandsFor w session drones.items []) }
@@ -77,7 +77,7 @@ impl World {
 
     /// One event, and how far the upload is after it. An event that names no packet, no answer or no
     /// drone of the session changes nothing. Drones still take packets after the upload has ended.
-    /// Where memory wants the world is unchanged.
+    /// Where the program is out of memory the world is unchanged.
     pub fn step(&mut self, e: WorldEvent) -> Result<Progress, AllocError>
         ensures stands { OnOk result ((s : Upload) (start : List Drone) (events : List WorldEvent) →
             WorldStandsFor self.old s start events → WorldStandsFor self.new s start (events ++ e ∷ [])) }

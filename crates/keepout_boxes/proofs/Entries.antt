@@ -1,8 +1,8 @@
 -- The first part that isn't kept, of all regions.
 use Rattle.std.proofs.Common.{◌≡◌, ℕ, ◌^◌, ◌<◌, sym, subst, ◌∙◌, ap, inl, inr, List, length, get_or, Some, slice_get}
-use Rattle.sep_parts.specs.Raised.{Raised}
-use Rattle.sep_parts.proofs.Differences.{same_default}
-use Rattle.sep_parts.proofs.Standing.{item_there, same_item}
+use Rattle.fleet_curves.specs.Raised.{Raised}
+use Rattle.fleet_curves.proofs.Differences.{same_default}
+use Rattle.fleet_curves.proofs.Standing.{item_there, same_item}
 use Rattle.keepout_boxes.specs.declared.region.Region.{Region}
 use Rattle.keepout_boxes.specs.Kept.{IsBefore, IsFirstEntry, IsSpot, KeptAt, Spot}
 use Rattle.keepout_boxes.specs.Steps.{IsFirstOfRegion, KeptHere, RegionsKept}

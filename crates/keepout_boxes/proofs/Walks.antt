@@ -23,7 +23,7 @@ use Rattle.halving.proofs.PolarLemmas.{polar-same, part-whole}
 use Rattle.keepout_boxes.specs.declared.region.Region.{Region}
 use Rattle.keepout_boxes.specs.declared.region.Region.TheVariants.{Keepout, Volume}
 use Rattle.keepout_boxes.specs.Kept.{AllAbove, AllBelow, IsKept, extent, part_of}
-use Rattle.sep_parts.specs.Raised.{Raised, curves_at}
+use Rattle.fleet_curves.specs.Raised.{Raised, curves_at}
 use Rattle.keepout_boxes.specs.Steps.{AllKeptIn, CueKept, IsFirstIn, IsFirstOfCue, IsIndex, KeptHere, KeptIn, values_of}
 use Rattle.sep_parts.proofs.PartBounds.{part-at_least, part-at_most, part-half}
 use Rattle.keepout_boxes.proofs.Hulls.{less_scaled, more_scaled}

@@ -10,7 +10,7 @@ use Rattle.halving.specs.Part.{part_value}
 use Rattle.traj_codec.specs.declared.traj.Traj.{Traj}
 use Rattle.traj_codec.specs.Positions.{decoded, durations}
 use Rattle.traj_codec.specs.Joined.{IsLasting, SameCurve, joined, own}
-use Rattle.sep_parts.specs.Raised.{CurvesStandFor, Raised, curves_at}
+use Rattle.fleet_curves.specs.Raised.{CurvesStandFor, Raised, curves_at}
 use Rattle.keepout_boxes.specs.declared.region.Region.{Region}
 use Rattle.keepout_boxes.specs.declared.region.Region.TheVariants.{Keepout, Volume}
 use Rattle.keepout_boxes.specs.declared.judging.Judged.{Judged}

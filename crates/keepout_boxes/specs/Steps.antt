@@ -4,7 +4,7 @@ use Rattle.fleet_math.specs.Numbers.{IsIn}
 use Rattle.fleet_math.specs.Bernstein.{at}
 use Rattle.bezier_core.specs.declared.Bez.{Bez}
 use Rattle.bezier_core.specs.Along.{controls}
-use Rattle.sep_parts.specs.Raised.{Raised, curves_at}
+use Rattle.fleet_curves.specs.Raised.{Raised, curves_at}
 use Rattle.keepout_boxes.specs.declared.region.Region.{Region}
 use Rattle.keepout_boxes.specs.Kept.{IsKept, farthest, part_of}
 

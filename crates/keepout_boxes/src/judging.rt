@@ -7,7 +7,7 @@ ghost use Rattle.keepout_boxes.specs.Steps.{CueKept, DroneKept, IsFirstOfCue, Is
 
 use crate::region::Region;
 use crate::walk::first_entering;
-use sep_parts::Curves;
+use fleet_curves::Curves;
 
 /// What is judged.
 #[derive(Clone, Copy, Debug, PartialEq, Eq)]

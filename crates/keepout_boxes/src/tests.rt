@@ -3,11 +3,11 @@
 
 ghost use Rattle.std.specs.Prelude.{◌≡◌, ◌≤◌, ◌∷◌, [], IfOk, length, All};
 ghost use Rattle.traj_codec.specs.Positions.{durations};
-ghost use Rattle.sep_parts.specs.Raised.{AreOneShow};
+ghost use Rattle.fleet_curves.specs.Raised.{AreOneShow};
 ghost use Rattle.keepout_boxes.specs.Kept.{AreEnds, IsNear};
 
 use super::*;
-use sep_parts::Curves;
+use fleet_curves::Curves;
 use std::alloc::{AllocError, Global};
 use std::test::Fail;
 use traj_codec::{Element, Listed, Segment, Traj};

@@ -5,7 +5,7 @@ use Rattle.std.proofs.lemmas.List.Sums.{sum_by-cons}
 use Rattle.halving.specs.declared.Place.{Place}
 use Rattle.sep_parts.specs.declared.slot.Slot.{Slot}
 use Rattle.sep_parts.specs.Levels.{left_half, right_half, root}
-use Rattle.sep_parts.specs.Raised.{Raised}
+use Rattle.fleet_curves.specs.Raised.{Raised}
 use Rattle.sep_parts.specs.Slots.{cues_from, drones_from, pairs_from, slots}
 use Rattle.sep_parts.specs.Trees.{Tree, leaf, split, preorder}
 use Rattle.pair_search.specs.Search.{best_tree, split_of}

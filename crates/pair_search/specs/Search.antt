@@ -62,7 +62,7 @@ blocked_place first depth = first_without (λ index. first (place_at depth index
 
 -- ---- what a search gives
 -- Clear: no part of the depth is blocked, and the nodes are those of the best tree. Blocked: the first part that is, and no
--- node. Want of memory: no node.
+-- node. Out of memory: no node.
 abbrev pub SearchGives : (Place → Option ℕ) → ℕ → Result Found AllocError → List Node → Type 0
 SearchGives first depth (Ok Clear) nodes = (blocked_place first depth ≡ None) × (option_map preorder (best_tree first depth root) ≡ Some nodes)
 SearchGives first depth (Ok (Blocked index)) nodes = (blocked_place first depth ≡ Some index) × (nodes ≡ [])

@@ -4,7 +4,7 @@ use Rattle.std.specs.Option.{option_map, option_or}
 use Rattle.std.specs.declared.alloc.AllocError.{AllocError}
 use Rattle.halving.specs.declared.Place.{Place}
 use Rattle.sep_parts.specs.Levels.{root}
-use Rattle.sep_parts.specs.Raised.{Raised}
+use Rattle.fleet_curves.specs.Raised.{Raised}
 use Rattle.sep_parts.specs.Rulers.{Measure}
 use Rattle.sep_parts.specs.declared.slot.Slot.{Slot}
 use Rattle.sep_parts.specs.declared.node.Node.{Node}

@@ -7,7 +7,8 @@ ghost use Rattle.pair_search.specs.Steps.{FindsTree};
 
 use crate::walk::{Found, search_with};
 use listed::Listed;
-use sep_parts::{Curves, Node, Ruler, Slot};
+use fleet_curves::Curves;
+use sep_parts::{Node, Ruler, Slot};
 use std::alloc::{AllocError, Global};
 
 /// Why a search of a fleet finds no trees.

@@ -1,4 +1,4 @@
--- Where a certificate is valid, each two drones are apart throughout the show.
+-- Where a certificate is valid, any two drones are apart throughout the show.
 use Rattle.std.proofs.Common.{◌≡◌, ℕ, ◌≤◌, ◌<◌, ℤ, pos, arith, refl, sym, ◌∙◌, ap, subst, List, length, All, Some, slice_get}
 use Rattle.std.proofs.lemmas.Int.{ints}
 use Rattle.std.proofs.lemmas.Option.{slice_get_within}
@@ -9,13 +9,13 @@ use Rattle.traj_codec.specs.declared.traj.Traj.{Traj}
 use Rattle.traj_codec.specs.Positions.{durations}
 use Rattle.sep_parts.specs.declared.rules.Rules.{Rules}
 use Rattle.sep_parts.specs.declared.node.Node.{Node}
-use Rattle.sep_parts.specs.Raised.{CurvesStandFor, HasFewPoints, Raised, difference}
+use Rattle.fleet_curves.specs.Raised.{CurvesStandFor, HasFewPoints, Raised, difference}
 use Rattle.sep_parts.specs.Apart.{KeepsApart}
 use Rattle.sep_parts.specs.Levels.{root}
 use Rattle.sep_parts.specs.Slots.{slots}
 use Rattle.sep_certificate.specs.Certificates.{AreValid}
 use Rattle.sep_parts.specs.Trees.{Tree}
-use Rattle.sep_parts.proofs.Standing.{at_place, segments_of}
+use Rattle.fleet_curves.proofs.Standing.{at_place, segments_of}
 use Rattle.sep_parts.proofs.Lifts.{AreApartAt, one_moment}
 use Rattle.sep_parts.proofs.Positions.{apart_turned, decoded_apart}
 use Rattle.sep_certificate.proofs.Covers.{apart_in_tree}

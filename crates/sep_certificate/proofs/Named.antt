@@ -7,7 +7,7 @@ use Rattle.halving.specs.declared.Place.{Place}
 use Rattle.sep_parts.specs.declared.slot.Slot.{Slot}
 use Rattle.sep_parts.specs.Directions.{direction_of, threshold}
 use Rattle.sep_parts.specs.Levels.{left_half, right_half, root}
-use Rattle.sep_parts.specs.Raised.{Raised, difference}
+use Rattle.fleet_curves.specs.Raised.{Raised, difference}
 use Rattle.sep_parts.specs.Separates.{least_value, low_value, part_along}
 use Rattle.sep_parts.specs.Slots.{IsSlot, slots}
 use Rattle.sep_parts.specs.Versions.{known_in}

@@ -13,7 +13,7 @@ use Rattle.sep_certificate.specs.declared.certificate.CertFault.TheVariants.{Too
 use Rattle.sep_parts.specs.Directions.{direction_of, threshold}
 use Rattle.sep_parts.specs.Separates.{low_value, least_value, part_along}
 use Rattle.sep_parts.specs.Levels.{left_half, right_half, root}
-use Rattle.sep_parts.specs.Raised.{Raised, difference}
+use Rattle.fleet_curves.specs.Raised.{Raised, difference}
 use Rattle.sep_certificate.specs.Certificates.{AreValid, first_fault_of, spelled_fault, tree_fault}
 use Rattle.sep_parts.specs.Trees.{Tree, IsTree, IsValidTree}
 use Rattle.sep_parts.specs.Trees.Tree.{leaf, split}

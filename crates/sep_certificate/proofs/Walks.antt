@@ -9,8 +9,8 @@ use Rattle.sep_parts.specs.declared.node.Node.{Node}
 use Rattle.sep_certificate.specs.declared.certificate.CertFault.{CertFault}
 use Rattle.sep_certificate.specs.declared.certificate.CertFault.TheVariants.{Missing, Extra}
 use Rattle.bezier_core.specs.declared.Bez.{Bez}
-use Rattle.sep_parts.proofs.Differences.{same_default}
-use Rattle.sep_parts.specs.Raised.{Raised, difference}
+use Rattle.fleet_curves.proofs.Differences.{same_default}
+use Rattle.fleet_curves.specs.Raised.{Raised, difference}
 use Rattle.sep_certificate.specs.Certificates.{first_fault_of, spelled_fault}
 
 module _ (rules : Rules) (dirs : List (List ℤ)) (curves : Raised) where

@@ -15,7 +15,7 @@ use Rattle.sep_parts.specs.Versions.{IsVersion, known_in}
 use Rattle.sep_parts.specs.Separates.{low_value}
 use Rattle.sep_parts.specs.Slots.{IsSlot, slot_at, slots}
 use Rattle.sep_parts.specs.Levels.{left_half, right_half, root}
-use Rattle.sep_parts.specs.Raised.{Raised, difference}
+use Rattle.fleet_curves.specs.Raised.{Raised, difference}
 use Rattle.sep_parts.specs.Trees.{IsKnown, IsTree, IsValidTree, Tree, preorder, spelled_tree}
 use Rattle.sep_parts.specs.Trees.Tree.{leaf, split}
 

@@ -1,7 +1,7 @@
 -- What a valid certificate promises, and how a certificate is seen to be valid.
 use Rattle.std.specs.Prelude.{◌≡◌, ◌↔◌, ℕ, ℤ, List, length, None}
 use Rattle.sep_parts.specs.Apart.{KeepsApart}
-use Rattle.sep_parts.specs.Raised.{Raised}
+use Rattle.fleet_curves.specs.Raised.{Raised}
 use Rattle.sep_certificate.specs.declared.certificate.Certificate.{Certificate}
 use Rattle.sep_certificate.specs.Certificates.{IsValid, IsWholeIn, fault_of}
 

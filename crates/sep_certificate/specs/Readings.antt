@@ -8,7 +8,7 @@ use Rattle.sep_certificate.specs.declared.text.CertTextFault.TheVariants.{Line, 
 use Rattle.sep_certificate.specs.Certificates.{IsWhole}
 use Rattle.sep_certificate.specs.Texts.{IsTreeLine, Says, bad_line, is_tree_line, text_of}
 
--- the certificate that the text says, where no line is faulty; its first faulty line; or want of memory
+-- the certificate that the text says, where no line is faulty; its first faulty line; or out of memory
 abbrev pub ReadingGives : List ℕ → Result Certificate CertTextFault → Type 0
 ReadingGives text (Ok cert) = Says text cert × (bad_line (lines text) ≡ None)
 ReadingGives text (Err (Line line)) = bad_line (lines text) ≡ Some line

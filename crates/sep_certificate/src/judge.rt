@@ -18,7 +18,8 @@ use crate::certificate::{CertFault, Certificate};
 use bezier_core::Bez;
 use halving::Place;
 use listed::Listed;
-use sep_parts::{Curves, DIRECTIONS, Level, Node, Ruler, Rules, Slot, Stack, WIDE};
+use fleet_curves::Curves;
+use sep_parts::{DIRECTIONS, Level, Node, Ruler, Rules, Slot, Stack, WIDE};
 
 /// Whether a certificate is valid for the curves of a fleet, with ellipsoids of half axes `r`, `r` and `h` in millimetres.
 ///

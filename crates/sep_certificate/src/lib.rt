@@ -15,5 +15,6 @@ mod text;
 
 pub use certificate::{CertFault, Certificate};
 pub use judge::{certificate_law, check};
-pub use sep_parts::{Curves, DIRECTIONS, Dirs, Node, WIDE, separates, thresholds};
+pub use fleet_curves::Curves;
+pub use sep_parts::{DIRECTIONS, Dirs, Node, WIDE, separates, thresholds};
 pub use text::{CERTIFICATE_LIMIT, CertTextFault, read_certificate, text_law, write_certificate};

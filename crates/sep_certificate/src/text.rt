@@ -43,7 +43,7 @@ pub fn text_law()
     ensures { TextLaw }
 {}
 
-/// The text of a whole certificate. Want of memory is the only refusal.
+/// The text of a whole certificate. Out of memory is the only refusal.
 #[tactic(auto, unfolding(crate::specs::Texts::text_of))]
 pub fn write_certificate(alloc: Global, cert: &Certificate) -> Result<Vec<u8>, AllocError>
     requires { IsWhole cert.now }

@@ -5,15 +5,10 @@ pub mod Roots
 pub mod Lows
 pub mod Parts
 pub mod Limits
-pub mod Differences
 pub mod Orders
-pub mod Rows
 pub mod Stacks
 pub mod Trees
 pub mod Table
-pub mod Bounds
-pub mod Fleets
-pub mod Standing
 pub mod Lifts
 pub mod Positions
 pub mod Weighted

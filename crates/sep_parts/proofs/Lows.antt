@@ -1,13 +1,11 @@
 -- The first control value below a number.
-use Rattle.std.proofs.Common.{◌≡◌, ℕ, zero, suc, ◌+◌, ◌^◌, ◌≤◌, ◌<◌, ℤ, pos, ◌≤ℤ◌, Bool, true, false, cond, not, int_lt, nat_lt, arith, refl, ◌∙◌, ap, subst, List, [], ◌∷◌, length, get_or, Option, Some, None, IsTrue, All, FitsSigned, to_z, of_z}
+use Rattle.std.proofs.Common.{◌≡◌, ℕ, zero, suc, ◌+◌, ◌^◌, ◌≤◌, ◌<◌, ℤ, pos, ◌≤ℤ◌, Bool, true, false, cond, not, int_lt, nat_lt, arith, refl, ap, subst, List, [], ◌∷◌, length, get_or, Option, Some, None, IsTrue}
 use Rattle.std.specs.Prelude.{◌↔◌}
 use Rattle.std.specs.List.{position, position_or_len}
 use Rattle.std.proofs.lemmas.Int.{ints}
 use Rattle.std.proofs.lemmas.List.Sums.{position_or_len_is}
 use Rattle.std.proofs.lemmas.List.Quantifiers.{position-Some}
 use Rattle.std.proofs.lemmas.Bool.Decides.{nat_tests}
-use Rattle.std.proofs.lemmas.Int.{to_z-of_z}
-use mir.Syntax.{w16, w128}
 use Rattle.fleet_math.specs.Bernstein.{at}
 use Rattle.fleet_math.specs.Numbers.{IsBelow}
 use Rattle.bezier_core.specs.declared.Bez.{Bez}
@@ -72,25 +70,8 @@ first_low-same f g least same = ap (λ xs. position (λ v. int_lt v least) xs) (
 pub wider : (x : ℤ) → IsBelow (2 ^ 86) x → IsBelow (2 ^ 100) x
 wider x small = (omega (arith, ints), omega (arith, ints))
 
--- what holds of three values
-pub three : {X : Type 0} (P : X → Type 0) (x y z : X) → P x → P y → P z → All P (x ∷ y ∷ z ∷ [])
-three P x y z px py pz zero d inside = px
-three P x y z px py pz (suc zero) d inside = py
-three P x y z px py pz (suc (suc zero)) d inside = pz
-three P x y z px py pz (suc (suc (suc k))) d inside = absurd (omega arith)
-
-pub kept : (n : ℕ) (x : ℤ) → FitsSigned w128 x → IsBelow n x → IsBelow n (to_z w128 (of_z w128 x))
-kept n x fits small = rw (to_z-of_z w128 x fits) small
-
 pub wide_enough : (x : ℤ) → IsBelow (2 ^ 86) x → IsBelow (2 ^ 118) x
 wide_enough x small = (omega (arith, ints), omega (arith, ints))
-
--- a small number is itself in the program
-pub told : (x y : ℤ) → IsBelow 32769 x → x ≡ y → to_z w128 (of_z w128 x) ≡ y
-told x y small is = let fits : FitsSigned w128 x = omega (arith, ints) in to_z-of_z w128 x fits ∙ is
-
-pub told_short : (x y : ℤ) → IsBelow 32769 x → FitsSigned w16 y → x ≡ to_z w16 (of_z w16 y) → to_z w128 (of_z w128 x) ≡ y
-told_short x y small fits is = told x (to_z w16 (of_z w16 y)) small is ∙ to_z-of_z w16 y fits
 
 -- eight values, the two ends before the others, are at least so much
 pub ends_and_others : (f : ℕ → ℤ) (least : ℤ) → least ≤ℤ f 0 → least ≤ℤ f 7 → least ≤ℤ f 1 → least ≤ℤ f 2 → least ≤ℤ f 3 → least ≤ℤ f 4 → least ≤ℤ f 5 → least ≤ℤ f 6 →

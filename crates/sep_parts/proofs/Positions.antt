@@ -15,10 +15,10 @@ use Rattle.bezier_core.specs.Raised.{eight, raised}
 use Rattle.bezier_core.proofs.CurveLemmas.{at-eight, raise}
 use Rattle.traj_codec.specs.declared.traj.Traj.{Traj}
 use Rattle.traj_codec.specs.Positions.{decoded, points}
-use Rattle.sep_parts.specs.Raised.{Raised, curves_at, difference, less, raised_in}
+use Rattle.fleet_curves.specs.Raised.{Raised, curves_at, difference, less, raised_in}
 use Rattle.sep_parts.proofs.Lifts.{AreApartAt, near_gap}
 use Rattle.sep_parts.proofs.Directed.{IsApartRaised, cue_of}
-use Rattle.sep_parts.proofs.Standing.{has_points}
+use Rattle.fleet_curves.proofs.Standing.{has_points}
 
 -- ---- the gap is the difference of the curves, over 5,040
 minus_ring : (x y : ℤ) → pos 1 *ℤ x +ℤ negsuc 0 *ℤ y ≡ x -ℤ y

@@ -5,7 +5,7 @@ use Rattle.fleet_math.specs.Sums.{power}
 use Rattle.traj_codec.specs.declared.traj.Traj.{Traj}
 use Rattle.traj_codec.specs.Positions.{decoded, durations}
 use Rattle.traj_codec.specs.Joined.{own, SameCurve, IsLasting, joined}
-use Rattle.sep_parts.specs.Raised.{Raised, CurvesStandFor}
+use Rattle.fleet_curves.specs.Raised.{Raised, CurvesStandFor}
 
 -- how far the second drone's decoded position is from the first one's on an axis at an instant: a numerator over (c1 c2)^7, in
 -- millimetres, where each is a numerator over its own c^7

@@ -1,5 +1,5 @@
-//! What certificates of separation are made of: the directions with their thresholds, the raised curves of a fleet, the
-//! parts of a cue and the trees that name them, and the order in which pairs and cues come.
+//! What certificates of separation are made of: the directions with their thresholds, the parts of a cue and the trees that
+//! name them, and the order in which pairs and cues come.
 //!
 //! Drones are told apart along directions: where along one of them every control value of a part of the difference of two
 //! curves is at least that direction's threshold, the ellipsoids around the two drones share no point anywhere in that part.
@@ -8,7 +8,6 @@
 #![tactic(auto)]
 
 mod apart;
-mod curves;
 mod directions;
 mod node;
 mod part;
@@ -20,7 +19,6 @@ mod stack;
 mod tests;
 
 pub use apart::apart_law;
-pub use curves::{Curves, raised_segment, row_of_four, value_after};
 pub use directions::{DIRECTIONS, Dirs, WIDE, table_law, threshold_law, thresholds};
 pub use node::{Node, tree_law};
 pub use part::{first_below, halves, low_control, projected, separates};

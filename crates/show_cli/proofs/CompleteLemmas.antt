@@ -9,7 +9,7 @@ use Rattle.link_upload.specs.Sends.{events_in, sent_over}
 use Rattle.link_upload.specs.Uploads.{EndsWith, UploadGives, UploadLaw, frame_limit}
 use Rattle.fleet_world.specs.Schedules.{schedule_of}
 use Rattle.rehearsal.specs.Rehearsed.{rehearsed}
-use Rattle.sep_parts.specs.Raised.{raised_of}
+use Rattle.fleet_curves.specs.Raised.{raised_of}
 use Rattle.sep_parts.specs.Versions.{known_in, table_of}
 use Rattle.sep_parts.specs.declared.directions.TheConstants.{DIRECTIONS, WIDE}
 use Rattle.sep_certificate.specs.Certificates.{IsWholeIn, fault_of}

@@ -8,7 +8,7 @@ use Rattle.link_upload.specs.Sends.{events_in}
 use Rattle.link_upload.specs.Uploads.{Takes}
 use Rattle.rehearsal.specs.Rehearsed.{rehearsed}
 use Rattle.fleet_world.specs.Schedules.{schedule_of}
-use Rattle.sep_parts.specs.Raised.{raised_of}
+use Rattle.fleet_curves.specs.Raised.{raised_of}
 use Rattle.sep_parts.specs.Versions.{table_of}
 use Rattle.sep_certificate.specs.declared.certificate.Certificate.{Certificate}
 use Rattle.sep_certificate.specs.Certificates.{IsValid}

@@ -7,7 +7,7 @@ use Rattle.choreo_reader.specs.Plain.{PlainShow}
 use Rattle.choreo_reader.specs.Grammar.{StandsFor}
 use Rattle.cue_grid.specs.Cues.{grid_of}
 use Rattle.sep_parts.specs.Versions.{table_of}
-use Rattle.sep_parts.specs.Raised.{raised_of}
+use Rattle.fleet_curves.specs.Raised.{raised_of}
 use Rattle.sep_certificate.specs.declared.certificate.CertFault.{CertFault}
 use Rattle.sep_certificate.specs.declared.certificate.Certificate.{Certificate}
 use Rattle.sep_certificate.specs.Certificates.{fault_of}

@@ -11,7 +11,7 @@ use Rattle.sep_parts.specs.Apart.{SentLaw}
 use Rattle.sep_parts.specs.declared.slot.Slot.{Slot}
 use Rattle.sep_parts.specs.Versions.{table_of}
 use Rattle.sep_parts.specs.Levels.{left_half, right_half, root}
-use Rattle.sep_parts.specs.Raised.{CurvesStandFor, Raised, difference, raised_of}
+use Rattle.fleet_curves.specs.Raised.{CurvesStandFor, Raised, difference, raised_of}
 use Rattle.sep_parts.specs.Slots.{slots}
 use Rattle.sep_certificate.specs.declared.certificate.Certificate.{Certificate}
 use Rattle.sep_parts.specs.declared.node.Node.{Node}

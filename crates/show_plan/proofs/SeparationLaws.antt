@@ -4,7 +4,7 @@ use Rattle.std.specs.Option.{option_map, option_or}
 use Rattle.std.proofs.lemmas.List.Elements.{All-nil, All-cons, All-head, All-tail}
 use Rattle.traj_codec.specs.declared.traj.Traj.{Traj}
 use Rattle.sep_parts.specs.declared.slot.Slot.{Slot}
-use Rattle.sep_parts.specs.Raised.{Raised, difference, raised_of}
+use Rattle.fleet_curves.specs.Raised.{Raised, difference, raised_of}
 use Rattle.sep_parts.specs.Slots.{slot_at}
 use Rattle.pair_search.specs.Laws.{IsFirstBlocked}
 use Rattle.pair_search.specs.Fleets as fleet

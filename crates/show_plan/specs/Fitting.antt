@@ -96,7 +96,7 @@ pub record IsFitted (f : Fitted) (s : PlainShow) : Type 0 where
   pub sent : f.sent ≡ sent (grid_of s)
   pub bytes : AreEncodings f.bytes f.sent
 
--- A refusal is the first reason why the show has no plan. Want of memory says nothing, and is no fault of names, cues or numbers.
+-- A refusal is the first reason why the show has no plan. Out of memory says nothing, and is no fault of names, cues or numbers.
 -- Separation isn't judged here.
 abbrev pub PlanFails : PlanFault → PlainShow → Type 0
 PlanFails fault.Memory s = Unit {0}

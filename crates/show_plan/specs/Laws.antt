@@ -3,7 +3,7 @@ use Rattle.std.specs.Prelude.{◌≡◌, ◌↔◌, ℕ, List, ◌∷◌, ◌++�
 use Rattle.std.specs.List.{All}
 use Rattle.traj_codec.specs.declared.traj.Traj.{Traj}
 use Rattle.sep_parts.specs.declared.slot.Slot.{Slot}
-use Rattle.sep_parts.specs.Raised.{difference, raised_of}
+use Rattle.fleet_curves.specs.Raised.{difference, raised_of}
 use Rattle.pair_search.specs.Laws.{IsFirstBlocked}
 use Rattle.choreo_reader.specs.declared.show.Settings.{Settings}
 use Rattle.show_plan.specs.Separation.{IsShowClear, IsSlotClear, blocked_at, blocked_part, searched, slots_of}

@@ -6,7 +6,7 @@ use Rattle.halving.specs.declared.Place.{Place}
 use Rattle.traj_codec.specs.declared.traj.Traj.{Traj}
 use Rattle.sep_parts.specs.declared.slot.Slot.{Slot}
 use Rattle.sep_parts.specs.Apart as apart
-use Rattle.sep_parts.specs.Raised.{Raised, difference, raised_of}
+use Rattle.fleet_curves.specs.Raised.{Raised, difference, raised_of}
 use Rattle.sep_parts.specs.Rulers.{Measure}
 use Rattle.sep_parts.specs.Slots.{slots}
 use Rattle.sep_parts.specs.Versions.{table_of}

@@ -2,7 +2,7 @@
 use Rattle.std.specs.Prelude.{ℕ, List, [], ◌∷◌, true, map, Option, Result}
 use Rattle.std.specs.Option.{option_map}
 use Rattle.sep_parts.specs.declared.slot.Slot.{Slot}
-use Rattle.sep_parts.specs.Raised.{Raised}
+use Rattle.fleet_curves.specs.Raised.{Raised}
 use Rattle.sep_parts.specs.Slots.{slots}
 use Rattle.sep_parts.specs.declared.node.Node.{Node}
 use Rattle.upload_model.specs.Sessions.{Upload}

@@ -39,7 +39,7 @@ pub enum PlanFault {
     /// The first part of a cue in which no direction separates two drones, in the order pair, cue, part, all counted from 0: part
     /// `index` of as many equal parts as the depth gives.
     Blocked { a: u8, b: u8, cue: u16, index: u16 },
-    /// Want of memory.
+    /// Out of memory.
     Memory,
 }
 

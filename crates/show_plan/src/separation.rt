@@ -3,7 +3,7 @@
 ghost use Rattle.std.specs.Prelude.{◌≡◌, ◌≤◌, ℕ, [], Err, IfOk, IsOk};
 ghost use Rattle.sep_parts.specs.Directions.{IsAxis};
 ghost use Rattle.sep_parts.specs.declared.slot.Slot.{Slot};
-ghost use Rattle.sep_parts.specs.Raised.{raised_of};
+ghost use Rattle.fleet_curves.specs.Raised.{raised_of};
 ghost use Rattle.sep_certificate.specs.Certificates.{IsWhole, IsValid};
 ghost use Rattle.show_plan.specs.Fitting.{IsValidFitted};
 ghost use Rattle.show_plan.specs.Separation.{CertificateGives, CountGives, IsShowClear, FlyApart, blocked_at, measure_of, searched};
@@ -84,7 +84,7 @@ pub fn separation_law()
 /// the first direction in the order of the table that separates its part. `depth` is the greatest depth of a part, 0 to 8.
 ///
 /// `Blocked` exactly where some part of that depth has no separating direction, for some pair and cue: the first, in the order
-/// pair, cue, part. No other refusal but want of memory. Where it is Ok, each two drones are apart at each instant of the show,
+/// pair, cue, part. Out of memory is the only other refusal. Where it is Ok, any two drones are apart at each instant of the show,
 /// also between whole milliseconds (docs/SEPARATION.md).
 pub fn certificate(alloc: Global, f: &Fitted, depth: u8) -> Result<Certificate, PlanFault>
     requires valid { IsValidFitted f.now }

@@ -17,7 +17,7 @@ use Rattle.traj_codec.specs.declared.traj.Traj.{Traj}
 use Rattle.traj_codec.specs.Spelling.{stored, HasDuration}
 use Rattle.traj_codec.specs.Positions.{durations, element_on, piece_on, pieces_on, points, value_after}
 use Rattle.traj_codec.proofs.PositionLemmas.{durations_on}
-use Rattle.sep_parts.specs.Steps.{IsFormed}
+use Rattle.fleet_curves.specs.Steps.{IsFormed}
 use Rattle.speed_bound.specs.Speed.{KeepsSpeed, greatest_below, segment_speed, speed, speed_of, widest_part, widest_step}
 use Rattle.speed_bound.proofs.Slopes.{AreFlat}
 use Rattle.speed_bound.proofs.Speeds.{AreSlow, Within, keeps}

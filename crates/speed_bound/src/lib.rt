@@ -5,7 +5,7 @@
 //! from the control values of the parts of each segment, since a curve of degree seven moves by at most seven times the
 //! widest step between two neighbouring control values. Takes no memory.
 //!
-//! The crate stands on `halving` for the parts, and on `sep_parts` for the raised curves of a segment.
+//! The crate stands on `halving` for the parts, and on `fleet_curves` for the raised curves of a segment.
 #![tactic(auto)]
 
 mod parts;

@@ -8,7 +8,7 @@ ghost use Rattle.speed_bound.specs.Speed.{KeepsSpeed, segment_speed, speed, spee
 
 use crate::parts::widest_part;
 use bezier_core::Bez;
-use sep_parts::{raised_segment, value_after};
+use fleet_curves::{raised_segment, value_after};
 use traj_codec::Traj;
 
 /// How fast a trajectory is at most on x, y and z, in micrometres per second: on each axis the greatest over its

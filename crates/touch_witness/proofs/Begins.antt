@@ -9,8 +9,8 @@ use Rattle.traj_codec.specs.declared.traj.Traj.{Traj}
 use Rattle.traj_codec.specs.Spelling.{stored}
 use Rattle.traj_codec.specs.Positions.{decoded, element_on, piece_on, value_after}
 use Rattle.traj_codec.proofs.PositionLemmas.{decoded-points}
-use Rattle.sep_parts.proofs.Differences.{same_default}
-use Rattle.sep_parts.proofs.Standing.{same_item}
+use Rattle.fleet_curves.proofs.Differences.{same_default}
+use Rattle.fleet_curves.proofs.Standing.{same_item}
 use Rattle.touch_witness.specs.Sites.{listed}
 use Rattle.touch_witness.specs.Steps.{begin_of, position}
 

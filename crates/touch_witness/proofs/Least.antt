@@ -12,7 +12,7 @@ use Rattle.touch_witness.specs.declared.places.Point.{Point}
 use Rattle.touch_witness.specs.declared.site.Touch.{Touch}
 use Rattle.touch_witness.specs.declared.nearest.Pair.{Pair}
 use Rattle.touch_witness.specs.declared.nearest.Best.{Best}
-use Rattle.sep_parts.specs.Raised.{cues_in}
+use Rattle.fleet_curves.specs.Raised.{cues_in}
 use Rattle.touch_witness.specs.Sites.{IsBefore, IsListed, LeftAbove, LeftFrom, left_of, listed}
 use Rattle.touch_witness.specs.Steps.{ArePlaces, IsBest, IsLeastPair, IsNearestAt, PairBefore, left_at, most_ratio, point_at, right_side}
 use Rattle.touch_witness.proofs.Pairs.{sides}

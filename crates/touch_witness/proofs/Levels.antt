@@ -13,7 +13,7 @@ use Rattle.traj_codec.specs.declared.traj.Segment.{Segment}
 use Rattle.traj_codec.specs.declared.traj.Traj.{Traj}
 use Rattle.touch_witness.specs.declared.site.Touch.{Touch}
 use Rattle.touch_witness.specs.declared.nearest.Best.{Best}
-use Rattle.sep_parts.specs.Raised.{cues_in}
+use Rattle.fleet_curves.specs.Raised.{cues_in}
 use Rattle.touch_witness.specs.Sites.{IsClosest, IsListed, LeftFrom}
 use Rattle.touch_witness.proofs.Least.{cues_are}
 use Rattle.std.proofs.Common.{inl, FitsSigned}

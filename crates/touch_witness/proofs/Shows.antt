@@ -22,13 +22,13 @@ use Rattle.traj_codec.specs.declared.traj.Traj.{Traj}
 use Rattle.traj_codec.specs.Positions as traj
 use Rattle.traj_codec.specs.Positions.{piece_on, pieces_on}
 use Rattle.traj_codec.proofs.PositionLemmas.{durations_on}
-use Rattle.sep_parts.specs.Steps.{IsFormed}
+use Rattle.fleet_curves.specs.Steps.{IsFormed}
 use Rattle.traj_codec.specs.Joined.{own}
-use Rattle.sep_parts.specs.Raised.{IsOneShow, cues_in}
+use Rattle.fleet_curves.specs.Raised.{IsOneShow, cues_in}
 use Rattle.sep_parts.specs.Apart.{AreApart, FlyApart}
 use Rattle.sep_parts.proofs.Instants.{Lies, moment-lies, time_before-suc}
 use Rattle.sep_parts.proofs.Lifts.{AreApartAt, one_moment}
-use Rattle.sep_parts.proofs.Standing.{at_place, segments_of}
+use Rattle.fleet_curves.proofs.Standing.{at_place, segments_of}
 use Rattle.std.specs.Prelude.{MatchOption, Option, None}
 use Rattle.touch_witness.specs.declared.site.Touch.{Touch}
 use Rattle.touch_witness.specs.Sites.{ApartAt, IsFirstTouch, IsListed, NoTouch, SharePoint, TouchAt, gap_at, instant_of, left_of, listed, right_of}

@@ -5,7 +5,7 @@ use Rattle.fleet_math.specs.Moments.{Moment, time_before}
 use Rattle.traj_codec.specs.declared.traj.Traj.{Traj}
 use Rattle.traj_codec.specs.Positions.{decoded, durations}
 use Rattle.traj_codec.specs.Joined.{own}
-use Rattle.sep_parts.specs.Raised.{cues_in}
+use Rattle.fleet_curves.specs.Raised.{cues_in}
 use Rattle.sep_parts.specs.Apart.{AreApart}
 use Rattle.touch_witness.specs.declared.site.Touch.{Touch}
 use Rattle.touch_witness.specs.declared.site.Closest.{Closest}

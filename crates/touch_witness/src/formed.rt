@@ -2,7 +2,7 @@
 
 ghost use Rattle.std.specs.Prelude.{◌≤◌, length, All};
 ghost use Rattle.traj_codec.specs.Spelling.{stored};
-ghost use Rattle.sep_parts.specs.Steps.{IsFormed};
+ghost use Rattle.fleet_curves.specs.Steps.{IsFormed};
 
 use traj_codec::{Element, Segment, Traj};
 

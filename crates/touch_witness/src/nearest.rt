@@ -3,7 +3,7 @@
 ghost use Rattle.std.specs.Prelude.{◌≡◌, ℕ, ◌+◌, ◌*◌, ◌^◌, ◌≤◌, ◌<◌, length, All, MatchOption};
 ghost use Rattle.fleet_math.specs.Limits.{most_cues};
 ghost use Rattle.sep_parts.specs.Directions.{IsAxis};
-ghost use Rattle.sep_parts.specs.Raised.{IsOneShow, cues_in, most_drones};
+ghost use Rattle.fleet_curves.specs.Raised.{IsOneShow, cues_in, most_drones};
 ghost use Rattle.touch_witness.specs.Sites.{IsClosest};
 ghost use Rattle.touch_witness.specs.Steps.{AreStarts, HasCue, IsBest, IsLeastPair, IsNearestAt, IsShort, most_ratio};
 

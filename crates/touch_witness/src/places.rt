@@ -7,11 +7,11 @@ ghost use Rattle.fleet_math.specs.Sums.{power};
 ghost use Rattle.bezier_core.specs.Steps.{IsWithin};
 ghost use Rattle.traj_codec.specs.Spelling.{IsNumber};
 ghost use Rattle.traj_codec.specs.Positions.{element_on, value_after};
-ghost use Rattle.sep_parts.specs.Raised.{most_drones};
+ghost use Rattle.fleet_curves.specs.Raised.{most_drones};
 ghost use Rattle.touch_witness.specs.Steps.{ArePlaces, AreStarts, HasCue, IsNear, IsPlace, IsShort, IsStart, position, reach};
 
 use bezier_core::Bez;
-use sep_parts::{row_of_four, value_after};
+use fleet_curves::{row_of_four, value_after};
 use traj_codec::{Element, Segment, Traj};
 
 /// The most drones of a show.

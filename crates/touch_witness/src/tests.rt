@@ -3,7 +3,7 @@
 
 ghost use Rattle.std.specs.Prelude.{◌≡◌, ◌≤ℤ◌, ◌∷◌, [], pos, IfOk};
 ghost use Rattle.traj_codec.specs.Positions.{durations};
-ghost use Rattle.sep_parts.specs.Raised.{AreOneShow};
+ghost use Rattle.fleet_curves.specs.Raised.{AreOneShow};
 
 use super::*;
 use std::alloc::{AllocError, Global};

@@ -4,7 +4,7 @@ ghost use Rattle.std.specs.Prelude.{◌≡◌, ℕ, ◌+◌, ◌*◌, ◌^◌, �
 ghost use Rattle.fleet_math.specs.Limits.{most_cues};
 ghost use Rattle.sep_parts.specs.Apart.{FlyApart};
 ghost use Rattle.sep_parts.specs.Directions.{IsAxis};
-ghost use Rattle.sep_parts.specs.Raised.{IsOneShow, most_drones};
+ghost use Rattle.fleet_curves.specs.Raised.{IsOneShow, most_drones};
 ghost use Rattle.touch_witness.specs.Sites.{IsFirstTouch, NoTouch};
 ghost use Rattle.touch_witness.specs.Steps.{AllApart, AllApartFrom, ApartInCue, AreStarts, HasCue, IsFirstInCue, IsFirstPair, IsFirstSite, IsFirstWith, IsShort, NoneTouch};
 

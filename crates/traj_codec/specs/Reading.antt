@@ -68,7 +68,7 @@ DecodeGives bytes pieces (Err (Short at)) = decode_fault bytes pieces ≡ Some (
 DecodeGives bytes pieces (Err (ZeroDuration at)) = decode_fault bytes pieces ≡ Some (ZeroDuration at)
 DecodeGives bytes pieces (Err Memory) = Unit {0}
 
--- It is this trajectory and this many bytes, or memory wants.
+-- It is this trajectory and this many bytes, or the program is out of memory.
 abbrev pub IsDecoded : Traj → ℕ → Result (Traj × ℕ) CodecFault → Type 0
 IsDecoded t used (Ok r) = (r.0 ≡ t) × (r.1 ≡ used)
 IsDecoded t used (Err (Short at)) = ⊥

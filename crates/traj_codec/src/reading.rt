@@ -19,7 +19,7 @@ pub enum CodecFault {
     Short { at: usize },
     /// The duration at this place is 0.
     ZeroDuration { at: usize },
-    /// Want of memory.
+    /// Out of memory.
     Memory,
 }
 

@@ -3,8 +3,8 @@ use Rattle.std.proofs.lemmas.Int.{ints}
 use Rattle.std.proofs.Common.{arith}
 use mir.Syntax.{w128}
 use Rattle.fleet_math.specs.Numbers.{IsBelow}
-use Rattle.sep_parts.proofs.Differences.{eight_all}
-use Rattle.sep_parts.proofs.Lows.{kept}
+use Rattle.fleet_curves.proofs.Differences.{eight_all}
+use Rattle.fleet_curves.proofs.Small.{kept}
 use Rattle.pair_search.proofs.tests.raised.Goals as goal
 
 -- a number below 2^30 stays one in the program

@@ -2,7 +2,7 @@ use Rattle.std.proofs.Common.{◌^◌, All, refl, inl, lit<, arith}
 use Rattle.bezier_core.specs.declared.Bez.{Bez}
 use Rattle.fleet_math.specs.Numbers.{IsBelow}
 use Rattle.sep_parts.specs.declared.directions.TheConstants.{DIRECTIONS}
-use Rattle.sep_parts.proofs.Lows.{three}
+use Rattle.fleet_curves.proofs.Small.{three}
 use Rattle.sep_parts.proofs.Table.{small_table}
 use Rattle.pair_search.proofs.tests.searched.Goals as goal
 

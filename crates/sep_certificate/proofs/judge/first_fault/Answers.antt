@@ -6,9 +6,9 @@ use Rattle.sep_parts.proofs.Orders.{IsAhead, IsFrom, first_ahead, next_ahead, no
 use Rattle.sep_parts.specs.Trees.{IsKnown, IsTree}
 use Rattle.sep_certificate.proofs.Walks.{extra_found, missing_found, none_found, tree_faulty, tree_clean, tree_told}
 use Rattle.bezier_core.specs.declared.Bez.{Bez}
-use Rattle.sep_parts.specs.Raised.{Raised, difference}
+use Rattle.fleet_curves.specs.Raised.{Raised, difference}
 use Rattle.sep_parts.specs.Rulers.{rules_by}
-use Rattle.sep_parts.proofs.Lows.{three}
+use Rattle.fleet_curves.proofs.Small.{three}
 use Rattle.sep_certificate.proofs.judge.first_fault.Goals as goal
 
 pub loop-nodes-init : goal.loop-nodes-init

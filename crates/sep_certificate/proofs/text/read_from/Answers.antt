@@ -1,7 +1,7 @@
 use Rattle.std.proofs.Common.{◌≡◌, ◌<◌, ◌+◌, ◌∷◌, ◌++◌, append-nil, map, refl, length, length-append, arith, ◌∙◌, ap, List, All, Option, Some, subst, ℕ, []}
 use Rattle.std.specs.Str.Lines.{lines}
 use Rattle.sep_parts.specs.Versions.{known_in}
-use Rattle.sep_parts.proofs.Fleets.{all_push}
+use Rattle.fleet_curves.proofs.Fleets.{all_push}
 use Rattle.sep_parts.specs.declared.node.Node.{Node}
 use Rattle.sep_parts.specs.Trees.{IsKnown, IsTree}
 use Rattle.sep_certificate.specs.Steps.{TellsTree}

@@ -1,7 +1,7 @@
 use Rattle.std.proofs.Common.{rules, FitsSigned}
 use mir.Syntax.{w128}
 use Rattle.fleet_math.specs.Numbers.{IsBelow}
-use Rattle.sep_parts.proofs.Lows.{three, kept}
+use Rattle.fleet_curves.proofs.Small.{three, kept}
 use Rattle.sep_parts.proofs.part.weights.Goals as goal
 
 pub returns-clause-small : goal.returns-clause-small

@@ -1,7 +1,7 @@
 use Rattle.std.proofs.Common.{◌^◌, All}
 use Rattle.bezier_core.specs.declared.Bez.{Bez}
 use Rattle.fleet_math.specs.Numbers.{IsBelow}
-use Rattle.sep_parts.proofs.Lows.{three}
+use Rattle.fleet_curves.proofs.Small.{three}
 use Rattle.sep_parts.proofs.tests.aside.Goals as goal
 
 pub returns : goal.returns

@@ -1,7 +1,7 @@
 use Rattle.std.proofs.Common.{◌≡◌, List, [], ◌∷◌, length, pos, refl}
 use Rattle.bezier_core.specs.declared.Bez.{Bez}
 use Rattle.bezier_core.specs.Along.{controls}
-use Rattle.sep_parts.proofs.Differences.{three_axes}
+use Rattle.fleet_curves.proofs.Differences.{three_axes}
 use Rattle.sep_parts.proofs.Parts.{root_level}
 use Rattle.sep_parts.proofs.tests.halves_wait_in_order.Goals as goal
 

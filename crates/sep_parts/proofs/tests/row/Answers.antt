@@ -1,8 +1,8 @@
 use Rattle.std.proofs.Common.{◌^◌, FitsSigned}
 use mir.Syntax.{w128}
 use Rattle.fleet_math.specs.Numbers.{IsBelow}
-use Rattle.sep_parts.proofs.Differences.{eight_all}
-use Rattle.sep_parts.proofs.Lows.{kept}
+use Rattle.fleet_curves.proofs.Differences.{eight_all}
+use Rattle.fleet_curves.proofs.Small.{kept}
 use Rattle.sep_parts.proofs.tests.row.Goals as goal
 
 pub returns : goal.returns

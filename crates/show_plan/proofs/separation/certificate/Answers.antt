@@ -1,6 +1,6 @@
 use Rattle.std.proofs.Common.{List, subst, ◌∙◌, ap}
 use Rattle.traj_codec.specs.declared.traj.Traj.{Traj}
-use Rattle.sep_parts.specs.Raised.{CurvesStandFor, raised_of}
+use Rattle.fleet_curves.specs.Raised.{CurvesStandFor, raised_of}
 use Rattle.show_plan.proofs.Certified.{IsCertified, certified, sent_flies_apart}
 use Rattle.show_plan.proofs.separation.certificate.Goals as goal
 

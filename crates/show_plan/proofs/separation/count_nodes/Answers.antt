@@ -1,6 +1,6 @@
 use Rattle.std.proofs.Common.{IsOk, List, subst, ◌∙◌, ap}
 use Rattle.traj_codec.specs.declared.traj.Traj.{Traj}
-use Rattle.sep_parts.specs.Raised.{CurvesStandFor, Raised, raised_of}
+use Rattle.fleet_curves.specs.Raised.{CurvesStandFor, Raised, raised_of}
 use Rattle.show_plan.specs.Separation.{best_certificate}
 use Rattle.show_plan.proofs.Certified.{IsCertified, count_certified, count_gives, sent_flies_apart}
 use Rattle.show_plan.proofs.separation.count_nodes.Goals as goal

@@ -1,5 +1,5 @@
 use Rattle.std.proofs.Common.{take, All}
-use Rattle.sep_parts.specs.Steps.{IsFormed}
+use Rattle.fleet_curves.specs.Steps.{IsFormed}
 use Rattle.touch_witness.proofs.formed.segments_law.Given as goal
 
 abbrev pub invariant-loop-s : goal.invariant-loop-s

@@ -5,7 +5,7 @@ use Rattle.std.proofs.lemmas.Option.{slice_get_within}
 use Rattle.traj_codec.specs.declared.traj.Traj.{Traj}
 use Rattle.touch_witness.specs.declared.places.Point.{Point}
 use Rattle.touch_witness.specs.Steps.{IsNear, IsPlace, IsShort, no_point}
-use Rattle.sep_parts.proofs.Standing.{item_there}
+use Rattle.fleet_curves.proofs.Standing.{item_there}
 use Rattle.touch_witness.proofs.Begins.{filled_more, all_copies}
 use Rattle.std.proofs.lemmas.List.Elements.{All-set}
 use Rattle.touch_witness.proofs.places.places.Goals as goal

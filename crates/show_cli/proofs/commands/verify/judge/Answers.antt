@@ -2,7 +2,7 @@ use Rattle.std.proofs.Common.{◌≡◌, ℕ, List, length, refl, ap, sym, subst
 use Rattle.choreo_lines.specs.Name.{Name}
 use Rattle.choreo_reader.specs.declared.show.Settings.{Settings}
 use Rattle.traj_codec.specs.declared.traj.Traj.{Traj}
-use Rattle.sep_parts.specs.Raised.{raised_of}
+use Rattle.fleet_curves.specs.Raised.{raised_of}
 use Rattle.show_cli.specs.Steps.{IsFaultAmong}
 use Rattle.show_cli.specs.Outcome.{refused}
 use Rattle.show_cli.proofs.CertificateLemmas.{judged_same}

@@ -1,0 +1,6 @@
+pub mod Differences
+pub mod Rows
+pub mod Fleets
+pub mod Standing
+pub mod Bounds
+pub mod Small

@@ -1,0 +1,70 @@
+-- Curves that are kept as rows of control values.
+use Rattle.std.proofs.Common.{◌≡◌, ℕ, zero, suc, ◌≤◌, ◌<◌, ℤ, ◌-ℤ◌, ◌^◌, arith, refl, sym, ◌∙◌, ap, subst, All, List, [], ◌∷◌, ◌++◌, length, take, get_or, map}
+use Rattle.std.proofs.lemmas.List.{length-map, map-append, take_all}
+use Rattle.std.proofs.lemmas.List.Elements.{All-get_or}
+use Rattle.fleet_math.specs.Bernstein.{at}
+use Rattle.fleet_math.specs.Numbers.{IsBelow}
+use Rattle.bezier_core.specs.declared.Bez.{Bez}
+use Rattle.bezier_core.specs.Along.{controls}
+use Rattle.bezier_core.specs.Raised.{eight}
+use Rattle.fleet_curves.specs.Raised.{less}
+use Rattle.fleet_curves.specs.Steps.{AreSmallCurves, all_curves, curves_of}
+use Rattle.fleet_curves.proofs.Differences.{same_default}
+
+-- an entry of a list that is mapped, also past its end
+map_at : {X Y : Type 0} (f : X → Y) (xs : List X) (i : ℕ) (d : X) → get_or (map f xs) i (f d) ≡ f (get_or xs i d)
+map_at f [] i d = refl
+map_at f (x ∷ xs) zero d = refl
+map_at f (x ∷ xs) (suc i) d = map_at f xs i d
+
+-- the control values of a curve are its row
+pub controls_row : (rows : List (List ℤ)) (axis : ℕ) → controls (curves_of rows) axis ≡ get_or rows axis []
+controls_row rows axis = ap (λ (curve : Bez 8). curve.b) (map_at (λ row. record { b = row }) rows axis [])
+
+-- the curves of a drone in a cue
+pub curves_row : (all : List (List (List ℤ))) (i : ℕ) → get_or (all_curves all) i [] ≡ curves_of (get_or all i [])
+curves_row all i = map_at curves_of all i []
+
+-- rows more
+pub curves_push : (old new : List (List (List ℤ))) (rows : List (List ℤ)) → new ≡ old ++ rows ∷ [] → all_curves new ≡ all_curves old ++ curves_of rows ∷ []
+curves_push old new rows is = ap all_curves is ∙ map-append curves_of old (rows ∷ [])
+
+-- all of a list that was copied entry by entry
+pub copied : (n k : ℕ) (xs ys : List ℤ) → length xs ≡ n → length ys ≡ n → n ≤ k → take k xs ≡ take k ys → xs ≡ ys
+copied n k xs ys xs_len ys_len far done = sym (take_all k xs (omega arith)) ∙ done ∙ take_all k ys (omega arith)
+
+pub kept_at : (all : List (List (List ℤ))) (i : ℕ) (rows : List (List ℤ)) → rows ≡ get_or all i rows → curves_of rows ≡ get_or (all_curves all) i (curves_of rows)
+kept_at all i rows is = ap curves_of is ∙ sym (map_at curves_of all i rows)
+
+-- what holds of the curves of a fleet holds of those of a drone in a cue
+pub small_at : (all : List (List (List ℤ))) (i : ℕ) (rows : List (List ℤ)) → i < length all → rows ≡ get_or all i rows → All AreSmallCurves (all_curves all) → AreSmallCurves (curves_of rows)
+small_at all i rows inside is small =
+    let counted : length (all_curves all) ≡ length all = length-map all curves_of in
+    subst (λ (curves : List (Bez 8)). AreSmallCurves curves) (sym (kept_at all i rows is)) (All-get_or AreSmallCurves (all_curves all) i (curves_of rows) (omega (arith, counted)) small)
+
+-- and so of one of its curves
+pub small_row : (rows : List (List ℤ)) (axis : ℕ) → axis < length rows → AreSmallCurves (curves_of rows) → All (IsBelow (2 ^ 28)) (controls (curves_of rows) axis)
+small_row rows axis inside small =
+    let counted : length (curves_of rows) ≡ length rows = length-map rows (λ row. record { b = row }) in
+    All-get_or (λ (curve : Bez 8). All (IsBelow (2 ^ 28)) curve.b) (curves_of rows) axis (record { b = [] }) (omega (arith, counted)) small
+
+pub row_told : (rows : List (List ℤ)) (axis : ℕ) (row : List ℤ) → axis < length rows → row ≡ get_or rows axis row → row ≡ controls (curves_of rows) axis
+row_told rows axis row inside is = is ∙ same_default rows axis row [] inside ∙ sym (controls_row rows axis)
+
+-- a difference of two of them
+pub less_told : (second first : List (Bez 8)) (axis : ℕ) (x y : List ℤ) (r : Bez 8) → x ≡ controls second axis → y ≡ controls first axis → r.b ≡ eight (λ k. at x k -ℤ at y k) → r ≡ less second first axis
+less_told second first axis x y r x_is y_is is =
+    ap (λ (row : List ℤ). record { b = row })
+    (is ∙ ap (λ (v : List ℤ). eight (λ k. at v k -ℤ at y k)) x_is ∙ ap (λ (v : List ℤ). eight (λ k. at (controls second axis) k -ℤ at v k)) y_is)
+
+-- one of some small curves is small
+pub small_among : (curves : List (Bez 8)) (i : ℕ) → i < length curves → All (λ (curve : Bez 8). All (IsBelow (2 ^ 28)) curve.b) curves → All (IsBelow (2 ^ 28)) (controls curves i)
+small_among curves i inside small = All-get_or (λ (curve : Bez 8). All (IsBelow (2 ^ 28)) curve.b) curves i (record { b = [] }) inside small
+
+-- three curves are those of their control values
+pub three_curves : (curves : List (Bez 8)) → length curves ≡ 3 → curves ≡ (record { b = controls curves 0 } ∷ record { b = controls curves 1 } ∷ record { b = controls curves 2 } ∷ [])
+three_curves [] e = absurd (omega arith)
+three_curves (x ∷ []) e = absurd (omega arith)
+three_curves (x ∷ y ∷ []) e = absurd (omega arith)
+three_curves (x ∷ y ∷ z ∷ []) e = refl
+three_curves (x ∷ y ∷ z ∷ v ∷ xs) e = absurd (omega arith)

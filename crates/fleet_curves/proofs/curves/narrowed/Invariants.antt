@@ -1,0 +1,8 @@
+use Rattle.std.proofs.Common.{◌≡◌, length, take}
+use Rattle.fleet_curves.proofs.curves.narrowed.Given as goal
+
+abbrev pub invariant-loop-k : goal.invariant-loop-k
+invariant-loop-k l = record {
+  same_length : length l.row ≡ 8;
+  done : take l.k l.row ≡ take l.k l.curve.b;
+}

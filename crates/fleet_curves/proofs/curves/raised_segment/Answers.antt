@@ -1,0 +1,24 @@
+use Rattle.std.proofs.Common.{◌≤◌, ◌^◌, length, All, FitsSigned}
+use Rattle.std.proofs.lemmas.Int.{to_z-of_z}
+use mir.Syntax.{w16}
+use Rattle.bezier_core.specs.declared.Bez.{Bez}
+use Rattle.fleet_math.specs.Numbers.{IsBelow}
+use Rattle.traj_codec.specs.Spelling.{stored}
+use Rattle.traj_codec.specs.Positions.{element_on}
+use Rattle.fleet_curves.proofs.Small.{three}
+use Rattle.fleet_curves.proofs.Differences.{same_curves, three_axes}
+use Rattle.fleet_curves.proofs.curves.raised_segment.Goals as goal
+
+pub returns-clause-exact : goal.returns-clause-exact
+returns-clause-exact c =
+    let x_fits : FitsSigned w16 c.args.x = c.ranges.x in
+    let y_fits : FitsSigned w16 c.args.y = c.ranges.y in
+    let z_fits : FitsSigned w16 c.args.z = c.ranges.z in
+    same_curves c.raised.result c.raised-2.result c.raised-3.result _ _ _
+    (simp to_z-of_z at c.raised.ensures.exact) (simp to_z-of_z at c.raised-2.ensures.exact) (simp to_z-of_z at c.raised-3.ensures.exact)
+
+pub returns-clause-formed : goal.returns-clause-formed
+returns-clause-formed c = three_axes (λ axis. length (stored (element_on c.args.s.now axis)) ≤ 7) c.raised.ensures.formed c.raised-2.ensures.formed c.raised-3.ensures.formed
+
+pub returns-clause-small : goal.returns-clause-small
+returns-clause-small c = three (λ (curve : Bez 8). All (IsBelow (2 ^ 28)) curve.b) c.raised.result c.raised-2.result c.raised-3.result c.raised.ensures.small c.raised-2.ensures.small c.raised-3.ensures.small

@@ -1,5 +1,0 @@
-use Rattle.sep_parts.proofs.Bounds.{raised_small}
-use Rattle.sep_parts.proofs.curves.to_eight.Goals as goal
-
-pub returns-clause-small : goal.returns-clause-small
-returns-clause-small g c = rw c.to_eight.ensures (raised_small c.args.curve.now.b (rw c.requires.size c.requires.length) c.requires.values)

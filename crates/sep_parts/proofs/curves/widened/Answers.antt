@@ -1,8 +1,0 @@
-use Rattle.std.proofs.Common.{rules, ◌≡◌, length, arith}
-use Rattle.sep_parts.proofs.Rows.{copied}
-use Rattle.sep_parts.proofs.curves.widened.Goals as goal
-
-pub returns : goal.returns
-returns c =
-    let len : length c.args.row.now ≡ 8 = search rules in
-    copied 8 c.loop-k.k c.loop-k.b c.args.row.now c.loop-k.invariant.same_length len (omega arith) c.loop-k.invariant.done
