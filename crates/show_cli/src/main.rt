@@ -44,6 +44,8 @@ fn main(rt: HostRuntime) -> ExitCode {
 }
 
 #[cfg(test)]
+mod failing_tests;
+#[cfg(test)]
 mod rehearse_tests;
 #[cfg(test)]
 mod tests;

@@ -11,7 +11,7 @@ const CUE: &[u8] = b"cue 2000\nsolo move 1000000 0 1000000 0\nend\n";
 pub const SHOW: &[u8] =
     b"choreo 1\ndrone solo 0 0 1000000 0\ncue 2000\nsolo move 1000000 0 1000000 0\nend\n";
 
-const PLAN: &[u8] = b"plan 1\ndrone solo bytes 28 pieces 1\n\
+pub const PLAN: &[u8] = b"plan 1\ndrone solo bytes 28 pieces 1\n\
 data 00 00 00 00 E8 03 00 00 03 D0 07 00 00 00 00 00 00 E8 03 E8 03 E8 03 E8 03 00 00 00\nwrite 4E 02 00 00 00 00 00 00 00 00 E8 03 00 00 03 D0 07 00 00 00 00 00 00 E8 03 E8 03 E8 03 E8\nwrite 4E 02 18 00 00 00 03 00 00 00\ndefine 8C 06 00 01 01 00 00 00 00 01\nstart 8C 05 00 00 00 00 00 00 80 3F\nend\n";
 
 // The same plan in the last bytes of the memory.
@@ -19,7 +19,7 @@ const PLAN_AT_THE_END: &[u8] = b"plan 1\ndrone solo bytes 28 pieces 1\n\
 data 00 00 00 00 E8 03 00 00 03 D0 07 00 00 00 00 00 00 E8 03 E8 03 E8 03 E8 03 00 00 00\nwrite 4E 02 E4 0F 00 00 00 00 00 00 E8 03 00 00 03 D0 07 00 00 00 00 00 00 E8 03 E8 03 E8 03 E8\nwrite 4E 02 FC 0F 00 00 03 00 00 00\ndefine 8C 06 00 01 01 E4 0F 00 00 01\nstart 8C 05 00 00 00 00 00 00 80 3F\nend\n";
 
 // Two drones that change places, one of them a metre higher than the other.
-const APART: &[u8] =
+pub const APART: &[u8] =
     b"choreo 1\nellipsoid 120 300\ndrone a 0 0 1000000 0\ndrone b 1000000 0 1000000 0\n\
 cue 3000\nb move 1000000 0 2000000 0\nend\ncue 3000\na move 1000000 0 1000000 0\nb move 0 0 2000000 0\nend\n\
 cue 3000\nb move 0 0 1000000 0\nend\n";
@@ -107,12 +107,12 @@ fn is_met(
     Ok(met == status && sink.written() == written)
 }
 
-const HELP: &[u8] = b"help\ncheck [--depth D]\ncompile [--depth D]\ncertify [--depth D]\n\
+pub const HELP: &[u8] = b"help\ncheck [--depth D]\ncompile [--depth D]\ncertify [--depth D]\n\
 play [--depth D] [--step MS]\nreport [--depth D]\nverify\nrehearse [--depth D] [--start]\n\
 upload [--depth D] [--start]\ndrill N [--depth D]\n";
 
 // A drone that moves a metre along x in two seconds: its first, middle and last instants.
-const ROWS: &[u8] =
+pub const ROWS: &[u8] =
     b"0 solo 0 0 1000000 0\n1000 solo 500000 0 1000000 0\n2000 solo 1000000 0 1000000 0\n";
 
 // A millimetre backwards and a turn by a tenth of a degree in three milliseconds, each rounded down.

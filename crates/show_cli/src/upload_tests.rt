@@ -3,74 +3,75 @@ use crate::tests::{CROSSING, FINE, Manner, SHOW, WITHOUT_ROOM, answer};
 use std::test::Fail;
 
 // The frames of the two writes of `SHOW`.
-const FIRST: &[u8] =
+pub const FIRST: &[u8] =
     b"\x50\x01\x1E\x4E\x02\x00\x00\x00\x00\x00\x00\x00\x00\xE8\x03\x00\x00\x03\xD0\x07\x00\x00\x00\x00\x00\x00\xE8\x03\xE8\x03\xE8\x03\xE8\x50\x01\x0A\x4E\x02\x18\x00\x00\x00\x03\x00\x00\x00";
 
 // The frame of the define and the end frame of an upload that is done.
-const DEFINE_AND_END: &[u8] = b"\x50\x01\x0A\x8C\x06\x00\x01\x01\x00\x00\x00\x00\x01\x45\x00";
+pub const DEFINE_AND_END: &[u8] = b"\x50\x01\x0A\x8C\x06\x00\x01\x01\x00\x00\x00\x00\x01\x45\x00";
 
 // A marker line, and after it the answers to the writes and the define.
-const ANSWERS: &[u8] =
+pub const ANSWERS: &[u8] =
     b"%%\n\x50\x01\x07\x4E\x02\x00\x00\x00\x00\x00\x50\x01\x07\x4E\x02\x18\x00\x00\x00\x00\x50\x01\x05\x8C\x06\x00\x01\x00";
 
 // Words, a show and what comes after it; the status, and what is written, in two halves.
 type Row<'a> = (&'a [&'a str], &'a [u8], &'a [u8], u8, &'a [u8], &'a [u8]);
 
+const ENDS: [Row; 11] = [
+    // Nothing comes after a show without a marker line, nor after a last line that is one.
+    (&["upload"], SHOW, b"", 8, FIRST, b"\x45\x08"),
+    (&["upload"], SHOW, b"%%", 8, FIRST, b"\x45\x08"),
+    (&["upload"], SHOW, ANSWERS, 0, FIRST, DEFINE_AND_END),
+    (
+        &["upload"],
+        SHOW,
+        b"%%\n\x50\x01\x07\x4E\x02\x00\x00\x00\x00\x05",
+        10,
+        FIRST,
+        b"\x45\x0A",
+    ),
+    // The answer to a start that wasn't sent refuses it, where there is one.
+    (
+        &["upload", "--start"],
+        SHOW,
+        b"%%\n\x50\x01\x05\x8C\x05\x00\x00\x05",
+        10,
+        FIRST,
+        b"\x45\x0A",
+    ),
+    (
+        &["upload"],
+        SHOW,
+        b"%%\n\x50\x01\x05\x8C\x05\x00\x00\x05",
+        8,
+        FIRST,
+        b"\x45\x08",
+    ),
+    // A second marker line is no frame.
+    (&["upload"], SHOW, b"%%\n%%\n", 11, FIRST, b"\x45\x0B"),
+    (&["upload"], b"choreo 2\n", ANSWERS, 3, b"", b"\x45\x03"),
+    (&["upload"], WITHOUT_ROOM, ANSWERS, 4, b"", b"\x45\x04"),
+    (
+        &["upload", "--depth", "0"],
+        CROSSING,
+        ANSWERS,
+        5,
+        b"",
+        b"\x45\x05",
+    ),
+    (
+        &["upload", "--start", "--start"],
+        SHOW,
+        ANSWERS,
+        2,
+        b"",
+        b"error 2 usage\n",
+    ),
+];
+
 #[test]
 fn each_end_of_an_upload(rt: HostRuntime) -> Result<(), Fail> {
     let alloc = rt.alloc();
-    let rows: [Row; 11] = [
-        // Nothing comes after a show without a marker line, nor after a last line that is one.
-        (&["upload"], SHOW, b"", 8, FIRST, b"\x45\x08"),
-        (&["upload"], SHOW, b"%%", 8, FIRST, b"\x45\x08"),
-        (&["upload"], SHOW, ANSWERS, 0, FIRST, DEFINE_AND_END),
-        (
-            &["upload"],
-            SHOW,
-            b"%%\n\x50\x01\x07\x4E\x02\x00\x00\x00\x00\x05",
-            10,
-            FIRST,
-            b"\x45\x0A",
-        ),
-        // The answer to a start that wasn't sent refuses it, where there is one.
-        (
-            &["upload", "--start"],
-            SHOW,
-            b"%%\n\x50\x01\x05\x8C\x05\x00\x00\x05",
-            10,
-            FIRST,
-            b"\x45\x0A",
-        ),
-        (
-            &["upload"],
-            SHOW,
-            b"%%\n\x50\x01\x05\x8C\x05\x00\x00\x05",
-            8,
-            FIRST,
-            b"\x45\x08",
-        ),
-        // A second marker line is no frame.
-        (&["upload"], SHOW, b"%%\n%%\n", 11, FIRST, b"\x45\x0B"),
-        (&["upload"], b"choreo 2\n", ANSWERS, 3, b"", b"\x45\x03"),
-        (&["upload"], WITHOUT_ROOM, ANSWERS, 4, b"", b"\x45\x04"),
-        (
-            &["upload", "--depth", "0"],
-            CROSSING,
-            ANSWERS,
-            5,
-            b"",
-            b"\x45\x05",
-        ),
-        (
-            &["upload", "--start", "--start"],
-            SHOW,
-            ANSWERS,
-            2,
-            b"",
-            b"error 2 usage\n",
-        ),
-    ];
-    for (words, show, rest, status, first, end) in rows {
+    for (words, show, rest, status, first, end) in ENDS {
         let (met, sink) = answer(alloc, words, show, rest, FINE, FINE)?;
         let mut wanted = Vec::from_slice(alloc, first)?;
         wanted.extend_from_slice(end)?;

@@ -1,0 +1,175 @@
+//! Each failure once: the row of each command over ends that cut to 16 bytes, with each read failing in turn, and with each
+//! write. What is written then is the line of a failed read, or a prefix of the row's output by arithmetic.
+use crate::tests::{APART, CROSSING, FINE, HELP, Manner, PLAN, ROWS, SHOW, answer};
+use crate::upload_tests::{ANSWERS, DEFINE_AND_END, FIRST};
+use std::alloc::{AllocError, Global};
+use std::test::Fail;
+
+const CUT: usize = 16;
+
+// Words, the input in two halves, the status, and what is written, piece by piece as it goes out.
+type Row<'a> = (&'a [&'a str], &'a [u8], &'a [u8], u8, &'a [&'a [u8]]);
+
+const CERTIFICATE: &[u8] = b"%%\ncertificate 6\nr\nl\na\n";
+
+// The rows of the commands that read their input to its end.
+const TO_THE_END: [Row; 8] = [
+    (
+        &["check"],
+        APART,
+        b"",
+        0,
+        &[b"ok drones 2 cues 3 duration_ms 9000\n"],
+    ),
+    (&["compile"], SHOW, b"", 0, &[PLAN]),
+    (
+        &["compile"],
+        CROSSING,
+        b"",
+        5,
+        &[b"error 5 pair a b cue 1 part 28 of 64\n"],
+    ),
+    (
+        &["certify"],
+        APART,
+        b"",
+        0,
+        &[b"version 2\ncertificate 6\n58\n46\n00\n"],
+    ),
+    (&["play", "--step", "1000"], SHOW, b"", 0, &[ROWS]),
+    (
+        &["report"],
+        SHOW,
+        b"",
+        0,
+        &[
+            b"{\"bytes\":[28],\"cues\":1,\"drones\":[\"solo\"],\"duration_ms\":2000,\"nodes\":0,\"packets\":[3]}\n",
+        ],
+    ),
+    (
+        &["verify"],
+        APART,
+        CERTIFICATE,
+        0,
+        &[b"valid depth 6 trees 3\n"],
+    ),
+    (
+        &["rehearse"],
+        SHOW,
+        b"%%\ntake solo 1\n",
+        8,
+        &[b"error 8 ended\n"],
+    ),
+];
+
+// The rows of the commands that don't.
+const OTHERS: [Row; 3] = [
+    (&["help"], b"", b"", 0, &[HELP]),
+    (
+        &["drill", "2"],
+        b"",
+        b"",
+        0,
+        &[b"drones 2 cues 40 pairs 1 bytes 1102 packets 49 nodes 40\n"],
+    ),
+    (&["upload"], SHOW, ANSWERS, 0, &[FIRST, DEFINE, END]),
+];
+
+// The frame of the define, and the end frame of an upload that is done.
+const DEFINE: &[u8] = b"\x50\x01\x0A\x8C\x06\x00\x01\x01\x00\x00\x00\x00\x01";
+
+const END: &[u8] = b"\x45\x00";
+
+fn failing(call: u64) -> Manner {
+    Manner {
+        cut: CUT,
+        fails: call,
+    }
+}
+
+// Whether a run over ends that cut to 16 bytes, of which this read and this write fail, ends so.
+fn is_met(
+    alloc: Global,
+    row: &Row,
+    read: u64,
+    write: u64,
+    status: u8,
+    written: &[u8],
+) -> Result<bool, AllocError> {
+    let (words, front, rest, _, _) = row;
+    let (met, sink) = answer(alloc, words, front, rest, failing(read), failing(write))?;
+    Ok(met == status && sink.written() == written)
+}
+
+// Whether write after write fails as it must: those before it went out, and no byte of it or after it.
+fn fails_at_each_write(alloc: Global, row: &Row) -> Result<bool, AllocError> {
+    let (_, _, _, status, pieces) = row;
+    let mut so_far = Vec::new(alloc);
+    let mut call = 1u64;
+    for piece in pieces.iter() {
+        for chunk in piece.chunks(CUT) {
+            if !is_met(alloc, row, 0, call, 7, so_far.as_slice())? {
+                return Ok(false);
+            }
+            so_far.extend_from_slice(chunk)?;
+            call = call.saturating_add(1);
+        }
+    }
+    is_met(alloc, row, 0, call, *status, so_far.as_slice())
+}
+
+// Whether read after read fails as it must, up to the one that meets the input's end; a failure after it isn't met.
+fn fails_at_each_read(alloc: Global, row: &Row) -> Result<bool, AllocError> {
+    let (_, front, rest, status, pieces) = row;
+    let bytes = front.len().saturating_add(rest.len());
+    let reads = (bytes.div_ceil(CUT) as u64).saturating_add(1);
+    for call in 1..=reads {
+        if !is_met(alloc, row, call, 0, 6, b"error 6 read\n")? {
+            return Ok(false);
+        }
+    }
+    is_met(alloc, row, reads.saturating_add(1), 0, *status, pieces[0])
+}
+
+#[test]
+fn each_write_fails(rt: HostRuntime) -> Result<(), Fail> {
+    for row in &TO_THE_END {
+        assert!(rt; fails_at_each_write(rt.alloc(), row)?);
+    }
+    for row in &OTHERS {
+        assert!(rt; fails_at_each_write(rt.alloc(), row)?);
+    }
+    Ok(())
+}
+
+#[test]
+fn each_read_fails(rt: HostRuntime) -> Result<(), Fail> {
+    for row in &TO_THE_END {
+        assert!(rt; fails_at_each_read(rt.alloc(), row)?);
+    }
+    // These read nothing.
+    for (words, front, rest, status, pieces) in &OTHERS[..2] {
+        let row = (*words, *front, *rest, *status, *pieces);
+        assert!(rt; is_met(rt.alloc(), &row, 1, 0, *status, pieces[0])?);
+    }
+    Ok(())
+}
+
+// Five reads bring the show and the marker line, two the three answers, and after them the upload is done.
+#[test]
+fn each_read_of_an_upload_fails(rt: HostRuntime) -> Result<(), Fail> {
+    let alloc = rt.alloc();
+    let row = &OTHERS[2];
+    let mut begun = Vec::from_slice(alloc, FIRST)?;
+    begun.extend_from_slice(b"\x45\x06")?;
+    for call in 1..6 {
+        assert!(rt; is_met(alloc, row, call, 0, 6, b"\x45\x06")?);
+    }
+    for call in 6..8 {
+        assert!(rt; is_met(alloc, row, call, 0, 6, begun.as_slice())?);
+    }
+    let mut done = Vec::from_slice(alloc, FIRST)?;
+    done.extend_from_slice(DEFINE_AND_END)?;
+    assert!(rt; is_met(alloc, row, 8, 0, 0, done.as_slice())?);
+    Ok(())
+}
