@@ -51,84 +51,85 @@ fn outcome_of(alloc: Global, text: &[u8], wanted: &[u8]) -> Outcome {
     }
 }
 
-// The bytes of the first drone: whole where as many are given as there are.
+// Shows, the first bytes of the first drone, or all where as many are given as there are, and what becomes of the show.
+const BYTES_OF_SHOWS: [(&[u8], &[u8], Outcome); 12] = [
+    // one move
+    (
+        b"choreo 1\ndrone solo 0 0 1000000 0\ncue 2000\nsolo move 1000000 0 1000000 0\nend\n",
+        b"\x00\x00\x00\x00\xE8\x03\x00\x00\x03\xD0\x07\x00\x00\x00\x00\x00\x00\xE8\x03\xE8\x03\xE8\x03\xE8\x03\x00\x00\x00",
+        Outcome::Fits(1, 2000, 28, true),
+    ),
+    // the greatest start
+    (
+        b"choreo 1\ndrone solo 32767499 0 1000000 0\ncue 2000\nsolo move 1000000 0 1000000 0\nend\n",
+        b"\xFF\x7F\x00\x00\xE8\x03\x00\x00",
+        Outcome::Fits(1, 2000, 28, true),
+    ),
+    // the least start
+    (
+        b"choreo 1\ndrone solo -32768500 0 1000000 0\ncue 2000\nsolo move 1000000 0 1000000 0\nend\n",
+        b"\x00\x80",
+        Outcome::Fits(1, 2000, 28, true),
+    ),
+    // as much room as the bytes take
+    (
+        b"choreo 1\nmemory 2 4068\ndrone solo 0 0 1000000 0\ncue 2000\nsolo move 1000000 0 1000000 0\nend\n",
+        b"\x00\x00\x00\x00\xE8\x03\x00\x00\x03\xD0\x07",
+        Outcome::Fits(1, 2000, 28, true),
+    ),
+    // 255 holds of a second: three segments of 65 seconds, and one of 60
+    (
+        b"choreo 1\ndrone solo 0 0 1000000 0\nrepeat 255\ncue 1000\nend\nend\n",
+        b"\x00\x00\x00\x00\xE8\x03\x00\x00\x00\xE8\xFD\x00\xE8\xFD\x00\xE8\xFD\x00\x60\xEA\x00\x00\x00",
+        Outcome::Fits(255, 255_000, 23, true),
+    ),
+    // 1,000 cues
+    (
+        b"choreo 1\ndrone solo 0 0 1000000 0\nrepeat 1000\ncue 1000\nend\nend\n",
+        b"\x00\x00\x00\x00\xE8\x03\x00\x00\x00\xE8\xFD\x00\xE8\xFD",
+        Outcome::Fits(1000, 1_000_000, 59, true),
+    ),
+    // 127 times there and back
+    (
+        b"choreo 1\ndrone solo 0 0 1000000 0\nrepeat 127\ncue 1000\nsolo line 100000 0 1000000 0\nend\ncue 1000\nsolo line 0 0 1000000 0\nend\nend\n",
+        b"\x00\x00\x00\x00\xE8\x03\x00\x00\x01\xE8\x03\x64\x00",
+        Outcome::Fits(254, 254_000, 1281, true),
+    ),
+    // holds of 40,000, 30,000 and 30,000 ms are joined from the left
+    (
+        b"choreo 1\ndrone solo 0 0 1000000 0\ncue 40000\nend\ncue 30000\nend\ncue 30000\nend\n",
+        b"\x00\x00\x00\x00\xE8\x03\x00\x00\x00\x40\x9C\x00\x60\xEA\x00\x00\x00",
+        Outcome::Fits(3, 100_000, 17, true),
+    ),
+    // a turn is no hold
+    (
+        b"choreo 1\ndrone solo 0 0 1000000 0\ncue 1000\nend\ncue 1000\nsolo turn 900\nend\ncue 1000\nend\n",
+        b"\x00\x00\x00\x00\xE8\x03\x00\x00\x00\xE8\x03",
+        Outcome::Fits(3, 3000, 34, true),
+    ),
+    // what rounds to a hold is one
+    (
+        b"choreo 1\ndrone solo 0 0 1000000 0\ncue 1000\nend\ncue 1000\nsolo move 400 0 1000000 0\nend\ncue 1000\nend\n",
+        b"\x00\x00\x00\x00\xE8\x03\x00\x00\x00\xB8\x0B\x00\x00\x00",
+        Outcome::Fits(3, 3000, 14, true),
+    ),
+    // a quarter arc
+    (
+        b"choreo 1\ndrone solo 1000000 0 1000000 0\ncue 1000\nsolo arc ccw 0 0 0\nend\n",
+        b"\xE8\x03\x00\x00\xE8\x03\x00\x00\x0A\xE8\x03\xE8\x03\x28\x02\x00\x00\x28\x02\xE8\x03\xE8\x03\x00\x00\x00",
+        Outcome::Fits(1, 1000, 26, true),
+    ),
+    // a figure in a frame
+    (
+        b"choreo 1\ndrone solo 0 0 1000000 0\nfigure go p\ncue 1000\np line 1000000 0 1000000 0\nend\nend\nperform go y 1 0 0 500000 solo\n",
+        b"\x00\x00\x00\x00\xE8\x03\x00\x00\x54\xE8\x03\xE8\x03\xDC\x05\x84\x03\x00\x00\x00",
+        Outcome::Fits(1, 1000, 20, true),
+    ),
+];
+
 #[test]
 fn bytes_of_shows(rt: HostRuntime) {
-    let rows = [
-        // one move
-        (
-            b"choreo 1\ndrone solo 0 0 1000000 0\ncue 2000\nsolo move 1000000 0 1000000 0\nend\n".as_slice(),
-            b"\x00\x00\x00\x00\xE8\x03\x00\x00\x03\xD0\x07\x00\x00\x00\x00\x00\x00\xE8\x03\xE8\x03\xE8\x03\xE8\x03\x00\x00\x00".as_slice(),
-            Outcome::Fits(1, 2000, 28, true),
-        ),
-        // the greatest start
-        (
-            b"choreo 1\ndrone solo 32767499 0 1000000 0\ncue 2000\nsolo move 1000000 0 1000000 0\nend\n".as_slice(),
-            b"\xFF\x7F\x00\x00\xE8\x03\x00\x00".as_slice(),
-            Outcome::Fits(1, 2000, 28, true),
-        ),
-        // the least start
-        (
-            b"choreo 1\ndrone solo -32768500 0 1000000 0\ncue 2000\nsolo move 1000000 0 1000000 0\nend\n".as_slice(),
-            b"\x00\x80".as_slice(),
-            Outcome::Fits(1, 2000, 28, true),
-        ),
-        // as much room as the bytes take
-        (
-            b"choreo 1\nmemory 2 4068\ndrone solo 0 0 1000000 0\ncue 2000\nsolo move 1000000 0 1000000 0\nend\n".as_slice(),
-            b"\x00\x00\x00\x00\xE8\x03\x00\x00\x03\xD0\x07".as_slice(),
-            Outcome::Fits(1, 2000, 28, true),
-        ),
-        // 255 holds of a second: three segments of 65 seconds, and one of 60
-        (
-            b"choreo 1\ndrone solo 0 0 1000000 0\nrepeat 255\ncue 1000\nend\nend\n".as_slice(),
-            b"\x00\x00\x00\x00\xE8\x03\x00\x00\x00\xE8\xFD\x00\xE8\xFD\x00\xE8\xFD\x00\x60\xEA\x00\x00\x00".as_slice(),
-            Outcome::Fits(255, 255_000, 23, true),
-        ),
-        // 1,000 cues
-        (
-            b"choreo 1\ndrone solo 0 0 1000000 0\nrepeat 1000\ncue 1000\nend\nend\n".as_slice(),
-            b"\x00\x00\x00\x00\xE8\x03\x00\x00\x00\xE8\xFD\x00\xE8\xFD".as_slice(),
-            Outcome::Fits(1000, 1_000_000, 59, true),
-        ),
-        // 127 times there and back
-        (
-            b"choreo 1\ndrone solo 0 0 1000000 0\nrepeat 127\ncue 1000\nsolo line 100000 0 1000000 0\nend\ncue 1000\nsolo line 0 0 1000000 0\nend\nend\n".as_slice(),
-            b"\x00\x00\x00\x00\xE8\x03\x00\x00\x01\xE8\x03\x64\x00".as_slice(),
-            Outcome::Fits(254, 254_000, 1281, true),
-        ),
-        // holds of 40,000, 30,000 and 30,000 ms are joined from the left
-        (
-            b"choreo 1\ndrone solo 0 0 1000000 0\ncue 40000\nend\ncue 30000\nend\ncue 30000\nend\n".as_slice(),
-            b"\x00\x00\x00\x00\xE8\x03\x00\x00\x00\x40\x9C\x00\x60\xEA\x00\x00\x00".as_slice(),
-            Outcome::Fits(3, 100_000, 17, true),
-        ),
-        // a turn is no hold
-        (
-            b"choreo 1\ndrone solo 0 0 1000000 0\ncue 1000\nend\ncue 1000\nsolo turn 900\nend\ncue 1000\nend\n".as_slice(),
-            b"\x00\x00\x00\x00\xE8\x03\x00\x00\x00\xE8\x03".as_slice(),
-            Outcome::Fits(3, 3000, 34, true),
-        ),
-        // what rounds to a hold is one
-        (
-            b"choreo 1\ndrone solo 0 0 1000000 0\ncue 1000\nend\ncue 1000\nsolo move 400 0 1000000 0\nend\ncue 1000\nend\n".as_slice(),
-            b"\x00\x00\x00\x00\xE8\x03\x00\x00\x00\xB8\x0B\x00\x00\x00".as_slice(),
-            Outcome::Fits(3, 3000, 14, true),
-        ),
-        // a quarter arc
-        (
-            b"choreo 1\ndrone solo 1000000 0 1000000 0\ncue 1000\nsolo arc ccw 0 0 0\nend\n".as_slice(),
-            b"\xE8\x03\x00\x00\xE8\x03\x00\x00\x0A\xE8\x03\xE8\x03\x28\x02\x00\x00\x28\x02\xE8\x03\xE8\x03\x00\x00\x00".as_slice(),
-            Outcome::Fits(1, 1000, 26, true),
-        ),
-        // a figure in a frame
-        (
-            b"choreo 1\ndrone solo 0 0 1000000 0\nfigure go p\ncue 1000\np line 1000000 0 1000000 0\nend\nend\nperform go y 1 0 0 500000 solo\n".as_slice(),
-            b"\x00\x00\x00\x00\xE8\x03\x00\x00\x54\xE8\x03\xE8\x03\xDC\x05\x84\x03\x00\x00\x00".as_slice(),
-            Outcome::Fits(1, 1000, 20, true),
-        ),
-    ];
-    for (text, wanted, outcome) in rows {
+    for (text, wanted, outcome) in BYTES_OF_SHOWS {
         assert_eq!(rt; outcome_of(rt.alloc(), text, wanted), outcome);
     }
 }
