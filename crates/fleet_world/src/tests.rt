@@ -289,3 +289,107 @@ fn schedules_are_judged(rt: HostRuntime) -> Result<(), Fail> {
     }
     Ok(())
 }
+
+/// A load of 130 bytes, so of six writes, for each of four drones, which are started.
+fn four(alloc: Global) -> Result<Session, AllocError>
+    ensures { IfOk result (λ s. drone_count s ≡ 4) }
+{
+    let mut loads = Vec::new(alloc);
+    loads.push(Load {
+        bytes: Listed::from_vec([1; 130].to_vec(alloc)?),
+        pieces: 1,
+    })?;
+    loads.push(Load {
+        bytes: Listed::from_vec([2; 130].to_vec(alloc)?),
+        pieces: 2,
+    })?;
+    loads.push(Load {
+        bytes: Listed::from_vec([3; 130].to_vec(alloc)?),
+        pieces: 3,
+    })?;
+    loads.push(Load {
+        bytes: Listed::from_vec([4; 130].to_vec(alloc)?),
+        pieces: 4,
+    })?;
+    let settings = Settings {
+        memory_id: 2,
+        offset: 0,
+        trajectory_id: 0,
+    };
+    Session::make(alloc, settings, &loads, true)
+}
+
+/// The four loads on their way to four drones whose memories are blank.
+fn four_world(alloc: Global) -> Result<World, AllocError>
+    ensures { IfOk result (λ w. length w.drones ≡ 4) }
+{
+    let session = four(alloc)?;
+    let mut drones = Vec::new(alloc);
+    drones.push(make(2, [0xFF; 4096]))?;
+    drones.push(make(2, [0xFF; 4096]))?;
+    drones.push(make(2, [0xFF; 4096]))?;
+    drones.push(make(2, [0xFF; 4096]))?;
+    World::make(alloc, session, drones)
+}
+
+/// The names of four drones.
+fn four_names(alloc: Global) -> Result<Vec<Name>, AllocError>
+    ensures { IfOk result (λ names. length names.items ≡ 4) }
+{
+    let mut names = pair_names(alloc, b"a", b"b")?;
+    names.push(name_of(b"c"))?;
+    names.push(name_of(b"d"))?;
+    Ok(names)
+}
+
+/// These lines for each of the four drones in turn, whose name stands in them as `?`.
+fn for_each(alloc: Global, lines: &[u8]) -> Result<Vec<u8>, AllocError>
+    requires { length lines.now ≤ 1000 }
+    ensures { IfOk result (λ text. length text.items ≤ 4000) }
+{
+    let mut text = Vec::new(alloc);
+    for name in [b'a', b'b', b'c', b'd'] {
+        for byte in lines {
+            text.push(if *byte == b'?' { name } else { *byte })?;
+        }
+    }
+    Ok(text)
+}
+
+// A window is taken, each packet twice, and then its answers are heard, the last one first.
+#[test]
+fn windows_of_four_drones_come_in_reverse(rt: HostRuntime) -> Result<(), Fail> {
+    let alloc = rt.alloc();
+    let names = four_names(alloc)?;
+    let mut world = four_world(alloc)?;
+    // Writes 1 to 4; writes 6 and 5, which were sent when the fourth and the third were acknowledged; the define; the start.
+    let windows: [(&[u8], Progress); 4] = [
+        (
+            b"take ? 1\ntake ? 1\ntake ? 2\ntake ? 2\ntake ? 3\ntake ? 3\ntake ? 4\ntake ? 4\nhear ? 8\nhear ? 7\nhear ? 6\nhear ? 5\nhear ? 4\nhear ? 3\nhear ? 2\nhear ? 1\n",
+            Progress::Going,
+        ),
+        (
+            b"take ? 5\ntake ? 5\ntake ? 6\ntake ? 6\nhear ? 12\nhear ? 11\nhear ? 10\nhear ? 9\n",
+            Progress::Going,
+        ),
+        (
+            b"take ? 7\ntake ? 7\nhear ? 14\nhear ? 13\n",
+            Progress::Going,
+        ),
+        (
+            b"take ? 8\ntake ? 8\nhear ? 16\nhear ? 15\n",
+            Progress::Done,
+        ),
+    ];
+    for (lines, progress) in windows {
+        assert!(rt; world.drone(3).started.is_none());
+        let text = for_each(alloc, lines)?;
+        assert!(rt; run(alloc, &mut world, &names, &text)? == progress);
+    }
+    for drone in 0..4 {
+        let number = [1, 2, 3, 4][drone];
+        assert!(rt; has_load(world.drone(drone), &[number; 130], number));
+        assert!(rt; world.drone(drone).started == Some(0));
+    }
+    Ok(())
+}

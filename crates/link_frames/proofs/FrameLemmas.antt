@@ -1,7 +1,7 @@
 -- What bytes of a frame that is begun look like, and what one byte more makes of them.
 use Rattle.std.proofs.Common.{◌≡◌, ℕ, ◌+◌, ◌-◌, ◌<◌, ◌≤◌, Bool, true, false, cond, List, [], ◌∷◌, ◌++◌, length, drop, take, replicate, length-append, append_assoc, refl, sym, ap, ◌∙◌, arith}
 use Rattle.std.specs.List.{All}
-use Rattle.std.proofs.lemmas.List.{length-replicate}
+use Rattle.std.proofs.lemmas.List.{length-replicate, length-take, take-append-drop}
 use Rattle.std.proofs.lemmas.List.Elements.{All-head, All-tail}
 use Rattle.std.proofs.Math.Seq.{drop-append_seam, take-append_seam}
 use Rattle.link_frames.specs.declared.frame.Frame.{Frame}
@@ -11,7 +11,7 @@ use Rattle.link_frames.specs.declared.frame.FrameFault.{FrameFault}
 use Rattle.link_frames.specs.declared.frame.FrameFault.TheVariants.{Kind, Drone, Length}
 use Rattle.link_frames.specs.Frames.{BeginsNoFrame, IsBegun, FrameLaw, IsFrame, fed, fed_kind, fed_packet, frame_bytes, frames_bytes, packet_byte, tick_byte}
 use Rattle.std.proofs.lemmas.Bool.Decides.{nat_tests}
-use Rattle.std.specs.Prelude.{◌==◌, ◌&&◌, nat_le, nat_lt}
+use Rattle.std.specs.Prelude.{◌==◌, ◌&&◌, nat_le, nat_lt, slice_index_or, slice_range}
 
 -- the kind, the drone, the length, and fewer bytes of the packet
 abbrev pub Shape : List ℕ → Type 0
@@ -166,6 +166,20 @@ bad_step (k ∷ e ∷ []) later byte why is fed_so (frame.Packet d p) more forme
     let n : byte ≡ length p = cc in outside byte 31 (failed (nat_le 1 byte && nat_le byte 31) Length why fed_so) (rw n formed.2) (rw n formed.3)
 bad_step (k ∷ e ∷ n ∷ q) later byte why is fed_so f more formed cut =
     absurd (never_bad (nat_lt (length q + 1) n) (frame.Packet e (q ++ byte ∷ [])) why (sym (fed_long k e n q byte) ∙ fed_so))
+
+-- ---- a whole frame at the front
+
+-- the drone, the length and the packet after the first byte, where all of it is there
+pub front_packet : (rest p : List ℕ) (n : ℕ) → 2 ≤ length rest → n ≡ slice_index_or rest 1 0 → n ≤ length rest - 2 → p ≡ slice_range rest 2 (2 + n) →
+    (length p ≡ n) × ((later : List ℕ) × (0x50 ∷ rest ≡ 0x50 ∷ slice_index_or rest 0 0 ∷ length p ∷ (p ++ later)))
+front_packet [] p n two counted fits is = absurd (omega (arith, two))
+front_packet (d ∷ []) p n two counted fits is = absurd (omega (arith, two))
+front_packet (d ∷ k ∷ q) p n two counted fits is =
+    let n_is : n ≡ k = counted in
+    let e : 2 + n - 2 ≡ n = omega arith in
+    let p_is : p ≡ take n q = is ∙ ap (λ (m : ℕ). take m q) e in
+    let len : length p ≡ n = ap (λ (l : List ℕ). length l) p_is ∙ length-take n q ∙ omega (arith, fits) in
+    (len, (drop n q, rw (len, n_is, p_is ∙ ap (λ (m : ℕ). take m q) n_is, take-append-drop k q) refl))
 
 -- ---- one list of frames
 

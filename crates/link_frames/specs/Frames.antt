@@ -58,6 +58,10 @@ pub record IsBegun (bytes : List ℕ) : Type 0 where
 abbrev pub BeginsNoFrame : List ℕ → Type 0
 BeginsNoFrame bytes = (f : Frame) (later : List ℕ) → IsFrame f → bytes ≡ frame_bytes f ++ later → ⊥
 
+-- The bytes begin with this frame, which may stand on a link.
+abbrev pub BeginsWithFrame : List ℕ → Frame → Type 0
+BeginsWithFrame bytes f = IsFrame f × ((later : List ℕ) × (bytes ≡ frame_bytes f ++ later))
+
 -- ---- one byte more
 
 -- a first byte

@@ -1,11 +1,11 @@
 //! A frame, what a byte of one gives, and how a frame is written.
 
-ghost use Rattle.std.specs.Prelude.{◌≡◌, ℕ, ◌≤◌, List, [], ◌∷◌, length};
-ghost use Rattle.link_frames.specs.Frames.{frame_bytes, most_drones};
+ghost use Rattle.std.specs.Prelude.{◌≡◌, ℕ, ◌+◌, ◌≤◌, List, [], ◌∷◌, ◌++◌, length, IfSome, IfNone};
+ghost use Rattle.link_frames.specs.Frames.{BeginsNoFrame, BeginsWithFrame, IsFrame, frame_bytes, most_drones, packet_byte};
 ghost use Rattle.link_frames.specs.declared.frame.Frame.TheVariants as frame;
 
 use arrayvec::ArrayVec;
-use crtp_packets::Packet;
+use crtp_packets::{PACKET_BYTES, Packet, from_bytes};
 
 /// The one byte of a tick, `T`.
 pub const TICK_BYTE: u8 = 0x54;
@@ -53,14 +53,62 @@ pub enum Fed {
     Bad { why: FrameFault },
 }
 
-/// Puts the frame of a packet to or from a drone, which counts from 1, in place of what `out` has.
-pub fn put_frame(drone: u8, packet: &Packet, out: &mut ArrayVec<u8, FRAME_BYTES>)
+impl Frame {
+    /// How many bytes the frame has, of 1 to 34.
+    pub fn size(&self) -> usize
+        requires { IsFrame self.now }
+        ensures value { result ≡ length (frame_bytes self.now) }
+        ensures some { 1 ≤ result }
+        ensures few { result ≤ FRAME_BYTES }
+    {
+        match self {
+            Frame::Tick => 1,
+            Frame::Packet { packet, .. } => 3 + packet.bytes().len(),
+        }
+    }
+}
+
+// The frame of a packet whose bytes after the first one begin these, where it stands whole there.
+fn whole_packet(rest: &[u8]) -> Option<Frame>
+    ensures some { IfSome result (BeginsWithFrame (packet_byte ∷ rest.now)) }
+    ensures none { IfNone result (BeginsNoFrame (packet_byte ∷ rest.now)) }
+{
+    if rest.len() < 2 {
+        return None;
+    }
+    let drone = rest[0];
+    let len = usize::from(rest[1]);
+    if drone < 1 || drone > MOST_DRONES || len < 1 || len > PACKET_BYTES || len > rest.len() - 2 {
+        return None;
+    }
+    let packet = from_bytes(&rest[2..2 + len]).unwrap();
+    Some(Frame::Packet { drone, packet })
+}
+
+/// The frame with which bytes begin, where it stands whole there: it is the only one (`frame_law`). `None` where they begin
+/// with no whole frame, since one of its bytes has no place or some of them are still to come.
+pub fn whole_frame(bytes: &[u8]) -> Option<Frame>
+    ensures some { IfSome result (BeginsWithFrame bytes.now) }
+    ensures none { IfNone result (BeginsNoFrame bytes.now) }
+{
+    if bytes.is_empty() {
+        return None;
+    }
+    match bytes[0] {
+        TICK_BYTE => Some(Frame::Tick),
+        PACKET_BYTE => whole_packet(&bytes[1..]),
+        _ => None,
+    }
+}
+
+/// Puts the frame of a packet to or from a drone, which counts from 1, after what `out` has.
+pub fn put_frame<const N: usize>(drone: u8, packet: &Packet, out: &mut ArrayVec<u8, N>)
     requires some { 1 ≤ drone }
     requires few { drone ≤ most_drones }
-    ensures { out.new.items ≡ frame_bytes (frame.Packet drone packet.now) }
+    requires room { length out.old.items + FRAME_BYTES ≤ N }
+    ensures { out.new.items ≡ out.old.items ++ frame_bytes (frame.Packet drone packet.now) }
 {
     let bytes = packet.bytes();
-    out.clear();
     out.push(PACKET_BYTE);
     out.push(drone);
     out.push(bytes.len() as u8);

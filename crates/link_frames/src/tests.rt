@@ -103,7 +103,7 @@ fn longest_frame(rt: HostRuntime) -> Result<(), Fail> {
     let given = seen(alloc, &bytes)?;
     assert_eq!(rt; given.0.as_slice(), wanted.as_slice());
     assert!(rt; given.1);
-    let mut out = ArrayVec::new();
+    let mut out: ArrayVec<u8, FRAME_BYTES> = ArrayVec::new();
     let Ok(packet) = from_bytes(&[0x54; 31]) else {
         panic!(rt; "31 bytes are a packet");
     };
@@ -114,12 +114,79 @@ fn longest_frame(rt: HostRuntime) -> Result<(), Fail> {
 
 #[test]
 fn written_frames(rt: HostRuntime) {
-    let mut out = ArrayVec::new();
+    let mut out: ArrayVec<u8, 90> = ArrayVec::new();
     put_frame(1, &write_answer(2, 24, 0), &mut out);
     assert_eq!(rt; out.as_slice(), ANSWER.as_slice());
     put_frame(5, &write_request(2, 24, &[3, 0]), &mut out);
     assert_eq!(rt;
         out.as_slice(),
-        b"\x50\x05\x08\x4E\x02\x18\x00\x00\x00\x03\x00".as_slice()
+        b"\x50\x01\x07\x4E\x02\x18\x00\x00\x00\x00\x50\x05\x08\x4E\x02\x18\x00\x00\x00\x03\x00".as_slice()
     );
+}
+
+// The frame with which bytes begin, and how many bytes it has: `T` for a tick; for a packet `P`, the drone and the packet.
+fn front(alloc: Global, bytes: &[u8]) -> Result<(Vec<u8>, usize), AllocError> {
+    let mut out = Vec::new(alloc);
+    match whole_frame(bytes) {
+        None => Ok((out, 0)),
+        Some(frame) => {
+            let size = frame.size();
+            match frame {
+                Frame::Tick => out.push(b'T')?,
+                Frame::Packet { drone, packet } => {
+                    out.extend_from_slice(&[b'P', drone])?;
+                    out.extend_from_slice(packet.bytes())?;
+                }
+            }
+            Ok((out, size))
+        }
+    }
+}
+
+#[test]
+fn first_frames(rt: HostRuntime) -> Result<(), Fail> {
+    let cases: [(&[u8], &[u8], usize); 18] = [
+        (b"\x54", b"T", 1),
+        (b"\x54\x50\x01", b"T", 1),
+        (&ANSWER, b"P\x01\x4E\x02\x18\x00\x00\x00\x00", 10),
+        (b"\x50\x20\x01\x54\x54", b"P\x20\x54", 4),
+        (b"\x50\x02\x03\x00\x48\x69\x51", b"P\x02\x00\x48\x69", 6),
+        // Some of the frame is still to come.
+        (b"", b"", 0),
+        (b"\x50", b"", 0),
+        (b"\x50\x01", b"", 0),
+        (b"\x50\x01\x01", b"", 0),
+        (&ANSWER[..9], b"", 0),
+        // A byte without a place.
+        (b"\x51\x54", b"", 0),
+        (b"\x45\x00", b"", 0),
+        (b"\x50\x00\x01\x00", b"", 0),
+        (b"\x50\x21\x01\x00", b"", 0),
+        (b"\x50\xFF\x01\x00", b"", 0),
+        (b"\x50\x01\x00\x00", b"", 0),
+        (
+            b"\x50\x01\x20\x54\x54\x54\x54\x54\x54\x54\x54\x54\x54\x54\x54\x54\x54\x54\x54\x54\x54\x54\x54\x54\x54\x54\x54\x54\x54\x54\x54\x54\x54\x54\x54",
+            b"",
+            0,
+        ),
+        (b"\x50\x01\xFF\x54", b"", 0),
+    ];
+    for (bytes, wanted, size) in cases {
+        let given = front(rt.alloc(), bytes)?;
+        assert_eq!(rt; given.0.as_slice(), wanted);
+        assert_eq!(rt; given.1, size);
+    }
+    let mut longest = [0x54; 35];
+    longest[0] = 0x50;
+    longest[1] = 32;
+    longest[2] = 31;
+    let given = front(rt.alloc(), &longest)?;
+    assert_eq!(rt;
+        given.0.as_slice(),
+        [b"P\x20".as_slice(), &longest[3..34]]
+            .concat(rt.alloc())?
+            .as_slice()
+    );
+    assert_eq!(rt; given.1, 34);
+    Ok(())
 }

@@ -25,9 +25,7 @@ fn put(session: &Session, x: Sent, bytes: &mut ArrayVec<u8, MOST_OUT>)
     // There are at most 32.
     let _ = session.drones();
     let packet = session.packet(usize::from(x.drone), usize::from(x.packet));
-    let mut frame = ArrayVec::new();
-    put_frame(x.drone + 1, &packet, &mut frame);
-    let _ = bytes.try_extend_from_slice(frame.as_slice());
+    put_frame(x.drone + 1, &packet, bytes);
 }
 
 // Sends packets, in their order.

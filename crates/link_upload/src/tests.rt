@@ -1,12 +1,13 @@
 //! Uploads of the smallest path over memory. The bytes were written out by hand from docs/RADIO.md.
 
-ghost use Rattle.std.specs.Prelude.{[], IfOk};
+ghost use Rattle.std.specs.Prelude.{[], IfOk, None};
 ghost use Rattle.upload_core.specs.HostState.{view_of};
 ghost use Rattle.upload_core.specs.HostStandsFor.{HostStandsFor};
 
 use super::*;
-use fleet_io::{MemSink, MemSource, Parts, Source};
+use fleet_io::{Failed, MemSink, MemSource, Parts, Sink, Source};
 use std::alloc::{AllocError, Global};
+use std::cell::Cell;
 use std::test::Fail;
 use upload_core::{Host, Listed, Load, Session, Settings};
 
@@ -91,26 +92,35 @@ fn run(
     })
 }
 
+// Whether an upload of this input, cut into reads in four ways, ends with this status, after this output and the end frame.
+fn ends(
+    alloc: Global,
+    start: bool,
+    input: &[&[u8]],
+    status: u8,
+    output: &[&[u8]],
+) -> Result<bool, AllocError> {
+    let mut wanted = joined(alloc, output)?;
+    wanted.extend_from_slice(&[0x45, status])?;
+    for cut in [1, 2, 7, 1000] {
+        let ran = run(alloc, start, joined(alloc, input)?, cut, 0, 0)?;
+        if ran.status != status || ran.sink.written() != wanted.as_slice() {
+            return Ok(false);
+        }
+    }
+    Ok(true)
+}
+
+// Whether the drone is started, what comes in, the status, and what goes out before the end frame.
+type Row<'a> = (bool, &'a [&'a [u8]], u8, &'a [&'a [u8]]);
+
 #[test]
-fn each_end(rt: HostRuntime) -> Result<(), Fail> {
-    let alloc = rt.alloc();
-    let rows: [(bool, &[&[u8]], u8, &[&[u8]]); 20] = [
-        (false, &[], 8, &[FIRST]),
-        (
-            false,
-            &[WROTE_FIRST, WROTE_SECOND, DEFINED],
-            0,
-            &[FIRST, DEFINE],
-        ),
-        (
-            true,
-            &[WROTE_FIRST, WROTE_SECOND, DEFINED, STARTED],
-            0,
-            &[FIRST, DEFINE, START],
-        ),
-        // The answer to a start that wasn't sent is one.
-        (true, &[b"\x50\x01\x05\x8C\x05\x00\x00\x05"], 10, &[FIRST]),
-        (false, &[b"\x50\x01\x05\x8C\x05\x00\x00\x05"], 8, &[FIRST]),
+fn uploads_that_are_done(rt: HostRuntime) -> Result<(), Fail> {
+    let all: &[&[u8]] = &[WROTE_FIRST, WROTE_SECOND, DEFINED, STARTED];
+    let again: &[u8] = b"\x50\x01\x0A\x4E\x02\x18\x00\x00\x00\x03\x00\x00\x00";
+    let rows: [Row; 6] = [
+        (false, &all[..3], 0, &[FIRST, DEFINE]),
+        (true, all, 0, &[FIRST, DEFINE, START]),
         (
             true,
             &[STARTED, WROTE_FIRST, WROTE_SECOND, DEFINED],
@@ -119,33 +129,12 @@ fn each_end(rt: HostRuntime) -> Result<(), Fail> {
         ),
         // What was acknowledged early is not sent.
         (false, &[DEFINED, WROTE_FIRST, WROTE_SECOND], 0, &[FIRST]),
-        // The same answer twice acknowledges once.
-        (false, &[WROTE_FIRST, WROTE_FIRST], 8, &[FIRST]),
-        (false, &[FIRST_REFUSED, b"\x51"], 10, &[FIRST]),
-        // Bits of the link are of no account.
-        (
-            false,
-            &[b"\x50\x01\x07\x42\x02\x00\x00\x00\x00\x05"],
-            10,
-            &[FIRST],
-        ),
         // The example of docs/RADIO.md, "Link frames".
         (
             false,
             &[WROTE_FIRST, b"T", WROTE_SECOND, DEFINED],
             0,
-            &[
-                FIRST,
-                b"\x50\x01\x0A\x4E\x02\x18\x00\x00\x00\x03\x00\x00\x00",
-                DEFINE,
-            ],
-        ),
-        // A drone that isn't there.
-        (
-            false,
-            &[b"\x50\x20\x07\x4E\x02\x00\x00\x00\x00\x05"],
-            8,
-            &[FIRST],
+            &[FIRST, again, DEFINE],
         ),
         // Behind the end no byte is judged.
         (
@@ -154,27 +143,62 @@ fn each_end(rt: HostRuntime) -> Result<(), Fail> {
             0,
             &[FIRST, DEFINE],
         ),
-        // A tick sends what is in flight.
+    ];
+    for (start, input, status, output) in rows {
+        assert!(rt; ends(rt.alloc(), start, input, status, output)?);
+    }
+    Ok(())
+}
+
+#[test]
+fn uploads_that_are_refused(rt: HostRuntime) -> Result<(), Fail> {
+    let rows: [Row; 4] = [
+        // The answer to a start that wasn't sent is one.
+        (true, &[b"\x50\x01\x05\x8C\x05\x00\x00\x05"], 10, &[FIRST]),
+        (false, &[b"\x50\x01\x05\x8C\x05\x00\x00\x05"], 8, &[FIRST]),
+        (false, &[FIRST_REFUSED, b"\x51"], 10, &[FIRST]),
+        // Bits of the link are of no account.
         (
             false,
-            &[b"T", WROTE_FIRST, b"T"],
-            8,
-            &[
-                FIRST,
-                FIRST,
-                b"\x50\x01\x0A\x4E\x02\x18\x00\x00\x00\x03\x00\x00\x00",
-            ],
+            &[b"\x50\x01\x07\x42\x02\x00\x00\x00\x00\x05"],
+            10,
+            &[FIRST],
         ),
+    ];
+    for (start, input, status, output) in rows {
+        assert!(rt; ends(rt.alloc(), start, input, status, output)?);
+    }
+    Ok(())
+}
+
+#[test]
+fn inputs_that_end_early(rt: HostRuntime) -> Result<(), Fail> {
+    let again: &[u8] = b"\x50\x01\x0A\x4E\x02\x18\x00\x00\x00\x03\x00\x00\x00";
+    let stranger: &[u8] = b"\x50\x20\x07\x4E\x02\x00\x00\x00\x00\x05";
+    let rows: [Row; 4] = [
+        (false, &[], 8, &[FIRST]),
+        // The same answer twice acknowledges once.
+        (false, &[WROTE_FIRST, WROTE_FIRST], 8, &[FIRST]),
+        // A drone that isn't there.
+        (false, &[stranger], 8, &[FIRST]),
+        // A tick sends what is in flight.
+        (false, &[b"T", WROTE_FIRST, b"T"], 8, &[FIRST, FIRST, again]),
+    ];
+    for (start, input, status, output) in rows {
+        assert!(rt; ends(rt.alloc(), start, input, status, output)?);
+    }
+    Ok(())
+}
+
+#[test]
+fn faulty_inputs(rt: HostRuntime) -> Result<(), Fail> {
+    let rows: [Row; 6] = [
         // The input ends in a frame.
         (false, &[b"\x50"], 11, &[FIRST]),
         (false, &[b"\x50\x01"], 11, &[FIRST]),
         (false, &[b"\x50\x01\x07"], 11, &[FIRST]),
-        (
-            false,
-            &[b"\x50\x01\x07\x4E\x02\x00\x00\x00\x00"],
-            11,
-            &[FIRST],
-        ),
+        (false, &[&WROTE_FIRST[..9]], 11, &[FIRST]),
+        // A byte has no place.
         (false, &[WROTE_FIRST, b"%%\n"], 11, &[FIRST]),
         (
             false,
@@ -184,14 +208,7 @@ fn each_end(rt: HostRuntime) -> Result<(), Fail> {
         ),
     ];
     for (start, input, status, output) in rows {
-        for cut in [1, 2, 7, 1000] {
-            let ran = run(alloc, start, joined(alloc, input)?, cut, 0, 0)?;
-            let mut wanted = joined(alloc, output)?;
-            wanted.push(0x45)?;
-            wanted.push(status)?;
-            assert_eq!(rt; ran.status, status);
-            assert_eq!(rt; ran.sink.written(), wanted.as_slice());
-        }
+        assert!(rt; ends(rt.alloc(), start, input, status, output)?);
     }
     Ok(())
 }
@@ -337,6 +354,106 @@ fn four_million_frames(rt: HostRuntime) -> Result<(), Fail> {
         let ran = run(alloc, false, input, 4096, 0, 0)?;
         assert_eq!(rt; ran.status, status);
         assert_eq!(rt; ran.sink.written(), joined(alloc, output)?.as_slice());
+    }
+    Ok(())
+}
+
+// Bytes that a source gives, and how many bytes have to be sent before it gives them.
+const STEPS: [(u64, &[u8]); 4] = [
+    (46, WROTE_FIRST),
+    (46, b"T"),
+    (59, WROTE_SECOND),
+    (72, DEFINED),
+];
+
+// A source that shares a count with a sink: it gives a frame only where the count shows that those before it were
+// answered, and else the end. After 1,000 reads it gives the end in any case. It tells no content.
+#[derive(Drop)]
+struct Waiting<'a> {
+    sent: &'a Cell<u64>,
+    given: usize,
+    reads: u32,
+}
+
+impl<'a> Source for Waiting<'a> {
+    ghost left = { λ _. None };
+
+    ghost faults = { λ _. 0 };
+
+    fn read(&mut self, buf: &mut [u8]) -> Result<usize, Failed> {
+        self.reads = self.reads.saturating_add(1);
+        if self.reads > 1000 || self.given >= STEPS.len() {
+            return Ok(0);
+        }
+        let (before, frame) = STEPS[self.given];
+        if self.sent.get() < before {
+            return Ok(0);
+        }
+        self.given += 1;
+        let count = frame.len().min(buf.len());
+        buf[..count].copy_from_slice(&frame[..count]);
+        Ok(count)
+    }
+}
+
+// The sink, which counts the bytes that it took. It tells no content.
+#[derive(Drop)]
+struct Counting<'a> {
+    sent: &'a Cell<u64>,
+}
+
+impl<'a> Sink for Counting<'a> {
+    ghost written = { λ _. None };
+
+    ghost faults = { λ _. 0 };
+
+    fn write(&mut self, bytes: &[u8]) -> Result<usize, Failed> {
+        self.sent
+            .set(self.sent.get().saturating_add(bytes.len() as u64));
+        Ok(bytes.len())
+    }
+}
+
+// No answer waits for the next read.
+#[test]
+fn ends_share_a_count(rt: HostRuntime) -> Result<(), Fail> {
+    let sent = Cell::new(0);
+    let mut source = Waiting {
+        sent: &sent,
+        given: 0,
+        reads: 0,
+    };
+    let mut sink = Counting { sent: &sent };
+    let mut parts = Parts::make();
+    let status = upload(
+        &mut parts,
+        &mut source,
+        host_of(rt.alloc(), false)?,
+        &mut sink,
+    );
+    assert_eq!(rt; status, 0);
+    assert_eq!(rt; source.given, 4);
+    assert_eq!(rt; sent.get(), 74);
+    Ok(())
+}
+
+// A read and a write fail in the same upload.
+#[test]
+fn both_ends_fail(rt: HostRuntime) -> Result<(), Fail> {
+    let alloc = rt.alloc();
+    // No read is made after a failed write; and after a failed read the end frame may fail too.
+    let rows: [(u64, u64, &[u8]); 3] = [(1, 1, b""), (1, 2, FIRST), (2, 2, FIRST)];
+    for (read, write, output) in rows {
+        let ran = run(
+            alloc,
+            false,
+            joined(alloc, &[WROTE_FIRST])?,
+            100,
+            read,
+            write,
+        )?;
+        assert_eq!(rt; ran.status, 7);
+        assert_eq!(rt; ran.sink.written(), output);
     }
     Ok(())
 }
