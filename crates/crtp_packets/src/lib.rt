@@ -16,7 +16,7 @@ pub use packet::{
     write_answer, write_request,
 };
 pub use reading::{
-    Down, MEMORY_LEAST, PAYLOAD_BYTES, PacketFault, Piece, Up, parse_down, parse_up,
+    Down, MEMORY_LEAST, PAYLOAD_BYTES, PacketFault, Piece, Up, parse_down, parse_up, parse_up_bytes,
 };
 
 #[cfg(test)]

@@ -198,6 +198,21 @@ fn up_message(bytes: &[u8]) -> Result<Up, PacketFault>
     up_in(bytes)
 }
 
+/// What a packet of these 1 to 31 bytes tells the host, without a copy of them: see `parse_up`.
+pub fn parse_up_bytes(bytes: &[u8]) -> Result<Up, PacketFault>
+    requires not_empty { 1 ≤ length bytes.now }
+    requires fits { length bytes.now ≤ PACKET_BYTES }
+    ensures value { result ≡ up_of bytes.now }
+    ensures spells { IfOk result (SpellsUp bytes.now) }
+    ensures spelled { (up : Up) → SpellsUp bytes.now up → result ≡ Ok up }
+    ensures unknown { (result ≡ Err PacketFault.Unknown) ↔ (least_up (header_in bytes.now) ≡ None) }
+    ensures short { (result ≡ Err PacketFault.Short) ↔ IsSomeAnd (least_up (header_in bytes.now)) (λ least. length (payload_in bytes.now) < least) }
+    ensures no_empty { result ≢ Err PacketFault.Empty }
+    ensures no_too_long { result ≢ Err PacketFault.TooLong }
+{
+    up_message(bytes)
+}
+
 /// What the packet tells the host. `Unknown` where the table has no message of its port and channel,
 /// `Short` where it has one and the payload is shorter than that message's least length.
 pub fn parse_up(p: &Packet) -> Result<Up, PacketFault>
@@ -209,5 +224,5 @@ pub fn parse_up(p: &Packet) -> Result<Up, PacketFault>
     ensures no_empty { result ≢ Err PacketFault.Empty }
     ensures no_too_long { result ≢ Err PacketFault.TooLong }
 {
-    up_message(p.bytes())
+    parse_up_bytes(p.bytes())
 }

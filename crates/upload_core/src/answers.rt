@@ -14,7 +14,7 @@ use crate::flight::{Out, append};
 use crate::row::{Numbers, Row};
 use crate::rows::{drone_flight, is_all_loaded, is_finished, mark, put_flight};
 use crate::session::Session;
-use crtp_packets::{Packet, Up, WRITE_BYTES, parse_up};
+use crtp_packets::{PACKET_BYTES, Up, WRITE_BYTES, parse_up_bytes};
 use upload_model::{ACCEPTED, Event, PACKETS_IN_FLIGHT, Progress};
 
 /// The status that a message carries for packet `k`, if it matches it.
@@ -84,15 +84,17 @@ fn first_candidate(session: &Session, drone: usize, message: &Up) -> usize
     }
 }
 
-/// The packet of a drone that an answer matches, and its status.
-fn matching(session: &Session, drone: usize, packet: &Packet) -> Option<(u16, u8)>
-    requires { drone < drone_count session.now }
+/// The packet of a drone that an answer of these bytes matches, and its status.
+fn matching(session: &Session, drone: usize, packet: &[u8]) -> Option<(u16, u8)>
+    requires known { drone < drone_count session.now }
+    requires not_empty { 1 ≤ length packet.now }
+    requires fits { length packet.now ≤ PACKET_BYTES }
     ensures some { IfSome result (λ m. (m.0 < packet_count session.now drone)
         × (status_in session.now drone m.0 (up_of packet.now) ≡ Some m.1)) }
     ensures none { IfNone result ((k : ℕ) → k < packet_count session.now drone →
         status_in session.now drone k (up_of packet.now) ≡ None) }
 {
-    let message = match parse_up(packet) {
+    let message = match parse_up_bytes(packet) {
         Ok(message) => message,
         Err(_) => return None,
     };
@@ -170,14 +172,16 @@ fn is_last(session: &Session, rows: &[Row], drone: usize) -> bool
     rows[drone].is_done(session.writes(drone), session.starts()) && is_finished(session, rows)
 }
 
-/// An answer to an upload that is going.
+/// An answer of these bytes to an upload that is going.
 pub fn hear(
     session: &Session,
     rows: &mut [Row],
     drone: u8,
-    packet: &Packet,
+    packet: &[u8],
     out: &mut Out,
 ) -> Progress
+    requires not_empty { 1 ≤ length packet.now }
+    requires fits { length packet.now ≤ PACKET_BYTES }
     requires rows { RowsStand session.now rows.old }
     requires going { list_all (λ x. marked rows.old x.drone x.packet) (all_packets session.now) ≡ false }
     ensures rows { RowsStand session.now rows.new }

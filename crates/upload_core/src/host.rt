@@ -16,7 +16,7 @@ use crate::row::Row;
 use crate::rows::{first_open, word_at};
 use crate::session::Session;
 use crate::tick::tick;
-use crtp_packets::Packet;
+use crtp_packets::PACKET_BYTES;
 use std::alloc::{AllocError, Global};
 use std::marker::Model;
 use upload_model::{Event, Progress};
@@ -105,14 +105,48 @@ impl Host {
         ensures answer { (h : List Event) → HostStandsFor (view_of self.old) h →
             result ≡ progress self.old.session (h ++ e ∷ []) }
     {
+        match e {
+            Event::Tick => self.hear_tick(out),
+            Event::Up { drone, packet } => self.hear(drone, packet.bytes(), out),
+        }
+    }
+
+    /// What the upload has come to with an answer of these 1 to 31 bytes that came up from a drone, without a copy of them:
+    /// see `event`.
+    pub fn hear(&mut self, drone: u8, packet: &[u8], out: &mut Out) -> Progress
+        requires not_empty { 1 ≤ length packet.now }
+        requires fits { length packet.now ≤ PACKET_BYTES }
+        ensures session { self.new.session ≡ self.old.session }
+        ensures stands { (h : List Event) → HostStandsFor (view_of self.old) h →
+            HostStandsFor (view_of self.new) (h ++ Event.Up drone packet.now ∷ []) }
+        ensures sent { (h : List Event) → HostStandsFor (view_of self.old) h →
+            out.new.items ≡ out_of self.old.session h (Event.Up drone packet.now) }
+        ensures known { All (IsPacketOf self.old.session) out.new.items }
+        ensures answer { (h : List Event) → HostStandsFor (view_of self.old) h →
+            result ≡ progress self.old.session (h ++ Event.Up drone packet.now ∷ []) }
+    {
         out.clear();
         match self.progress {
-            Progress::Going => {}
-            ended => return ended,
+            Progress::Going => self.on_answer(drone, packet, out),
+            ended => ended,
         }
-        match e {
-            Event::Tick => self.on_tick(out),
-            Event::Up { drone, packet } => self.on_answer(drone, &packet, out),
+    }
+
+    /// A tick.
+    fn hear_tick(&mut self, out: &mut Out) -> Progress
+        ensures session { self.new.session ≡ self.old.session }
+        ensures stands { (h : List Event) → HostStandsFor (view_of self.old) h →
+            HostStandsFor (view_of self.new) (h ++ Event.Tick ∷ []) }
+        ensures sent { (h : List Event) → HostStandsFor (view_of self.old) h →
+            out.new.items ≡ out_of self.old.session h Event.Tick }
+        ensures known { All (IsPacketOf self.old.session) out.new.items }
+        ensures answer { (h : List Event) → HostStandsFor (view_of self.old) h →
+            result ≡ progress self.old.session (h ++ Event.Tick ∷ []) }
+    {
+        out.clear();
+        match self.progress {
+            Progress::Going => self.on_tick(out),
+            ended => ended,
         }
     }
 
@@ -156,9 +190,11 @@ impl Host {
         answer
     }
 
-    /// An answer while the upload is going.
-    fn on_answer(&mut self, drone: u8, packet: &Packet, out: &mut Out) -> Progress
+    /// An answer of these bytes while the upload is going.
+    fn on_answer(&mut self, drone: u8, packet: &[u8], out: &mut Out) -> Progress
         requires going { self.old.progress ≡ Progress.Going }
+        requires not_empty { 1 ≤ length packet.now }
+        requires fits { length packet.now ≤ PACKET_BYTES }
         ensures session { self.new.session ≡ self.old.session }
         ensures stands { (h : List Event) → HostStandsFor (view_of self.old) h →
             HostStandsFor (view_of self.new) (h ++ Event.Up drone packet.now ∷ []) }
