@@ -3,6 +3,8 @@ use Rattle.std.specs.Prelude.{◌≡◌, ℕ, ◌+◌, ◌≤◌, ◌&&◌, nat_
 use Rattle.std.specs.List.{flat_map, All}
 use Rattle.link_frames.specs.declared.frame.Frame.{Frame}
 use Rattle.link_frames.specs.declared.frame.Frame.TheVariants as frame
+use Rattle.link_frames.specs.declared.frame.View.{View}
+use Rattle.link_frames.specs.declared.frame.View.TheVariants as view
 use Rattle.link_frames.specs.declared.frame.FrameFault.{FrameFault}
 use Rattle.link_frames.specs.declared.frame.FrameFault.TheVariants.{Kind, Drone, Length}
 use Rattle.link_frames.specs.declared.frame.Fed.{Fed}
@@ -41,6 +43,11 @@ end_frame status = end_byte ∷ status ∷ []
 abbrev pub IsFrame : Frame → Type 0
 IsFrame frame.Tick = Unit {0}
 IsFrame (frame.Packet drone packet) = (1 ≤ drone) × (drone ≤ most_drones) × (1 ≤ length packet) × (length packet ≤ most_bytes)
+
+-- the frame that a view shows
+abbrev pub frame_of : View → Frame
+frame_of view.Tick = frame.Tick
+frame_of (view.Packet drone packet) = frame.Packet drone packet.now
 
 -- frames, one after the other
 abbrev pub frames_bytes : List Frame → List ℕ

@@ -1,11 +1,11 @@
 //! A frame, what a byte of one gives, and how a frame is written.
 
 ghost use Rattle.std.specs.Prelude.{◌≡◌, ℕ, ◌+◌, ◌≤◌, List, [], ◌∷◌, ◌++◌, length, IfSome, IfNone};
-ghost use Rattle.link_frames.specs.Frames.{BeginsNoFrame, BeginsWithFrame, IsFrame, frame_bytes, most_drones, packet_byte};
+ghost use Rattle.link_frames.specs.Frames.{BeginsNoFrame, BeginsWithFrame, IsFrame, frame_bytes, frame_of, most_drones, packet_byte};
 ghost use Rattle.link_frames.specs.declared.frame.Frame.TheVariants as frame;
 
 use arrayvec::ArrayVec;
-use crtp_packets::{PACKET_BYTES, Packet, from_bytes};
+use crtp_packets::{PACKET_BYTES, Packet};
 
 /// The one byte of a tick, `T`.
 pub const TICK_BYTE: u8 = 0x54;
@@ -31,6 +31,15 @@ pub enum Frame {
     Packet { drone: u8, packet: Packet },
 }
 
+/// A frame whose packet stands in bytes of others.
+#[derive(Clone, Copy, Drop)]
+pub enum View<'a> {
+    /// A tick of the host's clock.
+    Tick,
+    /// A packet that a drone sent, by its bytes. The drone counts from 1.
+    Packet { drone: u8, packet: &'a [u8] },
+}
+
 /// Why a byte has no place.
 #[derive(Clone, Copy, Debug, PartialEq, Eq)]
 pub enum FrameFault {
@@ -54,23 +63,38 @@ pub enum Fed {
 }
 
 impl Frame {
+    /// The frame, with its packet lent.
+    pub fn view(&self) -> View<'_>
+        ensures { frame_of result ≡ self.now }
+    {
+        match self {
+            Frame::Tick => View::Tick,
+            Frame::Packet { drone, packet } => View::Packet {
+                drone: *drone,
+                packet: packet.bytes(),
+            },
+        }
+    }
+}
+
+impl<'a> View<'a> {
     /// How many bytes the frame has, of 1 to 34.
     pub fn size(&self) -> usize
-        requires { IsFrame self.now }
-        ensures value { result ≡ length (frame_bytes self.now) }
+        requires { IsFrame (frame_of self.now) }
+        ensures value { result ≡ length (frame_bytes (frame_of self.now)) }
         ensures some { 1 ≤ result }
         ensures few { result ≤ FRAME_BYTES }
     {
         match self {
-            Frame::Tick => 1,
-            Frame::Packet { packet, .. } => 3 + packet.bytes().len(),
+            View::Tick => 1,
+            View::Packet { packet, .. } => 3 + packet.len(),
         }
     }
 }
 
 // The frame of a packet whose bytes after the first one begin these, where it stands whole there.
-fn whole_packet(rest: &[u8]) -> Option<Frame>
-    ensures some { IfSome result (BeginsWithFrame (packet_byte ∷ rest.now)) }
+fn whole_packet(rest: &[u8]) -> Option<View<'_>>
+    ensures some { IfSome result (λ view. BeginsWithFrame (packet_byte ∷ rest.now) (frame_of view)) }
     ensures none { IfNone result (BeginsNoFrame (packet_byte ∷ rest.now)) }
 {
     if rest.len() < 2 {
@@ -81,21 +105,21 @@ fn whole_packet(rest: &[u8]) -> Option<Frame>
     if drone < 1 || drone > MOST_DRONES || len < 1 || len > PACKET_BYTES || len > rest.len() - 2 {
         return None;
     }
-    let packet = from_bytes(&rest[2..2 + len]).unwrap();
-    Some(Frame::Packet { drone, packet })
+    let packet = &rest[2..2 + len];
+    Some(View::Packet { drone, packet })
 }
 
-/// The frame with which bytes begin, where it stands whole there: it is the only one (`frame_law`). `None` where they begin
+/// The frame with which bytes begin, where it stands whole there: it is the only one (`frame_law`). No byte is copied. `None` where they begin
 /// with no whole frame, since one of its bytes has no place or some of them are still to come.
-pub fn whole_frame(bytes: &[u8]) -> Option<Frame>
-    ensures some { IfSome result (BeginsWithFrame bytes.now) }
+pub fn whole_frame(bytes: &[u8]) -> Option<View<'_>>
+    ensures some { IfSome result (λ view. BeginsWithFrame bytes.now (frame_of view)) }
     ensures none { IfNone result (BeginsNoFrame bytes.now) }
 {
     if bytes.is_empty() {
         return None;
     }
     match bytes[0] {
-        TICK_BYTE => Some(Frame::Tick),
+        TICK_BYTE => Some(View::Tick),
         PACKET_BYTE => whole_packet(&bytes[1..]),
         _ => None,
     }

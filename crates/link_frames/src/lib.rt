@@ -15,8 +15,8 @@ mod frames;
 mod tests;
 
 pub use frame::{
-    END_BYTE, FRAME_BYTES, Fed, Frame, FrameFault, MOST_DRONES, PACKET_BYTE, TICK_BYTE, put_frame,
-    whole_frame,
+    END_BYTE, FRAME_BYTES, Fed, Frame, FrameFault, MOST_DRONES, PACKET_BYTE, TICK_BYTE, View,
+    put_frame, whole_frame,
 };
 pub use frames::Frames;
 

@@ -127,20 +127,17 @@ fn written_frames(rt: HostRuntime) {
 // The frame with which bytes begin, and how many bytes it has: `T` for a tick; for a packet `P`, the drone and the packet.
 fn front(alloc: Global, bytes: &[u8]) -> Result<(Vec<u8>, usize), AllocError> {
     let mut out = Vec::new(alloc);
-    match whole_frame(bytes) {
-        None => Ok((out, 0)),
-        Some(frame) => {
-            let size = frame.size();
-            match frame {
-                Frame::Tick => out.push(b'T')?,
-                Frame::Packet { drone, packet } => {
-                    out.extend_from_slice(&[b'P', drone])?;
-                    out.extend_from_slice(packet.bytes())?;
-                }
-            }
-            Ok((out, size))
+    let Some(view) = whole_frame(bytes) else {
+        return Ok((out, 0));
+    };
+    match view {
+        View::Tick => out.push(b'T')?,
+        View::Packet { drone, packet } => {
+            out.extend_from_slice(&[b'P', drone])?;
+            out.extend_from_slice(packet)?;
         }
     }
+    Ok((out, view.size()))
 }
 
 #[test]

@@ -1,13 +1,13 @@
 //! An upload between a source and a sink, from the first packets to the end frame.
 
-ghost use Rattle.std.specs.Prelude.{◌≡◌, ◌≢◌, ◌⊎◌, ◌≤◌, ◌++◌, [], ◌∷◌, ℕ, List, length, false, IsTrue, All, Contains, IfOk, IfSome, Err};
+ghost use Rattle.std.specs.Prelude.{◌≡◌, ◌≢◌, ◌⊎◌, ◌≤◌, ◌++◌, [], ◌∷◌, ℕ, List, length, false, IsTrue, All, Contains, IfOk, IfSome, OnOk, OnErr, Err};
 ghost use Rattle.std.specs.Io.KnownBytes.{Appends, Consumes, IsAtEnd};
-ghost use Rattle.fleet_io.specs.Causes.{Rose};
+ghost use Rattle.fleet_io.specs.Causes.{HasCause, Rose};
 ghost use Rattle.fleet_io.specs.Held.{buffer_bytes, stream};
 ghost use Rattle.fleet_io.specs.Taken.{AppendsFront, TakesFront};
-ghost use Rattle.link_frames.specs.Frames.{IsFrame, end_frame};
+ghost use Rattle.link_frames.specs.Frames.{IsBegun, IsFrame, end_frame, frame_of};
 ghost use Rattle.link_upload.specs.Sends.{answers_after, event_in, packet_frames};
-ghost use Rattle.link_upload.specs.Steps.{Breaks, Ends, Fails};
+ghost use Rattle.link_upload.specs.Steps.{Breaks, Ends, Fails, StepGives};
 ghost use Rattle.link_upload.specs.Uploads.{StaysPrompt, UploadFails, UploadGives};
 ghost use Rattle.upload_core.specs.HostStandsFor.{HostStandsFor};
 ghost use Rattle.upload_core.specs.HostState.{IsPacketOf, view_of};
@@ -18,36 +18,74 @@ ghost use Rattle.upload_model.specs.declared.events.Progress.TheVariants as prog
 use crate::input::{Next, next_frame};
 use crate::output::send;
 use fleet_io::{Failed, Parts, Sink, Source, write_whole};
-use link_frames::{END_BYTE, Frame};
+use link_frames::{END_BYTE, View, whole_frame};
 use upload_core::{Event, Host, Out, Progress};
 
 // Hands a frame to the host of an upload that is going. A packet of a drone that isn't in the session is no event.
-fn answer(host: &mut Host, frame: Frame, out: &mut Out) -> Progress
-    requires formed { IsFrame frame }
+fn answer(host: &mut Host, frame: View<'_>, out: &mut Out) -> Progress
+    requires formed { IsFrame (frame_of frame) }
     ensures session { host.new.session ≡ host.old.session }
     ensures stands { (h : List Event) → HostStandsFor (view_of host.old) h → progress host.old.session h ≡ progress_is.Going
-        → HostStandsFor (view_of host.new) (h ++ event_in host.old.session frame) }
+        → HostStandsFor (view_of host.new) (h ++ event_in host.old.session (frame_of frame.entry)) }
     ensures answer { (h : List Event) → HostStandsFor (view_of host.old) h → progress host.old.session h ≡ progress_is.Going
-        → result ≡ progress host.old.session (h ++ event_in host.old.session frame) }
+        → result ≡ progress host.old.session (h ++ event_in host.old.session (frame_of frame.entry)) }
     ensures sent { (h : List Event) → HostStandsFor (view_of host.old) h → progress host.old.session h ≡ progress_is.Going
-        → packet_frames host.old.session out.new.items ≡ answers_after host.old.session h (event_in host.old.session frame) }
+        → packet_frames host.old.session out.new.items ≡ answers_after host.old.session h (event_in host.old.session (frame_of frame.entry)) }
     ensures known { All (IsPacketOf host.old.session) out.new.items }
 {
     match frame {
-        Frame::Tick => host.event(Event::Tick, out),
-        Frame::Packet { drone, packet } => {
+        View::Tick => host.event(Event::Tick, out),
+        View::Packet { drone, packet } => {
             if usize::from(drone) > host.session().drones() {
                 out.clear();
                 return Progress::Going;
             }
-            host.event(
-                Event::Up {
-                    drone: drone - 1,
-                    packet,
-                },
-                out,
-            )
+            host.hear(drone - 1, packet, out)
         }
+    }
+}
+
+// What a step to the next frame did.
+enum Stepped {
+    Answered { progress: Progress },
+    End,
+    Faulty,
+}
+
+// Takes the next frame, and hands it to the host of an upload that is going: as it stands where the source has given all of
+// it, else byte by byte.
+fn step<S: Source>(
+    parts: &mut Parts,
+    source: &mut S,
+    host: &mut Host,
+    out: &mut Out,
+) -> Result<Stepped, Failed>
+    requires sound { IsTrue parts.old.sound }
+    requires at_end { IsTrue parts.old.ended → IsAtEnd (S.left source.old) }
+    requires holds { length parts.old.waiting ≤ buffer_bytes }
+    ensures gives { IfOk result (λ stepped. StepGives stepped host.old host.new out.new.items (stream parts.old (S.left source.old)) (stream parts.new (S.left source.new))) }
+    ensures failed { OnErr result ((parts.old.ended ≡ false) × (parts.new.waiting ≡ [])
+        × ((begun : List ℕ) × IsBegun begun × Consumes (stream parts.old (S.left source.old)) (S.left source.new) begun)) }
+    ensures sound { OnOk result (IsTrue parts.new.sound) }
+    ensures holds { length parts.new.waiting ≤ buffer_bytes }
+    ensures at_end { IsTrue parts.new.ended → IsAtEnd (S.left source.new) }
+    ensures began { parts.new.ended ≡ false → parts.old.ended ≡ false }
+    ensures cause { HasCause (S.faults source.old) (S.faults source.new) result }
+    ensures left { TakesFront (S.left source.old) (S.left source.new) }
+{
+    if let Some(frame) = whole_frame(parts.waiting()) {
+        let size = frame.size();
+        let progress = answer(host, frame, out);
+        parts.take_waiting(size);
+        return Ok(Stepped::Answered { progress });
+    }
+    match next_frame(parts, source)? {
+        Next::Whole { f } => {
+            let progress = answer(host, f.view(), out);
+            Ok(Stepped::Answered { progress })
+        }
+        Next::End => Ok(Stepped::End),
+        Next::Faulty => Ok(Stepped::Faulty),
     }
 }
 
@@ -111,16 +149,15 @@ fn carry<S: Source, K: Sink>(
         Err(Failed) => return Err(Broken::Write),
     }
     'frames: for n in 0..FRAME_LIMIT {
-        let next = match next_frame(parts, source) {
-            Ok(next) => next,
+        let stepped = match step(parts, source, &mut host, &mut out) {
+            Ok(stepped) => stepped,
             Err(Failed) => return Err(Broken::Read),
         };
-        let frame = match next {
-            Next::Whole { f } => f,
-            Next::End => return Ok(ENDED),
-            Next::Faulty => return Ok(FAULTY),
+        let progress = match stepped {
+            Stepped::Answered { progress } => progress,
+            Stepped::End => return Ok(ENDED),
+            Stepped::Faulty => return Ok(FAULTY),
         };
-        let progress = answer(&mut host, frame, &mut out);
         match send(host.session(), out.as_slice(), sink) {
             Ok(()) => {}
             Err(Failed) => return Err(Broken::Write),

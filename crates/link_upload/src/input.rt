@@ -9,7 +9,7 @@ ghost use Rattle.link_frames.specs.Frames.{IsBegun};
 ghost use Rattle.link_upload.specs.Steps.{NextGives};
 
 use fleet_io::{Failed, Parts, Source};
-use link_frames::{FRAME_BYTES, Fed, Frame, Frames, frame_law, whole_frame};
+use link_frames::{FRAME_BYTES, Fed, Frame, Frames, frame_law};
 
 // What comes next of the frames.
 #[derive(Drop)]
@@ -19,7 +19,7 @@ pub enum Next {
     Faulty,
 }
 
-// The next frame: all at once where the source has given all of it, else byte by byte.
+// The next frame, byte by byte.
 pub fn next_frame<S: Source>(parts: &mut Parts, source: &mut S) -> Result<Next, Failed>
     requires sound { IsTrue parts.old.sound }
     requires at_end { IsTrue parts.old.ended → IsAtEnd (S.left source.old) }
@@ -34,10 +34,6 @@ pub fn next_frame<S: Source>(parts: &mut Parts, source: &mut S) -> Result<Next, 
     ensures cause { HasCause (S.faults source.old) (S.faults source.new) result }
     ensures left { TakesFront (S.left source.old) (S.left source.new) }
 {
-    if let Some(f) = whole_frame(parts.waiting()) {
-        parts.take_waiting(f.size());
-        return Ok(Next::Whole { f });
-    }
     frame_law();
     let mut frames = Frames::make();
     'bytes: for n in 0..FRAME_BYTES {

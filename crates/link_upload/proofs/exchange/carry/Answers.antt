@@ -33,47 +33,47 @@ frames-init g c =
 
 -- ---- no frame comes
 
-pub returns-in-Err-next_frame-clause-read : goal.returns-in-Err-next_frame-clause-read
-returns-in-Err-next_frame-clause-read g c = λ _.
+pub returns-in-Err-step-clause-read : goal.returns-in-Err-step-clause-read
+returns-in-Err-step-clause-read g c = λ _.
     let inv = c.frames.invariant in
     let carries = inv.carries in
-    let failed = c.in-Err-next_frame.ensures.failed in (
-      Rose-later _ _ _ inv.source_later c.in-Err-next_frame.ensures.cause.failed,
+    let failed = c.in-Err-step.ensures.failed in (
+      Rose-later _ _ _ inv.source_later c.in-Err-step.ensures.cause.failed,
       inv.began failed.0,
       fails c.args.host.session _ _ _ _ _ _ _ carries c.frames-test.true failed.2.0 failed.2.1 failed.2.2,
     )
 
-pub returns-in-Err-next_frame-clause-prompt : goal.returns-in-Err-next_frame-clause-prompt
-returns-in-Err-next_frame-clause-prompt g c =
-    let failed = c.in-Err-next_frame.ensures.failed in
+pub returns-in-Err-step-clause-prompt : goal.returns-in-Err-step-clause-prompt
+returns-in-Err-step-clause-prompt g c =
+    let failed = c.in-Err-step.ensures.failed in
     prompt_carried c.args.host.session _ _ _ _ _ _ _ c.frames.invariant.carries (short_begun _ _ failed.2.0 failed.2.1 failed.2.2)
 
-pub returns-in-Err-next_frame-clause-left : goal.returns-in-Err-next_frame-clause-left
-returns-in-Err-next_frame-clause-left g c = TakesFront-trans _ _ _ c.frames.invariant.left c.next_frame.ensures.left
+pub returns-in-Err-step-clause-left : goal.returns-in-Err-step-clause-left
+returns-in-Err-step-clause-left g c = TakesFront-trans _ _ _ c.frames.invariant.left c.step.ensures.left
 
 pub returns-in-End-clause-ends : goal.returns-in-End-clause-ends
-returns-in-End-clause-ends g c = end_none c.args.host.session _ _ _ _ _ _ c.frames.invariant.carries c.frames-test.true (rw c.in-End.is at c.in-Ok-next_frame.ensures.gives)
+returns-in-End-clause-ends g c = end_none c.args.host.session _ _ _ _ _ _ c.frames.invariant.carries c.frames-test.true (rw c.in-End.is at c.in-Ok-step.ensures.gives)
 
 pub returns-in-End-clause-prompt : goal.returns-in-End-clause-prompt
-returns-in-End-clause-prompt g c = prompt_carried c.args.host.session _ _ _ _ _ _ _ c.frames.invariant.carries (short_end _ _ (rw c.in-End.is at c.in-Ok-next_frame.ensures.gives))
+returns-in-End-clause-prompt g c = prompt_carried c.args.host.session _ _ _ _ _ _ _ c.frames.invariant.carries (short_end _ _ (rw c.in-End.is at c.in-Ok-step.ensures.gives))
 
 pub returns-in-End-clause-known : goal.returns-in-End-clause-known
 returns-in-End-clause-known g c = (1, omega arith, refl)
 
 pub returns-in-End-clause-left : goal.returns-in-End-clause-left
-returns-in-End-clause-left g c = TakesFront-trans _ _ _ c.frames.invariant.left c.next_frame.ensures.left
+returns-in-End-clause-left g c = TakesFront-trans _ _ _ c.frames.invariant.left c.step.ensures.left
 
 pub returns-in-Faulty-clause-ends : goal.returns-in-Faulty-clause-ends
-returns-in-Faulty-clause-ends g c = end_faulty c.args.host.session _ _ _ _ _ _ c.frames.invariant.carries c.frames-test.true (rw c.in-Faulty.is at c.in-Ok-next_frame.ensures.gives)
+returns-in-Faulty-clause-ends g c = end_faulty c.args.host.session _ _ _ _ _ _ c.frames.invariant.carries c.frames-test.true (rw c.in-Faulty.is at c.in-Ok-step.ensures.gives)
 
 pub returns-in-Faulty-clause-prompt : goal.returns-in-Faulty-clause-prompt
-returns-in-Faulty-clause-prompt g c = prompt_carried c.args.host.session _ _ _ _ _ _ _ c.frames.invariant.carries (short_faulty _ _ (rw c.in-Faulty.is at c.in-Ok-next_frame.ensures.gives))
+returns-in-Faulty-clause-prompt g c = prompt_carried c.args.host.session _ _ _ _ _ _ _ c.frames.invariant.carries (short_faulty _ _ (rw c.in-Faulty.is at c.in-Ok-step.ensures.gives))
 
 pub returns-in-Faulty-clause-known : goal.returns-in-Faulty-clause-known
 returns-in-Faulty-clause-known g c = (4, omega arith, refl)
 
 pub returns-in-Faulty-clause-left : goal.returns-in-Faulty-clause-left
-returns-in-Faulty-clause-left g c = TakesFront-trans _ _ _ c.frames.invariant.left c.next_frame.ensures.left
+returns-in-Faulty-clause-left g c = TakesFront-trans _ _ _ c.frames.invariant.left c.step.ensures.left
 
 -- ---- a frame
 
@@ -81,115 +81,115 @@ pub returns-in-Err-send-clause-write : goal.returns-in-Err-send-clause-write
 returns-in-Err-send-clause-write g c = λ _.
     let inv = c.frames.invariant in
     let carries = inv.carries in
-    let next = rw c.in-Whole.is at c.in-Ok-next_frame.ensures.gives in
-    let a = answered c.args.host.session c.frames.host.session (view_of c.frames.host) (view_of c.answer-progress.new.host) c.in-Whole.f c.answer-progress.result c.answer-progress.new.out.items
-    (events_in c.args.host.session carries.frames) inv.session carries.stands carries.going c.answer-progress.ensures.stands c.answer-progress.ensures.answer c.answer-progress.ensures.sent in
-    let out = rw (c.session-in-frames.ensures, c.answer-progress.ensures.session, inv.session, c.as_slice-in-frames.ensures.value, a.sent) at c.in-Err-send.ensures.front in
-    (Rose-later _ _ _ inv.sink_later c.in-Err-send.ensures.cause.failed, breaks c.args.host.session _ _ _ _ _ _ _ _ carries c.in-Whole.f next.0 c.frames-test.true next.1 out)
+    let took = rw c.in-Answered.is at c.in-Ok-step.ensures.gives in
+    let a = answered c.args.host.session c.frames.host.session (view_of c.frames.host) (view_of c.step.new.host) took.frame c.in-Answered.progress c.step.new.out.items
+    (events_in c.args.host.session carries.frames) inv.session carries.stands carries.going took.stands took.answer took.sends in
+    let out = rw (c.session-in-frames.ensures, took.session, inv.session, c.as_slice-in-frames.ensures.value, a.sent) at c.in-Err-send.ensures.front in
+    (Rose-later _ _ _ inv.sink_later c.in-Err-send.ensures.cause.failed, breaks c.args.host.session _ _ _ _ _ _ _ _ carries took.frame took.formed c.frames-test.true took.taken out)
 
 pub returns-in-Err-send-clause-prompt : goal.returns-in-Err-send-clause-prompt
 returns-in-Err-send-clause-prompt g c =
-    let next = rw c.in-Whole.is at c.in-Ok-next_frame.ensures.gives in
-    prompt_broken c.args.host.session _ _ _ _ _ _ _ _ _ c.frames.invariant.carries c.in-Err-send.ensures.front (short_frame _ c.next_frame.new.parts.waiting _ c.in-Whole.f c.next_frame.ensures.holds next.1)
+    let took = rw c.in-Answered.is at c.in-Ok-step.ensures.gives in
+    prompt_broken c.args.host.session _ _ _ _ _ _ _ _ _ c.frames.invariant.carries c.in-Err-send.ensures.front (short_frame _ c.step.new.parts.waiting _ took.frame c.step.ensures.holds took.taken)
 
 pub returns-in-Err-send-clause-left : goal.returns-in-Err-send-clause-left
-returns-in-Err-send-clause-left g c = TakesFront-trans _ _ _ c.frames.invariant.left c.next_frame.ensures.left
+returns-in-Err-send-clause-left g c = TakesFront-trans _ _ _ c.frames.invariant.left c.step.ensures.left
 
 pub returns-in-Done-clause-ends : goal.returns-in-Done-clause-ends
 returns-in-Done-clause-ends g c =
     let inv = c.frames.invariant in
     let carries = inv.carries in
-    let next = rw c.in-Whole.is at c.in-Ok-next_frame.ensures.gives in
-    let a = answered c.args.host.session c.frames.host.session (view_of c.frames.host) (view_of c.answer-progress.new.host) c.in-Whole.f c.answer-progress.result c.answer-progress.new.out.items
-    (events_in c.args.host.session carries.frames) inv.session carries.stands carries.going c.answer-progress.ensures.stands c.answer-progress.ensures.answer c.answer-progress.ensures.sent in
-    let out = rw (c.session-in-frames.ensures, c.answer-progress.ensures.session, inv.session, c.as_slice-in-frames.ensures.value, a.sent) at c.in-Ok-send.ensures.ok in
-    end_answered c.args.host.session _ _ _ _ _ _ _ _ carries c.in-Whole.f next.0 c.frames-test.true next.1 out c.answer-progress.result a.answer 0 (λ full rest. rw c.in-Done.is refl)
+    let took = rw c.in-Answered.is at c.in-Ok-step.ensures.gives in
+    let a = answered c.args.host.session c.frames.host.session (view_of c.frames.host) (view_of c.step.new.host) took.frame c.in-Answered.progress c.step.new.out.items
+    (events_in c.args.host.session carries.frames) inv.session carries.stands carries.going took.stands took.answer took.sends in
+    let out = rw (c.session-in-frames.ensures, took.session, inv.session, c.as_slice-in-frames.ensures.value, a.sent) at c.in-Ok-send.ensures.ok in
+    end_answered c.args.host.session _ _ _ _ _ _ _ _ carries took.frame took.formed c.frames-test.true took.taken out c.in-Answered.progress a.answer 0 (λ full rest. rw c.in-Done.is refl)
 
 pub returns-in-Done-clause-prompt : goal.returns-in-Done-clause-prompt
 returns-in-Done-clause-prompt g c =
     let inv = c.frames.invariant in
     let carries = inv.carries in
-    let next = rw c.in-Whole.is at c.in-Ok-next_frame.ensures.gives in
-    let a = answered c.args.host.session c.frames.host.session (view_of c.frames.host) (view_of c.answer-progress.new.host) c.in-Whole.f c.answer-progress.result c.answer-progress.new.out.items
-    (events_in c.args.host.session carries.frames) inv.session carries.stands carries.going c.answer-progress.ensures.stands c.answer-progress.ensures.answer c.answer-progress.ensures.sent in
-    let out = rw (c.session-in-frames.ensures, c.answer-progress.ensures.session, inv.session, c.as_slice-in-frames.ensures.value, a.sent) at c.in-Ok-send.ensures.ok in
-    prompt_answered c.args.host.session _ _ _ _ _ _ _ _ _ carries c.in-Whole.f next.1 out (short_waiting c.next_frame.new.parts.waiting _ c.next_frame.ensures.holds)
+    let took = rw c.in-Answered.is at c.in-Ok-step.ensures.gives in
+    let a = answered c.args.host.session c.frames.host.session (view_of c.frames.host) (view_of c.step.new.host) took.frame c.in-Answered.progress c.step.new.out.items
+    (events_in c.args.host.session carries.frames) inv.session carries.stands carries.going took.stands took.answer took.sends in
+    let out = rw (c.session-in-frames.ensures, took.session, inv.session, c.as_slice-in-frames.ensures.value, a.sent) at c.in-Ok-send.ensures.ok in
+    prompt_answered c.args.host.session _ _ _ _ _ _ _ _ _ carries took.frame took.taken out (short_waiting c.step.new.parts.waiting _ c.step.ensures.holds)
 
 pub returns-in-Done-clause-known : goal.returns-in-Done-clause-known
 returns-in-Done-clause-known g c = (0, omega arith, refl)
 
 pub returns-in-Done-clause-left : goal.returns-in-Done-clause-left
-returns-in-Done-clause-left g c = TakesFront-trans _ _ _ c.frames.invariant.left c.next_frame.ensures.left
+returns-in-Done-clause-left g c = TakesFront-trans _ _ _ c.frames.invariant.left c.step.ensures.left
 
 pub returns-in-GaveUp-clause-ends : goal.returns-in-GaveUp-clause-ends
 returns-in-GaveUp-clause-ends g c =
     let inv = c.frames.invariant in
     let carries = inv.carries in
-    let next = rw c.in-Whole.is at c.in-Ok-next_frame.ensures.gives in
-    let a = answered c.args.host.session c.frames.host.session (view_of c.frames.host) (view_of c.answer-progress.new.host) c.in-Whole.f c.answer-progress.result c.answer-progress.new.out.items
-    (events_in c.args.host.session carries.frames) inv.session carries.stands carries.going c.answer-progress.ensures.stands c.answer-progress.ensures.answer c.answer-progress.ensures.sent in
-    let out = rw (c.session-in-frames.ensures, c.answer-progress.ensures.session, inv.session, c.as_slice-in-frames.ensures.value, a.sent) at c.in-Ok-send.ensures.ok in
-    end_answered c.args.host.session _ _ _ _ _ _ _ _ carries c.in-Whole.f next.0 c.frames-test.true next.1 out c.answer-progress.result a.answer 9 (λ full rest. rw c.in-GaveUp.is refl)
+    let took = rw c.in-Answered.is at c.in-Ok-step.ensures.gives in
+    let a = answered c.args.host.session c.frames.host.session (view_of c.frames.host) (view_of c.step.new.host) took.frame c.in-Answered.progress c.step.new.out.items
+    (events_in c.args.host.session carries.frames) inv.session carries.stands carries.going took.stands took.answer took.sends in
+    let out = rw (c.session-in-frames.ensures, took.session, inv.session, c.as_slice-in-frames.ensures.value, a.sent) at c.in-Ok-send.ensures.ok in
+    end_answered c.args.host.session _ _ _ _ _ _ _ _ carries took.frame took.formed c.frames-test.true took.taken out c.in-Answered.progress a.answer 9 (λ full rest. rw c.in-GaveUp.is refl)
 
 pub returns-in-GaveUp-clause-prompt : goal.returns-in-GaveUp-clause-prompt
 returns-in-GaveUp-clause-prompt g c =
     let inv = c.frames.invariant in
     let carries = inv.carries in
-    let next = rw c.in-Whole.is at c.in-Ok-next_frame.ensures.gives in
-    let a = answered c.args.host.session c.frames.host.session (view_of c.frames.host) (view_of c.answer-progress.new.host) c.in-Whole.f c.answer-progress.result c.answer-progress.new.out.items
-    (events_in c.args.host.session carries.frames) inv.session carries.stands carries.going c.answer-progress.ensures.stands c.answer-progress.ensures.answer c.answer-progress.ensures.sent in
-    let out = rw (c.session-in-frames.ensures, c.answer-progress.ensures.session, inv.session, c.as_slice-in-frames.ensures.value, a.sent) at c.in-Ok-send.ensures.ok in
-    prompt_answered c.args.host.session _ _ _ _ _ _ _ _ _ carries c.in-Whole.f next.1 out (short_waiting c.next_frame.new.parts.waiting _ c.next_frame.ensures.holds)
+    let took = rw c.in-Answered.is at c.in-Ok-step.ensures.gives in
+    let a = answered c.args.host.session c.frames.host.session (view_of c.frames.host) (view_of c.step.new.host) took.frame c.in-Answered.progress c.step.new.out.items
+    (events_in c.args.host.session carries.frames) inv.session carries.stands carries.going took.stands took.answer took.sends in
+    let out = rw (c.session-in-frames.ensures, took.session, inv.session, c.as_slice-in-frames.ensures.value, a.sent) at c.in-Ok-send.ensures.ok in
+    prompt_answered c.args.host.session _ _ _ _ _ _ _ _ _ carries took.frame took.taken out (short_waiting c.step.new.parts.waiting _ c.step.ensures.holds)
 
 pub returns-in-GaveUp-clause-known : goal.returns-in-GaveUp-clause-known
 returns-in-GaveUp-clause-known g c = (2, omega arith, refl)
 
 pub returns-in-GaveUp-clause-left : goal.returns-in-GaveUp-clause-left
-returns-in-GaveUp-clause-left g c = TakesFront-trans _ _ _ c.frames.invariant.left c.next_frame.ensures.left
+returns-in-GaveUp-clause-left g c = TakesFront-trans _ _ _ c.frames.invariant.left c.step.ensures.left
 
 pub returns-in-Refused-clause-ends : goal.returns-in-Refused-clause-ends
 returns-in-Refused-clause-ends g c =
     let inv = c.frames.invariant in
     let carries = inv.carries in
-    let next = rw c.in-Whole.is at c.in-Ok-next_frame.ensures.gives in
-    let a = answered c.args.host.session c.frames.host.session (view_of c.frames.host) (view_of c.answer-progress.new.host) c.in-Whole.f c.answer-progress.result c.answer-progress.new.out.items
-    (events_in c.args.host.session carries.frames) inv.session carries.stands carries.going c.answer-progress.ensures.stands c.answer-progress.ensures.answer c.answer-progress.ensures.sent in
-    let out = rw (c.session-in-frames.ensures, c.answer-progress.ensures.session, inv.session, c.as_slice-in-frames.ensures.value, a.sent) at c.in-Ok-send.ensures.ok in
-    end_answered c.args.host.session _ _ _ _ _ _ _ _ carries c.in-Whole.f next.0 c.frames-test.true next.1 out c.answer-progress.result a.answer 10 (λ full rest. rw c.in-Refused.is refl)
+    let took = rw c.in-Answered.is at c.in-Ok-step.ensures.gives in
+    let a = answered c.args.host.session c.frames.host.session (view_of c.frames.host) (view_of c.step.new.host) took.frame c.in-Answered.progress c.step.new.out.items
+    (events_in c.args.host.session carries.frames) inv.session carries.stands carries.going took.stands took.answer took.sends in
+    let out = rw (c.session-in-frames.ensures, took.session, inv.session, c.as_slice-in-frames.ensures.value, a.sent) at c.in-Ok-send.ensures.ok in
+    end_answered c.args.host.session _ _ _ _ _ _ _ _ carries took.frame took.formed c.frames-test.true took.taken out c.in-Answered.progress a.answer 10 (λ full rest. rw c.in-Refused.is refl)
 
 pub returns-in-Refused-clause-prompt : goal.returns-in-Refused-clause-prompt
 returns-in-Refused-clause-prompt g c =
     let inv = c.frames.invariant in
     let carries = inv.carries in
-    let next = rw c.in-Whole.is at c.in-Ok-next_frame.ensures.gives in
-    let a = answered c.args.host.session c.frames.host.session (view_of c.frames.host) (view_of c.answer-progress.new.host) c.in-Whole.f c.answer-progress.result c.answer-progress.new.out.items
-    (events_in c.args.host.session carries.frames) inv.session carries.stands carries.going c.answer-progress.ensures.stands c.answer-progress.ensures.answer c.answer-progress.ensures.sent in
-    let out = rw (c.session-in-frames.ensures, c.answer-progress.ensures.session, inv.session, c.as_slice-in-frames.ensures.value, a.sent) at c.in-Ok-send.ensures.ok in
-    prompt_answered c.args.host.session _ _ _ _ _ _ _ _ _ carries c.in-Whole.f next.1 out (short_waiting c.next_frame.new.parts.waiting _ c.next_frame.ensures.holds)
+    let took = rw c.in-Answered.is at c.in-Ok-step.ensures.gives in
+    let a = answered c.args.host.session c.frames.host.session (view_of c.frames.host) (view_of c.step.new.host) took.frame c.in-Answered.progress c.step.new.out.items
+    (events_in c.args.host.session carries.frames) inv.session carries.stands carries.going took.stands took.answer took.sends in
+    let out = rw (c.session-in-frames.ensures, took.session, inv.session, c.as_slice-in-frames.ensures.value, a.sent) at c.in-Ok-send.ensures.ok in
+    prompt_answered c.args.host.session _ _ _ _ _ _ _ _ _ carries took.frame took.taken out (short_waiting c.step.new.parts.waiting _ c.step.ensures.holds)
 
 pub returns-in-Refused-clause-known : goal.returns-in-Refused-clause-known
 returns-in-Refused-clause-known g c = (3, omega arith, refl)
 
 pub returns-in-Refused-clause-left : goal.returns-in-Refused-clause-left
-returns-in-Refused-clause-left g c = TakesFront-trans _ _ _ c.frames.invariant.left c.next_frame.ensures.left
+returns-in-Refused-clause-left g c = TakesFront-trans _ _ _ c.frames.invariant.left c.step.ensures.left
 
 pub frames-preserved : goal.frames-preserved
 frames-preserved g c =
     let inv = c.frames.invariant in
     let carries = inv.carries in
-    let next = rw c.in-Whole.is at c.in-Ok-next_frame.ensures.gives in
-    let a = answered c.args.host.session c.frames.host.session (view_of c.frames.host) (view_of c.answer-progress.new.host) c.in-Whole.f c.answer-progress.result c.answer-progress.new.out.items
-    (events_in c.args.host.session carries.frames) inv.session carries.stands carries.going c.answer-progress.ensures.stands c.answer-progress.ensures.answer c.answer-progress.ensures.sent in
-    let out = rw (c.session-in-frames.ensures, c.answer-progress.ensures.session, inv.session, c.as_slice-in-frames.ensures.value, a.sent) at c.in-Ok-send.ensures.ok in
+    let took = rw c.in-Answered.is at c.in-Ok-step.ensures.gives in
+    let a = answered c.args.host.session c.frames.host.session (view_of c.frames.host) (view_of c.step.new.host) took.frame c.in-Answered.progress c.step.new.out.items
+    (events_in c.args.host.session carries.frames) inv.session carries.stands carries.going took.stands took.answer took.sends in
+    let out = rw (c.session-in-frames.ensures, took.session, inv.session, c.as_slice-in-frames.ensures.value, a.sent) at c.in-Ok-send.ensures.ok in
     record {
-      carries = Carries-push c.args.host.session _ _ _ _ _ _ _ _ _ _ carries c.in-Whole.f next.0 next.1 out (omega arith) (sym a.answer ∙ c.in-Going.is) a.stands;
-      session = c.answer-progress.ensures.session ∙ inv.session;
-      sound = c.in-Ok-next_frame.ensures.sound;
-      holds = c.next_frame.ensures.holds;
-      at_end = c.next_frame.ensures.at_end;
-      began = λ e. inv.began (c.next_frame.ensures.began e);
-      left = TakesFront-trans _ _ _ inv.left c.next_frame.ensures.left;
-      source_later = omega (arith, inv.source_later, c.next_frame.ensures.cause.later);
+      carries = Carries-push c.args.host.session _ _ _ _ _ _ _ _ _ _ carries took.frame took.formed took.taken out (omega arith) (sym a.answer ∙ c.in-Going.is) a.stands;
+      session = took.session ∙ inv.session;
+      sound = c.in-Ok-step.ensures.sound;
+      holds = c.step.ensures.holds;
+      at_end = c.step.ensures.at_end;
+      began = λ e. inv.began (c.step.ensures.began e);
+      left = TakesFront-trans _ _ _ inv.left c.step.ensures.left;
+      source_later = omega (arith, inv.source_later, c.step.ensures.cause.later);
       sink_later = omega (arith, inv.sink_later, c.in-Ok-send.ensures.cause.later);
     }
 
@@ -209,8 +209,8 @@ returns-clause-known g c = (5, omega arith, refl)
 pub returns-in-Err-clause-grown : goal.returns-in-Err-clause-grown
 returns-in-Err-clause-grown g c = grown_front _ _ _ c.in-Err.ensures.front
 
-pub returns-in-Err-next_frame-clause-grown : goal.returns-in-Err-next_frame-clause-grown
-returns-in-Err-next_frame-clause-grown g c = (_, c.frames.invariant.carries.sent)
+pub returns-in-Err-step-clause-grown : goal.returns-in-Err-step-clause-grown
+returns-in-Err-step-clause-grown g c = (_, c.frames.invariant.carries.sent)
 
 pub returns-in-End-clause-grown : goal.returns-in-End-clause-grown
 returns-in-End-clause-grown g c = (_, c.frames.invariant.carries.sent)
