@@ -81,6 +81,43 @@ fn each_end_of_an_upload(rt: HostRuntime) -> Result<(), Fail> {
     Ok(())
 }
 
+// What comes after the marker line of an upload of `SHOW` and stands for no answer to a packet of it, or refuses one; and the
+// status to which it leads.
+const STRANGE: [(&[u8], u8); 9] = [
+    // Another memory's id, and an address at which no write begins.
+    (b"\x50\x01\x07\x4E\x03\x00\x00\x00\x00\x00", 8),
+    (b"\x50\x01\x07\x4E\x02\x01\x00\x00\x00\x00", 8),
+    // Too short for an answer to a write.
+    (b"\x50\x01\x06\x4E\x02\x00\x00\x00\x00", 8),
+    // A refusal after the same write was acknowledged.
+    (
+        b"\x50\x01\x07\x4E\x02\x00\x00\x00\x00\x00\x50\x01\x07\x4E\x02\x00\x00\x00\x00\x05",
+        8,
+    ),
+    // The define refused before it was sent.
+    (b"\x50\x01\x05\x8C\x06\x00\x01\x02", 10),
+    // No drone has the number 0 or 33, and no packet 0 or 32 bytes.
+    (b"\x50\x00", 11),
+    (b"\x50\x21", 11),
+    (b"\x50\x01\x00", 11),
+    (b"\x50\x01\x20", 11),
+];
+
+#[test]
+fn strange_frames(rt: HostRuntime) -> Result<(), Fail> {
+    let alloc = rt.alloc();
+    for (frames, status) in STRANGE {
+        let mut rest = Vec::from_slice(alloc, b"%%\n")?;
+        rest.extend_from_slice(frames)?;
+        let (met, sink) = answer(alloc, &["upload"], SHOW, rest.as_slice(), FINE, FINE)?;
+        let mut wanted = Vec::from_slice(alloc, FIRST)?;
+        wanted.extend_from_slice(&[0x45, status])?;
+        assert_eq!(rt; met, status);
+        assert_eq!(rt; sink.written(), wanted.as_slice());
+    }
+    Ok(())
+}
+
 #[test]
 fn failing_ends_of_an_upload(rt: HostRuntime) -> Result<(), Fail> {
     let alloc = rt.alloc();
