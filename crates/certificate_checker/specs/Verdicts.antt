@@ -1,0 +1,20 @@
+-- What a certificate's text is, judged for the curves of a fleet.
+use Rattle.std.specs.Prelude.{◌≡◌, ℕ, List, length, Some, None}
+use Rattle.std.specs.Str.Lines.{lines}
+use Rattle.sep_parts.specs.Raised.{Raised}
+use Rattle.sep_parts.specs.Versions.{table_of}
+use Rattle.sep_certificate.specs.declared.certificate.Certificate.{Certificate}
+use Rattle.sep_certificate.specs.Certificates.{fault_of}
+use Rattle.sep_certificate.specs.Texts.{Says, bad_line}
+use Rattle.certificate_checker.specs.declared.verdict.Verdict.{Verdict}
+use Rattle.certificate_checker.specs.declared.verdict.Verdict.TheVariants.{Valid, Line, Refused}
+
+-- A verdict on a text: its first faulty line; or, of the certificate that it says, the first fault; or its depth and how many trees
+-- it has, where it is valid.
+abbrev pub VerdictGives : Raised → ℕ → ℕ → List ℕ → Verdict → Type 0
+VerdictGives curves r h text (Line line) = bad_line (lines text) ≡ Some line
+VerdictGives curves r h text (Refused version fault) =
+    (cert : Certificate) × Says text cert × (cert.version ≡ version) × (fault_of (table_of cert.version) curves r h cert ≡ Some fault)
+VerdictGives curves r h text (Valid depth trees) =
+    (cert : Certificate) × Says text cert × (cert.depth ≡ depth) × (length cert.trees ≡ trees)
+    × (fault_of (table_of cert.version) curves r h cert ≡ None)
