@@ -47,7 +47,7 @@ module _ (r h : ℕ) (curves : Raised) (depth n : ℕ) where
           line_read curves (bytes_read r h curves
           (cond s (node_read r h curves (line_at 1 depth n (suc k) None j) Split (suc (suc k))) (cond t (node_read r h curves (line_at 1 depth n (suc k) None j) (Leaf (b - 97)) k) (Faulty n))) bytes)
           ≡ cond (cond s (is_spelled (suc (suc k)) bytes) (cond t (is_spelled k bytes) false))
-              (next_line 1 (judged_nodes 1 (with_node (record { r = r; h = h; depth = depth }) (table_of 1) curves j (cond s Split (Leaf (b - 97)))) (map node_of_byte bytes))) (Faulty n)
+          (next_line 1 (judged_nodes 1 (with_node (record { r = r; h = h; depth = depth }) (table_of 1) curves j (cond s Split (Leaf (b - 97)))) (map node_of_byte bytes))) (Faulty n)
       go more true t = more (suc (suc k)) (with_node (record { r = r; h = h; depth = depth }) (table_of 1) curves j Split)
       go more false true = more k (with_node (record { r = r; h = h; depth = depth }) (table_of 1) curves j (Leaf (b - 97)))
       go more false false = faulty_line bytes
@@ -73,25 +73,25 @@ module _ (r h : ℕ) (curves : Raised) (depth n : ℕ) where
     where
       second : line_read curves (bytes_read r h curves (node_read r h curves (line_at 2 depth n (suc k) (Some b) j) (Leaf (two_digits b c)) k) bytes)
           ≡ cond (is_spelled_wide k bytes)
-              (next_line 2 (judged_nodes 2 (with_node (record { r = r; h = h; depth = depth }) (table_of 2) curves j (Leaf (two_digits b c))) (wide_nodes bytes))) (Faulty n) →
+          (next_line 2 (judged_nodes 2 (with_node (record { r = r; h = h; depth = depth }) (table_of 2) curves j (Leaf (two_digits b c))) (wide_nodes bytes))) (Faulty n) →
           (t : Bool) →
           line_read curves (bytes_read r h curves (cond t (node_read r h curves (line_at 2 depth n (suc k) (Some b) j) (Leaf (two_digits b c)) k) (Faulty n)) bytes)
           ≡ cond (cond t (is_spelled_wide k bytes) false)
-              (next_line 2 (judged_nodes 2 (with_node (record { r = r; h = h; depth = depth }) (table_of 2) curves j (Leaf (two_digits b c))) (wide_nodes bytes))) (Faulty n)
+          (next_line 2 (judged_nodes 2 (with_node (record { r = r; h = h; depth = depth }) (table_of 2) curves j (Leaf (two_digits b c))) (wide_nodes bytes))) (Faulty n)
       second more true = more
       second more false = faulty_line bytes
 
       go : line_read curves (bytes_read r h curves (TreeLine (line_at 2 depth n (suc (suc k)) None (with_node (record { r = r; h = h; depth = depth }) (table_of 2) curves j Split))) (c ∷ bytes))
           ≡ cond (is_spelled_wide (suc (suc k)) (c ∷ bytes))
-              (next_line 2 (judged_nodes 2 (with_node (record { r = r; h = h; depth = depth }) (table_of 2) curves j Split) (wide_nodes (c ∷ bytes)))) (Faulty n) →
+          (next_line 2 (judged_nodes 2 (with_node (record { r = r; h = h; depth = depth }) (table_of 2) curves j Split) (wide_nodes (c ∷ bytes)))) (Faulty n) →
           line_read curves (bytes_read r h curves (cond (is_wide_leaf b c) (node_read r h curves (line_at 2 depth n (suc k) (Some b) j) (Leaf (two_digits b c)) k) (Faulty n)) bytes)
           ≡ cond (cond (is_wide_leaf b c) (is_spelled_wide k bytes) false)
-              (next_line 2 (judged_nodes 2 (with_node (record { r = r; h = h; depth = depth }) (table_of 2) curves j (Leaf (two_digits b c))) (wide_nodes bytes))) (Faulty n) →
+          (next_line 2 (judged_nodes 2 (with_node (record { r = r; h = h; depth = depth }) (table_of 2) curves j (Leaf (two_digits b c))) (wide_nodes bytes))) (Faulty n) →
           (s t : Bool) → is_digit b ≡ t →
           line_read curves (bytes_read r h curves (byte_read r h curves
           (cond s (node_read r h curves (line_at 2 depth n (suc k) None j) Split (suc (suc k))) (cond t (TreeLine (line_at 2 depth n (suc k) (Some b) j)) (Faulty n))) c) bytes)
           ≡ cond (cond s (is_spelled_wide (suc (suc k)) (c ∷ bytes)) (cond (is_wide_leaf b c) (is_spelled_wide k bytes) false))
-              (next_line 2 (judged_nodes 2 j (cond s (Split ∷ wide_nodes (c ∷ bytes)) (Leaf (two_digits b c) ∷ wide_nodes bytes)))) (Faulty n)
+          (next_line 2 (judged_nodes 2 j (cond s (Split ∷ wide_nodes (c ∷ bytes)) (Leaf (two_digits b c) ∷ wide_nodes bytes)))) (Faulty n)
       go split leaf true t p = split
       go split leaf false true p = leaf
       go split leaf false false p =

@@ -1,7 +1,9 @@
+pub mod Parts
 pub mod Folds
-pub mod Judging
+pub mod Faults
 pub mod Letters
 pub mod Heads
 pub mod Lines
 pub mod Texts
 pub mod Verdicts
+pub mod Standing

@@ -15,9 +15,9 @@ use Rattle.sep_certificate.proofs.Sayings.{said}
 use Rattle.certificate_checker.specs.declared.verdict.Verdict.{Verdict}
 use Rattle.certificate_checker.specs.declared.verdict.Verdict.TheVariants.{Valid, Line, Refused}
 use Rattle.certificate_checker.specs.Verdicts.{VerdictGives}
-use Rattle.certificate_checker.specs.Checking.{CheckingLaw, Clear, FirstLine, Judged, Wrong, before_tree, checked_all, closed, judged_verdict, nothing_checked, verdict_of}
+use Rattle.certificate_checker.specs.Checking.{Clear, FirstLine, Judged, Wrong, before_tree, checked_all, closed, judged_verdict, nothing_checked, verdict_of}
 use Rattle.certificate_checker.proofs.Folds.{lines_read}
-use Rattle.certificate_checker.proofs.Judging.{IsCount, count_trees, fault_in, faults_told}
+use Rattle.certificate_checker.proofs.Faults.{IsCount, count_trees, fault_in, faults_told}
 use Rattle.certificate_checker.proofs.Lines.{all_judged, faulty_told, said_told}
 use Rattle.certificate_checker.proofs.Texts.{text_told}
 

@@ -1,5 +1,5 @@
 -- A certificate's text judged byte by byte: what is kept after some bytes, and the verdict at their end.
-use Rattle.std.specs.Prelude.{ℕ, zero, suc, ◌+◌, ◌-◌, ◌^◌, ◌≤◌, ◌<◌, Bool, true, false, ◌&&◌, nat_lt, ◌==◌, bytes_eq, ℤ, List, [], ◌∷◌, ◌++◌, length, slice_index, Option, Some, None, if◌then◌else◌}
+use Rattle.std.specs.Prelude.{ℕ, zero, suc, ◌+◌, ◌-◌, Bool, true, false, ◌&&◌, nat_lt, ◌==◌, bytes_eq, ℤ, List, [], ◌∷◌, ◌++◌, length, slice_index, Option, Some, None, if◌then◌else◌}
 use Rattle.bezier_core.specs.declared.Bez.{Bez}
 use Rattle.halving.specs.declared.Place.{Place}
 use Rattle.sep_parts.specs.declared.node.Node.{Node}
@@ -17,7 +17,6 @@ use Rattle.sep_certificate.specs.Certificates.{node_fault}
 use Rattle.sep_certificate.specs.Texts.{is_depth_line, is_digit, is_letter, is_wide_leaf, two_digits, version_line}
 use Rattle.certificate_checker.specs.declared.verdict.Verdict.{Verdict}
 use Rattle.certificate_checker.specs.declared.verdict.Verdict.TheVariants.{Valid, Line, Refused}
-use Rattle.certificate_checker.specs.Verdicts.{VerdictGives}
 
 -- ---- what is judged of the trees
 -- The pair and cue whose tree comes next, the places of that tree that are still to be judged, the next one first, and how many trees
@@ -182,8 +181,3 @@ verdict_of curves (FirstLine head) = Line 1
 verdict_of curves (DepthLine head) = Line 2
 verdict_of curves (TreeLine t) = judged_verdict curves t.version t.depth t.judged
 verdict_of curves (Faulty n) = Line n
-
--- The verdict after the bytes of a text is what the text is.
-abbrev pub CheckingLaw : Type 0
-CheckingLaw = (curves : Raised) (r h : ℕ) (text : List ℕ) → 1 ≤ curves.drones → 1 ≤ curves.cues → length text < 2 ^ 30 →
-    VerdictGives curves r h text (verdict_of curves (closed r h curves (checked_all r h curves nothing_checked text)))

@@ -1,2 +1,4 @@
 pub mod Verdicts
 pub mod Checking
+pub mod Steps
+pub mod Standing

@@ -177,8 +177,9 @@ fn tree_fault<const M: usize>(
     None
 }
 
-// What is wrong with one node.
-fn node_fault<const M: usize>(
+/// What is wrong with a node at a level of the differences `diff`, by the directions of a ruler: a split at the depth, or a leaf whose
+/// direction has a control value below its threshold. Takes no memory.
+pub fn node_fault<const M: usize>(
     diff: &[Bez<8>; 3],
     level: &Level,
     slot: Slot,

@@ -14,7 +14,7 @@ mod tests;
 mod text;
 
 pub use certificate::{CertFault, Certificate};
-pub use judge::{certificate_law, check};
 pub use fleet_curves::Curves;
+pub use judge::{certificate_law, check, node_fault};
 pub use sep_parts::{DIRECTIONS, Dirs, Node, WIDE, separates, thresholds};
-pub use text::{CERTIFICATE_LIMIT, CertTextFault, read_certificate, text_law, write_certificate};
+pub use text::{CERTIFICATE_LIMIT, CertTextFault, depth_of, read_certificate, text_law, write_certificate};

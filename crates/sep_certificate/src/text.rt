@@ -216,8 +216,8 @@ fn without_return(line: &[u8]) -> &[u8]
     }
 }
 
-// The depth that a line says.
-fn depth_of(line: &[u8]) -> Option<u8>
+/// The depth that a line says, where it is `certificate` and a digit from 0 to 8.
+pub fn depth_of(line: &[u8]) -> Option<u8>
     ensures { MatchOption result (IsFalse (is_depth_line line.now)) (λ depth. (depth ≤ 8) × (line.now ≡ depth_line depth)) }
 {
     for depth in 0..9 {

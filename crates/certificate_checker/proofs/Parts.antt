@@ -1,0 +1,28 @@
+-- What the checker's parts are made of.
+use Rattle.std.proofs.Common.{◌≡◌, ℕ, sym, subst, length, refl, List, All}
+use Rattle.bezier_core.specs.declared.Bez.{Bez}
+use Rattle.sep_parts.specs.declared.node.Node.{Node}
+use Rattle.sep_parts.specs.Raised.{Raised, difference}
+use Rattle.sep_parts.specs.Rulers.{Measure}
+use Rattle.sep_parts.specs.Trees.{IsKnown}
+use Rattle.sep_parts.specs.Versions.{known_in, table_of}
+use Rattle.sep_parts.proofs.Lows.{three}
+use Rattle.certificate_checker.specs.Steps.{measure_of}
+
+-- each difference has three curves of eight control values
+pub sizes : (curves : Raised) (a b cue : ℕ) → All (λ (curve : Bez 8). length curve.b ≡ 8) (difference curves a b cue)
+unfolding difference
+sizes curves a b cue = three (λ (curve : Bez 8). length curve.b ≡ 8) _ _ _ refl refl refl
+
+pub axes : (curves : Raised) (a b cue : ℕ) → length (difference curves a b cue) ≡ 3
+unfolding difference
+axes curves a b cue = refl
+
+-- a node that a version knows names a direction of its table
+pub known_old : (m : Measure) (r h : ℕ) (node : Node) → m ≡ measure_of 1 r h → IsKnown 26 node → IsKnown (length m.directions) node
+unfolding table_of
+known_old m r h node is known = subst (λ (n : Measure). IsKnown (length n.directions) node) (sym is) known
+
+pub known_wide : (m : Measure) (r h : ℕ) (node : Node) → m ≡ measure_of 2 r h → IsKnown 98 node → IsKnown (length m.directions) node
+unfolding table_of
+known_wide m r h node is known = subst (λ (n : Measure). IsKnown (length n.directions) node) (sym is) known

@@ -1,0 +1,11 @@
+use Rattle.std.proofs.Common.{ap, false}
+use Rattle.certificate_checker.specs.Checking.{Reading, checked_all, fresh}
+use Rattle.certificate_checker.proofs.checker.Checker.make.Goals as goal
+
+pub returns-clause-stands : goal.returns-clause-stands
+unfolding checked_all
+returns-clause-stands c = λ curves. record {
+  reader = c.start.ensures.reader curves;
+  few = c.start.ensures.few;
+  read = ap fresh c.start.ensures.read;
+}

@@ -1,0 +1,45 @@
+-- What a checker stands for: the bytes that it was given, over the curves of a fleet.
+use Rattle.std.specs.Prelude.{◌≡◌, ℕ, Bool, List, length}
+use Rattle.sep_parts.specs.Apart.{KeepsApart}
+use Rattle.sep_parts.specs.Raised.{Raised}
+use Rattle.sep_parts.specs.Versions.{IsVersion}
+use Rattle.sep_certificate.specs.declared.certificate.Certificate.{Certificate}
+use Rattle.sep_certificate.specs.Certificates.{IsFaultOf}
+use Rattle.certificate_checker.specs.declared.reader.Reader.{Reader}
+use Rattle.certificate_checker.specs.declared.verdict.Verdict.{Verdict}
+use Rattle.certificate_checker.specs.declared.verdict.Verdict.TheVariants.{Line, Refused, Valid}
+use Rattle.certificate_checker.specs.Checking.{Checking, checked_all, nothing_checked}
+use Rattle.certificate_checker.specs.Steps.{IsFew, IsReader, reading_of}
+
+-- What a checker is seen as: the half axes of the ellipsoids, and what it has read.
+pub record Held : Type 0 where
+  pub r : ℕ
+  pub h : ℕ
+  pub reader : Reader
+  pub is_returned : Bool
+  pub is_begun : Bool
+
+abbrev pub checking_of : Held → Checking
+checking_of c = record { reading = reading_of c.reader; is_returned = c.is_returned; is_begun = c.is_begun }
+
+-- The checker has read these bytes, over these curves.
+pub record StandsFor (c : Held) (curves : Raised) (bytes : List ℕ) : Type 0 where
+  pub reader : IsReader curves c.reader
+  pub few : IsFew (length bytes) c.reader
+  pub read : checking_of c ≡ checked_all c.r c.h curves nothing_checked bytes
+
+-- What a verdict names is there: a version, and a fault of a certificate of that version over these curves.
+abbrev pub IsNamed : Raised → Verdict → Type 0
+IsNamed curves (Valid depth trees) = Unit {0}
+IsNamed curves (Line line) = Unit {0}
+IsNamed curves (Refused version fault) = (cert : Certificate) × IsVersion version × (cert.version ≡ version) × IsFaultOf curves cert fault
+
+-- Where a verdict is that the certificate is valid, each two different drones are apart at each instant.
+abbrev pub IsSafe : Raised → ℕ → ℕ → Verdict → Type 0
+IsSafe curves r h (Valid depth trees) = KeepsApart curves r h
+IsSafe curves r h (Line line) = Unit {0}
+IsSafe curves r h (Refused version fault) = Unit {0}
+
+-- A checker takes at most so many bytes: as many as the text of a certificate has at most.
+abbrev pub most_bytes : ℕ
+most_bytes = 400000000
