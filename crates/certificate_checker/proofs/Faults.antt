@@ -10,7 +10,7 @@ use Rattle.sep_parts.specs.declared.node.Node.TheVariants.{Split, Leaf}
 use Rattle.sep_parts.specs.declared.rules.Rules.{Rules}
 use Rattle.sep_parts.specs.declared.slot.Slot.{Slot}
 use Rattle.sep_parts.specs.Levels.{left_half, right_half, root}
-use Rattle.sep_parts.specs.Raised.{Raised, difference}
+use Rattle.fleet_curves.specs.Raised.{Raised, difference}
 use Rattle.sep_parts.specs.Slots.{following}
 use Rattle.sep_parts.specs.Trees.{IsTree, Tree, preorder}
 use Rattle.sep_parts.specs.Trees.Tree.{leaf, split}

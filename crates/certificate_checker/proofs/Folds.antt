@@ -2,7 +2,7 @@
 use Rattle.std.proofs.Common.{◌≡◌, ℕ, suc, ◌+◌, ◌==◌, cond, refl, List, [], ◌∷◌, ◌++◌, map, Option, None, ℤ}
 use Rattle.sep_parts.specs.declared.node.Node.{Node}
 use Rattle.sep_parts.specs.declared.rules.Rules.{Rules}
-use Rattle.sep_parts.specs.Raised.{Raised}
+use Rattle.fleet_curves.specs.Raised.{Raised}
 use Rattle.sep_certificate.specs.Steps.{node_of_byte, wide_nodes}
 use Rattle.sep_certificate.specs.declared.certificate.CertFault.{CertFault}
 use Rattle.certificate_checker.specs.Checking.{Judged, Wrong, Reading, Faulty, TreesRead, byte_read, line_read, with_node, with_tree}

@@ -4,7 +4,7 @@ use Rattle.std.proofs.lemmas.Bool.Decides.{nat_tests}
 use Rattle.sep_parts.specs.declared.node.Node.{Node}
 use Rattle.sep_parts.specs.declared.node.Node.TheVariants.{Split, Leaf}
 use Rattle.sep_parts.specs.declared.rules.Rules.{Rules}
-use Rattle.sep_parts.specs.Raised.{Raised}
+use Rattle.fleet_curves.specs.Raised.{Raised}
 use Rattle.sep_parts.specs.Versions.{IsVersion, table_of}
 use Rattle.sep_certificate.specs.Steps.{is_spelled, is_spelled_wide, node_of_byte, wide_nodes}
 use Rattle.sep_certificate.specs.Texts.{is_digit, is_letter, is_tree_line, is_wide_leaf, two_digits}

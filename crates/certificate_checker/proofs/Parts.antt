@@ -2,11 +2,11 @@
 use Rattle.std.proofs.Common.{◌≡◌, ℕ, sym, subst, length, refl, List, All}
 use Rattle.bezier_core.specs.declared.Bez.{Bez}
 use Rattle.sep_parts.specs.declared.node.Node.{Node}
-use Rattle.sep_parts.specs.Raised.{Raised, difference}
+use Rattle.fleet_curves.specs.Raised.{Raised, difference}
 use Rattle.sep_parts.specs.Rulers.{Measure}
 use Rattle.sep_parts.specs.Trees.{IsKnown}
 use Rattle.sep_parts.specs.Versions.{known_in, table_of}
-use Rattle.sep_parts.proofs.Lows.{three}
+use Rattle.fleet_curves.proofs.Small.{three}
 use Rattle.certificate_checker.specs.Steps.{measure_of}
 
 -- each difference has three curves of eight control values

@@ -5,7 +5,7 @@ use Rattle.std.specs.Str.Lines.{lines, lines_of_parts, strip_carriage_return}
 use Rattle.std.proofs.lemmas.Bool.Decides.{nat_tests}
 use Rattle.std.proofs.lemmas.List.Elements.{All-nil, All-cons, All-append}
 use Rattle.std.proofs.lemmas.List.Splits.{slice_split_at, slice_split_none, length-slice_split}
-use Rattle.sep_parts.specs.Raised.{Raised}
+use Rattle.fleet_curves.specs.Raised.{Raised}
 use Rattle.sep_certificate.proofs.FirstLines.{strip_first}
 use Rattle.certificate_checker.specs.Checking.{Checking, Reading, byte_read, checked, checked_all, closed, fresh, line_byte, line_read, with_return}
 use Rattle.certificate_checker.proofs.Folds.{bytes_more, bytes_read, lines_read}

@@ -1,7 +1,7 @@
 -- The verdict after the bytes of a text is what the text is.
 use Rattle.std.proofs.Common.{◌≡◌, ℕ, ◌+◌, ◌^◌, ◌≤◌, ◌<◌, Bool, true, false, cond, nat_lt, arith, refl, sym, ◌∙◌, ap, List, [], ◌∷◌, length, Option, Some, None, ℤ}
 use Rattle.std.specs.Str.Lines.{lines}
-use Rattle.sep_parts.specs.Raised.{Raised}
+use Rattle.fleet_curves.specs.Raised.{Raised}
 use Rattle.sep_parts.specs.Slots.{slot_at, slots}
 use Rattle.sep_parts.specs.Versions.{table_of}
 use Rattle.sep_parts.specs.declared.rules.Rules.{Rules}

@@ -7,7 +7,7 @@ use Rattle.sep_parts.specs.declared.node.Node.TheVariants.{Split, Leaf}
 use Rattle.sep_parts.specs.declared.rules.Rules.{Rules}
 use Rattle.sep_parts.specs.declared.slot.Slot.{Slot}
 use Rattle.sep_parts.specs.Levels.{root}
-use Rattle.sep_parts.specs.Raised.{Raised, difference}
+use Rattle.fleet_curves.specs.Raised.{Raised, difference}
 use Rattle.sep_parts.specs.Slots.{following, slot_at}
 use Rattle.sep_parts.specs.Trees.{places_below}
 use Rattle.sep_parts.specs.Versions.{table_of}

@@ -1,7 +1,7 @@
 -- What a checker stands for: the bytes that it was given, over the curves of a fleet.
 use Rattle.std.specs.Prelude.{◌≡◌, ℕ, Bool, List, length}
 use Rattle.sep_parts.specs.Apart.{KeepsApart}
-use Rattle.sep_parts.specs.Raised.{Raised}
+use Rattle.fleet_curves.specs.Raised.{Raised}
 use Rattle.sep_parts.specs.Versions.{IsVersion}
 use Rattle.sep_certificate.specs.declared.certificate.Certificate.{Certificate}
 use Rattle.sep_certificate.specs.Certificates.{IsFaultOf}

@@ -2,7 +2,7 @@
 
 ghost use Rattle.std.specs.Prelude.{◌≡◌, ℕ, ◌+◌, ◌^◌, ◌≤◌, ◌<◌, ◌++◌, ◌∷◌, [], List, length};
 ghost use Rattle.sep_parts.specs.Directions.{IsAxis};
-ghost use Rattle.sep_parts.specs.Raised.{Raised};
+ghost use Rattle.fleet_curves.specs.Raised.{Raised};
 ghost use Rattle.certificate_checker.specs.Checking.{checked, closed, verdict_of};
 ghost use Rattle.certificate_checker.specs.Standing.{IsNamed, IsSafe, StandsFor, checking_of, most_bytes};
 ghost use Rattle.certificate_checker.specs.Steps.{IsReader};
@@ -11,7 +11,7 @@ ghost use Rattle.certificate_checker.specs.Verdicts.{VerdictGives};
 use crate::reader::Reader;
 use crate::tables::Tables;
 use crate::verdict::Verdict;
-use sep_parts::Curves;
+use fleet_curves::Curves;
 use std::marker::Model;
 
 /// Judges the text of a certificate as its bytes come, for ellipsoids of half axes `r`, `r` and `h` in millimetres. It takes no memory,

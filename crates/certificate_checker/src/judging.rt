@@ -10,9 +10,10 @@ ghost use Rattle.certificate_checker.specs.Steps.{AreRaised, IsDifference, IsJud
 use crate::tables::Tables;
 use crate::verdict::Verdict;
 use bezier_core::Bez;
+use fleet_curves::Curves;
 use halving::Place;
 use sep_certificate::CertFault;
-use sep_parts::{Curves, Level, Node, Slot, Stack};
+use sep_parts::{Level, Node, Slot, Stack};
 
 /// The pair and cue whose tree comes next, the places of that tree that are still to be judged, with the parts of the curves there,
 /// and how many trees are whole; or the first fault.

@@ -1,7 +1,7 @@
 //! The lines of a certificate's text, read byte by byte.
 
 ghost use Rattle.std.specs.Prelude.{◌≡◌, ◌+◌, ◌^◌, ◌≤◌, ◌<◌, [], Some, None, IsTrue, IsFalse, MatchOption};
-ghost use Rattle.sep_parts.specs.Raised.{Raised};
+ghost use Rattle.fleet_curves.specs.Raised.{Raised};
 ghost use Rattle.sep_parts.specs.Trees.{IsKnown};
 ghost use Rattle.sep_parts.specs.Versions.{IsVersion, known_in};
 ghost use Rattle.sep_certificate.specs.Texts.{is_wide_leaf, two_digits};
@@ -12,8 +12,9 @@ use crate::judging::Judging;
 use crate::tables::Tables;
 use crate::verdict::Verdict;
 use arrayvec::ArrayVec;
+use fleet_curves::Curves;
 use sep_certificate::depth_of;
-use sep_parts::{Curves, Node};
+use sep_parts::Node;
 
 /// Which line is read: the first one; the one that says the depth of version 2; one of a tree; or a line was faulty.
 #[derive(Clone, Copy, PartialEq, Eq)]

@@ -4,13 +4,13 @@
 ghost use Rattle.std.specs.Prelude.{◌≡◌, ◌≤◌, ◌∷◌, [], length, IfOk};
 ghost use Rattle.traj_codec.specs.Positions.{durations};
 ghost use Rattle.sep_parts.specs.Directions.{IsAxis};
-ghost use Rattle.sep_parts.specs.Raised.{AreOneShow};
+ghost use Rattle.fleet_curves.specs.Raised.{AreOneShow};
 ghost use Rattle.certificate_checker.specs.Standing.{most_bytes};
 ghost use Rattle.certificate_checker.specs.Verdicts.{VerdictGives};
 
 use super::*;
+use fleet_curves::Curves;
 use sep_certificate::CertFault;
-use sep_parts::Curves;
 use std::alloc::{AllocError, Global};
 use std::test::Fail;
 use traj_codec::{Element, Listed, Segment, Traj};

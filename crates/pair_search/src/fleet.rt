@@ -6,8 +6,8 @@ ghost use Rattle.pair_search.specs.Fleets.{GivesCount, GivesTrees};
 ghost use Rattle.pair_search.specs.Steps.{FindsTree};
 
 use crate::walk::{Found, search_with};
-use listed::Listed;
 use fleet_curves::Curves;
+use listed::Listed;
 use sep_parts::{Node, Ruler, Slot};
 use std::alloc::{AllocError, Global};
 

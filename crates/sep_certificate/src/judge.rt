@@ -16,9 +16,9 @@ ghost use Rattle.sep_certificate.specs.Steps.{IsControl};
 
 use crate::certificate::{CertFault, Certificate};
 use bezier_core::Bez;
+use fleet_curves::Curves;
 use halving::Place;
 use listed::Listed;
-use fleet_curves::Curves;
 use sep_parts::{DIRECTIONS, Level, Node, Ruler, Rules, Slot, Stack, WIDE};
 
 /// Whether a certificate is valid for the curves of a fleet, with ellipsoids of half axes `r`, `r` and `h` in millimetres.
