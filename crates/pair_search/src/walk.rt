@@ -3,7 +3,7 @@
 ghost use Rattle.std.specs.Prelude.{◌≡◌, ℕ, ◌+◌, ◌^◌, ◌≤◌, ◌<◌, ◌∷◌, ◌++◌, [], length, All, IfOk, OnOk, ◌↔◌};
 ghost use Rattle.fleet_math.specs.Numbers.{IsBelow};
 ghost use Rattle.sep_parts.specs.Directions.{AreSmall, IsAxis, IsTableSize};
-ghost use Rattle.sep_parts.specs.Levels.{IsLevel, IsStack, places_of};
+ghost use Rattle.sep_parts.specs.Levels.{IsLevel, IsStack, places_of, root};
 ghost use Rattle.sep_parts.specs.Trees.{places_below, IsShallow};
 ghost use Rattle.pair_search.specs.Search.{IsClear, SearchGives, first_by, first_direction};
 ghost use Rattle.pair_search.specs.Laws.{SearchLaw};
@@ -12,7 +12,7 @@ ghost use Rattle.pair_search.specs.Steps.{WalkGives, node_for};
 use crate::first::first_direction;
 use bezier_core::Bez;
 use halving::Place;
-use sep_parts::{Dirs, Level, Node, Ruler, Stack};
+use sep_parts::{Dirs, Level, Node, Ruler, Stack, level_halves};
 use std::alloc::AllocError;
 
 /// What a search found.
@@ -76,7 +76,8 @@ pub fn search_with<const M: usize>(
     answer
 }
 
-// The nodes of the parts in preorder, up to the first part that is blocked.
+// The nodes of the parts in preorder, up to the first part that is blocked. Most cues are told by one direction: for them no
+// stack is made.
 fn walk<const M: usize>(
     diff: &[Bez<8>; 3],
     ruler: &Ruler<M>,
@@ -89,10 +90,40 @@ fn walk<const M: usize>(
     requires values { All (λ curve. All (IsBelow (2 ^ 30)) curve.b) diff.now }
     ensures { WalkGives (first_by ruler.now diff.now) depth result nodes.new.items }
 {
-    let mut stack = Stack::of(Level {
+    let whole = Level {
         place: Place { depth: 0, index: 0 },
         part: *diff,
-    });
+    };
+    match node_for(diff, &whole, ruler, depth) {
+        Some(Node::Leaf { dir }) => {
+            nodes.push(Node::Leaf { dir })?;
+            Ok(Found::Clear)
+        }
+        Some(Node::Split) => walk_halves(diff, &whole, ruler, depth, nodes),
+        None => Ok(Found::Blocked { index: 0 }),
+    }
+}
+
+// The same of a whole cue that is split.
+fn walk_halves<const M: usize>(
+    diff: &[Bez<8>; 3],
+    whole: &Level,
+    ruler: &Ruler<M>,
+    depth: u8,
+    nodes: &mut Vec<Node>,
+) -> Result<Found, AllocError>
+    requires empty { nodes.old.items ≡ [] }
+    requires depth { depth ≤ 8 }
+    requires whole { whole.now.place ≡ root }
+    requires level { IsLevel diff.now whole.now }
+    requires split { node_for (first_by ruler.now diff.now) depth root ≡ Some Node.Split }
+    requires values { All (λ curve. All (IsBelow (2 ^ 30)) curve.b) diff.now }
+    ensures { WalkGives (first_by ruler.now diff.now) depth result nodes.new.items }
+{
+    nodes.push(Node::Split)?;
+    let (left, right) = level_halves(diff, whole);
+    let mut stack = Stack::of(right);
+    stack.push(left);
     while let Some(level) = stack.pop() {
         match node_for(diff, &level, ruler, depth) {
             Some(node) => put(diff, &mut stack, nodes, &level, node)?,

@@ -1,38 +1,41 @@
-use Rattle.std.proofs.Common.{sym, ◌∙◌, subst, List, ◌∷◌}
+use Rattle.std.proofs.Common.{◌≡◌, ℕ, ◌∷◌, ◌++◌, [], length, sym, ◌∙◌, ap, refl, arith, rules, List, Some}
+use Rattle.std.proofs.lemmas.List.Elements.{All-get_or}
+use Rattle.bezier_core.specs.declared.Bez.{Bez}
+use Rattle.sep_parts.specs.Levels.{root}
+use Rattle.sep_parts.specs.declared.node.Node.{Node}
+use Rattle.sep_parts.specs.declared.node.Node.TheVariants.{Leaf}
 use Rattle.sep_parts.specs.declared.stack.Level.{Level}
-use Rattle.sep_parts.specs.Levels.{IsStack}
-use Rattle.sep_parts.proofs.Stacks.{first_stack}
+use Rattle.sep_parts.proofs.Parts.{root_level}
 use Rattle.pair_search.specs.Search.{first_by}
 use Rattle.pair_search.proofs.Halves.{left_has, right_has}
-use Rattle.pair_search.proofs.Trees.{begun, less_pending, past_pending, blocked_pending, ended_pending}
+use Rattle.pair_search.proofs.Trees.{begun, past_pending, blocked_pending, ended_pending}
 use Rattle.pair_search.proofs.walk.walk.Goals as goal
 
-pub loop-level-init : goal.loop-level-init
-loop-level-init g c = record {
-  stack = first_stack c.args.diff.now c.of-stack.result c.told-diff c.requires.sizes c.of-stack.ensures;
-  walk = rw (c.of-stack.ensures, c.requires.empty) (begun (first_by c.args.ruler.now c.args.diff.now) c.args.depth);
-}
+abbrev whole : (diff : List (Bez 8)) → Level
+whole diff = record { place = root; part = diff }
 
-pub loop-level-smaller : goal.loop-level-smaller
-loop-level-smaller g c =
-    less_pending (first_by c.args.ruler.now c.args.diff.now) c.args.depth c.loop-level.stack c.pop.new.self c.put.new.stack c.in-Some.level c.in-Some-node_for.node
-    c.in-Some.ensures (sym c.node_for.ensures ∙ c.in-Some-node_for.is) c.in_ok-put-in-Some-node_for.ensures.places
+pub node_for-requires : goal.node_for-requires
+node_for-requires g c =
+    (search rules, (root_level c.args.diff.now c.told-diff (λ axis small. All-get_or (λ (curve : Bez 8). length curve.b ≡ 8) c.args.diff.now axis (record { b = [] }) (omega arith) c.requires.sizes), c.requires.values))
 
-pub loop-level-preserved : goal.loop-level-preserved
-loop-level-preserved g c = record {
-  stack = c.in_ok-put-in-Some-node_for.ensures.stack;
-  walk = past_pending (first_by c.args.ruler.now c.args.diff.now) c.args.depth
-      (left_has c.args.ruler.now.r c.args.ruler.now.h c.args.diff.now c.args.ruler.now.directions) (right_has c.args.ruler.now.r c.args.ruler.now.h c.args.diff.now c.args.ruler.now.directions)
-      c.loop-level.stack c.pop.new.self c.put.new.stack c.in-Some.level c.loop-level.nodes.items c.put.new.nodes.items c.in-Some-node_for.node
-      c.in-Some.ensures (sym c.node_for.ensures ∙ c.in-Some-node_for.is) c.in_ok-put-in-Some-node_for.ensures.places c.in_ok-put-in-Some-node_for.ensures.nodes c.loop-level.invariant.walk;
-}
+pub walk_halves-requires : goal.walk_halves-requires
+walk_halves-requires g c =
+    let level = root_level c.args.diff.now c.told-diff (λ axis small. All-get_or (λ (curve : Bez 8). length curve.b ≡ 8) c.args.diff.now axis (record { b = [] }) (omega arith) c.requires.sizes) in
+    let split = sym c.node_for.ensures ∙ c.in-Some-Split.is ∙ ap Some c.in-Some-Split.field-0-is in
+    (search rules, (c.requires.empty, (c.requires.depth, (refl, (level, (split, c.requires.values))))))
+
+pub returns-in_ok-push-in-Some-Leaf : goal.returns-in_ok-push-in-Some-Leaf
+returns-in_ok-push-in-Some-Leaf g c =
+    let first = first_by c.args.ruler.now c.args.diff.now in
+    ended_pending first c.args.depth [] c.push.new.self.items refl
+    (past_pending first c.args.depth
+    (left_has c.args.ruler.now.r c.args.ruler.now.h c.args.diff.now c.args.ruler.now.directions) (right_has c.args.ruler.now.r c.args.ruler.now.h c.args.diff.now c.args.ruler.now.directions)
+    (whole c.args.diff.now ∷ []) [] [] (whole c.args.diff.now) [] c.push.new.self.items (Leaf c.in-Some-Leaf.dir) refl
+    (sym c.node_for.ensures ∙ c.in-Some-Leaf.is ∙ ap Some c.in-Some-Leaf.field-0-is) refl
+    (c.in_ok-push-in-Some-Leaf.ensures.items ∙ ap (λ (xs : List Node). xs ++ Leaf c.in-Some-Leaf.dir ∷ []) c.requires.empty)
+    (begun first c.args.depth))
 
 pub returns-in-None : goal.returns-in-None
 returns-in-None g c =
-    let stack : IsStack c.args.diff.now (c.in-Some.level ∷ c.pop.new.self) = subst (λ (s : List Level). IsStack c.args.diff.now s) c.in-Some.ensures c.loop-level.invariant.stack in
-    blocked_pending (first_by c.args.ruler.now c.args.diff.now) c.args.depth c.loop-level.stack c.pop.new.self c.in-Some.level c.loop-level.nodes.items
-    c.in-Some.ensures stack.1.place.1 (sym c.node_for.ensures ∙ c.in-None.is) c.loop-level.invariant.walk
-
-pub returns : goal.returns
-returns g c =
-    ended_pending (first_by c.args.ruler.now c.args.diff.now) c.args.depth c.loop-level.stack c.loop-level.nodes.items c.in_default.ensures.0 c.loop-level.invariant.walk
+    let first = first_by c.args.ruler.now c.args.diff.now in
+    blocked_pending first c.args.depth (whole c.args.diff.now ∷ []) [] (whole c.args.diff.now) [] refl (omega arith) (sym c.node_for.ensures ∙ c.in-None.is) (begun first c.args.depth)

@@ -1,7 +1,7 @@
 use Rattle.sep_parts.specs.Levels.{IsStack, places_of}
 use Rattle.pair_search.specs.Search.{first_by}
 use Rattle.pair_search.proofs.Trees.{IsWalk, work}
-use Rattle.pair_search.proofs.walk.walk.Given as goal
+use Rattle.pair_search.proofs.walk.walk_halves.Given as goal
 
 abbrev pub invariant-loop-level : goal.invariant-loop-level
 invariant-loop-level g l = record {

@@ -1,0 +1,48 @@
+use Rattle.std.proofs.Common.{sym, ◌∙◌, subst, refl, ap, arith, List, [], ◌∷◌, ◌++◌}
+use Rattle.sep_parts.specs.declared.stack.Level.{Level}
+use Rattle.sep_parts.specs.Levels.{IsStack}
+use Rattle.sep_parts.specs.declared.node.Node.{Node}
+use Rattle.sep_parts.specs.declared.node.Node.TheVariants.{Split}
+use Rattle.sep_parts.proofs.Stacks.{pushed}
+use Rattle.pair_search.specs.Search.{first_by}
+use Rattle.pair_search.proofs.Halves.{left_has, right_has}
+use Rattle.pair_search.proofs.Trees.{begun, less_pending, past_pending, blocked_pending, ended_pending}
+use Rattle.pair_search.proofs.walk.walk_halves.Goals as goal
+
+pub loop-level-init : goal.loop-level-init
+loop-level-init g c =
+    let first = first_by c.args.ruler.now c.args.diff.now in record {
+      stack = pushed c.args.diff.now c.args.whole.now c.level_halves.result.0 c.level_halves.result.1 [] c.of-stack.result c.push-2.new.self
+          tt (omega arith) c.level_halves.ensures.places.0 c.level_halves.ensures.places.1 c.level_halves.ensures.levels.0 c.level_halves.ensures.levels.1
+          c.of-stack.ensures c.push-2.ensures;
+      walk = past_pending first c.args.depth
+          (left_has c.args.ruler.now.r c.args.ruler.now.h c.args.diff.now c.args.ruler.now.directions) (right_has c.args.ruler.now.r c.args.ruler.now.h c.args.diff.now c.args.ruler.now.directions)
+          (c.args.whole.now ∷ []) [] c.push-2.new.self c.args.whole.now [] c.push.new.self.items Split refl
+          (rw c.requires.whole c.requires.split)
+          (rw (c.push-2.ensures, c.of-stack.ensures) (rw (c.level_halves.ensures.places.0, c.level_halves.ensures.places.1) refl))
+          (c.in_ok-push.ensures.items ∙ ap (λ (xs : List Node). xs ++ Split ∷ []) c.requires.empty) (rw c.requires.whole (begun first c.args.depth));
+    }
+
+pub loop-level-smaller : goal.loop-level-smaller
+loop-level-smaller g c =
+    less_pending (first_by c.args.ruler.now c.args.diff.now) c.args.depth c.loop-level.stack c.pop.new.self c.put.new.stack c.in-Some.level c.in-Some-node_for.node
+    c.in-Some.ensures (sym c.node_for.ensures ∙ c.in-Some-node_for.is) c.in_ok-put-in-Some-node_for.ensures.places
+
+pub loop-level-preserved : goal.loop-level-preserved
+loop-level-preserved g c = record {
+  stack = c.in_ok-put-in-Some-node_for.ensures.stack;
+  walk = past_pending (first_by c.args.ruler.now c.args.diff.now) c.args.depth
+      (left_has c.args.ruler.now.r c.args.ruler.now.h c.args.diff.now c.args.ruler.now.directions) (right_has c.args.ruler.now.r c.args.ruler.now.h c.args.diff.now c.args.ruler.now.directions)
+      c.loop-level.stack c.pop.new.self c.put.new.stack c.in-Some.level c.loop-level.nodes.items c.put.new.nodes.items c.in-Some-node_for.node
+      c.in-Some.ensures (sym c.node_for.ensures ∙ c.in-Some-node_for.is) c.in_ok-put-in-Some-node_for.ensures.places c.in_ok-put-in-Some-node_for.ensures.nodes c.loop-level.invariant.walk;
+}
+
+pub returns-in-None : goal.returns-in-None
+returns-in-None g c =
+    let stack : IsStack c.args.diff.now (c.in-Some.level ∷ c.pop.new.self) = subst (λ (s : List Level). IsStack c.args.diff.now s) c.in-Some.ensures c.loop-level.invariant.stack in
+    blocked_pending (first_by c.args.ruler.now c.args.diff.now) c.args.depth c.loop-level.stack c.pop.new.self c.in-Some.level c.loop-level.nodes.items
+    c.in-Some.ensures stack.1.place.1 (sym c.node_for.ensures ∙ c.in-None.is) c.loop-level.invariant.walk
+
+pub returns : goal.returns
+returns g c =
+    ended_pending (first_by c.args.ruler.now c.args.diff.now) c.args.depth c.loop-level.stack c.loop-level.nodes.items c.in_default.ensures.0 c.loop-level.invariant.walk
