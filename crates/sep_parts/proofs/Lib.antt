@@ -15,3 +15,4 @@ pub mod Weighted
 pub mod Rulers
 pub mod Instants
 pub mod PartBounds
+pub mod NarrowLemmas

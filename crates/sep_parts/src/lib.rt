@@ -9,6 +9,7 @@
 
 mod apart;
 mod directions;
+mod narrow;
 mod node;
 mod part;
 mod ruler;

@@ -126,7 +126,7 @@ fn weight(entry: i8, axis: u16) -> i128
 }
 
 // The threshold at the scale of a depth.
-fn scaled(threshold: i128, depth: u8) -> i128
+pub(crate) fn scaled(threshold: i128, depth: u8) -> i128
     requires positive { pos 0 ≤ℤ threshold }
     requires small { threshold <ℤ pos (2 ^ 30) }
     requires depth { depth ≤ 8 }

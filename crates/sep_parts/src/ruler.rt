@@ -7,6 +7,7 @@ ghost use Rattle.sep_parts.specs.Levels.{IsLevel};
 ghost use Rattle.sep_parts.specs.Separates.{low_value};
 
 use crate::directions::{Dirs, thresholds};
+use crate::narrow::{NARROW_DEPTH, separates_narrow};
 use crate::part::{low_control, separates};
 use crate::stack::Level;
 use bezier_core::Bez;
@@ -68,11 +69,22 @@ impl<const M: usize> Ruler<M> {
     {
         let directions = self.directions.n.as_slice();
         let thresholds = self.thresholds.as_slice();
+        let (r, h) = (self.r, self.h);
+        if level.place.depth <= NARROW_DEPTH {
+            return separates_narrow(
+                &level.part,
+                directions[dir],
+                r,
+                h,
+                thresholds[dir],
+                level.place.depth,
+            );
+        }
         separates(
             &level.part,
             directions[dir],
-            self.r,
-            self.h,
+            r,
+            h,
             thresholds[dir],
             level.place.depth,
         )

@@ -1,0 +1,48 @@
+-- What fits into 64 bits of a part that is halved at most twice.
+use Rattle.std.specs.Int.Signed.{le_z}
+use Rattle.std.proofs.Common.{Bool, true, false, refl, ◌≡◌, ℕ, ◌*◌, ◌^◌, zero, suc, ◌≤◌, ℤ, pos, ◌≤ℤ◌, ◌<ℤ◌, ◌+ℤ◌, ◌*ℤ◌, unsigned_abs, FitsSigned, to_z, of_z, arith}
+use Rattle.std.proofs.lemmas.Int.{ints, unsigned_abs-mul, to_z-of_z}
+use Rattle.std.proofs.lemmas.Nat.{mul-le}
+use mir.Syntax.{w64, w128}
+use Rattle.fleet_math.specs.Numbers.{IsBelow}
+use Rattle.sep_parts.specs.Separates.{least_value}
+
+-- a weight up to 4,000 times a value below 2^46 is below 2^58
+pub narrow_product : (w x : ℤ) → IsBelow 4001 w → IsBelow (2 ^ 46) x → IsBelow (2 ^ 58) (w *ℤ x)
+narrow_product w x small below =
+    let m : unsigned_abs (w *ℤ x) ≤ 4000 * (2 ^ 46) = rw (unsigned_abs-mul w x) (mul-le (unsigned_abs w) (unsigned_abs x) 4000 (2 ^ 46) (omega (arith, ints)) (omega (arith, ints))) in
+    (omega (arith, ints), omega (arith, ints))
+
+-- three such products and their sum fit
+pub narrow_sum : (x y z : ℤ) → IsBelow (2 ^ 58) x → IsBelow (2 ^ 58) y → IsBelow (2 ^ 58) z → FitsSigned w64 (x +ℤ y) × FitsSigned w64 (x +ℤ y +ℤ z)
+narrow_sum x y z p q r = (omega (arith, ints), omega (arith, ints))
+
+pub narrow_fits : (x : ℤ) → IsBelow (2 ^ 58) x → FitsSigned w64 x
+narrow_fits x below = omega (arith, ints)
+
+pub narrow_weight_fits : (x : ℤ) → IsBelow 4001 x → FitsSigned w64 x
+narrow_weight_fits x below = omega (arith, ints)
+
+pub narrow_kept : (n : ℕ) (x : ℤ) → FitsSigned w64 x → IsBelow n x → IsBelow n (to_z w64 (of_z w64 x))
+narrow_kept n x fits small = rw (to_z-of_z w64 x fits) small
+
+pub narrow_value_fits : (x : ℤ) → IsBelow (2 ^ 46) x → FitsSigned w128 x
+narrow_value_fits x below = omega (arith, ints)
+
+pub narrow_value : (x : ℤ) → IsBelow (2 ^ 46) x → FitsSigned w64 x
+narrow_value x below = omega (arith, ints)
+
+-- a threshold at the scale of a depth up to 2
+pub narrow_least : (t : ℤ) (depth : ℕ) → pos 0 ≤ℤ t → t <ℤ pos (2 ^ 30) → depth ≤ 2 → FitsSigned w64 (least_value t depth)
+narrow_least t zero some small few = omega (arith, ints)
+narrow_least t (suc zero) some small few = omega (arith, ints)
+narrow_least t (suc (suc zero)) some small few = omega (arith, ints)
+narrow_least t (suc (suc (suc depth))) some small few = absurd (omega arith)
+
+-- a comparison of a sum tells of what it is
+pub reach_told : (least sum along : ℤ) → sum ≡ along → (le_z least sum ≡ true → least ≤ℤ along) × (least ≤ℤ along → le_z least sum ≡ true)
+reach_told least sum along is = (λ yes. omega (arith, ints, yes, is), λ above. go (le_z least sum) refl above)
+  where
+    go : (b : Bool) → le_z least sum ≡ b → least ≤ℤ along → b ≡ true
+    go true e above = refl
+    go false e above = absurd (omega (arith, ints, e, is, above))

@@ -1,0 +1,25 @@
+use Rattle.std.proofs.Common.{◌≡◌, FitsSigned, rules, ◌∙◌, ap, sym, subst, ℤ, to_z, of_z}
+use Rattle.std.proofs.lemmas.Int.{to_z-of_z}
+use mir.Syntax.{w64, w128}
+use Rattle.sep_parts.specs.Separates.{least_value, weights}
+use Rattle.sep_parts.proofs.Lows.{reach_same}
+use Rattle.sep_parts.proofs.NarrowLemmas.{narrow_least}
+use Rattle.sep_parts.proofs.narrow.separates_narrow.Goals as goal
+
+pub overflow_cast-scaled : goal.overflow_cast-scaled
+overflow_cast-scaled c =
+    let threshold_fits : FitsSigned w128 c.args.threshold = c.ranges.threshold in
+    let wide_fits : FitsSigned w128 c.scaled.result = search rules in
+    let least_is : c.scaled.result ≡ least_value c.args.threshold c.args.depth = simp to_z-of_z at c.scaled.ensures in
+    subst (FitsSigned w64) (sym (to_z-of_z w128 c.scaled.result wide_fits ∙ least_is)) (narrow_least c.args.threshold c.args.depth c.requires.positive c.requires.small c.requires.depth)
+
+pub returns : goal.returns
+returns c =
+    let threshold_fits : FitsSigned w128 c.args.threshold = c.ranges.threshold in
+    let wide_fits : FitsSigned w128 c.scaled.result = search rules in
+    let least_is : c.scaled.result ≡ least_value c.args.threshold c.args.depth = simp to_z-of_z at c.scaled.ensures in
+    let least_fits : FitsSigned w64 (least_value c.args.threshold c.args.depth) = narrow_least c.args.threshold c.args.depth c.requires.positive c.requires.small c.requires.depth in
+    let same : to_z w64 (of_z w64 (to_z w128 (of_z w128 c.scaled.result))) ≡ least_value c.args.threshold c.args.depth =
+    ap (λ (z : ℤ). to_z w64 (of_z w64 z)) (to_z-of_z w128 c.scaled.result wide_fits ∙ least_is) ∙ to_z-of_z w64 (least_value c.args.threshold c.args.depth) least_fits in
+    reach_same c.args.diff.now c.narrow_weights.result (weights c.args.n c.args.r c.args.h) (to_z w64 (of_z w64 (to_z w128 (of_z w128 c.scaled.result)))) (least_value c.args.threshold c.args.depth) c.all_reach.result
+    c.narrow_weights.ensures.exact same c.all_reach.ensures

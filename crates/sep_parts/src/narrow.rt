@@ -1,0 +1,108 @@
+//! Parts of the first two halvings, in 64 bits.
+
+ghost use Rattle.std.specs.Prelude.{◌≡◌, ℕ, ◌^◌, ◌≤◌, ◌<◌, ℤ, pos, ◌*ℤ◌, ◌≤ℤ◌, ◌<ℤ◌, All, IsTrue, ◌↔◌};
+ghost use Rattle.fleet_math.specs.Numbers.{IsBelow};
+ghost use Rattle.bezier_core.specs.Along.{along_value};
+ghost use Rattle.sep_parts.specs.Directions.{AreSmall, IsAxis};
+ghost use Rattle.sep_parts.specs.Separates.{least_value, weights};
+
+use crate::part::scaled;
+use bezier_core::Bez;
+
+/// The greatest depth of a part that is judged in 64 bits.
+pub(crate) const NARROW_DEPTH: u8 = 2;
+
+/// What `separates` returns, of a part that is halved at most twice. Its control values are below 2^46, so that 64 bits hold each
+/// weighted sum.
+pub(crate) fn separates_narrow(
+    diff: &[Bez<8>; 3],
+    n: [i8; 3],
+    r: u16,
+    h: u16,
+    threshold: i128,
+    depth: u8,
+) -> bool
+    requires values { All (λ curve. All (IsBelow (2 ^ 46)) curve.b) diff.now }
+    requires entries { AreSmall n }
+    requires r { IsAxis r }
+    requires h { IsAxis h }
+    requires positive { pos 0 ≤ℤ threshold }
+    requires small { threshold <ℤ pos (2 ^ 30) }
+    requires depth { depth ≤ NARROW_DEPTH }
+    ensures { IsTrue result ↔ ((k : ℕ) → k ≤ 7 → least_value threshold depth ≤ℤ along_value diff.now (weights n r h) k) }
+{
+    all_reach(
+        diff,
+        narrow_weights(n, r, h),
+        scaled(threshold, depth) as i64,
+    )
+}
+
+// The weights of the three curves along a direction.
+fn narrow_weights(n: [i8; 3], r: u16, h: u16) -> [i64; 3]
+    requires entries { AreSmall n }
+    requires r { IsAxis r }
+    requires h { IsAxis h }
+    ensures exact { result ≡ weights n r h }
+    ensures small { All (IsBelow 4001) result }
+{
+    [
+        narrow_weight(n[0], h),
+        narrow_weight(n[1], h),
+        narrow_weight(n[2], r),
+    ]
+}
+
+// An entry times a half axis.
+fn narrow_weight(entry: i8, axis: u16) -> i64
+    requires entry { IsBelow 3 entry }
+    requires axis { IsAxis axis }
+    ensures exact { result ≡ entry *ℤ pos axis }
+    ensures small { IsBelow 4001 result }
+{
+    i64::from(entry) * i64::from(axis)
+}
+
+// The places are written out, so that each is a test of its own.
+macro_rules! each_reaches {
+    ($diff:expr, $w:expr, $least:expr; $($k:literal)*) => {
+        $(
+            if !reaches($diff, $w, $least, $k) {
+                return false;
+            }
+        )*
+    };
+}
+
+// Whether each weighted sum is at least so much, the ends of the curves first.
+fn all_reach(diff: &[Bez<8>; 3], w: [i64; 3], least: i64) -> bool
+    requires values { All (λ curve. All (IsBelow (2 ^ 46)) curve.b) diff.now }
+    requires weights { All (IsBelow 4001) w }
+    ensures { IsTrue result ↔ ((k : ℕ) → k ≤ 7 → least ≤ℤ along_value diff.now w k) }
+{
+    each_reaches!(diff, w, least; 0 7 1 2 3 4 5 6);
+    true
+}
+
+// Whether one weighted sum is at least so much.
+fn reaches(diff: &[Bez<8>; 3], w: [i64; 3], least: i64, k: usize) -> bool
+    requires place { k < 8 }
+    requires values { All (λ curve. All (IsBelow (2 ^ 46)) curve.b) diff.now }
+    requires weights { All (IsBelow 4001) w }
+    ensures { IsTrue result ↔ (least ≤ℤ along_value diff.now w k) }
+{
+    let x = weighted(w[0], diff[0].b[k]);
+    let y = weighted(w[1], diff[1].b[k]);
+    let z = weighted(w[2], diff[2].b[k]);
+    least <= x + y + z
+}
+
+// A value times a weight.
+fn weighted(weight: i64, value: i128) -> i64
+    requires weight { IsBelow 4001 weight }
+    requires value { IsBelow (2 ^ 46) value }
+    ensures product { result ≡ weight *ℤ value }
+    ensures small { IsBelow (2 ^ 58) result }
+{
+    weight * (value as i64)
+}
