@@ -22,6 +22,7 @@ use link_frames::{END_BYTE, View, whole_frame};
 use upload_core::{Event, Host, Out, Progress};
 
 // Hands a frame to the host of an upload that is going. A packet of a drone that isn't in the session is no event.
+#[inline(always)]
 fn answer(host: &mut Host, frame: View<'_>, out: &mut Out) -> Progress
     requires formed { IsFrame (frame_of frame) }
     ensures session { host.new.session ≡ host.old.session }

@@ -20,6 +20,7 @@ pub enum Next {
 }
 
 // The next frame, byte by byte.
+#[inline(never)]
 pub fn next_frame<S: Source>(parts: &mut Parts, source: &mut S) -> Result<Next, Failed>
     requires sound { IsTrue parts.old.sound }
     requires at_end { IsTrue parts.old.ended → IsAtEnd (S.left source.old) }
