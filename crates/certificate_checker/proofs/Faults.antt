@@ -3,7 +3,6 @@ use Rattle.std.proofs.Common.{◌≡◌, inl, inr, ℕ, suc, ◌+◌, ◌≤◌,
 use Rattle.std.specs.Option.{option_or}
 use Rattle.std.proofs.lemmas.Bool.Decides.{nat_tests}
 use Rattle.std.proofs.lemmas.List.Elements.{All-head, All-tail}
-use Rattle.bezier_core.specs.declared.Bez.{Bez}
 use Rattle.halving.specs.declared.Place.{Place}
 use Rattle.sep_parts.specs.declared.node.Node.{Node}
 use Rattle.sep_parts.specs.declared.node.Node.TheVariants.{Split, Leaf}
@@ -14,7 +13,7 @@ use Rattle.fleet_curves.specs.Raised.{Raised, difference}
 use Rattle.sep_parts.specs.Slots.{following}
 use Rattle.sep_parts.specs.Trees.{IsTree, Tree, preorder}
 use Rattle.sep_parts.specs.Trees.Tree.{leaf, split}
-use Rattle.sep_parts.proofs.Orders.{IsAhead, IsFrom, next_ahead}
+use Rattle.sep_parts.proofs.Orders.{IsAhead, next_ahead}
 use Rattle.sep_certificate.specs.declared.certificate.CertFault.{CertFault}
 use Rattle.sep_certificate.specs.declared.certificate.CertFault.TheVariants.{Missing, Extra}
 use Rattle.sep_certificate.specs.Certificates.{first_fault_of, node_fault, spelled_fault, tree_fault}

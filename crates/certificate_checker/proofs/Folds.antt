@@ -1,5 +1,5 @@
 -- The machine over lists: nodes, trees, the bytes of a line, lines.
-use Rattle.std.proofs.Common.{◌≡◌, ℕ, suc, ◌+◌, ◌==◌, cond, refl, List, [], ◌∷◌, ◌++◌, map, Option, None, ℤ}
+use Rattle.std.proofs.Common.{◌≡◌, ℕ, ◌==◌, cond, refl, List, [], ◌∷◌, ◌++◌, map, Option, ℤ}
 use Rattle.sep_parts.specs.declared.node.Node.{Node}
 use Rattle.sep_parts.specs.declared.rules.Rules.{Rules}
 use Rattle.fleet_curves.specs.Raised.{Raised}

@@ -1,9 +1,8 @@
 -- One line of a tree, byte by byte.
-use Rattle.std.proofs.Common.{◌≡◌, inl, inr, ℕ, zero, suc, ◌-◌, Bool, true, false, cond, ◌&&◌, ◌==◌, nat_lt, arith, refl, sym, ◌∙◌, ap, subst, List, [], ◌∷◌, map, Some, None, ℤ}
+use Rattle.std.proofs.Common.{◌≡◌, inl, inr, ℕ, zero, suc, ◌-◌, Bool, true, false, cond, ◌==◌, arith, refl, sym, ◌∙◌, ap, subst, List, [], ◌∷◌, map, Some, None}
 use Rattle.std.proofs.lemmas.Bool.Decides.{nat_tests}
 use Rattle.sep_parts.specs.declared.node.Node.{Node}
 use Rattle.sep_parts.specs.declared.node.Node.TheVariants.{Split, Leaf}
-use Rattle.sep_parts.specs.declared.rules.Rules.{Rules}
 use Rattle.fleet_curves.specs.Raised.{Raised}
 use Rattle.sep_parts.specs.Versions.{IsVersion, table_of}
 use Rattle.sep_certificate.specs.Steps.{is_spelled, is_spelled_wide, node_of_byte, wide_nodes}

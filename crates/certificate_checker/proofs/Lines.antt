@@ -1,5 +1,5 @@
 -- The machine over the lines of a text: it stops at the first faulty one, and else has judged each tree.
-use Rattle.std.proofs.Common.{◌≡◌, inl, inr, ℕ, suc, ◌+◌, ◌-◌, ◌≤◌, Bool, true, false, cond, ◌==◌, bytes_eq, arith, refl, sym, ◌∙◌, ap, subst, List, [], ◌∷◌, ◌++◌, map, slice_index, Option, Some, None, All}
+use Rattle.std.proofs.Common.{◌≡◌, inl, inr, ℕ, suc, ◌+◌, ◌-◌, ◌≤◌, Bool, true, false, cond, bytes_eq, arith, refl, sym, ◌∙◌, ap, subst, List, [], ◌∷◌, ◌++◌, map, slice_index, Some, None, All}
 use Rattle.std.proofs.lemmas.List.Elements.{All-head, All-tail}
 use Rattle.sep_parts.specs.declared.node.Node.{Node}
 use Rattle.fleet_curves.specs.Raised.{Raised}
@@ -16,7 +16,7 @@ use Rattle.sep_certificate.proofs.Spelled.{all_back}
 use Rattle.certificate_checker.specs.declared.verdict.Verdict.TheVariants.{Line}
 use Rattle.certificate_checker.specs.Checking.{Judged, Reading, DepthLine, Faulty, FirstLine, TreeLine, before_tree, depth_read, first_tree, line_read, verdict_of, with_tree}
 use Rattle.certificate_checker.proofs.Folds.{bytes_read, faulty_lines, line_at, lines_read, nodes_in, nodes_judged, trees_judged}
-use Rattle.certificate_checker.proofs.Heads.{all_kept, depth_bytes, depth_line_read, first_bytes, first_line}
+use Rattle.certificate_checker.proofs.Heads.{depth_bytes, depth_line_read, first_bytes, first_line}
 use Rattle.certificate_checker.proofs.Letters.{line_told, next_line}
 
 -- the nodes of a written line

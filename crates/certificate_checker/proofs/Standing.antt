@@ -1,6 +1,5 @@
 -- What a checker stands for after a byte more, and what its verdict says.
-use Rattle.std.proofs.Common.{◌≡◌, ℕ, ◌+◌, ◌*◌, ◌^◌, ◌≤◌, ◌<◌, arith, refl, sym, ◌∙◌, ap, subst, List, [], ◌∷◌, ◌++◌, length, length-append, Some}
-use Rattle.sep_parts.specs.Apart.{KeepsApart}
+use Rattle.std.proofs.Common.{◌≡◌, ℕ, ◌+◌, ◌≤◌, arith, refl, sym, ◌∙◌, ap, subst, List, [], ◌∷◌, ◌++◌, length, length-append}
 use Rattle.fleet_curves.specs.Raised.{Raised}
 use Rattle.sep_parts.specs.Slots.{slots}
 use Rattle.sep_parts.specs.Versions.{table_of}

@@ -1,5 +1,5 @@
-use Rattle.std.proofs.Common.{ap, false}
-use Rattle.certificate_checker.specs.Checking.{Reading, checked_all, fresh}
+use Rattle.std.proofs.Common.{ap}
+use Rattle.certificate_checker.specs.Checking.{checked_all, fresh}
 use Rattle.certificate_checker.proofs.checker.Checker.make.Goals as goal
 
 pub returns-clause-stands : goal.returns-clause-stands
