@@ -6,4 +6,4 @@ pub mod Heads
 pub mod Lines
 pub mod Texts
 pub mod Verdicts
-pub mod Standing
+pub mod Bytes

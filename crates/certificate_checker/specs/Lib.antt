@@ -1,4 +1,4 @@
 pub mod Verdicts
 pub mod Checking
 pub mod Steps
-pub mod Standing
+pub mod Bytes

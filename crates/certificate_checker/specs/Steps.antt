@@ -1,4 +1,4 @@
--- What the checker's parts stand for. Only private functions and the words of Standing.antt use it.
+-- What the checker's parts stand for. Only private functions and the words of Bytes.antt use it.
 use Rattle.std.specs.Prelude.{◌≡◌, ℕ, ◌+◌, ◌*◌, ◌^◌, ◌≤◌, ◌<◌, List, length, All, Option, Some, None}
 use Rattle.fleet_math.specs.Numbers.{IsBelow}
 use Rattle.bezier_core.specs.declared.Bez.{Bez}

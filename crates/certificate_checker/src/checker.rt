@@ -4,7 +4,7 @@ ghost use Rattle.std.specs.Prelude.{◌≡◌, ℕ, ◌+◌, ◌^◌, ◌≤◌,
 ghost use Rattle.sep_parts.specs.Directions.{IsAxis};
 ghost use Rattle.fleet_curves.specs.Raised.{Raised};
 ghost use Rattle.certificate_checker.specs.Checking.{checked, closed, verdict_of};
-ghost use Rattle.certificate_checker.specs.Standing.{IsNamed, IsSafe, StandsFor, checking_of, most_bytes};
+ghost use Rattle.certificate_checker.specs.Bytes.{NamesFault, ApartWhereValid, HasRead, checking_of, most_bytes};
 ghost use Rattle.certificate_checker.specs.Steps.{IsReader};
 ghost use Rattle.certificate_checker.specs.Verdicts.{VerdictGives};
 
@@ -27,9 +27,9 @@ pub struct Checker {
 }
 
 impl Model for Checker {
-    ghost use Rattle.certificate_checker.specs.Standing.{Held};
+    ghost use Rattle.certificate_checker.specs.Bytes.{Seen};
 
-    ghost Value = { Held };
+    ghost Value = { Seen };
 
     ghost view = { λ c. record { r = c.tables.r; h = c.tables.h; reader = c.reader; is_returned = c.returned; is_begun = c.begun } };
 }
@@ -40,7 +40,7 @@ impl Checker {
         requires r { IsAxis r }
         requires h { IsAxis h }
         ensures axes { (result.r ≡ r) × (result.h ≡ h) }
-        ensures stands { (curves : Raised) → StandsFor result curves [] }
+        ensures has_read { (curves : Raised) → HasRead result curves [] }
     {
         Checker {
             tables: Tables::make(r, h),
@@ -52,9 +52,9 @@ impl Checker {
 
     /// One byte more, of at most 400,000,000, over the same curves as in earlier calls.
     pub fn feed(&mut self, curves: &Curves, byte: u8)
-        requires { (bytes : List ℕ) × (length bytes < most_bytes) × StandsFor self.old curves.now bytes }
+        requires { (bytes : List ℕ) × (length bytes < most_bytes) × HasRead self.old curves.now bytes }
         ensures axes { (self.new.r ≡ self.old.r) × (self.new.h ≡ self.old.h) }
-        ensures stands { (bytes : List ℕ) → length bytes < most_bytes → StandsFor self.old curves.now bytes → StandsFor self.new curves.now (bytes ++ byte ∷ []) }
+        ensures has_read { (bytes : List ℕ) → length bytes < most_bytes → HasRead self.old curves.now bytes → HasRead self.new curves.now (bytes ++ byte ∷ []) }
     {
         self.step(curves, byte);
     }
@@ -65,10 +65,10 @@ impl Checker {
     /// Where it is valid, whoever made the certificate, each two different drones are apart at each instant p / q of the show, for
     /// all whole numbers p and q and for every list of trajectories that the curves stand for.
     pub fn end(&mut self, curves: &Curves) -> Verdict
-        requires { (bytes : List ℕ) × (length bytes ≤ most_bytes) × StandsFor self.old curves.now bytes }
-        ensures gives { (bytes : List ℕ) → length bytes ≤ most_bytes → StandsFor self.old curves.now bytes → VerdictGives curves.now self.old.r self.old.h bytes result }
-        ensures named { IsNamed curves.now result }
-        ensures safe { IsSafe curves.now self.old.r self.old.h result }
+        requires { (bytes : List ℕ) × (length bytes ≤ most_bytes) × HasRead self.old curves.now bytes }
+        ensures gives { (bytes : List ℕ) → length bytes ≤ most_bytes → HasRead self.old curves.now bytes → VerdictGives curves.now self.old.r self.old.h bytes result }
+        ensures named { NamesFault curves.now result }
+        ensures safe { ApartWhereValid curves.now self.old.r self.old.h result }
     {
         // a fleet has at least one drone and one cue
         let _drones = curves.drones();

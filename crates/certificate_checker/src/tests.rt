@@ -4,8 +4,7 @@
 ghost use Rattle.std.specs.Prelude.{◌≡◌, ◌≤◌, ◌∷◌, [], length, IfOk};
 ghost use Rattle.traj_codec.specs.Positions.{durations};
 ghost use Rattle.sep_parts.specs.Directions.{IsAxis};
-ghost use Rattle.fleet_curves.specs.Raised.{AreOneShow};
-ghost use Rattle.certificate_checker.specs.Standing.{most_bytes};
+ghost use Rattle.certificate_checker.specs.Bytes.{most_bytes};
 ghost use Rattle.certificate_checker.specs.Verdicts.{VerdictGives};
 
 use super::*;

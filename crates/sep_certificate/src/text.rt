@@ -20,11 +20,11 @@ use sep_parts::Node;
 use std::alloc::{AllocError, Global};
 
 /// How many bytes of text a certificate has at most.
-pub const CERTIFICATE_LIMIT: usize = 80_000_000;
+pub const CERTIFICATE_LIMIT: usize = 400_000_000;
 
 /// A law. The limit of a certificate's text (docs/SEPARATION.md, "The text of a certificate").
 pub fn limits_law()
-    ensures { CERTIFICATE_LIMIT ≡ 80000000 }
+    ensures { CERTIFICATE_LIMIT ≡ 400000000 }
 {}
 
 /// Why a text is no certificate.

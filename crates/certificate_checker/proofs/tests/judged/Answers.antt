@@ -4,5 +4,5 @@ pub loop-byte-init : goal.loop-byte-init
 loop-byte-init c = record {
   r = c.make-checker.ensures.axes.0;
   h = c.make-checker.ensures.axes.1;
-  stands = c.make-checker.ensures.stands c.args.curves.now;
+  has_read = c.make-checker.ensures.has_read c.args.curves.now;
 }

@@ -1,10 +1,10 @@
 use Rattle.std.proofs.Common.{◌≡◌, take}
-use Rattle.certificate_checker.specs.Standing.{StandsFor}
+use Rattle.certificate_checker.specs.Bytes.{HasRead}
 use Rattle.certificate_checker.proofs.tests.judged.Given as goal
 
 abbrev pub invariant-loop-byte : goal.invariant-loop-byte
 invariant-loop-byte l = record {
   r : l.checker.r ≡ l.r;
   h : l.checker.h ≡ l.h;
-  stands : StandsFor l.checker l.curves (take l.byte-index l.text);
+  has_read : HasRead l.checker l.curves (take l.byte-index l.text);
 }

@@ -11,7 +11,7 @@ invariant-loop-rest l = record {
   lines_are : lines l.text ≡ depth_line l.depth ∷ (map (tree_line l.version) l.trees.items ++ lines l.rest);
   bad : bad_from l.version l.number (lines l.text) ≡ bad_tree l.version l.line (lines l.rest);
   number : l.line ≡ length l.trees.items + l.number + 1;
-  few : length l.trees.items + length l.rest ≤ 80000000;
+  few : length l.trees.items + length l.rest ≤ 400000000;
   trees : All IsTree l.trees.items;
   leaves : All (All (IsKnown (known_in l.version))) l.trees.items;
 }

@@ -1,10 +1,10 @@
 use Rattle.std.proofs.Common.{arith}
-use Rattle.certificate_checker.proofs.Standing.{named_told, safe_told, verdict_told}
+use Rattle.certificate_checker.proofs.Bytes.{named_told, safe_told, verdict_told}
 use Rattle.certificate_checker.proofs.checker.Checker.end.Goals as goal
 
 pub returns-clause-gives : goal.returns-clause-gives
-returns-clause-gives c = λ bytes short stands.
-    verdict_told c.args.self.now c.args.curves.now bytes c.close.result (omega arith) (omega arith) short stands c.close.ensures
+returns-clause-gives c = λ bytes short has_read.
+    verdict_told c.args.self.now c.args.curves.now bytes c.close.result (omega arith) (omega arith) short has_read c.close.ensures
 
 pub returns-clause-named : goal.returns-clause-named
 returns-clause-named c =
