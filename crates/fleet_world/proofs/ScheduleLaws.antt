@@ -5,7 +5,6 @@ use Rattle.std.proofs.lemmas.List.{append_assoc}
 use Rattle.std.specs.Prelude.{nat_le, min, option_map}
 use Rattle.text_lines.specs.declared.number.TheConstants.{LARGE}
 use Rattle.text_lines.specs.Numbers.{is_digit, digits_after, natural_of}
-use Rattle.upload_model.specs.declared.events.WorldEvent.{WorldEvent}
 use Rattle.fleet_world.specs.Schedules.{counted_from_0, number_of, put_event}
 
 -- x times ten to the k
@@ -73,16 +72,16 @@ number_of-read w n l is some =
     ∙ ap counted_from_0 is ∙ ap (λ (b : Bool). cond b None (Some (n - 1))) (ne_eqb n 0 some))
 
 -- these events in front of what is read of the lines behind them
-abbrev pub behind : List WorldEvent → Result (List WorldEvent) ℕ → Result (List WorldEvent) ℕ
+abbrev pub behind : {E : Type 0} → List E → Result (List E) ℕ → Result (List E) ℕ
 behind events (Ok later) = Ok (events ++ later)
 behind events (Err faulty) = Err faulty
 
-pub behind-nothing : (later : Result (List WorldEvent) ℕ) → behind [] later ≡ later
-behind-nothing (Ok later) = refl
-behind-nothing (Err faulty) = refl
+pub behind-nothing : {E : Type 0} (later : Result (List E) ℕ) → behind [] later ≡ later
+behind-nothing {E} (Ok later) = refl
+behind-nothing {E} (Err faulty) = refl
 
 -- one event more
-pub behind-more : (events : List WorldEvent) (event : WorldEvent) (number : ℕ) (later : Result (List WorldEvent) ℕ) →
+pub behind-more : {E : Type 0} (events : List E) (event : E) (number : ℕ) (later : Result (List E) ℕ) →
     behind (events ++ event ∷ []) later ≡ behind events (put_event number (Some event) later)
-behind-more events event number (Ok later) = ap {B = Result (List WorldEvent) ℕ} (λ (es : List WorldEvent). Ok es) (append_assoc events (event ∷ []) later)
-behind-more events event number (Err faulty) = refl
+behind-more {E} events event number (Ok later) = ap {B = Result (List E) ℕ} (λ (es : List E). Ok es) (append_assoc events (event ∷ []) later)
+behind-more {E} events event number (Err faulty) = refl

@@ -43,15 +43,19 @@ event_of names words =
     else None)
 
 -- A line's event in front of those of the lines behind it; or the line, where it is faulty.
-abbrev pub put_event : ℕ → Option WorldEvent → Result (List WorldEvent) ℕ → Result (List WorldEvent) ℕ
+abbrev pub put_event : {E : Type 0} → ℕ → Option E → Result (List E) ℕ → Result (List E) ℕ
 put_event number None later = Err number
 put_event number (Some event) (Ok events) = Ok (event ∷ events)
 put_event number (Some event) (Err faulty) = Err faulty
 
+-- The events of these lines, from the event of each line's words, or the number of the first faulty one.
+abbrev pub events_by : {E : Type 0} → (List (List ℕ) → Option E) → List Line → Result (List E) ℕ
+events_by read [] = Ok []
+events_by read (line ∷ lines) = put_event line.number (read line.words) (events_by read lines)
+
 -- The events of these lines, or the number of the first faulty one.
 abbrev pub events_of : List (List ℕ) → List Line → Result (List WorldEvent) ℕ
-events_of names [] = Ok []
-events_of names (line ∷ lines) = put_event line.number (event_of names line.words) (events_of names lines)
+events_of names lines = events_by (λ words. event_of names words) lines
 
 -- What a schedule text says over drones with these names: the events of its lines with words in order,
 -- or the number of the first faulty line. A `#` is a byte like others.

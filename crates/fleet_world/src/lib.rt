@@ -16,7 +16,9 @@ mod world;
 
 ghost use Rattle.upload_model.specs.Theorem.{UploadLaw, StartLaw, UnstartedLaw, LastingLaw};
 
-pub use schedule::{MOST_TEXT, Name, ScheduleFault, limits_law, read_schedule, read_schedule_of};
+pub use schedule::{
+    MOST_TEXT, Name, ScheduleFault, drone_of, event_on, limits_law, read_schedule, read_schedule_of,
+};
 pub use upload_model::WorldEvent;
 pub use world::World;
 

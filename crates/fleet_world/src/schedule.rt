@@ -58,8 +58,8 @@ fn number_of(word: &[u8]) -> Option<u32>
     }
 }
 
-/// The drone of this name, counted from 0.
-fn drone_of(names: &[Name], word: &[u8]) -> Option<u8>
+/// The drone of this name, counted from 0: the first place among the names, where it is there.
+pub fn drone_of(names: &[Name], word: &[u8]) -> Option<u8>
     requires { length names.now ≤ MOST_DRONES }
     ensures { result ≡ place_from 0 (map (λ name. name.items) names.now) word.now }
 {
@@ -86,8 +86,9 @@ fn named_event(kind: &[u8], drone: Option<u8>, n: Option<u32>) -> Option<WorldEv
     None
 }
 
-/// The event of a line with these words.
-fn event_on(text: &[u8], names: &[Name], words: &[Token]) -> Option<WorldEvent>
+/// The event of a line with these words, where it is `tick`, or `take` or `hear` with a name and a number
+/// (docs/RADIO.md, "Schedules").
+pub fn event_on(text: &[u8], names: &[Name], words: &[Token]) -> Option<WorldEvent>
     requires { length names.now ≤ MOST_DRONES }
     ensures { result ≡ event_of (map (λ name. name.items) names.now) (words_in text.now words.now) }
 {

@@ -35,7 +35,7 @@ includes-after f a (suc n) x h =
     (includes-sent_to a (f a) x ∙ and_left (eqb a x.drone) (list_any (λ j. j == x.packet) (f a)) (ne_eqb a x.drone (omega arith)))
     ∙ includes-after f (a + 1) n x (omega arith)
 
-includes-rows : (f : ℕ → List ℕ) (a n : ℕ) (x : Sent) → a ≤ x.drone → x.drone < a + n →
+pub includes-rows : (f : ℕ → List ℕ) (a n : ℕ) (x : Sent) → a ≤ x.drone → x.drone < a + n →
     includes (flat_map (λ d. sent_to d (f d)) (range_with_len a n)) x ≡ list_any (λ j. j == x.packet) (f x.drone)
 includes-rows f a zero x l h = absurd (omega arith)
 includes-rows f a (suc n) x l h =

@@ -1,0 +1,87 @@
+-- Why `act` keeps its contract, at the places where the check needs to be told.
+use Rattle.std.proofs.Common.{◌≡◌, ◌∙◌, ◌<◌, ◌≤◌, ℕ, List, Some, None, ap, sym, subst, arith}
+use Rattle.std.specs.Prelude.{slice_get}
+use Rattle.upload_model.specs.declared.events.Event.TheVariants as event
+use Rattle.upload_model.specs.Sessions.{drone_count}
+use Rattle.upload_model.specs.Worlds as Worlds
+use Rattle.readback_model.specs.CarefulWorlds.{careful_hears, careful_happens}
+use Rattle.readback_core.specs.CarefulWorldState.{CarefulWorldState, CarefulWorldStandsAt, Readback}
+use Rattle.readback_core.specs.Mail.{row_of, rows_of, Row}
+use Rattle.readback_core.proofs.Points.{take-unknown, hear-unknown, take-named, hear-named, tick-happens, on_ok, alter-nothing, alter-there}
+use Rattle.std.proofs.Common.{inl, inr}
+use Rattle.readback_core.proofs.world.CarefulWorld.act.Goals as goal
+use Rattle.readback_core.proofs.world.CarefulWorld.act.Goals.{then-drone-drones-3-via-then-drone-drones-3, then-drone-drones-3-via-else-drone-drones-3+then-address-ge-MEMORY_BYTES}
+
+pub returns-then-drone-drones-clause-stands : goal.returns-then-drone-drones-clause-stands
+returns-then-drone-drones-clause-stands c s w at =
+    let number : c.drones.result ≡ drone_count s.session = c.drones.ensures.value ∙ ap drone_count (c.session.ensures ∙ ap (λ (v : CarefulWorldState). v.careful.host.session) c.self.view_is ∙ at.session) in
+    let past : drone_count s.session ≤ c.in-Hear.drone = omega arith in
+    subst (CarefulWorldStandsAt c.args.self.now s) (sym (ap (careful_happens s.session s.starts w) c.in-Hear.is ∙ hear-unknown s w c.in-Hear.drone c.in-Hear.n past)) at
+
+pub returns-then-drone-drones-2-clause-stands : goal.returns-then-drone-drones-2-clause-stands
+returns-then-drone-drones-2-clause-stands c s w at =
+    let number : c.drones-in-Take.result ≡ drone_count s.session = c.drones-in-Take.ensures.value ∙ ap drone_count (c.session-in-Take.ensures ∙ ap (λ (v : CarefulWorldState). v.careful.host.session) c.self-in-Take.view_is ∙ at.session) in
+    let past : drone_count s.session ≤ c.in-Take.drone = omega arith in
+    subst (CarefulWorldStandsAt c.args.self.now s) (sym (ap (careful_happens s.session s.starts w) c.in-Take.is ∙ take-unknown s w c.in-Take.drone c.in-Take.n past)) at
+
+pub returns-in-None-named-clause-stands : goal.returns-in-None-named-clause-stands
+returns-in-None-named-clause-stands c s w at =
+    let number : c.drones-in-Take.result ≡ drone_count s.session = c.drones-in-Take.ensures.value ∙ ap drone_count (c.session-in-Take.ensures ∙ ap (λ (v : CarefulWorldState). v.careful.host.session) c.self-in-Take.view_is ∙ at.session) in
+    let l : c.in-Take.drone < drone_count s.session = omega arith in
+    let is : slice_get (w.sent c.in-Take.drone) c.in-Take.n ≡ None = sym (ap (λ (ps : List (List ℕ)). slice_get ps c.in-Take.n) (ap (λ (xs : List Row). row_of (rows_of xs) c.in-Take.drone) c.as_slice-in-Take.ensures.value ∙ ap (λ (v : CarefulWorldState). row_of v.sent c.in-Take.drone) c.self-in-Take.view_is ∙ at.sent c.in-Take.drone l)) ∙ sym c.in-None-named.ensures in
+    subst (CarefulWorldStandsAt c.args.self.now s) (sym (ap (careful_happens s.session s.starts w) c.in-Take.is ∙ take-named s w c.in-Take.drone c.in-Take.n None l is)) at
+
+pub returns-in-None-clause-stands : goal.returns-in-None-clause-stands
+returns-in-None-clause-stands c s w at =
+    let number : c.drones.result ≡ drone_count s.session = c.drones.ensures.value ∙ ap drone_count (c.session.ensures ∙ ap (λ (v : CarefulWorldState). v.careful.host.session) c.self.view_is ∙ at.session) in
+    let l : c.in-Hear.drone < drone_count s.session = omega arith in
+    let is : slice_get (w.given c.in-Hear.drone) c.in-Hear.n ≡ None = sym (ap (λ (ps : List (List ℕ)). slice_get ps c.in-Hear.n) (ap (λ (xs : List Row). row_of (rows_of xs) c.in-Hear.drone) c.as_slice.ensures.value ∙ ap (λ (v : CarefulWorldState). row_of v.given c.in-Hear.drone) c.self.view_is ∙ at.given c.in-Hear.drone l)) ∙ sym c.in-None.ensures in
+    subst (CarefulWorldStandsAt c.args.self.now s) (sym (ap (careful_happens s.session s.starts w) c.in-Hear.is ∙ hear-named s w c.in-Hear.drone c.in-Hear.n None l is)) at
+
+pub returns-in-Tick-clause-stands : goal.returns-in-Tick-clause-stands
+returns-in-Tick-clause-stands c =
+    on_ok c.happen.result
+    ((s : Readback) (w : Worlds.World) → CarefulWorldStandsAt c.args.self.now s w → CarefulWorldStandsAt c.happen.new.self s (careful_hears s.session s.starts w event.Tick))
+    ((s : Readback) (w : Worlds.World) → CarefulWorldStandsAt c.args.self.now s w → CarefulWorldStandsAt c.happen.new.self s (careful_happens s.session s.starts w c.args.e))
+    c.happen.ensures.stands
+    (λ f s w at. subst (CarefulWorldStandsAt c.happen.new.self s) (sym (ap (careful_happens s.session s.starts w) c.in-Tick.is ∙ tick-happens s w)) (f s w at))
+
+pub returns-in-Some-clause-stands : goal.returns-in-Some-clause-stands
+returns-in-Some-clause-stands c =
+    on_ok c.happen-in-Some.result
+    ((s : Readback) (w : Worlds.World) → CarefulWorldStandsAt c.args.self.now s w → CarefulWorldStandsAt c.happen-in-Some.new.self s (careful_hears s.session s.starts w (event.Up c.in-Hear.drone c.in-Some.packet)))
+    ((s : Readback) (w : Worlds.World) → CarefulWorldStandsAt c.args.self.now s w → CarefulWorldStandsAt c.happen-in-Some.new.self s (careful_happens s.session s.starts w c.args.e))
+    c.happen-in-Some.ensures.stands
+    (λ f s w at.
+    let number : c.drones.result ≡ drone_count s.session = c.drones.ensures.value ∙ ap drone_count (c.session.ensures ∙ ap (λ (v : CarefulWorldState). v.careful.host.session) c.self.view_is ∙ at.session) in
+    let l : c.in-Hear.drone < drone_count s.session = omega arith in
+    let is : slice_get (w.given c.in-Hear.drone) c.in-Hear.n ≡ Some c.in-Some.packet = sym (ap (λ (ps : List (List ℕ)). slice_get ps c.in-Hear.n) (ap (λ (xs : List Row). row_of (rows_of xs) c.in-Hear.drone) c.as_slice.ensures.value ∙ ap (λ (v : CarefulWorldState). row_of v.given c.in-Hear.drone) c.self.view_is ∙ at.given c.in-Hear.drone l)) ∙ sym c.in-Some.ensures in
+    subst (CarefulWorldStandsAt c.happen-in-Some.new.self s) (sym (ap (careful_happens s.session s.starts w) c.in-Hear.is ∙ hear-named s w c.in-Hear.drone c.in-Hear.n (Some c.in-Some.packet) l is)) (f s w at))
+
+pub returns-in_ok-take-in-Take-clause-stands : goal.returns-in_ok-take-in-Take-clause-stands
+returns-in_ok-take-in-Take-clause-stands c s w at =
+    let number : c.drones-in-Take.result ≡ drone_count s.session = c.drones-in-Take.ensures.value ∙ ap drone_count (c.session-in-Take.ensures ∙ ap (λ (v : CarefulWorldState). v.careful.host.session) c.self-in-Take.view_is ∙ at.session) in
+    let l : c.in-Take.drone < drone_count s.session = omega arith in
+    let is : slice_get (w.sent c.in-Take.drone) c.in-Take.n ≡ Some c.in-Some-named.packet = sym (ap (λ (ps : List (List ℕ)). slice_get ps c.in-Take.n) (ap (λ (xs : List Row). row_of (rows_of xs) c.in-Take.drone) c.as_slice-in-Take.ensures.value ∙ ap (λ (v : CarefulWorldState). row_of v.sent c.in-Take.drone) c.self-in-Take.view_is ∙ at.sent c.in-Take.drone l)) ∙ sym c.in-Some-named.ensures in
+    subst (CarefulWorldStandsAt c.take.new.self s) (sym (ap (careful_happens s.session s.starts w) c.in-Take.is ∙ take-named s w c.in-Take.drone c.in-Take.n (Some c.in-Some-named.packet) l is))
+    (c.in_ok-take-in-Take.ensures.stands s w at)
+
+pub returns-then-drone-drones-3-clause-stands : goal.returns-then-drone-drones-3-clause-stands
+returns-then-drone-drones-3-clause-stands c s w at =
+    let number : c.drones-in-Alter.result ≡ drone_count s.session = c.drones-in-Alter.ensures.value ∙ ap drone_count (c.session-in-Alter.ensures ∙ ap (λ (v : CarefulWorldState). v.careful.host.session) c.self-in-Alter.view_is ∙ at.session) in
+    elim c.then-drone-drones-3.branch [
+      | then-drone-drones-3-via-then-drone-drones-3 u ↦
+          let past : drone_count s.session ≤ c.in-Alter.drone = let h = u.if-drone-drones-3.true in omega arith in
+          subst (CarefulWorldStandsAt c.args.self.now s) (sym (ap (careful_happens s.session s.starts w) c.in-Alter.is ∙ alter-nothing s w c.in-Alter.drone c.in-Alter.address c.in-Alter.value (inl past))) at
+      | then-drone-drones-3-via-else-drone-drones-3+then-address-ge-MEMORY_BYTES u ↦
+          let past : 4096 ≤ c.in-Alter.address = let h = u.if-address-ge-MEMORY_BYTES.true in omega arith in
+          subst (CarefulWorldStandsAt c.args.self.now s) (sym (ap (careful_happens s.session s.starts w) c.in-Alter.is ∙ alter-nothing s w c.in-Alter.drone c.in-Alter.address c.in-Alter.value (inr past))) at
+    ]
+
+pub returns-else-address-ge-MEMORY_BYTES-clause-stands : goal.returns-else-address-ge-MEMORY_BYTES-clause-stands
+returns-else-address-ge-MEMORY_BYTES-clause-stands c s w at =
+    let number : c.drones-in-Alter.result ≡ drone_count s.session = c.drones-in-Alter.ensures.value ∙ ap drone_count (c.session-in-Alter.ensures ∙ ap (λ (v : CarefulWorldState). v.careful.host.session) c.self-in-Alter.view_is ∙ at.session) in
+    let l : c.in-Alter.drone < drone_count s.session = let h = c.if-drone-drones-3.false in omega arith in
+    let b : c.in-Alter.address < 4096 = let h = c.if-address-ge-MEMORY_BYTES.false in omega arith in
+    subst (CarefulWorldStandsAt c.alter.new.self s) (sym (ap (careful_happens s.session s.starts w) c.in-Alter.is ∙ alter-there s w c.in-Alter.drone c.in-Alter.address c.in-Alter.value l b))
+    (c.alter.ensures.stands s w at)
