@@ -34,11 +34,11 @@ agree-event s v w e a = record {
   given = a.given;
 }
 
-changed-same : {A : Type 0} (b : Bool) (x y p q : A) → x ≡ y → p ≡ q → cond b x p ≡ cond b y q
+pub changed-same : {A : Type 0} (b : Bool) (x y p q : A) → x ≡ y → p ≡ q → cond b x p ≡ cond b y q
 changed-same true x y p q first second = first
 changed-same false x y p q first second = second
 
-agree-take : (s : Upload) (v w : Worlds.World) (d : ℕ) (packet : Option (List ℕ)) → d < drone_count s → Agree s v w → Agree s (take_named v d packet) (take_named w d packet)
+pub agree-take : (s : Upload) (v w : Worlds.World) (d : ℕ) (packet : Option (List ℕ)) → d < drone_count s → Agree s v w → Agree s (take_named v d packet) (take_named w d packet)
 agree-take s v w d None below a = a
 agree-take s v w d (Some packet) below a =
     let same : handled (v.drones d) packet ≡ handled (w.drones d) packet = ap (λ (x : DroneState). handled x packet) (a.drones d below) in
@@ -89,7 +89,7 @@ agree-stands x s v w a at = record {
 }
 
 -- one of a list of blank drones
-blank-at : (s : Upload) (drones : List Drone) (d : ℕ) → All (λ (x : Drone). shown x ≡ blank_drone s) drones → d < length drones → state_at drones d ≡ blank_drone s
+pub blank-at : (s : Upload) (drones : List Drone) (d : ℕ) → All (λ (x : Drone). shown x ≡ blank_drone s) drones → d < length drones → state_at drones d ≡ blank_drone s
 blank-at s [] d blank below = absurd (omega arith)
 blank-at s (x ∷ drones) zero blank below = All-head (λ (y : Drone). shown y ≡ blank_drone s) x drones blank
 blank-at s (x ∷ drones) (suc d) blank below = blank-at s drones d (All-tail (λ (y : Drone). shown y ≡ blank_drone s) x drones blank) (omega arith)

@@ -7,10 +7,12 @@ use Rattle.upload_model.proofs.HostSteps.{range-more}
 use Rattle.upload_model.specs.declared.loads.Def.{Def}
 use Rattle.upload_model.specs.Drones.{DroneState}
 use Rattle.traj_codec.specs.declared.traj.Traj.{Traj}
-use Rattle.memory_curves.specs.Decoded.{DecodesTo}
+use Rattle.std.specs.Prelude.{IfSome, IfNone}
+use Rattle.std.specs.Fmt.{signed_decimal}
+use Rattle.memory_curves.specs.Decoded.{DecodesTo, last_value}
 use Rattle.fleet_io.specs.Words.{is_line_empty, hex_word, IsWord}
 use Rattle.fleet_io.proofs.WordLaws.{is_line_empty-append, hex_is_word, fresh_after_line}
-use Rattle.rehearsal.specs.Texts.{address_word, memory_line, memory_lines, entry_line, entry_lines, drone_text, AreTexts}
+use Rattle.rehearsal.specs.Texts.{address_word, memory_line, memory_lines, entry_line, entry_lines, ending_line, drone_text, AreTexts, IsFound}
 
 -- an address is a word
 pub address_is_word : (address : ℕ) → IsWord (address_word address)
@@ -82,25 +84,35 @@ place-below (x ∷ table) zero o is = omega arith
 place-below (x ∷ table) (suc id) o is = omega (arith, place-below table id o is)
 
 -- one drone more
-pub texts-push : (drones : ℕ → DroneState) (id n m : ℕ) (names : List (List ℕ)) (said : List ℕ) (name : List ℕ) (t : Traj) → n + length names ≡ m →
-    AreTexts drones id n names said → DecodesTo (drones m) id t → AreTexts drones id n (names ++ name ∷ []) (said ++ drone_text name (drones m) t)
-texts-push drones id n m [] said name t here are decodes =
+pub texts-push : (Decodes : DroneState → Option Traj → Type 0) (drones : ℕ → DroneState) (n m : ℕ) (names : List (List ℕ)) (said : List ℕ) (name : List ℕ) (o : Option Traj) → n + length names ≡ m →
+    AreTexts Decodes drones n names said → Decodes (drones m) o → AreTexts Decodes drones n (names ++ name ∷ []) (said ++ drone_text name (drones m) o)
+texts-push Decodes drones n m [] said name o here are decodes =
     let same : n ≡ m = omega arith in
-    (t, [], rw same decodes, refl, rw (are, same) (sym (append-nil (drone_text name (drones m) t))))
-texts-push drones id n m (x ∷ names) said name t here are decodes =
-    let later = texts-push drones id (suc n) m names are.1 name t (omega arith) are.3 decodes in (
+    (o, [], rw same decodes, refl, rw (are, same) (sym (append-nil (drone_text name (drones m) o))))
+texts-push Decodes drones n m (x ∷ names) said name o here are decodes =
+    let later = texts-push Decodes drones (suc n) m names are.1 name o (omega arith) are.3 decodes in (
       are.0,
-      are.1 ++ drone_text name (drones m) t,
+      are.1 ++ drone_text name (drones m) o,
       are.2,
       later,
-      ap (λ (xs : List ℕ). xs ++ drone_text name (drones m) t) are.4 ∙ append_assoc (drone_text x (drones n) are.0) are.1 (drone_text name (drones m) t),
+      ap (λ (xs : List ℕ). xs ++ drone_text name (drones m) o) are.4 ∙ append_assoc (drone_text x (drones n) are.0) are.1 (drone_text name (drones m) o),
     )
 
 -- the text of the first drones, and of one more
-pub texts-next : {N : Type 0} (f : N → List ℕ) (names : List N) (n0 : N) (drones : ℕ → DroneState) (id d : ℕ) (said name : List ℕ) (t : Traj) → d < length names → name ≡ f (get_or names d n0) →
-    AreTexts drones id 0 (map f (take d names)) said → DecodesTo (drones d) id t → AreTexts drones id 0 (map f (take (d + 1) names)) (said ++ drone_text name (drones d) t)
-texts-next f names n0 drones id d said name t below is are decodes =
+pub texts-next : {N : Type 0} (Decodes : DroneState → Option Traj → Type 0) (f : N → List ℕ) (names : List N) (n0 : N) (drones : ℕ → DroneState) (d : ℕ) (said name : List ℕ) (o : Option Traj) → d < length names → name ≡ f (get_or names d n0) →
+    AreTexts Decodes drones 0 (map f (take d names)) said → Decodes (drones d) o → AreTexts Decodes drones 0 (map f (take (d + 1) names)) (said ++ drone_text name (drones d) o)
+texts-next Decodes f names n0 drones d said name o below is are decodes =
     let more : map f (take (d + 1) names) ≡ map f (take d names) ++ name ∷ [] =
     ap (map f) (take_at_read names d n0 below).1 ∙ map-append f (take d names) (get_or names d n0 ∷ []) ∙ ap (λ (n : List ℕ). map f (take d names) ++ n ∷ []) (sym is) in
     let many : length (map f (take d names)) ≡ d = omega (arith, length-map (take d names) f, length-take d names) in
-    rw more (texts-push drones id 0 d (map f (take d names)) said name t (omega arith) are decodes)
+    rw more (texts-push Decodes drones 0 d (map f (take d names)) said name o (omega arith) are decodes)
+
+-- after how a trajectory ends the last line is empty
+pub ending-fresh : (text : List ℕ) (o : Option Traj) → is_line_empty (text ++ ending_line o) ≡ true
+ending-fresh text None = fresh_after_line text (codes "ends") (codes "none" ∷ [])
+ending-fresh text (Some t) = fresh_after_line text (codes "ends") (map (λ axis. signed_decimal (last_value t axis)) (0 ∷ 1 ∷ 2 ∷ 3 ∷ []))
+
+-- what is found of a memory, or that none is
+pub found-is : (id : ℕ) (x : DroneState) (o : Option Traj) → IfSome o (λ t. DecodesTo x id t) → IfNone o ((t : Traj) → DecodesTo x id t → ⊥) → IsFound id x o
+found-is id x None some none = none
+found-is id x (Some t) some none = some

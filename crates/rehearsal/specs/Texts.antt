@@ -53,20 +53,42 @@ started_line started = line (codes "started") (started_word started ∷ [])
 abbrev pub ends_line : Traj → List ℕ
 ends_line t = line (codes "ends") (map (λ axis. signed_decimal (last_value t axis)) (0 ∷ 1 ∷ 2 ∷ 3 ∷ []))
 
--- What is said of a drone of this name, under whose id its memory decodes to this trajectory.
-abbrev pub drone_text : List ℕ → DroneState → Traj → List ℕ
-drone_text name drone t =
+-- with which values the trajectory ends to which a memory decodes, if it decodes to one
+abbrev pub ending_line : Option Traj → List ℕ
+ending_line None = line (codes "ends") (codes "none" ∷ [])
+ending_line (Some t) = ends_line t
+
+-- What is said of a drone of this name, whose memory decodes to this trajectory, if to one.
+abbrev pub drone_text : List ℕ → DroneState → Option Traj → List ℕ
+drone_text name drone found =
     name_line name ++ (memory_lines drone.memory
-    ++ (entry_lines 0 drone.table ++ (started_line drone.started ++ ends_line t)))
+    ++ (entry_lines 0 drone.table ++ (started_line drone.started ++ ending_line found)))
 
--- What is said of drones of these names, the first of which has number d, where their memories decode to some
--- trajectories.
-abbrev pub AreTexts : (ℕ → DroneState) → ℕ → ℕ → List (List ℕ) → List ℕ → Type 0
-AreTexts drones id d [] text = text ≡ []
-AreTexts drones id d (name ∷ names) text =
-    (t : Traj) × (rest : List ℕ) × DecodesTo (drones d) id t × AreTexts drones id (suc d) names rest
-    × (text ≡ drone_text name (drones d) t ++ rest)
+-- The memory decodes to this trajectory under the id; it decodes to one.
+abbrev pub IsDecoded : ℕ → DroneState → Option Traj → Type 0
+IsDecoded id drone (Some t) = DecodesTo drone id t
+IsDecoded id drone None = ⊥
 
--- the text of a rehearsal that is done
+-- The memory decodes to this trajectory under the id, or to none.
+abbrev pub IsFound : ℕ → DroneState → Option Traj → Type 0
+IsFound id drone (Some t) = DecodesTo drone id t
+IsFound id drone None = (t : Traj) → DecodesTo drone id t → ⊥
+
+-- What is said of drones of these names, the first of which has number d, where each memory decodes so.
+abbrev pub AreTexts : (DroneState → Option Traj → Type 0) → (ℕ → DroneState) → ℕ → List (List ℕ) → List ℕ → Type 0
+AreTexts Decodes drones d [] text = text ≡ []
+AreTexts Decodes drones d (name ∷ names) text =
+    (found : Option Traj) × (rest : List ℕ) × Decodes (drones d) found × AreTexts Decodes drones (suc d) names rest
+    × (text ≡ drone_text name (drones d) found ++ rest)
+
+-- the first line, and what is said of the drones
+abbrev pub IsTextBy : (DroneState → Option Traj → Type 0) → (ℕ → DroneState) → List (List ℕ) → List ℕ → Type 0
+IsTextBy Decodes drones names text = (rest : List ℕ) × AreTexts Decodes drones 0 names rest × (text ≡ title_line ++ rest)
+
+-- the text of a rehearsal that is done: each memory decodes to some trajectory
 abbrev pub IsRehearsalText : (ℕ → DroneState) → ℕ → List (List ℕ) → List ℕ → Type 0
-IsRehearsalText drones id names text = (rest : List ℕ) × AreTexts drones id 0 names rest × (text ≡ title_line ++ rest)
+IsRehearsalText drones id names text = IsTextBy (IsDecoded id) drones names text
+
+-- the text of a rehearsal with read-back that is done: a memory that was altered may decode to none
+abbrev pub IsCarefulText : (ℕ → DroneState) → ℕ → List (List ℕ) → List ℕ → Type 0
+IsCarefulText drones id names text = IsTextBy (IsFound id) drones names text

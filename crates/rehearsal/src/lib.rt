@@ -12,5 +12,5 @@ mod blank;
 mod tests;
 mod text;
 
-pub use blank::rehearse;
-pub use text::memory_text;
+pub use blank::{rehearse, rehearse_carefully};
+pub use text::{careful_text, memory_text};

@@ -1,5 +1,5 @@
 //! A path of two writes, rehearsed, with the text of docs/COMMANDS.md, or put together by hand from it.
-ghost use Rattle.std.specs.Prelude.{◌≡◌, ◌≤◌, length, IfOk};
+ghost use Rattle.std.specs.Prelude.{◌≡◌, ◌≤◌, false, length, IfOk};
 ghost use Rattle.fleet_io.specs.Words.{IsWord};
 ghost use Rattle.upload_model.specs.Sessions.{drone_count};
 
@@ -7,6 +7,7 @@ use super::*;
 use fleet_io::Lines;
 use fleet_world::{Name, World, WorldEvent};
 use memory_curves::curve_of;
+use readback_core::{CarefulEvent, CarefulProgress};
 use std::alloc::{AllocError, Global};
 use std::test::Fail;
 use upload_core::{Listed, Load, Progress, Session, Settings};
@@ -119,5 +120,82 @@ fn before_any_event(rt: HostRuntime) -> Result<(), Fail> {
     assert!(rt; drone.defs.iter().all(|def| def.is_none()));
     assert!(rt; drone.started.is_none());
     assert!(rt; text_of(alloc, &world, solo_name())?.is_none());
+    Ok(())
+}
+
+// The path for one drone, without a start.
+fn solo_plain(alloc: Global) -> Result<Session, AllocError>
+    ensures count { IfOk result (λ s. drone_count s ≡ 1) }
+    ensures plain { IfOk result (λ s. s.start ≡ false) }
+{
+    let mut loads = Vec::new(alloc);
+    loads.push(Load {
+        bytes: Listed::from_vec(PATH.to_vec(alloc)?),
+        pieces: 1,
+    })?;
+    let settings = Settings {
+        memory_id: 7,
+        offset: 0,
+        trajectory_id: 0,
+    };
+    Ok(Session::of_loads(settings, loads, false))
+}
+
+fn take(n: u32) -> CarefulEvent {
+    CarefulEvent::Take { drone: 0, n }
+}
+
+fn hear(n: u32) -> CarefulEvent {
+    CarefulEvent::Hear { drone: 0, n }
+}
+
+fn alter(address: u16, value: u8) -> CarefulEvent {
+    CarefulEvent::Alter {
+        drone: 0,
+        address,
+        value,
+    }
+}
+
+// Whether a rehearsal with read-back is done, in which two events follow the answers to all reads, and its text ends so.
+fn ends_with(alloc: Global, last: [CarefulEvent; 2], end: &[u8]) -> Result<bool, AllocError> {
+    let events = [
+        take(0),
+        take(1),
+        hear(0),
+        hear(1),
+        take(2),
+        hear(2),
+        take(3),
+        take(4),
+        hear(3),
+        hear(4),
+        last[0],
+        last[1],
+    ];
+    let world = rehearse_carefully(alloc, solo_plain(alloc)?, false, &events)?;
+    let text = careful_text(alloc, &world, &[solo_name()], 0)?;
+    Ok(world.progress() == CarefulProgress::Done && text.bytes().ends_with(end))
+}
+
+#[test]
+fn memories_are_altered_after_the_reads(rt: HostRuntime) -> Result<(), Fail> {
+    let rows: [([CarefulEvent; 2], &[u8]); 3] = [
+        // A byte that is set to what it is.
+        (
+            [alter(4095, 0xFF), CarefulEvent::Tick],
+            b"started none\nends 1000 0 1000 0\n",
+        ),
+        // The second byte of the start on y.
+        (
+            [alter(3, 7), CarefulEvent::Tick],
+            b"started none\nends 1000 1792 1000 0\n",
+        ),
+        // A segment of no milliseconds.
+        ([alter(9, 0), alter(10, 0)], b"started none\nends none\n"),
+    ];
+    for (last, end) in rows {
+        assert!(rt; ends_with(rt.alloc(), last, end)?);
+    }
     Ok(())
 }

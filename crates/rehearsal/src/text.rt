@@ -1,6 +1,6 @@
 //! The text of what drones hold.
 
-ghost use Rattle.std.specs.Prelude.{◌≡◌, ℕ, ◌+◌, ◌*◌, ◌<◌, ◌≤◌, true, [], ◌∷◌, ◌++◌, All, length, map, Some, IfOk, OnOk, decimal, take, drop};
+ghost use Rattle.std.specs.Prelude.{◌≡◌, ℕ, ◌+◌, ◌*◌, ◌<◌, ◌≤◌, true, [], ◌∷◌, ◌++◌, All, length, map, Option, Some, None, IfOk, OnOk, decimal, take, drop};
 ghost use Rattle.std.specs.Fmt.{signed_decimal};
 ghost use Rattle.fleet_math.specs.Bernstein.{at};
 ghost use Rattle.firmware_memory.specs.Shown.{shown};
@@ -9,13 +9,14 @@ ghost use Rattle.traj_codec.specs.declared.traj.Traj.{Traj};
 ghost use Rattle.fleet_world.specs.WorldState.{state_at};
 ghost use Rattle.memory_curves.specs.Decoded.{DecodesTo, last_value};
 ghost use Rattle.rehearsal.specs.Texts.{title_line, name_line, address_word, memory_line, memory_lines};
-ghost use Rattle.rehearsal.specs.Texts.{entry_line, entry_lines, started_word, started_line, ends_line, drone_text, IsRehearsalText};
+ghost use Rattle.rehearsal.specs.Texts.{entry_line, entry_lines, started_word, started_line, ends_line, ending_line, drone_text, IsCarefulText, IsDecoded, IsFound, IsRehearsalText};
 
 use firmware_memory::{Def, Drone, MEMORY_BYTES, TABLE_ENTRIES};
 use fleet_io::Lines;
 use fleet_world::{Name, World};
 use integer_player::last_values;
 use memory_curves::curve_of;
+use readback_core::CarefulWorld;
 use std::alloc::{AllocError, Global};
 use traj_codec::Traj;
 
@@ -196,18 +197,43 @@ fn put_ends(text: &mut Lines, t: &Traj) -> Result<(), AllocError>
     text.end()
 }
 
+fn put_no_ends(text: &mut Lines) -> Result<(), AllocError>
+    requires { is_line_empty text.old ≡ true }
+    ensures { OnOk result (text.new ≡ text.old ++ ending_line None) }
+{
+    text.word(b"ends")?;
+    text.word(b"none")?;
+    text.end()
+}
+
+// How the trajectory ends that was found, if one was.
+fn put_ending(text: &mut Lines, found: &Option<Traj>) -> Result<(), AllocError>
+    requires { is_line_empty text.old ≡ true }
+    ensures { OnOk result (text.new ≡ text.old ++ ending_line found.now) }
+{
+    match found {
+        Some(t) => put_ends(text, t),
+        None => put_no_ends(text),
+    }
+}
+
 // What is said of a drone.
-fn put_drone(text: &mut Lines, name: &[u8], drone: &Drone, t: &Traj) -> Result<(), AllocError>
+fn put_drone(
+    text: &mut Lines,
+    name: &[u8],
+    drone: &Drone,
+    found: &Option<Traj>,
+) -> Result<(), AllocError>
     requires fresh { is_line_empty text.old ≡ true }
     requires word { IsWord name.now }
-    ensures value { OnOk result (text.new ≡ text.old ++ drone_text name.now (shown drone.now) t.now) }
+    ensures value { OnOk result (text.new ≡ text.old ++ drone_text name.now (shown drone.now) found.now) }
     ensures fresh { OnOk result (is_line_empty text.new ≡ true) }
 {
     put_name(text, name)?;
     put_memory(text, &drone.memory)?;
     put_entries(text, &drone.defs)?;
     put_started(text, drone.started)?;
-    put_ends(text, t)
+    put_ending(text, found)
 }
 
 // What is said of a drone whose memory decodes to some trajectory under this id.
@@ -221,16 +247,35 @@ fn put_decoded(
     requires fresh { is_line_empty text.old ≡ true }
     requires word { IsWord name.now }
     requires decoded { (t : Traj) × DecodesTo (shown drone.now) id t }
-    ensures value { OnOk result ((t : Traj) × DecodesTo (shown drone.now) id t
-        × (text.new ≡ text.old ++ drone_text name.now (shown drone.now) t)) }
+    ensures value { OnOk result ((found : Option Traj) × IsDecoded id (shown drone.now) found
+        × (text.new ≡ text.old ++ drone_text name.now (shown drone.now) found)) }
     ensures fresh { OnOk result (is_line_empty text.new ≡ true) }
 {
     // There are ten, and the id is that of one of them.
     let _ = places(&drone.defs);
     match curve_of(alloc, drone, id)? {
-        Some(t) => put_drone(text, name, drone, &t),
+        Some(t) => put_drone(text, name, drone, &Some(t)),
         None => unreachable!(),
     }
+}
+
+// What is said of a drone, whether or not its memory decodes under this id.
+fn put_found(
+    alloc: Global,
+    text: &mut Lines,
+    name: &[u8],
+    drone: &Drone,
+    id: u8,
+) -> Result<(), AllocError>
+    requires fresh { is_line_empty text.old ≡ true }
+    requires word { IsWord name.now }
+    requires id { id < 10 }
+    ensures value { OnOk result ((found : Option Traj) × IsFound id (shown drone.now) found
+        × (text.new ≡ text.old ++ drone_text name.now (shown drone.now) found)) }
+    ensures fresh { OnOk result (is_line_empty text.new ≡ true) }
+{
+    let found = curve_of(alloc, drone, id)?;
+    put_drone(text, name, drone, &found)
 }
 
 /// The text of what the drones of a world hold, whose memories all decode to some trajectory under
@@ -254,6 +299,28 @@ pub fn memory_text(
     put_title(&mut text)?;
     for d in 0..names.len() {
         put_decoded(alloc, &mut text, names[d].as_slice(), world.drone(d), id)?;
+    }
+    Ok(text)
+}
+
+/// The text of what the drones of a careful world hold, under an id from 0 to 9 (docs/COMMANDS.md, `rehearse`): as
+/// `memory_text`, with `ends none` for a drone whose memory decodes to no trajectory.
+pub fn careful_text(
+    alloc: Global,
+    world: &CarefulWorld,
+    names: &[Name],
+    id: u8,
+) -> Result<Lines, AllocError>
+    requires few { length names.now ≤ length world.now.drones }
+    requires words { All (λ name. IsWord name.items) names.now }
+    requires id { id < 10 }
+    ensures { IfOk result (λ text.
+        IsCarefulText (state_at world.now.drones) id (map (λ name. name.items) names.now) text) }
+{
+    let mut text = Lines::make(alloc);
+    put_title(&mut text)?;
+    for d in 0..names.len() {
+        put_found(alloc, &mut text, names[d].as_slice(), world.drone(d), id)?;
     }
     Ok(text)
 }

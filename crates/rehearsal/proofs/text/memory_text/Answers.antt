@@ -5,7 +5,7 @@ use Rattle.upload_model.specs.Drones.{DroneState}
 use Rattle.firmware_memory.specs.Shown.{shown}
 use Rattle.fleet_world.specs.WorldState.{state_at, state_of}
 use Rattle.memory_curves.specs.Decoded.{DecodesTo}
-use Rattle.rehearsal.specs.Texts.{title_line, drone_text, AreTexts}
+use Rattle.rehearsal.specs.Texts.{title_line, drone_text, AreTexts, IsDecoded}
 use Rattle.rehearsal.proofs.TextLemmas.{texts-next}
 use Rattle.rehearsal.proofs.text.memory_text.Goals as goal
 
@@ -22,9 +22,9 @@ loop-d-preserved c =
     record {
       fresh = c.in_ok-put_decoded.ensures.fresh;
       said = c.loop-d.invariant.said ++ part;
-      texts = subst (λ (s : DroneState). AreTexts (state_at c.args.world.now.drones) c.args.id 0 (map (λ name. name.items) (take (c.loop-d.d + 1) c.args.names.now)) (c.loop-d.invariant.said ++ drone_text c.as_slice.result.now s said.0)) same
-          (texts-next (λ name. name.items) c.args.names.now c.index-names-d.result (state_at c.args.world.now.drones) c.args.id c.loop-d.d c.loop-d.invariant.said c.as_slice.result.now said.0
+      texts = subst (λ (s : DroneState). AreTexts (IsDecoded c.args.id) (state_at c.args.world.now.drones) 0 (map (λ name. name.items) (take (c.loop-d.d + 1) c.args.names.now)) (c.loop-d.invariant.said ++ drone_text c.as_slice.result.now s said.0)) same
+          (texts-next (IsDecoded c.args.id) (λ name. name.items) c.args.names.now c.index-names-d.result (state_at c.args.world.now.drones) c.loop-d.d c.loop-d.invariant.said c.as_slice.result.now said.0
           (omega arith) (c.as_slice.ensures.value ∙ ap (λ name. name.items) c.index-names-d.is) c.loop-d.invariant.texts
-          (subst (λ (s : DroneState). DecodesTo s c.args.id said.0) (sym same) said.1));
+          (subst (λ (s : DroneState). IsDecoded c.args.id s said.0) (sym same) said.1));
       all = said.2 ∙ ap (λ (xs : List ℕ). xs ++ part) c.loop-d.invariant.all ∙ append_assoc title_line c.loop-d.invariant.said part;
     }

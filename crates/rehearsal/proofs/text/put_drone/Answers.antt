@@ -6,7 +6,7 @@ use Rattle.fleet_io.specs.Words.{is_line_empty}
 use Rattle.fleet_io.proofs.WordLaws.{fresh_after_line}
 use Rattle.memory_curves.specs.Decoded.{last_value}
 use Rattle.rehearsal.specs.Texts.{started_word}
-use Rattle.rehearsal.proofs.TextLemmas.{memory-fresh, entries-fresh}
+use Rattle.rehearsal.proofs.TextLemmas.{memory-fresh, entries-fresh, ending-fresh}
 use Rattle.rehearsal.proofs.text.put_drone.Goals as goal
 
 pub put_entries-requires : goal.put_entries-requires
@@ -17,9 +17,8 @@ put_started-requires c =
     ap is_line_empty c.in_ok-put_entries.ensures
     ∙ entries-fresh c.put_memory.new.text 0 c.args.drone.now.defs (ap is_line_empty c.in_ok-put_memory.ensures ∙ memory-fresh c.put_name.new.text c.args.drone.now.memory)
 
-pub put_ends-requires : goal.put_ends-requires
-put_ends-requires c = ap is_line_empty c.in_ok-put_started.ensures ∙ fresh_after_line c.put_entries.new.text (codes "started") (started_word c.args.drone.now.started ∷ [])
+pub put_ending-requires : goal.put_ending-requires
+put_ending-requires c = ap is_line_empty c.in_ok-put_started.ensures ∙ fresh_after_line c.put_entries.new.text (codes "started") (started_word c.args.drone.now.started ∷ [])
 
 pub returns-clause-fresh : goal.returns-clause-fresh
-returns-clause-fresh c = on_ok_weaker c.put_ends.result (λ e. ap is_line_empty e
-    ∙ fresh_after_line c.put_started.new.text (codes "ends") (map (λ axis. signed_decimal (last_value c.args.t.now axis)) (0 ∷ 1 ∷ 2 ∷ 3 ∷ []))) c.put_ends.ensures
+returns-clause-fresh c = on_ok_weaker c.put_ending.result (λ e. ap is_line_empty e ∙ ending-fresh c.put_started.new.text c.args.found.now) c.put_ending.ensures

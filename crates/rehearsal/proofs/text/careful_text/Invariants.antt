@@ -1,0 +1,14 @@
+-- What holds whenever the loop of `careful_text` begins a turn.
+use Rattle.std.proofs.Common.{◌≡◌, ◌++◌, ℕ, List, map, take, true}
+use Rattle.fleet_io.specs.Words.{is_line_empty}
+use Rattle.fleet_world.specs.WorldState.{state_at}
+use Rattle.rehearsal.specs.Texts.{title_line, AreTexts, IsFound}
+use Rattle.rehearsal.proofs.text.careful_text.Given as goal
+
+abbrev pub invariant-loop-d : goal.invariant-loop-d
+invariant-loop-d l = record {
+  fresh : is_line_empty l.text ≡ true;
+  said : List ℕ;
+  texts : AreTexts (IsFound l.id) (state_at l.world.drones) 0 (map (λ name. name.items) (take l.d l.names)) said;
+  all : l.text ≡ title_line ++ said;
+}

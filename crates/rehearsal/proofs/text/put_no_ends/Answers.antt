@@ -1,0 +1,12 @@
+-- Why `put_no_ends` keeps its contract: its words make a line.
+use Rattle.std.proofs.Common.{◌≡◌, ◌++◌, [], ◌∷◌, List, ℕ, codes, OnOk, refl, ap, ◌∙◌, subst}
+use Rattle.fleet_io.specs.Words.{with_word}
+use Rattle.fleet_io.proofs.WordLaws.{words_make_line}
+use Rattle.rehearsal.proofs.text.put_no_ends.Goals as goal
+
+pub returns : goal.returns
+returns c =
+    let words = c.in_ok-word-2.ensures.ok ∙ ap (λ (t : List ℕ). with_word t (codes "none")) c.in_ok-word.ensures.ok in
+    subst (λ (t : List ℕ). OnOk c.end.result (c.end.new.self ≡ t))
+    (ap (λ (t : List ℕ). t ++ 10 ∷ []) words ∙ words_make_line c.args.text.now (codes "ends") (codes "none" ∷ []) c.requires refl (refl, tt))
+    c.end.ensures.ok
