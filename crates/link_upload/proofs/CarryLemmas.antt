@@ -1,10 +1,10 @@
 -- What is carried from frame to frame, and how it ends.
 use Rattle.std.proofs.Common.{◌≡◌, inl, inr, ℕ, ◌+◌, ◌<◌, ◌≤◌, Bool, false, List, [], ◌∷◌, ◌++◌, length, take, append_assoc, append-nil, length-append, Option, Some, None, IfSome, refl, sym, ap, ◌∙◌, arith}
 use Rattle.std.specs.Prelude.{◌==◌}
-use Rattle.std.specs.List.{All}
+use Rattle.std.specs.List.{All, Contains}
 use Rattle.std.specs.Io.KnownBytes.{Appends, Consumes, IsAtEnd, prepend_known}
 use Rattle.std.proofs.lemmas.List.{length_push}
-use Rattle.std.proofs.lemmas.List.Elements.{All-head, All-nil, All-push}
+use Rattle.std.proofs.lemmas.List.Elements.{All-cons, All-contains, All-head, All-nil, All-push}
 use Rattle.fleet_io.specs.Causes.{Rose}
 use Rattle.fleet_io.specs.Held.{buffer_bytes}
 use Rattle.fleet_io.specs.Taken.{AppendsFront}
@@ -14,13 +14,8 @@ use Rattle.link_frames.specs.declared.frame.Frame.{Frame}
 use Rattle.link_frames.specs.Frames.{BeginsNoFrame, IsBegun, IsFrame, frame_bytes, frames_bytes}
 use Rattle.link_frames.proofs.FrameLemmas.{frame_law}
 use Rattle.upload_model.specs.declared.events.Event.{Event}
-use Rattle.upload_model.specs.declared.events.Progress.{Progress}
 use Rattle.upload_model.specs.declared.events.Sent.{Sent}
-use Rattle.upload_model.specs.declared.events.Progress.TheVariants.{Going}
-use Rattle.upload_model.specs.Sessions.{Upload}
-use Rattle.upload_model.specs.Hosts.{flight, progress}
-use Rattle.upload_core.specs.HostState.{HostView}
-use Rattle.upload_core.specs.HostStandsFor.{HostStandsFor}
+use Rattle.link_upload.specs.Links.{Link}
 use Rattle.link_upload.specs.Sends.{answers_after, event_in, events_in, packet_frames, sent_over}
 use Rattle.link_upload.specs.Steps.{Breaks, Ends, Fails}
 use Rattle.link_upload.specs.Uploads.{BeginsWith, EndsGoing, EndsWith, StaysPrompt, Takes, frame_limit}
@@ -65,41 +60,53 @@ Rose-later a b c l r = elim r [
   | inr last ↦ inr last
 ]
 
+-- the status of an upload's own end is one of those
+abbrev IsOwnEnd : ℕ → Type 0
+IsOwnEnd n = Contains (0 ∷ 8 ∷ 9 ∷ 10 ∷ 11 ∷ 13 ∷ 14 ∷ []) n
+
+pub end_known : (status : ℕ) → Contains (0 ∷ 9 ∷ 10 ∷ 14 ∷ []) status → Contains (0 ∷ 8 ∷ 9 ∷ 10 ∷ 11 ∷ 13 ∷ 14 ∷ []) status
+end_known status among = All-contains IsOwnEnd (0 ∷ 9 ∷ 10 ∷ 14 ∷ []) status
+    (All-cons IsOwnEnd 0 (9 ∷ 10 ∷ 14 ∷ []) (0, omega arith, refl)
+    (All-cons IsOwnEnd 9 (10 ∷ 14 ∷ []) (2, omega arith, refl)
+    (All-cons IsOwnEnd 10 (14 ∷ []) (3, omega arith, refl)
+    (All-cons IsOwnEnd 14 [] (6, omega arith, refl) (All-nil IsOwnEnd)))))
+    among
+
 -- ---- an answer
 
--- what a host that stands for these events makes of one frame more
-pub record Answered (s : Upload) (next : HostView) (h : List Event) (f : Frame) (p : Progress) (items : List Sent) : Type 0 where
-  pub stands : HostStandsFor next (h ++ event_in s f)
-  pub answer : p ≡ progress s (h ++ event_in s f)
+-- what a host that stands for these events makes of one frame more; now it stands for what `Stands` says
+pub record Answered (s : Link) (Stands : List Event → Type 0) (h : List Event) (f : Frame) (p : Option ℕ) (items : List Sent) : Type 0 where
+  pub stands : Stands (h ++ event_in s f)
+  pub answer : p ≡ s.ended (h ++ event_in s f)
   pub sent : packet_frames s items ≡ answers_after s h (event_in s f)
 
--- the same, where the host's session is that of the upload
-pub answered : (s t : Upload) (old next : HostView) (f : Frame) (p : Progress) (items : List Sent) (h : List Event) → t ≡ s → HostStandsFor old h → progress s h ≡ Going →
-    ((g : List Event) → HostStandsFor old g → progress t g ≡ Going → HostStandsFor next (g ++ event_in t f)) →
-    ((g : List Event) → HostStandsFor old g → progress t g ≡ Going → p ≡ progress t (g ++ event_in t f)) →
-    ((g : List Event) → HostStandsFor old g → progress t g ≡ Going → packet_frames t items ≡ answers_after t g (event_in t f)) → Answered s next h f p items
-answered s t old next f p items h is stands going a b c =
-    let g : progress t h ≡ Going = rw is going in
+-- the same, where the host's link is that of the upload
+pub answered : (s t : Link) (Old Next : List Event → Type 0) (f : Frame) (p : Option ℕ) (items : List Sent) (h : List Event) → t ≡ s → Old h → s.ended h ≡ None →
+    ((g : List Event) → Old g → t.ended g ≡ None → Next (g ++ event_in t f)) →
+    ((g : List Event) → Old g → t.ended g ≡ None → p ≡ t.ended (g ++ event_in t f)) →
+    ((g : List Event) → Old g → t.ended g ≡ None → packet_frames t items ≡ answers_after t g (event_in t f)) → Answered s Next h f p items
+answered s t Old Next f p items h is stands going a b c =
+    let g : t.ended h ≡ None = rw is going in
     record { stands = rw is at (a h stands g); answer = rw is at (b h stands g); sent = rw is at (c h stands g) }
 
 -- ---- from frame to frame
 
 -- Of the bytes to come these frames were taken, and what they lead to was sent. The upload went on before each of them,
 -- and it goes on.
-pub record Carries (s : Upload) (stream now old new : Option (List ℕ)) (n : ℕ) (host : HostView) : Type 0 where
+pub record Carries (s : Link) (stream now old new : Option (List ℕ)) (n : ℕ) (Stands : List Event → Type 0) : Type 0 where
   pub frames : List Frame
   pub each : All IsFrame frames
   pub counted : length frames ≡ n
-  pub before : (k : ℕ) → k < length frames → progress s (events_in s (take k frames)) ≡ Going
-  pub going : progress s (events_in s frames) ≡ Going
+  pub before : (k : ℕ) → k < length frames → s.ended (events_in s (take k frames)) ≡ None
+  pub going : s.ended (events_in s frames) ≡ None
   pub taken : Consumes stream now (frames_bytes frames)
   pub sent : Appends old new (sent_over s (events_in s frames))
-  pub stands : HostStandsFor host (events_in s frames)
+  pub stands : Stands (events_in s frames)
 
 -- before any frame
-pub Carries-none : (s : Upload) (stream old new : Option (List ℕ)) (host : HostView) → HostStandsFor host [] → progress s [] ≡ Going →
-    Appends old new (packet_frames s (flight s [])) → Carries s stream stream old new 0 host
-Carries-none s stream old new host stands going sent = record {
+pub Carries-none : (s : Link) (stream old new : Option (List ℕ)) (Stands : List Event → Type 0) → Stands [] → s.ended [] ≡ None →
+    Appends old new (packet_frames s s.first) → Carries s stream stream old new 0 Stands
+Carries-none s stream old new Stands stands going sent = record {
   frames = [];
   each = All-nil IsFrame;
   counted = refl;
@@ -111,7 +118,7 @@ Carries-none s stream old new host stands going sent = record {
 }
 
 -- what was sent with the answer to one frame more
-sent_more : (s : Upload) (old mid new : Option (List ℕ)) (frames : List Frame) (f : Frame) → Appends old mid (sent_over s (events_in s frames)) →
+sent_more : (s : Link) (old mid new : Option (List ℕ)) (frames : List Frame) (f : Frame) → Appends old mid (sent_over s (events_in s frames)) →
     Appends mid new (answers_after s (events_in s frames) (event_in s f)) → Appends old new (sent_over s (events_in s (frames ++ f ∷ [])))
 sent_more s old mid new frames f a b = rw (sent-push s frames f) (Appends-append old mid new _ _ a b)
 
@@ -120,10 +127,10 @@ taken_more : (stream mid now : Option (List ℕ)) (frames : List Frame) (f : Fra
 taken_more stream mid now frames f a b = rw (bytes-push frames f) (Consumes-append stream mid now _ _ a b)
 
 -- one frame more, after which the upload goes on
-pub Carries-push : (s : Upload) (stream mid now old sent new : Option (List ℕ)) (n m : ℕ) (host next : HostView) (c : Carries s stream mid old sent n host) (f : Frame) → IsFrame f →
+pub Carries-push : (s : Link) (stream mid now old sent new : Option (List ℕ)) (n m : ℕ) (Stands Next : List Event → Type 0) (c : Carries s stream mid old sent n Stands) (f : Frame) → IsFrame f →
     Consumes mid now (frame_bytes f) → Appends sent new (answers_after s (events_in s c.frames) (event_in s f)) → m ≡ n + 1 →
-    progress s (events_in s c.frames ++ event_in s f) ≡ Going → HostStandsFor next (events_in s c.frames ++ event_in s f) → Carries s stream now old new m next
-Carries-push s stream mid now old sent new n m host next c f formed taken answered more going stands = record {
+    s.ended (events_in s c.frames ++ event_in s f) ≡ None → Next (events_in s c.frames ++ event_in s f) → Carries s stream now old new m Next
+Carries-push s stream mid now old sent new n m Stands Next c f formed taken answered more going stands = record {
   frames = c.frames ++ f ∷ [];
   each = All-push IsFrame c.frames f c.each formed;
   counted = omega (arith, length_push c.frames f, c.counted, more);
@@ -134,26 +141,26 @@ Carries-push s stream mid now old sent new n m host next c f formed taken answer
   stands = rw (events-push s c.frames f) stands;
 }
 
-takes_of : (s : Upload) (stream now old new : Option (List ℕ)) (n : ℕ) (host : HostView) (c : Carries s stream now old new n host) (bytes rest : List ℕ) → n ≤ frame_limit →
+takes_of : (s : Link) (stream now old new : Option (List ℕ)) (n : ℕ) (Stands : List Event → Type 0) (c : Carries s stream now old new n Stands) (bytes rest : List ℕ) → n ≤ frame_limit →
     bytes ≡ frames_bytes c.frames ++ rest → Takes s bytes c.frames rest
-takes_of s stream now old new n host c bytes rest few cut = record { cut = cut; each = c.each; few = omega (arith, c.counted, few); going = c.before }
+takes_of s stream now old new n Stands c bytes rest few cut = record { cut = cut; each = c.each; few = omega (arith, c.counted, few); going = c.before }
 
 -- ---- how it ends
 
 -- it ends where it goes on
-end_going : (s : Upload) (stream now old new : Option (List ℕ)) (n : ℕ) (host : HostView) (c : Carries s stream now old new n host) (status : ℕ) → n ≤ frame_limit →
+end_going : (s : Link) (stream now old new : Option (List ℕ)) (n : ℕ) (Stands : List Event → Type 0) (c : Carries s stream now old new n Stands) (status : ℕ) → n ≤ frame_limit →
     ((rest : List ℕ) → now ≡ Some rest → EndsGoing (length c.frames == frame_limit) rest status) → Ends s status stream old new
-end_going s stream now old new n host c status few ends = when_some _ stream (λ bytes known.
+end_going s stream now old new n Stands c status few ends = when_some _ stream (λ bytes known.
     let left = left_of bytes (frames_bytes c.frames) now (rw known at c.taken) in
-    (c.frames, left.0, takes_of s stream now old new n host c bytes left.0 few left.2, rw c.going (ends left.0 left.1), c.sent))
+    (c.frames, left.0, takes_of s stream now old new n Stands c bytes left.0 few left.2, rw c.going (ends left.0 left.1), c.sent))
 
-pub end_none : (s : Upload) (stream now old new : Option (List ℕ)) (n : ℕ) (host : HostView) → Carries s stream now old new n host → n < frame_limit → IsAtEnd now → Ends s 8 stream old new
-end_none s stream now old new n host c few at_end = end_going s stream now old new n host c 8 (omega (arith, few)) (λ rest known.
+pub end_none : (s : Link) (stream now old new : Option (List ℕ)) (n : ℕ) (Stands : List Event → Type 0) → Carries s stream now old new n Stands → n < frame_limit → IsAtEnd now → Ends s 8 stream old new
+end_none s stream now old new n Stands c few at_end = end_going s stream now old new n Stands c 8 (omega (arith, few)) (λ rest known.
     let none : rest ≡ [] = rw known at at_end in rw (none, not_full (length c.frames) (omega (arith, c.counted, few))) refl)
 
-pub end_faulty : (s : Upload) (stream now old new : Option (List ℕ)) (n : ℕ) (host : HostView) → Carries s stream now old new n host → n < frame_limit →
+pub end_faulty : (s : Link) (stream now old new : Option (List ℕ)) (n : ℕ) (Stands : List Event → Type 0) → Carries s stream now old new n Stands → n < frame_limit →
     IfSome now (λ bytes. (1 ≤ length bytes) × BeginsNoFrame bytes) → Ends s 11 stream old new
-end_faulty s stream now old new n host c few faulty = end_going s stream now old new n host c 11 (omega (arith, few)) (λ rest known.
+end_faulty s stream now old new n Stands c few faulty = end_going s stream now old new n Stands c 11 (omega (arith, few)) (λ rest known.
     let f : (1 ≤ length rest) × BeginsNoFrame rest = at_some (λ bytes. (1 ≤ length bytes) × BeginsNoFrame bytes) now rest known faulty in
     rw (not_full (length c.frames) (omega (arith, c.counted, few))) (by rest f.0 f.1))
   where
@@ -161,15 +168,15 @@ end_faulty s stream now old new n host c few faulty = end_going s stream now old
     by [] some none = absurd (omega (arith, some))
     by (b ∷ bs) some none = (refl, none)
 
-pub end_full : (s : Upload) (stream now old new : Option (List ℕ)) (n : ℕ) (host : HostView) → Carries s stream now old new n host → n ≡ frame_limit → Ends s 13 stream old new
-end_full s stream now old new n host c full = end_going s stream now old new n host c 13 (omega (arith, full)) (λ rest known.
+pub end_full : (s : Link) (stream now old new : Option (List ℕ)) (n : ℕ) (Stands : List Event → Type 0) → Carries s stream now old new n Stands → n ≡ frame_limit → Ends s 13 stream old new
+end_full s stream now old new n Stands c full = end_going s stream now old new n Stands c 13 (omega (arith, full)) (λ rest known.
     let is : length c.frames ≡ frame_limit = c.counted ∙ full in rw is refl)
 
 -- it ends with the answer to one frame more
-pub end_answered : (s : Upload) (stream mid now old sent new : Option (List ℕ)) (n : ℕ) (host : HostView) (c : Carries s stream mid old sent n host) (f : Frame) → IsFrame f → n < frame_limit →
-    Consumes mid now (frame_bytes f) → Appends sent new (answers_after s (events_in s c.frames) (event_in s f)) → (p : Progress) →
-    p ≡ progress s (events_in s c.frames ++ event_in s f) → (status : ℕ) → ((full : Bool) (rest : List ℕ) → EndsWith p full rest status) → Ends s status stream old new
-end_answered s stream mid now old sent new n host c f formed few taken answered p is status ends = when_some _ stream (λ bytes known.
+pub end_answered : (s : Link) (stream mid now old sent new : Option (List ℕ)) (n : ℕ) (Stands : List Event → Type 0) (c : Carries s stream mid old sent n Stands) (f : Frame) → IsFrame f → n < frame_limit →
+    Consumes mid now (frame_bytes f) → Appends sent new (answers_after s (events_in s c.frames) (event_in s f)) → (p : Option ℕ) →
+    p ≡ s.ended (events_in s c.frames ++ event_in s f) → (status : ℕ) → ((full : Bool) (rest : List ℕ) → EndsWith p full rest status) → Ends s status stream old new
+end_answered s stream mid now old sent new n Stands c f formed few taken answered p is status ends = when_some _ stream (λ bytes known.
     let fs : List Frame = c.frames ++ f ∷ [] in
     let left = left_of bytes (frames_bytes fs) now (rw known at (taken_more stream mid now c.frames f c.taken taken)) in
     let takes : Takes s bytes fs left.0 = record {
@@ -181,15 +188,15 @@ end_answered s stream mid now old sent new n host c f formed few taken answered 
     (fs, left.0, takes, rw (events-push s c.frames f, ← is) (ends (length fs == frame_limit) left.0), sent_more s old sent new c.frames f c.sent answered))
 
 -- a read failed
-pub fails : (s : Upload) (stream now left old new : Option (List ℕ)) (n : ℕ) (host : HostView) → Carries s stream now old new n host → n < frame_limit → (begun : List ℕ) → IsBegun begun →
+pub fails : (s : Link) (stream now left old new : Option (List ℕ)) (n : ℕ) (Stands : List Event → Type 0) → Carries s stream now old new n Stands → n < frame_limit → (begun : List ℕ) → IsBegun begun →
     Consumes now left begun → Fails s stream left old new
-fails s stream now left old new n host c few begun is taken = when_some _ stream (λ bytes known.
+fails s stream now left old new n Stands c few begun is taken = when_some _ stream (λ bytes known.
     let fs : List Frame = c.frames in (
       frames_bytes fs ++ begun,
       fs,
       begun,
       Consumes-append stream now left (frames_bytes fs) begun c.taken taken,
-      takes_of s stream now old new n host c (frames_bytes fs ++ begun) begun (omega (arith, few)) refl,
+      takes_of s stream now old new n Stands c (frames_bytes fs ++ begun) begun (omega (arith, few)) refl,
       omega (arith, c.counted, few),
       c.going,
       is,
@@ -207,15 +214,15 @@ front_more old mid new xs ys all a b more = (
   Appends-append old mid new xs b.0 a b.3,
 )
 
-pub breaks_first : (s : Upload) (stream old new : Option (List ℕ)) → AppendsFront old new (packet_frames s (flight s [])) → Breaks s stream old new
+pub breaks_first : (s : Link) (stream old new : Option (List ℕ)) → AppendsFront old new (packet_frames s s.first) → Breaks s stream old new
 breaks_first s stream old new front = when_some _ stream (λ bytes known.
     let c = some s bytes bytes [] (Takes-none s bytes) in
-    let begins : BeginsWith (packet_frames s (flight s [])) c.1 = rw (sent-none s) at c.3 in
+    let begins : BeginsWith (packet_frames s s.first) c.1 = rw (sent-none s) at c.3 in
     (c.1, (front.0, front.1 ++ begins.0, begins.1 ∙ ap (λ (l : List ℕ). l ++ begins.0) front.2 ∙ append_assoc front.0 front.1 begins.0, front.3), (c.0, c.2)))
 
-pub breaks : (s : Upload) (stream mid now old sent new : Option (List ℕ)) (n : ℕ) (host : HostView) (c : Carries s stream mid old sent n host) (f : Frame) → IsFrame f → n < frame_limit →
+pub breaks : (s : Link) (stream mid now old sent new : Option (List ℕ)) (n : ℕ) (Stands : List Event → Type 0) (c : Carries s stream mid old sent n Stands) (f : Frame) → IsFrame f → n < frame_limit →
     Consumes mid now (frame_bytes f) → AppendsFront sent new (answers_after s (events_in s c.frames) (event_in s f)) → Breaks s stream old new
-breaks s stream mid now old sent new n host c f formed few taken front = when_some _ stream (λ bytes known.
+breaks s stream mid now old sent new n Stands c f formed few taken front = when_some _ stream (λ bytes known.
     let fs : List Frame = c.frames ++ f ∷ [] in
     let left = left_of bytes (frames_bytes fs) now (rw known at (taken_more stream mid now c.frames f c.taken taken)) in
     let takes : Takes s bytes fs left.0 = record {
@@ -245,7 +252,7 @@ abbrev pub IsShort : Option (List ℕ) → Option (List ℕ) → Type 0
 IsShort now left = (rest behind : List ℕ) → now ≡ Some rest → left ≡ Some behind → (g : Frame) (more : List ℕ) → IsFrame g → buffer_bytes + length behind < length more →
     rest ≡ frame_bytes g ++ more → ⊥
 
-prompt_by : (s : Upload) (frames gs : List Frame) (rest behind taken sent tail : List ℕ) → taken ++ behind ≡ frames_bytes frames ++ rest →
+prompt_by : (s : Link) (frames gs : List Frame) (rest behind taken sent tail : List ℕ) → taken ++ behind ≡ frames_bytes frames ++ rest →
     BeginsWith (sent_over s (events_in s frames)) sent →
     ((g : Frame) (more : List ℕ) → IsFrame g → buffer_bytes + length behind < length more → rest ≡ frame_bytes g ++ more → ⊥) →
     All IsFrame gs → taken ≡ frames_bytes gs ++ tail → buffer_bytes < length tail → BeginsWith (sent_over s (events_in s gs)) sent
@@ -263,29 +270,29 @@ prompt_by s frames gs rest behind taken sent tail all began none formed cut long
         (omega (arith, long, length-append tail behind, length-append (frames_bytes more) (tail ++ behind))) (left ∙ append_assoc (frame_bytes g) (frames_bytes more) (tail ++ behind)))
 
 -- what was sent for frames is prompt where what is left is short
-pub prompt : (s : Upload) (stream now left old new : Option (List ℕ)) (frames : List Frame) (output : List ℕ) → Consumes stream now (frames_bytes frames) → Appends old new output →
+pub prompt : (s : Link) (stream now left old new : Option (List ℕ)) (frames : List Frame) (output : List ℕ) → Consumes stream now (frames_bytes frames) → Appends old new output →
     BeginsWith (sent_over s (events_in s frames)) output → IsShort now left → StaysPrompt s stream left old new
 prompt s stream now left old new frames output taken_so sent_so began is_short bytes behind before taken sent known_bytes known_left cut known_before known_sent gs tail formed cut_so long =
     let l = left_of bytes (frames_bytes frames) now (rw known_bytes at taken_so) in
     let sent_is : output ≡ sent = same_front before output sent (sym (grown before (before ++ sent) output old new known_before known_sent sent_so)) in
     prompt_by s frames gs l.0 behind taken sent tail (sym cut ∙ l.2) (rw sent_is at began) (is_short l.0 behind l.1 known_left) formed cut_so long
 
-pub prompt_carried : (s : Upload) (stream now left old new : Option (List ℕ)) (n : ℕ) (host : HostView) → Carries s stream now old new n host → IsShort now left → StaysPrompt s stream left old new
-prompt_carried s stream now left old new n host c is_short = prompt s stream now left old new c.frames _ c.taken c.sent ([], sym (append-nil _)) is_short
+pub prompt_carried : (s : Link) (stream now left old new : Option (List ℕ)) (n : ℕ) (Stands : List Event → Type 0) → Carries s stream now old new n Stands → IsShort now left → StaysPrompt s stream left old new
+prompt_carried s stream now left old new n Stands c is_short = prompt s stream now left old new c.frames _ c.taken c.sent ([], sym (append-nil _)) is_short
 
-pub prompt_answered : (s : Upload) (stream mid now left old sent new : Option (List ℕ)) (n : ℕ) (host : HostView) (c : Carries s stream mid old sent n host) (f : Frame) →
+pub prompt_answered : (s : Link) (stream mid now left old sent new : Option (List ℕ)) (n : ℕ) (Stands : List Event → Type 0) (c : Carries s stream mid old sent n Stands) (f : Frame) →
     Consumes mid now (frame_bytes f) → Appends sent new (answers_after s (events_in s c.frames) (event_in s f)) → IsShort now left → StaysPrompt s stream left old new
-prompt_answered s stream mid now left old sent new n host c f taken out is_short =
+prompt_answered s stream mid now left old sent new n Stands c f taken out is_short =
     prompt s stream now left old new (c.frames ++ f ∷ []) (sent_over s (events_in s (c.frames ++ f ∷ []))) (taken_more stream mid now c.frames f c.taken taken)
     (sent_more s old sent new c.frames f c.sent out) ([], sym (append-nil _)) is_short
 
-pub prompt_broken : (s : Upload) (stream mid left old sent new : Option (List ℕ)) (n : ℕ) (host : HostView) (bytes : List ℕ) → Carries s stream mid old sent n host →
+pub prompt_broken : (s : Link) (stream mid left old sent new : Option (List ℕ)) (n : ℕ) (Stands : List Event → Type 0) (bytes : List ℕ) → Carries s stream mid old sent n Stands →
     AppendsFront sent new bytes → IsShort mid left → StaysPrompt s stream left old new
 prompt_broken s stream mid left old sent new n host bytes c front is_short =
     prompt s stream mid left old new c.frames (sent_over s (events_in s c.frames) ++ front.0) c.taken (Appends-append old sent new _ _ c.sent front.3) (front.0, refl) is_short
 
 -- before any frame no more was taken than waited
-pub prompt_first : (s : Upload) (waiting : List ℕ) (left old new : Option (List ℕ)) → length waiting ≤ buffer_bytes → StaysPrompt s (prepend_known waiting left) left old new
+pub prompt_first : (s : Link) (waiting : List ℕ) (left old new : Option (List ℕ)) → length waiting ≤ buffer_bytes → StaysPrompt s (prepend_known waiting left) left old new
 prompt_first s waiting None old new few bytes behind before taken sent known_bytes known_left cut known_before known_sent gs tail formed cut_so long = absurd (cc)
 prompt_first s waiting (Some xs) old new few bytes behind before taken sent known_bytes known_left cut known_before known_sent gs tail formed cut_so long =
     let e : xs ≡ behind = cc in

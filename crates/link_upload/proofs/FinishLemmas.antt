@@ -7,7 +7,7 @@ use Rattle.fleet_io.specs.Causes.{Rose}
 use Rattle.fleet_io.specs.Taken.{AppendsFront}
 use Rattle.fleet_io.proofs.SentLemmas.{Appends-append}
 use Rattle.link_frames.specs.Frames.{end_frame}
-use Rattle.upload_model.specs.Sessions.{Upload}
+use Rattle.link_upload.specs.Links.{Link}
 use Rattle.link_upload.specs.Sends.{events_in, sent_over}
 use Rattle.link_upload.specs.Steps.{Breaks, Ends, Fails}
 use Rattle.link_upload.specs.Uploads.{StaysPrompt, UploadFails, UploadGives}
@@ -19,19 +19,20 @@ use Rattle.link_upload.proofs.CarryLemmas.{front_more, same_front}
 -- a status at which a source ended or the upload did is neither that of a failed read nor that of a failed write, and
 -- is known
 abbrev pub IsEnd : ℕ → Type 0
-IsEnd status = (status ≢ 6) × (status ≢ 7) × Contains (0 ∷ 6 ∷ 7 ∷ 8 ∷ 9 ∷ 10 ∷ 11 ∷ 13 ∷ []) status
+IsEnd status = (status ≢ 6) × (status ≢ 7) × Contains (0 ∷ 6 ∷ 7 ∷ 8 ∷ 9 ∷ 10 ∷ 11 ∷ 13 ∷ 14 ∷ []) status
 
-pub is_end : (status : ℕ) → Contains (0 ∷ 8 ∷ 9 ∷ 10 ∷ 11 ∷ 13 ∷ []) status → IsEnd status
-is_end status among = All-contains IsEnd (0 ∷ 8 ∷ 9 ∷ 10 ∷ 11 ∷ 13 ∷ []) status
-    (All-cons IsEnd 0 (8 ∷ 9 ∷ 10 ∷ 11 ∷ 13 ∷ []) (λ e. omega (arith, e), λ e. omega (arith, e), (0, omega arith, refl))
-    (All-cons IsEnd 8 (9 ∷ 10 ∷ 11 ∷ 13 ∷ []) (λ e. omega (arith, e), λ e. omega (arith, e), (3, omega arith, refl))
-    (All-cons IsEnd 9 (10 ∷ 11 ∷ 13 ∷ []) (λ e. omega (arith, e), λ e. omega (arith, e), (4, omega arith, refl))
-    (All-cons IsEnd 10 (11 ∷ 13 ∷ []) (λ e. omega (arith, e), λ e. omega (arith, e), (5, omega arith, refl))
-    (All-cons IsEnd 11 (13 ∷ []) (λ e. omega (arith, e), λ e. omega (arith, e), (6, omega arith, refl))
-    (All-cons IsEnd 13 [] (λ e. omega (arith, e), λ e. omega (arith, e), (7, omega arith, refl)) (All-nil IsEnd)))))))
+pub is_end : (status : ℕ) → Contains (0 ∷ 8 ∷ 9 ∷ 10 ∷ 11 ∷ 13 ∷ 14 ∷ []) status → IsEnd status
+is_end status among = All-contains IsEnd (0 ∷ 8 ∷ 9 ∷ 10 ∷ 11 ∷ 13 ∷ 14 ∷ []) status
+    (All-cons IsEnd 0 (8 ∷ 9 ∷ 10 ∷ 11 ∷ 13 ∷ 14 ∷ []) (λ e. omega (arith, e), λ e. omega (arith, e), (0, omega arith, refl))
+    (All-cons IsEnd 8 (9 ∷ 10 ∷ 11 ∷ 13 ∷ 14 ∷ []) (λ e. omega (arith, e), λ e. omega (arith, e), (3, omega arith, refl))
+    (All-cons IsEnd 9 (10 ∷ 11 ∷ 13 ∷ 14 ∷ []) (λ e. omega (arith, e), λ e. omega (arith, e), (4, omega arith, refl))
+    (All-cons IsEnd 10 (11 ∷ 13 ∷ 14 ∷ []) (λ e. omega (arith, e), λ e. omega (arith, e), (5, omega arith, refl))
+    (All-cons IsEnd 11 (13 ∷ 14 ∷ []) (λ e. omega (arith, e), λ e. omega (arith, e), (6, omega arith, refl))
+    (All-cons IsEnd 13 (14 ∷ []) (λ e. omega (arith, e), λ e. omega (arith, e), (7, omega arith, refl))
+    (All-cons IsEnd 14 [] (λ e. omega (arith, e), λ e. omega (arith, e), (8, omega arith, refl)) (All-nil IsEnd))))))))
     among
 
-pub known_by : (status result : ℕ) → Contains (0 ∷ 6 ∷ 7 ∷ 8 ∷ 9 ∷ 10 ∷ 11 ∷ 13 ∷ []) status → (result ≡ status) ⊎ (result ≡ 7) → Contains (0 ∷ 6 ∷ 7 ∷ 8 ∷ 9 ∷ 10 ∷ 11 ∷ 13 ∷ []) result
+pub known_by : (status result : ℕ) → Contains (0 ∷ 6 ∷ 7 ∷ 8 ∷ 9 ∷ 10 ∷ 11 ∷ 13 ∷ 14 ∷ []) status → (result ≡ status) ⊎ (result ≡ 7) → Contains (0 ∷ 6 ∷ 7 ∷ 8 ∷ 9 ∷ 10 ∷ 11 ∷ 13 ∷ 14 ∷ []) result
 known_by status result among is = elim is [
   | inl e ↦ rw e among
   | inr e ↦ rw e (2, omega arith, refl)
@@ -40,7 +41,7 @@ known_by status result among is = elim is [
 -- ---- what was sent
 
 -- all, with the end frame
-pub ended : (s : Upload) (status result : ℕ) (stream old mid new : Option (List ℕ)) → result ≡ status → Ends s status stream old mid → Appends mid new (end_frame status) →
+pub ended : (s : Link) (status result : ℕ) (stream old mid new : Option (List ℕ)) → result ≡ status → Ends s status stream old mid → Appends mid new (end_frame status) →
     IfSome stream (λ bytes. (output : List ℕ) × UploadGives s bytes result output × Appends old new output)
 ended s status result None old mid new is e w = tt
 ended s status result (Some bytes) old mid new is e w = rw is (
@@ -50,7 +51,7 @@ ended s status result (Some bytes) old mid new is e w = rw is (
 )
 
 -- what a failed read leaves
-pub failed : (s : Upload) (stream left old mid new : Option (List ℕ)) → Fails s stream left old mid → Appends mid new (end_frame 6) →
+pub failed : (s : Link) (stream left old mid new : Option (List ℕ)) → Fails s stream left old mid → Appends mid new (end_frame 6) →
     IfSome stream (λ _. (taken : List ℕ) × (output : List ℕ) × Consumes stream left taken × UploadFails s taken output × Appends old new output)
 failed s None left old mid new f w = tt
 failed s (Some bytes) left old mid new f w = (
@@ -62,20 +63,20 @@ failed s (Some bytes) left old mid new f w = (
 )
 
 -- what a failed write leaves
-abbrev pub Cut : Upload → Option (List ℕ) → Option (List ℕ) → ℕ → ℕ → Bool → Option (List ℕ) → Option (List ℕ) → Type 0
+abbrev pub Cut : Link → Option (List ℕ) → Option (List ℕ) → ℕ → ℕ → Bool → Option (List ℕ) → Option (List ℕ) → Type 0
 Cut s stream left before now at_end old new =
     IfSome stream (λ bytes. (output : List ℕ) × AppendsFront old new output
     × (((status : ℕ) × UploadGives s bytes status output)
     ⊎ (Rose before now × (at_end ≡ false) × ((taken : List ℕ) × Consumes stream left taken × UploadFails s taken output))))
 
-pub cut_ended : (s : Upload) (status : ℕ) (stream left : Option (List ℕ)) (before now : ℕ) (at_end : Bool) (old mid new : Option (List ℕ)) → Ends s status stream old mid →
+pub cut_ended : (s : Link) (status : ℕ) (stream left : Option (List ℕ)) (before now : ℕ) (at_end : Bool) (old mid new : Option (List ℕ)) → Ends s status stream old mid →
     AppendsFront mid new (end_frame status) → Cut s stream left before now at_end old new
 cut_ended s status None left before now at_end old mid new e w = tt
 cut_ended s status (Some bytes) left before now at_end old mid new e w =
     let all : List ℕ = sent_over s (events_in s e.0) ++ end_frame status in
     (all, front_more old mid new _ _ all e.4 w ([], sym (append-nil all)), inl (status, record { frames = e.0; rest = e.1; takes = e.2; ends = e.3; sends = refl }))
 
-pub cut_failed : (s : Upload) (stream left : Option (List ℕ)) (before now : ℕ) (at_end : Bool) (old mid new : Option (List ℕ)) → Rose before now → at_end ≡ false → Fails s stream left old mid →
+pub cut_failed : (s : Link) (stream left : Option (List ℕ)) (before now : ℕ) (at_end : Bool) (old mid new : Option (List ℕ)) → Rose before now → at_end ≡ false → Fails s stream left old mid →
     AppendsFront mid new (end_frame 6) → Cut s stream left before now at_end old new
 cut_failed s None left before now at_end old mid new rose not_ended f w = tt
 cut_failed s (Some bytes) left before now at_end old mid new rose not_ended f w =
@@ -85,7 +86,7 @@ cut_failed s (Some bytes) left before now at_end old mid new rose not_ended f w 
       inr (rose, not_ended, (f.0, f.3, record { frames = f.1; rest = f.2; takes = f.4; fewer = f.5; going = f.6; begun = f.7; sends = refl })),
     )
 
-pub cut_broken : (s : Upload) (stream left : Option (List ℕ)) (before now : ℕ) (at_end : Bool) (old new : Option (List ℕ)) → Breaks s stream old new → Cut s stream left before now at_end old new
+pub cut_broken : (s : Link) (stream left : Option (List ℕ)) (before now : ℕ) (at_end : Bool) (old new : Option (List ℕ)) → Breaks s stream old new → Cut s stream left before now at_end old new
 cut_broken s None left before now at_end old new b = tt
 cut_broken s (Some bytes) left before now at_end old new b = (b.0, b.1, inl b.2)
 
@@ -95,16 +96,16 @@ cut_broken s (Some bytes) left before now at_end old new b = (b.0, b.1, inl b.2)
 abbrev pub Grew : Option (List ℕ) → Option (List ℕ) → Option (List ℕ) → Type 0
 Grew stream old new = IfSome stream (λ _. (output : List ℕ) × Appends old new output)
 
-pub grew_ended : (s : Upload) (status : ℕ) (stream old new : Option (List ℕ)) → Ends s status stream old new → Grew stream old new
+pub grew_ended : (s : Link) (status : ℕ) (stream old new : Option (List ℕ)) → Ends s status stream old new → Grew stream old new
 grew_ended s status None old new e = tt
 grew_ended s status (Some bytes) old new e = (sent_over s (events_in s e.0), e.4)
 
-pub grew_failed : (s : Upload) (stream left old new : Option (List ℕ)) → Fails s stream left old new → Grew stream old new
+pub grew_failed : (s : Link) (stream left old new : Option (List ℕ)) → Fails s stream left old new → Grew stream old new
 grew_failed s None left old new f = tt
 grew_failed s (Some bytes) left old new f = (sent_over s (events_in s f.1), f.8)
 
 -- more that was sent is prompt too
-pub prompt_kept : (s : Upload) (stream left old mid new : Option (List ℕ)) (more : List ℕ) → StaysPrompt s stream left old mid → Grew stream old mid → AppendsFront mid new more → StaysPrompt s stream left old new
+pub prompt_kept : (s : Link) (stream left old mid new : Option (List ℕ)) (more : List ℕ) → StaysPrompt s stream left old mid → Grew stream old mid → AppendsFront mid new more → StaysPrompt s stream left old new
 prompt_kept s None left old mid new more p grew front bytes behind before taken sent known_bytes known_left cut known_before known_sent gs tail formed cut_so long = absurd (cc)
 prompt_kept s (Some xs) left None mid new more p grew front bytes behind before taken sent known_bytes known_left cut known_before known_sent gs tail formed cut_so long = absurd (cc)
 prompt_kept s (Some xs) left (Some b) None new more p grew front bytes behind before taken sent known_bytes known_left cut known_before known_sent gs tail formed cut_so long = absurd grew.1

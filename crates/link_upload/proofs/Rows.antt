@@ -1,11 +1,12 @@
 -- What an upload of the smallest path sends and how it ends.
-use Rattle.std.proofs.Common.{◌≡◌, ◌<◌, ℕ, [], ◌∷◌, ◌++◌, List, Bool, false, take, refl, arith}
+use Rattle.std.proofs.Common.{◌≡◌, ◌<◌, ℕ, [], ◌∷◌, ◌++◌, List, Bool, false, None, take, refl, arith}
 use Rattle.std.proofs.lemmas.List.Elements.{All-nil, All-cons}
 use Rattle.link_frames.specs.declared.frame.Frame.{Frame}
 use Rattle.link_frames.specs.declared.frame.Frame.TheVariants as frame
 use Rattle.link_frames.specs.Frames.{IsFrame}
 use Rattle.upload_model.specs.Sessions.{Upload, packet_at, write_count, packet_count}
 use Rattle.upload_model.specs.Hosts.{acked, open_writes, all_loaded, flight_of, flight_after, ticks, all_packets, ending, progress_within, progress, out}
+use Rattle.link_upload.specs.Links.{link_of}
 use Rattle.link_upload.specs.Sends.{events_in, sent_over}
 use Rattle.link_upload.specs.Uploads.{UploadGives}
 
@@ -19,7 +20,7 @@ session start = record { memory_id = 2; offset = 0; trajectory_id = 0; loads = r
 abbrev first : List ℕ
 first = 0x50 ∷ 1 ∷ 0x1E ∷ 0x4E ∷ 2 ∷ 0 ∷ 0 ∷ 0 ∷ 0 ∷ (take 24 path ++ 0x50 ∷ 1 ∷ 0x0A ∷ 0x4E ∷ 2 ∷ 0x18 ∷ 0 ∷ 0 ∷ 0 ∷ 3 ∷ 0 ∷ 0 ∷ 0 ∷ [])
 
-before_any : sent_over (session false) [] ≡ first
+before_any : sent_over (link_of (session false)) [] ≡ first
 unfolding sent_over packet_at write_count packet_count acked open_writes all_loaded flight_of flight_after out progress progress_within ending all_packets ticks
 before_any = refl
 
@@ -27,7 +28,7 @@ before_any = refl
 abbrev refusal : Frame
 refusal = frame.Packet 1 (0x4E ∷ 2 ∷ 0 ∷ 0 ∷ 0 ∷ 0 ∷ 5 ∷ [])
 
-row : UploadGives (session false) (0x50 ∷ 1 ∷ 7 ∷ 0x4E ∷ 2 ∷ 0 ∷ 0 ∷ 0 ∷ 0 ∷ 5 ∷ []) 10 (first ++ 0x45 ∷ 10 ∷ [])
+row : UploadGives (link_of (session false)) (0x50 ∷ 1 ∷ 7 ∷ 0x4E ∷ 2 ∷ 0 ∷ 0 ∷ 0 ∷ 0 ∷ 5 ∷ []) 10 (first ++ 0x45 ∷ 10 ∷ [])
 unfolding sent_over packet_at write_count packet_count acked open_writes all_loaded flight_of flight_after out progress progress_within ending all_packets ticks
 row = record {
   frames = refusal ∷ [];
@@ -37,5 +38,5 @@ row = record {
   sends = refl;
 }
   where
-    one : (n : ℕ) → n < 1 → progress (session false) (events_in (session false) (take n (refusal ∷ []))) ≡ Rattle.upload_model.specs.declared.events.Progress.TheVariants.Going
+    one : (n : ℕ) → n < 1 → (link_of (session false)).ended (events_in (link_of (session false)) (take n (refusal ∷ []))) ≡ None
     one n below = let e : n ≡ 0 = omega (arith, below) in rw e refl

@@ -3,44 +3,43 @@ use Rattle.std.proofs.Common.{◌≡◌, List, [], ◌∷◌, ◌++◌, append_a
 use Rattle.std.proofs.lemmas.List.Concat.{flat_map-append}
 use Rattle.link_frames.specs.declared.frame.Frame.{Frame}
 use Rattle.upload_model.specs.declared.events.Event.{Event}
-use Rattle.upload_model.specs.Sessions.{Upload}
-use Rattle.upload_model.specs.Hosts.{flight, out}
+use Rattle.link_upload.specs.Links.{Link}
 use Rattle.link_upload.specs.Sends.{answers_after, event_in, events_in, packet_frames, sent_over}
 use Rattle.link_upload.specs.Uploads.{BeginsWith}
 
-answers-append : (s : Upload) (g xs ys : List Event) → answers_after s g (xs ++ ys) ≡ answers_after s g xs ++ answers_after s (g ++ xs) ys
+answers-append : (s : Link) (g xs ys : List Event) → answers_after s g (xs ++ ys) ≡ answers_after s g xs ++ answers_after s (g ++ xs) ys
 answers-append s g [] ys = ap (λ (h : List Event). answers_after s h ys) (sym (append-nil g))
 answers-append s g (e ∷ es) ys =
-    let front : List ℕ = packet_frames s (out s g e) in
+    let front : List ℕ = packet_frames s (s.out g e) in
     let mid : List ℕ = answers_after s (g ++ e ∷ []) es in
     ap (λ (l : List ℕ). front ++ l) (answers-append s (g ++ e ∷ []) es ys ∙ ap (λ (h : List Event). mid ++ answers_after s h ys) (append_assoc g (e ∷ []) es))
     ∙ sym (append_assoc front mid (answers_after s (g ++ e ∷ es) ys))
 
 -- more events send what they send after the first ones
-pub sent-append : (s : Upload) (h es : List Event) → sent_over s (h ++ es) ≡ sent_over s h ++ answers_after s h es
+pub sent-append : (s : Link) (h es : List Event) → sent_over s (h ++ es) ≡ sent_over s h ++ answers_after s h es
 unfolding sent_over
 sent-append s h es =
-    ap (λ (l : List ℕ). packet_frames s (flight s []) ++ l) (answers-append s [] h es)
-    ∙ sym (append_assoc (packet_frames s (flight s [])) (answers_after s [] h) (answers_after s h es))
+    ap (λ (l : List ℕ). packet_frames s s.first ++ l) (answers-append s [] h es)
+    ∙ sym (append_assoc (packet_frames s s.first) (answers_after s [] h) (answers_after s h es))
 
 -- before any event what is in flight is sent
-pub sent-none : (s : Upload) → sent_over s [] ≡ packet_frames s (flight s [])
+pub sent-none : (s : Link) → sent_over s [] ≡ packet_frames s s.first
 unfolding sent_over
-sent-none s = append-nil (packet_frames s (flight s []))
+sent-none s = append-nil (packet_frames s s.first)
 
 -- the events of frames, one list after the other
-pub events-append : (s : Upload) (xs ys : List Frame) → events_in s (xs ++ ys) ≡ events_in s xs ++ events_in s ys
+pub events-append : (s : Link) (xs ys : List Frame) → events_in s (xs ++ ys) ≡ events_in s xs ++ events_in s ys
 events-append s xs ys = flat_map-append (event_in s) xs ys
 
-pub events-push : (s : Upload) (xs : List Frame) (f : Frame) → events_in s (xs ++ f ∷ []) ≡ events_in s xs ++ event_in s f
+pub events-push : (s : Link) (xs : List Frame) (f : Frame) → events_in s (xs ++ f ∷ []) ≡ events_in s xs ++ event_in s f
 events-push s xs f = events-append s xs (f ∷ []) ∙ ap (λ (l : List Event). events_in s xs ++ l) (append-nil (event_in s f))
 
 -- what one frame more sends
-pub sent-push : (s : Upload) (xs : List Frame) (f : Frame) → sent_over s (events_in s (xs ++ f ∷ [])) ≡ sent_over s (events_in s xs) ++ answers_after s (events_in s xs) (event_in s f)
+pub sent-push : (s : Link) (xs : List Frame) (f : Frame) → sent_over s (events_in s (xs ++ f ∷ [])) ≡ sent_over s (events_in s xs) ++ answers_after s (events_in s xs) (event_in s f)
 sent-push s xs f = ap (λ (h : List Event). sent_over s h) (events-push s xs f) ∙ sent-append s (events_in s xs) (event_in s f)
 
 -- what a front of frames leads to is sent first
-pub sent-front : (s : Upload) (xs ys : List Frame) → BeginsWith (sent_over s (events_in s xs)) (sent_over s (events_in s (xs ++ ys)))
+pub sent-front : (s : Link) (xs ys : List Frame) → BeginsWith (sent_over s (events_in s xs)) (sent_over s (events_in s (xs ++ ys)))
 sent-front s xs ys = (answers_after s (events_in s xs) (events_in s ys), ap (λ (h : List Event). sent_over s h) (events-append s xs ys) ∙ sent-append s (events_in s xs) (events_in s ys))
 
 pub BeginsWith-trans : (a b c : List ℕ) → BeginsWith a b → BeginsWith b c → BeginsWith a c

@@ -1,5 +1,5 @@
 -- An upload comes to one end, with one output.
-use Rattle.std.proofs.Common.{◌≡◌, ◌⊎◌, inl, inr, ℕ, zero, suc, ◌+◌, ◌<◌, ◌≤◌, Bool, true, false, List, [], ◌∷◌, ◌++◌, length, take, append_assoc, append-nil, length-append, refl, sym, ap, ◌∙◌, arith}
+use Rattle.std.proofs.Common.{◌≡◌, ◌⊎◌, inl, inr, ℕ, zero, suc, ◌+◌, ◌<◌, ◌≤◌, Bool, true, false, List, [], ◌∷◌, ◌++◌, length, take, append_assoc, append-nil, length-append, Option, Some, None, refl, sym, ap, ◌∙◌, arith}
 use Rattle.std.specs.Prelude.{◌==◌}
 use Rattle.std.specs.List.{All}
 use Rattle.std.proofs.lemmas.List.{length_push, take_all, take_at, take-append-le}
@@ -11,10 +11,7 @@ use Rattle.link_frames.specs.declared.frame.Frame.{Frame}
 use Rattle.link_frames.specs.declared.frame.Frame.TheVariants as frame
 use Rattle.link_frames.specs.Frames.{BeginsNoFrame, IsFrame, end_frame, frame_bytes, frames_bytes}
 use Rattle.link_frames.proofs.FrameLemmas.{frame_law}
-use Rattle.upload_model.specs.declared.events.Progress.{Progress}
-use Rattle.upload_model.specs.declared.events.Progress.TheVariants.{Going, Done, GaveUp, Refused}
-use Rattle.upload_model.specs.Sessions.{Upload}
-use Rattle.upload_model.specs.Hosts.{progress}
+use Rattle.link_upload.specs.Links.{Link}
 use Rattle.link_upload.specs.Sends.{events_in, sent_over}
 use Rattle.link_upload.specs.Uploads.{BeginsWith, EndsGoing, EndsWith, Takes, UploadGives, UploadLaw, frame_limit}
 use Rattle.link_upload.proofs.SendLemmas.{BeginsWith-trans, sent-front}
@@ -44,8 +41,8 @@ less_or_not (suc a) (suc b) = elim (less_or_not a b) [
 ]
 
 -- where the upload goes on after each front of these frames, and after them, it goes on after each front of one more
-pub going-push : (s : Upload) (fs : List Frame) (f : Frame) → ((n : ℕ) → n < length fs → progress s (events_in s (take n fs)) ≡ Going) → progress s (events_in s fs) ≡ Going →
-    (n : ℕ) → n < length (fs ++ f ∷ []) → progress s (events_in s (take n (fs ++ f ∷ []))) ≡ Going
+pub going-push : (s : Link) (fs : List Frame) (f : Frame) → ((n : ℕ) → n < length fs → s.ended (events_in s (take n fs)) ≡ None) → s.ended (events_in s fs) ≡ None →
+    (n : ℕ) → n < length (fs ++ f ∷ []) → s.ended (events_in s (take n (fs ++ f ∷ []))) ≡ None
 going-push s fs f before now n below =
     let short : n ≤ length fs = omega (arith, below, length_push fs f) in
     rw (take-append-le n fs (f ∷ []) short) (elim (less_or_not n (length fs)) [
@@ -53,10 +50,10 @@ going-push s fs f before now n below =
       | inr same ↦ rw (take_all n fs (omega (arith, same))) now
     ])
 
-pub Takes-none : (s : Upload) (bytes : List ℕ) → Takes s bytes [] bytes
+pub Takes-none : (s : Link) (bytes : List ℕ) → Takes s bytes [] bytes
 Takes-none s bytes = record { cut = refl; each = All-nil IsFrame; few = omega arith; going = λ n below. absurd (omega (arith, below)) }
 
-pub Takes-push : (s : Upload) (bytes rest later : List ℕ) (fs : List Frame) (f : Frame) → Takes s bytes fs rest → progress s (events_in s fs) ≡ Going → length fs < frame_limit → IsFrame f →
+pub Takes-push : (s : Link) (bytes rest later : List ℕ) (fs : List Frame) (f : Frame) → Takes s bytes fs rest → s.ended (events_in s fs) ≡ None → length fs < frame_limit → IsFrame f →
     rest ≡ frame_bytes f ++ later → Takes s bytes (fs ++ f ∷ []) later
 Takes-push s bytes rest later fs f t now few formed is = record {
   cut = t.cut ∙ ap (λ (l : List ℕ). frames_bytes fs ++ l) is ∙ sym (append_assoc (frames_bytes fs) (frame_bytes f) later) ∙ ap (λ (l : List ℕ). l ++ later) (sym (bytes-push fs f));
@@ -67,13 +64,11 @@ Takes-push s bytes rest later fs f t now few formed is = record {
 
 -- ---- one end
 
-one_status : (p : Progress) (full : Bool) (rest : List ℕ) (a b : ℕ) → EndsWith p full rest a → EndsWith p full rest b → a ≡ b
-one_status Going true rest a b x y = x ∙ sym y
-one_status Going false [] a b x y = x ∙ sym y
-one_status Going false (c ∷ cs) a b x y = x.0 ∙ sym y.0
-one_status Done full rest a b x y = x ∙ sym y
-one_status (GaveUp d k) full rest a b x y = x ∙ sym y
-one_status (Refused d k status) full rest a b x y = x ∙ sym y
+one_status : (p : Option ℕ) (full : Bool) (rest : List ℕ) (a b : ℕ) → EndsWith p full rest a → EndsWith p full rest b → a ≡ b
+one_status None true rest a b x y = x ∙ sym y
+one_status None false [] a b x y = x ∙ sym y
+one_status None false (c ∷ cs) a b x y = x.0 ∙ sym y.0
+one_status (Some n) full rest a b x y = x ∙ sym y
 
 -- so many frames are no more than are taken
 pub not_full : (n : ℕ) → n < frame_limit → (n == frame_limit) ≡ false
@@ -88,25 +83,25 @@ open_end false [] status e x = frame_law.begun [] frame_law.none
 open_end false (c ∷ cs) status e x = x.1
 
 -- where an upload ends while it goes on, and before so many frames, no frame stands after its frames
-no_frame : (s : Upload) (frames : List Frame) (rest : List ℕ) (status : ℕ) → EndsWith (progress s (events_in s frames)) (length frames == frame_limit) rest status →
-    progress s (events_in s frames) ≡ Going → length frames < frame_limit → BeginsNoFrame rest
+no_frame : (s : Link) (frames : List Frame) (rest : List ℕ) (status : ℕ) → EndsWith (s.ended (events_in s frames)) (length frames == frame_limit) rest status →
+    s.ended (events_in s frames) ≡ None → length frames < frame_limit → BeginsNoFrame rest
 no_frame s frames rest status ends going few = open_end (length frames == frame_limit) rest status (not_full (length frames) few) (rw going at ends)
 
-same_by : (s : Upload) (bytes : List ℕ) (status other : ℕ) (output others : List ℕ) (a : UploadGives s bytes status output) (b : UploadGives s bytes other others) (more : List Frame) →
+same_by : (s : Link) (bytes : List ℕ) (status other : ℕ) (output others : List ℕ) (a : UploadGives s bytes status output) (b : UploadGives s bytes other others) (more : List Frame) →
     b.frames ≡ a.frames ++ more → a.rest ≡ frames_bytes more ++ b.rest → (status ≡ other) × (output ≡ others)
 same_by s bytes status other output others a b [] is left =
     let same : b.frames ≡ a.frames = is ∙ append-nil a.frames in
-    let st : status ≡ other = one_status (progress s (events_in s a.frames)) (length a.frames == frame_limit) a.rest status other a.ends (rw (same, ← left) at b.ends) in
+    let st : status ≡ other = one_status (s.ended (events_in s a.frames)) (length a.frames == frame_limit) a.rest status other a.ends (rw (same, ← left) at b.ends) in
     (st, a.sends ∙ ap (λ (n : ℕ). sent_over s (events_in s a.frames) ++ end_frame n) st ∙ ap (λ (fs : List Frame). sent_over s (events_in s fs) ++ end_frame other) (sym same) ∙ sym b.sends)
 same_by s bytes status other output others a b (g ∷ more) is left =
     let counted : length b.frames ≡ length a.frames + length (g ∷ more) = ap (λ (fs : List Frame). length fs) is ∙ length-append a.frames (g ∷ more) in
     let front : take (length a.frames) b.frames ≡ a.frames = ap (λ (fs : List Frame). take (length a.frames) fs) is ∙ take_at a.frames (g ∷ more) (length a.frames) refl in
-    let going : progress s (events_in s a.frames) ≡ Going = rw front at (b.takes.going (length a.frames) (omega (arith, counted))) in
+    let going : s.ended (events_in s a.frames) ≡ None = rw front at (b.takes.going (length a.frames) (omega (arith, counted))) in
     let formed : IsFrame g = All-head IsFrame g more (All-later a.frames (g ∷ more) (rw is at b.takes.each)) in
     absurd (no_frame s a.frames a.rest status a.ends going (omega (arith, counted, b.takes.few)) g (frames_bytes more ++ b.rest) formed
     (left ∙ append_assoc (frame_bytes g) (frames_bytes more) b.rest))
 
-one : (s : Upload) (bytes : List ℕ) (status other : ℕ) (output others : List ℕ) → UploadGives s bytes status output → UploadGives s bytes other others → (status ≡ other) × (output ≡ others)
+one : (s : Link) (bytes : List ℕ) (status other : ℕ) (output others : List ℕ) → UploadGives s bytes status output → UploadGives s bytes other others → (status ≡ other) × (output ≡ others)
 one s bytes status other output others a b = elim (compare a.frames b.frames a.rest b.rest (sym a.takes.cut ∙ b.takes.cut)) [
   | inl p ↦ same_by s bytes status other output others a b p.0 p.1 p.2
   | inr p ↦ let e = same_by s bytes other status others output b a p.0 p.1 p.2 in (sym e.0, sym e.1)
@@ -115,37 +110,35 @@ one s bytes status other output others a b = elim (compare a.frames b.frames a.r
 -- ---- some end
 
 -- an end that is come to from these frames
-abbrev pub Comes : Upload → List ℕ → List Frame → Type 0
+abbrev pub Comes : Link → List ℕ → List Frame → Type 0
 Comes s bytes frames = (status : ℕ) × (output : List ℕ) × UploadGives s bytes status output × BeginsWith (sent_over s (events_in s frames)) output
 
-comes : (s : Upload) (bytes rest : List ℕ) (frames : List Frame) (status : ℕ) → Takes s bytes frames rest → EndsWith (progress s (events_in s frames)) (length frames == frame_limit) rest status → Comes s bytes frames
+comes : (s : Link) (bytes rest : List ℕ) (frames : List Frame) (status : ℕ) → Takes s bytes frames rest → EndsWith (s.ended (events_in s frames)) (length frames == frame_limit) rest status → Comes s bytes frames
 comes s bytes rest frames status t ends =
     (status, sent_over s (events_in s frames) ++ end_frame status, record { frames = frames; rest = rest; takes = t; ends = ends; sends = refl }, (end_frame status, refl))
 
-comes_by : (s : Upload) (bytes rest : List ℕ) (frames : List Frame) → Takes s bytes frames rest → (p : Progress) → progress s (events_in s frames) ≡ p →
+comes_by : (s : Link) (bytes rest : List ℕ) (frames : List Frame) → Takes s bytes frames rest → (p : Option ℕ) → s.ended (events_in s frames) ≡ p →
     (full : Bool) → (length frames == frame_limit) ≡ full → BeginsFrame rest ⊎ BeginsNoFrame rest →
     ((f : Frame) (later : List ℕ) → rest ≡ frame_bytes f ++ later → Takes s bytes (frames ++ f ∷ []) later → Comes s bytes (frames ++ f ∷ [])) → Comes s bytes frames
-comes_by s bytes rest frames t Done e full f next go = comes s bytes rest frames 0 t (rw e refl)
-comes_by s bytes rest frames t (GaveUp d k) e full f next go = comes s bytes rest frames 9 t (rw e refl)
-comes_by s bytes rest frames t (Refused d k status) e full f next go = comes s bytes rest frames 10 t (rw e refl)
-comes_by s bytes rest frames t Going e true f next go = comes s bytes rest frames 13 t (rw (e, f) refl)
-comes_by s bytes rest frames t Going e false f (inl (g, later, formed, is)) go =
+comes_by s bytes rest frames t (Some status) e full f next go = comes s bytes rest frames status t (rw e refl)
+comes_by s bytes rest frames t None e true f next go = comes s bytes rest frames 13 t (rw (e, f) refl)
+comes_by s bytes rest frames t None e false f (inl (g, later, formed, is)) go =
     let few : length frames < frame_limit = below (length frames) t.few f in
     let c = go g later is (Takes-push s bytes rest later frames g t e few formed is) in
     (c.0, c.1, c.2, BeginsWith-trans _ _ _ (sent-front s frames (g ∷ [])) c.3)
   where
     below : (n : ℕ) → n ≤ frame_limit → (n == frame_limit) ≡ false → n < frame_limit
     below n l o = grind (arith, nat_tests)
-comes_by s bytes [] frames t Going e false f (inr none) go = comes s bytes [] frames 8 t (rw (e, f) refl)
-comes_by s bytes (c ∷ cs) frames t Going e false f (inr none) go = comes s bytes (c ∷ cs) frames 11 t (rw (e, f) (refl, none))
+comes_by s bytes [] frames t None e false f (inr none) go = comes s bytes [] frames 8 t (rw (e, f) refl)
+comes_by s bytes (c ∷ cs) frames t None e false f (inr none) go = comes s bytes (c ∷ cs) frames 11 t (rw (e, f) (refl, none))
 
-comes_within : (n : ℕ) (s : Upload) (bytes rest : List ℕ) (frames : List Frame) → length rest < n → Takes s bytes frames rest → Comes s bytes frames
+comes_within : (n : ℕ) (s : Link) (bytes rest : List ℕ) (frames : List Frame) → length rest < n → Takes s bytes frames rest → Comes s bytes frames
 comes_within zero s bytes rest frames short t = absurd (omega (arith, short))
 comes_within (suc n) s bytes rest frames short t =
-    comes_by s bytes rest frames t (progress s (events_in s frames)) refl (length frames == frame_limit) refl (found rest)
+    comes_by s bytes rest frames t (s.ended (events_in s frames)) refl (length frames == frame_limit) refl (found rest)
     (λ f later is more. comes_within n s bytes later (frames ++ f ∷ []) (omega (arith, short, ap (λ (l : List ℕ). length l) is, length-append (frame_bytes f) later, frame_some f)) more)
 
-pub some : (s : Upload) (bytes rest : List ℕ) (frames : List Frame) → Takes s bytes frames rest → Comes s bytes frames
+pub some : (s : Link) (bytes rest : List ℕ) (frames : List Frame) → Takes s bytes frames rest → Comes s bytes frames
 some s bytes rest frames t = comes_within (suc (length rest)) s bytes rest frames (omega arith) t
 
 pub upload_law : UploadLaw

@@ -1,5 +1,5 @@
 -- Words of private steps of an upload. No public clause cites them.
-use Rattle.std.specs.Prelude.{◌≡◌, ℕ, ◌<◌, ◌≤◌, ◌==◌, List, ◌++◌, length, All, Option, IfSome}
+use Rattle.std.specs.Prelude.{◌≡◌, ℕ, ◌<◌, ◌≤◌, ◌==◌, List, [], ◌∷◌, ◌++◌, length, All, Contains, Option, None, IfSome}
 use Rattle.std.specs.Io.KnownBytes.{Appends, Consumes, IsAtEnd}
 use Rattle.fleet_io.specs.Taken.{AppendsFront}
 use Rattle.link_frames.specs.declared.frame.Frame.{Frame}
@@ -10,14 +10,9 @@ use Rattle.link_upload.specs.declared.exchange.Stepped.{Stepped}
 use Rattle.link_upload.specs.declared.exchange.Stepped.TheVariants.{Answered, End as StepEnd, Faulty as StepFaulty}
 use Rattle.link_upload.specs.Sends.{answers_after, event_in, events_in, packet_frames, sent_over}
 use Rattle.link_upload.specs.Uploads.{EndsWith, Takes, UploadGives, frame_limit}
-use Rattle.upload_core.specs.HostStandsFor.{HostStandsFor}
-use Rattle.upload_core.specs.HostState.{HostState, IsPacketOf, view_of}
+use Rattle.link_upload.specs.Links.{Link}
 use Rattle.upload_model.specs.declared.events.Event.{Event}
-use Rattle.upload_model.specs.declared.events.Progress.{Progress}
-use Rattle.upload_model.specs.declared.events.Progress.TheVariants.{Going}
 use Rattle.upload_model.specs.declared.events.Sent.{Sent}
-use Rattle.upload_model.specs.Sessions.{Upload}
-use Rattle.upload_model.specs.Hosts.{progress}
 
 -- what a step to the next frame gives of the bytes to come: a frame, the end, or bytes that begin with no whole frame
 abbrev pub NextGives : Next → Option (List ℕ) → Option (List ℕ) → Type 0
@@ -25,38 +20,45 @@ NextGives (Whole f) old new = IsFrame f × Consumes old new (frame_bytes f)
 NextGives End old new = IsAtEnd old
 NextGives Faulty old new = IfSome old (λ bytes. (1 ≤ length bytes) × BeginsNoFrame bytes)
 
--- A host took this frame from the bytes to come, of an upload that was going: what it says of the upload then, how far that
--- is, and what is to be sent.
-pub record TakesFrame (progress_now : Progress) (old new : HostState) (sent : List Sent) (before after : Option (List ℕ)) : Type 0 where
+-- What a host is to a link: what it does, the events that it stands for, and its packets.
+pub record AtLink : Type 1 where
+  pub link : Link
+  pub Stands : List Event → Type 0
+  pub Knows : Sent → Type 0
+
+-- A host took this frame from the bytes to come, of an upload that was going: the status with which it has ended the upload then, if it
+-- has, and what is to be sent.
+pub record TakesFrame (status_now : Option ℕ) (old new : AtLink) (sent : List Sent) (before after : Option (List ℕ)) : Type 0 where
   pub frame : Frame
   pub formed : IsFrame frame
   pub taken : Consumes before after (frame_bytes frame)
-  pub session : new.session ≡ old.session
-  pub stands : (h : List Event) → HostStandsFor (view_of old) h → progress old.session h ≡ Going → HostStandsFor (view_of new) (h ++ event_in old.session frame)
-  pub answer : (h : List Event) → HostStandsFor (view_of old) h → progress old.session h ≡ Going → progress_now ≡ progress old.session (h ++ event_in old.session frame)
-  pub sends : (h : List Event) → HostStandsFor (view_of old) h → progress old.session h ≡ Going →
-      packet_frames old.session sent ≡ answers_after old.session h (event_in old.session frame)
-  pub known : All (IsPacketOf old.session) sent
+  pub link : new.link ≡ old.link
+  pub stands : (h : List Event) → old.Stands h → old.link.ended h ≡ None → new.Stands (h ++ event_in old.link frame)
+  pub answer : (h : List Event) → old.Stands h → old.link.ended h ≡ None → status_now ≡ old.link.ended (h ++ event_in old.link frame)
+  pub sends : (h : List Event) → old.Stands h → old.link.ended h ≡ None →
+      packet_frames old.link sent ≡ answers_after old.link h (event_in old.link frame)
+  pub known : All new.Knows sent
+  pub statuses : IfSome status_now (λ status. Contains (0 ∷ 9 ∷ 10 ∷ 14 ∷ []) status)
 
 -- What a step gives of the bytes to come: a frame that the host took, the end, or bytes that begin with no whole frame.
-abbrev pub StepGives : Stepped → HostState → HostState → List Sent → Option (List ℕ) → Option (List ℕ) → Type 0
-StepGives (Answered progress_now) old new sent before after = TakesFrame progress_now old new sent before after
+abbrev pub StepGives : Stepped → AtLink → AtLink → List Sent → Option (List ℕ) → Option (List ℕ) → Type 0
+StepGives (Answered status_now) old new sent before after = TakesFrame status_now old new sent before after
 StepGives StepEnd old new sent before after = NextGives End before after
 StepGives StepFaulty old new sent before after = NextGives Faulty before after
 
 -- The bytes to come lead to this status, and all that they lead to was sent, but for the end frame.
-abbrev pub Ends : Upload → ℕ → Option (List ℕ) → Option (List ℕ) → Option (List ℕ) → Type 0
+abbrev pub Ends : Link → ℕ → Option (List ℕ) → Option (List ℕ) → Option (List ℕ) → Type 0
 Ends s status stream old new =
     IfSome stream (λ bytes. (frames : List Frame) × (rest : List ℕ) × Takes s bytes frames rest
-    × EndsWith (progress s (events_in s frames)) (length frames == frame_limit) rest status × Appends old new (sent_over s (events_in s frames)))
+    × EndsWith (s.ended (events_in s frames)) (length frames == frame_limit) rest status × Appends old new (sent_over s (events_in s frames)))
 
 -- A read failed after these frames, and all that they lead to was sent.
-abbrev pub Fails : Upload → Option (List ℕ) → Option (List ℕ) → Option (List ℕ) → Option (List ℕ) → Type 0
+abbrev pub Fails : Link → Option (List ℕ) → Option (List ℕ) → Option (List ℕ) → Option (List ℕ) → Type 0
 Fails s stream left old new =
     IfSome stream (λ _. (taken : List ℕ) × (frames : List Frame) × (rest : List ℕ) × Consumes stream left taken × Takes s taken frames rest
-    × (length frames < frame_limit) × (progress s (events_in s frames) ≡ Going) × IsBegun rest × Appends old new (sent_over s (events_in s frames)))
+    × (length frames < frame_limit) × (s.ended (events_in s frames) ≡ None) × IsBegun rest × Appends old new (sent_over s (events_in s frames)))
 
 -- A write failed: some front of what the bytes to come lead to was sent.
-abbrev pub Breaks : Upload → Option (List ℕ) → Option (List ℕ) → Option (List ℕ) → Type 0
+abbrev pub Breaks : Link → Option (List ℕ) → Option (List ℕ) → Option (List ℕ) → Type 0
 Breaks s stream old new =
     IfSome stream (λ bytes. (output : List ℕ) × AppendsFront old new output × ((status : ℕ) × UploadGives s bytes status output))

@@ -1,6 +1,6 @@
 //! An upload between a source and a sink, from the first packets to the end frame.
 
-ghost use Rattle.std.specs.Prelude.{◌≡◌, ◌≢◌, ◌⊎◌, ◌≤◌, ◌++◌, [], ◌∷◌, ℕ, List, length, false, IsTrue, All, Contains, IfOk, IfSome, OnOk, OnErr, Err};
+ghost use Rattle.std.specs.Prelude.{◌≡◌, ◌≢◌, ◌⊎◌, ◌≤◌, ◌++◌, [], ◌∷◌, ℕ, List, length, false, None, IsTrue, All, Contains, IfOk, IfSome, OnOk, OnErr, Err};
 ghost use Rattle.std.specs.Io.KnownBytes.{Appends, Consumes, IsAtEnd};
 ghost use Rattle.fleet_io.specs.Causes.{HasCause, Rose};
 ghost use Rattle.fleet_io.specs.Held.{buffer_bytes, stream};
@@ -9,62 +9,61 @@ ghost use Rattle.link_frames.specs.Frames.{IsBegun, IsFrame, end_frame, frame_of
 ghost use Rattle.link_upload.specs.Sends.{answers_after, event_in, packet_frames};
 ghost use Rattle.link_upload.specs.Steps.{Breaks, Ends, Fails, StepGives};
 ghost use Rattle.link_upload.specs.Uploads.{StaysPrompt, UploadFails, UploadGives};
-ghost use Rattle.upload_core.specs.HostStandsFor.{HostStandsFor};
-ghost use Rattle.upload_core.specs.HostState.{IsPacketOf, view_of};
-ghost use Rattle.upload_model.specs.Hosts.{progress};
 ghost use Rattle.upload_model.specs.declared.events.Event.{Event};
-ghost use Rattle.upload_model.specs.declared.events.Progress.TheVariants as progress_is;
 
+use crate::host::LinkHost;
 use crate::input::{Next, next_frame};
 use crate::output::send;
 use fleet_io::{Failed, Parts, Sink, Source, write_whole};
 use link_frames::{END_BYTE, View, whole_frame};
-use upload_core::{Event, Host, Out, Progress};
+use upload_core::Out;
 
 // Hands a frame to the host of an upload that is going. A packet of a drone that isn't in the session is no event.
 #[inline(always)]
-fn answer(host: &mut Host, frame: View<'_>, out: &mut Out) -> Progress
+fn answer<H: LinkHost>(host: &mut H, frame: View<'_>, out: &mut Out) -> Option<u8>
     requires formed { IsFrame (frame_of frame) }
-    ensures session { host.new.session ≡ host.old.session }
-    ensures stands { (h : List Event) → HostStandsFor (view_of host.old) h → progress host.old.session h ≡ progress_is.Going
-        → HostStandsFor (view_of host.new) (h ++ event_in host.old.session (frame_of frame.entry)) }
-    ensures answer { (h : List Event) → HostStandsFor (view_of host.old) h → progress host.old.session h ≡ progress_is.Going
-        → result ≡ progress host.old.session (h ++ event_in host.old.session (frame_of frame.entry)) }
-    ensures sent { (h : List Event) → HostStandsFor (view_of host.old) h → progress host.old.session h ≡ progress_is.Going
-        → packet_frames host.old.session out.new.items ≡ answers_after host.old.session h (event_in host.old.session (frame_of frame.entry)) }
-    ensures known { All (IsPacketOf host.old.session) out.new.items }
+    ensures link { H.link host.new ≡ H.link host.old }
+    ensures stands { (h : List Event) → H.stands host.old h → (H.link host.old).ended h ≡ None
+        → H.stands host.new (h ++ event_in (H.link host.old) (frame_of frame.entry)) }
+    ensures answer { (h : List Event) → H.stands host.old h → (H.link host.old).ended h ≡ None
+        → result ≡ (H.link host.old).ended (h ++ event_in (H.link host.old) (frame_of frame.entry)) }
+    ensures sent { (h : List Event) → H.stands host.old h → (H.link host.old).ended h ≡ None
+        → packet_frames (H.link host.old) out.new.items ≡ answers_after (H.link host.old) h (event_in (H.link host.old) (frame_of frame.entry)) }
+    ensures known { All (H.knows host.new) out.new.items }
+    ensures statuses { IfSome result (λ status. Contains (0 ∷ 9 ∷ 10 ∷ 14 ∷ []) status) }
 {
     match frame {
-        View::Tick => host.event(Event::Tick, out),
+        View::Tick => host.take_tick(out),
         View::Packet { drone, packet } => {
-            if usize::from(drone) > host.session().drones() {
+            if usize::from(drone) > host.drone_count() {
                 out.clear();
-                return Progress::Going;
+                return None;
             }
-            host.hear(drone - 1, packet, out)
+            host.take_packet(drone - 1, packet, out)
         }
     }
 }
 
 // What a step to the next frame did.
 enum Stepped {
-    Answered { progress: Progress },
+    Answered { status: Option<u8> },
     End,
     Faulty,
 }
 
 // Takes the next frame, and hands it to the host of an upload that is going: as it stands where the source has given all of
 // it, else byte by byte.
-fn step<S: Source>(
+fn step<S: Source, H: LinkHost>(
     parts: &mut Parts,
     source: &mut S,
-    host: &mut Host,
+    host: &mut H,
     out: &mut Out,
 ) -> Result<Stepped, Failed>
     requires sound { IsTrue parts.old.sound }
     requires at_end { IsTrue parts.old.ended → IsAtEnd (S.left source.old) }
     requires holds { length parts.old.waiting ≤ buffer_bytes }
-    ensures gives { IfOk result (λ stepped. StepGives stepped host.old host.new out.new.items (stream parts.old (S.left source.old)) (stream parts.new (S.left source.new))) }
+    ensures gives { IfOk result (λ stepped. StepGives stepped (record { link = H.link host.old; Stands = H.stands host.old; Knows = H.knows host.old })
+        (record { link = H.link host.new; Stands = H.stands host.new; Knows = H.knows host.new }) out.new.items (stream parts.old (S.left source.old)) (stream parts.new (S.left source.new))) }
     ensures failed { OnErr result ((parts.old.ended ≡ false) × (parts.new.waiting ≡ [])
         × ((begun : List ℕ) × IsBegun begun × Consumes (stream parts.old (S.left source.old)) (S.left source.new) begun)) }
     ensures sound { OnOk result (IsTrue parts.new.sound) }
@@ -76,14 +75,14 @@ fn step<S: Source>(
 {
     if let Some(frame) = whole_frame(parts.waiting()) {
         let size = frame.size();
-        let progress = answer(host, frame, out);
+        let status = answer(host, frame, out);
         parts.take_waiting(size);
-        return Ok(Stepped::Answered { progress });
+        return Ok(Stepped::Answered { status });
     }
     match next_frame(parts, source)? {
         Next::Whole { f } => {
-            let progress = answer(host, f.view(), out);
-            Ok(Stepped::Answered { progress })
+            let status = answer(host, f.view(), out);
+            Ok(Stepped::Answered { status })
         }
         Next::End => Ok(Stepped::End),
         Next::Faulty => Ok(Stepped::Faulty),
@@ -100,18 +99,12 @@ enum Broken {
 // The most frames that are taken in one upload.
 const FRAME_LIMIT: u32 = 4_000_000;
 
-// How an upload ends.
-const DONE: u8 = 0;
-
+// How an upload ends short of its own end.
 const READ_FAILED: u8 = 6;
 
 const WRITE_FAILED: u8 = 7;
 
 const ENDED: u8 = 8;
-
-const GAVE_UP: u8 = 9;
-
-const REFUSED: u8 = 10;
 
 const FAULTY: u8 = 11;
 
@@ -119,33 +112,33 @@ const TOO_MANY_FRAMES: u8 = 13;
 
 // Carries an upload to its end, and returns the status. All that the frames lead to has gone out then, but not the end
 // frame.
-fn carry<S: Source, K: Sink>(
+fn carry<S: Source, K: Sink, H: LinkHost + Drop>(
     parts: &mut Parts,
     source: &mut S,
-    mut host: Host,
+    mut host: H,
     sink: &mut K,
 ) -> Result<u8, Broken>
     requires sound { IsTrue parts.old.sound }
     requires at_end { IsTrue parts.old.ended → IsAtEnd (S.left source.old) }
     requires holds { length parts.old.waiting ≤ buffer_bytes }
-    requires new { HostStandsFor (view_of host) [] }
-    ensures ends { IfOk result (λ status. Ends host.session status (stream parts.old (S.left source.old)) (K.written sink.old) (K.written sink.new)) }
+    requires new { H.stands host [] }
+    ensures ends { IfOk result (λ status. Ends (H.link host) status (stream parts.old (S.left source.old)) (K.written sink.old) (K.written sink.new)) }
     ensures read { result ≡ Err Broken.Read → Rose (S.faults source.old) (S.faults source.new) × (parts.old.ended ≡ false)
-        × Fails host.session (stream parts.old (S.left source.old)) (S.left source.new) (K.written sink.old) (K.written sink.new) }
+        × Fails (H.link host) (stream parts.old (S.left source.old)) (S.left source.new) (K.written sink.old) (K.written sink.new) }
     ensures write { result ≡ Err Broken.Write → Rose (K.faults sink.old) (K.faults sink.new)
-        × Breaks host.session (stream parts.old (S.left source.old)) (K.written sink.old) (K.written sink.new) }
-    ensures prompt { StaysPrompt host.session (stream parts.old (S.left source.old)) (S.left source.new) (K.written sink.old) (K.written sink.new) }
+        × Breaks (H.link host) (stream parts.old (S.left source.old)) (K.written sink.old) (K.written sink.new) }
+    ensures prompt { StaysPrompt (H.link host) (stream parts.old (S.left source.old)) (S.left source.new) (K.written sink.old) (K.written sink.new) }
     ensures grown { (sent : List ℕ) × Appends (K.written sink.old) (K.written sink.new) sent }
-    ensures known { IfOk result (λ status. Contains (0 ∷ 8 ∷ 9 ∷ 10 ∷ 11 ∷ 13 ∷ []) status) }
+    ensures known { IfOk result (λ status. Contains (0 ∷ 8 ∷ 9 ∷ 10 ∷ 11 ∷ 13 ∷ 14 ∷ []) status) }
     ensures left { TakesFront (S.left source.old) (S.left source.new) }
     ensures source_later { S.faults source.old ≤ S.faults source.new }
     ensures sink_later { K.faults sink.old ≤ K.faults sink.new }
 {
     // There is a drone, so the upload goes on before any frame.
-    let _ = host.session().drones();
+    let _ = host.drone_count();
     let mut out = Out::new();
-    host.first(&mut out);
-    match send(host.session(), out.as_slice(), sink) {
+    host.put_first(&mut out);
+    match send(&host, out.as_slice(), sink) {
         Ok(()) => {}
         Err(Failed) => return Err(Broken::Write),
     }
@@ -154,20 +147,18 @@ fn carry<S: Source, K: Sink>(
             Ok(stepped) => stepped,
             Err(Failed) => return Err(Broken::Read),
         };
-        let progress = match stepped {
-            Stepped::Answered { progress } => progress,
+        let end_status = match stepped {
+            Stepped::Answered { status } => status,
             Stepped::End => return Ok(ENDED),
             Stepped::Faulty => return Ok(FAULTY),
         };
-        match send(host.session(), out.as_slice(), sink) {
+        match send(&host, out.as_slice(), sink) {
             Ok(()) => {}
             Err(Failed) => return Err(Broken::Write),
         }
-        match progress {
-            Progress::Going => {}
-            Progress::Done => return Ok(DONE),
-            Progress::GaveUp { .. } => return Ok(GAVE_UP),
-            Progress::Refused { .. } => return Ok(REFUSED),
+        match end_status {
+            None => {}
+            Some(status) => return Ok(status),
         }
     }
     Ok(TOO_MANY_FRAMES)
@@ -188,32 +179,37 @@ fn finish<K: Sink>(sink: &mut K, status: u8) -> u8
 }
 
 /// Carries an upload through link frames (docs/RADIO.md, "Link frames"). What the host sends goes into the sink, and what
-/// the source gives goes to the host, until the upload is done (0), given up (9) or refused (10), 4,000,000 frames were
-/// taken (13), a byte has no place or the last frame isn't finished (11), the source ends (8), or a read fails (6). The end
+/// the source gives goes to the host, until the upload is done (0), given up (9) or refused (10), or with read-back a byte
+/// differs (14), 4,000,000 frames were taken (13), a byte has no place or the last frame isn't finished (11), the source ends (8), or a read fails (6). The end
 /// frame with that status goes out last. It returns the status, or 7 where a write failed. It takes no memory.
-pub fn upload<S: Source, K: Sink>(parts: &mut Parts, source: &mut S, host: Host, sink: &mut K) -> u8
+pub fn upload<S: Source, K: Sink, H: LinkHost + Drop>(
+    parts: &mut Parts,
+    source: &mut S,
+    host: H,
+    sink: &mut K,
+) -> u8
     requires sound { IsTrue parts.old.sound }
     requires at_end { IsTrue parts.old.ended → IsAtEnd (S.left source.old) }
     requires holds { length parts.old.waiting ≤ buffer_bytes }
-    requires new { HostStandsFor (view_of host) [] }
+    requires new { H.stands host [] }
     // Each status but 6 and 7 is that to which the bytes lead, and all that they lead to was sent.
     ensures ends { result ≢ 6 → result ≢ 7 → IfSome (stream parts.old (S.left source.old)) (λ bytes. (output : List ℕ)
-        × UploadGives host.session bytes result output × Appends (K.written sink.old) (K.written sink.new) output) }
+        × UploadGives (H.link host) bytes result output × Appends (K.written sink.old) (K.written sink.new) output) }
     // A read failed: what the frames before it lead to was sent, and the end frame of 6.
     ensures six { result ≡ 6 → Rose (S.faults source.old) (S.faults source.new) × (parts.old.ended ≡ false)
         × IfSome (stream parts.old (S.left source.old)) (λ _. (taken output : List ℕ) × Consumes (stream parts.old (S.left source.old)) (S.left source.new) taken
-        × UploadFails host.session taken output × Appends (K.written sink.old) (K.written sink.new) output) }
+        × UploadFails (H.link host) taken output × Appends (K.written sink.old) (K.written sink.new) output) }
     // A write failed: a prefix was sent of what the bytes lead to, or those before a failed read.
     ensures seven { result ≡ 7 → Rose (K.faults sink.old) (K.faults sink.new)
         × IfSome (stream parts.old (S.left source.old)) (λ bytes. (output : List ℕ) × AppendsFront (K.written sink.old) (K.written sink.new) output
-        × (((status : ℕ) × UploadGives host.session bytes status output)
+        × (((status : ℕ) × UploadGives (H.link host) bytes status output)
         ⊎ (Rose (S.faults source.old) (S.faults source.new) × (parts.old.ended ≡ false)
-        × ((taken : List ℕ) × Consumes (stream parts.old (S.left source.old)) (S.left source.new) taken × UploadFails host.session taken output)))) }
+        × ((taken : List ℕ) × Consumes (stream parts.old (S.left source.old)) (S.left source.new) taken × UploadFails (H.link host) taken output)))) }
     // No answer waits for much further input.
-    ensures prompt { StaysPrompt host.session (stream parts.old (S.left source.old)) (S.left source.new) (K.written sink.old) (K.written sink.new) }
+    ensures prompt { StaysPrompt (H.link host) (stream parts.old (S.left source.old)) (S.left source.new) (K.written sink.old) (K.written sink.new) }
     // Whether or not the source tells its bytes: what the sink holds only grows.
     ensures grown { (sent : List ℕ) × Appends (K.written sink.old) (K.written sink.new) sent }
-    ensures known { Contains (0 ∷ 6 ∷ 7 ∷ 8 ∷ 9 ∷ 10 ∷ 11 ∷ 13 ∷ []) result }
+    ensures known { Contains (0 ∷ 6 ∷ 7 ∷ 8 ∷ 9 ∷ 10 ∷ 11 ∷ 13 ∷ 14 ∷ []) result }
     ensures taken { TakesFront (S.left source.old) (S.left source.new) }
     ensures source_later { S.faults source.old ≤ S.faults source.new }
     ensures sink_later { K.faults sink.old ≤ K.faults sink.new }

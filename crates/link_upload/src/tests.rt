@@ -3,9 +3,11 @@
 ghost use Rattle.std.specs.Prelude.{[], IfOk, None};
 ghost use Rattle.upload_core.specs.HostState.{view_of};
 ghost use Rattle.upload_core.specs.HostStandsFor.{HostStandsFor};
+ghost use Rattle.readback_core.specs.CarefulState.{CarefulStandsFor};
 
 use super::*;
 use fleet_io::{Failed, MemSink, MemSource, Parts, Sink, Source};
+use readback_core::Careful;
 use std::alloc::{AllocError, Global};
 use std::cell::Cell;
 use std::test::Fail;
@@ -454,6 +456,83 @@ fn both_ends_fail(rt: HostRuntime) -> Result<(), Fail> {
         )?;
         assert_eq!(rt; ran.status, 7);
         assert_eq!(rt; ran.sink.written(), output);
+    }
+    Ok(())
+}
+
+// A host with read-back, of the path to one drone.
+fn careful_of(alloc: Global, start: bool) -> Result<Careful, AllocError>
+    ensures { IfOk result (λ c. CarefulStandsFor c []) }
+{
+    let mut loads = Vec::new(alloc);
+    loads.push(Load {
+        bytes: Listed::from_vec(PATH.to_vec(alloc)?),
+        pieces: 1,
+    })?;
+    let settings = Settings {
+        memory_id: 2,
+        offset: 0,
+        trajectory_id: 0,
+    };
+    Careful::make(alloc, Session::make(alloc, settings, &loads, false)?, start)
+}
+
+// The frames of the two reads.
+const READS: &[u8] =
+    b"\x50\x01\x07\x4D\x02\x00\x00\x00\x00\x14\x50\x01\x07\x4D\x02\x14\x00\x00\x00\x08";
+
+// Frames that come in: the answers to the reads, and to the second one with another byte at its third place.
+const READ_FIRST: &[u8] =
+    b"\x50\x01\x1B\x4D\x02\x00\x00\x00\x00\x00\x00\x00\x00\x00\xE8\x03\x00\x00\x03\xD0\x07\x00\x00\x00\x00\x00\x00\xE8\x03\xE8";
+
+const READ_SECOND: &[u8] =
+    b"\x50\x01\x0F\x4D\x02\x14\x00\x00\x00\x00\x03\xE8\x03\xE8\x03\x00\x00\x00";
+
+const READ_OTHER: &[u8] =
+    b"\x50\x01\x0F\x4D\x02\x14\x00\x00\x00\x00\x03\xE8\x04\xE8\x03\x00\x00\x00";
+
+// Whether an upload of this input with read-back ends with this status, after this output and the end frame.
+fn ends_carefully(
+    alloc: Global,
+    start: bool,
+    input: &[&[u8]],
+    status: u8,
+    output: &[&[u8]],
+) -> Result<bool, AllocError> {
+    let mut wanted = joined(alloc, output)?;
+    wanted.extend_from_slice(&[0x45, status])?;
+    let mut source = MemSource::make(joined(alloc, input)?, 7, Vec::from_slice(alloc, &[0])?);
+    let mut sink = MemSink::make(alloc, 4000, 4000, Vec::from_slice(alloc, &[0])?)?;
+    let mut parts = Parts::make();
+    let ended = upload(
+        &mut parts,
+        &mut source,
+        careful_of(alloc, start)?,
+        &mut sink,
+    );
+    Ok(ended == status && sink.written() == wanted.as_slice())
+}
+
+#[test]
+fn memories_are_read_back(rt: HostRuntime) -> Result<(), Fail> {
+    let loaded: [&[u8]; 3] = [WROTE_FIRST, WROTE_SECOND, DEFINED];
+    let all: [&[u8]; 6] = [
+        WROTE_FIRST,
+        WROTE_SECOND,
+        DEFINED,
+        READ_SECOND,
+        READ_FIRST,
+        STARTED,
+    ];
+    let other: [&[u8]; 4] = [WROTE_FIRST, WROTE_SECOND, DEFINED, READ_OTHER];
+    let rows: [Row; 4] = [
+        (false, &all[..5], 0, &[FIRST, DEFINE, READS]),
+        (true, &all, 0, &[FIRST, DEFINE, READS, START]),
+        (true, &other, 14, &[FIRST, DEFINE, READS]),
+        (true, &loaded, 8, &[FIRST, DEFINE, READS]),
+    ];
+    for (start, input, status, output) in rows {
+        assert!(rt; ends_carefully(rt.alloc(), start, input, status, output)?);
     }
     Ok(())
 }

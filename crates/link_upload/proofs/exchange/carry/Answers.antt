@@ -1,27 +1,24 @@
 use Rattle.std.proofs.Common.{refl, sym, ◌∙◌, arith}
-use Rattle.upload_core.specs.HostState.{view_of}
-use Rattle.upload_model.proofs.HostSteps.{progress-nil}
 use Rattle.fleet_io.proofs.TakenLemmas.{TakesFront-none, TakesFront-trans}
 use Rattle.link_upload.specs.Sends.{events_in}
-use Rattle.link_upload.proofs.CarryLemmas.{Carries-none, Carries-push, Rose-later, answered, breaks, breaks_first, end_answered, end_faulty, end_full, end_none, fails, grown_by, grown_front, grown_more, prompt_answered, prompt_broken, prompt_carried, prompt_first, short_begun, short_end, short_faulty, short_frame, short_waiting}
+use Rattle.link_upload.proofs.CarryLemmas.{Carries-none, Carries-push, Rose-later, answered, breaks, breaks_first, end_answered, end_faulty, end_full, end_known, end_none, fails, grown_by, grown_front, grown_more, prompt_answered, prompt_broken, prompt_carried, prompt_first, short_begun, short_end, short_faulty, short_frame, short_waiting}
 use Rattle.link_upload.proofs.exchange.carry.Goals as goal
 
 -- ---- before any frame
 
 pub returns-in-Err-clause-write : goal.returns-in-Err-clause-write
 returns-in-Err-clause-write g c = λ _.
-    let front = rw (c.session-2.ensures, c.as_slice.ensures.value, c.first.ensures.sent) at c.in-Err.ensures.front in
-    (c.in-Err.ensures.cause.failed, breaks_first c.args.host.session _ _ _ front)
+    let front = rw (c.as_slice.ensures.value, c.put_first.ensures.sent) at c.in-Err.ensures.front in
+    (c.in-Err.ensures.cause.failed, breaks_first (g.H.LinkHost.link c.args.host) _ _ _ front)
 
 pub returns-in-Err-clause-prompt : goal.returns-in-Err-clause-prompt
-returns-in-Err-clause-prompt g c = prompt_first c.args.host.session c.args.parts.now.waiting _ _ _ c.requires.holds
+returns-in-Err-clause-prompt g c = prompt_first (g.H.LinkHost.link c.args.host) c.args.parts.now.waiting _ _ _ c.requires.holds
 
 pub frames-init : goal.frames-init
 frames-init g c =
-    let some = rw c.session.ensures at (rw c.drones.ensures.value at c.drones.ensures.some) in
     record {
-      carries = Carries-none c.args.host.session _ _ _ _ c.requires.new (progress-nil c.args.host.session some) (rw (c.session-2.ensures, c.as_slice.ensures.value, c.first.ensures.sent) at c.in-Ok.ensures.ok);
-      session = refl;
+      carries = Carries-none (g.H.LinkHost.link c.args.host) _ _ _ _ c.requires.new c.drone_count.ensures.going (rw (c.as_slice.ensures.value, c.put_first.ensures.sent) at c.in-Ok.ensures.ok);
+      link = refl;
       sound = c.requires.sound;
       holds = c.requires.holds;
       at_end = c.requires.at_end;
@@ -40,22 +37,22 @@ returns-in-Err-step-clause-read g c = λ _.
     let failed = c.in-Err-step.ensures.failed in (
       Rose-later _ _ _ inv.source_later c.in-Err-step.ensures.cause.failed,
       inv.began failed.0,
-      fails c.args.host.session _ _ _ _ _ _ _ carries c.frames-test.true failed.2.0 failed.2.1 failed.2.2,
+      fails (g.H.LinkHost.link c.args.host) _ _ _ _ _ _ _ carries c.frames-test.true failed.2.0 failed.2.1 failed.2.2,
     )
 
 pub returns-in-Err-step-clause-prompt : goal.returns-in-Err-step-clause-prompt
 returns-in-Err-step-clause-prompt g c =
     let failed = c.in-Err-step.ensures.failed in
-    prompt_carried c.args.host.session _ _ _ _ _ _ _ c.frames.invariant.carries (short_begun _ _ failed.2.0 failed.2.1 failed.2.2)
+    prompt_carried (g.H.LinkHost.link c.args.host) _ _ _ _ _ _ _ c.frames.invariant.carries (short_begun _ _ failed.2.0 failed.2.1 failed.2.2)
 
 pub returns-in-Err-step-clause-left : goal.returns-in-Err-step-clause-left
 returns-in-Err-step-clause-left g c = TakesFront-trans _ _ _ c.frames.invariant.left c.step.ensures.left
 
 pub returns-in-End-clause-ends : goal.returns-in-End-clause-ends
-returns-in-End-clause-ends g c = end_none c.args.host.session _ _ _ _ _ _ c.frames.invariant.carries c.frames-test.true (rw c.in-End.is at c.in-Ok-step.ensures.gives)
+returns-in-End-clause-ends g c = end_none (g.H.LinkHost.link c.args.host) _ _ _ _ _ _ c.frames.invariant.carries c.frames-test.true (rw c.in-End.is at c.in-Ok-step.ensures.gives)
 
 pub returns-in-End-clause-prompt : goal.returns-in-End-clause-prompt
-returns-in-End-clause-prompt g c = prompt_carried c.args.host.session _ _ _ _ _ _ _ c.frames.invariant.carries (short_end _ _ (rw c.in-End.is at c.in-Ok-step.ensures.gives))
+returns-in-End-clause-prompt g c = prompt_carried (g.H.LinkHost.link c.args.host) _ _ _ _ _ _ _ c.frames.invariant.carries (short_end _ _ (rw c.in-End.is at c.in-Ok-step.ensures.gives))
 
 pub returns-in-End-clause-known : goal.returns-in-End-clause-known
 returns-in-End-clause-known g c = (1, omega arith, refl)
@@ -64,10 +61,10 @@ pub returns-in-End-clause-left : goal.returns-in-End-clause-left
 returns-in-End-clause-left g c = TakesFront-trans _ _ _ c.frames.invariant.left c.step.ensures.left
 
 pub returns-in-Faulty-clause-ends : goal.returns-in-Faulty-clause-ends
-returns-in-Faulty-clause-ends g c = end_faulty c.args.host.session _ _ _ _ _ _ c.frames.invariant.carries c.frames-test.true (rw c.in-Faulty.is at c.in-Ok-step.ensures.gives)
+returns-in-Faulty-clause-ends g c = end_faulty (g.H.LinkHost.link c.args.host) _ _ _ _ _ _ c.frames.invariant.carries c.frames-test.true (rw c.in-Faulty.is at c.in-Ok-step.ensures.gives)
 
 pub returns-in-Faulty-clause-prompt : goal.returns-in-Faulty-clause-prompt
-returns-in-Faulty-clause-prompt g c = prompt_carried c.args.host.session _ _ _ _ _ _ _ c.frames.invariant.carries (short_faulty _ _ (rw c.in-Faulty.is at c.in-Ok-step.ensures.gives))
+returns-in-Faulty-clause-prompt g c = prompt_carried (g.H.LinkHost.link c.args.host) _ _ _ _ _ _ _ c.frames.invariant.carries (short_faulty _ _ (rw c.in-Faulty.is at c.in-Ok-step.ensures.gives))
 
 pub returns-in-Faulty-clause-known : goal.returns-in-Faulty-clause-known
 returns-in-Faulty-clause-known g c = (4, omega arith, refl)
@@ -82,108 +79,58 @@ returns-in-Err-send-clause-write g c = λ _.
     let inv = c.frames.invariant in
     let carries = inv.carries in
     let took = rw c.in-Answered.is at c.in-Ok-step.ensures.gives in
-    let a = answered c.args.host.session c.frames.host.session (view_of c.frames.host) (view_of c.step.new.host) took.frame c.in-Answered.progress c.step.new.out.items
-    (events_in c.args.host.session carries.frames) inv.session carries.stands carries.going took.stands took.answer took.sends in
-    let out = rw (c.session-in-frames.ensures, took.session, inv.session, c.as_slice-in-frames.ensures.value, a.sent) at c.in-Err-send.ensures.front in
-    (Rose-later _ _ _ inv.sink_later c.in-Err-send.ensures.cause.failed, breaks c.args.host.session _ _ _ _ _ _ _ _ carries took.frame took.formed c.frames-test.true took.taken out)
+    let a = answered (g.H.LinkHost.link c.args.host) (g.H.LinkHost.link c.frames.host) (g.H.LinkHost.stands c.frames.host) (g.H.LinkHost.stands c.step.new.host) took.frame c.in-Answered.status c.step.new.out.items
+    (events_in (g.H.LinkHost.link c.args.host) carries.frames) inv.link carries.stands carries.going took.stands took.answer took.sends in
+    let out = rw (took.link, inv.link, c.as_slice-in-frames.ensures.value, a.sent) at c.in-Err-send.ensures.front in
+    (Rose-later _ _ _ inv.sink_later c.in-Err-send.ensures.cause.failed, breaks (g.H.LinkHost.link c.args.host) _ _ _ _ _ _ _ _ carries took.frame took.formed c.frames-test.true took.taken out)
 
 pub returns-in-Err-send-clause-prompt : goal.returns-in-Err-send-clause-prompt
 returns-in-Err-send-clause-prompt g c =
     let took = rw c.in-Answered.is at c.in-Ok-step.ensures.gives in
-    prompt_broken c.args.host.session _ _ _ _ _ _ _ _ _ c.frames.invariant.carries c.in-Err-send.ensures.front (short_frame _ c.step.new.parts.waiting _ took.frame c.step.ensures.holds took.taken)
+    prompt_broken (g.H.LinkHost.link c.args.host) _ _ _ _ _ _ _ _ _ c.frames.invariant.carries c.in-Err-send.ensures.front (short_frame _ c.step.new.parts.waiting _ took.frame c.step.ensures.holds took.taken)
 
 pub returns-in-Err-send-clause-left : goal.returns-in-Err-send-clause-left
 returns-in-Err-send-clause-left g c = TakesFront-trans _ _ _ c.frames.invariant.left c.step.ensures.left
 
-pub returns-in-Done-clause-ends : goal.returns-in-Done-clause-ends
-returns-in-Done-clause-ends g c =
+pub returns-in-Some-clause-ends : goal.returns-in-Some-clause-ends
+returns-in-Some-clause-ends g c =
     let inv = c.frames.invariant in
     let carries = inv.carries in
     let took = rw c.in-Answered.is at c.in-Ok-step.ensures.gives in
-    let a = answered c.args.host.session c.frames.host.session (view_of c.frames.host) (view_of c.step.new.host) took.frame c.in-Answered.progress c.step.new.out.items
-    (events_in c.args.host.session carries.frames) inv.session carries.stands carries.going took.stands took.answer took.sends in
-    let out = rw (c.session-in-frames.ensures, took.session, inv.session, c.as_slice-in-frames.ensures.value, a.sent) at c.in-Ok-send.ensures.ok in
-    end_answered c.args.host.session _ _ _ _ _ _ _ _ carries took.frame took.formed c.frames-test.true took.taken out c.in-Answered.progress a.answer 0 (λ full rest. rw c.in-Done.is refl)
+    let a = answered (g.H.LinkHost.link c.args.host) (g.H.LinkHost.link c.frames.host) (g.H.LinkHost.stands c.frames.host) (g.H.LinkHost.stands c.step.new.host) took.frame c.in-Answered.status c.step.new.out.items
+    (events_in (g.H.LinkHost.link c.args.host) carries.frames) inv.link carries.stands carries.going took.stands took.answer took.sends in
+    let out = rw (took.link, inv.link, c.as_slice-in-frames.ensures.value, a.sent) at c.in-Ok-send.ensures.ok in
+    end_answered (g.H.LinkHost.link c.args.host) _ _ _ _ _ _ _ _ carries took.frame took.formed c.frames-test.true took.taken out c.in-Answered.status a.answer c.in-Some.status (λ full rest. rw c.in-Some.is refl)
 
-pub returns-in-Done-clause-prompt : goal.returns-in-Done-clause-prompt
-returns-in-Done-clause-prompt g c =
+pub returns-in-Some-clause-prompt : goal.returns-in-Some-clause-prompt
+returns-in-Some-clause-prompt g c =
     let inv = c.frames.invariant in
     let carries = inv.carries in
     let took = rw c.in-Answered.is at c.in-Ok-step.ensures.gives in
-    let a = answered c.args.host.session c.frames.host.session (view_of c.frames.host) (view_of c.step.new.host) took.frame c.in-Answered.progress c.step.new.out.items
-    (events_in c.args.host.session carries.frames) inv.session carries.stands carries.going took.stands took.answer took.sends in
-    let out = rw (c.session-in-frames.ensures, took.session, inv.session, c.as_slice-in-frames.ensures.value, a.sent) at c.in-Ok-send.ensures.ok in
-    prompt_answered c.args.host.session _ _ _ _ _ _ _ _ _ carries took.frame took.taken out (short_waiting c.step.new.parts.waiting _ c.step.ensures.holds)
+    let a = answered (g.H.LinkHost.link c.args.host) (g.H.LinkHost.link c.frames.host) (g.H.LinkHost.stands c.frames.host) (g.H.LinkHost.stands c.step.new.host) took.frame c.in-Answered.status c.step.new.out.items
+    (events_in (g.H.LinkHost.link c.args.host) carries.frames) inv.link carries.stands carries.going took.stands took.answer took.sends in
+    let out = rw (took.link, inv.link, c.as_slice-in-frames.ensures.value, a.sent) at c.in-Ok-send.ensures.ok in
+    prompt_answered (g.H.LinkHost.link c.args.host) _ _ _ _ _ _ _ _ _ carries took.frame took.taken out (short_waiting c.step.new.parts.waiting _ c.step.ensures.holds)
 
-pub returns-in-Done-clause-known : goal.returns-in-Done-clause-known
-returns-in-Done-clause-known g c = (0, omega arith, refl)
-
-pub returns-in-Done-clause-left : goal.returns-in-Done-clause-left
-returns-in-Done-clause-left g c = TakesFront-trans _ _ _ c.frames.invariant.left c.step.ensures.left
-
-pub returns-in-GaveUp-clause-ends : goal.returns-in-GaveUp-clause-ends
-returns-in-GaveUp-clause-ends g c =
-    let inv = c.frames.invariant in
-    let carries = inv.carries in
+pub returns-in-Some-clause-known : goal.returns-in-Some-clause-known
+returns-in-Some-clause-known g c =
     let took = rw c.in-Answered.is at c.in-Ok-step.ensures.gives in
-    let a = answered c.args.host.session c.frames.host.session (view_of c.frames.host) (view_of c.step.new.host) took.frame c.in-Answered.progress c.step.new.out.items
-    (events_in c.args.host.session carries.frames) inv.session carries.stands carries.going took.stands took.answer took.sends in
-    let out = rw (c.session-in-frames.ensures, took.session, inv.session, c.as_slice-in-frames.ensures.value, a.sent) at c.in-Ok-send.ensures.ok in
-    end_answered c.args.host.session _ _ _ _ _ _ _ _ carries took.frame took.formed c.frames-test.true took.taken out c.in-Answered.progress a.answer 9 (λ full rest. rw c.in-GaveUp.is refl)
+    end_known c.in-Some.status (rw c.in-Some.is at took.statuses)
 
-pub returns-in-GaveUp-clause-prompt : goal.returns-in-GaveUp-clause-prompt
-returns-in-GaveUp-clause-prompt g c =
-    let inv = c.frames.invariant in
-    let carries = inv.carries in
-    let took = rw c.in-Answered.is at c.in-Ok-step.ensures.gives in
-    let a = answered c.args.host.session c.frames.host.session (view_of c.frames.host) (view_of c.step.new.host) took.frame c.in-Answered.progress c.step.new.out.items
-    (events_in c.args.host.session carries.frames) inv.session carries.stands carries.going took.stands took.answer took.sends in
-    let out = rw (c.session-in-frames.ensures, took.session, inv.session, c.as_slice-in-frames.ensures.value, a.sent) at c.in-Ok-send.ensures.ok in
-    prompt_answered c.args.host.session _ _ _ _ _ _ _ _ _ carries took.frame took.taken out (short_waiting c.step.new.parts.waiting _ c.step.ensures.holds)
-
-pub returns-in-GaveUp-clause-known : goal.returns-in-GaveUp-clause-known
-returns-in-GaveUp-clause-known g c = (2, omega arith, refl)
-
-pub returns-in-GaveUp-clause-left : goal.returns-in-GaveUp-clause-left
-returns-in-GaveUp-clause-left g c = TakesFront-trans _ _ _ c.frames.invariant.left c.step.ensures.left
-
-pub returns-in-Refused-clause-ends : goal.returns-in-Refused-clause-ends
-returns-in-Refused-clause-ends g c =
-    let inv = c.frames.invariant in
-    let carries = inv.carries in
-    let took = rw c.in-Answered.is at c.in-Ok-step.ensures.gives in
-    let a = answered c.args.host.session c.frames.host.session (view_of c.frames.host) (view_of c.step.new.host) took.frame c.in-Answered.progress c.step.new.out.items
-    (events_in c.args.host.session carries.frames) inv.session carries.stands carries.going took.stands took.answer took.sends in
-    let out = rw (c.session-in-frames.ensures, took.session, inv.session, c.as_slice-in-frames.ensures.value, a.sent) at c.in-Ok-send.ensures.ok in
-    end_answered c.args.host.session _ _ _ _ _ _ _ _ carries took.frame took.formed c.frames-test.true took.taken out c.in-Answered.progress a.answer 10 (λ full rest. rw c.in-Refused.is refl)
-
-pub returns-in-Refused-clause-prompt : goal.returns-in-Refused-clause-prompt
-returns-in-Refused-clause-prompt g c =
-    let inv = c.frames.invariant in
-    let carries = inv.carries in
-    let took = rw c.in-Answered.is at c.in-Ok-step.ensures.gives in
-    let a = answered c.args.host.session c.frames.host.session (view_of c.frames.host) (view_of c.step.new.host) took.frame c.in-Answered.progress c.step.new.out.items
-    (events_in c.args.host.session carries.frames) inv.session carries.stands carries.going took.stands took.answer took.sends in
-    let out = rw (c.session-in-frames.ensures, took.session, inv.session, c.as_slice-in-frames.ensures.value, a.sent) at c.in-Ok-send.ensures.ok in
-    prompt_answered c.args.host.session _ _ _ _ _ _ _ _ _ carries took.frame took.taken out (short_waiting c.step.new.parts.waiting _ c.step.ensures.holds)
-
-pub returns-in-Refused-clause-known : goal.returns-in-Refused-clause-known
-returns-in-Refused-clause-known g c = (3, omega arith, refl)
-
-pub returns-in-Refused-clause-left : goal.returns-in-Refused-clause-left
-returns-in-Refused-clause-left g c = TakesFront-trans _ _ _ c.frames.invariant.left c.step.ensures.left
+pub returns-in-Some-clause-left : goal.returns-in-Some-clause-left
+returns-in-Some-clause-left g c = TakesFront-trans _ _ _ c.frames.invariant.left c.step.ensures.left
 
 pub frames-preserved : goal.frames-preserved
 frames-preserved g c =
     let inv = c.frames.invariant in
     let carries = inv.carries in
     let took = rw c.in-Answered.is at c.in-Ok-step.ensures.gives in
-    let a = answered c.args.host.session c.frames.host.session (view_of c.frames.host) (view_of c.step.new.host) took.frame c.in-Answered.progress c.step.new.out.items
-    (events_in c.args.host.session carries.frames) inv.session carries.stands carries.going took.stands took.answer took.sends in
-    let out = rw (c.session-in-frames.ensures, took.session, inv.session, c.as_slice-in-frames.ensures.value, a.sent) at c.in-Ok-send.ensures.ok in
+    let a = answered (g.H.LinkHost.link c.args.host) (g.H.LinkHost.link c.frames.host) (g.H.LinkHost.stands c.frames.host) (g.H.LinkHost.stands c.step.new.host) took.frame c.in-Answered.status c.step.new.out.items
+    (events_in (g.H.LinkHost.link c.args.host) carries.frames) inv.link carries.stands carries.going took.stands took.answer took.sends in
+    let out = rw (took.link, inv.link, c.as_slice-in-frames.ensures.value, a.sent) at c.in-Ok-send.ensures.ok in
     record {
-      carries = Carries-push c.args.host.session _ _ _ _ _ _ _ _ _ _ carries took.frame took.formed took.taken out (omega arith) (sym a.answer ∙ c.in-Going.is) a.stands;
-      session = took.session ∙ inv.session;
+      carries = Carries-push (g.H.LinkHost.link c.args.host) _ _ _ _ _ _ _ _ _ _ carries took.frame took.formed took.taken out (omega arith) (sym a.answer ∙ c.in-None.is) a.stands;
+      link = took.link ∙ inv.link;
       sound = c.in-Ok-step.ensures.sound;
       holds = c.step.ensures.holds;
       at_end = c.step.ensures.at_end;
@@ -196,10 +143,10 @@ frames-preserved g c =
 -- ---- so many frames
 
 pub returns-clause-ends : goal.returns-clause-ends
-returns-clause-ends g c = end_full c.args.host.session _ _ _ _ _ _ c.frames.invariant.carries (omega arith)
+returns-clause-ends g c = end_full (g.H.LinkHost.link c.args.host) _ _ _ _ _ _ c.frames.invariant.carries (omega arith)
 
 pub returns-clause-prompt : goal.returns-clause-prompt
-returns-clause-prompt g c = prompt_carried c.args.host.session _ _ _ _ _ _ _ c.frames.invariant.carries (short_waiting c.frames.parts.waiting _ c.frames.invariant.holds)
+returns-clause-prompt g c = prompt_carried (g.H.LinkHost.link c.args.host) _ _ _ _ _ _ _ c.frames.invariant.carries (short_waiting c.frames.parts.waiting _ c.frames.invariant.holds)
 
 pub returns-clause-known : goal.returns-clause-known
 returns-clause-known g c = (5, omega arith, refl)
@@ -221,14 +168,8 @@ returns-in-Faulty-clause-grown g c = (_, c.frames.invariant.carries.sent)
 pub returns-in-Err-send-clause-grown : goal.returns-in-Err-send-clause-grown
 returns-in-Err-send-clause-grown g c = grown_more _ _ _ _ _ c.frames.invariant.carries.sent c.in-Err-send.ensures.front
 
-pub returns-in-Done-clause-grown : goal.returns-in-Done-clause-grown
-returns-in-Done-clause-grown g c = grown_by _ _ _ _ _ c.frames.invariant.carries.sent c.in-Ok-send.ensures.ok
-
-pub returns-in-GaveUp-clause-grown : goal.returns-in-GaveUp-clause-grown
-returns-in-GaveUp-clause-grown g c = grown_by _ _ _ _ _ c.frames.invariant.carries.sent c.in-Ok-send.ensures.ok
-
-pub returns-in-Refused-clause-grown : goal.returns-in-Refused-clause-grown
-returns-in-Refused-clause-grown g c = grown_by _ _ _ _ _ c.frames.invariant.carries.sent c.in-Ok-send.ensures.ok
+pub returns-in-Some-clause-grown : goal.returns-in-Some-clause-grown
+returns-in-Some-clause-grown g c = grown_by _ _ _ _ _ c.frames.invariant.carries.sent c.in-Ok-send.ensures.ok
 
 pub returns-clause-grown : goal.returns-clause-grown
 returns-clause-grown g c = (_, c.frames.invariant.carries.sent)
