@@ -16,6 +16,17 @@ const PATH: [u8; 28] = [
     0, 0,
 ];
 
+/// A load of these bytes.
+fn load_of(alloc: Global, bytes: &[u8]) -> Result<Load, AllocError>
+    ensures len { IfOk result (λ l. length l.bytes ≡ length bytes.now) }
+    ensures pieces { IfOk result (λ l. l.pieces ≡ 1) }
+{
+    Ok(Load {
+        bytes: Listed::from_vec(bytes.to_vec(alloc)?),
+        pieces: 1,
+    })
+}
+
 /// The same bytes for each of some drones.
 fn session_of(
     alloc: Global,
@@ -32,10 +43,8 @@ fn session_of(
 {
     let mut loads = Vec::new(alloc);
     for _ in 0..drones {
-        loads.push(Load {
-            bytes: Listed::from_vec(bytes.to_vec(alloc)?),
-            pieces: 1,
-        })?;
+        let load = load_of(alloc, bytes)?;
+        loads.push(load)?;
     }
     let settings = Settings {
         memory_id: 2,
