@@ -2,7 +2,7 @@
 use Rattle.std.proofs.Common.{◌≡◌, ℕ, Bool, true, false, cond, List, [], ◌∷◌, ◌++◌, Option, Some, None, codes, refl, sym, ap, subst, ◌∙◌}
 use Rattle.std.specs.Prelude.{bytes_eq, option_map}
 use Rattle.std.proofs.lemmas.Slice.Eq.{bytes_eq-Decides}
-use Rattle.command_words.specs.Commands.{Given, given_depth, given_step, given_start, options_of, before, valued, depth_of, step_of, SpellsOption, SpellsOptions, WordsLaw}
+use Rattle.command_words.specs.Commands.{Given, given_depth, given_step, given_start, given_limit, given_fine, options_of, before, valued, depth_of, step_of, limit_of, fine_of, SpellsOption, SpellsOptions, WordsLaw}
 
 -- `--start` before other words is an option before theirs
 start_then : (rest : List (List ℕ)) → options_of (codes "--start" ∷ rest) ≡ before (Some given_start) (options_of rest)
@@ -19,6 +19,12 @@ reads (given_depth n ∷ gs) words (front, rest, (value, front_is, n_is), spells
 reads (given_step n ∷ gs) words (front, rest, (value, front_is, n_is), spells, is) =
     ap options_of is ∙ ap (λ (f : List (List ℕ)). options_of (f ++ rest)) front_is
     ∙ ap (λ (o : Option ℕ). before (option_map given_step o) (options_of rest)) n_is ∙ ap (before (Some (given_step n))) (reads gs rest spells)
+reads (given_limit n ∷ gs) words (front, rest, (value, front_is, n_is), spells, is) =
+    ap options_of is ∙ ap (λ (f : List (List ℕ)). options_of (f ++ rest)) front_is
+    ∙ ap (λ (o : Option ℕ). before (option_map given_limit o) (options_of rest)) n_is ∙ ap (before (Some (given_limit n))) (reads gs rest spells)
+reads (given_fine n ∷ gs) words (front, rest, (value, front_is, n_is), spells, is) =
+    ap options_of is ∙ ap (λ (f : List (List ℕ)). options_of (f ++ rest)) front_is
+    ∙ ap (λ (o : Option ℕ). before (option_map given_fine o) (options_of rest)) n_is ∙ ap (before (Some (given_fine n))) (reads gs rest spells)
 reads (given_start ∷ gs) words (front, rest, front_is, spells, is) =
     ap options_of is ∙ ap (λ (f : List (List ℕ)). options_of (f ++ rest)) front_is ∙ start_then rest ∙ ap (before (Some given_start)) (reads gs rest spells)
 
@@ -51,12 +57,30 @@ step_found word value (Some n) given is from are =
     let e : given_step n ≡ given = cc in
     subst (λ (g : Given). SpellsOption g (word ∷ value ∷ [])) e (value, ap (λ (w : List ℕ). w ∷ value ∷ []) is, from)
 
+-- a limit that is read is spelled
+limit_found : (word value : List ℕ) (found : Option ℕ) (given : Given) → word ≡ codes "--limit" → limit_of value ≡ found → option_map given_limit found ≡ Some given → SpellsOption given (word ∷ value ∷ [])
+limit_found word value None given is from are = absurd (cc)
+limit_found word value (Some n) given is from are =
+    let e : given_limit n ≡ given = cc in
+    subst (λ (g : Given). SpellsOption g (word ∷ value ∷ [])) e (value, ap (λ (w : List ℕ). w ∷ value ∷ []) is, from)
+
+-- a fineness that is read is spelled
+fine_found : (word value : List ℕ) (found : Option ℕ) (given : Given) → word ≡ codes "--fine" → fine_of value ≡ found → option_map given_fine found ≡ Some given → SpellsOption given (word ∷ value ∷ [])
+fine_found word value None given is from are = absurd (cc)
+fine_found word value (Some n) given is from are =
+    let e : given_fine n ≡ given = cc in
+    subst (λ (g : Given). SpellsOption g (word ∷ value ∷ [])) e (value, ap (λ (w : List ℕ). w ∷ value ∷ []) is, from)
+
 -- an option of two words is spelled by them
-valued_is : (word value : List ℕ) (depth step : Bool) (given : Given) → (depth ≡ true → word ≡ codes "--depth") → (step ≡ true → word ≡ codes "--step") →
-    cond depth (option_map given_depth (depth_of value)) (cond step (option_map given_step (step_of value)) None) ≡ Some given → SpellsOption given (word ∷ value ∷ [])
-valued_is word value true step given is_depth is_step are = depth_found word value (depth_of value) given (is_depth refl) refl are
-valued_is word value false true given is_depth is_step are = step_found word value (step_of value) given (is_step refl) refl are
-valued_is word value false false given is_depth is_step are = absurd (cc)
+valued_is : (word value : List ℕ) (depth step limit fine : Bool) (given : Given) → (depth ≡ true → word ≡ codes "--depth") → (step ≡ true → word ≡ codes "--step") →
+    (limit ≡ true → word ≡ codes "--limit") → (fine ≡ true → word ≡ codes "--fine") →
+    cond depth (option_map given_depth (depth_of value)) (cond step (option_map given_step (step_of value))
+    (cond limit (option_map given_limit (limit_of value)) (cond fine (option_map given_fine (fine_of value)) None))) ≡ Some given → SpellsOption given (word ∷ value ∷ [])
+valued_is word value true step limit fine given is_depth is_step is_limit is_fine are = depth_found word value (depth_of value) given (is_depth refl) refl are
+valued_is word value false true limit fine given is_depth is_step is_limit is_fine are = step_found word value (step_of value) given (is_step refl) refl are
+valued_is word value false false true fine given is_depth is_step is_limit is_fine are = limit_found word value (limit_of value) given (is_limit refl) refl are
+valued_is word value false false false true given is_depth is_step is_limit is_fine are = fine_found word value (fine_of value) given (is_fine refl) refl are
+valued_is word value false false false false given is_depth is_step is_limit is_fine are = absurd (cc)
 
 -- one word that is read is `--start`
 single_is : (word : List ℕ) (start : Bool) (gs : List Given) → (start ≡ true → word ≡ codes "--start") → cond start (Some (given_start ∷ [])) None ≡ Some gs → SpellsOptions gs (word ∷ [])
@@ -79,7 +103,8 @@ several_are word value words false gs is_start after_one after_two are =
     subst (λ (g : List Given). SpellsOptions g (word ∷ value ∷ words)) (sym s.is) (
       word ∷ value ∷ [],
       words,
-      valued_is word value (bytes_eq word (codes "--depth")) (bytes_eq word (codes "--step")) s.given (bytes_eq-Decides word (codes "--depth")).0 (bytes_eq-Decides word (codes "--step")).0 s.first_is,
+      valued_is word value (bytes_eq word (codes "--depth")) (bytes_eq word (codes "--step")) (bytes_eq word (codes "--limit")) (bytes_eq word (codes "--fine")) s.given
+          (bytes_eq-Decides word (codes "--depth")).0 (bytes_eq-Decides word (codes "--step")).0 (bytes_eq-Decides word (codes "--limit")).0 (bytes_eq-Decides word (codes "--fine")).0 s.first_is,
       after_two s.more s.rest_is,
       refl,
     )

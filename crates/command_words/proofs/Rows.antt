@@ -1,7 +1,7 @@
 -- Words and what they are.
 use Rattle.std.proofs.Common.{◌≡◌, [], ◌∷◌, Some, None, true, refl}
 use Rattle.std.specs.Prelude.{codes}
-use Rattle.command_words.specs.declared.command.Command.TheVariants.{Play, Rehearse, Upload, Drill}
+use Rattle.command_words.specs.declared.command.Command.TheVariants.{Play, Rehearse, Upload, Drill, Boxes, Speed, Explain}
 use Rattle.command_words.specs.Commands.{command_of}
 
 either_order : command_of (codes "play" ∷ codes "--step" ∷ codes "500" ∷ codes "--depth" ∷ codes "3" ∷ []) ≡ Some (Play 3 500)
@@ -45,6 +45,27 @@ digits = refl
 
 bare : command_of (codes "verify" ∷ codes "--depth" ∷ codes "6" ∷ []) ≡ None
 bare = refl
+
+limited : command_of (codes "speed" ∷ codes "--limit" ∷ codes "1600000" ∷ codes "--depth" ∷ codes "0" ∷ []) ≡ Some (Speed 0 (Some 1600000))
+limited = refl
+
+unlimited : command_of (codes "speed" ∷ []) ≡ Some (Speed 6 None)
+unlimited = refl
+
+no_limit : command_of (codes "speed" ∷ codes "--limit" ∷ codes "0" ∷ []) ≡ None
+no_limit = refl
+
+finest : command_of (codes "explain" ∷ []) ≡ Some (Explain 6 5)
+finest = refl
+
+too_fine : command_of (codes "explain" ∷ codes "--fine" ∷ codes "6" ∷ []) ≡ None
+too_fine = refl
+
+boxed : command_of (codes "boxes" ∷ codes "--depth" ∷ codes "8" ∷ []) ≡ Some (Boxes 8)
+boxed = refl
+
+boxes_limited : command_of (codes "boxes" ∷ codes "--limit" ∷ codes "5" ∷ []) ≡ None
+boxes_limited = refl
 
 nothing : command_of [] ≡ None
 nothing = refl

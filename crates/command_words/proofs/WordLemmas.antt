@@ -2,10 +2,10 @@
 use Rattle.std.proofs.Common.{◌≡◌, ℕ, Bool, true, false, cond, List, [], ◌∷◌, ◌++◌, Option, Some, None, codes, refl, sym, ap, ◌∙◌, append-nil}
 use Rattle.std.specs.Prelude.{bytes_eq, option_map, option_and_then}
 use Rattle.command_words.specs.declared.command.Command.{Command}
-use Rattle.command_words.specs.declared.command.Command.TheVariants.{Help, Check, Compile, Certify, Play, Report, Verify, Rehearse, Upload, Drill}
+use Rattle.command_words.specs.declared.command.Command.TheVariants.{Help, Check, Compile, Certify, Play, Report, Verify, Rehearse, Upload, Drill, Boxes, Speed, Explain}
 use Rattle.command_words.specs.declared.options.Options.{Options}
-use Rattle.command_words.specs.Commands.{Given, given_depth, given_step, given_start, options_of, depths, steps, starts, single, without, bare, with_depth, with_step, with_start, named, drill_with, default_depth, default_step}
-use Rattle.command_words.specs.Steps.{no_options, collected, continued, at_bare, at_depth, at_step, at_start, named_with}
+use Rattle.command_words.specs.Commands.{Given, given_depth, given_step, given_start, given_limit, given_fine, options_of, depths, steps, starts, limits, fines, single, optional, without, bare, with_depth, with_step, with_start, with_limit, with_fine, named, drill_with, default_depth, default_fine, default_step}
+use Rattle.command_words.specs.Steps.{no_options, collected, continued, at_bare, at_depth, at_step, at_start, at_limit, at_fine, named_with}
 
 -- ---- lists of what was given
 
@@ -18,23 +18,49 @@ abbrev start_list : Bool → List Bool
 start_list true = true ∷ []
 start_list false = []
 
--- what is made of depths, steps and starts is nothing where one of them is given twice
-record RefusesTwo (make : List ℕ → List ℕ → List Bool → Option Command) : Type 0 where
-  depth : (a b : ℕ) (ds ss : List ℕ) (ts : List Bool) → make (a ∷ b ∷ ds) ss ts ≡ None
-  step : (a b : ℕ) (ds ss : List ℕ) (ts : List Bool) → make ds (a ∷ b ∷ ss) ts ≡ None
-  start : (a b : Bool) (ds ss : List ℕ) (ts : List Bool) → make ds ss (a ∷ b ∷ ts) ≡ None
+-- what may be made of all that was given, in the order depths, steps, starts, limits, fines
+abbrev Making : Type 0
+Making = List ℕ → List ℕ → List Bool → List ℕ → List ℕ → Option Command
+
+-- nothing is made where one of them is given twice
+record RefusesTwo (make : Making) : Type 0 where
+  depth : (a b : ℕ) (ds ss : List ℕ) (ts : List Bool) (ls fs : List ℕ) → make (a ∷ b ∷ ds) ss ts ls fs ≡ None
+  step : (a b : ℕ) (ds ss : List ℕ) (ts : List Bool) (ls fs : List ℕ) → make ds (a ∷ b ∷ ss) ts ls fs ≡ None
+  start : (a b : Bool) (ds ss : List ℕ) (ts : List Bool) (ls fs : List ℕ) → make ds ss (a ∷ b ∷ ts) ls fs ≡ None
+  limit : (a b : ℕ) (ds ss : List ℕ) (ts : List Bool) (ls fs : List ℕ) → make ds ss ts (a ∷ b ∷ ls) fs ≡ None
+  fine : (a b : ℕ) (ds ss : List ℕ) (ts : List Bool) (ls fs : List ℕ) → make ds ss ts ls (a ∷ b ∷ fs) ≡ None
+
+-- what is made of options, and of the options of a list
+abbrev made_of : Making → Options → Option Command
+made_of make o = make (given_list o.depth) (given_list o.step) (start_list o.start) (given_list o.limit) (given_list o.fine)
+
+abbrev made_from : Making → List Given → Option Command
+made_from make gs = make (depths gs) (steps gs) (starts gs) (limits gs) (fines gs)
+
+abbrev options : Option ℕ → Option ℕ → Bool → Option ℕ → Option ℕ → Options
+options depth step start limit fine = record { depth = depth; step = step; start = start; limit = limit; fine = fine }
 
 -- noted one by one, options make what their lists make
-collected_makes : (make : List ℕ → List ℕ → List Bool → Option Command) → RefusesTwo make → (depth step : Option ℕ) (start : Bool) (gs : List Given) →
-    make (given_list depth ++ depths gs) (given_list step ++ steps gs) (start_list start ++ starts gs)
-    ≡ option_and_then (λ (o : Options). make (given_list o.depth) (given_list o.step) (start_list o.start)) (collected (record { depth = depth; step = step; start = start }) gs)
-collected_makes make two depth step start [] = rw (append-nil (given_list depth), append-nil (given_list step), append-nil (start_list start)) refl
-collected_makes make two None step start (given_depth n ∷ gs) = collected_makes make two (Some n) step start gs
-collected_makes make two (Some m) step start (given_depth n ∷ gs) = two.depth m n (depths gs) (given_list step ++ steps gs) (start_list start ++ starts gs)
-collected_makes make two depth None start (given_step n ∷ gs) = collected_makes make two depth (Some n) start gs
-collected_makes make two depth (Some m) start (given_step n ∷ gs) = two.step m n (given_list depth ++ depths gs) (steps gs) (start_list start ++ starts gs)
-collected_makes make two depth step false (given_start ∷ gs) = collected_makes make two depth step true gs
-collected_makes make two depth step true (given_start ∷ gs) = two.start true true (given_list depth ++ depths gs) (given_list step ++ steps gs) (starts gs)
+collected_makes : (make : Making) → RefusesTwo make → (depth step : Option ℕ) (start : Bool) (limit fine : Option ℕ) (gs : List Given) →
+    make (given_list depth ++ depths gs) (given_list step ++ steps gs) (start_list start ++ starts gs) (given_list limit ++ limits gs) (given_list fine ++ fines gs)
+    ≡ option_and_then (made_of make) (collected (options depth step start limit fine) gs)
+collected_makes make two depth step start limit fine [] =
+    rw (append-nil (given_list depth), append-nil (given_list step), append-nil (start_list start), append-nil (given_list limit), append-nil (given_list fine)) refl
+collected_makes make two None step start limit fine (given_depth n ∷ gs) = collected_makes make two (Some n) step start limit fine gs
+collected_makes make two (Some m) step start limit fine (given_depth n ∷ gs) =
+    two.depth m n (depths gs) (given_list step ++ steps gs) (start_list start ++ starts gs) (given_list limit ++ limits gs) (given_list fine ++ fines gs)
+collected_makes make two depth None start limit fine (given_step n ∷ gs) = collected_makes make two depth (Some n) start limit fine gs
+collected_makes make two depth (Some m) start limit fine (given_step n ∷ gs) =
+    two.step m n (given_list depth ++ depths gs) (steps gs) (start_list start ++ starts gs) (given_list limit ++ limits gs) (given_list fine ++ fines gs)
+collected_makes make two depth step false limit fine (given_start ∷ gs) = collected_makes make two depth step true limit fine gs
+collected_makes make two depth step true limit fine (given_start ∷ gs) =
+    two.start true true (given_list depth ++ depths gs) (given_list step ++ steps gs) (starts gs) (given_list limit ++ limits gs) (given_list fine ++ fines gs)
+collected_makes make two depth step start None fine (given_limit n ∷ gs) = collected_makes make two depth step start (Some n) fine gs
+collected_makes make two depth step start (Some m) fine (given_limit n ∷ gs) =
+    two.limit m n (given_list depth ++ depths gs) (given_list step ++ steps gs) (start_list start ++ starts gs) (limits gs) (given_list fine ++ fines gs)
+collected_makes make two depth step start limit None (given_fine n ∷ gs) = collected_makes make two depth step start limit (Some n) gs
+collected_makes make two depth step start limit (Some m) (given_fine n ∷ gs) =
+    two.fine m n (given_list depth ++ depths gs) (given_list step ++ steps gs) (start_list start ++ starts gs) (given_list limit ++ limits gs) (fines gs)
 
 abbrev nothing : Option Command
 nothing = None
@@ -44,32 +70,55 @@ without_none : {A B : Type 0} (others : List A) → without {A = A} {B = B} othe
 without_none [] = refl
 without_none (a ∷ rest) = refl
 
+without_two : {A B : Type 0} (xs : List A) (ys : List B) → without xs (without ys nothing) ≡ None
+without_two xs ys = ap (without xs) (without_none ys) ∙ without_none xs
+
+without_three : {A B C : Type 0} (xs : List A) (ys : List B) (zs : List C) → without xs (without ys (without zs nothing)) ≡ None
+without_three xs ys zs = ap (without xs) (without_two ys zs) ∙ without_none xs
+
+without_four : {A B C D : Type 0} (xs : List A) (ys : List B) (zs : List C) (ws : List D) → without xs (without ys (without zs (without ws nothing))) ≡ None
+without_four xs ys zs ws = ap (without xs) (without_three ys zs ws) ∙ without_none xs
+
 -- ---- each form of a command
 
-abbrev make_bare : Command → List ℕ → List ℕ → List Bool → Option Command
-make_bare c ds ss ts = without ds (without ss (without ts (Some c)))
+abbrev make_bare : Command → Making
+make_bare c ds ss ts ls fs = without ds (without ss (without ts (without ls (without fs (Some c)))))
 
-abbrev make_depth : (ℕ → Command) → List ℕ → List ℕ → List Bool → Option Command
-make_depth make ds ss ts = without ss (without ts (option_map make (single default_depth ds)))
+abbrev make_depth : (ℕ → Command) → Making
+make_depth make ds ss ts ls fs = without ss (without ts (without ls (without fs (option_map make (single default_depth ds)))))
 
-abbrev make_step : List ℕ → List ℕ → List Bool → Option Command
-make_step ds ss ts = without ts (option_and_then (λ (depth : ℕ). option_map (λ (step : ℕ). Play depth step) (single default_step ss)) (single default_depth ds))
+abbrev make_step : Making
+make_step ds ss ts ls fs =
+    without ts (without ls (without fs (option_and_then (λ (depth : ℕ). option_map (λ (step : ℕ). Play depth step) (single default_step ss)) (single default_depth ds))))
 
-abbrev make_start : (ℕ → Bool → Command) → List ℕ → List ℕ → List Bool → Option Command
-make_start make ds ss ts = without ss (option_and_then (λ (depth : ℕ). option_map (λ (start : Bool). make depth start) (single false ts)) (single default_depth ds))
+abbrev make_start : (ℕ → Bool → Command) → Making
+make_start make ds ss ts ls fs =
+    without ss (without ls (without fs (option_and_then (λ (depth : ℕ). option_map (λ (start : Bool). make depth start) (single false ts)) (single default_depth ds))))
+
+abbrev make_limit : Making
+make_limit ds ss ts ls fs =
+    without ss (without ts (without fs (option_and_then (λ (depth : ℕ). option_map (λ (limit : Option ℕ). Speed depth limit) (optional ls)) (single default_depth ds))))
+
+abbrev make_fine : Making
+make_fine ds ss ts ls fs =
+    without ss (without ts (without ls (option_and_then (λ (depth : ℕ). option_map (λ (fine : ℕ). Explain depth fine) (single default_fine fs)) (single default_depth ds))))
 
 bare_two : (c : Command) → RefusesTwo (make_bare c)
 bare_two c = record {
-  depth = λ a b ds ss ts. refl;
-  step = λ a b ds ss ts. without_none ds;
-  start = λ a b ds ss ts. ap (without ds) (without_none ss) ∙ without_none ds;
+  depth = λ a b ds ss ts ls fs. refl;
+  step = λ a b ds ss ts ls fs. without_none ds;
+  start = λ a b ds ss ts ls fs. without_two ds ss;
+  limit = λ a b ds ss ts ls fs. without_three ds ss ts;
+  fine = λ a b ds ss ts ls fs. without_four ds ss ts ls;
 }
 
 depth_two : (make : ℕ → Command) → RefusesTwo (make_depth make)
 depth_two make = record {
-  depth = λ a b ds ss ts. ap (without ss) (without_none ts) ∙ without_none ss;
-  step = λ a b ds ss ts. refl;
-  start = λ a b ds ss ts. without_none ss;
+  depth = λ a b ds ss ts ls fs. without_four ss ts ls fs;
+  step = λ a b ds ss ts ls fs. refl;
+  start = λ a b ds ss ts ls fs. without_none ss;
+  limit = λ a b ds ss ts ls fs. without_two ss ts;
+  fine = λ a b ds ss ts ls fs. without_three ss ts ls;
 }
 
 -- nothing comes of a depth, where nothing comes of the rest
@@ -79,68 +128,132 @@ no_rest (Some n) = refl
 
 step_two : RefusesTwo make_step
 step_two = record {
-  depth = λ a b ds ss ts. without_none ts;
-  step = λ a b ds ss ts. ap (without ts) (no_rest (single default_depth ds)) ∙ without_none ts;
-  start = λ a b ds ss ts. refl;
+  depth = λ a b ds ss ts ls fs. without_three ts ls fs;
+  step = λ a b ds ss ts ls fs. ap (λ (o : Option Command). without ts (without ls (without fs o))) (no_rest (single default_depth ds)) ∙ without_three ts ls fs;
+  start = λ a b ds ss ts ls fs. refl;
+  limit = λ a b ds ss ts ls fs. without_none ts;
+  fine = λ a b ds ss ts ls fs. without_two ts ls;
 }
 
 start_two : (make : ℕ → Bool → Command) → RefusesTwo (make_start make)
 start_two make = record {
-  depth = λ a b ds ss ts. without_none ss;
-  step = λ a b ds ss ts. refl;
-  start = λ a b ds ss ts. ap (without ss) (no_rest (single default_depth ds)) ∙ without_none ss;
+  depth = λ a b ds ss ts ls fs. without_three ss ls fs;
+  step = λ a b ds ss ts ls fs. refl;
+  start = λ a b ds ss ts ls fs. ap (λ (o : Option Command). without ss (without ls (without fs o))) (no_rest (single default_depth ds)) ∙ without_three ss ls fs;
+  limit = λ a b ds ss ts ls fs. without_none ss;
+  fine = λ a b ds ss ts ls fs. without_two ss ls;
+}
+
+limit_two : RefusesTwo make_limit
+limit_two = record {
+  depth = λ a b ds ss ts ls fs. without_three ss ts fs;
+  step = λ a b ds ss ts ls fs. refl;
+  start = λ a b ds ss ts ls fs. without_none ss;
+  limit = λ a b ds ss ts ls fs. ap (λ (o : Option Command). without ss (without ts (without fs o))) (no_rest (single default_depth ds)) ∙ without_three ss ts fs;
+  fine = λ a b ds ss ts ls fs. without_two ss ts;
+}
+
+fine_two : RefusesTwo make_fine
+fine_two = record {
+  depth = λ a b ds ss ts ls fs. without_three ss ts ls;
+  step = λ a b ds ss ts ls fs. refl;
+  start = λ a b ds ss ts ls fs. without_none ss;
+  limit = λ a b ds ss ts ls fs. without_two ss ts;
+  fine = λ a b ds ss ts ls fs. ap (λ (o : Option Command). without ss (without ts (without ls o))) (no_rest (single default_depth ds)) ∙ without_three ss ts ls;
 }
 
 -- what options make of a form
-bare_of : (c : Command) (depth step : Option ℕ) (start : Bool) → make_bare c (given_list depth) (given_list step) (start_list start) ≡ at_bare c (record { depth = depth; step = step; start = start })
-bare_of c None None false = refl
-bare_of c None None true = refl
-bare_of c None (Some m) start = refl
-bare_of c (Some n) step start = refl
+bare_of : (c : Command) (depth step : Option ℕ) (start : Bool) (limit fine : Option ℕ) → made_of (make_bare c) (options depth step start limit fine) ≡ at_bare c (options depth step start limit fine)
+bare_of c None None false None None = refl
+bare_of c None None false None (Some f) = refl
+bare_of c None None false (Some l) fine = refl
+bare_of c None None true limit fine = refl
+bare_of c None (Some m) start limit fine = refl
+bare_of c (Some n) step start limit fine = refl
 
-depth_of_options : (make : ℕ → Command) (depth step : Option ℕ) (start : Bool) → make_depth make (given_list depth) (given_list step) (start_list start) ≡ at_depth make (record { depth = depth; step = step; start = start })
-depth_of_options make None None false = refl
-depth_of_options make (Some n) None false = refl
-depth_of_options make depth None true = refl
-depth_of_options make depth (Some m) start = refl
+depth_of_options : (make : ℕ → Command) (depth step : Option ℕ) (start : Bool) (limit fine : Option ℕ) → made_of (make_depth make) (options depth step start limit fine) ≡ at_depth make (options depth step start limit fine)
+depth_of_options make None None false None None = refl
+depth_of_options make (Some n) None false None None = refl
+depth_of_options make depth None false None (Some f) = refl
+depth_of_options make depth None false (Some l) fine = refl
+depth_of_options make depth None true limit fine = refl
+depth_of_options make depth (Some m) start limit fine = refl
 
-step_of_options : (depth step : Option ℕ) (start : Bool) → make_step (given_list depth) (given_list step) (start_list start) ≡ at_step (record { depth = depth; step = step; start = start })
-step_of_options None None false = refl
-step_of_options None (Some m) false = refl
-step_of_options (Some n) None false = refl
-step_of_options (Some n) (Some m) false = refl
-step_of_options depth step true = refl
+step_of_options : (depth step : Option ℕ) (start : Bool) (limit fine : Option ℕ) → made_of make_step (options depth step start limit fine) ≡ at_step (options depth step start limit fine)
+step_of_options None None false None None = refl
+step_of_options None (Some m) false None None = refl
+step_of_options (Some n) None false None None = refl
+step_of_options (Some n) (Some m) false None None = refl
+step_of_options depth step false None (Some f) = refl
+step_of_options depth step false (Some l) fine = refl
+step_of_options depth step true limit fine = refl
 
-start_of_options : (make : ℕ → Bool → Command) (depth step : Option ℕ) (start : Bool) → make_start make (given_list depth) (given_list step) (start_list start) ≡ at_start make (record { depth = depth; step = step; start = start })
-start_of_options make None None false = refl
-start_of_options make None None true = refl
-start_of_options make (Some n) None false = refl
-start_of_options make (Some n) None true = refl
-start_of_options make depth (Some m) start = refl
+start_of_options : (make : ℕ → Bool → Command) (depth step : Option ℕ) (start : Bool) (limit fine : Option ℕ) → made_of (make_start make) (options depth step start limit fine) ≡ at_start make (options depth step start limit fine)
+start_of_options make None None false None None = refl
+start_of_options make None None true None None = refl
+start_of_options make (Some n) None false None None = refl
+start_of_options make (Some n) None true None None = refl
+start_of_options make depth None start None (Some f) = refl
+start_of_options make depth None start (Some l) fine = refl
+start_of_options make depth (Some m) start limit fine = refl
+
+limit_of_options : (depth step : Option ℕ) (start : Bool) (limit fine : Option ℕ) → made_of make_limit (options depth step start limit fine) ≡ at_limit (options depth step start limit fine)
+limit_of_options None None false None None = refl
+limit_of_options None None false (Some l) None = refl
+limit_of_options (Some n) None false None None = refl
+limit_of_options (Some n) None false (Some l) None = refl
+limit_of_options depth None false limit (Some f) = refl
+limit_of_options depth None true limit fine = refl
+limit_of_options depth (Some m) start limit fine = refl
+
+fine_of_options : (depth step : Option ℕ) (start : Bool) (limit fine : Option ℕ) → made_of make_fine (options depth step start limit fine) ≡ at_fine (options depth step start limit fine)
+fine_of_options None None false None None = refl
+fine_of_options None None false None (Some f) = refl
+fine_of_options (Some n) None false None None = refl
+fine_of_options (Some n) None false None (Some f) = refl
+fine_of_options depth None false (Some l) fine = refl
+fine_of_options depth None true limit fine = refl
+fine_of_options depth (Some m) start limit fine = refl
 
 -- two functions that agree make the same of what there is
-same_then : (f g : Options → Option Command) (m : Option Options) → ((depth step : Option ℕ) (start : Bool) → f (record { depth = depth; step = step; start = start }) ≡ g (record { depth = depth; step = step; start = start })) → option_and_then f m ≡ option_and_then g m
+same_then : (f g : Options → Option Command) (m : Option Options) →
+    ((depth step : Option ℕ) (start : Bool) (limit fine : Option ℕ) → f (options depth step start limit fine) ≡ g (options depth step start limit fine)) →
+    option_and_then f m ≡ option_and_then g m
 same_then f g None same = refl
-same_then f g (Some o) same = same o.depth o.step o.start
+same_then f g (Some o) same = same o.depth o.step o.start o.limit o.fine
+
+-- a form, of the options one by one
+form_is : (make : Making) (form : Options → Option Command) → RefusesTwo make →
+    ((depth step : Option ℕ) (start : Bool) (limit fine : Option ℕ) → made_of make (options depth step start limit fine) ≡ form (options depth step start limit fine)) →
+    (gs : List Given) → made_from make gs ≡ option_and_then form (collected no_options gs)
+form_is make form two same gs = collected_makes make two None None false None None gs ∙ same_then (made_of make) form (collected no_options gs) same
 
 -- a command that takes no option is nothing with one
-not_bare : (c : Command) (given : Given) (gs : List Given) → make_bare c (depths (given ∷ gs)) (steps (given ∷ gs)) (starts (given ∷ gs)) ≡ None
+not_bare : (c : Command) (given : Given) (gs : List Given) → made_from (make_bare c) (given ∷ gs) ≡ None
 not_bare c (given_depth n) gs = refl
 not_bare c (given_step n) gs = without_none (depths gs)
-not_bare c given_start gs = ap (without (depths gs)) (without_none (steps gs)) ∙ without_none (depths gs)
+not_bare c given_start gs = without_two (depths gs) (steps gs)
+not_bare c (given_limit n) gs = without_three (depths gs) (steps gs) (starts gs)
+not_bare c (given_fine n) gs = without_four (depths gs) (steps gs) (starts gs) (limits gs)
 
 bare_is : (c : Command) (gs : List Given) → bare c gs ≡ option_and_then (at_bare c) (collected no_options gs)
 bare_is c [] = refl
-bare_is c (given ∷ gs) = sym (not_bare c given gs) ∙ collected_makes (make_bare c) (bare_two c) None None false (given ∷ gs) ∙ same_then (λ (o : Options). make_bare c (given_list o.depth) (given_list o.step) (start_list o.start)) (at_bare c) (collected no_options (given ∷ gs)) (bare_of c)
+bare_is c (given ∷ gs) = sym (not_bare c given gs) ∙ form_is (make_bare c) (at_bare c) (bare_two c) (bare_of c) (given ∷ gs)
 
 depth_is : (make : ℕ → Command) (gs : List Given) → with_depth make gs ≡ option_and_then (at_depth make) (collected no_options gs)
-depth_is make gs = collected_makes (make_depth make) (depth_two make) None None false gs ∙ same_then (λ (o : Options). make_depth make (given_list o.depth) (given_list o.step) (start_list o.start)) (at_depth make) (collected no_options gs) (depth_of_options make)
+depth_is make gs = form_is (make_depth make) (at_depth make) (depth_two make) (depth_of_options make) gs
 
 step_is : (gs : List Given) → with_step gs ≡ option_and_then at_step (collected no_options gs)
-step_is gs = collected_makes make_step step_two None None false gs ∙ same_then (λ (o : Options). make_step (given_list o.depth) (given_list o.step) (start_list o.start)) at_step (collected no_options gs) step_of_options
+step_is gs = form_is make_step at_step step_two step_of_options gs
 
 start_is : (make : ℕ → Bool → Command) (gs : List Given) → with_start make gs ≡ option_and_then (at_start make) (collected no_options gs)
-start_is make gs = collected_makes (make_start make) (start_two make) None None false gs ∙ same_then (λ (o : Options). make_start make (given_list o.depth) (given_list o.step) (start_list o.start)) (at_start make) (collected no_options gs) (start_of_options make)
+start_is make gs = form_is (make_start make) (at_start make) (start_two make) (start_of_options make) gs
+
+limit_is : (gs : List Given) → with_limit gs ≡ option_and_then at_limit (collected no_options gs)
+limit_is gs = form_is make_limit at_limit limit_two limit_of_options gs
+
+fine_is : (gs : List Given) → with_fine gs ≡ option_and_then at_fine (collected no_options gs)
+fine_is gs = form_is make_fine at_fine fine_two fine_of_options gs
 
 -- ---- the command of a name
 
@@ -166,7 +279,10 @@ named_one name gs =
     (choose (bytes_eq name (codes "report")) _ _ _ _ m (depth_is Report gs)
     (choose (bytes_eq name (codes "verify")) _ _ _ _ m (bare_is Verify gs)
     (choose (bytes_eq name (codes "rehearse")) _ _ _ _ m (start_is Rehearse gs)
-    (choose (bytes_eq name (codes "upload")) _ _ _ _ m (start_is Upload gs) (nothing_is m)))))))))
+    (choose (bytes_eq name (codes "upload")) _ _ _ _ m (start_is Upload gs)
+    (choose (bytes_eq name (codes "boxes")) _ _ _ _ m (depth_is Boxes gs)
+    (choose (bytes_eq name (codes "speed")) _ _ _ _ m (limit_is gs)
+    (choose (bytes_eq name (codes "explain")) _ _ _ _ m (fine_is gs) (nothing_is m))))))))))))
 
 -- The walk finds the command that the words are.
 pub named_is : (name : List ℕ) (words : List (List ℕ)) → option_and_then (named name) (options_of words) ≡ option_and_then (named_with name) (continued no_options words)

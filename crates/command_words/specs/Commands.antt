@@ -1,9 +1,9 @@
 -- The words of the command line, and what they ask for.
-use Rattle.std.specs.Prelude.{◌≡◌, ◌↔◌, ℕ, ◌≤◌, Bool, true, false, ◌&&◌, List, [], ◌∷◌, ◌++◌, length, nat_le, bytes_eq, codes, Option, Some, None, if◌then◌else◌}
+use Rattle.std.specs.Prelude.{◌≡◌, ◌↔◌, ℕ, ◌≤◌, Bool, true, false, ◌&&◌, List, [], ◌∷◌, ◌++◌, length, nat_le, bytes_eq, codes, Option, Some, None, IfSome, if◌then◌else◌}
 use Rattle.std.specs.Option.{option_map, option_and_then}
 use Rattle.text_lines.specs.Numbers.{natural_of}
 use Rattle.command_words.specs.declared.command.Command.{Command}
-use Rattle.command_words.specs.declared.command.Command.TheVariants.{Help, Check, Compile, Certify, Play, Report, Verify, Rehearse, Upload, Drill}
+use Rattle.command_words.specs.declared.command.Command.TheVariants.{Help, Check, Compile, Certify, Play, Report, Verify, Rehearse, Upload, Drill, Boxes, Speed, Explain}
 
 -- ---- numbers
 
@@ -20,6 +20,17 @@ default_step = 100
 
 abbrev pub most_step : ℕ
 most_step = 60000
+
+-- the greatest limit on speed, in micrometres per second
+abbrev pub most_limit : ℕ
+most_limit = 999999999
+
+-- how finely a cue is listed where no option says it, and the finest: into 2 ^ fine parts
+abbrev pub default_fine : ℕ
+default_fine = 5
+
+abbrev pub most_fine : ℕ
+most_fine = 5
 
 -- the most drones of a drill
 abbrev pub most_drill : ℕ
@@ -43,6 +54,12 @@ depth_of word = number_from 0 most_depth word
 abbrev pub step_of : List ℕ → Option ℕ
 step_of word = number_from 1 most_step word
 
+abbrev pub limit_of : List ℕ → Option ℕ
+limit_of word = number_from 1 most_limit word
+
+abbrev pub fine_of : List ℕ → Option ℕ
+fine_of word = number_from 0 most_fine word
+
 abbrev pub drones_of : List ℕ → Option ℕ
 drones_of word = number_from 1 most_drill word
 
@@ -53,12 +70,16 @@ pub data Given : Type 0 where
   given_depth : ℕ → Given
   given_step : ℕ → Given
   given_start : Given
+  given_limit : ℕ → Given
+  given_fine : ℕ → Given
 
 -- an option of two words
 abbrev pub valued : List ℕ → List ℕ → Option Given
 valued word value =
     if bytes_eq word (codes "--depth") then option_map given_depth (depth_of value)
-    else (if bytes_eq word (codes "--step") then option_map given_step (step_of value) else None)
+    else (if bytes_eq word (codes "--step") then option_map given_step (step_of value)
+    else (if bytes_eq word (codes "--limit") then option_map given_limit (limit_of value)
+    else (if bytes_eq word (codes "--fine") then option_map given_fine (fine_of value) else None)))
 
 -- one option before others, where all of them are options
 abbrev pub before : Option Given → Option (List Given) → Option (List Given)
@@ -80,18 +101,40 @@ depths [] = []
 depths (given_depth n ∷ gs) = n ∷ depths gs
 depths (given_step n ∷ gs) = depths gs
 depths (given_start ∷ gs) = depths gs
+depths (given_limit n ∷ gs) = depths gs
+depths (given_fine n ∷ gs) = depths gs
 
 abbrev pub steps : List Given → List ℕ
 steps [] = []
 steps (given_depth n ∷ gs) = steps gs
 steps (given_step n ∷ gs) = n ∷ steps gs
 steps (given_start ∷ gs) = steps gs
+steps (given_limit n ∷ gs) = steps gs
+steps (given_fine n ∷ gs) = steps gs
 
 abbrev pub starts : List Given → List Bool
 starts [] = []
 starts (given_depth n ∷ gs) = starts gs
 starts (given_step n ∷ gs) = starts gs
 starts (given_start ∷ gs) = true ∷ starts gs
+starts (given_limit n ∷ gs) = starts gs
+starts (given_fine n ∷ gs) = starts gs
+
+abbrev pub limits : List Given → List ℕ
+limits [] = []
+limits (given_depth n ∷ gs) = limits gs
+limits (given_step n ∷ gs) = limits gs
+limits (given_start ∷ gs) = limits gs
+limits (given_limit n ∷ gs) = n ∷ limits gs
+limits (given_fine n ∷ gs) = limits gs
+
+abbrev pub fines : List Given → List ℕ
+fines [] = []
+fines (given_depth n ∷ gs) = fines gs
+fines (given_step n ∷ gs) = fines gs
+fines (given_start ∷ gs) = fines gs
+fines (given_limit n ∷ gs) = fines gs
+fines (given_fine n ∷ gs) = n ∷ fines gs
 
 -- the one that is given, or the default; None where it is given twice
 abbrev pub single : {A : Type 0} → A → List A → Option A
@@ -99,30 +142,50 @@ single default [] = Some default
 single default (a ∷ []) = Some a
 single default (a ∷ b ∷ rest) = None
 
+-- the one that is given, if one is; None where it is given twice
+abbrev pub optional : {A : Type 0} → List A → Option (Option A)
+optional [] = Some None
+optional (a ∷ []) = Some (Some a)
+optional (a ∷ b ∷ rest) = None
+
 -- this where none is given
 abbrev pub without : {A B : Type 0} → List A → Option B → Option B
 without [] b = b
 without (a ∷ rest) b = None
 
--- a command that takes no option, `--depth`, `--depth` and `--step`, `--depth` and `--start`
+-- a command that takes no option, `--depth`, `--depth` and `--step`, `--depth` and `--start`, `--depth` and `--limit`, `--depth` and
+-- `--fine`
 abbrev pub bare : Command → List Given → Option Command
 bare c gs = without gs (Some c)
 
 abbrev pub with_depth : (ℕ → Command) → List Given → Option Command
 with_depth make gs =
-    without (steps gs) (without (starts gs) (option_map make (single default_depth (depths gs))))
+    without (steps gs) (without (starts gs) (without (limits gs) (without (fines gs)
+    (option_map make (single default_depth (depths gs))))))
 
 abbrev pub with_step : List Given → Option Command
 with_step gs =
-    without (starts gs) (option_and_then
+    without (starts gs) (without (limits gs) (without (fines gs) (option_and_then
     (λ (depth : ℕ). option_map (λ (step : ℕ). Play depth step) (single default_step (steps gs)))
-    (single default_depth (depths gs)))
+    (single default_depth (depths gs)))))
 
 abbrev pub with_start : (ℕ → Bool → Command) → List Given → Option Command
 with_start make gs =
-    without (steps gs) (option_and_then
+    without (steps gs) (without (limits gs) (without (fines gs) (option_and_then
     (λ (depth : ℕ). option_map (λ (start : Bool). make depth start) (single false (starts gs)))
-    (single default_depth (depths gs)))
+    (single default_depth (depths gs)))))
+
+abbrev pub with_limit : List Given → Option Command
+with_limit gs =
+    without (steps gs) (without (starts gs) (without (fines gs) (option_and_then
+    (λ (depth : ℕ). option_map (λ (limit : Option ℕ). Speed depth limit) (optional (limits gs)))
+    (single default_depth (depths gs)))))
+
+abbrev pub with_fine : List Given → Option Command
+with_fine gs =
+    without (steps gs) (without (starts gs) (without (limits gs) (option_and_then
+    (λ (depth : ℕ). option_map (λ (fine : ℕ). Explain depth fine) (single default_fine (fines gs)))
+    (single default_depth (depths gs)))))
 
 -- the command of a name with these options
 abbrev pub named : List ℕ → List Given → Option Command
@@ -136,7 +199,10 @@ named name gs =
     else (if bytes_eq name (codes "verify") then bare Verify gs
     else (if bytes_eq name (codes "rehearse") then with_start Rehearse gs
     else (if bytes_eq name (codes "upload") then with_start Upload gs
-    else None))))))))
+    else (if bytes_eq name (codes "boxes") then with_depth Boxes gs
+    else (if bytes_eq name (codes "speed") then with_limit gs
+    else (if bytes_eq name (codes "explain") then with_fine gs
+    else None)))))))))))
 
 -- a drill of so many drones
 abbrev pub drill_with : Option ℕ → List (List ℕ) → Option Command
@@ -166,6 +232,9 @@ IsCommand Verify = Unit {0}
 IsCommand (Rehearse depth start) = depth ≤ most_depth
 IsCommand (Upload depth start) = depth ≤ most_depth
 IsCommand (Drill drones depth) = (1 ≤ drones) × (drones ≤ most_drill) × (depth ≤ most_depth)
+IsCommand (Boxes depth) = depth ≤ most_depth
+IsCommand (Speed depth limit) = (depth ≤ most_depth) × IfSome limit (λ v. (1 ≤ v) × (v ≤ most_limit))
+IsCommand (Explain depth fine) = (depth ≤ most_depth) × (fine ≤ most_fine)
 
 -- ---- what that means
 
@@ -176,6 +245,10 @@ SpellsOption (given_depth n) words =
 SpellsOption (given_step n) words =
     (value : List ℕ) × (words ≡ codes "--step" ∷ value ∷ []) × (step_of value ≡ Some n)
 SpellsOption given_start words = words ≡ codes "--start" ∷ []
+SpellsOption (given_limit n) words =
+    (value : List ℕ) × (words ≡ codes "--limit" ∷ value ∷ []) × (limit_of value ≡ Some n)
+SpellsOption (given_fine n) words =
+    (value : List ℕ) × (words ≡ codes "--fine" ∷ value ∷ []) × (fine_of value ≡ Some n)
 
 -- words are these options, one after the other
 abbrev pub SpellsOptions : List Given → List (List ℕ) → Type 0
@@ -193,3 +266,4 @@ help_text =
     codes "help\ncheck [--depth D]\ncompile [--depth D]\ncertify [--depth D]\n"
     ++ codes "play [--depth D] [--step MS]\nreport [--depth D]\nverify\n"
     ++ codes "rehearse [--depth D] [--start]\nupload [--depth D] [--start]\ndrill N [--depth D]\n"
+    ++ codes "boxes [--depth D]\nspeed [--depth D] [--limit V]\nexplain [--depth D] [--fine E]\n"

@@ -1,21 +1,31 @@
 -- The walk over the words: what was given so far, and which command that makes.
 use Rattle.std.specs.Prelude.{ℕ, ◌≤◌, Bool, true, false, not, ◌||◌, List, [], ◌∷◌, bytes_eq, codes, Option, Some, None, IfSome, is_some, unwrap_or, option_map, option_and_then, if◌then◌else◌}
 use Rattle.command_words.specs.declared.command.Command.{Command}
-use Rattle.command_words.specs.declared.command.Command.TheVariants.{Help, Check, Compile, Certify, Play, Report, Verify, Rehearse, Upload}
+use Rattle.command_words.specs.declared.command.Command.TheVariants.{Help, Check, Compile, Certify, Play, Report, Verify, Rehearse, Upload, Boxes, Speed, Explain}
 use Rattle.command_words.specs.declared.options.Options.{Options}
-use Rattle.command_words.specs.Commands.{Given, given_depth, given_step, given_start, options_of, default_depth, most_depth, default_step, most_step}
+use Rattle.command_words.specs.Commands.{Given, given_depth, given_step, given_start, given_limit, given_fine, options_of, default_depth, default_fine, most_depth, most_fine, default_step, most_limit, most_step}
 
 -- nothing is given
 abbrev pub no_options : Options
-no_options = record { depth = None; step = None; start = false }
+no_options = record { depth = None; step = None; start = false; limit = None; fine = None }
 
 -- one option more; None where it is there already
 abbrev pub noted : Options → Given → Option Options
 noted o (given_depth n) =
-    if is_some o.depth then None else Some (record { depth = Some n; step = o.step; start = o.start })
+    if is_some o.depth then None
+    else Some (record { depth = Some n; step = o.step; start = o.start; limit = o.limit; fine = o.fine })
 noted o (given_step n) =
-    if is_some o.step then None else Some (record { depth = o.depth; step = Some n; start = o.start })
-noted o given_start = if o.start then None else Some (record { depth = o.depth; step = o.step; start = true })
+    if is_some o.step then None
+    else Some (record { depth = o.depth; step = Some n; start = o.start; limit = o.limit; fine = o.fine })
+noted o given_start =
+    if o.start then None
+    else Some (record { depth = o.depth; step = o.step; start = true; limit = o.limit; fine = o.fine })
+noted o (given_limit n) =
+    if is_some o.limit then None
+    else Some (record { depth = o.depth; step = o.step; start = o.start; limit = Some n; fine = o.fine })
+noted o (given_fine n) =
+    if is_some o.fine then None
+    else Some (record { depth = o.depth; step = o.step; start = o.start; limit = o.limit; fine = Some n })
 
 -- more options, in their order
 abbrev pub collected : Options → List Given → Option Options
@@ -31,16 +41,20 @@ pub record AreInRange (o : Options) : Type 0 where
   pub depth : IfSome o.depth (λ depth. depth ≤ most_depth)
   pub step_from : IfSome o.step (λ step. 1 ≤ step)
   pub step_to : IfSome o.step (λ step. step ≤ most_step)
+  pub limit : IfSome o.limit (λ limit. (1 ≤ limit) × (limit ≤ most_limit))
+  pub fine : IfSome o.fine (λ fine. fine ≤ most_fine)
 
 -- ---- what a command takes of them
 
 -- no option is given
 abbrev pub is_bare : Options → Bool
-is_bare o = not (is_some o.depth || (is_some o.step || o.start))
+is_bare o = not (is_some o.depth || (is_some o.step || (o.start || (is_some o.limit || is_some o.fine))))
 
 -- the depth, where no other option is given
 abbrev pub depth_alone : Options → Option ℕ
-depth_alone o = if is_some o.step || o.start then None else Some (unwrap_or o.depth default_depth)
+depth_alone o =
+    if is_some o.step || (o.start || (is_some o.limit || is_some o.fine)) then None
+    else Some (unwrap_or o.depth default_depth)
 
 -- a command that takes no option
 abbrev pub at_bare : Command → Options → Option Command
@@ -52,11 +66,35 @@ at_depth make o = option_map make (depth_alone o)
 
 -- the command that takes a depth and a step
 abbrev pub at_step : Options → Option Command
-at_step o = if o.start then None else Some (Play (unwrap_or o.depth default_depth) (unwrap_or o.step default_step))
+at_step o =
+    if o.start || (is_some o.limit || is_some o.fine) then None
+    else Some (Play (unwrap_or o.depth default_depth) (unwrap_or o.step default_step))
 
 -- a command that takes a depth and starts
 abbrev pub at_start : (ℕ → Bool → Command) → Options → Option Command
-at_start make o = if is_some o.step then None else Some (make (unwrap_or o.depth default_depth) o.start)
+at_start make o =
+    if is_some o.step || (is_some o.limit || is_some o.fine) then None
+    else Some (make (unwrap_or o.depth default_depth) o.start)
+
+-- the command that takes a depth and a limit
+abbrev pub at_limit : Options → Option Command
+at_limit o =
+    if is_some o.step || (o.start || is_some o.fine) then None
+    else Some (Speed (unwrap_or o.depth default_depth) o.limit)
+
+-- the command that takes a depth and how finely cues are listed
+abbrev pub at_fine : Options → Option Command
+at_fine o =
+    if is_some o.step || (o.start || is_some o.limit) then None
+    else Some (Explain (unwrap_or o.depth default_depth) (unwrap_or o.fine default_fine))
+
+-- the command of this name that studies a show, with these options
+abbrev pub study_with : List ℕ → Options → Option Command
+study_with name o =
+    if bytes_eq name (codes "boxes") then at_depth Boxes o
+    else (if bytes_eq name (codes "speed") then at_limit o
+    else (if bytes_eq name (codes "explain") then at_fine o
+    else None))
 
 -- the command of a name with these options
 abbrev pub named_with : List ℕ → Options → Option Command
@@ -70,4 +108,4 @@ named_with name o =
     else (if bytes_eq name (codes "verify") then at_bare Verify o
     else (if bytes_eq name (codes "rehearse") then at_start Rehearse o
     else (if bytes_eq name (codes "upload") then at_start Upload o
-    else None))))))))
+    else study_with name o))))))))

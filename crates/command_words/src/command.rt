@@ -1,7 +1,7 @@
 //! What the words ask for.
 ghost use Rattle.std.specs.Prelude.{◌≡◌, map, string_bytes, IfSome};
 ghost use Rattle.command_words.specs.Commands.{IsCommand, command_of, drill_in, help_text};
-ghost use Rattle.command_words.specs.Steps.{AreInRange, named_with};
+ghost use Rattle.command_words.specs.Steps.{AreInRange, named_with, study_with};
 
 use crate::options::{Options, number_from, options_of};
 
@@ -29,10 +29,37 @@ pub enum Command {
     Upload { depth: u8, start: bool },
     /// The numbers of the drill's show of so many drones, 1 to 32.
     Drill { drones: u8, depth: u8 },
+    /// Whether its drones keep out of the boxes and in the volumes of a text of regions.
+    Boxes { depth: u8 },
+    /// How fast its drones are at most, and whether that is within `limit` micrometres per second, 1 to 999,999,999.
+    Speed { depth: u8, limit: Option<u32> },
+    /// Why the show is refused: its first blocked part, and where two drones come closest and touch among the instants that cut
+    /// each cue into 2^`fine` parts, 0 to 5.
+    Explain { depth: u8, fine: u8 },
 }
 
 // The most drones of a drill.
 const MOST_DRILL: u64 = 32;
+
+// The command of this name that studies a show, with these options.
+fn study(name: &[u8], options: Options) -> Option<Command>
+    requires { AreInRange options }
+    ensures value { result ≡ study_with name.now options }
+    ensures command { IfSome result IsCommand }
+{
+    if name == b"boxes".as_slice() {
+        let depth = options.depth_alone()?;
+        Some(Command::Boxes { depth })
+    } else if name == b"speed".as_slice() {
+        let (depth, limit) = options.depth_and_limit()?;
+        Some(Command::Speed { depth, limit })
+    } else if name == b"explain".as_slice() {
+        let (depth, fine) = options.depth_and_fine()?;
+        Some(Command::Explain { depth, fine })
+    } else {
+        None
+    }
+}
 
 // The command of this name with these options; `drill` is none of them.
 fn named(name: &[u8], options: Options) -> Option<Command>
@@ -66,7 +93,7 @@ fn named(name: &[u8], options: Options) -> Option<Command>
         let (depth, start) = options.depth_and_start()?;
         Some(Command::Upload { depth, start })
     } else {
-        None
+        study(name, options)
     }
 }
 
@@ -108,5 +135,8 @@ pub fn help_text() -> &'static [u8]
       verify\n\
       rehearse [--depth D] [--start]\n\
       upload [--depth D] [--start]\n\
-      drill N [--depth D]\n"
+      drill N [--depth D]\n\
+      boxes [--depth D]\n\
+      speed [--depth D] [--limit V]\n\
+      explain [--depth D] [--fine E]\n"
 }

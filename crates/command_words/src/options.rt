@@ -1,9 +1,9 @@
 //! The options that are given, each at most once and in any order.
 ghost use Rattle.std.specs.Prelude.{◌≡◌, ℕ, ◌≤◌, Bool, map, string_bytes, IfSome, option_map, option_and_then};
 ghost use Rattle.command_words.specs.declared.command.Command.{Command};
-ghost use Rattle.command_words.specs.declared.command.Command.TheVariants.{Play};
-ghost use Rattle.command_words.specs.Commands.{IsCommand, depth_of, given_depth, given_start, given_step, most_depth, most_step, number_from, step_of, valued};
-ghost use Rattle.command_words.specs.Steps.{AreInRange, at_start, at_step, continued, depth_alone, is_bare, no_options, noted};
+ghost use Rattle.command_words.specs.declared.command.Command.TheVariants.{Explain, Play, Speed};
+ghost use Rattle.command_words.specs.Commands.{IsCommand, depth_of, given_depth, fine_of, given_fine, given_limit, given_start, given_step, limit_of, most_depth, most_fine, most_limit, most_step, number_from, step_of, valued};
+ghost use Rattle.command_words.specs.Steps.{AreInRange, at_fine, at_limit, at_start, at_step, continued, depth_alone, is_bare, no_options, noted};
 
 use text_lines::natural;
 
@@ -19,12 +19,21 @@ const DEFAULT_STEP: u16 = 100;
 // The greatest step, in milliseconds.
 const MOST_STEP: u64 = 60_000;
 
+// The greatest limit on speed, in micrometres per second.
+const MOST_LIMIT: u64 = 999_999_999;
+
+// How finely a cue is listed where no option says it.
+const DEFAULT_FINE: u8 = 5;
+
+// The finest.
+const MOST_FINE: u64 = 5;
+
 // The most digits of a number on the command line.
 const MOST_DIGITS: usize = 9;
 
 /// The number that a word is, from `least` to `most`: 1 to 9 decimal digits.
 pub fn number_from(word: &[u8], least: u64, most: u64) -> Option<u64>
-    requires { most ≤ most_step }
+    requires { most ≤ most_limit }
     ensures value { result ≡ number_from least most word.now }
     ensures from { IfSome result (λ n. least ≤ n) }
     ensures to { IfSome result (λ n. n ≤ most) }
@@ -44,6 +53,10 @@ pub struct Options {
     pub step: Option<u16>,
     /// The drones are started.
     pub start: bool,
+    /// In micrometres per second, 1 to 999,999,999.
+    pub limit: Option<u32>,
+    /// At most 5.
+    pub fine: Option<u8>,
 }
 
 impl Options {
@@ -55,6 +68,8 @@ impl Options {
             depth: None,
             step: None,
             start: false,
+            limit: None,
+            fine: None,
         }
     }
 
@@ -90,6 +105,38 @@ impl Options {
         })
     }
 
+    // A limit more, unless there is one.
+    fn with_limit(self, value: &[u8]) -> Option<Options>
+        requires { AreInRange self }
+        ensures value { result ≡ option_and_then (noted self) (option_map given_limit (limit_of value.now)) }
+        ensures range { IfSome result AreInRange }
+    {
+        let limit = number_from(value, 1, MOST_LIMIT)? as u32;
+        if self.limit.is_some() {
+            return None;
+        }
+        Some(Options {
+            limit: Some(limit),
+            ..self
+        })
+    }
+
+    // A fineness more, unless there is one.
+    fn with_fine(self, value: &[u8]) -> Option<Options>
+        requires { AreInRange self }
+        ensures value { result ≡ option_and_then (noted self) (option_map given_fine (fine_of value.now)) }
+        ensures range { IfSome result AreInRange }
+    {
+        let fine = number_from(value, 0, MOST_FINE)? as u8;
+        if self.fine.is_some() {
+            return None;
+        }
+        Some(Options {
+            fine: Some(fine),
+            ..self
+        })
+    }
+
     // An option of two words more, unless it is there.
     fn with_valued(self, word: &[u8], value: &[u8]) -> Option<Options>
         requires { AreInRange self }
@@ -100,6 +147,10 @@ impl Options {
             self.with_depth(value)
         } else if word == b"--step".as_slice() {
             self.with_step(value)
+        } else if word == b"--limit".as_slice() {
+            self.with_limit(value)
+        } else if word == b"--fine".as_slice() {
+            self.with_fine(value)
         } else {
             None
         }
@@ -124,7 +175,11 @@ impl Options {
     pub fn is_bare(self) -> bool
         ensures { result ≡ is_bare self }
     {
-        self.depth.is_none() && self.step.is_none() && !self.start
+        self.depth.is_none()
+            && self.step.is_none()
+            && !self.start
+            && self.limit.is_none()
+            && self.fine.is_none()
     }
 
     /// The depth, where no other option is given.
@@ -133,19 +188,19 @@ impl Options {
         ensures value { result ≡ depth_alone self }
         ensures most { IfSome result (λ depth. depth ≤ most_depth) }
     {
-        if self.step.is_some() || self.start {
+        if self.step.is_some() || self.start || self.limit.is_some() || self.fine.is_some() {
             return None;
         }
         Some(self.depth.unwrap_or(DEFAULT_DEPTH))
     }
 
-    /// The depth and the step, where no start is given.
+    /// The depth and the step, where no other option is given.
     pub fn depth_and_step(self) -> Option<(u8, u16)>
         requires { AreInRange self }
         ensures value { option_map (λ given. Play given.0 given.1) result ≡ at_step self }
         ensures range { IfSome result (λ given. IsCommand (Play given.0 given.1)) }
     {
-        if self.start {
+        if self.start || self.limit.is_some() || self.fine.is_some() {
             return None;
         }
         Some((
@@ -154,17 +209,44 @@ impl Options {
         ))
     }
 
-    /// The depth and whether a start is given, where no step is given.
+    /// The depth and whether a start is given, where no other option is given.
     pub fn depth_and_start(self) -> Option<(u8, bool)>
         requires { AreInRange self }
         ensures value { (make : ℕ → Bool → Command) →
             option_map (λ given. make given.0 given.1) result ≡ at_start make self }
         ensures most { IfSome result (λ given. given.0 ≤ most_depth) }
     {
-        if self.step.is_some() {
+        if self.step.is_some() || self.limit.is_some() || self.fine.is_some() {
             return None;
         }
         Some((self.depth.unwrap_or(DEFAULT_DEPTH), self.start))
+    }
+
+    /// The depth and the limit, if there is one, where no other option is given.
+    pub fn depth_and_limit(self) -> Option<(u8, Option<u32>)>
+        requires { AreInRange self }
+        ensures value { option_map (λ given. Speed given.0 given.1) result ≡ at_limit self }
+        ensures range { IfSome result (λ given. IsCommand (Speed given.0 given.1)) }
+    {
+        if self.step.is_some() || self.start || self.fine.is_some() {
+            return None;
+        }
+        Some((self.depth.unwrap_or(DEFAULT_DEPTH), self.limit))
+    }
+
+    /// The depth and the fineness, where no other option is given.
+    pub fn depth_and_fine(self) -> Option<(u8, u8)>
+        requires { AreInRange self }
+        ensures value { option_map (λ given. Explain given.0 given.1) result ≡ at_fine self }
+        ensures range { IfSome result (λ given. IsCommand (Explain given.0 given.1)) }
+    {
+        if self.step.is_some() || self.start || self.limit.is_some() {
+            return None;
+        }
+        Some((
+            self.depth.unwrap_or(DEFAULT_DEPTH),
+            self.fine.unwrap_or(DEFAULT_FINE),
+        ))
     }
 }
 

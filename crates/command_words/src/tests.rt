@@ -12,7 +12,7 @@ fn command(alloc: Global, line: &str) -> Result<Option<Command>, AllocError> {
     Ok(command_of(&words))
 }
 
-const COMMANDS: [(&str, Command); 24] = [
+const COMMANDS: [(&str, Command); 33] = [
     ("help", Command::Help),
     ("check", Command::Check { depth: 6 }),
     ("check --depth 0", Command::Check { depth: 0 }),
@@ -121,6 +121,45 @@ const COMMANDS: [(&str, Command); 24] = [
             depth: 6,
         },
     ),
+    ("boxes", Command::Boxes { depth: 6 }),
+    ("boxes --depth 2", Command::Boxes { depth: 2 }),
+    (
+        "speed",
+        Command::Speed {
+            depth: 6,
+            limit: None,
+        },
+    ),
+    (
+        "speed --limit 1600000 --depth 0",
+        Command::Speed {
+            depth: 0,
+            limit: Some(1_600_000),
+        },
+    ),
+    (
+        "speed --depth 8 --limit 999999999",
+        Command::Speed {
+            depth: 8,
+            limit: Some(999_999_999),
+        },
+    ),
+    (
+        "speed --limit 1",
+        Command::Speed {
+            depth: 6,
+            limit: Some(1),
+        },
+    ),
+    ("explain", Command::Explain { depth: 6, fine: 5 }),
+    (
+        "explain --fine 0 --depth 3",
+        Command::Explain { depth: 3, fine: 0 },
+    ),
+    (
+        "explain --depth 3 --fine 05",
+        Command::Explain { depth: 3, fine: 5 },
+    ),
 ];
 
 #[test]
@@ -131,7 +170,7 @@ fn words_that_are_a_command(rt: HostRuntime) -> Result<(), Fail> {
     Ok(())
 }
 
-const NO_COMMANDS: [&str; 44] = [
+const NO_COMMANDS: [&str; 60] = [
     "",
     "Compile",
     "compil",
@@ -176,6 +215,22 @@ const NO_COMMANDS: [&str; 44] = [
     "drill 2 2",
     "drill --depth 3 4",
     "drill 4 --start",
+    "drill 4 --limit 5",
+    "check --limit 5",
+    "play --fine 5",
+    "rehearse --limit 5",
+    "upload --fine 5",
+    "verify --fine 5",
+    "boxes --start",
+    "boxes --limit 5",
+    "boxes --fine 5",
+    "boxes --depth 3 --depth 3",
+    "speed --limit 0",
+    "speed --limit 1000000000",
+    "speed --limit 5 --limit 5",
+    "speed --fine 5",
+    "explain --fine 6",
+    "explain --fine 5 --depth 3 --fine 5",
 ];
 
 #[test]
@@ -189,7 +244,7 @@ fn words_that_are_no_command(rt: HostRuntime) -> Result<(), Fail> {
 
 #[test]
 fn the_forms_of_the_commands(rt: HostRuntime) {
-    let lines: [&[u8]; 10] = [
+    let lines: [&[u8]; 13] = [
         b"help",
         b"check [--depth D]",
         b"compile [--depth D]",
@@ -200,6 +255,9 @@ fn the_forms_of_the_commands(rt: HostRuntime) {
         b"rehearse [--depth D] [--start]",
         b"upload [--depth D] [--start]",
         b"drill N [--depth D]",
+        b"boxes [--depth D]",
+        b"speed [--depth D] [--limit V]",
+        b"explain [--depth D] [--fine E]",
     ];
     let mut rest = help_text();
     for line in lines {
