@@ -107,3 +107,16 @@ abbrev pub fails_line : Pair → Place → ℕ → ℕ → ℕ → List ℕ
 fails_line pair place version dir control =
     refusal (codes "12") (codes "fails" ∷ pair_words pair
     ++ codes "part" ∷ decimal place.depth ∷ decimal place.index ∷ codes "direction" ∷ direction_word version dir ∷ codes "control" ∷ decimal control ∷ [])
+
+-- ---- regions and speeds
+
+-- a drone isn't kept from or in a region in this part of a cue; regions and cues count from 0 in the program and from 1 in the line
+abbrev pub enters_line : ℕ → List ℕ → ℕ → ℕ → ℕ → List ℕ
+enters_line region name cue index depth =
+    refusal (codes "15") (codes "region" ∷ decimal (region + 1) ∷ codes "drone" ∷ name ∷ codes "cue" ∷ decimal (cue + 1)
+    ∷ codes "part" ∷ decimal index ∷ codes "of" ∷ decimal (2 ^ depth) ∷ [])
+
+-- the bound on a drone's speed on an axis is above the limit; it is in micrometres per second
+abbrev pub too_fast_line : List ℕ → ℕ → ℤ → List ℕ
+too_fast_line name axis speed =
+    refusal (codes "16") (codes "drone" ∷ name ∷ axis_word axis ∷ codes "speed" ∷ signed_decimal speed ∷ [])

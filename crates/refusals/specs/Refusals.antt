@@ -28,6 +28,8 @@ status_of (refused.Missing pair) = 12
 status_of (refused.Extra version tree) = 12
 status_of (refused.TooDeep pair) = 12
 status_of (refused.Fails pair place version dir control) = 12
+status_of (refused.Enters region drone cue index depth) = 15
+status_of (refused.TooFast drone axis speed) = 16
 
 -- the line that it writes
 abbrev pub line_of : Refusal → List ℕ
@@ -49,14 +51,16 @@ line_of (refused.Missing pair) = lines.missing_line pair
 line_of (refused.Extra version tree) = lines.extra_line version tree
 line_of (refused.TooDeep pair) = lines.too_deep_line pair
 line_of (refused.Fails pair place version dir control) = lines.fails_line pair place version dir control
+line_of (refused.Enters region drone cue index depth) = lines.enters_line region drone.items cue index depth
+line_of (refused.TooFast drone axis speed) = lines.too_fast_line drone.items axis speed
 
 -- the names of a pair can stand as words of a line
 pub record AreNamed (pair : Pair) : Type 0 where
   pub first : IsWord pair.first.items
   pub second : IsWord pair.second.items
 
--- What a refusal names can be said in a line: names are words, an axis is one of four, a depth is at most 8, a direction is one of its
--- version's table, and out of memory is no fault of names or cues.
+-- What a refusal names can be said in a line: names are words, an axis is one of four, or of three where it has a speed, a depth is at most 8,
+-- a direction is one of its version's table, and out of memory is no fault of names or cues.
 abbrev pub IsSayable : Refusal → Type 0
 IsSayable refused.Usage = Unit {0}
 IsSayable refused.TooLarge = Unit {0}
@@ -76,3 +80,5 @@ IsSayable (refused.Missing pair) = AreNamed pair
 IsSayable (refused.Extra version tree) = IsVersion version × (tree < 2 ^ 31)
 IsSayable (refused.TooDeep pair) = AreNamed pair
 IsSayable (refused.Fails pair place version dir control) = AreNamed pair × IsVersion version × (dir < known_in version)
+IsSayable (refused.Enters region drone cue index depth) = IsWord drone.items × (depth ≤ 8)
+IsSayable (refused.TooFast drone axis speed) = IsWord drone.items × (axis ≤ 2)

@@ -14,6 +14,7 @@ mod kinds;
 mod pairs;
 mod refusal;
 mod singles;
+mod studies;
 #[cfg(test)]
 mod tests;
 

@@ -12,7 +12,7 @@ use fleet_io::ShortLine;
 use halving::Place;
 
 // The number of equal parts that a cue has at a depth.
-fn parts(depth: u8) -> u32
+pub(crate) fn parts(depth: u8) -> u32
     requires { depth ≤ 8 }
     ensures { result ≡ 2 ^ depth }
 {

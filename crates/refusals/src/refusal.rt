@@ -9,6 +9,7 @@ use crate::singles::{
     refused_line, room_line, second_line, second_too_large_line, segments_line, too_large_line,
     usage_line,
 };
+use crate::studies::{enters_line, too_fast_line};
 use choreo_reader::{LineKind, Name};
 use cue_grid::GridFault;
 use fleet_io::ShortLine;
@@ -105,6 +106,20 @@ pub enum Refusal {
         dir: u8,
         control: u8,
     },
+    /// A drone isn't kept from or in a region in a part of a cue: part `index` of `2^depth` equal ones. Regions count from 0.
+    Enters {
+        region: u8,
+        drone: Name,
+        cue: u16,
+        index: u16,
+        depth: u8,
+    },
+    /// The bound on a drone's speed on the axis 0, 1 or 2, which are x, y and z, is above the limit. It is in micrometres per second.
+    TooFast {
+        drone: Name,
+        axis: u8,
+        speed: i64,
+    },
 }
 
 impl Refusal {
@@ -129,6 +144,8 @@ impl Refusal {
             | Refusal::Extra { .. }
             | Refusal::TooDeep { .. }
             | Refusal::Fails { .. } => 12,
+            Refusal::Enters { .. } => 15,
+            Refusal::TooFast { .. } => 16,
         }
     }
 
@@ -166,6 +183,14 @@ impl Refusal {
                 dir,
                 control,
             } => fails_line(pair, *place, *version, *dir, *control),
+            Refusal::Enters {
+                region,
+                drone,
+                cue,
+                index,
+                depth,
+            } => enters_line(*region, drone, *cue, *index, *depth),
+            Refusal::TooFast { drone, axis, speed } => too_fast_line(drone, *axis, *speed),
         }
     }
 }

@@ -191,6 +191,56 @@ fn trees_that_fail(rt: HostRuntime) {
     assert_eq!(rt; digits.status(), 12);
 }
 
+#[test]
+fn regions(rt: HostRuntime) {
+    let enters = Refusal::Enters {
+        region: 0,
+        drone: named(b"solo"),
+        cue: 0,
+        index: 25,
+        depth: 6,
+    };
+    assert_eq!(rt;
+        enters.line().bytes(),
+        b"error 15 region 1 drone solo cue 1 part 25 of 64\n".as_slice()
+    );
+    assert_eq!(rt; enters.status(), 15);
+    let last = Refusal::Enters {
+        region: 63,
+        drone: named(b"abcdefghijklmnop"),
+        cue: 999,
+        index: 255,
+        depth: 8,
+    };
+    assert_eq!(rt;
+        last.line().bytes(),
+        b"error 15 region 64 drone abcdefghijklmnop cue 1000 part 255 of 256\n".as_slice()
+    );
+}
+
+#[test]
+fn speeds(rt: HostRuntime) {
+    let fast = Refusal::TooFast {
+        drone: named(b"solo"),
+        axis: 0,
+        speed: 1_656_000,
+    };
+    assert_eq!(rt;
+        fast.line().bytes(),
+        b"error 16 drone solo x speed 1656000\n".as_slice()
+    );
+    assert_eq!(rt; fast.status(), 16);
+    let fastest = Refusal::TooFast {
+        drone: named(b"abcdefghijklmnop"),
+        axis: 2,
+        speed: 9_223_372_036_854_775_807,
+    };
+    assert_eq!(rt;
+        fastest.line().bytes(),
+        b"error 16 drone abcdefghijklmnop z speed 9223372036854775807\n".as_slice()
+    );
+}
+
 // Words of another crate's line.
 #[test]
 fn words_one_by_one(rt: HostRuntime) {

@@ -1,0 +1,48 @@
+//! Lines on a drone that enters a region, and on one that may be too fast.
+
+ghost use Rattle.std.specs.Prelude.{◌≡◌, ◌≤◌};
+ghost use Rattle.fleet_io.specs.Words.{IsWord};
+ghost use Rattle.refusals.specs.Lines.{enters_line, too_fast_line};
+
+use crate::builder::begin;
+use crate::kinds::axis_word;
+use crate::pairs::parts;
+use choreo_reader::Name;
+use fleet_io::ShortLine;
+
+// `error 15 region K drone NAME cue C part I of P`: regions and cues count from 1 in the line.
+pub(crate) fn enters_line(region: u8, name: &Name, cue: u16, index: u16, depth: u8) -> ShortLine
+    requires name { IsWord name.now.items }
+    requires depth { depth ≤ 8 }
+    ensures { result ≡ enters_line region name.now.items cue index depth }
+{
+    let mut text = begin(b"15");
+    text.word(b"region");
+    text.number(u32::from(region) + 1);
+    text.word(b"drone");
+    text.word(name.as_slice());
+    text.word(b"cue");
+    text.number(u32::from(cue) + 1);
+    text.word(b"part");
+    text.number(u32::from(index));
+    text.word(b"of");
+    text.number(parts(depth));
+    text.end();
+    text
+}
+
+// `error 16 drone NAME AXIS speed V`: the axes 0 to 2 are x, y and z.
+pub(crate) fn too_fast_line(name: &Name, axis: u8, speed: i64) -> ShortLine
+    requires name { IsWord name.now.items }
+    requires axis { axis ≤ 2 }
+    ensures { result ≡ too_fast_line name.now.items axis speed }
+{
+    let mut text = begin(b"16");
+    text.word(b"drone");
+    text.word(name.as_slice());
+    text.word(axis_word(axis));
+    text.word(b"speed");
+    text.decimal(speed);
+    text.end();
+    text
+}
