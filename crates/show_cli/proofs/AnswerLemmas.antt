@@ -6,6 +6,7 @@ use Rattle.choreo_reader.specs.Plain.{PlainShow}
 use Rattle.choreo_reader.specs.Grammar.{StandsFor}
 use Rattle.fleet_io.specs.Causes.{Rose}
 use Rattle.command_words.specs.declared.command.Command.{Command}
+use Rattle.command_words.specs.declared.command.Command.TheVariants.{Help, Check, Compile, Certify, Play, Report, Verify, Rehearse, Upload, Drill, Boxes, Speed, Explain}
 use Rattle.refusals.specs.declared.refusal.Refusal.{Refusal}
 use Rattle.refusals.specs.declared.refusal.Refusal.TheVariants as refusal
 use Rattle.refusals.specs.Refusals.{status_of}
@@ -24,7 +25,7 @@ use Rattle.show_cli.specs.declared.input.Input.{Input}
 use Rattle.show_cli.specs.declared.input.Text.{Text}
 use Rattle.show_cli.specs.Answers.{AnswersInput, AnswersText, AnswersTwo, EndsJudged, EndsRead, Fits, IsAccepted, IsRefusedBy, IsSaid, JudgedGives, JudgesInput, outcome_of}
 use Rattle.show_cli.specs.Input.{AreTexts, IsReadWhole, IsShowText, IsText, IsUnmarked, IsWholeText, ReadsShow, ReadsTwo}
-use Rattle.show_cli.specs.Outcome.{Gives, IsOutcomeOf, IsSafe, Outcome, ShowGives, outcome, refused, said}
+use Rattle.show_cli.specs.Outcome.{FliesApart, Gives, IsOutcomeOf, IsSafe, Outcome, Promises, ShowGives, outcome, refused, said}
 use Rattle.choreo_reader.specs.declared.show.Settings.{Settings}
 use Rattle.show_cli.specs.Reports.{nodes_of}
 use Rattle.show_cli.specs.Refused.{IsOfInput, blocked_by, show_refusal, text_refusal}
@@ -51,6 +52,8 @@ refused_some (refusal.Missing pair) is = omega (arith, is)
 refused_some (refusal.Extra version tree) is = omega (arith, is)
 refused_some (refusal.TooDeep pair) is = omega (arith, is)
 refused_some (refusal.Fails pair place version dir control) is = omega (arith, is)
+refused_some (refusal.Enters region drone cue index depth) is = omega (arith, is)
+refused_some (refusal.TooFast drone axis speed) is = omega (arith, is)
 
 -- a command that writes no frames says a refusal by its line
 pub said_plain : (c : Command) (r : Refusal) → (ways_of c).by_frames ≡ false → said c r ≡ refused r
@@ -76,9 +79,26 @@ comes_to c cut s o short stands none gives =
 pub accepted_outcome : (c : Command) (depth : ℕ) (cut : Cut) (a : Accepted) (o : Outcome) → (is : IsAccepted c depth cut a) → Gives c is.s cut o → IsOutcomeOf c cut o
 accepted_outcome c depth cut a o is gives = comes_to c cut is.s o is.short is.stands is.accepted gives
 
+-- a command that refuses shows whose drones may not keep apart promises that they do
+keeps_promise : (c : Command) (depth : ℕ) (s : PlainShow) (cut : Cut) → (ways_of c).depth ≡ Some depth → FliesApart s → Promises c s cut
+keeps_promise Help depth s cut searched apart = tt
+keeps_promise (Check d) depth s cut searched apart = apart
+keeps_promise (Compile d) depth s cut searched apart = apart
+keeps_promise (Certify d) depth s cut searched apart = apart
+keeps_promise (Play d step) depth s cut searched apart = apart
+keeps_promise (Report d) depth s cut searched apart = apart
+keeps_promise Verify depth s cut searched apart = apart
+keeps_promise (Rehearse d start) depth s cut searched apart = apart
+keeps_promise (Upload d start) depth s cut searched apart = apart
+keeps_promise (Drill drones d) depth s cut searched apart = apart
+keeps_promise (Boxes d) depth s cut searched apart = absurd (cc)
+keeps_promise (Speed d limit) depth s cut searched apart = absurd (cc)
+keeps_promise (Explain d fine) depth s cut searched apart = absurd (cc)
+
 pub accepted_safe : (c : Command) (depth : ℕ) (cut : Cut) (a : Accepted) (o : Outcome) → (is : IsAccepted c depth cut a) → Gives c is.s cut o → o.status ≡ 0 → IsSafe c cut o
 accepted_safe c depth cut a o is gives done =
-    record { s = is.s; stands = is.stands; near = is.safe.near; apart = is.safe.apart; lands = is.safe.lands; accepted = is.accepted; gives = gives; done = done }
+    let promised = keeps_promise c depth is.s cut is.searched (record { apart = is.safe.apart; lands = is.safe.lands }) in
+    record { s = is.s; stands = is.stands; near = is.safe.near; promised = promised; accepted = is.accepted; gives = gives; done = done }
 
 -- a command answers this for a show that is accepted
 pub answers_done : (c : Command) (depth : ℕ) (text : Text) (a : Accepted) (answer : Answer) → ((cut : Cut) → IsShowText text cut → IsAccepted c depth cut a) →
@@ -128,28 +148,38 @@ fitted_outcome c d cut f o is fits gives =
     inr (record { s = fits.s; short = fits.short; stands = fits.stands; gives = subst (λ (r : Option Refusal). ShowGives c r fits.s cut o) (sym (left_of c d cut f is fits)) gives })
 
 fitted_safe : (c : Command) (d : Option ℕ) (cut : Cut) (f : Fitted) (o : Outcome) → (ways_of c).by_frames ≡ false → (ways_of c).depth ≡ d → (fits : Fits c cut f) →
-    ShowGives c (blocked_by d fits.s) fits.s cut o → FlyApart f.settings f.sent → o.status ≡ 0 → IsSafe c cut o
-fitted_safe c d cut f o plain is fits gives apart done =
+    ShowGives c (blocked_by d fits.s) fits.s cut o → Promises c fits.s cut → o.status ≡ 0 → IsSafe c cut o
+fitted_safe c d cut f o plain is fits gives promised done =
     let given = given_by c (blocked_by d fits.s) fits.s cut o plain gives done in
-    let apart_of : FlyApart fits.s.settings (sent_of fits.s) = subst (λ (e : Settings). FlyApart e (sent_of fits.s)) fits.fitted.settings (subst (FlyApart f.settings) fits.fitted.sent apart) in
     record {
       s = fits.s;
       stands = fits.stands;
       near = fits.near;
-      apart = apart_of;
-      lands = fits.lands apart_of;
+      promised = promised;
       accepted = left_of c d cut f is fits ∙ given.none;
       gives = given.gives;
       done = done;
     }
 
+-- where what fits flies apart, that is promised of its show
+apart_of_show : (c : Command) (cut : Cut) (f : Fitted) → (fits : Fits c cut f) → FlyApart f.settings f.sent → FliesApart fits.s
+apart_of_show c cut f fits apart =
+    let of_show : FlyApart fits.s.settings (sent_of fits.s) = subst (λ (e : Settings). FlyApart e (sent_of fits.s)) fits.fitted.settings (subst (FlyApart f.settings) fits.fitted.sent apart) in
+    record { apart = of_show; lands = fits.lands of_show }
+
+pub apart_promised : (c : Command) (cut : Cut) (f : Fitted) (result : Result Answer AllocError) → ((s : PlainShow) → FliesApart s → Promises c s cut) → (fits : Fits c cut f) →
+    IfOk result (λ a. (outcome_of a).status ≡ 0 → FlyApart f.settings f.sent) → IfOk result (λ a. (outcome_of a).status ≡ 0 → Promises c fits.s cut)
+apart_promised c cut f (Err e) promises fits apart = tt
+apart_promised c cut f (Ok a) promises fits apart = λ done. promises fits.s (apart_of_show c cut f fits (apart done))
+
 pub answers_fitted : (c : Command) (d : Option ℕ) (text : Text) (f : Fitted) (result : Result Answer AllocError) → (ways_of c).by_frames ≡ false → (ways_of c).depth ≡ d →
     ((cut : Cut) → IsShowText text cut → Fits c cut f) → ((s : PlainShow) (cut : Cut) → IsFitted f s → IfOk result (λ a. ShowGives c (blocked_by d s) s cut (outcome_of a))) →
-    IfOk result (λ a. (outcome_of a).status ≡ 0 → FlyApart f.settings f.sent) → IfOk result IsSaid → IsUnmarked text → AnswersText c text result
-answers_fitted c d text f (Err e) plain is fits gives apart is_said unmarked = answers_memory c text e
-answers_fitted c d text f (Ok a) plain is fits gives apart is_said unmarked = record {
+    ((cut : Cut) → IsShowText text cut → (fits : Fits c cut f) → IfOk result (λ a. (outcome_of a).status ≡ 0 → Promises c fits.s cut)) → IfOk result IsSaid → IsUnmarked text →
+    AnswersText c text result
+answers_fitted c d text f (Err e) plain is fits gives promised is_said unmarked = answers_memory c text e
+answers_fitted c d text f (Ok a) plain is fits gives promised is_said unmarked = record {
   gives = λ cut is_text. let it = fits cut is_text in fitted_outcome c d cut f (outcome_of a) is it (gives it.s cut it.fitted);
-  safe = λ cut is_text done. let it = fits cut is_text in fitted_safe c d cut f (outcome_of a) plain is it (gives it.s cut it.fitted) (apart done) done;
+  safe = λ cut is_text done. let it = fits cut is_text in fitted_safe c d cut f (outcome_of a) plain is it (gives it.s cut it.fitted) (promised cut is_text it done) done;
   whole = λ done. unmarked;
   said = is_said;
 }
@@ -171,12 +201,12 @@ two_memory c limit input e = record { gives = λ cut is. tt; safe = λ cut is. t
 pub two_fitted : (c : Command) (d : Option ℕ) (limit : ℕ) (input : Input) (f : Fitted) (result : Result Answer AllocError) → (ways_of c).by_frames ≡ false → (ways_of c).depth ≡ d →
     ((cut : Cut) → IsShowText input.show cut → Fits c cut f) →
     ((s : PlainShow) (cut : Cut) → IsFitted f s → IsText limit input.second cut.second cut.is_second_marked → IfOk result (λ a. ShowGives c (blocked_by d s) s cut (outcome_of a))) →
-    IfOk result (λ a. (outcome_of a).status ≡ 0 → FlyApart f.settings f.sent) → IsWholeText input.show →
+    ((cut : Cut) → IsText limit input.second cut.second cut.is_second_marked → (fits : Fits c cut f) → IfOk result (λ a. (outcome_of a).status ≡ 0 → Promises c fits.s cut)) → IsWholeText input.show →
     IfOk result (λ a. (outcome_of a).status ≡ 0 → IsUnmarked input.second) → IfOk result IsSaid → AnswersTwo c limit input result
-two_fitted c d limit input f (Err e) plain is fits gives apart whole unmarked is_said = two_memory c limit input e
-two_fitted c d limit input f (Ok a) plain is fits gives apart whole unmarked is_said = record {
+two_fitted c d limit input f (Err e) plain is fits gives promised whole unmarked is_said = two_memory c limit input e
+two_fitted c d limit input f (Ok a) plain is fits gives promised whole unmarked is_said = record {
   gives = λ cut texts. let it = fits cut texts.show in fitted_outcome c d cut f (outcome_of a) is it (gives it.s cut it.fitted (texts.second whole));
-  safe = λ cut texts done. let it = fits cut texts.show in fitted_safe c d cut f (outcome_of a) plain is it (gives it.s cut it.fitted (texts.second whole)) (apart done) done;
+  safe = λ cut texts done. let it = fits cut texts.show in fitted_safe c d cut f (outcome_of a) plain is it (gives it.s cut it.fitted (texts.second whole)) (promised cut (texts.second whole) it done) done;
   whole = λ done. (whole, unmarked done);
   said = is_said;
 }

@@ -4,6 +4,11 @@ use Rattle.std.specs.Option.{option_map}
 use Rattle.std.specs.Str.Lines.{lines}
 use Rattle.choreo_reader.specs.Plain.{PlainShow}
 use Rattle.choreo_reader.specs.Laws.{ShowLaw}
+use Rattle.keepout_boxes.specs.declared.judging.Judged.{Judged}
+use Rattle.keepout_boxes.specs.declared.judging.Judged.TheVariants.{Kept}
+use Rattle.keepout_boxes.specs.declared.region.Region.{Region}
+use Rattle.keepout_boxes.specs.Kept.{JudgeGives}
+use Rattle.keepout_boxes.specs.Regions.{regions_of}
 use Rattle.link_frames.specs.Frames.{end_frame}
 use Rattle.link_upload.specs.Sends.{events_in, sent_over}
 use Rattle.link_upload.specs.Uploads.{EndsWith, UploadGives, UploadLaw, frame_limit}
@@ -22,16 +27,18 @@ use Rattle.upload_model.specs.declared.events.WorldEvent.{WorldEvent}
 use Rattle.upload_model.specs.Hosts.{progress}
 use Rattle.upload_model.specs.Worlds.{World}
 use Rattle.command_words.specs.declared.command.Command.{Command}
-use Rattle.command_words.specs.declared.command.Command.TheVariants.{Help, Check, Compile, Certify, Play, Report, Verify, Rehearse, Upload, Drill}
+use Rattle.command_words.specs.declared.command.Command.TheVariants.{Help, Check, Compile, Certify, Play, Report, Verify, Rehearse, Upload, Drill, Boxes, Speed, Explain}
 use Rattle.refusals.specs.declared.refusal.Refusal.{Refusal}
 use Rattle.sep_certificate.specs.declared.certificate.Certificate.{Certificate}
 use Rattle.sep_certificate.specs.declared.certificate.CertFault.{CertFault}
 use Rattle.std.proofs.Common.{Result}
 use Rattle.show_cli.specs.Complete.{IsComplete, Succeeds}
-use Rattle.show_cli.specs.Outcome.{CertificateGives, Gives, IsOutcomeOf, Outcome, RehearsalEnds, ScheduleGives, ShowGives, judged, judged_for, said}
+use Rattle.show_cli.specs.Outcome.{CertificateGives, Gives, IsOutcomeOf, Outcome, RegionsGive, RehearsalEnds, ScheduleGives, ShowGives, judged, judged_for, regions_end, said, speeds_end}
 use Rattle.show_cli.specs.Refused.{faulty_event, second_refusal, show_refusal, text_refusal}
+use Rattle.show_cli.specs.Studies.{faulty_region, region_limit, speed_text, too_fast}
+use Rattle.show_cli.proofs.StudyLemmas.{judge_one, regions_given_one}
 use Rattle.show_cli.proofs.TextLemmas.{none_said, stands_unrefused}
-use Rattle.show_cli.specs.Shows.{Cut, certificate_limit, names_of, schedule_limit, session_of, trajectories_of, words_of}
+use Rattle.show_cli.specs.Shows.{Cut, certificate_limit, names_of, schedule_limit, sent_of, session_of, trajectories_of, words_of}
 
 status_is : (o p : Outcome) → o ≡ p → p.status ≡ 0 → o.status ≡ 0
 status_is o p same done = ap (λ (q : Outcome). q.status) same ∙ done
@@ -90,6 +97,22 @@ upload_done law s start cut depth o gives (frames, rest, takes, done) =
     record { frames = frames; rest = rest; takes = takes; ends = ends; sends = refl } in
     (law.one session cut.frames o.status 0 o.output _ gives wanted).0
 
+-- ---- `boxes`
+
+-- where regions are read, the second text is refused as one without a faulty line
+no_faulty_region : (given : Result (List Region) ℕ) (regions : List Region) (cut : Cut) → given ≡ Ok regions → second_refusal region_limit None cut ≡ None →
+    second_refusal region_limit (faulty_region given) cut ≡ None
+no_faulty_region given regions cut is none = rw is none
+
+regions_done : (refused : Option Refusal) (s : PlainShow) (depth : ℕ) (cut : Cut) (o : Outcome) (regions : List Region) → refused ≡ None → RegionsGive refused s depth cut o →
+    regions_of cut.second ≡ Ok regions → JudgeGives (raised_of (trajectories_of s)) s.settings.r s.settings.h depth regions Kept → o.status ≡ 0
+regions_done (Some r) s depth cut o regions none gives is kept = absurd (cc)
+regions_done None s depth cut o regions none (others, j, reads, judges, ends) is kept =
+    let same : others ≡ regions = regions_given_one (regions_of cut.second) others regions reads is in
+    let judged : j ≡ Kept = judge_one _ s.settings.r s.settings.h depth regions j Kept
+    (subst (λ (rs : List Region). JudgeGives (raised_of (trajectories_of s)) s.settings.r s.settings.h depth rs j) same judges) kept in
+    status_is o _ ends (ap (λ (k : Judged). (regions_end (names_of s) depth (length others) k).status) judged)
+
 -- ---- all commands
 
 given_done : TextLaw → CertificateLaw → UploadLaw → (c : Command) (s : PlainShow) (cut : Cut) (o : Outcome) → Gives c s cut o → Succeeds c s cut → o.status ≡ 0
@@ -107,6 +130,11 @@ given_done text law upload (Rehearse depth start) s cut o gives (events, none, i
     (no_faulty (schedule_of (words_of s) cut.second) events cut is none) gives is done
 given_done text law upload (Upload depth start) s cut o gives succeeds = upload_done upload s start cut depth o gives succeeds
 given_done text law upload (Drill drones depth) s cut o gives succeeds = status_is o _ gives refl
+given_done text law upload (Boxes depth) s cut o gives (regions, none, is, kept) =
+    regions_done (second_refusal region_limit (faulty_region (regions_of cut.second)) cut) s depth cut o regions (no_faulty_region (regions_of cut.second) regions cut is none) gives is kept
+given_done text law upload (Speed depth limit) s cut o gives succeeds =
+    status_is o _ gives (ap (λ (r : Option Refusal). (speeds_end r (speed_text depth (sent_of s) (names_of s))).status) succeeds)
+given_done text law upload (Explain depth fine) s cut o gives succeeds = gives.0
 
 pub complete_done : ShowLaw → TextLaw → CertificateLaw → UploadLaw → (c : Command) (cut : Cut) (o : Outcome) → IsComplete c cut → IsOutcomeOf c cut o → o.status ≡ 0
 complete_done show text law upload c cut o (sound, succeeds) (inl refused) =

@@ -1,5 +1,5 @@
 -- An input comes to one outcome alone, and to one.
-use Rattle.std.proofs.Common.{◌≡◌, inl, inr, ℕ, ◌<◌, ◌≤◌, Bool, true, false, cond, nat_lt, List, [], length, map, Option, Some, None, All, refl, sym, ap, subst, ◌∙◌, arith}
+use Rattle.std.proofs.Common.{◌≡◌, inl, inr, ℕ, ◌<◌, ◌≤◌, Bool, true, false, cond, nat_lt, List, [], length, map, Option, Some, None, All, Result, Ok, Err, refl, sym, ap, subst, ◌∙◌, arith}
 use Rattle.std.specs.Option.{option_map, option_or}
 use Rattle.std.proofs.lemmas.Bool.Decides.{nat_tests}
 use Rattle.std.proofs.lemmas.List.{length-map}
@@ -12,6 +12,9 @@ use Rattle.choreo_reader.specs.Grammar.{StandsFor}
 use Rattle.choreo_reader.specs.Laws.{ShowLaw}
 use Rattle.choreo_reader.specs.Context.{fault}
 use Rattle.cue_grid.specs.Cues.{grid_of}
+use Rattle.fleet_curves.specs.Raised.{raised_of}
+use Rattle.keepout_boxes.specs.declared.region.Region.{Region}
+use Rattle.keepout_boxes.specs.Regions.{regions_of}
 use Rattle.link_upload.specs.Uploads.{UploadLaw}
 use Rattle.memory_curves.specs.Decoded.{CurveLaw}
 use Rattle.fleet_world.specs.Schedules.{schedule_of}
@@ -19,16 +22,19 @@ use Rattle.sep_certificate.specs.Laws.{CertificateLaw}
 use Rattle.sep_certificate.specs.Readings.{TextLaw}
 use Rattle.sep_certificate.specs.Texts.{bad_line}
 use Rattle.command_words.specs.declared.command.Command.{Command}
-use Rattle.command_words.specs.declared.command.Command.TheVariants.{Help, Check, Compile, Certify, Play, Report, Verify, Rehearse, Upload, Drill}
+use Rattle.command_words.specs.declared.command.Command.TheVariants.{Help, Check, Compile, Certify, Play, Report, Verify, Rehearse, Upload, Drill, Boxes, Speed, Explain}
 use Rattle.refusals.specs.declared.refusal.Refusal.{Refusal}
 use Rattle.refusals.specs.declared.refusal.Refusal.TheVariants as refusal
 use Rattle.show_plan.specs.Landing.{Lands}
 use Rattle.show_plan.proofs.Flight.{sent_counted}
-use Rattle.show_cli.specs.Outcome.{CertificateGives, Gives, IsOutcomeOf, LandsWhereAccepted, Outcome, OutcomeLaw, ShowGives, judged_for, said}
+use Rattle.show_cli.specs.Outcome.{CertificateGives, Gives, IsOutcomeOf, ExplainedWhereAccepted, LandsWhereAccepted, Outcome, RegionsGive, OutcomeLaw, ShowGives, judged_for, regions_end, said}
 use Rattle.show_cli.specs.Refused.{faulty, faulty_event, second_refusal, show_refusal, text_refusal}
-use Rattle.show_cli.specs.Shows.{Cut, certificate_limit, schedule_limit, sent_of, session_of, show_limit, words_of}
+use Rattle.show_cli.specs.Shows.{Cut, certificate_limit, names_of, schedule_limit, sent_of, session_of, show_limit, trajectories_of, words_of}
+use Rattle.show_cli.specs.Studies.{faulty_region, region_limit}
 use Rattle.show_cli.proofs.CompleteLemmas.{complete_done}
 use Rattle.show_cli.proofs.TextLemmas.{none_said, stands_unrefused}
+use Rattle.show_cli.proofs.DecidingLemmas.{judge_some}
+use Rattle.show_cli.proofs.StudyLemmas.{explained_one, regions_one}
 use Rattle.show_cli.proofs.RehearsalLemmas.{outcome_by, schedule_one, schedule_some}
 
 -- ---- one show
@@ -51,6 +57,11 @@ given_one text upload curve (Rehearse depth start) s cut o p first second =
 given_one text upload curve (Upload depth start) s cut o p first second =
     let same = upload.one (session_of s start) cut.frames o.status p.status o.output p.output first second in outcome_by o p same.0 same.1
 given_one text upload curve (Drill drones depth) s cut o p first second = first ∙ sym second
+given_one text upload curve (Boxes depth) s cut o p first second =
+    regions_one (second_refusal region_limit (faulty_region (regions_of cut.second)) cut) s depth cut o p first second
+given_one text upload curve (Speed depth limit) s cut o p first second = first ∙ sym second
+given_one text upload curve (Explain depth fine) s cut o p first second =
+    outcome_by o p (first.0 ∙ sym second.0) (explained_one depth fine s o.output p.output first.1 second.1)
 
 show_one : TextLaw → UploadLaw → CurveLaw → (c : Command) (r : Option Refusal) (s : PlainShow) (cut : Cut) (o p : Outcome) → ShowGives c r s cut o → ShowGives c r s cut p → o ≡ p
 show_one text upload curve c (Some r) s cut o p first second = first ∙ sym second
@@ -110,39 +121,60 @@ upload_some law s start cut depth =
     let some = law.some (session_of s start) cut.frames cut.frames [] (record { cut = refl; each = All-nil _; few = omega arith; going = λ n under. absurd (omega (arith, under)) }) in
     (record { status = some.0; output = some.1 }, some.2)
 
+-- regions that are given
+regions_read : (given : Result (List Region) ℕ) → faulty_region given ≡ None → (regions : List Region) × (given ≡ Ok regions)
+regions_read (Ok regions) none = (regions, refl)
+regions_read (Err line) none = absurd (cc)
+
+-- a text of regions comes to an outcome
+regions_some : (why : Option Refusal) (s : PlainShow) (depth : ℕ) (cut : Cut) → second_refusal region_limit (faulty_region (regions_of cut.second)) cut ≡ why → (o : Outcome) × RegionsGive why s depth cut o
+regions_some (Some r) s depth cut is = (_, refl)
+regions_some None s depth cut is =
+    let parts = within_limit region_limit (length cut.second) _ _ is in
+    let regions = regions_read (regions_of cut.second) (none_mapped _ (faulty_region (regions_of cut.second)) (none_first _ _ parts.1)) in
+    let judged = judge_some (raised_of (trajectories_of s)) s.settings.r s.settings.h depth regions.0 in
+    (regions_end (names_of s) depth (length regions.0) judged.0, (regions.0, judged.0, regions.1, judged.1, refl))
+
 given_some : TextLaw → UploadLaw → (c : Command) (s : PlainShow) (cut : Cut) → ((depth : ℕ) (start : Bool) → c ≡ Rehearse depth start → Lands (grid_of s) s.settings (sent_of s)) →
+    ((depth fine : ℕ) → c ≡ Explain depth fine → (o : Outcome) × Gives c s cut o) →
     (o : Outcome) × Gives c s cut o
-given_some text upload Help s cut lands = (_, refl)
-given_some text upload (Check depth) s cut lands = (_, refl)
-given_some text upload (Compile depth) s cut lands = (_, refl)
-given_some text upload (Certify depth) s cut lands = (_, refl)
-given_some text upload (Play depth step) s cut lands = (_, refl)
-given_some text upload (Report depth) s cut lands = (_, refl)
-given_some text upload Verify s cut lands = certificate_some text (second_refusal certificate_limit (bad_line (lines cut.second)) cut) s cut refl
-given_some text upload (Rehearse depth start) s cut lands =
+given_some text upload Help s cut lands explains = (_, refl)
+given_some text upload (Check depth) s cut lands explains = (_, refl)
+given_some text upload (Compile depth) s cut lands explains = (_, refl)
+given_some text upload (Certify depth) s cut lands explains = (_, refl)
+given_some text upload (Play depth step) s cut lands explains = (_, refl)
+given_some text upload (Report depth) s cut lands explains = (_, refl)
+given_some text upload Verify s cut lands explains = certificate_some text (second_refusal certificate_limit (bad_line (lines cut.second)) cut) s cut refl
+given_some text upload (Rehearse depth start) s cut lands explains =
     schedule_some (second_refusal schedule_limit (faulty_event (schedule_of (words_of s) cut.second)) cut) s start cut refl (lands depth start refl) (words_counted s)
   where
     words_counted : (s : PlainShow) → length (sent_of s) ≡ length (words_of s)
     words_counted s =
         sent_counted (grid_of s) ∙ sym (length-map s.drones (λ (d : DroneLine). d.name))
         ∙ sym (length-map (map (λ (d : DroneLine). d.name) s.drones) (λ (name : Name). name.items))
-given_some text upload (Upload depth start) s cut lands = upload_some upload s start cut depth
-given_some text upload (Drill drones depth) s cut lands = (_, refl)
+given_some text upload (Upload depth start) s cut lands explains = upload_some upload s start cut depth
+given_some text upload (Drill drones depth) s cut lands explains = (_, refl)
+given_some text upload (Boxes depth) s cut lands explains = regions_some (second_refusal region_limit (faulty_region (regions_of cut.second)) cut) s depth cut refl
+given_some text upload (Speed depth limit) s cut lands explains = (_, refl)
+given_some text upload (Explain depth fine) s cut lands explains = explains depth fine refl
 
 show_some : TextLaw → UploadLaw → (c : Command) (r : Option Refusal) (s : PlainShow) (cut : Cut) → (r ≡ None → (depth : ℕ) (start : Bool) → c ≡ Rehearse depth start → Lands (grid_of s) s.settings (sent_of s)) →
+    (r ≡ None → (depth fine : ℕ) → c ≡ Explain depth fine → (o : Outcome) × Gives c s cut o) →
     (o : Outcome) × ShowGives c r s cut o
-show_some text upload c (Some r) s cut lands = (_, refl)
-show_some text upload c None s cut lands = given_some text upload c s cut (lands refl)
+show_some text upload c (Some r) s cut lands explains = (_, refl)
+show_some text upload c None s cut lands explains = given_some text upload c s cut (lands refl) (explains refl)
 
-some_there : ShowLaw → TextLaw → UploadLaw → (c : Command) (cut : Cut) → ((depth : ℕ) (start : Bool) → c ≡ Rehearse depth start → LandsWhereAccepted c cut) → (o : Outcome) × IsOutcomeOf c cut o
-some_there show text upload c cut lands = by_refusal (text_refusal cut.show) refl
+some_there : ShowLaw → TextLaw → UploadLaw → (c : Command) (cut : Cut) → ((depth : ℕ) (start : Bool) → c ≡ Rehearse depth start → LandsWhereAccepted c cut) →
+    ((depth fine : ℕ) → c ≡ Explain depth fine → ExplainedWhereAccepted c cut) → (o : Outcome) × IsOutcomeOf c cut o
+some_there show text upload c cut lands explains = by_refusal (text_refusal cut.show) refl
   where
     by_refusal : (r : Option Refusal) → text_refusal cut.show ≡ r → (o : Outcome) × IsOutcomeOf c cut o
     by_refusal (Some r) is = (said c r, inl (ap (option_map (said c)) is))
     by_refusal None is =
         let parts = within_limit show_limit (length cut.show) _ _ is in
         let found = (show.faultless cut.show).1 (none_mapped faulty (fault cut.show) parts.1) in
-        let given = show_some text upload c (show_refusal c cut found.0) found.0 cut (λ none depth start is. lands depth start is found.0 found.1 none) in
+        let given = show_some text upload c (show_refusal c cut found.0) found.0 cut (λ none depth start is. lands depth start is found.0 found.1 none)
+        (λ none depth fine is. explains depth fine is found.0 found.1 none) in
         (given.0, inr (record { s = found.0; short = parts.0; stands = found.1; gives = given.1 }))
 
 pub outcomes : ShowLaw → TextLaw → CertificateLaw → UploadLaw → CurveLaw → OutcomeLaw

@@ -35,7 +35,7 @@ no_marker true marked r none is = absurd (cc)
 no_marker false true r none is = absurd (cc)
 no_marker false false r none is = refl
 
-apart_of : (f : Fitted) (s : PlainShow) → IsFitted f s → FlyApart f.settings f.sent → FlyApart s.settings (sent_of s)
+pub apart_of : (f : Fitted) (s : PlainShow) → IsFitted f s → FlyApart f.settings f.sent → FlyApart s.settings (sent_of s)
 apart_of f s is apart = subst (λ (e : Settings). FlyApart e (sent_of s)) is.settings (subst (FlyApart f.settings) is.sent apart)
 
 -- what fits of a show is near to it, and lands where it is kept apart
@@ -65,6 +65,7 @@ judged_of_fit c depth cut f (Ok (judged.Accepted a)) is fits separated =
     let by = separated.2 fits.s fits.fitted in
     let apart = apart_of f fits.s fits.fitted separated.1 in
     record {
+      searched = is;
       s = fits.s;
       short = fits.short;
       stands = fits.stands;

@@ -12,7 +12,7 @@ use Rattle.choreo_reader.specs.Grammar.{StandsFor}
 use Rattle.command_words.specs.Commands.{help_text}
 use Rattle.drill_show.specs.Drill.{drill_text}
 use Rattle.command_words.specs.declared.command.Command.{Command}
-use Rattle.command_words.specs.declared.command.Command.TheVariants.{Help, Check, Compile, Certify, Play, Report, Verify, Rehearse, Upload, Drill}
+use Rattle.command_words.specs.declared.command.Command.TheVariants.{Help, Check, Compile, Certify, Play, Report, Verify, Rehearse, Upload, Drill, Boxes, Speed, Explain}
 use Rattle.refusals.specs.declared.refusal.Refusal.{Refusal}
 use Rattle.refusals.specs.declared.refusal.Refusal.TheVariants as refusal
 use Rattle.refusals.specs.Refusals.{status_of}
@@ -43,7 +43,7 @@ some_each (Some x) P by = by x
 
 -- the statuses of a command
 abbrev pub statuses : List ℕ
-statuses = 0 ∷ 1 ∷ 3 ∷ 4 ∷ 5 ∷ 6 ∷ 7 ∷ 8 ∷ 9 ∷ 10 ∷ 11 ∷ 12 ∷ 13 ∷ []
+statuses = 0 ∷ 1 ∷ 3 ∷ 4 ∷ 5 ∷ 6 ∷ 7 ∷ 8 ∷ 9 ∷ 10 ∷ 11 ∷ 12 ∷ 13 ∷ 15 ∷ 16 ∷ []
 
 -- A command that reads its input whole and writes one answer, as lines: where it judges its input, and what it writes where a read fails.
 pub record IsPlain (c : Command) : Type 0 where
@@ -73,6 +73,8 @@ refused_among (refusal.Missing pair) is = (11, omega arith, refl)
 refused_among (refusal.Extra version tree) is = (11, omega arith, refl)
 refused_among (refusal.TooDeep pair) is = (11, omega arith, refl)
 refused_among (refusal.Fails pair place version dir control) is = (11, omega arith, refl)
+refused_among (refusal.Enters region drone cue index depth) is = (13, omega arith, refl)
+refused_among (refusal.TooFast drone axis speed) is = (14, omega arith, refl)
 
 pub refused_judged : (r : Refusal) → IsOfInput r → IsJudged (status_of r)
 refused_judged refusal.Usage is = absurd (is.command refl)
@@ -93,6 +95,8 @@ refused_judged (refusal.Missing pair) is = ((λ e. omega (arith, e)), (λ e. ome
 refused_judged (refusal.Extra version tree) is = ((λ e. omega (arith, e)), (λ e. omega (arith, e)), (λ e. omega (arith, e)))
 refused_judged (refusal.TooDeep pair) is = ((λ e. omega (arith, e)), (λ e. omega (arith, e)), (λ e. omega (arith, e)))
 refused_judged (refusal.Fails pair place version dir control) is = ((λ e. omega (arith, e)), (λ e. omega (arith, e)), (λ e. omega (arith, e)))
+refused_judged (refusal.Enters region drone cue index depth) is = ((λ e. omega (arith, e)), (λ e. omega (arith, e)), (λ e. omega (arith, e)))
+refused_judged (refusal.TooFast drone axis speed) is = ((λ e. omega (arith, e)), (λ e. omega (arith, e)), (λ e. omega (arith, e)))
 
 -- a sum of cases on the one that a command answers
 answer_among : (a : Answer) → IsSaid a → Contains statuses (outcome_of a).status
@@ -288,6 +292,15 @@ verify_plain = record { reads = refl; other = λ is. absurd (cc); judges = λ in
 pub rehearse_plain : (depth : ℕ) (start : Bool) → IsPlain (Rehearse depth start)
 rehearse_plain depth start = record { reads = refl; other = λ is. absurd (cc); judges = λ input. refl; stops = λ taken. refl; prompt = λ r. tt }
 
+pub boxes_plain : (depth : ℕ) → IsPlain (Boxes depth)
+boxes_plain depth = record { reads = refl; other = λ is. absurd (cc); judges = λ input. refl; stops = λ taken. refl; prompt = λ r. tt }
+
+pub speed_plain : (depth : ℕ) (limit : Option ℕ) → IsPlain (Speed depth limit)
+speed_plain depth limit = record { reads = refl; other = λ is. absurd (cc); judges = λ input. refl; stops = λ taken. refl; prompt = λ r. tt }
+
+pub explain_plain : (depth fine : ℕ) → IsPlain (Explain depth fine)
+explain_plain depth fine = record { reads = refl; other = λ is. absurd (cc); judges = λ input. refl; stops = λ taken. refl; prompt = λ r. tt }
+
 -- ---- commands that read nothing
 
 -- a run of `help`
@@ -380,17 +393,17 @@ runs_drill drones depth (Ok a) left faults old new before after status law is sa
 -- ---- the headline
 
 -- a test that refuses nothing fails
-no_refusal : (b : Bool) (r : Refusal) → cond b (Some r) None ≡ None → b ≡ false
+pub no_refusal : (b : Bool) (r : Refusal) → cond b (Some r) None ≡ None → b ≡ false
 no_refusal true r none = absurd (cc)
 no_refusal false r none = refl
 
 -- where neither is there, both aren't
-none_both : (a b : Option Refusal) → option_or a b ≡ None → (a ≡ None) × (b ≡ None)
+pub none_both : (a b : Option Refusal) → option_or a b ≡ None → (a ≡ None) × (b ≡ None)
 none_both None b none = (refl, none)
 none_both (Some r) b none = absurd (cc)
 
 -- an input without a marker line is its own part
-part_whole : (input : List ℕ) → has_marker (between_feeds input) ≡ false → part_of input ≡ input
+pub part_whole : (input : List ℕ) → has_marker (between_feeds input) ≡ false → part_of input ≡ input
 unfolding part_of
 part_whole input unmarked = rw unmarked refl
 
@@ -403,7 +416,7 @@ headline depth input old new o safe appended =
       s = safe.s;
       stands = subst (λ (text : List ℕ). StandsFor text safe.s) (part_whole input unmarked) safe.stands;
       planned = subst (λ (output : List ℕ). Appends old new output) (ap (λ (p : Outcome). p.output) safe.gives) appended;
-      lands = safe.lands;
+      lands = safe.promised.lands;
     }
 
 -- the same of a run
@@ -452,10 +465,10 @@ pub never_seven : (words : Option Command) (r : Run) (status : ℕ) → (words �
 never_seven None r status usage runs quiet seven = quiet (usage refl seven)
 never_seven (Some c) r status usage runs quiet seven = quiet ((runs c refl).seven seven).0
 
--- no status is above 13
-pub known_small : (n : ℕ) → Contains statuses n → n ≤ 13
-known_small n among = All-contains (λ (k : ℕ). k ≤ 13) statuses n (All-from_recursion (λ (k : ℕ). k ≤ 13) statuses
-    (omega arith, (omega arith, (omega arith, (omega arith, (omega arith, (omega arith, (omega arith, (omega arith, (omega arith, (omega arith, (omega arith, (omega arith, (omega arith, tt)))))))))))))) among
+-- no status is above 16
+pub known_small : (n : ℕ) → Contains statuses n → n ≤ 16
+known_small n among = All-contains (λ (k : ℕ). k ≤ 16) statuses n (All-from_recursion (λ (k : ℕ). k ≤ 16) statuses
+    (omega arith, (omega arith, (omega arith, (omega arith, (omega arith, (omega arith, (omega arith, (omega arith, (omega arith, (omega arith, (omega arith, (omega arith, (omega arith, (omega arith, (omega arith, tt)))))))))))))))) among
 
 -- a run of a command is one of the same command by another name
 pub runs_as : (c d : Command) (r : Run) (status : ℕ) → c ≡ d → Runs c r status → Runs d r status

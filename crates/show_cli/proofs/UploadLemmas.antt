@@ -329,8 +329,7 @@ gives_safe depth start all session status output zero is gives = record {
   s = is.s;
   stands = is.stands;
   near = is.safe.near;
-  apart = is.safe.apart;
-  lands = is.safe.lands;
+  promised = record { apart = is.safe.apart; lands = is.safe.lands };
   accepted = is.accepted;
   gives = subst (λ (t : Session). UploadGives t (rest_of all) status output) is.is gives;
   done = zero;

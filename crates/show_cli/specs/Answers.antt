@@ -72,6 +72,7 @@ pub record Fits (c : Command) (cut : Cut) (f : Fitted) : Type 0 where
 
 -- The show's text stands for a show that fits and that nothing refuses; it is given with the number of nodes of its certificate.
 pub record IsAccepted (c : Command) (depth : ℕ) (cut : Cut) (a : Accepted) : Type 0 where
+  pub searched : (ways_of c).depth ≡ Some depth
   pub s : PlainShow
   pub short : length cut.show ≤ show_limit
   pub stands : StandsFor cut.show s

@@ -3,6 +3,10 @@ use Rattle.std.specs.Prelude.{◌≡◌, ℕ, ◌≤◌, List, length, None, Ok}
 use Rattle.std.specs.Str.Lines.{lines}
 use Rattle.choreo_reader.specs.Grammar.{StandsFor}
 use Rattle.choreo_reader.specs.Plain.{PlainShow}
+use Rattle.keepout_boxes.specs.declared.judging.Judged.TheVariants.{Kept}
+use Rattle.keepout_boxes.specs.declared.region.Region.{Region}
+use Rattle.keepout_boxes.specs.Kept.{JudgeGives}
+use Rattle.keepout_boxes.specs.Regions.{regions_of}
 use Rattle.link_frames.specs.declared.frame.Frame.{Frame}
 use Rattle.link_upload.specs.Sends.{events_in}
 use Rattle.link_upload.specs.Uploads.{Takes}
@@ -17,9 +21,10 @@ use Rattle.upload_model.specs.declared.events.Progress.TheVariants.{Done}
 use Rattle.upload_model.specs.declared.events.WorldEvent.{WorldEvent}
 use Rattle.upload_model.specs.Hosts.{progress}
 use Rattle.command_words.specs.declared.command.Command.{Command}
-use Rattle.command_words.specs.declared.command.Command.TheVariants.{Help, Check, Compile, Certify, Play, Report, Verify, Rehearse, Upload, Drill}
+use Rattle.command_words.specs.declared.command.Command.TheVariants.{Help, Check, Compile, Certify, Play, Report, Verify, Rehearse, Upload, Drill, Boxes, Speed, Explain}
 use Rattle.show_cli.specs.Refused.{second_refusal, show_refusal}
 use Rattle.show_cli.specs.Shows.{Cut, certificate_limit, schedule_limit, session_of, show_limit, trajectories_of, words_of}
+use Rattle.show_cli.specs.Studies.{region_limit, too_fast}
 
 -- The show's text stands for a show that nothing refuses: it is well-formed, it fits, at the command's depth each part has a direction that
 -- separates, and no marker line stands where none may.
@@ -30,7 +35,8 @@ pub record IsSound (c : Command) (cut : Cut) : Type 0 where
   pub accepted : show_refusal c cut s ≡ None
 
 -- What a command asks for besides such a show. `verify`: the second text says a certificate that is valid. `rehearse`: it says a schedule after
--- which the upload is done. `upload`: its frames lead there, and no more of them than are taken in one upload.
+-- which the upload is done. `upload`: its frames lead there, and no more of them than are taken in one upload. `boxes`: the second text says
+-- regions, and each part of each drone's way is kept. `speed`: no bound is above the limit.
 abbrev pub Succeeds : Command → PlainShow → Cut → Type 0
 Succeeds Help s cut = Unit {0}
 Succeeds (Check depth) s cut = Unit {0}
@@ -48,6 +54,11 @@ Succeeds (Upload depth start) s cut =
     (frames : List Frame) × (rest : List ℕ) × Takes (session_of s start) cut.frames frames rest
     × (progress (session_of s start) (events_in (session_of s start) frames) ≡ Done)
 Succeeds (Drill drones depth) s cut = Unit {0}
+Succeeds (Boxes depth) s cut =
+    (regions : List Region) × (second_refusal region_limit None cut ≡ None) × (regions_of cut.second ≡ Ok regions)
+    × JudgeGives (raised_of (trajectories_of s)) s.settings.r s.settings.h depth regions Kept
+Succeeds (Speed depth limit) s cut = too_fast limit depth s ≡ None
+Succeeds (Explain depth fine) s cut = Unit {0}
 
 -- an input that lacks nothing
 abbrev pub IsComplete : Command → Cut → Type 0

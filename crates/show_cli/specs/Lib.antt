@@ -7,6 +7,7 @@ pub mod Outcome
 pub mod Input
 pub mod Answers
 pub mod Steps
+pub mod Studies
 pub mod Runs
 pub mod Headline
 pub mod Uploads

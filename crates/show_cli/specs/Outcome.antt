@@ -1,5 +1,6 @@
 -- What the program comes to on an input: the status that it ends with, and what it writes.
 use Rattle.std.specs.Prelude.{◌≡◌, ◌⊎◌, ℕ, ◌≤◌, Bool, List, length, Option, Some, None, Ok, if◌then◌else◌}
+use Rattle.std.specs.List.{All}
 use Rattle.std.specs.Option.{option_map}
 use Rattle.std.specs.Str.Lines.{lines}
 use Rattle.choreo_lines.specs.Name.{Name}
@@ -18,6 +19,12 @@ use Rattle.upload_model.specs.declared.events.WorldEvent.{WorldEvent}
 use Rattle.upload_model.specs.Hosts.{progress}
 use Rattle.upload_model.specs.Worlds.{World}
 use Rattle.fleet_world.specs.Schedules.{schedule_of}
+use Rattle.keepout_boxes.specs.declared.judging.Judged.{Judged}
+use Rattle.keepout_boxes.specs.declared.judging.Judged.TheVariants.{Kept, Enters}
+use Rattle.keepout_boxes.specs.declared.region.Region.{Region}
+use Rattle.keepout_boxes.specs.Kept.{JudgeGives, KeepClear}
+use Rattle.keepout_boxes.specs.Lines.{kept_line}
+use Rattle.keepout_boxes.specs.Regions.{regions_of}
 use Rattle.link_frames.specs.Frames.{end_frame}
 use Rattle.link_upload.specs.Uploads.{UploadGives}
 use Rattle.rehearsal.specs.Rehearsed.{rehearsed}
@@ -27,7 +34,7 @@ use Rattle.drill_show.specs.Drill.{drill_text}
 use Rattle.report_text.specs.Report.{report_text}
 use Rattle.command_words.specs.Commands.{help_text}
 use Rattle.command_words.specs.declared.command.Command.{Command}
-use Rattle.command_words.specs.declared.command.Command.TheVariants.{Help, Check, Compile, Certify, Play, Report, Verify, Rehearse, Upload, Drill}
+use Rattle.command_words.specs.declared.command.Command.TheVariants.{Help, Check, Compile, Certify, Play, Report, Verify, Rehearse, Upload, Drill, Boxes, Speed, Explain}
 use Rattle.refusals.specs.declared.refusal.Refusal.{Refusal}
 use Rattle.refusals.specs.declared.refusal.Refusal.TheVariants as refusal
 use Rattle.refusals.specs.Refusals.{line_of, status_of}
@@ -40,6 +47,7 @@ use Rattle.show_cli.specs.Shows.{Cut, certificate_limit, cut_of, name_at, names_
 use Rattle.show_cli.specs.Ways.{ways_of}
 use Rattle.show_cli.specs.Refused.{faulty_event, not_valid, second_refusal, show_refusal, text_refusal}
 use Rattle.show_cli.specs.Reports.{cues_in, drill_of, duration_of, ok_line, report_of, valid_line}
+use Rattle.show_cli.specs.Studies.{Explains, KeepsBounds, blocked_of, faulty_region, region_limit, speed_text, too_fast}
 
 -- a status, and what is written
 pub record Outcome : Type 0 where
@@ -92,6 +100,26 @@ abbrev pub ScheduleGives : Option Refusal → PlainShow → Bool → Cut → Out
 ScheduleGives (Some r) s start cut o = o ≡ refused r
 ScheduleGives None s start cut o = (events : List WorldEvent) × (schedule_of (words_of s) cut.second ≡ Ok events) × Rehearses s start events o
 
+-- ---- regions, speeds and explanations
+
+-- how `boxes` ends, by how the drones are judged for so many regions
+abbrev pub regions_end : List Name → ℕ → ℕ → Judged → Outcome
+regions_end names depth regions Kept = outcome 0 (kept_line regions)
+regions_end names depth regions (Enters region drone cue index) = refused (refusal.Enters region (name_at names drone) cue index depth)
+
+-- what a text of regions comes to: its refusal, or how the drones are judged for its regions
+abbrev pub RegionsGive : Option Refusal → PlainShow → ℕ → Cut → Outcome → Type 0
+RegionsGive (Some r) s depth cut o = o ≡ refused r
+RegionsGive None s depth cut o =
+    (regions : List Region) × (j : Judged) × (regions_of cut.second ≡ Ok regions)
+    × JudgeGives (raised_of (trajectories_of s)) s.settings.r s.settings.h depth regions j
+    × (o ≡ regions_end (names_of s) depth (length regions) j)
+
+-- a speed that is too high comes to its refusal, and else all speeds are written
+abbrev pub speeds_end : Option Refusal → List ℕ → Outcome
+speeds_end (Some r) text = refused r
+speeds_end None text = outcome 0 text
+
 -- ---- the outcome
 
 -- What a command answers for a show that nothing refuses. `help` judges no show.
@@ -106,6 +134,9 @@ Gives Verify s cut o = CertificateGives (second_refusal certificate_limit (bad_l
 Gives (Rehearse depth start) s cut o = ScheduleGives (second_refusal schedule_limit (faulty_event (schedule_of (words_of s) cut.second)) cut) s start cut o
 Gives (Upload depth start) s cut o = UploadGives (session_of s start) cut.frames o.status o.output
 Gives (Drill drones depth) s cut o = o ≡ outcome 0 (drill_of (report_of s depth))
+Gives (Boxes depth) s cut o = RegionsGive (second_refusal region_limit (faulty_region (regions_of cut.second)) cut) s depth cut o
+Gives (Speed depth limit) s cut o = o ≡ speeds_end (too_fast limit depth s) (speed_text depth (sent_of s) (names_of s))
+Gives (Explain depth fine) s cut o = (o.status ≡ 0) × Explains depth fine s o.output
 
 -- what a show comes to: its first refusal, or else what the command answers
 abbrev pub ShowGives : Command → Option Refusal → PlainShow → Cut → Outcome → Type 0
@@ -135,6 +166,9 @@ judged_text Verify input = Some input
 judged_text (Rehearse depth start) input = Some input
 judged_text (Upload depth start) input = Some input
 judged_text (Drill drones depth) input = Some (drill_text drones)
+judged_text (Boxes depth) input = Some input
+judged_text (Speed depth limit) input = Some input
+judged_text (Explain depth fine) input = Some input
 
 abbrev pub IsOutcomeFor : Command → Option (List ℕ) → Outcome → Type 0
 IsOutcomeFor c None o = o ≡ outcome 0 help_text
@@ -148,11 +182,16 @@ IsOutcome c input o = IsOutcomeFor c (judged_text c input) o
 abbrev pub LandsWhereAccepted : Command → Cut → Type 0
 LandsWhereAccepted c cut = (s : PlainShow) → StandsFor cut.show s → show_refusal c cut s ≡ None → Lands (grid_of s) s.settings (sent_of s)
 
--- An input comes to one outcome alone, and to one; with `rehearse` where the show that it accepts lands. An input that lacks nothing comes to
--- status 0.
+-- a show of this text that `explain` accepts can be explained; `run` says so of each that it accepts
+abbrev pub ExplainedWhereAccepted : Command → Cut → Type 0
+ExplainedWhereAccepted c cut = (s : PlainShow) → StandsFor cut.show s → show_refusal c cut s ≡ None → (o : Outcome) × Gives c s cut o
+
+-- An input comes to one outcome alone, and to one; with `rehearse` where the show that it accepts lands, with `explain` where it can be
+-- explained. An input that lacks nothing comes to status 0.
 pub record OutcomeLaw : Type 0 where
   pub one : (c : Command) (cut : Cut) (o p : Outcome) → IsOutcomeOf c cut o → IsOutcomeOf c cut p → o ≡ p
-  pub some : (c : Command) (cut : Cut) → ((depth : ℕ) (start : Bool) → c ≡ Rehearse depth start → LandsWhereAccepted c cut) → (o : Outcome) × IsOutcomeOf c cut o
+  pub some : (c : Command) (cut : Cut) → ((depth : ℕ) (start : Bool) → c ≡ Rehearse depth start → LandsWhereAccepted c cut) →
+      ((depth fine : ℕ) → c ≡ Explain depth fine → ExplainedWhereAccepted c cut) → (o : Outcome) × IsOutcomeOf c cut o
   pub complete : (c : Command) (cut : Cut) (o : Outcome) → IsComplete c cut → IsOutcomeOf c cut o → o.status ≡ 0
 
 -- ---- what status 0 promises
@@ -163,15 +202,36 @@ pub record IsSafeShow (s : PlainShow) : Type 0 where
   pub apart : FlyApart s.settings (sent_of s)
   pub lands : Lands (grid_of s) s.settings (sent_of s)
 
--- The show's text stands for a show, and what its drones are sent keeps near to it at every instant, keeps any two drones apart at every
--- instant, and lands so in their memories once its packets are acknowledged; nothing refuses the show, and this outcome, of status 0, is
--- what the command answers for it.
+-- Any two drones keep apart at every instant with what they are sent, and that lands so in their memories.
+pub record FliesApart (s : PlainShow) : Type 0 where
+  pub apart : FlyApart s.settings (sent_of s)
+  pub lands : Lands (grid_of s) s.settings (sent_of s)
+
+-- What status 0 of a command promises of what the drones of a show are sent: that it keeps apart and lands so; or of `boxes` that each drone
+-- keeps to each region at every instant, of `speed` that it keeps to its bounds between any two instants, and of `explain` that drones keep
+-- apart where it says so.
+abbrev pub Promises : Command → PlainShow → Cut → Type 0
+Promises Help s cut = Unit {0}
+Promises (Check depth) s cut = FliesApart s
+Promises (Compile depth) s cut = FliesApart s
+Promises (Certify depth) s cut = FliesApart s
+Promises (Play depth step) s cut = FliesApart s
+Promises (Report depth) s cut = FliesApart s
+Promises Verify s cut = FliesApart s
+Promises (Rehearse depth start) s cut = FliesApart s
+Promises (Upload depth start) s cut = FliesApart s
+Promises (Drill drones depth) s cut = FliesApart s
+Promises (Boxes depth) s cut = (regions : List Region) × (regions_of cut.second ≡ Ok regions) × KeepClear s.settings.r s.settings.h regions (sent_of s)
+Promises (Speed depth limit) s cut = All (KeepsBounds limit depth) (sent_of s)
+Promises (Explain depth fine) s cut = blocked_of depth s ≡ None → FlyApart s.settings (sent_of s)
+
+-- The show's text stands for a show, and what its drones are sent keeps near to it at every instant, and to what the command promises of it;
+-- nothing refuses the show, and this outcome, of status 0, is what the command answers for it.
 pub record IsSafe (c : Command) (cut : Cut) (o : Outcome) : Type 0 where
   pub s : PlainShow
   pub stands : StandsFor cut.show s
   pub near : KeepsNearShow (grid_of s) (sent_of s)
-  pub apart : FlyApart s.settings (sent_of s)
-  pub lands : Lands (grid_of s) s.settings (sent_of s)
+  pub promised : Promises c s cut
   pub accepted : show_refusal c cut s ≡ None
   pub gives : Gives c s cut o
   pub done : o.status ≡ 0

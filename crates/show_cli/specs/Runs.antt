@@ -13,7 +13,7 @@ use Rattle.link_frames.specs.Frames.{end_frame}
 use Rattle.link_upload.specs.Uploads.{IsPrompt, UploadFails}
 use Rattle.command_words.specs.Commands.{command_of, help_text}
 use Rattle.command_words.specs.declared.command.Command.{Command}
-use Rattle.command_words.specs.declared.command.Command.TheVariants.{Help, Check, Compile, Certify, Play, Report, Verify, Rehearse, Upload, Drill}
+use Rattle.command_words.specs.declared.command.Command.TheVariants.{Help, Check, Compile, Certify, Play, Report, Verify, Rehearse, Upload, Drill, Boxes, Speed, Explain}
 use Rattle.refusals.specs.Lines.{read_line}
 use Rattle.show_cli.specs.Shows.{cut_of, session_of, show_limit}
 use Rattle.show_cli.specs.Ways.{reads_all, ways_of}
@@ -96,6 +96,9 @@ Stops Verify taken output = output ≡ read_line
 Stops (Rehearse depth start) taken output = output ≡ read_line
 Stops (Upload depth start) taken output = UploadStops (Upload depth start) start (has_whole_marker taken) taken output
 Stops (Drill drones depth) taken output = ⊥
+Stops (Boxes depth) taken output = output ≡ read_line
+Stops (Speed depth limit) taken output = output ≡ read_line
+Stops (Explain depth fine) taken output = output ≡ read_line
 
 -- The output of a run whose read failed, where the source tells what was taken.
 abbrev pub IsStopped : Command → Run → List ℕ → Type 0
@@ -128,6 +131,9 @@ AnswersPromptly Verify r = Unit {0}
 AnswersPromptly (Rehearse depth start) r = Unit {0}
 AnswersPromptly (Upload depth start) r = UploadsPromptly (Upload depth start) start r
 AnswersPromptly (Drill drones depth) r = Unit {0}
+AnswersPromptly (Boxes depth) r = Unit {0}
+AnswersPromptly (Speed depth limit) r = Unit {0}
+AnswersPromptly (Explain depth fine) r = Unit {0}
 
 -- ---- a run of a command
 
@@ -152,7 +158,7 @@ pub record Runs (c : Command) (r : Run) (status : ℕ) : Type 0 where
   -- `help` and `drill` read nothing.
   pub unread : reads c ≡ false → (r.left_after ≡ r.left) × (r.reads_failed_after ≡ r.reads_failed)
   -- There is no other status; 2 is none of a command.
-  pub known : Contains (0 ∷ 1 ∷ 3 ∷ 4 ∷ 5 ∷ 6 ∷ 7 ∷ 8 ∷ 9 ∷ 10 ∷ 11 ∷ 12 ∷ 13 ∷ []) status
+  pub known : Contains (0 ∷ 1 ∷ 3 ∷ 4 ∷ 5 ∷ 6 ∷ 7 ∷ 8 ∷ 9 ∷ 10 ∷ 11 ∷ 12 ∷ 13 ∷ 15 ∷ 16 ∷ []) status
   pub taken : TakesFront r.left r.left_after
   pub reads_later : r.reads_failed ≤ r.reads_failed_after
   pub writes_later : r.writes_failed ≤ r.writes_failed_after

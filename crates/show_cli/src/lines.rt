@@ -1,5 +1,6 @@
 //! Lines of success.
 ghost use Rattle.std.specs.Prelude.{◌≡◌};
+ghost use Rattle.keepout_boxes.specs.Lines.{kept_line};
 ghost use Rattle.show_cli.specs.Reports.{ok_line, valid_line};
 
 use fleet_io::ShortLine;
@@ -16,6 +17,18 @@ pub fn ok_line(drones: u8, cues: u16, ms: u32) -> ShortLine
     line.number(u32::from(cues));
     line.word(b"duration_ms");
     line.number(ms);
+    line.end();
+    line
+}
+
+/// What is said of a show whose drones keep to so many regions.
+pub fn kept_line(regions: u8) -> ShortLine
+    ensures { result ≡ kept_line regions }
+{
+    let mut line = ShortLine::make();
+    line.word(b"kept");
+    line.word(b"regions");
+    line.number(u32::from(regions));
     line.end();
     line
 }

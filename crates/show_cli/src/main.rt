@@ -10,6 +10,7 @@
 mod accept;
 mod commands;
 mod ends;
+mod findings;
 mod input;
 mod lines;
 mod numbers;
@@ -47,6 +48,8 @@ fn main(rt: HostRuntime) -> ExitCode {
 mod failing_tests;
 #[cfg(test)]
 mod rehearse_tests;
+#[cfg(test)]
+mod study_tests;
 #[cfg(test)]
 mod tests;
 #[cfg(test)]

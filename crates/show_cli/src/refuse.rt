@@ -58,14 +58,19 @@ fn has_second(command: Command) -> bool
     ensures { result ≡ (ways_of command).has_second }
 {
     match command {
-        Command::Verify | Command::Rehearse { .. } | Command::Upload { .. } => true,
+        Command::Verify
+        | Command::Rehearse { .. }
+        | Command::Upload { .. }
+        | Command::Boxes { .. } => true,
         Command::Help
         | Command::Check { .. }
         | Command::Compile { .. }
         | Command::Certify { .. }
         | Command::Play { .. }
         | Command::Report { .. }
-        | Command::Drill { .. } => false,
+        | Command::Drill { .. }
+        | Command::Speed { .. }
+        | Command::Explain { .. } => false,
     }
 }
 

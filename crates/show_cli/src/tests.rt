@@ -48,7 +48,7 @@ pub const WITHOUT_ROOM: &[u8] =
 const FIGURE: &[u8] =
     b"choreo 1\ndrone solo 0 0 1000000 0\nfigure go p\ncue 1000\np line 1000000 0 1000000 0\nend\nend\n";
 
-const MARKER: &[u8] = b"%%\n";
+pub const MARKER: &[u8] = b"%%\n";
 
 // How a source or a sink behaves: the most bytes of a call, and the number of the call that fails.
 #[derive(Clone, Copy)]
@@ -95,7 +95,7 @@ pub fn answer(
 }
 
 // Whether a run answers this.
-fn is_met(
+pub fn is_met(
     alloc: Global,
     words: &[&str],
     front: &[u8],
@@ -109,7 +109,8 @@ fn is_met(
 
 pub const HELP: &[u8] = b"help\ncheck [--depth D]\ncompile [--depth D]\ncertify [--depth D]\n\
 play [--depth D] [--step MS]\nreport [--depth D]\nverify\nrehearse [--depth D] [--start]\n\
-upload [--depth D] [--start]\ndrill N [--depth D]\n";
+upload [--depth D] [--start]\ndrill N [--depth D]\n\
+boxes [--depth D]\nspeed [--depth D] [--limit V]\nexplain [--depth D] [--fine E]\n";
 
 // A drone that moves a metre along x in two seconds: its first, middle and last instants.
 pub const ROWS: &[u8] =

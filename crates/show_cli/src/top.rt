@@ -1,21 +1,24 @@
 //! The program over any source and any sink.
-ghost use Rattle.std.specs.Prelude.{◌≡◌, ◌≢◌, ◌⊎◌, ℕ, ◌≤◌, List, Some, None};
+ghost use Rattle.std.specs.Prelude.{◌≡◌, ◌≢◌, ◌⊎◌, ℕ, ◌≤◌, List, Option, Some, None};
 ghost use Rattle.std.specs.Io.KnownBytes.{Appends};
 ghost use Rattle.fleet_io.specs.Causes.{Rose};
 ghost use Rattle.fleet_io.specs.Taken.{AppendsFront, TakesFront};
 ghost use Rattle.command_words.specs.Commands.{IsCommand};
 ghost use Rattle.refusals.specs.Lines.{usage_line};
-ghost use Rattle.show_cli.specs.Headline.{Headline};
+ghost use Rattle.show_cli.specs.Headline.{Headline, KeepsSpeeds, StaysInRegions, TellsTouches};
 ghost use Rattle.show_cli.specs.Runs.{Completes, Runs, StopsAtMarker, TakesLittle, command_in, run_of};
 
+use crate::commands::boxes::boxes;
 use crate::commands::certify::certify;
 use crate::commands::check::check;
 use crate::commands::compile::compile;
 use crate::commands::drill::drill;
+use crate::commands::explain::explain;
 use crate::commands::help::help;
 use crate::commands::play::play;
 use crate::commands::rehearse::rehearse;
 use crate::commands::report::report;
+use crate::commands::speed::speed;
 use crate::commands::upload::upload;
 use crate::commands::verify::verify;
 use crate::ends::refuse;
@@ -48,6 +51,9 @@ fn run_command<S: Source, K: Sink>(
         Command::Rehearse { depth, start } => rehearse(alloc, depth, start, source, sink),
         Command::Upload { depth, start } => upload(alloc, depth, start, source, sink),
         Command::Drill { drones, depth } => drill(alloc, drones, depth, source, sink),
+        Command::Boxes { depth } => boxes(alloc, depth, source, sink),
+        Command::Speed { depth, limit } => speed(alloc, depth, limit, source, sink),
+        Command::Explain { depth, fine } => explain(alloc, depth, fine, source, sink),
     }
 }
 
@@ -80,8 +86,16 @@ pub fn run<S: Source, K: Sink>(
     ensures headline { (depth : ℕ) (input : List ℕ) → command_in words.now.items ≡ Some (Command.Compile depth) → S.left source.old ≡ Some input → result ≡ 0
         → Headline input (K.written sink.old) (K.written sink.new) }
 
-    // There is no status above 13.
-    ensures known { result ≤ 13 }
+    // 0 of `boxes`, `speed` and `explain`: what was written holds at every instant of the flight.
+    ensures regions { (depth : ℕ) (input : List ℕ) → command_in words.now.items ≡ Some (Command.Boxes depth) → S.left source.old ≡ Some input → result ≡ 0
+        → StaysInRegions input (K.written sink.old) (K.written sink.new) }
+    ensures speeds { (depth : ℕ) (limit : Option ℕ) (input : List ℕ) → command_in words.now.items ≡ Some (Command.Speed depth limit) → S.left source.old ≡ Some input → result ≡ 0
+        → KeepsSpeeds limit depth input (K.written sink.old) (K.written sink.new) }
+    ensures touches { (depth fine : ℕ) (input : List ℕ) → command_in words.now.items ≡ Some (Command.Explain depth fine) → S.left source.old ≡ Some input → result ≡ 0
+        → TellsTouches depth fine input (K.written sink.old) (K.written sink.new) }
+
+    // There is no status above 16.
+    ensures known { result ≤ 16 }
     ensures taken { TakesFront (S.left source.old) (S.left source.new) }
     ensures source_later { S.faults source.old ≤ S.faults source.new }
     ensures sink_later { K.faults sink.old ≤ K.faults sink.new }

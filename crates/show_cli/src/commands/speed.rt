@@ -1,0 +1,224 @@
+//! `speed`: how fast the drones of a show are at most.
+ghost use Rattle.std.specs.Prelude.{◌≡◌, ◌≤◌, ◌++◌, ◌∷◌, [], ℕ, pos, true, decimal, length, None, All, IfOk, IfSome, OnOk};
+ghost use Rattle.choreo_reader.specs.Plain.{PlainShow};
+ghost use Rattle.command_words.specs.Commands.{IsCommand, most_depth};
+ghost use Rattle.fleet_io.specs.Causes.{Rose};
+ghost use Rattle.fleet_io.specs.Parts.{TakesFewBehind};
+ghost use Rattle.fleet_io.specs.Taken.{TakesFront};
+ghost use Rattle.fleet_io.specs.Words.{IsWord, is_line_empty, with_word};
+ghost use Rattle.show_plan.specs.Fitting.{IsFitted, IsSendable, IsValidFitted, StandsAsWord};
+ghost use Rattle.speed_bound.specs.Lines.{speed_line};
+ghost use Rattle.traj_codec.specs.Spelling.{HasDuration};
+ghost use Rattle.traj_codec.specs.declared.traj.Traj.{Traj};
+ghost use Rattle.show_cli.specs.Answers.{AnswersInput, AnswersText, IsSaid, outcome_of};
+ghost use Rattle.show_cli.specs.Input.{IsWithin};
+ghost use Rattle.show_cli.specs.Outcome.{Gives, Promises, speeds_end};
+ghost use Rattle.show_cli.specs.Refused.{IsOfInput};
+ghost use Rattle.show_cli.specs.Runs.{Runs, StopsAtMarker, TakesLittle, TakesOneText, run_of};
+ghost use Rattle.show_cli.specs.Shows.{Cut, show_limit};
+ghost use Rattle.show_cli.specs.Studies.{KeepsBounds, above, first_too_fast, speed_of_drone, speed_text, too_fast_by, too_fast_of};
+
+use crate::accept::{Planned, fit_text};
+use crate::ends::{Answer, Failure, Output, respond};
+use crate::input::{Text, read_show_text};
+use crate::outcomes::outcome_law;
+use choreo_lines::copy_of;
+use choreo_reader::Name;
+use command_words::Command;
+use fleet_io::{Lines, Sink, Source};
+use refusals::Refusal;
+use show_plan::{Fitted, uploadable_law};
+use speed_bound::bound;
+use std::alloc::{AllocError, Global};
+use traj_codec::Traj;
+
+// The refusal of a bound on an axis that is above the limit.
+fn above(limit: Option<u32>, name: &Name, axis: u8, speed: i64) -> Option<Refusal>
+    requires name { IsWord name.now.items }
+    requires axis { axis ≤ 2 }
+    ensures above { (v : ℕ) → speed ≡ pos v → result ≡ above limit name.now axis v }
+    ensures within { (v : ℕ) → speed ≡ pos v → result ≡ None → IfSome limit (λ most. v ≤ most) }
+    ensures said { IfSome result IsOfInput }
+{
+    let most = limit?;
+    if speed <= i64::from(most) {
+        return None;
+    }
+    Some(Refusal::TooFast {
+        drone: copy_of(name),
+        axis,
+        speed,
+    })
+}
+
+// The first axis on which a bound of a drone is above the limit.
+fn too_fast_of(limit: Option<u32>, name: &Name, x: i64, y: i64, z: i64) -> Option<Refusal>
+    requires name { IsWord name.now.items }
+    ensures first { (a b c : ℕ) → x ≡ pos a → y ≡ pos b → z ≡ pos c → result ≡ too_fast_of limit name.now a b c }
+    ensures within { (a b c : ℕ) → x ≡ pos a → y ≡ pos b → z ≡ pos c → result ≡ None
+        → IfSome limit (λ most. (a ≤ most) × (b ≤ most) × (c ≤ most)) }
+    ensures said { IfSome result IsOfInput }
+{
+    if let Some(refusal) = above(limit, name, 0, x) {
+        return Some(refusal);
+    }
+    if let Some(refusal) = above(limit, name, 1, y) {
+        return Some(refusal);
+    }
+    above(limit, name, 2, z)
+}
+
+// A bound, as a word.
+fn put_speed(text: &mut Lines, speed: i64) -> Result<(), AllocError>
+    ensures word { (v : ℕ) → speed ≡ pos v → OnOk result (text.new ≡ with_word text.old (decimal v)) }
+    ensures is_word { (v : ℕ) → speed ≡ pos v → IsWord (decimal v) }
+{
+    text.decimal(speed)
+}
+
+// The line of a drone: its bounds on x, y and z.
+fn put_speeds(text: &mut Lines, name: &[u8], x: i64, y: i64, z: i64) -> Result<(), AllocError>
+    requires fresh { is_line_empty text.old ≡ true }
+    requires name { IsWord name.now }
+    ensures line { (a b c : ℕ) → x ≡ pos a → y ≡ pos b → z ≡ pos c → OnOk result (text.new ≡ text.old ++ speed_line name.now a b c) }
+{
+    text.word(b"speed")?;
+    text.word(name)?;
+    put_speed(text, x)?;
+    put_speed(text, y)?;
+    put_speed(text, z)?;
+    text.end()
+}
+
+// Adds the line of a drone, or says why its bounds are refused.
+fn put_drone(
+    text: &mut Lines,
+    name: &Name,
+    t: &Traj,
+    depth: u8,
+    limit: Option<u32>,
+) -> Result<Option<Refusal>, AllocError>
+    requires fresh { is_line_empty text.old ≡ true }
+    requires name { IsWord name.now.items }
+    requires some { 1 ≤ length t.now.segments }
+    requires lasting { All HasDuration t.now.segments }
+    requires depth { depth ≤ most_depth }
+    ensures refusal { IfOk result (λ r. r ≡ too_fast_by limit depth t.now name.now) }
+    ensures line { IfOk result (λ r. r ≡ None → text.new ≡ text.old ++ speed_of_drone depth t.now name.now) }
+    ensures keeps { IfOk result (λ r. r ≡ None → KeepsBounds limit depth t.now) }
+    ensures said { IfOk result (λ r. IfSome r IsOfInput) }
+{
+    let [x, y, z] = bound(t, depth);
+    if let Some(refusal) = too_fast_of(limit, name, x, y, z) {
+        return Ok(Some(refusal));
+    }
+    put_speeds(text, name.as_slice(), x, y, z)?;
+    Ok(None)
+}
+
+// The lines of all drones, or the first bound that is above the limit.
+fn answer_drones(
+    alloc: Global,
+    names: &[Name],
+    sent: &[Traj],
+    depth: u8,
+    limit: Option<u32>,
+) -> Result<Answer, AllocError>
+    requires counted { length sent.now ≡ length names.now }
+    requires words { All StandsAsWord names.now }
+    requires some { All (λ (t : Traj). 1 ≤ length t.segments) sent.now }
+    requires sendable { All IsSendable sent.now }
+    requires depth { depth ≤ most_depth }
+    ensures gives { IfOk result (λ a. outcome_of a ≡ speeds_end (first_too_fast limit depth sent.now names.now) (speed_text depth sent.now names.now)) }
+    ensures keeps { IfOk result (λ a. (outcome_of a).status ≡ 0 → All (KeepsBounds limit depth) sent.now) }
+    ensures said { IfOk result IsSaid }
+{
+    let mut text = Lines::make(alloc);
+    for d in 0..sent.len() {
+        if let Some(refusal) = put_drone(&mut text, &names[d], &sent[d], depth, limit)? {
+            return Ok(Answer::Refused { refusal });
+        }
+    }
+    Ok(Answer::Done {
+        output: Output::Text { lines: text },
+    })
+}
+
+// What `speed` answers for a show that fits.
+fn answer_fitted(
+    alloc: Global,
+    fitted: &Fitted,
+    depth: u8,
+    limit: Option<u32>,
+) -> Result<Answer, AllocError>
+    requires valid { IsValidFitted fitted.now }
+    requires depth { depth ≤ most_depth }
+    ensures gives { (s : PlainShow) (cut : Cut) → IsFitted fitted.now s → IfOk result (λ a. Gives (Command.Speed depth limit) s cut (outcome_of a)) }
+    ensures promised { (s : PlainShow) (cut : Cut) → IsFitted fitted.now s
+        → IfOk result (λ a. (outcome_of a).status ≡ 0 → Promises (Command.Speed depth limit) s cut) }
+    ensures said { IfOk result IsSaid }
+{
+    uploadable_law(fitted);
+    answer_drones(
+        alloc,
+        fitted.names.as_slice(),
+        fitted.sent.as_slice(),
+        depth,
+        limit,
+    )
+}
+
+// What `speed` answers for a show's text.
+fn answer_text(
+    alloc: Global,
+    depth: u8,
+    limit: Option<u32>,
+    text: &Text,
+) -> Result<Answer, AllocError>
+    requires depth { depth ≤ most_depth }
+    requires short { IsWithin show_limit text.now }
+    ensures { AnswersText (Command.Speed depth limit) text.now result }
+{
+    match fit_text(alloc, Command::Speed { depth, limit }, text)? {
+        Planned::Fits { fitted } => answer_fitted(alloc, &fitted, depth, limit),
+        Planned::Refused { refusal } => Ok(Answer::Refused { refusal }),
+    }
+}
+
+// What `speed` answers for what its source gives.
+fn answer_input<S: Source>(
+    alloc: Global,
+    depth: u8,
+    limit: Option<u32>,
+    source: &mut S,
+) -> Result<Answer, Failure>
+    requires depth { depth ≤ most_depth }
+    ensures answers { AnswersInput (Command.Speed depth limit) (S.left source.old) (S.left source.new) result }
+    ensures failed { result ≡ Err Failure.Read → Rose (S.faults source.old) (S.faults source.new) }
+    ensures later { S.faults source.old ≤ S.faults source.new }
+    ensures few { TakesOneText (S.left source.old) (S.left source.new) }
+    ensures behind { IfOk result (λ _. TakesFewBehind (S.left source.old) (S.left source.new)) }
+    ensures left { TakesFront (S.left source.old) (S.left source.new) }
+{
+    let text = read_show_text(alloc, source)?;
+    Ok(answer_text(alloc, depth, limit, &text)?)
+}
+
+/// Runs `speed` (docs/COMMANDS.md): how fast each drone is at most on x, y and z, in micrometres per second; or the first reason why the
+/// show is refused, or the first drone and axis whose bound is above the limit.
+pub fn speed<S: Source, K: Sink>(
+    alloc: Global,
+    depth: u8,
+    limit: Option<u32>,
+    source: &mut S,
+    sink: &mut K,
+) -> u8
+    requires { IsCommand (Command.Speed depth limit) }
+    ensures runs { Runs (Command.Speed depth limit) (run_of (S.left source.old) (S.left source.new) (S.faults source.old) (S.faults source.new) (K.written sink.old) (K.written sink.new) (K.faults sink.old) (K.faults sink.new)) result }
+    ensures few { TakesLittle (Command.Speed depth limit) (run_of (S.left source.old) (S.left source.new) (S.faults source.old) (S.faults source.new) (K.written sink.old) (K.written sink.new) (K.faults sink.old) (K.faults sink.new)) }
+    ensures marker { StopsAtMarker (Command.Speed depth limit) (run_of (S.left source.old) (S.left source.new) (S.faults source.old) (S.faults source.new) (K.written sink.old) (K.written sink.new) (K.faults sink.old) (K.faults sink.new)) result }
+{
+    outcome_law();
+    let answer = answer_input(alloc, depth, limit, source);
+    respond(sink, &answer)
+}
