@@ -4,4 +4,4 @@ use Rattle.upload_model.specs.Sessions.{IsLoad}
 use Rattle.readback_core.proofs.world_tests.session_of.Given as goal
 
 abbrev pub invariant-loop : goal.invariant-loop
-invariant-loop l = record { many : length l.loads.items ≡ l.counter; fit : All (IsLoad l.offset) l.loads.items; }
+invariant-loop l = record { many : length l.loads.items ≡ l.counter; fit : All (IsLoad l.offset) l.loads.items }
