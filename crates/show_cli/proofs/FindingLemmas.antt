@@ -1,11 +1,15 @@
 -- What `explain` answers, from what its steps do.
-use Rattle.std.proofs.Common.{◌≡◌, ℕ, ◌+◌, ◌<◌, ◌≤◌, List, ◌++◌, length, Option, Some, None, refl, sym, ap, subst, ◌∙◌, arith}
+use Rattle.std.proofs.Common.{◌≡◌, ℕ, ◌+◌, ◌<◌, ◌≤◌, List, [], ◌∷◌, ◌++◌, codes, decimal, ◌^◌, true, length, Option, Some, None, Result, Ok, Err, OnOk, refl, sym, ap, subst, ◌∙◌, arith}
 use Rattle.std.specs.Prelude.{MatchOption}
+use Rattle.std.proofs.Math.Pow.{pow_mono}
 use Rattle.choreo_lines.specs.Name.{Name}
+use Rattle.fleet_io.specs.Words.{AreWords, IsWord, is_line_empty}
+use Rattle.fleet_io.proofs.WordLaws.{fresh_after_line}
 use Rattle.choreo_reader.specs.Plain.{PlainShow}
 use Rattle.choreo_reader.specs.declared.show.Settings.{Settings}
 use Rattle.show_plan.specs.declared.fitted.Fitted.{Fitted}
 use Rattle.show_plan.specs.declared.fitted.PlanFault.{PlanFault}
+use Rattle.show_plan.specs.declared.fitted.PlanFault.TheVariants as fault
 use Rattle.show_plan.specs.Fitting.{IsFitted}
 use Rattle.show_plan.specs.Separation.{FlyApart, blocked_part}
 use Rattle.touch_witness.specs.declared.site.Closest.{Closest}
@@ -15,8 +19,8 @@ use Rattle.traj_codec.specs.declared.traj.Traj.{Traj}
 use Rattle.show_cli.specs.declared.findings.Findings.{Findings}
 use Rattle.show_cli.specs.Reports.{cues_in}
 use Rattle.show_cli.specs.Shows.{names_of, sent_of, trajectories_of}
-use Rattle.show_cli.specs.Steps.{IsClosestAmong, IsFound, IsTouchAmong}
-use Rattle.show_cli.specs.Studies.{Explains, blocked_of, explain_text}
+use Rattle.show_cli.specs.Steps.{IsBlockedAmong, IsClosestAmong, IsFound, IsTouchAmong}
+use Rattle.show_cli.specs.Studies.{Explains, blocked_of, explain_text, separation_line, word_at}
 use Rattle.show_cli.proofs.PlanLemmas.{apart_of}
 
 -- the part that is blocked of what fits is that of its show
@@ -52,3 +56,31 @@ closest_among trajs r h fine n (Some c) counted is = (omega (arith, is.among.pai
 pub touch_among : (trajs : List Traj) (r h fine n : ℕ) (touch : Option Touch) → length trajs ≡ n → MatchOption touch (NoTouch trajs r h fine) (IsFirstTouch trajs r h fine) → IsTouchAmong n touch
 touch_among trajs r h fine n None counted is = tt
 touch_among trajs r h fine n (Some s) counted is = (omega (arith, is.listed.pair, is.listed.drone, counted), omega (arith, is.listed.drone, counted))
+
+-- ---- lines
+
+-- after the first line a line is empty
+pub separation_fresh : (text : List ℕ) (names : List Name) (depth n : ℕ) (blocked : Option PlanFault) → IsBlockedAmong n blocked → is_line_empty (text ++ separation_line names depth blocked) ≡ true
+separation_fresh text names depth n None among = fresh_after_line text (codes "separated") []
+separation_fresh text names depth n (Some (fault.Blocked a b cue index)) among =
+    fresh_after_line text (codes "blocked")
+    (codes "pair" ∷ word_at names a ∷ word_at names b ∷ codes "cue" ∷ decimal (cue + 1) ∷ codes "part" ∷ decimal index ∷ codes "of" ∷ decimal (2 ^ depth) ∷ [])
+separation_fresh text names depth n (Some (fault.Grid f)) among = absurd among
+separation_fresh text names depth n (Some (fault.Expand f)) among = absurd among
+separation_fresh text names depth n (Some (fault.TooManySegments drone segments)) among = absurd among
+separation_fresh text names depth n (Some (fault.TooLong drone bytes room)) among = absurd among
+separation_fresh text names depth n (Some fault.Memory) among = absurd among
+
+-- words, and a word more
+pub words_more : (words : List (List ℕ)) (first second : List ℕ) → AreWords words → IsWord first → IsWord second → AreWords (words ++ first ∷ second ∷ [])
+words_more [] first second are one two = (one, (two, tt))
+words_more (word ∷ words) first second are one two = (are.0, words_more words first second are.1 one two)
+
+-- a cue has few parts
+pub parts_short : (depth : ℕ) → depth ≤ 8 → 2 ^ depth < 2 ^ 64
+parts_short depth small = let few : 2 ^ depth ≤ 2 ^ 8 = pow_mono small in omega (arith, few)
+
+-- what follows from what holds on success
+pub on_ok : {A E : Type 0} (r : Result A E) (P Q : Type 0) → (P → Q) → OnOk r P → OnOk r Q
+on_ok (Ok a) P Q by holds = by holds
+on_ok (Err e) P Q by holds = holds

@@ -1,20 +1,24 @@
 -- What `speed` answers, drone by drone.
-use Rattle.std.proofs.Common.{◌≡◌, ℕ, ◌+◌, ◌<◌, ◌≤◌, List, [], ◌∷◌, ◌++◌, All, length, get_or, drop, Option, Some, None, Result, Ok, Err, IfOk, refl, sym, ap, subst, ◌∙◌, arith, append_assoc}
+use Rattle.std.proofs.Common.{◌≡◌, ℕ, zero, suc, ◌+◌, ◌<◌, ◌≤◌, Bool, true, false, cond, nat_lt, pos, List, [], ◌∷◌, ◌++◌, All, length, get_or, drop, Option, Some, None, Result, Ok, Err, IfOk, IfSome, refl, sym, ap, subst, ◌∙◌, arith, append_assoc}
 use Rattle.std.specs.Option.{option_or}
 use Rattle.std.specs.declared.alloc.AllocError.{AllocError}
-use Rattle.std.proofs.lemmas.List.{drop_more}
-use Rattle.std.proofs.lemmas.List.Elements.{All-cons, All-head, All-tail}
+use Rattle.std.proofs.lemmas.Bool.Decides.{nat_tests}
+use Rattle.std.proofs.lemmas.List.{drop_all, drop_more}
+use Rattle.std.proofs.lemmas.List.Elements.{All-cons, All-nil}
 use Rattle.choreo_lines.specs.Name.{Name}
 use Rattle.choreo_reader.specs.Plain.{PlainShow}
 use Rattle.refusals.specs.declared.refusal.Refusal.{Refusal}
+use Rattle.refusals.specs.declared.refusal.Refusal.TheVariants as refusal
 use Rattle.show_plan.specs.declared.fitted.Fitted.{Fitted}
 use Rattle.show_plan.specs.Fitting.{IsFitted}
+use Rattle.speed_bound.specs.Speed.{speed}
 use Rattle.traj_codec.specs.declared.traj.Traj.{Traj}
 use Rattle.show_cli.specs.declared.ends.Answer.{Answer}
 use Rattle.show_cli.specs.Answers.{outcome_of}
 use Rattle.show_cli.specs.Outcome.{Outcome, speeds_end}
 use Rattle.show_cli.specs.Shows.{names_of, sent_of}
-use Rattle.show_cli.specs.Studies.{KeepsBounds, first_too_fast, speed_of_drone, speed_text, too_fast, too_fast_by}
+use Rattle.show_cli.proofs.RunLemmas.{none_both}
+use Rattle.show_cli.specs.Studies.{KeepsBounds, above, first_too_fast, speed_of_drone, speed_text, too_fast, too_fast_by}
 
 -- what is left of drones and names from a drone on, as that drone and what comes after it
 pub left_from : {Y : Type 0} (F : List Traj → List Name → Y) (sent : List Traj) (names : List Name) (d : ℕ) (t : Traj) (name : Name) → d < length sent → d < length names →
@@ -72,3 +76,32 @@ pub bounds_of_show : (f : Fitted) (s : PlainShow) (depth : ℕ) (limit : Option 
     IfOk result (λ a. (outcome_of a).status ≡ 0 → All (KeepsBounds limit depth) sent) → IfOk result (λ a. (outcome_of a).status ≡ 0 → All (KeepsBounds limit depth) (sent_of s))
 bounds_of_show f s depth limit sent (Err e) is sent_are keeps = tt
 bounds_of_show f s depth limit sent (Ok a) is sent_are keeps = λ done. subst (All (KeepsBounds limit depth)) (sent_are ∙ is.sent) (keeps done)
+
+-- after the last drone nothing is left to keep
+pub keeps_over : (limit : Option ℕ) (depth : ℕ) (sent : List Traj) (d : ℕ) → length sent ≤ d → All (KeepsBounds limit depth) (drop d sent)
+keeps_over limit depth sent d over = subst (All (KeepsBounds limit depth)) (sym (drop_all d sent over)) (All-nil (KeepsBounds limit depth))
+
+-- ---- bounds that aren't refused are within the limit
+
+above_none : (limit : ℕ) (name : Name) (axis v : ℕ) → above (Some limit) name axis v ≡ None → v ≤ limit
+above_none limit name axis v none = by_test (nat_lt limit v) refl none
+  where
+    short : (m n : ℕ) → nat_lt m n ≡ false → n ≤ m
+    short m n test = grind (arith, nat_tests)
+
+    by_test : (b : Bool) → nat_lt limit v ≡ b → cond b (Some (refusal.TooFast name axis (pos v))) None ≡ None → v ≤ limit
+    by_test true test none = absurd (cc)
+    by_test false test none = short limit v test
+
+within_axes : (most : ℕ) (depth : ℕ) (t : Traj) → speed depth t 0 ≤ most → speed depth t 1 ≤ most → speed depth t 2 ≤ most → (axis : ℕ) → axis ≤ 2 → speed depth t axis ≤ most
+within_axes most depth t x y z zero small = x
+within_axes most depth t x y z (suc zero) small = y
+within_axes most depth t x y z (suc (suc zero)) small = z
+within_axes most depth t x y z (suc (suc (suc n))) small = absurd (omega (arith, small))
+
+pub bounds_within : (limit : Option ℕ) (depth : ℕ) (t : Traj) (name : Name) → too_fast_by limit depth t name ≡ None → IfSome limit (λ most. (axis : ℕ) → axis ≤ 2 → speed depth t axis ≤ most)
+bounds_within None depth t name none = tt
+bounds_within (Some most) depth t name none =
+    let later = none_both (above (Some most) name 0 (speed depth t 0)) _ none in
+    let last = none_both (above (Some most) name 1 (speed depth t 1)) _ later.1 in
+    within_axes most depth t (above_none most name 0 (speed depth t 0) later.0) (above_none most name 1 (speed depth t 1) last.0) (above_none most name 2 (speed depth t 2) last.1)

@@ -64,7 +64,7 @@ entry_one c r h depth regions s t first second = by_order (spots_compared s t)
     by_order (inr (inr before)) = absurd (second.enters (first.kept_before t second.spot before))
 
 same_enters : (r d c i r2 d2 c2 i2 : ℕ) → (r ≡ r2) × ((d ≡ d2) × ((c ≡ c2) × (i ≡ i2))) → Enters r d c i ≡ Enters r2 d2 c2 i2
-same_enters r d c i r2 d2 c2 i2 (one, two, three, four) = cc
+same_enters r d c i r2 d2 c2 i2 (one, (two, (three, four))) = cc
 
 -- drones are judged in one way
 pub judge_one : (c : Raised) (r h depth : ℕ) (regions : List Region) (j k : Judged) → JudgeGives c r h depth regions j → JudgeGives c r h depth regions k → j ≡ k
@@ -97,8 +97,12 @@ sites_compared s t =
     (then_compared s.at t.at (compared s.at t.at)
     (then_compared s.a t.a (compared s.a t.a) (compared s.b t.b)))
 
+abbrev site : ℕ → ℕ → ℕ → ℕ → Touch
+site cue at a b = record { cue = cue; at = at; a = a; b = b }
+
 same_site : (s t : Touch) → (s.cue ≡ t.cue) × ((s.at ≡ t.at) × ((s.a ≡ t.a) × (s.b ≡ t.b))) → s ≡ t
-same_site s t (cue, at, a, b) = cc
+same_site s t (cue, (at, (a, b))) =
+    ap (λ (n : ℕ). site n s.at s.a s.b) cue ∙ ap (λ (n : ℕ). site t.cue n s.a s.b) at ∙ ap (λ (n : ℕ). site t.cue t.at n s.b) a ∙ ap (site t.cue t.at t.a) b
 
 no_traj : Traj
 no_traj = record { start = []; segments = [] }
@@ -189,28 +193,26 @@ closest_site trajs r h fine c d first second = by_order (sites_compared (site_of
 same_ints : (x y : ℤ) → x ≤ℤ y → y ≤ℤ x → x ≡ y
 same_ints x y low high = omega (arith, ints, low, high)
 
+abbrev closest_at : Touch → ℕ → Closest
+closest_at s level = record { cue = s.cue; at = s.at; a = s.a; b = s.b; level = level }
+
 same_closest : (c d : Closest) → site_of c ≡ site_of d → c.level ≡ d.level → c ≡ d
-same_closest c d site level =
-    let cue : c.cue ≡ d.cue = ap (λ (s : Touch). s.cue) site in
-    let at : c.at ≡ d.at = ap (λ (s : Touch). s.at) site in
-    let a : c.a ≡ d.a = ap (λ (s : Touch). s.a) site in
-    let b : c.b ≡ d.b = ap (λ (s : Touch). s.b) site in
-    cc
+same_closest c d sites level = ap (λ (s : Touch). closest_at s c.level) sites ∙ ap (closest_at (site_of d)) level
 
 closest_one : (trajs : List Traj) (r h fine : ℕ) (c d : Closest) → IsClosest trajs r h fine c → IsClosest trajs r h fine d → c ≡ d
 closest_one trajs r h fine c d first second =
-    let site : site_of c ≡ site_of d = closest_site trajs r h fine c d first second in
+    let sites : site_of c ≡ site_of d = closest_site trajs r h fine c d first second in
     let left : first.left ≡ second.left =
     same_ints first.left second.left (left_least trajs r h fine (site_of d) second.left first.left second.among second.is (first.least (site_of d) second.among))
     (left_least trajs r h fine (site_of c) first.left second.left first.among first.is (second.least (site_of c) first.among)) in
     let right : ℤ = right_of r h (listed fine d.cue d.at) in
     let low : (pos c.level *ℤ right) ≤ℤ (pos 1000 *ℤ second.left) =
     subst (λ (x : ℤ). (pos c.level *ℤ right) ≤ℤ (pos 1000 *ℤ x)) left
-    (subst (λ (s : Touch). (pos c.level *ℤ right_of r h (listed fine s.cue s.at)) ≤ℤ (pos 1000 *ℤ first.left)) site first.level) in
+    (subst (λ (s : Touch). (pos c.level *ℤ right_of r h (listed fine s.cue s.at)) ≤ℤ (pos 1000 *ℤ first.left)) sites first.level) in
     let high : (pos 1000 *ℤ second.left) <ℤ (pos (c.level + 1) *ℤ right) =
     subst (λ (x : ℤ). (pos 1000 *ℤ x) <ℤ (pos (c.level + 1) *ℤ right)) left
-    (subst (λ (s : Touch). (pos 1000 *ℤ first.left) <ℤ (pos (c.level + 1) *ℤ right_of r h (listed fine s.cue s.at))) site first.next_level) in
-    same_closest c d site (level_one c.level d.level (pos 1000 *ℤ second.left) right low high second.level second.next_level)
+    (subst (λ (s : Touch). (pos 1000 *ℤ first.left) <ℤ (pos (c.level + 1) *ℤ right_of r h (listed fine s.cue s.at))) sites first.next_level) in
+    same_closest c d sites (level_one c.level d.level (pos 1000 *ℤ second.left) right low high second.level second.next_level)
 
 -- one drone alone is closest to none
 alone : (trajs : List Traj) (r h fine : ℕ) (c : Closest) → length trajs ≡ 1 → IsClosest trajs r h fine c → ⊥

@@ -1,6 +1,6 @@
 //! Lines on where two drones come close.
-ghost use Rattle.std.specs.Prelude.{◌≡◌, ◌≤◌, ◌+◌, ◌^◌, ◌++◌, ◌∷◌, [], true, codes, decimal, length, All, IfOk, OnOk};
-ghost use Rattle.fleet_io.specs.Words.{IsWord, is_line_empty, with_word, with_words};
+ghost use Rattle.std.specs.Prelude.{◌≡◌, ◌≤◌, ◌+◌, ◌*◌, ◌^◌, ◌++◌, ◌∷◌, [], true, codes, decimal, length, All, IfOk, OnOk};
+ghost use Rattle.fleet_io.specs.Words.{AreWords, IsWord, is_line_empty, with_word, with_words};
 ghost use Rattle.show_plan.specs.Fitting.{IsValidFitted, StandsAsWord};
 ghost use Rattle.touch_witness.specs.Lines.{blocked_pair_line, closest_line, no_touch_line, separated_line, site_words, touch_line};
 ghost use Rattle.touch_witness.specs.Sites.{site_of};
@@ -26,7 +26,8 @@ pub struct Findings {
 
 // The digits of a number, as a word.
 fn put_number(text: &mut Lines, n: u64) -> Result<(), AllocError>
-    ensures { OnOk result (text.new ≡ with_word text.old (decimal n)) }
+    ensures word { OnOk result (text.new ≡ with_word text.old (decimal n)) }
+    ensures is_word { IsWord (decimal n) }
 {
     let mut digits = Buffer::new();
     text.word(digits.format(n).as_bytes())
@@ -61,6 +62,17 @@ fn put_separated(text: &mut Lines) -> Result<(), AllocError>
     text.end()
 }
 
+// A part of a cue.
+fn put_part(text: &mut Lines, index: u16, depth: u8) -> Result<(), AllocError>
+    requires { depth ≤ most_depth }
+    ensures { OnOk result (text.new ≡ with_words text.old (codes "part" ∷ decimal index ∷ codes "of" ∷ decimal (2 ^ depth) ∷ [])) }
+{
+    text.word(b"part")?;
+    put_number(text, u64::from(index))?;
+    text.word(b"of")?;
+    put_number(text, parts(depth))
+}
+
 // The first part that is blocked.
 fn put_blocked(
     text: &mut Lines,
@@ -78,10 +90,7 @@ fn put_blocked(
 {
     text.word(b"blocked")?;
     put_pair(text, first, second, cue)?;
-    text.word(b"part")?;
-    put_number(text, u64::from(index))?;
-    text.word(b"of")?;
-    put_number(text, parts(depth))?;
+    put_part(text, index, depth)?;
     text.end()
 }
 
@@ -123,7 +132,8 @@ fn put_site(text: &mut Lines, names: &[Name], fine: u8, site: Touch) -> Result<(
     requires words { All StandsAsWord names.now }
     requires fine { fine ≤ 5 }
     requires among { IsSiteAmong (length names.now) site }
-    ensures { OnOk result (text.new ≡ with_words text.old (site_words (word_at names.now) fine site)) }
+    ensures words { OnOk result (text.new ≡ with_words text.old (site_words (word_at names.now) fine site)) }
+    ensures are_words { OnOk result (AreWords (site_words (word_at names.now) fine site)) }
 {
     put_pair(
         text,
@@ -196,16 +206,23 @@ fn put_touch(text: &mut Lines, names: &[Name], fine: u8, touch: Touch) -> Result
     text.end()
 }
 
+// The number of instants that are listed.
+fn listed_instants(cues: u16, fine: u8) -> u64
+    requires { fine ≤ 5 }
+    ensures { result ≡ cues * (2 ^ fine + 1) }
+{
+    u64::from(cues) * (parts(fine) + 1)
+}
+
 // No two drones touch at so many instants.
 fn put_no_touch(text: &mut Lines, cues: u16, fine: u8) -> Result<(), AllocError>
     requires fresh { is_line_empty text.old ≡ true }
     requires fine { fine ≤ 5 }
     ensures { OnOk result (text.new ≡ text.old ++ no_touch_line cues fine) }
 {
-    let instants = u64::from(cues) * (parts(fine) + 1);
     text.word(b"no-touch")?;
     text.word(b"instants")?;
-    put_number(text, instants)?;
+    put_number(text, listed_instants(cues, fine))?;
     text.end()
 }
 

@@ -8,6 +8,7 @@ ghost use Rattle.fleet_io.specs.Taken.{TakesFront};
 ghost use Rattle.fleet_io.specs.Words.{IsWord, is_line_empty, with_word};
 ghost use Rattle.show_plan.specs.Fitting.{IsFitted, IsSendable, IsValidFitted, StandsAsWord};
 ghost use Rattle.speed_bound.specs.Lines.{speed_line};
+ghost use Rattle.speed_bound.specs.Speed.{KeepsSpeed, speed};
 ghost use Rattle.traj_codec.specs.Spelling.{HasDuration};
 ghost use Rattle.traj_codec.specs.declared.traj.Traj.{Traj};
 ghost use Rattle.show_cli.specs.Answers.{AnswersInput, AnswersText, IsSaid, outcome_of};
@@ -37,7 +38,6 @@ fn above(limit: Option<u32>, name: &Name, axis: u8, speed: i64) -> Option<Refusa
     requires name { IsWord name.now.items }
     requires axis { axis ≤ 2 }
     ensures above { (v : ℕ) → speed ≡ pos v → result ≡ above limit name.now axis v }
-    ensures within { (v : ℕ) → speed ≡ pos v → result ≡ None → IfSome limit (λ most. v ≤ most) }
     ensures said { IfSome result IsOfInput }
 {
     let most = limit?;
@@ -55,8 +55,6 @@ fn above(limit: Option<u32>, name: &Name, axis: u8, speed: i64) -> Option<Refusa
 fn too_fast_of(limit: Option<u32>, name: &Name, x: i64, y: i64, z: i64) -> Option<Refusal>
     requires name { IsWord name.now.items }
     ensures first { (a b c : ℕ) → x ≡ pos a → y ≡ pos b → z ≡ pos c → result ≡ too_fast_of limit name.now a b c }
-    ensures within { (a b c : ℕ) → x ≡ pos a → y ≡ pos b → z ≡ pos c → result ≡ None
-        → IfSome limit (λ most. (a ≤ most) × (b ≤ most) × (c ≤ most)) }
     ensures said { IfSome result IsOfInput }
 {
     if let Some(refusal) = above(limit, name, 0, x) {
@@ -81,6 +79,7 @@ fn put_speeds(text: &mut Lines, name: &[u8], x: i64, y: i64, z: i64) -> Result<(
     requires fresh { is_line_empty text.old ≡ true }
     requires name { IsWord name.now }
     ensures line { (a b c : ℕ) → x ≡ pos a → y ≡ pos b → z ≡ pos c → OnOk result (text.new ≡ text.old ++ speed_line name.now a b c) }
+    ensures fresh { OnOk result (is_line_empty text.new ≡ true) }
 {
     text.word(b"speed")?;
     text.word(name)?;
@@ -105,7 +104,7 @@ fn put_drone(
     requires depth { depth ≤ most_depth }
     ensures refusal { IfOk result (λ r. r ≡ too_fast_by limit depth t.now name.now) }
     ensures line { IfOk result (λ r. r ≡ None → text.new ≡ text.old ++ speed_of_drone depth t.now name.now) }
-    ensures keeps { IfOk result (λ r. r ≡ None → KeepsBounds limit depth t.now) }
+    ensures keeps { (axis : ℕ) → axis ≤ 2 → KeepsSpeed t.now axis (speed depth t.now axis) }
     ensures said { IfOk result (λ r. IfSome r IsOfInput) }
 {
     let [x, y, z] = bound(t, depth);
@@ -135,8 +134,9 @@ fn answer_drones(
 {
     let mut text = Lines::make(alloc);
     for d in 0..sent.len() {
-        if let Some(refusal) = put_drone(&mut text, &names[d], &sent[d], depth, limit)? {
-            return Ok(Answer::Refused { refusal });
+        match put_drone(&mut text, &names[d], &sent[d], depth, limit)? {
+            None => {}
+            Some(refusal) => return Ok(Answer::Refused { refusal }),
         }
     }
     Ok(Answer::Done {

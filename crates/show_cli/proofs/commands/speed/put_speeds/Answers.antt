@@ -1,11 +1,16 @@
-use Rattle.std.proofs.Common.{◌≡◌, ◌++◌, [], ◌∷◌, List, ℕ, codes, decimal, OnOk, refl, ap, ◌∙◌, subst}
-use Rattle.fleet_io.specs.Words.{with_word}
-use Rattle.fleet_io.proofs.WordLaws.{words_make_line}
+use Rattle.std.proofs.Common.{◌≡◌, ◌++◌, [], ◌∷◌, List, ℕ, codes, decimal, true, pos, w64, to_z, of_z, sym, OnOk, refl, ap, ◌∙◌, subst}
+use Rattle.std.proofs.lemmas.Int.{to_z-of_z}
+use Rattle.fleet_io.specs.Words.{is_line_empty, with_word}
+use Rattle.fleet_io.proofs.WordLaws.{fresh_after_feed, words_make_line}
+use Rattle.show_cli.proofs.FindingLemmas.{on_ok}
 use Rattle.show_cli.proofs.commands.speed.put_speeds.Goals as goal
 
 pub returns-clause-line : goal.returns-clause-line
-returns-clause-line c = λ x y z x_is y_is z_is.
+returns-clause-line c = λ x y z x_same y_same z_same.
     let name = c.args.name.now in
+    let x_is : to_z w64 (of_z w64 c.args.x) ≡ pos x = to_z-of_z w64 c.args.x c.ranges.x ∙ x_same in
+    let y_is : to_z w64 (of_z w64 c.args.y) ≡ pos y = to_z-of_z w64 c.args.y c.ranges.y ∙ y_same in
+    let z_is : to_z w64 (of_z w64 c.args.z) ≡ pos z = to_z-of_z w64 c.args.z c.ranges.z ∙ z_same in
     let words =
     c.in_ok-put_speed-3.ensures.word z z_is
     ∙ ap (λ (t : List ℕ). with_word t (decimal z)) (c.in_ok-put_speed-2.ensures.word y y_is)
@@ -17,3 +22,8 @@ returns-clause-line c = λ x y z x_is y_is z_is.
     ∙ words_make_line c.args.text.now (codes "speed") (name ∷ decimal x ∷ decimal y ∷ decimal z ∷ []) c.requires.fresh refl
     (c.requires.name, (c.put_speed.ensures.is_word x x_is, (c.put_speed-2.ensures.is_word y y_is, (c.put_speed-3.ensures.is_word z z_is, tt)))))
     c.end.ensures.ok
+
+pub returns-clause-fresh : goal.returns-clause-fresh
+returns-clause-fresh c =
+    on_ok c.end.result (c.end.new.self ≡ c.put_speed-3.new.text ++ 10 ∷ []) (is_line_empty c.end.new.self ≡ true)
+    (λ e. subst (λ (t : List ℕ). is_line_empty t ≡ true) (sym e) (fresh_after_feed c.put_speed-3.new.text)) c.end.ensures.ok
