@@ -143,11 +143,11 @@ left_of : (c : Command) (d : Option ℕ) (cut : Cut) (f : Fitted) → (ways_of c
 left_of c d cut f is fits = fits.left ∙ ap (λ (e : Option ℕ). blocked_by e fits.s) is
 
 -- what is given for a show that fits is an outcome, and a safe one at status 0
-fitted_outcome : (c : Command) (d : Option ℕ) (cut : Cut) (f : Fitted) (o : Outcome) → (ways_of c).depth ≡ d → (fits : Fits c cut f) → ShowGives c (blocked_by d fits.s) fits.s cut o → IsOutcomeOf c cut o
+pub fitted_outcome : (c : Command) (d : Option ℕ) (cut : Cut) (f : Fitted) (o : Outcome) → (ways_of c).depth ≡ d → (fits : Fits c cut f) → ShowGives c (blocked_by d fits.s) fits.s cut o → IsOutcomeOf c cut o
 fitted_outcome c d cut f o is fits gives =
     inr (record { s = fits.s; short = fits.short; stands = fits.stands; gives = subst (λ (r : Option Refusal). ShowGives c r fits.s cut o) (sym (left_of c d cut f is fits)) gives })
 
-fitted_safe : (c : Command) (d : Option ℕ) (cut : Cut) (f : Fitted) (o : Outcome) → (ways_of c).by_frames ≡ false → (ways_of c).depth ≡ d → (fits : Fits c cut f) →
+pub fitted_safe : (c : Command) (d : Option ℕ) (cut : Cut) (f : Fitted) (o : Outcome) → (ways_of c).by_frames ≡ false → (ways_of c).depth ≡ d → (fits : Fits c cut f) →
     ShowGives c (blocked_by d fits.s) fits.s cut o → Promises c fits.s cut → o.status ≡ 0 → IsSafe c cut o
 fitted_safe c d cut f o plain is fits gives promised done =
     let given = given_by c (blocked_by d fits.s) fits.s cut o plain gives done in
@@ -162,7 +162,7 @@ fitted_safe c d cut f o plain is fits gives promised done =
     }
 
 -- where what fits flies apart, that is promised of its show
-apart_of_show : (c : Command) (cut : Cut) (f : Fitted) → (fits : Fits c cut f) → FlyApart f.settings f.sent → FliesApart fits.s
+pub apart_of_show : (c : Command) (cut : Cut) (f : Fitted) → (fits : Fits c cut f) → FlyApart f.settings f.sent → FliesApart fits.s
 apart_of_show c cut f fits apart =
     let of_show : FlyApart fits.s.settings (sent_of fits.s) = subst (λ (e : Settings). FlyApart e (sent_of fits.s)) fits.fitted.settings (subst (FlyApart f.settings) fits.fitted.sent apart) in
     record { apart = of_show; lands = fits.lands of_show }
@@ -213,7 +213,7 @@ two_fitted c d limit input f (Ok a) plain is fits gives promised whole unmarked 
 
 -- ---- what was read
 
-some_by : (left : Option (List ℕ)) (P Q : List ℕ → Type 0) → ((x : List ℕ) → P x → Q x) → IfSome left P → IfSome left Q
+pub some_by : (left : Option (List ℕ)) (P Q : List ℕ → Type 0) → ((x : List ℕ) → P x → Q x) → IfSome left P → IfSome left Q
 some_by None P Q by holds = tt
 some_by (Some x) P Q by holds = by x holds
 

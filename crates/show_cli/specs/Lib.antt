@@ -8,6 +8,7 @@ pub mod Input
 pub mod Answers
 pub mod Steps
 pub mod Studies
+pub mod SecondTexts
 pub mod Runs
 pub mod Headline
 pub mod Uploads

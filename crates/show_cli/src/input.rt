@@ -33,8 +33,8 @@ pub struct Input {
     pub second: Text,
 }
 
-// The next text of the input.
-fn next_text<S: Source>(
+/// The next text of the input, of at most `limit` bytes. `Read` where a read failed.
+pub fn next_text<S: Source>(
     alloc: Global,
     parts: &mut Parts,
     source: &mut S,
@@ -49,6 +49,7 @@ fn next_text<S: Source>(
     ensures rest { IfOk result (λ text. GoesOn text (stream parts.old (S.left source.old)) (stream parts.new (S.left source.new))) }
     ensures sound { IfOk result (λ text. IsWholeText text → IsTrue parts.new.sound) }
     ensures lines { parts.new.lines ≡ parts.old.lines }
+    ensures at_line { IfOk result (λ text. IsWholeText text → IsTrue parts.new.at_line) }
     ensures at_end { IsTrue parts.new.ended → IsAtEnd (S.left source.new) }
     ensures whole { IfOk result (λ text. IsUnmarked text → IsAtEnd (S.left source.new)) }
     ensures few { TakesAtMost (limit + 4 + 4096) (S.left source.old) (S.left source.new) }

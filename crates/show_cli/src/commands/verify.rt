@@ -1,121 +1,227 @@
 //! `verify`: whether a certificate is valid for a show.
-ghost use Rattle.std.specs.Prelude.{◌≡◌, ◌<◌, ◌≤◌, length, IfOk, IfSome};
-ghost use Rattle.std.specs.Str.Lines.{lines};
-ghost use Rattle.choreo_reader.specs.Plain.{PlainShow};
-ghost use Rattle.sep_certificate.specs.Certificates.{IsWhole};
-ghost use Rattle.sep_certificate.specs.Texts.{bad_line};
-ghost use Rattle.show_plan.specs.Fitting.{IsFitted, IsValidFitted};
-ghost use Rattle.show_plan.specs.Separation.{FlyApart};
-ghost use Rattle.fleet_io.specs.Causes.{Rose};
+ghost use Rattle.std.specs.Prelude.{◌≡◌, ◌+◌, ◌^◌, ◌<◌, ◌≤◌, [], None, length, IfOk, IfSome, IsTrue};
+ghost use Rattle.std.specs.Io.KnownBytes.{IsAtEnd};
+ghost use Rattle.fleet_io.specs.Causes.{HasCause, Rose};
+ghost use Rattle.fleet_io.specs.Held.{stream};
 ghost use Rattle.fleet_io.specs.Taken.{TakesFront};
-ghost use Rattle.show_cli.specs.Answers.{AnswersInput, AnswersTwo, IsSaid, outcome_of};
-ghost use Rattle.show_cli.specs.Input.{IsText, IsUnmarked, IsWithin};
-ghost use Rattle.show_cli.specs.Outcome.{CertificateGives, judged_for};
-ghost use Rattle.show_cli.specs.Refused.{second_refusal};
+ghost use Rattle.fleet_curves.specs.Raised.{CurvesStandFor};
+ghost use Rattle.certificate_checker.specs.Bytes.{ApartWhereValid, HasRead, NamesFault};
+ghost use Rattle.refusals.specs.declared.refusal.Refusal.{Refusal};
+ghost use Rattle.show_plan.specs.Fitting.{IsValidFitted};
+ghost use Rattle.show_plan.specs.Separation.{FlyApart};
+ghost use Rattle.show_cli.specs.Answers.{AnswersInput, IsSaid, outcome_of};
+ghost use Rattle.show_cli.specs.Input.{IsWholeText};
+ghost use Rattle.show_cli.specs.Outcome.{refused};
 ghost use Rattle.text_lines.specs.Marker.{part_of};
 ghost use Rattle.show_cli.specs.Runs.{Runs, StopsAtMarker, TakesLittle, TakesOneText, run_of};
-ghost use Rattle.show_cli.specs.Shows.{Cut, certificate_limit, show_limit};
+ghost use Rattle.show_cli.specs.SecondTexts.{GivesSecond, IsTakenToEnd, TakenGives, line_after, taken_by, verdict_outcome};
+ghost use Rattle.show_cli.specs.Shows.{show_limit};
 
 use crate::accept::{Planned, fit_text};
 use crate::ends::{Answer, Failure, Output, respond};
-use crate::input::{Input, Text, read_two};
+use crate::input::{Text, next_text};
 use crate::lines::valid_line;
 use crate::outcomes::outcome_law;
-use crate::refuse::{marker_number, not_valid};
+use crate::refuse::not_valid;
+use certificate_checker::{Checker, Verdict};
+use choreo_reader::MOST_BYTES;
 use command_words::Command;
-use fleet_io::{Part, Sink, Source};
+use fleet_curves::Curves;
+use fleet_io::{Ask, Failed, Parts, Sink, Source, part_law};
 use refusals::Refusal;
-use sep_certificate::{
-    CERTIFICATE_LIMIT, CertTextFault, Certificate, Curves, check, read_certificate,
-};
+use sep_certificate::CERTIFICATE_LIMIT;
 use sep_parts::apart_law;
 use show_plan::Fitted;
-use std::alloc::{AllocError, Global};
+use std::alloc::Global;
 
-// What a certificate comes to for a show.
-fn judge(alloc: Global, fitted: &Fitted, certificate: &Certificate) -> Result<Answer, AllocError>
+/// A certificate's text that was taken.
+#[derive(Clone, Copy)]
+pub enum Taken {
+    /// It is longer than such a text may be.
+    TooLarge,
+    /// All of it, and the number of the marker line after it, where one stands there.
+    Whole { marker: Option<u32> },
+}
+
+// A faulty line of the certificate's text.
+fn faulty(line: u32) -> Answer
+    ensures gives { outcome_of result ≡ refused (Refusal.SecondLine line) }
+    ensures said { IsSaid result }
+{
+    Answer::Refused {
+        refusal: Refusal::SecondLine { line },
+    }
+}
+
+// What a verdict is said as for a show that fits, with a marker line of this number after the certificate's text, or none.
+fn judge(fitted: &Fitted, curves: &Curves, verdict: Verdict, marker: Option<u32>) -> Answer
     requires valid { IsValidFitted fitted.now }
-    requires whole { IsWhole certificate.now }
-    ensures gives { (s : PlainShow) → IsFitted fitted.now s → IfOk result (λ a. outcome_of a ≡ judged_for s certificate.now) }
-    ensures apart { IfOk result (λ a. (outcome_of a).status ≡ 0 → FlyApart fitted.now.settings fitted.now.sent) }
-    ensures said { IfOk result IsSaid }
+    requires curves { CurvesStandFor curves.now fitted.now.trajs }
+    requires named { NamesFault curves.now verdict }
+    requires apart { ApartWhereValid curves.now fitted.now.settings.r fitted.now.settings.h verdict }
+    ensures gives { outcome_of result ≡ verdict_outcome fitted.now.names marker verdict }
+    ensures apart { (outcome_of result).status ≡ 0 → FlyApart fitted.now.settings fitted.now.sent }
+    ensures unmarked { (outcome_of result).status ≡ 0 → marker ≡ None }
+    ensures said { IsSaid result }
 {
     apart_law();
-    let curves = Curves::of_slice(alloc, fitted.trajs.as_slice())?;
-    match check(&curves, fitted.settings.r, fitted.settings.h, certificate) {
-        Ok(()) => {
-            let trees = certificate.trees.as_slice().len() as u32;
-            Ok(Answer::Done {
+    match verdict {
+        Verdict::Line { line } => faulty(line),
+        Verdict::Valid { depth, trees } => match marker {
+            Some(line) => faulty(line),
+            None => Answer::Done {
                 output: Output::Line {
-                    line: valid_line(certificate.depth, trees),
+                    line: valid_line(depth, trees),
                 },
-            })
-        }
-        Err(fault) => Ok(Answer::Refused {
-            refusal: not_valid(fitted.names.as_slice(), certificate.version, fault),
-        }),
+            },
+        },
+        Verdict::Refused { version, fault } => match marker {
+            Some(line) => faulty(line),
+            None => Answer::Refused {
+                refusal: not_valid(fitted.names.as_slice(), version, fault),
+            },
+        },
     }
 }
 
-// What a second text comes to that isn't too large.
-fn judge_part(alloc: Global, fitted: &Fitted, part: &Part) -> Result<Answer, AllocError>
-    requires valid { IsValidFitted fitted.now }
-    requires short { length part.now.bytes.items ≤ certificate_limit }
-    ensures gives { (s : PlainShow) (cut : Cut) → IsFitted fitted.now s → IsText certificate_limit (Text.Whole part.now) cut.second cut.is_second_marked
-        → IfOk result (λ a. CertificateGives (second_refusal certificate_limit (bad_line (lines cut.second)) cut) s cut (outcome_of a)) }
-    ensures apart { IfOk result (λ a. (outcome_of a).status ≡ 0 → FlyApart fitted.now.settings fitted.now.sent) }
-    ensures whole { IfOk result (λ a. (outcome_of a).status ≡ 0 → IsUnmarked (Text.Whole part.now)) }
-    ensures said { IfOk result IsSaid }
+// The number of the line after a byte more.
+fn line_after(line: u32, byte: u8) -> u32
+    requires { line ≤ 2 ^ 31 }
+    ensures exact { result ≡ line_after line byte }
+    ensures most { result ≤ line + 1 }
 {
-    let certificate = match read_certificate(alloc, &part.bytes) {
-        Ok(certificate) => certificate,
-        Err(CertTextFault::Line { line }) => {
-            return Ok(Answer::Refused {
-                refusal: Refusal::SecondLine { line },
-            });
+    if byte == b'\n' { line + 1 } else { line }
+}
+
+// What was taken of a text of the greatest length: one byte more is too many.
+fn ended(ask: Ask, line: u32) -> Taken
+    ensures { result ≡ taken_by line ask }
+{
+    match ask {
+        Ask::Byte { .. } => Taken::TooLarge,
+        Ask::Marker => Taken::Whole { marker: Some(line) },
+        Ask::End => Taken::Whole { marker: None },
+    }
+}
+
+// Takes the certificate's text to its end, and hands each byte to the checker.
+fn take_second<S: Source>(
+    parts: &mut Parts,
+    source: &mut S,
+    curves: &Curves,
+    checker: &mut Checker,
+) -> Result<Taken, Failed>
+    requires sound { IsTrue parts.old.sound }
+    requires lines { IsTrue parts.old.lines }
+    requires at_line { IsTrue parts.old.at_line }
+    requires at_end { IsTrue parts.old.ended → IsAtEnd (S.left source.old) }
+    requires unfed { HasRead checker.old curves.now [] }
+    ensures gives { IfOk result (TakenGives curves.now (stream parts.old (S.left source.old)) checker.new) }
+    ensures axes { (checker.new.r ≡ checker.old.r) × (checker.new.h ≡ checker.old.h) }
+    ensures whole { IfOk result (IsTakenToEnd (S.left source.new)) }
+    ensures cause { HasCause (S.faults source.old) (S.faults source.new) result }
+    ensures left { TakesFront (S.left source.old) (S.left source.new) }
+{
+    part_law();
+    let mut line: u32 = 1;
+    let mut count = 0;
+    'bytes: while count < CERTIFICATE_LIMIT {
+        let ask = parts.part_byte(source)?;
+        match ask {
+            Ask::Byte { b } => {
+                checker.feed(curves, b);
+                count += 1;
+                line = line_after(line, b);
+            }
+            Ask::Marker => return Ok(Taken::Whole { marker: Some(line) }),
+            Ask::End => return Ok(Taken::Whole { marker: None }),
         }
-        Err(CertTextFault::Memory) => return Err(AllocError),
+    }
+    let last = parts.part_byte(source)?;
+    Ok(ended(last, line))
+}
+
+// What a certificate's text is for a show that fits. It is judged as it is taken, and never held.
+fn answer_second<S: Source>(
+    alloc: Global,
+    parts: &mut Parts,
+    source: &mut S,
+    fitted: &Fitted,
+) -> Result<Answer, Failure>
+    requires valid { IsValidFitted fitted.now }
+    requires sound { IsTrue parts.old.sound }
+    requires lines { IsTrue parts.old.lines }
+    requires at_line { IsTrue parts.old.at_line }
+    requires at_end { IsTrue parts.old.ended → IsAtEnd (S.left source.old) }
+    ensures gives { IfSome (stream parts.old (S.left source.old)) (λ all. IfOk result (λ a. GivesSecond fitted.now all (outcome_of a))) }
+    ensures apart { IfOk result (λ a. (outcome_of a).status ≡ 0 → FlyApart fitted.now.settings fitted.now.sent) }
+    ensures whole { IfOk result (λ a. (outcome_of a).status ≡ 0 → IsAtEnd (S.left source.new)) }
+    ensures said { IfOk result IsSaid }
+    ensures failed { result ≡ Err Failure.Read → Rose (S.faults source.old) (S.faults source.new) }
+    ensures later { S.faults source.old ≤ S.faults source.new }
+    ensures left { TakesFront (S.left source.old) (S.left source.new) }
+{
+    let curves = Curves::of_slice(alloc, fitted.trajs.as_slice())?;
+    let mut checker = Checker::make(fitted.settings.r, fitted.settings.h);
+    let taken = match take_second(parts, source, &curves, &mut checker) {
+        Ok(taken) => taken,
+        Err(Failed) => return Err(Failure::Read),
     };
-    if part.marker {
-        let line = marker_number(&part.bytes);
-        return Ok(Answer::Refused {
-            refusal: Refusal::SecondLine { line },
-        });
-    }
-    judge(alloc, fitted, &certificate)
-}
-
-// What a second text comes to for a show that fits.
-fn judge_second(alloc: Global, fitted: &Fitted, second: &Text) -> Result<Answer, AllocError>
-    requires valid { IsValidFitted fitted.now }
-    requires short { IsWithin certificate_limit second.now }
-    ensures gives { (s : PlainShow) (cut : Cut) → IsFitted fitted.now s → IsText certificate_limit second.now cut.second cut.is_second_marked
-        → IfOk result (λ a. CertificateGives (second_refusal certificate_limit (bad_line (lines cut.second)) cut) s cut (outcome_of a)) }
-    ensures apart { IfOk result (λ a. (outcome_of a).status ≡ 0 → FlyApart fitted.now.settings fitted.now.sent) }
-    ensures whole { IfOk result (λ a. (outcome_of a).status ≡ 0 → IsUnmarked second.now) }
-    ensures said { IfOk result IsSaid }
-{
-    match second {
-        Text::TooLarge => Ok(Answer::Refused {
+    match taken {
+        Taken::TooLarge => Ok(Answer::Refused {
             refusal: Refusal::SecondTooLarge,
         }),
-        Text::Whole { part } => judge_part(alloc, fitted, part),
+        Taken::Whole { marker } => {
+            let verdict = checker.end(&curves);
+            Ok(judge(fitted, &curves, verdict, marker))
+        }
     }
 }
 
-// What `verify` answers for two texts.
-fn answer_two(alloc: Global, input: &Input) -> Result<Answer, AllocError>
-    requires show { IsWithin show_limit input.now.show }
-    requires second { IsWithin certificate_limit input.now.second }
-    ensures { AnswersTwo Command.Verify certificate_limit input.now result }
+// Takes the text after that of a show that is refused, as far as it is read.
+fn skip_second<S: Source>(parts: &mut Parts, source: &mut S) -> Result<(), Failed>
+    requires sound { IsTrue parts.old.sound }
+    requires lines { IsTrue parts.old.lines }
+    requires at_end { IsTrue parts.old.ended → IsAtEnd (S.left source.old) }
+    ensures cause { HasCause (S.faults source.old) (S.faults source.new) result }
+    ensures left { TakesFront (S.left source.old) (S.left source.new) }
 {
-    match fit_text(alloc, Command::Verify, &input.show)? {
-        Planned::Fits { fitted } => judge_second(alloc, &fitted, &input.second),
-        Planned::Refused { refusal } => Ok(Answer::Refused { refusal }),
+    'bytes: for _ in 0..CERTIFICATE_LIMIT + 1 {
+        let ask = parts.part_byte(source)?;
+        match ask {
+            Ask::Byte { .. } => {}
+            Ask::Marker | Ask::End => return Ok(()),
+        }
+    }
+    Ok(())
+}
+
+// The refusal of a show, after the text behind it was taken; after a show's text that is too large none is.
+fn answer_refused<S: Source>(
+    parts: &mut Parts,
+    source: &mut S,
+    show: &Text,
+    refusal: Refusal,
+) -> Result<Answer, Failure>
+    requires sound { IsWholeText show.now → IsTrue parts.old.sound }
+    requires lines { IsTrue parts.old.lines }
+    requires at_end { IsTrue parts.old.ended → IsAtEnd (S.left source.old) }
+    ensures answer { IfOk result (λ a. a ≡ Answer.Refused refusal) }
+    ensures stays { (IsWholeText show.now → ⊥) → S.left source.new ≡ S.left source.old }
+    ensures failed { result ≡ Err Failure.Read → Rose (S.faults source.old) (S.faults source.new) }
+    ensures later { S.faults source.old ≤ S.faults source.new }
+    ensures left { TakesFront (S.left source.old) (S.left source.new) }
+{
+    if let Text::TooLarge = show {
+        return Ok(Answer::Refused { refusal });
+    }
+    match skip_second(parts, source) {
+        Ok(()) => Ok(Answer::Refused { refusal }),
+        Err(Failed) => Err(Failure::Read),
     }
 }
 
-// What `verify` answers for what its source gives.
+// What `verify` answers for what its source gives. A failed read comes before what is wrong with the show.
 fn answer_input<S: Source>(alloc: Global, source: &mut S) -> Result<Answer, Failure>
     ensures answers { AnswersInput Command.Verify (S.left source.old) (S.left source.new) result }
     ensures failed { result ≡ Err Failure.Read → Rose (S.faults source.old) (S.faults source.new) }
@@ -123,8 +229,12 @@ fn answer_input<S: Source>(alloc: Global, source: &mut S) -> Result<Answer, Fail
     ensures few { IfSome (S.left source.old) (λ all. show_limit < length (part_of all)) → TakesOneText (S.left source.old) (S.left source.new) }
     ensures left { TakesFront (S.left source.old) (S.left source.new) }
 {
-    let input = read_two(alloc, source, CERTIFICATE_LIMIT)?;
-    Ok(answer_two(alloc, &input)?)
+    let mut parts = Parts::make();
+    let show = next_text(alloc, &mut parts, source, MOST_BYTES)?;
+    match fit_text(alloc, Command::Verify, &show)? {
+        Planned::Fits { fitted } => answer_second(alloc, &mut parts, source, &fitted),
+        Planned::Refused { refusal } => answer_refused(&mut parts, source, &show, refusal),
+    }
 }
 
 /// Runs `verify` (docs/COMMANDS.md): the depth and the number of trees of a certificate that is valid for the show, or the first thing

@@ -1,7 +1,30 @@
+use Rattle.std.proofs.Common.{ap}
+use Rattle.fleet_io.proofs.TakenLemmas.{TakesFront-trans}
+use Rattle.fleet_io.specs.Held.{Held, stream}
 use Rattle.command_words.specs.declared.command.Command.TheVariants.{Verify}
-use Rattle.show_cli.specs.Shows.{certificate_limit}
-use Rattle.show_cli.proofs.AnswerLemmas.{input_two}
+use Rattle.show_cli.specs.declared.accept.Planned.TheVariants.{Fits}
+use Rattle.show_cli.specs.Answers.{EndsWell}
+use Rattle.show_cli.proofs.SecondLemmas.{input_fitted, input_refused}
+use Rattle.show_cli.proofs.UploadLemmas.{stream_new}
 use Rattle.show_cli.proofs.commands.verify.answer_input.Goals as goal
 
+pub returns-in-Fits-clause-answers : goal.returns-in-Fits-clause-answers
+returns-in-Fits-clause-answers g c =
+    let is = stream_new c.make-parts.result (g.S.Source.left c.args.source.now) (ap (λ (h : Held). h.waiting) c.make-parts.ensures) in
+    let ends : EndsWell Verify c.in_ok-show.show (Fits c.in-Fits.fitted) = rw c.in-Fits.is at c.in_ok-fitted.ensures.whole in
+    input_fitted _ (stream c.next_text.new.parts (g.S.Source.left c.next_text.new.source)) _ c.in_ok-show.show c.in-Fits.fitted c.answer_second.result
+    (rw is at c.in_ok-show.ensures.text) ends.0 (rw is at c.in_ok-show.ensures.rest) (λ cut text. rw c.in-Fits.is at (c.in_ok-fitted.ensures.gives cut text))
+    c.answer_second.ensures.gives c.answer_second.ensures.apart c.answer_second.ensures.whole c.answer_second.ensures.said
+    (TakesFront-trans _ _ _ c.next_text.ensures.left c.answer_second.ensures.left)
+
+pub returns-in-Fits-clause-left : goal.returns-in-Fits-clause-left
+returns-in-Fits-clause-left g c = TakesFront-trans _ _ _ c.next_text.ensures.left c.answer_second.ensures.left
+
 pub returns-clause-answers : goal.returns-clause-answers
-returns-clause-answers g c = input_two Verify certificate_limit _ _ c.in_ok-input.input c.in_ok-answer_two.field-0 c.in_ok-input.ensures.texts c.in_ok-answer_two.ensures
+returns-clause-answers g c =
+    let is = stream_new c.make-parts.result (g.S.Source.left c.args.source.now) (ap (λ (h : Held). h.waiting) c.make-parts.ensures) in
+    input_refused _ _ c.in_ok-show.show c.in-Refused.refusal c.answer_refused.result (rw is at c.in_ok-show.ensures.text)
+    (λ cut text. rw c.in-Refused.is at (c.in_ok-fitted.ensures.gives cut text)) (rw c.in-Refused.is at c.in_ok-fitted.ensures.sound) c.answer_refused.ensures.answer
+
+pub returns-clause-left : goal.returns-clause-left
+returns-clause-left g c = TakesFront-trans _ _ _ c.next_text.ensures.left c.answer_refused.ensures.left

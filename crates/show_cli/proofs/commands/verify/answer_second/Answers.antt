@@ -1,0 +1,19 @@
+use Rattle.std.proofs.Common.{ap, ◌∙◌}
+use Rattle.fleet_curves.specs.Raised.{raised_of}
+use Rattle.fleet_io.specs.Held.{stream}
+use Rattle.show_cli.specs.Answers.{outcome_of}
+use Rattle.show_cli.specs.SecondTexts.{TakenGives}
+use Rattle.show_cli.specs.declared.commands.verify.Taken.TheVariants.{Whole}
+use Rattle.show_cli.proofs.SecondLemmas.{whole_gives}
+use Rattle.show_cli.proofs.commands.verify.answer_second.Goals as goal
+
+pub take_second-requires-clause-unfed : goal.take_second-requires-clause-unfed
+take_second-requires-clause-unfed g c = c.make-checker.ensures.has_read c.in_ok-curves.curves
+
+pub returns-clause-gives : goal.returns-clause-gives
+returns-clause-gives g c =
+    let coming = stream c.args.parts.now (g.S.Source.left c.args.source.now) in
+    let taken : TakenGives c.in_ok-curves.curves coming c.take_second.new.checker (Whole c.in-Whole.marker) = rw c.in-Whole.is at c.in-Ok.ensures.gives in
+    whole_gives c.args.fitted.now c.in_ok-curves.curves c.take_second.new.checker.r c.take_second.new.checker.h coming taken.0 c.in-Whole.marker c.end-verdict.result
+    (c.in_ok-curves.ensures.exact ∙ ap raised_of c.as_slice.ensures) (c.take_second.ensures.axes.0 ∙ c.make-checker.ensures.axes.0) (c.take_second.ensures.axes.1 ∙ c.make-checker.ensures.axes.1)
+    taken.1 (c.end-verdict.ensures.gives taken.0 taken.1 taken.2) taken.3 (outcome_of c.judge.result) c.judge.ensures.gives

@@ -1,0 +1,14 @@
+use Rattle.std.proofs.Common.{◌≤◌}
+use Rattle.std.specs.Prelude.{IsTrue}
+use Rattle.std.specs.Io.KnownBytes.{IsAtEnd}
+use Rattle.fleet_io.specs.Taken.{TakesFront}
+use Rattle.show_cli.proofs.commands.verify.skip_second.Given as goal
+
+abbrev pub invariant-bytes : goal.invariant-bytes
+invariant-bytes g l = record {
+  sound : IsTrue l.parts.sound;
+  lines : IsTrue l.parts.lines;
+  at_end : IsTrue l.parts.ended → IsAtEnd (g.S.Source.left l.source);
+  left : TakesFront (g.S.Source.left l.initial.source) (g.S.Source.left l.source);
+  later : g.S.Source.faults l.initial.source ≤ g.S.Source.faults l.source;
+}
