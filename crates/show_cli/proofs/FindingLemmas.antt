@@ -71,6 +71,9 @@ separation_fresh text names depth n (Some (fault.TooManySegments drone segments)
 separation_fresh text names depth n (Some (fault.TooLong drone bytes room)) among = absurd among
 separation_fresh text names depth n (Some fault.Memory) among = absurd among
 
+pub separation_leaves : (text new : List ℕ) (names : List Name) (depth n : ℕ) (blocked : Option PlanFault) → IsBlockedAmong n blocked → new ≡ text ++ separation_line names depth blocked → is_line_empty new ≡ true
+separation_leaves text new names depth n blocked among is = subst (λ (t : List ℕ). is_line_empty t ≡ true) (sym is) (separation_fresh text names depth n blocked among)
+
 -- words, and a word more
 pub words_more : (words : List (List ℕ)) (first second : List ℕ) → AreWords words → IsWord first → IsWord second → AreWords (words ++ first ∷ second ∷ [])
 words_more [] first second are one two = (one, (two, tt))
