@@ -342,9 +342,8 @@ fn four_names(alloc: Global) -> Result<Vec<Name>, AllocError>
     Ok(names)
 }
 
-/// These lines for each of the four drones in turn, whose name stands in them as `?`.
+/// These lines for each of the four drones in turn, whose name stands in them as `?`: at most 4,000 bytes.
 fn for_each(alloc: Global, lines: &[u8]) -> Result<Vec<u8>, AllocError>
-    requires { length lines.now ≤ 1000 }
     ensures { IfOk result (λ text. length text.items ≤ 4000) }
 {
     let mut text = Vec::new(alloc);
@@ -352,6 +351,9 @@ fn for_each(alloc: Global, lines: &[u8]) -> Result<Vec<u8>, AllocError>
         for byte in lines {
             text.push(if *byte == b'?' { name } else { *byte })?;
         }
+    }
+    if text.len() > 4000 {
+        return Err(AllocError);
     }
     Ok(text)
 }
@@ -361,7 +363,7 @@ fn for_each(alloc: Global, lines: &[u8]) -> Result<Vec<u8>, AllocError>
 fn windows_of_four_drones_come_in_reverse(rt: HostRuntime) -> Result<(), Fail> {
     let alloc = rt.alloc();
     let names = four_names(alloc)?;
-    let mut world = four_world(alloc)?;
+    let mut fleet = four_world(alloc)?;
     // Writes 1 to 4; writes 6 and 5, which were sent when the fourth and the third were acknowledged; the define; the start.
     let windows: [(&[u8], Progress); 4] = [
         (
@@ -382,14 +384,14 @@ fn windows_of_four_drones_come_in_reverse(rt: HostRuntime) -> Result<(), Fail> {
         ),
     ];
     for (lines, progress) in windows {
-        assert!(rt; world.drone(3).started.is_none());
+        assert!(rt; fleet.drone(3).started.is_none());
         let text = for_each(alloc, lines)?;
-        assert!(rt; run(alloc, &mut world, &names, &text)? == progress);
+        assert!(rt; run(alloc, &mut fleet, &names, &text)? == progress);
     }
     for drone in 0..4 {
         let number = [1, 2, 3, 4][drone];
-        assert!(rt; has_load(world.drone(drone), &[number; 130], number));
-        assert!(rt; world.drone(drone).started == Some(0));
+        assert!(rt; has_load(fleet.drone(drone), &[number; 130], number));
+        assert!(rt; fleet.drone(drone).started == Some(0));
     }
     Ok(())
 }
