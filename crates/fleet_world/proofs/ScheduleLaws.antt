@@ -6,6 +6,7 @@ use Rattle.std.specs.Prelude.{nat_le, min, option_map}
 use Rattle.text_lines.specs.declared.number.TheConstants.{LARGE}
 use Rattle.text_lines.specs.Numbers.{is_digit, digits_after, natural_of}
 use Rattle.fleet_world.specs.Schedules.{counted_from_0, number_of, put_event}
+use Rattle.fleet_world.specs.Steps.{behind}
 
 -- x times ten to the k
 abbrev times_ten : ℕ → ℕ → ℕ
@@ -70,11 +71,6 @@ pub number_of-read : (w : List ℕ) (n : ℕ) → length w ≤ 9 → natural_of 
 number_of-read w n l is some =
     sym (ap (λ (b : Bool). cond b (counted_from_0 (natural_of w)) None) (le-leb (length w) 9 l)
     ∙ ap counted_from_0 is ∙ ap (λ (b : Bool). cond b None (Some (n - 1))) (ne_eqb n 0 some))
-
--- these events in front of what is read of the lines behind them
-abbrev pub behind : {E : Type 0} → List E → Result (List E) ℕ → Result (List E) ℕ
-behind events (Ok later) = Ok (events ++ later)
-behind events (Err faulty) = Err faulty
 
 pub behind-nothing : {E : Type 0} (later : Result (List E) ℕ) → behind [] later ≡ later
 behind-nothing {E} (Ok later) = refl

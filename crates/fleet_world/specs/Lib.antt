@@ -3,3 +3,4 @@ pub mod Again
 pub mod WorldState
 pub mod Schedules
 pub mod Faults
+pub mod Steps

@@ -2,12 +2,15 @@
 
 ghost use Rattle.std.specs.Prelude.{◌≡◌, ℕ, ◌+◌, ◌<◌, ◌≤◌, ◌^◌, List, [], ◌∷◌, ◌++◌, length, map, Some, None, Ok, IfOk, IfErr, OnOk};
 ghost use Rattle.text_lines.specs.Tokens.{words_in};
-ghost use Rattle.fleet_world.specs.Schedules.{number_of as number_word, place_from, event_with, event_of, schedule_of};
+ghost use Rattle.fleet_world.specs.Schedules.{number_of as number_word, place_from, event_with, event_of, events_of, schedule_of};
 ghost use Rattle.fleet_world.specs.Faults.{FaultGives};
+ghost use Rattle.fleet_world.specs.Steps.{IsLine, behind};
+ghost use Rattle.text_lines.specs.Words.{numbered};
+ghost use Rattle.text_lines.specs.declared.token.Comments.TheVariants.{Absent};
 
 use arrayvec::ArrayVec;
 use std::alloc::{AllocError, Global};
-use text_lines::{Comments, Token, line_word_count, natural, tokens, word_at};
+use text_lines::{Comments, Token, line_word_count, natural, split_line, tokens, word_at};
 use upload_model::{MOST_DRONES, WorldEvent};
 
 /// The most bytes of a schedule.
@@ -116,6 +119,37 @@ fn put(events: &mut Vec<WorldEvent>, event: WorldEvent) -> Result<(), AllocError
     Ok(())
 }
 
+/// The event of a line, if it has words, after those of the lines before it.
+fn put_line(
+    alloc: Global,
+    line: &[u8],
+    number: u32,
+    names: &[Name],
+    events: &mut Vec<WorldEvent>,
+) -> Result<(), ScheduleFault>
+    requires line { IsLine line.now }
+    requires short { length line.now ≤ MOST_TEXT }
+    requires names { length names.now ≤ MOST_DRONES }
+    ensures ok { OnOk result ((later : List (List ℕ)) →
+        behind events.new.items (events_of (map (λ name. name.items) names.now) (numbered Absent (number + 1) later))
+        ≡ behind events.old.items (events_of (map (λ name. name.items) names.now) (numbered Absent number (line.now ∷ later)))) }
+    ensures fault { IfErr result (λ fault. (later : List (List ℕ)) →
+        FaultGives fault (events_of (map (λ name. name.items) names.now) (numbered Absent number (line.now ∷ later)))) }
+{
+    let words = tokens(alloc, line, Comments::Absent)?;
+    if words.is_empty() {
+        return Ok(());
+    }
+    let count = line_word_count(words.as_slice());
+    match event_on(line, names, &words.as_slice()[..count]) {
+        Some(event) => {
+            put(events, event)?;
+            Ok(())
+        }
+        None => Err(ScheduleFault::Line { line: number }),
+    }
+}
+
 /// The events of a schedule, in order, for drones with these names. Lines without words are skipped.
 /// Else a line is `tick`, or `take NAME N` or `hear NAME N`, where N counts from 1 and has 1 to 9
 /// digits; the first line that is none of these is the fault.
@@ -131,16 +165,13 @@ pub fn read_schedule_of(
     ensures fault { IfErr result (λ fault.
         FaultGives fault (schedule_of (map (λ name. name.items) names.now) text.now)) }
 {
-    let words = tokens(alloc, text, Comments::Absent)?;
     let mut events = Vec::new(alloc);
-    let mut rest = words.as_slice();
-    while !rest.is_empty() {
-        let count = line_word_count(rest);
-        match event_on(text, names, &rest[..count]) {
-            Some(event) => put(&mut events, event)?,
-            None => return Err(ScheduleFault::Line { line: rest[0].line }),
-        }
-        rest = &rest[count..];
+    let mut number: u32 = 1;
+    let mut rest = text;
+    'lines: while let Some((line, behind)) = split_line(rest) {
+        put_line(alloc, line, number, names, &mut events)?;
+        number += 1;
+        rest = behind;
     }
     Ok(events)
 }

@@ -1,5 +1,5 @@
 -- Why `put` keeps its contract, at the places where the check needs to be told.
-use Rattle.std.proofs.Common.{◌∙◌, ◌∷◌, ◌++◌, [], ℕ, List, ap, sym}
+use Rattle.std.proofs.Common.{◌∙◌, ◌∷◌, ◌++◌, [], List, ap, sym}
 use Rattle.fleet_world.specs.declared.mail.Note.{Note}
 use Rattle.fleet_world.proofs.RowLemmas.{row_of-kept, row_of-set_same, row_of-set_other}
 use Rattle.fleet_world.proofs.mail.put.Goals as goal

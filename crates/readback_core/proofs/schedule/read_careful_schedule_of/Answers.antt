@@ -9,7 +9,8 @@ use Rattle.text_lines.proofs.Grouped.{lines_grouped}
 use Rattle.readback_model.specs.declared.events.CarefulEvent.{CarefulEvent}
 use Rattle.fleet_world.specs.Schedules.{put_event, events_by}
 use Rattle.readback_core.specs.CarefulSchedules.{careful_event_of}
-use Rattle.fleet_world.proofs.ScheduleLaws.{behind, behind-nothing, behind-more}
+use Rattle.fleet_world.proofs.ScheduleLaws.{behind-nothing, behind-more}
+use Rattle.fleet_world.specs.Steps.{behind}
 use Rattle.readback_core.proofs.schedule.read_careful_schedule_of.Goals as goal
 
 pub loop-rest-init : goal.loop-rest-init

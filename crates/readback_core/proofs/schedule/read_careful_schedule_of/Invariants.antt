@@ -3,7 +3,7 @@ use Rattle.std.proofs.Common.{◌≡◌, map, length}
 use Rattle.text_lines.specs.Tokens.{lines_in}
 use Rattle.fleet_world.specs.Schedules.{events_by}
 use Rattle.readback_core.specs.CarefulSchedules.{careful_event_of, careful_schedule_of}
-use Rattle.fleet_world.proofs.ScheduleLaws.{behind}
+use Rattle.fleet_world.specs.Steps.{behind}
 use Rattle.readback_core.proofs.schedule.read_careful_schedule_of.Given as goal
 
 abbrev pub decreases-loop-rest : goal.decreases-loop-rest

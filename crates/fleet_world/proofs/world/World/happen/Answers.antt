@@ -1,18 +1,17 @@
 -- Why `happen` keeps its contract, at the places where the check needs to be told.
-use Rattle.std.proofs.Common.{◌≡◌, ◌≢◌, ◌∙◌, ◌++◌, ◌∷◌, ◌<◌, ◌≤◌, [], ℕ, List, Option, Some, None, length, map, replicate, ap, sym, subst, arith}
-use Rattle.std.specs.Prelude.{All, slice_set, slice_get}
+use Rattle.std.proofs.Common.{◌≡◌, ◌∙◌, ◌++◌, ℕ, List, length, ap, sym, subst, arith}
+use Rattle.std.specs.Prelude.{All}
 use Rattle.std.specs.Vec.{with_items}
 use Rattle.std.proofs.lemmas.List.{with_items_is}
-use Rattle.upload_model.specs.Worlds.{host_event, packets_for, took, option_list}
+use Rattle.upload_model.specs.Worlds.{host_event, packets_for}
 use Rattle.upload_model.specs.declared.events.Sent.{Sent}
-use Rattle.upload_model.specs.Drones.{DroneState, handled}
-use Rattle.upload_model.specs.Sessions.{Upload, IsSession, drone_count, packet_at, packet_count}
-use Rattle.upload_core.specs.HostState.{HostState, IsPacketOf}
+use Rattle.upload_model.specs.Sessions.{Upload, drone_count}
+use Rattle.upload_core.specs.HostState.{IsPacketOf}
 use Rattle.fleet_world.specs.declared.mail.Note.{Note}
-use Rattle.fleet_world.specs.Mail.{Row, rows_of, row_of, HasRoom, notes_of, AreKnown}
-use Rattle.fleet_world.specs.Again.{sent_packets, given_answers, answer_at, answered_with}
-use Rattle.fleet_world.specs.WorldState.{WorldState, WorldStandsAt, IsAt, seen_world, state_at, state_of}
-use Rattle.fleet_world.proofs.RowLemmas.{notes_of-known, known-append, known-put, known-empty, sent-put, given-put, out-inside, length-empty, HasRoom-less, row_of-empty}
+use Rattle.fleet_world.specs.Mail.{Row, rows_of, row_of, notes_of, AreKnown}
+use Rattle.fleet_world.specs.Again.{sent_packets, given_answers}
+use Rattle.fleet_world.specs.WorldState.{WorldState, WorldStandsAt, seen_world}
+use Rattle.fleet_world.proofs.RowLemmas.{notes_of-known, known-append, sent-put, out-inside}
 use Rattle.fleet_world.proofs.Points.{stands-host_event}
 use Rattle.fleet_world.proofs.world.World.happen.Goals as goal
 use Rattle.fleet_world.proofs.world.World.happen.Goals.{After-make_room, After-as_mut_slice-2, After-put_all}
