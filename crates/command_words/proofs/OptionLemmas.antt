@@ -1,13 +1,17 @@
 -- Words are read as options exactly where they are these options.
 use Rattle.std.proofs.Common.{◌≡◌, ℕ, Bool, true, false, cond, List, [], ◌∷◌, ◌++◌, Option, Some, None, codes, refl, sym, ap, subst, ◌∙◌}
-use Rattle.std.specs.Prelude.{bytes_eq, option_map}
+use Rattle.std.specs.Prelude.{bytes_eq, is_some, option_map}
 use Rattle.std.proofs.lemmas.Slice.Eq.{bytes_eq-Decides}
-use Rattle.command_words.specs.Commands.{Given, given_depth, given_step, given_start, given_limit, given_fine, options_of, before, valued, depth_of, step_of, limit_of, fine_of, SpellsOption, SpellsOptions, WordsLaw}
+use Rattle.command_words.specs.Commands.{Given, given_depth, given_step, given_start, given_limit, given_fine, given_readback, options_of, alone, before, valued, depth_of, step_of, limit_of, fine_of, SpellsOption, SpellsOptions, WordsLaw}
 
--- `--start` before other words is an option before theirs
+-- an option of one word before other words is an option before theirs
 start_then : (rest : List (List ℕ)) → options_of (codes "--start" ∷ rest) ≡ before (Some given_start) (options_of rest)
 start_then [] = refl
 start_then (value ∷ words) = refl
+
+readback_then : (rest : List (List ℕ)) → options_of (codes "--readback" ∷ rest) ≡ before (Some given_readback) (options_of rest)
+readback_then [] = refl
+readback_then (value ∷ words) = refl
 
 -- ---- words that are options are read
 
@@ -27,6 +31,8 @@ reads (given_fine n ∷ gs) words (front, rest, (value, front_is, n_is), spells,
     ∙ ap (λ (o : Option ℕ). before (option_map given_fine o) (options_of rest)) n_is ∙ ap (before (Some (given_fine n))) (reads gs rest spells)
 reads (given_start ∷ gs) words (front, rest, front_is, spells, is) =
     ap options_of is ∙ ap (λ (f : List (List ℕ)). options_of (f ++ rest)) front_is ∙ start_then rest ∙ ap (before (Some given_start)) (reads gs rest spells)
+reads (given_readback ∷ gs) words (front, rest, front_is, spells, is) =
+    ap options_of is ∙ ap (λ (f : List (List ℕ)). options_of (f ++ rest)) front_is ∙ readback_then rest ∙ ap (before (Some given_readback)) (reads gs rest spells)
 
 -- ---- words that are read are options
 
@@ -82,23 +88,35 @@ valued_is word value false false true fine given is_depth is_step is_limit is_fi
 valued_is word value false false false true given is_depth is_step is_limit is_fine are = fine_found word value (fine_of value) given (is_fine refl) refl are
 valued_is word value false false false false given is_depth is_step is_limit is_fine are = absurd (cc)
 
--- one word that is read is `--start`
-single_is : (word : List ℕ) (start : Bool) (gs : List Given) → (start ≡ true → word ≡ codes "--start") → cond start (Some (given_start ∷ [])) None ≡ Some gs → SpellsOptions gs (word ∷ [])
-single_is word false gs is_start are = absurd (cc)
-single_is word true gs is_start are =
-    let e : given_start ∷ [] ≡ gs = cc in
-    subst (λ (g : List Given). SpellsOptions g (word ∷ [])) e (word ∷ [], [], ap (λ (w : List ℕ). w ∷ []) (is_start refl), refl, refl)
+-- an option of one word is spelled by it
+alone_is : (word : List ℕ) (start readback : Bool) (given : Given) → (start ≡ true → word ≡ codes "--start") → (readback ≡ true → word ≡ codes "--readback") →
+    cond start (Some given_start) (cond readback (Some given_readback) None) ≡ Some given → SpellsOption given (word ∷ [])
+alone_is word true readback given is_start is_readback are =
+    let e : given_start ≡ given = cc in
+    subst (λ (g : Given). SpellsOption g (word ∷ [])) e (ap (λ (w : List ℕ). w ∷ []) (is_start refl))
+alone_is word false true given is_start is_readback are =
+    let e : given_readback ≡ given = cc in
+    subst (λ (g : Given). SpellsOption g (word ∷ [])) e (ap (λ (w : List ℕ). w ∷ []) (is_readback refl))
+alone_is word false false given is_start is_readback are = absurd (cc)
 
--- words that are read begin with `--start` or with an option of two words
-several_are : (word value : List ℕ) (words : List (List ℕ)) (start : Bool) (gs : List Given) → (start ≡ true → word ≡ codes "--start") →
+alone_spelled : (word : List ℕ) (given : Given) → alone word ≡ Some given → SpellsOption given (word ∷ [])
+alone_spelled word given are = alone_is word (bytes_eq word (codes "--start")) (bytes_eq word (codes "--readback")) given (bytes_eq-Decides word (codes "--start")).0 (bytes_eq-Decides word (codes "--readback")).0 are
+
+-- one word that is read is an option of one word
+single_is : (word : List ℕ) (gs : List Given) → before (alone word) (Some []) ≡ Some gs → SpellsOptions gs (word ∷ [])
+single_is word gs are =
+    let s = splits (alone word) (Some []) gs are in
+    let none : [] ≡ s.more = cc (s.rest_is) in
+    subst (λ (g : List Given). SpellsOptions g (word ∷ [])) (sym s.is) (word ∷ [], [], alone_spelled word s.given s.first_is, subst (λ (more : List Given). SpellsOptions more []) none refl, refl)
+
+-- words that are read begin with an option of one word or with one of two words
+several_are : (word value : List ℕ) (words : List (List ℕ)) (one : Bool) (gs : List Given) →
     ((more : List Given) → options_of (value ∷ words) ≡ Some more → SpellsOptions more (value ∷ words)) → ((more : List Given) → options_of words ≡ Some more → SpellsOptions more words) →
-    cond start (before (Some given_start) (options_of (value ∷ words))) (before (valued word value) (options_of words)) ≡ Some gs → SpellsOptions gs (word ∷ value ∷ words)
-several_are word value words true gs is_start after_one after_two are =
-    let s = splits (Some given_start) (options_of (value ∷ words)) gs are in
-    let first : s.given ≡ given_start = cc (s.first_is) in
-    let e : given_start ∷ s.more ≡ gs = cc (s.is, first) in
-    subst (λ (g : List Given). SpellsOptions g (word ∷ value ∷ words)) e (word ∷ [], value ∷ words, ap (λ (w : List ℕ). w ∷ []) (is_start refl), after_one s.more s.rest_is, refl)
-several_are word value words false gs is_start after_one after_two are =
+    cond one (before (alone word) (options_of (value ∷ words))) (before (valued word value) (options_of words)) ≡ Some gs → SpellsOptions gs (word ∷ value ∷ words)
+several_are word value words true gs after_one after_two are =
+    let s = splits (alone word) (options_of (value ∷ words)) gs are in
+    subst (λ (g : List Given). SpellsOptions g (word ∷ value ∷ words)) (sym s.is) (word ∷ [], value ∷ words, alone_spelled word s.given s.first_is, after_one s.more s.rest_is, refl)
+several_are word value words false gs after_one after_two are =
     let s = splits (valued word value) (options_of words) gs are in
     subst (λ (g : List Given). SpellsOptions g (word ∷ value ∷ words)) (sym s.is) (
       word ∷ value ∷ [],
@@ -112,9 +130,9 @@ several_are word value words false gs is_start after_one after_two are =
 are_spelled : (words : List (List ℕ)) (gs : List Given) → options_of words ≡ Some gs → SpellsOptions gs words
 are_spelled [] [] are = refl
 are_spelled [] (given ∷ gs) are = absurd (cc)
-are_spelled (word ∷ []) gs are = single_is word (bytes_eq word (codes "--start")) gs (bytes_eq-Decides word (codes "--start")).0 are
+are_spelled (word ∷ []) gs are = single_is word gs are
 are_spelled (word ∷ value ∷ words) gs are =
-    several_are word value words (bytes_eq word (codes "--start")) gs (bytes_eq-Decides word (codes "--start")).0
+    several_are word value words (is_some (alone word)) gs
     (λ more is. are_spelled (value ∷ words) more is) (λ more is. are_spelled words more is) are
 
 pub words_law : WordsLaw

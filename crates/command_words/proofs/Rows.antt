@@ -1,5 +1,5 @@
 -- Words and what they are.
-use Rattle.std.proofs.Common.{◌≡◌, [], ◌∷◌, Some, None, true, refl}
+use Rattle.std.proofs.Common.{◌≡◌, [], ◌∷◌, Some, None, true, false, refl}
 use Rattle.std.specs.Prelude.{codes}
 use Rattle.command_words.specs.declared.command.Command.TheVariants.{Play, Rehearse, Upload, Drill, Boxes, Speed, Explain}
 use Rattle.command_words.specs.Commands.{command_of}
@@ -7,10 +7,10 @@ use Rattle.command_words.specs.Commands.{command_of}
 either_order : command_of (codes "play" ∷ codes "--step" ∷ codes "500" ∷ codes "--depth" ∷ codes "3" ∷ []) ≡ Some (Play 3 500)
 either_order = refl
 
-start_first : command_of (codes "rehearse" ∷ codes "--start" ∷ codes "--depth" ∷ codes "0" ∷ []) ≡ Some (Rehearse 0 true)
+start_first : command_of (codes "rehearse" ∷ codes "--start" ∷ codes "--depth" ∷ codes "0" ∷ []) ≡ Some (Rehearse 0 true false)
 start_first = refl
 
-start_last : command_of (codes "upload" ∷ codes "--depth" ∷ codes "000000008" ∷ codes "--start" ∷ []) ≡ Some (Upload 8 true)
+start_last : command_of (codes "upload" ∷ codes "--depth" ∷ codes "000000008" ∷ codes "--start" ∷ []) ≡ Some (Upload 8 true false)
 start_last = refl
 
 twice : command_of (codes "upload" ∷ codes "--start" ∷ codes "--start" ∷ []) ≡ None
@@ -69,3 +69,15 @@ boxes_limited = refl
 
 nothing : command_of [] ≡ None
 nothing = refl
+
+read_back : command_of (codes "rehearse" ∷ codes "--readback" ∷ codes "--depth" ∷ codes "3" ∷ codes "--start" ∷ []) ≡ Some (Rehearse 3 true true)
+read_back = refl
+
+read_back_last : command_of (codes "upload" ∷ codes "--readback" ∷ []) ≡ Some (Upload 6 false true)
+read_back_last = refl
+
+read_back_twice : command_of (codes "upload" ∷ codes "--readback" ∷ codes "--readback" ∷ []) ≡ None
+read_back_twice = refl
+
+read_back_of_another : command_of (codes "check" ∷ codes "--readback" ∷ []) ≡ None
+read_back_of_another = refl

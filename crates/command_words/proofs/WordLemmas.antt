@@ -1,11 +1,11 @@
 -- The walk over the words finds the command that the definition finds.
 use Rattle.std.proofs.Common.{◌≡◌, ℕ, Bool, true, false, cond, List, [], ◌∷◌, ◌++◌, Option, Some, None, codes, refl, sym, ap, ◌∙◌, append-nil}
-use Rattle.std.specs.Prelude.{bytes_eq, option_map, option_and_then}
+use Rattle.std.specs.Prelude.{bytes_eq, is_some, option_map, option_and_then}
 use Rattle.command_words.specs.declared.command.Command.{Command}
 use Rattle.command_words.specs.declared.command.Command.TheVariants.{Help, Check, Compile, Certify, Play, Report, Verify, Rehearse, Upload, Drill, Boxes, Speed, Explain}
 use Rattle.command_words.specs.declared.options.Options.{Options}
-use Rattle.command_words.specs.Commands.{Given, given_depth, given_step, given_start, given_limit, given_fine, options_of, depths, steps, starts, limits, fines, single, optional, without, bare, with_depth, with_step, with_start, with_limit, with_fine, named, drill_with, default_depth, default_fine, default_step}
-use Rattle.command_words.specs.Steps.{no_options, collected, continued, at_bare, at_depth, at_step, at_start, at_limit, at_fine, named_with}
+use Rattle.command_words.specs.Commands.{Given, given_depth, given_step, given_start, given_limit, given_fine, given_readback, options_of, before, valued, depths, steps, starts, limits, fines, readbacks, single, optional, without, bare, with_depth, with_step, with_start, with_limit, with_fine, named, drill_with, default_depth, default_fine, default_step}
+use Rattle.command_words.specs.Steps.{no_options, noted, collected, continued, at_bare, at_depth, at_step, at_start, at_limit, at_fine, named_with}
 
 -- ---- lists of what was given
 
@@ -18,49 +18,53 @@ abbrev start_list : Bool → List Bool
 start_list true = true ∷ []
 start_list false = []
 
--- what may be made of all that was given, in the order depths, steps, starts, limits, fines
+-- what may be made of all that was given, in the order depths, steps, starts, limits, fines, read-backs
 abbrev Making : Type 0
-Making = List ℕ → List ℕ → List Bool → List ℕ → List ℕ → Option Command
+Making = List ℕ → List ℕ → List Bool → List ℕ → List ℕ → List Bool → Option Command
 
 -- nothing is made where one of them is given twice
 record RefusesTwo (make : Making) : Type 0 where
-  depth : (a b : ℕ) (ds ss : List ℕ) (ts : List Bool) (ls fs : List ℕ) → make (a ∷ b ∷ ds) ss ts ls fs ≡ None
-  step : (a b : ℕ) (ds ss : List ℕ) (ts : List Bool) (ls fs : List ℕ) → make ds (a ∷ b ∷ ss) ts ls fs ≡ None
-  start : (a b : Bool) (ds ss : List ℕ) (ts : List Bool) (ls fs : List ℕ) → make ds ss (a ∷ b ∷ ts) ls fs ≡ None
-  limit : (a b : ℕ) (ds ss : List ℕ) (ts : List Bool) (ls fs : List ℕ) → make ds ss ts (a ∷ b ∷ ls) fs ≡ None
-  fine : (a b : ℕ) (ds ss : List ℕ) (ts : List Bool) (ls fs : List ℕ) → make ds ss ts ls (a ∷ b ∷ fs) ≡ None
+  depth : (a b : ℕ) (ds ss : List ℕ) (ts : List Bool) (ls fs : List ℕ) (bs : List Bool) → make (a ∷ b ∷ ds) ss ts ls fs bs ≡ None
+  step : (a b : ℕ) (ds ss : List ℕ) (ts : List Bool) (ls fs : List ℕ) (bs : List Bool) → make ds (a ∷ b ∷ ss) ts ls fs bs ≡ None
+  start : (a b : Bool) (ds ss : List ℕ) (ts : List Bool) (ls fs : List ℕ) (bs : List Bool) → make ds ss (a ∷ b ∷ ts) ls fs bs ≡ None
+  limit : (a b : ℕ) (ds ss : List ℕ) (ts : List Bool) (ls fs : List ℕ) (bs : List Bool) → make ds ss ts (a ∷ b ∷ ls) fs bs ≡ None
+  fine : (a b : ℕ) (ds ss : List ℕ) (ts : List Bool) (ls fs : List ℕ) (bs : List Bool) → make ds ss ts ls (a ∷ b ∷ fs) bs ≡ None
+  back : (a b : Bool) (ds ss : List ℕ) (ts : List Bool) (ls fs : List ℕ) (bs : List Bool) → make ds ss ts ls fs (a ∷ b ∷ bs) ≡ None
 
 -- what is made of options, and of the options of a list
 abbrev made_of : Making → Options → Option Command
-made_of make o = make (given_list o.depth) (given_list o.step) (start_list o.start) (given_list o.limit) (given_list o.fine)
+made_of make o = make (given_list o.depth) (given_list o.step) (start_list o.start) (given_list o.limit) (given_list o.fine) (start_list o.readback)
 
 abbrev made_from : Making → List Given → Option Command
-made_from make gs = make (depths gs) (steps gs) (starts gs) (limits gs) (fines gs)
+made_from make gs = make (depths gs) (steps gs) (starts gs) (limits gs) (fines gs) (readbacks gs)
 
-abbrev options : Option ℕ → Option ℕ → Bool → Option ℕ → Option ℕ → Options
-options depth step start limit fine = record { depth = depth; step = step; start = start; limit = limit; fine = fine }
+abbrev options : Option ℕ → Option ℕ → Bool → Option ℕ → Option ℕ → Bool → Options
+options depth step start limit fine back = record { depth = depth; step = step; start = start; limit = limit; fine = fine; readback = back }
 
 -- noted one by one, options make what their lists make
-collected_makes : (make : Making) → RefusesTwo make → (depth step : Option ℕ) (start : Bool) (limit fine : Option ℕ) (gs : List Given) →
-    make (given_list depth ++ depths gs) (given_list step ++ steps gs) (start_list start ++ starts gs) (given_list limit ++ limits gs) (given_list fine ++ fines gs)
-    ≡ option_and_then (made_of make) (collected (options depth step start limit fine) gs)
-collected_makes make two depth step start limit fine [] =
-    rw (append-nil (given_list depth), append-nil (given_list step), append-nil (start_list start), append-nil (given_list limit), append-nil (given_list fine)) refl
-collected_makes make two None step start limit fine (given_depth n ∷ gs) = collected_makes make two (Some n) step start limit fine gs
-collected_makes make two (Some m) step start limit fine (given_depth n ∷ gs) =
-    two.depth m n (depths gs) (given_list step ++ steps gs) (start_list start ++ starts gs) (given_list limit ++ limits gs) (given_list fine ++ fines gs)
-collected_makes make two depth None start limit fine (given_step n ∷ gs) = collected_makes make two depth (Some n) start limit fine gs
-collected_makes make two depth (Some m) start limit fine (given_step n ∷ gs) =
-    two.step m n (given_list depth ++ depths gs) (steps gs) (start_list start ++ starts gs) (given_list limit ++ limits gs) (given_list fine ++ fines gs)
-collected_makes make two depth step false limit fine (given_start ∷ gs) = collected_makes make two depth step true limit fine gs
-collected_makes make two depth step true limit fine (given_start ∷ gs) =
-    two.start true true (given_list depth ++ depths gs) (given_list step ++ steps gs) (starts gs) (given_list limit ++ limits gs) (given_list fine ++ fines gs)
-collected_makes make two depth step start None fine (given_limit n ∷ gs) = collected_makes make two depth step start (Some n) fine gs
-collected_makes make two depth step start (Some m) fine (given_limit n ∷ gs) =
-    two.limit m n (given_list depth ++ depths gs) (given_list step ++ steps gs) (start_list start ++ starts gs) (limits gs) (given_list fine ++ fines gs)
-collected_makes make two depth step start limit None (given_fine n ∷ gs) = collected_makes make two depth step start limit (Some n) gs
-collected_makes make two depth step start limit (Some m) (given_fine n ∷ gs) =
-    two.fine m n (given_list depth ++ depths gs) (given_list step ++ steps gs) (start_list start ++ starts gs) (given_list limit ++ limits gs) (fines gs)
+collected_makes : (make : Making) → RefusesTwo make → (depth step : Option ℕ) (start : Bool) (limit fine : Option ℕ) (back : Bool) (gs : List Given) →
+    make (given_list depth ++ depths gs) (given_list step ++ steps gs) (start_list start ++ starts gs) (given_list limit ++ limits gs) (given_list fine ++ fines gs) (start_list back ++ readbacks gs)
+    ≡ option_and_then (made_of make) (collected (options depth step start limit fine back) gs)
+collected_makes make two depth step start limit fine back [] =
+    rw (append-nil (given_list depth), append-nil (given_list step), append-nil (start_list start), append-nil (given_list limit), append-nil (given_list fine), append-nil (start_list back)) refl
+collected_makes make two None step start limit fine back (given_depth n ∷ gs) = collected_makes make two (Some n) step start limit fine back gs
+collected_makes make two (Some m) step start limit fine back (given_depth n ∷ gs) =
+    two.depth m n (depths gs) (given_list step ++ steps gs) (start_list start ++ starts gs) (given_list limit ++ limits gs) (given_list fine ++ fines gs) (start_list back ++ readbacks gs)
+collected_makes make two depth None start limit fine back (given_step n ∷ gs) = collected_makes make two depth (Some n) start limit fine back gs
+collected_makes make two depth (Some m) start limit fine back (given_step n ∷ gs) =
+    two.step m n (given_list depth ++ depths gs) (steps gs) (start_list start ++ starts gs) (given_list limit ++ limits gs) (given_list fine ++ fines gs) (start_list back ++ readbacks gs)
+collected_makes make two depth step false limit fine back (given_start ∷ gs) = collected_makes make two depth step true limit fine back gs
+collected_makes make two depth step true limit fine back (given_start ∷ gs) =
+    two.start true true (given_list depth ++ depths gs) (given_list step ++ steps gs) (starts gs) (given_list limit ++ limits gs) (given_list fine ++ fines gs) (start_list back ++ readbacks gs)
+collected_makes make two depth step start None fine back (given_limit n ∷ gs) = collected_makes make two depth step start (Some n) fine back gs
+collected_makes make two depth step start (Some m) fine back (given_limit n ∷ gs) =
+    two.limit m n (given_list depth ++ depths gs) (given_list step ++ steps gs) (start_list start ++ starts gs) (limits gs) (given_list fine ++ fines gs) (start_list back ++ readbacks gs)
+collected_makes make two depth step start limit None back (given_fine n ∷ gs) = collected_makes make two depth step start limit (Some n) back gs
+collected_makes make two depth step start limit (Some m) back (given_fine n ∷ gs) =
+    two.fine m n (given_list depth ++ depths gs) (given_list step ++ steps gs) (start_list start ++ starts gs) (given_list limit ++ limits gs) (fines gs) (start_list back ++ readbacks gs)
+collected_makes make two depth step start limit fine false (given_readback ∷ gs) = collected_makes make two depth step start limit fine true gs
+collected_makes make two depth step start limit fine true (given_readback ∷ gs) =
+    two.back true true (given_list depth ++ depths gs) (given_list step ++ steps gs) (start_list start ++ starts gs) (given_list limit ++ limits gs) (given_list fine ++ fines gs) (readbacks gs)
 
 abbrev nothing : Option Command
 nothing = None
@@ -79,46 +83,77 @@ without_three xs ys zs = ap (without xs) (without_two ys zs) ∙ without_none xs
 without_four : {A B C D : Type 0} (xs : List A) (ys : List B) (zs : List C) (ws : List D) → without xs (without ys (without zs (without ws nothing))) ≡ None
 without_four xs ys zs ws = ap (without xs) (without_three ys zs ws) ∙ without_none xs
 
+without_five : {A B C D E : Type 0} (xs : List A) (ys : List B) (zs : List C) (ws : List D) (vs : List E) → without xs (without ys (without zs (without ws (without vs nothing)))) ≡ None
+without_five xs ys zs ws vs = ap (without xs) (without_four ys zs ws vs) ∙ without_none xs
+
+-- ---- an option of two words
+
+no_next : (o : Options) (given : Option Options) → option_and_then (λ (next : Options). option_and_then (collected next) None) given ≡ None
+no_next o None = refl
+no_next o (Some next) = refl
+
+-- one option, and then others
+next_given : (o : Options) (given : Option Given) (rest : Option (List Given)) →
+    option_and_then (collected o) (before given rest) ≡ option_and_then (λ (next : Options). option_and_then (collected next) rest) (option_and_then (noted o) given)
+next_given o None rest = refl
+next_given o (Some given) None = sym (no_next o (noted o given))
+next_given o (Some given) (Some more) = refl
+
+-- words that begin with an option of two words
+pub next_valued : (o : Options) (word value : List ℕ) (words : List (List ℕ)) → bytes_eq word (codes "--start") ≡ false → bytes_eq word (codes "--readback") ≡ false →
+    continued o (word ∷ value ∷ words) ≡ option_and_then (λ (next : Options). continued next words) (option_and_then (noted o) (valued word value))
+next_valued o word value words no_start no_readback = by (bytes_eq word (codes "--start")) (bytes_eq word (codes "--readback")) no_start no_readback
+  where
+    by : (start readback : Bool) → start ≡ false → readback ≡ false →
+        option_and_then (collected o) (cond (is_some (cond start (Some given_start) (cond readback (Some given_readback) None)))
+        (before (cond start (Some given_start) (cond readback (Some given_readback) None)) (options_of (value ∷ words))) (before (valued word value) (options_of words)))
+        ≡ option_and_then (λ (next : Options). continued next words) (option_and_then (noted o) (valued word value))
+    by true readback none other = absurd (cc)
+    by false true none other = absurd (cc)
+    by false false none other = next_given o (valued word value) (options_of words)
+
 -- ---- each form of a command
 
 abbrev make_bare : Command → Making
-make_bare c ds ss ts ls fs = without ds (without ss (without ts (without ls (without fs (Some c)))))
+make_bare c ds ss ts ls fs bs = without ds (without ss (without ts (without ls (without fs (without bs (Some c))))))
 
 abbrev make_depth : (ℕ → Command) → Making
-make_depth make ds ss ts ls fs = without ss (without ts (without ls (without fs (option_map make (single default_depth ds)))))
+make_depth make ds ss ts ls fs bs = without ss (without ts (without ls (without fs (without bs (option_map make (single default_depth ds))))))
 
 abbrev make_step : Making
-make_step ds ss ts ls fs =
-    without ts (without ls (without fs (option_and_then (λ (depth : ℕ). option_map (λ (step : ℕ). Play depth step) (single default_step ss)) (single default_depth ds))))
+make_step ds ss ts ls fs bs =
+    without ts (without ls (without fs (without bs (option_and_then (λ (depth : ℕ). option_map (λ (step : ℕ). Play depth step) (single default_step ss)) (single default_depth ds)))))
 
-abbrev make_start : (ℕ → Bool → Command) → Making
-make_start make ds ss ts ls fs =
-    without ss (without ls (without fs (option_and_then (λ (depth : ℕ). option_map (λ (start : Bool). make depth start) (single false ts)) (single default_depth ds))))
+abbrev make_start : (ℕ → Bool → Bool → Command) → Making
+make_start make ds ss ts ls fs bs =
+    without ss (without ls (without fs (option_and_then (λ (depth : ℕ). option_and_then (λ (start : Bool). option_map (λ (readback : Bool). make depth start readback) (single false bs)) (single false ts)) (single default_depth ds))))
 
 abbrev make_limit : Making
-make_limit ds ss ts ls fs =
-    without ss (without ts (without fs (option_and_then (λ (depth : ℕ). option_map (λ (limit : Option ℕ). Speed depth limit) (optional ls)) (single default_depth ds))))
+make_limit ds ss ts ls fs bs =
+    without ss (without ts (without fs (without bs (option_and_then (λ (depth : ℕ). option_map (λ (limit : Option ℕ). Speed depth limit) (optional ls)) (single default_depth ds)))))
 
 abbrev make_fine : Making
-make_fine ds ss ts ls fs =
-    without ss (without ts (without ls (option_and_then (λ (depth : ℕ). option_map (λ (fine : ℕ). Explain depth fine) (single default_fine fs)) (single default_depth ds))))
+make_fine ds ss ts ls fs bs =
+    without ss (without ts (without ls (without bs (option_and_then (λ (depth : ℕ). option_map (λ (fine : ℕ). Explain depth fine) (single default_fine fs)) (single default_depth ds)))))
 
 bare_two : (c : Command) → RefusesTwo (make_bare c)
 bare_two c = record {
-  depth = λ a b ds ss ts ls fs. refl;
-  step = λ a b ds ss ts ls fs. without_none ds;
-  start = λ a b ds ss ts ls fs. without_two ds ss;
-  limit = λ a b ds ss ts ls fs. without_three ds ss ts;
-  fine = λ a b ds ss ts ls fs. without_four ds ss ts ls;
+  depth = λ a b ds ss ts ls fs bs. refl;
+  step = λ a b ds ss ts ls fs bs. without_none ds;
+  start = λ a b ds ss ts ls fs bs. without_two ds ss;
+  limit = λ a b ds ss ts ls fs bs. without_three ds ss ts;
+  fine = λ a b ds ss ts ls fs bs. without_four ds ss ts ls;
+  back = λ a b ds ss ts ls fs bs. without_five ds ss ts ls fs;
 }
 
 depth_two : (make : ℕ → Command) → RefusesTwo (make_depth make)
 depth_two make = record {
-  depth = λ a b ds ss ts ls fs. without_four ss ts ls fs;
-  step = λ a b ds ss ts ls fs. refl;
-  start = λ a b ds ss ts ls fs. without_none ss;
-  limit = λ a b ds ss ts ls fs. without_two ss ts;
-  fine = λ a b ds ss ts ls fs. without_three ss ts ls;
+  depth = λ a b ds ss ts ls fs bs. without_five ss ts ls fs bs;
+  step = λ a b ds ss ts ls fs bs. refl;
+  start = λ a b ds ss ts ls fs bs. without_none ss;
+  limit = λ a b ds ss ts ls fs bs. without_two ss ts;
+  fine = λ a b ds ss ts ls fs bs. without_three ss ts ls;
+  back = λ a b ds ss ts ls fs bs. without_four ss ts ls fs;
 }
 
 -- nothing comes of a depth, where nothing comes of the rest
@@ -128,105 +163,127 @@ no_rest (Some n) = refl
 
 step_two : RefusesTwo make_step
 step_two = record {
-  depth = λ a b ds ss ts ls fs. without_three ts ls fs;
-  step = λ a b ds ss ts ls fs. ap (λ (o : Option Command). without ts (without ls (without fs o))) (no_rest (single default_depth ds)) ∙ without_three ts ls fs;
-  start = λ a b ds ss ts ls fs. refl;
-  limit = λ a b ds ss ts ls fs. without_none ts;
-  fine = λ a b ds ss ts ls fs. without_two ts ls;
+  depth = λ a b ds ss ts ls fs bs. without_four ts ls fs bs;
+  step = λ a b ds ss ts ls fs bs. ap (λ (o : Option Command). without ts (without ls (without fs (without bs o)))) (no_rest (single default_depth ds)) ∙ without_four ts ls fs bs;
+  start = λ a b ds ss ts ls fs bs. refl;
+  limit = λ a b ds ss ts ls fs bs. without_none ts;
+  fine = λ a b ds ss ts ls fs bs. without_two ts ls;
+  back = λ a b ds ss ts ls fs bs. without_three ts ls fs;
 }
 
-start_two : (make : ℕ → Bool → Command) → RefusesTwo (make_start make)
+-- nothing comes of starts, where nothing comes of read-backs
+no_flag : (start : Option Bool) → option_and_then (λ (b : Bool). nothing) start ≡ None
+no_flag None = refl
+no_flag (Some b) = refl
+
+no_flags : (depth : Option ℕ) (start : Option Bool) → option_and_then (λ (n : ℕ). option_and_then (λ (b : Bool). nothing) start) depth ≡ None
+no_flags None start = refl
+no_flags (Some n) start = no_flag start
+
+start_two : (make : ℕ → Bool → Bool → Command) → RefusesTwo (make_start make)
 start_two make = record {
-  depth = λ a b ds ss ts ls fs. without_three ss ls fs;
-  step = λ a b ds ss ts ls fs. refl;
-  start = λ a b ds ss ts ls fs. ap (λ (o : Option Command). without ss (without ls (without fs o))) (no_rest (single default_depth ds)) ∙ without_three ss ls fs;
-  limit = λ a b ds ss ts ls fs. without_none ss;
-  fine = λ a b ds ss ts ls fs. without_two ss ls;
+  depth = λ a b ds ss ts ls fs bs. without_three ss ls fs;
+  step = λ a b ds ss ts ls fs bs. refl;
+  start = λ a b ds ss ts ls fs bs. ap (λ (o : Option Command). without ss (without ls (without fs o))) (no_rest (single default_depth ds)) ∙ without_three ss ls fs;
+  limit = λ a b ds ss ts ls fs bs. without_none ss;
+  fine = λ a b ds ss ts ls fs bs. without_two ss ls;
+  back = λ a b ds ss ts ls fs bs. ap (λ (o : Option Command). without ss (without ls (without fs o))) (no_flags (single default_depth ds) (single false ts)) ∙ without_three ss ls fs;
 }
 
 limit_two : RefusesTwo make_limit
 limit_two = record {
-  depth = λ a b ds ss ts ls fs. without_three ss ts fs;
-  step = λ a b ds ss ts ls fs. refl;
-  start = λ a b ds ss ts ls fs. without_none ss;
-  limit = λ a b ds ss ts ls fs. ap (λ (o : Option Command). without ss (without ts (without fs o))) (no_rest (single default_depth ds)) ∙ without_three ss ts fs;
-  fine = λ a b ds ss ts ls fs. without_two ss ts;
+  depth = λ a b ds ss ts ls fs bs. without_four ss ts fs bs;
+  step = λ a b ds ss ts ls fs bs. refl;
+  start = λ a b ds ss ts ls fs bs. without_none ss;
+  limit = λ a b ds ss ts ls fs bs. ap (λ (o : Option Command). without ss (without ts (without fs (without bs o)))) (no_rest (single default_depth ds)) ∙ without_four ss ts fs bs;
+  fine = λ a b ds ss ts ls fs bs. without_two ss ts;
+  back = λ a b ds ss ts ls fs bs. without_three ss ts fs;
 }
 
 fine_two : RefusesTwo make_fine
 fine_two = record {
-  depth = λ a b ds ss ts ls fs. without_three ss ts ls;
-  step = λ a b ds ss ts ls fs. refl;
-  start = λ a b ds ss ts ls fs. without_none ss;
-  limit = λ a b ds ss ts ls fs. without_two ss ts;
-  fine = λ a b ds ss ts ls fs. ap (λ (o : Option Command). without ss (without ts (without ls o))) (no_rest (single default_depth ds)) ∙ without_three ss ts ls;
+  depth = λ a b ds ss ts ls fs bs. without_four ss ts ls bs;
+  step = λ a b ds ss ts ls fs bs. refl;
+  start = λ a b ds ss ts ls fs bs. without_none ss;
+  limit = λ a b ds ss ts ls fs bs. without_two ss ts;
+  fine = λ a b ds ss ts ls fs bs. ap (λ (o : Option Command). without ss (without ts (without ls (without bs o)))) (no_rest (single default_depth ds)) ∙ without_four ss ts ls bs;
+  back = λ a b ds ss ts ls fs bs. without_three ss ts ls;
 }
 
 -- what options make of a form
-bare_of : (c : Command) (depth step : Option ℕ) (start : Bool) (limit fine : Option ℕ) → made_of (make_bare c) (options depth step start limit fine) ≡ at_bare c (options depth step start limit fine)
-bare_of c None None false None None = refl
-bare_of c None None false None (Some f) = refl
-bare_of c None None false (Some l) fine = refl
-bare_of c None None true limit fine = refl
-bare_of c None (Some m) start limit fine = refl
-bare_of c (Some n) step start limit fine = refl
+bare_of : (c : Command) (depth step : Option ℕ) (start : Bool) (limit fine : Option ℕ) (back : Bool) → made_of (make_bare c) (options depth step start limit fine back) ≡ at_bare c (options depth step start limit fine back)
+bare_of c None None false None None false = refl
+bare_of c None None false None None true = refl
+bare_of c None None false None (Some f) back = refl
+bare_of c None None false (Some l) fine back = refl
+bare_of c None None true limit fine back = refl
+bare_of c None (Some m) start limit fine back = refl
+bare_of c (Some n) step start limit fine back = refl
 
-depth_of_options : (make : ℕ → Command) (depth step : Option ℕ) (start : Bool) (limit fine : Option ℕ) → made_of (make_depth make) (options depth step start limit fine) ≡ at_depth make (options depth step start limit fine)
-depth_of_options make None None false None None = refl
-depth_of_options make (Some n) None false None None = refl
-depth_of_options make depth None false None (Some f) = refl
-depth_of_options make depth None false (Some l) fine = refl
-depth_of_options make depth None true limit fine = refl
-depth_of_options make depth (Some m) start limit fine = refl
+depth_of_options : (make : ℕ → Command) (depth step : Option ℕ) (start : Bool) (limit fine : Option ℕ) (back : Bool) → made_of (make_depth make) (options depth step start limit fine back) ≡ at_depth make (options depth step start limit fine back)
+depth_of_options make None None false None None false = refl
+depth_of_options make (Some n) None false None None false = refl
+depth_of_options make depth None false None None true = refl
+depth_of_options make depth None false None (Some f) back = refl
+depth_of_options make depth None false (Some l) fine back = refl
+depth_of_options make depth None true limit fine back = refl
+depth_of_options make depth (Some m) start limit fine back = refl
 
-step_of_options : (depth step : Option ℕ) (start : Bool) (limit fine : Option ℕ) → made_of make_step (options depth step start limit fine) ≡ at_step (options depth step start limit fine)
-step_of_options None None false None None = refl
-step_of_options None (Some m) false None None = refl
-step_of_options (Some n) None false None None = refl
-step_of_options (Some n) (Some m) false None None = refl
-step_of_options depth step false None (Some f) = refl
-step_of_options depth step false (Some l) fine = refl
-step_of_options depth step true limit fine = refl
+step_of_options : (depth step : Option ℕ) (start : Bool) (limit fine : Option ℕ) (back : Bool) → made_of make_step (options depth step start limit fine back) ≡ at_step (options depth step start limit fine back)
+step_of_options None None false None None false = refl
+step_of_options None (Some m) false None None false = refl
+step_of_options (Some n) None false None None false = refl
+step_of_options (Some n) (Some m) false None None false = refl
+step_of_options depth step false None None true = refl
+step_of_options depth step false None (Some f) back = refl
+step_of_options depth step false (Some l) fine back = refl
+step_of_options depth step true limit fine back = refl
 
-start_of_options : (make : ℕ → Bool → Command) (depth step : Option ℕ) (start : Bool) (limit fine : Option ℕ) → made_of (make_start make) (options depth step start limit fine) ≡ at_start make (options depth step start limit fine)
-start_of_options make None None false None None = refl
-start_of_options make None None true None None = refl
-start_of_options make (Some n) None false None None = refl
-start_of_options make (Some n) None true None None = refl
-start_of_options make depth None start None (Some f) = refl
-start_of_options make depth None start (Some l) fine = refl
-start_of_options make depth (Some m) start limit fine = refl
+start_of_options : (make : ℕ → Bool → Bool → Command) (depth step : Option ℕ) (start : Bool) (limit fine : Option ℕ) (back : Bool) → made_of (make_start make) (options depth step start limit fine back) ≡ at_start make (options depth step start limit fine back)
+start_of_options make None None false None None false = refl
+start_of_options make None None false None None true = refl
+start_of_options make None None true None None false = refl
+start_of_options make None None true None None true = refl
+start_of_options make (Some n) None false None None false = refl
+start_of_options make (Some n) None false None None true = refl
+start_of_options make (Some n) None true None None false = refl
+start_of_options make (Some n) None true None None true = refl
+start_of_options make depth None start None (Some f) back = refl
+start_of_options make depth None start (Some l) fine back = refl
+start_of_options make depth (Some m) start limit fine back = refl
 
-limit_of_options : (depth step : Option ℕ) (start : Bool) (limit fine : Option ℕ) → made_of make_limit (options depth step start limit fine) ≡ at_limit (options depth step start limit fine)
-limit_of_options None None false None None = refl
-limit_of_options None None false (Some l) None = refl
-limit_of_options (Some n) None false None None = refl
-limit_of_options (Some n) None false (Some l) None = refl
-limit_of_options depth None false limit (Some f) = refl
-limit_of_options depth None true limit fine = refl
-limit_of_options depth (Some m) start limit fine = refl
+limit_of_options : (depth step : Option ℕ) (start : Bool) (limit fine : Option ℕ) (back : Bool) → made_of make_limit (options depth step start limit fine back) ≡ at_limit (options depth step start limit fine back)
+limit_of_options None None false None None false = refl
+limit_of_options None None false (Some l) None false = refl
+limit_of_options (Some n) None false None None false = refl
+limit_of_options (Some n) None false (Some l) None false = refl
+limit_of_options depth None false limit None true = refl
+limit_of_options depth None false limit (Some f) back = refl
+limit_of_options depth None true limit fine back = refl
+limit_of_options depth (Some m) start limit fine back = refl
 
-fine_of_options : (depth step : Option ℕ) (start : Bool) (limit fine : Option ℕ) → made_of make_fine (options depth step start limit fine) ≡ at_fine (options depth step start limit fine)
-fine_of_options None None false None None = refl
-fine_of_options None None false None (Some f) = refl
-fine_of_options (Some n) None false None None = refl
-fine_of_options (Some n) None false None (Some f) = refl
-fine_of_options depth None false (Some l) fine = refl
-fine_of_options depth None true limit fine = refl
-fine_of_options depth (Some m) start limit fine = refl
+fine_of_options : (depth step : Option ℕ) (start : Bool) (limit fine : Option ℕ) (back : Bool) → made_of make_fine (options depth step start limit fine back) ≡ at_fine (options depth step start limit fine back)
+fine_of_options None None false None None false = refl
+fine_of_options None None false None (Some f) false = refl
+fine_of_options (Some n) None false None None false = refl
+fine_of_options (Some n) None false None (Some f) false = refl
+fine_of_options depth None false None fine true = refl
+fine_of_options depth None false (Some l) fine back = refl
+fine_of_options depth None true limit fine back = refl
+fine_of_options depth (Some m) start limit fine back = refl
 
 -- two functions that agree make the same of what there is
 same_then : (f g : Options → Option Command) (m : Option Options) →
-    ((depth step : Option ℕ) (start : Bool) (limit fine : Option ℕ) → f (options depth step start limit fine) ≡ g (options depth step start limit fine)) →
+    ((depth step : Option ℕ) (start : Bool) (limit fine : Option ℕ) (back : Bool) → f (options depth step start limit fine back) ≡ g (options depth step start limit fine back)) →
     option_and_then f m ≡ option_and_then g m
 same_then f g None same = refl
-same_then f g (Some o) same = same o.depth o.step o.start o.limit o.fine
+same_then f g (Some o) same = same o.depth o.step o.start o.limit o.fine o.readback
 
 -- a form, of the options one by one
 form_is : (make : Making) (form : Options → Option Command) → RefusesTwo make →
-    ((depth step : Option ℕ) (start : Bool) (limit fine : Option ℕ) → made_of make (options depth step start limit fine) ≡ form (options depth step start limit fine)) →
+    ((depth step : Option ℕ) (start : Bool) (limit fine : Option ℕ) (back : Bool) → made_of make (options depth step start limit fine back) ≡ form (options depth step start limit fine back)) →
     (gs : List Given) → made_from make gs ≡ option_and_then form (collected no_options gs)
-form_is make form two same gs = collected_makes make two None None false None None gs ∙ same_then (made_of make) form (collected no_options gs) same
+form_is make form two same gs = collected_makes make two None None false None None false gs ∙ same_then (made_of make) form (collected no_options gs) same
 
 -- a command that takes no option is nothing with one
 not_bare : (c : Command) (given : Given) (gs : List Given) → made_from (make_bare c) (given ∷ gs) ≡ None
@@ -235,6 +292,7 @@ not_bare c (given_step n) gs = without_none (depths gs)
 not_bare c given_start gs = without_two (depths gs) (steps gs)
 not_bare c (given_limit n) gs = without_three (depths gs) (steps gs) (starts gs)
 not_bare c (given_fine n) gs = without_four (depths gs) (steps gs) (starts gs) (limits gs)
+not_bare c given_readback gs = without_five (depths gs) (steps gs) (starts gs) (limits gs) (fines gs)
 
 bare_is : (c : Command) (gs : List Given) → bare c gs ≡ option_and_then (at_bare c) (collected no_options gs)
 bare_is c [] = refl
@@ -246,7 +304,7 @@ depth_is make gs = form_is (make_depth make) (at_depth make) (depth_two make) (d
 step_is : (gs : List Given) → with_step gs ≡ option_and_then at_step (collected no_options gs)
 step_is gs = form_is make_step at_step step_two step_of_options gs
 
-start_is : (make : ℕ → Bool → Command) (gs : List Given) → with_start make gs ≡ option_and_then (at_start make) (collected no_options gs)
+start_is : (make : ℕ → Bool → Bool → Command) (gs : List Given) → with_start make gs ≡ option_and_then (at_start make) (collected no_options gs)
 start_is make gs = form_is (make_start make) (at_start make) (start_two make) (start_of_options make) gs
 
 limit_is : (gs : List Given) → with_limit gs ≡ option_and_then at_limit (collected no_options gs)

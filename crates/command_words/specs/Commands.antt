@@ -1,5 +1,5 @@
 -- The words of the command line, and what they ask for.
-use Rattle.std.specs.Prelude.{◌≡◌, ◌↔◌, ℕ, ◌≤◌, Bool, true, false, ◌&&◌, List, [], ◌∷◌, ◌++◌, length, nat_le, bytes_eq, codes, Option, Some, None, IfSome, if◌then◌else◌}
+use Rattle.std.specs.Prelude.{◌≡◌, ◌↔◌, ℕ, ◌≤◌, Bool, true, false, ◌&&◌, List, [], ◌∷◌, ◌++◌, length, is_some, nat_le, bytes_eq, codes, Option, Some, None, IfSome, if◌then◌else◌}
 use Rattle.std.specs.Option.{option_map, option_and_then}
 use Rattle.text_lines.specs.Numbers.{natural_of}
 use Rattle.command_words.specs.declared.command.Command.{Command}
@@ -72,6 +72,7 @@ pub data Given : Type 0 where
   given_start : Given
   given_limit : ℕ → Given
   given_fine : ℕ → Given
+  given_readback : Given
 
 -- an option of two words
 abbrev pub valued : List ℕ → List ℕ → Option Given
@@ -81,6 +82,12 @@ valued word value =
     else (if bytes_eq word (codes "--limit") then option_map given_limit (limit_of value)
     else (if bytes_eq word (codes "--fine") then option_map given_fine (fine_of value) else None)))
 
+-- an option of one word
+abbrev pub alone : List ℕ → Option Given
+alone word =
+    if bytes_eq word (codes "--start") then Some given_start
+    else (if bytes_eq word (codes "--readback") then Some given_readback else None)
+
 -- one option before others, where all of them are options
 abbrev pub before : Option Given → Option (List Given) → Option (List Given)
 before None rest = None
@@ -89,9 +96,9 @@ before (Some given) rest = option_map (λ (gs : List Given). given ∷ gs) rest
 -- The options that words are, in their order; None where some word has no place among them.
 abbrev pub options_of : List (List ℕ) → Option (List Given)
 options_of [] = Some []
-options_of (word ∷ []) = if bytes_eq word (codes "--start") then Some (given_start ∷ []) else None
+options_of (word ∷ []) = before (alone word) (Some [])
 options_of (word ∷ value ∷ words) =
-    if bytes_eq word (codes "--start") then before (Some given_start) (options_of (value ∷ words))
+    if is_some (alone word) then before (alone word) (options_of (value ∷ words))
     else before (valued word value) (options_of words)
 
 -- ---- which options a command takes, each at most once, in any order
@@ -103,6 +110,7 @@ depths (given_step n ∷ gs) = depths gs
 depths (given_start ∷ gs) = depths gs
 depths (given_limit n ∷ gs) = depths gs
 depths (given_fine n ∷ gs) = depths gs
+depths (given_readback ∷ gs) = depths gs
 
 abbrev pub steps : List Given → List ℕ
 steps [] = []
@@ -111,6 +119,7 @@ steps (given_step n ∷ gs) = n ∷ steps gs
 steps (given_start ∷ gs) = steps gs
 steps (given_limit n ∷ gs) = steps gs
 steps (given_fine n ∷ gs) = steps gs
+steps (given_readback ∷ gs) = steps gs
 
 abbrev pub starts : List Given → List Bool
 starts [] = []
@@ -119,6 +128,7 @@ starts (given_step n ∷ gs) = starts gs
 starts (given_start ∷ gs) = true ∷ starts gs
 starts (given_limit n ∷ gs) = starts gs
 starts (given_fine n ∷ gs) = starts gs
+starts (given_readback ∷ gs) = starts gs
 
 abbrev pub limits : List Given → List ℕ
 limits [] = []
@@ -127,6 +137,7 @@ limits (given_step n ∷ gs) = limits gs
 limits (given_start ∷ gs) = limits gs
 limits (given_limit n ∷ gs) = n ∷ limits gs
 limits (given_fine n ∷ gs) = limits gs
+limits (given_readback ∷ gs) = limits gs
 
 abbrev pub fines : List Given → List ℕ
 fines [] = []
@@ -135,6 +146,16 @@ fines (given_step n ∷ gs) = fines gs
 fines (given_start ∷ gs) = fines gs
 fines (given_limit n ∷ gs) = fines gs
 fines (given_fine n ∷ gs) = n ∷ fines gs
+fines (given_readback ∷ gs) = fines gs
+
+abbrev pub readbacks : List Given → List Bool
+readbacks [] = []
+readbacks (given_depth n ∷ gs) = readbacks gs
+readbacks (given_step n ∷ gs) = readbacks gs
+readbacks (given_start ∷ gs) = readbacks gs
+readbacks (given_limit n ∷ gs) = readbacks gs
+readbacks (given_fine n ∷ gs) = readbacks gs
+readbacks (given_readback ∷ gs) = true ∷ readbacks gs
 
 -- the one that is given, or the default; None where it is given twice
 abbrev pub single : {A : Type 0} → A → List A → Option A
@@ -153,39 +174,39 @@ abbrev pub without : {A B : Type 0} → List A → Option B → Option B
 without [] b = b
 without (a ∷ rest) b = None
 
--- a command that takes no option, `--depth`, `--depth` and `--step`, `--depth` and `--start`, `--depth` and `--limit`, `--depth` and
+-- a command that takes no option, `--depth`, `--depth` and `--step`, `--depth`, `--start` and `--readback`, `--depth` and `--limit`, `--depth` and
 -- `--fine`
 abbrev pub bare : Command → List Given → Option Command
 bare c gs = without gs (Some c)
 
 abbrev pub with_depth : (ℕ → Command) → List Given → Option Command
 with_depth make gs =
-    without (steps gs) (without (starts gs) (without (limits gs) (without (fines gs)
-    (option_map make (single default_depth (depths gs))))))
+    without (steps gs) (without (starts gs) (without (limits gs) (without (fines gs) (without (readbacks gs)
+    (option_map make (single default_depth (depths gs)))))))
 
 abbrev pub with_step : List Given → Option Command
 with_step gs =
-    without (starts gs) (without (limits gs) (without (fines gs) (option_and_then
+    without (starts gs) (without (limits gs) (without (fines gs) (without (readbacks gs) (option_and_then
     (λ (depth : ℕ). option_map (λ (step : ℕ). Play depth step) (single default_step (steps gs)))
-    (single default_depth (depths gs)))))
+    (single default_depth (depths gs))))))
 
-abbrev pub with_start : (ℕ → Bool → Command) → List Given → Option Command
+abbrev pub with_start : (ℕ → Bool → Bool → Command) → List Given → Option Command
 with_start make gs =
     without (steps gs) (without (limits gs) (without (fines gs) (option_and_then
-    (λ (depth : ℕ). option_map (λ (start : Bool). make depth start) (single false (starts gs)))
+    (λ (depth : ℕ). option_and_then (λ (start : Bool). option_map (λ (readback : Bool). make depth start readback) (single false (readbacks gs))) (single false (starts gs)))
     (single default_depth (depths gs)))))
 
 abbrev pub with_limit : List Given → Option Command
 with_limit gs =
-    without (steps gs) (without (starts gs) (without (fines gs) (option_and_then
+    without (steps gs) (without (starts gs) (without (fines gs) (without (readbacks gs) (option_and_then
     (λ (depth : ℕ). option_map (λ (limit : Option ℕ). Speed depth limit) (optional (limits gs)))
-    (single default_depth (depths gs)))))
+    (single default_depth (depths gs))))))
 
 abbrev pub with_fine : List Given → Option Command
 with_fine gs =
-    without (steps gs) (without (starts gs) (without (limits gs) (option_and_then
+    without (steps gs) (without (starts gs) (without (limits gs) (without (readbacks gs) (option_and_then
     (λ (depth : ℕ). option_map (λ (fine : ℕ). Explain depth fine) (single default_fine (fines gs)))
-    (single default_depth (depths gs)))))
+    (single default_depth (depths gs))))))
 
 -- the command of a name with these options
 abbrev pub named : List ℕ → List Given → Option Command
@@ -229,8 +250,8 @@ IsCommand (Certify depth) = depth ≤ most_depth
 IsCommand (Play depth step) = (depth ≤ most_depth) × (1 ≤ step) × (step ≤ most_step)
 IsCommand (Report depth) = depth ≤ most_depth
 IsCommand Verify = Unit {0}
-IsCommand (Rehearse depth start) = depth ≤ most_depth
-IsCommand (Upload depth start) = depth ≤ most_depth
+IsCommand (Rehearse depth start readback) = depth ≤ most_depth
+IsCommand (Upload depth start readback) = depth ≤ most_depth
 IsCommand (Drill drones depth) = (1 ≤ drones) × (drones ≤ most_drill) × (depth ≤ most_depth)
 IsCommand (Boxes depth) = depth ≤ most_depth
 IsCommand (Speed depth limit) = (depth ≤ most_depth) × IfSome limit (λ v. (1 ≤ v) × (v ≤ most_limit))
@@ -245,6 +266,7 @@ SpellsOption (given_depth n) words =
 SpellsOption (given_step n) words =
     (value : List ℕ) × (words ≡ codes "--step" ∷ value ∷ []) × (step_of value ≡ Some n)
 SpellsOption given_start words = words ≡ codes "--start" ∷ []
+SpellsOption given_readback words = words ≡ codes "--readback" ∷ []
 SpellsOption (given_limit n) words =
     (value : List ℕ) × (words ≡ codes "--limit" ∷ value ∷ []) × (limit_of value ≡ Some n)
 SpellsOption (given_fine n) words =
@@ -265,5 +287,5 @@ abbrev pub help_text : List ℕ
 help_text =
     codes "help\ncheck [--depth D]\ncompile [--depth D]\ncertify [--depth D]\n"
     ++ codes "play [--depth D] [--step MS]\nreport [--depth D]\nverify\n"
-    ++ codes "rehearse [--depth D] [--start]\nupload [--depth D] [--start]\ndrill N [--depth D]\n"
+    ++ codes "rehearse [--depth D] [--start] [--readback]\nupload [--depth D] [--start] [--readback]\ndrill N [--depth D]\n"
     ++ codes "boxes [--depth D]\nspeed [--depth D] [--limit V]\nexplain [--depth D] [--fine E]\n"

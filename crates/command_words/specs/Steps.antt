@@ -3,29 +3,32 @@ use Rattle.std.specs.Prelude.{ℕ, ◌≤◌, Bool, true, false, not, ◌||◌, 
 use Rattle.command_words.specs.declared.command.Command.{Command}
 use Rattle.command_words.specs.declared.command.Command.TheVariants.{Help, Check, Compile, Certify, Play, Report, Verify, Rehearse, Upload, Boxes, Speed, Explain}
 use Rattle.command_words.specs.declared.options.Options.{Options}
-use Rattle.command_words.specs.Commands.{Given, given_depth, given_step, given_start, given_limit, given_fine, options_of, default_depth, default_fine, most_depth, most_fine, default_step, most_limit, most_step}
+use Rattle.command_words.specs.Commands.{Given, given_depth, given_step, given_start, given_limit, given_fine, given_readback, options_of, default_depth, default_fine, most_depth, most_fine, default_step, most_limit, most_step}
 
 -- nothing is given
 abbrev pub no_options : Options
-no_options = record { depth = None; step = None; start = false; limit = None; fine = None }
+no_options = record { depth = None; step = None; start = false; limit = None; fine = None; readback = false }
 
 -- one option more; None where it is there already
 abbrev pub noted : Options → Given → Option Options
 noted o (given_depth n) =
     if is_some o.depth then None
-    else Some (record { depth = Some n; step = o.step; start = o.start; limit = o.limit; fine = o.fine })
+    else Some (record { depth = Some n; step = o.step; start = o.start; limit = o.limit; fine = o.fine; readback = o.readback })
 noted o (given_step n) =
     if is_some o.step then None
-    else Some (record { depth = o.depth; step = Some n; start = o.start; limit = o.limit; fine = o.fine })
+    else Some (record { depth = o.depth; step = Some n; start = o.start; limit = o.limit; fine = o.fine; readback = o.readback })
 noted o given_start =
     if o.start then None
-    else Some (record { depth = o.depth; step = o.step; start = true; limit = o.limit; fine = o.fine })
+    else Some (record { depth = o.depth; step = o.step; start = true; limit = o.limit; fine = o.fine; readback = o.readback })
 noted o (given_limit n) =
     if is_some o.limit then None
-    else Some (record { depth = o.depth; step = o.step; start = o.start; limit = Some n; fine = o.fine })
+    else Some (record { depth = o.depth; step = o.step; start = o.start; limit = Some n; fine = o.fine; readback = o.readback })
 noted o (given_fine n) =
     if is_some o.fine then None
-    else Some (record { depth = o.depth; step = o.step; start = o.start; limit = o.limit; fine = Some n })
+    else Some (record { depth = o.depth; step = o.step; start = o.start; limit = o.limit; fine = Some n; readback = o.readback })
+noted o given_readback =
+    if o.readback then None
+    else Some (record { depth = o.depth; step = o.step; start = o.start; limit = o.limit; fine = o.fine; readback = true })
 
 -- more options, in their order
 abbrev pub collected : Options → List Given → Option Options
@@ -48,12 +51,12 @@ pub record AreInRange (o : Options) : Type 0 where
 
 -- no option is given
 abbrev pub is_bare : Options → Bool
-is_bare o = not (is_some o.depth || (is_some o.step || (o.start || (is_some o.limit || is_some o.fine))))
+is_bare o = not (is_some o.depth || (is_some o.step || (o.start || (is_some o.limit || (is_some o.fine || o.readback)))))
 
 -- the depth, where no other option is given
 abbrev pub depth_alone : Options → Option ℕ
 depth_alone o =
-    if is_some o.step || (o.start || (is_some o.limit || is_some o.fine)) then None
+    if is_some o.step || (o.start || (is_some o.limit || (is_some o.fine || o.readback))) then None
     else Some (unwrap_or o.depth default_depth)
 
 -- a command that takes no option
@@ -67,25 +70,25 @@ at_depth make o = option_map make (depth_alone o)
 -- the command that takes a depth and a step
 abbrev pub at_step : Options → Option Command
 at_step o =
-    if o.start || (is_some o.limit || is_some o.fine) then None
+    if o.start || (is_some o.limit || (is_some o.fine || o.readback)) then None
     else Some (Play (unwrap_or o.depth default_depth) (unwrap_or o.step default_step))
 
--- a command that takes a depth and starts
-abbrev pub at_start : (ℕ → Bool → Command) → Options → Option Command
+-- a command that takes a depth, starts and read-back
+abbrev pub at_start : (ℕ → Bool → Bool → Command) → Options → Option Command
 at_start make o =
     if is_some o.step || (is_some o.limit || is_some o.fine) then None
-    else Some (make (unwrap_or o.depth default_depth) o.start)
+    else Some (make (unwrap_or o.depth default_depth) o.start o.readback)
 
 -- the command that takes a depth and a limit
 abbrev pub at_limit : Options → Option Command
 at_limit o =
-    if is_some o.step || (o.start || is_some o.fine) then None
+    if is_some o.step || (o.start || (is_some o.fine || o.readback)) then None
     else Some (Speed (unwrap_or o.depth default_depth) o.limit)
 
 -- the command that takes a depth and how finely cues are listed
 abbrev pub at_fine : Options → Option Command
 at_fine o =
-    if is_some o.step || (o.start || is_some o.limit) then None
+    if is_some o.step || (o.start || (is_some o.limit || o.readback)) then None
     else Some (Explain (unwrap_or o.depth default_depth) (unwrap_or o.fine default_fine))
 
 -- the command of this name that studies a show, with these options

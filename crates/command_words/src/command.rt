@@ -6,7 +6,7 @@ ghost use Rattle.command_words.specs.Steps.{AreInRange, named_with, study_with};
 use crate::options::{Options, number_from, options_of};
 
 /// What the program is asked for. `depth` says into how small parts a cue is cut: at most into 2^depth, 0 to 8.
-/// `start` says whether the drones are started. The forms are those of [`help_text`].
+/// `start` says whether the drones are started, `readback` whether the memories are read back before that. The forms are those of [`help_text`].
 #[derive(Clone, Copy, Debug, PartialEq, Eq)]
 pub enum Command {
     /// The forms of the commands.
@@ -24,9 +24,17 @@ pub enum Command {
     /// Whether a certificate is valid for a show.
     Verify,
     /// What an upload of such a show leaves in drones after a schedule.
-    Rehearse { depth: u8, start: bool },
+    Rehearse {
+        depth: u8,
+        start: bool,
+        readback: bool,
+    },
     /// An upload of such a show through link frames.
-    Upload { depth: u8, start: bool },
+    Upload {
+        depth: u8,
+        start: bool,
+        readback: bool,
+    },
     /// The numbers of the drill's show of so many drones, 1 to 32.
     Drill { drones: u8, depth: u8 },
     /// Whether its drones keep out of the boxes and in the volumes of a text of regions.
@@ -87,11 +95,19 @@ fn named(name: &[u8], options: Options) -> Option<Command>
     } else if name == b"verify".as_slice() {
         options.is_bare().then_some(Command::Verify)
     } else if name == b"rehearse".as_slice() {
-        let (depth, start) = options.depth_and_start()?;
-        Some(Command::Rehearse { depth, start })
+        let (depth, start, readback) = options.depth_and_flags()?;
+        Some(Command::Rehearse {
+            depth,
+            start,
+            readback,
+        })
     } else if name == b"upload".as_slice() {
-        let (depth, start) = options.depth_and_start()?;
-        Some(Command::Upload { depth, start })
+        let (depth, start, readback) = options.depth_and_flags()?;
+        Some(Command::Upload {
+            depth,
+            start,
+            readback,
+        })
     } else {
         study(name, options)
     }
@@ -133,8 +149,8 @@ pub fn help_text() -> &'static [u8]
       play [--depth D] [--step MS]\n\
       report [--depth D]\n\
       verify\n\
-      rehearse [--depth D] [--start]\n\
-      upload [--depth D] [--start]\n\
+      rehearse [--depth D] [--start] [--readback]\n\
+      upload [--depth D] [--start] [--readback]\n\
       drill N [--depth D]\n\
       boxes [--depth D]\n\
       speed [--depth D] [--limit V]\n\

@@ -2,7 +2,7 @@
 ghost use Rattle.std.specs.Prelude.{◌≡◌, ℕ, ◌≤◌, Bool, map, string_bytes, IfSome, option_map, option_and_then};
 ghost use Rattle.command_words.specs.declared.command.Command.{Command};
 ghost use Rattle.command_words.specs.declared.command.Command.TheVariants.{Explain, Play, Speed};
-ghost use Rattle.command_words.specs.Commands.{IsCommand, depth_of, given_depth, fine_of, given_fine, given_limit, given_start, given_step, limit_of, most_depth, most_fine, most_limit, most_step, number_from, step_of, valued};
+ghost use Rattle.command_words.specs.Commands.{IsCommand, depth_of, given_depth, fine_of, given_fine, given_limit, given_readback, given_start, given_step, limit_of, most_depth, most_fine, most_limit, most_step, number_from, step_of, valued};
 ghost use Rattle.command_words.specs.Steps.{AreInRange, at_fine, at_limit, at_start, at_step, continued, depth_alone, is_bare, no_options, noted};
 
 use text_lines::natural;
@@ -57,6 +57,8 @@ pub struct Options {
     pub limit: Option<u32>,
     /// At most 5.
     pub fine: Option<u8>,
+    /// The memories are read back.
+    pub readback: bool,
 }
 
 impl Options {
@@ -70,6 +72,7 @@ impl Options {
             start: false,
             limit: None,
             fine: None,
+            readback: false,
         }
     }
 
@@ -171,6 +174,21 @@ impl Options {
         })
     }
 
+    // Read-back more, unless it is there.
+    fn with_readback(self) -> Option<Options>
+        requires { AreInRange self }
+        ensures value { result ≡ noted self given_readback }
+        ensures range { IfSome result AreInRange }
+    {
+        if self.readback {
+            return None;
+        }
+        Some(Options {
+            readback: true,
+            ..self
+        })
+    }
+
     /// No option is given.
     pub fn is_bare(self) -> bool
         ensures { result ≡ is_bare self }
@@ -180,6 +198,7 @@ impl Options {
             && !self.start
             && self.limit.is_none()
             && self.fine.is_none()
+            && !self.readback
     }
 
     /// The depth, where no other option is given.
@@ -188,7 +207,12 @@ impl Options {
         ensures value { result ≡ depth_alone self }
         ensures most { IfSome result (λ depth. depth ≤ most_depth) }
     {
-        if self.step.is_some() || self.start || self.limit.is_some() || self.fine.is_some() {
+        if self.step.is_some()
+            || self.start
+            || self.limit.is_some()
+            || self.fine.is_some()
+            || self.readback
+        {
             return None;
         }
         Some(self.depth.unwrap_or(DEFAULT_DEPTH))
@@ -200,7 +224,7 @@ impl Options {
         ensures value { option_map (λ given. Play given.0 given.1) result ≡ at_step self }
         ensures range { IfSome result (λ given. IsCommand (Play given.0 given.1)) }
     {
-        if self.start || self.limit.is_some() || self.fine.is_some() {
+        if self.start || self.limit.is_some() || self.fine.is_some() || self.readback {
             return None;
         }
         Some((
@@ -209,17 +233,21 @@ impl Options {
         ))
     }
 
-    /// The depth and whether a start is given, where no other option is given.
-    pub fn depth_and_start(self) -> Option<(u8, bool)>
+    /// The depth, whether a start is given and whether read-back is, where no other option is given.
+    pub fn depth_and_flags(self) -> Option<(u8, bool, bool)>
         requires { AreInRange self }
-        ensures value { (make : ℕ → Bool → Command) →
-            option_map (λ given. make given.0 given.1) result ≡ at_start make self }
+        ensures value { (make : ℕ → Bool → Bool → Command) →
+            option_map (λ given. make given.0 given.1 given.2) result ≡ at_start make self }
         ensures most { IfSome result (λ given. given.0 ≤ most_depth) }
     {
         if self.step.is_some() || self.limit.is_some() || self.fine.is_some() {
             return None;
         }
-        Some((self.depth.unwrap_or(DEFAULT_DEPTH), self.start))
+        Some((
+            self.depth.unwrap_or(DEFAULT_DEPTH),
+            self.start,
+            self.readback,
+        ))
     }
 
     /// The depth and the limit, if there is one, where no other option is given.
@@ -228,7 +256,7 @@ impl Options {
         ensures value { option_map (λ given. Speed given.0 given.1) result ≡ at_limit self }
         ensures range { IfSome result (λ given. IsCommand (Speed given.0 given.1)) }
     {
-        if self.step.is_some() || self.start || self.fine.is_some() {
+        if self.step.is_some() || self.start || self.fine.is_some() || self.readback {
             return None;
         }
         Some((self.depth.unwrap_or(DEFAULT_DEPTH), self.limit))
@@ -240,7 +268,7 @@ impl Options {
         ensures value { option_map (λ given. Explain given.0 given.1) result ≡ at_fine self }
         ensures range { IfSome result (λ given. IsCommand (Explain given.0 given.1)) }
     {
-        if self.step.is_some() || self.start || self.limit.is_some() {
+        if self.step.is_some() || self.start || self.limit.is_some() || self.readback {
             return None;
         }
         Some((
@@ -260,6 +288,9 @@ pub fn options_of(words: &[String]) -> Option<Options>
     while let Some((word, after)) = rest.split_first() {
         if word.as_bytes() == b"--start".as_slice() {
             options = options.with_start()?;
+            rest = after;
+        } else if word.as_bytes() == b"--readback".as_slice() {
+            options = options.with_readback()?;
             rest = after;
         } else {
             let (value, after) = after.split_first()?;

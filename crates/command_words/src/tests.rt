@@ -56,6 +56,7 @@ const COMMANDS: [(&str, Command); 33] = [
         Command::Rehearse {
             depth: 6,
             start: false,
+            readback: false,
         },
     ),
     (
@@ -63,6 +64,7 @@ const COMMANDS: [(&str, Command); 33] = [
         Command::Rehearse {
             depth: 3,
             start: true,
+            readback: false,
         },
     ),
     (
@@ -70,6 +72,7 @@ const COMMANDS: [(&str, Command); 33] = [
         Command::Rehearse {
             depth: 3,
             start: true,
+            readback: false,
         },
     ),
     (
@@ -77,6 +80,7 @@ const COMMANDS: [(&str, Command); 33] = [
         Command::Upload {
             depth: 6,
             start: true,
+            readback: false,
         },
     ),
     (
@@ -84,6 +88,7 @@ const COMMANDS: [(&str, Command); 33] = [
         Command::Upload {
             depth: 7,
             start: false,
+            readback: false,
         },
     ),
     (
@@ -91,6 +96,7 @@ const COMMANDS: [(&str, Command); 33] = [
         Command::Upload {
             depth: 7,
             start: true,
+            readback: false,
         },
     ),
     (
@@ -252,8 +258,8 @@ fn the_forms_of_the_commands(rt: HostRuntime) {
         b"play [--depth D] [--step MS]",
         b"report [--depth D]",
         b"verify",
-        b"rehearse [--depth D] [--start]",
-        b"upload [--depth D] [--start]",
+        b"rehearse [--depth D] [--start] [--readback]",
+        b"upload [--depth D] [--start] [--readback]",
         b"drill N [--depth D]",
         b"boxes [--depth D]",
         b"speed [--depth D] [--limit V]",
