@@ -2,7 +2,7 @@
 -- docs/COMMANDS.md says what to do at each.
 use Rattle.std.specs.Prelude.{ℕ, ◌+◌, ◌^◌, ℤ, List, [], ◌∷◌, ◌++◌, codes, decimal}
 use Rattle.std.specs.Fmt.{signed_decimal}
-use Rattle.fleet_io.specs.Words.{line}
+use Rattle.fleet_io.specs.Words.{hex_word, line}
 use Rattle.choreo_lines.specs.declared.line.LineKind.{LineKind}
 use Rattle.cue_grid.specs.declared.grid.GridFault.{GridFault}
 use Rattle.cue_grid.specs.Faults.{line_of}
@@ -68,6 +68,11 @@ gave_up_line name packet = refusal (codes "9") (codes "drone" ∷ name ∷ codes
 abbrev pub refused_line : List ℕ → ℕ → ℕ → List ℕ
 refused_line name packet status =
     refusal (codes "10") (codes "drone" ∷ name ∷ codes "packet" ∷ decimal (packet + 1) ∷ codes "status" ∷ decimal status ∷ [])
+
+-- a byte that was read back from a drone's memory differs from the load's
+abbrev pub differs_line : List ℕ → ℕ → ℕ → ℕ → List ℕ
+differs_line name address wanted got =
+    refusal (codes "14") (codes "drone" ∷ name ∷ codes "address" ∷ decimal address ∷ codes "wanted" ∷ hex_word wanted ∷ codes "got" ∷ hex_word got ∷ [])
 
 -- ---- two drones in a cue
 

@@ -5,7 +5,7 @@ ghost use Rattle.refusals.specs.Refusals.{IsSayable, line_of, status_of};
 
 use crate::pairs::{blocked_line, fails_line, missing_line, too_deep_line};
 use crate::singles::{
-    ended_line, extra_line, faulty_line, gave_up_line, grid_line, range_line, read_line,
+    differs_line, ended_line, extra_line, faulty_line, gave_up_line, grid_line, range_line, read_line,
     refused_line, room_line, second_line, second_too_large_line, segments_line, too_large_line,
     usage_line,
 };
@@ -78,6 +78,13 @@ pub enum Refusal {
         packet: u16,
         status: u8,
     },
+    /// A byte that was read back from a drone's memory differs from the load's; the address is that in the memory.
+    Differs {
+        drone: Name,
+        address: u32,
+        wanted: u8,
+        got: u8,
+    },
     /// A faulty line of the second text, or a marker line where none may stand.
     SecondLine {
         line: u32,
@@ -139,6 +146,7 @@ impl Refusal {
             Refusal::Ended => 8,
             Refusal::GaveUp { .. } => 9,
             Refusal::Refused { .. } => 10,
+            Refusal::Differs { .. } => 14,
             Refusal::SecondLine { .. } | Refusal::SecondTooLarge => 11,
             Refusal::Missing { .. }
             | Refusal::Extra { .. }
@@ -171,6 +179,12 @@ impl Refusal {
                 packet,
                 status,
             } => refused_line(drone, *packet, *status),
+            Refusal::Differs {
+                drone,
+                address,
+                wanted,
+                got,
+            } => differs_line(drone, *address, *wanted, *got),
             Refusal::SecondLine { line } => second_line(*line),
             Refusal::SecondTooLarge => second_too_large_line(),
             Refusal::Missing { pair } => missing_line(pair),

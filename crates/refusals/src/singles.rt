@@ -1,10 +1,10 @@
 //! Lines on the command, a show, an upload, or a text as a whole.
 
 ghost use Rattle.std.specs.Prelude.{◌≡◌, ◌≢◌, ◌≤◌, ◌<◌, ◌^◌, [], ◌∷◌, length};
-ghost use Rattle.fleet_io.specs.Words.{IsWord};
+ghost use Rattle.fleet_io.specs.Words.{IsWord, hex_digit, hex_word};
 ghost use Rattle.sep_parts.specs.Versions.{IsVersion, head_count};
 ghost use Rattle.cue_grid.specs.declared.grid.GridFault.TheVariants.{Memory};
-ghost use Rattle.refusals.specs.Lines.{refusal, usage_line, too_large_line, show_line, faulty_line, grid_line, range_line, room_line, read_line, ended_line, gave_up_line, refused_line, second_line, second_too_large_line, segments_line, extra_line};
+ghost use Rattle.refusals.specs.Lines.{refusal, usage_line, too_large_line, show_line, faulty_line, grid_line, range_line, room_line, read_line, ended_line, gave_up_line, refused_line, differs_line, second_line, second_too_large_line, segments_line, extra_line};
 
 use crate::builder::begin;
 use crate::kinds::{axis_word, kind_word, line_and_word};
@@ -144,6 +144,39 @@ pub(crate) fn refused_line(name: &Name, packet: u16, status: u8) -> ShortLine
     text.number(u32::from(packet) + 1);
     text.word(b"status");
     text.number(u32::from(status));
+    text.end();
+    text
+}
+
+// An upper-case hexadecimal digit.
+fn hex_digit(n: u8) -> u8
+    requires { n < 16 }
+    ensures { result ≡ hex_digit n }
+{
+    if n < 10 { b'0' + n } else { b'A' - 10 + n }
+}
+
+// A byte in two digits.
+fn hex_word(byte: u8) -> [u8; 2]
+    ensures { result ≡ hex_word byte }
+{
+    [hex_digit(byte / 16), hex_digit(byte % 16)]
+}
+
+// `error 14 drone NAME address A wanted HH got HH`: a byte of a drone's memory differs from the load's.
+pub(crate) fn differs_line(name: &Name, address: u32, wanted: u8, got: u8) -> ShortLine
+    requires { IsWord name.now.items }
+    ensures { result ≡ differs_line name.now.items address wanted got }
+{
+    let mut text = begin(b"14");
+    text.word(b"drone");
+    text.word(name.as_slice());
+    text.word(b"address");
+    text.number(address);
+    text.word(b"wanted");
+    text.word(&hex_word(wanted));
+    text.word(b"got");
+    text.word(&hex_word(got));
     text.end();
     text
 }

@@ -132,6 +132,31 @@ fn uploads(rt: HostRuntime) {
 }
 
 #[test]
+fn bytes_that_differ(rt: HostRuntime) {
+    let low = Refusal::Differs {
+        drone: named(b"solo"),
+        address: 3,
+        wanted: 0,
+        got: 7,
+    };
+    assert_eq!(rt;
+        low.line().bytes(),
+        b"error 14 drone solo address 3 wanted 00 got 07\n".as_slice()
+    );
+    assert_eq!(rt; low.status(), 14);
+    let high = Refusal::Differs {
+        drone: named(b"abcdefghijklmnop"),
+        address: 4_095,
+        wanted: 255,
+        got: 175,
+    };
+    assert_eq!(rt;
+        high.line().bytes(),
+        b"error 14 drone abcdefghijklmnop address 4095 wanted FF got AF\n".as_slice()
+    );
+}
+
+#[test]
 fn certificates(rt: HostRuntime) {
     let line = Refusal::SecondLine { line: 6 };
     assert_eq!(rt; line.line().bytes(), b"error 11 line 6\n".as_slice());
