@@ -13,6 +13,7 @@ use Rattle.link_frames.specs.Frames.{end_frame}
 use Rattle.link_upload.specs.Sends.{events_in, sent_over}
 use Rattle.link_upload.specs.Uploads.{EndsWith, UploadGives, UploadLaw, frame_limit}
 use Rattle.fleet_world.specs.Schedules.{schedule_of}
+use Rattle.readback_core.specs.CarefulSchedules.{careful_schedule_of}
 use Rattle.rehearsal.specs.Rehearsed.{rehearsed}
 use Rattle.fleet_curves.specs.Raised.{raised_of}
 use Rattle.sep_parts.specs.Versions.{known_in, table_of}
@@ -37,8 +38,9 @@ use Rattle.show_cli.specs.Outcome.{CertificateGives, Gives, IsOutcomeOf, Outcome
 use Rattle.show_cli.specs.Refused.{faulty_event, second_refusal, show_refusal, text_refusal}
 use Rattle.show_cli.specs.Studies.{faulty_region, region_limit, speed_text, too_fast}
 use Rattle.show_cli.proofs.StudyLemmas.{judge_one, regions_given_one}
+use Rattle.show_cli.proofs.CarefulLemmas.{careful_done, no_careful_fault}
 use Rattle.show_cli.proofs.TextLemmas.{none_said, stands_unrefused}
-use Rattle.show_cli.specs.Shows.{Cut, certificate_limit, names_of, schedule_limit, sent_of, session_of, trajectories_of, words_of}
+use Rattle.show_cli.specs.Shows.{Cut, certificate_limit, link_in, names_of, schedule_limit, sent_of, session_of, trajectories_of, words_of}
 
 status_is : (o p : Outcome) → o ≡ p → p.status ≡ 0 → o.status ≡ 0
 status_is o p same done = ap (λ (q : Outcome). q.status) same ∙ done
@@ -89,13 +91,13 @@ no_faulty given events cut is none = rw is none
 
 -- ---- `upload`
 
-upload_done : UploadLaw → (s : PlainShow) (start : Bool) (cut : Cut) (depth : ℕ) (o : Outcome) → Gives (Upload depth start) s cut o → Succeeds (Upload depth start) s cut → o.status ≡ 0
-upload_done law s start cut depth o gives (frames, rest, takes, done) =
-    let session = session_of s start in
-    let ends : EndsWith (progress session (events_in session frames)) (length frames == frame_limit) rest 0 = rw done refl in
-    let wanted : UploadGives session cut.frames 0 (sent_over session (events_in session frames) ++ end_frame 0) =
+upload_done : UploadLaw → (s : PlainShow) (start readback : Bool) (cut : Cut) (depth : ℕ) (o : Outcome) → Gives (Upload depth start readback) s cut o → Succeeds (Upload depth start readback) s cut → o.status ≡ 0
+upload_done law s start readback cut depth o gives (frames, rest, takes, done) =
+    let link = link_in s start readback in
+    let ends : EndsWith (link.ended (events_in link frames)) (length frames == frame_limit) rest 0 = rw done refl in
+    let wanted : UploadGives link cut.frames 0 (sent_over link (events_in link frames) ++ end_frame 0) =
     record { frames = frames; rest = rest; takes = takes; ends = ends; sends = refl } in
-    (law.one session cut.frames o.status 0 o.output _ gives wanted).0
+    (law.one link cut.frames o.status 0 o.output _ gives wanted).0
 
 -- ---- `boxes`
 
@@ -125,10 +127,13 @@ given_done text law upload (Report depth) s cut o gives succeeds = status_is o _
 given_done text law upload Verify s cut o gives (c, none, says, valid) =
     certificate_done text law (second_refusal certificate_limit (bad_line (lines cut.second)) cut) s cut o none gives c says
     ((law.exact (table_of c.version) (raised_of (trajectories_of s)) s.settings.r s.settings.h c (says_whole c cut.second says)).1 valid)
-given_done text law upload (Rehearse depth start) s cut o gives (events, none, is, done) =
+given_done text law upload (Rehearse depth start true) s cut o gives (events, none, is, done) =
+    careful_done (second_refusal schedule_limit (faulty_event (careful_schedule_of (words_of s) cut.second)) cut) s start cut o events
+    (no_careful_fault (careful_schedule_of (words_of s) cut.second) events cut is none) gives is done
+given_done text law upload (Rehearse depth start false) s cut o gives (events, none, is, done) =
     schedule_done (second_refusal schedule_limit (faulty_event (schedule_of (words_of s) cut.second)) cut) s start cut o events
     (no_faulty (schedule_of (words_of s) cut.second) events cut is none) gives is done
-given_done text law upload (Upload depth start) s cut o gives succeeds = upload_done upload s start cut depth o gives succeeds
+given_done text law upload (Upload depth start readback) s cut o gives succeeds = upload_done upload s start readback cut depth o gives succeeds
 given_done text law upload (Drill drones depth) s cut o gives succeeds = status_is o _ gives refl
 given_done text law upload (Boxes depth) s cut o gives (regions, none, is, kept) =
     regions_done (second_refusal region_limit (faulty_region (regions_of cut.second)) cut) s depth cut o regions (no_faulty_region (regions_of cut.second) regions cut is none) gives is kept

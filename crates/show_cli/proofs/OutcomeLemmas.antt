@@ -18,6 +18,7 @@ use Rattle.keepout_boxes.specs.Regions.{regions_of}
 use Rattle.link_upload.specs.Uploads.{UploadLaw}
 use Rattle.memory_curves.specs.Decoded.{CurveLaw}
 use Rattle.fleet_world.specs.Schedules.{schedule_of}
+use Rattle.readback_core.specs.CarefulSchedules.{careful_schedule_of}
 use Rattle.sep_certificate.specs.Laws.{CertificateLaw}
 use Rattle.sep_certificate.specs.Readings.{TextLaw}
 use Rattle.sep_certificate.specs.Texts.{bad_line}
@@ -27,14 +28,15 @@ use Rattle.refusals.specs.declared.refusal.Refusal.{Refusal}
 use Rattle.refusals.specs.declared.refusal.Refusal.TheVariants as refusal
 use Rattle.show_plan.specs.Landing.{Lands}
 use Rattle.show_plan.proofs.Flight.{sent_counted}
-use Rattle.show_cli.specs.Outcome.{CertificateGives, Gives, IsOutcomeOf, ExplainedWhereAccepted, LandsWhereAccepted, Outcome, RegionsGive, OutcomeLaw, ShowGives, judged_for, regions_end, said}
+use Rattle.show_cli.specs.Outcome.{CertificateGives, Gives, IsOutcomeOf, EndsWhereAccepted, LandsWhereAccepted, Outcome, RegionsGive, OutcomeLaw, ShowGives, judged_for, regions_end, said}
 use Rattle.show_cli.specs.Refused.{faulty, faulty_event, second_refusal, show_refusal, text_refusal}
-use Rattle.show_cli.specs.Shows.{Cut, certificate_limit, names_of, schedule_limit, sent_of, session_of, show_limit, trajectories_of, words_of}
+use Rattle.show_cli.specs.Shows.{Cut, certificate_limit, names_of, schedule_limit, sent_of, link_in, show_limit, trajectories_of, words_of}
 use Rattle.show_cli.specs.Studies.{faulty_region, region_limit}
 use Rattle.show_cli.proofs.CompleteLemmas.{complete_done}
 use Rattle.show_cli.proofs.TextLemmas.{none_said, stands_unrefused}
 use Rattle.show_cli.proofs.DecidingLemmas.{judge_some}
 use Rattle.show_cli.proofs.StudyLemmas.{explained_one, regions_one}
+use Rattle.show_cli.proofs.CarefulLemmas.{careful_one}
 use Rattle.show_cli.proofs.RehearsalLemmas.{outcome_by, schedule_one, schedule_some}
 
 -- ---- one show
@@ -52,10 +54,12 @@ given_one text upload curve (Certify depth) s cut o p first second = first ∙ s
 given_one text upload curve (Play depth step) s cut o p first second = first ∙ sym second
 given_one text upload curve (Report depth) s cut o p first second = first ∙ sym second
 given_one text upload curve Verify s cut o p first second = certificate_one text (second_refusal certificate_limit (bad_line (lines cut.second)) cut) s cut o p first second
-given_one text upload curve (Rehearse depth start) s cut o p first second =
+given_one text upload curve (Rehearse depth start true) s cut o p first second =
+    careful_one curve (second_refusal schedule_limit (faulty_event (careful_schedule_of (words_of s) cut.second)) cut) s start cut o p first second
+given_one text upload curve (Rehearse depth start false) s cut o p first second =
     schedule_one curve (second_refusal schedule_limit (faulty_event (schedule_of (words_of s) cut.second)) cut) s start cut o p first second
-given_one text upload curve (Upload depth start) s cut o p first second =
-    let same = upload.one (session_of s start) cut.frames o.status p.status o.output p.output first second in outcome_by o p same.0 same.1
+given_one text upload curve (Upload depth start readback) s cut o p first second =
+    let same = upload.one (link_in s start readback) cut.frames o.status p.status o.output p.output first second in outcome_by o p same.0 same.1
 given_one text upload curve (Drill drones depth) s cut o p first second = first ∙ sym second
 given_one text upload curve (Boxes depth) s cut o p first second =
     regions_one (second_refusal region_limit (faulty_region (regions_of cut.second)) cut) s depth cut o p first second
@@ -116,9 +120,9 @@ certificate_some law None s cut is =
     (judged_for s said.0, (said.0, said.1, refl))
 
 -- any frames lead to an end
-upload_some : UploadLaw → (s : PlainShow) (start : Bool) (cut : Cut) (depth : ℕ) → (o : Outcome) × Gives (Upload depth start) s cut o
-upload_some law s start cut depth =
-    let some = law.some (session_of s start) cut.frames cut.frames [] (record { cut = refl; each = All-nil _; few = omega arith; going = λ n under. absurd (omega (arith, under)) }) in
+upload_some : UploadLaw → (s : PlainShow) (start readback : Bool) (cut : Cut) (depth : ℕ) → (o : Outcome) × Gives (Upload depth start readback) s cut o
+upload_some law s start readback cut depth =
+    let some = law.some (link_in s start readback) cut.frames cut.frames [] (record { cut = refl; each = All-nil _; few = omega arith; going = λ n under. absurd (omega (arith, under)) }) in
     (record { status = some.0; output = some.1 }, some.2)
 
 -- regions that are given
@@ -135,45 +139,49 @@ regions_some None s depth cut is =
     let judged = judge_some (raised_of (trajectories_of s)) s.settings.r s.settings.h depth regions.0 in
     (regions_end (names_of s) depth (length regions.0) judged.0, (regions.0, judged.0, regions.1, judged.1, refl))
 
-given_some : TextLaw → UploadLaw → (c : Command) (s : PlainShow) (cut : Cut) → ((depth : ℕ) (start : Bool) → c ≡ Rehearse depth start → Lands (grid_of s) s.settings (sent_of s)) →
+given_some : TextLaw → UploadLaw → (c : Command) (s : PlainShow) (cut : Cut) → ((depth : ℕ) (start readback : Bool) → c ≡ Rehearse depth start readback → Lands (grid_of s) s.settings (sent_of s)) →
+    ((depth : ℕ) (start : Bool) → c ≡ Rehearse depth start true → (o : Outcome) × Gives c s cut o) →
     ((depth fine : ℕ) → c ≡ Explain depth fine → (o : Outcome) × Gives c s cut o) →
     (o : Outcome) × Gives c s cut o
-given_some text upload Help s cut lands explains = (_, refl)
-given_some text upload (Check depth) s cut lands explains = (_, refl)
-given_some text upload (Compile depth) s cut lands explains = (_, refl)
-given_some text upload (Certify depth) s cut lands explains = (_, refl)
-given_some text upload (Play depth step) s cut lands explains = (_, refl)
-given_some text upload (Report depth) s cut lands explains = (_, refl)
-given_some text upload Verify s cut lands explains = certificate_some text (second_refusal certificate_limit (bad_line (lines cut.second)) cut) s cut refl
-given_some text upload (Rehearse depth start) s cut lands explains =
-    schedule_some (second_refusal schedule_limit (faulty_event (schedule_of (words_of s) cut.second)) cut) s start cut refl (lands depth start refl) (words_counted s)
+given_some text upload Help s cut lands backs explains = (_, refl)
+given_some text upload (Check depth) s cut lands backs explains = (_, refl)
+given_some text upload (Compile depth) s cut lands backs explains = (_, refl)
+given_some text upload (Certify depth) s cut lands backs explains = (_, refl)
+given_some text upload (Play depth step) s cut lands backs explains = (_, refl)
+given_some text upload (Report depth) s cut lands backs explains = (_, refl)
+given_some text upload Verify s cut lands backs explains = certificate_some text (second_refusal certificate_limit (bad_line (lines cut.second)) cut) s cut refl
+given_some text upload (Rehearse depth start true) s cut lands backs explains = backs depth start refl
+given_some text upload (Rehearse depth start false) s cut lands backs explains =
+    schedule_some (second_refusal schedule_limit (faulty_event (schedule_of (words_of s) cut.second)) cut) s start cut refl (lands depth start false refl) (words_counted s)
   where
     words_counted : (s : PlainShow) → length (sent_of s) ≡ length (words_of s)
     words_counted s =
         sent_counted (grid_of s) ∙ sym (length-map s.drones (λ (d : DroneLine). d.name))
         ∙ sym (length-map (map (λ (d : DroneLine). d.name) s.drones) (λ (name : Name). name.items))
-given_some text upload (Upload depth start) s cut lands explains = upload_some upload s start cut depth
-given_some text upload (Drill drones depth) s cut lands explains = (_, refl)
-given_some text upload (Boxes depth) s cut lands explains = regions_some (second_refusal region_limit (faulty_region (regions_of cut.second)) cut) s depth cut refl
-given_some text upload (Speed depth limit) s cut lands explains = (_, refl)
-given_some text upload (Explain depth fine) s cut lands explains = explains depth fine refl
+given_some text upload (Upload depth start readback) s cut lands backs explains = upload_some upload s start readback cut depth
+given_some text upload (Drill drones depth) s cut lands backs explains = (_, refl)
+given_some text upload (Boxes depth) s cut lands backs explains = regions_some (second_refusal region_limit (faulty_region (regions_of cut.second)) cut) s depth cut refl
+given_some text upload (Speed depth limit) s cut lands backs explains = (_, refl)
+given_some text upload (Explain depth fine) s cut lands backs explains = explains depth fine refl
 
-show_some : TextLaw → UploadLaw → (c : Command) (r : Option Refusal) (s : PlainShow) (cut : Cut) → (r ≡ None → (depth : ℕ) (start : Bool) → c ≡ Rehearse depth start → Lands (grid_of s) s.settings (sent_of s)) →
+show_some : TextLaw → UploadLaw → (c : Command) (r : Option Refusal) (s : PlainShow) (cut : Cut) → (r ≡ None → (depth : ℕ) (start readback : Bool) → c ≡ Rehearse depth start readback → Lands (grid_of s) s.settings (sent_of s)) →
+    (r ≡ None → (depth : ℕ) (start : Bool) → c ≡ Rehearse depth start true → (o : Outcome) × Gives c s cut o) →
     (r ≡ None → (depth fine : ℕ) → c ≡ Explain depth fine → (o : Outcome) × Gives c s cut o) →
     (o : Outcome) × ShowGives c r s cut o
-show_some text upload c (Some r) s cut lands explains = (_, refl)
-show_some text upload c None s cut lands explains = given_some text upload c s cut (lands refl) (explains refl)
+show_some text upload c (Some r) s cut lands backs explains = (_, refl)
+show_some text upload c None s cut lands backs explains = given_some text upload c s cut (lands refl) (backs refl) (explains refl)
 
-some_there : ShowLaw → TextLaw → UploadLaw → (c : Command) (cut : Cut) → ((depth : ℕ) (start : Bool) → c ≡ Rehearse depth start → LandsWhereAccepted c cut) →
-    ((depth fine : ℕ) → c ≡ Explain depth fine → ExplainedWhereAccepted c cut) → (o : Outcome) × IsOutcomeOf c cut o
-some_there show text upload c cut lands explains = by_refusal (text_refusal cut.show) refl
+some_there : ShowLaw → TextLaw → UploadLaw → (c : Command) (cut : Cut) → ((depth : ℕ) (start readback : Bool) → c ≡ Rehearse depth start readback → LandsWhereAccepted c cut) →
+    ((depth : ℕ) (start : Bool) → c ≡ Rehearse depth start true → EndsWhereAccepted c cut) →
+    ((depth fine : ℕ) → c ≡ Explain depth fine → EndsWhereAccepted c cut) → (o : Outcome) × IsOutcomeOf c cut o
+some_there show text upload c cut lands backs explains = by_refusal (text_refusal cut.show) refl
   where
     by_refusal : (r : Option Refusal) → text_refusal cut.show ≡ r → (o : Outcome) × IsOutcomeOf c cut o
     by_refusal (Some r) is = (said c r, inl (ap (option_map (said c)) is))
     by_refusal None is =
         let parts = within_limit show_limit (length cut.show) _ _ is in
         let found = (show.faultless cut.show).1 (none_mapped faulty (fault cut.show) parts.1) in
-        let given = show_some text upload c (show_refusal c cut found.0) found.0 cut (λ none depth start is. lands depth start is found.0 found.1 none)
+        let given = show_some text upload c (show_refusal c cut found.0) found.0 cut (λ none depth start readback is. lands depth start readback is found.0 found.1 none) (λ none depth start is. backs depth start is found.0 found.1 none)
         (λ none depth fine is. explains depth fine is found.0 found.1 none) in
         (given.0, inr (record { s = found.0; short = parts.0; stands = found.1; gives = given.1 }))
 

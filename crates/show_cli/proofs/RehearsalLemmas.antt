@@ -11,7 +11,7 @@ use Rattle.memory_curves.specs.Decoded.{CurveLaw, DecodesTo}
 use Rattle.refusals.specs.declared.refusal.Refusal.{Refusal}
 use Rattle.refusals.specs.declared.refusal.Refusal.TheVariants as refusal
 use Rattle.rehearsal.specs.Rehearsed.{blank_drone, rehearsed}
-use Rattle.rehearsal.specs.Texts.{AreTexts, IsRehearsalText, drone_text, title_line}
+use Rattle.rehearsal.specs.Texts.{AreTexts, IsDecoded, IsFound, IsRehearsalText, IsTextBy, drone_text, title_line}
 use Rattle.show_plan.specs.Landing.{IsLanded, Lands, session_for}
 use Rattle.traj_codec.specs.declared.traj.Traj.{Traj}
 use Rattle.upload_model.specs.declared.events.Progress.{Progress}
@@ -29,17 +29,34 @@ use Rattle.show_cli.specs.Shows.{Cut, name_at, names_of, schedule_limit, sent_of
 
 -- ---- one outcome alone
 
--- the text of drones whose memories decode is one alone
-texts_one : CurveLaw → (drones : ℕ → DroneState) (id d : ℕ) (names : List (List ℕ)) (x y : List ℕ) → AreTexts drones id d names x → AreTexts drones id d names y → x ≡ y
-texts_one law drones id d [] x y first second = first ∙ sym second
-texts_one law drones id d (name ∷ names) x y (t, rest, decodes, texts, is) (u, other, decodes_u, texts_u, is_u) =
-    let same : t ≡ u = law.one (drones d) id t u decodes decodes_u in
-    let later : rest ≡ other = texts_one law drones id (suc d) names rest other texts texts_u in
-    is ∙ ap (λ (v : Traj). drone_text name (drones d) v ++ rest) same ∙ ap (λ (text : List ℕ). drone_text name (drones d) u ++ text) later ∙ sym is_u
+-- what a memory decodes to is one alone
+abbrev pub DecodesOnce : (DroneState → Option Traj → Type 0) → Type 0
+DecodesOnce Decodes = (x : DroneState) (o p : Option Traj) → Decodes x o → Decodes x p → o ≡ p
 
-text_one : CurveLaw → (drones : ℕ → DroneState) (id : ℕ) (names : List (List ℕ)) (x y : List ℕ) → IsRehearsalText drones id names x → IsRehearsalText drones id names y → x ≡ y
-text_one law drones id names x y (rest, texts, is) (other, texts_y, is_y) =
-    is ∙ ap (λ (text : List ℕ). title_line ++ text) (texts_one law drones id 0 names rest other texts texts_y) ∙ sym is_y
+pub decoded_once : CurveLaw → (id : ℕ) → DecodesOnce (IsDecoded id)
+decoded_once law id x None p first second = absurd first
+decoded_once law id x (Some t) None first second = absurd second
+decoded_once law id x (Some t) (Some u) first second = ap (λ (v : Traj). Some v) (law.one x id t u first second)
+
+pub found_once : CurveLaw → (id : ℕ) → DecodesOnce (IsFound id)
+found_once law id x None None first second = refl
+found_once law id x None (Some u) first second = absurd (first u second)
+found_once law id x (Some t) None first second = absurd (second t first)
+found_once law id x (Some t) (Some u) first second = ap (λ (v : Traj). Some v) (law.one x id t u first second)
+
+-- the text of drones whose memories decode so is one alone
+texts_one : (Decodes : DroneState → Option Traj → Type 0) → DecodesOnce Decodes → (drones : ℕ → DroneState) (d : ℕ) (names : List (List ℕ)) (x y : List ℕ) →
+    AreTexts Decodes drones d names x → AreTexts Decodes drones d names y → x ≡ y
+texts_one Decodes once drones d [] x y first second = first ∙ sym second
+texts_one Decodes once drones d (name ∷ names) x y (o, rest, decodes, texts, is) (p, other, decodes_p, texts_p, is_p) =
+    let same : o ≡ p = once (drones d) o p decodes decodes_p in
+    let later : rest ≡ other = texts_one Decodes once drones (suc d) names rest other texts texts_p in
+    is ∙ ap (λ (q : Option Traj). drone_text name (drones d) q ++ rest) same ∙ ap (λ (text : List ℕ). drone_text name (drones d) p ++ text) later ∙ sym is_p
+
+pub text_one : (Decodes : DroneState → Option Traj → Type 0) → DecodesOnce Decodes → (drones : ℕ → DroneState) (names : List (List ℕ)) (x y : List ℕ) →
+    IsTextBy Decodes drones names x → IsTextBy Decodes drones names y → x ≡ y
+text_one Decodes once drones names x y (rest, texts, is) (other, texts_y, is_y) =
+    is ∙ ap (λ (text : List ℕ). title_line ++ text) (texts_one Decodes once drones 0 names rest other texts texts_y) ∙ sym is_y
 
 -- outcomes of one status and one output are one
 pub outcome_by : (o p : Outcome) → o.status ≡ p.status → o.output ≡ p.output → o ≡ p
@@ -50,7 +67,7 @@ ends_one law Going s w o p first second = first ∙ sym second
 ends_one law (GaveUp drone packet) s w o p first second = first ∙ sym second
 ends_one law (Refused drone packet status) s w o p first second = first ∙ sym second
 ends_one law Done s w o p first second =
-    outcome_by o p (first.0 ∙ sym second.0) (text_one law w.drones s.settings.trajectory_id (words_of s) o.output p.output first.1 second.1)
+    outcome_by o p (first.0 ∙ sym second.0) (text_one (IsDecoded s.settings.trajectory_id) (decoded_once law s.settings.trajectory_id) w.drones (words_of s) o.output p.output first.1 second.1)
 
 events_one : (given : Result (List WorldEvent) ℕ) (xs ys : List WorldEvent) → given ≡ Ok xs → given ≡ Ok ys → xs ≡ ys
 events_one given xs ys first second = cc
@@ -65,25 +82,29 @@ schedule_one law None s start cut o p (events, is, ends) (others, is_others, end
 
 -- ---- one outcome where the show lands
 
--- each drone of a list on decodes to something
-abbrev pub DecodeFrom : (ℕ → DroneState) → ℕ → ℕ → List (List ℕ) → Type 0
-DecodeFrom drones id d names = (k : ℕ) → k < length names → (t : Traj) × DecodesTo (drones (d + k)) id t
+-- each drone of a list on decodes so to something
+abbrev pub DecodeFrom : (DroneState → Option Traj → Type 0) → (ℕ → DroneState) → ℕ → List (List ℕ) → Type 0
+DecodeFrom Decodes drones d names = (k : ℕ) → k < length names → (o : Option Traj) × Decodes (drones (d + k)) o
 
 -- drones whose memories decode have a text
-texts_some : (drones : ℕ → DroneState) (id d : ℕ) (names : List (List ℕ)) → DecodeFrom drones id d names → (text : List ℕ) × AreTexts drones id d names text
-texts_some drones id d [] decoded = ([], refl)
-texts_some drones id d (name ∷ names) decoded =
+texts_some : (Decodes : DroneState → Option Traj → Type 0) (drones : ℕ → DroneState) (d : ℕ) (names : List (List ℕ)) → DecodeFrom Decodes drones d names → (text : List ℕ) × AreTexts Decodes drones d names text
+texts_some Decodes drones d [] decoded = ([], refl)
+texts_some Decodes drones d (name ∷ names) decoded =
     let here = decoded 0 (omega arith) in
-    let first : DecodesTo (drones d) id here.0 = subst (λ (n : ℕ). DecodesTo (drones n) id here.0) (omega arith) here.1 in
-    let later = texts_some drones id (suc d) names (λ k within.
+    let first : Decodes (drones d) here.0 = subst (λ (n : ℕ). Decodes (drones n) here.0) (omega arith) here.1 in
+    let later = texts_some Decodes drones (suc d) names (λ k within.
     let at_k = decoded (suc k) (omega (arith, within)) in
-    (at_k.0, subst (λ (n : ℕ). DecodesTo (drones n) id at_k.0) (omega arith) at_k.1)) in
+    (at_k.0, subst (λ (n : ℕ). Decodes (drones n) at_k.0) (omega arith) at_k.1)) in
     (drone_text name (drones d) here.0 ++ later.0, (here.0, later.0, first, later.1, refl))
 
-pub text_some : (drones : ℕ → DroneState) (id : ℕ) (names : List (List ℕ)) → ((d : ℕ) → d < length names → (t : Traj) × DecodesTo (drones d) id t) → (text : List ℕ) × IsRehearsalText drones id names text
-text_some drones id names decoded =
-    let texts = texts_some drones id 0 names (λ k within. let at_k = decoded k within in (at_k.0, subst (λ (n : ℕ). DecodesTo (drones n) id at_k.0) (omega arith) at_k.1)) in
+pub text_by : (Decodes : DroneState → Option Traj → Type 0) (drones : ℕ → DroneState) (names : List (List ℕ)) → ((d : ℕ) → d < length names → (o : Option Traj) × Decodes (drones d) o) →
+    (text : List ℕ) × IsTextBy Decodes drones names text
+text_by Decodes drones names decoded =
+    let texts = texts_some Decodes drones 0 names (λ k within. let at_k = decoded k within in (at_k.0, subst (λ (n : ℕ). Decodes (drones n) at_k.0) (omega arith) at_k.1)) in
     (title_line ++ texts.0, (texts.0, texts.1, refl))
+
+pub text_some : (drones : ℕ → DroneState) (id : ℕ) (names : List (List ℕ)) → ((d : ℕ) → d < length names → (t : Traj) × DecodesTo (drones d) id t) → (text : List ℕ) × IsRehearsalText drones id names text
+text_some drones id names decoded = text_by (IsDecoded id) drones names (λ d within. let at_d = decoded d within in (Some at_d.0, at_d.1))
 
 -- a blank drone is a drone
 pub blank_is_drone : (s : Upload) → IsDrone (blank_drone s)

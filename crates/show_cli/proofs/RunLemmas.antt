@@ -43,7 +43,7 @@ some_each (Some x) P by = by x
 
 -- the statuses of a command
 abbrev pub statuses : List ℕ
-statuses = 0 ∷ 1 ∷ 3 ∷ 4 ∷ 5 ∷ 6 ∷ 7 ∷ 8 ∷ 9 ∷ 10 ∷ 11 ∷ 12 ∷ 13 ∷ 15 ∷ 16 ∷ []
+statuses = 0 ∷ 1 ∷ 3 ∷ 4 ∷ 5 ∷ 6 ∷ 7 ∷ 8 ∷ 9 ∷ 10 ∷ 11 ∷ 12 ∷ 13 ∷ 14 ∷ 15 ∷ 16 ∷ []
 
 -- A command that reads its input whole and writes one answer, as lines: where it judges its input, and what it writes where a read fails.
 pub record IsPlain (c : Command) : Type 0 where
@@ -67,14 +67,15 @@ refused_among refusal.Read is = absurd (is.read refl)
 refused_among refusal.Ended is = (7, omega arith, refl)
 refused_among (refusal.GaveUp drone packet) is = (8, omega arith, refl)
 refused_among (refusal.Refused drone packet status) is = (9, omega arith, refl)
+refused_among (refusal.Differs drone address wanted got) is = (13, omega arith, refl)
 refused_among (refusal.SecondLine line) is = (10, omega arith, refl)
 refused_among refusal.SecondTooLarge is = (10, omega arith, refl)
 refused_among (refusal.Missing pair) is = (11, omega arith, refl)
 refused_among (refusal.Extra version tree) is = (11, omega arith, refl)
 refused_among (refusal.TooDeep pair) is = (11, omega arith, refl)
 refused_among (refusal.Fails pair place version dir control) is = (11, omega arith, refl)
-refused_among (refusal.Enters region drone cue index depth) is = (13, omega arith, refl)
-refused_among (refusal.TooFast drone axis speed) is = (14, omega arith, refl)
+refused_among (refusal.Enters region drone cue index depth) is = (14, omega arith, refl)
+refused_among (refusal.TooFast drone axis speed) is = (15, omega arith, refl)
 
 pub refused_judged : (r : Refusal) → IsOfInput r → IsJudged (status_of r)
 refused_judged refusal.Usage is = absurd (is.command refl)
@@ -89,6 +90,7 @@ refused_judged refusal.Read is = absurd (is.read refl)
 refused_judged refusal.Ended is = ((λ e. omega (arith, e)), (λ e. omega (arith, e)), (λ e. omega (arith, e)))
 refused_judged (refusal.GaveUp drone packet) is = ((λ e. omega (arith, e)), (λ e. omega (arith, e)), (λ e. omega (arith, e)))
 refused_judged (refusal.Refused drone packet status) is = ((λ e. omega (arith, e)), (λ e. omega (arith, e)), (λ e. omega (arith, e)))
+refused_judged (refusal.Differs drone address wanted got) is = ((λ e. omega (arith, e)), (λ e. omega (arith, e)), (λ e. omega (arith, e)))
 refused_judged (refusal.SecondLine line) is = ((λ e. omega (arith, e)), (λ e. omega (arith, e)), (λ e. omega (arith, e)))
 refused_judged refusal.SecondTooLarge is = ((λ e. omega (arith, e)), (λ e. omega (arith, e)), (λ e. omega (arith, e)))
 refused_judged (refusal.Missing pair) is = ((λ e. omega (arith, e)), (λ e. omega (arith, e)), (λ e. omega (arith, e)))
@@ -289,8 +291,8 @@ report_plain depth = record { reads = refl; other = λ is. absurd (cc); judges =
 pub verify_plain : IsPlain Verify
 verify_plain = record { reads = refl; other = λ is. absurd (cc); judges = λ input. refl; stops = λ taken. refl; prompt = λ r. tt }
 
-pub rehearse_plain : (depth : ℕ) (start : Bool) → IsPlain (Rehearse depth start)
-rehearse_plain depth start = record { reads = refl; other = λ is. absurd (cc); judges = λ input. refl; stops = λ taken. refl; prompt = λ r. tt }
+pub rehearse_plain : (depth : ℕ) (start readback : Bool) → IsPlain (Rehearse depth start readback)
+rehearse_plain depth start readback = record { reads = refl; other = λ is. absurd (cc); judges = λ input. refl; stops = λ taken. refl; prompt = λ r. tt }
 
 pub boxes_plain : (depth : ℕ) → IsPlain (Boxes depth)
 boxes_plain depth = record { reads = refl; other = λ is. absurd (cc); judges = λ input. refl; stops = λ taken. refl; prompt = λ r. tt }
@@ -468,7 +470,7 @@ never_seven (Some c) r status usage runs quiet seven = quiet ((runs c refl).seve
 -- no status is above 16
 pub known_small : (n : ℕ) → Contains statuses n → n ≤ 16
 known_small n among = All-contains (λ (k : ℕ). k ≤ 16) statuses n (All-from_recursion (λ (k : ℕ). k ≤ 16) statuses
-    (omega arith, (omega arith, (omega arith, (omega arith, (omega arith, (omega arith, (omega arith, (omega arith, (omega arith, (omega arith, (omega arith, (omega arith, (omega arith, (omega arith, (omega arith, tt)))))))))))))))) among
+    (omega arith, (omega arith, (omega arith, (omega arith, (omega arith, (omega arith, (omega arith, (omega arith, (omega arith, (omega arith, (omega arith, (omega arith, (omega arith, (omega arith, (omega arith, (omega arith, tt))))))))))))))))) among
 
 -- a run of a command is one of the same command by another name
 pub runs_as : (c d : Command) (r : Run) (status : ℕ) → c ≡ d → Runs c r status → Runs d r status

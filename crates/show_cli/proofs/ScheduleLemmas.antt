@@ -19,7 +19,7 @@ use Rattle.memory_curves.specs.Decoded.{DecodesTo, load_for}
 use Rattle.refusals.specs.declared.refusal.Refusal.{Refusal}
 use Rattle.refusals.specs.declared.refusal.Refusal.TheVariants as refusal
 use Rattle.rehearsal.specs.Rehearsed.{rehearsed}
-use Rattle.rehearsal.specs.Texts.{AreTexts, IsRehearsalText, drone_text}
+use Rattle.rehearsal.specs.Texts.{AreTexts, IsDecoded, IsRehearsalText, IsTextBy, drone_text}
 use Rattle.show_plan.specs.declared.fitted.Fitted.{Fitted}
 use Rattle.show_plan.specs.Fitting.{IsFitted, IsValidFitted}
 use Rattle.show_plan.specs.Landing.{Lands, session_for}
@@ -60,7 +60,7 @@ IsAmong n (GaveUp drone packet) = drone < n
 IsAmong n (Refused drone packet status) = drone < n
 
 -- what is found in a list is as each of the list
-found : {X : Type 0} (P : X → Type 0) (p : X → Bool) (xs : List X) → All P xs → IfSome (find p xs) P
+pub found : {X : Type 0} (P : X → Type 0) (p : X → Bool) (xs : List X) → All P xs → IfSome (find p xs) P
 found P p [] all = tt
 found P p (x ∷ xs) all = by_test (p x) (All-head P x xs all) (found P p xs (All-tail P x xs all)) where
   by_test : (b : Bool) → P x → IfSome (find p xs) P → IfSome (cond b (Some x) (find p xs)) P
@@ -113,7 +113,7 @@ unfolding progress_within
 within_among s h zero = ending_among s (take 0 h)
 within_among s h (suc n) = or_else_among (drone_count s) (progress_within s h n) (ending s (take (suc n) h)) (within_among s h n) (ending_among s (take (suc n) h))
 
-progress_among : (s : Upload) (h : List Event) → IsAmong (drone_count s) (progress s h)
+pub progress_among : (s : Upload) (h : List Event) → IsAmong (drone_count s) (progress s h)
 unfolding progress
 progress_among s h = within_among s h (length h)
 
@@ -123,7 +123,7 @@ progress_among s h = within_among s h (length h)
 sent_counted : (f : Fitted) → IsValidFitted f → length f.sent ≡ length f.names
 sent_counted f valid = ap (λ (ts : List Traj). length ts) valid.sent ∙ length-map f.trajs joined ∙ valid.trajs_counted
 
-session_counted : (f : Fitted) (start : Bool) → IsValidFitted f → drone_count (session_for f.settings f.sent start) ≡ length f.names
+pub session_counted : (f : Fitted) (start : Bool) → IsValidFitted f → drone_count (session_for f.settings f.sent start) ≡ length f.names
 session_counted f start valid = length-map f.sent load_for ∙ sent_counted f valid
 
 -- The world is where these events lead the session of a show that fits, over drones that are blank at the start.
@@ -145,19 +145,20 @@ decoded_names v f start events valid lands stands done d within =
     (decoded.0, subst (λ (x : DroneState). DecodesTo x f.settings.trajectory_id decoded.0) (sym (stands.drones d (omega (arith, within, session_counted f start valid)))) decoded.1)
 
 -- the text of drones is that of others which hold the same
-texts_as : (f g : ℕ → DroneState) (id d : ℕ) (names : List (List ℕ)) (text : List ℕ) → ((k : ℕ) → k < length names → f (d + k) ≡ g (d + k)) → AreTexts f id d names text → AreTexts g id d names text
-texts_as f g id d [] text same is = is
-texts_as f g id d (name ∷ names) text same (t, rest, decodes, texts, is) =
+texts_as : (Decodes : DroneState → Option Traj → Type 0) (f g : ℕ → DroneState) (d : ℕ) (names : List (List ℕ)) (text : List ℕ) → ((k : ℕ) → k < length names → f (d + k) ≡ g (d + k)) →
+    AreTexts Decodes f d names text → AreTexts Decodes g d names text
+texts_as Decodes f g d [] text same is = is
+texts_as Decodes f g d (name ∷ names) text same (o, rest, decodes, texts, is) =
     let here : f d ≡ g d = subst (λ (n : ℕ). f n ≡ g n) (omega arith) (same 0 (omega arith)) in (
-      t,
+      o,
       rest,
-      subst (λ (x : DroneState). DecodesTo x id t) here decodes,
-      texts_as f g id (suc d) names rest (λ k within. subst (λ (n : ℕ). f n ≡ g n) (omega arith) (same (suc k) (omega (arith, within)))) texts,
-      is ∙ ap (λ (x : DroneState). drone_text name x t ++ rest) here,
+      subst (λ (x : DroneState). Decodes x o) here decodes,
+      texts_as Decodes f g (suc d) names rest (λ k within. subst (λ (n : ℕ). f n ≡ g n) (omega arith) (same (suc k) (omega (arith, within)))) texts,
+      is ∙ ap (λ (x : DroneState). drone_text name x o ++ rest) here,
     )
 
-text_as : (f g : ℕ → DroneState) (id : ℕ) (names : List (List ℕ)) (text : List ℕ) → ((d : ℕ) → d < length names → f d ≡ g d) → IsRehearsalText f id names text → IsRehearsalText g id names text
-text_as f g id names text same (rest, texts, is) = (rest, texts_as f g id 0 names rest (λ k within. subst (λ (n : ℕ). f n ≡ g n) (omega arith) (same k within)) texts, is)
+pub text_as : (Decodes : DroneState → Option Traj → Type 0) (f g : ℕ → DroneState) (names : List (List ℕ)) (text : List ℕ) → ((d : ℕ) → d < length names → f d ≡ g d) → IsTextBy Decodes f names text → IsTextBy Decodes g names text
+text_as Decodes f g names text same (rest, texts, is) = (rest, texts_as Decodes f g 0 names rest (λ k within. subst (λ (n : ℕ). f n ≡ g n) (omega arith) (same k within)) texts, is)
 
 -- what the progress of a world comes to is what its events come to
 pub rehearses_by : (v : WorldState) (f : Fitted) (s : PlainShow) (start : Bool) (events : List WorldEvent) (o : Outcome) → IsFitted f s → StandsAfter v f start events →
@@ -175,7 +176,7 @@ rehearses_done v f s start events text valid is stands done said =
     let u : Upload = session_for f.settings f.sent start in
     let w : World = rehearsed u events in
     let named : IsRehearsalText w.drones f.settings.trajectory_id (map (λ (name : Name). name.items) f.names) text =
-    text_as (state_at v.drones) w.drones f.settings.trajectory_id (map (λ (name : Name). name.items) f.names) text
+    text_as (IsDecoded f.settings.trajectory_id) (state_at v.drones) w.drones (map (λ (name : Name). name.items) f.names) text
     (λ d within. stands.drones d (omega (arith, within, length-map f.names (λ (name : Name). name.items), session_counted f start valid))) said in
     let of_show : IsRehearsalText w.drones s.settings.trajectory_id (words_of s) text =
     subst (λ (e : Settings). IsRehearsalText w.drones e.trajectory_id (words_of s) text) is.settings
@@ -193,7 +194,7 @@ events_of_show f s names bytes second events given is named same same_events say
     subst (λ (ns : List Name). schedule_of (map (λ (name : Name). name.items) ns) second ≡ Ok given) (named ∙ is.names)
     (here ∙ ap (λ (es : List WorldEvent). Ok es) (sym same_events))
 
-nothing_refused : (too_long marked : Bool) (r q : Refusal) (line : Option ℕ) → too_long ≡ false → line ≡ None → marked ≡ false →
+pub nothing_refused : (too_long marked : Bool) (r q : Refusal) (line : Option ℕ) → too_long ≡ false → line ≡ None → marked ≡ false →
     cond too_long (Some r) (option_or (option_map (λ (n : ℕ). refusal.SecondLine n) line) (cond marked (Some q) None)) ≡ None
 nothing_refused too_long marked r q line short fine unmarked = rw short (rw fine (rw unmarked refl))
 

@@ -1,5 +1,5 @@
 -- What a run of `upload` is, from what it read and wrote.
-use Rattle.std.proofs.Common.{◌≡◌, ◌≢◌, ◌⊎◌, inl, inr, ℕ, suc, ◌+◌, ◌<◌, ◌≤◌, Bool, true, false, cond, ◌||◌, List, [], ◌∷◌, ◌++◌, length, Contains, append_assoc, append-nil, length-append, Option, Some, None, IfSome, refl, sym, ap, subst, ◌∙◌, arith}
+use Rattle.std.proofs.Common.{◌≡◌, ◌≢◌, ◌⊎◌, inl, inr, ℕ, suc, ◌+◌, ◌<◌, ◌≤◌, Bool, true, false, cond, ◌||◌, List, [], ◌∷◌, ◌++◌, length, Contains, append_assoc, append-nil, length-append, Option, Some, None, Result, Ok, Err, IfOk, IfSome, refl, sym, ap, subst, ◌∙◌, arith}
 use Rattle.std.specs.Io.KnownBytes.{Appends, Consumes}
 use Rattle.std.specs.Prelude.{◌^◌, bytes_eq}
 use Rattle.std.specs.List.{join_with_byte}
@@ -21,20 +21,29 @@ use Rattle.fleet_io.specs.Taken.{AppendsFront, TakesAtMost, TakesFront}
 use Rattle.fleet_io.proofs.MarkerLaws.{whole_marker-front}
 use Rattle.link_frames.specs.Frames.{end_frame, frames_bytes}
 use Rattle.link_upload.specs.Uploads.{IsPrompt, StaysPrompt, UploadFails, UploadGives}
-use Rattle.upload_model.specs.Sessions.{Upload as Session}
+use Rattle.link_upload.specs.Links.{Link, careful_link_of, link_of}
 use Rattle.command_words.specs.declared.command.Command.{Command}
 use Rattle.command_words.specs.declared.command.Command.TheVariants.{Upload}
 use Rattle.refusals.specs.declared.refusal.Refusal.{Refusal}
 use Rattle.refusals.specs.Refusals.{status_of}
 use Rattle.show_cli.specs.declared.commands.upload.Ready.{Ready}
+use Rattle.show_cli.specs.declared.commands.upload.Ready.TheVariants as ready
+use Rattle.show_cli.specs.declared.accept.Accepted.{Accepted}
+use Rattle.show_plan.specs.declared.fitted.Fitted.{Fitted}
+use Rattle.show_plan.specs.Fitting.{IsFitted}
+use Rattle.show_plan.specs.Landing.{session_for}
+use Rattle.choreo_reader.specs.declared.show.Settings.{Settings}
+use Rattle.traj_codec.specs.declared.traj.Traj.{Traj}
+use Rattle.std.specs.declared.alloc.AllocError.{AllocError}
+use Rattle.upload_model.specs.Sessions.{Upload as Session}
 use Rattle.show_cli.specs.declared.input.Text.TheVariants.{Whole}
-use Rattle.show_cli.specs.Answers.{IsRefusedBy, Wrote}
+use Rattle.show_cli.specs.Answers.{IsAccepted, IsRefusedBy, Wrote}
 use Rattle.show_cli.specs.Input.{IsShowText}
 use Rattle.show_cli.specs.Outcome.{IsOutcomeOf, IsSafe, Outcome, OutcomeLaw, ShowGives, outcome, said}
 use Rattle.show_cli.specs.Refused.{IsOfInput}
 use Rattle.show_cli.specs.Runs.{IsJudged, IsOutput, IsStopped, Run, Runs, UploadStops, UploadsPromptly, run_of}
-use Rattle.show_cli.specs.Shows.{Cut, cut_of, session_of, show_limit}
-use Rattle.show_cli.specs.Uploads.{IsSessionOf, ReadyGives}
+use Rattle.show_cli.specs.Shows.{Cut, cut_of, link_in, session_of, show_limit}
+use Rattle.show_cli.specs.Uploads.{IsLinkOf, IsReadyFor, ReadyGives}
 use Rattle.show_cli.proofs.AnswerLemmas.{refused_outcome, refused_some}
 use Rattle.show_cli.proofs.RunLemmas.{refused_among, refused_judged, some_map, statuses}
 
@@ -46,11 +55,43 @@ stream_new held None none = refl
 stream_new held (Some bytes) none = rw none refl
 
 -- what a text was judged to be, the text of the input is
-pub ready_of_text : (depth : ℕ) (start : Bool) (old new : Option (List ℕ)) (part : Part) (ready : Ready) → TakesPart old new part.bytes.items part.marker → length part.bytes.items ≤ show_limit →
-    ((cut : Cut) → IsShowText (Whole part) cut → ReadyGives (Upload depth start) start cut ready) → IfSome old (λ all. ReadyGives (Upload depth start) start (cut_of all) ready)
-ready_of_text depth start None new part ready takes short gives = tt
-ready_of_text depth start (Some all) new part ready takes short gives =
+pub ready_of_text : (depth : ℕ) (start readback : Bool) (old new : Option (List ℕ)) (part : Part) (ready : Ready) → TakesPart old new part.bytes.items part.marker → length part.bytes.items ≤ show_limit →
+    ((cut : Cut) → IsShowText (Whole part) cut → ReadyGives (Upload depth start readback) start readback cut ready) → IfSome old (λ all. ReadyGives (Upload depth start readback) start readback (cut_of all) ready)
+ready_of_text depth start readback None new part ready takes short gives = tt
+ready_of_text depth start readback (Some all) new part ready takes short gives =
     gives (cut_of all) (takes.part, takes.marker, omega (arith, short, ap (λ (xs : List ℕ). length xs) takes.part))
+
+-- what fits of a show is uploaded as the show is
+session_is : (f : Fitted) (s : PlainShow) (b : Bool) → IsFitted f s → session_for f.settings f.sent b ≡ session_of s b
+session_is f s b is = ap (λ (e : Settings). session_for e f.sent b) is.settings ∙ ap (λ (ts : List Traj). session_for s.settings ts b) is.sent
+
+ready_of : (depth : ℕ) (start readback : Bool) (cut : Cut) (a : Accepted) (made : Ready) → IsAccepted (Upload depth start readback) depth cut a →
+    IsReadyFor (session_for a.fitted.settings a.fitted.sent) start readback made → ReadyGives (Upload depth start readback) start readback cut made
+ready_of depth start false cut a (ready.Host host) is made = record {
+  s = is.s;
+  short = is.short;
+  stands = is.stands;
+  accepted = is.accepted;
+  safe = is.safe;
+  is = ap link_of (made ∙ session_is a.fitted is.s start is.fitted);
+}
+ready_of depth start true cut a (ready.Host host) is made = absurd made
+ready_of depth start false cut a (ready.Careful careful) is made = absurd made
+ready_of depth start true cut a (ready.Careful careful) is made = record {
+  s = is.s;
+  short = is.short;
+  stands = is.stands;
+  accepted = is.accepted;
+  safe = is.safe;
+  is = ap (λ (u : Session). careful_link_of u careful.starts) (made.0 ∙ session_is a.fitted is.s false is.fitted) ∙ ap (careful_link_of (session_of is.s false)) made.1;
+}
+ready_of depth start readback cut a (ready.Refused r) is made = absurd made
+
+-- the host of what is accepted of a text
+pub ready_made : (depth : ℕ) (start readback : Bool) (cut : Cut) (a : Accepted) (result : Result Ready AllocError) → IsAccepted (Upload depth start readback) depth cut a →
+    IfOk result (IsReadyFor (session_for a.fitted.settings a.fitted.sent) start readback) → IfOk result (ReadyGives (Upload depth start readback) start readback cut)
+ready_made depth start readback cut a (Err e) is made = tt
+ready_made depth start readback cut a (Ok made) is ready_for = ready_of depth start readback cut a made is ready_for
 
 or_true : (a b : Bool) → (a || b) ≡ true → (a ≡ true) ⊎ (b ≡ true)
 or_true true b e = inl refl
@@ -113,24 +154,24 @@ few_after_long (Some all) (Some rest) long few = elim (apart_text all) [
 -- ---- a run, from its fields
 
 -- What an upload came to that wasn't out of memory.
-pub record UploadCame (depth : ℕ) (start : Bool) (r : Run) (status : ℕ) : Type 0 where
+pub record UploadCame (depth : ℕ) (start readback : Bool) (r : Run) (status : ℕ) : Type 0 where
   pub not_one : status ≢ 1
-  pub outcome : IsJudged status → IfSome r.left (λ input. (o : Outcome) × IsOutcomeOf (Upload depth start) (cut_of input) o × (status ≡ o.status) × Appends r.written r.written_after o.output)
-  pub safe : status ≡ 0 → IfSome r.left (λ input. (o : Outcome) × IsSafe (Upload depth start) (cut_of input) o × Appends r.written r.written_after o.output)
+  pub outcome : IsJudged status → IfSome r.left (λ input. (o : Outcome) × IsOutcomeOf (Upload depth start readback) (cut_of input) o × (status ≡ o.status) × Appends r.written r.written_after o.output)
+  pub safe : status ≡ 0 → IfSome r.left (λ input. (o : Outcome) × IsSafe (Upload depth start readback) (cut_of input) o × Appends r.written r.written_after o.output)
   pub six : status ≡ 6 → Rose r.reads_failed r.reads_failed_after
-  pub stopped : status ≡ 6 → IfSome r.left (λ _. (output : List ℕ) × IsStopped (Upload depth start) r output × Appends r.written r.written_after output)
-  pub seven : status ≡ 7 → Rose r.writes_failed r.writes_failed_after × ((output : List ℕ) × IsOutput (Upload depth start) r output × AppendsFront r.written r.written_after output)
-  pub prompt : status ≡ 7 → UploadsPromptly (Upload depth start) start r
+  pub stopped : status ≡ 6 → IfSome r.left (λ _. (output : List ℕ) × IsStopped (Upload depth start readback) r output × Appends r.written r.written_after output)
+  pub seven : status ≡ 7 → Rose r.writes_failed r.writes_failed_after × ((output : List ℕ) × IsOutput (Upload depth start readback) r output × AppendsFront r.written r.written_after output)
+  pub prompt : status ≡ 7 → UploadsPromptly (Upload depth start readback) start readback r
   pub known : Contains statuses status
   pub taken : TakesFront r.left r.left_after
   pub reads_later : r.reads_failed ≤ r.reads_failed_after
   pub writes_later : r.writes_failed ≤ r.writes_failed_after
 
-pub runs_upload : (depth : ℕ) (start : Bool) (r : Run) (status : ℕ) → OutcomeLaw → UploadCame depth start r status → Runs (Upload depth start) r status
-runs_upload depth start r status law came = record {
+pub runs_upload : (depth : ℕ) (start readback : Bool) (r : Run) (status : ℕ) → OutcomeLaw → UploadCame depth start readback r status → Runs (Upload depth start readback) r status
+runs_upload depth start readback r status law came = record {
   outcome = came.outcome;
   exact = λ quiet. some_map r.left _ _ (λ input come p is.
-      let same : come.0 ≡ p = law.one (Upload depth start) (cut_of input) come.0 p come.1 is in
+      let same : come.0 ≡ p = law.one (Upload depth start readback) (cut_of input) come.0 p come.1 is in
       inl (come.2 ∙ ap (λ (q : Outcome). q.status) same, subst (λ (q : Outcome). Appends r.written r.written_after q.output) same come.3))
       (came.outcome (came.not_one, (λ six. quiet.0 (came.six six)), (λ seven. quiet.1 (came.seven seven).0)));
   safe = came.safe;
@@ -153,9 +194,9 @@ some_each None P by = tt
 some_each (Some x) P by = by x
 
 -- out of memory, and nothing was written
-pub upload_memory : (depth : ℕ) (start : Bool) (r : Run) (status : ℕ) → status ≡ 1 → r.written_after ≡ r.written → r.writes_failed_after ≡ r.writes_failed → TakesFront r.left r.left_after →
-    r.reads_failed ≤ r.reads_failed_after → Runs (Upload depth start) r status
-upload_memory depth start r status is written faults taken reads_later = record {
+pub upload_memory : (depth : ℕ) (start readback : Bool) (r : Run) (status : ℕ) → status ≡ 1 → r.written_after ≡ r.written → r.writes_failed_after ≡ r.writes_failed → TakesFront r.left r.left_after →
+    r.reads_failed ≤ r.reads_failed_after → Runs (Upload depth start readback) r status
+upload_memory depth start readback r status is written faults taken reads_later = record {
   outcome = λ judged. absurd (judged.0 is);
   exact = λ quiet. some_each r.left _ (λ input o is_o. inr is);
   safe = λ zero. absurd (omega (arith, zero, is));
@@ -176,21 +217,21 @@ upload_memory depth start r status is written faults taken reads_later = record 
 -- ---- a refusal
 
 -- where few bytes were taken after the marker line, no answer waits for more
-prompt_few : (depth : ℕ) (start : Bool) (r : Run) → MarkerLaw → TakesFewBehind r.left r.left_after → UploadsPromptly (Upload depth start) start r
-prompt_few depth start r marker few taken sent carried whole s stands accepted frames rest formed cut long =
+prompt_few : (depth : ℕ) (start readback : Bool) (r : Run) → MarkerLaw → TakesFewBehind r.left r.left_after → UploadsPromptly (Upload depth start readback) start readback r
+prompt_few depth start readback r marker few taken sent carried whole s stands accepted frames rest formed cut long =
     let behind : length (rest_of (taken ++ carried.later)) ≤ length carried.later + 4096 = rw (carried.left, carried.left_after) at few in
     absurd (omega (arith, long, behind, ap length (marker taken carried.later whole).1, length-append (rest_of taken) carried.later, ap length cut, length-append (frames_bytes frames) rest))
 
 -- the end frame alone was written, with the status of a refusal
-pub upload_refused : (depth : ℕ) (start : Bool) (r : Run) (refusal : Refusal) (status : ℕ) → OutcomeLaw → MarkerLaw → IfSome r.left (λ all. IsRefusedBy (Upload depth start) (cut_of all) refusal) →
+pub upload_refused : (depth : ℕ) (start readback : Bool) (r : Run) (refusal : Refusal) (status : ℕ) → OutcomeLaw → MarkerLaw → IfSome r.left (λ all. IsRefusedBy (Upload depth start readback) (cut_of all) refusal) →
     IsOfInput refusal → TakesFewBehind r.left r.left_after → TakesFront r.left r.left_after → r.reads_failed ≤ r.reads_failed_after →
-    Wrote (status_of refusal) (end_frame (status_of refusal)) r.written r.written_after r.writes_failed r.writes_failed_after status → Runs (Upload depth start) r status
-upload_refused depth start r refusal status law marker is of_input few taken reads_later wrote =
+    Wrote (status_of refusal) (end_frame (status_of refusal)) r.written r.written_after r.writes_failed r.writes_failed_after status → Runs (Upload depth start readback) r status
+upload_refused depth start readback r refusal status law marker is of_input few taken reads_later wrote =
     let judged = refused_judged refusal of_input in
-    let come : IfSome r.left (λ input. IsOutcomeOf (Upload depth start) (cut_of input) (outcome (status_of refusal) (end_frame (status_of refusal)))) =
-    some_map r.left _ _ (λ input by. refused_outcome (Upload depth start) (cut_of input) refusal by) is in
+    let come : IfSome r.left (λ input. IsOutcomeOf (Upload depth start readback) (cut_of input) (outcome (status_of refusal) (end_frame (status_of refusal)))) =
+    some_map r.left _ _ (λ input by. refused_outcome (Upload depth start readback) (cut_of input) refusal by) is in
     elim wrote [
-      | inl (e, appends, later) ↦ runs_upload depth start r status law (record {
+      | inl (e, appends, later) ↦ runs_upload depth start readback r status law (record {
         not_one = λ one. judged.0 (sym e ∙ one);
         outcome = λ _. some_map r.left _ _ (λ input o_is. (outcome (status_of refusal) (end_frame (status_of refusal)), o_is, e, appends)) come;
         safe = λ zero. absurd (refused_some refusal (sym e ∙ zero));
@@ -203,14 +244,14 @@ upload_refused depth start r refusal status law marker is of_input few taken rea
         reads_later = reads_later;
         writes_later = later;
       })
-      | inr (e, rose, front, later) ↦ runs_upload depth start r status law (record {
+      | inr (e, rose, front, later) ↦ runs_upload depth start readback r status law (record {
         not_one = λ one. omega (arith, one, e);
         outcome = λ j. absurd (j.2 e);
         safe = λ zero. absurd (omega (arith, zero, e));
         six = λ six. absurd (omega (arith, six, e));
         stopped = λ six. absurd (omega (arith, six, e));
         seven = λ _. (rose, (end_frame (status_of refusal), inl (some_map r.left _ _ (λ input o_is. (outcome (status_of refusal) (end_frame (status_of refusal)), o_is, refl)) come), front));
-        prompt = λ _. prompt_few depth start r marker few;
+        prompt = λ _. prompt_few depth start readback r marker few;
         known = (6, omega arith, rw e refl);
         taken = taken;
         reads_later = reads_later;
@@ -220,28 +261,28 @@ upload_refused depth start r refusal status law marker is of_input few taken rea
 
 -- ---- a read failed before the marker line
 
-stopped_early : (depth : ℕ) (start : Bool) (left left_after : Option (List ℕ)) (taken : List ℕ) → Consumes left left_after taken → has_whole_marker taken ≡ false →
-    IfSome left (λ input. (taken later : List ℕ) × (input ≡ taken ++ later) × (left_after ≡ Some later) × UploadStops (Upload depth start) start (has_whole_marker taken) taken (end_frame 6))
-stopped_early depth start None left_after taken consumes none = tt
-stopped_early depth start (Some input) None taken consumes none = absurd consumes
-stopped_early depth start (Some input) (Some later) taken consumes none = (taken, later, consumes, refl, rw none refl)
+stopped_early : (depth : ℕ) (start readback : Bool) (left left_after : Option (List ℕ)) (taken : List ℕ) → Consumes left left_after taken → has_whole_marker taken ≡ false →
+    IfSome left (λ input. (taken later : List ℕ) × (input ≡ taken ++ later) × (left_after ≡ Some later) × UploadStops (Upload depth start readback) start readback (has_whole_marker taken) taken (end_frame 6))
+stopped_early depth start readback None left_after taken consumes none = tt
+stopped_early depth start readback (Some input) None taken consumes none = absurd consumes
+stopped_early depth start readback (Some input) (Some later) taken consumes none = (taken, later, consumes, refl, rw none refl)
 
-prompt_early : (depth : ℕ) (start : Bool) (r : Run) (taken : List ℕ) → Consumes r.left r.left_after taken → has_whole_marker taken ≡ false → UploadsPromptly (Upload depth start) start r
-prompt_early depth start r taken consumes none others sent carried whole s stands accepted =
+prompt_early : (depth : ℕ) (start readback : Bool) (r : Run) (taken : List ℕ) → Consumes r.left r.left_after taken → has_whole_marker taken ≡ false → UploadsPromptly (Upload depth start readback) start readback r
+prompt_early depth start readback r taken consumes none others sent carried whole s stands accepted =
     let same : others ++ carried.later ≡ taken ++ carried.later = rw (carried.left, carried.left_after) at consumes in
     let e : others ≡ taken = append_cancel_right others taken carried.later same in
     absurd (let f : true ≡ false = sym whole ∙ ap (λ (xs : List ℕ). has_whole_marker xs) e ∙ none in cc)
 
 -- the end frame alone was written, with the status of a failed read
-pub upload_failed : (depth : ℕ) (start : Bool) (r : Run) (taken : List ℕ) (status : ℕ) → OutcomeLaw → Rose r.reads_failed r.reads_failed_after → Consumes r.left r.left_after taken → has_whole_marker taken ≡ false →
-    r.reads_failed ≤ r.reads_failed_after → Wrote 6 (end_frame 6) r.written r.written_after r.writes_failed r.writes_failed_after status → Runs (Upload depth start) r status
-upload_failed depth start r taken status law rose consumes none reads_later wrote = elim wrote [
-  | inl (e, appends, later) ↦ runs_upload depth start r status law (record {
+pub upload_failed : (depth : ℕ) (start readback : Bool) (r : Run) (taken : List ℕ) (status : ℕ) → OutcomeLaw → Rose r.reads_failed r.reads_failed_after → Consumes r.left r.left_after taken → has_whole_marker taken ≡ false →
+    r.reads_failed ≤ r.reads_failed_after → Wrote 6 (end_frame 6) r.written r.written_after r.writes_failed r.writes_failed_after status → Runs (Upload depth start readback) r status
+upload_failed depth start readback r taken status law rose consumes none reads_later wrote = elim wrote [
+  | inl (e, appends, later) ↦ runs_upload depth start readback r status law (record {
     not_one = λ one. omega (arith, one, e);
     outcome = λ j. absurd (j.1 e);
     safe = λ zero. absurd (omega (arith, zero, e));
     six = λ _. rose;
-    stopped = λ _. some_each r.left _ (λ _. (end_frame 6, stopped_early depth start r.left r.left_after taken consumes none, appends));
+    stopped = λ _. some_each r.left _ (λ _. (end_frame 6, stopped_early depth start readback r.left r.left_after taken consumes none, appends));
     seven = λ seven. absurd (omega (arith, seven, e));
     prompt = λ seven. absurd (omega (arith, seven, e));
     known = (5, omega arith, rw e refl);
@@ -249,14 +290,14 @@ upload_failed depth start r taken status law rose consumes none reads_later wrot
     reads_later = reads_later;
     writes_later = later;
   })
-  | inr (e, failed, front, later) ↦ runs_upload depth start r status law (record {
+  | inr (e, failed, front, later) ↦ runs_upload depth start readback r status law (record {
     not_one = λ one. omega (arith, one, e);
     outcome = λ j. absurd (j.2 e);
     safe = λ zero. absurd (omega (arith, zero, e));
     six = λ six. absurd (omega (arith, six, e));
     stopped = λ six. absurd (omega (arith, six, e));
-    seven = λ _. (failed, (end_frame 6, inr (rose, stopped_early depth start r.left r.left_after taken consumes none), front));
-    prompt = λ _. prompt_early depth start r taken consumes none;
+    seven = λ _. (failed, (end_frame 6, inr (rose, stopped_early depth start readback r.left r.left_after taken consumes none), front));
+    prompt = λ _. prompt_early depth start readback r taken consumes none;
     known = (6, omega arith, rw e refl);
     taken = (taken, consumes);
     reads_later = reads_later;
@@ -266,21 +307,21 @@ upload_failed depth start r taken status law rose consumes none reads_later wrot
 
 -- ---- frames were carried
 
--- What the upload of a session says of the bytes to come, from the marker line on.
-pub record Uploaded (session : Session) (mid after : Option (List ℕ)) (ended : Bool) (reads reads_after : ℕ) (old new : Option (List ℕ)) (writes writes_after status : ℕ) : Type 0 where
-  pub ends : status ≢ 6 → status ≢ 7 → IfSome mid (λ bytes. (output : List ℕ) × UploadGives session bytes status output × Appends old new output)
-  pub six : status ≡ 6 → Rose reads reads_after × (ended ≡ false) × IfSome mid (λ _. (taken output : List ℕ) × Consumes mid after taken × UploadFails session taken output × Appends old new output)
+-- What an upload says of the bytes to come, from the marker line on.
+pub record Uploaded (link : Link) (mid after : Option (List ℕ)) (ended : Bool) (reads reads_after : ℕ) (old new : Option (List ℕ)) (writes writes_after status : ℕ) : Type 0 where
+  pub ends : status ≢ 6 → status ≢ 7 → IfSome mid (λ bytes. (output : List ℕ) × UploadGives link bytes status output × Appends old new output)
+  pub six : status ≡ 6 → Rose reads reads_after × (ended ≡ false) × IfSome mid (λ _. (taken output : List ℕ) × Consumes mid after taken × UploadFails link taken output × Appends old new output)
   pub seven : status ≡ 7 → Rose writes writes_after × IfSome mid (λ bytes. (output : List ℕ) × AppendsFront old new output
-      × (((st : ℕ) × UploadGives session bytes st output) ⊎ (Rose reads reads_after × (ended ≡ false) × ((taken : List ℕ) × Consumes mid after taken × UploadFails session taken output))))
-  pub prompt : StaysPrompt session mid after old new
+      × (((st : ℕ) × UploadGives link bytes st output) ⊎ (Rose reads reads_after × (ended ≡ false) × ((taken : List ℕ) × Consumes mid after taken × UploadFails link taken output))))
+  pub prompt : StaysPrompt link mid after old new
   pub grown : (sent : List ℕ) × Appends old new sent
-  pub known : Contains (0 ∷ 6 ∷ 7 ∷ 8 ∷ 9 ∷ 10 ∷ 11 ∷ 13 ∷ []) status
+  pub known : Contains (0 ∷ 6 ∷ 7 ∷ 8 ∷ 9 ∷ 10 ∷ 11 ∷ 13 ∷ 14 ∷ []) status
   pub reads_later : reads ≤ reads_after
   pub writes_later : writes ≤ writes_after
 
--- The show's text was read, and what is uploaded of it is this session; the bytes after its marker line were still to come.
-pub record WasReady (depth : ℕ) (start : Bool) (left mid : Option (List ℕ)) (ended : Bool) (session : Session) : Type 0 where
-  pub is : IfSome left (λ all. IsSessionOf (Upload depth start) start (cut_of all) session)
+-- The show's text was read, and this is its upload through a link; the bytes after its marker line were still to come.
+pub record WasReady (depth : ℕ) (start readback : Bool) (left mid : Option (List ℕ)) (ended : Bool) (link : Link) : Type 0 where
+  pub is : IfSome left (λ all. IsLinkOf (Upload depth start readback) start readback (cut_of all) link)
   pub rest : IfSome left (λ all. mid ≡ Some (rest_of all))
   pub fed : ended ≡ false → TakesMarked left mid
 
@@ -294,16 +335,17 @@ after_marker (Some all) mid A B C a e b by = by all a (rw e at b)
 abbrev IsAmong : ℕ → Type 0
 IsAmong status = Contains statuses status × (status ≢ 1)
 
-among_of : (status : ℕ) → Contains (0 ∷ 6 ∷ 7 ∷ 8 ∷ 9 ∷ 10 ∷ 11 ∷ 13 ∷ []) status → IsAmong status
-among_of status known = All-contains IsAmong (0 ∷ 6 ∷ 7 ∷ 8 ∷ 9 ∷ 10 ∷ 11 ∷ 13 ∷ []) status
-    (All-cons IsAmong 0 (6 ∷ 7 ∷ 8 ∷ 9 ∷ 10 ∷ 11 ∷ 13 ∷ []) ((0, omega arith, refl), λ e. omega (arith, e))
-    (All-cons IsAmong 6 (7 ∷ 8 ∷ 9 ∷ 10 ∷ 11 ∷ 13 ∷ []) ((5, omega arith, refl), λ e. omega (arith, e))
-    (All-cons IsAmong 7 (8 ∷ 9 ∷ 10 ∷ 11 ∷ 13 ∷ []) ((6, omega arith, refl), λ e. omega (arith, e))
-    (All-cons IsAmong 8 (9 ∷ 10 ∷ 11 ∷ 13 ∷ []) ((7, omega arith, refl), λ e. omega (arith, e))
-    (All-cons IsAmong 9 (10 ∷ 11 ∷ 13 ∷ []) ((8, omega arith, refl), λ e. omega (arith, e))
-    (All-cons IsAmong 10 (11 ∷ 13 ∷ []) ((9, omega arith, refl), λ e. omega (arith, e))
-    (All-cons IsAmong 11 (13 ∷ []) ((10, omega arith, refl), λ e. omega (arith, e))
-    (All-cons IsAmong 13 [] ((12, omega arith, refl), λ e. omega (arith, e)) (All-nil IsAmong)))))))))
+among_of : (status : ℕ) → Contains (0 ∷ 6 ∷ 7 ∷ 8 ∷ 9 ∷ 10 ∷ 11 ∷ 13 ∷ 14 ∷ []) status → IsAmong status
+among_of status known = All-contains IsAmong (0 ∷ 6 ∷ 7 ∷ 8 ∷ 9 ∷ 10 ∷ 11 ∷ 13 ∷ 14 ∷ []) status
+    (All-cons IsAmong 0 (6 ∷ 7 ∷ 8 ∷ 9 ∷ 10 ∷ 11 ∷ 13 ∷ 14 ∷ []) ((0, omega arith, refl), λ e. omega (arith, e))
+    (All-cons IsAmong 6 (7 ∷ 8 ∷ 9 ∷ 10 ∷ 11 ∷ 13 ∷ 14 ∷ []) ((5, omega arith, refl), λ e. omega (arith, e))
+    (All-cons IsAmong 7 (8 ∷ 9 ∷ 10 ∷ 11 ∷ 13 ∷ 14 ∷ []) ((6, omega arith, refl), λ e. omega (arith, e))
+    (All-cons IsAmong 8 (9 ∷ 10 ∷ 11 ∷ 13 ∷ 14 ∷ []) ((7, omega arith, refl), λ e. omega (arith, e))
+    (All-cons IsAmong 9 (10 ∷ 11 ∷ 13 ∷ 14 ∷ []) ((8, omega arith, refl), λ e. omega (arith, e))
+    (All-cons IsAmong 10 (11 ∷ 13 ∷ 14 ∷ []) ((9, omega arith, refl), λ e. omega (arith, e))
+    (All-cons IsAmong 11 (13 ∷ 14 ∷ []) ((10, omega arith, refl), λ e. omega (arith, e))
+    (All-cons IsAmong 13 (14 ∷ []) ((12, omega arith, refl), λ e. omega (arith, e))
+    (All-cons IsAmong 14 [] ((13, omega arith, refl), λ e. omega (arith, e)) (All-nil IsAmong))))))))))
     known
 
 rose_later : (a b c : ℕ) → a ≤ b → Rose b c → Rose a c
@@ -313,25 +355,25 @@ rose_later a b c later rose = elim rose [
 ]
 
 -- what the frames lead to is the outcome of the input
-gives_outcome : (depth : ℕ) (start : Bool) (all : List ℕ) (session : Session) (status : ℕ) (output : List ℕ) → IsSessionOf (Upload depth start) start (cut_of all) session →
-    UploadGives session (rest_of all) status output → IsOutcomeOf (Upload depth start) (cut_of all) (outcome status output)
-gives_outcome depth start all session status output is gives = inr (record {
+gives_outcome : (depth : ℕ) (start readback : Bool) (all : List ℕ) (link : Link) (status : ℕ) (output : List ℕ) → IsLinkOf (Upload depth start readback) start readback (cut_of all) link →
+    UploadGives link (rest_of all) status output → IsOutcomeOf (Upload depth start readback) (cut_of all) (outcome status output)
+gives_outcome depth start readback all link status output is gives = inr (record {
   s = is.s;
   short = is.short;
   stands = is.stands;
-  gives = subst (λ (r : Option Refusal). ShowGives (Upload depth start) r is.s (cut_of all) (outcome status output)) (sym is.accepted)
-      (subst (λ (t : Session). UploadGives t (rest_of all) status output) is.is gives);
+  gives = subst (λ (r : Option Refusal). ShowGives (Upload depth start readback) r is.s (cut_of all) (outcome status output)) (sym is.accepted)
+      (subst (λ (t : Link). UploadGives t (rest_of all) status output) is.is gives);
 })
 
-gives_safe : (depth : ℕ) (start : Bool) (all : List ℕ) (session : Session) (status : ℕ) (output : List ℕ) → status ≡ 0 → IsSessionOf (Upload depth start) start (cut_of all) session →
-    UploadGives session (rest_of all) status output → IsSafe (Upload depth start) (cut_of all) (outcome status output)
-gives_safe depth start all session status output zero is gives = record {
+gives_safe : (depth : ℕ) (start readback : Bool) (all : List ℕ) (link : Link) (status : ℕ) (output : List ℕ) → status ≡ 0 → IsLinkOf (Upload depth start readback) start readback (cut_of all) link →
+    UploadGives link (rest_of all) status output → IsSafe (Upload depth start readback) (cut_of all) (outcome status output)
+gives_safe depth start readback all link status output zero is gives = record {
   s = is.s;
   stands = is.stands;
   near = is.safe.near;
   promised = record { apart = is.safe.apart; lands = is.safe.lands };
   accepted = is.accepted;
-  gives = subst (λ (t : Session). UploadGives t (rest_of all) status output) is.is gives;
+  gives = subst (λ (t : Link). UploadGives t (rest_of all) status output) is.is gives;
   done = zero;
 }
 
@@ -341,13 +383,13 @@ none_before [] xs e = refl
 none_before (y ∷ ys) xs e = absurd (omega (arith, ap length e, length-append ys xs))
 
 -- a read failed after these frames
-stopped_late : (depth : ℕ) (start : Bool) (left after mid : Option (List ℕ)) (session : Session) (taken output : List ℕ) → MarkerLaw →
-    IfSome left (λ all. IsSessionOf (Upload depth start) start (cut_of all) session) → IfSome left (λ all. mid ≡ Some (rest_of all)) → TakesMarked left mid → Consumes mid after taken →
-    UploadFails session taken output →
-    IfSome left (λ input. (taken later : List ℕ) × (input ≡ taken ++ later) × (after ≡ Some later) × UploadStops (Upload depth start) start (has_whole_marker taken) taken output)
-stopped_late depth start None after mid session taken output marker is rest marked consumes fails = tt
-stopped_late depth start (Some all) None mid session taken output marker is rest marked consumes fails = absurd (rw rest at consumes)
-stopped_late depth start (Some all) (Some later) mid session taken output marker is rest marked consumes fails =
+stopped_late : (depth : ℕ) (start readback : Bool) (left after mid : Option (List ℕ)) (link : Link) (taken output : List ℕ) → MarkerLaw →
+    IfSome left (λ all. IsLinkOf (Upload depth start readback) start readback (cut_of all) link) → IfSome left (λ all. mid ≡ Some (rest_of all)) → TakesMarked left mid → Consumes mid after taken →
+    UploadFails link taken output →
+    IfSome left (λ input. (taken later : List ℕ) × (input ≡ taken ++ later) × (after ≡ Some later) × UploadStops (Upload depth start readback) start readback (has_whole_marker taken) taken output)
+stopped_late depth start readback None after mid link taken output marker is rest marked consumes fails = tt
+stopped_late depth start readback (Some all) None mid link taken output marker is rest marked consumes fails = absurd (rw rest at consumes)
+stopped_late depth start readback (Some all) (Some later) mid link taken output marker is rest marked consumes fails =
     let text : List ℕ = marked.0 in
     let at_text : all ≡ text ++ rest_of all = rw rest at marked.1 in
     let at_rest : rest_of all ≡ taken ++ later = rw rest at consumes in
@@ -356,66 +398,66 @@ stopped_late depth start (Some all) (Some later) mid session taken output marker
     let none : rest_of text ≡ [] = none_before (rest_of text) (rest_of all) (ap (λ (xs : List ℕ). rest_of xs) at_text ∙ whole.1) in
     let part : part_of all ≡ part_of (text ++ taken) = ap (λ (xs : List ℕ). part_of xs) at_text ∙ whole.0 ∙ sym short.0 in
     let frames : taken ≡ rest_of (text ++ taken) = sym (short.1 ∙ ap (λ (xs : List ℕ). xs ++ taken) none) in
-    let stops : UploadStops (Upload depth start) start true (text ++ taken) output = (
+    let stops : UploadStops (Upload depth start readback) start readback true (text ++ taken) output = (
       is.s,
       subst (λ (xs : List ℕ). StandsFor xs is.s) part is.stands,
       is.accepted,
-      subst (λ (xs : List ℕ). UploadFails (session_of is.s start) xs output) frames (subst (λ (t : Session). UploadFails t taken output) is.is fails),
+      subst (λ (xs : List ℕ). UploadFails (link_in is.s start readback) xs output) frames (subst (λ (t : Link). UploadFails t taken output) is.is fails),
     ) in
     (text ++ taken, later, at_text ∙ ap (λ (xs : List ℕ). text ++ xs) at_rest ∙ sym (append_assoc text taken later), refl, rw (whole_marker-front text taken marked.2) stops)
 
 -- no answer waits for much further input
-prompt_late : (depth : ℕ) (start : Bool) (r : Run) (mid : Option (List ℕ)) (session : Session) → MarkerLaw → ShowLaw →
-    IfSome r.left (λ all. IsSessionOf (Upload depth start) start (cut_of all) session) → IfSome r.left (λ all. mid ≡ Some (rest_of all)) → StaysPrompt session mid r.left_after r.written r.written_after →
-    UploadsPromptly (Upload depth start) start r
-prompt_late depth start r mid session marker show is rest stays taken sent carried whole s stands accepted =
-    let it : IsSessionOf (Upload depth start) start (cut_of (taken ++ carried.later)) session = rw carried.left at is in
+prompt_late : (depth : ℕ) (start readback : Bool) (r : Run) (mid : Option (List ℕ)) (link : Link) → MarkerLaw → ShowLaw →
+    IfSome r.left (λ all. IsLinkOf (Upload depth start readback) start readback (cut_of all) link) → IfSome r.left (λ all. mid ≡ Some (rest_of all)) → StaysPrompt link mid r.left_after r.written r.written_after →
+    UploadsPromptly (Upload depth start readback) start readback r
+prompt_late depth start readback r mid link marker show is rest stays taken sent carried whole s stands accepted =
+    let it : IsLinkOf (Upload depth start readback) start readback (cut_of (taken ++ carried.later)) link = rw carried.left at is in
     let cut = marker taken carried.later whole in
     let from : mid ≡ Some (rest_of (taken ++ carried.later)) = rw carried.left at rest in
     let same : it.s ≡ s = show.one (part_of taken) it.s s (subst (λ (text : List ℕ). StandsFor text it.s) cut.0 it.stands) stands in
-    subst (λ (t : Session). IsPrompt t (rest_of taken) sent) (it.is ∙ ap (λ (p : PlainShow). session_of p start) same)
+    subst (λ (t : Link). IsPrompt t (rest_of taken) sent) (it.is ∙ ap (λ (p : PlainShow). link_in p start readback) same)
     (stays (rest_of taken ++ carried.later) carried.later carried.old (rest_of taken) sent (from ∙ ap (λ (xs : List ℕ). Some xs) cut.1) carried.left_after refl carried.written carried.written_after)
 
 -- a write failed
-cut_late : (depth : ℕ) (start : Bool) (left after mid : Option (List ℕ)) (ended : Bool) (session : Session) (reads between reads_after : ℕ) (old new : Option (List ℕ)) (writes writes_after : ℕ) →
-    MarkerLaw → WasReady depth start left mid ended session → reads ≤ between → (sent : List ℕ) → Appends old new sent →
+cut_late : (depth : ℕ) (start readback : Bool) (left after mid : Option (List ℕ)) (ended : Bool) (link : Link) (reads between reads_after : ℕ) (old new : Option (List ℕ)) (writes writes_after : ℕ) →
+    MarkerLaw → WasReady depth start readback left mid ended link → reads ≤ between → (sent : List ℕ) → Appends old new sent →
     IfSome mid (λ bytes. (output : List ℕ) × AppendsFront old new output
-    × (((st : ℕ) × UploadGives session bytes st output) ⊎ (Rose between reads_after × (ended ≡ false) × ((taken : List ℕ) × Consumes mid after taken × UploadFails session taken output)))) →
-    (output : List ℕ) × IsOutput (Upload depth start) (run_of left after reads reads_after old new writes writes_after) output × AppendsFront old new output
-cut_late depth start None after mid ended session reads between reads_after old new writes writes_after marker ready later sent appends cut = (sent, inl tt, (sent, [], sym (append-nil sent), appends))
-cut_late depth start (Some all) after mid ended session reads between reads_after old new writes writes_after marker ready later sent appends cut =
+    × (((st : ℕ) × UploadGives link bytes st output) ⊎ (Rose between reads_after × (ended ≡ false) × ((taken : List ℕ) × Consumes mid after taken × UploadFails link taken output)))) →
+    (output : List ℕ) × IsOutput (Upload depth start readback) (run_of left after reads reads_after old new writes writes_after) output × AppendsFront old new output
+cut_late depth start readback None after mid ended link reads between reads_after old new writes writes_after marker ready later sent appends cut = (sent, inl tt, (sent, [], sym (append-nil sent), appends))
+cut_late depth start readback (Some all) after mid ended link reads between reads_after old new writes writes_after marker ready later sent appends cut =
     let it : (output : List ℕ) × AppendsFront old new output
-    × (((st : ℕ) × UploadGives session (rest_of all) st output)
-    ⊎ (Rose between reads_after × (ended ≡ false) × ((taken : List ℕ) × Consumes (Some (rest_of all)) after taken × UploadFails session taken output))) = rw ready.rest at cut in
+    × (((st : ℕ) × UploadGives link (rest_of all) st output)
+    ⊎ (Rose between reads_after × (ended ≡ false) × ((taken : List ℕ) × Consumes (Some (rest_of all)) after taken × UploadFails link taken output))) = rw ready.rest at cut in
     elim it.2 [
-      | inl gives ↦ (it.0, inl (outcome gives.0 it.0, gives_outcome depth start all session gives.0 it.0 ready.is gives.1, refl), it.1)
+      | inl gives ↦ (it.0, inl (outcome gives.0 it.0, gives_outcome depth start readback all link gives.0 it.0 ready.is gives.1, refl), it.1)
       | inr failed ↦
           let taken_so : Consumes mid after failed.2.0 = rw ready.rest failed.2.1 in (
             it.0,
             inr (
               rose_later reads between reads_after later failed.0,
-              stopped_late depth start (Some all) after mid session failed.2.0 it.0 marker ready.is ready.rest (ready.fed failed.1) taken_so failed.2.2,
+              stopped_late depth start readback (Some all) after mid link failed.2.0 it.0 marker ready.is ready.rest (ready.fed failed.1) taken_so failed.2.2,
             ),
             it.1,
           )
     ]
 
 -- frames were carried to an end
-pub upload_carried : (depth : ℕ) (start : Bool) (r : Run) (mid : Option (List ℕ)) (ended : Bool) (between : ℕ) (session : Session) (status : ℕ) → OutcomeLaw → MarkerLaw → ShowLaw →
-    WasReady depth start r.left mid ended session → r.reads_failed ≤ between → TakesFront r.left r.left_after →
-    Uploaded session mid r.left_after ended between r.reads_failed_after r.written r.written_after r.writes_failed r.writes_failed_after status → Runs (Upload depth start) r status
-upload_carried depth start r mid ended between session status law marker show ready later taken up = runs_upload depth start r status law (record {
+pub upload_carried : (depth : ℕ) (start readback : Bool) (r : Run) (mid : Option (List ℕ)) (ended : Bool) (between : ℕ) (link : Link) (status : ℕ) → OutcomeLaw → MarkerLaw → ShowLaw →
+    WasReady depth start readback r.left mid ended link → r.reads_failed ≤ between → TakesFront r.left r.left_after →
+    Uploaded link mid r.left_after ended between r.reads_failed_after r.written r.written_after r.writes_failed r.writes_failed_after status → Runs (Upload depth start readback) r status
+upload_carried depth start readback r mid ended between link status law marker show ready later taken up = runs_upload depth start readback r status law (record {
   not_one = (among_of status up.known).1;
   outcome = λ j. after_marker r.left mid _ _ _ ready.is ready.rest (up.ends j.1 j.2)
-      (λ all is it. (outcome status it.0, gives_outcome depth start all session status it.0 is it.1, refl, it.2));
+      (λ all is it. (outcome status it.0, gives_outcome depth start readback all link status it.0 is it.1, refl, it.2));
   safe = λ zero. after_marker r.left mid _ _ _ ready.is ready.rest (up.ends (λ six. omega (arith, zero, six)) (λ seven. omega (arith, zero, seven)))
-      (λ all is it. (outcome status it.0, gives_safe depth start all session status it.0 zero is it.1, it.2));
+      (λ all is it. (outcome status it.0, gives_safe depth start readback all link status it.0 zero is it.1, it.2));
   six = λ six. rose_later r.reads_failed between r.reads_failed_after later (up.six six).0;
   stopped = λ six. let it = up.six six in after_marker r.left mid _ _ _ ready.is ready.rest it.2
-      (λ all is it_is. (it_is.1, stopped_late depth start r.left r.left_after mid session it_is.0 it_is.1 marker ready.is ready.rest (ready.fed it.1) it_is.2 it_is.3, it_is.4));
+      (λ all is it_is. (it_is.1, stopped_late depth start readback r.left r.left_after mid link it_is.0 it_is.1 marker ready.is ready.rest (ready.fed it.1) it_is.2 it_is.3, it_is.4));
   seven = λ seven. let it = up.seven seven in
-      (it.0, cut_late depth start r.left r.left_after mid ended session r.reads_failed between r.reads_failed_after r.written r.written_after r.writes_failed r.writes_failed_after marker ready later up.grown.0 up.grown.1 it.1);
-  prompt = λ _. prompt_late depth start r mid session marker show ready.is ready.rest up.prompt;
+      (it.0, cut_late depth start readback r.left r.left_after mid ended link r.reads_failed between r.reads_failed_after r.written r.written_after r.writes_failed r.writes_failed_after marker ready later up.grown.0 up.grown.1 it.1);
+  prompt = λ _. prompt_late depth start readback r mid link marker show ready.is ready.rest up.prompt;
   known = (among_of status up.known).0;
   taken = taken;
   reads_later = omega (arith, later, up.reads_later);

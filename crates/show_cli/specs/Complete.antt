@@ -1,5 +1,5 @@
 -- Inputs that lack nothing: with no fault counted, the program ends with 0 on them, or it is out of memory.
-use Rattle.std.specs.Prelude.{◌≡◌, ℕ, ◌≤◌, List, length, None, Ok}
+use Rattle.std.specs.Prelude.{◌≡◌, ℕ, ◌≤◌, List, length, None, Bool, true, false, Some, Ok}
 use Rattle.std.specs.Str.Lines.{lines}
 use Rattle.choreo_reader.specs.Grammar.{StandsFor}
 use Rattle.choreo_reader.specs.Plain.{PlainShow}
@@ -10,8 +10,12 @@ use Rattle.keepout_boxes.specs.Regions.{regions_of}
 use Rattle.link_frames.specs.declared.frame.Frame.{Frame}
 use Rattle.link_upload.specs.Sends.{events_in}
 use Rattle.link_upload.specs.Uploads.{Takes}
-use Rattle.rehearsal.specs.Rehearsed.{rehearsed}
+use Rattle.rehearsal.specs.Rehearsed.{careful_rehearsed, rehearsed}
 use Rattle.fleet_world.specs.Schedules.{schedule_of}
+use Rattle.readback_model.specs.declared.events.CarefulEvent.{CarefulEvent}
+use Rattle.readback_model.specs.declared.events.CarefulProgress.TheVariants as careful
+use Rattle.readback_model.specs.CarefulHosts.{careful_progress}
+use Rattle.readback_core.specs.CarefulSchedules.{careful_schedule_of}
 use Rattle.fleet_curves.specs.Raised.{raised_of}
 use Rattle.sep_parts.specs.Versions.{table_of}
 use Rattle.sep_certificate.specs.declared.certificate.Certificate.{Certificate}
@@ -23,7 +27,7 @@ use Rattle.upload_model.specs.Hosts.{progress}
 use Rattle.command_words.specs.declared.command.Command.{Command}
 use Rattle.command_words.specs.declared.command.Command.TheVariants.{Help, Check, Compile, Certify, Play, Report, Verify, Rehearse, Upload, Drill, Boxes, Speed, Explain}
 use Rattle.show_cli.specs.Refused.{second_refusal, show_refusal}
-use Rattle.show_cli.specs.Shows.{Cut, certificate_limit, schedule_limit, session_of, show_limit, trajectories_of, words_of}
+use Rattle.show_cli.specs.Shows.{Cut, certificate_limit, link_in, schedule_limit, session_of, show_limit, trajectories_of, words_of}
 use Rattle.show_cli.specs.Studies.{region_limit, too_fast}
 
 -- The show's text stands for a show that nothing refuses: it is well-formed, it fits, at the command's depth each part has a direction that
@@ -33,6 +37,15 @@ pub record IsSound (c : Command) (cut : Cut) : Type 0 where
   pub short : length cut.show ≤ show_limit
   pub stands : StandsFor cut.show s
   pub accepted : show_refusal c cut s ≡ None
+
+-- A schedule leads to the end of the upload, with read-back (true) or without.
+abbrev pub RehearseSucceeds : Bool → PlainShow → Bool → Cut → Type 0
+RehearseSucceeds false s start cut =
+    (events : List WorldEvent) × (second_refusal schedule_limit None cut ≡ None) × (schedule_of (words_of s) cut.second ≡ Ok events)
+    × (progress (session_of s start) (rehearsed (session_of s start) events).heard ≡ Done)
+RehearseSucceeds true s start cut =
+    (events : List CarefulEvent) × (second_refusal schedule_limit None cut ≡ None) × (careful_schedule_of (words_of s) cut.second ≡ Ok events)
+    × (careful_progress (session_of s false) start (careful_rehearsed (session_of s false) start events).heard ≡ careful.Done)
 
 -- What a command asks for besides such a show. `verify`: the second text says a certificate that is valid. `rehearse`: it says a schedule after
 -- which the upload is done. `upload`: its frames lead there, and no more of them than are taken in one upload. `boxes`: the second text says
@@ -47,12 +60,10 @@ Succeeds (Report depth) s cut = Unit {0}
 Succeeds Verify s cut =
     (c : Certificate) × (second_refusal certificate_limit (bad_line (lines cut.second)) cut ≡ None) × Says cut.second c
     × IsValid (table_of c.version) (raised_of (trajectories_of s)) s.settings.r s.settings.h c
-Succeeds (Rehearse depth start) s cut =
-    (events : List WorldEvent) × (second_refusal schedule_limit None cut ≡ None) × (schedule_of (words_of s) cut.second ≡ Ok events)
-    × (progress (session_of s start) (rehearsed (session_of s start) events).heard ≡ Done)
-Succeeds (Upload depth start) s cut =
-    (frames : List Frame) × (rest : List ℕ) × Takes (session_of s start) cut.frames frames rest
-    × (progress (session_of s start) (events_in (session_of s start) frames) ≡ Done)
+Succeeds (Rehearse depth start readback) s cut = RehearseSucceeds readback s start cut
+Succeeds (Upload depth start readback) s cut =
+    (frames : List Frame) × (rest : List ℕ) × Takes (link_in s start readback) cut.frames frames rest
+    × ((link_in s start readback).ended (events_in (link_in s start readback) frames) ≡ Some 0)
 Succeeds (Drill drones depth) s cut = Unit {0}
 Succeeds (Boxes depth) s cut =
     (regions : List Region) × (second_refusal region_limit None cut ≡ None) × (regions_of cut.second ≡ Ok regions)

@@ -1,5 +1,5 @@
 -- What the program comes to on an input: the status that it ends with, and what it writes.
-use Rattle.std.specs.Prelude.{◌≡◌, ◌⊎◌, ℕ, ◌≤◌, Bool, List, length, Option, Some, None, Ok, if◌then◌else◌}
+use Rattle.std.specs.Prelude.{◌≡◌, ◌⊎◌, ℕ, ◌≤◌, Bool, true, false, List, length, Option, Some, None, Ok, if◌then◌else◌}
 use Rattle.std.specs.List.{All}
 use Rattle.std.specs.Option.{option_map}
 use Rattle.std.specs.Str.Lines.{lines}
@@ -19,6 +19,11 @@ use Rattle.upload_model.specs.declared.events.WorldEvent.{WorldEvent}
 use Rattle.upload_model.specs.Hosts.{progress}
 use Rattle.upload_model.specs.Worlds.{World}
 use Rattle.fleet_world.specs.Schedules.{schedule_of}
+use Rattle.readback_model.specs.declared.events.CarefulEvent.{CarefulEvent}
+use Rattle.readback_model.specs.declared.events.CarefulProgress.{CarefulProgress}
+use Rattle.readback_model.specs.declared.events.CarefulProgress.TheVariants as careful
+use Rattle.readback_model.specs.CarefulHosts.{careful_progress}
+use Rattle.readback_core.specs.CarefulSchedules.{careful_schedule_of}
 use Rattle.keepout_boxes.specs.declared.judging.Judged.{Judged}
 use Rattle.keepout_boxes.specs.declared.judging.Judged.TheVariants.{Kept, Enters}
 use Rattle.keepout_boxes.specs.declared.region.Region.{Region}
@@ -27,8 +32,8 @@ use Rattle.keepout_boxes.specs.Lines.{kept_line}
 use Rattle.keepout_boxes.specs.Regions.{regions_of}
 use Rattle.link_frames.specs.Frames.{end_frame}
 use Rattle.link_upload.specs.Uploads.{UploadGives}
-use Rattle.rehearsal.specs.Rehearsed.{rehearsed}
-use Rattle.rehearsal.specs.Texts.{IsRehearsalText}
+use Rattle.rehearsal.specs.Rehearsed.{careful_rehearsed, rehearsed}
+use Rattle.rehearsal.specs.Texts.{IsCarefulText, IsRehearsalText}
 use Rattle.integer_player.specs.Played.{play_text}
 use Rattle.drill_show.specs.Drill.{drill_text}
 use Rattle.report_text.specs.Report.{report_text}
@@ -43,7 +48,7 @@ use Rattle.show_plan.specs.Landing.{Lands}
 use Rattle.show_plan.specs.Separation.{FlyApart, best_certificate}
 use Rattle.show_plan.specs.Texts.{plan_text}
 use Rattle.show_cli.specs.Complete.{IsComplete}
-use Rattle.show_cli.specs.Shows.{Cut, certificate_limit, cut_of, name_at, names_of, schedule_limit, sent_of, session_of, show_limit, trajectories_of, words_of}
+use Rattle.show_cli.specs.Shows.{Cut, certificate_limit, cut_of, link_in, name_at, names_of, schedule_limit, sent_of, session_of, show_limit, trajectories_of, words_of}
 use Rattle.show_cli.specs.Ways.{ways_of}
 use Rattle.show_cli.specs.Refused.{faulty_event, not_valid, second_refusal, show_refusal, text_refusal}
 use Rattle.show_cli.specs.Reports.{cues_in, drill_of, duration_of, ok_line, report_of, valid_line}
@@ -100,6 +105,34 @@ abbrev pub ScheduleGives : Option Refusal → PlainShow → Bool → Cut → Out
 ScheduleGives (Some r) s start cut o = o ≡ refused r
 ScheduleGives None s start cut o = (events : List WorldEvent) × (schedule_of (words_of s) cut.second ≡ Ok events) × Rehearses s start events o
 
+-- ---- schedules with alterations
+
+-- How a rehearsal with read-back ends, by how far the upload is after the whole schedule.
+abbrev pub CarefulRehearsalEnds : CarefulProgress → PlainShow → World → Outcome → Type 0
+CarefulRehearsalEnds careful.Going s w o = o ≡ refused refusal.Ended
+CarefulRehearsalEnds (careful.GaveUp drone packet) s w o = o ≡ refused (refusal.GaveUp (name_at (names_of s) drone) packet)
+CarefulRehearsalEnds (careful.Refused drone packet status) s w o = o ≡ refused (refusal.Refused (name_at (names_of s) drone) packet status)
+CarefulRehearsalEnds (careful.Differs drone address wanted got) s w o = o ≡ refused (refusal.Differs (name_at (names_of s) drone) address wanted got)
+CarefulRehearsalEnds careful.Done s w o = (o.status ≡ 0) × IsCarefulText w.drones s.settings.trajectory_id (words_of s) o.output
+
+-- what the events of a schedule come to with read-back, over drones that are blank at the start
+abbrev pub CarefullyRehearses : PlainShow → Bool → List CarefulEvent → Outcome → Type 0
+CarefullyRehearses s start events o =
+    CarefulRehearsalEnds (careful_progress (session_of s false) start (careful_rehearsed (session_of s false) start events).heard) s
+    (careful_rehearsed (session_of s false) start events) o
+
+-- a schedule's text comes to its refusal, or to what its events come to with read-back
+abbrev pub CarefulScheduleGives : Option Refusal → PlainShow → Bool → Cut → Outcome → Type 0
+CarefulScheduleGives (Some r) s start cut o = o ≡ refused r
+CarefulScheduleGives None s start cut o =
+    (events : List CarefulEvent) × (careful_schedule_of (words_of s) cut.second ≡ Ok events) × CarefullyRehearses s start events o
+
+-- what a schedule's text comes to, with read-back (true) or without
+abbrev pub RehearseGives : Bool → PlainShow → Bool → Cut → Outcome → Type 0
+RehearseGives false s start cut o = ScheduleGives (second_refusal schedule_limit (faulty_event (schedule_of (words_of s) cut.second)) cut) s start cut o
+RehearseGives true s start cut o =
+    CarefulScheduleGives (second_refusal schedule_limit (faulty_event (careful_schedule_of (words_of s) cut.second)) cut) s start cut o
+
 -- ---- regions, speeds and explanations
 
 -- how `boxes` ends, by how the drones are judged for so many regions
@@ -131,8 +164,8 @@ Gives (Certify depth) s cut o = o ≡ outcome 0 (text_of (best_certificate s.set
 Gives (Play depth step) s cut o = o ≡ outcome 0 (play_text (duration_of s) step (words_of s) (sent_of s))
 Gives (Report depth) s cut o = o ≡ outcome 0 (report_text (report_of s depth))
 Gives Verify s cut o = CertificateGives (second_refusal certificate_limit (bad_line (lines cut.second)) cut) s cut o
-Gives (Rehearse depth start) s cut o = ScheduleGives (second_refusal schedule_limit (faulty_event (schedule_of (words_of s) cut.second)) cut) s start cut o
-Gives (Upload depth start) s cut o = UploadGives (session_of s start) cut.frames o.status o.output
+Gives (Rehearse depth start readback) s cut o = RehearseGives readback s start cut o
+Gives (Upload depth start readback) s cut o = UploadGives (link_in s start readback) cut.frames o.status o.output
 Gives (Drill drones depth) s cut o = o ≡ outcome 0 (drill_of (report_of s depth))
 Gives (Boxes depth) s cut o = RegionsGive (second_refusal region_limit (faulty_region (regions_of cut.second)) cut) s depth cut o
 Gives (Speed depth limit) s cut o = o ≡ speeds_end (too_fast limit depth s) (speed_text depth (sent_of s) (names_of s))
@@ -163,8 +196,8 @@ judged_text (Certify depth) input = Some input
 judged_text (Play depth step) input = Some input
 judged_text (Report depth) input = Some input
 judged_text Verify input = Some input
-judged_text (Rehearse depth start) input = Some input
-judged_text (Upload depth start) input = Some input
+judged_text (Rehearse depth start readback) input = Some input
+judged_text (Upload depth start readback) input = Some input
 judged_text (Drill drones depth) input = Some (drill_text drones)
 judged_text (Boxes depth) input = Some input
 judged_text (Speed depth limit) input = Some input
@@ -182,16 +215,17 @@ IsOutcome c input o = IsOutcomeFor c (judged_text c input) o
 abbrev pub LandsWhereAccepted : Command → Cut → Type 0
 LandsWhereAccepted c cut = (s : PlainShow) → StandsFor cut.show s → show_refusal c cut s ≡ None → Lands (grid_of s) s.settings (sent_of s)
 
--- a show of this text that `explain` accepts can be explained; `run` says so of each that it accepts
-abbrev pub ExplainedWhereAccepted : Command → Cut → Type 0
-ExplainedWhereAccepted c cut = (s : PlainShow) → StandsFor cut.show s → show_refusal c cut s ≡ None → (o : Outcome) × Gives c s cut o
+-- a show of this text that the command accepts comes to an outcome; `run` says so of each that it accepts
+abbrev pub EndsWhereAccepted : Command → Cut → Type 0
+EndsWhereAccepted c cut = (s : PlainShow) → StandsFor cut.show s → show_refusal c cut s ≡ None → (o : Outcome) × Gives c s cut o
 
--- An input comes to one outcome alone, and to one; with `rehearse` where the show that it accepts lands, with `explain` where it can be
--- explained. An input that lacks nothing comes to status 0.
+-- An input comes to one outcome alone, and to one; with `rehearse` where the show that it accepts lands, with `explain` and
+-- `rehearse --readback` where it comes to an outcome. An input that lacks nothing comes to status 0.
 pub record OutcomeLaw : Type 0 where
   pub one : (c : Command) (cut : Cut) (o p : Outcome) → IsOutcomeOf c cut o → IsOutcomeOf c cut p → o ≡ p
-  pub some : (c : Command) (cut : Cut) → ((depth : ℕ) (start : Bool) → c ≡ Rehearse depth start → LandsWhereAccepted c cut) →
-      ((depth fine : ℕ) → c ≡ Explain depth fine → ExplainedWhereAccepted c cut) → (o : Outcome) × IsOutcomeOf c cut o
+  pub some : (c : Command) (cut : Cut) → ((depth : ℕ) (start readback : Bool) → c ≡ Rehearse depth start readback → LandsWhereAccepted c cut) →
+      ((depth : ℕ) (start : Bool) → c ≡ Rehearse depth start true → EndsWhereAccepted c cut) →
+      ((depth fine : ℕ) → c ≡ Explain depth fine → EndsWhereAccepted c cut) → (o : Outcome) × IsOutcomeOf c cut o
   pub complete : (c : Command) (cut : Cut) (o : Outcome) → IsComplete c cut → IsOutcomeOf c cut o → o.status ≡ 0
 
 -- ---- what status 0 promises
@@ -218,8 +252,8 @@ Promises (Certify depth) s cut = FliesApart s
 Promises (Play depth step) s cut = FliesApart s
 Promises (Report depth) s cut = FliesApart s
 Promises Verify s cut = FliesApart s
-Promises (Rehearse depth start) s cut = FliesApart s
-Promises (Upload depth start) s cut = FliesApart s
+Promises (Rehearse depth start readback) s cut = FliesApart s
+Promises (Upload depth start readback) s cut = FliesApart s
 Promises (Drill drones depth) s cut = FliesApart s
 Promises (Boxes depth) s cut = (regions : List Region) × (regions_of cut.second ≡ Ok regions) × KeepClear s.settings.r s.settings.h regions (sent_of s)
 Promises (Speed depth limit) s cut = All (KeepsBounds limit depth) (sent_of s)

@@ -11,7 +11,6 @@ use Rattle.figure_expand.specs.declared.fault.ExpandFault.TheVariants as expand
 use Rattle.figure_expand.specs.Expanded.{range_fault}
 use Rattle.sep_certificate.specs.declared.certificate.CertFault.{CertFault}
 use Rattle.sep_certificate.specs.declared.certificate.CertFault.TheVariants as cert
-use Rattle.upload_model.specs.declared.events.WorldEvent.{WorldEvent}
 use Rattle.command_words.specs.declared.command.Command.{Command}
 use Rattle.refusals.specs.declared.refusal.Pair.{Pair}
 use Rattle.refusals.specs.declared.refusal.Refusal.{Refusal}
@@ -86,7 +85,7 @@ second_refusal limit faulty_line cut =
     (if cut.is_second_marked then Some (refusal.SecondLine (marker_number cut.second)) else None)
 
 -- the first faulty line of a schedule, if there is one
-abbrev pub faulty_event : Result (List WorldEvent) ℕ → Option ℕ
+abbrev pub faulty_event : {E : Type 0} → Result (List E) ℕ → Option ℕ
 faulty_event (Ok events) = None
 faulty_event (Err line) = Some line
 

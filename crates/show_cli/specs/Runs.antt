@@ -15,7 +15,7 @@ use Rattle.command_words.specs.Commands.{command_of, help_text}
 use Rattle.command_words.specs.declared.command.Command.{Command}
 use Rattle.command_words.specs.declared.command.Command.TheVariants.{Help, Check, Compile, Certify, Play, Report, Verify, Rehearse, Upload, Drill, Boxes, Speed, Explain}
 use Rattle.refusals.specs.Lines.{read_line}
-use Rattle.show_cli.specs.Shows.{cut_of, session_of, show_limit}
+use Rattle.show_cli.specs.Shows.{cut_of, link_in, show_limit}
 use Rattle.show_cli.specs.Ways.{reads_all, ways_of}
 use Rattle.show_cli.specs.Refused.{show_refusal}
 use Rattle.show_cli.specs.Complete.{IsComplete}
@@ -79,10 +79,10 @@ pub record Carried (r : Run) (taken sent : List ℕ) : Type 0 where
 
 -- What `upload` writes where a read failed after these bytes. Without a whole marker line among them, the end frame. Else they hold a show that
 -- is accepted, and each whole frame after the marker line was answered.
-abbrev pub UploadStops : Command → Bool → Bool → List ℕ → List ℕ → Type 0
-UploadStops c start false taken output = output ≡ end_frame 6
-UploadStops c start true taken output =
-    (s : PlainShow) × StandsFor (part_of taken) s × (show_refusal c (cut_of taken) s ≡ None) × UploadFails (session_of s start) (rest_of taken) output
+abbrev pub UploadStops : Command → Bool → Bool → Bool → List ℕ → List ℕ → Type 0
+UploadStops c start readback false taken output = output ≡ end_frame 6
+UploadStops c start readback true taken output =
+    (s : PlainShow) × StandsFor (part_of taken) s × (show_refusal c (cut_of taken) s ≡ None) × UploadFails (link_in s start readback) (rest_of taken) output
 
 -- what is written where a read failed after these bytes
 abbrev pub Stops : Command → List ℕ → List ℕ → Type 0
@@ -93,8 +93,8 @@ Stops (Certify depth) taken output = output ≡ read_line
 Stops (Play depth step) taken output = output ≡ read_line
 Stops (Report depth) taken output = output ≡ read_line
 Stops Verify taken output = output ≡ read_line
-Stops (Rehearse depth start) taken output = output ≡ read_line
-Stops (Upload depth start) taken output = UploadStops (Upload depth start) start (has_whole_marker taken) taken output
+Stops (Rehearse depth start readback) taken output = output ≡ read_line
+Stops (Upload depth start readback) taken output = UploadStops (Upload depth start readback) start readback (has_whole_marker taken) taken output
 Stops (Drill drones depth) taken output = ⊥
 Stops (Boxes depth) taken output = output ≡ read_line
 Stops (Speed depth limit) taken output = output ≡ read_line
@@ -114,10 +114,10 @@ IsOutput c r output =
     ⊎ (Rose r.reads_failed r.reads_failed_after × IsStopped c r output)
 
 -- No answer of `upload` waits for much further input, for a show that is accepted.
-abbrev pub UploadsPromptly : Command → Bool → Run → Type 0
-UploadsPromptly c start r =
+abbrev pub UploadsPromptly : Command → Bool → Bool → Run → Type 0
+UploadsPromptly c start readback r =
     (taken sent : List ℕ) → Carried r taken sent → has_whole_marker taken ≡ true →
-    (s : PlainShow) → StandsFor (part_of taken) s → show_refusal c (cut_of taken) s ≡ None → IsPrompt (session_of s start) (rest_of taken) sent
+    (s : PlainShow) → StandsFor (part_of taken) s → show_refusal c (cut_of taken) s ≡ None → IsPrompt (link_in s start readback) (rest_of taken) sent
 
 -- the other commands answer once, at their end, or write rows and read nothing meanwhile
 abbrev pub AnswersPromptly : Command → Run → Type 0
@@ -128,8 +128,8 @@ AnswersPromptly (Certify depth) r = Unit {0}
 AnswersPromptly (Play depth step) r = Unit {0}
 AnswersPromptly (Report depth) r = Unit {0}
 AnswersPromptly Verify r = Unit {0}
-AnswersPromptly (Rehearse depth start) r = Unit {0}
-AnswersPromptly (Upload depth start) r = UploadsPromptly (Upload depth start) start r
+AnswersPromptly (Rehearse depth start readback) r = Unit {0}
+AnswersPromptly (Upload depth start readback) r = UploadsPromptly (Upload depth start readback) start readback r
 AnswersPromptly (Drill drones depth) r = Unit {0}
 AnswersPromptly (Boxes depth) r = Unit {0}
 AnswersPromptly (Speed depth limit) r = Unit {0}
@@ -158,7 +158,7 @@ pub record Runs (c : Command) (r : Run) (status : ℕ) : Type 0 where
   -- `help` and `drill` read nothing.
   pub unread : reads c ≡ false → (r.left_after ≡ r.left) × (r.reads_failed_after ≡ r.reads_failed)
   -- There is no other status; 2 is none of a command.
-  pub known : Contains (0 ∷ 1 ∷ 3 ∷ 4 ∷ 5 ∷ 6 ∷ 7 ∷ 8 ∷ 9 ∷ 10 ∷ 11 ∷ 12 ∷ 13 ∷ 15 ∷ 16 ∷ []) status
+  pub known : Contains (0 ∷ 1 ∷ 3 ∷ 4 ∷ 5 ∷ 6 ∷ 7 ∷ 8 ∷ 9 ∷ 10 ∷ 11 ∷ 12 ∷ 13 ∷ 14 ∷ 15 ∷ 16 ∷ []) status
   pub taken : TakesFront r.left r.left_after
   pub reads_later : r.reads_failed ≤ r.reads_failed_after
   pub writes_later : r.writes_failed ≤ r.writes_failed_after

@@ -1,5 +1,5 @@
 -- What a show is to the program: its names, its trajectories and its session; and the input, cut at its marker lines.
-use Rattle.std.specs.Prelude.{ℕ, suc, ◌==◌, Bool, List, [], ◌∷◌, map, slice_index_or, if◌then◌else◌}
+use Rattle.std.specs.Prelude.{ℕ, suc, ◌==◌, Bool, true, false, List, [], ◌∷◌, map, slice_index_or, if◌then◌else◌}
 use Rattle.text_lines.specs.Lines.{between_feeds}
 use Rattle.text_lines.specs.Marker.{has_marker, part_of, rest_of}
 use Rattle.choreo_lines.specs.Name.{Name}
@@ -13,6 +13,7 @@ use Rattle.sep_certificate.specs.declared.text.TheConstants.{CERTIFICATE_LIMIT}
 use Rattle.show_plan.specs.Landing.{session_for}
 use Rattle.show_plan.specs.Trajectories.{by_cue, sent}
 use Rattle.upload_model.specs.Sessions.{Upload as Session}
+use Rattle.link_upload.specs.Links.{Link, careful_link_of, link_of}
 
 -- ---- the input
 
@@ -77,3 +78,8 @@ sent_of s = sent (grid_of s)
 -- what is uploaded of a show, with starts or without
 abbrev pub session_of : PlainShow → Bool → Session
 session_of s start = session_for s.settings (sent_of s) start
+
+-- the upload of a show through a link, with starts or without, and with read-back (true) or without
+abbrev pub link_in : PlainShow → Bool → Bool → Link
+link_in s start false = link_of (session_of s start)
+link_in s start true = careful_link_of (session_of s false) start

@@ -8,36 +8,50 @@ use Rattle.fleet_io.specs.Parts.{TakesMarked}
 use Rattle.command_words.specs.declared.command.Command.{Command}
 use Rattle.upload_core.specs.HostStandsFor.{HostStandsFor}
 use Rattle.upload_core.specs.HostState.{view_of}
+use Rattle.readback_core.specs.CarefulState.{CarefulStandsFor}
+use Rattle.link_upload.specs.Links.{Link, careful_link_of, link_of}
 use Rattle.upload_model.specs.Sessions.{Upload as Session}
 use Rattle.show_cli.specs.declared.commands.upload.Ready.{Ready}
 use Rattle.show_cli.specs.declared.commands.upload.Ready.TheVariants as ready
 use Rattle.show_cli.specs.Answers.{IsRefusedBy}
 use Rattle.show_cli.specs.Outcome.{IsSafeShow}
 use Rattle.show_cli.specs.Refused.{IsOfInput, show_refusal}
-use Rattle.show_cli.specs.Shows.{Cut, session_of, show_limit}
+use Rattle.show_cli.specs.Shows.{Cut, link_in, show_limit}
 
--- The show's text stands for a show that nothing refuses, and this is what is uploaded of it.
-pub record IsSessionOf (c : Command) (start : Bool) (cut : Cut) (session : Session) : Type 0 where
+-- The show's text stands for a show that nothing refuses, and this is its upload through a link.
+pub record IsLinkOf (c : Command) (start readback : Bool) (cut : Cut) (link : Link) : Type 0 where
   pub s : PlainShow
   pub short : length cut.show ≤ show_limit
   pub stands : StandsFor cut.show s
   pub accepted : show_refusal c cut s ≡ None
   pub safe : IsSafeShow s
-  pub is : session ≡ session_of s start
+  pub is : link ≡ link_in s start readback
 
--- the host of such a session, or why the command refuses the show
-abbrev pub ReadyGives : Command → Bool → Cut → Ready → Type 0
-ReadyGives c start cut (ready.Host host) = IsSessionOf c start cut host.session
-ReadyGives c start cut (ready.Refused r) = IsRefusedBy c cut r
+-- the host of such an upload, or why the command refuses the show
+abbrev pub ReadyGives : Command → Bool → Bool → Cut → Ready → Type 0
+ReadyGives c start readback cut (ready.Host host) = IsLinkOf c start readback cut (link_of host.session)
+ReadyGives c start readback cut (ready.Careful careful) = IsLinkOf c start readback cut (careful_link_of careful.host.session careful.starts)
+ReadyGives c start readback cut (ready.Refused r) = IsRefusedBy c cut r
+
+-- the host of what is uploaded with starts or without, with read-back (true) or without
+abbrev pub IsReadyFor : (Bool → Session) → Bool → Bool → Ready → Type 0
+IsReadyFor session start false (ready.Host host) = host.session ≡ session start
+IsReadyFor session start true (ready.Host host) = ⊥
+IsReadyFor session start false (ready.Careful careful) = ⊥
+IsReadyFor session start true (ready.Careful careful) = (careful.host.session ≡ session false) × (careful.starts ≡ start)
+IsReadyFor session start readback (ready.Refused r) = ⊥
 
 -- nothing has happened to the host, and a refusal is one of an input
 abbrev pub IsSoundReady : Ready → Type 0
 IsSoundReady (ready.Host host) = HostStandsFor (view_of host) []
+IsSoundReady (ready.Careful careful) = CarefulStandsFor careful []
 IsSoundReady (ready.Refused r) = IsOfInput r
 
 -- Where frames are wanted, the bytes after the marker line are still to come; and unless the input's end was met, the marker line had its line
 -- feed.
 abbrev pub GoesOnReady : Ready → Held → Option (List ℕ) → Option (List ℕ) → Type 0
 GoesOnReady (ready.Host host) held old new =
+    (held.sound ≡ true) × IfSome old (λ all. new ≡ Some (rest_of all)) × (held.ended ≡ false → TakesMarked old new)
+GoesOnReady (ready.Careful careful) held old new =
     (held.sound ≡ true) × IfSome old (λ all. new ≡ Some (rest_of all)) × (held.ended ≡ false → TakesMarked old new)
 GoesOnReady (ready.Refused r) held old new = Unit {0}

@@ -35,8 +35,8 @@ ways_of (Certify depth) = of_show depth
 ways_of (Play depth step) = of_show depth
 ways_of (Report depth) = of_show depth
 ways_of Verify = of_two None
-ways_of (Rehearse depth start) = of_two (Some depth)
-ways_of (Upload depth start) = record { reads = true; has_second = true; by_frames = true; depth = Some depth }
+ways_of (Rehearse depth start readback) = of_two (Some depth)
+ways_of (Upload depth start readback) = record { reads = true; has_second = true; by_frames = true; depth = Some depth }
 ways_of (Drill drones depth) = unread (Some depth)
 ways_of (Boxes depth) = of_two None
 ways_of (Speed depth limit) = of_any_show

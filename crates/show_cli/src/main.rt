@@ -47,6 +47,8 @@ fn main(rt: HostRuntime) -> ExitCode {
 #[cfg(test)]
 mod failing_tests;
 #[cfg(test)]
+mod readback_tests;
+#[cfg(test)]
 mod rehearse_tests;
 #[cfg(test)]
 mod study_tests;

@@ -34,7 +34,7 @@ fn answer(
     bytes.extend_from_slice(second)?;
     let mut source = MemSource::make(bytes, 1000, Vec::from_slice(alloc, &[fails])?);
     let mut sink = MemSink::make(alloc, 20_000, 1000, Vec::new(alloc))?;
-    let status = rehearse(alloc, 6, start, &mut source, &mut sink);
+    let status = rehearse(alloc, 6, start, false, &mut source, &mut sink);
     Ok((status, sink))
 }
 

@@ -89,7 +89,7 @@ pub fn answer(
     }
     let mut source = source_of(alloc, front, rest, reads)?;
     let fails = Vec::from_slice(alloc, &[writes.fails])?;
-    let mut sink = MemSink::make(alloc, 10_000, writes.cut.max(1), fails)?;
+    let mut sink = MemSink::make(alloc, 20_000, writes.cut.max(1), fails)?;
     let status = run(alloc, &list, &mut source, &mut sink);
     Ok((status, sink))
 }
@@ -108,8 +108,8 @@ pub fn is_met(
 }
 
 pub const HELP: &[u8] = b"help\ncheck [--depth D]\ncompile [--depth D]\ncertify [--depth D]\n\
-play [--depth D] [--step MS]\nreport [--depth D]\nverify\nrehearse [--depth D] [--start]\n\
-upload [--depth D] [--start]\ndrill N [--depth D]\n\
+play [--depth D] [--step MS]\nreport [--depth D]\nverify\nrehearse [--depth D] [--start] [--readback]\n\
+upload [--depth D] [--start] [--readback]\ndrill N [--depth D]\n\
 boxes [--depth D]\nspeed [--depth D] [--limit V]\nexplain [--depth D] [--fine E]\n";
 
 // A drone that moves a metre along x in two seconds: its first, middle and last instants.

@@ -4,6 +4,7 @@ ghost use Rattle.std.specs.Io.KnownBytes.{Appends};
 ghost use Rattle.fleet_io.specs.Causes.{Rose};
 ghost use Rattle.fleet_io.specs.Taken.{AppendsFront, TakesFront};
 ghost use Rattle.command_words.specs.Commands.{IsCommand};
+ghost use Rattle.readback_model.specs.Readback.{StartsLastLaw, UnalteredLaw, VerifiedLaw};
 ghost use Rattle.refusals.specs.Lines.{usage_line};
 ghost use Rattle.show_cli.specs.Headline.{Headline, KeepsSpeeds, StaysInRegions, TellsTouches};
 ghost use Rattle.show_cli.specs.Runs.{Completes, Runs, StopsAtMarker, TakesLittle, command_in, run_of};
@@ -25,6 +26,7 @@ use crate::ends::refuse;
 use crate::outcomes::outcome_law;
 use command_words::{Command, command_of};
 use fleet_io::{Sink, Source, SureSink, SureSource};
+use readback_core::readback_law;
 use refusals::Refusal;
 use std::alloc::Global;
 
@@ -48,8 +50,16 @@ fn run_command<S: Source, K: Sink>(
         Command::Play { depth, step } => play(alloc, depth, step, source, sink),
         Command::Report { depth } => report(alloc, depth, source, sink),
         Command::Verify => verify(alloc, source, sink),
-        Command::Rehearse { depth, start } => rehearse(alloc, depth, start, source, sink),
-        Command::Upload { depth, start } => upload(alloc, depth, start, source, sink),
+        Command::Rehearse {
+            depth,
+            start,
+            readback,
+        } => rehearse(alloc, depth, start, readback, source, sink),
+        Command::Upload {
+            depth,
+            start,
+            readback,
+        } => upload(alloc, depth, start, readback, source, sink),
         Command::Drill { drones, depth } => drill(alloc, drones, depth, source, sink),
         Command::Boxes { depth } => boxes(alloc, depth, source, sink),
         Command::Speed { depth, limit } => speed(alloc, depth, limit, source, sink),
@@ -94,6 +104,12 @@ pub fn run<S: Source, K: Sink>(
     ensures touches { (depth fine : ℕ) (input : List ℕ) → command_in words.now.items ≡ Some (Command.Explain depth fine) → S.left source.old ≡ Some input → result ≡ 0
         → TellsTouches depth fine input (K.written sink.old) (K.written sink.new) }
 
+    // When an upload with read-back is done, each byte of each load was right when it was read, whoever else alters a byte; no start was
+    // sent before; and where nobody alters one, no byte differs.
+    ensures verified { VerifiedLaw }
+    ensures starts_last { StartsLastLaw }
+    ensures unaltered { UnalteredLaw }
+
     // There is no status above 16.
     ensures known { result ≤ 16 }
     ensures taken { TakesFront (S.left source.old) (S.left source.new) }
@@ -101,6 +117,7 @@ pub fn run<S: Source, K: Sink>(
     ensures sink_later { K.faults sink.old ≤ K.faults sink.new }
 {
     outcome_law();
+    readback_law();
     match command_of(words) {
         Some(command) => run_command(alloc, command, source, sink),
         None => refuse(sink, &Refusal::Usage),

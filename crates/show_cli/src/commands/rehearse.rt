@@ -3,6 +3,7 @@ ghost use Rattle.std.specs.Prelude.{◌≡◌, ◌<◌, ◌≤◌, length, IfOk,
 ghost use Rattle.choreo_reader.specs.Plain.{PlainShow};
 ghost use Rattle.cue_grid.specs.declared.grid.Grid.{Grid};
 ghost use Rattle.fleet_world.specs.Schedules.{schedule_of};
+ghost use Rattle.readback_core.specs.CarefulSchedules.{careful_schedule_of};
 ghost use Rattle.show_plan.specs.Fitting.{IsFitted, IsValidFitted};
 ghost use Rattle.show_plan.specs.Landing.{Lands};
 ghost use Rattle.command_words.specs.Commands.{most_depth};
@@ -10,7 +11,7 @@ ghost use Rattle.fleet_io.specs.Causes.{Rose};
 ghost use Rattle.fleet_io.specs.Taken.{TakesFront};
 ghost use Rattle.show_cli.specs.Answers.{AnswersInput, AnswersTwo, IsSaid, outcome_of};
 ghost use Rattle.show_cli.specs.Input.{IsText, IsUnmarked, IsWithin};
-ghost use Rattle.show_cli.specs.Outcome.{Rehearses, ScheduleGives};
+ghost use Rattle.show_cli.specs.Outcome.{CarefulScheduleGives, CarefullyRehearses, RehearseGives, Rehearses, ScheduleGives};
 ghost use Rattle.show_cli.specs.Refused.{faulty_event, second_refusal};
 ghost use Rattle.text_lines.specs.Marker.{part_of};
 ghost use Rattle.show_cli.specs.Runs.{Runs, StopsAtMarker, TakesLittle, TakesOneText, run_of};
@@ -24,8 +25,9 @@ use crate::refuse::{marker_number, name_at};
 use command_words::Command;
 use fleet_io::{Part, Sink, Source};
 use fleet_world::{MOST_TEXT, ScheduleFault, WorldEvent, read_schedule_of};
+use readback_core::{CarefulEvent, CarefulProgress, read_careful_schedule_of};
 use refusals::Refusal;
-use rehearsal::memory_text;
+use rehearsal::{careful_text, memory_text};
 use show_plan::{Fitted, session};
 use std::alloc::{AllocError, Global};
 use upload_model::Progress;
@@ -76,6 +78,57 @@ fn rehearse_events(
     }
 }
 
+// What an upload with read-back comes to, after these events, over drones that are blank at the start.
+fn rehearse_carefully(
+    alloc: Global,
+    fitted: &Fitted,
+    start: bool,
+    events: &[CarefulEvent],
+) -> Result<Answer, AllocError>
+    requires valid { IsValidFitted fitted.now }
+    ensures gives { (s : PlainShow) → IsFitted fitted.now s
+        → IfOk result (λ a. CarefullyRehearses s start events.now (outcome_of a)) }
+    ensures said { IfOk result IsSaid }
+{
+    let session = session(alloc, fitted, false)?;
+    let world = rehearsal::rehearse_carefully(alloc, session, start, events)?;
+    let names = fitted.names.as_slice();
+    let refusal = match world.progress() {
+        CarefulProgress::Going => Refusal::Ended,
+        CarefulProgress::GaveUp { drone, packet } => Refusal::GaveUp {
+            drone: name_at(names, drone),
+            packet,
+        },
+        CarefulProgress::Refused {
+            drone,
+            packet,
+            status,
+        } => Refusal::Refused {
+            drone: name_at(names, drone),
+            packet,
+            status,
+        },
+        CarefulProgress::Differs {
+            drone,
+            address,
+            wanted,
+            got,
+        } => Refusal::Differs {
+            drone: name_at(names, drone),
+            address,
+            wanted,
+            got,
+        },
+        CarefulProgress::Done => {
+            let lines = careful_text(alloc, &world, names, fitted.settings.trajectory_id)?;
+            return Ok(Answer::Done {
+                output: Output::Text { lines },
+            });
+        }
+    };
+    Ok(Answer::Refused { refusal })
+}
+
 // What a second text comes to that isn't too large.
 fn judge_part(
     alloc: Global,
@@ -112,6 +165,42 @@ fn judge_part(
     rehearse_events(alloc, fitted, start, &events)
 }
 
+// What a second text comes to with read-back that isn't too large.
+fn judge_careful_part(
+    alloc: Global,
+    fitted: &Fitted,
+    start: bool,
+    part: &Part,
+) -> Result<Answer, AllocError>
+    requires valid { IsValidFitted fitted.now }
+    requires short { length part.now.bytes.items ≤ schedule_limit }
+    ensures gives { (s : PlainShow) (cut : Cut) → IsFitted fitted.now s
+        → IsText schedule_limit (Text.Whole part.now) cut.second cut.is_second_marked
+        → IfOk result (λ a. CarefulScheduleGives
+        (second_refusal schedule_limit (faulty_event (careful_schedule_of (words_of s) cut.second)) cut)
+        s start cut (outcome_of a)) }
+    ensures whole { IfOk result (λ a. (outcome_of a).status ≡ 0 → IsUnmarked (Text.Whole part.now)) }
+    ensures said { IfOk result IsSaid }
+{
+    let events = match read_careful_schedule_of(alloc, &part.bytes, fitted.names.as_slice()) {
+        Ok(events) => events,
+        Err(ScheduleFault::Line { line }) => {
+            return Ok(Answer::Refused {
+                refusal: Refusal::SecondLine { line },
+            });
+        }
+        Err(ScheduleFault::Memory) => return Err(AllocError),
+    };
+    if part.marker {
+        return Ok(Answer::Refused {
+            refusal: Refusal::SecondLine {
+                line: marker_number(&part.bytes),
+            },
+        });
+    }
+    rehearse_carefully(alloc, fitted, start, &events)
+}
+
 // What a second text comes to for a show that nothing refuses.
 fn judge_second(
     alloc: Global,
@@ -138,17 +227,76 @@ fn judge_second(
     }
 }
 
+// What a second text comes to with read-back for a show that nothing refuses.
+fn judge_careful(
+    alloc: Global,
+    fitted: &Fitted,
+    start: bool,
+    second: &Text,
+) -> Result<Answer, AllocError>
+    requires valid { IsValidFitted fitted.now }
+    requires short { IsWithin schedule_limit second.now }
+    ensures gives { (s : PlainShow) (cut : Cut) → IsFitted fitted.now s
+        → IsText schedule_limit second.now cut.second cut.is_second_marked
+        → IfOk result (λ a. CarefulScheduleGives
+        (second_refusal schedule_limit (faulty_event (careful_schedule_of (words_of s) cut.second)) cut)
+        s start cut (outcome_of a)) }
+    ensures whole { IfOk result (λ a. (outcome_of a).status ≡ 0 → IsUnmarked second.now) }
+    ensures said { IfOk result IsSaid }
+{
+    match second {
+        Text::TooLarge => Ok(Answer::Refused {
+            refusal: Refusal::SecondTooLarge,
+        }),
+        Text::Whole { part } => judge_careful_part(alloc, fitted, start, part),
+    }
+}
+
+// What a second text comes to, with read-back or without, for a show that nothing refuses.
+fn judge_either(
+    alloc: Global,
+    fitted: &Fitted,
+    start: bool,
+    readback: bool,
+    second: &Text,
+) -> Result<Answer, AllocError>
+    requires valid { IsValidFitted fitted.now }
+    requires lands { (g : Grid) × Lands g fitted.now.settings fitted.now.sent }
+    requires short { IsWithin schedule_limit second.now }
+    ensures gives { (s : PlainShow) (cut : Cut) → IsFitted fitted.now s
+        → IsText schedule_limit second.now cut.second cut.is_second_marked
+        → IfOk result (λ a. RehearseGives readback s start cut (outcome_of a)) }
+    ensures whole { IfOk result (λ a. (outcome_of a).status ≡ 0 → IsUnmarked second.now) }
+    ensures said { IfOk result IsSaid }
+{
+    if readback {
+        judge_careful(alloc, fitted, start, second)
+    } else {
+        judge_second(alloc, fitted, start, second)
+    }
+}
+
 // What `rehearse` answers for two texts.
-fn answer_two(alloc: Global, depth: u8, start: bool, input: &Input) -> Result<Answer, AllocError>
+fn answer_two(
+    alloc: Global,
+    depth: u8,
+    start: bool,
+    readback: bool,
+    input: &Input,
+) -> Result<Answer, AllocError>
     requires depth { depth ≤ most_depth }
     requires show { IsWithin show_limit input.now.show }
     requires second { IsWithin schedule_limit input.now.second }
-    ensures { AnswersTwo (Command.Rehearse depth start) schedule_limit input.now result }
+    ensures { AnswersTwo (Command.Rehearse depth start readback) schedule_limit input.now result }
 {
-    let command = Command::Rehearse { depth, start };
+    let command = Command::Rehearse {
+        depth,
+        start,
+        readback,
+    };
     match accept(alloc, command, depth, &input.show)? {
         Judged::Accepted { accepted } => {
-            judge_second(alloc, &accepted.fitted, start, &input.second)
+            judge_either(alloc, &accepted.fitted, start, readback, &input.second)
         }
         Judged::Refused { refusal } => Ok(Answer::Refused { refusal }),
     }
@@ -159,35 +307,37 @@ fn answer_input<S: Source>(
     alloc: Global,
     depth: u8,
     start: bool,
+    readback: bool,
     source: &mut S,
 ) -> Result<Answer, Failure>
     requires depth { depth ≤ most_depth }
-    ensures answers { AnswersInput (Command.Rehearse depth start) (S.left source.old) (S.left source.new) result }
+    ensures answers { AnswersInput (Command.Rehearse depth start readback) (S.left source.old) (S.left source.new) result }
     ensures failed { result ≡ Err Failure.Read → Rose (S.faults source.old) (S.faults source.new) }
     ensures later { S.faults source.old ≤ S.faults source.new }
     ensures few { IfSome (S.left source.old) (λ all. show_limit < length (part_of all)) → TakesOneText (S.left source.old) (S.left source.new) }
     ensures left { TakesFront (S.left source.old) (S.left source.new) }
 {
     let input = read_two(alloc, source, MOST_TEXT)?;
-    Ok(answer_two(alloc, depth, start, &input)?)
+    Ok(answer_two(alloc, depth, start, readback, &input)?)
 }
 
-/// Runs `rehearse` (docs/COMMANDS.md, `rehearse`) at a depth of 0 to 8, with starts or without: what the drones hold
+/// Runs `rehearse` (docs/COMMANDS.md, `rehearse`) at a depth of 0 to 8, with starts or without, with read-back or without: what the drones hold
 /// after the events of a schedule, where the upload is done then. Else the first thing that is wrong with the show,
 /// with the schedule or with how the upload ended. Returns the status.
 pub fn rehearse<S: Source, K: Sink>(
     alloc: Global,
     depth: u8,
     start: bool,
+    readback: bool,
     source: &mut S,
     sink: &mut K,
 ) -> u8
     requires depth { depth ≤ most_depth }
-    ensures runs { Runs (Command.Rehearse depth start) (run_of (S.left source.old) (S.left source.new) (S.faults source.old) (S.faults source.new) (K.written sink.old) (K.written sink.new) (K.faults sink.old) (K.faults sink.new)) result }
-    ensures few { TakesLittle (Command.Rehearse depth start) (run_of (S.left source.old) (S.left source.new) (S.faults source.old) (S.faults source.new) (K.written sink.old) (K.written sink.new) (K.faults sink.old) (K.faults sink.new)) }
-    ensures marker { StopsAtMarker (Command.Rehearse depth start) (run_of (S.left source.old) (S.left source.new) (S.faults source.old) (S.faults source.new) (K.written sink.old) (K.written sink.new) (K.faults sink.old) (K.faults sink.new)) result }
+    ensures runs { Runs (Command.Rehearse depth start readback) (run_of (S.left source.old) (S.left source.new) (S.faults source.old) (S.faults source.new) (K.written sink.old) (K.written sink.new) (K.faults sink.old) (K.faults sink.new)) result }
+    ensures few { TakesLittle (Command.Rehearse depth start readback) (run_of (S.left source.old) (S.left source.new) (S.faults source.old) (S.faults source.new) (K.written sink.old) (K.written sink.new) (K.faults sink.old) (K.faults sink.new)) }
+    ensures marker { StopsAtMarker (Command.Rehearse depth start readback) (run_of (S.left source.old) (S.left source.new) (S.faults source.old) (S.faults source.new) (K.written sink.old) (K.written sink.new) (K.faults sink.old) (K.faults sink.new)) result }
 {
     outcome_law();
-    let answer = answer_input(alloc, depth, start, source);
+    let answer = answer_input(alloc, depth, start, readback, source);
     respond(sink, &answer)
 }

@@ -8,11 +8,13 @@ ghost use Rattle.fleet_io.specs.Parts.{TakesFewBehind};
 ghost use Rattle.fleet_io.specs.Taken.{TakesFront};
 ghost use Rattle.link_frames.specs.Frames.{end_frame};
 ghost use Rattle.refusals.specs.Refusals.{status_of};
+ghost use Rattle.show_plan.specs.Fitting.{IsValidFitted};
+ghost use Rattle.show_plan.specs.Landing.{session_for};
 ghost use Rattle.show_cli.specs.Answers.{Wrote};
 ghost use Rattle.show_cli.specs.Input.{IsShowText, IsWithin};
 ghost use Rattle.show_cli.specs.Runs.{Runs, StopsAtMarker, TakesLittle, TakesOneText, run_of};
 ghost use Rattle.show_cli.specs.Shows.{Cut, cut_of, show_limit};
-ghost use Rattle.show_cli.specs.Uploads.{GoesOnReady, IsSoundReady, ReadyGives};
+ghost use Rattle.show_cli.specs.Uploads.{GoesOnReady, IsReadyFor, IsSoundReady, ReadyGives};
 
 use crate::accept::{Judged, accept};
 use crate::ends::{Failure, NO_MEMORY, finish};
@@ -22,31 +24,61 @@ use choreo_reader::{MOST_BYTES, show_law};
 use command_words::Command;
 use fleet_io::{IoFault, Parts, Sink, Source, marker_law};
 use link_frames::END_BYTE;
+use readback_core::Careful;
 use refusals::Refusal;
-use show_plan::session;
+use show_plan::{Fitted, session};
 use std::alloc::{AllocError, Global};
 use upload_core::Host;
 
-/// The host of an upload, or why the show is refused.
+/// The host of an upload, with read-back or without, or why the show is refused.
 #[derive(Drop)]
 pub enum Ready {
     Host { host: Host },
+    Careful { careful: Careful },
     Refused { refusal: Refusal },
 }
 
-// The host of an upload of the show that a text stands for, or why the show is refused.
-fn make_ready(alloc: Global, depth: u8, start: bool, text: &Text) -> Result<Ready, AllocError>
-    requires depth { depth ≤ most_depth }
-    requires short { IsWithin show_limit text.now }
-    ensures gives { (cut : Cut) → IsShowText text.now cut → IfOk result (ReadyGives (Command.Upload depth start) start cut) }
+// The host of an upload of what fits.
+fn make_host(
+    alloc: Global,
+    fitted: &Fitted,
+    start: bool,
+    readback: bool,
+) -> Result<Ready, AllocError>
+    requires { IsValidFitted fitted.now }
+    ensures link { IfOk result (IsReadyFor (session_for fitted.now.settings fitted.now.sent) start readback) }
     ensures sound { IfOk result IsSoundReady }
 {
-    match accept(alloc, Command::Upload { depth, start }, depth, text)? {
-        Judged::Accepted { accepted } => {
-            let session = session(alloc, &accepted.fitted, start)?;
-            let host = Host::make(alloc, session)?;
-            Ok(Ready::Host { host })
-        }
+    if readback {
+        let session = session(alloc, fitted, false)?;
+        let careful = Careful::make(alloc, session, start)?;
+        return Ok(Ready::Careful { careful });
+    }
+    let session = session(alloc, fitted, start)?;
+    let host = Host::make(alloc, session)?;
+    Ok(Ready::Host { host })
+}
+
+// The host of an upload of the show that a text stands for, or why the show is refused.
+fn make_ready(
+    alloc: Global,
+    depth: u8,
+    start: bool,
+    readback: bool,
+    text: &Text,
+) -> Result<Ready, AllocError>
+    requires depth { depth ≤ most_depth }
+    requires short { IsWithin show_limit text.now }
+    ensures gives { (cut : Cut) → IsShowText text.now cut → IfOk result (ReadyGives (Command.Upload depth start readback) start readback cut) }
+    ensures sound { IfOk result IsSoundReady }
+{
+    let command = Command::Upload {
+        depth,
+        start,
+        readback,
+    };
+    match accept(alloc, command, depth, text)? {
+        Judged::Accepted { accepted } => make_host(alloc, &accepted.fitted, start, readback),
         Judged::Refused { refusal } => Ok(Ready::Refused { refusal }),
     }
 }
@@ -56,6 +88,7 @@ fn read_ready<S: Source>(
     alloc: Global,
     depth: u8,
     start: bool,
+    readback: bool,
     parts: &mut Parts,
     source: &mut S,
 ) -> Result<Ready, Failure>
@@ -64,7 +97,7 @@ fn read_ready<S: Source>(
     requires sound { IsTrue parts.old.sound }
     requires lines { IsTrue parts.old.lines }
     requires at_end { IsTrue parts.old.ended → IsAtEnd (S.left source.old) }
-    ensures gives { IfOk result (λ ready. IfSome (stream parts.old (S.left source.old)) (λ all. ReadyGives (Command.Upload depth start) start (cut_of all) ready)) }
+    ensures gives { IfOk result (λ ready. IfSome (stream parts.old (S.left source.old)) (λ all. ReadyGives (Command.Upload depth start readback) start readback (cut_of all) ready)) }
     ensures sound { IfOk result IsSoundReady }
     ensures goes_on { IfOk result (λ ready. GoesOnReady ready parts.new (stream parts.old (S.left source.old)) (stream parts.new (S.left source.new))) }
     ensures few { IfOk result (λ _. TakesFewBehind (stream parts.old (S.left source.old)) (S.left source.new)) }
@@ -77,7 +110,7 @@ fn read_ready<S: Source>(
     ensures left { TakesFront (S.left source.old) (S.left source.new) }
 {
     match parts.text(alloc, source, MOST_BYTES) {
-        Ok(part) => Ok(make_ready(alloc, depth, start, &Text::Whole { part })?),
+        Ok(part) => Ok(make_ready(alloc, depth, start, readback, &Text::Whole { part })?),
         Err(IoFault::TooLong) => Ok(Ready::Refused {
             refusal: Refusal::TooLarge,
         }),
@@ -94,26 +127,28 @@ fn refuse_by_frame<K: Sink>(sink: &mut K, refusal: &Refusal) -> u8
     finish(sink, &[END_BYTE, status], status)
 }
 
-/// Runs `upload` (docs/COMMANDS.md): reads the show, and carries its upload through link frames (docs/RADIO.md, "Link frames") to an
+/// Runs `upload` (docs/COMMANDS.md): reads the show, and carries its upload, with read-back (docs/RADIO.md, "Read-back") or without, through link frames (docs/RADIO.md, "Link frames") to an
 /// end frame; or writes the end frame alone, with the status of the first reason why the show is refused.
 pub fn upload<S: Source, K: Sink>(
     alloc: Global,
     depth: u8,
     start: bool,
+    readback: bool,
     source: &mut S,
     sink: &mut K,
 ) -> u8
     requires depth { depth ≤ most_depth }
-    ensures runs { Runs (Command.Upload depth start) (run_of (S.left source.old) (S.left source.new) (S.faults source.old) (S.faults source.new) (K.written sink.old) (K.written sink.new) (K.faults sink.old) (K.faults sink.new)) result }
-    ensures few { TakesLittle (Command.Upload depth start) (run_of (S.left source.old) (S.left source.new) (S.faults source.old) (S.faults source.new) (K.written sink.old) (K.written sink.new) (K.faults sink.old) (K.faults sink.new)) }
-    ensures marker { StopsAtMarker (Command.Upload depth start) (run_of (S.left source.old) (S.left source.new) (S.faults source.old) (S.faults source.new) (K.written sink.old) (K.written sink.new) (K.faults sink.old) (K.faults sink.new)) result }
+    ensures runs { Runs (Command.Upload depth start readback) (run_of (S.left source.old) (S.left source.new) (S.faults source.old) (S.faults source.new) (K.written sink.old) (K.written sink.new) (K.faults sink.old) (K.faults sink.new)) result }
+    ensures few { TakesLittle (Command.Upload depth start readback) (run_of (S.left source.old) (S.left source.new) (S.faults source.old) (S.faults source.new) (K.written sink.old) (K.written sink.new) (K.faults sink.old) (K.faults sink.new)) }
+    ensures marker { StopsAtMarker (Command.Upload depth start readback) (run_of (S.left source.old) (S.left source.new) (S.faults source.old) (S.faults source.new) (K.written sink.old) (K.written sink.new) (K.faults sink.old) (K.faults sink.new)) result }
 {
     outcome_law();
     marker_law();
     show_law();
     let mut parts = Parts::make();
-    match read_ready(alloc, depth, start, &mut parts, source) {
+    match read_ready(alloc, depth, start, readback, &mut parts, source) {
         Ok(Ready::Host { host }) => link_upload::upload(&mut parts, source, host, sink),
+        Ok(Ready::Careful { careful }) => link_upload::upload(&mut parts, source, careful, sink),
         Ok(Ready::Refused { refusal }) => refuse_by_frame(sink, &refusal),
         Err(Failure::Read) => refuse_by_frame(sink, &Refusal::Read),
         Err(Failure::Memory) => NO_MEMORY,

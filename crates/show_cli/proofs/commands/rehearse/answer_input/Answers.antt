@@ -5,4 +5,4 @@ use Rattle.show_cli.proofs.commands.rehearse.answer_input.Goals as goal
 
 pub returns-clause-answers : goal.returns-clause-answers
 returns-clause-answers g c =
-    input_two (Rehearse c.args.depth c.args.start) schedule_limit _ _ c.in_ok-input.input c.in_ok-answer_two.field-0 c.in_ok-input.ensures.texts c.in_ok-answer_two.ensures
+    input_two (Rehearse c.args.depth c.args.start c.args.readback) schedule_limit _ _ c.in_ok-input.input c.in_ok-answer_two.field-0 c.in_ok-input.ensures.texts c.in_ok-answer_two.ensures

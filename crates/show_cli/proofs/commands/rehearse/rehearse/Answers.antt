@@ -4,5 +4,5 @@ use Rattle.show_cli.proofs.commands.rehearse.rehearse.Goals as goal
 
 pub returns-clause-runs : goal.returns-clause-runs
 returns-clause-runs g c =
-    runs_answer (Rehearse c.args.depth c.args.start) _ c.answer_input-answer.result c.respond.result (rehearse_plain c.args.depth c.args.start) c.outcome_law.ensures c.answer_input-answer.ensures.answers c.respond.ensures
+    runs_answer (Rehearse c.args.depth c.args.start c.args.readback) _ c.answer_input-answer.result c.respond.result (rehearse_plain c.args.depth c.args.start c.args.readback) c.outcome_law.ensures c.answer_input-answer.ensures.answers c.respond.ensures
     c.answer_input-answer.ensures.failed c.answer_input-answer.ensures.left c.answer_input-answer.ensures.later

@@ -4,7 +4,7 @@ use Rattle.show_cli.proofs.commands.upload.read_ready.Goals as goal
 
 pub returns-in_ok-make_ready-in-Ok-clause-gives : goal.returns-in_ok-make_ready-in-Ok-clause-gives
 returns-in_ok-make_ready-in-Ok-clause-gives g c =
-    ready_of_text c.args.depth c.args.start _ _ c.in-Ok.part _ c.in-Ok.ensures.part c.in-Ok.ensures.fits c.in_ok-make_ready-in-Ok.ensures.gives
+    ready_of_text c.args.depth c.args.start c.args.readback _ _ c.in-Ok.part _ c.in-Ok.ensures.part c.in-Ok.ensures.fits c.in_ok-make_ready-in-Ok.ensures.gives
 
 pub returns-in-Err-TooLong-clause-few : goal.returns-in-Err-TooLong-clause-few
 returns-in-Err-TooLong-clause-few g c =

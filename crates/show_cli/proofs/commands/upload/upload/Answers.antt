@@ -1,4 +1,5 @@
 use Rattle.std.proofs.Common.{ap, refl}
+use Rattle.link_upload.specs.Links.{careful_link_of, link_of}
 use Rattle.fleet_io.specs.Held.{Held, stream}
 use Rattle.fleet_io.proofs.TakenLemmas.{TakesFront-trans}
 use Rattle.show_cli.proofs.UploadLemmas.{stream_new, upload_carried, upload_failed, upload_refused}
@@ -10,8 +11,19 @@ returns-in-Ok-Host-clause-runs g c =
     let gives = rw (is, c.in-Ok-Host.field-0-is) at c.in-Ok-Host.ensures.gives in
     let goes_on = rw (is, c.in-Ok-Host.field-0-is) at c.in-Ok-Host.ensures.goes_on in
     let u = c.upload.ensures in
-    upload_carried c.args.depth c.args.start _ (stream c.read_ready.new.parts (g.S.Source.left c.read_ready.new.source)) c.read_ready.new.parts.ended (g.S.Source.faults c.read_ready.new.source)
-    c.in-Ok-Host.host.session c.upload.result c.outcome_law.ensures c.marker_law.ensures c.show_law.ensures
+    upload_carried c.args.depth c.args.start c.args.readback _ (stream c.read_ready.new.parts (g.S.Source.left c.read_ready.new.source)) c.read_ready.new.parts.ended (g.S.Source.faults c.read_ready.new.source)
+    (link_of c.in-Ok-Host.host.session) c.upload.result c.outcome_law.ensures c.marker_law.ensures c.show_law.ensures
+    (record { is = gives; rest = goes_on.1; fed = goes_on.2 }) c.read_ready.ensures.later (TakesFront-trans _ _ _ c.read_ready.ensures.left u.taken)
+    (record { ends = u.ends; six = u.six; seven = u.seven; prompt = u.prompt; grown = u.grown; known = u.known; reads_later = u.source_later; writes_later = u.sink_later })
+
+pub returns-in-Ok-Careful-clause-runs : goal.returns-in-Ok-Careful-clause-runs
+returns-in-Ok-Careful-clause-runs g c =
+    let is = stream_new c.make-parts.result (g.S.Source.left c.args.source.now) (ap (λ (h : Held). h.waiting) c.make-parts.ensures) in
+    let gives = rw (is, c.in-Ok-Careful.field-0-is) at c.in-Ok-Careful.ensures.gives in
+    let goes_on = rw (is, c.in-Ok-Careful.field-0-is) at c.in-Ok-Careful.ensures.goes_on in
+    let u = c.upload-in-Ok-Careful.ensures in
+    upload_carried c.args.depth c.args.start c.args.readback _ (stream c.read_ready.new.parts (g.S.Source.left c.read_ready.new.source)) c.read_ready.new.parts.ended (g.S.Source.faults c.read_ready.new.source)
+    (careful_link_of c.in-Ok-Careful.careful.host.session c.in-Ok-Careful.careful.starts) c.upload-in-Ok-Careful.result c.outcome_law.ensures c.marker_law.ensures c.show_law.ensures
     (record { is = gives; rest = goes_on.1; fed = goes_on.2 }) c.read_ready.ensures.later (TakesFront-trans _ _ _ c.read_ready.ensures.left u.taken)
     (record { ends = u.ends; six = u.six; seven = u.seven; prompt = u.prompt; grown = u.grown; known = u.known; reads_later = u.source_later; writes_later = u.sink_later })
 
@@ -21,7 +33,7 @@ returns-in-Ok-Refused-clause-runs g c =
     let gives = rw (is, c.in-Ok-Refused.field-0-is) at c.in-Ok-Refused.ensures.gives in
     let sound = rw c.in-Ok-Refused.field-0-is at c.in-Ok-Refused.ensures.sound in
     let few = rw is at c.in-Ok-Refused.ensures.few in
-    upload_refused c.args.depth c.args.start _ c.in-Ok-Refused.refusal c.refuse_by_frame.result c.outcome_law.ensures c.marker_law.ensures gives sound few c.read_ready.ensures.left c.read_ready.ensures.later
+    upload_refused c.args.depth c.args.start c.args.readback _ c.in-Ok-Refused.refusal c.refuse_by_frame.result c.outcome_law.ensures c.marker_law.ensures gives sound few c.read_ready.ensures.left c.read_ready.ensures.later
     c.refuse_by_frame.ensures
 
 pub returns-in-Err-Read-clause-runs : goal.returns-in-Err-Read-clause-runs
@@ -29,4 +41,4 @@ returns-in-Err-Read-clause-runs g c =
     let is = stream_new c.make-parts.result (g.S.Source.left c.args.source.now) (ap (λ (h : Held). h.waiting) c.make-parts.ensures) in
     let early = (rw (is, c.in-Err-Read.field-0-is) at c.in-Err-Read.ensures.unmarked) refl in
     let rose = (rw c.in-Err-Read.field-0-is at c.in-Err-Read.ensures.failed) refl in
-    upload_failed c.args.depth c.args.start _ early.0 c.refuse_by_frame-in-Err-Read.result c.outcome_law.ensures rose early.1 early.2 c.read_ready.ensures.later c.refuse_by_frame-in-Err-Read.ensures
+    upload_failed c.args.depth c.args.start c.args.readback _ early.0 c.refuse_by_frame-in-Err-Read.result c.outcome_law.ensures rose early.1 early.2 c.read_ready.ensures.later c.refuse_by_frame-in-Err-Read.ensures
