@@ -12,15 +12,26 @@ pub enum Command {
     /// The forms of the commands.
     Help,
     /// Whether a show fits and its drones keep apart.
-    Check { depth: u8 },
+    Check {
+        depth: u8,
+    },
     /// The plan text of such a show.
-    Compile { depth: u8 },
+    Compile {
+        depth: u8,
+    },
     /// The certificate of such a show.
-    Certify { depth: u8 },
+    Certify {
+        depth: u8,
+    },
     /// Where its drones are, every `step` milliseconds, 1 to 60,000.
-    Play { depth: u8, step: u16 },
+    Play {
+        depth: u8,
+        step: u16,
+    },
     /// The numbers of such a show.
-    Report { depth: u8 },
+    Report {
+        depth: u8,
+    },
     /// Whether a certificate is valid for a show.
     Verify,
     /// What an upload of such a show leaves in drones after a schedule.
@@ -36,14 +47,25 @@ pub enum Command {
         readback: bool,
     },
     /// The numbers of the drill's show of so many drones, 1 to 32.
-    Drill { drones: u8, depth: u8 },
+    Drill {
+        drones: u8,
+        depth: u8,
+    },
     /// Whether its drones keep out of the boxes and in the volumes of a text of regions.
-    Boxes { depth: u8 },
+    Boxes {
+        depth: u8,
+    },
     /// How fast its drones are at most, and whether that is within `limit` micrometres per second, 1 to 999,999,999.
-    Speed { depth: u8, limit: Option<u32> },
+    Speed {
+        depth: u8,
+        limit: Option<u32>,
+    },
     /// Why the show is refused: its first blocked part, and where two drones come closest and touch among the instants that cut
     /// each cue into 2^`fine` parts, 0 to 5.
-    Explain { depth: u8, fine: u8 },
+    Explain {
+        depth: u8,
+        fine: u8,
+    },
 }
 
 // The most drones of a drill.

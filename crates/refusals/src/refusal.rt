@@ -5,9 +5,9 @@ ghost use Rattle.refusals.specs.Refusals.{IsSayable, line_of, status_of};
 
 use crate::pairs::{blocked_line, fails_line, missing_line, too_deep_line};
 use crate::singles::{
-    differs_line, ended_line, extra_line, faulty_line, gave_up_line, grid_line, range_line, read_line,
-    refused_line, room_line, second_line, second_too_large_line, segments_line, too_large_line,
-    usage_line,
+    differs_line, ended_line, extra_line, faulty_line, gave_up_line, grid_line, range_line,
+    read_line, refused_line, room_line, second_line, second_too_large_line, segments_line,
+    too_large_line, usage_line,
 };
 use crate::studies::{enters_line, too_fast_line};
 use choreo_reader::{LineKind, Name};
