@@ -12,7 +12,7 @@ from math import comb, isqrt
 TOP = os.path.dirname(os.path.dirname(os.path.abspath(__file__)))
 PROGRAM = os.path.join(TOP, "crates", "show_cli", "out", "show_cli")
 LONGEST_TEXT = 1048576
-LONGEST_CERTIFICATE = 80000000
+LONGEST_CERTIFICATE = 400000000
 MEMORY = 4096
 MOST_DRONES = 32
 MOST_CUES = 1000
