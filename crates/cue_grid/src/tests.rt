@@ -1,5 +1,7 @@
 //! Shows by their texts: how many cues they have, or what is wrong with their names and cues; and where frames put a point.
 
+ghost use Rattle.std.specs.Prelude.{◌≡◌};
+
 use crate::{GridFault, apply, mirror, quarter_turn, shift, unroll};
 use choreo_reader::{Frame, LineKind, Mirror, Point, ShowFault, read_show};
 use std::alloc::Global;
@@ -238,7 +240,9 @@ fn numbers_of_cues(rt: HostRuntime) {
     }
 }
 
-fn point(x: i64, y: i64, z: i64, yaw: i64) -> Point {
+fn point(x: i64, y: i64, z: i64, yaw: i64) -> Point
+    ensures { result ≡ record { x = x; y = y; z = z; yaw = yaw } }
+{
     Point { x, y, z, yaw }
 }
 

@@ -155,9 +155,9 @@ fn greatest_numbers_the_other_way(rt: HostRuntime) -> Result<(), Fail> {
     Ok(())
 }
 
-// Three segments of 1,000, 7 and 1 ms, with each form on some axis.
-fn three_segments() -> [Segment; 3] {
-    [
+#[test]
+fn edges_between_segments(rt: HostRuntime) -> Result<(), Fail> {
+    let segments = [
         Segment {
             ms: 1000,
             elements: [
@@ -189,12 +189,8 @@ fn three_segments() -> [Segment; 3] {
                 Element::Constant,
             ],
         },
-    ]
-}
-
-#[test]
-fn edges_between_segments(rt: HostRuntime) -> Result<(), Fail> {
-    let t = traj(rt.alloc(), [0, 1000, -5, 900], &three_segments())?;
+    ];
+    let t = traj(rt.alloc(), [0, 1000, -5, 900], &segments)?;
     let rows = [
         (0, [0, 1_000_000, -5000, 9000]),
         (1, [1000, 1_000_000, -4998, 8982]),
