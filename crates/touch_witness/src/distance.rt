@@ -35,14 +35,15 @@ pub fn left_side(p: &Point, q: &Point, r: u16, h: u16) -> i128
     weighted(h, level) + weighted(r, upright)
 }
 
-// The square of a difference.
+// The square of a difference, which fits eight bytes: one multiplication of such numbers is enough.
 fn distance_squared(a: i128, b: i128) -> i128
     requires a { IsWithin (pos (2 ^ 50)) a }
     requires b { IsWithin (pos (2 ^ 50)) b }
     ensures exact { result ≡ (b -ℤ a) *ℤ (b -ℤ a) }
     ensures small { IsIn (pos 0) (pos (2 ^ 102)) result }
 {
-    (b - a) * (b - a)
+    let d = (b - a) as i64;
+    d as i128 * d as i128
 }
 
 // A number times the square of a half axis.
