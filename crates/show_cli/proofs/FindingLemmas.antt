@@ -1,7 +1,10 @@
 -- What `explain` answers, from what its steps do.
-use Rattle.std.proofs.Common.{◌≡◌, ℕ, ◌+◌, ◌<◌, ◌≤◌, List, [], ◌∷◌, ◌++◌, codes, decimal, ◌^◌, true, length, Option, Some, None, Result, Ok, Err, OnOk, refl, sym, ap, subst, ◌∙◌, arith}
+use Rattle.std.proofs.Common.{◌≡◌, ℕ, ◌+◌, ◌<◌, ◌≤◌, All, List, [], ◌∷◌, ◌++◌, codes, decimal, ◌^◌, true, length, Option, Some, None, Result, Ok, Err, OnOk, sym, ap, subst, ◌∙◌, arith}
 use Rattle.std.specs.Prelude.{MatchOption}
+use Rattle.std.proofs.Math.Nat.{one-le-pow}
 use Rattle.std.proofs.Math.Pow.{pow_mono}
+use Rattle.std.proofs.lemmas.List.{length-map}
+use Rattle.std.proofs.lemmas.List.Elements.{All-head}
 use Rattle.choreo_lines.specs.Name.{Name}
 use Rattle.fleet_io.specs.Words.{AreWords, IsWord, is_line_empty}
 use Rattle.fleet_io.proofs.WordLaws.{fresh_after_line}
@@ -10,11 +13,16 @@ use Rattle.choreo_reader.specs.declared.show.Settings.{Settings}
 use Rattle.show_plan.specs.declared.fitted.Fitted.{Fitted}
 use Rattle.show_plan.specs.declared.fitted.PlanFault.{PlanFault}
 use Rattle.show_plan.specs.declared.fitted.PlanFault.TheVariants as fault
-use Rattle.show_plan.specs.Fitting.{IsFitted}
+use Rattle.show_plan.specs.Fitting.{IsFitted, IsValidFitted}
 use Rattle.show_plan.specs.Separation.{FlyApart, blocked_part}
 use Rattle.touch_witness.specs.declared.site.Closest.{Closest}
 use Rattle.touch_witness.specs.declared.site.Touch.{Touch}
-use Rattle.touch_witness.specs.Sites.{IsClosest, IsFirstTouch, NoTouch}
+use Rattle.touch_witness.specs.Sites.{IsClosest, IsFirstTouch, NoTouch, instant_of}
+use Rattle.touch_witness.proofs.Shows.{instant_inside}
+use Rattle.traj_codec.specs.declared.traj.Segment.{Segment}
+use Rattle.traj_codec.specs.Positions.{durations}
+use Rattle.upload_model.proofs.Moments.{All-slice_get}
+use Rattle.fleet_curves.specs.Raised as raised
 use Rattle.traj_codec.specs.declared.traj.Traj.{Traj}
 use Rattle.show_cli.specs.declared.findings.Findings.{Findings}
 use Rattle.show_cli.specs.Reports.{cues_in}
@@ -87,3 +95,20 @@ parts_short depth small = let few : 2 ^ depth ≤ 2 ^ 8 = pow_mono small in omeg
 pub on_ok : {A E : Type 0} (r : Result A E) (P Q : Type 0) → (P → Q) → OnOk r P → OnOk r Q
 on_ok (Ok a) P Q by holds = by holds
 on_ok (Err e) P Q by holds = holds
+
+-- ---- where no part is blocked
+
+-- trajectories of these durations have as many segments
+cues_counted : (times : List ℕ) (ts : List Traj) → All (λ (t : Traj). durations t.segments ≡ times) ts → 1 ≤ length ts → raised.cues_in ts ≡ length times
+cues_counted times [] are some = absurd (omega (arith, some))
+cues_counted times (t ∷ ts) are some =
+    sym (length-map t.segments (λ (s : Segment). s.ms)) ∙ ap (λ (ns : List ℕ). length ns) (All-head (λ (t : Traj). durations t.segments ≡ times) t ts are)
+
+-- where drones keep apart cue by cue, no two touch at a listed instant
+pub apart_no_touch : (f : Fitted) (fine : ℕ) → IsValidFitted f → FlyApart f.settings f.trajs → NoTouch f.trajs f.settings.r f.settings.h fine
+apart_no_touch f fine valid apart = λ s is t u first second.
+    let times_are : durations t.segments ≡ valid.times = All-slice_get (λ (t : Traj). durations t.segments ≡ valid.times) f.trajs s.a t first valid.lasting in
+    let counted : raised.cues_in f.trajs ≡ length valid.times = cues_counted valid.times f.trajs valid.lasting (omega (arith, valid.trajs_counted, valid.some_drone)) in
+    let inside : s.cue < length (durations t.segments) = omega (arith, is.cue, counted, ap (λ (ns : List ℕ). length ns) times_are) in
+    apart s.a s.b t u (λ same. omega (arith, same, is.pair)) first second (instant_of (durations t.segments) s.cue s.at (2 ^ fine)) (2 ^ fine) (one-le-pow fine 2 (omega arith))
+    (instant_inside (durations t.segments) s.cue s.at (2 ^ fine) inside is.at)

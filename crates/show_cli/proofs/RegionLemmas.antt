@@ -1,5 +1,5 @@
 -- What `boxes` answers, from what its steps do.
-use Rattle.std.proofs.Common.{◌≡◌, ℕ, ◌≤◌, Bool, true, false, cond, nat_lt, List, [], ◌∷◌, All, length, map, Option, Some, None, Result, Ok, Err, IfOk, refl, sym, ap, subst, ◌∙◌}
+use Rattle.std.proofs.Common.{◌≡◌, ℕ, ◌≤◌, Bool, false, cond, nat_lt, List, [], ◌∷◌, All, length, Option, Some, None, Result, Ok, Err, IfOk, refl, sym, ap, subst, ◌∙◌}
 use Rattle.std.specs.Option.{option_map, option_or}
 use Rattle.std.specs.declared.alloc.AllocError.{AllocError}
 use Rattle.std.proofs.lemmas.Bool.{le-ltb}
@@ -23,7 +23,7 @@ use Rattle.show_cli.specs.declared.ends.Answer.{Answer}
 use Rattle.show_cli.specs.Answers.{outcome_of}
 use Rattle.show_cli.specs.Outcome.{Outcome, RegionsGive, regions_end}
 use Rattle.show_cli.specs.Refused.{second_refusal}
-use Rattle.show_cli.specs.Shows.{Cut, marker_number, names_of, sent_of, trajectories_of}
+use Rattle.show_cli.specs.Shows.{Cut, marker_number, sent_of, trajectories_of}
 use Rattle.show_cli.specs.Steps.{EndsRegions}
 use Rattle.show_cli.specs.Studies.{faulty_region, region_limit}
 

@@ -1,5 +1,5 @@
 -- What `speed` answers, drone by drone.
-use Rattle.std.proofs.Common.{◌≡◌, ℕ, zero, suc, ◌+◌, ◌<◌, ◌≤◌, Bool, true, false, cond, nat_lt, pos, List, [], ◌∷◌, ◌++◌, All, length, get_or, drop, Option, Some, None, Result, Ok, Err, IfOk, IfSome, refl, sym, ap, subst, ◌∙◌, arith, append_assoc}
+use Rattle.std.proofs.Common.{◌≡◌, ℕ, zero, suc, ◌+◌, ◌<◌, ◌≤◌, Bool, true, false, cond, nat_lt, pos, List, ◌∷◌, ◌++◌, All, length, get_or, drop, Option, Some, None, Result, Ok, Err, IfOk, IfSome, refl, sym, ap, subst, ◌∙◌, arith, append_assoc}
 use Rattle.std.specs.Option.{option_or}
 use Rattle.std.specs.declared.alloc.AllocError.{AllocError}
 use Rattle.std.proofs.lemmas.Bool.Decides.{nat_tests}
@@ -15,7 +15,7 @@ use Rattle.speed_bound.specs.Speed.{speed}
 use Rattle.traj_codec.specs.declared.traj.Traj.{Traj}
 use Rattle.show_cli.specs.declared.ends.Answer.{Answer}
 use Rattle.show_cli.specs.Answers.{outcome_of}
-use Rattle.show_cli.specs.Outcome.{Outcome, speeds_end}
+use Rattle.show_cli.specs.Outcome.{speeds_end}
 use Rattle.show_cli.specs.Shows.{names_of, sent_of}
 use Rattle.show_cli.proofs.RunLemmas.{none_both}
 use Rattle.show_cli.specs.Studies.{KeepsBounds, above, first_too_fast, speed_of_drone, speed_text, too_fast, too_fast_by}

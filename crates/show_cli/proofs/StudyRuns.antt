@@ -1,8 +1,8 @@
 -- What runs of `boxes`, `speed` and `explain` promise.
-use Rattle.std.proofs.Common.{◌≡◌, ℕ, false, List, length, Option, Some, None, Result, Ok, refl, sym, ap, subst, ◌∙◌}
+use Rattle.std.proofs.Common.{◌≡◌, ℕ, false, List, length, Option, Some, None, Ok, sym, ap, subst, ◌∙◌}
 use Rattle.std.specs.Io.KnownBytes.{Appends}
 use Rattle.text_lines.specs.Lines.{between_feeds}
-use Rattle.text_lines.specs.Marker.{has_marker, part_of, rest_of}
+use Rattle.text_lines.specs.Marker.{has_marker}
 use Rattle.choreo_reader.specs.Grammar.{StandsFor}
 use Rattle.choreo_reader.specs.Plain.{PlainShow}
 use Rattle.command_words.specs.declared.command.Command.TheVariants.{Boxes, Speed, Explain}

@@ -1,7 +1,6 @@
 -- What `boxes`, `speed` and `explain` say of a show that fits: whether its drones keep to regions, how fast they are at most, and where two
 -- of them come close.
 use Rattle.std.specs.Prelude.{◌≡◌, ℕ, ◌≤◌, nat_lt, pos, List, [], ◌∷◌, ◌++◌, length, Option, Some, None, Result, Ok, Err, MatchOption, IfSome, if◌then◌else◌}
-use Rattle.std.specs.List.{All}
 use Rattle.std.specs.Option.{option_or}
 use Rattle.choreo_lines.specs.Name.{Name}
 use Rattle.choreo_reader.specs.Plain.{PlainShow}

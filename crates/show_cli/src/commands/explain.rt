@@ -12,6 +12,7 @@ ghost use Rattle.show_cli.specs.Input.{IsWithin};
 ghost use Rattle.show_cli.specs.Outcome.{Gives, Promises};
 ghost use Rattle.show_cli.specs.Runs.{Runs, StopsAtMarker, TakesLittle, TakesOneText, run_of};
 ghost use Rattle.show_cli.specs.Shows.{Cut, show_limit};
+ghost use Rattle.touch_witness.specs.Sites.{IsFirstTouch, NoTouch};
 ghost use Rattle.show_cli.specs.Steps.{IsBlockedAmong, IsClosestAmong, IsFound, IsTouchAmong};
 
 use crate::accept::{Planned, fit_text};
@@ -23,7 +24,7 @@ use command_words::Command;
 use fleet_io::{Sink, Source};
 use show_plan::{Fitted, PlanFault, count_nodes};
 use std::alloc::{AllocError, Global};
-use touch_witness::{closest_of, first_touch_of};
+use touch_witness::{Touch, closest_of, first_touch_of};
 
 // The first part of the depth in which no direction separates two drones, if there is one.
 fn blocked_of(alloc: Global, fitted: &Fitted, depth: u8) -> Result<Option<PlanFault>, AllocError>
@@ -31,6 +32,7 @@ fn blocked_of(alloc: Global, fitted: &Fitted, depth: u8) -> Result<Option<PlanFa
     requires depth { depth ≤ most_depth }
     ensures is { IfOk result (λ blocked. blocked ≡ blocked_part fitted.now.settings depth fitted.now.trajs) }
     ensures apart { IfOk result (λ blocked. blocked ≡ None → FlyApart fitted.now.settings fitted.now.sent) }
+    ensures by_cue { IfOk result (λ blocked. blocked ≡ None → FlyApart fitted.now.settings fitted.now.trajs) }
     ensures among { IfOk result (λ blocked. IsBlockedAmong (length fitted.now.names) blocked) }
 {
     match count_nodes(alloc, fitted, depth) {
@@ -48,6 +50,25 @@ fn blocked_of(alloc: Global, fitted: &Fitted, depth: u8) -> Result<Option<PlanFa
     }
 }
 
+// Where two drones touch first. It is looked for where a part is blocked alone: else none do.
+fn touch_of(fitted: &Fitted, blocked: Option<PlanFault>, fine: u8) -> Option<Touch>
+    requires valid { IsValidFitted fitted.now }
+    requires fine { fine ≤ 5 }
+    requires apart { blocked ≡ None → FlyApart fitted.now.settings fitted.now.trajs }
+    ensures { MatchOption result (NoTouch fitted.now.trajs fitted.now.settings.r fitted.now.settings.h fine)
+        (IsFirstTouch fitted.now.trajs fitted.now.settings.r fitted.now.settings.h fine) }
+{
+    match blocked {
+        None => None,
+        Some(_) => first_touch_of(
+            fitted.trajs.as_slice(),
+            fitted.settings.r,
+            fitted.settings.h,
+            fine,
+        ),
+    }
+}
+
 // What is found of a show that fits.
 fn find(alloc: Global, fitted: &Fitted, depth: u8, fine: u8) -> Result<Findings, AllocError>
     requires valid { IsValidFitted fitted.now }
@@ -59,9 +80,13 @@ fn find(alloc: Global, fitted: &Fitted, depth: u8, fine: u8) -> Result<Findings,
     ensures touch { IfOk result (λ found. IsTouchAmong (length fitted.now.names) found.touch) }
 {
     let blocked = blocked_of(alloc, fitted, depth)?;
-    let trajs = fitted.trajs.as_slice();
-    let closest = closest_of(trajs, fitted.settings.r, fitted.settings.h, fine);
-    let touch = first_touch_of(trajs, fitted.settings.r, fitted.settings.h, fine);
+    let closest = closest_of(
+        fitted.trajs.as_slice(),
+        fitted.settings.r,
+        fitted.settings.h,
+        fine,
+    );
+    let touch = touch_of(fitted, blocked, fine);
     Ok(Findings {
         blocked,
         closest,

@@ -1,4 +1,4 @@
-use Rattle.std.proofs.Common.{◌≡◌, ◌+◌, ◌^◌, ◌<◌, ◌≤◌, ◌++◌, [], ◌∷◌, List, ℕ, codes, decimal, OnOk, refl, ap, ◌∙◌, subst, arith}
+use Rattle.std.proofs.Common.{◌≡◌, ◌+◌, ◌^◌, ◌++◌, [], ◌∷◌, List, ℕ, codes, decimal, OnOk, refl, ap, ◌∙◌, subst, arith}
 use Rattle.fleet_io.specs.Words.{with_words}
 use Rattle.fleet_io.proofs.WordLaws.{decimal_is_word, words_make_line}
 use Rattle.show_cli.proofs.FindingLemmas.{parts_short}

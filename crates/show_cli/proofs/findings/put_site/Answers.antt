@@ -1,6 +1,6 @@
-use Rattle.std.proofs.Common.{◌≡◌, ◌+◌, ◌^◌, List, ℕ, refl, subst, arith}
+use Rattle.std.proofs.Common.{◌+◌, ◌^◌, refl, subst, arith}
 use Rattle.choreo_lines.specs.Name.{Name}
-use Rattle.fleet_io.specs.Words.{AreWords, IsWord, with_word}
+use Rattle.fleet_io.specs.Words.{AreWords, IsWord}
 use Rattle.touch_witness.specs.Lines.{site_words}
 use Rattle.show_cli.specs.Studies.{word_at}
 use Rattle.show_cli.proofs.FindingLemmas.{on_ok, parts_short}

@@ -1,0 +1,230 @@
+//! A plain program that does what `boxes`, `speed` and `explain` do beyond reading a show, from a plan: for bench/studies, which
+//! compares the two. It has no checks of its input beyond what Rust makes it have.
+//!
+//!     studies read < PLAN
+//!     studies boxes R H DEPTH FILE < PLAN
+//!     studies speed DEPTH < PLAN
+//!     studies closest R H FINE < PLAN
+use std::io::{self, Read};
+
+struct Segment {
+    ms: i128,
+    axes: [Vec<i64>; 3],
+}
+
+struct Drone {
+    name: String,
+    segments: Vec<Segment>,
+}
+
+type Curve = [i128; 8];
+
+fn decoded(name: &str, pieces: usize, data: &[u8]) -> Drone {
+    let number = |at: usize| i16::from_le_bytes([data[at], data[at + 1]]) as i64;
+    let mut last = [number(0), number(2), number(4), number(6)];
+    let mut at = 8;
+    let mut segments = Vec::with_capacity(pieces);
+    for _ in 0..pieces {
+        let header = data[at];
+        let ms = u16::from_le_bytes([data[at + 1], data[at + 2]]) as i128;
+        at += 3;
+        let axes: [Vec<i64>; 4] = std::array::from_fn(|axis| {
+            let mut points = vec![last[axis]];
+            for _ in 0..[0, 1, 3, 7][(header >> (2 * axis) & 3) as usize] {
+                points.push(number(at));
+                at += 2;
+            }
+            last[axis] = points[points.len() - 1];
+            points
+        });
+        let [x, y, z, _] = axes;
+        segments.push(Segment { ms, axes: [x, y, z] });
+    }
+    Drone { name: name.to_string(), segments }
+}
+
+const CHOOSE: [[i64; 8]; 8] = {
+    let mut rows = [[0; 8]; 8];
+    let mut n = 0;
+    while n < 8 {
+        rows[n][0] = 1;
+        let mut k = 1;
+        while k <= n {
+            rows[n][k] = rows[n - 1][k - 1] + rows[n - 1][k];
+            k += 1;
+        }
+        n += 1;
+    }
+    rows
+};
+
+/// The control values raised to degree seven, times 5,040.
+fn raised(points: &[i64]) -> Curve {
+    let n = points.len() - 1;
+    std::array::from_fn(|k| {
+        let mut sum = 0i64;
+        for (j, v) in points.iter().enumerate() {
+            if j <= k && k - j <= 7 - n {
+                sum += CHOOSE[n][j] * CHOOSE[7 - n][k - j] * v;
+            }
+        }
+        (5040 / CHOOSE[7][k] * sum) as i128
+    })
+}
+
+/// Both halves, at a scale of 2^7 times the whole.
+fn halves(curve: &Curve) -> (Curve, Curve) {
+    let (mut row, mut left, mut right) = (*curve, [0; 8], [0; 8]);
+    for k in 0..8 {
+        left[k] = row[0] << (7 - k);
+        right[7 - k] = row[7 - k] << (7 - k);
+        for j in 0..7 - k {
+            row[j] += row[j + 1];
+        }
+    }
+    (left, right)
+}
+
+fn widest(curve: &Curve, depth: u32) -> i128 {
+    if depth == 0 {
+        return curve.windows(2).map(|two| (two[1] - two[0]).abs()).max().unwrap_or(0);
+    }
+    let (left, right) = halves(curve);
+    widest(&left, depth - 1).max(widest(&right, depth - 1))
+}
+
+fn speed(drones: &[Drone], depth: u32) {
+    for drone in drones {
+        let mut most = [0i128; 3];
+        for segment in &drone.segments {
+            for axis in 0..3 {
+                let way = 7_000_000 * (1i128 << depth) * widest(&raised(&segment.axes[axis]), depth);
+                let time = 5_040 * (1i128 << (7 * depth)) * segment.ms;
+                most[axis] = most[axis].max((way + time - 1) / time);
+            }
+        }
+        println!("speed {} {} {} {}", drone.name, most[0], most[1], most[2]);
+    }
+}
+
+struct Region {
+    keepout: bool,
+    low: [i128; 3],
+    high: [i128; 3],
+}
+
+fn is_kept(part: &[Curve; 3], region: &Region, by: &[i128; 3], scale: i128) -> bool {
+    if region.keepout {
+        (0..3).any(|axis| {
+            let (low, high) = ((region.low[axis] - by[axis]) * scale, (region.high[axis] + by[axis]) * scale);
+            part[axis].iter().all(|v| *v < low) || part[axis].iter().all(|v| *v > high)
+        })
+    } else {
+        (0..3).all(|axis| {
+            let (low, high) = ((region.low[axis] + by[axis]) * scale, (region.high[axis] - by[axis]) * scale);
+            part[axis].iter().all(|v| low <= *v && *v <= high)
+        })
+    }
+}
+
+fn entering(part: &[Curve; 3], region: &Region, by: &[i128; 3], scale: i128, depth: u32) -> Option<u32> {
+    if is_kept(part, region, by, scale) {
+        return None;
+    }
+    if depth == 0 {
+        return Some(0);
+    }
+    let (x, y, z) = (halves(&part[0]), halves(&part[1]), halves(&part[2]));
+    entering(&[x.0, y.0, z.0], region, by, scale << 7, depth - 1).or_else(|| {
+        entering(&[x.1, y.1, z.1], region, by, scale << 7, depth - 1).map(|index| index + (1 << (depth - 1)))
+    })
+}
+
+fn boxes(drones: &[Drone], r: i128, h: i128, depth: u32, text: &str) {
+    let mut regions = Vec::new();
+    for line in text.lines() {
+        let words: Vec<&str> = line.split_whitespace().collect();
+        let n: Vec<i128> = words[1..].iter().map(|it| it.parse().expect("a number")).collect();
+        regions.push(Region { keepout: words[0] == "keepout", low: [n[0], n[1], n[2]], high: [n[3], n[4], n[5]] });
+    }
+    let curves: Vec<Vec<[Curve; 3]>> = drones.iter().map(|drone| {
+        drone.segments.iter().map(|it| std::array::from_fn(|axis| raised(&it.axes[axis]))).collect()
+    }).collect();
+    for (k, region) in regions.iter().enumerate() {
+        for (drone, cues) in drones.iter().zip(&curves) {
+            for (cue, part) in cues.iter().enumerate() {
+                if let Some(index) = entering(part, region, &[r, r, h], 5040, depth) {
+                    println!("error 15 region {} drone {} cue {} part {} of {}", k + 1, drone.name, cue + 1, index, 1 << depth);
+                    return;
+                }
+            }
+        }
+    }
+    println!("kept regions {}", regions.len());
+}
+
+/// A position at the fraction at / q of a segment, as a numerator over q^7.
+fn position(points: &[i64], at: i64, q: i64) -> i64 {
+    let n = points.len() - 1;
+    let mut sum = 0;
+    for (k, v) in points.iter().enumerate() {
+        sum += CHOOSE[n][k] * at.pow(k as u32) * (q - at).pow((n - k) as u32) * v;
+    }
+    sum * q.pow((7 - n) as u32)
+}
+
+fn closest(drones: &[Drone], r: i128, h: i128, fine: u32) {
+    let q = 1i64 << fine;
+    let right = 4 * r * r * h * h * (q as i128).pow(14);
+    let mut best = (i128::MAX, 0, 0, 0, 0);
+    let mut touch = None;
+    let mut places = vec![[0i64; 3]; drones.len()];
+    for cue in 0..drones[0].segments.len() {
+        for at in 0..=q {
+            for (place, drone) in places.iter_mut().zip(drones) {
+                *place = std::array::from_fn(|axis| position(&drone.segments[cue].axes[axis], at, q));
+            }
+            for a in 0..drones.len() {
+                for b in a + 1..drones.len() {
+                    let d: [i128; 3] = std::array::from_fn(|axis| (places[b][axis] - places[a][axis]) as i128);
+                    let left = h * h * (d[0] * d[0] + d[1] * d[1]) + r * r * d[2] * d[2];
+                    if left < best.0 {
+                        best = (left, cue, at, a, b);
+                    }
+                    if touch.is_none() && left <= right {
+                        touch = Some((cue, at, a, b));
+                    }
+                }
+            }
+        }
+    }
+    let level = 1000 * (best.0 / right) + 1000 * (best.0 % right) / right;
+    println!("closest pair {} {} cue {} at {} of {} level {}", drones[best.3].name, drones[best.4].name, best.1 + 1, best.2, q, level);
+    if let Some((cue, at, a, b)) = touch {
+        println!("touch pair {} {} cue {} at {} of {}", drones[a].name, drones[b].name, cue + 1, at, q);
+    }
+}
+
+fn main() -> io::Result<()> {
+    let words: Vec<String> = std::env::args().collect();
+    let number = |at: usize| words[at].parse::<i128>().expect("a number");
+    let mut plan = String::new();
+    io::stdin().read_to_string(&mut plan)?;
+    let mut drones = Vec::new();
+    let mut head = Vec::new();
+    for line in plan.lines() {
+        if let Some(rest) = line.strip_prefix("drone ") {
+            head = rest.split(' ').collect();
+        } else if let Some(rest) = line.strip_prefix("data ") {
+            let data: Vec<u8> = rest.split(' ').map(|it| u8::from_str_radix(it, 16).expect("a byte")).collect();
+            drones.push(decoded(head[0], head[4].parse().expect("pieces"), &data));
+        }
+    }
+    match words[1].as_str() {
+        "boxes" => boxes(&drones, number(2), number(3), number(4) as u32, &std::fs::read_to_string(&words[5])?),
+        "speed" => speed(&drones, number(2) as u32),
+        "closest" => closest(&drones, number(2), number(3), number(4) as u32),
+        _ => println!("{}", drones.len()),
+    }
+    Ok(())
+}
