@@ -13,24 +13,20 @@ use Rattle.fleet_io.specs.declared.parts.Ask.TheVariants as ask
 use Rattle.choreo_lines.specs.Name.{Name}
 use Rattle.choreo_reader.specs.Plain.{PlainShow}
 use Rattle.choreo_reader.specs.declared.show.Settings.{Settings}
-use Rattle.traj_codec.specs.declared.traj.Traj.{Traj}
-use Rattle.traj_codec.specs.Joined.{IsLasting}
-use Rattle.traj_codec.specs.Positions.{durations}
 use Rattle.fleet_curves.specs.Raised.{CurvesStandFor, Raised, raised_of}
 use Rattle.sep_parts.specs.Apart.{KeepsApart, SentLaw}
 use Rattle.sep_certificate.specs.declared.certificate.Certificate.{Certificate}
-use Rattle.sep_certificate.specs.declared.certificate.CertFault.{CertFault}
 use Rattle.sep_certificate.specs.Texts.{Says, bad_line}
 use Rattle.sep_certificate.proofs.TextLaws.{texts}
 use Rattle.certificate_checker.specs.declared.verdict.Verdict.{Verdict}
 use Rattle.certificate_checker.specs.declared.verdict.Verdict.TheVariants as verdict
-use Rattle.certificate_checker.specs.Bytes.{HasRead, NamesFault, Seen}
+use Rattle.certificate_checker.specs.Bytes.{Seen}
 use Rattle.certificate_checker.specs.Verdicts.{VerdictGives}
 use Rattle.command_words.specs.declared.command.Command.TheVariants.{Verify}
 use Rattle.refusals.specs.declared.refusal.Refusal.{Refusal}
 use Rattle.refusals.specs.declared.refusal.Refusal.TheVariants as refusal
 use Rattle.show_plan.specs.declared.fitted.Fitted.{Fitted}
-use Rattle.show_plan.specs.Fitting.{IsFitted, IsValidFitted}
+use Rattle.show_plan.specs.Fitting.{IsValidFitted}
 use Rattle.show_plan.specs.Separation.{FlyApart}
 use Rattle.show_cli.specs.declared.ends.Answer.{Answer}
 use Rattle.show_cli.specs.declared.ends.Answer.TheVariants.{Refused}
@@ -42,12 +38,10 @@ use Rattle.show_cli.specs.Input.{GoesOn, IsReadWhole, IsShowText, IsWholeText}
 use Rattle.show_cli.specs.Outcome.{CertificateGives, Outcome, judged_for, outcome, refused}
 use Rattle.show_cli.specs.Refused.{IsOfInput, not_valid, second_refusal}
 use Rattle.show_cli.specs.Reports.{valid_line}
-use Rattle.show_cli.specs.Steps.{IsFaultAmong}
-use Rattle.show_cli.specs.SecondTexts.{Feeds, GivesSecond, IsFed, IsMarkedBy, IsTakenToEnd, TakenGives, line_after, taken_by, unless_marked, verdict_outcome}
+use Rattle.show_cli.specs.SecondTexts.{Feeds, GivesSecond, IsFed, IsMarkedBy, TakenGives, line_after, taken_by, unless_marked, verdict_outcome}
 use Rattle.show_cli.specs.Shows.{Cut, certificate_limit, cut_of, feeds, marker_number, names_of, trajectories_of}
 use Rattle.show_cli.proofs.AnswerLemmas.{apart_of_show, fitted_outcome, fitted_safe, plain_outcome, refused_some, some_by}
 use Rattle.show_cli.proofs.CertificateLemmas.{judged_same}
-use Rattle.show_cli.proofs.SlotLemmas.{fault_among}
 
 -- ---- what comes next of a part
 -- a byte

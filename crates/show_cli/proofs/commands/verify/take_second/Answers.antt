@@ -1,4 +1,4 @@
-use Rattle.std.proofs.Common.{◌≡◌, ◌∷◌, ◌++◌, [], ◌+◌, ◌≤◌, ◌<◌, ◌==◌, ℕ, Bool, length, length-append, IfSome, refl, sym, subst, ◌∙◌, arith}
+use Rattle.std.proofs.Common.{◌≡◌, ◌∷◌, ◌++◌, [], ◌<◌, ◌==◌, ℕ, Bool, length, length-append, IfSome, refl, sym, subst, ◌∙◌, arith}
 use Rattle.fleet_io.specs.Held.{stream}
 use Rattle.fleet_io.proofs.TakenLemmas.{TakesFront-none, TakesFront-trans}
 use Rattle.show_cli.specs.SecondTexts.{Feeds, IsFed, TakenGives}
