@@ -6,6 +6,7 @@ use fleet_io::ShortLine;
 
 /// What is said of a drill's show of this many drones and cues: how many pairs of drones it has, how many bytes the
 /// trajectories, how many packets without the starts, and how many nodes its certificate.
+#[tactic(auto, using(fleet_io::proofs::WordLaws::word_adds, fleet_io::proofs::WordLaws::number_adds))]
 pub fn drill_line(
     drones: u8,
     cues: u16,

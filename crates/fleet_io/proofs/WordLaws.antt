@@ -3,7 +3,7 @@ use Rattle.std.proofs.Common.{◌≡◌, ℕ, suc, ◌+◌, ◌≤◌, ◌-◌, 
 use lib.Signed.{mag}
 use Rattle.std.specs.Fmt.{decimal, signed_decimal}
 use Rattle.std.proofs.lemmas.Bool.{ne_eqb}
-use Rattle.std.proofs.lemmas.Fmt.{decimal_by_steps}
+use Rattle.std.proofs.lemmas.Fmt.{decimal_by_steps, length-decimal-le, length_signed_le}
 use Rattle.std.proofs.lemmas.List.{get_or-append-add}
 use Rattle.fleet_io.specs.Words.{is_line_empty, with_word, with_words, with_hex, hex_word, hex_digit, IsWord, AreWords, spaced, line}
 
@@ -114,3 +114,15 @@ word_adds text word = elim (is_line_empty text) as (λ b. length (cond b (text +
   | true ↦ omega (arith, length-append text word)
   | false ↦ omega (arith, length-append text (32 ∷ word))
 ]
+
+-- the digits of a number below 2^32, as a word, add at most ten bytes and a space
+pub number_adds : (text : List ℕ) (n : ℕ) → n < 2 ^ 32 → length (with_word text (decimal n)) ≤ length text + 11
+number_adds text n small =
+    let digits = length-decimal-le 10 n (omega arith) (omega (arith, small)) (omega (arith, small)) in
+    omega (arith, word_adds text (decimal n), digits)
+
+-- the digits of a number of 64 bits with its sign, as a word, add at most twenty bytes and a space
+pub decimal_adds : (text : List ℕ) (z : ℤ) → mag z < 2 ^ 63 → length (with_word text (signed_decimal z)) ≤ length text + 21
+decimal_adds text z small =
+    let digits = length_signed_le 19 z (omega (arith, small)) small in
+    omega (arith, word_adds text (signed_decimal z), digits)

@@ -8,7 +8,7 @@ use Rattle.text_lines.specs.Marker.{has_marker}
 abbrev pub buffer_bytes : ℕ
 buffer_bytes = 4096
 
--- the greatest limit of a part, in bytes: that of the longest text of the product, a certificate
+-- the greatest limit of a part that is read whole, in bytes
 abbrev pub text_limit : ℕ
 text_limit = 80000000
 

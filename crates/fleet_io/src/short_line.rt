@@ -11,7 +11,8 @@ use std::marker::Model;
 // The most bytes of a short line, with its line feed.
 const SHORT_LINE_BYTES: usize = 160;
 
-/// One line of at most 160 bytes, which takes no memory. Each call says how many bytes it adds at most.
+/// One line of at most 160 bytes, which takes no memory. Each call asks for room for what it adds, and says how many
+/// bytes that is at most: laws of `proofs/WordLaws.antt` bound it the same way for a caller.
 #[derive(Drop)]
 pub struct ShortLine {
     text: ArrayVec<u8, SHORT_LINE_BYTES>,
@@ -35,10 +36,10 @@ impl ShortLine {
         }
     }
 
-    /// Adds a word, behind a space unless the line is empty.
+    /// Adds a word, after a space unless the line is empty.
     #[tactic(auto, unfolding(crate::specs::Words::with_word))]
     pub fn word(&mut self, w: &[u8])
-        requires { length self.old + length w.now + 1 ≤ short_line_bytes }
+        requires { length (with_word self.old w.now) ≤ short_line_bytes }
         ensures word { self.new ≡ with_word self.old w.now }
         ensures room { length self.new ≤ length self.old + length w.now + 1 }
     {
@@ -50,7 +51,7 @@ impl ShortLine {
 
     /// Adds the digits of a number, of which there are at most ten, as a word.
     pub fn number(&mut self, v: u32)
-        requires { length self.old + 11 ≤ short_line_bytes }
+        requires { length (with_word self.old (decimal v)) ≤ short_line_bytes }
         ensures word { self.new ≡ with_word self.old (decimal v) }
         ensures room { length self.new ≤ length self.old + 11 }
     {
@@ -61,7 +62,7 @@ impl ShortLine {
     /// Adds the digits of a number, of which there are at most 19, with a minus sign before them where it is below 0, as a
     /// word.
     pub fn decimal(&mut self, v: i64)
-        requires { length self.old + 21 ≤ short_line_bytes }
+        requires { length (with_word self.old (signed_decimal v)) ≤ short_line_bytes }
         ensures word { self.new ≡ with_word self.old (signed_decimal v) }
         ensures room { length self.new ≤ length self.old + 21 }
     {

@@ -277,6 +277,7 @@ fn text_with_room(rt: HostRuntime) -> Result<(), Fail> {
 }
 
 #[test]
+#[tactic(auto, using(crate::proofs::WordLaws::word_adds, crate::proofs::WordLaws::number_adds, crate::proofs::WordLaws::decimal_adds))]
 fn short_line(rt: HostRuntime) {
     let mut line = ShortLine::make();
     line.word(b"at");
@@ -284,4 +285,12 @@ fn short_line(rt: HostRuntime) {
     line.number(7);
     line.end();
     assert_eq!(rt; line.bytes(), b"at -12 7\n".as_slice());
+}
+
+// A line is full with its 160th byte, and not before it.
+#[test]
+fn full_short_line(rt: HostRuntime) {
+    let mut line = ShortLine::make();
+    line.word(&[b'x'; 160]);
+    assert_eq!(rt; line.bytes(), [b'x'; 160].as_slice());
 }

@@ -9,6 +9,7 @@ use fleet_io::ShortLine;
 /// Puts the row of a drone at an instant into an empty line: the instant in milliseconds, the drone's
 /// name, of at most 16 bytes, x, y and z in micrometres and yaw in hundredths of a degree, each after a
 /// space, and a line feed (docs/COMMANDS.md, `play`).
+#[tactic(auto, using(fleet_io::proofs::WordLaws::word_adds, fleet_io::proofs::WordLaws::number_adds, fleet_io::proofs::WordLaws::decimal_adds))]
 pub fn put_row(ms: u32, name: &[u8], v: [i64; 4], out: &mut ShortLine)
     requires short { length name.now ≤ 16 }
     requires empty { out.old ≡ [] }

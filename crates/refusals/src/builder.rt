@@ -6,6 +6,7 @@ ghost use Rattle.fleet_io.specs.Words.{with_words};
 use fleet_io::ShortLine;
 
 // The beginning of a line: `error` and a status.
+#[tactic(auto, using(fleet_io::proofs::WordLaws::word_adds))]
 pub(crate) fn begin(status: &[u8]) -> ShortLine
     requires { length status.now ≤ 2 }
     ensures words { result ≡ with_words [] (codes "error" ∷ status.now ∷ []) }

@@ -11,6 +11,7 @@ use choreo_reader::Name;
 use fleet_io::ShortLine;
 
 // `error 15 region K drone NAME cue C part I of P`: regions and cues count from 1 in the line.
+#[tactic(auto, using(fleet_io::proofs::WordLaws::word_adds, fleet_io::proofs::WordLaws::number_adds))]
 pub(crate) fn enters_line(region: u8, name: &Name, cue: u16, index: u16, depth: u8) -> ShortLine
     requires name { IsWord name.now.items }
     requires depth { depth ≤ 8 }
@@ -32,6 +33,7 @@ pub(crate) fn enters_line(region: u8, name: &Name, cue: u16, index: u16, depth: 
 }
 
 // `error 16 drone NAME AXIS speed V`: the axes 0 to 2 are x, y and z.
+#[tactic(auto, using(fleet_io::proofs::WordLaws::word_adds, fleet_io::proofs::WordLaws::number_adds, fleet_io::proofs::WordLaws::decimal_adds))]
 pub(crate) fn too_fast_line(name: &Name, axis: u8, speed: i64) -> ShortLine
     requires name { IsWord name.now.items }
     requires axis { axis ≤ 2 }

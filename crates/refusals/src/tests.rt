@@ -268,6 +268,7 @@ fn speeds(rt: HostRuntime) {
 
 // Words of another crate's line.
 #[test]
+#[tactic(auto, using(fleet_io::proofs::WordLaws::word_adds, fleet_io::proofs::WordLaws::number_adds))]
 fn words_one_by_one(rt: HostRuntime) {
     let mut line = ShortLine::make();
     line.word(b"flown");

@@ -6,6 +6,7 @@ ghost use Rattle.show_cli.specs.Reports.{ok_line, valid_line};
 use fleet_io::ShortLine;
 
 /// What is said of a show that is accepted: how many drones and cues it has, and how many milliseconds it lasts.
+#[tactic(auto, using(fleet_io::proofs::WordLaws::word_adds, fleet_io::proofs::WordLaws::number_adds))]
 pub fn ok_line(drones: u8, cues: u16, ms: u32) -> ShortLine
     ensures { result ≡ ok_line drones cues ms }
 {
@@ -22,6 +23,7 @@ pub fn ok_line(drones: u8, cues: u16, ms: u32) -> ShortLine
 }
 
 /// What is said of a show whose drones keep to so many regions.
+#[tactic(auto, using(fleet_io::proofs::WordLaws::word_adds, fleet_io::proofs::WordLaws::number_adds))]
 pub fn kept_line(regions: u8) -> ShortLine
     ensures { result ≡ kept_line regions }
 {
@@ -34,6 +36,7 @@ pub fn kept_line(regions: u8) -> ShortLine
 }
 
 /// What is said of a certificate that is valid: its depth, and how many trees it has.
+#[tactic(auto, using(fleet_io::proofs::WordLaws::word_adds, fleet_io::proofs::WordLaws::number_adds))]
 pub fn valid_line(depth: u8, trees: u32) -> ShortLine
     ensures { result ≡ valid_line depth trees }
 {
