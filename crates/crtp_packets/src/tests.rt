@@ -208,3 +208,41 @@ fn reads_what_the_host_is_told(rt: HostRuntime) -> Result<(), Fail> {
     }
     Ok(())
 }
+
+/// The answer to a write as a packet of the greatest length: what follows the status is of no account.
+const LONG_ANSWER: [u8; 31] = [
+    0x4E, 2, 0x18, 0, 0, 0, 5, 1, 2, 3, 4, 5, 6, 7, 8, 9, 10, 11, 12, 13, 14, 15, 16, 17, 18, 19,
+    20, 21, 22, 23, 24,
+];
+
+#[test]
+fn reads_the_bytes_of_an_answer(rt: HostRuntime) {
+    let wrote = Up::WriteAnswer {
+        id: 2,
+        address: 24,
+        status: 5,
+    };
+    let read = Up::ReadAnswer {
+        id: 2,
+        address: 0x0403_0201,
+        status: 0,
+        piece: piece_of(&[7, 8]),
+    };
+    let started = Up::CommandAnswer {
+        first: [5, 0, 0],
+        status: 2,
+    };
+    let results: [(&[u8], Result<Up, PacketFault>); 7] = [
+        (&LONG_ANSWER, Ok(wrote)),
+        (&[0x41, 2, 1, 2, 3, 4, 0, 7, 8], Ok(read)),
+        (&[0x8C, 5, 0, 0, 2], Ok(started)),
+        (&[0x4E, 2, 0x18, 0, 0, 0], Err(PacketFault::Short)),
+        (&[0x8C], Err(PacketFault::Short)),
+        (&[0x4C, 2, 0x18, 0, 0, 0, 0], Err(PacketFault::Unknown)),
+        (&[0x00, 0x48, 0x69], Err(PacketFault::Unknown)),
+    ];
+    for (bytes, wanted) in results {
+        assert!(rt; 1 <= bytes.len() && bytes.len() <= PACKET_BYTES);
+        assert_eq!(rt; parse_up_bytes(bytes), wanted);
+    }
+}
