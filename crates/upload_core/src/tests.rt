@@ -266,3 +266,34 @@ fn silence_ends_at_twenty_ticks(rt: HostRuntime) -> Result<(), Fail> {
     assert!(rt; out.is_empty());
     Ok(())
 }
+
+#[test]
+fn bytes_of_answers_are_heard(rt: HostRuntime) -> Result<(), Fail> {
+    let alloc = rt.alloc();
+    let going = Progress::Going;
+    let refused = Progress::Refused {
+        drone: 1,
+        packet: 1,
+        status: 2,
+    };
+    let events: [(u8, &[u8], &[Sent], Progress); 8] = [
+        // One byte too few, another port, a drone that isn't there, and another memory.
+        (0, &[0x4E, 2, 0, 0, 0, 0], &[], going),
+        (0, &[0x00, 0x48, 0x69], &[], going),
+        (2, &[0x4E, 2, 0, 0, 0, 0, 0], &[], going),
+        (0, &[0x4E, 3, 0, 0, 0, 0, 0], &[], going),
+        (0, &[0x4E, 2, 24, 0, 0, 0, 0], &[], going),
+        // What follows the status is of no account.
+        (0, &[0x4E, 2, 0, 0, 0, 0, 0, 9, 9], &[sent(0, 2)], going),
+        (1, &[0x4E, 2, 24, 0, 0, 0, 2], &[], refused),
+        (1, &[0x4E, 2, 24, 0, 0, 0, 0], &[], refused),
+    ];
+    let mut host = Host::make(alloc, two_drones(alloc, false)?)?;
+    let mut out = Out::new();
+    for (drone, bytes, wanted, progress) in events {
+        assert!(rt; 1 <= bytes.len() && bytes.len() <= 31);
+        assert!(rt; host.hear(drone, bytes, &mut out) == progress);
+        assert!(rt; out.as_slice() == wanted);
+    }
+    Ok(())
+}
