@@ -173,6 +173,36 @@ fn uploads_that_are_refused(rt: HostRuntime) -> Result<(), Fail> {
     Ok(())
 }
 
+// Frames of the greatest length: the answer to the first write with 24 bytes after its status, which are of no account,
+// and the same of a refusal.
+const LONG_WROTE: &[u8] =
+    b"\x50\x01\x1F\x4E\x02\x00\x00\x00\x00\x00\x54\x54\x54\x54\x54\x54\x54\x54\x54\x54\x54\x54\x54\x54\x54\x54\x54\x54\x54\x54\x54\x54\x54\x54";
+
+const LONG_REFUSED: &[u8] =
+    b"\x50\x01\x1F\x4E\x02\x00\x00\x00\x00\x05\x50\x50\x50\x50\x50\x50\x50\x50\x50\x50\x50\x50\x50\x50\x50\x50\x50\x50\x50\x50\x50\x50\x50\x50";
+
+// The longest frame comes first of all, whole in one read or in pieces.
+#[test]
+fn the_longest_frame_comes_first(rt: HostRuntime) -> Result<(), Fail> {
+    assert_eq!(rt; LONG_WROTE.len(), 34);
+    assert_eq!(rt; LONG_REFUSED.len(), 34);
+    let rows: [Row; 4] = [
+        (false, &[LONG_WROTE], 8, &[FIRST]),
+        (
+            false,
+            &[LONG_WROTE, WROTE_SECOND, DEFINED],
+            0,
+            &[FIRST, DEFINE],
+        ),
+        (false, &[LONG_REFUSED], 10, &[FIRST]),
+        (false, &[&LONG_WROTE[..33]], 11, &[FIRST]),
+    ];
+    for (start, input, status, output) in rows {
+        assert!(rt; ends(rt.alloc(), start, input, status, output)?);
+    }
+    Ok(())
+}
+
 #[test]
 fn inputs_that_end_early(rt: HostRuntime) -> Result<(), Fail> {
     let again: &[u8] = b"\x50\x01\x0A\x4E\x02\x18\x00\x00\x00\x03\x00\x00\x00";
@@ -255,7 +285,7 @@ fn no_read_behind_the_end(rt: HostRuntime) -> Result<(), Fail> {
     ];
     for (input, status) in rows {
         let count = u64::try_from(input.len()).unwrap_or(0);
-        let ran = run(
+        let mut ran = run(
             alloc,
             false,
             joined(alloc, &[input])?,
@@ -264,6 +294,8 @@ fn no_read_behind_the_end(rt: HostRuntime) -> Result<(), Fail> {
             0,
         )?;
         assert_eq!(rt; ran.status, status);
+        // The read that fails is still the next one.
+        assert!(rt; ran.source.read(&mut [0; 1]).is_err());
     }
     Ok(())
 }
