@@ -5,6 +5,7 @@ use mir.Syntax.{w128}
 use Rattle.fleet_math.proofs.RingLemmas.{ring, linear, le_mul_ℤ, mul_comm_ℤ, mul_neg_ℤ, mul_left_comm_ℤ}
 use Rattle.std.proofs.Common.{zero, suc, ◌*◌, negsuc, lit<}
 use Rattle.std.proofs.lemmas.Nat.{mul-le}
+use Rattle.fleet_math.specs.Numbers.{IsBelow}
 use Rattle.fleet_math.specs.Sums.{power}
 use Rattle.fleet_math.specs.Bernstein.{bernstein}
 use Rattle.fleet_math.proofs.BernsteinLemmas.{bernstein-same, bernstein-step}
@@ -77,6 +78,18 @@ room_in n r short few =
 pub room_left : (c : ℤ) (r : ℕ) → pos 0 ≤ℤ c → c ≤ℤ pos 65535 → r ≤ 6 → (c *ℤ (pos 32768 *ℤ power c r)) <ℤ pos (2 ^ 127)
 room_left (pos n) r positive short few = rw (power_pos n r) (room_in n r (omega (arith, ints)) few)
 room_left (negsuc n) r positive short few = absurd (omega (arith, ints))
+
+-- the value of a curve of degree seven or less is below 2^127
+pub value_below : (c v : ℤ) (r : ℕ) → pos 0 ≤ℤ c → c ≤ℤ pos 65535 → r ≤ 7 → IsWithin (pos 32768 *ℤ power c r) v → IsBelow (2 ^ 127) v
+value_below c v zero positive short few within = close v (pos 32768 *ℤ pos 1) within (omega (arith, ints))
+  where
+    close : (z q : ℤ) → IsWithin q z → q <ℤ pos (2 ^ 127) → IsBelow (2 ^ 127) z
+    close z q within fits = (omega (arith, ints), omega (arith, ints))
+value_below c v (suc r) positive short few within =
+    close v (c *ℤ (pos 32768 *ℤ power c r)) (rw (mul_left_comm_ℤ (pos 32768) c (power c r)) at within) (room_left c r positive short (omega arith))
+  where
+    close : (z q : ℤ) → IsWithin q z → q <ℤ pos (2 ^ 127) → IsBelow (2 ^ 127) z
+    close z q within fits = (omega (arith, ints), omega (arith, ints))
 
 -- a curve has at most eight control values
 pub length_bounds : (n : ℕ) → IsLength n → (1 ≤ n) × (n ≤ 8)

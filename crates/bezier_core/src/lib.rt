@@ -27,8 +27,7 @@ impl<const N: usize> Bez<N> {
     /// The Bernstein sum at `a` and `c`: the curve's value at `a / c`, times `c` to the power of the degree, by de
     /// Casteljau's rule.
     ///
-    /// For control values of 16 bits. That the answer, and each number on the way to it, is below 2 to the 127 is told by
-    /// its type and needs no clause.
+    /// For control values of 16 bits; its distance from 0 is below 2^127 then.
     pub fn value(&self, a: i128, c: i128) -> i128
         requires length { IsLength N }
         requires positive { pos 0 ≤ℤ a }
@@ -36,7 +35,8 @@ impl<const N: usize> Bez<N> {
         requires some { pos 1 ≤ℤ c }
         requires short { c ≤ℤ pos 65535 }
         requires values { All (IsIn (neg_ℤ (pos 32768)) (pos 32767)) self.now.b }
-        ensures { result ≡ bern self.now.b a c }
+        ensures exact { result ≡ bern self.now.b a c }
+        ensures below { IsBelow (2 ^ 127) result }
     {
         let mut row = self.b;
         for last in (1..N).rev() {

@@ -4,7 +4,7 @@ use Rattle.fleet_math.specs.Sums.{power}
 use Rattle.fleet_math.specs.Bernstein.{at, bernstein, bern}
 use Rattle.fleet_math.proofs.BernsteinLemmas.{bernstein-zero}
 use Rattle.bezier_core.specs.Steps.{HasRoom, IsWithin}
-use Rattle.bezier_core.proofs.BlendLemmas.{sum_kept, bound_kept, room_left, length_bounds}
+use Rattle.bezier_core.proofs.BlendLemmas.{sum_kept, bound_kept, room_left, value_below, length_bounds}
 use mir.Syntax.{w128}
 use Rattle.bezier_core.proofs.Bez.value.Goals as goal
 
@@ -46,4 +46,10 @@ returns g c =
     let sum : bernstein (c.loop-last.last - 1) (at c.loop-last.row) c.args.a c.args.c ≡ bern c.args.self.now.b c.args.a c.args.c =
     simp to_z-of_z at c.loop-last.invariant.sum in
     let one : c.loop-last.last - 1 ≡ 0 = omega arith in
-    simp to_z-of_z (sym (bernstein-zero (at c.loop-last.row) c.args.a c.args.c) ∙ (rw one at sum))
+    let bounds : (1 ≤ g.row.N) × (g.row.N ≤ 8) = length_bounds g.row.N c.requires.length in
+    let small : (k : ℕ) → k < c.loop-last.last → IsWithin (pos 32768 *ℤ power c.args.c (g.row.N - c.loop-last.last)) (at c.loop-last.row k) =
+    simp to_z-of_z at c.loop-last.invariant.small in
+    record {
+      exact = simp to_z-of_z (sym (bernstein-zero (at c.loop-last.row) c.args.a c.args.c) ∙ (rw one at sum));
+      below = simp to_z-of_z (value_below c.args.c (at c.loop-last.row 0) (g.row.N - c.loop-last.last) (omega (arith, ints)) c.requires.short (omega arith) (small 0 (omega arith)));
+    }
