@@ -12,6 +12,7 @@ pub mod Table
 pub mod Lifts
 pub mod Positions
 pub mod Weighted
+pub mod Sizes
 pub mod Rulers
 pub mod Instants
 pub mod PartBounds

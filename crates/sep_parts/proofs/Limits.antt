@@ -1,9 +1,9 @@
 -- How large thresholds are.
 use Rattle.std.proofs.Common.{◌≡◌, ℕ, zero, suc, ◌*◌, ◌^◌, ◌≤◌, ◌<◌, ℤ, pos, negsuc, neg_ℤ, ◌*ℤ◌, ◌≤ℤ◌, ◌<ℤ◌, Bool, true, false, cond, int_lt, unsigned_abs, arith, ◌∙◌, FitsSigned, to_z, of_z, refl, ap, List, map, length, get_or, [], All}
 use Rattle.std.proofs.lemmas.Int.{ints, to_z-of_z}
-use Rattle.std.proofs.lemmas.List.Elements.{All-get_or}
+use Rattle.std.proofs.lemmas.List.Elements.{All-get_or, All-from_get_or}
 use mir.Syntax.{w128}
-use Rattle.std.proofs.lemmas.List.{get_or-map}
+use Rattle.std.proofs.lemmas.List.{get_or-map, length-map}
 use Rattle.fleet_math.specs.Bernstein.{at}
 use Rattle.fleet_math.proofs.RingLemmas.{linear, le_mul_ℤ}
 use Rattle.fleet_math.proofs.BernsteinLemmas.{by_lt}
@@ -57,6 +57,20 @@ threshold_small r h n r_axis h_axis small =
 -- an entry of the thresholds of a table
 pub threshold_at : (f : List ℤ → ℤ) (ts : List ℤ) (dirs : List (List ℤ)) (i : ℕ) → ts ≡ map f dirs → i < length dirs → at ts i ≡ f (get_or dirs i [])
 threshold_at f ts dirs i are inside = rw are (get_or-map f dirs i [] (pos 0) inside)
+
+-- each threshold of a table
+pub thresholds_small : (r h : ℕ) (ts : List ℤ) (dirs : List (List ℤ)) → IsAxis r → IsAxis h → All AreSmall dirs → ts ≡ map (threshold r h) dirs →
+    All (λ (t : ℤ). (pos 0 ≤ℤ t) × (t <ℤ pos (2 ^ 30))) ts
+thresholds_small r h ts dirs r_axis h_axis small are =
+    All-from_get_or (λ (t : ℤ). (pos 0 ≤ℤ t) × (t <ℤ pos (2 ^ 30))) ts (pos 0) (λ i inside. one i (omega (arith, inside, same)))
+  where
+    same : length ts ≡ length dirs
+    same = rw are (length-map dirs (threshold r h))
+
+    one : (i : ℕ) → i < length dirs → (pos 0 ≤ℤ at ts i) × (at ts i <ℤ pos (2 ^ 30))
+    one i inside =
+        rw (threshold_at (threshold r h) ts dirs i are inside)
+        (omega (arith, ints), threshold_small r h (get_or dirs i []) r_axis h_axis (All-get_or AreSmall dirs i [] inside small))
 
 stays : (z t : ℤ) → z ≡ t → pos 0 ≤ℤ t → t <ℤ pos (2 ^ 30) → to_z w128 (of_z w128 z) ≡ t
 stays z t e positive small = let fits : FitsSigned w128 z = omega (arith, ints) in to_z-of_z w128 z fits ∙ e

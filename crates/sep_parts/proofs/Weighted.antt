@@ -12,12 +12,12 @@ use Rattle.bezier_core.proofs.CurveLemmas.{at-eight}
 use Rattle.bezier_core.proofs.EightLemmas.{below_at, controls_below}
 
 -- a weight up to 4,000 times a value below 2^86 is below 2^100
-product_small : (w x : ℤ) → IsBelow 4001 w → IsBelow (2 ^ 86) x → IsBelow (2 ^ 100) (w *ℤ x)
+pub product_small : (w x : ℤ) → IsBelow 4001 w → IsBelow (2 ^ 86) x → IsBelow (2 ^ 100) (w *ℤ x)
 product_small w x small below =
     let m : unsigned_abs (w *ℤ x) ≤ 4000 * (2 ^ 86) = rw (unsigned_abs-mul w x) (mul-le (unsigned_abs w) (unsigned_abs x) 4000 (2 ^ 86) (omega (arith, ints)) (omega (arith, ints))) in
     (omega (arith, ints), omega (arith, ints))
 
-sum_small : (x y z : ℤ) → IsBelow (2 ^ 100) x → IsBelow (2 ^ 100) y → IsBelow (2 ^ 100) z → IsBelow (2 ^ 104) (x +ℤ y +ℤ z)
+pub sum_small : (x y z : ℤ) → IsBelow (2 ^ 100) x → IsBelow (2 ^ 100) y → IsBelow (2 ^ 100) z → IsBelow (2 ^ 104) (x +ℤ y +ℤ z)
 sum_small x y z p q r = (omega (arith, ints), omega (arith, ints))
 
 -- three parts below 2^86 have weighted sums below 2^104

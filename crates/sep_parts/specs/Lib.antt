@@ -1,6 +1,7 @@
 pub mod Directions
 pub mod Versions
 pub mod Separates
+pub mod Sizes
 pub mod Apart
 pub mod Slots
 pub mod Levels

@@ -169,13 +169,14 @@ pub fn threshold_law()
 {}
 
 /// The threshold of each direction, for ellipsoids of half axes `r`, `r` and `h` in millimetres: the least number that is not
-/// negative and whose square is above 4 r^2 h^2 (n . n). Two radii add, hence the 4.
+/// negative and whose square is above 4 r^2 h^2 (n . n). Two radii add, hence the 4. None comes to 2^30.
 pub fn thresholds<const M: usize>(dirs: &Dirs<M>, r: u16, h: u16) -> [i128; M]
     requires size { IsTableSize M }
     requires entries { All AreSmall dirs.now.n }
     requires r { IsAxis r }
     requires h { IsAxis h }
-    ensures { result ≡ map (threshold r h) dirs.now.n }
+    ensures exact { result ≡ map (threshold r h) dirs.now.n }
+    ensures small { All (λ t. (pos 0 ≤ℤ t) × (t <ℤ pos (2 ^ 30))) result }
 {
     let mut values = [0; M];
     for k in 0..M {

@@ -8,6 +8,7 @@ ghost use Rattle.bezier_core.specs.Raised.{eight};
 ghost use Rattle.halving.specs.Part.{part_value};
 ghost use Rattle.sep_parts.specs.Directions.{AreSmall, IsAxis};
 ghost use Rattle.sep_parts.specs.Separates.{first_low, least_value, weights};
+ghost use Rattle.sep_parts.specs.Sizes.{SizeLaw};
 
 use bezier_core::{Bez, along, along_at};
 use halving::halve;
@@ -167,3 +168,9 @@ pub fn halves(part: &[Bez<8>; 3]) -> ([Bez<8>; 3], [Bez<8>; 3])
     let (z_left, z_right) = halve(&part[2]);
     ([x_left, y_left, z_left], [x_right, y_right, z_right])
 }
+
+/// A law: no number of a search comes to 2^104. Of differences of raised curves, which are below 2^30, neither the control
+/// values of a part nor their weighted sums along a direction do, nor does what each sum must be at least.
+pub fn size_law()
+    ensures { SizeLaw }
+{}

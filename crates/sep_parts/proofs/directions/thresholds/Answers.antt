@@ -1,6 +1,7 @@
 use Rattle.std.proofs.Common.{rules, ◌≡◌, ℕ, ◌≤◌, List, ℤ, length, take, map, arith, sym, ◌∙◌, ap}
 use Rattle.std.proofs.lemmas.List.{take_all}
 use Rattle.sep_parts.specs.Directions.{threshold}
+use Rattle.sep_parts.proofs.Limits.{thresholds_small}
 use Rattle.sep_parts.proofs.directions.thresholds.Goals as goal
 
 whole : (f : List ℤ → ℤ) (m k : ℕ) (xs : List ℤ) (ys : List (List ℤ)) → length xs ≡ m → length ys ≡ m → m ≤ k → take k xs ≡ map f (take k ys) → xs ≡ map f ys
@@ -10,4 +11,9 @@ whole f m k xs ys xs_len ys_len far done =
 pub returns : goal.returns
 returns g c =
     let len : length c.args.dirs.now.n ≡ g.row.M = search rules in
-    whole (threshold c.args.r c.args.h) g.row.M c.loop-k.k c.loop-k.values c.args.dirs.now.n c.loop-k.invariant.same_length len (omega arith) c.loop-k.invariant.done
+    let done : c.loop-k.values ≡ map (threshold c.args.r c.args.h) c.args.dirs.now.n =
+    whole (threshold c.args.r c.args.h) g.row.M c.loop-k.k c.loop-k.values c.args.dirs.now.n c.loop-k.invariant.same_length len (omega arith) c.loop-k.invariant.done in
+    record {
+      exact = done;
+      small = thresholds_small c.args.r c.args.h c.loop-k.values c.args.dirs.now.n c.requires.r c.requires.h c.requires.entries done;
+    }
