@@ -7,17 +7,22 @@ ghost use Rattle.mm_rounding.specs.Rounding.{millimetres, short, shorts, rounded
 ghost use Rattle.mm_rounding.specs.Near.{StaysNear};
 
 use crate::piece::{Axis, MicroPiece};
-use fleet_math::floor_div;
 use traj_codec::{Element, Segment};
 
 // Micrometres in a millimetre.
-const MICROMETRES: i128 = 1000;
+const MICROMETRES: i64 = 1000;
 
-// Micrometres in whole millimetres, a half up.
+// Micrometres in whole millimetres, a half up. The sum `v + 500` may not fit 64 bits, and a division in 128 bits takes
+// several times as long; so what is rounded up is found by the remainder.
 fn millimetres(v: i64) -> i64
     ensures { result ≡ millimetres v }
 {
-    floor_div(i128::from(v) + MICROMETRES / 2, MICROMETRES) as i64
+    let floor = v.div_euclid(MICROMETRES);
+    if v.rem_euclid(MICROMETRES) < MICROMETRES / 2 {
+        floor
+    } else {
+        floor + 1
+    }
 }
 
 // The number in two bytes, where it fits.
