@@ -1,11 +1,12 @@
 -- The first piece of bytes that are cut, and what stands behind it.
 use Rattle.std.proofs.Common.{◌≡◌, ℕ, ◌+◌, ◌<◌, ◌≤◌, Bool, true, false, cond, ltb, List, [], ◌∷◌, ◌++◌, length, take, drop, refl, sym, ap, ◌∙◌, append_assoc, append-nil, Option, Some, None, inl, inr, arith}
 use Rattle.std.specs.Prelude.{unwrap_or, not}
-use Rattle.std.proofs.lemmas.Bool.{cases_lt, lt-ltb, le-ltb}
+use Rattle.std.proofs.lemmas.Bool.{cases_lt, lt-ltb, le-ltb, false_from_ne_true}
+use Rattle.memchr.specs.Find.{IsFirstByte}
 use Rattle.std.specs.List.{slice_split, onto_first, position_or_len}
 use Rattle.std.proofs.lemmas.List.{length-take}
 use Rattle.std.proofs.lemmas.List.Splits.{slice_split_first, slice_split_none}
-use Rattle.std.proofs.lemmas.List.Sums.{fails_before_first, prefix_len-le-length}
+use Rattle.std.proofs.lemmas.List.Sums.{fails_before_first, position_or_len_is, prefix_len-le-length}
 use Rattle.text_lines.specs.declared.token.Token.{Token}
 use Rattle.text_lines.specs.declared.token.Comments.{Comments}
 use Rattle.text_lines.specs.Lines.{is_line_feed, lines_of, without_empty_end}
@@ -21,6 +22,13 @@ unwrap_position p xs o is = elim (cases_lt (position_or_len p xs) (length xs)) [
   | inl lt ↦ rw (is, lt-ltb _ _ lt) refl
   | inr le ↦ rw (is, le-ltb _ _ le) (omega (arith, position_within p xs))
 ]
+
+-- the first byte that passes is at the place that a search finds, or there is none
+pub first_found : (p : ℕ → Bool) (xs : List ℕ) (o : Option ℕ) → IsFirstByte p xs o → unwrap_or o (length xs) ≡ position_or_len p xs
+first_found p xs None none =
+    sym (position_or_len_is p xs (length xs) 0 (omega arith) (λ k lt. false_from_ne_true _ (none k (omega arith) lt)) (λ lt. absurd (omega (arith, lt))))
+first_found p xs (Some k) found =
+    sym (position_or_len_is p xs k 0 (omega (arith, found.0.high)) (λ j lt. false_from_ne_true _ (found.0.before j (omega arith) lt)) (λ lt. found.1))
 
 -- bytes with an end in them are cut there
 pub cut_more : (p : ℕ → Bool) (n : ℕ) (xs : List ℕ) → n ≡ position_or_len p xs → n < length xs → slice_split p xs ≡ take n xs ∷ slice_split p (drop (n + 1) xs)

@@ -4,12 +4,14 @@ ghost use Rattle.std.specs.Prelude.{◌≡◌, ◌+◌, ◌<◌, ◌≤◌, ◌�
 ghost use Rattle.std.specs.List.{position_or_len};
 ghost use Rattle.text_lines.specs.Lines.{lines_of};
 
+use memchr::memchr;
+
 /// How many bytes stand before the first of these, or all where there is none.
 pub fn len_before(bytes: &[u8], end: u8) -> usize
     ensures value { result ≡ position_or_len (λ b. b == end) bytes.now }
     ensures within { result ≤ length bytes.now }
 {
-    bytes.iter().position(|b| *b == end).unwrap_or(bytes.len())
+    memchr(end, bytes).unwrap_or(bytes.len())
 }
 
 /// The first line of a text without its line feed, and what stands behind that. An empty text has no line.

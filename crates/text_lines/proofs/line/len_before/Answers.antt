@@ -1,13 +1,11 @@
-use Rattle.std.proofs.Common.{◌∙◌, arith, rules, tests}
+use Rattle.std.proofs.Common.{◌∙◌, arith}
 use Rattle.std.specs.Prelude.{◌==◌}
-use Rattle.std.proofs.lemmas.Iterator.{YieldsList-from_slice}
-use Rattle.std.proofs.lemmas.Iterator.Search.{position_from_yields_List}
-use Rattle.text_lines.proofs.Cuts.{unwrap_position, position_within}
+use Rattle.text_lines.proofs.Cuts.{first_found, position_within}
 use Rattle.text_lines.proofs.line.len_before.Goals as goal
 
 pub returns-clause-value : goal.returns-clause-value
 returns-clause-value c =
-    c.unwrap_or.ensures ∙ unwrap_position (λ b. b == c.args.end) c.args.bytes.now c.position.result (position_from_yields_List (λ b. b == c.args.end) _ _ c.position.result c.position.ensures.ran (YieldsList-from_slice c.args.bytes.now cc) (λ x b q k. search (rules, tests)))
+    c.unwrap_or.ensures ∙ first_found (λ b. b == c.args.end) c.args.bytes.now c.memchr.result c.memchr.ensures
 
 pub returns-clause-within : goal.returns-clause-within
 returns-clause-within c = omega (arith, returns-clause-value c, position_within (λ b. b == c.args.end) c.args.bytes.now)
