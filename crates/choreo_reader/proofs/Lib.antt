@@ -1,6 +1,7 @@
 pub mod Blocks
 pub mod Opened
 pub mod OneLine
+pub mod Allowed
 pub mod Complete
 pub mod CompleteShow
 pub mod Sound

@@ -1,4 +1,5 @@
 pub mod Text
+pub mod Steps
 pub mod Plain
 pub mod Grammar
 pub mod Context

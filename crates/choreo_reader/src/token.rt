@@ -6,7 +6,9 @@ ghost use Rattle.text_lines.specs.declared.token.Comments.TheVariants.{FromHash}
 ghost use Rattle.text_lines.specs.Lines.{between_feeds};
 ghost use Rattle.text_lines.specs.Words.{visible as visible_of, words_of};
 ghost use Rattle.text_lines.specs.Tokens.{words_in};
+ghost use Rattle.std.specs.List.{list_all};
 ghost use Rattle.choreo_reader.specs.Text.{is_allowed as is_allowed_of, are_allowed as are_allowed_of, forbidden, fault_at, TokensGive};
+ghost use Rattle.choreo_reader.specs.Steps.{stands_anywhere as stands_anywhere_of};
 
 use crate::fault::ShowFault;
 use choreo_lines::LineKind;
@@ -28,11 +30,33 @@ fn are_allowed(bytes: &[u8]) -> bool
     bytes.iter().all(|byte| is_allowed(*byte))
 }
 
-// The first line that has a forbidden byte.
+// Whether a byte may stand anywhere: one that may stand outside a comment, or a line feed.
+fn stands_anywhere(byte: u8) -> bool
+    ensures { result ≡ stands_anywhere_of byte }
+{
+    byte == b'\n' || is_allowed(byte)
+}
+
+// Whether each byte of a text may stand anywhere. No byte ends the walk, so that a processor judges many at a time.
+fn is_plain(text: &[u8]) -> bool
+    ensures { result ≡ list_all stands_anywhere_of text.now }
+{
+    let mut plain = true;
+    for byte in text {
+        plain &= stands_anywhere(*byte);
+    }
+    plain
+}
+
+// The first line that has a forbidden byte. Most texts have none, in comments neither; these are not cut into lines.
+#[tactic(auto, using(crate::proofs::Allowed::plain_allowed))]
 pub(crate) fn first_bad_line(text: &[u8]) -> Option<u32>
     requires { length text.now ≤ MOST_BYTES }
     ensures { MatchOption result (forbidden text.now ≡ None) (λ line. forbidden text.now ≡ Some (fault_at line kind.BadByte)) }
 {
+    if is_plain(text) {
+        return None;
+    }
     let mut number: u32 = 1;
     let mut rest = text;
     'lines: while let Some((line, behind)) = split_line(rest) {

@@ -1,0 +1,54 @@
+-- A text whose bytes may all stand anywhere has no forbidden byte.
+use Rattle.std.proofs.Common.{◌≡◌, ℕ, zero, suc, ◌+◌, Bool, true, false, cond, List, [], ◌∷◌, take, Some, None, refl, sym, ap, ◌∙◌}
+use Rattle.std.specs.Prelude.{◌&&◌, ◌||◌}
+use Rattle.std.specs.List.{list_all, onto_first, position_or_len}
+use Rattle.std.proofs.lemmas.Bool.{false≢true}
+use Rattle.text_lines.specs.Lines.{is_line_feed, between_feeds, without_empty_end, lines_of}
+use Rattle.text_lines.specs.Words.{is_hash}
+use Rattle.choreo_lines.specs.declared.line.LineKind.TheVariants as kind
+use Rattle.choreo_reader.specs.Text.{are_allowed, forbidden, forbidden_from, fault_at}
+use Rattle.choreo_reader.specs.Steps.{stands_anywhere}
+
+both : (a b : Bool) → (a && b) ≡ true → (a ≡ true) × (b ≡ true)
+both true b h = (refl, h)
+both false b h = absurd (false≢true h)
+
+and_of : (a b : Bool) → a ≡ true → b ≡ true → (a && b) ≡ true
+and_of a b e f = ap (λ c. c && b) e ∙ f
+
+other : (a b : Bool) → a ≡ false → (a || b) ≡ true → b ≡ true
+other a b e h = sym (ap (λ c. c || b) e) ∙ h
+
+-- the pieces stay allowed where one more byte stands before them
+cut_allowed : (feed : Bool) (x : ℕ) (ps : List (List ℕ)) → is_line_feed x ≡ feed → stands_anywhere x ≡ true → list_all are_allowed ps ≡ true → list_all are_allowed (cond feed ([] ∷ ps) (onto_first x ps)) ≡ true
+cut_allowed true x ps e stands all = all
+cut_allowed false x [] e stands all = and_of _ _ (and_of _ _ (other _ _ e stands) refl) refl
+cut_allowed false x (p ∷ ps) e stands all =
+    and_of _ _ (and_of _ _ (other _ _ e stands) (both _ _ all).0) (both _ _ all).1
+
+pieces_allowed : (text : List ℕ) → list_all stands_anywhere text ≡ true → list_all are_allowed (between_feeds text) ≡ true
+pieces_allowed [] all = refl
+pieces_allowed (x ∷ text) all =
+    cut_allowed (is_line_feed x) x (between_feeds text) refl (both _ _ all).0 (pieces_allowed text (both _ _ all).1)
+
+lines_allowed : (ps : List (List ℕ)) → list_all are_allowed ps ≡ true → list_all are_allowed (without_empty_end ps) ≡ true
+lines_allowed [] all = refl
+lines_allowed ([] ∷ []) all = refl
+lines_allowed ([] ∷ p ∷ ps) all = lines_allowed (p ∷ ps) all
+lines_allowed ((b ∷ p) ∷ ps) all = and_of _ _ (both _ _ all).0 (lines_allowed ps (both _ _ all).1)
+
+front_allowed : (n : ℕ) (bytes : List ℕ) → are_allowed bytes ≡ true → are_allowed (take n bytes) ≡ true
+front_allowed zero bytes all = refl
+front_allowed (suc n) [] all = refl
+front_allowed (suc n) (b ∷ bytes) all = and_of _ _ (both _ _ all).0 (front_allowed n bytes (both _ _ all).1)
+
+none_forbidden : (number : ℕ) (lines : List (List ℕ)) → list_all are_allowed lines ≡ true → forbidden_from number lines ≡ None
+none_forbidden number [] all = refl
+none_forbidden number (line ∷ lines) all =
+    ap (λ c. cond c (forbidden_from (number + 1) lines) (Some (fault_at number kind.BadByte)))
+    (front_allowed (position_or_len is_hash line) line (both _ _ all).0)
+    ∙ none_forbidden (number + 1) lines (both _ _ all).1
+
+-- where each byte may stand anywhere, no line has a forbidden byte
+pub plain_allowed : (text : List ℕ) → list_all stands_anywhere text ≡ true → forbidden text ≡ None
+plain_allowed text all = none_forbidden 1 (lines_of text) (lines_allowed (between_feeds text) (pieces_allowed text all))
