@@ -2,4 +2,5 @@ pub mod BlendLemmas
 pub mod RaisedLemmas
 pub mod EightLemmas
 pub mod CurveLemmas
+pub mod SizeLemmas
 pub mod Rows

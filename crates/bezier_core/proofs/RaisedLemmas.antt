@@ -163,11 +163,11 @@ raised_by-seven n k f low within =
     ∙ (rw (e, raised_value-spread n k f, seventh k within) refl)
 
 -- (n + 1) (n + 2) .. (n + r)
-abbrev rising : ℕ → ℕ → ℕ
+abbrev pub rising : ℕ → ℕ → ℕ
 rising n zero = 1
 rising n (suc r) = suc (n + r) * rising n r
 
-rising-fact : (n r : ℕ) → rising n r * fact n ≡ fact (n + r)
+pub rising-fact : (n r : ℕ) → rising n r * fact n ≡ fact (n + r)
 rising-fact n zero = let e : n + 0 ≡ n = omega arith in rw e (omega arith)
 rising-fact n (suc r) =
     let e : n + suc r ≡ suc (n + r) = omega arith in

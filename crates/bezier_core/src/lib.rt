@@ -5,7 +5,7 @@
 //! Three laws say what that means for the curve's values. The definitions of the sums are `fleet_math`'s.
 #![tactic(auto)]
 
-ghost use Rattle.std.specs.Prelude.{◌≡◌, ℕ, ◌+◌, ◌-◌, ◌^◌, ◌<◌, ◌≤◌, ℤ, pos, neg_ℤ, ◌+ℤ◌, ◌-ℤ◌, ◌*ℤ◌, ◌≤ℤ◌, All};
+ghost use Rattle.std.specs.Prelude.{◌≡◌, ℕ, ◌+◌, ◌-◌, ◌*◌, ◌^◌, ◌<◌, ◌≤◌, ℤ, pos, neg_ℤ, ◌+ℤ◌, ◌-ℤ◌, ◌*ℤ◌, ◌≤ℤ◌, All};
 ghost use Rattle.fleet_math.specs.Numbers.{IsBelow, IsIn};
 ghost use Rattle.fleet_math.specs.Sums.{power};
 ghost use Rattle.fleet_math.specs.Bernstein.{at, bern, bernstein};
@@ -49,7 +49,8 @@ impl<const N: usize> Bez<N> {
     pub fn to_eight(&self) -> Bez<8>
         requires length { IsLength N }
         requires values { All (IsBelow (2 ^ 100)) self.now.b }
-        ensures { result.b ≡ raised self.now.b }
+        ensures exact { result.b ≡ raised self.now.b }
+        ensures small { (n : ℕ) → 1 ≤ n → All (IsBelow n) self.now.b → All (IsBelow (5040 * n)) result.b }
     {
         let mut row = scaled(&self.b);
         for degree in N - 1..7 {
@@ -77,7 +78,8 @@ impl Bez<8> {
     pub fn minus(&self, other: &Bez<8>) -> Bez<8>
         requires own { All (IsBelow (2 ^ 125)) self.now.b }
         requires others { All (IsBelow (2 ^ 125)) other.now.b }
-        ensures { result.b ≡ eight (λ k. at self.now.b k -ℤ at other.now.b k) }
+        ensures exact { result.b ≡ eight (λ k. at self.now.b k -ℤ at other.now.b k) }
+        ensures small { (n : ℕ) → 1 ≤ n → All (IsBelow n) self.now.b → All (IsBelow n) other.now.b → All (IsBelow (2 * n)) result.b }
     {
         Bez {
             b: differences!(self.b, other.b; 0 1 2 3 4 5 6 7),
@@ -90,7 +92,8 @@ impl Bez<8> {
 pub fn along(xyz: &[Bez<8>; 3], w: [i128; 3]) -> Bez<8>
     requires values { All (λ curve. All (IsBelow (2 ^ 100)) curve.b) xyz.now }
     requires weights { All (IsBelow 4001) w }
-    ensures { result.b ≡ eight (along_value xyz.now w) }
+    ensures exact { result.b ≡ eight (along_value xyz.now w) }
+    ensures small { (n : ℕ) → 1 ≤ n → All (λ curve. All (IsBelow n) curve.b) xyz.now → All (IsBelow (12000 * n)) result.b }
 {
     Bez {
         b: weighted_sums!(xyz, w; 0 1 2 3 4 5 6 7),
@@ -145,7 +148,8 @@ pub fn along_at(xyz: &[Bez<8>; 3], w: [i128; 3], k: usize) -> i128
     requires place { k < 8 }
     requires values { All (λ curve. All (IsBelow (2 ^ 100)) curve.b) xyz.now }
     requires weights { All (IsBelow 4001) w }
-    ensures { result ≡ along_value xyz.now w k }
+    ensures exact { result ≡ along_value xyz.now w k }
+    ensures small { (n : ℕ) → 1 ≤ n → All (λ curve. All (IsBelow n) curve.b) xyz.now → IsBelow (12000 * n) result }
 {
     let x = weighted(w[0], xyz[0].b[k]);
     let y = weighted(w[1], xyz[1].b[k]);

@@ -1,5 +1,5 @@
 -- The triangle of de Casteljau's rule, and its two edges.
-use Rattle.std.proofs.Common.{◌≡◌, ℕ, zero, suc, ◌≤◌, ◌+◌, ◌-◌, ◌*◌, ◌^◌, ℤ, pos, ◌+ℤ◌, ◌*ℤ◌, ◌≤ℤ◌, arith, sym, ◌∙◌, ap, All, List, lit<}
+use Rattle.std.proofs.Common.{◌≡◌, ℕ, zero, suc, ◌≤◌, ◌+◌, ◌-◌, ◌*◌, ◌^◌, ℤ, pos, ◌+ℤ◌, ◌*ℤ◌, ◌≤ℤ◌, arith, sym, subst, ◌∙◌, ap, All, List, lit<}
 use Rattle.std.proofs.lemmas.Int.{ints}
 use Rattle.std.proofs.lemmas.Nat.{pow-add}
 use Rattle.std.proofs.Math.Nat.{pow-le-pow_right}
@@ -7,6 +7,7 @@ use Rattle.fleet_math.specs.Sums.{power}
 use Rattle.fleet_math.specs.Bernstein.{at, bernstein}
 use Rattle.fleet_math.proofs.RingLemmas.{linear, one_mul_ℤ, mul_assoc_ℤ}
 use Rattle.fleet_math.proofs.BernsteinLemmas.{bernstein-zero, bernstein-same, bernstein-scale, bernstein-suc, bernstein-at_zero, bernstein-at_end}
+use Rattle.fleet_math.proofs.SumLemmas.{power-add}
 use Rattle.fleet_math.specs.Numbers.{IsBelow}
 use Rattle.bezier_core.specs.Steps.{IsWithin}
 use Rattle.bezier_core.proofs.BlendLemmas.{within_blend, within_mul, power_pos}
@@ -21,6 +22,27 @@ bernstein-within (suc n) f m a c positive within small =
     (within_blend a c (power c n *ℤ m) (bernstein n f a c) (bernstein n (λ k. f (suc k)) a c) positive within
     (bernstein-within n f m a c positive within (λ k low. small k (omega arith)))
     (bernstein-within n (λ k. f (suc k)) m a c positive within (λ k low. small (suc k) (omega arith))))
+
+-- the halves keep a bound, 2 ^ 7 times
+two_powers : (k : ℕ) → k ≤ 7 → power (pos 2) (7 - k) *ℤ power (pos 2) k ≡ pos 128
+two_powers k small = let e : 7 - k + k ≡ 7 = omega arith in sym (power-add (pos 2) (7 - k) k) ∙ ap (λ (n : ℕ). power (pos 2) n) e
+
+pub half_below : (m n k : ℕ) (f : ℕ → ℤ) → m ≤ 1 → 1 ≤ n → k ≤ 7 → ((i : ℕ) → i ≤ 7 → IsBelow n (f i)) → IsBelow (2 ^ 7 * n) (part_value 1 m f k)
+unfolding polar
+half_below m n k f half some small below =
+    let inner : (i : ℕ) → i ≤ 7 - k → IsWithin (power (pos 2) k *ℤ pos (n - 1)) (bernstein k (λ l. f (i + l)) (pos (m + 1)) (pos 2)) =
+    λ i low. bernstein-within k (λ l. f (i + l)) (pos (n - 1)) (pos (m + 1)) (pos 2) (omega (arith, ints)) (omega (arith, ints)) (λ l few. loose (f (i + l)) (below (i + l) (omega arith))) in
+    let outer : IsWithin (power (pos 2) (7 - k) *ℤ (power (pos 2) k *ℤ pos (n - 1))) (part_value 1 m f k) =
+    bernstein-within (7 - k) (λ i. bernstein k (λ l. f (i + l)) (pos (m + 1)) (pos 2)) (power (pos 2) k *ℤ pos (n - 1)) (pos m) (pos 2) (omega (arith, ints)) (omega (arith, ints)) inner in
+    let e : power (pos 2) (7 - k) *ℤ (power (pos 2) k *ℤ pos (n - 1)) ≡ pos 128 *ℤ pos (n - 1) =
+    sym (mul_assoc_ℤ (power (pos 2) (7 - k)) (power (pos 2) k) (pos (n - 1))) ∙ ap (λ (z : ℤ). z *ℤ pos (n - 1)) (two_powers k small) in
+    close (part_value 1 m f k) (subst (λ (z : ℤ). IsWithin z (part_value 1 m f k)) e outer)
+  where
+    loose : (x : ℤ) → IsBelow n x → IsWithin (pos (n - 1)) x
+    loose x near = (omega (arith, ints), omega (arith, ints))
+
+    close : (x : ℤ) → IsWithin (pos 128 *ℤ pos (n - 1)) x → IsBelow (2 ^ 7 * n) x
+    close x within = (omega (arith, ints), omega (arith, ints))
 
 -- the next row
 pub row_after : (k i : ℕ) (f : ℕ → ℤ) → bernstein (k + 1) (λ j. f (i + j)) (pos 1) (pos 2) ≡ bernstein k (λ j. f (i + j)) (pos 1) (pos 2) +ℤ bernstein k (λ j. f (i + 1 + j)) (pos 1) (pos 2)

@@ -59,6 +59,8 @@ pub fn halve(b: &Bez<8>) -> (Bez<8>, Bez<8>)
     requires { All (IsBelow (2 ^ 118)) b.now.b }
     ensures left { result.0.b ≡ eight (part_value 1 0 (at b.now.b)) }
     ensures right { result.1.b ≡ eight (part_value 1 1 (at b.now.b)) }
+    ensures left_small { (n : ℕ) → 1 ≤ n → All (IsBelow n) b.now.b → All (IsBelow (2 ^ 7 * n)) result.0.b }
+    ensures right_small { (n : ℕ) → 1 ≤ n → All (IsBelow n) b.now.b → All (IsBelow (2 ^ 7 * n)) result.1.b }
 {
     let mut row = b.b;
     let mut left = [0; 8];

@@ -1,9 +1,10 @@
-use Rattle.std.proofs.Common.{◌≡◌, ◌^◌, ℤ, ◌+ℤ◌, ◌*ℤ◌, FitsSigned, lit<}
+use Rattle.std.proofs.Common.{◌≡◌, ◌*◌, ◌^◌, ℤ, ◌+ℤ◌, ◌*ℤ◌, FitsSigned, sym, subst, lit<}
 use Rattle.std.proofs.lemmas.Int.{to_z-of_z}
 use Rattle.fleet_math.specs.Bernstein.{at}
 use Rattle.fleet_math.specs.Numbers.{IsBelow}
 use Rattle.bezier_core.specs.Along.{controls}
 use Rattle.bezier_core.proofs.EightLemmas.{below_at, controls_below, sum_fits, weight_fits, value_fits, product_fits}
+use Rattle.bezier_core.proofs.SizeLemmas.{along_below}
 use mir.Syntax.{w128}
 use Rattle.bezier_core.proofs.along_at.Goals as goal
 
@@ -47,8 +48,8 @@ overflow_add-result-2 c =
     let first_fit : FitsSigned w128 (c.weighted-x.result +ℤ c.weighted-y.result) = fits.0 in
     simp to_z-of_z fits.1
 
-pub returns : goal.returns
-returns c =
+pub returns-clause-exact : goal.returns-clause-exact
+returns-clause-exact c =
     let x_fit : FitsSigned w128 c.weighted-x.result = product_fits _ c.weighted-x.ensures.small in
     let y_fit : FitsSigned w128 c.weighted-y.result = product_fits _ c.weighted-y.ensures.small in
     let z_fit : FitsSigned w128 c.weighted-z.result = product_fits _ c.weighted-z.ensures.small in
@@ -75,3 +76,7 @@ returns c =
   where
     sums : {x y z u v w : ℤ} → x ≡ u → y ≡ v → z ≡ w → x +ℤ y +ℤ z ≡ u +ℤ v +ℤ w
     sums {x} {y} {z} {u} {v} {w} p q r = cc
+
+pub returns-clause-small : goal.returns-clause-small
+returns-clause-small c n some values =
+    subst (IsBelow (12000 * n)) (sym (returns-clause-exact c)) (along_below n c.args.k c.args.xyz.now c.args.w some c.requires.weights values)

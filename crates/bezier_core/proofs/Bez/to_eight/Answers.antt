@@ -1,4 +1,4 @@
-use Rattle.std.proofs.Common.{arith, rules, ◌≡◌, ◌≤◌, ◌-◌, ◌^◌, ℤ, pos, ◌*ℤ◌, ◌∙◌, length, lit<}
+use Rattle.std.proofs.Common.{arith, rules, ◌≡◌, ◌≤◌, ◌-◌, ◌*◌, ◌^◌, ℤ, pos, ◌*ℤ◌, sym, subst, ◌∙◌, List, length, All, lit<}
 use Rattle.std.proofs.lemmas.Int.{ints}
 use Rattle.fleet_math.specs.Bernstein.{at}
 use Rattle.fleet_math.specs.Numbers.{IsBelow}
@@ -7,6 +7,7 @@ use Rattle.bezier_core.specs.Raised.{fact, raised_value}
 use Rattle.bezier_core.proofs.BlendLemmas.{length_bounds}
 use Rattle.bezier_core.proofs.EightLemmas.{below_at, eight_from_entries}
 use Rattle.bezier_core.proofs.RaisedLemmas.{raised_by-small, raised_by-seven, next_matches}
+use Rattle.bezier_core.proofs.SizeLemmas.{eight_below, raised_below}
 use Rattle.bezier_core.proofs.Bez.to_eight.Goals as goal
 
 within_of : (x : ℤ) → IsBelow (2 ^ 100) x → IsWithin (pos (2 ^ 100)) x
@@ -28,10 +29,19 @@ loop-degree-preserved g c = record {
       ∙ next_matches (g.row.N - 1) c.loop-degree.degree k (at c.loop-degree.row) (λ i. pos (fact (g.row.N - 1)) *ℤ at c.args.self.now.b i) c.loop-degree.invariant.low small c.loop-degree.invariant.values;
 }
 
-pub returns : goal.returns
-returns g c =
+pub returns-clause-exact : goal.returns-clause-exact
+returns-clause-exact g c =
     let bounds : (1 ≤ g.row.N) × (g.row.N ≤ 8) = length_bounds g.row.N c.requires.length in
     let len : length c.args.self.now.b ≡ g.row.N = search rules in
     let top : c.loop-degree.degree ≡ 7 = omega arith in
     rw len (eight_from_entries c.loop-degree.row (raised_value (g.row.N - 1) (at c.args.self.now.b)) c.loop-degree.invariant.same_length
     (λ k small. rw top at (c.loop-degree.invariant.values k (omega arith)) ∙ raised_by-seven (g.row.N - 1) k (at c.args.self.now.b) (omega arith) (omega arith)))
+
+pub returns-clause-small : goal.returns-clause-small
+returns-clause-small g c n some below =
+    let bounds : (1 ≤ g.row.N) × (g.row.N ≤ 8) = length_bounds g.row.N c.requires.length in
+    let len : length c.args.self.now.b ≡ g.row.N = search rules in
+    let few : length c.args.self.now.b - 1 ≤ 7 = omega arith in
+    subst (λ (xs : List ℤ). All (IsBelow (5040 * n)) xs) (sym (returns-clause-exact g c))
+    (eight_below (5040 * n) (raised_value (length c.args.self.now.b - 1) (at c.args.self.now.b))
+    (λ k small. raised_below (length c.args.self.now.b - 1) n k (at c.args.self.now.b) few some small (λ i near. below_at n c.args.self.now.b i some below)))

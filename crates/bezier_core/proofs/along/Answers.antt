@@ -1,0 +1,14 @@
+use Rattle.std.proofs.Common.{rules, ◌*◌, ℤ, sym, subst, List, All}
+use Rattle.fleet_math.specs.Numbers.{IsBelow}
+use Rattle.bezier_core.specs.Along.{along_value}
+use Rattle.bezier_core.proofs.SizeLemmas.{eight_below, along_below}
+use Rattle.bezier_core.proofs.along.Goals as goal
+
+pub returns-clause-exact : goal.returns-clause-exact
+returns-clause-exact c = search rules
+
+pub returns-clause-small : goal.returns-clause-small
+returns-clause-small c n some values =
+    subst (λ (xs : List ℤ). All (IsBelow (12000 * n)) xs) (sym (returns-clause-exact c))
+    (eight_below (12000 * n) (along_value c.args.xyz.now c.args.w)
+    (λ k few. along_below n k c.args.xyz.now c.args.w some c.requires.weights values))
