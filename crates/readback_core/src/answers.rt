@@ -1,19 +1,19 @@
 //! An answer that the host hears in the second phase.
 
-ghost use Rattle.std.specs.Prelude.{◌≡◌, ℕ, ◌+◌, ◌*◌, ◌<◌, ◌≤◌, ◌&&◌, ◌||◌, not, Bool, true, false, List, [], ◌∷◌, ◌++◌, length, filter, find, IfSome, IfNone, Ok, Some, None, slice_set};
+ghost use Rattle.std.specs.Prelude.{◌≡◌, ◌≢◌, ℕ, ◌+◌, ◌*◌, ◌^◌, ◌<◌, ◌≤◌, ◌&&◌, ◌||◌, not, Bool, true, false, List, [], ◌∷◌, ◌++◌, length, filter, find, IfSome, IfNone, Ok, Some, None, slice_set};
 ghost use Rattle.std.specs.List.{range_with_len, list_all};
 ghost use Rattle.crtp_packets.specs.Reading.{up_of};
 ghost use Rattle.upload_model.specs.declared.events.Event.{Event};
 ghost use Rattle.upload_model.specs.Sessions.{drone_count};
 ghost use Rattle.upload_model.specs.Hosts.{includes as includes_sent};
-ghost use Rattle.readback_model.specs.Reads.{read_count, wanted, first_read, careful_count};
+ghost use Rattle.readback_model.specs.Reads.{read_address, read_count, wanted, first_read, careful_count};
 ghost use Rattle.readback_model.specs.CarefulHosts as spec;
 ghost use Rattle.readback_model.specs.CarefulHosts.{second_packets, second_flight_after, settled, is_answered, answered, while_going};
 ghost use Rattle.readback_core.specs.Rows.{place_of, marked};
 ghost use Rattle.readback_core.specs.Found.{IsFound, IsForNone, settles};
 
 use crate::flight::{is_all_read, put_flight};
-use crate::reads::{read_len, reads, second_count, wanted_byte};
+use crate::reads::{MOST_READS, read_len, reads, second_count, wanted_byte};
 use crate::rows::{ROW, is_done, mark};
 use commander_cmds::start;
 use crtp_packets::{Packet, Piece, READ_BYTES, Up, parse_up};
@@ -47,6 +47,26 @@ fn first_other(session: &Session, drone: usize, k: usize, bytes: &[u8]) -> Optio
     None
 }
 
+/// The read of a drone with this memory id that begins at this address.
+fn read_named(session: &Session, drone: usize, id: u8, address: u32) -> Option<usize>
+    requires known { drone < drone_count session.now }
+    ensures some { IfSome result (λ k. (k < read_count session.now drone) × (id ≡ session.now.memory_id) × (address ≡ read_address session.now k)) }
+    ensures none { IfNone result ((k : ℕ) → k < read_count session.now drone → id ≡ session.now.memory_id → address ≢ read_address session.now k) }
+    ensures small { IfSome result (λ k. (k < MOST_READS) × (address < 2 ^ 17)) }
+{
+    let settings = session.settings();
+    let offset = settings.offset as usize;
+    let at = address as usize;
+    if id != settings.memory_id || at < offset {
+        return None;
+    }
+    let k = (at - offset) / READ_BYTES;
+    if (at - offset) % READ_BYTES != 0 || k >= reads(session, drone) {
+        return None;
+    }
+    Some(k)
+}
+
 /// The read that a read answer is for.
 fn read_found(
     session: &Session,
@@ -62,16 +82,7 @@ fn read_found(
     ensures none { IfNone result (IsForNone session.now starts drone (Ok (Up.ReadAnswer id address status piece.now))) }
 {
     let from = drone as usize;
-    let settings = session.settings();
-    let offset = settings.offset as usize;
-    let at = address as usize;
-    if id != settings.memory_id || at < offset {
-        return None;
-    }
-    let k = (at - offset) / READ_BYTES;
-    if (at - offset) % READ_BYTES != 0 || k >= reads(session, from) {
-        return None;
-    }
+    let k = read_named(session, from, id, address)?;
     let n = (session.count(from) + k) as u16;
     if status != ACCEPTED {
         return Some(Found {
