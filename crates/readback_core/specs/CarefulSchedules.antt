@@ -3,7 +3,7 @@ use Rattle.std.specs.Prelude.{ℕ, ◌==◌, nat_le, if◌then◌else◌, List, 
 use Rattle.std.specs.Option.{option_map}
 use Rattle.std.specs.Str.{bytes_eq}
 use Rattle.text_lines.specs.declared.token.Comments.TheVariants.{Absent}
-use Rattle.text_lines.specs.Words.{lines_with_words}
+use Rattle.text_lines.specs.Words.{Line, lines_with_words}
 use Rattle.text_lines.specs.Numbers.{natural_of}
 use Rattle.upload_model.specs.declared.events.WorldEvent.{WorldEvent}
 use Rattle.upload_model.specs.declared.events.WorldEvent.TheVariants as world
@@ -46,7 +46,11 @@ abbrev pub careful_event_of : List (List ℕ) → List (List ℕ) → Option Car
 careful_event_of names words =
     if length words == 4 then alteration_of names words else option_map careful_of (event_of names words)
 
+-- The events of these lines, or the number of the first faulty one.
+abbrev pub careful_events_of : List (List ℕ) → List Line → Result (List CarefulEvent) ℕ
+careful_events_of names lines = events_by (λ words. careful_event_of names words) lines
+
 -- What a schedule text with alterations says over drones with these names: the events of its lines with words in order, or
 -- the number of the first faulty line.
 abbrev pub careful_schedule_of : List (List ℕ) → List ℕ → Result (List CarefulEvent) ℕ
-careful_schedule_of names text = events_by (λ words. careful_event_of names words) (lines_with_words Absent text)
+careful_schedule_of names text = careful_events_of names (lines_with_words Absent text)

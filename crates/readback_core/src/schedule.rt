@@ -2,13 +2,16 @@
 
 ghost use Rattle.std.specs.Prelude.{◌≡◌, ℕ, ◌+◌, ◌<◌, ◌≤◌, List, [], ◌∷◌, ◌++◌, length, map, Some, None, Ok, IfOk, IfErr, OnOk};
 ghost use Rattle.text_lines.specs.Tokens.{words_in};
+ghost use Rattle.text_lines.specs.Words.{numbered};
+ghost use Rattle.text_lines.specs.declared.token.Comments.TheVariants.{Absent};
 ghost use Rattle.fleet_world.specs.Faults.{FaultGives};
-ghost use Rattle.readback_core.specs.CarefulSchedules.{careful_of, number_to, alteration_of, careful_event_of, careful_schedule_of};
+ghost use Rattle.fleet_world.specs.Steps.{IsLine, behind};
+ghost use Rattle.readback_core.specs.CarefulSchedules.{careful_of, number_to, alteration_of, careful_event_of, careful_events_of, careful_schedule_of};
 
 use fleet_world::{MOST_TEXT, Name, ScheduleFault, drone_of, event_on};
 use readback_model::CarefulEvent;
 use std::alloc::{AllocError, Global};
-use text_lines::{Comments, Token, line_word_count, natural, tokens, word_at};
+use text_lines::{Comments, Token, line_word_count, natural, split_line, tokens, word_at};
 use upload_model::{MOST_DRONES, WorldEvent};
 
 /// The most digits of an address, and the last address of a memory.
@@ -93,6 +96,38 @@ fn put(events: &mut Vec<CarefulEvent>, event: CarefulEvent) -> Result<(), AllocE
     Ok(())
 }
 
+/// The event of a line, if it has words, after those of the lines before it. Only the words of this line
+/// are held.
+fn put_line(
+    alloc: Global,
+    line: &[u8],
+    number: u32,
+    names: &[Name],
+    events: &mut Vec<CarefulEvent>,
+) -> Result<(), ScheduleFault>
+    requires line { IsLine line.now }
+    requires short { length line.now ≤ MOST_TEXT }
+    requires names { length names.now ≤ MOST_DRONES }
+    ensures ok { OnOk result ((later : List (List ℕ)) →
+        behind events.new.items (careful_events_of (map (λ name. name.items) names.now) (numbered Absent (number + 1) later))
+        ≡ behind events.old.items (careful_events_of (map (λ name. name.items) names.now) (numbered Absent number (line.now ∷ later)))) }
+    ensures fault { IfErr result (λ fault. (later : List (List ℕ)) →
+        FaultGives fault (careful_events_of (map (λ name. name.items) names.now) (numbered Absent number (line.now ∷ later)))) }
+{
+    let words = tokens(alloc, line, Comments::Absent)?;
+    if words.is_empty() {
+        return Ok(());
+    }
+    let count = line_word_count(words.as_slice());
+    match careful_event_on(line, names, &words.as_slice()[..count]) {
+        Some(event) => {
+            put(events, event)?;
+            Ok(())
+        }
+        None => Err(ScheduleFault::Line { line: number }),
+    }
+}
+
 /// The events of a schedule with alterations, in order, for drones with these names (docs/RADIO.md,
 /// "Schedules"). A line is that of a schedule, or `alter NAME ADDRESS VALUE`, where the address has 1 to 4
 /// digits and is 0 to 4095, and the value has 1 to 3 digits and is 0 to 255; the first line that is none of
@@ -109,16 +144,13 @@ pub fn read_careful_schedule_of(
     ensures fault { IfErr result (λ fault.
         FaultGives fault (careful_schedule_of (map (λ name. name.items) names.now) text.now)) }
 {
-    let words = tokens(alloc, text, Comments::Absent)?;
     let mut events = Vec::new(alloc);
-    let mut rest = words.as_slice();
-    while !rest.is_empty() {
-        let count = line_word_count(rest);
-        match careful_event_on(text, names, &rest[..count]) {
-            Some(event) => put(&mut events, event)?,
-            None => return Err(ScheduleFault::Line { line: rest[0].line }),
-        }
-        rest = &rest[count..];
+    let mut number: u32 = 1;
+    let mut rest = text;
+    'lines: while let Some((line, after)) = split_line(rest) {
+        put_line(alloc, line, number, names, &mut events)?;
+        number += 1;
+        rest = after;
     }
     Ok(events)
 }
