@@ -60,7 +60,7 @@ impl<const N: usize> Bez<N> {
     }
 }
 
-// The eight rows of an answer are written out, so that all of its numbers stay in registers.
+// The eight rows of a result are written out, so that all of its numbers stay in registers.
 macro_rules! differences {
     ($a:expr, $b:expr; $($k:literal)*) => {
         [$($a[$k] - $b[$k]),*]
@@ -142,7 +142,7 @@ fn combine(i: usize, j: usize, x: i128, y: i128) -> i128
     i as i128 * x + j as i128 * y
 }
 
-/// The weighted sum of the control values of three curves at one place, 0 to 7: one of the eight that [`along`] answers, under
+/// The weighted sum of the control values of three curves at one place, 0 to 7: one of the eight that [`along`] returns, under
 /// the same conditions.
 pub fn along_at(xyz: &[Bez<8>; 3], w: [i128; 3], k: usize) -> i128
     requires place { k < 8 }

@@ -35,12 +35,12 @@ NamesFault curves (Line line) = Unit {0}
 NamesFault curves (Refused version fault) =
     (cert : Certificate) × IsVersion version × (cert.version ≡ version) × (length cert.trees < 2 ^ 31) × IsFaultOf curves cert fault
 
--- Where a verdict is that the certificate is valid, each two different drones are apart at each instant.
+-- Where a verdict is that the certificate is valid, any two different drones are apart at each instant.
 abbrev pub ApartWhereValid : Raised → ℕ → ℕ → Verdict → Type 0
 ApartWhereValid curves r h (Valid depth trees) = KeepsApart curves r h
 ApartWhereValid curves r h (Line line) = Unit {0}
 ApartWhereValid curves r h (Refused version fault) = Unit {0}
 
--- A checker takes at most so many bytes: as many as the text of a certificate has at most.
+-- A checker takes at most this many bytes: as many as the text of a certificate has at most.
 abbrev pub most_bytes : ℕ
 most_bytes = 400000000

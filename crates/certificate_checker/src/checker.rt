@@ -62,7 +62,7 @@ impl Checker {
     /// The text ends here: its first faulty line; or the first fault of the certificate that it says, as `check` of `sep_certificate`
     /// finds it; or that this is valid. The curves are those of the earlier calls. Nothing is said of the checker afterwards.
     ///
-    /// Where it is valid, whoever made the certificate, each two different drones are apart at each instant p / q of the show, for
+    /// Where it is valid, whoever made the certificate, any two different drones are apart at each instant p / q of the show, for
     /// all whole numbers p and q and for every list of trajectories that the curves stand for.
     pub fn end(&mut self, curves: &Curves) -> Verdict
         requires { (bytes : List ℕ) × (length bytes ≤ most_bytes) × HasRead self.old curves.now bytes }

@@ -78,7 +78,7 @@ impl Reader {
         }
     }
 
-    // A node of the line, after which it owes so many trees.
+    // A node of the line, after which it owes this many trees.
     fn node(&mut self, curves: &Curves, tables: &Tables, node: Node, owed: u32)
         requires reader { IsReader curves.now self.old }
         requires stage { self.old.stage ≡ Stage.Tree }

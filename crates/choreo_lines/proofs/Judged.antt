@@ -154,7 +154,7 @@ err_count : {A : Type 0} (b : Bool) (fields : Result A LineKind) (o : Option Lin
 err_count true fields o h = h refl
 err_count false fields o h = refl
 
--- so many words, that are these
+-- this many words, which are these
 counted : {A : Type 0} (n : ℕ) (wants : List Want) (ws vs : List Word) (fields : Result A LineKind) → (length ws ≡ n → ws ≡ vs) → err fields ≡ places_fault wants vs → err (with_count n ws fields) ≡ cond (length ws == n) (places_fault wants ws) (Some kind.BadCount)
 counted n wants ws vs fields these h = err_count (length ws == n) fields (places_fault wants ws) (λ e. h ∙ ap (places_fault wants) (sym (these (eqb-true (length ws) n e))))
 

@@ -92,9 +92,9 @@ with_count n ws fields = if length ws == n then fields else Err kind.BadCount
 abbrev pub with_counts : {A : Type 0} → ℕ → ℕ → List Word → Result A LineKind → Result A LineKind
 with_counts low high ws fields = if nat_le low (length ws) && nat_le (length ws) high then fields else Err kind.BadCount
 
--- The functions `.._line` have the words behind the first word of their line.
+-- The functions `.._line` have the words after the first word of their line.
 
--- the words behind `memory`
+-- the words after `memory`
 unfoldable pub memory_fields : Word → Word → Result Entry LineKind
 memory_fields id offset = do
   i ← natural_in 0 255 id
@@ -105,7 +105,7 @@ memory_fields id offset = do
 abbrev pub memory_line : List Word → Result Entry LineKind
 memory_line ws = with_count 2 ws (memory_fields (word ws 0) (word ws 1))
 
--- the word behind `trajectory`
+-- the word after `trajectory`
 unfoldable pub trajectory_fields : Word → Result Entry LineKind
 trajectory_fields id = natural_in 0 9 id >>= (λ i. Ok (entry.Trajectory i))
 
@@ -113,7 +113,7 @@ trajectory_fields id = natural_in 0 9 id >>= (λ i. Ok (entry.Trajectory i))
 abbrev pub trajectory_line : List Word → Result Entry LineKind
 trajectory_line ws = with_count 1 ws (trajectory_fields (word ws 0))
 
--- the words behind `ellipsoid`
+-- the words after `ellipsoid`
 unfoldable pub ellipsoid_fields : Word → Word → Result Entry LineKind
 ellipsoid_fields r h = do
   a ← natural_in 1 2000 r
@@ -124,7 +124,7 @@ ellipsoid_fields r h = do
 abbrev pub ellipsoid_line : List Word → Result Entry LineKind
 ellipsoid_line ws = with_count 2 ws (ellipsoid_fields (word ws 0) (word ws 1))
 
--- the words behind `drone`
+-- the words after `drone`
 unfoldable pub drone_fields : Word → Word → Word → Word → Word → Result Entry LineKind
 drone_fields name x y z yaw = do
   n ← name_in name
@@ -135,7 +135,7 @@ drone_fields name x y z yaw = do
 abbrev pub drone_line : List Word → Result Entry LineKind
 drone_line ws = with_count 5 ws (drone_fields (word ws 0) (word ws 1) (word ws 2) (word ws 3) (word ws 4))
 
--- the words behind `at`
+-- the words after `at`
 unfoldable pub at_fields : Word → Word → Word → Word → Word → Result Entry LineKind
 at_fields name x y z yaw = do
   n ← name_in name
@@ -146,7 +146,7 @@ at_fields name x y z yaw = do
 abbrev pub at_line : List Word → Result Entry LineKind
 at_line ws = with_count 5 ws (at_fields (word ws 0) (word ws 1) (word ws 2) (word ws 3) (word ws 4))
 
--- the word behind `formation`
+-- the word after `formation`
 unfoldable pub formation_fields : Word → Result Entry LineKind
 formation_fields name = name_in name >>= (λ n. Ok (entry.Formation n))
 
@@ -154,7 +154,7 @@ formation_fields name = name_in name >>= (λ n. Ok (entry.Formation n))
 abbrev pub formation_line : List Word → Result Entry LineKind
 formation_line ws = with_count 1 ws (formation_fields (word ws 0))
 
--- the words behind `figure`
+-- the words after `figure`
 unfoldable pub figure_fields : Word → List Word → Result Entry LineKind
 figure_fields name roles = do
   n ← name_in name
@@ -165,7 +165,7 @@ figure_fields name roles = do
 abbrev pub figure_line : List Word → Result Entry LineKind
 figure_line ws = with_counts 2 33 ws (figure_fields (word ws 0) (drop 1 ws))
 
--- the word behind `cue`
+-- the word after `cue`
 unfoldable pub cue_fields : Word → Result Entry LineKind
 cue_fields ms = natural_in 1 65535 ms >>= (λ n. Ok (entry.Cue n))
 
@@ -173,7 +173,7 @@ cue_fields ms = natural_in 1 65535 ms >>= (λ n. Ok (entry.Cue n))
 abbrev pub cue_line : List Word → Result Entry LineKind
 cue_line ws = with_count 1 ws (cue_fields (word ws 0))
 
--- the word behind `repeat`
+-- the word after `repeat`
 unfoldable pub repeat_fields : Word → Result Entry LineKind
 repeat_fields times = natural_in 1 1000000000 times >>= (λ n. Ok (entry.Repeat n))
 
@@ -198,7 +198,7 @@ frame_in mirror turns dx dy dz = do
   z ← coordinate_in dz
   Ok (record { mirror = m; turns = t; dx = x; dy = y; dz = z })
 
--- the words behind `perform`
+-- the words after `perform`
 unfoldable pub perform_fields : List Word → List Word → Result Entry LineKind
 perform_fields ws drones = do
   f ← name_in (word ws 0)
@@ -216,7 +216,7 @@ smooth_in w =
     if bytes_eq w (codes "line") then Ok false else
     if bytes_eq w (codes "move") then Ok true else Err kind.BadWord
 
--- the words behind `form`
+-- the words after `form`
 unfoldable pub form_fields : Word → Word → Result Entry LineKind
 form_fields formation how = do
   f ← name_in formation
@@ -227,17 +227,17 @@ form_fields formation how = do
 abbrev pub form_line : List Word → Result Entry LineKind
 form_line ws = with_count 2 ws (form_fields (word ws 0) (word ws 1))
 
--- no word stands behind `end`
+-- no word stands after `end`
 abbrev pub end_line : List Word → Result Entry LineKind
 end_line ws = with_count 0 ws (Ok entry.End)
 
--- The functions `.._act` have the words behind the act's own.
+-- The functions `.._act` have the words after the act's own.
 
--- no word stands behind `hold`
+-- no word stands after `hold`
 abbrev pub hold_act : List Word → Result Act LineKind
 hold_act ws = with_count 0 ws (Ok act.Hold)
 
--- the words behind `line`
+-- the words after `line`
 unfoldable pub line_fields : Word → Word → Word → Word → Result Act LineKind
 line_fields x y z yaw = point_in x y z yaw >>= (λ p. Ok (act.Line p))
 
@@ -245,7 +245,7 @@ line_fields x y z yaw = point_in x y z yaw >>= (λ p. Ok (act.Line p))
 abbrev pub line_act : List Word → Result Act LineKind
 line_act ws = with_count 4 ws (line_fields (word ws 0) (word ws 1) (word ws 2) (word ws 3))
 
--- the words behind `move`
+-- the words after `move`
 unfoldable pub move_fields : Word → Word → Word → Word → Result Act LineKind
 move_fields x y z yaw = point_in x y z yaw >>= (λ p. Ok (act.Move p))
 
@@ -253,7 +253,7 @@ move_fields x y z yaw = point_in x y z yaw >>= (λ p. Ok (act.Move p))
 abbrev pub move_act : List Word → Result Act LineKind
 move_act ws = with_count 4 ws (move_fields (word ws 0) (word ws 1) (word ws 2) (word ws 3))
 
--- the word behind `turn`
+-- the word after `turn`
 unfoldable pub turn_fields : Word → Result Act LineKind
 turn_fields yaw = yaw_in yaw >>= (λ y. Ok (act.Turn y))
 
@@ -267,7 +267,7 @@ sense_in w =
     if bytes_eq w (codes "ccw") then Ok true else
     if bytes_eq w (codes "cw") then Ok false else Err kind.BadWord
 
--- the words behind `arc`
+-- the words after `arc`
 unfoldable pub arc_fields : Word → Word → Word → Word → Result Act LineKind
 arc_fields sense cx cy yaw = do
   s ← sense_in sense
@@ -288,7 +288,7 @@ triple_in x y z = do
   c ← coordinate_in z
   Ok (a ∷ b ∷ c ∷ [])
 
--- the words behind `curve`
+-- the words after `curve`
 unfoldable pub curve_fields : List Word → Result Act LineKind
 curve_fields ws = do
   p1 ← triple_in (word ws 0) (word ws 1) (word ws 2)
@@ -300,7 +300,7 @@ curve_fields ws = do
 abbrev pub curve_act : List Word → Result Act LineKind
 curve_act ws = with_count 10 ws (curve_fields ws)
 
--- an act's word and the words behind it
+-- an act's word and the words after it
 unfoldable pub act_in : Word → List Word → Result Act LineKind
 act_in w ws =
     if bytes_eq w (codes "hold") then hold_act ws else
@@ -317,7 +317,7 @@ act_line ws = do
   a ← if nat_le 2 (length ws) then act_in (word ws 1) (drop 2 ws) else Err kind.BadCount
   Ok (entry.One n a)
 
--- a line by its first word, with the words behind it
+-- a line by its first word, with the words after it
 unfoldable pub line_behind : Keyword → List Word → Result Entry LineKind
 line_behind first.Memory ws = memory_line ws
 line_behind first.Trajectory ws = trajectory_line ws

@@ -12,11 +12,11 @@ Name = ArrayVec ℕ
 abbrev pub is_lower : ℕ → Bool
 is_lower b = nat_le 97 b && nat_le b 122
 
--- what may stand in a name behind its first byte
+-- what may stand in a name after its first byte
 abbrev pub goes_in_name : ℕ → Bool
 goes_in_name b = is_lower b || is_digit b || b == 95
 
--- bytes that may all stand in a name behind its first byte
+-- bytes that may all stand in a name after its first byte
 abbrev pub all_go_in_name : List ℕ → Bool
 all_go_in_name word = list_all goes_in_name word
 

@@ -26,13 +26,13 @@ pub data Want : Type 0 where
   OneOf : (words : List Word) → Want
   Number : (low high : ℤ) → Want
 
--- A row of the table: what the places behind the fixed beginning of the line want, and how many names may stand behind
+-- A row of the table: what the places after the fixed beginning of the line want, and how many names may stand after
 -- them, at least one; none where this is 0.
 pub record Row : Type 0 where
   pub places : List Want
   pub names : ℕ
 
--- a line behind whose last place nothing may stand
+-- a line after whose last place nothing may stand
 abbrev pub only : List Want → Row
 only places = record { places = places; names = 0 }
 
@@ -163,13 +163,13 @@ want_fault AName w = if is_name w then None else Some kind.BadName
 want_fault (OneOf words) w = if is_one_of words w then None else Some kind.BadWord
 want_fault (Number low high) w = number_fault (number_in low high w)
 
--- the words from the left, each in its place; those behind the last place are names
+-- the words from the left, each in its place; those after the last place are names
 abbrev pub places_fault : List Want → List Word → Option LineKind
 places_fault wants [] = None
 places_fault [] (w ∷ ws) = or_else (want_fault AName w) (places_fault [] ws)
 places_fault (want ∷ wants) (w ∷ ws) = or_else (want_fault want w) (places_fault wants ws)
 
--- whether a row has so many words behind the fixed beginning
+-- whether a row has this many words after the fixed beginning
 abbrev pub has_count : Row → ℕ → Bool
 has_count row n =
     if row.names == 0
@@ -180,7 +180,7 @@ has_count row n =
 abbrev pub row_fault : Row → List Word → Option LineKind
 row_fault row ws = if has_count row (length ws) then places_fault row.places ws else Some kind.BadCount
 
--- the words behind an act; a word that is no act is the fault
+-- the words after an act; a word that is no act is the fault
 abbrev pub known : Option Row → List Word → Option LineKind
 known None ws = Some kind.BadWord
 known (Some row) ws = row_fault row ws

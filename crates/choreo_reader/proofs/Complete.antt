@@ -69,7 +69,7 @@ numbered_step s l n e h m f =
 pub said_anywhere : (s : Built) (l : Line) (e : Entry) → IsSaid l (anywhere e) → may_say (place_of (context_of s).open_blocks) e ≡ true → entry_fault (context_of s) e ≡ None → (t : Built) → ((n : ℕ) → build s n e ≡ t) → Reads s (l ∷ []) t
 said_anywhere s l e h m f t b = reads_one s t l (said_step s l None e h m f ∙ ap (λ u. Ok u) (b l.number))
 
--- blocks may stand behind these open ones
+-- blocks may stand after these open ones
 abbrev pub TakesBlocks : List Open → Type 0
 TakesBlocks [] = Unit {0}
 TakesBlocks (InFormation line name places ∷ os) = ⊥
@@ -132,7 +132,7 @@ acts_read (on.Form n name smooth ∷ acts) done s line ms os (l ∷ ls) f h =
     let others = acts_read acts (done ++ x ∷ []) s line ms os ls (λ e. (and_parts false (all_name_one acts) (f e)).1) h.1 in
     reads_to _ _ _ (l ∷ ls) (ap (λ xs. with_open s (InCue line ms xs ∷ os)) (append_assoc done (x ∷ []) acts)) (reads_then _ _ _ (l ∷ []) ls one others)
 
--- Blocks behind blocks.
+-- Blocks after blocks.
 
 abbrev base : Built → List Open → Body → Built
 base s [] b = record s { body = s.body ⨾ b }
@@ -181,7 +181,7 @@ opens_repeats (InFigure line name roles body ∷ os) b = refl
 opens_repeats (InRepeat line times body ∷ os) b = refl
 opens_repeats (InCue line ms acts ∷ os) b = refl
 
--- a first block and those behind it
+-- a first block and those after it
 block_then_rest : (s : Built) (os : List Open) (a b : Body) (xs ys : List Line) → TakesBlocks os → Reads (with_open s os) xs (add_block s os a) → Reads (with_open (base s os a) (opens os a)) ys (add_block (base s os a) (opens os a) b) → Reads (with_open s os) (xs ++ ys) (add_block s os (a ⨾ b))
 block_then_rest s os a b xs ys k r t =
     reads_to _ _ _ (xs ++ ys) (added_more s os a b k) (reads_then _ _ _ xs ys (reads_to _ _ _ xs (added_is s os a) r) t)
@@ -236,7 +236,7 @@ enclosed s t os o o' l e inner first contents last m f c =
     (reads_then _ _ _ inner (e ∷ []) contents
     (reads_to _ _ _ (e ∷ []) c (end_step (with_open s (o' ∷ os)) e last m f)))
 
--- the lines of a block, and those behind it
+-- the lines of a block, and those after it
 pub block_lines : (l e : Line) (ls inner back later : List Line) → ls ≡ inner ++ back → back ≡ e ∷ later → (l ∷ (inner ++ e ∷ [])) ++ later ≡ l ∷ ls
 block_lines l e ls inner back later p q =
     ap (λ xs. l ∷ xs) (append_assoc inner (e ∷ []) later ∙ ap (λ xs. inner ++ xs) (sym q) ∙ sym p)

@@ -50,7 +50,7 @@ word_said ws entry.End e n = ap (λ t. keyword_of (first_word t)) e
 name_said : (ws : List (List ℕ)) (name : Name) (a : _) → Says ws (entry.One name a) → is_other (keyword_of (first_word ws)) ≡ true
 name_said ws name a (n, rest, e, nm, ac) = ap (λ t. is_other (keyword_of (first_word t))) e ∙ name_keyword n nm.1
 
--- The open blocks behind a line.
+-- The open blocks after a line.
 
 filled_outer : (os : List Open) → fill (openings_of os) ≡ outer_openings os
 filled_outer [] = refl
@@ -108,7 +108,7 @@ other_end first.Form h = refl
 other_end first.Memory h = refl
 other_end k h = refl
 
--- what a line says decides the open blocks behind it
+-- what a line says decides the open blocks after it
 abbrev Follows : List Open → Built → ℕ → Keyword → Entry → Type 0
 Follows os s n k e = blocks_after n (openings_of os) k ≡ openings_of (build (with_open s os) n e).open_blocks
 
@@ -178,7 +178,7 @@ blocks_turn ws (entry.One name a) s n k h m = one_turns s.open_blocks s n (keywo
 blocks_turn ws e s n k h m =
     ap (blocks_after n (openings_of s.open_blocks)) (word_said ws e h (λ o. cc)) ∙ turns e s.open_blocks s n k m (λ o. cc)
 
--- The settings behind a line.
+-- The settings after a line.
 
 or_true : (x : Bool) → (x || true) ≡ true
 or_true true = refl
@@ -199,7 +199,7 @@ record KeepsSettings (s t : Built) : Type 0 where
   trajectory : t.trajectory ≡ s.trajectory
   ellipsoid : t.ellipsoid ≡ s.ellipsoid
 
--- the settings that stand behind a line with this first word
+-- the settings that stand after a line with this first word
 record SettingsTurn (s t : Built) (os : List Open) (k : Keyword) : Type 0 where
   memory : (is_some s.memory || (is_top (openings_of os) && sets_memory k)) ≡ is_some t.memory
   trajectory : (is_some s.trajectory || (is_top (openings_of os) && sets_trajectory k)) ≡ is_some t.trajectory
@@ -271,7 +271,7 @@ line_settings ws (entry.One name a) s n h m =
     record { memory = k.memory; trajectory = k.trajectory; ellipsoid = k.ellipsoid }
 line_settings ws e s n h m = settings_by s (build s n e) s.open_blocks (keyword_in e) (keyword_of (first_word ws)) (word_said ws e h (λ o. cc)) (settings_turn e s n m)
 
--- the context behind a line is that of what is built behind it
+-- the context after a line is that of what is built after it
 context_turns : (l : Line) (e : Entry) (s : Built) → InOrder s.open_blocks → Says l.words e → may_say (place_of (openings_of s.open_blocks)) e ≡ true → context_after (context_of s) l ≡ context_of (build s l.number e)
 context_turns l e s k h m =
     let blocks = blocks_turn l.words e s l.number k h m in

@@ -68,7 +68,7 @@ snoc [] l (y ∷ xs) x h i = absurd h
 snoc (k ∷ ls) l [] x h i = absurd h
 snoc (k ∷ ls) l (y ∷ xs) x h i = (h.0, snoc ls l xs x h.1 i)
 
--- one more line, behind two stretches
+-- one more line, after two stretches
 said_more : (ls : List Line) (l : Line) (xs ys : List SaidLine) (x : SaidLine) → AreSaid ls (xs ++ ys) → IsSaid l x → AreSaid (ls ++ l ∷ []) (xs ++ (ys ++ x ∷ []))
 said_more ls l xs ys x h i = subst (λ zs. AreSaid (ls ++ l ∷ []) zs) (append_assoc xs ys (x ∷ [])) (snoc ls l (xs ++ ys) x h i)
 
@@ -162,7 +162,7 @@ none_open : (i : Item) (s : Built) → (add_item s i).open_blocks ≡ []
 none_open (Memory id offset) s = refl
 none_open i s = refl
 
--- the state behind an item stands for its lines as well
+-- the state after an item stands for its lines as well
 item_holds : (i : Item) (s : Built) (os : List Open) (done ls : List Line) → (h : Holds (with_open s os) done) → IsItem i → Fresh s i → AreSaid (done ++ ls) (items_said h.items ++ item_said i) → Holds (add_item s i) (done ++ ls)
 item_holds i s os done ls h k f said =
     let same : items_said h.items ++ item_said i ≡ items_said (h.items ++ i ∷ []) ++ opens_said (add_item s i).open_blocks =
@@ -186,7 +186,7 @@ opens_hold : (s : Built) (os qs : List Open) (done ls : List Line) → (h : Hold
 opens_hold s os qs done ls h said k =
     record { items = h.items; said = said; each = h.each; order = k; memory = h.memory; trajectory = h.trajectory; ellipsoid = h.ellipsoid; drones_are = h.drones_are; formations_are = h.formations_are; figures_are = h.figures_are; body_is = h.body_is }
 
--- Bodies behind bodies.
+-- Bodies after bodies.
 
 body_said-then : (a b : Body) → body_said (a ⨾ b) ≡ body_said a ++ body_said b
 body_said-then plain.Done b = refl

@@ -271,12 +271,12 @@ above_back : (n : ℕ) (xs ys : List ℕ) → AllAbove n (xs ++ ys) → AllAbove
 above_back n [] ys a = a
 above_back n (x ∷ xs) ys a = lower n x ys (omega (arith, a.0)) (above_back x xs ys a.1)
 
--- other numbers behind the same ones
+-- other numbers after the same ones
 above_keep : (n : ℕ) (xs ys zs : List ℕ) → ((m : ℕ) → AllAbove m ys → AllAbove m zs) → AllAbove n (xs ++ ys) → AllAbove n (xs ++ zs)
 above_keep n [] ys zs f a = f n a
 above_keep n (x ∷ xs) ys zs f a = (a.0, above_keep x xs ys zs f a.1)
 
--- what stands behind an item
+-- what stands after an item
 items_above : (n : ℕ) (i : Item) (is : List Item) → AllAbove n (numbers (items_said (i ∷ is))) → AllAbove n (numbers (item_said i) ++ numbers (items_said is))
 items_above n i is a = subst (AllAbove n) (numbers-append (item_said i) (items_said is)) a
 

@@ -32,7 +32,7 @@ pub record Context : Type 0 where
   pub trajectory : Bool
   pub ellipsoid : Bool
 
--- the context of the first line behind the header
+-- the context of the first line after the header
 abbrev pub outermost : Context
 outermost = record { open_blocks = []; memory = false; trajectory = false; ellipsoid = false }
 
@@ -100,7 +100,7 @@ abbrev pub opens : ℕ → List Opening → Option Opened → List Opening
 opens n os None = fill os
 opens n os (Some k) = record { kind = k; line = n; filled = false } ∷ fill os
 
--- the open blocks behind a line with this first word
+-- the open blocks after a line with this first word
 abbrev pub blocks_after : ℕ → List Opening → Keyword → List Opening
 blocks_after n os keyword = if is_end keyword then without_innermost os else opens n os (opened_by (place_of os) keyword)
 
@@ -124,7 +124,7 @@ abbrev pub sets_ellipsoid : Keyword → Bool
 sets_ellipsoid first.Ellipsoid = true
 sets_ellipsoid _ = false
 
--- the context behind a line with this number and first word
+-- the context after a line with this number and first word
 abbrev pub context_after_word : Context → ℕ → Keyword → Context
 context_after_word c n keyword = record {
   open_blocks = blocks_after n c.open_blocks keyword;
@@ -138,7 +138,7 @@ abbrev pub first_word : List (List ℕ) → List ℕ
 first_word [] = []
 first_word (w ∷ ws) = w
 
--- the context behind a line
+-- the context after a line
 abbrev pub context_after : Context → Line → Context
 context_after c l = context_after_word c l.number (keyword_of (first_word l.words))
 
@@ -178,7 +178,7 @@ abbrev pub this_or : ℕ → Option LineKind → Option Fault → Option Fault
 this_or n (Some k) later = Some (fault_at n k)
 this_or n None later = later
 
--- the first fault of the lines behind the header
+-- the first fault of the lines after the header
 abbrev pub fault_from : Context → List Line → Option Fault
 fault_from c [] = end_fault c.open_blocks
 fault_from c (l ∷ ls) = this_or l.number (line_fault c l) (fault_from (context_after c l) ls)

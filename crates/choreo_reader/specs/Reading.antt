@@ -80,7 +80,7 @@ abbrev pub openings_of : List Open → List Opening
 openings_of [] = []
 openings_of (o ∷ os) = opening_of o ∷ outer_openings os
 
--- the context behind what was read
+-- the context after what was read
 abbrev pub context_of : Built → Context
 context_of b = record {
   open_blocks = openings_of b.open_blocks;
@@ -137,7 +137,7 @@ with_act os a = with_innermost (λ o. act_added o a) os
 abbrev pub with_place : List Open → DroneLine → List Open
 with_place os d = with_innermost (λ o. place_added o d) os
 
--- what is built behind a line that says this entry
+-- what is built after a line that says this entry
 abbrev pub build : Built → ℕ → Entry → Built
 build s n (entry.Memory id offset) = record s { memory = Some (id, offset) }
 build s n (entry.Trajectory id) = record s { trajectory = Some id }
@@ -167,7 +167,7 @@ settings_of s = record {
 abbrev pub built_show : Built → PlainShow
 built_show s = record { settings = settings_of s; drones = s.drones; formations = s.formations; figures = s.figures; body = s.body }
 
--- what is built behind a line, or the first fault
+-- what is built after a line, or the first fault
 abbrev pub Step : Type 0
 Step = Result Built Fault
 
@@ -176,12 +176,12 @@ abbrev pub unless : ℕ → Option LineKind → Built → Step
 unless n (Some k) s = Err (fault_at n k)
 unless n None s = Ok s
 
--- what is built behind a line that was read so
+-- what is built after a line that was read so
 abbrev pub built_by : Built → ℕ → Result Entry LineKind → Step
 built_by s n (Err k) = Err (fault_at n k)
 built_by s n (Ok e) = unless n (entry_fault (context_of s) e) (build s n e)
 
--- what is built behind one more line, or the line's fault
+-- what is built after one more line, or the line's fault
 abbrev pub line_step : Built → Line → Step
 line_step s l = built_by s l.number (entry_of (place_of (context_of s).open_blocks) l.words)
 

@@ -581,7 +581,7 @@ fn is_header(text: &[u8], words: &[Token]) -> bool
         && word_at(text, &words[1]) == b"1".as_slice()
 }
 
-// What stands behind the header, which is the first line with words, and the number of the line there.
+// What stands after the header, which is the first line with words, and the number of the line there.
 fn behind_header(alloc: Global, text: &[u8]) -> Result<(&[u8], u32), ShowFault>
     requires { length text.now ≤ MOST_BYTES }
     ensures { MatchResult result

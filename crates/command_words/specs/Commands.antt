@@ -225,7 +225,7 @@ named name gs =
     else (if bytes_eq name (codes "explain") then with_fine gs
     else None)))))))))))
 
--- a drill of so many drones
+-- a drill of this many drones
 abbrev pub drill_with : Option ℕ → List (List ℕ) → Option Command
 drill_with None words = None
 drill_with (Some drones) words =

@@ -46,7 +46,7 @@ pub enum Command {
         start: bool,
         readback: bool,
     },
-    /// The numbers of the drill's show of so many drones, 1 to 32.
+    /// The numbers of the drill's show of this many drones, 1 to 32.
     Drill {
         drones: u8,
         depth: u8,

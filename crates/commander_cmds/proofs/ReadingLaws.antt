@@ -9,7 +9,7 @@ use Rattle.commander_cmds.specs.declared.CommandFault.{CommandFault}
 use Rattle.commander_cmds.specs.declared.Command.{Command}
 use Rattle.commander_cmds.specs.declared.Command.TheVariants.{Define, Start}
 
--- what stands behind a define's first byte, or a start's, is the fields that are read there
+-- what stands after a define's first byte, or a start's, is the fields that are read there
 record IsRead (rest : List ℕ) : Type 0 where
   define : SpellsCommand (6 ∷ rest) (Define (slice_index rest 0) (slice_index rest 1) (slice_index rest 2) (little_number 4 (drop 3 rest)) (slice_index rest 7))
   start : SpellsCommand (5 ∷ rest) (Start (slice_index rest 0) (slice_index rest 1) (slice_index rest 2) (slice_index rest 3)

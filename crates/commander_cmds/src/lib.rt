@@ -40,7 +40,7 @@ pub fn limits_law()
 /// A command that a drone is given.
 #[derive(Clone, Copy, Debug, PartialEq, Eq)]
 pub enum Command {
-    /// The trajectory `id` has so many pieces and lies from `offset` on, at a location and in a form.
+    /// The trajectory `id` has this many pieces and lies from `offset` on, at a location and in a form.
     Define {
         id: u8,
         location: u8,
@@ -79,7 +79,7 @@ fn packet_of(bytes: &[u8]) -> Packet
     }
 }
 
-/// Tells the drone that its memory has a compressed trajectory of so many pieces from `offset` on,
+/// Tells the drone that its memory has a compressed trajectory of this many pieces from `offset` on,
 /// which is to be the entry `id` of its table.
 pub fn define(id: u8, offset: u32, pieces: u8) -> Packet
     ensures { result ≡ define_of id offset pieces }

@@ -35,7 +35,7 @@ write_request_of id address piece = memory_message (header_of MEMORY_PORT WRITE_
 abbrev pub write_answer_of : ℕ → ℕ → ℕ → List ℕ
 write_answer_of id address status = memory_message (header_of MEMORY_PORT WRITE_CHANNEL) id address (status ∷ [])
 
--- a request for so many bytes from the address on
+-- a request for this many bytes from the address on
 abbrev pub read_request_of : ℕ → ℕ → ℕ → List ℕ
 read_request_of id address len = memory_message (header_of MEMORY_PORT READ_CHANNEL) id address (len ∷ [])
 

@@ -56,7 +56,7 @@ cut_some c (suc t) n (inr h) = let e : min c n ≡ c = omega arith in ap (λ m. 
 cut_product : (c t n : ℕ) → min c (t * min c n) ≡ min c (t * n)
 cut_product c t n = cut_some c t n (cases_lt n c)
 
--- a repeat counts its body so many times
+-- a repeat counts its body this many times
 pub repeat_count : (performed : Name → ℕ) (c : ℕ) (b : Block) (line times : ℕ) (v : Vec Block Global) (items : List Block) (i inside : ℕ) → b ≡ block.Repeat line times v → items ≡ v.items → length items ≤ i → inside ≡ min c (count_in performed (body_of (take i items))) → min c (times * inside) ≡ min c (count_in performed (block_of b plain.Done))
 repeat_count performed c b line times v items i inside e f h g =
     ap (λ n. min c (times * n)) (g ∙ ap (λ xs. min c (count_in performed (body_of xs))) (take_all i items h ∙ f))
@@ -106,7 +106,7 @@ over_here figures n c bs i d h e g l =
     over_first figures n bs i d h
     ∙ ap (λ b. cond b (Some (line_in (block_of (get_or bs i d) plain.Done))) (over_at figures (n + body_count figures (block_of (get_or bs i d) plain.Done)) (body_of (drop (suc i) bs)))) (is_over (n + body_count figures (block_of (get_or bs i d) plain.Done)) (omega arith))
 
--- it is not, so the first one is behind it
+-- it is not, so the first one is after it
 pub over_later : (figures : List PlainFigure) (n c : ℕ) (bs : List Block) (i : ℕ) (d : Block) → i < length bs → c ≡ min (most_cues + 1) (body_count figures (block_of (get_or bs i d) plain.Done)) → n + c ≤ most_cues → over_at figures n (body_of (drop i bs)) ≡ over_at figures (n + c) (body_of (drop (i + 1) bs))
 over_later figures n c bs i d h e g =
     let same : body_count figures (block_of (get_or bs i d) plain.Done) ≡ c = omega arith in
@@ -115,6 +115,6 @@ over_later figures n c bs i d h e g =
     ∙ ap (λ b. cond b (Some (line_in (block_of (get_or bs i d) plain.Done))) (over_at figures (n + c) (body_of (drop (suc i) bs)))) (not_over (n + c) g)
     ∙ ap (λ j. over_at figures (n + c) (body_of (drop j bs))) (sym (add-one i))
 
--- behind the last block there is none
+-- after the last block there is none
 pub over_none : (figures : List PlainFigure) (n : ℕ) (bs : List Block) (i : ℕ) → length bs ≤ i → over_at figures n (body_of (drop i bs)) ≡ None
 over_none figures n bs i h = ap (λ xs. over_at figures n (body_of xs)) (drop_all i bs h)

@@ -48,7 +48,7 @@ other_name true earlier n m same has hasnt = absurd (differ (sym (ap (has_name e
     differ h k = cc
 other_name false earlier n m same has hasnt = refl
 
--- drones behind these names, without a fault: no two have one name, and none has one of these
+-- drones after these names, without a fault: no two have one name, and none has one of these
 apart : (earlier : List Name) (ds : List DroneLine) → drone_faults earlier ds ≡ [] →
     (has_double (names_of ds) ≡ false) × ((n : Name) → has_name earlier n ≡ true → has_name (names_of ds) n ≡ false)
 apart earlier [] empty = (refl, λ n has. refl)

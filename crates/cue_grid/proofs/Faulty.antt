@@ -47,7 +47,7 @@ pub body_here : (s : PlainShow) (known : List Name) (bs : List Block) (i : ℕ) 
 body_here s known bs i b o f h e g k =
     sym (ap first_of (body_first s known bs i b h e) ∙ first_here (body_faults s known (block_of b plain.Done)) (body_faults s known (body_of (drop (i + 1) bs))) f (sym g ∙ k))
 
--- without one it is that of the blocks behind it
+-- without one it is that of the blocks after it
 pub body_later : (s : PlainShow) (known : List Name) (bs : List Block) (i : ℕ) (b : Block) (o : Option GridFault) → i < length bs → b ≡ get_or bs i b → o ≡ first_of (body_faults s known (block_of b plain.Done)) → o ≡ None → first_of (body_faults s known (body_of (drop i bs))) ≡ first_of (body_faults s known (body_of (drop (i + 1) bs)))
 body_later s known bs i b o h e g k =
     ap first_of (body_first s known bs i b h e) ∙ first_later (body_faults s known (block_of b plain.Done)) (body_faults s known (body_of (drop (i + 1) bs))) (sym g ∙ k)

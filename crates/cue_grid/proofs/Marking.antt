@@ -132,7 +132,7 @@ acted_push fs (b ∷ acts) a = ap (λ ns. acted_by fs b ++ ns) (acted_push fs ac
 pub acted_more : (fs : List Formation) (acts : List ActLine) (i : ℕ) (a : ActLine) → i < length acts → a ≡ get_or acts i a → acted_all fs (take i acts) ++ acted_by fs a ≡ acted_all fs (take (i + 1) acts)
 acted_more fs acts i a h e = sym (ap (acted_all fs) (take_more acts i a h ∙ ap (λ b. take i acts ++ b ∷ []) (sym e)) ∙ acted_push fs (take i acts) a)
 
--- a line without a fault: the first one is behind it
+-- a line without a fault: the first one is after it
 pub line_later : (known : List Name) (fs : List Formation) (acts : List ActLine) (i : ℕ) (a : ActLine) (o : Option GridFault) → i < length acts → a ≡ get_or acts i a → o ≡ first_of (act_line_faults known fs (acted_all fs (take i acts)) a) → o ≡ None → first_of (act_faults known fs (acted_all fs (take i acts)) (drop i acts)) ≡ first_of (act_faults known fs (acted_all fs (take (i + 1) acts)) (drop (i + 1) acts))
 line_later known fs acts i a o h e f g =
     ap (λ ls. first_of (act_faults known fs (acted_all fs (take i acts)) ls)) (drop-cons acts i a h ∙ ap (λ b. b ∷ drop (suc i) acts) (sym e))

@@ -37,7 +37,7 @@ body_count figures b = count_in (perform_count figures) b
 abbrev pub line_if_over : ℕ → ℕ → Option ℕ → Option ℕ
 line_if_over n line later = if nat_lt most_cues n then Some line else later
 
--- the line of the first block with which the number of cues exceeds the limit, behind so many cues
+-- the line of the first block with which the number of cues exceeds the limit, after this many cues
 abbrev pub over_at : List PlainFigure → ℕ → Body → Option ℕ
 over_at figures n plain.Done = None
 over_at figures n (plain.Cue line ms acts rest) = line_if_over (n + 1) line (over_at figures (n + 1) rest)

@@ -66,12 +66,12 @@ job_of fs p cue_line (a ∷ rest) drone = job_or (act_by fs p drone a) (act_line
 abbrev pub cue_of : PlainShow → Playing → ℕ → ℕ → List ActLine → Cue
 cue_of s p line ms acts = record { ms = ms; jobs = map (λ d. job_of s.formations p line acts d.name) s.drones }
 
--- a list so many times, one behind the other
+-- a list n times, one after the other
 abbrev pub times_over : {A : Type 0} → ℕ → List A → List A
 times_over zero xs = []
 times_over (suc n) xs = xs ++ times_over n xs
 
--- the cues of blocks: a cue gives itself, a repeat gives its body's cues so many times over, and a perform gives what is
+-- the cues of blocks: a cue gives itself, a repeat gives its body's cues as often as it says, and a perform gives what is
 -- handed in for its figure, frame and drones
 abbrev pub cues_in : PlainShow → Playing → (Name → Frame → List Name → List Cue) → Body → List Cue
 cues_in s p performed plain.Done = []

@@ -33,25 +33,25 @@ fault_if false f others = others
 
 -- Each line has at most one fault: the first in the order for that line.
 
--- the lines of the drones, behind drones of these names
+-- the lines of the drones, after drones of these names
 abbrev pub drone_faults : List Name → List DroneLine → List GridFault
 drone_faults earlier [] = []
 drone_faults earlier (d ∷ ds) =
     fault_if (has_name earlier d.name) (DoubleName d.line) [] ++ drone_faults (earlier ++ d.name ∷ []) ds
 
--- the `at` lines of a formation, behind lines with these names
+-- the `at` lines of a formation, after lines with these names
 abbrev pub place_faults : List Name → List Name → List DroneLine → List GridFault
 place_faults drones earlier [] = []
 place_faults drones earlier (p ∷ ps) =
     fault_if (not (has_name drones p.name)) (UnknownName p.line) (fault_if (has_name earlier p.name) (DoubleAct p.line) [])
     ++ place_faults drones (earlier ++ p.name ∷ []) ps
 
--- a formation, behind formations of these names
+-- a formation, after formations of these names
 abbrev pub one_formation_faults : List Name → List Name → Formation → List GridFault
 one_formation_faults drones earlier f =
     fault_if (has_name earlier f.name) (DoubleName f.line) [] ++ place_faults drones [] f.places
 
--- the formations, behind formations of these names
+-- the formations, after formations of these names
 abbrev pub formation_faults : List Name → List Name → List Formation → List GridFault
 formation_faults drones earlier [] = []
 formation_faults drones earlier (f ∷ fs) =
@@ -73,7 +73,7 @@ abbrev pub acted_by : List Formation → ActLine → List Name
 acted_by fs (on.One line name a) = name ∷ []
 acted_by fs (on.Form line formation smooth) = names_of (places_in (formation_named fs formation))
 
--- the lines of a cue, behind lines that gave these names an act
+-- the lines of a cue, after lines that gave these names an act
 abbrev pub act_faults : List Name → List Formation → List Name → List ActLine → List GridFault
 act_faults known fs acted [] = []
 act_faults known fs acted (a ∷ rest) = act_line_faults known fs acted a ++ act_faults known fs (acted ++ acted_by fs a) rest
@@ -94,12 +94,12 @@ body_faults s known (plain.Repeat line times inside rest) = body_faults s known 
 body_faults s known (plain.Perform line figure frame drones rest) =
     perform_faults (names_of s.drones) line (figure_named s.figures figure) drones ++ body_faults s known rest
 
--- a figure, behind figures of these names
+-- a figure, after figures of these names
 abbrev pub one_figure_faults : PlainShow → List Name → PlainFigure → List GridFault
 one_figure_faults s earlier f =
     fault_if (has_name earlier f.name || has_double f.roles) (DoubleName f.line) [] ++ body_faults s f.roles f.body
 
--- the figures, behind figures of these names
+-- the figures, after figures of these names
 abbrev pub figure_faults : PlainShow → List Name → List PlainFigure → List GridFault
 figure_faults s earlier [] = []
 figure_faults s earlier (f ∷ fs) = one_figure_faults s earlier f ++ figure_faults s (earlier ++ f.name ∷ []) fs

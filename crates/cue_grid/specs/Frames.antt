@@ -15,7 +15,7 @@ mirrored mirror.Y p = record { x = p.x; y = neg_ℤ p.y; z = p.z; yaw = neg_ℤ 
 abbrev pub turned_once : Point → Point
 turned_once p = record { x = neg_ℤ p.y; y = p.x; z = p.z; yaw = p.yaw +ℤ pos 900 }
 
--- so many quarter turns
+-- this many quarter turns
 abbrev pub turned : ℕ → Point → Point
 turned zero p = p
 turned (suc n) p = turned_once (turned n p)

@@ -17,7 +17,7 @@ abbrev pub FitJobs : List Job → Type 0
 FitJobs [] = Unit {0}
 FitJobs (j ∷ js) = FitsJob j × FitJobs js
 
--- a cue of 1 to 65,535 ms, with so many jobs
+-- a cue of 1 to 65,535 ms, with this many jobs
 pub record FitsCue (n : ℕ) (c : Cue) : Type 0 where
   pub lasts : 1 ≤ c.ms
   pub short : c.ms ≤ 65535

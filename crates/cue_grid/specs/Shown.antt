@@ -8,7 +8,7 @@ use Rattle.cue_grid.specs.declared.acted.Acted.{Acted}
 use Rattle.cue_grid.specs.declared.lookup.Lookup.{Lookup}
 use Rattle.cue_grid.specs.declared.cues.Cast.{Cast}
 
--- the show behind its tables of names
+-- the show after its tables of names
 abbrev pub shown : Lookup → PlainShow
 shown l = plain l.show.now
 

@@ -73,7 +73,7 @@ fn place_fault(drones: &[DroneLine], places: &[DroneLine]) -> Option<GridFault>
     None
 }
 
-// The first fault of a formation, behind so many formations.
+// The first fault of a formation, after this many formations.
 fn one_formation_fault(show: &Lookup, earlier: usize, formation: &Formation) -> Option<GridFault>
     ensures { result
         ≡ first_of (one_formation_faults (names_of (shown show.now).drones)
@@ -116,7 +116,7 @@ fn cue_fault(
         if let Some(fault) = act_line_fault(show, known, &acted, line) {
             return Ok(Some(fault));
         }
-        // Who has an act by the last line matters to no line behind it.
+        // Who has an act by the last line matters to no line after it.
         if i + 1 < acts.len() {
             put_acted(&mut acted, show, line)?;
         }
@@ -249,7 +249,7 @@ fn body_fault(
     Ok(None)
 }
 
-// The first fault of a figure, behind so many figures.
+// The first fault of a figure, after this many figures.
 fn one_figure_fault(
     alloc: Global,
     show: &Lookup,

@@ -179,7 +179,7 @@ impl<'a> Lookup<'a> {
         self.names.get_index_of(name)
     }
 
-    /// Whether one of the first so many formations has this name.
+    /// Whether one of the first formations, as many as given, has this name.
     pub fn has_formation_before(&self, number: usize, name: &Name) -> bool
         ensures { result ≡ has_name (formation_names (take number self.now.show.now.formations)) name.now }
     {
@@ -189,7 +189,7 @@ impl<'a> Lookup<'a> {
         }
     }
 
-    /// Whether one of the first so many figures has this name.
+    /// Whether one of the first figures, as many as given, has this name.
     pub fn has_figure_before(&self, number: usize, name: &Name) -> bool
         ensures { result ≡ has_name (figure_names (take number self.now.show.now.figures)) name.now }
     {

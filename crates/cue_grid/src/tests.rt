@@ -6,7 +6,7 @@ use crate::{GridFault, apply, mirror, quarter_turn, shift, unroll};
 use choreo_reader::{Frame, LineKind, Mirror, Point, ShowFault, read_show};
 use std::alloc::Global;
 
-/// What becomes of a text: so many cues, a faulty line, or a fault of names or cues.
+/// What becomes of a text: this many cues, a faulty line, or a fault of names or cues.
 #[derive(Clone, Copy, PartialEq, Eq, Debug)]
 enum Outcome {
     Cues(usize),
@@ -211,7 +211,7 @@ const NUMBERS_OF_CUES: [(&[u8], Outcome); 9] = [
         b"choreo 1\ndrone solo 0 0 1000000 0\nrepeat 1000000000\nrepeat 1000000000\nrepeat 1000000000\nrepeat 1000000000\nrepeat 1000000000\nrepeat 1000000000\nrepeat 1000000000\nrepeat 1000000000\ncue 1000\nend\nend\nend\nend\nend\nend\nend\nend\nend\n",
         Outcome::Fault(GridFault::TooManyCues { line: 3 }),
     ),
-    // one cue behind 1,000
+    // one cue after 1,000
     (
         b"choreo 1\ndrone solo 0 0 1000000 0\nrepeat 1000\ncue 1000\nend\nend\ncue 1\nend\n",
         Outcome::Fault(GridFault::TooManyCues { line: 7 }),

@@ -191,7 +191,7 @@ row_is first (s ∷ starts) cues (suc d) other rest within =
     let e : (first + 1) + d ≡ first + suc d = omega arith in
     row_is (first + 1) starts cues d other rest (omega arith) ∙ ap (λ (n : ℕ). pieces_from (get_or (map (λ (s : DroneLine). s.at) starts) d other) n cues) e
 
--- one piece more, as the code puts it behind the others
+-- one piece more, as the code puts it after the others
 pub piece_next : (pieces more : List MicroPiece) (p after : Point) (d : ℕ) (cues : List Cue) (k : ℕ) (cue : Cue) (piece : MicroPiece) → k < length cues → cue ≡ get_or cues k cue →
     piece ≡ piece_of p cue.ms (job_in cue d) → after ≡ end_of p (act_of (job_in cue d)) → more ≡ pieces ++ piece ∷ [] →
     more ++ pieces_from after d (drop (k + 1) cues) ≡ pieces ++ pieces_from p d (drop k cues)

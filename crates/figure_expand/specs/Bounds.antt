@@ -15,10 +15,10 @@ IsActUpTo n (act.Turn yaw) = IsUpTo n yaw
 IsActUpTo n (act.Arc ccw cx cy yaw) = IsUpTo n cx × IsUpTo n cy × IsUpTo n yaw
 IsActUpTo n (act.Curve p1 p2 to) = IsPointUpTo n to
 
--- how far away a drone can be after so many cues: each takes it at most 2 ^ 30 further
+-- how far away a drone can be after this many cues: each takes it at most 2 ^ 30 further
 abbrev pub reach : ℕ → ℕ
 reach cues = 2 ^ 30 * (cues + 1)
 
--- points within reach after so many cues
+-- points within reach after this many cues
 abbrev pub AreInReach : ℕ → List Point → Type 0
 AreInReach cues points = All (IsPointUpTo (reach cues)) points

@@ -43,6 +43,6 @@ yaw_controls p (act.Curve p1 p2 to) = even_controls p.yaw to.yaw
 abbrev pub axes_of : Point → Act → List Axis
 axes_of p a = place_controls p a 0 ∷ place_controls p a 1 ∷ place_controls p a 2 ∷ yaw_controls p a ∷ []
 
--- what a drone at this point does in a cue of so many milliseconds with this job
+-- what a drone at this point does in a cue of this many milliseconds with this job
 abbrev pub piece_of : Point → ℕ → Job → MicroPiece
 piece_of p ms j = record { ms = ms; axes = axes_of p (act_of j) }

@@ -11,7 +11,7 @@ ghost use Rattle.figure_expand.specs.Bounds.{IsActUpTo};
 use choreo_lines::{Act, Point};
 use mm_rounding::Axis;
 
-// The handles of a quarter arc are 0.552285 times as long as its radius: so many millionths.
+// The handles of a quarter arc are 0.552285 times as long as its radius; in millionths.
 const HANDLE: i64 = 552_285;
 
 const MILLION: i64 = 1_000_000;

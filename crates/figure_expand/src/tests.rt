@@ -87,7 +87,7 @@ const FIGURES: [(&[u8], [Axis; 4]); 5] = [
             Axis::Two { v: [0, 900] },
         ],
     ),
-    // a turn, behind a movement
+    // a turn, after a movement
     (
         b"choreo 1\ndrone solo 0 0 1000000 0\ncue 2000\nsolo move 5 6 7 8\nend\ncue 1000\nsolo turn 900\nend\n",
         [

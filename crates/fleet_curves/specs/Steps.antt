@@ -8,7 +8,7 @@ use Rattle.traj_codec.specs.Spelling.{stored}
 use Rattle.traj_codec.specs.Positions.{element_on}
 use Rattle.fleet_curves.specs.Raised.{Raised, most_drones}
 
--- an element has at most seven control points behind its first one
+-- an element has at most seven control points after its first one
 abbrev pub IsFormed : Segment → Type 0
 IsFormed s = (axis : ℕ) → axis ≤ 2 → length (stored (element_on s axis)) ≤ 7
 

@@ -83,7 +83,7 @@ impl Curves {
         self.cues as usize
     }
 
-    /// The raised curves of drone `b` less those of drone `a`, in a cue, all counted from 0. No control value comes to 2^30.
+    /// The raised curves of drone `b` less those of drone `a`, in a cue, all counted from 0. No control value reaches 2^30.
     /// Takes no memory.
     pub fn diff(&self, a: usize, b: usize, cue: usize) -> [Bez<8>; 3]
         requires order { a < b }
@@ -98,7 +98,7 @@ impl Curves {
     }
 
     /// The raised curves of a drone in a cue, both counted from 0: on x, y and z 5,040 times the curve in millimetres. No
-    /// control value comes to 2^28. Takes no memory.
+    /// control value reaches 2^28. Takes no memory.
     pub fn one(&self, drone: usize, cue: usize) -> [Bez<8>; 3]
         requires drone { drone < self.now.drones }
         requires cue { cue < self.now.cues }
@@ -193,7 +193,7 @@ fn place_of(drones: u8, cues: u16, drone: usize, cue: usize) -> usize
     drone * cues as usize + cue
 }
 
-// The raised curves of one trajectory, behind others.
+// The raised curves of one trajectory, after others.
 fn add_traj(all: &mut Vec<[[i32; 8]; 3]>, t: &Traj) -> Result<(), AllocError>
     requires { All AreSmallCurves (all_curves all.old.items) }
     ensures curves { OnOk result (all_curves all.new.items ≡ all_curves all.old.items ++ raised_traj t.now) }
@@ -224,7 +224,7 @@ fn narrowed_segment(x: i16, y: i16, z: i16, s: &Segment) -> [[i32; 8]; 3]
 }
 
 /// The raised curves of one segment that begins with these values, in millimetres: on x, y and z 5,040 times the curve, as
-/// control values of degree seven. No control value comes to 2^28, and no element has more than seven numbers behind its
+/// control values of degree seven. No control value reaches 2^28, and no element has more than seven numbers after its
 /// first value.
 pub fn raised_segment(x: i16, y: i16, z: i16, s: &Segment) -> [Bez<8>; 3]
     ensures exact { result ≡ raised_element x (element_on s.now 0) ∷ raised_element y (element_on s.now 1)

@@ -5,7 +5,7 @@ use Rattle.fleet_io.specs.Held.{Asked, without_last, has_whole_marker, buffer_by
 use Rattle.fleet_io.proofs.TakenLemmas.{Consumes-append}
 use Rattle.fleet_io.proofs.MarkLemmas.{Gathers}
 
--- all but the last of these are the front of them
+-- all but the last of these are a prefix of them
 pub without_last-push : (pieces : List (List ℕ)) (last : List ℕ) → without_last (pieces ++ last ∷ []) ≡ pieces
 without_last-push [] last = refl
 without_last-push (piece ∷ []) last = refl

@@ -176,7 +176,7 @@ tells waiting left ended why at_end = elim why [
 pub line_is : (bytes : List ℕ) (len : ℕ) → len ≡ length (first_piece bytes) → is_marker (take len bytes) ≡ is_marker (first_piece bytes)
 line_is bytes len is = ap (λ (n : ℕ). is_marker (take n bytes)) is ∙ ap is_marker (take_piece bytes)
 
--- the bytes behind it
+-- the bytes after it
 pub behind_is : (bytes : List ℕ) (len : ℕ) → len ≡ length (first_piece bytes) → drop (len + 1) bytes ≡ behind_piece bytes
 behind_is bytes len is =
     let at : len + 1 ≡ suc (length (first_piece bytes)) = omega (arith, is) in

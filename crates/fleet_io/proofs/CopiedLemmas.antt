@@ -3,7 +3,7 @@ use Rattle.std.proofs.Common.{◌≡◌, ℕ, ◌+◌, ◌-◌, ◌<◌, ◌≤�
 use Rattle.std.proofs.Math.Seq.{take-append-add}
 use Rattle.std.proofs.lemmas.List.{take_at, take_min, take-append-drop, drop-drop, drop_all, length-drop, length-take, length-append}
 
--- the bytes that are copied are the front of what is left, and none only at the end
+-- the bytes that are copied are a prefix of what is left, and none only at the end
 pub gives : (bytes from buf to : List ℕ) (at cut n : ℕ) → from ≡ drop at bytes → 1 ≤ cut → n ≡ min (min (length from) cut) (length buf) → to ≡ take n from ++ drop n buf
     → (drop at bytes ≡ take n to ++ drop (at + n) bytes) × (n ≡ 0 → 0 < length to → drop (at + n) bytes ≡ [])
 gives bytes from buf to at cut n front some count made =

@@ -1,4 +1,4 @@
--- The part that a reader of parts answers.
+-- The part that a reader of parts returns.
 use Rattle.std.proofs.Common.{◌≡◌, ℕ, ◌+◌, ◌<◌, ◌≤◌, Bool, true, false, List, [], ◌∷◌, ◌++◌, length, take, drop, Option, Some, None, Result, Ok, Err, refl, ap, ◌∙◌, append-nil, inl, inr, arith}
 use Rattle.std.specs.Prelude.{IfOk, IfErr, IfSome}
 use Rattle.std.specs.Io.KnownBytes.{Consumes, Keeps, IsAtEnd}
@@ -47,7 +47,7 @@ refused None new bytes is_marked limit r takes is e = tt
 refused (Some all) new bytes is_marked limit (Ok part) takes is e = absurd cc
 refused (Some all) new bytes is_marked limit (Err fault) takes is e = omega (arith, is.1, ap length takes.part)
 
--- so many gathered bytes are too long a part
+-- this many gathered bytes are too long a part
 pub long_already : (old mid : Option (List ℕ)) (bytes : List ℕ) (start limit : ℕ) → limit + 4 ≤ length bytes → Consumes old mid bytes → Gathers bytes start → IfSome old (λ all. limit < length (part_of all))
 long_already None mid bytes start limit long before g = tt
 long_already (Some all) None bytes start limit long before g = absurd before

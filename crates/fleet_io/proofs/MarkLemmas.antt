@@ -176,7 +176,7 @@ Gathers-add bytes after start next byte g plain made moved = elim (cases_Bool (e
       rw (made, at) (Gathers-push bytes start byte other g)
 ]
 
--- a byte that ends a marker line is a line feed behind one
+-- a byte that ends a marker line is a line feed after one
 pub ends_marker_is : (byte : ℕ) (line : List ℕ) → (eqb byte 10 && is_marker line) ≡ true → (byte ≡ 10) × (is_marker line ≡ true)
 ends_marker_is byte line e = elim (cases_Bool (eqb byte 10)) [
   | inl feed ↦ (eqb-true byte 10 feed, rw feed at e)

@@ -1,4 +1,4 @@
--- A marker line with its line feed cuts a text, whatever comes behind it.
+-- A marker line with its line feed cuts a text, whatever comes after it.
 use Rattle.std.proofs.Common.{◌≡◌, ℕ, Bool, true, false, cond, eqb, ◌||◌, List, [], ◌∷◌, ◌++◌, drop, Option, refl, sym, ap, ◌∙◌, append_assoc, append-nil}
 use Rattle.std.specs.List.{join_with_byte}
 use Rattle.std.specs.Prelude.{Result, Ok, Err, IfOk}
@@ -113,7 +113,7 @@ marker_law text more is =
     let cut : HasLast (between_feeds text) = rw full.is (last_of full.first full.others) in
     cut_by text more cut.last others.first (without_last (between_feeds text)) others.others cut.is others.is is
 
--- ---- a whole marker line stays whole, whatever comes behind it
+-- ---- a whole marker line stays whole, whatever comes after it
 
 without_last-append : (ls : List (List ℕ)) (l : List ℕ) (ms : List (List ℕ)) → without_last (ls ++ l ∷ ms) ≡ ls ++ without_last (l ∷ ms)
 without_last-append [] l ms = refl

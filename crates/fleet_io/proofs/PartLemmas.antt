@@ -7,7 +7,7 @@ use Rattle.text_lines.specs.Lines.{between_feeds}
 use Rattle.text_lines.specs.Marker.{is_marker, has_marker, lines_before, lines_after, ended, part_of, rest_of}
 use Rattle.fleet_io.specs.PartBytes.{first_piece, behind_piece, part_left, is_marked_left, rest_left, PartLaw}
 
--- the pieces behind the first
+-- the pieces after the first
 abbrev tail_pieces : List ℕ → List (List ℕ)
 tail_pieces [] = []
 tail_pieces (b ∷ bytes) = cond (eqb b 10) (between_feeds bytes) (tail_pieces bytes)
@@ -45,7 +45,7 @@ part_is [] true = refl
 part_is [] false = refl
 part_is (b ∷ bytes) at_line = go (at_line && is_marker (first_piece (b ∷ bytes))) (eqb b 10) refl (part_is bytes (eqb b 10))
   where
-    -- behind a line feed
+    -- after a line feed
     feed : (m k : Bool) → is_marker (first_piece bytes) ≡ m → has_marker (tail_pieces bytes) ≡ k →
         b ∷ cond m [] (cond k (first_piece bytes ++ 10 ∷ ended (lines_before (tail_pieces bytes))) bytes)
         ≡ cond (m || k) (b ∷ ended (cond m [] (first_piece bytes ∷ lines_before (tail_pieces bytes)))) (b ∷ bytes)

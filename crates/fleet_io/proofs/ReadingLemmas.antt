@@ -16,7 +16,7 @@ takes_at_most waiting kept taken (Some before) None most is few held = tt
 takes_at_most waiting kept taken (Some before) (Some after) most is few held =
     omega (arith, ap length is, length-append waiting before, length-append taken (kept ++ after), length-append kept after, few, held)
 
--- what was taken of the source behind a part waits
+-- what was taken of the source after a part waits
 pub takes_few_behind : (kept : List ℕ) (old left : Option (List ℕ)) → IfSome old (λ all. prepend_known kept left ≡ Some (rest_of all)) → length kept ≤ 4096 → TakesFewBehind old left
 takes_few_behind kept None left is held = tt
 takes_few_behind kept (Some all) None is held = tt

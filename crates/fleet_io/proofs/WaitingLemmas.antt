@@ -33,7 +33,7 @@ skipped start end count buf order = elim (cases_lt end (start + count)) [
       ∙ sym (drop_all count (drop start (take end buf)) (omega (arith, length-drop start (take end buf), length-take end buf, more)))
 ]
 
--- What waits after a read behind what was moved to the front.
+-- What waits after a read after what was moved to the front.
 pub moved : (buf shifted given : List ℕ) (start end n k : ℕ) → start ≤ end → end ≤ length buf → shifted ≡ copy_within buf start end 0 → length given ≡ k → n ≤ k →
     take (end - start + n) (put_mid (end - start) k shifted given) ≡ drop start (take end buf) ++ take n given
 moved buf shifted given start end n k order within is long few =
@@ -54,7 +54,7 @@ Keeps-read waiting given None new is = tt
 Keeps-read waiting given (Some old) None is = absurd is
 Keeps-read waiting given (Some old) (Some new) is = append_assoc waiting given new ∙ ap (λ (xs : List ℕ). waiting ++ xs) (sym is)
 
--- what waits where a read behind what was moved to the front failed
+-- what waits where a read after what was moved to the front failed
 pub unmoved : (buf shifted given : List ℕ) (start end k : ℕ) → start ≤ end → end ≤ length buf → shifted ≡ copy_within buf start end 0 →
     drop start (take end buf) ≡ take (end - start) (put_mid (end - start) k shifted given)
 unmoved buf shifted given start end k order within is =

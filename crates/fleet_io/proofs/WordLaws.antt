@@ -9,7 +9,7 @@ use Rattle.fleet_io.specs.Words.{is_line_empty, with_word, with_words, with_hex,
 
 -- ---- the last line of a text
 
--- bytes behind a text decide whether its last line is empty
+-- bytes after a text decide whether its last line is empty
 pub is_line_empty-append : (text bytes : List ℕ) → 0 < length bytes → is_line_empty (text ++ bytes) ≡ is_line_empty bytes
 is_line_empty-append text bytes some =
     let place : length (text ++ bytes) - 1 ≡ length text + (length bytes - 1) = omega (arith, length-append text bytes) in
@@ -20,17 +20,17 @@ pub word_has_bytes : (word : List ℕ) → IsWord word → 0 < length word
 word_has_bytes [] is = absurd (let e : true ≡ false = is in cc)
 word_has_bytes (b ∷ bytes) is = omega arith
 
--- behind a line feed the last line is empty
+-- after a line feed the last line is empty
 pub fresh_after_feed : (text : List ℕ) → is_line_empty (text ++ 10 ∷ []) ≡ true
 fresh_after_feed text = is_line_empty-append text (10 ∷ []) (omega arith)
 
--- behind a line the last line is empty
+-- after a line the last line is empty
 pub fresh_after_line : (text first : List ℕ) (others : List (List ℕ)) → is_line_empty (text ++ line first others) ≡ true
 fresh_after_line text first others =
     let whole : text ++ line first others ≡ (text ++ (first ++ spaced others)) ++ 10 ∷ [] = sym (append_assoc text (first ++ spaced others) (10 ∷ [])) in
     rw whole (fresh_after_feed (text ++ (first ++ spaced others)))
 
--- behind a word the last line is not empty
+-- after a word the last line is not empty
 pub going_after_word : (text word : List ℕ) → IsWord word → is_line_empty (text ++ word) ≡ false
 going_after_word text word is = is_line_empty-append text word (word_has_bytes word is) ∙ is
 
@@ -41,18 +41,18 @@ pub word_first : (text word : List ℕ) → is_line_empty text ≡ true → with
 unfolding with_word
 word_first text word fresh = rw fresh refl
 
--- a word behind others stands behind a space
+-- a word after others stands after a space
 pub word_next : (text word : List ℕ) → is_line_empty text ≡ false → with_word text word ≡ text ++ 32 ∷ word
 unfolding with_word
 word_next text word going = rw going refl
 
--- behind a space and a word the last line is not empty
+-- after a space and a word the last line is not empty
 going_after_space : (text word : List ℕ) → IsWord word → is_line_empty (text ++ 32 ∷ word) ≡ false
 going_after_space text word is = rw (← append_assoc text (32 ∷ []) word) (going_after_word (text ++ 32 ∷ []) word is)
 
 -- ---- words that follow one another
 
--- words behind others stand behind a space each
+-- words after others stand after a space each
 pub words_next : (text : List ℕ) (words : List (List ℕ)) → is_line_empty text ≡ false → AreWords words → with_words text words ≡ text ++ spaced words
 words_next text [] going are = sym (append-nil text)
 words_next text (word ∷ words) going are =
@@ -85,7 +85,7 @@ hex_are_words : (bytes : List ℕ) → AreWords (map hex_word bytes)
 hex_are_words [] = tt
 hex_are_words (byte ∷ bytes) = (hex_is_word byte, hex_are_words bytes)
 
--- bytes behind a text are the words of their digits
+-- bytes after a text are the words of their digits
 pub hex_as_words : (text bytes : List ℕ) → with_hex text bytes ≡ with_words text (map hex_word bytes)
 hex_as_words text [] = refl
 hex_as_words text (byte ∷ bytes) = hex_as_words (with_word text (hex_word byte)) bytes

@@ -24,11 +24,11 @@ pub record MemoryIn : Type 0 where
 abbrev pub read_fails : MemoryIn → Bool
 read_fails s = is_listed s.fails (counted s.calls)
 
--- behind a call that failed
+-- after a call that failed
 abbrev pub read_failed : MemoryIn → MemoryIn
 read_failed s = record { left = s.left; cut = s.cut; fails = s.fails; calls = counted s.calls; faults = counted s.faults }
 
--- behind a call that gave n bytes
+-- after a call that gave n bytes
 abbrev pub read_gave : MemoryIn → ℕ → MemoryIn
 read_gave s n = record { left = drop n s.left; cut = s.cut; fails = s.fails; calls = counted s.calls; faults = s.faults }
 
@@ -51,11 +51,11 @@ pub record MemoryOut : Type 0 where
 abbrev pub write_fails : MemoryOut → List ℕ → Bool
 write_fails s bytes = is_listed s.fails (counted s.calls) || (nat_lt 0 (length bytes) && nat_le s.room (length s.written))
 
--- behind a call that failed
+-- after a call that failed
 abbrev pub write_failed : MemoryOut → MemoryOut
 write_failed s = record { written = s.written; room = s.room; cut = s.cut; fails = s.fails; calls = counted s.calls; faults = counted s.faults }
 
--- behind a call that took the first n of these bytes
+-- after a call that took the first n of these bytes
 abbrev pub write_took : MemoryOut → List ℕ → ℕ → MemoryOut
 write_took s bytes n = record { written = s.written ++ take n bytes; room = s.room; cut = s.cut; fails = s.fails; calls = counted s.calls; faults = s.faults }
 
@@ -66,6 +66,6 @@ pub record SureOut : Type 0 where
   -- the most bytes that it keeps
   pub room : ℕ
 
--- behind a call with these bytes
+-- after a call with these bytes
 abbrev pub sure_took : SureOut → List ℕ → SureOut
 sure_took s bytes = record { kept = take s.room (s.kept ++ bytes); room = s.room }

@@ -5,13 +5,13 @@ use Rattle.text_lines.specs.Marker.{is_marker, has_marker, part_of, rest_of}
 use Rattle.fleet_io.specs.declared.parts.Ask.{Ask}
 use Rattle.fleet_io.specs.declared.parts.Ask.TheVariants as ask
 
--- What comes next of a part, and what stands behind it: a byte, the marker line that ends it, or the end of the text.
+-- What comes next of a part, and what stands after it: a byte, the marker line that ends it, or the end of the text.
 pub data Next : Type 0 where
   NextByte : ℕ → List ℕ → Next
   NextMarker : List ℕ → Next
   NextEnd : Next
 
--- the bytes up to the first line feed, and those behind it
+-- the bytes up to the first line feed, and those after it
 abbrev pub first_piece : List ℕ → List ℕ
 first_piece [] = []
 first_piece (b ∷ bytes) = if b == 10 then [] else b ∷ first_piece bytes
@@ -43,14 +43,14 @@ abbrev pub rest_left : Bool → List ℕ → List ℕ
 rest_left at_line [] = []
 rest_left at_line (b ∷ bytes) = if is_marked_here at_line (b ∷ bytes) then behind_piece (b ∷ bytes) else rest_left (b == 10) bytes
 
--- what a call gives is what comes next, and what stands behind it is still to come
+-- what a call gives is what comes next, and what stands after it is still to come
 abbrev pub AsksNext : Ask → Next → Option (List ℕ) → Type 0
 AsksNext (ask.Byte b) (NextByte c rest) new = (b ≡ c) × (new ≡ Some rest)
 AsksNext ask.Marker (NextMarker rest) new = new ≡ Some rest
 AsksNext ask.«End» NextEnd new = new ≡ Some []
 AsksNext given next new = ⊥
 
--- a line begins behind what a call gives
+-- a line begins after what a call gives
 abbrev pub begins_line : Ask → Bool
 begins_line (ask.Byte b) = b == 10
 begins_line ask.Marker = true

@@ -5,7 +5,7 @@ use Rattle.text_lines.specs.Lines.{between_feeds}
 use Rattle.text_lines.specs.Marker.{has_marker, part_of, rest_of}
 use Rattle.fleet_io.specs.Held.{has_whole_marker}
 
--- Of the bytes to come, where they are known, this part was taken, with the marker line behind it if there is one.
+-- Of the bytes to come, where they are known, this part was taken, with the marker line after it if there is one.
 pub record TakesPart (old new : Option (List ℕ)) (bytes : List ℕ) (is_marked : Bool) : Type 0 where
   pub part : IfSome old (λ all. bytes ≡ part_of all)
   pub marker : IfSome old (λ all. is_marked ≡ has_marker (between_feeds all))
@@ -15,7 +15,7 @@ pub record TakesPart (old new : Option (List ℕ)) (bytes : List ℕ) (is_marked
 abbrev pub TakesMarked : Option (List ℕ) → Option (List ℕ) → Type 0
 TakesMarked old new = (taken : List ℕ) × Consumes old new taken × (has_whole_marker taken ≡ true)
 
--- Of what stands behind the part and its marker line a source has given at most 4,096 bytes, where both are known.
+-- Of what stands after the part and its marker line a source has given at most 4,096 bytes, where both are known.
 abbrev pub TakesFewBehind : Option (List ℕ) → Option (List ℕ) → Type 0
 TakesFewBehind old left = IfSome old (λ all. IfSome left (λ rest. length (rest_of all) ≤ length rest + 4096))
 

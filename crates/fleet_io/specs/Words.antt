@@ -6,7 +6,7 @@ use Rattle.std.specs.List.{fold, flat_map}
 abbrev pub is_line_empty : List ℕ → Bool
 is_line_empty text = slice_index_or text (length text - 1) 10 == 10
 
--- the text with one word more on its last line: behind a space, unless that line is empty
+-- the text with one word more on its last line: after a space, unless that line is empty
 unfoldable pub with_word : List ℕ → List ℕ → List ℕ
 with_word text word = if is_line_empty text then text ++ word else text ++ 32 ∷ word
 
@@ -35,11 +35,11 @@ abbrev pub AreWords : List (List ℕ) → Type 0
 AreWords [] = Unit {0}
 AreWords (word ∷ words) = IsWord word × AreWords words
 
--- words, each behind a space
+-- words, each after a space
 abbrev pub spaced : List (List ℕ) → List ℕ
 spaced words = flat_map (λ (word : List ℕ). 32 ∷ word) words
 
--- a line: its first word, the others, each behind a space, and a line feed
+-- a line: its first word, the others, each after a space, and a line feed
 abbrev pub line : List ℕ → List (List ℕ) → List ℕ
 line first others = first ++ spaced others ++ 10 ∷ []
 

@@ -2,7 +2,7 @@
 //!
 //! A `Source` gives bytes and a `Sink` takes them; each counts its faults, and a call fails only where that count
 //! rose, so that a failed read is never taken for the end of the input. `Parts` cuts an input into the parts that
-//! marker lines divide, whole by `text` or byte by byte by `part_byte`; `byte` takes the bytes behind them.
+//! marker lines divide, whole by `text` or byte by byte by `part_byte`; `byte` takes the bytes after them.
 //! `write_whole` writes all or says that it failed. `Lines` and `ShortLine` build texts of words. Over memory every
 //! call is exact (`MemSource`, `MemSink`; `SureSource` and `SureSink` never fail); `StdSource` and `StdSink` are the
 //! trusted edge.

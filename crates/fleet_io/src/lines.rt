@@ -31,7 +31,7 @@ impl Lines {
         }
     }
 
-    /// An empty text that takes its memory for so many bytes at once.
+    /// An empty text that takes memory for this many bytes at once.
     pub fn with_room(alloc: Global, bytes: usize) -> Result<Lines, AllocError>
         ensures { IfOk result (λ lines. lines ≡ []) }
     {
@@ -40,7 +40,7 @@ impl Lines {
         })
     }
 
-    /// Adds a word, behind a space unless the line is empty. An `Err` changes nothing.
+    /// Adds a word, after a space unless the line is empty. An `Err` changes nothing.
     pub fn word(&mut self, w: &[u8]) -> Result<(), AllocError>
         ensures ok { OnOk result (self.new ≡ with_word self.old w.now) }
         ensures err { OnErr result (self.new ≡ self.old) }

@@ -9,7 +9,7 @@ use crate::stream::{Failed, Sink, Source};
 use std::alloc::{AllocError, Global};
 use std::marker::Model;
 
-// Copies as much of the front of `from` as `to` and `most` let it.
+// Copies as long a prefix of `from` as `to` and `most` let it.
 pub(crate) fn copy_front(to: &mut [u8], from: &[u8], most: usize) -> usize
     ensures count { result ≡ min (min (length from.now) most) (length to.old) }
     ensures bytes { to.new ≡ take result from.now ++ drop result to.old }

@@ -163,7 +163,7 @@ impl Parts {
         self.start = self.end.min(self.start + count);
     }
 
-    // Reads behind the few bytes that wait.
+    // Reads after the few bytes that wait.
     fn more<S: Source>(&mut self, source: &mut S) -> Result<(), Failed>
         requires few { length self.old.waiting < 4 }
         requires at_end { IsTrue self.old.ended → IsAtEnd (S.left source.old) }
@@ -503,7 +503,7 @@ fn add(bytes: &mut Vec<u8>, start: &mut usize, byte: u8) -> Result<(), AllocErro
     Ok(())
 }
 
-/// A law. What a text whose marker line is whole is cut into doesn't depend on what comes behind it.
+/// A law. What a text whose marker line is whole is cut into doesn't depend on what comes after it.
 pub fn marker_law()
     ensures { MarkerLaw }
 {}

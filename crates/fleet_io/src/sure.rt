@@ -76,7 +76,7 @@ impl Model for SureSink {
 }
 
 impl SureSink {
-    /// An empty sink that keeps so many bytes.
+    /// An empty sink that keeps this many bytes.
     pub fn make(alloc: Global, room: usize) -> Result<SureSink, AllocError>
         ensures { IfOk result (λ sink. sink ≡ record { kept = []; room = room }) }
     {

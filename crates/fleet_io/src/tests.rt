@@ -104,7 +104,7 @@ fn next_byte<S: Source>(parts: &mut Parts, source: &mut S) -> Result<Option<u8>,
     parts.byte(source)
 }
 
-// Bytes behind a part, one by one. The end is met once, and a failed read ends the calls.
+// Bytes after a part, one by one. The end is met once, and a failed read ends the calls.
 #[test]
 fn bytes_behind_a_part(rt: HostRuntime) -> Result<(), Fail> {
     let alloc = rt.alloc();

@@ -5,7 +5,7 @@ use Rattle.fleet_math.specs.Sums.{power}
 use Rattle.fleet_math.specs.Bernstein.{bern}
 use Rattle.fleet_math.specs.Moments.{Moment}
 
--- a stretch of a trajectory on one axis: how many milliseconds it lasts, and its control points behind the first one
+-- a stretch of a trajectory on one axis: how many milliseconds it lasts, and its control points after the first one
 pub record Piece : Type 0 where
   pub ms : ℕ
   pub stored : List ℤ

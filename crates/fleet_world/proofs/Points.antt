@@ -22,7 +22,7 @@ use Rattle.upload_core.specs.HostStandsFor.{HostStandsFor}
 use Rattle.upload_model.specs.Hosts.{flight}
 use Rattle.fleet_world.specs.WorldState.{WorldView, IsAt, state_of, state_at}
 
--- the rows after these packets were put behind those of their drones
+-- the rows after these packets were put after those of their drones
 abbrev pub AfterPut : Upload → List Sent → (ℕ → List (List ℕ)) → (ℕ → List (List ℕ)) → Type 0
 AfterPut s out old new = (d : ℕ) → new d ≡ old d ++ packets_for s out d
 

@@ -42,7 +42,7 @@ event_of names words =
     else (if length words == 3 then event_with (slice_index_or words 0 []) (drone_of names (slice_index_or words 1 [])) (number_of (slice_index_or words 2 []))
     else None)
 
--- A line's event in front of those of the lines behind it; or the line, where it is faulty.
+-- A line's event in front of those of the lines after it; or the line, where it is faulty.
 abbrev pub put_event : {E : Type 0} → ℕ → Option E → Result (List E) ℕ → Result (List E) ℕ
 put_event number None later = Err number
 put_event number (Some event) (Ok events) = Ok (event ∷ events)

@@ -14,7 +14,7 @@ pub struct Note {
     pub status: u8,
 }
 
-/// No note for each of so many drones.
+/// No note for each of this many drones.
 pub fn empty_rows(alloc: Global, drones: usize) -> Result<Vec<Vec<Note>>, AllocError>
     ensures { IfOk result (λ rows. rows_of rows.items ≡ replicate drones []) }
 {
@@ -25,7 +25,7 @@ pub fn empty_rows(alloc: Global, drones: usize) -> Result<Vec<Vec<Note>>, AllocE
     Ok(rows)
 }
 
-/// Room for so many notes more of each drone.
+/// Room for this many more notes of each drone.
 pub fn make_room(rows: &mut [Vec<Note>], packets: usize) -> Result<(), AllocError>
     ensures same { rows_of rows.new ≡ rows_of rows.old }
     ensures len { length rows.new ≡ length rows.old }

@@ -53,7 +53,7 @@ polar-mix j k x y f g b d s =
     bernstein-same j _ _ b s (λ i small. bernstein-mix k x y (λ l. f (i + l)) (λ l. g (i + l)) d s)
     ∙ bernstein-mix j x y (λ i. bernstein k (λ l. f (i + l)) d s) (λ i. bernstein k (λ l. g (i + l)) d s) b s
 
--- the identity behind a step over a part
+-- the identity after a step over a part
 step_ring : (s t b d p x y : ℤ) → (t -ℤ p) *ℤ ((s -ℤ b) *ℤ x +ℤ b *ℤ y) +ℤ p *ℤ ((s -ℤ d) *ℤ x +ℤ d *ℤ y)
     ≡ (s *ℤ t -ℤ (b *ℤ (t -ℤ p) +ℤ d *ℤ p)) *ℤ x +ℤ (b *ℤ (t -ℤ p) +ℤ d *ℤ p) *ℤ y
 step_ring s t b d p x y = simp ring (omega (arith, linear))

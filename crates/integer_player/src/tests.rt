@@ -17,7 +17,7 @@ pub(crate) fn traj(alloc: Global, start: [i16; 4], segments: &[Segment]) -> Resu
     Ok(Traj { start, segments })
 }
 
-// Whether `at`, and a player that goes through these instants and back, answer these rows.
+// Whether `at`, and a player that goes through these instants and back, give these rows.
 fn plays(t: &Traj, end: u32, rows: &[(u32, [i64; 4])]) -> bool
     requires playable { IsPlayable t.now }
     requires inside { end ≤ duration_of t.now }

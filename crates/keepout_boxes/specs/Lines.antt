@@ -2,6 +2,6 @@
 use Rattle.std.specs.Prelude.{ℕ, List, [], ◌∷◌, codes, decimal}
 use Rattle.fleet_io.specs.Words.{line}
 
--- each drone keeps to each of so many regions
+-- each drone keeps to each of this many regions
 abbrev pub kept_line : ℕ → List ℕ
 kept_line regions = line (codes "kept") (codes "regions" ∷ decimal regions ∷ [])

@@ -26,7 +26,7 @@ end_byte = 0x45
 abbrev pub most_drones : ℕ
 most_drones = 32
 
--- a packet has at most so many bytes
+-- a packet has at most this many bytes
 abbrev pub most_bytes : ℕ
 most_bytes = 31
 

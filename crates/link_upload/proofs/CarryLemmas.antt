@@ -310,7 +310,7 @@ prompt_first s waiting (Some xs) old new few bytes behind before taken sent know
       ap (λ (l : List ℕ). length l) e,
     ))
 
--- at most so many bytes wait
+-- at most this many bytes wait
 pub short_waiting : (waiting : List ℕ) (left : Option (List ℕ)) → length waiting ≤ buffer_bytes → IsShort (prepend_known waiting left) left
 short_waiting waiting None few rest behind known known_left g more formed long is = absurd (cc)
 short_waiting waiting (Some xs) few rest behind known known_left g more formed long is =

@@ -1,4 +1,4 @@
--- An upload comes to one end, with one output.
+-- An upload gives one end, with one output.
 use Rattle.std.proofs.Common.{◌≡◌, ◌⊎◌, inl, inr, ℕ, zero, suc, ◌+◌, ◌<◌, ◌≤◌, Bool, true, false, List, [], ◌∷◌, ◌++◌, length, take, append_assoc, append-nil, length-append, Option, Some, None, refl, sym, ap, ◌∙◌, arith}
 use Rattle.std.specs.Prelude.{◌==◌}
 use Rattle.std.specs.List.{All}
@@ -70,7 +70,7 @@ one_status None false [] a b x y = x ∙ sym y
 one_status None false (c ∷ cs) a b x y = x.0 ∙ sym y.0
 one_status (Some n) full rest a b x y = x ∙ sym y
 
--- so many frames are no more than are taken
+-- this many frames are no more than are taken
 pub not_full : (n : ℕ) → n < frame_limit → (n == frame_limit) ≡ false
 not_full n below = by (n == frame_limit) refl where
   by : (b : Bool) → (n == frame_limit) ≡ b → b ≡ false
@@ -82,7 +82,7 @@ open_end true rest status e x = absurd (cc)
 open_end false [] status e x = frame_law.begun [] frame_law.none
 open_end false (c ∷ cs) status e x = x.1
 
--- where an upload ends while it goes on, and before so many frames, no frame stands after its frames
+-- where an upload ends while it goes on, and before this many frames, no frame stands after its frames
 no_frame : (s : Link) (frames : List Frame) (rest : List ℕ) (status : ℕ) → EndsWith (s.ended (events_in s frames)) (length frames == frame_limit) rest status →
     s.ended (events_in s frames) ≡ None → length frames < frame_limit → BeginsNoFrame rest
 no_frame s frames rest status ends going few = open_end (length frames == frame_limit) rest status (not_full (length frames) few) (rw going at ends)

@@ -69,7 +69,7 @@ StaysPrompt s stream left old new =
     (bytes behind before taken sent : List ℕ) → stream ≡ Some bytes → left ≡ Some behind → bytes ≡ taken ++ behind → old ≡ Some before → new ≡ Some (before ++ sent) →
     IsPrompt s taken sent
 
--- Whatever bytes come, an upload comes to one end, with one output; and where it goes on after some frames, to one
+-- Whatever bytes come, an upload has one end, with one output; and where it goes on after some frames, one
 -- whose output begins with all that is sent up to the last of them.
 pub record UploadLaw : Type 0 where
   pub one : (s : Link) (bytes : List ℕ) (status other : ℕ) (output others : List ℕ) → UploadGives s bytes status output → UploadGives s bytes other others →

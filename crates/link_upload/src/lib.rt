@@ -21,7 +21,7 @@ mod tests;
 pub use exchange::upload;
 pub use host::LinkHost;
 
-/// A law. Whatever bytes come, an upload comes to one end with one output.
+/// A law. Whatever bytes come, an upload has one end and one output.
 pub fn upload_law()
     ensures { UploadLaw }
 {}

@@ -138,7 +138,7 @@ fn uploads_that_are_done(rt: HostRuntime) -> Result<(), Fail> {
             0,
             &[FIRST, again, DEFINE],
         ),
-        // Behind the end no byte is judged.
+        // After the end no byte is judged.
         (
             false,
             &[WROTE_FIRST, WROTE_SECOND, DEFINED, b"\x51"],

@@ -1,11 +1,11 @@
--- The chunks of a list of bytes, one behind the other, are the list.
+-- The chunks of a list of bytes, one after the other, are the list.
 use Rattle.std.proofs.Common.{◌≡◌, ℕ, zero, suc, ◌+◌, ◌*◌, ◌-◌, ◌<◌, ◌≤◌, List, [], ◌++◌, length, take, drop, refl, ap, sym, ◌∙◌, arith, inl, inr}
 use Rattle.std.proofs.lemmas.Bool.{cases_lt}
 use Rattle.std.proofs.lemmas.List.{take-append-drop, take_all, drop_all, drop-drop, length-take, length-drop, append-nil}
 use Rattle.std.specs.List.{flat_map, range_with_len}
 use Rattle.mem_chunks.specs.Chunks.{chunk_count_of, chunk_of, chunk_start, chunk_end, Covers}
 
--- chunk k, and then what is behind it, is what stands from its beginning on
+-- chunk k, and then what is after it, is what stands from its beginning on
 next_chunk : (bytes : List ℕ) (k : ℕ) → k < chunk_count_of (length bytes) →
     chunk_of bytes k ++ drop (24 * (k + 1)) bytes ≡ drop (24 * k) bytes
 next_chunk bytes k h = elim (cases_lt (length bytes) (24 * k + 24)) [

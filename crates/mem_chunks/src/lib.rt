@@ -1,5 +1,5 @@
 //! The chunks in which a list of bytes is written to a drone's memory: 24 bytes each, the last one
-//! perhaps shorter. The chunks, one behind the other, are the bytes (`cover_law`). The crate takes
+//! perhaps shorter. The chunks, one after the other, are the bytes (`cover_law`). The crate takes
 //! the number 24 from `crtp_packets`; none of its calls takes memory. docs/RADIO.md, "Chunks",
 //! states the rule.
 #![tactic(auto)]
@@ -41,7 +41,7 @@ pub fn limits_law()
     ensures memory { MEMORY_BYTES ≡ 4096 }
 {}
 
-/// The law of chunks, for every list of bytes: the chunks, one behind the other, are the bytes, and
+/// The law of chunks, for every list of bytes: the chunks, one after the other, are the bytes, and
 /// each has 1 to 24 of them. It does nothing when it runs.
 pub fn cover_law()
     ensures { (bytes : List ℕ) → Covers bytes }

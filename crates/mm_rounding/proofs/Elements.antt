@@ -46,7 +46,7 @@ each_is x (z ∷ v) e k small = first_and_rest x z v (int_eq z x) (list_all (λ 
 pub equal_numbers : (v : List ℤ) → all_equal v ≡ true → (k : ℕ) → k < length v → at v k ≡ at v 0
 equal_numbers v e = each_is (at v 0) v e
 
--- the first control value and those behind it
+-- the first control value and those after it
 behind : (v : List ℤ) → 1 ≤ length v → at v 0 ∷ behind_first v ≡ v
 behind [] some = absurd (omega arith)
 behind (z ∷ v) some = refl
@@ -94,7 +94,7 @@ keeps_near axis is a c some within =
 
 -- ---- as the code writes them
 
--- numbers two to eight of eight are those behind the first one
+-- numbers two to eight of eight are those after the first one
 pub seven_behind : (v : List ℤ) → length v ≡ 8 → at v 1 ∷ at v 2 ∷ at v 3 ∷ at v 4 ∷ at v 5 ∷ at v 6 ∷ at v 7 ∷ [] ≡ behind_first v
 seven_behind [] many = absurd (omega arith)
 seven_behind (x ∷ v) many = seven_are v (omega arith)

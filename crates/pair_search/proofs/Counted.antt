@@ -35,7 +35,7 @@ few_slots drones cues small few = omega (arith, few_drones drones cues 0 small f
 
 -- ---- how many nodes a tree has
 
--- the most nodes of a tree whose place may be halved so many times more
+-- the most nodes of a tree whose place may be halved this many times more
 abbrev most_nodes : ℕ → ℕ
 most_nodes zero = 1
 most_nodes (suc n) = suc (most_nodes n + most_nodes n)

@@ -56,7 +56,7 @@ module _ (m : Measure) (depth : ℕ) (curves : Raised) (slot : Slot) (diff : Lis
 
 -- ---- the walk
 
--- at most so many slots are still to come
+-- at most this many slots are still to come
 abbrev pub left : Slot → ℕ
 left s = (32 - s.a) * 33033 + ((33 - s.b) * 1001 + (1000 - s.cue))
 
@@ -67,7 +67,7 @@ module _ (m : Measure) (depth : ℕ) (curves : Raised) where
   clear_next rest next slot whole is clear same =
       sym (ap (λ (o : Option SearchFault). option_or o (blocked_in fault.Blocked m depth curves next)) clear) ∙ sym (ap (blocked_in fault.Blocked m depth curves) is) ∙ same
 
-  -- its tree behind those before it
+  -- its tree after those before it
   pub tree_next : (rest next : List Slot) (slot : Slot) (trees more whole : List (List Node)) (nodes : List Node) → rest ≡ slot ∷ next → more ≡ trees ++ nodes ∷ [] →
       nodes ≡ best_nodes m depth curves slot → trees ++ map (best_nodes m depth curves) rest ≡ whole → more ++ map (best_nodes m depth curves) next ≡ whole
   tree_next rest next slot trees more whole nodes is more_is nodes_is same =

@@ -42,7 +42,7 @@ split_of None right = None
 split_of (Some left) None = None
 split_of (Some left) (Some right) = Some (split left right)
 
--- The best tree of a place that may be halved so many times more, where the first direction of each place is given:
+-- The best tree of a place that may be halved this many times more, where the first direction of each place is given:
 -- a leaf with its first direction where it has one, else the split of the best trees of its halves.
 -- There is none where some place is blocked that may not be halved any more.
 abbrev pub best_tree : (Place → Option ℕ) → ℕ → Place → Option Tree

@@ -155,7 +155,7 @@ fn node_for<const M: usize>(
     }
 }
 
-// A node behind the others, and where it is a split the halves of its part onto the stack, the first half on top.
+// A node after the others, and where it is a split the halves of its part onto the stack, the first half on top.
 fn put(
     diff: &[Bez<8>; 3],
     stack: &mut Stack,

@@ -25,7 +25,7 @@ use Rattle.readback_core.specs.Mail.{row_of}
 use Rattle.readback_core.specs.CarefulState.{CarefulState, CarefulStandsFor}
 use Rattle.readback_core.specs.CarefulWorldState.{CarefulWorldState, CarefulWorldStandsAt, Readback}
 
--- the rows after these packets were put behind those of their drones
+-- the rows after these packets were put after those of their drones
 abbrev pub AfterPut : Upload → List Sent → List (List (List ℕ)) → List (List (List ℕ)) → Type 0
 AfterPut s out old new = (d : ℕ) → row_of new d ≡ row_of old d ++ packets_by (λ i k. careful_packet s i k) out d
 

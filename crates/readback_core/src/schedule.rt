@@ -35,7 +35,7 @@ fn careful(e: WorldEvent) -> CarefulEvent
     }
 }
 
-/// The number of a word of at most so many digits, where it is at most `most`.
+/// The number of a word of at most this many digits, where it is at most `most`.
 fn number(word: &[u8], digits: usize, most: u16) -> Option<u16>
     requires { digits ≤ 9 }
     ensures { result ≡ number_to digits most word.now }

@@ -36,7 +36,7 @@ apart_at rules dirs curves trees trajs stands a b t u m valid order t_is u_is in
     (λ axis near. at_place (HasFewPoints (length stands.times)) trajs b u stands.few_points u_is m.cue axis inside.cue near)
     (apart_in_tree rules dirs (difference curves a b m.cue) tree.0 root (pos m.a) (pos m.c) (omega (arith, ints, inside.some)) (omega (arith, ints)) (omega (arith, ints, inside.within)) tree.1)
 
--- Where a certificate is valid, each two different drones are apart at each instant.
+-- Where a certificate is valid, any two different drones are apart at each instant.
 pub keeps : (rules : Rules) (dirs : List (List ℤ)) (curves : Raised) (trees : List (List Node)) → AreValid rules dirs curves (slots curves.drones curves.cues) trees → KeepsApart curves rules.r rules.h
 keeps rules dirs curves trees valid trajs stands a b t u differ t_is u_is p q some before =
     let t_times : durations t.segments ≡ stands.times = at_place (λ (t : Traj). durations t.segments ≡ stands.times) trajs a t stands.one_show.same_times t_is in

@@ -39,7 +39,7 @@ spelled_leaf line n m i inside n_is low high =
     rw (up, more, drop-cons line i 0) (sym (leaf_test m (get_or line i 0) (drop (suc i) line) low high))
 
 -- ---- what bytes that pass spell
--- the nodes are so many trees, one behind the other
+-- the nodes are this many trees, one after the other
 abbrev pub IsForest : ℕ → List Node → Type 0
 IsForest zero nodes = nodes ≡ []
 IsForest (suc n) nodes = (tree : Tree) × (rest : List Node) × (nodes ≡ preorder tree ++ rest) × IsForest n rest
@@ -52,7 +52,7 @@ two_in_one n nodes (left, rest, is, (right, more, rest_is, forest)) = (
   forest,
 )
 
--- the nodes that bytes spell as so many trees
+-- the nodes that bytes spell as this many trees
 abbrev IsSpelling : ℕ → List ℕ → Type 0
 IsSpelling n line = (nodes : List Node) × (line ≡ tree_line 1 nodes) × IsForest n nodes × All (IsKnown 26) nodes
 

@@ -47,7 +47,7 @@ module _ (rules : Rules) (dirs : List (List ℤ)) (diff : List (Bez 8)) (slot : 
       sym (ap (λ (o : Option CertFault). option_or o (first_fault rules dirs diff slot (places_below level.place (get_or nodes i d) ++ places_of rest) (drop (suc i) nodes))) bad)
       ∙ sym (left_from level stack rest nodes i d inside is) ∙ same
 
-  -- behind a node that is not faulty the first fault stays the same
+  -- after a node that is not faulty the first fault stays the same
   pub clean : (level : Level) (stack rest next : List Level) (nodes : List Node) (i : ℕ) (d : Node) (whole : Option CertFault) → i < length nodes → stack ≡ level ∷ rest →
       node_fault rules dirs diff slot level.place (get_or nodes i d) ≡ None →
       places_of next ≡ places_below level.place (get_or nodes i d) ++ places_of rest →

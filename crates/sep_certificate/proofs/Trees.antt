@@ -21,7 +21,7 @@ module _ (rules : Rules) (dirs : List (List ℤ)) (diff : List (Bez 8)) (slot : 
   or_assoc None b c = refl
   or_assoc (Some x) b c = refl
 
-  -- the walk over the nodes of a tree finds its fault, and then what stands behind them
+  -- the walk over the nodes of a tree finds its fault, and then what stands after them
   walked : (tree : Tree) (place : Place) (places : List Place) (nodes : List Node) →
       first_fault rules dirs diff slot (place ∷ places) (preorder tree ++ nodes) ≡ option_or (tree_fault rules dirs diff slot place tree) (first_fault rules dirs diff slot places nodes)
   unfolding first_fault

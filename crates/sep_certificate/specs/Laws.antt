@@ -7,7 +7,7 @@ use Rattle.sep_certificate.specs.Certificates.{IsValid, IsWholeIn, fault_of}
 
 -- By any table of directions, a valid certificate keeps drones apart, and a whole one is valid exactly where no fault is found.
 pub record CertificateLaw : Type 0 where
-  -- Where a certificate is valid for curves, by any table of directions, each two different drones are apart at each instant.
+  -- Where a certificate is valid for curves, by any table of directions, any two different drones are apart at each instant.
   pub apart : (dirs : List (List ℤ)) (curves : Raised) (r h : ℕ) (cert : Certificate) → IsValid dirs curves r h cert → KeepsApart curves r h
   -- A whole certificate, whose leaves name directions of the table, has no first fault exactly where it is valid for the curves.
   pub exact : (dirs : List (List ℤ)) (curves : Raised) (r h : ℕ) (cert : Certificate) → IsWholeIn (length dirs) cert →

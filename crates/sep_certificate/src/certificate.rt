@@ -24,7 +24,7 @@ pub enum CertFault {
         b: u8,
         cue: u16,
     },
-    /// This tree is the first behind those of all pairs and cues.
+    /// This tree is the first after those of all pairs and cues.
     Extra {
         tree: u32,
     },

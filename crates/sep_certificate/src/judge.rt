@@ -29,7 +29,7 @@ use sep_parts::{DIRECTIONS, Level, Node, Ruler, Rules, Slot, Stack, WIDE};
 /// without a tree, or the first tree too many, whose nodes aren't judged. It names drones and a cue of the curves,
 /// and a direction of the version. Takes no memory.
 ///
-/// Where it is Ok, whoever made the certificate, each two different drones are apart at each instant p / q of the show, for
+/// Where it is Ok, whoever made the certificate, any two different drones are apart at each instant p / q of the show, for
 /// all whole numbers p and q and for every list of trajectories that the curves stand for.
 pub fn check(curves: &Curves, r: u16, h: u16, cert: &Certificate) -> Result<(), CertFault>
     requires r { IsAxis r }
@@ -52,7 +52,7 @@ pub fn check(curves: &Curves, r: u16, h: u16, cert: &Certificate) -> Result<(), 
     }
 }
 
-/// The law of certificates, by any table of directions. Valid ones keep each two different drones apart at each
+/// The law of certificates, by any table of directions. Valid ones keep any two different drones apart at each
 /// instant p / q of the show, for all whole numbers p and q and for every list of trajectories that the curves stand
 /// for. And a whole certificate, whose leaves name directions of the table, is valid exactly where it has no first
 /// fault.

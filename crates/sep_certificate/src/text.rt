@@ -73,7 +73,7 @@ fn put_head(text: &mut Vec<u8>, version: u8, depth: u8) -> Result<(), AllocError
     Ok(())
 }
 
-// The line of a tree with its line feed, behind other text.
+// The line of a tree with its line feed, after other text.
 fn put_tree(text: &mut Vec<u8>, version: u8, nodes: &[Node]) -> Result<(), AllocError>
     requires version { IsVersion version }
     requires known { All (IsKnown (known_in version)) nodes.now }
@@ -86,7 +86,7 @@ fn put_tree(text: &mut Vec<u8>, version: u8, nodes: &[Node]) -> Result<(), Alloc
     Ok(())
 }
 
-// A node, behind other text.
+// A node, after other text.
 fn put_node(text: &mut Vec<u8>, version: u8, node: Node) -> Result<(), AllocError>
     requires version { IsVersion version }
     requires known { IsKnown (known_in version) node }
@@ -185,7 +185,7 @@ fn read_from(
     })
 }
 
-// The first line of a text, and what stands behind its line feed.
+// The first line of a text, and what stands after its line feed.
 fn first_line(text: &[u8]) -> (&[u8], &[u8])
     ensures part { length result.0.now ≤ length text.now }
     ensures shorter { 0 < length text.now → length result.1.now < length text.now }

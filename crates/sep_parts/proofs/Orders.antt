@@ -1,11 +1,11 @@
--- The slots of a show in order: those from a slot on, and the slot behind it.
+-- The slots of a show in order: those from a slot on, and the slot after it.
 use Rattle.std.proofs.Common.{◌≡◌, ◌⊎◌, inl, inr, ℕ, zero, suc, ◌+◌, ◌≤◌, ◌<◌, nat_lt, true, false, arith, refl, List, [], ◌∷◌, ◌++◌, append_assoc, All}
 use Rattle.std.proofs.lemmas.List.Elements.{All-nil, All-cons, All-append}
 use Rattle.std.proofs.lemmas.Bool.Decides.{nat_tests}
 use Rattle.sep_parts.specs.declared.slot.Slot.{Slot}
 use Rattle.sep_parts.specs.Slots.{IsSlot, following, slots, slot_at, cues_from, pairs_from, drones_from}
 
--- the slots from one on: n cues of its pair, m pairs behind it with the same first drone, and the pairs among the k drones behind that one
+-- the slots from one on: n cues of its pair, m pairs after it with the same first drone, and the pairs among the k drones after that one
 pub record IsFrom (drones cues : ℕ) (s : Slot) (rest : List Slot) : Type 0 where
   pub n : ℕ
   pub m : ℕ
@@ -44,7 +44,7 @@ unfolding slots
 first_ahead zero cues some_drones some_cues = absurd (omega arith)
 first_ahead (suc drones) cues some_drones some_cues = pairs_ahead (suc drones) cues 0 drones drones some_cues (omega arith) (omega arith)
 
--- the slot behind one, by cases
+-- the slot after one, by cases
 next_cue : (drones cues : ℕ) (s : Slot) (n m k : ℕ) → IsSlot drones cues s → suc n + s.cue ≡ cues → m + s.b + 1 ≡ drones → k + s.a + 1 ≡ drones →
     IsAhead drones cues (following drones cues s) (behind n m k cues s)
 next_cue drones cues s (suc n) m k is cues_left pairs_left drones_left =

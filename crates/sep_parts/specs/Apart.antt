@@ -25,7 +25,7 @@ FlyApart r h trajs =
     (a b : ℕ) (t u : Traj) → (a ≡ b → ⊥) → slice_get trajs a ≡ Some t → slice_get trajs b ≡ Some u →
     (p q : ℕ) → 1 ≤ q → p ≤ q * sum (durations t.segments) → AreApart t u r h p q
 
--- For each list of trajectories that the curves stand for, each two different drones are apart at each instant of the show.
+-- For each list of trajectories that the curves stand for, any two different drones are apart at each instant of the show.
 abbrev pub KeepsApart : Raised → ℕ → ℕ → Type 0
 KeepsApart curves r h = (trajs : List Traj) → CurvesStandFor curves trajs → FlyApart r h trajs
 

@@ -42,7 +42,7 @@ triples_of numbers = flat_map (λ x. flat_map (λ y. map (λ z. x ∷ y ∷ z �
 abbrev pub directions : List (List ℤ)
 directions = filter (λ n. not (is_zero (at n 0) && is_zero (at n 1) && is_zero (at n 2))) (triples_of entries)
 
--- the greatest common divisor by Euclid's rule, in so many steps at most; that of 0 and 0 is 0
+-- the greatest common divisor by Euclid's rule, in this many steps at most; that of 0 and 0 is 0
 abbrev pub divisor_in : ℕ → ℕ → ℕ → ℕ
 divisor_in zero a b = a
 divisor_in (suc n) a b = if b == 0 then a else divisor_in n b (a % b)

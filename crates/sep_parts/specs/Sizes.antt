@@ -18,7 +18,7 @@ pub record HasSmallNumbers (r h : ℕ) (diff : List (Bez 8)) (place : Place) (n 
   pub reach : IsBelow (2 ^ 30) (threshold r h n)
   pub least : IsBelow (2 ^ 104) (least_value (threshold r h n) place.depth)
 
--- Of differences below 2^30, no number at a place comes to 2^104, along whatever direction with entries from -2 to 2.
+-- Of differences below 2^30, no number at a place gives 2^104, along whatever direction with entries from -2 to 2.
 abbrev pub SizeLaw : Type 0
 SizeLaw = (r h : ℕ) (diff : List (Bez 8)) (place : Place) (n : List ℤ) → IsAxis r → IsAxis h → AreSmall n →
     IsPlace place.depth place.index → All (λ curve. All (IsBelow (2 ^ 30)) curve.b) diff → HasSmallNumbers r h diff place n

@@ -30,7 +30,7 @@ pub record IsSlot (drones cues : ℕ) (s : Slot) : Type 0 where
   pub second : s.b < drones
   pub cue : s.cue < cues
 
--- the slot behind one; past the last slot its second drone is none of the show
+-- the slot after one; past the last slot its second drone is none of the show
 abbrev pub following : ℕ → ℕ → Slot → Slot
 following drones cues s =
     if nat_lt (s.cue + 1) cues then record { a = s.a; b = s.b; cue = s.cue + 1 }

@@ -46,7 +46,7 @@ only_tree (tree ∷ other ∷ trees) = None
 abbrev pub spelled_tree : List Node → Option Tree
 spelled_tree nodes = option_flatten (option_map only_tree (spelled_trees nodes))
 
--- each leaf of a tree names one of so many directions
+-- each leaf of a tree names one of this many directions
 abbrev pub IsKnown : ℕ → Node → Type 0
 IsKnown m Split = Unit {0}
 IsKnown m (Leaf dir) = dir < m

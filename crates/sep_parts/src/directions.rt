@@ -169,7 +169,7 @@ pub fn threshold_law()
 {}
 
 /// The threshold of each direction, for ellipsoids of half axes `r`, `r` and `h` in millimetres: the least number that is not
-/// negative and whose square is above 4 r^2 h^2 (n . n). Two radii add, hence the 4. None comes to 2^30.
+/// negative and whose square is above 4 r^2 h^2 (n . n). Two radii add, hence the 4. None gives 2^30.
 pub fn thresholds<const M: usize>(dirs: &Dirs<M>, r: u16, h: u16) -> [i128; M]
     requires size { IsTableSize M }
     requires entries { All AreSmall dirs.now.n }

@@ -82,7 +82,7 @@ pub fn low_control(
     first_below(&projected(diff, n, r, h), threshold, depth)
 }
 
-/// Three curves along a direction: the weighted sums n_x h dx + n_y h dy + n_z r dz of their control values. None comes to 2^104.
+/// Three curves along a direction: the weighted sums n_x h dx + n_y h dy + n_z r dz of their control values. None reaches 2^104.
 pub fn projected(diff: &[Bez<8>; 3], n: [i8; 3], r: u16, h: u16) -> Bez<8>
     requires values { All (λ curve. All (IsBelow (2 ^ 86)) curve.b) diff.now }
     requires entries { AreSmall n }
@@ -169,7 +169,7 @@ pub fn halves(part: &[Bez<8>; 3]) -> ([Bez<8>; 3], [Bez<8>; 3])
     ([x_left, y_left, z_left], [x_right, y_right, z_right])
 }
 
-/// A law: no number of a search comes to 2^104. Of differences of raised curves, which are below 2^30, neither the control
+/// A law: no number of a search gives 2^104. Of differences of raised curves, which are below 2^30, neither the control
 /// values of a part nor their weighted sums along a direction do, nor does what each sum must be at least.
 pub fn size_law()
     ensures { SizeLaw }

@@ -25,7 +25,7 @@ impl Slot {
         Slot { a: 0, b: 1, cue: 0 }
     }
 
-    /// The pair and cue behind this one: the next cue of the pair, else the next second drone, else the next first drone.
+    /// The pair and cue after this one: the next cue of the pair, else the next second drone, else the next first drone.
     pub fn next(&self, drones: usize, cues: usize) -> Slot
         requires drones { drones ≤ most_drones }
         requires cues { cues ≤ most_cues }

@@ -20,7 +20,7 @@ pub struct Level {
     pub part: [Bez<8>; 3],
 }
 
-/// The two halves of a level, of the differences `diff` of raised curves. No control value of a part comes to 2^86.
+/// The two halves of a level, of the differences `diff` of raised curves. No control value of a part reaches 2^86.
 pub fn level_halves(diff: &[Bez<8>; 3], level: &Level) -> (Level, Level)
     requires values { All (λ curve. All (IsBelow (2 ^ 30)) curve.b) diff.now }
     requires level { IsLevel diff.now level.now }

@@ -35,7 +35,7 @@ fn row(value: i128, dip: i128) -> Bez<8>
     }
 }
 
-// A difference that stays so many millimetres along x, but for one control value.
+// A difference that stays this many millimetres along x, but for one control value.
 fn aside(millimetres: i16, dip: i16) -> [Bez<8>; 3]
     ensures { All (λ curve. All (IsBelow (2 ^ 86)) curve.b) result }
 {

@@ -1,4 +1,4 @@
--- What a command answers, from what its steps do.
+-- What a command gives, from what its steps do.
 use Rattle.std.proofs.Common.{◌≡◌, ◌≢◌, ◌⊎◌, inl, inr, ℕ, ◌≤◌, Bool, true, false, cond, List, [], length, Option, Some, None, Result, Ok, Err, IfOk, IfSome, refl, sym, ap, subst, ◌∙◌, arith}
 use Rattle.std.specs.Option.{option_map}
 use Rattle.std.specs.declared.alloc.AllocError.{AllocError}
@@ -60,7 +60,7 @@ refused_some (refusal.TooFast drone axis speed) is = omega (arith, is)
 pub said_plain : (c : Command) (r : Refusal) → (ways_of c).by_frames ≡ false → said c r ≡ refused r
 said_plain c r plain = rw plain refl
 
--- where a command refuses, it comes to what it says then
+-- where a command refuses, it gives what it says then
 pub refused_outcome : (c : Command) (cut : Cut) (r : Refusal) → IsRefusedBy c cut r → IsOutcomeOf c cut (said c r)
 refused_outcome c cut r (inl is) = inl (rw is refl)
 refused_outcome c cut r (inr (s, short, stands, is)) =
@@ -69,7 +69,7 @@ refused_outcome c cut r (inr (s, short, stands, is)) =
 pub plain_outcome : (c : Command) (cut : Cut) (r : Refusal) → (ways_of c).by_frames ≡ false → IsRefusedBy c cut r → IsOutcomeOf c cut (refused r)
 plain_outcome c cut r plain is = subst (IsOutcomeOf c cut) (said_plain c r plain) (refused_outcome c cut r is)
 
--- what a show comes to that nothing refuses
+-- what a show gives that nothing refuses
 comes_to : (c : Command) (cut : Cut) (s : PlainShow) (o : Outcome) → length cut.show ≤ show_limit → StandsFor cut.show s → show_refusal c cut s ≡ None → Gives c s cut o → IsOutcomeOf c cut o
 comes_to c cut s o short stands none gives =
     inr (record { s = s; short = short; stands = stands; gives = subst (λ (r : Option Refusal). ShowGives c r s cut o) (sym none) gives })
@@ -130,7 +130,7 @@ answers_accepted c depth text a (Ok answer) accepted gives unmarked is_said = an
 
 -- ---- a show that fits
 
--- what a show comes to with status 0 is no refusal
+-- what a show gives with status 0 is no refusal
 record IsGiven (c : Command) (refused : Option Refusal) (s : PlainShow) (cut : Cut) (o : Outcome) : Type 0 where
   none : refused ≡ None
   gives : Gives c s cut o

@@ -1,4 +1,4 @@
--- What a rehearsal with read-back comes to: one outcome alone, that of what its steps do.
+-- What a rehearsal with read-back gives: one outcome alone, that of what its steps do.
 use Rattle.std.proofs.Common.{◌≡◌, ℕ, zero, suc, ◌+◌, ◌-◌, ◌<◌, ◌≤◌, Bool, true, false, cond, not, ◌&&◌, ◌==◌, List, [], ◌∷◌, ◌++◌, All, length, map, nat_lt, Option, Some, None, Result, Ok, Err, IfOk, IfSome, refl, sym, ap, subst, ◌∙◌, arith}
 use Rattle.std.specs.Prelude.{find, slice_get, take}
 use Rattle.std.specs.List.{list_all, range_with_len}
@@ -57,7 +57,7 @@ careful_ends_one law Done s w o p first second =
 events_one : (given : Result (List CarefulEvent) ℕ) (xs ys : List CarefulEvent) → given ≡ Ok xs → given ≡ Ok ys → xs ≡ ys
 events_one given xs ys first second = cc
 
--- what a schedule comes to with read-back is one outcome alone
+-- what a schedule gives with read-back is one outcome alone
 pub careful_one : CurveLaw → (why : Option Refusal) (s : PlainShow) (start : Bool) (cut : Cut) (o p : Outcome) → CarefulScheduleGives why s start cut o → CarefulScheduleGives why s start cut p → o ≡ p
 careful_one law (Some r) s start cut o p first second = first ∙ sym second
 careful_one law None s start cut o p (events, is, ends) (others, is_others, ends_others) =
@@ -188,7 +188,7 @@ careful_among_names v f start events p valid stands is =
     subst (IsCarefulAmong (length f.names)) (sym (is ∙ stands.progress))
     (subst (λ (n : ℕ). IsCarefulAmong n (careful_progress s start (careful_rehearsed s start events).heard)) (session_counted f false valid) (careful_among s start (careful_rehearsed s start events).heard))
 
--- what the progress of a world comes to is what its events come to
+-- what the progress of a world gives is what its events give
 pub careful_rehearses_by : (v : CarefulWorldState) (f : Fitted) (s : PlainShow) (start : Bool) (events : List CarefulEvent) (o : Outcome) → IsFitted f s → CarefulStandsAfter v f start events →
     CarefulRehearsalEnds v.progress s (careful_rehearsed (session_for f.settings f.sent false) start events) o → CarefullyRehearses s start events o
 careful_rehearses_by v f s start events o is stands ends =
@@ -197,7 +197,7 @@ careful_rehearses_by v f s start events o is stands ends =
     subst (λ (x : Upload). CarefulRehearsalEnds (careful_progress x start (careful_rehearsed x start events).heard) s (careful_rehearsed x start events) o) same
     (subst (λ (p : CarefulProgress). CarefulRehearsalEnds p s (careful_rehearsed u start events) o) stands.progress ends)
 
--- what a rehearsal comes to that is done
+-- what a rehearsal gives that is done
 pub careful_rehearses_done : (v : CarefulWorldState) (f : Fitted) (s : PlainShow) (start : Bool) (events : List CarefulEvent) (text : List ℕ) → IsValidFitted f → IsFitted f s → CarefulStandsAfter v f start events →
     v.progress ≡ Done → IsCarefulText (state_at v.drones) f.settings.trajectory_id (map (λ (name : Name). name.items) f.names) text → CarefullyRehearses s start events (outcome 0 text)
 careful_rehearses_done v f s start events text valid is stands done said =
@@ -223,7 +223,7 @@ careful_events_of_show f s names bytes second events given is named same same_ev
     subst (λ (ns : List Name). careful_schedule_of (map (λ (name : Name). name.items) ns) second ≡ Ok given) (named ∙ is.names)
     (here ∙ ap (λ (es : List CarefulEvent). Ok es) (sym same_events))
 
--- what a schedule comes to whose events are these
+-- what a schedule gives whose events are these
 pub careful_schedule_gives : (s : PlainShow) (start : Bool) (cut : Cut) (events : List CarefulEvent) (result : Result Answer AllocError) → length cut.second ≤ schedule_limit →
     careful_schedule_of (words_of s) cut.second ≡ Ok events → cut.is_second_marked ≡ false → IfOk result (λ a. CarefullyRehearses s start events (outcome_of a)) →
     IfOk result (λ a. CarefulScheduleGives (second_refusal schedule_limit (faulty_event (careful_schedule_of (words_of s) cut.second)) cut) s start cut (outcome_of a))

@@ -1,4 +1,4 @@
--- What a certificate comes to for a show.
+-- What a certificate gives for a show.
 use Rattle.std.proofs.Common.{◌≡◌, ℕ, List, Option, ap, sym, ◌∙◌}
 use Rattle.choreo_lines.specs.Name.{Name}
 use Rattle.choreo_reader.specs.Plain.{PlainShow}
@@ -10,7 +10,7 @@ use Rattle.sep_certificate.specs.Certificates.{fault_of}
 use Rattle.show_cli.specs.Outcome.{judged, judged_for}
 use Rattle.show_cli.specs.Shows.{names_of, trajectories_of}
 
--- a certificate that is judged by the curves and settings of a show comes to what it comes to for the show
+-- a certificate that is judged by the curves and settings of a show gives what it gives for the show
 pub judged_same : (s : PlainShow) (c : Certificate) (names : List Name) (curves : Raised) (r h : ℕ) (o : Option CertFault) →
     names ≡ names_of s → curves ≡ raised_of (trajectories_of s) → r ≡ s.settings.r → h ≡ s.settings.h → fault_of (table_of c.version) curves r h c ≡ o → judged names c o ≡ judged_for s c
 judged_same s c names curves r h o names_are curves_are r_is h_is is =

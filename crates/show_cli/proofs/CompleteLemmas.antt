@@ -1,4 +1,4 @@
--- An input that lacks nothing comes to status 0.
+-- An input that lacks nothing gives status 0.
 use Rattle.std.proofs.Common.{◌≡◌, inl, inr, ℕ, ◌≤◌, ◌==◌, Bool, true, false, cond, List, Option, Some, None, Ok, refl, sym, ap, subst, ◌++◌, length, ◌∙◌}
 use Rattle.std.specs.Option.{option_map}
 use Rattle.std.specs.Str.Lines.{lines}

@@ -1,4 +1,4 @@
--- An input comes to one outcome alone, and to one.
+-- An input gives one outcome alone, and to one.
 use Rattle.std.proofs.Common.{◌≡◌, inl, inr, ℕ, ◌<◌, ◌≤◌, Bool, true, false, cond, nat_lt, List, [], length, map, Option, Some, None, All, Result, Ok, Err, refl, sym, ap, subst, ◌∙◌, arith}
 use Rattle.std.specs.Option.{option_map, option_or}
 use Rattle.std.proofs.lemmas.Bool.Decides.{nat_tests}
@@ -41,7 +41,7 @@ use Rattle.show_cli.proofs.RehearsalLemmas.{outcome_by, schedule_one, schedule_s
 
 -- ---- one show
 
--- a certificate's text comes to one outcome
+-- a certificate's text gives one outcome
 certificate_one : TextLaw → (refused : Option Refusal) (s : PlainShow) (cut : Cut) (o p : Outcome) → CertificateGives refused s cut o → CertificateGives refused s cut p → o ≡ p
 certificate_one law (Some r) s cut o p first second = first ∙ sym second
 certificate_one law None s cut o p first second = first.2 ∙ ap (judged_for s) (law.one cut.second first.0 second.0 first.1 second.1) ∙ sym second.2
@@ -73,7 +73,7 @@ show_one text upload curve c None s cut o p first second = given_one text upload
 
 -- ---- the show's text
 
--- an input comes to one outcome
+-- an input gives one outcome
 one_alone : ShowLaw → TextLaw → UploadLaw → CurveLaw → (c : Command) (cut : Cut) (o p : Outcome) → IsOutcomeOf c cut o → IsOutcomeOf c cut p → o ≡ p
 one_alone show text upload curve c cut o p (inl first) (inl second) = same (sym first ∙ second)
   where
@@ -100,7 +100,7 @@ within_limit limit n r more none = by_test (nat_lt limit n) refl none
     by_test true test none = absurd (cc)
     by_test false test none = (short limit n test, none)
 
--- what comes to nothing comes of nothing
+-- what gives nothing comes of nothing
 none_mapped : {A : Type 0} (f : A → Refusal) (o : Option A) → option_map f o ≡ None → o ≡ None
 none_mapped f None none = refl
 none_mapped f (Some a) none = absurd (cc)
@@ -110,7 +110,7 @@ none_first : (a b : Option Refusal) → option_or a b ≡ None → a ≡ None
 none_first None b none = refl
 none_first (Some r) b none = absurd (cc)
 
--- a certificate's text that isn't refused says a certificate, so it comes to an outcome
+-- a certificate's text that isn't refused says a certificate, so it gives an outcome
 certificate_some : TextLaw → (refused : Option Refusal) (s : PlainShow) (cut : Cut) → second_refusal certificate_limit (bad_line (lines cut.second)) cut ≡ refused → (o : Outcome) × CertificateGives refused s cut o
 certificate_some law (Some r) s cut is = (_, refl)
 certificate_some law None s cut is =
@@ -130,7 +130,7 @@ regions_read : (given : Result (List Region) ℕ) → faulty_region given ≡ No
 regions_read (Ok regions) none = (regions, refl)
 regions_read (Err line) none = absurd (cc)
 
--- a text of regions comes to an outcome
+-- a text of regions gives an outcome
 regions_some : (why : Option Refusal) (s : PlainShow) (depth : ℕ) (cut : Cut) → second_refusal region_limit (faulty_region (regions_of cut.second)) cut ≡ why → (o : Outcome) × RegionsGive why s depth cut o
 regions_some (Some r) s depth cut is = (_, refl)
 regions_some None s depth cut is =

@@ -66,7 +66,7 @@ nothing_refused : (too_long marked : Bool) (r q : Refusal) (line : Option ℕ) �
     cond too_long (Some r) (option_or (option_map (λ (n : ℕ). refusal.SecondLine n) line) (cond marked (Some q) None)) ≡ None
 nothing_refused too_long marked r q line short fine unmarked = rw short (rw fine (rw unmarked refl))
 
--- what a text of regions comes to that says these
+-- what a text of regions gives that says these
 pub regions_give : (s : PlainShow) (depth : ℕ) (cut : Cut) (regions : List Region) (result : Result Answer AllocError) → length cut.second ≤ region_limit →
     regions_of cut.second ≡ Ok regions → cut.is_second_marked ≡ false → IfOk result (λ a. EndsRegions s depth regions (outcome_of a)) →
     IfOk result (λ a. RegionsGive (second_refusal region_limit (faulty_region (regions_of cut.second)) cut) s depth cut (outcome_of a))

@@ -1,4 +1,4 @@
--- What a rehearsal comes to: one outcome alone, and one where the show lands.
+-- What a rehearsal gives: one outcome alone, and one where the show lands.
 use Rattle.std.proofs.Common.{◌≡◌, ℕ, suc, ◌+◌, ◌<◌, Bool, true, false, cond, List, [], ◌∷◌, ◌++◌, append-nil, length, get_or, Option, Some, None, Result, Ok, Err, refl, sym, ap, subst, ◌∙◌, arith}
 use Rattle.std.proofs.lemmas.List.{length-replicate}
 use Rattle.std.specs.Option.{option_map, option_or}
@@ -72,7 +72,7 @@ ends_one law Done s w o p first second =
 events_one : (given : Result (List WorldEvent) ℕ) (xs ys : List WorldEvent) → given ≡ Ok xs → given ≡ Ok ys → xs ≡ ys
 events_one given xs ys first second = cc
 
--- what a schedule comes to is one outcome alone
+-- what a schedule gives is one outcome alone
 pub schedule_one : CurveLaw → (why : Option Refusal) (s : PlainShow) (start : Bool) (cut : Cut) (o p : Outcome) → ScheduleGives why s start cut o → ScheduleGives why s start cut p → o ≡ p
 schedule_one law (Some r) s start cut o p first second = first ∙ sym second
 schedule_one law None s start cut o p (events, is, ends) (others, is_others, ends_others) =
@@ -152,7 +152,7 @@ schedule_by None s start cut given lands counted =
     let ends = rehearses_some s start events.0 lands counted in
     (ends.0, (events.0, events.1, ends.1))
 
--- what a schedule comes to, for a show that lands
+-- what a schedule gives, for a show that lands
 pub schedule_some : (why : Option Refusal) (s : PlainShow) (start : Bool) (cut : Cut) → second_refusal schedule_limit (faulty_event (schedule_of (words_of s) cut.second)) cut ≡ why →
     Lands (grid_of s) s.settings (sent_of s) → length (sent_of s) ≡ length (words_of s) → (o : Outcome) × ScheduleGives why s start cut o
 schedule_some why s start cut is lands counted =

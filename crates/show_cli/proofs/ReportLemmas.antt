@@ -15,7 +15,7 @@ use Rattle.show_plan.proofs.Valid.{encoding_size}
 use Rattle.show_cli.specs.Reports.{cues_in, duration_of, nodes_of, packets_for, report_of}
 use Rattle.show_cli.specs.Shows.{names_of, sent_of, words_of}
 
--- the packets of so many bytes: their writes and a define
+-- the packets of this many bytes: their writes and a define
 abbrev pub packets_of : List ℕ → ℕ
 packets_of row = chunk_count_of (length row) + 1
 

@@ -160,7 +160,7 @@ texts_as Decodes f g d (name ∷ names) text same (o, rest, decodes, texts, is) 
 pub text_as : (Decodes : DroneState → Option Traj → Type 0) (f g : ℕ → DroneState) (names : List (List ℕ)) (text : List ℕ) → ((d : ℕ) → d < length names → f d ≡ g d) → IsTextBy Decodes f names text → IsTextBy Decodes g names text
 text_as Decodes f g names text same (rest, texts, is) = (rest, texts_as Decodes f g 0 names rest (λ k within. subst (λ (n : ℕ). f n ≡ g n) (omega arith) (same k within)) texts, is)
 
--- what the progress of a world comes to is what its events come to
+-- what the progress of a world gives is what its events give
 pub rehearses_by : (v : WorldState) (f : Fitted) (s : PlainShow) (start : Bool) (events : List WorldEvent) (o : Outcome) → IsFitted f s → StandsAfter v f start events →
     RehearsalEnds v.progress s (rehearsed (session_for f.settings f.sent start) events) o → Rehearses s start events o
 rehearses_by v f s start events o is stands ends =
@@ -169,7 +169,7 @@ rehearses_by v f s start events o is stands ends =
     subst (λ (x : Upload). RehearsalEnds (progress x (rehearsed x events).heard) s (rehearsed x events) o) same
     (subst (λ (p : Progress). RehearsalEnds p s (rehearsed u events) o) stands.progress ends)
 
--- what a rehearsal comes to that is done
+-- what a rehearsal gives that is done
 pub rehearses_done : (v : WorldState) (f : Fitted) (s : PlainShow) (start : Bool) (events : List WorldEvent) (text : List ℕ) → IsValidFitted f → IsFitted f s → StandsAfter v f start events → v.progress ≡ Done →
     IsRehearsalText (state_at v.drones) f.settings.trajectory_id (map (λ (name : Name). name.items) f.names) text → Rehearses s start events (outcome 0 text)
 rehearses_done v f s start events text valid is stands done said =
@@ -198,7 +198,7 @@ pub nothing_refused : (too_long marked : Bool) (r q : Refusal) (line : Option �
     cond too_long (Some r) (option_or (option_map (λ (n : ℕ). refusal.SecondLine n) line) (cond marked (Some q) None)) ≡ None
 nothing_refused too_long marked r q line short fine unmarked = rw short (rw fine (rw unmarked refl))
 
--- what a schedule comes to whose events are these
+-- what a schedule gives whose events are these
 pub schedule_gives : (s : PlainShow) (start : Bool) (cut : Cut) (events : List WorldEvent) (result : Result Answer AllocError) → length cut.second ≤ schedule_limit →
     schedule_of (words_of s) cut.second ≡ Ok events → cut.is_second_marked ≡ false → IfOk result (λ a. Rehearses s start events (outcome_of a)) →
     IfOk result (λ a. ScheduleGives (second_refusal schedule_limit (faulty_event (schedule_of (words_of s) cut.second)) cut) s start cut (outcome_of a))

@@ -16,7 +16,7 @@ use Rattle.show_plan.specs.declared.fitted.PlanFault.TheVariants as fault
 use Rattle.show_plan.specs.Separation.{blocked_at, blocked_in, blocked_part, direction_at, slots_of}
 use Rattle.show_cli.specs.Steps.{IsFaultAmong}
 
--- both drones of the slot are among so many
+-- both drones of the slot are among this many
 abbrev pub IsAmong : ℕ → Slot → Type 0
 IsAmong n s = (s.a < n) × (s.b < n)
 
@@ -34,7 +34,7 @@ drones_among zero n cues a q = All-nil (IsAmong n)
 drones_among (suc k) n cues a q =
     All-append (IsAmong n) (pairs_from k cues a (suc a)) (drones_from k cues (suc a)) (pairs_among k n cues a (suc a) (omega arith) (omega arith)) (drones_among k n cues (suc a) (omega arith))
 
--- the slots of so many drones name these alone
+-- the slots of this many drones name these alone
 pub slots_among : (n cues : ℕ) → All (IsAmong n) (slots n cues)
 unfolding slots
 slots_among n cues = drones_among n n cues 0 (omega arith)

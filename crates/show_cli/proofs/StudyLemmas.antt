@@ -79,7 +79,7 @@ judge_one c r h depth regions (Enters region drone cue index) (Enters region2 dr
 pub regions_given_one : (given : Result (List Region) ℕ) (regions others : List Region) → given ≡ Ok regions → given ≡ Ok others → regions ≡ others
 regions_given_one given regions others first second = cc
 
--- a text of regions comes to one outcome
+-- a text of regions gives one outcome
 pub regions_one : (refused : Option Refusal) (s : PlainShow) (depth : ℕ) (cut : Cut) (o p : Outcome) → RegionsGive refused s depth cut o → RegionsGive refused s depth cut p → o ≡ p
 regions_one (Some r) s depth cut o p first second = first ∙ sym second
 regions_one None s depth cut o p (regions, j, reads, judges, ends) (others, k, reads_others, judges_others, ends_others) =

@@ -28,7 +28,7 @@ refusal_is text short = by_test (nat_lt show_limit (length text)) refl
 pub stands_unrefused : ShowLaw → (text : List ℕ) (s : PlainShow) → length text ≤ show_limit → StandsFor text s → text_refusal text ≡ None
 stands_unrefused law text s short stands = refusal_is text short ∙ ap (option_map faulty) ((law.faultless text).0 (s, stands))
 
--- what comes to nothing is said by nothing
+-- what gives nothing is said by nothing
 pub none_said : (c : Command) (r : Option Refusal) (o : Outcome) → r ≡ None → option_map (said c) r ≡ Some o → ⊥
 none_said c None o is said = absurd (cc)
 none_said c (Some r) o is said = absurd (cc)

@@ -1,4 +1,4 @@
--- What the program answers, as an outcome.
+-- What the program gives, as an outcome.
 use Rattle.std.specs.Prelude.{◌≡◌, ◌⊎◌, ℕ, ◌≤◌, false, List, [], Option, Some, None, Result, Ok, Err, IfOk, IfSome, length}
 use Rattle.std.specs.Io.KnownBytes.{Appends}
 use Rattle.std.specs.declared.alloc.AllocError.{AllocError}
@@ -109,7 +109,7 @@ abbrev pub EndsJudged : Command → Text → Judged → Type 0
 EndsJudged c text (judged.Accepted a) = IsWholeText text × ((ways_of c).has_second ≡ false → IsUnmarked text)
 EndsJudged c text (judged.Refused r) = Unit {0}
 
--- ---- what a command answers
+-- ---- what a command gives
 
 -- for a show's text
 pub record AnswersText (c : Command) (text : Text) (result : Result Answer AllocError) : Type 0 where

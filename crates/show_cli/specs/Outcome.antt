@@ -1,4 +1,4 @@
--- What the program comes to on an input: the status that it ends with, and what it writes.
+-- What the program gives on an input: the status that it ends with, and what it writes.
 use Rattle.std.specs.Prelude.{◌≡◌, ◌⊎◌, ℕ, ◌≤◌, Bool, true, false, List, length, Option, Some, None, Ok, if◌then◌else◌}
 use Rattle.std.specs.List.{All}
 use Rattle.std.specs.Option.{option_map}
@@ -62,7 +62,7 @@ pub record Outcome : Type 0 where
 abbrev pub outcome : ℕ → List ℕ → Outcome
 outcome status output = record { status = status; output = output }
 
--- a refusal comes to its status and its line
+-- a refusal gives its status and its line
 abbrev pub refused : Refusal → Outcome
 refused r = outcome (status_of r) (line_of r)
 
@@ -72,16 +72,16 @@ said c r = if (ways_of c).by_frames then outcome (status_of r) (end_frame (statu
 
 -- ---- certificates
 
--- what a certificate comes to that has this first fault, or none
+-- what a certificate gives that has this first fault, or none
 abbrev pub judged : List Name → Certificate → Option CertFault → Outcome
 judged names c None = outcome 0 (valid_line c.depth (length c.trees))
 judged names c (Some fault) = refused (not_valid names c.version fault)
 
--- what a certificate comes to for the trajectories of a show
+-- what a certificate gives for the trajectories of a show
 abbrev pub judged_for : PlainShow → Certificate → Outcome
 judged_for s c = judged (names_of s) c (fault_of (table_of c.version) (raised_of (trajectories_of s)) s.settings.r s.settings.h c)
 
--- a certificate's text comes to its refusal, or to what the certificate comes to that it says
+-- a certificate's text gives its refusal, or what the certificate gives that it says
 abbrev pub CertificateGives : Option Refusal → PlainShow → Cut → Outcome → Type 0
 CertificateGives (Some r) s cut o = o ≡ refused r
 CertificateGives None s cut o = (c : Certificate) × Says cut.second c × (o ≡ judged_for s c)
@@ -100,7 +100,7 @@ abbrev pub Rehearses : PlainShow → Bool → List WorldEvent → Outcome → Ty
 Rehearses s start events o =
     RehearsalEnds (progress (session_of s start) (rehearsed (session_of s start) events).heard) s (rehearsed (session_of s start) events) o
 
--- a schedule's text comes to its refusal, or to what its events come to
+-- a schedule's text gives its refusal, or what its events give
 abbrev pub ScheduleGives : Option Refusal → PlainShow → Bool → Cut → Outcome → Type 0
 ScheduleGives (Some r) s start cut o = o ≡ refused r
 ScheduleGives None s start cut o = (events : List WorldEvent) × (schedule_of (words_of s) cut.second ≡ Ok events) × Rehearses s start events o
@@ -121,13 +121,13 @@ CarefullyRehearses s start events o =
     CarefulRehearsalEnds (careful_progress (session_of s false) start (careful_rehearsed (session_of s false) start events).heard) s
     (careful_rehearsed (session_of s false) start events) o
 
--- a schedule's text comes to its refusal, or to what its events come to with read-back
+-- a schedule's text gives its refusal, or what its events give with read-back
 abbrev pub CarefulScheduleGives : Option Refusal → PlainShow → Bool → Cut → Outcome → Type 0
 CarefulScheduleGives (Some r) s start cut o = o ≡ refused r
 CarefulScheduleGives None s start cut o =
     (events : List CarefulEvent) × (careful_schedule_of (words_of s) cut.second ≡ Ok events) × CarefullyRehearses s start events o
 
--- what a schedule's text comes to, with read-back (true) or without
+-- what a schedule's text gives, with read-back (true) or without
 abbrev pub RehearseGives : Bool → PlainShow → Bool → Cut → Outcome → Type 0
 RehearseGives false s start cut o = ScheduleGives (second_refusal schedule_limit (faulty_event (schedule_of (words_of s) cut.second)) cut) s start cut o
 RehearseGives true s start cut o =
@@ -135,12 +135,12 @@ RehearseGives true s start cut o =
 
 -- ---- regions, speeds and explanations
 
--- how `boxes` ends, by how the drones are judged for so many regions
+-- how `boxes` ends, by how the drones are judged for this many regions
 abbrev pub regions_end : List Name → ℕ → ℕ → Judged → Outcome
 regions_end names depth regions Kept = outcome 0 (kept_line regions)
 regions_end names depth regions (Enters region drone cue index) = refused (refusal.Enters region (name_at names drone) cue index depth)
 
--- what a text of regions comes to: its refusal, or how the drones are judged for its regions
+-- what a text of regions gives: its refusal, or how the drones are judged for its regions
 abbrev pub RegionsGive : Option Refusal → PlainShow → ℕ → Cut → Outcome → Type 0
 RegionsGive (Some r) s depth cut o = o ≡ refused r
 RegionsGive None s depth cut o =
@@ -148,14 +148,14 @@ RegionsGive None s depth cut o =
     × JudgeGives (raised_of (trajectories_of s)) s.settings.r s.settings.h depth regions j
     × (o ≡ regions_end (names_of s) depth (length regions) j)
 
--- a speed that is too high comes to its refusal, and else all speeds are written
+-- a speed that is too high gives its refusal, and else all speeds are written
 abbrev pub speeds_end : Option Refusal → List ℕ → Outcome
 speeds_end (Some r) text = refused r
 speeds_end None text = outcome 0 text
 
 -- ---- the outcome
 
--- What a command answers for a show that nothing refuses. `help` judges no show.
+-- What a command gives for a show that nothing refuses. `help` judges no show.
 abbrev pub Gives : Command → PlainShow → Cut → Outcome → Type 0
 Gives Help s cut o = o ≡ outcome 0 help_text
 Gives (Check depth) s cut o = o ≡ outcome 0 (ok_line (length s.drones) (cues_in s) (duration_of s))
@@ -171,19 +171,19 @@ Gives (Boxes depth) s cut o = RegionsGive (second_refusal region_limit (faulty_r
 Gives (Speed depth limit) s cut o = o ≡ speeds_end (too_fast limit depth s) (speed_text depth (sent_of s) (names_of s))
 Gives (Explain depth fine) s cut o = (o.status ≡ 0) × Explains depth fine s o.output
 
--- what a show comes to: its first refusal, or else what the command answers
+-- what a show gives: its first refusal, or else what the command gives
 abbrev pub ShowGives : Command → Option Refusal → PlainShow → Cut → Outcome → Type 0
 ShowGives c (Some r) s cut o = o ≡ said c r
 ShowGives c None s cut o = Gives c s cut o
 
--- The show's text stands for this show, and it comes to this outcome.
+-- The show's text stands for this show, and it gives this outcome.
 pub record ShowComesTo (c : Command) (cut : Cut) (o : Outcome) : Type 0 where
   pub s : PlainShow
   pub short : length cut.show ≤ show_limit
   pub stands : StandsFor cut.show s
   pub gives : ShowGives c (show_refusal c cut s) s cut o
 
--- The outcome of a command on an input that is cut so: the show's text is refused, or it stands for a show, which comes to it.
+-- The outcome of a command on an input that is cut so: the show's text is refused, or it stands for a show, which gives it.
 abbrev pub IsOutcomeOf : Command → Cut → Outcome → Type 0
 IsOutcomeOf c cut o = (option_map (said c) (text_refusal cut.show) ≡ Some o) ⊎ ShowComesTo c cut o
 
@@ -215,12 +215,12 @@ IsOutcome c input o = IsOutcomeFor c (judged_text c input) o
 abbrev pub LandsWhereAccepted : Command → Cut → Type 0
 LandsWhereAccepted c cut = (s : PlainShow) → StandsFor cut.show s → show_refusal c cut s ≡ None → Lands (grid_of s) s.settings (sent_of s)
 
--- a show of this text that the command accepts comes to an outcome; `run` says so of each that it accepts
+-- a show of this text that the command accepts gives an outcome; `run` says so of each that it accepts
 abbrev pub EndsWhereAccepted : Command → Cut → Type 0
 EndsWhereAccepted c cut = (s : PlainShow) → StandsFor cut.show s → show_refusal c cut s ≡ None → (o : Outcome) × Gives c s cut o
 
--- An input comes to one outcome alone, and to one; with `rehearse` where the show that it accepts lands, with `explain` and
--- `rehearse --readback` where it comes to an outcome. An input that lacks nothing comes to status 0.
+-- An input gives one outcome, and no other; with `rehearse` where the show that it accepts lands, with `explain` and
+-- `rehearse --readback` where it gives an outcome. An input that lacks nothing gives status 0.
 pub record OutcomeLaw : Type 0 where
   pub one : (c : Command) (cut : Cut) (o p : Outcome) → IsOutcomeOf c cut o → IsOutcomeOf c cut p → o ≡ p
   pub some : (c : Command) (cut : Cut) → ((depth : ℕ) (start readback : Bool) → c ≡ Rehearse depth start readback → LandsWhereAccepted c cut) →
@@ -260,7 +260,7 @@ Promises (Speed depth limit) s cut = All (KeepsBounds limit depth) (sent_of s)
 Promises (Explain depth fine) s cut = blocked_of depth s ≡ None → FlyApart s.settings (sent_of s)
 
 -- The show's text stands for a show, and what its drones are sent keeps near to it at every instant, and to what the command promises of it;
--- nothing refuses the show, and this outcome, of status 0, is what the command answers for it.
+-- nothing refuses the show, and this outcome, of status 0, is what the command gives for it.
 pub record IsSafe (c : Command) (cut : Cut) (o : Outcome) : Type 0 where
   pub s : PlainShow
   pub stands : StandsFor cut.show s

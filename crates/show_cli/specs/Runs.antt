@@ -1,4 +1,4 @@
--- What a run answers, reads and writes.
+-- What a run ends with, reads and writes.
 use Rattle.std.specs.Prelude.{◌≡◌, ◌≢◌, ◌⊎◌, ℕ, ◌+◌, ◌<◌, ◌≤◌, Bool, true, false, List, [], ◌∷◌, ◌++◌, Contains, length, map, string_bytes, Option, Some, None, String, IfSome, if◌then◌else◌}
 use Rattle.std.specs.Io.KnownBytes.{Appends}
 use Rattle.std.specs.declared.alloc.Global.{Global}
@@ -119,7 +119,7 @@ UploadsPromptly c start readback r =
     (taken sent : List ℕ) → Carried r taken sent → has_whole_marker taken ≡ true →
     (s : PlainShow) → StandsFor (part_of taken) s → show_refusal c (cut_of taken) s ≡ None → IsPrompt (link_in s start readback) (rest_of taken) sent
 
--- the other commands answer once, at their end, or write rows and read nothing meanwhile
+-- the other commands write once, at their end, or write rows and read nothing meanwhile
 abbrev pub AnswersPromptly : Command → Run → Type 0
 AnswersPromptly Help r = Unit {0}
 AnswersPromptly (Check depth) r = Unit {0}
@@ -142,7 +142,7 @@ pub record Runs (c : Command) (r : Run) (status : ℕ) : Type 0 where
   pub outcome : IsJudged status → IfSome (told c r) (λ input. (o : Outcome) × IsOutcome c input o × (status ≡ o.status) × Appends r.written r.written_after o.output)
   -- With no fault counted the outcome of the input, of which there is one alone, is what comes, whole; or 1, out of memory.
   pub exact : IsQuiet r → IfSome (told c r) (λ input. (o : Outcome) → IsOutcome c input o → ((status ≡ o.status) × Appends r.written r.written_after o.output) ⊎ (status ≡ 1))
-  -- 0: the show is safe, and what the command answers for it was written; the input was read to its end.
+  -- 0: the show is safe, and what the command gives for it was written; the input was read to its end.
   pub safe : status ≡ 0 → IfSome (told c r) (λ input. (o : Outcome) × IsSafeOutcome c input o × Appends r.written r.written_after o.output)
   pub whole : status ≡ 0 → reads_all c ≡ true → IfSome r.left (λ _. r.left_after ≡ Some [])
   -- 1: out of memory, and nothing was written.

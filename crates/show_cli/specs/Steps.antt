@@ -62,7 +62,7 @@ pub record EndsRegions (s : PlainShow) (depth : ℕ) (regions : List Region) (o 
   pub gives : JudgeGives (raised_of (trajectories_of s)) s.settings.r s.settings.h depth regions judged
   pub is : o ≡ regions_end (names_of s) depth (length regions) judged
 
--- a part that is blocked names drones among so many; no other fault is one of separation
+-- a part that is blocked names drones among this many; no other fault is one of separation
 abbrev pub IsBlockedAmong : ℕ → Option PlanFault → Type 0
 IsBlockedAmong drones None = Unit {0}
 IsBlockedAmong drones (Some (fault.Blocked a b cue index)) = (a < drones) × (b < drones)
@@ -72,7 +72,7 @@ IsBlockedAmong drones (Some (fault.TooManySegments drone segments)) = ⊥
 IsBlockedAmong drones (Some (fault.TooLong drone bytes room)) = ⊥
 IsBlockedAmong drones (Some fault.Memory) = ⊥
 
--- both drones of an instant are among so many
+-- both drones of an instant are among this many
 abbrev pub IsSiteAmong : ℕ → Touch → Type 0
 IsSiteAmong drones site = (site.a < drones) × (site.b < drones)
 

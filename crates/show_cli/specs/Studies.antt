@@ -94,7 +94,7 @@ abbrev pub nearest_line : List Name → ℕ → Option Closest → List ℕ
 nearest_line names fine None = []
 nearest_line names fine (Some closest) = closest_line (word_at names) fine closest
 
--- the last line: where two drones touch first, or that none do at so many instants
+-- the last line: where two drones touch first, or that none do at this many instants
 abbrev pub contact_line : List Name → ℕ → ℕ → Option Touch → List ℕ
 contact_line names cues fine None = no_touch_line cues fine
 contact_line names cues fine (Some touch) = touch_line (word_at names) fine touch

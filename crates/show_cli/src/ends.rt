@@ -1,4 +1,4 @@
-//! How a run ends: what it answers, and how that is written.
+//! How a run ends: what it gives, and how that is written.
 ghost use Rattle.std.specs.Prelude.{◌≡◌, Err, IfOk};
 ghost use Rattle.refusals.specs.Refusals.{IsSayable, line_of, status_of};
 ghost use Rattle.show_cli.specs.Answers.{IsSaid, Responds, Wrote, output_of};
@@ -38,7 +38,7 @@ impl Output {
     }
 }
 
-/// What a command answers: an output with status 0, or a refusal with its own status and line.
+/// What a command gives: an output with status 0, or a refusal with its own status and line.
 #[derive(Drop)]
 pub enum Answer {
     Done { output: Output },

@@ -214,7 +214,7 @@ fn listed_instants(cues: u16, fine: u8) -> u64
     u64::from(cues) * (parts(fine) + 1)
 }
 
-// No two drones touch at so many instants.
+// No two drones touch at this many instants.
 fn put_no_touch(text: &mut Lines, cues: u16, fine: u8) -> Result<(), AllocError>
     requires fresh { is_line_empty text.old ≡ true }
     requires fine { fine ≤ 5 }

@@ -22,7 +22,7 @@ pub fn ok_line(drones: u8, cues: u16, ms: u32) -> ShortLine
     line
 }
 
-/// What is said of a show whose drones keep to so many regions.
+/// What is said of a show whose drones keep to this many regions.
 #[tactic(auto, using(fleet_io::proofs::WordLaws::word_adds, fleet_io::proofs::WordLaws::number_adds))]
 pub fn kept_line(regions: u8) -> ShortLine
     ensures { result ≡ kept_line regions }

@@ -1,7 +1,7 @@
 //! The program: it checks, compiles, certifies, plays and reports choreographies of drones, verifies their certificates, and
 //! rehearses and carries their uploads.
 //!
-//! `run` (in `top`) is the program over any source and any sink, and has its contract: what each command answers stands in
+//! `run` (in `top`) is the program over any source and any sink, and has its contract: what each command gives stands in
 //! `specs/Outcome.antt`, what a run reads and writes in `specs/Runs.antt`. Each command is a function over source and sink in a
 //! file of its own under `commands`. `main` is the trusted edge: it hands in the words and standard input and output, and
 //! ends with the status.

@@ -6,7 +6,7 @@ use link_upload::upload_law;
 use memory_curves::curve_law;
 use sep_certificate::{certificate_law, text_law};
 
-/// A law. A command comes to one outcome alone on each input, and to one; and where the input lacks nothing, that has status 0
+/// A law. A command has exactly one outcome on each input; and where the input lacks nothing, that has status 0
 /// (`specs/Outcome.antt`).
 pub fn outcome_law()
     ensures { OutcomeLaw }

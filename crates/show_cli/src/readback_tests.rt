@@ -1,4 +1,4 @@
-//! Rehearsals and uploads with read-back over memory, with answers that are known from outside: the frames were written out by
+//! Rehearsals and uploads with read-back over memory, with results that are known from outside: the frames were written out by
 //! hand from docs/RADIO.md, "Read-back".
 use crate::tests::{FINE, SHOW, answer};
 use crate::upload_tests::FIRST;

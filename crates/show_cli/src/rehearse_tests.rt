@@ -1,4 +1,4 @@
-//! Rehearsals of the smallest path over memory, with answers that are known from outside.
+//! Rehearsals of the smallest path over memory, with results that are known from outside.
 use crate::commands::rehearse::rehearse;
 use fleet_io::{MemSink, MemSource};
 use std::alloc::{AllocError, Global};
@@ -21,7 +21,7 @@ const TURNED: &[u8] =
     b"%%\ntake solo 2\ntake solo 1\ntake solo 1\nhear solo 1\nhear solo 1\nhear solo 2\n\
 take solo 3\nhear solo 4\n";
 
-// The answer of a rehearsal at depth 6, with starts or without: its status, and the sink with what was written. The
+// The result of a rehearsal at depth 6, with starts or without: its status, and the sink with what was written. The
 // read of this number fails, which counts from 1; none where it is 0.
 fn answer(
     alloc: Global,

@@ -1,4 +1,4 @@
-//! Runs of `boxes`, `speed` and `explain`, with answers that are known from outside.
+//! Runs of `boxes`, `speed` and `explain`, with results that are known from outside.
 use crate::tests::{APART, CROSSING, FINE, MARKER, Manner, SHOW, WITHOUT_ROOM, answer, is_met};
 use std::alloc::{AllocError, Global};
 use std::test::Fail;

@@ -1,4 +1,4 @@
-//! Runs of the whole program over memory, with answers that are known from outside.
+//! Runs of the whole program over memory, with results that are known from outside.
 use crate::top::{run, run_surely};
 use fleet_io::{MemSink, MemSource, SureSink, SureSource};
 use std::alloc::{AllocError, Global};
@@ -94,7 +94,7 @@ pub fn answer(
     Ok((status, sink))
 }
 
-// Whether a run answers this.
+// Whether a run gives this.
 pub fn is_met(
     alloc: Global,
     words: &[&str],

@@ -79,7 +79,7 @@ pub fn run<S: Source, K: Sink>(
     ensures two { result ≡ 2 → (command_in words.now.items ≡ None) × Appends (K.written sink.old) (K.written sink.new) usage_line }
     ensures usage_failed { command_in words.now.items ≡ None → result ≡ 7 → Rose (K.faults sink.old) (K.faults sink.new) × AppendsFront (K.written sink.old) (K.written sink.new) usage_line }
 
-    // The words are a command: what it answers, reads and writes. The fields of `Runs` say it one by one (`specs/Runs.antt`).
+    // The words are a command: what it gives, reads and writes. The fields of `Runs` say it one by one (`specs/Runs.antt`).
     ensures runs { (c : Command) → command_in words.now.items ≡ Some c
         → Runs c (run_of (S.left source.old) (S.left source.new) (S.faults source.old) (S.faults source.new) (K.written sink.old) (K.written sink.new) (K.faults sink.old) (K.faults sink.new)) result }
 

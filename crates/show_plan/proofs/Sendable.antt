@@ -59,7 +59,7 @@ row_holds rows k row items within is items_are all =
     subst (All RoundsWell) (sym (row_at rows k row items within is items_are))
     (All-get_or (All RoundsWell) (map items_of rows) k items (omega (arith, as_many rows, within)) all)
 
--- one trajectory more, as the code puts it behind the others
+-- one trajectory more, as the code puts it after the others
 pub trajectory_next : (ts more : List Traj) (starts : List DroneLine) (rows : List (Vec MicroPiece Global)) (k : ℕ) (s : DroneLine) (row : List MicroPiece) (t : Traj) →
     k < length starts → length rows ≡ length starts → row ≡ get_or (map items_of rows) k row → t ≡ trajectory_of (get_or starts k s).at row → more ≡ ts ++ t ∷ [] →
     more ++ trajectories_of (drop (k + 1) starts) (drop (k + 1) (map items_of rows)) ≡ ts ++ trajectories_of (drop k starts) (drop k (map items_of rows))

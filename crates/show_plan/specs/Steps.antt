@@ -36,7 +36,7 @@ plan_fault search.Memory = fault.Memory
 
 -- ---- packets
 
--- the session of one drone, with its start: where the show's settings say, these bytes of so many segments
+-- the session of one drone, with its start: where the show's settings say, these bytes of this many segments
 abbrev pub alone : Settings → List ℕ → ℕ → Upload
 alone e bytes pieces = record {
   memory_id = e.memory_id;

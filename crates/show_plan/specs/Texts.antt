@@ -17,7 +17,7 @@ sent_bytes t = spelling t ++ ending
 abbrev pub head_line : List ℕ
 head_line = line (codes "plan") (codes "1" ∷ [])
 
--- a drone of this name, whose trajectory has so many segments and is sent as these bytes
+-- a drone of this name, whose trajectory has this many segments and is sent as these bytes
 abbrev pub drone_line : List ℕ → List ℕ → ℕ → List ℕ
 drone_line name bytes pieces = line (codes "drone") (name ∷ codes "bytes" ∷ decimal (length bytes) ∷ codes "pieces" ∷ decimal pieces ∷ [])
 

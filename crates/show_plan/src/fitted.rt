@@ -34,7 +34,7 @@ pub enum PlanFault {
     Expand { fault: ExpandFault },
     /// The first drone, from 0, whose trajectory has more segments than a drone's memory can hold, its holds joined.
     TooManySegments { drone: u8, segments: u32 },
-    /// The first drone, from 0, whose trajectory has more bytes than a drone's memory has room for behind the offset.
+    /// The first drone, from 0, whose trajectory has more bytes than a drone's memory has room for after the offset.
     TooLong { drone: u8, bytes: u32, room: u32 },
     /// The first part of a cue in which no direction separates two drones, in the order pair, cue, part, all counted from 0: part
     /// `index` of as many equal parts as the depth gives.

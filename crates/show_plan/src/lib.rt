@@ -1,11 +1,11 @@
 //! The plan of a show: from what a show says to the text that says the bytes of its trajectories.
 //!
-//! `fit` answers the trajectories of a show and their bytes, or the first reason why the show has no plan. What it answers is
+//! `fit` returns the trajectories of a show and their bytes, or the first reason why the show has no plan. What it returns is
 //! pinned by `specs/Fitting.antt`: the trajectories are the rounded ones (`specs/Trajectories.antt`), the bytes are their
 //! spelling by `traj_codec` (docs/TRAJECTORY.md). At every instant, also between whole milliseconds, what a trajectory decodes
 //! to is within half a millimetre of what the show says, and the yaw is equal (`specs/Flight.antt`).
 //!
-//! `certificate` answers what keeps the drones of a show that fits apart, or the first part of a cue in which no direction
+//! `certificate` returns what keeps the drones of a show that fits apart, or the first part of a cue in which no direction
 //! separates two of them (`specs/Separation.antt`); `separation_law` says what that first part is (`specs/Laws.antt`).
 //!
 //! `plan_text` returns the text with each drone's bytes and the packets that bring them, byte by byte that of `specs/Texts.antt`.

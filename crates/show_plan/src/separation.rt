@@ -111,7 +111,7 @@ pub fn certificate(alloc: Global, f: &Fitted, depth: u8) -> Result<Certificate, 
     })
 }
 
-/// How many nodes the certificate of a show that fits has: what [`certificate`] would answer, counted and not kept. Conditions and
+/// How many nodes the certificate of a show that fits has: what [`certificate`] would return, counted and not kept. Conditions and
 /// refusals are those of [`certificate`], and so is its promise: where it is Ok, any two drones are apart at each instant of the show.
 pub fn count_nodes(alloc: Global, f: &Fitted, depth: u8) -> Result<u32, PlanFault>
     requires valid { IsValidFitted f.now }

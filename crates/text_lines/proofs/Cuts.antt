@@ -1,4 +1,4 @@
--- The first piece of bytes that are cut, and what stands behind it.
+-- The first piece of bytes that are cut, and what stands after it.
 use Rattle.std.proofs.Common.{◌≡◌, ℕ, ◌+◌, ◌<◌, ◌≤◌, Bool, true, false, cond, ltb, List, [], ◌∷◌, ◌++◌, length, take, drop, refl, sym, ap, ◌∙◌, append_assoc, append-nil, Option, Some, None, inl, inr, arith}
 use Rattle.std.specs.Prelude.{unwrap_or, not}
 use Rattle.std.proofs.lemmas.Bool.{cases_lt, lt-ltb, le-ltb, false_from_ne_true}
@@ -77,7 +77,7 @@ line_last n xs is all some = ap without_empty_end (cut_none is_line_feed n xs is
 
 -- ---- words
 
--- a word, and those behind the blank that ends it
+-- a word, and those after the blank that ends it
 pub word_more : (line at n : ℕ) (xs : List ℕ) (old new total : List Token) → n ≡ position_or_len is_blank xs → n < length xs → new ≡ old ++ word_token line at n → old ++ line_tokens line at xs ≡ total → new ++ line_tokens line (at + (n + 1)) (drop (n + 1) xs) ≡ total
 word_more line at n xs old new total is lt made so_far =
     let size : length (take n xs) ≡ n = omega (arith, length-take n xs) in

@@ -7,7 +7,7 @@ use Rattle.text_lines.specs.declared.number.NumberFault.TheVariants.{NotANumber,
 abbrev pub is_digit : ℕ → Bool
 is_digit b = nat_le 48 b && nat_le b 57
 
--- the number whose digits stand behind those of n
+-- the number whose digits stand after those of n
 abbrev pub digits_after : ℕ → List ℕ → Option ℕ
 digits_after n [] = Some n
 digits_after n (d ∷ ds) = if is_digit d then digits_after (10 * n + (d - 48)) ds else None

@@ -6,7 +6,7 @@ use Rattle.text_lines.specs.declared.token.Token.{Token}
 use Rattle.text_lines.specs.Lines.{lines_of}
 use Rattle.text_lines.specs.Words.{is_blank, visible, Line}
 
--- a word of so many bytes at a place; no bytes are no word
+-- a word of this many bytes at a place; no bytes are no word
 abbrev pub word_token : ℕ → ℕ → ℕ → List Token
 word_token line start zero = []
 word_token line start (suc len) = record { line = line; start = start; «end» = start + suc len } ∷ []

@@ -14,7 +14,7 @@ pub fn len_before(bytes: &[u8], end: u8) -> usize
     memchr(end, bytes).unwrap_or(bytes.len())
 }
 
-/// The first line of a text without its line feed, and what stands behind that. An empty text has no line.
+/// The first line of a text without its line feed, and what stands after that. An empty text has no line.
 pub fn split_line(text: &[u8]) -> Option<(&[u8], &[u8])>
     requires { length text.now < 2 ^ 60 }
     ensures { MatchOption result (lines_of text.now ≡ []) (λ cut.

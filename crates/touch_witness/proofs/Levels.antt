@@ -60,7 +60,7 @@ right_from r h fine r_some h_some =
     from : (k m : ℕ) → 4 ≤ k → pos (4 * m) ≤ℤ (pos k *ℤ pos m)
     from k m some = omega (arith, ints, mul-le 4 m k m some (omega arith))
 
--- the left side is at most so many times the right side
+-- the left side is at most this many times the right side
 pub left_near : (r h fine : ℕ) (p q : Point) → 1 ≤ r → r ≤ 2000 → 1 ≤ h → h ≤ 2000 → IsNear fine p → IsNear fine q → left_side r h p q ≤ℤ (pos most_ratio *ℤ right_side r h fine)
 unfolding left_side
 left_near r h fine p q r_some r_few h_some h_few first second =
@@ -99,7 +99,7 @@ level_high n x y x_some y_some high =
 some_told : (y : ℤ) → IsIn (pos 1) (pos (2 ^ 116)) y → pos 0 ≤ℤ y
 some_told y inside = omega (arith, ints, inside.0)
 
--- the best behind the last cue is the closest
+-- the best after the last cue is the closest
 pub closest_told : (trajs items : List Traj) (r h fine cue level : ℕ) (s : Best) (t0 : Traj) (segments : List Segment) (right : ℤ) → trajs ≡ items → t0 ≡ get_or trajs 0 t0 → segments ≡ t0.segments → 1 ≤ length trajs →
     length segments ≤ cue → IsBest trajs r h fine cue 0 s → right ≡ right_side r h fine → IsIn (pos 1) (pos (2 ^ 116)) right →
     level * unsigned_abs right ≤ 1000 * unsigned_abs s.left → 1000 * unsigned_abs s.left < (level + 1) * unsigned_abs right →

@@ -86,7 +86,7 @@ same_before start pieces cue c d formed inside =
     ∙ mul_left_comm_ℤ (power (pos d) 7) (power (pos c) 7) (at (points start pieces cue) (length (points start pieces cue) - 1))
     ∙ ap (λ (z : ℤ). power (pos c) 7 *ℤ z) (sym (decoded-at_end start pieces cue d formed (omega arith)))
 
--- the end of a piece and the beginning of the one behind it
+-- the end of a piece and the beginning of the one after it
 same_behind : (start : ℤ) (pieces : List Piece) (cue c d : ℕ) → All IsPiece pieces → suc cue < length pieces →
     Same (power (pos c) 7) (decoded start pieces (record { cue = cue; a = c; c = c })) (power (pos d) 7) (decoded start pieces (record { cue = suc cue; a = 0; c = d }))
 same_behind start pieces cue c d formed inside = sym (same_before start pieces cue d c formed inside)

@@ -40,7 +40,7 @@ no_fault bytes pieces t used b =
     }) in
     start_whole bytes pieces room ∙ ap (λ (n : ℕ). segments_fault bytes n 8) (sym b.many) ∙ segments
 
--- a start and the segments behind it are a trajectory
+-- a start and the segments after it are a trajectory
 pub decoded_is : (bytes : List ℕ) (pieces next used : ℕ) (start : List ℤ) (segments : List Segment) → length start ≡ 4 → NumbersStand bytes 0 next start →
     SegmentsStand bytes next segments used → length segments ≡ pieces → BeginsWith bytes pieces (record { start = start; segments = segments }) used
 decoded_is bytes pieces next used start segments four s p many =

@@ -94,7 +94,7 @@ before_any : (s : Segment) → is_hold s ≡ false → (groups : List (List Segm
 before_any s is [] greedy = tt
 before_any s is (k ∷ rest) greedy = ((λ here there. absurd (not_held s is here)), greedy)
 
--- ---- behind the holds in front
+-- ---- after the holds in front
 behind : (front : List Segment) (held : ℕ) (s : Segment) (rest later : List Segment) → IsFront front held → is_hold s ≡ false →
     Groups [] rest later → Groups front (s ∷ rest) (put_held held (s ∷ later))
 behind [] held s rest later is plain g =

@@ -110,7 +110,7 @@ as_hold : (axis t0 : ℕ) (v : ℤ) (s : Segment) (rest : List Segment) (p q : �
     reached axis t0 v (hold s.ms ∷ rest) p q ≡ reached axis t0 v (s ∷ rest) p q
 as_hold axis t0 v s rest p q e = reached_hold axis t0 v (hold s.ms) rest p q refl ∙ sym (reached_hold axis t0 v s rest p q e)
 
--- ---- the same behind one segment
+-- ---- the same after one segment
 behind : (axis t0 : ℕ) (v : ℤ) (s : Segment) (xs ys : List Segment) (p q : ℕ) →
     IsSame (reached axis (t0 + s.ms) (value_after v (element_on s axis)) xs p q) (reached axis (t0 + s.ms) (value_after v (element_on s axis)) ys p q) →
     IsSame (reached axis t0 v (s ∷ xs) p q) (reached axis t0 v (s ∷ ys) p q)
@@ -120,7 +120,7 @@ behind axis t0 v s xs ys p q same = go (nat_le p (q * (t0 + s.ms))) _ _ _ same
     go true here f g same = inl refl
     go false here f g same = same
 
--- behind a hold the value is as before
+-- after a hold the value is as before
 behind_hold : (axis t0 : ℕ) (v : ℤ) (ms : ℕ) (xs ys : List Segment) (p q : ℕ) →
     IsSame (reached axis (t0 + ms) v xs p q) (reached axis (t0 + ms) v ys p q) →
     IsSame (reached axis t0 v (hold ms ∷ xs) p q) (reached axis t0 v (hold ms ∷ ys) p q)
@@ -163,7 +163,7 @@ one_for_two axis t0 v m n rest p q =
 
 -- ---- the fold
 module _ (axis p q : ℕ) where
-  -- holds in front, the same behind them
+  -- holds in front, the same after them
   put_same : (held t0 : ℕ) (v : ℤ) (xs ys : List Segment) → IsSame (reached axis (t0 + held) v xs p q) (reached axis (t0 + held) v ys p q) →
       IsSame (reached axis t0 v (put_held held xs) p q) (reached axis t0 v (put_held held ys) p q)
   put_same zero t0 v xs ys same = let e : t0 + 0 ≡ t0 = omega arith in subst (λ (t : ℕ). IsSame (reached axis t v xs p q) (reached axis t v ys p q)) e same

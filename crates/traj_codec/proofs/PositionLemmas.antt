@@ -26,7 +26,7 @@ pub value_after_seven : (first : ℤ) (v : List ℤ) → length v ≡ 7 → valu
 value_after_seven first [] many = absurd (omega arith)
 value_after_seven first (z ∷ zs) many = let e : length zs ≡ 6 = omega arith in last_is first z zs ∙ ap (λ (k : ℕ). at (z ∷ zs) k) e
 
--- the control points of the first segment, and of those behind it
+-- the control points of the first segment, and of those after it
 pub points_from-cons : (first : ℤ) (axis : ℕ) (s : Segment) (rest : List Segment) →
     points_from first (map (piece_on axis) (s ∷ rest)) ≡ (first ∷ stored (element_on s axis)) ∷ points_from (value_after first (element_on s axis)) (map (piece_on axis) rest)
 points_from-cons first axis s rest = refl

@@ -1,4 +1,4 @@
--- What stands in bytes, one thing behind another, and the first fault among fields.
+-- What stands in bytes, one thing after another, and the first fault among fields.
 use Rattle.std.proofs.Common.{◌≡◌, ℕ, zero, suc, ◌+◌, ◌*◌, ◌/◌, ◌%◌, ◌^◌, ◌<◌, ◌≤◌, List, [], ◌∷◌, ◌++◌, length, get_or, slice_index, drop, ◌==◌, if◌then◌else◌, Option, Some, None, Err, refl, sym, ap, subst, ◌∙◌, append_assoc, length-append, length-drop, arith}
 use Rattle.std.specs.Option.{option_or}
 use Rattle.std.specs.List.{flat_map, All}
@@ -19,7 +19,7 @@ use Rattle.traj_codec.specs.Reading.{Spans, ElementStands, SegmentsStand, Segmen
 use Rattle.traj_codec.proofs.Sizes.{length-numbers, length-elements}
 use Rattle.traj_codec.proofs.SpellingLemmas.{kind_small}
 
--- one text behind another
+-- one text after another
 pub spans_on : {bytes : List ℕ} {a b c : ℕ} {s t : List ℕ} → Spans bytes a b s → Spans bytes b c t → Spans bytes a c (s ++ t)
 spans_on {bytes} {a} {b} {c} {s} {t} p q = record {
   within = q.within;
@@ -40,7 +40,7 @@ numbers_whole bytes zero at h = refl
 numbers_whole bytes (suc n) at h =
     ap (λ (f : Option CodecFault). option_or f (numbers_fault bytes n (at + 2))) (field_whole bytes 2 at (omega arith)) ∙ numbers_whole bytes n (at + 2) (omega arith)
 
--- numbers behind others that are whole
+-- numbers after others that are whole
 pub numbers_fault-add : (bytes : List ℕ) (m n at : ℕ) → at + 2 * m ≤ length bytes → numbers_fault bytes (m + n) at ≡ numbers_fault bytes n (at + 2 * m)
 numbers_fault-add bytes zero n at h = ap (λ (k : ℕ). numbers_fault bytes k at) (let e : 0 + n ≡ n = omega arith in e) ∙ ap (λ (k : ℕ). numbers_fault bytes n k) (let e : at ≡ at + 2 * 0 = omega arith in e)
 numbers_fault-add bytes (suc m) n at h =
@@ -51,7 +51,7 @@ numbers_fault-add bytes (suc m) n at h =
     ∙ numbers_fault-add bytes m n (at + 2) (omega arith)
     ∙ ap (λ (k : ℕ). numbers_fault bytes n k) next
 
--- a fault among the first is a fault among all, whatever stands behind
+-- a fault among the first is a fault among all, whatever stands after
 or_more : (f g h : Option CodecFault) (e : CodecFault) → (g ≡ Some e → h ≡ Some e) → option_or f g ≡ Some e → option_or f h ≡ Some e
 or_more None g h e step p = step p
 or_more (Some x) g h e step p = p
@@ -116,7 +116,7 @@ bodies_count (x ∷ y ∷ z ∷ yaw ∷ e ∷ es) many each = absurd (omega arit
 
 -- ---- segments
 
--- two texts, one behind the other, stand each in its place
+-- two texts, one after the other, stand each in its place
 pub spans_split : (bytes : List ℕ) (a c : ℕ) (s t : List ℕ) → a ≤ length bytes → Spans bytes a c (s ++ t) → Spans bytes a (a + length s) s × Spans bytes (a + length s) c t
 spans_split bytes a c s t small p =
     let whole : drop a bytes ≡ s ++ (t ++ drop c bytes) = p.here ∙ append_assoc s t (drop c bytes) in
@@ -136,7 +136,7 @@ header_stands bytes at next s p =
     let place : at + 0 ≡ at = omega arith in
     ap (λ (k : ℕ). get_or bytes k 0) (sym place) ∙ sym (get_or-drop at bytes 0 0) ∙ ap (λ (xs : List ℕ). get_or xs 0 0) p.here
 
--- behind it stands its duration
+-- after it stands its duration
 duration_reads : (bytes : List ℕ) (at next : ℕ) (s : Segment) → s.ms < 2 ^ 16 → Spans bytes at next (segment s) → little_number 2 (drop (at + 1) bytes) ≡ s.ms
 duration_reads bytes at next s small p =
     let behind : drop (at + 1) bytes ≡ little_bytes 2 s.ms ++ (bodies s.elements ++ drop next bytes) =
@@ -176,7 +176,7 @@ segment_whole bytes at next s small is some p =
     ∙ ap (λ (f : Option CodecFault). option_or f (numbers_fault bytes (count_under (slice_index bytes at)) (at + 3))) second
     ∙ third
 
--- the first fault of segments, behind one that stands there
+-- the first fault of segments, after one that stands there
 pub segments_step : (bytes : List ℕ) (at next n : ℕ) (s : Segment) → at ≤ length bytes → IsSegment s → HasDuration s → Spans bytes at next (segment s) →
     segments_fault bytes (suc n) at ≡ segments_fault bytes n next
 segments_step bytes at next n s small is some p =
@@ -206,7 +206,7 @@ segments_more {bytes} {at} {next} {behind} {ss} {s} p q = record {
   spans = subst (λ (xs : List ℕ). Spans bytes at behind xs) (sym (flat_map-append segment ss (s ∷ []))) (spans_on p.spans q.spans);
 }
 
--- the first fault of segments, behind one that stands there alone
+-- the first fault of segments, after one that stands there alone
 pub segment_step : (bytes : List ℕ) (at next n : ℕ) (s : Segment) → at ≤ length bytes → SegmentsStand bytes at (s ∷ []) next → segments_fault bytes (suc n) at ≡ segments_fault bytes n next
 segment_step bytes at next n s small p =
     segments_step bytes at next n s small (All-head IsSegment s [] p.each) (All-head HasDuration s [] p.durations)
@@ -221,7 +221,7 @@ fault_given bytes at pieces (Short place) h = h
 fault_given bytes at pieces (ZeroDuration place) h = h
 fault_given bytes at pieces Memory h = tt
 
--- the fault of a segment behind some that stand there
+-- the fault of a segment after some that stand there
 pub segments_fault-among : (bytes : List ℕ) (at next done rest pieces : ℕ) (e : CodecFault) → pieces ≡ done + suc rest →
     ((n : ℕ) → segments_fault bytes (done + n) at ≡ segments_fault bytes n next) → segment_fault bytes next ≡ Some e → SegmentsGive bytes at pieces (Err e)
 segments_fault-among bytes at next done rest pieces e sum behind h =

@@ -25,7 +25,7 @@ stays (Seven v) = false
 abbrev pub is_hold : Segment → Bool
 is_hold s = list_all stays s.elements
 
--- the hold of so many milliseconds
+-- the hold of this many milliseconds
 abbrev pub hold : ℕ → Segment
 hold ms = record { ms = ms; elements = Constant ∷ Constant ∷ Constant ∷ Constant ∷ [] }
 
@@ -47,7 +47,7 @@ abbrev pub first_ms : List Segment → ℕ
 first_ms [] = 0
 first_ms (s ∷ rest) = s.ms
 
--- From the left: where two groups of holds stand one behind the other, the first of the later ones was too long for the earlier group.
+-- From the left: where two groups of holds stand one after the other, the first of the later ones was too long for the earlier group.
 abbrev pub FromTheLeft : List (List Segment) → Type 0
 FromTheLeft [] = Unit {0}
 FromTheLeft (g ∷ []) = Unit {0}
@@ -69,7 +69,7 @@ abbrev pub put_held : ℕ → List Segment → List Segment
 put_held zero later = later
 put_held (suc n) later = hold (suc n) ∷ later
 
--- a segment behind the holds in front, where what follows is joined already
+-- a segment after the holds in front, where what follows is joined already
 abbrev pub put_next : ℕ → Segment → List Segment → List Segment
 put_next held s later =
     if is_hold s then (if nat_le (held + s.ms) most_ms then later else put_held held later) else put_held held (s ∷ later)

@@ -1,4 +1,4 @@
--- What reading answers: which trajectory bytes begin with, and the first field that is faulty.
+-- What reading gives: which trajectory bytes begin with, and the first field that is faulty.
 use Rattle.std.specs.Prelude.{◌≡◌, ℕ, zero, suc, ◌+◌, ◌*◌, ◌/◌, ◌%◌, ◌^◌, ◌<◌, ◌≤◌, ℤ, List, ◌++◌, length, drop, slice_index, nat_lt, ◌==◌, if◌then◌else◌, Option, Some, None, Result, Ok, Err}
 use Rattle.std.specs.List.{flat_map, All}
 use Rattle.std.specs.Option.{option_or}
@@ -10,7 +10,7 @@ use Rattle.traj_codec.specs.declared.traj.Segment.{Segment}
 use Rattle.traj_codec.specs.declared.traj.Traj.{Traj}
 use Rattle.traj_codec.specs.Spelling.{numbers, kind, stored, header, bodies, segment, HasDuration, Spells, IsNumber, IsElement, IsSegment, IsTrajectory}
 
--- The bytes begin with a spelling of this trajectory, of so many segments, that takes so many bytes.
+-- The bytes begin with a spelling of this trajectory, of this many segments, that takes this many bytes.
 pub record BeginsWith (bytes : List ℕ) (pieces : ℕ) (t : Traj) (used : ℕ) : Type 0 where
   pub spelled : List ℕ
   pub rest : List ℕ
@@ -22,11 +22,11 @@ pub record BeginsWith (bytes : List ℕ) (pieces : ℕ) (t : Traj) (used : ℕ) 
 
 -- ---- the first fault: that of the first field, in the order of the bytes, that has one. Places count bytes from 0.
 
--- a field of so many bytes at a place isn't whole
+-- a field of this many bytes at a place isn't whole
 abbrev pub field_fault : List ℕ → ℕ → ℕ → Option CodecFault
 field_fault bytes size at = if nat_lt (length bytes) (at + size) then Some (Short at) else None
 
--- so many numbers of two bytes from a place on
+-- this many numbers of two bytes from a place on
 abbrev pub numbers_fault : List ℕ → ℕ → ℕ → Option CodecFault
 numbers_fault bytes zero at = None
 numbers_fault bytes (suc n) at = option_or (field_fault bytes 2 at) (numbers_fault bytes n (at + 2))
@@ -52,16 +52,16 @@ segment_fault bytes at =
 abbrev pub segment_length : List ℕ → ℕ → ℕ
 segment_length bytes at = 3 + 2 * count_under (slice_index bytes at)
 
--- so many segments from a place on
+-- this many segments from a place on
 abbrev pub segments_fault : List ℕ → ℕ → ℕ → Option CodecFault
 segments_fault bytes zero at = None
 segments_fault bytes (suc n) at = option_or (segment_fault bytes at) (segments_fault bytes n (at + segment_length bytes at))
 
--- a trajectory of so many segments: the four numbers of its start, which take 8 bytes, and then the segments
+-- a trajectory of this many segments: the four numbers of its start, which take 8 bytes, and then the segments
 abbrev pub decode_fault : List ℕ → ℕ → Option CodecFault
 decode_fault bytes pieces = option_or (numbers_fault bytes 4 0) (segments_fault bytes pieces 8)
 
--- What `decode` answers: the trajectory that the bytes begin with and how many bytes it takes, or the first fault.
+-- What `decode` returns: the trajectory that the bytes begin with and how many bytes it takes, or the first fault.
 abbrev pub DecodeGives : List ℕ → ℕ → Result (Traj × ℕ) CodecFault → Type 0
 DecodeGives bytes pieces (Ok r) = BeginsWith bytes pieces r.0 r.1 × (decode_fault bytes pieces ≡ None)
 DecodeGives bytes pieces (Err (Short at)) = decode_fault bytes pieces ≡ Some (Short at)
@@ -75,7 +75,7 @@ IsDecoded t used (Err (Short at)) = ⊥
 IsDecoded t used (Err (ZeroDuration at)) = ⊥
 IsDecoded t used (Err Memory) = Unit {0}
 
--- ---- what each step of reading answers
+-- ---- what each step of reading gives
 
 -- The bytes from the place `at` to the place `next` are this text.
 pub record Spans (bytes : List ℕ) (at next : ℕ) (text : List ℕ) : Type 0 where
@@ -112,7 +112,7 @@ pub record SegmentsStand (bytes : List ℕ) (at : ℕ) (segments : List Segment)
   pub durations : All HasDuration segments
   pub spans : Spans bytes at next (flat_map segment segments)
 
--- so many segments, or the first fault
+-- this many segments, or the first fault
 abbrev pub SegmentsGive : List ℕ → ℕ → ℕ → Result (List Segment × ℕ) CodecFault → Type 0
 SegmentsGive bytes at pieces (Ok r) = SegmentsStand bytes at r.0 r.1 × (length r.0 ≡ pieces)
 SegmentsGive bytes at pieces (Err (Short place)) = segments_fault bytes pieces at ≡ Some (Short place)

@@ -27,7 +27,7 @@ kind (Linear v) = 1
 kind (Cubic v) = 2
 kind (Seven v) = 3
 
--- the control points of an element behind its first one, which is the last value before its segment and isn't written
+-- the control points of an element after its first one, which is the last value before its segment and isn't written
 abbrev pub stored : Element → List ℤ
 stored Constant = []
 stored (Linear v) = v ∷ []
@@ -60,7 +60,7 @@ pub record Spells (bytes : List ℕ) (t : Traj) : Type 0 where
   pub text : bytes ≡ spelling t
   pub durations : All HasDuration t.segments
 
--- what stands behind each trajectory that is written: three zero bytes
+-- what stands after each trajectory that is written: three zero bytes
 abbrev pub ending : List ℕ
 ending = 0 ∷ 0 ∷ 0 ∷ []
 
@@ -80,7 +80,7 @@ most_segments = 255
 abbrev pub IsNumber : ℤ → Type 0
 IsNumber z = IsIn (neg_ℤ (pos 32768)) (pos 32767) z
 
--- so many numbers, each of which fits two bytes
+-- this many numbers, each of which fits two bytes
 pub record AreNumbers (count : ℕ) (zs : List ℤ) : Type 0 where
   pub many : length zs ≡ count
   pub each : All IsNumber zs

@@ -37,7 +37,7 @@ pub fn join_holds(alloc: Global, t: &Traj) -> Result<Traj, AllocError>
     })
 }
 
-// A segment behind the holds in front; it returns how long those last that stand in front of what follows.
+// A segment after the holds in front; it returns how long those last that stand in front of what follows.
 fn put_next(segments: &mut Vec<Segment>, held: u16, s: &Segment) -> Result<u16, AllocError>
     ensures put { OnOk result ((later : List Segment) → segments.new.items ++ later ≡ segments.old.items ++ put_next held s.now later) }
     ensures held { IfOk result (λ n. n ≡ next_held held s.now) }
@@ -79,7 +79,7 @@ fn stays(element: Element) -> bool
     matches!(element, Element::Constant)
 }
 
-// The hold of so many milliseconds.
+// The hold of this many milliseconds.
 fn hold(ms: u16) -> Segment
     ensures { result ≡ hold ms }
 {

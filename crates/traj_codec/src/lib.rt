@@ -1,7 +1,7 @@
 //! Trajectories in the compressed format (docs/TRAJECTORY.md): a start, then segments of elements of four kinds.
 //!
-//! What `encode` answers is the one spelling of the trajectory by `specs/Spelling.antt`, and then three zero bytes;
-//! `size_of` is its length. `decode` answers the one trajectory of so many segments whose spelling bytes begin with, or the
+//! What `encode` returns is the one spelling of the trajectory by `specs/Spelling.antt`, and then three zero bytes;
+//! `size_of` is its length. `decode` returns the one trajectory of this many segments whose spelling bytes begin with, or the
 //! first field that is faulty, by `specs/Reading.antt`. Where the trajectory puts a drone at an instant is said by
 //! `specs/Positions.antt`. `join_holds` joins whole holds that follow each other; by `join_law` the curve is the same.
 #![tactic(auto)]

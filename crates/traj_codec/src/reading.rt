@@ -12,7 +12,7 @@ use byteorder::{ByteOrder, LittleEndian};
 use listed::Listed;
 use std::alloc::{AllocError, AllocFailed, Global};
 
-/// Why bytes are no trajectory of so many segments. Places count bytes from 0.
+/// Why bytes are no trajectory of this many segments. Places count bytes from 0.
 #[derive(Clone, Copy, Debug, PartialEq, Eq)]
 pub enum CodecFault {
     /// The field at this place isn't whole: a number, a header or a duration.
@@ -45,7 +45,7 @@ impl<T: Drop> From<AllocFailed<T>> for CodecFault {
     }
 }
 
-// The bytes from a place on, of which a field takes so many.
+// The bytes from a place on, of which a field takes this many.
 fn field_at(bytes: &[u8], at: usize, size: usize) -> Result<&[u8], CodecFault>
     requires { at ≤ length bytes.now }
     ensures { MatchResult result
@@ -69,7 +69,7 @@ fn number_at(bytes: &[u8], at: usize) -> Result<i16, CodecFault>
     Ok(LittleEndian::read_i16(field))
 }
 
-// Fills `out` with numbers, and answers the place behind them.
+// Fills `out` with numbers, and returns the place after them.
 fn numbers_at(bytes: &[u8], at: usize, out: &mut [i16]) -> Result<usize, CodecFault>
     requires { at ≤ length bytes.now }
     ensures { MatchResult result
@@ -116,7 +116,7 @@ fn seven_at(bytes: &[u8], at: usize) -> Result<(Element, usize), CodecFault>
     Ok((Element::Seven { v }, next))
 }
 
-// The element at a place, and the place behind it; one function for each place in the header has this body.
+// The element at a place, and the place after it; one function for each place in the header has this body.
 macro_rules! element_at {
     ($bytes:ident, $at:ident, $kind:expr) => {
         match $kind {
@@ -232,7 +232,7 @@ fn segments_at(
     Ok((Listed::from_vec(segments), next))
 }
 
-/// The trajectory of so many segments that the bytes begin with, and how many bytes it takes (docs/TRAJECTORY.md). What
+/// The trajectory of that many segments which the bytes begin with, and its number of bytes (docs/TRAJECTORY.md). What
 /// follows is left unread, as the three zero bytes of an ending. Bytes that begin with none have the fault of the first
 /// field that has one: it isn't whole, or is a duration 0.
 pub fn decode(alloc: Global, bytes: &[u8], pieces: u8) -> Result<(Traj, usize), CodecFault>

@@ -18,7 +18,7 @@ fn traj(alloc: Global, start: [i16; 4], segment: Segment) -> Result<Traj, AllocE
     })
 }
 
-// Whether bytes are read as a trajectory of this segment, which takes so many of them.
+// Whether bytes are read as a trajectory of this segment, which takes this many of them.
 fn reads(alloc: Global, bytes: &[u8], start: [i16; 4], segment: Segment, length: usize) -> bool {
     match decode(alloc, bytes, 1) {
         Ok((t, used)) => {
@@ -195,7 +195,7 @@ fn each_header(rt: HostRuntime) -> Result<(), Fail> {
     Ok(())
 }
 
-// The hold of so many milliseconds.
+// The hold of this many milliseconds.
 fn hold(ms: u16) -> Segment
     ensures { result.ms ≡ ms }
 {

@@ -2,7 +2,7 @@
 
 use listed::Listed;
 
-/// How a segment moves on one axis: a Bézier curve's control points behind the first one, which is the last value
+/// How a segment moves on one axis: a Bézier curve's control points after the first one, which is the last value
 /// before the segment. In millimetres, and on the axis of yaw in tenths of a degree. The four kinds are those of
 /// Bitcraze's compressed trajectory format: degree 0, 1, 3 and 7.
 #[derive(Clone, Copy, Debug, PartialEq, Eq)]

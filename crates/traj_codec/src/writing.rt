@@ -9,7 +9,7 @@ use crate::traj::{Element, Segment, Traj};
 use byteorder::{ByteOrder, LittleEndian};
 use std::alloc::{AllocError, Global};
 
-// What stands behind the last segment of a trajectory that is written.
+// What stands after the last segment of a trajectory that is written.
 const ENDING: [u8; 3] = [0; 3];
 
 fn put_number(out: &mut Vec<u8>, v: i16) -> Result<(), AllocError>
@@ -134,7 +134,7 @@ fn segment_size(s: &Segment) -> usize
     3 + 2 * (count_of(x) + count_of(y) + count_of(z) + count_of(yaw))
 }
 
-/// How many bytes `encode` answers for a trajectory of at most 255 segments, none of which has the duration 0. A
+/// How many bytes `encode` returns for a trajectory of at most 255 segments, none of which has the duration 0. A
 /// segment takes from 3 to 59 bytes, and what isn't a segment takes 11.
 pub fn size_of(t: &Traj) -> usize
     requires count { length t.now.segments ≤ most_segments }

@@ -17,7 +17,7 @@ pub record Upload : Type 0 where
   pub loads : List Load
   pub start : Bool
 
--- What a load has to be: some bytes that fit into the memory behind the offset, and 1 to 255
+-- What a load has to be: some bytes that fit into the memory after the offset, and 1 to 255
 -- segments.
 pub record IsLoad (offset : ℕ) (l : Load) : Type 0 where
   pub some_bytes : 1 ≤ length l.bytes

@@ -82,7 +82,7 @@ fn judge_regions(
     }
 }
 
-// What a second text comes to that isn't too large.
+// What a second text gives that isn't too large.
 fn judge_part(alloc: Global, fitted: &Fitted, depth: u8, part: &Part) -> Result<Answer, AllocError>
     requires valid { IsValidFitted fitted.now }
     requires depth { depth ≤ most_depth }
@@ -112,7 +112,7 @@ fn judge_part(alloc: Global, fitted: &Fitted, depth: u8, part: &Part) -> Result<
     judge_regions(alloc, fitted, depth, &regions)
 }
 
-// What a second text comes to for a show that fits.
+// What a second text gives for a show that fits.
 fn judge_second(
     alloc: Global,
     fitted: &Fitted,
@@ -137,7 +137,7 @@ fn judge_second(
     }
 }
 
-// What `boxes` answers for two texts.
+// What `boxes` ends with for two texts.
 fn answer_two(alloc: Global, depth: u8, input: &Input) -> Result<Answer, AllocError>
     requires depth { depth ≤ most_depth }
     requires show { IsWithin show_limit input.now.show }
@@ -150,7 +150,7 @@ fn answer_two(alloc: Global, depth: u8, input: &Input) -> Result<Answer, AllocEr
     }
 }
 
-// What `boxes` answers for what its source gives.
+// What `boxes` ends with for what its source gives.
 fn answer_input<S: Source>(alloc: Global, depth: u8, source: &mut S) -> Result<Answer, Failure>
     requires depth { depth ≤ most_depth }
     ensures answers { AnswersInput (Command.Boxes depth) (S.left source.old) (S.left source.new) result }

@@ -50,7 +50,7 @@ fn answer_fitted(alloc: Global, fitted: &Fitted, depth: u8) -> Result<Answer, Al
     }
 }
 
-// What `certify` answers for a show's text.
+// What `certify` ends with for a show's text.
 fn answer_text(alloc: Global, depth: u8, text: &Text) -> Result<Answer, AllocError>
     requires depth { depth ≤ most_depth }
     requires short { IsWithin show_limit text.now }
@@ -62,7 +62,7 @@ fn answer_text(alloc: Global, depth: u8, text: &Text) -> Result<Answer, AllocErr
     }
 }
 
-// What `certify` answers for what its source gives.
+// What `certify` ends with for what its source gives.
 fn answer_input<S: Source>(alloc: Global, depth: u8, source: &mut S) -> Result<Answer, Failure>
     requires depth { depth ≤ most_depth }
     ensures answers { AnswersInput (Command.Certify depth) (S.left source.old) (S.left source.new) result }

@@ -37,7 +37,7 @@ fn answer_fitted(fitted: &Fitted) -> Answer
     }
 }
 
-// What `check` answers for a show's text.
+// What `check` ends with for a show's text.
 fn answer_text(alloc: Global, depth: u8, text: &Text) -> Result<Answer, AllocError>
     requires depth { depth ≤ most_depth }
     requires short { IsWithin show_limit text.now }
@@ -49,7 +49,7 @@ fn answer_text(alloc: Global, depth: u8, text: &Text) -> Result<Answer, AllocErr
     }
 }
 
-// What `check` answers for what its source gives.
+// What `check` ends with for what its source gives.
 fn answer_input<S: Source>(alloc: Global, depth: u8, source: &mut S) -> Result<Answer, Failure>
     requires depth { depth ≤ most_depth }
     ensures answers { AnswersInput (Command.Check depth) (S.left source.old) (S.left source.new) result }

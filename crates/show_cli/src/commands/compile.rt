@@ -18,7 +18,7 @@ use fleet_io::{Sink, Source};
 use show_plan::plan_text;
 use std::alloc::{AllocError, Global};
 
-// What `compile` answers for a show's text.
+// What `compile` ends with for a show's text.
 fn answer_text(alloc: Global, depth: u8, text: &Text) -> Result<Answer, AllocError>
     requires depth { depth ≤ most_depth }
     requires short { IsWithin show_limit text.now }
@@ -35,7 +35,7 @@ fn answer_text(alloc: Global, depth: u8, text: &Text) -> Result<Answer, AllocErr
     }
 }
 
-// What `compile` answers for what its source gives.
+// What `compile` ends with for what its source gives.
 fn answer_input<S: Source>(alloc: Global, depth: u8, source: &mut S) -> Result<Answer, Failure>
     requires depth { depth ≤ most_depth }
     ensures answers { AnswersInput (Command.Compile depth) (S.left source.old) (S.left source.new) result }

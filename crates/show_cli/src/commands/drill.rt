@@ -30,7 +30,7 @@ fn drones_in(names: &[Name]) -> u8
     names.len() as u8
 }
 
-// The number of pairs of so many drones.
+// The number of pairs of this many drones.
 fn pairs_of(drones: u8) -> u16
     requires some { 1 ≤ drones }
     requires few { drones ≤ 32 }
@@ -64,7 +64,7 @@ fn answer_accepted(alloc: Global, accepted: &Accepted) -> Result<Answer, AllocEr
     })
 }
 
-// What `drill` answers for a show's text.
+// What `drill` ends with for a show's text.
 fn answer_text(alloc: Global, drones: u8, depth: u8, text: &Text) -> Result<Answer, AllocError>
     requires depth { depth ≤ most_depth }
     requires short { IsWithin show_limit text.now }
@@ -76,7 +76,7 @@ fn answer_text(alloc: Global, drones: u8, depth: u8, text: &Text) -> Result<Answ
     }
 }
 
-// What `drill` answers for the show of so many drones, which is read from memory as any other.
+// What `drill` ends with for the show of this many drones, which is read from memory as any other.
 fn answer_drill(alloc: Global, drones: u8, depth: u8) -> Result<Answer, Failure>
     requires depth { depth ≤ most_depth }
     requires some { 1 ≤ drones }
@@ -91,7 +91,7 @@ fn answer_drill(alloc: Global, drones: u8, depth: u8) -> Result<Answer, Failure>
     Ok(answer_text(alloc, drones, depth, &text)?)
 }
 
-/// Runs `drill` (docs/COMMANDS.md): the numbers of the show of so many drones, 1 to 32, or the first reason why it is refused. It reads
+/// Runs `drill` (docs/COMMANDS.md): the numbers of the show of this many drones, 1 to 32, or the first reason why it is refused. It reads
 /// nothing.
 pub fn drill<S: Source, K: Sink>(
     alloc: Global,

@@ -94,7 +94,7 @@ fn find(alloc: Global, fitted: &Fitted, depth: u8, fine: u8) -> Result<Findings,
     })
 }
 
-// What `explain` answers for a show that fits.
+// What `explain` ends with for a show that fits.
 fn answer_fitted(alloc: Global, fitted: &Fitted, depth: u8, fine: u8) -> Result<Answer, AllocError>
     requires valid { IsValidFitted fitted.now }
     requires depth { depth ≤ most_depth }
@@ -111,7 +111,7 @@ fn answer_fitted(alloc: Global, fitted: &Fitted, depth: u8, fine: u8) -> Result<
     })
 }
 
-// What `explain` answers for a show's text.
+// What `explain` ends with for a show's text.
 fn answer_text(alloc: Global, depth: u8, fine: u8, text: &Text) -> Result<Answer, AllocError>
     requires depth { depth ≤ most_depth }
     requires fine { fine ≤ 5 }
@@ -124,7 +124,7 @@ fn answer_text(alloc: Global, depth: u8, fine: u8, text: &Text) -> Result<Answer
     }
 }
 
-// What `explain` answers for what its source gives.
+// What `explain` ends with for what its source gives.
 fn answer_input<S: Source>(
     alloc: Global,
     depth: u8,

@@ -32,7 +32,7 @@ use show_plan::{Fitted, session};
 use std::alloc::{AllocError, Global};
 use upload_model::Progress;
 
-// What an upload comes to, after these events, over drones that are blank at the start.
+// What an upload gives, after these events, over drones that are blank at the start.
 fn rehearse_events(
     alloc: Global,
     fitted: &Fitted,
@@ -78,7 +78,7 @@ fn rehearse_events(
     }
 }
 
-// What an upload with read-back comes to, after these events, over drones that are blank at the start.
+// What an upload with read-back gives, after these events, over drones that are blank at the start.
 fn rehearse_carefully(
     alloc: Global,
     fitted: &Fitted,
@@ -129,7 +129,7 @@ fn rehearse_carefully(
     Ok(Answer::Refused { refusal })
 }
 
-// What a second text comes to that isn't too large.
+// What a second text gives that isn't too large.
 fn judge_part(
     alloc: Global,
     fitted: &Fitted,
@@ -165,7 +165,7 @@ fn judge_part(
     rehearse_events(alloc, fitted, start, &events)
 }
 
-// What a second text comes to with read-back that isn't too large.
+// What a second text gives with read-back that isn't too large.
 fn judge_careful_part(
     alloc: Global,
     fitted: &Fitted,
@@ -201,7 +201,7 @@ fn judge_careful_part(
     rehearse_carefully(alloc, fitted, start, &events)
 }
 
-// What a second text comes to for a show that nothing refuses.
+// What a second text gives for a show that nothing refuses.
 fn judge_second(
     alloc: Global,
     fitted: &Fitted,
@@ -227,7 +227,7 @@ fn judge_second(
     }
 }
 
-// What a second text comes to with read-back for a show that nothing refuses.
+// What a second text gives with read-back for a show that nothing refuses.
 fn judge_careful(
     alloc: Global,
     fitted: &Fitted,
@@ -252,7 +252,7 @@ fn judge_careful(
     }
 }
 
-// What a second text comes to, with read-back or without, for a show that nothing refuses.
+// What a second text gives, with read-back or without, for a show that nothing refuses.
 fn judge_either(
     alloc: Global,
     fitted: &Fitted,
@@ -276,7 +276,7 @@ fn judge_either(
     }
 }
 
-// What `rehearse` answers for two texts.
+// What `rehearse` ends with for two texts.
 fn answer_two(
     alloc: Global,
     depth: u8,
@@ -302,7 +302,7 @@ fn answer_two(
     }
 }
 
-// What `rehearse` answers for what its source gives.
+// What `rehearse` ends with for what its source gives.
 fn answer_input<S: Source>(
     alloc: Global,
     depth: u8,

@@ -48,7 +48,7 @@ fn answer_accepted(alloc: Global, accepted: &Accepted) -> Result<Answer, AllocEr
     })
 }
 
-// What `report` answers for a show's text.
+// What `report` ends with for a show's text.
 fn answer_text(alloc: Global, depth: u8, text: &Text) -> Result<Answer, AllocError>
     requires depth { depth ≤ most_depth }
     requires short { IsWithin show_limit text.now }
@@ -60,7 +60,7 @@ fn answer_text(alloc: Global, depth: u8, text: &Text) -> Result<Answer, AllocErr
     }
 }
 
-// What `report` answers for what its source gives.
+// What `report` ends with for what its source gives.
 fn answer_input<S: Source>(alloc: Global, depth: u8, source: &mut S) -> Result<Answer, Failure>
     requires depth { depth ≤ most_depth }
     ensures answers { AnswersInput (Command.Report depth) (S.left source.old) (S.left source.new) result }

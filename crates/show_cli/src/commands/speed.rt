@@ -144,7 +144,7 @@ fn answer_drones(
     })
 }
 
-// What `speed` answers for a show that fits.
+// What `speed` ends with for a show that fits.
 fn answer_fitted(
     alloc: Global,
     fitted: &Fitted,
@@ -168,7 +168,7 @@ fn answer_fitted(
     )
 }
 
-// What `speed` answers for a show's text.
+// What `speed` ends with for a show's text.
 fn answer_text(
     alloc: Global,
     depth: u8,
@@ -185,7 +185,7 @@ fn answer_text(
     }
 }
 
-// What `speed` answers for what its source gives.
+// What `speed` ends with for what its source gives.
 fn answer_input<S: Source>(
     alloc: Global,
     depth: u8,

@@ -196,7 +196,7 @@ fn skip_second<S: Source>(parts: &mut Parts, source: &mut S) -> Result<(), Faile
     Ok(())
 }
 
-// The refusal of a show, after the text behind it was taken; after a show's text that is too large none is.
+// The refusal of a show, after the text after it was taken; after a show's text that is too large none is.
 fn answer_refused<S: Source>(
     parts: &mut Parts,
     source: &mut S,
@@ -221,7 +221,7 @@ fn answer_refused<S: Source>(
     }
 }
 
-// What `verify` answers for what its source gives. A failed read comes before what is wrong with the show.
+// What `verify` ends with for what its source gives. A failed read comes before what is wrong with the show.
 fn answer_input<S: Source>(alloc: Global, source: &mut S) -> Result<Answer, Failure>
     ensures answers { AnswersInput Command.Verify (S.left source.old) (S.left source.new) result }
     ensures failed { result ≡ Err Failure.Read → Rose (S.faults source.old) (S.faults source.new) }

@@ -5,7 +5,7 @@ use Rattle.cue_grid.specs.Faults.{act_faults}
 use Rattle.cue_grid.proofs.Marking.{acted_all}
 use Rattle.cue_grid.proofs.faults.cue_fault.Given as goal
 
--- no fault so far, and behind the last line it doesn't matter who has an act
+-- no fault so far, and after the last line it doesn't matter who has an act
 abbrev pub invariant-loop-i : goal.invariant-loop-i
 invariant-loop-i l =
     (first_of (act_faults l.known (shown l.show).formations [] l.acts)

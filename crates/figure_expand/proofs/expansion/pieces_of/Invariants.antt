@@ -4,7 +4,7 @@ use Rattle.figure_expand.specs.Bounds.{reach}
 use Rattle.figure_expand.specs.Expanded.{pieces_from}
 use Rattle.figure_expand.proofs.expansion.pieces_of.Given as goal
 
--- the pieces so far, and where the drone is behind them
+-- the pieces so far, and where the drone is after them
 abbrev pub invariant-loop-cue : goal.invariant-loop-cue
 invariant-loop-cue l = record {
   reached : IsPointUpTo (reach l.cue-index) l.point;

@@ -2,6 +2,6 @@ use Rattle.std.proofs.Common.{◌≡◌}
 use Rattle.figure_expand.proofs.Unfit.{moved}
 use Rattle.figure_expand.proofs.range.advance.Given as goal
 
--- so many points are moved
+-- this many points are moved
 abbrev pub invariant-loop-d : goal.invariant-loop-d
 invariant-loop-d l = l.points ≡ moved l.d l.initial.points l.jobs

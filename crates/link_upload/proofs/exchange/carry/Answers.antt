@@ -140,7 +140,7 @@ frames-preserved g c =
       sink_later = omega (arith, inv.sink_later, c.in-Ok-send.ensures.cause.later);
     }
 
--- ---- so many frames
+-- ---- this many frames
 
 pub returns-clause-ends : goal.returns-clause-ends
 returns-clause-ends g c = end_full (g.H.LinkHost.link c.args.host) _ _ _ _ _ _ c.frames.invariant.carries (omega arith)

@@ -3,7 +3,7 @@ use Rattle.std.specs.List.{list_all}
 use Rattle.mm_rounding.specs.Rounding.{is_short}
 use Rattle.mm_rounding.proofs.rounding.shorts.Given as goal
 
--- so many numbers fit, and are kept
+-- this many numbers fit, and are kept
 abbrev pub invariant-loop-k : goal.invariant-loop-k
 invariant-loop-k g l = record {
   same_length : length l.row ≡ g.row.N;
