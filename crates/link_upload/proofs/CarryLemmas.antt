@@ -3,7 +3,7 @@ use Rattle.std.proofs.Common.{◌≡◌, inl, inr, ℕ, ◌+◌, ◌<◌, ◌≤
 use Rattle.std.specs.Prelude.{◌==◌}
 use Rattle.std.specs.List.{All, Contains}
 use Rattle.std.specs.Io.KnownBytes.{Appends, Consumes, IsAtEnd, prepend_known}
-use Rattle.std.proofs.lemmas.List.{length_push}
+use Rattle.std.proofs.lemmas.List.{length_push, take_at}
 use Rattle.std.proofs.lemmas.List.Elements.{All-cons, All-contains, All-head, All-nil, All-push}
 use Rattle.fleet_io.specs.Causes.{Rose}
 use Rattle.fleet_io.specs.Held.{buffer_bytes}
@@ -18,11 +18,11 @@ use Rattle.upload_model.specs.declared.events.Sent.{Sent}
 use Rattle.link_upload.specs.Links.{Link}
 use Rattle.link_upload.specs.Sends.{answers_after, event_in, events_in, packet_frames, sent_over}
 use Rattle.link_upload.specs.Steps.{Breaks, Ends, Fails}
-use Rattle.link_upload.specs.Uploads.{BeginsWith, EndsGoing, EndsWith, StaysPrompt, Takes, frame_limit}
+use Rattle.link_upload.specs.Uploads.{BeginsWith, EndsGoing, EndsWith, StaysPrompt, StopsAtEnd, Takes, frame_limit}
 use Rattle.link_upload.proofs.StepLemmas.{short}
 use Rattle.link_upload.proofs.SendLemmas.{BeginsWith-trans, events-push, sent-front, sent-none, sent-push}
 use Rattle.link_upload.proofs.FrontLemmas.{compare}
-use Rattle.link_upload.proofs.UploadLemmas.{All-later, Takes-none, bytes-push, frame_some, going-push, not_full, some}
+use Rattle.link_upload.proofs.UploadLemmas.{All-later, Takes-none, bytes-push, frame_some, going-push, less_or_not, not_full, some}
 
 -- ---- known bytes
 
@@ -349,3 +349,75 @@ short_begun (Some xs) (Some ys) begun b taken rest behind known known_left g mor
     let e : ys ≡ behind = cc in
     let r : xs ≡ rest = cc in
     omega (arith, long, short begun b, length-append begun ys, length-append (frame_bytes g) more, ap (λ (l : List ℕ). length l) (sym taken ∙ r ∙ is), ap (λ (l : List ℕ). length l) e)
+
+-- ---- no more is read after the end
+
+-- Where the upload goes on after these frames, frames with which it is over are these and more, or they are as many as are
+-- taken; and what stands after them is no longer than what may wait.
+pub stops : (s : Link) (stream now left old new : Option (List ℕ)) (n : ℕ) (Stands : List Event → Type 0) → Carries s stream now old new n Stands → n ≤ frame_limit → IsShort now left →
+    (n ≡ frame_limit → (rest behind : List ℕ) → now ≡ Some rest → left ≡ Some behind → length rest ≤ length behind + buffer_bytes) → StopsAtEnd s stream left
+stops s stream now left old new n Stands c few is_short at_limit bytes behind gs rest known known_left t over =
+    let l = left_of bytes (frames_bytes c.frames) now (rw known at c.taken) in
+    elim (compare c.frames gs l.0 rest (sym l.2 ∙ t.cut)) [
+      | inl p ↦ later l.0 l.1 p.0 p.1 p.2
+      | inr p ↦ earlier l.0 l.1 p.0 p.1 p.2
+    ]
+  where
+    -- the upload goes on after them, so they are as many as are taken
+    same : (after : List ℕ) → now ≡ Some after → gs ≡ c.frames → after ≡ rest → length rest ≤ length behind + buffer_bytes
+    same after known_now is left_is = elim over [
+      | inl ended ↦ absurd (ended (rw is c.going))
+      | inr full ↦ rw (← left_is) (at_limit (sym c.counted ∙ ap (λ (fs : List Frame). length fs) (sym is) ∙ full) after behind known_now known_left)
+    ]
+
+    later : (after : List ℕ) → now ≡ Some after → (more : List Frame) → gs ≡ c.frames ++ more → after ≡ frames_bytes more ++ rest → length rest ≤ length behind + buffer_bytes
+    later after known_now [] is left_is = same after known_now (is ∙ append-nil c.frames) left_is
+    later after known_now (g ∷ more) is left_is = elim (less_or_not (buffer_bytes + length behind) (length (frames_bytes more ++ rest))) [
+      | inl long ↦ absurd (is_short after behind known_now known_left g (frames_bytes more ++ rest) (All-head IsFrame g more (All-later c.frames (g ∷ more) (rw is at t.each))) long
+          (left_is ∙ append_assoc (frame_bytes g) (frames_bytes more) rest))
+      | inr short_rest ↦ omega (arith, short_rest, length-append (frames_bytes more) rest)
+    ]
+
+    earlier : (after : List ℕ) → now ≡ Some after → (more : List Frame) → c.frames ≡ gs ++ more → rest ≡ frames_bytes more ++ after → length rest ≤ length behind + buffer_bytes
+    earlier after known_now [] is rest_is = same after known_now (sym (is ∙ append-nil gs)) (sym rest_is)
+    earlier after known_now (m ∷ more) is rest_is =
+        let counted : length c.frames ≡ length gs + length (m ∷ more) = ap (λ (fs : List Frame). length fs) is ∙ length-append gs (m ∷ more) in
+        let front : take (length gs) c.frames ≡ gs = ap (λ (fs : List Frame). take (length gs) fs) is ∙ take_at gs (m ∷ more) (length gs) refl in
+        elim over [
+          | inl ended ↦ absurd (ended (rw front at (c.before (length gs) (omega (arith, counted)))))
+          | inr full ↦ absurd (omega (arith, full, counted, c.counted, few))
+        ]
+
+-- the same before as many frames as are taken
+pub stops_before : (s : Link) (stream now left old new : Option (List ℕ)) (n : ℕ) (Stands : List Event → Type 0) → Carries s stream now old new n Stands → n < frame_limit → IsShort now left → StopsAtEnd s stream left
+stops_before s stream now left old new n Stands c few is_short =
+    stops s stream now left old new n Stands c (omega (arith, few)) is_short (λ full rest behind known known_left. absurd (omega (arith, few, full)))
+
+-- the same with what waits
+pub stops_waiting : (s : Link) (stream old new : Option (List ℕ)) (waiting : List ℕ) (left : Option (List ℕ)) (n : ℕ) (Stands : List Event → Type 0) → Carries s stream (prepend_known waiting left) old new n Stands →
+    n ≤ frame_limit → length waiting ≤ buffer_bytes → StopsAtEnd s stream left
+stops_waiting s stream old new waiting left n Stands c few holds =
+    stops s stream (prepend_known waiting left) left old new n Stands c few (short_waiting waiting left holds) (λ full rest behind known known_left. by left rest behind known known_left)
+  where
+    by : (left : Option (List ℕ)) (rest behind : List ℕ) → prepend_known waiting left ≡ Some rest → left ≡ Some behind → length rest ≤ length behind + buffer_bytes
+    by None rest behind known known_left = absurd (cc)
+    by (Some xs) rest behind known known_left =
+        let e : xs ≡ behind = cc in
+        let r : waiting ++ xs ≡ rest = cc in
+        omega (arith, holds, length-append waiting xs, ap (λ (l : List ℕ). length l) r, ap (λ (l : List ℕ). length l) e)
+
+-- before any frame no more was taken than waited
+pub stops_first : (s : Link) (waiting : List ℕ) (left : Option (List ℕ)) → length waiting ≤ buffer_bytes → StopsAtEnd s (prepend_known waiting left) left
+stops_first s waiting None few bytes behind gs rest known known_left t over = absurd (cc)
+stops_first s waiting (Some xs) few bytes behind gs rest known known_left t over =
+    let e : xs ≡ behind = cc in
+    let b : waiting ++ xs ≡ bytes = cc in
+    omega (
+      arith,
+      few,
+      length-append waiting xs,
+      length-append (frames_bytes gs) rest,
+      ap (λ (l : List ℕ). length l) b,
+      ap (λ (l : List ℕ). length l) t.cut,
+      ap (λ (l : List ℕ). length l) e,
+    )

@@ -32,7 +32,7 @@ frame_some (frame.Packet drone packet) = omega arith
 pub bytes-push : (fs : List Frame) (f : Frame) → frames_bytes (fs ++ f ∷ []) ≡ frames_bytes fs ++ frame_bytes f
 bytes-push fs f = flat_map-append frame_bytes fs (f ∷ []) ∙ ap (λ (l : List ℕ). frames_bytes fs ++ l) (append-nil (frame_bytes f))
 
-less_or_not : (a b : ℕ) → (a < b) ⊎ (b ≤ a)
+pub less_or_not : (a b : ℕ) → (a < b) ⊎ (b ≤ a)
 less_or_not a zero = inr (omega arith)
 less_or_not zero (suc b) = inl (omega arith)
 less_or_not (suc a) (suc b) = elim (less_or_not a b) [

@@ -1,5 +1,5 @@
 -- How an upload through frames ends, and what it sends.
-use Rattle.std.specs.Prelude.{◌≡◌, ℕ, ◌<◌, ◌≤◌, Bool, true, false, ◌==◌, List, [], ◌∷◌, ◌++◌, length, take, Option, Some, None}
+use Rattle.std.specs.Prelude.{◌≡◌, ◌⊎◌, ℕ, ◌+◌, ◌<◌, ◌≤◌, Bool, true, false, ◌==◌, List, [], ◌∷◌, ◌++◌, length, take, Option, Some, None}
 use Rattle.std.specs.List.{All}
 use Rattle.fleet_io.specs.Held.{buffer_bytes}
 use Rattle.link_frames.specs.declared.frame.Frame.{Frame}
@@ -68,6 +68,17 @@ abbrev pub StaysPrompt : Link → Option (List ℕ) → Option (List ℕ) → Op
 StaysPrompt s stream left old new =
     (bytes behind before taken sent : List ℕ) → stream ≡ Some bytes → left ≡ Some behind → bytes ≡ taken ++ behind → old ≡ Some before → new ≡ Some (before ++ sent) →
     IsPrompt s taken sent
+
+-- After these frames an upload is over: their events end it, or they are as many as are taken in one upload.
+abbrev pub IsOver : Link → List Frame → Type 0
+IsOver s frames = (s.ended (events_in s frames) ≡ None → ⊥) ⊎ (length frames ≡ frame_limit)
+
+-- No more is read once an upload is over: of what stands after its frames the source has given at most 4,096 bytes, where it
+-- tells what it had before and what it has now.
+abbrev pub StopsAtEnd : Link → Option (List ℕ) → Option (List ℕ) → Type 0
+StopsAtEnd s stream left =
+    (bytes behind : List ℕ) (frames : List Frame) (rest : List ℕ) → stream ≡ Some bytes → left ≡ Some behind → Takes s bytes frames rest → IsOver s frames →
+    length rest ≤ length behind + buffer_bytes
 
 -- Whatever bytes come, an upload has one end, with one output; and where it goes on after some frames, one
 -- whose output begins with all that is sent up to the last of them.

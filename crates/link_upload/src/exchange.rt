@@ -8,7 +8,7 @@ ghost use Rattle.fleet_io.specs.Taken.{AppendsFront, TakesFront};
 ghost use Rattle.link_frames.specs.Frames.{IsBegun, IsFrame, end_frame, frame_of};
 ghost use Rattle.link_upload.specs.Sends.{answers_after, event_in, packet_frames};
 ghost use Rattle.link_upload.specs.Steps.{Breaks, Ends, Fails, StepGives};
-ghost use Rattle.link_upload.specs.Uploads.{StaysPrompt, UploadFails, UploadGives};
+ghost use Rattle.link_upload.specs.Uploads.{StaysPrompt, StopsAtEnd, UploadFails, UploadGives};
 ghost use Rattle.upload_model.specs.declared.events.Event.{Event};
 
 use crate::host::LinkHost;
@@ -128,6 +128,7 @@ fn carry<S: Source, K: Sink, H: LinkHost + Drop>(
     ensures write { result ≡ Err Broken.Write → Rose (K.faults sink.old) (K.faults sink.new)
         × Breaks (H.link host) (stream parts.old (S.left source.old)) (K.written sink.old) (K.written sink.new) }
     ensures prompt { StaysPrompt (H.link host) (stream parts.old (S.left source.old)) (S.left source.new) (K.written sink.old) (K.written sink.new) }
+    ensures stops { StopsAtEnd (H.link host) (stream parts.old (S.left source.old)) (S.left source.new) }
     ensures grown { (sent : List ℕ) × Appends (K.written sink.old) (K.written sink.new) sent }
     ensures known { IfOk result (λ status. Contains (0 ∷ 8 ∷ 9 ∷ 10 ∷ 11 ∷ 13 ∷ 14 ∷ []) status) }
     ensures left { TakesFront (S.left source.old) (S.left source.new) }
@@ -207,6 +208,8 @@ pub fn upload<S: Source, K: Sink, H: LinkHost + Drop>(
         × ((taken : List ℕ) × Consumes (stream parts.old (S.left source.old)) (S.left source.new) taken × UploadFails (H.link host) taken output)))) }
     // No answer waits for much further input.
     ensures prompt { StaysPrompt (H.link host) (stream parts.old (S.left source.old)) (S.left source.new) (K.written sink.old) (K.written sink.new) }
+    // Once the upload is over no more is read: at most 4,096 bytes after its frames were taken.
+    ensures stops { StopsAtEnd (H.link host) (stream parts.old (S.left source.old)) (S.left source.new) }
     // Whether or not the source tells its bytes: what the sink holds only grows.
     ensures grown { (sent : List ℕ) × Appends (K.written sink.old) (K.written sink.new) sent }
     ensures known { Contains (0 ∷ 6 ∷ 7 ∷ 8 ∷ 9 ∷ 10 ∷ 11 ∷ 13 ∷ 14 ∷ []) result }

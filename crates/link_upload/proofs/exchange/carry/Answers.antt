@@ -1,7 +1,7 @@
 use Rattle.std.proofs.Common.{refl, sym, ◌∙◌, arith}
 use Rattle.fleet_io.proofs.TakenLemmas.{TakesFront-none, TakesFront-trans}
 use Rattle.link_upload.specs.Sends.{events_in}
-use Rattle.link_upload.proofs.CarryLemmas.{Carries-none, Carries-push, Rose-later, answered, breaks, breaks_first, end_answered, end_faulty, end_full, end_known, end_none, fails, grown_by, grown_front, grown_more, prompt_answered, prompt_broken, prompt_carried, prompt_first, short_begun, short_end, short_faulty, short_frame, short_waiting}
+use Rattle.link_upload.proofs.CarryLemmas.{Carries-none, Carries-push, Rose-later, answered, breaks, breaks_first, end_answered, end_faulty, end_full, end_known, end_none, fails, grown_by, grown_front, grown_more, prompt_answered, prompt_broken, prompt_carried, prompt_first, short_begun, short_end, short_faulty, short_frame, short_waiting, stops_before, stops_first, stops_waiting}
 use Rattle.link_upload.proofs.exchange.carry.Goals as goal
 
 -- ---- before any frame
@@ -173,3 +173,34 @@ returns-in-Some-clause-grown g c = grown_by _ _ _ _ _ c.frames.invariant.carries
 
 pub returns-clause-grown : goal.returns-clause-grown
 returns-clause-grown g c = (_, c.frames.invariant.carries.sent)
+
+-- ---- no more is read after the end
+
+pub returns-in-Err-clause-stops : goal.returns-in-Err-clause-stops
+returns-in-Err-clause-stops g c = stops_first (g.H.LinkHost.link c.args.host) c.args.parts.now.waiting _ c.requires.holds
+
+pub returns-in-Err-step-clause-stops : goal.returns-in-Err-step-clause-stops
+returns-in-Err-step-clause-stops g c =
+    let failed = c.in-Err-step.ensures.failed in
+    stops_before (g.H.LinkHost.link c.args.host) _ _ _ _ _ _ _ c.frames.invariant.carries c.frames-test.true (short_begun _ _ failed.2.0 failed.2.1 failed.2.2)
+
+pub returns-in-End-clause-stops : goal.returns-in-End-clause-stops
+returns-in-End-clause-stops g c =
+    stops_before (g.H.LinkHost.link c.args.host) _ _ _ _ _ _ _ c.frames.invariant.carries c.frames-test.true (short_end _ _ (rw c.in-End.is at c.in-Ok-step.ensures.gives))
+
+pub returns-in-Faulty-clause-stops : goal.returns-in-Faulty-clause-stops
+returns-in-Faulty-clause-stops g c =
+    stops_before (g.H.LinkHost.link c.args.host) _ _ _ _ _ _ _ c.frames.invariant.carries c.frames-test.true (short_faulty _ _ (rw c.in-Faulty.is at c.in-Ok-step.ensures.gives))
+
+pub returns-in-Err-send-clause-stops : goal.returns-in-Err-send-clause-stops
+returns-in-Err-send-clause-stops g c =
+    let took = rw c.in-Answered.is at c.in-Ok-step.ensures.gives in
+    stops_before (g.H.LinkHost.link c.args.host) _ _ _ _ _ _ _ c.frames.invariant.carries c.frames-test.true (short_frame _ c.step.new.parts.waiting _ took.frame c.step.ensures.holds took.taken)
+
+pub returns-in-Some-clause-stops : goal.returns-in-Some-clause-stops
+returns-in-Some-clause-stops g c =
+    let took = rw c.in-Answered.is at c.in-Ok-step.ensures.gives in
+    stops_before (g.H.LinkHost.link c.args.host) _ _ _ _ _ _ _ c.frames.invariant.carries c.frames-test.true (short_frame _ c.step.new.parts.waiting _ took.frame c.step.ensures.holds took.taken)
+
+pub returns-clause-stops : goal.returns-clause-stops
+returns-clause-stops g c = stops_waiting (g.H.LinkHost.link c.args.host) _ _ _ c.frames.parts.waiting _ _ _ c.frames.invariant.carries (omega arith) c.frames.invariant.holds
