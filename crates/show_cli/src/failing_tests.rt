@@ -1,6 +1,6 @@
 //! Each failure once: the row of each command over ends that cut to 16 bytes, with each read failing in turn, and with each
 //! write. What is written then is the line of a failed read, or a prefix of the row's output by arithmetic.
-use crate::tests::{APART, CROSSING, FINE, HELP, Manner, PLAN, ROWS, SHOW, answer};
+use crate::tests::{APART, CROSSING, FINE, HELP, Manner, PLAN, ROWS, SHOW, START, answer};
 use crate::upload_tests::{ANSWERS, DEFINE_AND_END, FIRST};
 use std::alloc::{AllocError, Global};
 use std::test::Fail;
@@ -13,7 +13,7 @@ type Row<'a> = (&'a [&'a str], &'a [u8], &'a [u8], u8, &'a [&'a [u8]]);
 const CERTIFICATE: &[u8] = b"%%\ncertificate 6\nr\nl\na\n";
 
 // The rows of the commands that read their input to its end.
-const TO_THE_END: [Row; 8] = [
+const TO_THE_END: [Row; 14] = [
     (
         &["check"],
         APART,
@@ -60,7 +60,28 @@ const TO_THE_END: [Row; 8] = [
         8,
         &[b"error 8 ended\n"],
     ),
+    (
+        &["boxes"],
+        SHOW,
+        b"%%\nkeepout 400 200 0 600 400 2000\n",
+        0,
+        &[b"kept regions 1\n"],
+    ),
+    (&["speed"], SHOW, b"", 0, &[b"speed solo 1093750 0 0\n"]),
+    (&["explain"], SHOW, b"", 0, &[b"separated\n"]),
+    // The second text of a show that is refused is read to its end too.
+    (&["verify"], START, CERTIFICATE, 3, &[NO_CUE]),
+    (&["rehearse"], START, b"%%\ntake solo 1\n", 3, &[NO_CUE]),
+    (
+        &["boxes"],
+        START,
+        b"%%\nkeepout 400 200 0 600 400 2000\n",
+        3,
+        &[NO_CUE],
+    ),
 ];
+
+const NO_CUE: &[u8] = b"error 3 line 1 no-cue\n";
 
 // The rows of the commands that don't.
 const OTHERS: [Row; 3] = [
@@ -168,5 +189,54 @@ fn each_read_of_an_upload_fails(rt: HostRuntime) -> Result<(), Fail> {
     let mut done = Vec::from_slice(alloc, FIRST)?;
     done.extend_from_slice(DEFINE_AND_END)?;
     assert!(rt; is_met(alloc, row, 8, 0, 0, done.as_slice())?);
+    Ok(())
+}
+
+// Second texts that a marker line ends, which may not be there.
+const MARKED: [Row; 3] = [
+    (
+        &["verify"],
+        APART,
+        b"%%\ncertificate 6\nr\nl\na\n%%\n",
+        11,
+        &[b"error 11 line 5\n"],
+    ),
+    (
+        &["rehearse"],
+        SHOW,
+        b"%%\ntake solo 1\n%%\n",
+        11,
+        &[b"error 11 line 2\n"],
+    ),
+    (
+        &["boxes"],
+        SHOW,
+        b"%%\nkeepout 400 200 0 600 400 2000\n%%\n",
+        11,
+        &[b"error 11 line 2\n"],
+    ),
+];
+
+// Whether the read that brings the end of the second marker line is met, and none after it, where more bytes come.
+fn stops_behind(alloc: Global, row: &Row) -> Result<bool, AllocError> {
+    let (words, front, rest, status, pieces) = row;
+    let reads = front.len().saturating_add(rest.len()).div_ceil(CUT) as u64;
+    let mut more = Vec::from_slice(alloc, rest)?;
+    more.extend_from_slice(SHOW)?;
+    let longer: Row = (words, front, more.as_slice(), *status, pieces);
+    if !is_met(alloc, &longer, reads, 0, 6, b"error 6 read\n")? {
+        return Ok(false);
+    }
+    match pieces.first() {
+        Some(whole) => is_met(alloc, &longer, reads.saturating_add(1), 0, *status, whole),
+        None => Ok(false),
+    }
+}
+
+#[test]
+fn no_read_after_a_second_marker_line(rt: HostRuntime) -> Result<(), Fail> {
+    for row in &MARKED {
+        assert!(rt; stops_behind(rt.alloc(), row)?);
+    }
     Ok(())
 }

@@ -4,7 +4,7 @@ use fleet_io::{MemSink, MemSource, SureSink, SureSource};
 use std::alloc::{AllocError, Global};
 use std::test::Fail;
 
-const START: &[u8] = b"choreo 1\ndrone solo 0 0 1000000 0\n";
+pub const START: &[u8] = b"choreo 1\ndrone solo 0 0 1000000 0\n";
 
 const CUE: &[u8] = b"cue 2000\nsolo move 1000000 0 1000000 0\nend\n";
 
