@@ -57,6 +57,13 @@ less_told second first axis x y r x_is y_is is =
     ap (λ (row : List ℤ). record { b = row })
     (is ∙ ap (λ (v : List ℤ). eight (λ k. at v k -ℤ at y k)) x_is ∙ ap (λ (v : List ℤ). eight (λ k. at (controls second axis) k -ℤ at v k)) y_is)
 
+-- the same of two rows
+pub rows_less : (second first : List (List ℤ)) (axis : ℕ) (d e : List ℤ) (r : Bez 8) → axis < length second → axis < length first →
+    r.b ≡ eight (λ k. at (get_or second axis d) k -ℤ at (get_or first axis e) k) → r ≡ less (curves_of second) (curves_of first) axis
+rows_less second first axis d e r upper lower is =
+    less_told (curves_of second) (curves_of first) axis (get_or second axis d) (get_or first axis e) r
+    (same_default second axis d [] upper ∙ sym (controls_row second axis)) (same_default first axis e [] lower ∙ sym (controls_row first axis)) is
+
 -- one of some small curves is small
 pub small_among : (curves : List (Bez 8)) (i : ℕ) → i < length curves → All (λ (curve : Bez 8). All (IsBelow (2 ^ 28)) curve.b) curves → All (IsBelow (2 ^ 28)) (controls curves i)
 small_among curves i inside small = All-get_or (λ (curve : Bez 8). All (IsBelow (2 ^ 28)) curve.b) curves i (record { b = [] }) inside small

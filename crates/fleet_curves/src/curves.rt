@@ -1,11 +1,11 @@
 //! The raised curves of a fleet.
 
-ghost use Rattle.std.specs.Prelude.{◌≡◌, ℕ, ◌+◌, ◌*◌, ◌^◌, ◌≤◌, ◌<◌, ℤ, ◌++◌, ◌∷◌, [], All, IfOk, OnOk, length};
+ghost use Rattle.std.specs.Prelude.{◌≡◌, ℕ, ◌+◌, ◌*◌, ◌^◌, ◌≤◌, ◌<◌, ℤ, ◌-ℤ◌, ◌++◌, ◌∷◌, [], All, IfOk, OnOk, length};
 ghost use Rattle.fleet_math.specs.Numbers.{IsBelow};
 ghost use Rattle.fleet_math.specs.Decoded.{last_value};
 ghost use Rattle.bezier_core.specs.Curves.{IsLength};
-ghost use Rattle.bezier_core.specs.Along.{controls};
-ghost use Rattle.bezier_core.specs.Raised.{raised};
+ghost use Rattle.fleet_math.specs.Bernstein.{at};
+ghost use Rattle.bezier_core.specs.Raised.{eight, raised};
 ghost use Rattle.fleet_math.specs.Limits.{most_cues};
 ghost use Rattle.traj_codec.specs.Spelling.{stored};
 ghost use Rattle.traj_codec.specs.Positions.{element_on, value_after};
@@ -131,6 +131,28 @@ fn differences(second: &[[i32; 8]; 3], first: &[[i32; 8]; 3]) -> [Bez<8>; 3]
     ]
 }
 
+// One control value less another. It is computed in 64 bits, which hold each difference of two numbers of 32.
+fn gap(second: i32, first: i32) -> i128
+    ensures { result ≡ second -ℤ first }
+{
+    i128::from(i64::from(second) - i64::from(first))
+}
+
+macro_rules! gaps {
+    ($second:expr, $first:expr; $($k:literal)*) => {
+        [$(gap($second[$k], $first[$k])),*]
+    };
+}
+
+// One row of control values less another. Neither is widened to a curve first.
+fn row_less(second: &[i32; 8], first: &[i32; 8]) -> Bez<8>
+    ensures { result.b ≡ eight (λ k. at second.now k -ℤ at first.now k) }
+{
+    Bez {
+        b: gaps!(second, first; 0 1 2 3 4 5 6 7),
+    }
+}
+
 // One curve less another.
 fn one_less(second: &[[i32; 8]; 3], first: &[[i32; 8]; 3], axis: usize) -> Bez<8>
     requires axis { axis < 3 }
@@ -139,17 +161,7 @@ fn one_less(second: &[[i32; 8]; 3], first: &[[i32; 8]; 3], axis: usize) -> Bez<8
     ensures exact { result ≡ less (curves_of second.now) (curves_of first.now) axis }
     ensures small { All (IsBelow (2 ^ 30)) result.b }
 {
-    curve_on(second, axis).minus(&curve_on(first, axis))
-}
-
-// The curve on an axis.
-fn curve_on(rows: &[[i32; 8]; 3], axis: usize) -> Bez<8>
-    requires axis { axis < 3 }
-    requires rows { AreSmallCurves (curves_of rows.now) }
-    ensures exact { result.b ≡ controls (curves_of rows.now) axis }
-    ensures small { All (IsBelow (2 ^ 28)) result.b }
-{
-    widened(&rows[axis])
+    row_less(&second[axis], &first[axis])
 }
 
 // A curve whose control values are kept in 32 bits.
