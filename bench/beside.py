@@ -37,7 +37,7 @@ class Run:
         self.command, self.source, self.sink, self.seconds = command, source, sink, float("inf")
 
     def status(self, most=None):
-        """The status of one run, with at most so many KiB of address space."""
+        """The status of one run, with at most this many KiB of address space."""
         def limit():
             if most is not None:
                 resource.setrlimit(resource.RLIMIT_AS, (most << 10, most << 10))

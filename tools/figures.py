@@ -10,7 +10,7 @@
     print(show.text(), end="")
 
 Lengths are in metres, times in seconds, angles in degrees. A place is (x, y, z). A path is a function from the part u
-of its time, 0 to 1, to a place; those of this module begin and end at rest. `Show.fly` cuts a path into so many cues,
+of its time, 0 to 1, to a place; those of this module begin and end at rest. `Show.fly` cuts a path into a number of cues,
 writes each piece as the cubic with the path's place and velocity at both ends, and returns by how much the cubics
 leave the paths, in metres. Nothing is proved of what it writes: ./show check judges it as any other show.
 """
