@@ -16,7 +16,7 @@ mod text;
 pub use certificate::{CertFault, Certificate};
 pub use fleet_curves::Curves;
 pub use judge::{certificate_law, check, node_fault};
-pub use sep_parts::{DIRECTIONS, Dirs, Node, WIDE, separates, thresholds};
+pub use sep_parts::{DIRECTIONS, Dirs, Node, WIDE, above, separates, thresholds};
 pub use text::{
     CERTIFICATE_LIMIT, CertTextFault, depth_of, read_certificate, text_law, write_certificate,
 };

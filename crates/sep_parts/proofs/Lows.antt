@@ -1,9 +1,10 @@
 -- The first control value below a number.
-use Rattle.std.proofs.Common.{◌≡◌, ℕ, zero, suc, ◌+◌, ◌^◌, ◌≤◌, ◌<◌, ℤ, pos, ◌≤ℤ◌, Bool, true, false, cond, not, int_lt, nat_lt, arith, refl, ap, subst, List, [], ◌∷◌, length, get_or, Option, Some, None, IsTrue}
+use Rattle.std.proofs.Common.{◌≡◌, ℕ, zero, suc, ◌+◌, ◌^◌, ◌≤◌, ◌<◌, ℤ, pos, ◌≤ℤ◌, Bool, true, false, cond, not, int_le, int_lt, nat_lt, arith, refl, ap, subst, List, [], ◌∷◌, length, get_or, Option, Some, None, IsTrue}
 use Rattle.std.specs.Prelude.{◌↔◌}
-use Rattle.std.specs.List.{position, position_or_len}
+use Rattle.std.specs.List.{list_all, position, position_or_len}
 use Rattle.std.proofs.lemmas.Int.{ints}
-use Rattle.std.proofs.lemmas.List.Sums.{position_or_len_is}
+use Rattle.std.proofs.lemmas.List.Sums.{AllPass-from_list_all, list_all-from_AllPass, position_or_len_is}
+use Rattle.std.proofs.lemmas.List.Elements.{All-from_get_or}
 use Rattle.std.proofs.lemmas.List.Quantifiers.{position-Some}
 use Rattle.std.proofs.lemmas.Bool.Decides.{nat_tests}
 use Rattle.fleet_math.specs.Bernstein.{at}
@@ -58,6 +59,20 @@ first_low-none f least above =
     (λ k small. not_below (f k) (at (eight f) k) least (at-eight f k (omega arith)) (above k (omega arith)))
     (λ less. absurd (omega arith)) in
     ap (λ n. cond (nat_lt n 8) (Some n) None) none
+
+-- eight values are all at least a number exactly where each of them is
+pub all_above : (b : List ℤ) (least : ℤ) → length b ≡ 8 → IsTrue (list_all (λ v. int_le least v) b) ↔ ((k : ℕ) → k ≤ 7 → least ≤ℤ at b k)
+all_above b least eight_long = (
+  λ all k small. let here : int_le least (at b k) ≡ true = AllPass-from_list_all (λ v. int_le least v) b all k (pos 0) (omega (arith, eight_long)) in omega (arith, ints, here),
+  λ above. list_all-from_AllPass (λ v. int_le least v) b (All-from_get_or (λ v. int_le least v ≡ true) b (pos 0) (λ k inside. at_least (at b k) (above k (omega (arith, eight_long))))),
+)
+  where
+    at_least : (v : ℤ) → least ≤ℤ v → int_le least v ≡ true
+    at_least v more = go (int_le least v) refl
+      where
+        go : (b : Bool) → int_le least v ≡ b → b ≡ true
+        go true e = refl
+        go false e = absurd (omega (arith, ints, e, more))
 
 pub first_low-small : (f : ℕ → ℤ) (least : ℤ) (k : ℕ) → first_low f least ≡ Some k → k < 8
 unfolding first_low

@@ -16,6 +16,10 @@ weights n r h = (at n 0 *ℤ pos h) ∷ (at n 1 *ℤ pos h) ∷ (at n 2 *ℤ pos
 abbrev pub least_value : ℤ → ℕ → ℤ
 least_value t depth = t *ℤ pos (5040 * 2 ^ (7 * depth))
 
+-- each of eight control values of a part of this depth is at least that
+abbrev pub IsAbove : ℤ → ℕ → (ℕ → ℤ) → Type 0
+IsAbove t depth f = (k : ℕ) → k ≤ 7 → least_value t depth ≤ℤ f k
+
 -- The control value k of three curves along a direction, in the part at a place: the weighted sum of the three.
 abbrev pub part_along : ℕ → ℕ → List (Bez 8) → Place → List ℤ → ℕ → ℤ
 part_along r h diff place n k =
@@ -26,7 +30,7 @@ part_along r h diff place n k =
 -- The direction n separates a place of a pair and a cue, whose raised differences these are:
 -- along it each of the eight control values is at least the threshold.
 abbrev pub Separates : ℕ → ℕ → List (Bez 8) → Place → List ℤ → Type 0
-Separates r h diff place n = (k : ℕ) → k ≤ 7 → least_value (threshold r h n) place.depth ≤ℤ part_along r h diff place n k
+Separates r h diff place n = IsAbove (threshold r h n) place.depth (part_along r h diff place n)
 
 -- the first of eight control values that is below another number
 unfoldable pub first_low : (ℕ → ℤ) → ℤ → Option ℕ

@@ -22,7 +22,7 @@ mod tests;
 pub use apart::apart_law;
 pub use directions::{DIRECTIONS, Dirs, WIDE, table_law, threshold_law, thresholds};
 pub use node::{Node, tree_law};
-pub use part::{first_below, halves, low_control, projected, separates, size_law};
+pub use part::{above, first_below, halves, low_control, projected, separates, size_law};
 pub use ruler::Ruler;
 pub use rules::Rules;
 pub use slot::Slot;

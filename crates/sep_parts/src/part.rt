@@ -7,7 +7,7 @@ ghost use Rattle.bezier_core.specs.Along.{along_value, controls};
 ghost use Rattle.bezier_core.specs.Raised.{eight};
 ghost use Rattle.halving.specs.Part.{part_value};
 ghost use Rattle.sep_parts.specs.Directions.{AreSmall, IsAxis};
-ghost use Rattle.sep_parts.specs.Separates.{first_low, least_value, weights};
+ghost use Rattle.sep_parts.specs.Separates.{IsAbove, first_low, least_value, weights};
 ghost use Rattle.sep_parts.specs.Sizes.{SizeLaw};
 
 use bezier_core::{Bez, along, along_at};
@@ -23,7 +23,7 @@ pub fn separates(diff: &[Bez<8>; 3], n: [i8; 3], r: u16, h: u16, threshold: i128
     requires positive { pos 0 ≤ℤ threshold }
     requires small { threshold <ℤ pos (2 ^ 30) }
     requires depth { depth ≤ 8 }
-    ensures { IsTrue result ↔ ((k : ℕ) → k ≤ 7 → least_value threshold depth ≤ℤ along_value diff.now (weights n r h) k) }
+    ensures { IsTrue result ↔ IsAbove threshold depth (along_value diff.now (weights n r h)) }
 {
     all_reach(diff, weights(n, r, h), scaled(threshold, depth))
 }
@@ -103,6 +103,18 @@ pub fn first_below(curve: &Bez<8>, threshold: i128, depth: u8) -> Option<usize>
 {
     let least = scaled(threshold, depth);
     curve.b.iter().position(|v| *v < least)
+}
+
+/// Whether each of the eight control values is at least the threshold, at the scale of raised curves and of the depth. Of three
+/// curves along a direction, as [`projected`] gives them, it says whether the direction separates their part.
+pub fn above(p: &Bez<8>, threshold: i128, depth: u8) -> bool
+    requires positive { pos 0 ≤ℤ threshold }
+    requires small { threshold <ℤ pos (2 ^ 30) }
+    requires depth { depth ≤ 8 }
+    ensures { IsTrue result ↔ IsAbove threshold depth (at p.now.b) }
+{
+    let least = scaled(threshold, depth);
+    p.b.iter().all(|v| least <= *v)
 }
 
 // The weights of the three curves along a direction.

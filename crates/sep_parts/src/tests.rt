@@ -76,6 +76,21 @@ fn the_first_control_value_that_is_too_low(rt: HostRuntime) -> Result<(), Fail> 
     Ok(())
 }
 
+// 5,040 times 2 to the 14 is 82,575,360: what a threshold of 1 asks at depth 2.
+#[test]
+fn all_control_values_at_the_threshold(rt: HostRuntime) -> Result<(), Fail> {
+    let reached = [82_575_360; 8];
+    assert!(rt; above(&Bez::<8> { b: reached }, 1, 2));
+    assert!(rt; !above(&Bez::<8> { b: reached }, 2, 2));
+    assert!(rt; !above(&Bez::<8> { b: reached }, 1, 3));
+    for k in 0..8 {
+        let mut b = reached;
+        b[k] = 82_575_359;
+        assert!(rt; !above(&Bez::<8> { b }, 1, 2), "the value {k}");
+    }
+    Ok(())
+}
+
 // Three drones in two cues: the pairs by first and then second drone, for each the cues, and then a pair that is none.
 #[test]
 fn pairs_and_cues_in_order(rt: HostRuntime) -> Result<(), Fail> {
