@@ -1,5 +1,6 @@
 -- What a checker has read after a byte more, and what its verdict says.
-use Rattle.std.proofs.Common.{◌≡◌, ℕ, ◌+◌, ◌≤◌, arith, refl, sym, ◌∙◌, ap, subst, List, [], ◌∷◌, ◌++◌, length, length-append}
+use Rattle.std.proofs.Common.{◌≡◌, ℕ, ◌+◌, ◌*◌, ◌^◌, ◌≤◌, ◌<◌, arith, refl, sym, ◌∙◌, ap, subst, List, [], ◌∷◌, ◌++◌, length}
+use Rattle.bezier_core.specs.declared.Bez.{Bez}
 use Rattle.fleet_curves.specs.Raised.{Raised}
 use Rattle.sep_parts.specs.Slots.{slots}
 use Rattle.sep_parts.specs.Versions.{table_of}
@@ -7,37 +8,89 @@ use Rattle.sep_certificate.specs.Certificates.{rules_of}
 use Rattle.sep_certificate.proofs.Keeping.{keeps}
 use Rattle.sep_certificate.proofs.Named.{fault_named}
 use Rattle.sep_certificate.proofs.Verdicts.{valid_of}
+use Rattle.certificate_checker.specs.declared.reader.Reader.{Reader}
+use Rattle.certificate_checker.specs.declared.reader.Stage.{Stage}
+use Rattle.certificate_checker.specs.declared.reader.Stage.TheVariants as stage
+use Rattle.certificate_checker.specs.declared.text.TextReader.{TextReader}
 use Rattle.certificate_checker.specs.declared.verdict.Verdict.{Verdict}
 use Rattle.certificate_checker.specs.declared.verdict.Verdict.TheVariants.{Valid, Line, Refused}
 use Rattle.certificate_checker.specs.Verdicts.{VerdictGives}
-use Rattle.certificate_checker.specs.Checking.{Checking, checked, checked_all, closed, nothing_checked, verdict_of}
-use Rattle.certificate_checker.specs.Bytes.{Seen, NamesFault, ApartWhereValid, HasRead, checking_of, most_bytes}
-use Rattle.certificate_checker.specs.Steps.{IsFew, IsReader}
+use Rattle.certificate_checker.specs.Checking.{Checking, FirstLine, Reading, checked, checked_all, closed, nothing_checked, verdict_of}
+use Rattle.certificate_checker.specs.Bytes.{Seen, NamesFault, ApartWhereValid, HasRead, most_bytes}
+use Rattle.certificate_checker.specs.Judgments.{AreFew, AreWithin, HasAtMost, IsNextIn}
+use Rattle.certificate_checker.specs.Steps.{HasRoom, HasTreeRoom, IsReader, IsSound, reading_by, reading_of, trees_of}
+use Rattle.certificate_checker.proofs.Few.{few_read, few_wider, within_wider}
 use Rattle.certificate_checker.proofs.Verdicts.{checking_told}
+
+-- ---- what is kept, and what it stands for
+-- the numbers of a reader are small where those that it stands for are
+owed_by : (r : Reader) (s : Stage) (o l k : ℕ) → r.stage ≡ s → AreWithin o l k (reading_by r s) → r.stage ≡ stage.Tree → r.owed ≤ o
+owed_by r stage.Tree o l k is within tree = within.0
+owed_by r stage.First o l k is within tree = absurd (cc)
+owed_by r stage.Depth o l k is within tree = absurd (cc)
+owed_by r stage.Faulty o l k is within tree = absurd (cc)
+
+tree_by : (r : Reader) (s : Stage) (o l k : ℕ) → r.stage ≡ s → AreWithin o l k (reading_by r s) → r.stage ≡ stage.Tree → (r.line ≤ l) × HasAtMost k r.judging.judged
+tree_by r stage.Tree o l k is (owed, line, trees) tree = (line, trees)
+tree_by r stage.First o l k is within tree = absurd (cc)
+tree_by r stage.Depth o l k is within tree = absurd (cc)
+tree_by r stage.Faulty o l k is within tree = absurd (cc)
+
+pub room_of : (r : Reader) (o l k : ℕ) → o < 2 ^ 31 → AreWithin o l k (reading_of r) → HasRoom r
+room_of r o l k small within = λ tree. let few = owed_by r r.stage o l k refl within tree in omega (arith, small, few)
+
+pub tree_room_of : (r : Reader) (o l k : ℕ) → l < 2 ^ 31 → k ≤ most_bytes → AreWithin o l k (reading_of r) → HasTreeRoom r
+tree_room_of r o l k small trees within = λ tree.
+    let few = tree_by r r.stage o l k refl within tree in
+    (omega (arith, small, few.0), few_wider k most_bytes r.judging.judged trees few.1)
+
+-- a reader stands for what is kept over some curves, where its difference is that of the next pair and cue
+next_by : (curves : Raised) (r : Reader) (s : Stage) → r.stage ≡ s → IsNextIn curves (reading_by r s) r.judging.diff → r.stage ≡ stage.Tree → IsNextIn curves (reading_by r stage.Tree) r.judging.diff
+next_by curves r stage.Tree is next tree = next
+next_by curves r stage.First is next tree = absurd (cc)
+next_by curves r stage.Depth is next tree = absurd (cc)
+next_by curves r stage.Faulty is next tree = absurd (cc)
+
+pub reader_of : (curves : Raised) (r : Reader) → IsSound r → IsNextIn curves (reading_of r) r.judging.diff → IsReader curves r
+reader_of curves r sound next = record { judging = next_by curves r r.stage refl next; sound = sound }
+
+next_in : (curves : Raised) (r : Reader) (s : Stage) → r.stage ≡ s → IsReader curves r → IsNextIn curves (reading_by r s) r.judging.diff
+next_in curves r stage.Tree is reader = reader.judging is
+next_in curves r stage.First is reader = tt
+next_in curves r stage.Depth is reader = tt
+next_in curves r stage.Faulty is reader = tt
+
+pub first_next : (curves : Raised) (reading : Reading) (diff : List (Bez 8)) → reading ≡ FirstLine [] → IsNextIn curves reading diff
+first_next curves reading diff is = subst (λ (x : Reading). IsNextIn curves x diff) (sym is) tt
+
+pub next_of : (curves : Raised) (r : Reader) → IsReader curves r → IsNextIn curves (reading_of r) r.judging.diff
+next_of curves r reader = next_in curves r r.stage refl reader
+
+-- ---- the bytes that a checker has read
+pub few_of : (c : Seen) (curves : Raised) (bytes : List ℕ) → length bytes ≤ most_bytes → HasRead c curves bytes → AreFew most_bytes c.checking.reading
+few_of c curves bytes short has_read =
+    let n : ℕ = length bytes + 0 in
+    let few : AreFew n (checked_all c.r c.h curves nothing_checked bytes).reading = few_read c.r c.h curves bytes 0 nothing_checked tt in
+    within_wider (1 + 2 * n) (1 + 3 * n) n (1 + 2 * most_bytes) (1 + 3 * most_bytes) most_bytes c.checking.reading (omega (arith, short)) (omega (arith, short)) (omega (arith, short))
+    (subst (λ (checking : Checking). AreFew n checking.reading) (sym has_read.read) few)
 
 checked_more : (r h : ℕ) (curves : Raised) (c : Checking) (bytes : List ℕ) (b : ℕ) → checked_all r h curves c (bytes ++ b ∷ []) ≡ checked r h curves (checked_all r h curves c bytes) b
 unfolding checked_all
 checked_more r h curves c [] b = refl
 checked_more r h curves c (x ∷ bytes) b = checked_more r h curves (checked r h curves c x) bytes b
 
-pub few_more : (old new : Seen) (n : ℕ) → IsFew n old.reader → new.reader.owed ≤ old.reader.owed + 2 → new.reader.line ≤ old.reader.line + 3 →
-    new.reader.judging.trees ≤ old.reader.judging.trees + 1 → IsFew (n + 1) new.reader
-few_more old new n few owed line trees =
-    record { owed = omega (arith, few.owed, owed); line = omega (arith, few.line, line); trees = omega (arith, few.trees, trees) }
-
 pub read_more : (old new : Seen) (curves : Raised) (bytes : List ℕ) (b : ℕ) → (new.r ≡ old.r) × (new.h ≡ old.h) → HasRead old curves bytes →
-    checking_of new ≡ checked old.r old.h curves (checking_of old) b → IsReader curves new.reader → IsFew (length bytes + 1) new.reader → HasRead new curves (bytes ++ b ∷ [])
-read_more old new curves bytes b axes has_read read reader few = record {
-  reader = reader;
-  few = let e : length (bytes ++ b ∷ []) ≡ length bytes + 1 = omega (arith, length-append bytes (b ∷ [])) in subst (λ (n : ℕ). IsFew n new.reader) (sym e) few;
+    new.checking ≡ checked old.r old.h curves old.checking b → IsNextIn curves new.checking.reading new.diff → HasRead new curves (bytes ++ b ∷ [])
+read_more old new curves bytes b axes has_read read next = record {
   read = read ∙ ap (λ (c : Checking). checked old.r old.h curves c b) has_read.read ∙ sym (checked_more old.r old.h curves nothing_checked bytes b)
       ∙ ap (λ (r : ℕ). checked_all r old.h curves nothing_checked (bytes ++ b ∷ [])) (sym axes.0)
       ∙ ap (λ (h : ℕ). checked_all new.r h curves nothing_checked (bytes ++ b ∷ [])) (sym axes.1);
+  next = next;
 }
 
 -- ---- the verdict
 pub verdict_told : (c : Seen) (curves : Raised) (bytes : List ℕ) (verdict : Verdict) → 1 ≤ curves.drones → 1 ≤ curves.cues → length bytes ≤ most_bytes → HasRead c curves bytes →
-    verdict ≡ verdict_of curves (closed c.r c.h curves (checking_of c)) → VerdictGives curves c.r c.h bytes verdict
+    verdict ≡ verdict_of curves (closed c.r c.h curves c.checking) → VerdictGives curves c.r c.h bytes verdict
 verdict_told c curves bytes verdict drones cues short has_read is =
     subst (VerdictGives curves c.r c.h bytes)
     (sym (is ∙ ap (λ (checking : Checking). verdict_of curves (closed c.r c.h curves checking)) has_read.read))

@@ -6,4 +6,5 @@ pub mod Heads
 pub mod Lines
 pub mod Texts
 pub mod Verdicts
+pub mod Few
 pub mod Bytes

@@ -74,12 +74,12 @@ pub data Reading : Type 0 where
 abbrev pub rules_in : ℕ → ℕ → TreesRead → Rules
 rules_in r h t = record { r = r; h = h; depth = t.depth }
 
--- a node of the line, after which it owes this many trees
+-- a node of the line, after which it owes so many trees
 abbrev pub node_read : ℕ → ℕ → Raised → TreesRead → Node → ℕ → Reading
 node_read r h curves t node owed =
     TreeLine (record t { owed = owed; digit = None; judged = with_node (rules_in r h t) (table_of t.version) curves t.judged node })
 
--- a byte of a line of version 1 that owes this many trees
+-- a byte of a line of version 1 that owes so many trees
 abbrev pub letter_read : ℕ → ℕ → Raised → TreesRead → ℕ → ℕ → Reading
 letter_read r h curves t zero b = Faulty t.line
 letter_read r h curves t (suc n) b =

@@ -1,4 +1,5 @@
 pub mod Verdicts
 pub mod Checking
+pub mod Judgments
 pub mod Steps
 pub mod Bytes

@@ -4,8 +4,9 @@ ghost use Rattle.std.specs.Prelude.{◌≡◌, ◌+◌, ◌^◌, ◌≤◌, ◌<
 ghost use Rattle.sep_parts.specs.Slots.{slot_at};
 ghost use Rattle.sep_parts.specs.Trees.{IsKnown};
 ghost use Rattle.sep_parts.specs.Versions.{IsVersion, known_in, table_of};
+ghost use Rattle.certificate_checker.specs.Bytes.{most_bytes};
 ghost use Rattle.certificate_checker.specs.Checking.{before_tree, judged_verdict, with_node, with_tree};
-ghost use Rattle.certificate_checker.specs.Steps.{AreRaised, IsDifference, IsJudging, IsSlotOrPast, judged_of};
+ghost use Rattle.certificate_checker.specs.Judgments.{AreRaised, HasAtMost, IsDifference, IsNext, IsSlotOrPast};
 
 use crate::tables::Tables;
 use crate::verdict::Verdict;
@@ -14,9 +15,10 @@ use fleet_curves::Curves;
 use halving::Place;
 use sep_certificate::CertFault;
 use sep_parts::{Level, Node, Slot, Stack};
+use std::marker::Model;
 
 /// The pair and cue whose tree comes next, the places of that tree that are still to be judged, with the parts of the curves there,
-/// and how many trees are whole; or the first fault.
+/// and the number of whole trees; or the first fault. Contracts see what is judged, and the difference of the pair's curves.
 #[derive(Drop)]
 pub struct Judging {
     slot: Slot,
@@ -26,7 +28,26 @@ pub struct Judging {
     stack: Stack,
 }
 
-// The difference of the curves of a pair in a cue; of a pair past the last one zeros, which nobody reads.
+impl Model for Judging {
+    ghost use Rattle.std.specs.Prelude.{◌≡◌};
+    ghost use Rattle.sep_parts.specs.Levels.{IsStack, places_of};
+    ghost use Rattle.certificate_checker.specs.Judgments.{AreRaised, Judgment, judged_by};
+
+    ghost Value = { Judgment };
+
+    ghost view = { λ j. record { judged = judged_by j.slot (places_of j.stack) j.trees j.fault; diff = j.diff } };
+
+    ghost invariant = { λ j. AreRaised j.diff × IsStack j.diff j.stack };
+}
+
+// Zeros, where no pair and cue comes next. Nobody reads them.
+fn nothing() -> [Bez<8>; 3]
+    ensures { AreRaised result }
+{
+    [Bez { b: [0; 8] }; 3]
+}
+
+// The difference of the curves of a pair in a cue.
 fn difference(curves: &Curves, slot: Slot) -> [Bez<8>; 3]
     requires { IsSlotOrPast curves.now slot }
     ensures raised { AreRaised result }
@@ -35,47 +56,17 @@ fn difference(curves: &Curves, slot: Slot) -> [Bez<8>; 3]
     if usize::from(slot.b) < curves.drones() {
         curves.diff(slot.a as usize, slot.b as usize, slot.cue as usize)
     } else {
-        [Bez { b: [0; 8] }; 3]
+        nothing()
     }
 }
 
 impl Judging {
-    // Before anything is judged.
-    pub fn idle() -> Judging
-        ensures { result.trees ≡ 0 }
+    // Before the tree of a pair and cue with this difference, after `trees` trees.
+    fn over(diff: [Bez<8>; 3], slot: Slot, trees: u32) -> Judging
+        requires { AreRaised diff }
+        ensures judged { result.judged ≡ before_tree slot trees }
+        ensures diff { result.diff ≡ diff }
     {
-        let diff = [Bez { b: [0; 8] }; 3];
-        Judging {
-            slot: Slot::first(),
-            trees: 0,
-            fault: None,
-            diff,
-            stack: Stack::of(Level {
-                place: Place { depth: 0, index: 0 },
-                part: diff,
-            }),
-        }
-    }
-
-    // Before the first tree.
-    pub fn first_tree(curves: &Curves) -> Judging
-        ensures judged { judged_of result ≡ before_tree (slot_at 0 1 0) 0 }
-        ensures judging { IsJudging curves.now result }
-        ensures trees { result.trees ≡ 0 }
-    {
-        // there is at least one cue
-        let _cues = curves.cues();
-        Judging::before_tree(curves, Slot::first(), 0)
-    }
-
-    // Before the tree of a pair and cue.
-    pub fn before_tree(curves: &Curves, slot: Slot, trees: u32) -> Judging
-        requires { IsSlotOrPast curves.now slot }
-        ensures judged { judged_of result ≡ before_tree slot trees }
-        ensures judging { IsJudging curves.now result }
-        ensures trees { result.trees ≡ trees }
-    {
-        let diff = difference(curves, slot);
         Judging {
             slot,
             trees,
@@ -88,16 +79,41 @@ impl Judging {
         }
     }
 
-    // A node of the tree that comes next, of a certificate of this version and depth. After the first fault, and in a tree too
-    // many, none is judged.
+    // Before anything is judged.
+    pub fn idle() -> Judging
+        ensures { result.judged ≡ before_tree (slot_at 0 1 0) 0 }
+    {
+        Judging::over(nothing(), Slot::first(), 0)
+    }
+
+    // Before the first tree.
+    pub fn first_tree(curves: &Curves) -> Judging
+        ensures judged { result.judged ≡ before_tree (slot_at 0 1 0) 0 }
+        ensures next { IsNext curves.now result.judged result.diff }
+    {
+        // there is at least one cue
+        let _cues = curves.cues();
+        Judging::before_tree(curves, Slot::first(), 0)
+    }
+
+    // Before the tree of a pair and cue.
+    pub fn before_tree(curves: &Curves, slot: Slot, trees: u32) -> Judging
+        requires { IsSlotOrPast curves.now slot }
+        ensures judged { result.judged ≡ before_tree slot trees }
+        ensures next { IsNext curves.now result.judged result.diff }
+    {
+        Judging::over(difference(curves, slot), slot, trees)
+    }
+
+    // Judges a node of the tree that comes next, of a certificate of this version and depth. After the first fault, and in a tree
+    // too many, no node is judged.
     pub fn node(&mut self, curves: &Curves, tables: &Tables, version: u8, depth: u8, node: Node)
-        requires judging { IsJudging curves.now self.old }
+        requires next { IsNext curves.now self.old.judged self.old.diff }
         requires version { IsVersion version }
         requires depth { depth ≤ 8 }
         requires known { IsKnown (known_in version) node }
-        ensures judged { judged_of self.new ≡ with_node (record { r = tables.now.r; h = tables.now.h; depth = depth }) (table_of version) curves.now (judged_of self.old) node }
-        ensures judging { IsJudging curves.now self.new }
-        ensures trees { self.new.trees ≡ self.old.trees }
+        ensures judged { self.new.judged ≡ with_node (record { r = tables.now.r; h = tables.now.h; depth = depth }) (table_of version) curves.now self.old.judged node }
+        ensures next { IsNext curves.now self.new.judged self.new.diff }
     {
         if self.fault.is_some() || usize::from(self.slot.b) >= curves.drones() {
             return;
@@ -113,11 +129,10 @@ impl Judging {
 
     // The tree is whole.
     pub fn end_tree(&mut self, curves: &Curves)
-        requires judging { IsJudging curves.now self.old }
-        requires few { self.old.trees < 2 ^ 31 }
-        ensures judged { judged_of self.new ≡ with_tree curves.now (judged_of self.old) }
-        ensures judging { IsJudging curves.now self.new }
-        ensures trees { self.new.trees ≤ self.old.trees + 1 }
+        requires next { IsNext curves.now self.old.judged self.old.diff }
+        requires few { HasAtMost most_bytes self.old.judged }
+        ensures judged { self.new.judged ≡ with_tree curves.now self.old.judged }
+        ensures next { IsNext curves.now self.new.judged self.new.diff }
     {
         if self.fault.is_some() {
             return;
@@ -132,7 +147,7 @@ impl Judging {
 
     // The verdict where the text ends here.
     pub fn verdict(&self, curves: &Curves, version: u8, depth: u8) -> Verdict
-        ensures { result ≡ judged_verdict curves.now version depth (judged_of self.now) }
+        ensures { result ≡ judged_verdict curves.now version depth self.now.judged }
     {
         if let Some(fault) = self.fault {
             return Verdict::Refused { version, fault };

@@ -1,12 +1,13 @@
 //! The lines of a certificate's text, read byte by byte.
 
 ghost use Rattle.std.specs.Prelude.{◌≡◌, ◌+◌, ◌^◌, ◌≤◌, ◌<◌, [], Some, None, IsTrue, IsFalse, MatchOption};
-ghost use Rattle.fleet_curves.specs.Raised.{Raised};
 ghost use Rattle.sep_parts.specs.Trees.{IsKnown};
 ghost use Rattle.sep_parts.specs.Versions.{IsVersion, known_in};
 ghost use Rattle.sep_certificate.specs.Texts.{is_wide_leaf, two_digits};
+ghost use Rattle.certificate_checker.specs.Bytes.{most_bytes};
 ghost use Rattle.certificate_checker.specs.Checking.{FirstLine, TreeLine, byte_read, depth_read, digit_read, kept, letter_read, line_read, node_read, verdict_of, with_return};
-ghost use Rattle.certificate_checker.specs.Steps.{IsFew, IsReader, reading_of, trees_of};
+ghost use Rattle.certificate_checker.specs.Judgments.{HasAtMost};
+ghost use Rattle.certificate_checker.specs.Steps.{HasRoom, HasTreeRoom, IsReader, IsSound, reading_of, trees_of};
 
 use crate::judging::Judging;
 use crate::tables::Tables;
@@ -16,7 +17,7 @@ use fleet_curves::Curves;
 use sep_certificate::depth_of;
 use sep_parts::Node;
 
-/// Which line is read: the first one; the one that says the depth of version 2; one of a tree; or a line was faulty.
+/// The line that is read: the first one; the one with the depth of version 2; one of a tree; or none, after a faulty one.
 #[derive(Clone, Copy, PartialEq, Eq)]
 pub enum Stage {
     First,
@@ -47,7 +48,7 @@ fn keep(head: &mut ArrayVec<u8, 15>, b: u8)
     }
 }
 
-// The number of a direction of version 2 that two digits are.
+// The direction of version 2 that two digits name.
 fn leaf(first: u8, second: u8) -> Option<u8>
     ensures leaf { MatchOption result (IsFalse (is_wide_leaf first second)) (λ dir. IsTrue (is_wide_leaf first second) × (dir ≡ two_digits first second) × (dir < 98)) }
 {
@@ -63,8 +64,7 @@ impl Reader {
     // Before the first byte.
     pub fn start() -> Reader
         ensures read { reading_of result ≡ FirstLine [] }
-        ensures reader { (curves : Raised) → IsReader curves result }
-        ensures few { IsFew 0 result }
+        ensures sound { IsSound result }
     {
         Reader {
             stage: Stage::First,
@@ -78,16 +78,13 @@ impl Reader {
         }
     }
 
-    // A node of the line, after which it owes this many trees.
+    // A node of the line. After it `owed` trees are still to come.
     fn node(&mut self, curves: &Curves, tables: &Tables, node: Node, owed: u32)
         requires reader { IsReader curves.now self.old }
         requires stage { self.old.stage ≡ Stage.Tree }
         requires known { IsKnown (known_in self.old.version) node }
         ensures read { reading_of self.new ≡ node_read tables.now.r tables.now.h curves.now (trees_of self.old) node owed }
         ensures reader { IsReader curves.now self.new }
-        ensures owed { self.new.owed ≡ owed }
-        ensures line { self.new.line ≡ self.old.line }
-        ensures trees { self.new.judging.trees ≡ self.old.judging.trees }
     {
         self.owed = owed;
         self.digit = None;
@@ -103,9 +100,6 @@ impl Reader {
         requires room { self.old.owed < 2 ^ 31 }
         ensures read { reading_of self.new ≡ letter_read tables.now.r tables.now.h curves.now (trees_of self.old) self.old.owed b }
         ensures reader { IsReader curves.now self.new }
-        ensures owed { self.new.owed ≤ self.old.owed + 1 }
-        ensures line { self.new.line ≡ self.old.line }
-        ensures trees { self.new.judging.trees ≡ self.old.judging.trees }
     {
         if self.owed == 0 {
             self.stage = Stage::Faulty;
@@ -127,9 +121,6 @@ impl Reader {
         requires room { self.old.owed < 2 ^ 31 }
         ensures read { reading_of self.new ≡ digit_read tables.now.r tables.now.h curves.now (trees_of self.old) self.old.owed None b }
         ensures reader { IsReader curves.now self.new }
-        ensures owed { self.new.owed ≤ self.old.owed + 1 }
-        ensures line { self.new.line ≡ self.old.line }
-        ensures trees { self.new.judging.trees ≡ self.old.judging.trees }
     {
         match b {
             b'.' => self.node(curves, tables, Node::Split, self.owed + 1),
@@ -146,9 +137,6 @@ impl Reader {
         requires some { 1 ≤ self.old.owed }
         ensures read { reading_of self.new ≡ digit_read tables.now.r tables.now.h curves.now (trees_of self.old) self.old.owed (Some first) b }
         ensures reader { IsReader curves.now self.new }
-        ensures owed { self.new.owed ≤ self.old.owed + 1 }
-        ensures line { self.new.line ≡ self.old.line }
-        ensures trees { self.new.judging.trees ≡ self.old.judging.trees }
     {
         match leaf(first, b) {
             Some(dir) => self.node(curves, tables, Node::Leaf { dir }, self.owed - 1),
@@ -164,9 +152,6 @@ impl Reader {
         requires room { self.old.owed < 2 ^ 31 }
         ensures read { reading_of self.new ≡ digit_read tables.now.r tables.now.h curves.now (trees_of self.old) self.old.owed self.old.digit b }
         ensures reader { IsReader curves.now self.new }
-        ensures owed { self.new.owed ≤ self.old.owed + 1 }
-        ensures line { self.new.line ≡ self.old.line }
-        ensures trees { self.new.judging.trees ≡ self.old.judging.trees }
     {
         if self.owed == 0 {
             self.stage = Stage::Faulty;
@@ -185,9 +170,6 @@ impl Reader {
         requires room { self.old.owed < 2 ^ 31 }
         ensures read { reading_of self.new ≡ byte_read tables.now.r tables.now.h curves.now (TreeLine (trees_of self.old)) b }
         ensures reader { IsReader curves.now self.new }
-        ensures owed { self.new.owed ≤ self.old.owed + 1 }
-        ensures line { self.new.line ≡ self.old.line }
-        ensures trees { self.new.judging.trees ≡ self.old.judging.trees }
     {
         if self.version == 1 {
             self.letter(curves, tables, b);
@@ -199,12 +181,9 @@ impl Reader {
     // A byte of the line, which is no line feed.
     pub fn byte(&mut self, curves: &Curves, tables: &Tables, b: u8)
         requires reader { IsReader curves.now self.old }
-        requires room { self.old.owed < 2 ^ 31 }
+        requires room { HasRoom self.old }
         ensures read { reading_of self.new ≡ byte_read tables.now.r tables.now.h curves.now (reading_of self.old) b }
         ensures reader { IsReader curves.now self.new }
-        ensures owed { self.new.owed ≤ self.old.owed + 1 }
-        ensures line { self.new.line ≡ self.old.line }
-        ensures trees { self.new.judging.trees ≡ self.old.judging.trees }
     {
         match self.stage {
             Stage::First | Stage::Depth => keep(&mut self.head, b),
@@ -216,27 +195,21 @@ impl Reader {
     // The carriage return that waits, if one does, belongs to the line.
     pub fn take_return(&mut self, curves: &Curves, tables: &Tables, returned: bool)
         requires reader { IsReader curves.now self.old }
-        requires room { self.old.owed < 2 ^ 31 }
+        requires room { HasRoom self.old }
         ensures read { reading_of self.new ≡ with_return tables.now.r tables.now.h curves.now returned (reading_of self.old) }
         ensures reader { IsReader curves.now self.new }
-        ensures owed { self.new.owed ≤ self.old.owed + 1 }
-        ensures line { self.new.line ≡ self.old.line }
-        ensures trees { self.new.judging.trees ≡ self.old.judging.trees }
     {
         if returned {
             self.byte(curves, tables, b'\r');
         }
     }
 
-    // The line that says the depth of this version is whole. Its number is that of the version.
+    // The line with the depth is whole. It is line 1 in version 1 and line 2 in version 2.
     fn end_depth(&mut self, curves: &Curves, version: u8)
         requires version { IsVersion version }
         requires reader { IsReader curves.now self.old }
         ensures read { reading_of self.new ≡ depth_read version version self.old.head.items }
         ensures reader { IsReader curves.now self.new }
-        ensures owed { self.new.owed ≤ self.old.owed + 1 }
-        ensures line { self.new.line ≤ 3 }
-        ensures trees { self.new.judging.trees ≤ self.old.judging.trees }
     {
         match depth_of(self.head.as_slice()) {
             Some(depth) => {
@@ -260,9 +233,6 @@ impl Reader {
         requires reader { IsReader curves.now self.old }
         ensures read { reading_of self.new ≡ line_read curves.now (FirstLine self.old.head.items) }
         ensures reader { IsReader curves.now self.new }
-        ensures owed { self.new.owed ≤ self.old.owed + 1 }
-        ensures line { self.new.line ≤ self.old.line + 3 }
-        ensures trees { self.new.judging.trees ≤ self.old.judging.trees }
     {
         if self.head.as_slice() == b"version 2".as_slice() {
             self.stage = Stage::Depth;
@@ -277,12 +247,9 @@ impl Reader {
         requires reader { IsReader curves.now self.old }
         requires stage { self.old.stage ≡ Stage.Tree }
         requires lines { self.old.line < 2 ^ 31 }
-        requires trees { self.old.judging.trees < 2 ^ 31 }
+        requires trees { HasAtMost most_bytes self.old.judging.judged }
         ensures read { reading_of self.new ≡ line_read curves.now (TreeLine (trees_of self.old)) }
         ensures reader { IsReader curves.now self.new }
-        ensures owed { self.new.owed ≤ self.old.owed + 1 }
-        ensures line { self.new.line ≤ self.old.line + 1 }
-        ensures trees { self.new.judging.trees ≤ self.old.judging.trees + 1 }
     {
         if self.owed != 0 {
             self.stage = Stage::Faulty;
@@ -296,13 +263,9 @@ impl Reader {
     // The line is whole.
     pub fn end_line(&mut self, curves: &Curves)
         requires reader { IsReader curves.now self.old }
-        requires lines { self.old.line < 2 ^ 31 }
-        requires trees { self.old.judging.trees < 2 ^ 31 }
+        requires room { HasTreeRoom self.old }
         ensures read { reading_of self.new ≡ line_read curves.now (reading_of self.old) }
         ensures reader { IsReader curves.now self.new }
-        ensures owed { self.new.owed ≤ self.old.owed + 1 }
-        ensures line { self.new.line ≤ self.old.line + 3 }
-        ensures trees { self.new.judging.trees ≤ self.old.judging.trees + 1 }
     {
         match self.stage {
             Stage::First => self.end_first(curves),

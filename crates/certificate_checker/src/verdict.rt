@@ -5,7 +5,7 @@ use sep_certificate::CertFault;
 /// What a certificate's text is, judged for the curves of a fleet.
 #[derive(Clone, Copy)]
 pub enum Verdict {
-    /// It says a certificate that is valid, of this depth and with this many trees.
+    /// It says a certificate that is valid, of this depth and with so many trees.
     Valid { depth: u8, trees: u32 },
     /// This line, counted from 1, is its first faulty one.
     Line { line: u32 },

@@ -1,17 +1,29 @@
-use Rattle.std.proofs.Common.{arith}
-use Rattle.certificate_checker.proofs.Bytes.{named_told, safe_told, verdict_told}
+use Rattle.std.proofs.Common.{◌≡◌, arith, sym, subst, List, length, ℕ, ◌≤◌}
+use Rattle.certificate_checker.specs.Bytes.{HasRead, Seen, most_bytes}
+use Rattle.certificate_checker.specs.Checking.{closed, verdict_of}
+use Rattle.certificate_checker.specs.Judgments.{AreFew}
+use Rattle.certificate_checker.specs.Verdicts.{VerdictGives}
+use Rattle.certificate_checker.proofs.Bytes.{few_of, named_told, safe_told, verdict_told}
 use Rattle.certificate_checker.proofs.checker.Checker.end.Goals as goal
+
+pub verdict-requires-clause-few : goal.verdict-requires-clause-few
+verdict-requires-clause-few c =
+    subst (λ (s : Seen). AreFew most_bytes s.checking.reading) (sym c.self.view_is)
+    (few_of c.args.self.now c.args.curves.now c.requires.0 c.requires.1 c.requires.2)
 
 pub returns-clause-gives : goal.returns-clause-gives
 returns-clause-gives c = λ bytes short has_read.
-    verdict_told c.args.self.now c.args.curves.now bytes c.close.result (omega arith) (omega arith) short has_read c.close.ensures
+    verdict_told c.args.self.now c.args.curves.now bytes c.verdict.result (omega arith) (omega arith) short has_read
+    (subst (λ (s : Seen). c.verdict.result ≡ verdict_of c.args.curves.now (closed s.r s.h c.args.curves.now s.checking)) c.self.view_is c.verdict.ensures.verdict)
 
 pub returns-clause-named : goal.returns-clause-named
 returns-clause-named c =
-    named_told c.args.curves.now c.args.self.now.r c.args.self.now.h c.requires.0 c.close.result
-    (verdict_told c.args.self.now c.args.curves.now c.requires.0 c.close.result (omega arith) (omega arith) c.requires.1 c.requires.2 c.close.ensures)
+    named_told c.args.curves.now c.args.self.now.r c.args.self.now.h c.requires.0 c.verdict.result
+    (verdict_told c.args.self.now c.args.curves.now c.requires.0 c.verdict.result (omega arith) (omega arith) c.requires.1 c.requires.2
+    (subst (λ (s : Seen). c.verdict.result ≡ verdict_of c.args.curves.now (closed s.r s.h c.args.curves.now s.checking)) c.self.view_is c.verdict.ensures.verdict))
 
 pub returns-clause-safe : goal.returns-clause-safe
 returns-clause-safe c =
-    safe_told c.args.curves.now c.args.self.now.r c.args.self.now.h c.requires.0 c.close.result
-    (verdict_told c.args.self.now c.args.curves.now c.requires.0 c.close.result (omega arith) (omega arith) c.requires.1 c.requires.2 c.close.ensures)
+    safe_told c.args.curves.now c.args.self.now.r c.args.self.now.h c.requires.0 c.verdict.result
+    (verdict_told c.args.self.now c.args.curves.now c.requires.0 c.verdict.result (omega arith) (omega arith) c.requires.1 c.requires.2
+    (subst (λ (s : Seen). c.verdict.result ≡ verdict_of c.args.curves.now (closed s.r s.h c.args.curves.now s.checking)) c.self.view_is c.verdict.ensures.verdict))

@@ -1,8 +1,18 @@
-use Rattle.std.proofs.Common.{length}
-use Rattle.certificate_checker.proofs.Bytes.{few_more, read_more}
+use Rattle.std.proofs.Common.{◌≡◌, ap, arith, sym, subst}
+use Rattle.certificate_checker.specs.Bytes.{Seen, most_bytes}
+use Rattle.certificate_checker.specs.Checking.{checked}
+use Rattle.certificate_checker.specs.Judgments.{AreFew}
+use Rattle.certificate_checker.specs.Steps.{checking_of}
+use Rattle.certificate_checker.proofs.Bytes.{few_of, next_of, read_more}
 use Rattle.certificate_checker.proofs.checker.Checker.feed.Goals as goal
+
+pub take-requires-clause-few : goal.take-requires-clause-few
+take-requires-clause-few c =
+    subst (λ (s : Seen). AreFew most_bytes s.checking.reading) (sym c.self.view_is)
+    (few_of c.args.self.now c.args.curves.now c.requires.0 (omega (arith, c.requires.1)) c.requires.2)
 
 pub returns-clause-has_read : goal.returns-clause-has_read
 returns-clause-has_read c = λ bytes short has_read.
-    read_more c.args.self.now c.step.new.self c.args.curves.now bytes c.args.byte c.step.ensures.axes has_read c.step.ensures.read c.step.ensures.reader
-    (few_more c.args.self.now c.step.new.self (length bytes) has_read.few c.step.ensures.owed c.step.ensures.line c.step.ensures.trees)
+    read_more c.args.self.now _ c.args.curves.now bytes c.args.byte (ap (λ (s : Seen). s.r) c.self.view_is, ap (λ (s : Seen). s.h) c.self.view_is) has_read
+    (subst (λ (s : Seen). checking_of c.take.new.self ≡ checked s.r s.h c.args.curves.now s.checking c.args.byte) c.self.view_is c.take.ensures.read)
+    (next_of c.args.curves.now c.take.new.self.reader c.take.ensures.reader)

@@ -1,11 +1,11 @@
 use Rattle.std.proofs.Common.{ap}
-use Rattle.certificate_checker.specs.Checking.{checked_all, fresh}
+use Rattle.certificate_checker.specs.Checking.{Checking, checked_all}
+use Rattle.certificate_checker.proofs.Bytes.{first_next}
 use Rattle.certificate_checker.proofs.checker.Checker.make.Goals as goal
 
 pub returns-clause-has_read : goal.returns-clause-has_read
 unfolding checked_all
 returns-clause-has_read c = λ curves. record {
-  reader = c.start.ensures.reader curves;
-  few = c.start.ensures.few;
-  read = ap fresh c.start.ensures.read;
+  read = c.start.ensures.read;
+  next = first_next curves _ c.start.result.reader.judging.diff (ap (λ (checking : Checking). checking.reading) c.start.ensures.read);
 }
