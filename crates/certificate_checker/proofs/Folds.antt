@@ -50,6 +50,6 @@ bytes_more r h curves reading (x ∷ xs) b = bytes_more r h curves (byte_read r 
 abbrev pub nodes_in : ℕ → List ℕ → List Node
 nodes_in version line = cond (version == 1) (map node_of_byte line) (wide_nodes line)
 
--- before a line of a tree that owes so many trees
+-- in a line of a tree in which this many trees are still to come
 abbrev pub line_at : ℕ → ℕ → ℕ → ℕ → Option ℕ → Judged → TreesRead
 line_at version depth n owed digit j = record { version = version; depth = depth; line = n; owed = owed; digit = digit; judged = j }

@@ -19,7 +19,8 @@ pub record Seen : Type 0 where
   pub checking : Checking
   pub diff : List (Bez 8)
 
--- The checker has read exactly these bytes, with these curves.
+-- What is kept is what the definitions keep of these bytes for these curves, and the difference is that of the pair and cue whose tree
+-- comes next.
 pub record HasRead (c : Seen) (curves : Raised) (bytes : List ℕ) : Type 0 where
   pub read : c.checking ≡ checked_all c.r c.h curves nothing_checked bytes
   pub next : IsNextIn curves c.checking.reading c.diff

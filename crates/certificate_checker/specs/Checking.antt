@@ -1,4 +1,4 @@
--- A certificate's text judged byte by byte: what is kept after some bytes, and the verdict at their end.
+-- A certificate's text, judged byte by byte: what is kept after some bytes, and the verdict at the end.
 use Rattle.std.specs.Prelude.{ℕ, zero, suc, ◌-◌, Bool, true, false, nat_lt, ◌==◌, bytes_eq, ℤ, List, [], ◌∷◌, ◌++◌, length, slice_index, Option, Some, None, if◌then◌else◌}
 use Rattle.bezier_core.specs.declared.Bez.{Bez}
 use Rattle.halving.specs.declared.Place.{Place}
@@ -19,8 +19,8 @@ use Rattle.certificate_checker.specs.declared.verdict.Verdict.{Verdict}
 use Rattle.certificate_checker.specs.declared.verdict.Verdict.TheVariants.{Valid, Line, Refused}
 
 -- ---- what is judged of the trees
--- The pair and cue whose tree comes next, the places of that tree that are still to be judged, the next one first, and how many trees
--- are whole; or the first fault.
+-- The pair and cue whose tree comes next, the places of that tree that are still to be judged, the next one first, and the number of
+-- whole trees; or the first fault.
 pub data Judged : Type 0 where
   Clear : Slot → List Place → ℕ → Judged
   Wrong : CertFault → Judged
@@ -35,7 +35,7 @@ abbrev pub at_places : Rules → List (List ℤ) → List (Bez 8) → Slot → L
 at_places rules dirs diff slot [] n node = Clear slot [] n
 at_places rules dirs diff slot (place ∷ rest) n node = after_node slot place rest n node (node_fault rules dirs diff slot place node)
 
--- One node more. After the first fault, and in a tree too many, none is judged.
+-- One node more. After the first fault, and in a tree too many, no node is judged.
 abbrev pub with_node : Rules → List (List ℤ) → Raised → Judged → Node → Judged
 with_node rules dirs curves (Wrong fault) node = Wrong fault
 with_node rules dirs curves (Clear slot places n) node =
@@ -46,15 +46,16 @@ with_node rules dirs curves (Clear slot places n) node =
 abbrev pub before_tree : Slot → ℕ → Judged
 before_tree slot n = Clear slot (root ∷ []) n
 
--- the tree is whole: the next pair and cue; one too many is a fault
+-- the tree is whole: the next pair and cue follow; a tree too many is a fault
 abbrev pub with_tree : Raised → Judged → Judged
 with_tree curves (Wrong fault) = Wrong fault
 with_tree curves (Clear slot places n) =
     if nat_lt slot.b curves.drones then before_tree (following curves.drones curves.cues slot) (suc n) else Wrong (Extra n)
 
 -- ---- what is kept of a line
--- In the line of a tree: what the lines before the trees say, the number of the line, how many trees the line still owes, the first
--- digit of a leaf whose second has not come, and what is judged.
+-- In the line of a tree: the version and depth that the lines before the trees say, the number of the line, how many trees are still
+-- to come in it, the first digit of a leaf whose second has not come, and what is judged. A line begins with one tree to come; a split
+-- puts two in the place of one.
 pub record TreesRead : Type 0 where
   pub version : ℕ
   pub depth : ℕ
@@ -63,7 +64,7 @@ pub record TreesRead : Type 0 where
   pub digit : Option ℕ
   pub judged : Judged
 
--- The first line, or the one that says the depth of version 2, of which the first fifteen bytes are kept; the line of a tree; or the
+-- The first line, or the one with the depth of version 2, of each the first fifteen bytes; the line of a tree; or the number of the
 -- first faulty line.
 pub data Reading : Type 0 where
   FirstLine : List ℕ → Reading
@@ -74,19 +75,19 @@ pub data Reading : Type 0 where
 abbrev pub rules_in : ℕ → ℕ → TreesRead → Rules
 rules_in r h t = record { r = r; h = h; depth = t.depth }
 
--- a node of the line, after which it owes so many trees
+-- a node of the line, after which this many trees are still to come
 abbrev pub node_read : ℕ → ℕ → Raised → TreesRead → Node → ℕ → Reading
 node_read r h curves t node owed =
     TreeLine (record t { owed = owed; digit = None; judged = with_node (rules_in r h t) (table_of t.version) curves t.judged node })
 
--- a byte of a line of version 1 that owes so many trees
+-- a byte of a line of version 1 in which this many trees are still to come
 abbrev pub letter_read : ℕ → ℕ → Raised → TreesRead → ℕ → ℕ → Reading
 letter_read r h curves t zero b = Faulty t.line
 letter_read r h curves t (suc n) b =
     if b == 46 then node_read r h curves t Split (suc (suc n))
     else if is_letter b then node_read r h curves t (Leaf (b - 97)) n else Faulty t.line
 
--- the same of version 2, where the first digit of a leaf may stand before it
+-- the same for version 2, perhaps after the first digit of a leaf
 abbrev pub digit_read : ℕ → ℕ → Raised → TreesRead → ℕ → Option ℕ → ℕ → Reading
 digit_read r h curves t zero digit b = Faulty t.line
 digit_read r h curves t (suc n) None b =
@@ -95,7 +96,7 @@ digit_read r h curves t (suc n) None b =
 digit_read r h curves t (suc n) (Some first) b =
     if is_wide_leaf first b then node_read r h curves t (Leaf (two_digits first b)) n else Faulty t.line
 
--- a byte of a line before the trees: longer than fourteen bytes it is faulty, whatever comes
+-- A byte of a line before the trees. A line of more than fourteen bytes is faulty whatever they are, so fifteen tell enough.
 abbrev pub kept : List ℕ → ℕ → List ℕ
 kept head b = if nat_lt (length head) 15 then head ++ b ∷ [] else head
 
@@ -118,7 +119,7 @@ first_tree version depth line = record {
   judged = before_tree (slot_at 0 1 0) 0;
 }
 
--- the line that says the depth, whose number is n, is whole
+-- the line with the depth, line n, is whole
 abbrev pub depth_read : ℕ → ℕ → List ℕ → Reading
 depth_read version n head =
     if is_depth_line head then TreeLine (first_tree version (slice_index head 12 - 48) (suc n)) else Faulty n
@@ -132,8 +133,8 @@ line_read curves (TreeLine t) =
 line_read curves (Faulty n) = Faulty n
 
 -- ---- what is kept of a text
--- A carriage return is part of its line where no line feed follows, so it waits for the next byte. `is_begun` says that the line has
--- a byte.
+-- A carriage return is part of its line if no line feed follows, so it waits for the next byte (`is_returned`). `is_begun`: the line
+-- has a byte.
 pub record Checking : Type 0 where
   pub reading : Reading
   pub is_returned : Bool
@@ -166,7 +167,7 @@ unfoldable pub checked_all : ℕ → ℕ → Raised → Checking → List ℕ �
 checked_all r h curves c [] = c
 checked_all r h curves c (b ∷ bytes) = checked_all r h curves (checked r h curves c b) bytes
 
--- the text ends here, and with it its last line, which may lack its line feed
+-- the text ends here, and so does its last line, which may lack a line feed
 abbrev pub closed : ℕ → ℕ → Raised → Checking → Reading
 closed r h curves c = if c.is_begun then line_read curves (with_return r h curves c.is_returned c.reading) else c.reading
 

@@ -1,4 +1,4 @@
--- What a certificate's text is, judged for the curves of a fleet.
+-- What a verdict says of a text, for the curves of a fleet.
 use Rattle.std.specs.Prelude.{◌≡◌, ℕ, List, length, Some, None}
 use Rattle.std.specs.Str.Lines.{lines}
 use Rattle.fleet_curves.specs.Raised.{Raised}
@@ -9,8 +9,8 @@ use Rattle.sep_certificate.specs.Texts.{Says, bad_line}
 use Rattle.certificate_checker.specs.declared.verdict.Verdict.{Verdict}
 use Rattle.certificate_checker.specs.declared.verdict.Verdict.TheVariants.{Valid, Line, Refused}
 
--- A verdict on a text: its first faulty line; or, of the certificate that it says, the first fault; or its depth and how many trees
--- it has, where it is valid.
+-- The verdict is the first faulty line of the text; or the version and the first fault of the certificate that the text spells; or the
+-- depth and the number of trees of that certificate, which is valid.
 abbrev pub VerdictGives : Raised → ℕ → ℕ → List ℕ → Verdict → Type 0
 VerdictGives curves r h text (Line line) = bad_line (lines text) ≡ Some line
 VerdictGives curves r h text (Refused version fault) =

@@ -5,10 +5,10 @@ use sep_certificate::CertFault;
 /// What a certificate's text is, judged for the curves of a fleet.
 #[derive(Clone, Copy)]
 pub enum Verdict {
-    /// It says a certificate that is valid, of this depth and with so many trees.
+    /// It is a valid certificate of this depth, with this many trees.
     Valid { depth: u8, trees: u32 },
-    /// This line, counted from 1, is its first faulty one.
+    /// Its first faulty line is this one, counted from 1.
     Line { line: u32 },
-    /// It says a certificate of this version, 1 or 2, that isn't valid, whose first fault this is.
+    /// It is a certificate of this version, 1 or 2, that isn't valid. This is its first fault.
     Refused { version: u8, fault: CertFault },
 }
