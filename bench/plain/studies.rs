@@ -5,7 +5,12 @@
 //!     studies boxes R H DEPTH FILE < PLAN
 //!     studies speed DEPTH < PLAN
 //!     studies closest R H FINE < PLAN
+mod curves;
+
+use curves::{halves, raised, CHOOSE};
 use std::io::{self, Read};
+
+type Curve = curves::Curve<i128>;
 
 struct Segment {
     ms: i128,
@@ -16,8 +21,6 @@ struct Drone {
     name: String,
     segments: Vec<Segment>,
 }
-
-type Curve = [i128; 8];
 
 fn decoded(name: &str, pieces: usize, data: &[u8]) -> Drone {
     let number = |at: usize| i16::from_le_bytes([data[at], data[at + 1]]) as i64;
@@ -43,46 +46,9 @@ fn decoded(name: &str, pieces: usize, data: &[u8]) -> Drone {
     Drone { name: name.to_string(), segments }
 }
 
-const CHOOSE: [[i64; 8]; 8] = {
-    let mut rows = [[0; 8]; 8];
-    let mut n = 0;
-    while n < 8 {
-        rows[n][0] = 1;
-        let mut k = 1;
-        while k <= n {
-            rows[n][k] = rows[n - 1][k - 1] + rows[n - 1][k];
-            k += 1;
-        }
-        n += 1;
-    }
-    rows
-};
-
-/// The control values raised to degree seven, times 5,040.
-fn raised(points: &[i64]) -> Curve {
-    let n = points.len() - 1;
-    std::array::from_fn(|k| {
-        let mut sum = 0i64;
-        for (j, v) in points.iter().enumerate() {
-            if j <= k && k - j <= 7 - n {
-                sum += CHOOSE[n][j] * CHOOSE[7 - n][k - j] * v;
-            }
-        }
-        (5040 / CHOOSE[7][k] * sum) as i128
-    })
-}
-
-/// Both halves, at a scale of 2^7 times the whole.
-fn halves(curve: &Curve) -> (Curve, Curve) {
-    let (mut row, mut left, mut right) = (*curve, [0; 8], [0; 8]);
-    for k in 0..8 {
-        left[k] = row[0] << (7 - k);
-        right[7 - k] = row[7 - k] << (7 - k);
-        for j in 0..7 - k {
-            row[j] += row[j + 1];
-        }
-    }
-    (left, right)
+/// The raised curve in 128 bits.
+fn wide(points: &[i64]) -> Curve {
+    raised(points).map(i128::from)
 }
 
 fn widest(curve: &Curve, depth: u32) -> i128 {
@@ -98,7 +64,7 @@ fn speed(drones: &[Drone], depth: u32) {
         let mut most = [0i128; 3];
         for segment in &drone.segments {
             for axis in 0..3 {
-                let way = 7_000_000 * (1i128 << depth) * widest(&raised(&segment.axes[axis]), depth);
+                let way = 7_000_000 * (1i128 << depth) * widest(&wide(&segment.axes[axis]), depth);
                 let time = 5_040 * (1i128 << (7 * depth)) * segment.ms;
                 most[axis] = most[axis].max((way + time - 1) / time);
             }
@@ -148,7 +114,7 @@ fn boxes(drones: &[Drone], r: i128, h: i128, depth: u32, text: &str) {
         regions.push(Region { keepout: words[0] == "keepout", low: [n[0], n[1], n[2]], high: [n[3], n[4], n[5]] });
     }
     let curves: Vec<Vec<[Curve; 3]>> = drones.iter().map(|drone| {
-        drone.segments.iter().map(|it| std::array::from_fn(|axis| raised(&it.axes[axis]))).collect()
+        drone.segments.iter().map(|it| std::array::from_fn(|axis| wide(&it.axes[axis]))).collect()
     }).collect();
     for (k, region) in regions.iter().enumerate() {
         for (drone, cues) in drones.iter().zip(&curves) {

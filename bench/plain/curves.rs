@@ -1,0 +1,55 @@
+//! Curves of degree seven in whole numbers: for the plain programs that cut them.
+use std::ops::{Add, Mul, Shl};
+
+/// Whole numbers, of 64 bits or of 128.
+pub trait Whole: Copy + Default + Ord + Add<Output = Self> + Mul<Output = Self> + Shl<u32, Output = Self> {}
+
+impl Whole for i64 {}
+impl Whole for i128 {}
+
+/// The control values of a curve.
+pub type Curve<T> = [T; 8];
+
+/// How many ways there are to choose k of n.
+pub const CHOOSE: [[i64; 8]; 8] = {
+    let mut rows = [[0; 8]; 8];
+    let mut n = 0;
+    while n < 8 {
+        rows[n][0] = 1;
+        let mut k = 1;
+        while k <= n {
+            rows[n][k] = rows[n - 1][k - 1] + rows[n - 1][k];
+            k += 1;
+        }
+        n += 1;
+    }
+    rows
+};
+
+/// The control values raised to degree seven, times 5,040.
+pub fn raised(points: &[i64]) -> Curve<i64> {
+    let n = points.len() - 1;
+    std::array::from_fn(|k| {
+        let mut sum = 0;
+        for (j, v) in points.iter().enumerate() {
+            if j <= k && k - j <= 7 - n {
+                sum += CHOOSE[n][j] * CHOOSE[7 - n][k - j] * v;
+            }
+        }
+        5040 / CHOOSE[7][k] * sum
+    })
+}
+
+/// Both halves, at a scale of 2^7 times the whole.
+pub fn halves<T: Whole>(curve: &Curve<T>) -> (Curve<T>, Curve<T>) {
+    let (mut row, mut left, mut right) = (*curve, [T::default(); 8], [T::default(); 8]);
+    for k in 0..8 {
+        let scale = 7 - k as u32;
+        left[k] = row[0] << scale;
+        right[7 - k] = row[7 - k] << scale;
+        for j in 0..7 - k {
+            row[j] = row[j] + row[j + 1];
+        }
+    }
+    (left, right)
+}
