@@ -1,4 +1,4 @@
-"""Builds a plain Rust program of bench/plain and times it beside the program: for bench/play and bench/upload."""
+"""Builds a plain Rust program of bench/plain and times it beside the program: for the scripts that compare the two."""
 import importlib.util
 import os
 import resource
@@ -30,26 +30,33 @@ def built(name, folder):
     return path
 
 
+def processor():
+    """Seconds of processor time that the programs took that were run so far."""
+    taken = resource.getrusage(resource.RUSAGE_CHILDREN)
+    return taken.ru_utime + taken.ru_stime
+
+
 class Run:
-    """A command over an input and an output, and the seconds of the best of its runs."""
+    """A command over an input and an output, and the seconds of the best of its runs: by the clock, and of processor time."""
 
     def __init__(self, command, source, sink=os.devnull):
-        self.command, self.source, self.sink, self.seconds = command, source, sink, float("inf")
+        self.command, self.source, self.sink = command, source, sink
+        self.seconds = self.processor = float("inf")
 
     def status(self, most=None):
         """The status of one run, with at most this many KiB of address space."""
         def limit():
-            if most is not None:
-                resource.setrlimit(resource.RLIMIT_AS, (most << 10, most << 10))
+            resource.setrlimit(resource.RLIMIT_AS, (most << 10, most << 10))
         with open(self.source, "rb") as source, open(self.sink, "wb") as sink:
             return subprocess.run(self.command, stdin=source, stdout=sink, stderr=subprocess.DEVNULL,
-                                  preexec_fn=limit).returncode
+                                  preexec_fn=None if most is None else limit).returncode
 
     def once(self):
         """Runs it once."""
-        begin = time.perf_counter()
+        begin, taken = time.perf_counter(), processor()
         status = self.status()
         self.seconds = min(self.seconds, time.perf_counter() - begin)
+        self.processor = min(self.processor, processor() - taken)
         if status:
             sys.exit("%s ended with %d" % (" ".join(self.command), status))
 
