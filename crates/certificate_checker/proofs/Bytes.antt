@@ -11,14 +11,13 @@ use Rattle.sep_certificate.proofs.Verdicts.{valid_of}
 use Rattle.certificate_checker.specs.declared.reader.Reader.{Reader}
 use Rattle.certificate_checker.specs.declared.reader.Stage.{Stage}
 use Rattle.certificate_checker.specs.declared.reader.Stage.TheVariants as stage
-use Rattle.certificate_checker.specs.declared.text.TextReader.{TextReader}
 use Rattle.certificate_checker.specs.declared.verdict.Verdict.{Verdict}
 use Rattle.certificate_checker.specs.declared.verdict.Verdict.TheVariants.{Valid, Line, Refused}
 use Rattle.certificate_checker.specs.Verdicts.{VerdictGives}
 use Rattle.certificate_checker.specs.Checking.{Checking, FirstLine, Reading, checked, checked_all, closed, nothing_checked, verdict_of}
 use Rattle.certificate_checker.specs.Bytes.{Seen, NamesFault, ApartWhereValid, HasRead, most_bytes}
 use Rattle.certificate_checker.specs.Judgments.{AreFew, AreWithin, HasAtMost, IsNextIn}
-use Rattle.certificate_checker.specs.Steps.{HasRoom, HasTreeRoom, IsReader, IsSound, reading_by, reading_of, trees_of}
+use Rattle.certificate_checker.specs.Steps.{HasRoom, HasTreeRoom, IsReader, IsSound, reading_by, reading_of}
 use Rattle.certificate_checker.proofs.Few.{few_read, few_wider, within_wider}
 use Rattle.certificate_checker.proofs.Verdicts.{checking_told}
 

@@ -1,11 +1,9 @@
 -- The numbers that are kept of a text are small: a byte adds at most two trees that are still to come, three lines and one whole tree.
-use Rattle.std.proofs.Common.{◌≡◌, ℕ, zero, suc, ◌+◌, ◌*◌, ◌≤◌, ◌==◌, Bool, true, false, cond, nat_lt, bytes_eq, arith, refl, sym, subst, List, [], ◌∷◌, length, ℤ, Option, Some, None, slice_index, ◌-◌}
-use Rattle.bezier_core.specs.declared.Bez.{Bez}
+use Rattle.std.proofs.Common.{◌≡◌, ℕ, zero, suc, ◌+◌, ◌*◌, ◌≤◌, ◌==◌, Bool, true, false, cond, nat_lt, bytes_eq, arith, subst, List, [], ◌∷◌, length, ℤ, Option, Some, None, slice_index, ◌-◌}
 use Rattle.halving.specs.declared.Place.{Place}
 use Rattle.sep_parts.specs.declared.node.Node.{Node}
 use Rattle.sep_parts.specs.declared.node.Node.TheVariants.{Split, Leaf}
 use Rattle.sep_parts.specs.declared.rules.Rules.{Rules}
-use Rattle.sep_parts.specs.declared.slot.Slot.{Slot}
 use Rattle.fleet_curves.specs.Raised.{Raised, difference}
 use Rattle.sep_parts.specs.Slots.{following}
 use Rattle.sep_parts.specs.Versions.{table_of}

@@ -105,6 +105,23 @@ impl Judging {
         Judging::over(difference(curves, slot), slot, trees)
     }
 
+    // Goes before the tree of a pair and cue. What still waits is taken off, so that not all nine levels are written for each tree.
+    fn go_before(&mut self, curves: &Curves, slot: Slot, trees: u32)
+        requires { IsSlotOrPast curves.now slot }
+        ensures judged { self.new.judged ≡ before_tree slot trees }
+        ensures next { IsNext curves.now self.new.judged self.new.diff }
+    {
+        'levels: while self.stack.pop().is_some() {}
+        self.diff = difference(curves, slot);
+        self.stack.push(Level {
+            place: Place { depth: 0, index: 0 },
+            part: self.diff,
+        });
+        self.slot = slot;
+        self.trees = trees;
+        self.fault = None;
+    }
+
     // Judges a node of the tree that comes next, of a certificate of this version and depth. After the first fault, and in a tree
     // too many, no node is judged.
     pub fn node(&mut self, curves: &Curves, tables: &Tables, version: u8, depth: u8, node: Node)
@@ -142,7 +159,7 @@ impl Judging {
             return;
         }
         let slot = self.slot.next(curves.drones(), curves.cues());
-        *self = Judging::before_tree(curves, slot, self.trees + 1);
+        self.go_before(curves, slot, self.trees + 1);
     }
 
     // The verdict where the text ends here.

@@ -195,6 +195,10 @@ pub fn node_fault<const M: usize>(
     match node {
         Node::Split => too_deep(level.place, slot, depth),
         Node::Leaf { dir } => {
+            // nearly every leaf separates its part, and that is said in fewer bits
+            if ruler.separates(diff, level, dir as usize) {
+                return None;
+            }
             let low = ruler.low_control(diff, level, dir as usize);
             fails(low, slot, level.place, dir)
         }

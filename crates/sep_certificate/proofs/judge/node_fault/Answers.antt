@@ -1,10 +1,22 @@
-use Rattle.std.proofs.Common.{rules, ◌≡◌, ℕ, ◌<◌, ℤ, length, Option, Some, None, sym, ◌∙◌, ap}
+use Rattle.std.proofs.Common.{rules, ◌≡◌, ℕ, ◌<◌, ℤ, length, Option, Some, None, Bool, true, refl, sym, ◌∙◌, ap}
+use Rattle.std.proofs.lemmas.Bool.{false≢true}
+use Rattle.std.specs.Prelude.{is_none}
 use Rattle.std.specs.Option.{option_map}
 use Rattle.sep_certificate.specs.declared.certificate.CertFault.TheVariants.{Fails}
 use Rattle.sep_parts.specs.Separates.{first_low}
 use Rattle.sep_certificate.specs.Steps.{IsControl}
 use Rattle.sep_parts.proofs.Lows.{first_low-small}
 use Rattle.sep_certificate.proofs.judge.node_fault.Goals as goal
+
+-- nothing is low where no control value is said to be
+none_of : (o : Option ℕ) (said : Bool) → said ≡ is_none o → said ≡ true → o ≡ None
+none_of None said e is = refl
+none_of (Some k) said e is = absurd (false≢true (sym e ∙ is))
+
+pub separates-requires : goal.separates-requires
+separates-requires g c =
+    let known : c.in-Leaf.dir < length c.args.ruler.now.directions = rw c.in-Leaf.is at c.requires.known in
+    (search rules, (c.requires.values, (c.requires.level, known)))
 
 pub low_control-low-requires : goal.low_control-low-requires
 low_control-low-requires g c =
@@ -18,7 +30,13 @@ is_control (Some k) f least e = first_low-small f least k (sym e)
 pub fails-requires : goal.fails-requires
 fails-requires g c = is_control c.low_control-low.result _ _ c.low_control-low.ensures
 
-pub returns-in-Leaf : goal.returns-in-Leaf
-returns-in-Leaf g c =
+pub returns-then-separates : goal.returns-then-separates
+returns-then-separates g c =
+    rw c.in-Leaf.is
+    (sym (ap (λ (o : Option ℕ). option_map (Fails c.args.slot.a c.args.slot.b c.args.slot.cue c.args.level.now.place c.in-Leaf.dir) o)
+    (none_of _ c.separates.result c.separates.ensures c.if-separates.true)))
+
+pub returns-else-separates : goal.returns-else-separates
+returns-else-separates g c =
     rw c.in-Leaf.is
     (c.fails.ensures ∙ ap (λ (o : Option ℕ). option_map (Fails c.args.slot.a c.args.slot.b c.args.slot.cue c.args.level.now.place c.in-Leaf.dir) o) c.low_control-low.ensures)

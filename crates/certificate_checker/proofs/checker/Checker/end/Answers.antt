@@ -1,8 +1,7 @@
-use Rattle.std.proofs.Common.{◌≡◌, arith, sym, subst, List, length, ℕ, ◌≤◌}
-use Rattle.certificate_checker.specs.Bytes.{HasRead, Seen, most_bytes}
+use Rattle.std.proofs.Common.{◌≡◌, arith, sym, subst}
+use Rattle.certificate_checker.specs.Bytes.{Seen, most_bytes}
 use Rattle.certificate_checker.specs.Checking.{closed, verdict_of}
 use Rattle.certificate_checker.specs.Judgments.{AreFew}
-use Rattle.certificate_checker.specs.Verdicts.{VerdictGives}
 use Rattle.certificate_checker.proofs.Bytes.{few_of, named_told, safe_told, verdict_told}
 use Rattle.certificate_checker.proofs.checker.Checker.end.Goals as goal
 
