@@ -1,14 +1,16 @@
 -- How much a run reads.
-use Rattle.std.proofs.Common.{◌≡◌, ◌≢◌, ◌⊎◌, inl, inr, ℕ, ◌+◌, ◌<◌, ◌≤◌, List, Option, Some, None, Result, Ok, Err, IfOk, IfSome, length, refl, sym, subst, arith}
+use Rattle.std.proofs.Common.{◌≡◌, ◌≢◌, ◌⊎◌, inl, inr, ℕ, ◌+◌, ◌<◌, ◌≤◌, Bool, false, List, Option, Some, None, Result, Ok, Err, IfOk, IfSome, length, refl, sym, subst, ◌∙◌, arith}
 use Rattle.fleet_io.specs.Taken.{TakesAtMost}
 use Rattle.show_cli.specs.declared.ends.Answer.{Answer}
 use Rattle.show_cli.specs.declared.ends.Failure.{Failure}
 use Rattle.show_cli.specs.declared.ends.Failure.TheVariants.{Read, Memory}
 use Rattle.show_cli.specs.Answers.{Responds}
-use Rattle.text_lines.specs.Marker.{part_of}
+use Rattle.text_lines.specs.Marker.{has_marker, part_of, rest_of}
 use Rattle.show_cli.specs.declared.input.Text.{Text}
 use Rattle.show_cli.specs.declared.input.Text.TheVariants.{TooLarge, Whole}
-use Rattle.show_cli.specs.Input.{IsNextText, IsWholeText}
+use Rattle.text_lines.specs.Lines.{between_feeds}
+use Rattle.show_cli.specs.declared.input.Input.{Input}
+use Rattle.show_cli.specs.Input.{IsNextText, IsReadBoth, IsText, IsUnmarked, IsWholeText, ReadsTwo}
 use Rattle.show_cli.specs.Shows.{show_limit}
 use Rattle.show_cli.specs.Runs.{IsJudged, TakesOneText}
 
@@ -21,6 +23,21 @@ judged_answer (Err Read) old new before after status P responds holds judged = a
   | inr failed ↦ judged.2 failed.0
 ])
 judged_answer (Err Memory) old new before after status P responds holds judged = absurd (judged.0 responds.0)
+
+-- both texts were read
+pub two_read : (limit : ℕ) (left after : Option (List ℕ)) (input : Input) → ReadsTwo limit left after input → IsReadBoth limit left after
+two_read limit None after input reads = tt
+two_read limit (Some all) after input reads = λ short second unmarked.
+    let whole : IsWholeText input.show = is_whole show_limit input.show (part_of all) (has_marker (between_feeds all)) reads.texts.show short in
+    reads.whole whole (is_unmarked limit input.second (part_of (rest_of all)) (has_marker (between_feeds (rest_of all))) (reads.texts.second whole) second unmarked)
+  where
+    is_whole : (limit : ℕ) (text : Text) (bytes : List ℕ) (marked : Bool) → IsText limit text bytes marked → length bytes ≤ limit → IsWholeText text
+    is_whole limit TooLarge bytes marked is short = absurd (omega (arith, is, short))
+    is_whole limit (Whole part) bytes marked is short = tt
+
+    is_unmarked : (limit : ℕ) (text : Text) (bytes : List ℕ) (marked : Bool) → IsText limit text bytes marked → length bytes ≤ limit → marked ≡ false → IsUnmarked text
+    is_unmarked limit TooLarge bytes marked is short plain = absurd (omega (arith, is, short))
+    is_unmarked limit (Whole part) bytes marked is short plain = is.1 ∙ plain
 
 -- nothing was taken
 pub takes_nothing : (left : Option (List ℕ)) (most : ℕ) → TakesAtMost most left left

@@ -34,11 +34,13 @@ use Rattle.show_cli.specs.declared.ends.Failure.{Failure}
 use Rattle.show_cli.specs.declared.input.Text.{Text}
 use Rattle.show_cli.specs.declared.input.Text.TheVariants.{TooLarge, Whole}
 use Rattle.show_cli.specs.Answers.{AnswersInput, Fits, IsRefusedBy, IsSaid, outcome_of}
-use Rattle.show_cli.specs.Input.{GoesOn, IsReadWhole, IsShowText, IsWholeText}
+use Rattle.show_cli.specs.declared.commands.verify.Taken.{Taken}
+use Rattle.show_cli.specs.declared.commands.verify.Taken.TheVariants.{TooLarge as TakenTooLarge, Whole as TakenWhole}
+use Rattle.show_cli.specs.Input.{GoesOn, IsReadBoth, IsReadWhole, IsShowText, IsWholeText}
 use Rattle.show_cli.specs.Outcome.{CertificateGives, Outcome, judged_for, outcome, refused}
 use Rattle.show_cli.specs.Refused.{IsOfInput, not_valid, second_refusal}
 use Rattle.show_cli.specs.Reports.{valid_line}
-use Rattle.show_cli.specs.SecondTexts.{Feeds, GivesSecond, IsFed, IsMarkedBy, TakenGives, line_after, taken_by, unless_marked, verdict_outcome}
+use Rattle.show_cli.specs.SecondTexts.{Feeds, GivesSecond, IsFed, IsMarkedBy, IsTakenToEnd, IsTakenWhole, Skips, TakenGives, line_after, taken_by, unless_marked, verdict_outcome}
 use Rattle.show_cli.specs.Shows.{Cut, certificate_limit, cut_of, feeds, marker_number, names_of, trajectories_of}
 use Rattle.show_cli.proofs.AnswerLemmas.{apart_of_show, fitted_outcome, fitted_safe, plain_outcome, refused_some, some_by}
 use Rattle.show_cli.proofs.CertificateLemmas.{judged_same}
@@ -228,10 +230,51 @@ apart_of f curves law valid stand keeps =
     (keeps f.trajs stand))
 
 -- ---- the whole input
-read_whole : (left after : Option (List ℕ)) → TakesFront left after → IsAtEnd after → IsReadWhole left after
+pub read_whole : (left after : Option (List ℕ)) → TakesFront left after → IsAtEnd after → IsReadWhole left after
 read_whole None after takes at_end = tt
 read_whole (Some x) None takes at_end = absurd takes.1
 read_whole (Some x) (Some y) takes at_end = ap (λ (bytes : List ℕ). Some bytes) at_end
+
+clash : (b : Bool) → b ≡ true → b ≡ false → ⊥
+clash b holds fails = let f : true ≡ false = sym holds ∙ fails in cc
+
+-- at the input's end nothing is left to take
+pub ended_whole : (coming left : Option (List ℕ)) → IsAtEnd left → IsTakenWhole coming left
+ended_whole None left at_end = tt
+ended_whole (Some all) left at_end = λ short unmarked. at_end
+
+-- at a marker line nothing is left to show
+pub skipped_marked : (coming : Option (List ℕ)) (n : ℕ) (at_line : Bool) (now new left : Option (List ℕ)) → Skips coming n at_line now →
+    IfSome now (λ all. AsksNext ask.Marker (next_of at_line all) new) → IsTakenWhole coming left
+skipped_marked None n at_line now new left skips asks = tt
+skipped_marked (Some all) n at_line now new left skips asks = λ short unmarked.
+    absurd (clash (has_marker (between_feeds all)) (fed_marked (Some all) at_line now new skips.fed (marker_number skips.fed) refl skips.is_fed asks).1.0 unmarked)
+
+-- nor where more bytes than a text may have were taken
+pub skipped_over : (coming : Option (List ℕ)) (n : ℕ) (at_line : Bool) (now left : Option (List ℕ)) → certificate_limit < n → Skips coming n at_line now → IsTakenWhole coming left
+skipped_over None n at_line now left over skips = tt
+skipped_over (Some all) n at_line now left over skips = λ short unmarked.
+    absurd (omega (arith, over, short, skips.count, ap (λ (xs : List ℕ). length xs) skips.is_fed.part, length-append skips.fed (part_left at_line skips.is_fed.rest)))
+
+-- what a checker was given was taken whole
+pub taken_whole : (curves : Raised) (coming left : Option (List ℕ)) (c : Seen) (taken : Taken) → TakenGives curves coming c taken → IsTakenToEnd left taken → IsTakenWhole coming left
+taken_whole curves None left c taken gives ends = tt
+taken_whole curves (Some all) left c TakenTooLarge gives ends = λ short unmarked. absurd (omega (arith, gives, short))
+taken_whole curves (Some all) left c (TakenWhole None) gives ends = λ short unmarked. ends
+taken_whole curves (Some all) left c (TakenWhole (Some number)) gives ends = λ short unmarked. absurd (clash (has_marker (between_feeds all)) gives.3.1.0 unmarked)
+
+-- both texts were read
+pub both_read : (left coming after : Option (List ℕ)) (show : Text) → IfSome left (λ all. IsShowText show (cut_of all)) → GoesOn show left coming →
+    (IsWholeText show → IsTakenWhole coming after) → TakesFront left after → IsReadBoth certificate_limit left after
+both_read None coming after show text goes taken takes = tt
+both_read (Some all) coming after TooLarge text goes taken takes = λ short second unmarked. absurd (omega (arith, text, short))
+both_read (Some all) coming after (Whole part) text goes taken takes = λ short second unmarked.
+    read_whole (Some all) after takes ((rw goes at (taken tt)) second unmarked)
+
+-- what is known of a result that is there
+pub there : (result : Result Answer Failure) (P Q R : Type 0) → ((P → Q) → R) → (P → IfOk result (λ _. Q)) → IfOk result (λ _. R)
+there (Ok a) P Q R by holds = by holds
+there (Err e) P Q R by holds = tt
 
 -- what is to come after a show's text
 second_of : (left coming : Option (List ℕ)) (show : Text) (P : List ℕ → Type 0) → IsWholeText show → GoesOn show left coming → IfSome coming P → IfSome left (λ all. P (rest_of all))

@@ -41,6 +41,12 @@ GoesOn (Whole part) old new = IfSome old (λ all. new ≡ Some (rest_of all))
 abbrev pub IsReadWhole : Option (List ℕ) → Option (List ℕ) → Type 0
 IsReadWhole input left = IfSome input (λ _. left ≡ Some [])
 
+-- Both texts were read before either was judged: where neither is too long and no marker line stands after the second one, the input was read
+-- to its end.
+abbrev pub IsReadBoth : ℕ → Option (List ℕ) → Option (List ℕ) → Type 0
+IsReadBoth limit left left_after =
+    IfSome left (λ all. length (part_of all) ≤ show_limit → length (part_of (rest_of all)) ≤ limit → has_marker (between_feeds (rest_of all)) ≡ false → left_after ≡ Some [])
+
 -- The show's text is the first one of the input that is cut so.
 abbrev pub IsShowText : Text → Cut → Type 0
 IsShowText text cut = IsText show_limit text cut.show cut.is_marked

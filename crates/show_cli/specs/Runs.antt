@@ -15,7 +15,9 @@ use Rattle.command_words.specs.Commands.{command_of, help_text}
 use Rattle.command_words.specs.declared.command.Command.{Command}
 use Rattle.command_words.specs.declared.command.Command.TheVariants.{Help, Check, Compile, Certify, Play, Report, Verify, Rehearse, Upload, Drill, Boxes, Speed, Explain}
 use Rattle.refusals.specs.Lines.{read_line}
-use Rattle.show_cli.specs.Shows.{cut_of, link_in, show_limit}
+use Rattle.show_cli.specs.Shows.{certificate_limit, cut_of, link_in, schedule_limit, show_limit}
+use Rattle.show_cli.specs.Input.{IsReadBoth}
+use Rattle.show_cli.specs.Studies.{region_limit}
 use Rattle.show_cli.specs.Ways.{reads_all, ways_of}
 use Rattle.show_cli.specs.Refused.{show_refusal}
 use Rattle.show_cli.specs.Complete.{IsComplete}
@@ -177,6 +179,26 @@ TakesLittle c r = ((ways_of c).has_second ≡ false) ⊎ IfSome r.left (λ input
 -- A command that wants nothing after a marker line takes at most 4,096 bytes after it, where it judges its input.
 abbrev pub StopsAtMarker : Command → Run → ℕ → Type 0
 StopsAtMarker c r status = (ways_of c).has_second ≡ false → reads c ≡ true → IsJudged status → TakesFewBehind r.left r.left_after
+
+-- the most bytes of a second text that is read before anything is judged; of `upload`, the frames are taken as they come
+abbrev pub second_limit : Command → Option ℕ
+second_limit Help = None
+second_limit (Check depth) = None
+second_limit (Compile depth) = None
+second_limit (Certify depth) = None
+second_limit (Play depth step) = None
+second_limit (Report depth) = None
+second_limit Verify = Some certificate_limit
+second_limit (Rehearse depth start readback) = Some schedule_limit
+second_limit (Upload depth start readback) = None
+second_limit (Drill drones depth) = None
+second_limit (Boxes depth) = Some region_limit
+second_limit (Speed depth limit) = None
+second_limit (Explain depth fine) = None
+
+-- A command that wants a second text has read it too where it judges its input, also where the show is refused.
+abbrev pub ReadsBoth : Command → Run → ℕ → Type 0
+ReadsBoth c r status = IsJudged status → IfSome (second_limit c) (λ limit. IsReadBoth limit r.left r.left_after)
 
 -- ---- completeness
 

@@ -61,6 +61,16 @@ taken_by number (ask.Byte b) = TooLarge
 taken_by number ask.Marker = Whole (Some number)
 taken_by number ask.«End» = Whole None
 
+-- Of a part these many bytes were taken.
+pub record Skips (coming : Option (List ℕ)) (n : ℕ) (at_line : Bool) (now : Option (List ℕ)) : Type 0 where
+  pub fed : List ℕ
+  pub count : length fed ≡ n
+  pub is_fed : IfSome coming (λ all. IsFed all at_line now fed)
+
+-- a part that isn't too long and that no marker line ends was taken to the end of the input
+abbrev pub IsTakenWhole : Option (List ℕ) → Option (List ℕ) → Type 0
+IsTakenWhole coming left = IfSome coming (λ all. length (part_of all) ≤ certificate_limit → has_marker (between_feeds all) ≡ false → IsAtEnd left)
+
 -- a part that no marker line ends was taken to the end of the input
 abbrev pub IsTakenToEnd : Option (List ℕ) → Taken → Type 0
 IsTakenToEnd left TooLarge = Unit {0}

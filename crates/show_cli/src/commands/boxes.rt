@@ -8,10 +8,10 @@ ghost use Rattle.keepout_boxes.specs.Kept.{IsNear, KeepClear, most_regions};
 ghost use Rattle.keepout_boxes.specs.Regions.{regions_of};
 ghost use Rattle.show_plan.specs.Fitting.{IsFitted, IsValidFitted};
 ghost use Rattle.show_cli.specs.Answers.{AnswersInput, AnswersTwo, IsSaid, outcome_of};
-ghost use Rattle.show_cli.specs.Input.{IsText, IsUnmarked, IsWithin};
+ghost use Rattle.show_cli.specs.Input.{IsReadBoth, IsText, IsUnmarked, IsWithin};
 ghost use Rattle.show_cli.specs.Outcome.{Promises, RegionsGive};
 ghost use Rattle.show_cli.specs.Refused.{second_refusal};
-ghost use Rattle.show_cli.specs.Runs.{Runs, StopsAtMarker, TakesLittle, TakesOneText, run_of};
+ghost use Rattle.show_cli.specs.Runs.{ReadsBoth, Runs, StopsAtMarker, TakesLittle, TakesOneText, run_of};
 ghost use Rattle.show_cli.specs.Shows.{Cut, show_limit};
 ghost use Rattle.show_cli.specs.Steps.{EndsRegions};
 ghost use Rattle.show_cli.specs.Studies.{faulty_region, region_limit};
@@ -154,6 +154,7 @@ fn answer_two(alloc: Global, depth: u8, input: &Input) -> Result<Answer, AllocEr
 fn answer_input<S: Source>(alloc: Global, depth: u8, source: &mut S) -> Result<Answer, Failure>
     requires depth { depth ≤ most_depth }
     ensures answers { AnswersInput (Command.Boxes depth) (S.left source.old) (S.left source.new) result }
+    ensures both { IfOk result (λ _. IsReadBoth region_limit (S.left source.old) (S.left source.new)) }
     ensures failed { result ≡ Err Failure.Read → Rose (S.faults source.old) (S.faults source.new) }
     ensures later { S.faults source.old ≤ S.faults source.new }
     ensures few { IfSome (S.left source.old) (λ all. show_limit < length (part_of all)) → TakesOneText (S.left source.old) (S.left source.new) }
@@ -170,6 +171,7 @@ pub fn boxes<S: Source, K: Sink>(alloc: Global, depth: u8, source: &mut S, sink:
     ensures runs { Runs (Command.Boxes depth) (run_of (S.left source.old) (S.left source.new) (S.faults source.old) (S.faults source.new) (K.written sink.old) (K.written sink.new) (K.faults sink.old) (K.faults sink.new)) result }
     ensures few { TakesLittle (Command.Boxes depth) (run_of (S.left source.old) (S.left source.new) (S.faults source.old) (S.faults source.new) (K.written sink.old) (K.written sink.new) (K.faults sink.old) (K.faults sink.new)) }
     ensures marker { StopsAtMarker (Command.Boxes depth) (run_of (S.left source.old) (S.left source.new) (S.faults source.old) (S.faults source.new) (K.written sink.old) (K.written sink.new) (K.faults sink.old) (K.faults sink.new)) result }
+    ensures both { ReadsBoth (Command.Boxes depth) (run_of (S.left source.old) (S.left source.new) (S.faults source.old) (S.faults source.new) (K.written sink.old) (K.written sink.new) (K.faults sink.old) (K.faults sink.new)) result }
 {
     outcome_law();
     let answer = answer_input(alloc, depth, source);

@@ -10,11 +10,11 @@ ghost use Rattle.command_words.specs.Commands.{most_depth};
 ghost use Rattle.fleet_io.specs.Causes.{Rose};
 ghost use Rattle.fleet_io.specs.Taken.{TakesFront};
 ghost use Rattle.show_cli.specs.Answers.{AnswersInput, AnswersTwo, IsSaid, outcome_of};
-ghost use Rattle.show_cli.specs.Input.{IsText, IsUnmarked, IsWithin};
+ghost use Rattle.show_cli.specs.Input.{IsReadBoth, IsText, IsUnmarked, IsWithin};
 ghost use Rattle.show_cli.specs.Outcome.{CarefulScheduleGives, CarefullyRehearses, RehearseGives, Rehearses, ScheduleGives};
 ghost use Rattle.show_cli.specs.Refused.{faulty_event, second_refusal};
 ghost use Rattle.text_lines.specs.Marker.{part_of};
-ghost use Rattle.show_cli.specs.Runs.{Runs, StopsAtMarker, TakesLittle, TakesOneText, run_of};
+ghost use Rattle.show_cli.specs.Runs.{ReadsBoth, Runs, StopsAtMarker, TakesLittle, TakesOneText, run_of};
 ghost use Rattle.show_cli.specs.Shows.{Cut, schedule_limit, show_limit, words_of};
 
 use crate::accept::{Judged, accept};
@@ -312,6 +312,7 @@ fn answer_input<S: Source>(
 ) -> Result<Answer, Failure>
     requires depth { depth ≤ most_depth }
     ensures answers { AnswersInput (Command.Rehearse depth start readback) (S.left source.old) (S.left source.new) result }
+    ensures both { IfOk result (λ _. IsReadBoth schedule_limit (S.left source.old) (S.left source.new)) }
     ensures failed { result ≡ Err Failure.Read → Rose (S.faults source.old) (S.faults source.new) }
     ensures later { S.faults source.old ≤ S.faults source.new }
     ensures few { IfSome (S.left source.old) (λ all. show_limit < length (part_of all)) → TakesOneText (S.left source.old) (S.left source.new) }
@@ -336,6 +337,7 @@ pub fn rehearse<S: Source, K: Sink>(
     ensures runs { Runs (Command.Rehearse depth start readback) (run_of (S.left source.old) (S.left source.new) (S.faults source.old) (S.faults source.new) (K.written sink.old) (K.written sink.new) (K.faults sink.old) (K.faults sink.new)) result }
     ensures few { TakesLittle (Command.Rehearse depth start readback) (run_of (S.left source.old) (S.left source.new) (S.faults source.old) (S.faults source.new) (K.written sink.old) (K.written sink.new) (K.faults sink.old) (K.faults sink.new)) }
     ensures marker { StopsAtMarker (Command.Rehearse depth start readback) (run_of (S.left source.old) (S.left source.new) (S.faults source.old) (S.faults source.new) (K.written sink.old) (K.written sink.new) (K.faults sink.old) (K.faults sink.new)) result }
+    ensures both { ReadsBoth (Command.Rehearse depth start readback) (run_of (S.left source.old) (S.left source.new) (S.faults source.old) (S.faults source.new) (K.written sink.old) (K.written sink.new) (K.faults sink.old) (K.faults sink.new)) result }
 {
     outcome_law();
     let answer = answer_input(alloc, depth, start, readback, source);

@@ -10,12 +10,12 @@ ghost use Rattle.refusals.specs.declared.refusal.Refusal.{Refusal};
 ghost use Rattle.show_plan.specs.Fitting.{IsValidFitted};
 ghost use Rattle.show_plan.specs.Separation.{FlyApart};
 ghost use Rattle.show_cli.specs.Answers.{AnswersInput, IsSaid, outcome_of};
-ghost use Rattle.show_cli.specs.Input.{IsWholeText};
+ghost use Rattle.show_cli.specs.Input.{IsReadBoth, IsWholeText};
 ghost use Rattle.show_cli.specs.Outcome.{refused};
 ghost use Rattle.text_lines.specs.Marker.{part_of};
-ghost use Rattle.show_cli.specs.Runs.{Runs, StopsAtMarker, TakesLittle, TakesOneText, run_of};
-ghost use Rattle.show_cli.specs.SecondTexts.{GivesSecond, IsTakenToEnd, TakenGives, line_after, taken_by, verdict_outcome};
-ghost use Rattle.show_cli.specs.Shows.{show_limit};
+ghost use Rattle.show_cli.specs.Runs.{ReadsBoth, Runs, StopsAtMarker, TakesLittle, TakesOneText, run_of};
+ghost use Rattle.show_cli.specs.SecondTexts.{GivesSecond, IsTakenToEnd, IsTakenWhole, TakenGives, line_after, taken_by, verdict_outcome};
+ghost use Rattle.show_cli.specs.Shows.{certificate_limit, show_limit};
 
 use crate::accept::{Planned, fit_text};
 use crate::ends::{Answer, Failure, Output, respond};
@@ -156,6 +156,7 @@ fn answer_second<S: Source>(
     ensures gives { IfSome (stream parts.old (S.left source.old)) (λ all. IfOk result (λ a. GivesSecond fitted.now all (outcome_of a))) }
     ensures apart { IfOk result (λ a. (outcome_of a).status ≡ 0 → FlyApart fitted.now.settings fitted.now.sent) }
     ensures whole { IfOk result (λ a. (outcome_of a).status ≡ 0 → IsAtEnd (S.left source.new)) }
+    ensures both { IfOk result (λ _. IsTakenWhole (stream parts.old (S.left source.old)) (S.left source.new)) }
     ensures said { IfOk result IsSaid }
     ensures failed { result ≡ Err Failure.Read → Rose (S.faults source.old) (S.faults source.new) }
     ensures later { S.faults source.old ≤ S.faults source.new }
@@ -182,15 +183,20 @@ fn answer_second<S: Source>(
 fn skip_second<S: Source>(parts: &mut Parts, source: &mut S) -> Result<(), Failed>
     requires sound { IsTrue parts.old.sound }
     requires lines { IsTrue parts.old.lines }
+    requires at_line { IsTrue parts.old.at_line }
     requires at_end { IsTrue parts.old.ended → IsAtEnd (S.left source.old) }
+    ensures whole { IfOk result (λ _. IsTakenWhole (stream parts.old (S.left source.old)) (S.left source.new)) }
     ensures cause { HasCause (S.faults source.old) (S.faults source.new) result }
     ensures left { TakesFront (S.left source.old) (S.left source.new) }
 {
-    'bytes: for _ in 0..CERTIFICATE_LIMIT + 1 {
+    part_law();
+    let mut count = 0;
+    'bytes: while count <= CERTIFICATE_LIMIT {
         let ask = parts.part_byte(source)?;
         match ask {
-            Ask::Byte { .. } => {}
-            Ask::Marker | Ask::End => return Ok(()),
+            Ask::Byte { .. } => count += 1,
+            Ask::Marker => return Ok(()),
+            Ask::End => return Ok(()),
         }
     }
     Ok(())
@@ -205,8 +211,10 @@ fn answer_refused<S: Source>(
 ) -> Result<Answer, Failure>
     requires sound { IsWholeText show.now → IsTrue parts.old.sound }
     requires lines { IsTrue parts.old.lines }
+    requires at_line { IsWholeText show.now → IsTrue parts.old.at_line }
     requires at_end { IsTrue parts.old.ended → IsAtEnd (S.left source.old) }
     ensures answer { IfOk result (λ a. a ≡ Answer.Refused refusal) }
+    ensures both { IsWholeText show.now → IfOk result (λ _. IsTakenWhole (stream parts.old (S.left source.old)) (S.left source.new)) }
     ensures stays { (IsWholeText show.now → ⊥) → S.left source.new ≡ S.left source.old }
     ensures failed { result ≡ Err Failure.Read → Rose (S.faults source.old) (S.faults source.new) }
     ensures later { S.faults source.old ≤ S.faults source.new }
@@ -224,6 +232,7 @@ fn answer_refused<S: Source>(
 // What `verify` ends with for what its source gives. A failed read comes before what is wrong with the show.
 fn answer_input<S: Source>(alloc: Global, source: &mut S) -> Result<Answer, Failure>
     ensures answers { AnswersInput Command.Verify (S.left source.old) (S.left source.new) result }
+    ensures both { IfOk result (λ _. IsReadBoth certificate_limit (S.left source.old) (S.left source.new)) }
     ensures failed { result ≡ Err Failure.Read → Rose (S.faults source.old) (S.faults source.new) }
     ensures later { S.faults source.old ≤ S.faults source.new }
     ensures few { IfSome (S.left source.old) (λ all. show_limit < length (part_of all)) → TakesOneText (S.left source.old) (S.left source.new) }
@@ -243,6 +252,7 @@ pub fn verify<S: Source, K: Sink>(alloc: Global, source: &mut S, sink: &mut K) -
     ensures runs { Runs Command.Verify (run_of (S.left source.old) (S.left source.new) (S.faults source.old) (S.faults source.new) (K.written sink.old) (K.written sink.new) (K.faults sink.old) (K.faults sink.new)) result }
     ensures few { TakesLittle Command.Verify (run_of (S.left source.old) (S.left source.new) (S.faults source.old) (S.faults source.new) (K.written sink.old) (K.written sink.new) (K.faults sink.old) (K.faults sink.new)) }
     ensures marker { StopsAtMarker Command.Verify (run_of (S.left source.old) (S.left source.new) (S.faults source.old) (S.faults source.new) (K.written sink.old) (K.written sink.new) (K.faults sink.old) (K.faults sink.new)) result }
+    ensures both { ReadsBoth Command.Verify (run_of (S.left source.old) (S.left source.new) (S.faults source.old) (S.faults source.new) (K.written sink.old) (K.written sink.new) (K.faults sink.old) (K.faults sink.new)) result }
 {
     outcome_law();
     let answer = answer_input(alloc, source);

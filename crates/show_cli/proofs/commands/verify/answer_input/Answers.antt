@@ -4,7 +4,8 @@ use Rattle.fleet_io.specs.Held.{Held, stream}
 use Rattle.command_words.specs.declared.command.Command.TheVariants.{Verify}
 use Rattle.show_cli.specs.declared.accept.Planned.TheVariants.{Fits}
 use Rattle.show_cli.specs.Answers.{EndsWell}
-use Rattle.show_cli.proofs.SecondLemmas.{input_fitted, input_refused}
+use Rattle.show_cli.specs.Input.{IsWholeText}
+use Rattle.show_cli.proofs.SecondLemmas.{both_read, input_fitted, input_refused, there}
 use Rattle.show_cli.proofs.UploadLemmas.{stream_new}
 use Rattle.show_cli.proofs.commands.verify.answer_input.Goals as goal
 
@@ -28,3 +29,19 @@ returns-clause-answers g c =
 
 pub returns-clause-left : goal.returns-clause-left
 returns-clause-left g c = TakesFront-trans _ _ _ c.next_text.ensures.left c.answer_refused.ensures.left
+
+pub returns-in-Fits-clause-both : goal.returns-in-Fits-clause-both
+returns-in-Fits-clause-both g c =
+    let is = stream_new c.make-parts.result (g.S.Source.left c.args.source.now) (ap (λ (h : Held). h.waiting) c.make-parts.ensures) in
+    there c.answer_second.result (IsWholeText c.in_ok-show.show) _ _
+    (λ taken. both_read _ (stream c.next_text.new.parts (g.S.Source.left c.next_text.new.source)) _ c.in_ok-show.show (rw is at c.in_ok-show.ensures.text) (rw is at c.in_ok-show.ensures.rest) taken
+    (TakesFront-trans _ _ _ c.next_text.ensures.left c.answer_second.ensures.left))
+    (λ whole. c.answer_second.ensures.both)
+
+pub returns-clause-both : goal.returns-clause-both
+returns-clause-both g c =
+    let is = stream_new c.make-parts.result (g.S.Source.left c.args.source.now) (ap (λ (h : Held). h.waiting) c.make-parts.ensures) in
+    there c.answer_refused.result (IsWholeText c.in_ok-show.show) _ _
+    (λ taken. both_read _ (stream c.next_text.new.parts (g.S.Source.left c.next_text.new.source)) _ c.in_ok-show.show (rw is at c.in_ok-show.ensures.text) (rw is at c.in_ok-show.ensures.rest) taken
+    (TakesFront-trans _ _ _ c.next_text.ensures.left c.answer_refused.ensures.left))
+    c.answer_refused.ensures.both

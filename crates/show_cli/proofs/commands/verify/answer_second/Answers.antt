@@ -4,7 +4,7 @@ use Rattle.fleet_io.specs.Held.{stream}
 use Rattle.show_cli.specs.Answers.{outcome_of}
 use Rattle.show_cli.specs.SecondTexts.{TakenGives}
 use Rattle.show_cli.specs.declared.commands.verify.Taken.TheVariants.{Whole}
-use Rattle.show_cli.proofs.SecondLemmas.{whole_gives}
+use Rattle.show_cli.proofs.SecondLemmas.{taken_whole, whole_gives}
 use Rattle.show_cli.proofs.commands.verify.answer_second.Goals as goal
 
 pub take_second-requires-clause-unfed : goal.take_second-requires-clause-unfed
@@ -17,3 +17,11 @@ returns-clause-gives g c =
     whole_gives c.args.fitted.now c.in_ok-curves.curves c.take_second.new.checker.r c.take_second.new.checker.h coming taken.0 c.in-Whole.marker c.end-verdict.result
     (c.in_ok-curves.ensures.exact ∙ ap raised_of c.as_slice.ensures) (c.take_second.ensures.axes.0 ∙ c.make-checker.ensures.axes.0) (c.take_second.ensures.axes.1 ∙ c.make-checker.ensures.axes.1)
     taken.1 (c.end-verdict.ensures.gives taken.0 taken.1 taken.2) taken.3 (outcome_of c.judge.result) c.judge.ensures.gives
+
+pub returns-in-TooLarge-clause-both : goal.returns-in-TooLarge-clause-both
+returns-in-TooLarge-clause-both g c =
+    taken_whole c.in_ok-curves.curves _ _ c.take_second.new.checker c.in-Ok.taken c.in-Ok.ensures.gives c.in-Ok.ensures.whole
+
+pub returns-clause-both : goal.returns-clause-both
+returns-clause-both g c =
+    taken_whole c.in_ok-curves.curves _ _ c.take_second.new.checker c.in-Ok.taken c.in-Ok.ensures.gives c.in-Ok.ensures.whole
