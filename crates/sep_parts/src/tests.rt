@@ -132,6 +132,11 @@ fn is_at(level: &Level, depth: u8, index: u16, x: [i128; 8]) -> bool {
     level.place.depth == depth && level.place.index == index && level.part[0].b == x
 }
 
+// control values of the step in its third quarter and in its last, times 2 to the 14
+const THIRD_QUARTER: [i128; 8] = [8192, 9472, 10752, 11968, 13056, 13968, 14688, 15228];
+
+const LAST_QUARTER: [i128; 8] = [15228, 15768, 16128, 16320, 16384, 16384, 16384, 16384];
+
 // The halves of the step, and those of its second half, whose first is the third quarter: by the double sum.
 #[test]
 fn halves_wait_in_order(rt: HostRuntime) -> Result<(), Fail> {
@@ -158,26 +163,12 @@ fn halves_wait_in_order(rt: HostRuntime) -> Result<(), Fail> {
         assert!(rt; false);
         return Ok(());
     };
-    assert!(rt;
-        is_at(
-            &third,
-            2,
-            2,
-            [8192, 9472, 10752, 11968, 13056, 13968, 14688, 15228]
-        )
-    );
+    assert!(rt; is_at(&third, 2, 2, THIRD_QUARTER));
     let Some(last) = stack.pop() else {
         assert!(rt; false);
         return Ok(());
     };
-    assert!(rt;
-        is_at(
-            &last,
-            2,
-            3,
-            [15228, 15768, 16128, 16320, 16384, 16384, 16384, 16384]
-        )
-    );
+    assert!(rt; is_at(&last, 2, 3, LAST_QUARTER));
     assert!(rt; stack.pop().is_none());
     Ok(())
 }

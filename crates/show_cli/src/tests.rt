@@ -656,6 +656,15 @@ fn certificates_of_refused_shows(rt: HostRuntime) -> Result<(), Fail> {
     Ok(())
 }
 
+// the second text of a valid certificate for drones that keep apart, after its marker line
+const PROOF: &[u8] = b"%%\ncertificate 6\nr\nl\na\n";
+
+const READ: &[u8] = b"error 6 read\n";
+// what a sink of 16 bytes a write has got of a plan, and of a verdict, where its second write fails
+const PLAN_START: &[u8] = b"plan 1\ndrone sol";
+
+const VALID_START: &[u8] = b"valid depth 6 tr";
+
 #[test]
 fn failures(rt: HostRuntime) -> Result<(), Fail> {
     let first = Manner { cut: 30, fails: 1 };
@@ -664,37 +673,13 @@ fn failures(rt: HostRuntime) -> Result<(), Fail> {
     let narrow = Manner { cut: 16, fails: 2 };
     let behind = Manner { cut: 112, fails: 3 };
     let rows: [(&[&str], &[u8], &[u8], Manner, Manner, u8, &[u8]); 8] = [
-        (&["compile"], SHOW, b"", first, FINE, 6, b"error 6 read\n"),
-        (&["compile"], SHOW, b"", second, FINE, 6, b"error 6 read\n"),
-        (&["compile"], SHOW, b"", third, FINE, 6, b"error 6 read\n"),
-        (
-            &["compile"],
-            SHOW,
-            b"",
-            FINE,
-            narrow,
-            7,
-            b"plan 1\ndrone sol",
-        ),
+        (&["compile"], SHOW, b"", first, FINE, 6, READ),
+        (&["compile"], SHOW, b"", second, FINE, 6, READ),
+        (&["compile"], SHOW, b"", third, FINE, 6, READ),
+        (&["compile"], SHOW, b"", FINE, narrow, 7, PLAN_START),
         (&["compile"], SHOW, b"", first, first, 7, b""),
-        (
-            &["verify"],
-            APART,
-            b"%%\ncertificate 6\nr\nl\na\n",
-            behind,
-            FINE,
-            6,
-            b"error 6 read\n",
-        ),
-        (
-            &["verify"],
-            APART,
-            b"%%\ncertificate 6\nr\nl\na\n",
-            FINE,
-            narrow,
-            7,
-            b"valid depth 6 tr",
-        ),
+        (&["verify"], APART, PROOF, behind, FINE, 6, READ),
+        (&["verify"], APART, PROOF, FINE, narrow, 7, VALID_START),
         (&["play"], SHOW, b"", FINE, first, 7, b""),
     ];
     for (words, front, rest, reads, writes, status, written) in rows {
