@@ -162,7 +162,7 @@ one_more_later n (suc k) f within =
     add_one : (m : ℕ) (x y : ℤ) → pos (suc m) *ℤ x +ℤ y ≡ (pos m *ℤ x +ℤ y) +ℤ x
     add_one m x y = omega (arith, ints)
 
--- the identity after one step of raising
+-- the identity that one step of raising rests on
 raise_sum : (n u a x y : ℤ) → u *ℤ (n *ℤ ((u +ℤ a) *ℤ x) +ℤ (u *ℤ x +ℤ a *ℤ y)) +ℤ a *ℤ (n *ℤ ((u +ℤ a) *ℤ y) +ℤ (u *ℤ x +ℤ a *ℤ y))
     ≡ (u +ℤ a) *ℤ (u *ℤ x +ℤ a *ℤ y) +ℤ n *ℤ ((u +ℤ a) *ℤ (u *ℤ x +ℤ a *ℤ y))
 raise_sum n u a x y = simp ring (omega (arith, linear))

@@ -13,13 +13,16 @@ use crtp_packets::{PACKET_BYTES, Packet, from_bytes};
 use readback_core::{Careful, CarefulProgress};
 use upload_core::{Event, Host, Out, Progress, Sent};
 
-/// How an upload ends, by its status (docs/COMMANDS.md, "Statuses").
+/// The status of an upload whose packets are all acknowledged (docs/COMMANDS.md, "Statuses").
 pub const DONE: u8 = 0;
 
+/// The status of an upload that gave up a packet which no drone acknowledged in time.
 pub const GAVE_UP: u8 = 9;
 
+/// The status of an upload that a drone refused.
 pub const REFUSED: u8 = 10;
 
+/// The status of an upload whose read-back found other bytes than were sent.
 pub const DIFFERS: u8 = 14;
 
 /// The host of an upload, with read-back or without.

@@ -61,6 +61,7 @@ impl<const M: usize> Ruler<M> {
 
     /// Whether the direction with the number `dir` separates a part of the differences `diff` of raised curves: whether along it no
     /// control value of the part is below the threshold.
+    #[inline(always)]
     pub fn separates(&self, diff: &[Bez<8>; 3], level: &Level, dir: usize) -> bool
         requires values { All (λ curve. All (IsBelow (2 ^ 30)) curve.b) diff.now }
         requires level { IsLevel diff.now level.now }
