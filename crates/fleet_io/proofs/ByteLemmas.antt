@@ -7,7 +7,7 @@ use Rattle.std.proofs.lemmas.Bool.{cases_Bool}
 use Rattle.std.proofs.lemmas.Slice.Eq.{bytes_eq-Decides}
 use Rattle.text_lines.specs.Marker.{is_marker}
 use Rattle.fleet_io.specs.declared.parts.Ask.TheVariants as ask
-use Rattle.fleet_io.specs.PartBytes.{NextMarker, next_of, first_piece, behind_piece, is_marked_here, may_be_marker, AsksNext}
+use Rattle.fleet_io.specs.PartBytes.{NextMarker, next_of, first_piece, after_piece, is_marked_here, may_be_marker, AsksNext}
 
 -- ---- the first line
 
@@ -25,7 +25,7 @@ take_piece (b ∷ bytes) = elim (cases_Bool (eqb b 10)) [
   | inr other ↦ rw other (ap (λ (xs : List ℕ). b ∷ xs) (take_piece bytes))
 ]
 
-pub drop_piece : (bytes : List ℕ) → drop (suc (length (first_piece bytes))) bytes ≡ behind_piece bytes
+pub drop_piece : (bytes : List ℕ) → drop (suc (length (first_piece bytes))) bytes ≡ after_piece bytes
 drop_piece [] = refl
 drop_piece (b ∷ bytes) = elim (cases_Bool (eqb b 10)) [
   | inl feed ↦ rw feed refl
@@ -35,7 +35,7 @@ drop_piece (b ∷ bytes) = elim (cases_Bool (eqb b 10)) [
 -- a line feed ends the first line, or all bytes belong to it
 record HasFeed (bytes : List ℕ) : Type 0 where
   first : (more : List ℕ) → first_piece (bytes ++ more) ≡ first_piece bytes
-  behind : (more : List ℕ) → behind_piece (bytes ++ more) ≡ behind_piece bytes ++ more
+  after : (more : List ℕ) → after_piece (bytes ++ more) ≡ after_piece bytes ++ more
 
 record HasNone (bytes : List ℕ) : Type 0 where
   first : (more : List ℕ) → first_piece (bytes ++ more) ≡ bytes ++ first_piece more
@@ -44,9 +44,9 @@ record HasNone (bytes : List ℕ) : Type 0 where
 fed : (bytes : List ℕ) → HasFeed bytes ⊎ HasNone bytes
 fed [] = inr (record { first = λ more. refl; all = refl })
 fed (b ∷ bytes) = elim (cases_Bool (eqb b 10)) [
-  | inl feed ↦ inl (record { first = λ more. rw feed refl; behind = λ more. rw feed refl })
+  | inl feed ↦ inl (record { first = λ more. rw feed refl; after = λ more. rw feed refl })
   | inr other ↦ elim (fed bytes) [
-    | inl has ↦ inl (record { first = λ more. rw other (ap (λ (xs : List ℕ). b ∷ xs) (has.first more)); behind = λ more. rw other (has.behind more) })
+    | inl has ↦ inl (record { first = λ more. rw other (ap (λ (xs : List ℕ). b ∷ xs) (has.first more)); after = λ more. rw other (has.after more) })
     | inr none ↦ inr (record { first = λ more. rw other (ap (λ (xs : List ℕ). b ∷ xs) (none.first more)); all = rw other (ap (λ (xs : List ℕ). b ∷ xs) none.all) })
   ]
 ]
@@ -100,25 +100,25 @@ few_wait (a ∷ b ∷ c ∷ d ∷ bytes) is = absurd (elim (either (bytes_eq (a 
 
 record Settled (bytes more : List ℕ) : Type 0 where
   same : is_marker (first_piece (bytes ++ more)) ≡ is_marker (first_piece bytes)
-  behind : is_marker (first_piece bytes) ≡ true → behind_piece (bytes ++ more) ≡ behind_piece bytes ++ more
+  after : is_marker (first_piece bytes) ≡ true → after_piece (bytes ++ more) ≡ after_piece bytes ++ more
 
 settled : (bytes more : List ℕ) → (may_be_marker bytes ≡ false) ⊎ (more ≡ []) → Settled bytes more
 settled bytes more why = elim why [
   | inr none ↦
       let all : bytes ++ more ≡ bytes = ap (λ (xs : List ℕ). bytes ++ xs) none ∙ append-nil bytes in
-      record { same = ap (λ (xs : List ℕ). is_marker (first_piece xs)) all; behind = λ _. ap behind_piece all ∙ sym (ap (λ (xs : List ℕ). behind_piece bytes ++ xs) none ∙ append-nil (behind_piece bytes)) }
+      record { same = ap (λ (xs : List ℕ). is_marker (first_piece xs)) all; after = λ _. ap after_piece all ∙ sym (ap (λ (xs : List ℕ). after_piece bytes ++ xs) none ∙ append-nil (after_piece bytes)) }
   | inl off ↦ elim (fed bytes) [
-    | inl has ↦ record { same = ap is_marker (has.first more); behind = λ _. has.behind more }
+    | inl has ↦ record { same = ap is_marker (has.first more); after = λ _. has.after more }
     | inr none ↦
         let whole : is_marker bytes ≡ false = ap is_marker (sym (append-nil bytes)) ∙ never bytes [] off in
         record {
           same = ap is_marker (none.first more) ∙ never bytes (first_piece more) off ∙ sym (ap is_marker none.all ∙ whole);
-          behind = λ is. absurd (let e : true ≡ false = sym is ∙ ap is_marker none.all ∙ whole in cc);
+          after = λ is. absurd (let e : true ≡ false = sym is ∙ ap is_marker none.all ∙ whole in cc);
         }
   ]
 ]
 
-next_marked : (all : List ℕ) → is_marker (first_piece all) ≡ true → next_of true all ≡ NextMarker (behind_piece all)
+next_marked : (all : List ℕ) → is_marker (first_piece all) ≡ true → next_of true all ≡ NextMarker (after_piece all)
 next_marked [] is = absurd (let e : false ≡ true = is in cc)
 next_marked (b ∷ bytes) is = rw is refl
 
@@ -128,14 +128,14 @@ told bytes rest why = why
 
 -- the marker line stands here, and is taken
 pub asks_marker : (old left : Option (List ℕ)) (waiting kept : List ℕ) → Keeps old (prepend_known waiting left) → (may_be_marker waiting ≡ false) ⊎ IsAtEnd left → is_marker (first_piece waiting) ≡ true →
-    kept ≡ behind_piece waiting → IfSome old (λ all. AsksNext ask.Marker (next_of true all) (prepend_known kept left))
+    kept ≡ after_piece waiting → IfSome old (λ all. AsksNext ask.Marker (next_of true all) (prepend_known kept left))
 asks_marker None left waiting kept same why is taken = tt
 asks_marker (Some all) None waiting kept same why is taken = absurd same
 asks_marker (Some all) (Some rest) waiting kept same why is taken =
     let s = settled waiting rest why in
     let marked : is_marker (first_piece all) ≡ true = ap (λ (xs : List ℕ). is_marker (first_piece xs)) (sym same) ∙ s.same ∙ is in
-    let behind : kept ++ rest ≡ behind_piece all = ap (λ (xs : List ℕ). xs ++ rest) taken ∙ sym (s.behind is) ∙ ap behind_piece same in
-    rw (next_marked all marked) (ap Some behind)
+    let after : kept ++ rest ≡ after_piece all = ap (λ (xs : List ℕ). xs ++ rest) taken ∙ sym (s.after is) ∙ ap after_piece same in
+    rw (next_marked all marked) (ap Some after)
 
 -- no marker line stands here
 pub asks_plain : (old left : Option (List ℕ)) (waiting : List ℕ) (P : Bool → List ℕ → Type 0) → Keeps old (prepend_known waiting left) → (may_be_marker waiting ≡ false) ⊎ IsAtEnd left →
@@ -177,7 +177,7 @@ pub line_is : (bytes : List ℕ) (len : ℕ) → len ≡ length (first_piece byt
 line_is bytes len is = ap (λ (n : ℕ). is_marker (take n bytes)) is ∙ ap is_marker (take_piece bytes)
 
 -- the bytes after it
-pub behind_is : (bytes : List ℕ) (len : ℕ) → len ≡ length (first_piece bytes) → drop (len + 1) bytes ≡ behind_piece bytes
-behind_is bytes len is =
+pub after_is : (bytes : List ℕ) (len : ℕ) → len ≡ length (first_piece bytes) → drop (len + 1) bytes ≡ after_piece bytes
+after_is bytes len is =
     let at : len + 1 ≡ suc (length (first_piece bytes)) = omega (arith, is) in
     ap (λ (n : ℕ). drop n bytes) at ∙ drop_piece bytes

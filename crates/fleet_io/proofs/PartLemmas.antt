@@ -5,7 +5,7 @@ use Rattle.std.proofs.lemmas.Bool.{eqb-true}
 use Rattle.std.proofs.lemmas.List.Splits.{join_with_byte-slice_split}
 use Rattle.text_lines.specs.Lines.{between_feeds}
 use Rattle.text_lines.specs.Marker.{is_marker, has_marker, lines_before, lines_after, ended, part_of, rest_of}
-use Rattle.fleet_io.specs.PartBytes.{first_piece, behind_piece, part_left, is_marked_left, rest_left, PartLaw}
+use Rattle.fleet_io.specs.PartBytes.{first_piece, after_piece, part_left, is_marked_left, rest_left, PartLaw}
 
 -- the pieces after the first
 abbrev tail_pieces : List ℕ → List (List ℕ)
@@ -88,19 +88,19 @@ part_law all =
     go false false f g = refl
 
 -- ---- the rest
-behind_is : (bytes : List ℕ) → behind_piece bytes ≡ join_with_byte 10 (tail_pieces bytes)
-behind_is [] = refl
-behind_is (b ∷ bytes) = go (eqb b 10) (behind_is bytes)
+after_is : (bytes : List ℕ) → after_piece bytes ≡ join_with_byte 10 (tail_pieces bytes)
+after_is [] = refl
+after_is (b ∷ bytes) = go (eqb b 10) (after_is bytes)
   where
-    go : (c : Bool) → behind_piece bytes ≡ join_with_byte 10 (tail_pieces bytes) →
-        cond c bytes (behind_piece bytes) ≡ join_with_byte 10 (cond c (between_feeds bytes) (tail_pieces bytes))
+    go : (c : Bool) → after_piece bytes ≡ join_with_byte 10 (tail_pieces bytes) →
+        cond c bytes (after_piece bytes) ≡ join_with_byte 10 (cond c (between_feeds bytes) (tail_pieces bytes))
     go true before = sym (join_with_byte-slice_split 10 bytes)
     go false before = before
 
-abbrev behind_of : Bool → List (List ℕ) → List ℕ
-behind_of m tail = cond m (join_with_byte 10 tail) (cond (has_marker tail) (join_with_byte 10 (lines_after tail)) [])
+abbrev after_of : Bool → List (List ℕ) → List ℕ
+after_of m tail = cond m (join_with_byte 10 tail) (cond (has_marker tail) (join_with_byte 10 (lines_after tail)) [])
 
-rest_is : (bytes : List ℕ) (at_line : Bool) → rest_left at_line bytes ≡ behind_of (at_line && is_marker (first_piece bytes)) (tail_pieces bytes)
+rest_is : (bytes : List ℕ) (at_line : Bool) → rest_left at_line bytes ≡ after_of (at_line && is_marker (first_piece bytes)) (tail_pieces bytes)
 rest_is [] true = refl
 rest_is [] false = refl
 rest_is (b ∷ bytes) at_line = go (at_line && is_marker (first_piece (b ∷ bytes))) (rest_is bytes (eqb b 10))
@@ -111,13 +111,13 @@ rest_is (b ∷ bytes) at_line = go (at_line && is_marker (first_piece (b ∷ byt
     feed true k f g = refl
     feed false k f g = refl
 
-    later : (c : Bool) → behind_of (c && is_marker (first_piece bytes)) (tail_pieces bytes) ≡ behind_of false (cond c (between_feeds bytes) (tail_pieces bytes))
-    later true = feed (is_marker (first_piece bytes)) (has_marker (tail_pieces bytes)) refl refl ∙ ap (behind_of false) (sym (split_is bytes))
+    later : (c : Bool) → after_of (c && is_marker (first_piece bytes)) (tail_pieces bytes) ≡ after_of false (cond c (between_feeds bytes) (tail_pieces bytes))
+    later true = feed (is_marker (first_piece bytes)) (has_marker (tail_pieces bytes)) refl refl ∙ ap (after_of false) (sym (split_is bytes))
     later false = refl
 
-    go : (m : Bool) → rest_left (eqb b 10) bytes ≡ behind_of (eqb b 10 && is_marker (first_piece bytes)) (tail_pieces bytes) →
-        cond m (behind_piece (b ∷ bytes)) (rest_left (eqb b 10) bytes) ≡ behind_of m (tail_pieces (b ∷ bytes))
-    go true before = behind_is (b ∷ bytes)
+    go : (m : Bool) → rest_left (eqb b 10) bytes ≡ after_of (eqb b 10 && is_marker (first_piece bytes)) (tail_pieces bytes) →
+        cond m (after_piece (b ∷ bytes)) (rest_left (eqb b 10) bytes) ≡ after_of m (tail_pieces (b ∷ bytes))
+    go true before = after_is (b ∷ bytes)
     go false before = before ∙ later (eqb b 10)
 
 rest_law : (all : List ℕ) → rest_left true all ≡ rest_of all

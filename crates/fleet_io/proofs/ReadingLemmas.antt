@@ -4,7 +4,7 @@ use Rattle.std.specs.Prelude.{IfSome}
 use Rattle.std.specs.Io.KnownBytes.{Consumes, prepend_known}
 use Rattle.text_lines.specs.Marker.{rest_of}
 use Rattle.fleet_io.specs.Held.{has_whole_marker}
-use Rattle.fleet_io.specs.Parts.{TakesFewBehind, TakesMarked}
+use Rattle.fleet_io.specs.Parts.{TakesFewAfter, TakesMarked}
 use Rattle.fleet_io.specs.Taken.{TakesAtMost}
 use Rattle.fleet_io.proofs.MarkerLaws.{whole_marker-front}
 
@@ -17,10 +17,10 @@ takes_at_most waiting kept taken (Some before) (Some after) most is few held =
     omega (arith, ap length is, length-append waiting before, length-append taken (kept ++ after), length-append kept after, few, held)
 
 -- what was taken of the source after a part waits
-pub takes_few_behind : (kept : List ℕ) (old left : Option (List ℕ)) → IfSome old (λ all. prepend_known kept left ≡ Some (rest_of all)) → length kept ≤ 4096 → TakesFewBehind old left
-takes_few_behind kept None left is held = tt
-takes_few_behind kept (Some all) None is held = tt
-takes_few_behind kept (Some all) (Some rest) is held =
+pub takes_few_after : (kept : List ℕ) (old left : Option (List ℕ)) → IfSome old (λ all. prepend_known kept left ≡ Some (rest_of all)) → length kept ≤ 4096 → TakesFewAfter old left
+takes_few_after kept None left is held = tt
+takes_few_after kept (Some all) None is held = tt
+takes_few_after kept (Some all) (Some rest) is held =
     let same : kept ++ rest ≡ rest_of all = cc in
     omega (arith, ap length same, length-append kept rest, held)
 

@@ -16,9 +16,9 @@ abbrev pub first_piece : List ℕ → List ℕ
 first_piece [] = []
 first_piece (b ∷ bytes) = if b == 10 then [] else b ∷ first_piece bytes
 
-abbrev pub behind_piece : List ℕ → List ℕ
-behind_piece [] = []
-behind_piece (b ∷ bytes) = if b == 10 then bytes else behind_piece bytes
+abbrev pub after_piece : List ℕ → List ℕ
+after_piece [] = []
+after_piece (b ∷ bytes) = if b == 10 then bytes else after_piece bytes
 
 -- a marker line stands here, where a line begins
 abbrev pub is_marked_here : Bool → List ℕ → Bool
@@ -27,7 +27,7 @@ is_marked_here at_line bytes = at_line && is_marker (first_piece bytes)
 -- what comes next, where a line begins here or not
 abbrev pub next_of : Bool → List ℕ → Next
 next_of at_line [] = NextEnd
-next_of at_line (b ∷ bytes) = if is_marked_here at_line (b ∷ bytes) then NextMarker (behind_piece (b ∷ bytes)) else NextByte b bytes
+next_of at_line (b ∷ bytes) = if is_marked_here at_line (b ∷ bytes) then NextMarker (after_piece (b ∷ bytes)) else NextByte b bytes
 
 -- What is left of the part, whether a marker line ends it, and what stands after that, where a line begins here or
 -- not.
@@ -41,7 +41,7 @@ is_marked_left at_line (b ∷ bytes) = if is_marked_here at_line (b ∷ bytes) t
 
 abbrev pub rest_left : Bool → List ℕ → List ℕ
 rest_left at_line [] = []
-rest_left at_line (b ∷ bytes) = if is_marked_here at_line (b ∷ bytes) then behind_piece (b ∷ bytes) else rest_left (b == 10) bytes
+rest_left at_line (b ∷ bytes) = if is_marked_here at_line (b ∷ bytes) then after_piece (b ∷ bytes) else rest_left (b == 10) bytes
 
 -- what a call gives is what comes next, and what stands after it is still to come
 abbrev pub AsksNext : Ask → Next → Option (List ℕ) → Type 0

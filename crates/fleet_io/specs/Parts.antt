@@ -16,8 +16,8 @@ abbrev pub TakesMarked : Option (List ℕ) → Option (List ℕ) → Type 0
 TakesMarked old new = (taken : List ℕ) × Consumes old new taken × (has_whole_marker taken ≡ true)
 
 -- Of what stands after the part and its marker line a source has given at most 4,096 bytes, where both are known.
-abbrev pub TakesFewBehind : Option (List ℕ) → Option (List ℕ) → Type 0
-TakesFewBehind old left = IfSome old (λ all. IfSome left (λ rest. length (rest_of all) ≤ length rest + 4096))
+abbrev pub TakesFewAfter : Option (List ℕ) → Option (List ℕ) → Type 0
+TakesFewAfter old left = IfSome old (λ all. IfSome left (λ rest. length (rest_of all) ≤ length rest + 4096))
 
 -- A text in which a marker line stands with its line feed has the same part, whatever comes after it, and what comes
 -- after it comes after its rest.

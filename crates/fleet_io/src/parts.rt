@@ -7,7 +7,7 @@ ghost use Rattle.fleet_io.specs.Taken.{TakesAtMost, TakesFront};
 ghost use Rattle.text_lines.specs.Marker.{is_marker, part_of};
 ghost use Rattle.fleet_io.specs.Held.{stream, given, Asked, has_whole_marker, buffer_bytes, text_limit};
 ghost use Rattle.fleet_io.specs.PartBytes.{AsksNext, begins_line, first_piece, is_marked_here, may_be_marker, next_of, PartLaw};
-ghost use Rattle.fleet_io.specs.Parts.{MarkerLaw, TakesFewBehind, TakesMarked, TakesPart};
+ghost use Rattle.fleet_io.specs.Parts.{MarkerLaw, TakesFewAfter, TakesMarked, TakesPart};
 
 use crate::stream::{Failed, Source};
 use std::alloc::{AllocError, AllocFailed, Global};
@@ -199,6 +199,7 @@ impl Parts {
         requires { IsTrue self.old.ended → IsAtEnd (S.left source.old) }
         ensures keeps { Keeps (stream self.old (S.left source.old)) (stream self.new (S.left source.new)) }
         ensures tells { OnOk result ((may_be_marker self.new.waiting ≡ false) ⊎ IsTrue self.new.ended) }
+        ensures unasked { may_be_marker self.old.waiting ≡ false → (self.new.waiting ≡ self.old.waiting) × (S.left source.new ≡ S.left source.old) × (S.faults source.new ≡ S.faults source.old) }
         ensures left { TakesFront (S.left source.old) (S.left source.new) }
         ensures cause { HasCause (S.faults source.old) (S.faults source.new) result }
         ensures sound { self.new.sound ≡ self.old.sound }
@@ -300,7 +301,7 @@ impl Parts {
         // How much it reads: in any case at most 4,096 bytes more than `limit` and a marker line; of what stands after the
         // part and its marker line at most 4,096 bytes; and to the end where no marker line is whole.
         ensures few { TakesAtMost (limit + 4 + 4096) (S.left source.old) (S.left source.new) }
-        ensures behind { IfOk result (λ _. TakesFewBehind (stream self.old (S.left source.old)) (S.left source.new)) }
+        ensures after { IfOk result (λ _. TakesFewAfter (stream self.old (S.left source.old)) (S.left source.new)) }
         ensures met { IfOk result (λ _. IfSome (stream self.old (S.left source.old)) (λ all. has_whole_marker all ≡ false → IsTrue self.new.ended)) }
     {
         match self.gather(alloc, source, limit) {
@@ -361,6 +362,7 @@ impl Parts {
     fn plain<S: Source>(&mut self, source: &mut S) -> Result<Ask, Failed>
         requires { IsTrue self.old.ended → IsAtEnd (S.left source.old) }
         ensures asks { IfOk result (λ ask. IfSome (stream self.old (S.left source.old)) (λ all. (at_line : Bool) → is_marked_here at_line all ≡ false → AsksNext ask (next_of at_line all) (stream self.new (S.left source.new)))) }
+        ensures unasked { 0 < length self.old.waiting → (S.left source.new ≡ S.left source.old) × (S.faults source.new ≡ S.faults source.old) }
         ensures line { IfOk result (λ ask. self.new.at_line ≡ begins_line ask) }
         ensures ended { IfOk result (λ ask. ask ≡ Ask.«End» → IsTrue self.new.ended) }
         ensures left { TakesFront (S.left source.old) (S.left source.new) }
@@ -388,6 +390,7 @@ impl Parts {
     fn ask<S: Source>(&mut self, source: &mut S) -> Result<Ask, Failed>
         requires { IsTrue self.old.ended → IsAtEnd (S.left source.old) }
         ensures asks { IfOk result (λ ask. IfSome (stream self.old (S.left source.old)) (λ all. AsksNext ask (next_of self.old.at_line all) (stream self.new (S.left source.new)))) }
+        ensures unasked { 0 < length self.old.waiting → (self.old.at_line && may_be_marker self.old.waiting) ≡ false → (S.left source.new ≡ S.left source.old) × (S.faults source.new ≡ S.faults source.old) }
         ensures line { IfOk result (λ ask. self.new.at_line ≡ begins_line ask) }
         ensures ended { IfOk result (λ ask. ask ≡ Ask.«End» → IsTrue self.new.ended) }
         ensures left { TakesFront (S.left source.old) (S.left source.new) }
@@ -421,6 +424,8 @@ impl Parts {
         requires lines { IsTrue self.old.lines }
         requires at_end { IsTrue self.old.ended → IsAtEnd (S.left source.old) }
         ensures asks { IfOk result (λ ask. IfSome (stream self.old (S.left source.old)) (λ all. AsksNext ask (next_of self.old.at_line all) (stream self.new (S.left source.new)))) }
+        // It asks the source only where no byte waits, or where a line begins and what waits may still be a marker line.
+        ensures unasked { 0 < length self.old.waiting → (self.old.at_line && may_be_marker self.old.waiting) ≡ false → (S.left source.new ≡ S.left source.old) × (S.faults source.new ≡ S.faults source.old) }
         ensures line { IfOk result (λ ask. self.new.at_line ≡ begins_line ask) }
         ensures ended { IfOk result (λ ask. ask ≡ Ask.«End» → IsTrue self.new.ended) }
         ensures left { TakesFront (S.left source.old) (S.left source.new) }

@@ -106,7 +106,7 @@ fn next_byte<S: Source>(parts: &mut Parts, source: &mut S) -> Result<Option<u8>,
 
 // Bytes after a part, one by one. The end is met once, and a failed read ends the calls.
 #[test]
-fn bytes_behind_a_part(rt: HostRuntime) -> Result<(), Fail> {
+fn bytes_after_a_part(rt: HostRuntime) -> Result<(), Fail> {
     let alloc = rt.alloc();
     for cut in [1, 2, 3, 100] {
         let mut source = source_of(alloc, b"a\n%%\nb\n%%", cut, 0)?;

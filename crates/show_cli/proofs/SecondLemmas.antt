@@ -6,7 +6,7 @@ use Rattle.std.specs.Str.Lines.{lines}
 use Rattle.std.proofs.lemmas.Bool.Decides.{nat_tests}
 use Rattle.text_lines.specs.Lines.{between_feeds}
 use Rattle.text_lines.specs.Marker.{has_marker, part_of, rest_of}
-use Rattle.fleet_io.specs.PartBytes.{AsksNext, PartLaw, behind_piece, is_marked_here, is_marked_left, next_of, part_left, NextByte, NextMarker}
+use Rattle.fleet_io.specs.PartBytes.{AsksNext, PartLaw, after_piece, is_marked_here, is_marked_left, next_of, part_left, NextByte, NextMarker}
 use Rattle.fleet_io.specs.Taken.{TakesFront}
 use Rattle.fleet_io.specs.declared.parts.Ask.{Ask}
 use Rattle.fleet_io.specs.declared.parts.Ask.TheVariants as ask
@@ -57,7 +57,7 @@ byte_next : (at_line : Bool) (rest : List ℕ) (b : ℕ) (new : Option (List ℕ
 byte_next at_line [] b new asks = absurd asks
 byte_next at_line (c ∷ bytes) b new asks = go (is_marked_here at_line (c ∷ bytes)) refl asks
   where
-    go : (s : Bool) → is_marked_here at_line (c ∷ bytes) ≡ s → AsksNext (ask.Byte b) (cond s (NextMarker (behind_piece (c ∷ bytes))) (NextByte c bytes)) new → IsByteNext at_line (c ∷ bytes) b new
+    go : (s : Bool) → is_marked_here at_line (c ∷ bytes) ≡ s → AsksNext (ask.Byte b) (cond s (NextMarker (after_piece (c ∷ bytes))) (NextByte c bytes)) new → IsByteNext at_line (c ∷ bytes) b new
     go true here asks = absurd asks
     go false here asks = record {
       bytes = bytes;
@@ -71,7 +71,7 @@ marker_next : (at_line : Bool) (rest : List ℕ) (new : Option (List ℕ)) → A
 marker_next at_line [] new asks = absurd asks
 marker_next at_line (c ∷ bytes) new asks = go (is_marked_here at_line (c ∷ bytes)) asks
   where
-    go : (s : Bool) → AsksNext ask.Marker (cond s (NextMarker (behind_piece (c ∷ bytes))) (NextByte c bytes)) new →
+    go : (s : Bool) → AsksNext ask.Marker (cond s (NextMarker (after_piece (c ∷ bytes))) (NextByte c bytes)) new →
         (cond s [] (c ∷ part_left (c == 10) bytes) ≡ []) × (cond s true (is_marked_left (c == 10) bytes) ≡ true)
     go true asks = (refl, refl)
     go false asks = absurd asks
@@ -80,7 +80,7 @@ end_next : (at_line : Bool) (rest : List ℕ) (new : Option (List ℕ)) → Asks
 end_next at_line [] new asks = (refl, refl)
 end_next at_line (c ∷ bytes) new asks = absurd (go (is_marked_here at_line (c ∷ bytes)) asks)
   where
-    go : (s : Bool) → AsksNext ask.«End» (cond s (NextMarker (behind_piece (c ∷ bytes))) (NextByte c bytes)) new → ⊥
+    go : (s : Bool) → AsksNext ask.«End» (cond s (NextMarker (after_piece (c ∷ bytes))) (NextByte c bytes)) new → ⊥
     go true asks = asks
     go false asks = asks
 

@@ -16,7 +16,7 @@ use Rattle.choreo_reader.specs.Plain.{PlainShow}
 use Rattle.fleet_io.specs.Causes.{Rose}
 use Rattle.fleet_io.specs.declared.parts.Part.{Part}
 use Rattle.fleet_io.specs.Held.{Held, has_whole_marker, stream}
-use Rattle.fleet_io.specs.Parts.{MarkerLaw, TakesFewBehind, TakesMarked, TakesPart}
+use Rattle.fleet_io.specs.Parts.{MarkerLaw, TakesFewAfter, TakesMarked, TakesPart}
 use Rattle.fleet_io.specs.Taken.{AppendsFront, TakesAtMost, TakesFront}
 use Rattle.fleet_io.proofs.MarkerLaws.{whole_marker-front}
 use Rattle.link_frames.specs.Frames.{end_frame, frames_bytes}
@@ -143,7 +143,7 @@ apart_text text = by (has_marker (between_feeds text)) refl
     by false is = inl refl
 
 -- where a show's text is too long, at most 4,096 bytes after its marker line were taken
-pub few_after_long : (old new : Option (List ℕ)) → IfSome old (λ all. show_limit < length (part_of all)) → TakesAtMost (show_limit + 4 + 4096) old new → TakesFewBehind old new
+pub few_after_long : (old new : Option (List ℕ)) → IfSome old (λ all. show_limit < length (part_of all)) → TakesAtMost (show_limit + 4 + 4096) old new → TakesFewAfter old new
 few_after_long None new long few = tt
 few_after_long (Some all) None long few = tt
 few_after_long (Some all) (Some rest) long few = elim (apart_text all) [
@@ -217,14 +217,14 @@ upload_memory depth start readback r status is written faults taken reads_later 
 -- ---- a refusal
 
 -- where few bytes were taken after the marker line, no answer waits for more
-prompt_few : (depth : ℕ) (start readback : Bool) (r : Run) → MarkerLaw → TakesFewBehind r.left r.left_after → UploadsPromptly (Upload depth start readback) start readback r
+prompt_few : (depth : ℕ) (start readback : Bool) (r : Run) → MarkerLaw → TakesFewAfter r.left r.left_after → UploadsPromptly (Upload depth start readback) start readback r
 prompt_few depth start readback r marker few taken sent carried whole s stands accepted frames rest formed cut long =
     let behind : length (rest_of (taken ++ carried.later)) ≤ length carried.later + 4096 = rw (carried.left, carried.left_after) at few in
     absurd (omega (arith, long, behind, ap length (marker taken carried.later whole).1, length-append (rest_of taken) carried.later, ap length cut, length-append (frames_bytes frames) rest))
 
 -- the end frame alone was written, with the status of a refusal
 pub upload_refused : (depth : ℕ) (start readback : Bool) (r : Run) (refusal : Refusal) (status : ℕ) → OutcomeLaw → MarkerLaw → IfSome r.left (λ all. IsRefusedBy (Upload depth start readback) (cut_of all) refusal) →
-    IsOfInput refusal → TakesFewBehind r.left r.left_after → TakesFront r.left r.left_after → r.reads_failed ≤ r.reads_failed_after →
+    IsOfInput refusal → TakesFewAfter r.left r.left_after → TakesFront r.left r.left_after → r.reads_failed ≤ r.reads_failed_after →
     Wrote (status_of refusal) (end_frame (status_of refusal)) r.written r.written_after r.writes_failed r.writes_failed_after status → Runs (Upload depth start readback) r status
 upload_refused depth start readback r refusal status law marker is of_input few taken reads_later wrote =
     let judged = refused_judged refusal of_input in

@@ -7,7 +7,7 @@ use Rattle.choreo_reader.specs.Plain.{PlainShow}
 use Rattle.choreo_reader.specs.Grammar.{StandsFor}
 use Rattle.fleet_io.specs.Causes.{Rose}
 use Rattle.fleet_io.specs.Held.{has_whole_marker}
-use Rattle.fleet_io.specs.Parts.{TakesFewBehind}
+use Rattle.fleet_io.specs.Parts.{TakesFewAfter}
 use Rattle.fleet_io.specs.Taken.{AppendsFront, TakesAtMost, TakesFront}
 use Rattle.link_frames.specs.Frames.{end_frame}
 use Rattle.link_upload.specs.Uploads.{IsPrompt, UploadFails}
@@ -178,7 +178,7 @@ TakesLittle c r = ((ways_of c).has_second ≡ false) ⊎ IfSome r.left (λ input
 
 -- A command that wants nothing after a marker line takes at most 4,096 bytes after it, where it judges its input.
 abbrev pub StopsAtMarker : Command → Run → ℕ → Type 0
-StopsAtMarker c r status = (ways_of c).has_second ≡ false → reads c ≡ true → IsJudged status → TakesFewBehind r.left r.left_after
+StopsAtMarker c r status = (ways_of c).has_second ≡ false → reads c ≡ true → IsJudged status → TakesFewAfter r.left r.left_after
 
 -- the most bytes of a second text that is read before anything is judged; of `upload`, the frames are taken as they come
 abbrev pub second_limit : Command → Option ℕ

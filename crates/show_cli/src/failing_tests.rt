@@ -218,7 +218,7 @@ const MARKED: [Row; 3] = [
 ];
 
 // Whether the read that brings the end of the second marker line is met, and none after it, where more bytes come.
-fn stops_behind(alloc: Global, row: &Row) -> Result<bool, AllocError> {
+fn stops_after(alloc: Global, row: &Row) -> Result<bool, AllocError> {
     let (words, front, rest, status, pieces) = row;
     let reads = front.len().saturating_add(rest.len()).div_ceil(CUT) as u64;
     let mut more = Vec::from_slice(alloc, rest)?;
@@ -236,7 +236,7 @@ fn stops_behind(alloc: Global, row: &Row) -> Result<bool, AllocError> {
 #[test]
 fn no_read_after_a_second_marker_line(rt: HostRuntime) -> Result<(), Fail> {
     for row in &MARKED {
-        assert!(rt; stops_behind(rt.alloc(), row)?);
+        assert!(rt; stops_after(rt.alloc(), row)?);
     }
     Ok(())
 }

@@ -3,7 +3,7 @@ ghost use Rattle.std.specs.Prelude.{◌≡◌, ◌+◌, ◌<◌, ◌≤◌, [], 
 ghost use Rattle.std.specs.Io.KnownBytes.{IsAtEnd};
 ghost use Rattle.fleet_io.specs.Held.{stream, text_limit};
 ghost use Rattle.fleet_io.specs.Causes.{Rose};
-ghost use Rattle.fleet_io.specs.Parts.{TakesFewBehind};
+ghost use Rattle.fleet_io.specs.Parts.{TakesFewAfter};
 ghost use Rattle.fleet_io.specs.Taken.{TakesAtMost, TakesFront};
 ghost use Rattle.text_lines.specs.Marker.{part_of};
 ghost use Rattle.show_cli.specs.Runs.{TakesOneText};
@@ -53,7 +53,7 @@ pub fn next_text<S: Source>(
     ensures at_end { IsTrue parts.new.ended → IsAtEnd (S.left source.new) }
     ensures whole { IfOk result (λ text. IsUnmarked text → IsAtEnd (S.left source.new)) }
     ensures few { TakesAtMost (limit + 4 + 4096) (S.left source.old) (S.left source.new) }
-    ensures behind { parts.old.waiting ≡ [] → limit ≡ show_limit → IfOk result (λ _. TakesFewBehind (S.left source.old) (S.left source.new)) }
+    ensures after { parts.old.waiting ≡ [] → limit ≡ show_limit → IfOk result (λ _. TakesFewAfter (S.left source.old) (S.left source.new)) }
     ensures failed { result ≡ Err Failure.Read → Rose (S.faults source.old) (S.faults source.new) }
     ensures later { S.faults source.old ≤ S.faults source.new }
     ensures left { TakesFront (S.left source.old) (S.left source.new) }
@@ -108,7 +108,7 @@ fn read_second<S: Source>(
 pub fn read_show_text<S: Source>(alloc: Global, source: &mut S) -> Result<Text, Failure>
     ensures show { IfOk result (λ text. ReadsShow (S.left source.old) (S.left source.new) text) }
     ensures few { TakesOneText (S.left source.old) (S.left source.new) }
-    ensures behind { IfOk result (λ _. TakesFewBehind (S.left source.old) (S.left source.new)) }
+    ensures after { IfOk result (λ _. TakesFewAfter (S.left source.old) (S.left source.new)) }
     ensures failed { result ≡ Err Failure.Read → Rose (S.faults source.old) (S.faults source.new) }
     ensures later { S.faults source.old ≤ S.faults source.new }
     ensures left { TakesFront (S.left source.old) (S.left source.new) }

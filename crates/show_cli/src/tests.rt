@@ -671,14 +671,14 @@ fn failures(rt: HostRuntime) -> Result<(), Fail> {
     let second = Manner { cut: 30, fails: 2 };
     let third = Manner { cut: 40, fails: 3 };
     let narrow = Manner { cut: 16, fails: 2 };
-    let behind = Manner { cut: 112, fails: 3 };
+    let after = Manner { cut: 112, fails: 3 };
     let rows: [(&[&str], &[u8], &[u8], Manner, Manner, u8, &[u8]); 8] = [
         (&["compile"], SHOW, b"", first, FINE, 6, READ),
         (&["compile"], SHOW, b"", second, FINE, 6, READ),
         (&["compile"], SHOW, b"", third, FINE, 6, READ),
         (&["compile"], SHOW, b"", FINE, narrow, 7, PLAN_START),
         (&["compile"], SHOW, b"", first, first, 7, b""),
-        (&["verify"], APART, PROOF, behind, FINE, 6, READ),
+        (&["verify"], APART, PROOF, after, FINE, 6, READ),
         (&["verify"], APART, PROOF, FINE, narrow, 7, VALID_START),
         (&["play"], SHOW, b"", FINE, first, 7, b""),
     ];

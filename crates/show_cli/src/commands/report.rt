@@ -3,7 +3,7 @@ ghost use Rattle.std.specs.Prelude.{◌≡◌, ◌≤◌, ℕ, IfOk};
 ghost use Rattle.choreo_reader.specs.Plain.{PlainShow};
 ghost use Rattle.command_words.specs.Commands.{most_depth};
 ghost use Rattle.fleet_io.specs.Causes.{Rose};
-ghost use Rattle.fleet_io.specs.Parts.{TakesFewBehind};
+ghost use Rattle.fleet_io.specs.Parts.{TakesFewAfter};
 ghost use Rattle.fleet_io.specs.Taken.{TakesFront};
 ghost use Rattle.report_text.specs.Report.{report_text};
 ghost use Rattle.show_plan.specs.Fitting.{IsFitted, IsValidFitted};
@@ -67,7 +67,7 @@ fn answer_input<S: Source>(alloc: Global, depth: u8, source: &mut S) -> Result<A
     ensures failed { result ≡ Err Failure.Read → Rose (S.faults source.old) (S.faults source.new) }
     ensures later { S.faults source.old ≤ S.faults source.new }
     ensures few { TakesOneText (S.left source.old) (S.left source.new) }
-    ensures behind { IfOk result (λ _. TakesFewBehind (S.left source.old) (S.left source.new)) }
+    ensures after { IfOk result (λ _. TakesFewAfter (S.left source.old) (S.left source.new)) }
     ensures left { TakesFront (S.left source.old) (S.left source.new) }
 {
     let text = read_show_text(alloc, source)?;

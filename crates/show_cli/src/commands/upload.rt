@@ -4,7 +4,7 @@ ghost use Rattle.std.specs.Io.KnownBytes.{Consumes, IsAtEnd};
 ghost use Rattle.command_words.specs.Commands.{most_depth};
 ghost use Rattle.fleet_io.specs.Causes.{Rose};
 ghost use Rattle.fleet_io.specs.Held.{buffer_bytes, has_whole_marker, stream};
-ghost use Rattle.fleet_io.specs.Parts.{TakesFewBehind};
+ghost use Rattle.fleet_io.specs.Parts.{TakesFewAfter};
 ghost use Rattle.fleet_io.specs.Taken.{TakesFront};
 ghost use Rattle.link_frames.specs.Frames.{end_frame};
 ghost use Rattle.refusals.specs.Refusals.{status_of};
@@ -100,7 +100,7 @@ fn read_ready<S: Source>(
     ensures gives { IfOk result (λ ready. IfSome (stream parts.old (S.left source.old)) (λ all. ReadyGives (Command.Upload depth start readback) start readback (cut_of all) ready)) }
     ensures sound { IfOk result IsSoundReady }
     ensures goes_on { IfOk result (λ ready. GoesOnReady ready parts.new (stream parts.old (S.left source.old)) (stream parts.new (S.left source.new))) }
-    ensures few { IfOk result (λ _. TakesFewBehind (stream parts.old (S.left source.old)) (S.left source.new)) }
+    ensures few { IfOk result (λ _. TakesFewAfter (stream parts.old (S.left source.old)) (S.left source.new)) }
     ensures taken { TakesOneText (S.left source.old) (S.left source.new) }
     ensures most { length parts.new.waiting ≤ buffer_bytes }
     ensures at_end { IsTrue parts.new.ended → IsAtEnd (S.left source.new) }

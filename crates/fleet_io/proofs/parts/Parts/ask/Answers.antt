@@ -4,7 +4,7 @@ use Rattle.text_lines.specs.Marker.{is_marker}
 use Rattle.fleet_io.specs.PartBytes.{AsksNext, next_of, first_piece}
 use Rattle.fleet_io.specs.Held.{stream}
 use Rattle.fleet_io.proofs.TakenLemmas.{TakesFront-trans}
-use Rattle.fleet_io.proofs.ByteLemmas.{asks_marker, asks_plain, behind_is, line_is, tells}
+use Rattle.fleet_io.proofs.ByteLemmas.{asks_marker, asks_plain, after_is, line_is, tells}
 use Rattle.fleet_io.proofs.parts.Parts.ask.Goals as goal
 
 pub returns-then-not-is_marker-clause-asks : goal.returns-then-not-is_marker-clause-asks
@@ -23,4 +23,4 @@ returns-clause-asks g c =
     let here : c.args.self.now.at_line ≡ true = rw (← c.self.view_is) c.if-not-self.false in
     let len_is = rw c.waiting.ensures.value at c.line_len-len.ensures.value in
     let is : is_marker (first_piece c.fill.new.self.waiting) ≡ true = sym (line_is _ _ len_is) ∙ (rw c.waiting-2.ensures.value at (sym c.if-not-is_marker.ensures)) in
-    rw here (asks_marker _ _ _ _ c.fill.ensures.keeps (tells c.fill.new.self.waiting (g.S.Source.left c.fill.new.source) c.fill.new.self.ended c.in-Ok.ensures.tells c.fill.ensures.at_end) is (c.skip.ensures.waiting ∙ behind_is _ _ len_is))
+    rw here (asks_marker _ _ _ _ c.fill.ensures.keeps (tells c.fill.new.self.waiting (g.S.Source.left c.fill.new.source) c.fill.new.self.ended c.in-Ok.ensures.tells c.fill.ensures.at_end) is (c.skip.ensures.waiting ∙ after_is _ _ len_is))

@@ -1,4 +1,5 @@
-use Rattle.std.proofs.Common.{refl, ◌∙◌, arith}
+use Rattle.std.proofs.Common.{◌≡◌, true, false, refl, sym, ap, ◌∙◌, arith}
+use Rattle.fleet_io.specs.PartBytes.{may_be_marker}
 use Rattle.std.proofs.KnownBytes.{Keeps-refl, Keeps-trans}
 use Rattle.fleet_io.proofs.TakenLemmas.{TakesFront-trans, TakesFront-none}
 use Rattle.fleet_io.proofs.parts.Parts.fill.Goals as goal
@@ -12,6 +13,7 @@ reads-init g c = record {
   lines = refl;
   at_line = refl;
   at_end = c.requires;
+  unasked = λ off. (refl, refl, refl);
   stays_ended = λ ended. (ended, refl, refl);
 }
 
@@ -24,6 +26,9 @@ reads-preserved g c = record {
   lines = c.more.ensures.lines ∙ c.reads.invariant.lines;
   at_line = c.more.ensures.at_line ∙ c.reads.invariant.at_line;
   at_end = c.more.ensures.at_end;
+  unasked = λ off. absurd (
+      let same : c.waiting.result.now ≡ c.args.self.now.waiting = c.waiting.ensures.value ∙ (c.reads.invariant.unasked off).0 in
+      let e : true ≡ false = sym c.if-may_be_marker.true ∙ c.may_be_marker.ensures ∙ ap may_be_marker same ∙ off in cc);
   stays_ended = λ ended.
       let before = c.reads.invariant.stays_ended ended in
       let now = c.more.ensures.stays_ended before.0 in

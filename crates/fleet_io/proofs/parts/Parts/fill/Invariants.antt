@@ -1,7 +1,8 @@
-use Rattle.std.proofs.Common.{◌≡◌, ◌-◌, ◌≤◌, cond, length}
+use Rattle.std.proofs.Common.{◌≡◌, false, ◌-◌, ◌≤◌, cond, length}
 use Rattle.std.specs.Prelude.{IsTrue}
 use Rattle.std.specs.Io.KnownBytes.{Keeps, IsAtEnd}
 use Rattle.fleet_io.specs.Held.{stream}
+use Rattle.fleet_io.specs.PartBytes.{may_be_marker}
 use Rattle.fleet_io.specs.Taken.{TakesFront}
 use Rattle.fleet_io.proofs.parts.Parts.fill.Given as goal
 
@@ -14,6 +15,8 @@ invariant-reads g l = record {
   lines : l.self.lines ≡ l.initial.self.lines;
   at_line : l.self.at_line ≡ l.initial.self.at_line;
   at_end : IsTrue l.self.ended → IsAtEnd (g.S.Source.left l.source);
+  unasked : may_be_marker l.initial.self.waiting ≡ false →
+      (l.self.waiting ≡ l.initial.self.waiting) × (g.S.Source.left l.source ≡ g.S.Source.left l.initial.source) × (g.S.Source.faults l.source ≡ g.S.Source.faults l.initial.source);
   stays_ended : IsTrue l.initial.self.ended → IsTrue l.self.ended × (g.S.Source.left l.source ≡ g.S.Source.left l.initial.source) × (g.S.Source.faults l.source ≡ g.S.Source.faults l.initial.source);
 }
 

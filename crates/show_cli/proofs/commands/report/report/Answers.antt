@@ -10,4 +10,4 @@ returns-clause-runs g c =
 
 pub returns-clause-marker : goal.returns-clause-marker
 returns-clause-marker g c = λ alone reads judged.
-    judged_answer c.answer_input-answer.result _ _ _ _ c.respond.result _ c.respond.ensures c.answer_input-answer.ensures.behind judged
+    judged_answer c.answer_input-answer.result _ _ _ _ c.respond.result _ c.respond.ensures c.answer_input-answer.ensures.after judged
