@@ -1,12 +1,14 @@
 -- A certificate's text that is judged as it is taken.
 use Rattle.std.proofs.Common.{◌≡◌, ℕ, suc, ◌+◌, ◌<◌, ◌≤◌, Bool, true, false, cond, nat_lt, ◌==◌, List, [], ◌∷◌, ◌++◌, append_assoc, append-nil, length, length-append, All, Option, Some, None, Result, Ok, Err, IfOk, IfSome, refl, sym, ap, subst, ◌∙◌, arith}
-use Rattle.std.specs.Io.KnownBytes.{IsAtEnd}
+use Rattle.std.specs.Io.KnownBytes.{IsAtEnd, prepend_known}
 use Rattle.std.specs.Option.{option_map, option_or}
 use Rattle.std.specs.Str.Lines.{lines}
 use Rattle.std.proofs.lemmas.Bool.Decides.{nat_tests}
 use Rattle.text_lines.specs.Lines.{between_feeds}
 use Rattle.text_lines.specs.Marker.{has_marker, part_of, rest_of}
-use Rattle.fleet_io.specs.PartBytes.{AsksNext, PartLaw, after_piece, is_marked_here, is_marked_left, next_of, part_left, NextByte, NextMarker}
+use Rattle.fleet_io.specs.PartBytes.{AsksNext, PartLaw, after_piece, is_marked_here, is_marked_left, next_of, part_left, rest_left, NextByte, NextMarker}
+use Rattle.fleet_io.specs.Held.{Held, buffer_bytes, stream}
+use Rattle.fleet_io.specs.Parts.{TakesFewAfter}
 use Rattle.fleet_io.specs.Taken.{TakesFront}
 use Rattle.fleet_io.specs.declared.parts.Ask.{Ask}
 use Rattle.fleet_io.specs.declared.parts.Ask.TheVariants as ask
@@ -40,7 +42,7 @@ use Rattle.show_cli.specs.Input.{GoesOn, IsReadBoth, IsReadWhole, IsShowText, Is
 use Rattle.show_cli.specs.Outcome.{CertificateGives, Outcome, judged_for, outcome, refused}
 use Rattle.show_cli.specs.Refused.{IsOfInput, not_valid, second_refusal}
 use Rattle.show_cli.specs.Reports.{valid_line}
-use Rattle.show_cli.specs.SecondTexts.{Feeds, GivesSecond, IsFed, IsMarkedBy, IsTakenToEnd, IsTakenWhole, Skips, TakenGives, line_after, taken_by, unless_marked, verdict_outcome}
+use Rattle.show_cli.specs.SecondTexts.{Feeds, GivesSecond, IsFed, IsFewTaken, IsMarkedBy, IsTakenToEnd, IsTakenWhole, Skips, TakenGives, line_after, taken_by, unless_marked, verdict_outcome}
 use Rattle.show_cli.specs.Shows.{Cut, certificate_limit, cut_of, feeds, marker_number, names_of, trajectories_of}
 use Rattle.show_cli.proofs.AnswerLemmas.{apart_of_show, fitted_outcome, fitted_safe, plain_outcome, refused_some, some_by}
 use Rattle.show_cli.proofs.CertificateLemmas.{judged_same}
@@ -52,6 +54,7 @@ record IsByteNext (at_line : Bool) (rest : List ℕ) (b : ℕ) (new : Option (Li
   new_is : new ≡ Some bytes
   part : part_left at_line rest ≡ b ∷ part_left (b == 10) bytes
   marked : is_marked_left at_line rest ≡ is_marked_left (b == 10) bytes
+  after : rest_left at_line rest ≡ rest_left (b == 10) bytes
 
 byte_next : (at_line : Bool) (rest : List ℕ) (b : ℕ) (new : Option (List ℕ)) → AsksNext (ask.Byte b) (next_of at_line rest) new → IsByteNext at_line rest b new
 byte_next at_line [] b new asks = absurd asks
@@ -64,6 +67,7 @@ byte_next at_line (c ∷ bytes) b new asks = go (is_marked_here at_line (c ∷ b
       new_is = asks.1;
       part = ap (λ (s : Bool). cond s [] (c ∷ part_left (c == 10) bytes)) here ∙ ap (λ (x : ℕ). x ∷ part_left (x == 10) bytes) (sym asks.0);
       marked = ap (λ (s : Bool). cond s true (is_marked_left (c == 10) bytes)) here ∙ ap (λ (x : ℕ). is_marked_left (x == 10) bytes) (sym asks.0);
+      after = ap (λ (s : Bool). cond s (after_piece (c ∷ bytes)) (rest_left (c == 10) bytes)) here ∙ ap (λ (x : ℕ). rest_left (x == 10) bytes) (sym asks.0);
     }
 
 -- the marker line, or the end
@@ -84,6 +88,23 @@ end_next at_line (c ∷ bytes) new asks = absurd (go (is_marked_here at_line (c 
     go true asks = asks
     go false asks = asks
 
+-- what is still to come then stands after the part
+after_marker : (at_line : Bool) (rest : List ℕ) (new : Option (List ℕ)) → AsksNext ask.Marker (next_of at_line rest) new → new ≡ Some (rest_left at_line rest)
+after_marker at_line [] new asks = absurd asks
+after_marker at_line (c ∷ bytes) new asks = go (is_marked_here at_line (c ∷ bytes)) asks
+  where
+    go : (s : Bool) → AsksNext ask.Marker (cond s (NextMarker (after_piece (c ∷ bytes))) (NextByte c bytes)) new → new ≡ Some (cond s (after_piece (c ∷ bytes)) (rest_left (c == 10) bytes))
+    go true asks = asks
+    go false asks = absurd asks
+
+after_end : (at_line : Bool) (rest : List ℕ) (new : Option (List ℕ)) → AsksNext ask.«End» (next_of at_line rest) new → new ≡ Some (rest_left at_line rest)
+after_end at_line [] new asks = asks
+after_end at_line (c ∷ bytes) new asks = absurd (go (is_marked_here at_line (c ∷ bytes)) asks)
+  where
+    go : (s : Bool) → AsksNext ask.«End» (cond s (NextMarker (after_piece (c ∷ bytes))) (NextByte c bytes)) new → ⊥
+    go true asks = asks
+    go false asks = asks
+
 -- ---- what was taken
 -- what holds of what comes next, where it is known
 asked_of : (all : List ℕ) (at_line : Bool) (now : Option (List ℕ)) (fed : List ℕ) (P : List ℕ → Type 0) → (is : IsFed all at_line now fed) → IfSome now P → P is.rest
@@ -96,6 +117,7 @@ fed_none law (Some all) at_line is = record {
   now_is = refl;
   part = ap (λ (b : Bool). part_left b all) is ∙ law.part all;
   marked = ap (λ (b : Bool). is_marked_left b all) is ∙ law.marked all;
+  after = ap (λ (b : Bool). rest_left b all) is ∙ law.rest all;
 }
 
 pub fed_more : (coming : Option (List ℕ)) (at_line : Bool) (now new : Option (List ℕ)) (fed : List ℕ) (b : ℕ) → IfSome coming (λ all. IsFed all at_line now fed) →
@@ -108,6 +130,7 @@ fed_more (Some all) at_line now new fed b is asks =
       now_is = next.new_is;
       part = append_assoc fed (b ∷ []) (part_left (b == 10) next.bytes) ∙ ap (λ (xs : List ℕ). fed ++ xs) (sym next.part) ∙ is.part;
       marked = sym next.marked ∙ is.marked;
+      after = sym next.after ∙ is.after;
     }
 
 -- a byte more than a text may have
@@ -138,6 +161,33 @@ fed_marked coming at_line now new fed number is_number is asks =
 pub fed_whole : (coming : Option (List ℕ)) (at_line : Bool) (now new : Option (List ℕ)) (fed : List ℕ) → IfSome coming (λ all. IsFed all at_line now fed) →
     IfSome now (λ all. AsksNext ask.«End» (next_of at_line all) new) → IfSome coming (λ all. (part_of all ≡ fed) × IsMarkedBy fed None (has_marker (between_feeds all)))
 fed_whole coming at_line now new fed is asks = whole_by coming fed at_line now None false refl is (λ rest now_is. end_next at_line rest new (rw now_is at asks))
+
+-- of what stands after the part at most 4,096 bytes were taken, which wait
+few_of : (all waiting : List ℕ) (left : Option (List ℕ)) → prepend_known waiting left ≡ Some (rest_of all) → length waiting ≤ buffer_bytes → TakesFewAfter (Some all) left
+few_of all waiting None is most = tt
+few_of all waiting (Some rest) is most =
+    let same : waiting ++ rest ≡ rest_of all = cc in
+    omega (arith, most, length-append waiting rest, ap (λ (xs : List ℕ). length xs) same)
+
+pub few_marked : (coming : Option (List ℕ)) (at_line : Bool) (now : Option (List ℕ)) (fed : List ℕ) (held : Held) (left : Option (List ℕ)) → IfSome coming (λ all. IsFed all at_line now fed) →
+    IfSome now (λ all. AsksNext ask.Marker (next_of at_line all) (stream held left)) → length held.waiting ≤ buffer_bytes → TakesFewAfter coming left
+few_marked None at_line now fed held left is asks most = tt
+few_marked (Some all) at_line now fed held left is asks most =
+    few_of all held.waiting left
+    (after_marker at_line is.rest (stream held left) (asked_of all at_line now fed (λ rest. AsksNext ask.Marker (next_of at_line rest) (stream held left)) is asks) ∙ ap (λ (xs : List ℕ). Some xs) is.after) most
+
+pub few_whole : (coming : Option (List ℕ)) (at_line : Bool) (now : Option (List ℕ)) (fed : List ℕ) (held : Held) (left : Option (List ℕ)) → IfSome coming (λ all. IsFed all at_line now fed) →
+    IfSome now (λ all. AsksNext ask.«End» (next_of at_line all) (stream held left)) → length held.waiting ≤ buffer_bytes → TakesFewAfter coming left
+few_whole None at_line now fed held left is asks most = tt
+few_whole (Some all) at_line now fed held left is asks most =
+    few_of all held.waiting left
+    (after_end at_line is.rest (stream held left) (asked_of all at_line now fed (λ rest. AsksNext ask.«End» (next_of at_line rest) (stream held left)) is asks) ∙ ap (λ (xs : List ℕ). Some xs) is.after) most
+
+pub ended_few : (coming : Option (List ℕ)) (at_line : Bool) (now : Option (List ℕ)) (fed : List ℕ) (held : Held) (left : Option (List ℕ)) (number : ℕ) → IfSome coming (λ all. IsFed all at_line now fed) →
+    (given : Ask) → IfSome now (λ all. AsksNext given (next_of at_line all) (stream held left)) → length held.waiting ≤ buffer_bytes → IsFewTaken coming left (taken_by number given)
+ended_few coming at_line now fed held left number is (ask.Byte b) asks most = tt
+ended_few coming at_line now fed held left number is ask.Marker asks most = few_marked coming at_line now fed held left is asks most
+ended_few coming at_line now fed held left number is ask.«End» asks most = few_whole coming at_line now fed held left is asks most
 
 -- the number of the line after a byte more
 feeds_more : (fed : List ℕ) (b : ℕ) → feeds (fed ++ b ∷ []) ≡ cond (b == 10) (suc (feeds fed)) (feeds fed)
@@ -239,37 +289,41 @@ clash : (b : Bool) → b ≡ true → b ≡ false → ⊥
 clash b holds fails = let f : true ≡ false = sym holds ∙ fails in cc
 
 -- at the input's end nothing is left to take
-pub ended_whole : (coming left : Option (List ℕ)) → IsAtEnd left → IsTakenWhole coming left
-ended_whole None left at_end = tt
-ended_whole (Some all) left at_end = λ short unmarked. at_end
+pub ended_whole : (coming left : Option (List ℕ)) → IsAtEnd left → TakesFewAfter coming left → IsTakenWhole coming left
+ended_whole None left at_end few = tt
+ended_whole (Some all) left at_end few = λ short. ((λ unmarked. at_end), few)
 
 -- at a marker line nothing is left to show
 pub skipped_marked : (coming : Option (List ℕ)) (n : ℕ) (at_line : Bool) (now new left : Option (List ℕ)) → Skips coming n at_line now →
-    IfSome now (λ all. AsksNext ask.Marker (next_of at_line all) new) → IsTakenWhole coming left
-skipped_marked None n at_line now new left skips asks = tt
-skipped_marked (Some all) n at_line now new left skips asks = λ short unmarked.
-    absurd (clash (has_marker (between_feeds all)) (fed_marked (Some all) at_line now new skips.fed (marker_number skips.fed) refl skips.is_fed asks).1.0 unmarked)
+    IfSome now (λ all. AsksNext ask.Marker (next_of at_line all) new) → TakesFewAfter coming left → IsTakenWhole coming left
+skipped_marked None n at_line now new left skips asks few = tt
+skipped_marked (Some all) n at_line now new left skips asks few = λ short. (
+  (λ unmarked. absurd (clash (has_marker (between_feeds all)) (fed_marked (Some all) at_line now new skips.fed (marker_number skips.fed) refl skips.is_fed asks).1.0 unmarked)),
+  few,
+)
 
 -- nor where more bytes than a text may have were taken
 pub skipped_over : (coming : Option (List ℕ)) (n : ℕ) (at_line : Bool) (now left : Option (List ℕ)) → certificate_limit < n → Skips coming n at_line now → IsTakenWhole coming left
 skipped_over None n at_line now left over skips = tt
-skipped_over (Some all) n at_line now left over skips = λ short unmarked.
+skipped_over (Some all) n at_line now left over skips = λ short.
     absurd (omega (arith, over, short, skips.count, ap (λ (xs : List ℕ). length xs) skips.is_fed.part, length-append skips.fed (part_left at_line skips.is_fed.rest)))
 
 -- what a checker was given was taken whole
-pub taken_whole : (curves : Raised) (coming left : Option (List ℕ)) (c : Seen) (taken : Taken) → TakenGives curves coming c taken → IsTakenToEnd left taken → IsTakenWhole coming left
-taken_whole curves None left c taken gives ends = tt
-taken_whole curves (Some all) left c TakenTooLarge gives ends = λ short unmarked. absurd (omega (arith, gives, short))
-taken_whole curves (Some all) left c (TakenWhole None) gives ends = λ short unmarked. ends
-taken_whole curves (Some all) left c (TakenWhole (Some number)) gives ends = λ short unmarked. absurd (clash (has_marker (between_feeds all)) gives.3.1.0 unmarked)
+pub taken_whole : (curves : Raised) (coming left : Option (List ℕ)) (c : Seen) (taken : Taken) → TakenGives curves coming c taken → IsTakenToEnd left taken → IsFewTaken coming left taken →
+    IsTakenWhole coming left
+taken_whole curves None left c taken gives ends few = tt
+taken_whole curves (Some all) left c TakenTooLarge gives ends few = λ short. absurd (omega (arith, gives, short))
+taken_whole curves (Some all) left c (TakenWhole None) gives ends few = λ short. ((λ unmarked. ends), few)
+taken_whole curves (Some all) left c (TakenWhole (Some number)) gives ends few = λ short. ((λ unmarked. absurd (clash (has_marker (between_feeds all)) gives.3.1.0 unmarked)), few)
 
 -- both texts were read
 pub both_read : (left coming after : Option (List ℕ)) (show : Text) → IfSome left (λ all. IsShowText show (cut_of all)) → GoesOn show left coming →
     (IsWholeText show → IsTakenWhole coming after) → TakesFront left after → IsReadBoth certificate_limit left after
 both_read None coming after show text goes taken takes = tt
-both_read (Some all) coming after TooLarge text goes taken takes = λ short second unmarked. absurd (omega (arith, text, short))
-both_read (Some all) coming after (Whole part) text goes taken takes = λ short second unmarked.
-    read_whole (Some all) after takes ((rw goes at (taken tt)) second unmarked)
+both_read (Some all) coming after TooLarge text goes taken takes = λ short. absurd (omega (arith, text, short))
+both_read (Some all) coming after (Whole part) text goes taken takes = λ short second.
+    let whole = (rw goes at (taken tt)) second in
+    ((λ unmarked. read_whole (Some all) after takes (whole.0 unmarked)), whole.1)
 
 -- what is known of a result that is there
 pub there : (result : Result Answer Failure) (P Q R : Type 0) → ((P → Q) → R) → (P → IfOk result (λ _. Q)) → IfOk result (λ _. R)

@@ -20,7 +20,7 @@ use Rattle.fleet_io.specs.Parts.{MarkerLaw, TakesFewAfter, TakesMarked, TakesPar
 use Rattle.fleet_io.specs.Taken.{AppendsFront, TakesAtMost, TakesFront}
 use Rattle.fleet_io.proofs.MarkerLaws.{whole_marker-front}
 use Rattle.link_frames.specs.Frames.{end_frame, frames_bytes}
-use Rattle.link_upload.specs.Uploads.{IsPrompt, StaysPrompt, UploadFails, UploadGives}
+use Rattle.link_upload.specs.Uploads.{IsPrompt, StaysPrompt, StopsAtEnd, UploadFails, UploadGives}
 use Rattle.link_upload.specs.Links.{Link, careful_link_of, link_of}
 use Rattle.command_words.specs.declared.command.Command.{Command}
 use Rattle.command_words.specs.declared.command.Command.TheVariants.{Upload}
@@ -41,7 +41,7 @@ use Rattle.show_cli.specs.Answers.{IsAccepted, IsRefusedBy, Wrote}
 use Rattle.show_cli.specs.Input.{IsShowText}
 use Rattle.show_cli.specs.Outcome.{IsOutcomeOf, IsSafe, Outcome, OutcomeLaw, ShowGives, outcome, said}
 use Rattle.show_cli.specs.Refused.{IsOfInput}
-use Rattle.show_cli.specs.Runs.{IsJudged, IsOutput, IsStopped, Run, Runs, UploadStops, UploadsPromptly, run_of}
+use Rattle.show_cli.specs.Runs.{IsJudged, IsOutput, IsStopped, Run, Runs, UploadStops, UploadStopsReading, UploadsPromptly, run_of}
 use Rattle.show_cli.specs.Shows.{Cut, cut_of, link_in, session_of, show_limit}
 use Rattle.show_cli.specs.Uploads.{IsLinkOf, IsReadyFor, ReadyGives}
 use Rattle.show_cli.proofs.AnswerLemmas.{refused_outcome, refused_some}
@@ -221,6 +221,28 @@ prompt_few : (depth : ℕ) (start readback : Bool) (r : Run) → MarkerLaw → T
 prompt_few depth start readback r marker few taken sent carried whole s stands accepted frames rest formed cut long =
     let behind : length (rest_of (taken ++ carried.later)) ≤ length carried.later + 4096 = rw (carried.left, carried.left_after) at few in
     absurd (omega (arith, long, behind, ap length (marker taken carried.later whole).1, length-append (rest_of taken) carried.later, ap length cut, length-append (frames_bytes frames) rest))
+
+-- where few bytes were taken after the marker line, few were after the last frame
+stops_few : (depth : ℕ) (start readback : Bool) (input : List ℕ) (after : Option (List ℕ)) → TakesFewAfter (Some input) after → UploadStopsReading (Upload depth start readback) start readback input after
+stops_few depth start readback input after few = record {
+  accepted = λ s stands accepted bytes later frames rest bytes_are later_is takes over.
+      let same : rest_of input ≡ bytes = cc in
+      let short : length (rest_of input) ≤ length later + 4096 = rw later_is at few in
+      omega (arith, short, ap (λ (xs : List ℕ). length xs) same, ap (λ (xs : List ℕ). length xs) takes.cut, length-append (frames_bytes frames) rest);
+  refused = λ none. few;
+}
+
+pub stops_refused : (depth : ℕ) (start readback : Bool) (left after : Option (List ℕ)) → TakesFewAfter left after →
+    IfSome left (λ input. UploadStopsReading (Upload depth start readback) start readback input after)
+stops_refused depth start readback None after few = tt
+stops_refused depth start readback (Some input) after few = stops_few depth start readback input after few
+
+-- where a read failed nothing was judged
+pub stops_failed : (old new : Option (List ℕ)) (before after status : ℕ) (P : Type 0) → Wrote 6 (end_frame 6) old new before after status → IsJudged status → P
+stops_failed old new before after status P wrote judged = absurd (elim wrote [
+  | inl (e, appends, later) ↦ judged.1 e
+  | inr (e, rose, front, later) ↦ judged.2 e
+])
 
 -- the end frame alone was written, with the status of a refusal
 pub upload_refused : (depth : ℕ) (start readback : Bool) (r : Run) (refusal : Refusal) (status : ℕ) → OutcomeLaw → MarkerLaw → IfSome r.left (λ all. IsRefusedBy (Upload depth start readback) (cut_of all) refusal) →
@@ -417,6 +439,18 @@ prompt_late depth start readback r mid link marker show is rest stays taken sent
     let same : it.s ≡ s = show.one (part_of taken) it.s s (subst (λ (text : List ℕ). StandsFor text it.s) cut.0 it.stands) stands in
     subst (λ (t : Link). IsPrompt t (rest_of taken) sent) (it.is ∙ ap (λ (p : PlainShow). link_in p start readback) same)
     (stays (rest_of taken ++ carried.later) carried.later carried.old (rest_of taken) sent (from ∙ ap (λ (xs : List ℕ). Some xs) cut.1) carried.left_after refl carried.written carried.written_after)
+
+-- no more is read once the upload is over
+pub stops_late : (depth : ℕ) (start readback : Bool) (left after mid : Option (List ℕ)) (link : Link) → ShowLaw → IfSome left (λ all. IsLinkOf (Upload depth start readback) start readback (cut_of all) link) →
+    IfSome left (λ all. mid ≡ Some (rest_of all)) → StopsAtEnd link mid after → IfSome left (λ input. UploadStopsReading (Upload depth start readback) start readback input after)
+stops_late depth start readback None after mid link show is rest stops = tt
+stops_late depth start readback (Some all) after mid link show is rest stops = record {
+  accepted = λ s stands accepted.
+      let same : is.s ≡ s = show.one (part_of all) is.s s is.stands stands in
+      subst (λ (t : Link). StopsAtEnd t (Some (rest_of all)) after) (is.is ∙ ap (λ (p : PlainShow). link_in p start readback) same)
+      (subst (λ (bytes : Option (List ℕ)). StopsAtEnd link bytes after) rest stops);
+  refused = λ none. absurd (none is.s is.stands is.accepted);
+}
 
 -- a write failed
 cut_late : (depth : ℕ) (start readback : Bool) (left after mid : Option (List ℕ)) (ended : Bool) (link : Link) (reads between reads_after : ℕ) (old new : Option (List ℕ)) (writes writes_after : ℕ) →

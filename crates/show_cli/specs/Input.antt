@@ -1,5 +1,6 @@
 -- What the program has read of its input.
 use Rattle.std.specs.Prelude.{◌≡◌, ℕ, ◌<◌, ◌≤◌, Bool, false, List, [], length, Option, Some, IfSome}
+use Rattle.fleet_io.specs.Parts.{TakesFewAfter}
 use Rattle.text_lines.specs.Lines.{between_feeds}
 use Rattle.text_lines.specs.Marker.{has_marker, part_of, rest_of}
 use Rattle.show_cli.specs.declared.input.Text.{Text}
@@ -41,11 +42,12 @@ GoesOn (Whole part) old new = IfSome old (λ all. new ≡ Some (rest_of all))
 abbrev pub IsReadWhole : Option (List ℕ) → Option (List ℕ) → Type 0
 IsReadWhole input left = IfSome input (λ _. left ≡ Some [])
 
--- Both texts were read before either was judged: where neither is too long and no marker line stands after the second one, the input was read
--- to its end.
+-- Both texts were read before either was judged. Where neither is too long, at most 4,096 bytes were taken of what stands after the second
+-- one and its marker line; where no marker line stands there, the input was read to its end.
 abbrev pub IsReadBoth : ℕ → Option (List ℕ) → Option (List ℕ) → Type 0
 IsReadBoth limit left left_after =
-    IfSome left (λ all. length (part_of all) ≤ show_limit → length (part_of (rest_of all)) ≤ limit → has_marker (between_feeds (rest_of all)) ≡ false → left_after ≡ Some [])
+    IfSome left (λ all. length (part_of all) ≤ show_limit → length (part_of (rest_of all)) ≤ limit →
+        (has_marker (between_feeds (rest_of all)) ≡ false → left_after ≡ Some []) × TakesFewAfter (Some (rest_of all)) left_after)
 
 -- The show's text is the first one of the input that is cut so.
 abbrev pub IsShowText : Text → Cut → Type 0

@@ -10,7 +10,7 @@ use Rattle.fleet_io.specs.Held.{has_whole_marker}
 use Rattle.fleet_io.specs.Parts.{TakesFewAfter}
 use Rattle.fleet_io.specs.Taken.{AppendsFront, TakesAtMost, TakesFront}
 use Rattle.link_frames.specs.Frames.{end_frame}
-use Rattle.link_upload.specs.Uploads.{IsPrompt, UploadFails}
+use Rattle.link_upload.specs.Uploads.{IsPrompt, StopsAtEnd, UploadFails}
 use Rattle.command_words.specs.Commands.{command_of, help_text}
 use Rattle.command_words.specs.declared.command.Command.{Command}
 use Rattle.command_words.specs.declared.command.Command.TheVariants.{Help, Check, Compile, Certify, Play, Report, Verify, Rehearse, Upload, Drill, Boxes, Speed, Explain}
@@ -199,6 +199,29 @@ second_limit (Explain depth fine) = None
 -- A command that wants a second text has read it too where it judges its input, also where the show is refused.
 abbrev pub ReadsBoth : Command → Run → ℕ → Type 0
 ReadsBoth c r status = IsJudged status → IfSome (second_limit c) (λ limit. IsReadBoth limit r.left r.left_after)
+
+-- What an upload reads of its input. Where the show is accepted, at most 4,096 bytes were taken of what stands after the frames with which the
+-- upload is over; else of what stands after the marker line.
+pub record UploadStopsReading (c : Command) (start readback : Bool) (input : List ℕ) (left_after : Option (List ℕ)) : Type 0 where
+  pub accepted : (s : PlainShow) → StandsFor (part_of input) s → show_refusal c (cut_of input) s ≡ None → StopsAtEnd (link_in s start readback) (Some (rest_of input)) left_after
+  pub refused : ((s : PlainShow) → StandsFor (part_of input) s → show_refusal c (cut_of input) s ≡ None → ⊥) → TakesFewAfter (Some input) left_after
+
+-- An upload reads no more once it is over, where its input is judged.
+abbrev pub StopsReading : Command → Run → ℕ → Type 0
+StopsReading Help r status = Unit {0}
+StopsReading (Check depth) r status = Unit {0}
+StopsReading (Compile depth) r status = Unit {0}
+StopsReading (Certify depth) r status = Unit {0}
+StopsReading (Play depth step) r status = Unit {0}
+StopsReading (Report depth) r status = Unit {0}
+StopsReading Verify r status = Unit {0}
+StopsReading (Rehearse depth start readback) r status = Unit {0}
+StopsReading (Upload depth start readback) r status =
+    IsJudged status → IfSome r.left (λ input. UploadStopsReading (Upload depth start readback) start readback input r.left_after)
+StopsReading (Drill drones depth) r status = Unit {0}
+StopsReading (Boxes depth) r status = Unit {0}
+StopsReading (Speed depth limit) r status = Unit {0}
+StopsReading (Explain depth fine) r status = Unit {0}
 
 -- ---- completeness
 

@@ -3,8 +3,9 @@ use Rattle.std.specs.Prelude.{◌≡◌, ℕ, ◌+◌, ◌<◌, ◌≤◌, ◌==
 use Rattle.std.specs.Io.KnownBytes.{IsAtEnd}
 use Rattle.std.specs.Str.Lines.{lines}
 use Rattle.text_lines.specs.Lines.{between_feeds}
-use Rattle.text_lines.specs.Marker.{has_marker, part_of}
-use Rattle.fleet_io.specs.PartBytes.{is_marked_left, part_left}
+use Rattle.text_lines.specs.Marker.{has_marker, part_of, rest_of}
+use Rattle.fleet_io.specs.PartBytes.{is_marked_left, part_left, rest_left}
+use Rattle.fleet_io.specs.Parts.{TakesFewAfter}
 use Rattle.fleet_io.specs.declared.parts.Ask.{Ask}
 use Rattle.fleet_io.specs.declared.parts.Ask.TheVariants as ask
 use Rattle.choreo_lines.specs.Name.{Name}
@@ -35,6 +36,7 @@ pub record IsFed (all : List ℕ) (at_line : Bool) (now : Option (List ℕ)) (fe
   pub now_is : now ≡ Some rest
   pub part : fed ++ part_left at_line rest ≡ part_of all
   pub marked : is_marked_left at_line rest ≡ has_marker (between_feeds all)
+  pub after : rest_left at_line rest ≡ rest_of all
 
 -- A checker has read n bytes of the part, and the next line has this number.
 pub record Feeds (curves : Raised) (coming : Option (List ℕ)) (n : ℕ) (c : Seen) (at_line : Bool) (now : Option (List ℕ)) (number : ℕ) : Type 0 where
@@ -67,15 +69,22 @@ pub record Skips (coming : Option (List ℕ)) (n : ℕ) (at_line : Bool) (now : 
   pub count : length fed ≡ n
   pub is_fed : IfSome coming (λ all. IsFed all at_line now fed)
 
--- a part that isn't too long and that no marker line ends was taken to the end of the input
+-- a part that isn't too long was taken whole: at most 4,096 bytes were taken of what stands after it and its marker line, and where no marker
+-- line ends it, it was taken to the end of the input
 abbrev pub IsTakenWhole : Option (List ℕ) → Option (List ℕ) → Type 0
-IsTakenWhole coming left = IfSome coming (λ all. length (part_of all) ≤ certificate_limit → has_marker (between_feeds all) ≡ false → IsAtEnd left)
+IsTakenWhole coming left =
+    IfSome coming (λ all. length (part_of all) ≤ certificate_limit → (has_marker (between_feeds all) ≡ false → IsAtEnd left) × TakesFewAfter (Some all) left)
 
 -- a part that no marker line ends was taken to the end of the input
 abbrev pub IsTakenToEnd : Option (List ℕ) → Taken → Type 0
 IsTakenToEnd left TooLarge = Unit {0}
 IsTakenToEnd left (Whole None) = IsAtEnd left
 IsTakenToEnd left (Whole (Some number)) = Unit {0}
+
+-- of what stands after a part that isn't too long and its marker line at most 4,096 bytes were taken
+abbrev pub IsFewTaken : Option (List ℕ) → Option (List ℕ) → Taken → Type 0
+IsFewTaken coming left TooLarge = Unit {0}
+IsFewTaken coming left (Whole marker) = TakesFewAfter coming left
 
 -- what a verdict on a certificate's text is said as, with no marker line after it or one of this number
 abbrev pub unless_marked : Option ℕ → Outcome → Outcome

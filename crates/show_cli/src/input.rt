@@ -1,11 +1,11 @@
 //! What the program reads before it judges: a show's text, and for some commands a second text after it.
-ghost use Rattle.std.specs.Prelude.{◌≡◌, ◌+◌, ◌<◌, ◌≤◌, [], length, IsTrue, IfOk, IfSome};
+ghost use Rattle.std.specs.Prelude.{◌≡◌, ◌+◌, ◌<◌, ◌≤◌, [], length, IsTrue, IfOk, IfSome, Some};
 ghost use Rattle.std.specs.Io.KnownBytes.{IsAtEnd};
 ghost use Rattle.fleet_io.specs.Held.{stream, text_limit};
 ghost use Rattle.fleet_io.specs.Causes.{Rose};
 ghost use Rattle.fleet_io.specs.Parts.{TakesFewAfter};
 ghost use Rattle.fleet_io.specs.Taken.{TakesAtMost, TakesFront};
-ghost use Rattle.text_lines.specs.Marker.{part_of};
+ghost use Rattle.text_lines.specs.Marker.{part_of, rest_of};
 ghost use Rattle.show_cli.specs.Runs.{TakesOneText};
 ghost use Rattle.show_cli.specs.Shows.{show_limit};
 ghost use Rattle.show_cli.specs.Input.{GoesOn, IsNextText, IsUnmarked, IsWholeText, IsWithin, ReadsShow, ReadsTwo};
@@ -54,6 +54,7 @@ pub fn next_text<S: Source>(
     ensures whole { IfOk result (λ text. IsUnmarked text → IsAtEnd (S.left source.new)) }
     ensures few { TakesAtMost (limit + 4 + 4096) (S.left source.old) (S.left source.new) }
     ensures after { parts.old.waiting ≡ [] → limit ≡ show_limit → IfOk result (λ _. TakesFewAfter (S.left source.old) (S.left source.new)) }
+    ensures past { IfOk result (λ text. IsWholeText text → TakesFewAfter (stream parts.old (S.left source.old)) (S.left source.new)) }
     ensures failed { result ≡ Err Failure.Read → Rose (S.faults source.old) (S.faults source.new) }
     ensures later { S.faults source.old ≤ S.faults source.new }
     ensures left { TakesFront (S.left source.old) (S.left source.new) }
@@ -93,6 +94,7 @@ fn read_second<S: Source>(
     ensures text { IsWholeText show.now → IfOk result (λ text. IsNextText limit text (stream parts.old (S.left source.old))) }
     ensures within { IfOk result (λ text. IsWithin limit text) }
     ensures whole { IsWholeText show.now → IfOk result (λ text. IsUnmarked text → IsAtEnd (S.left source.new)) }
+    ensures past { IsWholeText show.now → IfOk result (λ text. IsWholeText text → TakesFewAfter (stream parts.old (S.left source.old)) (S.left source.new)) }
     ensures stays { (IsWholeText show.now → ⊥) → S.left source.new ≡ S.left source.old }
     ensures failed { result ≡ Err Failure.Read → Rose (S.faults source.old) (S.faults source.new) }
     ensures later { S.faults source.old ≤ S.faults source.new }
@@ -123,6 +125,7 @@ pub fn read_two<S: Source>(alloc: Global, source: &mut S, limit: usize) -> Resul
     requires { limit ≤ text_limit }
     ensures texts { IfOk result (λ input. ReadsTwo limit (S.left source.old) (S.left source.new) input) }
     ensures few { IfSome (S.left source.old) (λ all. show_limit < length (part_of all)) → TakesOneText (S.left source.old) (S.left source.new) }
+    ensures past { IfOk result (λ input. IsWholeText input.show → IsWholeText input.second → IfSome (S.left source.old) (λ all. TakesFewAfter (Some (rest_of all)) (S.left source.new))) }
     ensures failed { result ≡ Err Failure.Read → Rose (S.faults source.old) (S.faults source.new) }
     ensures later { S.faults source.old ≤ S.faults source.new }
     ensures left { TakesFront (S.left source.old) (S.left source.new) }

@@ -7,7 +7,7 @@ ghost use Rattle.command_words.specs.Commands.{IsCommand};
 ghost use Rattle.readback_model.specs.Readback.{StartsLastLaw, UnalteredLaw, VerifiedLaw};
 ghost use Rattle.refusals.specs.Lines.{usage_line};
 ghost use Rattle.show_cli.specs.Headline.{Headline, KeepsSpeeds, StaysInRegions, TellsTouches};
-ghost use Rattle.show_cli.specs.Runs.{Completes, ReadsBoth, Runs, StopsAtMarker, TakesLittle, command_in, run_of};
+ghost use Rattle.show_cli.specs.Runs.{Completes, ReadsBoth, Runs, StopsAtMarker, StopsReading, TakesLittle, command_in, run_of};
 
 use crate::commands::boxes::boxes;
 use crate::commands::certify::certify;
@@ -41,6 +41,7 @@ fn run_command<S: Source, K: Sink>(
     ensures few { TakesLittle command (run_of (S.left source.old) (S.left source.new) (S.faults source.old) (S.faults source.new) (K.written sink.old) (K.written sink.new) (K.faults sink.old) (K.faults sink.new)) }
     ensures marker { StopsAtMarker command (run_of (S.left source.old) (S.left source.new) (S.faults source.old) (S.faults source.new) (K.written sink.old) (K.written sink.new) (K.faults sink.old) (K.faults sink.new)) result }
     ensures both { ReadsBoth command (run_of (S.left source.old) (S.left source.new) (S.faults source.old) (S.faults source.new) (K.written sink.old) (K.written sink.new) (K.faults sink.old) (K.faults sink.new)) result }
+    ensures stops { StopsReading command (run_of (S.left source.old) (S.left source.new) (S.faults source.old) (S.faults source.new) (K.written sink.old) (K.written sink.new) (K.faults sink.old) (K.faults sink.new)) result }
     ensures runs { Runs command (run_of (S.left source.old) (S.left source.new) (S.faults source.old) (S.faults source.new) (K.written sink.old) (K.written sink.new) (K.faults sink.old) (K.faults sink.new)) result }
 {
     match command {
@@ -88,8 +89,9 @@ pub fn run<S: Source, K: Sink>(
     ensures few { (c : Command) → command_in words.now.items ≡ Some c → TakesLittle c (run_of (S.left source.old) (S.left source.new) (S.faults source.old) (S.faults source.new) (K.written sink.old) (K.written sink.new) (K.faults sink.old) (K.faults sink.new)) }
     ensures marker { (c : Command) → command_in words.now.items ≡ Some c → StopsAtMarker c (run_of (S.left source.old) (S.left source.new) (S.faults source.old) (S.faults source.new) (K.written sink.old) (K.written sink.new) (K.faults sink.old) (K.faults sink.new)) result }
 
-    // A second text is read too before anything is judged.
+    // A second text is read too before anything is judged; an upload reads no more once it is over.
     ensures both { (c : Command) → command_in words.now.items ≡ Some c → ReadsBoth c (run_of (S.left source.old) (S.left source.new) (S.faults source.old) (S.faults source.new) (K.written sink.old) (K.written sink.new) (K.faults sink.old) (K.faults sink.new)) result }
+    ensures stops { (c : Command) → command_in words.now.items ≡ Some c → StopsReading c (run_of (S.left source.old) (S.left source.new) (S.faults source.old) (S.faults source.new) (K.written sink.old) (K.written sink.new) (K.faults sink.old) (K.faults sink.new)) result }
 
     // With no fault counted, an input that lacks nothing gives 0, or the program is out of memory.
     ensures complete { (c : Command) → command_in words.now.items ≡ Some c

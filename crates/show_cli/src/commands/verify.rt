@@ -14,7 +14,7 @@ ghost use Rattle.show_cli.specs.Input.{IsReadBoth, IsWholeText};
 ghost use Rattle.show_cli.specs.Outcome.{refused};
 ghost use Rattle.text_lines.specs.Marker.{part_of};
 ghost use Rattle.show_cli.specs.Runs.{ReadsBoth, Runs, StopsAtMarker, TakesLittle, TakesOneText, run_of};
-ghost use Rattle.show_cli.specs.SecondTexts.{GivesSecond, IsTakenToEnd, IsTakenWhole, TakenGives, line_after, taken_by, verdict_outcome};
+ghost use Rattle.show_cli.specs.SecondTexts.{GivesSecond, IsFewTaken, IsTakenToEnd, IsTakenWhole, TakenGives, line_after, taken_by, verdict_outcome};
 ghost use Rattle.show_cli.specs.Shows.{certificate_limit, show_limit};
 
 use crate::accept::{Planned, fit_text};
@@ -119,6 +119,7 @@ fn take_second<S: Source>(
     ensures gives { IfOk result (TakenGives curves.now (stream parts.old (S.left source.old)) checker.new) }
     ensures axes { (checker.new.r ≡ checker.old.r) × (checker.new.h ≡ checker.old.h) }
     ensures whole { IfOk result (IsTakenToEnd (S.left source.new)) }
+    ensures few { IfOk result (IsFewTaken (stream parts.old (S.left source.old)) (S.left source.new)) }
     ensures cause { HasCause (S.faults source.old) (S.faults source.new) result }
     ensures left { TakesFront (S.left source.old) (S.left source.new) }
 {

@@ -1,7 +1,7 @@
 use Rattle.fleet_io.proofs.TakenLemmas.{TakesFront-trans}
 use Rattle.std.proofs.Common.{ap}
 use Rattle.fleet_io.specs.Held.{Held}
-use Rattle.show_cli.proofs.ReadLemmas.{little_two}
+use Rattle.show_cli.proofs.ReadLemmas.{few_both, little_two}
 use Rattle.show_cli.proofs.UploadLemmas.{stream_new}
 use Rattle.show_cli.proofs.input.read_two.Goals as goal
 
@@ -20,3 +20,8 @@ pub returns-clause-few : goal.returns-clause-few
 returns-clause-few g c =
     let is = stream_new c.make-parts.result (g.S.Source.left c.args.source.now) (ap (λ (h : Held). h.waiting) c.make-parts.ensures) in
     little_two _ _ _ c.in_ok-show.show (rw is at c.in_ok-show.ensures.text) c.next_text.ensures.few c.read_second.ensures.stays
+
+pub returns-clause-past : goal.returns-clause-past
+returns-clause-past g c = λ whole whole_second.
+    let is = stream_new c.make-parts.result (g.S.Source.left c.args.source.now) (ap (λ (h : Held). h.waiting) c.make-parts.ensures) in
+    few_both _ _ _ c.in_ok-show.show whole (rw is at c.in_ok-show.ensures.rest) (c.in_ok-second.ensures.past whole whole_second)

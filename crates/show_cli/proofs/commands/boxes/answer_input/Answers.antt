@@ -9,4 +9,4 @@ returns-clause-answers g c =
     input_two (Boxes c.args.depth) region_limit _ _ c.in_ok-input.input c.in_ok-answer_two.field-0 c.in_ok-input.ensures.texts c.in_ok-answer_two.ensures
 
 pub returns-clause-both : goal.returns-clause-both
-returns-clause-both g c = two_read region_limit _ _ c.in_ok-input.input c.in_ok-input.ensures.texts
+returns-clause-both g c = two_read region_limit _ _ c.in_ok-input.input c.in_ok-input.ensures.texts c.in_ok-input.ensures.past

@@ -20,8 +20,8 @@ returns-clause-gives g c =
 
 pub returns-in-TooLarge-clause-both : goal.returns-in-TooLarge-clause-both
 returns-in-TooLarge-clause-both g c =
-    taken_whole c.in_ok-curves.curves _ _ c.take_second.new.checker c.in-Ok.taken c.in-Ok.ensures.gives c.in-Ok.ensures.whole
+    taken_whole c.in_ok-curves.curves _ _ c.take_second.new.checker c.in-Ok.taken c.in-Ok.ensures.gives c.in-Ok.ensures.whole c.in-Ok.ensures.few
 
 pub returns-clause-both : goal.returns-clause-both
 returns-clause-both g c =
-    taken_whole c.in_ok-curves.curves _ _ c.take_second.new.checker c.in-Ok.taken c.in-Ok.ensures.gives c.in-Ok.ensures.whole
+    taken_whole c.in_ok-curves.curves _ _ c.take_second.new.checker c.in-Ok.taken c.in-Ok.ensures.gives c.in-Ok.ensures.whole c.in-Ok.ensures.few

@@ -4,7 +4,7 @@ use Rattle.std.specs.Io.KnownBytes.{IsAtEnd}
 use Rattle.fleet_io.specs.Held.{stream}
 use Rattle.fleet_io.proofs.TakenLemmas.{TakesFront-none, TakesFront-trans}
 use Rattle.show_cli.specs.SecondTexts.{IsFed}
-use Rattle.show_cli.proofs.SecondLemmas.{ended_whole, fed_more, fed_none, skipped_marked, skipped_over}
+use Rattle.show_cli.proofs.SecondLemmas.{ended_whole, fed_more, fed_none, few_marked, few_whole, skipped_marked, skipped_over}
 use Rattle.show_cli.proofs.commands.verify.skip_second.Goals as goal
 
 pub bytes-init : goal.bytes-init
@@ -45,7 +45,9 @@ returns-in_err-ask-clause-left g c = TakesFront-trans _ _ _ c.bytes.invariant.le
 pub returns-in-Marker : goal.returns-in-Marker
 returns-in-Marker g c = record {
   whole = skipped_marked _ _ c.bytes.parts.at_line (stream c.bytes.parts (g.S.Source.left c.bytes.source)) (stream c.part_byte.new.self (g.S.Source.left c.part_byte.new.source)) _
-      c.bytes.invariant.skips (rw c.in-Marker.is at c.in_ok-ask.ensures.asks);
+      c.bytes.invariant.skips (rw c.in-Marker.is at c.in_ok-ask.ensures.asks)
+      (few_marked _ c.bytes.parts.at_line (stream c.bytes.parts (g.S.Source.left c.bytes.source)) c.bytes.invariant.skips.fed c.part_byte.new.self _ c.bytes.invariant.skips.is_fed
+      (rw c.in-Marker.is at c.in_ok-ask.ensures.asks) c.part_byte.ensures.most);
   cause = record { later = omega (arith, c.part_byte.ensures.cause.later); failed = tt };
   left = TakesFront-trans _ _ _ c.bytes.invariant.left c.part_byte.ensures.left;
 }
@@ -55,7 +57,9 @@ returns-in-End g c =
     let ended : IsTrue c.part_byte.new.self.ended = c.in_ok-ask.ensures.ended c.in-End.is in
     let at_end : IsAtEnd (g.S.Source.left c.part_byte.new.source) = c.part_byte.ensures.at_end ended in
     record {
-      whole = ended_whole _ _ at_end;
+      whole = ended_whole _ _ at_end
+          (few_whole _ c.bytes.parts.at_line (stream c.bytes.parts (g.S.Source.left c.bytes.source)) c.bytes.invariant.skips.fed c.part_byte.new.self _ c.bytes.invariant.skips.is_fed
+          (rw c.in-End.is at c.in_ok-ask.ensures.asks) c.part_byte.ensures.most);
       cause = record { later = omega (arith, c.part_byte.ensures.cause.later); failed = tt };
       left = TakesFront-trans _ _ _ c.bytes.invariant.left c.part_byte.ensures.left;
     }

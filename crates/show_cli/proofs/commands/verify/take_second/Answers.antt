@@ -1,9 +1,9 @@
 use Rattle.std.proofs.Common.{◌≡◌, ◌∷◌, ◌++◌, [], ◌<◌, ◌==◌, ℕ, Bool, length, length-append, IfSome, refl, sym, subst, ◌∙◌, arith}
 use Rattle.fleet_io.specs.Held.{stream}
 use Rattle.fleet_io.proofs.TakenLemmas.{TakesFront-none, TakesFront-trans}
-use Rattle.show_cli.specs.SecondTexts.{Feeds, IsFed, TakenGives}
+use Rattle.show_cli.specs.SecondTexts.{Feeds, IsFed, IsFewTaken, TakenGives}
 use Rattle.show_cli.specs.declared.commands.verify.Taken.{Taken}
-use Rattle.show_cli.proofs.SecondLemmas.{ended_gives, fed_marked, fed_more, fed_none, fed_whole, number_more}
+use Rattle.show_cli.proofs.SecondLemmas.{ended_few, ended_gives, fed_marked, fed_more, fed_none, fed_whole, few_marked, few_whole, number_more}
 use Rattle.show_cli.proofs.commands.verify.take_second.Goals as goal
 
 pub bytes-init : goal.bytes-init
@@ -88,3 +88,20 @@ returns-in_err-last-clause-left g c = TakesFront-trans _ _ _ c.bytes.invariant.l
 
 pub returns-clause-left : goal.returns-clause-left
 returns-clause-left g c = TakesFront-trans _ _ _ c.bytes.invariant.left c.part_byte-2.ensures.left
+
+pub returns-in-Marker-clause-few : goal.returns-in-Marker-clause-few
+returns-in-Marker-clause-few g c =
+    few_marked _ c.bytes.parts.at_line (stream c.bytes.parts (g.S.Source.left c.bytes.source)) c.bytes.invariant.feeds.fed c.part_byte.new.self _ c.bytes.invariant.feeds.is_fed
+    (rw c.in-Marker.is at c.in_ok-ask.ensures.asks) c.part_byte.ensures.most
+
+pub returns-in-End-clause-few : goal.returns-in-End-clause-few
+returns-in-End-clause-few g c =
+    few_whole _ c.bytes.parts.at_line (stream c.bytes.parts (g.S.Source.left c.bytes.source)) c.bytes.invariant.feeds.fed c.part_byte.new.self _ c.bytes.invariant.feeds.is_fed
+    (rw c.in-End.is at c.in_ok-ask.ensures.asks) c.part_byte.ensures.most
+
+pub returns-clause-few : goal.returns-clause-few
+returns-clause-few g c =
+    let coming = stream c.args.parts.now (g.S.Source.left c.args.source.now) in
+    subst (λ (t : Taken). IsFewTaken coming (g.S.Source.left c.part_byte-2.new.source) t) (sym c.ended.ensures)
+    (ended_few coming c.bytes.parts.at_line (stream c.bytes.parts (g.S.Source.left c.bytes.source)) c.bytes.invariant.feeds.fed c.part_byte-2.new.self _ c.bytes.line c.bytes.invariant.feeds.is_fed
+    c.in_ok-last.last c.in_ok-last.ensures.asks c.part_byte-2.ensures.most)
