@@ -1,10 +1,8 @@
 -- What a command gives, from what its steps do.
-use Rattle.std.proofs.Common.{◌≡◌, ◌≢◌, ◌⊎◌, inl, inr, ℕ, ◌≤◌, Bool, true, false, cond, List, [], length, Option, Some, None, Result, Ok, Err, IfOk, IfSome, refl, sym, ap, subst, ◌∙◌, arith}
-use Rattle.std.specs.Option.{option_map}
+use Rattle.std.proofs.Common.{◌≡◌, inl, inr, ℕ, ◌≤◌, false, List, length, Option, Some, None, Result, Ok, Err, IfOk, IfSome, refl, sym, ap, subst, ◌∙◌, arith}
 use Rattle.std.specs.declared.alloc.AllocError.{AllocError}
 use Rattle.choreo_reader.specs.Plain.{PlainShow}
 use Rattle.choreo_reader.specs.Grammar.{StandsFor}
-use Rattle.fleet_io.specs.Causes.{Rose}
 use Rattle.command_words.specs.declared.command.Command.{Command}
 use Rattle.command_words.specs.declared.command.Command.TheVariants.{Help, Check, Compile, Certify, Play, Report, Verify, Rehearse, Upload, Drill, Boxes, Speed, Explain}
 use Rattle.refusals.specs.declared.refusal.Refusal.{Refusal}
@@ -17,18 +15,16 @@ use Rattle.show_cli.specs.declared.accept.Accepted.{Accepted}
 use Rattle.show_cli.specs.declared.accept.Judged.{Judged}
 use Rattle.show_cli.specs.declared.accept.Judged.TheVariants as judged
 use Rattle.show_cli.specs.declared.ends.Answer.{Answer}
-use Rattle.show_cli.specs.declared.ends.Answer.TheVariants.{Done, Refused}
-use Rattle.show_cli.specs.declared.ends.Failure.{Failure}
-use Rattle.show_cli.specs.declared.ends.Failure.TheVariants.{Read, Memory}
-use Rattle.show_cli.specs.declared.ends.Output.{Output}
+use Rattle.show_cli.specs.declared.ends.Answer.TheVariants.{Refused}
+use Rattle.show_cli.specs.declared.ends.Failure.TheVariants.{Read}
 use Rattle.show_cli.specs.declared.input.Input.{Input}
 use Rattle.show_cli.specs.declared.input.Text.{Text}
 use Rattle.show_cli.specs.Answers.{AnswersInput, AnswersText, AnswersTwo, EndsJudged, EndsRead, Fits, IsAccepted, IsRefusedBy, IsSaid, JudgedGives, JudgesInput, outcome_of}
-use Rattle.show_cli.specs.Input.{AreTexts, IsReadWhole, IsShowText, IsText, IsUnmarked, IsWholeText, ReadsShow, ReadsTwo}
-use Rattle.show_cli.specs.Outcome.{FliesApart, Gives, IsOutcomeOf, IsSafe, Outcome, Promises, ShowGives, outcome, refused, said}
+use Rattle.show_cli.specs.Input.{IsShowText, IsText, IsUnmarked, IsWholeText, ReadsShow, ReadsTwo}
+use Rattle.show_cli.specs.Outcome.{FliesApart, Gives, IsOutcomeOf, IsSafe, Outcome, Promises, ShowGives, refused, said}
 use Rattle.choreo_reader.specs.declared.show.Settings.{Settings}
 use Rattle.show_cli.specs.Reports.{nodes_of}
-use Rattle.show_cli.specs.Refused.{IsOfInput, blocked_by, show_refusal, text_refusal}
+use Rattle.show_cli.specs.Refused.{IsOfInput, blocked_by, show_refusal}
 use Rattle.show_cli.specs.Shows.{Cut, cut_of, sent_of, show_limit}
 use Rattle.show_cli.specs.Ways.{ways_of}
 

@@ -1,6 +1,5 @@
 -- An input that lacks nothing gives status 0.
-use Rattle.std.proofs.Common.{◌≡◌, inl, inr, ℕ, ◌≤◌, ◌==◌, Bool, true, false, cond, List, Option, Some, None, Ok, refl, sym, ap, subst, ◌++◌, length, ◌∙◌}
-use Rattle.std.specs.Option.{option_map}
+use Rattle.std.proofs.Common.{◌≡◌, inl, inr, ℕ, ◌==◌, Bool, true, false, cond, List, Option, Some, None, Ok, refl, sym, ap, subst, ◌++◌, length, ◌∙◌}
 use Rattle.std.specs.Str.Lines.{lines}
 use Rattle.choreo_reader.specs.Plain.{PlainShow}
 use Rattle.choreo_reader.specs.Laws.{ShowLaw}
@@ -34,9 +33,9 @@ use Rattle.sep_certificate.specs.declared.certificate.Certificate.{Certificate}
 use Rattle.sep_certificate.specs.declared.certificate.CertFault.{CertFault}
 use Rattle.std.proofs.Common.{Result}
 use Rattle.show_cli.specs.Complete.{IsComplete, Succeeds}
-use Rattle.show_cli.specs.Outcome.{CertificateGives, Gives, IsOutcomeOf, Outcome, RegionsGive, RehearsalEnds, ScheduleGives, ShowGives, judged, judged_for, regions_end, said, speeds_end}
+use Rattle.show_cli.specs.Outcome.{CertificateGives, Gives, IsOutcomeOf, Outcome, RegionsGive, RehearsalEnds, ScheduleGives, ShowGives, judged, judged_for, regions_end, speeds_end}
 use Rattle.show_cli.specs.Refused.{faulty_event, second_refusal, show_refusal, text_refusal}
-use Rattle.show_cli.specs.Studies.{faulty_region, region_limit, speed_text, too_fast}
+use Rattle.show_cli.specs.Studies.{faulty_region, region_limit, speed_text}
 use Rattle.show_cli.proofs.StudyLemmas.{judge_one, regions_given_one}
 use Rattle.show_cli.proofs.CarefulLemmas.{careful_done, no_careful_fault}
 use Rattle.show_cli.proofs.TextLemmas.{none_said, stands_unrefused}

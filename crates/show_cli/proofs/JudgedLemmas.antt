@@ -1,5 +1,5 @@
 -- A run of a command that judges its input and then writes as it goes.
-use Rattle.std.proofs.Common.{◌≡◌, ℕ, ◌≤◌, false, List, Option, Some, None, Ok, Err, IfSome, refl, sym, true, ◌∙◌, arith}
+use Rattle.std.proofs.Common.{◌≡◌, ℕ, ◌≤◌, false, List, Ok, Err, refl, sym, true, ◌∙◌, arith}
 use Rattle.fleet_io.specs.Causes.{Rose}
 use Rattle.fleet_io.specs.Taken.{TakesFront}
 use Rattle.choreo_reader.specs.Plain.{PlainShow}

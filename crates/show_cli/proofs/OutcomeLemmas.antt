@@ -1,5 +1,5 @@
 -- An input gives one outcome alone, and to one.
-use Rattle.std.proofs.Common.{◌≡◌, inl, inr, ℕ, ◌<◌, ◌≤◌, Bool, true, false, cond, nat_lt, List, [], length, map, Option, Some, None, All, Result, Ok, Err, refl, sym, ap, subst, ◌∙◌, arith}
+use Rattle.std.proofs.Common.{◌≡◌, inl, inr, ℕ, ◌≤◌, Bool, true, false, cond, nat_lt, List, [], length, map, Option, Some, None, Result, Ok, Err, refl, sym, ap, subst, ◌∙◌, arith}
 use Rattle.std.specs.Option.{option_map, option_or}
 use Rattle.std.proofs.lemmas.Bool.Decides.{nat_tests}
 use Rattle.std.proofs.lemmas.List.{length-map}
@@ -8,7 +8,6 @@ use Rattle.std.specs.Str.Lines.{lines}
 use Rattle.choreo_lines.specs.Name.{Name}
 use Rattle.choreo_reader.specs.declared.show.DroneLine.{DroneLine}
 use Rattle.choreo_reader.specs.Plain.{PlainShow}
-use Rattle.choreo_reader.specs.Grammar.{StandsFor}
 use Rattle.choreo_reader.specs.Laws.{ShowLaw}
 use Rattle.choreo_reader.specs.Context.{fault}
 use Rattle.cue_grid.specs.Cues.{grid_of}
@@ -25,7 +24,6 @@ use Rattle.sep_certificate.specs.Texts.{bad_line}
 use Rattle.command_words.specs.declared.command.Command.{Command}
 use Rattle.command_words.specs.declared.command.Command.TheVariants.{Help, Check, Compile, Certify, Play, Report, Verify, Rehearse, Upload, Drill, Boxes, Speed, Explain}
 use Rattle.refusals.specs.declared.refusal.Refusal.{Refusal}
-use Rattle.refusals.specs.declared.refusal.Refusal.TheVariants as refusal
 use Rattle.show_plan.specs.Landing.{Lands}
 use Rattle.show_plan.proofs.Flight.{sent_counted}
 use Rattle.show_cli.specs.Outcome.{CertificateGives, Gives, IsOutcomeOf, EndsWhereAccepted, LandsWhereAccepted, Outcome, RegionsGive, OutcomeLaw, ShowGives, judged_for, regions_end, said}

@@ -1,25 +1,23 @@
 -- From a show that fits to one that is accepted.
-use Rattle.std.proofs.Common.{◌≡◌, inl, inr, ℕ, ◌≤◌, Bool, true, false, cond, List, [], length, Option, Some, None, Result, Ok, Err, IfOk, refl, sym, ap, subst, ◌∙◌}
+use Rattle.std.proofs.Common.{◌≡◌, inr, ℕ, ◌≤◌, Bool, true, false, cond, [], length, Option, Some, None, Result, Ok, Err, IfOk, refl, sym, ap, subst, ◌∙◌}
 use Rattle.std.specs.declared.alloc.AllocError.{AllocError}
 use Rattle.fleet_io.specs.declared.parts.Part.{Part}
 use Rattle.choreo_reader.specs.Plain.{PlainShow}
 use Rattle.choreo_reader.specs.Grammar.{StandsFor}
 use Rattle.choreo_reader.specs.declared.show.Settings.{Settings}
 use Rattle.cue_grid.specs.Cues.{grid_of}
-use Rattle.traj_codec.specs.declared.traj.Traj.{Traj}
 use Rattle.command_words.specs.declared.command.Command.{Command}
 use Rattle.refusals.specs.declared.refusal.Refusal.{Refusal}
 use Rattle.show_plan.specs.declared.fitted.Fitted.{Fitted}
 use Rattle.show_plan.specs.Fitting.{IsFitted}
 use Rattle.show_plan.specs.Flight.{KeepsNearShow}
-use Rattle.show_plan.specs.Landing.{AreUploadable, LandingLaw, Lands}
+use Rattle.show_plan.specs.Landing.{AreUploadable, LandingLaw}
 use Rattle.show_plan.specs.Separation.{FlyApart}
 use Rattle.show_cli.specs.declared.accept.Judged.{Judged}
 use Rattle.show_cli.specs.declared.accept.Judged.TheVariants as judged
 use Rattle.show_cli.specs.declared.accept.Planned.{Planned}
 use Rattle.show_cli.specs.declared.accept.Planned.TheVariants as planned
-use Rattle.show_cli.specs.Answers.{Fits, IsAccepted, JudgedGives, PlanGives}
-use Rattle.show_cli.specs.Outcome.{IsSafeShow}
+use Rattle.show_cli.specs.Answers.{Fits, JudgedGives, PlanGives}
 use Rattle.show_cli.specs.Refused.{blocked_by, show_refusal}
 use Rattle.show_cli.specs.Shows.{Cut, sent_of, show_limit}
 use Rattle.show_cli.specs.Steps.{FitsAs, Separated, ShowPlanned}

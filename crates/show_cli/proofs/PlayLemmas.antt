@@ -9,7 +9,6 @@ use Rattle.traj_codec.specs.Joined.{JoinLaw, joined}
 use Rattle.traj_codec.specs.Positions.{durations}
 use Rattle.show_plan.specs.declared.fitted.Fitted.{Fitted}
 use Rattle.show_plan.specs.Fitting.{IsFitted}
-use Rattle.show_cli.specs.Outcome.{outcome, Outcome}
 use Rattle.show_cli.specs.Reports as reports
 use Rattle.show_cli.specs.Shows.{sent_of, words_of}
 

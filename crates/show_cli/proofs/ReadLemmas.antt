@@ -1,5 +1,5 @@
 -- How much a run reads.
-use Rattle.std.proofs.Common.{◌≡◌, ◌≢◌, ◌⊎◌, inl, inr, ℕ, ◌+◌, ◌<◌, ◌≤◌, Bool, false, List, Option, Some, None, Result, Ok, Err, IfOk, IfSome, length, refl, sym, subst, ◌∙◌, arith}
+use Rattle.std.proofs.Common.{◌≡◌, inl, inr, ℕ, ◌<◌, ◌≤◌, Bool, false, List, Option, Some, None, Result, Ok, Err, IfOk, IfSome, length, sym, subst, ◌∙◌, arith}
 use Rattle.fleet_io.specs.Parts.{TakesFewAfter}
 use Rattle.fleet_io.specs.Taken.{TakesAtMost}
 use Rattle.show_cli.specs.declared.ends.Answer.{Answer}
@@ -31,8 +31,7 @@ pub two_read : (limit : ℕ) (left after : Option (List ℕ)) (input : Input) �
 two_read limit None after input reads past = tt
 two_read limit (Some all) after input reads past = λ short second.
     let marked = has_marker (between_feeds (rest_of all)) in
-    let whole : IsWholeText input.show = is_whole show_limit input.show (part_of all) (has_marker (between_feeds all)) reads.texts.show short in
-    (
+    let whole : IsWholeText input.show = is_whole show_limit input.show (part_of all) (has_marker (between_feeds all)) reads.texts.show short in (
       λ unmarked. reads.whole whole (is_unmarked limit input.second (part_of (rest_of all)) marked (reads.texts.second whole) second unmarked),
       past whole (is_whole limit input.second (part_of (rest_of all)) marked (reads.texts.second whole) second),
     )

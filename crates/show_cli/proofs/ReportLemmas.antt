@@ -1,11 +1,8 @@
 -- The numbers of what fits are those of the show.
-use Rattle.std.proofs.Common.{◌≡◌, ℕ, suc, ◌+◌, ◌*◌, ◌-◌, ◌/◌, ◌≤◌, ◌<◌, List, [], ◌∷◌, length, map, sum, All, refl, sym, ap, subst, ◌∙◌, arith}
-use Rattle.std.proofs.lemmas.List.{length-map}
+use Rattle.std.proofs.Common.{◌≡◌, ℕ, suc, ◌+◌, ◌-◌, ◌≤◌, List, [], ◌∷◌, length, map, All, refl, ap, ◌∙◌, arith}
 use Rattle.std.proofs.lemmas.List.Elements.{All-nil, All-cons, All-head, All-tail}
 use Rattle.choreo_lines.specs.Name.{Name}
 use Rattle.choreo_reader.specs.Plain.{PlainShow}
-use Rattle.choreo_reader.specs.declared.show.DroneLine.{DroneLine}
-use Rattle.cue_grid.specs.Cues.{grid_of}
 use Rattle.mem_chunks.specs.Chunks.{chunk_count_of}
 use Rattle.report_text.specs.Report.{Report}
 use Rattle.traj_codec.specs.declared.traj.Traj.{Traj}
@@ -13,7 +10,7 @@ use Rattle.show_plan.specs.declared.fitted.Fitted.{Fitted}
 use Rattle.show_plan.specs.Fitting.{AreEncodings, IsFitted, size}
 use Rattle.show_plan.proofs.Valid.{encoding_size}
 use Rattle.show_cli.specs.Reports.{cues_in, duration_of, nodes_of, packets_for, report_of}
-use Rattle.show_cli.specs.Shows.{names_of, sent_of, words_of}
+use Rattle.show_cli.specs.Shows.{sent_of, words_of}
 
 -- the packets of this many bytes: their writes and a define
 abbrev pub packets_of : List ℕ → ℕ

@@ -1,18 +1,18 @@
 -- What a run of a command is, from what it read and wrote.
-use Rattle.std.proofs.Common.{◌≡◌, ◌≢◌, ◌⊎◌, inl, inr, ℕ, zero, suc, ◌<◌, ◌≤◌, Bool, true, false, cond, ◌&&◌, not, List, [], ◌∷◌, ◌++◌, Contains, Option, Some, None, Result, Ok, Err, IfOk, IfSome, refl, sym, ap, subst, ◌∙◌, arith}
+use Rattle.std.proofs.Common.{◌≡◌, ◌⊎◌, inl, inr, ℕ, zero, suc, ◌≤◌, Bool, true, false, cond, List, [], ◌∷◌, ◌++◌, Contains, Option, Some, None, Result, Ok, Err, IfOk, IfSome, refl, sym, ap, subst, ◌∙◌, arith}
 use Rattle.std.specs.Io.KnownBytes.{Appends, Consumes}
 use Rattle.std.specs.Option.{option_or}
 use Rattle.std.proofs.lemmas.List.Elements.{All-contains, All-from_recursion}
 use Rattle.text_lines.specs.Lines.{between_feeds}
 use Rattle.text_lines.specs.Marker.{has_marker, part_of}
 use Rattle.fleet_io.specs.Causes.{Rose}
-use Rattle.fleet_io.specs.Taken.{AppendsFront, TakesFront}
+use Rattle.fleet_io.specs.Taken.{TakesFront}
 use Rattle.fleet_io.proofs.TakenLemmas.{TakesFront-none}
 use Rattle.choreo_reader.specs.Grammar.{StandsFor}
 use Rattle.command_words.specs.Commands.{help_text}
 use Rattle.drill_show.specs.Drill.{drill_text}
 use Rattle.command_words.specs.declared.command.Command.{Command}
-use Rattle.command_words.specs.declared.command.Command.TheVariants.{Help, Check, Compile, Certify, Play, Report, Verify, Rehearse, Upload, Drill, Boxes, Speed, Explain}
+use Rattle.command_words.specs.declared.command.Command.TheVariants.{Help, Check, Compile, Certify, Play, Report, Verify, Rehearse, Drill, Boxes, Speed, Explain}
 use Rattle.refusals.specs.declared.refusal.Refusal.{Refusal}
 use Rattle.refusals.specs.declared.refusal.Refusal.TheVariants as refusal
 use Rattle.refusals.specs.Refusals.{status_of}
@@ -29,7 +29,7 @@ use Rattle.show_cli.specs.Outcome.{IsOutcome, IsOutcomeFor, IsOutcomeOf, IsSafe,
 use Rattle.show_cli.specs.Refused.{IsOfInput}
 use Rattle.show_cli.specs.Runs.{AnswersPromptly, Completes, IsJudged, IsStopped, Run, Runs, Stops, reads, run_of, told}
 use Rattle.show_cli.specs.Shows.{cut_of}
-use Rattle.show_cli.specs.Ways.{reads_all, ways_of}
+use Rattle.show_cli.specs.Ways.{ways_of}
 
 -- what holds of known bytes gives what follows from it
 pub some_map : (a : Option (List ℕ)) (P Q : List ℕ → Type 0) → ((x : List ℕ) → P x → Q x) → IfSome a P → IfSome a Q

@@ -1,7 +1,7 @@
 -- What a run of `upload` is, from what it read and wrote.
-use Rattle.std.proofs.Common.{◌≡◌, ◌≢◌, ◌⊎◌, inl, inr, ℕ, suc, ◌+◌, ◌<◌, ◌≤◌, Bool, true, false, cond, ◌||◌, List, [], ◌∷◌, ◌++◌, length, Contains, append_assoc, append-nil, length-append, Option, Some, None, Result, Ok, Err, IfOk, IfSome, refl, sym, ap, subst, ◌∙◌, arith}
+use Rattle.std.proofs.Common.{◌≡◌, ◌≢◌, ◌⊎◌, inl, inr, ℕ, ◌+◌, ◌<◌, ◌≤◌, Bool, true, false, cond, ◌||◌, List, [], ◌∷◌, ◌++◌, length, Contains, append_assoc, append-nil, length-append, Option, Some, None, Result, Ok, Err, IfOk, IfSome, refl, sym, ap, subst, ◌∙◌, arith}
 use Rattle.std.specs.Io.KnownBytes.{Appends, Consumes}
-use Rattle.std.specs.Prelude.{◌^◌, bytes_eq}
+use Rattle.std.specs.Prelude.{bytes_eq}
 use Rattle.std.specs.List.{join_with_byte}
 use Rattle.std.proofs.lemmas.List.{append_cancel_right}
 use Rattle.std.proofs.lemmas.Slice.Eq.{bytes_eq-Decides}
@@ -22,7 +22,6 @@ use Rattle.fleet_io.proofs.MarkerLaws.{whole_marker-front}
 use Rattle.link_frames.specs.Frames.{end_frame, frames_bytes}
 use Rattle.link_upload.specs.Uploads.{IsPrompt, StaysPrompt, StopsAtEnd, UploadFails, UploadGives}
 use Rattle.link_upload.specs.Links.{Link, careful_link_of, link_of}
-use Rattle.command_words.specs.declared.command.Command.{Command}
 use Rattle.command_words.specs.declared.command.Command.TheVariants.{Upload}
 use Rattle.refusals.specs.declared.refusal.Refusal.{Refusal}
 use Rattle.refusals.specs.Refusals.{status_of}
@@ -39,7 +38,7 @@ use Rattle.upload_model.specs.Sessions.{Upload as Session}
 use Rattle.show_cli.specs.declared.input.Text.TheVariants.{Whole}
 use Rattle.show_cli.specs.Answers.{IsAccepted, IsRefusedBy, Wrote}
 use Rattle.show_cli.specs.Input.{IsShowText}
-use Rattle.show_cli.specs.Outcome.{IsOutcomeOf, IsSafe, Outcome, OutcomeLaw, ShowGives, outcome, said}
+use Rattle.show_cli.specs.Outcome.{IsOutcomeOf, IsSafe, Outcome, OutcomeLaw, ShowGives, outcome}
 use Rattle.show_cli.specs.Refused.{IsOfInput}
 use Rattle.show_cli.specs.Runs.{IsJudged, IsOutput, IsStopped, Run, Runs, UploadStops, UploadStopsReading, UploadsPromptly, run_of}
 use Rattle.show_cli.specs.Shows.{Cut, cut_of, link_in, session_of, show_limit}

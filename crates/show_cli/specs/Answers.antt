@@ -1,5 +1,5 @@
 -- What the program gives, as an outcome.
-use Rattle.std.specs.Prelude.{◌≡◌, ◌⊎◌, ℕ, ◌≤◌, false, List, [], Option, Some, None, Result, Ok, Err, IfOk, IfSome, length}
+use Rattle.std.specs.Prelude.{◌≡◌, ◌⊎◌, ℕ, ◌≤◌, false, List, Option, Some, None, Result, Ok, Err, IfOk, IfSome, length}
 use Rattle.std.specs.Io.KnownBytes.{Appends}
 use Rattle.std.specs.declared.alloc.AllocError.{AllocError}
 use Rattle.choreo_reader.specs.Grammar.{StandsFor}
@@ -28,12 +28,12 @@ use Rattle.show_cli.specs.declared.accept.Judged.{Judged}
 use Rattle.show_cli.specs.declared.accept.Judged.TheVariants as judged
 use Rattle.show_cli.specs.declared.accept.Planned.{Planned}
 use Rattle.show_cli.specs.declared.accept.Planned.TheVariants as planned
-use Rattle.show_cli.specs.Shows.{Cut, cut_of, names_of, sent_of, show_limit, trajectories_of}
+use Rattle.show_cli.specs.Shows.{Cut, cut_of, sent_of, show_limit}
 use Rattle.show_cli.specs.Ways.{ways_of}
 use Rattle.show_cli.specs.Refused.{IsOfInput, blocked_by, show_refusal, text_refusal}
 use Rattle.show_cli.specs.Reports.{nodes_of}
 use Rattle.show_cli.specs.Input.{AreTexts, IsReadWhole, IsShowText, IsUnmarked, IsWholeText}
-use Rattle.show_cli.specs.Outcome.{IsOutcome, IsOutcomeOf, IsSafe, IsSafeOutcome, IsSafeShow, Outcome, outcome, refused}
+use Rattle.show_cli.specs.Outcome.{IsOutcomeOf, IsSafe, IsSafeShow, Outcome, outcome, refused}
 
 -- ---- an answer
 

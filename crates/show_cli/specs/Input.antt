@@ -47,7 +47,7 @@ IsReadWhole input left = IfSome input (λ _. left ≡ Some [])
 abbrev pub IsReadBoth : ℕ → Option (List ℕ) → Option (List ℕ) → Type 0
 IsReadBoth limit left left_after =
     IfSome left (λ all. length (part_of all) ≤ show_limit → length (part_of (rest_of all)) ≤ limit →
-        (has_marker (between_feeds (rest_of all)) ≡ false → left_after ≡ Some []) × TakesFewAfter (Some (rest_of all)) left_after)
+    (has_marker (between_feeds (rest_of all)) ≡ false → left_after ≡ Some []) × TakesFewAfter (Some (rest_of all)) left_after)
 
 -- The show's text is the first one of the input that is cut so.
 abbrev pub IsShowText : Text → Cut → Type 0

@@ -1,6 +1,5 @@
 use Rattle.std.proofs.Common.{refl, sym}
 use Rattle.choreo_reader.specs.Plain.{plain}
-use Rattle.show_cli.specs.Shows.{Cut}
 use Rattle.show_cli.specs.Ways.{ways_of}
 use Rattle.show_cli.proofs.PlanLemmas.{cut_at, fits_as, no_marker}
 use Rattle.show_cli.proofs.RefusalLemmas.{fits_early, marker_refused, search_left}

@@ -1,12 +1,9 @@
-use Rattle.std.proofs.Common.{◌≡◌, ◌<◌, ◌∙◌, List, length, ap, sym, arith, Some, refl}
+use Rattle.std.proofs.Common.{◌<◌, ◌∙◌, List, length, ap, sym, arith, Some}
 use Rattle.choreo_lines.specs.Name.{Name}
 use Rattle.choreo_reader.specs.Plain.{plain}
 use Rattle.choreo_reader.specs.declared.show.DroneLine.{DroneLine}
-use Rattle.refusals.specs.declared.refusal.Refusal.{Refusal}
 use Rattle.refusals.specs.declared.refusal.Refusal.TheVariants as refusal
 use Rattle.show_plan.specs.declared.fitted.PlanFault.TheVariants as fault
-use Rattle.show_cli.specs.Refused.{no_plan}
-use Rattle.show_cli.specs.Shows.{names_of}
 use Rattle.show_cli.proofs.RefusalLemmas.{late_drone, late_is, late_refused, marker_refused, name_read, word_read}
 use Rattle.show_cli.proofs.refuse.without_room.Goals as goal
 

@@ -1,14 +1,13 @@
-use Rattle.std.proofs.Common.{◌≡◌, ℕ, ◌+◌, ◌*◌, ◌-◌, ◌/◌, ◌≤◌, All, List, length, map, sum, ap, sym, subst, ◌∙◌, arith}
+use Rattle.std.proofs.Common.{◌≡◌, ℕ, ◌*◌, ◌-◌, ◌/◌, ◌≤◌, All, List, length, map, sum, ap, sym, subst, ◌∙◌, arith}
 use Rattle.std.proofs.lemmas.List.{length-map}
 use Rattle.choreo_lines.specs.Name.{Name}
-use Rattle.choreo_reader.specs.declared.show.DroneLine.{DroneLine}
 use Rattle.traj_codec.specs.declared.traj.Traj.{Traj}
 use Rattle.traj_codec.specs.Joined.{joined}
 use Rattle.drill_show.specs.Drill.{drill_line}
 use Rattle.show_cli.specs.Outcome.{outcome}
 use Rattle.show_cli.specs.Reports.{drill_of}
 use Rattle.report_text.specs.Report.{Report}
-use Rattle.show_cli.proofs.ReportLemmas.{numbers, packets_of, report_is, rows_counted, short_rows, small_packets, small_sizes}
+use Rattle.show_cli.proofs.ReportLemmas.{packets_of, report_is, rows_counted, short_rows, small_packets, small_sizes}
 use Rattle.show_cli.proofs.commands.drill.answer_accepted.Goals as goal
 
 pub total-requires-clause-few : goal.total-requires-clause-few

@@ -1,5 +1,3 @@
-use Rattle.std.proofs.Common.{subst, List, ℕ}
-use Rattle.show_cli.specs.Answers.{Wrote}
 use Rattle.show_cli.proofs.RunLemmas.{runs_help}
 use Rattle.show_cli.proofs.commands.help.help.Goals as goal
 

@@ -1,4 +1,4 @@
-use Rattle.std.proofs.Common.{refl, ap, sym, ◌≡◌, List, ℕ, Err}
+use Rattle.std.proofs.Common.{refl, ap, Err}
 use Rattle.command_words.specs.declared.command.Command.TheVariants.{Play}
 use Rattle.show_cli.specs.declared.ends.Failure.{Failure}
 use Rattle.show_cli.specs.Outcome.{outcome}

@@ -1,4 +1,4 @@
-use Rattle.std.proofs.Common.{All, sym, subst, ◌∙◌, List}
+use Rattle.std.proofs.Common.{All, sym, subst, ◌∙◌}
 use Rattle.integer_player.specs.Played.{duration_of}
 use Rattle.traj_codec.specs.declared.traj.Traj.{Traj}
 use Rattle.std.proofs.Common.{◌≡◌}

@@ -1,6 +1,6 @@
 use Rattle.std.proofs.Common.{◌≡◌, ap, ◌∙◌, List, map, length, ℕ}
 use Rattle.choreo_lines.specs.Name.{Name}
-use Rattle.report_text.specs.Report.{Report, report_text}
+use Rattle.report_text.specs.Report.{report_text}
 use Rattle.show_cli.specs.Outcome.{outcome}
 use Rattle.show_cli.proofs.ReportLemmas.{numbers, packets_of, report_is}
 use Rattle.show_cli.proofs.commands.report.answer_accepted.Goals as goal
