@@ -130,13 +130,15 @@ pub fn run<S: Source, K: Sink>(
     }
 }
 
-/// Runs a command over ends that never fail: it never ends with 6 or 7.
+/// Runs a command as `run` does, over ends that never fail: it never ends with 6 or 7, and with 2 where the words are no command.
 pub fn run_surely(
     alloc: Global,
     words: &Vec<String>,
     source: &mut SureSource,
     sink: &mut SureSink,
 ) -> u8
+    ensures usage { command_in words.now.items ≡ None → result ≡ 2 }
+    ensures runs { (c : Command) → command_in words.now.items ≡ Some c → Runs c (run_of (Some source.old) (Some source.new) 0 0 None None 0 0) result }
     ensures read { result ≢ 6 }
     ensures write { result ≢ 7 }
 {
