@@ -2,6 +2,7 @@
 use Rattle.std.proofs.Common.{◌≡◌, ℕ, ◌+◌, ◌*◌, ◌^◌, ◌≤◌, ◌<◌, arith, refl, sym, ◌∙◌, ap, subst, List, [], ◌∷◌, ◌++◌, length}
 use Rattle.bezier_core.specs.declared.Bez.{Bez}
 use Rattle.fleet_curves.specs.Raised.{Raised}
+use Rattle.sep_parts.specs.declared.clearance.Clearance.{Clearance}
 use Rattle.sep_parts.specs.Slots.{slots}
 use Rattle.sep_parts.specs.Versions.{table_of}
 use Rattle.sep_certificate.specs.Certificates.{rules_of}
@@ -69,46 +70,45 @@ next_of curves r reader = next_in curves r r.stage refl reader
 pub few_of : (c : Seen) (curves : Raised) (bytes : List ℕ) → length bytes ≤ most_bytes → HasRead c curves bytes → AreFew most_bytes c.checking.reading
 few_of c curves bytes short has_read =
     let n : ℕ = length bytes + 0 in
-    let few : AreFew n (checked_all c.r c.h curves nothing_checked bytes).reading = few_read c.r c.h curves bytes 0 nothing_checked tt in
+    let few : AreFew n (checked_all c.clearance curves nothing_checked bytes).reading = few_read c.clearance curves bytes 0 nothing_checked tt in
     within_wider (1 + 2 * n) (1 + 3 * n) n (1 + 2 * most_bytes) (1 + 3 * most_bytes) most_bytes c.checking.reading (omega (arith, short)) (omega (arith, short)) (omega (arith, short))
     (subst (λ (checking : Checking). AreFew n checking.reading) (sym has_read.read) few)
 
-checked_more : (r h : ℕ) (curves : Raised) (c : Checking) (bytes : List ℕ) (b : ℕ) → checked_all r h curves c (bytes ++ b ∷ []) ≡ checked r h curves (checked_all r h curves c bytes) b
+checked_more : (clearance : Clearance) (curves : Raised) (c : Checking) (bytes : List ℕ) (b : ℕ) → checked_all clearance curves c (bytes ++ b ∷ []) ≡ checked clearance curves (checked_all clearance curves c bytes) b
 unfolding checked_all
-checked_more r h curves c [] b = refl
-checked_more r h curves c (x ∷ bytes) b = checked_more r h curves (checked r h curves c x) bytes b
+checked_more clearance curves c [] b = refl
+checked_more clearance curves c (x ∷ bytes) b = checked_more clearance curves (checked clearance curves c x) bytes b
 
-pub read_more : (old new : Seen) (curves : Raised) (bytes : List ℕ) (b : ℕ) → (new.r ≡ old.r) × (new.h ≡ old.h) → HasRead old curves bytes →
-    new.checking ≡ checked old.r old.h curves old.checking b → IsNextIn curves new.checking.reading new.diff → HasRead new curves (bytes ++ b ∷ [])
-read_more old new curves bytes b axes has_read read next = record {
-  read = read ∙ ap (λ (c : Checking). checked old.r old.h curves c b) has_read.read ∙ sym (checked_more old.r old.h curves nothing_checked bytes b)
-      ∙ ap (λ (r : ℕ). checked_all r old.h curves nothing_checked (bytes ++ b ∷ [])) (sym axes.0)
-      ∙ ap (λ (h : ℕ). checked_all new.r h curves nothing_checked (bytes ++ b ∷ [])) (sym axes.1);
+pub read_more : (old new : Seen) (curves : Raised) (bytes : List ℕ) (b : ℕ) → new.clearance ≡ old.clearance → HasRead old curves bytes →
+    new.checking ≡ checked old.clearance curves old.checking b → IsNextIn curves new.checking.reading new.diff → HasRead new curves (bytes ++ b ∷ [])
+read_more old new curves bytes b same has_read read next = record {
+  read = read ∙ ap (λ (c : Checking). checked old.clearance curves c b) has_read.read ∙ sym (checked_more old.clearance curves nothing_checked bytes b)
+      ∙ ap (λ (clearance : Clearance). checked_all clearance curves nothing_checked (bytes ++ b ∷ [])) (sym same);
   next = next;
 }
 
 -- ---- the verdict
 pub verdict_told : (c : Seen) (curves : Raised) (bytes : List ℕ) (verdict : Verdict) → 1 ≤ curves.drones → 1 ≤ curves.cues → length bytes ≤ most_bytes → HasRead c curves bytes →
-    verdict ≡ verdict_of curves (closed c.r c.h curves c.checking) → VerdictGives curves c.r c.h bytes verdict
+    verdict ≡ verdict_of curves (closed c.clearance curves c.checking) → VerdictGives curves c.clearance bytes verdict
 verdict_told c curves bytes verdict drones cues short has_read is =
-    subst (VerdictGives curves c.r c.h bytes)
-    (sym (is ∙ ap (λ (checking : Checking). verdict_of curves (closed c.r c.h curves checking)) has_read.read))
-    (checking_told curves c.r c.h bytes drones cues (omega arith))
+    subst (VerdictGives curves c.clearance bytes)
+    (sym (is ∙ ap (λ (checking : Checking). verdict_of curves (closed c.clearance curves checking)) has_read.read))
+    (checking_told curves c.clearance bytes drones cues (omega arith))
 
-pub named_told : (curves : Raised) (r h : ℕ) (text : List ℕ) (verdict : Verdict) → VerdictGives curves r h text verdict → NamesFault curves verdict
-named_told curves r h text (Valid depth trees) gives = tt
-named_told curves r h text (Line line) gives = tt
-named_told curves r h text (Refused version fault) (cert, says, version_is, is) = (
+pub named_told : (curves : Raised) (clearance : Clearance) (text : List ℕ) (verdict : Verdict) → VerdictGives curves clearance text verdict → NamesFault curves verdict
+named_told curves clearance text (Valid depth trees) gives = tt
+named_told curves clearance text (Line line) gives = tt
+named_told curves clearance text (Refused version fault) (cert, says, version_is, is) = (
   cert,
   rw version_is at says.whole.version,
   version_is,
   says.whole.whole.few,
-  fault_named curves cert (rules_of r h cert) (table_of cert.version) fault says.whole.whole.leaves is,
+  fault_named curves cert (rules_of clearance cert) (table_of cert.version) fault says.whole.whole.leaves is,
 )
 
-pub safe_told : (curves : Raised) (r h : ℕ) (text : List ℕ) (verdict : Verdict) → VerdictGives curves r h text verdict → ApartWhereValid curves r h verdict
-safe_told curves r h text (Line line) gives = tt
-safe_told curves r h text (Refused version fault) gives = tt
-safe_told curves r h text (Valid depth trees) (cert, says, depth_is, trees_are, none) =
-    keeps (rules_of r h cert) (table_of cert.version) curves cert.trees
-    (valid_of (rules_of r h cert) (table_of cert.version) curves (slots curves.drones curves.cues) 0 cert.trees says.whole.whole.trees none)
+pub safe_told : (curves : Raised) (clearance : Clearance) (text : List ℕ) (verdict : Verdict) → VerdictGives curves clearance text verdict → ApartWhereValid curves clearance verdict
+safe_told curves clearance text (Line line) gives = tt
+safe_told curves clearance text (Refused version fault) gives = tt
+safe_told curves clearance text (Valid depth trees) (cert, says, depth_is, trees_are, none) =
+    keeps (rules_of clearance cert) (table_of cert.version) curves cert.trees
+    (valid_of (rules_of clearance cert) (table_of cert.version) curves (slots curves.drones curves.cues) 0 cert.trees says.whole.whole.trees none)

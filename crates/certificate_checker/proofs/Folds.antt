@@ -1,5 +1,6 @@
 -- The machine over lists: nodes, trees, the bytes of a line, lines.
 use Rattle.std.proofs.Common.{◌≡◌, ℕ, ◌==◌, cond, refl, List, [], ◌∷◌, ◌++◌, map, Option, ℤ}
+use Rattle.sep_parts.specs.declared.clearance.Clearance.{Clearance}
 use Rattle.sep_parts.specs.declared.node.Node.{Node}
 use Rattle.sep_parts.specs.declared.rules.Rules.{Rules}
 use Rattle.fleet_curves.specs.Raised.{Raised}
@@ -25,26 +26,26 @@ wrong_trees rules dirs curves f [] = refl
 wrong_trees rules dirs curves f (nodes ∷ trees) = rw (wrong_nodes rules dirs curves f nodes) (wrong_trees rules dirs curves f trees)
 
 -- ---- bytes and lines
-abbrev pub bytes_read : ℕ → ℕ → Raised → Reading → List ℕ → Reading
-bytes_read r h curves reading [] = reading
-bytes_read r h curves reading (b ∷ bytes) = bytes_read r h curves (byte_read r h curves reading b) bytes
+abbrev pub bytes_read : Clearance → Raised → Reading → List ℕ → Reading
+bytes_read clearance curves reading [] = reading
+bytes_read clearance curves reading (b ∷ bytes) = bytes_read clearance curves (byte_read clearance curves reading b) bytes
 
-abbrev pub lines_read : ℕ → ℕ → Raised → Reading → List (List ℕ) → Reading
-lines_read r h curves reading [] = reading
-lines_read r h curves reading (line ∷ more) = lines_read r h curves (line_read curves (bytes_read r h curves reading line)) more
+abbrev pub lines_read : Clearance → Raised → Reading → List (List ℕ) → Reading
+lines_read clearance curves reading [] = reading
+lines_read clearance curves reading (line ∷ more) = lines_read clearance curves (line_read curves (bytes_read clearance curves reading line)) more
 
-pub faulty_bytes : (r h : ℕ) (curves : Raised) (n : ℕ) (bytes : List ℕ) → bytes_read r h curves (Faulty n) bytes ≡ Faulty n
-faulty_bytes r h curves n [] = refl
-faulty_bytes r h curves n (b ∷ bytes) = faulty_bytes r h curves n bytes
+pub faulty_bytes : (clearance : Clearance) (curves : Raised) (n : ℕ) (bytes : List ℕ) → bytes_read clearance curves (Faulty n) bytes ≡ Faulty n
+faulty_bytes clearance curves n [] = refl
+faulty_bytes clearance curves n (b ∷ bytes) = faulty_bytes clearance curves n bytes
 
-pub faulty_lines : (r h : ℕ) (curves : Raised) (n : ℕ) (more : List (List ℕ)) → lines_read r h curves (Faulty n) more ≡ Faulty n
-faulty_lines r h curves n [] = refl
-faulty_lines r h curves n (line ∷ more) = rw (faulty_bytes r h curves n line) (faulty_lines r h curves n more)
+pub faulty_lines : (clearance : Clearance) (curves : Raised) (n : ℕ) (more : List (List ℕ)) → lines_read clearance curves (Faulty n) more ≡ Faulty n
+faulty_lines clearance curves n [] = refl
+faulty_lines clearance curves n (line ∷ more) = rw (faulty_bytes clearance curves n line) (faulty_lines clearance curves n more)
 
-pub bytes_more : (r h : ℕ) (curves : Raised) (reading : Reading) (xs : List ℕ) (b : ℕ) →
-    bytes_read r h curves reading (xs ++ b ∷ []) ≡ byte_read r h curves (bytes_read r h curves reading xs) b
-bytes_more r h curves reading [] b = refl
-bytes_more r h curves reading (x ∷ xs) b = bytes_more r h curves (byte_read r h curves reading x) xs b
+pub bytes_more : (clearance : Clearance) (curves : Raised) (reading : Reading) (xs : List ℕ) (b : ℕ) →
+    bytes_read clearance curves reading (xs ++ b ∷ []) ≡ byte_read clearance curves (bytes_read clearance curves reading xs) b
+bytes_more clearance curves reading [] b = refl
+bytes_more clearance curves reading (x ∷ xs) b = bytes_more clearance curves (byte_read clearance curves reading x) xs b
 
 -- the nodes of a line, by the version
 abbrev pub nodes_in : ℕ → List ℕ → List Node

@@ -1,4 +1,5 @@
 -- The lines before the trees, of which fifteen bytes are kept.
+use Rattle.sep_parts.specs.declared.clearance.Clearance.{Clearance}
 use Rattle.std.proofs.Common.{◌≡◌, ℕ, ◌+◌, ◌≤◌, ◌<◌, Bool, true, false, cond, nat_lt, bytes_eq, arith, refl, sym, ◌∙◌, ap, List, [], ◌∷◌, ◌++◌, append_assoc, append-nil, length, length-append}
 use Rattle.std.proofs.lemmas.Bool.Decides.{nat_tests}
 use Rattle.fleet_curves.specs.Raised.{Raised}
@@ -12,13 +13,13 @@ abbrev pub all_kept : List ℕ → List ℕ → List ℕ
 all_kept head [] = head
 all_kept head (b ∷ bytes) = all_kept (kept head b) bytes
 
-pub first_bytes : (r h : ℕ) (curves : Raised) (head bytes : List ℕ) → bytes_read r h curves (FirstLine head) bytes ≡ FirstLine (all_kept head bytes)
-first_bytes r h curves head [] = refl
-first_bytes r h curves head (b ∷ bytes) = first_bytes r h curves (kept head b) bytes
+pub first_bytes : (clearance : Clearance) (curves : Raised) (head bytes : List ℕ) → bytes_read clearance curves (FirstLine head) bytes ≡ FirstLine (all_kept head bytes)
+first_bytes clearance curves head [] = refl
+first_bytes clearance curves head (b ∷ bytes) = first_bytes clearance curves (kept head b) bytes
 
-pub depth_bytes : (r h : ℕ) (curves : Raised) (head bytes : List ℕ) → bytes_read r h curves (DepthLine head) bytes ≡ DepthLine (all_kept head bytes)
-depth_bytes r h curves head [] = refl
-depth_bytes r h curves head (b ∷ bytes) = depth_bytes r h curves (kept head b) bytes
+pub depth_bytes : (clearance : Clearance) (curves : Raised) (head bytes : List ℕ) → bytes_read clearance curves (DepthLine head) bytes ≡ DepthLine (all_kept head bytes)
+depth_bytes clearance curves head [] = refl
+depth_bytes clearance curves head (b ∷ bytes) = depth_bytes clearance curves (kept head b) bytes
 
 below : (m n : ℕ) → m < n → nat_lt m n ≡ true
 below m n less = grind (arith, nat_tests)

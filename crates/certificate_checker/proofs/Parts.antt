@@ -1,6 +1,7 @@
 -- What the checker's parts are made of.
 use Rattle.std.proofs.Common.{◌≡◌, ℕ, sym, subst, length, refl, All}
 use Rattle.bezier_core.specs.declared.Bez.{Bez}
+use Rattle.sep_parts.specs.declared.clearance.Clearance.{Clearance}
 use Rattle.sep_parts.specs.declared.node.Node.{Node}
 use Rattle.fleet_curves.specs.Raised.{Raised, difference}
 use Rattle.sep_parts.specs.Rulers.{Measure}
@@ -19,10 +20,10 @@ unfolding difference
 axes curves a b cue = refl
 
 -- a node that a version knows names a direction of its table
-pub known_old : (m : Measure) (r h : ℕ) (node : Node) → m ≡ measure_of 1 r h → IsKnown 26 node → IsKnown (length m.directions) node
+pub known_old : (m : Measure) (clearance : Clearance) (node : Node) → m ≡ measure_of 1 clearance → IsKnown 26 node → IsKnown (length m.directions) node
 unfolding table_of
-known_old m r h node is known = subst (λ (n : Measure). IsKnown (length n.directions) node) (sym is) known
+known_old m clearance node is known = subst (λ (n : Measure). IsKnown (length n.directions) node) (sym is) known
 
-pub known_wide : (m : Measure) (r h : ℕ) (node : Node) → m ≡ measure_of 2 r h → IsKnown 98 node → IsKnown (length m.directions) node
+pub known_wide : (m : Measure) (clearance : Clearance) (node : Node) → m ≡ measure_of 2 clearance → IsKnown 98 node → IsKnown (length m.directions) node
 unfolding table_of
-known_wide m r h node is known = subst (λ (n : Measure). IsKnown (length n.directions) node) (sym is) known
+known_wide m clearance node is known = subst (λ (n : Measure). IsKnown (length n.directions) node) (sym is) known

@@ -1,4 +1,5 @@
 -- The machine over the bytes of a text is the machine over its lines.
+use Rattle.sep_parts.specs.declared.clearance.Clearance.{Clearance}
 use Rattle.std.proofs.Common.{◌≡◌, ℕ, ◌-◌, Bool, true, false, cond, ◌==◌, take, slice_index, arith, refl, sym, ◌∙◌, ap, List, [], ◌∷◌, ◌++◌, append_assoc, append-nil, length, length-append, All}
 use Rattle.std.specs.List.{slice_split}
 use Rattle.std.specs.Str.Lines.{lines, lines_of_parts, strip_carriage_return}
@@ -27,11 +28,11 @@ stripped p b =
     let e : length (p ++ b ∷ []) - 1 ≡ length p = omega (arith, length-append p (b ∷ [])) in
     rw (e, last_at p b, front_of p b) refl
 
-module _ (r h : ℕ) (curves : Raised) where
+module _ (clearance : Clearance) (curves : Raised) where
   -- within a line of which these bytes were read
   record IsWithin (reading : Reading) (p : List ℕ) (c : Checking) : Type 0 where
-    whole : with_return r h curves c.is_returned c.reading ≡ bytes_read r h curves reading p
-    front : c.reading ≡ bytes_read r h curves reading (strip_carriage_return p)
+    whole : with_return clearance curves c.is_returned c.reading ≡ bytes_read clearance curves reading p
+    front : c.reading ≡ bytes_read clearance curves reading (strip_carriage_return p)
     begun : c.is_begun ≡ cond (length p == 0) false true
 
   some_begun : (p : List ℕ) (b : ℕ) → true ≡ cond (length (p ++ b ∷ []) == 0) false true
@@ -39,62 +40,62 @@ module _ (r h : ℕ) (curves : Raised) where
       let some : (length (p ++ b ∷ []) == 0) ≡ false = grind (arith, nat_tests, length-append p (b ∷ [])) in
       rw some refl
 
-  within_more : (reading : Reading) (p : List ℕ) (c : Checking) (b : ℕ) → IsWithin reading p c → IsWithin reading (p ++ b ∷ []) (line_byte r h curves c b)
+  within_more : (reading : Reading) (p : List ℕ) (c : Checking) (b : ℕ) → IsWithin reading p c → IsWithin reading (p ++ b ∷ []) (line_byte clearance curves c b)
   within_more reading p c b is = go (b == 13) refl
     where
       go : (s : Bool) → (b == 13) ≡ s →
-          IsWithin reading (p ++ b ∷ []) (cond s (record { reading = with_return r h curves c.is_returned c.reading; is_returned = true; is_begun = true })
-          (record { reading = byte_read r h curves (with_return r h curves c.is_returned c.reading) b; is_returned = false; is_begun = true }))
+          IsWithin reading (p ++ b ∷ []) (cond s (record { reading = with_return clearance curves c.is_returned c.reading; is_returned = true; is_begun = true })
+          (record { reading = byte_read clearance curves (with_return clearance curves c.is_returned c.reading) b; is_returned = false; is_begun = true }))
       go true e =
           let b_is : b ≡ 13 = grind (arith, nat_tests) in
           record {
-            whole = ap (λ (x : ℕ). byte_read r h curves (with_return r h curves c.is_returned c.reading) x) (sym b_is)
-                ∙ ap (λ (x : Reading). byte_read r h curves x b) is.whole ∙ sym (bytes_more r h curves reading p b);
-            front = is.whole ∙ ap (bytes_read r h curves reading) (sym (stripped p b ∙ ap (λ (s : Bool). cond s p (p ++ b ∷ [])) e));
+            whole = ap (λ (x : ℕ). byte_read clearance curves (with_return clearance curves c.is_returned c.reading) x) (sym b_is)
+                ∙ ap (λ (x : Reading). byte_read clearance curves x b) is.whole ∙ sym (bytes_more clearance curves reading p b);
+            front = is.whole ∙ ap (bytes_read clearance curves reading) (sym (stripped p b ∙ ap (λ (s : Bool). cond s p (p ++ b ∷ [])) e));
             begun = some_begun p b;
           }
       go false e =
-          let one_more : byte_read r h curves (with_return r h curves c.is_returned c.reading) b ≡ bytes_read r h curves reading (p ++ b ∷ []) =
-          ap (λ (x : Reading). byte_read r h curves x b) is.whole ∙ sym (bytes_more r h curves reading p b) in
+          let one_more : byte_read clearance curves (with_return clearance curves c.is_returned c.reading) b ≡ bytes_read clearance curves reading (p ++ b ∷ []) =
+          ap (λ (x : Reading). byte_read clearance curves x b) is.whole ∙ sym (bytes_more clearance curves reading p b) in
           record {
             whole = one_more;
-            front = one_more ∙ ap (bytes_read r h curves reading) (sym (stripped p b ∙ ap (λ (s : Bool). cond s p (p ++ b ∷ [])) e));
+            front = one_more ∙ ap (bytes_read clearance curves reading) (sym (stripped p b ∙ ap (λ (s : Bool). cond s p (p ++ b ∷ [])) e));
             begun = some_begun p b;
           }
 
-  closed_here : (reading : Reading) (p : List ℕ) (c : Checking) → IsWithin reading p c → closed r h curves c ≡ lines_read r h curves reading (lines_of_parts (p ∷ []))
+  closed_here : (reading : Reading) (p : List ℕ) (c : Checking) → IsWithin reading p c → closed clearance curves c ≡ lines_read clearance curves reading (lines_of_parts (p ∷ []))
   closed_here reading [] c is = rw (is.begun) (is.front)
   closed_here reading (x ∷ xs) c is =
       let some : (length (x ∷ xs) == 0) ≡ false = grind (arith, nat_tests) in
       rw (is.begun, some) (ap (line_read curves) is.whole)
 
   texts_from : (text : List ℕ) (reading : Reading) (p : List ℕ) (c : Checking) → All (λ b. is_feed b ≡ false) p → IsWithin reading p c →
-      closed r h curves (checked_all r h curves c text) ≡ lines_read r h curves reading (lines_of_parts (slice_split is_feed (p ++ text)))
+      closed clearance curves (checked_all clearance curves c text) ≡ lines_read clearance curves reading (lines_of_parts (slice_split is_feed (p ++ text)))
   unfolding checked_all
   texts_from [] reading p c plain is =
       closed_here reading p c is
-      ∙ ap (λ (parts : List (List ℕ)). lines_read r h curves reading (lines_of_parts parts)) (sym (ap (slice_split is_feed) (append-nil p) ∙ slice_split_none is_feed p plain))
+      ∙ ap (λ (parts : List (List ℕ)). lines_read clearance curves reading (lines_of_parts parts)) (sym (ap (slice_split is_feed) (append-nil p) ∙ slice_split_none is_feed p plain))
   texts_from (b ∷ text) reading p c plain is =
       go (texts_from text (line_read curves c.reading) [] (fresh (line_read curves c.reading)) (All-nil (λ b. is_feed b ≡ false)) (record { whole = refl; front = refl; begun = refl }))
-      (λ all more. texts_from text reading (p ++ b ∷ []) (line_byte r h curves c b) all more) (b == 10) refl
+      (λ all more. texts_from text reading (p ++ b ∷ []) (line_byte clearance curves c b) all more) (b == 10) refl
     where
-      go : closed r h curves (checked_all r h curves (fresh (line_read curves c.reading)) text) ≡ lines_read r h curves (line_read curves c.reading) (lines_of_parts (slice_split is_feed text)) →
-          (All (λ b. is_feed b ≡ false) (p ++ b ∷ []) → IsWithin reading (p ++ b ∷ []) (line_byte r h curves c b) →
-          closed r h curves (checked_all r h curves (line_byte r h curves c b) text) ≡ lines_read r h curves reading (lines_of_parts (slice_split is_feed ((p ++ b ∷ []) ++ text)))) →
+      go : closed clearance curves (checked_all clearance curves (fresh (line_read curves c.reading)) text) ≡ lines_read clearance curves (line_read curves c.reading) (lines_of_parts (slice_split is_feed text)) →
+          (All (λ b. is_feed b ≡ false) (p ++ b ∷ []) → IsWithin reading (p ++ b ∷ []) (line_byte clearance curves c b) →
+          closed clearance curves (checked_all clearance curves (line_byte clearance curves c b) text) ≡ lines_read clearance curves reading (lines_of_parts (slice_split is_feed ((p ++ b ∷ []) ++ text)))) →
           (s : Bool) → (b == 10) ≡ s →
-          closed r h curves (checked_all r h curves (cond s (fresh (line_read curves c.reading)) (line_byte r h curves c b)) text)
-          ≡ lines_read r h curves reading (lines_of_parts (slice_split is_feed (p ++ b ∷ text)))
+          closed clearance curves (checked_all clearance curves (cond s (fresh (line_read curves c.reading)) (line_byte clearance curves c b)) text)
+          ≡ lines_read clearance curves reading (lines_of_parts (slice_split is_feed (p ++ b ∷ text)))
       go next same true e =
           next
-          ∙ ap (λ (x : Reading). lines_read r h curves (line_read curves x) (lines_of_parts (slice_split is_feed text))) is.front
-          ∙ sym (ap (λ (parts : List (List ℕ)). lines_read r h curves reading (lines_of_parts parts)) (slice_split_at is_feed p b text plain e)
-          ∙ ap (lines_read r h curves reading) (strip_first p (slice_split is_feed text) (omega (arith, length-slice_split is_feed text))))
+          ∙ ap (λ (x : Reading). lines_read clearance curves (line_read curves x) (lines_of_parts (slice_split is_feed text))) is.front
+          ∙ sym (ap (λ (parts : List (List ℕ)). lines_read clearance curves reading (lines_of_parts parts)) (slice_split_at is_feed p b text plain e)
+          ∙ ap (lines_read clearance curves reading) (strip_first p (slice_split is_feed text) (omega (arith, length-slice_split is_feed text))))
       go next same false e =
           same
           (All-append (λ b. is_feed b ≡ false) p (b ∷ []) plain (All-cons (λ b. is_feed b ≡ false) b [] e (All-nil (λ b. is_feed b ≡ false))))
           (within_more reading p c b is)
-          ∙ ap (λ (xs : List ℕ). lines_read r h curves reading (lines_of_parts (slice_split is_feed xs))) (append_assoc p (b ∷ []) text)
+          ∙ ap (λ (xs : List ℕ). lines_read clearance curves reading (lines_of_parts (slice_split is_feed xs))) (append_assoc p (b ∷ []) text)
 
   pub text_told : (reading : Reading) (text : List ℕ) →
-      closed r h curves (checked_all r h curves (fresh reading) text) ≡ lines_read r h curves reading (lines text)
+      closed clearance curves (checked_all clearance curves (fresh reading) text) ≡ lines_read clearance curves reading (lines text)
   text_told reading text = texts_from text reading [] (fresh reading) (All-nil (λ b. is_feed b ≡ false)) (record { whole = refl; front = refl; begun = refl })

@@ -2,6 +2,7 @@
 use Rattle.std.specs.Prelude.{ℕ, zero, suc, ◌-◌, Bool, true, false, nat_lt, ◌==◌, bytes_eq, ℤ, List, [], ◌∷◌, ◌++◌, length, slice_index, Option, Some, None, if◌then◌else◌}
 use Rattle.bezier_core.specs.declared.Bez.{Bez}
 use Rattle.halving.specs.declared.Place.{Place}
+use Rattle.sep_parts.specs.declared.clearance.Clearance.{Clearance}
 use Rattle.sep_parts.specs.declared.node.Node.{Node}
 use Rattle.sep_parts.specs.declared.node.Node.TheVariants.{Split, Leaf}
 use Rattle.sep_parts.specs.declared.rules.Rules.{Rules}
@@ -72,41 +73,41 @@ pub data Reading : Type 0 where
   TreeLine : TreesRead → Reading
   Faulty : ℕ → Reading
 
-abbrev pub rules_in : ℕ → ℕ → TreesRead → Rules
-rules_in r h t = record { r = r; h = h; depth = t.depth }
+abbrev pub rules_in : Clearance → TreesRead → Rules
+rules_in clearance t = record { clearance = clearance; depth = t.depth }
 
 -- a node of the line, after which this many trees are still to come
-abbrev pub node_read : ℕ → ℕ → Raised → TreesRead → Node → ℕ → Reading
-node_read r h curves t node owed =
-    TreeLine (record t { owed = owed; digit = None; judged = with_node (rules_in r h t) (table_of t.version) curves t.judged node })
+abbrev pub node_read : Clearance → Raised → TreesRead → Node → ℕ → Reading
+node_read clearance curves t node owed =
+    TreeLine (record t { owed = owed; digit = None; judged = with_node (rules_in clearance t) (table_of t.version) curves t.judged node })
 
 -- a byte of a line of version 1 in which this many trees are still to come
-abbrev pub letter_read : ℕ → ℕ → Raised → TreesRead → ℕ → ℕ → Reading
-letter_read r h curves t zero b = Faulty t.line
-letter_read r h curves t (suc n) b =
-    if b == 46 then node_read r h curves t Split (suc (suc n))
-    else if is_letter b then node_read r h curves t (Leaf (b - 97)) n else Faulty t.line
+abbrev pub letter_read : Clearance → Raised → TreesRead → ℕ → ℕ → Reading
+letter_read clearance curves t zero b = Faulty t.line
+letter_read clearance curves t (suc n) b =
+    if b == 46 then node_read clearance curves t Split (suc (suc n))
+    else if is_letter b then node_read clearance curves t (Leaf (b - 97)) n else Faulty t.line
 
 -- the same for version 2, perhaps after the first digit of a leaf
-abbrev pub digit_read : ℕ → ℕ → Raised → TreesRead → ℕ → Option ℕ → ℕ → Reading
-digit_read r h curves t zero digit b = Faulty t.line
-digit_read r h curves t (suc n) None b =
-    if b == 46 then node_read r h curves t Split (suc (suc n))
+abbrev pub digit_read : Clearance → Raised → TreesRead → ℕ → Option ℕ → ℕ → Reading
+digit_read clearance curves t zero digit b = Faulty t.line
+digit_read clearance curves t (suc n) None b =
+    if b == 46 then node_read clearance curves t Split (suc (suc n))
     else if is_digit b then TreeLine (record t { digit = Some b }) else Faulty t.line
-digit_read r h curves t (suc n) (Some first) b =
-    if is_wide_leaf first b then node_read r h curves t (Leaf (two_digits first b)) n else Faulty t.line
+digit_read clearance curves t (suc n) (Some first) b =
+    if is_wide_leaf first b then node_read clearance curves t (Leaf (two_digits first b)) n else Faulty t.line
 
 -- A byte of a line before the trees. A line of more than fourteen bytes is faulty whatever they are, so fifteen tell enough.
 abbrev pub kept : List ℕ → ℕ → List ℕ
 kept head b = if nat_lt (length head) 15 then head ++ b ∷ [] else head
 
 -- a byte of a line
-abbrev pub byte_read : ℕ → ℕ → Raised → Reading → ℕ → Reading
-byte_read r h curves (FirstLine head) b = FirstLine (kept head b)
-byte_read r h curves (DepthLine head) b = DepthLine (kept head b)
-byte_read r h curves (TreeLine t) b =
-    if t.version == 1 then letter_read r h curves t t.owed b else digit_read r h curves t t.owed t.digit b
-byte_read r h curves (Faulty n) b = Faulty n
+abbrev pub byte_read : Clearance → Raised → Reading → ℕ → Reading
+byte_read clearance curves (FirstLine head) b = FirstLine (kept head b)
+byte_read clearance curves (DepthLine head) b = DepthLine (kept head b)
+byte_read clearance curves (TreeLine t) b =
+    if t.version == 1 then letter_read clearance curves t t.owed b else digit_read clearance curves t t.owed t.digit b
+byte_read clearance curves (Faulty n) b = Faulty n
 
 -- before the first tree
 abbrev pub first_tree : ℕ → ℕ → ℕ → TreesRead
@@ -144,32 +145,32 @@ abbrev pub nothing_checked : Checking
 nothing_checked = record { reading = FirstLine []; is_returned = false; is_begun = false }
 
 -- the line with the carriage return that waits
-abbrev pub with_return : ℕ → ℕ → Raised → Bool → Reading → Reading
-with_return r h curves true reading = byte_read r h curves reading 13
-with_return r h curves false reading = reading
+abbrev pub with_return : Clearance → Raised → Bool → Reading → Reading
+with_return clearance curves true reading = byte_read clearance curves reading 13
+with_return clearance curves false reading = reading
 
 -- a byte that is no line feed
-abbrev pub line_byte : ℕ → ℕ → Raised → Checking → ℕ → Checking
-line_byte r h curves c b =
-    if b == 13 then record { reading = with_return r h curves c.is_returned c.reading; is_returned = true; is_begun = true }
-    else record { reading = byte_read r h curves (with_return r h curves c.is_returned c.reading) b; is_returned = false; is_begun = true }
+abbrev pub line_byte : Clearance → Raised → Checking → ℕ → Checking
+line_byte clearance curves c b =
+    if b == 13 then record { reading = with_return clearance curves c.is_returned c.reading; is_returned = true; is_begun = true }
+    else record { reading = byte_read clearance curves (with_return clearance curves c.is_returned c.reading) b; is_returned = false; is_begun = true }
 
 -- before the first byte of a line
 abbrev pub fresh : Reading → Checking
 fresh reading = record { reading = reading; is_returned = false; is_begun = false }
 
 -- one byte more
-abbrev pub checked : ℕ → ℕ → Raised → Checking → ℕ → Checking
-checked r h curves c b = if b == 10 then fresh (line_read curves c.reading) else line_byte r h curves c b
+abbrev pub checked : Clearance → Raised → Checking → ℕ → Checking
+checked clearance curves c b = if b == 10 then fresh (line_read curves c.reading) else line_byte clearance curves c b
 
 -- after these bytes
-unfoldable pub checked_all : ℕ → ℕ → Raised → Checking → List ℕ → Checking
-checked_all r h curves c [] = c
-checked_all r h curves c (b ∷ bytes) = checked_all r h curves (checked r h curves c b) bytes
+unfoldable pub checked_all : Clearance → Raised → Checking → List ℕ → Checking
+checked_all clearance curves c [] = c
+checked_all clearance curves c (b ∷ bytes) = checked_all clearance curves (checked clearance curves c b) bytes
 
 -- the text ends here, and so does its last line, which may lack a line feed
-abbrev pub closed : ℕ → ℕ → Raised → Checking → Reading
-closed r h curves c = if c.is_begun then line_read curves (with_return r h curves c.is_returned c.reading) else c.reading
+abbrev pub closed : Clearance → Raised → Checking → Reading
+closed clearance curves c = if c.is_begun then line_read curves (with_return clearance curves c.is_returned c.reading) else c.reading
 
 -- ---- the verdict
 abbrev pub judged_verdict : Raised → ℕ → ℕ → Judged → Verdict

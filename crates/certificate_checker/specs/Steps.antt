@@ -1,5 +1,6 @@
 -- What the parts of a checker stand for. No public contract uses these words.
 use Rattle.std.specs.Prelude.{◌≡◌, ℕ, ◌^◌, ◌≤◌, ◌<◌}
+use Rattle.sep_parts.specs.declared.clearance.Clearance.{Clearance}
 use Rattle.sep_parts.specs.Rulers.{Measure}
 use Rattle.sep_parts.specs.Versions.{IsVersion, table_of}
 use Rattle.fleet_curves.specs.Raised.{Raised}
@@ -60,9 +61,5 @@ abbrev pub checking_of : TextReader → Checking
 checking_of t = record { reading = reading_of t.reader; is_returned = t.returned; is_begun = t.begun }
 
 -- ---- the tables of both versions
-pub record Axes : Type 0 where
-  pub r : ℕ
-  pub h : ℕ
-
-abbrev pub measure_of : ℕ → ℕ → ℕ → Measure
-measure_of version r h = record { directions = table_of version; r = r; h = h }
+abbrev pub measure_of : ℕ → Clearance → Measure
+measure_of version clearance = record { directions = table_of version; clearance = clearance }

@@ -1,7 +1,7 @@
 //! A certificate's text, judged byte by byte.
 
 ghost use Rattle.std.specs.Prelude.{◌≡◌, ℕ, ◌≤◌, ◌<◌, ◌++◌, ◌∷◌, [], List, length};
-ghost use Rattle.sep_parts.specs.Directions.{IsAxis};
+ghost use Rattle.sep_parts.specs.Directions.{IsClearance};
 ghost use Rattle.fleet_curves.specs.Raised.{Raised};
 ghost use Rattle.certificate_checker.specs.Bytes.{NamesFault, ApartWhereValid, HasRead, most_bytes};
 ghost use Rattle.certificate_checker.specs.Verdicts.{VerdictGives};
@@ -10,12 +10,13 @@ use crate::tables::Tables;
 use crate::text::TextReader;
 use crate::verdict::Verdict;
 use fleet_curves::Curves;
+use sep_parts::Clearance;
 use std::marker::Model;
 
-/// Judges the text of a certificate byte by byte, for ellipsoids of half axes `r`, `r` and `h` in millimetres. It allocates nothing,
+/// Judges the text of a certificate byte by byte, for a clearance. It allocates nothing,
 /// whatever the text's length: it keeps at most fifteen bytes of a line, a stack of at most nine levels, and counts.
 ///
-/// Contracts see the half axes, what is kept of the bytes that were read, and one difference of curves (`Seen`). Each call takes the
+/// Contracts see the clearance, what is kept of the bytes that were read, and one difference of curves (`Seen`). Each call takes the
 /// curves of one fleet, the same in all calls.
 #[derive(Drop)]
 pub struct Checker {
@@ -29,21 +30,20 @@ impl Model for Checker {
 
     ghost Value = { Seen };
 
-    ghost view = { λ c. record { r = c.tables.r; h = c.tables.h; checking = checking_of c.text; diff = c.text.reader.judging.diff } };
+    ghost view = { λ c. record { clearance = c.tables; checking = checking_of c.text; diff = c.text.reader.judging.diff } };
 
     ghost invariant = { λ c. IsTextSound c.text };
 }
 
 impl Checker {
-    /// A checker before the first byte, for half axes of 1 to 2,000 mm.
-    pub fn make(r: u16, h: u16) -> Checker
-        requires r { IsAxis r }
-        requires h { IsAxis h }
-        ensures axes { (result.r ≡ r) × (result.h ≡ h) }
+    /// A checker before the first byte, for a clearance.
+    pub fn make(clearance: Clearance) -> Checker
+        requires clearance { IsClearance clearance }
+        ensures clearance { result.clearance ≡ clearance }
         ensures has_read { (curves : Raised) → HasRead result curves [] }
     {
         Checker {
-            tables: Tables::make(r, h),
+            tables: Tables::make(clearance),
             text: TextReader::start(),
         }
     }
@@ -51,7 +51,7 @@ impl Checker {
     /// Reads one byte more, of at most 400,000,000. The curves are those of the earlier calls.
     pub fn feed(&mut self, curves: &Curves, byte: u8)
         requires { (bytes : List ℕ) × (length bytes < most_bytes) × HasRead self.old curves.now bytes }
-        ensures axes { (self.new.r ≡ self.old.r) × (self.new.h ≡ self.old.h) }
+        ensures clearance { self.new.clearance ≡ self.old.clearance }
         ensures has_read { (bytes : List ℕ) → length bytes < most_bytes → HasRead self.old curves.now bytes → HasRead self.new curves.now (bytes ++ byte ∷ []) }
     {
         self.text.take(curves, &self.tables, byte);
@@ -65,9 +65,9 @@ impl Checker {
     /// p and q and for every list of trajectories that the curves stand for.
     pub fn end(&mut self, curves: &Curves) -> Verdict
         requires { (bytes : List ℕ) × (length bytes ≤ most_bytes) × HasRead self.old curves.now bytes }
-        ensures gives { (bytes : List ℕ) → length bytes ≤ most_bytes → HasRead self.old curves.now bytes → VerdictGives curves.now self.old.r self.old.h bytes result }
+        ensures gives { (bytes : List ℕ) → length bytes ≤ most_bytes → HasRead self.old curves.now bytes → VerdictGives curves.now self.old.clearance bytes result }
         ensures named { NamesFault curves.now result }
-        ensures safe { ApartWhereValid curves.now self.old.r self.old.h result }
+        ensures safe { ApartWhereValid curves.now self.old.clearance result }
     {
         // a fleet has at least one drone and one cue
         let _drones = curves.drones();

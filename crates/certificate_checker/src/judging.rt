@@ -129,7 +129,7 @@ impl Judging {
         requires version { IsVersion version }
         requires depth { depth ≤ 8 }
         requires known { IsKnown (known_in version) node }
-        ensures judged { self.new.judged ≡ with_node (record { r = tables.now.r; h = tables.now.h; depth = depth }) (table_of version) curves.now self.old.judged node }
+        ensures judged { self.new.judged ≡ with_node (record { clearance = tables.now; depth = depth }) (table_of version) curves.now self.old.judged node }
         ensures next { IsNext curves.now self.new.judged self.new.diff }
     {
         if self.fault.is_some() || usize::from(self.slot.b) >= curves.drones() {

@@ -83,7 +83,7 @@ impl Reader {
         requires reader { IsReader curves.now self.old }
         requires stage { self.old.stage ≡ Stage.Tree }
         requires known { IsKnown (known_in self.old.version) node }
-        ensures read { reading_of self.new ≡ node_read tables.now.r tables.now.h curves.now (trees_of self.old) node owed }
+        ensures read { reading_of self.new ≡ node_read tables.now curves.now (trees_of self.old) node owed }
         ensures reader { IsReader curves.now self.new }
     {
         self.owed = owed;
@@ -98,7 +98,7 @@ impl Reader {
         requires stage { self.old.stage ≡ Stage.Tree }
         requires version { self.old.version ≡ 1 }
         requires room { self.old.owed < 2 ^ 31 }
-        ensures read { reading_of self.new ≡ letter_read tables.now.r tables.now.h curves.now (trees_of self.old) self.old.owed b }
+        ensures read { reading_of self.new ≡ letter_read tables.now curves.now (trees_of self.old) self.old.owed b }
         ensures reader { IsReader curves.now self.new }
     {
         if self.owed == 0 {
@@ -119,7 +119,7 @@ impl Reader {
         requires version { self.old.version ≡ 2 }
         requires some { 1 ≤ self.old.owed }
         requires room { self.old.owed < 2 ^ 31 }
-        ensures read { reading_of self.new ≡ digit_read tables.now.r tables.now.h curves.now (trees_of self.old) self.old.owed None b }
+        ensures read { reading_of self.new ≡ digit_read tables.now curves.now (trees_of self.old) self.old.owed None b }
         ensures reader { IsReader curves.now self.new }
     {
         match b {
@@ -135,7 +135,7 @@ impl Reader {
         requires stage { self.old.stage ≡ Stage.Tree }
         requires version { self.old.version ≡ 2 }
         requires some { 1 ≤ self.old.owed }
-        ensures read { reading_of self.new ≡ digit_read tables.now.r tables.now.h curves.now (trees_of self.old) self.old.owed (Some first) b }
+        ensures read { reading_of self.new ≡ digit_read tables.now curves.now (trees_of self.old) self.old.owed (Some first) b }
         ensures reader { IsReader curves.now self.new }
     {
         match leaf(first, b) {
@@ -150,7 +150,7 @@ impl Reader {
         requires stage { self.old.stage ≡ Stage.Tree }
         requires version { self.old.version ≡ 2 }
         requires room { self.old.owed < 2 ^ 31 }
-        ensures read { reading_of self.new ≡ digit_read tables.now.r tables.now.h curves.now (trees_of self.old) self.old.owed self.old.digit b }
+        ensures read { reading_of self.new ≡ digit_read tables.now curves.now (trees_of self.old) self.old.owed self.old.digit b }
         ensures reader { IsReader curves.now self.new }
     {
         if self.owed == 0 {
@@ -168,7 +168,7 @@ impl Reader {
         requires reader { IsReader curves.now self.old }
         requires stage { self.old.stage ≡ Stage.Tree }
         requires room { self.old.owed < 2 ^ 31 }
-        ensures read { reading_of self.new ≡ byte_read tables.now.r tables.now.h curves.now (TreeLine (trees_of self.old)) b }
+        ensures read { reading_of self.new ≡ byte_read tables.now curves.now (TreeLine (trees_of self.old)) b }
         ensures reader { IsReader curves.now self.new }
     {
         if self.version == 1 {
@@ -182,7 +182,7 @@ impl Reader {
     pub fn byte(&mut self, curves: &Curves, tables: &Tables, b: u8)
         requires reader { IsReader curves.now self.old }
         requires room { HasRoom self.old }
-        ensures read { reading_of self.new ≡ byte_read tables.now.r tables.now.h curves.now (reading_of self.old) b }
+        ensures read { reading_of self.new ≡ byte_read tables.now curves.now (reading_of self.old) b }
         ensures reader { IsReader curves.now self.new }
     {
         match self.stage {
@@ -196,7 +196,7 @@ impl Reader {
     pub fn take_return(&mut self, curves: &Curves, tables: &Tables, returned: bool)
         requires reader { IsReader curves.now self.old }
         requires room { HasRoom self.old }
-        ensures read { reading_of self.new ≡ with_return tables.now.r tables.now.h curves.now returned (reading_of self.old) }
+        ensures read { reading_of self.new ≡ with_return tables.now curves.now returned (reading_of self.old) }
         ensures reader { IsReader curves.now self.new }
     {
         if returned {

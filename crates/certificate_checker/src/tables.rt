@@ -2,7 +2,7 @@
 
 ghost use Rattle.std.specs.Prelude.{◌≡◌, ◌^◌, ◌≤◌, ◌<◌, All};
 ghost use Rattle.fleet_math.specs.Numbers.{IsBelow};
-ghost use Rattle.sep_parts.specs.Directions.{IsAxis};
+ghost use Rattle.sep_parts.specs.Directions.{IsClearance};
 ghost use Rattle.sep_parts.specs.Levels.{IsLevel};
 ghost use Rattle.sep_parts.specs.Trees.{IsKnown};
 ghost use Rattle.sep_parts.specs.Versions.{IsVersion, known_in, table_of};
@@ -10,10 +10,10 @@ ghost use Rattle.sep_certificate.specs.Certificates.{node_fault};
 
 use bezier_core::Bez;
 use sep_certificate::{CertFault, node_fault};
-use sep_parts::{DIRECTIONS, Level, Node, Ruler, Slot, WIDE};
+use sep_parts::{Clearance, DIRECTIONS, Level, Node, Ruler, Slot, WIDE};
 use std::marker::Model;
 
-/// The directions of both versions of certificates, with their thresholds for ellipsoids of half axes `r`, `r` and `h`.
+/// The directions of both versions of certificates, with their thresholds for a clearance.
 #[derive(Drop)]
 pub struct Tables {
     old: Ruler<26>,
@@ -22,25 +22,25 @@ pub struct Tables {
 
 impl Model for Tables {
     ghost use Rattle.std.specs.Prelude.{◌≡◌};
-    ghost use Rattle.certificate_checker.specs.Steps.{Axes, measure_of};
+    ghost use Rattle.sep_parts.specs.declared.clearance.Clearance.{Clearance};
+    ghost use Rattle.certificate_checker.specs.Steps.{measure_of};
 
-    ghost Value = { Axes };
+    ghost Value = { Clearance };
 
-    ghost view = { λ t. record { r = t.old.r; h = t.old.h } };
+    ghost view = { λ t. t.old.clearance };
 
-    ghost invariant = { λ t. (t.old ≡ measure_of 1 t.old.r t.old.h) × (t.wide ≡ measure_of 2 t.old.r t.old.h) };
+    ghost invariant = { λ t. (t.old ≡ measure_of 1 t.old.clearance) × (t.wide ≡ measure_of 2 t.old.clearance) };
 }
 
 impl Tables {
-    // The tables for half axes of 1 to 2,000 mm.
-    pub fn make(r: u16, h: u16) -> Tables
-        requires r { IsAxis r }
-        requires h { IsAxis h }
-        ensures { result ≡ record { r = r; h = h } }
+    // The tables for a clearance.
+    pub fn make(clearance: Clearance) -> Tables
+        requires clearance { IsClearance clearance }
+        ensures { result ≡ clearance }
     {
         Tables {
-            old: Ruler::make(&DIRECTIONS, r, h),
-            wide: Ruler::make(&WIDE, r, h),
+            old: Ruler::make(&DIRECTIONS, clearance),
+            wide: Ruler::make(&WIDE, clearance),
         }
     }
 
@@ -58,7 +58,7 @@ impl Tables {
         requires values { All (λ curve. All (IsBelow (2 ^ 30)) curve.b) diff.now }
         requires level { IsLevel diff.now level.now }
         requires known { IsKnown (known_in version) node }
-        ensures { result ≡ node_fault (record { r = self.now.r; h = self.now.h; depth = depth }) (table_of version) diff.now slot level.now.place node }
+        ensures { result ≡ node_fault (record { clearance = self.now; depth = depth }) (table_of version) diff.now slot level.now.place node }
     {
         if version == 1 {
             node_fault(diff, level, slot, &self.old, depth, node)

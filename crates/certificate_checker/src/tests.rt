@@ -3,16 +3,26 @@
 
 ghost use Rattle.std.specs.Prelude.{◌≡◌, ◌≤◌, ◌∷◌, [], length, IfOk};
 ghost use Rattle.traj_codec.specs.Positions.{durations};
-ghost use Rattle.sep_parts.specs.Directions.{IsAxis};
+ghost use Rattle.sep_parts.specs.Directions.{IsClearance};
 ghost use Rattle.certificate_checker.specs.Bytes.{most_bytes};
 ghost use Rattle.certificate_checker.specs.Verdicts.{VerdictGives};
 
 use super::*;
 use fleet_curves::Curves;
 use sep_certificate::CertFault;
+use sep_parts::Clearance;
 use std::alloc::{AllocError, Global};
 use std::test::Fail;
 use traj_codec::{Element, Listed, Segment, Traj};
+
+// Ellipsoids of these half axes, with nobody who strays or is late.
+const STILL: Clearance = Clearance {
+    r: 120,
+    h: 300,
+    stray: 0,
+    late: 0,
+    reach: [0, 0, 0],
+};
 
 // From rest to rest.
 fn moved(from: i16, to: i16) -> Element {
@@ -80,13 +90,12 @@ fn three(alloc: Global) -> Result<Curves, AllocError> {
 }
 
 // A text judged byte by byte.
-fn judged(curves: &Curves, r: u16, h: u16, text: &[u8]) -> Verdict
-    requires r { IsAxis r }
-    requires h { IsAxis h }
+fn judged(curves: &Curves, clearance: Clearance, text: &[u8]) -> Verdict
+    requires clearance { IsClearance clearance }
     requires short { length text.now ≤ most_bytes }
-    ensures { VerdictGives curves.now r h text.now result }
+    ensures { VerdictGives curves.now clearance text.now result }
 {
-    let mut checker = Checker::make(r, h);
+    let mut checker = Checker::make(clearance);
     for byte in text {
         checker.feed(curves, *byte);
     }
@@ -109,7 +118,7 @@ fn becomes(curves: &Curves, text: &[u8]) -> Outcome {
     if text.len() > 1_000_000 {
         return Outcome::Other;
     }
-    match judged(curves, 120, 300, text) {
+    match judged(curves, STILL, text) {
         Verdict::Valid { depth, trees } => Outcome::Valid(depth, trees),
         Verdict::Line { line } => Outcome::Line(line),
         Verdict::Refused { fault, .. } => fault_of(fault),
@@ -296,9 +305,9 @@ fn a_hundred_thousand_splits(rt: HostRuntime) -> Result<(), Fail> {
 #[test]
 fn the_version_of_a_fault(rt: HostRuntime) -> Result<(), Fail> {
     let curves = two(rt.alloc())?;
-    let old = judged(&curves, 120, 300, b"certificate 6\nr");
+    let old = judged(&curves, STILL, b"certificate 6\nr");
     assert!(rt; matches!(old, Verdict::Refused { version: 1, .. }));
-    let wide = judged(&curves, 120, 300, b"version 2\ncertificate 6\n58");
+    let wide = judged(&curves, STILL, b"version 2\ncertificate 6\n58");
     assert!(rt; matches!(wide, Verdict::Refused { version: 2, .. }));
     // drones that are 1 m apart, with ellipsoids as wide as that
     let near = judged(&curves, 500, 500, b"certificate 6\nr\nl\na\n");

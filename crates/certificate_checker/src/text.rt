@@ -36,7 +36,7 @@ impl TextReader {
     pub fn take(&mut self, curves: &Curves, tables: &Tables, byte: u8)
         requires reader { IsTextReader curves.now self.old }
         requires few { AreFew most_bytes (checking_of self.old).reading }
-        ensures read { checking_of self.new ≡ checked tables.now.r tables.now.h curves.now (checking_of self.old) byte }
+        ensures read { checking_of self.new ≡ checked tables.now curves.now (checking_of self.old) byte }
         ensures reader { IsTextReader curves.now self.new }
     {
         if byte == b'\n' {
@@ -59,7 +59,7 @@ impl TextReader {
     pub fn verdict(&mut self, curves: &Curves, tables: &Tables) -> Verdict
         requires reader { IsTextReader curves.now self.old }
         requires few { AreFew most_bytes (checking_of self.old).reading }
-        ensures verdict { result ≡ verdict_of curves.now (closed tables.now.r tables.now.h curves.now (checking_of self.old)) }
+        ensures verdict { result ≡ verdict_of curves.now (closed tables.now curves.now (checking_of self.old)) }
         ensures reader { IsTextReader curves.now self.new }
     {
         if self.begun {

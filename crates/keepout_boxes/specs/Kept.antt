@@ -34,7 +34,11 @@ abbrev pub IsNear : Region → Type 0
 IsNear (Keepout low high) = AreEnds low × AreEnds high
 IsNear (Volume low high) = AreEnds low × AreEnds high
 
--- the half axis of the ellipsoids on an axis: r on x and y, h on z
+-- A drone takes 1 to 3,000 millimetres to each side of its curve: the half axis of its ellipsoid, and its stray.
+abbrev pub IsExtent : ℕ → Type 0
+IsExtent r = (1 ≤ r) × (r ≤ 3000)
+
+-- how much a drone takes on an axis: r on x and y, h on z
 abbrev pub extent : ℕ → ℕ → ℕ → ℤ
 extent r h axis = at (pos r ∷ pos r ∷ pos h ∷ []) axis
 

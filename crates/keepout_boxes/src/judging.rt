@@ -1,8 +1,7 @@
 //! The judge.
 
 ghost use Rattle.std.specs.Prelude.{◌≡◌, ℕ, ◌*◌, ◌^◌, ◌≤◌, ◌<◌, pos, length, All, MatchOption};
-ghost use Rattle.sep_parts.specs.Directions.{IsAxis};
-ghost use Rattle.keepout_boxes.specs.Kept.{IsNear, JudgeGives, StaysClear, most_regions};
+ghost use Rattle.keepout_boxes.specs.Kept.{IsExtent, IsNear, JudgeGives, StaysClear, most_regions};
 ghost use Rattle.keepout_boxes.specs.Steps.{CueKept, DroneKept, IsFirstOfCue, IsFirstOfDrone, IsFirstOfRegion, RegionKept};
 
 use crate::region::Region;
@@ -32,8 +31,8 @@ pub enum Judged {
 /// each closed keepout, widened by the ellipsoid's extents, and inside of each volume, narrowed by them, at each
 /// instant p / q of the show, for all whole numbers p and q. Takes no memory.
 pub fn judge(curves: &Curves, r: u16, h: u16, depth: u8, regions: &Vec<Region>) -> Judged
-    requires r { IsAxis r }
-    requires h { IsAxis h }
+    requires r { IsExtent r }
+    requires h { IsExtent h }
     requires depth { depth ≤ 8 }
     requires few { length regions.now.items ≤ most_regions }
     requires near { All IsNear regions.now.items }
@@ -63,8 +62,8 @@ fn entry_of_region(
     depth: u8,
 ) -> Option<(u8, u16, u16)>
     requires near { IsNear region.now }
-    requires r { IsAxis r }
-    requires h { IsAxis h }
+    requires r { IsExtent r }
+    requires h { IsExtent h }
     requires depth { depth ≤ 8 }
     ensures { MatchOption result (RegionKept curves.now r h depth region.now curves.now.drones)
         (λ entry. IsFirstOfRegion curves.now r h depth region.now entry.0 entry.1 entry.2) }
@@ -88,8 +87,8 @@ fn entry_of_drone(
 ) -> Option<(u16, u16)>
     requires drone { drone < curves.now.drones }
     requires near { IsNear region.now }
-    requires r { IsAxis r }
-    requires h { IsAxis h }
+    requires r { IsExtent r }
+    requires h { IsExtent h }
     requires depth { depth ≤ 8 }
     ensures { MatchOption result (DroneKept curves.now r h depth region.now drone curves.now.cues)
         (λ entry. IsFirstOfDrone curves.now r h depth region.now drone entry.0 entry.1) }
@@ -115,8 +114,8 @@ fn first_part(
     requires drone { drone < curves.now.drones }
     requires cue { cue < curves.now.cues }
     requires near { IsNear region.now }
-    requires r { IsAxis r }
-    requires h { IsAxis h }
+    requires r { IsExtent r }
+    requires h { IsExtent h }
     requires depth { depth ≤ 8 }
     ensures { MatchOption result (CueKept curves.now r h depth region.now drone cue)
         (IsFirstOfCue curves.now r h depth region.now drone cue) }

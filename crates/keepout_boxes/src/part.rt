@@ -3,9 +3,8 @@
 ghost use Rattle.std.specs.Prelude.{◌≡◌, ◌⊎◌, ◌↔◌, ℕ, ◌+◌, ◌*◌, ◌^◌, ◌≤◌, ◌<◌, ℤ, pos, ◌+ℤ◌, ◌-ℤ◌, ◌*ℤ◌, ◌≤ℤ◌, ◌<ℤ◌, IsTrue, All};
 ghost use Rattle.fleet_math.specs.Numbers.{IsBelow, IsIn};
 ghost use Rattle.fleet_math.specs.Bernstein.{at};
-ghost use Rattle.keepout_boxes.specs.Kept.{AllAbove, AllBelow, AllBetween, AreEnds, IsKept, IsNear};
+ghost use Rattle.keepout_boxes.specs.Kept.{AllAbove, AllBelow, AllBetween, AreEnds, IsExtent, IsKept, IsNear};
 ghost use Rattle.keepout_boxes.specs.Steps.{values_of};
-ghost use Rattle.sep_parts.specs.Directions.{IsAxis};
 
 use crate::region::Region;
 use bezier_core::Bez;
@@ -14,8 +13,8 @@ use bezier_core::Bez;
 /// control values.
 pub fn is_kept(part: &[Bez<8>; 3], region: &Region, r: u16, h: u16, scale: i128) -> bool
     requires near { IsNear region.now }
-    requires r { IsAxis r }
-    requires h { IsAxis h }
+    requires r { IsExtent r }
+    requires h { IsExtent h }
     requires scale { IsIn (pos 0) (pos (2 ^ 70)) scale }
     ensures { IsTrue result ↔ IsKept r h region.now (values_of part.now) scale }
 {
@@ -29,8 +28,8 @@ pub fn is_kept(part: &[Bez<8>; 3], region: &Region, r: u16, h: u16, scale: i128)
 fn is_out(part: &[Bez<8>; 3], low: [i32; 3], high: [i32; 3], r: u16, h: u16, scale: i128) -> bool
     requires low { AreEnds low }
     requires high { AreEnds high }
-    requires r { IsAxis r }
-    requires h { IsAxis h }
+    requires r { IsExtent r }
+    requires h { IsExtent h }
     requires scale { IsIn (pos 0) (pos (2 ^ 70)) scale }
     ensures { IsTrue result ↔ IsKept r h (Region.Keepout low high) (values_of part.now) scale }
 {
@@ -47,8 +46,8 @@ fn is_out(part: &[Bez<8>; 3], low: [i32; 3], high: [i32; 3], r: u16, h: u16, sca
 fn is_in(part: &[Bez<8>; 3], low: [i32; 3], high: [i32; 3], r: u16, h: u16, scale: i128) -> bool
     requires low { AreEnds low }
     requires high { AreEnds high }
-    requires r { IsAxis r }
-    requires h { IsAxis h }
+    requires r { IsExtent r }
+    requires h { IsExtent h }
     requires scale { IsIn (pos 0) (pos (2 ^ 70)) scale }
     ensures { IsTrue result ↔ IsKept r h (Region.Volume low high) (values_of part.now) scale }
 {
@@ -65,7 +64,7 @@ fn is_in(part: &[Bez<8>; 3], low: [i32; 3], high: [i32; 3], r: u16, h: u16, scal
 fn is_clear(curve: &Bez<8>, low: i32, high: i32, wider: u16, scale: i128) -> bool
     requires low { IsBelow 40001 low }
     requires high { IsBelow 40001 high }
-    requires wider { IsAxis wider }
+    requires wider { IsExtent wider }
     requires scale { IsIn (pos 0) (pos (2 ^ 70)) scale }
     ensures { IsTrue result ↔ (AllBelow (at curve.now.b) ((low -ℤ pos wider) *ℤ scale)
         ⊎ AllAbove (at curve.now.b) ((high +ℤ pos wider) *ℤ scale)) }
@@ -80,7 +79,7 @@ fn is_clear(curve: &Bez<8>, low: i32, high: i32, wider: u16, scale: i128) -> boo
 fn is_between(curve: &Bez<8>, low: i32, high: i32, narrower: u16, scale: i128) -> bool
     requires low { IsBelow 40001 low }
     requires high { IsBelow 40001 high }
-    requires narrower { IsAxis narrower }
+    requires narrower { IsExtent narrower }
     requires scale { IsIn (pos 0) (pos (2 ^ 70)) scale }
     ensures { IsTrue result ↔ AllBetween (at curve.now.b)
         ((low +ℤ pos narrower) *ℤ scale) ((high -ℤ pos narrower) *ℤ scale) }
@@ -95,7 +94,7 @@ fn is_between(curve: &Bez<8>, low: i32, high: i32, narrower: u16, scale: i128) -
 // A border and so much more, at a scale.
 fn more(border: i32, by: u16, scale: i128) -> i128
     requires near { IsBelow 40001 border }
-    requires by { IsAxis by }
+    requires by { IsExtent by }
     requires scale { IsIn (pos 0) (pos (2 ^ 70)) scale }
     ensures { result ≡ (border +ℤ pos by) *ℤ scale }
 {
@@ -105,7 +104,7 @@ fn more(border: i32, by: u16, scale: i128) -> i128
 // A border and so much less, at a scale.
 fn less(border: i32, by: u16, scale: i128) -> i128
     requires near { IsBelow 40001 border }
-    requires by { IsAxis by }
+    requires by { IsExtent by }
     requires scale { IsIn (pos 0) (pos (2 ^ 70)) scale }
     ensures { result ≡ (border -ℤ pos by) *ℤ scale }
 {
@@ -114,7 +113,7 @@ fn less(border: i32, by: u16, scale: i128) -> i128
 
 // A limit at a scale.
 fn scaled(limit: i32, scale: i128) -> i128
-    requires limit { IsBelow 42001 limit }
+    requires limit { IsBelow 43001 limit }
     requires scale { IsIn (pos 0) (pos (2 ^ 70)) scale }
     ensures { result ≡ limit *ℤ scale }
 {

@@ -4,8 +4,7 @@ ghost use Rattle.std.specs.Prelude.{◌≡◌, ◌-◌, ◌*◌, ◌^◌, ◌≤
 ghost use Rattle.std.specs.Option.{option_map};
 ghost use Rattle.fleet_math.specs.Numbers.{IsIn};
 ghost use Rattle.bezier_core.specs.Steps.{IsWithin};
-ghost use Rattle.sep_parts.specs.Directions.{IsAxis};
-ghost use Rattle.keepout_boxes.specs.Kept.{IsNear};
+ghost use Rattle.keepout_boxes.specs.Kept.{IsExtent, IsNear};
 ghost use Rattle.keepout_boxes.specs.Steps.{AllKeptIn, IsFirstIn, IsIndex};
 
 use crate::part::is_kept;
@@ -24,8 +23,8 @@ pub fn first_entering(
     depth: u8,
 ) -> Option<u16>
     requires near { IsNear region.now }
-    requires r { IsAxis r }
-    requires h { IsAxis h }
+    requires r { IsExtent r }
+    requires h { IsExtent h }
     requires depth { depth ≤ 8 }
     requires scale { IsIn (pos 0) (pos (2 ^ (70 - 7 * depth))) scale }
     requires values { All (λ curve. All (IsWithin (pos (2 ^ (84 - 7 * depth)))) curve.b) part.now }

@@ -11,6 +11,7 @@ use Rattle.halving.specs.declared.Place.{Place}
 use Rattle.halving.specs.Part.{part_value}
 use Rattle.halving.proofs.PolarLemmas.{polar-mix, polar-same}
 use Rattle.halving.proofs.SeparationLemmas.{half-at_least}
+use Rattle.sep_parts.specs.declared.clearance.Clearance.{Clearance}
 use Rattle.sep_parts.specs.Directions.{direction_of, threshold}
 use Rattle.std.proofs.lemmas.List.Quantifiers.{position-Some}
 use Rattle.sep_parts.specs.Separates.{Separates, least_value, low_value, part_along}
@@ -43,42 +44,42 @@ next_least t e k small =
     scaled p = omega arith
 
 -- where a direction separates a place, it separates each of its halves
-half-separates : (r h : ℕ) (diff : List (Bez 8)) (n : List ℤ) (e m side : ℕ) → side ≤ 1 → Separates r h diff (record { depth = e; index = m }) n → Separates r h diff (record { depth = suc e; index = 2 * m + side }) n
-half-separates r h diff n e m side small separates k within =
-    let u : ℤ = at n 0 *ℤ pos h in
-    let v : ℤ = at n 1 *ℤ pos h in
-    let w : ℤ = at n 2 *ℤ pos r in
+half-separates : (c : Clearance) (diff : List (Bez 8)) (n : List ℤ) (e m side : ℕ) → side ≤ 1 → Separates c diff (record { depth = e; index = m }) n → Separates c diff (record { depth = suc e; index = 2 * m + side }) n
+half-separates c diff n e m side small separates k within =
+    let u : ℤ = at n 0 *ℤ pos c.h in
+    let v : ℤ = at n 1 *ℤ pos c.h in
+    let w : ℤ = at n 2 *ℤ pos c.r in
     let x : ℕ → ℤ = at (controls diff 0) in
     let y : ℕ → ℤ = at (controls diff 1) in
     let z : ℕ → ℤ = at (controls diff 2) in
-    let t : ℤ = threshold r h n in
+    let t : ℤ = threshold c n in
     let above : (i : ℕ) → i ≤ 7 → least_value t e ≤ℤ part_value e m (λ i. u *ℤ x i +ℤ v *ℤ y i +ℤ w *ℤ z i) i =
     λ i near. rw (part-sum e m i u v w x y z) (separates i near) in
     let half : ((least_value t e *ℤ power (pos 2) k) *ℤ power (pos 2) (7 - k)) ≤ℤ part_value (suc e) (2 * m + side) (λ i. u *ℤ x i +ℤ v *ℤ y i +ℤ w *ℤ z i) k =
     half-at_least e m side k (λ i. u *ℤ x i +ℤ v *ℤ y i +ℤ w *ℤ z i) (least_value t e) small within above in
     rw (← next_least t e k within, ← part-sum (suc e) (2 * m + side) k u v w x y z) half
 
-pub left-separates : (r h : ℕ) (diff : List (Bez 8)) (n : List ℤ) (p : Place) → Separates r h diff p n → Separates r h diff (left_half p) n
-left-separates r h diff n p separates =
+pub left-separates : (c : Clearance) (diff : List (Bez 8)) (n : List ℤ) (p : Place) → Separates c diff p n → Separates c diff (left_half p) n
+left-separates c diff n p separates =
     let up : p.depth + 1 ≡ suc p.depth = omega arith in
     let same : 2 * p.index ≡ 2 * p.index + 0 = omega arith in
-    rw (up, same) (half-separates r h diff n p.depth p.index 0 (omega arith) separates)
+    rw (up, same) (half-separates c diff n p.depth p.index 0 (omega arith) separates)
 
-pub right-separates : (r h : ℕ) (diff : List (Bez 8)) (n : List ℤ) (p : Place) → Separates r h diff p n → Separates r h diff (right_half p) n
-right-separates r h diff n p separates =
+pub right-separates : (c : Clearance) (diff : List (Bez 8)) (n : List ℤ) (p : Place) → Separates c diff p n → Separates c diff (right_half p) n
+right-separates c diff n p separates =
     let up : p.depth + 1 ≡ suc p.depth = omega arith in
-    rw up (half-separates r h diff n p.depth p.index 1 (omega arith) separates)
+    rw up (half-separates c diff n p.depth p.index 1 (omega arith) separates)
 
 -- ---- places with a direction
 -- where there is a first direction, it separates the place
-pub first-separates : (r h : ℕ) (diff : List (Bez 8)) (dirs : List (List ℤ)) (p : Place) (dir : ℕ) → first_direction r h diff dirs p ≡ Some dir → (dir < length dirs) × Separates r h diff p (direction_of dirs dir)
+pub first-separates : (c : Clearance) (diff : List (Bez 8)) (dirs : List (List ℤ)) (p : Place) (dir : ℕ) → first_direction c diff dirs p ≡ Some dir → (dir < length dirs) × Separates c diff p (direction_of dirs dir)
 unfolding first_direction
-first-separates r h diff dirs p dir e =
-    let found : (dir < length dirs) × (is_none (low_value r h diff p (get_or dirs dir [])) ≡ true) × ((k : ℕ) → k < dir → is_none (low_value r h diff p (get_or dirs k [])) ≡ false) =
-    position-Some (λ n. is_none (low_value r h diff p n)) dirs dir [] e in (
+first-separates c diff dirs p dir e =
+    let found : (dir < length dirs) × (is_none (low_value c diff p (get_or dirs dir [])) ≡ true) × ((k : ℕ) → k < dir → is_none (low_value c diff p (get_or dirs k [])) ≡ false) =
+    position-Some (λ n. is_none (low_value c diff p n)) dirs dir [] e in (
       found.0,
-      first_low-values (part_along r h diff p (get_or dirs dir [])) (least_value (threshold r h (get_or dirs dir [])) p.depth)
-          (is_nothing (low_value r h diff p (get_or dirs dir [])) found.1),
+      first_low-values (part_along c.r c.h diff p (get_or dirs dir [])) (least_value (threshold c (get_or dirs dir [])) p.depth)
+          (is_nothing (low_value c diff p (get_or dirs dir [])) found.1),
     )
   where
     is_nothing : (o : Option ℕ) → is_none o ≡ true → o ≡ None
@@ -86,18 +87,18 @@ first-separates r h diff dirs p dir e =
     is_nothing (Some k) e = cc
 
 -- where some direction separates a place, there is a first one
-pub first-there : (r h : ℕ) (diff : List (Bez 8)) (dirs : List (List ℤ)) (p : Place) (dir : ℕ) → dir < length dirs → Separates r h diff p (direction_of dirs dir) → Has (first_direction r h diff dirs) p
+pub first-there : (c : Clearance) (diff : List (Bez 8)) (dirs : List (List ℤ)) (p : Place) (dir : ℕ) → dir < length dirs → Separates c diff p (direction_of dirs dir) → Has (first_direction c diff dirs) p
 unfolding first_direction
-first-there r h diff dirs p dir inside separates =
-    position-there (λ n. is_none (low_value r h diff p n)) dirs dir [] inside
-    (ap is_none (first_low-none (part_along r h diff p (get_or dirs dir [])) (least_value (threshold r h (get_or dirs dir [])) p.depth) separates))
+first-there c diff dirs p dir inside separates =
+    position-there (λ n. is_none (low_value c diff p n)) dirs dir [] inside
+    (ap is_none (first_low-none (part_along c.r c.h diff p (get_or dirs dir [])) (least_value (threshold c (get_or dirs dir [])) p.depth) separates))
 
-pub left_has : (r h : ℕ) (diff : List (Bez 8)) (dirs : List (List ℤ)) (p : Place) → Has (first_direction r h diff dirs) p → Has (first_direction r h diff dirs) (left_half p)
-left_has r h diff dirs p has =
-    let told : (has.0 < length dirs) × Separates r h diff p (direction_of dirs has.0) = first-separates r h diff dirs p has.0 has.1 in
-    first-there r h diff dirs (left_half p) has.0 told.0 (left-separates r h diff (direction_of dirs has.0) p told.1)
+pub left_has : (c : Clearance) (diff : List (Bez 8)) (dirs : List (List ℤ)) (p : Place) → Has (first_direction c diff dirs) p → Has (first_direction c diff dirs) (left_half p)
+left_has c diff dirs p has =
+    let told : (has.0 < length dirs) × Separates c diff p (direction_of dirs has.0) = first-separates c diff dirs p has.0 has.1 in
+    first-there c diff dirs (left_half p) has.0 told.0 (left-separates c diff (direction_of dirs has.0) p told.1)
 
-pub right_has : (r h : ℕ) (diff : List (Bez 8)) (dirs : List (List ℤ)) (p : Place) → Has (first_direction r h diff dirs) p → Has (first_direction r h diff dirs) (right_half p)
-right_has r h diff dirs p has =
-    let told : (has.0 < length dirs) × Separates r h diff p (direction_of dirs has.0) = first-separates r h diff dirs p has.0 has.1 in
-    first-there r h diff dirs (right_half p) has.0 told.0 (right-separates r h diff (direction_of dirs has.0) p told.1)
+pub right_has : (c : Clearance) (diff : List (Bez 8)) (dirs : List (List ℤ)) (p : Place) → Has (first_direction c diff dirs) p → Has (first_direction c diff dirs) (right_half p)
+right_has c diff dirs p has =
+    let told : (has.0 < length dirs) × Separates c diff p (direction_of dirs has.0) = first-separates c diff dirs p has.0 has.1 in
+    first-there c diff dirs (right_half p) has.0 told.0 (right-separates c diff (direction_of dirs has.0) p told.1)

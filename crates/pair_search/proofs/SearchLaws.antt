@@ -6,6 +6,7 @@ use Rattle.std.proofs.lemmas.List.Quantifiers.{position-Some}
 use Rattle.std.specs.declared.alloc.AllocError.{AllocError}
 use Rattle.bezier_core.specs.declared.Bez.{Bez}
 use Rattle.halving.specs.declared.Place.{Place}
+use Rattle.sep_parts.specs.declared.clearance.Clearance.{Clearance}
 use Rattle.sep_parts.specs.Directions.{direction_of, threshold}
 use Rattle.sep_parts.specs.Separates.{Separates, least_value, low_value, part_along}
 use Rattle.sep_parts.specs.Levels.{left_half, right_half, root}
@@ -27,20 +28,20 @@ fails : (o : Option ℕ) → (o ≡ None → ⊥) → is_none o ≡ false
 fails None e = absurd (e refl)
 fails (Some k) e = refl
 
-first_law : (r h : ℕ) (diff : List (Bez 8)) (dirs : List (List ℤ)) (place : Place) (dir : ℕ) → (first_direction r h diff dirs place ≡ Some dir) ↔ IsFirstDirection r h diff dirs place dir
+first_law : (c : Clearance) (diff : List (Bez 8)) (dirs : List (List ℤ)) (place : Place) (dir : ℕ) → (first_direction c diff dirs place ≡ Some dir) ↔ IsFirstDirection c diff dirs place dir
 unfolding first_direction
-first_law r h diff dirs place dir = (
+first_law c diff dirs place dir = (
   λ e. record {
-    inside = (first-separates r h diff dirs place dir e).0;
-    separates = (first-separates r h diff dirs place dir e).1;
-    none_before = λ k before separates. clash (is_none (low_value r h diff place (get_or dirs k [])))
-        ((position-Some (λ n. is_none (low_value r h diff place n)) dirs dir [] e).2 k before)
-        (ap is_none (first_low-none (part_along r h diff place (get_or dirs k [])) (least_value (threshold r h (get_or dirs k [])) place.depth) separates));
+    inside = (first-separates c diff dirs place dir e).0;
+    separates = (first-separates c diff dirs place dir e).1;
+    none_before = λ k before separates. clash (is_none (low_value c diff place (get_or dirs k [])))
+        ((position-Some (λ n. is_none (low_value c diff place n)) dirs dir [] e).2 k before)
+        (ap is_none (first_low-none (part_along c.r c.h diff place (get_or dirs k [])) (least_value (threshold c (get_or dirs k [])) place.depth) separates));
   },
-  λ is. position-is (λ n. is_none (low_value r h diff place n)) dirs dir [] is.inside
-      (λ k before. fails (low_value r h diff place (get_or dirs k []))
-      (λ none. is.none_before k before (first_low-values (part_along r h diff place (get_or dirs k [])) (least_value (threshold r h (get_or dirs k [])) place.depth) none)))
-      (ap is_none (first_low-none (part_along r h diff place (get_or dirs dir [])) (least_value (threshold r h (get_or dirs dir [])) place.depth) is.separates)),
+  λ is. position-is (λ n. is_none (low_value c diff place n)) dirs dir [] is.inside
+      (λ k before. fails (low_value c diff place (get_or dirs k []))
+      (λ none. is.none_before k before (first_low-values (part_along c.r c.h diff place (get_or dirs k [])) (least_value (threshold c (get_or dirs k [])) place.depth) none)))
+      (ap is_none (first_low-none (part_along c.r c.h diff place (get_or dirs dir [])) (least_value (threshold c (get_or dirs dir [])) place.depth) is.separates)),
 )
   where
     clash : (b : Bool) → b ≡ false → b ≡ true → ⊥
@@ -73,55 +74,55 @@ first_without-told f (suc n) k = go (f k) refl (first_without-told f n (suc k))
     go None e told = rw e (omega arith, e, λ j from to. absurd (omega arith))
     go (Some dir) e told = rw e (told_more f n k dir (first_without f n (suc k)) e told)
 
-module _ (r h : ℕ) (diff : List (Bez 8)) (dirs : List (List ℤ)) (depth : ℕ) where
+module _ (c : Clearance) (diff : List (Bez 8)) (dirs : List (List ℤ)) (depth : ℕ) where
   first : Place → Option ℕ
-  first = first_direction r h diff dirs
+  first = first_direction c diff dirs
 
-  has_of : (place : Place) → HasDirection r h diff dirs place → Has (first_direction r h diff dirs) place
-  has_of place has = first-there r h diff dirs place has.0 has.1 has.2
+  has_of : (place : Place) → HasDirection c diff dirs place → Has (first_direction c diff dirs) place
+  has_of place has = first-there c diff dirs place has.0 has.1 has.2
 
-  direction_there : (place : Place) → Has (first_direction r h diff dirs) place → HasDirection r h diff dirs place
-  direction_there place has = (has.0, (first-separates r h diff dirs place has.0 has.1).0, (first-separates r h diff dirs place has.0 has.1).1)
+  direction_there : (place : Place) → Has (first_direction c diff dirs) place → HasDirection c diff dirs place
+  direction_there place has = (has.0, (first-separates c diff dirs place has.0 has.1).0, (first-separates c diff dirs place has.0 has.1).1)
 
-  pub clear_law : (blocked_place (first_direction r h diff dirs) depth ≡ None) ↔ IsClear r h diff dirs depth
+  pub clear_law : (blocked_place (first_direction c diff dirs) depth ≡ None) ↔ IsClear c diff dirs depth
   unfolding blocked_place
   clear_law = (
     λ none index inside. direction_there (place_at depth index) (told none index (omega arith) (omega arith)),
-    λ clear. first_without-none (λ index. first_direction r h diff dirs (place_at depth index)) (2 ^ depth) 0 (λ j below. has_of (place_at depth j) (clear j (omega arith))),
+    λ clear. first_without-none (λ index. first_direction c diff dirs (place_at depth index)) (2 ^ depth) 0 (λ j below. has_of (place_at depth j) (clear j (omega arith))),
   )
     where
-      told : first_without (λ index. first_direction r h diff dirs (place_at depth index)) (2 ^ depth) 0 ≡ None →
-          Told (λ index. first_direction r h diff dirs (place_at depth index)) (2 ^ depth) 0 None
-      told none = rw none at (first_without-told (λ index. first_direction r h diff dirs (place_at depth index)) (2 ^ depth) 0)
+      told : first_without (λ index. first_direction c diff dirs (place_at depth index)) (2 ^ depth) 0 ≡ None →
+          Told (λ index. first_direction c diff dirs (place_at depth index)) (2 ^ depth) 0 None
+      told none = rw none at (first_without-told (λ index. first_direction c diff dirs (place_at depth index)) (2 ^ depth) 0)
 
-  pub blocked_law : (index : ℕ) → (blocked_place (first_direction r h diff dirs) depth ≡ Some index) ↔ IsFirstBlocked r h diff dirs depth index
+  pub blocked_law : (index : ℕ) → (blocked_place (first_direction c diff dirs) depth ≡ Some index) ↔ IsFirstBlocked c diff dirs depth index
   unfolding blocked_place
   blocked_law index = (
     λ some. record {
       inside = omega (arith, (told some).0);
-      blocked = λ has. clash (first_direction r h diff dirs (place_at depth index)) (has_of (place_at depth index) has) (told some).1;
+      blocked = λ has. clash (first_direction c diff dirs (place_at depth index)) (has_of (place_at depth index) has) (told some).1;
       clear_before = λ k before. direction_there (place_at depth k) ((told some).2 k (omega arith) before);
     },
-    λ is. first_without-some (λ index. first_direction r h diff dirs (place_at depth index)) (2 ^ depth) 0 index (omega arith) (omega (arith, is.inside))
-        (none_of (first_direction r h diff dirs (place_at depth index)) refl is.blocked)
+    λ is. first_without-some (λ index. first_direction c diff dirs (place_at depth index)) (2 ^ depth) 0 index (omega arith) (omega (arith, is.inside))
+        (none_of (first_direction c diff dirs (place_at depth index)) refl is.blocked)
         (λ j before. has_of (place_at depth j) (is.clear_before j before)),
   )
     where
-      told : first_without (λ index. first_direction r h diff dirs (place_at depth index)) (2 ^ depth) 0 ≡ Some index →
-          Told (λ index. first_direction r h diff dirs (place_at depth index)) (2 ^ depth) 0 (Some index)
-      told some = rw some at (first_without-told (λ index. first_direction r h diff dirs (place_at depth index)) (2 ^ depth) 0)
+      told : first_without (λ index. first_direction c diff dirs (place_at depth index)) (2 ^ depth) 0 ≡ Some index →
+          Told (λ index. first_direction c diff dirs (place_at depth index)) (2 ^ depth) 0 (Some index)
+      told some = rw some at (first_without-told (λ index. first_direction c diff dirs (place_at depth index)) (2 ^ depth) 0)
 
       clash : (o : Option ℕ) → (dir : ℕ) × (o ≡ Some dir) → o ≡ None → ⊥
       clash None has e = cc
       clash (Some k) has e = cc
 
-      none_of : (o : Option ℕ) → first_direction r h diff dirs (place_at depth index) ≡ o → (HasDirection r h diff dirs (place_at depth index) → ⊥) → first_direction r h diff dirs (place_at depth index) ≡ None
+      none_of : (o : Option ℕ) → first_direction c diff dirs (place_at depth index) ≡ o → (HasDirection c diff dirs (place_at depth index) → ⊥) → first_direction c diff dirs (place_at depth index) ≡ None
       none_of None e lacks = e
       none_of (Some dir) e lacks = absurd (lacks (direction_there (place_at depth index) (dir, e)))
 
 -- ---- the best tree is valid
 module _ (rules : Rules) (diff : List (Bez 8)) (dirs : List (List ℤ)) where
-  leaf_valid : (place : Place) (dir : ℕ) (tree : Tree) → Separates rules.r rules.h diff place (direction_of dirs dir) → Some (leaf dir) ≡ Some tree → IsValidTree rules dirs diff place tree
+  leaf_valid : (place : Place) (dir : ℕ) (tree : Tree) → Separates rules.clearance diff place (direction_of dirs dir) → Some (leaf dir) ≡ Some tree → IsValidTree rules dirs diff place tree
   leaf_valid place dir (leaf d) separates e = let same : dir ≡ d = cc in rw (← same) separates
   leaf_valid place dir (split left right) separates e = cc
 
@@ -135,23 +136,23 @@ module _ (rules : Rules) (diff : List (Bez 8)) (dirs : List (List ℤ)) where
       (shallow, left_valid left (let same : l ≡ left = cc in ap Some same), right_valid right (let same : r ≡ right = cc in ap Some same))
 
   best-valid : (n : ℕ) (place : Place) (tree : Tree) → place.depth + n ≤ rules.depth →
-      best_tree (first_direction rules.r rules.h diff dirs) n place ≡ Some tree → IsValidTree rules dirs diff place tree
-  best-valid zero place tree deep is = go (first_direction rules.r rules.h diff dirs place) refl is
+      best_tree (first_direction rules.clearance diff dirs) n place ≡ Some tree → IsValidTree rules dirs diff place tree
+  best-valid zero place tree deep is = go (first_direction rules.clearance diff dirs place) refl is
     where
-      go : (o : Option ℕ) → first_direction rules.r rules.h diff dirs place ≡ o → option_map leaf o ≡ Some tree → IsValidTree rules dirs diff place tree
+      go : (o : Option ℕ) → first_direction rules.clearance diff dirs place ≡ o → option_map leaf o ≡ Some tree → IsValidTree rules dirs diff place tree
       go None e is = cc
-      go (Some dir) e is = leaf_valid place dir tree (first-separates rules.r rules.h diff dirs place dir e).1 is
+      go (Some dir) e is = leaf_valid place dir tree (first-separates rules.clearance diff dirs place dir e).1 is
   best-valid (suc n) place tree deep is =
-      go (first_direction rules.r rules.h diff dirs place) refl is
-      (split_valid place (best_tree (first_direction rules.r rules.h diff dirs) n (left_half place)) (best_tree (first_direction rules.r rules.h diff dirs) n (right_half place)) tree (omega arith)
+      go (first_direction rules.clearance diff dirs place) refl is
+      (split_valid place (best_tree (first_direction rules.clearance diff dirs) n (left_half place)) (best_tree (first_direction rules.clearance diff dirs) n (right_half place)) tree (omega arith)
       (λ t e. best-valid n (left_half place) t (omega arith) e) (λ t e. best-valid n (right_half place) t (omega arith) e))
     where
-      go : (o : Option ℕ) → first_direction rules.r rules.h diff dirs place ≡ o →
-          option_or (option_map leaf o) (split_of (best_tree (first_direction rules.r rules.h diff dirs) n (left_half place)) (best_tree (first_direction rules.r rules.h diff dirs) n (right_half place))) ≡ Some tree →
-          (split_of (best_tree (first_direction rules.r rules.h diff dirs) n (left_half place)) (best_tree (first_direction rules.r rules.h diff dirs) n (right_half place)) ≡ Some tree → IsValidTree rules dirs diff place tree) →
+      go : (o : Option ℕ) → first_direction rules.clearance diff dirs place ≡ o →
+          option_or (option_map leaf o) (split_of (best_tree (first_direction rules.clearance diff dirs) n (left_half place)) (best_tree (first_direction rules.clearance diff dirs) n (right_half place))) ≡ Some tree →
+          (split_of (best_tree (first_direction rules.clearance diff dirs) n (left_half place)) (best_tree (first_direction rules.clearance diff dirs) n (right_half place)) ≡ Some tree → IsValidTree rules dirs diff place tree) →
           IsValidTree rules dirs diff place tree
       go None e is halves = halves is
-      go (Some dir) e is halves = leaf_valid place dir tree (first-separates rules.r rules.h diff dirs place dir e).1 is
+      go (Some dir) e is halves = leaf_valid place dir tree (first-separates rules.clearance diff dirs place dir e).1 is
 
 -- ---- the leaves of the best tree are the largest parts with a direction
 given_twice : {o : Option ℕ} {d : ℕ} → o ≡ Some d → o ≡ None → ⊥
@@ -285,13 +286,13 @@ module _ (first : Place → Option ℕ) (left_has : (p : Place) → Has first p 
           (halves (best_tree first n (left_half place)) (best_tree first n (right_half place)) same lefts rights (nat_lt j (start n (2 * place.index + 1))) refl)
       go (Some d) e same lefts rights = all_have first left_has right_has (suc n) place j (d, e) from to
 
-there_law : (r h : ℕ) (diff : List (Bez 8)) (dirs : List (List ℤ)) (depth : ℕ) → ((tree : Tree) × (best_tree (first_direction r h diff dirs) depth root ≡ Some tree)) ↔ IsClear r h diff dirs depth
-there_law r h diff dirs depth = (
-  λ tree index inside. direction_there r h diff dirs depth (place_at depth index)
-      (subst (λ (d : ℕ). Has (first_direction r h diff dirs) (place_at d index)) (flat depth)
-      (there-clear (first_direction r h diff dirs) (left_has r h diff dirs) (right_has r h diff dirs) depth root tree.0 tree.1 index (rw (start-zero depth) (omega arith)) (rw (whole depth) inside))),
-  λ clear. clear-there (first_direction r h diff dirs) depth root
-      (λ j from to. subst (λ (d : ℕ). Has (first_direction r h diff dirs) (place_at d j)) (sym (flat depth)) (has_of r h diff dirs depth (place_at depth j) (clear j (rw (whole depth) at to)))),
+there_law : (c : Clearance) (diff : List (Bez 8)) (dirs : List (List ℤ)) (depth : ℕ) → ((tree : Tree) × (best_tree (first_direction c diff dirs) depth root ≡ Some tree)) ↔ IsClear c diff dirs depth
+there_law c diff dirs depth = (
+  λ tree index inside. direction_there c diff dirs depth (place_at depth index)
+      (subst (λ (d : ℕ). Has (first_direction c diff dirs) (place_at d index)) (flat depth)
+      (there-clear (first_direction c diff dirs) (left_has c diff dirs) (right_has c diff dirs) depth root tree.0 tree.1 index (rw (start-zero depth) (omega arith)) (rw (whole depth) inside))),
+  λ clear. clear-there (first_direction c diff dirs) depth root
+      (λ j from to. subst (λ (d : ℕ). Has (first_direction c diff dirs) (place_at d j)) (sym (flat depth)) (has_of c diff dirs depth (place_at depth j) (clear j (rw (whole depth) at to)))),
 )
   where
     flat : (depth : ℕ) → root.depth + depth ≡ depth
@@ -315,11 +316,11 @@ laws = record {
 }
 
 -- a search is clear exactly where each part of the depth has a direction
-pub clear_found : (r h : ℕ) (diff : List (Bez 8)) (dirs : List (List ℤ)) (depth : ℕ) (result : Result Found AllocError) (nodes : List Node) →
-    WalkGives (first_direction r h diff dirs) depth result nodes → IfOk result (λ (found : Found). (found ≡ Clear) ↔ IsClear r h diff dirs depth)
-clear_found r h diff dirs depth (Ok Clear) nodes gives = (λ e. (clear_law r h diff dirs depth).0 gives.0, λ clear. refl)
-clear_found r h diff dirs depth (Ok (Blocked index)) nodes gives = (λ e. cc, λ clear. absurd (none_some ((clear_law r h diff dirs depth).1 clear) gives))
+pub clear_found : (c : Clearance) (diff : List (Bez 8)) (dirs : List (List ℤ)) (depth : ℕ) (result : Result Found AllocError) (nodes : List Node) →
+    WalkGives (first_direction c diff dirs) depth result nodes → IfOk result (λ (found : Found). (found ≡ Clear) ↔ IsClear c diff dirs depth)
+clear_found c diff dirs depth (Ok Clear) nodes gives = (λ e. (clear_law c diff dirs depth).0 gives.0, λ clear. refl)
+clear_found c diff dirs depth (Ok (Blocked index)) nodes gives = (λ e. cc, λ clear. absurd (none_some ((clear_law c diff dirs depth).1 clear) gives))
   where
     none_some : {o : Option ℕ} → o ≡ None → o ≡ Some index → ⊥
     none_some {o} e f = cc
-clear_found r h diff dirs depth (Err e) nodes gives = tt
+clear_found c diff dirs depth (Err e) nodes gives = tt

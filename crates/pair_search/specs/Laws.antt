@@ -2,6 +2,7 @@
 use Rattle.std.specs.Prelude.{◌≡◌, ◌↔◌, ℕ, ◌^◌, ◌≤◌, ◌<◌, ℤ, Bool, true, false, List, [], ◌∷◌, length, take, Option, Some, None}
 use Rattle.bezier_core.specs.declared.Bez.{Bez}
 use Rattle.halving.specs.declared.Place.{Place}
+use Rattle.sep_parts.specs.declared.clearance.Clearance.{Clearance}
 use Rattle.sep_parts.specs.Directions.{direction_of}
 use Rattle.sep_parts.specs.Separates.{Separates}
 use Rattle.sep_parts.specs.Levels.{left_half, right_half, root}
@@ -10,16 +11,16 @@ use Rattle.sep_parts.specs.Trees.{Tree, leaf, split, IsValidTree}
 use Rattle.pair_search.specs.Search.{HasDirection, IsClear, best_tree, blocked_place, first_direction, place_at}
 
 -- the direction with this number separates the place, and none before it in the table does
-pub record IsFirstDirection (r h : ℕ) (diff : List (Bez 8)) (dirs : List (List ℤ)) (place : Place) (dir : ℕ) : Type 0 where
+pub record IsFirstDirection (c : Clearance) (diff : List (Bez 8)) (dirs : List (List ℤ)) (place : Place) (dir : ℕ) : Type 0 where
   pub inside : dir < length dirs
-  pub separates : Separates r h diff place (direction_of dirs dir)
-  pub none_before : (k : ℕ) → k < dir → Separates r h diff place (direction_of dirs k) → ⊥
+  pub separates : Separates c diff place (direction_of dirs dir)
+  pub none_before : (k : ℕ) → k < dir → Separates c diff place (direction_of dirs k) → ⊥
 
 -- the part of the depth with this index has no separating direction, and each part before it has one
-pub record IsFirstBlocked (r h : ℕ) (diff : List (Bez 8)) (dirs : List (List ℤ)) (depth index : ℕ) : Type 0 where
+pub record IsFirstBlocked (c : Clearance) (diff : List (Bez 8)) (dirs : List (List ℤ)) (depth index : ℕ) : Type 0 where
   pub inside : index < 2 ^ depth
-  pub blocked : HasDirection r h diff dirs (place_at depth index) → ⊥
-  pub clear_before : (k : ℕ) → k < index → HasDirection r h diff dirs (place_at depth k)
+  pub blocked : HasDirection c diff dirs (place_at depth index) → ⊥
+  pub clear_before : (k : ℕ) → k < index → HasDirection c diff dirs (place_at depth k)
 
 -- ---- the leaves of the best tree
 -- a half of a place: the second one where the side says so
@@ -49,15 +50,15 @@ pub record IsLargest (first : Place → Option ℕ) (place : Place) (way : List 
 -- best tree exactly where each part of the depth has a direction; it is valid at the depth, and its leaves are exactly the
 -- largest parts of at most that depth that have a direction, each with its first.
 pub record SearchLaw : Type 0 where
-  pub first : (r h : ℕ) (diff : List (Bez 8)) (dirs : List (List ℤ)) (place : Place) (dir : ℕ) →
-      (first_direction r h diff dirs place ≡ Some dir) ↔ IsFirstDirection r h diff dirs place dir
-  pub clear : (r h : ℕ) (diff : List (Bez 8)) (dirs : List (List ℤ)) (depth : ℕ) →
-      (blocked_place (first_direction r h diff dirs) depth ≡ None) ↔ IsClear r h diff dirs depth
-  pub blocked : (r h : ℕ) (diff : List (Bez 8)) (dirs : List (List ℤ)) (depth index : ℕ) →
-      (blocked_place (first_direction r h diff dirs) depth ≡ Some index) ↔ IsFirstBlocked r h diff dirs depth index
-  pub there : (r h : ℕ) (diff : List (Bez 8)) (dirs : List (List ℤ)) (depth : ℕ) →
-      ((tree : Tree) × (best_tree (first_direction r h diff dirs) depth root ≡ Some tree)) ↔ IsClear r h diff dirs depth
+  pub first : (c : Clearance) (diff : List (Bez 8)) (dirs : List (List ℤ)) (place : Place) (dir : ℕ) →
+      (first_direction c diff dirs place ≡ Some dir) ↔ IsFirstDirection c diff dirs place dir
+  pub clear : (c : Clearance) (diff : List (Bez 8)) (dirs : List (List ℤ)) (depth : ℕ) →
+      (blocked_place (first_direction c diff dirs) depth ≡ None) ↔ IsClear c diff dirs depth
+  pub blocked : (c : Clearance) (diff : List (Bez 8)) (dirs : List (List ℤ)) (depth index : ℕ) →
+      (blocked_place (first_direction c diff dirs) depth ≡ Some index) ↔ IsFirstBlocked c diff dirs depth index
+  pub there : (c : Clearance) (diff : List (Bez 8)) (dirs : List (List ℤ)) (depth : ℕ) →
+      ((tree : Tree) × (best_tree (first_direction c diff dirs) depth root ≡ Some tree)) ↔ IsClear c diff dirs depth
   pub valid : (rules : Rules) (diff : List (Bez 8)) (dirs : List (List ℤ)) (tree : Tree) →
-      best_tree (first_direction rules.r rules.h diff dirs) rules.depth root ≡ Some tree → IsValidTree rules dirs diff root tree
+      best_tree (first_direction rules.clearance diff dirs) rules.depth root ≡ Some tree → IsValidTree rules dirs diff root tree
   pub largest : (first : Place → Option ℕ) (depth : ℕ) (tree : Tree) → best_tree first depth root ≡ Some tree → (way : List Bool) (dir : ℕ) →
       (leaf_on tree way ≡ Some dir) ↔ ((length way ≤ depth) × IsLargest first root way dir)

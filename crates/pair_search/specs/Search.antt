@@ -5,6 +5,7 @@ use Rattle.std.specs.Option.{option_map, option_or}
 use Rattle.std.specs.declared.alloc.AllocError.{AllocError}
 use Rattle.bezier_core.specs.declared.Bez.{Bez}
 use Rattle.halving.specs.declared.Place.{Place}
+use Rattle.sep_parts.specs.declared.clearance.Clearance.{Clearance}
 use Rattle.sep_parts.specs.Directions.{direction_of}
 use Rattle.sep_parts.specs.Rulers.{Measure}
 use Rattle.sep_parts.specs.Separates.{Separates, low_value}
@@ -20,20 +21,20 @@ place_at depth index = record { depth = depth; index = index }
 
 -- The number of the first direction of a table that separates a place: along it none of the eight control values is below the
 -- threshold.
-unfoldable pub first_direction : ℕ → ℕ → List (Bez 8) → List (List ℤ) → Place → Option ℕ
-first_direction r h diff dirs place = position (λ n. is_none (low_value r h diff place n)) dirs
+unfoldable pub first_direction : Clearance → List (Bez 8) → List (List ℤ) → Place → Option ℕ
+first_direction c diff dirs place = position (λ n. is_none (low_value c diff place n)) dirs
 
 -- the same by a ruler
 abbrev pub first_by : Measure → List (Bez 8) → Place → Option ℕ
-first_by m diff = first_direction m.r m.h diff m.directions
+first_by m diff = first_direction m.clearance diff m.directions
 
 -- some direction of the table separates the place
-abbrev pub HasDirection : ℕ → ℕ → List (Bez 8) → List (List ℤ) → Place → Type 0
-HasDirection r h diff dirs place = (dir : ℕ) × (dir < length dirs) × Separates r h diff place (direction_of dirs dir)
+abbrev pub HasDirection : Clearance → List (Bez 8) → List (List ℤ) → Place → Type 0
+HasDirection c diff dirs place = (dir : ℕ) × (dir < length dirs) × Separates c diff place (direction_of dirs dir)
 
 -- each part of the depth has a separating direction
-abbrev pub IsClear : ℕ → ℕ → List (Bez 8) → List (List ℤ) → ℕ → Type 0
-IsClear r h diff dirs depth = (index : ℕ) → index < 2 ^ depth → HasDirection r h diff dirs (place_at depth index)
+abbrev pub IsClear : Clearance → List (Bez 8) → List (List ℤ) → ℕ → Type 0
+IsClear c diff dirs depth = (index : ℕ) → index < 2 ^ depth → HasDirection c diff dirs (place_at depth index)
 
 -- ---- the tree with the largest possible leaves
 -- the split of two trees, where both are there

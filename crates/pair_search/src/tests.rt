@@ -5,9 +5,18 @@ ghost use Rattle.fleet_math.specs.Numbers.{IsBelow};
 
 use super::*;
 use bezier_core::Bez;
-use sep_parts::{DIRECTIONS, Node, Ruler};
+use sep_parts::{Clearance, DIRECTIONS, Node, Ruler};
 use std::alloc::{AllocError, Global};
 use std::test::Fail;
+
+// Ellipsoids of these half axes, with nobody who strays or is late.
+const STILL: Clearance = Clearance {
+    r: 120,
+    h: 300,
+    stray: 0,
+    late: 0,
+    reach: [0, 0, 0],
+};
 
 // A raised curve of control values in millimetres.
 fn raised(mm: [i16; 8]) -> Bez<8>
@@ -51,7 +60,7 @@ fn searched(
 {
     let diff = [raised(x), raised(y), raised(z)];
     let mut nodes = Vec::new(alloc);
-    let found = search(&diff, &DIRECTIONS, 120, 300, depth, &mut nodes)?;
+    let found = search(&diff, &DIRECTIONS, STILL, depth, &mut nodes)?;
     Ok((found, nodes))
 }
 
@@ -66,7 +75,7 @@ fn searched_with(
     requires { depth ≤ 8 }
 {
     let diff = [raised(x), raised(y), raised(z)];
-    let ruler = Ruler::make(&DIRECTIONS, 120, 300);
+    let ruler = Ruler::make(&DIRECTIONS, STILL);
     let mut nodes = Vec::new(alloc);
     let found = search_with(&diff, &ruler, depth, &mut nodes)?;
     Ok((found, nodes))

@@ -2,7 +2,7 @@
 
 ghost use Rattle.std.specs.Prelude.{◌≡◌, ℕ, ◌+◌, ◌^◌, ◌≤◌, ◌<◌, ◌∷◌, ◌++◌, [], length, All, IfOk, OnOk, ◌↔◌};
 ghost use Rattle.fleet_math.specs.Numbers.{IsBelow};
-ghost use Rattle.sep_parts.specs.Directions.{AreSmall, IsAxis, IsTableSize};
+ghost use Rattle.sep_parts.specs.Directions.{AreSmall, IsClearance, IsTableSize};
 ghost use Rattle.sep_parts.specs.Levels.{IsLevel, IsStack, places_of, root};
 ghost use Rattle.sep_parts.specs.Trees.{places_below, IsShallow};
 ghost use Rattle.pair_search.specs.Search.{IsClear, SearchGives, first_by, first_direction};
@@ -12,7 +12,7 @@ ghost use Rattle.pair_search.specs.Steps.{WalkGives, node_for};
 use crate::first::first_direction;
 use bezier_core::Bez;
 use halving::Place;
-use sep_parts::{Dirs, Level, Node, Ruler, Stack, level_halves};
+use sep_parts::{Clearance, Dirs, Level, Node, Ruler, Stack, level_halves};
 use std::alloc::AllocError;
 
 /// What a search found.
@@ -25,8 +25,7 @@ pub enum Found {
     Blocked { index: u16 },
 }
 
-/// Searches the tree of a pair of drones in a cue, for ellipsoids of half axes `r`, `r` and `h` in millimetres. `diff` has the
-/// raised curves of the second drone less those of the first, `dirs` the table of directions, and `nodes` is empty.
+/// Searches the tree of a pair of drones in a cue, for a clearance. `diff` has the raised curves of the second drone less those of the first, `dirs` the table of directions, and `nodes` is empty.
 ///
 /// `Clear` exactly where each of the 2^`depth` parts of the cue has a separating direction. Then `nodes` is, in preorder, the
 /// tree with the largest possible leaves, each with the first direction in the order of the table that separates its part.
@@ -35,22 +34,20 @@ pub enum Found {
 pub fn search<const M: usize>(
     diff: &[Bez<8>; 3],
     dirs: &Dirs<M>,
-    r: u16,
-    h: u16,
+    clearance: Clearance,
     depth: u8,
     nodes: &mut Vec<Node>,
 ) -> Result<Found, AllocError>
     requires depth { depth ≤ 8 }
-    requires r { IsAxis r }
-    requires h { IsAxis h }
+    requires clearance { IsClearance clearance }
     requires empty { nodes.old.items ≡ [] }
     requires size { IsTableSize M }
     requires entries { All AreSmall dirs.now.n }
     requires values { All (λ curve. All (IsBelow (2 ^ 30)) curve.b) diff.now }
-    ensures exact { SearchGives (first_direction r h diff.now dirs.now.n) depth result nodes.new.items }
-    ensures clear { IfOk result (λ found. (found ≡ Found.Clear) ↔ IsClear r h diff.now dirs.now.n depth) }
+    ensures exact { SearchGives (first_direction clearance diff.now dirs.now.n) depth result nodes.new.items }
+    ensures clear { IfOk result (λ found. (found ≡ Found.Clear) ↔ IsClear clearance diff.now dirs.now.n depth) }
 {
-    search_with(diff, &Ruler::make(dirs, r, h), depth, nodes)
+    search_with(diff, &Ruler::make(dirs, clearance), depth, nodes)
 }
 
 /// As [`search`], with a ruler made before: for who searches many pairs and cues, since working the thresholds out takes longer
@@ -66,7 +63,7 @@ pub fn search_with<const M: usize>(
     requires values { All (λ curve. All (IsBelow (2 ^ 30)) curve.b) diff.now }
     ensures exact { SearchGives (first_by ruler.now diff.now) depth result nodes.new.items }
     ensures clear { IfOk result (λ found.
-        (found ≡ Found.Clear) ↔ IsClear ruler.now.r ruler.now.h diff.now ruler.now.directions depth) }
+        (found ≡ Found.Clear) ↔ IsClear ruler.now.clearance diff.now ruler.now.directions depth) }
 {
     sizes_law(diff);
     let answer = walk(diff, ruler, depth, nodes);

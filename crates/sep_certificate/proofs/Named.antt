@@ -45,14 +45,14 @@ module _ (curves : Raised) (cert : Certificate) (rules : Rules) (dirs : List (Li
       by_test : (b : Bool) → cond b None (Some (TooDeep s.a s.b s.cue)) ≡ Some f → IsFaultOf curves cert f
       by_test true e = cc
       by_test false e = let is : TooDeep s.a s.b s.cue ≡ f = cc in subst (IsFaultOf curves cert) is here
-  node_named diff s place (Leaf dir) f here known e = by_value (low_value rules.r rules.h diff place (direction_of dirs dir)) refl e
+  node_named diff s place (Leaf dir) f here known e = by_value (low_value rules.clearance diff place (direction_of dirs dir)) refl e
     where
-      by_value : (o : Option ℕ) → low_value rules.r rules.h diff place (direction_of dirs dir) ≡ o → option_map (Fails s.a s.b s.cue place dir) o ≡ Some f → IsFaultOf curves cert f
+      by_value : (o : Option ℕ) → low_value rules.clearance diff place (direction_of dirs dir) ≡ o → option_map (Fails s.a s.b s.cue place dir) o ≡ Some f → IsFaultOf curves cert f
       by_value None low e = cc
       by_value (Some k) low e =
           let is : Fails s.a s.b s.cue place dir k ≡ f = cc in
           subst (IsFaultOf curves cert) is
-          (here, known, first_low-small (part_along rules.r rules.h diff place (direction_of dirs dir)) (least_value (threshold rules.r rules.h (direction_of dirs dir)) place.depth) k low)
+          (here, known, first_low-small (part_along rules.clearance.r rules.clearance.h diff place (direction_of dirs dir)) (least_value (threshold rules.clearance (direction_of dirs dir)) place.depth) k low)
 
   tree_named : (diff : List (Bez 8)) (s : Slot) (place : Place) (tree : Tree) (f : CertFault) → IsSlot curves.drones curves.cues s → All (IsKnown (known_in cert.version)) (preorder tree) →
       tree_fault rules dirs diff s place tree ≡ Some f → IsFaultOf curves cert f

@@ -43,8 +43,8 @@ module _ (rules : Rules) (dirs : List (List ℤ)) (diff : List (Bez 8)) (slot : 
 
   pub valid_from : (tree : Tree) (place : Place) → tree_fault rules dirs diff slot place tree ≡ None → IsValidTree rules dirs diff place tree
   valid_from (leaf dir) place none =
-      first_low-values (part_along rules.r rules.h diff place (direction_of dirs dir)) (least_value (threshold rules.r rules.h (direction_of dirs dir)) place.depth)
-      (map_none (Fails slot.a slot.b slot.cue place dir) (low_value rules.r rules.h diff place (direction_of dirs dir)) none)
+      first_low-values (part_along rules.clearance.r rules.clearance.h diff place (direction_of dirs dir)) (least_value (threshold rules.clearance (direction_of dirs dir)) place.depth)
+      (map_none (Fails slot.a slot.b slot.cue place dir) (low_value rules.clearance diff place (direction_of dirs dir)) none)
   valid_from (split left right) place none =
       let first : _ × _ = or_none (cond (nat_lt place.depth rules.depth) None (Some (TooDeep slot.a slot.b slot.cue))) (option_or (tree_fault rules dirs diff slot (left_half place) left) (tree_fault rules dirs diff slot (right_half place) right)) none in
       let second : _ × _ = or_none (tree_fault rules dirs diff slot (left_half place) left) (tree_fault rules dirs diff slot (right_half place) right) first.1 in
@@ -53,7 +53,7 @@ module _ (rules : Rules) (dirs : List (List ℤ)) (diff : List (Bez 8)) (slot : 
   pub none_from : (tree : Tree) (place : Place) → IsValidTree rules dirs diff place tree → tree_fault rules dirs diff slot place tree ≡ None
   none_from (leaf dir) place valid =
       ap (λ (o : Option ℕ). option_map (Fails slot.a slot.b slot.cue place dir) o)
-      (first_low-none (part_along rules.r rules.h diff place (direction_of dirs dir)) (least_value (threshold rules.r rules.h (direction_of dirs dir)) place.depth) valid)
+      (first_low-none (part_along rules.clearance.r rules.clearance.h diff place (direction_of dirs dir)) (least_value (threshold rules.clearance (direction_of dirs dir)) place.depth) valid)
   none_from (split left right) place valid =
       or_first (cond (nat_lt place.depth rules.depth) None (Some (TooDeep slot.a slot.b slot.cue))) (option_or (tree_fault rules dirs diff slot (left_half place) left) (tree_fault rules dirs diff slot (right_half place) right))
       (let test : nat_lt place.depth rules.depth ≡ true = shallow place.depth rules.depth valid.0 in rw test refl)

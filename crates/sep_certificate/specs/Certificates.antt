@@ -9,6 +9,7 @@ use Rattle.sep_certificate.specs.declared.certificate.CertFault.{CertFault}
 use Rattle.sep_certificate.specs.declared.certificate.CertFault.TheVariants.{Missing, Extra, TooDeep, Fails}
 use Rattle.sep_certificate.specs.declared.certificate.Certificate.{Certificate}
 use Rattle.sep_parts.specs.declared.slot.Slot.{Slot}
+use Rattle.sep_parts.specs.declared.clearance.Clearance.{Clearance}
 use Rattle.sep_parts.specs.declared.rules.Rules.{Rules}
 use Rattle.sep_parts.specs.Directions.{direction_of}
 use Rattle.sep_parts.specs.Versions.{IsVersion, known_in}
@@ -47,12 +48,15 @@ AreValid rules dirs curves (slot ∷ slots) (nodes ∷ trees) =
     IsValidAt rules dirs curves slot nodes × AreValid rules dirs curves slots trees
 
 -- ---- the first fault
+-- what is wrong with a split at a place, where no part may be deeper than this
+abbrev pub split_fault : ℕ → Slot → Place → Option CertFault
+split_fault depth slot place = if nat_lt place.depth depth then None else Some (TooDeep slot.a slot.b slot.cue)
+
 -- what is wrong with a node at a place
 abbrev pub node_fault : Rules → List (List ℤ) → List (Bez 8) → Slot → Place → Node → Option CertFault
-node_fault rules dirs diff slot place Split =
-    if nat_lt place.depth rules.depth then None else Some (TooDeep slot.a slot.b slot.cue)
+node_fault rules dirs diff slot place Split = split_fault rules.depth slot place
 node_fault rules dirs diff slot place (Leaf dir) =
-    option_map (Fails slot.a slot.b slot.cue place dir) (low_value rules.r rules.h diff place (direction_of dirs dir))
+    option_map (Fails slot.a slot.b slot.cue place dir) (low_value rules.clearance diff place (direction_of dirs dir))
 
 -- The first fault of a tree at a place: of a leaf its own; of a split its own, else that of the first half, else that
 -- of the second.
@@ -79,16 +83,16 @@ first_fault_of rules dirs curves (slot ∷ slots) n (nodes ∷ trees) =
     (first_fault_of rules dirs curves slots (suc n) trees)
 
 -- ---- the certificate as a whole
-abbrev pub rules_of : ℕ → ℕ → Certificate → Rules
-rules_of r h cert = record { r = r; h = h; depth = cert.depth }
+abbrev pub rules_of : Clearance → Certificate → Rules
+rules_of c cert = record { clearance = c; depth = cert.depth }
 
 -- A certificate is valid for curves: one tree for each pair and cue, no tree deeper than its depth,
 -- and each leaf's direction separates its place.
-abbrev pub IsValid : List (List ℤ) → Raised → ℕ → ℕ → Certificate → Type 0
-IsValid dirs curves r h cert = AreValid (rules_of r h cert) dirs curves (slots curves.drones curves.cues) cert.trees
+abbrev pub IsValid : List (List ℤ) → Raised → Clearance → Certificate → Type 0
+IsValid dirs curves c cert = AreValid (rules_of c cert) dirs curves (slots curves.drones curves.cues) cert.trees
 
-abbrev pub fault_of : List (List ℤ) → Raised → ℕ → ℕ → Certificate → Option CertFault
-fault_of dirs curves r h cert = first_fault_of (rules_of r h cert) dirs curves (slots curves.drones curves.cues) 0 cert.trees
+abbrev pub fault_of : List (List ℤ) → Raised → Clearance → Certificate → Option CertFault
+fault_of dirs curves c cert = first_fault_of (rules_of c cert) dirs curves (slots curves.drones curves.cues) 0 cert.trees
 
 -- What a fault names is there: a pair of drones and a cue of the curves, a tree of the certificate, a direction of
 -- its version, one of eight control values.

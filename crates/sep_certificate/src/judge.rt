@@ -3,14 +3,14 @@
 ghost use Rattle.std.specs.Prelude.{◌≡◌, ℕ, ◌+◌, ◌*◌, ◌^◌, ◌≤◌, ◌<◌, ◌↔◌, ◌∷◌, ◌++◌, [], length, All, IfErr, IsOk, MatchResult};
 ghost use Rattle.std.specs.Option.{option_map};
 ghost use Rattle.fleet_math.specs.Numbers.{IsBelow};
-ghost use Rattle.sep_parts.specs.Directions.{IsAxis};
+ghost use Rattle.sep_parts.specs.Directions.{IsClearance};
 ghost use Rattle.sep_parts.specs.Versions.{IsVersion, known_in, table_of};
 ghost use Rattle.sep_parts.specs.Apart.{KeepsApart};
 ghost use Rattle.sep_parts.specs.Rulers.{rules_by};
 ghost use Rattle.sep_parts.specs.Slots.{slots};
 ghost use Rattle.sep_parts.specs.Levels.{IsLevel, IsStack, places_of};
 ghost use Rattle.sep_certificate.specs.Laws.{CertificateLaw};
-ghost use Rattle.sep_certificate.specs.Certificates.{IsFaultOf, IsValid, IsWhole, fault_of, first_fault_of, node_fault, spelled_fault};
+ghost use Rattle.sep_certificate.specs.Certificates.{IsFaultOf, IsValid, IsWhole, fault_of, first_fault_of, node_fault, spelled_fault, split_fault};
 ghost use Rattle.sep_parts.specs.Trees.{IsKnown, IsTree, places_below, IsShallow};
 ghost use Rattle.sep_certificate.specs.Steps.{IsControl};
 
@@ -19,9 +19,9 @@ use bezier_core::Bez;
 use fleet_curves::Curves;
 use halving::Place;
 use listed::Listed;
-use sep_parts::{DIRECTIONS, Level, Node, Ruler, Rules, Slot, Stack, WIDE};
+use sep_parts::{Clearance, DIRECTIONS, Level, Node, Ruler, Rules, Slot, Stack, WIDE};
 
-/// Whether a certificate is valid for the curves of a fleet, with ellipsoids of half axes `r`, `r` and `h` in millimetres.
+/// Whether a certificate is valid for the curves of a fleet and a clearance.
 ///
 /// Ok exactly where there is one tree for each pair and cue, no tree has a split at the certificate's depth, and each
 /// leaf's direction, one of the table of its version, separates its part. Else the first fault: trees of a pair and
@@ -29,21 +29,19 @@ use sep_parts::{DIRECTIONS, Level, Node, Ruler, Rules, Slot, Stack, WIDE};
 /// without a tree, or the first tree too many, whose nodes aren't judged. It names drones and a cue of the curves,
 /// and a direction of the version. Takes no memory.
 ///
-/// Where it is Ok, whoever made the certificate, any two different drones are apart at each instant p / q of the show, for
-/// all whole numbers p and q and for every list of trajectories that the curves stand for.
-pub fn check(curves: &Curves, r: u16, h: u16, cert: &Certificate) -> Result<(), CertFault>
-    requires r { IsAxis r }
-    requires h { IsAxis h }
+/// Where it is Ok, whoever made the certificate, any two different drones fly apart, for every list of trajectories that the curves stand for
+/// and that move within the reach: whatever points the two may be at by strays and late starts, the ellipsoids around them share no point.
+pub fn check(curves: &Curves, clearance: Clearance, cert: &Certificate) -> Result<(), CertFault>
+    requires clearance { IsClearance clearance }
     requires whole { IsWhole cert.now }
-    ensures exact { MatchResult result (λ _. fault_of (table_of cert.now.version) curves.now r h cert.now ≡ None)
-        (λ fault. fault_of (table_of cert.now.version) curves.now r h cert.now ≡ Some fault) }
+    ensures exact { MatchResult result (λ _. fault_of (table_of cert.now.version) curves.now clearance cert.now ≡ None)
+        (λ fault. fault_of (table_of cert.now.version) curves.now clearance cert.now ≡ Some fault) }
     ensures named { IfErr result (IsFaultOf curves.now cert.now) }
-    ensures valid { IsOk result ↔ IsValid (table_of cert.now.version) curves.now r h cert.now }
-    ensures apart { IsOk result → KeepsApart curves.now r h }
+    ensures valid { IsOk result ↔ IsValid (table_of cert.now.version) curves.now clearance cert.now }
+    ensures apart { IsOk result → KeepsApart curves.now clearance }
 {
     let rules = Rules {
-        r,
-        h,
+        clearance,
         depth: cert.depth,
     };
     match fault_in(curves, rules, cert.version, cert.trees.as_slice()) {
@@ -52,9 +50,8 @@ pub fn check(curves: &Curves, r: u16, h: u16, cert: &Certificate) -> Result<(), 
     }
 }
 
-/// The law of certificates, by any table of directions. Valid ones keep any two different drones apart at each
-/// instant p / q of the show, for all whole numbers p and q and for every list of trajectories that the curves stand
-/// for. And a whole certificate, whose leaves name directions of the table, is valid exactly where it has no first
+/// The law of certificates, by any table of directions. With valid ones any two different drones fly apart, for every
+/// list of trajectories that the curves stand for and that move within the reach. And a whole certificate, whose leaves name directions of the table, is valid exactly where it has no first
 /// fault.
 pub fn certificate_law()
     ensures { CertificateLaw }
@@ -62,8 +59,7 @@ pub fn certificate_law()
 
 // The first fault of the trees, by the table of the version.
 fn fault_in(curves: &Curves, rules: Rules, version: u8, trees: &[Listed<Node>]) -> Option<CertFault>
-    requires r { IsAxis rules.r }
-    requires h { IsAxis rules.h }
+    requires clearance { IsClearance rules.clearance }
     requires depth { rules.depth ≤ 8 }
     requires version { IsVersion version }
     requires few { length trees.now < 2 ^ 31 }
@@ -80,29 +76,27 @@ fn fault_in(curves: &Curves, rules: Rules, version: u8, trees: &[Listed<Node>]) 
 
 // The first fault of the trees, by the 26 directions.
 fn old_fault(curves: &Curves, rules: Rules, trees: &[Listed<Node>]) -> Option<CertFault>
-    requires r { IsAxis rules.r }
-    requires h { IsAxis rules.h }
+    requires clearance { IsClearance rules.clearance }
     requires depth { rules.depth ≤ 8 }
     requires few { length trees.now < 2 ^ 31 }
     requires whole { All IsTree trees.now }
     requires known { All (All (IsKnown 26)) trees.now }
     ensures { result ≡ first_fault_of rules (table_of 1) curves.now (slots curves.now.drones curves.now.cues) 0 trees.now }
 {
-    let ruler = Ruler::make(&DIRECTIONS, rules.r, rules.h);
+    let ruler = Ruler::make(&DIRECTIONS, rules.clearance);
     first_fault(curves, &ruler, rules.depth, trees)
 }
 
 // The first fault of the trees, by the 98 directions.
 fn wide_fault(curves: &Curves, rules: Rules, trees: &[Listed<Node>]) -> Option<CertFault>
-    requires r { IsAxis rules.r }
-    requires h { IsAxis rules.h }
+    requires clearance { IsClearance rules.clearance }
     requires depth { rules.depth ≤ 8 }
     requires few { length trees.now < 2 ^ 31 }
     requires whole { All IsTree trees.now }
     requires known { All (All (IsKnown 98)) trees.now }
     ensures { result ≡ first_fault_of rules (table_of 2) curves.now (slots curves.now.drones curves.now.cues) 0 trees.now }
 {
-    let ruler = Ruler::make(&WIDE, rules.r, rules.h);
+    let ruler = Ruler::make(&WIDE, rules.clearance);
     first_fault(curves, &ruler, rules.depth, trees)
 }
 
@@ -207,7 +201,7 @@ pub fn node_fault<const M: usize>(
 
 // The fault of a split at the greatest depth.
 fn too_deep(place: Place, slot: Slot, depth: u8) -> Option<CertFault>
-    ensures { result ≡ node_fault (record { r = 0; h = 0; depth = depth }) [] [] slot place Node.Split }
+    ensures { result ≡ split_fault depth slot place }
 {
     if place.depth < depth {
         None

@@ -7,8 +7,18 @@ ghost use Rattle.fleet_curves.specs.Raised.{AreOneShow};
 
 use super::*;
 use std::alloc::{AllocError, Global};
+use sep_parts::Clearance;
 use std::test::Fail;
 use traj_codec::{Element, Listed, Segment, Traj};
+
+// Ellipsoids of half axes 120, 120 and 300 mm, with nobody who strays or is late.
+const STILL: Clearance = Clearance {
+    r: 120,
+    h: 300,
+    stray: 0,
+    late: 0,
+    reach: [0, 0, 0],
+};
 
 // From rest to rest.
 fn moved(from: i16, to: i16) -> Element {
@@ -87,7 +97,7 @@ fn judged(alloc: Global, curves: &Curves, text: &[u8]) -> Outcome {
         Err(CertTextFault::Line { line }) => return Outcome::Line(line),
         Err(CertTextFault::Memory) => return Outcome::Other,
     };
-    match check(curves, 120, 300, &cert) {
+    match check(curves, STILL, &cert) {
         Ok(()) => Outcome::Valid,
         Err(fault) => outcome_of(fault),
     }

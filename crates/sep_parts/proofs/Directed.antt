@@ -5,6 +5,8 @@ use Rattle.fleet_math.specs.Bernstein.{at, bernstein}
 use Rattle.bezier_core.specs.declared.Bez.{Bez}
 use Rattle.bezier_core.specs.Along.{controls}
 use Rattle.halving.specs.Part.{part_value}
+use Rattle.sep_parts.specs.declared.clearance.Clearance.{Clearance}
+use Rattle.sep_parts.specs.Directions.{threshold}
 
 -- a direction of three whole numbers
 pub record Direction : Type 0 where
@@ -26,15 +28,6 @@ pub record Cue : Type 0 where
 abbrev pub cue_of : List (Bez 8) → Cue
 cue_of curves = record { x = at (controls curves 0); y = at (controls curves 1); z = at (controls curves 2) }
 
--- n . n
-abbrev pub squared_length : Direction → ℤ
-squared_length n = n.x *ℤ n.x +ℤ n.y *ℤ n.y +ℤ n.z *ℤ n.z
-
--- t is not negative, and its square is above 4 r^2 h^2 (n . n)
-pub record IsThreshold (n : Direction) (r h : ℕ) (t : ℤ) : Type 0 where
-  pub not_negative : pos 0 ≤ℤ t
-  pub above : (pos (4 * (r * r) * (h * h)) *ℤ squared_length n) <ℤ (t *ℤ t)
-
 -- the control value k of the part, along the direction
 abbrev pub along_part : Cue → Direction → ℕ → ℕ → ℕ → ℕ → ℕ → ℤ
 along_part d n r h depth index k =
@@ -44,12 +37,11 @@ along_part d n r h depth index k =
 
 -- along the direction the part is at least the threshold
 pub record IsSeparatedBy (d : Cue) (n : Direction) (r h : ℕ) (t : ℤ) (depth index : ℕ) : Type 0 where
-  pub threshold : IsThreshold n r h t
   pub values : (k : ℕ) → k ≤ 7 → (t *ℤ pos (5040 * 2 ^ (7 * depth))) ≤ℤ along_part d n r h depth index k
 
--- The closed ellipsoids share no point at a / c, over the raised differences:
--- h^2 (x^2 + y^2) + r^2 z^2 is above 4 r^2 h^2 (5040 c^7)^2
-pub record IsApartRaised (d : Cue) (r h : ℕ) (a c : ℤ) : Type 0 where
-  pub apart : let x = bernstein 7 d.x a c in let y = bernstein 7 d.y a c in let z = bernstein 7 d.z a c in
-      (pos (4 * (r * r) * (h * h)) *ℤ ((pos 5040 *ℤ power c 7) *ℤ (pos 5040 *ℤ power c 7)))
-      <ℤ (pos (h * h) *ℤ (x *ℤ x +ℤ y *ℤ y) +ℤ pos (r * r) *ℤ (z *ℤ z))
+-- Along some direction the raised differences are at least its threshold at a / c.
+pub record IsSeenRaised (clear : Clearance) (d : Cue) (a c : ℤ) : Type 0 where
+  pub n : List ℤ
+  pub along :
+      (threshold clear n *ℤ (pos 5040 *ℤ power c 7))
+      ≤ℤ ((at n 0 *ℤ pos clear.h) *ℤ bernstein 7 d.x a c +ℤ (at n 1 *ℤ pos clear.h) *ℤ bernstein 7 d.y a c +ℤ (at n 2 *ℤ pos clear.r) *ℤ bernstein 7 d.z a c)

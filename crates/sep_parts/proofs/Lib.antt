@@ -1,5 +1,7 @@
 pub mod Cauchy
 pub mod Directed
+pub mod Strays
+pub mod Seen
 pub mod Leaf
 pub mod Roots
 pub mod Lows

@@ -1,13 +1,17 @@
 -- How large thresholds are.
-use Rattle.std.proofs.Common.{◌≡◌, ℕ, zero, suc, ◌*◌, ◌^◌, ◌≤◌, ◌<◌, ℤ, pos, negsuc, neg_ℤ, ◌*ℤ◌, ◌≤ℤ◌, ◌<ℤ◌, Bool, true, false, cond, int_lt, unsigned_abs, arith, ◌∙◌, FitsSigned, to_z, of_z, refl, ap, List, map, length, get_or, [], All}
-use Rattle.std.proofs.lemmas.Int.{ints, to_z-of_z}
+use Rattle.std.proofs.Common.{◌≡◌, ℕ, zero, suc, ◌+◌, ◌*◌, ◌^◌, ◌≤◌, ◌<◌, ℤ, pos, negsuc, neg_ℤ, ◌+ℤ◌, ◌-ℤ◌, ◌*ℤ◌, ◌≤ℤ◌, ◌<ℤ◌, Bool, true, false, cond, int_lt, unsigned_abs, arith, ◌∙◌, FitsSigned, to_z, of_z, refl, ap, List, map, length, get_or, [], All}
+use Rattle.std.proofs.lemmas.Int.{ints, to_z-of_z, unsigned_abs-mul}
+use Rattle.std.proofs.lemmas.Nat.{mul-le}
 use Rattle.std.proofs.lemmas.List.Elements.{All-get_or, All-from_get_or}
 use mir.Syntax.{w128}
 use Rattle.std.proofs.lemmas.List.{get_or-map, length-map}
 use Rattle.fleet_math.specs.Bernstein.{at}
 use Rattle.fleet_math.proofs.RingLemmas.{linear, le_mul_ℤ}
 use Rattle.fleet_math.proofs.BernsteinLemmas.{by_lt}
-use Rattle.sep_parts.specs.Directions.{AreSmall, IsAxis, length_squared, root_from, root_above, threshold}
+use Rattle.fleet_math.specs.Numbers.{IsBelow}
+use Rattle.sep_parts.specs.declared.clearance.Clearance.{Clearance}
+use Rattle.sep_parts.specs.Directions.{AreSmall, IsAxis, IsClearance, IsSquare, for_ellipsoids, for_reach, for_strays, length_squared, limit_along, reach_on, root_from, root_above, root_reaching, stray_limit, threshold, weights}
+use Rattle.sep_parts.proofs.Cauchy.{square_positive}
 
 root_from-least : (v : ℤ) (n k s : ℕ) → k ≤ s → v <ℤ pos (s * s) → root_from v n k ≤ s
 root_from-least v zero k s low above = low
@@ -24,6 +28,10 @@ pub root_above-least : (v : ℤ) (s : ℕ) → v <ℤ pos (s * s) → root_above
 unfolding root_above
 root_above-least v s above = root_from-least v (suc (unsigned_abs v)) 0 s (omega arith) above
 
+-- a root is small where the number is
+root_small : (v : ℤ) (s : ℕ) → v <ℤ pos (s * s) → root_above v ≤ s
+root_small v s small = root_above-least v s small
+
 entry_square : (z : ℤ) → neg_ℤ (pos 2) ≤ℤ z → z ≤ℤ pos 2 → (z *ℤ z) ≤ℤ pos 4
 entry_square (pos zero) low high = omega (arith, ints)
 entry_square (pos (suc zero)) low high = omega (arith, ints)
@@ -39,45 +47,108 @@ axis_square r axis = grind arith
 area_small : (x y : ℕ) → x ≤ 4000000 → y ≤ 4000000 → 4 * x * y ≤ 64000000000000
 area_small x y small few = grind arith
 
-pub threshold_small : (r h : ℕ) (n : List ℤ) → IsAxis r → IsAxis h → AreSmall n → threshold r h n <ℤ pos (2 ^ 30)
-threshold_small r h n r_axis h_axis small =
+-- an entry times a half axis
+pub weight_small : (n : List ℤ) (k axis : ℕ) → AreSmall n → k ≤ 2 → IsAxis axis → IsBelow 4001 (at n k *ℤ pos axis)
+weight_small n k axis small few is_axis =
+    close (at n k) (small.low k few) (small.high k few)
+  where
+    close : (x : ℤ) → neg_ℤ (pos 2) ≤ℤ x → x ≤ℤ pos 2 → IsBelow 4001 (x *ℤ pos axis)
+    close x low high =
+        let m : unsigned_abs (x *ℤ pos axis) ≤ 2 * 2000 = rw (unsigned_abs-mul x (pos axis)) (mul-le (unsigned_abs x) (unsigned_abs (pos axis)) 2 2000 (omega (arith, ints)) (omega (arith, ints))) in
+        (omega (arith, ints), omega (arith, ints))
+
+-- a weight stays what it is in the program
+pub weight_kept : (x : ℤ) → IsBelow 4001 x → IsBelow 4001 (to_z w128 (of_z w128 x))
+weight_kept x below = let fits : FitsSigned w128 x = omega (arith, ints) in rw (to_z-of_z w128 x fits) below
+
+-- the square of a weight
+pub weight_square : (x : ℤ) → IsBelow 4001 x → IsSquare (x *ℤ x)
+weight_square x below =
+    let m : unsigned_abs (x *ℤ x) ≤ 4000 * 4000 = rw (unsigned_abs-mul x x) (mul-le (unsigned_abs x) (unsigned_abs x) 4000 4000 (omega (arith, ints)) (omega (arith, ints))) in
+    (square_positive x, omega (arith, ints, square_positive x))
+
+-- ---- the three parts of a threshold
+pub ellipsoids_small : (c : Clearance) (n : List ℤ) → IsClearance c → AreSmall n → for_ellipsoids c n ≤ℤ pos (2 ^ 25)
+ellipsoids_small c n clear small =
     let x : (at n 0 *ℤ at n 0) ≤ℤ pos 4 = entry_square (at n 0) (small.low 0 (omega arith)) (small.high 0 (omega arith)) in
     let y : (at n 1 *ℤ at n 1) ≤ℤ pos 4 = entry_square (at n 1) (small.low 1 (omega arith)) (small.high 1 (omega arith)) in
     let z : (at n 2 *ℤ at n 2) ≤ℤ pos 4 = entry_square (at n 2) (small.low 2 (omega arith)) (small.high 2 (omega arith)) in
-    let area : 4 * (r * r) * (h * h) ≤ 64000000000000 = area_small (r * r) (h * h) (axis_square r r_axis) (axis_square h h_axis) in
-    let first : (pos (4 * (r * r) * (h * h)) *ℤ length_squared n) ≤ℤ (pos (4 * (r * r) * (h * h)) *ℤ pos 12) =
-    le_mul_ℤ (pos (4 * (r * r) * (h * h))) (length_squared n) (pos 12) (omega (arith, linear)) (omega (arith, linear, x, y, z)) in
-    let root : root_above (pos (4 * (r * r) * (h * h)) *ℤ length_squared n) ≤ 2 ^ 29 =
-    root_above-least (pos (4 * (r * r) * (h * h)) *ℤ length_squared n) (2 ^ 29) (below (4 * (r * r) * (h * h)) _ area first) in
+    let area : 4 * (c.r * c.r) * (c.h * c.h) ≤ 64000000000000 = area_small (c.r * c.r) (c.h * c.h) (axis_square c.r clear.across) (axis_square c.h clear.upwards) in
+    let first : (pos (4 * (c.r * c.r) * (c.h * c.h)) *ℤ length_squared n) ≤ℤ (pos (4 * (c.r * c.r) * (c.h * c.h)) *ℤ pos 12) =
+    le_mul_ℤ (pos (4 * (c.r * c.r) * (c.h * c.h))) (length_squared n) (pos 12) (omega (arith, linear)) (omega (arith, linear, x, y, z)) in
+    let root : root_above (limit_along c.r c.h n) ≤ 2 ^ 25 = root_small (limit_along c.r c.h n) (2 ^ 25) (below (4 * (c.r * c.r) * (c.h * c.h)) _ area first) in
     omega (arith, ints, root)
   where
-    below : (a : ℕ) (v : ℤ) → a ≤ 64000000000000 → v ≤ℤ (pos a *ℤ pos 12) → v <ℤ pos (2 ^ 29 * 2 ^ 29)
+    below : (a : ℕ) (v : ℤ) → a ≤ 64000000000000 → v ≤ℤ (pos a *ℤ pos 12) → v <ℤ pos (2 ^ 25 * 2 ^ 25)
     below a v area first = omega (arith, ints)
+
+pub strays_small : (c : Clearance) (n : List ℤ) → IsClearance c → AreSmall n → for_strays c n ≤ℤ pos (2 ^ 24)
+strays_small c n clear small =
+    let x : IsSquare ((at n 0 *ℤ pos c.h) *ℤ (at n 0 *ℤ pos c.h)) = weight_square (at n 0 *ℤ pos c.h) (weight_small n 0 c.h small (omega arith) clear.upwards) in
+    let y : IsSquare ((at n 1 *ℤ pos c.h) *ℤ (at n 1 *ℤ pos c.h)) = weight_square (at n 1 *ℤ pos c.h) (weight_small n 1 c.h small (omega arith) clear.upwards) in
+    let z : IsSquare ((at n 2 *ℤ pos c.r) *ℤ (at n 2 *ℤ pos c.r)) = weight_square (at n 2 *ℤ pos c.r) (weight_small n 2 c.r small (omega arith) clear.across) in
+    let area : 4 * (c.stray * c.stray) ≤ 4000000 = stray_area c.stray clear.stray in
+    let first : stray_limit c n ≤ℤ (pos (4 * (c.stray * c.stray)) *ℤ pos 48000000) =
+    le_mul_ℤ (pos (4 * (c.stray * c.stray))) (length_squared (weights n c.r c.h)) (pos 48000000) (omega (arith, linear)) (omega (arith, linear, x.1, y.1, z.1)) in
+    let root : root_above (stray_limit c n -ℤ pos 1) ≤ 2 ^ 24 = root_small (stray_limit c n -ℤ pos 1) (2 ^ 24) (below (4 * (c.stray * c.stray)) (stray_limit c n) area first) in
+    omega (arith, ints, root)
+  where
+    stray_area : (s : ℕ) → s ≤ 1000 → 4 * (s * s) ≤ 4000000
+    stray_area s few = grind arith
+
+    below : (a : ℕ) (v : ℤ) → a ≤ 4000000 → v ≤ℤ (pos a *ℤ pos 48000000) → (v -ℤ pos 1) <ℤ pos (2 ^ 24 * 2 ^ 24)
+    below a v area first = omega (arith, ints)
+
+way_small : (w : ℤ) (reach : ℕ) → IsBelow 4001 w → reach ≤ 65536 → unsigned_abs w * reach ≤ 262144000
+way_small w reach below few = mul-le (unsigned_abs w) reach 4000 65536 (omega (arith, ints)) few
+
+pub reach_small : (c : Clearance) (n : List ℤ) → IsClearance c → AreSmall n → for_reach c n ≤ℤ pos 786432000
+reach_small c n clear small =
+    omega (arith, ints,
+    way_small (at n 0 *ℤ pos c.h) (reach_on c 0) (weight_small n 0 c.h small (omega arith) clear.upwards) (clear.reach 0),
+    way_small (at n 1 *ℤ pos c.h) (reach_on c 1) (weight_small n 1 c.h small (omega arith) clear.upwards) (clear.reach 1),
+    way_small (at n 2 *ℤ pos c.r) (reach_on c 2) (weight_small n 2 c.r small (omega arith) clear.across) (clear.reach 2))
+
+pub threshold_small : (c : Clearance) (n : List ℤ) → IsClearance c → AreSmall n → threshold c n <ℤ pos (2 ^ 30)
+threshold_small c n clear small =
+    together (for_ellipsoids c n) (for_strays c n) (for_reach c n) (ellipsoids_small c n clear small) (strays_small c n clear small) (reach_small c n clear small)
+  where
+    together : (x y z : ℤ) → x ≤ℤ pos (2 ^ 25) → y ≤ℤ pos (2 ^ 24) → z ≤ℤ pos 786432000 → (x +ℤ y +ℤ z) <ℤ pos (2 ^ 30)
+    together x y z first second third = omega (arith, ints)
+
+-- and it is not negative
+pub threshold_low : (c : Clearance) (n : List ℤ) → pos 0 ≤ℤ threshold c n
+threshold_low c n =
+    together (root_above (limit_along c.r c.h n)) (root_reaching (stray_limit c n))
+    (unsigned_abs (at n 0 *ℤ pos c.h) * reach_on c 0 + unsigned_abs (at n 1 *ℤ pos c.h) * reach_on c 1 + unsigned_abs (at n 2 *ℤ pos c.r) * reach_on c 2)
+  where
+    together : (x y z : ℕ) → pos 0 ≤ℤ (pos x +ℤ pos y +ℤ pos z)
+    together x y z = omega (arith, ints)
 
 -- an entry of the thresholds of a table
 pub threshold_at : (f : List ℤ → ℤ) (ts : List ℤ) (dirs : List (List ℤ)) (i : ℕ) → ts ≡ map f dirs → i < length dirs → at ts i ≡ f (get_or dirs i [])
 threshold_at f ts dirs i are inside = rw are (get_or-map f dirs i [] (pos 0) inside)
 
 -- each threshold of a table
-pub thresholds_small : (r h : ℕ) (ts : List ℤ) (dirs : List (List ℤ)) → IsAxis r → IsAxis h → All AreSmall dirs → ts ≡ map (threshold r h) dirs →
+pub thresholds_small : (c : Clearance) (ts : List ℤ) (dirs : List (List ℤ)) → IsClearance c → All AreSmall dirs → ts ≡ map (threshold c) dirs →
     All (λ (t : ℤ). (pos 0 ≤ℤ t) × (t <ℤ pos (2 ^ 30))) ts
-thresholds_small r h ts dirs r_axis h_axis small are =
+thresholds_small c ts dirs clear small are =
     All-from_get_or (λ (t : ℤ). (pos 0 ≤ℤ t) × (t <ℤ pos (2 ^ 30))) ts (pos 0) (λ i inside. one i (omega (arith, inside, same)))
   where
     same : length ts ≡ length dirs
-    same = rw are (length-map dirs (threshold r h))
+    same = rw are (length-map dirs (threshold c))
 
     one : (i : ℕ) → i < length dirs → (pos 0 ≤ℤ at ts i) × (at ts i <ℤ pos (2 ^ 30))
     one i inside =
-        rw (threshold_at (threshold r h) ts dirs i are inside)
-        (omega (arith, ints), threshold_small r h (get_or dirs i []) r_axis h_axis (All-get_or AreSmall dirs i [] inside small))
+        rw (threshold_at (threshold c) ts dirs i are inside)
+        (threshold_low c (get_or dirs i []), threshold_small c (get_or dirs i []) clear (All-get_or AreSmall dirs i [] inside small))
 
 stays : (z t : ℤ) → z ≡ t → pos 0 ≤ℤ t → t <ℤ pos (2 ^ 30) → to_z w128 (of_z w128 z) ≡ t
 stays z t e positive small = let fits : FitsSigned w128 z = omega (arith, ints) in to_z-of_z w128 z fits ∙ e
 
 -- a threshold as a number of the program
-pub threshold_told : (r h : ℕ) (ts : List ℤ) (dirs : List (List ℤ)) (dir : ℕ) → IsAxis r → IsAxis h → All AreSmall dirs → ts ≡ map (threshold r h) dirs → dir < length dirs →
-    to_z w128 (of_z w128 (at ts dir)) ≡ threshold r h (get_or dirs dir [])
-threshold_told r h ts dirs dir r_axis h_axis small are inside =
-    stays (at ts dir) (threshold r h (get_or dirs dir [])) (threshold_at (threshold r h) ts dirs dir are inside) (omega (arith, ints))
-    (threshold_small r h (get_or dirs dir []) r_axis h_axis (All-get_or AreSmall dirs dir [] inside small))
+pub threshold_told : (c : Clearance) (ts : List ℤ) (dirs : List (List ℤ)) (dir : ℕ) → IsClearance c → All AreSmall dirs → ts ≡ map (threshold c) dirs → dir < length dirs →
+    to_z w128 (of_z w128 (at ts dir)) ≡ threshold c (get_or dirs dir [])
+threshold_told c ts dirs dir clear small are inside =
+    stays (at ts dir) (threshold c (get_or dirs dir [])) (threshold_at (threshold c) ts dirs dir are inside) (threshold_low c (get_or dirs dir []))
+    (threshold_small c (get_or dirs dir []) clear (All-get_or AreSmall dirs dir [] inside small))

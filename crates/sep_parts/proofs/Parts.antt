@@ -19,7 +19,8 @@ use Rattle.halving.specs.Places.{IsPlace}
 use Rattle.halving.proofs.HalfLemmas.{bernstein-within}
 use Rattle.halving.proofs.PolarLemmas.{polar-same, part-part, part-whole}
 use Rattle.sep_parts.specs.declared.stack.Level.{Level}
-use Rattle.sep_parts.specs.Separates.{weights, first_low, part_along}
+use Rattle.sep_parts.specs.Directions.{weights}
+use Rattle.sep_parts.specs.Separates.{first_low, part_along}
 use Rattle.sep_parts.specs.Levels.{IsLevel, left_half, right_half, root}
 use Rattle.sep_parts.proofs.Leaf.{power_seven}
 use Rattle.sep_parts.proofs.Lows.{first_low-same}

@@ -1,13 +1,12 @@
 -- From the raised differences to the decoded positions.
-use Rattle.std.proofs.Common.{◌≡◌, refl, ℕ, zero, suc, ◌*◌, ◌≤◌, ◌<◌, ℤ, pos, negsuc, neg_ℤ, ◌+ℤ◌, ◌-ℤ◌, ◌*ℤ◌, ◌<ℤ◌, arith, sym, subst, ◌∙◌, ap, List, length}
+use Rattle.std.proofs.Common.{◌≡◌, refl, ℕ, zero, suc, ◌*◌, ◌≤◌, ◌<◌, ℤ, pos, negsuc, neg_ℤ, ◌+ℤ◌, ◌-ℤ◌, ◌*ℤ◌, ◌≤ℤ◌, ◌<ℤ◌, arith, sym, subst, ◌∙◌, ap, List, length}
 use Rattle.std.proofs.lemmas.Int.{ints}
 use Rattle.fleet_math.specs.Sums.{power}
 use Rattle.fleet_math.specs.Bernstein.{at, bernstein}
 use Rattle.fleet_math.specs.Moments.{Moment}
 use Rattle.fleet_math.specs.Decoded as plain
 use Rattle.fleet_math.proofs.SumLemmas.{power-add}
-use Rattle.fleet_math.proofs.RingLemmas.{ring, linear, one_mul_ℤ, neg_mul_ℤ}
-use Rattle.fleet_math.proofs.DivisionLemmas.{lt_from_mul_ℤ}
+use Rattle.fleet_math.proofs.RingLemmas.{ring, linear, le_from_mul_ℤ, one_mul_ℤ, neg_mul_ℤ}
 use Rattle.fleet_math.proofs.BernsteinLemmas.{bernstein-same, bernstein-mix, cong_add}
 use Rattle.bezier_core.specs.declared.Bez.{Bez}
 use Rattle.bezier_core.specs.Along.{controls}
@@ -16,8 +15,11 @@ use Rattle.bezier_core.proofs.CurveLemmas.{at-eight, raise}
 use Rattle.traj_codec.specs.declared.traj.Traj.{Traj}
 use Rattle.traj_codec.specs.Positions.{decoded, points}
 use Rattle.fleet_curves.specs.Raised.{Raised, curves_at, difference, less, raised_in}
-use Rattle.sep_parts.proofs.Lifts.{AreApartAt, near_gap}
-use Rattle.sep_parts.proofs.Directed.{IsApartRaised, cue_of}
+use Rattle.sep_parts.specs.declared.clearance.Clearance.{Clearance}
+use Rattle.sep_parts.specs.Directions.{threshold, weights}
+use Rattle.sep_parts.proofs.Lifts.{near_gap}
+use Rattle.sep_parts.proofs.Strays.{dot}
+use Rattle.sep_parts.proofs.Directed.{IsSeenRaised, cue_of}
 use Rattle.fleet_curves.proofs.Standing.{has_points}
 
 -- ---- the gap is the difference of the curves, over 5,040
@@ -61,41 +63,32 @@ less_value t u m axis first second first_is second_is t_in u_in near t_few u_few
     minus_same {x} {y} {z} {w} p q = cc
 
 -- ---- 5,040 cancels
-low_ring : (r s k : ℤ) → r *ℤ ((s *ℤ k) *ℤ (s *ℤ k)) ≡ (r *ℤ (k *ℤ k)) *ℤ (s *ℤ s)
-low_ring r s k = simp ring refl
+along_ring : (u v w s x y z : ℤ) → u *ℤ (s *ℤ x) +ℤ v *ℤ (s *ℤ y) +ℤ w *ℤ (s *ℤ z) ≡ (u *ℤ x +ℤ v *ℤ y +ℤ w *ℤ z) *ℤ s
+along_ring u v w s x y z = simp ring (omega (arith, linear))
 
-high_ring : (h r s x y z : ℤ) → h *ℤ ((s *ℤ x) *ℤ (s *ℤ x) +ℤ (s *ℤ y) *ℤ (s *ℤ y)) +ℤ r *ℤ ((s *ℤ z) *ℤ (s *ℤ z)) ≡ (h *ℤ (x *ℤ x +ℤ y *ℤ y) +ℤ r *ℤ (z *ℤ z)) *ℤ (s *ℤ s)
-high_ring h r s x y z = simp ring (omega (arith, linear))
+scale_ring : (t s k : ℤ) → t *ℤ (s *ℤ k) ≡ (t *ℤ k) *ℤ s
+scale_ring t s k = simp ring refl
 
-apart_unscaled : (r h g s k x y z : ℤ) → pos 0 <ℤ (s *ℤ s) →
-    (g *ℤ ((s *ℤ k) *ℤ (s *ℤ k))) <ℤ (h *ℤ ((s *ℤ x) *ℤ (s *ℤ x) +ℤ (s *ℤ y) *ℤ (s *ℤ y)) +ℤ r *ℤ ((s *ℤ z) *ℤ (s *ℤ z))) →
-    (g *ℤ (k *ℤ k)) <ℤ (h *ℤ (x *ℤ x +ℤ y *ℤ y) +ℤ r *ℤ (z *ℤ z))
-apart_unscaled r h g s k x y z positive apart =
-    lt_from_mul_ℤ (g *ℤ (k *ℤ k)) (h *ℤ (x *ℤ x +ℤ y *ℤ y) +ℤ r *ℤ (z *ℤ z)) (s *ℤ s) positive
-    (omega (arith, linear, low_ring g s k, high_ring h r s x y z))
+along_unscaled : (t u v w s k x y z : ℤ) → pos 0 <ℤ s → (t *ℤ (s *ℤ k)) ≤ℤ (u *ℤ (s *ℤ x) +ℤ v *ℤ (s *ℤ y) +ℤ w *ℤ (s *ℤ z)) → (t *ℤ k) ≤ℤ (u *ℤ x +ℤ v *ℤ y +ℤ w *ℤ z)
+along_unscaled t u v w s k x y z positive along =
+    le_from_mul_ℤ (t *ℤ k) (u *ℤ x +ℤ v *ℤ y +ℤ w *ℤ z) s positive (omega (arith, linear, along, scale_ring t s k, along_ring u v w s x y z))
 
--- Where the raised differences are apart at a moment, the decoded positions are.
-pub decoded_apart : (curves : Raised) (a b r h : ℕ) (t u : Traj) (m : Moment) → curves_at curves a m.cue ≡ raised_in t m.cue → curves_at curves b m.cue ≡ raised_in u m.cue →
+-- Along some direction the second drone is at least its threshold from the first, where both are over one c.
+pub record IsSeenAt (clear : Clearance) (t u : Traj) (m : Moment) : Type 0 where
+  pub n : List ℤ
+  pub along : (threshold clear n *ℤ power (pos m.c) 7) ≤ℤ dot (at (weights n clear.r clear.h)) (near_gap t u m)
+
+-- Where the raised differences are that far apart at a moment, the decoded positions are.
+pub decoded_seen : (clear : Clearance) (curves : Raised) (a b : ℕ) (t u : Traj) (m : Moment) → curves_at curves a m.cue ≡ raised_in t m.cue → curves_at curves b m.cue ≡ raised_in u m.cue →
     m.cue < length t.segments → m.cue < length u.segments → ((axis : ℕ) → axis ≤ 2 → length (points t m.cue axis) ≤ 8) → ((axis : ℕ) → axis ≤ 2 → length (points u m.cue axis) ≤ 8) →
-    IsApartRaised (cue_of (difference curves a b m.cue)) r h (pos m.a) (pos m.c) → AreApartAt t u r h m
+    IsSeenRaised clear (cue_of (difference curves a b m.cue)) (pos m.a) (pos m.c) → IsSeenAt clear t u m
 unfolding difference
-decoded_apart curves a b r h t u m first_is second_is t_in u_in t_few u_few apart =
+decoded_seen clear curves a b t u m first_is second_is t_in u_in t_few u_few seen =
     let value : (axis : ℕ) → axis ≤ 2 → bernstein 7 (at (less (curves_at curves b m.cue) (curves_at curves a m.cue) axis).b) (pos m.a) (pos m.c) ≡ pos 5040 *ℤ near_gap t u m axis =
     λ axis near. less_value t u m axis (curves_at curves a m.cue) (curves_at curves b m.cue) first_is second_is t_in u_in near (t_few axis near) (u_few axis near) in
     record {
-      apart = subst (λ (z : ℤ). (pos (4 * (r * r) * (h * h)) *ℤ z) <ℤ (pos (h * h) *ℤ (near_gap t u m 0 *ℤ near_gap t u m 0 +ℤ near_gap t u m 1 *ℤ near_gap t u m 1) +ℤ pos (r * r) *ℤ (near_gap t u m 2 *ℤ near_gap t u m 2)))
-          (sym (power-add (pos m.c) 7 7))
-          (apart_unscaled (pos (r * r)) (pos (h * h)) (pos (4 * (r * r) * (h * h))) (pos 5040) (power (pos m.c) 7)
+      n = seen.n;
+      along = along_unscaled (threshold clear seen.n) (at seen.n 0 *ℤ pos clear.h) (at seen.n 1 *ℤ pos clear.h) (at seen.n 2 *ℤ pos clear.r) (pos 5040) (power (pos m.c) 7)
           (near_gap t u m 0) (near_gap t u m 1) (near_gap t u m 2) (omega (arith, ints))
-          (rw (← value 0 (omega arith), ← value 1 (omega arith), ← value 2 (omega arith)) apart.apart));
+          (rw (← value 0 (omega arith), ← value 1 (omega arith), ← value 2 (omega arith)) seen.along);
     }
-
--- ---- the other way round
-turned : (x y : ℤ) → (x -ℤ y) *ℤ (x -ℤ y) ≡ (y -ℤ x) *ℤ (y -ℤ x)
-turned x y = simp ring (omega (arith, linear))
-
--- The second drone is apart from the first where the first is from the second.
-pub apart_turned : (t u : Traj) (r h : ℕ) (m : Moment) → AreApartAt t u r h m → AreApartAt u t r h m
-apart_turned t u r h m apart = record {
-  apart = rw (turned (decoded t 0 m) (decoded u 0 m), turned (decoded t 1 m) (decoded u 1 m), turned (decoded t 2 m) (decoded u 2 m)) apart.apart;
-}

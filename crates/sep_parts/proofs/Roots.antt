@@ -1,8 +1,11 @@
 -- The least number whose square is above another.
-use Rattle.std.proofs.Common.{◌≡◌, ℕ, zero, suc, ◌+◌, ◌*◌, ◌≤◌, ◌<◌, ℤ, pos, negsuc, ◌*ℤ◌, ◌≤ℤ◌, ◌<ℤ◌, Bool, true, false, cond, int_lt, unsigned_abs, arith, refl, sym, ap, ◌∙◌}
+use Rattle.std.proofs.Common.{◌≡◌, ℕ, zero, suc, ◌+◌, ◌*◌, ◌≤◌, ◌<◌, ℤ, pos, negsuc, ◌+ℤ◌, ◌-ℤ◌, ◌*ℤ◌, ◌≤ℤ◌, ◌<ℤ◌, Bool, true, false, cond, int_lt, unsigned_abs, arith, refl, sym, ap, ◌∙◌, List}
 use Rattle.std.proofs.lemmas.Int.{ints}
 use Rattle.fleet_math.proofs.BernsteinLemmas.{by_lt}
-use Rattle.sep_parts.specs.Directions.{IsLeastRoot, root_from, root_above}
+use Rattle.fleet_math.specs.Bernstein.{at}
+use Rattle.fleet_math.proofs.RingLemmas.{zero_mul_ℤ}
+use Rattle.sep_parts.specs.declared.clearance.Clearance.{Clearance}
+use Rattle.sep_parts.specs.Directions.{IsLeastReaching, IsLeastRoot, IsStill, ThresholdLaw, for_ellipsoids, length_squared, limit_along, root_from, root_above, root_reaching, stray_limit, threshold, weights}
 use Rattle.sep_parts.proofs.Limits.{root_above-least}
 
 square_from : (m : ℕ) → m ≤ m * m
@@ -67,3 +70,41 @@ root_is_least v = record {
     least : (v s : ℤ) → pos 0 ≤ℤ s → v <ℤ (s *ℤ s) → pos (root_above v) ≤ℤ s
     least v (pos m) positive more = omega (arith, ints, root_above-least v m more)
     least v (negsuc m) positive more = absurd (omega (arith, ints, positive))
+
+-- the least number whose square is at least v is the least one whose square is above v - 1
+pub root_is_reaching : (v : ℤ) → IsLeastReaching v (pos (root_reaching v))
+root_is_reaching v =
+    let root : IsLeastRoot (v -ℤ pos 1) (pos (root_reaching v)) = root_is_least (v -ℤ pos 1) in
+    record {
+      not_negative = root.not_negative;
+      reaches = up v (pos (root_reaching v) *ℤ pos (root_reaching v)) root.above;
+      least = λ s positive more. root.least s positive (down v (s *ℤ s) more);
+    }
+  where
+    up : (x y : ℤ) → (x -ℤ pos 1) <ℤ y → x ≤ℤ y
+    up x y less = omega (arith, ints)
+
+    down : (x y : ℤ) → x ≤ℤ y → (x -ℤ pos 1) <ℤ y
+    down x y low = omega (arith, ints)
+
+-- where there is nothing to reach it is 0
+pub reaching_none : root_reaching (pos 0) ≡ 0
+unfolding root_above
+reaching_none = refl
+
+still : (c : Clearance) (n : List ℤ) → IsStill c → threshold c n ≡ for_ellipsoids c n
+still c n is =
+    let none : stray_limit c n ≡ pos 0 = rw is.stray (zero_mul_ℤ (length_squared (weights n c.r c.h))) in
+    let strays : root_reaching (stray_limit c n) ≡ 0 = ap (λ (v : ℤ). root_reaching v) none ∙ reaching_none in
+    rw (strays, is.reach 0, is.reach 1, is.reach 2)
+    (alone (root_above (limit_along c.r c.h n)) (unsigned_abs (at n 0 *ℤ pos c.h)) (unsigned_abs (at n 1 *ℤ pos c.h)) (unsigned_abs (at n 2 *ℤ pos c.r)))
+  where
+    alone : (t a b d : ℕ) → pos t +ℤ pos 0 +ℤ pos (a * 0 + b * 0 + d * 0) ≡ pos t
+    alone t a b d = omega (arith, ints)
+
+pub laws : ThresholdLaw
+laws = record {
+  ellipsoids = λ c n. root_is_least (limit_along c.r c.h n);
+  strays = λ c n. root_is_reaching (stray_limit c n);
+  still = still;
+}

@@ -7,40 +7,41 @@ use Rattle.fleet_math.specs.Bernstein.{at}
 use Rattle.bezier_core.specs.declared.Bez.{Bez}
 use Rattle.bezier_core.specs.Along.{along_value}
 use Rattle.sep_parts.specs.declared.stack.Level.{Level}
-use Rattle.sep_parts.specs.Directions.{threshold, AreSmall}
-use Rattle.sep_parts.specs.Separates.{first_low, least_value, low_value, weights}
+use Rattle.sep_parts.specs.declared.clearance.Clearance.{Clearance}
+use Rattle.sep_parts.specs.Directions.{threshold, weights, AreSmall}
+use Rattle.sep_parts.specs.Separates.{first_low, least_value, low_value}
 use Rattle.sep_parts.specs.Levels.{IsLevel}
 use Rattle.sep_parts.specs.Rulers.{IsRuler}
 use Rattle.sep_parts.proofs.Parts.{low-along}
 use Rattle.sep_parts.proofs.Lows.{first_low-none, first_low-values}
-use Rattle.sep_parts.proofs.Limits.{threshold_told, threshold_small}
+use Rattle.sep_parts.proofs.Limits.{threshold_told, threshold_low, threshold_small}
 
-module _ (dirs : List (List ℤ)) (ts : List ℤ) (r h dir : ℕ) (ruler : IsRuler dirs ts r h) (inside : dir < length dirs) where
-  told : to_z w128 (of_z w128 (at ts dir)) ≡ threshold r h (get_or dirs dir [])
-  told = threshold_told r h ts dirs dir ruler.across ruler.upwards ruler.entries ruler.reached inside
+module _ (dirs : List (List ℤ)) (ts : List ℤ) (c : Clearance) (dir : ℕ) (ruler : IsRuler dirs ts c) (inside : dir < length dirs) where
+  told : to_z w128 (of_z w128 (at ts dir)) ≡ threshold c (get_or dirs dir [])
+  told = threshold_told c ts dirs dir ruler.clear ruler.entries ruler.reached inside
 
   -- a kept threshold is not negative
   pub positive : pos 0 ≤ℤ to_z w128 (of_z w128 (at ts dir))
-  positive = rw told (omega (arith, ints))
+  positive = rw told (threshold_low c (get_or dirs dir []))
 
   -- and below 2^30
   pub small : to_z w128 (of_z w128 (at ts dir)) <ℤ pos (2 ^ 30)
-  small = rw told (threshold_small r h (get_or dirs dir []) ruler.across ruler.upwards (All-get_or AreSmall dirs dir [] inside ruler.entries))
+  small = rw told (threshold_small c (get_or dirs dir []) ruler.clear (All-get_or AreSmall dirs dir [] inside ruler.entries))
 
   -- the first low control value of a part, by the kept threshold
   pub low : (diff : List (Bez 8)) (level : Level) → IsLevel diff level →
-      first_low (along_value level.part (weights (get_or dirs dir []) r h)) (least_value (to_z w128 (of_z w128 (at ts dir))) level.place.depth)
-      ≡ low_value r h diff level.place (get_or dirs dir [])
+      first_low (along_value level.part (weights (get_or dirs dir []) c.r c.h)) (least_value (to_z w128 (of_z w128 (at ts dir))) level.place.depth)
+      ≡ low_value c diff level.place (get_or dirs dir [])
   low diff level is =
-      ap (λ (t : ℤ). first_low (along_value level.part (weights (get_or dirs dir []) r h)) (least_value t level.place.depth)) told
-      ∙ low-along diff level (get_or dirs dir []) r h (least_value (threshold r h (get_or dirs dir [])) level.place.depth) is
+      ap (λ (t : ℤ). first_low (along_value level.part (weights (get_or dirs dir []) c.r c.h)) (least_value t level.place.depth)) told
+      ∙ low-along diff level (get_or dirs dir []) c.r c.h (least_value (threshold c (get_or dirs dir [])) level.place.depth) is
 
   -- whether none is low
   pub none_low : (diff : List (Bez 8)) (level : Level) (b : Bool) → IsLevel diff level →
-      (IsTrue b ↔ ((k : ℕ) → k ≤ 7 → least_value (to_z w128 (of_z w128 (at ts dir))) level.place.depth ≤ℤ along_value level.part (weights (get_or dirs dir []) r h) k)) →
-      b ≡ is_none (low_value r h diff level.place (get_or dirs dir []))
+      (IsTrue b ↔ ((k : ℕ) → k ≤ 7 → least_value (to_z w128 (of_z w128 (at ts dir))) level.place.depth ≤ℤ along_value level.part (weights (get_or dirs dir []) c.r c.h) k)) →
+      b ≡ is_none (low_value c diff level.place (get_or dirs dir []))
   none_low diff level b is reach =
-      sym (tested b (along_value level.part (weights (get_or dirs dir []) r h)) (least_value (to_z w128 (of_z w128 (at ts dir))) level.place.depth) reach)
+      sym (tested b (along_value level.part (weights (get_or dirs dir []) c.r c.h)) (least_value (to_z w128 (of_z w128 (at ts dir))) level.place.depth) reach)
       ∙ ap is_none (low diff level is)
     where
       tested : (b : Bool) (f : ℕ → ℤ) (least : ℤ) → (IsTrue b ↔ ((k : ℕ) → k ≤ 7 → least ≤ℤ f k)) → is_none (first_low f least) ≡ b

@@ -11,22 +11,13 @@ use Rattle.bezier_core.proofs.EightLemmas.{controls_below}
 use Rattle.halving.specs.declared.Place.{Place}
 use Rattle.halving.specs.Part.{part_value}
 use Rattle.halving.specs.Places.{IsPlace}
-use Rattle.sep_parts.specs.Directions.{AreSmall, IsAxis, threshold}
+use Rattle.sep_parts.specs.declared.clearance.Clearance.{Clearance}
+use Rattle.sep_parts.specs.Directions.{AreSmall, IsAxis, IsClearance, threshold}
 use Rattle.sep_parts.specs.Separates.{least_value}
 use Rattle.sep_parts.specs.Sizes.{HasSmallNumbers}
-use Rattle.sep_parts.proofs.Limits.{threshold_small}
+use Rattle.sep_parts.proofs.Limits.{threshold_low, threshold_small, weight_small}
 use Rattle.sep_parts.proofs.Parts.{part-small}
 use Rattle.sep_parts.proofs.Weighted.{product_small, sum_small}
-
--- an entry times a half axis
-weight_small : (n : List ℤ) (k axis : ℕ) → AreSmall n → k ≤ 2 → IsAxis axis → IsBelow 4001 (at n k *ℤ pos axis)
-weight_small n k axis small few is_axis =
-    close (at n k) (small.low k few) (small.high k few)
-  where
-    close : (x : ℤ) → neg_ℤ (pos 2) ≤ℤ x → x ≤ℤ pos 2 → IsBelow 4001 (x *ℤ pos axis)
-    close x low high =
-        let m : unsigned_abs (x *ℤ pos axis) ≤ 2 * 2000 = rw (unsigned_abs-mul x (pos axis)) (mul-le (unsigned_abs x) (unsigned_abs (pos axis)) 2 2000 (omega (arith, ints)) (omega (arith, ints))) in
-        (omega (arith, ints), omega (arith, ints))
 
 -- a threshold at the scale of a depth
 least_small : (t : ℤ) (depth : ℕ) → pos 0 ≤ℤ t → t <ℤ pos (2 ^ 30) → depth ≤ 8 → IsBelow (2 ^ 104) (least_value t depth)
@@ -40,19 +31,19 @@ least_small t depth positive small few =
         let m : unsigned_abs (t *ℤ pos s) ≤ 2 ^ 30 * 2 ^ 70 = rw (unsigned_abs-mul t (pos s)) (mul-le (unsigned_abs t) (unsigned_abs (pos s)) (2 ^ 30) (2 ^ 70) (omega (arith, ints)) (omega (arith, ints))) in
         (omega (arith, ints), omega (arith, ints))
 
-pub small_numbers : (r h : ℕ) (diff : List (Bez 8)) (place : Place) (n : List ℤ) → IsAxis r → IsAxis h → AreSmall n →
-    IsPlace place.depth place.index → All (λ (curve : Bez 8). All (IsBelow (2 ^ 30)) curve.b) diff → HasSmallNumbers r h diff place n
-small_numbers r h diff place n r_axis h_axis small is_place values = record {
+pub small_numbers : (c : Clearance) (diff : List (Bez 8)) (place : Place) (n : List ℤ) → IsClearance c → AreSmall n →
+    IsPlace place.depth place.index → All (λ (curve : Bez 8). All (IsBelow (2 ^ 30)) curve.b) diff → HasSmallNumbers c diff place n
+small_numbers c diff place n clear small is_place values = record {
   parts = λ axis k low few. part axis k few;
   sums = λ k few.
-      sum_small ((at n 0 *ℤ pos h) *ℤ part_value place.depth place.index (at (controls diff 0)) k)
-      ((at n 1 *ℤ pos h) *ℤ part_value place.depth place.index (at (controls diff 1)) k)
-      ((at n 2 *ℤ pos r) *ℤ part_value place.depth place.index (at (controls diff 2)) k)
-      (product_small (at n 0 *ℤ pos h) (part_value place.depth place.index (at (controls diff 0)) k) (weight_small n 0 h small (omega arith) h_axis) (part 0 k few))
-      (product_small (at n 1 *ℤ pos h) (part_value place.depth place.index (at (controls diff 1)) k) (weight_small n 1 h small (omega arith) h_axis) (part 1 k few))
-      (product_small (at n 2 *ℤ pos r) (part_value place.depth place.index (at (controls diff 2)) k) (weight_small n 2 r small (omega arith) r_axis) (part 2 k few));
-  reach = (omega (arith, ints), threshold_small r h n r_axis h_axis small);
-  least = least_small (threshold r h n) place.depth (omega (arith, ints)) (threshold_small r h n r_axis h_axis small) is_place.0;
+      sum_small ((at n 0 *ℤ pos c.h) *ℤ part_value place.depth place.index (at (controls diff 0)) k)
+      ((at n 1 *ℤ pos c.h) *ℤ part_value place.depth place.index (at (controls diff 1)) k)
+      ((at n 2 *ℤ pos c.r) *ℤ part_value place.depth place.index (at (controls diff 2)) k)
+      (product_small (at n 0 *ℤ pos c.h) (part_value place.depth place.index (at (controls diff 0)) k) (weight_small n 0 c.h small (omega arith) clear.upwards) (part 0 k few))
+      (product_small (at n 1 *ℤ pos c.h) (part_value place.depth place.index (at (controls diff 1)) k) (weight_small n 1 c.h small (omega arith) clear.upwards) (part 1 k few))
+      (product_small (at n 2 *ℤ pos c.r) (part_value place.depth place.index (at (controls diff 2)) k) (weight_small n 2 c.r small (omega arith) clear.across) (part 2 k few));
+  reach = (omega (arith, ints, threshold_low c n), threshold_small c n clear small);
+  least = least_small (threshold c n) place.depth (threshold_low c n) (threshold_small c n clear small) is_place.0;
 }
   where
     part : (axis k : ℕ) → k ≤ 7 → IsBelow (2 ^ 86) (part_value place.depth place.index (at (controls diff axis)) k)

@@ -1,6 +1,7 @@
 -- The directions along which two drones are told apart, and how far apart they must be along each.
-use Rattle.std.specs.Prelude.{◌≡◌, ◌⊎◌, ℕ, zero, suc, ◌*◌, ◌%◌, ◌==◌, ◌≤◌, ℤ, pos, negsuc, neg_ℤ, ◌+ℤ◌, ◌*ℤ◌, ◌≤ℤ◌, ◌<ℤ◌, Bool, true, false, not, ◌&&◌, ◌||◌, int_lt, List, [], ◌∷◌, map, filter, flat_map, unsigned_abs, slice_index_or, if◌then◌else◌}
+use Rattle.std.specs.Prelude.{◌≡◌, ◌⊎◌, ℕ, zero, suc, ◌+◌, ◌*◌, ◌%◌, ◌==◌, ◌≤◌, ℤ, pos, negsuc, neg_ℤ, ◌+ℤ◌, ◌-ℤ◌, ◌*ℤ◌, ◌≤ℤ◌, ◌<ℤ◌, Bool, true, false, not, ◌&&◌, ◌||◌, int_lt, List, [], ◌∷◌, map, filter, flat_map, unsigned_abs, slice_index_or, if◌then◌else◌}
 use Rattle.fleet_math.specs.Bernstein.{at}
+use Rattle.sep_parts.specs.declared.clearance.Clearance.{Clearance}
 
 -- how many directions the table has
 abbrev pub direction_count : ℕ
@@ -14,14 +15,26 @@ IsTableSize m = (m ≡ 26) ⊎ (m ≡ 98)
 abbrev pub IsAxis : ℕ → Type 0
 IsAxis r = (1 ≤ r) × (r ≤ 2000)
 
+-- how far a drone moves on an axis while it is late, at most
+abbrev pub reach_on : Clearance → ℕ → ℕ
+reach_on c axis = slice_index_or c.reach axis 0
+
+-- A clearance as shows have it: half axes of 1 to 2,000 mm, a stray of at most 1,000 mm, and a reach of at most 65,536 mm on each axis, which is
+-- farther than two positions can be from one another.
+pub record IsClearance (c : Clearance) : Type 0 where
+  pub across : IsAxis c.r
+  pub upwards : IsAxis c.h
+  pub stray : c.stray ≤ 1000
+  pub reach : (axis : ℕ) → reach_on c axis ≤ 65536
+
 -- the three entries of a direction lie from -2 to 2
 pub record AreSmall (n : List ℤ) : Type 0 where
   pub low : (k : ℕ) → k ≤ 2 → neg_ℤ (pos 2) ≤ℤ at n k
   pub high : (k : ℕ) → k ≤ 2 → at n k ≤ℤ pos 2
 
--- z lies from 0 to 4, as the square of an entry does
-abbrev pub IsEntrySquare : ℤ → Type 0
-IsEntrySquare z = (pos 0 ≤ℤ z) × (z ≤ℤ pos 4)
+-- z lies from 0 to 16,000,000, as the square of a weight does
+abbrev pub IsSquare : ℤ → Type 0
+IsSquare z = (pos 0 ≤ℤ z) × (z ≤ℤ pos 16000000)
 
 -- n . n, the square of a direction's length
 abbrev pub length_squared : List ℤ → ℤ
@@ -105,13 +118,38 @@ root_from v (suc n) k = if int_lt v (pos (k * k)) then k else root_from v n (suc
 unfoldable pub root_above : ℤ → ℕ
 root_above v = root_from v (suc (unsigned_abs v)) 0
 
+-- the least whole number whose square is at least v
+abbrev pub root_reaching : ℤ → ℕ
+root_reaching v = root_above (v -ℤ pos 1)
+
+-- the weights of the three curves along a direction: (n_x h, n_y h, n_z r)
+abbrev pub weights : List ℤ → ℕ → ℕ → List ℤ
+weights n r h = (at n 0 *ℤ pos h) ∷ (at n 1 *ℤ pos h) ∷ (at n 2 *ℤ pos r) ∷ []
+
 -- 4 r^2 h^2 (n . n)
 abbrev pub limit_along : ℕ → ℕ → List ℤ → ℤ
 limit_along r h n = pos (4 * (r * r) * (h * h)) *ℤ length_squared n
 
--- The threshold of a direction: the least whole number that is not negative and whose square is above 4 r^2 h^2 (n . n).
-abbrev pub threshold : ℕ → ℕ → List ℤ → ℤ
-threshold r h n = pos (root_above (limit_along r h n))
+-- 4 stray^2 (w . w), where w are the weights along the direction
+abbrev pub stray_limit : Clearance → List ℤ → ℤ
+stray_limit c n = pos (4 * (c.stray * c.stray)) *ℤ length_squared (weights n c.r c.h)
+
+-- what the ellipsoids ask for along a direction: the least whole number whose square is above 4 r^2 h^2 (n . n)
+abbrev pub for_ellipsoids : Clearance → List ℤ → ℤ
+for_ellipsoids c n = pos (root_above (limit_along c.r c.h n))
+
+-- what the strays of two drones take away along it, at most: the least whole number whose square is at least 4 stray^2 (w . w)
+abbrev pub for_strays : Clearance → List ℤ → ℤ
+for_strays c n = pos (root_reaching (stray_limit c n))
+
+-- what the way of a drone that is late takes away along it, at most: |w_x| times its reach on x, and so on
+abbrev pub for_reach : Clearance → List ℤ → ℤ
+for_reach c n =
+    pos (unsigned_abs (at n 0 *ℤ pos c.h) * reach_on c 0 + unsigned_abs (at n 1 *ℤ pos c.h) * reach_on c 1 + unsigned_abs (at n 2 *ℤ pos c.r) * reach_on c 2)
+
+-- The threshold of a direction: how far apart along it two curves must be, so that the ellipsoids around two drones share no point.
+abbrev pub threshold : Clearance → List ℤ → ℤ
+threshold c n = for_ellipsoids c n +ℤ for_strays c n +ℤ for_reach c n
 
 -- t is the least number that is not negative and whose square is above v
 pub record IsLeastRoot (v t : ℤ) : Type 0 where
@@ -119,6 +157,20 @@ pub record IsLeastRoot (v t : ℤ) : Type 0 where
   pub above : v <ℤ (t *ℤ t)
   pub least : (s : ℤ) → pos 0 ≤ℤ s → v <ℤ (s *ℤ s) → t ≤ℤ s
 
--- each threshold is that least number, whatever the half axes and the direction
-abbrev pub ThresholdLaw : Type 0
-ThresholdLaw = (r h : ℕ) (n : List ℤ) → IsLeastRoot (limit_along r h n) (threshold r h n)
+-- t is the least number that is not negative and whose square is at least v
+pub record IsLeastReaching (v t : ℤ) : Type 0 where
+  pub not_negative : pos 0 ≤ℤ t
+  pub reaches : v ≤ℤ (t *ℤ t)
+  pub least : (s : ℤ) → pos 0 ≤ℤ s → v ≤ℤ (s *ℤ s) → t ≤ℤ s
+
+-- nobody strays or is late
+pub record IsStill (c : Clearance) : Type 0 where
+  pub stray : c.stray ≡ 0
+  pub reach : (axis : ℕ) → reach_on c axis ≡ 0
+
+-- The first two parts of a threshold are these least numbers, whatever the clearance and the direction, and where nobody strays or is late it is
+-- its first part.
+pub record ThresholdLaw : Type 0 where
+  pub ellipsoids : (c : Clearance) (n : List ℤ) → IsLeastRoot (limit_along c.r c.h n) (for_ellipsoids c n)
+  pub strays : (c : Clearance) (n : List ℤ) → IsLeastReaching (stray_limit c n) (for_strays c n)
+  pub still : (c : Clearance) (n : List ℤ) → IsStill c → threshold c n ≡ for_ellipsoids c n

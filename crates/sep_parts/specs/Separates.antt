@@ -6,11 +6,8 @@ use Rattle.bezier_core.specs.Along.{controls}
 use Rattle.bezier_core.specs.Raised.{eight}
 use Rattle.halving.specs.declared.Place.{Place}
 use Rattle.halving.specs.Part.{part_value}
+use Rattle.sep_parts.specs.declared.clearance.Clearance.{Clearance}
 use Rattle.sep_parts.specs.Directions.{threshold}
-
--- the weights of the three curves along a direction: (n_x h, n_y h, n_z r)
-abbrev pub weights : List ℤ → ℕ → ℕ → List ℤ
-weights n r h = (at n 0 *ℤ pos h) ∷ (at n 1 *ℤ pos h) ∷ (at n 2 *ℤ pos r) ∷ []
 
 -- what each control value of a part of this depth must be at least, at a threshold
 abbrev pub least_value : ℤ → ℕ → ℤ
@@ -29,13 +26,13 @@ part_along r h diff place n k =
 
 -- The direction n separates a place of a pair and a cue, whose raised differences these are:
 -- along it each of the eight control values is at least the threshold.
-abbrev pub Separates : ℕ → ℕ → List (Bez 8) → Place → List ℤ → Type 0
-Separates r h diff place n = IsAbove (threshold r h n) place.depth (part_along r h diff place n)
+abbrev pub Separates : Clearance → List (Bez 8) → Place → List ℤ → Type 0
+Separates c diff place n = IsAbove (threshold c n) place.depth (part_along c.r c.h diff place n)
 
 -- the first of eight control values that is below another number
 unfoldable pub first_low : (ℕ → ℤ) → ℤ → Option ℕ
 first_low f least = position (λ v. int_lt v least) (eight f)
 
 -- the first control value of the place that is below the threshold along the direction
-abbrev pub low_value : ℕ → ℕ → List (Bez 8) → Place → List ℤ → Option ℕ
-low_value r h diff place n = first_low (part_along r h diff place n) (least_value (threshold r h n) place.depth)
+abbrev pub low_value : Clearance → List (Bez 8) → Place → List ℤ → Option ℕ
+low_value c diff place n = first_low (part_along c.r c.h diff place n) (least_value (threshold c n) place.depth)

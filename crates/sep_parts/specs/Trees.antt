@@ -69,7 +69,7 @@ IsShallow place (Leaf dir) = Unit {0}
 -- At a place of a pair and a cue, whose raised differences these are: no split stands at the depth or below it, and
 -- each leaf's direction separates its place.
 abbrev pub IsValidTree : Rules → List (List ℤ) → List (Bez 8) → Place → Tree → Type 0
-IsValidTree rules dirs diff place (leaf dir) = Separates rules.r rules.h diff place (direction_of dirs dir)
+IsValidTree rules dirs diff place (leaf dir) = Separates rules.clearance diff place (direction_of dirs dir)
 IsValidTree rules dirs diff place (split left right) =
     (place.depth < rules.depth) × IsValidTree rules dirs diff (left_half place) left
     × IsValidTree rules dirs diff (right_half place) right

@@ -8,6 +8,7 @@
 #![tactic(auto)]
 
 mod apart;
+mod clearance;
 mod directions;
 mod narrow;
 mod node;
@@ -20,6 +21,7 @@ mod stack;
 mod tests;
 
 pub use apart::apart_law;
+pub use clearance::Clearance;
 pub use directions::{DIRECTIONS, Dirs, WIDE, table_law, threshold_law, thresholds};
 pub use node::{Node, tree_law};
 pub use part::{above, first_below, halves, low_control, projected, separates, size_law};

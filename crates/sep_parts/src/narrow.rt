@@ -3,8 +3,8 @@
 ghost use Rattle.std.specs.Prelude.{◌≡◌, ℕ, ◌^◌, ◌≤◌, ◌<◌, ℤ, pos, ◌*ℤ◌, ◌≤ℤ◌, ◌<ℤ◌, All, IsTrue, ◌↔◌};
 ghost use Rattle.fleet_math.specs.Numbers.{IsBelow};
 ghost use Rattle.bezier_core.specs.Along.{along_value};
-ghost use Rattle.sep_parts.specs.Directions.{AreSmall, IsAxis};
-ghost use Rattle.sep_parts.specs.Separates.{least_value, weights};
+ghost use Rattle.sep_parts.specs.Directions.{AreSmall, IsAxis, weights};
+ghost use Rattle.sep_parts.specs.Separates.{least_value};
 
 use crate::part::scaled;
 use bezier_core::Bez;

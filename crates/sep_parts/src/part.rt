@@ -6,8 +6,8 @@ ghost use Rattle.fleet_math.specs.Bernstein.{at};
 ghost use Rattle.bezier_core.specs.Along.{along_value, controls};
 ghost use Rattle.bezier_core.specs.Raised.{eight};
 ghost use Rattle.halving.specs.Part.{part_value};
-ghost use Rattle.sep_parts.specs.Directions.{AreSmall, IsAxis};
-ghost use Rattle.sep_parts.specs.Separates.{IsAbove, first_low, least_value, weights};
+ghost use Rattle.sep_parts.specs.Directions.{AreSmall, IsAxis, weights};
+ghost use Rattle.sep_parts.specs.Separates.{IsAbove, first_low, least_value};
 ghost use Rattle.sep_parts.specs.Sizes.{SizeLaw};
 
 use bezier_core::{Bez, along, along_at};
@@ -118,7 +118,7 @@ pub fn above(p: &Bez<8>, threshold: i128, depth: u8) -> bool
 }
 
 // The weights of the three curves along a direction.
-fn weights(n: [i8; 3], r: u16, h: u16) -> [i128; 3]
+pub(crate) fn weights(n: [i8; 3], r: u16, h: u16) -> [i128; 3]
     requires entries { AreSmall n }
     requires r { IsAxis r }
     requires h { IsAxis h }

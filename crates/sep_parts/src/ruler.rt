@@ -2,10 +2,11 @@
 
 ghost use Rattle.std.specs.Prelude.{◌≡◌, ◌^◌, ◌<◌, ◌≤◌, length, All, is_none};
 ghost use Rattle.fleet_math.specs.Numbers.{IsBelow};
-ghost use Rattle.sep_parts.specs.Directions.{AreSmall, IsAxis, IsTableSize, direction_of};
+ghost use Rattle.sep_parts.specs.Directions.{AreSmall, IsClearance, IsTableSize, direction_of};
 ghost use Rattle.sep_parts.specs.Levels.{IsLevel};
 ghost use Rattle.sep_parts.specs.Separates.{low_value};
 
+use crate::clearance::Clearance;
 use crate::directions::{Dirs, thresholds};
 use crate::narrow::{NARROW_DEPTH, separates_narrow};
 use crate::part::{low_control, separates};
@@ -13,14 +14,13 @@ use crate::stack::Level;
 use bezier_core::Bez;
 use std::marker::Model;
 
-/// A table of directions with the threshold of each, for ellipsoids of half axes `r`, `r` and `h` in millimetres. Contracts see
-/// the directions and the half axes, which determine the thresholds.
+/// A table of directions with the threshold of each for a clearance. Contracts see the directions and the clearance, which determine the
+/// thresholds.
 #[derive(Drop)]
 pub struct Ruler<const M: usize> {
     directions: Dirs<M>,
     thresholds: [i128; M],
-    r: u16,
-    h: u16,
+    clearance: Clearance,
 }
 
 impl<const M: usize> Model for Ruler<M> {
@@ -28,26 +28,24 @@ impl<const M: usize> Model for Ruler<M> {
 
     ghost Value = { Measure };
 
-    ghost view = { λ s. record { directions = s.directions.n; r = s.r; h = s.h } };
+    ghost view = { λ s. record { directions = s.directions.n; clearance = s.clearance } };
 
-    ghost invariant = { λ s. IsRuler s.directions.n s.thresholds s.r s.h };
+    ghost invariant = { λ s. IsRuler s.directions.n s.thresholds s.clearance };
 }
 
 impl<const M: usize> Ruler<M> {
-    /// The ruler of a table for half axes of 1 to 2,000 mm. Working the thresholds out takes longer than most searches, so it is
-    /// made once for all pairs and cues.
-    pub fn make(directions: &Dirs<M>, r: u16, h: u16) -> Ruler<M>
+    /// The ruler of a table for a clearance. Working the thresholds out takes longer than most searches, so it is made once for all pairs
+    /// and cues.
+    pub fn make(directions: &Dirs<M>, clearance: Clearance) -> Ruler<M>
         requires size { IsTableSize M }
         requires entries { All AreSmall directions.now.n }
-        requires r { IsAxis r }
-        requires h { IsAxis h }
-        ensures { result ≡ record { directions = directions.now.n; r = r; h = h } }
+        requires clearance { IsClearance clearance }
+        ensures { result ≡ record { directions = directions.now.n; clearance = clearance } }
     {
         Ruler {
             directions: *directions,
-            thresholds: thresholds(directions, r, h),
-            r,
-            h,
+            thresholds: thresholds(directions, clearance),
+            clearance,
         }
     }
 
@@ -66,11 +64,11 @@ impl<const M: usize> Ruler<M> {
         requires values { All (λ curve. All (IsBelow (2 ^ 30)) curve.b) diff.now }
         requires level { IsLevel diff.now level.now }
         requires dir { dir < length self.now.directions }
-        ensures { result ≡ is_none (low_value self.now.r self.now.h diff.now level.now.place (direction_of self.now.directions dir)) }
+        ensures { result ≡ is_none (low_value self.now.clearance diff.now level.now.place (direction_of self.now.directions dir)) }
     {
         let directions = self.directions.n.as_slice();
         let thresholds = self.thresholds.as_slice();
-        let (r, h) = (self.r, self.h);
+        let Clearance { r, h, .. } = self.clearance;
         if level.place.depth <= NARROW_DEPTH {
             return separates_narrow(
                 &level.part,
@@ -97,15 +95,15 @@ impl<const M: usize> Ruler<M> {
         requires values { All (λ curve. All (IsBelow (2 ^ 30)) curve.b) diff.now }
         requires level { IsLevel diff.now level.now }
         requires dir { dir < length self.now.directions }
-        ensures { result ≡ low_value self.now.r self.now.h diff.now level.now.place (direction_of self.now.directions dir) }
+        ensures { result ≡ low_value self.now.clearance diff.now level.now.place (direction_of self.now.directions dir) }
     {
         let directions = self.directions.n.as_slice();
         let thresholds = self.thresholds.as_slice();
         low_control(
             &level.part,
             directions[dir],
-            self.r,
-            self.h,
+            self.clearance.r,
+            self.clearance.h,
             thresholds[dir],
             level.place.depth,
         )

@@ -8,12 +8,39 @@ use bezier_core::Bez;
 use halving::Place;
 use std::test::Fail;
 
+// The ellipsoid of shows that set none, with nobody who strays or is late.
+const STILL: Clearance = Clearance {
+    r: 120,
+    h: 300,
+    stray: 0,
+    late: 0,
+    reach: [0, 0, 0],
+};
+
 #[test]
 fn thresholds_by_the_entries_that_are_not_zero(rt: HostRuntime) -> Result<(), Fail> {
-    let t = thresholds(&DIRECTIONS, 120, 300);
+    let t = thresholds(&DIRECTIONS, STILL);
     assert_eq!(rt; [t[4], t[10], t[12], t[13], t[15], t[21]], [72001; 6]);
     assert_eq!(rt; [t[1], t[3], t[5], t[7], t[9], t[11], t[24]], [101824; 7]);
     assert_eq!(rt; [t[0], t[2], t[6], t[8], t[17], t[25]], [124708; 6]);
+    Ok(())
+}
+
+// A stray of 50 mm, and a drone that moves by 15 mm on x and 20 mm on z while it is late: by exact square roots, apart from the program.
+#[test]
+fn thresholds_with_strays_and_late_drones(rt: HostRuntime) -> Result<(), Fail> {
+    let clearance = Clearance {
+        r: 120,
+        h: 300,
+        stray: 50,
+        late: 20,
+        reach: [15, 0, 20],
+    };
+    let t = thresholds(&DIRECTIONS, clearance);
+    // (1, 0, 0): 72,001 and 30,000 and 4,500; (0, 0, 1): 72,001 and 12,000 and 2,400; (1, 1, 1): 124,708 and 44,091 and 6,900
+    assert_eq!(rt; [t[4], t[21]], [106501; 2]);
+    assert_eq!(rt; [t[12], t[13]], [86401; 2]);
+    assert_eq!(rt; [t[0], t[25]], [175699; 2]);
     Ok(())
 }
 

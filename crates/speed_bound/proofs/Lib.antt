@@ -3,3 +3,5 @@ pub mod Speeds
 pub mod Widths
 pub mod Rests
 mod Rows
+pub mod Reaches
+pub mod Still

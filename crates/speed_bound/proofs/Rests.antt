@@ -60,7 +60,7 @@ next_speed depth axis first first' segments i d fastest fastest' here whole insi
 
 -- ---- what the bound promises
 -- each of the pieces of formed segments lasts some time and has at most seven stored points
-pieces_formed : (axis : ℕ) (segments : List Segment) → axis ≤ 2 → All HasDuration segments → All IsFormed segments → All IsPiece (map (piece_on axis) segments)
+pub pieces_formed : (axis : ℕ) (segments : List Segment) → axis ≤ 2 → All HasDuration segments → All IsFormed segments → All IsPiece (map (piece_on axis) segments)
 pieces_formed axis [] near lasting formed = All-nil IsPiece
 pieces_formed axis (s ∷ rest) near lasting formed =
     All-cons IsPiece (piece_on axis s) (map (piece_on axis) rest)

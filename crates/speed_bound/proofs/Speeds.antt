@@ -17,7 +17,7 @@ use Rattle.speed_bound.proofs.Slopes.{AreFlat, steep_between, within_add, within
 use Rattle.sep_parts.proofs.Instants.{Lies, moment-lies, time_before-suc}
 
 -- ---- a positive factor cancels
-le_from_mul : (s x y : ℤ) → pos 0 <ℤ s → (s *ℤ x) ≤ℤ (s *ℤ y) → x ≤ℤ y
+pub le_from_mul : (s x y : ℤ) → pos 0 <ℤ s → (s *ℤ x) ≤ℤ (s *ℤ y) → x ≤ℤ y
 le_from_mul s x y positive below = by_lt_z y x
     (λ less. let more : (s *ℤ (y +ℤ pos 1)) ≤ℤ (s *ℤ x) = le_mul_ℤ s (y +ℤ pos 1) x (omega (arith, linear)) (omega (arith, linear)) in
     absurd (omega (arith, linear, more, below, mul_add_ℤ s y (pos 1), mul_comm_ℤ s (pos 1), one_mul_ℤ s)))
@@ -98,7 +98,7 @@ piece_value start pieces cue a c formed inside =
     let count : (1 ≤ length (points start pieces cue)) × (length (points start pieces cue) ≤ 8) = points-count start pieces cue formed inside in
     raise (points start pieces cue) (length (points start pieces cue)) (pos a) (pos c) refl count.0 count.1
 
-power_low : (c : ℤ) (n : ℕ) → pos 0 ≤ℤ c → pos 0 ≤ℤ power c n
+pub power_low : (c : ℤ) (n : ℕ) → pos 0 ≤ℤ c → pos 0 ≤ℤ power c n
 power_low c zero low = omega (arith, ints)
 power_low c (suc n) low = omega (arith, linear, le_mul_ℤ c (pos 0) (power c n) low (power_low c n low), mul_comm_ℤ c (pos 0), zero_mul_ℤ c)
 

@@ -1,2 +1,3 @@
 pub mod Speed
+pub mod Reach
 pub mod Lines

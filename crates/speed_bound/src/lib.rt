@@ -9,8 +9,10 @@
 #![tactic(auto)]
 
 mod parts;
+mod reaching;
 #[cfg(test)]
 mod tests;
 mod trajectory;
 
+pub use reaching::{reach, reach_law, still_law};
 pub use trajectory::bound;

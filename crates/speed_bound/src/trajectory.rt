@@ -24,6 +24,7 @@ pub fn bound(t: &Traj, depth: u8) -> [i64; 3]
     requires depth { depth ≤ 8 }
     ensures exact { result ≡ pos (speed depth t.now 0) ∷ pos (speed depth t.now 1) ∷ pos (speed depth t.now 2) ∷ [] }
     ensures keeps { (axis : ℕ) → axis ≤ 2 → KeepsSpeed t.now axis (speed depth t.now axis) }
+    ensures small { (axis : ℕ) → axis ≤ 2 → speed depth t.now axis < 2 ^ 50 }
 {
     let mut x = t.start[0];
     let mut y = t.start[1];

@@ -25,7 +25,7 @@ use Rattle.traj_codec.proofs.PositionLemmas.{durations_on}
 use Rattle.fleet_curves.specs.Steps.{IsFormed}
 use Rattle.traj_codec.specs.Joined.{own}
 use Rattle.fleet_curves.specs.Raised.{IsOneShow, cues_in}
-use Rattle.sep_parts.specs.Apart.{AreApart, FlyApart}
+use Rattle.sep_parts.specs.Apart.{AreApart, FlyApartExactly}
 use Rattle.sep_parts.proofs.Instants.{Lies, moment-lies, time_before-suc}
 use Rattle.sep_parts.proofs.Lifts.{AreApartAt, one_moment}
 use Rattle.fleet_curves.proofs.Standing.{at_place, segments_of}
@@ -412,11 +412,13 @@ module _ (trajs : List Traj) (r h fine : ℕ) (show : IsOneShow trajs) (formed :
   stands_there (t ∷ ts) (suc k) inside = stands_there ts k (omega arith)
 
   -- Where drones fly apart there is no touch.
-  pub none_told : (result : Option Touch) → MatchOption result (NoTouch trajs r h fine) (IsFirstTouch trajs r h fine) → FlyApart r h trajs → result ≡ None
+  pub none_told : (result : Option Touch) → MatchOption result (NoTouch trajs r h fine) (IsFirstTouch trajs r h fine) → FlyApartExactly r h trajs → result ≡ None
   none_told None none apart = refl
   none_told (Some s) found apart =
       let first : (t : Traj) × (slice_get trajs s.a ≡ Some t) = stands_there trajs s.a (omega (arith, found.listed.pair, found.listed.drone)) in
       let second : (u : Traj) × (slice_get trajs s.b ≡ Some u) = stands_there trajs s.b found.listed.drone in
       absurd ((found.touches first.0 second.0 first.1 second.1).0
       (apart s.a s.b first.0 second.0 (λ same. omega (arith, same, found.listed.pair)) first.1 second.1 (instant_of (traj.durations first.0.segments) s.cue s.at (2 ^ fine)) (2 ^ fine) (omega (arith, pow_pos fine))
-      (instant_inside (traj.durations first.0.segments) s.cue s.at (2 ^ fine) (cue_of s.cue s.a first.0 first.1 found.listed.cue) found.listed.at)))
+      (instant_inside (traj.durations first.0.segments) s.cue s.at (2 ^ fine) (cue_of s.cue s.a first.0 first.1 found.listed.cue) found.listed.at)
+      (subst (λ (ns : List ℕ). instant_of (traj.durations first.0.segments) s.cue s.at (2 ^ fine) ≤ 2 ^ fine * sum ns) (sym (same_of s.a s.b first.0 second.0 first.1 second.1))
+      (instant_inside (traj.durations first.0.segments) s.cue s.at (2 ^ fine) (cue_of s.cue s.a first.0 first.1 found.listed.cue) found.listed.at))))

@@ -2,7 +2,7 @@
 
 ghost use Rattle.std.specs.Prelude.{◌≡◌, ℕ, ◌+◌, ◌*◌, ◌^◌, ◌≤◌, ◌<◌, None, length, All, MatchOption};
 ghost use Rattle.fleet_math.specs.Limits.{most_cues};
-ghost use Rattle.sep_parts.specs.Apart.{FlyApart};
+ghost use Rattle.sep_parts.specs.Apart.{FlyApartExactly};
 ghost use Rattle.sep_parts.specs.Directions.{IsAxis};
 ghost use Rattle.fleet_curves.specs.Raised.{IsOneShow, most_drones};
 ghost use Rattle.touch_witness.specs.Sites.{IsFirstTouch, NoTouch};
@@ -25,7 +25,7 @@ pub fn first_touch(trajs: &Vec<Traj>, r: u16, h: u16, fine: u8) -> Option<Touch>
     requires h { IsAxis h }
     requires fine { fine ≤ 5 }
     ensures exact { MatchOption result (NoTouch trajs.now.items r h fine) (IsFirstTouch trajs.now.items r h fine) }
-    ensures clear { FlyApart r h trajs.now.items → result ≡ None }
+    ensures clear { FlyApartExactly r h trajs.now.items → result ≡ None }
 {
     first_touch_of(trajs.as_slice(), r, h, fine)
 }
@@ -37,7 +37,7 @@ pub fn first_touch_of(trajs: &[Traj], r: u16, h: u16, fine: u8) -> Option<Touch>
     requires h { IsAxis h }
     requires fine { fine ≤ 5 }
     ensures exact { MatchOption result (NoTouch trajs.now r h fine) (IsFirstTouch trajs.now r h fine) }
-    ensures clear { FlyApart r h trajs.now → result ≡ None }
+    ensures clear { FlyApartExactly r h trajs.now → result ≡ None }
 {
     formed_law(trajs);
     first_site(trajs, r, h, fine)

@@ -10,10 +10,10 @@ loop-dir-preserved g c = below_more _ _ c.loop-dir.invariant (sym c.separates.en
 pub returns-then-separates : goal.returns-then-separates
 unfolding first_direction
 returns-then-separates g c =
-    sym (position-is (λ n. is_none (low_value c.args.ruler.now.r c.args.ruler.now.h c.args.diff.now c.args.level.now.place n)) c.args.ruler.now.directions c.loop-dir.dir [] (omega (arith, c.loop-dir-test.true, c.count-dir-end.ensures.exact)) c.loop-dir.invariant
+    sym (position-is (λ n. is_none (low_value c.args.ruler.now.clearance c.args.diff.now c.args.level.now.place n)) c.args.ruler.now.directions c.loop-dir.dir [] (omega (arith, c.loop-dir-test.true, c.count-dir-end.ensures.exact)) c.loop-dir.invariant
     (sym c.separates.ensures ∙ c.if-separates.true))
 
 pub returns : goal.returns
 unfolding first_direction
 returns g c =
-    sym (position-none (λ n. is_none (low_value c.args.ruler.now.r c.args.ruler.now.h c.args.diff.now c.args.level.now.place n)) c.args.ruler.now.directions [] (λ k inside. c.loop-dir.invariant k (omega (arith, c.loop-dir-test.false, c.count-dir-end.ensures.exact))))
+    sym (position-none (λ n. is_none (low_value c.args.ruler.now.clearance c.args.diff.now c.args.level.now.place n)) c.args.ruler.now.directions [] (λ k inside. c.loop-dir.invariant k (omega (arith, c.loop-dir-test.false, c.count-dir-end.ensures.exact))))

@@ -29,7 +29,7 @@ returns-in_ok-push-in-Some-Leaf g c =
     let first = first_by c.args.ruler.now c.args.diff.now in
     ended_pending first c.args.depth [] c.push.new.self.items refl
     (past_pending first c.args.depth
-    (left_has c.args.ruler.now.r c.args.ruler.now.h c.args.diff.now c.args.ruler.now.directions) (right_has c.args.ruler.now.r c.args.ruler.now.h c.args.diff.now c.args.ruler.now.directions)
+    (left_has c.args.ruler.now.clearance c.args.diff.now c.args.ruler.now.directions) (right_has c.args.ruler.now.clearance c.args.diff.now c.args.ruler.now.directions)
     (whole c.args.diff.now ∷ []) [] [] (whole c.args.diff.now) [] c.push.new.self.items (Leaf c.in-Some-Leaf.dir) refl
     (sym c.node_for.ensures ∙ c.in-Some-Leaf.is ∙ ap Some c.in-Some-Leaf.field-0-is) refl
     (c.in_ok-push-in-Some-Leaf.ensures.items ∙ ap (λ (xs : List Node). xs ++ Leaf c.in-Some-Leaf.dir ∷ []) c.requires.empty)

@@ -16,7 +16,7 @@ loop-level-init g c =
           tt (omega arith) c.level_halves.ensures.places.0 c.level_halves.ensures.places.1 c.level_halves.ensures.levels.0 c.level_halves.ensures.levels.1
           c.of-stack.ensures c.push-2.ensures;
       walk = past_pending first c.args.depth
-          (left_has c.args.ruler.now.r c.args.ruler.now.h c.args.diff.now c.args.ruler.now.directions) (right_has c.args.ruler.now.r c.args.ruler.now.h c.args.diff.now c.args.ruler.now.directions)
+          (left_has c.args.ruler.now.clearance c.args.diff.now c.args.ruler.now.directions) (right_has c.args.ruler.now.clearance c.args.diff.now c.args.ruler.now.directions)
           (c.args.whole.now ∷ []) [] c.push-2.new.self c.args.whole.now [] c.push.new.self.items Split refl
           (rw c.requires.whole c.requires.split)
           (rw (c.push-2.ensures, c.of-stack.ensures) (rw (c.level_halves.ensures.places.0, c.level_halves.ensures.places.1) refl))
@@ -32,7 +32,7 @@ pub loop-level-preserved : goal.loop-level-preserved
 loop-level-preserved g c = record {
   stack = c.in_ok-put-in-Some-node_for.ensures.stack;
   walk = past_pending (first_by c.args.ruler.now c.args.diff.now) c.args.depth
-      (left_has c.args.ruler.now.r c.args.ruler.now.h c.args.diff.now c.args.ruler.now.directions) (right_has c.args.ruler.now.r c.args.ruler.now.h c.args.diff.now c.args.ruler.now.directions)
+      (left_has c.args.ruler.now.clearance c.args.diff.now c.args.ruler.now.directions) (right_has c.args.ruler.now.clearance c.args.diff.now c.args.ruler.now.directions)
       c.loop-level.stack c.pop.new.self c.put.new.stack c.in-Some.level c.loop-level.nodes.items c.put.new.nodes.items c.in-Some-node_for.node
       c.in-Some.ensures (sym c.node_for.ensures ∙ c.in-Some-node_for.is) c.in_ok-put-in-Some-node_for.ensures.places c.in_ok-put-in-Some-node_for.ensures.nodes c.loop-level.invariant.walk;
 }

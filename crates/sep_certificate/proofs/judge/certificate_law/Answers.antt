@@ -6,9 +6,9 @@ use Rattle.sep_certificate.proofs.judge.certificate_law.Goals as goal
 
 pub returns : goal.returns
 returns c = record {
-  apart = λ dirs curves r h cert valid. keeps (rules_of r h cert) dirs curves cert.trees valid;
-  exact = λ dirs curves r h cert whole. (
-    valid_of (rules_of r h cert) dirs curves (slots curves.drones curves.cues) 0 cert.trees whole.trees,
-    none_of_valid (rules_of r h cert) dirs curves (slots curves.drones curves.cues) 0 cert.trees,
+  apart = λ dirs curves clear cert valid. keeps (rules_of clear cert) dirs curves cert.trees valid;
+  exact = λ dirs curves clear cert whole. (
+    valid_of (rules_of clear cert) dirs curves (slots curves.drones curves.cues) 0 cert.trees whole.trees,
+    none_of_valid (rules_of clear cert) dirs curves (slots curves.drones curves.cues) 0 cert.trees,
   );
 }

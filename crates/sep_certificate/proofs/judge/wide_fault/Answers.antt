@@ -5,7 +5,7 @@ use Rattle.sep_parts.proofs.Table.{small_table}
 use Rattle.sep_certificate.proofs.judge.wide_fault.Goals as goal
 
 pub make-ruler-requires : goal.make-ruler-requires
-make-ruler-requires c = (lit< tt, (lit< tt, (inr refl, (small_table WIDE.n refl, (c.requires.r, c.requires.h)))))
+make-ruler-requires c = (lit< tt, (lit< tt, (inr refl, (small_table WIDE.n refl, c.requires.clearance))))
 
 pub returns : goal.returns
 unfolding table_of

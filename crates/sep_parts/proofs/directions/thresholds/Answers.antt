@@ -11,9 +11,9 @@ whole f m k xs ys xs_len ys_len far done =
 pub returns : goal.returns
 returns g c =
     let len : length c.args.dirs.now.n ≡ g.row.M = search rules in
-    let done : c.loop-k.values ≡ map (threshold c.args.r c.args.h) c.args.dirs.now.n =
-    whole (threshold c.args.r c.args.h) g.row.M c.loop-k.k c.loop-k.values c.args.dirs.now.n c.loop-k.invariant.same_length len (omega arith) c.loop-k.invariant.done in
+    let done : c.loop-k.values ≡ map (threshold c.args.clearance) c.args.dirs.now.n =
+    whole (threshold c.args.clearance) g.row.M c.loop-k.k c.loop-k.values c.args.dirs.now.n c.loop-k.invariant.same_length len (omega arith) c.loop-k.invariant.done in
     record {
       exact = done;
-      small = thresholds_small c.args.r c.args.h c.loop-k.values c.args.dirs.now.n c.requires.r c.requires.h c.requires.entries done;
+      small = thresholds_small c.args.clearance c.loop-k.values c.args.dirs.now.n c.requires.clearance c.requires.entries done;
     }

@@ -13,16 +13,16 @@ verdict-requires-clause-few c =
 pub returns-clause-gives : goal.returns-clause-gives
 returns-clause-gives c = λ bytes short has_read.
     verdict_told c.args.self.now c.args.curves.now bytes c.verdict.result (omega arith) (omega arith) short has_read
-    (subst (λ (s : Seen). c.verdict.result ≡ verdict_of c.args.curves.now (closed s.r s.h c.args.curves.now s.checking)) c.self.view_is c.verdict.ensures.verdict)
+    (subst (λ (s : Seen). c.verdict.result ≡ verdict_of c.args.curves.now (closed s.clearance c.args.curves.now s.checking)) c.self.view_is c.verdict.ensures.verdict)
 
 pub returns-clause-named : goal.returns-clause-named
 returns-clause-named c =
-    named_told c.args.curves.now c.args.self.now.r c.args.self.now.h c.requires.0 c.verdict.result
+    named_told c.args.curves.now c.args.self.now.clearance c.requires.0 c.verdict.result
     (verdict_told c.args.self.now c.args.curves.now c.requires.0 c.verdict.result (omega arith) (omega arith) c.requires.1 c.requires.2
-    (subst (λ (s : Seen). c.verdict.result ≡ verdict_of c.args.curves.now (closed s.r s.h c.args.curves.now s.checking)) c.self.view_is c.verdict.ensures.verdict))
+    (subst (λ (s : Seen). c.verdict.result ≡ verdict_of c.args.curves.now (closed s.clearance c.args.curves.now s.checking)) c.self.view_is c.verdict.ensures.verdict))
 
 pub returns-clause-safe : goal.returns-clause-safe
 returns-clause-safe c =
-    safe_told c.args.curves.now c.args.self.now.r c.args.self.now.h c.requires.0 c.verdict.result
+    safe_told c.args.curves.now c.args.self.now.clearance c.requires.0 c.verdict.result
     (verdict_told c.args.self.now c.args.curves.now c.requires.0 c.verdict.result (omega arith) (omega arith) c.requires.1 c.requires.2
-    (subst (λ (s : Seen). c.verdict.result ≡ verdict_of c.args.curves.now (closed s.r s.h c.args.curves.now s.checking)) c.self.view_is c.verdict.ensures.verdict))
+    (subst (λ (s : Seen). c.verdict.result ≡ verdict_of c.args.curves.now (closed s.clearance c.args.curves.now s.checking)) c.self.view_is c.verdict.ensures.verdict))

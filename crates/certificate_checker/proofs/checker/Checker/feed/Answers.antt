@@ -13,6 +13,6 @@ take-requires-clause-few c =
 
 pub returns-clause-has_read : goal.returns-clause-has_read
 returns-clause-has_read c = λ bytes short has_read.
-    read_more c.args.self.now _ c.args.curves.now bytes c.args.byte (ap (λ (s : Seen). s.r) c.self.view_is, ap (λ (s : Seen). s.h) c.self.view_is) has_read
-    (subst (λ (s : Seen). checking_of c.take.new.self ≡ checked s.r s.h c.args.curves.now s.checking c.args.byte) c.self.view_is c.take.ensures.read)
+    read_more c.args.self.now _ c.args.curves.now bytes c.args.byte (ap (λ (s : Seen). s.clearance) c.self.view_is) has_read
+    (subst (λ (s : Seen). checking_of c.take.new.self ≡ checked s.clearance c.args.curves.now s.checking c.args.byte) c.self.view_is c.take.ensures.read)
     (next_of c.args.curves.now c.take.new.self.reader c.take.ensures.reader)

@@ -5,10 +5,10 @@ use Rattle.sep_parts.proofs.Table.{small_table}
 use Rattle.certificate_checker.proofs.tables.Tables.make.Goals as goal
 
 pub make-requires : goal.make-requires
-make-requires c = (lit< tt, (lit< tt, (inl refl, (small_table DIRECTIONS.n refl, (c.requires.r, c.requires.h)))))
+make-requires c = (lit< tt, (lit< tt, (inl refl, (small_table DIRECTIONS.n refl, c.requires.clearance))))
 
 pub make-requires-2 : goal.make-requires-2
-make-requires-2 c = (lit< tt, (lit< tt, (inr refl, (small_table WIDE.n refl, (c.requires.r, c.requires.h)))))
+make-requires-2 c = (lit< tt, (lit< tt, (inr refl, (small_table WIDE.n refl, c.requires.clearance))))
 
 pub invariant_of-result : goal.invariant_of-result
 unfolding table_of

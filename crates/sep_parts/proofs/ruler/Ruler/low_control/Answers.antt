@@ -9,16 +9,16 @@ low_control-requires-clause-values g c = level_small c.args.diff.now c.args.leve
 pub low_control-requires-clause-positive : goal.low_control-requires-clause-positive
 low_control-requires-clause-positive g c =
     let dir : c.args.dir < length c.self.inside.directions.n = rw (sym c.self.view_is) at c.requires.dir in
-    rw c.as_slice-thresholds.ensures (positive c.self.inside.directions.n c.self.inside.thresholds c.self.inside.r c.self.inside.h c.args.dir c.self.invariant dir)
+    rw c.as_slice-thresholds.ensures (positive c.self.inside.directions.n c.self.inside.thresholds c.self.inside.clearance c.args.dir c.self.invariant dir)
 
 pub low_control-requires-clause-small : goal.low_control-requires-clause-small
 low_control-requires-clause-small g c =
     let dir : c.args.dir < length c.self.inside.directions.n = rw (sym c.self.view_is) at c.requires.dir in
-    rw c.as_slice-thresholds.ensures (small c.self.inside.directions.n c.self.inside.thresholds c.self.inside.r c.self.inside.h c.args.dir c.self.invariant dir)
+    rw c.as_slice-thresholds.ensures (small c.self.inside.directions.n c.self.inside.thresholds c.self.inside.clearance c.args.dir c.self.invariant dir)
 
 pub returns : goal.returns
 returns g c =
     let dir : c.args.dir < length c.self.inside.directions.n = rw (sym c.self.view_is) at c.requires.dir in
     rw (sym c.self.view_is)
     ((rw (c.as_slice-thresholds.ensures, c.as_slice-directions.ensures) at c.low_control.ensures)
-    ∙ low c.self.inside.directions.n c.self.inside.thresholds c.self.inside.r c.self.inside.h c.args.dir c.self.invariant dir c.args.diff.now c.args.level.now c.requires.level)
+    ∙ low c.self.inside.directions.n c.self.inside.thresholds c.self.inside.clearance c.args.dir c.self.invariant dir c.args.diff.now c.args.level.now c.requires.level)

@@ -9,18 +9,18 @@ separates-requires-clause-values g c = level_small c.args.diff.now c.args.level.
 pub separates-requires-clause-positive : goal.separates-requires-clause-positive
 separates-requires-clause-positive g c =
     let dir : c.args.dir < length c.self.inside.directions.n = rw (sym c.self.view_is) at c.requires.dir in
-    rw c.as_slice-thresholds.ensures (positive c.self.inside.directions.n c.self.inside.thresholds c.self.inside.r c.self.inside.h c.args.dir c.self.invariant dir)
+    rw c.as_slice-thresholds.ensures (positive c.self.inside.directions.n c.self.inside.thresholds c.self.inside.clearance c.args.dir c.self.invariant dir)
 
 pub separates-requires-clause-small : goal.separates-requires-clause-small
 separates-requires-clause-small g c =
     let dir : c.args.dir < length c.self.inside.directions.n = rw (sym c.self.view_is) at c.requires.dir in
-    rw c.as_slice-thresholds.ensures (small c.self.inside.directions.n c.self.inside.thresholds c.self.inside.r c.self.inside.h c.args.dir c.self.invariant dir)
+    rw c.as_slice-thresholds.ensures (small c.self.inside.directions.n c.self.inside.thresholds c.self.inside.clearance c.args.dir c.self.invariant dir)
 
 pub returns : goal.returns
 returns g c =
     let dir : c.args.dir < length c.self.inside.directions.n = rw (sym c.self.view_is) at c.requires.dir in
     rw (sym c.self.view_is)
-    (none_low c.self.inside.directions.n c.self.inside.thresholds c.self.inside.r c.self.inside.h c.args.dir c.self.invariant dir c.args.diff.now c.args.level.now c.separates.result c.requires.level
+    (none_low c.self.inside.directions.n c.self.inside.thresholds c.self.inside.clearance c.args.dir c.self.invariant dir c.args.diff.now c.args.level.now c.separates.result c.requires.level
     (rw (c.as_slice-thresholds.ensures, c.as_slice-directions.ensures) at c.separates.ensures))
 
 pub separates_narrow-requires-clause-values : goal.separates_narrow-requires-clause-values
@@ -29,16 +29,16 @@ separates_narrow-requires-clause-values g c = level_narrow c.args.diff.now c.arg
 pub separates_narrow-requires-clause-positive : goal.separates_narrow-requires-clause-positive
 separates_narrow-requires-clause-positive g c =
     let dir : c.args.dir < length c.self.inside.directions.n = rw (sym c.self.view_is) at c.requires.dir in
-    rw c.as_slice-thresholds.ensures (positive c.self.inside.directions.n c.self.inside.thresholds c.self.inside.r c.self.inside.h c.args.dir c.self.invariant dir)
+    rw c.as_slice-thresholds.ensures (positive c.self.inside.directions.n c.self.inside.thresholds c.self.inside.clearance c.args.dir c.self.invariant dir)
 
 pub separates_narrow-requires-clause-small : goal.separates_narrow-requires-clause-small
 separates_narrow-requires-clause-small g c =
     let dir : c.args.dir < length c.self.inside.directions.n = rw (sym c.self.view_is) at c.requires.dir in
-    rw c.as_slice-thresholds.ensures (small c.self.inside.directions.n c.self.inside.thresholds c.self.inside.r c.self.inside.h c.args.dir c.self.invariant dir)
+    rw c.as_slice-thresholds.ensures (small c.self.inside.directions.n c.self.inside.thresholds c.self.inside.clearance c.args.dir c.self.invariant dir)
 
 pub returns-then-level-le-NARROW_DEPTH : goal.returns-then-level-le-NARROW_DEPTH
 returns-then-level-le-NARROW_DEPTH g c =
     let dir : c.args.dir < length c.self.inside.directions.n = rw (sym c.self.view_is) at c.requires.dir in
     rw (sym c.self.view_is)
-    (none_low c.self.inside.directions.n c.self.inside.thresholds c.self.inside.r c.self.inside.h c.args.dir c.self.invariant dir c.args.diff.now c.args.level.now c.separates_narrow.result c.requires.level
+    (none_low c.self.inside.directions.n c.self.inside.thresholds c.self.inside.clearance c.args.dir c.self.invariant dir c.args.diff.now c.args.level.now c.separates_narrow.result c.requires.level
     (rw (c.as_slice-thresholds.ensures, c.as_slice-directions.ensures) at c.separates_narrow.ensures))

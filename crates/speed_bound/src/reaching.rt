@@ -1,0 +1,55 @@
+//! How far trajectories move while one drone is late against another.
+
+ghost use Rattle.std.specs.Prelude.{◌≡◌, ◌*◌, ◌^◌, ◌≤◌, ◌<◌, ◌∷◌, [], min, pos, unsigned_abs, All, length};
+ghost use Rattle.std.specs.Int.{div_ceil};
+ghost use Rattle.speed_bound.specs.Reach.{IsMoving, ReachLaw, StillLaw, farthest, reach_of};
+
+use crate::trajectory::bound;
+use traj_codec::Traj;
+
+/// No two positions are farther apart on an axis, in millimetres.
+const FARTHEST: u64 = 65_536;
+
+/// How far trajectories move at most on x, y and z in `late` milliseconds, in millimetres: on each axis the greatest over all of them of the
+/// bound on the speed by parts of the depth, times the time, rounded up. Takes no memory.
+pub fn reach(trajs: &[Traj], late: u16, depth: u8) -> [u32; 3]
+    requires moving { All IsMoving trajs.now }
+    requires late { late ≤ 1000 }
+    requires depth { depth ≤ 8 }
+    ensures exact { result ≡ reach_of depth late trajs.now 0 ∷ reach_of depth late trajs.now 1 ∷ reach_of depth late trajs.now 2 ∷ [] }
+{
+    if late == 0 {
+        return [0, 0, 0];
+    }
+    let mut x: u32 = 0;
+    let mut y: u32 = 0;
+    let mut z: u32 = 0;
+    for t in trajs {
+        let speeds = bound(t, depth);
+        x = x.max(way_in(speeds[0] as u64, late));
+        y = y.max(way_in(speeds[1] as u64, late));
+        z = z.max(way_in(speeds[2] as u64, late));
+    }
+    [x, y, z]
+}
+
+// How many millimetres are moved at most at this speed in so many milliseconds.
+fn way_in(speed: u64, late: u16) -> u32
+    requires speed { speed < 2 ^ 50 }
+    requires late { late ≤ 1000 }
+    ensures { result ≡ min farthest (div_ceil (late * speed) 1000000) }
+{
+    let way = late as u64 * speed;
+    way.div_ceil(1_000_000).min(FARTHEST) as u32
+}
+
+/// A law: trajectories move within their reach, between any two instants that are at most so far apart.
+pub fn reach_law()
+    ensures { ReachLaw }
+{}
+
+/// A law: where nobody strays or is late, trajectories fly apart as soon as they do exactly. So a show without these settings promises what it
+/// promised before there were any, and no more.
+pub fn still_law()
+    ensures { StillLaw }
+{}
