@@ -6,7 +6,7 @@ use Rattle.text_lines.specs.declared.number.NumberFault.{NumberFault}
 use Rattle.choreo_lines.specs.Name.{is_name}
 use Rattle.choreo_lines.specs.FirstWord.{keyword_of}
 use Rattle.choreo_lines.specs.Table.{Word, word, Want, AName, OneOf, Number, Row, coordinate, yaw, point, natural, mirrors, kinds, senses, only, row_of, act_row, may_stand, is_cue, as_read, or_else, number_fault, want_fault, places_fault, row_fault, known, act_fault, kind_by, kind_in}
-use Rattle.choreo_lines.specs.Entry.{◌>>=◌, judged, number_in, natural_in, coordinate_in, yaw_in, name_in, names_in, point_in, triple_in, mirror_in, frame_in, smooth_in, sense_in, with_count, memory_fields, trajectory_fields, ellipsoid_fields, drone_fields, at_fields, formation_fields, figure_fields, cue_fields, repeat_fields, perform_fields, form_fields, line_fields, move_fields, turn_fields, arc_fields, curve_fields, memory_line, trajectory_line, ellipsoid_line, drone_line, at_line, formation_line, figure_line, cue_line, repeat_line, perform_line, form_line, end_line, hold_act, line_act, move_act, turn_act, arc_act, curve_act, act_in, act_line, line_behind, cue_content, block_content, entry_of}
+use Rattle.choreo_lines.specs.Entry.{◌>>=◌, judged, number_in, natural_in, coordinate_in, yaw_in, name_in, names_in, point_in, triple_in, mirror_in, frame_in, smooth_in, sense_in, with_count, memory_fields, trajectory_fields, ellipsoid_fields, stray_fields, late_fields, drone_fields, at_fields, formation_fields, figure_fields, cue_fields, repeat_fields, perform_fields, form_fields, line_fields, move_fields, turn_fields, arc_fields, curve_fields, memory_line, trajectory_line, ellipsoid_line, stray_line, late_line, drone_line, at_line, formation_line, figure_line, cue_line, repeat_line, perform_line, form_line, end_line, hold_act, line_act, move_act, turn_act, arc_act, curve_act, act_in, act_line, line_behind, cue_content, block_content, entry_of}
 use Rattle.choreo_lines.proofs.SaysBack.{words0, words1, words2, words4, words5, words10, by_keyword}
 use Rattle.choreo_lines.specs.declared.line.LineKind.{LineKind}
 use Rattle.choreo_lines.specs.declared.line.LineKind.TheVariants as kind
@@ -174,6 +174,14 @@ unfolding ellipsoid_fields
 ellipsoid_err ws = counted 2 (row_of first.Ellipsoid).places ws _ (ellipsoid_fields (word ws 0) (word ws 1)) (words2 ws)
     (two_err (natural_in 1 2000 (word ws 0)) (natural_in 1 2000 (word ws 1)) entry.Ellipsoid (want_fault (natural 1 2000) (word ws 0)) (want_fault (natural 1 2000) (word ws 1)) (err_natural 1 2000 (word ws 0)) (err_natural 1 2000 (word ws 1)))
 
+stray_err : (ws : List Word) → err (stray_line ws) ≡ row_fault (row_of first.Stray) ws
+unfolding stray_fields
+stray_err ws = counted 1 (row_of first.Stray).places ws _ (stray_fields (word ws 0)) (words1 ws) (one_err (natural_in 0 1000 (word ws 0)) entry.Stray (want_fault (natural 0 1000) (word ws 0)) (err_natural 0 1000 (word ws 0)))
+
+late_err : (ws : List Word) → err (late_line ws) ≡ row_fault (row_of first.Late) ws
+unfolding late_fields
+late_err ws = counted 1 (row_of first.Late).places ws _ (late_fields (word ws 0)) (words1 ws) (one_err (natural_in 0 1000 (word ws 0)) entry.Late (want_fault (natural 0 1000) (word ws 0)) (err_natural 0 1000 (word ws 0)))
+
 drone_err : (ws : List Word) → err (drone_line ws) ≡ row_fault (row_of first.Drone) ws
 unfolding drone_fields
 drone_err ws = counted 5 (row_of first.Drone).places ws _ (drone_fields (word ws 0) (word ws 1) (word ws 2) (word ws 3) (word ws 4)) (words5 ws)
@@ -310,6 +318,8 @@ unfolding line_behind
 line_err p first.Memory ws c o = stands (may_stand p first.Memory) (memory_line (drop 1 ws)) _ (memory_err (drop 1 ws))
 line_err p first.Trajectory ws c o = stands (may_stand p first.Trajectory) (trajectory_line (drop 1 ws)) _ (trajectory_err (drop 1 ws))
 line_err p first.Ellipsoid ws c o = stands (may_stand p first.Ellipsoid) (ellipsoid_line (drop 1 ws)) _ (ellipsoid_err (drop 1 ws))
+line_err p first.Stray ws c o = stands (may_stand p first.Stray) (stray_line (drop 1 ws)) _ (stray_err (drop 1 ws))
+line_err p first.Late ws c o = stands (may_stand p first.Late) (late_line (drop 1 ws)) _ (late_err (drop 1 ws))
 line_err p first.Drone ws c o = stands (may_stand p first.Drone) (drone_line (drop 1 ws)) _ (drone_err (drop 1 ws))
 line_err p first.Formation ws c o = stands (may_stand p first.Formation) (formation_line (drop 1 ws)) _ (formation_err (drop 1 ws))
 line_err p first.At ws c o = stands (may_stand p first.At) (at_line (drop 1 ws)) _ (at_err (drop 1 ws))

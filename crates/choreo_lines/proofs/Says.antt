@@ -7,7 +7,7 @@ use Rattle.choreo_lines.specs.Name.{Name}
 use Rattle.choreo_lines.specs.Name.{is_name, begins_lower, all_go_in_name}
 use Rattle.choreo_lines.specs.FirstWord.{keyword_of}
 use Rattle.choreo_lines.specs.Says.{IsNamed, AreNamed, IsPoint, IsTriple, IsFrame, IsAct, Says, may_say}
-use Rattle.choreo_lines.specs.Entry.{Word, point_in, triple_in, frame_in, memory_fields, trajectory_fields, ellipsoid_fields, drone_fields, at_fields, formation_fields, figure_fields, cue_fields, repeat_fields, perform_fields, form_fields, line_fields, move_fields, turn_fields, arc_fields, curve_fields, act_in, act_line, line_behind, cue_content, block_content, entry_of, perform_line, with_counts}
+use Rattle.choreo_lines.specs.Entry.{Word, point_in, triple_in, frame_in, memory_fields, trajectory_fields, ellipsoid_fields, stray_fields, late_fields, drone_fields, at_fields, formation_fields, figure_fields, cue_fields, repeat_fields, perform_fields, form_fields, line_fields, move_fields, turn_fields, arc_fields, curve_fields, act_in, act_line, line_behind, cue_content, block_content, entry_of, perform_line, with_counts}
 use Rattle.choreo_lines.proofs.SaysBack.{by_keyword}
 use Rattle.choreo_lines.proofs.Words.{number_says, natural_says, name_says, names_says, point_says, triple_says, smooth_says, sense_says, frame_says}
 use Rattle.choreo_lines.specs.declared.line.LineKind.{LineKind}
@@ -114,7 +114,7 @@ name_keyword w n =
     let h : is_other (cond (bytes_eq w (codes "form")) first.Form (cond (bytes_eq w (codes "end")) first.End first.Other)) ≡ true =
     ap (λ b. is_other (cond b first.Form (cond (bytes_eq w (codes "end")) first.End first.Other))) (not_true (bytes_eq w (codes "form")) form.1)
     ∙ ap (λ b. is_other (cond b first.End first.Other)) (not_true (bytes_eq w (codes "end")) last.1) in
-    pick (bytes_eq w (codes "memory")) first.Memory _ refl (pick (bytes_eq w (codes "trajectory")) first.Trajectory _ refl (pick (bytes_eq w (codes "ellipsoid")) first.Ellipsoid _ refl (pick (bytes_eq w (codes "drone")) first.Drone _ refl (pick (bytes_eq w (codes "formation")) first.Formation _ refl (pick (bytes_eq w (codes "at")) first.At _ refl (pick (bytes_eq w (codes "figure")) first.Figure _ refl (pick (bytes_eq w (codes "cue")) first.Cue _ refl (pick (bytes_eq w (codes "repeat")) first.Repeat _ refl (pick (bytes_eq w (codes "perform")) first.Perform _ refl (h))))))))))
+    pick (bytes_eq w (codes "memory")) first.Memory _ refl (pick (bytes_eq w (codes "trajectory")) first.Trajectory _ refl (pick (bytes_eq w (codes "ellipsoid")) first.Ellipsoid _ refl (pick (bytes_eq w (codes "stray")) first.Stray _ refl (pick (bytes_eq w (codes "late")) first.Late _ refl (pick (bytes_eq w (codes "drone")) first.Drone _ refl (pick (bytes_eq w (codes "formation")) first.Formation _ refl (pick (bytes_eq w (codes "at")) first.At _ refl (pick (bytes_eq w (codes "figure")) first.Figure _ refl (pick (bytes_eq w (codes "cue")) first.Cue _ refl (pick (bytes_eq w (codes "repeat")) first.Repeat _ refl (pick (bytes_eq w (codes "perform")) first.Perform _ refl (h))))))))))))
 
 other_keyword : (f : Bool) (ws : List Word) (k : Keyword) → is_other k ≡ true → by_keyword f ws k ≡ act_line ws
 other_keyword f ws first.End h = cc
@@ -152,10 +152,12 @@ perform_block p at ws figure frame drones (n, fs, ds, e, low, high, nm, fr, nd) 
 
 -- a line that says an entry is classified as that entry, where it may stand
 pub says_entry : (p : Place) (ws : List Word) (e : Entry) → Says ws e → may_say p e ≡ true → entry_of p ws ≡ Ok e
-unfolding block_content line_behind cue_content memory_fields trajectory_fields ellipsoid_fields drone_fields at_fields formation_fields cue_fields repeat_fields form_fields
+unfolding block_content line_behind cue_content memory_fields trajectory_fields ellipsoid_fields stray_fields late_fields drone_fields at_fields formation_fields cue_fields repeat_fields form_fields
 says_entry place.Top ws (entry.Memory id offset) (i, o, e, a, b) m = ap (entry_of place.Top) e ∙ rw (natural_says 0 255 i id a, natural_says 0 4095 o offset b) refl
 says_entry place.Top ws (entry.Trajectory id) (i, e, a) m = ap (entry_of place.Top) e ∙ rw (natural_says 0 9 i id a) refl
 says_entry place.Top ws (entry.Ellipsoid r h) (i, o, e, a, b) m = ap (entry_of place.Top) e ∙ rw (natural_says 1 2000 i r a, natural_says 1 2000 o h b) refl
+says_entry place.Top ws (entry.Stray mm) (i, e, a) m = ap (entry_of place.Top) e ∙ rw (natural_says 0 1000 i mm a) refl
+says_entry place.Top ws (entry.Late ms) (i, e, a) m = ap (entry_of place.Top) e ∙ rw (natural_says 0 1000 i ms a) refl
 says_entry place.Top ws (entry.Drone name at) (n, point, e, nm, pt) m =
     let s = point_shape point at pt in
     ap (entry_of place.Top) e ∙ ap (λ k. entry_of place.Top (codes "drone" ∷ n ∷ k)) s.is ∙ rw (name_says n name nm, s.says) refl

@@ -5,7 +5,7 @@ use Rattle.std.proofs.lemmas.Bool.{and_parts, eqb-true, leb-true}
 use Rattle.std.proofs.lemmas.Slice.Eq.{bytes_eq-Decides}
 use Rattle.choreo_lines.specs.FirstWord.{keyword_of}
 use Rattle.choreo_lines.specs.Says.{IsAct, Says, may_say}
-use Rattle.choreo_lines.specs.Entry.{Word, word, name_in, names_in, natural_in, coordinate_in, yaw_in, point_in, triple_in, frame_in, smooth_in, sense_in, with_count, with_counts, memory_fields, trajectory_fields, ellipsoid_fields, drone_fields, at_fields, formation_fields, figure_fields, cue_fields, repeat_fields, perform_fields, form_fields, line_fields, move_fields, turn_fields, arc_fields, curve_fields, memory_line, trajectory_line, ellipsoid_line, drone_line, at_line, formation_line, figure_line, cue_line, repeat_line, perform_line, form_line, end_line, hold_act, line_act, move_act, turn_act, arc_act, curve_act, act_in, act_line, line_behind, cue_content, block_content, may_stand, entry_of}
+use Rattle.choreo_lines.specs.Entry.{Word, word, name_in, names_in, natural_in, coordinate_in, yaw_in, point_in, triple_in, frame_in, smooth_in, sense_in, with_count, with_counts, memory_fields, trajectory_fields, ellipsoid_fields, stray_fields, late_fields, drone_fields, at_fields, formation_fields, figure_fields, cue_fields, repeat_fields, perform_fields, form_fields, line_fields, move_fields, turn_fields, arc_fields, curve_fields, memory_line, trajectory_line, ellipsoid_line, stray_line, late_line, drone_line, at_line, formation_line, figure_line, cue_line, repeat_line, perform_line, form_line, end_line, hold_act, line_act, move_act, turn_act, arc_act, curve_act, act_in, act_line, line_behind, cue_content, block_content, may_stand, entry_of}
 use Rattle.choreo_lines.proofs.WordsBack.{one_back, two_back, three_back, four_back, branch, number_back, natural_back, name_back, names_back, point_back, triple_back, smooth_back, sense_back, frame_back}
 use Rattle.choreo_lines.specs.declared.line.LineKind.{LineKind}
 use Rattle.choreo_lines.specs.declared.line.LineKind.TheVariants as kind
@@ -89,6 +89,8 @@ abbrev IsKeyword : Keyword → Word → Type 0
 IsKeyword first.Memory w = w ≡ codes "memory"
 IsKeyword first.Trajectory w = w ≡ codes "trajectory"
 IsKeyword first.Ellipsoid w = w ≡ codes "ellipsoid"
+IsKeyword first.Stray w = w ≡ codes "stray"
+IsKeyword first.Late w = w ≡ codes "late"
 IsKeyword first.Drone w = w ≡ codes "drone"
 IsKeyword first.Formation w = w ≡ codes "formation"
 IsKeyword first.At w = w ≡ codes "at"
@@ -109,6 +111,8 @@ keyword_is w =
     keyword_pick (bytes_eq w (codes "memory")) w (codes "memory") first.Memory _ refl (λ e. e)
     (keyword_pick (bytes_eq w (codes "trajectory")) w (codes "trajectory") first.Trajectory _ refl (λ e. e)
     (keyword_pick (bytes_eq w (codes "ellipsoid")) w (codes "ellipsoid") first.Ellipsoid _ refl (λ e. e)
+    (keyword_pick (bytes_eq w (codes "stray")) w (codes "stray") first.Stray _ refl (λ e. e)
+    (keyword_pick (bytes_eq w (codes "late")) w (codes "late") first.Late _ refl (λ e. e)
     (keyword_pick (bytes_eq w (codes "drone")) w (codes "drone") first.Drone _ refl (λ e. e)
     (keyword_pick (bytes_eq w (codes "formation")) w (codes "formation") first.Formation _ refl (λ e. e)
     (keyword_pick (bytes_eq w (codes "at")) w (codes "at") first.At _ refl (λ e. e)
@@ -117,13 +121,15 @@ keyword_is w =
     (keyword_pick (bytes_eq w (codes "repeat")) w (codes "repeat") first.Repeat _ refl (λ e. e)
     (keyword_pick (bytes_eq w (codes "perform")) w (codes "perform") first.Perform _ refl (λ e. e)
     (keyword_pick (bytes_eq w (codes "form")) w (codes "form") first.Form _ refl (λ e. e)
-    (keyword_pick (bytes_eq w (codes "end")) w (codes "end") first.End first.Other refl (λ e. e) tt)))))))))))
+    (keyword_pick (bytes_eq w (codes "end")) w (codes "end") first.End first.Other refl (λ e. e) tt)))))))))))))
 
 -- the first word of what an entry is said by; an act line has none of its own
 abbrev pub keyword_in : Entry → Keyword
 keyword_in (entry.Memory id offset) = first.Memory
 keyword_in (entry.Trajectory id) = first.Trajectory
 keyword_in (entry.Ellipsoid r h) = first.Ellipsoid
+keyword_in (entry.Stray mm) = first.Stray
+keyword_in (entry.Late ms) = first.Late
 keyword_in (entry.Drone name at) = first.Drone
 keyword_in (entry.Formation name) = first.Formation
 keyword_in (entry.At name at) = first.At
@@ -160,6 +166,20 @@ ellipsoid_back w ws e k h =
     let c = counted 2 ws (ellipsoid_fields (word ws 0) (word ws 1)) e h in
     let t = two_back (natural_in 1 2000 (word ws 0)) (natural_in 1 2000 (word ws 1)) entry.Ellipsoid e c.gives in
     subst (Back first.Ellipsoid (w ∷ ws)) t.value ((word ws 0, word ws 1, spelled k (words2 ws c.count), natural_back 1 2000 (word ws 0) t.a t.first, natural_back 1 2000 (word ws 1) t.b t.second), refl)
+
+stray_back : (w : Word) (ws : List Word) (e : Entry) → w ≡ codes "stray" → stray_line ws ≡ Ok e → Back first.Stray (w ∷ ws) e
+unfolding stray_fields
+stray_back w ws e k h =
+    let c = counted 1 ws (stray_fields (word ws 0)) e h in
+    let t = one_back (natural_in 0 1000 (word ws 0)) entry.Stray e c.gives in
+    subst (Back first.Stray (w ∷ ws)) t.value ((word ws 0, spelled k (words1 ws c.count), natural_back 0 1000 (word ws 0) t.a t.first), refl)
+
+late_back : (w : Word) (ws : List Word) (e : Entry) → w ≡ codes "late" → late_line ws ≡ Ok e → Back first.Late (w ∷ ws) e
+unfolding late_fields
+late_back w ws e k h =
+    let c = counted 1 ws (late_fields (word ws 0)) e h in
+    let t = one_back (natural_in 0 1000 (word ws 0)) entry.Late e c.gives in
+    subst (Back first.Late (w ∷ ws)) t.value ((word ws 0, spelled k (words1 ws c.count), natural_back 0 1000 (word ws 0) t.a t.first), refl)
 
 drone_back : (w : Word) (ws : List Word) (e : Entry) → w ≡ codes "drone" → drone_line ws ≡ Ok e → Back first.Drone (w ∷ ws) e
 unfolding drone_fields
@@ -242,6 +262,8 @@ unfolding line_behind
 line_back first.Memory w ws e k h = memory_back w ws e k h
 line_back first.Trajectory w ws e k h = trajectory_back w ws e k h
 line_back first.Ellipsoid w ws e k h = ellipsoid_back w ws e k h
+line_back first.Stray w ws e k h = stray_back w ws e k h
+line_back first.Late w ws e k h = late_back w ws e k h
 line_back first.Drone w ws e k h = drone_back w ws e k h
 line_back first.Formation w ws e k h = formation_back w ws e k h
 line_back first.At w ws e k h = at_back w ws e k h

@@ -124,6 +124,22 @@ ellipsoid_fields r h = do
 abbrev pub ellipsoid_line : List Word → Result Entry LineKind
 ellipsoid_line ws = with_count 2 ws (ellipsoid_fields (word ws 0) (word ws 1))
 
+-- the word after `stray`
+unfoldable pub stray_fields : Word → Result Entry LineKind
+stray_fields mm = natural_in 0 1000 mm >>= (λ n. Ok (entry.Stray n))
+
+-- that it is one, and then it
+abbrev pub stray_line : List Word → Result Entry LineKind
+stray_line ws = with_count 1 ws (stray_fields (word ws 0))
+
+-- the word after `late`
+unfoldable pub late_fields : Word → Result Entry LineKind
+late_fields ms = natural_in 0 1000 ms >>= (λ n. Ok (entry.Late n))
+
+-- that it is one, and then it
+abbrev pub late_line : List Word → Result Entry LineKind
+late_line ws = with_count 1 ws (late_fields (word ws 0))
+
 -- the words after `drone`
 unfoldable pub drone_fields : Word → Word → Word → Word → Word → Result Entry LineKind
 drone_fields name x y z yaw = do
@@ -322,6 +338,8 @@ unfoldable pub line_behind : Keyword → List Word → Result Entry LineKind
 line_behind first.Memory ws = memory_line ws
 line_behind first.Trajectory ws = trajectory_line ws
 line_behind first.Ellipsoid ws = ellipsoid_line ws
+line_behind first.Stray ws = stray_line ws
+line_behind first.Late ws = late_line ws
 line_behind first.Drone ws = drone_line ws
 line_behind first.Formation ws = formation_line ws
 line_behind first.At ws = at_line ws

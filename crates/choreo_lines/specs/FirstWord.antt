@@ -1,7 +1,7 @@
 -- The first word of a line.
 use Rattle.std.specs.Prelude.{ℕ, List, bytes_eq, codes, if◌then◌else◌}
 use Rattle.choreo_lines.specs.declared.line.Keyword.{Keyword}
-use Rattle.choreo_lines.specs.declared.line.Keyword.TheVariants.{Memory, Trajectory, Ellipsoid, Drone, Formation, At, Figure, Cue, Repeat, Perform, Form, End, Other}
+use Rattle.choreo_lines.specs.declared.line.Keyword.TheVariants.{Memory, Trajectory, Ellipsoid, Stray, Late, Drone, Formation, At, Figure, Cue, Repeat, Perform, Form, End, Other}
 
 -- what a first word is
 abbrev pub keyword_of : List ℕ → Keyword
@@ -9,6 +9,8 @@ keyword_of w =
     if bytes_eq w (codes "memory") then Memory else
     if bytes_eq w (codes "trajectory") then Trajectory else
     if bytes_eq w (codes "ellipsoid") then Ellipsoid else
+    if bytes_eq w (codes "stray") then Stray else
+    if bytes_eq w (codes "late") then Late else
     if bytes_eq w (codes "drone") then Drone else
     if bytes_eq w (codes "formation") then Formation else
     if bytes_eq w (codes "at") then At else

@@ -87,6 +87,8 @@ Says ws (entry.Memory id offset) =
 Says ws (entry.Trajectory id) = (i : Word) × (ws ≡ codes "trajectory" ∷ i ∷ []) × IsNatural 0 9 i id
 Says ws (entry.Ellipsoid r h) =
     (a b : Word) × (ws ≡ codes "ellipsoid" ∷ a ∷ b ∷ []) × IsNatural 1 2000 a r × IsNatural 1 2000 b h
+Says ws (entry.Stray mm) = (m : Word) × (ws ≡ codes "stray" ∷ m ∷ []) × IsNatural 0 1000 m mm
+Says ws (entry.Late ms) = (m : Word) × (ws ≡ codes "late" ∷ m ∷ []) × IsNatural 0 1000 m ms
 Says ws (entry.Drone name at) =
     (n : Word) × (point : List Word) × (ws ≡ codes "drone" ∷ n ∷ point) × IsNamed n name × IsPoint point at
 Says ws (entry.Formation name) = (n : Word) × (ws ≡ codes "formation" ∷ n ∷ []) × IsNamed n name
@@ -108,6 +110,8 @@ abbrev pub may_say : Place → Entry → Bool
 may_say Top (entry.Memory id offset) = true
 may_say Top (entry.Trajectory id) = true
 may_say Top (entry.Ellipsoid r h) = true
+may_say Top (entry.Stray mm) = true
+may_say Top (entry.Late ms) = true
 may_say Top (entry.Drone name at) = true
 may_say Top (entry.Formation name) = true
 may_say Top (entry.Figure name roles) = true

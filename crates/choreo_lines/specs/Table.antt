@@ -69,6 +69,8 @@ abbrev pub row_of : Keyword → Row
 row_of first.Memory = only (natural 0 255 ∷ natural 0 4095 ∷ [])
 row_of first.Trajectory = only (natural 0 9 ∷ [])
 row_of first.Ellipsoid = only (natural 1 2000 ∷ natural 1 2000 ∷ [])
+row_of first.Stray = only (natural 0 1000 ∷ [])
+row_of first.Late = only (natural 0 1000 ∷ [])
 row_of first.Drone = only (AName ∷ point)
 row_of first.Formation = only (AName ∷ [])
 row_of first.At = only (AName ∷ point)
@@ -100,6 +102,8 @@ abbrev pub may_stand : Place → Keyword → Bool
 may_stand Top first.Memory = true
 may_stand Top first.Trajectory = true
 may_stand Top first.Ellipsoid = true
+may_stand Top first.Stray = true
+may_stand Top first.Late = true
 may_stand Top first.Drone = true
 may_stand Top first.Formation = true
 may_stand Top first.Figure = true

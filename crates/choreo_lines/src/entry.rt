@@ -78,6 +78,42 @@ fn ellipsoid_line(text: &[u8], words: &[Token]) -> Result<Entry, LineKind>
     }
 }
 
+#[tactic(auto, unfolding(crate::specs::Entry::stray_fields))]
+fn stray_fields(mm: &[u8]) -> Result<Entry, LineKind>
+    ensures { result ≡ spec.stray_fields mm.now }
+{
+    let mm = natural_field(mm, 0, 1000)?;
+    Ok(Entry::Stray { mm: mm as u16 })
+}
+
+fn stray_line(text: &[u8], words: &[Token]) -> Result<Entry, LineKind>
+    ensures { result ≡ spec.stray_line (words_in text.now words.now) }
+{
+    if words.len() == 1 {
+        stray_fields(nth(text, words, 0))
+    } else {
+        Err(LineKind::BadCount)
+    }
+}
+
+#[tactic(auto, unfolding(crate::specs::Entry::late_fields))]
+fn late_fields(ms: &[u8]) -> Result<Entry, LineKind>
+    ensures { result ≡ spec.late_fields ms.now }
+{
+    let ms = natural_field(ms, 0, 1000)?;
+    Ok(Entry::Late { ms: ms as u16 })
+}
+
+fn late_line(text: &[u8], words: &[Token]) -> Result<Entry, LineKind>
+    ensures { result ≡ spec.late_line (words_in text.now words.now) }
+{
+    if words.len() == 1 {
+        late_fields(nth(text, words, 0))
+    } else {
+        Err(LineKind::BadCount)
+    }
+}
+
 #[tactic(auto, unfolding(crate::specs::Entry::drone_fields))]
 fn drone_fields(
     name_word: &[u8],
@@ -363,6 +399,8 @@ fn may_stand(place: Place, first: Keyword) -> bool
         (Place::Top, Keyword::Memory) => true,
         (Place::Top, Keyword::Trajectory) => true,
         (Place::Top, Keyword::Ellipsoid) => true,
+        (Place::Top, Keyword::Stray) => true,
+        (Place::Top, Keyword::Late) => true,
         (Place::Top, Keyword::Drone) => true,
         (Place::Top, Keyword::Formation) => true,
         (Place::Top, Keyword::Figure) => true,
@@ -398,6 +436,8 @@ fn line_behind(
         Keyword::Memory => kept(memory_line(text, words)),
         Keyword::Trajectory => kept(trajectory_line(text, words)),
         Keyword::Ellipsoid => kept(ellipsoid_line(text, words)),
+        Keyword::Stray => kept(stray_line(text, words)),
+        Keyword::Late => kept(late_line(text, words)),
         Keyword::Drone => kept(drone_line(text, words)),
         Keyword::Formation => kept(formation_line(text, words)),
         Keyword::At => kept(at_line(text, words)),

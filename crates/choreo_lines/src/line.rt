@@ -44,6 +44,8 @@ pub enum Keyword {
     Memory,
     Trajectory,
     Ellipsoid,
+    Stray,
+    Late,
     Drone,
     Formation,
     At,
@@ -83,6 +85,12 @@ pub enum Entry {
     Ellipsoid {
         r: u16,
         h: u16,
+    },
+    Stray {
+        mm: u16,
+    },
+    Late {
+        ms: u16,
     },
     Drone {
         name: Name,

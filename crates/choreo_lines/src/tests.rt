@@ -10,6 +10,8 @@ enum Outcome {
     Memory(u8, u16),
     Trajectory(u8),
     Ellipsoid(u16, u16),
+    Stray(u16),
+    Late(u16),
     Drone(Point),
     Formation,
     At(Point),
@@ -46,6 +48,8 @@ fn said(entry: &Entry) -> Outcome {
         Entry::Memory { id, offset } => Outcome::Memory(*id, *offset),
         Entry::Trajectory { id } => Outcome::Trajectory(*id),
         Entry::Ellipsoid { r, h } => Outcome::Ellipsoid(*r, *h),
+        Entry::Stray { mm } => Outcome::Stray(*mm),
+        Entry::Late { ms } => Outcome::Late(*ms),
         Entry::Drone { at, .. } => Outcome::Drone(*at),
         Entry::Formation { .. } => Outcome::Formation,
         Entry::At { at, .. } => Outcome::At(*at),
@@ -74,8 +78,10 @@ const FRAME: Frame = Frame {
     dz: 3,
 };
 
-const BLOCK_LINES: [(Place, &[u8], Outcome); 12] = [
+const BLOCK_LINES: [(Place, &[u8], Outcome); 14] = [
     (Place::Top, b"memory 255 4095", Outcome::Memory(255, 4095)),
+    (Place::Top, b"stray 1000", Outcome::Stray(1000)),
+    (Place::Top, b"late 0020", Outcome::Late(20)),
     (Place::Top, b"trajectory 009 # last", Outcome::Trajectory(9)),
     (Place::Top, b"ellipsoid 1 2000", Outcome::Ellipsoid(1, 2000)),
     (Place::Top, b"drone cue 1 -2 3 -4", Outcome::Drone(POINT)),

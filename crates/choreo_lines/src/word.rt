@@ -16,6 +16,10 @@ pub fn keyword(word: &[u8]) -> Keyword
         Keyword::Trajectory
     } else if word == b"ellipsoid".as_slice() {
         Keyword::Ellipsoid
+    } else if word == b"stray".as_slice() {
+        Keyword::Stray
+    } else if word == b"late".as_slice() {
+        Keyword::Late
     } else if word == b"drone".as_slice() {
         Keyword::Drone
     } else if word == b"formation".as_slice() {

@@ -7,7 +7,7 @@ use Rattle.choreo_reader.specs.Text.{show_lines}
 use Rattle.choreo_reader.specs.Plain as plain
 use Rattle.choreo_lines.specs.Name.{Name}
 use Rattle.choreo_reader.specs.Plain.{Body, PlainFigure, PlainShow, has_block, ◌⨾◌}
-use Rattle.choreo_reader.specs.Grammar.{AreSaid, closing, place_said, body_said, Item, Memory, Trajectory, Ellipsoid, Drone, Formed, Figured, Blocks, item_said, items_said, memories, trajectories, ellipsoids, drones, formations, figures, body, first_or, show_of, IsItem, AreItems, HasSingleSettings, IsHeader, StandsFor}
+use Rattle.choreo_reader.specs.Grammar.{AreSaid, closing, place_said, body_said, Item, Memory, Trajectory, Ellipsoid, Stray, Late, Drone, Formed, Figured, Blocks, item_said, items_said, memories, trajectories, ellipsoids, strays, lates, drones, formations, figures, body, first_or, show_of, IsItem, AreItems, HasSingleSettings, IsHeader, StandsFor}
 use Rattle.choreo_reader.specs.Context.{fault_if, is_header, end_fault}
 use Rattle.choreo_reader.specs.Text.{fault_at}
 use Rattle.choreo_reader.specs.Reading.{InFormation, InFigure, Built, nothing, add_block, built_show, is_any, lines_step, finish, finish_with, openings_of, reading, read_lines, unless_forbidden}
@@ -32,6 +32,8 @@ abbrev pub add_item : Built → Item → Built
 add_item s (Memory id offset) = record s { memory = Some (id, offset); open_blocks = [] }
 add_item s (Trajectory id) = record s { trajectory = Some id; open_blocks = [] }
 add_item s (Ellipsoid r h) = record s { ellipsoid = Some (r, h); open_blocks = [] }
+add_item s (Stray mm) = record s { stray = Some mm; open_blocks = [] }
+add_item s (Late ms) = record s { late = Some ms; open_blocks = [] }
 add_item s (Drone d) = record s { drones = s.drones ++ d ∷ []; open_blocks = [] }
 add_item s (Formed f) = record s { formations = s.formations ++ f ∷ []; open_blocks = [] }
 add_item s (Figured f) = record s { figures = s.figures ++ f ∷ []; open_blocks = [] }
@@ -50,6 +52,8 @@ pub record Single (s : Built) (is : List Item) : Type 0 where
   pub memory : count s.memory + length (memories is) ≤ 1
   pub trajectory : count s.trajectory + length (trajectories is) ≤ 1
   pub ellipsoid : count s.ellipsoid + length (ellipsoids is) ≤ 1
+  pub stray : count s.stray + length (strays is) ≤ 1
+  pub late : count s.late + length (lates is) ≤ 1
 
 unset : {A : Type 0} (o : Option A) → count o ≡ 0 → fault_if (is_some o) kind.DoubleSetting ≡ None
 unset None h = refl
@@ -73,6 +77,8 @@ no_lines : (i : Item) (s : Built) (is : List Item) → IsItem i → Single s (i 
 no_lines (Memory id offset) s is k n h = absurd h
 no_lines (Trajectory id) s is k n h = absurd h
 no_lines (Ellipsoid r x) s is k n h = absurd h
+no_lines (Stray mm) s is k n h = absurd h
+no_lines (Late ms) s is k n h = absurd h
 no_lines (Drone d) s is k n h = absurd h
 no_lines (Formed f) s is k n h = absurd h
 no_lines (Figured f) s is k n h = absurd h
@@ -86,10 +92,16 @@ item_reads (Trajectory id) s is (l ∷ []) k n h =
     said_anywhere (with_open s []) l (entry.Trajectory id) h.0 refl (unset s.trajectory (omega (arith, n.trajectory))) (add_item s (Trajectory id)) (λ m. refl)
 item_reads (Ellipsoid r x) s is (l ∷ []) k n h =
     said_anywhere (with_open s []) l (entry.Ellipsoid r x) h.0 refl (unset s.ellipsoid (omega (arith, n.ellipsoid))) (add_item s (Ellipsoid r x)) (λ m. refl)
+item_reads (Stray mm) s is (l ∷ []) k n h =
+    said_anywhere (with_open s []) l (entry.Stray mm) h.0 refl (unset s.stray (omega (arith, n.stray))) (add_item s (Stray mm)) (λ m. refl)
+item_reads (Late ms) s is (l ∷ []) k n h =
+    said_anywhere (with_open s []) l (entry.Late ms) h.0 refl (unset s.late (omega (arith, n.late))) (add_item s (Late ms)) (λ m. refl)
 item_reads (Drone d) s is (l ∷ []) k n h = numbered_step (with_open s []) l d.line (entry.Drone d.name d.at) h.0 refl refl
 item_reads (Memory id offset) s is (l ∷ m ∷ ls) k n h = absurd h.1
 item_reads (Trajectory id) s is (l ∷ m ∷ ls) k n h = absurd h.1
 item_reads (Ellipsoid r x) s is (l ∷ m ∷ ls) k n h = absurd h.1
+item_reads (Stray mm) s is (l ∷ m ∷ ls) k n h = absurd h.1
+item_reads (Late ms) s is (l ∷ m ∷ ls) k n h = absurd h.1
 item_reads (Drone d) s is (l ∷ m ∷ ls) k n h = absurd h.1
 item_reads (Formed f) s is (l ∷ ls) k n h =
     let parts = split ls (map place_said f.places) (closing ∷ []) h.1 in
@@ -109,18 +121,22 @@ item_reads (Figured f) s is (l ∷ ls) k n h =
 item_reads (Blocks b) s is (l ∷ ls) k n h = body_reads b s [] (l ∷ ls) (record { takes = tt; filled = k.filled; nested = omega (arith, k.nested); figure = λ q. cc }) h
 
 single_later : (i : Item) (s : Built) (is : List Item) → Single s (i ∷ is) → Single (add_item s i) is
-single_later (Memory id offset) s is n = record { memory = omega (arith, n.memory); trajectory = omega (arith, n.trajectory); ellipsoid = omega (arith, n.ellipsoid) }
-single_later (Trajectory id) s is n = record { memory = omega (arith, n.memory); trajectory = omega (arith, n.trajectory); ellipsoid = omega (arith, n.ellipsoid) }
-single_later (Ellipsoid r h) s is n = record { memory = omega (arith, n.memory); trajectory = omega (arith, n.trajectory); ellipsoid = omega (arith, n.ellipsoid) }
-single_later (Drone d) s is n = record { memory = omega (arith, n.memory); trajectory = omega (arith, n.trajectory); ellipsoid = omega (arith, n.ellipsoid) }
-single_later (Formed f) s is n = record { memory = omega (arith, n.memory); trajectory = omega (arith, n.trajectory); ellipsoid = omega (arith, n.ellipsoid) }
-single_later (Figured f) s is n = record { memory = omega (arith, n.memory); trajectory = omega (arith, n.trajectory); ellipsoid = omega (arith, n.ellipsoid) }
-single_later (Blocks b) s is n = record { memory = omega (arith, n.memory); trajectory = omega (arith, n.trajectory); ellipsoid = omega (arith, n.ellipsoid) }
+single_later (Memory id offset) s is n = record { memory = omega (arith, n.memory); trajectory = omega (arith, n.trajectory); ellipsoid = omega (arith, n.ellipsoid); stray = omega (arith, n.stray); late = omega (arith, n.late) }
+single_later (Trajectory id) s is n = record { memory = omega (arith, n.memory); trajectory = omega (arith, n.trajectory); ellipsoid = omega (arith, n.ellipsoid); stray = omega (arith, n.stray); late = omega (arith, n.late) }
+single_later (Ellipsoid r h) s is n = record { memory = omega (arith, n.memory); trajectory = omega (arith, n.trajectory); ellipsoid = omega (arith, n.ellipsoid); stray = omega (arith, n.stray); late = omega (arith, n.late) }
+single_later (Stray mm) s is n = record { memory = omega (arith, n.memory); trajectory = omega (arith, n.trajectory); ellipsoid = omega (arith, n.ellipsoid); stray = omega (arith, n.stray); late = omega (arith, n.late) }
+single_later (Late ms) s is n = record { memory = omega (arith, n.memory); trajectory = omega (arith, n.trajectory); ellipsoid = omega (arith, n.ellipsoid); stray = omega (arith, n.stray); late = omega (arith, n.late) }
+single_later (Drone d) s is n = record { memory = omega (arith, n.memory); trajectory = omega (arith, n.trajectory); ellipsoid = omega (arith, n.ellipsoid); stray = omega (arith, n.stray); late = omega (arith, n.late) }
+single_later (Formed f) s is n = record { memory = omega (arith, n.memory); trajectory = omega (arith, n.trajectory); ellipsoid = omega (arith, n.ellipsoid); stray = omega (arith, n.stray); late = omega (arith, n.late) }
+single_later (Figured f) s is n = record { memory = omega (arith, n.memory); trajectory = omega (arith, n.trajectory); ellipsoid = omega (arith, n.ellipsoid); stray = omega (arith, n.stray); late = omega (arith, n.late) }
+single_later (Blocks b) s is n = record { memory = omega (arith, n.memory); trajectory = omega (arith, n.trajectory); ellipsoid = omega (arith, n.ellipsoid); stray = omega (arith, n.stray); late = omega (arith, n.late) }
 
 item_open : (s : Built) (i : Item) → add_item s i ≡ with_open (add_item s i) []
 item_open s (Memory id offset) = refl
 item_open s (Trajectory id) = refl
 item_open s (Ellipsoid r h) = refl
+item_open s (Stray mm) = refl
+item_open s (Late ms) = refl
 item_open s (Drone d) = refl
 item_open s (Formed f) = refl
 item_open s (Figured f) = refl
@@ -140,6 +156,8 @@ drones_in [] s = sym (append-nil s.drones)
 drones_in (Memory id offset ∷ is) s = drones_in is (add_item s (Memory id offset))
 drones_in (Trajectory id ∷ is) s = drones_in is (add_item s (Trajectory id))
 drones_in (Ellipsoid r h ∷ is) s = drones_in is (add_item s (Ellipsoid r h))
+drones_in (Stray mm ∷ is) s = drones_in is (add_item s (Stray mm))
+drones_in (Late ms ∷ is) s = drones_in is (add_item s (Late ms))
 drones_in (Drone d ∷ is) s = drones_in is (add_item s (Drone d)) ∙ append_assoc s.drones (d ∷ []) (drones is)
 drones_in (Formed f ∷ is) s = drones_in is (add_item s (Formed f))
 drones_in (Figured f ∷ is) s = drones_in is (add_item s (Figured f))
@@ -150,6 +168,8 @@ formations_in [] s = sym (append-nil s.formations)
 formations_in (Memory id offset ∷ is) s = formations_in is (add_item s (Memory id offset))
 formations_in (Trajectory id ∷ is) s = formations_in is (add_item s (Trajectory id))
 formations_in (Ellipsoid r h ∷ is) s = formations_in is (add_item s (Ellipsoid r h))
+formations_in (Stray mm ∷ is) s = formations_in is (add_item s (Stray mm))
+formations_in (Late ms ∷ is) s = formations_in is (add_item s (Late ms))
 formations_in (Drone d ∷ is) s = formations_in is (add_item s (Drone d))
 formations_in (Formed f ∷ is) s = formations_in is (add_item s (Formed f)) ∙ append_assoc s.formations (f ∷ []) (formations is)
 formations_in (Figured f ∷ is) s = formations_in is (add_item s (Figured f))
@@ -160,6 +180,8 @@ figures_in [] s = sym (append-nil s.figures)
 figures_in (Memory id offset ∷ is) s = figures_in is (add_item s (Memory id offset))
 figures_in (Trajectory id ∷ is) s = figures_in is (add_item s (Trajectory id))
 figures_in (Ellipsoid r h ∷ is) s = figures_in is (add_item s (Ellipsoid r h))
+figures_in (Stray mm ∷ is) s = figures_in is (add_item s (Stray mm))
+figures_in (Late ms ∷ is) s = figures_in is (add_item s (Late ms))
 figures_in (Drone d ∷ is) s = figures_in is (add_item s (Drone d))
 figures_in (Formed f ∷ is) s = figures_in is (add_item s (Formed f))
 figures_in (Figured f ∷ is) s = figures_in is (add_item s (Figured f)) ∙ append_assoc s.figures (f ∷ []) (figures is)
@@ -170,6 +192,8 @@ body_in [] s = sym (body_done s.body)
 body_in (Memory id offset ∷ is) s = body_in is (add_item s (Memory id offset))
 body_in (Trajectory id ∷ is) s = body_in is (add_item s (Trajectory id))
 body_in (Ellipsoid r h ∷ is) s = body_in is (add_item s (Ellipsoid r h))
+body_in (Stray mm ∷ is) s = body_in is (add_item s (Stray mm))
+body_in (Late ms ∷ is) s = body_in is (add_item s (Late ms))
 body_in (Drone d ∷ is) s = body_in is (add_item s (Drone d))
 body_in (Formed f ∷ is) s = body_in is (add_item s (Formed f))
 body_in (Figured f ∷ is) s = body_in is (add_item s (Figured f))
@@ -192,6 +216,8 @@ memory_in e [] s n = value_end e s.memory
 memory_in e (Memory id offset ∷ is) s n = memory_in e is (add_item s (Memory id offset)) (single_later (Memory id offset) s is n) ∙ value_first e (id, offset) s.memory (memories is) n.memory
 memory_in e (Trajectory id ∷ is) s n = memory_in e is (add_item s (Trajectory id)) (single_later (Trajectory id) s is n)
 memory_in e (Ellipsoid r h ∷ is) s n = memory_in e is (add_item s (Ellipsoid r h)) (single_later (Ellipsoid r h) s is n)
+memory_in e (Stray mm ∷ is) s n = memory_in e is (add_item s (Stray mm)) (single_later (Stray mm) s is n)
+memory_in e (Late ms ∷ is) s n = memory_in e is (add_item s (Late ms)) (single_later (Late ms) s is n)
 memory_in e (Drone d ∷ is) s n = memory_in e is (add_item s (Drone d)) (single_later (Drone d) s is n)
 memory_in e (Formed f ∷ is) s n = memory_in e is (add_item s (Formed f)) (single_later (Formed f) s is n)
 memory_in e (Figured f ∷ is) s n = memory_in e is (add_item s (Figured f)) (single_later (Figured f) s is n)
@@ -202,6 +228,8 @@ trajectory_in e [] s n = value_end e s.trajectory
 trajectory_in e (Memory id offset ∷ is) s n = trajectory_in e is (add_item s (Memory id offset)) (single_later (Memory id offset) s is n)
 trajectory_in e (Trajectory id ∷ is) s n = trajectory_in e is (add_item s (Trajectory id)) (single_later (Trajectory id) s is n) ∙ value_first e id s.trajectory (trajectories is) n.trajectory
 trajectory_in e (Ellipsoid r h ∷ is) s n = trajectory_in e is (add_item s (Ellipsoid r h)) (single_later (Ellipsoid r h) s is n)
+trajectory_in e (Stray mm ∷ is) s n = trajectory_in e is (add_item s (Stray mm)) (single_later (Stray mm) s is n)
+trajectory_in e (Late ms ∷ is) s n = trajectory_in e is (add_item s (Late ms)) (single_later (Late ms) s is n)
 trajectory_in e (Drone d ∷ is) s n = trajectory_in e is (add_item s (Drone d)) (single_later (Drone d) s is n)
 trajectory_in e (Formed f ∷ is) s n = trajectory_in e is (add_item s (Formed f)) (single_later (Formed f) s is n)
 trajectory_in e (Figured f ∷ is) s n = trajectory_in e is (add_item s (Figured f)) (single_later (Figured f) s is n)
@@ -211,11 +239,37 @@ ellipsoid_in : (e : ℕ × ℕ) (is : List Item) (s : Built) → Single s is →
 ellipsoid_in e [] s n = value_end e s.ellipsoid
 ellipsoid_in e (Memory id offset ∷ is) s n = ellipsoid_in e is (add_item s (Memory id offset)) (single_later (Memory id offset) s is n)
 ellipsoid_in e (Trajectory id ∷ is) s n = ellipsoid_in e is (add_item s (Trajectory id)) (single_later (Trajectory id) s is n)
+ellipsoid_in e (Stray mm ∷ is) s n = ellipsoid_in e is (add_item s (Stray mm)) (single_later (Stray mm) s is n)
+ellipsoid_in e (Late ms ∷ is) s n = ellipsoid_in e is (add_item s (Late ms)) (single_later (Late ms) s is n)
 ellipsoid_in e (Ellipsoid r h ∷ is) s n = ellipsoid_in e is (add_item s (Ellipsoid r h)) (single_later (Ellipsoid r h) s is n) ∙ value_first e (r, h) s.ellipsoid (ellipsoids is) n.ellipsoid
 ellipsoid_in e (Drone d ∷ is) s n = ellipsoid_in e is (add_item s (Drone d)) (single_later (Drone d) s is n)
 ellipsoid_in e (Formed f ∷ is) s n = ellipsoid_in e is (add_item s (Formed f)) (single_later (Formed f) s is n)
 ellipsoid_in e (Figured f ∷ is) s n = ellipsoid_in e is (add_item s (Figured f)) (single_later (Figured f) s is n)
 ellipsoid_in e (Blocks b ∷ is) s n = ellipsoid_in e is (add_item s (Blocks b)) (single_later (Blocks b) s is n)
+
+stray_in : (e : ℕ) (is : List Item) (s : Built) → Single s is → unwrap_or (add_items s is).stray e ≡ value_or e s.stray (strays is)
+stray_in e [] s n = value_end e s.stray
+stray_in e (Memory id offset ∷ is) s n = stray_in e is (add_item s (Memory id offset)) (single_later (Memory id offset) s is n)
+stray_in e (Trajectory id ∷ is) s n = stray_in e is (add_item s (Trajectory id)) (single_later (Trajectory id) s is n)
+stray_in e (Ellipsoid r h ∷ is) s n = stray_in e is (add_item s (Ellipsoid r h)) (single_later (Ellipsoid r h) s is n)
+stray_in e (Stray mm ∷ is) s n = stray_in e is (add_item s (Stray mm)) (single_later (Stray mm) s is n) ∙ value_first e mm s.stray (strays is) n.stray
+stray_in e (Late ms ∷ is) s n = stray_in e is (add_item s (Late ms)) (single_later (Late ms) s is n)
+stray_in e (Drone d ∷ is) s n = stray_in e is (add_item s (Drone d)) (single_later (Drone d) s is n)
+stray_in e (Formed f ∷ is) s n = stray_in e is (add_item s (Formed f)) (single_later (Formed f) s is n)
+stray_in e (Figured f ∷ is) s n = stray_in e is (add_item s (Figured f)) (single_later (Figured f) s is n)
+stray_in e (Blocks b ∷ is) s n = stray_in e is (add_item s (Blocks b)) (single_later (Blocks b) s is n)
+
+late_in : (e : ℕ) (is : List Item) (s : Built) → Single s is → unwrap_or (add_items s is).late e ≡ value_or e s.late (lates is)
+late_in e [] s n = value_end e s.late
+late_in e (Memory id offset ∷ is) s n = late_in e is (add_item s (Memory id offset)) (single_later (Memory id offset) s is n)
+late_in e (Trajectory id ∷ is) s n = late_in e is (add_item s (Trajectory id)) (single_later (Trajectory id) s is n)
+late_in e (Ellipsoid r h ∷ is) s n = late_in e is (add_item s (Ellipsoid r h)) (single_later (Ellipsoid r h) s is n)
+late_in e (Stray mm ∷ is) s n = late_in e is (add_item s (Stray mm)) (single_later (Stray mm) s is n)
+late_in e (Late ms ∷ is) s n = late_in e is (add_item s (Late ms)) (single_later (Late ms) s is n) ∙ value_first e ms s.late (lates is) n.late
+late_in e (Drone d ∷ is) s n = late_in e is (add_item s (Drone d)) (single_later (Drone d) s is n)
+late_in e (Formed f ∷ is) s n = late_in e is (add_item s (Formed f)) (single_later (Formed f) s is n)
+late_in e (Figured f ∷ is) s n = late_in e is (add_item s (Figured f)) (single_later (Figured f) s is n)
+late_in e (Blocks b ∷ is) s n = late_in e is (add_item s (Blocks b)) (single_later (Blocks b) s is n)
 
 -- the show of the items
 pub items_show : (is : List Item) → Single nothing is → built_show (add_items nothing is) ≡ show_of is
@@ -223,6 +277,8 @@ items_show is n =
     let m = memory_in (2, 0) is nothing n in
     let t = trajectory_in 0 is nothing n in
     let e = ellipsoid_in (120, 300) is nothing n in
+    let x = stray_in 0 is nothing n in
+    let y = late_in 0 is nothing n in
     let d = drones_in is nothing in
     let f = formations_in is nothing in
     let g = figures_in is nothing in
@@ -234,6 +290,8 @@ items_closed [] s = refl
 items_closed (Memory id offset ∷ is) s = items_closed is (add_item s (Memory id offset))
 items_closed (Trajectory id ∷ is) s = items_closed is (add_item s (Trajectory id))
 items_closed (Ellipsoid r h ∷ is) s = items_closed is (add_item s (Ellipsoid r h))
+items_closed (Stray mm ∷ is) s = items_closed is (add_item s (Stray mm))
+items_closed (Late ms ∷ is) s = items_closed is (add_item s (Late ms))
 items_closed (Drone d ∷ is) s = items_closed is (add_item s (Drone d))
 items_closed (Formed f ∷ is) s = items_closed is (add_item s (Formed f))
 items_closed (Figured f ∷ is) s = items_closed is (add_item s (Figured f))
@@ -243,7 +301,7 @@ header_is : (l : Line) → IsHeader l → is_header l.words ≡ true
 header_is l h = ap is_header h
 
 single_first : (is : List Item) → HasSingleSettings is → Single nothing is
-single_first is h = record { memory = omega (arith, h.memory); trajectory = omega (arith, h.trajectory); ellipsoid = omega (arith, h.ellipsoid) }
+single_first is h = record { memory = omega (arith, h.memory); trajectory = omega (arith, h.trajectory); ellipsoid = omega (arith, h.ellipsoid); stray = omega (arith, h.stray); late = omega (arith, h.late) }
 
 lines_read : (is : List Item) (lines : List Line) → AreItems is → Single nothing is → AreSaid lines (items_said is) → lines_step nothing lines ≡ Ok (add_items nothing is)
 lines_read is lines k n h = ap (lines_step nothing) (sym (append-nil lines)) ∙ (items_read is nothing lines k n h).by []

@@ -9,7 +9,7 @@ use Rattle.choreo_lines.specs.Name.{Name}
 use Rattle.choreo_reader.specs.Plain.{Body, PlainShow, has_block, ◌⨾◌}
 use Rattle.choreo_lines.specs.Says.{Says, may_say}
 use Rattle.choreo_reader.specs.Text.{Fault, fault_at, forbidden}
-use Rattle.choreo_reader.specs.Context.{Context, open_fault, line_fault, Opened, OpenFormation, OpenFigure, OpenRepeat, OpenCue, this_or, fault_from, fault_of_lines, end_fault, either_fault, fault, is_header, place_of, place_in, opened_by, is_end, is_top, fill, opens, without_innermost, blocks_after, sets_memory, sets_trajectory, sets_ellipsoid, context_after, first_word, in_figure}
+use Rattle.choreo_reader.specs.Context.{Context, open_fault, line_fault, Opened, OpenFormation, OpenFigure, OpenRepeat, OpenCue, this_or, fault_from, fault_of_lines, end_fault, either_fault, fault, is_header, place_of, place_in, opened_by, is_end, is_top, fill, opens, without_innermost, blocks_after, sets_memory, sets_trajectory, sets_ellipsoid, sets_stray, sets_late, context_after, first_word, in_figure}
 use Rattle.choreo_lines.specs.Table.{or_else, as_read, is_cue}
 use Rattle.choreo_lines.proofs.Judged.{err, err_is}
 use Rattle.choreo_lines.specs.declared.line.Place.{Place}
@@ -35,6 +35,8 @@ word_said : (ws : List (List ℕ)) (e : Entry) → Says ws e → (keyword_in e �
 word_said ws (entry.Memory id offset) (i, o, e, a, b) n = ap (λ t. keyword_of (first_word t)) e
 word_said ws (entry.Trajectory id) (i, e, a) n = ap (λ t. keyword_of (first_word t)) e
 word_said ws (entry.Ellipsoid r h) (i, o, e, a, b) n = ap (λ t. keyword_of (first_word t)) e
+word_said ws (entry.Stray mm) (i, e, a) n = ap (λ t. keyword_of (first_word t)) e
+word_said ws (entry.Late ms) (i, e, a) n = ap (λ t. keyword_of (first_word t)) e
 word_said ws (entry.Drone name at) (w, point, e, a, b) n = ap (λ t. keyword_of (first_word t)) e
 word_said ws (entry.Formation name) (w, e, a) n = ap (λ t. keyword_of (first_word t)) e
 word_said ws (entry.At name at) (w, point, e, a, b) n = ap (λ t. keyword_of (first_word t)) e
@@ -160,6 +162,8 @@ turns : (e : Entry) (os : List Open) (s : Built) (n : ℕ) → InOrder os → ma
 turns (entry.Memory id offset) os s n k m o = top_turns (entry.Memory id offset) os s n (refl, refl, refl, refl, refl) m refl
 turns (entry.Trajectory id) os s n k m o = top_turns (entry.Trajectory id) os s n (refl, refl, refl, refl, refl) m refl
 turns (entry.Ellipsoid r h) os s n k m o = top_turns (entry.Ellipsoid r h) os s n (refl, refl, refl, refl, refl) m refl
+turns (entry.Stray mm) os s n k m o = top_turns (entry.Stray mm) os s n (refl, refl, refl, refl, refl) m refl
+turns (entry.Late ms) os s n k m o = top_turns (entry.Late ms) os s n (refl, refl, refl, refl, refl) m refl
 turns (entry.Drone name to) os s n k m o = top_turns (entry.Drone name to) os s n (refl, refl, refl, refl, refl) m refl
 turns (entry.Formation name) os s n k m o = top_turns (entry.Formation name) os s n (refl, refl, refl, refl, refl) m refl
 turns (entry.Figure name roles) os s n k m o = top_turns (entry.Figure name roles) os s n (refl, refl, refl, refl, refl) m refl
@@ -198,38 +202,48 @@ record KeepsSettings (s t : Built) : Type 0 where
   memory : t.memory ≡ s.memory
   trajectory : t.trajectory ≡ s.trajectory
   ellipsoid : t.ellipsoid ≡ s.ellipsoid
+  stray : t.stray ≡ s.stray
+  late : t.late ≡ s.late
 
 -- the settings that stand after a line with this first word
 record SettingsTurn (s t : Built) (os : List Open) (k : Keyword) : Type 0 where
   memory : (is_some s.memory || (is_top (openings_of os) && sets_memory k)) ≡ is_some t.memory
   trajectory : (is_some s.trajectory || (is_top (openings_of os) && sets_trajectory k)) ≡ is_some t.trajectory
   ellipsoid : (is_some s.ellipsoid || (is_top (openings_of os) && sets_ellipsoid k)) ≡ is_some t.ellipsoid
+  stray : (is_some s.stray || (is_top (openings_of os) && sets_stray k)) ≡ is_some t.stray
+  late : (is_some s.late || (is_top (openings_of os) && sets_late k)) ≡ is_some t.late
 
 abbrev is_setting : Keyword → Bool
 is_setting first.Memory = true
 is_setting first.Trajectory = true
 is_setting first.Ellipsoid = true
+is_setting first.Stray = true
+is_setting first.Late = true
 is_setting _ = false
 
 settings_keep : (s t : Built) (os : List Open) (k : Keyword) → KeepsSettings s t → is_setting k ≡ false → SettingsTurn s t os k
 settings_keep s t os first.Memory h n = cc
 settings_keep s t os first.Trajectory h n = cc
 settings_keep s t os first.Ellipsoid h n = cc
+settings_keep s t os first.Stray h n = cc
+settings_keep s t os first.Late h n = cc
 settings_keep s t os k h n =
     record {
       memory = or_none (is_some s.memory) (is_top (openings_of os)) ∙ ap is_some (sym h.memory);
       trajectory = or_none (is_some s.trajectory) (is_top (openings_of os)) ∙ ap is_some (sym h.trajectory);
       ellipsoid = or_none (is_some s.ellipsoid) (is_top (openings_of os)) ∙ ap is_some (sym h.ellipsoid);
+      stray = or_none (is_some s.stray) (is_top (openings_of os)) ∙ ap is_some (sym h.stray);
+      late = or_none (is_some s.late) (is_top (openings_of os)) ∙ ap is_some (sym h.late);
     }
 
 add_keeps : (s : Built) (os : List Open) (a : Body) → KeepsSettings s (add_block s os a)
-add_keeps s [] a = record { memory = refl; trajectory = refl; ellipsoid = refl }
-add_keeps s (o ∷ os) a = record { memory = refl; trajectory = refl; ellipsoid = refl }
+add_keeps s [] a = record { memory = refl; trajectory = refl; ellipsoid = refl; stray = refl; late = refl }
+add_keeps s (o ∷ os) a = record { memory = refl; trajectory = refl; ellipsoid = refl; stray = refl; late = refl }
 
 close_keeps : (s : Built) (os : List Open) → KeepsSettings s (close_innermost s os)
-close_keeps s [] = record { memory = refl; trajectory = refl; ellipsoid = refl }
-close_keeps s (InFormation line name places ∷ os) = record { memory = refl; trajectory = refl; ellipsoid = refl }
-close_keeps s (InFigure line name roles b ∷ os) = record { memory = refl; trajectory = refl; ellipsoid = refl }
+close_keeps s [] = record { memory = refl; trajectory = refl; ellipsoid = refl; stray = refl; late = refl }
+close_keeps s (InFormation line name places ∷ os) = record { memory = refl; trajectory = refl; ellipsoid = refl; stray = refl; late = refl }
+close_keeps s (InFigure line name roles b ∷ os) = record { memory = refl; trajectory = refl; ellipsoid = refl; stray = refl; late = refl }
 close_keeps s (InRepeat line times b ∷ os) = add_keeps s os (plain.Repeat line times b plain.Done)
 close_keeps s (InCue line ms acts ∷ os) = add_keeps s os (plain.Cue line ms acts plain.Done)
 
@@ -237,9 +251,11 @@ build_keeps : (e : Entry) (s : Built) (n : ℕ) → is_setting (keyword_in e) �
 build_keeps (entry.Memory id offset) s n h = cc
 build_keeps (entry.Trajectory id) s n h = cc
 build_keeps (entry.Ellipsoid r x) s n h = cc
+build_keeps (entry.Stray mm) s n h = cc
+build_keeps (entry.Late ms) s n h = cc
 build_keeps (entry.Perform figure frame ds) s n h = add_keeps s s.open_blocks (plain.Perform n figure frame ds plain.Done)
 build_keeps entry.End s n h = close_keeps s s.open_blocks
-build_keeps e s n h = record { memory = refl; trajectory = refl; ellipsoid = refl }
+build_keeps e s n h = record { memory = refl; trajectory = refl; ellipsoid = refl; stray = refl; late = refl }
 
 -- at top
 abbrev TopTurn : Built → ℕ → Entry → List Open → Type 0
@@ -248,19 +264,25 @@ TopTurn s n e os = SettingsTurn s (build s n e) os (keyword_in e)
 settings_turn : (e : Entry) (s : Built) (n : ℕ) → may_say (place_of (openings_of s.open_blocks)) e ≡ true → SettingsTurn s (build s n e) s.open_blocks (keyword_in e)
 settings_turn (entry.Memory id offset) s n m =
     subst (TopTurn s n (entry.Memory id offset)) (sym (top_is s.open_blocks (entry.Memory id offset) (refl, refl, refl, refl, refl) m))
-    (record { memory = or_true (is_some s.memory); trajectory = or_false (is_some s.trajectory); ellipsoid = or_false (is_some s.ellipsoid) })
+    (record { memory = or_true (is_some s.memory); trajectory = or_false (is_some s.trajectory); ellipsoid = or_false (is_some s.ellipsoid); stray = or_false (is_some s.stray); late = or_false (is_some s.late) })
 settings_turn (entry.Trajectory id) s n m =
     subst (TopTurn s n (entry.Trajectory id)) (sym (top_is s.open_blocks (entry.Trajectory id) (refl, refl, refl, refl, refl) m))
-    (record { memory = or_false (is_some s.memory); trajectory = or_true (is_some s.trajectory); ellipsoid = or_false (is_some s.ellipsoid) })
+    (record { memory = or_false (is_some s.memory); trajectory = or_true (is_some s.trajectory); ellipsoid = or_false (is_some s.ellipsoid); stray = or_false (is_some s.stray); late = or_false (is_some s.late) })
 settings_turn (entry.Ellipsoid r h) s n m =
     subst (TopTurn s n (entry.Ellipsoid r h)) (sym (top_is s.open_blocks (entry.Ellipsoid r h) (refl, refl, refl, refl, refl) m))
-    (record { memory = or_false (is_some s.memory); trajectory = or_false (is_some s.trajectory); ellipsoid = or_true (is_some s.ellipsoid) })
+    (record { memory = or_false (is_some s.memory); trajectory = or_false (is_some s.trajectory); ellipsoid = or_true (is_some s.ellipsoid); stray = or_false (is_some s.stray); late = or_false (is_some s.late) })
+settings_turn (entry.Stray mm) s n m =
+    subst (TopTurn s n (entry.Stray mm)) (sym (top_is s.open_blocks (entry.Stray mm) (refl, refl, refl, refl, refl) m))
+    (record { memory = or_false (is_some s.memory); trajectory = or_false (is_some s.trajectory); ellipsoid = or_false (is_some s.ellipsoid); stray = or_true (is_some s.stray); late = or_false (is_some s.late) })
+settings_turn (entry.Late ms) s n m =
+    subst (TopTurn s n (entry.Late ms)) (sym (top_is s.open_blocks (entry.Late ms) (refl, refl, refl, refl, refl) m))
+    (record { memory = or_false (is_some s.memory); trajectory = or_false (is_some s.trajectory); ellipsoid = or_false (is_some s.ellipsoid); stray = or_false (is_some s.stray); late = or_true (is_some s.late) })
 settings_turn e s n m = settings_keep s (build s n e) s.open_blocks (keyword_in e) (build_keeps e s n refl) refl
 
 -- an act line sets nothing, whatever its first word is, since a cue is open
 one_settings : (os : List Open) (s : Built) (k : Keyword) (name : Name) (a : _) → may_say (place_of (openings_of os)) (entry.One name a) ≡ true → SettingsTurn s s os k
 one_settings [] s k name a m = cc
-one_settings (o ∷ os) s k name a m = record { memory = or_false (is_some s.memory); trajectory = or_false (is_some s.trajectory); ellipsoid = or_false (is_some s.ellipsoid) }
+one_settings (o ∷ os) s k name a m = record { memory = or_false (is_some s.memory); trajectory = or_false (is_some s.trajectory); ellipsoid = or_false (is_some s.ellipsoid); stray = or_false (is_some s.stray); late = or_false (is_some s.late) }
 
 settings_by : (s t : Built) (os : List Open) (k j : Keyword) → j ≡ k → SettingsTurn s t os k → SettingsTurn s t os j
 settings_by s t os k j e h = subst (λ i. SettingsTurn s t os i) (sym e) h
@@ -268,7 +290,7 @@ settings_by s t os k j e h = subst (λ i. SettingsTurn s t os i) (sym e) h
 line_settings : (ws : List (List ℕ)) (e : Entry) (s : Built) (n : ℕ) → Says ws e → may_say (place_of (openings_of s.open_blocks)) e ≡ true → SettingsTurn s (build s n e) s.open_blocks (keyword_of (first_word ws))
 line_settings ws (entry.One name a) s n h m =
     let k = one_settings s.open_blocks s (keyword_of (first_word ws)) name a m in
-    record { memory = k.memory; trajectory = k.trajectory; ellipsoid = k.ellipsoid }
+    record { memory = k.memory; trajectory = k.trajectory; ellipsoid = k.ellipsoid; stray = k.stray; late = k.late }
 line_settings ws e s n h m = settings_by s (build s n e) s.open_blocks (keyword_in e) (keyword_of (first_word ws)) (word_said ws e h (λ o. cc)) (settings_turn e s n m)
 
 -- the context after a line is that of what is built after it
@@ -279,6 +301,8 @@ context_turns l e s k h m =
     let memory = t.memory in
     let trajectory = t.trajectory in
     let ellipsoid = t.ellipsoid in
+    let stray = t.stray in
+    let late = t.late in
     cc
 
 -- Faults.

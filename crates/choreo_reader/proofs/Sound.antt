@@ -10,7 +10,7 @@ use Rattle.choreo_reader.specs.Text.{show_lines}
 use Rattle.choreo_reader.specs.Plain as plain
 use Rattle.choreo_lines.specs.Name.{Name}
 use Rattle.choreo_reader.specs.Plain.{Body, PlainFigure, PlainShow, has_block, ◌⨾◌}
-use Rattle.choreo_reader.specs.Grammar.{SaidLine, IsSaid, AreSaid, at, anywhere, closing, act_said, place_said, body_said, is_filled, depth, fits_figure, all_name_one, names_one, Item, Memory, Trajectory, Ellipsoid, Drone, Formed, Figured, Blocks, item_said, items_said, memories, trajectories, ellipsoids, drones, formations, figures, body, first_or, show_of, IsItem, AreItems, IsHeader, StandsFor}
+use Rattle.choreo_reader.specs.Grammar.{SaidLine, IsSaid, AreSaid, at, anywhere, closing, act_said, place_said, body_said, is_filled, depth, fits_figure, all_name_one, names_one, Item, Memory, Trajectory, Ellipsoid, Stray, Late, Drone, Formed, Figured, Blocks, item_said, items_said, memories, trajectories, ellipsoids, strays, lates, drones, formations, figures, body, first_or, show_of, IsItem, AreItems, IsHeader, StandsFor}
 use Rattle.choreo_lines.specs.Says.{Says, may_say}
 use Rattle.choreo_reader.specs.Text.{Fault, fault_at, forbidden}
 use Rattle.choreo_reader.specs.Context.{OpenRepeat, OpenCue, fault_if, is_header, end_fault, place_of, place_in, in_figure, repeats}
@@ -57,6 +57,8 @@ pub record Holds (s : Built) (done : List Line) : Type 0 where
   pub memory : memories items ≡ option_to_list s.memory
   pub trajectory : trajectories items ≡ option_to_list s.trajectory
   pub ellipsoid : ellipsoids items ≡ option_to_list s.ellipsoid
+  pub stray : strays items ≡ option_to_list s.stray
+  pub late : lates items ≡ option_to_list s.late
   pub drones_are : drones items ≡ s.drones
   pub formations_are : formations items ≡ s.formations
   pub figures_are : figures items ≡ s.figures
@@ -103,6 +105,16 @@ ellipsoids-more [] i = refl
 ellipsoids-more (Ellipsoid r h ∷ is) i = ap (λ xs. (r, h) ∷ xs) (ellipsoids-more is i)
 ellipsoids-more (j ∷ is) i = ellipsoids-more is i
 
+strays-more : (is : List Item) (i : Item) → strays (is ++ i ∷ []) ≡ strays is ++ strays (i ∷ [])
+strays-more [] i = refl
+strays-more (Stray mm ∷ is) i = ap (λ xs. mm ∷ xs) (strays-more is i)
+strays-more (j ∷ is) i = strays-more is i
+
+lates-more : (is : List Item) (i : Item) → lates (is ++ i ∷ []) ≡ lates is ++ lates (i ∷ [])
+lates-more [] i = refl
+lates-more (Late ms ∷ is) i = ap (λ xs. ms ∷ xs) (lates-more is i)
+lates-more (j ∷ is) i = lates-more is i
+
 drones-more : (is : List Item) (i : Item) → drones (is ++ i ∷ []) ≡ drones is ++ drones (i ∷ [])
 drones-more [] i = refl
 drones-more (Drone d ∷ is) i = ap (λ xs. d ∷ xs) (drones-more is i)
@@ -128,6 +140,8 @@ abbrev Fresh : Built → Item → Type 0
 Fresh s (Memory id offset) = s.memory ≡ None
 Fresh s (Trajectory id) = s.trajectory ≡ None
 Fresh s (Ellipsoid r h) = s.ellipsoid ≡ None
+Fresh s (Stray mm) = s.stray ≡ None
+Fresh s (Late ms) = s.late ≡ None
 Fresh s i = Unit {0}
 
 memories_after : (i : Item) (s : Built) (is : List Item) → Fresh s i → memories is ≡ option_to_list s.memory → memories (is ++ i ∷ []) ≡ option_to_list (add_item s i).memory
@@ -141,6 +155,14 @@ trajectories_after i s is f h = trajectories-more is i ∙ append-nil (trajector
 ellipsoids_after : (i : Item) (s : Built) (is : List Item) → Fresh s i → ellipsoids is ≡ option_to_list s.ellipsoid → ellipsoids (is ++ i ∷ []) ≡ option_to_list (add_item s i).ellipsoid
 ellipsoids_after (Ellipsoid r x) s is f h = ellipsoids-more is (Ellipsoid r x) ∙ ap (λ xs. xs ++ (r, x) ∷ []) (h ∙ ap option_to_list f)
 ellipsoids_after i s is f h = ellipsoids-more is i ∙ append-nil (ellipsoids is) ∙ h
+
+strays_after : (i : Item) (s : Built) (is : List Item) → Fresh s i → strays is ≡ option_to_list s.stray → strays (is ++ i ∷ []) ≡ option_to_list (add_item s i).stray
+strays_after (Stray mm) s is f h = strays-more is (Stray mm) ∙ ap (λ xs. xs ++ mm ∷ []) (h ∙ ap option_to_list f)
+strays_after i s is f h = strays-more is i ∙ append-nil (strays is) ∙ h
+
+lates_after : (i : Item) (s : Built) (is : List Item) → Fresh s i → lates is ≡ option_to_list s.late → lates (is ++ i ∷ []) ≡ option_to_list (add_item s i).late
+lates_after (Late ms) s is f h = lates-more is (Late ms) ∙ ap (λ xs. xs ++ ms ∷ []) (h ∙ ap option_to_list f)
+lates_after i s is f h = lates-more is i ∙ append-nil (lates is) ∙ h
 
 drones_after : (i : Item) (s : Built) (is : List Item) → drones is ≡ s.drones → drones (is ++ i ∷ []) ≡ (add_item s i).drones
 drones_after (Drone d) s is h = drones-more is (Drone d) ∙ ap (λ xs. xs ++ d ∷ []) h
@@ -175,6 +197,8 @@ item_holds i s os done ls h k f said =
       memory = memories_after i s h.items f h.memory;
       trajectory = trajectories_after i s h.items f h.trajectory;
       ellipsoid = ellipsoids_after i s h.items f h.ellipsoid;
+      stray = strays_after i s h.items f h.stray;
+      late = lates_after i s h.items f h.late;
       drones_are = drones_after i s h.items h.drones_are;
       formations_are = formations_after i s h.items h.formations_are;
       figures_are = figures_after i s h.items h.figures_are;
@@ -184,7 +208,7 @@ item_holds i s os done ls h k f said =
 -- other open blocks, for more lines
 opens_hold : (s : Built) (os qs : List Open) (done ls : List Line) → (h : Holds (with_open s os) done) → AreSaid (done ++ ls) (items_said h.items ++ opens_said qs) → InOrder qs → Holds (with_open s qs) (done ++ ls)
 opens_hold s os qs done ls h said k =
-    record { items = h.items; said = said; each = h.each; order = k; memory = h.memory; trajectory = h.trajectory; ellipsoid = h.ellipsoid; drones_are = h.drones_are; formations_are = h.formations_are; figures_are = h.figures_are; body_is = h.body_is }
+    record { items = h.items; said = said; each = h.each; order = k; memory = h.memory; trajectory = h.trajectory; ellipsoid = h.ellipsoid; stray = h.stray; late = h.late; drones_are = h.drones_are; formations_are = h.formations_are; figures_are = h.figures_are; body_is = h.body_is }
 
 -- Bodies after bodies.
 
@@ -427,6 +451,10 @@ goes (entry.Trajectory id) os s done l m = at_top (entry.Trajectory id) os s don
     (λ h says f. item_line (Trajectory id) (entry.Trajectory id) _ s done l h tt (unset_back s.trajectory f) refl (somewhere l _ says))
 goes (entry.Ellipsoid r x) os s done l m = at_top (entry.Ellipsoid r x) os s done l (refl, refl, refl, refl, refl) m
     (λ h says f. item_line (Ellipsoid r x) (entry.Ellipsoid r x) _ s done l h tt (unset_back s.ellipsoid f) refl (somewhere l _ says))
+goes (entry.Stray mm) os s done l m = at_top (entry.Stray mm) os s done l (refl, refl, refl, refl, refl) m
+    (λ h says f. item_line (Stray mm) (entry.Stray mm) _ s done l h tt (unset_back s.stray f) refl (somewhere l _ says))
+goes (entry.Late ms) os s done l m = at_top (entry.Late ms) os s done l (refl, refl, refl, refl, refl) m
+    (λ h says f. item_line (Late ms) (entry.Late ms) _ s done l h tt (unset_back s.late f) refl (somewhere l _ says))
 goes (entry.Drone name to) os s done l m = at_top (entry.Drone name to) os s done l (refl, refl, refl, refl, refl) m
     (λ h says f. item_line (Drone (record { line = l.number; name = name; at = to })) (entry.Drone name to) _ s done l h tt tt refl (here l _ says))
 goes (entry.Formation name) os s done l m = at_top (entry.Formation name) os s done l (refl, refl, refl, refl, refl) m
@@ -486,7 +514,7 @@ steps_hold [] done s t h e = let same : s ≡ t = cc in subst (λ xs. Holds t xs
 steps_hold (l ∷ ls) done s t h e = one_more (line_step s l) l ls done s t h refl e (λ u k q. steps_hold ls (done ++ l ∷ []) u t k q)
 
 pub at_start : Holds nothing []
-at_start = record { items = []; said = tt; each = tt; order = tt; memory = refl; trajectory = refl; ellipsoid = refl; drones_are = refl; formations_are = refl; figures_are = refl; body_is = refl }
+at_start = record { items = []; said = tt; each = tt; order = tt; memory = refl; trajectory = refl; ellipsoid = refl; stray = refl; late = refl; drones_are = refl; formations_are = refl; figures_are = refl; body_is = refl }
 
 one_set : {A : Type 0} (o : Option A) (xs : List A) → xs ≡ option_to_list o → length xs ≤ 1
 one_set None xs e = subst (λ ys. length ys ≤ 1) (sym e) (omega arith)
@@ -501,6 +529,8 @@ shown s done h =
     let m = value_set (2, 0) s.memory (memories h.items) h.memory in
     let t = value_set 0 s.trajectory (trajectories h.items) h.trajectory in
     let e = value_set (120, 300) s.ellipsoid (ellipsoids h.items) h.ellipsoid in
+    let x = value_set 0 s.stray (strays h.items) h.stray in
+    let y = value_set 0 s.late (lates h.items) h.late in
     let d = h.drones_are in let f = h.formations_are in let g = h.figures_are in let b = h.body_is in
     cc
 
@@ -565,7 +595,7 @@ sound text show h =
         first = header_words r.header r.first;
         said = subst (λ ss. AreSaid r.others ss) none k.said;
         each = k.each;
-        single = record { memory = one_set r.state.memory (memories k.items) k.memory; trajectory = one_set r.state.trajectory (trajectories k.items) k.trajectory; ellipsoid = one_set r.state.ellipsoid (ellipsoids k.items) k.ellipsoid };
+        single = record { memory = one_set r.state.memory (memories k.items) k.memory; trajectory = one_set r.state.trajectory (trajectories k.items) k.trajectory; ellipsoid = one_set r.state.ellipsoid (ellipsoids k.items) k.ellipsoid; stray = one_set r.state.stray (strays k.items) k.stray; late = one_set r.state.late (lates k.items) k.late };
       },
       shown r.state r.others k ∙ r.shows,
     )

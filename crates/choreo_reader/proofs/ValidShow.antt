@@ -11,7 +11,7 @@ use Rattle.choreo_reader.specs.Plain as plain
 use Rattle.choreo_lines.specs.Name.{Name}
 use Rattle.choreo_reader.specs.Plain.{Body, PlainFigure, PlainShow, has_block, ◌⨾◌}
 use Rattle.choreo_lines.specs.Says.{Word, IsNamed, AreNamed, IsNatural, IsPoint, IsTriple, IsFrame, IsAct, Says}
-use Rattle.choreo_reader.specs.Grammar.{SaidLine, AreSaid, closing, act_said, place_said, body_said, is_filled, depth, Item, Memory, Trajectory, Ellipsoid, Drone, Formed, Figured, Blocks, item_said, items_said, memories, trajectories, ellipsoids, drones, formations, figures, body, first_or, settings, show_of, AreItems, HasNumber, StandsFor}
+use Rattle.choreo_reader.specs.Grammar.{SaidLine, AreSaid, closing, act_said, place_said, body_said, is_filled, depth, Item, Memory, Trajectory, Ellipsoid, Stray, Late, Drone, Formed, Figured, Blocks, item_said, items_said, memories, trajectories, ellipsoids, strays, lates, drones, formations, figures, body, first_or, settings, show_of, AreItems, HasNumber, StandsFor}
 use Rattle.choreo_reader.specs.Valid.{IsName, AreNames, FitsPoint, FitsTriple, FitsAct, FitsFrame, FitActLines, FitsBody, FitDroneLines, FitFormations, FitFigures, FitsSettings, act_lines, body_lines, drone_lines, formation_lines, figure_lines, AllAbove, times, all_lines, IsValid}
 use Rattle.choreo_reader.proofs.Sound.{filled_then, depth_then}
 use Rattle.choreo_lines.specs.declared.line.Entry.{Entry}
@@ -31,6 +31,8 @@ abbrev FitsEntry : Entry → Type 0
 FitsEntry (entry.Memory id offset) = offset ≤ 4095
 FitsEntry (entry.Trajectory id) = id ≤ 9
 FitsEntry (entry.Ellipsoid r h) = (1 ≤ r) × (r ≤ 2000) × (1 ≤ h) × (h ≤ 2000)
+FitsEntry (entry.Stray mm) = mm ≤ 1000
+FitsEntry (entry.Late ms) = ms ≤ 1000
 FitsEntry (entry.Drone name to) = IsName name × FitsPoint to
 FitsEntry (entry.Formation name) = IsName name
 FitsEntry (entry.At name to) = IsName name × FitsPoint to
@@ -97,6 +99,8 @@ says_fits : (ws : List Word) (e : Entry) → Says ws e → FitsEntry e
 says_fits ws (entry.Memory id offset) (i, o, e, a, b) = below 0 4095 offset o b
 says_fits ws (entry.Trajectory id) (i, e, a) = below 0 9 id i a
 says_fits ws (entry.Ellipsoid r h) (i, o, e, a, b) = (above 1 2000 r i a, below 1 2000 r i a, above 1 2000 h o b, below 1 2000 h o b)
+says_fits ws (entry.Stray mm) (i, e, a) = below 0 1000 mm i a
+says_fits ws (entry.Late ms) (i, e, a) = below 0 1000 ms i a
 says_fits ws (entry.Drone name to) (n, point, e, nm, pt) = (name_fits n name nm, point_fits point to pt)
 says_fits ws (entry.Formation name) (n, e, nm) = name_fits n name nm
 says_fits ws (entry.At name to) (n, point, e, nm, pt) = (name_fits n name nm, point_fits point to pt)
@@ -215,8 +219,18 @@ ellipsoid_fits [] h = (omega arith, omega arith, omega arith, omega arith)
 ellipsoid_fits (Ellipsoid r x ∷ is) h = h.0
 ellipsoid_fits (i ∷ is) h = ellipsoid_fits is (back_fits (item_said i) (items_said is) h)
 
+stray_fits : (is : List Item) → AllFit (items_said is) → first_or 0 (strays is) ≤ 1000
+stray_fits [] h = omega arith
+stray_fits (Stray mm ∷ is) h = h.0
+stray_fits (i ∷ is) h = stray_fits is (back_fits (item_said i) (items_said is) h)
+
+late_fits : (is : List Item) → AllFit (items_said is) → first_or 0 (lates is) ≤ 1000
+late_fits [] h = omega arith
+late_fits (Late ms ∷ is) h = h.0
+late_fits (i ∷ is) h = late_fits is (back_fits (item_said i) (items_said is) h)
+
 settings_fit : (is : List Item) → AllFit (items_said is) → FitsSettings (settings is)
-settings_fit is h = let e = ellipsoid_fits is h in (memory_fits is h, trajectory_fits is h, e.0, e.1, e.2, e.3)
+settings_fit is h = let e = ellipsoid_fits is h in (memory_fits is h, trajectory_fits is h, e.0, e.1, e.2, e.3, stray_fits is h, late_fits is h)
 
 -- The numbers of the lines.
 
@@ -377,6 +391,8 @@ times_shared n [] = refl
 times_shared n (Memory id offset ∷ is) = times_shared n is
 times_shared n (Trajectory id ∷ is) = times_shared n is
 times_shared n (Ellipsoid r h ∷ is) = times_shared n is
+times_shared n (Stray mm ∷ is) = times_shared n is
+times_shared n (Late ms ∷ is) = times_shared n is
 times_shared n (Drone d ∷ is) = omega (arith, times_shared n is)
 times_shared n (Formed f ∷ is) =
     let front : times n (formation_lines (formations (Formed f ∷ is))) ≡ times n (f.line ∷ drone_lines f.places) + times n (formation_lines (formations is)) = times-append n (f.line ∷ drone_lines f.places) (formation_lines (formations is)) in

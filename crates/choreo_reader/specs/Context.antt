@@ -31,10 +31,12 @@ pub record Context : Type 0 where
   pub memory : Bool
   pub trajectory : Bool
   pub ellipsoid : Bool
+  pub stray : Bool
+  pub late : Bool
 
 -- the context of the first line after the header
 abbrev pub outermost : Context
-outermost = record { open_blocks = []; memory = false; trajectory = false; ellipsoid = false }
+outermost = record { open_blocks = []; memory = false; trajectory = false; ellipsoid = false; stray = false; late = false }
 
 -- a figure
 abbrev pub is_figure : Opened → Bool
@@ -124,6 +126,16 @@ abbrev pub sets_ellipsoid : Keyword → Bool
 sets_ellipsoid first.Ellipsoid = true
 sets_ellipsoid _ = false
 
+-- a line of `stray`
+abbrev pub sets_stray : Keyword → Bool
+sets_stray first.Stray = true
+sets_stray _ = false
+
+-- a line of `late`
+abbrev pub sets_late : Keyword → Bool
+sets_late first.Late = true
+sets_late _ = false
+
 -- the context after a line with this number and first word
 abbrev pub context_after_word : Context → ℕ → Keyword → Context
 context_after_word c n keyword = record {
@@ -131,6 +143,8 @@ context_after_word c n keyword = record {
   memory = c.memory || (is_top c.open_blocks && sets_memory keyword);
   trajectory = c.trajectory || (is_top c.open_blocks && sets_trajectory keyword);
   ellipsoid = c.ellipsoid || (is_top c.open_blocks && sets_ellipsoid keyword);
+  stray = c.stray || (is_top c.open_blocks && sets_stray keyword);
+  late = c.late || (is_top c.open_blocks && sets_late keyword);
 }
 
 -- the first word of a line
@@ -158,6 +172,8 @@ abbrev pub open_fault : Context → Keyword → Option LineKind
 open_fault c first.Memory = fault_if c.memory kind.DoubleSetting
 open_fault c first.Trajectory = fault_if c.trajectory kind.DoubleSetting
 open_fault c first.Ellipsoid = fault_if c.ellipsoid kind.DoubleSetting
+open_fault c first.Stray = fault_if c.stray kind.DoubleSetting
+open_fault c first.Late = fault_if c.late kind.DoubleSetting
 open_fault c first.Repeat = fault_if (nat_le most_nested (repeats c.open_blocks)) kind.Nesting
 open_fault c first.End = fault_if (is_empty_block c.open_blocks) kind.EmptyBlock
 open_fault c keyword = None

@@ -69,6 +69,8 @@ pub data Item : Type 0 where
   Memory : (id offset : ℕ) → Item
   Trajectory : (id : ℕ) → Item
   Ellipsoid : (r h : ℕ) → Item
+  Stray : (mm : ℕ) → Item
+  Late : (ms : ℕ) → Item
   Drone : DroneLine → Item
   Formed : Formation → Item
   Figured : PlainFigure → Item
@@ -79,6 +81,8 @@ abbrev pub item_said : Item → List SaidLine
 item_said (Memory id offset) = anywhere (entry.Memory id offset) ∷ []
 item_said (Trajectory id) = anywhere (entry.Trajectory id) ∷ []
 item_said (Ellipsoid r h) = anywhere (entry.Ellipsoid r h) ∷ []
+item_said (Stray mm) = anywhere (entry.Stray mm) ∷ []
+item_said (Late ms) = anywhere (entry.Late ms) ∷ []
 item_said (Drone d) = at d.line (entry.Drone d.name d.at) ∷ []
 item_said (Formed f) = at f.line (entry.Formation f.name) ∷ (map place_said f.places ++ closing ∷ [])
 item_said (Figured f) = at f.line (entry.Figure f.name f.roles) ∷ (body_said f.body ++ closing ∷ [])
@@ -108,6 +112,18 @@ abbrev pub ellipsoids : List Item → List (ℕ × ℕ)
 ellipsoids [] = []
 ellipsoids (Ellipsoid r h ∷ is) = (r, h) ∷ ellipsoids is
 ellipsoids (_ ∷ is) = ellipsoids is
+
+-- the settings of `stray`
+abbrev pub strays : List Item → List ℕ
+strays [] = []
+strays (Stray mm ∷ is) = mm ∷ strays is
+strays (_ ∷ is) = strays is
+
+-- the settings of `late`
+abbrev pub lates : List Item → List ℕ
+lates [] = []
+lates (Late ms ∷ is) = ms ∷ lates is
+lates (_ ∷ is) = lates is
 
 -- the drones
 abbrev pub drones : List Item → List DroneLine
@@ -146,6 +162,8 @@ settings is = record {
   trajectory_id = first_or 0 (trajectories is);
   r = (first_or (120, 300) (ellipsoids is)).0;
   h = (first_or (120, 300) (ellipsoids is)).1;
+  stray = first_or 0 (strays is);
+  late = first_or 0 (lates is);
 }
 
 -- the show of these items
@@ -213,6 +231,8 @@ pub record HasSingleSettings (is : List Item) : Type 0 where
   pub memory : length (memories is) ≤ 1
   pub trajectory : length (trajectories is) ≤ 1
   pub ellipsoid : length (ellipsoids is) ≤ 1
+  pub stray : length (strays is) ≤ 1
+  pub late : length (lates is) ≤ 1
 
 -- the words are `choreo 1`
 abbrev pub IsHeader : Line → Type 0

@@ -23,6 +23,8 @@ abbrev pub entry_fault : Context → Entry → Option LineKind
 entry_fault c (entry.Memory id offset) = fault_if c.memory kind.DoubleSetting
 entry_fault c (entry.Trajectory id) = fault_if c.trajectory kind.DoubleSetting
 entry_fault c (entry.Ellipsoid r h) = fault_if c.ellipsoid kind.DoubleSetting
+entry_fault c (entry.Stray mm) = fault_if c.stray kind.DoubleSetting
+entry_fault c (entry.Late ms) = fault_if c.late kind.DoubleSetting
 entry_fault c (entry.Repeat times) = fault_if (nat_le most_nested (repeats c.open_blocks)) kind.Nesting
 entry_fault c entry.End = fault_if (is_empty_block c.open_blocks) kind.EmptyBlock
 entry_fault c _ = None
@@ -44,6 +46,8 @@ pub record Built : Type 0 where
   pub memory : Option (ℕ × ℕ)
   pub trajectory : Option ℕ
   pub ellipsoid : Option (ℕ × ℕ)
+  pub stray : Option ℕ
+  pub late : Option ℕ
   pub drones : List DroneLine
   pub formations : List Formation
   pub figures : List PlainFigure
@@ -52,7 +56,7 @@ pub record Built : Type 0 where
 
 -- nothing was read
 abbrev pub nothing : Built
-nothing = record { memory = None; trajectory = None; ellipsoid = None; drones = []; formations = []; figures = []; body = plain.Done; open_blocks = [] }
+nothing = record { memory = None; trajectory = None; ellipsoid = None; stray = None; late = None; drones = []; formations = []; figures = []; body = plain.Done; open_blocks = [] }
 
 -- a list with something in it
 abbrev pub is_any : {A : Type 0} → List A → Bool
@@ -87,6 +91,8 @@ context_of b = record {
   memory = is_some b.memory;
   trajectory = is_some b.trajectory;
   ellipsoid = is_some b.ellipsoid;
+  stray = is_some b.stray;
+  late = is_some b.late;
 }
 
 -- an open block with one more block at its end
@@ -142,6 +148,8 @@ abbrev pub build : Built → ℕ → Entry → Built
 build s n (entry.Memory id offset) = record s { memory = Some (id, offset) }
 build s n (entry.Trajectory id) = record s { trajectory = Some id }
 build s n (entry.Ellipsoid r h) = record s { ellipsoid = Some (r, h) }
+build s n (entry.Stray mm) = record s { stray = Some mm }
+build s n (entry.Late ms) = record s { late = Some ms }
 build s n (entry.Drone name at) = record s { drones = s.drones ++ record { line = n; name = name; at = at } ∷ [] }
 build s n (entry.Formation name) = record s { open_blocks = InFormation n name [] ∷ s.open_blocks }
 build s n (entry.At name at) = record s { open_blocks = with_place s.open_blocks (record { line = n; name = name; at = at }) }
@@ -161,6 +169,8 @@ settings_of s = record {
   trajectory_id = unwrap_or s.trajectory 0;
   r = (unwrap_or s.ellipsoid (120, 300)).0;
   h = (unwrap_or s.ellipsoid (120, 300)).1;
+  stray = unwrap_or s.stray 0;
+  late = unwrap_or s.late 0;
 }
 
 -- the show of what was read

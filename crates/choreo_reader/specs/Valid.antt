@@ -92,7 +92,7 @@ FitFigures (f ∷ fs) =
 
 -- settings in their ranges
 abbrev pub FitsSettings : Settings → Type 0
-FitsSettings s = (s.offset ≤ 4095) × (s.trajectory_id ≤ 9) × (1 ≤ s.r) × (s.r ≤ 2000) × (1 ≤ s.h) × (s.h ≤ 2000)
+FitsSettings s = (s.offset ≤ 4095) × (s.trajectory_id ≤ 9) × (1 ≤ s.r) × (s.r ≤ 2000) × (1 ≤ s.h) × (s.h ≤ 2000) × (s.stray ≤ 1000) × (s.late ≤ 1000)
 
 -- The numbers of the lines.
 

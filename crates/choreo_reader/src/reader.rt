@@ -105,6 +105,8 @@ pub struct Reader {
     pub memory: Option<(u8, u16)>,
     pub trajectory: Option<u8>,
     pub ellipsoid: Option<(u16, u16)>,
+    pub stray: Option<u16>,
+    pub late: Option<u16>,
     pub drones: Vec<DroneLine>,
     pub formations: Vec<Formation>,
     pub figures: Vec<Figure>,
@@ -293,6 +295,8 @@ impl Reader {
             memory: None,
             trajectory: None,
             ellipsoid: None,
+            stray: None,
+            late: None,
             drones: Vec::new(alloc),
             formations: Vec::new(alloc),
             figures: Vec::new(alloc),
@@ -426,6 +430,14 @@ impl Reader {
                 self.ellipsoid = Some((r, h));
                 Ok(())
             }
+            Entry::Stray { mm } => {
+                self.stray = Some(mm);
+                Ok(())
+            }
+            Entry::Late { ms } => {
+                self.late = Some(ms);
+                Ok(())
+            }
             Entry::Drone { name, at } => self.add_drone(DroneLine { line, name, at }),
             Entry::Formation { name } => self.begin(no_places(alloc, line, name)),
             Entry::At { name, at } => self.add_place(DroneLine { line, name, at }),
@@ -460,6 +472,8 @@ impl Reader {
             Entry::Memory { .. } if self.memory.is_some() => Some(LineKind::DoubleSetting),
             Entry::Trajectory { .. } if self.trajectory.is_some() => Some(LineKind::DoubleSetting),
             Entry::Ellipsoid { .. } if self.ellipsoid.is_some() => Some(LineKind::DoubleSetting),
+            Entry::Stray { .. } if self.stray.is_some() => Some(LineKind::DoubleSetting),
+            Entry::Late { .. } if self.late.is_some() => Some(LineKind::DoubleSetting),
             Entry::Repeat { .. } if repeats(self.opened.as_slice()) >= MOST_NESTED => Some(
                 LineKind::Nesting,
             ),
@@ -530,6 +544,8 @@ impl Reader {
             memory,
             trajectory,
             ellipsoid,
+            stray,
+            late,
             drones,
             formations,
             figures,
@@ -551,6 +567,8 @@ impl Reader {
                 trajectory_id: trajectory.unwrap_or(0),
                 r,
                 h,
+                stray: stray.unwrap_or(0),
+                late: late.unwrap_or(0),
             },
             drones: Listed::from_vec(drones),
             formations: Listed::from_vec(formations),

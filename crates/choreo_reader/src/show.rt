@@ -2,8 +2,8 @@
 
 use choreo_lines::{Act, Frame, Listed, Name, Point};
 
-/// Where the trajectories go in a drone's memory, and how large the drones' ellipsoids are: half axes in millimetres,
-/// `r` across and `h` upwards.
+/// Where the trajectories go in a drone's memory; how large the drones' ellipsoids are, by half axes in millimetres, `r` across and `h`
+/// upwards; how many millimetres a drone strays from its curve at most, and how many milliseconds one is late against another.
 #[derive(Clone, Copy, PartialEq, Eq, Debug)]
 pub struct Settings {
     pub memory_id: u8,
@@ -11,6 +11,8 @@ pub struct Settings {
     pub trajectory_id: u8,
     pub r: u16,
     pub h: u16,
+    pub stray: u16,
+    pub late: u16,
 }
 
 /// A line of a cue: what one drone does, or a formation that its drones take, from rest to rest where `smooth`.

@@ -180,6 +180,8 @@ fn is_full(show: &Show) -> bool {
         trajectory_id: 9,
         r: 1,
         h: 2000,
+        stray: 0,
+        late: 0,
     };
     let lists = match (
         show.drones.as_slice(),
@@ -230,6 +232,8 @@ fn shows_are_read(rt: HostRuntime) {
         trajectory_id: 0,
         r: 120,
         h: 300,
+        stray: 0,
+        late: 0,
     };
     let smallest = match read_show(alloc, SMALLEST) {
         Ok(show) => show.settings == defaults,
@@ -250,7 +254,7 @@ fn has_fault(alloc: Global, text: &[u8], line: u32, kind: LineKind) -> bool {
 }
 
 // Texts with the line that is faulty, and how.
-const AT_TOP: [(&[u8], u32, LineKind); 36] = [
+const AT_TOP: [(&[u8], u32, LineKind); 41] = [
     (b"", 1, LineKind::Header),
     (b"\n# choreo 1\n", 1, LineKind::Header),
     (b"\nchoreo 2\n", 2, LineKind::Header),
@@ -283,6 +287,11 @@ const AT_TOP: [(&[u8], u32, LineKind); 36] = [
         4,
         LineKind::DoubleSetting,
     ),
+    (b"choreo 1\nstray 1001\n", 2, LineKind::Range),
+    (b"choreo 1\nlate -1\n", 2, LineKind::Range),
+    (b"choreo 1\nlate\n", 2, LineKind::BadCount),
+    (b"choreo 1\nstray 1\nlate 1\nstray 1\n", 4, LineKind::DoubleSetting),
+    (b"choreo 1\nlate 1\nlate 2\n", 3, LineKind::DoubleSetting),
     (
         b"choreo 1\ndrone Solo 0 0 1000000 0\n",
         2,
