@@ -32,6 +32,7 @@ use Rattle.refusals.specs.declared.refusal.Refusal.{Refusal}
 use Rattle.sep_certificate.specs.declared.certificate.Certificate.{Certificate}
 use Rattle.sep_certificate.specs.declared.certificate.CertFault.{CertFault}
 use Rattle.std.proofs.Common.{Result}
+use Rattle.show_plan.specs.Separation.{clearance_of}
 use Rattle.show_cli.specs.Complete.{IsComplete, Succeeds}
 use Rattle.show_cli.specs.Outcome.{CertificateGives, Gives, IsOutcomeOf, Outcome, RegionsGive, RehearsalEnds, ScheduleGives, ShowGives, judged, judged_for, regions_end, speeds_end}
 use Rattle.show_cli.specs.Refused.{faulty_event, second_refusal, show_refusal, text_refusal}
@@ -39,7 +40,7 @@ use Rattle.show_cli.specs.Studies.{faulty_region, region_limit, speed_text}
 use Rattle.show_cli.proofs.StudyLemmas.{judge_one, regions_given_one}
 use Rattle.show_cli.proofs.CarefulLemmas.{careful_done, no_careful_fault}
 use Rattle.show_cli.proofs.TextLemmas.{none_said, stands_unrefused}
-use Rattle.show_cli.specs.Shows.{Cut, certificate_limit, link_in, names_of, schedule_limit, sent_of, session_of, trajectories_of, words_of}
+use Rattle.show_cli.specs.Shows.{Cut, certificate_limit, link_in, names_of, schedule_limit, sent_of, session_of, trajectories_of, words_of, aside_of, upwards_of}
 
 status_is : (o p : Outcome) → o ≡ p → p.status ≡ 0 → o.status ≡ 0
 status_is o p same done = ap (λ (q : Outcome). q.status) same ∙ done
@@ -58,11 +59,11 @@ table_counted version = by_test (version == 1)
 says_whole : (c : Certificate) (text : List ℕ) → Says text c → IsWholeIn (length (table_of c.version)) c
 says_whole c text says = subst (λ (m : ℕ). IsWholeIn m c) (sym (table_counted c.version)) says.whole.whole
 
-valid_done : CertificateLaw → (s : PlainShow) (c : Certificate) → (fault_of (table_of c.version) (raised_of (trajectories_of s)) s.settings.r s.settings.h c ≡ None) → (judged_for s c).status ≡ 0
+valid_done : CertificateLaw → (s : PlainShow) (c : Certificate) → (fault_of (table_of c.version) (raised_of (trajectories_of s)) (clearance_of s.settings (trajectories_of s)) c ≡ None) → (judged_for s c).status ≡ 0
 valid_done law s c none = ap (λ (f : Option CertFault). (judged (names_of s) c f).status) none
 
 certificate_done : TextLaw → CertificateLaw → (refused : Option Refusal) (s : PlainShow) (cut : Cut) (o : Outcome) → refused ≡ None → CertificateGives refused s cut o → (c : Certificate) → Says cut.second c →
-    (fault_of (table_of c.version) (raised_of (trajectories_of s)) s.settings.r s.settings.h c ≡ None) → o.status ≡ 0
+    (fault_of (table_of c.version) (raised_of (trajectories_of s)) (clearance_of s.settings (trajectories_of s)) c ≡ None) → o.status ≡ 0
 certificate_done text law (Some r) s cut o none gives c says valid = absurd (cc)
 certificate_done text law None s cut o none gives c says valid =
     let same : gives.0 ≡ c = text.one cut.second gives.0 c gives.1 says in
@@ -106,12 +107,12 @@ no_faulty_region : (given : Result (List Region) ℕ) (regions : List Region) (c
 no_faulty_region given regions cut is none = rw is none
 
 regions_done : (refused : Option Refusal) (s : PlainShow) (depth : ℕ) (cut : Cut) (o : Outcome) (regions : List Region) → refused ≡ None → RegionsGive refused s depth cut o →
-    regions_of cut.second ≡ Ok regions → JudgeGives (raised_of (trajectories_of s)) s.settings.r s.settings.h depth regions Kept → o.status ≡ 0
+    regions_of cut.second ≡ Ok regions → JudgeGives (raised_of (trajectories_of s)) (aside_of s.settings) (upwards_of s.settings) depth regions Kept → o.status ≡ 0
 regions_done (Some r) s depth cut o regions none gives is kept = absurd (cc)
 regions_done None s depth cut o regions none (others, j, reads, judges, ends) is kept =
     let same : others ≡ regions = regions_given_one (regions_of cut.second) others regions reads is in
-    let judged : j ≡ Kept = judge_one _ s.settings.r s.settings.h depth regions j Kept
-    (subst (λ (rs : List Region). JudgeGives (raised_of (trajectories_of s)) s.settings.r s.settings.h depth rs j) same judges) kept in
+    let judged : j ≡ Kept = judge_one _ (aside_of s.settings) (upwards_of s.settings) depth regions j Kept
+    (subst (λ (rs : List Region). JudgeGives (raised_of (trajectories_of s)) (aside_of s.settings) (upwards_of s.settings) depth rs j) same judges) kept in
     status_is o _ ends (ap (λ (k : Judged). (regions_end (names_of s) depth (length others) k).status) judged)
 
 -- ---- all commands
@@ -125,7 +126,7 @@ given_done text law upload (Play depth step) s cut o gives succeeds = status_is 
 given_done text law upload (Report depth) s cut o gives succeeds = status_is o _ gives refl
 given_done text law upload Verify s cut o gives (c, none, says, valid) =
     certificate_done text law (second_refusal certificate_limit (bad_line (lines cut.second)) cut) s cut o none gives c says
-    ((law.exact (table_of c.version) (raised_of (trajectories_of s)) s.settings.r s.settings.h c (says_whole c cut.second says)).1 valid)
+    ((law.exact (table_of c.version) (raised_of (trajectories_of s)) (clearance_of s.settings (trajectories_of s)) c (says_whole c cut.second says)).1 valid)
 given_done text law upload (Rehearse depth start true) s cut o gives (events, none, is, done) =
     careful_done (second_refusal schedule_limit (faulty_event (careful_schedule_of (words_of s) cut.second)) cut) s start cut o events
     (no_careful_fault (careful_schedule_of (words_of s) cut.second) events cut is none) gives is done

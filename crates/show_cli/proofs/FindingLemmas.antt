@@ -1,10 +1,11 @@
 -- What `explain` answers, from what its steps do.
-use Rattle.std.proofs.Common.{◌≡◌, ℕ, ◌+◌, ◌<◌, ◌≤◌, All, List, [], ◌∷◌, ◌++◌, codes, decimal, ◌^◌, true, length, Option, Some, None, Result, Ok, Err, OnOk, sym, ap, subst, ◌∙◌, arith}
+use Rattle.std.proofs.Common.{◌≡◌, ℕ, ◌+◌, ◌*◌, ◌<◌, ◌≤◌, All, sum, List, [], ◌∷◌, ◌++◌, codes, decimal, ◌^◌, true, length, Option, Some, None, Result, Ok, Err, OnOk, sym, ap, subst, ◌∙◌, arith}
 use Rattle.std.specs.Prelude.{MatchOption}
 use Rattle.std.proofs.Math.Nat.{one-le-pow}
 use Rattle.std.proofs.Math.Pow.{pow_mono}
 use Rattle.std.proofs.lemmas.List.{length-map}
-use Rattle.std.proofs.lemmas.List.Elements.{All-head}
+use Rattle.std.proofs.lemmas.List.Elements.{All-cons, All-head, All-nil, All-tail}
+use Rattle.traj_codec.specs.Joined.{IsLasting}
 use Rattle.choreo_lines.specs.Name.{Name}
 use Rattle.fleet_io.specs.Words.{AreWords, IsWord, is_line_empty}
 use Rattle.fleet_io.proofs.WordLaws.{fresh_after_line}
@@ -24,6 +25,7 @@ use Rattle.traj_codec.specs.Positions.{durations}
 use Rattle.upload_model.proofs.Moments.{All-slice_get}
 use Rattle.fleet_curves.specs.Raised as raised
 use Rattle.traj_codec.specs.declared.traj.Traj.{Traj}
+use Rattle.sep_parts.proofs.Lifts.{exactly_apart}
 use Rattle.show_cli.specs.declared.findings.Findings.{Findings}
 use Rattle.show_cli.specs.Reports.{cues_in}
 use Rattle.show_cli.specs.Shows.{names_of, sent_of, trajectories_of}
@@ -110,5 +112,13 @@ apart_no_touch f fine valid apart = λ s is t u first second.
     let times_are : durations t.segments ≡ valid.times = All-slice_get (λ (t : Traj). durations t.segments ≡ valid.times) f.trajs s.a t first valid.lasting in
     let counted : raised.cues_in f.trajs ≡ length valid.times = cues_counted valid.times f.trajs valid.lasting (omega (arith, valid.trajs_counted, valid.some_drone)) in
     let inside : s.cue < length (durations t.segments) = omega (arith, is.cue, counted, ap (λ (ns : List ℕ). length ns) times_are) in
-    apart s.a s.b t u (λ same. omega (arith, same, is.pair)) first second (instant_of (durations t.segments) s.cue s.at (2 ^ fine)) (2 ^ fine) (one-le-pow fine 2 (omega arith))
+    exactly_apart f.settings.r f.settings.h f.settings.stray f.settings.late f.trajs (all_lasting valid.times valid.last f.trajs valid.lasting) apart s.a s.b t u (λ same. omega (arith, same, is.pair)) first second (instant_of (durations t.segments) s.cue s.at (2 ^ fine)) (2 ^ fine) (one-le-pow fine 2 (omega arith))
     (instant_inside (durations t.segments) s.cue s.at (2 ^ fine) inside is.at)
+    (subst (λ (ns : List ℕ). instant_of (durations t.segments) s.cue s.at (2 ^ fine) ≤ 2 ^ fine * sum ns) (times_are ∙ sym (All-slice_get (λ (t : Traj). durations t.segments ≡ valid.times) f.trajs s.b u second valid.lasting))
+    (instant_inside (durations t.segments) s.cue s.at (2 ^ fine) inside is.at))
+  where
+    all_lasting : (times : List ℕ) → All (λ ms. 1 ≤ ms) times → (ts : List Traj) → All (λ (t : Traj). durations t.segments ≡ times) ts → All IsLasting ts
+    all_lasting times last [] same = All-nil IsLasting
+    all_lasting times last (t ∷ ts) same =
+        All-cons IsLasting t ts (subst (λ (ns : List ℕ). All (λ ms. 1 ≤ ms) ns) (sym (All-head (λ (t : Traj). durations t.segments ≡ times) t ts same)) last)
+        (all_lasting times last ts (All-tail (λ (t : Traj). durations t.segments ≡ times) t ts same))

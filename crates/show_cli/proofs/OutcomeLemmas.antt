@@ -28,7 +28,7 @@ use Rattle.show_plan.specs.Landing.{Lands}
 use Rattle.show_plan.proofs.Flight.{sent_counted}
 use Rattle.show_cli.specs.Outcome.{CertificateGives, Gives, IsOutcomeOf, EndsWhereAccepted, LandsWhereAccepted, Outcome, RegionsGive, OutcomeLaw, ShowGives, judged_for, regions_end, said}
 use Rattle.show_cli.specs.Refused.{faulty, faulty_event, second_refusal, show_refusal, text_refusal}
-use Rattle.show_cli.specs.Shows.{Cut, certificate_limit, names_of, schedule_limit, sent_of, link_in, show_limit, trajectories_of, words_of}
+use Rattle.show_cli.specs.Shows.{Cut, certificate_limit, names_of, schedule_limit, sent_of, link_in, show_limit, trajectories_of, words_of, aside_of, upwards_of}
 use Rattle.show_cli.specs.Studies.{faulty_region, region_limit}
 use Rattle.show_cli.proofs.CompleteLemmas.{complete_done}
 use Rattle.show_cli.proofs.TextLemmas.{none_said, stands_unrefused}
@@ -134,7 +134,7 @@ regions_some (Some r) s depth cut is = (_, refl)
 regions_some None s depth cut is =
     let parts = within_limit region_limit (length cut.second) _ _ is in
     let regions = regions_read (regions_of cut.second) (none_mapped _ (faulty_region (regions_of cut.second)) (none_first _ _ parts.1)) in
-    let judged = judge_some (raised_of (trajectories_of s)) s.settings.r s.settings.h depth regions.0 in
+    let judged = judge_some (raised_of (trajectories_of s)) (aside_of s.settings) (upwards_of s.settings) depth regions.0 in
     (regions_end (names_of s) depth (length regions.0) judged.0, (regions.0, judged.0, regions.1, judged.1, refl))
 
 given_some : TextLaw → UploadLaw → (c : Command) (s : PlainShow) (cut : Cut) → ((depth : ℕ) (start readback : Bool) → c ≡ Rehearse depth start readback → Lands (grid_of s) s.settings (sent_of s)) →

@@ -23,18 +23,18 @@ use Rattle.show_cli.specs.declared.ends.Answer.{Answer}
 use Rattle.show_cli.specs.Answers.{outcome_of}
 use Rattle.show_cli.specs.Outcome.{Outcome, RegionsGive, regions_end}
 use Rattle.show_cli.specs.Refused.{second_refusal}
-use Rattle.show_cli.specs.Shows.{Cut, marker_number, sent_of, trajectories_of}
+use Rattle.show_cli.specs.Shows.{Cut, marker_number, sent_of, trajectories_of, aside_of, upwards_of}
 use Rattle.show_cli.specs.Steps.{EndsRegions}
 use Rattle.show_cli.specs.Studies.{faulty_region, region_limit}
 
 -- what is judged of what fits is judged of its show
 pub ends_regions : (f : Fitted) (s : PlainShow) (curves : Raised) (depth : ℕ) (regions : List Region) (names : List Name) (j : Judged) (o : Outcome) → IsFitted f s → curves ≡ raised_of f.trajs →
-    JudgeGives curves f.settings.r f.settings.h depth regions j → names ≡ f.names → o ≡ regions_end names depth (length regions) j → EndsRegions s depth regions o
+    JudgeGives curves (aside_of f.settings) (upwards_of f.settings) depth regions j → names ≡ f.names → o ≡ regions_end names depth (length regions) j → EndsRegions s depth regions o
 ends_regions f s curves depth regions names j o is curves_are gives named ends = record {
   judged = j;
-  gives = subst (λ (e : Settings). JudgeGives (raised_of (trajectories_of s)) e.r e.h depth regions j) is.settings
-      (subst (λ (ts : List Traj). JudgeGives (raised_of ts) f.settings.r f.settings.h depth regions j) is.trajs
-      (subst (λ (c : Raised). JudgeGives c f.settings.r f.settings.h depth regions j) curves_are gives));
+  gives = subst (λ (e : Settings). JudgeGives (raised_of (trajectories_of s)) (aside_of e) (upwards_of e) depth regions j) is.settings
+      (subst (λ (ts : List Traj). JudgeGives (raised_of ts) (aside_of f.settings) (upwards_of f.settings) depth regions j) is.trajs
+      (subst (λ (c : Raised). JudgeGives c (aside_of f.settings) (upwards_of f.settings) depth regions j) curves_are gives));
   is = ends ∙ ap (λ (ns : List Name). regions_end ns depth (length regions) j) (named ∙ is.names);
 }
 
@@ -46,20 +46,20 @@ lasting_all times last (t ∷ ts) are =
     (lasting_all times last ts (All-tail (λ (t : Traj). durations t.segments ≡ times) t ts are))
 
 -- what fits keeps clear with its holds joined, where it does cue by cue
-pub sent_keeps : SentLaw → (f : Fitted) (regions : List Region) → IsValidFitted f → KeepClear f.settings.r f.settings.h regions f.trajs → KeepClear f.settings.r f.settings.h regions f.sent
+pub sent_keeps : SentLaw → (f : Fitted) (regions : List Region) → IsValidFitted f → KeepClear (aside_of f.settings) (upwards_of f.settings) regions f.trajs → KeepClear (aside_of f.settings) (upwards_of f.settings) regions f.sent
 sent_keeps law f regions valid clear =
-    subst (KeepClear f.settings.r f.settings.h regions) (sym valid.sent)
-    (law f.settings.r f.settings.h regions f.trajs (lasting_all valid.times valid.last f.trajs valid.lasting) clear)
+    subst (KeepClear (aside_of f.settings) (upwards_of f.settings) regions) (sym valid.sent)
+    (law (aside_of f.settings) (upwards_of f.settings) regions f.trajs (lasting_all valid.times valid.last f.trajs valid.lasting) clear)
 
 -- so each drone of its show keeps to each region of the text
 pub regions_promised : (f : Fitted) (s : PlainShow) (cut : Cut) (regions : List Region) (result : Result Answer AllocError) → IsFitted f s → regions_of cut.second ≡ Ok regions →
-    IfOk result (λ a. (outcome_of a).status ≡ 0 → KeepClear f.settings.r f.settings.h regions f.sent) →
-    IfOk result (λ a. (outcome_of a).status ≡ 0 → (rs : List Region) × (regions_of cut.second ≡ Ok rs) × KeepClear s.settings.r s.settings.h rs (sent_of s))
+    IfOk result (λ a. (outcome_of a).status ≡ 0 → KeepClear (aside_of f.settings) (upwards_of f.settings) regions f.sent) →
+    IfOk result (λ a. (outcome_of a).status ≡ 0 → (rs : List Region) × (regions_of cut.second ≡ Ok rs) × KeepClear (aside_of s.settings) (upwards_of s.settings) rs (sent_of s))
 regions_promised f s cut regions (Err e) is reads clear = tt
 regions_promised f s cut regions (Ok a) is reads clear = λ done. (
   regions,
   reads,
-  subst (λ (e : Settings). KeepClear e.r e.h regions (sent_of s)) is.settings (subst (KeepClear f.settings.r f.settings.h regions) is.sent (clear done)),
+  subst (λ (e : Settings). KeepClear (aside_of e) (upwards_of e) regions (sent_of s)) is.settings (subst (KeepClear (aside_of f.settings) (upwards_of f.settings) regions) is.sent (clear done)),
 )
 
 nothing_refused : (too_long marked : Bool) (r q : Refusal) (line : Option ℕ) → too_long ≡ false → line ≡ None → marked ≡ false →

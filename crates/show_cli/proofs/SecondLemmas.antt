@@ -16,7 +16,9 @@ use Rattle.choreo_lines.specs.Name.{Name}
 use Rattle.choreo_reader.specs.Plain.{PlainShow}
 use Rattle.choreo_reader.specs.declared.show.Settings.{Settings}
 use Rattle.fleet_curves.specs.Raised.{CurvesStandFor, Raised, raised_of}
-use Rattle.sep_parts.specs.Apart.{KeepsApart, SentLaw}
+use Rattle.traj_codec.specs.declared.traj.Traj.{Traj}
+use Rattle.sep_parts.specs.declared.clearance.Clearance.{Clearance}
+use Rattle.sep_parts.specs.Apart.{KeepReach, KeepsApart, SentLaw}
 use Rattle.sep_certificate.specs.declared.certificate.Certificate.{Certificate}
 use Rattle.sep_certificate.specs.Texts.{Says, bad_line}
 use Rattle.sep_certificate.proofs.TextLaws.{texts}
@@ -29,7 +31,7 @@ use Rattle.refusals.specs.declared.refusal.Refusal.{Refusal}
 use Rattle.refusals.specs.declared.refusal.Refusal.TheVariants as refusal
 use Rattle.show_plan.specs.declared.fitted.Fitted.{Fitted}
 use Rattle.show_plan.specs.Fitting.{IsValidFitted}
-use Rattle.show_plan.specs.Separation.{FlyApart}
+use Rattle.show_plan.specs.Separation.{FlyApart, clearance_of}
 use Rattle.show_cli.specs.declared.ends.Answer.{Answer}
 use Rattle.show_cli.specs.declared.ends.Answer.TheVariants.{Refused}
 use Rattle.show_cli.specs.declared.ends.Failure.{Failure}
@@ -220,7 +222,7 @@ ended_gives curves coming c at_line now new number feeds ask.«End» asks =
 within : (n : ℕ) → n ≤ certificate_limit → nat_lt certificate_limit n ≡ false
 within n few = grind (arith, nat_tests)
 
-module _ (s : PlainShow) (cut : Cut) (names : List Name) (curves : Raised) (r h : ℕ) where
+module _ (s : PlainShow) (cut : Cut) (names : List Name) (curves : Raised) (clear : Clearance) where
   -- the refusal of a text that isn't too large
   refusal_of : length cut.second ≤ certificate_limit → (bad : Option ℕ) → bad_line (lines cut.second) ≡ bad →
       second_refusal certificate_limit (bad_line (lines cut.second)) cut
@@ -245,39 +247,40 @@ module _ (s : PlainShow) (cut : Cut) (names : List Name) (curves : Raised) (r h 
       (sym (refusal_of short None (texts.clean cut.second cert says) ∙ ap (λ (b : Bool). cond b (Some (refusal.SecondLine (marker_number cut.second))) None) marked))
       (cert, says, is)
 
-  verdict_gives : (v : Verdict) (marker : Option ℕ) → names ≡ names_of s → curves ≡ raised_of (trajectories_of s) → r ≡ s.settings.r → h ≡ s.settings.h → length cut.second ≤ certificate_limit →
-      VerdictGives curves r h cut.second v → IsMarkedBy cut.second marker cut.is_second_marked →
+  verdict_gives : (v : Verdict) (marker : Option ℕ) → names ≡ names_of s → curves ≡ raised_of (trajectories_of s) → clear ≡ clearance_of s.settings (trajectories_of s) → length cut.second ≤ certificate_limit →
+      VerdictGives curves clear cut.second v → IsMarkedBy cut.second marker cut.is_second_marked →
       CertificateGives (second_refusal certificate_limit (bad_line (lines cut.second)) cut) s cut (verdict_outcome names marker v)
-  verdict_gives (verdict.Line line) marker names_are curves_are r_is h_is short gives marked = line_gives line short gives
-  verdict_gives (verdict.Valid depth trees) marker names_are curves_are r_is h_is short (cert, says, depth_is, trees_are, none) marked =
+  verdict_gives (verdict.Line line) marker names_are curves_are clear_is short gives marked = line_gives line short gives
+  verdict_gives (verdict.Valid depth trees) marker names_are curves_are clear_is short (cert, says, depth_is, trees_are, none) marked =
       said_gives cert (outcome 0 (valid_line depth trees)) marker short says marked
       (ap (λ (n : ℕ). outcome 0 (valid_line n trees)) (sym depth_is) ∙ ap (λ (n : ℕ). outcome 0 (valid_line cert.depth n)) (sym trees_are)
-      ∙ judged_same s cert names curves r h None names_are curves_are r_is h_is none)
-  verdict_gives (verdict.Refused version fault) marker names_are curves_are r_is h_is short (cert, says, version_is, is) marked =
+      ∙ judged_same s cert names curves clear None names_are curves_are clear_is none)
+  verdict_gives (verdict.Refused version fault) marker names_are curves_are clear_is short (cert, says, version_is, is) marked =
       said_gives cert (refused (not_valid names version fault)) marker short says marked
       (ap (λ (n : ℕ). refused (not_valid names n fault)) (sym version_is)
-      ∙ judged_same s cert names curves r h (Some fault) names_are curves_are r_is h_is is)
+      ∙ judged_same s cert names curves clear (Some fault) names_are curves_are clear_is is)
 
 -- what a verdict is said as is given for the bytes that were to come
-pub whole_gives : (f : Fitted) (curves : Raised) (r h : ℕ) (coming : Option (List ℕ)) (fed : List ℕ) (marker : Option ℕ) (v : Verdict) → curves ≡ raised_of f.trajs → r ≡ f.settings.r → h ≡ f.settings.h →
-    length fed ≤ certificate_limit → VerdictGives curves r h fed v → IfSome coming (λ all. (part_of all ≡ fed) × IsMarkedBy fed marker (has_marker (between_feeds all))) →
+pub whole_gives : (f : Fitted) (curves : Raised) (clear : Clearance) (coming : Option (List ℕ)) (fed : List ℕ) (marker : Option ℕ) (v : Verdict) → curves ≡ raised_of f.trajs → clear ≡ clearance_of f.settings f.trajs →
+    length fed ≤ certificate_limit → VerdictGives curves clear fed v → IfSome coming (λ all. (part_of all ≡ fed) × IsMarkedBy fed marker (has_marker (between_feeds all))) →
     (o : Outcome) → o ≡ verdict_outcome f.names marker v → IfSome coming (λ all. GivesSecond f all o)
-whole_gives f curves r h None fed marker v curves_are r_is h_is short gives taken o is = tt
-whole_gives f curves r h (Some all) fed marker v curves_are r_is h_is short gives taken o is = λ s cut fitted second marked.
+whole_gives f curves clear None fed marker v curves_are clear_is short gives taken o is = tt
+whole_gives f curves clear (Some all) fed marker v curves_are clear_is short gives taken o is = λ s cut fitted second marked.
     let same : fed ≡ cut.second = sym taken.0 ∙ sym second in
     subst (CertificateGives (second_refusal certificate_limit (bad_line (lines cut.second)) cut) s cut) (sym is)
-    (verdict_gives s cut f.names curves r h v marker fitted.names (curves_are ∙ ap raised_of fitted.trajs)
-    (r_is ∙ ap (λ (e : Settings). e.r) fitted.settings) (h_is ∙ ap (λ (e : Settings). e.h) fitted.settings)
-    (subst (λ (text : List ℕ). length text ≤ certificate_limit) same short) (subst (λ (text : List ℕ). VerdictGives curves r h text v) same gives)
+    (verdict_gives s cut f.names curves clear v marker fitted.names (curves_are ∙ ap raised_of fitted.trajs)
+    (clear_is ∙ ap (λ (e : Settings). clearance_of e f.trajs) fitted.settings ∙ ap (λ (ts : List Traj). clearance_of s.settings ts) fitted.trajs)
+    (subst (λ (text : List ℕ). length text ≤ certificate_limit) same short) (subst (λ (text : List ℕ). VerdictGives curves clear text v) same gives)
     (subst (λ (b : Bool). IsMarkedBy cut.second marker b) (sym marked) (subst (λ (text : List ℕ). IsMarkedBy text marker (has_marker (between_feeds all))) same taken.1)))
 
 -- ---- what a verdict promises
-pub apart_of : (f : Fitted) (curves : Raised) → SentLaw → IsValidFitted f → CurvesStandFor curves f.trajs → KeepsApart curves f.settings.r f.settings.h → FlyApart f.settings f.sent
-apart_of f curves law valid stand keeps =
+pub apart_of : (f : Fitted) (curves : Raised) → SentLaw → IsValidFitted f → CurvesStandFor curves f.trajs → KeepReach (clearance_of f.settings f.trajs) f.trajs → KeepsApart curves (clearance_of f.settings f.trajs) → FlyApart f.settings f.sent
+unfolding clearance_of
+apart_of f curves law valid stand reach keeps =
     subst (FlyApart f.settings) (sym valid.sent)
-    (law f.settings.r f.settings.h f.trajs
+    (law f.settings.r f.settings.h f.settings.stray f.settings.late f.trajs
     (λ k d inside. subst (λ (times : List ℕ). All (λ ms. 1 ≤ ms) times) (sym (stand.one_show.same_times k d inside)) stand.one_show.lasting)
-    (keeps f.trajs stand))
+    (keeps f.trajs stand reach))
 
 -- ---- the whole input
 pub read_whole : (left after : Option (List ℕ)) → TakesFront left after → IsAtEnd after → IsReadWhole left after

@@ -4,6 +4,7 @@ use Rattle.std.specs.Option.{option_map, option_or}
 use Rattle.std.proofs.lemmas.List.Elements.{All-nil, All-cons, All-head, All-tail, All-append}
 use Rattle.choreo_reader.specs.declared.show.Settings.{Settings}
 use Rattle.traj_codec.specs.declared.traj.Traj.{Traj}
+use Rattle.sep_parts.specs.declared.clearance.Clearance.{Clearance}
 use Rattle.sep_parts.specs.declared.slot.Slot.{Slot}
 use Rattle.fleet_curves.specs.Raised.{Raised, raised_of}
 use Rattle.sep_parts.specs.Slots.{slots, slot_at, cues_from, pairs_from, drones_from}
@@ -13,7 +14,7 @@ use Rattle.sep_certificate.specs.declared.certificate.Certificate.{Certificate}
 use Rattle.sep_certificate.specs.Certificates.{IsFaultOf}
 use Rattle.pair_search.specs.Search.{blocked_place}
 use Rattle.show_plan.specs.declared.fitted.PlanFault.TheVariants as fault
-use Rattle.show_plan.specs.Separation.{blocked_at, blocked_in, blocked_part, direction_at, slots_of}
+use Rattle.show_plan.specs.Separation.{blocked_at, blocked_in, blocked_part, clearance_of, direction_at, slots_of}
 use Rattle.show_cli.specs.Steps.{IsFaultAmong}
 
 -- both drones of the slot are among this many
@@ -42,7 +43,7 @@ slots_among n cues = drones_among n n cues 0 (omega arith)
 -- ---- a blocked part
 
 -- a blocked part names drones that some slot names
-blocked_among : (e : Settings) (depth : ℕ) (curves : Raised) (n : ℕ) (ss : List Slot) (a b cue index : ℕ) → All (IsAmong n) ss → blocked_in e depth curves ss ≡ Some (fault.Blocked a b cue index) → (a < n) × (b < n)
+blocked_among : (e : Clearance) (depth : ℕ) (curves : Raised) (n : ℕ) (ss : List Slot) (a b cue index : ℕ) → All (IsAmong n) ss → blocked_in e depth curves ss ≡ Some (fault.Blocked a b cue index) → (a < n) × (b < n)
 blocked_among e depth curves n [] a b cue index all is = absurd (cc)
 blocked_among e depth curves n (s ∷ ss) a b cue index all is =
     by_place (blocked_place (direction_at e curves s) depth) is (blocked_among e depth curves n ss a b cue index (All-tail (IsAmong n) s ss all))
@@ -61,7 +62,7 @@ blocked_among e depth curves n (s ∷ ss) a b cue index all is =
 -- of trajectories
 pub part_among : (e : Settings) (depth : ℕ) (trajs : List Traj) (a b cue index : ℕ) → blocked_part e depth trajs ≡ Some (fault.Blocked a b cue index) → (a < length trajs) × (b < length trajs)
 unfolding raised_of
-part_among e depth trajs a b cue index is = blocked_among e depth (raised_of trajs) (length trajs) (slots_of trajs) a b cue index (slots_among (length trajs) (raised_of trajs).cues) is
+part_among e depth trajs a b cue index is = blocked_among (clearance_of e trajs) depth (raised_of trajs) (length trajs) (slots_of trajs) a b cue index (slots_among (length trajs) (raised_of trajs).cues) is
 
 -- ---- a fault of a certificate
 

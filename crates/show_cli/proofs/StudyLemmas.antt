@@ -18,7 +18,7 @@ use Rattle.touch_witness.specs.Sites.{ApartAt, IsBefore, IsClosest, IsFirstTouch
 use Rattle.traj_codec.specs.declared.traj.Traj.{Traj}
 use Rattle.show_cli.specs.Outcome.{Outcome, RegionsGive, regions_end}
 use Rattle.show_cli.specs.Reports.{cues_in}
-use Rattle.show_cli.specs.Shows.{Cut, names_of, trajectories_of}
+use Rattle.show_cli.specs.Shows.{Cut, names_of, trajectories_of, aside_of, upwards_of}
 use Rattle.show_cli.specs.Studies.{Explains, blocked_of, explain_text}
 
 -- ---- orders
@@ -84,8 +84,8 @@ pub regions_one : (refused : Option Refusal) (s : PlainShow) (depth : ℕ) (cut 
 regions_one (Some r) s depth cut o p first second = first ∙ sym second
 regions_one None s depth cut o p (regions, j, reads, judges, ends) (others, k, reads_others, judges_others, ends_others) =
     let same : others ≡ regions = regions_given_one (regions_of cut.second) others regions reads_others reads in
-    let judged : j ≡ k = judge_one (raised_of (trajectories_of s)) s.settings.r s.settings.h depth regions j k judges
-    (subst (λ (rs : List Region). JudgeGives (raised_of (trajectories_of s)) s.settings.r s.settings.h depth rs k) same judges_others) in
+    let judged : j ≡ k = judge_one (raised_of (trajectories_of s)) (aside_of s.settings) (upwards_of s.settings) depth regions j k judges
+    (subst (λ (rs : List Region). JudgeGives (raised_of (trajectories_of s)) (aside_of s.settings) (upwards_of s.settings) depth rs k) same judges_others) in
     ends ∙ ap (λ (i : Judged). regions_end (names_of s) depth (length regions) i) judged
     ∙ ap (λ (rs : List Region). regions_end (names_of s) depth (length rs) k) (sym same) ∙ sym ends_others
 

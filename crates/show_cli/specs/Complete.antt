@@ -26,8 +26,9 @@ use Rattle.upload_model.specs.declared.events.WorldEvent.{WorldEvent}
 use Rattle.upload_model.specs.Hosts.{progress}
 use Rattle.command_words.specs.declared.command.Command.{Command}
 use Rattle.command_words.specs.declared.command.Command.TheVariants.{Help, Check, Compile, Certify, Play, Report, Verify, Rehearse, Upload, Drill, Boxes, Speed, Explain}
+use Rattle.show_plan.specs.Separation.{clearance_of}
 use Rattle.show_cli.specs.Refused.{second_refusal, show_refusal}
-use Rattle.show_cli.specs.Shows.{Cut, certificate_limit, link_in, schedule_limit, session_of, show_limit, trajectories_of, words_of}
+use Rattle.show_cli.specs.Shows.{Cut, certificate_limit, link_in, schedule_limit, session_of, show_limit, trajectories_of, words_of, aside_of, upwards_of}
 use Rattle.show_cli.specs.Studies.{region_limit, too_fast}
 
 -- The show's text stands for a show that nothing refuses: it is well-formed, it fits, at the command's depth each part has a direction that
@@ -59,7 +60,7 @@ Succeeds (Play depth step) s cut = Unit {0}
 Succeeds (Report depth) s cut = Unit {0}
 Succeeds Verify s cut =
     (c : Certificate) × (second_refusal certificate_limit (bad_line (lines cut.second)) cut ≡ None) × Says cut.second c
-    × IsValid (table_of c.version) (raised_of (trajectories_of s)) s.settings.r s.settings.h c
+    × IsValid (table_of c.version) (raised_of (trajectories_of s)) (clearance_of s.settings (trajectories_of s)) c
 Succeeds (Rehearse depth start readback) s cut = RehearseSucceeds readback s start cut
 Succeeds (Upload depth start readback) s cut =
     (frames : List Frame) × (rest : List ℕ) × Takes (link_in s start readback) cut.frames frames rest
@@ -67,7 +68,7 @@ Succeeds (Upload depth start readback) s cut =
 Succeeds (Drill drones depth) s cut = Unit {0}
 Succeeds (Boxes depth) s cut =
     (regions : List Region) × (second_refusal region_limit None cut ≡ None) × (regions_of cut.second ≡ Ok regions)
-    × JudgeGives (raised_of (trajectories_of s)) s.settings.r s.settings.h depth regions Kept
+    × JudgeGives (raised_of (trajectories_of s)) (aside_of s.settings) (upwards_of s.settings) depth regions Kept
 Succeeds (Speed depth limit) s cut = too_fast limit depth s ≡ None
 Succeeds (Explain depth fine) s cut = Unit {0}
 

@@ -14,12 +14,13 @@ use Rattle.keepout_boxes.specs.Regions.{regions_of}
 use Rattle.show_plan.specs.Landing.{Lands}
 use Rattle.show_plan.specs.Separation.{FlyApart}
 use Rattle.show_plan.specs.Texts.{plan_text}
-use Rattle.show_cli.specs.Shows.{names_of, sent_of}
+use Rattle.show_cli.specs.Shows.{names_of, sent_of, aside_of, upwards_of}
 use Rattle.show_cli.specs.Studies.{Explains, KeepsBounds, blocked_of, speed_text}
 
 -- The input stands for a show, and what was written is its plan. Whatever the drones hold at the start, and whatever the link loses, repeats,
 -- delays or reorders: once all packets of the plan are acknowledged, with the starts or without, each drone's memory decodes to one curve,
--- near to what the show says, and any two of these curves keep their drones apart, at every instant, then and at each later moment.
+-- near to what the show says at every instant, and any two drones keep apart, however far they stray from these curves and however late they
+-- are against one another, by what the show's settings allow; then and at each later moment.
 pub record Headline (input : List ℕ) (old new : Option (List ℕ)) : Type 0 where
   pub s : PlainShow
   pub stands : StandsFor input s
@@ -27,14 +28,14 @@ pub record Headline (input : List ℕ) (old new : Option (List ℕ)) : Type 0 wh
   pub lands : Lands (grid_of s) s.settings (sent_of s)
 
 -- The first text of the input stands for a show, the second one says these regions, and their number was written. At every instant of the
--- show each drone, with what it is sent, is outside of each closed keepout, widened by the extents of its ellipsoid, and inside of each
--- volume, narrowed by them.
+-- show each drone's curve, with what it is sent, is outside of each closed keepout, widened by the extents of its ellipsoid and by how far it
+-- may stray, and inside of each volume, narrowed by them.
 pub record StaysInRegions (input : List ℕ) (old new : Option (List ℕ)) : Type 0 where
   pub s : PlainShow
   pub regions : List Region
   pub stands : StandsFor (part_of input) s
   pub says : regions_of (part_of (rest_of input)) ≡ Ok regions
-  pub kept : KeepClear s.settings.r s.settings.h regions (sent_of s)
+  pub kept : KeepClear (aside_of s.settings) (upwards_of s.settings) regions (sent_of s)
   pub written : Appends old new (kept_line (length regions))
 
 -- The input stands for a show, and the bounds on its drones' speeds were written. With what it is sent, each drone moves on each axis between
@@ -46,8 +47,9 @@ pub record KeepsSpeeds (limit : Option ℕ) (depth : ℕ) (input : List ℕ) (ol
   pub written : Appends old new (speed_text depth (sent_of s) (names_of s))
 
 -- The input stands for a show, and this text was written, which explains it: a touch that it names is an instant at which the closed ellipsoids
--- around two drones share a point, and no earlier listed instant has one; where it names none, any two drones are apart at each listed
--- instant. Where it says that no part is blocked, any two drones keep apart at every instant.
+-- around two drones that fly exactly share a point, and no earlier listed instant has one; where it names none, any two of these are apart at
+-- each listed instant. Where it says that no part is blocked, any two drones keep apart, however far they stray and however late they are by
+-- what the show's settings allow.
 pub record TellsTouches (depth fine : ℕ) (input : List ℕ) (old new : Option (List ℕ)) : Type 0 where
   pub s : PlainShow
   pub text : List ℕ

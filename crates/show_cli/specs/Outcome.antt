@@ -45,10 +45,10 @@ use Rattle.refusals.specs.declared.refusal.Refusal.TheVariants as refusal
 use Rattle.refusals.specs.Refusals.{line_of, status_of}
 use Rattle.show_plan.specs.Flight.{KeepsNearShow}
 use Rattle.show_plan.specs.Landing.{Lands}
-use Rattle.show_plan.specs.Separation.{FlyApart, best_certificate}
+use Rattle.show_plan.specs.Separation.{FlyApart, best_certificate, clearance_of}
 use Rattle.show_plan.specs.Texts.{plan_text}
 use Rattle.show_cli.specs.Complete.{IsComplete}
-use Rattle.show_cli.specs.Shows.{Cut, certificate_limit, cut_of, link_in, name_at, names_of, schedule_limit, sent_of, session_of, show_limit, trajectories_of, words_of}
+use Rattle.show_cli.specs.Shows.{Cut, certificate_limit, cut_of, link_in, name_at, names_of, schedule_limit, sent_of, session_of, show_limit, trajectories_of, words_of, aside_of, upwards_of}
 use Rattle.show_cli.specs.Ways.{ways_of}
 use Rattle.show_cli.specs.Refused.{faulty_event, not_valid, second_refusal, show_refusal, text_refusal}
 use Rattle.show_cli.specs.Reports.{cues_in, drill_of, duration_of, ok_line, report_of, valid_line}
@@ -79,7 +79,7 @@ judged names c (Some fault) = refused (not_valid names c.version fault)
 
 -- what a certificate gives for the trajectories of a show
 abbrev pub judged_for : PlainShow → Certificate → Outcome
-judged_for s c = judged (names_of s) c (fault_of (table_of c.version) (raised_of (trajectories_of s)) s.settings.r s.settings.h c)
+judged_for s c = judged (names_of s) c (fault_of (table_of c.version) (raised_of (trajectories_of s)) (clearance_of s.settings (trajectories_of s)) c)
 
 -- a certificate's text gives its refusal, or what the certificate gives that it says
 abbrev pub CertificateGives : Option Refusal → PlainShow → Cut → Outcome → Type 0
@@ -145,7 +145,7 @@ abbrev pub RegionsGive : Option Refusal → PlainShow → ℕ → Cut → Outcom
 RegionsGive (Some r) s depth cut o = o ≡ refused r
 RegionsGive None s depth cut o =
     (regions : List Region) × (j : Judged) × (regions_of cut.second ≡ Ok regions)
-    × JudgeGives (raised_of (trajectories_of s)) s.settings.r s.settings.h depth regions j
+    × JudgeGives (raised_of (trajectories_of s)) (aside_of s.settings) (upwards_of s.settings) depth regions j
     × (o ≡ regions_end (names_of s) depth (length regions) j)
 
 -- a speed that is too high gives its refusal, and else all speeds are written
@@ -255,7 +255,7 @@ Promises Verify s cut = FliesApart s
 Promises (Rehearse depth start readback) s cut = FliesApart s
 Promises (Upload depth start readback) s cut = FliesApart s
 Promises (Drill drones depth) s cut = FliesApart s
-Promises (Boxes depth) s cut = (regions : List Region) × (regions_of cut.second ≡ Ok regions) × KeepClear s.settings.r s.settings.h regions (sent_of s)
+Promises (Boxes depth) s cut = (regions : List Region) × (regions_of cut.second ≡ Ok regions) × KeepClear (aside_of s.settings) (upwards_of s.settings) regions (sent_of s)
 Promises (Speed depth limit) s cut = All (KeepsBounds limit depth) (sent_of s)
 Promises (Explain depth fine) s cut = blocked_of depth s ≡ None → FlyApart s.settings (sent_of s)
 

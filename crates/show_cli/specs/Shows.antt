@@ -1,9 +1,10 @@
 -- What a show is to the program: its names, its trajectories and its session; and the input, cut at its marker lines.
-use Rattle.std.specs.Prelude.{ℕ, suc, ◌==◌, Bool, true, false, List, [], ◌∷◌, map, slice_index_or, if◌then◌else◌}
+use Rattle.std.specs.Prelude.{ℕ, suc, ◌+◌, ◌==◌, Bool, true, false, List, [], ◌∷◌, map, slice_index_or, if◌then◌else◌}
 use Rattle.text_lines.specs.Lines.{between_feeds}
 use Rattle.text_lines.specs.Marker.{has_marker, part_of, rest_of}
 use Rattle.choreo_lines.specs.Name.{Name}
 use Rattle.choreo_reader.specs.Plain.{PlainShow}
+use Rattle.choreo_reader.specs.declared.show.Settings.{Settings}
 use Rattle.choreo_reader.specs.declared.token.TheConstants.{MOST_BYTES}
 use Rattle.cue_grid.specs.Cues.{grid_of}
 use Rattle.cue_grid.specs.Names as drones
@@ -83,3 +84,12 @@ session_of s start = session_for s.settings (sent_of s) start
 abbrev pub link_in : PlainShow → Bool → Bool → Link
 link_in s start false = link_of (session_of s start)
 link_in s start true = careful_link_of (session_of s false) start
+
+-- ---- how much a drone takes beside its curve
+
+-- to the side and up and down, in millimetres: the half axis of its ellipsoid, and how far it strays
+abbrev pub aside_of : Settings → ℕ
+aside_of e = e.r + e.stray
+
+abbrev pub upwards_of : Settings → ℕ
+upwards_of e = e.h + e.stray

@@ -23,7 +23,7 @@ use Rattle.show_cli.specs.declared.accept.Planned.TheVariants as planned
 use Rattle.show_cli.specs.Refused.{blocked_by, show_refusal}
 use Rattle.show_cli.specs.Reports.{nodes_of}
 use Rattle.show_cli.specs.Outcome.{Outcome, regions_end}
-use Rattle.show_cli.specs.Shows.{Cut, names_of, sent_of, trajectories_of}
+use Rattle.show_cli.specs.Shows.{Cut, names_of, sent_of, trajectories_of, aside_of, upwards_of}
 use Rattle.touch_witness.specs.declared.site.Closest.{Closest}
 use Rattle.touch_witness.specs.declared.site.Touch.{Touch}
 use Rattle.touch_witness.specs.Sites.{IsClosest, IsFirstTouch, NoTouch, site_of}
@@ -59,7 +59,7 @@ IsFaultAmong drones version (cert.Fails a b cue place dir control) = (a < drones
 -- what `boxes` ends with for the regions that were read
 pub record EndsRegions (s : PlainShow) (depth : ℕ) (regions : List Region) (o : Outcome) : Type 0 where
   pub judged : JudgedRegions
-  pub gives : JudgeGives (raised_of (trajectories_of s)) s.settings.r s.settings.h depth regions judged
+  pub gives : JudgeGives (raised_of (trajectories_of s)) (aside_of s.settings) (upwards_of s.settings) depth regions judged
   pub is : o ≡ regions_end (names_of s) depth (length regions) judged
 
 -- a part that is blocked names drones among this many; no other fault is one of separation

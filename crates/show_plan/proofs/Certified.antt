@@ -7,7 +7,8 @@ use Rattle.halving.specs.declared.Place.{Place}
 use Rattle.traj_codec.specs.declared.traj.Traj.{Traj}
 use Rattle.traj_codec.specs.Joined.{IsLasting}
 use Rattle.traj_codec.specs.Positions.{durations}
-use Rattle.sep_parts.specs.Apart.{SentLaw}
+use Rattle.sep_parts.specs.Apart.{KeepReach, KeepsApart, SentLaw}
+use Rattle.sep_parts.specs.declared.clearance.Clearance.{Clearance}
 use Rattle.sep_parts.specs.declared.slot.Slot.{Slot}
 use Rattle.sep_parts.specs.Versions.{table_of}
 use Rattle.sep_parts.specs.Levels.{left_half, right_half, root}
@@ -28,7 +29,7 @@ use Rattle.choreo_reader.specs.declared.show.Settings.{Settings}
 use Rattle.show_plan.specs.declared.fitted.Fitted.{Fitted}
 use Rattle.show_plan.specs.declared.fitted.PlanFault.{PlanFault}
 use Rattle.show_plan.specs.Fitting.{IsValidFitted}
-use Rattle.show_plan.specs.Separation.{CountGives, FlyApart, IsShowClear, IsSlotClear, best_certificate, best_nodes, blocked_in, blocked_part, direction_at, measure_of, slots_of, searched}
+use Rattle.show_plan.specs.Separation.{CountGives, FlyApart, IsShowClear, IsSlotClear, best_certificate, best_nodes, blocked_in, blocked_part, clearance_of, direction_at, measure_of, slots_of, searched}
 use Rattle.show_plan.specs.Steps.{FindsNodes, blocked_slot}
 use Rattle.show_plan.proofs.SeparationLaws.{all_clear, none_first, slot_law}
 
@@ -65,27 +66,27 @@ module _ (first : Place → Option ℕ) (m : ℕ) (known : (place : Place) (dir 
 
 -- ---- slot by slot
 
-module _ (law : SearchLaw) (e : Settings) (depth : ℕ) (curves : Raised) where
+module _ (law : SearchLaw) (e : Clearance) (depth : ℕ) (curves : Raised) where
   -- the best tree of a slot without a blocked part
   tree_there : (slot : Slot) → IsSlotClear e depth curves slot → (tree : Tree) × (best_tree (direction_at e curves slot) depth root ≡ Some tree)
   unfolding fleet.direction_at measure_of
-  tree_there slot clear = (law.there e.r e.h (difference curves slot.a slot.b slot.cue) searched depth).1 clear
+  tree_there slot clear = (law.there e (difference curves slot.a slot.b slot.cue) searched depth).1 clear
 
   tree_valid : (slot : Slot) (tree : Tree) → best_tree (direction_at e curves slot) depth root ≡ Some tree →
-      IsValidTree (record { r = e.r; h = e.h; depth = depth }) searched (difference curves slot.a slot.b slot.cue) root tree
+      IsValidTree (record { clearance = e; depth = depth }) searched (difference curves slot.a slot.b slot.cue) root tree
   unfolding fleet.direction_at measure_of
-  tree_valid slot tree is = law.valid (record { r = e.r; h = e.h; depth = depth }) (difference curves slot.a slot.b slot.cue) searched tree is
+  tree_valid slot tree is = law.valid (record { clearance = e; depth = depth }) (difference curves slot.a slot.b slot.cue) searched tree is
 
   direction_known : (slot : Slot) (place : Place) (dir : ℕ) → direction_at e curves slot place ≡ Some dir → dir < 98
   unfolding fleet.direction_at measure_of table_of
-  direction_known slot place dir is = ((law.first e.r e.h (difference curves slot.a slot.b slot.cue) searched place dir).0 is).inside
+  direction_known slot place dir is = ((law.first e (difference curves slot.a slot.b slot.cue) searched place dir).0 is).inside
 
   tree_known : (slot : Slot) (tree : Tree) → best_tree (direction_at e curves slot) depth root ≡ Some tree → All (IsKnown 98) (best_nodes e depth curves slot)
   tree_known slot tree is =
       subst (λ (nodes : List Node). All (IsKnown 98) nodes) (sym (ap nodes_of is))
       (best_known (direction_at e curves slot) 98 (direction_known slot) depth root tree is)
 
-  all_valid : (ss : List Slot) → blocked_in e depth curves ss ≡ None → AreValid (record { r = e.r; h = e.h; depth = depth }) searched curves ss (map (best_nodes e depth curves) ss)
+  all_valid : (ss : List Slot) → blocked_in e depth curves ss ≡ None → AreValid (record { clearance = e; depth = depth }) searched curves ss (map (best_nodes e depth curves) ss)
   all_valid [] none = tt
   all_valid (s ∷ ss) none =
       let parts = none_first (blocked_slot e depth curves s) (blocked_in e depth curves ss) none in
@@ -111,9 +112,14 @@ module _ (law : SearchLaw) (e : Settings) (depth : ℕ) (curves : Raised) where
 -- what is promised of a certificate
 pub record IsCertified (e : Settings) (depth : ℕ) (trajs : List Traj) (cert : Certificate) : Type 0 where
   pub whole : IsWhole cert
-  pub valid : IsValid searched (raised_of trajs) e.r e.h cert
+  pub valid : IsValid searched (raised_of trajs) (clearance_of e trajs) cert
   pub clear : IsShowClear e depth trajs
   pub apart : FlyApart e trajs
+
+-- what is kept apart by the clearance of settings is by the settings
+apart_of : (e : Settings) (trajs : List Traj) → KeepsApart (raised_of trajs) (clearance_of e trajs) → CurvesStandFor (raised_of trajs) trajs → KeepReach (clearance_of e trajs) trajs → FlyApart e trajs
+unfolding clearance_of
+apart_of e trajs keeps stands reach = keeps trajs stands reach
 
 best_whole : (e : Settings) (depth : ℕ) (trajs : List Traj) → SearchLaw → depth ≤ 8 → CurvesStandFor (raised_of trajs) trajs → blocked_part e depth trajs ≡ None →
     IsWhole (best_certificate e depth trajs)
@@ -125,47 +131,47 @@ best_whole e depth trajs law shallow stands none =
       version = inr refl;
       whole = record {
         depth = shallow;
-        few = omega (arith, length-map (slots_of trajs) (best_nodes e depth curves), few_slots curves.drones curves.cues drones cues);
-        trees = all_trees law e depth curves (slots_of trajs) none;
-        leaves = all_known law e depth curves (slots_of trajs) none;
+        few = omega (arith, length-map (slots_of trajs) (best_nodes (clearance_of e trajs) depth curves), few_slots curves.drones curves.cues drones cues);
+        trees = all_trees law (clearance_of e trajs) depth curves (slots_of trajs) none;
+        leaves = all_known law (clearance_of e trajs) depth curves (slots_of trajs) none;
       };
     }
 
-best_certified : (e : Settings) (depth : ℕ) (trajs : List Traj) → SearchLaw → CertificateLaw → depth ≤ 8 → CurvesStandFor (raised_of trajs) trajs → blocked_part e depth trajs ≡ None →
+best_certified : (e : Settings) (depth : ℕ) (trajs : List Traj) → SearchLaw → CertificateLaw → depth ≤ 8 → CurvesStandFor (raised_of trajs) trajs → KeepReach (clearance_of e trajs) trajs → blocked_part e depth trajs ≡ None →
     IsCertified e depth trajs (best_certificate e depth trajs)
-best_certified e depth trajs law keeps shallow stands none =
-    let valid : IsValid searched (raised_of trajs) e.r e.h (best_certificate e depth trajs) = all_valid law e depth (raised_of trajs) (slots_of trajs) none in
+best_certified e depth trajs law keeps shallow stands reach none =
+    let valid : IsValid searched (raised_of trajs) (clearance_of e trajs) (best_certificate e depth trajs) = all_valid law (clearance_of e trajs) depth (raised_of trajs) (slots_of trajs) none in
     record {
       whole = best_whole e depth trajs law shallow stands none;
       valid = valid;
-      clear = all_clear e depth (raised_of trajs) (slots_of trajs) none;
-      apart = keeps.apart searched (raised_of trajs) e.r e.h (best_certificate e depth trajs) valid trajs stands;
+      clear = all_clear (clearance_of e trajs) depth (raised_of trajs) (slots_of trajs) none;
+      apart = apart_of e trajs (keeps.apart searched (raised_of trajs) (clearance_of e trajs) (best_certificate e depth trajs) valid) stands reach;
     }
 
 -- Where nodes are counted, their trees are a certificate.
-pub count_certified : (e : Settings) (depth : ℕ) (trajs : List Traj) (r : Result ℕ PlanFault) → SearchLaw → CertificateLaw → depth ≤ 8 → CurvesStandFor (raised_of trajs) trajs → CountGives e depth trajs r → IsOk r →
+pub count_certified : (e : Settings) (depth : ℕ) (trajs : List Traj) (r : Result ℕ PlanFault) → SearchLaw → CertificateLaw → depth ≤ 8 → CurvesStandFor (raised_of trajs) trajs → KeepReach (clearance_of e trajs) trajs → CountGives e depth trajs r → IsOk r →
     IsCertified e depth trajs (best_certificate e depth trajs)
-count_certified e depth trajs (Ok n) law keeps shallow stands gives ok = best_certified e depth trajs law keeps shallow stands gives.0
-count_certified e depth trajs (Err f) law keeps shallow stands gives ok = absurd (cc)
+count_certified e depth trajs (Ok n) law keeps shallow stands reach gives ok = best_certified e depth trajs law keeps shallow stands reach gives.0
+count_certified e depth trajs (Err f) law keeps shallow stands reach gives ok = absurd (cc)
 
 -- What is counted over the curves of trajectories is counted for these.
-pub count_gives : (e : Settings) (depth : ℕ) (trajs : List Traj) (curves : Raised) (r : Result ℕ PlanFault) → curves ≡ raised_of trajs → FindsNodes e depth curves r → CountGives e depth trajs r
-count_gives e depth trajs curves r is finds = subst (λ (c : Raised). FindsNodes e depth c r) is finds
+pub count_gives : (e : Settings) (depth : ℕ) (trajs : List Traj) (curves : Raised) (r : Result ℕ PlanFault) → curves ≡ raised_of trajs → FindsNodes (clearance_of e trajs) depth curves r → CountGives e depth trajs r
+count_gives e depth trajs curves r is finds = subst (λ (c : Raised). FindsNodes (clearance_of e trajs) depth c r) is finds
 
 -- The trees that are found over the curves of trajectories are a certificate of these.
-pub certified : (e : Settings) (depth : ℕ) (trajs : List Traj) (curves : Raised) (trees : List (List Node)) → SearchLaw → CertificateLaw → depth ≤ 8 → CurvesStandFor curves trajs → curves ≡ raised_of trajs →
-    (blocked_in e depth curves (slots curves.drones curves.cues) ≡ None) × (trees ≡ map (best_nodes e depth curves) (slots curves.drones curves.cues)) →
+pub certified : (e : Settings) (depth : ℕ) (trajs : List Traj) (curves : Raised) (trees : List (List Node)) → SearchLaw → CertificateLaw → depth ≤ 8 → CurvesStandFor curves trajs → KeepReach (clearance_of e trajs) trajs → curves ≡ raised_of trajs →
+    (blocked_in (clearance_of e trajs) depth curves (slots curves.drones curves.cues) ≡ None) × (trees ≡ map (best_nodes (clearance_of e trajs) depth curves) (slots curves.drones curves.cues)) →
     IsCertified e depth trajs (record { version = 2; depth = depth; trees = trees })
-certified e depth trajs curves trees law keeps shallow stands is found =
-    let none : blocked_part e depth trajs ≡ None = subst (λ (c : Raised). blocked_in e depth c (slots c.drones c.cues) ≡ None) is found.0 in
-    let all : trees ≡ map (best_nodes e depth (raised_of trajs)) (slots_of trajs) = subst (λ (c : Raised). trees ≡ map (best_nodes e depth c) (slots c.drones c.cues)) is found.1 in
+certified e depth trajs curves trees law keeps shallow stands reach is found =
+    let none : blocked_part e depth trajs ≡ None = subst (λ (c : Raised). blocked_in (clearance_of e trajs) depth c (slots c.drones c.cues) ≡ None) is found.0 in
+    let all : trees ≡ map (best_nodes (clearance_of e trajs) depth (raised_of trajs)) (slots_of trajs) = subst (λ (c : Raised). trees ≡ map (best_nodes (clearance_of e trajs) depth c) (slots c.drones c.cues)) is found.1 in
     subst (λ (ts : List (List Node)). IsCertified e depth trajs (record { version = 2; depth = depth; trees = ts })) (sym all)
-    (best_certified e depth trajs law keeps shallow (subst (λ (c : Raised). CurvesStandFor c trajs) is stands) none)
+    (best_certified e depth trajs law keeps shallow (subst (λ (c : Raised). CurvesStandFor c trajs) is stands) reach none)
 
 -- What is sent flies apart where the trajectories by cue do.
 pub sent_flies_apart : (f : Fitted) → IsValidFitted f → SentLaw → FlyApart f.settings f.trajs → FlyApart f.settings f.sent
 sent_flies_apart f valid law apart =
-    subst (FlyApart f.settings) (sym valid.sent) (law f.settings.r f.settings.h f.trajs (all_lasting f.trajs valid.lasting) apart)
+    subst (FlyApart f.settings) (sym valid.sent) (law f.settings.r f.settings.h f.settings.stray f.settings.late f.trajs (all_lasting f.trajs valid.lasting) apart)
   where
     all_lasting : (ts : List Traj) → All (λ (t : Traj). durations t.segments ≡ valid.times) ts → All IsLasting ts
     all_lasting [] all = All-nil IsLasting

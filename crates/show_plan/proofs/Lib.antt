@@ -8,3 +8,4 @@ pub mod PlanLines
 pub mod Landing
 pub mod Uploadable
 pub mod PacketLines
+pub mod Clearances

@@ -7,11 +7,11 @@ use Rattle.pair_search.specs.declared.fleet.SearchFault.{SearchFault}
 use Rattle.pair_search.specs.declared.fleet.SearchFault.TheVariants as search
 use Rattle.pair_search.specs.Fleets as fleet
 use Rattle.pair_search.specs.Search.{blocked_place}
-use Rattle.choreo_reader.specs.declared.show.Settings.{Settings}
+use Rattle.sep_parts.specs.declared.clearance.Clearance.{Clearance}
 use Rattle.show_plan.specs.Separation.{FailsBy, blocked_at, blocked_in, direction_at, measure_of}
 use Rattle.show_plan.specs.Steps.{plan_fault}
 
-module _ (e : Settings) (depth : ℕ) (curves : Raised) where
+module _ (e : Clearance) (depth : ℕ) (curves : Raised) where
   -- the first blocked part by its fault of a plan is that of the search
   renamed : (ss : List Slot) → blocked_in e depth curves ss ≡ option_map plan_fault (fleet.blocked_in search.Blocked (measure_of e) depth curves ss)
   renamed [] = refl

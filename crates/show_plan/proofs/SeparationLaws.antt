@@ -3,6 +3,7 @@ use Rattle.std.proofs.Common.{◌≡◌, ◌↔◌, ℕ, ap, refl, subst, ◌∙
 use Rattle.std.specs.Option.{option_map, option_or}
 use Rattle.std.proofs.lemmas.List.Elements.{All-nil, All-cons, All-head, All-tail}
 use Rattle.traj_codec.specs.declared.traj.Traj.{Traj}
+use Rattle.sep_parts.specs.declared.clearance.Clearance.{Clearance}
 use Rattle.sep_parts.specs.declared.slot.Slot.{Slot}
 use Rattle.fleet_curves.specs.Raised.{Raised, difference, raised_of}
 use Rattle.sep_parts.specs.Slots.{slot_at}
@@ -12,7 +13,7 @@ use Rattle.pair_search.specs.Search.{blocked_place}
 use Rattle.pair_search.proofs.SearchLaws.{laws}
 use Rattle.choreo_reader.specs.declared.show.Settings.{Settings}
 use Rattle.show_plan.specs.declared.fitted.PlanFault.{PlanFault}
-use Rattle.show_plan.specs.Separation.{IsSlotClear, blocked_at, blocked_in, blocked_part, direction_at, measure_of, slots_of, searched}
+use Rattle.show_plan.specs.Separation.{IsSlotClear, blocked_at, blocked_in, blocked_part, clearance_of, direction_at, measure_of, slots_of, searched}
 use Rattle.show_plan.specs.Steps.{blocked_slot}
 use Rattle.show_plan.specs.Laws.{IsFirstPart, SeparationLaw}
 
@@ -36,19 +37,19 @@ same_slot s slot k index is =
 same_index : (s slot : Slot) (k index : ℕ) → blocked_at s k ≡ blocked_at slot index → k ≡ index
 same_index s slot k index is = cc
 
-module _ (e : Settings) (depth : ℕ) (curves : Raised) where
+module _ (e : Clearance) (depth : ℕ) (curves : Raised) where
   -- the part of a slot with this index is the first of its cue without a direction
   abbrev IsBlockedAt : Slot → ℕ → Type 0
-  IsBlockedAt slot index = IsFirstBlocked e.r e.h (difference curves slot.a slot.b slot.cue) searched depth index
+  IsBlockedAt slot index = IsFirstBlocked e (difference curves slot.a slot.b slot.cue) searched depth index
 
   -- ---- one slot
   place_clear : (slot : Slot) → (blocked_place (direction_at e curves slot) depth ≡ None) ↔ IsSlotClear e depth curves slot
   unfolding fleet.direction_at measure_of
-  place_clear slot = laws.clear e.r e.h (difference curves slot.a slot.b slot.cue) searched depth
+  place_clear slot = laws.clear e (difference curves slot.a slot.b slot.cue) searched depth
 
   place_blocked : (slot : Slot) (index : ℕ) → (blocked_place (direction_at e curves slot) depth ≡ Some index) ↔ IsBlockedAt slot index
   unfolding fleet.direction_at measure_of
-  place_blocked slot index = laws.blocked e.r e.h (difference curves slot.a slot.b slot.cue) searched depth index
+  place_blocked slot index = laws.blocked e (difference curves slot.a slot.b slot.cue) searched depth index
 
   -- no part of a slot is blocked exactly where it is clear
   pub slot_law : (slot : Slot) → (blocked_slot e depth curves slot ≡ None) ↔ IsSlotClear e depth curves slot
@@ -124,15 +125,15 @@ module _ (e : Settings) (depth : ℕ) (curves : Raised) where
 -- ---- of a show
 first_law : (e : Settings) (depth : ℕ) (trajs : List Traj) (slot : Slot) (index : ℕ) → (blocked_part e depth trajs ≡ Some (blocked_at slot index)) ↔ IsFirstPart e depth trajs slot index
 first_law e depth trajs slot index = (
-  λ is. let first = found e depth (raised_of trajs) (slots_of trajs) slot index is in
+  λ is. let first = found (clearance_of e trajs) depth (raised_of trajs) (slots_of trajs) slot index is in
       record { earlier = first.earlier; later = first.later; slots = first.slots; clear = first.clear; blocked = first.blocked },
-  λ first. finds e depth (raised_of trajs) (slots_of trajs) slot index
+  λ first. finds (clearance_of e trajs) depth (raised_of trajs) (slots_of trajs) slot index
       (record { earlier = first.earlier; later = first.later; slots = first.slots; clear = first.clear; blocked = first.blocked }),
 )
 
 -- The recursion finds the first part that no direction separates, and nothing exactly where there is none.
 pub separation : SeparationLaw
 separation = record {
-  clear = λ e depth trajs. (all_clear e depth (raised_of trajs) (slots_of trajs), none_blocked e depth (raised_of trajs) (slots_of trajs));
+  clear = λ e depth trajs. (all_clear (clearance_of e trajs) depth (raised_of trajs) (slots_of trajs), none_blocked (clearance_of e trajs) depth (raised_of trajs) (slots_of trajs));
   blocked = first_law;
 }

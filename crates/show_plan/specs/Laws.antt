@@ -6,7 +6,7 @@ use Rattle.sep_parts.specs.declared.slot.Slot.{Slot}
 use Rattle.fleet_curves.specs.Raised.{difference, raised_of}
 use Rattle.pair_search.specs.Laws.{IsFirstBlocked}
 use Rattle.choreo_reader.specs.declared.show.Settings.{Settings}
-use Rattle.show_plan.specs.Separation.{IsShowClear, IsSlotClear, blocked_at, blocked_part, searched, slots_of}
+use Rattle.show_plan.specs.Separation.{IsShowClear, IsSlotClear, blocked_at, blocked_part, clearance_of, searched, slots_of}
 
 -- A part of a cue is the first, in the order pair, cue, part, in which no direction separates two drones: each slot before its
 -- own is clear, and in its own it is the first part without a direction.
@@ -14,8 +14,8 @@ pub record IsFirstPart (e : Settings) (depth : ℕ) (trajs : List Traj) (slot : 
   pub earlier : List Slot
   pub later : List Slot
   pub slots : slots_of trajs ≡ earlier ++ slot ∷ later
-  pub clear : All (IsSlotClear e depth (raised_of trajs)) earlier
-  pub blocked : IsFirstBlocked e.r e.h (difference (raised_of trajs) slot.a slot.b slot.cue) searched depth index
+  pub clear : All (IsSlotClear (clearance_of e trajs) depth (raised_of trajs)) earlier
+  pub blocked : IsFirstBlocked (clearance_of e trajs) (difference (raised_of trajs) slot.a slot.b slot.cue) searched depth index
 
 -- What the first part that no direction separates is: there is none exactly where each part of each cue has a direction for
 -- each pair; else it is the first.

@@ -1,9 +1,10 @@
 -- What keeps the drones of a show apart: a certificate with the largest possible leaves, or the first part of a cue in which no
 -- direction separates two drones.
-use Rattle.std.specs.Prelude.{◌≡◌, ℕ, ℤ, List, length, map, Option, Some, None, Result, Ok, Err}
+use Rattle.std.specs.Prelude.{◌≡◌, ℕ, ℤ, List, [], ◌∷◌, length, map, Option, Some, None, Result, Ok, Err}
 use Rattle.std.specs.List.{All, sum}
 use Rattle.halving.specs.declared.Place.{Place}
 use Rattle.traj_codec.specs.declared.traj.Traj.{Traj}
+use Rattle.sep_parts.specs.declared.clearance.Clearance.{Clearance}
 use Rattle.sep_parts.specs.declared.slot.Slot.{Slot}
 use Rattle.sep_parts.specs.Apart as apart
 use Rattle.fleet_curves.specs.Raised.{Raised, difference, raised_of}
@@ -11,6 +12,7 @@ use Rattle.sep_parts.specs.Rulers.{Measure}
 use Rattle.sep_parts.specs.Slots.{slots}
 use Rattle.sep_parts.specs.Versions.{table_of}
 use Rattle.sep_parts.specs.declared.node.Node.{Node}
+use Rattle.speed_bound.specs.Reach.{reach_of}
 use Rattle.sep_certificate.specs.declared.certificate.Certificate.{Certificate}
 use Rattle.pair_search.specs.Fleets as fleet
 use Rattle.pair_search.specs.Search.{IsClear}
@@ -22,21 +24,36 @@ use Rattle.show_plan.specs.declared.fitted.PlanFault.TheVariants as fault
 abbrev pub searched : List (List ℤ)
 searched = table_of 2
 
--- the ruler of a show: these directions, for its half axes
-unfoldable pub measure_of : Settings → Measure
-measure_of e = record { directions = searched; r = e.r; h = e.h }
+-- by parts of which depth speeds are bounded, for how far drones move while they are late
+abbrev pub reach_depth : ℕ
+reach_depth = 6
+
+-- What is kept clear around the drones of a show: what its settings say, and how far its trajectories move in the time by which a drone may be
+-- late.
+unfoldable pub clearance_of : Settings → List Traj → Clearance
+clearance_of e trajs = record {
+  r = e.r;
+  h = e.h;
+  stray = e.stray;
+  late = e.late;
+  reach = reach_of reach_depth e.late trajs 0 ∷ reach_of reach_depth e.late trajs 1 ∷ reach_of reach_depth e.late trajs 2 ∷ [];
+}
+
+-- the ruler of a clearance: these directions
+unfoldable pub measure_of : Clearance → Measure
+measure_of c = record { directions = searched; clearance = c }
 
 -- the first direction of the table that separates the pair of a slot in a place of its cue
-abbrev pub direction_at : Settings → Raised → Slot → Place → Option ℕ
-direction_at e curves slot = fleet.direction_at (measure_of e) curves slot
+abbrev pub direction_at : Clearance → Raised → Slot → Place → Option ℕ
+direction_at c curves slot = fleet.direction_at (measure_of c) curves slot
 
 -- the pair of a slot is blocked in this part of its cue
 abbrev pub blocked_at : Slot → ℕ → PlanFault
 blocked_at slot index = fault.Blocked slot.a slot.b slot.cue index
 
 -- the first part of the depth, slot by slot, that no direction separates
-abbrev pub blocked_in : Settings → ℕ → Raised → List Slot → Option PlanFault
-blocked_in e depth curves = fleet.blocked_in blocked_at (measure_of e) depth curves
+abbrev pub blocked_in : Clearance → ℕ → Raised → List Slot → Option PlanFault
+blocked_in c depth curves = fleet.blocked_in blocked_at (measure_of c) depth curves
 
 -- the slots of trajectories of one show: each pair in each cue
 abbrev pub slots_of : List Traj → List Slot
@@ -44,15 +61,15 @@ slots_of trajs = slots (raised_of trajs).drones (raised_of trajs).cues
 
 -- the first part of the depth, in the order pair, cue, part, in which no direction separates two of these trajectories
 abbrev pub blocked_part : Settings → ℕ → List Traj → Option PlanFault
-blocked_part e depth trajs = blocked_in e depth (raised_of trajs) (slots_of trajs)
+blocked_part e depth trajs = blocked_in (clearance_of e trajs) depth (raised_of trajs) (slots_of trajs)
 
 -- the nodes of the tree with the largest possible leaves, each with its first separating direction
-abbrev pub best_nodes : Settings → ℕ → Raised → Slot → List Node
-best_nodes e depth curves slot = fleet.best_nodes (measure_of e) depth curves slot
+abbrev pub best_nodes : Clearance → ℕ → Raised → Slot → List Node
+best_nodes c depth curves slot = fleet.best_nodes (measure_of c) depth curves slot
 
 -- the certificate with the largest possible leaves, for trajectories of which no part of the depth is blocked
 abbrev pub best_certificate : Settings → ℕ → List Traj → Certificate
-best_certificate e depth trajs = record { version = 2; depth = depth; trees = map (best_nodes e depth (raised_of trajs)) (slots_of trajs) }
+best_certificate e depth trajs = record { version = 2; depth = depth; trees = map (best_nodes (clearance_of e trajs) depth (raised_of trajs)) (slots_of trajs) }
 
 -- how many nodes the trees of a certificate have together
 abbrev pub node_count : Certificate → ℕ
@@ -78,14 +95,14 @@ abbrev pub CountGives : Settings → ℕ → List Traj → Result ℕ PlanFault 
 CountGives e depth trajs result = Finds (blocked_part e depth trajs) (node_count (best_certificate e depth trajs)) result
 
 -- each part of the depth of the pair's cue has a separating direction
-abbrev pub IsSlotClear : Settings → ℕ → Raised → Slot → Type 0
-IsSlotClear e depth curves slot = IsClear e.r e.h (difference curves slot.a slot.b slot.cue) searched depth
+abbrev pub IsSlotClear : Clearance → ℕ → Raised → Slot → Type 0
+IsSlotClear c depth curves slot = IsClear c (difference curves slot.a slot.b slot.cue) searched depth
 
 -- each part of the depth has a separating direction, for each pair in each cue
 abbrev pub IsShowClear : Settings → ℕ → List Traj → Type 0
-IsShowClear e depth trajs = All (IsSlotClear e depth (raised_of trajs)) (slots_of trajs)
+IsShowClear e depth trajs = All (IsSlotClear (clearance_of e trajs) depth (raised_of trajs)) (slots_of trajs)
 
--- Each two different drones are apart at each instant p / q of the show, p and q any whole numbers: the closed ellipsoids around
--- their decoded positions, each by its own segment, share no point.
+-- The ellipsoids around any two different drones share no point, wherever the drones stray to and however late they are against one another, by
+-- what the settings allow: whatever points the two may be at, at whatever instants of the show that are so near to one another.
 abbrev pub FlyApart : Settings → List Traj → Type 0
-FlyApart e trajs = apart.FlyApart e.r e.h trajs
+FlyApart e trajs = apart.FlyApart e.r e.h e.stray e.late trajs

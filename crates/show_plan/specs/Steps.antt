@@ -1,6 +1,7 @@
 -- Words of private steps. No public clause cites them.
 use Rattle.std.specs.Prelude.{ℕ, List, [], ◌∷◌, true, map, Option, Result}
 use Rattle.std.specs.Option.{option_map}
+use Rattle.sep_parts.specs.declared.clearance.Clearance.{Clearance}
 use Rattle.sep_parts.specs.declared.slot.Slot.{Slot}
 use Rattle.fleet_curves.specs.Raised.{Raised}
 use Rattle.sep_parts.specs.Slots.{slots}
@@ -16,18 +17,18 @@ use Rattle.show_plan.specs.declared.fitted.PlanFault.TheVariants as fault
 use Rattle.show_plan.specs.Separation.{Finds, direction_at, blocked_at, blocked_in, best_nodes, measure_of}
 
 -- the first part of a slot's cue, of this depth, that no direction separates
-abbrev pub blocked_slot : Settings → ℕ → Raised → Slot → Option PlanFault
-blocked_slot e depth curves slot = option_map (blocked_at slot) (blocked_place (direction_at e curves slot) depth)
+abbrev pub blocked_slot : Clearance → ℕ → Raised → Slot → Option PlanFault
+blocked_slot c depth curves slot = option_map (blocked_at slot) (blocked_place (direction_at c curves slot) depth)
 
 -- what is found at all slots: the trees of each
-abbrev pub FindsTrees : Settings → ℕ → Raised → Result (List (List Node)) PlanFault → Type 0
-FindsTrees e depth curves result =
-    Finds (blocked_in e depth curves (slots curves.drones curves.cues)) (map (best_nodes e depth curves) (slots curves.drones curves.cues)) result
+abbrev pub FindsTrees : Clearance → ℕ → Raised → Result (List (List Node)) PlanFault → Type 0
+FindsTrees c depth curves result =
+    Finds (blocked_in c depth curves (slots curves.drones curves.cues)) (map (best_nodes c depth curves) (slots curves.drones curves.cues)) result
 
 -- what is found at all slots: how many nodes their trees have
-abbrev pub FindsNodes : Settings → ℕ → Raised → Result ℕ PlanFault → Type 0
-FindsNodes e depth curves result =
-    Finds (blocked_in e depth curves (slots curves.drones curves.cues)) (nodes_in (measure_of e) depth curves (slots curves.drones curves.cues)) result
+abbrev pub FindsNodes : Clearance → ℕ → Raised → Result ℕ PlanFault → Type 0
+FindsNodes c depth curves result =
+    Finds (blocked_in c depth curves (slots curves.drones curves.cues)) (nodes_in (measure_of c) depth curves (slots curves.drones curves.cues)) result
 
 -- what a search stops at, as the reason why a show has no plan
 abbrev pub plan_fault : SearchFault → PlanFault

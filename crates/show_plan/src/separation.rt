@@ -1,30 +1,53 @@
 //! The certificate of a show, or the first part of a cue in which no direction separates two drones.
 
 ghost use Rattle.std.specs.Prelude.{◌≡◌, ◌≤◌, ℕ, [], Err, IfOk, IsOk};
-ghost use Rattle.sep_parts.specs.Directions.{IsAxis};
+ghost use Rattle.sep_parts.specs.Directions.{IsClearance};
+ghost use Rattle.sep_parts.specs.Apart.{KeepReach};
 ghost use Rattle.sep_parts.specs.declared.slot.Slot.{Slot};
 ghost use Rattle.fleet_curves.specs.Raised.{raised_of};
 ghost use Rattle.sep_certificate.specs.Certificates.{IsWhole, IsValid};
 ghost use Rattle.show_plan.specs.Fitting.{IsValidFitted};
-ghost use Rattle.show_plan.specs.Separation.{CertificateGives, CountGives, IsShowClear, FlyApart, blocked_at, measure_of, searched};
+ghost use Rattle.show_plan.specs.Separation.{CertificateGives, CountGives, IsShowClear, FlyApart, blocked_at, clearance_of, measure_of, searched};
 ghost use Rattle.show_plan.specs.Laws.{IsFirstPart, SeparationLaw};
 ghost use Rattle.show_plan.specs.Steps.{FindsNodes, FindsTrees, plan_fault};
 
 use crate::fitted::{Fitted, PlanFault};
-use choreo_reader::{Listed, Settings};
+use choreo_reader::Listed;
 use pair_search::{SearchFault, count_all, search_all, search_law};
 use sep_certificate::{Certificate, Curves, Node, certificate_law};
-use sep_parts::{Ruler, WIDE, apart_law, table_law};
+use sep_parts::{Clearance, Ruler, WIDE, apart_law, table_law};
+use speed_bound::{reach, reach_law};
 use std::alloc::Global;
 
-// The ruler of a show: the 98 directions, for its half axes.
-fn ruler_of(settings: Settings) -> Ruler<98>
-    requires r { IsAxis settings.r }
-    requires h { IsAxis settings.h }
-    ensures { result ≡ measure_of settings }
+/// By parts of which depth speeds are bounded, for how far drones move while they are late.
+const REACH_DEPTH: u8 = 6;
+
+/// What is kept clear around the drones of a show that fits: what its settings say, and how far its trajectories move in the time by which a drone
+/// may be late.
+pub fn clearance_of(f: &Fitted) -> Clearance
+    requires valid { IsValidFitted f.now }
+    ensures exact { result ≡ clearance_of f.now.settings f.now.trajs }
+    ensures clear { IsClearance result }
+    ensures reach { KeepReach result f.now.trajs }
+{
+    reach_law();
+    let settings = f.settings;
+    Clearance {
+        r: settings.r,
+        h: settings.h,
+        stray: settings.stray,
+        late: settings.late,
+        reach: reach(f.trajs.as_slice(), settings.late, REACH_DEPTH),
+    }
+}
+
+// The ruler of a clearance: the 98 directions.
+fn ruler_of(clearance: Clearance) -> Ruler<98>
+    requires { IsClearance clearance }
+    ensures { result ≡ measure_of clearance }
 {
     table_law();
-    Ruler::make(&WIDE, settings.r, settings.h)
+    Ruler::make(&WIDE, clearance)
 }
 
 // What a search stops at, as the reason why a show has no plan.
@@ -46,28 +69,26 @@ fn plan_fault(fault: SearchFault) -> PlanFault
 fn trees_of(
     alloc: Global,
     curves: &Curves,
-    settings: Settings,
+    clearance: Clearance,
     depth: u8,
 ) -> Result<Listed<Listed<Node>>, PlanFault>
-    requires r { IsAxis settings.r }
-    requires h { IsAxis settings.h }
+    requires clearance { IsClearance clearance }
     requires depth { depth ≤ 8 }
-    ensures { FindsTrees settings depth curves.now result }
+    ensures { FindsTrees clearance depth curves.now result }
 {
-    match search_all(alloc, curves, &ruler_of(settings), depth) {
+    match search_all(alloc, curves, &ruler_of(clearance), depth) {
         Ok(trees) => Ok(trees),
         Err(fault) => Err(plan_fault(fault)),
     }
 }
 
 // How many nodes the trees of all slots have, or the first part that no direction separates.
-fn nodes_of(alloc: Global, curves: &Curves, settings: Settings, depth: u8) -> Result<u32, PlanFault>
-    requires r { IsAxis settings.r }
-    requires h { IsAxis settings.h }
+fn nodes_of(alloc: Global, curves: &Curves, clearance: Clearance, depth: u8) -> Result<u32, PlanFault>
+    requires clearance { IsClearance clearance }
     requires depth { depth ≤ 8 }
-    ensures { FindsNodes settings depth curves.now result }
+    ensures { FindsNodes clearance depth curves.now result }
 {
-    match count_all(alloc, curves, &ruler_of(settings), depth) {
+    match count_all(alloc, curves, &ruler_of(clearance), depth) {
         Ok(count) => Ok(count),
         Err(fault) => Err(plan_fault(fault)),
     }
@@ -84,14 +105,14 @@ pub fn separation_law()
 /// the first direction in the order of the table that separates its part. `depth` is the greatest depth of a part, 0 to 8.
 ///
 /// `Blocked` exactly where some part of that depth has no separating direction, for some pair and cue: the first, in the order
-/// pair, cue, part. Out of memory is the only other refusal. Where it is Ok, any two drones are apart at each instant of the show,
-/// also between whole milliseconds (docs/SEPARATION.md).
+/// pair, cue, part. Out of memory is the only other refusal. Where it is Ok, any two drones fly apart, by what the settings let them stray and be
+/// late (docs/SEPARATION.md).
 pub fn certificate(alloc: Global, f: &Fitted, depth: u8) -> Result<Certificate, PlanFault>
     requires valid { IsValidFitted f.now }
     requires depth { depth ≤ 8 }
     ensures gives { CertificateGives f.now.settings depth f.now.trajs result }
     ensures whole { IfOk result (λ cert. IsWhole cert) }
-    ensures valid { IfOk result (λ cert. IsValid searched (raised_of f.now.trajs) f.now.settings.r f.now.settings.h cert) }
+    ensures valid { IfOk result (λ cert. IsValid searched (raised_of f.now.trajs) (clearance_of f.now.settings f.now.trajs) cert) }
     ensures clear { IsOk result → IsShowClear f.now.settings depth f.now.trajs }
     ensures blocked { (slot : Slot) (index : ℕ) → result ≡ Err (blocked_at slot index)
         → IsFirstPart f.now.settings depth f.now.trajs slot index }
@@ -102,8 +123,9 @@ pub fn certificate(alloc: Global, f: &Fitted, depth: u8) -> Result<Certificate, 
     separation_law();
     certificate_law();
     apart_law();
+    let clearance = clearance_of(f);
     let curves = Curves::of_slice(alloc, f.trajs.as_slice())?;
-    let trees = trees_of(alloc, &curves, f.settings, depth)?;
+    let trees = trees_of(alloc, &curves, clearance, depth)?;
     Ok(Certificate {
         version: 2,
         depth,
@@ -127,6 +149,7 @@ pub fn count_nodes(alloc: Global, f: &Fitted, depth: u8) -> Result<u32, PlanFaul
     separation_law();
     certificate_law();
     apart_law();
+    let clearance = clearance_of(f);
     let curves = Curves::of_slice(alloc, f.trajs.as_slice())?;
-    nodes_of(alloc, &curves, f.settings, depth)
+    nodes_of(alloc, &curves, clearance, depth)
 }

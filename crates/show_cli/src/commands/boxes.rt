@@ -12,7 +12,7 @@ ghost use Rattle.show_cli.specs.Input.{IsReadBoth, IsText, IsUnmarked, IsWithin}
 ghost use Rattle.show_cli.specs.Outcome.{Promises, RegionsGive};
 ghost use Rattle.show_cli.specs.Refused.{second_refusal};
 ghost use Rattle.show_cli.specs.Runs.{ReadsBoth, Runs, StopsAtMarker, TakesLittle, TakesOneText, run_of};
-ghost use Rattle.show_cli.specs.Shows.{Cut, show_limit};
+ghost use Rattle.show_cli.specs.Shows.{Cut, aside_of, show_limit, upwards_of};
 ghost use Rattle.show_cli.specs.Steps.{EndsRegions};
 ghost use Rattle.show_cli.specs.Studies.{faulty_region, region_limit};
 ghost use Rattle.text_lines.specs.Marker.{part_of};
@@ -48,15 +48,16 @@ fn judge_regions(
     requires near { All IsNear regions.now.items }
     ensures gives { (s : PlainShow) → IsFitted fitted.now s → IfOk result (λ a. EndsRegions s depth regions.now.items (outcome_of a)) }
     ensures clear { IfOk result (λ a. (outcome_of a).status ≡ 0
-        → KeepClear fitted.now.settings.r fitted.now.settings.h regions.now.items fitted.now.sent) }
+        → KeepClear (aside_of fitted.now.settings) (upwards_of fitted.now.settings) regions.now.items fitted.now.sent) }
     ensures said { IfOk result IsSaid }
 {
     sent_law();
+    let settings = fitted.settings;
     let curves = Curves::of_slice(alloc, fitted.trajs.as_slice())?;
     match judge(
         &curves,
-        fitted.settings.r,
-        fitted.settings.h,
+        settings.r + settings.stray,
+        settings.h + settings.stray,
         depth,
         regions,
     ) {

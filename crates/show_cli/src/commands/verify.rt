@@ -8,7 +8,7 @@ ghost use Rattle.fleet_curves.specs.Raised.{CurvesStandFor};
 ghost use Rattle.certificate_checker.specs.Bytes.{ApartWhereValid, HasRead, NamesFault};
 ghost use Rattle.refusals.specs.declared.refusal.Refusal.{Refusal};
 ghost use Rattle.show_plan.specs.Fitting.{IsValidFitted};
-ghost use Rattle.show_plan.specs.Separation.{FlyApart};
+ghost use Rattle.show_plan.specs.Separation.{FlyApart, clearance_of};
 ghost use Rattle.show_cli.specs.Answers.{AnswersInput, IsSaid, outcome_of};
 ghost use Rattle.show_cli.specs.Input.{IsReadBoth, IsWholeText};
 ghost use Rattle.show_cli.specs.Outcome.{refused};
@@ -31,7 +31,8 @@ use fleet_io::{Ask, Failed, Parts, Sink, Source, part_law};
 use refusals::Refusal;
 use sep_certificate::CERTIFICATE_LIMIT;
 use sep_parts::apart_law;
-use show_plan::Fitted;
+use show_plan::{Fitted, clearance_of};
+use speed_bound::reach_law;
 use std::alloc::Global;
 
 /// A certificate's text that was taken.
@@ -58,13 +59,14 @@ fn judge(fitted: &Fitted, curves: &Curves, verdict: Verdict, marker: Option<u32>
     requires valid { IsValidFitted fitted.now }
     requires curves { CurvesStandFor curves.now fitted.now.trajs }
     requires named { NamesFault curves.now verdict }
-    requires apart { ApartWhereValid curves.now fitted.now.settings.r fitted.now.settings.h verdict }
+    requires apart { ApartWhereValid curves.now (clearance_of fitted.now.settings fitted.now.trajs) verdict }
     ensures gives { outcome_of result ≡ verdict_outcome fitted.now.names marker verdict }
     ensures apart { (outcome_of result).status ≡ 0 → FlyApart fitted.now.settings fitted.now.sent }
     ensures unmarked { (outcome_of result).status ≡ 0 → marker ≡ None }
     ensures said { IsSaid result }
 {
     apart_law();
+    reach_law();
     match verdict {
         Verdict::Line { line } => faulty(line),
         Verdict::Valid { depth, trees } => match marker {
@@ -117,7 +119,7 @@ fn take_second<S: Source>(
     requires at_end { IsTrue parts.old.ended → IsAtEnd (S.left source.old) }
     requires unfed { HasRead checker.old curves.now [] }
     ensures gives { IfOk result (TakenGives curves.now (stream parts.old (S.left source.old)) checker.new) }
-    ensures axes { (checker.new.r ≡ checker.old.r) × (checker.new.h ≡ checker.old.h) }
+    ensures clearance { checker.new.clearance ≡ checker.old.clearance }
     ensures whole { IfOk result (IsTakenToEnd (S.left source.new)) }
     ensures few { IfOk result (IsFewTaken (stream parts.old (S.left source.old)) (S.left source.new)) }
     ensures cause { HasCause (S.faults source.old) (S.faults source.new) result }
@@ -164,7 +166,7 @@ fn answer_second<S: Source>(
     ensures left { TakesFront (S.left source.old) (S.left source.new) }
 {
     let curves = Curves::of_slice(alloc, fitted.trajs.as_slice())?;
-    let mut checker = Checker::make(fitted.settings.r, fitted.settings.h);
+    let mut checker = Checker::make(clearance_of(fitted));
     let taken = match take_second(parts, source, &curves, &mut checker) {
         Ok(taken) => taken,
         Err(Failed) => return Err(Failure::Read),

@@ -1,15 +1,22 @@
-use Rattle.std.proofs.Common.{List, subst, ◌∙◌, ap}
+use Rattle.std.proofs.Common.{List, Ok, subst, ◌∙◌, ap}
 use Rattle.traj_codec.specs.declared.traj.Traj.{Traj}
 use Rattle.fleet_curves.specs.Raised.{CurvesStandFor, raised_of}
+use Rattle.sep_parts.specs.declared.clearance.Clearance.{Clearance}
+use Rattle.sep_parts.specs.Apart.{KeepReach}
+use Rattle.show_plan.specs.Separation.{clearance_of}
+use Rattle.show_plan.specs.Steps.{FindsTrees}
 use Rattle.show_plan.proofs.Certified.{IsCertified, certified, sent_flies_apart}
 use Rattle.show_plan.proofs.separation.certificate.Goals as goal
 
 found : (c : goal.After-drop-curves-inside-2) → IsCertified c.args.f.now.settings c.args.depth c.args.f.now.trajs (record { version = 2; depth = c.args.depth; trees = c.in_ok-trees.trees })
 found c =
+    let reach : KeepReach (clearance_of c.args.f.now.settings c.args.f.now.trajs) c.args.f.now.trajs =
+    subst (λ (clear : Clearance). KeepReach clear c.args.f.now.trajs) c.clearance_of-clearance.ensures.exact c.clearance_of-clearance.ensures.reach in
     certified c.args.f.now.settings c.args.depth c.args.f.now.trajs c.in_ok-curves.curves c.in_ok-trees.trees c.search_law.ensures c.certificate_law.ensures c.requires.depth
     (subst (λ (ts : List Traj). CurvesStandFor c.in_ok-curves.curves ts) c.as_slice.ensures c.in_ok-curves.ensures.stands)
+    reach
     (c.in_ok-curves.ensures.exact ∙ ap (λ (ts : List Traj). raised_of ts) c.as_slice.ensures)
-    c.in_ok-trees.ensures
+    (subst (λ (clear : Clearance). FindsTrees clear c.args.depth c.in_ok-curves.curves (Ok c.in_ok-trees.trees)) c.clearance_of-clearance.ensures.exact c.in_ok-trees.ensures)
 
 pub returns-clause-whole : goal.returns-clause-whole
 returns-clause-whole c = (found c).whole

@@ -7,12 +7,12 @@ use Rattle.show_plan.proofs.separation.trees_of.Goals as goal
 
 pub returns-in-Ok : goal.returns-in-Ok
 returns-in-Ok c =
-    let found : GivesTrees (measure_of c.args.settings) c.args.depth c.args.curves.now (Ok c.in-Ok.trees) =
+    let found : GivesTrees (measure_of c.args.clearance) c.args.depth c.args.curves.now (Ok c.in-Ok.trees) =
     subst (λ (m : Measure). GivesTrees m c.args.depth c.args.curves.now (Ok c.in-Ok.trees)) c.ruler_of.ensures c.in-Ok.ensures in
-    (none_blocked c.args.settings c.args.depth c.args.curves.now (slots_in c.args.curves.now) found.0, found.1)
+    (none_blocked c.args.clearance c.args.depth c.args.curves.now (slots_in c.args.curves.now) found.0, found.1)
 
 pub returns-in-Err : goal.returns-in-Err
 returns-in-Err c =
-    let stops : GivesTrees (measure_of c.args.settings) c.args.depth c.args.curves.now (Err c.in-Err.fault) =
+    let stops : GivesTrees (measure_of c.args.clearance) c.args.depth c.args.curves.now (Err c.in-Err.fault) =
     subst (λ (m : Measure). GivesTrees m c.args.depth c.args.curves.now (Err c.in-Err.fault)) c.ruler_of.ensures c.in-Err.ensures in
-    rw c.plan_fault.ensures (stopped_by c.args.settings c.args.depth c.args.curves.now (slots_in c.args.curves.now) c.in-Err.fault stops)
+    rw c.plan_fault.ensures (stopped_by c.args.clearance c.args.depth c.args.curves.now (slots_in c.args.curves.now) c.in-Err.fault stops)

@@ -14,8 +14,8 @@ pub returns-clause-gives : goal.returns-clause-gives
 returns-clause-gives g c =
     let coming = stream c.args.parts.now (g.S.Source.left c.args.source.now) in
     let taken : TakenGives c.in_ok-curves.curves coming c.take_second.new.checker (Whole c.in-Whole.marker) = rw c.in-Whole.is at c.in-Ok.ensures.gives in
-    whole_gives c.args.fitted.now c.in_ok-curves.curves c.take_second.new.checker.r c.take_second.new.checker.h coming taken.0 c.in-Whole.marker c.end-verdict.result
-    (c.in_ok-curves.ensures.exact ∙ ap raised_of c.as_slice.ensures) (c.take_second.ensures.axes.0 ∙ c.make-checker.ensures.axes.0) (c.take_second.ensures.axes.1 ∙ c.make-checker.ensures.axes.1)
+    whole_gives c.args.fitted.now c.in_ok-curves.curves c.take_second.new.checker.clearance coming taken.0 c.in-Whole.marker c.end-verdict.result
+    (c.in_ok-curves.ensures.exact ∙ ap raised_of c.as_slice.ensures) (c.take_second.ensures.clearance ∙ c.make-checker.ensures.clearance ∙ c.clearance_of.ensures.exact)
     taken.1 (c.end-verdict.ensures.gives taken.0 taken.1 taken.2) taken.3 (outcome_of c.judge.result) c.judge.ensures.gives
 
 pub returns-in-TooLarge-clause-both : goal.returns-in-TooLarge-clause-both

@@ -11,8 +11,7 @@ bytes-init g c = record {
   feeds = record { fed = []; count = refl; has_read = c.requires.unfed; number_is = refl; is_fed = fed_none c.part_law.ensures _ _ c.requires.at_line };
   most = omega arith;
   small = omega arith;
-  r = refl;
-  h = refl;
+  clearance = refl;
   sound = c.requires.sound;
   lines = c.requires.lines;
   at_end = c.requires.at_end;
@@ -41,8 +40,7 @@ bytes-preserved g c =
       };
       most = omega arith;
       small = omega (arith, c.line_after-line.ensures.most);
-      r = c.feed.ensures.axes.0 ∙ c.bytes.invariant.r;
-      h = c.feed.ensures.axes.1 ∙ c.bytes.invariant.h;
+      clearance = c.feed.ensures.clearance ∙ c.bytes.invariant.clearance;
       sound = c.in_ok-ask.ensures.sound;
       lines = c.part_byte.ensures.lines ∙ c.bytes.invariant.lines;
       at_end = c.part_byte.ensures.at_end;

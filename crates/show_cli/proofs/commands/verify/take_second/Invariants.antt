@@ -11,8 +11,7 @@ invariant-bytes g l = record {
   feeds : Feeds l.curves (stream l.initial.parts (g.S.Source.left l.initial.source)) l.count l.checker l.parts.at_line (stream l.parts (g.S.Source.left l.source)) l.line;
   most : l.count ≤ 400000000;
   small : l.line ≤ 1 + l.count;
-  r : l.checker.r ≡ l.initial.checker.r;
-  h : l.checker.h ≡ l.initial.checker.h;
+  clearance : l.checker.clearance ≡ l.initial.checker.clearance;
   sound : IsTrue l.parts.sound;
   lines : IsTrue l.parts.lines;
   at_end : IsTrue l.parts.ended → IsAtEnd (g.S.Source.left l.source);

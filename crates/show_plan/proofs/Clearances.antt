@@ -1,0 +1,73 @@
+-- The clearance of a show that fits.
+use Rattle.std.proofs.Common.{◌≡◌, ℕ, zero, suc, ◌≤◌, arith, sym, ap, subst, ◌∙◌, List, [], ◌∷◌, length, All}
+use Rattle.std.proofs.lemmas.List.Elements.{All-nil, All-cons, All-head, All-tail}
+use Rattle.traj_codec.specs.declared.traj.Segment.{Segment}
+use Rattle.traj_codec.specs.declared.traj.Traj.{Traj}
+use Rattle.traj_codec.specs.Spelling.{HasDuration, IsTrajectory}
+use Rattle.traj_codec.specs.Positions.{durations}
+use Rattle.fleet_curves.proofs.Standing.{length-durations}
+use Rattle.sep_parts.specs.declared.clearance.Clearance.{Clearance}
+use Rattle.sep_parts.specs.Apart.{KeepReach, MovesWithin}
+use Rattle.sep_parts.specs.Directions.{IsClearance, reach_on}
+use Rattle.speed_bound.specs.Reach.{IsMoving, ReachLaw, reach_of}
+use Rattle.speed_bound.proofs.Reaches.{reach_few}
+use Rattle.choreo_reader.specs.declared.show.Settings.{Settings}
+use Rattle.choreo_reader.specs.Valid.{FitsSettings}
+use Rattle.show_plan.specs.declared.fitted.Fitted.{Fitted}
+use Rattle.show_plan.specs.Fitting.{IsValidFitted}
+use Rattle.show_plan.specs.Separation.{clearance_of, reach_depth}
+
+lasting : (segments : List Segment) → All (λ ms. 1 ≤ ms) (durations segments) → All HasDuration segments
+lasting [] all = All-nil HasDuration
+lasting (s ∷ rest) all = All-cons HasDuration s rest (All-head (λ (ms : ℕ). 1 ≤ ms) s.ms (durations rest) all) (lasting rest (All-tail (λ (ms : ℕ). 1 ≤ ms) s.ms (durations rest) all))
+
+all_moving : (times : List ℕ) → 1 ≤ length times → All (λ ms. 1 ≤ ms) times → (ts : List Traj) → All (λ (t : Traj). durations t.segments ≡ times) ts → All IsTrajectory ts → All IsMoving ts
+all_moving times some last [] same formed = All-nil IsMoving
+all_moving times some last (t ∷ ts) same formed =
+    let is : durations t.segments ≡ times = All-head (λ (t : Traj). durations t.segments ≡ times) t ts same in
+    All-cons IsMoving t ts
+    (record {
+      formed = All-head IsTrajectory t ts formed;
+      some = omega (arith, some, ap (λ (ns : List ℕ). length ns) is, length-durations t.segments);
+      lasting = lasting t.segments (subst (λ (ns : List ℕ). All (λ ms. 1 ≤ ms) ns) (sym is) last);
+    })
+    (all_moving times some last ts (All-tail (λ (t : Traj). durations t.segments ≡ times) t ts same) (All-tail IsTrajectory t ts formed))
+
+pub moving : (f : Fitted) → IsValidFitted f → All IsMoving f.trajs
+moving f valid = all_moving valid.times (omega (arith, valid.times_counted, valid.some_cue)) valid.last f.trajs valid.lasting valid.formed
+
+pub is_clearance : (e : Settings) (trajs : List Traj) → FitsSettings e → IsClearance (clearance_of e trajs)
+unfolding clearance_of
+is_clearance e trajs fits = record { across = (fits.2, fits.3); upwards = (fits.4, fits.5); stray = fits.6; reach = few }
+  where
+    few : (axis : ℕ) → reach_on (clearance_of e trajs) axis ≤ 65536
+    few zero = reach_few reach_depth e.late trajs 0
+    few (suc zero) = reach_few reach_depth e.late trajs 1
+    few (suc (suc zero)) = reach_few reach_depth e.late trajs 2
+    few (suc (suc (suc k))) = omega arith
+
+pub keep_reach : (e : Settings) (trajs : List Traj) → ReachLaw → All IsMoving trajs → KeepReach (clearance_of e trajs) trajs
+unfolding clearance_of
+keep_reach e trajs law moving = all trajs (law reach_depth e.late trajs moving)
+  where
+    all : (ts : List Traj) → All (λ t. (axis : ℕ) → axis ≤ 2 → MovesWithin e.late (reach_of reach_depth e.late trajs axis) t axis) ts →
+        All (λ t. (axis : ℕ) → axis ≤ 2 → MovesWithin e.late (reach_on (clearance_of e trajs) axis) t axis) ts
+    all [] h = All-nil _
+    all (t ∷ ts) h =
+        All-cons (λ (t : Traj). (axis : ℕ) → axis ≤ 2 → MovesWithin e.late (reach_on (clearance_of e trajs) axis) t axis) t ts
+        (one t (All-head (λ (t : Traj). (axis : ℕ) → axis ≤ 2 → MovesWithin e.late (reach_of reach_depth e.late trajs axis) t axis) t ts h))
+        (all ts (All-tail (λ (t : Traj). (axis : ℕ) → axis ≤ 2 → MovesWithin e.late (reach_of reach_depth e.late trajs axis) t axis) t ts h))
+      where
+        one : (t : Traj) → ((axis : ℕ) → axis ≤ 2 → MovesWithin e.late (reach_of reach_depth e.late trajs axis) t axis) → (axis : ℕ) → axis ≤ 2 → MovesWithin e.late (reach_on (clearance_of e trajs) axis) t axis
+        one t h zero near = h 0 near
+        one t h (suc zero) near = h 1 near
+        one t h (suc (suc zero)) near = h 2 near
+        one t h (suc (suc (suc k))) near = absurd (omega arith)
+
+-- with the reach that is computed
+pub exactly : (e : Settings) (trajs ts : List Traj) (rs : List ℕ) → rs ≡ reach_of reach_depth e.late ts 0 ∷ reach_of reach_depth e.late ts 1 ∷ reach_of reach_depth e.late ts 2 ∷ [] → ts ≡ trajs →
+    ◌≡◌ {A = Clearance} (record { r = e.r; h = e.h; stray = e.stray; late = e.late; reach = rs }) (clearance_of e trajs)
+unfolding clearance_of
+exactly e trajs ts rs is same =
+    ap (λ (xs : List ℕ). record { r = e.r; h = e.h; stray = e.stray; late = e.late; reach = xs })
+    (is ∙ ap (λ (us : List Traj). reach_of reach_depth e.late us 0 ∷ reach_of reach_depth e.late us 1 ∷ reach_of reach_depth e.late us 2 ∷ []) same)
