@@ -26,6 +26,7 @@ AXES = ["x", "y", "z", "yaw"]
 # The slots of a line after its first word: a name, one or more names, the limits of a number, or a set of fixed words.
 LINES = {
     "memory": [(0, 255), (0, 4095)], "trajectory": [(0, 9)], "ellipsoid": [(1, 2000), (1, 2000)],
+    "stray": [(0, 1000)], "late": [(0, 1000)],
     "drone": ["name", *POINT, YAW], "formation": ["name"], "at": ["name", *POINT, YAW], "figure": ["name", "names"],
     "cue": [(1, LONGEST_SEGMENT)], "repeat": [(1, 1000000000)],
     "perform": ["name", {"none", "x", "y"}, (0, 3), *POINT, "names"],
@@ -33,7 +34,7 @@ LINES = {
 }
 ACTS = {"hold": [], "line": [*POINT, YAW], "move": [*POINT, YAW], "turn": [YAW],
         "arc": [{"ccw", "cw"}, COORDINATE, COORDINATE, YAW], "curve": [*POINT * 3, YAW]}
-SETTINGS = ["memory", "trajectory", "ellipsoid"]
+SETTINGS = ["memory", "trajectory", "ellipsoid", "stray", "late"]
 PLAYED = ["cue", "repeat", "perform"]
 PLACES = {"top": [*SETTINGS, "drone", "formation", "figure", *PLAYED], "formation": ["at", "end"],
           "figure": ["cue", "repeat", "end"], "repeat": [*PLAYED, "end"], "cue": ["form", "end"]}
@@ -165,7 +166,7 @@ class Show:
         self.names = [line.values[0] for line in self.drones]
         self.body = [line for line in top.body if line.kind in PLAYED]
         self.formations, self.figures = firsts("formation"), firsts("figure")
-        self.settings = {"memory": [2, 0], "trajectory": [0], "ellipsoid": [120, 300]}
+        self.settings = {"memory": [2, 0], "trajectory": [0], "ellipsoid": [120, 300], "stray": [0], "late": [0]}
         self.settings.update((line.kind, line.values) for line in top.body if line.kind in SETTINGS)
 
 

@@ -138,9 +138,10 @@ def micrometres(v):
 class Show:
     """A show that is being written."""
 
-    def __init__(self, comment="", ellipsoid=None, memory=None, trajectory=None):
+    def __init__(self, comment="", ellipsoid=None, memory=None, trajectory=None, stray=None, late=None):
         self.lines = ["# " + line for line in comment.split("\n") if line] + ["choreo 1"]
-        for kind, values in (("ellipsoid", ellipsoid), ("memory", memory), ("trajectory", trajectory and [trajectory])):
+        for kind, values in (("ellipsoid", ellipsoid), ("memory", memory), ("trajectory", trajectory and [trajectory]),
+                             ("stray", stray and [stray]), ("late", late and [late])):
             if values:
                 self.lines.append("%s %s" % (kind, " ".join("%d" % v for v in values)))
         self.places, self.yaws = {}, {}

@@ -55,13 +55,44 @@ def cut(part):
     return [left for left, _ in pairs], [right for _, right in pairs]
 
 
-class Ruler:
-    """The directions of a version with their weights and thresholds, for half axes r and h."""
+# ---- how far a drone moves while it is late
 
-    def __init__(self, r, h, version=2):
+FARTHEST = 65536  # no two positions are farther apart on an axis, in millimetres
+REACH_DEPTH = 6   # by parts of this depth speeds are bounded
+
+
+def speed(milliseconds, b):
+    """How fast a segment is at most on an axis, in micrometres per second, by its parts."""
+    parts = [raised(b)]
+    for _ in range(REACH_DEPTH):
+        parts = [half for part in parts for half in halves(part)]
+    step = max(abs(v - u) for part in parts for u, v in zip(part, part[1:]))
+    return -(-7000000 * 2 ** REACH_DEPTH * step // (5040 * 2 ** (7 * REACH_DEPTH) * milliseconds))
+
+
+def reach_of(flown):
+    """How many millimetres any drone moves on x, y and z at most in the time by which one may be late."""
+    (late,) = flown.show.settings["late"]
+    if not late:
+        return 0, 0, 0
+    fastest = [max(speed(ms, elements[axis]) for flight in flown.by_cue for ms, elements in flight) for axis in range(3)]
+    return tuple(min(FARTHEST, -(-late * v // 1000000)) for v in fastest)
+
+
+class Ruler:
+    """The directions of a version with their weights and thresholds, for half axes r and h, a stray and a reach."""
+
+    def __init__(self, r, h, version=2, stray=0, reach=(0, 0, 0)):
         self.r, self.h, self.version = r, h, version
         self.weights = [(x * h, y * h, z * r) for x, y, z in TABLES[version]]
-        self.thresholds = [5040 * (isqrt(4 * r * r * h * h * sum(v * v for v in n)) + 1) for n in TABLES[version]]
+        self.thresholds = []
+        for n, w in zip(TABLES[version], self.weights):
+            strays = 4 * stray * stray * sum(v * v for v in w)
+            self.thresholds.append(5040 * (
+                isqrt(4 * r * r * h * h * sum(v * v for v in n)) + 1
+                + (isqrt(strays - 1) + 1 if strays else 0) + sum(abs(v) * far for v, far in zip(w, reach))))
+        axes = [TABLES[version].index(n) for n in ((1, 0, 0), (0, 1, 0), (0, 0, 1))]
+        self.axes = [(max(self.weights[k]), self.thresholds[k] // 5040) for k in axes]
 
     def low_control(self, part, depth, number):
         """The first of the eight control values that is below the threshold of a direction, or None."""
@@ -109,11 +140,17 @@ def blocked(part, ruler, most, depth=0, index=0, hint=0):
     return blocked(right, ruler, most, depth + 1, 2 * index + 1, hint) if found is None else found
 
 
-def are_far(first, second, r, h):
+def ruler_of(flown, version=2):
+    """The ruler of a show."""
+    (stray,) = flown.show.settings["stray"]
+    return Ruler(*flown.show.settings["ellipsoid"], version, stray, reach_of(flown))
+
+
+def are_far(first, second, ruler):
     """Whether the boxes around two curves are so far apart along one axis that this axis' direction separates the whole
     cue."""
-    for a, b, reach in zip(first, second, (2 * r, 2 * r, 2 * h)):
-        if max(min(b) - max(a), min(a) - max(b)) > reach:
+    for a, b, (weight, least) in zip(first, second, ruler.axes):
+        if weight * max(min(b) - max(a), min(a) - max(b)) >= least:
             return True
     return False
 
@@ -127,11 +164,10 @@ def slots(flown):
 
 def blocked_places(flown, depth, version=2):
     """Each pair and cue that has a part without a direction, as (first, second, cue, first such part), all from 0."""
-    r, h = flown.show.settings["ellipsoid"]
-    ruler = Ruler(r, h, version)
+    ruler = ruler_of(flown, version)
     for i, j, cue in slots(flown):
         first, second = flown.by_cue[i][cue][1], flown.by_cue[j][cue][1]
-        if not are_far(first, second, r, h):
+        if not are_far(first, second, ruler):
             index = blocked(difference(first, second), ruler, depth)
             if index is not None:
                 yield i, j, cue, index
@@ -153,8 +189,7 @@ def head(version, depth):
 
 def certificate(flown, depth, version=2):
     """The text of the certificate with the largest leaves of a show that isn't refused at this depth."""
-    r, h = flown.show.settings["ellipsoid"]
-    ruler = Ruler(r, h, version)
+    ruler = ruler_of(flown, version)
     lines = [tree(difference(flown.by_cue[i][c][1], flown.by_cue[j][c][1]), ruler, depth) for i, j, c in slots(flown)]
     return head(version, depth) + "".join(line + "\n" for line in lines)
 
@@ -220,8 +255,7 @@ def tree_fault(part, nodes, ruler, most):
 def judge_certificate(flown, text):
     """The line of `verify` on a certificate's text, or a refusal 11 or 12."""
     version, depth, trees = read_certificate(text)
-    r, h = flown.show.settings["ellipsoid"]
-    ruler, places = Ruler(r, h, version), list(slots(flown))
+    ruler, places = ruler_of(flown, version), list(slots(flown))
     for k, nodes in enumerate(trees):
         if k == len(places):
             raise Refused(12, "extra line %d" % (k + 1 + version), "extra tree")
