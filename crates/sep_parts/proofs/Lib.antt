@@ -18,4 +18,5 @@ pub mod Sizes
 pub mod Rulers
 pub mod Instants
 pub mod PartBounds
+pub mod Entries
 pub mod NarrowLemmas

@@ -105,3 +105,8 @@ ends_and_others f least zeroth last first second third fourth fifth sixth (suc (
 pub reach_same : (diff : List (Bez 8)) (w v : List ℤ) (x y : ℤ) (b : Bool) → w ≡ v → x ≡ y → IsTrue b ↔ ((k : ℕ) → k ≤ 7 → x ≤ℤ along_value diff w k) → IsTrue b ↔ ((k : ℕ) → k ≤ 7 → y ≤ℤ along_value diff v k)
 reach_same diff w v x y b p q same =
     subst (λ (z : ℤ). IsTrue b ↔ ((k : ℕ) → k ≤ 7 → z ≤ℤ along_value diff v k)) q (subst (λ (u : List ℤ). IsTrue b ↔ ((k : ℕ) → k ≤ 7 → x ≤ℤ along_value diff u k)) p same)
+
+-- where one of eight values is below a number, not each of them reaches it
+pub one_refuses : (f : ℕ → ℤ) (least told : ℤ) (k : ℕ) → told ≡ least → k ≤ 7 → (told ≤ℤ f k → IsTrue false)
+    → IsTrue false ↔ ((k : ℕ) → k ≤ 7 → least ≤ℤ f k)
+one_refuses f least told k is small low = (λ no k small. absurd (cc no), λ above. low (rw is (above k small)))
