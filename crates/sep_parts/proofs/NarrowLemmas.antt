@@ -46,3 +46,30 @@ reach_told least sum along is = (λ yes. omega (arith, ints, yes, is), λ above.
     go : (b : Bool) → le_z least sum ≡ b → least ≤ℤ along → b ≡ true
     go true e above = refl
     go false e above = absurd (omega (arith, ints, e, is, above))
+
+-- ---- parts that are halved at most four times
+pub short_product : (w x : ℤ) → IsBelow 4001 w → IsBelow (2 ^ 58) x → IsBelow (2 ^ 70) (w *ℤ x)
+short_product w x small below =
+    let m : unsigned_abs (w *ℤ x) ≤ 4000 * (2 ^ 58) = rw (unsigned_abs-mul w x) (mul-le (unsigned_abs w) (unsigned_abs x) 4000 (2 ^ 58) (omega (arith, ints)) (omega (arith, ints))) in
+    (omega (arith, ints), omega (arith, ints))
+
+pub short_value : (x : ℤ) → IsBelow (2 ^ 58) x → FitsSigned w64 x
+short_value x below = omega (arith, ints)
+
+pub short_value_fits : (x : ℤ) → IsBelow (2 ^ 58) x → FitsSigned w128 x
+short_value_fits x below = omega (arith, ints)
+
+pub short_fits : (x : ℤ) → IsBelow (2 ^ 70) x → FitsSigned w128 x
+short_fits x below = omega (arith, ints)
+
+-- a product of two numbers of 64 bits
+pub short_told : (p q w x : ℤ) → p ≡ w → q ≡ x → IsBelow 4001 w → IsBelow (2 ^ 58) x → to_z w128 (of_z w128 (to_z w128 (of_z w128 p) *ℤ to_z w128 (of_z w128 q))) ≡ w *ℤ x
+short_told p q w x p_is q_is small below =
+    let w_fits : FitsSigned w128 w = omega (arith, ints) in
+    let x_fits : FitsSigned w128 x = short_value_fits x below in
+    let fits : FitsSigned w128 (w *ℤ x) = short_fits (w *ℤ x) (short_product w x small below) in
+    rw (p_is, q_is, to_z-of_z w128 w w_fits, to_z-of_z w128 x x_fits) (to_z-of_z w128 (w *ℤ x) fits)
+
+-- three such products and their sum fit
+pub short_sum : (x y z : ℤ) → IsBelow (2 ^ 70) x → IsBelow (2 ^ 70) y → IsBelow (2 ^ 70) z → FitsSigned w128 (x +ℤ y) × FitsSigned w128 (x +ℤ y +ℤ z)
+short_sum x y z p q r = (omega (arith, ints), omega (arith, ints))

@@ -87,6 +87,26 @@ level_narrow diff level shallow is small =
         (below_narrow (2 ^ (7 * level.place.depth)) (part_value level.place.depth level.place.index (at (controls diff axis)) k) (pow-le-pow_right {n = 2} (lit< tt) shift)
         (part-within level.place.depth level.place.index k (at (controls diff axis)) (pos (2 ^ 30 - 1)) is.place.1 few (λ i near. within_of (at (controls diff axis) i) (controls_below (2 ^ 30) diff axis i (lit< tt) small)))))
 
+-- the values of a part that is halved at most four times
+below_short : (p : ℕ) (x : ℤ) → p ≤ 2 ^ 28 → IsWithin (pos p *ℤ pos (2 ^ 30 - 1)) x → IsBelow (2 ^ 58) x
+below_short p x few within = (omega (arith, ints), omega (arith, ints))
+
+pub level_short : (diff : List (Bez 8)) (level : Level) → level.place.depth ≤ 4 → IsLevel diff level → All (λ (curve : Bez 8). All (IsBelow (2 ^ 30)) curve.b) diff →
+    All (λ (curve : Bez 8). All (IsBelow (2 ^ 58)) curve.b) level.part
+level_short diff level shallow is small =
+    All-from_get_or (λ (curve : Bez 8). All (IsBelow (2 ^ 58)) curve.b) level.part (record { b = [] })
+    (λ axis inside. All-from_get_or (IsBelow (2 ^ 58)) (controls level.part axis) (pos 0) (λ k low. one axis k inside low))
+  where
+    one : (axis k : ℕ) → axis < length level.part → k < length (controls level.part axis) → IsBelow (2 ^ 58) (at (controls level.part axis) k)
+    one axis k inside low =
+        let axis_is : axis ≤ 2 = omega (arith, is.axes) in
+        let values : controls level.part axis ≡ eight (part_value level.place.depth level.place.index (at (controls diff axis))) = is.part axis axis_is in
+        let few : k ≤ 7 = omega (arith, ap (λ (xs : List ℤ). length xs) values) in
+        let shift : 7 * level.place.depth ≤ 28 = omega arith in
+        rw values (rw (at-eight (part_value level.place.depth level.place.index (at (controls diff axis))) k few)
+        (below_short (2 ^ (7 * level.place.depth)) (part_value level.place.depth level.place.index (at (controls diff axis)) k) (pow-le-pow_right {n = 2} (lit< tt) shift)
+        (part-within level.place.depth level.place.index k (at (controls diff axis)) (pos (2 ^ 30 - 1)) is.place.1 few (λ i near. within_of (at (controls diff axis) i) (controls_below (2 ^ 30) diff axis i (lit< tt) small)))))
+
 -- ---- halves
 half-part : (e m r : ℕ) (f : ℕ → ℤ) (b : List ℤ) → r ≤ 1 → b ≡ eight (part_value e m f) → eight (part_value 1 r (at b)) ≡ eight (part_value (e + 1) (2 * m + r) f)
 half-part e m r f b small is =

@@ -1,5 +1,5 @@
 -- The directions along which two drones are told apart, and how far apart they must be along each.
-use Rattle.std.specs.Prelude.{◌≡◌, ◌⊎◌, ℕ, zero, suc, ◌+◌, ◌*◌, ◌%◌, ◌==◌, ◌≤◌, ℤ, pos, negsuc, neg_ℤ, ◌+ℤ◌, ◌-ℤ◌, ◌*ℤ◌, ◌≤ℤ◌, ◌<ℤ◌, Bool, true, false, not, ◌&&◌, ◌||◌, int_lt, List, [], ◌∷◌, map, filter, flat_map, unsigned_abs, slice_index_or, if◌then◌else◌}
+use Rattle.std.specs.Prelude.{◌≡◌, ◌⊎◌, ℕ, zero, suc, ◌+◌, ◌*◌, ◌%◌, ◌==◌, ◌≤◌, ◌<◌, ℤ, pos, negsuc, neg_ℤ, ◌+ℤ◌, ◌-ℤ◌, ◌*ℤ◌, ◌≤ℤ◌, ◌<ℤ◌, Bool, true, false, not, ◌&&◌, ◌||◌, int_lt, List, [], ◌∷◌, length, map, filter, flat_map, unsigned_abs, slice_index_or, if◌then◌else◌}
 use Rattle.fleet_math.specs.Bernstein.{at}
 use Rattle.sep_parts.specs.declared.clearance.Clearance.{Clearance}
 
@@ -107,6 +107,10 @@ is_closed table = are_closed table table
 -- the direction of a number, counted from 0; past the table no direction
 abbrev pub direction_of : List (List ℤ) → ℕ → List ℤ
 direction_of table dir = slice_index_or table dir []
+
+-- the direction stands in a table
+abbrev pub Stands : List (List ℤ) → List ℤ → Type 0
+Stands table n = (dir : ℕ) × (dir < length table) × (direction_of table dir ≡ n)
 
 -- ---- thresholds
 -- the first number from k on whose square is above v, looking at n numbers

@@ -1,4 +1,4 @@
-//! Parts of the first two halvings, in 64 bits.
+//! Parts of the first halvings, in 64 bits.
 
 ghost use Rattle.std.specs.Prelude.{◌≡◌, ℕ, ◌^◌, ◌≤◌, ◌<◌, ℤ, pos, ◌*ℤ◌, ◌≤ℤ◌, ◌<ℤ◌, All, IsTrue, ◌↔◌};
 ghost use Rattle.fleet_math.specs.Numbers.{IsBelow};
@@ -12,8 +12,12 @@ use bezier_core::Bez;
 /// The greatest depth of a part that is judged in 64 bits.
 pub(crate) const NARROW_DEPTH: u8 = 2;
 
+/// The greatest depth of a part whose control values are kept in 64 bits.
+pub(crate) const SHORT_DEPTH: u8 = 4;
+
 /// What `separates` returns, of a part that is halved at most twice. Its control values are below 2^46, so that 64 bits hold each
 /// weighted sum.
+#[inline(always)]
 pub(crate) fn separates_narrow(
     diff: &[Bez<8>; 3],
     n: [i8; 3],
@@ -38,8 +42,8 @@ pub(crate) fn separates_narrow(
     )
 }
 
-// The weights of the three curves along a direction.
-fn narrow_weights(n: [i8; 3], r: u16, h: u16) -> [i64; 3]
+/// The weights of the three curves along a direction.
+pub(crate) fn narrow_weights(n: [i8; 3], r: u16, h: u16) -> [i64; 3]
     requires entries { AreSmall n }
     requires r { IsAxis r }
     requires h { IsAxis h }
@@ -105,4 +109,70 @@ fn weighted(weight: i64, value: i128) -> i64
     ensures small { IsBelow (2 ^ 58) result }
 {
     weight * (value as i64)
+}
+
+/// What `separates` returns, of a part that is halved at most four times. Its control values are below 2^58, so that 64 bits hold
+/// each, and a weighted sum is that of three products of numbers of 64 bits.
+#[inline(always)]
+pub(crate) fn separates_short(
+    diff: &[Bez<8>; 3],
+    n: [i8; 3],
+    r: u16,
+    h: u16,
+    threshold: i128,
+    depth: u8,
+) -> bool
+    requires values { All (λ curve. All (IsBelow (2 ^ 58)) curve.b) diff.now }
+    requires entries { AreSmall n }
+    requires r { IsAxis r }
+    requires h { IsAxis h }
+    requires positive { pos 0 ≤ℤ threshold }
+    requires small { threshold <ℤ pos (2 ^ 30) }
+    requires depth { depth ≤ 8 }
+    ensures { IsTrue result ↔ ((k : ℕ) → k ≤ 7 → least_value threshold depth ≤ℤ along_value diff.now (weights n r h) k) }
+{
+    all_reach_short(diff, narrow_weights(n, r, h), scaled(threshold, depth))
+}
+
+macro_rules! each_reaches_short {
+    ($diff:expr, $w:expr, $least:expr; $($k:literal)*) => {
+        $(
+            if !reaches_short($diff, $w, $least, $k) {
+                return false;
+            }
+        )*
+    };
+}
+
+// Whether each weighted sum is at least so much, the ends of the curves first.
+fn all_reach_short(diff: &[Bez<8>; 3], w: [i64; 3], least: i128) -> bool
+    requires values { All (λ curve. All (IsBelow (2 ^ 58)) curve.b) diff.now }
+    requires weights { All (IsBelow 4001) w }
+    ensures { IsTrue result ↔ ((k : ℕ) → k ≤ 7 → least ≤ℤ along_value diff.now w k) }
+{
+    each_reaches_short!(diff, w, least; 0 7 1 2 3 4 5 6);
+    true
+}
+
+// Whether one weighted sum is at least so much.
+fn reaches_short(diff: &[Bez<8>; 3], w: [i64; 3], least: i128, k: usize) -> bool
+    requires place { k < 8 }
+    requires values { All (λ curve. All (IsBelow (2 ^ 58)) curve.b) diff.now }
+    requires weights { All (IsBelow 4001) w }
+    ensures { IsTrue result ↔ (least ≤ℤ along_value diff.now w k) }
+{
+    let x = weighted_short(w[0], diff[0].b[k]);
+    let y = weighted_short(w[1], diff[1].b[k]);
+    let z = weighted_short(w[2], diff[2].b[k]);
+    least <= x + y + z
+}
+
+// A value times a weight, both in 64 bits.
+fn weighted_short(weight: i64, value: i128) -> i128
+    requires weight { IsBelow 4001 weight }
+    requires value { IsBelow (2 ^ 58) value }
+    ensures product { result ≡ weight *ℤ value }
+    ensures small { IsBelow (2 ^ 70) result }
+{
+    i128::from(weight) * i128::from(value as i64)
 }

@@ -1,14 +1,14 @@
 //! A table of directions with the threshold of each.
 
-ghost use Rattle.std.specs.Prelude.{◌≡◌, ◌^◌, ◌<◌, ◌≤◌, length, All, is_none};
+ghost use Rattle.std.specs.Prelude.{◌≡◌, ◌^◌, ◌<◌, ◌≤◌, pos, ◌≤ℤ◌, ◌<ℤ◌, length, All, IsTrue, is_none};
 ghost use Rattle.fleet_math.specs.Numbers.{IsBelow};
-ghost use Rattle.sep_parts.specs.Directions.{AreSmall, IsClearance, IsTableSize, direction_of};
+ghost use Rattle.sep_parts.specs.Directions.{AreSmall, IsClearance, IsTableSize, Stands, direction_of, threshold, weights};
 ghost use Rattle.sep_parts.specs.Levels.{IsLevel};
 ghost use Rattle.sep_parts.specs.Separates.{low_value};
 
 use crate::clearance::Clearance;
 use crate::directions::{Dirs, thresholds};
-use crate::narrow::{NARROW_DEPTH, separates_narrow};
+use crate::narrow::{NARROW_DEPTH, SHORT_DEPTH, narrow_weights, separates_narrow, separates_short};
 use crate::part::{low_control, separates};
 use crate::stack::Level;
 use bezier_core::Bez;
@@ -49,6 +49,48 @@ impl<const M: usize> Ruler<M> {
         }
     }
 
+    /// The clearance.
+    pub fn clearance(&self) -> Clearance
+        ensures exact { result ≡ self.now.clearance }
+        ensures clear { IsClearance result }
+    {
+        self.clearance
+    }
+
+    /// The weights of the three curves along the direction with the number `dir`.
+    pub fn weights_along(&self, dir: usize) -> [i64; 3]
+        requires dir { dir < length self.now.directions }
+        ensures exact { result ≡ weights (direction_of self.now.directions dir) self.now.clearance.r self.now.clearance.h }
+        ensures small { All (IsBelow 4001) result }
+    {
+        let directions = self.directions.n.as_slice();
+        narrow_weights(directions[dir], self.clearance.r, self.clearance.h)
+    }
+
+    /// The threshold of the direction with the number `dir`.
+    pub fn threshold_along(&self, dir: usize) -> i128
+        requires dir { dir < length self.now.directions }
+        ensures exact { result ≡ threshold self.now.clearance (direction_of self.now.directions dir) }
+        ensures positive { pos 0 ≤ℤ result }
+        ensures small { result <ℤ pos (2 ^ 30) }
+    {
+        let thresholds = self.thresholds.as_slice();
+        thresholds[dir]
+    }
+
+    /// Whether a direction stands in the table.
+    pub fn has(&self, n: [i8; 3]) -> bool
+        ensures { IsTrue result → Stands self.now.directions n }
+    {
+        let directions = self.directions.n.as_slice();
+        for dir in 0..directions.len() {
+            if directions[dir].as_slice() == n.as_slice() {
+                return true;
+            }
+        }
+        false
+    }
+
     /// How many directions the table has.
     pub fn count(&self) -> usize
         ensures exact { result ≡ length self.now.directions }
@@ -71,6 +113,16 @@ impl<const M: usize> Ruler<M> {
         let Clearance { r, h, .. } = self.clearance;
         if level.place.depth <= NARROW_DEPTH {
             return separates_narrow(
+                &level.part,
+                directions[dir],
+                r,
+                h,
+                thresholds[dir],
+                level.place.depth,
+            );
+        }
+        if level.place.depth <= SHORT_DEPTH {
+            return separates_short(
                 &level.part,
                 directions[dir],
                 r,

@@ -1,5 +1,5 @@
 use Rattle.std.proofs.Common.{◌<◌, length, sym}
-use Rattle.sep_parts.proofs.Parts.{level_narrow, level_small}
+use Rattle.sep_parts.proofs.Parts.{level_narrow, level_short, level_small}
 use Rattle.sep_parts.proofs.Rulers.{positive, small, none_low}
 use Rattle.sep_parts.proofs.ruler.Ruler.separates.Goals as goal
 
@@ -42,3 +42,23 @@ returns-then-level-le-NARROW_DEPTH g c =
     rw (sym c.self.view_is)
     (none_low c.self.inside.directions.n c.self.inside.thresholds c.self.inside.clearance c.args.dir c.self.invariant dir c.args.diff.now c.args.level.now c.separates_narrow.result c.requires.level
     (rw (c.as_slice-thresholds.ensures, c.as_slice-directions.ensures) at c.separates_narrow.ensures))
+
+pub separates_short-requires-clause-values : goal.separates_short-requires-clause-values
+separates_short-requires-clause-values g c = level_short c.args.diff.now c.args.level.now c.if-level-le-SHORT_DEPTH.true c.requires.level c.requires.values
+
+pub separates_short-requires-clause-positive : goal.separates_short-requires-clause-positive
+separates_short-requires-clause-positive g c =
+    let dir : c.args.dir < length c.self.inside.directions.n = rw (sym c.self.view_is) at c.requires.dir in
+    rw c.as_slice-thresholds.ensures (positive c.self.inside.directions.n c.self.inside.thresholds c.self.inside.clearance c.args.dir c.self.invariant dir)
+
+pub separates_short-requires-clause-small : goal.separates_short-requires-clause-small
+separates_short-requires-clause-small g c =
+    let dir : c.args.dir < length c.self.inside.directions.n = rw (sym c.self.view_is) at c.requires.dir in
+    rw c.as_slice-thresholds.ensures (small c.self.inside.directions.n c.self.inside.thresholds c.self.inside.clearance c.args.dir c.self.invariant dir)
+
+pub returns-then-level-le-SHORT_DEPTH : goal.returns-then-level-le-SHORT_DEPTH
+returns-then-level-le-SHORT_DEPTH g c =
+    let dir : c.args.dir < length c.self.inside.directions.n = rw (sym c.self.view_is) at c.requires.dir in
+    rw (sym c.self.view_is)
+    (none_low c.self.inside.directions.n c.self.inside.thresholds c.self.inside.clearance c.args.dir c.self.invariant dir c.args.diff.now c.args.level.now c.separates_short.result c.requires.level
+    (rw (c.as_slice-thresholds.ensures, c.as_slice-directions.ensures) at c.separates_short.ensures))

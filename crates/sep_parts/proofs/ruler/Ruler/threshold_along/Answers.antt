@@ -1,0 +1,13 @@
+use Rattle.std.proofs.Common.{◌<◌, length, sym}
+use Rattle.sep_parts.proofs.Rulers.{positive, small}
+use Rattle.sep_parts.proofs.ruler.Ruler.threshold_along.Goals as goal
+
+pub returns-clause-positive : goal.returns-clause-positive
+returns-clause-positive g c =
+    let dir : c.args.dir < length c.self.inside.directions.n = rw (sym c.self.view_is) at c.requires.dir in
+    rw c.as_slice-thresholds.ensures (positive c.self.inside.directions.n c.self.inside.thresholds c.self.inside.clearance c.args.dir c.self.invariant dir)
+
+pub returns-clause-small : goal.returns-clause-small
+returns-clause-small g c =
+    let dir : c.args.dir < length c.self.inside.directions.n = rw (sym c.self.view_is) at c.requires.dir in
+    rw c.as_slice-thresholds.ensures (small c.self.inside.directions.n c.self.inside.thresholds c.self.inside.clearance c.args.dir c.self.invariant dir)
