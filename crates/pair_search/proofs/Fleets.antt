@@ -1,5 +1,5 @@
 -- The walk over the slots of a fleet: what is found at one of them, and what has been found of those before it.
-use Rattle.std.proofs.Common.{◌≡◌, ℕ, ◌+◌, ◌-◌, ◌*◌, ◌^◌, ◌<◌, ◌≤◌, arith, length, refl, sym, ◌∙◌, ap, subst, List, [], ◌∷◌, ◌++◌, append_assoc, map, Option, Some, None, Ok}
+use Rattle.std.proofs.Common.{◌≡◌, ℕ, ◌+◌, ◌-◌, ◌*◌, ◌^◌, ◌<◌, ◌≤◌, arith, length, refl, sym, ◌∙◌, ap, subst, List, [], ◌∷◌, ◌++◌, append_assoc, map, Option, Some, None, Result, Ok, Err}
 use Rattle.std.specs.Option.{option_map, option_or}
 use Rattle.std.proofs.lemmas.List.Sums.{sum_by-cons}
 use Rattle.bezier_core.specs.declared.Bez.{Bez}
@@ -17,7 +17,7 @@ use Rattle.pair_search.specs.declared.walk.Found.{Found}
 use Rattle.pair_search.specs.declared.walk.Found.TheVariants as found
 use Rattle.pair_search.specs.Search.{SearchGives, first_by}
 use Rattle.pair_search.specs.Fleets.{StopsBy, best_nodes, blocked_in, direction_at, nodes_in, nodes_of}
-use Rattle.pair_search.specs.Steps.{blocked_slot}
+use Rattle.pair_search.specs.Steps.{CountGives, FindsCount, blocked_slot}
 use Rattle.pair_search.proofs.Counted.{nodes_fit}
 
 -- ---- one slot
@@ -53,6 +53,22 @@ module _ (m : Measure) (depth : ℕ) (curves : Raised) (slot : Slot) (diff : Lis
   blocked_found answer index nodes blocked gives =
       let here = searched_slot answer (found.Blocked index) nodes blocked gives in
       ap (option_map (fault.Blocked slot)) here.0
+
+  -- what a count of the slot's differences gives, by its first directions
+  counted_slot : (answer given : Result ℕ ℕ) → answer ≡ given → CountGives (first_by m diff) depth answer → CountGives (direction_at m curves slot) depth given
+  counted_slot answer given same gives =
+      subst (λ (first : Place → Option ℕ). CountGives first depth given) (direction_is m curves slot diff is)
+      (subst (λ (a : Result ℕ ℕ). CountGives (first_by m diff) depth a) same gives)
+
+  -- a count of a tree
+  pub counted_found : (answer : Result ℕ ℕ) (count : ℕ) → answer ≡ Ok count → CountGives (first_by m diff) depth answer → FindsCount m depth curves slot (Ok count)
+  counted_found answer count same gives =
+      let here = counted_slot answer (Ok count) same gives in
+      (ap (option_map (fault.Blocked slot)) here.0, here.1)
+
+  -- a part without a direction in place of one
+  pub uncounted_found : (answer : Result ℕ ℕ) (index : ℕ) → answer ≡ Err index → CountGives (first_by m diff) depth answer → blocked_slot m depth curves slot ≡ Some (fault.Blocked slot index)
+  uncounted_found answer index same gives = ap (option_map (fault.Blocked slot)) (counted_slot answer (Err index) same gives)
 
 -- ---- the walk
 

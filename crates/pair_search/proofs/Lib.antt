@@ -4,3 +4,7 @@ pub mod Trees
 pub mod SearchLaws
 pub mod Counted
 pub mod Fleets
+pub mod Marks
+pub mod Axes
+pub mod LaneLemmas
+pub mod Reaches

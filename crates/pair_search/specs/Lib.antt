@@ -2,3 +2,5 @@ pub mod Search
 pub mod Steps
 pub mod Laws
 pub mod Fleets
+pub mod Extents
+pub mod Lanes

@@ -1,5 +1,5 @@
 -- Words of private steps of the search. No public clause cites them.
-use Rattle.std.specs.Prelude.{◌≡◌, ℕ, nat_lt, List, Option, Some, None, if◌then◌else◌, Result, Ok, Err}
+use Rattle.std.specs.Prelude.{◌≡◌, ℕ, nat_lt, List, length, Option, Some, None, if◌then◌else◌, Result, Ok, Err}
 use Rattle.std.specs.Option.{option_map, option_or}
 use Rattle.std.specs.declared.alloc.AllocError.{AllocError}
 use Rattle.halving.specs.declared.Place.{Place}
@@ -15,7 +15,7 @@ use Rattle.pair_search.specs.declared.walk.Found.TheVariants.{Clear, Blocked}
 use Rattle.pair_search.specs.declared.fleet.SearchFault.{SearchFault}
 use Rattle.pair_search.specs.declared.fleet.SearchFault.TheVariants as fault
 use Rattle.pair_search.specs.Search.{best_tree, blocked_place}
-use Rattle.pair_search.specs.Fleets.{StopsBy, best_nodes, direction_at}
+use Rattle.pair_search.specs.Fleets.{StopsBy, best_nodes, direction_at, nodes_of}
 
 -- The node of a place: a leaf with its first direction, else a split where the place is less deep than the greatest depth.
 abbrev pub node_for : (Place → Option ℕ) → ℕ → Place → Option Node
@@ -35,3 +35,18 @@ blocked_slot m depth curves slot = option_map (fault.Blocked slot) (blocked_plac
 abbrev pub FindsTree : Measure → ℕ → Raised → Slot → List Node → Result (Unit {0}) SearchFault → Type 0
 FindsTree m depth curves slot nodes (Ok found) = (blocked_slot m depth curves slot ≡ None) × (nodes ≡ best_nodes m depth curves slot)
 FindsTree m depth curves slot nodes (Err f) = StopsBy (blocked_slot m depth curves slot) f
+
+-- ---- a count of nodes, with no direction named
+-- whether a place has a first direction, and not which one
+abbrev pub marked : (Place → Option ℕ) → Place → Option ℕ
+marked first place = option_map (λ dir. 0) (first place)
+
+-- How many nodes the best tree has, where no part is blocked; else the first part that is.
+abbrev pub CountGives : (Place → Option ℕ) → ℕ → Result ℕ ℕ → Type 0
+CountGives first depth (Ok count) = (blocked_place first depth ≡ None) × (count ≡ length (nodes_of (best_tree first depth root)))
+CountGives first depth (Err index) = blocked_place first depth ≡ Some index
+
+-- how many nodes the tree of a slot has
+abbrev pub FindsCount : Measure → ℕ → Raised → Slot → Result ℕ SearchFault → Type 0
+FindsCount m depth curves slot (Ok count) = (blocked_slot m depth curves slot ≡ None) × (count ≡ length (best_nodes m depth curves slot))
+FindsCount m depth curves slot (Err f) = StopsBy (blocked_slot m depth curves slot) f

@@ -1,14 +1,25 @@
 //! The search of a fleet: each pair of drones in each cue.
 
-ghost use Rattle.std.specs.Prelude.{◌≡◌, ◌≤◌, []};
+ghost use Rattle.std.specs.Prelude.{◌≡◌, ◌^◌, ◌≤◌, [], All, IsTrue, OnOk};
+ghost use Rattle.fleet_math.specs.Numbers.{IsBelow};
 ghost use Rattle.sep_parts.specs.Slots.{IsSlot};
+ghost use Rattle.sep_parts.specs.Levels.{root};
+ghost use Rattle.fleet_curves.specs.Raised.{difference};
+ghost use Rattle.pair_search.specs.Extents.{AreExtents, HasAxes};
 ghost use Rattle.pair_search.specs.Fleets.{GivesCount, GivesTrees};
-ghost use Rattle.pair_search.specs.Steps.{FindsTree};
+ghost use Rattle.pair_search.specs.Lanes.{AreLanes};
+ghost use Rattle.pair_search.specs.Search.{HasDirection};
+ghost use Rattle.pair_search.specs.Steps.{FindsCount, FindsTree};
 
-use crate::walk::{Found, search_with};
+use crate::extents::{Extent, are_far, extent_at, extents_of, has_axes};
+use crate::lanes::{Lanes, lanes_of};
+use crate::shape::count_with;
+use crate::walk::{Found, search_by};
+use bezier_core::Bez;
 use fleet_curves::Curves;
+use halving::Place;
 use listed::Listed;
-use sep_parts::{Node, Ruler, Slot};
+use sep_parts::{Level, Node, Ruler, Slot, Stack};
 use std::alloc::{AllocError, Global};
 
 /// Why a search of a fleet finds no trees.
@@ -32,10 +43,20 @@ impl From<AllocError> for SearchFault {
     }
 }
 
+// The curves of the second drone of a slot less those of the first, in its cue.
+fn difference_of(curves: &Curves, slot: Slot) -> [Bez<8>; 3]
+    requires slot { IsSlot curves.now.drones curves.now.cues slot }
+    ensures exact { result ≡ difference curves.now slot.a slot.b slot.cue }
+    ensures small { All (λ curve. All (IsBelow (2 ^ 30)) curve.b) result }
+{
+    curves.diff(slot.a as usize, slot.b as usize, slot.cue as usize)
+}
+
 // The nodes of a slot's tree, put into `nodes`, which is empty before; or the first part of its cue that no direction separates.
 fn tree_of<const M: usize>(
     curves: &Curves,
     ruler: &Ruler<M>,
+    lanes: &Lanes,
     depth: u8,
     slot: Slot,
     nodes: &mut Vec<Node>,
@@ -43,10 +64,11 @@ fn tree_of<const M: usize>(
     requires depth { depth ≤ 8 }
     requires slot { IsSlot curves.now.drones curves.now.cues slot }
     requires empty { nodes.old.items ≡ [] }
+    requires lanes { AreLanes ruler.now lanes.now }
     ensures { FindsTree ruler.now depth curves.now slot nodes.new.items result }
 {
-    let diff = curves.diff(slot.a as usize, slot.b as usize, slot.cue as usize);
-    match search_with(&diff, ruler, depth, nodes)? {
+    let diff = difference_of(curves, slot);
+    match search_by(&diff, ruler, lanes, depth, nodes)? {
         Found::Clear => Ok(()),
         Found::Blocked { index } => Err(SearchFault::Blocked { slot, index }),
     }
@@ -69,11 +91,12 @@ pub fn search_all<const M: usize>(
 {
     let drones = curves.drones();
     let cues = curves.cues();
+    let lanes = lanes_of(ruler);
     let mut trees = Vec::new(alloc);
     let mut slot = Slot::first();
     while usize::from(slot.b) < drones {
         let mut nodes = Vec::new(alloc);
-        tree_of(curves, ruler, depth, slot, &mut nodes)?;
+        tree_of(curves, ruler, &lanes, depth, slot, &mut nodes)?;
         let Ok(()) = trees.push(Listed::from_vec(nodes)) else {
             return Err(SearchFault::Memory);
         };
@@ -82,8 +105,65 @@ pub fn search_all<const M: usize>(
     Ok(Listed::from_vec(trees))
 }
 
-/// How many nodes the trees of a fleet have: what [`search_all`] returns, counted. One tree is kept at a time. Condition and
-/// refusals as [`search_all`].
+// Whether the drones of a slot are so far apart on an axis that its direction separates the whole cue.
+fn is_far<const M: usize>(curves: &Curves, extents: &[Extent], ruler: &Ruler<M>, slot: Slot) -> bool
+    requires slot { IsSlot curves.now.drones curves.now.cues slot }
+    requires extents { AreExtents curves.now extents.now }
+    requires axes { HasAxes ruler.now.directions }
+    ensures { IsTrue result → HasDirection ruler.now.clearance (difference curves.now slot.a slot.b slot.cue) ruler.now.directions root }
+{
+    let first = extent_at(curves, extents, slot.a as usize, slot.cue as usize);
+    let second = extent_at(curves, extents, slot.b as usize, slot.cue as usize);
+    let clearance = ruler.clearance();
+    are_far(&first, &second, &clearance)
+}
+
+// How many nodes a slot's tree has, or the first part of its cue that no direction separates. `axes` says that the ruler has the
+// directions of the axes, and `hint` and `stack` are as of `count_with`.
+fn count_of<const M: usize>(
+    curves: &Curves,
+    extents: &[Extent],
+    axes: bool,
+    ruler: &Ruler<M>,
+    lanes: &Lanes,
+    depth: u8,
+    slot: Slot,
+    hint: &mut usize,
+    stack: &mut Stack,
+) -> Result<u32, SearchFault>
+    requires depth { depth ≤ 8 }
+    requires slot { IsSlot curves.now.drones curves.now.cues slot }
+    requires extents { AreExtents curves.now extents.now }
+    requires axes { IsTrue axes → HasAxes ruler.now.directions }
+    requires lanes { AreLanes ruler.now lanes.now }
+    requires empty { stack.old ≡ [] }
+    ensures finds { FindsCount ruler.now depth curves.now slot result }
+    ensures empty { OnOk result (stack.new ≡ []) }
+{
+    if axes && is_far(curves, extents, ruler, slot) {
+        return Ok(1);
+    }
+    let diff = difference_of(curves, slot);
+    match count_with(&diff, ruler, lanes, depth, hint, stack) {
+        Ok(count) => Ok(count),
+        Err(index) => Err(SearchFault::Blocked { slot, index }),
+    }
+}
+
+// A stack of no level.
+fn no_levels() -> Stack
+    ensures { result ≡ [] }
+{
+    let mut stack = Stack::of(Level {
+        place: Place { depth: 0, index: 0 },
+        part: [Bez { b: [0; 8] }; 3],
+    });
+    stack.pop();
+    stack
+}
+
+/// How many nodes the trees of a fleet have: what [`search_all`] returns, counted. No tree is kept, and no direction is looked for
+/// where another one separates the part. Condition and refusals as [`search_all`].
 pub fn count_all<const M: usize>(
     alloc: Global,
     curves: &Curves,
@@ -95,13 +175,25 @@ pub fn count_all<const M: usize>(
 {
     let drones = curves.drones();
     let cues = curves.cues();
-    let mut nodes = Vec::new(alloc);
+    let extents = extents_of(alloc, curves)?;
+    let axes = has_axes(ruler);
+    let lanes = lanes_of(ruler);
+    let mut stack = no_levels();
+    let mut hint = 0;
     let mut count = 0;
     let mut slot = Slot::first();
     while usize::from(slot.b) < drones {
-        tree_of(curves, ruler, depth, slot, &mut nodes)?;
-        count += nodes.len() as u32;
-        nodes.clear();
+        count += count_of(
+            curves,
+            extents.as_slice(),
+            axes,
+            ruler,
+            &lanes,
+            depth,
+            slot,
+            &mut hint,
+            &mut stack,
+        )?;
         slot = slot.next(drones, cues);
     }
     Ok(count)

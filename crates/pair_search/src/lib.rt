@@ -10,8 +10,11 @@
 //! what is found.
 #![tactic(auto)]
 
+mod extents;
 mod first;
 mod fleet;
+mod lanes;
+mod shape;
 #[cfg(test)]
 mod tests;
 mod walk;

@@ -6,10 +6,12 @@ ghost use Rattle.sep_parts.specs.Directions.{AreSmall, IsClearance, IsTableSize}
 ghost use Rattle.sep_parts.specs.Levels.{IsLevel, IsStack, places_of, root};
 ghost use Rattle.sep_parts.specs.Trees.{places_below, IsShallow};
 ghost use Rattle.pair_search.specs.Search.{IsClear, SearchGives, first_by, first_direction};
+ghost use Rattle.pair_search.specs.Lanes.{AreLanes};
 ghost use Rattle.pair_search.specs.Laws.{SearchLaw};
 ghost use Rattle.pair_search.specs.Steps.{WalkGives, node_for};
 
 use crate::first::first_direction;
+use crate::lanes::{Lanes, lanes_of};
 use bezier_core::Bez;
 use halving::Place;
 use sep_parts::{Clearance, Dirs, Level, Node, Ruler, Stack, level_halves};
@@ -65,8 +67,27 @@ pub fn search_with<const M: usize>(
     ensures clear { IfOk result (λ found.
         (found ≡ Found.Clear) ↔ IsClear ruler.now.clearance diff.now ruler.now.directions depth) }
 {
+    search_by(diff, ruler, &lanes_of(ruler), depth, nodes)
+}
+
+/// As [`search_with`], with the lanes of the ruler made before.
+pub fn search_by<const M: usize>(
+    diff: &[Bez<8>; 3],
+    ruler: &Ruler<M>,
+    lanes: &Lanes,
+    depth: u8,
+    nodes: &mut Vec<Node>,
+) -> Result<Found, AllocError>
+    requires depth { depth ≤ 8 }
+    requires empty { nodes.old.items ≡ [] }
+    requires values { All (λ curve. All (IsBelow (2 ^ 30)) curve.b) diff.now }
+    requires lanes { AreLanes ruler.now lanes.now }
+    ensures exact { SearchGives (first_by ruler.now diff.now) depth result nodes.new.items }
+    ensures clear { IfOk result (λ found.
+        (found ≡ Found.Clear) ↔ IsClear ruler.now.clearance diff.now ruler.now.directions depth) }
+{
     sizes_law(diff);
-    let answer = walk(diff, ruler, depth, nodes);
+    let answer = walk(diff, ruler, lanes, depth, nodes);
     if !matches!(answer, Ok(Found::Clear)) {
         nodes.clear();
     }
@@ -78,6 +99,7 @@ pub fn search_with<const M: usize>(
 fn walk<const M: usize>(
     diff: &[Bez<8>; 3],
     ruler: &Ruler<M>,
+    lanes: &Lanes,
     depth: u8,
     nodes: &mut Vec<Node>,
 ) -> Result<Found, AllocError>
@@ -85,18 +107,19 @@ fn walk<const M: usize>(
     requires depth { depth ≤ 8 }
     requires sizes { All (λ curve. length curve.b ≡ 8) diff.now }
     requires values { All (λ curve. All (IsBelow (2 ^ 30)) curve.b) diff.now }
+    requires lanes { AreLanes ruler.now lanes.now }
     ensures { WalkGives (first_by ruler.now diff.now) depth result nodes.new.items }
 {
     let whole = Level {
         place: Place { depth: 0, index: 0 },
         part: *diff,
     };
-    match node_for(diff, &whole, ruler, depth) {
+    match node_for(diff, &whole, ruler, lanes, depth) {
         Some(Node::Leaf { dir }) => {
             nodes.push(Node::Leaf { dir })?;
             Ok(Found::Clear)
         }
-        Some(Node::Split) => walk_halves(diff, &whole, ruler, depth, nodes),
+        Some(Node::Split) => walk_halves(diff, &whole, ruler, lanes, depth, nodes),
         None => Ok(Found::Blocked { index: 0 }),
     }
 }
@@ -106,6 +129,7 @@ fn walk_halves<const M: usize>(
     diff: &[Bez<8>; 3],
     whole: &Level,
     ruler: &Ruler<M>,
+    lanes: &Lanes,
     depth: u8,
     nodes: &mut Vec<Node>,
 ) -> Result<Found, AllocError>
@@ -115,6 +139,7 @@ fn walk_halves<const M: usize>(
     requires level { IsLevel diff.now whole.now }
     requires split { node_for (first_by ruler.now diff.now) depth root ≡ Some Node.Split }
     requires values { All (λ curve. All (IsBelow (2 ^ 30)) curve.b) diff.now }
+    requires lanes { AreLanes ruler.now lanes.now }
     ensures { WalkGives (first_by ruler.now diff.now) depth result nodes.new.items }
 {
     nodes.push(Node::Split)?;
@@ -122,7 +147,7 @@ fn walk_halves<const M: usize>(
     let mut stack = Stack::of(right);
     stack.push(left);
     while let Some(level) = stack.pop() {
-        match node_for(diff, &level, ruler, depth) {
+        match node_for(diff, &level, ruler, lanes, depth) {
             Some(node) => put(diff, &mut stack, nodes, &level, node)?,
             None => {
                 return Ok(Found::Blocked {
@@ -139,13 +164,15 @@ fn node_for<const M: usize>(
     diff: &[Bez<8>; 3],
     level: &Level,
     ruler: &Ruler<M>,
+    lanes: &Lanes,
     depth: u8,
 ) -> Option<Node>
     requires level { IsLevel diff.now level.now }
     requires values { All (λ curve. All (IsBelow (2 ^ 30)) curve.b) diff.now }
+    requires lanes { AreLanes ruler.now lanes.now }
     ensures { result ≡ node_for (first_by ruler.now diff.now) depth level.now.place }
 {
-    match first_direction(diff, level, ruler) {
+    match first_direction(diff, level, ruler, lanes) {
         Some(dir) => Some(Node::Leaf { dir }),
         None if level.place.depth < depth => Some(Node::Split),
         None => None,
@@ -182,8 +209,8 @@ pub fn search_law()
     ensures { SearchLaw }
 {}
 
-// A law: each of three curves of degree seven has eight control values.
-fn sizes_law(diff: &[Bez<8>; 3])
+/// A law: each of three curves of degree seven has eight control values.
+pub(crate) fn sizes_law(diff: &[Bez<8>; 3])
     ensures { All (λ curve. length curve.b ≡ 8) diff.now }
 {
     size_law(diff[0].b);

@@ -4,12 +4,12 @@ use Rattle.pair_search.specs.Fleets.{nodes_in, slots_in}
 use Rattle.pair_search.proofs.Fleets.{IsPending, left}
 use Rattle.pair_search.proofs.fleet.count_all.Given as goal
 
--- the slots so far aren't blocked, and their nodes are counted; no node is kept
-abbrev pub invariant-loop-slot : goal.invariant-loop-slot
-invariant-loop-slot g l =
+-- the slots so far aren't blocked, and their nodes are counted; no level waits
+abbrev pub invariant-loop-lanes : goal.invariant-loop-lanes
+invariant-loop-lanes g l =
     (rest : List Slot) × IsPending l.ruler l.depth l.curves l.slot rest
     × (l.count + nodes_in l.ruler l.depth l.curves rest ≡ nodes_in l.ruler l.depth l.curves (slots_in l.curves))
-    × (l.nodes.items ≡ [])
+    × (l.stack ≡ [])
 
-abbrev pub decreases-loop-slot : goal.decreases-loop-slot
-decreases-loop-slot g l = left l.slot
+abbrev pub decreases-loop-lanes : goal.decreases-loop-lanes
+decreases-loop-lanes g l = left l.slot

@@ -1,4 +1,4 @@
-use Rattle.std.proofs.Common.{◌≡◌, ℕ, ◌∷◌, ◌++◌, [], length, sym, ◌∙◌, ap, refl, arith, rules, List, Some}
+use Rattle.std.proofs.Common.{◌≡◌, ◌∷◌, ◌++◌, [], length, sym, ◌∙◌, ap, refl, arith, rules, List, Some}
 use Rattle.std.proofs.lemmas.List.Elements.{All-get_or}
 use Rattle.bezier_core.specs.declared.Bez.{Bez}
 use Rattle.sep_parts.specs.Levels.{root}
@@ -16,13 +16,13 @@ whole diff = record { place = root; part = diff }
 
 pub node_for-requires : goal.node_for-requires
 node_for-requires g c =
-    (search rules, (root_level c.args.diff.now c.told-diff (λ axis small. All-get_or (λ (curve : Bez 8). length curve.b ≡ 8) c.args.diff.now axis (record { b = [] }) (omega arith) c.requires.sizes), c.requires.values))
+    (search rules, (root_level c.args.diff.now c.told-diff (λ axis small. All-get_or (λ (curve : Bez 8). length curve.b ≡ 8) c.args.diff.now axis (record { b = [] }) (omega arith) c.requires.sizes), (c.requires.values, c.requires.lanes)))
 
 pub walk_halves-requires : goal.walk_halves-requires
 walk_halves-requires g c =
     let level = root_level c.args.diff.now c.told-diff (λ axis small. All-get_or (λ (curve : Bez 8). length curve.b ≡ 8) c.args.diff.now axis (record { b = [] }) (omega arith) c.requires.sizes) in
     let split = sym c.node_for.ensures ∙ c.in-Some-Split.is ∙ ap Some c.in-Some-Split.field-0-is in
-    (search rules, (c.requires.empty, (c.requires.depth, (refl, (level, (split, c.requires.values))))))
+    (search rules, (c.requires.empty, (c.requires.depth, (refl, (level, (split, (c.requires.values, c.requires.lanes)))))))
 
 pub returns-in_ok-push-in-Some-Leaf : goal.returns-in_ok-push-in-Some-Leaf
 returns-in_ok-push-in-Some-Leaf g c =

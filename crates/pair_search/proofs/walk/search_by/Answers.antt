@@ -1,5 +1,5 @@
 use Rattle.pair_search.proofs.SearchLaws.{clear_found}
-use Rattle.pair_search.proofs.walk.search_with.Goals as goal
+use Rattle.pair_search.proofs.walk.search_by.Goals as goal
 
 pub returns-then-not-matches-clause-clear : goal.returns-then-not-matches-clause-clear
 returns-then-not-matches-clause-clear g c =

@@ -2,7 +2,7 @@ use Rattle.std.proofs.Common.{[], arith, sym, ◌∙◌, below_more, is_none}
 use Rattle.sep_parts.specs.Separates.{low_value}
 use Rattle.pair_search.specs.Search.{first_direction}
 use Rattle.pair_search.proofs.Firsts.{position-is, position-none}
-use Rattle.pair_search.proofs.first.first_direction.Goals as goal
+use Rattle.pair_search.proofs.first.first_of_all.Goals as goal
 
 pub loop-dir-preserved : goal.loop-dir-preserved
 loop-dir-preserved g c = below_more _ _ c.loop-dir.invariant (sym c.separates.ensures ∙ c.if-separates.false)

@@ -1,0 +1,255 @@
+-- Numbers of lanes, and what they tell of a direction.
+use Rattle.std.proofs.Common.{◌≡◌, ◌≢◌, inl, inr, ℕ, zero, suc, ◌+◌, ◌*◌, ◌^◌, ◌≤◌, ◌<◌, ℤ, pos, negsuc, ◌+ℤ◌, ◌-ℤ◌, ◌*ℤ◌, ◌≤ℤ◌, ◌<ℤ◌, unsigned_abs, FitsSigned, to_z, of_z, arith, refl, sym, ◌∙◌, ap, subst, List, length, get_or-set_other, get_or-set_same, slice_set, replicate, below_more, is_none, false, true, Option, Some, None}
+use lib.Signed.{lt_z}
+use Rattle.std.proofs.lemmas.Int.{ints, unsigned_abs-mul, to_z-of_z}
+use Rattle.std.proofs.lemmas.Nat.{mul-le, pow-add, pow_pos}
+use mir.Syntax.{w32, w64}
+use Rattle.fleet_math.specs.Bernstein.{at}
+use Rattle.fleet_math.specs.Numbers.{IsBelow}
+use Rattle.fleet_math.proofs.BernsteinLemmas.{by_lt}
+use Rattle.sep_parts.specs.declared.clearance.Clearance.{Clearance}
+use Rattle.sep_parts.specs.Directions.{threshold, weights}
+use Rattle.sep_parts.specs.Separates.{least_value, low_value, part_along}
+use Rattle.sep_parts.specs.Levels.{IsLevel}
+use Rattle.sep_parts.specs.declared.stack.Level.{Level}
+use Rattle.sep_parts.proofs.Lows.{first_low-values}
+use Rattle.bezier_core.specs.declared.Bez.{Bez}
+use Rattle.bezier_core.specs.Along.{controls}
+use Rattle.bezier_core.proofs.CurveLemmas.{at-eight}
+use Rattle.halving.specs.Part.{part_value}
+use Rattle.fleet_math.proofs.RingLemmas.{linear, le_mul_pos, mul_add_ℤ, mul_assoc_ℤ, mul_comm_ℤ, mul_left_comm_ℤ, neg_mul_ℤ, one_mul_ℤ}
+use Rattle.bezier_core.specs.Steps.{IsWithin}
+use Rattle.pair_search.specs.declared.lanes.Lanes.{Lanes}
+use Rattle.pair_search.specs.declared.lanes.Point.{Point}
+use Rattle.pair_search.specs.Lanes.{IsLane, IsLowAt, IsPoint, IsSmallLane, lane_value, reach_of, slack_of}
+
+-- ---- sizes
+pub lane_product : (w x : ℤ) → IsBelow 4001 w → IsWithin (pos 65536) x → IsWithin (pos 262144000) (w *ℤ x)
+lane_product w x small within =
+    let m : unsigned_abs (w *ℤ x) ≤ 4000 * 65536 = rw (unsigned_abs-mul w x) (mul-le (unsigned_abs w) (unsigned_abs x) 4000 65536 (omega (arith, ints)) (omega (arith, ints))) in
+    (omega (arith, ints), omega (arith, ints))
+
+pub lane_fits : (x : ℤ) → IsWithin (pos 262144000) x → FitsSigned w32 x
+lane_fits x within = omega (arith, ints)
+
+pub weight_fits : (x : ℤ) → IsBelow 4001 x → FitsSigned w32 x
+weight_fits x small = omega (arith, ints)
+
+pub long_fits : (x : ℤ) → IsBelow 4001 x → FitsSigned w64 x
+long_fits x small = omega (arith, ints)
+
+pub low_fits : (x : ℤ) → IsBelow (2 ^ 29) x → FitsSigned w32 x
+low_fits x small = omega (arith, ints)
+
+pub point_fits : (x : ℤ) → IsWithin (pos 65536) x → FitsSigned w32 x
+point_fits x small = omega (arith, ints)
+
+pub value_fits : (x : ℤ) → IsBelow 800000000 x → FitsSigned w32 x
+value_fits x small = omega (arith, ints)
+
+-- three products
+pub lane_sum : (x y z : ℤ) → IsWithin (pos 262144000) x → IsWithin (pos 262144000) y → IsWithin (pos 262144000) z →
+    FitsSigned w32 (x +ℤ y) × FitsSigned w32 (x +ℤ y +ℤ z) × IsBelow 800000000 (x +ℤ y +ℤ z)
+lane_sum x y z p q r = (omega (arith, ints), omega (arith, ints), (omega (arith, ints), omega (arith, ints)))
+
+-- a lane's value less what it has to reach
+pub less_fits : (a low : ℤ) → IsBelow 800000000 a → IsBelow (2 ^ 29) low → FitsSigned w32 (a -ℤ low)
+less_fits a low p q = omega (arith, ints)
+
+pub below_zero : (a low : ℤ) → (a -ℤ low) <ℤ pos 0 → a <ℤ low
+below_zero a low less = omega (arith, linear, less)
+
+-- ---- what a lane has to reach
+pub low_told : (reach a b c : ℤ) → pos 0 ≤ℤ reach → reach <ℤ pos (2 ^ 29) → (pos 0 ≤ℤ a) × (a <ℤ pos 4001) → (pos 0 ≤ℤ b) × (b <ℤ pos 4001) → (pos 0 ≤ℤ c) × (c <ℤ pos 4001) →
+    (FitsSigned w64 (to_z w64 (of_z w64 (to_z w64 (of_z w64 (to_z w64 (of_z w64 reach) -ℤ to_z w64 (of_z w64 a))) -ℤ to_z w64 (of_z w64 b))) -ℤ to_z w64 (of_z w64 c)))
+    × FitsSigned w32 (to_z w64 (of_z w64 (to_z w64 (of_z w64 (to_z w64 (of_z w64 (to_z w64 (of_z w64 reach) -ℤ to_z w64 (of_z w64 a))) -ℤ to_z w64 (of_z w64 b))) -ℤ to_z w64 (of_z w64 c))))
+    × (to_z w32 (of_z w32 (to_z w64 (of_z w64 (to_z w64 (of_z w64 (to_z w64 (of_z w64 (to_z w64 (of_z w64 reach) -ℤ to_z w64 (of_z w64 a))) -ℤ to_z w64 (of_z w64 b))) -ℤ to_z w64 (of_z w64 c))))) ≡ reach -ℤ a -ℤ b -ℤ c)
+low_told reach a b c positive small p q r =
+    let fr : FitsSigned w64 reach = omega (arith, ints) in
+    let fa : FitsSigned w64 a = omega (arith, ints) in
+    let fb : FitsSigned w64 b = omega (arith, ints) in
+    let fc : FitsSigned w64 c = omega (arith, ints) in
+    let f1 : FitsSigned w64 (reach -ℤ a) = omega (arith, ints) in
+    let f2 : FitsSigned w64 (reach -ℤ a -ℤ b) = omega (arith, ints) in
+    let f3 : FitsSigned w64 (reach -ℤ a -ℤ b -ℤ c) = omega (arith, ints) in
+    let f4 : FitsSigned w32 (reach -ℤ a -ℤ b -ℤ c) = omega (arith, ints) in
+    rw (to_z-of_z w64 reach fr, to_z-of_z w64 a fa, to_z-of_z w64 b fb, to_z-of_z w64 c fc, to_z-of_z w64 (reach -ℤ a) f1, to_z-of_z w64 (reach -ℤ a -ℤ b) f2, to_z-of_z w64 (reach -ℤ a -ℤ b -ℤ c) f3)
+    (f3, f4, to_z-of_z w32 (reach -ℤ a -ℤ b -ℤ c) f4)
+
+pub low_reach : (reach a b c t : ℤ) → (pos 16384 *ℤ reach) ≤ℤ (pos 5040 *ℤ t) → (pos 16384 *ℤ ((reach -ℤ a -ℤ b -ℤ c) +ℤ (a +ℤ b +ℤ c))) ≤ℤ (pos 5040 *ℤ t)
+low_reach reach a b c t most = subst (λ (z : ℤ). (pos 16384 *ℤ z) ≤ℤ (pos 5040 *ℤ t)) (same reach a b c) most
+  where
+    same : (reach a b c : ℤ) → reach ≡ (reach -ℤ a -ℤ b -ℤ c) +ℤ (a +ℤ b +ℤ c)
+    same reach a b c = omega (arith, linear)
+
+pub low_small : (reach a b c : ℤ) → pos 0 ≤ℤ reach → reach <ℤ pos (2 ^ 29) → (pos 0 ≤ℤ a) × (a <ℤ pos 4001) → (pos 0 ≤ℤ b) × (b <ℤ pos 4001) → (pos 0 ≤ℤ c) × (c <ℤ pos 4001) → IsBelow (2 ^ 29) (reach -ℤ a -ℤ b -ℤ c)
+low_small reach a b c positive small p q r = (omega (arith, ints), omega (arith, ints))
+
+-- ---- what rounding down loses
+-- a value by its steps, times a weight
+weighed : (d : ℕ) (w q x : ℤ) → (pos d *ℤ q) ≤ℤ x → x <ℤ (pos d *ℤ (q +ℤ pos 1)) → (w *ℤ x) ≤ℤ (pos d *ℤ (w *ℤ q +ℤ reach_of w))
+weighed d (pos n) q x low high =
+    let more : (pos n *ℤ x) ≤ℤ (pos n *ℤ (pos d *ℤ (q +ℤ pos 1))) = le_mul_pos n x (pos d *ℤ (q +ℤ pos 1)) (omega (arith, linear, high)) in
+    subst (λ (z : ℤ). (pos n *ℤ x) ≤ℤ z) (mul_left_comm_ℤ (pos n) (pos d) (q +ℤ pos 1) ∙ ap (λ (z : ℤ). pos d *ℤ z) (spread n q)) more
+  where
+    spread : (n : ℕ) (q : ℤ) → pos n *ℤ (q +ℤ pos 1) ≡ pos n *ℤ q +ℤ pos n
+    spread n q = mul_add_ℤ (pos n) q (pos 1) ∙ ap (λ (z : ℤ). pos n *ℤ q +ℤ z) (mul_comm_ℤ (pos n) (pos 1) ∙ one_mul_ℤ (pos n))
+weighed d (negsuc n) q x low high =
+    let less : (pos (suc n) *ℤ (pos d *ℤ q)) ≤ℤ (pos (suc n) *ℤ x) = le_mul_pos (suc n) (pos d *ℤ q) x low in
+    omega (arith, linear, less, neg_mul_ℤ (pos (suc n)) x, neg_mul_ℤ (pos (suc n)) (pos d *ℤ q), moved d n q)
+  where
+    moved : (d n : ℕ) (q : ℤ) → pos d *ℤ (negsuc n *ℤ q +ℤ pos 0) ≡ negsuc n *ℤ (pos d *ℤ q)
+    moved d n q = ap (λ (z : ℤ). pos d *ℤ z) (none (negsuc n *ℤ q)) ∙ mul_left_comm_ℤ (pos d) (negsuc n) q
+      where
+        none : (z : ℤ) → z +ℤ pos 0 ≡ z
+        none z = omega (arith, linear)
+
+-- three values along a direction
+sum_weighed : (d : ℕ) (u v w p q r x y z : ℤ) → (pos d *ℤ p) ≤ℤ x → x <ℤ (pos d *ℤ (p +ℤ pos 1)) → (pos d *ℤ q) ≤ℤ y → y <ℤ (pos d *ℤ (q +ℤ pos 1)) → (pos d *ℤ r) ≤ℤ z → z <ℤ (pos d *ℤ (r +ℤ pos 1)) →
+    (u *ℤ x +ℤ v *ℤ y +ℤ w *ℤ z) ≤ℤ (pos d *ℤ ((u *ℤ p +ℤ v *ℤ q +ℤ w *ℤ r) +ℤ (reach_of u +ℤ reach_of v +ℤ reach_of w)))
+sum_weighed d u v w p q r x y z px xp qy yq rz zr =
+    subst (λ (m : ℤ). (u *ℤ x +ℤ v *ℤ y +ℤ w *ℤ z) ≤ℤ m) (sym (spread (pos d) (u *ℤ p) (v *ℤ q) (w *ℤ r) (reach_of u) (reach_of v) (reach_of w)))
+    (omega (arith, linear, weighed d u p x px xp, weighed d v q y qy yq, weighed d w r z rz zr))
+  where
+    regroup : (a b c e f g : ℤ) → (a +ℤ b +ℤ c) +ℤ (e +ℤ f +ℤ g) ≡ (a +ℤ e) +ℤ (b +ℤ f) +ℤ (c +ℤ g)
+    regroup a b c e f g = omega (arith, linear)
+
+    spread : (d a b c e f g : ℤ) → d *ℤ ((a +ℤ b +ℤ c) +ℤ (e +ℤ f +ℤ g)) ≡ d *ℤ (a +ℤ e) +ℤ d *ℤ (b +ℤ f) +ℤ d *ℤ (c +ℤ g)
+    spread d a b c e f g =
+        ap (λ (z : ℤ). d *ℤ z) (regroup a b c e f g) ∙ mul_add_ℤ d ((a +ℤ e) +ℤ (b +ℤ f)) (c +ℤ g) ∙ ap (λ (z : ℤ). z +ℤ d *ℤ (c +ℤ g)) (mul_add_ℤ d (a +ℤ e) (b +ℤ f))
+
+-- ---- tables that are filled
+-- what holds of the entries so far and of the new one
+pub set_below : (P : ℕ → ℤ → Type 0) (xs : List ℤ) (i : ℕ) (v : ℤ) → i < length xs → P i v → ((k : ℕ) → k < i → P k (at xs k)) → (k : ℕ) → k < i + 1 → P k (at (slice_set xs i v) k)
+set_below P xs i v inside new old = below_more _ _ (λ k less. let ne : k ≢ i = omega (arith, less) in rw get_or-set_other (old k less)) (rw get_or-set_same new)
+
+pub zeros : (n j : ℕ) → at (replicate n (pos 0)) j ≡ pos 0
+zeros zero j = refl
+zeros (suc n) zero = refl
+zeros (suc n) (suc j) = zeros n j
+
+by_same : {P : Type 0} (j i : ℕ) → (j ≡ i → P) → (j ≢ i → P) → P
+by_same {P} j i same other = by_lt j i (λ less. other (not_less j i less)) (λ more. by_lt i j (λ less. other (not_more j i less)) (λ most. same (omega (arith, more, most))))
+  where
+    not_less : (j i : ℕ) → j < i → j ≢ i
+    not_less j i less = omega arith
+
+    not_more : (j i : ℕ) → i < j → j ≢ i
+    not_more j i less = omega arith
+
+-- what holds of each entry and of a new one holds after the new one is put in
+set_all : (P : ℤ → Type 0) (xs : List ℤ) (i j : ℕ) (v : ℤ) → i < length xs → P v → P (at xs j) → P (at (slice_set xs i v) j)
+set_all P xs i j v inside new old =
+    by_same j i
+    (λ (same : j ≡ i). rw (same, get_or-set_same) new)
+    (λ (ne : j ≢ i). rw get_or-set_other old)
+
+abbrev put_lane : Lanes → ℕ → ℤ → ℤ → ℤ → ℤ → Lanes
+put_lane l i x y z low = record { x = slice_set l.x i x; y = slice_set l.y i y; z = slice_set l.z i z; low = slice_set l.low i low }
+
+-- all lanes stay small
+pub small_lane : (l : Lanes) (i j : ℕ) (x y z low : ℤ) → length l.x ≡ 112 → length l.y ≡ 112 → length l.z ≡ 112 → length l.low ≡ 112 → i < 112 →
+    IsBelow 4001 x → IsBelow 4001 y → IsBelow 4001 z → IsBelow (2 ^ 29) low → IsSmallLane l j → IsSmallLane (put_lane l i x y z low) j
+small_lane l i j x y z low x_long y_long z_long low_long inside x_small y_small z_small low_small is = record {
+  x = set_all (IsBelow 4001) l.x i j x (omega (arith, x_long, inside)) x_small is.x;
+  y = set_all (IsBelow 4001) l.y i j y (omega (arith, y_long, inside)) y_small is.y;
+  z = set_all (IsBelow 4001) l.z i j z (omega (arith, z_long, inside)) z_small is.z;
+  low = set_all (IsBelow (2 ^ 29)) l.low i j low (omega (arith, low_long, inside)) low_small is.low;
+}
+
+-- another lane stays as it was
+pub kept_lane : (clear : Clearance) (n : List ℤ) (l : Lanes) (i j : ℕ) (x y z low : ℤ) → j ≢ i → IsLane clear n l j → IsLane clear n (put_lane l i x y z low) j
+kept_lane clear n l i j x y z low ne is = record {
+  x = rw get_or-set_other is.x;
+  y = rw get_or-set_other is.y;
+  z = rw get_or-set_other is.z;
+  low = rw get_or-set_other is.low;
+}
+
+-- the new lane
+pub new_lane : (clear : Clearance) (n : List ℤ) (l : Lanes) (i : ℕ) (x y z low : ℤ) → length l.x ≡ 112 → length l.y ≡ 112 → length l.z ≡ 112 → length l.low ≡ 112 → i < 112 →
+    x ≡ at (weights n clear.r clear.h) 0 → y ≡ at (weights n clear.r clear.h) 1 → z ≡ at (weights n clear.r clear.h) 2 → (pos 16384 *ℤ (low +ℤ slack_of (weights n clear.r clear.h))) ≤ℤ (pos 5040 *ℤ threshold clear n) → IsLane clear n (put_lane l i x y z low) i
+new_lane clear n l i x y z low x_long y_long z_long low_long inside x_is y_is z_is reach =
+    let x_in : i < length l.x = omega (arith, x_long, inside) in
+    let y_in : i < length l.y = omega (arith, y_long, inside) in
+    let z_in : i < length l.z = omega (arith, z_long, inside) in
+    let low_in : i < length l.low = omega (arith, low_long, inside) in
+    record {
+      x = rw get_or-set_same x_is;
+      y = rw get_or-set_same y_is;
+      z = rw get_or-set_same z_is;
+      low = rw get_or-set_same reach;
+    }
+
+-- ---- a lane that is too low
+-- the steps of a part, and what it has to be at least
+scale_split : (e : ℕ) → 2 ^ (14 + 7 * e) ≡ 16384 * 2 ^ (7 * e)
+scale_split e = pow-add 2 14 (7 * e)
+
+least_is : (t : ℤ) (p : ℕ) → t *ℤ pos (5040 * p) ≡ pos p *ℤ (pos 5040 *ℤ t)
+least_is t p =
+    mul_comm_ℤ t (pos (5040 * p)) ∙ ap (λ (n : ℕ). pos n *ℤ t) (swap p) ∙ mul_assoc_ℤ (pos p) (pos 5040) t
+  where
+    swap : (p : ℕ) → 5040 * p ≡ p * 5040
+    swap p = omega arith
+
+-- a sum whose point is below what it has to reach is below the least value
+pub lane_low : (e : ℕ) (t sum v low s : ℤ) → sum ≤ℤ (pos (2 ^ (14 + 7 * e)) *ℤ (v +ℤ s)) → v <ℤ low → (pos 16384 *ℤ (low +ℤ s)) ≤ℤ (pos 5040 *ℤ t) → sum <ℤ least_value t e
+lane_low e t sum v low s most less reach =
+    let some : 0 < 2 ^ (7 * e) = pow_pos (7 * e) in
+    let step : (pos (2 ^ (7 * e)) *ℤ (pos 16384 *ℤ (v +ℤ s +ℤ pos 1))) ≤ℤ (pos (2 ^ (7 * e)) *ℤ (pos 5040 *ℤ t)) = le_mul_pos (2 ^ (7 * e)) _ _ (omega (arith, linear, less, reach)) in
+    let spread : pos (2 ^ (7 * e)) *ℤ (pos 16384 *ℤ (v +ℤ s +ℤ pos 1)) ≡ pos (16384 * 2 ^ (7 * e)) *ℤ (v +ℤ s) +ℤ pos (16384 * 2 ^ (7 * e)) =
+    sym (mul_assoc_ℤ (pos (2 ^ (7 * e))) (pos 16384) (v +ℤ s +ℤ pos 1)) ∙ ap (λ (n : ℕ). pos n *ℤ (v +ℤ s +ℤ pos 1)) (swap (2 ^ (7 * e)))
+    ∙ mul_add_ℤ (pos (16384 * 2 ^ (7 * e))) (v +ℤ s) (pos 1) ∙ ap (λ (z : ℤ). pos (16384 * 2 ^ (7 * e)) *ℤ (v +ℤ s) +ℤ z) (mul_comm_ℤ (pos (16384 * 2 ^ (7 * e))) (pos 1) ∙ one_mul_ℤ (pos (16384 * 2 ^ (7 * e)))) in
+    let most_is : sum ≤ℤ (pos (16384 * 2 ^ (7 * e)) *ℤ (v +ℤ s)) = subst (λ (n : ℕ). sum ≤ℤ (pos n *ℤ (v +ℤ s))) (scale_split e) most in
+    close (16384 * 2 ^ (7 * e)) sum (pos (16384 * 2 ^ (7 * e)) *ℤ (v +ℤ s)) (pos (2 ^ (7 * e)) *ℤ (pos 5040 *ℤ t)) (least_value t e) (omega (arith, some)) most_is (subst (λ (z : ℤ). z ≤ℤ (pos (2 ^ (7 * e)) *ℤ (pos 5040 *ℤ t))) spread step) (least_is t (2 ^ (7 * e)))
+  where
+    swap : (p : ℕ) → p * 16384 ≡ 16384 * p
+    swap p = omega arith
+
+    close : (d : ℕ) (sum a b least : ℤ) → 0 < d → sum ≤ℤ a → (a +ℤ pos d) ≤ℤ b → least ≡ b → sum <ℤ least
+    close d sum a b least some most step is = omega (arith, ints, some, most, step, is)
+
+-- the direction of a lane that is too low at a point of a part doesn't separate it
+pub lane_fails : (diff : List (Bez 8)) (level : Level) (clear : Clearance) (n : List ℤ) (l : Lanes) (p : Point) (i k : ℕ) → k ≤ 7 → IsLevel diff level → IsPoint level k p → IsLane clear n l i →
+    lane_value l p i <ℤ at l.low i → is_none (low_value clear diff level.place n) ≡ false
+lane_fails diff level clear n l p i k few is point lane less =
+    failed (low_value clear diff level.place n) refl
+  where
+    value : (axis : ℕ) → axis ≤ 2 → at (controls level.part axis) k ≡ part_value level.place.depth level.place.index (at (controls diff axis)) k
+    value axis low = ap (λ (xs : List ℤ). at xs k) (is.part axis low) ∙ at-eight (part_value level.place.depth level.place.index (at (controls diff axis))) k few
+
+    sums : {x y z u v w : ℤ} (a b c : ℤ) → x ≡ u → y ≡ v → z ≡ w → a *ℤ x +ℤ b *ℤ y +ℤ c *ℤ z ≡ a *ℤ u +ℤ b *ℤ v +ℤ c *ℤ w
+    sums {x} {y} {z} {u} {v} {w} a b c p q r = cc
+
+    lanes : {a b c u v w : ℤ} (x y z : ℤ) → a ≡ u → b ≡ v → c ≡ w → a *ℤ x +ℤ b *ℤ y +ℤ c *ℤ z ≡ u *ℤ x +ℤ v *ℤ y +ℤ w *ℤ z
+    lanes {a} {b} {c} {u} {v} {w} x y z p q r = cc
+
+    along : part_along clear.r clear.h diff level.place n k <ℤ least_value (threshold clear n) level.place.depth
+    along =
+        let ws : List ℤ = weights n clear.r clear.h in
+        let same : at ws 0 *ℤ at (controls level.part 0) k +ℤ at ws 1 *ℤ at (controls level.part 1) k +ℤ at ws 2 *ℤ at (controls level.part 2) k ≡ part_along clear.r clear.h diff level.place n k =
+        sums (at ws 0) (at ws 1) (at ws 2) (value 0 (omega arith)) (value 1 (omega arith)) (value 2 (omega arith)) in
+        let lane_is : lane_value l p i ≡ at ws 0 *ℤ p.x +ℤ at ws 1 *ℤ p.y +ℤ at ws 2 *ℤ p.z = lanes p.x p.y p.z lane.x lane.y lane.z in
+        lane_low level.place.depth (threshold clear n) (part_along clear.r clear.h diff level.place n k) (at ws 0 *ℤ p.x +ℤ at ws 1 *ℤ p.y +ℤ at ws 2 *ℤ p.z) (at l.low i) (slack_of ws)
+        (subst (λ (z : ℤ). z ≤ℤ (pos (2 ^ (14 + 7 * level.place.depth)) *ℤ ((at ws 0 *ℤ p.x +ℤ at ws 1 *ℤ p.y +ℤ at ws 2 *ℤ p.z) +ℤ slack_of ws))) same
+        (sum_weighed (2 ^ (14 + 7 * level.place.depth)) (at ws 0) (at ws 1) (at ws 2) p.x p.y p.z (at (controls level.part 0) k) (at (controls level.part 1) k) (at (controls level.part 2) k)
+        point.x.low point.x.high point.y.low point.y.high point.z.low point.z.high))
+        (subst (λ (z : ℤ). z <ℤ at l.low i) lane_is less) lane.low
+
+    failed : (o : Option ℕ) → low_value clear diff level.place n ≡ o → is_none o ≡ false
+    failed None e = absurd (omega (arith, linear, along, first_low-values (part_along clear.r clear.h diff level.place n) (least_value (threshold clear n) level.place.depth) e k few))
+    failed (Some j) e = refl
+
+-- the same at one of two points
+pub lane_fails_at : (diff : List (Bez 8)) (level : Level) (clear : Clearance) (n : List ℤ) (l : Lanes) (p q : Point) (i : ℕ) → IsLevel diff level → IsPoint level 0 p → IsPoint level 7 q → IsLane clear n l i →
+    IsLowAt l p q i → is_none (low_value clear diff level.place n) ≡ false
+lane_fails_at diff level clear n l p q i is start end lane (inl less) = lane_fails diff level clear n l p i 0 (omega arith) is start lane less
+lane_fails_at diff level clear n l p q i is start end lane (inr less) = lane_fails diff level clear n l q i 7 (omega arith) is end lane less
+
+-- a test of a number of 32 bits
+pub told_less : (x : ℤ) → FitsSigned w32 x → lt_z (to_z w32 (of_z w32 x)) (pos 0) ≡ true → x <ℤ pos 0
+told_less x fits is = less x (rw (to_z-of_z w32 x fits) at is)
+  where
+    less : (x : ℤ) → lt_z x (pos 0) ≡ true → x <ℤ pos 0
+    less x e = grind (arith, ints)

@@ -1,0 +1,10 @@
+use Rattle.std.proofs.Common.{ℕ, ◌<◌, ◌^◌, ◌≤ℤ◌}
+use Rattle.fleet_math.specs.Bernstein.{at}
+use Rattle.fleet_math.specs.Numbers.{IsBelow}
+use Rattle.pair_search.proofs.extents.greatest.Given as goal
+
+abbrev pub invariant-loop-k : goal.invariant-loop-k
+invariant-loop-k l = record {
+  above : (k : ℕ) → k < l.k → at l.curve.b k ≤ℤ l.greatest;
+  small : IsBelow (2 ^ 28) l.greatest;
+}

@@ -1,0 +1,14 @@
+use Rattle.sep_parts.specs.Levels.{IsStack, places_of}
+use Rattle.pair_search.specs.Search.{first_by}
+use Rattle.pair_search.proofs.Marks.{IsCount}
+use Rattle.pair_search.proofs.Trees.{work}
+use Rattle.pair_search.proofs.shape.count_parts.Given as goal
+
+abbrev pub invariant-loop-level : goal.invariant-loop-level
+invariant-loop-level g l = record {
+  stack : IsStack l.diff l.stack;
+  state : IsCount (first_by l.ruler l.diff) l.depth (places_of l.stack) l.count;
+}
+
+abbrev pub decreases-loop-level : goal.decreases-loop-level
+decreases-loop-level g l = work l.depth (places_of l.stack)

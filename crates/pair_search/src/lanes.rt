@@ -1,0 +1,195 @@
+//! Directions side by side, which tell by whole steps of a few millimetres that most of them don't separate a part.
+
+ghost use Rattle.std.specs.Prelude.{◌≡◌, ◌⊎◌, ℕ, ◌+◌, ◌*◌, ◌^◌, ◌≤◌, ◌<◌, ℤ, pos, ◌+ℤ◌, ◌-ℤ◌, ◌*ℤ◌, ◌≤ℤ◌, ◌<ℤ◌, All, IfSome, length};
+ghost use Rattle.fleet_math.specs.Bernstein.{at};
+ghost use Rattle.fleet_math.specs.Numbers.{IsBelow};
+ghost use Rattle.bezier_core.specs.Along.{controls};
+ghost use Rattle.bezier_core.specs.Steps.{IsWithin};
+ghost use Rattle.sep_parts.specs.Directions.{direction_of, threshold, weights};
+ghost use Rattle.pair_search.specs.Lanes.{AreLanes, AreSmallLanes, IsFloor, IsLowAt, IsPoint, IsSmallPoint, lane_value, reach_of, slack_of, steps_of};
+
+use sep_parts::{Level, Ruler};
+
+/// At most 98 directions side by side: the weights of the three axes, and what a point has to reach.
+#[derive(Drop)]
+pub struct Lanes {
+    pub x: [i32; 112],
+    pub y: [i32; 112],
+    pub z: [i32; 112],
+    pub low: [i32; 112],
+}
+
+/// A point in whole steps, each rounded down.
+#[derive(Clone, Copy)]
+pub struct Point {
+    pub x: i32,
+    pub y: i32,
+    pub z: i32,
+}
+
+/// The lanes of a ruler.
+pub fn lanes_of<const M: usize>(ruler: &Ruler<M>) -> Lanes
+    ensures { AreLanes ruler.now result }
+{
+    let mut lanes = Lanes {
+        x: [0; 112],
+        y: [0; 112],
+        z: [0; 112],
+        low: [0; 112],
+    };
+    for i in 0..ruler.count() {
+        let w = ruler.weights_along(i);
+        lanes.x[i] = short_weight(w[0]);
+        lanes.y[i] = short_weight(w[1]);
+        lanes.z[i] = short_weight(w[2]);
+        lanes.low[i] = low_of(ruler.threshold_along(i), w);
+    }
+    lanes
+}
+
+// A weight in 32 bits.
+fn short_weight(weight: i64) -> i32
+    requires { IsBelow 4001 weight }
+    ensures { result ≡ weight }
+{
+    weight as i32
+}
+
+// What a point in whole steps has to reach along a direction: a point below it is below the threshold.
+fn low_of(threshold: i128, w: [i64; 3]) -> i32
+    requires positive { pos 0 ≤ℤ threshold }
+    requires small { threshold <ℤ pos (2 ^ 30) }
+    requires weights { All (IsBelow 4001) w }
+    ensures reach { (pos 16384 *ℤ (result +ℤ slack_of w)) ≤ℤ (pos 5040 *ℤ threshold) }
+    ensures small { IsBelow (2 ^ 29) result }
+{
+    let reach = reach_of(threshold);
+    (reach - slack(w[0]) - slack(w[1]) - slack(w[2])) as i32
+}
+
+// A threshold in whole steps, rounded down.
+fn reach_of(threshold: i128) -> i64
+    requires positive { pos 0 ≤ℤ threshold }
+    requires small { threshold <ℤ pos (2 ^ 30) }
+    ensures reach { (pos 16384 *ℤ result) ≤ℤ (pos 5040 *ℤ threshold) }
+    ensures positive { pos 0 ≤ℤ result }
+    ensures small { result <ℤ pos (2 ^ 29) }
+{
+    (5040 * threshold / 16384) as i64
+}
+
+// By how much a coordinate that is rounded down may be too little, times its weight.
+fn slack(weight: i64) -> i64
+    requires { IsBelow 4001 weight }
+    ensures exact { result ≡ reach_of weight }
+    ensures small { (pos 0 ≤ℤ result) × (result <ℤ pos 4001) }
+{
+    if weight < 0 { 0 } else { weight }
+}
+
+/// The control values of a part at one place, 0 to 7, in whole steps; none where they are too large.
+pub fn point_at(level: &Level, k: usize) -> Option<Point>
+    requires place { k < 8 }
+    requires depth { level.now.place.depth ≤ 8 }
+    requires axes { length level.now.part ≡ 3 }
+    requires sizes { All (λ curve. length curve.b ≡ 8) level.now.part }
+    ensures small { IfSome result IsSmallPoint }
+    ensures point { IfSome result (IsPoint level.now k) }
+{
+    let times = steps_of(level.place.depth);
+    let x = stepped(level.part[0].b[k], times)?;
+    let y = stepped(level.part[1].b[k], times)?;
+    let z = stepped(level.part[2].b[k], times)?;
+    Some(Point { x, y, z })
+}
+
+// A step has 2 to this power.
+fn steps_of(depth: u8) -> u32
+    requires { depth ≤ 8 }
+    ensures exact { result ≡ steps_of depth }
+    ensures few { result ≤ 70 }
+{
+    14 + 7 * u32::from(depth)
+}
+
+// A value in whole steps, rounded down; none where it is too large.
+fn stepped(value: i128, times: u32) -> Option<i32>
+    requires { times ≤ 70 }
+    ensures floor { IfSome result (IsFloor times value) }
+    ensures small { IfSome result (IsWithin (pos 65536)) }
+{
+    let steps = floor_by(value, times);
+    if steps < -65536 || 65536 < steps {
+        return None;
+    }
+    Some(steps as i32)
+}
+
+// A value by a power of 2, rounded down.
+fn floor_by(value: i128, times: u32) -> i128
+    requires { times ≤ 70 }
+    ensures low { (pos (2 ^ times) *ℤ result) ≤ℤ value }
+    ensures high { value <ℤ (pos (2 ^ times) *ℤ (result +ℤ pos 1)) }
+{
+    value >> times
+}
+
+/// How far above what they have to reach the lower of two points is, in each lane; and the most of these. Below 0 one of the points
+/// is too low.
+pub fn fill(lanes: &Lanes, p: &Point, q: &Point, near: &mut [i32; 112]) -> i32
+    requires lanes { AreSmallLanes lanes.now }
+    requires p { IsSmallPoint p.now }
+    requires q { IsSmallPoint q.now }
+    ensures most { (i : ℕ) → i < 112 → at near.new i ≤ℤ result }
+    ensures told { (i : ℕ) → i < 112 → at near.new i <ℤ pos 0 → IsLowAt lanes.now p.now q.now i }
+{
+    let mut most = -1;
+    for i in 0..112 {
+        let value = nearness(lanes, p, q, i);
+        near[i] = value;
+        most = greater(most, value);
+    }
+    most
+}
+
+// The greater of two numbers.
+fn greater(a: i32, b: i32) -> i32
+    ensures first { a ≤ℤ result }
+    ensures second { b ≤ℤ result }
+{
+    if a < b { b } else { a }
+}
+
+// The same in one lane.
+fn nearness(lanes: &Lanes, p: &Point, q: &Point, i: usize) -> i32
+    requires place { i < 112 }
+    requires lanes { AreSmallLanes lanes.now }
+    requires p { IsSmallPoint p.now }
+    requires q { IsSmallPoint q.now }
+    ensures { result <ℤ pos 0 → IsLowAt lanes.now p.now q.now i }
+{
+    let a = lane_at(lanes, p, i) - lanes.low[i];
+    let b = lane_at(lanes, q, i) - lanes.low[i];
+    if a < b { a } else { b }
+}
+
+// A point along the direction of a lane.
+fn lane_at(lanes: &Lanes, p: &Point, i: usize) -> i32
+    requires place { i < 112 }
+    requires lanes { AreSmallLanes lanes.now }
+    requires point { IsSmallPoint p.now }
+    ensures exact { result ≡ lane_value lanes.now p.now i }
+    ensures small { IsBelow 800000000 result }
+{
+    lane_times(lanes.x[i], p.x) + lane_times(lanes.y[i], p.y) + lane_times(lanes.z[i], p.z)
+}
+
+// A coordinate times its weight.
+fn lane_times(weight: i32, value: i32) -> i32
+    requires weight { IsBelow 4001 weight }
+    requires value { IsWithin (pos 65536) value }
+    ensures exact { result ≡ weight *ℤ value }
+    ensures small { IsWithin (pos 262144000) result }
+{
+    weight * value
+}
