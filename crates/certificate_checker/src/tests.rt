@@ -24,6 +24,15 @@ const STILL: Clearance = Clearance {
     reach: [0, 0, 0],
 };
 
+// The same with wider ellipsoids.
+const BROAD: Clearance = Clearance {
+    r: 500,
+    h: 500,
+    stray: 0,
+    late: 0,
+    reach: [0, 0, 0],
+};
+
 // From rest to rest.
 fn moved(from: i16, to: i16) -> Element {
     if from == to {
@@ -90,12 +99,12 @@ fn three(alloc: Global) -> Result<Curves, AllocError> {
 }
 
 // A text judged byte by byte.
-fn judged(curves: &Curves, clearance: Clearance, text: &[u8]) -> Verdict
-    requires clearance { IsClearance clearance }
+fn judged(curves: &Curves, clearance: &Clearance, text: &[u8]) -> Verdict
+    requires clearance { IsClearance clearance.now }
     requires short { length text.now ≤ most_bytes }
-    ensures { VerdictGives curves.now clearance text.now result }
+    ensures { VerdictGives curves.now clearance.now text.now result }
 {
-    let mut checker = Checker::make(clearance);
+    let mut checker = Checker::make(*clearance);
     for byte in text {
         checker.feed(curves, *byte);
     }
@@ -118,7 +127,7 @@ fn becomes(curves: &Curves, text: &[u8]) -> Outcome {
     if text.len() > 1_000_000 {
         return Outcome::Other;
     }
-    match judged(curves, STILL, text) {
+    match judged(curves, &STILL, text) {
         Verdict::Valid { depth, trees } => Outcome::Valid(depth, trees),
         Verdict::Line { line } => Outcome::Line(line),
         Verdict::Refused { fault, .. } => fault_of(fault),
@@ -305,12 +314,12 @@ fn a_hundred_thousand_splits(rt: HostRuntime) -> Result<(), Fail> {
 #[test]
 fn the_version_of_a_fault(rt: HostRuntime) -> Result<(), Fail> {
     let curves = two(rt.alloc())?;
-    let old = judged(&curves, STILL, b"certificate 6\nr");
+    let old = judged(&curves, &STILL, b"certificate 6\nr");
     assert!(rt; matches!(old, Verdict::Refused { version: 1, .. }));
-    let wide = judged(&curves, STILL, b"version 2\ncertificate 6\n58");
+    let wide = judged(&curves, &STILL, b"version 2\ncertificate 6\n58");
     assert!(rt; matches!(wide, Verdict::Refused { version: 2, .. }));
     // drones that are 1 m apart, with ellipsoids as wide as that
-    let near = judged(&curves, 500, 500, b"certificate 6\nr\nl\na\n");
+    let near = judged(&curves, &BROAD, b"certificate 6\nr\nl\na\n");
     assert!(rt; matches!(near, Verdict::Refused { version: 1, .. }));
     Ok(())
 }
