@@ -38,6 +38,10 @@ class Link:
         """Lines on what the link did, for people."""
         return []
 
+    def ailing(self):
+        """Why the link can't go on, or None: then the upload is ended at once."""
+        return None
+
 
 class Drone:
     """A drone: its memory's id and bytes, its table of trajectories as (offset, pieces) or None, and the one that it

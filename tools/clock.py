@@ -1,0 +1,24 @@
+"""The clock of the tools that fly: real time, or over simulated drones time that runs so many times faster."""
+import time
+
+_speed = [1.0]
+
+
+def set_speed(speed):
+    """How many seconds of this clock pass in a real one."""
+    _speed[0] = float(speed)
+
+
+def now():
+    """Seconds since some instant."""
+    return time.monotonic() * _speed[0]
+
+
+def wait(seconds):
+    """Waits for so many seconds of this clock."""
+    time.sleep(max(0.0, seconds) / _speed[0])
+
+
+def real(seconds):
+    """Seconds of this clock as real ones: for what waits by itself."""
+    return max(0.0, seconds) / _speed[0]

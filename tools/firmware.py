@@ -1,0 +1,152 @@
+"""Packets that a plan hasn't: versions, memories, parameters, logs, arming, and the commands of a flight.
+
+WRITTEN FROM MEMORY of Bitcraze's firmware and library as of 2022 to 2025, and never compared with them, a radio or a
+drone. Behind each group stands how sure that memory is. Check each group with the firmware that you fly.
+"""
+import struct
+
+CONSOLE, PARAMETERS, MEMORY, LOGS, PLACES, COMMANDER, PLATFORM, LINK = 0, 2, 4, 5, 6, 8, 13, 15
+
+
+def packet(port, channel, data):
+    """A packet's bytes, with link bits 3."""
+    return bytes([port << 4 | 0x0C | channel]) + bytes(data)
+
+
+def parts(raw):
+    """A packet's port, channel and data."""
+    return raw[0] >> 4, raw[0] & 3, raw[1:]
+
+
+# ---- versions, port 13 channel 1 (90 %)
+
+ASK_PROTOCOL, ASK_FIRMWARE = bytes([0]), bytes([1])
+
+
+def text_of(data):
+    """The text after an answer's first byte."""
+    return bytes(data[1:]).split(b"\0")[0].decode("ascii", "replace")
+
+
+# ---- memories, port 4 channel 0 (95 %)
+
+COUNT_MEMORIES = bytes([1])
+TRAJECTORY_MEMORY = 0x12
+
+
+def ask_memory(number):
+    """The question for a memory of the list."""
+    return bytes([2, number])
+
+
+def memory_of(data):
+    """A memory's type and size."""
+    return data[2], struct.unpack_from("<I", bytes(data), 3)[0]
+
+
+# ---- tables of parameters and logs, ports 2 and 5 channel 0, since protocol 4 (90 %)
+
+ASK_TABLE = bytes([3])
+PARAMETER_TYPES = {0x08: "B", 0x09: "H", 0x0A: "I", 0x00: "b", 0x01: "h", 0x02: "i", 0x06: "f"}
+LOG_TYPES = {1: "B", 2: "H", 3: "I", 4: "b", 5: "h", 6: "i", 7: "f", 8: "e"}
+
+
+def ask_item(number):
+    """The question for an item of a table."""
+    return struct.pack("<BH", 2, number)
+
+
+def table_of(data):
+    """How many items a table has, and its checksum."""
+    return struct.unpack_from("<HI", bytes(data), 1)
+
+
+def item_of(data):
+    """An item's name, `group.name`, and its type."""
+    group, name = bytes(data[4:]).split(b"\0")[:2]
+    return "%s.%s" % (group.decode("ascii", "replace"), name.decode("ascii", "replace")), data[3] & 0x0F
+
+
+# ---- parameters, port 2: read on channel 1, write on channel 2 (90 %)
+
+def write_parameter(number, kind, value):
+    """The data that sets a parameter; the answer begins with its first two bytes."""
+    return struct.pack("<H" + PARAMETER_TYPES[kind], number, value)
+
+
+def parameter_of(data, kind):
+    """The value of a read parameter."""
+    return struct.unpack_from("<" + PARAMETER_TYPES[kind], bytes(data), 3)[0]
+
+
+# ---- logs, port 5: settings on channel 1, data on channel 2 (90 %)
+
+RESET_LOGS = bytes([5])
+MOST_LOGGED = 26  # bytes of one block's values
+
+
+def create_block(block, items):
+    """The data that makes a block of (number, type) items."""
+    return bytes([6, block]) + b"".join(struct.pack("<BH", kind << 4 | kind, number) for number, kind in items)
+
+
+def start_block(block, milliseconds):
+    """The data that has a block sent every so many milliseconds, a multiple of ten."""
+    return bytes([3, block, max(1, min(255, milliseconds // 10))])
+
+
+def stop_block(block):
+    """The data that has a block sent no more."""
+    return bytes([4, block])
+
+
+def logged(data, kinds):
+    """A block's number, the drone's milliseconds, which wrap at 2^24, and its values; None where it is too short."""
+    form = "<" + "".join(LOG_TYPES[kind] for kind in kinds)
+    if len(data) < 4 + struct.calcsize(form):
+        return None
+    return data[0], int.from_bytes(data[1:4], "little"), struct.unpack_from(form, bytes(data), 4)
+
+
+# ---- arming, port 13 channel 0 (the request 85 %, its answer 60 %: `supervisor.info` is what is believed)
+
+def arm(on):
+    """The data that arms or disarms a drone."""
+    return bytes([1, 1 if on else 0])
+
+
+# The bits of the log variable supervisor.info (85 %).
+CAN_ARM, IS_ARMED, AUTO_ARM, CAN_FLY, IS_FLYING, IS_TUMBLED, IS_LOCKED = (1 << k for k in range(7))
+
+
+# ---- the high-level commander, port 8 channel 0 (90 %); metres, seconds, radians
+
+def group(mask=0):
+    """The data that puts a drone into groups; 0 is how it begins. Here it is a question that changes nothing."""
+    return bytes([0, mask])
+
+
+def take_off(height, seconds):
+    """The data of a take-off to an absolute height, with the yaw as it is."""
+    return struct.pack("<BBff?f", 7, 0, height, 0.0, True, seconds)
+
+
+def land(height, seconds):
+    """The data of a landing at an absolute height, with the yaw as it is."""
+    return struct.pack("<BBff?f", 8, 0, height, 0.0, True, seconds)
+
+
+def go_to(x, y, z, yaw, seconds):
+    """The data that takes a drone to a place."""
+    return struct.pack("<BBBfffff", 4, 0, 0, x, y, z, yaw, seconds)
+
+
+def start(trajectory):
+    """The data that starts a trajectory, as a plan has it."""
+    return struct.pack("<BBBBBf", 5, 0, 0, 0, trajectory, 1.0)
+
+
+STOP = bytes([3, 0])  # the motors stop, and the drone falls
+
+# ---- the emergency stop, port 6 channel 1 (85 %): motors off until the drone is started anew
+EMERGENCY_STOP = bytes([3])

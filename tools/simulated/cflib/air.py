@@ -1,0 +1,351 @@
+"""The simulated air, and drones that fly: their firmware's side of the packets, from memory, and the places where they are.
+
+A drone stands on the floor, takes off, goes to places, flies the trajectory that its own memory decodes to, lands, and keeps
+a small way off all the while. Time is that of tools/clock.py. Nothing of a drone's dynamics is simulated: it is where its
+commander has it, but for the stray that it is given.
+"""
+import math
+import random
+import struct
+import threading
+
+import clock
+import firmware
+from companion import value
+
+EBUSY, EIO, ENOEXEC, EACCES = 16, 5, 8, 13
+MEMORIES = [(0x00, 8192), (0x10, 36), (0x12, 4096), (0x15, 4096)]
+PARAMETERS = [("commander.enHighLevel", 0x08, 0), ("kalman.resetEstimation", 0x08, 0), ("stabilizer.estimator", 0x08, 2)]
+LOGGED = [("stateEstimate.x", 7), ("stateEstimate.y", 7), ("stateEstimate.z", 7), ("pm.vbat", 7), ("supervisor.info", 2),
+          ("kalman.varPX", 7), ("kalman.varPY", 7), ("kalman.varPZ", 7)]
+PADDING = 20  # further items of the tables, so that reading them is no single packet
+FULL, SINKS = 4.1, 0.0008  # volts, and volts a second in flight
+# What --fault and tests can ask for; the number behind some is seconds after the start of the show.
+FAULTS = {
+    "dead": "answers nothing",
+    "silent": "its link is gone so many seconds after its start",
+    "empty": "its battery is low",
+    "unsettled": "its estimator isn't settled",
+    "astray": "stands half a metre off",
+    "memory": "has another list of memories",
+    "wanders": "leaves its curve by half a metre a second, so many seconds after its start",
+    "deaf": "hears no broadcast",
+    "deafens": "hears no broadcast once it has taken off",
+    "locked": "can't be armed",
+    "refuses": "refuses its start",
+    "falls": "its motors stop so many seconds after its start",
+    "old": "has answers of an earlier upload under way",
+}
+
+
+def smooth(u):
+    """From 0 to 1 from rest to rest."""
+    u = min(1.0, max(0.0, u))
+    return u ** 4 * (35 - 84 * u + 70 * u ** 2 - 20 * u ** 3)
+
+
+def segments_at(memory, offset, pieces):
+    """The segments of a trajectory in a memory, as (milliseconds, control values by axis); none where there is none."""
+    last, at, out = list(struct.unpack_from("<hhhh", memory, offset)), offset + 8, []
+    for _ in range(pieces):
+        header, milliseconds = struct.unpack_from("<BH", memory, at)
+        at, elements = at + 3, []
+        for axis in range(4):
+            count = (0, 1, 3, 7)[header >> 2 * axis & 3]
+            elements.append([last[axis], *struct.unpack_from("<%dh" % count, memory, at)])
+            at, last[axis] = at + 2 * count, elements[-1][-1]
+        if milliseconds == 0:
+            return []
+        out.append((milliseconds, elements))
+    return out
+
+
+class Drone:
+    """A drone: radio with safelink, memories, tables, commander, and where it is, in metres."""
+    memory_bytes = bytearray
+
+    def __init__(self, world, uri, home, faults):
+        self.world, self.uri, self.faults, self.lock = world, uri, faults, threading.RLock()
+        home = [home[0] + (0.5 if "astray" in faults else 0), home[1], home[2]]
+        self.place, self.plan, self.began, self.armed, self.cut = home, None, 0.0, False, False
+        self.floor, self.flies, self.curve, self.curve_began, self.starts = home[2], False, None, None, []
+        self.memories = [(kind, self.memory_bytes(b"\xFF" * size)) for kind, size in MEMORIES]
+        if "memory" in faults:
+            self.memories.insert(2, (0x11, bytearray(8192)))
+        self.table, self.parameters = [None] * 10, [row[2] for row in PARAMETERS]
+        self.blocks, self.up_queue = {}, []
+        if "old" in faults:
+            self.up_queue = [bytes([0x4E, 2]) + struct.pack("<IB", 24 * k, 0) for k in range(8)] + [bytes([0x8C, 6, 0, 1, 0])]
+        self.safelink, self.last_up, self.down, self.held = False, 1, 0, None
+        self.phase, self.booted, self.wandered = world.chance.random() * 7, clock.now() - 10 - 50 * world.chance.random(), None
+
+    # ---- the way
+
+    def flown(self):
+        """Seconds since the start of its trajectory, or None."""
+        return None if self.curve_began is None else clock.now() - self.curve_began
+
+    def is_due(self, fault):
+        """Whether a fault of some seconds after the start has come."""
+        return fault in self.faults and self.flown() is not None and self.flown() >= self.faults[fault]
+
+    def planned(self):
+        """Where its commander has it."""
+        now = clock.now()
+        if self.plan is None:
+            return list(self.place)
+        kind, begin, *rest = self.plan
+        if kind == "way":
+            first, last, seconds = rest
+            u = smooth((now - begin) / seconds) if seconds > 0 else 1.0
+            return [a + (b - a) * u for a, b in zip(first, last)]
+        segments, at = rest[0], max(0.0, (now - begin) * 1000)
+        for milliseconds, elements in segments:
+            if at <= milliseconds:
+                return [value(row, at / milliseconds) / 1000 for row in elements[:3]]
+            at -= milliseconds
+        return [row[-1] / 1000 for row in segments[-1][1][:3]]
+
+    def is_at(self):
+        """Where it is: as planned, but for its stray."""
+        now, at = clock.now(), self.planned()
+        if self.cut or self.is_due("falls"):
+            if not self.cut:
+                self.drop()
+            fallen = now - self.cut
+            return [self.place[0], self.place[1], max(self.floor, self.place[2] - 4.9 * fallen * fallen)]
+        if self.flies and self.world.stray:
+            a, b = self.phase + 0.9 * now, self.phase + 0.37 * now
+            way = [math.cos(a) * math.cos(b), math.sin(a) * math.cos(b), math.sin(b)]
+            at = [v + self.world.stray / 1000 * w for v, w in zip(at, way)]
+        if self.is_due("wanders"):
+            at[0] += 0.5 * (self.flown() - self.faults["wanders"])
+        return at
+
+    def drop(self):
+        """The motors stop."""
+        self.place, self.cut, self.armed, self.plan = self.planned(), clock.now(), False, None
+
+    def go(self, to, seconds):
+        """Flies from where it is to a place."""
+        self.plan = "way", clock.now(), self.planned(), to, max(0.01, seconds)
+
+    # ---- the radio
+
+    def poll(self, raw):
+        """A packet of the radio that arrived; the acknowledgement's payload."""
+        with self.lock:
+            self.log_what_is_due()
+            if raw == b"\xFF\x05\x01":
+                self.safelink, self.last_up, self.down, self.held = True, 1, 0, None
+                return raw
+            if not self.safelink:
+                self.take(raw)
+                return self.up_queue.pop(0) if self.up_queue else b"\xF3\x01\x3C"
+            if self.held is not None and (raw[0] >> 2 & 1) != self.down:
+                self.held, self.down = None, 1 - self.down
+            if self.held is None:
+                self.held = self.up_queue.pop(0) if self.up_queue else b"\xF3\x01\x3C"
+            answer = bytes([self.held[0] & 0xF3 | self.down << 2]) + self.held[1:]
+            fresh, self.last_up = (raw[0] >> 3 & 1) != self.last_up, raw[0] >> 3 & 1
+            if fresh:
+                self.take(raw)
+            return answer
+
+    def take(self, raw):
+        """Carries a packet out; its answer waits for the next poll."""
+        port, channel, data = firmware.parts(bytes(raw))
+        answer = {firmware.PARAMETERS: self.parameter, firmware.MEMORY: self.memory, firmware.LOGS: self.log,
+                  firmware.COMMANDER: self.command, firmware.PLATFORM: self.platform,
+                  firmware.PLACES: self.emergency}.get(port, lambda *_: None)(channel, data)
+        if answer is not None:
+            self.up_queue.append(firmware.packet(port, channel, answer))
+
+    def emergency(self, channel, data):
+        """Port 6: the emergency stop."""
+        if (channel, data[:1]) == (1, firmware.EMERGENCY_STOP):
+            self.drop()
+
+    def platform(self, channel, data):
+        """Port 13: arming and versions."""
+        if channel == 1:
+            return bytes([0, 6]) if data[0] == 0 else b"\x01simulated\0"
+        if channel == 0 and data[0] == 1:
+            self.armed = bool(data[1]) and "locked" not in self.faults and not self.cut
+            return bytes([1, 1, self.armed])
+        return None
+
+    def memory(self, channel, data):
+        """Port 4: the list of memories, reads and writes."""
+        if channel == 0:
+            if data[0] == 1:
+                return bytes([1, len(self.memories)])
+            kind, whole = self.memories[data[1]]
+            return struct.pack("<BBBI8s", 2, data[1], kind, len(whole), bytes(8))
+        number, address = struct.unpack_from("<BI", data)
+        whole = self.memories[number][1] if number < len(self.memories) else b""
+        if channel == 1:
+            good = address + data[5] <= len(whole)
+            return data[:5] + (b"\0" + bytes(whole[address:address + data[5]]) if good else bytes([EIO]))
+        good = address + len(data) - 5 <= len(whole)
+        if good:
+            whole[address:address + len(data) - 5] = data[5:]
+        return data[:5] + bytes([0 if good else EIO])
+
+    def table_answer(self, data, items, checksum):
+        """The answer to a question for a table or an item of it."""
+        if data[0] == 3:
+            return struct.pack("<BHI", 3, len(items) + PADDING, checksum)
+        number = int.from_bytes(data[1:3], "little")
+        name, kind = items[number - PADDING][:2] if number >= PADDING else ("filling.item%d" % number, items[0][1])
+        return data[:3] + bytes([kind]) + name.replace(".", "\0").encode() + b"\0"
+
+    def parameter(self, channel, data):
+        """Port 2: parameters."""
+        if channel == 0:
+            return self.table_answer(data, PARAMETERS, 0xA1)
+        number = int.from_bytes(data[:2], "little") - PADDING
+        form = "<" + firmware.PARAMETER_TYPES[PARAMETERS[number][1]]
+        if channel == 1:
+            return data[:2] + b"\0" + struct.pack(form, self.parameters[number])
+        self.parameters[number] = struct.unpack_from(form, data, 2)[0]
+        return data
+
+    def log(self, channel, data):
+        """Port 5: logs."""
+        if channel == 0:
+            return self.table_answer(data, LOGGED, 0xB2)
+        if channel != 1:
+            return None
+        if data[0] == 5:
+            self.blocks = {}
+            return bytes([5, 0, 0])
+        if data[0] == 6:
+            items = [struct.unpack_from("<BH", data, k) for k in range(2, len(data) - 2, 3)]
+            self.blocks[data[1]] = [[(kind & 15, number) for kind, number in items], None, 0]
+            return data[:2] + b"\0"
+        if data[0] == 4 and data[1] in self.blocks:
+            self.blocks[data[1]][1] = None
+        if data[0] == 3 and data[1] in self.blocks:
+            self.blocks[data[1]][1:] = data[2] / 100, clock.now()
+        return data[:2] + b"\0"
+
+    def log_what_is_due(self):
+        """Puts log blocks that are due into what goes up."""
+        for block, row in self.blocks.items():
+            items, period, at = row
+            if period is not None and clock.now() >= at and len(self.up_queue) < 50:
+                row[2] = max(at + period, clock.now() - period)
+                values = [self.variable(LOGGED[number - PADDING][0]) for _, number in items]
+                form = "<" + "".join(firmware.LOG_TYPES[kind] for kind, _ in items)
+                stamp = int((clock.now() - self.booted) * 1000) % 2 ** 24
+                self.up_queue.append(firmware.packet(firmware.LOGS, 2, bytes([block]) + stamp.to_bytes(3, "little")
+                                                     + struct.pack(form, *values)))
+
+    def variable(self, name):
+        """The value of a log variable."""
+        group, _, item = name.partition(".")
+        if group == "stateEstimate":
+            return self.is_at()["xyz".index(item)]
+        if group == "kalman":
+            return 0.05 if "unsettled" in self.faults else 0.00002
+        if name == "pm.vbat":
+            return 3.3 if "empty" in self.faults else FULL - SINKS * (self.flown() or 0)
+        info = firmware.CAN_ARM * ("locked" not in self.faults) | firmware.IS_ARMED * self.armed
+        flying = self.flies and not self.cut and self.is_at()[2] > self.floor + 0.05
+        return info | firmware.CAN_FLY * self.armed | firmware.IS_FLYING * flying | firmware.IS_TUMBLED * bool(self.cut)
+
+    def command(self, channel, data):
+        """Port 8: the commander."""
+        return (data + bytes(3))[:3] + bytes([self.commanded(data)])
+
+    def commanded(self, data):
+        """Carries a command out; its status."""
+        kind = data[0]
+        if kind == 0:
+            return 0
+        if kind == 3:
+            self.drop()
+            return 0
+        if kind == 6:
+            number, where, form, offset, pieces = struct.unpack_from("<BBBIB", data, 1)
+            if number > 9:
+                return ENOEXEC
+            self.table[number] = where, form, offset, pieces
+            return 0
+        if not self.parameters[0]:
+            return 0  # the commander is off: taken, and nothing is done
+        if not self.armed:
+            return ENOEXEC
+        if kind in (7, 8):
+            height, seconds = struct.unpack_from("<f", data, 2)[0], struct.unpack_from("<f", data, 11)[0]
+            self.flies = True
+            here = self.planned()
+            self.go([here[0], here[1], max(height, self.floor)], seconds)
+            return 0
+        if kind == 4:
+            x, y, z, _, seconds = struct.unpack_from("<fffff", data, 3)
+            self.go([x, y, z], seconds)
+            return 0
+        return self.begin(data) if kind == 5 else ENOEXEC
+
+    def begin(self, data):
+        """Starts a trajectory, anew each time, after its own lateness."""
+        number = data[4]
+        if "refuses" in self.faults:
+            return EBUSY
+        if number > 9 or self.table[number] is None:
+            return 0  # also where nothing was started
+        _, _, offset, pieces = self.table[number]
+        segments = segments_at([whole for kind, whole in self.memories if kind == 0x12][0], offset, pieces)
+        if not segments:
+            return ENOEXEC
+        self.curve_began = clock.now() + self.world.late / 1000 * self.world.chance.random()
+        self.plan, self.flies = ("curve", self.curve_began, segments), True
+        self.starts.append(self.curve_began)
+        return 0
+
+
+class World:
+    """The air that drones share, and the drones."""
+
+    def __init__(self):
+        self.reset({}, {})
+
+    def reset(self, homes, faults, stray=0.0, late=0.0, loss=0.0, rate=900.0, seed=1, unplugged=()):
+        """Sets drones at places (metres) by their URIs, each with its faults and their numbers."""
+        self.stray, self.late, self.loss, self.rate, self.unplugged = stray, late, loss, rate, unplugged
+        self.chance, self.lock, self.free = random.Random(seed), threading.Lock(), {}
+        self.drones = {uri: Drone(self, uri, home, faults.get(uri, {})) for uri, home in homes.items()}
+
+    def take_turn(self, dongle):
+        """Waits for a dongle's next transfer."""
+        with self.lock:
+            at = max(clock.now(), self.free.get(dongle, 0.0))
+            self.free[dongle] = at + 1 / self.rate
+            lost, lost_back = self.chance.random() < self.loss, self.chance.random() < self.loss
+        clock.wait(at + 1 / self.rate - clock.now())
+        return lost, lost_back
+
+    def transfer(self, uri, raw):
+        """A packet to a drone: whether it was acknowledged, and what came back."""
+        lost, lost_back = self.take_turn(uri.split("/")[2])
+        drone = self.drones.get(uri)
+        if lost or drone is None or "dead" in drone.faults or drone.is_due("silent"):
+            return False, b""
+        came = drone.poll(raw)
+        return (False, b"") if lost_back else (True, came)
+
+    def broadcast(self, dongle, channel, raw):
+        """A packet to all drones of a channel, each of which may miss it. Nobody acknowledges it, so the dongle repeats it three
+        times at once: that is from memory, too."""
+        self.take_turn(str(dongle))
+        for uri, drone in self.drones.items():
+            if uri.split("/")[2:4] == [str(dongle), str(channel)] and "deaf" not in drone.faults and "dead" not in drone.faults:
+                is_deaf = drone.is_due("silent") or "deafens" in drone.faults and drone.flies
+                if not is_deaf and self.chance.random() >= self.loss ** 4:
+                    with drone.lock:
+                        drone.take(raw)
+
+
+WORLD = World()
