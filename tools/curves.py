@@ -1,0 +1,70 @@
+"""Where drones of a show are at any time, in doubles: for tools that compare flights with it. Millimetres and milliseconds.
+
+The control values are those of the bytes that are sent; a place is off by less than a micrometre, which is what doubles cost.
+"""
+import bisect
+from math import comb, dist
+
+
+class Curve:
+    """A drone's curve. Before its begin and after its end it is where it begins and ends."""
+    STEP = 10
+
+    def __init__(self, segments):
+        self.begins, self.pieces, t = [], [], 0
+        for milliseconds, elements in segments:
+            self.begins.append(t)
+            self.pieces.append((t, milliseconds, [powers(row) for row in elements[:3]]))
+            t += milliseconds
+        self.end = t
+        self.table = [self.at(k * self.STEP) for k in range(t // self.STEP + 2)]
+
+    def at(self, t):
+        """The place at a time."""
+        t = min(max(t, 0), self.end)
+        begin, length, rows = self.pieces[max(0, bisect.bisect_right(self.begins, t) - 1)]
+        u, out = (t - begin) / length, []
+        for row in rows:
+            v = 0.0
+            for c in row:
+                v = v * u + c
+            out.append(v)
+        return out
+
+    def nearest(self, place, low, high, enough=0.0):
+        """A time between two at which the curve is nearest to a place, as far as it is looked for, and the distance; no finer
+        than the table where that is near enough."""
+        low, high = min(max(low, 0), self.end), min(max(high, 0), self.end)
+        best = min((dist(place, self.at(t)), t) for t in (low, high))
+        for k in range(int(low) // self.STEP + 1, -(-int(high) // self.STEP)):
+            best = min(best, (dist(place, self.table[k]), k * self.STEP))
+        if best[0] <= enough:
+            return best
+        a, b = max(low, best[1] - self.STEP), min(high, best[1] + self.STEP)
+        for _ in range(25):
+            p, q = a + (b - a) / 3, b - (b - a) / 3
+            near, far = dist(place, self.at(p)), dist(place, self.at(q))
+            best = min(best, (near, p), (far, q))
+            a, b = (a, q) if near < far else (p, b)
+        return best
+
+
+def greatest_jump(segments):
+    """The greatest jump of speed of a drone, in metres a second, and when it is, in seconds; before and after it rests."""
+    last, t, best = [0.0] * 3, 0, (0.0, 0.0)
+    for milliseconds, elements in segments:
+        first, end = ([(len(row) - 1) * (row[k + 1] - row[k]) / milliseconds if len(row) > 1 else 0.0 for row in elements[:3]]
+                      for k in (0, -2))
+        best, last, t = max(best, (dist(first, last), t / 1000)), end, t + milliseconds
+    return max(best, (dist(last, [0.0] * 3), t / 1000))
+
+
+def powers(row):
+    """The coefficients of a curve by its control values, the highest power first."""
+    n = len(row) - 1
+    return [float(comb(n, k) * sum((-1) ** (k - j) * comb(k, j) * row[j] for j in range(k + 1))) for k in range(n, -1, -1)]
+
+
+def curves_of(flown):
+    """The curves of a show's drones by their names."""
+    return {name: Curve(segments) for name, segments in zip(flown.names, flown.sent)}
