@@ -1,0 +1,470 @@
+"""./show with a stand-in for rt and one for the program: what is built and when, what signals leave, words and files. The real
+rt is not run here."""
+import os
+import pty
+import re
+import shutil
+import signal
+import subprocess
+import sys
+import tempfile
+import time
+import unittest
+
+TOP = os.path.dirname(os.path.dirname(os.path.abspath(__file__)))
+sys.dont_write_bytecode = True
+sys.path.insert(0, os.path.join(TOP, "tools"))
+
+import commands
+
+# As rt does, it keeps others out of the crate's folder and of those below it, refuses a crate whose lower ones aren't proved,
+# builds PROGRAM, and runs a try in a folder of its own below TMPDIR. It notes each call in `calls`. Where SLOW names the crate,
+# or `try`, it starts a prover, notes its process, and waits for it; with STUBBORN it takes its time to end when told to.
+FAKE_RT = """#!/usr/bin/env python3
+import fcntl, os, shutil, signal, subprocess, sys, tempfile, time
+crate, home = os.path.basename(os.getcwd()), os.environ["HOME_OF_TEST"]
+if sys.argv[1] == "version":
+    print("a toolchain")
+    sys.exit(0)
+with open(home + "/calls", "a") as calls:
+    calls.write(sys.argv[1] + " " + crate + "\\n")
+def wait_for_prover():
+    if os.environ.get("STUBBORN"):
+        signal.signal(signal.SIGTERM, lambda *_: time.sleep(1.5) or sys.exit(1))
+    prover = subprocess.Popen(["sleep", "300"])
+    with open(home + "/started.new", "w") as file:
+        file.write("%d %d" % (os.getpid(), prover.pid))
+    os.rename(home + "/started.new", home + "/started")
+    prover.wait()
+slow = os.environ.get("SLOW")
+if sys.argv[1] == "try":
+    with tempfile.TemporaryDirectory(dir=home if os.environ.get("HIDES") else None) as room:
+        shutil.copy(home + "/program", room + "/tried")
+        if slow == "try":
+            wait_for_prover()
+        time.sleep(0.5)
+        done = subprocess.run([room + "/tried", *sys.argv[3:]])
+        print("run=ended status=%d runners=1 proved=no" % done.returncode, file=sys.stderr)
+    sys.exit(done.returncode)
+below = {"middle": ["low"], "beside": ["low"], "show_cli": ["low", "middle", "beside"]}.get(crate, [])
+held = [os.open(os.path.join("..", it), os.O_RDONLY) for it in [crate, *below]]
+try:
+    for it in held:
+        fcntl.flock(it, fcntl.LOCK_EX | fcntl.LOCK_NB)
+except BlockingIOError:
+    print("another rt works here")
+    sys.exit(1)
+if crate == os.environ.get("FAILS") or not all(os.path.exists("../%s/out/rlib" % it) for it in below):
+    print("some goal is open")
+    sys.exit(1)
+if crate == slow:
+    wait_for_prover()
+if crate == os.environ.get("CHANGES"):
+    with open(home + "/crates/low/src/lib.rt", "a") as file:
+        file.write("// a change meanwhile\\n")
+time.sleep(0.5 if crate in ("middle", "beside") else 0)
+os.makedirs("out/rlib", exist_ok=True)
+if sys.argv[1] == "run":
+    shutil.copy("../../program", "out/show_cli")
+    print("logic=proved functions=3 axioms=1", file=sys.stderr)
+    sys.exit(subprocess.run(["out/show_cli", *sys.argv[5:]]).returncode)
+"""
+# It refuses `1.5`, and words as the program does, and tells what it was given, `play` and `upload` byte for byte.
+PROGRAM = """#!/usr/bin/env python3
+import sys
+words = sys.argv[1:]
+if words[0] not in %r or not all(it.isdigit() or it.startswith("--") and "=" not in it for it in words[1:]):
+    print("error 2 usage")
+    sys.exit(2)
+data = sys.stdin.buffer.read()
+if words[0] in ("play", "upload"):
+    sys.stdout.buffer.write(data[::-1])
+    sys.exit(3 if b"1.5" in data else 0)
+text = data.decode()
+if "1.5" in text:
+    print("error 3 line 2 bad-number")
+    sys.exit(3)
+print(words, repr(text))
+""" % sorted(commands.FORMS)
+GOOD = "['check'] 'a\\n'\n"
+
+
+class Place(unittest.TestCase):
+    def setUp(self):
+        folder = tempfile.TemporaryDirectory()
+        self.addCleanup(folder.cleanup)
+        self.place = os.path.join(folder.name, "place")
+        os.mkdir(self.place)
+        for name in ("tools", "docs"):
+            os.symlink(os.path.join(TOP, name), os.path.join(self.place, name))
+        shutil.copy(os.path.join(TOP, "show"), self.place)
+        self.file("VERSION", "1.2.3\n")
+        self.file("crates.txt", "# all\nlow: arrayvec\nmiddle: low\nbeside: low\nother:\nshow_cli: low middle beside\n")
+        for crate in ("low", "middle", "beside", "other", "show_cli"):
+            for inside, name in (("src", "lib.rt"), ("specs", "Lib.antt"), ("must-fail", "wrong.edit")):
+                os.makedirs(os.path.join(self.place, "crates", crate, inside))
+                self.file("crates/%s/%s/%s" % (crate, inside, name), "")
+        os.mkdir(os.path.join(self.place, "bin"))
+        self.file("bin/rt", FAKE_RT, 0o755)
+        self.file("program", PROGRAM, 0o755)
+        self.file("good", "a\n")
+        self.file("bad", "choreo 1\ncue 1.5\n")
+
+    def path(self, name):
+        """The path of a file of the place."""
+        return os.path.join(self.place, name)
+
+    def file(self, name, text, mode=0o644):
+        """A file of the place."""
+        with open(self.path(name), "w") as file:
+            file.write(text)
+        os.chmod(self.path(name), mode)
+
+    def settings(self, place, **more):
+        """The environment of the launcher: rt is the stand-in of the place."""
+        return {**os.environ, "PATH": os.path.join(place, "bin") + os.pathsep + os.environ["PATH"], "HOME_OF_TEST": place,
+                **more}
+
+    def show(self, *words, text="", place=None, **more):
+        """The status, standard output and standard error of the launcher in its place."""
+        place = place or self.place
+        done = subprocess.run(["./show", *words], cwd=place, input=text, stdout=subprocess.PIPE, stderr=subprocess.PIPE,
+                              universal_newlines=True, timeout=60, env=self.settings(place, **more))
+        return done.returncode, done.stdout, done.stderr
+
+    def calls(self):
+        """What rt was called for since the last time."""
+        try:
+            with open(self.path("calls")) as file:
+                return file.read().split("\n")[:-1]
+        except FileNotFoundError:
+            return []
+        finally:
+            open(self.path("calls"), "w").close()
+
+    def leftovers(self):
+        """The folders of builds that are left."""
+        return [it for it in os.listdir(self.place) if it.startswith(".proving-")]
+
+
+class Builds(Place):
+    def test_order(self):
+        status, _, told = self.show("check", "good", FAILS="middle")
+        self.assertEqual(status, 70)
+        self.assertIn("some goal is open\nshow: middle was not proved", told)
+        for crate in ("low", "middle", "beside"):
+            shutil.rmtree(self.path("crates/%s/out" % crate), ignore_errors=True)
+        status, said, told = self.show("check", "--depth", "7", "good")
+        self.assertEqual((status, said), (0, "['check', '--depth', '7'] 'a\\n'\n"), told)
+        lines = [line for line in told.splitlines() if "proving " in line and " of 4: " in line]
+        self.assertEqual(lines, ["show: proving 1 of 4: low", "show: proving 2 of 4: beside", "show: proving 3 of 4: middle",
+                                 "show: proving 4 of 4: show_cli"])
+        self.assertEqual(self.leftovers(), [])
+        self.assertEqual(self.show("check", text="b"), (0, "['check'] 'b'\n", ""))
+
+    def is_built(self, change, wanted):
+        """Says that the launcher builds, or doesn't, after a change."""
+        self.calls()
+        change()
+        status, said, told = self.show("check", "good")
+        self.assertEqual((status, said), (0, GOOD), told)
+        self.assertEqual(bool(self.calls()), wanted, told)
+
+    def times(self, name, when):
+        """Sets a file's time."""
+        os.utime(self.path(name), (when, when))
+
+    def test_stamp(self):
+        program, now = "crates/show_cli/out/show_cli", time.time()
+        self.is_built(lambda: None, True)
+        self.is_built(lambda: None, False)
+        # Files' times say nothing: newer sources that are the same, and older ones that are others.
+        self.is_built(lambda: self.times("crates/low/src/lib.rt", now + 99), False)
+
+        def older():
+            self.file("crates/low/src/lib.rt", "fn f() {}\n")
+            self.times("crates/low/src/lib.rt", now - 9999)
+        self.is_built(older, True)
+        self.is_built(lambda: self.file("crates/low/src/lib.rt", ""), True)
+        self.is_built(lambda: self.file("crates/middle/specs/Lib.antt", "a word"), True)
+        self.is_built(lambda: os.rename(self.path("crates/low/src/lib.rt"), self.path("crates/low/src/lab.rt")), True)
+        self.is_built(lambda: self.file("crates.txt", "low:\nmiddle: low\nbeside: low\nshow_cli: low middle beside\n"), True)
+        for name in ("crates/low/must-fail/wrong.edit", "crates/other/src/lib.rt", "crates/low/out/more.rt", "README.md"):
+            self.is_built(lambda: self.file(name, "b"), False)
+        # Another program, however new, and one whose record is gone.
+        self.is_built(lambda: self.file(program, "#!/bin/sh\necho mine\n", 0o755), True)
+        self.is_built(lambda: os.remove(self.path(program + ".built")), True)
+        self.is_built(lambda: self.file(program + ".built", "no record"), True)
+        self.is_built(lambda: os.chmod(self.path(program), 0o644), True)
+
+    def test_clone(self):
+        self.show("check", "good")
+        for k, copy in enumerate((shutil.copy2, shutil.copyfile)):
+            clone = os.path.join(os.path.dirname(self.place), "clone%d" % k)
+            shutil.copytree(self.place, clone, symlinks=True, copy_function=copy)
+            for name in ("show", "crates/show_cli/out/show_cli"):
+                os.chmod(os.path.join(clone, name), 0o755)
+            os.remove(os.path.join(clone, "bin", "rt"))
+            self.assertEqual(self.show("check", "good", place=clone), (0, GOOD, ""))
+
+    def test_changed_meanwhile(self):
+        status, said, told = self.show("check", "good", CHANGES="middle")
+        self.assertEqual((status, said), (70, ""))
+        self.assertIn("the sources were changed while they were proved", told)
+        self.is_built(lambda: None, True)
+
+    def test_no_rt(self):
+        os.remove(self.path("bin/rt"))
+        for words in (("check", "good"), ("--unproved", "check", "good")):
+            status, said, told = self.show(*words, PATH=self.path("bin") + ":/usr/bin:/bin")
+            self.assertEqual((status, said, "no rt on the PATH" in told), (70, "", True), told)
+
+    def test_version(self):
+        status, said, told = self.show("version")
+        self.assertEqual((status, said, "isn't built" in told), (70, "hemtoghai 1.2.3\n", True))
+        self.show("check", "good")
+        status, said, _ = self.show("version")
+        self.assertEqual(status, 0)
+        self.assertIn("hemtoghai 1.2.3\nprogram sha256 ", said)
+        self.assertIn("\ntoolchain a toolchain\nproof: logic=proved functions=3 axioms=1\n", said)
+        self.assertNotIn("the sources are others", said)
+        self.assertEqual(self.show("--version")[:2], (0, said))
+        self.file("crates/low/src/lib.rt", "fn f() {}\n")
+        self.assertIn("the sources are others now", self.show("version")[1])
+        self.file("crates/show_cli/out/show_cli", "#!/bin/sh\n", 0o755)
+        status, said, _ = self.show("version")
+        self.assertEqual((status, "nothing is known of its proof" in said, "logic=" in said), (70, True, False))
+
+
+class Signals(Place):
+    def started(self):
+        """The processes of rt and of its prover, once they are there."""
+        for _ in range(300):
+            if os.path.exists(self.path("started")):
+                with open(self.path("started")) as file:
+                    return [int(word) for word in file.read().split()]
+            time.sleep(0.05)
+        self.fail("rt was not started")
+
+    def gone(self, process):
+        """Whether a process has ended, within a few seconds."""
+        for _ in range(100):
+            try:
+                with open("/proc/%d/stat" % process) as file:
+                    if file.read().rpartition(")")[2].split()[0] == "Z":
+                        return True
+            except (FileNotFoundError, ProcessLookupError):
+                return True
+            time.sleep(0.05)
+        return False
+
+    def ended(self, words, slow, number, again=None, **more):
+        """Starts the launcher, has it end by a signal while rt works, and says what it left."""
+        started = subprocess.Popen(["./show", *words], cwd=self.place, stdin=subprocess.DEVNULL, stdout=subprocess.DEVNULL,
+                                   stderr=subprocess.DEVNULL, env=self.settings(self.place, SLOW=slow, **more))
+        processes = self.started()
+        started.send_signal(number)
+        if again:
+            time.sleep(0.5)
+            started.send_signal(again)
+        self.assertEqual(started.wait(30), 128 + number)
+        self.assertEqual([self.gone(it) for it in processes], [True, True], (words, slow, number))
+        self.assertEqual(self.leftovers(), [])
+        os.remove(self.path("started"))
+
+    def test_ended(self):
+        for number in (signal.SIGTERM, signal.SIGHUP, signal.SIGINT):
+            for words, slow in ((["check", "good"], "middle"), (["check", "good"], "show_cli"),
+                                (["--unproved", "check", "good"], "try")):
+                self.ended(words, slow, number)
+        # What was proved before is kept.
+        self.assertTrue(os.path.isdir(self.path("crates/low/out/rlib")))
+        self.assertEqual(self.show("check", "good")[:2], (0, GOOD))
+
+    def test_told_twice(self):
+        self.ended(["check", "good"], "middle", signal.SIGTERM, signal.SIGHUP, STUBBORN="1")
+
+    def test_ignored(self):
+        # As under nohup: what was ignored before stays so.
+        shell = ["sh", "-c", "trap '' HUP; exec ./show check good"]
+        started = subprocess.Popen(shell, cwd=self.place, stdin=subprocess.DEVNULL, stdout=subprocess.DEVNULL,
+                                   stderr=subprocess.DEVNULL, env=self.settings(self.place, SLOW="low"))
+        self.started()
+        started.send_signal(signal.SIGHUP)
+        time.sleep(0.6)
+        self.assertIsNone(started.poll())
+        started.send_signal(signal.SIGTERM)
+        self.assertEqual(started.wait(30), 128 + signal.SIGTERM)
+
+    def test_closed_terminal(self):
+        child, terminal = pty.fork()
+        if child == 0:
+            os.chdir(self.place)
+            os.execvpe("./show", ["./show", "check", "good"], self.settings(self.place, SLOW="middle"))
+        processes = self.started()
+        os.close(terminal)
+        for _ in range(200):
+            done, _ = os.waitpid(child, os.WNOHANG)
+            if done:
+                break
+            time.sleep(0.1)
+        self.assertEqual((done, [self.gone(it) for it in processes], self.leftovers()), (child, [True, True], []))
+
+
+class Words(Place):
+    def setUp(self):
+        super().setUp()
+        self.show("check", "good")
+        os.mkdir(self.path("folder"))
+        self.file("room", "a\n%%\nb\n")
+
+    def test_help(self):
+        with open(os.path.join(TOP, "docs", "COMMANDS.md")) as file:
+            page = file.read()
+        forms = re.search(r"^\$ \./show help\n(.*?)```", page, re.M | re.S)[1].splitlines()
+        self.assertEqual([form for form, _ in commands.COMMANDS], forms)
+        os.remove(self.path("crates/show_cli/out/show_cli"))
+        self.calls()
+        for words in ([], ["-h"], ["--help"]):
+            status, said, told = self.show(*words)
+            self.assertEqual((status, told), (0, ""))
+            self.assertEqual(re.findall("^([a-z]+) [^:\n]*  ", said, re.M), list(commands.FORMS))
+        for command, form in commands.FORMS.items():
+            for words in ((command, "--help"), (command, "good", "-h")):
+                status, said, told = self.show(*words)
+                self.assertEqual((status, told), (0, ""))
+                self.assertTrue(said.startswith("usage: ./show " + form), said)
+            self.assertIn("\n## %s\n" % command, page)
+        self.assertIn("\nD is 0 to 8\nMS is 1 to 60000\n", self.show("play", "--help")[1])
+        self.assertIn("[SHOW [REGIONS]]", self.show("boxes", "--help")[1])
+        self.assertEqual(self.calls(), [])
+
+    def test_numbers_are_those_of_the_page(self):
+        with open(os.path.join(TOP, "docs", "COMMANDS.md")) as file:
+            page = file.read()
+        rows = re.findall(r"^\| (?:`--[a-z]+ ([A-Z]+)`|([A-Z]) of `drill`) \| ([\d,]+) to ([\d,]+)", page, re.M)
+        found = {first or second: tuple(int(word.replace(",", "")) for word in limits) for first, second, *limits in rows}
+        self.assertEqual(found, commands.NUMBERS)
+
+    def test_options(self):
+        # Options before, behind and between, as two words or one.
+        for words, wanted in ((("good", "--depth", "6"), ["check", "--depth", "6"]),
+                              (("--depth=6", "good"), ["check", "--depth", "6"]),
+                              (("good", "--depth=007"), ["check", "--depth", "007"]), (("--", "good"), ["check"])):
+            self.assertEqual(self.show("check", *words), (0, "%r 'a\\n'\n" % wanted, ""))
+        self.assertEqual(self.show("rehearse", "--start", "good", "--readback", "good", "--depth", "0")[1],
+                         "['rehearse', '--start', '--readback', '--depth', '0'] 'a\\n%%\\na\\n'\n")
+        self.assertEqual(self.show("drill", "5", "--depth", "8")[1], "['drill', '5', '--depth', '8'] ''\n")
+        os.rename(self.path("good"), self.path("-good"))
+        self.assertEqual(self.show("check", "--", "-good")[:2], (0, GOOD))
+
+    def test_wrong_words(self):
+        for words, line in (
+                (("chek", "good"), "there is no command chek; did you mean check?"),
+                (("xyz",), "there is no command xyz; ./show --help lists them"),
+                (("check", "--dept", "6", "good"), "check has no option --dept; did you mean --depth?"),
+                (("check", "--step", "6", "good"), "check has no option --step"),
+                (("upload", "--start=1", "good"), "upload has no option --start=1"),
+                (("check", "-d", "good"), "check has no option -d"),
+                (("check", "good", "--depth"), "--depth D: D is 0 to 8"),
+                (("check", "--depth", "9", "good"), "--depth D: D is 0 to 8, not 9"),
+                (("check", "--depth=-1", "good"), "D is 0 to 8, not -1"),
+                (("check", "--depth", "0000000006", "good"), "D is 0 to 8, not 0000000006"),
+                (("play", "--step", "0", "good"), "MS is 1 to 60000, not 0"),
+                (("check", "--depth", "1", "good", "--depth", "1"), "--depth stands twice"),
+                (("drill",), "drill N: N is 1 to 32"), (("drill", "33"), "N is 1 to 32, not 33"),
+                (("drill", "3", "good"), "drill reads no file"), (("help", "good"), "help reads no file"),
+                (("check", "folder"), "folder is a directory"), (("verify", "good", "folder"), "folder is a directory"),
+                (("check", "goud"), "there is no file goud; did you mean good?"),
+                (("check", "none/good"), "there is no file none/good"),
+                (("check", "good", "bad"), "check reads one file"),
+                (("boxes", "good", "good", "bad"), "boxes reads two files: a show and its regions"),
+                (("verify", "-", "-"), "standard input is one of the two files, not both"),
+                (("upload", "good", "-"), "{ cat SHOW; echo %%; cat; } | ./show upload"),
+                (("boxes", "good"), "boxes reads regions too: ./show boxes SHOW REGIONS")):
+            status, said, told = self.show(*words, text="a\n")
+            self.assertEqual((status, said), (2, "error 2 usage\n"), words)
+            self.assertIn("show: " if line[0].islower() else "", told)
+            self.assertIn(line + "\n", told, words)
+        # Where nothing is built, nothing is built for a mistake.
+        self.file("crates/low/src/lib.rt", "fn f() {}\n")
+        self.calls()
+        self.assertEqual(self.show("chek", "good")[:2], (2, ""))
+        self.assertEqual(self.calls(), [])
+
+    def test_files(self):
+        self.assertEqual(self.show("verify", "good", "bad")[1:2], ("error 3 line 2 bad-number\n",))
+        self.assertEqual(self.show("verify", "good", "good")[:2], (0, "['verify'] 'a\\n%%\\na\\n'\n"))
+        for command in ("boxes", "verify"):
+            self.assertEqual(self.show(command, "room")[:2], (0, "['%s'] 'a\\n%%%%\\nb\\n'\n" % command))
+        self.file("ends", "a\n%%")
+        self.assertEqual(self.show("boxes", "ends")[:2], (0, "['boxes'] 'a\\n%%'\n"))
+        for words, wanted in ((("check", "-"), "['check'] 'x\\n'\n"), (("boxes", "good", "-"), "['boxes'] 'a\\n%%\\nx\\n'\n"),
+                              (("verify", "-", "good"), "['verify'] 'x\\n%%\\na\\n'\n"), (("boxes", "-"), "['boxes'] 'x\\n'\n")):
+            self.assertEqual(self.show(*words, text="x\n")[:2], (0, wanted))
+        self.assertEqual(self.show("help", text="never read")[1], "['help'] ''\n")
+
+    def test_cures(self):
+        for words, text in ((("check", "bad"), ""), (("upload", "bad"), "")):
+            status, _, told = self.show(*words, text=text)
+            self.assertEqual(status, 3)
+            self.assertIn("     2 | cue 1.5\n", told)
+            self.assertIn("show: cure: write whole numbers", told)
+        self.assertEqual(self.show("check", "bad")[1], "error 3 line 2 bad-number\n")
+
+    def test_bytes_pass_through(self):
+        every = bytes(range(256)) * 999
+        with open(self.path("every"), "wb") as file:
+            file.write(every)
+        for words, data, wanted in ((["upload", "--start", "good", "every"], b"", b"a\n%%\n" + every),
+                                    (["upload", "every"], b"", every), (["play", "--step", "9"], every, every)):
+            done = subprocess.run(["./show", *words], cwd=self.place, input=data, stdout=subprocess.PIPE,
+                                  env=self.settings(self.place))
+            self.assertEqual((done.returncode, done.stdout), (0, wanted[::-1]), words)
+
+    def test_told_while_it_runs(self):
+        # Told to end while the program waits for its input: neither stays.
+        self.file("crates/show_cli/out/show_cli", "#!/bin/sh\necho $$ > started\nexec sleep 300\n", 0o755)
+        with open(self.path("remember.py"), "w") as file:
+            file.write("import json, hashlib\npath = 'crates/show_cli/out/show_cli'\nnote = json.load(open(path + '.built'))\n"
+                       "note['sha256'] = hashlib.sha256(open(path, 'rb').read()).hexdigest()\n"
+                       "json.dump(note, open(path + '.built', 'w'))\n")
+        subprocess.run([sys.executable, "remember.py"], cwd=self.place, check=True)
+        started = subprocess.Popen(["./show", "check", "good"], cwd=self.place, env=self.settings(self.place))
+        process = Signals.started(self)
+        started.send_signal(signal.SIGTERM)
+        self.assertEqual(started.wait(30), 128 + signal.SIGTERM)
+        self.assertTrue(Signals.gone(self, process[0]))
+
+
+class Unproved(Place):
+    def test_kept(self):
+        self.assertEqual(self.show("--unproved", "check", "good"), (0, GOOD, "show: nothing is proved in this run\n"))
+        self.assertEqual(self.calls(), ["try show_cli"])
+        self.assertEqual(self.show("--unproved", "check", "good"), (0, GOOD, "show: nothing is proved in this run\n"))
+        self.assertEqual((self.calls(), self.leftovers()), ([], []))
+        # It is never taken for the proved one, nor where sources changed.
+        self.assertEqual(self.show("check", "good")[:2], (0, GOOD))
+        self.assertEqual(len(self.calls()), 4)
+        self.file("crates/low/src/lib.rt", "fn f() {}\n")
+        self.assertEqual(self.show("--unproved", "check", "good")[:2], (0, GOOD))
+        self.assertEqual(self.calls(), ["try show_cli"])
+        self.file("crates/show_cli/out/show_cli.unproved", "#!/bin/sh\necho mine\n", 0o755)
+        self.assertEqual(self.show("--unproved", "check", "good")[:2], (0, GOOD))
+
+    def test_not_found(self):
+        # Where rt builds elsewhere, each call is as the first.
+        for _ in range(2):
+            self.assertEqual(self.show("--unproved", "check", "good", HIDES="1")[:2], (0, GOOD))
+            self.assertEqual(self.calls(), ["try show_cli"])
+
+    def test_refusals(self):
+        for _ in range(2):
+            status, said, told = self.show("--unproved", "check", "bad")
+            self.assertEqual((status, said), (3, "error 3 line 2 bad-number\n"))
+            self.assertIn("nothing is proved in this run", told)
+            self.assertIn("show: cure: write whole numbers", told)
+
+
+if __name__ == "__main__":
+    unittest.main()
