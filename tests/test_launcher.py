@@ -364,7 +364,7 @@ class Words(Place):
                 (("xyz",), "there is no command xyz; ./show --help lists them"),
                 (("check", "--dept", "6", "good"), "check has no option --dept; did you mean --depth?"),
                 (("check", "--step", "6", "good"), "check has no option --step"),
-                (("upload", "--start=1", "good"), "upload has no option --start=1"),
+                (("upload", "--start=1", "good"), "upload has no option --start=1; did you mean --start?"),
                 (("check", "-d", "good"), "check has no option -d"),
                 (("check", "good", "--depth"), "--depth D: D is 0 to 8"),
                 (("check", "--depth", "9", "good"), "--depth D: D is 0 to 8, not 9"),

@@ -1,6 +1,13 @@
-"""tools/release and ./show of a release, on a machine without rt. Needs a program with a record of its proof."""
+"""tools/release, the manual page and the completion; ./show and tools of a release, unpacked where there is no rt and no
+repository. A repository is made for it with the files of this one, a single small crate, and the built program; where none is
+built here, with .ci/stand_in in its place. Machines other than this one weren't tried."""
 import hashlib
+import importlib.machinery
+import importlib.util
+import json
 import os
+import re
+import resource
 import shutil
 import subprocess
 import sys
@@ -8,148 +15,307 @@ import tarfile
 import tempfile
 import unittest
 
-import common
+sys.dont_write_bytecode = True
+TOP = os.path.dirname(os.path.dirname(os.path.abspath(__file__)))
+sys.path.insert(0, os.path.join(TOP, "tools"))
+import choreo
+import commands
+import manual
+
+PROVED = "logic=proved functions=3 axioms=1"
+STAND_IN = """#!/bin/sh
+[ "$1" = help ] || [ "$1" = check ] || [ "$1" = compile ] || [ "$1" = play ] || [ "$1" = upload ] || { echo error 2 usage; exit 2; }
+exec %s %s "$@"
+""" % (sys.executable, os.path.join(TOP, ".ci", "stand_in"))
+IS_BUILT = os.access(choreo.PROGRAM, os.X_OK)
+NAME = "hemtoghai-7.8.9%s-x86_64-linux"
+
+
+def done(words, place, **more):
+    """The status, standard output and standard error of a command."""
+    ended = subprocess.run(words, cwd=place, stdout=subprocess.PIPE, stderr=subprocess.PIPE, universal_newlines=True,
+                           timeout=120, **more)
+    return ended.returncode, ended.stdout, ended.stderr
+
+
+class Repository:
+    """A repository from which a release can be made."""
+
+    def __init__(self, room):
+        self.place = os.path.join(room, "repository")
+        for name in ("docs", "examples", "tools"):
+            shutil.copytree(os.path.join(TOP, name), self.path(name), ignore=shutil.ignore_patterns("__pycache__"))
+        for name in ("README.md", "show"):
+            shutil.copy(os.path.join(TOP, name), self.place)
+        self.file("VERSION", "7.8.9\n")
+        self.file("crates.txt", "show_cli:\n")
+        self.file(".gitignore", "out/\n")
+        self.file("crates/show_cli/src/lib.rt", "fn f() {}\n")
+        self.file("bin/rt", "#!/bin/sh\n[ \"$1\" = version ] && echo a toolchain\n", 0o755)
+        self.program = self.path("crates/show_cli/out/show_cli")
+        self.file(self.program, STAND_IN, 0o755)
+        if IS_BUILT:
+            shutil.copy(choreo.PROGRAM, self.program)
+        self.git("init", "-q")
+        self.commit()
+        self.record()
+
+    def path(self, name):
+        """The path of a file."""
+        return os.path.join(self.place, name)
+
+    def file(self, name, text, mode=0o644):
+        """Writes a file."""
+        os.makedirs(os.path.dirname(self.path(name)), exist_ok=True)
+        with open(self.path(name), "w") as file:
+            file.write(text)
+        os.chmod(self.path(name), mode)
+
+    def git(self, *words):
+        """What git says."""
+        named = ["-c", "user.name=a", "-c", "user.email=a@b", "-c", "commit.gpgsign=false"]
+        return subprocess.run(["git", *named, *words], cwd=self.place, check=True, stdout=subprocess.PIPE).stdout.decode()
+
+    def commit(self):
+        """Commits all files; the commit."""
+        self.git("add", "-A")
+        self.git("commit", "-q", "-m", "a")
+        return self.git("rev-parse", "HEAD").strip()
+
+    def settings(self):
+        """An environment in which rt is the stand-in of the place."""
+        return {**os.environ, "PATH": self.path("bin") + os.pathsep + os.environ["PATH"]}
+
+    def record(self, said=PROVED):
+        """Has the launcher note a build of the program as it is."""
+        loader = importlib.machinery.SourceFileLoader("launcher_of_place", self.path("show"))
+        show = importlib.util.module_from_spec(importlib.util.spec_from_loader("launcher_of_place", loader))
+        loader.exec_module(show)
+        before = os.environ["PATH"]
+        try:
+            os.environ["PATH"] = self.settings()["PATH"]
+            show.write_record(said, show.stamp(show.crates_below("show_cli")))
+        finally:
+            os.environ["PATH"] = before
+
+    def release(self, *words):
+        """The status, standard output and standard error of tools/release."""
+        return done(["tools/release", "--out", os.path.dirname(self.place), *words], self.place, env=self.settings())
+
+    def packed(self, changed=""):
+        """The path of the archive."""
+        return os.path.join(os.path.dirname(self.place), NAME % changed + ".tar.gz")
+
+
+class Refusals(unittest.TestCase):
+    def setUp(self):
+        room = tempfile.TemporaryDirectory()
+        self.addCleanup(room.cleanup)
+        self.repository = Repository(room.name)
+
+    def refused(self, line, *words):
+        """Says that no release is made, and why."""
+        status, said, told = self.repository.release(*words)
+        self.assertEqual((status, said), (70, ""), told)
+        self.assertIn(line, told)
+        self.assertFalse(os.path.exists(self.repository.packed()) or os.path.exists(self.repository.packed("-changed")))
+
+    def test_another_program(self):
+        source, program = self.repository.path("crates/show_cli/src/lib.rt"), self.repository.program
+        # Sources that are others, though their file is the older one, and the same with a commit of them.
+        self.repository.file("crates/show_cli/src/lib.rt", "fn g() {}\n")
+        os.utime(source, (1, 1))
+        self.refused("isn't the one of these sources", "--changed")
+        self.repository.commit()
+        self.refused("isn't the one of these sources")
+        self.repository.file("crates/show_cli/src/lib.rt", "fn f() {}\n")
+        self.repository.commit()
+        with open(program, "ab") as file:
+            file.write(b"\n")
+        self.refused("isn't the one of these sources")
+        os.remove(program + ".built")
+        self.refused("isn't the one of these sources")
+        os.remove(program)
+        self.refused("isn't the one of these sources")
+
+    def test_record(self):
+        self.repository.record("nothing of a proof")
+        self.refused("hasn't its last line")
+
+    def test_files(self):
+        self.repository.file("docs/more.md", "more\n")
+        self.refused("files differ from the commit")
+        self.assertEqual(self.repository.release("--changed")[0], 0)
+        with tarfile.open(self.repository.packed("-changed")) as tar:
+            manifest = json.load(tar.extractfile(NAME % "-changed" + "/MANIFEST.json"))
+        self.assertIs(manifest["changed_since"], True)
+        os.remove(self.repository.packed("-changed"))
+        self.repository.file("VERSION", "seven\n")
+        self.refused("VERSION isn't a version", "--changed")
+        self.repository.file("VERSION", "7.8.9\n")
+        self.refused("No such file or directory", "--changed", "--out", "none")
 
 
 class Release(unittest.TestCase):
     @classmethod
     def setUpClass(cls):
-        cls.room = tempfile.mkdtemp()
-        cls.addClassCleanup(shutil.rmtree, cls.room)
-        status, cls.said, error = common.run("tools/release", "--changed", "--version", "1.test", "--out", cls.room)
+        room = tempfile.TemporaryDirectory()
+        cls.addClassCleanup(room.cleanup)
+        cls.repository = Repository(room.name)
+        status, cls.said, error = cls.repository.release()
         if status:
-            raise unittest.SkipTest(error.strip())
-        cls.packed = os.path.join(cls.room, "hemtoghai-1.test-x86_64.tar.gz")
-        with tarfile.open(cls.packed) as tar:
-            tar.extractall(cls.room)
-        cls.top = os.path.join(cls.room, "hemtoghai-1.test-x86_64")
-        cls.bin = os.path.join(cls.room, "bin")
+            raise AssertionError(error)
+        with tarfile.open(cls.repository.packed()) as tar:
+            tar.extractall(os.path.join(room.name, "unpacked"))
+        os.rename(cls.repository.place, os.path.join(room.name, "elsewhere"))
+        cls.top = os.path.join(room.name, "unpacked", NAME % "")
+        cls.bin = os.path.join(room.name, "bin")
         os.mkdir(cls.bin)
         for name, path in (("python3", sys.executable), ("bash", shutil.which("bash")), ("env", shutil.which("env"))):
             os.symlink(os.path.realpath(path), os.path.join(cls.bin, name))
 
     def run_there(self, *words, text=None):
         """The status, standard output and standard error of a command of the release, without rt."""
-        done = subprocess.run([os.path.join(self.top, words[0]), *words[1:]], cwd=self.top, env={"PATH": self.bin, "LANG": "C"},
-                              input=text, stdout=subprocess.PIPE, stderr=subprocess.PIPE, universal_newlines=True, timeout=60)
-        return done.returncode, done.stdout, done.stderr
+        return done([os.path.join(self.top, words[0]), *words[1:]], self.top, input=text, env={"PATH": self.bin, "LANG": "C"})
+
+    def manifest(self):
+        """The manifest."""
+        with open(os.path.join(self.top, "MANIFEST.json")) as file:
+            return json.load(file)
 
     def test_no_rt(self):
         self.assertIsNone(shutil.which("rt", path=self.bin))
-        self.assertFalse(os.path.exists(os.path.join(self.top, ".git")))
+        for name in (".git", "crates.txt", "crates/show_cli/src", "tests", "bin"):
+            self.assertFalse(os.path.exists(os.path.join(self.top, name)), name)
+
+    def test_manifest(self):
+        manifest, found = self.manifest(), []
+        for folder, folders, names in os.walk(self.top):
+            folders[:] = [it for it in folders if it != "__pycache__"]  # of a tool that ran before this test
+            found += [os.path.relpath(os.path.join(folder, name), self.top) for name in names]
+        self.assertEqual(sorted([*manifest["files"], "MANIFEST.json"]), sorted(found))
+        for path in ("README.md", "show", "docs/COMMANDS.md", "examples/solo.choreo", "tools/simulated/cflib/air.py",
+                     "share/show.1", "share/show.bash", "crates/show_cli/out/show_cli"):
+            self.assertIn(path, found)
+        for path, wanted in manifest["files"].items():
+            with open(os.path.join(self.top, path), "rb") as file:
+                self.assertEqual(hashlib.sha256(file.read()).hexdigest(), wanted, path)
+        elsewhere = os.path.join(os.path.dirname(self.repository.place), "elsewhere")
+        head = subprocess.run(["git", "rev-parse", "HEAD"], cwd=elsewhere, stdout=subprocess.PIPE).stdout.decode().strip()
+        self.assertEqual([manifest[word] for word in ("version", "commit", "changed_since", "toolchain", "rests_on")],
+                         ["7.8.9", head, False, "a toolchain", PROVED])
+        self.assertEqual(manifest["sha256"], manifest["files"]["crates/show_cli/out/show_cli"])
+        # One source and crates.txt, each by its own digest and name, in order.
+        lines = ["%s  %s\n" % (hashlib.sha256(text).hexdigest(), name)
+                 for name, text in (("crates.txt", b"show_cli:\n"), ("crates/show_cli/src/lib.rt", b"fn f() {}\n"))]
+        self.assertEqual(manifest["stamp"], hashlib.sha256("".join(lines).encode()).hexdigest())
 
     def test_version(self):
         status, out, error = self.run_there("show", "version")
         self.assertEqual((status, error), (0, ""))
-        for word in ("hemtoghai 1.test", "program sha256 ", "commit ", "kit rattle-kit", "proof: logic=proved", "axioms="):
-            self.assertIn(word, out)
+        manifest = self.manifest()
+        self.assertEqual(out, "hemtoghai 7.8.9\nprogram sha256 %s\ncommit %s\nsources sha256 %s\ntoolchain a toolchain\n"
+                              "proof: %s\n" % (manifest["sha256"], manifest["commit"], manifest["stamp"], PROVED))
         self.assertEqual(self.run_there("show", "--version")[1], out)
+        page = os.path.join(self.top, "docs", "TOOLS.md")
+        with open(page, "a") as file:
+            file.write("more\n")
+        self.assertEqual(self.run_there("show", "version")[1], out + "not as released: docs/TOOLS.md\n")
+        with open(page, "rb+") as file:
+            file.truncate(os.path.getsize(page) - 5)
+        self.assertEqual(self.run_there("show", "version")[1], out)
 
     def test_commands(self):
-        self.assertEqual(self.run_there("show", "check", "examples/solo.choreo")[:2], (0, "ok drones 1 cues 1 duration_ms 2000\n"))
+        self.assertEqual(self.run_there("show", "check", "examples/solo.choreo"), (0, "ok drones 1 cues 1 duration_ms 2000\n", ""))
+        self.assertEqual(self.run_there("show", "chek")[:2], (2, "error 2 usage\n"))
         status, out, error = self.run_there("show", "check", text="choreo 1\ndrone a 0 0 0\n")
         self.assertEqual((status, out), (3, "error 3 line 2 bad-count\n"))
         status, plan, _ = self.run_there("show", "compile", "examples/crossing_cured.choreo")
-        self.assertEqual((status, plan), common.run("show", "compile", "examples/crossing_cured.choreo")[:2])
+        with open(os.path.join(TOP, "examples", "crossing_cured.choreo"), "rb") as file:
+            self.assertEqual((status, plan), (0, choreo.flown_of(file.read()).plan()))
         status, _, error = self.run_there("show", "--unproved", "check", "examples/solo.choreo")
         self.assertEqual((status, "no sources" in error), (70, True))
 
+    def test_first_command(self):
+        # The first command of the README that a release can run.
+        with open(os.path.join(self.top, "README.md")) as file:
+            words = re.search(r"^ *(?:\$ )?(\./show (?!--unproved)[a-z]+ [\w./-]+)$", file.read(), re.M)[1].split()
+        begun = resource.getrusage(resource.RUSAGE_CHILDREN)
+        self.assertEqual(self.run_there(*words)[0], 0, words)
+        ended = resource.getrusage(resource.RUSAGE_CHILDREN)
+        if IS_BUILT:
+            self.assertLess(ended.ru_utime + ended.ru_stime - begun.ru_utime - begun.ru_stime, 1)
+
+    def test_flown(self):
+        status, out, error = self.run_there("tools/bridge", "--loss", "20", "--start", "examples/solo.choreo")
+        self.assertEqual((status, "solo: 28 bytes from 0 on as the show has them; trajectory 0 started" in out), (0, True), error)
+        if IS_BUILT:
+            status, out, error = self.run_there("tools/fly", "--simulate", "--yes", "--sim", "speed=10", "examples/solo.choreo")
+            self.assertEqual((status, "landed" in out), (0, True), out + error)
+
     def test_tools(self):
-        status, out, error = self.run_there("tools/bridge", "--loss", "20", "--readback", "examples/solo.choreo")
-        self.assertEqual((status, "upload: status 0" in out), (0, True), error)
         self.assertEqual(self.run_there("tools/explain", "examples/crossing.choreo")[0], 5)
         self.assertEqual(self.run_there("tools/summary", "examples/ring.choreo")[0], 0)
-        status, out, error = self.run_there("tools/fly", "--simulate", "--sim", "speed=10", "--only", "upload", "examples/solo.choreo")
-        self.assertEqual((status, "uploaded and read back" in out), (0, True), out + error)
-        with open(os.path.join(self.top, "way.csv"), "w") as file:
-            file.write("0,0,0,1\n4,1,0,1\n")
-        status, out, error = self.run_there("tools/import", "--waypoints", "--judge", "way.csv")
-        self.assertEqual((status, "APART" in out), (0, True), out + error)
-
-    def test_sums(self):
-        with open(os.path.join(self.top, "SHA256SUMS")) as lines:
-            rows = [line.split(None, 1) for line in lines]
-        self.assertGreater(len(rows), 40)
-        for wanted, path in rows:
-            with open(os.path.join(self.top, path.strip()), "rb") as file:
-                self.assertEqual(hashlib.sha256(file.read()).hexdigest(), wanted)
+        status, out, error = self.run_there("tools/picture", "examples/crossing_cured.choreo")
+        self.assertEqual((status, "the program's play" in error), (0, True), error)
 
     def test_same_bytes(self):
-        with open(self.packed, "rb") as file:
-            first = file.read()
-        common.run("tools/release", "--changed", "--version", "1.test", "--out", self.room)
-        with open(self.packed, "rb") as file:
-            self.assertEqual(file.read(), first)
+        place = os.path.join(os.path.dirname(self.repository.place), "elsewhere")
+        os.utime(os.path.join(place, "README.md"), (1, 1))
+        os.chmod(os.path.join(place, "docs", "TOOLS.md"), 0o600)
+        with tempfile.TemporaryDirectory() as room:
+            status, said, told = done(["tools/release", "--out", room], place, env={**os.environ, "TZ": "UTC+5"})
+            self.assertEqual(status, 0, told)
+            with open(self.repository.packed(), "rb") as first, open(os.path.join(room, NAME % "" + ".tar.gz"), "rb") as second:
+                self.assertEqual(first.read(), second.read())
 
     def test_another_program(self):
         program = os.path.join(self.top, "crates", "show_cli", "out", "show_cli")
         with open(program, "rb") as file:
             whole = file.read()
         try:
-            with open(program, "wb") as file:
-                file.write(whole[:-1] + b"?")
+            with open(program, "ab") as file:
+                file.write(b"\n")
             status, out, error = self.run_there("show", "check", "examples/solo.choreo")
             self.assertEqual((status, out, "isn't the one of MANIFEST" in error), (70, "", True))
-            self.assertIn("nothing is known of its proof", self.run_there("show", "version")[1])
+            status, out, _ = self.run_there("show", "version")
+            self.assertEqual((status, "nothing is known of its proof" in out), (70, True))
         finally:
             with open(program, "wb") as file:
                 file.write(whole)
 
 
-FAKE_RT = """#!/bin/sh
-case "$1" in
-version) echo "a kit" ;;
-lib) mkdir -p out/rlib ;;
-run) mkdir -p out; printf '#!/bin/sh\\n# %s\\necho ok\\n' "$SALT" > out/show_cli; chmod 755 out/show_cli
-  echo "error 2 usage"; [ -n "$SAYS" ] && echo "$SAYS" >&2; exit 2 ;;
-esac
-"""
+class Manual(unittest.TestCase):
+    def test_page(self):
+        text = manual.page("7.8.9")
+        self.assertEqual(set(re.findall(r"^\.\S*", text, re.M)), {".TH", ".SH", ".B", ".br", ".TP"})
+        for form, what in commands.COMMANDS:
+            self.assertIn("\n.TP\n.B %s\n%s" % (form.replace("-", "\\-"), what[:1].upper()), text)
+        with open(os.path.join(TOP, "docs", "COMMANDS.md")) as file:
+            page = file.read()
+        statuses = re.findall(r"^\| (\d+) \|", page[page.index("## Statuses and fault lines"):page.index("Of `upload` these")], re.M)
+        self.assertEqual(re.findall(r"^\.TP\n(\d+): ", text, re.M), statuses)
+        self.assertGreater(len(statuses), 25)
+        for option in ("--depth D", "--step MS", "--start", "--readback", "--limit V", "--fine E"):
+            self.assertIn("\n.TP\n\\fB%s\\fR\n" % option.replace("-", "\\-"), text)
+        if shutil.which("groff"):
+            self.assertEqual(done(["groff", "-ww", "-man", "-Tascii", "-z"], TOP, input=text), (0, "", ""))
 
+    def completed(self, *words):
+        """What the completion offers for the last of these words."""
+        script = manual.completion() + 'COMP_WORDS=("$@") COMP_CWORD=$(($# - 1))\n_show\nprintf "%s\\n" "${COMPREPLY[@]}"\n'
+        status, said, told = done(["bash", "-c", script, "bash", *words], TOP)
+        self.assertEqual((status, told), (0, ""))
+        return said.split("\n")[:-1]
 
-class Record(unittest.TestCase):
-    """What ./show notes when it builds, with a stand-in for rt."""
-
-    def setUp(self):
-        folder = tempfile.TemporaryDirectory()
-        self.addCleanup(folder.cleanup)
-        self.place = folder.name
-        os.symlink(os.path.join(common.TOP, "tools"), os.path.join(self.place, "tools"))
-        shutil.copy(os.path.join(common.TOP, "show"), self.place)
-        self.source = os.path.join(self.place, "crates", "show_cli", "src", "lib.rt")
-        os.makedirs(os.path.dirname(self.source))
-        os.mkdir(os.path.join(self.place, "bin"))
-        for path, text in (("crates.txt", "show_cli:\n"), ("bin/rt", FAKE_RT), (self.source, "")):
-            with open(os.path.join(self.place, path), "w") as file:
-                file.write(text)
-        os.chmod(os.path.join(self.place, "bin", "rt"), 0o755)
-
-    def show(self, *words, **more):
-        """The status and output of the launcher in its place."""
-        path = os.path.join(self.place, "bin") + os.pathsep + os.environ["PATH"]
-        done = subprocess.run(["./show", *words], cwd=self.place, stdin=subprocess.DEVNULL, stdout=subprocess.PIPE,
-                              stderr=subprocess.PIPE, universal_newlines=True, timeout=60, env={**os.environ, "PATH": path, **more})
-        return done.returncode, done.stdout
-
-    def touch(self):
-        """Makes the sources newer than the program."""
-        later = os.stat(os.path.join(self.place, "crates", "show_cli", "out", "show_cli")).st_mtime + 5
-        os.utime(self.source, (later, later))
-
-    def test_record(self):
-        self.assertEqual(self.show("version")[0], 70)
-        self.assertEqual(self.show("check", SAYS="logic=proved functions=3 axioms=1"), (0, "ok\n"))
-        status, out = self.show("version")
-        self.assertEqual((status, "kit a kit\nproof: logic=proved functions=3 axioms=1\n" in out), (0, True), out)
-        self.touch()
-        self.assertIn("the sources are newer than the program", self.show("version")[1])
-        # Nothing had to be proved anew, and the program is the same: its proof's line is kept.
-        self.assertEqual(self.show("check")[0], 0)
-        self.assertIn("proof: logic=proved functions=3 axioms=1", self.show("version")[1])
-        # Another program, and no line: none is made up.
-        os.utime(self.source)
-        self.touch()
-        self.assertEqual(self.show("check", SALT="2")[0], 0)
-        self.assertIn("proof: its last line was not kept", self.show("version")[1])
+    def test_completion(self):
+        self.assertEqual(self.completed("./show", "")[:len(commands.FORMS)], list(commands.FORMS))
+        for words, wanted in ((("sp",), ["speed"]), (("--un",), ["--unproved"]), (("--unproved", "dr"), ["drill"]),
+                              (("check", "--d"), ["--depth"]), (("check", "examples/so"), ["examples/solo.choreo"]),
+                              (("check", "--depth", ""), list("012345678")), (("explain", "--fine", ""), list("012345")),
+                              (("upload", "--"), ["--depth", "--start", "--readback", "--help"]),
+                              (("verify", "examples/solo.choreo", "--"), ["--help"])):
+            self.assertEqual(self.completed("./show", *words), wanted, words)
 
 
 if __name__ == "__main__":
