@@ -52,6 +52,11 @@ run_of left left_after reads reads_after written written_after writes writes_aft
   writes_failed_after = writes_after;
 }
 
+-- What was read and written between two states of a source and a sink, by the members that tell it.
+abbrev pub during : {S K : Type 0} → (S → Option (List ℕ)) → (S → ℕ) → (K → Option (List ℕ)) → (K → ℕ) → S → S → K → K → Run
+during left reads written writes source source_after sink sink_after =
+    run_of (left source) (left source_after) (reads source) (reads source_after) (written sink) (written sink_after) (writes sink) (writes sink_after)
+
 -- no fault was counted
 abbrev pub IsQuiet : Run → Type 0
 IsQuiet r = (Rose r.reads_failed r.reads_failed_after → ⊥) × (Rose r.writes_failed r.writes_failed_after → ⊥)

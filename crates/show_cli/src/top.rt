@@ -7,7 +7,7 @@ ghost use Rattle.command_words.specs.Commands.{IsCommand};
 ghost use Rattle.readback_model.specs.Readback.{StartsLastLaw, UnalteredLaw, VerifiedLaw};
 ghost use Rattle.refusals.specs.Lines.{usage_line};
 ghost use Rattle.show_cli.specs.Headline.{Headline, KeepsSpeeds, StaysInRegions, TellsTouches};
-ghost use Rattle.show_cli.specs.Runs.{Completes, ReadsBoth, Runs, StopsAtMarker, StopsReading, TakesLittle, command_in, run_of};
+ghost use Rattle.show_cli.specs.Runs.{Completes, ReadsBoth, Runs, StopsAtMarker, StopsReading, TakesLittle, command_in, during, run_of};
 
 use crate::commands::boxes::boxes;
 use crate::commands::certify::certify;
@@ -38,11 +38,11 @@ fn run_command<S: Source, K: Sink>(
     sink: &mut K,
 ) -> u8
     requires { IsCommand command }
-    ensures few { TakesLittle command (run_of (S.left source.old) (S.left source.new) (S.faults source.old) (S.faults source.new) (K.written sink.old) (K.written sink.new) (K.faults sink.old) (K.faults sink.new)) }
-    ensures marker { StopsAtMarker command (run_of (S.left source.old) (S.left source.new) (S.faults source.old) (S.faults source.new) (K.written sink.old) (K.written sink.new) (K.faults sink.old) (K.faults sink.new)) result }
-    ensures both { ReadsBoth command (run_of (S.left source.old) (S.left source.new) (S.faults source.old) (S.faults source.new) (K.written sink.old) (K.written sink.new) (K.faults sink.old) (K.faults sink.new)) result }
-    ensures stops { StopsReading command (run_of (S.left source.old) (S.left source.new) (S.faults source.old) (S.faults source.new) (K.written sink.old) (K.written sink.new) (K.faults sink.old) (K.faults sink.new)) result }
-    ensures runs { Runs command (run_of (S.left source.old) (S.left source.new) (S.faults source.old) (S.faults source.new) (K.written sink.old) (K.written sink.new) (K.faults sink.old) (K.faults sink.new)) result }
+    ensures few { TakesLittle command (during S.left S.faults K.written K.faults source.old source.new sink.old sink.new) }
+    ensures marker { StopsAtMarker command (during S.left S.faults K.written K.faults source.old source.new sink.old sink.new) result }
+    ensures both { ReadsBoth command (during S.left S.faults K.written K.faults source.old source.new sink.old sink.new) result }
+    ensures stops { StopsReading command (during S.left S.faults K.written K.faults source.old source.new sink.old sink.new) result }
+    ensures runs { Runs command (during S.left S.faults K.written K.faults source.old source.new sink.old sink.new) result }
 {
     match command {
         Command::Help => help(source, sink),
@@ -83,19 +83,19 @@ pub fn run<S: Source, K: Sink>(
 
     // The words are a command: what it gives, reads and writes. The fields of `Runs` say it one by one (`specs/Runs.antt`).
     ensures runs { (c : Command) → command_in words.now.items ≡ Some c
-        → Runs c (run_of (S.left source.old) (S.left source.new) (S.faults source.old) (S.faults source.new) (K.written sink.old) (K.written sink.new) (K.faults sink.old) (K.faults sink.new)) result }
+        → Runs c (during S.left S.faults K.written K.faults source.old source.new sink.old sink.new) result }
 
     // Nothing is read beyond what is judged but the 4,096 bytes that were asked for at once.
-    ensures few { (c : Command) → command_in words.now.items ≡ Some c → TakesLittle c (run_of (S.left source.old) (S.left source.new) (S.faults source.old) (S.faults source.new) (K.written sink.old) (K.written sink.new) (K.faults sink.old) (K.faults sink.new)) }
-    ensures marker { (c : Command) → command_in words.now.items ≡ Some c → StopsAtMarker c (run_of (S.left source.old) (S.left source.new) (S.faults source.old) (S.faults source.new) (K.written sink.old) (K.written sink.new) (K.faults sink.old) (K.faults sink.new)) result }
+    ensures few { (c : Command) → command_in words.now.items ≡ Some c → TakesLittle c (during S.left S.faults K.written K.faults source.old source.new sink.old sink.new) }
+    ensures marker { (c : Command) → command_in words.now.items ≡ Some c → StopsAtMarker c (during S.left S.faults K.written K.faults source.old source.new sink.old sink.new) result }
 
     // A second text is read too before anything is judged; an upload reads no more once it is over.
-    ensures both { (c : Command) → command_in words.now.items ≡ Some c → ReadsBoth c (run_of (S.left source.old) (S.left source.new) (S.faults source.old) (S.faults source.new) (K.written sink.old) (K.written sink.new) (K.faults sink.old) (K.faults sink.new)) result }
-    ensures stops { (c : Command) → command_in words.now.items ≡ Some c → StopsReading c (run_of (S.left source.old) (S.left source.new) (S.faults source.old) (S.faults source.new) (K.written sink.old) (K.written sink.new) (K.faults sink.old) (K.faults sink.new)) result }
+    ensures both { (c : Command) → command_in words.now.items ≡ Some c → ReadsBoth c (during S.left S.faults K.written K.faults source.old source.new sink.old sink.new) result }
+    ensures stops { (c : Command) → command_in words.now.items ≡ Some c → StopsReading c (during S.left S.faults K.written K.faults source.old source.new sink.old sink.new) result }
 
     // With no fault counted, an input that lacks nothing gives 0, or the program is out of memory.
     ensures complete { (c : Command) → command_in words.now.items ≡ Some c
-        → Completes c (run_of (S.left source.old) (S.left source.new) (S.faults source.old) (S.faults source.new) (K.written sink.old) (K.written sink.new) (K.faults sink.old) (K.faults sink.new)) result }
+        → Completes c (during S.left S.faults K.written K.faults source.old source.new sink.old sink.new) result }
 
     // 0 of `compile`: the input stands for a show, its plan was written, and once the plan's packets are acknowledged, whatever the link
     // does, each drone's memory decodes to one curve, near to the show and apart from every other, at every instant.

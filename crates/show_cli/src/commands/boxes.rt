@@ -11,7 +11,7 @@ ghost use Rattle.show_cli.specs.Answers.{AnswersInput, AnswersTwo, IsSaid, outco
 ghost use Rattle.show_cli.specs.Input.{IsReadBoth, IsText, IsUnmarked, IsWithin};
 ghost use Rattle.show_cli.specs.Outcome.{Promises, RegionsGive};
 ghost use Rattle.show_cli.specs.Refused.{second_refusal};
-ghost use Rattle.show_cli.specs.Runs.{ReadsBoth, Runs, StopsAtMarker, TakesLittle, TakesOneText, run_of};
+ghost use Rattle.show_cli.specs.Runs.{ReadsBoth, Runs, StopsAtMarker, TakesLittle, TakesOneText, during};
 ghost use Rattle.show_cli.specs.Shows.{Cut, aside_of, show_limit, upwards_of};
 ghost use Rattle.show_cli.specs.Steps.{EndsRegions};
 ghost use Rattle.show_cli.specs.Studies.{faulty_region, region_limit};
@@ -169,10 +169,10 @@ fn answer_input<S: Source>(alloc: Global, depth: u8, source: &mut S) -> Result<A
 /// thing that is wrong with either text, or the first part of a cue in which a drone isn't kept.
 pub fn boxes<S: Source, K: Sink>(alloc: Global, depth: u8, source: &mut S, sink: &mut K) -> u8
     requires depth { depth ≤ most_depth }
-    ensures runs { Runs (Command.Boxes depth) (run_of (S.left source.old) (S.left source.new) (S.faults source.old) (S.faults source.new) (K.written sink.old) (K.written sink.new) (K.faults sink.old) (K.faults sink.new)) result }
-    ensures few { TakesLittle (Command.Boxes depth) (run_of (S.left source.old) (S.left source.new) (S.faults source.old) (S.faults source.new) (K.written sink.old) (K.written sink.new) (K.faults sink.old) (K.faults sink.new)) }
-    ensures marker { StopsAtMarker (Command.Boxes depth) (run_of (S.left source.old) (S.left source.new) (S.faults source.old) (S.faults source.new) (K.written sink.old) (K.written sink.new) (K.faults sink.old) (K.faults sink.new)) result }
-    ensures both { ReadsBoth (Command.Boxes depth) (run_of (S.left source.old) (S.left source.new) (S.faults source.old) (S.faults source.new) (K.written sink.old) (K.written sink.new) (K.faults sink.old) (K.faults sink.new)) result }
+    ensures runs { Runs (Command.Boxes depth) (during S.left S.faults K.written K.faults source.old source.new sink.old sink.new) result }
+    ensures few { TakesLittle (Command.Boxes depth) (during S.left S.faults K.written K.faults source.old source.new sink.old sink.new) }
+    ensures marker { StopsAtMarker (Command.Boxes depth) (during S.left S.faults K.written K.faults source.old source.new sink.old sink.new) result }
+    ensures both { ReadsBoth (Command.Boxes depth) (during S.left S.faults K.written K.faults source.old source.new sink.old sink.new) result }
 {
     outcome_law();
     let answer = answer_input(alloc, depth, source);

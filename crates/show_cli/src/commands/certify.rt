@@ -13,7 +13,7 @@ ghost use Rattle.show_cli.specs.Shows.{Cut};
 ghost use Rattle.command_words.specs.Commands.{most_depth};
 ghost use Rattle.show_cli.specs.Answers.{AnswersInput, AnswersText};
 ghost use Rattle.show_cli.specs.Input.{IsWithin};
-ghost use Rattle.show_cli.specs.Runs.{Runs, StopsAtMarker, TakesLittle, TakesOneText, run_of};
+ghost use Rattle.show_cli.specs.Runs.{Runs, StopsAtMarker, TakesLittle, TakesOneText, during};
 ghost use Rattle.show_cli.specs.Shows.{show_limit};
 
 use crate::accept::{Planned, fit_text};
@@ -79,9 +79,9 @@ fn answer_input<S: Source>(alloc: Global, depth: u8, source: &mut S) -> Result<A
 /// Runs `certify` (docs/COMMANDS.md): the certificate with the largest leaves, or the first reason why the show is refused.
 pub fn certify<S: Source, K: Sink>(alloc: Global, depth: u8, source: &mut S, sink: &mut K) -> u8
     requires depth { depth ≤ most_depth }
-    ensures runs { Runs (Command.Certify depth) (run_of (S.left source.old) (S.left source.new) (S.faults source.old) (S.faults source.new) (K.written sink.old) (K.written sink.new) (K.faults sink.old) (K.faults sink.new)) result }
-    ensures few { TakesLittle (Command.Certify depth) (run_of (S.left source.old) (S.left source.new) (S.faults source.old) (S.faults source.new) (K.written sink.old) (K.written sink.new) (K.faults sink.old) (K.faults sink.new)) }
-    ensures marker { StopsAtMarker (Command.Certify depth) (run_of (S.left source.old) (S.left source.new) (S.faults source.old) (S.faults source.new) (K.written sink.old) (K.written sink.new) (K.faults sink.old) (K.faults sink.new)) result }
+    ensures runs { Runs (Command.Certify depth) (during S.left S.faults K.written K.faults source.old source.new sink.old sink.new) result }
+    ensures few { TakesLittle (Command.Certify depth) (during S.left S.faults K.written K.faults source.old source.new sink.old sink.new) }
+    ensures marker { StopsAtMarker (Command.Certify depth) (during S.left S.faults K.written K.faults source.old source.new sink.old sink.new) result }
 {
     outcome_law();
     let answer = answer_input(alloc, depth, source);

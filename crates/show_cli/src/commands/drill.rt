@@ -8,7 +8,7 @@ ghost use Rattle.show_cli.specs.Answers.{AnswersText, IsSaid, outcome_of};
 ghost use Rattle.show_cli.specs.Input.{IsWithin};
 ghost use Rattle.show_cli.specs.Outcome.{IsOutcomeOf, IsSafe, outcome};
 ghost use Rattle.show_cli.specs.Reports.{drill_of, nodes_of, report_of};
-ghost use Rattle.show_cli.specs.Runs.{Runs, StopsAtMarker, TakesLittle, run_of};
+ghost use Rattle.show_cli.specs.Runs.{Runs, StopsAtMarker, TakesLittle, during};
 ghost use Rattle.show_cli.specs.Shows.{cut_of, show_limit};
 
 use crate::accept::{Accepted, Judged, accept};
@@ -103,9 +103,9 @@ pub fn drill<S: Source, K: Sink>(
     requires depth { depth ≤ most_depth }
     requires some { 1 ≤ drones }
     requires few { drones ≤ most_drill }
-    ensures runs { Runs (Command.Drill drones depth) (run_of (S.left source.old) (S.left source.new) (S.faults source.old) (S.faults source.new) (K.written sink.old) (K.written sink.new) (K.faults sink.old) (K.faults sink.new)) result }
-    ensures few { TakesLittle (Command.Drill drones depth) (run_of (S.left source.old) (S.left source.new) (S.faults source.old) (S.faults source.new) (K.written sink.old) (K.written sink.new) (K.faults sink.old) (K.faults sink.new)) }
-    ensures marker { StopsAtMarker (Command.Drill drones depth) (run_of (S.left source.old) (S.left source.new) (S.faults source.old) (S.faults source.new) (K.written sink.old) (K.written sink.new) (K.faults sink.old) (K.faults sink.new)) result }
+    ensures runs { Runs (Command.Drill drones depth) (during S.left S.faults K.written K.faults source.old source.new sink.old sink.new) result }
+    ensures few { TakesLittle (Command.Drill drones depth) (during S.left S.faults K.written K.faults source.old source.new sink.old sink.new) }
+    ensures marker { StopsAtMarker (Command.Drill drones depth) (during S.left S.faults K.written K.faults source.old source.new sink.old sink.new) result }
 {
     outcome_law();
     let _ = &source;

@@ -10,7 +10,7 @@ ghost use Rattle.show_plan.specs.Separation.{FlyApart, blocked_part};
 ghost use Rattle.show_cli.specs.Answers.{AnswersInput, AnswersText, IsSaid, outcome_of};
 ghost use Rattle.show_cli.specs.Input.{IsWithin};
 ghost use Rattle.show_cli.specs.Outcome.{Gives, Promises};
-ghost use Rattle.show_cli.specs.Runs.{Runs, StopsAtMarker, TakesLittle, TakesOneText, run_of};
+ghost use Rattle.show_cli.specs.Runs.{Runs, StopsAtMarker, TakesLittle, TakesOneText, during};
 ghost use Rattle.show_cli.specs.Shows.{Cut, show_limit};
 ghost use Rattle.touch_witness.specs.Sites.{IsFirstTouch, NoTouch};
 ghost use Rattle.show_cli.specs.Steps.{IsBlockedAmong, IsClosestAmong, IsFound, IsTouchAmong};
@@ -154,9 +154,9 @@ pub fn explain<S: Source, K: Sink>(
     sink: &mut K,
 ) -> u8
     requires { IsCommand (Command.Explain depth fine) }
-    ensures runs { Runs (Command.Explain depth fine) (run_of (S.left source.old) (S.left source.new) (S.faults source.old) (S.faults source.new) (K.written sink.old) (K.written sink.new) (K.faults sink.old) (K.faults sink.new)) result }
-    ensures few { TakesLittle (Command.Explain depth fine) (run_of (S.left source.old) (S.left source.new) (S.faults source.old) (S.faults source.new) (K.written sink.old) (K.written sink.new) (K.faults sink.old) (K.faults sink.new)) }
-    ensures marker { StopsAtMarker (Command.Explain depth fine) (run_of (S.left source.old) (S.left source.new) (S.faults source.old) (S.faults source.new) (K.written sink.old) (K.written sink.new) (K.faults sink.old) (K.faults sink.new)) result }
+    ensures runs { Runs (Command.Explain depth fine) (during S.left S.faults K.written K.faults source.old source.new sink.old sink.new) result }
+    ensures few { TakesLittle (Command.Explain depth fine) (during S.left S.faults K.written K.faults source.old source.new sink.old sink.new) }
+    ensures marker { StopsAtMarker (Command.Explain depth fine) (during S.left S.faults K.written K.faults source.old source.new sink.old sink.new) result }
 {
     outcome_law();
     let answer = answer_input(alloc, depth, fine, source);

@@ -8,7 +8,7 @@ ghost use Rattle.fleet_io.specs.Taken.{TakesFront};
 ghost use Rattle.integer_player.specs.Played.{play_text};
 ghost use Rattle.show_plan.specs.Fitting.{IsValidFitted};
 ghost use Rattle.show_cli.specs.Answers.{IsSoundJudged, JudgesInput, Wrote};
-ghost use Rattle.show_cli.specs.Runs.{Runs, StopsAtMarker, TakesLittle, TakesOneText, run_of};
+ghost use Rattle.show_cli.specs.Runs.{Runs, StopsAtMarker, TakesLittle, TakesOneText, during};
 
 use crate::accept::{Judged, accept};
 use crate::ends::{DONE, Failure, NO_MEMORY, WRITE_FAILED, fail, refuse};
@@ -68,9 +68,9 @@ pub fn play<S: Source, K: Sink>(
 ) -> u8
     requires depth { depth ≤ most_depth }
     requires step { 1 ≤ step }
-    ensures runs { Runs (Command.Play depth step) (run_of (S.left source.old) (S.left source.new) (S.faults source.old) (S.faults source.new) (K.written sink.old) (K.written sink.new) (K.faults sink.old) (K.faults sink.new)) result }
-    ensures few { TakesLittle (Command.Play depth step) (run_of (S.left source.old) (S.left source.new) (S.faults source.old) (S.faults source.new) (K.written sink.old) (K.written sink.new) (K.faults sink.old) (K.faults sink.new)) }
-    ensures marker { StopsAtMarker (Command.Play depth step) (run_of (S.left source.old) (S.left source.new) (S.faults source.old) (S.faults source.new) (K.written sink.old) (K.written sink.new) (K.faults sink.old) (K.faults sink.new)) result }
+    ensures runs { Runs (Command.Play depth step) (during S.left S.faults K.written K.faults source.old source.new sink.old sink.new) result }
+    ensures few { TakesLittle (Command.Play depth step) (during S.left S.faults K.written K.faults source.old source.new sink.old sink.new) }
+    ensures marker { StopsAtMarker (Command.Play depth step) (during S.left S.faults K.written K.faults source.old source.new sink.old sink.new) result }
 {
     outcome_law();
     match judge_input(alloc, depth, step, source) {

@@ -14,7 +14,7 @@ ghost use Rattle.show_cli.specs.Input.{IsReadBoth, IsText, IsUnmarked, IsWithin}
 ghost use Rattle.show_cli.specs.Outcome.{CarefulScheduleGives, CarefullyRehearses, RehearseGives, Rehearses, ScheduleGives};
 ghost use Rattle.show_cli.specs.Refused.{faulty_event, second_refusal};
 ghost use Rattle.text_lines.specs.Marker.{part_of};
-ghost use Rattle.show_cli.specs.Runs.{ReadsBoth, Runs, StopsAtMarker, TakesLittle, TakesOneText, run_of};
+ghost use Rattle.show_cli.specs.Runs.{ReadsBoth, Runs, StopsAtMarker, TakesLittle, TakesOneText, during};
 ghost use Rattle.show_cli.specs.Shows.{Cut, schedule_limit, show_limit, words_of};
 
 use crate::accept::{Judged, accept};
@@ -334,10 +334,10 @@ pub fn rehearse<S: Source, K: Sink>(
     sink: &mut K,
 ) -> u8
     requires depth { depth ≤ most_depth }
-    ensures runs { Runs (Command.Rehearse depth start readback) (run_of (S.left source.old) (S.left source.new) (S.faults source.old) (S.faults source.new) (K.written sink.old) (K.written sink.new) (K.faults sink.old) (K.faults sink.new)) result }
-    ensures few { TakesLittle (Command.Rehearse depth start readback) (run_of (S.left source.old) (S.left source.new) (S.faults source.old) (S.faults source.new) (K.written sink.old) (K.written sink.new) (K.faults sink.old) (K.faults sink.new)) }
-    ensures marker { StopsAtMarker (Command.Rehearse depth start readback) (run_of (S.left source.old) (S.left source.new) (S.faults source.old) (S.faults source.new) (K.written sink.old) (K.written sink.new) (K.faults sink.old) (K.faults sink.new)) result }
-    ensures both { ReadsBoth (Command.Rehearse depth start readback) (run_of (S.left source.old) (S.left source.new) (S.faults source.old) (S.faults source.new) (K.written sink.old) (K.written sink.new) (K.faults sink.old) (K.faults sink.new)) result }
+    ensures runs { Runs (Command.Rehearse depth start readback) (during S.left S.faults K.written K.faults source.old source.new sink.old sink.new) result }
+    ensures few { TakesLittle (Command.Rehearse depth start readback) (during S.left S.faults K.written K.faults source.old source.new sink.old sink.new) }
+    ensures marker { StopsAtMarker (Command.Rehearse depth start readback) (during S.left S.faults K.written K.faults source.old source.new sink.old sink.new) result }
+    ensures both { ReadsBoth (Command.Rehearse depth start readback) (during S.left S.faults K.written K.faults source.old source.new sink.old sink.new) result }
 {
     outcome_law();
     let answer = answer_input(alloc, depth, start, readback, source);

@@ -15,7 +15,7 @@ ghost use Rattle.show_cli.specs.Answers.{AnswersInput, AnswersText, IsSaid, outc
 ghost use Rattle.show_cli.specs.Input.{IsWithin};
 ghost use Rattle.show_cli.specs.Outcome.{Gives, Promises, speeds_end};
 ghost use Rattle.show_cli.specs.Refused.{IsOfInput};
-ghost use Rattle.show_cli.specs.Runs.{Runs, StopsAtMarker, TakesLittle, TakesOneText, run_of};
+ghost use Rattle.show_cli.specs.Runs.{Runs, StopsAtMarker, TakesLittle, TakesOneText, during};
 ghost use Rattle.show_cli.specs.Shows.{Cut, show_limit};
 ghost use Rattle.show_cli.specs.Studies.{KeepsBounds, above, first_too_fast, speed_of_drone, speed_text, too_fast_by, too_fast_of};
 
@@ -214,9 +214,9 @@ pub fn speed<S: Source, K: Sink>(
     sink: &mut K,
 ) -> u8
     requires { IsCommand (Command.Speed depth limit) }
-    ensures runs { Runs (Command.Speed depth limit) (run_of (S.left source.old) (S.left source.new) (S.faults source.old) (S.faults source.new) (K.written sink.old) (K.written sink.new) (K.faults sink.old) (K.faults sink.new)) result }
-    ensures few { TakesLittle (Command.Speed depth limit) (run_of (S.left source.old) (S.left source.new) (S.faults source.old) (S.faults source.new) (K.written sink.old) (K.written sink.new) (K.faults sink.old) (K.faults sink.new)) }
-    ensures marker { StopsAtMarker (Command.Speed depth limit) (run_of (S.left source.old) (S.left source.new) (S.faults source.old) (S.faults source.new) (K.written sink.old) (K.written sink.new) (K.faults sink.old) (K.faults sink.new)) result }
+    ensures runs { Runs (Command.Speed depth limit) (during S.left S.faults K.written K.faults source.old source.new sink.old sink.new) result }
+    ensures few { TakesLittle (Command.Speed depth limit) (during S.left S.faults K.written K.faults source.old source.new sink.old sink.new) }
+    ensures marker { StopsAtMarker (Command.Speed depth limit) (during S.left S.faults K.written K.faults source.old source.new sink.old sink.new) result }
 {
     outcome_law();
     let answer = answer_input(alloc, depth, limit, source);

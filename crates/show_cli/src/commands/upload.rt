@@ -12,7 +12,7 @@ ghost use Rattle.show_plan.specs.Fitting.{IsValidFitted};
 ghost use Rattle.show_plan.specs.Landing.{session_for};
 ghost use Rattle.show_cli.specs.Answers.{Wrote};
 ghost use Rattle.show_cli.specs.Input.{IsShowText, IsWithin};
-ghost use Rattle.show_cli.specs.Runs.{Runs, StopsAtMarker, StopsReading, TakesLittle, TakesOneText, run_of};
+ghost use Rattle.show_cli.specs.Runs.{Runs, StopsAtMarker, StopsReading, TakesLittle, TakesOneText, during};
 ghost use Rattle.show_cli.specs.Shows.{Cut, cut_of, show_limit};
 ghost use Rattle.show_cli.specs.Uploads.{GoesOnReady, IsReadyFor, IsSoundReady, ReadyGives};
 
@@ -138,10 +138,10 @@ pub fn upload<S: Source, K: Sink>(
     sink: &mut K,
 ) -> u8
     requires depth { depth ≤ most_depth }
-    ensures runs { Runs (Command.Upload depth start readback) (run_of (S.left source.old) (S.left source.new) (S.faults source.old) (S.faults source.new) (K.written sink.old) (K.written sink.new) (K.faults sink.old) (K.faults sink.new)) result }
-    ensures few { TakesLittle (Command.Upload depth start readback) (run_of (S.left source.old) (S.left source.new) (S.faults source.old) (S.faults source.new) (K.written sink.old) (K.written sink.new) (K.faults sink.old) (K.faults sink.new)) }
-    ensures marker { StopsAtMarker (Command.Upload depth start readback) (run_of (S.left source.old) (S.left source.new) (S.faults source.old) (S.faults source.new) (K.written sink.old) (K.written sink.new) (K.faults sink.old) (K.faults sink.new)) result }
-    ensures stops { StopsReading (Command.Upload depth start readback) (run_of (S.left source.old) (S.left source.new) (S.faults source.old) (S.faults source.new) (K.written sink.old) (K.written sink.new) (K.faults sink.old) (K.faults sink.new)) result }
+    ensures runs { Runs (Command.Upload depth start readback) (during S.left S.faults K.written K.faults source.old source.new sink.old sink.new) result }
+    ensures few { TakesLittle (Command.Upload depth start readback) (during S.left S.faults K.written K.faults source.old source.new sink.old sink.new) }
+    ensures marker { StopsAtMarker (Command.Upload depth start readback) (during S.left S.faults K.written K.faults source.old source.new sink.old sink.new) result }
+    ensures stops { StopsReading (Command.Upload depth start readback) (during S.left S.faults K.written K.faults source.old source.new sink.old sink.new) result }
 {
     outcome_law();
     marker_law();

@@ -13,7 +13,7 @@ ghost use Rattle.show_cli.specs.Answers.{AnswersInput, IsSaid, outcome_of};
 ghost use Rattle.show_cli.specs.Input.{IsReadBoth, IsWholeText};
 ghost use Rattle.show_cli.specs.Outcome.{refused};
 ghost use Rattle.text_lines.specs.Marker.{part_of};
-ghost use Rattle.show_cli.specs.Runs.{ReadsBoth, Runs, StopsAtMarker, TakesLittle, TakesOneText, run_of};
+ghost use Rattle.show_cli.specs.Runs.{ReadsBoth, Runs, StopsAtMarker, TakesLittle, TakesOneText, during};
 ghost use Rattle.show_cli.specs.SecondTexts.{GivesSecond, IsFewTaken, IsTakenToEnd, IsTakenWhole, TakenGives, line_after, taken_by, verdict_outcome};
 ghost use Rattle.show_cli.specs.Shows.{certificate_limit, show_limit};
 
@@ -252,10 +252,10 @@ fn answer_input<S: Source>(alloc: Global, source: &mut S) -> Result<Answer, Fail
 /// Runs `verify` (docs/COMMANDS.md): the depth and the number of trees of a certificate that is valid for the show, or the first thing
 /// that is wrong with either text.
 pub fn verify<S: Source, K: Sink>(alloc: Global, source: &mut S, sink: &mut K) -> u8
-    ensures runs { Runs Command.Verify (run_of (S.left source.old) (S.left source.new) (S.faults source.old) (S.faults source.new) (K.written sink.old) (K.written sink.new) (K.faults sink.old) (K.faults sink.new)) result }
-    ensures few { TakesLittle Command.Verify (run_of (S.left source.old) (S.left source.new) (S.faults source.old) (S.faults source.new) (K.written sink.old) (K.written sink.new) (K.faults sink.old) (K.faults sink.new)) }
-    ensures marker { StopsAtMarker Command.Verify (run_of (S.left source.old) (S.left source.new) (S.faults source.old) (S.faults source.new) (K.written sink.old) (K.written sink.new) (K.faults sink.old) (K.faults sink.new)) result }
-    ensures both { ReadsBoth Command.Verify (run_of (S.left source.old) (S.left source.new) (S.faults source.old) (S.faults source.new) (K.written sink.old) (K.written sink.new) (K.faults sink.old) (K.faults sink.new)) result }
+    ensures runs { Runs Command.Verify (during S.left S.faults K.written K.faults source.old source.new sink.old sink.new) result }
+    ensures few { TakesLittle Command.Verify (during S.left S.faults K.written K.faults source.old source.new sink.old sink.new) }
+    ensures marker { StopsAtMarker Command.Verify (during S.left S.faults K.written K.faults source.old source.new sink.old sink.new) result }
+    ensures both { ReadsBoth Command.Verify (during S.left S.faults K.written K.faults source.old source.new sink.old sink.new) result }
 {
     outcome_law();
     let answer = answer_input(alloc, source);
