@@ -1,7 +1,11 @@
-"""What the tests of the tools that fly have in common: the simulated library and its world."""
+"""What the tests of the tools have in common: the program, the simulated library and its world, and runs of tools.
+
+The simulated library and its drones are from one memory of the firmware, never compared with a radio or a drone.
+"""
 import os
 import subprocess
 import sys
+import unittest
 
 sys.dont_write_bytecode = True
 TOP = os.path.dirname(os.path.dirname(os.path.abspath(__file__)))
@@ -13,6 +17,15 @@ import clock
 from cflib import air
 
 SPEED = 20
+
+
+def wants_program(test):
+    """Marks a test, or a class of them, that needs the proved program: without one it is skipped, but fails in CI, which
+    builds it before."""
+    there = os.access(choreo.PROGRAM, os.X_OK)
+    if not there and os.environ.get("COMPANIONS") == "all":
+        raise SystemExit("%s is not there, and these tests need it" % os.path.relpath(choreo.PROGRAM, TOP))
+    return unittest.skipUnless(there, "the program isn't built: ./show check FILE builds it")(test)
 
 
 def example(name):
@@ -27,9 +40,9 @@ def uris(count):
     return ["radio://0/80/2M/E7E7E7E7%02X" % (k + 1) for k in range(count)]
 
 
-def world(flown, faults=(), **settings):
+def world(flown, faults=(), speed=SPEED, **settings):
     """Sets the simulated drones below the first places of a show; faults are (name, kind, number)."""
-    clock.set_speed(SPEED)
+    clock.set_speed(speed)
     where, by_uri = uris(len(flown.names)), {}
     for name, kind, number in faults:
         by_uri.setdefault(where[flown.names.index(name)], {})[kind] = number
@@ -43,8 +56,36 @@ def drone(flown, name):
     return air.WORLD.drones[uris(len(flown.names))[flown.names.index(name)]]
 
 
+def drones(flown):
+    """All simulated drones of a show."""
+    return [drone(flown, name) for name in flown.names]
+
+
+def make_ready(flown, loaded=False):
+    """Arms drones and switches their commanders on, as a start needs it; with their trajectories in their memories."""
+    for one, data, segments in zip(drones(flown), flown.data(), flown.sent):
+        one.armed = one.parameters[0] = True
+        if loaded:
+            one.memories[2][1][:len(data)] = data
+            one.table[0] = 1, 1, 0, len(segments)
+
+
+def untouched(one):
+    """Whether a drone was never written to."""
+    return one.table == [None] * 10 and all(set(data) <= {0xFF} for _, data in one.memories)
+
+
+def holds(one, data, offset=0):
+    """Whether a drone's trajectory memory has these bytes, and nothing else was written anywhere."""
+    for kind, held in one.memories:
+        wanted = b"\xFF" * offset + data + b"\xFF" * (len(held) - offset - len(data)) if kind == 0x12 else b"\xFF" * len(held)
+        if bytes(held) != wanted:
+            return False
+    return True
+
+
 def run(tool, *words, text=None, env=None):
     """The status, standard output and standard error of a tool."""
     done = subprocess.run([os.path.join(TOP, tool), *words], cwd=TOP, input=text, stdout=subprocess.PIPE,
-                          stderr=subprocess.PIPE, universal_newlines=True, timeout=120, env=env)
+                          stderr=subprocess.PIPE, universal_newlines=True, timeout=300, env=env)
     return done.returncode, done.stdout, done.stderr

@@ -1,4 +1,9 @@
-"""tools/fly over simulated drones, at many times the speed: a whole flight, each fault, and both Ctrl-C."""
+"""tools/fly over simulated drones, at many times the speed: whole flights, the fault of each stage, and both Ctrl-C.
+
+The simulated drones are from the same memory of the firmware as the tool; no drone was ever flown. Flights wait most of the
+time, so several run at once: all are begun before the first test, and each test waits for its own.
+"""
+import concurrent.futures
 import os
 import re
 import signal
@@ -10,170 +15,280 @@ import unittest
 import common
 
 SHOW = os.path.join("examples", "crossing_cured.choreo")
-SPEED = "speed=10"
+AT_ONCE = 4
+WORDS = ["--simulate", "--sim", "speed=10", "--silence", "3"]
+ON_THE_FLOOR = """choreo 1
+drone a 0 0 0 0
+drone b 1000000 0 0 0
+cue 3000
+a move 0 0 1000000 0
+b move 1000000 0 1000000 0
+end
+cue 3000
+a move 0 0 0 0
+b move 1000000 0 0 0
+end
+"""
+ABOVE = """choreo 1
+drone a 0 0 500000 0
+drone b 0 0 1500000 0
+cue 3000
+end
+"""
+PASSING = """choreo 1
+drone a 0 0 500000 0
+drone b 1000000 0 1500000 0
+cue 4000
+a move 1000000 0 500000 0
+end
+cue 1000
+end
+cue 3000
+b move 2000000 0 1500000 0
+end
+"""
 
 
-def fly(*words, show=SHOW, text=None, yes=True):
-    """The status and the output of a simulated flight."""
-    status, out, error = common.run("tools/fly", "--simulate", *["--yes"] * yes, "--sim", SPEED, "--silence", "3", *words, show, text=text)
-    return status, out + error
+def wide_show():
+    """Twelve drones, two metres apart, that fly all alike for 20 s at up to 1.4 m/s; they may stray by 45 mm and be 90 ms late."""
+    at = [(k % 4 * 2000000, k // 4 * 2000000) for k in range(12)]
+    rows = ["choreo 1", "stray 45", "late 90"] + ["drone d%d %d %d 1000000 0" % (k, *place) for k, place in enumerate(at)]
+    for x, y, z in 2 * ((1, 0, 0), (1, 1, 0), (0, 1, 0.6), (0, 0, 0), (1, 0, 0.6)):
+        rows += ["cue 2000", *("d%d move %d %d %d 0" % (k, a + 1200000 * x, b + 1200000 * y, 1000000 + int(1000000 * z))
+                               for k, (a, b) in enumerate(at)), "end"]
+    return "\n".join(rows) + "\n"
 
 
-def pressed(*after, words=()):
-    """The status and output of a flight in which Ctrl-C is pressed when lines with these words have come."""
-    process = subprocess.Popen([os.path.join(common.TOP, "tools/fly"), "--simulate", "--yes", "--sim", SPEED, "--silence", "3", *words, SHOW],
-                               cwd=common.TOP, stdout=subprocess.PIPE, stderr=subprocess.STDOUT, universal_newlines=True)
-    out, after = "", list(after)
-    for line in process.stdout:
-        out += line
-        if after and after[0] in line:
-            time.sleep(0.1)
-            process.send_signal(signal.SIGINT)
-            after.pop(0)
-    return process.wait(), out
+def fly(words, show=SHOW, text="yes\nyes\nyes\n", signals=()):
+    """The status, the output and the log of a simulated flight. Each signal is sent when a line with its words has come."""
+    with tempfile.TemporaryDirectory() as room:
+        log = os.path.join(room, "log.csv")
+        if "\n" in show:
+            with open(os.path.join(room, "show.choreo"), "w") as file:
+                file.write(show)
+            show = os.path.join(room, "show.choreo")
+        process = subprocess.Popen(
+            [os.path.join(common.TOOLS, "fly"), *WORDS, "--log", log, *words, show], cwd=common.TOP, stdin=subprocess.PIPE,
+            stdout=subprocess.PIPE, stderr=subprocess.STDOUT, universal_newlines=True)
+        try:
+            process.stdin.write(text)
+            process.stdin.close()
+        except BrokenPipeError:
+            pass
+        out, left = "", list(signals)
+        for line in process.stdout:
+            out += line
+            while left and left[0][0] in line:
+                time.sleep(0.05)
+                process.send_signal(left.pop(0)[1])
+        status, rows = process.wait(), ""
+        process.stdout.close()
+        if os.path.exists(log):
+            with open(log) as file:
+                rows = file.read()
+        judged = common.run("tools/flown", show, log) if "started" in out else None
+        return status, out, rows, judged
 
 
-class Flights(unittest.TestCase):
-    def setUp(self):
-        self.room = tempfile.TemporaryDirectory()
-        self.addCleanup(self.room.cleanup)
-
-    def test_whole(self):
-        with tempfile.TemporaryDirectory() as room:
-            log = os.path.join(room, "log.csv")
-            status, out = fly("--sim", "stray=30", "--sim", "late=40", "--log", log)
-            self.assertEqual(status, 0, out)
-            for words in ("uploaded and read back", "taking off, 2 drones of 2", "started: by one packet to all", "flown: 7.0 s", "landed"):
-                self.assertIn(words, out)
-            status, said, _ = common.run("tools/flown", "--stray", "35", "--late", "80", SHOW, log)
-            self.assertEqual((status, "KEPT: " in said), (0, True), said)
-            self.assertEqual(common.run("tools/flown", "--stray", "15", "--late", "80", SHOW, log)[0], 1)
-
-    def test_lossy(self):
-        status, out = fly("--sim", "loss=20", "--sim", "seed=3", "--late", "200")
-        self.assertEqual(status, 0, out)
-
-    def test_unicast(self):
-        status, out = fly("--unicast")
-        self.assertEqual(status, 0, out)
-        self.assertRegex(out, "started: by packets within [0-9]+ ms; all answered within [0-9]+ ms")
-        self.assertEqual(fly("--copies", "3")[0], 0)
-
-    def test_on_the_floor(self):
-        with tempfile.NamedTemporaryFile("w", suffix=".choreo") as file:
-            file.write("choreo 1\ndrone a 0 0 0 0\ndrone b 1000000 0 0 0\ncue 3000\na move 0 0 1000000 0\nb move 1000000 0 1000000 0\n"
-                       "end\ncue 3000\na move 0 0 0 0\nb move 1000000 0 0 0\nend\n")
-            file.flush()
-            status, out = fly(show=file.name)
-        self.assertEqual((status, "taking off, 0 drones of 2" in out), (0, True), out)
-
-    def test_not_flown(self):
-        for fault, said in (("dead", "no answer from b"), ("empty", "b: 3.30 V"), ("unsettled", "b: its estimator isn't settled"),
-                            ("astray", "b: stands 500 mm aside"), ("memory", "b: its trajectory memory is 3"),
-                            ("locked", "b: can't be armed")):
-            status, out = fly("--fault", "b:" + fault)
-            self.assertEqual(status, 1, out)
-            self.assertIn(said, out)
-            self.assertNotIn("taking off", out)
-
-    def test_faults_in_flight(self):
-        for fault, said in (("refuses", "FAULT: b refuses the start with status 16"), ("silent:3", "FAULT: b is silent"),
-                            ("wanders:2", "FAULT: b is [0-9]+ mm from its curve"), ("falls:4", "FAULT: b has tumbled")):
-            status, out = fly("--fault", "b:" + fault)
-            self.assertEqual(status, 1, out)
-            self.assertRegex(out, said)
-            self.assertIn("landed", out)
-            self.assertNotIn("flown:", out)
-            self.assertEqual("NOT SEEN TO BE DOWN: b" in out, fault.startswith("silent"), out)
-
-    def test_deaf(self):
-        status, out = fly("--fault", "b:deaf")
-        self.assertEqual((status, "b: doesn't answer a broadcast" in out, "taking off" in out), (1, True, False), out)
-        self.assertEqual(fly("--fault", "b:deaf", "--unicast")[0], 0)
-        status, out = fly("--fault", "b:deafens")
-        self.assertEqual((status, "FAULT: b didn't take the start; landing all" in out), (1, True), out)
-
-    def test_old_answers(self):
-        self.assertEqual(fly("--fault", "a:old", "--fault", "b:old", "--only", "upload")[0], 0)
-
-    def test_only(self):
-        status, out = fly("--only", "look")
-        self.assertEqual((status, "uploaded" in out), (0, False), out)
-        status, out = fly("--only", "upload")
-        self.assertEqual((status, "uploaded" in out, "taking off" in out), (0, True, False), out)
-
-    def test_nobody_says_yes(self):
-        status, out = fly(text="no\n", yes=False)
-        self.assertEqual((status, "nobody said yes" in out, "taking off" in out), (1, True, False), out)
-        status, out = fly(text="yes\nno\n", yes=False)
-        self.assertEqual((status, "landed" in out, "started" in out), (1, True, False), out)
-
-    def test_too_near(self):
-        with tempfile.NamedTemporaryFile("w", suffix=".choreo") as file:
-            file.write("choreo 1\ndrone a 0 0 500000 0\ndrone b 0 0 1500000 0\ncue 3000\nend\n")
-            file.flush()
-            status, out = fly(show=file.name)
-        self.assertEqual(status, 1)
-        self.assertIn("a and b are too near from above for their ways up", out)
-        self.assertIn("a and b end the show too near from above to land", out)
-
-    def test_refused(self):
-        status, out = fly(show="examples/crossing.choreo")
-        self.assertEqual((status, out), (5, "error 5 pair a b cue 1 part 28 of 64\n"))
-
-    def test_jumps(self):
-        status, out = fly("--only", "look", show="examples/every_act.choreo")
-        self.assertEqual((status, "m/s at" in out, "firmware" in out), (1, True, False), out)
-        self.assertRegex(out, "[abc] jumps by [0-9.]+ m/s at [0-9.]+ s")
-        # That show's memory has the id 3.
-        words = [word for name in "abc" for word in ("--fault", name + ":memory")]
-        status, out = fly("--only", "upload", "--jump", "9", *words, show="examples/every_act.choreo")
-        self.assertEqual((status, "uploaded" in out), (0, True), out)
-
-    def test_words(self):
-        for words in (["--sim", "what=3"], ["--fault", "b:what"], ["--fault", "who:dead"], ["--late", "0"]):
-            self.assertEqual(fly(*words)[0], 2)
-        self.assertEqual(common.run("tools/fly", SHOW)[0], 2)
-        self.assertEqual(common.run("tools/fly", "--radio", "no such file", SHOW)[0], 70)
-
-    def test_interrupted_on_the_ground(self):
-        status, out = pressed("check:")
-        self.assertEqual((status, "Ctrl-C: not flown" in out, "taking off" in out), (1, True, False), out)
-
-    def test_one_above_the_other(self):
-        with tempfile.NamedTemporaryFile("w", suffix=".choreo") as file:
-            file.write("choreo 1\ndrone a 0 0 500000 0\ndrone b 1000000 0 1500000 0\ncue 4000\na move 1000000 0 500000 0\nend\n"
-                       "cue 1000\nend\ncue 3000\nb move 2000000 0 1500000 0\nend\n")
-            file.flush()
-            self.assertEqual(fly(show=file.name)[0], 0)
-            status, out = fly("--fault", "b:falls:4.6", show=file.name)
-        self.assertEqual((status, "MAY COME DOWN ON EACH OTHER: a and b" in out), (1, True), out)
-
-    def test_interrupted(self):
-        status, out = pressed("started")
-        self.assertEqual((status, "Ctrl-C: landing all" in out, "landed" in out, "flown:" in out), (1, True, True, False), out)
-
-    def test_terminal_is_gone(self):
-        process = subprocess.Popen([os.path.join(common.TOP, "tools/fly"), "--simulate", "--yes", "--sim", SPEED, "--silence", "3",
-                                    "--log", os.path.join(self.room.name, "log.csv"), SHOW],
-                                   cwd=common.TOP, stdout=subprocess.PIPE, stderr=subprocess.PIPE, universal_newlines=True)
+def terminal_gone():
+    """A flight whose terminal is closed after the start: its status, what it told on standard error, and its log."""
+    with tempfile.TemporaryDirectory() as room:
+        log = os.path.join(room, "log.csv")
+        process = subprocess.Popen([os.path.join(common.TOOLS, "fly"), *WORDS, "--yes", "--log", log, SHOW], cwd=common.TOP,
+                                   stdout=subprocess.PIPE, stderr=subprocess.PIPE, universal_newlines=True)
         for line in process.stdout:
             if line.startswith("started"):
                 break
         process.stdout.close()
         time.sleep(0.1)
         process.send_signal(signal.SIGHUP)
-        self.assertEqual((process.wait(30), process.stderr.read()), (1, ""))
-        with open(os.path.join(self.room.name, "log.csv")) as file:
-            rows = [row.split(",") for row in file.read().split("\n")[1:-1]]
-        self.assertLess(float(rows[-1][4]), 0.15)
-        self.assertLess(float(rows[-1][0]), 6.9)
+        time.sleep(0.1)
+        process.send_signal(signal.SIGTERM)
+        told, status = process.stderr.read(), process.wait()
+        process.stderr.close()
+        with open(log) as file:
+            return status, told, file.read()
 
-    def test_interrupted_twice(self):
-        begin = time.monotonic()
-        status, out = pressed("started", "Ctrl-C: landing")
-        self.assertEqual((status, "MOTORS STOPPED" in out, "landed" in out), (60, True, False), out)
-        self.assertLess(time.monotonic() - begin, 10)
+
+def b(fault):
+    """The words for a fault of b."""
+    return ["--fault", "b:" + fault]
+
+
+INT = signal.SIGINT
+FLIGHTS = {
+    "twelve": (["--yes", "--sim", "speed=6", "--sim", "stray=40", "--sim", "late=80"], wide_show()),
+    "whole": (["--sim", "stray=30", "--sim", "late=40"],),
+    "lossy": (["--sim", "loss=20", "--sim", "seed=3", "--late", "200"],),
+    "unicast": (["--unicast"],), "copies": (["--copies", "3"],),
+    "floor": ([], ON_THE_FLOOR), "above": ([], ABOVE), "passing": ([], PASSING), "passing falls": (b("falls:4.6"), PASSING),
+    "stray": (["--sim", "stray=100"],), "look": (["--only", "look"],), "upload": (["--only", "upload"],),
+    "old": (["--fault", "a:old", *b("old"), "--only", "upload"],),
+    "no upload": ([], SHOW, "no\n"), "no take-off": ([], SHOW, "yes\nno\n"), "no start": ([], SHOW, "yes\nyes\nno\n"),
+    "hangs up": ([], SHOW, ""), "deaf unicast": (b("deaf") + ["--unicast"],),
+    "jumps": (["--only", "look"], "examples/every_act.choreo"),
+    "let through": (["--only", "upload", "--jump", "9", *(word for name in "abc" for word in ("--fault", name + ":memory"))],
+                    "examples/every_act.choreo"),
+    "early Ctrl-C": ([], SHOW, "yes\nyes\nyes\n", [("check:", INT)]),
+    "Ctrl-C": ([], SHOW, "yes\nyes\nyes\n", [("started", INT)]),
+    "Ctrl-C on the way up": ([], SHOW, "yes\nyes\nyes\n", [("taking off", INT)]),
+    "two Ctrl-C": ([], SHOW, "yes\nyes\nyes\n", [("started", INT), ("Ctrl-C: landing", INT)]),
+    "Ctrl-C in a landing": (b("falls:3"), SHOW, "yes\nyes\nyes\n", [("FAULT", INT)]),
+    **{fault: (b(fault),) for fault in (
+        "dead", "outdated", "empty", "unsettled", "astray", "memory", "locked", "deaf", "lost", "forgets", "unarmed", "stays",
+        "stuck", "deafens", "refuses", "silent:3", "wanders:2", "falls:4", "drains:2", "hovers")},
+}
+BEGUN = {}
+
+
+def setUpModule():
+    pool = concurrent.futures.ThreadPoolExecutor(AT_ONCE)
+    unittest.addModuleCleanup(pool.shutdown, cancel_futures=True)
+    BEGUN.update({name: pool.submit(fly, *words) for name, words in FLIGHTS.items()})
+    BEGUN["terminal"] = pool.submit(terminal_gone)
+
+
+def last_heights(rows):
+    """By drone the last height in a log, in metres."""
+    return {row.split(",")[1]: float(row.split(",")[4]) for row in rows.split("\n")[1:] if row}
+
+
+@common.wants_program
+class Flights(unittest.TestCase):
+    def flown(self, name, status, *lines, without=(), ends=None):
+        """The output of a flight, after a look at its status, at lines that it has or hasn't, and at how its drones end: by
+        name the end of the line that says so."""
+        came, out, rows, judged = BEGUN[name].result()
+        self.assertEqual(came, status, name + ":\n" + out)
+        for line in lines:
+            self.assertRegex(out, line, name)
+        for line in without:
+            self.assertNotIn(line, out, name)
+        for drone, end in (ends or {}).items():
+            self.assertRegex(out, "simulated: %s at .*%s\n" % (drone, end), name + ":\n" + out)
+        return out, rows, judged
+
+    def test_whole(self):
+        on_floor = r", 0.0[0-9]\) m, disarmed, 1 start"
+        out, _, judged = self.flown(
+            "whole", 0, "Upload\\? Type yes: ", "uploaded and read back", "Take off\\? Type yes: ", "taking off, 2 drones: ",
+            "at the first places: a 30 mm off, b 30 mm off", "Start\\? Type yes: ", "started: by one packet to all", "flown: 7.0 s",
+            "landed\n", ends={"a": on_floor, "b": on_floor})
+        # The show says nothing of strays, so no flight is within them.
+        self.assertEqual((judged[0], "stray is 0, which no drone keeps" in judged[1]), (1, True), judged)
+
+    def test_strays_and_starts_are_found(self):
+        # Twelve drones that stray by 40 mm and start within 80 ms: what the log says is within a tenth of that.
+        _, rows, (status, said, told) = self.flown("twelve", 0, "landed\n", "taking off, 12 drones")
+        self.assertEqual((status, "KEPT: " in said), (0, True), said + told)
+        apart, far = re.search("by the log's clock, ([0-9]+) ms apart; so late the farthest is d[0-9]+, ([0-9.]+) mm", said).groups()
+        self.assertTrue(72 <= int(apart) <= 88, said)
+        self.assertTrue(36 <= float(far) <= 44, said)
+        strays = [float(line.split()[4]) for line in said.split("\n")[1:13]]
+        self.assertTrue(all(36 <= stray <= 44 for stray in strays), said)
+        self.assertTrue(all(height < 0.2 for height in last_heights(rows).values()))
+
+    def test_lossy(self):
+        self.flown("lossy", 0, "landed\n")
+
+    def test_unicast(self):
+        self.flown("unicast", 0, "started: by packets within [0-9]+ ms; all answered within [0-9]+ ms")
+        # three copies, and a drone begins anew at each that it hears
+        self.flown("copies", 0, "started: by packets within", ends={"a": "3 starts", "b": "3 starts"})
+
+    def test_places(self):
+        self.flown("floor", 0, "nobody takes off: all first places are on the floor", without=["taking off"])
+        self.flown("above", 1, "a and b are too near from above for their ways up", "a and b end the show too near from above to land",
+                   without=["taking off", "uploaded"])
+        # Whoever has the highest place goes up first.
+        out, _, _ = self.flown("passing", 0, "taking off, 1 drone: b, 3.0 s\ntaking off, 1 drone: a, 2.0 s\n", "landed\n")
+        self.flown("passing falls", 1, "MAY COME DOWN ON EACH OTHER: a and b")
+
+    def test_only(self):
+        self.flown("look", 0, "firmware", without=["uploaded", "Upload?"])
+        self.flown("upload", 0, "uploaded and read back", without=["taking off", "Take off?"])
+        self.flown("old", 0, "uploaded and read back")
+
+    def test_nobody_says_yes(self):
+        down = r", 0.0[0-9]\) m, disarmed, 0 starts"
+        self.flown("no upload", 1, "nobody said yes", without=["uploaded", "taking off"], ends={"a": down, "b": down})
+        self.flown("no take-off", 1, "nobody said yes", "uploaded", without=["taking off"], ends={"a": down, "b": down})
+        self.flown("no start", 1, "FAULT: nobody said yes; landing all", "landed\n", without=["started"], ends={"a": down, "b": down})
+        self.flown("hangs up", 1, "nobody said yes", without=["uploaded"])
+
+    def test_not_flown(self):
+        stays = r"\(1.00, 0.00, 0.00\) m, disarmed, 0 starts"
+        for fault, said in (("dead", "no answer from b"), ("outdated", "b: protocol 3 is older"), ("empty", "b: 3.30 V, and 3.80 are"),
+                            ("unsettled", "b: its estimator isn't settled"), ("astray", "b: stands 500 mm aside"),
+                            ("memory", "b: its trajectory memory is 3, and the show's line `memory` names 2"),
+                            ("locked", "b: can't be armed"), ("deaf", "b: doesn't answer a broadcast")):
+            ends = {"a": r"\(0.00, 0.00, 0.00\) m, disarmed, 0 starts", **({} if fault == "astray" else {"b": stays})}
+            # where one doesn't answer none is opened, and so nothing is known of them in the end
+            self.flown(fault, 1, said, without=["taking off", "uploaded", "Take off?"], ends={} if fault == "dead" else ends)
+
+    def test_not_uploaded(self):
+        for fault, said in (("lost", "not flown: upload: status 8, stopped before its end: b is silent for 2 s.*b, packet 0: write"),
+                            ("forgets", "not flown: upload: status 14, .*: b, packet 4: read of 20 bytes at address 0 of memory 2")):
+            self.flown(fault, 1, said, without=["taking off", "Take off?"], ends={"a": "disarmed, 0 starts", "b": "disarmed, 0 starts"})
+
+    def test_not_up(self):
+        down = r", 0.0[0-9]\) m, disarmed, 0 starts"
+        for fault, said in (("unarmed", "not flown: not armed: b\n"), ("stays", "FAULT: b refuses to take off: status 16; landing all\nlanded"),
+                            ("stuck", "FAULT: not up: b; landing all\nlanded")):
+            self.flown(fault, 1, said, without=["started"], ends={"a": down, "b": down})
+        self.flown("stray", 1, "FAULT: not at the first place: a, b; landing all\nlanded", without=["started"])
+
+    def test_faults_in_flight(self):
+        for fault, said, starts, end in (
+                ("refuses", "FAULT: b refuses the start with status 16; landing all\nlanded", 1, "disarmed, 0 starts"),
+                ("deafens", "FAULT: b didn't take the start; landing all\nlanded", 1, "disarmed, 0 starts"),
+                ("silent:3", "FAULT: b is silent for 3.[0-9] s; landing all\n(MAY.*\n)?NO ANSWER to the landing: b\n"
+                 "NOT SEEN TO BE DOWN: b", 1, "armed, 1 start"),
+                ("wanders:2", "FAULT: b is [0-9]+ mm from its curve; landing all", 1, "1 start"),
+                ("falls:4", "FAULT: b has tumbled; landing all", 1, "cut, 1 start"),
+                ("drains:2", "FAULT: b has 3.00 V left; landing all", 1, "disarmed, 1 start")):
+            self.flown(fault, 1, said, without=["flown:"], ends={"a": r", 0.0[0-9]\) m, disarmed, %d start" % starts, "b": end})
+
+    def test_one_that_does_not_land(self):
+        # It isn't disarmed, since it would fall.
+        self.flown("hovers", 1, "landing\nNOT SEEN TO BE DOWN: b.*\nNOT SEEN TO BE DOWN: b.*\nlanded, but for b: not disarmed",
+                   ends={"a": r", 0.00\) m, disarmed, 1 start", "b": r", 1.00\) m, armed, 1 start"})
+
+    def test_deaf(self):
+        self.flown("deaf unicast", 0, "landed\n")
+
+    def test_jumps(self):
+        self.flown("jumps", 1, "[abc] jumps by [0-9.]+ m/s at [0-9.]+ s", without=["firmware"])
+        # That show's memory has the id 3.
+        self.flown("let through", 0, "uploaded and read back")
+
+    def test_interrupted(self):
+        self.flown("early Ctrl-C", 1, "Ctrl-C: not flown", without=["taking off"])
+        self.flown("Ctrl-C", 1, "Ctrl-C: landing all; once more stops the motors\nlanded\n", without=["flown:"],
+                   ends={"a": r", 0.0[0-9]\) m, disarmed, 1 start", "b": r", 0.0[0-9]\) m, disarmed, 1 start"})
+        self.flown("Ctrl-C on the way up", 1, "Ctrl-C: landing all; once more stops the motors\nlanded\n", without=["started"],
+                   ends={"a": r", 0.0[0-9]\) m, disarmed, 0 starts", "b": r", 0.0[0-9]\) m, disarmed, 0 starts"})
+        for name in ("two Ctrl-C", "Ctrl-C in a landing"):
+            self.flown(name, 60, "MOTORS STOPPED: emergency stop to all", without=["landed"], ends={"a": "cut, 1 start", "b": "cut, 1 start"})
+
+    def test_terminal_is_gone(self):
+        # What closes a terminal sends more than one signal: all land all the same, and no motor is stopped.
+        status, told, rows = BEGUN["terminal"].result()
+        self.assertEqual((status, told), (1, ""))
+        self.assertTrue(all(height < 0.15 for height in last_heights(rows).values()), rows[-200:])
+        self.assertLess(float(rows.split("\n")[-2].split(",")[0]), 6.9)
+
+    def test_refused(self):
+        status, out, error = common.run("tools/fly", "--simulate", "examples/crossing.choreo")
+        self.assertEqual((status, out + error), (5, "error 5 pair a b cue 1 part 28 of 64\n"))
+
+    def test_words(self):
+        for words in (["--sim", "what=3"], ["--sim", "stray=x"], ["--fault", "b:what"], ["--fault", "who:dead"], ["--late", "0"],
+                      ["--fault", "b:silent:x"], ["--radio", "x"]):
+            self.assertEqual(common.run("tools/fly", "--simulate", *words, SHOW)[0], 2, words)
+        self.assertEqual(common.run("tools/fly", SHOW)[0], 2)
+        self.assertEqual(common.run("tools/fly", "--fault", "b:dead", "--radio", "x", SHOW)[0], 2)
+        self.assertEqual(common.run("tools/fly", "--radio", "no such file", SHOW)[0], 70)
 
 
 if __name__ == "__main__":

@@ -2,30 +2,37 @@
 
     tools/bridge --radio DRONES SHOW
 
-DRONES is a text with a line `NAME URI` for each drone of the show, as in `a radio://0/80/2M/E7E7E7E701`. It is written
-from memory of the library and was run over a stand-in for it (tools/simulated), which is from the same memory. Read
-docs/RADIO.md ('What a bridge owes', 'Where real drones may differ'), and try it with propellers off.
+TRY IT FIRST with one drone, without propellers. DRONES is a text with a line `NAME URI` for each drone of the show, as in
+`a radio://0/80/2M/E7E7E7E701`. This file is written from memory of the library, and was run over a stand-in for it
+(tools/simulated) that is from the same memory. Read docs/RADIO.md ('What a bridge owes', 'Where real drones may differ').
 
 What it does besides carrying packets byte for byte:
-- a drone that doesn't answer within five seconds is named at once, and what was opened is closed;
+- it opens all drones or none, and closes what it opened at each failure;
+- a drone of which nothing is heard for two seconds is named, when it is opened and at any time later;
+- each drone is asked for its memories, and a show whose memory id isn't that of the memory of type 0x12 is refused before
+  the first write;
 - answers of an earlier upload are waited out: what comes before the answers to two questions of its own is dropped;
-- no write goes to a memory that isn't a drone's trajectory memory by its own list;
-- answers to packets that it never sent, and all ports but those of memory and commander, are dropped;
+- only memory and commander packets (ports 4 and 8) are passed, and only answers to packets that were sent;
 - each drone is sent its start once: later copies are dropped, since real firmware begins anew at each (a link may lose
   packets; --repeat-starts sends them).
 The library's own classes (Crazyflie, its memories and parameters) stay out of it, since they would write too.
 """
 import queue
+import random
+import re
 import threading
 
 import clock
 import firmware
 from links import Link as Asked
-from links import COMMAND, MEMORY, READ, WRITE
+from links import COMMAND, MEMORY, READ, WRITE, key_of
 
-ANSWER, QUIET = 0.3, 5.0  # seconds until a question is put again, and until a drone counts as dead
+ANSWER, PATIENCE = 0.3, 5.0  # seconds until a question is put again, and until a drone that is heard counts as mute
+QUIET = 2.0  # seconds without any packet until a drone counts as silent
+LOOK = 0.05  # seconds between two looks at who is silent
 BROADCAST = (0xFF, 0xE7, 0xE7, 0xE7, 0xE7)
 RATES = {"250K": 0, "1M": 1, "2M": 2}
+URI = re.compile("radio://[0-9]+/[0-9]+/(250K|1M|2M)/[0-9A-F]{10}")
 
 
 def addresses(path, names):
@@ -37,6 +44,9 @@ def addresses(path, names):
             if words and (len(words) != 2 or words[0] in found or words[1] in found.values()):
                 raise ValueError("%s, line %d: `NAME URI` is wanted, each once" % (path, number))
             found.update([words] if words else [])
+            if words and not URI.fullmatch(words[1]):
+                raise ValueError("%s, line %d: %s isn't radio://DONGLE/CHANNEL/RATE/ADDRESS with 250K, 1M or 2M" % (
+                    path, number, words[1]))
     missing = [name for name in names if name not in found]
     if missing:
         raise ValueError("%s has no address for %s" % (path, ", ".join(missing)))
@@ -45,6 +55,21 @@ def addresses(path, names):
 
 class Dead(Exception):
     """Drones that don't answer."""
+
+
+class Silence:
+    """For how many seconds nothing was heard of each drone. A machine that itself stands still hears nobody: of each step
+    between two looks only the first part counts."""
+
+    def __init__(self, count, most=4 * LOOK):
+        self.most, self.looked, self.rows = most, clock.now(), [(0.0, None)] * count
+
+    def look(self, heard):
+        """The seconds for each drone, by when each was heard last."""
+        now = clock.now()
+        step, self.looked = min(now - self.looked, self.most), now
+        self.rows = [(0.0 if at != last else quiet + step, at) for (quiet, last), at in zip(self.rows, heard)]
+        return [quiet for quiet, _ in self.rows]
 
 
 class Radio:
@@ -61,9 +86,9 @@ class Radio:
         self.open, self.listeners, self.faults = True, [], {}
         self.last, self.answers, self.changed = [None] * len(names), {}, threading.Condition()
         self.waiting, self.drivers, self.threads, self.shared = [queue.Queue() for _ in names], [], [], {}
-        if not getattr(cflib.crtp, "CLASSES", None):
-            cflib.crtp.init_drivers()
         try:
+            if not getattr(cflib.crtp, "CLASSES", None):
+                cflib.crtp.init_drivers()
             self.connect(cflib.crtp.get_link_driver)
             self.wait_for_all()
         except BaseException:
@@ -84,13 +109,21 @@ class Radio:
                 thread.start()
 
     def wait_for_all(self):
-        """Waits until each drone was heard, and names those that weren't."""
-        until = clock.now() + QUIET
-        while clock.now() < until and None in self.last:
-            clock.wait(0.05)
-        dead = [name for name, last in zip(self.names, self.last) if last is None]
-        if dead:
-            raise Dead("no answer from %s: on, charged, in reach, on its channel?" % ", ".join(dead))
+        """Waits until each drone was heard, and names those that weren't within two seconds."""
+        silence = Silence(len(self.names), LOOK)
+        while None in self.last:
+            quiet = silence.look(self.last)
+            self.nudge([drone for drone, last in enumerate(self.last) if last is None])
+            if max(quiet) > QUIET:
+                dead = [name for name, last in zip(self.names, self.last) if last is None]
+                raise Dead("no answer from %s: on, charged, in reach, on its channel?" % ", ".join(dead))
+            clock.wait(LOOK)
+
+    def nudge(self, drones):
+        """Asks drones something, where nothing else waits for them: one that has nothing to say may send nothing."""
+        for drone in drones:
+            if self.waiting[drone].empty():
+                self.send(drone, firmware.packet(firmware.MEMORY, 0, firmware.COUNT_MEMORIES))
 
     def send_all(self, drone):
         """Sends what waits for a drone."""
@@ -113,8 +146,8 @@ class Radio:
             self.last[drone] = clock.now()
             port, channel, data = firmware.parts(raw)
             with self.changed:
-                for (asked, *where, front), found in self.answers.items():
-                    if asked == drone and where == [port, channel] and data.startswith(front):
+                for (asked, *where, length, front), found in self.answers.items():
+                    if (asked, where) == (drone, [port, channel]) and data.startswith(front) and length in (None, len(data)):
                         found.append(data)
                         self.changed.notify_all()
             for listener in list(self.listeners):
@@ -124,10 +157,10 @@ class Radio:
         """Takes a packet for a drone; the functions are called when it goes to the driver and when that has it."""
         self.waiting[drone].put((raw, before, after))
 
-    def ask(self, drone, port, channel, data, same=None, seconds=QUIET):
+    def ask(self, drone, port, channel, data, same=None, seconds=PATIENCE, length=None):
         """The answer to a question, which is put again until it comes: one that begins with the first `same` bytes of
-        the question's data, all where it is None."""
-        key, found = (drone, port, channel, bytes(data[:same])), []
+        the question's data, all where it is None, and has so many bytes where a length is given."""
+        key, found = (drone, port, channel, length, bytes(data[:same])), []
         with self.changed:
             self.answers[key] = found
         until = clock.now() + seconds
@@ -161,32 +194,34 @@ class Radio:
             raise failed[0]
         return out
 
-    def silent(self, drone):
-        """The seconds since a drone was last heard."""
-        return clock.now() - self.last[drone]
-
     def memories(self, drone):
         """A drone's list of memories: their types and sizes."""
         count = self.ask(drone, firmware.MEMORY, 0, firmware.COUNT_MEMORIES)[1]
         return [firmware.memory_of(self.ask(drone, firmware.MEMORY, 0, firmware.ask_memory(k))) for k in range(count)]
 
-    def fence(self, drone):
-        """Waits until all that a drone was sent before is answered: each port answers in order."""
-        self.ask(drone, firmware.MEMORY, 0, firmware.COUNT_MEMORIES)
-        self.ask(drone, firmware.COMMANDER, 0, firmware.group(), 1)
+    def fence(self, drone, memory):
+        """Waits until all that a drone was sent before is answered: each port answers in order. Both questions have a mark by
+        chance, so that no answer to an earlier one is taken for theirs: a byte of the memory, of which an upload reads more
+        at once, and a byte that the commander gives back."""
+        mark = random.randrange(MEMORY)
+        self.ask(drone, firmware.MEMORY, 1, firmware.read(memory, mark, 1), 5, length=7)
+        self.ask(drone, firmware.COMMANDER, 0, firmware.group() + bytes([0x80 | mark & 0x7F]), 3)
+
+    def share_radios(self):
+        """Opens each dongle once more, for broadcasts."""
+        from cflib.crtp.radiodriver import RadioManager
+        for radio, channel, rate in sorted({tuple(uri.split("/")[2:5]) for uri in self.uris}):
+            # THE LEAST CERTAIN LINES HERE: the library shares one dongle among its drivers in this way (70 %).
+            shared = self.shared[radio, channel, rate] = RadioManager.open(int(radio))
+            shared.set_channel(int(channel))
+            shared.set_address(BROADCAST)
+            shared.set_data_rate(RATES[rate])
 
     def broadcast(self, raw, copies=1):
         """Sends a packet to all drones at once, so many times, by each radio and channel; when the first went out and
         when the last had. It has no answer by itself; drones answer by their own links."""
-        from cflib.crtp.radiodriver import RadioManager
         if not self.shared:
-            for radio, channel, rate in sorted({tuple(uri.split("/")[2:5]) for uri in self.uris}):
-                # THE LEAST CERTAIN LINES HERE: the library shares one dongle among its drivers in this way (70 %).
-                shared = RadioManager.open(int(radio))
-                shared.set_channel(int(channel))
-                shared.set_address(BROADCAST)
-                shared.set_data_rate(RATES[rate])
-                self.shared[radio, channel, rate] = shared
+            self.share_radios()
         begin = clock.now()
         for copy in range(copies):
             for shared in self.shared.values():
@@ -208,39 +243,38 @@ class Radio:
         self.drivers, self.shared = [], {}
 
 
-def key_of(raw, answer):
-    """What a packet and its answer have in common, or None where no answer is told by it."""
-    port, data = raw[0] & 0xF3, raw[1:]
-    if port in (READ, WRITE) and len(data) >= 6:
-        return port, data[:5]
-    return (port, data[:3]) if port == COMMAND and len(data) >= (4 if answer else 9) else None
-
-
 class Link(Asked):
-    """The link of tools/bridge and tools/fly over a radio. `fault` says why it sends no more, or is None."""
+    """The link of tools/bridge and tools/fly over a radio, to drones whose trajectory memory has this id. `fault` says why it
+    sends no more, or is None. `starts` has by drone when its start went out first and was answered last."""
     answer_time = 0.1
 
-    def __init__(self, names, heard, radio, repeat_starts=False):
+    def __init__(self, names, heard, radio, memory, repeat_starts=False):
         super().__init__(names, heard)
-        self.repeat_starts = repeat_starts
-        self.radio, self.fault, self.asked, self.lock = radio, None, set(), threading.Lock()
+        self.radio, self.memory, self.repeat_starts = radio, memory, repeat_starts
+        self.fault, self.asked, self.lock, self.silence = None, set(), threading.Lock(), Silence(len(names))
         self.starts, self.copies, self.strangers, self.answer_time = {}, 0, 0, clock.real(self.answer_time)
         self.lists = radio.each(radio.memories)
-        radio.each(radio.fence)
+        wrong = [line for line in map(self.wrong_memory, range(len(names))) if line]
+        if wrong:
+            raise ValueError("%s; the show's line `memory` has to name the drones' memory of type 12, one id for all"
+                             % "; ".join(wrong))
+        radio.each(lambda drone: radio.fence(drone, memory))
         radio.listeners.append(self.came)
 
-    def trajectory_memories(self, drone):
-        """The ids of a drone's memories for trajectories."""
-        return [k for k, (kind, size) in enumerate(self.lists[drone]) if kind == firmware.TRAJECTORY_MEMORY
-                and size >= MEMORY]
+    def wrong_memory(self, drone):
+        """What is wrong with the show's memory id for a drone, or None."""
+        good, rows = trajectory_memories(self.lists[drone]), self.lists[drone]
+        if self.memory in good:
+            return None
+        kind = "of type %02X" % rows[self.memory][0] if self.memory < len(rows) else "not there"
+        return "%s: memory %d is %s; its trajectory memory is %s" % (
+            self.names[drone], self.memory, kind, " ".join(map(str, good)) or "missing")
 
     def send(self, drone, packet):
-        if packet[0] & 0xF3 in (READ, WRITE) and packet[1] not in self.trajectory_memories(drone):
-            kinds = ["type %02X" % kind for kind, _ in self.lists[drone][packet[1]:packet[1] + 1]] or ["not there"]
-            self.fault = "%s: memory %d is %s, and no trajectory memory; its trajectory memory is %s: the show's " \
-                "line `memory` has to name it" % (self.names[drone], packet[1], kinds[0],
-                                                  " ".join(map(str, self.trajectory_memories(drone))) or "missing")
-        is_start = packet[0] & 0xF3 == COMMAND and packet[1] == 5
+        key = key_of(packet, False)
+        if key is None or key[0] != COMMAND and packet[1] != self.memory:
+            self.fault = "%s: %s is no packet of this upload" % (self.names[drone], packet.hex(" ").upper())
+        is_start = key is not None and key[0] == COMMAND and packet[1] == 5
         with self.lock:
             again = is_start and drone in self.starts and not self.repeat_starts
             if is_start and drone not in self.starts:
@@ -248,7 +282,7 @@ class Link(Asked):
             if self.fault or again:
                 self.left, self.copies = self.left + 1, self.copies + again
                 return
-            self.asked.add((drone, key_of(packet, False)))
+            self.asked.add((drone, key))
         self.radio.send(drone, packet, lambda: self.going(drone, is_start), self.gone)
 
     def going(self, drone, is_start):
@@ -276,9 +310,12 @@ class Link(Asked):
 
     def ailing(self):
         """Why the upload can't go on, or None."""
-        for drone, name in enumerate(self.names):
-            if self.radio.silent(drone) > QUIET:
-                return "%s is silent for %.0f s: %s" % (name, QUIET, self.radio.faults.get(drone, "no packet came"))
+        silent = self.silence.look(self.radio.last)
+        self.radio.nudge([drone for drone, quiet in enumerate(silent) if quiet > QUIET / 2])
+        for drone, quiet in enumerate(silent):
+            if quiet > QUIET:
+                return "%s is silent for %.0f s: %s" % (
+                    self.names[drone], QUIET, self.radio.faults.get(drone, "no packet came"))
         return self.fault
 
     def close(self):
@@ -287,21 +324,31 @@ class Link(Asked):
         self.radio.close()
 
     def report(self):
-        out = ["trajectory memories: %s" % ", ".join("%s %d" % (name, self.trajectory_memories(k)[0])
-                                                     for k, name in enumerate(self.names))]
+        out = ["trajectory memories: %s" % ", ".join("%s %d" % (name, self.memory) for name in self.names)]
         if self.strangers:
             out.append("%d answers came to packets that were not sent, and were dropped" % self.strangers)
-        return out + spread_lines(self.names, self.starts, self.repeat_starts)
+        return out + start_lines(self.names, self.starts, self.repeat_starts)
 
 
-def spread_lines(names, starts, repeated=False):
-    """What is known of when drones took their starts, from when each went out first and was answered last."""
+def trajectory_memories(rows):
+    """The ids of a drone's memories for trajectories, by its list of types and sizes."""
+    return [k for k, (kind, size) in enumerate(rows) if kind == firmware.TRAJECTORY_MEMORY and size >= MEMORY]
+
+
+def start_lines(names, starts, repeated=False):
+    """When each drone can have taken its start, between when that went out first and when it was answered last, and the spread
+    of all. Milliseconds count from when the first one went out."""
     if not starts:
         return []
-    quiet = [names[drone] for drone, (_, heard) in starts.items() if heard is None]
+    rows = {names[drone]: row for drone, row in sorted(starts.items())}
+    zero = min([sent for sent, _ in rows.values() if sent is not None] or [0.0])
+    quiet = [name for name, (sent, heard) in rows.items() if sent is None or heard is None]
+    out = ["%s can have taken its start from %.0f to %.0f ms" % (name, 1000 * (sent - zero), 1000 * (heard - zero))
+           for name, (sent, heard) in rows.items() if name not in quiet]
     if quiet:
-        return ["started, or not: %s: the start went out once and wasn't answered" % ", ".join(quiet)]
-    sent, heard = [row[0] for row in starts.values()], [row[1] for row in starts.values()]
+        return out + ["started, or not: %s: the start %s and wasn't answered" % (
+            ", ".join(quiet), "was repeated" if repeated else "went out once")]
+    sent, heard = [row[0] for row in rows.values()], [row[1] for row in rows.values()]
     words = "starts were REPEATED, and a drone begins anew at each" if repeated else "each drone was sent one start"
-    return ["%s; taken within %.0f ms of one another at most, %.0f at least" % (
+    return out + ["%s; taken within %.0f ms of one another at most, %.0f at least" % (
         words, 1000 * (max(heard) - min(sent)), 1000 * max(0, max(sent) - min(heard)))]

@@ -44,6 +44,11 @@ def memory_of(data):
     return data[2], struct.unpack_from("<I", bytes(data), 3)[0]
 
 
+def read(number, address, length):
+    """The question for bytes of a memory, on channel 1; the answer begins with its first five bytes."""
+    return struct.pack("<BIB", number, address, length)
+
+
 # ---- tables of parameters and logs, ports 2 and 5 channel 0, since protocol 4 (90 %)
 
 ASK_TABLE = bytes([3])

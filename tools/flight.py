@@ -13,6 +13,7 @@ MARK = 0x5A  # a byte by which the answer to a broadcast is told from others
 LOGGED = {FLIGHT: ["stateEstimate.x", "stateEstimate.y", "stateEstimate.z", "pm.vbat", "supervisor.info"],
           SETTLING: ["kalman.varPX", "kalman.varPY", "kalman.varPZ"]}
 OPTIONAL = ("supervisor.info",)  # old firmware hasn't it
+WRAP = 2 ** 24  # milliseconds after which a drone's stamps begin anew
 HISTORY = 20  # samples that are kept to see whether a drone is settled
 
 
@@ -22,11 +23,21 @@ class Trouble(Exception):
 
 class State:
     """What a drone said of itself last: place in metres, volts, the supervisor's bits or None, and the estimator's variances,
-    with when it was heard; `places` are its last ones."""
+    with when it was heard; `places` are its last ones. `measured` is when the place was measured, by the drone's own clock:
+    its packets are late by chance, and the least late one sets that clock."""
 
     def __init__(self):
-        self.place, self.volts, self.info, self.heard = None, None, None, None
+        self.place, self.volts, self.info, self.heard, self.measured = None, None, None, None, None
         self.places, self.variances = [], []
+        self.stamp, self.least = None, None
+
+    def measure(self, heard, stamp):
+        """Notes when a sample came, and the drone's milliseconds in it, which begin anew after WRAP."""
+        turns = 0 if self.stamp is None else round((self.stamp - stamp) / WRAP)
+        self.stamp = stamp + turns * WRAP
+        late = heard - self.stamp / 1000
+        self.least = late if self.least is None else min(self.least, late)
+        self.heard, self.measured = heard, self.stamp / 1000 + self.least
 
 
 class Log:
@@ -103,7 +114,8 @@ class Fleet:
             state.variances = (state.variances + [max(values)])[-HISTORY:]
             return
         state.place = [by_name["stateEstimate." + axis] for axis in "xyz"]
-        state.volts, state.info, state.heard = by_name["pm.vbat"], by_name.get("supervisor.info"), clock.now()
+        state.volts, state.info = by_name["pm.vbat"], by_name.get("supervisor.info")
+        state.measure(clock.now(), stamp)
         state.places = (state.places + [state.place])[-HISTORY:]
         self.log.put(state.heard, self.names[drone], state.place, stamp)
 
@@ -173,13 +185,14 @@ class Fleet:
         if answer[3]:
             raise Trouble("%s refuses to %s: status %d" % (self.names[drone], word, answer[3]))
 
-    def arm(self, on):
-        """Arms or disarms all drones; which of them aren't as they should be afterwards, by their own supervisors."""
-        self.radio.each(lambda drone: self.radio.ask(drone, firmware.PLATFORM, 0, firmware.arm(on), 1, seconds=2))
+    def arm(self, on, drones):
+        """Arms or disarms drones; which of them aren't as they should be afterwards, by their own supervisors."""
+        self.radio.each(lambda drone: drone in drones and self.radio.ask(
+            drone, firmware.PLATFORM, 0, firmware.arm(on), 1, seconds=2))
         until = clock.now() + 2
         while clock.now() < until:
-            wrong = [name for name, state in zip(self.names, self.states)
-                     if state.info is not None and bool(state.info & firmware.IS_ARMED) != on]
+            wrong = [self.names[drone] for drone in drones if self.states[drone].info is not None
+                     and bool(self.states[drone].info & firmware.IS_ARMED) != on]
             if not wrong:
                 break
             clock.wait(0.05)
@@ -216,15 +229,18 @@ class Fleet:
         except Exception:
             pass
 
-    def land(self, floors, speed=0.4, least=2.0):
-        """Lands all drones, by a broadcast and by a command of their own for whoever doesn't answer that; who didn't."""
+    def land(self, floors, drones, speed=0.4, least=2.0):
+        """Lands drones where they are, each by a command of its own, and before that by a broadcast where all land. The
+        seconds that it takes, and who didn't answer."""
         highest = max([state.place[2] - floor for state, floor in zip(self.states, floors) if state.place] or [2.0])
         seconds, quiet = max(least, highest / speed), []
-        self.try_broadcast(firmware.packet(firmware.COMMANDER, 0, firmware.land(min(floors), seconds)), 2)
+        if len(drones) == len(self.names):
+            self.try_broadcast(firmware.packet(firmware.COMMANDER, 0, firmware.land(min(floors), seconds)), 2)
 
         def land(drone):
             try:
-                self.radio.ask(drone, firmware.COMMANDER, 0, firmware.land(floors[drone], seconds), 3, seconds=1.5)
+                if drone in drones:
+                    self.radio.ask(drone, firmware.COMMANDER, 0, firmware.land(floors[drone], seconds), 3, seconds=1.5)
             except Exception:
                 quiet.append(self.names[drone])
         self.radio.each(land)

@@ -1,7 +1,7 @@
 """Links that tools/bridge carries packets over: what it asks of one, and a simulated one with simulated drones.
 
-A link for real radios is another class with the calls of `Link`; tools/crazyradio.py is a sketch of one. The simulated
-drones are those of docs/RADIO.md, 'A drone'. Nothing here is proved.
+A link for real radios is another class with the calls of `Link`: tools/crazyradio.py is one, and says what was never
+tried of it. The simulated drones are those of docs/RADIO.md, 'A drone'. Nothing here is proved.
 """
 import heapq
 import random
@@ -12,6 +12,26 @@ MEMORY = 4096
 ENTRIES = 10
 READ, WRITE, COMMAND = 0x41, 0x42, 0x80  # ports and channels, without link bits
 START = bytes([0, 0, 0x80, 0x3F])  # the one time scale that a drone starts with
+
+
+def key_of(raw, is_answer):
+    """What a packet of an upload and its answer have in common, or None where the bytes are neither."""
+    port, data = raw[0] & 0xF3, raw[1:]
+    if port in (READ, WRITE) and len(data) >= 6:
+        return port, bytes(data[:5])
+    if port == COMMAND and (len(data) >= 4 if is_answer else len(data) >= 9 and data[0] in (5, 6)):
+        return port, bytes(data[:3])
+    return None
+
+
+def words_of(packet):
+    """What a packet of an upload does, for people."""
+    if packet[0] & 0xF3 == COMMAND:
+        return "%s of trajectory %d" % (("start", packet[5]) if packet[1] == 5 else ("define", packet[2]))
+    address = int.from_bytes(packet[2:6], "little")
+    if packet[0] & 0xF3 == WRITE:
+        return "write of %d bytes to address %d of memory %d" % (len(packet) - 6, address, packet[1])
+    return "read of %d bytes at address %d of memory %d" % (packet[6], address, packet[1])
 
 
 class Link:

@@ -19,10 +19,12 @@ PARAMETERS = [("commander.enHighLevel", 0x08, 0), ("kalman.resetEstimation", 0x0
 LOGGED = [("stateEstimate.x", 7), ("stateEstimate.y", 7), ("stateEstimate.z", 7), ("pm.vbat", 7), ("supervisor.info", 2),
           ("kalman.varPX", 7), ("kalman.varPY", 7), ("kalman.varPZ", 7)]
 PADDING = 20  # further items of the tables, so that reading them is no single packet
+NOTHING = b"\xF3\x01\x3C"  # what an acknowledgement carries where a drone has nothing to say
 FULL, SINKS = 4.1, 0.0008  # volts, and volts a second in flight
 # What --fault and tests can ask for; the number behind some is seconds after the start of the show.
 FAULTS = {
     "dead": "answers nothing",
+    "outdated": "has a protocol that is too old",
     "silent": "its link is gone so many seconds after its start",
     "empty": "its battery is low",
     "unsettled": "its estimator isn't settled",
@@ -32,6 +34,13 @@ FAULTS = {
     "deaf": "hears no broadcast",
     "deafens": "hears no broadcast once it has taken off",
     "locked": "can't be armed",
+    "unarmed": "says that it can be armed, and isn't",
+    "lost": "its link is gone once it was written to",
+    "forgets": "keeps nothing that is written",
+    "stays": "refuses to take off",
+    "stuck": "takes off, it says, and stays where it is",
+    "drains": "its battery is empty so many seconds after its start",
+    "hovers": "doesn't land",
     "refuses": "refuses its start",
     "falls": "its motors stop so many seconds after its start",
     "old": "has answers of an earlier upload under way",
@@ -71,27 +80,32 @@ class Drone:
         self.floor, self.flies, self.curve, self.curve_began, self.starts = home[2], False, None, None, []
         self.memories = [(kind, self.memory_bytes(b"\xFF" * size)) for kind, size in MEMORIES]
         if "memory" in faults:
-            self.memories.insert(2, (0x11, bytearray(8192)))
+            self.memories.insert(2, (0x11, self.memory_bytes(b"\xFF" * 8192)))
         self.table, self.parameters = [None] * 10, [row[2] for row in PARAMETERS]
         self.blocks, self.up_queue = {}, []
         if "old" in faults:
             self.up_queue = [bytes([0x4E, 2]) + struct.pack("<IB", 24 * k, 0) for k in range(8)] + [bytes([0x8C, 6, 0, 1, 0])]
-        self.safelink, self.last_up, self.down, self.held = False, 1, 0, None
+        self.safelink, self.last_up, self.down, self.held, self.late_share = False, 1, 0, None, 0.0
+        self.is_written = False
         self.phase, self.booted, self.wandered = world.chance.random() * 7, clock.now() - 10 - 50 * world.chance.random(), None
 
     # ---- the way
 
-    def flown(self):
+    def flown(self, now=None):
         """Seconds since the start of its trajectory, or None."""
-        return None if self.curve_began is None else clock.now() - self.curve_began
+        return None if self.curve_began is None else (now or clock.now()) - self.curve_began
 
     def is_due(self, fault):
         """Whether a fault of some seconds after the start has come."""
         return fault in self.faults and self.flown() is not None and self.flown() >= self.faults[fault]
 
-    def planned(self):
+    def is_gone(self):
+        """Whether its link is gone."""
+        return "dead" in self.faults or self.is_due("silent") or "lost" in self.faults and self.is_written
+
+    def planned(self, now=None):
         """Where its commander has it."""
-        now = clock.now()
+        now = now or clock.now()
         if self.plan is None:
             return list(self.place)
         kind, begin, *rest = self.plan
@@ -106,9 +120,10 @@ class Drone:
             at -= milliseconds
         return [row[-1] / 1000 for row in segments[-1][1][:3]]
 
-    def is_at(self):
+    def is_at(self, now=None):
         """Where it is: as planned, but for its stray."""
-        now, at = clock.now(), self.planned()
+        now = now or clock.now()
+        at = self.planned(now)
         if self.cut or self.is_due("falls"):
             if not self.cut:
                 self.drop()
@@ -119,7 +134,7 @@ class Drone:
             way = [math.cos(a) * math.cos(b), math.sin(a) * math.cos(b), math.sin(b)]
             at = [v + self.world.stray / 1000 * w for v, w in zip(at, way)]
         if self.is_due("wanders"):
-            at[0] += 0.5 * (self.flown() - self.faults["wanders"])
+            at[0] += 0.5 * (self.flown(now) - self.faults["wanders"])
         return at
 
     def drop(self):
@@ -141,12 +156,13 @@ class Drone:
                 return raw
             if not self.safelink:
                 self.take(raw)
-                return self.up_queue.pop(0) if self.up_queue else b"\xF3\x01\x3C"
+                return self.up_queue.pop(0) if self.up_queue else NOTHING
             if self.held is not None and (raw[0] >> 2 & 1) != self.down:
                 self.held, self.down = None, 1 - self.down
             if self.held is None:
-                self.held = self.up_queue.pop(0) if self.up_queue else b"\xF3\x01\x3C"
-            answer = bytes([self.held[0] & 0xF3 | self.down << 2]) + self.held[1:]
+                self.held = self.up_queue.pop(0) if self.up_queue else NOTHING
+            answer = bytes([self.held[0] & 0xF3 | self.down << 2]) + self.held[1:] if self.held else b""
+            self.held = self.held or None
             fresh, self.last_up = (raw[0] >> 3 & 1) != self.last_up, raw[0] >> 3 & 1
             if fresh:
                 self.take(raw)
@@ -169,9 +185,9 @@ class Drone:
     def platform(self, channel, data):
         """Port 13: arming and versions."""
         if channel == 1:
-            return bytes([0, 6]) if data[0] == 0 else b"\x01simulated\0"
+            return bytes([0, 3 if "outdated" in self.faults else 6]) if data[0] == 0 else b"\x01simulated\0"
         if channel == 0 and data[0] == 1:
-            self.armed = bool(data[1]) and "locked" not in self.faults and not self.cut
+            self.armed = bool(data[1]) and not {"locked", "unarmed"} & set(self.faults) and not self.cut
             return bytes([1, 1, self.armed])
         return None
 
@@ -188,8 +204,9 @@ class Drone:
             good = address + data[5] <= len(whole)
             return data[:5] + (b"\0" + bytes(whole[address:address + data[5]]) if good else bytes([EIO]))
         good = address + len(data) - 5 <= len(whole)
-        if good:
+        if good and "forgets" not in self.faults:
             whole[address:address + len(data) - 5] = data[5:]
+        self.is_written = True
         return data[:5] + bytes([0 if good else EIO])
 
     def table_answer(self, data, items, checksum):
@@ -235,22 +252,24 @@ class Drone:
         for block, row in self.blocks.items():
             items, period, at = row
             if period is not None and clock.now() >= at and len(self.up_queue) < 50:
-                row[2] = max(at + period, clock.now() - period)
-                values = [self.variable(LOGGED[number - PADDING][0]) for _, number in items]
+                now = clock.now()
+                row[2] = max(at + period, now - period)
+                values = [self.variable(LOGGED[number - PADDING][0], now) for _, number in items]
                 form = "<" + "".join(firmware.LOG_TYPES[kind] for kind, _ in items)
-                stamp = int((clock.now() - self.booted) * 1000) % 2 ** 24
+                stamp = int((now - self.booted) * 1000) % 2 ** 24
                 self.up_queue.append(firmware.packet(firmware.LOGS, 2, bytes([block]) + stamp.to_bytes(3, "little")
                                                      + struct.pack(form, *values)))
 
-    def variable(self, name):
-        """The value of a log variable."""
+    def variable(self, name, now):
+        """The value of a log variable at an instant."""
         group, _, item = name.partition(".")
         if group == "stateEstimate":
-            return self.is_at()["xyz".index(item)]
+            return self.is_at(now)["xyz".index(item)]
         if group == "kalman":
             return 0.05 if "unsettled" in self.faults else 0.00002
         if name == "pm.vbat":
-            return 3.3 if "empty" in self.faults else FULL - SINKS * (self.flown() or 0)
+            low = 3.3 if "empty" in self.faults else 3.0 if self.is_due("drains") else FULL
+            return low - SINKS * (self.flown() or 0)
         info = firmware.CAN_ARM * ("locked" not in self.faults) | firmware.IS_ARMED * self.armed
         flying = self.flies and not self.cut and self.is_at()[2] > self.floor + 0.05
         return info | firmware.CAN_FLY * self.armed | firmware.IS_FLYING * flying | firmware.IS_TUMBLED * bool(self.cut)
@@ -277,6 +296,10 @@ class Drone:
             return 0  # the commander is off: taken, and nothing is done
         if not self.armed:
             return ENOEXEC
+        if kind == 7 and "stays" in self.faults:
+            return EBUSY
+        if kind == 7 and "stuck" in self.faults or kind == 8 and "hovers" in self.faults:
+            return 0
         if kind in (7, 8):
             height, seconds = struct.unpack_from("<f", data, 2)[0], struct.unpack_from("<f", data, 11)[0]
             self.flies = True
@@ -300,7 +323,7 @@ class Drone:
         segments = segments_at([whole for kind, whole in self.memories if kind == 0x12][0], offset, pieces)
         if not segments:
             return ENOEXEC
-        self.curve_began = clock.now() + self.world.late / 1000 * self.world.chance.random()
+        self.curve_began = clock.now() + self.world.late / 1000 * self.late_share
         self.plan, self.flies = ("curve", self.curve_began, segments), True
         self.starts.append(self.curve_began)
         return 0
@@ -317,6 +340,18 @@ class World:
         self.stray, self.late, self.loss, self.rate, self.unplugged = stray, late, loss, rate, unplugged
         self.chance, self.lock, self.free = random.Random(seed), threading.Lock(), {}
         self.drones = {uri: Drone(self, uri, home, faults.get(uri, {})) for uri, home in homes.items()}
+        # The first and the last start are `late` apart, the others lie evenly between them.
+        shares = [k / max(1, len(homes) - 1) for k in range(len(homes))]
+        self.chance.shuffle(shares)
+        for drone, share in zip(self.drones.values(), shares):
+            drone.late_share = share
+
+    def lines(self, names):
+        """Where the drones are, whether they are armed, and how often they began a trajectory: lines for people."""
+        for name, drone in zip(names, self.drones.values()):
+            yield "simulated: %s at (%.2f, %.2f, %.2f) m, %s, %d start%s" % (
+                name, *drone.is_at(), "cut" if drone.cut else "armed" if drone.armed else "disarmed",
+                len(drone.starts), "" if len(drone.starts) == 1 else "s")
 
     def take_turn(self, dongle):
         """Waits for a dongle's next transfer."""
@@ -331,7 +366,7 @@ class World:
         """A packet to a drone: whether it was acknowledged, and what came back."""
         lost, lost_back = self.take_turn(uri.split("/")[2])
         drone = self.drones.get(uri)
-        if lost or drone is None or "dead" in drone.faults or drone.is_due("silent"):
+        if lost or drone is None or drone.is_gone():
             return False, b""
         came = drone.poll(raw)
         return (False, b"") if lost_back else (True, came)
@@ -341,8 +376,8 @@ class World:
         times at once: that is from memory, too."""
         self.take_turn(str(dongle))
         for uri, drone in self.drones.items():
-            if uri.split("/")[2:4] == [str(dongle), str(channel)] and "deaf" not in drone.faults and "dead" not in drone.faults:
-                is_deaf = drone.is_due("silent") or "deafens" in drone.faults and drone.flies
+            if uri.split("/")[2:4] == [str(dongle), str(channel)] and "deaf" not in drone.faults:
+                is_deaf = drone.is_gone() or "deafens" in drone.faults and drone.flies
                 if not is_deaf and self.chance.random() >= self.loss ** 4:
                     with drone.lock:
                         drone.take(raw)

@@ -9,6 +9,7 @@ from .. import air
 from .crtpstack import CRTPPacket
 
 RETRIES = 100
+RELAXED = 0.01  # seconds between transfers where nothing comes
 OPEN = []  # the drivers that are open, for tests
 
 
@@ -78,7 +79,7 @@ class _RadioDriverThread(threading.Thread):
             if came == b"\xFF\x05\x01":
                 self.safelink = True
                 break
-        out = b"\xFF"
+        out, empty = b"\xFF", 0
         while self.open:
             ack, came = self.exchange(out)
             if not ack:
@@ -89,8 +90,10 @@ class _RadioDriverThread(threading.Thread):
             self.left = RETRIES
             if came:
                 self.link.in_queue.put(CRTPPacket(came[0], came[1:]))
+            # After ten transfers in which nothing came it waits a little for what is to be sent.
+            empty = empty + 1 if not came or came[0] & 0xF3 == 0xF3 else 0
             try:
-                packet = self.link.out_queue.get(False)
+                packet = self.link.out_queue.get(True, clock.real(RELAXED)) if empty > 10 else self.link.out_queue.get(False)
                 out = bytes([packet.header]) + bytes(packet.data)
             except queue.Empty:
                 out = b"\xFF"
