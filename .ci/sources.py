@@ -1,11 +1,12 @@
-"""What the crates' sources have, for .ci/promises and bench/definitions: definitions of specs/, types, constants, functions and
-their clauses of src/. It knows how the files are laid out and not the language."""
+"""What the crates' sources have, for .ci/promises and bench/definitions: definitions of specs/; types, constants,
+functions and their clauses of src/. It knows how the files are laid out and not the language."""
 import os
 import re
 
 TOP = os.path.dirname(os.path.dirname(os.path.abspath(__file__)))
 CRATES = os.path.join(TOP, "crates")
-USE = re.compile(r"^ *(?:ghost )?use Rattle\.([a-z_0-9]+)\.specs\.([A-Za-z_0-9.]+?)(?:\.\{([^}]*)\}| as ([a-z_]+))", re.M)
+USE = re.compile(r"^ *(?:ghost )?use Rattle\.([a-z_0-9]+)\.specs\.([A-Za-z_0-9.]+?)(?:\.\{([^}]*)\}| as ([a-z_]+))",
+                 re.M)
 HEAD = re.compile(r"(?:(?:abbrev|unfoldable|opaque|private|alias|pub|record|data) +)+"
                   r"(?:\(.*?\) *)?([^\s:(]+) *(?:\(.*)?:")
 TYPE = re.compile(r"(?:pub(?:\([a-z]+\))? )?(?:struct|enum|trait) (\w+)")
@@ -18,15 +19,15 @@ FIELD = re.compile(r" +(?:pub )?([a-z_]\w*) *:")
 
 
 class Function:
-    """A function: the type or trait that it is of, or None; its line; whether others may call it; its clauses' names, the empty
-    one among them where a clause has none, with the line and the text of each."""
+    """A function: the type or trait that it is of, or None; its line; whether others may call it; its clauses by name,
+    the empty one where a clause has none, with the line and the text of each."""
 
     def __init__(self, name, owner, line, public):
         self.name, self.owner, self.line, self.public, self.clauses = name, owner, line, public, {}
 
 
 class Part:
-    """A file of specs/ or src/: its path in the crate, its definitions with their lines, its functions, what it imports."""
+    """A file of specs/ or src/: its path in the crate, its definitions, its functions, what it imports."""
 
     def __init__(self, crate, path):
         self.crate, self.path = crate, path
