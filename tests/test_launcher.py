@@ -1,5 +1,5 @@
-"""./show with a stand-in for rt and one for the program: what is built and when, what signals leave, words and files. The real
-rt is not run here."""
+"""./show with a stand-in for rt and one for the program: what is built and when, what signals leave, words and files.
+The real rt is not run here."""
 import os
 import pty
 import re
@@ -17,9 +17,10 @@ sys.path.insert(0, os.path.join(TOP, "tools"))
 
 import commands
 
-# As rt does, it keeps others out of the crate's folder and of those below it, refuses a crate whose lower ones aren't proved,
-# builds PROGRAM, and runs a try in a folder of its own below TMPDIR. It notes each call in `calls`. Where SLOW names the crate,
-# or `try`, it starts a prover, notes its process, and waits for it; with STUBBORN it takes its time to end when told to.
+# As rt does, it keeps others out of the crate's folder and of those below it, refuses a crate whose lower ones aren't
+# proved, builds PROGRAM, and runs a try in a folder of its own below TMPDIR. It notes each call in `calls`. Where SLOW
+# names the crate, or `try`, it starts a prover, notes its process, and waits for it; with STUBBORN it takes its time to
+# end when told to.
 FAKE_RT = """#!/usr/bin/env python3
 import fcntl, os, shutil, signal, subprocess, sys, tempfile, time
 crate, home = os.path.basename(os.getcwd()), os.environ["HOME_OF_TEST"]
@@ -76,6 +77,9 @@ words = sys.argv[1:]
 if words[0] not in %r or not all(it.isdigit() or it.startswith("--") and "=" not in it for it in words[1:]):
     print("error 2 usage")
     sys.exit(2)
+if words[0] == "drill" and (len(words) < 2 or int(words[1]) > 32):
+    print("error 2 usage")
+    sys.exit(2)
 data = sys.stdin.buffer.read()
 if words[0] in ("play", "upload"):
     sys.stdout.buffer.write(data[::-1])
@@ -122,8 +126,8 @@ class Place(unittest.TestCase):
 
     def settings(self, place, **more):
         """The environment of the launcher: rt is the stand-in of the place."""
-        return {**os.environ, "PATH": os.path.join(place, "bin") + os.pathsep + os.environ["PATH"], "HOME_OF_TEST": place,
-                **more}
+        path = os.path.join(place, "bin") + os.pathsep + os.environ["PATH"]
+        return {**os.environ, "PATH": path, "HOME_OF_TEST": place, **more}
 
     def show(self, *words, text="", place=None, **more):
         """The status, standard output and standard error of the launcher in its place."""
@@ -157,8 +161,8 @@ class Builds(Place):
         status, said, told = self.show("check", "--depth", "7", "good")
         self.assertEqual((status, said), (0, "['check', '--depth', '7'] 'a\\n'\n"), told)
         lines = [line for line in told.splitlines() if "proving " in line and " of 4: " in line]
-        self.assertEqual(lines, ["show: proving 1 of 4: low", "show: proving 2 of 4: beside", "show: proving 3 of 4: middle",
-                                 "show: proving 4 of 4: show_cli"])
+        self.assertEqual(lines, ["show: proving %d of 4: %s" % row for row in (
+            (1, "low"), (2, "beside"), (3, "middle"), (4, "show_cli"))])
         self.assertEqual(self.leftovers(), [])
         self.assertEqual(self.show("check", text="b"), (0, "['check'] 'b'\n", ""))
 
@@ -188,8 +192,9 @@ class Builds(Place):
         self.is_built(lambda: self.file("crates/low/src/lib.rt", ""), True)
         self.is_built(lambda: self.file("crates/middle/specs/Lib.antt", "a word"), True)
         self.is_built(lambda: os.rename(self.path("crates/low/src/lib.rt"), self.path("crates/low/src/lab.rt")), True)
-        self.is_built(lambda: self.file("crates.txt", "low:\nmiddle: low\nbeside: low\nshow_cli: low middle beside\n"), True)
-        for name in ("crates/low/must-fail/wrong.edit", "crates/other/src/lib.rt", "crates/low/out/more.rt", "README.md"):
+        crates = "low:\nmiddle: low\nbeside: low\nshow_cli: low middle beside\n"
+        self.is_built(lambda: self.file("crates.txt", crates), True)
+        for name in ("crates/low/must-fail/wrong.edit", "crates/other/src/lib.rt", "crates/low/out/more.rt", "NEW"):
             self.is_built(lambda: self.file(name, "b"), False)
         # Another program, however new, and one whose record is gone.
         self.is_built(lambda: self.file(program, "#!/bin/sh\necho mine\n", 0o755), True)
@@ -260,8 +265,9 @@ class Signals(Place):
 
     def ended(self, words, slow, number, again=None, **more):
         """Starts the launcher, has it end by a signal while rt works, and says what it left."""
-        started = subprocess.Popen(["./show", *words], cwd=self.place, stdin=subprocess.DEVNULL, stdout=subprocess.DEVNULL,
-                                   stderr=subprocess.DEVNULL, env=self.settings(self.place, SLOW=slow, **more))
+        silent = {"stdin": subprocess.DEVNULL, "stdout": subprocess.DEVNULL, "stderr": subprocess.DEVNULL}
+        started = subprocess.Popen(["./show", *words], cwd=self.place, **silent,
+                                   env=self.settings(self.place, SLOW=slow, **more))
         processes = self.started()
         started.send_signal(number)
         if again:
@@ -343,7 +349,8 @@ class Words(Place):
         with open(os.path.join(TOP, "docs", "COMMANDS.md")) as file:
             page = file.read()
         rows = re.findall(r"^\| (?:`--[a-z]+ ([A-Z]+)`|([A-Z]) of `drill`) \| ([\d,]+) to ([\d,]+)", page, re.M)
-        found = {first or second: tuple(int(word.replace(",", "")) for word in limits) for first, second, *limits in rows}
+        found = {first or second: tuple(int(word.replace(",", "")) for word in limits)
+                 for first, second, *limits in rows}
         self.assertEqual(found, commands.NUMBERS)
 
     def test_options(self):
@@ -399,8 +406,10 @@ class Words(Place):
             self.assertEqual(self.show(command, "room")[:2], (0, "['%s'] 'a\\n%%%%\\nb\\n'\n" % command))
         self.file("ends", "a\n%%")
         self.assertEqual(self.show("boxes", "ends")[:2], (0, "['boxes'] 'a\\n%%'\n"))
-        for words, wanted in ((("check", "-"), "['check'] 'x\\n'\n"), (("boxes", "good", "-"), "['boxes'] 'a\\n%%\\nx\\n'\n"),
-                              (("verify", "-", "good"), "['verify'] 'x\\n%%\\na\\n'\n"), (("boxes", "-"), "['boxes'] 'x\\n'\n")):
+        for words, wanted in ((("check", "-"), "['check'] 'x\\n'\n"),
+                              (("boxes", "good", "-"), "['boxes'] 'a\\n%%\\nx\\n'\n"),
+                              (("verify", "-", "good"), "['verify'] 'x\\n%%\\na\\n'\n"),
+                              (("boxes", "-"), "['boxes'] 'x\\n'\n")):
             self.assertEqual(self.show(*words, text="x\n")[:2], (0, wanted))
         self.assertEqual(self.show("help", text="never read")[1], "['help'] ''\n")
 
@@ -426,7 +435,8 @@ class Words(Place):
         # Told to end while the program waits for its input: neither stays.
         self.file("crates/show_cli/out/show_cli", "#!/bin/sh\necho $$ > started\nexec sleep 300\n", 0o755)
         with open(self.path("remember.py"), "w") as file:
-            file.write("import json, hashlib\npath = 'crates/show_cli/out/show_cli'\nnote = json.load(open(path + '.built'))\n"
+            file.write("import json, hashlib\npath = 'crates/show_cli/out/show_cli'\n"
+                       "note = json.load(open(path + '.built'))\n"
                        "note['sha256'] = hashlib.sha256(open(path, 'rb').read()).hexdigest()\n"
                        "json.dump(note, open(path + '.built', 'w'))\n")
         subprocess.run([sys.executable, "remember.py"], cwd=self.place, check=True)

@@ -1,6 +1,6 @@
-"""tools/release, the manual page and the completion; ./show and tools of a release, unpacked where there is no rt and no
-repository. A repository is made for it with the files of this one, a single small crate, and the built program; where none is
-built here, with .ci/stand_in in its place. Machines other than this one weren't tried."""
+"""tools/release, the manual page and the completion; ./show and tools of a release, unpacked where there is no rt and
+no repository. A repository is made for it with the files of this one, a single small crate, and the built program;
+where none is built here, with .ci/stand_in in its place. Machines other than this one weren't tried."""
 import hashlib
 import importlib.machinery
 import importlib.util
@@ -24,8 +24,9 @@ import manual
 
 PROVED = "logic=proved functions=3 axioms=1"
 STAND_IN = """#!/bin/sh
-[ "$1" = help ] || [ "$1" = check ] || [ "$1" = compile ] || [ "$1" = play ] || [ "$1" = upload ] || { echo error 2 usage; exit 2; }
-exec %s %s "$@"
+case $1 in check | compile | play | upload) exec %s %s "$@" ;; esac
+echo error 2 usage
+exit 2
 """ % (sys.executable, os.path.join(TOP, ".ci", "stand_in"))
 IS_BUILT = os.access(choreo.PROGRAM, os.X_OK)
 NAME = "hemtoghai-7.8.9%s-x86_64-linux"
@@ -74,7 +75,8 @@ class Repository:
     def git(self, *words):
         """What git says."""
         named = ["-c", "user.name=a", "-c", "user.email=a@b", "-c", "commit.gpgsign=false"]
-        return subprocess.run(["git", *named, *words], cwd=self.place, check=True, stdout=subprocess.PIPE).stdout.decode()
+        ended = subprocess.run(["git", *named, *words], cwd=self.place, check=True, stdout=subprocess.PIPE)
+        return ended.stdout.decode()
 
     def commit(self):
         """Commits all files; the commit."""
@@ -176,7 +178,8 @@ class Release(unittest.TestCase):
 
     def run_there(self, *words, text=None):
         """The status, standard output and standard error of a command of the release, without rt."""
-        return done([os.path.join(self.top, words[0]), *words[1:]], self.top, input=text, env={"PATH": self.bin, "LANG": "C"})
+        return done([os.path.join(self.top, words[0]), *words[1:]], self.top, input=text,
+                    env={"PATH": self.bin, "LANG": "C"})
 
     def manifest(self):
         """The manifest."""
@@ -201,7 +204,7 @@ class Release(unittest.TestCase):
             with open(os.path.join(self.top, path), "rb") as file:
                 self.assertEqual(hashlib.sha256(file.read()).hexdigest(), wanted, path)
         elsewhere = os.path.join(os.path.dirname(self.repository.place), "elsewhere")
-        head = subprocess.run(["git", "rev-parse", "HEAD"], cwd=elsewhere, stdout=subprocess.PIPE).stdout.decode().strip()
+        head = done(["git", "rev-parse", "HEAD"], elsewhere)[1].strip()
         self.assertEqual([manifest[word] for word in ("version", "commit", "changed_since", "toolchain", "rests_on")],
                          ["7.8.9", head, False, "a toolchain", PROVED])
         self.assertEqual(manifest["sha256"], manifest["files"]["crates/show_cli/out/show_cli"])
@@ -214,8 +217,9 @@ class Release(unittest.TestCase):
         status, out, error = self.run_there("show", "version")
         self.assertEqual((status, error), (0, ""))
         manifest = self.manifest()
-        self.assertEqual(out, "hemtoghai 7.8.9\nprogram sha256 %s\ncommit %s\nsources sha256 %s\ntoolchain a toolchain\n"
-                              "proof: %s\n" % (manifest["sha256"], manifest["commit"], manifest["stamp"], PROVED))
+        self.assertEqual(out, "hemtoghai 7.8.9\nprogram sha256 %s\ncommit %s\nsources sha256 %s\n"
+                              "toolchain a toolchain\nproof: %s\n" % (
+                                  manifest["sha256"], manifest["commit"], manifest["stamp"], PROVED))
         self.assertEqual(self.run_there("show", "--version")[1], out)
         page = os.path.join(self.top, "docs", "TOOLS.md")
         with open(page, "a") as file:
@@ -226,7 +230,8 @@ class Release(unittest.TestCase):
         self.assertEqual(self.run_there("show", "version")[1], out)
 
     def test_commands(self):
-        self.assertEqual(self.run_there("show", "check", "examples/solo.choreo"), (0, "ok drones 1 cues 1 duration_ms 2000\n", ""))
+        self.assertEqual(self.run_there("show", "check", "examples/solo.choreo"),
+                         (0, "ok drones 1 cues 1 duration_ms 2000\n", ""))
         self.assertEqual(self.run_there("show", "chek")[:2], (2, "error 2 usage\n"))
         status, out, error = self.run_there("show", "check", text="choreo 1\ndrone a 0 0 0\n")
         self.assertEqual((status, out), (3, "error 3 line 2 bad-count\n"))
@@ -248,9 +253,11 @@ class Release(unittest.TestCase):
 
     def test_flown(self):
         status, out, error = self.run_there("tools/bridge", "--loss", "20", "--start", "examples/solo.choreo")
-        self.assertEqual((status, "solo: 28 bytes from 0 on as the show has them; trajectory 0 started" in out), (0, True), error)
+        self.assertEqual(status, 0, error)
+        self.assertIn("solo: 28 bytes from 0 on as the show has them; trajectory 0 started", out)
         if IS_BUILT:
-            status, out, error = self.run_there("tools/fly", "--simulate", "--yes", "--sim", "speed=10", "examples/solo.choreo")
+            words = "--simulate", "--yes", "--sim", "speed=10", "examples/solo.choreo"
+            status, out, error = self.run_there("tools/fly", *words)
             self.assertEqual((status, "landed" in out), (0, True), out + error)
 
     def test_tools(self):
@@ -266,7 +273,8 @@ class Release(unittest.TestCase):
         with tempfile.TemporaryDirectory() as room:
             status, said, told = done(["tools/release", "--out", room], place, env={**os.environ, "TZ": "UTC+5"})
             self.assertEqual(status, 0, told)
-            with open(self.repository.packed(), "rb") as first, open(os.path.join(room, NAME % "" + ".tar.gz"), "rb") as second:
+            again = os.path.join(room, NAME % "" + ".tar.gz")
+            with open(self.repository.packed(), "rb") as first, open(again, "rb") as second:
                 self.assertEqual(first.read(), second.read())
 
     def test_another_program(self):
@@ -293,7 +301,8 @@ class Manual(unittest.TestCase):
             self.assertIn("\n.TP\n.B %s\n%s" % (form.replace("-", "\\-"), what[:1].upper()), text)
         with open(os.path.join(TOP, "docs", "COMMANDS.md")) as file:
             page = file.read()
-        statuses = re.findall(r"^\| (\d+) \|", page[page.index("## Statuses and fault lines"):page.index("Of `upload` these")], re.M)
+        part = page[page.index("## Statuses and fault lines"):page.index("Of `upload` these")]
+        statuses = re.findall(r"^\| (\d+) \|", part, re.M)
         self.assertEqual(re.findall(r"^\.TP\n(\d+): ", text, re.M), statuses)
         self.assertGreater(len(statuses), 25)
         for option in ("--depth D", "--step MS", "--start", "--readback", "--limit V", "--fine E"):
@@ -303,7 +312,8 @@ class Manual(unittest.TestCase):
 
     def completed(self, *words):
         """What the completion offers for the last of these words."""
-        script = manual.completion() + 'COMP_WORDS=("$@") COMP_CWORD=$(($# - 1))\n_show\nprintf "%s\\n" "${COMPREPLY[@]}"\n'
+        script = manual.completion() + 'COMP_WORDS=("$@") COMP_CWORD=$(($# - 1))\n_show\n' \
+            'printf "%s\\n" "${COMPREPLY[@]}"\n'
         status, said, told = done(["bash", "-c", script, "bash", *words], TOP)
         self.assertEqual((status, told), (0, ""))
         return said.split("\n")[:-1]
@@ -312,7 +322,8 @@ class Manual(unittest.TestCase):
         self.assertEqual(self.completed("./show", "")[:len(commands.FORMS)], list(commands.FORMS))
         for words, wanted in ((("sp",), ["speed"]), (("--un",), ["--unproved"]), (("--unproved", "dr"), ["drill"]),
                               (("check", "--d"), ["--depth"]), (("check", "examples/so"), ["examples/solo.choreo"]),
-                              (("check", "--depth", ""), list("012345678")), (("explain", "--fine", ""), list("012345")),
+                              (("check", "--depth", ""), list("012345678")),
+                              (("explain", "--fine", ""), list("012345")),
                               (("upload", "--"), ["--depth", "--start", "--readback", "--help"]),
                               (("verify", "examples/solo.choreo", "--"), ["--help"])):
             self.assertEqual(self.completed("./show", *words), wanted, words)

@@ -73,8 +73,8 @@ def page(version):
     """The text of the manual page."""
     with open(os.path.join(TOP, "docs", "COMMANDS.md"), encoding="utf-8") as file:
         document = file.read()
-    out = ['.TH SHOW 1 "" "hemtoghai %s" "Hemtoghai"' % version, ".SH NAME", "show \\- compiles and judges shows of drones",
-           ".SH SYNOPSIS"]
+    out = ['.TH SHOW 1 "" "hemtoghai %s" "Hemtoghai"' % version, ".SH NAME",
+           "show \\- compiles and judges shows of drones", ".SH SYNOPSIS"]
     for form in commands.FORMS.values():
         out += [".B ./show %s" % roff(form), ".br"]
     out += [".B ./show \\-\\-unproved COMMAND ..", ".br", ".B ./show version", ".SH COMMANDS"]
@@ -82,7 +82,7 @@ def page(version):
         second = commands.SECOND.get(form.split()[0])
         out += [".TP", ".B " + roff(form), roff(what[0].upper() + what[1:]) + "."]
         if second:
-            out.append("Its second part is the show's %s." % second if second != "frames" else "Link frames follow the show.")
+            out.append("Link frames follow the show." if second == "frames" else "The second part: %s." % second)
     out += [".SH OPTIONS", "Options may stand before and behind the files."]
     for option, number, without in table(document, "| Option | Number | Without it |"):
         out += [".TP", roff(option), "%s. Without it: %s." % (roff(number[0].upper() + number[1:]), roff(without))]

@@ -1,0 +1,202 @@
+"""tools/deal and tools/explain --cured: shows of a few drones, worked by hand. The program isn't run here."""
+import os
+import subprocess
+import sys
+import tempfile
+import unittest
+
+sys.dont_write_bytecode = True
+TOP = os.path.dirname(os.path.dirname(os.path.abspath(__file__)))
+sys.path.insert(0, os.path.join(TOP, "tools"))
+import choreo
+import separation
+
+# Two drones form a row across, leave it on other sides, and form it again.
+TWICE = """choreo 1
+drone a 0 0 1000000 0
+drone b 1000000 0 1000000 0
+formation f # row
+  at a 1000000 500000 1000000 9 # right
+at b 0 500000 1000000 0
+end
+cue 3000
+form f move # first
+end
+cue 3000
+a curve 500000 1500000 1000000 500000 1500000 1000000 1000000 2000000 1000000 0
+b curve 500000 -1500000 1000000 500000 -1500000 1000000 0 -2000000 1000000 0
+end
+cue 3000
+  form f line # again
+end
+"""
+SECOND = """formation f_2 # row
+  at a 1000000 500000 1000000 9 # right
+at b 0 500000 1000000 0
+end
+"""
+# The first two cross; the other two are as far from one place as from the other.
+TIE = """choreo 1
+drone a 0 0 0 0
+drone b 2000000 0 0 0
+drone c 10000000 1000000 0 0
+drone d 10000000 -1000000 0 0
+formation f
+at a 2000000 500000 0 0
+at b 0 500000 0 0
+at c %d 0 0 0
+at d %d 0 0 0
+end
+cue 3000
+form f move
+end
+"""
+FORMED = """choreo 1
+drone a 0 0 1000000 0
+drone b 1000000 1000000 1000000 0
+drone h7 2000000 0 1000000 0
+formation f
+at a 2000000 900000 1000000 5
+at h7 3000000 0 1000000 0
+end
+cue 3000
+b move 1000000 0 1000000 0 # across
+form f move
+end
+"""
+
+
+def run(tool, *words, text):
+    """The status, standard output and standard error of a tool on a show."""
+    done = subprocess.run([os.path.join(TOP, "tools", tool), *words, "-"], cwd=TOP, input=text, timeout=120,
+                          stdout=subprocess.PIPE, stderr=subprocess.PIPE, universal_newlines=True)
+    return done.returncode, done.stdout, done.stderr
+
+
+class Deal(unittest.TestCase):
+    def test_each_use(self):
+        status, said, told = run("deal", text=TWICE)
+        first = TWICE.replace("at a 1000000 500000 1000000 9", "at a 0 500000 1000000 0").replace(
+            "at b 0 500000 1000000 0", "at b 1000000 500000 1000000 9")
+        wanted = first.replace("end\ncue 3000\nform", "end\n" + SECOND + "cue 3000\nform")
+        wanted = wanted.replace("form f line", "form f_2 line")
+        self.assertEqual((status, said), (0, wanted), told)
+        # Straight over a way of 0.5 m each, in place of the diagonals: 2 times 0.25 m2, and 2 times 1.25.
+        self.assertIn("f, line 9: 2 of 2 places dealt anew; the squared ways sum to 0.50 m2, before 2.50", told)
+        # From (1, 2) to (1, 0.5) and from (0, -2) to (0, 0.5).
+        self.assertIn("f, line 16: 0 of 2 places dealt anew; the squared ways sum to 8.50 m2, before 8.50", told)
+        self.assertIn("look at line 16, 17 of the new text", told)
+        # Once dealt, nothing is left to deal.
+        self.assertEqual(run("deal", text=said)[1], said)
+
+    def test_one_block_for_one_way(self):
+        # Formed twice in the same way: the block is changed once, and none is added.
+        text = TWICE[:TWICE.index("a curve")] + "form f line\nend\n"
+        said = run("deal", text=text)[1]
+        self.assertEqual((said.count("formation"), said.count("form f ")), (1, 2), said)
+
+    def test_names(self):
+        text = TWICE.replace("formation f ", "formation f_2\nat a 0 0 0 0\nend\nformation abcdefghijklmnop ")
+        said = run("deal", text=text.replace("form f", "form abcdefghijklmnop"))[1]
+        self.assertIn("\nformation abcdefghijklmn_2 # row\n", said)
+        said = run("deal", text=text.replace("abcdefghijklmnop", "f"))[1]
+        self.assertIn("\nformation f_3 # row\n", said)
+
+    def test_ties(self):
+        for places in ((9000000, 11000000), (11000000, 9000000)):
+            text = TIE % places
+            status, said, told = run("deal", text=text)
+            swapped = text.replace("at a 2000000", "at x 2000000").replace("at b 0", "at a 0").replace("at x", "at b")
+            self.assertEqual(sorted(said.split("\n")), sorted(swapped.split("\n")), told)
+            self.assertIn("2 of 4 places dealt anew", told)
+
+    def test_keep(self):
+        status, said, told = run("deal", "--keep", "f", text=TWICE)
+        self.assertEqual((status, said), (5, TWICE), told)  # they cross, as written
+        self.assertIn("0 of 2 places dealt anew", told)
+        status, said, told = run("deal", "--keep", "g", text=TWICE)
+        self.assertEqual((status, said, "no formation of this name" in told), (70, "", True))
+
+    def test_repeat(self):
+        # All turns count: in the first a is left of b, and then as the second formation has them. Where that is far the
+        # other way round, three turns are shorter as written, though the first alone isn't: 81 and 81 in place of 100
+        # and 100 square metres twice, for 2 in place of 0 once.
+        text = TWICE[:TWICE.index("cue")] + "formation g\nat a %d 3000000 0 0\nat b %d 3000000 0 0\nend\n" \
+            "repeat 3\ncue 3000\nform f move\nend\ncue 3000\nform g move\nend\nend\n"
+        far = text % (10000000, -9000000)
+        self.assertEqual(run("deal", text=far)[1], far)
+        near = text % (0, 1000000)
+        wanted = near.replace("at a 1000000 500000 1000000 9", "at a 0 500000 1000000 0")
+        wanted = wanted.replace("at b 0 500000 1000000 0", "at b 1000000 500000 1000000 9")
+        self.assertEqual(run("deal", text=near)[1], wanted)
+
+
+class Cured(unittest.TestCase):
+    def cured(self, text):
+        """The status and what was said of a show, and the cured one."""
+        with tempfile.TemporaryDirectory() as folder:
+            path = os.path.join(folder, "new")
+            status, said, told = run("explain", "--cured", path, text=text)
+            with open(path) as file:
+                return status, said + told, file.read()
+
+    def is_apart(self, text):
+        """Whether nothing is blocked in a show, by the tools' own judge."""
+        return not list(separation.blocked_places(choreo.flown_of(text.encode()), 6))
+
+    def test_formed(self):
+        status, said, new = self.cured(FORMED)
+        self.assertEqual(status, 5)
+        self.assertIn("let a wait: write the places of line 11 as acts, and leave it out", said)
+        self.assertEqual(new, FORMED[:FORMED.index("form f")] + "h7 move 3000000 0 1000000 0\nend\ncue 3000\n"
+                         "a move 2000000 900000 1000000 5\nend\n")
+        self.assertTrue(self.is_apart(new))
+
+    def test_lifted(self):
+        with open(os.path.join(TOP, "examples", "crossing.choreo")) as file:
+            text = file.read()
+        status, said, new = self.cured(text)
+        self.assertEqual(new[new.index("\ncue"):], """
+cue 3000
+a move 0 0 1700000 0
+end
+cue 3000
+b move       0 0 1000000 0
+a move 1000000 0 1700000 0
+end
+cue 3000
+a move 1000000 0 1000000 0
+end
+""")
+        self.assertTrue(self.is_apart(new))
+
+    def test_role_in_a_figure(self):
+        # The roles of a figure: one waits in it, and no way up is written there.
+        text = "choreo 1\ndrone a 0 0 1000000 0\ndrone b 1000000 1000000 1000000 0\nfigure g p q\ncue 3000\n" \
+               "p move 2000000 900000 1000000 0\nq move 1000000 0 1000000 0\nend\nend\nperform g none 0 0 0 0 a b\n"
+        new = self.cured(text)[2]
+        self.assertEqual(new[new.index("figure"):], "figure g p q\ncue 3000\n"
+                         "q move 1000000 0 1000000 0\nend\ncue 3000\n"
+                         "p move 2000000 900000 1000000 0\nend\nend\nperform g none 0 0 0 0 a b\n")
+        self.assertTrue(self.is_apart(new))
+
+    def test_nothing_helps(self):
+        text = "choreo 1\ndrone a 0 0 0 0\ndrone b 100000 0 0 0\ncue 1\nend\n"
+        status, said, new = self.cured(text)
+        self.assertEqual((status, new), (5, text))
+        self.assertIn("nothing that helps could be written for a and b in cue 1", said)
+
+    def test_deal_is_said_where_it_helps(self):
+        with open(os.path.join(TOP, "examples", "grid_to_ring.choreo")) as file:
+            text = file.read()
+        said = run("explain", text=text)[1]
+        self.assertIn("Line 63 forms a formation whose ways cross: tools/deal deals its places anew.", said)
+        # Drones that cross, though their places are dealt well: nothing is said of deal.
+        text = "choreo 1\ndrone a 0 0 0 0\ndrone b 300000 0 0 0\ndrone c 600000 0 0 0\nformation f\n" \
+               "at a 0 100000 0 0\nat b 30000 100000 0 0\nat c 60000 100000 0 0\nend\ncue 3000\nform f move\nend\n"
+        status, said, _ = run("explain", text=text)
+        self.assertEqual((status, "deal" in said), (5, False), said)
+
+
+if __name__ == "__main__":
+    unittest.main()
