@@ -1,20 +1,30 @@
-"""Trajectories of other programs: curves by control values, what the readers of their files give, and how far two curves are
-apart at every instant. For tools/import and tools/export_skyc.
+"""Readers of trajectories that other programs write: .skyc of Skybrush, polynomials of uav_trajectories, waypoints.
 
-Micrometres and milliseconds; yaw in tenths of a degree. The readers are WRITTEN FROM MEMORY of the formats, and were tried with
-files that were made from the same memory, never with one that another program wrote.
+The readers are WRITTEN FROM MEMORY of the formats, and were tried with files that were made from the same memory, never
+with one that another program wrote. What they don't know they refuse. All numbers are taken as they are written.
 """
 import bisect
 import csv
+import io
 import json
 import os
+import posixpath
 import re
+import struct
 import zipfile
+import zlib
 from fractions import Fraction
-from math import ceil, comb, isqrt
+from math import comb
 
-from companion import value
+from companion import read_file
+from paths import Path, part
 
+LARGEST = 1 << 26  # bytes of a file, or of a member of an archive
+NUMBER = re.compile(r"[-+]?(\d+\.?\d*|\.\d+)([eE][-+]?\d{1,3})?")
+JUMP = 100000  # micrometres that a path may jump on an axis: the polynomials of some files are rounded
+LONGEST = 36000000  # milliseconds of a show
+SHORTEST = Fraction(1, 1000)  # milliseconds of a piece
+FARTHEST, TURNED = 32767000, 32767  # micrometres and tenths of a degree that a trajectory's numbers hold
 # A radian's tenths of a degree: pi to forty places.
 PI = Fraction(31415926535897932384626433832795028841972, 10 ** 40)
 
@@ -23,154 +33,15 @@ class Unreadable(Exception):
     """A file that can't be read as what it should be."""
 
 
-# ---- curves by control values
+def number(word):
+    """A number as it is written."""
+    if len(word) > 60 or not NUMBER.fullmatch(word):
+        raise Unreadable("%.20r is no number" % word)
+    return Fraction(word)
 
-def split(row, u):
-    """The control values of both sides of a curve."""
-    left, right = [row[0]], [row[-1]]
-    while len(row) > 1:
-        row = [a + (b - a) * u for a, b in zip(row, row[1:])]
-        left.append(row[0])
-        right.append(row[-1])
-    return left, right[::-1]
-
-
-def part(row, u, v):
-    """The control values of a curve between two fractions of it."""
-    if u > 0:
-        row, v = split(row, u)[1], (v - u) / (1 - u)
-    return split(row, v)[0] if v < 1 else row
-
-
-def raised(row, degree):
-    """The same curve by more control values."""
-    one = Fraction(1) if isinstance(row[0], Fraction) else 1.0
-    while len(row) <= degree:
-        n = len(row)
-        row = [row[0]] + [(k * row[k - 1] + (n - k) * row[k]) * one / n for k in range(1, n)] + [row[-1]]
-    return row
-
-
-def farthest(rows, splits, enough):
-    """A bound on the square of the length of a curve in space, at every fraction of it, by its control points; it is cut in
-    halves until the bound is `enough` or can't get better."""
-    squares = [sum(row[k] * row[k] for row in rows) for k in range(len(rows[0]))]
-    best, floor = max(squares), max(squares[0], squares[-1])
-    if best <= enough or best == floor or not splits:
-        return best
-    half = Fraction(1, 2) if isinstance(best, Fraction) else 0.5
-    halves = [split(row, half) for row in rows]
-    enough = max(enough, floor)
-    for side in (0, 1):
-        enough = max(enough, farthest([it[side] for it in halves], splits - 1, enough))
-    return enough
-
-
-def root_up(square, steps=100):
-    """The root of a number above 0, rounded up to a part of one."""
-    wanted = ceil(square * steps * steps)
-    root = isqrt(wanted)
-    return (root + (root * root < wanted)) / steps
-
-
-class Path:
-    """A drone's way: pieces of (begin, end, rows of control values on x, y, z and yaw), one after the other. It stays where it
-    is before and after them. `reach` is half a sample's time where the way is many samples joined by lines."""
-
-    def __init__(self, name, pieces, reach=None):
-        self.name, self.pieces, self.begins = name, pieces, [piece[0] for piece in pieces]
-        spans = sorted(piece[1] - piece[0] for piece in pieces)
-        straight = all(len(piece[2][0]) <= 2 for piece in pieces) and len(pieces) > 20
-        self.reach = reach if reach is not None else spans[len(spans) // 2] / 2 if straight else 0
-
-    def in_doubles(self):
-        """The same way in doubles."""
-        pieces = [(float(a), float(b), [[float(v) for v in row] for row in rows]) for a, b, rows in self.pieces]
-        return Path(self.name, pieces, float(self.reach))
-
-    def piece_at(self, t):
-        """The number of the piece that an instant is in."""
-        return max(0, bisect.bisect_right(self.begins, t) - 1)
-
-    def at(self, t):
-        """The place at an instant."""
-        begin, end, rows = self.pieces[self.piece_at(t)]
-        u = min(max((t - begin) / (end - begin), 0), 1)
-        return [value(row, u) for row in rows]
-
-    def rests(self, begin, end):
-        """Whether it stays where it is between two instants."""
-        return all(max(row) == min(row) for _, _, rows in self.overlaps(begin, end) for row in rows)
-
-    def stills(self, end, least):
-        """The stretches of at least so many milliseconds in which it rests, until the end of the show, as (begin, end)."""
-        out, first, last = [], self.pieces[0], self.pieces[-1]
-        stays = [(0, first[0])] + [(a, b) for a, b, rows in self.pieces if all(max(row) == min(row) for row in rows)]
-        for a, b in stays + [(last[1], end)]:
-            if out and out[-1][1] == a:
-                out[-1] = out[-1][0], b
-            elif a < b:
-                out.append((a, b))
-        return [(a, b) for a, b in out if b - a >= least]
-
-    def one_slope(self, t):
-        """The velocity at an instant that isn't an edge of pieces."""
-        begin, end, rows = self.pieces[self.piece_at(t)]
-        if not begin <= t <= end:
-            return [0.0] * 4
-        u = (t - begin) / (end - begin)
-        return [value([(b - a) * (len(row) - 1) / (end - begin) for a, b in zip(row, row[1:])] or [0.0], u) for row in rows]
-
-    def slope(self, t, rest=20):
-        """The velocity at an instant: none where it rests before or after, and the mean of both sides where they differ."""
-        if self.rests(t - rest, t) or self.rests(t, t + rest):
-            return [0.0] * 4
-        if self.reach:
-            low, high = self.at(t - self.reach), self.at(t + self.reach)
-            return [(b - a) / (2 * self.reach) for a, b in zip(low, high)]
-        return [(a + b) / 2 for a, b in zip(self.one_slope(t - 1e-6), self.one_slope(t + 1e-6))]
-
-    def corners(self, least=30):
-        """The jumps of speed of at least so many micrometres a millisecond, and when they are; none of samples."""
-        edges = [] if self.reach else [self.pieces[0][0], *(piece[1] for piece in self.pieces)]
-        for t in edges:
-            before, after = self.one_slope(t - 1e-6), self.one_slope(t + 1e-6)
-            jump = sum((a - b) ** 2 for a, b in zip(before[:3], after[:3])) ** 0.5
-            if jump >= least:
-                yield jump, t
-
-    def overlaps(self, begin, end):
-        """The pieces between two instants, cut there, as (begin, end, rows)."""
-        first, last = self.pieces[0], self.pieces[-1]
-        if begin < first[0]:
-            yield begin, min(end, first[0]), [row[:1] for row in first[2]]
-        for k in range(self.piece_at(begin), len(self.pieces)):
-            a, b, rows = self.pieces[k]
-            low, high = max(a, begin), min(b, end)
-            if a >= end:
-                break
-            if low < high:
-                yield low, high, [part(row, (low - a) / (b - a), (high - a) / (b - a)) for row in rows]
-        if end > last[1]:
-            yield max(begin, last[1]), end, [row[-1:] for row in last[2]]
-
-    def leaves(self, begin, end, rows, splits, enough=(0, 0)):
-        """How far curves between two instants leave the way at most, at every instant: the squares, of the place and of yaw."""
-        worst = list(enough)
-        for low, high, own in self.overlaps(begin, end):
-            u, v = (low - begin) / (end - begin), (high - begin) / (end - begin)
-            degree = max(map(len, [*own, *rows])) - 1
-            gaps = [[a - b for a, b in zip(raised(theirs, degree), raised(part(row, u, v), degree))]
-                    for theirs, row in zip(own, rows)]
-            worst[0] = max(worst[0], farthest(gaps[:3], splits, worst[0]))
-            worst[1] = max(worst[1], farthest(gaps[3:], splits, worst[1]))
-        return worst
-
-
-# ---- readers
 
 def name_of(word, taken):
-    """A drone's name in a show, from another program's."""
+    """A drone's name in a show, from another program's: unlike all in `taken`, to which it is added."""
     base = re.sub("[^a-z0-9_]", "_", word.lower()).strip("_") or "d"
     base = ("" if base[0].isalpha() else "d") + base + ("_" if base in ("form", "end") else "")
     name, k = base[:16], 2
@@ -180,132 +51,324 @@ def name_of(word, taken):
     return name
 
 
-def exact(number):
-    """A number of a JSON text as it is written."""
-    return number if isinstance(number, Fraction) else Fraction(number)
+def checked(name, pieces):
+    """A path of these pieces, or a refusal where no drone can be there or get there."""
+    if pieces[0][0] < 0:
+        raise Unreadable("%s begins before the time 0" % name)
+    if pieces[-1][1] > LONGEST:
+        raise Unreadable("%s flies for more than %d s" % (name, LONGEST // 1000))
+    for begin, end, rows in pieces:
+        if end - begin < SHORTEST:
+            raise Unreadable("%s has two instants less than a microsecond apart at %.6f s" % (name, begin / 1000))
+        if any(abs(v) > FARTHEST for row in rows[:3] for v in row):
+            raise Unreadable("%s is farther than 32.767 m from the origin on an axis, at %.3f s" % (name, begin / 1000))
+        if any(abs(v) > TURNED for v in rows[3]):
+            raise Unreadable("%s is turned by more than 3276.7 degrees, at %.3f s" % (name, begin / 1000))
+    path = Path(name, pieces)
+    far, when = max(path.jumps(), default=(0, 0))
+    if far > JUMP:
+        raise Unreadable("%s jumps by %.0f mm at %.3f s" % (name, far / 1000, when / 1000))
+    return path
 
 
-def load_json(archive, where):
-    """A JSON text of an archive, its numbers exact."""
-    return json.loads(archive.read(where).decode(), parse_float=Fraction)
+# ---- Skybrush
+
+KINDS = {dict: "object", list: "list", str: "text", Fraction: "number"}
 
 
-def follow(archive, node, base):
-    """What a node is, or refers to in another file of the archive."""
-    if not (isinstance(node, dict) and set(node) == {"$ref"}):
-        return node
-    target, _, inner = node["$ref"].partition("#")
-    found = load_json(archive, os.path.normpath(os.path.join(os.path.dirname(base), target)).replace(os.sep, "/"))
-    for key in filter(None, inner.split("/")):
-        found = found[key]
+def field(node, key, kind, where, default=None):
+    """What an object has under a word."""
+    found = node.get(key, default) if isinstance(node, dict) else None
+    if found is None or not isinstance(found, kind):
+        raise Unreadable("%s has no %s" % (where, key) if found is None else
+                         "%s: %s is no %s" % (where, key, KINDS[kind]))
     return found
 
 
+def place_of(node, where):
+    """A place in micrometres, from three metres."""
+    if not (isinstance(node, list) and len(node) == 3 and all(isinstance(v, Fraction) for v in node)):
+        raise Unreadable("%s: a place isn't three numbers" % where)
+    return [v * 1000000 for v in node]
+
+
+class Archive:
+    """A zip with JSON texts that refer to one another."""
+
+    def __init__(self, data):
+        self.texts = {}
+        try:
+            self.file = zipfile.ZipFile(io.BytesIO(data))
+        except (ValueError, NotImplementedError, OverflowError, struct.error, zipfile.BadZipFile, OSError) as error:
+            raise Unreadable("no zip: %s" % error)
+
+    def text(self, where):
+        """The JSON text of a member, its numbers as they are written."""
+        if where not in self.texts:
+            try:
+                about = self.file.getinfo(where)
+            except KeyError:
+                raise Unreadable("the archive has no member %.60s" % where)
+            if about.file_size > LARGEST or about.compress_type not in (zipfile.ZIP_STORED, zipfile.ZIP_DEFLATED):
+                raise Unreadable("%s is larger than %d bytes, or packed in an unknown way" % (where, LARGEST))
+            try:
+                text = self.file.read(about).decode("utf-8")
+                self.texts[where] = json.loads(text, parse_float=number, parse_int=number, parse_constant=number)
+            except (ValueError, EOFError, RuntimeError, NotImplementedError, OverflowError, struct.error, zlib.error,
+                    zipfile.BadZipFile, OSError) as error:
+                raise Unreadable("%.60s is damaged: %s" % (where, error or type(error).__name__))
+        return self.texts[where]
+
+    def follow(self, node, base="show.json"):
+        """What a node is, or refers to: in another member, or further on in the same one."""
+        for _ in range(8):
+            if not (isinstance(node, dict) and set(node) == {"$ref"}):
+                return node
+            target, _, inner = field(node, "$ref", str, base).partition("#")
+            if target:
+                base = posixpath.normpath(posixpath.join(posixpath.dirname(base), target))
+            node = self.text(base)
+            for key in filter(None, inner.split("/")):
+                if isinstance(node, list) and key.isdigit() and len(key) < 9 and int(key) < len(node):
+                    node = node[int(key)]
+                else:
+                    node = field(node, key, object, base)
+        raise Unreadable("%s: references that go round" % base)
+
+
 def read_skyc(path):
-    """The ways of a .skyc of Skybrush: a zip with show.json, version 1."""
-    try:
-        with zipfile.ZipFile(path) as archive:
-            show = load_json(archive, "show.json")
-            if show.get("version") != 1:
-                raise Unreadable("%s: show.json is of version %s, not 1" % (path, show.get("version")))
-            taken = set()
-            return [skyc_path(archive, k, drone["settings"], taken) for k, drone in enumerate(show["swarm"]["drones"], 1)]
-    except (KeyError, IndexError, TypeError, ValueError, zipfile.BadZipFile, OSError) as error:
-        raise Unreadable("%s: no .skyc that this tool knows: %s %s" % (path, type(error).__name__, error))
+    """The paths of a .skyc of Skybrush: a zip with show.json, version 1."""
+    archive = Archive(limited(path))
+    show = archive.text("show.json")
+    if field(show, "version", Fraction, "show.json") != 1:
+        raise Unreadable("show.json is of version %s, and 1 is known" % show["version"])
+    drones = field(archive.follow(field(show, "swarm", dict, "show.json")), "drones", list, "the swarm")
+    if not drones:
+        raise Unreadable("show.json has no drone")
+    words, taken, out = set(), set(), []
+    for k, drone in enumerate(drones, 1):
+        settings = archive.follow(field(archive.follow(drone), "settings", dict, "drone %d" % k))
+        word = field(settings, "name", str, "drone %d" % k, "drone %d" % k)
+        if word in words:
+            raise Unreadable("two drones have the name %.40r" % word)
+        words.add(word)
+        out.append(skyc_path(archive, "drone %d, %.40r" % (k, word), settings, name_of(word, taken)))
+    return out
 
 
-def skyc_path(archive, number, settings, taken):
-    """The way of a drone of a .skyc."""
-    trajectory = follow(archive, settings["trajectory"], "show.json")
-    late, points, pieces = exact(trajectory.get("takeoffTime", 0)) * 1000, trajectory["points"], []
-    for before, after in zip(points, points[1:]):
-        begin, end = late + exact(before[0]) * 1000, late + exact(after[0]) * 1000
-        way = [before[1], *(after[2] if len(after) > 2 else []), after[1]]
-        if begin < end:
-            pieces.append((begin, end, [[exact(p[axis]) * 1000000 for p in way] for axis in range(3)]))
+def skyc_path(archive, where, settings, name):
+    """The path of a drone of a .skyc."""
+    trajectory = archive.follow(field(settings, "trajectory", dict, where))
+    if field(trajectory, "version", Fraction, where, Fraction(1)) != 1:
+        raise Unreadable("%s: a trajectory of version %s, and 1 is known" % (where, trajectory["version"]))
+    late = field(trajectory, "takeoffTime", Fraction, where, Fraction(0)) * 1000
+    points = [point_of(point, where) for point in field(trajectory, "points", list, where)]
+    if not points:
+        raise Unreadable("%s: a trajectory without a point" % where)
+    pieces = []
+    for (begin, before, _), (end, after, inner) in zip(points, points[1:]):
+        if end < begin or (end == begin and before != after):
+            raise Unreadable("%s: the time goes back, or a place jumps, at %.3f s" % (where, begin / 1000))
+        if end > begin:
+            pieces.append((late + begin, late + end, [list(row) for row in zip(before, *inner, after)]))
     if not pieces:
-        pieces = [(Fraction(0), Fraction(1), [[exact(v) * 1000000] for v in points[0][1]])]
-    yaw = follow(archive, settings.get("yawControl", {}), "show.json")
-    setpoints = [(late + exact(t) * 1000, exact(v) * 10) for t, v in yaw.get("setpoints", [])]
-    return Path(name_of(settings.get("name", "drone %d" % number), taken), with_yaw(pieces, setpoints or [(0, Fraction(0))]))
+        begin = late + points[0][0]
+        pieces = [(begin, begin + 1, [[v] for v in points[0][1]])]
+    yaw = archive.follow(field(settings, "yawControl", dict, where, {"setpoints": []}))
+    setpoints = [setpoint_of(it, late, where) for it in field(yaw, "setpoints", list, where)]
+    for (a, p), (b, q) in zip(setpoints, setpoints[1:]):
+        if b < a or (a == b and p != q):
+            raise Unreadable("%s: the time of yaw goes back, or yaw jumps, at %.3f s" % (where, a / 1000))
+    return checked(name, with_yaw(pieces, setpoints or [(Fraction(0), Fraction(0))]))
+
+
+def point_of(point, where):
+    """A point of a trajectory: milliseconds, the place, and the points between it and the one before, none or two."""
+    if not (isinstance(point, list) and len(point) in (2, 3) and isinstance(point[0], Fraction)):
+        raise Unreadable("%s: a point isn't a time, a place and inner points" % where)
+    inner = point[2] if len(point) == 3 else []
+    if not isinstance(inner, list) or len(inner) not in (0, 2):
+        raise Unreadable("%s: inner points at %.3f s, and none or two are known" % (where, point[0]))
+    return point[0] * 1000, place_of(point[1], where), [place_of(it, where) for it in inner]
+
+
+def setpoint_of(node, late, where):
+    """A setpoint of yaw: milliseconds and tenths of a degree."""
+    if not (isinstance(node, list) and len(node) == 2 and all(isinstance(v, Fraction) for v in node)):
+        raise Unreadable("%s: a setpoint of yaw isn't a time and an angle" % where)
+    return late + node[0] * 1000, node[1] * 10
 
 
 def with_yaw(pieces, setpoints):
     """Pieces, cut where a yaw that goes evenly between setpoints has them, with that yaw."""
+    times = [t for t, _ in setpoints]
+
     def yaw(t):
-        if t <= setpoints[0][0]:
-            return setpoints[0][1]
-        for (a, p), (b, q) in zip(setpoints, setpoints[1:]):
-            if t <= b:
-                return q if b == a else p + (q - p) * (t - a) / (b - a)
-        return setpoints[-1][1]
+        k = bisect.bisect_left(times, t)
+        if k == 0 or k == len(times):
+            return setpoints[min(k, len(times) - 1)][1]
+        (a, p), (b, q) = setpoints[k - 1:k + 1]
+        return p + (q - p) * (t - a) / (b - a)
     out = []
     for begin, end, rows in pieces:
-        cuts = [begin] + [t for t, _ in setpoints if begin < t < end] + [end]
+        inner = times[bisect.bisect_right(times, begin):bisect.bisect_left(times, end)]
+        cuts = [begin, *sorted(set(inner)), end]
         for low, high in zip(cuts, cuts[1:]):
             u, v = (low - begin) / (end - begin), (high - begin) / (end - begin)
             out.append((low, high, [part(row, u, v) for row in rows] + [[yaw(low), yaw(high)]]))
     return out
 
 
+# ---- CSV
+
+def limited(path):
+    """The bytes of a file, if they aren't too many."""
+    data = read_file(path)
+    if len(data) > LARGEST:
+        raise Unreadable("more than %d bytes" % LARGEST)
+    return data
+
+
 def rows_of(path):
-    """The rows of numbers of a CSV file, without heads, and the text of the heads."""
-    rows, head = [], ""
+    """The rows of a CSV file as (line, cells), and the words of its head, which is a first row without a number."""
     try:
-        with open(path, newline="") as file:
-            for number, row in enumerate(csv.reader(file), 1):
-                if row and re.match(r"^\s*[-+.0-9]", row[0]):
-                    rows.append([Fraction(cell.strip()) for cell in row if cell.strip()])
-                else:
-                    head += ",".join(row)
-    except (OSError, ValueError, ZeroDivisionError) as error:
-        raise Unreadable("%s: %s" % (path, error))
+        rows = [(k, [cell.strip() for cell in row])
+                for k, row in enumerate(csv.reader(io.StringIO(limited(path).decode("utf-8-sig"), newline="")), 1)]
+    except (UnicodeDecodeError, csv.Error) as error:
+        raise Unreadable("no CSV: %s" % error)
+    rows = [(k, row) for k, row in rows if any(row) and not row[0].startswith("#")]
+    for _, row in rows:
+        while not row[-1]:
+            row.pop()
+    head = []
+    if rows and not any(NUMBER.fullmatch(cell) for cell in rows[0][1]):
+        head = [cell.lower() for cell in rows.pop(0)[1]]
     if not rows:
-        raise Unreadable("%s: no row of numbers" % path)
+        raise Unreadable("no row of numbers")
     return rows, head
 
 
+def numbers_of(line, cells):
+    """The numbers of a row."""
+    try:
+        return [number(cell) for cell in cells]
+    except Unreadable as error:
+        raise Unreadable("line %d: %s" % (line, error))
+
+
 def read_polynomials(path, name, start):
-    """The way of a file of uav_trajectories: a duration and eight coefficients an axis in each row, metres and radians."""
+    """The path in a file of uav_trajectories: in each row a duration and eight coefficients an axis, in metres and
+    radians."""
     pieces, t = [], Fraction(0)
-    for row in rows_of(path)[0]:
-        if len(row) not in (25, 33) or row[0] <= 0:
-            raise Unreadable("%s: a row has %d numbers, and 33 are wanted, a duration first" % (path, len(row)))
+    for line, cells in rows_of(path)[0]:
+        row = numbers_of(line, cells)
+        if len(row) != 33:
+            raise Unreadable("line %d: %d numbers, and 33 are wanted, a duration first" % (line, len(row)))
+        if row[0] <= 0:
+            raise Unreadable("line %d: a duration of %s s" % (line, cells[0]))
         length, rows = row[0], []
         for axis in range(4):
-            scaled = [c * length ** k for k, c in enumerate(row[1 + 8 * axis:9 + 8 * axis])] or [Fraction(0)] * 8
+            scaled = [c * length ** k for k, c in enumerate(row[1 + 8 * axis:9 + 8 * axis])]
             points = [sum(Fraction(comb(j, k), comb(7, k)) * scaled[k] for k in range(j + 1)) for j in range(8)]
-            rows.append([(p + start[axis]) * 1000000 for p in points] if axis < 3 else [p * 1800 / PI for p in points])
-        pieces.append((t * 1000, (t + length) * 1000, rows))
+            rows.append([p * 1800 / PI for p in points] if axis == 3 else [(p + start[axis]) * 1000000 for p in points])
+        pieces.append((t * 1000, (t + length) * 1000, [row[:1] if len(set(row)) == 1 else row for row in rows]))
         t += length
-    return Path(name, pieces)
+    return checked(name, pieces)
 
 
-def read_waypoints(path, name, smooth):
-    """The way of a file of waypoints, t,x,y,z and maybe yaw in each row (seconds, metres, degrees; or Skybrush's CSV, with
-    milliseconds and colours), joined by lines, or by a smooth spline."""
+COLUMNS = {"t": "t", "time": "t", "time [s]": "t", "t [s]": "t", "time [msec]": "ms", "time [ms]": "ms", "t [ms]": "ms",
+           "x": "x", "y": "y", "z": "z", "x [m]": "x", "y [m]": "y", "z [m]": "z", "yaw": "yaw", "yaw [deg]": "yaw",
+           "drone": "drone", "name": "drone", "id": "drone"}
+
+
+def columns_of(head, first):
+    """Where a table of waypoints has what: by its head, or by its first row."""
+    if not head:
+        named = not NUMBER.fullmatch(first[0])
+        words = (["drone"] if named else []) + ["t", "x", "y", "z", "yaw"][:max(4, len(first) - named)]
+        if len(words) != len(first):
+            raise Unreadable("a row has %d cells, and t,x,y,z and maybe yaw are wanted" % len(first))
+        return {word: k for k, word in enumerate(words)}
+    found = {}
+    for k, cell in enumerate(head):
+        word = COLUMNS.get(cell)
+        if word in found:
+            raise Unreadable("two columns are called %s" % word)
+        if word is None and re.match(r"(t|time|x|y|z|yaw)\b", cell):
+            raise Unreadable("a column %.20r, whose unit isn't known" % cell)
+        found.update({word: k} if word else {})
+    if not {"x", "y", "z"} <= set(found) or ("t" in found) == ("ms" in found):
+        raise Unreadable("the head has to name t, x, y and z")
+    return found
+
+
+def read_waypoints(path, stem, smooth):
+    """The paths in a file of waypoints by the names of their drones, as lists of pieces: t,x,y,z and maybe yaw in each
+    row (seconds, metres, degrees; or Skybrush's CSV, with milliseconds and colours), and maybe a column of drones."""
     rows, head = rows_of(path)
-    in_milliseconds = re.search(r"msec|\[ms\]", head)
-    points = []
-    for row in rows:
-        if len(row) < 4:
-            raise Unreadable("%s: a row has %d numbers, and t,x,y,z are wanted" % (path, len(row)))
-        yaw = row[4] * 10 if len(row) > 4 and not in_milliseconds else Fraction(0)
-        points.append((row[0] * (1 if in_milliseconds else 1000), [v * 1000000 for v in row[1:4]] + [yaw]))
-    if len(points) < 2 or any(a[0] >= b[0] for a, b in zip(points, points[1:])):
-        raise Unreadable("%s: two rows or more are wanted, and times that grow" % path)
+    columns = columns_of(head, rows[0][1])
+    words, scale, points = [word for word in ("t", "ms", "x", "y", "z", "yaw") if word in columns], 1, {}
+    for line, cells in rows:
+        if len(cells) <= max(columns.values()) or (not head and len(cells) > len(columns)):
+            raise Unreadable("line %d: %d cells, and %d are wanted" % (line, len(cells), len(columns)))
+        row = numbers_of(line, [cells[columns[word]] for word in words])
+        scale = 1 if "ms" in columns else 1000
+        own = points.setdefault(cells[columns["drone"]] if "drone" in columns else stem, [])
+        yaw = row[4] * 10 if len(row) > 4 else Fraction(0)
+        own.append((row[0] * scale, [v * 1000000 for v in row[1:4]] + [yaw]))
+        if len(own) > 1 and own[-2][0] >= own[-1][0]:
+            raise Unreadable("line %d: the time doesn't grow" % line)
+    return {word: joined(own, smooth) for word, own in points.items()}
 
+
+def joined(points, smooth):
+    """Pieces through waypoints: lines, or a smooth spline."""
     def slope(k):
         if k in (0, len(points) - 1):
             return [Fraction(0)] * 4
         (a, p), (b, q) = points[k - 1], points[k + 1]
         return [(y - x) / (b - a) for x, y in zip(p, q)]
+    if len(points) == 1:
+        return [(points[0][0], points[0][0] + 1, [[v] for v in points[0][1]])]
     pieces = []
     for k, ((begin, p), (end, q)) in enumerate(zip(points, points[1:])):
-        if smooth:
-            third = (end - begin) / 3
-            rows = [[x, x + third * u, y - third * v, y] for x, y, u, v in zip(p, q, slope(k), slope(k + 1))]
-        else:
-            rows = [[x, y] for x, y in zip(p, q)]
-        pieces.append((begin, end, rows))
-    return Path(name, pieces)
+        third = (end - begin) / 3
+        rows = [[x, x + third * u, y - third * v, y] if smooth else [x, y]
+                for x, y, u, v in zip(p, q, slope(k), slope(k + 1))]
+        pieces.append((begin, end, [row[:1] if len(set(row)) == 1 else row for row in rows]))
+    return pieces
+
+
+def read_starts(path):
+    """Places by names, from name,x,y,z a row, in metres."""
+    out = {}
+    for line, cells in rows_of(path)[0]:
+        if len(cells) != 4 or cells[0] in out:
+            raise Unreadable("line %d: name,x,y,z are wanted, once for each drone" % line)
+        out[cells[0]] = numbers_of(line, cells[1:])
+    return out
+
+
+def read_csv(files, waypoints, smooth=False, starts=None):
+    """The paths of CSV files: polynomials, a drone a file, or waypoints."""
+    taken, found = set(), {}
+    places = read_starts(starts) if starts else {}
+    for path in files:
+        stem = os.path.splitext(os.path.basename(path))[0]
+        try:
+            if waypoints:
+                some = read_waypoints(path, stem, smooth)
+            elif starts and stem not in places:
+                raise Unreadable("%s has no place for %s" % (starts, stem))
+            else:
+                some = {stem: read_polynomials(path, "", places.get(stem, [Fraction(0)] * 3)).pieces}
+            for word, pieces in some.items():
+                if word in found:
+                    raise Unreadable("two drones have the name %.40r" % word)
+                found[word] = checked(name_of(word, taken), pieces)
+        except Unreadable as error:
+            raise Unreadable("%s: %s" % (path, error))
+    lost = [word for word in places if word not in found]
+    if lost:
+        raise Unreadable("%s: no file is called %.40r" % (starts, lost[0]))
+    return list(found.values())
