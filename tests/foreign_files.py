@@ -4,6 +4,7 @@ import importlib.machinery
 import importlib.util
 import io
 import json
+import math
 import os
 import random
 import sys
@@ -79,7 +80,12 @@ def flown_at(flown, k, t):
     t = Fraction(t) * 1000
     for milliseconds, elements in flown.by_cue[k]:
         if t <= milliseconds:
-            return [bezier([[Fraction(v, 1000)] for v in row], t / milliseconds)[0] for row in elements[:3]]
+            a, c, out = t.numerator, t.denominator * milliseconds, []
+            for row in elements[:3]:
+                n = len(row) - 1
+                total = sum(math.comb(n, j) * a ** j * (c - a) ** (n - j) * v for j, v in enumerate(row))
+                out.append(Fraction(total, 1000 * c ** n))
+            return out
         t -= milliseconds
     return [Fraction(row[-1], 1000) for row in elements[:3]]
 
