@@ -46,6 +46,7 @@ class Flown(unittest.TestCase):
         self.assertTrue(all(abs(int(rows[name][2])) <= 1 for name in ("a", "d")), out)
         self.assertIn("KEPT: 724 of 724 samples", out)
 
+    @common.wants_program
     def test_curves(self):
         rows = common.run("show", "play", "--step", "77", self.show)[1].split("\n")
         places = curves.curves_of(self.flown)

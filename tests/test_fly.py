@@ -15,8 +15,8 @@ import unittest
 import common
 
 SHOW = os.path.join("examples", "crossing_cured.choreo")
-AT_ONCE = 4
-WORDS = ["--simulate", "--sim", "speed=10", "--silence", "3"]
+AT_ONCE = 6
+WORDS = ["--simulate", "--sim", "speed=6", "--silence", "3"]
 ON_THE_FLOOR = """choreo 1
 drone a 0 0 0 0
 drone b 1000000 0 0 0
@@ -117,7 +117,7 @@ def b(fault):
 
 INT = signal.SIGINT
 FLIGHTS = {
-    "twelve": (["--yes", "--sim", "speed=6", "--sim", "stray=40", "--sim", "late=80"], wide_show()),
+    "twelve": (["--yes", "--sim", "speed=3", "--sim", "stray=40", "--sim", "late=80"], wide_show()),
     "whole": (["--sim", "stray=30", "--sim", "late=40"],),
     "lossy": (["--sim", "loss=20", "--sim", "seed=3", "--late", "200"],),
     "unicast": (["--unicast"],), "copies": (["--copies", "3"],),
@@ -142,6 +142,8 @@ BEGUN = {}
 
 
 def setUpModule():
+    if not os.access(common.choreo.PROGRAM, os.X_OK):
+        return
     pool = concurrent.futures.ThreadPoolExecutor(AT_ONCE)
     unittest.addModuleCleanup(pool.shutdown, cancel_futures=True)
     BEGUN.update({name: pool.submit(fly, *words) for name, words in FLIGHTS.items()})
@@ -165,7 +167,7 @@ class Flights(unittest.TestCase):
         for line in without:
             self.assertNotIn(line, out, name)
         for drone, end in (ends or {}).items():
-            self.assertRegex(out, "simulated: %s at .*%s\n" % (drone, end), name + ":\n" + out)
+            self.assertRegex(out, "simulated: %s at .*%s( after [0-9]+ ms)?\n" % (drone, end), name + ":\n" + out)
         return out, rows, judged
 
     def test_whole(self):
@@ -179,10 +181,13 @@ class Flights(unittest.TestCase):
 
     def test_strays_and_starts_are_found(self):
         # Twelve drones that stray by 40 mm and start within 80 ms: what the log says is within a tenth of that.
-        _, rows, (status, said, told) = self.flown("twelve", 0, "landed\n", "taking off, 12 drones")
+        out, rows, (status, said, told) = self.flown("twelve", 0, "landed\n", "taking off, 12 drones")
         self.assertEqual((status, "KEPT: " in said), (0, True), said + told)
         apart, far = re.search("by the log's clock, ([0-9]+) ms apart; so late the farthest is d[0-9]+, ([0-9.]+) mm", said).groups()
-        self.assertTrue(72 <= int(apart) <= 88, said)
+        # the simulated drones' own starts are as far apart as was asked for, but for what a busy machine adds
+        true = max(map(int, re.findall("start after ([0-9]+) ms", out)))
+        self.assertTrue(74 <= true <= 86, out)
+        self.assertTrue(abs(int(apart) - true) <= 8, (said, true))
         self.assertTrue(36 <= float(far) <= 44, said)
         strays = [float(line.split()[4]) for line in said.split("\n")[1:13]]
         self.assertTrue(all(36 <= stray <= 44 for stray in strays), said)

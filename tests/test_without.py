@@ -149,6 +149,7 @@ class Without(unittest.TestCase):
         self.assertEqual(common.run("tools/without", os.path.join("no", "show"), "a")[0], 70)
         self.assertEqual(common.run("tools/without", "examples/solo.choreo")[0], 2)
 
+    @common.wants_program
     def test_asks_check(self):
         # The crossing is refused with 5 for its two drones, and accepted with one of them.
         with open(os.path.join(common.TOP, "examples", "crossing.choreo")) as file:

@@ -135,7 +135,7 @@ class Drone:
             at = [v + self.world.stray / 1000 * w for v, w in zip(at, way)]
         if self.is_due("wanders"):
             at[0] += 0.5 * (self.flown(now) - self.faults["wanders"])
-        return at
+        return [at[0], at[1], max(self.floor, at[2])]
 
     def drop(self):
         """The motors stop."""
@@ -347,11 +347,14 @@ class World:
             drone.late_share = share
 
     def lines(self, names):
-        """Where the drones are, whether they are armed, and how often they began a trajectory: lines for people."""
+        """Where the drones are, whether they are armed, how often they began a trajectory, and how long after the first one:
+        lines for people."""
+        first = min([drone.starts[0] for drone in self.drones.values() if drone.starts] or [0.0])
         for name, drone in zip(names, self.drones.values()):
-            yield "simulated: %s at (%.2f, %.2f, %.2f) m, %s, %d start%s" % (
+            after = " after %.0f ms" % (1000 * (drone.starts[0] - first)) if drone.starts else ""
+            yield "simulated: %s at (%.2f, %.2f, %.2f) m, %s, %d start%s%s" % (
                 name, *drone.is_at(), "cut" if drone.cut else "armed" if drone.armed else "disarmed",
-                len(drone.starts), "" if len(drone.starts) == 1 else "s")
+                len(drone.starts), "" if len(drone.starts) == 1 else "s", after)
 
     def take_turn(self, dongle):
         """Waits for a dongle's next transfer."""
