@@ -2,6 +2,7 @@
 import math
 import os
 import random
+import re
 import tempfile
 import unittest
 
@@ -16,8 +17,9 @@ class Flown(unittest.TestCase):
         self.show = os.path.join("examples", "formation_change.choreo")
         self.flown = common.example("formation_change")[1]
 
-    def log(self, late={}, stray=0.0, head="time,drone,x,y,z", stamps=False, also=lambda name, t: (0, 0, 0), every=50, leave=()):
-        """Writes a log of a flight; its path."""
+    def log(self, late={}, stray=0.0, head="time,drone,x,y,z", stamps=False, also=lambda name, t: (0, 0, 0), every=50, leave=(),
+            along=False, drift={}):
+        """Writes a log of a flight; its path. A stray is in the plane, by chance, or with `along` by turns with the way."""
         path, chance = os.path.join(self.room.name, "log.csv"), random.Random(1)
         with open(path, "w") as file:
             file.write(head + "\n" if head else "")
@@ -25,7 +27,9 @@ class Flown(unittest.TestCase):
                 for t in range(-500, self.flown.milliseconds + 700, every):
                     if name in leave:
                         continue
-                    at, turn = curve.at(t - late.get(name, 0)), chance.random() * 7
+                    at, turn = curve.at(t * (1 - drift.get(name, 0)) - late.get(name, 0)), chance.random() * 7
+                    if along:
+                        turn = t / 370 + k
                     at = [at[0] + stray * math.cos(turn), at[1] + stray * math.sin(turn), at[2]]
                     at = [(v + w) / 1000 for v, w in zip(at, also(name, t))]
                     words = ["%.6f" % v for v in at]
@@ -39,6 +43,54 @@ class Flown(unittest.TestCase):
         self.assertEqual(said, "")
         rows = {line.split()[0]: line.split()[1:] for line in out.split("\n")[1:1 + len(self.flown.names)]}
         return status, rows, out
+
+    def test_the_shows_own_lines(self):
+        # stray 50 and late 200 stand in the show; words on the command line come before them.
+        with open(os.path.join(common.TOP, self.show)) as file:
+            text = file.read() + "\nstray 50\nlate 200\n"
+        path = self.log(late={"a": 120, "d": -60}, stray=40)
+        for words, wanted, line in (((), 0, "within 50 mm of the curve at an instant within 200 ms"),
+                                    (("--stray", "30"), 1, "within 30 mm of the curve at an instant within 200 ms"),
+                                    (("--late", "40"), 1, "within 50 mm of the curve at an instant within 40 ms")):
+            status, out, _ = common.run("tools/flown", *words, "-", path, text=text)
+            self.assertEqual((status, line in out), (wanted, True), out)
+        self.assertNotIn("stray is 0", out)
+        # without the lines it says why nothing is kept
+        status, out, _ = common.run("tools/flown", self.show, path)
+        self.assertEqual((status, "stray is 0, which no drone keeps" in out), (1, True))
+
+    def test_window(self):
+        # 180 ms apart is within 182 of each other, and not within 170: at 0.5 mm some sample tells.
+        path = self.log(late={"a": 120, "d": -60})
+        self.assertEqual(self.judged(path, "--stray", "0.5", "--late", "182")[0], 0)
+        status, _, out = self.judged(path, "--stray", "0.5", "--late", "170")
+        self.assertEqual(status, 1, out)
+
+    def test_best_start_and_stray(self):
+        # Strays of exactly 40 mm in all directions: the best start is the true one to some milliseconds, and at it the
+        # greatest distance is 40 mm. The fit of least squares would be off by what strays and speeds have in common.
+        path = self.log(late={"a": 80, "d": -30}, stray=40, along=True)
+        _, rows, out = self.judged(path, "--stray", "41", "--late", "200")
+        self.assertTrue(abs(int(rows["a"][2]) - 80) <= 6 and abs(int(rows["d"][2]) + 30) <= 6, out)
+        for name in "abcd":
+            self.assertTrue(39 <= float(rows[name][3]) <= 41, out)
+
+    def test_a_clock_that_drifts(self):
+        # 20 ms in the whole flight: within 30 ms of each other, not within 5.
+        path = self.log(drift={"a": 20.0 / self.flown.milliseconds})
+        self.assertEqual(self.judged(path, "--stray", "0.5", "--late", "30")[0], 0)
+        self.assertEqual(self.judged(path, "--stray", "0.5", "--late", "5")[0], 1)
+
+    def test_gaps_are_told(self):
+        path = self.log()
+        with open(path) as file:
+            rows = [row for row in file.read().split("\n") if not re.match("[34][.].*,b,", row)]
+        with open(path, "w") as file:
+            file.write("\n".join(rows))
+        _, rows, out = self.judged(path)
+        # b has no sample from 3.00 to 4.95 s
+        self.assertEqual((rows["b"][1], rows["a"][1]), ("2050", "50"), out)
+        self.assertIn("greatest gap between samples 2050 ms", out)
 
     def test_exact(self):
         status, rows, out = self.judged(self.log(), "--stray", "0.1", "--late", "0")
@@ -70,7 +122,7 @@ class Flown(unittest.TestCase):
 
     def test_which(self):
         path = self.log(also=lambda name, t: (300 if name == "c" and t == 4000 else 0, 0, 0))
-        status, rows, out = self.judged(path)
+        status, rows, out = self.judged(path, "--stray", "100", "--late", "100")
         self.assertEqual((status, rows["c"][-1]), (1, "1"))
         self.assertIn("the farthest is c, 300.0 mm at 4.00 s", out)
 
@@ -100,7 +152,7 @@ class Flown(unittest.TestCase):
         path = self.log()
         with open(path, "a") as file:
             file.write("1,who,0,0,0\n")
-        status, out, _ = common.run("tools/flown", self.show, path)
+        status, out, _ = common.run("tools/flown", "--stray", "1", self.show, path)
         self.assertEqual((status, out.split("\n")[0]), (0, "not of the show, and left out: who"))
 
 

@@ -8,6 +8,7 @@ import os
 import re
 import signal
 import subprocess
+import sys
 import tempfile
 import time
 import unittest
@@ -15,7 +16,7 @@ import unittest
 import common
 
 SHOW = os.path.join("examples", "crossing_cured.choreo")
-AT_ONCE = 6
+AT_ONCE = 8
 WORDS = ["--simulate", "--sim", "speed=6", "--silence", "3"]
 ON_THE_FLOOR = """choreo 1
 drone a 0 0 0 0
@@ -138,16 +139,21 @@ FLIGHTS = {
         "dead", "outdated", "empty", "unsettled", "astray", "memory", "locked", "deaf", "lost", "forgets", "unarmed", "stays",
         "stuck", "deafens", "refuses", "silent:3", "wanders:2", "falls:4", "drains:2", "hovers")},
 }
-BEGUN = {}
+POOL, BEGUN = concurrent.futures.ThreadPoolExecutor(AT_ONCE), {}
+
+
+def begun(name):
+    """A flight that is begun, or was before."""
+    if name not in BEGUN:
+        BEGUN[name] = POOL.submit(terminal_gone) if name == "terminal" else POOL.submit(fly, *FLIGHTS[name])
+    return BEGUN[name]
 
 
 def setUpModule():
-    if not os.access(common.choreo.PROGRAM, os.X_OK):
-        return
-    pool = concurrent.futures.ThreadPoolExecutor(AT_ONCE)
-    unittest.addModuleCleanup(pool.shutdown, cancel_futures=True)
-    BEGUN.update({name: pool.submit(fly, *words) for name, words in FLIGHTS.items()})
-    BEGUN["terminal"] = pool.submit(terminal_gone)
+    unittest.addModuleCleanup(POOL.shutdown)
+    if os.access(common.choreo.PROGRAM, os.X_OK) and "-k" not in sys.argv:
+        for name in [*FLIGHTS, "terminal"]:
+            begun(name)
 
 
 def last_heights(rows):
@@ -160,7 +166,7 @@ class Flights(unittest.TestCase):
     def flown(self, name, status, *lines, without=(), ends=None):
         """The output of a flight, after a look at its status, at lines that it has or hasn't, and at how its drones end: by
         name the end of the line that says so."""
-        came, out, rows, judged = BEGUN[name].result()
+        came, out, rows, judged = begun(name).result()
         self.assertEqual(came, status, name + ":\n" + out)
         for line in lines:
             self.assertRegex(out, line, name)
@@ -278,7 +284,7 @@ class Flights(unittest.TestCase):
 
     def test_terminal_is_gone(self):
         # What closes a terminal sends more than one signal: all land all the same, and no motor is stopped.
-        status, told, rows = BEGUN["terminal"].result()
+        status, told, rows = begun("terminal").result()
         self.assertEqual((status, told), (1, ""))
         self.assertTrue(all(height < 0.15 for height in last_heights(rows).values()), rows[-200:])
         self.assertLess(float(rows.split("\n")[-2].split(",")[0]), 6.9)
