@@ -5,6 +5,7 @@ use Rattle.fleet_curves.specs.Raised.{Raised}
 use Rattle.sep_parts.specs.declared.clearance.Clearance.{Clearance}
 use Rattle.sep_parts.specs.Slots.{slots}
 use Rattle.sep_parts.specs.Versions.{table_of}
+use Rattle.sep_parts.proofs.Table.{table_small}
 use Rattle.sep_certificate.specs.Certificates.{rules_of}
 use Rattle.sep_certificate.proofs.Keeping.{keeps}
 use Rattle.sep_certificate.proofs.Named.{fault_named}
@@ -110,5 +111,5 @@ pub safe_told : (curves : Raised) (clearance : Clearance) (text : List ℕ) (ver
 safe_told curves clearance text (Line line) gives = tt
 safe_told curves clearance text (Refused version fault) gives = tt
 safe_told curves clearance text (Valid depth trees) (cert, says, depth_is, trees_are, none) =
-    keeps (rules_of clearance cert) (table_of cert.version) curves cert.trees
+    keeps (rules_of clearance cert) (table_of cert.version) curves cert.trees (table_small cert.version)
     (valid_of (rules_of clearance cert) (table_of cert.version) curves (slots curves.drones curves.cues) 0 cert.trees says.whole.whole.trees none)

@@ -11,7 +11,7 @@ use Rattle.sep_parts.specs.declared.rules.Rules.{Rules}
 use Rattle.sep_parts.specs.declared.node.Node.{Node}
 use Rattle.fleet_curves.specs.Raised.{CurvesStandFor, HasFewPoints, Raised, difference}
 use Rattle.traj_codec.specs.Joined.{IsLasting}
-use Rattle.sep_parts.specs.Directions.{reach_on}
+use Rattle.sep_parts.specs.Directions.{AreSmall, reach_on}
 use Rattle.sep_parts.specs.Apart.{AreTogether, KeepReach, KeepsApart, MayBeAt, MovesWithin, Point, ShareNoPoint}
 use Rattle.sep_parts.specs.Levels.{root}
 use Rattle.sep_parts.specs.Slots.{slots}
@@ -26,9 +26,9 @@ use Rattle.sep_certificate.proofs.Members.{tree_of}
 
 -- the drones of a pair are seen to be apart at a moment
 seen_at : (rules : Rules) (dirs : List (List ℤ)) (curves : Raised) (trees : List (List Node)) (trajs : List Traj) (stands : CurvesStandFor curves trajs)
-    (a b : ℕ) (t u : Traj) (m : Moment) → AreValid rules dirs curves (slots curves.drones curves.cues) trees →
+    (a b : ℕ) (t u : Traj) (m : Moment) → All AreSmall dirs → AreValid rules dirs curves (slots curves.drones curves.cues) trees →
     a < b → slice_get trajs a ≡ Some t → slice_get trajs b ≡ Some u → IsInside (length stands.times) m → IsSeenAt rules.clearance t u m
-seen_at rules dirs curves trees trajs stands a b t u m valid order t_is u_is inside =
+seen_at rules dirs curves trees trajs stands a b t u m small valid order t_is u_is inside =
     let b_in : b < length trajs = slice_get_within trajs b u u_is in
     let t_len : length t.segments ≡ length stands.times = segments_of t stands.times (at_place (λ (t : Traj). durations t.segments ≡ stands.times) trajs a t stands.one_show.same_times t_is) in
     let u_len : length u.segments ≡ length stands.times = segments_of u stands.times (at_place (λ (t : Traj). durations t.segments ≡ stands.times) trajs b u stands.one_show.same_times u_is) in
@@ -37,14 +37,14 @@ seen_at rules dirs curves trees trajs stands a b t u m valid order t_is u_is ins
     (omega (arith, t_len, inside.cue)) (omega (arith, u_len, inside.cue))
     (λ axis near. at_place (HasFewPoints (length stands.times)) trajs a t stands.few_points t_is m.cue axis inside.cue near)
     (λ axis near. at_place (HasFewPoints (length stands.times)) trajs b u stands.few_points u_is m.cue axis inside.cue near)
-    (seen_in_tree rules dirs (difference curves a b m.cue) tree.0 root (pos m.a) (pos m.c) (omega (arith, ints, inside.some)) (omega (arith, ints)) (omega (arith, ints, inside.within)) tree.1)
+    (seen_in_tree rules dirs (difference curves a b m.cue) tree.0 root (pos m.a) (pos m.c) small (omega (arith, ints, inside.some)) (omega (arith, ints)) (omega (arith, ints, inside.within)) tree.1)
 
 -- the drones of a pair are apart, the first one named first
-in_order : (rules : Rules) (dirs : List (List ℤ)) (curves : Raised) (trees : List (List Node)) → AreValid rules dirs curves (slots curves.drones curves.cues) trees →
+in_order : (rules : Rules) (dirs : List (List ℤ)) (curves : Raised) (trees : List (List Node)) → All AreSmall dirs → AreValid rules dirs curves (slots curves.drones curves.cues) trees →
     (trajs : List Traj) → CurvesStandFor curves trajs → KeepReach rules.clearance trajs → (a b : ℕ) (t u : Traj) → a < b → slice_get trajs a ≡ Some t → slice_get trajs b ≡ Some u →
     (p q s w : ℕ) → 1 ≤ q → 1 ≤ w → p ≤ q * sum (durations t.segments) → s ≤ w * sum (durations u.segments) → AreTogether rules.clearance.late p q s w →
     (first second : Point) → MayBeAt rules.clearance.stray t p q first → MayBeAt rules.clearance.stray u s w second → ShareNoPoint rules.clearance.r rules.clearance.h first second
-in_order rules dirs curves trees valid trajs stands reach a b t u order t_is u_is p q s w p_some w_some p_before s_before together first second at_first at_second =
+in_order rules dirs curves trees small valid trajs stands reach a b t u order t_is u_is p q s w p_some w_some p_before s_before together first second at_first at_second =
     let t_times : durations t.segments ≡ stands.times = at_place (λ (t : Traj). durations t.segments ≡ stands.times) trajs a t stands.one_show.same_times t_is in
     let u_times : durations u.segments ≡ stands.times = at_place (λ (t : Traj). durations t.segments ≡ stands.times) trajs b u stands.one_show.same_times u_is in
     let u_lasts : IsLasting u = subst (λ (ns : List ℕ). All (λ ms. 1 ≤ ms) ns) (sym u_times) stands.one_show.lasting in
@@ -55,16 +55,16 @@ in_order rules dirs curves trees valid trajs stands reach a b t u order t_is u_i
     (subst (λ (ns : List ℕ). All (λ ms. 1 ≤ ms) ns) (sym t_times) stands.one_show.lasting) p_before) in
     let moves = at_place (λ (t : Traj). (axis : ℕ) → axis ≤ 2 → MovesWithin rules.clearance.late (reach_on rules.clearance axis) t axis) trajs b u reach u_is in
     seen_apart rules.clearance t u p q s w (moment (durations t.segments) p q) first second inside.some (own_some u s w w_some u_lasts) refl (ap (λ (ns : List ℕ). moment ns p q) (u_times ∙ sym t_times))
-    (seen_at rules dirs curves trees trajs stands a b t u (moment (durations t.segments) p q) valid order t_is u_is inside)
+    (seen_at rules dirs curves trees trajs stands a b t u (moment (durations t.segments) p q) small valid order t_is u_is inside)
     (λ axis near. moves axis near p q s w p_some w_some (subst (λ (ns : List ℕ). p ≤ q * sum ns) (t_times ∙ sym u_times) p_before) s_before together) at_first at_second
 
 -- Where a certificate is valid, any two different drones fly apart.
-pub keeps : (rules : Rules) (dirs : List (List ℤ)) (curves : Raised) (trees : List (List Node)) → AreValid rules dirs curves (slots curves.drones curves.cues) trees → KeepsApart curves rules.clearance
-keeps rules dirs curves trees valid trajs stands reach a b t u differ t_is u_is p q s w p_some w_some p_before s_before together first second at_first at_second =
+pub keeps : (rules : Rules) (dirs : List (List ℤ)) (curves : Raised) (trees : List (List Node)) → All AreSmall dirs → AreValid rules dirs curves (slots curves.drones curves.cues) trees → KeepsApart curves rules.clearance
+keeps rules dirs curves trees small valid trajs stands reach a b t u differ t_is u_is p q s w p_some w_some p_before s_before together first second at_first at_second =
     by_lt a b
-    (λ order. in_order rules dirs curves trees valid trajs stands reach a b t u order t_is u_is p q s w p_some w_some p_before s_before together first second at_first at_second)
+    (λ order. in_order rules dirs curves trees small valid trajs stands reach a b t u order t_is u_is p q s w p_some w_some p_before s_before together first second at_first at_second)
     (λ later. share_none_turned rules.clearance.r rules.clearance.h second first
-    (in_order rules dirs curves trees valid trajs stands reach b a u t (above a b differ later) u_is t_is s w p q w_some p_some s_before p_before (together_turned rules.clearance.late p q s w together) second first at_second at_first))
+    (in_order rules dirs curves trees small valid trajs stands reach b a u t (above a b differ later) u_is t_is s w p q w_some p_some s_before p_before (together_turned rules.clearance.late p q s w together) second first at_second at_first))
   where
     above : (a b : ℕ) → (a ≡ b → ⊥) → b ≤ a → b < a
     above a b differ later = by_lt b a (λ less. less) (λ same. absurd (differ (omega arith)))

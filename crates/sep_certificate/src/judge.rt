@@ -50,9 +50,9 @@ pub fn check(curves: &Curves, clearance: Clearance, cert: &Certificate) -> Resul
     }
 }
 
-/// The law of certificates, by any table of directions. With valid ones any two different drones fly apart, for every
-/// list of trajectories that the curves stand for and that move within the reach. And a whole certificate, whose leaves name directions of the table, is valid exactly where it has no first
-/// fault.
+/// The law of certificates, by any table of directions with entries from -2 to 2. With a valid one any two different drones fly apart, for
+/// every list of trajectories that the curves stand for and that move within the reach. And a whole certificate, whose leaves name directions
+/// of the table, is valid exactly where it has no first fault.
 pub fn certificate_law()
     ensures { CertificateLaw }
 {}

@@ -1,12 +1,12 @@
 -- The words of the argument on one leaf: three curves as functions, and a direction as a record of three whole numbers.
-use Rattle.std.proofs.Common.{ℕ, ◌≤◌, ◌*◌, ◌^◌, ℤ, pos, ◌+ℤ◌, ◌*ℤ◌, ◌≤ℤ◌, ◌<ℤ◌, List}
+use Rattle.std.proofs.Common.{ℕ, ◌≤◌, ◌*◌, ◌^◌, ℤ, pos, ◌+ℤ◌, ◌*ℤ◌, ◌≤ℤ◌, List}
 use Rattle.fleet_math.specs.Sums.{power}
 use Rattle.fleet_math.specs.Bernstein.{at, bernstein}
 use Rattle.bezier_core.specs.declared.Bez.{Bez}
 use Rattle.bezier_core.specs.Along.{controls}
 use Rattle.halving.specs.Part.{part_value}
 use Rattle.sep_parts.specs.declared.clearance.Clearance.{Clearance}
-use Rattle.sep_parts.specs.Directions.{threshold}
+use Rattle.sep_parts.specs.Directions.{AreSmall, threshold}
 
 -- a direction of three whole numbers
 pub record Direction : Type 0 where
@@ -42,6 +42,7 @@ pub record IsSeparatedBy (d : Cue) (n : Direction) (r h : ℕ) (t : ℤ) (depth 
 -- Along some direction the raised differences are at least its threshold at a / c.
 pub record IsSeenRaised (clear : Clearance) (d : Cue) (a c : ℤ) : Type 0 where
   pub n : List ℤ
+  pub small : AreSmall n
   pub along :
       (threshold clear n *ℤ (pos 5040 *ℤ power c 7))
       ≤ℤ ((at n 0 *ℤ pos clear.h) *ℤ bernstein 7 d.x a c +ℤ (at n 1 *ℤ pos clear.h) *ℤ bernstein 7 d.y a c +ℤ (at n 2 *ℤ pos clear.r) *ℤ bernstein 7 d.z a c)

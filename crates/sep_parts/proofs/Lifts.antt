@@ -5,13 +5,12 @@ use Rattle.std.proofs.lemmas.List.Elements.{All-head, All-tail}
 use Rattle.std.proofs.lemmas.Int.{ints}
 use Rattle.fleet_math.specs.Sums.{power}
 use Rattle.fleet_math.specs.Moments.{Moment, moment, moment_from}
-use Rattle.fleet_math.proofs.RingLemmas.{ring, linear, le_from_mul_ℤ, le_mul_ℤ, lt_mul_ℤ, mul_positive}
-use Rattle.fleet_math.proofs.DivisionLemmas.{lt_from_mul_ℤ}
+use Rattle.fleet_math.proofs.RingLemmas.{ring, linear, le_from_mul_ℤ, le_mul_ℤ, mul_comm_ℤ, mul_positive}
 use Rattle.fleet_math.proofs.SumLemmas.{power-add, power-mul, power_positive}
 use Rattle.traj_codec.specs.declared.traj.Traj.{Traj}
 use Rattle.traj_codec.specs.Positions.{decoded, durations}
 use Rattle.traj_codec.specs.Joined.{own, IsLasting, SameCurve, joined, JoinLaw}
-use Rattle.sep_parts.specs.Apart.{AreApart, ApartLaw, FlyApart, FlyApartExactly, MayBeAt, Point, SentLaw, ShareNoPoint, aside, gap, square}
+use Rattle.sep_parts.specs.Apart.{ApartLaw, FlyApart, FlyApartExactly, MayBeAt, Point, SentLaw, ShareNoPoint, aside, gap, square}
 use Rattle.sep_parts.proofs.Cauchy.{square_positive}
 
 -- ---- numbers
@@ -37,17 +36,18 @@ squares a b u v w n = simp ring (omega (arith, linear))
 turn : (k c n : ℤ) → (k *ℤ (c *ℤ c)) *ℤ (n *ℤ n) ≡ (k *ℤ (n *ℤ n)) *ℤ (c *ℤ c)
 turn k c n = simp ring refl
 
-pub lift : (k a b C N u v w U V W : ℤ) → pos 0 <ℤ C → pos 0 <ℤ N → (U *ℤ C) ≡ (u *ℤ N) → (V *ℤ C) ≡ (v *ℤ N) → (W *ℤ C) ≡ (w *ℤ N) →
-    (k *ℤ (C *ℤ C)) <ℤ (a *ℤ (u *ℤ u +ℤ v *ℤ v) +ℤ b *ℤ (w *ℤ w)) → (k *ℤ (N *ℤ N)) <ℤ (a *ℤ (U *ℤ U +ℤ V *ℤ V) +ℤ b *ℤ (W *ℤ W))
-lift k a b C N u v w U V W c_pos n_pos eu ev ew far =
-    let more : ((k *ℤ (C *ℤ C)) *ℤ (N *ℤ N)) <ℤ ((a *ℤ (u *ℤ u +ℤ v *ℤ v) +ℤ b *ℤ (w *ℤ w)) *ℤ (N *ℤ N)) =
-    lt_mul_ℤ (k *ℤ (C *ℤ C)) (a *ℤ (u *ℤ u +ℤ v *ℤ v) +ℤ b *ℤ (w *ℤ w)) (N *ℤ N) (mul_positive N N n_pos n_pos) far in
+-- the inequality over one denominator is that over another
+pub lift : (k a b C N u v w U V W : ℤ) → pos 0 <ℤ C → (U *ℤ C) ≡ (u *ℤ N) → (V *ℤ C) ≡ (v *ℤ N) → (W *ℤ C) ≡ (w *ℤ N) →
+    (k *ℤ (C *ℤ C)) ≤ℤ (a *ℤ (u *ℤ u +ℤ v *ℤ v) +ℤ b *ℤ (w *ℤ w)) → (k *ℤ (N *ℤ N)) ≤ℤ (a *ℤ (U *ℤ U +ℤ V *ℤ V) +ℤ b *ℤ (W *ℤ W))
+lift k a b C N u v w U V W c_pos eu ev ew far =
+    let more : ((N *ℤ N) *ℤ (k *ℤ (C *ℤ C))) ≤ℤ ((N *ℤ N) *ℤ (a *ℤ (u *ℤ u +ℤ v *ℤ v) +ℤ b *ℤ (w *ℤ w))) =
+    le_mul_ℤ (N *ℤ N) (k *ℤ (C *ℤ C)) (a *ℤ (u *ℤ u +ℤ v *ℤ v) +ℤ b *ℤ (w *ℤ w)) (square_positive N) far in
     let right : (a *ℤ (u *ℤ u +ℤ v *ℤ v) +ℤ b *ℤ (w *ℤ w)) *ℤ (N *ℤ N) ≡ (a *ℤ (U *ℤ U +ℤ V *ℤ V) +ℤ b *ℤ (W *ℤ W)) *ℤ (C *ℤ C) =
     squares a b u v w N ∙ rw (sym eu, sym ev, sym ew) (sym (squares a b U V W C)) in
-    lt_from_mul_ℤ (k *ℤ (N *ℤ N)) (a *ℤ (U *ℤ U +ℤ V *ℤ V) +ℤ b *ℤ (W *ℤ W)) (C *ℤ C) (mul_positive C C c_pos c_pos)
-    (swap (turn k C N) right more)
+    le_from_mul_ℤ (k *ℤ (N *ℤ N)) (a *ℤ (U *ℤ U +ℤ V *ℤ V) +ℤ b *ℤ (W *ℤ W)) (C *ℤ C) (mul_positive C C c_pos c_pos)
+    (swap (mul_comm_ℤ (N *ℤ N) (k *ℤ (C *ℤ C)) ∙ turn k C N) (mul_comm_ℤ (N *ℤ N) (a *ℤ (u *ℤ u +ℤ v *ℤ v) +ℤ b *ℤ (w *ℤ w)) ∙ right) more)
   where
-    swap : {x y z t : ℤ} → x ≡ y → z ≡ t → x <ℤ z → y <ℤ t
+    swap : {x y z t : ℤ} → x ≡ y → z ≡ t → x ≤ℤ z → y ≤ℤ t
     swap {x} {y} {z} {t} p q h = omega (arith, linear)
 
 -- an instant has a denominator of at least 1
@@ -79,17 +79,18 @@ apart_lifts t u other_t other_u r h p q some t_lasts u_lasts other_t_lasts other
     let S : ℤ = power (pos (own u p q).c) 7 in
     let P : ℤ = power (pos (own other_t p q).c) 7 in
     let Q : ℤ = power (pos (own other_u p q).c) 7 in
-    let old : (pos (4 * (r * r) * (h * h)) *ℤ ((R *ℤ S) *ℤ (R *ℤ S))) <ℤ _ =
-    subst (λ (z : ℤ). (pos (4 * (r * r) * (h * h)) *ℤ z) <ℤ (pos (h * h) *ℤ (gap t u p q 0 *ℤ gap t u p q 0 +ℤ gap t u p q 1 *ℤ gap t u p q 1) +ℤ pos (r * r) *ℤ (gap t u p q 2 *ℤ gap t u p q 2)))
+    let old : (pos (48 * (r * r) * (h * h) + 1) *ℤ ((R *ℤ S) *ℤ (R *ℤ S))) ≤ℤ _ =
+    subst (λ (z : ℤ). (pos (48 * (r * r) * (h * h) + 1) *ℤ z) ≤ℤ
+    (pos (12 * (h * h)) *ℤ (gap t u p q 0 *ℤ gap t u p q 0 +ℤ gap t u p q 1 *ℤ gap t u p q 1) +ℤ pos (12 * (r * r)) *ℤ (gap t u p q 2 *ℤ gap t u p q 2)))
     (whole_of (pos (own t p q).c) (pos (own u p q).c)) far.apart in
-    let new = lift (pos (4 * (r * r) * (h * h))) (pos (h * h)) (pos (r * r)) (R *ℤ S) (P *ℤ Q) (gap t u p q 0) (gap t u p q 1) (gap t u p q 2)
+    let new = lift (pos (48 * (r * r) * (h * h) + 1)) (pos (12 * (h * h))) (pos (12 * (r * r))) (R *ℤ S) (P *ℤ Q) (gap t u p q 0) (gap t u p q 1) (gap t u p q 2)
     (gap other_t other_u p q 0) (gap other_t other_u p q 1) (gap other_t other_u p q 2)
     (mul_positive R S (seventh_positive (own t p q).c (own_some t p q some t_lasts)) (seventh_positive (own u p q).c (own_some u p q some u_lasts)))
-    (mul_positive P Q (seventh_positive (own other_t p q).c (own_some other_t p q some other_t_lasts)) (seventh_positive (own other_u p q).c (own_some other_u p q some other_u_lasts)))
     (axis_lift 0) (axis_lift 1) (axis_lift 2) old in
     record {
-      apart = subst (λ (z : ℤ). (pos (4 * (r * r) * (h * h)) *ℤ z) <ℤ
-          (pos (h * h) *ℤ (gap other_t other_u p q 0 *ℤ gap other_t other_u p q 0 +ℤ gap other_t other_u p q 1 *ℤ gap other_t other_u p q 1) +ℤ pos (r * r) *ℤ (gap other_t other_u p q 2 *ℤ gap other_t other_u p q 2)))
+      apart = subst (λ (z : ℤ). (pos (48 * (r * r) * (h * h) + 1) *ℤ z) ≤ℤ
+          (pos (12 * (h * h)) *ℤ (gap other_t other_u p q 0 *ℤ gap other_t other_u p q 0 +ℤ gap other_t other_u p q 1 *ℤ gap other_t other_u p q 1)
+          +ℤ pos (12 * (r * r)) *ℤ (gap other_t other_u p q 2 *ℤ gap other_t other_u p q 2)))
           (sym (whole_of (pos (own other_t p q).c) (pos (own other_u p q).c))) new;
     }
   where
@@ -101,35 +102,6 @@ apart_lifts t u other_t other_u r h p q some t_lasts u_lasts other_t_lasts other
 -- how far the second drone's decoded position is from the first one's on an axis where both are over one c
 abbrev pub near_gap : Traj → Traj → Moment → ℕ → ℤ
 near_gap t u m axis = decoded u axis m -ℤ decoded t axis m
-
--- apart where both are over one c
-pub record AreApartAt (t u : Traj) (r h : ℕ) (m : Moment) : Type 0 where
-  pub apart :
-      (pos (4 * (r * r) * (h * h)) *ℤ power (pos m.c) 14)
-      <ℤ (pos (h * h) *ℤ (near_gap t u m 0 *ℤ near_gap t u m 0 +ℤ near_gap t u m 1 *ℤ near_gap t u m 1) +ℤ pos (r * r) *ℤ (near_gap t u m 2 *ℤ near_gap t u m 2))
-
--- Where both drones' segments have the same durations, the inequality over one c says it.
-pub one_moment : (t u : Traj) (r h p q : ℕ) (m : Moment) → 1 ≤ m.c → own t p q ≡ m → own u p q ≡ m → AreApartAt t u r h m → AreApart t u r h p q
-one_moment t u r h p q m some t_is u_is far =
-    let C : ℤ = power (pos m.c) 7 in
-    let old = subst (λ (z : ℤ). (pos (4 * (r * r) * (h * h)) *ℤ z) <ℤ
-    (pos (h * h) *ℤ (near_gap t u m 0 *ℤ near_gap t u m 0 +ℤ near_gap t u m 1 *ℤ near_gap t u m 1) +ℤ pos (r * r) *ℤ (near_gap t u m 2 *ℤ near_gap t u m 2))) (square_of (pos m.c)) far.apart in
-    let c_pos : pos 0 <ℤ C = seventh_positive m.c some in
-    let new = lift (pos (4 * (r * r) * (h * h))) (pos (h * h)) (pos (r * r)) C (C *ℤ C) (near_gap t u m 0) (near_gap t u m 1) (near_gap t u m 2)
-    (wide 0) (wide 1) (wide 2) c_pos (mul_positive C C c_pos c_pos) (widened 0) (widened 1) (widened 2) old in
-    record {
-      apart = rw (t_is, u_is) (subst (λ (z : ℤ). (pos (4 * (r * r) * (h * h)) *ℤ z) <ℤ
-          (pos (h * h) *ℤ (wide 0 *ℤ wide 0 +ℤ wide 1 *ℤ wide 1) +ℤ pos (r * r) *ℤ (wide 2 *ℤ wide 2))) (sym (whole_of (pos m.c) (pos m.c))) new);
-    }
-  where
-    wide : ℕ → ℤ
-    wide axis = decoded u axis m *ℤ power (pos m.c) 7 -ℤ decoded t axis m *ℤ power (pos m.c) 7
-
-    times : (x y C : ℤ) → (y *ℤ C -ℤ x *ℤ C) *ℤ C ≡ (y -ℤ x) *ℤ (C *ℤ C)
-    times x y C = simp ring (omega (arith, linear))
-
-    widened : (axis : ℕ) → wide axis *ℤ power (pos m.c) 7 ≡ near_gap t u m axis *ℤ (power (pos m.c) 7 *ℤ power (pos m.c) 7)
-    widened axis = times (decoded t axis m) (decoded u axis m) (power (pos m.c) 7)
 
 -- ---- a list of trajectories
 
@@ -235,7 +207,7 @@ at_exact_point stray t p q some lasts =
 -- the inequality over these denominators
 abbrev Far : ℤ → ℤ → ℤ → (ℕ → ℤ) → (ℕ → ℤ) → ℤ → ℤ → Type 0
 Far k a b x y C D =
-    (k *ℤ square (C *ℤ D)) <ℤ (a *ℤ (square (y 0 *ℤ C -ℤ x 0 *ℤ D) +ℤ square (y 1 *ℤ C -ℤ x 1 *ℤ D)) +ℤ b *ℤ square (y 2 *ℤ C -ℤ x 2 *ℤ D))
+    (k *ℤ square (C *ℤ D)) ≤ℤ (a *ℤ (square (y 0 *ℤ C -ℤ x 0 *ℤ D) +ℤ square (y 1 *ℤ C -ℤ x 1 *ℤ D)) +ℤ b *ℤ square (y 2 *ℤ C -ℤ x 2 *ℤ D))
 
 pub exactly_apart : (r h stray late : ℕ) (trajs : List Traj) → All IsLasting trajs → FlyApart r h stray late trajs → FlyApartExactly r h trajs
 unfolding exact_point
@@ -250,9 +222,10 @@ exactly_apart r h stray late trajs lasting far a b t u differ t_is u_is p q some
     far a b t u differ t_is u_is p q p q some some t_before u_before (record { before = omega arith; after = omega arith }) (exact_point t p q) (exact_point u p q)
     (at_exact_point stray t p q some t_lasts) (at_exact_point stray u p q some u_lasts) in
     record {
-      apart = subst (λ (z : ℤ). (pos (4 * (r * r) * (h * h)) *ℤ z) <ℤ (pos (h * h) *ℤ (gap t u p q 0 *ℤ gap t u p q 0 +ℤ gap t u p q 1 *ℤ gap t u p q 1) +ℤ pos (r * r) *ℤ (gap t u p q 2 *ℤ gap t u p q 2)))
+      apart = subst (λ (z : ℤ). (pos (48 * (r * r) * (h * h) + 1) *ℤ z) ≤ℤ
+          (pos (12 * (h * h)) *ℤ (gap t u p q 0 *ℤ gap t u p q 0 +ℤ gap t u p q 1 *ℤ gap t u p q 1) +ℤ pos (12 * (r * r)) *ℤ (gap t u p q 2 *ℤ gap t u p q 2)))
           (sym (whole_of (pos (own t p q).c) (pos (own u p q).c)))
-          (over_these (pos (4 * (r * r) * (h * h))) (pos (h * h)) (pos (r * r)) (λ axis. decoded t axis (own t p q)) (λ axis. decoded u axis (own u p q)) first second none.apart);
+          (over_these (pos (48 * (r * r) * (h * h) + 1)) (pos (12 * (h * h))) (pos (12 * (r * r))) (λ axis. decoded t axis (own t p q)) (λ axis. decoded u axis (own u p q)) first second none.apart);
     }
   where
     over_these : (k a b : ℤ) (x y : ℕ → ℤ) {C D C' D' : ℤ} → C' ≡ C → D' ≡ D → Far k a b x y C' D' → Far k a b x y C D

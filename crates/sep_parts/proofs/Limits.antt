@@ -41,6 +41,17 @@ entry_square (negsuc zero) low high = omega (arith, ints)
 entry_square (negsuc (suc zero)) low high = omega (arith, ints)
 entry_square (negsuc (suc (suc n))) low high = absurd (omega (arith, ints))
 
+-- n . n
+pub length_small : (n : List ℤ) → AreSmall n → length_squared n ≤ℤ pos 12
+length_small n small =
+    omega (
+      arith,
+      linear,
+      entry_square (at n 0) (small.low 0 (omega arith)) (small.high 0 (omega arith)),
+      entry_square (at n 1) (small.low 1 (omega arith)) (small.high 1 (omega arith)),
+      entry_square (at n 2) (small.low 2 (omega arith)) (small.high 2 (omega arith)),
+    )
+
 axis_square : (r : ℕ) → IsAxis r → r * r ≤ 4000000
 axis_square r axis = grind arith
 
@@ -70,12 +81,9 @@ weight_square x below =
 -- ---- the three parts of a threshold
 pub ellipsoids_small : (c : Clearance) (n : List ℤ) → IsClearance c → AreSmall n → for_ellipsoids c n ≤ℤ pos (2 ^ 25)
 ellipsoids_small c n clear small =
-    let x : (at n 0 *ℤ at n 0) ≤ℤ pos 4 = entry_square (at n 0) (small.low 0 (omega arith)) (small.high 0 (omega arith)) in
-    let y : (at n 1 *ℤ at n 1) ≤ℤ pos 4 = entry_square (at n 1) (small.low 1 (omega arith)) (small.high 1 (omega arith)) in
-    let z : (at n 2 *ℤ at n 2) ≤ℤ pos 4 = entry_square (at n 2) (small.low 2 (omega arith)) (small.high 2 (omega arith)) in
     let area : 4 * (c.r * c.r) * (c.h * c.h) ≤ 64000000000000 = area_small (c.r * c.r) (c.h * c.h) (axis_square c.r clear.across) (axis_square c.h clear.upwards) in
     let first : (pos (4 * (c.r * c.r) * (c.h * c.h)) *ℤ length_squared n) ≤ℤ (pos (4 * (c.r * c.r) * (c.h * c.h)) *ℤ pos 12) =
-    le_mul_ℤ (pos (4 * (c.r * c.r) * (c.h * c.h))) (length_squared n) (pos 12) (omega (arith, linear)) (omega (arith, linear, x, y, z)) in
+    le_mul_ℤ (pos (4 * (c.r * c.r) * (c.h * c.h))) (length_squared n) (pos 12) (omega (arith, linear)) (length_small n small) in
     let root : root_above (limit_along c.r c.h n) ≤ 2 ^ 25 = root_small (limit_along c.r c.h n) (2 ^ 25) (below (4 * (c.r * c.r) * (c.h * c.h)) _ area first) in
     omega (arith, ints, root)
   where
@@ -104,10 +112,13 @@ way_small w reach below few = mul-le (unsigned_abs w) reach 4000 65536 (omega (a
 
 pub reach_small : (c : Clearance) (n : List ℤ) → IsClearance c → AreSmall n → for_reach c n ≤ℤ pos 786432000
 reach_small c n clear small =
-    omega (arith, ints,
-    way_small (at n 0 *ℤ pos c.h) (reach_on c 0) (weight_small n 0 c.h small (omega arith) clear.upwards) (clear.reach 0),
-    way_small (at n 1 *ℤ pos c.h) (reach_on c 1) (weight_small n 1 c.h small (omega arith) clear.upwards) (clear.reach 1),
-    way_small (at n 2 *ℤ pos c.r) (reach_on c 2) (weight_small n 2 c.r small (omega arith) clear.across) (clear.reach 2))
+    omega (
+      arith,
+      ints,
+      way_small (at n 0 *ℤ pos c.h) (reach_on c 0) (weight_small n 0 c.h small (omega arith) clear.upwards) (clear.reach 0),
+      way_small (at n 1 *ℤ pos c.h) (reach_on c 1) (weight_small n 1 c.h small (omega arith) clear.upwards) (clear.reach 1),
+      way_small (at n 2 *ℤ pos c.r) (reach_on c 2) (weight_small n 2 c.r small (omega arith) clear.across) (clear.reach 2),
+    )
 
 pub threshold_small : (c : Clearance) (n : List ℤ) → IsClearance c → AreSmall n → threshold c n <ℤ pos (2 ^ 30)
 threshold_small c n clear small =

@@ -1,11 +1,10 @@
 -- From the raised differences to the decoded positions.
-use Rattle.std.proofs.Common.{◌≡◌, refl, ℕ, zero, suc, ◌*◌, ◌≤◌, ◌<◌, ℤ, pos, negsuc, neg_ℤ, ◌+ℤ◌, ◌-ℤ◌, ◌*ℤ◌, ◌≤ℤ◌, ◌<ℤ◌, arith, sym, subst, ◌∙◌, ap, List, length}
+use Rattle.std.proofs.Common.{◌≡◌, refl, ℕ, zero, suc, ◌≤◌, ◌<◌, ℤ, pos, negsuc, neg_ℤ, ◌+ℤ◌, ◌-ℤ◌, ◌*ℤ◌, ◌≤ℤ◌, ◌<ℤ◌, arith, sym, ◌∙◌, ap, List, length}
 use Rattle.std.proofs.lemmas.Int.{ints}
 use Rattle.fleet_math.specs.Sums.{power}
 use Rattle.fleet_math.specs.Bernstein.{at, bernstein}
 use Rattle.fleet_math.specs.Moments.{Moment}
 use Rattle.fleet_math.specs.Decoded as plain
-use Rattle.fleet_math.proofs.SumLemmas.{power-add}
 use Rattle.fleet_math.proofs.RingLemmas.{ring, linear, le_from_mul_ℤ, one_mul_ℤ, neg_mul_ℤ}
 use Rattle.fleet_math.proofs.BernsteinLemmas.{bernstein-same, bernstein-mix, cong_add}
 use Rattle.bezier_core.specs.declared.Bez.{Bez}
@@ -16,7 +15,7 @@ use Rattle.traj_codec.specs.declared.traj.Traj.{Traj}
 use Rattle.traj_codec.specs.Positions.{decoded, points}
 use Rattle.fleet_curves.specs.Raised.{Raised, curves_at, difference, less, raised_in}
 use Rattle.sep_parts.specs.declared.clearance.Clearance.{Clearance}
-use Rattle.sep_parts.specs.Directions.{threshold, weights}
+use Rattle.sep_parts.specs.Directions.{AreSmall, threshold, weights}
 use Rattle.sep_parts.proofs.Lifts.{near_gap}
 use Rattle.sep_parts.proofs.Strays.{dot}
 use Rattle.sep_parts.proofs.Directed.{IsSeenRaised, cue_of}
@@ -76,6 +75,7 @@ along_unscaled t u v w s k x y z positive along =
 -- Along some direction the second drone is at least its threshold from the first, where both are over one c.
 pub record IsSeenAt (clear : Clearance) (t u : Traj) (m : Moment) : Type 0 where
   pub n : List ℤ
+  pub small : AreSmall n
   pub along : (threshold clear n *ℤ power (pos m.c) 7) ≤ℤ dot (at (weights n clear.r clear.h)) (near_gap t u m)
 
 -- Where the raised differences are that far apart at a moment, the decoded positions are.
@@ -88,6 +88,7 @@ decoded_seen clear curves a b t u m first_is second_is t_in u_in t_few u_few see
     λ axis near. less_value t u m axis (curves_at curves a m.cue) (curves_at curves b m.cue) first_is second_is t_in u_in near (t_few axis near) (u_few axis near) in
     record {
       n = seen.n;
+      small = seen.small;
       along = along_unscaled (threshold clear seen.n) (at seen.n 0 *ℤ pos clear.h) (at seen.n 1 *ℤ pos clear.h) (at seen.n 2 *ℤ pos clear.r) (pos 5040) (power (pos m.c) 7)
           (near_gap t u m 0) (near_gap t u m 1) (near_gap t u m 2) (omega (arith, ints))
           (rw (← value 0 (omega arith), ← value 1 (omega arith), ← value 2 (omega arith)) seen.along);

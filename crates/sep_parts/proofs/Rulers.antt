@@ -1,6 +1,5 @@
 -- What a ruler tells of a part.
-use Rattle.std.proofs.Common.{◌≡◌, ℕ, ◌^◌, ◌≤◌, ◌<◌, ℤ, pos, ◌≤ℤ◌, ◌<ℤ◌, ◌↔◌, IsTrue, Bool, true, false, refl, sym, ◌∙◌, ap, arith, List, [], length, get_or, Option, Some, None, is_none, to_z, of_z}
-use Rattle.std.proofs.lemmas.Int.{ints}
+use Rattle.std.proofs.Common.{◌≡◌, ℕ, ◌^◌, ◌≤◌, ◌<◌, ℤ, pos, ◌≤ℤ◌, ◌<ℤ◌, ◌↔◌, IsTrue, Bool, true, false, refl, sym, ◌∙◌, ap, List, [], length, get_or, Option, Some, None, is_none, to_z, of_z}
 use Rattle.std.proofs.lemmas.List.Elements.{All-get_or}
 use mir.Syntax.{w128}
 use Rattle.fleet_math.specs.Bernstein.{at}

@@ -1,20 +1,21 @@
 -- From what is seen along a direction to the ellipsoids around all points that two drones may be at.
-use Rattle.std.proofs.Common.{◌≡◌, ℕ, ◌+◌, ◌*◌, ◌≤◌, ℤ, pos, neg_ℤ, ◌+ℤ◌, ◌-ℤ◌, ◌*ℤ◌, ◌≤ℤ◌, ◌<ℤ◌, unsigned_abs, arith, refl, sym, ap, ◌∙◌, subst, List}
+use Rattle.std.proofs.Common.{◌≡◌, ℕ, ◌+◌, ◌*◌, ◌≤◌, ℤ, pos, neg_ℤ, ◌+ℤ◌, ◌-ℤ◌, ◌*ℤ◌, ◌≤ℤ◌, ◌<ℤ◌, unsigned_abs, arith, refl, sym, ap, subst, List}
 use Rattle.std.proofs.lemmas.Int.{ints, by_lt_z}
 use Rattle.fleet_math.specs.Sums.{power}
 use Rattle.fleet_math.specs.Numbers.{IsIn}
 use Rattle.fleet_math.specs.Bernstein.{at}
 use Rattle.fleet_math.specs.Moments.{Moment}
-use Rattle.fleet_math.proofs.RingLemmas.{ring, linear, le_mul_ℤ, lt_mul_ℤ, mul_comm_ℤ, mul_positive, mul_not_negative}
+use Rattle.fleet_math.proofs.RingLemmas.{ring, linear, le_mul_ℤ, lt_mul_ℤ, mul_add_ℤ, mul_comm_ℤ, mul_positive, mul_not_negative, mul_zero_ℤ, one_mul_ℤ, zero_mul_ℤ}
 use Rattle.fleet_math.proofs.DivisionLemmas.{square_le}
 use Rattle.traj_codec.specs.declared.traj.Traj.{Traj}
 use Rattle.traj_codec.specs.Positions.{decoded}
 use Rattle.traj_codec.specs.Joined.{own}
 use Rattle.sep_parts.specs.declared.clearance.Clearance.{Clearance}
-use Rattle.sep_parts.specs.Directions.{for_ellipsoids, for_reach, for_strays, length_squared, limit_along, reach_on, stray_limit, threshold, weights}
-use Rattle.sep_parts.specs.Apart.{AreTogether, MayBeAt, Point, ShareNoPoint, aside, between, square, way}
+use Rattle.sep_parts.specs.Directions.{AreSmall, for_ellipsoids, for_reach, for_strays, length_squared, limit_along, reach_on, threshold, weights}
+use Rattle.sep_parts.specs.Apart.{AreTogether, MayBeAt, Point, ShareNoPoint, between, square, way}
 use Rattle.sep_parts.proofs.Cauchy.{cauchy, square_positive}
 use Rattle.sep_parts.proofs.Lifts.{seventh_positive}
+use Rattle.sep_parts.proofs.Limits.{length_small}
 use Rattle.sep_parts.proofs.Positions.{IsSeenAt}
 use Rattle.sep_parts.proofs.Roots.{laws}
 use Rattle.sep_parts.proofs.Strays.{dot, dot_within, points_apart, sizes_dot, way_low}
@@ -22,18 +23,54 @@ use Rattle.sep_parts.proofs.Strays.{dot, dot_within, points_apart, sizes_dot, wa
 squares : (t k : ℤ) → (t *ℤ k) *ℤ (t *ℤ k) ≡ (t *ℤ t) *ℤ (k *ℤ k)
 squares t k = simp ring refl
 
-turn : (n r k : ℤ) → n *ℤ (r *ℤ (k *ℤ k)) ≡ (r *ℤ n) *ℤ (k *ℤ k)
-turn n r k = simp ring refl
+-- n times both sides
+times_right : (v n r k : ℤ) → ((v *ℤ r) *ℤ (k *ℤ k) +ℤ k *ℤ k) *ℤ n ≡ v *ℤ ((r *ℤ n) *ℤ (k *ℤ k)) +ℤ n *ℤ (k *ℤ k)
+times_right v n r k = simp ring (omega (arith, linear))
 
--- Cauchy's inequality against the threshold
-pub above_from : (t k n r q w : ℤ) → pos 0 ≤ℤ t → pos 0 <ℤ k → pos 0 ≤ℤ n → (r *ℤ n) <ℤ (t *ℤ t) → (t *ℤ k) ≤ℤ w → (w *ℤ w) ≤ℤ (n *ℤ q) →
-    (r *ℤ (k *ℤ k)) <ℤ q
-above_from t k n r q w t_pos k_pos n_pos threshold along bound = by_lt_z (r *ℤ (k *ℤ k)) q (λ h. h)
-    (λ (small : q ≤ℤ (r *ℤ (k *ℤ k))).
-    let first : ((t *ℤ k) *ℤ (t *ℤ k)) ≤ℤ (w *ℤ w) = square_le (t *ℤ k) w (mul_not_negative t k t_pos (omega (arith, linear))) along in
-    let second : (n *ℤ q) ≤ℤ (n *ℤ (r *ℤ (k *ℤ k))) = le_mul_ℤ n q (r *ℤ (k *ℤ k)) n_pos small in
-    let third : ((r *ℤ n) *ℤ (k *ℤ k)) <ℤ ((t *ℤ t) *ℤ (k *ℤ k)) = lt_mul_ℤ (r *ℤ n) (t *ℤ t) (k *ℤ k) (mul_positive k k k_pos k_pos) threshold in
-    absurd (omega (arith, linear, squares t k, turn n r k)))
+times_left : (v n q : ℤ) → (v *ℤ q) *ℤ n ≡ v *ℤ (n *ℤ q)
+times_left v n q = simp ring refl
+
+-- Cauchy's inequality against the threshold t, where the square of t is a whole number above r n and n is at most v
+pub above_from : (v t k n r q w : ℤ) → pos 0 ≤ℤ t → pos 0 <ℤ k → pos 0 ≤ℤ n → pos 0 ≤ℤ v → n ≤ℤ v → (r *ℤ n) <ℤ (t *ℤ t) → (t *ℤ k) ≤ℤ w → (w *ℤ w) ≤ℤ (n *ℤ q) →
+    ((v *ℤ r) *ℤ (k *ℤ k) +ℤ k *ℤ k) ≤ℤ (v *ℤ q)
+above_from v t k n r q w t_pos k_pos n_pos v_pos small threshold along bound =
+    by_lt_z (v *ℤ q) ((v *ℤ r) *ℤ (k *ℤ k) +ℤ k *ℤ k)
+    (λ near. absurd (by_lt_z (pos 0) n
+    (λ some.
+    let turned : ((v *ℤ q) *ℤ n) <ℤ (((v *ℤ r) *ℤ (k *ℤ k) +ℤ k *ℤ k) *ℤ n) = lt_mul_ℤ (v *ℤ q) ((v *ℤ r) *ℤ (k *ℤ k) +ℤ k *ℤ k) n some near in
+    omega (arith, linear, turned, times_left v n q, times_right v n r k, few, spread v, le_mul_ℤ v (((r *ℤ n) *ℤ (k *ℤ k)) +ℤ k *ℤ k) (n *ℤ q) v_pos enough))
+    (λ none. omega (arith, linear, enough, k_square, nothing n q (omega (arith, linear, none, n_pos)), nothing_left n r k (omega (arith, linear, none, n_pos))))))
+    (λ h. h)
+  where
+    k_square : pos 0 <ℤ (k *ℤ k)
+    k_square = mul_positive k k k_pos k_pos
+
+    -- r n and one more is at most the square of t
+    enough : ((r *ℤ n) *ℤ (k *ℤ k) +ℤ k *ℤ k) ≤ℤ (n *ℤ q)
+    enough =
+        omega (
+          arith,
+          linear,
+          bound,
+          squares t k,
+          square_le (t *ℤ k) w (mul_not_negative t k t_pos (omega (arith, linear, k_pos))) along,
+          more (r *ℤ n) (t *ℤ t) (k *ℤ k) threshold (omega (arith, linear, k_square)),
+        )
+      where
+        more : (x y z : ℤ) → x <ℤ y → pos 0 ≤ℤ z → (x *ℤ z +ℤ z) ≤ℤ (y *ℤ z)
+        more x y z less low = omega (arith, linear, le_mul_ℤ z (x +ℤ pos 1) y low (omega (arith, linear, less)), mul_add_ℤ z x (pos 1), mul_comm_ℤ z x, mul_comm_ℤ z y, mul_comm_ℤ z (pos 1), one_mul_ℤ z)
+
+    few : (n *ℤ (k *ℤ k)) ≤ℤ (v *ℤ (k *ℤ k))
+    few = omega (arith, linear, le_mul_ℤ (k *ℤ k) n v (omega (arith, linear, k_square)) small, mul_comm_ℤ (k *ℤ k) n, mul_comm_ℤ (k *ℤ k) v)
+
+    spread : (v : ℤ) → v *ℤ (((r *ℤ n) *ℤ (k *ℤ k)) +ℤ k *ℤ k) ≡ v *ℤ ((r *ℤ n) *ℤ (k *ℤ k)) +ℤ v *ℤ (k *ℤ k)
+    spread v = mul_add_ℤ v ((r *ℤ n) *ℤ (k *ℤ k)) (k *ℤ k)
+
+    nothing : (n q : ℤ) → n ≡ pos 0 → n *ℤ q ≡ pos 0
+    nothing n q e = rw e (zero_mul_ℤ q)
+
+    nothing_left : (n r k : ℤ) → n ≡ pos 0 → (r *ℤ n) *ℤ (k *ℤ k) ≡ pos 0
+    nothing_left n r k e = rw (e, mul_zero_ℤ r) (zero_mul_ℤ (k *ℤ k))
 
 -- h^2 (x^2 + y^2) + r^2 z^2 as three squares
 three_squares : (h r x y z : ℤ) → (h *ℤ x) *ℤ (h *ℤ x) +ℤ (h *ℤ y) *ℤ (h *ℤ y) +ℤ (r *ℤ z) *ℤ (r *ℤ z) ≡ (h *ℤ h) *ℤ (x *ℤ x +ℤ y *ℤ y) +ℤ (r *ℤ r) *ℤ (z *ℤ z)
@@ -42,16 +79,30 @@ three_squares h r x y z = simp ring (omega (arith, linear))
 spread_weights : (u v w h r x y z : ℤ) → (u *ℤ h) *ℤ x +ℤ (v *ℤ h) *ℤ y +ℤ (w *ℤ r) *ℤ z ≡ u *ℤ (h *ℤ x) +ℤ v *ℤ (h *ℤ y) +ℤ w *ℤ (r *ℤ z)
 spread_weights u v w h r x y z = simp ring refl
 
+-- twelve times each side
+right_side : (x y : ℕ) (z : ℤ) → (pos 12 *ℤ pos (4 * x * y)) *ℤ z +ℤ z ≡ pos (48 * x * y + 1) *ℤ z
+right_side x y z = let e : 48 * x * y ≡ 12 * (4 * x * y) = omega arith in rw e (one_more (4 * x * y) z)
+  where
+    one_more : (n : ℕ) (z : ℤ) → (pos 12 *ℤ pos n) *ℤ z +ℤ z ≡ pos (12 * n + 1) *ℤ z
+    one_more n z = omega (arith, ints)
+
+left_side : (x y : ℕ) (u v : ℤ) → pos 12 *ℤ (pos x *ℤ u +ℤ pos y *ℤ v) ≡ pos (12 * x) *ℤ u +ℤ pos (12 * y) *ℤ v
+left_side x y u v = omega (arith, ints)
+
 -- Along n the points are t over k apart, where the square of t is above 4 r^2 h^2 (n . n): then the ellipsoids around them share no point.
-share_none : (n : List ℤ) (r h : ℕ) (t k : ℤ) (g : ℕ → ℤ) → pos 0 ≤ℤ t → pos 0 <ℤ k → limit_along r h n <ℤ (t *ℤ t) → (t *ℤ k) ≤ℤ dot (at (weights n r h)) g →
-    (pos (4 * (r * r) * (h * h)) *ℤ square k) <ℤ (pos (h * h) *ℤ (square (g 0) +ℤ square (g 1)) +ℤ pos (r * r) *ℤ square (g 2))
-share_none n r h t k g t_low k_pos above along =
+share_none : (n : List ℤ) (r h : ℕ) (t k : ℤ) (g : ℕ → ℤ) → AreSmall n → pos 0 ≤ℤ t → pos 0 <ℤ k → limit_along r h n <ℤ (t *ℤ t) → (t *ℤ k) ≤ℤ dot (at (weights n r h)) g →
+    (pos (48 * (r * r) * (h * h) + 1) *ℤ square k) ≤ℤ (pos (12 * (h * h)) *ℤ (square (g 0) +ℤ square (g 1)) +ℤ pos (12 * (r * r)) *ℤ square (g 2))
+share_none n r h t k g small t_low k_pos above along =
     let w : ℤ = at n 0 *ℤ (pos h *ℤ g 0) +ℤ at n 1 *ℤ (pos h *ℤ g 1) +ℤ at n 2 *ℤ (pos r *ℤ g 2) in
     let far : (t *ℤ k) ≤ℤ w = rw (← spread_weights (at n 0) (at n 1) (at n 2) (pos h) (pos r) (g 0) (g 1) (g 2)) along in
     let bound : (w *ℤ w) ≤ℤ (length_squared n *ℤ (pos (h * h) *ℤ (g 0 *ℤ g 0 +ℤ g 1 *ℤ g 1) +ℤ pos (r * r) *ℤ (g 2 *ℤ g 2))) =
     rw (← three_squares (pos h) (pos r) (g 0) (g 1) (g 2)) (cauchy (at n 0) (at n 1) (at n 2) (pos h *ℤ g 0) (pos h *ℤ g 1) (pos r *ℤ g 2)) in
-    above_from t k (length_squared n) (pos (4 * (r * r) * (h * h))) _ w t_low k_pos
-    (omega (arith, linear, square_positive (at n 0), square_positive (at n 1), square_positive (at n 2))) above far bound
+    both (right_side (r * r) (h * h) (k *ℤ k)) (left_side (h * h) (r * r) (g 0 *ℤ g 0 +ℤ g 1 *ℤ g 1) (g 2 *ℤ g 2))
+    (above_from (pos 12) t k (length_squared n) (pos (4 * (r * r) * (h * h))) _ w t_low k_pos
+    (omega (arith, linear, square_positive (at n 0), square_positive (at n 1), square_positive (at n 2))) (omega (arith, ints)) (length_small n small) above far bound)
+  where
+    both : {x y z t : ℤ} → x ≡ y → z ≡ t → x ≤ℤ z → y ≤ℤ t
+    both {x} {y} {z} {t} p q h = omega (arith, linear)
 
 -- ---- what is kept of a threshold
 -- the strays' part in the words of the algebra
@@ -100,7 +151,7 @@ seen_apart clear t u p q s w m first second m_some w_some t_is u_is seen moves a
     subst (λ (z : ℤ). neg_ℤ (z *ℤ (C *ℤ D)) ≤ℤ dot W (λ i. decoded u i (own u s w) *ℤ C -ℤ decoded u i m *ℤ D)) (sym (reach_is clear seen.n))
     (way_low W (λ i. decoded u i (own u s w) *ℤ C -ℤ decoded u i m *ℤ D) (λ axis. pos (reach_on clear axis)) (C *ℤ D) (rw u_is at moves)) in
     record {
-      apart = share_none seen.n clear.r clear.h low (d *ℤ e) (between first second) (omega (arith, ints)) (mul_positive d e d_pos e_pos) (laws.ellipsoids clear seen.n).above
+      apart = share_none seen.n clear.r clear.h low (d *ℤ e) (between first second) seen.small (omega (arith, ints)) (mul_positive d e d_pos e_pos) (laws.ellipsoids clear seen.n).above
           (points_apart W (λ i. decoded t i m) (λ i. decoded u i m) (λ i. decoded u i (own u s w)) first.on second.on C D d e low stray late C_pos D_pos d_pos e_pos seen.along off_first off_second moved);
     }
 
@@ -111,15 +162,16 @@ turned x y d e = simp ring (omega (arith, linear))
 -- Two ellipsoids share no point whichever is named first.
 pub share_none_turned : (r h : ℕ) (first second : Point) → ShareNoPoint r h first second → ShareNoPoint r h second first
 share_none_turned r h first second none = record {
-  apart = numbers (pos (4 * (r * r) * (h * h))) (pos (h * h)) (pos (r * r)) (pos first.over) (pos second.over) (first.on 0) (first.on 1) (first.on 2) (second.on 0) (second.on 1) (second.on 2) none.apart;
+  apart = numbers (pos (48 * (r * r) * (h * h) + 1)) (pos (12 * (h * h))) (pos (12 * (r * r))) (pos first.over) (pos second.over)
+      (first.on 0) (first.on 1) (first.on 2) (second.on 0) (second.on 1) (second.on 2) none.apart;
 }
   where
-    numbers : (k a b d e x y z u v w : ℤ) → (k *ℤ square (d *ℤ e)) <ℤ (a *ℤ (square (u *ℤ d -ℤ x *ℤ e) +ℤ square (v *ℤ d -ℤ y *ℤ e)) +ℤ b *ℤ square (w *ℤ d -ℤ z *ℤ e)) →
-        (k *ℤ square (e *ℤ d)) <ℤ (a *ℤ (square (x *ℤ e -ℤ u *ℤ d) +ℤ square (y *ℤ e -ℤ v *ℤ d)) +ℤ b *ℤ square (z *ℤ e -ℤ w *ℤ d))
+    numbers : (k a b d e x y z u v w : ℤ) → (k *ℤ square (d *ℤ e)) ≤ℤ (a *ℤ (square (u *ℤ d -ℤ x *ℤ e) +ℤ square (v *ℤ d -ℤ y *ℤ e)) +ℤ b *ℤ square (w *ℤ d -ℤ z *ℤ e)) →
+        (k *ℤ square (e *ℤ d)) ≤ℤ (a *ℤ (square (x *ℤ e -ℤ u *ℤ d) +ℤ square (y *ℤ e -ℤ v *ℤ d)) +ℤ b *ℤ square (z *ℤ e -ℤ w *ℤ d))
     numbers k a b d e x y z u v w far =
         swap (ap (λ (n : ℤ). k *ℤ square n) (mul_comm_ℤ d e)) (sums (turned x u d e) (turned y v d e) (turned z w d e)) far
       where
-        swap : {x y z t : ℤ} → x ≡ z → y ≡ t → x <ℤ y → z <ℤ t
+        swap : {x y z t : ℤ} → x ≡ z → y ≡ t → x ≤ℤ y → z ≤ℤ t
         swap {x} {y} {z} {t} p q h = omega (arith, linear)
 
         sums : {x y z u v w : ℤ} → x ≡ u → y ≡ v → z ≡ w → a *ℤ (x +ℤ y) +ℤ b *ℤ z ≡ a *ℤ (u +ℤ v) +ℤ b *ℤ w

@@ -1,5 +1,5 @@
 -- How large the numbers of a search get.
-use Rattle.std.proofs.Common.{ℕ, ◌*◌, ◌^◌, ◌≤◌, ℤ, pos, neg_ℤ, ◌*ℤ◌, ◌≤ℤ◌, ◌<ℤ◌, unsigned_abs, arith, List, All, lit<}
+use Rattle.std.proofs.Common.{ℕ, ◌*◌, ◌^◌, ◌≤◌, ℤ, pos, ◌*ℤ◌, ◌≤ℤ◌, ◌<ℤ◌, unsigned_abs, arith, List, All, lit<}
 use Rattle.std.proofs.lemmas.Int.{ints, unsigned_abs-mul}
 use Rattle.std.proofs.lemmas.Nat.{mul-le}
 use Rattle.std.proofs.Math.Nat.{pow-le-pow_right}
@@ -12,7 +12,7 @@ use Rattle.halving.specs.declared.Place.{Place}
 use Rattle.halving.specs.Part.{part_value}
 use Rattle.halving.specs.Places.{IsPlace}
 use Rattle.sep_parts.specs.declared.clearance.Clearance.{Clearance}
-use Rattle.sep_parts.specs.Directions.{AreSmall, IsAxis, IsClearance, threshold}
+use Rattle.sep_parts.specs.Directions.{AreSmall, IsClearance, threshold}
 use Rattle.sep_parts.specs.Separates.{least_value}
 use Rattle.sep_parts.specs.Sizes.{HasSmallNumbers}
 use Rattle.sep_parts.proofs.Limits.{threshold_low, threshold_small, weight_small}

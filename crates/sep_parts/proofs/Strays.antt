@@ -1,9 +1,8 @@
 -- What strays and late starts take from a distance along a direction: the algebra, over plain whole numbers.
-use Rattle.std.proofs.Common.{◌≡◌, ℕ, zero, suc, ◌*◌, ◌≤◌, ℤ, pos, negsuc, neg_ℤ, ◌+ℤ◌, ◌-ℤ◌, ◌*ℤ◌, ◌≤ℤ◌, ◌<ℤ◌, unsigned_abs, arith, refl, sym, ◌∙◌, ap}
+use Rattle.std.proofs.Common.{◌≡◌, ℕ, suc, ◌≤◌, ℤ, pos, negsuc, neg_ℤ, ◌+ℤ◌, ◌-ℤ◌, ◌*ℤ◌, ◌≤ℤ◌, ◌<ℤ◌, unsigned_abs, arith, refl}
 use Rattle.std.proofs.lemmas.Int.{ints, by_lt_z}
 use Rattle.fleet_math.specs.Numbers.{IsIn}
 use Rattle.fleet_math.proofs.RingLemmas.{ring, linear, le_mul_ℤ, lt_mul_ℤ, le_from_mul_ℤ, mul_positive, mul_not_negative, mul_comm_ℤ, mul_assoc_ℤ, mul_neg_ℤ, neg_mul_ℤ}
-use Rattle.fleet_math.proofs.DivisionLemmas.{square_le}
 use Rattle.sep_parts.proofs.Cauchy.{cauchy, square_positive}
 
 -- the sum of three products: of weights with the values on the three axes
@@ -70,8 +69,14 @@ sizes_dot w m = dot (λ i. pos (unsigned_abs (w i))) m
 -- A drone moves by f, on each axis at most m over n. Along the weights that is at least minus their sizes times m, over n.
 pub way_low : (w f m : ℕ → ℤ) (n : ℤ) → ((i : ℕ) → i ≤ 2 → IsIn (neg_ℤ (m i *ℤ n)) (m i *ℤ n) (f i)) → neg_ℤ (sizes_dot w m *ℤ n) ≤ℤ dot w f
 way_low w f m n within =
-    omega (arith, linear, term_low (w 0) (f 0) (m 0 *ℤ n) (within 0 (omega arith)), term_low (w 1) (f 1) (m 1 *ℤ n) (within 1 (omega arith)), term_low (w 2) (f 2) (m 2 *ℤ n) (within 2 (omega arith)),
-    reach_ring (pos (unsigned_abs (w 0))) (pos (unsigned_abs (w 1))) (pos (unsigned_abs (w 2))) (m 0) (m 1) (m 2) n)
+    omega (
+      arith,
+      linear,
+      term_low (w 0) (f 0) (m 0 *ℤ n) (within 0 (omega arith)),
+      term_low (w 1) (f 1) (m 1 *ℤ n) (within 1 (omega arith)),
+      term_low (w 2) (f 2) (m 2 *ℤ n) (within 2 (omega arith)),
+      reach_ring (pos (unsigned_abs (w 0))) (pos (unsigned_abs (w 1))) (pos (unsigned_abs (w 2))) (m 0) (m 1) (m 2) n,
+    )
 
 -- ---- all of it
 -- The first drone's curve is at t over C, and its point at x over d; the second drone's curve is at u over C then, and at v over D at its own

@@ -1,9 +1,11 @@
--- The entries of the table are small.
-use Rattle.std.proofs.Common.{◌≡◌, ℕ, zero, suc, ◌≤◌, ℤ, pos, negsuc, neg_ℤ, ◌≤ℤ◌, Bool, true, false, ◌&&◌, not, int_lt, arith, refl, List, [], ◌∷◌, All}
+-- The entries of the tables are small.
+use Rattle.std.proofs.Common.{◌≡◌, ℕ, zero, suc, ◌≤◌, ℤ, pos, negsuc, neg_ℤ, ◌≤ℤ◌, Bool, true, false, ◌&&◌, not, int_lt, ◌==◌, cond, arith, refl, List, [], ◌∷◌, All}
 use Rattle.std.proofs.lemmas.Int.{ints}
-use Rattle.std.proofs.lemmas.List.Elements.{All-cons}
+use Rattle.std.proofs.lemmas.List.Elements.{All-cons, All-head, All-tail}
 use Rattle.fleet_math.specs.Bernstein.{at}
-use Rattle.sep_parts.specs.Directions.{AreSmall}
+use Rattle.sep_parts.specs.declared.directions.TheConstants.{DIRECTIONS, WIDE}
+use Rattle.sep_parts.specs.Directions.{AreSmall, direction_of}
+use Rattle.sep_parts.specs.Versions.{table_of}
 
 abbrev is_small : ℤ → Bool
 is_small z = not (int_lt z (negsuc 1)) && not (int_lt (pos 2) z)
@@ -51,3 +53,18 @@ small_table [] e = λ k d inside. absurd (omega arith)
 small_table (n ∷ rest) e =
     let parts = both (is_small (at n 0) && is_small (at n 1) && is_small (at n 2)) (all_small rest) e in
     All-cons AreSmall n rest (small_row n parts.0) (small_table rest parts.1)
+
+-- the table that a certificate's version names
+pub table_small : (version : ℕ) → All AreSmall (table_of version)
+unfolding table_of
+table_small version = go (version == 1)
+  where
+    go : (b : Bool) → All AreSmall (cond b DIRECTIONS.n WIDE.n)
+    go true = small_table DIRECTIONS.n refl
+    go false = small_table WIDE.n refl
+
+-- a direction that a number names; past the table it has no entries, which are read as 0
+pub direction_small : (dirs : List (List ℤ)) (dir : ℕ) → All AreSmall dirs → AreSmall (direction_of dirs dir)
+direction_small [] dir small = record { low = λ k near. omega (arith, ints); high = λ k near. omega (arith, ints) }
+direction_small (n ∷ rest) zero small = All-head AreSmall n rest small
+direction_small (n ∷ rest) (suc dir) small = direction_small rest dir (All-tail AreSmall n rest small)

@@ -1,6 +1,6 @@
 -- When two drones are apart, and when a whole show is. Drones stray from their curves, and one is later than the other: so a show is apart where
 -- drones are at whatever points they may be at, each near to where its curve puts it, at instants that are near to one another.
-use Rattle.std.specs.Prelude.{◌≡◌, ℕ, ◌+◌, ◌*◌, ◌≤◌, ℤ, pos, neg_ℤ, ◌+ℤ◌, ◌-ℤ◌, ◌*ℤ◌, ◌≤ℤ◌, ◌<ℤ◌, List, Some, slice_get, sum, All, map}
+use Rattle.std.specs.Prelude.{◌≡◌, ℕ, ◌+◌, ◌*◌, ◌≤◌, ℤ, pos, neg_ℤ, ◌+ℤ◌, ◌-ℤ◌, ◌*ℤ◌, ◌≤ℤ◌, List, Some, slice_get, sum, All, map}
 use Rattle.fleet_math.specs.Sums.{power}
 use Rattle.fleet_math.specs.Numbers.{IsIn}
 use Rattle.traj_codec.specs.declared.traj.Traj.{Traj}
@@ -40,15 +40,17 @@ pub record AreTogether (late p q s w : ℕ) : Type 0 where
 abbrev pub between : Point → Point → ℕ → ℤ
 between first second axis = second.on axis *ℤ pos first.over -ℤ first.on axis *ℤ pos second.over
 
--- The closed ellipsoids of half axes r, r, h around two points share no point: h^2 (dX^2 + dY^2) + r^2 dZ^2 is above 4 r^2 h^2, where dX, dY and
--- dZ are how far the points are from one another, and both sides are multiplied by the squares of the denominators.
+-- The closed ellipsoids of half axes r, r, h around two points share no point, with a margin: 12 h^2 (dX^2 + dY^2) + 12 r^2 dZ^2 is at least
+-- 48 r^2 h^2 + 1, where dX, dY and dZ are how far the points are from one another, and both sides are multiplied by the squares of the denominators.
+-- They share no point exactly where h^2 (dX^2 + dY^2) + r^2 dZ^2 is above 4 r^2 h^2. The margin makes an inequality of it that limits keep: what it
+-- says of all instants and points that are fractions, it says of all real ones.
 pub record ShareNoPoint (r h : ℕ) (first second : Point) : Type 0 where
   pub apart :
-      (pos (4 * (r * r) * (h * h)) *ℤ square (pos first.over *ℤ pos second.over))
-      <ℤ (pos (h * h) *ℤ (square (between first second 0) +ℤ square (between first second 1)) +ℤ pos (r * r) *ℤ square (between first second 2))
+      (pos (48 * (r * r) * (h * h) + 1) *ℤ square (pos first.over *ℤ pos second.over))
+      ≤ℤ (pos (12 * (h * h)) *ℤ (square (between first second 0) +ℤ square (between first second 1)) +ℤ pos (12 * (r * r)) *ℤ square (between first second 2))
 
--- The ellipsoids around two different drones share no point, whatever points these may be at, at whatever instants of the show that are at most
--- `late` ms apart.
+-- The ellipsoids around any two different drones share no point, whatever points these may be at, at whatever instants of the show that are at
+-- most `late` ms apart.
 abbrev pub FlyApart : (r h stray late : ℕ) → List Traj → Type 0
 FlyApart r h stray late trajs =
     (a b : ℕ) (t u : Traj) → (a ≡ b → ⊥) → slice_get trajs a ≡ Some t → slice_get trajs b ≡ Some u →
@@ -61,14 +63,14 @@ FlyApart r h stray late trajs =
 abbrev pub gap : Traj → Traj → ℕ → ℕ → ℕ → ℤ
 gap t u p q axis = decoded u axis (own u p q) *ℤ power (pos (own t p q).c) 7 -ℤ decoded t axis (own t p q) *ℤ power (pos (own u p q).c) 7
 
--- The closed ellipsoids of half axes r, r, h around the decoded positions of two drones share no point at the instant p / q:
--- h^2 (dX^2 + dY^2) + r^2 dZ^2 is above 4 r^2 h^2 (c1 c2)^14, where dX, dY and dZ are the gaps.
+-- The closed ellipsoids of half axes r, r, h around the decoded positions of two drones share no point at the instant p / q, with the same margin:
+-- 12 h^2 (dX^2 + dY^2) + 12 r^2 dZ^2 is at least (48 r^2 h^2 + 1) (c1 c2)^14, where dX, dY and dZ are the gaps.
 pub record AreApart (t u : Traj) (r h p q : ℕ) : Type 0 where
   pub apart :
-      (pos (4 * (r * r) * (h * h)) *ℤ power (pos (own t p q).c *ℤ pos (own u p q).c) 14)
-      <ℤ (pos (h * h) *ℤ (gap t u p q 0 *ℤ gap t u p q 0 +ℤ gap t u p q 1 *ℤ gap t u p q 1) +ℤ pos (r * r) *ℤ (gap t u p q 2 *ℤ gap t u p q 2))
+      (pos (48 * (r * r) * (h * h) + 1) *ℤ power (pos (own t p q).c *ℤ pos (own u p q).c) 14)
+      ≤ℤ (pos (12 * (h * h)) *ℤ (gap t u p q 0 *ℤ gap t u p q 0 +ℤ gap t u p q 1 *ℤ gap t u p q 1) +ℤ pos (12 * (r * r)) *ℤ (gap t u p q 2 *ℤ gap t u p q 2))
 
--- Each two different drones are apart at each instant p / q of the show.
+-- Any two different drones are apart at each instant p / q of the show.
 abbrev pub FlyApartExactly : (r h : ℕ) → List Traj → Type 0
 FlyApartExactly r h trajs =
     (a b : ℕ) (t u : Traj) → (a ≡ b → ⊥) → slice_get trajs a ≡ Some t → slice_get trajs b ≡ Some u →
@@ -95,7 +97,7 @@ abbrev pub KeepsApart : Raised → Clearance → Type 0
 KeepsApart curves c = (trajs : List Traj) → CurvesStandFor curves trajs → KeepReach c trajs → FlyApart c.r c.h c.stray c.late trajs
 
 -- ---- laws
--- What is apart by some segments is apart by others that make the same two curves.
+-- What is apart by some segments is apart by others of the same two curves.
 abbrev pub ApartLaw : Type 0
 ApartLaw = (t u other_t other_u : Traj) (r h p q : ℕ) → 1 ≤ q → IsLasting t → IsLasting u → IsLasting other_t → IsLasting other_u →
     SameCurve t other_t → SameCurve u other_u → AreApart t u r h p q → AreApart other_t other_u r h p q
@@ -104,7 +106,6 @@ ApartLaw = (t u other_t other_u : Traj) (r h p q : ℕ) → 1 ≤ q → IsLastin
 abbrev pub SentLaw : Type 0
 SentLaw = (r h stray late : ℕ) (trajs : List Traj) → All IsLasting trajs → FlyApart r h stray late trajs → FlyApart r h stray late (map joined trajs)
 
--- What flies apart while it strays and is late does so where nobody strays or is late; and with no stray and nobody late that is all.
+-- What flies apart while it strays and is late flies apart exactly.
 pub record ExactLaw : Type 0 where
   pub exact : (r h stray late : ℕ) (trajs : List Traj) → All IsLasting trajs → FlyApart r h stray late trajs → FlyApartExactly r h trajs
-

@@ -19,13 +19,13 @@ use Rattle.show_plan.specs.Separation.{FlyApart, blocked_part}
 use Rattle.touch_witness.specs.declared.site.Closest.{Closest}
 use Rattle.touch_witness.specs.declared.site.Touch.{Touch}
 use Rattle.touch_witness.specs.Sites.{IsClosest, IsFirstTouch, NoTouch, instant_of}
-use Rattle.touch_witness.proofs.Shows.{instant_inside}
+use Rattle.touch_witness.proofs.Shows.{apart_disjoint, instant_inside}
 use Rattle.traj_codec.specs.declared.traj.Segment.{Segment}
 use Rattle.traj_codec.specs.Positions.{durations}
 use Rattle.upload_model.proofs.Moments.{All-slice_get}
 use Rattle.fleet_curves.specs.Raised as raised
 use Rattle.traj_codec.specs.declared.traj.Traj.{Traj}
-use Rattle.sep_parts.proofs.Lifts.{exactly_apart}
+use Rattle.sep_parts.proofs.Lifts.{exactly_apart, lasting_at, own_some}
 use Rattle.show_cli.specs.declared.findings.Findings.{Findings}
 use Rattle.show_cli.specs.Reports.{cues_in}
 use Rattle.show_cli.specs.Shows.{names_of, sent_of, trajectories_of}
@@ -110,12 +110,17 @@ cues_counted times (t ∷ ts) are some =
 pub apart_no_touch : (f : Fitted) (fine : ℕ) → IsValidFitted f → FlyApart f.settings f.trajs → NoTouch f.trajs f.settings.r f.settings.h fine
 apart_no_touch f fine valid apart = λ s is t u first second.
     let times_are : durations t.segments ≡ valid.times = All-slice_get (λ (t : Traj). durations t.segments ≡ valid.times) f.trajs s.a t first valid.lasting in
+    let other_are : durations u.segments ≡ valid.times = All-slice_get (λ (t : Traj). durations t.segments ≡ valid.times) f.trajs s.b u second valid.lasting in
     let counted : raised.cues_in f.trajs ≡ length valid.times = cues_counted valid.times f.trajs valid.lasting (omega (arith, valid.trajs_counted, valid.some_drone)) in
     let inside : s.cue < length (durations t.segments) = omega (arith, is.cue, counted, ap (λ (ns : List ℕ). length ns) times_are) in
-    exactly_apart f.settings.r f.settings.h f.settings.stray f.settings.late f.trajs (all_lasting valid.times valid.last f.trajs valid.lasting) apart s.a s.b t u (λ same. omega (arith, same, is.pair)) first second (instant_of (durations t.segments) s.cue s.at (2 ^ fine)) (2 ^ fine) (one-le-pow fine 2 (omega arith))
-    (instant_inside (durations t.segments) s.cue s.at (2 ^ fine) inside is.at)
-    (subst (λ (ns : List ℕ). instant_of (durations t.segments) s.cue s.at (2 ^ fine) ≤ 2 ^ fine * sum ns) (times_are ∙ sym (All-slice_get (λ (t : Traj). durations t.segments ≡ valid.times) f.trajs s.b u second valid.lasting))
-    (instant_inside (durations t.segments) s.cue s.at (2 ^ fine) inside is.at))
+    let lasting : All IsLasting f.trajs = all_lasting valid.times valid.last f.trajs valid.lasting in
+    let when : ℕ = instant_of (durations t.segments) s.cue s.at (2 ^ fine) in
+    let some : 1 ≤ 2 ^ fine = one-le-pow fine 2 (omega arith) in
+    let before : when ≤ 2 ^ fine * sum (durations t.segments) = instant_inside (durations t.segments) s.cue s.at (2 ^ fine) inside is.at in
+    apart_disjoint t u f.settings.r f.settings.h when (2 ^ fine)
+    (own_some t when (2 ^ fine) some (lasting_at f.trajs s.a t lasting first)) (own_some u when (2 ^ fine) some (lasting_at f.trajs s.b u lasting second))
+    (exactly_apart f.settings.r f.settings.h f.settings.stray f.settings.late f.trajs lasting apart s.a s.b t u (λ same. omega (arith, same, is.pair)) first second when (2 ^ fine) some
+    before (subst (λ (ns : List ℕ). when ≤ 2 ^ fine * sum ns) (times_are ∙ sym other_are) before))
   where
     all_lasting : (times : List ℕ) → All (λ ms. 1 ≤ ms) times → (ts : List Traj) → All (λ (t : Traj). durations t.segments ≡ times) ts → All IsLasting ts
     all_lasting times last [] same = All-nil IsLasting

@@ -14,7 +14,7 @@ use Rattle.refusals.specs.declared.refusal.Refusal.{Refusal}
 use Rattle.fleet_curves.specs.Raised.{Raised, raised_of}
 use Rattle.touch_witness.specs.declared.site.Closest.{Closest}
 use Rattle.touch_witness.specs.declared.site.Touch.{Touch}
-use Rattle.touch_witness.specs.Sites.{ApartAt, IsBefore, IsClosest, IsFirstTouch, IsListed, LeftAbove, LeftFrom, LeftIs, NoTouch, TouchAt, left_of, listed, right_of, site_of}
+use Rattle.touch_witness.specs.Sites.{DisjointAt, IsBefore, IsClosest, IsFirstTouch, IsListed, LeftAbove, LeftFrom, LeftIs, NoTouch, TouchAt, left_of, listed, right_of, site_of}
 use Rattle.traj_codec.specs.declared.traj.Traj.{Traj}
 use Rattle.show_cli.specs.Outcome.{Outcome, RegionsGive, regions_end}
 use Rattle.show_cli.specs.Reports.{cues_in}
@@ -114,10 +114,10 @@ first_of trajs fine s is = slice_get-get_or trajs s.a no_traj (omega (arith, is.
 second_of : (trajs : List Traj) (fine : ℕ) (s : Touch) → IsListed trajs fine s → slice_get trajs s.b ≡ Some (get_or trajs s.b no_traj)
 second_of trajs fine s is = slice_get-get_or trajs s.b no_traj is.drone
 
--- no two drones both touch and are apart
-never_both : (trajs : List Traj) (r h fine : ℕ) (s : Touch) → IsListed trajs fine s → TouchAt trajs r h fine s → ApartAt trajs r h fine s → ⊥
-never_both trajs r h fine s is touches apart =
-    (touches _ _ (first_of trajs fine s is) (second_of trajs fine s is)).0 (apart _ _ (first_of trajs fine s is) (second_of trajs fine s is))
+-- no two drones both touch and are disjoint
+never_both : (trajs : List Traj) (r h fine : ℕ) (s : Touch) → IsListed trajs fine s → TouchAt trajs r h fine s → DisjointAt trajs r h fine s → ⊥
+never_both trajs r h fine s is touches disjoint =
+    (touches _ _ (first_of trajs fine s is) (second_of trajs fine s is)).0 (disjoint _ _ (first_of trajs fine s is) (second_of trajs fine s is))
 
 touch_one : (trajs : List Traj) (r h fine : ℕ) (s t : Touch) → IsFirstTouch trajs r h fine s → IsFirstTouch trajs r h fine t → s ≡ t
 touch_one trajs r h fine s t first second = by_order (sites_compared s t)

@@ -11,6 +11,7 @@ use Rattle.sep_parts.specs.Apart.{KeepReach, KeepsApart, SentLaw}
 use Rattle.sep_parts.specs.declared.clearance.Clearance.{Clearance}
 use Rattle.sep_parts.specs.declared.slot.Slot.{Slot}
 use Rattle.sep_parts.specs.Versions.{table_of}
+use Rattle.sep_parts.proofs.Table.{table_small}
 use Rattle.sep_parts.specs.Levels.{left_half, right_half, root}
 use Rattle.fleet_curves.specs.Raised.{CurvesStandFor, Raised, difference, raised_of}
 use Rattle.sep_parts.specs.Slots.{slots}
@@ -145,7 +146,7 @@ best_certified e depth trajs law keeps shallow stands reach none =
       whole = best_whole e depth trajs law shallow stands none;
       valid = valid;
       clear = all_clear (clearance_of e trajs) depth (raised_of trajs) (slots_of trajs) none;
-      apart = apart_of e trajs (keeps.apart searched (raised_of trajs) (clearance_of e trajs) (best_certificate e depth trajs) valid) stands reach;
+      apart = apart_of e trajs (keeps.apart searched (raised_of trajs) (clearance_of e trajs) (best_certificate e depth trajs) (table_small 2) valid) stands reach;
     }
 
 -- Where nodes are counted, their trees are a certificate.

@@ -1,5 +1,5 @@
 -- Where nobody strays or is late, drones that fly apart exactly fly apart.
-use Rattle.std.proofs.Common.{◌≡◌, ℕ, zero, suc, ◌*◌, ◌≤◌, ℤ, pos, negsuc, neg_ℤ, ◌+ℤ◌, ◌-ℤ◌, ◌*ℤ◌, ◌≤ℤ◌, ◌<ℤ◌, arith, refl, ◌∙◌, ap, subst, List, [], ◌∷◌, All, slice_get, Some, sum}
+use Rattle.std.proofs.Common.{◌≡◌, ℕ, zero, suc, ◌+◌, ◌*◌, ◌≤◌, ℤ, pos, negsuc, neg_ℤ, ◌+ℤ◌, ◌-ℤ◌, ◌*ℤ◌, ◌≤ℤ◌, ◌<ℤ◌, arith, refl, ◌∙◌, ap, subst, List, [], ◌∷◌, All, slice_get, Some, sum}
 use Rattle.std.proofs.lemmas.Int.{ints}
 use Rattle.std.proofs.lemmas.Nat.{mul-le}
 use Rattle.std.proofs.lemmas.List.Elements.{All-nil, All-cons, All-head, All-tail}
@@ -111,12 +111,12 @@ still r h trajs moving far a b t u differ t_is u_is p q s w q_some w_some p_befo
     let D'_pos : pos 0 <ℤ D' = seventh_positive (own u s w).c (own_some u s w w_some u_lasts) in
     let off = nothing_aside (aside t p q first 0) (aside t p q first 1) (aside t p q first 2) (C *ℤ d) at_first.near in
     let off' = nothing_aside (aside u s w second 0) (aside u s w second 1) (aside u s w second 2) (D' *ℤ e) at_second.near in
-    let old = subst (λ (z : ℤ). (pos (4 * (r * r) * (h * h)) *ℤ z) <ℤ (pos (h * h) *ℤ (gap t u p q 0 *ℤ gap t u p q 0 +ℤ gap t u p q 1 *ℤ gap t u p q 1) +ℤ pos (r * r) *ℤ (gap t u p q 2 *ℤ gap t u p q 2)))
+    let old = subst (λ (z : ℤ). (pos (48 * (r * r) * (h * h) + 1) *ℤ z) ≤ℤ
+    (pos (12 * (h * h)) *ℤ (gap t u p q 0 *ℤ gap t u p q 0 +ℤ gap t u p q 1 *ℤ gap t u p q 1) +ℤ pos (12 * (r * r)) *ℤ (gap t u p q 2 *ℤ gap t u p q 2)))
     (whole_of (pos (own t p q).c) (pos (own u p q).c)) exact.apart in
     record {
-      apart = lift (pos (4 * (r * r) * (h * h))) (pos (h * h)) (pos (r * r)) (C *ℤ C') (d *ℤ e) (gap t u p q 0) (gap t u p q 1) (gap t u p q 2)
+      apart = lift (pos (48 * (r * r) * (h * h) + 1)) (pos (12 * (h * h))) (pos (12 * (r * r))) (C *ℤ C') (d *ℤ e) (gap t u p q 0) (gap t u p q 1) (gap t u p q 2)
           (between first second 0) (between first second 1) (between first second 2) (mul_positive C C' C_pos C'_pos)
-          (mul_positive d e (omega (arith, ints, at_first.some)) (omega (arith, ints, at_second.some)))
           (on 0 D'_pos off.0 off'.0 (same_place u 0 p q s w (omega arith) u_moving q_some w_some u_before s_before together))
           (on 1 D'_pos off.1 off'.1 (same_place u 1 p q s w (omega arith) u_moving q_some w_some u_before s_before together))
           (on 2 D'_pos off.2 off'.2 (same_place u 2 p q s w (omega arith) u_moving q_some w_some u_before s_before together)) old;

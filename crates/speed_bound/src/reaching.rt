@@ -48,8 +48,8 @@ pub fn reach_law()
     ensures { ReachLaw }
 {}
 
-/// A law: where nobody strays or is late, trajectories fly apart as soon as they do exactly. So a show without these settings promises what it
-/// promised before there were any, and no more.
+/// A law: where nobody strays or is late, trajectories that fly apart exactly fly apart. So a show without these settings promises no more and no
+/// less than that its drones fly apart exactly.
 pub fn still_law()
     ensures { StillLaw }
 {}

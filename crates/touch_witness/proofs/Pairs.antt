@@ -3,7 +3,7 @@ use Rattle.std.proofs.Common.{◌≡◌, ℕ, ◌*◌, ℤ, pos, ◌+ℤ◌, ◌
 use Rattle.traj_codec.specs.declared.traj.Traj.{Traj}
 use Rattle.touch_witness.specs.declared.places.Point.{Point}
 use Rattle.touch_witness.specs.Sites.{left_of, listed}
-use Rattle.touch_witness.specs.Steps.{ArePlaces, IsPlace, PairApart, PairTouches, SidesApart, SidesTouch, left_side, point_at, right_side}
+use Rattle.touch_witness.specs.Steps.{ArePlaces, IsPlace, PairDisjoint, PairTouches, SidesDisjoint, SidesTouch, left_side, point_at, right_side}
 
 -- the left side is that of the drones
 pub sides : (t u : Traj) (r h fine cue at : ℕ) (p q : Point) → IsPlace t fine cue at p → IsPlace u fine cue at q →
@@ -17,9 +17,9 @@ sides t u r h fine cue at p q first second = same first.x first.y first.z second
     same {a} {b} {c} {d} {e} {f} {x} {y} {z} {k} {l} {m} e1 e2 e3 e4 e5 e6 = cc
 
 -- points that are apart are drones that are
-pub pair_apart : (trajs : List Traj) (r h fine cue at a b : ℕ) (points : List Point) → ArePlaces trajs fine cue at points → PairApart points r h fine a b → SidesApart trajs r h fine (record { cue = cue; at = at; a = a; b = b })
+pub pair_disjoint : (trajs : List Traj) (r h fine cue at a b : ℕ) (points : List Point) → ArePlaces trajs fine cue at points → PairDisjoint points r h fine a b → SidesDisjoint trajs r h fine (record { cue = cue; at = at; a = a; b = b })
 unfolding right_side
-pair_apart trajs r h fine cue at a b points places apart t u t_is u_is =
+pair_disjoint trajs r h fine cue at a b points places apart t u t_is u_is =
     subst (λ (z : ℤ). right_side r h fine <ℤ z) (sides t u r h fine cue at (point_at points a) (point_at points b) (places a t t_is) (places b u u_is)) apart
 
 -- points that touch are drones that do

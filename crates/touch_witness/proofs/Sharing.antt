@@ -1,4 +1,4 @@
--- Where two drones are not apart, their closed ellipsoids share a point: the middle between the centres.
+-- Where two drones are not disjoint, their closed ellipsoids share a point: the middle between the centres.
 use Rattle.std.proofs.Common.{◌≡◌, ℕ, zero, suc, ◌+◌, ◌*◌, ◌^◌, ◌≤◌, ℤ, pos, neg_ℤ, ◌+ℤ◌, ◌-ℤ◌, ◌*ℤ◌, ◌≤ℤ◌, arith, refl, sym, subst, ◌∙◌, ap}
 use Rattle.std.proofs.lemmas.Int.{ints, by_lt_z}
 use Rattle.std.proofs.lemmas.Nat.{mul-le}
@@ -10,9 +10,9 @@ use Rattle.bezier_core.proofs.BlendLemmas.{power_pos}
 use Rattle.traj_codec.specs.declared.traj.Traj.{Traj}
 use Rattle.traj_codec.specs.Positions.{decoded}
 use Rattle.traj_codec.specs.Joined.{own}
-use Rattle.sep_parts.specs.Apart.{AreApart, gap}
+use Rattle.sep_parts.specs.Apart.{gap}
 use Rattle.sep_parts.proofs.Cauchy.{square_positive}
-use Rattle.touch_witness.specs.Sites.{SharePoint, from_centre, over}
+use Rattle.touch_witness.specs.Sites.{AreDisjoint, SharePoint, from_centre, over}
 
 -- the squares of three numbers, each times another number
 scaled_squares : (h r k x y z : ℤ) → h *ℤ ((k *ℤ x) *ℤ (k *ℤ x) +ℤ (k *ℤ y) *ℤ (k *ℤ y)) +ℤ r *ℤ ((k *ℤ z) *ℤ (k *ℤ z)) ≡ (h *ℤ (x *ℤ x +ℤ y *ℤ y) +ℤ r *ℤ (z *ℤ z)) *ℤ (k *ℤ k)
@@ -57,7 +57,7 @@ ones : (c n : ℕ) → 1 ≤ c → 1 ≤ c ^ n
 ones c zero some = rw pow-zero (omega arith)
 ones c (suc n) some = rw (pow-suc c n) (mul-le 1 1 (c ^ n) c (ones c n some) some)
 
-pub share_point : (t u : Traj) (r h p q : ℕ) → 1 ≤ (own t p q).c → 1 ≤ (own u p q).c → (AreApart t u r h p q → ⊥) → SharePoint t u r h p q
+pub share_point : (t u : Traj) (r h p q : ℕ) → 1 ≤ (own t p q).c → 1 ≤ (own u p q).c → (AreDisjoint t u r h p q → ⊥) → SharePoint t u r h p q
 share_point t u r h p q t_some u_some touches = record {
   x = middle 0;
   y = middle 1;
@@ -116,4 +116,4 @@ share_point t u r h p q t_some u_some touches = record {
         (power-add (pos (own t p q).c *ℤ pos (own u p q).c) 7 7 ∙ ap (λ (z : ℤ). z *ℤ z) (power-mul (pos (own t p q).c) (pos (own u p q).c) 7))
         (by_lt_z (pos (4 * (r * r) * (h * h)) *ℤ power (pos (own t p q).c *ℤ pos (own u p q).c) 14)
         (pos (h * h) *ℤ (gap t u p q 0 *ℤ gap t u p q 0 +ℤ gap t u p q 1 *ℤ gap t u p q 1) +ℤ pos (r * r) *ℤ (gap t u p q 2 *ℤ gap t u p q 2))
-        (λ far. absurd (touches (record { apart = far }))) (λ low. low)))
+        (λ far. absurd (touches (record { above = far }))) (λ low. low)))

@@ -9,7 +9,7 @@ use Rattle.fleet_math.specs.Bernstein.{at, bernstein}
 use Rattle.fleet_math.specs.Moments.{Moment, moment, time_before}
 use Rattle.fleet_math.specs.Decoded.{Piece, IsPiece, points, durations, decoded}
 use Rattle.fleet_math.proofs.RingLemmas.{ring, linear, le_mul_ℤ, mul_add_ℤ, mul_comm_ℤ, mul_left_comm_ℤ, mul_positive, one_mul_ℤ}
-use Rattle.fleet_math.proofs.SumLemmas.{power-add, power-mul}
+use Rattle.fleet_math.proofs.SumLemmas.{power-add, power-mul, power_positive}
 use Rattle.fleet_math.proofs.DivisionLemmas.{lt_from_mul_ℤ}
 use Rattle.fleet_math.proofs.BernsteinLemmas.{by_lt}
 use Rattle.fleet_math.proofs.EdgeLemmas.{points-count, points-joined, decoded-at_start, decoded-at_end}
@@ -27,12 +27,11 @@ use Rattle.traj_codec.specs.Joined.{own}
 use Rattle.fleet_curves.specs.Raised.{IsOneShow, cues_in}
 use Rattle.sep_parts.specs.Apart.{AreApart, FlyApartExactly}
 use Rattle.sep_parts.proofs.Instants.{Lies, moment-lies, time_before-suc}
-use Rattle.sep_parts.proofs.Lifts.{AreApartAt, one_moment}
 use Rattle.fleet_curves.proofs.Standing.{at_place, segments_of}
 use Rattle.std.specs.Prelude.{MatchOption, Option, None}
 use Rattle.touch_witness.specs.declared.site.Touch.{Touch}
-use Rattle.touch_witness.specs.Sites.{ApartAt, IsFirstTouch, IsListed, NoTouch, SharePoint, TouchAt, gap_at, instant_of, left_of, listed, right_of}
-use Rattle.touch_witness.specs.Steps.{IsFirstSite, NoneTouch, SidesApart, SidesTouch}
+use Rattle.touch_witness.specs.Sites.{AreDisjoint, DisjointAt, IsFirstTouch, IsListed, NoTouch, SharePoint, TouchAt, gap_at, instant_of, left_of, listed, right_of}
+use Rattle.touch_witness.specs.Steps.{IsFirstSite, NoneTouch, SidesDisjoint, SidesTouch}
 use Rattle.touch_witness.proofs.Sharing.{share_point}
 
 -- ---- one axis
@@ -213,9 +212,9 @@ lt_mul x y b positive less =
     omega (arith, linear, more, mul_add_ℤ b x (pos 1), mul_comm_ℤ b x, mul_comm_ℤ b y, mul_comm_ℤ b (pos 1), one_mul_ℤ b)
 
 -- over numbers: differences over l are those over k
-same_apart : (g h r k l x y z u v w : ℤ) → pos 0 <ℤ (k *ℤ k) → pos 0 <ℤ (l *ℤ l) → l *ℤ x ≡ k *ℤ u → l *ℤ y ≡ k *ℤ v → l *ℤ z ≡ k *ℤ w →
+same_disjoint : (g h r k l x y z u v w : ℤ) → pos 0 <ℤ (k *ℤ k) → pos 0 <ℤ (l *ℤ l) → l *ℤ x ≡ k *ℤ u → l *ℤ y ≡ k *ℤ v → l *ℤ z ≡ k *ℤ w →
     (g *ℤ (l *ℤ l)) <ℤ (h *ℤ (u *ℤ u +ℤ v *ℤ v) +ℤ r *ℤ (w *ℤ w)) → (g *ℤ (k *ℤ k)) <ℤ (h *ℤ (x *ℤ x +ℤ y *ℤ y) +ℤ r *ℤ (z *ℤ z))
-same_apart g h r k l x y z u v w k_some l_some x_is y_is z_is apart =
+same_disjoint g h r k l x y z u v w k_some l_some x_is y_is z_is apart =
     let more : ((g *ℤ (l *ℤ l)) *ℤ (k *ℤ k)) <ℤ ((h *ℤ (u *ℤ u +ℤ v *ℤ v) +ℤ r *ℤ (w *ℤ w)) *ℤ (k *ℤ k)) = lt_mul _ _ (k *ℤ k) k_some apart in
     let both : (h *ℤ (x *ℤ x +ℤ y *ℤ y) +ℤ r *ℤ (z *ℤ z)) *ℤ (l *ℤ l) ≡ (h *ℤ (u *ℤ u +ℤ v *ℤ v) +ℤ r *ℤ (w *ℤ w)) *ℤ (k *ℤ k) =
     sym (high_ring h r l x y z) ∙ same x_is y_is z_is ∙ high_ring h r k u v w in
@@ -242,17 +241,16 @@ power_some c some =
     square : (n : ℕ) → 1 ≤ n → pos 0 <ℤ (pos n *ℤ pos n)
     square n low = let more : 1 * 1 ≤ n * n = mul-le 1 1 n n low low in omega (arith, ints, more)
 
--- drones that are apart at one of two moments with the same positions are apart at the other
-apart_moved : (t u : Traj) (r h : ℕ) (m n : Moment) → 1 ≤ m.c → 1 ≤ n.c →
+-- drones that are disjoint at one of two moments with the same positions are disjoint at the other
+disjoint_moved : (t u : Traj) (r h : ℕ) (m n : Moment) → 1 ≤ m.c → 1 ≤ n.c →
     ((axis : ℕ) → axis ≤ 2 → Same (power (pos m.c) 7) (traj.decoded t axis m) (power (pos n.c) 7) (traj.decoded t axis n)) →
     ((axis : ℕ) → axis ≤ 2 → Same (power (pos m.c) 7) (traj.decoded u axis m) (power (pos n.c) 7) (traj.decoded u axis n)) →
-    AreApartAt t u r h n → AreApartAt t u r h m
-apart_moved t u r h m n m_some n_some t_same u_same apart = record {
-  apart = subst (λ (z : ℤ). (pos (4 * (r * r) * (h * h)) *ℤ z) <ℤ left_of t u r h m) (sym (power-add (pos m.c) 7 7))
-      (same_apart (pos (4 * (r * r) * (h * h))) (pos (h * h)) (pos (r * r)) (power (pos m.c) 7) (power (pos n.c) 7) (gap_at t u m 0) (gap_at t u m 1) (gap_at t u m 2) (gap_at t u n 0) (gap_at t u n 1) (gap_at t u n 2)
-      (power_some m.c m_some) (power_some n.c n_some) (axis_same 0 (omega arith)) (axis_same 1 (omega arith)) (axis_same 2 (omega arith))
-      (subst (λ (z : ℤ). (pos (4 * (r * r) * (h * h)) *ℤ z) <ℤ left_of t u r h n) (power-add (pos n.c) 7 7) apart.apart));
-}
+    right_of r h n <ℤ left_of t u r h n → right_of r h m <ℤ left_of t u r h m
+disjoint_moved t u r h m n m_some n_some t_same u_same far =
+    subst (λ (z : ℤ). (pos (4 * (r * r) * (h * h)) *ℤ z) <ℤ left_of t u r h m) (sym (power-add (pos m.c) 7 7))
+    (same_disjoint (pos (4 * (r * r) * (h * h))) (pos (h * h)) (pos (r * r)) (power (pos m.c) 7) (power (pos n.c) 7) (gap_at t u m 0) (gap_at t u m 1) (gap_at t u m 2) (gap_at t u n 0) (gap_at t u n 1) (gap_at t u n 2)
+    (power_some m.c m_some) (power_some n.c n_some) (axis_same 0 (omega arith)) (axis_same 1 (omega arith)) (axis_same 2 (omega arith))
+    (subst (λ (z : ℤ). (pos (4 * (r * r) * (h * h)) *ℤ z) <ℤ left_of t u r h n) (power-add (pos n.c) 7 7) far))
   where
     axis_same : (axis : ℕ) → axis ≤ 2 → power (pos n.c) 7 *ℤ gap_at t u m axis ≡ power (pos m.c) 7 *ℤ gap_at t u n axis
     axis_same axis near = gap_same (power (pos m.c) 7) (power (pos n.c) 7) (traj.decoded t axis m) (traj.decoded u axis m) (traj.decoded t axis n) (traj.decoded u axis n) (t_same axis near) (u_same axis near)
@@ -261,38 +259,67 @@ apart_moved t u r h m n m_some n_some t_same u_same apart = record {
 wide : Traj → Traj → Moment → Moment → ℕ → ℤ
 wide t u m n axis = traj.decoded u axis n *ℤ power (pos m.c) 7 -ℤ traj.decoded t axis m *ℤ power (pos n.c) 7
 
--- apart, at moments of their own
+-- disjoint, at moments of their own
 AreFar : Traj → Traj → ℕ → ℕ → Moment → Moment → Type 0
 AreFar t u r h m n =
     (pos (4 * (r * r) * (h * h)) *ℤ power (pos m.c *ℤ pos n.c) 14)
     <ℤ (pos (h * h) *ℤ (wide t u m n 0 *ℤ wide t u m n 0 +ℤ wide t u m n 1 *ℤ wide t u m n 1) +ℤ pos (r * r) *ℤ (wide t u m n 2 *ℤ wide t u m n 2))
 
--- Where both drones' segments have the same durations, what is apart at the instant is apart over one c.
-apart_there : (t u : Traj) (r h p q : ℕ) (m : Moment) → 1 ≤ m.c → own t p q ≡ m → own u p q ≡ m → AreApart t u r h p q → AreApartAt t u r h m
-unfolding AreFar wide
-apart_there t u r h p q m some t_is u_is apart = record {
-  apart = subst (λ (z : ℤ). (pos (4 * (r * r) * (h * h)) *ℤ z) <ℤ left_of t u r h m) (sym (power-add (pos m.c) 7 7))
-      (same_apart (pos (4 * (r * r) * (h * h))) (pos (h * h)) (pos (r * r)) C (C *ℤ C) (gap_at t u m 0) (gap_at t u m 1) (gap_at t u m 2) (wide t u m m 0) (wide t u m m 1) (wide t u m m 2)
+-- ---- Where both drones' segments have the same durations, what is disjoint at the instant is so over one c, and the other way round.
+module _ (t u : Traj) (r h : ℕ) (m : Moment) (some : 1 ≤ m.c) where
+  abbrev C : ℤ
+  C = power (pos m.c) 7
+
+  square_some : (c : ℤ) → pos 0 <ℤ (c *ℤ c) → pos 0 <ℤ ((c *ℤ c) *ℤ (c *ℤ c))
+  square_some c positive = mul_positive (c *ℤ c) (c *ℤ c) positive positive
+
+  widened : (x y c : ℤ) → (c *ℤ c) *ℤ (y -ℤ x) ≡ c *ℤ (y *ℤ c -ℤ x *ℤ c)
+  widened x y c = simp ring (omega (arith, linear))
+
+  axis_same : (axis : ℕ) → (C *ℤ C) *ℤ gap_at t u m axis ≡ C *ℤ wide t u m m axis
+  unfolding wide
+  axis_same axis = widened (traj.decoded t axis m) (traj.decoded u axis m) C
+
+  squared : power (pos m.c *ℤ pos m.c) 14 ≡ (C *ℤ C) *ℤ (C *ℤ C)
+  squared = power-add (pos m.c *ℤ pos m.c) 7 7 ∙ ap (λ (z : ℤ). z *ℤ z) (power-mul (pos m.c) (pos m.c) 7)
+
+  disjoint_there : (p q : ℕ) → own t p q ≡ m → own u p q ≡ m → AreDisjoint t u r h p q → right_of r h m <ℤ left_of t u r h m
+  unfolding AreFar wide
+  disjoint_there p q t_is u_is disjoint =
+      let here : AreFar t u r h m m = subst (λ (n : Moment). AreFar t u r h m n) u_is (subst (λ (k : Moment). AreFar t u r h k (own u p q)) t_is disjoint.above) in
+      subst (λ (z : ℤ). (pos (4 * (r * r) * (h * h)) *ℤ z) <ℤ left_of t u r h m) (sym (power-add (pos m.c) 7 7))
+      (same_disjoint (pos (4 * (r * r) * (h * h))) (pos (h * h)) (pos (r * r)) C (C *ℤ C) (gap_at t u m 0) (gap_at t u m 1) (gap_at t u m 2) (wide t u m m 0) (wide t u m m 1) (wide t u m m 2)
       (power_some m.c some) (square_some C (power_some m.c some)) (axis_same 0) (axis_same 1) (axis_same 2)
       (subst (λ (z : ℤ). (pos (4 * (r * r) * (h * h)) *ℤ z)
-      <ℤ (pos (h * h) *ℤ (wide t u m m 0 *ℤ wide t u m m 0 +ℤ wide t u m m 1 *ℤ wide t u m m 1) +ℤ pos (r * r) *ℤ (wide t u m m 2 *ℤ wide t u m m 2)))
-      (power-add (pos m.c *ℤ pos m.c) 7 7 ∙ ap (λ (z : ℤ). z *ℤ z) (power-mul (pos m.c) (pos m.c) 7)) here));
+      <ℤ (pos (h * h) *ℤ (wide t u m m 0 *ℤ wide t u m m 0 +ℤ wide t u m m 1 *ℤ wide t u m m 1) +ℤ pos (r * r) *ℤ (wide t u m m 2 *ℤ wide t u m m 2))) squared here))
+
+  moment_disjoint : (p q : ℕ) → own t p q ≡ m → own u p q ≡ m → right_of r h m <ℤ left_of t u r h m → AreDisjoint t u r h p q
+  unfolding AreFar wide
+  moment_disjoint p q t_is u_is far =
+      let here : AreFar t u r h m m =
+      subst (λ (z : ℤ). (pos (4 * (r * r) * (h * h)) *ℤ z)
+      <ℤ (pos (h * h) *ℤ (wide t u m m 0 *ℤ wide t u m m 0 +ℤ wide t u m m 1 *ℤ wide t u m m 1) +ℤ pos (r * r) *ℤ (wide t u m m 2 *ℤ wide t u m m 2))) (sym squared)
+      (same_disjoint (pos (4 * (r * r) * (h * h))) (pos (h * h)) (pos (r * r)) (C *ℤ C) C (wide t u m m 0) (wide t u m m 1) (wide t u m m 2) (gap_at t u m 0) (gap_at t u m 1) (gap_at t u m 2)
+      (square_some C (power_some m.c some)) (power_some m.c some) (sym (axis_same 0)) (sym (axis_same 1)) (sym (axis_same 2))
+      (subst (λ (z : ℤ). (pos (4 * (r * r) * (h * h)) *ℤ z) <ℤ left_of t u r h m) (power-add (pos m.c) 7 7) far)) in
+      record {
+        above = subst (λ (k : Moment). AreFar t u r h k (own u p q)) (sym t_is) (subst (λ (n : Moment). AreFar t u r h m n) (sym u_is) here);
+      }
+
+-- What is apart is disjoint: the margin is left out.
+pub apart_disjoint : (t u : Traj) (r h p q : ℕ) → 1 ≤ (own t p q).c → 1 ≤ (own u p q).c → AreApart t u r h p q → AreDisjoint t u r h p q
+apart_disjoint t u r h p q t_some u_some apart = record {
+  above = numbers (r * r) (h * h) (power (pos (own t p q).c *ℤ pos (own u p q).c) 14) _ _ positive apart.apart;
 }
   where
-    C : ℤ
-    C = power (pos m.c) 7
+    positive : pos 0 <ℤ power (pos (own t p q).c *ℤ pos (own u p q).c) 14
+    positive = power_positive (pos (own t p q).c *ℤ pos (own u p q).c) 14 (mul_positive (pos (own t p q).c) (pos (own u p q).c) (omega (arith, ints, t_some)) (omega (arith, ints, u_some)))
 
-    here : AreFar t u r h m m
-    here = subst (λ (n : Moment). AreFar t u r h m n) u_is (subst (λ (k : Moment). AreFar t u r h k (own u p q)) t_is apart.apart)
-
-    times : (x y c : ℤ) → (c *ℤ c) *ℤ (y -ℤ x) ≡ c *ℤ (y *ℤ c -ℤ x *ℤ c)
-    times x y c = simp ring (omega (arith, linear))
-
-    axis_same : (axis : ℕ) → (C *ℤ C) *ℤ gap_at t u m axis ≡ C *ℤ wide t u m m axis
-    axis_same axis = times (traj.decoded t axis m) (traj.decoded u axis m) C
-
-    square_some : (c : ℤ) → pos 0 <ℤ (c *ℤ c) → pos 0 <ℤ ((c *ℤ c) *ℤ (c *ℤ c))
-    square_some c positive = mul_positive (c *ℤ c) (c *ℤ c) positive positive
+    numbers : (x y : ℕ) (k a b : ℤ) → pos 0 <ℤ k → (pos (48 * x * y + 1) *ℤ k) ≤ℤ (pos (12 * y) *ℤ a +ℤ pos (12 * x) *ℤ b) → (pos (4 * x * y) *ℤ k) <ℤ (pos y *ℤ a +ℤ pos x *ℤ b)
+    numbers x y k a b some far = let e : 48 * x * y ≡ 12 * (4 * x * y) = omega arith in less (4 * x * y) (rw e at far)
+      where
+        less : (n : ℕ) → (pos (12 * n + 1) *ℤ k) ≤ℤ (pos (12 * y) *ℤ a +ℤ pos (12 * x) *ℤ b) → (pos n *ℤ k) <ℤ (pos y *ℤ a +ℤ pos x *ℤ b)
+        less n far = omega (arith, ints, some, far)
 
 -- each of the pieces of formed segments lasts some time and has at most seven stored points
 pieces_formed : (axis : ℕ) (segments : List Segment) → axis ≤ 2 → All (λ ms. 1 ≤ ms) (traj.durations segments) → All IsFormed segments → All IsPiece (map (piece_on axis) segments)
@@ -317,7 +344,7 @@ drone_same t times cue a q axis near is lasting formed inside fraction some =
     (subst (λ (ns : List ℕ). IsThere ns cue a q (moment times (instant_of times cue a q) q)) (sym on) (instant_there times cue a q lasting inside fraction some))
 
 -- ---- a pair of drones of one show
--- Where two drones of one show are apart by the test at a fraction of a cue, they are apart at its instant, and the other way round.
+-- Where two drones of one show are disjoint by the test at a fraction of a cue, they are disjoint at its instant, and the other way round.
 module _ (t u : Traj) (r h fine cue a : ℕ) (same : traj.durations u.segments ≡ traj.durations t.segments) (lasting : All (λ ms. 1 ≤ ms) (traj.durations t.segments))
     (t_formed : All IsFormed t.segments) (u_formed : All IsFormed u.segments) (inside : cue < length (traj.durations t.segments)) (fraction : a ≤ 2 ^ fine) where
   abbrev times : List ℕ
@@ -346,24 +373,26 @@ module _ (t u : Traj) (r h fine cue a : ℕ) (same : traj.durations u.segments �
   u_own : own u when (2 ^ fine) ≡ there_at
   u_own = ap (λ (ns : List ℕ). moment ns when (2 ^ fine)) same
 
-  pub apart_at : right_of r h (listed fine cue a) <ℤ left_of t u r h (listed fine cue a) → AreApart t u r h when (2 ^ fine)
-  apart_at far =
-      one_moment t u r h when (2 ^ fine) there_at there_some refl u_own
-      (apart_moved t u r h there_at (listed fine cue a) there_some some (λ axis near. sym (t_same axis near)) (λ axis near. sym (u_same axis near)) (record { apart = far }))
+  pub disjoint_at : right_of r h (listed fine cue a) <ℤ left_of t u r h (listed fine cue a) → AreDisjoint t u r h when (2 ^ fine)
+  disjoint_at far =
+      moment_disjoint t u r h there_at there_some when (2 ^ fine) refl u_own
+      (disjoint_moved t u r h there_at (listed fine cue a) there_some some (λ axis near. sym (t_same axis near)) (λ axis near. sym (u_same axis near)) far)
 
-  pub test_at : AreApart t u r h when (2 ^ fine) → right_of r h (listed fine cue a) <ℤ left_of t u r h (listed fine cue a)
-  test_at apart =
-      let here : AreApartAt t u r h (listed fine cue a) =
-      apart_moved t u r h (listed fine cue a) there_at some there_some t_same u_same (apart_there t u r h when (2 ^ fine) there_at there_some refl u_own apart) in
-      here.apart
+  pub test_at : AreDisjoint t u r h when (2 ^ fine) → right_of r h (listed fine cue a) <ℤ left_of t u r h (listed fine cue a)
+  test_at disjoint =
+      disjoint_moved t u r h (listed fine cue a) there_at some there_some t_same u_same (disjoint_there t u r h there_at there_some when (2 ^ fine) refl u_own disjoint)
 
-  pub touch_at : left_of t u r h (listed fine cue a) ≤ℤ right_of r h (listed fine cue a) → (AreApart t u r h when (2 ^ fine) → ⊥) × SharePoint t u r h when (2 ^ fine)
+  pub touch_at : left_of t u r h (listed fine cue a) ≤ℤ right_of r h (listed fine cue a) → (AreDisjoint t u r h when (2 ^ fine) → ⊥) × SharePoint t u r h when (2 ^ fine)
   touch_at near =
-      let none : AreApart t u r h when (2 ^ fine) → ⊥ = λ apart. never _ _ near (test_at apart) in
+      let none : AreDisjoint t u r h when (2 ^ fine) → ⊥ = λ disjoint. never _ _ near (test_at disjoint) in
       (none, share_point t u r h when (2 ^ fine) there_some (rw u_own there_some) none)
     where
       never : (x y : ℤ) → x ≤ℤ y → y <ℤ x → ⊥
       never x y below above = omega (arith, linear)
+
+  -- What is apart at the instant is disjoint there.
+  pub apart_then : AreApart t u r h when (2 ^ fine) → AreDisjoint t u r h when (2 ^ fine)
+  apart_then = apart_disjoint t u r h when (2 ^ fine) there_some (rw u_own there_some)
 
 -- ---- a show
 module _ (trajs : List Traj) (r h fine : ℕ) (show : IsOneShow trajs) (formed : All (λ (t : Traj). All IsFormed t.segments) trajs) where
@@ -389,9 +418,9 @@ module _ (trajs : List Traj) (r h fine : ℕ) (show : IsOneShow trajs) (formed :
       let count : length first.0.segments ≡ length show.0 = segments_of first.0 show.0 (times_of 0 first.0 first.1) in
       omega (arith, inside, first.2, count, ap (λ (ns : List ℕ). length ns) (times_of k t is))
 
-  apart_told : (s : Touch) → IsListed trajs fine s → SidesApart trajs r h fine s → ApartAt trajs r h fine s
-  apart_told s among far t u t_is u_is =
-      apart_at t u r h fine s.cue s.at (same_of s.a s.b t u t_is u_is) (lasting_of s.a t t_is) (formed_of s.a t t_is) (formed_of s.b u u_is) (cue_of s.cue s.a t t_is among.cue) among.at (far t u t_is u_is)
+  disjoint_told : (s : Touch) → IsListed trajs fine s → SidesDisjoint trajs r h fine s → DisjointAt trajs r h fine s
+  disjoint_told s among far t u t_is u_is =
+      disjoint_at t u r h fine s.cue s.at (same_of s.a s.b t u t_is u_is) (lasting_of s.a t t_is) (formed_of s.a t t_is) (formed_of s.b u u_is) (cue_of s.cue s.a t t_is among.cue) among.at (far t u t_is u_is)
 
   touch_told : (s : Touch) → IsListed trajs fine s → SidesTouch trajs r h fine s → TouchAt trajs r h fine s
   touch_told s among near t u t_is u_is =
@@ -399,11 +428,11 @@ module _ (trajs : List Traj) (r h fine : ℕ) (show : IsOneShow trajs) (formed :
 
   -- The first site at which the test fails is the first touch.
   pub first_told : (result : Option Touch) → MatchOption result (NoneTouch trajs r h fine) (IsFirstSite trajs r h fine) → MatchOption result (NoTouch trajs r h fine) (IsFirstTouch trajs r h fine)
-  first_told None none = λ s among. apart_told s among (none s among)
+  first_told None none = λ s among. disjoint_told s among (none s among)
   first_told (Some s) found = record {
     listed = found.listed;
     touches = touch_told s found.listed found.touches;
-    none_before = λ u among before. apart_told u among (found.none_before u among before);
+    none_before = λ u among before. disjoint_told u among (found.none_before u among before);
   }
 
   stands_there : (ts : List Traj) (k : ℕ) → k < length ts → (t : Traj) × (slice_get ts k ≡ Some t)
@@ -411,14 +440,20 @@ module _ (trajs : List Traj) (r h fine : ℕ) (show : IsOneShow trajs) (formed :
   stands_there (t ∷ ts) zero inside = (t, refl)
   stands_there (t ∷ ts) (suc k) inside = stands_there ts k (omega arith)
 
-  -- Where drones fly apart there is no touch.
-  pub none_told : (result : Option Touch) → MatchOption result (NoTouch trajs r h fine) (IsFirstTouch trajs r h fine) → FlyApartExactly r h trajs → result ≡ None
-  none_told None none apart = refl
-  none_told (Some s) found apart =
+  -- Where any two drones are disjoint at each listed instant, there is no touch.
+  pub none_told : (result : Option Touch) → MatchOption result (NoTouch trajs r h fine) (IsFirstTouch trajs r h fine) → NoTouch trajs r h fine → result ≡ None
+  none_told None is none = refl
+  none_told (Some s) found none =
       let first : (t : Traj) × (slice_get trajs s.a ≡ Some t) = stands_there trajs s.a (omega (arith, found.listed.pair, found.listed.drone)) in
       let second : (u : Traj) × (slice_get trajs s.b ≡ Some u) = stands_there trajs s.b found.listed.drone in
-      absurd ((found.touches first.0 second.0 first.1 second.1).0
-      (apart s.a s.b first.0 second.0 (λ same. omega (arith, same, found.listed.pair)) first.1 second.1 (instant_of (traj.durations first.0.segments) s.cue s.at (2 ^ fine)) (2 ^ fine) (omega (arith, pow_pos fine))
-      (instant_inside (traj.durations first.0.segments) s.cue s.at (2 ^ fine) (cue_of s.cue s.a first.0 first.1 found.listed.cue) found.listed.at)
-      (subst (λ (ns : List ℕ). instant_of (traj.durations first.0.segments) s.cue s.at (2 ^ fine) ≤ 2 ^ fine * sum ns) (sym (same_of s.a s.b first.0 second.0 first.1 second.1))
-      (instant_inside (traj.durations first.0.segments) s.cue s.at (2 ^ fine) (cue_of s.cue s.a first.0 first.1 found.listed.cue) found.listed.at))))
+      absurd ((found.touches first.0 second.0 first.1 second.1).0 (none s found.listed first.0 second.0 first.1 second.1))
+
+  -- Where drones fly apart, they are.
+  pub no_touch : FlyApartExactly r h trajs → NoTouch trajs r h fine
+  no_touch apart s among t u t_is u_is =
+      let inside : s.cue < length (traj.durations t.segments) = cue_of s.cue s.a t t_is among.cue in
+      apart_then t u r h fine s.cue s.at (same_of s.a s.b t u t_is u_is) (lasting_of s.a t t_is) (formed_of s.a t t_is) (formed_of s.b u u_is) inside among.at
+      (apart s.a s.b t u (λ same. omega (arith, same, among.pair)) t_is u_is (instant_of (traj.durations t.segments) s.cue s.at (2 ^ fine)) (2 ^ fine) (omega (arith, pow_pos fine))
+      (instant_inside (traj.durations t.segments) s.cue s.at (2 ^ fine) inside among.at)
+      (subst (λ (ns : List ℕ). instant_of (traj.durations t.segments) s.cue s.at (2 ^ fine) ≤ 2 ^ fine * sum ns) (sym (same_of s.a s.b t u t_is u_is))
+      (instant_inside (traj.durations t.segments) s.cue s.at (2 ^ fine) inside among.at)))

@@ -6,7 +6,7 @@ use Rattle.traj_codec.specs.declared.traj.Traj.{Traj}
 use Rattle.traj_codec.specs.Positions.{decoded, durations}
 use Rattle.traj_codec.specs.Joined.{own}
 use Rattle.fleet_curves.specs.Raised.{cues_in}
-use Rattle.sep_parts.specs.Apart.{AreApart}
+use Rattle.sep_parts.specs.Apart.{gap}
 use Rattle.touch_witness.specs.declared.site.Touch.{Touch}
 use Rattle.touch_witness.specs.declared.site.Closest.{Closest}
 
@@ -61,28 +61,36 @@ pub record SharePoint (t u : Traj) (r h p q : ℕ) : Type 0 where
   pub in_first : IsInEllipsoid t r h p q x y z d
   pub in_second : IsInEllipsoid u r h p q x y z d
 
--- the two drones are apart at the instant: their closed ellipsoids share no point
-abbrev pub ApartAt : List Traj → ℕ → ℕ → ℕ → Touch → Type 0
-ApartAt trajs r h fine s =
-    (t u : Traj) → slice_get trajs s.a ≡ Some t → slice_get trajs s.b ≡ Some u →
-    AreApart t u r h (instant_of (durations t.segments) s.cue s.at (2 ^ fine)) (2 ^ fine)
+-- The closed ellipsoids of half axes r, r, h around the decoded positions of two drones share no point at the instant p / q, however little is
+-- between them: h^2 (dX^2 + dY^2) + r^2 dZ^2 is above 4 r^2 h^2 (c1 c2)^14, where dX, dY and dZ are the gaps. `AreApart`, which accepted shows keep,
+-- asks for a margin as well.
+pub record AreDisjoint (t u : Traj) (r h p q : ℕ) : Type 0 where
+  pub above :
+      (pos (4 * (r * r) * (h * h)) *ℤ power (pos (own t p q).c *ℤ pos (own u p q).c) 14)
+      <ℤ (pos (h * h) *ℤ (gap t u p q 0 *ℤ gap t u p q 0 +ℤ gap t u p q 1 *ℤ gap t u p q 1) +ℤ pos (r * r) *ℤ (gap t u p q 2 *ℤ gap t u p q 2))
 
--- the two drones touch at the instant: they are not apart, and a point lies in both of their closed ellipsoids
+-- the two drones' closed ellipsoids share no point at the instant
+abbrev pub DisjointAt : List Traj → ℕ → ℕ → ℕ → Touch → Type 0
+DisjointAt trajs r h fine s =
+    (t u : Traj) → slice_get trajs s.a ≡ Some t → slice_get trajs s.b ≡ Some u →
+    AreDisjoint t u r h (instant_of (durations t.segments) s.cue s.at (2 ^ fine)) (2 ^ fine)
+
+-- the two drones touch at the instant: their closed ellipsoids are not disjoint, and a point lies in both
 abbrev pub TouchAt : List Traj → ℕ → ℕ → ℕ → Touch → Type 0
 TouchAt trajs r h fine s =
     (t u : Traj) → slice_get trajs s.a ≡ Some t → slice_get trajs s.b ≡ Some u →
-    (AreApart t u r h (instant_of (durations t.segments) s.cue s.at (2 ^ fine)) (2 ^ fine) → ⊥)
+    (AreDisjoint t u r h (instant_of (durations t.segments) s.cue s.at (2 ^ fine)) (2 ^ fine) → ⊥)
     × SharePoint t u r h (instant_of (durations t.segments) s.cue s.at (2 ^ fine)) (2 ^ fine)
 
 -- the first of the listed instants and pairs at which two drones touch
 pub record IsFirstTouch (trajs : List Traj) (r h fine : ℕ) (s : Touch) : Type 0 where
   pub listed : IsListed trajs fine s
   pub touches : TouchAt trajs r h fine s
-  pub none_before : (u : Touch) → IsListed trajs fine u → IsBefore u s → ApartAt trajs r h fine u
+  pub none_before : (u : Touch) → IsListed trajs fine u → IsBefore u s → DisjointAt trajs r h fine u
 
--- any two drones are apart at each listed instant
+-- any two drones' closed ellipsoids are disjoint at each listed instant
 abbrev pub NoTouch : List Traj → ℕ → ℕ → ℕ → Type 0
-NoTouch trajs r h fine = (s : Touch) → IsListed trajs fine s → ApartAt trajs r h fine s
+NoTouch trajs r h fine = (s : Touch) → IsListed trajs fine s → DisjointAt trajs r h fine s
 
 -- ---- the closest
 -- the fraction at / 2^fine of a cue
@@ -93,14 +101,14 @@ listed fine cue at = record { cue = cue; a = at; c = 2 ^ fine }
 abbrev pub gap_at : Traj → Traj → Moment → ℕ → ℤ
 gap_at t u m axis = decoded u axis m -ℤ decoded t axis m
 
--- The left side of the test of apart, h^2 (dX^2 + dY^2) + r^2 dZ^2, of two drones at a fraction of a cue that both
+-- The left side of the test for touches, h^2 (dX^2 + dY^2) + r^2 dZ^2, of two drones at a fraction of a cue that both
 -- have.
 abbrev pub left_of : Traj → Traj → ℕ → ℕ → Moment → ℤ
 left_of t u r h m =
     pos (h * h) *ℤ (gap_at t u m 0 *ℤ gap_at t u m 0 +ℤ gap_at t u m 1 *ℤ gap_at t u m 1)
     +ℤ pos (r * r) *ℤ (gap_at t u m 2 *ℤ gap_at t u m 2)
 
--- The right side, 4 r^2 h^2 c^14: two drones are apart at a listed instant exactly where the left side is above it.
+-- The right side, 4 r^2 h^2 c^14: two drones touch at a listed instant exactly where the left side is not above it.
 abbrev pub right_of : ℕ → ℕ → Moment → ℤ
 right_of r h m = pos (4 * (r * r) * (h * h)) *ℤ power (pos m.c) 14
 

@@ -86,17 +86,17 @@ right_side r h fine = pos (4 * (r * r) * (h * h)) *ℤ power (pos (2 ^ fine)) 14
 abbrev pub point_at : List Point → ℕ → Point
 point_at points k = slice_index_or points k no_point
 
--- two of the points are apart
-abbrev pub PairApart : List Point → ℕ → ℕ → ℕ → ℕ → ℕ → Type 0
-PairApart points r h fine a b = right_side r h fine <ℤ left_side r h (point_at points a) (point_at points b)
+-- the ellipsoids around two of the points are disjoint
+abbrev pub PairDisjoint : List Point → ℕ → ℕ → ℕ → ℕ → ℕ → Type 0
+PairDisjoint points r h fine a b = right_side r h fine <ℤ left_side r h (point_at points a) (point_at points b)
 
 abbrev pub PairTouches : List Point → ℕ → ℕ → ℕ → ℕ → ℕ → Type 0
 PairTouches points r h fine a b = left_side r h (point_at points a) (point_at points b) ≤ℤ right_side r h fine
 
 -- ---- the test on the drones
 -- the left side of a pair at a listed instant is above the right one
-abbrev pub SidesApart : List Traj → ℕ → ℕ → ℕ → Touch → Type 0
-SidesApart trajs r h fine s =
+abbrev pub SidesDisjoint : List Traj → ℕ → ℕ → ℕ → Touch → Type 0
+SidesDisjoint trajs r h fine s =
     (t u : Traj) → slice_get trajs s.a ≡ Some t → slice_get trajs s.b ≡ Some u →
     right_of r h (listed fine s.cue s.at) <ℤ left_of t u r h (listed fine s.cue s.at)
 
@@ -108,45 +108,45 @@ SidesTouch trajs r h fine s =
 
 -- it is above at each listed instant
 abbrev pub NoneTouch : List Traj → ℕ → ℕ → ℕ → Type 0
-NoneTouch trajs r h fine = (s : Touch) → IsListed trajs fine s → SidesApart trajs r h fine s
+NoneTouch trajs r h fine = (s : Touch) → IsListed trajs fine s → SidesDisjoint trajs r h fine s
 
 -- the first listed instant and pair at which it is not
 pub record IsFirstSite (trajs : List Traj) (r h fine : ℕ) (s : Touch) : Type 0 where
   pub listed : IsListed trajs fine s
   pub touches : SidesTouch trajs r h fine s
-  pub none_before : (u : Touch) → IsListed trajs fine u → IsBefore u s → SidesApart trajs r h fine u
+  pub none_before : (u : Touch) → IsListed trajs fine u → IsBefore u s → SidesDisjoint trajs r h fine u
 
 -- ---- what the loops find
 -- the pair a, b stands before the pair c, d
 abbrev pub PairBefore : ℕ → ℕ → ℕ → ℕ → Type 0
 PairBefore a b c d = (a < c) ⊎ ((a ≡ c) × (b < d))
 
--- the drone a is apart from each of the first n drones after it
-abbrev pub AllApartFrom : List Point → ℕ → ℕ → ℕ → ℕ → ℕ → Type 0
-AllApartFrom points r h fine a n = (b : ℕ) → b < n → a < b → PairApart points r h fine a b
+-- the drone a is disjoint from each of the first n drones after it
+abbrev pub AllDisjointFrom : List Point → ℕ → ℕ → ℕ → ℕ → ℕ → Type 0
+AllDisjointFrom points r h fine a n = (b : ℕ) → b < n → a < b → PairDisjoint points r h fine a b
 
 -- the first drone after a that it touches, among n
 pub record IsFirstWith (points : List Point) (r h fine a n b : ℕ) : Type 0 where
   pub order : a < b
   pub inside : b < n
   pub touches : PairTouches points r h fine a b
-  pub none_before : AllApartFrom points r h fine a b
+  pub none_before : AllDisjointFrom points r h fine a b
 
--- any two of the first n drones are apart, the first of them below m
-abbrev pub AllApart : List Point → ℕ → ℕ → ℕ → ℕ → ℕ → Type 0
-AllApart points r h fine n m = (a : ℕ) → a < m → AllApartFrom points r h fine a n
+-- any two of the first n drones are disjoint, the first of them below m
+abbrev pub AllDisjoint : List Point → ℕ → ℕ → ℕ → ℕ → ℕ → Type 0
+AllDisjoint points r h fine n m = (a : ℕ) → a < m → AllDisjointFrom points r h fine a n
 
 -- the first two of n drones that touch
 pub record IsFirstPair (points : List Point) (r h fine n a b : ℕ) : Type 0 where
   pub first : IsFirstWith points r h fine a n b
-  pub none_before : AllApart points r h fine n a
+  pub none_before : AllDisjoint points r h fine n a
 
 -- ---- in a cue
 -- drones are apart at each of the first m fractions of a cue
-abbrev pub ApartInCue : List Traj → ℕ → ℕ → ℕ → ℕ → ℕ → Type 0
-ApartInCue trajs r h fine cue m =
+abbrev pub DisjointInCue : List Traj → ℕ → ℕ → ℕ → ℕ → ℕ → Type 0
+DisjointInCue trajs r h fine cue m =
     (at : ℕ) → at < m → (a b : ℕ) → a < b → b < length trajs →
-    SidesApart trajs r h fine (record { cue = cue; at = at; a = a; b = b })
+    SidesDisjoint trajs r h fine (record { cue = cue; at = at; a = a; b = b })
 
 -- the first fraction and pair of a cue at which two drones touch
 pub record IsFirstInCue (trajs : List Traj) (r h fine cue : ℕ) (s : Touch) : Type 0 where
@@ -155,9 +155,9 @@ pub record IsFirstInCue (trajs : List Traj) (r h fine cue : ℕ) (s : Touch) : T
   pub order : s.a < s.b
   pub inside : s.b < length trajs
   pub touches : SidesTouch trajs r h fine s
-  pub earlier : ApartInCue trajs r h fine cue s.at
+  pub earlier : DisjointInCue trajs r h fine cue s.at
   pub none_before : (a b : ℕ) → a < b → b < length trajs → PairBefore a b s.a s.b →
-      SidesApart trajs r h fine (record { cue = cue; at = s.at; a = a; b = b })
+      SidesDisjoint trajs r h fine (record { cue = cue; at = s.at; a = a; b = b })
 
 -- ---- the closest
 -- how many times the right side a left side may be

@@ -6,7 +6,7 @@
 //! the least left side of the test, and how far above the right side it is: docs/SEPARATION.md has the test. Neither
 //! takes memory.
 //!
-//! The crate stands on `sep_parts`, whose definition of apart it decides, and on `traj_codec` and `bezier_core` for
+//! The crate stands on `sep_parts`, for how far two drones are from one another, and on `traj_codec` and `bezier_core` for
 //! positions.
 #![tactic(auto)]
 
@@ -15,8 +15,6 @@ mod formed;
 mod nearest;
 mod places;
 mod site;
-#[cfg(test)]
-mod tests;
 mod touch;
 
 pub use nearest::{closest, closest_of};

@@ -6,7 +6,7 @@ ghost use Rattle.sep_parts.specs.Apart.{FlyApartExactly};
 ghost use Rattle.sep_parts.specs.Directions.{IsAxis};
 ghost use Rattle.fleet_curves.specs.Raised.{IsOneShow, most_drones};
 ghost use Rattle.touch_witness.specs.Sites.{IsFirstTouch, NoTouch};
-ghost use Rattle.touch_witness.specs.Steps.{AllApart, AllApartFrom, ApartInCue, AreStarts, HasCue, IsFirstInCue, IsFirstPair, IsFirstSite, IsFirstWith, IsShort, NoneTouch};
+ghost use Rattle.touch_witness.specs.Steps.{AllDisjoint, AllDisjointFrom, DisjointInCue, AreStarts, HasCue, IsFirstInCue, IsFirstPair, IsFirstSite, IsFirstWith, IsShort, NoneTouch};
 
 use crate::distance::is_touching;
 use crate::formed::formed_law;
@@ -16,15 +16,16 @@ use traj_codec::Traj;
 
 /// The first of the listed instants and pairs at which two drones touch, for ellipsoids of half axes `r`, `r` and `h`
 /// in millimetres: that of the first cue, in it of the first of the fractions 0 / 2^`fine` to 2^`fine` / 2^`fine`, then
-/// of the first drone, then of the second. At it the two closed ellipsoids share a point. None exactly where any two
-/// drones are apart at each of these instants, and so always where they are apart throughout the show. The trajectories
-/// are those of one show, each with a segment a cue. Takes no memory.
+/// of the first drone, then of the second. At it the two closed ellipsoids share a point. None exactly where at each of
+/// these instants the closed ellipsoids of any two drones share no point, and so always where drones are apart throughout
+/// the show. The trajectories are those of one show, each with a segment a cue. Takes no memory.
 pub fn first_touch(trajs: &Vec<Traj>, r: u16, h: u16, fine: u8) -> Option<Touch>
     requires show { IsOneShow trajs.now.items }
     requires r { IsAxis r }
     requires h { IsAxis h }
     requires fine { fine ≤ 5 }
     ensures exact { MatchOption result (NoTouch trajs.now.items r h fine) (IsFirstTouch trajs.now.items r h fine) }
+    ensures none { NoTouch trajs.now.items r h fine → result ≡ None }
     ensures clear { FlyApartExactly r h trajs.now.items → result ≡ None }
 {
     first_touch_of(trajs.as_slice(), r, h, fine)
@@ -37,6 +38,7 @@ pub fn first_touch_of(trajs: &[Traj], r: u16, h: u16, fine: u8) -> Option<Touch>
     requires h { IsAxis h }
     requires fine { fine ≤ 5 }
     ensures exact { MatchOption result (NoTouch trajs.now r h fine) (IsFirstTouch trajs.now r h fine) }
+    ensures none { NoTouch trajs.now r h fine → result ≡ None }
     ensures clear { FlyApartExactly r h trajs.now → result ≡ None }
 {
     formed_law(trajs);
@@ -77,7 +79,7 @@ fn touch_in_cue(
     requires r { IsAxis r }
     requires h { IsAxis h }
     requires fine { fine ≤ 5 }
-    ensures { MatchOption result (ApartInCue trajs.now r h fine cue (2 ^ fine + 1))
+    ensures { MatchOption result (DisjointInCue trajs.now r h fine cue (2 ^ fine + 1))
         (IsFirstInCue trajs.now r h fine cue) }
 {
     for at in 0..2u8.pow(fine as u32) + 1 {
@@ -107,7 +109,7 @@ fn first_pair(
     requires r { IsAxis r }
     requires h { IsAxis h }
     requires fine { fine ≤ 5 }
-    ensures { MatchOption result (AllApart points.now r h fine drones drones)
+    ensures { MatchOption result (AllDisjoint points.now r h fine drones drones)
         (λ pair. IsFirstPair points.now r h fine drones pair.0 pair.1) }
 {
     for a in 0..drones {
@@ -133,7 +135,7 @@ fn first_with(
     requires r { IsAxis r }
     requires h { IsAxis h }
     requires fine { fine ≤ 5 }
-    ensures { MatchOption result (AllApartFrom points.now r h fine a drones)
+    ensures { MatchOption result (AllDisjointFrom points.now r h fine a drones)
         (IsFirstWith points.now r h fine a drones) }
 {
     for b in a + 1..drones {

@@ -6,7 +6,7 @@ use Rattle.sep_certificate.proofs.judge.certificate_law.Goals as goal
 
 pub returns : goal.returns
 returns c = record {
-  apart = λ dirs curves clear cert valid. keeps (rules_of clear cert) dirs curves cert.trees valid;
+  apart = λ dirs curves clear cert small valid. keeps (rules_of clear cert) dirs curves cert.trees small valid;
   exact = λ dirs curves clear cert whole. (
     valid_of (rules_of clear cert) dirs curves (slots curves.drones curves.cues) 0 cert.trees whole.trees,
     none_of_valid (rules_of clear cert) dirs curves (slots curves.drones curves.cues) 0 cert.trees,

@@ -3,6 +3,7 @@ use Rattle.sep_parts.specs.declared.node.Node.{Node}
 use Rattle.sep_certificate.specs.declared.certificate.CertFault.{CertFault}
 use Rattle.sep_parts.specs.Versions.{table_of}
 use Rattle.sep_parts.specs.Slots.{slots}
+use Rattle.sep_parts.proofs.Table.{table_small}
 use Rattle.sep_certificate.specs.Certificates.{fault_of, first_fault_of, rules_of}
 use Rattle.sep_certificate.proofs.Named.{fault_named}
 use Rattle.sep_certificate.proofs.Verdicts.{valid_of, none_of_valid}
@@ -39,7 +40,7 @@ returns-in-None-clause-valid c = (
 
 pub returns-in-None-clause-apart : goal.returns-in-None-clause-apart
 returns-in-None-clause-apart c ok =
-    keeps (rules_of c.args.clearance c.args.cert.now) (table_of c.args.cert.now.version) c.args.curves.now c.args.cert.now.trees
+    keeps (rules_of c.args.clearance c.args.cert.now) (table_of c.args.cert.now.version) c.args.curves.now c.args.cert.now.trees (table_small c.args.cert.now.version)
     (valid_of (rules_of c.args.clearance c.args.cert.now) (table_of c.args.cert.now.version) c.args.curves.now (slots c.args.curves.now.drones c.args.curves.now.cues) 0 c.args.cert.now.trees c.requires.whole.whole.trees
     (ap (λ (ts : List (List Node)). first_fault_of (rules_of c.args.clearance c.args.cert.now) (table_of c.args.cert.now.version) c.args.curves.now (slots c.args.curves.now.drones c.args.curves.now.cues) 0 ts) (sym c.as_slice.ensures)
     ∙ sym c.fault_in.ensures ∙ c.in-None.is))

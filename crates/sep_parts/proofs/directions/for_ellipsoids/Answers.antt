@@ -1,4 +1,4 @@
-use Rattle.std.proofs.Common.{rules, ℤ, pos, ◌*ℤ◌, ◌≤ℤ◌, ◌<ℤ◌, ◌≡◌, ◌^◌, FitsSigned, subst, sym, to_z, of_z}
+use Rattle.std.proofs.Common.{rules, ℤ, pos, ◌*ℤ◌, ◌≤ℤ◌, ◌<ℤ◌, ◌≡◌, ◌^◌, FitsSigned, subst, sym}
 use Rattle.std.proofs.lemmas.Int.{to_z-of_z}
 use mir.Syntax.{w128}
 use Rattle.sep_parts.specs.Directions.{for_ellipsoids}

@@ -1,8 +1,5 @@
-use Rattle.std.proofs.Common.{lit<, FitsSigned}
-use Rattle.std.proofs.lemmas.Int.{to_z-of_z}
-use mir.Syntax.{w128}
+use Rattle.std.proofs.Common.{lit<}
 use Rattle.fleet_math.specs.Bernstein.{at}
-use Rattle.fleet_math.specs.Numbers.{IsBelow}
 use Rattle.bezier_core.proofs.EightLemmas.{below_at}
 use Rattle.sep_parts.proofs.Limits.{weight_kept}
 use Rattle.sep_parts.proofs.directions.for_reach.Goals as goal

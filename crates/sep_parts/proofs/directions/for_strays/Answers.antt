@@ -1,4 +1,4 @@
-use Rattle.std.proofs.Common.{rules, ap, sym, ◌∙◌, ◌≡◌, ℤ, pos, ◌^◌, ◌≤ℤ◌, FitsSigned, subst, to_z, of_z}
+use Rattle.std.proofs.Common.{rules, ap, sym, ◌∙◌, ◌≡◌, ℤ, pos, ◌^◌, ◌≤ℤ◌, FitsSigned, subst}
 use Rattle.std.proofs.lemmas.Int.{to_z-of_z}
 use mir.Syntax.{w128}
 use Rattle.sep_parts.specs.Directions.{for_strays, root_reaching}

@@ -1,4 +1,4 @@
-use Rattle.std.proofs.Common.{◌≡◌, FitsSigned, ◌*ℤ◌}
+use Rattle.std.proofs.Common.{◌≡◌, FitsSigned}
 use Rattle.std.proofs.lemmas.Int.{to_z-of_z}
 use mir.Syntax.{w64, w128}
 use Rattle.sep_parts.proofs.NarrowLemmas.{short_product, short_told, short_value}

@@ -1,9 +1,9 @@
 use Rattle.std.proofs.Common.{ℕ, ◌+◌, ◌^◌, ◌<◌}
-use Rattle.touch_witness.specs.Steps.{ApartInCue, AreStarts}
+use Rattle.touch_witness.specs.Steps.{DisjointInCue, AreStarts}
 use Rattle.touch_witness.proofs.touch.first_site.Given as goal
 
 abbrev pub invariant-loop-cue : goal.invariant-loop-cue
 invariant-loop-cue l = record {
   starts : AreStarts l.trajs l.cue l.here;
-  apart : (cue : ℕ) → cue < l.cue → ApartInCue l.trajs l.r l.h l.fine cue (2 ^ l.fine + 1);
+  apart : (cue : ℕ) → cue < l.cue → DisjointInCue l.trajs l.r l.h l.fine cue (2 ^ l.fine + 1);
 }
