@@ -21,7 +21,7 @@ use Rattle.fleet_math.proofs.RingLemmas.{linear, le_mul_pos, mul_add_ℤ, mul_as
 use Rattle.bezier_core.specs.Steps.{IsWithin}
 use Rattle.pair_search.specs.declared.lanes.Lanes.{Lanes}
 use Rattle.pair_search.specs.declared.lanes.Point.{Point}
-use Rattle.pair_search.specs.Lanes.{IsLane, IsLowAt, IsPoint, IsSmallLane, lane_value, reach_of, slack_of}
+use Rattle.pair_search.specs.Lanes.{IsLane, IsLowAt, IsPoint, IsSmallLane, lane_value, slack_on, slack_of}
 
 -- ---- sizes
 pub lane_product : (w x : ℤ) → IsBelow 4001 w → IsWithin (pos 65536) x → IsWithin (pos 262144000) (w *ℤ x)
@@ -87,7 +87,7 @@ low_small reach a b c positive small p q r = (omega (arith, ints), omega (arith,
 
 -- ---- what rounding down loses
 -- a value by its steps, times a weight
-weighed : (d : ℕ) (w q x : ℤ) → (pos d *ℤ q) ≤ℤ x → x <ℤ (pos d *ℤ (q +ℤ pos 1)) → (w *ℤ x) ≤ℤ (pos d *ℤ (w *ℤ q +ℤ reach_of w))
+weighed : (d : ℕ) (w q x : ℤ) → (pos d *ℤ q) ≤ℤ x → x <ℤ (pos d *ℤ (q +ℤ pos 1)) → (w *ℤ x) ≤ℤ (pos d *ℤ (w *ℤ q +ℤ slack_on w))
 weighed d (pos n) q x low high =
     let more : (pos n *ℤ x) ≤ℤ (pos n *ℤ (pos d *ℤ (q +ℤ pos 1))) = le_mul_pos n x (pos d *ℤ (q +ℤ pos 1)) (omega (arith, linear, high)) in
     subst (λ (z : ℤ). (pos n *ℤ x) ≤ℤ z) (mul_left_comm_ℤ (pos n) (pos d) (q +ℤ pos 1) ∙ ap (λ (z : ℤ). pos d *ℤ z) (spread n q)) more
@@ -106,9 +106,9 @@ weighed d (negsuc n) q x low high =
 
 -- three values along a direction
 sum_weighed : (d : ℕ) (u v w p q r x y z : ℤ) → (pos d *ℤ p) ≤ℤ x → x <ℤ (pos d *ℤ (p +ℤ pos 1)) → (pos d *ℤ q) ≤ℤ y → y <ℤ (pos d *ℤ (q +ℤ pos 1)) → (pos d *ℤ r) ≤ℤ z → z <ℤ (pos d *ℤ (r +ℤ pos 1)) →
-    (u *ℤ x +ℤ v *ℤ y +ℤ w *ℤ z) ≤ℤ (pos d *ℤ ((u *ℤ p +ℤ v *ℤ q +ℤ w *ℤ r) +ℤ (reach_of u +ℤ reach_of v +ℤ reach_of w)))
+    (u *ℤ x +ℤ v *ℤ y +ℤ w *ℤ z) ≤ℤ (pos d *ℤ ((u *ℤ p +ℤ v *ℤ q +ℤ w *ℤ r) +ℤ (slack_on u +ℤ slack_on v +ℤ slack_on w)))
 sum_weighed d u v w p q r x y z px xp qy yq rz zr =
-    subst (λ (m : ℤ). (u *ℤ x +ℤ v *ℤ y +ℤ w *ℤ z) ≤ℤ m) (sym (spread (pos d) (u *ℤ p) (v *ℤ q) (w *ℤ r) (reach_of u) (reach_of v) (reach_of w)))
+    subst (λ (m : ℤ). (u *ℤ x +ℤ v *ℤ y +ℤ w *ℤ z) ≤ℤ m) (sym (spread (pos d) (u *ℤ p) (v *ℤ q) (w *ℤ r) (slack_on u) (slack_on v) (slack_on w)))
     (omega (arith, linear, weighed d u p x px xp, weighed d v q y qy yq, weighed d w r z rz zr))
   where
     regroup : (a b c e f g : ℤ) → (a +ℤ b +ℤ c) +ℤ (e +ℤ f +ℤ g) ≡ (a +ℤ e) +ℤ (b +ℤ f) +ℤ (c +ℤ g)

@@ -41,13 +41,13 @@ abbrev pub IsLowAt : Lanes → Point → Point → ℕ → Type 0
 IsLowAt l p q i = (lane_value l p i <ℤ at l.low i) ⊎ (lane_value l q i <ℤ at l.low i)
 
 -- a weight where it is not negative, else 0
-abbrev pub reach_of : ℤ → ℤ
-reach_of (pos n) = pos n
-reach_of (negsuc n) = pos 0
+abbrev pub slack_on : ℤ → ℤ
+slack_on (pos n) = pos n
+slack_on (negsuc n) = pos 0
 
 -- by how much three coordinates that are rounded down may be too little, times their weights
 abbrev pub slack_of : List ℤ → ℤ
-slack_of w = reach_of (at w 0) +ℤ reach_of (at w 1) +ℤ reach_of (at w 2)
+slack_of w = slack_on (at w 0) +ℤ slack_on (at w 1) +ℤ slack_on (at w 2)
 
 -- the lane has the direction n
 pub record IsLane (c : Clearance) (n : List ℤ) (l : Lanes) (i : ℕ) : Type 0 where

@@ -6,7 +6,7 @@ ghost use Rattle.fleet_math.specs.Numbers.{IsBelow};
 ghost use Rattle.bezier_core.specs.Along.{controls};
 ghost use Rattle.bezier_core.specs.Steps.{IsWithin};
 ghost use Rattle.sep_parts.specs.Directions.{direction_of, threshold, weights};
-ghost use Rattle.pair_search.specs.Lanes.{AreLanes, AreSmallLanes, IsFloor, IsLowAt, IsPoint, IsSmallPoint, lane_value, reach_of, slack_of, steps_of};
+ghost use Rattle.pair_search.specs.Lanes.{AreLanes, AreSmallLanes, IsFloor, IsLowAt, IsPoint, IsSmallPoint, lane_value, slack_of, slack_on, steps_of};
 
 use sep_parts::{Level, Ruler};
 
@@ -63,12 +63,12 @@ fn low_of(threshold: i128, w: [i64; 3]) -> i32
     ensures reach { (pos 16384 *ℤ (result +ℤ slack_of w)) ≤ℤ (pos 5040 *ℤ threshold) }
     ensures small { IsBelow (2 ^ 29) result }
 {
-    let reach = reach_of(threshold);
+    let reach = whole_steps(threshold);
     (reach - slack(w[0]) - slack(w[1]) - slack(w[2])) as i32
 }
 
 // A threshold in whole steps, rounded down.
-fn reach_of(threshold: i128) -> i64
+fn whole_steps(threshold: i128) -> i64
     requires positive { pos 0 ≤ℤ threshold }
     requires small { threshold <ℤ pos (2 ^ 30) }
     ensures reach { (pos 16384 *ℤ result) ≤ℤ (pos 5040 *ℤ threshold) }
@@ -81,7 +81,7 @@ fn reach_of(threshold: i128) -> i64
 // By how much a coordinate that is rounded down may be too little, times its weight.
 fn slack(weight: i64) -> i64
     requires { IsBelow 4001 weight }
-    ensures exact { result ≡ reach_of weight }
+    ensures exact { result ≡ slack_on weight }
     ensures small { (pos 0 ≤ℤ result) × (result <ℤ pos 4001) }
 {
     if weight < 0 { 0 } else { weight }

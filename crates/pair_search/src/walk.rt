@@ -27,12 +27,13 @@ pub enum Found {
     Blocked { index: u16 },
 }
 
-/// Searches the tree of a pair of drones in a cue, for a clearance. `diff` has the raised curves of the second drone less those of the first, `dirs` the table of directions, and `nodes` is empty.
+/// Searches the tree of a pair of drones in a cue, for a clearance. `diff` has the raised curves of the second drone less those of the
+/// first, `dirs` the table of directions, and `nodes` is empty.
 ///
 /// `Clear` exactly where each of the 2^`depth` parts of the cue has a separating direction. Then `nodes` is, in preorder, the
 /// tree with the largest possible leaves, each with the first direction in the order of the table that separates its part.
-/// `Blocked` exactly where some part of that depth has no separating direction: the first such part; `nodes` is empty then. Want
-/// of memory is the only refusal, and leaves `nodes` empty.
+/// `Blocked` exactly where some part of that depth has no separating direction: the first such part; `nodes` is empty then. Out of
+/// memory is the only refusal, and leaves `nodes` empty.
 pub fn search<const M: usize>(
     diff: &[Bez<8>; 3],
     dirs: &Dirs<M>,

@@ -4,20 +4,20 @@ use mir.Syntax.{w64, w128}
 use Rattle.fleet_math.specs.Bernstein.{at}
 use Rattle.fleet_math.specs.Numbers.{IsBelow}
 use Rattle.bezier_core.proofs.EightLemmas.{below_at}
-use Rattle.pair_search.specs.Lanes.{reach_of}
+use Rattle.pair_search.specs.Lanes.{slack_on}
 use Rattle.pair_search.proofs.LaneLemmas.{long_fits, low_reach, low_small, low_told}
 use Rattle.pair_search.proofs.lanes.low_of.Goals as goal
 
 pub overflow_sub-result-3 : goal.overflow_sub-result-3
-overflow_sub-result-3 c = (low_told c.reach_of-reach.result c.slack.result c.slack-2.result c.slack-3.result c.reach_of-reach.ensures.positive c.reach_of-reach.ensures.small c.slack.ensures.small c.slack-2.ensures.small c.slack-3.ensures.small).0
+overflow_sub-result-3 c = (low_told c.whole_steps-reach.result c.slack.result c.slack-2.result c.slack-3.result c.whole_steps-reach.ensures.positive c.whole_steps-reach.ensures.small c.slack.ensures.small c.slack-2.ensures.small c.slack-3.ensures.small).0
 
 pub overflow_cast-result : goal.overflow_cast-result
-overflow_cast-result c = (low_told c.reach_of-reach.result c.slack.result c.slack-2.result c.slack-3.result c.reach_of-reach.ensures.positive c.reach_of-reach.ensures.small c.slack.ensures.small c.slack-2.ensures.small c.slack-3.ensures.small).1
+overflow_cast-result c = (low_told c.whole_steps-reach.result c.slack.result c.slack-2.result c.slack-3.result c.whole_steps-reach.ensures.positive c.whole_steps-reach.ensures.small c.slack.ensures.small c.slack-2.ensures.small c.slack-3.ensures.small).1
 
 pub returns-clause-small : goal.returns-clause-small
 returns-clause-small c =
-    rw ((low_told c.reach_of-reach.result c.slack.result c.slack-2.result c.slack-3.result c.reach_of-reach.ensures.positive c.reach_of-reach.ensures.small c.slack.ensures.small c.slack-2.ensures.small c.slack-3.ensures.small).2)
-    (low_small c.reach_of-reach.result c.slack.result c.slack-2.result c.slack-3.result c.reach_of-reach.ensures.positive c.reach_of-reach.ensures.small c.slack.ensures.small c.slack-2.ensures.small c.slack-3.ensures.small)
+    rw ((low_told c.whole_steps-reach.result c.slack.result c.slack-2.result c.slack-3.result c.whole_steps-reach.ensures.positive c.whole_steps-reach.ensures.small c.slack.ensures.small c.slack-2.ensures.small c.slack-3.ensures.small).2)
+    (low_small c.whole_steps-reach.result c.slack.result c.slack-2.result c.slack-3.result c.whole_steps-reach.ensures.positive c.whole_steps-reach.ensures.small c.slack.ensures.small c.slack-2.ensures.small c.slack-3.ensures.small)
 
 pub returns-clause-reach : goal.returns-clause-reach
 returns-clause-reach c =
@@ -27,14 +27,14 @@ returns-clause-reach c =
     let a_fits : FitsSigned w64 (at c.args.w 0) = long_fits _ a in
     let b_fits : FitsSigned w64 (at c.args.w 1) = long_fits _ b in
     let d_fits : FitsSigned w64 (at c.args.w 2) = long_fits _ d in
-    let x : c.slack.result ≡ reach_of (at c.args.w 0) = simp to_z-of_z at c.slack.ensures.exact in
-    let y : c.slack-2.result ≡ reach_of (at c.args.w 1) = simp to_z-of_z at c.slack-2.ensures.exact in
-    let z : c.slack-3.result ≡ reach_of (at c.args.w 2) = simp to_z-of_z at c.slack-3.ensures.exact in
+    let x : c.slack.result ≡ slack_on (at c.args.w 0) = simp to_z-of_z at c.slack.ensures.exact in
+    let y : c.slack-2.result ≡ slack_on (at c.args.w 1) = simp to_z-of_z at c.slack-2.ensures.exact in
+    let z : c.slack-3.result ≡ slack_on (at c.args.w 2) = simp to_z-of_z at c.slack-3.ensures.exact in
     let t_fits : FitsSigned w128 c.args.threshold = c.ranges.threshold in
-    let reach : (pos 16384 *ℤ c.reach_of-reach.result) ≤ℤ (pos 5040 *ℤ c.args.threshold) = simp to_z-of_z at c.reach_of-reach.ensures.reach in
-    let told = low_told c.reach_of-reach.result c.slack.result c.slack-2.result c.slack-3.result c.reach_of-reach.ensures.positive c.reach_of-reach.ensures.small c.slack.ensures.small c.slack-2.ensures.small c.slack-3.ensures.small in
-    rw told.2 (subst (λ (s : ℤ). (pos 16384 *ℤ ((c.reach_of-reach.result -ℤ c.slack.result -ℤ c.slack-2.result -ℤ c.slack-3.result) +ℤ s)) ≤ℤ (pos 5040 *ℤ c.args.threshold))
-    (sums x y z) (low_reach c.reach_of-reach.result c.slack.result c.slack-2.result c.slack-3.result c.args.threshold reach))
+    let reach : (pos 16384 *ℤ c.whole_steps-reach.result) ≤ℤ (pos 5040 *ℤ c.args.threshold) = simp to_z-of_z at c.whole_steps-reach.ensures.reach in
+    let told = low_told c.whole_steps-reach.result c.slack.result c.slack-2.result c.slack-3.result c.whole_steps-reach.ensures.positive c.whole_steps-reach.ensures.small c.slack.ensures.small c.slack-2.ensures.small c.slack-3.ensures.small in
+    rw told.2 (subst (λ (s : ℤ). (pos 16384 *ℤ ((c.whole_steps-reach.result -ℤ c.slack.result -ℤ c.slack-2.result -ℤ c.slack-3.result) +ℤ s)) ≤ℤ (pos 5040 *ℤ c.args.threshold))
+    (sums x y z) (low_reach c.whole_steps-reach.result c.slack.result c.slack-2.result c.slack-3.result c.args.threshold reach))
   where
     sums : {x y z u v w : ℤ} → x ≡ u → y ≡ v → z ≡ w → x +ℤ y +ℤ z ≡ u +ℤ v +ℤ w
     sums {x} {y} {z} {u} {v} {w} p q r = cc
