@@ -2,6 +2,7 @@ pub mod SentLemmas
 pub mod TextLemmas
 pub mod FoundLemmas
 pub mod TakenLemmas
+pub mod GoingLemmas
 pub mod CutLemmas
 pub mod MarkLemmas
 pub mod WaitingLemmas

@@ -1,22 +1,13 @@
 -- The bytes that wait in a buffer.
-use Rattle.std.proofs.Common.{◌≡◌, ℕ, ◌+◌, ◌-◌, ◌≤◌, min, List, [], ◌++◌, length, take, drop, append_assoc, length-append, Option, Some, None, refl, sym, ap, ◌∙◌, inl, inr, arith}
+use Rattle.std.proofs.Common.{◌≡◌, ℕ, ◌+◌, ◌-◌, ◌≤◌, min, List, ◌++◌, length, take, drop, append_assoc, length-append, Option, Some, None, refl, sym, ap, ◌∙◌, inl, inr, arith}
 use Rattle.std.specs.List.{copy_within}
 use Rattle.std.specs.Io.KnownBytes.{Consumes, Keeps, prepend_known}
 use Rattle.std.proofs.lemmas.Bool.{cases_lt}
 use Rattle.std.proofs.Math.Seq.{take-append-add}
 use Rattle.std.proofs.lemmas.List.{drop_all, drop-drop, drop-take, length-drop, length-take, length-take-le, take_at, take-take}
 use Rattle.std.proofs.lemmas.Slice.{take-put_mid, take-put_mid_below}
+use Rattle.fleet_io.specs.Steps.{Refills}
 use borrow.Rule.Slice.PartMut.{put_mid}
-
--- no byte stands between a place and itself
-pub nothing_between : (a b : ℕ) (buf : List ℕ) → a ≡ b → drop a (take b buf) ≡ []
-nothing_between a b buf e = drop_all a (take b buf) (omega (arith, length-take b buf))
-
--- the same bytes before known bytes keep them known
-pub Keeps-prepend : (xs ys : List ℕ) (old new : Option (List ℕ)) → xs ≡ ys → Keeps old new → Keeps (prepend_known xs old) (prepend_known ys new)
-Keeps-prepend xs ys None new e k = tt
-Keeps-prepend xs ys (Some old) None e k = absurd k
-Keeps-prepend xs ys (Some old) (Some new) e k = rw (e, k) refl
 
 -- the bytes between two places, cut from either side
 pub between_is : (start end : ℕ) (buf : List ℕ) → start ≤ end → take (end - start) (drop start buf) ≡ drop start (take end buf)
@@ -49,10 +40,13 @@ moved buf shifted given start end n k order within is long few =
     ∙ ap (λ (xs : List ℕ). xs ++ take n given) (between_is start end buf order)
 
 -- what was read is still to come
-pub Keeps-read : (waiting given : List ℕ) (old new : Option (List ℕ)) → Consumes old new given → Keeps (prepend_known waiting old) (prepend_known (waiting ++ given) new)
+Keeps-read : (waiting given : List ℕ) (old new : Option (List ℕ)) → Consumes old new given → Keeps (prepend_known waiting old) (prepend_known (waiting ++ given) new)
 Keeps-read waiting given None new is = tt
 Keeps-read waiting given (Some old) None is = absurd is
 Keeps-read waiting given (Some old) (Some new) is = append_assoc waiting given new ∙ ap (λ (xs : List ℕ). waiting ++ xs) (sym is)
+
+pub Keeps-refilled : (waited waits : List ℕ) (old new : Option (List ℕ)) → Refills waited waits old new → Keeps (prepend_known waited old) (prepend_known waits new)
+Keeps-refilled waited waits old new r = rw r.wait (Keeps-read waited r.bytes old new r.taken)
 
 -- what waits where a read after what was moved to the front failed
 pub unmoved : (buf shifted given : List ℕ) (start end k : ℕ) → start ≤ end → end ≤ length buf → shifted ≡ copy_within buf start end 0 →

@@ -5,3 +5,4 @@ pub mod Parts
 pub mod PartBytes
 pub mod Words
 pub mod Memory
+pub mod Steps

@@ -1,5 +1,5 @@
 -- Sources and sinks over memory: what one holds, and what a call makes of it.
-use Rattle.std.specs.Prelude.{ℕ, List, ◌++◌, Bool, ◌||◌, ◌&&◌, ◌==◌, nat_lt, nat_le, length, take, drop}
+use Rattle.std.specs.Prelude.{Option, ℕ, List, ◌++◌, Bool, ◌||◌, ◌&&◌, ◌==◌, nat_lt, nat_le, length, take, drop}
 use Rattle.std.specs.List.{list_any}
 use Rattle.fleet_io.specs.Causes.{counted}
 
@@ -69,3 +69,17 @@ pub record SureOut : Type 0 where
 -- after a call with these bytes
 abbrev pub sure_took : SureOut → List ℕ → SureOut
 sure_took s bytes = record { kept = take s.room (s.kept ++ bytes); room = s.room }
+
+-- a source over a reader of std
+pub record StdIn : Type 0 where
+  -- the bytes that the reader says are still to come
+  pub remaining : Option (List ℕ)
+  -- how many reads failed
+  pub faults : ℕ
+
+-- a sink over a writer of std
+pub record StdOut : Type 0 where
+  -- the bytes that the writer says it holds
+  pub contents : Option (List ℕ)
+  -- how many writes failed
+  pub faults : ℕ

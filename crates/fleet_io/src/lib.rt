@@ -4,8 +4,8 @@
 //! rose, so that a failed read is never taken for the end of the input. `Parts` cuts an input into the parts that
 //! marker lines divide, whole by `text` or byte by byte by `part_byte`; `byte` takes the bytes after them.
 //! `write_whole` writes all or says that it failed. `Lines` and `ShortLine` build texts of words. Over memory every
-//! call is exact (`MemSource`, `MemSink`; `SureSource` and `SureSink` never fail); `StdSource` and `StdSink` are the
-//! trusted edge.
+//! call is exact (`MemSource`, `MemSink`; `SureSource` and `SureSink` never fail). Over std (`StdSource`, `StdSink`) it
+//! is as exact as what the reader or writer says of its bytes; standard input and output say nothing of them.
 //!
 //! It stands on `text_lines` for what a line and a marker line are, on `arrayvec` for the short line's bytes, and
 //! on `itoa` for digits.
@@ -26,6 +26,3 @@ pub use short_line::ShortLine;
 pub use standard::{StdSink, StdSource};
 pub use stream::{Failed, Sink, Source, write_whole};
 pub use sure::{SureSink, SureSource};
-
-#[cfg(test)]
-mod tests;

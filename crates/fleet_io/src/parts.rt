@@ -8,6 +8,7 @@ ghost use Rattle.text_lines.specs.Marker.{is_marker, part_of};
 ghost use Rattle.fleet_io.specs.Held.{stream, given, Asked, has_whole_marker, buffer_bytes, text_limit};
 ghost use Rattle.fleet_io.specs.PartBytes.{AsksNext, begins_line, first_piece, is_marked_here, may_be_marker, next_of, PartLaw};
 ghost use Rattle.fleet_io.specs.Parts.{MarkerLaw, TakesFewAfter, TakesMarked, TakesPart};
+ghost use Rattle.fleet_io.specs.Steps.{Goes, Refills};
 
 use crate::stream::{Failed, Source};
 use std::alloc::{AllocError, AllocFailed, Global};
@@ -37,7 +38,7 @@ pub enum IoFault {
 }
 
 /// What comes next of a part.
-#[derive(Clone, Copy, Debug, PartialEq, Eq)]
+#[derive(Clone, Copy)]
 pub enum Ask {
     /// A byte of the part.
     Byte { b: u8 },
@@ -108,6 +109,24 @@ impl Parts {
         self.lines
     }
 
+    // The first of the bytes that wait, which is taken.
+    fn first(&mut self) -> Option<u8>
+        ensures some { IfSome result (λ byte. self.old.waiting ≡ byte ∷ self.new.waiting) }
+        ensures none { IfNone result ((self.old.waiting ≡ []) × (self.new.waiting ≡ [])) }
+        ensures sound { self.new.sound ≡ self.old.sound }
+        ensures ended { self.new.ended ≡ self.old.ended }
+        ensures lines { self.new.lines ≡ self.old.lines }
+        ensures at_line { self.new.at_line ≡ self.old.at_line }
+        ensures most { length self.old.waiting ≤ buffer_bytes }
+    {
+        if self.start == self.end {
+            return None;
+        }
+        let byte = self.buf[self.start];
+        self.start += 1;
+        Some(byte)
+    }
+
     // The next of the bytes to come. It asks the source only where none is waiting.
     fn next<S: Source>(&mut self, source: &mut S) -> Result<Option<u8>, Failed>
         requires { IsTrue self.old.ended → IsAtEnd (S.left source.old) }
@@ -115,32 +134,20 @@ impl Parts {
         ensures none { IfOk result (λ next. IfNone next (IsAtEnd (stream self.old (S.left source.old)) × Keeps (stream self.old (S.left source.old)) (stream self.new (S.left source.new)) × IsTrue self.new.ended)) }
         ensures err { OnErr result (Keeps (stream self.old (S.left source.old)) (stream self.new (S.left source.new))) }
         ensures alone { OnErr result ((self.old.waiting ≡ []) × (self.new.waiting ≡ []) × (self.old.ended ≡ false)) }
-        ensures left { TakesFront (S.left source.old) (S.left source.new) }
+        ensures goes { Goes self.old self.new (S.left source.old) (S.left source.new) (S.faults source.old) (S.faults source.new) }
         ensures cause { HasCause (S.faults source.old) (S.faults source.new) result }
-        ensures sound { self.new.sound ≡ self.old.sound }
-        ensures lines { self.new.lines ≡ self.old.lines }
         ensures at_line { self.new.at_line ≡ self.old.at_line }
-        ensures at_end { IsTrue self.new.ended → IsAtEnd (S.left source.new) }
-        ensures stays_ended { IsTrue self.old.ended → IsTrue self.new.ended × (S.left source.new ≡ S.left source.old) × (S.faults source.new ≡ S.faults source.old) }
         ensures unasked { 0 < length self.old.waiting → (S.left source.new ≡ S.left source.old) × (S.faults source.new ≡ S.faults source.old) × (self.old.waiting ≡ given result ++ self.new.waiting) }
         ensures asked { self.old.waiting ≡ [] → Consumes (S.left source.old) (S.left source.new) (given result ++ self.new.waiting) }
         ensures most { length (given result ++ self.new.waiting) ≤ buffer_bytes }
     {
-        if self.start == self.end {
-            if self.ended {
-                return Ok(None);
-            }
-            let count = source.read(&mut self.buf)?;
-            self.start = 0;
-            self.end = count;
-            if count == 0 {
-                self.ended = true;
-                return Ok(None);
-            }
+        if let Some(byte) = self.first() {
+            return Ok(Some(byte));
         }
-        let byte = self.buf[self.start];
-        self.start += 1;
-        Ok(Some(byte))
+        match self.more(source) {
+            Ok(()) => Ok(self.first()),
+            Err(Failed) => Err(Failed),
+        }
     }
 
     /// The bytes that the source has given and no call has taken: at most 4,096.
@@ -167,15 +174,12 @@ impl Parts {
     fn more<S: Source>(&mut self, source: &mut S) -> Result<(), Failed>
         requires few { length self.old.waiting < 4 }
         requires at_end { IsTrue self.old.ended → IsAtEnd (S.left source.old) }
-        ensures keeps { Keeps (stream self.old (S.left source.old)) (stream self.new (S.left source.new)) }
+        ensures refills { Refills self.old.waiting self.new.waiting (S.left source.old) (S.left source.new) }
         ensures grew { OnOk result (length self.old.waiting < length self.new.waiting ⊎ IsTrue self.new.ended) }
-        ensures left { TakesFront (S.left source.old) (S.left source.new) }
+        ensures failed { OnErr result ((self.new.waiting ≡ self.old.waiting) × (self.old.ended ≡ false)) }
+        ensures goes { Goes self.old self.new (S.left source.old) (S.left source.new) (S.faults source.old) (S.faults source.new) }
         ensures cause { HasCause (S.faults source.old) (S.faults source.new) result }
-        ensures sound { self.new.sound ≡ self.old.sound }
-        ensures lines { self.new.lines ≡ self.old.lines }
         ensures at_line { self.new.at_line ≡ self.old.at_line }
-        ensures at_end { IsTrue self.new.ended → IsAtEnd (S.left source.new) }
-        ensures stays_ended { IsTrue self.old.ended → IsTrue self.new.ended × (S.left source.new ≡ S.left source.old) × (S.faults source.new ≡ S.faults source.old) }
         ensures most { length self.new.waiting ≤ buffer_bytes }
     {
         if self.ended {
@@ -200,13 +204,9 @@ impl Parts {
         ensures keeps { Keeps (stream self.old (S.left source.old)) (stream self.new (S.left source.new)) }
         ensures tells { OnOk result ((may_be_marker self.new.waiting ≡ false) ⊎ IsTrue self.new.ended) }
         ensures unasked { may_be_marker self.old.waiting ≡ false → (self.new.waiting ≡ self.old.waiting) × (S.left source.new ≡ S.left source.old) × (S.faults source.new ≡ S.faults source.old) }
-        ensures left { TakesFront (S.left source.old) (S.left source.new) }
+        ensures goes { Goes self.old self.new (S.left source.old) (S.left source.new) (S.faults source.old) (S.faults source.new) }
         ensures cause { HasCause (S.faults source.old) (S.faults source.new) result }
-        ensures sound { self.new.sound ≡ self.old.sound }
-        ensures lines { self.new.lines ≡ self.old.lines }
         ensures at_line { self.new.at_line ≡ self.old.at_line }
-        ensures at_end { IsTrue self.new.ended → IsAtEnd (S.left source.new) }
-        ensures stays_ended { IsTrue self.old.ended → IsTrue self.new.ended × (S.left source.new ≡ S.left source.old) × (S.faults source.new ≡ S.faults source.old) }
         ensures most { length self.new.waiting ≤ buffer_bytes }
     {
         'reads: while !self.ended && may_be_marker(self.waiting()) {
@@ -231,16 +231,11 @@ impl Parts {
         ensures fits { IfOk result (λ part. length part.bytes.items ≤ limit) }
         ensures too_long { result ≡ Err IoFault.TooLong → IfSome (stream self.old (S.left source.old)) (λ all. limit < length (part_of all)) }
         ensures read { result ≡ Err IoFault.Read → Rose (S.faults source.old) (S.faults source.new) }
-        ensures later { S.faults source.old ≤ S.faults source.new }
-        ensures left { TakesFront (S.left source.old) (S.left source.new) }
-        ensures sound { self.new.sound ≡ self.old.sound }
-        ensures lines { self.new.lines ≡ self.old.lines }
+        ensures goes { Goes self.old self.new (S.left source.old) (S.left source.new) (S.faults source.old) (S.faults source.new) }
         ensures at_line { self.new.at_line ≡ self.old.at_line }
         ensures unmarked { result ≡ Err IoFault.Read → (self.old.ended ≡ false) × (self.new.waiting ≡ []) × ((taken : List ℕ) × Consumes (stream self.old (S.left source.old)) (S.left source.new) taken × (has_whole_marker taken ≡ false)) }
         ensures fed { IfOk result (λ part. part.marker ≡ true → IsTrue self.new.ended ⊎ TakesMarked (stream self.old (S.left source.old)) (stream self.new (S.left source.new))) }
         ensures to_end { IfOk result (λ part. part.marker ≡ false → IsTrue self.new.ended) }
-        ensures at_end { IsTrue self.new.ended → IsAtEnd (S.left source.new) }
-        ensures stays_ended { IsTrue self.old.ended → IsTrue self.new.ended × (S.left source.new ≡ S.left source.old) × (S.faults source.new ≡ S.faults source.old) }
         ensures asks { ((S.left source.new ≡ S.left source.old) × (S.faults source.new ≡ S.faults source.old)) ⊎ Asked self.old.waiting (S.left source.old) (S.left source.new) }
         ensures patient { has_whole_marker self.old.waiting ≡ true → (S.left source.new ≡ S.left source.old) × (S.faults source.new ≡ S.faults source.old) }
         ensures few { TakesAtMost (limit + 4 + 4096) (S.left source.old) (S.left source.new) }
@@ -365,12 +360,8 @@ impl Parts {
         ensures unasked { 0 < length self.old.waiting → (S.left source.new ≡ S.left source.old) × (S.faults source.new ≡ S.faults source.old) }
         ensures line { IfOk result (λ ask. self.new.at_line ≡ begins_line ask) }
         ensures ended { IfOk result (λ ask. ask ≡ Ask.«End» → IsTrue self.new.ended) }
-        ensures left { TakesFront (S.left source.old) (S.left source.new) }
+        ensures goes { Goes self.old self.new (S.left source.old) (S.left source.new) (S.faults source.old) (S.faults source.new) }
         ensures cause { HasCause (S.faults source.old) (S.faults source.new) result }
-        ensures sound { self.new.sound ≡ self.old.sound }
-        ensures lines { self.new.lines ≡ self.old.lines }
-        ensures at_end { IsTrue self.new.ended → IsAtEnd (S.left source.new) }
-        ensures stays_ended { IsTrue self.old.ended → IsTrue self.new.ended × (S.left source.new ≡ S.left source.old) × (S.faults source.new ≡ S.faults source.old) }
         ensures most { length self.new.waiting ≤ buffer_bytes }
     {
         match self.next(source) {
@@ -393,12 +384,8 @@ impl Parts {
         ensures unasked { 0 < length self.old.waiting → (self.old.at_line && may_be_marker self.old.waiting) ≡ false → (S.left source.new ≡ S.left source.old) × (S.faults source.new ≡ S.faults source.old) }
         ensures line { IfOk result (λ ask. self.new.at_line ≡ begins_line ask) }
         ensures ended { IfOk result (λ ask. ask ≡ Ask.«End» → IsTrue self.new.ended) }
-        ensures left { TakesFront (S.left source.old) (S.left source.new) }
+        ensures goes { Goes self.old self.new (S.left source.old) (S.left source.new) (S.faults source.old) (S.faults source.new) }
         ensures cause { HasCause (S.faults source.old) (S.faults source.new) result }
-        ensures sound { self.new.sound ≡ self.old.sound }
-        ensures lines { self.new.lines ≡ self.old.lines }
-        ensures at_end { IsTrue self.new.ended → IsAtEnd (S.left source.new) }
-        ensures stays_ended { IsTrue self.old.ended → IsTrue self.new.ended × (S.left source.new ≡ S.left source.old) × (S.faults source.new ≡ S.faults source.old) }
         ensures most { length self.new.waiting ≤ buffer_bytes }
     {
         if !self.at_line {

@@ -1,5 +1,5 @@
 //! The trusted edge: std's readers and writers as sources and sinks.
-ghost use Rattle.std.specs.Prelude.{◌≡◌, ◌≤◌, ◌<◌, length, None, IfOk, OnOk, OnErr};
+ghost use Rattle.std.specs.Prelude.{◌≡◌, ◌≤◌, ◌<◌, length, IfOk, OnOk, OnErr};
 ghost use Rattle.std.specs.Io.{ReadsAtMost};
 ghost use Rattle.std.specs.Io.KnownBytes.{ReadConsumes, WriteAppends};
 ghost use Rattle.fleet_io.specs.Causes.{HasCause, counted};
@@ -8,8 +8,8 @@ use crate::stream::{Failed, Sink, Source};
 use std::io::{Read, Write};
 use std::marker::Model;
 
-/// Any reader of std, with a count of its faults that stays at its type's last value. Clauses see the count alone:
-/// it tells no content.
+/// Any reader of std, with a count of its faults that stays at its type's last value. What it has left is what the
+/// reader says that it has left; standard input says nothing of it.
 #[derive(Drop)]
 pub struct StdSource<R: Read + Drop> {
     reader: R,
@@ -17,34 +17,34 @@ pub struct StdSource<R: Read + Drop> {
 }
 
 impl<R: Read + Drop> Model for StdSource<R> {
-    ghost use Rattle.std.specs.Prelude.{ℕ};
+    ghost use Rattle.fleet_io.specs.Memory.{StdIn};
 
-    ghost Value = { ℕ };
+    ghost Value = { StdIn };
 
-    ghost view = { λ s. s.faults };
+    ghost view = { λ s. record { remaining = R.remaining s.reader; faults = s.faults } };
 }
 
 impl<R: Read + Drop> StdSource<R> {
     /// A source over this reader, with no fault counted.
     pub fn make(reader: R) -> StdSource<R>
-        ensures { result ≡ 0 }
+        ensures { result ≡ record { remaining = R.remaining reader; faults = 0 } }
     {
         StdSource { reader, faults: 0 }
     }
 }
 
 impl<R: Read + Drop> Source for StdSource<R> {
-    ghost left = { λ _. None };
+    ghost left = { λ s. s.remaining };
 
-    ghost faults = { λ s. s };
+    ghost faults = { λ s. s.faults };
 
     fn read(&mut self, buf: &mut [u8]) -> Result<usize, Failed>
         ensures bound { ReadsAtMost result buf.new }
-        ensures bytes { ReadConsumes None None result buf.new }
-        ensures cause { HasCause self.old self.new result }
+        ensures bytes { ReadConsumes self.old.remaining self.new.remaining result buf.new }
+        ensures cause { HasCause self.old.faults self.new.faults result }
         // Each failure is counted, and nothing else is.
-        ensures fine { OnOk result (self.new ≡ self.old) }
-        ensures failed { OnErr result (self.new ≡ counted self.old) }
+        ensures fine { OnOk result (self.new.faults ≡ self.old.faults) }
+        ensures failed { OnErr result (self.new.faults ≡ counted self.old.faults) }
     {
         match self.reader.read(buf) {
             Ok(count) => Ok(count),
@@ -57,7 +57,8 @@ impl<R: Read + Drop> Source for StdSource<R> {
 }
 
 /// Any writer of std, with a count of its faults that stays at its type's last value. A write that takes nothing of
-/// a non-empty piece is a fault. Clauses see the count alone: it tells no content.
+/// a non-empty piece is a fault. What was written is what the writer says that it holds; standard output says nothing
+/// of it.
 #[derive(Drop)]
 pub struct StdSink<W: Write + Drop> {
     writer: W,
@@ -65,35 +66,35 @@ pub struct StdSink<W: Write + Drop> {
 }
 
 impl<W: Write + Drop> Model for StdSink<W> {
-    ghost use Rattle.std.specs.Prelude.{ℕ};
+    ghost use Rattle.fleet_io.specs.Memory.{StdOut};
 
-    ghost Value = { ℕ };
+    ghost Value = { StdOut };
 
-    ghost view = { λ s. s.faults };
+    ghost view = { λ s. record { contents = W.contents s.writer; faults = s.faults } };
 }
 
 impl<W: Write + Drop> StdSink<W> {
     /// A sink over this writer, with no fault counted.
     pub fn make(writer: W) -> StdSink<W>
-        ensures { result ≡ 0 }
+        ensures { result ≡ record { contents = W.contents writer; faults = 0 } }
     {
         StdSink { writer, faults: 0 }
     }
 }
 
 impl<W: Write + Drop> Sink for StdSink<W> {
-    ghost written = { λ _. None };
+    ghost written = { λ s. s.contents };
 
-    ghost faults = { λ s. s };
+    ghost faults = { λ s. s.faults };
 
     fn write(&mut self, bytes: &[u8]) -> Result<usize, Failed>
         ensures bound { IfOk result (λ n. n ≤ length bytes.now) }
         ensures progress { IfOk result (λ n. 0 < length bytes.now → 0 < n) }
-        ensures bytes { WriteAppends None None result bytes.now }
-        ensures cause { HasCause self.old self.new result }
+        ensures bytes { WriteAppends self.old.contents self.new.contents result bytes.now }
+        ensures cause { HasCause self.old.faults self.new.faults result }
         // Each failure is counted, and nothing else is.
-        ensures fine { OnOk result (self.new ≡ self.old) }
-        ensures failed { OnErr result (self.new ≡ counted self.old) }
+        ensures fine { OnOk result (self.new.faults ≡ self.old.faults) }
+        ensures failed { OnErr result (self.new.faults ≡ counted self.old.faults) }
     {
         match self.writer.write(bytes) {
             Ok(count) if count > 0 || bytes.is_empty() => Ok(count),

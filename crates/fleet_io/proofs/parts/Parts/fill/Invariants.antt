@@ -1,23 +1,17 @@
-use Rattle.std.proofs.Common.{◌≡◌, false, ◌-◌, ◌≤◌, cond, length}
-use Rattle.std.specs.Prelude.{IsTrue}
-use Rattle.std.specs.Io.KnownBytes.{Keeps, IsAtEnd}
+use Rattle.std.proofs.Common.{◌≡◌, false, ◌-◌, cond, length}
+use Rattle.std.specs.Io.KnownBytes.{Keeps}
 use Rattle.fleet_io.specs.Held.{stream}
 use Rattle.fleet_io.specs.PartBytes.{may_be_marker}
-use Rattle.fleet_io.specs.Taken.{TakesFront}
+use Rattle.fleet_io.specs.Steps.{Goes}
 use Rattle.fleet_io.proofs.parts.Parts.fill.Given as goal
 
 abbrev pub invariant-reads : goal.invariant-reads
 invariant-reads g l = record {
   keeps : Keeps (stream l.initial.self (g.S.Source.left l.initial.source)) (stream l.self (g.S.Source.left l.source));
-  left : TakesFront (g.S.Source.left l.initial.source) (g.S.Source.left l.source);
-  later : g.S.Source.faults l.initial.source ≤ g.S.Source.faults l.source;
-  sound : l.self.sound ≡ l.initial.self.sound;
-  lines : l.self.lines ≡ l.initial.self.lines;
+  goes : Goes l.initial.self l.self (g.S.Source.left l.initial.source) (g.S.Source.left l.source) (g.S.Source.faults l.initial.source) (g.S.Source.faults l.source);
   at_line : l.self.at_line ≡ l.initial.self.at_line;
-  at_end : IsTrue l.self.ended → IsAtEnd (g.S.Source.left l.source);
   unasked : may_be_marker l.initial.self.waiting ≡ false →
       (l.self.waiting ≡ l.initial.self.waiting) × (g.S.Source.left l.source ≡ g.S.Source.left l.initial.source) × (g.S.Source.faults l.source ≡ g.S.Source.faults l.initial.source);
-  stays_ended : IsTrue l.initial.self.ended → IsTrue l.self.ended × (g.S.Source.left l.source ≡ g.S.Source.left l.initial.source) × (g.S.Source.faults l.source ≡ g.S.Source.faults l.initial.source);
 }
 
 abbrev pub decreases-reads : goal.decreases-reads

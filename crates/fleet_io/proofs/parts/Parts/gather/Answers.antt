@@ -1,7 +1,8 @@
 use Rattle.std.proofs.Common.{◌≡◌, inl, inr, true, [], ◌∷◌, ◌++◌, ◌+◌, take, drop, length, length-append, refl, sym, ap, ◌∙◌, arith}
 use Rattle.std.proofs.lemmas.List.{length-drop, length-take}
 use Rattle.fleet_io.specs.Held.{given}
-use Rattle.fleet_io.proofs.TakenLemmas.{Consumes-append, Consumes-nil, TakesFront-trans, TakesFront-none}
+use Rattle.fleet_io.proofs.TakenLemmas.{Consumes-append, Consumes-nil}
+use Rattle.fleet_io.proofs.GoingLemmas.{Goes-trans, Goes-unasked}
 use Rattle.fleet_io.proofs.AskingLemmas.{Asking-step, Asking-none, Gathers-unmarked, promised, promised_after}
 use Rattle.fleet_io.proofs.AloneLemmas.{taken_alone, unless}
 use Rattle.fleet_io.proofs.MarkLemmas.{Gathers-add, Gathers-none, ends_marker_is}
@@ -11,8 +12,8 @@ use Rattle.fleet_io.proofs.ReadingLemmas.{takes_at_most}
 use Rattle.std.proofs.KnownBytes.{Consumes-kept}
 use Rattle.fleet_io.proofs.parts.Parts.gather.Goals as goal
 
-pub returns-in-Err-clause-left : goal.returns-in-Err-clause-left
-returns-in-Err-clause-left g c = TakesFront-trans _ _ _ c.bytes.invariant.left c.next.ensures.left
+pub returns-in-Err-clause-goes : goal.returns-in-Err-clause-goes
+returns-in-Err-clause-goes g c = Goes-trans _ _ _ _ _ _ _ _ _ c.bytes.invariant.goes c.next.ensures.goes
 
 pub returns-then-ends_marker-clause-part : goal.returns-then-ends_marker-clause-part
 returns-then-ends_marker-clause-part g c =
@@ -24,23 +25,15 @@ returns-then-ends_marker-clause-too_long g c =
     let is = ends_marker_is c.in-Some.byte (drop c.bytes.start c.bytes.bytes.items) (rw c.deref.ensures.value at (sym c.if-ends_marker.ensures)) in
     refused_at_start _ _ c.bytes.bytes.items c.bytes.start c.args.limit c.up_to_marker.result c.bytes.invariant.gathers.within (at_marker _ _ _ c.bytes.bytes.items c.bytes.start c.bytes.invariant.taken (rw (c.in-Some.is, is.0) at c.in-Ok.ensures.some) is.1 c.bytes.invariant.gathers) c.up_to_marker.ensures.err
 
-pub returns-then-ends_marker-clause-left : goal.returns-then-ends_marker-clause-left
-returns-then-ends_marker-clause-left g c = TakesFront-trans _ _ _ c.bytes.invariant.left c.next.ensures.left
+pub returns-then-ends_marker-clause-goes : goal.returns-then-ends_marker-clause-goes
+returns-then-ends_marker-clause-goes g c = Goes-trans _ _ _ _ _ _ _ _ _ c.bytes.invariant.goes c.next.ensures.goes
 
 pub bytes-preserved : goal.bytes-preserved
 bytes-preserved g c = record {
   gathers = Gathers-add c.bytes.bytes.items _ c.bytes.start _ c.in-Some.byte c.bytes.invariant.gathers (rw c.deref.ensures.value at (sym c.if-ends_marker.ensures)) c.in_ok-add-in-Some.ensures.ok c.in_ok-add-in-Some.ensures.start;
   taken = rw c.in_ok-add-in-Some.ensures.ok (Consumes-append _ _ _ _ _ c.bytes.invariant.taken (rw c.in-Some.is at c.in-Ok.ensures.some));
-  left = TakesFront-trans _ _ _ c.bytes.invariant.left c.next.ensures.left;
-  later = omega (arith, c.next.ensures.cause.later);
-  sound = c.next.ensures.sound ∙ c.bytes.invariant.sound;
-  lines = c.next.ensures.lines ∙ c.bytes.invariant.lines;
+  goes = Goes-trans _ _ _ _ _ _ _ _ _ c.bytes.invariant.goes c.next.ensures.goes;
   at_line = c.next.ensures.at_line ∙ c.bytes.invariant.at_line;
-  at_end = c.next.ensures.at_end;
-  stays_ended = λ ended.
-      let before = c.bytes.invariant.stays_ended ended in
-      let now = c.next.ensures.stays_ended before.0 in
-      (now.0, now.1 ∙ before.1, now.2 ∙ before.2);
   asking =
       let gives : given c.next.result ≡ c.in-Some.byte ∷ [] = rw (c.in-Ok.is, c.in-Some.is) refl in
       rw (c.in_ok-add-in-Some.ensures.ok, ← gives) (Asking-step _ _ _ (given c.next.result) _ c.bytes.start _ _ _ _ _ _ c.bytes.invariant.gathers c.bytes.invariant.asking c.next.ensures.unasked c.next.ensures.asked c.next.ensures.most);
@@ -48,8 +41,8 @@ bytes-preserved g c = record {
   most = omega (arith, c.next.ensures.most, length-append (given c.next.result) c.next.new.self.waiting);
 }
 
-pub returns-in_err-add-in-Some-clause-left : goal.returns-in_err-add-in-Some-clause-left
-returns-in_err-add-in-Some-clause-left g c = TakesFront-trans _ _ _ c.bytes.invariant.left c.next.ensures.left
+pub returns-in_err-add-in-Some-clause-goes : goal.returns-in_err-add-in-Some-clause-goes
+returns-in_err-add-in-Some-clause-goes g c = Goes-trans _ _ _ _ _ _ _ _ _ c.bytes.invariant.goes c.next.ensures.goes
 
 pub returns-in-None-clause-part : goal.returns-in-None-clause-part
 returns-in-None-clause-part g c =
@@ -68,13 +61,8 @@ pub bytes-init : goal.bytes-init
 bytes-init g c = record {
   gathers = rw c.new-bytes.ensures.items Gathers-none;
   taken = rw c.new-bytes.ensures.items (Consumes-nil _);
-  left = TakesFront-none _;
-  later = omega arith;
-  sound = refl;
-  lines = refl;
+  goes = Goes-unasked _ _ _ _ refl refl refl c.requires.at_end;
   at_line = refl;
-  at_end = c.requires.at_end;
-  stays_ended = λ ended. (ended, refl, refl);
   asking = rw c.new-bytes.ensures.items (Asking-none _ _ _);
   short = omega arith;
   most = rw (← c.self.view_is) (omega (arith, c.self.invariant.1, length-drop c.self.inside.start (take c.self.inside.end c.self.inside.buf), length-take c.self.inside.end c.self.inside.buf));
@@ -117,7 +105,7 @@ returns-clause-patient g c = (promised _ _ _ _ _ _ _ c.bytes.invariant.asking).1
 pub returns-in-Err-clause-unmarked : goal.returns-in-Err-clause-unmarked
 returns-in-Err-clause-unmarked g c = λ _.
     let alone = c.in-Err.ensures.alone in (
-      unless _ _ (λ ended. (c.bytes.invariant.stays_ended ended).0) alone.2,
+      unless _ _ (λ ended. (c.bytes.invariant.goes.stays_ended ended).0) alone.2,
       alone.1,
       (c.bytes.bytes.items, taken_alone _ _ _ _ _ alone.1 c.bytes.invariant.taken c.in-Err.ensures.err, Gathers-unmarked _ c.bytes.start c.bytes.invariant.gathers),
     )
@@ -155,3 +143,11 @@ returns-in-None-clause-few g c =
 
 pub returns-clause-few : goal.returns-clause-few
 returns-clause-few g c = takes_at_most _ _ c.bytes.bytes.items _ _ (c.args.limit + 4) c.bytes.invariant.taken c.bytes.invariant.short c.bytes.invariant.most
+
+-- ---- how the reader and its source went on
+
+pub returns-in-None-clause-goes : goal.returns-in-None-clause-goes
+returns-in-None-clause-goes g c = Goes-trans _ _ _ _ _ _ _ _ _ c.bytes.invariant.goes c.next.ensures.goes
+
+pub returns-clause-goes : goal.returns-clause-goes
+returns-clause-goes g c = c.bytes.invariant.goes

@@ -1,8 +1,7 @@
 use Rattle.std.proofs.Common.{◌≡◌, ◌+◌, ◌-◌, ◌≤◌, length}
-use Rattle.std.specs.Prelude.{IsTrue}
-use Rattle.std.specs.Io.KnownBytes.{Consumes, IsAtEnd}
+use Rattle.std.specs.Io.KnownBytes.{Consumes}
 use Rattle.fleet_io.specs.Held.{stream}
-use Rattle.fleet_io.specs.Taken.{TakesFront}
+use Rattle.fleet_io.specs.Steps.{Goes}
 use Rattle.fleet_io.proofs.MarkLemmas.{Gathers}
 use Rattle.fleet_io.proofs.AskingLemmas.{Asking}
 use Rattle.fleet_io.proofs.parts.Parts.gather.Given as goal
@@ -11,13 +10,8 @@ abbrev pub invariant-bytes : goal.invariant-bytes
 invariant-bytes g l = record {
   gathers : Gathers l.bytes.items l.start;
   taken : Consumes (stream l.initial.self (g.S.Source.left l.initial.source)) (stream l.self (g.S.Source.left l.source)) l.bytes.items;
-  left : TakesFront (g.S.Source.left l.initial.source) (g.S.Source.left l.source);
-  later : g.S.Source.faults l.initial.source ≤ g.S.Source.faults l.source;
-  sound : l.self.sound ≡ l.initial.self.sound;
-  lines : l.self.lines ≡ l.initial.self.lines;
+  goes : Goes l.initial.self l.self (g.S.Source.left l.initial.source) (g.S.Source.left l.source) (g.S.Source.faults l.initial.source) (g.S.Source.faults l.source);
   at_line : l.self.at_line ≡ l.initial.self.at_line;
-  at_end : IsTrue l.self.ended → IsAtEnd (g.S.Source.left l.source);
-  stays_ended : IsTrue l.initial.self.ended → IsTrue l.self.ended × (g.S.Source.left l.source ≡ g.S.Source.left l.initial.source) × (g.S.Source.faults l.source ≡ g.S.Source.faults l.initial.source);
   asking : Asking l.initial.self.waiting l.bytes.items l.self.waiting (g.S.Source.left l.initial.source) (g.S.Source.left l.source) (g.S.Source.faults l.initial.source) (g.S.Source.faults l.source);
   short : length l.bytes.items ≤ l.limit + 4;
   most : length l.self.waiting ≤ 4096;

@@ -1,14 +1,26 @@
-use Rattle.std.proofs.Common.{◌-◌, arith}
-use Rattle.fleet_io.proofs.WaitingLemmas.{moved, unmoved, Keeps-prepend, Keeps-read}
+use Rattle.std.proofs.Common.{[], ◌-◌, append-nil, sym, ◌∙◌, take, arith}
+use Rattle.std.proofs.KnownBytes.{Consumes-kept}
+use Rattle.fleet_io.proofs.TakenLemmas.{Consumes-nil}
+use Rattle.fleet_io.proofs.WaitingLemmas.{moved, unmoved}
 use Rattle.fleet_io.proofs.parts.Parts.more.Goals as goal
 
-pub returns-in-Err-clause-keeps : goal.returns-in-Err-clause-keeps
-returns-in-Err-clause-keeps g c =
-    let s = c.self.inside in
-    rw (← c.self.view_is) (Keeps-prepend _ _ _ _ (unmoved s.buf c.copy_within.new.self c.read.new.buf s.start s.end (4096 - (s.end - s.start)) (omega arith) (omega arith) c.copy_within.ensures.after) c.in-Err.ensures.bytes)
+pub returns-then-self-clause-refills : goal.returns-then-self-clause-refills
+returns-then-self-clause-refills g c = record { bytes = []; wait = sym (append-nil _); taken = Consumes-nil _ }
 
-pub returns-in-Ok-clause-keeps : goal.returns-in-Ok-clause-keeps
-returns-in-Ok-clause-keeps g c =
+pub returns-in-Err-clause-refills : goal.returns-in-Err-clause-refills
+returns-in-Err-clause-refills g c =
     let s = c.self.inside in
-    rw (← c.self.view_is, moved s.buf c.copy_within.new.self c.read.new.buf s.start s.end c.in-Ok.count (4096 - (s.end - s.start)) (omega arith) (omega arith) c.copy_within.ensures.after (omega arith) (omega (arith, c.in-Ok.ensures.bound.0)))
-    (Keeps-read _ _ _ _ c.in-Ok.ensures.bytes.0)
+    rw (← c.self.view_is) (record {
+      bytes = [];
+      wait = sym (unmoved s.buf c.copy_within.new.self c.read.new.buf s.start s.end (4096 - (s.end - s.start)) (omega arith) (omega arith) c.copy_within.ensures.after) ∙ sym (append-nil _);
+      taken = Consumes-kept _ _ _ [] (Consumes-nil _) c.in-Err.ensures.bytes;
+    })
+
+pub returns-in-Ok-clause-refills : goal.returns-in-Ok-clause-refills
+returns-in-Ok-clause-refills g c =
+    let s = c.self.inside in
+    rw (← c.self.view_is) (record {
+      bytes = take c.in-Ok.count c.read.new.buf;
+      wait = moved s.buf c.copy_within.new.self c.read.new.buf s.start s.end c.in-Ok.count (4096 - (s.end - s.start)) (omega arith) (omega arith) c.copy_within.ensures.after (omega arith) (omega (arith, c.in-Ok.ensures.bound.0));
+      taken = c.in-Ok.ensures.bytes.0;
+    })
