@@ -160,6 +160,3 @@ pub fn parse_command(payload: &[u8]) -> Result<Command, CommandFault>
 {
     command_in(payload)
 }
-
-#[cfg(test)]
-mod tests;

@@ -18,6 +18,3 @@ pub use packet::{
 pub use reading::{
     Down, MEMORY_LEAST, PAYLOAD_BYTES, PacketFault, Piece, Up, parse_down, parse_up, parse_up_bytes,
 };
-
-#[cfg(test)]
-mod tests;

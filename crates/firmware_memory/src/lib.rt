@@ -166,6 +166,3 @@ impl Drone {
         }
     }
 }
-
-#[cfg(test)]
-mod tests;

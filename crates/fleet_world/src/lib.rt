@@ -10,8 +10,6 @@
 mod again;
 mod mail;
 mod schedule;
-#[cfg(test)]
-mod tests;
 mod world;
 
 ghost use Rattle.upload_model.specs.Theorem.{UploadLaw, StartLaw, UnstartedLaw, LastingLaw};

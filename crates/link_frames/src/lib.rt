@@ -11,8 +11,6 @@ ghost use Rattle.link_frames.specs.Frames.{FrameLaw};
 
 mod frame;
 mod frames;
-#[cfg(test)]
-mod tests;
 
 pub use frame::{
     END_BYTE, FRAME_BYTES, Fed, Frame, FrameFault, MOST_DRONES, PACKET_BYTE, TICK_BYTE, View,

@@ -15,8 +15,6 @@ mod exchange;
 mod host;
 mod input;
 mod output;
-#[cfg(test)]
-mod tests;
 
 pub use exchange::upload;
 pub use host::LinkHost;

@@ -46,6 +46,3 @@ pub fn limits_law()
 pub fn cover_law()
     ensures { (bytes : List ℕ) → Covers bytes }
 {}
-
-#[cfg(test)]
-mod tests;

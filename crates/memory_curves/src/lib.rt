@@ -9,8 +9,6 @@
 
 mod curve;
 mod law;
-#[cfg(test)]
-mod tests;
 
 pub use curve::curve_of;
 pub use law::curve_law;

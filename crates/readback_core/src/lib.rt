@@ -10,12 +10,8 @@ mod mail;
 mod reads;
 mod rows;
 mod schedule;
-#[cfg(test)]
-mod tests;
 mod tick;
 mod world;
-#[cfg(test)]
-mod world_tests;
 
 pub use careful::Careful;
 pub use law::{limits_law, readback_law};

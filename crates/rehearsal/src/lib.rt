@@ -8,8 +8,6 @@
 #![tactic(auto)]
 
 mod blank;
-#[cfg(test)]
-mod tests;
 mod text;
 
 pub use blank::{rehearse, rehearse_carefully};

@@ -14,8 +14,6 @@ mod host;
 mod row;
 mod rows;
 mod session;
-#[cfg(test)]
-mod tests;
 mod tick;
 
 ghost use Rattle.std.specs.Prelude.{◌≡◌};

@@ -1,4 +1,0 @@
-use Rattle.link_frames.proofs.tests.seen.Goals as goal
-
-pub bytes-init : goal.bytes-init
-bytes-init c = record { begun = rw c.make-frames.ensures c.frame_law.ensures.none }

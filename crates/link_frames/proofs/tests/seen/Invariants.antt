@@ -1,5 +1,0 @@
-use Rattle.link_frames.specs.Frames.{IsBegun}
-use Rattle.link_frames.proofs.tests.seen.Given as goal
-
-abbrev pub invariant-bytes : goal.invariant-bytes
-invariant-bytes l = record { begun : IsBegun l.frames }

@@ -1,0 +1,9 @@
+-- What holds whenever a loop of `fly` begins a turn.
+use Rattle.std.proofs.Common.{◌≡◌, length}
+use Rattle.radio_tests.proofs.careful_world.fly.Given as goal
+
+abbrev pub invariant-loop-n : goal.invariant-loop-n
+invariant-loop-n l = length l.world.drones ≡ length l.fn.world.drones
+
+abbrev pub invariant-loop-drone : goal.invariant-loop-drone
+invariant-loop-drone l = length l.world.drones ≡ length l.fn.world.drones

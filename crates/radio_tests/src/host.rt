@@ -1,0 +1,299 @@
+//! A host from its first packets to its end, answer by answer. The bytes are those of docs/RADIO.md, or
+//! were written out by hand from it.
+
+ghost use Rattle.std.specs.Prelude.{◌≡◌, ◌≤◌, IfOk};
+ghost use Rattle.upload_model.specs.Sessions.{drone_count};
+
+use crtp_packets::from_bytes;
+use std::alloc::{AllocError, Global};
+use std::test::Fail;
+use upload_core::{Event, Host, Listed, Load, Out, Progress, Sent, Session, Settings};
+
+/// A trajectory of 28 bytes, so of two writes, with one segment.
+const PATH: [u8; 28] = [
+    0, 0, 0, 0, 0xE8, 3, 0, 0, 3, 0xD0, 7, 0, 0, 0, 0, 0, 0, 0xE8, 3, 0xE8, 3, 0xE8, 3, 0xE8, 3, 0,
+    0, 0,
+];
+
+/// A session that brings the path to two drones.
+fn two_drones(alloc: Global, start: bool) -> Result<Session, AllocError>
+    ensures { IfOk result (λ s. drone_count s ≡ 2) }
+{
+    let mut loads = Vec::new(alloc);
+    loads.push(Load {
+        bytes: Listed::from_vec(PATH.to_vec(alloc)?),
+        pieces: 1,
+    })?;
+    loads.push(Load {
+        bytes: Listed::from_vec(PATH.to_vec(alloc)?),
+        pieces: 1,
+    })?;
+    let settings = Settings {
+        memory_id: 2,
+        offset: 0,
+        trajectory_id: 0,
+    };
+    Session::make(alloc, settings, &loads, start)
+}
+
+/// One byte with 255 segments and the path with two, for the last places of two drones.
+fn last_places(alloc: Global) -> Result<Session, AllocError>
+    ensures { IfOk result (λ s. drone_count s ≡ 2) }
+{
+    let mut loads = Vec::new(alloc);
+    loads.push(Load {
+        bytes: Listed::from_vec([7].to_vec(alloc)?),
+        pieces: 255,
+    })?;
+    loads.push(Load {
+        bytes: Listed::from_vec(PATH.to_vec(alloc)?),
+        pieces: 2,
+    })?;
+    let settings = Settings {
+        memory_id: 3,
+        offset: 4068,
+        trajectory_id: 9,
+    };
+    Ok(Session::of_loads(settings, loads, true))
+}
+
+/// These bytes come up from a drone; the test ends where they are no packet.
+fn up(drone: u8, bytes: &[u8]) -> Result<Event, Fail> {
+    let packet = from_bytes(bytes).map_err(|_| Fail::from(AllocError))?;
+    Ok(Event::Up { drone, packet })
+}
+
+fn sent(drone: u8, packet: u16) -> Sent {
+    Sent { drone, packet }
+}
+
+/// Whether these are all packets of a drone, in order.
+fn has_packets(session: &Session, drone: usize, wanted: &[&[u8]]) -> bool {
+    if drone >= session.drones() || session.count(drone) != wanted.len() {
+        return false;
+    }
+    for k in 0..session.count(drone) {
+        if session.packet(drone, k).bytes() != wanted[k] {
+            return false;
+        }
+    }
+    true
+}
+
+/// The packets that bring the path to place 0, and start it.
+const PATH_PACKETS: [&[u8]; 4] = [
+    &[
+        0x4E, 2, 0, 0, 0, 0, 0, 0, 0, 0, 0xE8, 3, 0, 0, 3, 0xD0, 7, 0, 0, 0, 0, 0, 0, 0xE8, 3,
+        0xE8, 3, 0xE8, 3, 0xE8,
+    ],
+    &[0x4E, 2, 0x18, 0, 0, 0, 3, 0, 0, 0],
+    &[0x8C, 6, 0, 1, 1, 0, 0, 0, 0, 1],
+    &[0x8C, 5, 0, 0, 0, 0, 0, 0, 0x80, 0x3F],
+];
+
+/// The packets that bring one byte to place 4068.
+const LAST_BYTE: [&[u8]; 3] = [
+    &[0x4E, 3, 0xE4, 0x0F, 0, 0, 7],
+    &[0x8C, 6, 9, 1, 1, 0xE4, 0x0F, 0, 0, 255],
+    &[0x8C, 5, 0, 0, 0, 9, 0, 0, 0x80, 0x3F],
+];
+
+/// The packets that bring the path to place 4068.
+const LAST_PATH: [&[u8]; 4] = [
+    &[
+        0x4E, 3, 0xE4, 0x0F, 0, 0, 0, 0, 0, 0, 0xE8, 3, 0, 0, 3, 0xD0, 7, 0, 0, 0, 0, 0, 0, 0xE8,
+        3, 0xE8, 3, 0xE8, 3, 0xE8,
+    ],
+    &[0x4E, 3, 0xFC, 0x0F, 0, 0, 3, 0, 0, 0],
+    &[0x8C, 6, 9, 1, 1, 0xE4, 0x0F, 0, 0, 2],
+    &[0x8C, 5, 0, 0, 0, 9, 0, 0, 0x80, 0x3F],
+];
+
+#[test]
+fn packets_are_those_of_the_format(rt: HostRuntime) -> Result<(), Fail> {
+    let alloc = rt.alloc();
+    let session = two_drones(alloc, true)?;
+    assert!(rt; has_packets(&session, 0, &PATH_PACKETS));
+    assert!(rt; has_packets(&session, 1, &PATH_PACKETS));
+    let session = two_drones(alloc, false)?;
+    assert!(rt; has_packets(&session, 1, &PATH_PACKETS[..3]));
+    let session = last_places(alloc)?;
+    assert!(rt; has_packets(&session, 0, &LAST_BYTE));
+    assert!(rt; has_packets(&session, 1, &LAST_PATH));
+    let settings = session.settings();
+    assert_eq!(rt; settings.memory_id, 3);
+    assert_eq!(rt; settings.offset, 4068);
+    assert_eq!(rt; settings.trajectory_id, 9);
+    assert_eq!(rt; session.load_len(0), 1);
+    assert_eq!(rt; session.load_len(1), 28);
+    let bytes: [(usize, u8); 3] = [(0, 0), (9, 0xD0), (27, 0)];
+    for (i, byte) in bytes {
+        assert!(rt; i < session.load_len(1) && session.load_byte(1, i) == byte);
+    }
+    Ok(())
+}
+
+/// Whether a drone's first open packet is this one, and these bits are those of its first 64 packets.
+fn is_at(host: &Host, drone: usize, cursor: usize, word: u64) -> bool {
+    drone < host.session().drones()
+        && host.session().count(drone) > 0
+        && host.cursor(drone) == cursor
+        && host.word(drone, 0) == word
+}
+
+#[test]
+fn cursors_and_words(rt: HostRuntime) -> Result<(), Fail> {
+    let alloc = rt.alloc();
+    let mut host = Host::make(alloc, two_drones(alloc, true)?)?;
+    let mut out = Out::new();
+    assert!(rt; is_at(&host, 0, 0, 0));
+    // The define is acknowledged before it is sent, and so is a start.
+    let steps: [(&[u8], usize, u64); 4] = [
+        (&[0x8C, 6, 0, 1, 0], 0, 0b0100),
+        (&[0x4E, 2, 0, 0, 0, 0, 0], 1, 0b0101),
+        (&[0x8C, 5, 0, 0, 0], 1, 0b1101),
+        (&[0x4E, 2, 24, 0, 0, 0, 0], 4, 0b1111),
+    ];
+    for (bytes, cursor, word) in steps {
+        assert!(rt; host.event(up(0, bytes)?, &mut out) == Progress::Going);
+        assert!(rt; is_at(&host, 0, cursor, word));
+        assert!(rt; is_at(&host, 1, 0, 0));
+    }
+    assert!(rt; host.event(Event::Tick, &mut out) == Progress::Going);
+    let writes = [sent(1, 0), sent(1, 1)];
+    assert!(rt; out.as_slice() == writes.as_slice());
+    Ok(())
+}
+
+#[test]
+fn a_packet_is_refused(rt: HostRuntime) -> Result<(), Fail> {
+    let alloc = rt.alloc();
+    let mut host = Host::make(alloc, two_drones(alloc, false)?)?;
+    let mut out = Out::new();
+    host.first(&mut out);
+    let first = [sent(0, 0), sent(0, 1), sent(1, 0), sent(1, 1)];
+    assert!(rt; out.as_slice() == first.as_slice());
+    // From a drone that isn't there, and of another port.
+    let refusal = [0x4E, 2, 0, 0, 0, 0, 5];
+    for (drone, bytes) in [(2, refusal.as_slice()), (0, [0, 0x48, 0x69].as_slice())] {
+        assert!(rt; host.event(up(drone, bytes)?, &mut out) == Progress::Going);
+        assert!(rt; out.is_empty());
+    }
+    let ended = Progress::Refused {
+        drone: 1,
+        packet: 0,
+        status: 5,
+    };
+    for _ in 0..2 {
+        assert!(rt; host.event(up(1, &refusal)?, &mut out) == ended);
+        assert!(rt; out.is_empty());
+    }
+    assert!(rt; host.event(Event::Tick, &mut out) == ended);
+    Ok(())
+}
+
+#[test]
+fn starts_come_last(rt: HostRuntime) -> Result<(), Fail> {
+    let alloc = rt.alloc();
+    let going = Progress::Going;
+    let second = [0x4E, 2, 24, 0, 0, 0, 0];
+    let first = [0x4E, 2, 0, 0, 0, 0, 0];
+    let define = [0x8C, 6, 0, 1, 0];
+    let start = [0x8C, 5, 0, 0, 0];
+    let events: [(u8, &[u8], &[Sent], Progress); 10] = [
+        (0, &second, &[], going),
+        (0, &second, &[], going),
+        (0, &first, &[sent(0, 2)], going),
+        (0, &define, &[], going),
+        (1, &first, &[], going),
+        (1, &second, &[sent(1, 2)], going),
+        (1, &define, &[sent(0, 3), sent(1, 3)], going),
+        (1, &start, &[], going),
+        (1, &start, &[], going),
+        (0, &start, &[], Progress::Done),
+    ];
+    let mut host = Host::make(alloc, two_drones(alloc, true)?)?;
+    let mut out = Out::new();
+    for (drone, bytes, wanted, progress) in events {
+        assert!(rt; host.event(up(drone, bytes)?, &mut out) == progress);
+        assert!(rt; out.as_slice() == wanted);
+    }
+    Ok(())
+}
+
+#[test]
+fn answers_match_by_place_and_id(rt: HostRuntime) -> Result<(), Fail> {
+    let alloc = rt.alloc();
+    let going = Progress::Going;
+    let define = [0x8C, 6, 9, 1, 0];
+    let start = [0x8C, 5, 0, 0, 0];
+    let events: [(u8, &[u8], &[Sent], Progress); 10] = [
+        // Another place, another memory and another trajectory.
+        (1, &[0x4E, 3, 24, 0, 0, 0, 0], &[], going),
+        (0, &[0x4E, 2, 0xE4, 0x0F, 0, 0, 0], &[], going),
+        (0, &[0x8C, 6, 0, 1, 0], &[], going),
+        (1, &[0x4E, 3, 0xE4, 0x0F, 0, 0, 0], &[], going),
+        (1, &[0x4E, 3, 0xFC, 0x0F, 0, 0, 0], &[sent(1, 2)], going),
+        (1, &define, &[], going),
+        (0, &[0x4E, 3, 0xE4, 0x0F, 0, 0, 0], &[sent(0, 1)], going),
+        (0, &define, &[sent(0, 2), sent(1, 3)], going),
+        (0, &start, &[], going),
+        (1, &start, &[], Progress::Done),
+    ];
+    let mut host = Host::make(alloc, last_places(alloc)?)?;
+    let mut out = Out::new();
+    for (drone, bytes, wanted, progress) in events {
+        assert!(rt; host.event(up(drone, bytes)?, &mut out) == progress);
+        assert!(rt; out.as_slice() == wanted);
+    }
+    Ok(())
+}
+
+#[test]
+fn silence_ends_at_twenty_ticks(rt: HostRuntime) -> Result<(), Fail> {
+    let alloc = rt.alloc();
+    let mut host = Host::make(alloc, two_drones(alloc, false)?)?;
+    let mut out = Out::new();
+    for _ in 0..19 {
+        assert!(rt; host.event(Event::Tick, &mut out) == Progress::Going);
+        assert_eq!(rt; out.len(), 4);
+    }
+    let ended = Progress::GaveUp {
+        drone: 0,
+        packet: 0,
+    };
+    assert!(rt; host.event(Event::Tick, &mut out) == ended);
+    assert!(rt; out.is_empty());
+    Ok(())
+}
+
+#[test]
+fn bytes_of_answers_are_heard(rt: HostRuntime) -> Result<(), Fail> {
+    let alloc = rt.alloc();
+    let going = Progress::Going;
+    let refused = Progress::Refused {
+        drone: 1,
+        packet: 1,
+        status: 2,
+    };
+    let events: [(u8, &[u8], &[Sent], Progress); 8] = [
+        // One byte too few, another port, a drone that isn't there, and another memory.
+        (0, &[0x4E, 2, 0, 0, 0, 0], &[], going),
+        (0, &[0x00, 0x48, 0x69], &[], going),
+        (2, &[0x4E, 2, 0, 0, 0, 0, 0], &[], going),
+        (0, &[0x4E, 3, 0, 0, 0, 0, 0], &[], going),
+        (0, &[0x4E, 2, 24, 0, 0, 0, 0], &[], going),
+        // What follows the status is of no account.
+        (0, &[0x4E, 2, 0, 0, 0, 0, 0, 9, 9], &[sent(0, 2)], going),
+        (1, &[0x4E, 2, 24, 0, 0, 0, 2], &[], refused),
+        (1, &[0x4E, 2, 24, 0, 0, 0, 0], &[], refused),
+    ];
+    let mut host = Host::make(alloc, two_drones(alloc, false)?)?;
+    let mut out = Out::new();
+    for (drone, bytes, wanted, progress) in events {
+        assert!(rt; 1 <= bytes.len() && bytes.len() <= 31);
+        assert!(rt; host.hear(drone, bytes, &mut out) == progress);
+        assert!(rt; out.as_slice() == wanted);
+    }
+    Ok(())
+}

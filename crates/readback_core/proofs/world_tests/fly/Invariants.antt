@@ -1,9 +1,0 @@
--- What holds whenever a loop of `fly` begins a turn.
-use Rattle.std.proofs.Common.{◌≡◌, length}
-use Rattle.readback_core.proofs.world_tests.fly.Given as goal
-
-abbrev pub invariant-loop-n : goal.invariant-loop-n
-invariant-loop-n l = length l.world.drones ≡ length l.fn.world.drones
-
-abbrev pub invariant-loop-drone : goal.invariant-loop-drone
-invariant-loop-drone l = length l.world.drones ≡ length l.fn.world.drones

@@ -1,6 +1,0 @@
--- What holds whenever the loop of `run` begins a turn.
-use Rattle.std.proofs.Common.{◌≡◌, length}
-use Rattle.readback_core.proofs.world_tests.run.Given as goal
-
-abbrev pub invariant-loop-e : goal.invariant-loop-e
-invariant-loop-e l = length l.world.drones ≡ length l.fn.world.drones

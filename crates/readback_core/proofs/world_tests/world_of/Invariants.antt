@@ -1,6 +1,0 @@
--- What holds whenever the loop of `world_of` begins a turn.
-use Rattle.std.proofs.Common.{◌≡◌, length}
-use Rattle.readback_core.proofs.world_tests.world_of.Given as goal
-
-abbrev pub invariant-loop : goal.invariant-loop
-invariant-loop l = length l.blank.items ≡ l.counter
