@@ -116,8 +116,8 @@ pub decoded_after : (g : Grid) (e : Settings) (trajs : List Traj) (start : Bool)
     (d : ℕ) → d < length trajs → (t : Traj) × DecodesTo ((rehearsed (session_for e trajs start) events).drones d) e.trajectory_id t
 decoded_after g e trajs start events lands done d within =
     let s : Upload = session_for e trajs start in
-    let landed : IsLanded g e trajs (rehearsed s (events ++ [])) = lands start (λ (n : ℕ). blank_drone s) events [] (λ n known. blank_is_drone s) done in
-    let here : IsLanded g e trajs (rehearsed s events) = subst (λ (es : List WorldEvent). IsLanded g e trajs (rehearsed s es)) (append-nil events) landed in
+    let landed : IsLanded g e trajs start (λ n. blank_drone s) (rehearsed s (events ++ [])) = lands start (λ (n : ℕ). blank_drone s) events [] (λ n known. blank_is_drone s) done in
+    let here : IsLanded g e trajs start (λ n. blank_drone s) (rehearsed s events) = subst (λ (es : List WorldEvent). IsLanded g e trajs start (λ n. blank_drone s) (rehearsed s es)) (append-nil events) landed in
     (get_or trajs d _, here.decoded d within)
 
 ends_some : (q : Progress) (s : PlainShow) (w : World) → (q ≡ Done → (text : List ℕ) × IsRehearsalText w.drones s.settings.trajectory_id (words_of s) text) →

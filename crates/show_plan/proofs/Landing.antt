@@ -53,6 +53,8 @@ landing curve upload lasting g e trajs u near apart start drones events later fr
     (All-get_or IsTrajectory trajs d no_trajectory within u.formed) (All-get_or IsSendable trajs d no_trajectory within u.sendable).last
     (only.length_kept ∙ (fresh d within).memory) (safe.loaded d known still) (safe.listed d known still) in
     record {
+      untouched = λ d within. safe.only d (omega (arith, count, within));
+      started = λ starting d within. safe.started d (omega (arith, count, within)) still starting;
       counted = near.drones;
       decoded = decodes;
       only = λ d t within other. curve.one ((world s drones (events ++ later)).drones d) e.trajectory_id t (get_or trajs d no_trajectory) other (decodes d within);

@@ -1,5 +1,5 @@
 -- What is uploaded to the drones of a show, and what the upload leaves in their memories.
-use Rattle.std.specs.Prelude.{◌≡◌, ℕ, ◌-◌, ◌<◌, ◌≤◌, Bool, List, ◌++◌, length, map, slice_index_or}
+use Rattle.std.specs.Prelude.{◌≡◌, ℕ, ◌-◌, ◌<◌, ◌≤◌, Bool, true, Some, List, ◌++◌, length, map, slice_index_or}
 use Rattle.std.specs.List.{All}
 use Rattle.cue_grid.specs.declared.grid.Grid.{Grid}
 use Rattle.cue_grid.specs.Faults.{drone_limit}
@@ -10,8 +10,8 @@ use Rattle.upload_model.specs.declared.events.Progress.TheVariants.{Done}
 use Rattle.upload_model.specs.declared.events.WorldEvent.{WorldEvent}
 use Rattle.upload_model.specs.Drones.{DroneState}
 use Rattle.upload_model.specs.Hosts.{progress}
-use Rattle.upload_model.specs.Sessions.{Upload}
-use Rattle.upload_model.specs.Theorem.{IsDrone}
+use Rattle.upload_model.specs.Sessions.{Upload, load_of}
+use Rattle.upload_model.specs.Theorem.{IsDrone, OnlyLoads}
 use Rattle.upload_model.specs.Worlds.{World, world}
 use Rattle.choreo_reader.specs.declared.show.Settings.{Settings}
 use Rattle.choreo_reader.specs.Valid.{FitsSettings}
@@ -27,7 +27,9 @@ session_for e trajs start =
 
 -- Each drone's memory decodes to its trajectory of this list and to no other. These keep near to what the show says at every instant, and keep
 -- any two drones apart at every instant.
-pub record IsLanded (g : Grid) (e : Settings) (trajs : List Traj) (w : World) : Type 0 where
+pub record IsLanded (g : Grid) (e : Settings) (trajs : List Traj) (start : Bool) (drones : ℕ → DroneState) (w : World) : Type 0 where
+  pub untouched : (d : ℕ) → d < length trajs → OnlyLoads (session_for e trajs start) (load_of (session_for e trajs start) d) (drones d) (w.drones d)
+  pub started : start ≡ true → (d : ℕ) → d < length trajs → (w.drones d).started ≡ Some e.trajectory_id
   pub counted : length trajs ≡ length g.starts
   pub decoded : (d : ℕ) → d < length trajs → DecodesTo (w.drones d) e.trajectory_id (slice_index_or trajs d no_trajectory)
   pub only : (d : ℕ) (t : Traj) → d < length trajs → DecodesTo (w.drones d) e.trajectory_id t → t ≡ slice_index_or trajs d no_trajectory
@@ -40,7 +42,7 @@ abbrev pub Lands : Grid → Settings → List Traj → Type 0
 Lands g e trajs =
     (start : Bool) (drones : ℕ → DroneState) (events later : List WorldEvent) → ((d : ℕ) → d < length trajs → IsDrone (drones d)) →
     progress (session_for e trajs start) (world (session_for e trajs start) drones events).heard ≡ Done →
-    IsLanded g e trajs (world (session_for e trajs start) drones (events ++ later))
+    IsLanded g e trajs start drones (world (session_for e trajs start) drones (events ++ later))
 
 -- Trajectories that can be uploaded: 1 to 32 of them, of some segments each, with room from the offset on.
 pub record AreUploadable (e : Settings) (trajs : List Traj) : Type 0 where
