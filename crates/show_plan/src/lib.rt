@@ -29,8 +29,3 @@ pub use fitting::fit;
 pub use separation::{certificate, clearance_of, count_nodes, separation_law};
 pub use text::plan_text;
 pub use upload::{landing_law, session, uploadable_law};
-
-#[cfg(test)]
-mod separation_tests;
-#[cfg(test)]
-mod tests;

@@ -83,7 +83,12 @@ fn trees_of(
 }
 
 // How many nodes the trees of all slots have, or the first part that no direction separates.
-fn nodes_of(alloc: Global, curves: &Curves, clearance: Clearance, depth: u8) -> Result<u32, PlanFault>
+fn nodes_of(
+    alloc: Global,
+    curves: &Curves,
+    clearance: Clearance,
+    depth: u8,
+) -> Result<u32, PlanFault>
     requires clearance { IsClearance clearance }
     requires depth { depth ≤ 8 }
     ensures { FindsNodes clearance depth curves.now result }

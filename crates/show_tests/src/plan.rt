@@ -2,11 +2,11 @@
 ghost use Rattle.std.specs.Prelude.{IfOk};
 ghost use Rattle.show_plan.specs.Fitting.{IsValidFitted};
 
-use super::*;
 use choreo_reader::{MOST_BYTES, read_show};
 use cue_grid::GridFault;
 use figure_expand::ExpandFault;
 use fleet_io::Lines;
+use show_plan::{Fitted, PlanFault, fit, plan_text};
 use std::alloc::Global;
 
 // What a text fits, or why not; nothing where it isn't a show.

@@ -1,8 +1,8 @@
 //! Certificates of shows. Trees and blocked parts were computed from the definitions by exact sums.
 
-use super::*;
 use choreo_reader::{MOST_BYTES, read_show};
 use sep_certificate::write_certificate;
+use show_plan::{PlanFault, certificate, count_nodes, fit};
 use std::alloc::Global;
 use std::test::Fail;
 
