@@ -241,19 +241,35 @@ class Builds(Place):
         self.assertEqual((status, "nothing is known of its proof" in said, "logic=" in said), (70, True, False))
 
 
-class Signals(Place):
+class Processes(Place):
+    def begin(self, *words, slow="", **more):
+        """Starts the launcher; it is gone after the test in any case."""
+        silent = {"stdin": subprocess.DEVNULL, "stdout": subprocess.DEVNULL, "stderr": subprocess.DEVNULL}
+        begun = subprocess.Popen(words, cwd=self.place, **silent, env=self.settings(self.place, SLOW=slow, **more))
+        self.addCleanup(begun.wait)
+        self.addCleanup(begun.kill)
+        return begun
+
     def started(self):
         """The processes of rt and of its prover, once they are there."""
         for _ in range(300):
             if os.path.exists(self.path("started")):
                 with open(self.path("started")) as file:
-                    return [int(word) for word in file.read().split()]
+                    found = [int(word) for word in file.read().split()]
+                for process in found:
+                    self.addCleanup(self.kill, process)
+                return found
             time.sleep(0.05)
         self.fail("rt was not started")
 
-    def gone(self, process):
+    def kill(self, process):
+        """Ends a process that the test started, if it is still there."""
+        if not self.gone(process, 1):
+            os.kill(process, signal.SIGKILL)
+
+    def gone(self, process, times=100):
         """Whether a process has ended, within a few seconds."""
-        for _ in range(100):
+        for _ in range(times):
             try:
                 with open("/proc/%d/stat" % process) as file:
                     if file.read().rpartition(")")[2].split()[0] == "Z":
@@ -263,11 +279,12 @@ class Signals(Place):
             time.sleep(0.05)
         return False
 
+
+class Signals(Processes):
+
     def ended(self, words, slow, number, again=None, **more):
         """Starts the launcher, has it end by a signal while rt works, and says what it left."""
-        silent = {"stdin": subprocess.DEVNULL, "stdout": subprocess.DEVNULL, "stderr": subprocess.DEVNULL}
-        started = subprocess.Popen(["./show", *words], cwd=self.place, **silent,
-                                   env=self.settings(self.place, SLOW=slow, **more))
+        started = self.begin("./show", *words, slow=slow, **more)
         processes = self.started()
         started.send_signal(number)
         if again:
@@ -292,21 +309,21 @@ class Signals(Place):
 
     def test_ignored(self):
         # As under nohup: what was ignored before stays so.
-        shell = ["sh", "-c", "trap '' HUP; exec ./show check good"]
-        started = subprocess.Popen(shell, cwd=self.place, stdin=subprocess.DEVNULL, stdout=subprocess.DEVNULL,
-                                   stderr=subprocess.DEVNULL, env=self.settings(self.place, SLOW="low"))
-        self.started()
+        started = self.begin("sh", "-c", "trap '' HUP; exec ./show check good", slow="low")
+        processes = self.started()
         started.send_signal(signal.SIGHUP)
         time.sleep(0.6)
         self.assertIsNone(started.poll())
         started.send_signal(signal.SIGTERM)
         self.assertEqual(started.wait(30), 128 + signal.SIGTERM)
+        self.assertEqual([self.gone(it) for it in processes], [True, True])
 
     def test_closed_terminal(self):
         child, terminal = pty.fork()
         if child == 0:
             os.chdir(self.place)
             os.execvpe("./show", ["./show", "check", "good"], self.settings(self.place, SLOW="middle"))
+        self.addCleanup(self.kill, child)
         processes = self.started()
         os.close(terminal)
         for _ in range(200):
@@ -317,7 +334,7 @@ class Signals(Place):
         self.assertEqual((done, [self.gone(it) for it in processes], self.leftovers()), (child, [True, True], []))
 
 
-class Words(Place):
+class Words(Processes):
     def setUp(self):
         super().setUp()
         self.show("check", "good")
@@ -440,11 +457,11 @@ class Words(Place):
                        "note['sha256'] = hashlib.sha256(open(path, 'rb').read()).hexdigest()\n"
                        "json.dump(note, open(path + '.built', 'w'))\n")
         subprocess.run([sys.executable, "remember.py"], cwd=self.place, check=True)
-        started = subprocess.Popen(["./show", "check", "good"], cwd=self.place, env=self.settings(self.place))
-        process = Signals.started(self)
+        started = self.begin("./show", "check", "good")
+        process = self.started()
         started.send_signal(signal.SIGTERM)
         self.assertEqual(started.wait(30), 128 + signal.SIGTERM)
-        self.assertTrue(Signals.gone(self, process[0]))
+        self.assertTrue(self.gone(process[0]))
 
 
 class Unproved(Place):
