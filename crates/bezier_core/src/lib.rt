@@ -14,9 +14,6 @@ ghost use Rattle.bezier_core.specs.Raised.{eight, fact, raised, raised_value};
 ghost use Rattle.bezier_core.specs.Along.{along_value, controls};
 ghost use Rattle.bezier_core.specs.Steps.{IsWithin, HasRoom, FitsTimes};
 
-#[cfg(test)]
-mod tests;
-
 /// The control values of a curve of degree `N - 1`, of any unit. `N` is 1, 2, 4 or 8.
 #[derive(Clone, Copy)]
 pub struct Bez<const N: usize> {

@@ -6,7 +6,5 @@
 #![tactic(auto)]
 
 mod curves;
-#[cfg(test)]
-mod tests;
 
 pub use curves::{Curves, raised_segment, row_of_four, value_after};

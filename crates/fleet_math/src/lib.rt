@@ -13,9 +13,6 @@ ghost use Rattle.fleet_math.specs.Decoded.{Piece, IsPiece, durations, IsSamePosi
 ghost use Rattle.fleet_math.specs.Limits.{most_cues};
 ghost use Rattle.fleet_math.specs.Near.{NearLaw};
 
-#[cfg(test)]
-mod tests;
-
 /// How many cues a show has at most.
 pub const MOST_CUES: usize = 1000;
 

@@ -16,9 +16,6 @@ ghost use Rattle.halving.specs.Steps.{HasRows};
 
 use bezier_core::Bez;
 
-#[cfg(test)]
-mod tests;
-
 /// The part of a curve from the fraction `index / 2^depth` to `(index + 1) / 2^depth`, of a depth from 0 to 8.
 #[derive(Clone, Copy)]
 pub struct Place {

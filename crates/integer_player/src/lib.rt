@@ -27,8 +27,3 @@ mod weights;
 pub use player::{at, last_values};
 pub use row::put_row;
 pub use show::{Name, play};
-
-#[cfg(test)]
-mod show_tests;
-#[cfg(test)]
-mod tests;

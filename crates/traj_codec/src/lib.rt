@@ -18,6 +18,3 @@ pub use listed::Listed;
 pub use reading::{CodecFault, decode};
 pub use traj::{Element, MOST_SEGMENTS, Segment, Traj};
 pub use writing::{encode, size_of};
-
-#[cfg(test)]
-mod tests;

@@ -1,6 +1,6 @@
-//! Answers that were computed elsewhere, by whole numbers without a bound.
+//! Floors, roots and differences that were computed elsewhere, by whole numbers without a bound.
 
-use super::*;
+use fleet_math::{abs_diff, floor_div, least_root_above};
 use std::test::Fail;
 
 #[test]

@@ -1,7 +1,7 @@
 -- What holds whenever the loop of `letters` begins a turn.
 use Rattle.std.proofs.Common.{◌≡◌, All, length}
 use Rattle.fleet_io.specs.Words.{IsWord}
-use Rattle.integer_player.proofs.show_tests.letters.Given as goal
+use Rattle.curves_tests.proofs.shows.letters.Given as goal
 
 abbrev pub invariant-loop-d : goal.invariant-loop-d
 invariant-loop-d l = record {

@@ -3,9 +3,9 @@ ghost use Rattle.std.specs.Prelude.{◌≡◌, ◌<◌, ◌≤◌, All, length, 
 ghost use Rattle.fleet_io.specs.Words.{IsWord};
 ghost use Rattle.integer_player.specs.Played.{IsPlayable, duration_of};
 
-use super::*;
-use crate::tests::traj;
+use crate::positions::traj;
 use fleet_io::{Failed, MemSink};
+use integer_player::{Name, play};
 use std::alloc::{AllocError, Global};
 use std::test::Fail;
 use traj_codec::{Element, Segment, Traj};

@@ -4,7 +4,7 @@ use Rattle.std.proofs.lemmas.List.Elements.{All-replicate}
 use Rattle.std.proofs.lemmas.Result.{IfOk-weaker}
 use Rattle.traj_codec.specs.Spelling.{HasDuration}
 use Rattle.integer_player.specs.Played.{IsPlayable}
-use Rattle.integer_player.proofs.show_tests.bumps.Goals as goal
+use Rattle.curves_tests.proofs.shows.bumps.Goals as goal
 
 pub returns-clause-playable : goal.returns-clause-playable
 returns-clause-playable c = IfOk-weaker c.traj.result _ IsPlayable (λ t same. record {

@@ -2,9 +2,8 @@
 ghost use Rattle.std.specs.Prelude.{◌≡◌, ◌≤◌, IfOk};
 ghost use Rattle.integer_player.specs.Played.{IsPlayable, duration_of};
 
-use super::*;
-use crate::player::Player;
 use fleet_io::ShortLine;
+use integer_player::{at, put_row};
 use std::alloc::{AllocError, Global};
 use std::test::Fail;
 use traj_codec::{Element, Listed, Segment, Traj};
@@ -17,25 +16,13 @@ pub(crate) fn traj(alloc: Global, start: [i16; 4], segments: &[Segment]) -> Resu
     Ok(Traj { start, segments })
 }
 
-// Whether `at`, and a player that goes through these instants and back, give these rows.
+// Whether `at` gives these rows.
 fn plays(t: &Traj, end: u32, rows: &[(u32, [i64; 4])]) -> bool
     requires playable { IsPlayable t.now }
     requires inside { end ≤ duration_of t.now }
 {
-    let mut player = Player::of(t);
     for (ms, row) in rows {
-        let ms = (*ms).min(end);
-        player.seek(t, ms);
-        let instant = player.instant(ms);
-        if at(t, ms) != *row || player.row(&instant) != *row {
-            return false;
-        }
-    }
-    for (ms, row) in rows.iter().rev() {
-        let ms = (*ms).min(end);
-        player.seek(t, ms);
-        let instant = player.instant(ms);
-        if player.row(&instant) != *row {
+        if at(t, (*ms).min(end)) != *row {
             return false;
         }
     }

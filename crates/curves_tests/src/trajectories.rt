@@ -2,9 +2,9 @@
 //! bytes with a fault; and each header.
 ghost use Rattle.std.specs.Prelude.{◌≡◌, ◌<◌, ◌≤◌, IfOk, [], ◌∷◌};
 
-use super::*;
 use std::alloc::{AllocError, Global};
 use std::test::Fail;
+use traj_codec::{CodecFault, Element, Listed, Segment, Traj, decode, encode, join_holds, size_of};
 
 // A trajectory of one segment.
 fn traj(alloc: Global, start: [i16; 4], segment: Segment) -> Result<Traj, AllocError>
@@ -219,44 +219,37 @@ fn three(alloc: Global, a: Segment, b: Segment, c: Segment) -> Result<Traj, Allo
     })
 }
 
-#[test]
-fn holds_are_joined_from_the_left(rt: HostRuntime) -> Result<(), Fail> {
-    let t = three(rt.alloc(), hold(40_000), hold(30_000), hold(30_000))?;
-    let joined = join_holds(rt.alloc(), &t)?;
-    assert_eq!(rt;
-        joined.segments.as_slice(),
-        [hold(40_000), hold(60_000)].as_slice()
-    );
-    Ok(())
-}
+// A turn on the spot.
+const TURN: Segment = Segment {
+    ms: 1000,
+    elements: [
+        Element::Constant,
+        Element::Constant,
+        Element::Constant,
+        Element::Linear { v: 900 },
+    ],
+};
 
+// Holds are joined from the left, up to the longest duration, and a turn is no hold.
 #[test]
-fn holds_are_joined_up_to_the_longest_duration(rt: HostRuntime) -> Result<(), Fail> {
-    let t = three(rt.alloc(), hold(32_767), hold(32_768), hold(1))?;
-    let joined = join_holds(rt.alloc(), &t)?;
-    assert_eq!(rt;
-        joined.segments.as_slice(),
-        [hold(65_535), hold(1)].as_slice()
-    );
-    Ok(())
-}
-
-#[test]
-fn a_turn_is_no_hold(rt: HostRuntime) -> Result<(), Fail> {
-    let turn = Segment {
-        ms: 1000,
-        elements: [
-            Element::Constant,
-            Element::Constant,
-            Element::Constant,
-            Element::Linear { v: 900 },
-        ],
-    };
-    let t = three(rt.alloc(), hold(1000), turn, hold(1000))?;
-    let joined = join_holds(rt.alloc(), &t)?;
-    assert_eq!(rt;
-        joined.segments.as_slice(),
-        [hold(1000), turn, hold(1000)].as_slice()
-    );
+fn holds_are_joined(rt: HostRuntime) -> Result<(), Fail> {
+    let cases: [([Segment; 3], &[Segment]); 3] = [
+        (
+            [hold(40_000), hold(30_000), hold(30_000)],
+            &[hold(40_000), hold(60_000)],
+        ),
+        (
+            [hold(32_767), hold(32_768), hold(1)],
+            &[hold(65_535), hold(1)],
+        ),
+        (
+            [hold(1000), TURN, hold(1000)],
+            &[hold(1000), TURN, hold(1000)],
+        ),
+    ];
+    for ([a, b, c], wanted) in cases {
+        let joined = join_holds(rt.alloc(), &three(rt.alloc(), a, b, c)?)?;
+        assert!(rt; joined.segments.as_slice() == wanted);
+    }
     Ok(())
 }

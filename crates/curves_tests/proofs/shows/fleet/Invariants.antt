@@ -1,7 +1,7 @@
 -- What holds whenever the loop of `fleet` begins a turn.
 use Rattle.std.proofs.Common.{◌≡◌, All, length}
 use Rattle.integer_player.specs.Played.{IsPlayable, duration_of}
-use Rattle.integer_player.proofs.show_tests.fleet.Given as goal
+use Rattle.curves_tests.proofs.shows.fleet.Given as goal
 
 abbrev pub invariant-loop-d : goal.invariant-loop-d
 invariant-loop-d l = record {
