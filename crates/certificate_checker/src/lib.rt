@@ -12,8 +12,6 @@ mod checker;
 mod judging;
 mod reader;
 mod tables;
-#[cfg(test)]
-mod tests;
 mod text;
 mod verdict;
 

@@ -14,8 +14,6 @@ mod part;
 mod reading;
 mod region;
 mod sent;
-#[cfg(test)]
-mod tests;
 mod walk;
 
 pub use judging::{Judged, judge};

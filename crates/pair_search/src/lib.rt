@@ -15,8 +15,6 @@ mod first;
 mod fleet;
 mod lanes;
 mod shape;
-#[cfg(test)]
-mod tests;
 mod walk;
 
 pub use fleet::{SearchFault, count_all, search_all};

@@ -9,8 +9,6 @@
 
 mod certificate;
 mod judge;
-#[cfg(test)]
-mod tests;
 mod text;
 
 pub use certificate::{CertFault, Certificate};

@@ -17,8 +17,6 @@ mod ruler;
 mod rules;
 mod slot;
 mod stack;
-#[cfg(test)]
-mod tests;
 
 pub use apart::apart_law;
 pub use clearance::Clearance;

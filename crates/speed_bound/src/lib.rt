@@ -10,8 +10,6 @@
 
 mod parts;
 mod reaching;
-#[cfg(test)]
-mod tests;
 mod trajectory;
 
 pub use reaching::{reach, reach_law, still_law};

@@ -5,7 +5,7 @@ use mir.Syntax.{w128}
 use Rattle.fleet_math.specs.Numbers.{IsBelow}
 use Rattle.fleet_curves.proofs.Differences.{eight_all}
 use Rattle.fleet_curves.proofs.Small.{kept}
-use Rattle.pair_search.proofs.tests.raised.Goals as goal
+use Rattle.safety_tests.proofs.searches.raised.Goals as goal
 
 -- a number below 2^30 stays one in the program
 stays : (x : ℤ) → IsBelow (2 ^ 30) x → IsBelow (2 ^ 30) (to_z w128 (of_z w128 x))

@@ -1,6 +1,6 @@
 use Rattle.std.proofs.Common.{◌≡◌, take}
 use Rattle.certificate_checker.specs.Bytes.{HasRead}
-use Rattle.certificate_checker.proofs.tests.judged.Given as goal
+use Rattle.safety_tests.proofs.certificates.judged.Given as goal
 
 abbrev pub invariant-loop-byte : goal.invariant-loop-byte
 invariant-loop-byte l = record {

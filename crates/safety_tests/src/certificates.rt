@@ -1,86 +1,29 @@
-//! Two fleets, judged with ellipsoids of half axes 120, 120 and 300 mm. Of two drones in three cues of three seconds one waits, goes 1 m
-//! along x, and waits; the other rises by 1 m, goes the other way above it, and sinks. Of three drones all stay.
+//! Certificates judged by both checkers, that of a whole certificate and that of its bytes, with ellipsoids of half axes 120, 120 and 300 mm. Of two
+//! drones in three cues of three seconds one waits, goes 1 m along x, and waits; the other rises by 1 m, goes the other way above it, and sinks.
+//! Of three drones all stay.
 
 ghost use Rattle.std.specs.Prelude.{◌≡◌, ◌≤◌, ◌∷◌, [], length, IfOk};
-ghost use Rattle.traj_codec.specs.Positions.{durations};
 ghost use Rattle.sep_parts.specs.Directions.{IsClearance};
+ghost use Rattle.fleet_curves.specs.Raised.{AreOneShow};
 ghost use Rattle.certificate_checker.specs.Bytes.{most_bytes};
 ghost use Rattle.certificate_checker.specs.Verdicts.{VerdictGives};
 
-use super::*;
+use crate::flights::{clearance, still, three_legs};
+use certificate_checker::{Checker, Verdict};
 use fleet_curves::Curves;
-use sep_certificate::CertFault;
+use sep_certificate::{
+    CERTIFICATE_LIMIT, CertFault, CertTextFault, check, read_certificate, write_certificate,
+};
 use sep_parts::Clearance;
 use std::alloc::{AllocError, Global};
 use std::test::Fail;
-use traj_codec::{Element, Listed, Segment, Traj};
-
-// Ellipsoids of these half axes, with nobody who strays or is late.
-const STILL: Clearance = Clearance {
-    r: 120,
-    h: 300,
-    stray: 0,
-    late: 0,
-    reach: [0, 0, 0],
-};
-
-// The same with wider ellipsoids.
-const BROAD: Clearance = Clearance {
-    r: 500,
-    h: 500,
-    stray: 0,
-    late: 0,
-    reach: [0, 0, 0],
-};
-
-// From rest to rest.
-fn moved(from: i16, to: i16) -> Element {
-    if from == to {
-        Element::Constant
-    } else {
-        Element::Seven {
-            v: [from, from, from, to, to, to, to],
-        }
-    }
-}
-
-// Three seconds from one place to another.
-fn leg(from: [i16; 3], to: [i16; 3]) -> Segment
-    ensures { result.ms ≡ 3000 }
-{
-    Segment {
-        ms: 3000,
-        elements: [
-            moved(from[0], to[0]),
-            moved(from[1], to[1]),
-            moved(from[2], to[2]),
-            Element::Constant,
-        ],
-    }
-}
-
-// Three legs through four places.
-fn way(alloc: Global, places: [[i16; 3]; 4]) -> Result<Traj, AllocError>
-    ensures { IfOk result (λ t. durations t.segments ≡ 3000 ∷ 3000 ∷ 3000 ∷ []) }
-{
-    let [x, y, z] = places[0];
-    let legs = vec![in alloc;
-        leg(places[0], places[1]),
-        leg(places[1], places[2]),
-        leg(places[2], places[3]),
-    ]?;
-    Ok(Traj {
-        start: [x, y, z, 0],
-        segments: Listed::from_vec(legs),
-    })
-}
 
 fn two(alloc: Global) -> Result<Curves, AllocError> {
-    let first = way(
+    let first = three_legs(
         alloc,
         [[0, 0, 1000], [0, 0, 1000], [1000, 0, 1000], [1000, 0, 1000]],
     )?;
-    let second = way(
+    let second = three_legs(
         alloc,
         [[1000, 0, 1000], [1000, 0, 2000], [0, 0, 2000], [0, 0, 1000]],
     )?;
@@ -91,29 +34,17 @@ fn two(alloc: Global) -> Result<Curves, AllocError> {
 // The second 1 m along x from the first and the third 1 m along y. So (1, 0, 0), `v`, separates the first two, (0, 1, 0), `p`, the
 // first and the third, and (-1, 0, 0), `e`, the last two; none of them does for another pair.
 fn three(alloc: Global) -> Result<Curves, AllocError> {
-    let first = way(alloc, [[0, 0, 1000]; 4])?;
-    let second = way(alloc, [[1000, 0, 1000]; 4])?;
-    let third = way(alloc, [[0, 1000, 1000]; 4])?;
+    let first = three_legs(alloc, [[0, 0, 1000]; 4])?;
+    let second = three_legs(alloc, [[1000, 0, 1000]; 4])?;
+    let third = three_legs(alloc, [[0, 1000, 1000]; 4])?;
     let trajs = vec![in alloc; first, second, third]?;
     Curves::of_slice(alloc, trajs.as_slice())
 }
 
-// A text judged byte by byte.
-fn judged(curves: &Curves, clearance: &Clearance, text: &[u8]) -> Verdict
-    requires clearance { IsClearance clearance.now }
-    requires short { length text.now ≤ most_bytes }
-    ensures { VerdictGives curves.now clearance.now text.now result }
-{
-    let mut checker = Checker::make(*clearance);
-    for byte in text {
-        checker.feed(curves, *byte);
-    }
-    checker.end(curves)
-}
-
-/// What becomes of a text. Drones, cues, places, directions and control values are those of the fault, in its order.
+// What becomes of a text. Drones, cues, places, directions and control values are those of the fault, in its order.
 #[derive(Clone, Copy, PartialEq, Eq, Debug)]
 enum Outcome {
+    // The depth, and how many trees there are.
     Valid(u8, u32),
     Line(u32),
     Missing(u8, u8, u16),
@@ -123,11 +54,41 @@ enum Outcome {
     Other,
 }
 
-fn becomes(curves: &Curves, text: &[u8]) -> Outcome {
+// What the checker of whole certificates says.
+fn as_whole(alloc: Global, curves: &Curves, text: &[u8]) -> Outcome {
+    if text.len() > CERTIFICATE_LIMIT {
+        return Outcome::Other;
+    }
+    let cert = match read_certificate(alloc, text) {
+        Ok(cert) => cert,
+        Err(CertTextFault::Line { line }) => return Outcome::Line(line),
+        Err(CertTextFault::Memory) => return Outcome::Other,
+    };
+    match check(curves, still(), &cert) {
+        Ok(()) => Outcome::Valid(cert.depth, cert.trees.as_slice().len() as u32),
+        Err(fault) => fault_of(fault),
+    }
+}
+
+// A text judged byte by byte.
+fn judged(curves: &Curves, clearance: Clearance, text: &[u8]) -> Verdict
+    requires clearance { IsClearance clearance }
+    requires short { length text.now ≤ most_bytes }
+    ensures { VerdictGives curves.now clearance text.now result }
+{
+    let mut checker = Checker::make(clearance);
+    for byte in text {
+        checker.feed(curves, *byte);
+    }
+    checker.end(curves)
+}
+
+// What the checker of bytes says.
+fn by_bytes(curves: &Curves, text: &[u8]) -> Outcome {
     if text.len() > 1_000_000 {
         return Outcome::Other;
     }
-    match judged(curves, &STILL, text) {
+    match judged(curves, still(), text) {
         Verdict::Valid { depth, trees } => Outcome::Valid(depth, trees),
         Verdict::Line { line } => Outcome::Line(line),
         Verdict::Refused { fault, .. } => fault_of(fault),
@@ -148,6 +109,41 @@ fn fault_of(fault: CertFault) -> Outcome {
             control,
         } => Outcome::Fails((a, b, cue), (place.depth, place.index), dir, control),
     }
+}
+
+// Both say the same of a text.
+fn becomes(alloc: Global, curves: &Curves, text: &[u8]) -> Outcome {
+    let outcome = by_bytes(curves, text);
+    if as_whole(alloc, curves, text) == outcome {
+        outcome
+    } else {
+        Outcome::Other
+    }
+}
+
+// A text, and how it is written back.
+const WRITTEN_BACK: [(&[u8], &[u8]); 2] = [
+    (
+        b"certificate 6\r\nr\r\n..lll\na",
+        b"certificate 6\nr\n..lll\na\n",
+    ),
+    (
+        b"version 2\ncertificate 6\n58\n..460797\n00\n",
+        b"version 2\ncertificate 6\n58\n..460797\n00\n",
+    ),
+];
+
+#[test]
+fn certificates_written_back(rt: HostRuntime) -> Result<(), Fail> {
+    for (text, wanted) in WRITTEN_BACK {
+        let Ok(cert) = read_certificate(rt.alloc(), text) else {
+            assert!(rt; false);
+            return Ok(());
+        };
+        let written = write_certificate(rt.alloc(), &cert)?;
+        assert!(rt; written.as_slice() == wanted);
+    }
+    Ok(())
 }
 
 const FOR_TWO: [(&[u8], Outcome); 14] = [
@@ -191,7 +187,7 @@ const FOR_TWO: [(&[u8], Outcome); 14] = [
 fn certificates_of_two_drones(rt: HostRuntime) -> Result<(), Fail> {
     let curves = two(rt.alloc())?;
     for (text, wanted) in FOR_TWO {
-        assert_eq!(rt; becomes(&curves, text), wanted);
+        assert_eq!(rt; becomes(rt.alloc(), &curves, text), wanted);
     }
     Ok(())
 }
@@ -226,7 +222,7 @@ const FOR_THREE: [(&[u8], Outcome); 5] = [
 fn certificates_of_three_drones(rt: HostRuntime) -> Result<(), Fail> {
     let curves = three(rt.alloc())?;
     for (text, wanted) in FOR_THREE {
-        assert_eq!(rt; becomes(&curves, text), wanted);
+        assert_eq!(rt; becomes(rt.alloc(), &curves, text), wanted);
     }
     Ok(())
 }
@@ -259,7 +255,7 @@ const FAULTY: [(&[u8], u32); 20] = [
 fn faulty_lines(rt: HostRuntime) -> Result<(), Fail> {
     let curves = two(rt.alloc())?;
     for (text, line) in FAULTY {
-        assert_eq!(rt; becomes(&curves, text), Outcome::Line(line));
+        assert_eq!(rt; becomes(rt.alloc(), &curves, text), Outcome::Line(line));
     }
     Ok(())
 }
@@ -288,7 +284,10 @@ fn wanted(bytes: usize) -> Outcome {
 fn texts_that_end_anywhere(rt: HostRuntime) -> Result<(), Fail> {
     let curves = two(rt.alloc())?;
     for bytes in 0..40 {
-        assert_eq!(rt; becomes(&curves, &WHOLE[..bytes]), wanted(bytes));
+        assert_eq!(rt;
+            becomes(rt.alloc(), &curves, &WHOLE[..bytes]),
+            wanted(bytes)
+        );
     }
     Ok(())
 }
@@ -305,21 +304,62 @@ fn a_hundred_thousand_splits(rt: HostRuntime) -> Result<(), Fail> {
     for _ in 0..100_001 {
         text.push(b'a')?;
     }
-    assert_eq!(rt; becomes(&curves, &text), Outcome::TooDeep(0, 1, 0));
+    assert_eq!(rt;
+        becomes(rt.alloc(), &curves, &text),
+        Outcome::TooDeep(0, 1, 0)
+    );
     text.extend_from_slice(b"\n.a")?;
-    assert_eq!(rt; becomes(&curves, &text), Outcome::Line(3));
+    assert_eq!(rt; becomes(rt.alloc(), &curves, &text), Outcome::Line(3));
     Ok(())
 }
 
 #[test]
 fn the_version_of_a_fault(rt: HostRuntime) -> Result<(), Fail> {
     let curves = two(rt.alloc())?;
-    let old = judged(&curves, &STILL, b"certificate 6\nr");
-    assert!(rt; matches!(old, Verdict::Refused { version: 1, .. }));
-    let wide = judged(&curves, &STILL, b"version 2\ncertificate 6\n58");
-    assert!(rt; matches!(wide, Verdict::Refused { version: 2, .. }));
+    let old = judged(&curves, still(), b"certificate 6\nr");
+    let wide = judged(&curves, still(), b"version 2\ncertificate 6\n58");
     // drones that are 1 m apart, with ellipsoids as wide as that
-    let near = judged(&curves, &BROAD, b"certificate 6\nr\nl\na\n");
-    assert!(rt; matches!(near, Verdict::Refused { version: 1, .. }));
+    let near = judged(
+        &curves,
+        clearance(500, 500, 0, [0, 0, 0]),
+        b"certificate 6\nr\nl\na\n",
+    );
+    for (verdict, wanted) in [(old, 1), (wide, 2), (near, 1)] {
+        assert!(rt; matches!(verdict, Verdict::Refused { version, .. } if version == wanted));
+    }
+    Ok(())
+}
+
+// In the first cue the second drone is 1,000 mm along x from the first. Along (1, 0, 0) that is 300,000, where the ellipsoids ask for 72,001,
+// 379 mm of stray for 227,400 and 1 mm of reach on x for 300.
+const BY_CLEARANCE: [(u16, [u32; 3], bool); 7] = [
+    (0, [0, 0, 0], true),
+    (379, [0, 65_536, 65_536], true),
+    (380, [0, 0, 0], false),
+    (379, [1, 0, 0], true),
+    (379, [2, 0, 0], false),
+    (0, [759, 0, 0], true),
+    (0, [760, 0, 0], false),
+];
+
+#[test]
+fn strays_and_late_drones(rt: HostRuntime) -> Result<(), Fail> {
+    let curves = two(rt.alloc())?;
+    for (stray, reach, wanted) in BY_CLEARANCE {
+        let verdict = judged(
+            &curves,
+            clearance(120, 300, stray, reach),
+            b"certificate 0\nv",
+        );
+        // one tree is there, and the next one is missing, unless the first fails
+        let missing = matches!(
+            verdict,
+            Verdict::Refused {
+                fault: CertFault::Missing { cue: 1, .. },
+                ..
+            }
+        );
+        assert!(rt; missing == wanted, "stray {stray}");
+    }
     Ok(())
 }

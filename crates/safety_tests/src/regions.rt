@@ -1,13 +1,13 @@
 //! Parts that were judged elsewhere, by whole numbers without a bound, for a drone that goes one metre along x in two
 //! seconds, with ellipsoids of half axes 120, 120 and 300 mm.
 
-ghost use Rattle.std.specs.Prelude.{◌≡◌, ◌≤◌, ◌∷◌, [], IfOk, length, All};
+ghost use Rattle.std.specs.Prelude.{◌≡◌, ◌≤◌, ◌≤ℤ◌, ◌∷◌, [], pos, neg_ℤ, IfOk};
 ghost use Rattle.traj_codec.specs.Positions.{durations};
 ghost use Rattle.fleet_curves.specs.Raised.{AreOneShow};
 ghost use Rattle.keepout_boxes.specs.Kept.{AreEnds, IsNear};
 
-use super::*;
 use fleet_curves::Curves;
+use keepout_boxes::{Judged, Region, RegionFault, judge, read_regions};
 use std::alloc::{AllocError, Global};
 use std::test::Fail;
 use traj_codec::{Element, Listed, Segment, Traj};
@@ -44,62 +44,80 @@ fn judged(alloc: Global, region: Region, depth: u8) -> Result<Judged, AllocError
     Ok(judge(&curves, 120, 300, depth, &regions))
 }
 
+// A coordinate that a region may have.
+fn near(value: i32) -> i32
+    ensures { (neg_ℤ (pos 40000) ≤ℤ result) × (result ≤ℤ pos 40000) }
+{
+    value.max(-40_000).min(40_000)
+}
+
+fn ends(at: [i32; 3]) -> [i32; 3]
+    ensures { AreEnds result }
+{
+    [near(at[0]), near(at[1]), near(at[2])]
+}
+
 fn keepout(low: [i32; 3], high: [i32; 3]) -> Region
-    requires low { AreEnds low }
-    requires high { AreEnds high }
     ensures { IsNear result }
 {
-    Region::Keepout { low, high }
-}
-
-fn volume(low: [i32; 3], high: [i32; 3]) -> Region
-    requires low { AreEnds low }
-    requires high { AreEnds high }
-    ensures { IsNear result }
-{
-    Region::Volume { low, high }
-}
-
-fn part(index: u16) -> Judged {
-    Judged::Enters {
-        region: 0,
-        drone: 0,
-        cue: 0,
-        index,
+    Region::Keepout {
+        low: ends(low),
+        high: ends(high),
     }
 }
 
-#[test]
-fn a_box_beside_the_way(rt: HostRuntime) -> Result<(), Fail> {
-    let beside = keepout([400, 200, 0], [600, 400, 2000]);
-    assert_eq!(rt; judged(rt.alloc(), beside, 6)?, Judged::Kept);
-    let nearer = keepout([400, 100, 0], [600, 300, 2000]);
-    assert_eq!(rt; judged(rt.alloc(), nearer, 6)?, part(25));
-    Ok(())
+fn volume(low: [i32; 3], high: [i32; 3]) -> Region
+    ensures { IsNear result }
+{
+    Region::Volume {
+        low: ends(low),
+        high: ends(high),
+    }
 }
 
-#[test]
-fn a_volume_around_the_way(rt: HostRuntime) -> Result<(), Fail> {
-    let wide = volume([-200, -200, 500], [1200, 200, 1500]);
-    assert_eq!(rt; judged(rt.alloc(), wide, 6)?, Judged::Kept);
-    let narrow = volume([0, -200, 500], [1200, 200, 1500]);
-    assert_eq!(rt; judged(rt.alloc(), narrow, 6)?, part(0));
-    Ok(())
+macro_rules! part {
+    ($index:expr) => {
+        Judged::Enters {
+            region: 0,
+            drone: 0,
+            cue: 0,
+            index: $index,
+        }
+    };
 }
 
-// At the very limits: one millimetre decides.
+// The corners of a keepout and the depth; what is judged. A box beside the way, one nearer, and at the very limit, where one millimetre decides.
+const KEEPOUTS: [([i32; 3], [i32; 3], u8, Judged); 5] = [
+    ([400, 200, 0], [600, 400, 2000], 6, Judged::Kept),
+    ([400, 100, 0], [600, 300, 2000], 6, part!(25)),
+    ([1121, 0, 0], [1200, 10, 2000], 6, Judged::Kept),
+    ([1120, 0, 0], [1200, 10, 2000], 6, part!(63)),
+    ([1120, 0, 0], [1200, 10, 2000], 8, part!(255)),
+];
+
+// The same of volumes around the way.
+const VOLUMES: [([i32; 3], [i32; 3], u8, Judged); 5] = [
+    ([-200, -200, 500], [1200, 200, 1500], 6, Judged::Kept),
+    ([0, -200, 500], [1200, 200, 1500], 6, part!(0)),
+    ([-120, -120, 700], [1120, 120, 1300], 6, Judged::Kept),
+    ([-120, -120, 700], [1119, 120, 1300], 6, part!(59)),
+    ([-120, -120, 700], [1119, 120, 1300], 0, part!(0)),
+];
+
 #[test]
-fn a_millimetre(rt: HostRuntime) -> Result<(), Fail> {
-    let ahead = keepout([1121, 0, 0], [1200, 10, 2000]);
-    assert_eq!(rt; judged(rt.alloc(), ahead, 6)?, Judged::Kept);
-    let reached = keepout([1120, 0, 0], [1200, 10, 2000]);
-    assert_eq!(rt; judged(rt.alloc(), reached, 6)?, part(63));
-    assert_eq!(rt; judged(rt.alloc(), reached, 8)?, part(255));
-    let tight = volume([-120, -120, 700], [1120, 120, 1300]);
-    assert_eq!(rt; judged(rt.alloc(), tight, 6)?, Judged::Kept);
-    let tighter = volume([-120, -120, 700], [1119, 120, 1300]);
-    assert_eq!(rt; judged(rt.alloc(), tighter, 6)?, part(59));
-    assert_eq!(rt; judged(rt.alloc(), tighter, 0)?, part(0));
+fn regions_of_one_drone(rt: HostRuntime) -> Result<(), Fail> {
+    for (low, high, depth, wanted) in KEEPOUTS {
+        assert_eq!(rt;
+            judged(rt.alloc(), keepout(low, high), depth.min(8))?,
+            wanted
+        );
+    }
+    for (low, high, depth, wanted) in VOLUMES {
+        assert_eq!(rt;
+            judged(rt.alloc(), volume(low, high), depth.min(8))?,
+            wanted
+        );
+    }
     Ok(())
 }
 
@@ -227,5 +245,29 @@ fn the_second_drone_in_the_second_cue(rt: HostRuntime) -> Result<(), Fail> {
             index: 31
         }
     );
+    Ok(())
+}
+
+// Where the way of the one drone ends 120 mm before a keepout, any stray makes it enter; and a volume bears as much stray as it leaves room.
+// The extents are those of the ellipsoid and the stray together.
+const BY_STRAY: [(i32, u16, bool); 6] = [
+    (1121, 0, true),
+    (1121, 1, false),
+    (1171, 50, true),
+    (1170, 50, false),
+    (2121, 1000, true),
+    (2120, 1000, false),
+];
+
+#[test]
+fn keepouts_and_strays(rt: HostRuntime) -> Result<(), Fail> {
+    let trajs = solo(rt.alloc())?;
+    let curves = Curves::make(rt.alloc(), &trajs)?;
+    for (low, stray, kept) in BY_STRAY {
+        let stray = stray.min(1000);
+        let regions = vec![in rt.alloc(); keepout([low, 0, 0], [3000, 10, 2000])]?;
+        let found = judge(&curves, 120 + stray, 300 + stray, 6, &regions);
+        assert!(rt; (found == Judged::Kept) == kept, "from {low} with {stray}");
+    }
     Ok(())
 }

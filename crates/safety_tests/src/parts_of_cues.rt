@@ -1,48 +1,15 @@
-//! Values from outside: the thresholds of the default ellipsoid, and one direction at its threshold.
+//! Parts of a cue, judged along one direction at its threshold, their halves, and the order of pairs and cues: values from outside.
 
 ghost use Rattle.std.specs.Prelude.{◌^◌, All};
 ghost use Rattle.fleet_math.specs.Numbers.{IsBelow};
 
-use super::*;
 use bezier_core::Bez;
 use halving::Place;
-use std::test::Fail;
-
-// The ellipsoid of shows that set none, with nobody who strays or is late.
-const STILL: Clearance = Clearance {
-    r: 120,
-    h: 300,
-    stray: 0,
-    late: 0,
-    reach: [0, 0, 0],
+use sep_parts::{
+    Level, Node, Slot, Stack, above, first_below, halves, level_halves, low_control, projected,
+    separates,
 };
-
-#[test]
-fn thresholds_by_the_entries_that_are_not_zero(rt: HostRuntime) -> Result<(), Fail> {
-    let t = thresholds(&DIRECTIONS, STILL);
-    assert_eq!(rt; [t[4], t[10], t[12], t[13], t[15], t[21]], [72001; 6]);
-    assert_eq!(rt; [t[1], t[3], t[5], t[7], t[9], t[11], t[24]], [101824; 7]);
-    assert_eq!(rt; [t[0], t[2], t[6], t[8], t[17], t[25]], [124708; 6]);
-    Ok(())
-}
-
-// A stray of 50 mm, and a drone that moves by 15 mm on x and 20 mm on z while it is late: by exact square roots, apart from the program.
-#[test]
-fn thresholds_with_strays_and_late_drones(rt: HostRuntime) -> Result<(), Fail> {
-    let clearance = Clearance {
-        r: 120,
-        h: 300,
-        stray: 50,
-        late: 20,
-        reach: [15, 0, 20],
-    };
-    let t = thresholds(&DIRECTIONS, clearance);
-    // (1, 0, 0): 72,001 and 30,000 and 4,500; (0, 0, 1): 72,001 and 12,000 and 2,400; (1, 1, 1): 124,708 and 44,091 and 6,900
-    assert_eq!(rt; [t[4], t[21]], [106501; 2]);
-    assert_eq!(rt; [t[12], t[13]], [86401; 2]);
-    assert_eq!(rt; [t[0], t[25]], [175699; 2]);
-    Ok(())
-}
+use std::test::Fail;
 
 // Millimetres at the scale of raised curves.
 fn scaled(millimetres: i16) -> i128
@@ -69,16 +36,31 @@ fn aside(millimetres: i16, dip: i16) -> [Bez<8>; 3]
     [row(scaled(millimetres), scaled(dip)), row(0, 0), row(0, 0)]
 }
 
+// A distance along x, that of one control value, the height, the threshold and the depth; and whether the direction separates the part.
+// 241 times the height of 1 mm is the threshold itself.
+const AT_THE_THRESHOLD: [(i16, i16, u16, i128, u8, bool); 6] = [
+    (241, 241, 300, 72001, 0, true),
+    (240, 240, 300, 72001, 0, false),
+    (241, 241, 1, 241, 0, true),
+    (240, 240, 1, 241, 0, false),
+    (241, 240, 300, 72001, 0, false),
+    (241, 241, 300, 72001, 1, false),
+];
+
 #[test]
 fn a_direction_at_its_threshold(rt: HostRuntime) -> Result<(), Fail> {
     let along_x = [1, 0, 0];
-    assert!(rt; separates(&aside(241, 241), along_x, 120, 300, 72001, 0));
-    assert!(rt; !separates(&aside(240, 240), along_x, 120, 300, 72001, 0));
-    // 241 times the height of 1 mm is the threshold itself
-    assert!(rt; separates(&aside(241, 241), along_x, 120, 1, 241, 0));
-    assert!(rt; !separates(&aside(240, 240), along_x, 120, 1, 241, 0));
-    assert!(rt; !separates(&aside(241, 240), along_x, 120, 300, 72001, 0));
-    assert!(rt; !separates(&aside(241, 241), along_x, 120, 300, 72001, 1));
+    for (millimetres, dip, h, threshold, depth, wanted) in AT_THE_THRESHOLD {
+        let found = separates(
+            &aside(millimetres, dip),
+            along_x,
+            120,
+            h.max(1).min(2000),
+            threshold.max(0).min(1_000_000),
+            depth.min(8),
+        );
+        assert!(rt; found == wanted, "{millimetres}, {dip}, {h}, {depth}");
+    }
     Ok(())
 }
 
@@ -87,19 +69,23 @@ fn a_direction_at_its_threshold(rt: HostRuntime) -> Result<(), Fail> {
 fn the_first_control_value_that_is_too_low(rt: HostRuntime) -> Result<(), Fail> {
     let along_x = [1, 0, 0];
     let dips = aside(241, 240);
-    assert_eq!(rt; low_control(&dips, along_x, 120, 300, 72001, 0), Some(3));
-    assert_eq!(rt; low_control(&dips, along_x, 120, 300, 72000, 0), None);
-    assert_eq!(rt; low_control(&dips, along_x, 120, 300, 72301, 0), Some(0));
     let seen = projected(&dips, along_x, 120, 300);
     // 72,300 and 72,000 times 5,040
     assert_eq!(rt;
         [seen.b[0], seen.b[3], seen.b[7]],
         [364392000, 362880000, 364392000]
     );
-    assert_eq!(rt; first_below(&seen, 72001, 0), Some(3));
-    assert_eq!(rt; first_below(&seen, 72000, 0), None);
-    assert_eq!(rt; first_below(&seen, 1, 2), None);
-    assert_eq!(rt; first_below(&seen, 5, 2), Some(0));
+    for (found, wanted) in [
+        (low_control(&dips, along_x, 120, 300, 72001, 0), Some(3)),
+        (low_control(&dips, along_x, 120, 300, 72000, 0), None),
+        (low_control(&dips, along_x, 120, 300, 72301, 0), Some(0)),
+        (first_below(&seen, 72001, 0), Some(3)),
+        (first_below(&seen, 72000, 0), None),
+        (first_below(&seen, 1, 2), None),
+        (first_below(&seen, 5, 2), Some(0)),
+    ] {
+        assert_eq!(rt; found, wanted);
+    }
     Ok(())
 }
 
@@ -107,9 +93,9 @@ fn the_first_control_value_that_is_too_low(rt: HostRuntime) -> Result<(), Fail> 
 #[test]
 fn all_control_values_at_the_threshold(rt: HostRuntime) -> Result<(), Fail> {
     let reached = [82_575_360; 8];
-    assert!(rt; above(&Bez::<8> { b: reached }, 1, 2));
-    assert!(rt; !above(&Bez::<8> { b: reached }, 2, 2));
-    assert!(rt; !above(&Bez::<8> { b: reached }, 1, 3));
+    for (threshold, depth, wanted) in [(1, 2, true), (2, 2, false), (1, 3, false)] {
+        assert!(rt; above(&Bez::<8> { b: reached }, threshold, depth) == wanted);
+    }
     for k in 0..8 {
         let mut b = reached;
         b[k] = 82_575_359;
@@ -119,22 +105,26 @@ fn all_control_values_at_the_threshold(rt: HostRuntime) -> Result<(), Fail> {
 }
 
 // Three drones in two cues: the pairs by first and then second drone, for each the cues, and then a pair that is none.
+const IN_ORDER: [(u8, u8, u16); 7] = [
+    (0, 1, 0),
+    (0, 1, 1),
+    (0, 2, 0),
+    (0, 2, 1),
+    (1, 2, 0),
+    (1, 2, 1),
+    (2, 3, 0),
+];
+
 #[test]
 fn pairs_and_cues_in_order(rt: HostRuntime) -> Result<(), Fail> {
     let mut slot = Slot::first();
-    assert_eq!(rt; slot, Slot { a: 0, b: 1, cue: 0 });
-    slot = slot.next(3, 2);
-    assert_eq!(rt; slot, Slot { a: 0, b: 1, cue: 1 });
-    slot = slot.next(3, 2);
-    assert_eq!(rt; slot, Slot { a: 0, b: 2, cue: 0 });
-    slot = slot.next(3, 2);
-    assert_eq!(rt; slot, Slot { a: 0, b: 2, cue: 1 });
-    slot = slot.next(3, 2);
-    assert_eq!(rt; slot, Slot { a: 1, b: 2, cue: 0 });
-    slot = slot.next(3, 2);
-    assert_eq!(rt; slot, Slot { a: 1, b: 2, cue: 1 });
-    slot = slot.next(3, 2);
-    assert_eq!(rt; slot, Slot { a: 2, b: 3, cue: 0 });
+    let mut found = [(0, 0, 0); 7];
+    for k in 0..6 {
+        found[k] = (slot.a, slot.b, slot.cue);
+        slot = slot.next(3, 2);
+    }
+    found[6] = (slot.a, slot.b, slot.cue);
+    assert!(rt; found == IN_ORDER);
     Ok(())
 }
 

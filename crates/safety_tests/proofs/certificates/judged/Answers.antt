@@ -1,4 +1,4 @@
-use Rattle.certificate_checker.proofs.tests.judged.Goals as goal
+use Rattle.safety_tests.proofs.certificates.judged.Goals as goal
 
 pub loop-byte-init : goal.loop-byte-init
 loop-byte-init c = record {

@@ -1,0 +1,21 @@
+//! Tests of the crates that judge separation, against values from outside: `sep_parts`, `sep_certificate`, `certificate_checker`,
+//! `pair_search`, `keepout_boxes`, `touch_witness` and `speed_bound`. They stand in a crate of their own, so that each of these is proved
+//! once. It hands nothing out.
+#![tactic(auto)]
+
+#[cfg(test)]
+mod certificates;
+#[cfg(test)]
+mod flights;
+#[cfg(test)]
+mod parts_of_cues;
+#[cfg(test)]
+mod regions;
+#[cfg(test)]
+mod searches;
+#[cfg(test)]
+mod speeds;
+#[cfg(test)]
+mod thresholds_of_directions;
+#[cfg(test)]
+mod touches;

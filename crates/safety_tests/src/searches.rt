@@ -1,0 +1,291 @@
+//! Pairs of drones with ellipsoids of half axes 120, 120 and 300 mm. Directions, parts and counts were computed from the definitions by exact
+//! sums, apart from the program.
+
+ghost use Rattle.std.specs.Prelude.{◌≡◌, ◌∷◌, [], ◌^◌, ◌≤◌, All, IfOk};
+ghost use Rattle.fleet_math.specs.Numbers.{IsBelow};
+ghost use Rattle.traj_codec.specs.Positions.{durations};
+
+use crate::flights::{clearance, still, two_legs};
+use bezier_core::Bez;
+use fleet_curves::Curves;
+use pair_search::{Found, SearchFault, count_all, search, search_all, search_with};
+use sep_parts::{DIRECTIONS, Node, Ruler, Slot, WIDE, table_law};
+use std::alloc::{AllocError, Global};
+use std::test::Fail;
+use traj_codec::{Element, Listed, Segment, Traj};
+
+// A raised curve of control values in millimetres.
+fn raised(mm: [i16; 8]) -> Bez<8>
+    ensures { All (IsBelow (2 ^ 30)) result.b }
+{
+    Bez {
+        b: [
+            scaled(mm[0]),
+            scaled(mm[1]),
+            scaled(mm[2]),
+            scaled(mm[3]),
+            scaled(mm[4]),
+            scaled(mm[5]),
+            scaled(mm[6]),
+            scaled(mm[7]),
+        ],
+    }
+}
+
+// Millimetres at the scale of raised curves.
+fn scaled(millimetres: i16) -> i128
+    ensures { IsBelow (2 ^ 30) result }
+{
+    millimetres as i128 * 5040
+}
+
+// From rest to rest.
+fn moved(from: i16, to: i16) -> [i16; 8] {
+    [from, from, from, from, to, to, to, to]
+}
+
+// What a search of three curves finds, and its nodes; and the same with a ruler made before.
+fn searched(
+    alloc: Global,
+    x: [i16; 8],
+    y: [i16; 8],
+    z: [i16; 8],
+    depth: u8,
+) -> Result<(Found, Vec<Node>), AllocError>
+    requires { depth ≤ 8 }
+{
+    table_law();
+    let diff = [raised(x), raised(y), raised(z)];
+    let mut nodes = Vec::new(alloc);
+    let found = search(&diff, &DIRECTIONS, still(), depth, &mut nodes)?;
+    Ok((found, nodes))
+}
+
+fn searched_with(
+    alloc: Global,
+    x: [i16; 8],
+    y: [i16; 8],
+    z: [i16; 8],
+    depth: u8,
+) -> Result<(Found, Vec<Node>), AllocError>
+    requires { depth ≤ 8 }
+{
+    table_law();
+    let diff = [raised(x), raised(y), raised(z)];
+    let ruler = Ruler::make(&DIRECTIONS, still());
+    let mut nodes = Vec::new(alloc);
+    let found = search_with(&diff, &ruler, depth, &mut nodes)?;
+    Ok((found, nodes))
+}
+
+const LEVEL: [i16; 8] = [0; 8];
+
+const RISES: [i16; 8] = [0, 0, 0, 0, 1000, 1000, 1000, 1000];
+
+const SINKS: [i16; 8] = [1000, 1000, 1000, 1000, 0, 0, 0, 0];
+
+const ACROSS: [i16; 8] = [1000, 1000, 1000, 1000, -1000, -1000, -1000, -1000];
+
+const ASIDE: [i16; 8] = [100, 241, 300, 300, 400, 400, 0, 0];
+
+const ABOVE: [i16; 8] = [620, 300, 620, 0, 0, 0, 300, 620];
+
+// Where the second drone is from the first, on x, y and z; the depth; what is found, and the nodes. One drone waits 1 m beside the other and
+// rises; they cross with 1 m between them; it sinks; they meet; and they pass part by part.
+const SEARCHES: [([i16; 8], [i16; 8], [i16; 8], u8, Found, &[Node]); 7] = [
+    (
+        [1000; 8],
+        LEVEL,
+        RISES,
+        6,
+        Found::Clear,
+        &[Node::Leaf { dir: 17 }],
+    ),
+    (
+        ACROSS,
+        LEVEL,
+        [1000; 8],
+        6,
+        Found::Clear,
+        &[Node::Leaf { dir: 11 }],
+    ),
+    (
+        [-1000; 8],
+        LEVEL,
+        SINKS,
+        0,
+        Found::Clear,
+        &[Node::Leaf { dir: 0 }],
+    ),
+    (ACROSS, LEVEL, LEVEL, 6, Found::Blocked { index: 28 }, &[]),
+    (ACROSS, LEVEL, LEVEL, 0, Found::Blocked { index: 0 }, &[]),
+    (
+        ACROSS,
+        ASIDE,
+        ABOVE,
+        3,
+        Found::Clear,
+        &[
+            Node::Split,
+            Node::Leaf { dir: 16 },
+            Node::Split,
+            Node::Split,
+            Node::Leaf { dir: 15 },
+            Node::Leaf { dir: 3 },
+            Node::Leaf { dir: 0 },
+        ],
+    ),
+    (ACROSS, ASIDE, ABOVE, 2, Found::Blocked { index: 2 }, &[]),
+];
+
+#[test]
+fn trees_of_pairs(rt: HostRuntime) -> Result<(), Fail> {
+    for (x, y, z, depth, wanted, tree) in SEARCHES {
+        let (found, nodes) = searched(rt.alloc(), x, y, z, depth.min(8))?;
+        assert!(rt; found == wanted && nodes.as_slice() == tree);
+    }
+    Ok(())
+}
+
+#[test]
+fn a_ruler_made_before(rt: HostRuntime) -> Result<(), Fail> {
+    for (x, y, z, depth, wanted, tree) in SEARCHES {
+        let (found, nodes) = searched_with(rt.alloc(), x, y, z, depth.min(8))?;
+        assert!(rt; found == wanted && nodes.as_slice() == tree);
+    }
+    Ok(())
+}
+
+// The second drone stays at a place beside the first, through two cues.
+fn beside(alloc: Global, place: [i16; 3]) -> Result<Curves, AllocError> {
+    let first = two_legs(alloc, [[0, 0, 0]; 3])?;
+    let second = two_legs(alloc, [place; 3])?;
+    let trajs = vec![in alloc; first, second]?;
+    Curves::of_slice(alloc, trajs.as_slice())
+}
+
+// How many nodes a pair has by both searches, where they say the same; or the part of the first cue that is blocked.
+fn nodes_of(
+    alloc: Global,
+    curves: &Curves,
+    ruler: &Ruler<98>,
+    depth: u8,
+) -> Option<Result<u32, u16>>
+    requires { depth ≤ 8 }
+{
+    let counted = match count_all(alloc, curves, ruler, depth) {
+        Ok(count) => Ok(count),
+        Err(SearchFault::Blocked { index, .. }) => Err(index),
+        Err(SearchFault::Memory) => return None,
+    };
+    let found = match search_all(alloc, curves, ruler, depth) {
+        Ok(trees) => Ok(all_nodes(trees.as_slice())),
+        Err(SearchFault::Blocked { index, .. }) => Err(index),
+        Err(SearchFault::Memory) => return None,
+    };
+    if counted == found {
+        Some(counted)
+    } else {
+        None
+    }
+}
+
+// How many nodes trees have.
+fn all_nodes(trees: &[Listed<Node>]) -> u32 {
+    let mut count: u32 = 0;
+    for tree in trees {
+        count = count.saturating_add(tree.as_slice().len() as u32);
+    }
+    count
+}
+
+// The place of the second drone, a stray, the reach on x, y and z, and how many nodes two cues have, or none where they are blocked. Drones on
+// one axis are apart exactly where they are farther than two half axes, two strays and the reach of that axis.
+const ON_ONE_AXIS: [([i16; 3], u16, [u32; 3], Result<u32, u16>); 14] = [
+    ([241, 0, 0], 0, [0, 0, 0], Ok(2)),
+    ([240, 0, 0], 0, [0, 0, 0], Err(0)),
+    ([-241, 0, 0], 0, [0, 0, 0], Ok(2)),
+    ([-240, 0, 0], 0, [0, 0, 0], Err(0)),
+    ([0, 341, 0], 50, [0, 0, 0], Ok(2)),
+    ([0, 340, 0], 50, [0, 0, 0], Err(0)),
+    ([248, 0, 0], 0, [7, 0, 0], Ok(2)),
+    ([247, 0, 0], 0, [7, 0, 0], Err(0)),
+    // the reach on another axis takes nothing away
+    ([0, -241, 0], 0, [65_536, 0, 65_536], Ok(2)),
+    ([0, -240, 0], 0, [65_536, 0, 65_536], Err(0)),
+    ([0, 0, 708], 50, [0, 0, 7], Ok(2)),
+    ([0, 0, 707], 50, [0, 0, 7], Err(0)),
+    ([0, 0, -601], 0, [9, 9, 0], Ok(2)),
+    ([0, 0, -600], 0, [9, 9, 0], Err(0)),
+];
+
+#[test]
+fn drones_on_one_axis(rt: HostRuntime) -> Result<(), Fail> {
+    table_law();
+    for (place, stray, reach, wanted) in ON_ONE_AXIS {
+        let curves = beside(rt.alloc(), place)?;
+        let ruler = Ruler::make(&WIDE, clearance(120, 300, stray, reach));
+        let found = nodes_of(rt.alloc(), &curves, &ruler, 0);
+        assert!(rt; found == Some(wanted), "stray {stray}");
+    }
+    Ok(())
+}
+
+// The first drone stays; the second passes it as the last of the searches above.
+fn passing(alloc: Global) -> Result<Curves, AllocError> {
+    let stays = Segment {
+        ms: 3000,
+        elements: [Element::Constant; 4],
+    };
+    let passes = Segment {
+        ms: 3000,
+        elements: [
+            Element::Seven {
+                v: [1000, 1000, 1000, -1000, -1000, -1000, -1000],
+            },
+            Element::Seven {
+                v: [241, 300, 300, 400, 400, 0, 0],
+            },
+            Element::Seven {
+                v: [1300, 1620, 1000, 1000, 1000, 1300, 1620],
+            },
+            Element::Constant,
+        ],
+    };
+    let first = Traj {
+        start: [0, 0, 1000, 0],
+        segments: Listed::from_vec(vec![in alloc; stays]?),
+    };
+    let second = Traj {
+        start: [1000, 100, 1620, 0],
+        segments: Listed::from_vec(vec![in alloc; passes]?),
+    };
+    let trajs = vec![in alloc; first, second]?;
+    Curves::of_slice(alloc, trajs.as_slice())
+}
+
+// A stray, the reach on x, y and z, and the depth; how many nodes there are, or the first part that is blocked.
+const PASSING: [(u16, [u32; 3], u8, Result<u32, u16>); 10] = [
+    (0, [0, 0, 0], 0, Err(0)),
+    (0, [0, 0, 0], 1, Ok(3)),
+    (5, [0, 0, 0], 8, Ok(3)),
+    (10, [3, 0, 2], 1, Ok(3)),
+    (20, [0, 0, 0], 3, Ok(3)),
+    (30, [10, 10, 10], 1, Err(0)),
+    (30, [10, 10, 10], 2, Err(1)),
+    (30, [10, 10, 10], 3, Err(4)),
+    (30, [10, 10, 10], 4, Ok(13)),
+    (30, [10, 10, 10], 8, Ok(13)),
+];
+
+#[test]
+fn drones_that_pass(rt: HostRuntime) -> Result<(), Fail> {
+    table_law();
+    let curves = passing(rt.alloc())?;
+    for (stray, reach, depth, wanted) in PASSING {
+        let ruler = Ruler::make(&WIDE, clearance(120, 300, stray, reach));
+        let found = nodes_of(rt.alloc(), &curves, &ruler, depth.min(8));
+        assert!(rt; found == Some(wanted), "stray {stray}, depth {depth}");
+    }
+    Ok(())
+}
