@@ -8,8 +8,6 @@
 
 mod line;
 mod number;
-#[cfg(test)]
-mod tests;
 mod token;
 
 pub use line::split_line;

@@ -1,0 +1,16 @@
+//! Tests of the crates of the ground layer: `listed`, `text_lines` and `fleet_io`. They stand in a crate of their own so
+//! that those crates are proved once. Each call is the public one that the layers above make.
+#![tactic(auto)]
+
+#[cfg(test)]
+mod ends;
+#[cfg(test)]
+mod lines;
+#[cfg(test)]
+mod lists;
+#[cfg(test)]
+mod parts;
+#[cfg(test)]
+mod reading;
+#[cfg(test)]
+mod texts;
