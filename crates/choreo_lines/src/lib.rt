@@ -11,8 +11,6 @@ mod field;
 mod law;
 mod line;
 mod parts;
-#[cfg(test)]
-mod tests;
 mod word;
 
 pub use entry::entry_of;

@@ -9,8 +9,6 @@ mod fault;
 mod law;
 mod reader;
 mod show;
-#[cfg(test)]
-mod tests;
 mod token;
 
 pub use choreo_lines::{Act, Frame, LineKind, Listed, Mirror, Name, Point};

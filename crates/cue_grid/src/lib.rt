@@ -14,8 +14,6 @@ mod frame;
 mod grid;
 mod lookup;
 mod names;
-#[cfg(test)]
-mod tests;
 mod unrolling;
 
 pub use frame::{apply, mirror, quarter_turn, shift};

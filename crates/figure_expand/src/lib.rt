@@ -16,6 +16,3 @@ mod shapes;
 pub use expansion::expand;
 pub use fault::ExpandFault;
 pub use law::expansion_law;
-
-#[cfg(test)]
-mod tests;

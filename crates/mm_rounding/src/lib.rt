@@ -13,6 +13,3 @@ mod rounding;
 pub use law::rounding_law;
 pub use piece::{Axis, MicroPiece};
 pub use rounding::{round_piece, to_mm};
-
-#[cfg(test)]
-mod tests;

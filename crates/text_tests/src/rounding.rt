@@ -1,11 +1,10 @@
 //! Rounded numbers and segments that are known from outside.
-use super::*;
-use std::test::Fail;
+use mm_rounding::{Axis, MicroPiece, round_piece, to_mm};
 use traj_codec::{Element, Segment};
 
 // Ties go up, below zero too, and the ends of two bytes.
 #[test]
-fn numbers(rt: HostRuntime) -> Result<(), Fail> {
+fn numbers(rt: HostRuntime) {
     let rows = [
         (-500, Some(0)),
         (-501, Some(-1)),
@@ -17,9 +16,8 @@ fn numbers(rt: HostRuntime) -> Result<(), Fail> {
         (-32_768_501, None),
     ];
     for (v, mm) in rows {
-        assert_eq!(rt; to_mm(v), mm);
+        assert!(rt; to_mm(v) == mm);
     }
-    Ok(())
 }
 
 fn quarter(ms: u16, yaw: i64) -> MicroPiece {
@@ -42,7 +40,7 @@ fn quarter(ms: u16, yaw: i64) -> MicroPiece {
 
 // A quarter circle: its curves stay cubic, and what differs by less than a millimetre is constant.
 #[test]
-fn quarter_circle(rt: HostRuntime) -> Result<(), Fail> {
+fn quarter_circle(rt: HostRuntime) {
     let segment = Segment {
         ms: 1000,
         elements: [
@@ -54,8 +52,12 @@ fn quarter_circle(rt: HostRuntime) -> Result<(), Fail> {
             Element::Constant,
         ],
     };
-    assert_eq!(rt; round_piece(&quarter(1000, 32767)), Some(segment));
-    assert_eq!(rt; round_piece(&quarter(0, 32767)), None);
-    assert_eq!(rt; round_piece(&quarter(1000, 32768)), None);
-    Ok(())
+    let rows = [
+        (1000, 32767, Some(segment)),
+        (0, 32767, None),
+        (1000, 32768, None),
+    ];
+    for (ms, yaw, wanted) in rows {
+        assert!(rt; round_piece(&quarter(ms, yaw)) == wanted);
+    }
 }

@@ -1,12 +1,12 @@
 //! Shows by their texts: the control values of their figures, or the first value that no trajectory can hold.
-use super::*;
 use choreo_reader::read_show;
 use cue_grid::unroll;
+use figure_expand::{ExpandFault, expand};
 use mm_rounding::{Axis, MicroPiece};
 use std::alloc::Global;
 
 /// What becomes of a text: the last piece of its first drone, a value out of range, or something else.
-#[derive(Clone, Copy, PartialEq, Eq, Debug)]
+#[derive(Clone, Copy, PartialEq, Eq)]
 enum Outcome {
     Piece(MicroPiece),
     Fault(ExpandFault),
@@ -116,7 +116,7 @@ const FIGURES: [(&[u8], [Axis; 4]); 5] = [
 #[test]
 fn figures(rt: HostRuntime) {
     for (text, axes) in FIGURES {
-        assert_eq!(rt; outcome_of(rt.alloc(), text), piece(axes));
+        assert!(rt; outcome_of(rt.alloc(), text) == piece(axes));
     }
 }
 
@@ -152,6 +152,6 @@ const RANGES: [(&[u8], ExpandFault); 3] = [
 #[test]
 fn ranges(rt: HostRuntime) {
     for (text, wanted) in RANGES {
-        assert_eq!(rt; outcome_of(rt.alloc(), text), Outcome::Fault(wanted));
+        assert!(rt; outcome_of(rt.alloc(), text) == Outcome::Fault(wanted));
     }
 }
