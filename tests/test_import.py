@@ -63,6 +63,15 @@ class Bound(Case):
                 t += milliseconds
             self.assertTrue(worst <= bound <= degrees)
 
+    def test_before_and_after(self):
+        # From 1 to 2 s a path leads a millimetre along x: the drone waits before it, and stays after it. By hand.
+        rows = [[Fraction(0), Fraction(1000)], *[[Fraction(0)]] * 3]
+        path = paths.Path("a", [(Fraction(1000), Fraction(2000), rows)])
+        for begin, end, x, square in ((0, 1000, 30, 2500), (0, 500, 30, 2500), (2000, 3000, 1030, 2500),
+                                      (2500, 3000, 1030, 2500), (0, 2000, 0, 1001600), (500, 3000, 1000, 1001600)):
+            held = [[Fraction(v)] for v in (x, 40, 0, 2)]
+            self.assertEqual(path.leaves(Fraction(begin), Fraction(end), held, 6), (square, 4), (begin, end))
+
     def test_farthest(self):
         chance = random.Random(3)
         for _ in range(16):
@@ -155,9 +164,9 @@ class Kept(Case):
         text = self.show_of("--waypoints", "--ellipsoid", "100 250", "--memory", "3 64", path)[1]
         self.assertEqual(text.split("\n")[:6], [
             "# Source: caf??choreo 1.csv, by tools/import.",
-            "# Bound: at every instant what a drone is sent is at most 0.70 mm (yaw 0.00 degrees) from the source.",
-            "# Factor: the ellipsoid 100 250 is wanted around the source's curves, and 1.0070 times that is kept "
-            "clear.", "choreo 1", "ellipsoid 101 252", "memory 3 64"])
+            "# Bound: at any instant what is sent is at most 0.70 mm (yaw 0.00 degrees) from the source.",
+            "# Factor: 100 250 is wanted around the source's curves, and 1.0070 times that is kept clear.",
+            "choreo 1", "ellipsoid 101 252", "memory 3 64"])
 
     def test_factor(self):
         grown = files.tool("import").grown
