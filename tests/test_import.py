@@ -46,9 +46,9 @@ class Bound(Case):
                 self.assertTrue(all(v % 1000 == 0 for v in numbers), goal)
 
     def test_yaw(self):
-        # A quarter turn that begins and ends in the middle of cues, and a curve whose yaw has to be cut.
+        # A quarter turn that begins and ends in the middle of a curve, of a drone that takes off after a second.
         points = [[0, [0, 0, 1], []], [4, [1, 0, 1], [[0, 0, 1], [1, 0, 1]]]]
-        settings = {"yaw": [[0, 0], [1, 0], [3, 90], [4, 90]]}
+        settings = {"late": 1, "yaw": [[0, 0], [1, 0], [3, 90], [4, 90]]}
         path = self.file("a.skyc", files.archive({"show.json": files.show([files.drone("a", points, **settings)])}))
         for degrees in (1, 5):
             flown, _, _, said = self.show_of("--yaw-tolerance", degrees, path)
@@ -57,7 +57,7 @@ class Bound(Case):
                 for n in range(9):
                     u = Fraction(n, 8)
                     instant = (t + milliseconds * u) / 1000
-                    wanted = min(max(45 * (instant - 1), 0), 90)
+                    wanted = min(max(45 * (instant - 2), 0), 90)
                     row = elements[3]
                     worst = max(worst, abs(wanted - (row[0] + (row[-1] - row[0]) * u) / 10))
                 t += milliseconds
@@ -152,10 +152,11 @@ class Kept(Case):
         self.assertEqual(self.run_tool("import", "--waypoints", "--tolerance", "25", self.file("a.csv"))[0], 0)
 
     def test_no_sliver(self):
-        for seed in range(3):
-            points = [*files.wild(seed, 4), ]
+        # Drones that rest at the end. Cut greedily, the last cues before that would last 25 and 15 ms.
+        for number, seconds, tolerance in ((6, 2 + 33 / 7, 20), (2, 2 + 38 / 7, 5), (1, 4, 5)):
+            points = files.wild(number, seconds)
             points.append([points[-1][0] + 1, points[-1][1], []])
-            flown = self.show_of("--tolerance", 5, self.file("a.skyc", files.skyc([points])))[0]
+            flown = self.show_of("--tolerance", tolerance, self.file("a.skyc", files.skyc([points])))[0]
             self.assertGreaterEqual(min(cue.milliseconds for cue in flown.cues), 50)
 
     def test_head(self):

@@ -10,6 +10,7 @@ import unittest
 import zipfile
 
 import common
+import foreign
 import foreign_files as files
 from foreign_files import Case, drone, show
 
@@ -124,6 +125,15 @@ class Faults(Case):
             self.assertIn(words, self.refused("--starts", self.file("starts", starts), self.file("b.csv")))
         for name in ("none.csv", "none.skyc"):
             self.assertIn("No such file", self.refused(self.file(name), status=70))
+
+    def test_large(self):
+        before, foreign.LARGEST = foreign.LARGEST, 600
+        self.addCleanup(setattr, foreign, "LARGEST", before)
+        packed = io.BytesIO()
+        with zipfile.ZipFile(packed, "w", zipfile.ZIP_DEFLATED) as archive:
+            archive.writestr("show.json", " " * 601)
+        self.assertIn("larger than 600 bytes", self.refused(self.file("a.skyc", packed.getvalue())))
+        self.assertIn("more than 600 bytes", self.refused(self.file("a.csv", DURATION * 20)))
 
     def test_words(self):
         for words in (["--tolerance", "0"], ["--tolerance", "nan"], ["--tolerance", "1e9"], ["--least", "0"],

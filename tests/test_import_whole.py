@@ -148,6 +148,13 @@ class Judged(Case):
         self.assertIn("tools/explain, of the import", out)
         self.assertIn("TOO NEAR: no depth helps", out)
 
+    def test_above(self):
+        # Half a metre above one another, of the 600 mm that two ellipsoids need: 83.3 %. With 700 mm they are apart.
+        for height, status, words in ((1.5, 5, "with 83.3 % of the distance"), (1.7, 0, "APART")):
+            path = self.file("a.csv", "a,0,0,0,1\nb,0,-1,0,%g\nb,4,1,0,%g\n" % (height, height))
+            came, out = self.judged("--waypoints", path)
+            self.assertEqual((came, words in out), (status, True), out)
+
     def test_not_shown(self):
         # 250 mm aside: 104 %, but the import is some millimetres off, and its ellipsoids are larger by that.
         path = self.crossing(0.25, wave=0.02)
