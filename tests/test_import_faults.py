@@ -173,6 +173,12 @@ class Limits(Case):
         self.refused(4, "--tolerance", below, *words)
         self.assertIn("no tolerance up to 1000 mm helps: cut the show", self.refused(4, "--memory", "2 4080", path))
 
+    def test_corners_take_room(self):
+        # Forty corners at whole seconds take more than 196 bytes at any tolerance.
+        rows = "".join("%d,%g,0,1\n" % (t, 0.1 * (t % 2)) for t in range(41))
+        said = self.refused(4, "--waypoints", "--memory", "2 3900", self.file("a.csv", rows))
+        self.assertIn("of 196, in 40 segments; no tolerance up to 1000 mm helps", said)
+
     def test_segments_and_cues(self):
         def steps(count):
             rows = "".join("%d,%g,0,1\n" % (k, 0.1 * (k % 2)) for k in range(count + 1))

@@ -98,17 +98,19 @@ class RoundTrips(Case):
         said = self.run_tool("export_skyc", self.file("plan"), where)[1]
         bound = 10 * Fraction(re.search(r"and (\S+) degrees", said)[1])
         own = [0, 0, 0, 0, 900, 900, 900, 900]
-        worst = max(abs(files.bezier([[Fraction(v)] for v in own], Fraction(n, 64))[0] - path.at(Fraction(2000 * n, 64))[3])
-                    for n in range(65))
+        way = [[Fraction(v)] for v in own]
+        worst = max(abs(files.bezier(way, Fraction(n, 64))[0] - path.at(Fraction(2000 * n, 64))[3]) for n in range(65))
         self.assertTrue(bound / 2 < worst <= bound, (worst, bound))
         self.assertEqual(path.at(Fraction(1000))[3], 450)
 
     def test_refused(self):
-        for data, status, words in ((b"plan 1\nx\n", 70, "line 2"), (b"", 3, "header"), (b"choreo 1\ncue 1.5\n", 3, "bad-")):
+        for data, status, words in ((b"plan 1\nx\n", 70, "line 2"), (b"", 3, "header"),
+                                    (b"choreo 1\ncue 1.5\n", 3, "bad-")):
             came, out, said = self.run_tool("export_skyc", self.file("it", data), self.file("o.skyc"))
             self.assertEqual((came, out), (status, ""), said)
             self.assertIn(words, said)
-        for words, status, line in (([self.file("none"), "o"], 70, "No such file"), (["--tolerance", "nan", "a", "b"], 2, ""),
+        for words, status, line in (([self.file("none"), "o"], 70, "No such file"),
+                                    (["--tolerance", "nan", "a", "b"], 2, ""),
                                     ([os.path.join(EXAMPLES, "crossing.choreo"), "o"], 5, "error 5 pair a b"),
                                     ([os.path.join(EXAMPLES, "solo.choreo"), self.file("no/o")], 70, "No such file")):
             came, out, said = self.run_tool("export_skyc", *words)
@@ -167,7 +169,12 @@ class Judged(Case):
         path = self.crossing(0.2)
         self.assertEqual(self.judged("--ellipsoid", "85 300", path)[0], 0)
         self.assertEqual(self.judged("--ellipsoid", "101 300", path)[0], 5)
-        self.assertEqual(self.judged("--depth", "0", "--ellipsoid", "40 300", path)[0], 0)
+
+    def test_depth(self):
+        # b flies half around a: no direction shows it for the whole cue.
+        around = [[0, [1, 0, 1], []], [4, [-1, 0, 1], [[1, 1.3, 1], [-1, 1.3, 1]]]]
+        path = self.file("a.skyc", files.skyc([[[0, [0, 0, 1], []]], around]))
+        self.assertEqual([self.judged("--depth", depth, path)[0] for depth in (0, 6)], [5, 0])
 
     def test_stretches(self):
         # 200 steps are more than a stretch, and too long for a memory of 4,096 bytes; b comes by at 205 s.
@@ -208,8 +215,9 @@ class Whole(Case):
         # The whole way: a .skyc, its show, an upload over a link that loses a fifth, and what the memories then hold.
         flown, text, _, _ = self.show_of(os.path.join(EXAMPLES, "rising.skyc"))
         os.mkdir(self.file("memories"))
-        status, out, said = common.run("tools/bridge", "--loss", "20", "--again", "5", "--late", "5", "--seed", "7", "--start",
-                                       "--memory", self.file("memories"), self.file("rising.choreo", text))
+        spoilt = ["--loss", "20", "--again", "5", "--late", "5", "--seed", "7"]
+        status, out, said = common.run("tools/bridge", *spoilt, "--start", "--memory", self.file("memories"),
+                                       self.file("rising.choreo", text))
         self.assertEqual(status, 0, out + said)
         self.assertIn("trajectory 0 started", out)
         for name, data in zip(flown.names, flown.data()):
