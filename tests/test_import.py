@@ -111,6 +111,8 @@ class Kept(Case):
             if begin < 2000 or 4000 <= begin < 6000 or begin >= 8000:
                 self.assertEqual([len(row) for row in elements], [1] * 4)
             self.assertTrue(begin >= 1000 or len(others[2]) == 1)
+            # Samples don't say so, but the other one leaves its rest without a jump of speed.
+            self.assertTrue(begin != 1000 or others[2][0] == others[2][1] < others[2][2], others)
             begin += milliseconds
         flown = self.show_of("--loose", self.file("a.skyc"))[0]
         self.assertLess(min(v for _, elements in flown.by_cue[1][:3] for v in elements[2]), 0)
@@ -150,6 +152,10 @@ class Kept(Case):
         status, _, said = self.run_tool("import", "--waypoints", "--tolerance", "2", self.file("a.csv", rows))
         self.assertEqual((status, "could not be fitted" in said), (1, True), said)
         self.assertEqual(self.run_tool("import", "--waypoints", "--tolerance", "25", self.file("a.csv"))[0], 0)
+
+    def test_long_rest(self):
+        text = self.show_of("--waypoints", self.file("a.csv", "0,0,0,1\n70,0,0,1\n"))[1]
+        self.assertEqual([line.split()[1] for line in text.split("\n") if line.startswith("cue ")], ["65535", "4465"])
 
     def test_no_sliver(self):
         # Drones that rest at the end. Cut greedily, the last cues before that would last 25 and 15 ms.
