@@ -194,7 +194,10 @@ class Limits(Case):
     def test_coordinates(self):
         path = self.file("a.csv", "0,-32.767,0,1\n9,32.767,0,1\n")
         self.assertEqual(self.run_tool("import", "--waypoints", path)[0], 0)
-        # The place fits, the control point of the smooth spline doesn't.
+        # All places fit, and a control point between them doesn't: of a curve through samples, and of a spline.
+        rows = "".join("%g,%g,0,1\n" % (t / 10, 32.767 - 0.02 * (t / 10 - 5) ** 2) for t in range(101))
+        said = self.refused(3, "--waypoints", self.file("a.csv", rows))
+        self.assertRegex(said, "the import would be refused: error 3 line [0-9]+ out-of-range x 3[0-9]{7}\n$")
         path = self.file("a.csv", "0,0,0,1\n4,32.7,0,1\n5,32.7,0,1\n")
         self.assertIn("farther than 32.767 m", self.refused(3, "--smooth", path))
 
