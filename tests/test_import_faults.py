@@ -183,7 +183,7 @@ class Limits(Case):
         def steps(count):
             rows = "".join("%d,%g,0,1\n" % (k, 0.1 * (k % 2)) for k in range(count + 1))
             return self.file("a.csv", rows)
-        self.assertIn("in 256 segments", self.refused(4, "--waypoints", "--tolerance", "1", steps(256)))
+        self.assertIn("in 256 segments", self.refused(4, "--waypoints", "--tolerance", "500", steps(256)))
         self.assertEqual(self.run_tool("import", "--waypoints", "--tolerance", "1", steps(255))[0], 0)
         self.assertIn("more than 1000 cues", self.refused(3, "--waypoints", "--tolerance", "1", steps(1001)))
 

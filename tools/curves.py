@@ -1,6 +1,7 @@
-"""Where drones of a show are at any time, in doubles: for tools that compare flights with it. Millimetres and milliseconds.
+"""Where drones of a show are at any time, in doubles: for tools that compare flights with it.
 
-The control values are those of the bytes that are sent; a place is off by less than a micrometre, which is what doubles cost.
+Millimetres and milliseconds. The control values are those of the bytes that are sent. A place is off by less than a
+micrometre, which is what doubles cost.
 """
 import bisect
 from math import comb, dist
@@ -32,7 +33,7 @@ class Curve:
         return out
 
     def nearest(self, place, low, high, enough=0.0):
-        """A time between two at which the curve is nearest to a place, as far as it is looked for, and the distance; no finer
+        """The distance of a place from the curve between two times, as far as it is looked for, and its time; no finer
         than the table where that is near enough."""
         low, high = min(max(low, 0), self.end), min(max(high, 0), self.end)
         best = min((dist(place, self.at(t)), t) for t in (low, high))
@@ -50,11 +51,11 @@ class Curve:
 
 
 def greatest_jump(segments):
-    """The greatest jump of speed of a drone, in metres a second, and when it is, in seconds; before and after it rests."""
+    """The greatest jump of speed of a drone in metres a second, and when it is in seconds; before and after it rests."""
     last, t, best = [0.0] * 3, 0, (0.0, 0.0)
     for milliseconds, elements in segments:
-        first, end = ([(len(row) - 1) * (row[k + 1] - row[k]) / milliseconds if len(row) > 1 else 0.0 for row in elements[:3]]
-                      for k in (0, -2))
+        first, end = ([(len(row) - 1) * (row[k + 1] - row[k]) / milliseconds if len(row) > 1 else 0.0
+                       for row in elements[:3]] for k in (0, -2))
         best, last, t = max(best, (dist(first, last), t / 1000)), end, t + milliseconds
     return max(best, (dist(last, [0.0] * 3), t / 1000))
 
@@ -62,7 +63,8 @@ def greatest_jump(segments):
 def powers(row):
     """The coefficients of a curve by its control values, the highest power first."""
     n = len(row) - 1
-    return [float(comb(n, k) * sum((-1) ** (k - j) * comb(k, j) * row[j] for j in range(k + 1))) for k in range(n, -1, -1)]
+    return [float(comb(n, k) * sum((-1) ** (k - j) * comb(k, j) * row[j] for j in range(k + 1)))
+            for k in range(n, -1, -1)]
 
 
 def curves_of(flown):

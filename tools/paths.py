@@ -32,13 +32,40 @@ def part(row, u, v):
     if len(row) == 2:
         step = row[1] - row[0]
         return [row[0] + step * u, row[0] + step * v]
+    if isinstance(u, Fraction):
+        return exact_part(row, u, v)
     if u > 0:
         row, v = split(row, u)[1], (v - u) / (1 - u)
     return split(row, v)[0] if v < 1 else row
 
 
+def in_whole_numbers(row):
+    """Fractions as whole numbers, and what these are to be divided by."""
+    over = lcm(*(v.denominator for v in row))
+    return [v.numerator * (over // v.denominator) for v in row], over
+
+
+def exact_part(row, u, v):
+    """The control values of a curve between two fractions of it, exactly: by de Casteljau's rule in whole numbers, with
+    k of its steps at the later end for the control value k."""
+    c, n = lcm(u.denominator, v.denominator), len(row) - 1
+    whole, over = in_whole_numbers(row)
+    a, b, out = u.numerator * (c // u.denominator), v.numerator * (c // v.denominator), []
+    for k in range(n + 1):
+        values = whole
+        for step in range(n):
+            at = b if step < k else a
+            values = [p * (c - at) + q * at for p, q in zip(values, values[1:])]
+        out.append(Fraction(values[0], over * c ** n))
+    return out
+
+
 def raised(row, degree):
     """The same curve by more control values."""
+    if len(row) > degree:
+        return row
+    if len(row) == 1:
+        return row * (degree + 1)
     while len(row) <= degree:
         n = len(row)
         row = [row[0]] + [(k * row[k - 1] + (n - k) * row[k]) / n for k in range(1, n)] + [row[-1]]
