@@ -51,7 +51,7 @@ class Curve:
 
 
 def greatest_jump(segments):
-    """The greatest jump of speed of a drone in metres a second, and when it is in seconds; before and after it rests."""
+    """A drone's greatest jump of speed in metres a second, and when it is in seconds; before and after it rests."""
     last, t, best = [0.0] * 3, 0, (0.0, 0.0)
     for milliseconds, elements in segments:
         first, end = ([(len(row) - 1) * (row[k + 1] - row[k]) / milliseconds if len(row) > 1 else 0.0
