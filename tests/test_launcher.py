@@ -199,7 +199,8 @@ class Builds(Place):
         # Another program, however new, and one whose record is gone.
         self.is_built(lambda: self.file(program, "#!/bin/sh\necho mine\n", 0o755), True)
         self.is_built(lambda: os.remove(self.path(program + ".built")), True)
-        self.is_built(lambda: self.file(program + ".built", "no record"), True)
+        for record in ("no record", "[]", "{}"):
+            self.is_built(lambda: self.file(program + ".built", record), True)
         self.is_built(lambda: os.chmod(self.path(program), 0o644), True)
 
     def test_clone(self):
@@ -296,7 +297,7 @@ class Signals(Processes):
         os.remove(self.path("started"))
 
     def test_ended(self):
-        for number in (signal.SIGTERM, signal.SIGHUP, signal.SIGINT):
+        for number in (signal.SIGTERM, signal.SIGHUP, signal.SIGINT, signal.SIGQUIT):
             for words, slow in ((["check", "good"], "middle"), (["check", "good"], "show_cli"),
                                 (["--unproved", "check", "good"], "try")):
                 self.ended(words, slow, number)

@@ -238,6 +238,8 @@ class Release(unittest.TestCase):
         status, plan, _ = self.run_there("show", "compile", "examples/crossing_cured.choreo")
         with open(os.path.join(TOP, "examples", "crossing_cured.choreo"), "rb") as file:
             self.assertEqual((status, plan), (0, choreo.flown_of(file.read()).plan()))
+        status, out, error = self.run_there("tools/release")
+        self.assertEqual((status, out, "this is a release" in error), (70, "", True))
         status, _, error = self.run_there("show", "--unproved", "check", "examples/solo.choreo")
         self.assertEqual((status, "no sources" in error), (70, True))
 
