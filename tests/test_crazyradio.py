@@ -131,7 +131,7 @@ class Uploads(Closed):
 
     def test_many_and_lossy(self):
         text, flown = show_of(MANY)
-        where = common.world(flown, speed=5, loss=0.4)
+        where = common.world(flown, speed=2, loss=0.4)
         done, link = upload(flown, text, where, "--readback")
         self.assertEqual((done.status, done.fault), (0, None))
         self.assert_held(flown)
@@ -177,18 +177,38 @@ class Links(Closed):
             radio.close()
 
     def test_answers_under_way(self):
-        # What waits in a drone before is dropped, however much it is, and also where it looks like an answer to a question
-        # of the link's own.
+        # A drone holds the answers of a link that was broken off, and then those of its upload: to all questions of a link, as
+        # if they were put now, and to writes. What comes before the answers to this link's own marks is dropped.
         where = common.world(self.flown)
         radio = crazyradio.Radio(self.flown.names, where)
-        came = []
-        one = common.drone(self.flown, "b")
+        came, one = [], common.drone(self.flown, "b")
+        old = [bytes([0x4C, 1, 4]), *(bytes([0x4C, 2, k, kind]) + struct.pack("<I", size) + bytes(8)
+                                      for k, (kind, size) in enumerate(air.MEMORIES))]
+        old += [bytes([0x4C, 1, 4]), bytes([0x8C, 0, 0, 0, 0])]
+        old += [bytes([0x4D, 2]) + struct.pack("<I", 20 * k) + bytes(21) for k in range(8)]
+        old += [bytes([0x4E, 2, 24 * k % 96, 0, 0, 0, 0]) for k in range(100)] + [bytes([0x8C, 6, 0, 1, 0])]
         with one.lock:
-            one.up_queue += [bytes([0x4C, 1, 4]), bytes([0x8C, 0, 0, 0, 0]), bytes([0x4D, 2, 0, 0, 0, 0, 0, 9])]
-            one.up_queue += [bytes([0x4E, 2, 24 * k % 96, 0, 0, 0, 0]) for k in range(100)] + [bytes([0x8C, 6, 0, 1, 0])]
+            one.up_queue += old
         link = crazyradio.Link(self.flown.names, lambda *it: came.append(it), radio, 2)
+        self.assertEqual([packet for packet in one.up_queue if packet in old], [])
         clock.wait(1)
         self.assertEqual((came, link.strangers), ([], 0))
+        radio.close()
+
+    def test_a_fence_has_marks(self):
+        # Answers to an earlier link's marks, or to reads of more bytes, aren't taken for this one's.
+        where = common.world(self.flown)
+        radio = crazyradio.Radio(self.flown.names, where)
+        asked = []
+        with unittest.mock.patch.object(radio, "ask", lambda *it, **more: asked.append((it, more))):
+            for _ in range(50):
+                radio.fence(0, 2)
+        reads = [it[3] for it, more in asked if it[1:3] == (4, 1) and it[4] == 5 and more == {"length": 7}]
+        groups = [it[3] for it, _ in asked if it[1:3] == (8, 0) and it[4] == 3]
+        self.assertEqual((len(reads), len(groups)), (50, 50))
+        self.assertTrue(all(data[0] == 2 and data[5] == 1 and int.from_bytes(data[1:5], "little") < 4096 for data in reads))
+        self.assertTrue(all(data[:2] == bytes(2) for data in groups))
+        self.assertTrue(len(set(reads)) > 20 and len(set(groups)) > 20)
         radio.close()
 
     def test_only_what_was_asked_for(self):

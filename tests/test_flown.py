@@ -67,11 +67,11 @@ class Flown(unittest.TestCase):
         self.assertEqual(status, 1, out)
 
     def test_best_start_and_stray(self):
-        # Strays of exactly 40 mm in all directions: the best start is the true one to some milliseconds, and at it the
+        # Strays of exactly 40 mm in all directions: the best start is the true one to a millisecond, and at it the
         # greatest distance is 40 mm. The fit of least squares would be off by what strays and speeds have in common.
         path = self.log(late={"a": 80, "d": -30}, stray=40, along=True)
         _, rows, out = self.judged(path, "--stray", "41", "--late", "200")
-        self.assertTrue(abs(int(rows["a"][2]) - 80) <= 6 and abs(int(rows["d"][2]) + 30) <= 6, out)
+        self.assertTrue(abs(int(rows["a"][2]) - 80) <= 1 and abs(int(rows["d"][2]) + 30) <= 1, out)
         for name in "abcd":
             self.assertTrue(39 <= float(rows[name][3]) <= 41, out)
 
@@ -128,8 +128,10 @@ class Flown(unittest.TestCase):
 
     def test_stamps(self):
         path = self.log(head="time,drone,x,y,z,stamp", stamps=True, every=20)
-        status, _, out = self.judged(path, "--stray", "8", "--late", "10")
+        status, rows, out = self.judged(path, "--stray", "8", "--late", "10")
         self.assertEqual(status, 0, out)
+        # the stamps begin anew 7.2 s after the start; all samples of 9 s count
+        self.assertTrue(all(450 <= int(row[0]) <= 451 for row in rows.values()), out)
         text = "\n".join(",".join(row.split(",")[:5]) for row in open(path).read().split("\n"))
         with open(path, "w") as file:
             file.write(text)

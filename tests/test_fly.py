@@ -134,6 +134,7 @@ FLIGHTS = {
     "Ctrl-C": ([], SHOW, "yes\nyes\nyes\n", [("started", INT)]),
     "Ctrl-C on the way up": ([], SHOW, "yes\nyes\nyes\n", [("taking off", INT)]),
     "two Ctrl-C": ([], SHOW, "yes\nyes\nyes\n", [("started", INT), ("Ctrl-C: landing", INT)]),
+    "two Ctrl-C, deaf": (b("deaf") + ["--unicast"], SHOW, "yes\nyes\nyes\n", [("started", INT), ("Ctrl-C: landing", INT)]),
     "Ctrl-C in a landing": (b("falls:3"), SHOW, "yes\nyes\nyes\n", [("FAULT", INT)]),
     **{fault: (b(fault),) for fault in (
         "dead", "outdated", "empty", "unsettled", "astray", "memory", "locked", "deaf", "lost", "forgets", "unarmed", "stays",
@@ -279,7 +280,7 @@ class Flights(unittest.TestCase):
                    ends={"a": r", 0.0[0-9]\) m, disarmed, 1 start", "b": r", 0.0[0-9]\) m, disarmed, 1 start"})
         self.flown("Ctrl-C on the way up", 1, "Ctrl-C: landing all; once more stops the motors\nlanded\n", without=["started"],
                    ends={"a": r", 0.0[0-9]\) m, disarmed, 0 starts", "b": r", 0.0[0-9]\) m, disarmed, 0 starts"})
-        for name in ("two Ctrl-C", "Ctrl-C in a landing"):
+        for name in ("two Ctrl-C", "two Ctrl-C, deaf", "Ctrl-C in a landing"):
             self.flown(name, 60, "MOTORS STOPPED: emergency stop to all", without=["landed"], ends={"a": "cut, 1 start", "b": "cut, 1 start"})
 
     def test_terminal_is_gone(self):

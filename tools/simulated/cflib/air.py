@@ -187,6 +187,8 @@ class Drone:
         if channel == 1:
             return bytes([0, 3 if "outdated" in self.faults else 6]) if data[0] == 0 else b"\x01simulated\0"
         if channel == 0 and data[0] == 1:
+            if not data[1] and self.flies and not self.cut and self.is_at()[2] > self.floor + 0.05:
+                self.drop()  # disarmed in the air
             self.armed = bool(data[1]) and not {"locked", "unarmed"} & set(self.faults) and not self.cut
             return bytes([1, 1, self.armed])
         return None
