@@ -179,7 +179,7 @@ class Links(Closed):
     def test_answers_under_way(self):
         # A drone holds the answers of a link that was broken off, and then those of its upload: to all questions of a link, as
         # if they were put now, and to writes. What comes before the answers to this link's own marks is dropped.
-        where = common.world(self.flown)
+        where = common.world(self.flown, speed=2)
         radio = crazyradio.Radio(self.flown.names, where)
         came, one = [], common.drone(self.flown, "b")
         old = [bytes([0x4C, 1, 4]), *(bytes([0x4C, 2, k, kind]) + struct.pack("<I", size) + bytes(8)
@@ -187,8 +187,14 @@ class Links(Closed):
         old += [bytes([0x4C, 1, 4]), bytes([0x8C, 0, 0, 0, 0])]
         old += [bytes([0x4D, 2]) + struct.pack("<I", 20 * k) + bytes(21) for k in range(8)]
         old += [bytes([0x4E, 2, 24 * k % 96, 0, 0, 0, 0]) for k in range(100)] + [bytes([0x8C, 6, 0, 1, 0])]
-        with one.lock:
+        take = one.take
+
+        def take_first(raw):
+            # All of it is under way once the link asks its first question.
+            one.take = take
             one.up_queue += old
+            take(raw)
+        one.take = take_first
         link = crazyradio.Link(self.flown.names, lambda *it: came.append(it), radio, 2)
         self.assertEqual([packet for packet in one.up_queue if packet in old], [])
         clock.wait(1)

@@ -51,9 +51,9 @@ end
 
 
 def wide_show():
-    """Twelve drones, two metres apart, that fly all alike for 20 s at up to 1.4 m/s; they may stray by 45 mm and be 90 ms late."""
+    """Twelve drones, two metres apart, that fly all alike for 20 s at up to 1.9 m/s; they may stray by 45 mm and be 120 ms late."""
     at = [(k % 4 * 2000000, k // 4 * 2000000) for k in range(12)]
-    rows = ["choreo 1", "stray 45", "late 90"] + ["drone d%d %d %d 1000000 0" % (k, *place) for k, place in enumerate(at)]
+    rows = ["choreo 1", "stray 45", "late 120"] + ["drone d%d %d %d 1000000 0" % (k, *place) for k, place in enumerate(at)]
     for x, y, z in 2 * ((1, 0, 0), (1, 1, 0), (0, 1, 0.6), (0, 0, 0), (1, 0, 0.6)):
         rows += ["cue 2000", *("d%d move %d %d %d 0" % (k, a + 1200000 * x, b + 1200000 * y, 1000000 + int(1000000 * z))
                                for k, (a, b) in enumerate(at)), "end"]
@@ -136,6 +136,7 @@ FLIGHTS = {
     "two Ctrl-C": ([], SHOW, "yes\nyes\nyes\n", [("started", INT), ("Ctrl-C: landing", INT)]),
     "two Ctrl-C, deaf": (b("deaf") + ["--unicast"], SHOW, "yes\nyes\nyes\n", [("started", INT), ("Ctrl-C: landing", INT)]),
     "Ctrl-C in a landing": (b("falls:3"), SHOW, "yes\nyes\nyes\n", [("FAULT", INT)]),
+    "two in a landing": (b("falls:3"), SHOW, "yes\nyes\nyes\n", [("FAULT", INT), ("FAULT", INT)]),
     **{fault: (b(fault),) for fault in (
         "dead", "outdated", "empty", "unsettled", "astray", "memory", "locked", "deaf", "lost", "forgets", "unarmed", "stays",
         "stuck", "deafens", "refuses", "silent:3", "wanders:2", "falls:4", "drains:2", "hovers")},
@@ -181,7 +182,7 @@ class Flights(unittest.TestCase):
         on_floor = r", 0.0[0-9]\) m, disarmed, 1 start"
         out, _, judged = self.flown(
             "whole", 0, "Upload\\? Type yes: ", "uploaded and read back", "Take off\\? Type yes: ", "taking off, 2 drones: ",
-            "at the first places: a 30 mm off, b 30 mm off", "Start\\? Type yes: ", "started: by one packet to all", "flown: 7.0 s",
+            "at the first places: a [0-9]+ mm off, b [0-9]+ mm off", "Start\\? Type yes: ", "started: by one packet to all", "flown: 7.0 s",
             "landed\n", ends={"a": on_floor, "b": on_floor})
         # The show says nothing of strays, so no flight is within them.
         self.assertEqual((judged[0], "stray is 0, which no drone keeps" in judged[1]), (1, True), judged)
@@ -193,8 +194,8 @@ class Flights(unittest.TestCase):
         apart, far = re.search("by the log's clock, ([0-9]+) ms apart; so late the farthest is d[0-9]+, ([0-9.]+) mm", said).groups()
         # the simulated drones' own starts are as far apart as was asked for, but for what a busy machine adds
         true = max(map(int, re.findall("start after ([0-9]+) ms", out)))
-        self.assertTrue(74 <= true <= 86, out)
-        self.assertTrue(abs(int(apart) - true) <= 8, (said, true))
+        self.assertTrue(74 <= true <= 110, out)
+        self.assertTrue(abs(int(apart) - true) <= true / 10, (said, true))
         self.assertTrue(36 <= float(far) <= 44, said)
         strays = [float(line.split()[4]) for line in said.split("\n")[1:13]]
         self.assertTrue(all(36 <= stray <= 44 for stray in strays), said)
@@ -280,7 +281,9 @@ class Flights(unittest.TestCase):
                    ends={"a": r", 0.0[0-9]\) m, disarmed, 1 start", "b": r", 0.0[0-9]\) m, disarmed, 1 start"})
         self.flown("Ctrl-C on the way up", 1, "Ctrl-C: landing all; once more stops the motors\nlanded\n", without=["started"],
                    ends={"a": r", 0.0[0-9]\) m, disarmed, 0 starts", "b": r", 0.0[0-9]\) m, disarmed, 0 starts"})
-        for name in ("two Ctrl-C", "two Ctrl-C, deaf", "Ctrl-C in a landing"):
+        # One Ctrl-C means landing, also where all land already: motors stop at the second one alone.
+        self.flown("Ctrl-C in a landing", 1, "FAULT: b has tumbled; landing all", "landed\n", without=["MOTORS"], ends={"a": "disarmed, 1 start"})
+        for name in ("two Ctrl-C", "two Ctrl-C, deaf", "two in a landing"):
             self.flown(name, 60, "MOTORS STOPPED: emergency stop to all", without=["landed"], ends={"a": "cut, 1 start", "b": "cut, 1 start"})
 
     def test_terminal_is_gone(self):
