@@ -67,7 +67,10 @@ class Closed(unittest.TestCase):
         self.text, self.flown = common.example("crossing_cured")
 
     def tearDown(self):
-        self.assertEqual(radiodriver.OPEN, [])
+        left = list(radiodriver.OPEN)
+        for driver in left:
+            driver.close()
+        self.assertEqual(left, [])
 
 
 @common.wants_program

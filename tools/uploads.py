@@ -182,10 +182,10 @@ class Traffic:
 class Pace:
     """When to tick. A packet that is still in the link, or whose answer may still come, isn't lost, and a tick would send it
     once more. So it is time where all packets have left and nothing came for an answer's time. Where some drones go on and one
-    stands still, it is time once eight packets went for each that a tick repeats. A link from which nothing leaves any more is
+    stands still for longer, it is time once eight packets went for each that a tick repeats. A link from which nothing leaves any more is
     ticked all the same, so that the program gives up."""
     STUCK = 10  # answer times after which a packet that is still in the link counts as gone
-    ROUNDS = 8
+    ROUNDS, PATIENCE = 8, 5  # packets for each that a tick repeats, and answer times, where only some stand still
 
     def __init__(self, answer_time, traffic):
         now = time.monotonic()
@@ -223,9 +223,10 @@ class Pace:
         self.look(left)
         now, counts = time.monotonic(), [self.traffic.count_open(k) for k in range(len(self.since))]
         wait = self.answer_time if any(counts) else self.STUCK * self.answer_time
-        still = [since is not None and now - since >= wait for since in self.since]
+        still = [0.0 if since is None else now - since for since in self.since]
         rows = [it for it, count in zip(still, counts) if count] or still
-        if not all(rows) and not (any(rows) and self.handed - self.at_tick >= self.ROUNDS * sum(counts)):
+        is_enough = self.handed - self.at_tick >= self.ROUNDS * sum(counts) and max(rows) >= self.PATIENCE * wait
+        if min(rows) < wait and not is_enough:
             return False
         self.ticks, self.at_tick = self.ticks + 1, self.handed
         self.since = [None if since is None else now for since in self.since]
