@@ -20,8 +20,8 @@ SPEED = 20
 
 
 def wants_program(test):
-    """Marks a test, or a class of them, that needs the proved program: without one it is skipped. In CI, which builds it
-    before, `.ci/companions` fails without it."""
+    """Marks a test, or a class of them, that needs the proved program: without one it is skipped. In CI, which builds
+    it before, `.ci/companions` fails without it."""
     return unittest.skipUnless(os.access(choreo.PROGRAM, os.X_OK), "the program isn't built: ./show check FILE builds it")(test)
 
 

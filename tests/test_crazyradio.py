@@ -104,7 +104,8 @@ class Uploads(Closed):
             self.assertTrue(all(map(common.untouched, common.drones(flown))))
 
     def test_after_one_that_was_broken_off(self):
-        # The first upload ends while answers are under way; the drones then answer the second one's questions after them.
+        # The first upload ends while answers are under way; the drones then answer the second one's questions
+        # after them.
         text, flown = show_of(4)
         where = common.world(flown)
 
@@ -180,7 +181,8 @@ class Links(Closed):
             radio.close()
 
     def test_answers_under_way(self):
-        # A drone holds the answers of a link that was broken off, and then those of its upload: to all questions of a link, as
+        # A drone holds the answers of a link that was broken off, and then those of its upload: to all
+        # questions of a link, as
         # if they were put now, and to writes. What comes before the answers to this link's own marks is dropped.
         where = common.world(self.flown, speed=2)
         radio = crazyradio.Radio(self.flown.names, where)
@@ -519,7 +521,8 @@ class Bridge(unittest.TestCase):
         self.assertIn("a, packet 0: write of 24 bytes to address 0 of memory 2 had no good answer, sent 20 times\n", out)
 
     def test_no_packet_is_sent_twice_without_loss(self):
-        # Each of 8 drones holds once and flies 31 moves in x and y: 3 + 31 * 31 + 11 = 975 bytes, so 41 writes and a define,
+        # Each of 8 drones holds once and flies 31 moves in x and y: 3 + 31 * 31 + 11 = 975 bytes, so 41
+        # writes and a define,
         # and 336 packets. A busy machine may answer late now and then; half as many again is too much.
         rows = ["choreo 1"] + ["drone d%d %d 0 1000000 0" % (k, k * 1000000) for k in range(8)]
         for cue in range(32):

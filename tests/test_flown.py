@@ -19,7 +19,8 @@ class Flown(unittest.TestCase):
 
     def log(self, late={}, stray=0.0, head="time,drone,x,y,z", stamps=False, also=lambda name, t: (0, 0, 0), every=50, leave=(),
             along=False, drift={}):
-        """Writes a log of a flight; its path. A stray is in the plane, by chance, or with `along` by turns with the way."""
+        """Writes a log of a flight; its path. A stray is in the plane, by chance, or with `along` by turns with the
+        way."""
         path, chance = os.path.join(self.room.name, "log.csv"), random.Random(1)
         with open(path, "w") as file:
             file.write(head + "\n" if head else "")

@@ -1,7 +1,7 @@
 """tools/fly over simulated drones, at many times the speed: whole flights, the fault of each stage, and both Ctrl-C.
 
-The simulated drones are from the same memory of the firmware as the tool; no drone was ever flown. Flights wait most of the
-time, so several run at once: all are begun before the first test, and each test waits for its own.
+The simulated drones are from the same memory of the firmware as the tool; no drone was ever flown. Flights wait most
+of the time, so several run at once: all are begun before the first test, and each test waits for its own.
 """
 import concurrent.futures
 import os
@@ -51,7 +51,8 @@ end
 
 
 def wide_show():
-    """Twelve drones, two metres apart, that fly all alike for 20 s at up to 1.9 m/s; they may stray by 45 mm and be 120 ms late."""
+    """Twelve drones, two metres apart, that fly all alike for 20 s at up to 1.9 m/s; they may stray by 45 mm and be
+    120 ms late."""
     at = [(k % 4 * 2000000, k // 4 * 2000000) for k in range(12)]
     rows = ["choreo 1", "stray 45", "late 120"] + ["drone d%d %d %d 1000000 0" % (k, *place) for k, place in enumerate(at)]
     for x, y, z in 2 * ((1, 0, 0), (1, 1, 0), (0, 1, 0.6), (0, 0, 0), (1, 0, 0.6)):
@@ -61,7 +62,8 @@ def wide_show():
 
 
 def fly(words, show=SHOW, text="yes\nyes\nyes\n", signals=()):
-    """The status, the output and the log of a simulated flight. Each signal is sent when a line with its words has come."""
+    """The status, the output and the log of a simulated flight. Each signal is sent when a line with its words has
+    come."""
     with tempfile.TemporaryDirectory() as room:
         log = os.path.join(room, "log.csv")
         if "\n" in show:
@@ -166,8 +168,8 @@ def last_heights(rows):
 @common.wants_program
 class Flights(unittest.TestCase):
     def flown(self, name, status, *lines, without=(), ends=None):
-        """The output of a flight, after a look at its status, at lines that it has or hasn't, and at how its drones end: by
-        name the end of the line that says so."""
+        """The output of a flight, after a look at its status, at lines that it has or hasn't, and at how its drones
+        end: by name the end of the line that says so."""
         came, out, rows, judged = begun(name).result()
         self.assertEqual(came, status, name + ":\n" + out)
         for line in lines:
@@ -271,7 +273,7 @@ class Flights(unittest.TestCase):
         self.flown("deaf unicast", 0, "landed\n")
 
     def test_jumps(self):
-        self.flown("jumps", 1, "[abc] jumps by [0-9.]+ m/s at [0-9.]+ s", without=["firmware"])
+        self.flown("jumps", 1, "[abc] jumps by [0-9.]+ m/s at [0-9.]+ s, .* --jump lets it through\n", without=["firmware"])
         # That show's memory has the id 3.
         self.flown("let through", 0, "uploaded and read back")
 

@@ -7,7 +7,8 @@ import unittest
 import common
 import choreo
 
-# Two formations, one of which b has alone; a figure that is performed three times, once by b and c, in a repeat, and once
+# Two formations, one of which b has alone; a figure that is performed three times, once by b and c, in a repeat, and
+# once
 # by b alone as another figure; comments and blanks that stay.
 SHOW = """choreo 1  # the show of {b}
 stray 40

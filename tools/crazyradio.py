@@ -1,16 +1,18 @@
-"""UNTESTED with the library, a radio or a drone: a link over Bitcraze's library (cflib), for tools/bridge and tools/fly.
+"""UNTESTED with the library, a radio or a drone: a link over Bitcraze's library (cflib), for tools/bridge and
+tools/fly.
 
     tools/bridge --radio DRONES SHOW
 
-TRY IT FIRST with one drone, without propellers. DRONES is a text with a line `NAME URI` for each drone of the show, as in
-`a radio://0/80/2M/E7E7E7E701`. This file is written from memory of the library, and was run over a stand-in for it
-(tools/simulated) that is from the same memory. Read docs/RADIO.md ('What a bridge owes', 'Where real drones may differ').
+TRY IT FIRST with one drone, without propellers. DRONES is a text with a line `NAME URI` for each drone of the show,
+as in `a radio://0/80/2M/E7E7E7E701`. This file is written from memory of the library, and was run over a stand-in for
+it (tools/simulated) that is from the same memory. Read docs/RADIO.md ('What a bridge owes', 'Where real drones may
+differ').
 
 What it does besides carrying packets byte for byte:
 - it opens all drones or none, and closes what it opened at each failure;
 - a drone of which nothing is heard for two seconds is named, when it is opened and at any time later;
-- each drone is asked for its memories, and a show whose memory id isn't that of the memory of type 0x12 is refused before
-  the first write;
+- each drone is asked for its memories, and a show whose memory id isn't that of the memory of type 0x12 is refused
+  before the first write;
 - answers of an earlier upload are waited out: what comes before the answers to two questions of its own is dropped;
 - only memory and commander packets (ports 4 and 8) are passed, and only answers to packets that were sent;
 - each drone is sent its start once: later copies are dropped, since real firmware begins anew at each (a link may lose
@@ -58,8 +60,8 @@ class Dead(Exception):
 
 
 class Silence:
-    """For how many seconds nothing was heard of each drone. A machine that itself stands still hears nobody: of each step
-    between two looks only the first part counts."""
+    """For how many seconds nothing was heard of each drone. A machine that itself stands still hears nobody: of each
+    step between two looks only the first part counts."""
 
     def __init__(self, count, most=4 * LOOK):
         self.most, self.looked, self.rows = most, clock.now(), [(0.0, None)] * count
@@ -147,7 +149,8 @@ class Radio:
             port, channel, data = firmware.parts(raw)
             with self.changed:
                 for (asked, *where, length, front), found in self.answers.items():
-                    if (asked, where) == (drone, [port, channel]) and data.startswith(front) and length in (None, len(data)):
+                    if (asked, where) == (drone, [port, channel]) and data.startswith(front) and (
+                            length in (None, len(data))):
                         found.append(data)
                         self.changed.notify_all()
             for listener in list(self.listeners):
@@ -200,9 +203,9 @@ class Radio:
         return [firmware.memory_of(self.ask(drone, firmware.MEMORY, 0, firmware.ask_memory(k))) for k in range(count)]
 
     def fence(self, drone, memory):
-        """Waits until all that a drone was sent before is answered: each port answers in order. Both questions have a mark by
-        chance, so that no answer to an earlier one is taken for theirs: a byte of the memory, of which an upload reads more
-        at once, and a byte that the commander gives back."""
+        """Waits until all that a drone was sent before is answered: each port answers in order. Both questions have a
+        mark by chance, so that no answer to an earlier one is taken for theirs: a byte of the memory, of which an
+        upload reads more at once, and a byte that the commander gives back."""
         mark = random.randrange(MEMORY)
         self.ask(drone, firmware.MEMORY, 1, firmware.read(memory, mark, 1), 5, length=7)
         self.ask(drone, firmware.COMMANDER, 0, firmware.group() + bytes([0x80 | mark & 0x7F]), 3)
@@ -244,8 +247,9 @@ class Radio:
 
 
 class Link(Asked):
-    """The link of tools/bridge and tools/fly over a radio, to drones whose trajectory memory has this id. `fault` says why it
-    sends no more, or is None. `starts` has by drone when its start went out first and was answered last."""
+    """The link of tools/bridge and tools/fly over a radio, to drones whose trajectory memory has this id. `fault`
+    says why it sends no more, or is None. `starts` has by drone when its start went out first and was answered
+    last."""
     answer_time = 0.1
 
     def __init__(self, names, heard, radio, memory, repeat_starts=False):
@@ -336,8 +340,8 @@ def trajectory_memories(rows):
 
 
 def start_lines(names, starts, repeated=False):
-    """When each drone can have taken its start, between when that went out first and when it was answered last, and the spread
-    of all. Milliseconds count from when the first one went out."""
+    """When each drone can have taken its start, between when that went out first and when it was answered last, and
+    the spread of all. Milliseconds count from when the first one went out."""
     if not starts:
         return []
     rows = {names[drone]: row for drone, row in sorted(starts.items())}

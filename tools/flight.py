@@ -22,9 +22,9 @@ class Trouble(Exception):
 
 
 class State:
-    """What a drone said of itself last: place in metres, volts, the supervisor's bits or None, and the estimator's variances,
-    with when it was heard; `places` are its last ones. `measured` is when the place was measured, by the drone's own clock:
-    its packets are late by chance, and the least late one sets that clock."""
+    """What a drone said of itself last: place in metres, volts, the supervisor's bits or None, and the estimator's
+    variances, with when it was heard; `places` are its last ones. `measured` is when the place was measured, by the
+    drone's own clock: its packets are late by chance, and the least late one sets that clock."""
 
     def __init__(self):
         self.place, self.volts, self.info, self.heard, self.measured = None, None, None, None, None
@@ -150,7 +150,8 @@ class Fleet:
         for block, names in LOGGED.items():
             missing = [name for name in names if name not in table and name not in OPTIONAL]
             if missing:
-                raise Trouble("%s has no log %s: another firmware or estimator?" % (self.names[drone], ", ".join(missing)))
+                raise Trouble("%s has no log %s: another firmware or estimator?" % (
+                    self.names[drone], ", ".join(missing)))
             items = [(name, *table[name]) for name in names if name in table]
             self.kinds[drone][block] = [(name, kind) for name, _, kind in items]
             made = self.radio.ask(drone, firmware.LOGS, 1, firmware.create_block(block, [it[1:] for it in items]), 2)
@@ -199,10 +200,10 @@ class Fleet:
         return wrong
 
     def start(self, trajectory, copies, by_broadcast):
-        """Starts a trajectory in all drones: by a broadcast that each hears at once, or one by one. By drone when its start went
-        out first and last, and when it was answered last and with which status, or None. Nobody is sent a second start of its
-        own, since it would begin anew. A drone answers in order: one that answers a question after the start and not the
-        start didn't take it."""
+        """Starts a trajectory in all drones: by a broadcast that each hears at once, or one by one. By drone when its
+        start went out first and last, and when it was answered last and with which status, or None. Nobody is sent a
+        second start of its own, since it would begin anew. A drone answers in order: one that answers a question
+        after the start and not the start didn't take it."""
         self.started, raw = {}, firmware.packet(firmware.COMMANDER, 0, firmware.start(trajectory))
         if by_broadcast:
             sent = dict.fromkeys(range(len(self.names)), self.radio.broadcast(raw, copies))
@@ -248,7 +249,8 @@ class Fleet:
 
     def cut(self):
         """Stops all motors, at once and for good: each drone falls, and has to be started anew."""
-        for port, channel, data in ((firmware.PLACES, 1, firmware.EMERGENCY_STOP), (firmware.COMMANDER, 0, firmware.STOP)):
+        for port, channel, data in ((firmware.PLACES, 1, firmware.EMERGENCY_STOP),
+                                    (firmware.COMMANDER, 0, firmware.STOP)):
             raw = firmware.packet(port, channel, data)
             self.try_broadcast(raw, 2)
             for _ in range(3):

@@ -1,5 +1,5 @@
-"""An upload by the proved program, over pipes: its process, what goes by, the pace of its ticks, and the loop that carries
-packets between it and a link. Shared by tools/bridge and tools/fly; nothing here is proved.
+"""An upload by the proved program, over pipes: its process, what goes by, the pace of its ticks, and the loop that
+carries packets between it and a link. Shared by tools/bridge and tools/fly; nothing here is proved.
 """
 import queue
 import subprocess
@@ -89,9 +89,10 @@ class Host:
 
 
 class Traffic:
-    """What went by in an upload: each drone's packets by their keys, in the order in which the program first sent them, which
-    is that of their numbers; how often each was sent; and which had a good answer. `wanted` is how many packets each drone is
-    to have, for people. `refused` is the first answer that ended the upload with 10, `differs` the one with 14."""
+    """What went by in an upload: each drone's packets by their keys, in the order in which the program first sent
+    them, which is that of their numbers; how often each was sent; and which had a good answer. `wanted` is how many
+    packets each drone is to have, for people. `refused` is the first answer that ended the upload with 10, `differs`
+    the one with 14."""
 
     def __init__(self, names, wanted):
         self.names, self.wanted = names, wanted
@@ -180,10 +181,10 @@ class Traffic:
 
 
 class Pace:
-    """When to tick. A packet that is still in the link, or whose answer may still come, isn't lost, and a tick would send it
-    once more. So it is time where all packets have left and nothing came for an answer's time. Where some drones go on and one
-    stands still for longer, it is time once eight packets went for each that a tick repeats. A link from which nothing leaves any more is
-    ticked all the same, so that the program gives up."""
+    """When to tick. A packet that is still in the link, or whose answer may still come, isn't lost, and a tick would
+    send it once more. So it is time where all packets have left and nothing came for an answer's time. Where some
+    drones go on and one stands still for longer, it is time once eight packets went for each that a tick repeats. A
+    link from which nothing leaves any more is ticked all the same, so that the program gives up."""
     STUCK = 10  # answer times after which a packet that is still in the link counts as gone
     ROUNDS, PATIENCE = 8, 5  # packets for each that a tick repeats, and answer times, where only some stand still
 
@@ -234,8 +235,9 @@ class Pace:
 
 
 class Carrying:
-    """Carries packets between the program and a link until the program ends. `status` is that of its end frame, or None where
-    it ended without one, `rest` what else it wrote, and `fault` why the upload was stopped from here, or None."""
+    """Carries packets between the program and a link until the program ends. `status` is that of its end frame, or
+    None where it ended without one, `rest` what else it wrote, and `fault` why the upload was stopped from here, or
+    None."""
 
     def __init__(self, host, link, events, tick, traffic, tell=None):
         self.host, self.link, self.events, self.traffic, self.tell = host, link, events, traffic, tell
@@ -305,5 +307,6 @@ def carry(host, link, events, tick, traffic, tell=None):
 
 
 def wanted_packets(flown, start, readback):
-    """How many packets each drone is to have: writes, a define, with read-back its reads, and a start where it is wanted."""
+    """How many packets each drone is to have: writes, a define, with read-back its reads, and a start where it is
+    wanted."""
     return [-(-len(data) // 24) + 1 + (-(-len(data) // 20) if readback else 0) + bool(start) for data in flown.data()]

@@ -1,8 +1,9 @@
-"""The simulated air, and drones that fly: their firmware's side of the packets, from memory, and the places where they are.
+"""The simulated air, and drones that fly: their firmware's side of the packets, from memory, and the places where
+they are.
 
-A drone stands on the floor, takes off, goes to places, flies the trajectory that its own memory decodes to, lands, and keeps
-a small way off all the while. Time is that of tools/clock.py. Nothing of a drone's dynamics is simulated: it is where its
-commander has it, but for the stray that it is given.
+A drone stands on the floor, takes off, goes to places, flies the trajectory that its own memory decodes to, lands,
+and keeps a small way off all the while. Time is that of tools/clock.py. Nothing of a drone's dynamics is simulated:
+it is where its commander has it, but for the stray that it is given.
 """
 import math
 import random
@@ -15,8 +16,10 @@ from companion import value
 
 EBUSY, EIO, ENOEXEC, EACCES = 16, 5, 8, 13
 MEMORIES = [(0x00, 8192), (0x10, 36), (0x12, 4096), (0x15, 4096)]
-PARAMETERS = [("commander.enHighLevel", 0x08, 0), ("kalman.resetEstimation", 0x08, 0), ("stabilizer.estimator", 0x08, 2)]
-LOGGED = [("stateEstimate.x", 7), ("stateEstimate.y", 7), ("stateEstimate.z", 7), ("pm.vbat", 7), ("supervisor.info", 2),
+PARAMETERS = [("commander.enHighLevel", 0x08, 0), ("kalman.resetEstimation", 0x08, 0),
+              ("stabilizer.estimator", 0x08, 2)]
+LOGGED = [("stateEstimate.x", 7), ("stateEstimate.y", 7), ("stateEstimate.z", 7), ("pm.vbat", 7),
+          ("supervisor.info", 2),
           ("kalman.varPX", 7), ("kalman.varPY", 7), ("kalman.varPZ", 7)]
 PADDING = 20  # further items of the tables, so that reading them is no single packet
 NOTHING = b"\xF3\x01\x3C"  # what an acknowledgement carries where a drone has nothing to say
@@ -84,10 +87,11 @@ class Drone:
         self.table, self.parameters = [None] * 10, [row[2] for row in PARAMETERS]
         self.blocks, self.up_queue = {}, []
         if "old" in faults:
-            self.up_queue = [bytes([0x4E, 2]) + struct.pack("<IB", 24 * k, 0) for k in range(8)] + [bytes([0x8C, 6, 0, 1, 0])]
+            self.up_queue = [bytes([0x4E, 2]) + struct.pack("<IB", 24 * k, 0) for k in range(8)]
+            self.up_queue.append(bytes([0x8C, 6, 0, 1, 0]))
         self.safelink, self.last_up, self.down, self.held, self.late_share = False, 1, 0, None, 0.0
         self.is_written = False
-        self.phase, self.booted, self.wandered = world.chance.random() * 7, clock.now() - 10 - 50 * world.chance.random(), None
+        self.phase, self.booted = world.chance.random() * 7, clock.now() - 10 - 50 * world.chance.random()
 
     # ---- the way
 
@@ -349,8 +353,8 @@ class World:
             drone.late_share = share
 
     def lines(self, names):
-        """Where the drones are, whether they are armed, how often they began a trajectory, and how long after the first one:
-        lines for people."""
+        """Where the drones are, whether they are armed, how often they began a trajectory, and how long after the
+        first one: lines for people."""
         first = min([drone.starts[0] for drone in self.drones.values() if drone.starts] or [0.0])
         for name, drone in zip(names, self.drones.values()):
             after = " after %.0f ms" % (1000 * (drone.starts[0] - first)) if drone.starts else ""
@@ -377,8 +381,8 @@ class World:
         return (False, b"") if lost_back else (True, came)
 
     def broadcast(self, dongle, channel, raw):
-        """A packet to all drones of a channel, each of which may miss it. Nobody acknowledges it, so the dongle repeats it three
-        times at once: that is from memory, too."""
+        """A packet to all drones of a channel, each of which may miss it. Nobody acknowledges it, so the dongle
+        repeats it three times at once: that is from memory, too."""
         self.take_turn(str(dongle))
         for uri, drone in self.drones.items():
             if uri.split("/")[2:4] == [str(dongle), str(channel)] and "deaf" not in drone.faults:

@@ -93,7 +93,7 @@ class _RadioDriverThread(threading.Thread):
             # After ten transfers in which nothing came it waits a little for what is to be sent.
             empty = empty + 1 if not came or came[0] & 0xF3 == 0xF3 else 0
             try:
-                packet = self.link.out_queue.get(True, clock.real(RELAXED)) if empty > 10 else self.link.out_queue.get(False)
+                packet = self.link.out_queue.get(empty > 10, clock.real(RELAXED))
                 out = bytes([packet.header]) + bytes(packet.data)
             except queue.Empty:
                 out = b"\xFF"
