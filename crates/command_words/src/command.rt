@@ -7,7 +7,7 @@ use crate::options::{Options, number_from, options_of};
 
 /// What the program is asked for. `depth` says into how small parts a cue is cut: at most into 2^depth, 0 to 8.
 /// `start` says whether the drones are started, `readback` whether the memories are read back before that. The forms are those of [`help_text`].
-#[derive(Clone, Copy, Debug, PartialEq, Eq)]
+#[derive(Clone, Copy, PartialEq, Eq)]
 pub enum Command {
     /// The forms of the commands.
     Help,

@@ -12,8 +12,6 @@ ghost use Rattle.command_words.specs.Commands.{WordsLaw};
 
 mod command;
 mod options;
-#[cfg(test)]
-mod tests;
 
 pub use command::{Command, command_of, help_text};
 

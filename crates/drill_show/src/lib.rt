@@ -8,8 +8,6 @@
 
 mod line;
 mod show;
-#[cfg(test)]
-mod tests;
 
 pub use line::drill_line;
 pub use show::drill_text;

@@ -15,7 +15,5 @@ mod pairs;
 mod refusal;
 mod singles;
 mod studies;
-#[cfg(test)]
-mod tests;
 
 pub use refusal::{Pair, Refusal};

@@ -7,7 +7,5 @@
 #![tactic(auto)]
 
 mod report;
-#[cfg(test)]
-mod tests;
 
 pub use report::report_text;

@@ -3,8 +3,8 @@ ghost use Rattle.std.specs.Prelude.{◌≡◌, ◌≤◌, length, IfOk};
 ghost use Rattle.std.specs.List.{All};
 ghost use Rattle.std.specs.Str.{IsAscii};
 
-use super::*;
 use arrayvec::ArrayVec;
+use report_text::report_text;
 use std::alloc::{AllocError, Global};
 use std::test::Fail;
 

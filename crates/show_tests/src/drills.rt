@@ -1,5 +1,5 @@
 //! The drill's show by its description, and lines of its numbers.
-use super::*;
+use drill_show::{drill_line, drill_text};
 use std::test::Fail;
 
 const ONE: &[u8] = b"choreo 1\n\
@@ -43,8 +43,9 @@ const TWO: &[u8] = b"choreo 1\n\
 
 #[test]
 fn small_drills(rt: HostRuntime) -> Result<(), Fail> {
-    assert!(rt; drill_text(rt.alloc(), 1)?.as_slice() == ONE);
-    assert!(rt; drill_text(rt.alloc(), 2)?.as_slice() == TWO);
+    let one = drill_text(rt.alloc(), 1)?;
+    let two = drill_text(rt.alloc(), 2)?;
+    assert!(rt; one.as_slice() == ONE && two.as_slice() == TWO);
     Ok(())
 }
 
@@ -77,8 +78,7 @@ const LINES: [(usize, &str); 22] = [
 #[test]
 fn the_largest_drill(rt: HostRuntime) -> Result<(), Fail> {
     let text = String::from_utf8(drill_text(rt.alloc(), 32)?)?;
-    assert_eq!(rt; text.len(), 5362);
-    assert_eq!(rt; text.split('\n').count(), 172);
+    assert!(rt; text.len() == 5362 && text.split('\n').count() == 172);
     for (number, wanted) in LINES {
         assert!(rt; text.split('\n').nth(number) == Some(wanted));
     }

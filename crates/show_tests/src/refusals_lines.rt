@@ -1,13 +1,19 @@
 //! The lines and statuses of chosen refusals.
 ghost use Rattle.std.specs.Prelude.{◌≡◌, ◌≤◌, length};
 ghost use Rattle.fleet_io.specs.Words.{IsWord};
-ghost use Rattle.refusals.specs.Refusals.{AreNamed};
+ghost use Rattle.refusals.specs.Refusals.{AreNamed, IsSayable};
 
-use super::*;
 use choreo_reader::{LineKind, Name};
 use cue_grid::GridFault;
-use fleet_io::ShortLine;
 use halving::Place;
+use refusals::{Pair, Refusal};
+
+// Whether the program writes this line for a refusal and ends with this status.
+fn says(refusal: &Refusal, line: &[u8], status: u8) -> bool
+    requires { IsSayable refusal.now }
+{
+    refusal.line().bytes() == line && refusal.status() == status
+}
 
 fn named(bytes: &[u8]) -> Name
     requires few { length bytes.now ≤ 16 }
@@ -40,15 +46,15 @@ fn long_names(cue: u16) -> Pair
 }
 
 #[test]
-fn shows(rt: HostRuntime) {
-    assert_eq!(rt;
-        Refusal::Usage.line().bytes(),
-        b"error 2 usage\n".as_slice()
-    );
-    assert_eq!(rt;
-        Refusal::TooLarge.line().bytes(),
-        b"error 3 too-large\n".as_slice()
-    );
+fn words_and_inputs(rt: HostRuntime) {
+    let usage = says(&Refusal::Usage, b"error 2 usage\n", 2);
+    let read = says(&Refusal::Read, b"error 6 read\n", 6);
+    let large = says(&Refusal::TooLarge, b"error 3 too-large\n", 3);
+    assert!(rt; usage && read && large);
+}
+
+#[test]
+fn numbers_out_of_range(rt: HostRuntime) {
     let rows = [
         (
             (2, 0, -32_768_501),
@@ -60,16 +66,17 @@ fn shows(rt: HostRuntime) {
             b"error 3 line 7 out-of-range y 32767500\n",
         ),
         (
+            (8, 2, 32_767_500),
+            b"error 3 line 8 out-of-range z 32767500\n",
+        ),
+        (
             (4_294_967_295, 3, i64::MIN),
             b"error 3 line 4294967295 out-of-range yaw -9223372036854775808\n",
         ),
     ];
     for ((line, axis, value), wanted) in rows {
-        let refusal = Refusal::Range { line, axis, value };
-        assert_eq!(rt; refusal.line().bytes(), wanted);
-        assert_eq!(rt; refusal.status(), 3);
+        assert!(rt; says(&Refusal::Range { line, axis, value }, wanted, 3));
     }
-    assert_eq!(rt; Refusal::Read.line().bytes(), b"error 6 read\n".as_slice());
 }
 
 #[test]
@@ -79,56 +86,36 @@ fn shows_that_are_refused(rt: HostRuntime) {
         bytes: 28,
         room: 27,
     };
-    assert_eq!(rt;
-        room.line().bytes(),
-        b"error 4 drone solo bytes 28 room 27\n".as_slice()
-    );
-    assert_eq!(rt; room.status(), 4);
     let segments = Refusal::Segments {
         drone: named(b"solo"),
         segments: 256,
     };
-    assert_eq!(rt;
-        segments.line().bytes(),
-        b"error 4 drone solo segments 256\n".as_slice()
-    );
     let blocked = Refusal::Blocked {
         pair: a_and_b(0),
         index: 28,
         depth: 6,
     };
-    assert_eq!(rt;
-        blocked.line().bytes(),
-        b"error 5 pair a b cue 1 part 28 of 64\n".as_slice()
-    );
-    assert_eq!(rt; blocked.status(), 5);
+    let by_room = says(&room, b"error 4 drone solo bytes 28 room 27\n", 4);
+    let by_segments = says(&segments, b"error 4 drone solo segments 256\n", 4);
+    let by_search = says(&blocked, b"error 5 pair a b cue 1 part 28 of 64\n", 5);
+    assert!(rt; by_room && by_segments && by_search);
 }
 
 #[test]
 fn uploads(rt: HostRuntime) {
-    assert_eq!(rt;
-        Refusal::Ended.line().bytes(),
-        b"error 8 ended\n".as_slice()
-    );
     let gave_up = Refusal::GaveUp {
         drone: named(b"solo"),
         packet: 2,
     };
-    assert_eq!(rt;
-        gave_up.line().bytes(),
-        b"error 9 drone solo packet 3\n".as_slice()
-    );
-    assert_eq!(rt; gave_up.status(), 9);
     let refused = Refusal::Refused {
         drone: named(b"solo"),
         packet: 0,
         status: 5,
     };
-    assert_eq!(rt;
-        refused.line().bytes(),
-        b"error 10 drone solo packet 1 status 5\n".as_slice()
-    );
-    assert_eq!(rt; refused.status(), 10);
+    let ended = says(&Refusal::Ended, b"error 8 ended\n", 8);
+    let late = says(&gave_up, b"error 9 drone solo packet 3\n", 9);
+    let wrong = says(&refused, b"error 10 drone solo packet 1 status 5\n", 10);
+    assert!(rt; ended && late && wrong);
 }
 
 #[test]
@@ -139,55 +126,47 @@ fn bytes_that_differ(rt: HostRuntime) {
         wanted: 0,
         got: 7,
     };
-    assert_eq!(rt;
-        low.line().bytes(),
-        b"error 14 drone solo address 3 wanted 00 got 07\n".as_slice()
-    );
-    assert_eq!(rt; low.status(), 14);
     let high = Refusal::Differs {
         drone: named(b"abcdefghijklmnop"),
         address: 4_095,
         wanted: 255,
         got: 175,
     };
-    assert_eq!(rt;
-        high.line().bytes(),
-        b"error 14 drone abcdefghijklmnop address 4095 wanted FF got AF\n".as_slice()
+    let at_low = says(
+        &low,
+        b"error 14 drone solo address 3 wanted 00 got 07\n",
+        14,
     );
+    let at_high = says(
+        &high,
+        b"error 14 drone abcdefghijklmnop address 4095 wanted FF got AF\n",
+        14,
+    );
+    assert!(rt; at_low && at_high);
 }
 
 #[test]
 fn certificates(rt: HostRuntime) {
-    let line = Refusal::SecondLine { line: 6 };
-    assert_eq!(rt; line.line().bytes(), b"error 11 line 6\n".as_slice());
-    assert_eq!(rt;
-        Refusal::SecondTooLarge.line().bytes(),
-        b"error 11 too-large\n".as_slice()
-    );
+    let line = says(&Refusal::SecondLine { line: 6 }, b"error 11 line 6\n", 11);
+    let large = says(&Refusal::SecondTooLarge, b"error 11 too-large\n", 11);
     let missing = Refusal::Missing { pair: a_and_b(2) };
-    assert_eq!(rt;
-        missing.line().bytes(),
-        b"error 12 missing pair a b cue 3\n".as_slice()
-    );
+    let none = says(&missing, b"error 12 missing pair a b cue 3\n", 12);
     let early = Refusal::Extra {
         version: 1,
         tree: 3,
     };
-    assert_eq!(rt; early.line().bytes(), b"error 12 extra line 5\n".as_slice());
     let late = Refusal::Extra {
         version: 2,
         tree: 3,
     };
-    assert_eq!(rt; late.line().bytes(), b"error 12 extra line 6\n".as_slice());
+    let is_early = says(&early, b"error 12 extra line 5\n", 12);
+    let is_late = says(&late, b"error 12 extra line 6\n", 12);
+    assert!(rt; line && large && none && is_early && is_late);
 }
 
 #[test]
 fn trees_that_fail(rt: HostRuntime) {
     let deep = Refusal::TooDeep { pair: a_and_b(0) };
-    assert_eq!(rt;
-        deep.line().bytes(),
-        b"error 12 too-deep pair a b cue 1\n".as_slice()
-    );
     let letter = Refusal::Fails {
         pair: a_and_b(1),
         place: Place { depth: 0, index: 0 },
@@ -195,10 +174,6 @@ fn trees_that_fail(rt: HostRuntime) {
         dir: 0,
         control: 0,
     };
-    assert_eq!(rt;
-        letter.line().bytes(),
-        b"error 12 fails pair a b cue 2 part 0 0 direction a control 0\n".as_slice()
-    );
     let digits = Refusal::Fails {
         pair: long_names(999),
         place: Place {
@@ -209,27 +184,29 @@ fn trees_that_fail(rt: HostRuntime) {
         dir: 97,
         control: 7,
     };
-    assert_eq!(rt;
-        digits.line().bytes(),
-        b"error 12 fails pair abcdefghijklmnop abcdefghijklmnop cue 1000 part 8 255 direction 97 control 7\n".as_slice()
+    let is_deep = says(&deep, b"error 12 too-deep pair a b cue 1\n", 12);
+    let by_letter = says(
+        &letter,
+        b"error 12 fails pair a b cue 2 part 0 0 direction a control 0\n",
+        12,
     );
-    assert_eq!(rt; digits.status(), 12);
+    let by_digits = says(
+        &digits,
+        b"error 12 fails pair abcdefghijklmnop abcdefghijklmnop cue 1000 part 8 255 direction 97 control 7\n",
+        12,
+    );
+    assert!(rt; is_deep && by_letter && by_digits);
 }
 
 #[test]
 fn regions(rt: HostRuntime) {
-    let enters = Refusal::Enters {
+    let first = Refusal::Enters {
         region: 0,
         drone: named(b"solo"),
         cue: 0,
         index: 25,
         depth: 6,
     };
-    assert_eq!(rt;
-        enters.line().bytes(),
-        b"error 15 region 1 drone solo cue 1 part 25 of 64\n".as_slice()
-    );
-    assert_eq!(rt; enters.status(), 15);
     let last = Refusal::Enters {
         region: 63,
         drone: named(b"abcdefghijklmnop"),
@@ -237,10 +214,17 @@ fn regions(rt: HostRuntime) {
         index: 255,
         depth: 8,
     };
-    assert_eq!(rt;
-        last.line().bytes(),
-        b"error 15 region 64 drone abcdefghijklmnop cue 1000 part 255 of 256\n".as_slice()
+    let at_first = says(
+        &first,
+        b"error 15 region 1 drone solo cue 1 part 25 of 64\n",
+        15,
     );
+    let at_last = says(
+        &last,
+        b"error 15 region 64 drone abcdefghijklmnop cue 1000 part 255 of 256\n",
+        15,
+    );
+    assert!(rt; at_first && at_last);
 }
 
 #[test]
@@ -250,32 +234,18 @@ fn speeds(rt: HostRuntime) {
         axis: 0,
         speed: 1_656_000,
     };
-    assert_eq!(rt;
-        fast.line().bytes(),
-        b"error 16 drone solo x speed 1656000\n".as_slice()
-    );
-    assert_eq!(rt; fast.status(), 16);
     let fastest = Refusal::TooFast {
         drone: named(b"abcdefghijklmnop"),
         axis: 2,
         speed: 9_223_372_036_854_775_807,
     };
-    assert_eq!(rt;
-        fastest.line().bytes(),
-        b"error 16 drone abcdefghijklmnop z speed 9223372036854775807\n".as_slice()
+    let on_x = says(&fast, b"error 16 drone solo x speed 1656000\n", 16);
+    let on_z = says(
+        &fastest,
+        b"error 16 drone abcdefghijklmnop z speed 9223372036854775807\n",
+        16,
     );
-}
-
-// Words of another crate's line.
-#[test]
-#[tactic(auto, using(fleet_io::proofs::WordLaws::word_adds, fleet_io::proofs::WordLaws::number_adds))]
-fn words_one_by_one(rt: HostRuntime) {
-    let mut line = ShortLine::make();
-    line.word(b"flown");
-    line.number(4_294_967_295);
-    line.word(b"ms");
-    line.number(0);
-    assert_eq!(rt; line.bytes(), b"flown 4294967295 ms 0".as_slice());
+    assert!(rt; on_x && on_z);
 }
 
 #[test]
@@ -302,24 +272,19 @@ fn each_word_of_a_line(rt: HostRuntime) {
         (10, LineKind::NoEnd, b"error 3 line 10 no-end\n"),
     ];
     for (line, kind, wanted) in rows {
-        assert_eq!(rt; Refusal::Line { line, kind }.line().bytes(), wanted);
+        assert!(rt; says(&Refusal::Line { line, kind }, wanted, 3));
     }
 }
 
 #[test]
 fn names_and_cues(rt: HostRuntime) {
-    let line = Refusal::Grid {
+    let no_drone = Refusal::Grid {
         fault: GridFault::NoDrone { line: 1 },
     };
-    assert_eq!(rt;
-        line.line().bytes(),
-        b"error 3 line 1 no-drone\n".as_slice()
-    );
-    let line = Refusal::Grid {
+    let too_many = Refusal::Grid {
         fault: GridFault::TooManyCues { line: 3 },
     };
-    assert_eq!(rt;
-        line.line().bytes(),
-        b"error 3 line 3 too-many-cues\n".as_slice()
-    );
+    let none = says(&no_drone, b"error 3 line 1 no-drone\n", 3);
+    let many = says(&too_many, b"error 3 line 3 too-many-cues\n", 3);
+    assert!(rt; none && many);
 }

@@ -1,5 +1,5 @@
 //! Chosen words and the commands that they are.
-use super::*;
+use command_words::{Command, command_of, help_text};
 use std::alloc::{AllocError, Global};
 use std::test::Fail;
 
@@ -171,7 +171,7 @@ const COMMANDS: [(&str, Command); 33] = [
 #[test]
 fn words_that_are_a_command(rt: HostRuntime) -> Result<(), Fail> {
     for (line, wanted) in COMMANDS {
-        assert_eq!(rt; command(rt.alloc(), line)?, Some(wanted));
+        assert!(rt; command(rt.alloc(), line)? == Some(wanted));
     }
     Ok(())
 }
@@ -242,9 +242,9 @@ const NO_COMMANDS: [&str; 60] = [
 #[test]
 fn words_that_are_no_command(rt: HostRuntime) -> Result<(), Fail> {
     for line in NO_COMMANDS {
-        assert_eq!(rt; command(rt.alloc(), line)?, None);
+        assert!(rt; command(rt.alloc(), line)?.is_none());
     }
-    assert_eq!(rt; command_of(&Vec::new(rt.alloc())), None);
+    assert!(rt; command_of(&Vec::new(rt.alloc())).is_none());
     Ok(())
 }
 
@@ -267,10 +267,9 @@ fn the_forms_of_the_commands(rt: HostRuntime) {
     ];
     let mut rest = help_text();
     for line in lines {
-        assert!(rt; rest.starts_with(line));
-        rest = &rest[line.len()..];
-        assert!(rt; rest.starts_with(b"\n".as_slice()));
-        rest = &rest[1..];
+        let is_next = rest.starts_with(line) && rest[line.len()..].starts_with(b"\n".as_slice());
+        assert!(rt; is_next);
+        rest = &rest[line.len() + 1..];
     }
     assert!(rt; rest.is_empty());
 }
