@@ -2,7 +2,7 @@
 
 ghost use Rattle.std.specs.Prelude.{◌≡◌, ◌≤◌, ◌∷◌, [], IfOk};
 
-use speed_bound::{bound, reach};
+use speed_bound::bound;
 use std::alloc::{AllocError, Global};
 use std::test::Fail;
 use traj_codec::{Element, Listed, Segment, Traj};
@@ -206,57 +206,6 @@ fn bounds_of_two_segments(rt: HostRuntime) -> Result<(), Fail> {
         let second = segment(second_ms, u, v, w);
         let found = bounds(rt.alloc(), start, first, second, depth.min(8))?;
         assert_eq!(rt; found, wanted);
-    }
-    Ok(())
-}
-
-// How far two flights move in some milliseconds: one goes a metre along x in two seconds from rest to rest, at most 1.09375 m/s by parts of the
-// depth 6, and one 1 mm down along z in 3 ms, at most 333,334 micrometres per second; both then rest.
-const REACHES: [(u16, u8, [u32; 3]); 8] = [
-    (0, 6, [0, 0, 0]),
-    (1, 6, [2, 0, 1]),
-    (3, 6, [4, 0, 2]),
-    (64, 6, [70, 0, 22]),
-    (65, 6, [72, 0, 22]),
-    (1000, 6, [1094, 0, 334]),
-    (1000, 0, [3500, 0, 334]),
-    (2, 0, [7, 0, 1]),
-];
-
-#[test]
-fn reaches_of_two_flights(rt: HostRuntime) -> Result<(), Fail> {
-    let alloc = rt.alloc();
-    let rests = segment(2000, STAYS, STAYS, STAYS);
-    let first = flight(
-        alloc,
-        [0, 0, 1000, 0],
-        segment(2000, METRE, STAYS, STAYS),
-        rests,
-    )?;
-    let sinks = segment(3, STAYS, STAYS, Element::Linear { v: -1 });
-    let second = flight(alloc, [0, 0, 0, 0], sinks, rests)?;
-    let trajs = vec![in alloc; first, second]?;
-    for (late, depth, wanted) in REACHES {
-        let found = reach(trajs.as_slice(), late.min(1000), depth.min(8));
-        assert_eq!(rt; found, wanted, "{late} ms");
-    }
-    Ok(())
-}
-
-// A jump of 65,535 mm in a millisecond: no drone is farther away than 65,536 mm.
-#[test]
-fn the_farthest_reach(rt: HostRuntime) -> Result<(), Fail> {
-    let alloc = rt.alloc();
-    let jump = segment(1, Element::Linear { v: 32767 }, STAYS, STAYS);
-    let t = flight(
-        alloc,
-        [-32768, 0, 0, 0],
-        jump,
-        segment(1, STAYS, STAYS, STAYS),
-    )?;
-    let trajs = vec![in alloc; t]?;
-    for (late, wanted) in [(1, 65_535), (2, 65_536), (1000, 65_536)] {
-        assert_eq!(rt; reach(trajs.as_slice(), late, 6), [wanted, 0, 0]);
     }
     Ok(())
 }
