@@ -115,15 +115,27 @@ const IN_ORDER: [(u8, u8, u16); 7] = [
     (2, 3, 0),
 ];
 
+fn numbers(slot: Slot) -> (u8, u8, u16) {
+    (slot.a, slot.b, slot.cue)
+}
+
 #[test]
 fn pairs_and_cues_in_order(rt: HostRuntime) -> Result<(), Fail> {
-    let mut slot = Slot::first();
-    let mut found = [(0, 0, 0); 7];
-    for k in 0..6 {
-        found[k] = (slot.a, slot.b, slot.cue);
-        slot = slot.next(3, 2);
-    }
-    found[6] = (slot.a, slot.b, slot.cue);
+    let first = Slot::first();
+    let second = first.next(3, 2);
+    let third = second.next(3, 2);
+    let fourth = third.next(3, 2);
+    let fifth = fourth.next(3, 2);
+    let sixth = fifth.next(3, 2);
+    let found = [
+        numbers(first),
+        numbers(second),
+        numbers(third),
+        numbers(fourth),
+        numbers(fifth),
+        numbers(sixth),
+        numbers(sixth.next(3, 2)),
+    ];
     assert!(rt; found == IN_ORDER);
     Ok(())
 }

@@ -170,11 +170,11 @@ fn nodes_of(
     curves: &Curves,
     ruler: &Ruler<98>,
     depth: u8,
-) -> Option<Result<u32, u16>>
+) -> Option<Result<u64, u16>>
     requires { depth ≤ 8 }
 {
     let counted = match count_all(alloc, curves, ruler, depth) {
-        Ok(count) => Ok(count),
+        Ok(count) => Ok(u64::from(count)),
         Err(SearchFault::Blocked { index, .. }) => Err(index),
         Err(SearchFault::Memory) => return None,
     };
@@ -191,17 +191,17 @@ fn nodes_of(
 }
 
 // How many nodes trees have.
-fn all_nodes(trees: &[Listed<Node>]) -> u32 {
-    let mut count: u32 = 0;
+fn all_nodes(trees: &[Listed<Node>]) -> u64 {
+    let mut count: u64 = 0;
     for tree in trees {
-        count = count.saturating_add(tree.as_slice().len() as u32);
+        count = count.saturating_add(tree.as_slice().len() as u64);
     }
     count
 }
 
 // The place of the second drone, a stray, the reach on x, y and z, and how many nodes two cues have, or none where they are blocked. Drones on
 // one axis are apart exactly where they are farther than two half axes, two strays and the reach of that axis.
-const ON_ONE_AXIS: [([i16; 3], u16, [u32; 3], Result<u32, u16>); 14] = [
+const ON_ONE_AXIS: [([i16; 3], u16, [u32; 3], Result<u64, u16>); 14] = [
     ([241, 0, 0], 0, [0, 0, 0], Ok(2)),
     ([240, 0, 0], 0, [0, 0, 0], Err(0)),
     ([-241, 0, 0], 0, [0, 0, 0], Ok(2)),
@@ -231,41 +231,39 @@ fn drones_on_one_axis(rt: HostRuntime) -> Result<(), Fail> {
     Ok(())
 }
 
-// The first drone stays; the second passes it as the last of the searches above.
+// One leg of three seconds.
+fn one_leg(alloc: Global, start: [i16; 4], elements: [Element; 4]) -> Result<Traj, AllocError>
+    ensures { IfOk result (λ t. durations t.segments ≡ 3000 ∷ []) }
+{
+    let leg = Segment { ms: 3000, elements };
+    Ok(Traj {
+        start,
+        segments: Listed::from_vec(vec![in alloc; leg]?),
+    })
+}
+
+// The first drone stays; the second passes it as in the last of the searches above.
 fn passing(alloc: Global) -> Result<Curves, AllocError> {
-    let stays = Segment {
-        ms: 3000,
-        elements: [Element::Constant; 4],
-    };
-    let passes = Segment {
-        ms: 3000,
-        elements: [
-            Element::Seven {
-                v: [1000, 1000, 1000, -1000, -1000, -1000, -1000],
-            },
-            Element::Seven {
-                v: [241, 300, 300, 400, 400, 0, 0],
-            },
-            Element::Seven {
-                v: [1300, 1620, 1000, 1000, 1000, 1300, 1620],
-            },
-            Element::Constant,
-        ],
-    };
-    let first = Traj {
-        start: [0, 0, 1000, 0],
-        segments: Listed::from_vec(vec![in alloc; stays]?),
-    };
-    let second = Traj {
-        start: [1000, 100, 1620, 0],
-        segments: Listed::from_vec(vec![in alloc; passes]?),
-    };
+    let passes = [
+        Element::Seven {
+            v: [1000, 1000, 1000, -1000, -1000, -1000, -1000],
+        },
+        Element::Seven {
+            v: [241, 300, 300, 400, 400, 0, 0],
+        },
+        Element::Seven {
+            v: [1300, 1620, 1000, 1000, 1000, 1300, 1620],
+        },
+        Element::Constant,
+    ];
+    let first = one_leg(alloc, [0, 0, 1000, 0], [Element::Constant; 4])?;
+    let second = one_leg(alloc, [1000, 100, 1620, 0], passes)?;
     let trajs = vec![in alloc; first, second]?;
     Curves::of_slice(alloc, trajs.as_slice())
 }
 
 // A stray, the reach on x, y and z, and the depth; how many nodes there are, or the first part that is blocked.
-const PASSING: [(u16, [u32; 3], u8, Result<u32, u16>); 10] = [
+const PASSING: [(u16, [u32; 3], u8, Result<u64, u16>); 10] = [
     (0, [0, 0, 0], 0, Err(0)),
     (0, [0, 0, 0], 1, Ok(3)),
     (5, [0, 0, 0], 8, Ok(3)),
