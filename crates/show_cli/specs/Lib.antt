@@ -1,14 +1,1 @@
-pub mod Ways
-pub mod Shows
-pub mod Refused
-pub mod Reports
-pub mod Complete
-pub mod Outcome
-pub mod Input
-pub mod Answers
-pub mod Steps
-pub mod Studies
-pub mod SecondTexts
-pub mod Runs
-pub mod Headline
-pub mod Uploads
+pub mod Verbs

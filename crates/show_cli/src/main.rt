@@ -1,25 +1,16 @@
 //! The program: it checks, compiles, certifies, plays and reports choreographies of drones, verifies their certificates, and
 //! rehearses and carries their uploads.
 //!
-//! `run` (in `top`) is the program over any source and any sink, and has its contract: what each command gives stands in
-//! `specs/Outcome.antt`, what a run reads and writes in `specs/Runs.antt`. Each command is a function over source and sink in a
-//! file of its own under `commands`. `main` is the trusted edge: it hands in the words and standard input and output, and
-//! ends with the status.
+//! `run` (in `top`) is the program over any source and any sink, and has its contract: each command is a value of `Verb`
+//! (`specs/Verbs.antt` has a line a command), and what a run of it gives, reads and writes is `Behaves` of `show_judge`. The commands
+//! stand in `show_looks`, `show_uploads`, `show_verify` and `show_studies`. `main` is the trusted edge: it hands in the words and
+//! standard input and output, and ends with the status.
 #![tactic(auto)]
 
-mod accept;
-mod commands;
-mod ends;
-mod findings;
-mod input;
-mod lines;
-mod numbers;
-mod outcomes;
-mod refuse;
 mod top;
 
-use ends::NO_MEMORY;
 use fleet_io::{StdSink, StdSource};
+use show_judge::NO_MEMORY;
 use std::process::ExitCode;
 use std::{env, io};
 use top::run;

@@ -1,6 +1,6 @@
 //! Rehearsals of the smallest path over memory, with results that are known from outside.
-use crate::commands::rehearse::rehearse;
 use fleet_io::{MemSink, MemSource};
+use show_uploads::rehearse;
 use std::alloc::{AllocError, Global};
 use std::test::Fail;
 

@@ -1,33 +1,33 @@
 //! The program over any source and any sink.
 ghost use Rattle.std.specs.Prelude.{◌≡◌, ◌≢◌, ◌⊎◌, ℕ, ◌≤◌, List, Option, Some, None};
 ghost use Rattle.std.specs.Io.KnownBytes.{Appends};
+ghost use Rattle.text_lines.specs.Marker.{part_of};
 ghost use Rattle.fleet_io.specs.Causes.{Rose};
 ghost use Rattle.fleet_io.specs.Taken.{AppendsFront, TakesFront};
 ghost use Rattle.command_words.specs.Commands.{IsCommand};
+ghost use Rattle.drill_show.specs.Drill.{drill_text};
 ghost use Rattle.readback_model.specs.Readback.{StartsLastLaw, UnalteredLaw, VerifiedLaw};
 ghost use Rattle.refusals.specs.Lines.{usage_line};
-ghost use Rattle.show_cli.specs.Headline.{Headline, KeepsSpeeds, StaysInRegions, TellsTouches};
-ghost use Rattle.show_cli.specs.Runs.{Completes, ReadsBoth, Runs, StopsAtMarker, StopsReading, TakesLittle, command_in, during, run_of};
+ghost use Rattle.show_judge.specs.Headline.{FliesText};
+ghost use Rattle.show_judge.specs.Outcome.{IsVerb, OutcomeLaw};
+ghost use Rattle.show_judge.specs.Runs.{Behaves};
+ghost use Rattle.show_judge.specs.Verb.{during, run_of};
+ghost use Rattle.show_looks.specs.Compile.{Headline};
+ghost use Rattle.show_studies.specs.Boxes.{StaysInRegions};
+ghost use Rattle.show_studies.specs.Explained.{TellsTouches};
+ghost use Rattle.show_studies.specs.Speeds.{KeepsSpeeds};
+ghost use Rattle.show_cli.specs.Verbs.{JudgesApart, command_in, verb_of};
 
-use crate::commands::boxes::boxes;
-use crate::commands::certify::certify;
-use crate::commands::check::check;
-use crate::commands::compile::compile;
-use crate::commands::drill::drill;
-use crate::commands::explain::explain;
-use crate::commands::help::help;
-use crate::commands::play::play;
-use crate::commands::rehearse::rehearse;
-use crate::commands::report::report;
-use crate::commands::speed::speed;
-use crate::commands::upload::upload;
-use crate::commands::verify::verify;
-use crate::ends::refuse;
-use crate::outcomes::outcome_law;
-use command_words::{Command, command_of};
+use choreo_reader::show_law;
+use command_words::{Command, command_of, help_text};
 use fleet_io::{Sink, Source, SureSink, SureSource};
 use readback_core::readback_law;
 use refusals::Refusal;
+use show_judge::refuse;
+use show_looks::{certify, check, compile, drill, help, play, report};
+use show_studies::{boxes, boxes_law, explain, speed};
+use show_uploads::{rehearse, rehearse_law, upload, uploading_law};
+use show_verify::{verify, verify_law};
 use std::alloc::Global;
 
 // Runs a command, each by its function.
@@ -38,14 +38,10 @@ fn run_command<S: Source, K: Sink>(
     sink: &mut K,
 ) -> u8
     requires { IsCommand command }
-    ensures few { TakesLittle command (during S.left S.faults K.written K.faults source.old source.new sink.old sink.new) }
-    ensures marker { StopsAtMarker command (during S.left S.faults K.written K.faults source.old source.new sink.old sink.new) result }
-    ensures both { ReadsBoth command (during S.left S.faults K.written K.faults source.old source.new sink.old sink.new) result }
-    ensures stops { StopsReading command (during S.left S.faults K.written K.faults source.old source.new sink.old sink.new) result }
-    ensures runs { Runs command (during S.left S.faults K.written K.faults source.old source.new sink.old sink.new) result }
+    ensures { Behaves (verb_of command) (during S.left S.faults K.written K.faults source.old source.new sink.old sink.new) result }
 {
     match command {
-        Command::Help => help(source, sink),
+        Command::Help => help(help_text(), source, sink),
         Command::Check { depth } => check(alloc, depth, source, sink),
         Command::Compile { depth } => compile(alloc, depth, source, sink),
         Command::Certify { depth } => certify(alloc, depth, source, sink),
@@ -81,21 +77,16 @@ pub fn run<S: Source, K: Sink>(
     ensures two { result ≡ 2 → (command_in words.now.items ≡ None) × Appends (K.written sink.old) (K.written sink.new) usage_line }
     ensures usage_failed { command_in words.now.items ≡ None → result ≡ 7 → Rose (K.faults sink.old) (K.faults sink.new) × AppendsFront (K.written sink.old) (K.written sink.new) usage_line }
 
-    // The words are a command: what it gives, reads and writes. The fields of `Runs` say it one by one (`specs/Runs.antt`).
-    ensures runs { (c : Command) → command_in words.now.items ≡ Some c
-        → Runs c (during S.left S.faults K.written K.faults source.old source.new sink.old sink.new) result }
+    // The words are a command: what it gives, reads and writes. The fields of `Behaves` say it one by one, and `verb_of` has a line a command.
+    ensures behaves { (c : Command) → command_in words.now.items ≡ Some c → Behaves (verb_of c) (during S.left S.faults K.written K.faults source.old source.new sink.old sink.new) result }
 
-    // Nothing is read beyond what is judged but the 4,096 bytes that were asked for at once.
-    ensures few { (c : Command) → command_in words.now.items ≡ Some c → TakesLittle c (during S.left S.faults K.written K.faults source.old source.new sink.old sink.new) }
-    ensures marker { (c : Command) → command_in words.now.items ≡ Some c → StopsAtMarker c (during S.left S.faults K.written K.faults source.old source.new sink.old sink.new) result }
+    // A show gives a command one outcome; an input gives it one, and no other; and one that lacks nothing gives status 0.
+    ensures law { (c : Command) → IsVerb (verb_of c) }
+    ensures outcomes { (c : Command) → OutcomeLaw (verb_of c) }
 
-    // A second text is read too before anything is judged; an upload reads no more once it is over.
-    ensures both { (c : Command) → command_in words.now.items ≡ Some c → ReadsBoth c (during S.left S.faults K.written K.faults source.old source.new sink.old sink.new) result }
-    ensures stops { (c : Command) → command_in words.now.items ≡ Some c → StopsReading c (during S.left S.faults K.written K.faults source.old source.new sink.old sink.new) result }
-
-    // With no fault counted, an input that lacks nothing gives 0, or the program is out of memory.
-    ensures complete { (c : Command) → command_in words.now.items ≡ Some c
-        → Completes c (during S.left S.faults K.written K.faults source.old source.new sink.old sink.new) result }
+    // 0 of a command that judges whether drones keep apart: the show's text stands for a show, near to which they fly and apart, at every instant.
+    ensures flies { (c : Command) (input : List ℕ) → command_in words.now.items ≡ Some c → JudgesApart c → S.left source.old ≡ Some input → result ≡ 0 → FliesText (part_of input) }
+    ensures drilled { (drones depth : ℕ) → command_in words.now.items ≡ Some (Command.Drill drones depth) → result ≡ 0 → FliesText (part_of (drill_text drones)) }
 
     // 0 of `compile`: the input stands for a show, its plan was written, and once the plan's packets are acknowledged, whatever the link
     // does, each drone's memory decodes to one curve, near to the show and apart from every other, at every instant.
@@ -122,7 +113,11 @@ pub fn run<S: Source, K: Sink>(
     ensures source_later { S.faults source.old ≤ S.faults source.new }
     ensures sink_later { K.faults sink.old ≤ K.faults sink.new }
 {
-    outcome_law();
+    show_law();
+    verify_law();
+    rehearse_law();
+    uploading_law();
+    boxes_law();
     readback_law();
     match command_of(words) {
         Some(command) => run_command(alloc, command, source, sink),
@@ -138,7 +133,7 @@ pub fn run_surely(
     sink: &mut SureSink,
 ) -> u8
     ensures usage { command_in words.now.items ≡ None → result ≡ 2 }
-    ensures runs { (c : Command) → command_in words.now.items ≡ Some c → Runs c (run_of (Some source.old) (Some source.new) 0 0 None None 0 0) result }
+    ensures behaves { (c : Command) → command_in words.now.items ≡ Some c → Behaves (verb_of c) (run_of (Some source.old) (Some source.new) 0 0 None None 0 0) result }
     ensures read { result ≢ 6 }
     ensures write { result ≢ 7 }
 {

@@ -1,36 +1,63 @@
 use Rattle.std.proofs.Common.{sym, ◌∙◌}
-use Rattle.command_words.specs.declared.command.Command.TheVariants.{Boxes, Compile, Explain, Speed}
-use Rattle.show_cli.proofs.StudyRuns.{speeds_of, stays_of, touches_of}
-use Rattle.show_cli.proofs.RunLemmas.{completes, headline_of, known_small, one_command, runs_as}
+use Rattle.command_words.specs.declared.command.Command.TheVariants.{Boxes, Compile, Drill, Explain, Speed}
+use Rattle.drill_show.specs.Drill.{drill_text}
+use Rattle.show_judge.proofs.HeadlineLemmas.{flies_own}
+use Rattle.show_judge.proofs.VerbLemmas.{outcomes}
+use Rattle.show_looks.specs.Drilled.{drill_of}
+use Rattle.show_looks.specs.Reports.{report_of}
+use Rattle.show_looks.proofs.CompileLemmas.{headline_of}
+use Rattle.show_cli.specs.Verbs.{verb_of}
+use Rattle.show_cli.proofs.TopLemmas.{behaves_as, known_small, never_two, one_command}
+use Rattle.show_cli.proofs.VerbLaws.{flies, laws}
 use Rattle.show_cli.proofs.top.run.Goals as goal
 
-pub returns-in-Some-clause-runs : goal.returns-in-Some-clause-runs
-returns-in-Some-clause-runs g c = λ d is.
-    runs_as c.in-Some.command d _ _ (one_command _ c.in-Some.command d (sym c.command_of.ensures.value ∙ c.in-Some.is) is) c.run_command.ensures.runs
+pub returns-in-Some-clause-two : goal.returns-in-Some-clause-two
+returns-in-Some-clause-two g c = λ two. absurd (never_two _ c.run_command.ensures.runs.known two)
+
+pub returns-in-Some-clause-behaves : goal.returns-in-Some-clause-behaves
+returns-in-Some-clause-behaves g c = λ d is.
+    behaves_as c.in-Some.command d _ _ (one_command _ c.in-Some.command d (sym c.command_of.ensures.value ∙ c.in-Some.is) is) c.run_command.ensures
+
+pub returns-in-Some-clause-law : goal.returns-in-Some-clause-law
+returns-in-Some-clause-law g c = laws c.verify_law.ensures c.rehearse_law.ensures c.uploading_law.ensures c.boxes_law.ensures
+
+pub returns-in-None-clause-law : goal.returns-in-None-clause-law
+returns-in-None-clause-law g c = laws c.verify_law.ensures c.rehearse_law.ensures c.uploading_law.ensures c.boxes_law.ensures
+
+pub returns-in-Some-clause-outcomes : goal.returns-in-Some-clause-outcomes
+returns-in-Some-clause-outcomes g c = λ d. outcomes c.show_law.ensures (verb_of d) (laws c.verify_law.ensures c.rehearse_law.ensures c.uploading_law.ensures c.boxes_law.ensures d)
+
+pub returns-in-None-clause-outcomes : goal.returns-in-None-clause-outcomes
+returns-in-None-clause-outcomes g c = λ d. outcomes c.show_law.ensures (verb_of d) (laws c.verify_law.ensures c.rehearse_law.ensures c.uploading_law.ensures c.boxes_law.ensures d)
+
+pub returns-in-Some-clause-flies : goal.returns-in-Some-clause-flies
+returns-in-Some-clause-flies g c = λ d input is judges left done.
+    flies d judges input _ _ (behaves_as c.in-Some.command d _ _ (one_command _ c.in-Some.command d (sym c.command_of.ensures.value ∙ c.in-Some.is) is) c.run_command.ensures).runs left done
+
+pub returns-in-Some-clause-drilled : goal.returns-in-Some-clause-drilled
+returns-in-Some-clause-drilled g c = λ drones depth is done.
+    flies_own depth (drill_text drones) (λ s. drill_of (report_of s depth)) _ _
+    (behaves_as c.in-Some.command (Drill drones depth) _ _ (one_command _ c.in-Some.command (Drill drones depth) (sym c.command_of.ensures.value ∙ c.in-Some.is) is) c.run_command.ensures).runs done
 
 pub returns-in-Some-clause-headline : goal.returns-in-Some-clause-headline
 returns-in-Some-clause-headline g c = λ depth input is left done.
     headline_of depth input _ _
-    (runs_as c.in-Some.command (Compile depth) _ _ (one_command _ c.in-Some.command (Compile depth) (sym c.command_of.ensures.value ∙ c.in-Some.is) is) c.run_command.ensures.runs) left done
+    (behaves_as c.in-Some.command (Compile depth) _ _ (one_command _ c.in-Some.command (Compile depth) (sym c.command_of.ensures.value ∙ c.in-Some.is) is) c.run_command.ensures).runs left done
 
 pub returns-in-Some-clause-regions : goal.returns-in-Some-clause-regions
 returns-in-Some-clause-regions g c = λ depth input is left done.
-    stays_of depth input _ _
-    (runs_as c.in-Some.command (Boxes depth) _ _ (one_command _ c.in-Some.command (Boxes depth) (sym c.command_of.ensures.value ∙ c.in-Some.is) is) c.run_command.ensures.runs) left done
+    let behaves = behaves_as c.in-Some.command (Boxes depth) _ _ (one_command _ c.in-Some.command (Boxes depth) (sym c.command_of.ensures.value ∙ c.in-Some.is) is) c.run_command.ensures in
+    rw left at (behaves.headline done)
 
 pub returns-in-Some-clause-speeds : goal.returns-in-Some-clause-speeds
 returns-in-Some-clause-speeds g c = λ depth limit input is left done.
-    speeds_of limit depth input _ _
-    (runs_as c.in-Some.command (Speed depth limit) _ _ (one_command _ c.in-Some.command (Speed depth limit) (sym c.command_of.ensures.value ∙ c.in-Some.is) is) c.run_command.ensures.runs) left done
+    let behaves = behaves_as c.in-Some.command (Speed depth limit) _ _ (one_command _ c.in-Some.command (Speed depth limit) (sym c.command_of.ensures.value ∙ c.in-Some.is) is) c.run_command.ensures in
+    rw left at (behaves.headline done)
 
 pub returns-in-Some-clause-touches : goal.returns-in-Some-clause-touches
 returns-in-Some-clause-touches g c = λ depth fine input is left done.
-    touches_of depth fine input _ _
-    (runs_as c.in-Some.command (Explain depth fine) _ _ (one_command _ c.in-Some.command (Explain depth fine) (sym c.command_of.ensures.value ∙ c.in-Some.is) is) c.run_command.ensures.runs) left done
-
-pub returns-in-Some-clause-complete : goal.returns-in-Some-clause-complete
-returns-in-Some-clause-complete g c = λ d is.
-    completes c.outcome_law.ensures d _ _ (runs_as c.in-Some.command d _ _ (one_command _ c.in-Some.command d (sym c.command_of.ensures.value ∙ c.in-Some.is) is) c.run_command.ensures.runs)
+    let behaves = behaves_as c.in-Some.command (Explain depth fine) _ _ (one_command _ c.in-Some.command (Explain depth fine) (sym c.command_of.ensures.value ∙ c.in-Some.is) is) c.run_command.ensures in
+    rw left at (behaves.headline done)
 
 pub returns-in-Some-clause-known : goal.returns-in-Some-clause-known
 returns-in-Some-clause-known g c = known_small _ c.run_command.ensures.runs.known

@@ -1,12 +1,12 @@
 use Rattle.std.proofs.Common.{inl, inr}
-use Rattle.show_cli.proofs.RunLemmas.{never_rose, never_seven, never_six}
+use Rattle.show_cli.proofs.TopLemmas.{never_rose, never_seven, never_six}
 use Rattle.show_cli.proofs.top.run_surely.Goals as goal
 
 pub returns-clause-read : goal.returns-clause-read
-returns-clause-read c = λ six. never_six _ _ _ (λ none. (c.run.ensures.usage none).0) c.run.ensures.runs never_rose six
+returns-clause-read c = λ six. never_six _ _ _ (λ none. (c.run.ensures.usage none).0) c.run.ensures.behaves never_rose six
 
 pub returns-clause-write : goal.returns-clause-write
-returns-clause-write c = λ seven. never_seven _ _ _ (λ none failed. (c.run.ensures.usage_failed none failed).0) c.run.ensures.runs never_rose seven
+returns-clause-write c = λ seven. never_seven _ _ _ (λ none failed. (c.run.ensures.usage_failed none failed).0) c.run.ensures.behaves never_rose seven
 
 pub returns-clause-usage : goal.returns-clause-usage
 returns-clause-usage c = λ none. elim (c.run.ensures.usage none).0 [
@@ -14,5 +14,5 @@ returns-clause-usage c = λ none. elim (c.run.ensures.usage none).0 [
   | inr seven ↦ absurd (never_rose (c.run.ensures.usage_failed none seven).0)
 ]
 
-pub returns-clause-runs : goal.returns-clause-runs
-returns-clause-runs c = c.run.ensures.runs
+pub returns-clause-behaves : goal.returns-clause-behaves
+returns-clause-behaves c = c.run.ensures.behaves

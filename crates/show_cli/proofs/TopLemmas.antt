@@ -1,0 +1,50 @@
+-- A run of the program, from that of its command.
+use Rattle.std.proofs.Common.{◌≡◌, ◌⊎◌, inl, inr, ℕ, ◌≤◌, List, [], ◌∷◌, Contains, Option, Some, None, refl, sym, subst, arith}
+use Rattle.std.proofs.lemmas.List.Elements.{All-contains, All-from_recursion}
+use Rattle.fleet_io.specs.Causes.{Rose}
+use Rattle.command_words.specs.declared.command.Command.{Command}
+use Rattle.show_judge.specs.Headline.{FliesText}
+use Rattle.show_judge.specs.Runs.{Behaves}
+use Rattle.show_judge.specs.Verb.{Run}
+use Rattle.show_judge.proofs.RunLemmas.{statuses}
+use Rattle.show_cli.specs.Verbs.{verb_of}
+
+-- a count that never rises doesn't rise
+pub never_rose : Rose 0 0 → ⊥
+never_rose rose = elim rose [
+  | inl more ↦ omega (arith, more)
+  | inr last ↦ omega (arith, last)
+]
+
+-- where no read fails, no run ends with 6
+pub never_six : (words : Option Command) (r : Run) (status : ℕ) → (words ≡ None → (status ≡ 2) ⊎ (status ≡ 7)) → ((c : Command) → words ≡ Some c → Behaves (verb_of c) r status) →
+    (Rose r.reads_failed r.reads_failed_after → ⊥) → status ≡ 6 → ⊥
+never_six None r status usage runs quiet six = elim (usage refl) [
+  | inl e ↦ omega (arith, e, six)
+  | inr e ↦ omega (arith, e, six)
+]
+never_six (Some c) r status usage runs quiet six = quiet ((runs c refl).runs.six six).0
+
+-- where no write fails, no run ends with 7
+pub never_seven : (words : Option Command) (r : Run) (status : ℕ) → (words ≡ None → status ≡ 7 → Rose r.writes_failed r.writes_failed_after) → ((c : Command) → words ≡ Some c → Behaves (verb_of c) r status) →
+    (Rose r.writes_failed r.writes_failed_after → ⊥) → status ≡ 7 → ⊥
+never_seven None r status usage runs quiet seven = quiet (usage refl seven)
+never_seven (Some c) r status usage runs quiet seven = quiet ((runs c refl).runs.seven seven).0
+
+-- no status is above 16
+pub known_small : (n : ℕ) → Contains statuses n → n ≤ 16
+known_small n among = All-contains (λ (k : ℕ). k ≤ 16) statuses n (All-from_recursion (λ (k : ℕ). k ≤ 16) statuses
+    (omega arith, (omega arith, (omega arith, (omega arith, (omega arith, (omega arith, (omega arith, (omega arith, (omega arith, (omega arith, (omega arith, (omega arith, (omega arith, (omega arith, (omega arith, (omega arith, tt))))))))))))))))) among
+
+-- no status of a command is 2
+pub never_two : (n : ℕ) → Contains statuses n → n ≡ 2 → ⊥
+never_two n among = All-contains (λ (k : ℕ). k ≡ 2 → ⊥) statuses n (All-from_recursion (λ (k : ℕ). k ≡ 2 → ⊥) statuses
+    ((λ e. omega (arith, e)), ((λ e. omega (arith, e)), ((λ e. omega (arith, e)), ((λ e. omega (arith, e)), ((λ e. omega (arith, e)), ((λ e. omega (arith, e)), ((λ e. omega (arith, e)), ((λ e. omega (arith, e)), ((λ e. omega (arith, e)), ((λ e. omega (arith, e)), ((λ e. omega (arith, e)), ((λ e. omega (arith, e)), ((λ e. omega (arith, e)), ((λ e. omega (arith, e)), ((λ e. omega (arith, e)), ((λ e. omega (arith, e)), tt))))))))))))))))) among
+
+-- a run of a command is one of the same command by another name
+pub behaves_as : (c d : Command) (r : Run) (status : ℕ) → c ≡ d → Behaves (verb_of c) r status → Behaves (verb_of d) r status
+behaves_as c d r status same behaves = subst (λ (e : Command). Behaves (verb_of e) r status) same behaves
+
+-- words are one command
+pub one_command : (words : Option Command) (c d : Command) → words ≡ Some c → words ≡ Some d → c ≡ d
+one_command words c d first second = cc

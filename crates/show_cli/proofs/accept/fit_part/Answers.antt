@@ -1,8 +1,0 @@
-use Rattle.std.proofs.Common.{◌∙◌, sym}
-use Rattle.choreo_reader.specs.Plain.{plain}
-use Rattle.show_cli.proofs.PlanLemmas.{plan_of_text}
-use Rattle.show_cli.proofs.accept.fit_part.Goals as goal
-
-pub returns-in-Ok-clause-gives : goal.returns-in-Ok-clause-gives
-returns-in-Ok-clause-gives c = λ cut is.
-    plan_of_text c.args.command cut (plain c.in-Ok.show) c.fit_show.result is.2 (rw (sym (c.deref.ensures.value ∙ is.0)) c.in-Ok.ensures.found) (c.fit_show.ensures.gives cut is)

@@ -1,9 +1,0 @@
-use Rattle.std.proofs.Common.{◌≡◌, ◌*◌, ◌≤◌, sum, take}
-use Rattle.show_cli.proofs.numbers.total.Given as goal
-
--- the sum so far
-abbrev pub invariant-loop-number : goal.invariant-loop-number
-invariant-loop-number l = record {
-  so_far : l.total ≡ sum (take l.number-index l.numbers);
-  most : l.total ≤ 4096 * l.number-index;
-}

@@ -1,0 +1,101 @@
+-- A command that reads a show and writes one text of it.
+use Rattle.std.proofs.Common.{Option, ◌≡◌, ℕ, List, Result, Err, IfOk, refl, sym, ◌∙◌, ap, inl, inr, ◌<◌, IfSome, length, true, false}
+use Rattle.choreo_reader.specs.Laws.{ShowLaw}
+use Rattle.choreo_reader.specs.Plain.{PlainShow}
+use Rattle.fleet_io.specs.Causes.{Rose}
+use Rattle.fleet_io.specs.Parts.{TakesFewAfter}
+use Rattle.fleet_io.specs.Taken.{TakesFront}
+use Rattle.std.proofs.Common.{◌≤◌}
+use Rattle.show_judge.specs.declared.ends.Answer.{Answer}
+use Rattle.show_judge.specs.declared.ends.Failure.{Failure}
+use Rattle.show_judge.specs.declared.ends.Failure.TheVariants.{Read}
+use Rattle.show_judge.specs.Answers.{AnswersInput, Responds}
+use Rattle.show_judge.specs.Input.{IsReadBoth, TakesOneText}
+use Rattle.text_lines.specs.Marker.{part_of}
+use Rattle.show_judge.specs.declared.ways.Ways.{Ways}
+use Rattle.show_judge.specs.Shows.{show_limit}
+use Rattle.show_judge.specs.Runs.{Behaves}
+use Rattle.show_judge.specs.Verb.{IsAny, IsTwo, Outcome, Run, Verb, of_show, outcome}
+use Rattle.show_judge.specs.Outcome.{IsVerb}
+use Rattle.show_judge.proofs.HeadlineLemmas.{headlines, says_of}
+use Rattle.show_judge.proofs.ReadLemmas.{judged_answer}
+use Rattle.show_judge.proofs.RunLemmas.{IsPlain, completes, runs_answer}
+use Rattle.show_judge.proofs.VerbLemmas.{outcomes}
+
+-- it keeps the laws of a command
+pub show_verb : (depth : ℕ) (text : PlainShow → List ℕ) → IsVerb (of_show depth text)
+show_verb depth text = record {
+  one = λ s cut o p first second. first ∙ sym second;
+  some = λ s cut known. (outcome 0 (text s), refl);
+  done = λ s cut o gives succeeds. ap (λ (o : Outcome). o.status) gives;
+  apart = λ d s cut searched apart. apart;
+  headline = λ input o old new safe appended. says_of (of_show depth text) text input o old new refl safe safe.promised safe.gives appended;
+}
+
+pub show_plain : (depth : ℕ) (text : PlainShow → List ℕ) → IsPlain (of_show depth text)
+show_plain depth text = record { reads = refl; judges = refl; stops = λ taken. refl; prompt = λ r. tt }
+
+-- What was answered for the input of a source and written.
+pub show_behaves : ShowLaw → (depth : ℕ) (text : PlainShow → List ℕ) (r : Run) (result : Result Answer Failure) (status : ℕ) → AnswersInput (of_show depth text) r.left r.left_after result →
+    Responds result r.written r.written_after r.writes_failed r.writes_failed_after status → (result ≡ Err Read → Rose r.reads_failed r.reads_failed_after) →
+    TakesFront r.left r.left_after → r.reads_failed ≤ r.reads_failed_after → TakesOneText r.left r.left_after → IfOk result (λ _. TakesFewAfter r.left r.left_after) →
+    Behaves (of_show depth text) r status
+show_behaves law depth text r result status answers wrote failed taken later few after =
+    let outcome_law = outcomes law (of_show depth text) (show_verb depth text) in
+    let runs = runs_answer (of_show depth text) r result status (show_plain depth text) outcome_law answers wrote failed taken later in
+    record {
+      runs = runs;
+      complete = completes (of_show depth text) outcome_law r status runs;
+      few = λ wanted. few;
+      marker = λ alone reads judged. judged_answer result r.written r.written_after r.writes_failed r.writes_failed_after status _ wrote after judged;
+      reading = tt;
+      headline = headlines (of_show depth text) (show_verb depth text) r status runs;
+    }
+
+-- ---- a show that fits
+
+pub any_plain : (v : Verb) → IsAny v → IsPlain v
+any_plain v is = record { reads = is.reads; judges = is.judges; stops = is.stops; prompt = is.prompt }
+
+pub any_behaves : ShowLaw → (v : Verb) (r : Run) (result : Result Answer Failure) (status : ℕ) → IsVerb v → IsAny v → AnswersInput v r.left r.left_after result →
+    Responds result r.written r.written_after r.writes_failed r.writes_failed_after status → (result ≡ Err Read → Rose r.reads_failed r.reads_failed_after) →
+    TakesFront r.left r.left_after → r.reads_failed ≤ r.reads_failed_after → TakesOneText r.left r.left_after → IfOk result (λ _. TakesFewAfter r.left r.left_after) →
+    Behaves v r status
+any_behaves law v r result status is any answers wrote failed taken later few after =
+    let runs = runs_answer v r result status (any_plain v any) (outcomes law v is) answers wrote failed taken later in
+    record {
+      runs = runs;
+      complete = completes v (outcomes law v is) r status runs;
+      few = λ wanted. few;
+      marker = λ alone reads judged. judged_answer result r.written r.written_after r.writes_failed r.writes_failed_after status _ wrote after judged;
+      reading = any.reading r status;
+      headline = headlines v is r status runs;
+    }
+
+-- ---- two texts
+
+pub two_plain : (depth : Option ℕ) (limit : ℕ) (v : Verb) → IsTwo depth limit v → IsPlain v
+two_plain depth limit v is = record { reads = ap (λ (w : Ways). w.reads) is.ways; judges = is.judges; stops = is.stops; prompt = is.prompt }
+
+-- it wants a second text
+wants : (depth : Option ℕ) (limit : ℕ) (v : Verb) → IsTwo depth limit v → v.ways.has_second ≡ false → ⊥
+wants depth limit v is alone = let e : true ≡ false = sym (ap (λ (w : Ways). w.has_second) is.ways) ∙ alone in absurd (cc)
+
+-- What was answered for the two texts of a source and written.
+pub two_behaves : ShowLaw → (depth : Option ℕ) (limit : ℕ) (v : Verb) (r : Run) (result : Result Answer Failure) (status : ℕ) → IsVerb v → IsTwo depth limit v → AnswersInput v r.left r.left_after result →
+    Responds result r.written r.written_after r.writes_failed r.writes_failed_after status → (result ≡ Err Read → Rose r.reads_failed r.reads_failed_after) →
+    TakesFront r.left r.left_after → r.reads_failed ≤ r.reads_failed_after →
+    (IfSome r.left (λ all. show_limit < length (part_of all)) → TakesOneText r.left r.left_after) → IfOk result (λ _. IsReadBoth limit r.left r.left_after) → Behaves v r status
+two_behaves law depth limit v r result status is two answers wrote failed taken later few both =
+    let runs = runs_answer v r result status (two_plain depth limit v two) (outcomes law v is) answers wrote failed taken later in
+    record {
+      runs = runs;
+      complete = completes v (outcomes law v is) r status runs;
+      few = λ wanted. elim wanted [
+        | inl alone ↦ absurd (wants depth limit v two alone)
+        | inr long ↦ few long
+      ];
+      marker = λ alone reads judged. absurd (wants depth limit v two alone);
+      reading = two.reading r status (λ judged. judged_answer result r.written r.written_after r.writes_failed r.writes_failed_after status _ wrote both judged);
+      headline = headlines v is r status runs;
+    }

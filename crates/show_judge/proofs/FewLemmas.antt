@@ -1,0 +1,76 @@
+-- How much was read of a text that is too long.
+use Rattle.std.proofs.Common.{◌≡◌, ◌⊎◌, inl, inr, ℕ, ◌+◌, ◌<◌, ◌≤◌, Bool, true, false, cond, ◌||◌, List, [], ◌∷◌, ◌++◌, length, length-append, Option, Some, None, IfSome, refl, ap, subst, arith}
+use Rattle.std.specs.Prelude.{bytes_eq}
+use Rattle.std.specs.List.{join_with_byte}
+use Rattle.std.proofs.lemmas.Slice.Eq.{bytes_eq-Decides}
+use Rattle.std.proofs.lemmas.List.Splits.{join_with_byte-slice_split}
+use Rattle.text_lines.specs.Lines.{between_feeds}
+use Rattle.text_lines.specs.Marker.{has_marker, is_marker, lines_after, lines_before, part_of, rest_of}
+use Rattle.text_lines.specs.Marker.{ended as ended_lines}
+use Rattle.fleet_io.specs.Held.{Held, stream}
+use Rattle.fleet_io.specs.Parts.{TakesFewAfter}
+use Rattle.fleet_io.specs.Taken.{TakesAtMost}
+use Rattle.show_judge.specs.Shows.{show_limit}
+
+-- where nothing waits the bytes to come are those of the source
+pub stream_new : (held : Held) (left : Option (List ℕ)) → held.waiting ≡ [] → stream held left ≡ left
+stream_new held None none = refl
+stream_new held (Some bytes) none = rw none refl
+
+or_true : (a b : Bool) → (a || b) ≡ true → (a ≡ true) ⊎ (b ≡ true)
+or_true true b e = inl refl
+or_true false b e = inr e
+
+-- a marker line has at least two bytes
+marker_length : (line : List ℕ) → is_marker line ≡ true → 2 ≤ length line
+marker_length line is = elim (or_true (bytes_eq line (37 ∷ 37 ∷ [])) (bytes_eq line (37 ∷ 37 ∷ 13 ∷ [])) is) [
+  | inl e ↦ omega (arith, ap (λ (xs : List ℕ). length xs) ((bytes_eq-Decides line (37 ∷ 37 ∷ [])).0 e))
+  | inr e ↦ omega (arith, ap (λ (xs : List ℕ). length xs) ((bytes_eq-Decides line (37 ∷ 37 ∷ 13 ∷ [])).0 e))
+]
+
+-- Nothing stands after a marker line, or what stands before it and after it leaves at least three bytes of the text to it.
+abbrev pub AreApart : List ℕ → List ℕ → List ℕ → Type 0
+AreApart front rest text = (rest ≡ []) ⊎ (length front + 3 + length rest ≤ length text)
+
+apart_lines : (lines : List (List ℕ)) → has_marker lines ≡ true → AreApart (ended_lines (lines_before lines)) (join_with_byte 10 (lines_after lines)) (join_with_byte 10 lines)
+apart_lines [] is = absurd (let e : false ≡ true = is in cc)
+apart_lines (line ∷ []) is = by (is_marker line) is
+  where
+    by : (b : Bool) → (b || false) ≡ true → AreApart (ended_lines (cond b [] (line ∷ []))) (join_with_byte 10 (cond b [] [])) line
+    by true found = inl refl
+    by false found = absurd (cc)
+apart_lines (line ∷ next ∷ lines) is = by (is_marker line) refl is (apart_lines (next ∷ lines))
+  where
+    by : (b : Bool) → is_marker line ≡ b → (b || has_marker (next ∷ lines)) ≡ true →
+        (has_marker (next ∷ lines) ≡ true → AreApart (ended_lines (lines_before (next ∷ lines))) (join_with_byte 10 (lines_after (next ∷ lines))) (join_with_byte 10 (next ∷ lines))) →
+        AreApart (ended_lines (cond b [] (line ∷ lines_before (next ∷ lines)))) (join_with_byte 10 (cond b (next ∷ lines) (lines_after (next ∷ lines)))) (line ++ 10 ∷ join_with_byte 10 (next ∷ lines))
+    by true marks found more = inr (omega (arith, marker_length line marks, length-append line (10 ∷ join_with_byte 10 (next ∷ lines))))
+    by false marks found more = elim (more found) [
+      | inl none ↦ inl none
+      | inr long ↦ inr (omega (
+        arith,
+        long,
+        length-append line (10 ∷ join_with_byte 10 (next ∷ lines)),
+        length-append line (10 ∷ []),
+        length-append (line ++ 10 ∷ []) (ended_lines (lines_before (next ∷ lines))),
+      ))
+    ]
+
+apart_text : (text : List ℕ) → AreApart (part_of text) (rest_of text) text
+unfolding part_of rest_of
+apart_text text = by (has_marker (between_feeds text)) refl
+  where
+    by : (b : Bool) → has_marker (between_feeds text) ≡ b →
+        AreApart (cond b (ended_lines (lines_before (between_feeds text))) text) (cond b (join_with_byte 10 (lines_after (between_feeds text))) []) text
+    by true is = subst (λ (all : List ℕ). AreApart (ended_lines (lines_before (between_feeds text))) (join_with_byte 10 (lines_after (between_feeds text))) all)
+        (join_with_byte-slice_split 10 text) (apart_lines (between_feeds text) is)
+    by false is = inl refl
+
+-- where a show's text is too long, at most 4,096 bytes after its marker line were taken
+pub few_after_long : (old new : Option (List ℕ)) → IfSome old (λ all. show_limit < length (part_of all)) → TakesAtMost (show_limit + 4 + 4096) old new → TakesFewAfter old new
+few_after_long None new long few = tt
+few_after_long (Some all) None long few = tt
+few_after_long (Some all) (Some rest) long few = elim (apart_text all) [
+  | inl none ↦ omega (arith, ap (λ (xs : List ℕ). length xs) none)
+  | inr apart ↦ omega (arith, apart, long, few)
+]

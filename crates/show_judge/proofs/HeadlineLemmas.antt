@@ -1,0 +1,87 @@
+-- What status 0 says, from what a run promises.
+use Rattle.std.proofs.Common.{◌≡◌, ℕ, Bool, true, false, cond, List, Option, Some, None, IfSome, refl, ap, subst, ◌∙◌}
+use Rattle.std.specs.Io.KnownBytes.{Appends}
+use Rattle.std.specs.Option.{option_or}
+use Rattle.text_lines.specs.Lines.{between_feeds}
+use Rattle.text_lines.specs.Marker.{has_marker, part_of}
+use Rattle.choreo_reader.specs.Grammar.{StandsFor}
+use Rattle.choreo_reader.specs.Laws.{ShowLaw}
+use Rattle.choreo_reader.specs.Plain.{PlainShow}
+use Rattle.refusals.specs.declared.refusal.Refusal.{Refusal}
+use Rattle.show_judge.specs.declared.ways.Ways.{Ways}
+use Rattle.show_judge.specs.Headline.{FliesText, SaysOf}
+use Rattle.show_judge.specs.Outcome.{IsSafe, IsSafeBy, IsSafeOutcome, IsVerb}
+use Rattle.show_judge.specs.Refused.{marker_refusal, show_refusal}
+use Rattle.show_judge.specs.Runs.{Behaves, Runs, StopsAtMarker, TakesLittle, told}
+use Rattle.show_judge.specs.Shows.{Cut, cut_of}
+use Rattle.show_judge.specs.Verb.{FliesApart, Judges, Outcome, Run, Verb, of_own, outcome, the_input}
+use Rattle.show_judge.proofs.RunLemmas.{completes, some_map, told_is}
+use Rattle.show_judge.proofs.VerbLemmas.{outcomes}
+
+-- where neither is there, both aren't
+pub none_both : (a b : Option Refusal) → option_or a b ≡ None → (a ≡ None) × (b ≡ None)
+none_both None b none = (refl, none)
+none_both (Some r) b none = absurd (cc)
+
+-- where no marker line is refused, and none may stand there, there is none
+unmarked_by : (second marked : Bool) (r : Refusal) → second ≡ false → cond second None (cond marked (Some r) None) ≡ None → marked ≡ false
+unmarked_by true marked r alone none = absurd (cc)
+unmarked_by false true r alone none = absurd (cc)
+unmarked_by false false r alone none = refl
+
+-- an input without a marker line is its own part
+part_whole : (input : List ℕ) → has_marker (between_feeds input) ≡ false → part_of input ≡ input
+unfolding part_of
+part_whole input unmarked = rw unmarked refl
+
+-- the text of a show that a command of one text accepts is the whole input
+pub whole_input : (w : Ways) (input : List ℕ) (s : PlainShow) → w.has_second ≡ false → show_refusal w (cut_of input) s ≡ None → part_of input ≡ input
+whole_input w input s alone none =
+    let later = none_both _ _ none in
+    let marked : marker_refusal w (cut_of input) ≡ None = (none_both _ _ later.1).0 in
+    part_whole input (unmarked_by w.has_second (has_marker (between_feeds input)) _ alone marked)
+
+-- what a command of one text says of a show that flies apart
+pub says_of : (v : Verb) (text : PlainShow → List ℕ) (input : List ℕ) (o : Outcome) (old new : Option (List ℕ)) → v.ways.has_second ≡ false → (safe : IsSafe v (cut_of input) o) → FliesApart safe.s →
+    o ≡ outcome 0 (text safe.s) → Appends old new o.output → SaysOf text input old new
+says_of v text input o old new alone safe flies is appended = record {
+  s = safe.s;
+  stands = subst (λ (whole : List ℕ). StandsFor whole safe.s) (whole_input v.ways input safe.s alone safe.accepted) safe.stands;
+  near = safe.near;
+  apart = flies.apart;
+  written = subst (λ (output : List ℕ). Appends old new output) (ap (λ (p : Outcome). p.output) is) appended;
+}
+
+-- the show's text of an input whose show flies apart
+pub flies_text : (v : Verb) (input : List ℕ) (o : Outcome) → (safe : IsSafe v (cut_of input) o) → FliesApart safe.s → FliesText (part_of input)
+flies_text v input o safe flies = record { s = safe.s; stands = safe.stands; near = safe.near; apart = flies.apart }
+
+-- the headline of a run with status 0
+pub headlines : (v : Verb) → IsVerb v → (r : Run) (status : ℕ) → Runs v r status → status ≡ 0 → IfSome (told v r) (λ input. v.headline input r.written r.written_after)
+headlines v is r status runs done = some_map (told v r) _ _ (λ input came. is.headline input came.0 r.written r.written_after came.1 came.2) (runs.safe done)
+
+-- A run of a command with what it read.
+pub behaves_of : ShowLaw → (v : Verb) → IsVerb v → (r : Run) (status : ℕ) → Runs v r status → TakesLittle v r → StopsAtMarker v r status → v.reading r status → Behaves v r status
+behaves_of show v is r status runs few marker reading = record {
+  runs = runs;
+  few = few;
+  marker = marker;
+  reading = reading;
+  complete = completes v (outcomes show v is) r status runs;
+  headline = headlines v is r status runs;
+}
+
+-- status 0 of a command that promises of the show of its input that it flies apart
+pub flies_of : (v : Verb) → v.ways.reads ≡ true → v.judges ≡ the_input → ((s : PlainShow) (cut : Cut) → v.promises s cut → FliesApart s) → (input : List ℕ) (r : Run) (status : ℕ) → Runs v r status →
+    r.left ≡ Some input → status ≡ 0 → FliesText (part_of input)
+flies_of v reads judges promised input r status runs left done =
+    let came : (o : Outcome) × IsSafeOutcome v input o × Appends r.written r.written_after o.output =
+    subst (λ (t : Option (List ℕ)). IfSome t (λ i. (o : Outcome) × IsSafeOutcome v i o × Appends r.written r.written_after o.output)) (told_is v r reads ∙ left) (runs.safe done) in
+    let safe : IsSafe v (cut_of input) came.0 = subst (λ (j : Judges). IsSafeBy v j input came.0) judges came.1 in
+    flies_text v input came.0 safe (promised safe.s (cut_of input) safe.promised)
+
+-- the same of one that judges a text of its own
+pub flies_own : (depth : ℕ) (own : List ℕ) (text : PlainShow → List ℕ) (r : Run) (status : ℕ) → Runs (of_own depth own text) r status → status ≡ 0 → FliesText (part_of own)
+flies_own depth own text r status runs done =
+    let came : (o : Outcome) × IsSafe (of_own depth own text) (cut_of own) o × Appends r.written r.written_after o.output = runs.safe done in
+    flies_text (of_own depth own text) own came.0 came.1 came.1.promised

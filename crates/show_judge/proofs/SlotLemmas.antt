@@ -1,0 +1,74 @@
+-- The drones that slots name, and so those that a blocked part and a fault of a certificate name.
+use Rattle.std.proofs.Common.{◌≡◌, ℕ, zero, suc, ◌+◌, ◌^◌, ◌<◌, ◌≤◌, All, List, [], ◌∷◌, length, Option, Some, None, subst, arith}
+use Rattle.std.specs.Option.{option_map, option_or}
+use Rattle.std.proofs.lemmas.List.Elements.{All-nil, All-cons, All-head, All-tail, All-append}
+use Rattle.choreo_reader.specs.declared.show.Settings.{Settings}
+use Rattle.traj_codec.specs.declared.traj.Traj.{Traj}
+use Rattle.sep_parts.specs.declared.clearance.Clearance.{Clearance}
+use Rattle.sep_parts.specs.declared.slot.Slot.{Slot}
+use Rattle.fleet_curves.specs.Raised.{Raised, raised_of}
+use Rattle.sep_parts.specs.Slots.{slots, slot_at, cues_from, pairs_from, drones_from}
+use Rattle.sep_certificate.specs.declared.certificate.CertFault.{CertFault}
+use Rattle.sep_certificate.specs.declared.certificate.CertFault.TheVariants as cert
+use Rattle.sep_certificate.specs.declared.certificate.Certificate.{Certificate}
+use Rattle.sep_certificate.specs.Certificates.{IsFaultOf}
+use Rattle.pair_search.specs.Search.{blocked_place}
+use Rattle.show_plan.specs.declared.fitted.PlanFault.TheVariants as fault
+use Rattle.show_plan.specs.Separation.{blocked_at, blocked_in, blocked_part, clearance_of, direction_at, slots_of}
+use Rattle.show_judge.specs.Steps.{IsFaultAmong}
+
+-- both drones of the slot are among this many
+abbrev pub IsAmong : ℕ → Slot → Type 0
+IsAmong n s = (s.a < n) × (s.b < n)
+
+cues_among : (k n a b cue : ℕ) → a < n → b < n → All (IsAmong n) (cues_from k a b cue)
+cues_among zero n a b cue p q = All-nil (IsAmong n)
+cues_among (suc k) n a b cue p q = All-cons (IsAmong n) (slot_at a b cue) (cues_from k a b (suc cue)) (p, q) (cues_among k n a b (suc cue) p q)
+
+pairs_among : (k n cues a b : ℕ) → a < n → b + k ≤ n → All (IsAmong n) (pairs_from k cues a b)
+pairs_among zero n cues a b p q = All-nil (IsAmong n)
+pairs_among (suc k) n cues a b p q =
+    All-append (IsAmong n) (cues_from cues a b 0) (pairs_from k cues a (suc b)) (cues_among cues n a b 0 p (omega arith)) (pairs_among k n cues a (suc b) p (omega arith))
+
+drones_among : (k n cues a : ℕ) → a + k ≤ n → All (IsAmong n) (drones_from k cues a)
+drones_among zero n cues a q = All-nil (IsAmong n)
+drones_among (suc k) n cues a q =
+    All-append (IsAmong n) (pairs_from k cues a (suc a)) (drones_from k cues (suc a)) (pairs_among k n cues a (suc a) (omega arith) (omega arith)) (drones_among k n cues (suc a) (omega arith))
+
+-- the slots of this many drones name these alone
+pub slots_among : (n cues : ℕ) → All (IsAmong n) (slots n cues)
+unfolding slots
+slots_among n cues = drones_among n n cues 0 (omega arith)
+
+-- ---- a blocked part
+
+-- a blocked part names drones that some slot names
+blocked_among : (e : Clearance) (depth : ℕ) (curves : Raised) (n : ℕ) (ss : List Slot) (a b cue index : ℕ) → All (IsAmong n) ss → blocked_in e depth curves ss ≡ Some (fault.Blocked a b cue index) → (a < n) × (b < n)
+blocked_among e depth curves n [] a b cue index all is = absurd (cc)
+blocked_among e depth curves n (s ∷ ss) a b cue index all is =
+    by_place (blocked_place (direction_at e curves s) depth) is (blocked_among e depth curves n ss a b cue index (All-tail (IsAmong n) s ss all))
+  where
+    here : IsAmong n s
+    here = All-head (IsAmong n) s ss all
+
+    by_place : (o : Option ℕ) → option_or (option_map (blocked_at s) o) (blocked_in e depth curves ss) ≡ Some (fault.Blocked a b cue index) →
+        (blocked_in e depth curves ss ≡ Some (fault.Blocked a b cue index) → (a < n) × (b < n)) → (a < n) × (b < n)
+    by_place None is later = later is
+    by_place (Some k) is later =
+        let first : s.a ≡ a = cc in
+        let second : s.b ≡ b = cc in
+        (subst (λ (d : ℕ). d < n) first here.0, subst (λ (d : ℕ). d < n) second here.1)
+
+-- of trajectories
+pub part_among : (e : Settings) (depth : ℕ) (trajs : List Traj) (a b cue index : ℕ) → blocked_part e depth trajs ≡ Some (fault.Blocked a b cue index) → (a < length trajs) × (b < length trajs)
+unfolding raised_of
+part_among e depth trajs a b cue index is = blocked_among (clearance_of e trajs) depth (raised_of trajs) (length trajs) (slots_of trajs) a b cue index (slots_among (length trajs) (raised_of trajs).cues) is
+
+-- ---- a fault of a certificate
+
+-- what a fault of a certificate names is there, and so its drones are among those of the curves
+pub fault_among : (curves : Raised) (c : Certificate) (f : CertFault) → length c.trees < 2 ^ 31 → IsFaultOf curves c f → IsFaultAmong curves.drones c.version f
+fault_among curves c (cert.Missing a b cue) few is = (omega (arith, is.first, is.second), is.second)
+fault_among curves c (cert.Extra tree) few is = omega (arith, is, few)
+fault_among curves c (cert.TooDeep a b cue) few is = (omega (arith, is.first, is.second), is.second)
+fault_among curves c (cert.Fails a b cue place dir control) few is = (omega (arith, is.0.first, is.0.second), is.0.second, is.1)

@@ -1,0 +1,169 @@
+-- A run of a command that reads nothing.
+use Rattle.std.proofs.Common.{◌≡◌, inl, inr, ℕ, List, Option, Some, None, Result, Ok, Err, IfOk, refl, sym, ap, subst, ◌∙◌, arith}
+use Rattle.std.specs.Io.KnownBytes.{Appends}
+use Rattle.choreo_reader.specs.Laws.{ShowLaw}
+use Rattle.choreo_reader.specs.Plain.{PlainShow}
+use Rattle.fleet_io.proofs.TakenLemmas.{TakesFront-none}
+use Rattle.show_judge.specs.declared.ends.Answer.{Answer}
+use Rattle.show_judge.specs.declared.ends.Failure.{Failure}
+use Rattle.show_judge.specs.declared.ends.Failure.TheVariants.{Read, Memory}
+use Rattle.show_judge.specs.Answers.{IsSaid, Responds, Wrote, outcome_of}
+use Rattle.show_judge.specs.Outcome.{IsOutcomeOf, IsSafe, IsVerb, OutcomeLaw}
+use Rattle.show_judge.specs.Input.{TakesOneText}
+use Rattle.show_judge.specs.Runs.{Behaves, Runs}
+use Rattle.show_judge.specs.Shows.{cut_of}
+use Rattle.show_judge.specs.Verb.{Judges, Outcome, Run, nothing, of_nothing, of_own, outcome, run_of}
+use Rattle.show_judge.proofs.HeadlineLemmas.{headlines, says_of}
+use Rattle.show_judge.proofs.RunLemmas.{answer_among, answer_judged, completes, runs_memory}
+use Rattle.show_judge.proofs.VerbLemmas.{outcomes}
+
+-- at most so much was taken of what was left
+few_taken : (left : Option (List ℕ)) → TakesOneText left left
+few_taken None = tt
+few_taken (Some bytes) = omega arith
+
+-- ---- one that judges nothing
+
+-- it keeps the laws of a command
+pub nothing_verb : (bytes : List ℕ) → IsVerb (of_nothing bytes)
+nothing_verb bytes = record {
+  one = λ s cut o p first second. first ∙ sym second;
+  some = λ s cut known. (outcome 0 bytes, refl);
+  done = λ s cut o gives succeeds. ap (λ (o : Outcome). o.status) gives;
+  apart = λ d s cut searched apart. tt;
+  headline = λ input o old new is appended. subst (λ (output : List ℕ). Appends old new output) (ap (λ (p : Outcome). p.output) is) appended;
+}
+
+same_bytes : (a b : List ℕ) → nothing a ≡ nothing b → a ≡ b
+same_bytes a b same = cc
+
+runs_nothing : (bytes : List ℕ) (left : Option (List ℕ)) (faults : ℕ) (old new : Option (List ℕ)) (before after status : ℕ) → Wrote 0 bytes old new before after status →
+    Runs (of_nothing bytes) (run_of left left faults faults old new before after) status
+runs_nothing bytes left faults old new before after status wrote = elim wrote [
+  | inl (e, appends, later) ↦ record {
+    outcome = λ judged. (outcome 0 bytes, refl, e, appends);
+    exact = λ quiet o is. inl (e ∙ sym (ap (λ (p : Outcome). p.status) is), rw is appends);
+    safe = λ zero. (outcome 0 bytes, refl, appends);
+    whole = λ zero all. absurd (cc);
+    one = λ one. absurd (omega (arith, one, e));
+    always = λ output is. inr (e, subst (λ (xs : List ℕ). Appends old new xs) (same_bytes bytes output is) appends);
+    six = λ six. absurd (omega (arith, six, e));
+    stopped = λ six. absurd (omega (arith, six, e));
+    seven = λ seven. absurd (omega (arith, seven, e));
+    prompt = λ seven. tt;
+    unread = λ none. (refl, refl);
+    known = (0, omega arith, rw e refl);
+    taken = TakesFront-none left;
+    reads_later = omega arith;
+    writes_later = later;
+  }
+  | inr (e, rose, front, later) ↦ record {
+    outcome = λ judged. absurd (judged.2 e);
+    exact = λ quiet. absurd (quiet.1 rose);
+    safe = λ zero. absurd (omega (arith, zero, e));
+    whole = λ zero all. absurd (cc);
+    one = λ one. absurd (omega (arith, one, e));
+    always = λ output is. inl e;
+    six = λ six. absurd (omega (arith, six, e));
+    stopped = λ six. absurd (omega (arith, six, e));
+    seven = λ seven. (rose, (bytes, inl (outcome 0 bytes, refl, refl), front));
+    prompt = λ seven. tt;
+    unread = λ none. (refl, refl);
+    known = (6, omega arith, rw e refl);
+    taken = TakesFront-none left;
+    reads_later = omega arith;
+    writes_later = later;
+  }
+]
+
+-- What was written of it.
+pub nothing_behaves : ShowLaw → (bytes : List ℕ) (left : Option (List ℕ)) (faults : ℕ) (old new : Option (List ℕ)) (before after status : ℕ) → Wrote 0 bytes old new before after status →
+    Behaves (of_nothing bytes) (run_of left left faults faults old new before after) status
+nothing_behaves law bytes left faults old new before after status wrote =
+    let r : Run = run_of left left faults faults old new before after in
+    let runs = runs_nothing bytes left faults old new before after status wrote in
+    record {
+      runs = runs;
+      few = λ wanted. few_taken left;
+      marker = λ alone reads judged. absurd (cc);
+      reading = tt;
+      complete = completes (of_nothing bytes) (outcomes law (of_nothing bytes) (nothing_verb bytes)) r status runs;
+      headline = headlines (of_nothing bytes) (nothing_verb bytes) r status runs;
+    }
+
+-- ---- one that judges a text of its own
+
+-- it keeps the laws of a command
+pub own_verb : (depth : ℕ) (own : List ℕ) (text : PlainShow → List ℕ) → IsVerb (of_own depth own text)
+own_verb depth own text = record {
+  one = λ s cut o p first second. first ∙ sym second;
+  some = λ s cut known. (outcome 0 (text s), refl);
+  done = λ s cut o gives succeeds. ap (λ (o : Outcome). o.status) gives;
+  apart = λ d s cut searched apart. apart;
+  headline = λ input o old new safe appended. says_of (of_own depth own text) text own o old new refl safe safe.promised safe.gives appended;
+}
+
+runs_own : ShowLaw → (depth : ℕ) (own : List ℕ) (text : PlainShow → List ℕ) (result : Result Answer Failure) (left : Option (List ℕ)) (faults : ℕ) (old new : Option (List ℕ)) (before after status : ℕ) →
+    IfOk result (λ a. IsOutcomeOf (of_own depth own text) (cut_of own) (outcome_of a)) →
+    IfOk result (λ a. (outcome_of a).status ≡ 0 → IsSafe (of_own depth own text) (cut_of own) (outcome_of a)) → IfOk result IsSaid → (result ≡ Err Read → ⊥) →
+    Responds result old new before after status → Runs (of_own depth own text) (run_of left left faults faults old new before after) status
+runs_own show depth own text (Err Read) left faults old new before after status is safe said read wrote = absurd (read refl)
+runs_own show depth own text (Err Memory) left faults old new before after status is safe said read wrote =
+    runs_memory (of_own depth own text) (run_of left left faults faults old new before after) status (λ output is. absurd (cc)) (λ r. tt) wrote.0 wrote.1 wrote.2 (λ none. (refl, refl)) (TakesFront-none left) (omega arith)
+runs_own show depth own text (Ok a) left faults old new before after status is safe said read wrote =
+    let law : OutcomeLaw (of_own depth own text) = outcomes show (of_own depth own text) (own_verb depth own text) in
+    elim wrote [
+      | inl (e, appends, later) ↦ record {
+        outcome = λ judged. (outcome_of a, is, e, appends);
+        exact = λ quiet p is_p.
+            let same : outcome_of a ≡ p = law.one (cut_of own) (outcome_of a) p is is_p in
+            inl (e ∙ ap (λ (q : Outcome). q.status) same, subst (λ (q : Outcome). Appends old new q.output) same appends);
+        safe = λ done. (outcome_of a, safe (sym e ∙ done), appends);
+        whole = λ done all. absurd (cc);
+        one = λ one. absurd ((answer_judged a said).0 (sym e ∙ one));
+        always = λ output is. absurd (cc);
+        six = λ six. absurd ((answer_judged a said).1 (sym e ∙ six));
+        stopped = λ six. absurd ((answer_judged a said).1 (sym e ∙ six));
+        seven = λ seven. absurd ((answer_judged a said).2 (sym e ∙ seven));
+        prompt = λ seven. tt;
+        unread = λ none. (refl, refl);
+        known = rw e (answer_among a said);
+        taken = TakesFront-none left;
+        reads_later = omega arith;
+        writes_later = later;
+      }
+      | inr (e, rose, front, later) ↦ record {
+        outcome = λ judged. absurd (judged.2 e);
+        exact = λ quiet. absurd (quiet.1 rose);
+        safe = λ done. absurd (omega (arith, done, e));
+        whole = λ done all. absurd (cc);
+        one = λ one. absurd (omega (arith, one, e));
+        always = λ output is. inl e;
+        six = λ six. absurd (omega (arith, six, e));
+        stopped = λ six. absurd (omega (arith, six, e));
+        seven = λ seven. (rose, ((outcome_of a).output, inl (outcome_of a, is, refl), front));
+        prompt = λ seven. tt;
+        unread = λ none. (refl, refl);
+        known = (6, omega arith, rw e refl);
+        taken = TakesFront-none left;
+        reads_later = omega arith;
+        writes_later = later;
+      }
+    ]
+
+-- What was answered for it and written.
+pub own_behaves : ShowLaw → (depth : ℕ) (own : List ℕ) (text : PlainShow → List ℕ) (result : Result Answer Failure) (left : Option (List ℕ)) (faults : ℕ) (old new : Option (List ℕ)) (before after status : ℕ) →
+    IfOk result (λ a. IsOutcomeOf (of_own depth own text) (cut_of own) (outcome_of a)) →
+    IfOk result (λ a. (outcome_of a).status ≡ 0 → IsSafe (of_own depth own text) (cut_of own) (outcome_of a)) → IfOk result IsSaid → (result ≡ Err Read → ⊥) →
+    Responds result old new before after status → Behaves (of_own depth own text) (run_of left left faults faults old new before after) status
+own_behaves show depth own text result left faults old new before after status is safe said read wrote =
+    let r : Run = run_of left left faults faults old new before after in
+    let runs = runs_own show depth own text result left faults old new before after status is safe said read wrote in
+    record {
+      runs = runs;
+      few = λ wanted. few_taken left;
+      marker = λ alone reads judged. absurd (cc);
+      reading = tt;
+      complete = completes (of_own depth own text) (outcomes show (of_own depth own text) (own_verb depth own text)) r status runs;
+      headline = headlines (of_own depth own text) (own_verb depth own text) r status runs;
+    }

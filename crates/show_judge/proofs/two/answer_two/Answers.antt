@@ -1,0 +1,32 @@
+use Rattle.std.proofs.Common.{ap, sym, Some, subst}
+use Rattle.show_judge.specs.declared.judging.Judged.TheVariants.{Accepted}
+use Rattle.show_judge.specs.declared.ways.Ways.{Ways}
+use Rattle.show_judge.specs.Answers.{EndsJudged}
+use Rattle.show_judge.specs.Verb.{two_ways}
+use Rattle.show_judge.specs.Answers.{IsAccepted, IsRefusedBy}
+use Rattle.show_judge.proofs.AnswerLemmas.{accepted_lands, two_accepted, two_refused}
+use Rattle.show_judge.proofs.two.answer_two.Goals as goal
+
+pub answer-requires-clause-lands : goal.answer-requires-clause-lands
+answer-requires-clause-lands g c =
+    let depth = g.V.TwoTexts.searched c.args.verb.now in
+    let a = c.in-Accepted.accepted in
+    let ends : EndsJudged (two_ways (Some depth)) c.args.input.now.show (Accepted a) = rw c.in-Accepted.is at c.in_ok-accepted.ensures.whole in
+    accepted_lands (two_ways (Some depth)) depth c.args.input.now.show a ends.0 c.requires.show
+    (λ cut is. rw (c.in-Accepted.is, c.depth-depth.ensures.value) at (c.in_ok-accepted.ensures.gives cut is))
+
+pub returns-in-Accepted : goal.returns-in-Accepted
+returns-in-Accepted g c =
+    let depth = g.V.TwoTexts.searched c.args.verb.now in
+    let v = g.V.TwoTexts.verb c.args.verb.now in
+    let a = c.in-Accepted.accepted in
+    let ends : EndsJudged (two_ways (Some depth)) c.args.input.now.show (Accepted a) = rw c.in-Accepted.is at c.in_ok-accepted.ensures.whole in
+    two_accepted v c.requires.verb depth (g.V.TwoTexts.most c.args.verb.now) c.args.input.now a c.answer.result
+    (λ cut is. subst (λ (w : Ways). IsAccepted w depth cut a) (sym c.requires.two.ways) (rw (c.in-Accepted.is, c.depth-depth.ensures.value) at (c.in_ok-accepted.ensures.gives cut is)))
+    c.answer.ensures.gives ends.0 c.answer.ensures.whole c.answer.ensures.said
+
+pub returns-in-Refused : goal.returns-in-Refused
+returns-in-Refused g c =
+    two_refused (g.V.TwoTexts.verb c.args.verb.now) (g.V.TwoTexts.most c.args.verb.now) c.args.input.now c.in-Refused.refusal (ap (λ (w : Ways). w.by_frames) c.requires.two.ways)
+    (λ cut is. subst (λ (w : Ways). IsRefusedBy w cut c.in-Refused.refusal) (sym c.requires.two.ways) (rw (c.in-Refused.is, c.depth-depth.ensures.value) at (c.in_ok-accepted.ensures.gives cut is)))
+    (rw c.in-Refused.is at c.in_ok-accepted.ensures.sound)

@@ -1,0 +1,10 @@
+pub mod Shows
+pub mod Refused
+pub mod Input
+pub mod Steps
+pub mod Headline
+pub mod Verb
+pub mod Outcome
+pub mod Runs
+pub mod Answers
+pub mod Prelude

@@ -1,0 +1,92 @@
+//! A command that reads a show's text and answers for what fits.
+ghost use Rattle.std.specs.Prelude.{◌≡◌, ◌≤◌, Err, IfOk};
+ghost use Rattle.choreo_reader.specs.Plain.{PlainShow};
+ghost use Rattle.cue_grid.specs.Cues.{grid_of};
+ghost use Rattle.fleet_io.specs.Causes.{Rose};
+ghost use Rattle.fleet_io.specs.Parts.{TakesFewAfter};
+ghost use Rattle.fleet_io.specs.Taken.{TakesFront};
+ghost use Rattle.show_plan.specs.Fitting.{IsFitted, IsValidFitted};
+ghost use Rattle.show_plan.specs.Landing.{Lands};
+ghost use Rattle.show_plan.specs.Separation.{FlyApart};
+ghost use Rattle.show_judge.specs.Answers.{AnswersInput, AnswersText, IsSaid, outcome_of};
+ghost use Rattle.show_judge.specs.Input.{IsWithin, TakesOneText};
+ghost use Rattle.show_judge.specs.Outcome.{IsVerb, ShowGives};
+ghost use Rattle.show_judge.specs.Refused.{blocked_by};
+ghost use Rattle.show_judge.specs.Runs.{Behaves};
+ghost use Rattle.show_judge.specs.Shows.{Cut, sent_of, show_limit};
+ghost use Rattle.show_judge.specs.Verb.{IsAny, Verb, during};
+
+use crate::ends::{Answer, Failure, respond};
+use crate::input::{Text, read_show_text};
+use crate::judging::{Planned, fit_text};
+use crate::ways::Ways;
+use choreo_reader::show_law;
+use fleet_io::{Sink, Source};
+use show_plan::Fitted;
+use std::alloc::{AllocError, Global};
+
+/// A command that reads a show's text and answers for what fits, whether or not it searches it itself.
+pub trait AnyText {
+    /// The command.
+    ghost verb: { Self → Verb };
+
+    /// What it reads.
+    fn ways(&self) -> Ways
+        ensures { result ≡ (verb self.now).ways };
+
+    /// What it gives for a show that fits.
+    fn answer(&self, alloc: Global, fitted: &Fitted) -> Result<Answer, AllocError>
+        requires valid { IsValidFitted fitted.now }
+        ensures gives { (s : PlainShow) (cut : Cut) → IsFitted fitted.now s
+            → IfOk result (λ a. ShowGives (verb self.now) (blocked_by (verb self.now).ways.depth s) s cut (outcome_of a)) }
+        ensures promised { (s : PlainShow) (cut : Cut) → IsFitted fitted.now s → (FlyApart s.settings (sent_of s) → Lands (grid_of s) s.settings (sent_of s))
+            → IfOk result (λ a. (outcome_of a).status ≡ 0 → (verb self.now).promises s cut) }
+        ensures said { IfOk result IsSaid };
+}
+
+// What the command ends with for a show's text.
+fn answer_text<V: AnyText>(alloc: Global, verb: &V, text: &Text) -> Result<Answer, AllocError>
+    requires any { IsAny (V.verb verb.now) }
+    requires short { IsWithin show_limit text.now }
+    ensures { AnswersText (V.verb verb.now) text.now result }
+{
+    let ways = verb.ways();
+    match fit_text(alloc, ways, text)? {
+        Planned::Fits { fitted } => verb.answer(alloc, &fitted),
+        Planned::Refused { refusal } => Ok(Answer::Refused { refusal }),
+    }
+}
+
+// What the command ends with for what its source gives.
+fn answer_input<V: AnyText, S: Source>(
+    alloc: Global,
+    verb: &V,
+    source: &mut S,
+) -> Result<Answer, Failure>
+    requires any { IsAny (V.verb verb.now) }
+    ensures answers { AnswersInput (V.verb verb.now) (S.left source.old) (S.left source.new) result }
+    ensures failed { result ≡ Err Failure.Read → Rose (S.faults source.old) (S.faults source.new) }
+    ensures later { S.faults source.old ≤ S.faults source.new }
+    ensures few { TakesOneText (S.left source.old) (S.left source.new) }
+    ensures after { IfOk result (λ _. TakesFewAfter (S.left source.old) (S.left source.new)) }
+    ensures left { TakesFront (S.left source.old) (S.left source.new) }
+{
+    let text = read_show_text(alloc, source)?;
+    Ok(answer_text(alloc, verb, &text)?)
+}
+
+/// Runs a command that answers for what fits, or says the first reason why the show is refused.
+pub fn run_any<V: AnyText, S: Source, K: Sink>(
+    alloc: Global,
+    verb: &V,
+    source: &mut S,
+    sink: &mut K,
+) -> u8
+    requires verb { IsVerb (V.verb verb.now) }
+    requires any { IsAny (V.verb verb.now) }
+    ensures { Behaves (V.verb verb.now) (during S.left S.faults K.written K.faults source.old source.new sink.old sink.new) result }
+{
+    show_law();
+    let answer = answer_input(alloc, verb, source);
+    respond(sink, &answer)
+}

@@ -1,0 +1,90 @@
+//! A command that reads a show's text and writes one text of it.
+ghost use Rattle.std.specs.Prelude.{◌≡◌, ◌≤◌, ℕ, List, Err, IfOk};
+ghost use Rattle.choreo_reader.specs.Plain.{PlainShow};
+ghost use Rattle.fleet_io.specs.Causes.{Rose};
+ghost use Rattle.fleet_io.specs.Parts.{TakesFewAfter};
+ghost use Rattle.fleet_io.specs.Taken.{TakesFront};
+ghost use Rattle.show_plan.specs.Fitting.{IsFitted, IsValidFitted};
+ghost use Rattle.show_judge.specs.Answers.{AnswersInput, AnswersText, IsSaid, outcome_of};
+ghost use Rattle.show_judge.specs.Input.{IsWithin, TakesOneText};
+ghost use Rattle.show_judge.specs.Runs.{Behaves};
+ghost use Rattle.show_judge.specs.Shows.{most_depth, nodes_of, show_limit};
+ghost use Rattle.show_judge.specs.Verb.{during, of_show, outcome};
+
+use crate::ends::{Answer, Failure, respond};
+use crate::input::{Text, read_show_text};
+use crate::judging::{Accepted, Judged, accept};
+use crate::ways::Ways;
+use choreo_reader::show_law;
+use fleet_io::{Sink, Source};
+use std::alloc::{AllocError, Global};
+
+/// A command that reads a show's text and writes one text of it.
+pub trait OneText {
+    /// The depth at which it searches.
+    ghost searched: { Self → ℕ };
+
+    /// What it writes of a show.
+    ghost text: { Self → PlainShow → List ℕ };
+
+    /// The depth, at most 8.
+    fn depth(&self) -> u8
+        ensures value { result ≡ searched self.now }
+        ensures most { result ≤ most_depth };
+
+    /// What it writes of a show that is accepted.
+    fn answer(&self, alloc: Global, accepted: &Accepted) -> Result<Answer, AllocError>
+        requires valid { IsValidFitted accepted.now.fitted }
+        ensures said { IfOk result IsSaid }
+        ensures text { (s : PlainShow) → IsFitted accepted.now.fitted s → accepted.now.nodes ≡ nodes_of s (searched self.now)
+            → IfOk result (λ a. outcome_of a ≡ outcome 0 (text self.now s)) };
+}
+
+// What the command ends with for a show's text.
+fn answer_text<V: OneText>(alloc: Global, verb: &V, text: &Text) -> Result<Answer, AllocError>
+    requires short { IsWithin show_limit text.now }
+    ensures { AnswersText (of_show (V.searched verb.now) (V.text verb.now)) text.now result }
+{
+    let depth = verb.depth();
+    let ways = Ways {
+        reads: true,
+        has_second: false,
+        by_frames: false,
+        depth: Some(depth),
+    };
+    match accept(alloc, ways, depth, text)? {
+        Judged::Accepted { accepted } => verb.answer(alloc, &accepted),
+        Judged::Refused { refusal } => Ok(Answer::Refused { refusal }),
+    }
+}
+
+// What the command ends with for what its source gives.
+fn answer_input<V: OneText, S: Source>(
+    alloc: Global,
+    verb: &V,
+    source: &mut S,
+) -> Result<Answer, Failure>
+    ensures answers { AnswersInput (of_show (V.searched verb.now) (V.text verb.now)) (S.left source.old) (S.left source.new) result }
+    ensures failed { result ≡ Err Failure.Read → Rose (S.faults source.old) (S.faults source.new) }
+    ensures later { S.faults source.old ≤ S.faults source.new }
+    ensures few { TakesOneText (S.left source.old) (S.left source.new) }
+    ensures after { IfOk result (λ _. TakesFewAfter (S.left source.old) (S.left source.new)) }
+    ensures left { TakesFront (S.left source.old) (S.left source.new) }
+{
+    let text = read_show_text(alloc, source)?;
+    Ok(answer_text(alloc, verb, &text)?)
+}
+
+/// Runs a command of one text, or says the first reason why the show is refused.
+pub fn run_one<V: OneText, S: Source, K: Sink>(
+    alloc: Global,
+    verb: &V,
+    source: &mut S,
+    sink: &mut K,
+) -> u8
+    ensures { Behaves (of_show (V.searched verb.now) (V.text verb.now)) (during S.left S.faults K.written K.faults source.old source.new sink.old sink.new) result }
+{
+    show_law();
+    let answer = answer_input(alloc, verb, source);
+    respond(sink, &answer)
+}

@@ -1,0 +1,136 @@
+//! What the program reads before it judges: a show's text, and for some commands a second text after it.
+ghost use Rattle.std.specs.Prelude.{◌≡◌, ◌+◌, ◌<◌, ◌≤◌, [], length, IsTrue, IfOk, IfSome, Some};
+ghost use Rattle.std.specs.Io.KnownBytes.{IsAtEnd};
+ghost use Rattle.fleet_io.specs.Held.{stream, text_limit};
+ghost use Rattle.fleet_io.specs.Causes.{Rose};
+ghost use Rattle.fleet_io.specs.Parts.{TakesFewAfter};
+ghost use Rattle.fleet_io.specs.Taken.{TakesAtMost, TakesFront};
+ghost use Rattle.text_lines.specs.Marker.{part_of, rest_of};
+ghost use Rattle.show_judge.specs.Shows.{show_limit};
+ghost use Rattle.show_judge.specs.Input.{GoesOn, IsNextText, IsUnmarked, IsWholeText, IsWithin, ReadsShow, ReadsTwo, TakesOneText};
+
+use crate::ends::Failure;
+use choreo_reader::MOST_BYTES;
+use fleet_io::{IoFault, Part, Parts, Source};
+use std::alloc::Global;
+
+/// A text that was read.
+#[derive(Drop)]
+pub enum Text {
+    /// It is longer than such a text may be.
+    TooLarge,
+    /// All of it, and whether a marker line stands after it.
+    Whole { part: Part },
+}
+
+/// The texts that were read.
+#[derive(Drop)]
+pub struct Input {
+    /// The show's.
+    pub show: Text,
+    /// The second. It has no bytes where the show's text is too large.
+    pub second: Text,
+}
+
+/// The next text of the input, of at most `limit` bytes. `Read` where a read failed.
+pub fn next_text<S: Source>(
+    alloc: Global,
+    parts: &mut Parts,
+    source: &mut S,
+    limit: usize,
+) -> Result<Text, Failure>
+    requires sound { IsTrue parts.old.sound }
+    requires lines { IsTrue parts.old.lines }
+    requires limit { limit ≤ text_limit }
+    requires at_end { IsTrue parts.old.ended → IsAtEnd (S.left source.old) }
+    ensures text { IfOk result (λ text. IsNextText limit text (stream parts.old (S.left source.old))) }
+    ensures within { IfOk result (λ text. IsWithin limit text) }
+    ensures rest { IfOk result (λ text. GoesOn text (stream parts.old (S.left source.old)) (stream parts.new (S.left source.new))) }
+    ensures sound { IfOk result (λ text. IsWholeText text → IsTrue parts.new.sound) }
+    ensures lines { parts.new.lines ≡ parts.old.lines }
+    ensures at_line { IfOk result (λ text. IsWholeText text → IsTrue parts.new.at_line) }
+    ensures at_end { IsTrue parts.new.ended → IsAtEnd (S.left source.new) }
+    ensures whole { IfOk result (λ text. IsUnmarked text → IsAtEnd (S.left source.new)) }
+    ensures few { TakesAtMost (limit + 4 + 4096) (S.left source.old) (S.left source.new) }
+    ensures after { parts.old.waiting ≡ [] → limit ≡ show_limit → IfOk result (λ _. TakesFewAfter (S.left source.old) (S.left source.new)) }
+    ensures past { IfOk result (λ text. IsWholeText text → TakesFewAfter (stream parts.old (S.left source.old)) (S.left source.new)) }
+    ensures failed { result ≡ Err Failure.Read → Rose (S.faults source.old) (S.faults source.new) }
+    ensures later { S.faults source.old ≤ S.faults source.new }
+    ensures left { TakesFront (S.left source.old) (S.left source.new) }
+{
+    match parts.text(alloc, source, limit) {
+        Ok(part) => Ok(Text::Whole { part }),
+        Err(IoFault::TooLong) => Ok(Text::TooLarge),
+        Err(IoFault::Read) => Err(Failure::Read),
+        Err(IoFault::Memory) => Err(Failure::Memory),
+    }
+}
+
+// A text without bytes, where none is read.
+fn no_text(alloc: Global) -> Text
+    ensures { IsWithin 0 result }
+{
+    Text::Whole {
+        part: Part {
+            bytes: Vec::new(alloc),
+            marker: false,
+        },
+    }
+}
+
+// The text after the show's.
+fn read_second<S: Source>(
+    alloc: Global,
+    parts: &mut Parts,
+    source: &mut S,
+    show: &Text,
+    limit: usize,
+) -> Result<Text, Failure>
+    requires limit { limit ≤ text_limit }
+    requires sound { IsWholeText show.now → IsTrue parts.old.sound }
+    requires lines { IsTrue parts.old.lines }
+    requires at_end { IsTrue parts.old.ended → IsAtEnd (S.left source.old) }
+    ensures text { IsWholeText show.now → IfOk result (λ text. IsNextText limit text (stream parts.old (S.left source.old))) }
+    ensures within { IfOk result (λ text. IsWithin limit text) }
+    ensures whole { IsWholeText show.now → IfOk result (λ text. IsUnmarked text → IsAtEnd (S.left source.new)) }
+    ensures past { IsWholeText show.now → IfOk result (λ text. IsWholeText text → TakesFewAfter (stream parts.old (S.left source.old)) (S.left source.new)) }
+    ensures stays { (IsWholeText show.now → ⊥) → S.left source.new ≡ S.left source.old }
+    ensures failed { result ≡ Err Failure.Read → Rose (S.faults source.old) (S.faults source.new) }
+    ensures later { S.faults source.old ≤ S.faults source.new }
+    ensures left { TakesFront (S.left source.old) (S.left source.new) }
+{
+    match show {
+        Text::Whole { .. } => next_text(alloc, parts, source, limit),
+        Text::TooLarge => Ok(no_text(alloc)),
+    }
+}
+
+/// Reads the show's text. A text that is too large ends the reading. `Read` where a read failed.
+pub fn read_show_text<S: Source>(alloc: Global, source: &mut S) -> Result<Text, Failure>
+    ensures show { IfOk result (λ text. ReadsShow (S.left source.old) (S.left source.new) text) }
+    ensures few { TakesOneText (S.left source.old) (S.left source.new) }
+    ensures after { IfOk result (λ _. TakesFewAfter (S.left source.old) (S.left source.new)) }
+    ensures failed { result ≡ Err Failure.Read → Rose (S.faults source.old) (S.faults source.new) }
+    ensures later { S.faults source.old ≤ S.faults source.new }
+    ensures left { TakesFront (S.left source.old) (S.left source.new) }
+{
+    let mut parts = Parts::make();
+    next_text(alloc, &mut parts, source, MOST_BYTES)
+}
+
+/// Reads the show's text, and after its marker line a second one of at most `limit` bytes. A text that is too large ends the
+/// reading. `Read` where a read failed.
+pub fn read_two<S: Source>(alloc: Global, source: &mut S, limit: usize) -> Result<Input, Failure>
+    requires { limit ≤ text_limit }
+    ensures texts { IfOk result (λ input. ReadsTwo limit (S.left source.old) (S.left source.new) input) }
+    ensures few { IfSome (S.left source.old) (λ all. show_limit < length (part_of all)) → TakesOneText (S.left source.old) (S.left source.new) }
+    ensures past { IfOk result (λ input. IsWholeText input.show → IsWholeText input.second → IfSome (S.left source.old) (λ all. TakesFewAfter (Some (rest_of all)) (S.left source.new))) }
+    ensures failed { result ≡ Err Failure.Read → Rose (S.faults source.old) (S.faults source.new) }
+    ensures later { S.faults source.old ≤ S.faults source.new }
+    ensures left { TakesFront (S.left source.old) (S.left source.new) }
+{
+    let mut parts = Parts::make();
+    let show = next_text(alloc, &mut parts, source, MOST_BYTES)?;
+    let second = read_second(alloc, &mut parts, source, &show, limit)?;
+    Ok(Input { show, second })
+}

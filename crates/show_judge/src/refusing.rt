@@ -1,0 +1,204 @@
+//! Why a show or a certificate is refused, from the faults of the crates below.
+ghost use Rattle.std.specs.Prelude.{◌≡◌, ◌<◌, ◌≤◌, length, Some, None, IfOk, IfSome};
+ghost use Rattle.std.specs.List.{All};
+ghost use Rattle.fleet_io.specs.Held.{text_limit};
+ghost use Rattle.fleet_io.specs.Words.{IsWord};
+ghost use Rattle.choreo_reader.specs.Plain.{PlainShow, plain};
+ghost use Rattle.choreo_reader.specs.Valid.{IsValid};
+ghost use Rattle.sep_parts.specs.Versions.{IsVersion};
+ghost use Rattle.refusals.specs.Refusals.{AreNamed};
+ghost use Rattle.show_plan.specs.Fitting.{IsFitted, IsValidFitted, PlanFails, StandsAsWord};
+ghost use Rattle.show_plan.specs.Separation.{FailsBy, blocked_part};
+ghost use Rattle.show_judge.specs.Input.{IsShowText};
+ghost use Rattle.show_judge.specs.Refused.{IsOfInput, blocked_by, marker_refusal, not_valid, pair_at, show_refusal};
+ghost use Rattle.show_judge.specs.Shows.{Cut, marker_number, most_depth, name_at, show_limit};
+ghost use Rattle.show_judge.specs.Steps.{IsFaultAmong};
+
+use crate::input::Text;
+use crate::ways::Ways;
+use choreo_lines::copy_of;
+use choreo_reader::{Name, Show};
+use cue_grid::GridFault;
+use figure_expand::ExpandFault;
+use fleet_io::Part;
+use refusals::{Pair, Refusal};
+use sep_certificate::CertFault;
+use show_plan::{Fitted, PlanFault};
+use std::alloc::AllocError;
+
+/// The name of a drone, which counts from 0.
+pub fn name_at(names: &[Name], drone: u8) -> Name
+    requires drone { drone < length names.now }
+    requires words { All StandsAsWord names.now }
+    ensures name { result ≡ name_at names.now drone }
+    ensures word { IsWord result.items }
+{
+    copy_of(&names[usize::from(drone)])
+}
+
+// Two drones in a cue.
+fn pair_at(names: &[Name], a: u8, b: u8, cue: u16) -> Pair
+    requires a { a < length names.now }
+    requires b { b < length names.now }
+    requires words { All StandsAsWord names.now }
+    ensures pair { result ≡ pair_at names.now a b cue }
+    ensures named { AreNamed result }
+{
+    Pair {
+        first: name_at(names, a),
+        second: name_at(names, b),
+        cue,
+    }
+}
+
+/// The number of the marker line after a text, from 1: each line of the text ends with a line feed.
+pub fn marker_number(text: &[u8]) -> u32
+    requires { length text.now ≤ text_limit }
+    ensures { result ≡ marker_number text.now }
+{
+    let mut number: u32 = 1;
+    for byte in text {
+        if *byte == b'\n' {
+            number += 1;
+        }
+    }
+    number
+}
+
+/// A marker line after the show's text, which each command refuses that wants no bytes after it.
+pub fn marker_refusal(ways: Ways, part: &Part) -> Option<Refusal>
+    requires { length part.now.bytes.items ≤ show_limit }
+    ensures gives { (cut : Cut) → IsShowText (Text.Whole part.now) cut → result ≡ marker_refusal ways cut }
+    ensures said { IfSome result IsOfInput }
+{
+    if ways.has_second {
+        return None;
+    }
+    if part.marker {
+        let line = marker_number(&part.bytes);
+        Some(Refusal::SecondLine { line })
+    } else {
+        None
+    }
+}
+
+// A drone of the show whose trajectory has no room, unless a marker line is refused before.
+fn without_room(ways: Ways, show: &Show, part: &Part, drone: u8, bytes: u32, room: u32) -> Refusal
+    requires valid { IsValid (plain show.now) }
+    requires short { length part.now.bytes.items ≤ show_limit }
+    requires fault { PlanFails (PlanFault.TooLong drone bytes room) (plain show.now) }
+    ensures gives { (cut : Cut) → IsShowText (Text.Whole part.now) cut → show_refusal ways cut (plain show.now) ≡ Some result }
+    ensures said { IsOfInput result }
+{
+    match marker_refusal(ways, part) {
+        Some(refusal) => refusal,
+        None => Refusal::Room {
+            drone: copy_of(&show.drones.as_slice()[usize::from(drone)].name),
+            bytes,
+            room,
+        },
+    }
+}
+
+// A drone of the show whose trajectory has too many segments, unless a marker line is refused before.
+fn without_segments(ways: Ways, show: &Show, part: &Part, drone: u8, segments: u32) -> Refusal
+    requires valid { IsValid (plain show.now) }
+    requires short { length part.now.bytes.items ≤ show_limit }
+    requires fault { PlanFails (PlanFault.TooManySegments drone segments) (plain show.now) }
+    ensures gives { (cut : Cut) → IsShowText (Text.Whole part.now) cut → show_refusal ways cut (plain show.now) ≡ Some result }
+    ensures said { IsOfInput result }
+{
+    match marker_refusal(ways, part) {
+        Some(refusal) => refusal,
+        None => Refusal::Segments {
+            drone: copy_of(&show.drones.as_slice()[usize::from(drone)].name),
+            segments,
+        },
+    }
+}
+
+/// Why a show doesn't fit, or the marker line that is refused before.
+pub fn unfit(ways: Ways, show: &Show, part: &Part, fault: PlanFault) -> Result<Refusal, AllocError>
+    requires valid { IsValid (plain show.now) }
+    requires short { length part.now.bytes.items ≤ show_limit }
+    requires fault { PlanFails fault (plain show.now) }
+    ensures gives { (cut : Cut) → IsShowText (Text.Whole part.now) cut
+        → IfOk result (λ r. show_refusal ways cut (plain show.now) ≡ Some r) }
+    ensures said { IfOk result IsOfInput }
+{
+    match fault {
+        PlanFault::Grid { fault } => match fault {
+            GridFault::Memory => unreachable!(),
+            fault => Ok(Refusal::Grid { fault }),
+        },
+        PlanFault::Expand { fault } => match fault {
+            ExpandFault::OutOfRange { line, axis, value } => {
+                Ok(Refusal::Range { line, axis, value })
+            }
+            ExpandFault::Memory => unreachable!(),
+        },
+        PlanFault::TooManySegments { drone, segments } => {
+            Ok(without_segments(ways, show, part, drone, segments))
+        }
+        PlanFault::TooLong { drone, bytes, room } => {
+            Ok(without_room(ways, show, part, drone, bytes, room))
+        }
+        PlanFault::Blocked { .. } => unreachable!(),
+        PlanFault::Memory => Err(AllocError),
+    }
+}
+
+/// Why a show that fits has no certificate of a depth.
+pub fn unseparated(fitted: &Fitted, depth: u8, fault: PlanFault) -> Result<Refusal, AllocError>
+    requires valid { IsValidFitted fitted.now }
+    requires depth { depth ≤ most_depth }
+    requires fault { FailsBy (blocked_part fitted.now.settings depth fitted.now.trajs) fault }
+    ensures gives { (s : PlainShow) → IsFitted fitted.now s → IfOk result (λ r. blocked_by (Some depth) s ≡ Some r) }
+    ensures said { IfOk result IsOfInput }
+{
+    match fault {
+        PlanFault::Blocked { a, b, cue, index } => Ok(Refusal::Blocked {
+            pair: pair_at(fitted.names.as_slice(), a, b, cue),
+            index,
+            depth,
+        }),
+        PlanFault::Memory => Err(AllocError),
+        PlanFault::Grid { .. }
+        | PlanFault::Expand { .. }
+        | PlanFault::TooManySegments { .. }
+        | PlanFault::TooLong { .. } => unreachable!(),
+    }
+}
+
+/// What is wrong with a certificate of this version for a show of these drones.
+pub fn not_valid(names: &[Name], version: u8, fault: CertFault) -> Refusal
+    requires words { All StandsAsWord names.now }
+    requires version { IsVersion version }
+    requires fault { IsFaultAmong (length names.now) version fault }
+    ensures refusal { result ≡ not_valid names.now version fault }
+    ensures said { IsOfInput result }
+{
+    match fault {
+        CertFault::Missing { a, b, cue } => Refusal::Missing {
+            pair: pair_at(names, a, b, cue),
+        },
+        CertFault::Extra { tree } => Refusal::Extra { version, tree },
+        CertFault::TooDeep { a, b, cue } => Refusal::TooDeep {
+            pair: pair_at(names, a, b, cue),
+        },
+        CertFault::Fails {
+            a,
+            b,
+            cue,
+            place,
+            dir,
+            control,
+        } => Refusal::Fails {
+            pair: pair_at(names, a, b, cue),
+            place,
+            version,
+            dir,
+            control,
+        },
+    }
+}

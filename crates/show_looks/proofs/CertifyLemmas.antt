@@ -1,0 +1,32 @@
+-- What `certify` gives and promises.
+use Rattle.std.proofs.Common.{◌≡◌, ℕ, Result, Ok, Err, IfOk, refl, sym, ap, ◌∙◌}
+use Rattle.std.specs.declared.alloc.AllocError.{AllocError}
+use Rattle.choreo_reader.specs.Plain.{PlainShow}
+use Rattle.cue_grid.specs.Cues.{grid_of}
+use Rattle.show_plan.specs.declared.fitted.Fitted.{Fitted}
+use Rattle.show_plan.specs.Fitting.{IsFitted}
+use Rattle.show_plan.specs.Landing.{Lands}
+use Rattle.show_plan.specs.Separation.{FlyApart}
+use Rattle.show_judge.specs.declared.ends.Answer.{Answer}
+use Rattle.show_judge.specs.Answers.{outcome_of}
+use Rattle.show_judge.specs.Shows.{sent_of}
+use Rattle.show_judge.specs.Verb.{FliesApart, Outcome, outcome}
+use Rattle.show_judge.specs.Outcome.{IsVerb}
+use Rattle.show_judge.proofs.HeadlineLemmas.{says_of}
+use Rattle.show_judge.proofs.PlanLemmas.{apart_of}
+use Rattle.show_looks.specs.Certify.{certify_text, certify_verb}
+
+pub certify_laws : (depth : ℕ) → IsVerb (certify_verb depth)
+certify_laws depth = record {
+  one = λ s cut o p first second. first ∙ sym second;
+  some = λ s cut known. (outcome 0 (certify_text depth s), refl);
+  done = λ s cut o gives succeeds. ap (λ (o : Outcome). o.status) gives;
+  apart = λ d s cut searched apart. apart;
+  headline = λ input o old new safe appended. says_of (certify_verb depth) (certify_text depth) input o old new refl safe safe.promised safe.gives appended;
+}
+
+-- where what fits flies apart, its show does
+pub apart_kept : (f : Fitted) (s : PlainShow) (result : Result Answer AllocError) → IsFitted f s → (FlyApart s.settings (sent_of s) → Lands (grid_of s) s.settings (sent_of s)) →
+    IfOk result (λ a. (outcome_of a).status ≡ 0 → FlyApart f.settings f.sent) → IfOk result (λ a. (outcome_of a).status ≡ 0 → FliesApart s)
+apart_kept f s (Err e) is lands apart = tt
+apart_kept f s (Ok a) is lands apart = λ done. let of_show = apart_of f s is (apart done) in record { apart = of_show; lands = lands of_show }

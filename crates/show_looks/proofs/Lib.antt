@@ -1,0 +1,4 @@
+mod ReportLemmas
+pub mod CertifyLemmas
+pub mod CompileLemmas
+mod PlayLemmas

@@ -1,0 +1,8 @@
+use Rattle.show_judge.proofs.DriverLemmas.{show_verb}
+use Rattle.show_judge.proofs.HeadlineLemmas.{behaves_of}
+use Rattle.show_looks.specs.Play.{play_verb, rows}
+use Rattle.show_looks.proofs.playing.play.Goals as goal
+
+pub returns : goal.returns
+returns g c =
+    behaves_of c.show_law.ensures (play_verb c.args.depth c.args.step) (show_verb c.args.depth (rows c.args.step)) _ c.carry.result c.carry.ensures.runs c.carry.ensures.few c.carry.ensures.marker tt

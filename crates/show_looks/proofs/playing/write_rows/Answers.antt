@@ -1,0 +1,11 @@
+use Rattle.std.proofs.Common.{All, subst, sym, ◌∙◌, ◌≡◌}
+use Rattle.integer_player.specs.Played.{duration_of}
+use Rattle.traj_codec.specs.declared.traj.Traj.{Traj}
+use Rattle.show_looks.proofs.PlayLemmas.{sent_lasts}
+use Rattle.show_looks.proofs.playing.write_rows.Goals as goal
+
+pub play-requires-clause-lasting : goal.play-requires-clause-lasting
+play-requires-clause-lasting g c =
+    let f = c.args.fitted.now in
+    subst (All (λ (t : Traj). duration_of t ≡ f.duration)) (sym (c.as_slice-sent.ensures ∙ c.requires.valid.sent))
+    (sent_lasts c.join_law.ensures.curve c.requires.valid.times f.duration c.requires.valid.duration f.trajs c.requires.valid.lasting)

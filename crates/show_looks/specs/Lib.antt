@@ -1,0 +1,8 @@
+pub mod Reports
+pub mod Help
+pub mod Check
+pub mod Compile
+pub mod Certify
+pub mod Play
+pub mod Report
+pub mod Drilled

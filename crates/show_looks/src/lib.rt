@@ -1,0 +1,21 @@
+//! The commands that look at one show: `check`, `compile`, `certify`, `report` and `play`; `drill`, at one of its own; and `help`, at none.
+//! The run of each is one fact, `Behaves`.
+#![tactic(auto)]
+
+mod certifying;
+mod checking;
+mod compiling;
+mod drilling;
+mod helping;
+mod lines;
+mod numbers;
+mod playing;
+mod reporting;
+
+pub use certifying::{CertifyVerb, certify};
+pub use checking::{CheckVerb, check};
+pub use compiling::{CompileVerb, compile};
+pub use drilling::drill;
+pub use helping::help;
+pub use playing::play;
+pub use reporting::{ReportVerb, report};

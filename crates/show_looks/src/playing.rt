@@ -1,0 +1,100 @@
+//! `play`: the positions of a show in whole numbers.
+ghost use Rattle.std.specs.Prelude.{◌≡◌, ◌≤◌, map, IfOk};
+ghost use Rattle.choreo_lines.specs.Name.{Name};
+ghost use Rattle.fleet_io.specs.Causes.{Rose};
+ghost use Rattle.fleet_io.specs.Parts.{TakesFewAfter};
+ghost use Rattle.fleet_io.specs.Taken.{TakesFront};
+ghost use Rattle.integer_player.specs.Played.{play_text};
+ghost use Rattle.show_plan.specs.Fitting.{IsValidFitted};
+ghost use Rattle.show_judge.specs.Answers.{IsSoundJudged, JudgesInput, Wrote};
+ghost use Rattle.show_judge.specs.Input.{TakesOneText};
+ghost use Rattle.show_judge.specs.Runs.{Behaves, Runs, StopsAtMarker, TakesLittle};
+ghost use Rattle.show_judge.specs.Shows.{most_depth};
+ghost use Rattle.show_judge.specs.Verb.{during, show_ways};
+ghost use Rattle.show_looks.specs.Play.{play_verb};
+
+use choreo_reader::show_law;
+use fleet_io::{Failed, Sink, Source};
+use show_judge::{
+    DONE, Failure, Judged, NO_MEMORY, WRITE_FAILED, Ways, accept, fail, read_show_text, refuse,
+};
+use show_plan::{Fitted, uploadable_law};
+use std::alloc::Global;
+use traj_codec::join_law;
+
+// What `play` judges of what its source gives.
+fn judge_input<S: Source>(alloc: Global, depth: u8, source: &mut S) -> Result<Judged, Failure>
+    requires depth { depth ≤ most_depth }
+    ensures judges { JudgesInput (show_ways depth) depth (S.left source.old) (S.left source.new) result }
+    ensures sound { IfOk result IsSoundJudged }
+    ensures failed { result ≡ Err Failure.Read → Rose (S.faults source.old) (S.faults source.new) }
+    ensures later { S.faults source.old ≤ S.faults source.new }
+    ensures few { TakesOneText (S.left source.old) (S.left source.new) }
+    ensures after { IfOk result (λ _. TakesFewAfter (S.left source.old) (S.left source.new)) }
+    ensures left { TakesFront (S.left source.old) (S.left source.new) }
+{
+    let text = read_show_text(alloc, source)?;
+    let ways = Ways {
+        reads: true,
+        has_second: false,
+        by_frames: false,
+        depth: Some(depth),
+    };
+    Ok(accept(alloc, ways, depth, &text)?)
+}
+
+// Writes the rows of a show that fits, and returns the status.
+fn write_rows<K: Sink>(fitted: &Fitted, step: u16, sink: &mut K) -> u8
+    requires valid { IsValidFitted fitted.now }
+    requires step { 1 ≤ step }
+    ensures { Wrote 0 (play_text fitted.now.duration step (map (λ (name : Name). name.items) fitted.now.names) fitted.now.sent)
+        (K.written sink.old) (K.written sink.new) (K.faults sink.old) (K.faults sink.new) result }
+{
+    join_law();
+    uploadable_law(fitted);
+    let names = fitted.names.as_slice();
+    let sent = fitted.sent.as_slice();
+    match integer_player::play(names, sent, fitted.duration, step, sink) {
+        Ok(()) => DONE,
+        Err(Failed) => WRITE_FAILED,
+    }
+}
+
+// Judges the show, and writes its rows or why there are none.
+fn carry<S: Source, K: Sink>(
+    alloc: Global,
+    depth: u8,
+    step: u16,
+    source: &mut S,
+    sink: &mut K,
+) -> u8
+    requires depth { depth ≤ most_depth }
+    requires step { 1 ≤ step }
+    ensures runs { Runs (play_verb depth step) (during S.left S.faults K.written K.faults source.old source.new sink.old sink.new) result }
+    ensures few { TakesLittle (play_verb depth step) (during S.left S.faults K.written K.faults source.old source.new sink.old sink.new) }
+    ensures marker { StopsAtMarker (play_verb depth step) (during S.left S.faults K.written K.faults source.old source.new sink.old sink.new) result }
+{
+    show_law();
+    match judge_input(alloc, depth, source) {
+        Ok(Judged::Accepted { accepted }) => write_rows(&accepted.fitted, step, sink),
+        Ok(Judged::Refused { refusal }) => refuse(sink, &refusal),
+        Err(failure) => fail(sink, failure),
+    }
+}
+
+/// Runs `play` (docs/COMMANDS.md): the rows of the show's instants, every `step` milliseconds, 1 to 60,000; or the first reason why the
+/// show is refused. All memory is taken before the first row.
+pub fn play<S: Source, K: Sink>(
+    alloc: Global,
+    depth: u8,
+    step: u16,
+    source: &mut S,
+    sink: &mut K,
+) -> u8
+    requires depth { depth ≤ most_depth }
+    requires step { 1 ≤ step }
+    ensures { Behaves (play_verb depth step) (during S.left S.faults K.written K.faults source.old source.new sink.old sink.new) result }
+{
+    show_law();
+    carry(alloc, depth, step, source, sink)
+}

@@ -1,0 +1,60 @@
+//! `report`: the numbers of a show as JSON.
+ghost use Rattle.std.specs.Prelude.{◌≡◌, ◌≤◌, ℕ, IfOk};
+ghost use Rattle.choreo_reader.specs.Plain.{PlainShow};
+ghost use Rattle.report_text.specs.Report.{report_text};
+ghost use Rattle.show_plan.specs.Fitting.{IsFitted, IsValidFitted};
+ghost use Rattle.show_judge.specs.Answers.{IsSaid, outcome_of};
+ghost use Rattle.show_judge.specs.Runs.{Behaves};
+ghost use Rattle.show_judge.specs.Shows.{most_depth, nodes_of};
+ghost use Rattle.show_judge.specs.Verb.{during, outcome};
+ghost use Rattle.show_looks.specs.Report.{report_verb};
+ghost use Rattle.show_looks.specs.Reports.{report_of};
+
+use crate::numbers::{packets, sizes};
+use fleet_io::{Sink, Source};
+use report_text::report_text;
+use show_judge::{Accepted, Answer, OneText, Output, run_one};
+use std::alloc::{AllocError, Global};
+
+/// `report` at a depth.
+#[derive(Clone, Copy)]
+pub struct ReportVerb {
+    pub depth: u8,
+    ghost most: { depth ≤ most_depth },
+}
+
+impl OneText for ReportVerb {
+    ghost searched = { λ c. c.depth };
+
+    ghost text = { λ c s. report_text (report_of s c.depth) };
+
+    fn depth(&self) -> u8 {
+        self.depth
+    }
+
+    fn answer(&self, alloc: Global, accepted: &Accepted) -> Result<Answer, AllocError> {
+        let fitted = &accepted.fitted;
+        let bytes = sizes(alloc, fitted.bytes.as_slice())?;
+        let packets = packets(alloc, fitted.bytes.as_slice())?;
+        let bytes = report_text(
+            alloc,
+            bytes.as_slice(),
+            u32::from(fitted.cues),
+            fitted.names.as_slice(),
+            fitted.duration,
+            accepted.nodes,
+            packets.as_slice(),
+        )?;
+        Ok(Answer::Done {
+            output: Output::Bytes { bytes },
+        })
+    }
+}
+
+/// Runs `report` (docs/COMMANDS.md): the numbers of a show as compact JSON, or the first reason why it is refused.
+pub fn report<S: Source, K: Sink>(alloc: Global, depth: u8, source: &mut S, sink: &mut K) -> u8
+    requires { depth ≤ most_depth }
+    ensures { Behaves (report_verb depth) (during S.left S.faults K.written K.faults source.old source.new sink.old sink.new) result }
+{
+    run_one(alloc, &ReportVerb { depth }, source, sink)
+}

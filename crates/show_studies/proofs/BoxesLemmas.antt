@@ -1,0 +1,95 @@
+-- The laws of `boxes`.
+use Rattle.std.proofs.Common.{◌≡◌, ℕ, List, length, Option, Some, None, Result, Ok, Err, refl, sym, ap, subst, ◌∙◌}
+use Rattle.std.specs.Io.KnownBytes.{Appends}
+use Rattle.choreo_reader.specs.Plain.{PlainShow}
+use Rattle.fleet_curves.specs.Raised.{raised_of}
+use Rattle.keepout_boxes.specs.declared.judging.Judged.{Judged}
+use Rattle.keepout_boxes.specs.declared.judging.Judged.TheVariants.{Kept, Enters}
+use Rattle.keepout_boxes.specs.declared.region.Region.{Region}
+use Rattle.keepout_boxes.specs.Kept.{JudgeGives}
+use Rattle.keepout_boxes.specs.Lines.{kept_line}
+use Rattle.keepout_boxes.specs.Regions.{regions_of}
+use Rattle.refusals.specs.declared.refusal.Refusal.{Refusal}
+use Rattle.refusals.specs.declared.refusal.Refusal.TheVariants as refusal
+use Rattle.show_judge.specs.Outcome.{IsSafe}
+use Rattle.show_judge.specs.Refused.{second_refusal}
+use Rattle.show_judge.specs.Shows.{Cut, cut_of, name_at, names_of, trajectories_of}
+use Rattle.show_judge.specs.Verb.{Outcome}
+use Rattle.show_judge.proofs.AnswerLemmas.{refused_some}
+use Rattle.show_judge.proofs.HeadlineLemmas.{none_both}
+use Rattle.show_judge.proofs.VerbLemmas.{none_mapped, within_limit}
+use Rattle.show_studies.specs.Boxes.{BoxesLaw, RegionsGive, StaysInRegions, aside_of, boxes_verb, faulty_region, region_limit, regions_end, upwards_of}
+use Rattle.show_studies.proofs.DecidingLemmas.{judge_some}
+use Rattle.show_studies.proofs.StudyLemmas.{judge_one, regions_given_one, regions_one}
+
+-- ---- there is one
+
+-- regions that are given
+regions_read : (given : Result (List Region) ℕ) → faulty_region given ≡ None → (regions : List Region) × (given ≡ Ok regions)
+regions_read (Ok regions) none = (regions, refl)
+regions_read (Err line) none = absurd (cc)
+
+-- a text of regions gives an outcome
+regions_some : (why : Option Refusal) (s : PlainShow) (depth : ℕ) (cut : Cut) → second_refusal region_limit (faulty_region (regions_of cut.second)) cut ≡ why → (o : Outcome) × RegionsGive why s depth cut o
+regions_some (Some r) s depth cut is = (_, refl)
+regions_some None s depth cut is =
+    let parts = within_limit region_limit (length cut.second) _ _ is in
+    let regions = regions_read (regions_of cut.second) (none_mapped _ (faulty_region (regions_of cut.second)) (none_both _ _ parts.1).0) in
+    let judged = judge_some (raised_of (trajectories_of s)) (aside_of s.settings) (upwards_of s.settings) depth regions.0 in
+    (regions_end (names_of s) depth (length regions.0) judged.0, (regions.0, judged.0, regions.1, judged.1, refl))
+
+-- ---- status 0
+
+-- where regions are read, the second text is refused as one without a faulty line
+no_faulty_region : (given : Result (List Region) ℕ) (regions : List Region) (cut : Cut) → given ≡ Ok regions → second_refusal region_limit None cut ≡ None →
+    second_refusal region_limit (faulty_region given) cut ≡ None
+no_faulty_region given regions cut is none = rw is none
+
+regions_done : (refused : Option Refusal) (s : PlainShow) (depth : ℕ) (cut : Cut) (o : Outcome) (regions : List Region) → refused ≡ None → RegionsGive refused s depth cut o →
+    regions_of cut.second ≡ Ok regions → JudgeGives (raised_of (trajectories_of s)) (aside_of s.settings) (upwards_of s.settings) depth regions Kept → o.status ≡ 0
+regions_done (Some r) s depth cut o regions none gives is kept = absurd (cc)
+regions_done None s depth cut o regions none (others, j, reads, judges, ends) is kept =
+    let same : others ≡ regions = regions_given_one (regions_of cut.second) others regions reads is in
+    let judged : j ≡ Kept = judge_one _ (aside_of s.settings) (upwards_of s.settings) depth regions j Kept
+    (subst (λ (rs : List Region). JudgeGives (raised_of (trajectories_of s)) (aside_of s.settings) (upwards_of s.settings) depth rs j) same judges) kept in
+    ap (λ (p : Outcome). p.status) ends ∙ (ap (λ (k : Judged). (regions_end (names_of s) depth (length others) k).status) judged)
+
+status_of_outcome : (o p : Outcome) → o ≡ p → o.status ≡ 0 → p.status ≡ 0
+status_of_outcome o p same done = sym (ap (λ (q : Outcome). q.status) same) ∙ done
+
+-- drones that are judged with status 0 are kept, and that is what is written
+kept_written : (s : PlainShow) (depth n : ℕ) (j : Judged) (o : Outcome) → o ≡ regions_end (names_of s) depth n j → o.status ≡ 0 → o.output ≡ kept_line n
+kept_written s depth n Kept o ends done = ap (λ (q : Outcome). q.output) ends
+kept_written s depth n (Enters region drone cue index) o ends done =
+    absurd (refused_some (refusal.Enters region (name_at (names_of s) drone) cue index depth) (status_of_outcome o _ ends done))
+
+regions_written : (refused : Option Refusal) (s : PlainShow) (depth : ℕ) (cut : Cut) (o : Outcome) (regions : List Region) → RegionsGive refused s depth cut o → o.status ≡ 0 →
+    regions_of cut.second ≡ Ok regions → o.output ≡ kept_line (length regions)
+regions_written (Some r) s depth cut o regions gives done says = absurd (refused_some r (status_of_outcome o _ gives done))
+regions_written None s depth cut o regions (others, j, reads, judges, ends) done says =
+    kept_written s depth (length others) j o ends done
+    ∙ ap (λ (rs : List Region). kept_line (length rs)) (regions_given_one (regions_of cut.second) others regions reads says)
+
+stays : (depth : ℕ) (input : List ℕ) (old new : Option (List ℕ)) (o : Outcome) → IsSafe (boxes_verb depth) (cut_of input) o → Appends old new o.output → StaysInRegions input old new
+stays depth input old new o safe appended =
+    record {
+      s = safe.s;
+      regions = safe.promised.0;
+      stands = safe.stands;
+      says = safe.promised.1;
+      kept = safe.promised.2;
+      written = subst (λ (output : List ℕ). Appends old new output)
+          (regions_written (second_refusal region_limit (faulty_region (regions_of (cut_of input).second)) (cut_of input)) safe.s depth (cut_of input) o safe.promised.0 safe.gives safe.done safe.promised.1) appended;
+    }
+
+-- ---- the laws
+
+pub boxes_laws : BoxesLaw
+boxes_laws depth = record {
+  one = λ s cut o p first second. regions_one (second_refusal region_limit (faulty_region (regions_of cut.second)) cut) s depth cut o p first second;
+  some = λ s cut known. regions_some (second_refusal region_limit (faulty_region (regions_of cut.second)) cut) s depth cut refl;
+  done = λ s cut o gives succeeds. regions_done (second_refusal region_limit (faulty_region (regions_of cut.second)) cut) s depth cut o succeeds.0
+      (no_faulty_region (regions_of cut.second) succeeds.0 cut succeeds.2 succeeds.1) gives succeeds.2 succeeds.3;
+  apart = λ d s cut searched apart. absurd (cc);
+  headline = λ input o old new safe appended. stays depth input old new o safe appended;
+}

@@ -1,0 +1,7 @@
+pub mod StudyLemmas
+pub mod DecidingLemmas
+pub mod RegionLemmas
+pub mod SpeedLemmas
+pub mod FindingLemmas
+pub mod BoxesLemmas
+pub mod StudyLaws

@@ -1,0 +1,69 @@
+-- The laws of `speed` and of `explain`.
+use Rattle.std.proofs.Common.{◌≡◌, ℕ, false, List, Option, Some, None, refl, sym, ap, subst, ◌∙◌}
+use Rattle.std.specs.Io.KnownBytes.{Appends}
+use Rattle.choreo_reader.specs.Grammar.{StandsFor}
+use Rattle.choreo_reader.specs.Plain.{PlainShow}
+use Rattle.refusals.specs.declared.refusal.Refusal.{Refusal}
+use Rattle.show_judge.specs.declared.ways.Ways.{Ways}
+use Rattle.show_judge.specs.Outcome.{IsSafe, IsVerb}
+use Rattle.show_judge.specs.Shows.{cut_of, names_of, sent_of}
+use Rattle.show_judge.specs.Verb.{Outcome, outcome}
+use Rattle.show_judge.proofs.AnswerLemmas.{refused_some}
+use Rattle.show_judge.proofs.HeadlineLemmas.{whole_input}
+use Rattle.show_studies.specs.Explained.{TellsTouches, explain_verb}
+use Rattle.show_studies.specs.Speeds.{KeepsSpeeds, speed_text, speed_verb, speeds_end, too_fast}
+use Rattle.show_studies.proofs.StudyLemmas.{explained_one}
+
+-- outcomes of one status and one output are one
+outcome_by : (o p : Outcome) → o.status ≡ p.status → o.output ≡ p.output → o ≡ p
+outcome_by o p status output = ap (λ (n : ℕ). outcome n o.output) status ∙ ap (outcome p.status) output
+
+-- ---- `speed`
+
+status_of_outcome : (o p : Outcome) → o ≡ p → o.status ≡ 0 → p.status ≡ 0
+status_of_outcome o p same done = sym (ap (λ (q : Outcome). q.status) same) ∙ done
+
+speeds_written : (refused : Option Refusal) (text : List ℕ) (o : Outcome) → o ≡ speeds_end refused text → o.status ≡ 0 → o.output ≡ text
+speeds_written (Some r) text o ends done = absurd (refused_some r (status_of_outcome o _ ends done))
+speeds_written None text o ends done = ap (λ (q : Outcome). q.output) ends
+
+speeds : (limit : Option ℕ) (depth : ℕ) (input : List ℕ) (old new : Option (List ℕ)) (o : Outcome) → IsSafe (speed_verb depth limit) (cut_of input) o → Appends old new o.output →
+    KeepsSpeeds limit depth input old new
+speeds limit depth input old new o safe appended = record {
+  s = safe.s;
+  stands = subst (λ (text : List ℕ). StandsFor text safe.s) (whole_input (speed_verb depth limit).ways input safe.s refl safe.accepted) safe.stands;
+  keeps = safe.promised;
+  written = subst (λ (output : List ℕ). Appends old new output)
+      (speeds_written (too_fast limit depth safe.s) (speed_text depth (sent_of safe.s) (names_of safe.s)) o safe.gives safe.done) appended;
+}
+
+pub speed_laws : (depth : ℕ) (limit : Option ℕ) → IsVerb (speed_verb depth limit)
+speed_laws depth limit = record {
+  one = λ s cut o p first second. first ∙ sym second;
+  some = λ s cut known. (speeds_end (too_fast limit depth s) (speed_text depth (sent_of s) (names_of s)), refl);
+  done = λ s cut o gives succeeds. ap (λ (p : Outcome). p.status) gives ∙ ap (λ (r : Option Refusal). (speeds_end r (speed_text depth (sent_of s) (names_of s))).status) succeeds;
+  apart = λ d s cut searched apart. absurd (cc);
+  headline = λ input o old new safe appended. speeds limit depth input old new o safe appended;
+}
+
+-- ---- `explain`
+
+touches : (depth fine : ℕ) (input : List ℕ) (old new : Option (List ℕ)) (o : Outcome) → IsSafe (explain_verb depth fine) (cut_of input) o → Appends old new o.output →
+    TellsTouches depth fine input old new
+touches depth fine input old new o safe appended = record {
+  s = safe.s;
+  text = o.output;
+  stands = subst (λ (text : List ℕ). StandsFor text safe.s) (whole_input (explain_verb depth fine).ways input safe.s refl safe.accepted) safe.stands;
+  explains = safe.gives.1;
+  apart = safe.promised;
+  written = appended;
+}
+
+pub explain_laws : (depth fine : ℕ) → IsVerb (explain_verb depth fine)
+explain_laws depth fine = record {
+  one = λ s cut o p first second. outcome_by o p (first.0 ∙ sym second.0) (explained_one depth fine s o.output p.output first.1 second.1);
+  some = λ s cut known. known;
+  done = λ s cut o gives succeeds. gives.0;
+  apart = λ d s cut searched apart. absurd (cc);
+  headline = λ input o old new safe appended. touches depth fine input old new o safe appended;
+}

@@ -1,0 +1,4 @@
+pub mod Boxes
+pub mod Speeds
+pub mod Explained
+pub mod Steps

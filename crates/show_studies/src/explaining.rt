@@ -1,0 +1,150 @@
+//! `explain`: why a show is refused, and where its drones come close.
+ghost use Rattle.std.specs.Prelude.{◌≡◌, ◌≤◌, length, None, IfOk, MatchOption};
+ghost use Rattle.choreo_reader.specs.Plain.{PlainShow};
+ghost use Rattle.show_plan.specs.Fitting.{IsFitted, IsValidFitted};
+ghost use Rattle.show_plan.specs.Separation.{FlyApart, blocked_part};
+ghost use Rattle.cue_grid.specs.Cues.{grid_of};
+ghost use Rattle.show_plan.specs.Landing.{Lands};
+ghost use Rattle.show_judge.specs.Answers.{IsSaid, outcome_of};
+ghost use Rattle.show_judge.specs.Outcome.{ShowGives};
+ghost use Rattle.show_judge.specs.Refused.{blocked_by};
+ghost use Rattle.show_judge.specs.Runs.{Behaves};
+ghost use Rattle.show_judge.specs.Shows.{Cut, most_depth, sent_of};
+ghost use Rattle.show_judge.specs.Verb.{during};
+ghost use Rattle.show_studies.specs.Explained.{explain_verb};
+ghost use Rattle.touch_witness.specs.Sites.{IsFirstTouch, NoTouch};
+ghost use Rattle.show_studies.specs.Steps.{IsBlockedAmong, IsClosestAmong, IsFound, IsTouchAmong};
+
+use crate::findings::{Findings, findings_text};
+use fleet_io::{Sink, Source};
+use show_judge::{Answer, AnyText, Output, Ways, run_any};
+use show_plan::{Fitted, PlanFault, count_nodes};
+use std::alloc::{AllocError, Global};
+use touch_witness::{Touch, closest_of, first_touch_of};
+
+// The first part of the depth in which no direction separates two drones, if there is one.
+fn blocked_of(alloc: Global, fitted: &Fitted, depth: u8) -> Result<Option<PlanFault>, AllocError>
+    requires valid { IsValidFitted fitted.now }
+    requires depth { depth ≤ most_depth }
+    ensures is { IfOk result (λ blocked. blocked ≡ blocked_part fitted.now.settings depth fitted.now.trajs) }
+    ensures apart { IfOk result (λ blocked. blocked ≡ None → FlyApart fitted.now.settings fitted.now.sent) }
+    ensures by_cue { IfOk result (λ blocked. blocked ≡ None → FlyApart fitted.now.settings fitted.now.trajs) }
+    ensures among { IfOk result (λ blocked. IsBlockedAmong (length fitted.now.names) blocked) }
+{
+    match count_nodes(alloc, fitted, depth) {
+        Ok(_) => Ok(None),
+        Err(PlanFault::Blocked { a, b, cue, index }) => {
+            Ok(Some(PlanFault::Blocked { a, b, cue, index }))
+        }
+        Err(PlanFault::Memory) => Err(AllocError),
+        Err(
+            PlanFault::Grid { .. }
+            | PlanFault::Expand { .. }
+            | PlanFault::TooManySegments { .. }
+            | PlanFault::TooLong { .. },
+        ) => unreachable!(),
+    }
+}
+
+// Where two drones touch first. It is looked for where a part is blocked alone: else none do.
+fn touch_of(fitted: &Fitted, blocked: Option<PlanFault>, fine: u8) -> Option<Touch>
+    requires valid { IsValidFitted fitted.now }
+    requires fine { fine ≤ 5 }
+    requires apart { blocked ≡ None → FlyApart fitted.now.settings fitted.now.trajs }
+    ensures { MatchOption result (NoTouch fitted.now.trajs fitted.now.settings.r fitted.now.settings.h fine)
+        (IsFirstTouch fitted.now.trajs fitted.now.settings.r fitted.now.settings.h fine) }
+{
+    match blocked {
+        None => None,
+        Some(_) => first_touch_of(
+            fitted.trajs.as_slice(),
+            fitted.settings.r,
+            fitted.settings.h,
+            fine,
+        ),
+    }
+}
+
+// What is found of a show that fits.
+fn find(alloc: Global, fitted: &Fitted, depth: u8, fine: u8) -> Result<Findings, AllocError>
+    requires valid { IsValidFitted fitted.now }
+    requires depth { depth ≤ most_depth }
+    requires fine { fine ≤ 5 }
+    ensures found { IfOk result (IsFound depth fine fitted.now) }
+    ensures blocked { IfOk result (λ found. IsBlockedAmong (length fitted.now.names) found.blocked) }
+    ensures closest { IfOk result (λ found. IsClosestAmong (length fitted.now.names) found.closest) }
+    ensures touch { IfOk result (λ found. IsTouchAmong (length fitted.now.names) found.touch) }
+{
+    let blocked = blocked_of(alloc, fitted, depth)?;
+    let closest = closest_of(
+        fitted.trajs.as_slice(),
+        fitted.settings.r,
+        fitted.settings.h,
+        fine,
+    );
+    let touch = touch_of(fitted, blocked, fine);
+    Ok(Findings {
+        blocked,
+        closest,
+        touch,
+    })
+}
+
+// What `explain` ends with for a show that fits.
+fn answer_fitted(alloc: Global, fitted: &Fitted, depth: u8, fine: u8) -> Result<Answer, AllocError>
+    requires valid { IsValidFitted fitted.now }
+    requires depth { depth ≤ most_depth }
+    requires fine { fine ≤ 5 }
+    ensures gives { (s : PlainShow) (cut : Cut) → IsFitted fitted.now s → IfOk result (λ a. (explain_verb depth fine).gives s cut (outcome_of a)) }
+    ensures promised { (s : PlainShow) (cut : Cut) → IsFitted fitted.now s
+        → IfOk result (λ a. (outcome_of a).status ≡ 0 → (explain_verb depth fine).promises s cut) }
+    ensures said { IfOk result IsSaid }
+{
+    let found = find(alloc, fitted, depth, fine)?;
+    let lines = findings_text(alloc, fitted, depth, fine, &found)?;
+    Ok(Answer::Done {
+        output: Output::Text { lines },
+    })
+}
+
+/// `explain` at a depth, over the instants that cut each cue into 2^`fine` parts.
+#[derive(Clone, Copy)]
+pub struct ExplainVerb {
+    pub depth: u8,
+    pub fine: u8,
+    ghost most: { depth ≤ most_depth },
+    ghost finest: { fine ≤ 5 },
+}
+
+impl AnyText for ExplainVerb {
+    ghost verb = { λ c. explain_verb c.depth c.fine };
+
+    fn ways(&self) -> Ways {
+        Ways {
+            reads: true,
+            has_second: false,
+            by_frames: false,
+            depth: None,
+        }
+    }
+
+    fn answer(&self, alloc: Global, fitted: &Fitted) -> Result<Answer, AllocError> {
+        answer_fitted(alloc, fitted, self.depth, self.fine)
+    }
+}
+
+/// Runs `explain` (docs/COMMANDS.md): the first part of a cue in which no direction separates two drones, where two drones come closest and
+/// where they touch first, among the instants that cut each cue into 2^`fine` parts; or the first other reason why the show is refused.
+pub fn explain<S: Source, K: Sink>(
+    alloc: Global,
+    depth: u8,
+    fine: u8,
+    source: &mut S,
+    sink: &mut K,
+) -> u8
+    requires depth { depth ≤ most_depth }
+    requires fine { fine ≤ 5 }
+    ensures { Behaves (explain_verb depth fine) (during S.left S.faults K.written K.faults source.old source.new sink.old sink.new) result }
+{
+    run_any(alloc, &ExplainVerb { depth, fine }, source, sink)
+}

@@ -1,0 +1,187 @@
+//! `boxes`: whether the drones of a show keep out of boxes and in volumes.
+ghost use Rattle.std.specs.Prelude.{◌≡◌, ◌<◌, ◌≤◌, length, All, IfOk, IfSome};
+ghost use Rattle.choreo_reader.specs.Plain.{PlainShow};
+ghost use Rattle.show_judge.specs.Shows.{Cut, most_depth, show_limit};
+ghost use Rattle.fleet_io.specs.Causes.{Rose};
+ghost use Rattle.fleet_io.specs.Taken.{TakesFront};
+ghost use Rattle.keepout_boxes.specs.Kept.{IsNear, KeepClear, most_regions};
+ghost use Rattle.keepout_boxes.specs.Regions.{regions_of};
+ghost use Rattle.show_plan.specs.Fitting.{IsFitted, IsValidFitted};
+ghost use Rattle.show_judge.specs.Answers.{AnswersInput, AnswersTwo, IsSaid, outcome_of};
+ghost use Rattle.show_judge.specs.Input.{IsReadBoth, IsText, IsUnmarked, IsWithin, TakesOneText};
+ghost use Rattle.show_studies.specs.Boxes.{BoxesGive, BoxesLaw, KeepsRegions, RegionsGive, aside_of, boxes_verb, faulty_region, region_limit, upwards_of};
+ghost use Rattle.show_judge.specs.Refused.{second_refusal};
+ghost use Rattle.show_judge.specs.Runs.{Behaves};
+ghost use Rattle.show_judge.specs.Verb.{during};
+ghost use Rattle.show_studies.specs.Steps.{EndsRegions};
+ghost use Rattle.text_lines.specs.Marker.{part_of};
+
+use crate::lines::kept_line;
+use choreo_reader::show_law;
+use fleet_curves::Curves;
+use fleet_io::{Part, Sink, Source};
+use keepout_boxes::{Judged, Region, RegionFault, judge, read_regions, sent_law};
+use refusals::Refusal;
+use show_judge::{
+    Answer, Failure, Input, Output, Planned, Text, Ways, fit_text, marker_number, name_at,
+    read_two, respond,
+};
+use show_plan::Fitted;
+use std::alloc::{AllocError, Global};
+use traj_codec::join_law;
+
+// The most bytes of a text of regions.
+const MOST_REGIONS_TEXT: usize = 1_048_576;
+
+// How the drones of a show that fits are judged for these regions.
+fn judge_regions(
+    alloc: Global,
+    fitted: &Fitted,
+    depth: u8,
+    regions: &Vec<Region>,
+) -> Result<Answer, AllocError>
+    requires valid { IsValidFitted fitted.now }
+    requires depth { depth ≤ most_depth }
+    requires few { length regions.now.items ≤ most_regions }
+    requires near { All IsNear regions.now.items }
+    ensures gives { (s : PlainShow) → IsFitted fitted.now s → IfOk result (λ a. EndsRegions s depth regions.now.items (outcome_of a)) }
+    ensures clear { IfOk result (λ a. (outcome_of a).status ≡ 0
+        → KeepClear (aside_of fitted.now.settings) (upwards_of fitted.now.settings) regions.now.items fitted.now.sent) }
+    ensures said { IfOk result IsSaid }
+{
+    sent_law();
+    let settings = fitted.settings;
+    let curves = Curves::of_slice(alloc, fitted.trajs.as_slice())?;
+    match judge(
+        &curves,
+        settings.r + settings.stray,
+        settings.h + settings.stray,
+        depth,
+        regions,
+    ) {
+        Judged::Kept => Ok(Answer::Done {
+            output: Output::Line {
+                line: kept_line(regions.len() as u8),
+            },
+        }),
+        Judged::Enters {
+            region,
+            drone,
+            cue,
+            index,
+        } => Ok(Answer::Refused {
+            refusal: Refusal::Enters {
+                region,
+                drone: name_at(fitted.names.as_slice(), drone),
+                cue,
+                index,
+                depth,
+            },
+        }),
+    }
+}
+
+// What a second text gives that isn't too large.
+fn judge_part(alloc: Global, fitted: &Fitted, depth: u8, part: &Part) -> Result<Answer, AllocError>
+    requires valid { IsValidFitted fitted.now }
+    requires depth { depth ≤ most_depth }
+    requires short { length part.now.bytes.items ≤ region_limit }
+    ensures gives { (s : PlainShow) (cut : Cut) → IsFitted fitted.now s → IsText region_limit (Text.Whole part.now) cut.second cut.is_second_marked
+        → IfOk result (λ a. RegionsGive (second_refusal region_limit (faulty_region (regions_of cut.second)) cut) s depth cut (outcome_of a)) }
+    ensures promised { (s : PlainShow) (cut : Cut) → IsFitted fitted.now s → IsText region_limit (Text.Whole part.now) cut.second cut.is_second_marked
+        → IfOk result (λ a. (outcome_of a).status ≡ 0 → KeepsRegions s cut) }
+    ensures whole { IfOk result (λ a. (outcome_of a).status ≡ 0 → IsUnmarked (Text.Whole part.now)) }
+    ensures said { IfOk result IsSaid }
+{
+    let regions = match read_regions(alloc, &part.bytes) {
+        Ok(regions) => regions,
+        Err(RegionFault::Line { line }) => {
+            return Ok(Answer::Refused {
+                refusal: Refusal::SecondLine { line },
+            });
+        }
+        Err(RegionFault::Memory) => return Err(AllocError),
+    };
+    if part.marker {
+        let line = marker_number(&part.bytes);
+        return Ok(Answer::Refused {
+            refusal: Refusal::SecondLine { line },
+        });
+    }
+    judge_regions(alloc, fitted, depth, &regions)
+}
+
+// What a second text gives for a show that fits.
+fn judge_second(
+    alloc: Global,
+    fitted: &Fitted,
+    depth: u8,
+    second: &Text,
+) -> Result<Answer, AllocError>
+    requires valid { IsValidFitted fitted.now }
+    requires depth { depth ≤ most_depth }
+    requires short { IsWithin region_limit second.now }
+    ensures gives { (s : PlainShow) (cut : Cut) → IsFitted fitted.now s → IsText region_limit second.now cut.second cut.is_second_marked
+        → IfOk result (λ a. RegionsGive (second_refusal region_limit (faulty_region (regions_of cut.second)) cut) s depth cut (outcome_of a)) }
+    ensures promised { (s : PlainShow) (cut : Cut) → IsFitted fitted.now s → IsText region_limit second.now cut.second cut.is_second_marked
+        → IfOk result (λ a. (outcome_of a).status ≡ 0 → KeepsRegions s cut) }
+    ensures whole { IfOk result (λ a. (outcome_of a).status ≡ 0 → IsUnmarked second.now) }
+    ensures said { IfOk result IsSaid }
+{
+    match second {
+        Text::TooLarge => Ok(Answer::Refused {
+            refusal: Refusal::SecondTooLarge,
+        }),
+        Text::Whole { part } => judge_part(alloc, fitted, depth, part),
+    }
+}
+
+// What `boxes` ends with for two texts.
+fn answer_two(alloc: Global, depth: u8, input: &Input) -> Result<Answer, AllocError>
+    requires depth { depth ≤ most_depth }
+    requires show { IsWithin show_limit input.now.show }
+    requires second { IsWithin region_limit input.now.second }
+    ensures { AnswersTwo (boxes_verb depth) region_limit input.now result }
+{
+    let ways = Ways {
+        reads: true,
+        has_second: true,
+        by_frames: false,
+        depth: None,
+    };
+    match fit_text(alloc, ways, &input.show)? {
+        Planned::Fits { fitted } => judge_second(alloc, &fitted, depth, &input.second),
+        Planned::Refused { refusal } => Ok(Answer::Refused { refusal }),
+    }
+}
+
+// What `boxes` ends with for what its source gives.
+fn answer_input<S: Source>(alloc: Global, depth: u8, source: &mut S) -> Result<Answer, Failure>
+    requires depth { depth ≤ most_depth }
+    ensures answers { AnswersInput (boxes_verb depth) (S.left source.old) (S.left source.new) result }
+    ensures both { IfOk result (λ _. IsReadBoth region_limit (S.left source.old) (S.left source.new)) }
+    ensures failed { result ≡ Err Failure.Read → Rose (S.faults source.old) (S.faults source.new) }
+    ensures later { S.faults source.old ≤ S.faults source.new }
+    ensures few { IfSome (S.left source.old) (λ all. show_limit < length (part_of all)) → TakesOneText (S.left source.old) (S.left source.new) }
+    ensures left { TakesFront (S.left source.old) (S.left source.new) }
+{
+    let input = read_two(alloc, source, MOST_REGIONS_TEXT)?;
+    Ok(answer_two(alloc, depth, &input)?)
+}
+
+/// A law. A text of regions gives one outcome for a show, and some; and where nothing is lacking, that has status 0.
+pub fn boxes_law()
+    ensures { BoxesLaw }
+{}
+
+/// Runs `boxes` (docs/COMMANDS.md): the number of regions, where each drone keeps to each of them throughout the show; or the first
+/// thing that is wrong with either text, or the first part of a cue in which a drone isn't kept.
+pub fn boxes<S: Source, K: Sink>(alloc: Global, depth: u8, source: &mut S, sink: &mut K) -> u8
+    requires depth { depth ≤ most_depth }
+    ensures { Behaves (boxes_verb depth) (during S.left S.faults K.written K.faults source.old source.new sink.old sink.new) result }
+{
+    show_law();
+    boxes_law();
+    let answer = answer_input(alloc, depth, source);
+    respond(sink, &answer)
+}

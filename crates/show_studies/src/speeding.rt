@@ -1,0 +1,204 @@
+//! `speed`: how fast the drones of a show are at most.
+ghost use Rattle.std.specs.Prelude.{◌≡◌, ◌≤◌, ◌++◌, ◌∷◌, [], ℕ, pos, true, decimal, length, None, All, IfOk, IfSome, OnOk};
+ghost use Rattle.choreo_reader.specs.Plain.{PlainShow};
+ghost use Rattle.fleet_io.specs.Words.{IsWord, is_line_empty, with_word};
+ghost use Rattle.show_plan.specs.Fitting.{IsFitted, IsSendable, IsValidFitted, StandsAsWord};
+ghost use Rattle.speed_bound.specs.Lines.{speed_line};
+ghost use Rattle.speed_bound.specs.Speed.{KeepsSpeed, speed};
+ghost use Rattle.traj_codec.specs.Spelling.{HasDuration};
+ghost use Rattle.traj_codec.specs.declared.traj.Traj.{Traj};
+ghost use Rattle.cue_grid.specs.Cues.{grid_of};
+ghost use Rattle.show_plan.specs.Landing.{Lands};
+ghost use Rattle.show_plan.specs.Separation.{FlyApart};
+ghost use Rattle.show_judge.specs.Answers.{IsSaid, outcome_of};
+ghost use Rattle.show_judge.specs.Outcome.{ShowGives};
+ghost use Rattle.show_studies.specs.Speeds.{KeepsBounds, above, first_too_fast, speed_of_drone, speed_text, speed_verb, speeds_end, too_fast_by, too_fast_of};
+ghost use Rattle.show_judge.specs.Refused.{IsOfInput, blocked_by};
+ghost use Rattle.show_judge.specs.Runs.{Behaves};
+ghost use Rattle.show_judge.specs.Shows.{Cut, most_depth, sent_of};
+ghost use Rattle.show_judge.specs.Verb.{during};
+
+use choreo_lines::copy_of;
+use choreo_reader::Name;
+use fleet_io::{Lines, Sink, Source};
+use refusals::Refusal;
+use show_judge::{Answer, AnyText, Output, Ways, run_any};
+use show_plan::{Fitted, uploadable_law};
+use speed_bound::bound;
+use std::alloc::{AllocError, Global};
+use traj_codec::Traj;
+
+// The refusal of a bound on an axis that is above the limit.
+fn above(limit: Option<u32>, name: &Name, axis: u8, speed: i64) -> Option<Refusal>
+    requires name { IsWord name.now.items }
+    requires axis { axis ≤ 2 }
+    ensures above { (v : ℕ) → speed ≡ pos v → result ≡ above limit name.now axis v }
+    ensures said { IfSome result IsOfInput }
+{
+    let most = limit?;
+    if speed <= i64::from(most) {
+        return None;
+    }
+    Some(Refusal::TooFast {
+        drone: copy_of(name),
+        axis,
+        speed,
+    })
+}
+
+// The first axis on which a bound of a drone is above the limit.
+fn too_fast_of(limit: Option<u32>, name: &Name, x: i64, y: i64, z: i64) -> Option<Refusal>
+    requires name { IsWord name.now.items }
+    ensures first { (a b c : ℕ) → x ≡ pos a → y ≡ pos b → z ≡ pos c → result ≡ too_fast_of limit name.now a b c }
+    ensures said { IfSome result IsOfInput }
+{
+    if let Some(refusal) = above(limit, name, 0, x) {
+        return Some(refusal);
+    }
+    if let Some(refusal) = above(limit, name, 1, y) {
+        return Some(refusal);
+    }
+    above(limit, name, 2, z)
+}
+
+// A bound, as a word.
+fn put_speed(text: &mut Lines, speed: i64) -> Result<(), AllocError>
+    ensures word { (v : ℕ) → speed ≡ pos v → OnOk result (text.new ≡ with_word text.old (decimal v)) }
+    ensures is_word { (v : ℕ) → speed ≡ pos v → IsWord (decimal v) }
+{
+    text.decimal(speed)
+}
+
+// The line of a drone: its bounds on x, y and z.
+fn put_speeds(text: &mut Lines, name: &[u8], x: i64, y: i64, z: i64) -> Result<(), AllocError>
+    requires fresh { is_line_empty text.old ≡ true }
+    requires name { IsWord name.now }
+    ensures line { (a b c : ℕ) → x ≡ pos a → y ≡ pos b → z ≡ pos c → OnOk result (text.new ≡ text.old ++ speed_line name.now a b c) }
+    ensures fresh { OnOk result (is_line_empty text.new ≡ true) }
+{
+    text.word(b"speed")?;
+    text.word(name)?;
+    put_speed(text, x)?;
+    put_speed(text, y)?;
+    put_speed(text, z)?;
+    text.end()
+}
+
+// Adds the line of a drone, or says why its bounds are refused.
+fn put_drone(
+    text: &mut Lines,
+    name: &Name,
+    t: &Traj,
+    depth: u8,
+    limit: Option<u32>,
+) -> Result<Option<Refusal>, AllocError>
+    requires fresh { is_line_empty text.old ≡ true }
+    requires name { IsWord name.now.items }
+    requires some { 1 ≤ length t.now.segments }
+    requires lasting { All HasDuration t.now.segments }
+    requires depth { depth ≤ most_depth }
+    ensures refusal { IfOk result (λ r. r ≡ too_fast_by limit depth t.now name.now) }
+    ensures line { IfOk result (λ r. r ≡ None → text.new ≡ text.old ++ speed_of_drone depth t.now name.now) }
+    ensures keeps { (axis : ℕ) → axis ≤ 2 → KeepsSpeed t.now axis (speed depth t.now axis) }
+    ensures said { IfOk result (λ r. IfSome r IsOfInput) }
+{
+    let [x, y, z] = bound(t, depth);
+    if let Some(refusal) = too_fast_of(limit, name, x, y, z) {
+        return Ok(Some(refusal));
+    }
+    put_speeds(text, name.as_slice(), x, y, z)?;
+    Ok(None)
+}
+
+// The lines of all drones, or the first bound that is above the limit.
+fn answer_drones(
+    alloc: Global,
+    names: &[Name],
+    sent: &[Traj],
+    depth: u8,
+    limit: Option<u32>,
+) -> Result<Answer, AllocError>
+    requires counted { length sent.now ≡ length names.now }
+    requires words { All StandsAsWord names.now }
+    requires some { All (λ (t : Traj). 1 ≤ length t.segments) sent.now }
+    requires sendable { All IsSendable sent.now }
+    requires depth { depth ≤ most_depth }
+    ensures gives { IfOk result (λ a. outcome_of a ≡ speeds_end (first_too_fast limit depth sent.now names.now) (speed_text depth sent.now names.now)) }
+    ensures keeps { IfOk result (λ a. (outcome_of a).status ≡ 0 → All (KeepsBounds limit depth) sent.now) }
+    ensures said { IfOk result IsSaid }
+{
+    let mut text = Lines::make(alloc);
+    for d in 0..sent.len() {
+        match put_drone(&mut text, &names[d], &sent[d], depth, limit)? {
+            None => {}
+            Some(refusal) => return Ok(Answer::Refused { refusal }),
+        }
+    }
+    Ok(Answer::Done {
+        output: Output::Text { lines: text },
+    })
+}
+
+// What `speed` ends with for a show that fits.
+fn answer_fitted(
+    alloc: Global,
+    fitted: &Fitted,
+    depth: u8,
+    limit: Option<u32>,
+) -> Result<Answer, AllocError>
+    requires valid { IsValidFitted fitted.now }
+    requires depth { depth ≤ most_depth }
+    ensures gives { (s : PlainShow) (cut : Cut) → IsFitted fitted.now s → IfOk result (λ a. (speed_verb depth limit).gives s cut (outcome_of a)) }
+    ensures promised { (s : PlainShow) (cut : Cut) → IsFitted fitted.now s
+        → IfOk result (λ a. (outcome_of a).status ≡ 0 → (speed_verb depth limit).promises s cut) }
+    ensures said { IfOk result IsSaid }
+{
+    uploadable_law(fitted);
+    answer_drones(
+        alloc,
+        fitted.names.as_slice(),
+        fitted.sent.as_slice(),
+        depth,
+        limit,
+    )
+}
+
+/// `speed` at a depth, with a limit or without.
+#[derive(Clone, Copy)]
+pub struct SpeedVerb {
+    pub depth: u8,
+    pub limit: Option<u32>,
+    ghost most: { depth ≤ most_depth },
+}
+
+impl AnyText for SpeedVerb {
+    ghost verb = { λ c. speed_verb c.depth c.limit };
+
+    fn ways(&self) -> Ways {
+        Ways {
+            reads: true,
+            has_second: false,
+            by_frames: false,
+            depth: None,
+        }
+    }
+
+    fn answer(&self, alloc: Global, fitted: &Fitted) -> Result<Answer, AllocError> {
+        answer_fitted(alloc, fitted, self.depth, self.limit)
+    }
+}
+
+/// Runs `speed` (docs/COMMANDS.md): how fast each drone is at most on x, y and z, in micrometres per second; or the first reason why the
+/// show is refused, or the first drone and axis whose bound is above the limit.
+pub fn speed<S: Source, K: Sink>(
+    alloc: Global,
+    depth: u8,
+    limit: Option<u32>,
+    source: &mut S,
+    sink: &mut K,
+) -> u8
+    requires { depth ≤ most_depth }
+    ensures { Behaves (speed_verb depth limit) (during S.left S.faults K.written K.faults source.old source.new sink.old sink.new) result }
+{
+    run_any(alloc, &SpeedVerb { depth, limit }, source, sink)
+}

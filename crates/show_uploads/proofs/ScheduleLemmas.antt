@@ -1,0 +1,203 @@
+-- What `rehearse` answers, from what its steps do.
+use Rattle.std.proofs.Common.{◌≡◌, ℕ, zero, suc, ◌+◌, ◌-◌, ◌<◌, ◌≤◌, Bool, true, false, cond, not, ◌&&◌, ◌==◌, List, [], ◌∷◌, ◌++◌, All, length, map, nat_lt, Option, Some, None, Result, Ok, Err, IfOk, IfSome, refl, sym, ap, subst, ◌∙◌, arith}
+use Rattle.std.specs.Prelude.{find, slice_get, take}
+use Rattle.std.specs.List.{list_all, range_with_len}
+use Rattle.std.specs.Option.{option_map, option_or}
+use Rattle.std.specs.declared.alloc.AllocError.{AllocError}
+use Rattle.std.proofs.lemmas.Bool.{le-ltb}
+use Rattle.std.proofs.lemmas.List.{length-map}
+use Rattle.std.proofs.lemmas.List.Elements.{All-head, All-map, All-tail}
+use Rattle.choreo_lines.specs.Name.{Name}
+use Rattle.choreo_reader.specs.Plain.{PlainShow}
+use Rattle.choreo_reader.specs.declared.show.Settings.{Settings}
+use Rattle.cue_grid.specs.declared.grid.Grid.{Grid}
+use Rattle.fleet_world.specs.Schedules.{schedule_of}
+use Rattle.fleet_world.specs.WorldState.{WorldStandsAt, WorldState, state_at}
+use Rattle.memory_curves.specs.Decoded.{DecodesTo, load_for}
+use Rattle.refusals.specs.declared.refusal.Refusal.{Refusal}
+use Rattle.refusals.specs.declared.refusal.Refusal.TheVariants as refusal
+use Rattle.rehearsal.specs.Rehearsed.{rehearsed}
+use Rattle.rehearsal.specs.Texts.{AreTexts, IsDecoded, IsRehearsalText, IsTextBy, drone_text}
+use Rattle.show_plan.specs.declared.fitted.Fitted.{Fitted}
+use Rattle.show_plan.specs.Fitting.{IsFitted, IsValidFitted}
+use Rattle.show_plan.specs.Landing.{Lands, session_for}
+use Rattle.traj_codec.specs.Joined.{joined}
+use Rattle.traj_codec.specs.declared.traj.Traj.{Traj}
+use Rattle.upload_model.proofs.HostLaws.{All-flat_map_range, All-range}
+use Rattle.upload_model.specs.declared.events.Event.{Event}
+use Rattle.upload_model.specs.declared.events.Event.TheVariants as event
+use Rattle.upload_model.specs.declared.events.Progress.{Progress}
+use Rattle.upload_model.specs.declared.events.Progress.TheVariants.{Going, Done, GaveUp, Refused}
+use Rattle.upload_model.specs.declared.events.Sent.{Sent}
+use Rattle.upload_model.specs.declared.events.WorldEvent.{WorldEvent}
+use Rattle.upload_model.specs.Drones.{DroneState}
+use Rattle.upload_model.specs.Hosts.{acked, all_packets, ended_by, ending, gave_up, is_bad, or_else, progress, progress_within, refused, refused_with, sent_to, status_for, ticks}
+use Rattle.upload_model.specs.Sessions.{Upload, drone_count, packet_count}
+use Rattle.upload_model.specs.Worlds.{World}
+use Rattle.show_judge.specs.declared.ends.Answer.{Answer}
+use Rattle.show_judge.specs.Answers.{outcome_of}
+use Rattle.show_judge.specs.Verb.{Outcome, outcome}
+use Rattle.show_uploads.specs.Rehearse.{RehearsalEnds, Rehearses, ScheduleGives}
+use Rattle.show_judge.specs.Refused.{faulty_event, second_refusal}
+use Rattle.show_judge.specs.Shows.{Cut, marker_number, words_of}
+use Rattle.show_uploads.specs.Sessions.{schedule_limit, session_of}
+use Rattle.show_uploads.proofs.RehearsalLemmas.{decoded_after}
+
+-- ---- whose packet ends an upload
+
+-- where a packet ends an upload, its drone is one of this many
+abbrev pub IsAmong : ℕ → Progress → Type 0
+IsAmong n Going = Unit {0}
+IsAmong n Done = Unit {0}
+IsAmong n (GaveUp drone packet) = drone < n
+IsAmong n (Refused drone packet status) = drone < n
+
+-- what is found in a list is as each of the list
+pub found : {X : Type 0} (P : X → Type 0) (p : X → Bool) (xs : List X) → All P xs → IfSome (find p xs) P
+found P p [] all = tt
+found P p (x ∷ xs) all = by_test (p x) (All-head P x xs all) (found P p xs (All-tail P x xs all)) where
+  by_test : (b : Bool) → P x → IfSome (find p xs) P → IfSome (cond b (Some x) (find p xs)) P
+  by_test true here later = here
+  by_test false here later = later
+
+packets_below : (s : Upload) → All (λ (x : Sent). x.drone < drone_count s) (all_packets s)
+unfolding all_packets
+packets_below s =
+    All-flat_map_range (λ (x : Sent). x.drone < drone_count s) (λ d. sent_to d (range_with_len 0 (packet_count s d))) 0 (drone_count s)
+    (λ d low below. All-map (λ (x : Sent). x.drone < drone_count s) (λ (k : ℕ). record { drone = d; packet = k }) (range_with_len 0 (packet_count s d))
+    (All-range (λ k. d < drone_count s) 0 (packet_count s d) (λ k l b. omega (arith, below))))
+
+gave_up_among : (n : ℕ) (o : Option Sent) → IfSome o (λ x. x.drone < n) → IsAmong n (gave_up o)
+gave_up_among n None below = tt
+gave_up_among n (Some x) below = below
+
+refused_with_among : (n : ℕ) (x : Sent) (status : Option ℕ) → x.drone < n → IsAmong n (refused_with x status)
+refused_with_among n x None below = tt
+refused_with_among n x (Some status) below = below
+
+refused_among : (n : ℕ) (s : Upload) (e : Event) (o : Option Sent) → IfSome o (λ x. x.drone < n) → IsAmong n (refused s e o)
+refused_among n s e None below = tt
+refused_among n s e (Some x) below = refused_with_among n x (status_for s x.drone x.packet e) below
+
+ended_by_among : (s : Upload) (g : List Event) (o : Option Event) → IsAmong (drone_count s) (ended_by s g o)
+ended_by_among s g None = tt
+ended_by_among s g (Some event.Tick) =
+    gave_up_among (drone_count s) (find (λ x. ticks s g x == 20) (all_packets s)) (found (λ (x : Sent). x.drone < drone_count s) (λ x. ticks s g x == 20) (all_packets s) (packets_below s))
+ended_by_among s g (Some (event.Up from packet)) =
+    refused_among (drone_count s) s (event.Up from packet) (find test (all_packets s)) (found (λ (x : Sent). x.drone < drone_count s) test (all_packets s) (packets_below s)) where
+      test : Sent → Bool
+      test x = is_bad (status_for s x.drone x.packet (event.Up from packet)) && not (acked s g x.drone x.packet)
+
+ending_among : (s : Upload) (g : List Event) → IsAmong (drone_count s) (ending s g)
+unfolding ending
+ending_among s g = by_all (list_all (λ x. acked s g x.drone x.packet) (all_packets s)) where
+  by_all : (b : Bool) → IsAmong (drone_count s) (cond b Done (ended_by s g (slice_get g (length g - 1))))
+  by_all true = tt
+  by_all false = ended_by_among s g (slice_get g (length g - 1))
+
+or_else_among : (n : ℕ) (p q : Progress) → IsAmong n p → IsAmong n q → IsAmong n (or_else p q)
+or_else_among n Going q first second = second
+or_else_among n Done q first second = tt
+or_else_among n (GaveUp drone packet) q first second = first
+or_else_among n (Refused drone packet status) q first second = first
+
+within_among : (s : Upload) (h : List Event) (n : ℕ) → IsAmong (drone_count s) (progress_within s h n)
+unfolding progress_within
+within_among s h zero = ending_among s (take 0 h)
+within_among s h (suc n) = or_else_among (drone_count s) (progress_within s h n) (ending s (take (suc n) h)) (within_among s h n) (ending_among s (take (suc n) h))
+
+pub progress_among : (s : Upload) (h : List Event) → IsAmong (drone_count s) (progress s h)
+unfolding progress
+progress_among s h = within_among s h (length h)
+
+-- ---- a world after a rehearsal
+
+-- as many drones are sent something as the show has names
+sent_counted : (f : Fitted) → IsValidFitted f → length f.sent ≡ length f.names
+sent_counted f valid = ap (λ (ts : List Traj). length ts) valid.sent ∙ length-map f.trajs joined ∙ valid.trajs_counted
+
+pub session_counted : (f : Fitted) (start : Bool) → IsValidFitted f → drone_count (session_for f.settings f.sent start) ≡ length f.names
+session_counted f start valid = length-map f.sent load_for ∙ sent_counted f valid
+
+-- The world is where these events lead the session of a show that fits, over drones that are blank at the start.
+abbrev pub StandsAfter : WorldState → Fitted → Bool → List WorldEvent → Type 0
+StandsAfter v f start events = WorldStandsAt v (session_for f.settings f.sent start) (rehearsed (session_for f.settings f.sent start) events)
+
+-- where a packet ends the upload, its drone is one of the show's
+pub among_names : (v : WorldState) (f : Fitted) (start : Bool) (events : List WorldEvent) (p : Progress) → IsValidFitted f → StandsAfter v f start events → p ≡ v.progress → IsAmong (length f.names) p
+among_names v f start events p valid stands is =
+    let s : Upload = session_for f.settings f.sent start in
+    subst (IsAmong (length f.names)) (sym (is ∙ stands.progress))
+    (subst (λ (n : ℕ). IsAmong n (progress s (rehearsed s events).heard)) (session_counted f start valid) (progress_among s (rehearsed s events).heard))
+
+-- where the upload is done, each drone's memory decodes
+pub decoded_names : (v : WorldState) (f : Fitted) (start : Bool) (events : List WorldEvent) → IsValidFitted f → (g : Grid) × Lands g f.settings f.sent → StandsAfter v f start events → v.progress ≡ Done →
+    (d : ℕ) → d < length f.names → (t : Traj) × DecodesTo (state_at v.drones d) f.settings.trajectory_id t
+decoded_names v f start events valid lands stands done d within =
+    let decoded = decoded_after lands.0 f.settings f.sent start events lands.1 (sym stands.progress ∙ done) d (omega (arith, within, sent_counted f valid)) in
+    (decoded.0, subst (λ (x : DroneState). DecodesTo x f.settings.trajectory_id decoded.0) (sym (stands.drones d (omega (arith, within, session_counted f start valid)))) decoded.1)
+
+-- the text of drones is that of others which hold the same
+texts_as : (Decodes : DroneState → Option Traj → Type 0) (f g : ℕ → DroneState) (d : ℕ) (names : List (List ℕ)) (text : List ℕ) → ((k : ℕ) → k < length names → f (d + k) ≡ g (d + k)) →
+    AreTexts Decodes f d names text → AreTexts Decodes g d names text
+texts_as Decodes f g d [] text same is = is
+texts_as Decodes f g d (name ∷ names) text same (o, rest, decodes, texts, is) =
+    let here : f d ≡ g d = subst (λ (n : ℕ). f n ≡ g n) (omega arith) (same 0 (omega arith)) in (
+      o,
+      rest,
+      subst (λ (x : DroneState). Decodes x o) here decodes,
+      texts_as Decodes f g (suc d) names rest (λ k within. subst (λ (n : ℕ). f n ≡ g n) (omega arith) (same (suc k) (omega (arith, within)))) texts,
+      is ∙ ap (λ (x : DroneState). drone_text name x o ++ rest) here,
+    )
+
+pub text_as : (Decodes : DroneState → Option Traj → Type 0) (f g : ℕ → DroneState) (names : List (List ℕ)) (text : List ℕ) → ((d : ℕ) → d < length names → f d ≡ g d) → IsTextBy Decodes f names text → IsTextBy Decodes g names text
+text_as Decodes f g names text same (rest, texts, is) = (rest, texts_as Decodes f g 0 names rest (λ k within. subst (λ (n : ℕ). f n ≡ g n) (omega arith) (same k within)) texts, is)
+
+-- what the progress of a world gives is what its events give
+pub rehearses_by : (v : WorldState) (f : Fitted) (s : PlainShow) (start : Bool) (events : List WorldEvent) (o : Outcome) → IsFitted f s → StandsAfter v f start events →
+    RehearsalEnds v.progress s (rehearsed (session_for f.settings f.sent start) events) o → Rehearses s start events o
+rehearses_by v f s start events o is stands ends =
+    let u : Upload = session_for f.settings f.sent start in
+    let same : u ≡ session_of s start = ap (λ (e : Settings). session_for e f.sent start) is.settings ∙ ap (λ (ts : List Traj). session_for s.settings ts start) is.sent in
+    subst (λ (x : Upload). RehearsalEnds (progress x (rehearsed x events).heard) s (rehearsed x events) o) same
+    (subst (λ (p : Progress). RehearsalEnds p s (rehearsed u events) o) stands.progress ends)
+
+-- what a rehearsal gives that is done
+pub rehearses_done : (v : WorldState) (f : Fitted) (s : PlainShow) (start : Bool) (events : List WorldEvent) (text : List ℕ) → IsValidFitted f → IsFitted f s → StandsAfter v f start events → v.progress ≡ Done →
+    IsRehearsalText (state_at v.drones) f.settings.trajectory_id (map (λ (name : Name). name.items) f.names) text → Rehearses s start events (outcome 0 text)
+rehearses_done v f s start events text valid is stands done said =
+    let u : Upload = session_for f.settings f.sent start in
+    let w : World = rehearsed u events in
+    let named : IsRehearsalText w.drones f.settings.trajectory_id (map (λ (name : Name). name.items) f.names) text =
+    text_as (IsDecoded f.settings.trajectory_id) (state_at v.drones) w.drones (map (λ (name : Name). name.items) f.names) text
+    (λ d within. stands.drones d (omega (arith, within, length-map f.names (λ (name : Name). name.items), session_counted f start valid))) said in
+    let of_show : IsRehearsalText w.drones s.settings.trajectory_id (words_of s) text =
+    subst (λ (e : Settings). IsRehearsalText w.drones e.trajectory_id (words_of s) text) is.settings
+    (subst (λ (names : List Name). IsRehearsalText w.drones f.settings.trajectory_id (map (λ (name : Name). name.items) names) text) is.names named) in
+    rehearses_by v f s start events (outcome 0 text) is stands (subst (λ (p : Progress). RehearsalEnds p s w (outcome 0 text)) (sym done) (refl, of_show))
+
+-- ---- a second text
+
+-- what a text says over the names of what fits, it says over those of the show
+pub events_of_show : (f : Fitted) (s : PlainShow) (names : List Name) (bytes second : List ℕ) (events given : List WorldEvent) → IsFitted f s → names ≡ f.names → bytes ≡ second → given ≡ events →
+    schedule_of (map (λ (name : Name). name.items) names) bytes ≡ Ok events → schedule_of (words_of s) second ≡ Ok given
+events_of_show f s names bytes second events given is named same same_events says =
+    let here : schedule_of (map (λ (name : Name). name.items) names) second ≡ Ok events =
+    subst (λ (text : List ℕ). schedule_of (map (λ (name : Name). name.items) names) text ≡ Ok events) same says in
+    subst (λ (ns : List Name). schedule_of (map (λ (name : Name). name.items) ns) second ≡ Ok given) (named ∙ is.names)
+    (here ∙ ap (λ (es : List WorldEvent). Ok es) (sym same_events))
+
+pub nothing_refused : (too_long marked : Bool) (r q : Refusal) (line : Option ℕ) → too_long ≡ false → line ≡ None → marked ≡ false →
+    cond too_long (Some r) (option_or (option_map (λ (n : ℕ). refusal.SecondLine n) line) (cond marked (Some q) None)) ≡ None
+nothing_refused too_long marked r q line short fine unmarked = rw short (rw fine (rw unmarked refl))
+
+-- what a schedule gives whose events are these
+pub schedule_gives : (s : PlainShow) (start : Bool) (cut : Cut) (events : List WorldEvent) (result : Result Answer AllocError) → length cut.second ≤ schedule_limit →
+    schedule_of (words_of s) cut.second ≡ Ok events → cut.is_second_marked ≡ false → IfOk result (λ a. Rehearses s start events (outcome_of a)) →
+    IfOk result (λ a. ScheduleGives (second_refusal schedule_limit (faulty_event (schedule_of (words_of s) cut.second)) cut) s start cut (outcome_of a))
+schedule_gives s start cut events (Err e) short is unmarked gives = tt
+schedule_gives s start cut events (Ok a) short is unmarked gives =
+    let none : second_refusal schedule_limit (faulty_event (schedule_of (words_of s) cut.second)) cut ≡ None =
+    nothing_refused (nat_lt schedule_limit (length cut.second)) cut.is_second_marked refusal.SecondTooLarge (refusal.SecondLine (marker_number cut.second))
+    (faulty_event (schedule_of (words_of s) cut.second)) (le-ltb schedule_limit (length cut.second) short) (ap faulty_event is) unmarked in
+    subst (λ (why : Option Refusal). ScheduleGives why s start cut (outcome_of a)) (sym none) (events, is, gives)

@@ -1,0 +1,4 @@
+pub mod Sessions
+pub mod Rehearse
+pub mod Upload
+pub mod Ready

@@ -1,0 +1,336 @@
+//! `rehearse`: what an upload leaves in drones after a schedule.
+ghost use Rattle.std.specs.Prelude.{◌≡◌, ◌≤◌, length, IfOk};
+ghost use Rattle.choreo_reader.specs.Plain.{PlainShow};
+ghost use Rattle.cue_grid.specs.declared.grid.Grid.{Grid};
+ghost use Rattle.fleet_world.specs.Schedules.{schedule_of};
+ghost use Rattle.readback_core.specs.CarefulSchedules.{careful_schedule_of};
+ghost use Rattle.show_plan.specs.Fitting.{IsFitted, IsValidFitted};
+ghost use Rattle.show_plan.specs.Landing.{Lands};
+ghost use Rattle.show_judge.specs.Answers.{IsSaid, outcome_of};
+ghost use Rattle.show_judge.specs.Input.{IsText, IsUnmarked, IsWithin};
+ghost use Rattle.show_uploads.specs.Rehearse.{CarefulScheduleGives, CarefullyRehearses, RehearseGives, Rehearses, ScheduleGives, rehearse_verb};
+ghost use Rattle.show_judge.specs.Refused.{faulty_event, second_refusal};
+ghost use Rattle.show_judge.specs.Runs.{Behaves};
+ghost use Rattle.show_judge.specs.Shows.{Cut, most_depth, words_of};
+ghost use Rattle.show_judge.specs.Verb.{during};
+ghost use Rattle.show_judge.specs.Outcome.{IsVerb};
+ghost use Rattle.show_uploads.specs.Rehearse.{RehearseLaw};
+ghost use Rattle.show_uploads.specs.Sessions.{schedule_limit};
+
+use fleet_io::{Part, Sink, Source};
+use fleet_world::{MOST_TEXT, ScheduleFault, WorldEvent, read_schedule_of};
+use memory_curves::curve_law;
+use readback_core::{CarefulEvent, CarefulProgress, read_careful_schedule_of};
+use refusals::Refusal;
+use rehearsal::{careful_text, memory_text};
+use show_judge::{Answer, Output, Text, TwoTexts, marker_number, name_at, run_two};
+use show_plan::{Fitted, session};
+use std::alloc::{AllocError, Global};
+use upload_model::Progress;
+
+// What an upload gives, after these events, over drones that are blank at the start.
+fn rehearse_events(
+    alloc: Global,
+    fitted: &Fitted,
+    start: bool,
+    events: &[WorldEvent],
+) -> Result<Answer, AllocError>
+    requires valid { IsValidFitted fitted.now }
+    requires lands { (g : Grid) × Lands g fitted.now.settings fitted.now.sent }
+    ensures gives { (s : PlainShow) → IsFitted fitted.now s
+        → IfOk result (λ a. Rehearses s start events.now (outcome_of a)) }
+    ensures said { IfOk result IsSaid }
+{
+    let session = session(alloc, fitted, start)?;
+    let world = rehearsal::rehearse(alloc, session, events)?;
+    let names = fitted.names.as_slice();
+    match world.progress() {
+        Progress::Going => Ok(Answer::Refused {
+            refusal: Refusal::Ended,
+        }),
+        Progress::GaveUp { drone, packet } => Ok(Answer::Refused {
+            refusal: Refusal::GaveUp {
+                drone: name_at(names, drone),
+                packet,
+            },
+        }),
+        Progress::Refused {
+            drone,
+            packet,
+            status,
+        } => Ok(Answer::Refused {
+            refusal: Refusal::Refused {
+                drone: name_at(names, drone),
+                packet,
+                status,
+            },
+        }),
+        Progress::Done => {
+            let lines = memory_text(alloc, &world, names, fitted.settings.trajectory_id)?;
+            Ok(Answer::Done {
+                output: Output::Text { lines },
+            })
+        }
+    }
+}
+
+// What an upload with read-back gives, after these events, over drones that are blank at the start.
+fn rehearse_carefully(
+    alloc: Global,
+    fitted: &Fitted,
+    start: bool,
+    events: &[CarefulEvent],
+) -> Result<Answer, AllocError>
+    requires valid { IsValidFitted fitted.now }
+    ensures gives { (s : PlainShow) → IsFitted fitted.now s
+        → IfOk result (λ a. CarefullyRehearses s start events.now (outcome_of a)) }
+    ensures said { IfOk result IsSaid }
+{
+    let session = session(alloc, fitted, false)?;
+    let world = rehearsal::rehearse_carefully(alloc, session, start, events)?;
+    let names = fitted.names.as_slice();
+    let refusal = match world.progress() {
+        CarefulProgress::Going => Refusal::Ended,
+        CarefulProgress::GaveUp { drone, packet } => Refusal::GaveUp {
+            drone: name_at(names, drone),
+            packet,
+        },
+        CarefulProgress::Refused {
+            drone,
+            packet,
+            status,
+        } => Refusal::Refused {
+            drone: name_at(names, drone),
+            packet,
+            status,
+        },
+        CarefulProgress::Differs {
+            drone,
+            address,
+            wanted,
+            got,
+        } => Refusal::Differs {
+            drone: name_at(names, drone),
+            address,
+            wanted,
+            got,
+        },
+        CarefulProgress::Done => {
+            let lines = careful_text(alloc, &world, names, fitted.settings.trajectory_id)?;
+            return Ok(Answer::Done {
+                output: Output::Text { lines },
+            });
+        }
+    };
+    Ok(Answer::Refused { refusal })
+}
+
+// What a second text gives that isn't too large.
+fn judge_part(
+    alloc: Global,
+    fitted: &Fitted,
+    start: bool,
+    part: &Part,
+) -> Result<Answer, AllocError>
+    requires valid { IsValidFitted fitted.now }
+    requires lands { (g : Grid) × Lands g fitted.now.settings fitted.now.sent }
+    requires short { length part.now.bytes.items ≤ schedule_limit }
+    ensures gives { (s : PlainShow) (cut : Cut) → IsFitted fitted.now s
+        → IsText schedule_limit (Text.Whole part.now) cut.second cut.is_second_marked
+        → IfOk result (λ a. ScheduleGives
+        (second_refusal schedule_limit (faulty_event (schedule_of (words_of s) cut.second)) cut)
+        s start cut (outcome_of a)) }
+    ensures whole { IfOk result (λ a. (outcome_of a).status ≡ 0 → IsUnmarked (Text.Whole part.now)) }
+    ensures said { IfOk result IsSaid }
+{
+    let events = match read_schedule_of(alloc, &part.bytes, fitted.names.as_slice()) {
+        Ok(events) => events,
+        Err(ScheduleFault::Line { line }) => {
+            return Ok(Answer::Refused {
+                refusal: Refusal::SecondLine { line },
+            });
+        }
+        Err(ScheduleFault::Memory) => return Err(AllocError),
+    };
+    if part.marker {
+        let line = marker_number(&part.bytes);
+        return Ok(Answer::Refused {
+            refusal: Refusal::SecondLine { line },
+        });
+    }
+    rehearse_events(alloc, fitted, start, &events)
+}
+
+// What a second text gives with read-back that isn't too large.
+fn judge_careful_part(
+    alloc: Global,
+    fitted: &Fitted,
+    start: bool,
+    part: &Part,
+) -> Result<Answer, AllocError>
+    requires valid { IsValidFitted fitted.now }
+    requires short { length part.now.bytes.items ≤ schedule_limit }
+    ensures gives { (s : PlainShow) (cut : Cut) → IsFitted fitted.now s
+        → IsText schedule_limit (Text.Whole part.now) cut.second cut.is_second_marked
+        → IfOk result (λ a. CarefulScheduleGives
+        (second_refusal schedule_limit (faulty_event (careful_schedule_of (words_of s) cut.second)) cut)
+        s start cut (outcome_of a)) }
+    ensures whole { IfOk result (λ a. (outcome_of a).status ≡ 0 → IsUnmarked (Text.Whole part.now)) }
+    ensures said { IfOk result IsSaid }
+{
+    let events = match read_careful_schedule_of(alloc, &part.bytes, fitted.names.as_slice()) {
+        Ok(events) => events,
+        Err(ScheduleFault::Line { line }) => {
+            return Ok(Answer::Refused {
+                refusal: Refusal::SecondLine { line },
+            });
+        }
+        Err(ScheduleFault::Memory) => return Err(AllocError),
+    };
+    if part.marker {
+        return Ok(Answer::Refused {
+            refusal: Refusal::SecondLine {
+                line: marker_number(&part.bytes),
+            },
+        });
+    }
+    rehearse_carefully(alloc, fitted, start, &events)
+}
+
+// What a second text gives for a show that nothing refuses.
+fn judge_second(
+    alloc: Global,
+    fitted: &Fitted,
+    start: bool,
+    second: &Text,
+) -> Result<Answer, AllocError>
+    requires valid { IsValidFitted fitted.now }
+    requires lands { (g : Grid) × Lands g fitted.now.settings fitted.now.sent }
+    requires short { IsWithin schedule_limit second.now }
+    ensures gives { (s : PlainShow) (cut : Cut) → IsFitted fitted.now s
+        → IsText schedule_limit second.now cut.second cut.is_second_marked
+        → IfOk result (λ a. ScheduleGives
+        (second_refusal schedule_limit (faulty_event (schedule_of (words_of s) cut.second)) cut)
+        s start cut (outcome_of a)) }
+    ensures whole { IfOk result (λ a. (outcome_of a).status ≡ 0 → IsUnmarked second.now) }
+    ensures said { IfOk result IsSaid }
+{
+    match second {
+        Text::TooLarge => Ok(Answer::Refused {
+            refusal: Refusal::SecondTooLarge,
+        }),
+        Text::Whole { part } => judge_part(alloc, fitted, start, part),
+    }
+}
+
+// What a second text gives with read-back for a show that nothing refuses.
+fn judge_careful(
+    alloc: Global,
+    fitted: &Fitted,
+    start: bool,
+    second: &Text,
+) -> Result<Answer, AllocError>
+    requires valid { IsValidFitted fitted.now }
+    requires short { IsWithin schedule_limit second.now }
+    ensures gives { (s : PlainShow) (cut : Cut) → IsFitted fitted.now s
+        → IsText schedule_limit second.now cut.second cut.is_second_marked
+        → IfOk result (λ a. CarefulScheduleGives
+        (second_refusal schedule_limit (faulty_event (careful_schedule_of (words_of s) cut.second)) cut)
+        s start cut (outcome_of a)) }
+    ensures whole { IfOk result (λ a. (outcome_of a).status ≡ 0 → IsUnmarked second.now) }
+    ensures said { IfOk result IsSaid }
+{
+    match second {
+        Text::TooLarge => Ok(Answer::Refused {
+            refusal: Refusal::SecondTooLarge,
+        }),
+        Text::Whole { part } => judge_careful_part(alloc, fitted, start, part),
+    }
+}
+
+// What a second text gives, with read-back or without, for a show that nothing refuses.
+fn judge_either(
+    alloc: Global,
+    fitted: &Fitted,
+    start: bool,
+    readback: bool,
+    second: &Text,
+) -> Result<Answer, AllocError>
+    requires valid { IsValidFitted fitted.now }
+    requires lands { (g : Grid) × Lands g fitted.now.settings fitted.now.sent }
+    requires short { IsWithin schedule_limit second.now }
+    ensures gives { (s : PlainShow) (cut : Cut) → IsFitted fitted.now s
+        → IsText schedule_limit second.now cut.second cut.is_second_marked
+        → IfOk result (λ a. RehearseGives readback s start cut (outcome_of a)) }
+    ensures whole { IfOk result (λ a. (outcome_of a).status ≡ 0 → IsUnmarked second.now) }
+    ensures said { IfOk result IsSaid }
+{
+    if readback {
+        judge_careful(alloc, fitted, start, second)
+    } else {
+        judge_second(alloc, fitted, start, second)
+    }
+}
+
+/// `rehearse` at a depth, with starts or without, with read-back or without.
+#[derive(Clone, Copy)]
+pub struct Rehearsal {
+    pub depth: u8,
+    pub start: bool,
+    pub readback: bool,
+    ghost most: { depth ≤ most_depth },
+}
+
+impl TwoTexts for Rehearsal {
+    ghost verb = { λ c. rehearse_verb c.depth c.start c.readback };
+
+    ghost most = { λ c. schedule_limit };
+
+    ghost searched = { λ c. c.depth };
+
+    fn depth(&self) -> u8 {
+        self.depth
+    }
+
+    fn limit(&self) -> usize {
+        MOST_TEXT
+    }
+
+    fn answer(&self, alloc: Global, fitted: &Fitted, second: &Text) -> Result<Answer, AllocError> {
+        judge_either(alloc, fitted, self.start, self.readback, second)
+    }
+}
+
+/// A law. A rehearsal of a show and a schedule gives one outcome, and some; and where nothing is lacking, that has status 0.
+pub fn rehearse_law()
+    ensures { RehearseLaw }
+{
+    curve_law();
+}
+
+/// Runs `rehearse` (docs/COMMANDS.md, `rehearse`) at a depth of 0 to 8, with starts or without, with read-back or without: what the drones hold
+/// after the events of a schedule, where the upload is done then. Else the first thing that is wrong with the show,
+/// with the schedule or with how the upload ended. Returns the status.
+pub fn rehearse<S: Source, K: Sink>(
+    alloc: Global,
+    depth: u8,
+    start: bool,
+    readback: bool,
+    source: &mut S,
+    sink: &mut K,
+) -> u8
+    requires depth { depth ≤ most_depth }
+    ensures { Behaves (rehearse_verb depth start readback) (during S.left S.faults K.written K.faults source.old source.new sink.old sink.new) result }
+{
+    rehearse_law();
+    run_two(
+        alloc,
+        &Rehearsal {
+            depth,
+            start,
+            readback,
+        },
+        source,
+        sink,
+    )
+}

@@ -1,0 +1,180 @@
+//! `upload`: an upload of a show through link frames.
+ghost use Rattle.std.specs.Prelude.{◌≡◌, ◌≤◌, ℕ, List, [], length, false, IsTrue, IfOk, IfSome};
+ghost use Rattle.std.specs.Io.KnownBytes.{Consumes, IsAtEnd};
+ghost use Rattle.fleet_io.specs.Causes.{Rose};
+ghost use Rattle.fleet_io.specs.Held.{buffer_bytes, has_whole_marker, stream};
+ghost use Rattle.fleet_io.specs.Parts.{TakesFewAfter};
+ghost use Rattle.fleet_io.specs.Taken.{TakesFront};
+ghost use Rattle.link_frames.specs.Frames.{end_frame};
+ghost use Rattle.refusals.specs.Refusals.{status_of};
+ghost use Rattle.show_plan.specs.Fitting.{IsValidFitted};
+ghost use Rattle.show_plan.specs.Landing.{session_for};
+ghost use Rattle.show_judge.specs.Answers.{Wrote};
+ghost use Rattle.show_judge.specs.Input.{IsShowText, IsWithin, TakesOneText};
+ghost use Rattle.show_judge.specs.Runs.{Behaves, Runs, TakesLittle};
+ghost use Rattle.show_judge.specs.Shows.{Cut, cut_of, most_depth, show_limit};
+ghost use Rattle.show_judge.specs.Verb.{IsJudged, during};
+ghost use Rattle.show_uploads.specs.Ready.{GoesOnReady, IsReadyFor, IsSoundReady, ReadyGives};
+ghost use Rattle.show_uploads.specs.Upload.{UploadStopsReading, UploadingLaw, upload_verb, upload_ways};
+
+use choreo_reader::{MOST_BYTES, show_law};
+use fleet_io::{IoFault, Parts, Sink, Source, marker_law};
+use link_frames::END_BYTE;
+use link_upload::upload_law;
+use readback_core::Careful;
+use refusals::Refusal;
+use show_judge::{Failure, Judged, NO_MEMORY, Text, Ways, accept, finish};
+use show_plan::{Fitted, session};
+use std::alloc::{AllocError, Global};
+use upload_core::Host;
+
+/// The host of an upload, with read-back or without, or why the show is refused.
+#[derive(Drop)]
+pub enum Ready {
+    Host { host: Host },
+    Careful { careful: Careful },
+    Refused { refusal: Refusal },
+}
+
+// The host of an upload of what fits.
+fn make_host(
+    alloc: Global,
+    fitted: &Fitted,
+    start: bool,
+    readback: bool,
+) -> Result<Ready, AllocError>
+    requires { IsValidFitted fitted.now }
+    ensures link { IfOk result (IsReadyFor (session_for fitted.now.settings fitted.now.sent) start readback) }
+    ensures sound { IfOk result IsSoundReady }
+{
+    if readback {
+        let session = session(alloc, fitted, false)?;
+        let careful = Careful::make(alloc, session, start)?;
+        return Ok(Ready::Careful { careful });
+    }
+    let session = session(alloc, fitted, start)?;
+    let host = Host::make(alloc, session)?;
+    Ok(Ready::Host { host })
+}
+
+// The host of an upload of the show that a text stands for, or why the show is refused.
+fn make_ready(
+    alloc: Global,
+    depth: u8,
+    start: bool,
+    readback: bool,
+    text: &Text,
+) -> Result<Ready, AllocError>
+    requires depth { depth ≤ most_depth }
+    requires short { IsWithin show_limit text.now }
+    ensures gives { (cut : Cut) → IsShowText text.now cut → IfOk result (ReadyGives (upload_ways depth) start readback cut) }
+    ensures sound { IfOk result IsSoundReady }
+{
+    let ways = Ways {
+        reads: true,
+        has_second: true,
+        by_frames: true,
+        depth: Some(depth),
+    };
+    match accept(alloc, ways, depth, text)? {
+        Judged::Accepted { accepted } => make_host(alloc, &accepted.fitted, start, readback),
+        Judged::Refused { refusal } => Ok(Ready::Refused { refusal }),
+    }
+}
+
+// Reads the show's text, and makes the host of its upload.
+fn read_ready<S: Source>(
+    alloc: Global,
+    depth: u8,
+    start: bool,
+    readback: bool,
+    parts: &mut Parts,
+    source: &mut S,
+) -> Result<Ready, Failure>
+    requires depth { depth ≤ most_depth }
+    requires new { parts.old.waiting ≡ [] }
+    requires sound { IsTrue parts.old.sound }
+    requires lines { IsTrue parts.old.lines }
+    requires at_end { IsTrue parts.old.ended → IsAtEnd (S.left source.old) }
+    ensures gives { IfOk result (λ ready. IfSome (stream parts.old (S.left source.old)) (λ all. ReadyGives (upload_ways depth) start readback (cut_of all) ready)) }
+    ensures sound { IfOk result IsSoundReady }
+    ensures goes_on { IfOk result (λ ready. GoesOnReady ready parts.new (stream parts.old (S.left source.old)) (stream parts.new (S.left source.new))) }
+    ensures few { IfOk result (λ _. TakesFewAfter (stream parts.old (S.left source.old)) (S.left source.new)) }
+    ensures taken { TakesOneText (S.left source.old) (S.left source.new) }
+    ensures most { length parts.new.waiting ≤ buffer_bytes }
+    ensures at_end { IsTrue parts.new.ended → IsAtEnd (S.left source.new) }
+    ensures failed { result ≡ Err Failure.Read → Rose (S.faults source.old) (S.faults source.new) }
+    ensures unmarked { result ≡ Err Failure.Read → (taken : List ℕ) × Consumes (stream parts.old (S.left source.old)) (S.left source.new) taken × (has_whole_marker taken ≡ false) }
+    ensures later { S.faults source.old ≤ S.faults source.new }
+    ensures left { TakesFront (S.left source.old) (S.left source.new) }
+{
+    match parts.text(alloc, source, MOST_BYTES) {
+        Ok(part) => Ok(make_ready(alloc, depth, start, readback, &Text::Whole { part })?),
+        Err(IoFault::TooLong) => Ok(Ready::Refused {
+            refusal: Refusal::TooLarge,
+        }),
+        Err(IoFault::Read) => Err(Failure::Read),
+        Err(IoFault::Memory) => Err(Failure::Memory),
+    }
+}
+
+// Writes the end frame with a refusal's status, and returns that status, or 7 where the sink failed.
+fn refuse_by_frame<K: Sink>(sink: &mut K, refusal: &Refusal) -> u8
+    ensures { Wrote (status_of refusal.now) (end_frame (status_of refusal.now)) (K.written sink.old) (K.written sink.new) (K.faults sink.old) (K.faults sink.new) result }
+{
+    let status = refusal.status();
+    finish(sink, &[END_BYTE, status], status)
+}
+
+// Reads the show, and carries its upload to an end, or says by a frame why there is none.
+fn carry<S: Source, K: Sink>(
+    alloc: Global,
+    depth: u8,
+    start: bool,
+    readback: bool,
+    source: &mut S,
+    sink: &mut K,
+) -> u8
+    requires depth { depth ≤ most_depth }
+    ensures runs { Runs (upload_verb depth start readback) (during S.left S.faults K.written K.faults source.old source.new sink.old sink.new) result }
+    ensures few { TakesLittle (upload_verb depth start readback) (during S.left S.faults K.written K.faults source.old source.new sink.old sink.new) }
+    ensures stops { IsJudged result → IfSome (S.left source.old) (λ input. UploadStopsReading (upload_ways depth) start readback input (S.left source.new)) }
+{
+    uploading_law();
+    marker_law();
+    show_law();
+    let mut parts = Parts::make();
+    match read_ready(alloc, depth, start, readback, &mut parts, source) {
+        Ok(Ready::Host { host }) => link_upload::upload(&mut parts, source, host, sink),
+        Ok(Ready::Careful { careful }) => link_upload::upload(&mut parts, source, careful, sink),
+        Ok(Ready::Refused { refusal }) => refuse_by_frame(sink, &refusal),
+        Err(Failure::Read) => refuse_by_frame(sink, &Refusal::Read),
+        Err(Failure::Memory) => NO_MEMORY,
+    }
+}
+
+/// A law. An upload of a show with frames gives one outcome, and some; and where nothing is lacking, that has status 0.
+pub fn uploading_law()
+    ensures { UploadingLaw }
+{
+    upload_law();
+}
+
+/// Runs `upload` (docs/COMMANDS.md): reads the show, and carries its upload, with read-back (docs/RADIO.md, "Read-back") or without,
+/// through link frames (docs/RADIO.md, "Link frames") to an end frame; or writes the end frame alone, with the status of the first reason
+/// why the show is refused.
+pub fn upload<S: Source, K: Sink>(
+    alloc: Global,
+    depth: u8,
+    start: bool,
+    readback: bool,
+    source: &mut S,
+    sink: &mut K,
+) -> u8
+    requires depth { depth ≤ most_depth }
+    ensures { Behaves (upload_verb depth start readback) (during S.left S.faults K.written K.faults source.old source.new sink.old sink.new) result }
+{
+    show_law();
+    uploading_law();
+    carry(alloc, depth, start, readback, source, sink)
+}

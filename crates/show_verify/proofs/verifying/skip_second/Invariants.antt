@@ -1,0 +1,21 @@
+use Rattle.std.proofs.Common.{◌-◌, ◌≤◌}
+use Rattle.std.specs.Prelude.{IsTrue}
+use Rattle.std.specs.Io.KnownBytes.{IsAtEnd}
+use Rattle.fleet_io.specs.Held.{stream}
+use Rattle.fleet_io.specs.Taken.{TakesFront}
+use Rattle.show_verify.specs.SecondTexts.{Skips}
+use Rattle.show_verify.proofs.verifying.skip_second.Given as goal
+
+abbrev pub invariant-bytes : goal.invariant-bytes
+invariant-bytes g l = record {
+  skips : Skips (stream l.initial.parts (g.S.Source.left l.initial.source)) l.count l.parts.at_line (stream l.parts (g.S.Source.left l.source));
+  most : l.count ≤ 400000001;
+  sound : IsTrue l.parts.sound;
+  lines : IsTrue l.parts.lines;
+  at_end : IsTrue l.parts.ended → IsAtEnd (g.S.Source.left l.source);
+  left : TakesFront (g.S.Source.left l.initial.source) (g.S.Source.left l.source);
+  later : g.S.Source.faults l.initial.source ≤ g.S.Source.faults l.source;
+}
+
+abbrev pub decreases-bytes : goal.decreases-bytes
+decreases-bytes g l = 400000001 - l.count
