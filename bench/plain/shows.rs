@@ -1,6 +1,7 @@
-//! A plain program that does what `check`, `certify` and `verify` do for shows of drones that fly curves or hold, with the
-//! half axes and the depth that stand where a show and the words set none: for bench/shows, which compares the two. It
-//! stops at lines and trees that it doesn't know. It uses one thread and no lanes, and 64 bits where the numbers fit.
+//! A plain program that does what `check`, `certify` and `verify` do for shows of drones that fly curves or hold, with
+//! any half axes, stray and lateness, and the depth that stands where the words set none: for bench/shows, which
+//! compares the two. It stops at lines and trees that it doesn't know. It uses one thread and no lanes, and 64 bits where
+//! the numbers fit. Speeds are looked for in no part that can't have the greatest.
 //!
 //!     shows check|certify < SHOW
 //!     shows verify < SHOW-AND-CERTIFICATE
@@ -10,9 +11,13 @@ use curves::{halves, raised, Curve, Whole};
 use std::collections::HashMap;
 use std::io::{self, Read, Write};
 
-const R: i64 = 120;
-const H: i64 = 300;
 const DEPTH: u32 = 6;
+
+/// By parts of this depth speeds are bounded, whatever the depth of the search.
+const REACH_DEPTH: u32 = 6;
+
+/// No two positions are farther apart on an axis, in millimetres.
+const FARTHEST: i64 = 65_536;
 
 /// A place in micrometres.
 type Point = [i64; 3];
@@ -24,6 +29,11 @@ struct Cue {
 }
 
 struct Show {
+    /// The half axes to the side and up and down, and how far drones stray, in millimetres; how late, in milliseconds.
+    r: i64,
+    h: i64,
+    stray: i64,
+    late: i64,
     starts: Vec<Point>,
     cues: Vec<Cue>,
 }
@@ -45,7 +55,7 @@ fn points<const N: usize>(words: &[&[u8]]) -> [Point; N] {
 
 /// The show that a text stands for.
 fn read(text: &[u8]) -> Show {
-    let mut show = Show { starts: Vec::new(), cues: Vec::new() };
+    let mut show = Show { r: 120, h: 300, stray: 0, late: 0, starts: Vec::new(), cues: Vec::new() };
     let mut names = HashMap::new();
     let mut words: Vec<&[u8]> = Vec::new();
     for line in text.split(|b| *b == b'\n') {
@@ -55,6 +65,9 @@ fn read(text: &[u8]) -> Show {
         words.extend(line.split(|b| matches!(b, b' ' | b'\t' | b'\r')).filter(|word| !word.is_empty()));
         match words.as_slice() {
             [] | [b"choreo", b"1"] | [b"memory", _, _] | [b"end"] => {}
+            [b"ellipsoid", r, h] => (show.r, show.h) = (number(r, 1, 1000), number(h, 1, 1000)),
+            [b"stray", stray] => show.stray = number(stray, 0, 1000),
+            [b"late", late] => show.late = number(late, 0, 1000),
             [b"drone", name, place @ .., b"0"] => {
                 names.insert(*name, show.starts.len());
                 show.starts.push(points::<1>(place)[0]);
@@ -174,6 +187,52 @@ impl<T: Whole> Direction<T> {
     }
 }
 
+/// The widest step between neighbouring control values.
+fn widest_step(curve: &Curve<i128>) -> i128 {
+    curve.windows(2).map(|two| (two[1] - two[0]).abs()).max().unwrap_or(0)
+}
+
+/// The greatest of a step that was found and those of a curve's parts of the depth of reaches. A part's halves have no
+/// wider steps than half its own, at 2^7 times its scale.
+fn widest(curve: &Curve<i128>, depth: u32, found: i128) -> i128 {
+    let step = widest_step(curve) << (6 * (REACH_DEPTH - depth));
+    if step <= found || depth == REACH_DEPTH {
+        return found.max(step);
+    }
+    let (left, right) = halves(curve);
+    widest(&right, depth + 1, widest(&left, depth + 1, found))
+}
+
+/// Micrometres per second, at most, of a curve of so many milliseconds with this widest step, rounded up.
+fn speed(step: i128, ms: i64) -> i128 {
+    let scale = 5040 * i128::from(ms) << (7 * REACH_DEPTH);
+    ((7_000_000 * step << REACH_DEPTH) + scale - 1) / scale
+}
+
+/// How many millimetres any drone moves on each axis in so many milliseconds at most.
+fn reach(fleet: &Fleet, show: &Show) -> [i64; 3] {
+    let mut fastest = [0; 3];
+    if show.late == 0 {
+        return [0; 3];
+    }
+    for (k, curves) in fleet.curves.iter().enumerate() {
+        let ms = show.cues[k % fleet.cues].ms;
+        for (axis, curve) in curves.iter().enumerate() {
+            let curve = curve.map(i128::from);
+            if speed(widest_step(&curve) << (6 * REACH_DEPTH), ms) > fastest[axis] {
+                fastest[axis] = fastest[axis].max(speed(widest(&curve, 0, 0), ms));
+            }
+        }
+    }
+    fastest.map(|it| (i128::from(show.late) * it + 999_999).div_euclid(1_000_000).min(FARTHEST.into()) as i64)
+}
+
+/// The least whole number whose square is no less than this.
+fn root_reaching(square: i64) -> i64 {
+    let root = square.isqrt();
+    if root * root < square { root + 1 } else { root }
+}
+
 /// The 98 directions, for parts of both kinds.
 struct Table {
     narrow: Vec<Direction<i64>>,
@@ -189,15 +248,23 @@ fn common(a: i64, b: i64) -> i64 {
     }
 }
 
+/// No weighted sum of a whole curve reaches this, whatever the half axes.
+const UNREACHED: i64 = 1 << 41;
+
 impl Table {
-    fn make() -> Table {
+    fn make(show: &Show, reach: [i64; 3]) -> Table {
+        let (r, h, stray) = (show.r, show.h, show.stray);
         let mut narrow = Vec::new();
         for x in -2..=2 {
             for y in -2..=2 {
                 for z in -2..=2 {
                     if common(common(x, y), z) == 1 {
-                        let threshold = (4 * R * R * H * H * (x * x + y * y + z * z)).isqrt() + 1;
-                        narrow.push(Direction { weights: [x * H, y * H, z * R], least: 5040 * threshold });
+                        let weights = [x * h, y * h, z * r];
+                        let squares: i64 = weights.iter().map(|w| w * w).sum();
+                        let threshold = (4 * r * r * h * h * (x * x + y * y + z * z)).isqrt() + 1
+                            + root_reaching(4 * stray * stray * squares)
+                            + (0..3).map(|axis| weights[axis].abs() * reach[axis]).sum::<i64>();
+                        narrow.push(Direction { weights, least: UNREACHED.min(5040 * threshold) });
                     }
                 }
             }
@@ -256,13 +323,12 @@ fn put(nodes: &[Node], out: &mut Vec<u8>) {
 }
 
 /// The certificate of a fleet, or where a part of a cue is blocked. `check` keeps one tree at a time.
-fn certificate(fleet: &Fleet, keep: bool) -> Result<Vec<u8>, (Slot, u32)> {
-    let table = Table::make();
+fn certificate(fleet: &Fleet, table: &Table, keep: bool) -> Result<Vec<u8>, (Slot, u32)> {
     let mut out = format!("version 2\ncertificate {DEPTH}\n").into_bytes();
     let mut nodes = Vec::new();
     for slot in fleet.slots() {
         nodes.clear();
-        search(&table, &fleet.difference(slot), 0, &mut nodes).map_err(|index| (slot, index))?;
+        search(table, &fleet.difference(slot), 0, &mut nodes).map_err(|index| (slot, index))?;
         if keep {
             put(&nodes, &mut out);
         }
@@ -302,8 +368,7 @@ fn is_valid(table: &Table, part: &Part, depth: u32, most: u32, nodes: &mut Nodes
 }
 
 /// The line on a certificate, which must be valid.
-fn verified(fleet: &Fleet, text: &[u8]) -> String {
-    let table = Table::make();
+fn verified(fleet: &Fleet, table: &Table, text: &[u8]) -> String {
     let mut lines = text.strip_suffix(b"\n").unwrap_or(text).split(|b| *b == b'\n');
     assert!(lines.next() == Some(b"version 2"), "a certificate of version 2");
     let depth = lines.next().and_then(|line| line.strip_prefix(b"certificate ")).expect("a depth");
@@ -311,7 +376,7 @@ fn verified(fleet: &Fleet, text: &[u8]) -> String {
     let mut trees = 0;
     for slot in fleet.slots() {
         let mut nodes = Nodes { rest: lines.next().expect("a tree") };
-        assert!(is_valid(&table, &fleet.difference(slot), 0, most, &mut nodes), "a tree that is valid");
+        assert!(is_valid(table, &fleet.difference(slot), 0, most, &mut nodes), "a tree that is valid");
         assert!(nodes.rest.is_empty(), "no more than a tree");
         trees += 1;
     }
@@ -327,11 +392,12 @@ fn main() -> io::Result<()> {
     let (text, second) = marker.map_or((&input[..], &[][..]), |at| (&input[..at], &input[at + 4..]));
     let show = read(text);
     let fleet = Fleet::of(&show);
+    let table = Table::make(&show, reach(&fleet, &show));
     let mut out = io::stdout().lock();
     if command == "verify" {
-        return out.write_all(verified(&fleet, second).as_bytes());
+        return out.write_all(verified(&fleet, &table, second).as_bytes());
     }
-    match certificate(&fleet, command == "certify") {
+    match certificate(&fleet, &table, command == "certify") {
         Ok(certificate) if command == "certify" => out.write_all(&certificate),
         Ok(_) => {
             let ms: i64 = show.cues.iter().map(|cue| cue.ms).sum();
