@@ -12,12 +12,17 @@ TOP = os.path.dirname(os.path.dirname(os.path.abspath(__file__)))
 RUNS = 5
 
 
-def shows():
-    """bench/shows, which makes the shows."""
-    loader = SourceFileLoader("shows", os.path.join(TOP, "bench", "shows"))
-    module = importlib.util.module_from_spec(importlib.util.spec_from_loader("shows", loader))
+def script(name):
+    """A script of bench/, as a module."""
+    loader = SourceFileLoader(name, os.path.join(TOP, "bench", name))
+    module = importlib.util.module_from_spec(importlib.util.spec_from_loader(name, loader))
     loader.exec_module(module)
     return module
+
+
+def shows():
+    """bench/shows, which makes the shows."""
+    return script("shows")
 
 
 def built(name, folder):
