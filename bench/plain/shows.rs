@@ -1,7 +1,7 @@
 //! A plain program that does what `check`, `certify` and `verify` do for shows of drones that fly curves or hold, with
 //! any half axes, stray and lateness, and the depth that stands where the words set none: for bench/shows, which
-//! compares the two. It stops at lines and trees that it doesn't know. It uses one thread and no lanes, and 64 bits where
-//! the numbers fit. Speeds are looked for in no part that can't have the greatest.
+//! compares the two. It stops at lines and trees that it doesn't know. It uses one thread and no lanes, and 64 bits
+//! where the numbers fit. Speeds are looked for in no part that can't have the greatest.
 //!
 //!     shows check|certify < SHOW
 //!     shows verify < SHOW-AND-CERTIFICATE
