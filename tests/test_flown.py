@@ -3,6 +3,7 @@ import math
 import os
 import random
 import re
+import subprocess
 import tempfile
 import unittest
 
@@ -101,7 +102,11 @@ class Flown(unittest.TestCase):
 
     @common.wants_program
     def test_curves(self):
-        rows = common.run("show", "play", "--step", "77", self.show)[1].split("\n")
+        with open(os.path.join(common.TOP, self.show), "rb") as show:
+            done = subprocess.run([common.choreo.PROGRAM, "play", "--step", "77"], stdin=show,
+                                  stdout=subprocess.PIPE, timeout=60)
+        self.assertEqual(done.returncode, 0)
+        rows = done.stdout.decode().split("\n")
         places = curves.curves_of(self.flown)
         for words in (row.split() for row in rows if row):
             at = places[words[1]].at(int(words[0]))
