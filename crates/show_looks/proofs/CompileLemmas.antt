@@ -4,7 +4,7 @@ use Rattle.std.specs.Io.KnownBytes.{Appends}
 use Rattle.choreo_reader.specs.Grammar.{StandsFor}
 use Rattle.show_judge.specs.Outcome.{IsSafe, IsSafeOutcome}
 use Rattle.show_judge.specs.Runs.{Runs}
-use Rattle.show_judge.specs.Shows.{cut_of}
+use Rattle.show_judge.specs.Shows.{cut_of, sent_of}
 use Rattle.show_judge.specs.Verb.{Outcome, Run, show_ways}
 use Rattle.show_judge.proofs.HeadlineLemmas.{whole_input}
 use Rattle.show_looks.specs.Compile.{Headline, compile_verb}
@@ -13,6 +13,7 @@ use Rattle.show_looks.specs.Compile.{Headline, compile_verb}
 headline : (depth : ℕ) (input : List ℕ) (old new : Option (List ℕ)) (o : Outcome) → IsSafe (compile_verb depth) (cut_of input) o → Appends old new o.output → Headline input old new
 headline depth input old new o safe appended = record {
   s = safe.s;
+  sent = sent_of safe.s;
   stands = subst (λ (text : List ℕ). StandsFor text safe.s) (whole_input (show_ways depth) input safe.s refl safe.accepted) safe.stands;
   planned = subst (λ (output : List ℕ). Appends old new output) (ap (λ (p : Outcome). p.output) safe.gives) appended;
   lands = safe.promised.lands;

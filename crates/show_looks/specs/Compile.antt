@@ -4,6 +4,7 @@ use Rattle.std.specs.Io.KnownBytes.{Appends}
 use Rattle.choreo_reader.specs.Grammar.{StandsFor}
 use Rattle.choreo_reader.specs.Plain.{PlainShow}
 use Rattle.cue_grid.specs.Cues.{grid_of}
+use Rattle.traj_codec.specs.declared.traj.Traj.{Traj}
 use Rattle.show_plan.specs.Landing.{Lands}
 use Rattle.show_plan.specs.Texts.{plan_text}
 use Rattle.show_judge.specs.Shows.{names_of, sent_of}
@@ -16,12 +17,14 @@ plan_of s = plan_text s.settings (names_of s) (sent_of s)
 abbrev pub compile_verb : ℕ → Verb
 compile_verb depth = of_show depth plan_of
 
--- The input stands for a show, and what was written is its plan. Whatever the drones hold at the start, and whatever the link loses, repeats,
--- delays or reorders: once all packets of the plan are acknowledged, with the starts or without, each drone's memory decodes to one curve,
--- near to what the show says at every instant, and any two drones keep apart, however far they stray from these curves and however late they
--- are against one another, by what the show's settings allow; then and at each later moment.
+-- The input stands for a show, and what was written is the plan of some trajectories, one for each drone. Whatever the drones hold at the
+-- start, and whatever the link loses, repeats, delays or reorders: once all packets of the plan are acknowledged, with the starts or without,
+-- each drone's memory decodes to its trajectory, near to what the show says at every instant, and any two drones keep apart, however far they
+-- stray from these curves and however late they are against one another, by what the show's settings allow; then and at each later moment.
+-- How the trajectories are computed is not said here: `compile_verb` says it.
 pub record Headline (input : List ℕ) (old new : Option (List ℕ)) : Type 0 where
   pub s : PlainShow
+  pub sent : List Traj
   pub stands : StandsFor input s
-  pub planned : Appends old new (plan_text s.settings (names_of s) (sent_of s))
-  pub lands : Lands (grid_of s) s.settings (sent_of s)
+  pub planned : Appends old new (plan_text s.settings (names_of s) sent)
+  pub lands : Lands (grid_of s) s.settings sent
