@@ -1,14 +1,10 @@
-//! Tests of the radio crates: packets and commands byte by byte, a drone's memory, hosts answer by answer, the world
-//! of a host and its drones, frames, an upload over frames, and what a rehearsal writes.
+//! Tests of the radio crates below an upload: packets, chunks and commands byte by byte, a drone's memory and what it
+//! decodes to, link frames, and the world of a host and its drones.
 //!
 //! They stand above the crates that they test, since a crate with tests is proved twice. Expected bytes are those of
 //! docs/RADIO.md, or were written out by hand from it.
 #![tactic(auto)]
 
-#[cfg(test)]
-mod careful;
-#[cfg(test)]
-mod careful_world;
 #[cfg(test)]
 mod chunks;
 #[cfg(test)]
@@ -20,12 +16,6 @@ mod drone;
 #[cfg(test)]
 mod frames;
 #[cfg(test)]
-mod host;
-#[cfg(test)]
-mod link;
-#[cfg(test)]
 mod packets;
-#[cfg(test)]
-mod rehearsing;
 #[cfg(test)]
 mod world;

@@ -1,0 +1,17 @@
+//! Tests of uploads: hosts answer by answer, with read-back and without, drones whose memories somebody alters, an
+//! upload over frames, and what a rehearsal writes.
+//!
+//! They stand above the crates that they test, since a crate with tests is proved twice. Expected bytes are those of
+//! docs/RADIO.md, or were written out by hand from it.
+#![tactic(auto)]
+
+#[cfg(test)]
+mod careful;
+#[cfg(test)]
+mod careful_world;
+#[cfg(test)]
+mod host;
+#[cfg(test)]
+mod link;
+#[cfg(test)]
+mod rehearsing;
