@@ -21,22 +21,23 @@ use Rattle.sep_parts.proofs.Leaf.{bernstein-scaled}
 abbrev pub steps : (ℕ → ℤ) → ℕ → ℤ
 steps f i = f (suc i) -ℤ f i
 
--- one argument of the polar form exchanged for another, step by step
+-- one argument of the polar form exchanged for another: in numbers, and with a factor of one
 exchange_ring : (s b d x y : ℤ) → (s -ℤ b) *ℤ x +ℤ b *ℤ y ≡ ((s -ℤ d) *ℤ x +ℤ d *ℤ y) +ℤ (b -ℤ d) *ℤ (y -ℤ x)
 exchange_ring s b d x y = simp ring (omega (arith, linear))
 
 exchanged_once : (s b d x y : ℤ) → (s -ℤ b) *ℤ x +ℤ b *ℤ y ≡ pos 1 *ℤ ((s -ℤ d) *ℤ x +ℤ d *ℤ y) +ℤ (b -ℤ d) *ℤ (y -ℤ x)
 exchanged_once s b d x y = exchange_ring s b d x y ∙ ap (λ (z : ℤ). z +ℤ (b -ℤ d) *ℤ (y -ℤ x)) (sym (one_mul_ℤ ((s -ℤ d) *ℤ x +ℤ d *ℤ y)))
 
-exchange : (j k : ℕ) (f : ℕ → ℤ) (b d s : ℤ) → polar (suc j) k f b d s ≡ polar j (suc k) f b d s +ℤ (b -ℤ d) *ℤ polar j k (steps f) b d s
+-- One argument b of the polar form exchanged for a d: what it adds is b - d times the polar form of the steps.
+pub exchange : (j k : ℕ) (f : ℕ → ℤ) (b d s : ℤ) → polar (suc j) k f b d s ≡ polar j (suc k) f b d s +ℤ (b -ℤ d) *ℤ polar j k (steps f) b d s
 exchange j k f b d s =
     polar-suc_first j k f b d s
     ∙ polar-same j k (step b s f) (λ i. pos 1 *ℤ step d s f i +ℤ (b -ℤ d) *ℤ steps f i) b d s (λ i small. exchanged_once s b d (f i) (f (suc i)))
     ∙ polar-mix j k (pos 1) (b -ℤ d) (step d s f) (steps f) b d s
     ∙ ap (λ (z : ℤ). z +ℤ (b -ℤ d) *ℤ polar j k (steps f) b d s) (one_mul_ℤ (polar j k (step d s f) b d s) ∙ sym (polar-suc_second j k f b d s))
 
--- a polar form of values within a bound is within the bound, scaled
-polar-within : (j k : ℕ) (f : ℕ → ℤ) (m b d s : ℤ) → pos 0 ≤ℤ b → b ≤ℤ s → pos 0 ≤ℤ d → d ≤ℤ s → ((i : ℕ) → i ≤ j + k → IsWithin m (f i)) →
+-- A polar form of values within a bound is within the bound, scaled.
+pub polar-within : (j k : ℕ) (f : ℕ → ℤ) (m b d s : ℤ) → pos 0 ≤ℤ b → b ≤ℤ s → pos 0 ≤ℤ d → d ≤ℤ s → ((i : ℕ) → i ≤ j + k → IsWithin m (f i)) →
     IsWithin (power s (j + k) *ℤ m) (polar j k f b d s)
 unfolding polar
 polar-within j k f m b d s b_low b_high d_low d_high within =
@@ -52,13 +53,16 @@ within_add m n x y first second = (omega (arith, linear), omega (arith, linear))
 pub within_same : {m n x y : ℤ} → m ≡ n → x ≡ y → IsWithin m x → IsWithin n y
 within_same {m} {n} {x} {y} bounds values within = (omega (arith, linear), omega (arith, linear))
 
-count_more : (j : ℕ) (z : ℤ) → pos j *ℤ z +ℤ z ≡ pos (suc j) *ℤ z
+-- one more of a number
+pub count_more : (j : ℕ) (z : ℤ) → pos j *ℤ z +ℤ z ≡ pos (suc j) *ℤ z
 count_more j z = omega (arith, ints)
 
-regroup_sum : (x y z u : ℤ) → z ≡ x +ℤ y → (x -ℤ u) +ℤ y ≡ z -ℤ u
+-- a number added before the last one is taken off
+pub regroup_sum : (x y z u : ℤ) → z ≡ x +ℤ y → (x -ℤ u) +ℤ y ≡ z -ℤ u
 regroup_sum x y z u e = omega (arith, linear)
 
-none_left : (x y z : ℤ) → x ≡ y → IsWithin (pos 0 *ℤ z) (x -ℤ y)
+-- where nothing is exchanged nothing is left
+pub none_left : (x y z : ℤ) → x ≡ y → IsWithin (pos 0 *ℤ z) (x -ℤ y)
 none_left x y z e = (omega (arith, linear, zero_mul_ℤ z), omega (arith, linear, zero_mul_ℤ z))
 
 -- j of the arguments exchanged
@@ -77,8 +81,8 @@ exchanged (suc j) k n f m b d s e low order high within =
     (regroup_sum (polar j (suc k) f b d s) ((b -ℤ d) *ℤ polar j k (steps f) b d s) (polar (suc j) k f b d s) (polar 0 (suc n) f b d s) (exchange j k f b d s))
     (within_add _ _ _ _ (exchanged j (suc k) n f m b d s (omega arith) low order high within) one)
 
--- with no first argument the polar form is the sum too
-polar-second : (n : ℕ) (f : ℕ → ℤ) (b d s : ℤ) → polar 0 n f b d s ≡ bernstein n f d s
+-- With no first argument the polar form is the sum too.
+pub polar-second : (n : ℕ) (f : ℕ → ℤ) (b d s : ℤ) → polar 0 n f b d s ≡ bernstein n f d s
 unfolding polar
 polar-second n f b d s = bernstein-zero (λ i. bernstein n (λ l. f (i + l)) d s) b s ∙ bernstein-same n (λ l. f (0 + l)) f d s (λ l small. ap f (zero-add l))
 

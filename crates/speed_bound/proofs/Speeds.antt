@@ -17,17 +17,20 @@ use Rattle.speed_bound.proofs.Slopes.{AreFlat, steep_between, within_add, within
 use Rattle.sep_parts.proofs.Instants.{Lies, moment-lies, time_before-suc}
 
 -- ---- a positive factor cancels
+-- from an order
 pub le_from_mul : (s x y : ℤ) → pos 0 <ℤ s → (s *ℤ x) ≤ℤ (s *ℤ y) → x ≤ℤ y
 le_from_mul s x y positive below = by_lt_z y x
     (λ less. let more : (s *ℤ (y +ℤ pos 1)) ≤ℤ (s *ℤ x) = le_mul_ℤ s (y +ℤ pos 1) x (omega (arith, linear)) (omega (arith, linear)) in
     absurd (omega (arith, linear, more, below, mul_add_ℤ s y (pos 1), mul_comm_ℤ s (pos 1), one_mul_ℤ s)))
     (λ h. h)
 
-within_cancel : (s m x : ℤ) → pos 0 <ℤ s → IsWithin (s *ℤ m) (s *ℤ x) → IsWithin m x
+-- from a bound
+pub within_cancel : (s m x : ℤ) → pos 0 <ℤ s → IsWithin (s *ℤ m) (s *ℤ x) → IsWithin m x
 within_cancel s m x positive within =
     (le_from_mul s (neg_ℤ m) x positive (omega (arith, linear, within.0, mul_neg_ℤ s m)), le_from_mul s x m positive within.1)
 
-within_wider : (m n x : ℤ) → m ≤ℤ n → IsWithin m x → IsWithin n x
+-- a wider bound
+pub within_wider : (m n x : ℤ) → m ≤ℤ n → IsWithin m x → IsWithin n x
 within_wider m n x wider within = (omega (arith, linear), omega (arith, linear))
 
 -- ---- one segment
@@ -87,17 +90,18 @@ pub record AreSlow (e v : ℕ) (start : ℤ) (pieces : List Piece) : Type 0 wher
   pub fast : (cue : ℕ) → cue < length pieces → 7000000 * 2 ^ e * width cue ≤ v * (5040 * 2 ^ (7 * e) * get_or (durations pieces) cue 0)
 
 -- the position in a piece
-abbrev place : ℤ → List Piece → ℕ → ℕ → ℕ → ℤ
+abbrev pub place : ℤ → List Piece → ℕ → ℕ → ℕ → ℤ
 place start pieces cue a c = decoded start pieces (record { cue = cue; a = a; c = c })
 
--- the value of a raised curve is 5,040 times the position
-piece_value : (start : ℤ) (pieces : List Piece) (cue a c : ℕ) → All IsPiece pieces → cue < length pieces →
+-- The value of a raised curve is 5,040 times the position.
+pub piece_value : (start : ℤ) (pieces : List Piece) (cue a c : ℕ) → All IsPiece pieces → cue < length pieces →
     bernstein 7 (at (raised (points start pieces cue))) (pos a) (pos c) ≡ pos 5040 *ℤ place start pieces cue a c
 unfolding decoded
 piece_value start pieces cue a c formed inside =
     let count : (1 ≤ length (points start pieces cue)) × (length (points start pieces cue) ≤ 8) = points-count start pieces cue formed inside in
     raise (points start pieces cue) (length (points start pieces cue)) (pos a) (pos c) refl count.0 count.1
 
+-- a power of what is not negative is not negative
 pub power_low : (c : ℤ) (n : ℕ) → pos 0 ≤ℤ c → pos 0 ≤ℤ power c n
 power_low c zero low = omega (arith, ints)
 power_low c (suc n) low = omega (arith, linear, le_mul_ℤ c (pos 0) (power c n) low (power_low c n low), mul_comm_ℤ c (pos 0), zero_mul_ℤ c)
