@@ -226,19 +226,20 @@ class Builds(Place):
             self.assertEqual((status, said, "no rt on the PATH" in told), (70, "", True), told)
 
     def test_version(self):
-        status, said, told = self.show("version")
+        status, said, told = self.show("--version")
         self.assertEqual((status, said, "isn't built" in told), (70, "hemtoghai 1.2.3\n", True))
         self.show("check", "good")
-        status, said, _ = self.show("version")
+        status, said, _ = self.show("--version")
         self.assertEqual(status, 0)
         self.assertIn("hemtoghai 1.2.3\nprogram sha256 ", said)
         self.assertIn("\ntoolchain a toolchain\nproof: logic=proved functions=3 axioms=1\n", said)
         self.assertNotIn("the sources are others", said)
-        self.assertEqual(self.show("--version")[:2], (0, said))
+        # The program's own command is run as any other.
+        self.assertEqual(self.show("version")[:2], (0, "['version'] ''\n"))
         self.file("crates/low/src/lib.rt", "fn f() {}\n")
-        self.assertIn("the sources are others now", self.show("version")[1])
+        self.assertIn("the sources are others now", self.show("--version")[1])
         self.file("crates/show_cli/out/show_cli", "#!/bin/sh\n", 0o755)
-        status, said, _ = self.show("version")
+        status, said, _ = self.show("--version")
         self.assertEqual((status, "nothing is known of its proof" in said, "logic=" in said), (70, True, False))
 
 
@@ -399,6 +400,8 @@ class Words(Processes):
                 (("check", "--depth", "1", "good", "--depth", "1"), "--depth stands twice"),
                 (("drill",), "drill N: N is 1 to 32"), (("drill", "33"), "N is 1 to 32, not 33"),
                 (("drill", "3", "good"), "drill reads no file"), (("help", "good"), "help reads no file"),
+                (("version", "good"), "version reads no file"),
+                (("--version", "good"), "there is no command --version; did you mean version?"),
                 (("check", "folder"), "folder is a directory"), (("verify", "good", "folder"), "folder is a directory"),
                 (("check", "goud"), "there is no file goud; did you mean good?"),
                 (("check", "none/good"), "there is no file none/good"),

@@ -18,12 +18,13 @@ COMMANDS = [
     ("boxes [--depth D]", "reads a show and regions, and says whether its drones keep to them"),
     ("speed [--depth D] [--limit V]", "writes how fast each drone is at most, and refuses above a limit"),
     ("explain [--depth D] [--fine E]", "says where two drones come close, and whether they touch"),
+    ("version", "writes the program's version"),
 ]
 FORMS = {form.split()[0]: form for form, _ in COMMANDS}
 PURPOSES = {form.split()[0]: what for form, what in COMMANDS}
 # What stands behind the show and a marker line, in the commands that read two parts.
 SECOND = {"verify": "certificate", "rehearse": "schedule", "upload": "frames", "boxes": "regions"}
-NO_INPUT = ["help", "drill"]
+NO_INPUT = ["help", "drill", "version"]
 NUMBERS = {"D": (0, 8), "MS": (1, 60000), "N": (1, 32), "V": (1, 999999999), "E": (0, 5)}
 HELP = """usage: ./show COMMAND [OPTIONS] [FILE]
        ./show verify SHOW CERTIFICATE
@@ -31,7 +32,7 @@ HELP = """usage: ./show COMMAND [OPTIONS] [FILE]
        ./show boxes SHOW REGIONS
        ./show --unproved COMMAND ..
        ./show COMMAND --help
-       ./show version
+       ./show --version
 
 %s
 
@@ -40,8 +41,7 @@ there are two parts a line %%%% is between them. D is the greatest depth of a pa
 the option it is 6. MS is 1 to 60000, and 100 without the option. N is 1 to 32. --start has drones started
 too; --readback has their memories read back before that. V is 1 to 999999999 micrometres per second; E is 0
 to 5, and 5 without the option. --unproved runs the sources without a proof: in about a minute the first
-time, at once after that. version, or --version, says which build of the program this is: note it with each
-plan.
+time, at once after that. --version says which build of the program this is: note it with each plan.
 
 The language of shows: docs/LANGUAGE.md. Commands, statuses and fault lines: docs/COMMANDS.md. Tools: docs/TOOLS.md.
 """ % "\n".join("%-45s %s" % row for row in COMMANDS)

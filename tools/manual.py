@@ -22,7 +22,7 @@ _show() {
   local options=
   case $command in
   '')
-    options='%s version --help --version'
+    options='%s --help --version'
     [ "$at" = 2 ] || options+=' --unproved' ;;
 %s
   esac
@@ -77,7 +77,7 @@ def page(version):
            "show \\- compiles and judges shows of drones", ".SH SYNOPSIS"]
     for form in commands.FORMS.values():
         out += [".B ./show %s" % roff(form), ".br"]
-    out += [".B ./show \\-\\-unproved COMMAND ..", ".br", ".B ./show version", ".SH COMMANDS"]
+    out += [".B ./show \\-\\-unproved COMMAND ..", ".br", ".B ./show \\-\\-version", ".SH COMMANDS"]
     for form, what in commands.COMMANDS:
         second = commands.SECOND.get(form.split()[0])
         out += [".TP", ".B " + roff(form), roff(what[0].upper() + what[1:]) + "."]

@@ -1,7 +1,7 @@
 -- Words and what they are.
 use Rattle.std.proofs.Common.{◌≡◌, [], ◌∷◌, Some, None, true, false, refl}
 use Rattle.std.specs.Prelude.{codes}
-use Rattle.command_words.specs.declared.command.Command.TheVariants.{Play, Rehearse, Upload, Drill, Boxes, Speed, Explain}
+use Rattle.command_words.specs.declared.command.Command.TheVariants.{Version, Play, Rehearse, Upload, Drill, Boxes, Speed, Explain}
 use Rattle.command_words.specs.Commands.{command_of}
 
 either_order : command_of (codes "play" ∷ codes "--step" ∷ codes "500" ∷ codes "--depth" ∷ codes "3" ∷ []) ≡ Some (Play 3 500)
@@ -66,6 +66,12 @@ boxed = refl
 
 boxes_limited : command_of (codes "boxes" ∷ codes "--limit" ∷ codes "5" ∷ []) ≡ None
 boxes_limited = refl
+
+version : command_of (codes "version" ∷ []) ≡ Some Version
+version = refl
+
+version_of_one : command_of (codes "version" ∷ codes "check" ∷ []) ≡ None
+version_of_one = refl
 
 nothing : command_of [] ≡ None
 nothing = refl

@@ -2,7 +2,7 @@
 use Rattle.std.proofs.Common.{◌≡◌, ℕ, Bool, true, false, cond, List, [], ◌∷◌, ◌++◌, Option, Some, None, codes, refl, sym, ap, ◌∙◌, append-nil}
 use Rattle.std.specs.Prelude.{bytes_eq, is_some, option_map, option_and_then}
 use Rattle.command_words.specs.declared.command.Command.{Command}
-use Rattle.command_words.specs.declared.command.Command.TheVariants.{Help, Check, Compile, Certify, Play, Report, Verify, Rehearse, Upload, Drill, Boxes, Speed, Explain}
+use Rattle.command_words.specs.declared.command.Command.TheVariants.{Help, Version, Check, Compile, Certify, Play, Report, Verify, Rehearse, Upload, Drill, Boxes, Speed, Explain}
 use Rattle.command_words.specs.declared.options.Options.{Options}
 use Rattle.command_words.specs.Commands.{Given, given_depth, given_step, given_start, given_limit, given_fine, given_readback, options_of, before, valued, depths, steps, starts, limits, fines, readbacks, single, optional, without, bare, with_depth, with_step, with_start, with_limit, with_fine, named, drill_with, default_depth, default_fine, default_step}
 use Rattle.command_words.specs.Steps.{no_options, noted, collected, continued, at_bare, at_depth, at_step, at_start, at_limit, at_fine, named_with}
@@ -330,6 +330,7 @@ named_one : (name : List ℕ) (gs : List Given) → named name gs ≡ option_and
 named_one name gs =
     let m : Option Options = collected no_options gs in
     choose (bytes_eq name (codes "help")) _ _ _ _ m (bare_is Help gs)
+    (choose (bytes_eq name (codes "version")) _ _ _ _ m (bare_is Version gs)
     (choose (bytes_eq name (codes "check")) _ _ _ _ m (depth_is Check gs)
     (choose (bytes_eq name (codes "compile")) _ _ _ _ m (depth_is Compile gs)
     (choose (bytes_eq name (codes "certify")) _ _ _ _ m (depth_is Certify gs)
@@ -340,7 +341,7 @@ named_one name gs =
     (choose (bytes_eq name (codes "upload")) _ _ _ _ m (start_is Upload gs)
     (choose (bytes_eq name (codes "boxes")) _ _ _ _ m (depth_is Boxes gs)
     (choose (bytes_eq name (codes "speed")) _ _ _ _ m (limit_is gs)
-    (choose (bytes_eq name (codes "explain")) _ _ _ _ m (fine_is gs) (nothing_is m))))))))))))
+    (choose (bytes_eq name (codes "explain")) _ _ _ _ m (fine_is gs) (nothing_is m)))))))))))))
 
 -- The walk finds the command that the words are.
 pub named_is : (name : List ℕ) (words : List (List ℕ)) → option_and_then (named name) (options_of words) ≡ option_and_then (named_with name) (continued no_options words)

@@ -3,7 +3,7 @@ use Rattle.std.specs.Prelude.{◌≡◌, ◌↔◌, ℕ, ◌≤◌, Bool, true, 
 use Rattle.std.specs.Option.{option_map, option_and_then}
 use Rattle.text_lines.specs.Numbers.{natural_of}
 use Rattle.command_words.specs.declared.command.Command.{Command}
-use Rattle.command_words.specs.declared.command.Command.TheVariants.{Help, Check, Compile, Certify, Play, Report, Verify, Rehearse, Upload, Drill, Boxes, Speed, Explain}
+use Rattle.command_words.specs.declared.command.Command.TheVariants.{Help, Version, Check, Compile, Certify, Play, Report, Verify, Rehearse, Upload, Drill, Boxes, Speed, Explain}
 
 -- ---- numbers
 
@@ -212,6 +212,7 @@ with_fine gs =
 abbrev pub named : List ℕ → List Given → Option Command
 named name gs =
     if bytes_eq name (codes "help") then bare Help gs
+    else (if bytes_eq name (codes "version") then bare Version gs
     else (if bytes_eq name (codes "check") then with_depth Check gs
     else (if bytes_eq name (codes "compile") then with_depth Compile gs
     else (if bytes_eq name (codes "certify") then with_depth Certify gs
@@ -223,7 +224,7 @@ named name gs =
     else (if bytes_eq name (codes "boxes") then with_depth Boxes gs
     else (if bytes_eq name (codes "speed") then with_limit gs
     else (if bytes_eq name (codes "explain") then with_fine gs
-    else None)))))))))))
+    else None))))))))))))
 
 -- a drill of this many drones
 abbrev pub drill_with : Option ℕ → List (List ℕ) → Option Command
@@ -244,6 +245,7 @@ command_of (name ∷ words) =
 -- the numbers of a command are those that the program takes
 abbrev pub IsCommand : Command → Type 0
 IsCommand Help = Unit {0}
+IsCommand Version = Unit {0}
 IsCommand (Check depth) = depth ≤ most_depth
 IsCommand (Compile depth) = depth ≤ most_depth
 IsCommand (Certify depth) = depth ≤ most_depth
@@ -288,4 +290,4 @@ help_text =
     codes "help\ncheck [--depth D]\ncompile [--depth D]\ncertify [--depth D]\n"
     ++ codes "play [--depth D] [--step MS]\nreport [--depth D]\nverify\n"
     ++ codes "rehearse [--depth D] [--start] [--readback]\nupload [--depth D] [--start] [--readback]\ndrill N [--depth D]\n"
-    ++ codes "boxes [--depth D]\nspeed [--depth D] [--limit V]\nexplain [--depth D] [--fine E]\n"
+    ++ codes "boxes [--depth D]\nspeed [--depth D] [--limit V]\nexplain [--depth D] [--fine E]\nversion\n"

@@ -1,7 +1,7 @@
 -- The walk over the words: what was given so far, and which command that makes.
 use Rattle.std.specs.Prelude.{ℕ, ◌≤◌, Bool, true, false, not, ◌||◌, List, [], ◌∷◌, bytes_eq, codes, Option, Some, None, IfSome, is_some, unwrap_or, option_map, option_and_then, if◌then◌else◌}
 use Rattle.command_words.specs.declared.command.Command.{Command}
-use Rattle.command_words.specs.declared.command.Command.TheVariants.{Help, Check, Compile, Certify, Play, Report, Verify, Rehearse, Upload, Boxes, Speed, Explain}
+use Rattle.command_words.specs.declared.command.Command.TheVariants.{Help, Version, Check, Compile, Certify, Play, Report, Verify, Rehearse, Upload, Boxes, Speed, Explain}
 use Rattle.command_words.specs.declared.options.Options.{Options}
 use Rattle.command_words.specs.Commands.{Given, given_depth, given_step, given_start, given_limit, given_fine, given_readback, options_of, default_depth, default_fine, most_depth, most_fine, default_step, most_limit, most_step}
 
@@ -103,6 +103,7 @@ study_with name o =
 abbrev pub named_with : List ℕ → Options → Option Command
 named_with name o =
     if bytes_eq name (codes "help") then at_bare Help o
+    else (if bytes_eq name (codes "version") then at_bare Version o
     else (if bytes_eq name (codes "check") then at_depth Check o
     else (if bytes_eq name (codes "compile") then at_depth Compile o
     else (if bytes_eq name (codes "certify") then at_depth Certify o
@@ -111,4 +112,4 @@ named_with name o =
     else (if bytes_eq name (codes "verify") then at_bare Verify o
     else (if bytes_eq name (codes "rehearse") then at_start Rehearse o
     else (if bytes_eq name (codes "upload") then at_start Upload o
-    else study_with name o))))))))
+    else study_with name o)))))))))

@@ -11,6 +11,8 @@ use crate::options::{Options, number_from, options_of};
 pub enum Command {
     /// The forms of the commands.
     Help,
+    /// The program's version.
+    Version,
     /// Whether a show fits and its drones keep apart.
     Check {
         depth: u8,
@@ -99,6 +101,8 @@ fn named(name: &[u8], options: Options) -> Option<Command>
 {
     if name == b"help".as_slice() {
         options.is_bare().then_some(Command::Help)
+    } else if name == b"version".as_slice() {
+        options.is_bare().then_some(Command::Version)
     } else if name == b"check".as_slice() {
         let depth = options.depth_alone()?;
         Some(Command::Check { depth })
@@ -176,5 +180,6 @@ pub fn help_text() -> &'static [u8]
       drill N [--depth D]\n\
       boxes [--depth D]\n\
       speed [--depth D] [--limit V]\n\
-      explain [--depth D] [--fine E]\n"
+      explain [--depth D] [--fine E]\n\
+      version\n"
 }

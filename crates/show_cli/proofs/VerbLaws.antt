@@ -2,7 +2,7 @@
 use Rattle.std.proofs.Common.{◌≡◌, ℕ, List, Option, Some, refl}
 use Rattle.command_words.specs.Commands.{help_text}
 use Rattle.command_words.specs.declared.command.Command.{Command}
-use Rattle.command_words.specs.declared.command.Command.TheVariants.{Help, Check, Compile, Certify, Play, Report, Verify, Rehearse, Upload, Drill, Boxes, Speed, Explain}
+use Rattle.command_words.specs.declared.command.Command.TheVariants.{Help, Version, Check, Compile, Certify, Play, Report, Verify, Rehearse, Upload, Drill, Boxes, Speed, Explain}
 use Rattle.drill_show.specs.Drill.{drill_text}
 use Rattle.report_text.specs.Report.{report_text}
 use Rattle.text_lines.specs.Marker.{part_of}
@@ -18,6 +18,7 @@ use Rattle.show_looks.specs.Compile.{plan_of}
 use Rattle.show_looks.specs.Drilled.{drill_of}
 use Rattle.show_looks.specs.Play.{rows}
 use Rattle.show_looks.specs.Reports.{report_of}
+use Rattle.show_looks.specs.Version.{version_line}
 use Rattle.show_looks.proofs.CertifyLemmas.{certify_laws}
 use Rattle.show_studies.specs.Boxes.{BoxesLaw}
 use Rattle.show_studies.proofs.StudyLaws.{explain_laws, speed_laws}
@@ -28,6 +29,7 @@ use Rattle.show_cli.specs.Verbs.{JudgesApart, verb_of}
 
 pub laws : VerifyLaw → RehearseLaw → UploadingLaw → BoxesLaw → (c : Command) → IsVerb (verb_of c)
 laws verify rehearse uploading boxes Help = nothing_verb help_text
+laws verify rehearse uploading boxes Version = nothing_verb version_line
 laws verify rehearse uploading boxes (Check depth) = show_verb depth check_text
 laws verify rehearse uploading boxes (Compile depth) = show_verb depth plan_of
 laws verify rehearse uploading boxes (Certify depth) = certify_laws depth
@@ -44,6 +46,7 @@ laws verify rehearse uploading boxes (Explain depth fine) = explain_laws depth f
 -- status 0 of a command that judges whether drones keep apart
 pub flies : (c : Command) → JudgesApart c → (input : List ℕ) (r : Run) (status : ℕ) → Runs (verb_of c) r status → r.left ≡ Some input → status ≡ 0 → FliesText (part_of input)
 flies Help judges input r status runs left done = absurd (judges.0 refl)
+flies Version judges input r status runs left done = absurd (judges.1 refl)
 flies (Check depth) judges input r status runs left done = flies_of (verb_of (Check depth)) refl refl (λ s cut promised. promised) input r status runs left done
 flies (Compile depth) judges input r status runs left done = flies_of (verb_of (Compile depth)) refl refl (λ s cut promised. promised) input r status runs left done
 flies (Certify depth) judges input r status runs left done = flies_of (verb_of (Certify depth)) refl refl (λ s cut promised. promised) input r status runs left done
@@ -53,7 +56,7 @@ flies Verify judges input r status runs left done = flies_of (verb_of Verify) re
 flies (Rehearse depth start readback) judges input r status runs left done =
     flies_of (verb_of (Rehearse depth start readback)) refl refl (λ s cut promised. promised) input r status runs left done
 flies (Upload depth start readback) judges input r status runs left done = flies_of (verb_of (Upload depth start readback)) refl refl (λ s cut promised. promised) input r status runs left done
-flies (Drill drones depth) judges input r status runs left done = absurd (judges.1 drones depth refl)
-flies (Boxes depth) judges input r status runs left done = absurd (judges.2 depth refl)
-flies (Speed depth limit) judges input r status runs left done = absurd (judges.3 depth limit refl)
-flies (Explain depth fine) judges input r status runs left done = absurd (judges.4 depth fine refl)
+flies (Drill drones depth) judges input r status runs left done = absurd (judges.2 drones depth refl)
+flies (Boxes depth) judges input r status runs left done = absurd (judges.3 depth refl)
+flies (Speed depth limit) judges input r status runs left done = absurd (judges.4 depth limit refl)
+flies (Explain depth fine) judges input r status runs left done = absurd (judges.5 depth fine refl)

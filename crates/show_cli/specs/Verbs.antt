@@ -3,7 +3,7 @@ use Rattle.std.specs.Prelude.{◌≢◌, ℕ, List, map, string_bytes, Option, S
 use Rattle.std.specs.declared.alloc.Global.{Global}
 use Rattle.command_words.specs.Commands.{command_of, help_text}
 use Rattle.command_words.specs.declared.command.Command.{Command}
-use Rattle.command_words.specs.declared.command.Command.TheVariants.{Help, Check, Compile, Certify, Play, Report, Verify, Rehearse, Upload, Drill, Boxes, Speed, Explain}
+use Rattle.command_words.specs.declared.command.Command.TheVariants.{Help, Version, Check, Compile, Certify, Play, Report, Verify, Rehearse, Upload, Drill, Boxes, Speed, Explain}
 use Rattle.show_judge.specs.Verb.{Verb}
 use Rattle.show_looks.specs.Certify.{certify_verb}
 use Rattle.show_looks.specs.Check.{check_verb}
@@ -12,6 +12,7 @@ use Rattle.show_looks.specs.Drilled.{drill_verb}
 use Rattle.show_looks.specs.Help.{help_verb}
 use Rattle.show_looks.specs.Play.{play_verb}
 use Rattle.show_looks.specs.Report.{report_verb}
+use Rattle.show_looks.specs.Version.{version_verb}
 use Rattle.show_studies.specs.Boxes.{boxes_verb}
 use Rattle.show_studies.specs.Explained.{explain_verb}
 use Rattle.show_studies.specs.Speeds.{speed_verb}
@@ -26,6 +27,7 @@ command_in words = command_of (map string_bytes words)
 -- what it reads, gives, promises and writes: a line a command
 abbrev pub verb_of : Command → Verb
 verb_of Help = help_verb help_text
+verb_of Version = version_verb
 verb_of (Check depth) = check_verb depth
 verb_of (Compile depth) = compile_verb depth
 verb_of (Certify depth) = certify_verb depth
@@ -39,9 +41,9 @@ verb_of (Boxes depth) = boxes_verb depth
 verb_of (Speed depth limit) = speed_verb depth limit
 verb_of (Explain depth fine) = explain_verb depth fine
 
--- The command judges whether the drones of its input keep apart: `help` judges none, `drill` a show of its own, and `boxes`, `speed` and
+-- The command judges whether the drones of its input keep apart: `help` and `version` judge none, `drill` a show of its own, and `boxes`, `speed` and
 -- `explain` something else.
 abbrev pub JudgesApart : Command → Type 0
 JudgesApart c =
-    (c ≢ Help) × ((drones depth : ℕ) → c ≢ Drill drones depth) × ((depth : ℕ) → c ≢ Boxes depth) × ((depth : ℕ) (limit : Option ℕ) → c ≢ Speed depth limit)
+    (c ≢ Help) × (c ≢ Version) × ((drones depth : ℕ) → c ≢ Drill drones depth) × ((depth : ℕ) → c ≢ Boxes depth) × ((depth : ℕ) (limit : Option ℕ) → c ≢ Speed depth limit)
     × ((depth fine : ℕ) → c ≢ Explain depth fine)

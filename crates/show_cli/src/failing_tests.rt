@@ -1,6 +1,6 @@
 //! Each failure once: the row of each command over ends that cut to 16 bytes, with each read failing in turn, and with each
 //! write. What is written then is the line of a failed read, or a prefix of the row's output by arithmetic.
-use crate::tests::{APART, CROSSING, FINE, HELP, Manner, PLAN, ROWS, SHOW, START, answer};
+use crate::tests::{APART, CROSSING, FINE, HELP, Manner, PLAN, ROWS, SHOW, START, VERSION, answer};
 use crate::upload_tests::{ANSWERS, DEFINE_AND_END, FIRST};
 use std::alloc::{AllocError, Global};
 use std::test::Fail;
@@ -84,10 +84,11 @@ const TO_THE_END: [Row; 14] = [
 const NO_CUE: &[u8] = b"error 3 line 1 no-cue\n";
 
 // The rows of the commands that don't.
-const OTHERS: [Row; 3] = [
+const OTHERS: [Row; 4] = [
     (&["help"], b"", b"", 0, &[HELP]),
     (&["drill", "2"], b"", b"", 0, &[DRILL]),
     (&["upload"], SHOW, ANSWERS, 0, &[FIRST, DEFINE, END]),
+    (&["version"], b"", b"", 0, &[VERSION]),
 ];
 
 // The frame of the define, and the end frame of an upload that is done.
@@ -170,6 +171,7 @@ fn each_read_fails(rt: HostRuntime) -> Result<(), Fail> {
     // These read nothing.
     assert!(rt; is_met(rt.alloc(), &OTHERS[0], 1, 0, 0, HELP)?);
     assert!(rt; is_met(rt.alloc(), &OTHERS[1], 1, 0, 0, DRILL)?);
+    assert!(rt; is_met(rt.alloc(), &OTHERS[3], 1, 0, 0, VERSION)?);
     Ok(())
 }
 

@@ -110,7 +110,9 @@ pub fn is_met(
 pub const HELP: &[u8] = b"help\ncheck [--depth D]\ncompile [--depth D]\ncertify [--depth D]\n\
 play [--depth D] [--step MS]\nreport [--depth D]\nverify\nrehearse [--depth D] [--start] [--readback]\n\
 upload [--depth D] [--start] [--readback]\ndrill N [--depth D]\n\
-boxes [--depth D]\nspeed [--depth D] [--limit V]\nexplain [--depth D] [--fine E]\n";
+boxes [--depth D]\nspeed [--depth D] [--limit V]\nexplain [--depth D] [--fine E]\nversion\n";
+
+pub const VERSION: &[u8] = b"hemtoghai 0.1.0\n";
 
 // A drone that moves a metre along x in two seconds: its first, middle and last instants.
 pub const ROWS: &[u8] =
@@ -123,8 +125,9 @@ const BACK: &[u8] =
 const BACK_ROWS: &[u8] = b"0 solo 0 0 1000000 0\n1 solo -334 0 1000000 3\n2 solo -667 0 1000000 6\n\
 3 solo -1000 0 1000000 10\n";
 
-const COMMANDS: [(&[&str], &[u8], u8, &[u8]); 22] = [
+const COMMANDS: [(&[&str], &[u8], u8, &[u8]); 23] = [
     (&["help"], b"", 0, HELP),
+    (&["version"], b"", 0, VERSION),
     (&["play", "--step", "1000"], SHOW, 0, ROWS),
     (
         &["play", "--step", "60000"],
@@ -260,9 +263,11 @@ fn ends_that_never_fail(rt: HostRuntime) -> Result<(), Fail> {
 
 #[test]
 fn words_that_are_no_command(rt: HostRuntime) -> Result<(), Fail> {
-    let rows: [&[&str]; 8] = [
+    let rows: [&[&str]; 10] = [
         &[],
         &["Compile"],
+        &["--version"],
+        &["version", "version"],
         &["play", "--step", "5", "--step", "5"],
         &["compile", "--depth"],
         &["compile", "--depth", "9"],

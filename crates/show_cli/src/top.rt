@@ -24,7 +24,7 @@ use fleet_io::{Sink, Source, SureSink, SureSource};
 use readback_core::readback_law;
 use refusals::Refusal;
 use show_judge::refuse;
-use show_looks::{certify, check, compile, drill, help, play, report};
+use show_looks::{certify, check, compile, drill, help, play, report, version};
 use show_studies::{boxes, boxes_law, explain, speed};
 use show_uploads::{rehearse, rehearse_law, upload, uploading_law};
 use show_verify::{verify, verify_law};
@@ -42,6 +42,7 @@ fn run_command<S: Source, K: Sink>(
 {
     match command {
         Command::Help => help(help_text(), source, sink),
+        Command::Version => version(source, sink),
         Command::Check { depth } => check(alloc, depth, source, sink),
         Command::Compile { depth } => compile(alloc, depth, source, sink),
         Command::Certify { depth } => certify(alloc, depth, source, sink),

@@ -1,5 +1,6 @@
 pub mod Reports
 pub mod Help
+pub mod Version
 pub mod Check
 pub mod Compile
 pub mod Certify

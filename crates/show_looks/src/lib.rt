@@ -1,4 +1,4 @@
-//! The commands that look at one show: `check`, `compile`, `certify`, `report` and `play`; `drill`, at one of its own; and `help`, at none.
+//! The commands that look at one show: `check`, `compile`, `certify`, `report` and `play`; `drill`, at one of its own; and `help` and `version`, at none.
 //! The run of each is one fact, `Behaves`.
 #![tactic(auto)]
 
@@ -16,6 +16,6 @@ pub use certifying::{CertifyVerb, certify};
 pub use checking::{CheckVerb, check};
 pub use compiling::{CompileVerb, compile};
 pub use drilling::drill;
-pub use helping::help;
+pub use helping::{help, version};
 pub use playing::play;
 pub use reporting::{ReportVerb, report};

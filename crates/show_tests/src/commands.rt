@@ -12,8 +12,9 @@ fn command(alloc: Global, line: &str) -> Result<Option<Command>, AllocError> {
     Ok(command_of(&words))
 }
 
-const COMMANDS: [(&str, Command); 33] = [
+const COMMANDS: [(&str, Command); 34] = [
     ("help", Command::Help),
+    ("version", Command::Version),
     ("check", Command::Check { depth: 6 }),
     ("check --depth 0", Command::Check { depth: 0 }),
     ("compile --depth 8", Command::Compile { depth: 8 }),
@@ -176,7 +177,7 @@ fn words_that_are_a_command(rt: HostRuntime) -> Result<(), Fail> {
     Ok(())
 }
 
-const NO_COMMANDS: [&str; 60] = [
+const NO_COMMANDS: [&str; 64] = [
     "",
     "Compile",
     "compil",
@@ -185,6 +186,10 @@ const NO_COMMANDS: [&str; 60] = [
     "--version",
     "help help",
     "help --depth 3",
+    "version version",
+    "version --depth 3",
+    "Version",
+    "version ",
     "verify --depth 6",
     "verify --start",
     "check --start",
@@ -250,7 +255,7 @@ fn words_that_are_no_command(rt: HostRuntime) -> Result<(), Fail> {
 
 #[test]
 fn the_forms_of_the_commands(rt: HostRuntime) {
-    let lines: [&[u8]; 13] = [
+    let lines: [&[u8]; 14] = [
         b"help",
         b"check [--depth D]",
         b"compile [--depth D]",
@@ -264,6 +269,7 @@ fn the_forms_of_the_commands(rt: HostRuntime) {
         b"boxes [--depth D]",
         b"speed [--depth D] [--limit V]",
         b"explain [--depth D] [--fine E]",
+        b"version",
     ];
     let mut rest = help_text();
     for line in lines {
