@@ -57,9 +57,11 @@ impl Checker {
         self.text.take(curves, &self.tables, byte);
     }
 
-    /// The verdict on the bytes that were read, as a whole text: its first faulty line; or the first fault of the certificate, the one
-    /// that `check` of `sep_certificate` finds; or that the certificate is valid. The curves are those of the earlier calls. Nothing is
-    /// said of the checker afterwards.
+    /// The verdict on the bytes that were read, as a whole text: its first faulty line; or the first fault of the certificate; or that the
+    /// certificate is valid. The curves are those of the earlier calls. Nothing is said of the checker afterwards.
+    ///
+    /// Faults come in this order: trees of a pair and cue in order, in each a part before its halves and the first half before the
+    /// second; then the first pair and cue without a tree, or the first tree too many, whose nodes aren't judged.
     ///
     /// If the certificate is valid, whoever made it, any two drones are apart at every instant p / q of the show, for all whole numbers
     /// p and q and for every list of trajectories that the curves stand for.

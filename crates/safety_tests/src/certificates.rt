@@ -1,19 +1,16 @@
-//! Certificates judged by both checkers, that of a whole certificate and that of its bytes, with ellipsoids of half axes 120, 120 and 300 mm. Of two
+//! Certificates judged by their texts, with ellipsoids of half axes 120, 120 and 300 mm. Of two
 //! drones in three cues of three seconds one waits, goes 1 m along x, and waits; the other rises by 1 m, goes the other way above it, and sinks.
 //! Of three drones all stay.
 
-ghost use Rattle.std.specs.Prelude.{◌≡◌, ◌≤◌, ◌∷◌, [], length, IfOk};
+ghost use Rattle.std.specs.Prelude.{◌≤◌, length};
 ghost use Rattle.sep_parts.specs.Directions.{IsClearance};
-ghost use Rattle.fleet_curves.specs.Raised.{AreOneShow};
 ghost use Rattle.certificate_checker.specs.Bytes.{most_bytes};
 ghost use Rattle.certificate_checker.specs.Verdicts.{VerdictGives};
 
 use crate::flights::{clearance, still, three_legs};
 use certificate_checker::{Checker, Verdict};
 use fleet_curves::Curves;
-use sep_certificate::{
-    CERTIFICATE_LIMIT, CertFault, CertTextFault, check, read_certificate, write_certificate,
-};
+use sep_certificate::CertFault;
 use sep_parts::Clearance;
 use std::alloc::{AllocError, Global};
 use std::test::Fail;
@@ -41,7 +38,7 @@ fn three(alloc: Global) -> Result<Curves, AllocError> {
     Curves::of_slice(alloc, trajs.as_slice())
 }
 
-// What becomes of a text. Drones, cues, places, directions and control values are those of the fault, in its order.
+// A verdict. Drones, cues, places, directions and control values are those of the fault, in its order.
 #[derive(Clone, Copy, PartialEq, Eq, Debug)]
 enum Outcome {
     // The depth, and how many trees there are.
@@ -52,22 +49,6 @@ enum Outcome {
     TooDeep(u8, u8, u16),
     Fails((u8, u8, u16), (u8, u16), u8, u8),
     Other,
-}
-
-// What the checker of whole certificates says.
-fn as_whole(alloc: Global, curves: &Curves, text: &[u8]) -> Outcome {
-    if text.len() > CERTIFICATE_LIMIT {
-        return Outcome::Other;
-    }
-    let cert = match read_certificate(alloc, text) {
-        Ok(cert) => cert,
-        Err(CertTextFault::Line { line }) => return Outcome::Line(line),
-        Err(CertTextFault::Memory) => return Outcome::Other,
-    };
-    match check(curves, still(), &cert) {
-        Ok(()) => Outcome::Valid(cert.depth, cert.trees.as_slice().len() as u32),
-        Err(fault) => fault_of(fault),
-    }
 }
 
 // A text judged byte by byte.
@@ -83,8 +64,8 @@ fn judged(curves: &Curves, clearance: Clearance, text: &[u8]) -> Verdict
     checker.end(curves)
 }
 
-// What the checker of bytes says.
-fn by_bytes(curves: &Curves, text: &[u8]) -> Outcome {
+// What becomes of a text.
+fn becomes(curves: &Curves, text: &[u8]) -> Outcome {
     if text.len() > 1_000_000 {
         return Outcome::Other;
     }
@@ -109,41 +90,6 @@ fn fault_of(fault: CertFault) -> Outcome {
             control,
         } => Outcome::Fails((a, b, cue), (place.depth, place.index), dir, control),
     }
-}
-
-// Both say the same of a text.
-fn becomes(alloc: Global, curves: &Curves, text: &[u8]) -> Outcome {
-    let outcome = by_bytes(curves, text);
-    if as_whole(alloc, curves, text) == outcome {
-        outcome
-    } else {
-        Outcome::Other
-    }
-}
-
-// A text, and how it is written back.
-const WRITTEN_BACK: [(&[u8], &[u8]); 2] = [
-    (
-        b"certificate 6\r\nr\r\n..lll\na",
-        b"certificate 6\nr\n..lll\na\n",
-    ),
-    (
-        b"version 2\ncertificate 6\n58\n..460797\n00\n",
-        b"version 2\ncertificate 6\n58\n..460797\n00\n",
-    ),
-];
-
-#[test]
-fn certificates_written_back(rt: HostRuntime) -> Result<(), Fail> {
-    for (text, wanted) in WRITTEN_BACK {
-        let Ok(cert) = read_certificate(rt.alloc(), text) else {
-            assert!(rt; false);
-            return Ok(());
-        };
-        let written = write_certificate(rt.alloc(), &cert)?;
-        assert!(rt; written.as_slice() == wanted);
-    }
-    Ok(())
 }
 
 const FOR_TWO: [(&[u8], Outcome); 14] = [
@@ -187,7 +133,7 @@ const FOR_TWO: [(&[u8], Outcome); 14] = [
 fn certificates_of_two_drones(rt: HostRuntime) -> Result<(), Fail> {
     let curves = two(rt.alloc())?;
     for (text, wanted) in FOR_TWO {
-        assert_eq!(rt; becomes(rt.alloc(), &curves, text), wanted);
+        assert_eq!(rt; becomes(&curves, text), wanted);
     }
     Ok(())
 }
@@ -222,7 +168,7 @@ const FOR_THREE: [(&[u8], Outcome); 5] = [
 fn certificates_of_three_drones(rt: HostRuntime) -> Result<(), Fail> {
     let curves = three(rt.alloc())?;
     for (text, wanted) in FOR_THREE {
-        assert_eq!(rt; becomes(rt.alloc(), &curves, text), wanted);
+        assert_eq!(rt; becomes(&curves, text), wanted);
     }
     Ok(())
 }
@@ -255,7 +201,7 @@ const FAULTY: [(&[u8], u32); 20] = [
 fn faulty_lines(rt: HostRuntime) -> Result<(), Fail> {
     let curves = two(rt.alloc())?;
     for (text, line) in FAULTY {
-        assert_eq!(rt; becomes(rt.alloc(), &curves, text), Outcome::Line(line));
+        assert_eq!(rt; becomes(&curves, text), Outcome::Line(line));
     }
     Ok(())
 }
@@ -285,7 +231,7 @@ fn texts_that_end_anywhere(rt: HostRuntime) -> Result<(), Fail> {
     let curves = two(rt.alloc())?;
     for bytes in 0..40 {
         assert_eq!(rt;
-            becomes(rt.alloc(), &curves, &WHOLE[..bytes]),
+            becomes(&curves, &WHOLE[..bytes]),
             wanted(bytes)
         );
     }
@@ -305,11 +251,11 @@ fn a_hundred_thousand_splits(rt: HostRuntime) -> Result<(), Fail> {
         text.push(b'a')?;
     }
     assert_eq!(rt;
-        becomes(rt.alloc(), &curves, &text),
+        becomes(&curves, &text),
         Outcome::TooDeep(0, 1, 0)
     );
     text.extend_from_slice(b"\n.a")?;
-    assert_eq!(rt; becomes(rt.alloc(), &curves, &text), Outcome::Line(3));
+    assert_eq!(rt; becomes(&curves, &text), Outcome::Line(3));
     Ok(())
 }
 

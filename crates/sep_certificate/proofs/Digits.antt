@@ -9,7 +9,7 @@ use Rattle.sep_parts.specs.declared.node.Node.{Node}
 use Rattle.sep_parts.specs.declared.node.Node.TheVariants.{Split, Leaf}
 use Rattle.sep_parts.specs.Trees.{Tree, IsTree, IsKnown, preorder}
 use Rattle.sep_parts.specs.Trees.Tree.{leaf}
-use Rattle.sep_certificate.specs.Steps.{is_spelled_wide, leaf_in, wide_nodes}
+use Rattle.sep_certificate.specs.Steps.{is_spelled_wide, wide_nodes}
 use Rattle.sep_certificate.specs.Texts.{is_digit, is_wide_leaf, tree_line, two_digits}
 use Rattle.sep_certificate.proofs.Spelled.{IsForest, dot_told, two_in_one}
 
@@ -101,22 +101,10 @@ wide_nodes_told line e = close (wide_nodes line) (wide_forest line 1 e)
         let tree : Tree = spells.forest.0 in
         (spells.is, (tree, spells.forest.2 ∙ ap (λ (ns : List Node). preorder tree ++ ns) spells.forest.3 ∙ append-nil (preorder tree)), spells.known)
 
--- ---- the walk over a line
-wide_none : (line : List ℕ) (i : ℕ) → i < length line → is_spelled_wide 0 (drop i line) ≡ false
-wide_none line i inside = rw (drop-cons line i 0 inside) refl
-
 -- a split in front
 dot_step : (n : ℕ) (bytes : List ℕ) → (is_spelled_wide (suc n) (46 ∷ bytes) ≡ is_spelled_wide (suc (suc n)) bytes) × (wide_nodes (46 ∷ bytes) ≡ Split ∷ wide_nodes bytes)
 dot_step n [] = (refl, refl)
 dot_step n (c ∷ bytes) = (refl, refl)
-
-pub wide_split : (line : List ℕ) (n m i : ℕ) → i < length line → 1 ≤ n → m ≡ n + 1 → get_or line i 0 ≡ 46 →
-    (is_spelled_wide m (drop (i + 1) line) ≡ is_spelled_wide n (drop i line)) × (wide_nodes (drop i line) ≡ Split ∷ wide_nodes (drop (i + 1) line))
-wide_split line zero m i inside some m_is e = absurd (omega arith)
-wide_split line (suc n) m i inside some m_is e =
-    let up : i + 1 ≡ suc i = omega arith in
-    let more : m ≡ suc (suc n) = omega arith in
-    rw (up, more, drop-cons line i 0 inside, e) (sym (dot_step n (drop (suc i) line)).0, (dot_step n (drop (suc i) line)).1)
 
 pub not_dot : (b : ℕ) → (b ≡ 46 → ⊥) → (b == 46) ≡ false
 not_dot b other = go (b == 46) refl
@@ -124,74 +112,6 @@ not_dot b other = go (b == 46) refl
     go : (s : Bool) → (b == 46) ≡ s → s ≡ false
     go true e = absurd (other (dot_told b e))
     go false e = refl
-
--- a leaf in front
-leaf_step : (n b dir : ℕ) (bytes : List ℕ) → (b ≡ 46 → ⊥) → Some dir ≡ leaf_in (b ∷ bytes) →
-    (is_spelled_wide (suc n) (b ∷ bytes) ≡ is_spelled_wide n (drop 1 bytes)) × (wide_nodes (b ∷ bytes) ≡ Leaf dir ∷ wide_nodes (drop 1 bytes)) × (1 ≤ length bytes)
-leaf_step n b dir [] other is = absurd (cc)
-leaf_step n b dir (c ∷ bytes) other is = go (b == 46) (is_wide_leaf b c) (not_dot b other) is
-  where
-    go : (s t : Bool) → s ≡ false → Some dir ≡ cond t (Some (two_digits b c)) None →
-        (cond s (is_spelled_wide (suc (suc n)) (c ∷ bytes)) (cond t (is_spelled_wide n bytes) false) ≡ is_spelled_wide n bytes)
-        × (cond s (Split ∷ wide_nodes (c ∷ bytes)) (Leaf (two_digits b c) ∷ wide_nodes bytes) ≡ Leaf dir ∷ wide_nodes bytes) × (1 ≤ length (c ∷ bytes))
-    go true t e is = absurd (cc)
-    go false true e is = (refl, ap (λ (d : ℕ). Leaf d ∷ wide_nodes bytes) (inside (two_digits b c) dir (sym is)), omega arith)
-      where
-        inside : (x y : ℕ) → ◌≡◌ {A = Option ℕ} (Some x) (Some y) → x ≡ y
-        inside x y e = cc
-    go false false e is = absurd (cc)
-
-pub wide_leaf : (line : List ℕ) (n m i dir : ℕ) → i < length line → m + 1 ≡ n → (get_or line i 0 ≡ 46 → ⊥) → Some dir ≡ leaf_in (drop i line) →
-    (is_spelled_wide m (drop (i + 2) line) ≡ is_spelled_wide n (drop i line)) × (wide_nodes (drop i line) ≡ Leaf dir ∷ wide_nodes (drop (i + 2) line)) × (i + 2 ≤ length line)
-wide_leaf line n m i dir inside n_is other is =
-    let more : n ≡ suc m = omega arith in
-    let here : drop i line ≡ get_or line i 0 ∷ drop (suc i) line = drop-cons line i 0 inside in
-    let step = leaf_step m (get_or line i 0) dir (drop (suc i) line) other (is ∙ ap leaf_in here) in
-    let behind : drop (i + 2) line ≡ drop 1 (drop (suc i) line) = two_more line i in (
-      ap (is_spelled_wide m) behind ∙ sym step.0 ∙ ap (is_spelled_wide (suc m)) (sym here) ∙ ap (λ (k : ℕ). is_spelled_wide k (drop i line)) (sym more),
-      ap wide_nodes here ∙ step.1 ∙ ap (λ (xs : List ℕ). Leaf dir ∷ wide_nodes xs) (sym behind),
-      far line i inside step.2,
-    )
-  where
-    next : (xs : List ℕ) (i : ℕ) → drop (suc (suc i)) xs ≡ drop 1 (drop (suc i) xs)
-    next [] i = refl
-    next (x ∷ xs) zero = refl
-    next (x ∷ xs) (suc i) = next xs i
-
-    two_more : (xs : List ℕ) (i : ℕ) → drop (i + 2) xs ≡ drop 1 (drop (suc i) xs)
-    two_more xs i = let up : i + 2 ≡ suc (suc i) = omega arith in rw up (next xs i)
-
-    far : (xs : List ℕ) (i : ℕ) → i < length xs → 1 ≤ length (drop (suc i) xs) → i + 2 ≤ length xs
-    far [] i inside some = absurd (omega arith)
-    far (x ∷ []) zero inside some = absurd (omega arith)
-    far (x ∷ y ∷ xs) zero inside some = omega arith
-    far (x ∷ xs) (suc i) inside some = omega (arith, far xs i (omega arith) some)
-
--- no leaf in front, where one is wanted
-none_step : (n b : ℕ) (bytes : List ℕ) → (b ≡ 46 → ⊥) → None ≡ leaf_in (b ∷ bytes) → is_spelled_wide (suc n) (b ∷ bytes) ≡ false
-none_step n b [] other is = refl
-none_step n b (c ∷ bytes) other is = go (b == 46) (is_wide_leaf b c) (not_dot b other) is
-  where
-    go : (s t : Bool) → s ≡ false → None ≡ cond t (Some (two_digits b c)) None → cond s (is_spelled_wide (suc (suc n)) (c ∷ bytes)) (cond t (is_spelled_wide n bytes) false) ≡ false
-    go true t e is = absurd (cc)
-    go false true e is = absurd (cc)
-    go false false e is = refl
-
-pub wide_stop : (line : List ℕ) (n i : ℕ) → i < length line → 1 ≤ n → (get_or line i 0 ≡ 46 → ⊥) → None ≡ leaf_in (drop i line) → is_spelled_wide n (drop i line) ≡ false
-wide_stop line zero i inside some other is = absurd (omega arith)
-wide_stop line (suc n) i inside some other is =
-    let here : drop i line ≡ get_or line i 0 ∷ drop (suc i) line = drop-cons line i 0 inside in
-    ap (is_spelled_wide (suc n)) here ∙ none_step n (get_or line i 0) (drop (suc i) line) other (is ∙ ap leaf_in here)
-
-pub wide_over : (line : List ℕ) (n i : ℕ) → i < length line → n ≡ 0 → is_spelled_wide n (drop i line) ≡ false
-wide_over line n i inside e = ap (λ (k : ℕ). is_spelled_wide k (drop i line)) e ∙ wide_none line i inside
-
-pub wide_end : (line : List ℕ) (i : ℕ) → length line ≤ i → (is_spelled_wide 0 (drop i line) ≡ true) × (wide_nodes (drop i line) ≡ [])
-wide_end line i far = rw (drop_all i line far) (refl, refl)
-
-pub wide_short : (line : List ℕ) (n i : ℕ) → length line ≤ i → 1 ≤ n → is_spelled_wide n (drop i line) ≡ false
-wide_short line zero i far some = absurd (omega arith)
-wide_short line (suc n) i far some = ap (is_spelled_wide (suc n)) (drop_all i line far)
 
 -- ---- from nodes to bytes and back
 pub word_back : (dir : ℕ) → two_digits (48 + dir / 10) (48 + dir % 10) ≡ dir
@@ -234,8 +154,3 @@ word_spelled n dir rest small = rw (word_no_dot dir, leaf_is dir small) refl
 
 pub dot_spelled : (n : ℕ) (rest : List ℕ) → is_spelled_wide (suc n) (46 ∷ rest) ≡ is_spelled_wide (suc (suc n)) rest
 dot_spelled n rest = (dot_step n rest).0
-
--- a node more
-pub nodes_next : (old new whole here rest : List Node) (node : Node) → new ≡ old ++ node ∷ [] → here ≡ node ∷ rest → old ++ here ≡ whole → new ++ rest ≡ whole
-nodes_next old new whole here rest node new_is here_is same =
-    ap (λ (ns : List Node). ns ++ rest) new_is ∙ append_assoc old (node ∷ []) rest ∙ ap (λ (ns : List Node). old ++ ns) (sym here_is) ∙ same

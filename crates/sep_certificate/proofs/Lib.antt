@@ -1,6 +1,4 @@
 pub mod Covers
-pub mod Stacks
-pub mod Walks
 pub mod Trees
 pub mod Verdicts
 pub mod Named
@@ -13,4 +11,3 @@ pub mod Readers
 pub mod FirstLines
 pub mod Sayings
 pub mod TextLaws
-pub mod Choices

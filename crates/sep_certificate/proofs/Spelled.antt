@@ -7,14 +7,8 @@ use Rattle.sep_parts.specs.declared.node.Node.{Node}
 use Rattle.sep_parts.specs.declared.node.Node.TheVariants.{Split, Leaf}
 use Rattle.sep_parts.specs.Trees.{Tree, IsTree, IsKnown, preorder}
 use Rattle.sep_parts.specs.Trees.Tree.{leaf, split}
-use Rattle.sep_certificate.specs.Steps.{IsNodeByte, is_spelled, node_of_byte}
+use Rattle.sep_certificate.specs.Steps.{is_spelled, node_of_byte}
 use Rattle.sep_certificate.specs.Texts.{is_letter, tree_line}
-
-pub spelled_none : (line : List ℕ) (i : ℕ) → i < length line → is_spelled 0 (drop i line) ≡ false
-spelled_none line i inside = rw (drop-cons line i 0) refl
-
-split_test : (n b : ℕ) (rest : List ℕ) → b ≡ 46 → is_spelled (suc n) (b ∷ rest) ≡ is_spelled (suc (suc n)) rest
-split_test n b rest e = rw e refl
 
 letter_tests : (b : ℕ) → 97 ≤ b → b ≤ 122 → ((b == 46) ≡ false) × (nat_le 97 b ≡ true) × (nat_le b 122 ≡ true)
 letter_tests b low high = (grind (arith, nat_tests), grind (arith, nat_tests), grind (arith, nat_tests))
@@ -24,19 +18,6 @@ letter_is dir small = let tests = letter_tests (97 + dir) (omega arith) (omega a
 
 pub leaf_test : (n b : ℕ) (rest : List ℕ) → 97 ≤ b → b ≤ 122 → is_spelled (suc n) (b ∷ rest) ≡ is_spelled n rest
 leaf_test n b rest low high = let tests = letter_tests b low high in rw (tests.0, tests.1, tests.2) refl
-
-pub spelled_split : (line : List ℕ) (n m i : ℕ) → i < length line → 1 ≤ n → m ≡ n + 1 → get_or line i 0 ≡ 46 → is_spelled m (drop (i + 1) line) ≡ is_spelled n (drop i line)
-spelled_split line zero m i inside some m_is e = absurd (omega arith)
-spelled_split line (suc n) m i inside some m_is e =
-    let up : i + 1 ≡ suc i = omega arith in
-    let more : m ≡ suc (suc n) = omega arith in
-    rw (up, more, drop-cons line i 0) (sym (split_test n (get_or line i 0) (drop (suc i) line) e))
-
-pub spelled_leaf : (line : List ℕ) (n m i : ℕ) → i < length line → m + 1 ≡ n → 97 ≤ get_or line i 0 → get_or line i 0 ≤ 122 → is_spelled m (drop (i + 1) line) ≡ is_spelled n (drop i line)
-spelled_leaf line n m i inside n_is low high =
-    let up : i + 1 ≡ suc i = omega arith in
-    let more : n ≡ suc m = omega arith in
-    rw (up, more, drop-cons line i 0) (sym (leaf_test m (get_or line i 0) (drop (suc i) line) low high))
 
 -- ---- what bytes that pass spell
 -- the nodes are this many trees, one after the other
@@ -106,19 +87,6 @@ all_back (Leaf dir ∷ nodes) = two (back dir) (all_back nodes)
   where
     two : {x y : Node} {xs ys : List Node} → x ≡ y → xs ≡ ys → x ∷ xs ≡ y ∷ ys
     two {x} {y} {xs} {ys} p q = cc
-
-bytes_told : (nodes : List Node) (i : ℕ) → i < length (tree_line 1 nodes) → IsNodeByte (get_or (tree_line 1 nodes) i 0)
-bytes_told [] i inside = absurd (omega arith)
-bytes_told (Split ∷ nodes) zero inside = inl refl
-bytes_told (Split ∷ nodes) (suc i) inside = bytes_told nodes i (omega arith)
-bytes_told (Leaf dir ∷ nodes) zero inside = inr (omega arith)
-bytes_told (Leaf dir ∷ nodes) (suc i) inside = bytes_told nodes i (omega arith)
-
-pub node_byte_at : (line : List ℕ) (i : ℕ) → is_spelled 1 line ≡ true → i < length line → IsNodeByte (get_or line i 0)
-node_byte_at line i e inside = go (tree_of_line line e)
-  where
-    go : (nodes : List Node) × (line ≡ tree_line 1 nodes) × IsTree nodes × All (IsKnown 26) nodes → IsNodeByte (get_or line i 0)
-    go (nodes, is, tree, known) = rw is (bytes_told nodes i (omega (arith, ap (λ (xs : List ℕ). length xs) is)))
 
 -- the nodes of a line
 pub line_told : (line : List ℕ) → is_spelled 1 line ≡ true → (line ≡ tree_line 1 (map node_of_byte line)) × IsTree (map node_of_byte line) × All (IsKnown 26) (map node_of_byte line)
