@@ -51,12 +51,27 @@ fn wide(points: &[i64]) -> Curve {
     raised(points).map(i128::from)
 }
 
-fn widest(curve: &Curve, depth: u32) -> i128 {
+/// The widest step between neighbouring control values.
+fn widest_step(curve: &Curve) -> i128 {
+    curve.windows(2).map(|two| (two[1] - two[0]).abs()).max().unwrap_or(0)
+}
+
+/// The greatest of a step that was found and those of a curve's parts of a depth, where `step` is the whole curve's. A half has
+/// no wider step than half its own, at 2^7 times its scale; the half with the wider one comes first.
+fn widest(curve: &Curve, step: i128, depth: u32, found: i128) -> i128 {
+    if step << (6 * depth) <= found {
+        return found;
+    }
     if depth == 0 {
-        return curve.windows(2).map(|two| (two[1] - two[0]).abs()).max().unwrap_or(0);
+        return step;
     }
     let (left, right) = halves(curve);
-    widest(&left, depth - 1).max(widest(&right, depth - 1))
+    let (first, second) = (widest_step(&left), widest_step(&right));
+    if second <= first {
+        widest(&right, second, depth - 1, widest(&left, first, depth - 1, found))
+    } else {
+        widest(&left, first, depth - 1, widest(&right, second, depth - 1, found))
+    }
 }
 
 fn speed(drones: &[Drone], depth: u32) {
@@ -64,7 +79,13 @@ fn speed(drones: &[Drone], depth: u32) {
         let mut most = [0i128; 3];
         for segment in &drone.segments {
             for axis in 0..3 {
-                let way = 7_000_000 * (1i128 << depth) * widest(&wide(&segment.axes[axis]), depth);
+                let curve = wide(&segment.axes[axis]);
+                let step = widest_step(&curve);
+                if 7_000_000 * step <= 5_040 * segment.ms * most[axis] {
+                    continue;
+                }
+                let slow = (5_040 * segment.ms * most[axis] << (6 * depth)) / 7_000_000;
+                let way = 7_000_000 * (1i128 << depth) * widest(&curve, step, depth, slow);
                 let time = 5_040 * (1i128 << (7 * depth)) * segment.ms;
                 most[axis] = most[axis].max((way + time - 1) / time);
             }

@@ -32,7 +32,7 @@ use Rattle.speed_bound.specs.Reach.{IsMoving, ReachLaw, farthest, reach, reach_o
 use Rattle.speed_bound.specs.Speed.{KeepsSpeed, greatest_below, speed}
 use Rattle.speed_bound.proofs.Rests.{keeps_speed, pieces_formed}
 use Rattle.speed_bound.proofs.Speeds.{le_from_mul, power_low}
-use Rattle.speed_bound.proofs.Widths.{greatest-at, greatest-most}
+use Rattle.speed_bound.proofs.Widths.{div_ceil-least, greatest-at, greatest-map, greatest-most}
 
 -- ---- by the speed
 product_of : (x y : ℕ) → pos x *ℤ pos y ≡ pos (x * y)
@@ -216,6 +216,22 @@ reach_law_holds depth late trajs moving =
     (λ drone inside axis near. moves_wider late (reach depth late (traj_at trajs drone) axis) (reach_of depth late trajs axis) (traj_at trajs drone) axis
     (greatest-at (length trajs) (λ k. reach depth late (traj_at trajs k) axis) drone inside)
     (moves_reach depth late (traj_at trajs drone) axis near (All-get_or IsMoving trajs drone (record { start = []; segments = [] }) inside moving)))
+
+-- the reach of all trajectories is that of the greatest of their speeds
+pub reach_by_speed : (depth late : ℕ) (trajs : List Traj) (axis : ℕ) → min farthest (div_ceil (late * greatest_below (length trajs) (λ drone. speed depth (traj_at trajs drone) axis)) 1000000) ≡ reach_of depth late trajs axis
+unfolding reach_of reach
+reach_by_speed depth late trajs axis =
+    sym (greatest-map (length trajs) (λ drone. speed depth (traj_at trajs drone) axis) (λ v. min farthest (div_ceil (late * v) 1000000)) none (λ x y less. grows x y less))
+  where
+    none : min farthest (div_ceil (late * 0) 1000000) ≡ 0
+    none = let least : div_ceil (late * 0) 1000000 ≤ 0 = div_ceil-least (late * 0) 0 1000000 (omega arith) (omega arith) in omega (arith, least)
+
+    grows : (x y : ℕ) → x ≤ y → min farthest (div_ceil (late * x) 1000000) ≤ min farthest (div_ceil (late * y) 1000000)
+    grows x y less =
+        let way : late * x ≤ late * y = mul-le late x late y (omega arith) less in
+        let more : div_ceil (late * x) 1000000 ≤ div_ceil (late * y) 1000000 =
+        div_ceil-least (late * x) (div_ceil (late * y) 1000000) 1000000 (omega arith) (omega (arith, way, (div_ceil_times (late * y) 1000000 (omega arith)).0)) in
+        omega (arith, more)
 
 -- no reach is above 65,536
 pub reach_few : (depth late : ℕ) (trajs : List Traj) (axis : ℕ) → reach_of depth late trajs axis ≤ farthest

@@ -138,7 +138,8 @@ speed_small p q w ms r few some small lasting below = by_small r (2 ^ 50)
     by_small : (m n : ℕ) → (n ≤ m → m < n) → m < n
     by_small m n h = by_lt m n (λ less. less) h
 
-div_ceil-least : (x y b : ℕ) → 0 < b → x ≤ y * b → div_ceil x b ≤ y
+-- a quotient that is rounded up is the least number that is enough
+pub div_ceil-least : (x y b : ℕ) → 0 < b → x ≤ y * b → div_ceil x b ≤ y
 div_ceil-least x y b some most = by_lt y (div_ceil x b)
     (λ more. let product : (y + 1) * b ≤ div_ceil x b * b = mul-le (y + 1) b (div_ceil x b) b (omega arith) (omega arith) in
     absurd (omega (arith, product, (div_ceil_times x b some).1)))

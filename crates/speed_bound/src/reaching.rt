@@ -4,7 +4,7 @@ ghost use Rattle.std.specs.Prelude.{◌≡◌, ◌*◌, ◌^◌, ◌≤◌, ◌<
 ghost use Rattle.std.specs.Int.{div_ceil};
 ghost use Rattle.speed_bound.specs.Reach.{IsMoving, ReachLaw, StillLaw, farthest, reach_of};
 
-use crate::trajectory::bound;
+use crate::trajectory::faster;
 use traj_codec::Traj;
 
 /// No two positions are farther apart on an axis, in millimetres.
@@ -21,16 +21,15 @@ pub fn reach(trajs: &[Traj], late: u16, depth: u8) -> [u32; 3]
     if late == 0 {
         return [0, 0, 0];
     }
-    let mut x: u32 = 0;
-    let mut y: u32 = 0;
-    let mut z: u32 = 0;
+    let mut fastest = [0; 3];
     for t in trajs {
-        let speeds = bound(t, depth);
-        x = x.max(way_in(speeds[0] as u64, late));
-        y = y.max(way_in(speeds[1] as u64, late));
-        z = z.max(way_in(speeds[2] as u64, late));
+        fastest = faster(t, depth, fastest);
     }
-    [x, y, z]
+    [
+        way_in(fastest[0], late),
+        way_in(fastest[1], late),
+        way_in(fastest[2], late),
+    ]
 }
 
 // How many millimetres are moved at most at this speed in so many milliseconds.

@@ -1,12 +1,13 @@
 //! The bounds of a trajectory.
 
-ghost use Rattle.std.specs.Prelude.{◌≡◌, ℕ, ◌+◌, ◌*◌, ◌^◌, ◌≤◌, ◌<◌, ◌∷◌, [], ℤ, pos, ◌≤ℤ◌, All, length};
+ghost use Rattle.std.specs.Prelude.{◌≡◌, ℕ, ◌+◌, ◌*◌, ◌/◌, ◌^◌, ◌≤◌, ◌<◌, ◌∷◌, [], max, ℤ, pos, ◌≤ℤ◌, All, length, slice_index_or};
 ghost use Rattle.fleet_math.specs.Numbers.{IsBelow};
 ghost use Rattle.fleet_math.specs.Bernstein.{at};
 ghost use Rattle.traj_codec.specs.Spelling.{HasDuration};
+ghost use Rattle.fleet_curves.specs.Steps.{IsFormed};
 ghost use Rattle.speed_bound.specs.Speed.{KeepsSpeed, segment_speed, speed, speed_of};
 
-use crate::parts::widest_part;
+use crate::parts::{widest_part, widest_step};
 use bezier_core::Bez;
 use fleet_curves::{raised_segment, value_after};
 use traj_codec::Traj;
@@ -26,33 +27,68 @@ pub fn bound(t: &Traj, depth: u8) -> [i64; 3]
     ensures keeps { (axis : ℕ) → axis ≤ 2 → KeepsSpeed t.now axis (speed depth t.now axis) }
     ensures small { (axis : ℕ) → axis ≤ 2 → speed depth t.now axis < 2 ^ 50 }
 {
+    let fastest = faster(t, depth, [0; 3]);
+    [fastest[0] as i64, fastest[1] as i64, fastest[2] as i64]
+}
+
+/// On each of the axes x, y and z the greater of a given speed and of the bound on that of a trajectory, by its parts of the depth. What can't
+/// be faster than the given speeds isn't looked at more closely.
+pub fn faster(t: &Traj, depth: u8, least: [u64; 3]) -> [u64; 3]
+    requires lasting { All HasDuration t.now.segments }
+    requires depth { depth ≤ 8 }
+    requires least { (axis : ℕ) → axis ≤ 2 → slice_index_or least axis 0 < 2 ^ 50 }
+    ensures exact { result ≡ max (slice_index_or least 0 0) (speed depth t.now 0) ∷ max (slice_index_or least 1 0) (speed depth t.now 1)
+        ∷ max (slice_index_or least 2 0) (speed depth t.now 2) ∷ [] }
+    ensures formed { All IsFormed t.now.segments }
+    ensures small { (axis : ℕ) → axis ≤ 2 → slice_index_or result axis 0 < 2 ^ 50 }
+{
     let mut x = t.start[0];
     let mut y = t.start[1];
     let mut z = t.start[2];
-    let mut fastest_x: u64 = 0;
-    let mut fastest_y: u64 = 0;
-    let mut fastest_z: u64 = 0;
+    let mut fastest_x = least[0];
+    let mut fastest_y = least[1];
+    let mut fastest_z = least[2];
     for s in t.segments.as_slice() {
         let curves = raised_segment(x, y, z, s);
-        fastest_x = fastest_x.max(segment_speed(&curves[0], s.ms, depth));
-        fastest_y = fastest_y.max(segment_speed(&curves[1], s.ms, depth));
-        fastest_z = fastest_z.max(segment_speed(&curves[2], s.ms, depth));
+        fastest_x = segment_speed(&curves[0], s.ms, depth, fastest_x);
+        fastest_y = segment_speed(&curves[1], s.ms, depth, fastest_y);
+        fastest_z = segment_speed(&curves[2], s.ms, depth, fastest_z);
         x = value_after(x, s.elements[0]);
         y = value_after(y, s.elements[1]);
         z = value_after(z, s.elements[2]);
     }
-    [fastest_x as i64, fastest_y as i64, fastest_z as i64]
+    [fastest_x, fastest_y, fastest_z]
 }
 
-// The greatest speed on the parts of a segment that lasts `ms` milliseconds, in micrometres per second.
-fn segment_speed(curve: &Bez<8>, ms: u16, depth: u8) -> u64
+// The greater of a given speed and of the greatest on the parts of a segment that lasts `ms` milliseconds, in micrometres per second. The
+// speed of the whole curve, as its own part, bounds those of all parts.
+fn segment_speed(curve: &Bez<8>, ms: u16, depth: u8, least: u64) -> u64
     requires values { All (IsBelow (2 ^ 28)) curve.now.b }
     requires lasting { 1 ≤ ms }
     requires depth { depth ≤ 8 }
-    ensures exact { result ≡ segment_speed depth ms (at curve.now.b) }
+    requires least { least < 2 ^ 50 }
+    ensures exact { result ≡ max least (segment_speed depth ms (at curve.now.b)) }
     ensures small { result < 2 ^ 50 }
 {
-    per_second(widest_part(curve, depth), ms, depth)
+    let step = widest_step(curve);
+    if 7_000_000 * step <= 5_040 * ms as u128 * least as u128 {
+        return least;
+    }
+    let slow = slow_step(least, ms, depth);
+    let found = widest_part(curve, step, depth, slow);
+    if found <= slow {
+        return least;
+    }
+    per_second(found, ms, depth).max(least)
+}
+
+// The widest step with which a part of this depth of a segment of `ms` milliseconds is no faster than this.
+fn slow_step(speed: u64, ms: u16, depth: u8) -> u128
+    requires speed { speed < 2 ^ 50 }
+    requires depth { depth ≤ 8 }
+    ensures { result ≡ 5040 * 64 ^ depth * ms * speed / 7000000 }
+{
+    5_040 * 64u128.pow(depth as u32) * ms as u128 * speed as u128 / 7_000_000
 }
 
 // The speed at which a segment of `ms` milliseconds has parts of this depth with this widest step.

@@ -1,11 +1,13 @@
-use Rattle.std.proofs.Common.{◌≡◌}
-use Rattle.speed_bound.specs.Reach.{reach, traj_at}
-use Rattle.speed_bound.specs.Speed.{greatest_below}
+use Rattle.std.proofs.Common.{◌≡◌, ℕ, ◌≤◌, ◌<◌, ◌^◌, [], ◌∷◌, get_or}
+use Rattle.speed_bound.specs.Reach.{traj_at}
+use Rattle.speed_bound.specs.Speed.{greatest_below, speed}
 use Rattle.speed_bound.proofs.reaching.reach.Given as goal
 
 abbrev pub invariant-loop-t : goal.invariant-loop-t
 invariant-loop-t l = record {
-  x : l.x ≡ greatest_below l.t-index (λ drone. reach l.depth l.late (traj_at l.trajs drone) 0);
-  y : l.y ≡ greatest_below l.t-index (λ drone. reach l.depth l.late (traj_at l.trajs drone) 1);
-  z : l.z ≡ greatest_below l.t-index (λ drone. reach l.depth l.late (traj_at l.trajs drone) 2);
+  exact : l.fastest
+      ≡ greatest_below l.t-index (λ drone. speed l.depth (traj_at l.trajs drone) 0)
+      ∷ greatest_below l.t-index (λ drone. speed l.depth (traj_at l.trajs drone) 1)
+      ∷ greatest_below l.t-index (λ drone. speed l.depth (traj_at l.trajs drone) 2) ∷ [];
+  small : (axis : ℕ) → axis ≤ 2 → get_or l.fastest axis 0 < 2 ^ 50;
 }
