@@ -18,26 +18,34 @@ use Rattle.sep_parts.specs.Slots.{slots}
 use Rattle.sep_certificate.specs.Certificates.{AreValid}
 use Rattle.sep_parts.specs.Trees.{Tree}
 use Rattle.fleet_curves.proofs.Standing.{at_place, segments_of}
+use Rattle.sep_parts.proofs.Directed.{cue_of}
 use Rattle.sep_parts.proofs.Lifts.{own_some}
 use Rattle.sep_parts.proofs.Positions.{IsSeenAt, decoded_seen}
 use Rattle.sep_parts.proofs.Seen.{seen_apart, share_none_turned, together_turned}
-use Rattle.sep_certificate.proofs.Covers.{seen_in_tree}
+use Rattle.sep_certificate.proofs.Covers.{IsSeenBy, seen_in_tree, seen_small}
 use Rattle.sep_certificate.proofs.Members.{tree_of}
+
+-- the tree of a pair and a cue separates them at each moment of the cue
+pub seen_by : (rules : Rules) (dirs : List (List ℤ)) (curves : Raised) (trees : List (List Node)) (trajs : List Traj) (stands : CurvesStandFor curves trajs)
+    (a b : ℕ) (u : Traj) (m : Moment) → AreValid rules dirs curves (slots curves.drones curves.cues) trees →
+    a < b → slice_get trajs b ≡ Some u → IsInside (length stands.times) m → IsSeenBy rules.clearance dirs (cue_of (difference curves a b m.cue)) (pos m.a) (pos m.c)
+seen_by rules dirs curves trees trajs stands a b u m valid order u_is inside =
+    let b_in : b < length trajs = slice_get_within trajs b u u_is in
+    let tree : (tree : Tree) × _ = tree_of rules dirs curves trees a b m.cue order (omega (arith, stands.drones)) (omega (arith, stands.cues, inside.cue)) valid in
+    seen_in_tree rules dirs (difference curves a b m.cue) tree.0 root (pos m.a) (pos m.c) (omega (arith, ints, inside.some)) (omega (arith, ints)) (omega (arith, ints, inside.within)) tree.1
 
 -- the drones of a pair are seen to be apart at a moment
 seen_at : (rules : Rules) (dirs : List (List ℤ)) (curves : Raised) (trees : List (List Node)) (trajs : List Traj) (stands : CurvesStandFor curves trajs)
     (a b : ℕ) (t u : Traj) (m : Moment) → All AreSmall dirs → AreValid rules dirs curves (slots curves.drones curves.cues) trees →
     a < b → slice_get trajs a ≡ Some t → slice_get trajs b ≡ Some u → IsInside (length stands.times) m → IsSeenAt rules.clearance t u m
 seen_at rules dirs curves trees trajs stands a b t u m small valid order t_is u_is inside =
-    let b_in : b < length trajs = slice_get_within trajs b u u_is in
     let t_len : length t.segments ≡ length stands.times = segments_of t stands.times (at_place (λ (t : Traj). durations t.segments ≡ stands.times) trajs a t stands.one_show.same_times t_is) in
     let u_len : length u.segments ≡ length stands.times = segments_of u stands.times (at_place (λ (t : Traj). durations t.segments ≡ stands.times) trajs b u stands.one_show.same_times u_is) in
-    let tree : (tree : Tree) × _ = tree_of rules dirs curves trees a b m.cue order (omega (arith, stands.drones)) (omega (arith, stands.cues, inside.cue)) valid in
     decoded_seen rules.clearance curves a b t u m (stands.curves a m.cue t t_is inside.cue) (stands.curves b m.cue u u_is inside.cue)
     (omega (arith, t_len, inside.cue)) (omega (arith, u_len, inside.cue))
     (λ axis near. at_place (HasFewPoints (length stands.times)) trajs a t stands.few_points t_is m.cue axis inside.cue near)
     (λ axis near. at_place (HasFewPoints (length stands.times)) trajs b u stands.few_points u_is m.cue axis inside.cue near)
-    (seen_in_tree rules dirs (difference curves a b m.cue) tree.0 root (pos m.a) (pos m.c) small (omega (arith, ints, inside.some)) (omega (arith, ints)) (omega (arith, ints, inside.within)) tree.1)
+    (seen_small rules.clearance dirs (cue_of (difference curves a b m.cue)) (pos m.a) (pos m.c) small (seen_by rules dirs curves trees trajs stands a b u m valid order u_is inside))
 
 -- the drones of a pair are apart, the first one named first
 in_order : (rules : Rules) (dirs : List (List ℤ)) (curves : Raised) (trees : List (List Node)) → All AreSmall dirs → AreValid rules dirs curves (slots curves.drones curves.cues) trees →

@@ -4,6 +4,7 @@ pub mod Verdicts
 pub mod Named
 pub mod Members
 pub mod Keeping
+pub mod Disjoint
 pub mod Spelled
 pub mod Digits
 pub mod Grammar

@@ -15,9 +15,9 @@ use bezier_core::Bez;
 use halving::Place;
 use sep_parts::{Level, Node, Ruler, Slot};
 
-/// The law of certificates, by any table of directions with entries from -2 to 2. With a valid one any two different drones fly apart, for
-/// every list of trajectories that the curves stand for and that move within the reach. And a whole certificate, whose leaves name directions
-/// of the table, is valid exactly where it has no first fault.
+/// The law of certificates, by any table of directions. With a valid one the ellipsoids around any two different drones share no point, for
+/// every list of trajectories that the curves stand for and that move within the reach; and where the entries of the table are from -2 to 2,
+/// they are apart by the margin. A whole certificate, whose leaves name directions of the table, is valid exactly where it has no first fault.
 pub fn certificate_law()
     ensures { CertificateLaw }
 {}

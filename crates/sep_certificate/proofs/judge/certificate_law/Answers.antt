@@ -1,5 +1,6 @@
 use Rattle.sep_parts.specs.Slots.{slots}
 use Rattle.sep_certificate.specs.Certificates.{rules_of}
+use Rattle.sep_certificate.proofs.Disjoint.{keeps_disjoint}
 use Rattle.sep_certificate.proofs.Keeping.{keeps}
 use Rattle.sep_certificate.proofs.Verdicts.{valid_of, none_of_valid}
 use Rattle.sep_certificate.proofs.judge.certificate_law.Goals as goal
@@ -7,6 +8,7 @@ use Rattle.sep_certificate.proofs.judge.certificate_law.Goals as goal
 pub returns : goal.returns
 returns c = record {
   apart = λ dirs curves clear cert small valid. keeps (rules_of clear cert) dirs curves cert.trees small valid;
+  disjoint = λ dirs curves clear cert valid. keeps_disjoint (rules_of clear cert) dirs curves cert.trees valid;
   exact = λ dirs curves clear cert whole. (
     valid_of (rules_of clear cert) dirs curves (slots curves.drones curves.cues) 0 cert.trees whole.trees,
     none_of_valid (rules_of clear cert) dirs curves (slots curves.drones curves.cues) 0 cert.trees,
