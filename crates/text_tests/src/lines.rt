@@ -78,7 +78,7 @@ const FRAME: Frame = Frame {
     dz: 3,
 };
 
-const BLOCK_LINES: [(Place, &[u8], Outcome); 16] = [
+const BLOCK_LINES: [(Place, &[u8], Outcome); 17] = [
     (Place::Top, b"memory 255 4095", Outcome::Memory(255, 4095)),
     (Place::Top, b"stray 0", Outcome::Stray(0)),
     (Place::Top, b"stray 1000", Outcome::Stray(1000)),
@@ -86,6 +86,7 @@ const BLOCK_LINES: [(Place, &[u8], Outcome); 16] = [
     (Place::Top, b"late 1000", Outcome::Late(1000)),
     (Place::Top, b"trajectory 009 # last", Outcome::Trajectory(9)),
     (Place::Top, b"ellipsoid 1 2000", Outcome::Ellipsoid(1, 2000)),
+    (Place::Top, b"ellipsoid 2000 1", Outcome::Ellipsoid(2000, 1)),
     (Place::Top, b"drone cue 1 -2 3 -4", Outcome::Drone(POINT)),
     (Place::Top, b"formation f", Outcome::Formation),
     (Place::InFormation, b"at a 1 -2 3 -4", Outcome::At(POINT)),

@@ -282,7 +282,7 @@ fn has_fault(alloc: Global, text: &[u8], line: u32, kind: LineKind) -> bool {
 }
 
 // Texts with the line that is faulty, and how.
-const AT_TOP: [(&[u8], u32, LineKind); 45] = [
+const AT_TOP: [(&[u8], u32, LineKind); 46] = [
     (b"", 1, LineKind::Header),
     (b"\n# choreo 1\n", 1, LineKind::Header),
     (b"\nchoreo 2\n", 2, LineKind::Header),
@@ -310,6 +310,7 @@ const AT_TOP: [(&[u8], u32, LineKind); 45] = [
     ),
     (b"choreo 1\nellipsoid 0 1\n", 2, LineKind::Range),
     (b"choreo 1\nellipsoid 1 2001\n", 2, LineKind::Range),
+    (b"choreo 1\nellipsoid 2001 1\n", 2, LineKind::Range),
     (
         b"choreo 1\nellipsoid 1 1\n\nellipsoid 1 1\n",
         4,
