@@ -2,7 +2,7 @@
 use Rattle.std.proofs.Common.{◌≡◌, ℕ, Bool, true, false, cond, List, [], ◌∷◌, ◌++◌, Option, Some, None, codes, refl, sym, ap, subst, ◌∙◌}
 use Rattle.std.specs.Prelude.{bytes_eq, is_some, option_map}
 use Rattle.std.proofs.lemmas.Slice.Eq.{bytes_eq-Decides}
-use Rattle.command_words.specs.Commands.{Given, given_depth, given_step, given_start, given_limit, given_fine, given_readback, options_of, alone, before, valued, depth_of, step_of, limit_of, fine_of, SpellsOption, SpellsOptions, WordsLaw}
+use Rattle.command_words.specs.Commands.{Given, given_depth, given_step, given_start, given_limit, given_fine, given_readback, given_accel, given_jump, options_of, alone, before, valued, depth_of, step_of, limit_of, fine_of, bound_of, SpellsOption, SpellsOptions, WordsLaw}
 
 -- an option of one word before other words is an option before theirs
 start_then : (rest : List (List ℕ)) → options_of (codes "--start" ∷ rest) ≡ before (Some given_start) (options_of rest)
@@ -29,6 +29,12 @@ reads (given_limit n ∷ gs) words (front, rest, (value, front_is, n_is), spells
 reads (given_fine n ∷ gs) words (front, rest, (value, front_is, n_is), spells, is) =
     ap options_of is ∙ ap (λ (f : List (List ℕ)). options_of (f ++ rest)) front_is
     ∙ ap (λ (o : Option ℕ). before (option_map given_fine o) (options_of rest)) n_is ∙ ap (before (Some (given_fine n))) (reads gs rest spells)
+reads (given_accel n ∷ gs) words (front, rest, (value, front_is, n_is), spells, is) =
+    ap options_of is ∙ ap (λ (f : List (List ℕ)). options_of (f ++ rest)) front_is
+    ∙ ap (λ (o : Option ℕ). before (option_map given_accel o) (options_of rest)) n_is ∙ ap (before (Some (given_accel n))) (reads gs rest spells)
+reads (given_jump n ∷ gs) words (front, rest, (value, front_is, n_is), spells, is) =
+    ap options_of is ∙ ap (λ (f : List (List ℕ)). options_of (f ++ rest)) front_is
+    ∙ ap (λ (o : Option ℕ). before (option_map given_jump o) (options_of rest)) n_is ∙ ap (before (Some (given_jump n))) (reads gs rest spells)
 reads (given_start ∷ gs) words (front, rest, front_is, spells, is) =
     ap options_of is ∙ ap (λ (f : List (List ℕ)). options_of (f ++ rest)) front_is ∙ start_then rest ∙ ap (before (Some given_start)) (reads gs rest spells)
 reads (given_readback ∷ gs) words (front, rest, front_is, spells, is) =
@@ -77,16 +83,33 @@ fine_found word value (Some n) given is from are =
     let e : given_fine n ≡ given = cc in
     subst (λ (g : Given). SpellsOption g (word ∷ value ∷ [])) e (value, ap (λ (w : List ℕ). w ∷ value ∷ []) is, from)
 
+-- a limit on acceleration that is read is spelled
+accel_found : (word value : List ℕ) (found : Option ℕ) (given : Given) → word ≡ codes "--accel" → bound_of value ≡ found → option_map given_accel found ≡ Some given → SpellsOption given (word ∷ value ∷ [])
+accel_found word value None given is from are = absurd (cc)
+accel_found word value (Some n) given is from are =
+    let e : given_accel n ≡ given = cc in
+    subst (λ (g : Given). SpellsOption g (word ∷ value ∷ [])) e (value, ap (λ (w : List ℕ). w ∷ value ∷ []) is, from)
+
+-- a limit on jumps that is read is spelled
+jump_found : (word value : List ℕ) (found : Option ℕ) (given : Given) → word ≡ codes "--jump" → bound_of value ≡ found → option_map given_jump found ≡ Some given → SpellsOption given (word ∷ value ∷ [])
+jump_found word value None given is from are = absurd (cc)
+jump_found word value (Some n) given is from are =
+    let e : given_jump n ≡ given = cc in
+    subst (λ (g : Given). SpellsOption g (word ∷ value ∷ [])) e (value, ap (λ (w : List ℕ). w ∷ value ∷ []) is, from)
+
 -- an option of two words is spelled by them
-valued_is : (word value : List ℕ) (depth step limit fine : Bool) (given : Given) → (depth ≡ true → word ≡ codes "--depth") → (step ≡ true → word ≡ codes "--step") →
-    (limit ≡ true → word ≡ codes "--limit") → (fine ≡ true → word ≡ codes "--fine") →
+valued_is : (word value : List ℕ) (depth step limit fine accel jump : Bool) (given : Given) → (depth ≡ true → word ≡ codes "--depth") → (step ≡ true → word ≡ codes "--step") →
+    (limit ≡ true → word ≡ codes "--limit") → (fine ≡ true → word ≡ codes "--fine") → (accel ≡ true → word ≡ codes "--accel") → (jump ≡ true → word ≡ codes "--jump") →
     cond depth (option_map given_depth (depth_of value)) (cond step (option_map given_step (step_of value))
-    (cond limit (option_map given_limit (limit_of value)) (cond fine (option_map given_fine (fine_of value)) None))) ≡ Some given → SpellsOption given (word ∷ value ∷ [])
-valued_is word value true step limit fine given is_depth is_step is_limit is_fine are = depth_found word value (depth_of value) given (is_depth refl) refl are
-valued_is word value false true limit fine given is_depth is_step is_limit is_fine are = step_found word value (step_of value) given (is_step refl) refl are
-valued_is word value false false true fine given is_depth is_step is_limit is_fine are = limit_found word value (limit_of value) given (is_limit refl) refl are
-valued_is word value false false false true given is_depth is_step is_limit is_fine are = fine_found word value (fine_of value) given (is_fine refl) refl are
-valued_is word value false false false false given is_depth is_step is_limit is_fine are = absurd (cc)
+    (cond limit (option_map given_limit (limit_of value)) (cond fine (option_map given_fine (fine_of value))
+    (cond accel (option_map given_accel (bound_of value)) (cond jump (option_map given_jump (bound_of value)) None))))) ≡ Some given → SpellsOption given (word ∷ value ∷ [])
+valued_is word value true step limit fine accel jump given is_depth is_step is_limit is_fine is_accel is_jump are = depth_found word value (depth_of value) given (is_depth refl) refl are
+valued_is word value false true limit fine accel jump given is_depth is_step is_limit is_fine is_accel is_jump are = step_found word value (step_of value) given (is_step refl) refl are
+valued_is word value false false true fine accel jump given is_depth is_step is_limit is_fine is_accel is_jump are = limit_found word value (limit_of value) given (is_limit refl) refl are
+valued_is word value false false false true accel jump given is_depth is_step is_limit is_fine is_accel is_jump are = fine_found word value (fine_of value) given (is_fine refl) refl are
+valued_is word value false false false false true jump given is_depth is_step is_limit is_fine is_accel is_jump are = accel_found word value (bound_of value) given (is_accel refl) refl are
+valued_is word value false false false false false true given is_depth is_step is_limit is_fine is_accel is_jump are = jump_found word value (bound_of value) given (is_jump refl) refl are
+valued_is word value false false false false false false given is_depth is_step is_limit is_fine is_accel is_jump are = absurd (cc)
 
 -- an option of one word is spelled by it
 alone_is : (word : List ℕ) (start readback : Bool) (given : Given) → (start ≡ true → word ≡ codes "--start") → (readback ≡ true → word ≡ codes "--readback") →
@@ -121,8 +144,10 @@ several_are word value words false gs after_one after_two are =
     subst (λ (g : List Given). SpellsOptions g (word ∷ value ∷ words)) (sym s.is) (
       word ∷ value ∷ [],
       words,
-      valued_is word value (bytes_eq word (codes "--depth")) (bytes_eq word (codes "--step")) (bytes_eq word (codes "--limit")) (bytes_eq word (codes "--fine")) s.given
-          (bytes_eq-Decides word (codes "--depth")).0 (bytes_eq-Decides word (codes "--step")).0 (bytes_eq-Decides word (codes "--limit")).0 (bytes_eq-Decides word (codes "--fine")).0 s.first_is,
+      valued_is word value (bytes_eq word (codes "--depth")) (bytes_eq word (codes "--step")) (bytes_eq word (codes "--limit")) (bytes_eq word (codes "--fine"))
+          (bytes_eq word (codes "--accel")) (bytes_eq word (codes "--jump")) s.given
+          (bytes_eq-Decides word (codes "--depth")).0 (bytes_eq-Decides word (codes "--step")).0 (bytes_eq-Decides word (codes "--limit")).0 (bytes_eq-Decides word (codes "--fine")).0
+          (bytes_eq-Decides word (codes "--accel")).0 (bytes_eq-Decides word (codes "--jump")).0 s.first_is,
       after_two s.more s.rest_is,
       refl,
     )

@@ -1,7 +1,7 @@
 -- Words and what they are.
 use Rattle.std.proofs.Common.{◌≡◌, [], ◌∷◌, Some, None, true, false, refl}
 use Rattle.std.specs.Prelude.{codes}
-use Rattle.command_words.specs.declared.command.Command.TheVariants.{Version, Play, Rehearse, Upload, Drill, Boxes, Speed, Explain}
+use Rattle.command_words.specs.declared.command.Command.TheVariants.{Version, Play, Rehearse, Upload, Drill, Boxes, Speed, Explain, Dynamics}
 use Rattle.command_words.specs.Commands.{command_of}
 
 either_order : command_of (codes "play" ∷ codes "--step" ∷ codes "500" ∷ codes "--depth" ∷ codes "3" ∷ []) ≡ Some (Play 3 500)
@@ -87,3 +87,18 @@ read_back_twice = refl
 
 read_back_of_another : command_of (codes "check" ∷ codes "--readback" ∷ []) ≡ None
 read_back_of_another = refl
+
+unbounded : command_of (codes "dynamics" ∷ []) ≡ Some (Dynamics 6 None None)
+unbounded = refl
+
+bounded : command_of (codes "dynamics" ∷ codes "--jump" ∷ codes "0" ∷ codes "--depth" ∷ codes "8" ∷ codes "--accel" ∷ codes "999999999" ∷ []) ≡ Some (Dynamics 8 (Some 999999999) (Some 0))
+bounded = refl
+
+bounded_twice : command_of (codes "dynamics" ∷ codes "--accel" ∷ codes "1" ∷ codes "--accel" ∷ codes "1" ∷ []) ≡ None
+bounded_twice = refl
+
+bound_of_another : command_of (codes "speed" ∷ codes "--jump" ∷ codes "300" ∷ []) ≡ None
+bound_of_another = refl
+
+dynamics_limited : command_of (codes "dynamics" ∷ codes "--limit" ∷ codes "5" ∷ []) ≡ None
+dynamics_limited = refl

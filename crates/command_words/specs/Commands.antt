@@ -3,7 +3,7 @@ use Rattle.std.specs.Prelude.{◌≡◌, ◌↔◌, ℕ, ◌≤◌, Bool, true, 
 use Rattle.std.specs.Option.{option_map, option_and_then}
 use Rattle.text_lines.specs.Numbers.{natural_of}
 use Rattle.command_words.specs.declared.command.Command.{Command}
-use Rattle.command_words.specs.declared.command.Command.TheVariants.{Help, Version, Check, Compile, Certify, Play, Report, Verify, Rehearse, Upload, Drill, Boxes, Speed, Explain}
+use Rattle.command_words.specs.declared.command.Command.TheVariants.{Help, Version, Check, Compile, Certify, Play, Report, Verify, Rehearse, Upload, Drill, Boxes, Speed, Explain, Dynamics}
 
 -- ---- numbers
 
@@ -24,6 +24,10 @@ most_step = 60000
 -- the greatest limit on speed, in micrometres per second
 abbrev pub most_limit : ℕ
 most_limit = 999999999
+
+-- the greatest limit on acceleration, in millimetres per second squared, and on a jump of speed, in millimetres per second
+abbrev pub most_bound : ℕ
+most_bound = 999999999
 
 -- how finely a cue is listed where no option says it, and the finest: into 2 ^ fine parts
 abbrev pub default_fine : ℕ
@@ -57,6 +61,9 @@ step_of word = number_from 1 most_step word
 abbrev pub limit_of : List ℕ → Option ℕ
 limit_of word = number_from 1 most_limit word
 
+abbrev pub bound_of : List ℕ → Option ℕ
+bound_of word = number_from 0 most_bound word
+
 abbrev pub fine_of : List ℕ → Option ℕ
 fine_of word = number_from 0 most_fine word
 
@@ -73,6 +80,8 @@ pub data Given : Type 0 where
   given_limit : ℕ → Given
   given_fine : ℕ → Given
   given_readback : Given
+  given_accel : ℕ → Given
+  given_jump : ℕ → Given
 
 -- an option of two words
 abbrev pub valued : List ℕ → List ℕ → Option Given
@@ -80,7 +89,9 @@ valued word value =
     if bytes_eq word (codes "--depth") then option_map given_depth (depth_of value)
     else (if bytes_eq word (codes "--step") then option_map given_step (step_of value)
     else (if bytes_eq word (codes "--limit") then option_map given_limit (limit_of value)
-    else (if bytes_eq word (codes "--fine") then option_map given_fine (fine_of value) else None)))
+    else (if bytes_eq word (codes "--fine") then option_map given_fine (fine_of value)
+    else (if bytes_eq word (codes "--accel") then option_map given_accel (bound_of value)
+    else (if bytes_eq word (codes "--jump") then option_map given_jump (bound_of value) else None)))))
 
 -- an option of one word
 abbrev pub alone : List ℕ → Option Given
@@ -111,6 +122,8 @@ depths (given_start ∷ gs) = depths gs
 depths (given_limit n ∷ gs) = depths gs
 depths (given_fine n ∷ gs) = depths gs
 depths (given_readback ∷ gs) = depths gs
+depths (given_accel n ∷ gs) = depths gs
+depths (given_jump n ∷ gs) = depths gs
 
 abbrev pub steps : List Given → List ℕ
 steps [] = []
@@ -120,6 +133,8 @@ steps (given_start ∷ gs) = steps gs
 steps (given_limit n ∷ gs) = steps gs
 steps (given_fine n ∷ gs) = steps gs
 steps (given_readback ∷ gs) = steps gs
+steps (given_accel n ∷ gs) = steps gs
+steps (given_jump n ∷ gs) = steps gs
 
 abbrev pub starts : List Given → List Bool
 starts [] = []
@@ -129,6 +144,8 @@ starts (given_start ∷ gs) = true ∷ starts gs
 starts (given_limit n ∷ gs) = starts gs
 starts (given_fine n ∷ gs) = starts gs
 starts (given_readback ∷ gs) = starts gs
+starts (given_accel n ∷ gs) = starts gs
+starts (given_jump n ∷ gs) = starts gs
 
 abbrev pub limits : List Given → List ℕ
 limits [] = []
@@ -138,6 +155,8 @@ limits (given_start ∷ gs) = limits gs
 limits (given_limit n ∷ gs) = n ∷ limits gs
 limits (given_fine n ∷ gs) = limits gs
 limits (given_readback ∷ gs) = limits gs
+limits (given_accel n ∷ gs) = limits gs
+limits (given_jump n ∷ gs) = limits gs
 
 abbrev pub fines : List Given → List ℕ
 fines [] = []
@@ -147,6 +166,8 @@ fines (given_start ∷ gs) = fines gs
 fines (given_limit n ∷ gs) = fines gs
 fines (given_fine n ∷ gs) = n ∷ fines gs
 fines (given_readback ∷ gs) = fines gs
+fines (given_accel n ∷ gs) = fines gs
+fines (given_jump n ∷ gs) = fines gs
 
 abbrev pub readbacks : List Given → List Bool
 readbacks [] = []
@@ -156,6 +177,30 @@ readbacks (given_start ∷ gs) = readbacks gs
 readbacks (given_limit n ∷ gs) = readbacks gs
 readbacks (given_fine n ∷ gs) = readbacks gs
 readbacks (given_readback ∷ gs) = true ∷ readbacks gs
+readbacks (given_accel n ∷ gs) = readbacks gs
+readbacks (given_jump n ∷ gs) = readbacks gs
+
+abbrev pub accels : List Given → List ℕ
+accels [] = []
+accels (given_depth n ∷ gs) = accels gs
+accels (given_step n ∷ gs) = accels gs
+accels (given_start ∷ gs) = accels gs
+accels (given_limit n ∷ gs) = accels gs
+accels (given_fine n ∷ gs) = accels gs
+accels (given_readback ∷ gs) = accels gs
+accels (given_accel n ∷ gs) = n ∷ accels gs
+accels (given_jump n ∷ gs) = accels gs
+
+abbrev pub jumps : List Given → List ℕ
+jumps [] = []
+jumps (given_depth n ∷ gs) = jumps gs
+jumps (given_step n ∷ gs) = jumps gs
+jumps (given_start ∷ gs) = jumps gs
+jumps (given_limit n ∷ gs) = jumps gs
+jumps (given_fine n ∷ gs) = jumps gs
+jumps (given_readback ∷ gs) = jumps gs
+jumps (given_accel n ∷ gs) = jumps gs
+jumps (given_jump n ∷ gs) = n ∷ jumps gs
 
 -- the one that is given, or the default; None where it is given twice
 abbrev pub single : {A : Type 0} → A → List A → Option A
@@ -174,39 +219,49 @@ abbrev pub without : {A B : Type 0} → List A → Option B → Option B
 without [] b = b
 without (a ∷ rest) b = None
 
+-- where neither a limit on acceleration nor one on jumps is given
+abbrev pub unbounded : List Given → Option Command → Option Command
+unbounded gs c = without (accels gs) (without (jumps gs) c)
+
 -- a command that takes no option, `--depth`, `--depth` and `--step`, `--depth`, `--start` and `--readback`, `--depth` and `--limit`, `--depth` and
--- `--fine`
+-- `--fine`, `--depth`, `--accel` and `--jump`
 abbrev pub bare : Command → List Given → Option Command
 bare c gs = without gs (Some c)
 
 abbrev pub with_depth : (ℕ → Command) → List Given → Option Command
 with_depth make gs =
-    without (steps gs) (without (starts gs) (without (limits gs) (without (fines gs) (without (readbacks gs)
-    (option_map make (single default_depth (depths gs)))))))
+    unbounded gs (without (steps gs) (without (starts gs) (without (limits gs) (without (fines gs) (without (readbacks gs)
+    (option_map make (single default_depth (depths gs))))))))
 
 abbrev pub with_step : List Given → Option Command
 with_step gs =
-    without (starts gs) (without (limits gs) (without (fines gs) (without (readbacks gs) (option_and_then
+    unbounded gs (without (starts gs) (without (limits gs) (without (fines gs) (without (readbacks gs) (option_and_then
     (λ (depth : ℕ). option_map (λ (step : ℕ). Play depth step) (single default_step (steps gs)))
-    (single default_depth (depths gs))))))
+    (single default_depth (depths gs)))))))
 
 abbrev pub with_start : (ℕ → Bool → Bool → Command) → List Given → Option Command
 with_start make gs =
-    without (steps gs) (without (limits gs) (without (fines gs) (option_and_then
+    unbounded gs (without (steps gs) (without (limits gs) (without (fines gs) (option_and_then
     (λ (depth : ℕ). option_and_then (λ (start : Bool). option_map (λ (readback : Bool). make depth start readback) (single false (readbacks gs))) (single false (starts gs)))
-    (single default_depth (depths gs)))))
+    (single default_depth (depths gs))))))
 
 abbrev pub with_limit : List Given → Option Command
 with_limit gs =
-    without (steps gs) (without (starts gs) (without (fines gs) (without (readbacks gs) (option_and_then
+    unbounded gs (without (steps gs) (without (starts gs) (without (fines gs) (without (readbacks gs) (option_and_then
     (λ (depth : ℕ). option_map (λ (limit : Option ℕ). Speed depth limit) (optional (limits gs)))
-    (single default_depth (depths gs))))))
+    (single default_depth (depths gs)))))))
 
 abbrev pub with_fine : List Given → Option Command
 with_fine gs =
-    without (steps gs) (without (starts gs) (without (limits gs) (without (readbacks gs) (option_and_then
+    unbounded gs (without (steps gs) (without (starts gs) (without (limits gs) (without (readbacks gs) (option_and_then
     (λ (depth : ℕ). option_map (λ (fine : ℕ). Explain depth fine) (single default_fine (fines gs)))
-    (single default_depth (depths gs))))))
+    (single default_depth (depths gs)))))))
+
+abbrev pub with_bounds : List Given → Option Command
+with_bounds gs =
+    without (steps gs) (without (starts gs) (without (limits gs) (without (fines gs) (without (readbacks gs) (option_and_then
+    (λ (depth : ℕ). option_and_then (λ (accel : Option ℕ). option_map (λ (jump : Option ℕ). Dynamics depth accel jump) (optional (jumps gs))) (optional (accels gs)))
+    (single default_depth (depths gs)))))))
 
 -- the command of a name with these options
 abbrev pub named : List ℕ → List Given → Option Command
@@ -224,7 +279,8 @@ named name gs =
     else (if bytes_eq name (codes "boxes") then with_depth Boxes gs
     else (if bytes_eq name (codes "speed") then with_limit gs
     else (if bytes_eq name (codes "explain") then with_fine gs
-    else None))))))))))))
+    else (if bytes_eq name (codes "dynamics") then with_bounds gs
+    else None)))))))))))))
 
 -- a drill of this many drones
 abbrev pub drill_with : Option ℕ → List (List ℕ) → Option Command
@@ -258,6 +314,7 @@ IsCommand (Drill drones depth) = (1 ≤ drones) × (drones ≤ most_drill) × (d
 IsCommand (Boxes depth) = depth ≤ most_depth
 IsCommand (Speed depth limit) = (depth ≤ most_depth) × IfSome limit (λ v. (1 ≤ v) × (v ≤ most_limit))
 IsCommand (Explain depth fine) = (depth ≤ most_depth) × (fine ≤ most_fine)
+IsCommand (Dynamics depth accel jump) = (depth ≤ most_depth) × IfSome accel (λ a. a ≤ most_bound) × IfSome jump (λ j. j ≤ most_bound)
 
 -- ---- what that means
 
@@ -273,6 +330,10 @@ SpellsOption (given_limit n) words =
     (value : List ℕ) × (words ≡ codes "--limit" ∷ value ∷ []) × (limit_of value ≡ Some n)
 SpellsOption (given_fine n) words =
     (value : List ℕ) × (words ≡ codes "--fine" ∷ value ∷ []) × (fine_of value ≡ Some n)
+SpellsOption (given_accel n) words =
+    (value : List ℕ) × (words ≡ codes "--accel" ∷ value ∷ []) × (bound_of value ≡ Some n)
+SpellsOption (given_jump n) words =
+    (value : List ℕ) × (words ≡ codes "--jump" ∷ value ∷ []) × (bound_of value ≡ Some n)
 
 -- words are these options, one after the other
 abbrev pub SpellsOptions : List Given → List (List ℕ) → Type 0
@@ -290,4 +351,5 @@ help_text =
     codes "help\ncheck [--depth D]\ncompile [--depth D]\ncertify [--depth D]\n"
     ++ codes "play [--depth D] [--step MS]\nreport [--depth D]\nverify\n"
     ++ codes "rehearse [--depth D] [--start] [--readback]\nupload [--depth D] [--start] [--readback]\ndrill N [--depth D]\n"
-    ++ codes "boxes [--depth D]\nspeed [--depth D] [--limit V]\nexplain [--depth D] [--fine E]\nversion\n"
+    ++ codes "boxes [--depth D]\nspeed [--depth D] [--limit V]\nexplain [--depth D] [--fine E]\n"
+    ++ codes "dynamics [--depth D] [--accel A] [--jump J]\nversion\n"

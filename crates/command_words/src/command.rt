@@ -68,6 +68,13 @@ pub enum Command {
         depth: u8,
         fine: u8,
     },
+    /// How fast the speeds of its drones change at most and where they jump, and whether that is within `accel` millimetres per second
+    /// squared and `jump` millimetres per second, each 0 to 999,999,999.
+    Dynamics {
+        depth: u8,
+        accel: Option<u32>,
+        jump: Option<u32>,
+    },
 }
 
 // The most drones of a drill.
@@ -88,6 +95,9 @@ fn study(name: &[u8], options: Options) -> Option<Command>
     } else if name == b"explain".as_slice() {
         let (depth, fine) = options.depth_and_fine()?;
         Some(Command::Explain { depth, fine })
+    } else if name == b"dynamics".as_slice() {
+        let (depth, accel, jump) = options.depth_and_bounds()?;
+        Some(Command::Dynamics { depth, accel, jump })
     } else {
         None
     }
@@ -181,5 +191,6 @@ pub fn help_text() -> &'static [u8]
       boxes [--depth D]\n\
       speed [--depth D] [--limit V]\n\
       explain [--depth D] [--fine E]\n\
+      dynamics [--depth D] [--accel A] [--jump J]\n\
       version\n"
 }

@@ -1,9 +1,9 @@
 //! The options that are given, each at most once and in any order.
 ghost use Rattle.std.specs.Prelude.{◌≡◌, ℕ, ◌≤◌, Bool, map, string_bytes, IfSome, option_map, option_and_then};
 ghost use Rattle.command_words.specs.declared.command.Command.{Command};
-ghost use Rattle.command_words.specs.declared.command.Command.TheVariants.{Explain, Play, Speed};
-ghost use Rattle.command_words.specs.Commands.{IsCommand, depth_of, given_depth, fine_of, given_fine, given_limit, given_readback, given_start, given_step, limit_of, most_depth, most_fine, most_limit, most_step, number_from, step_of, valued};
-ghost use Rattle.command_words.specs.Steps.{AreInRange, at_fine, at_limit, at_start, at_step, continued, depth_alone, is_bare, no_options, noted};
+ghost use Rattle.command_words.specs.declared.command.Command.TheVariants.{Dynamics, Explain, Play, Speed};
+ghost use Rattle.command_words.specs.Commands.{IsCommand, bound_of, depth_of, given_accel, given_depth, fine_of, given_fine, given_jump, given_limit, given_readback, given_start, given_step, limit_of, most_depth, most_fine, most_limit, most_step, number_from, step_of, valued};
+ghost use Rattle.command_words.specs.Steps.{AreInRange, at_bounds, at_fine, at_limit, at_start, at_step, continued, depth_alone, is_bare, is_bounded, no_options, noted};
 
 use text_lines::natural;
 
@@ -21,6 +21,9 @@ const MOST_STEP: u64 = 60_000;
 
 // The greatest limit on speed, in micrometres per second.
 const MOST_LIMIT: u64 = 999_999_999;
+
+// The greatest limit on acceleration, in millimetres per second squared, and on a jump of speed, in millimetres per second.
+const MOST_BOUND: u64 = 999_999_999;
 
 // How finely a cue is listed where no option says it.
 const DEFAULT_FINE: u8 = 5;
@@ -59,6 +62,10 @@ pub struct Options {
     pub fine: Option<u8>,
     /// The memories are read back.
     pub readback: bool,
+    /// In millimetres per second squared, at most 999,999,999.
+    pub accel: Option<u32>,
+    /// In millimetres per second, at most 999,999,999.
+    pub jump: Option<u32>,
 }
 
 impl Options {
@@ -73,6 +80,8 @@ impl Options {
             limit: None,
             fine: None,
             readback: false,
+            accel: None,
+            jump: None,
         }
     }
 
@@ -140,6 +149,38 @@ impl Options {
         })
     }
 
+    // A limit on acceleration more, unless there is one.
+    fn with_accel(self, value: &[u8]) -> Option<Options>
+        requires { AreInRange self }
+        ensures value { result ≡ option_and_then (noted self) (option_map given_accel (bound_of value.now)) }
+        ensures range { IfSome result AreInRange }
+    {
+        let accel = number_from(value, 0, MOST_BOUND)? as u32;
+        if self.accel.is_some() {
+            return None;
+        }
+        Some(Options {
+            accel: Some(accel),
+            ..self
+        })
+    }
+
+    // A limit on jumps more, unless there is one.
+    fn with_jump(self, value: &[u8]) -> Option<Options>
+        requires { AreInRange self }
+        ensures value { result ≡ option_and_then (noted self) (option_map given_jump (bound_of value.now)) }
+        ensures range { IfSome result AreInRange }
+    {
+        let jump = number_from(value, 0, MOST_BOUND)? as u32;
+        if self.jump.is_some() {
+            return None;
+        }
+        Some(Options {
+            jump: Some(jump),
+            ..self
+        })
+    }
+
     // An option of two words more, unless it is there.
     fn with_valued(self, word: &[u8], value: &[u8]) -> Option<Options>
         requires { AreInRange self }
@@ -154,6 +195,10 @@ impl Options {
             self.with_limit(value)
         } else if word == b"--fine".as_slice() {
             self.with_fine(value)
+        } else if word == b"--accel".as_slice() {
+            self.with_accel(value)
+        } else if word == b"--jump".as_slice() {
+            self.with_jump(value)
         } else {
             None
         }
@@ -189,11 +234,19 @@ impl Options {
         })
     }
 
+    // A limit on acceleration or on jumps is given.
+    fn is_bounded(self) -> bool
+        ensures { result ≡ is_bounded self }
+    {
+        self.accel.is_some() || self.jump.is_some()
+    }
+
     /// No option is given.
     pub fn is_bare(self) -> bool
         ensures { result ≡ is_bare self }
     {
-        self.depth.is_none()
+        !self.is_bounded()
+            && self.depth.is_none()
             && self.step.is_none()
             && !self.start
             && self.limit.is_none()
@@ -207,7 +260,8 @@ impl Options {
         ensures value { result ≡ depth_alone self }
         ensures most { IfSome result (λ depth. depth ≤ most_depth) }
     {
-        if self.step.is_some()
+        if self.is_bounded()
+            || self.step.is_some()
             || self.start
             || self.limit.is_some()
             || self.fine.is_some()
@@ -224,7 +278,12 @@ impl Options {
         ensures value { option_map (λ given. Play given.0 given.1) result ≡ at_step self }
         ensures range { IfSome result (λ given. IsCommand (Play given.0 given.1)) }
     {
-        if self.start || self.limit.is_some() || self.fine.is_some() || self.readback {
+        if self.is_bounded()
+            || self.start
+            || self.limit.is_some()
+            || self.fine.is_some()
+            || self.readback
+        {
             return None;
         }
         Some((
@@ -240,7 +299,11 @@ impl Options {
             option_map (λ given. make given.0 given.1 given.2) result ≡ at_start make self }
         ensures most { IfSome result (λ given. given.0 ≤ most_depth) }
     {
-        if self.step.is_some() || self.limit.is_some() || self.fine.is_some() {
+        if self.is_bounded()
+            || self.step.is_some()
+            || self.limit.is_some()
+            || self.fine.is_some()
+        {
             return None;
         }
         Some((
@@ -256,7 +319,12 @@ impl Options {
         ensures value { option_map (λ given. Speed given.0 given.1) result ≡ at_limit self }
         ensures range { IfSome result (λ given. IsCommand (Speed given.0 given.1)) }
     {
-        if self.step.is_some() || self.start || self.fine.is_some() || self.readback {
+        if self.is_bounded()
+            || self.step.is_some()
+            || self.start
+            || self.fine.is_some()
+            || self.readback
+        {
             return None;
         }
         Some((self.depth.unwrap_or(DEFAULT_DEPTH), self.limit))
@@ -268,12 +336,38 @@ impl Options {
         ensures value { option_map (λ given. Explain given.0 given.1) result ≡ at_fine self }
         ensures range { IfSome result (λ given. IsCommand (Explain given.0 given.1)) }
     {
-        if self.step.is_some() || self.start || self.limit.is_some() || self.readback {
+        if self.is_bounded()
+            || self.step.is_some()
+            || self.start
+            || self.limit.is_some()
+            || self.readback
+        {
             return None;
         }
         Some((
             self.depth.unwrap_or(DEFAULT_DEPTH),
             self.fine.unwrap_or(DEFAULT_FINE),
+        ))
+    }
+
+    /// The depth, and the limits on acceleration and on jumps, if there are such, where no other option is given.
+    pub fn depth_and_bounds(self) -> Option<(u8, Option<u32>, Option<u32>)>
+        requires { AreInRange self }
+        ensures value { option_map (λ given. Dynamics given.0 given.1 given.2) result ≡ at_bounds self }
+        ensures range { IfSome result (λ given. IsCommand (Dynamics given.0 given.1 given.2)) }
+    {
+        if self.step.is_some()
+            || self.start
+            || self.limit.is_some()
+            || self.fine.is_some()
+            || self.readback
+        {
+            return None;
+        }
+        Some((
+            self.depth.unwrap_or(DEFAULT_DEPTH),
+            self.accel,
+            self.jump,
         ))
     }
 }

@@ -12,7 +12,7 @@ fn command(alloc: Global, line: &str) -> Result<Option<Command>, AllocError> {
     Ok(command_of(&words))
 }
 
-const COMMANDS: [(&str, Command); 34] = [
+const COMMANDS: [(&str, Command); 38] = [
     ("help", Command::Help),
     ("version", Command::Version),
     ("check", Command::Check { depth: 6 }),
@@ -167,6 +167,38 @@ const COMMANDS: [(&str, Command); 34] = [
         "explain --depth 3 --fine 05",
         Command::Explain { depth: 3, fine: 5 },
     ),
+    (
+        "dynamics",
+        Command::Dynamics {
+            depth: 6,
+            accel: None,
+            jump: None,
+        },
+    ),
+    (
+        "dynamics --jump 0 --depth 8 --accel 999999999",
+        Command::Dynamics {
+            depth: 8,
+            accel: Some(999_999_999),
+            jump: Some(0),
+        },
+    ),
+    (
+        "dynamics --accel 0",
+        Command::Dynamics {
+            depth: 6,
+            accel: Some(0),
+            jump: None,
+        },
+    ),
+    (
+        "dynamics --depth 0 --jump 000000300",
+        Command::Dynamics {
+            depth: 0,
+            accel: None,
+            jump: Some(300),
+        },
+    ),
 ];
 
 #[test]
@@ -177,7 +209,7 @@ fn words_that_are_a_command(rt: HostRuntime) -> Result<(), Fail> {
     Ok(())
 }
 
-const NO_COMMANDS: [&str; 64] = [
+const NO_COMMANDS: [&str; 75] = [
     "",
     "Compile",
     "compil",
@@ -242,6 +274,17 @@ const NO_COMMANDS: [&str; 64] = [
     "speed --fine 5",
     "explain --fine 6",
     "explain --fine 5 --depth 3 --fine 5",
+    "explain --jump 300",
+    "speed --accel 5",
+    "check --accel 5",
+    "drill 4 --jump 300",
+    "play --jump 300",
+    "rehearse --accel 5",
+    "verify --jump 300",
+    "dynamics --accel",
+    "dynamics --accel 1000000000",
+    "dynamics --jump 5 --accel 5 --jump 5",
+    "dynamics --limit 5",
 ];
 
 #[test]
@@ -269,6 +312,7 @@ fn the_forms_of_the_commands(rt: HostRuntime) {
         b"boxes [--depth D]",
         b"speed [--depth D] [--limit V]",
         b"explain [--depth D] [--fine E]",
+        b"dynamics [--depth D] [--accel A] [--jump J]",
         b"version",
     ];
     let mut rest = help_text();
