@@ -113,7 +113,7 @@ fails_line pair place version dir control =
     refusal (codes "12") (codes "fails" ∷ pair_words pair
     ++ codes "part" ∷ decimal place.depth ∷ decimal place.index ∷ codes "direction" ∷ direction_word version dir ∷ codes "control" ∷ decimal control ∷ [])
 
--- ---- regions and speeds
+-- ---- regions, speeds, accelerations and jumps
 
 -- a drone isn't kept from or in a region in this part of a cue; regions and cues count from 0 in the program and from 1 in the line
 abbrev pub enters_line : ℕ → List ℕ → ℕ → ℕ → ℕ → List ℕ
@@ -125,3 +125,17 @@ enters_line region name cue index depth =
 abbrev pub too_fast_line : List ℕ → ℕ → ℤ → List ℕ
 too_fast_line name axis speed =
     refusal (codes "16") (codes "drone" ∷ name ∷ axis_word axis ∷ codes "speed" ∷ signed_decimal speed ∷ [])
+
+-- a number of a drone on an axis is above its limit, from the beginning of this cue on or there; cues count from 0 in the program and from 1
+-- in the line
+abbrev pub excess_line : List ℕ → ℕ → List ℕ → ℕ → ℤ → List ℕ
+excess_line name cue what axis value =
+    refusal (codes "18") (codes "drone" ∷ name ∷ codes "cue" ∷ decimal (cue + 1) ∷ what ∷ axis_word axis ∷ signed_decimal value ∷ [])
+
+-- the bound on a drone's acceleration on an axis, in what begins with this cue, is above the limit; it is in micrometres per second squared
+abbrev pub accelerates_line : List ℕ → ℕ → ℕ → ℤ → List ℕ
+accelerates_line name cue axis acceleration = excess_line name cue (codes "accel") axis acceleration
+
+-- the jump of a drone's speed on an axis, at the beginning of this cue, is above the limit; it is in micrometres per second
+abbrev pub jumps_line : List ℕ → ℕ → ℕ → ℤ → List ℕ
+jumps_line name cue axis speed = excess_line name cue (codes "jump") axis speed

@@ -31,6 +31,8 @@ status_of (refused.TooDeep pair) = 12
 status_of (refused.Fails pair place version dir control) = 12
 status_of (refused.Enters region drone cue index depth) = 15
 status_of (refused.TooFast drone axis speed) = 16
+status_of (refused.Accelerates drone cue axis acceleration) = 18
+status_of (refused.Jumps drone cue axis speed) = 18
 
 -- the line that it writes
 abbrev pub line_of : Refusal → List ℕ
@@ -55,14 +57,16 @@ line_of (refused.TooDeep pair) = lines.too_deep_line pair
 line_of (refused.Fails pair place version dir control) = lines.fails_line pair place version dir control
 line_of (refused.Enters region drone cue index depth) = lines.enters_line region drone.items cue index depth
 line_of (refused.TooFast drone axis speed) = lines.too_fast_line drone.items axis speed
+line_of (refused.Accelerates drone cue axis acceleration) = lines.accelerates_line drone.items cue axis acceleration
+line_of (refused.Jumps drone cue axis speed) = lines.jumps_line drone.items cue axis speed
 
 -- the names of a pair can stand as words of a line
 pub record AreNamed (pair : Pair) : Type 0 where
   pub first : IsWord pair.first.items
   pub second : IsWord pair.second.items
 
--- What a refusal names can be said in a line: names are words, an axis is one of four, or of three where it has a speed, a depth is at most 8,
--- a direction is one of its version's table, and out of memory is no fault of names or cues.
+-- What a refusal names can be said in a line: names are words, an axis is one of four, or of three where it has a speed or an acceleration, a
+-- depth is at most 8, a direction is one of its version's table, and out of memory is no fault of names or cues.
 abbrev pub IsSayable : Refusal → Type 0
 IsSayable refused.Usage = Unit {0}
 IsSayable refused.TooLarge = Unit {0}
@@ -85,3 +89,5 @@ IsSayable (refused.TooDeep pair) = AreNamed pair
 IsSayable (refused.Fails pair place version dir control) = AreNamed pair × IsVersion version × (dir < known_in version)
 IsSayable (refused.Enters region drone cue index depth) = IsWord drone.items × (depth ≤ 8)
 IsSayable (refused.TooFast drone axis speed) = IsWord drone.items × (axis ≤ 2)
+IsSayable (refused.Accelerates drone cue axis acceleration) = IsWord drone.items × (axis ≤ 2)
+IsSayable (refused.Jumps drone cue axis speed) = IsWord drone.items × (axis ≤ 2)

@@ -9,7 +9,7 @@ use crate::singles::{
     read_line, refused_line, room_line, second_line, second_too_large_line, segments_line,
     too_large_line, usage_line,
 };
-use crate::studies::{enters_line, too_fast_line};
+use crate::studies::{accelerates_line, enters_line, jumps_line, too_fast_line};
 use choreo_reader::{LineKind, Name};
 use cue_grid::GridFault;
 use fleet_io::ShortLine;
@@ -127,6 +127,22 @@ pub enum Refusal {
         axis: u8,
         speed: i64,
     },
+    /// The bound on a drone's acceleration on the axis 0, 1 or 2 is above the limit, in what it flies from the beginning of this cue on. It is
+    /// in micrometres per second squared.
+    Accelerates {
+        drone: Name,
+        cue: u16,
+        axis: u8,
+        acceleration: i64,
+    },
+    /// A drone's speed on the axis 0, 1 or 2 jumps at the beginning of this cue by more than the limit, in micrometres per second. The
+    /// last instant is the beginning of the cue after the last one.
+    Jumps {
+        drone: Name,
+        cue: u16,
+        axis: u8,
+        speed: i64,
+    },
 }
 
 impl Refusal {
@@ -154,6 +170,7 @@ impl Refusal {
             | Refusal::Fails { .. } => 12,
             Refusal::Enters { .. } => 15,
             Refusal::TooFast { .. } => 16,
+            Refusal::Accelerates { .. } | Refusal::Jumps { .. } => 18,
         }
     }
 
@@ -205,6 +222,18 @@ impl Refusal {
                 depth,
             } => enters_line(*region, drone, *cue, *index, *depth),
             Refusal::TooFast { drone, axis, speed } => too_fast_line(drone, *axis, *speed),
+            Refusal::Accelerates {
+                drone,
+                cue,
+                axis,
+                acceleration,
+            } => accelerates_line(drone, *cue, *axis, *acceleration),
+            Refusal::Jumps {
+                drone,
+                cue,
+                axis,
+                speed,
+            } => jumps_line(drone, *cue, *axis, *speed),
         }
     }
 }

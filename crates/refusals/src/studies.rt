@@ -1,8 +1,8 @@
-//! Lines on a drone that enters a region, and on one that may be too fast.
+//! Lines on a drone that enters a region, and on one that may be too fast or accelerate or jump too much.
 
-ghost use Rattle.std.specs.Prelude.{◌≡◌, ◌≤◌};
+ghost use Rattle.std.specs.Prelude.{◌≡◌, ◌≤◌, length};
 ghost use Rattle.fleet_io.specs.Words.{IsWord};
-ghost use Rattle.refusals.specs.Lines.{enters_line, too_fast_line};
+ghost use Rattle.refusals.specs.Lines.{accelerates_line, enters_line, excess_line, jumps_line, too_fast_line};
 
 use crate::builder::begin;
 use crate::kinds::axis_word;
@@ -47,4 +47,43 @@ pub(crate) fn too_fast_line(name: &Name, axis: u8, speed: i64) -> ShortLine
     text.decimal(speed);
     text.end();
     text
+}
+
+// `error 18 drone NAME cue C WHAT AXIS VALUE`: cues count from 1 in the line.
+#[tactic(auto, using(fleet_io::proofs::WordLaws::word_adds, fleet_io::proofs::WordLaws::number_adds, fleet_io::proofs::WordLaws::decimal_adds))]
+fn excess_line(name: &Name, cue: u16, what: &[u8], axis: u8, value: i64) -> ShortLine
+    requires name { IsWord name.now.items }
+    requires what { IsWord what.now }
+    requires short { length what.now ≤ 5 }
+    requires axis { axis ≤ 2 }
+    ensures { result ≡ excess_line name.now.items cue what.now axis value }
+{
+    let mut text = begin(b"18");
+    text.word(b"drone");
+    text.word(name.as_slice());
+    text.word(b"cue");
+    text.number(u32::from(cue) + 1);
+    text.word(what);
+    text.word(axis_word(axis));
+    text.decimal(value);
+    text.end();
+    text
+}
+
+// A drone that may accelerate too much on an axis, in what begins with a cue.
+pub(crate) fn accelerates_line(name: &Name, cue: u16, axis: u8, acceleration: i64) -> ShortLine
+    requires name { IsWord name.now.items }
+    requires axis { axis ≤ 2 }
+    ensures { result ≡ accelerates_line name.now.items cue axis acceleration }
+{
+    excess_line(name, cue, b"accel", axis, acceleration)
+}
+
+// A drone whose speed jumps too much on an axis, at the beginning of a cue.
+pub(crate) fn jumps_line(name: &Name, cue: u16, axis: u8, speed: i64) -> ShortLine
+    requires name { IsWord name.now.items }
+    requires axis { axis ≤ 2 }
+    ensures { result ≡ jumps_line name.now.items cue axis speed }
+{
+    excess_line(name, cue, b"jump", axis, speed)
 }

@@ -249,6 +249,33 @@ fn speeds(rt: HostRuntime) {
 }
 
 #[test]
+fn accelerations_and_jumps(rt: HostRuntime) {
+    let accelerates = Refusal::Accelerates {
+        drone: named(b"solo"),
+        cue: 0,
+        axis: 0,
+        acceleration: 1_878_895,
+    };
+    let jumps = Refusal::Jumps {
+        drone: named(b"abcdefghijklmnop"),
+        cue: 1000,
+        axis: 2,
+        speed: 9_223_372_036_854_775_807,
+    };
+    let on_x = says(
+        &accelerates,
+        b"error 18 drone solo cue 1 accel x 1878895\n",
+        18,
+    );
+    let on_z = says(
+        &jumps,
+        b"error 18 drone abcdefghijklmnop cue 1001 jump z 9223372036854775807\n",
+        18,
+    );
+    assert!(rt; on_x && on_z);
+}
+
+#[test]
 fn each_word_of_a_line(rt: HostRuntime) {
     let rows = [
         (
