@@ -53,6 +53,8 @@ refused_some (refusal.TooDeep pair) is = omega (arith, is)
 refused_some (refusal.Fails pair place version dir control) is = omega (arith, is)
 refused_some (refusal.Enters region drone cue index depth) is = omega (arith, is)
 refused_some (refusal.TooFast drone axis speed) is = omega (arith, is)
+refused_some (refusal.Accelerates drone cue axis acceleration) is = omega (arith, is)
+refused_some (refusal.Jumps drone cue axis speed) is = omega (arith, is)
 
 -- a command that writes no frames says a refusal by its line
 pub said_plain : (c : Verb) (r : Refusal) → c.ways.by_frames ≡ false → said c r ≡ refused r

@@ -31,7 +31,7 @@ some_each (Some x) P by = by x
 
 -- the statuses of a command
 abbrev pub statuses : List ℕ
-statuses = 0 ∷ 1 ∷ 3 ∷ 4 ∷ 5 ∷ 6 ∷ 7 ∷ 8 ∷ 9 ∷ 10 ∷ 11 ∷ 12 ∷ 13 ∷ 14 ∷ 15 ∷ 16 ∷ []
+statuses = 0 ∷ 1 ∷ 3 ∷ 4 ∷ 5 ∷ 6 ∷ 7 ∷ 8 ∷ 9 ∷ 10 ∷ 11 ∷ 12 ∷ 13 ∷ 14 ∷ 15 ∷ 16 ∷ 18 ∷ []
 
 -- A command that reads its input whole and writes one answer, as lines: where it judges its input, and what it writes where a read fails.
 pub record IsPlain (c : Verb) : Type 0 where
@@ -63,6 +63,8 @@ refused_among (refusal.TooDeep pair) is = (11, omega arith, refl)
 refused_among (refusal.Fails pair place version dir control) is = (11, omega arith, refl)
 refused_among (refusal.Enters region drone cue index depth) is = (14, omega arith, refl)
 refused_among (refusal.TooFast drone axis speed) is = (15, omega arith, refl)
+refused_among (refusal.Accelerates drone cue axis acceleration) is = (16, omega arith, refl)
+refused_among (refusal.Jumps drone cue axis speed) is = (16, omega arith, refl)
 
 pub refused_judged : (r : Refusal) → IsOfInput r → IsJudged (status_of r)
 refused_judged refusal.Usage is = absurd (is.command refl)
@@ -86,6 +88,8 @@ refused_judged (refusal.TooDeep pair) is = ((λ e. omega (arith, e)), (λ e. ome
 refused_judged (refusal.Fails pair place version dir control) is = ((λ e. omega (arith, e)), (λ e. omega (arith, e)), (λ e. omega (arith, e)))
 refused_judged (refusal.Enters region drone cue index depth) is = ((λ e. omega (arith, e)), (λ e. omega (arith, e)), (λ e. omega (arith, e)))
 refused_judged (refusal.TooFast drone axis speed) is = ((λ e. omega (arith, e)), (λ e. omega (arith, e)), (λ e. omega (arith, e)))
+refused_judged (refusal.Accelerates drone cue axis acceleration) is = ((λ e. omega (arith, e)), (λ e. omega (arith, e)), (λ e. omega (arith, e)))
+refused_judged (refusal.Jumps drone cue axis speed) is = ((λ e. omega (arith, e)), (λ e. omega (arith, e)), (λ e. omega (arith, e)))
 
 -- what judges its input doesn't judge nothing
 pub judges_input : (j : Judges) (output : List ℕ) → j ≡ the_input → j ≡ nothing output → ⊥
