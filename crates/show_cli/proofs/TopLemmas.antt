@@ -31,15 +31,20 @@ pub never_seven : (words : Option Command) (r : Run) (status : ℕ) → (words �
 never_seven None r status usage runs quiet seven = quiet (usage refl seven)
 never_seven (Some c) r status usage runs quiet seven = quiet ((runs c refl).runs.seven seven).0
 
--- no status is above 16
-pub known_small : (n : ℕ) → Contains statuses n → n ≤ 16
-known_small n among = All-contains (λ (k : ℕ). k ≤ 16) statuses n (All-from_recursion (λ (k : ℕ). k ≤ 16) statuses
-    (omega arith, (omega arith, (omega arith, (omega arith, (omega arith, (omega arith, (omega arith, (omega arith, (omega arith, (omega arith, (omega arith, (omega arith, (omega arith, (omega arith, (omega arith, (omega arith, tt))))))))))))))))) among
+-- no status is above 18
+pub known_small : (n : ℕ) → Contains statuses n → n ≤ 18
+known_small n among = All-contains (λ (k : ℕ). k ≤ 18) statuses n (All-from_recursion (λ (k : ℕ). k ≤ 18) statuses
+    (omega arith, (omega arith, (omega arith, (omega arith, (omega arith, (omega arith, (omega arith, (omega arith, (omega arith, (omega arith, (omega arith, (omega arith, (omega arith, (omega arith, (omega arith, (omega arith, (omega arith, tt)))))))))))))))))) among
 
 -- no status of a command is 2
 pub never_two : (n : ℕ) → Contains statuses n → n ≡ 2 → ⊥
 never_two n among = All-contains (λ (k : ℕ). k ≡ 2 → ⊥) statuses n (All-from_recursion (λ (k : ℕ). k ≡ 2 → ⊥) statuses
-    ((λ e. omega (arith, e)), ((λ e. omega (arith, e)), ((λ e. omega (arith, e)), ((λ e. omega (arith, e)), ((λ e. omega (arith, e)), ((λ e. omega (arith, e)), ((λ e. omega (arith, e)), ((λ e. omega (arith, e)), ((λ e. omega (arith, e)), ((λ e. omega (arith, e)), ((λ e. omega (arith, e)), ((λ e. omega (arith, e)), ((λ e. omega (arith, e)), ((λ e. omega (arith, e)), ((λ e. omega (arith, e)), ((λ e. omega (arith, e)), tt))))))))))))))))) among
+    ((λ e. omega (arith, e)), ((λ e. omega (arith, e)), ((λ e. omega (arith, e)), ((λ e. omega (arith, e)), ((λ e. omega (arith, e)), ((λ e. omega (arith, e)), ((λ e. omega (arith, e)), ((λ e. omega (arith, e)), ((λ e. omega (arith, e)), ((λ e. omega (arith, e)), ((λ e. omega (arith, e)), ((λ e. omega (arith, e)), ((λ e. omega (arith, e)), ((λ e. omega (arith, e)), ((λ e. omega (arith, e)), ((λ e. omega (arith, e)), ((λ e. omega (arith, e)), tt)))))))))))))))))) among
+
+-- and none is 17
+pub never_seventeen : (n : ℕ) → Contains statuses n → n ≡ 17 → ⊥
+never_seventeen n among = All-contains (λ (k : ℕ). k ≡ 17 → ⊥) statuses n (All-from_recursion (λ (k : ℕ). k ≡ 17 → ⊥) statuses
+    ((λ e. omega (arith, e)), ((λ e. omega (arith, e)), ((λ e. omega (arith, e)), ((λ e. omega (arith, e)), ((λ e. omega (arith, e)), ((λ e. omega (arith, e)), ((λ e. omega (arith, e)), ((λ e. omega (arith, e)), ((λ e. omega (arith, e)), ((λ e. omega (arith, e)), ((λ e. omega (arith, e)), ((λ e. omega (arith, e)), ((λ e. omega (arith, e)), ((λ e. omega (arith, e)), ((λ e. omega (arith, e)), ((λ e. omega (arith, e)), ((λ e. omega (arith, e)), tt)))))))))))))))))) among
 
 -- a run of a command is one of the same command by another name
 pub behaves_as : (c d : Command) (r : Run) (status : ℕ) → c ≡ d → Behaves (verb_of c) r status → Behaves (verb_of d) r status

@@ -2,7 +2,7 @@
 use Rattle.std.proofs.Common.{◌≡◌, ℕ, List, Option, Some, refl}
 use Rattle.command_words.specs.Commands.{help_text}
 use Rattle.command_words.specs.declared.command.Command.{Command}
-use Rattle.command_words.specs.declared.command.Command.TheVariants.{Help, Version, Check, Compile, Certify, Play, Report, Verify, Rehearse, Upload, Drill, Boxes, Speed, Explain}
+use Rattle.command_words.specs.declared.command.Command.TheVariants.{Help, Version, Check, Compile, Certify, Play, Report, Verify, Rehearse, Upload, Drill, Boxes, Speed, Explain, Dynamics}
 use Rattle.drill_show.specs.Drill.{drill_text}
 use Rattle.report_text.specs.Report.{report_text}
 use Rattle.text_lines.specs.Marker.{part_of}
@@ -21,7 +21,7 @@ use Rattle.show_looks.specs.Reports.{report_of}
 use Rattle.show_looks.specs.Version.{version_line}
 use Rattle.show_looks.proofs.CertifyLemmas.{certify_laws}
 use Rattle.show_studies.specs.Boxes.{BoxesLaw}
-use Rattle.show_studies.proofs.StudyLaws.{explain_laws, speed_laws}
+use Rattle.show_studies.proofs.StudyLaws.{dynamics_laws, explain_laws, speed_laws}
 use Rattle.show_uploads.specs.Rehearse.{RehearseLaw}
 use Rattle.show_uploads.specs.Upload.{UploadingLaw}
 use Rattle.show_verify.specs.Verify.{VerifyLaw}
@@ -42,6 +42,7 @@ laws verify rehearse uploading boxes (Drill drones depth) = own_verb depth (dril
 laws verify rehearse uploading boxes (Boxes depth) = boxes depth
 laws verify rehearse uploading boxes (Speed depth limit) = speed_laws depth limit
 laws verify rehearse uploading boxes (Explain depth fine) = explain_laws depth fine
+laws verify rehearse uploading boxes (Dynamics depth accel jump) = dynamics_laws depth accel jump
 
 -- status 0 of a command that judges whether drones keep apart
 pub flies : (c : Command) → JudgesApart c → (input : List ℕ) (r : Run) (status : ℕ) → Runs (verb_of c) r status → r.left ≡ Some input → status ≡ 0 → FliesText (part_of input)
@@ -60,3 +61,4 @@ flies (Drill drones depth) judges input r status runs left done = absurd (judges
 flies (Boxes depth) judges input r status runs left done = absurd (judges.3 depth refl)
 flies (Speed depth limit) judges input r status runs left done = absurd (judges.4 depth limit refl)
 flies (Explain depth fine) judges input r status runs left done = absurd (judges.5 depth fine refl)
+flies (Dynamics depth accel jump) judges input r status runs left done = absurd (judges.6 depth accel jump refl)

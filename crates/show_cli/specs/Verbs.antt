@@ -3,7 +3,7 @@ use Rattle.std.specs.Prelude.{◌≢◌, ℕ, List, map, string_bytes, Option, S
 use Rattle.std.specs.declared.alloc.Global.{Global}
 use Rattle.command_words.specs.Commands.{command_of, help_text}
 use Rattle.command_words.specs.declared.command.Command.{Command}
-use Rattle.command_words.specs.declared.command.Command.TheVariants.{Help, Version, Check, Compile, Certify, Play, Report, Verify, Rehearse, Upload, Drill, Boxes, Speed, Explain}
+use Rattle.command_words.specs.declared.command.Command.TheVariants.{Help, Version, Check, Compile, Certify, Play, Report, Verify, Rehearse, Upload, Drill, Boxes, Speed, Explain, Dynamics}
 use Rattle.show_judge.specs.Verb.{Verb}
 use Rattle.show_looks.specs.Certify.{certify_verb}
 use Rattle.show_looks.specs.Check.{check_verb}
@@ -14,6 +14,7 @@ use Rattle.show_looks.specs.Play.{play_verb}
 use Rattle.show_looks.specs.Report.{report_verb}
 use Rattle.show_looks.specs.Version.{version_verb}
 use Rattle.show_studies.specs.Boxes.{boxes_verb}
+use Rattle.show_studies.specs.Dynamics.{dynamics_verb}
 use Rattle.show_studies.specs.Explained.{explain_verb}
 use Rattle.show_studies.specs.Speeds.{speed_verb}
 use Rattle.show_uploads.specs.Rehearse.{rehearse_verb}
@@ -40,10 +41,11 @@ verb_of (Drill drones depth) = drill_verb drones depth
 verb_of (Boxes depth) = boxes_verb depth
 verb_of (Speed depth limit) = speed_verb depth limit
 verb_of (Explain depth fine) = explain_verb depth fine
+verb_of (Dynamics depth accel jump) = dynamics_verb depth accel jump
 
--- The command judges whether the drones of its input keep apart: `help` and `version` judge none, `drill` a show of its own, and `boxes`, `speed` and
--- `explain` something else.
+-- The command judges whether the drones of its input keep apart: `help` and `version` judge none, `drill` a show of its own, and `boxes`,
+-- `speed`, `explain` and `dynamics` something else.
 abbrev pub JudgesApart : Command → Type 0
 JudgesApart c =
     (c ≢ Help) × (c ≢ Version) × ((drones depth : ℕ) → c ≢ Drill drones depth) × ((depth : ℕ) → c ≢ Boxes depth) × ((depth : ℕ) (limit : Option ℕ) → c ≢ Speed depth limit)
-    × ((depth fine : ℕ) → c ≢ Explain depth fine)
+    × ((depth fine : ℕ) → c ≢ Explain depth fine) × ((depth : ℕ) (accel jump : Option ℕ) → c ≢ Dynamics depth accel jump)

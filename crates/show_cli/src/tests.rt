@@ -110,7 +110,8 @@ pub fn is_met(
 pub const HELP: &[u8] = b"help\ncheck [--depth D]\ncompile [--depth D]\ncertify [--depth D]\n\
 play [--depth D] [--step MS]\nreport [--depth D]\nverify\nrehearse [--depth D] [--start] [--readback]\n\
 upload [--depth D] [--start] [--readback]\ndrill N [--depth D]\n\
-boxes [--depth D]\nspeed [--depth D] [--limit V]\nexplain [--depth D] [--fine E]\nversion\n";
+boxes [--depth D]\nspeed [--depth D] [--limit V]\nexplain [--depth D] [--fine E]\n\
+dynamics [--depth D] [--accel A] [--jump J]\nversion\n";
 
 pub const VERSION: &[u8] = b"hemtoghai 0.1.0\n";
 

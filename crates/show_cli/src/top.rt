@@ -14,6 +14,7 @@ ghost use Rattle.show_judge.specs.Runs.{Behaves};
 ghost use Rattle.show_judge.specs.Verb.{during, run_of};
 ghost use Rattle.show_looks.specs.Compile.{Headline};
 ghost use Rattle.show_studies.specs.Boxes.{StaysInRegions};
+ghost use Rattle.show_studies.specs.Dynamics.{KeepsDynamics};
 ghost use Rattle.show_studies.specs.Explained.{TellsTouches};
 ghost use Rattle.show_studies.specs.Speeds.{KeepsSpeeds};
 ghost use Rattle.show_cli.specs.Verbs.{JudgesApart, command_in, verb_of};
@@ -25,7 +26,7 @@ use readback_core::readback_law;
 use refusals::Refusal;
 use show_judge::refuse;
 use show_looks::{certify, check, compile, drill, help, play, report, version};
-use show_studies::{boxes, boxes_law, explain, speed};
+use show_studies::{boxes, boxes_law, dynamics, explain, speed};
 use show_uploads::{rehearse, rehearse_law, upload, uploading_law};
 use show_verify::{verify, verify_law};
 use std::alloc::Global;
@@ -63,6 +64,9 @@ fn run_command<S: Source, K: Sink>(
         Command::Boxes { depth } => boxes(alloc, depth, source, sink),
         Command::Speed { depth, limit } => speed(alloc, depth, limit, source, sink),
         Command::Explain { depth, fine } => explain(alloc, depth, fine, source, sink),
+        Command::Dynamics { depth, accel, jump } => {
+            dynamics(alloc, depth, accel, jump, source, sink)
+        }
     }
 }
 
@@ -94,13 +98,15 @@ pub fn run<S: Source, K: Sink>(
     ensures headline { (depth : ℕ) (input : List ℕ) → command_in words.now.items ≡ Some (Command.Compile depth) → S.left source.old ≡ Some input → result ≡ 0
         → Headline input (K.written sink.old) (K.written sink.new) }
 
-    // 0 of `boxes`, `speed` and `explain`: what was written holds at every instant of the flight.
+    // 0 of `boxes`, `speed`, `explain` and `dynamics`: what was written holds at every instant of the flight.
     ensures regions { (depth : ℕ) (input : List ℕ) → command_in words.now.items ≡ Some (Command.Boxes depth) → S.left source.old ≡ Some input → result ≡ 0
         → StaysInRegions input (K.written sink.old) (K.written sink.new) }
     ensures speeds { (depth : ℕ) (limit : Option ℕ) (input : List ℕ) → command_in words.now.items ≡ Some (Command.Speed depth limit) → S.left source.old ≡ Some input → result ≡ 0
         → KeepsSpeeds limit depth input (K.written sink.old) (K.written sink.new) }
     ensures touches { (depth fine : ℕ) (input : List ℕ) → command_in words.now.items ≡ Some (Command.Explain depth fine) → S.left source.old ≡ Some input → result ≡ 0
         → TellsTouches depth fine input (K.written sink.old) (K.written sink.new) }
+    ensures dynamics { (depth : ℕ) (accel jump : Option ℕ) (input : List ℕ) → command_in words.now.items ≡ Some (Command.Dynamics depth accel jump) → S.left source.old ≡ Some input → result ≡ 0
+        → KeepsDynamics depth accel jump input (K.written sink.old) (K.written sink.new) }
 
     // When an upload with read-back is done, each byte of each load was right when it was read, whoever else alters a byte; no start was
     // sent before; and where nobody alters one, no byte differs.
@@ -108,8 +114,9 @@ pub fn run<S: Source, K: Sink>(
     ensures starts_last { StartsLastLaw }
     ensures unaltered { UnalteredLaw }
 
-    // There is no status above 16.
-    ensures known { result ≤ 16 }
+    // There is no status above 18; 17 is that of words that the system doesn't give.
+    ensures known { result ≤ 18 }
+    ensures given { result ≢ 17 }
     ensures taken { TakesFront (S.left source.old) (S.left source.new) }
     ensures source_later { S.faults source.old ≤ S.faults source.new }
     ensures sink_later { K.faults sink.old ≤ K.faults sink.new }

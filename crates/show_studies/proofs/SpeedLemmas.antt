@@ -15,7 +15,7 @@ use Rattle.speed_bound.specs.Speed.{speed}
 use Rattle.traj_codec.specs.declared.traj.Traj.{Traj}
 use Rattle.show_judge.specs.declared.ends.Answer.{Answer}
 use Rattle.show_judge.specs.Answers.{outcome_of}
-use Rattle.show_studies.specs.Speeds.{KeepsBounds, above, first_too_fast, speed_of_drone, speed_text, speeds_end, too_fast, too_fast_by}
+use Rattle.show_studies.specs.Speeds.{KeepsBounds, above, first_too_fast, speed_of_drone, speed_text, refused_or, too_fast, too_fast_by}
 use Rattle.show_judge.specs.Shows.{names_of, sent_of}
 use Rattle.show_judge.proofs.HeadlineLemmas.{none_both}
 
@@ -64,12 +64,12 @@ keeps_next limit depth sent d t within t_is keeps later =
 
 -- the answer for what fits is that for its show
 pub speeds_of_show : (f : Fitted) (s : PlainShow) (depth : ℕ) (limit : Option ℕ) (sent : List Traj) (names : List Name) (result : Result Answer AllocError) → IsFitted f s → sent ≡ f.sent → names ≡ f.names →
-    IfOk result (λ a. outcome_of a ≡ speeds_end (first_too_fast limit depth sent names) (speed_text depth sent names)) →
-    IfOk result (λ a. outcome_of a ≡ speeds_end (too_fast limit depth s) (speed_text depth (sent_of s) (names_of s)))
+    IfOk result (λ a. outcome_of a ≡ refused_or (first_too_fast limit depth sent names) (speed_text depth sent names)) →
+    IfOk result (λ a. outcome_of a ≡ refused_or (too_fast limit depth s) (speed_text depth (sent_of s) (names_of s)))
 speeds_of_show f s depth limit sent names (Err e) is sent_are names_are gives = tt
 speeds_of_show f s depth limit sent names (Ok a) is sent_are names_are gives =
-    gives ∙ ap (λ (ts : List Traj). speeds_end (first_too_fast limit depth ts names) (speed_text depth ts names)) (sent_are ∙ is.sent)
-    ∙ ap (λ (ns : List Name). speeds_end (first_too_fast limit depth (sent_of s) ns) (speed_text depth (sent_of s) ns)) (names_are ∙ is.names)
+    gives ∙ ap (λ (ts : List Traj). refused_or (first_too_fast limit depth ts names) (speed_text depth ts names)) (sent_are ∙ is.sent)
+    ∙ ap (λ (ns : List Name). refused_or (first_too_fast limit depth (sent_of s) ns) (speed_text depth (sent_of s) ns)) (names_are ∙ is.names)
 
 pub bounds_of_show : (f : Fitted) (s : PlainShow) (depth : ℕ) (limit : Option ℕ) (sent : List Traj) (result : Result Answer AllocError) → IsFitted f s → sent ≡ f.sent →
     IfOk result (λ a. (outcome_of a).status ≡ 0 → All (KeepsBounds limit depth) sent) → IfOk result (λ a. (outcome_of a).status ≡ 0 → All (KeepsBounds limit depth) (sent_of s))

@@ -11,7 +11,7 @@ use Rattle.show_judge.specs.Verb.{Outcome, outcome}
 use Rattle.show_judge.proofs.AnswerLemmas.{refused_some}
 use Rattle.show_judge.proofs.HeadlineLemmas.{whole_input}
 use Rattle.show_studies.specs.Explained.{TellsTouches, explain_verb}
-use Rattle.show_studies.specs.Speeds.{KeepsSpeeds, speed_text, speed_verb, speeds_end, too_fast}
+use Rattle.show_studies.specs.Speeds.{KeepsSpeeds, speed_text, speed_verb, refused_or, too_fast}
 use Rattle.show_studies.proofs.StudyLemmas.{explained_one}
 
 -- outcomes of one status and one output are one
@@ -23,7 +23,7 @@ outcome_by o p status output = ap (λ (n : ℕ). outcome n o.output) status ∙ 
 status_of_outcome : (o p : Outcome) → o ≡ p → o.status ≡ 0 → p.status ≡ 0
 status_of_outcome o p same done = sym (ap (λ (q : Outcome). q.status) same) ∙ done
 
-speeds_written : (refused : Option Refusal) (text : List ℕ) (o : Outcome) → o ≡ speeds_end refused text → o.status ≡ 0 → o.output ≡ text
+speeds_written : (refused : Option Refusal) (text : List ℕ) (o : Outcome) → o ≡ refused_or refused text → o.status ≡ 0 → o.output ≡ text
 speeds_written (Some r) text o ends done = absurd (refused_some r (status_of_outcome o _ ends done))
 speeds_written None text o ends done = ap (λ (q : Outcome). q.output) ends
 
@@ -40,8 +40,8 @@ speeds limit depth input old new o safe appended = record {
 pub speed_laws : (depth : ℕ) (limit : Option ℕ) → IsVerb (speed_verb depth limit)
 speed_laws depth limit = record {
   one = λ s cut o p first second. first ∙ sym second;
-  some = λ s cut known. (speeds_end (too_fast limit depth s) (speed_text depth (sent_of s) (names_of s)), refl);
-  done = λ s cut o gives succeeds. ap (λ (p : Outcome). p.status) gives ∙ ap (λ (r : Option Refusal). (speeds_end r (speed_text depth (sent_of s) (names_of s))).status) succeeds;
+  some = λ s cut known. (refused_or (too_fast limit depth s) (speed_text depth (sent_of s) (names_of s)), refl);
+  done = λ s cut o gives succeeds. ap (λ (p : Outcome). p.status) gives ∙ ap (λ (r : Option Refusal). (refused_or r (speed_text depth (sent_of s) (names_of s))).status) succeeds;
   apart = λ d s cut searched apart. absurd (cc);
   headline = λ input o old new safe appended. speeds limit depth input old new o safe appended;
 }

@@ -1,4 +1,5 @@
 pub mod Boxes
 pub mod Speeds
 pub mod Explained
+pub mod Dynamics
 pub mod Steps

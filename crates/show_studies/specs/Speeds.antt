@@ -53,10 +53,10 @@ pub record KeepsBounds (limit : Option ℕ) (depth : ℕ) (t : Traj) : Type 0 wh
   pub keeps : (axis : ℕ) → axis ≤ 2 → KeepsSpeed t axis (speed depth t axis)
   pub within : IfSome limit (λ most. (axis : ℕ) → axis ≤ 2 → speed depth t axis ≤ most)
 
--- a speed that is too high gives its refusal, and else all speeds are written
-abbrev pub speeds_end : Option Refusal → List ℕ → Outcome
-speeds_end (Some r) text = refused r
-speeds_end None text = outcome 0 text
+-- a number that is above its limit gives its refusal, and else the text is written
+abbrev pub refused_or : Option Refusal → List ℕ → Outcome
+refused_or (Some r) text = refused r
+refused_or None text = outcome 0 text
 
 -- The input stands for a show, and the bounds on its drones' speeds were written. With what it is sent, each drone moves on each axis between
 -- any two instants by at most its bound times the time between them; and no bound is above the limit, if there is one.
@@ -68,5 +68,5 @@ pub record KeepsSpeeds (limit : Option ℕ) (depth : ℕ) (input : List ℕ) (ol
 
 abbrev pub speed_verb : ℕ → Option ℕ → Verb
 speed_verb depth limit =
-    of_any None (λ s cut o. o ≡ speeds_end (too_fast limit depth s) (speed_text depth (sent_of s) (names_of s))) (λ s cut. Unit {0})
+    of_any None (λ s cut o. o ≡ refused_or (too_fast limit depth s) (speed_text depth (sent_of s) (names_of s))) (λ s cut. Unit {0})
     (λ s cut. All (KeepsBounds limit depth) (sent_of s)) (λ s cut. too_fast limit depth s ≡ None) (λ input old new. KeepsSpeeds limit depth input old new)

@@ -25,7 +25,7 @@ pub struct Findings {
 }
 
 // The digits of a number, as a word.
-fn put_number(text: &mut Lines, n: u64) -> Result<(), AllocError>
+pub(crate) fn put_number(text: &mut Lines, n: u64) -> Result<(), AllocError>
     ensures word { OnOk result (text.new ≡ with_word text.old (decimal n)) }
     ensures is_word { IsWord (decimal n) }
 {

@@ -1,13 +1,16 @@
-//! The commands that study a show: whether its drones keep to regions (`boxes`), how fast they are at most (`speed`), and where two of them
-//! come close (`explain`). The run of each is one fact, `Behaves`.
+//! The commands that study a show: whether its drones keep to regions (`boxes`), how fast they are at most (`speed`), where two of them
+//! come close (`explain`), and how fast their speeds change at most and where they jump (`dynamics`). The run of each is one fact, `Behaves`.
 #![tactic(auto)]
 
+mod accelerating;
 mod explaining;
 mod findings;
 mod keeping;
 mod lines;
+mod motion;
 mod speeding;
 
+pub use accelerating::{DynamicsVerb, dynamics};
 pub use explaining::{ExplainVerb, explain};
 pub use keeping::{boxes, boxes_law};
 pub use speeding::{SpeedVerb, speed};

@@ -12,7 +12,7 @@ ghost use Rattle.show_plan.specs.Landing.{Lands};
 ghost use Rattle.show_plan.specs.Separation.{FlyApart};
 ghost use Rattle.show_judge.specs.Answers.{IsSaid, outcome_of};
 ghost use Rattle.show_judge.specs.Outcome.{ShowGives};
-ghost use Rattle.show_studies.specs.Speeds.{KeepsBounds, above, first_too_fast, speed_of_drone, speed_text, speed_verb, speeds_end, too_fast_by, too_fast_of};
+ghost use Rattle.show_studies.specs.Speeds.{KeepsBounds, above, first_too_fast, speed_of_drone, speed_text, speed_verb, refused_or, too_fast_by, too_fast_of};
 ghost use Rattle.show_judge.specs.Refused.{IsOfInput, blocked_by};
 ghost use Rattle.show_judge.specs.Runs.{Behaves};
 ghost use Rattle.show_judge.specs.Shows.{Cut, most_depth, sent_of};
@@ -123,7 +123,7 @@ fn answer_drones(
     requires some { All (λ (t : Traj). 1 ≤ length t.segments) sent.now }
     requires sendable { All IsSendable sent.now }
     requires depth { depth ≤ most_depth }
-    ensures gives { IfOk result (λ a. outcome_of a ≡ speeds_end (first_too_fast limit depth sent.now names.now) (speed_text depth sent.now names.now)) }
+    ensures gives { IfOk result (λ a. outcome_of a ≡ refused_or (first_too_fast limit depth sent.now names.now) (speed_text depth sent.now names.now)) }
     ensures keeps { IfOk result (λ a. (outcome_of a).status ≡ 0 → All (KeepsBounds limit depth) sent.now) }
     ensures said { IfOk result IsSaid }
 {

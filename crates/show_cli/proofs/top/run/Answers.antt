@@ -1,5 +1,5 @@
 use Rattle.std.proofs.Common.{sym, ◌∙◌}
-use Rattle.command_words.specs.declared.command.Command.TheVariants.{Boxes, Compile, Drill, Explain, Speed}
+use Rattle.command_words.specs.declared.command.Command.TheVariants.{Boxes, Compile, Drill, Dynamics, Explain, Speed}
 use Rattle.drill_show.specs.Drill.{drill_text}
 use Rattle.show_judge.proofs.HeadlineLemmas.{flies_own}
 use Rattle.show_judge.proofs.VerbLemmas.{outcomes}
@@ -7,7 +7,7 @@ use Rattle.show_looks.specs.Drilled.{drill_of}
 use Rattle.show_looks.specs.Reports.{report_of}
 use Rattle.show_looks.proofs.CompileLemmas.{headline_of}
 use Rattle.show_cli.specs.Verbs.{verb_of}
-use Rattle.show_cli.proofs.TopLemmas.{behaves_as, known_small, never_two, one_command}
+use Rattle.show_cli.proofs.TopLemmas.{behaves_as, known_small, never_seventeen, never_two, one_command}
 use Rattle.show_cli.proofs.VerbLaws.{flies, laws}
 use Rattle.show_cli.proofs.top.run.Goals as goal
 
@@ -58,6 +58,15 @@ pub returns-in-Some-clause-touches : goal.returns-in-Some-clause-touches
 returns-in-Some-clause-touches g c = λ depth fine input is left done.
     let behaves = behaves_as c.in-Some.command (Explain depth fine) _ _ (one_command _ c.in-Some.command (Explain depth fine) (sym c.command_of.ensures.value ∙ c.in-Some.is) is) c.run_command.ensures in
     rw left at (behaves.headline done)
+
+pub returns-in-Some-clause-dynamics : goal.returns-in-Some-clause-dynamics
+returns-in-Some-clause-dynamics g c = λ depth accel jump input is left done.
+    let behaves = behaves_as c.in-Some.command (Dynamics depth accel jump) _ _
+    (one_command _ c.in-Some.command (Dynamics depth accel jump) (sym c.command_of.ensures.value ∙ c.in-Some.is) is) c.run_command.ensures in
+    rw left at (behaves.headline done)
+
+pub returns-in-Some-clause-given : goal.returns-in-Some-clause-given
+returns-in-Some-clause-given g c = λ seventeen. never_seventeen _ c.run_command.ensures.runs.known seventeen
 
 pub returns-in-Some-clause-known : goal.returns-in-Some-clause-known
 returns-in-Some-clause-known g c = known_small _ c.run_command.ensures.runs.known

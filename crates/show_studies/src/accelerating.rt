@@ -1,0 +1,264 @@
+//! `dynamics`: how fast the speeds of a show's drones change at most, and where they jump.
+ghost use Rattle.std.specs.Prelude.{◌≡◌, ◌≤◌, ◌++◌, ℕ, length, sum, unsigned_abs, None, All, IfNone, IfOk, IfSome};
+ghost use Rattle.choreo_reader.specs.Plain.{PlainShow};
+ghost use Rattle.dynamics_bound.specs.Excesses.{IsWithinLimits};
+ghost use Rattle.fleet_io.specs.Words.{IsWord};
+ghost use Rattle.fleet_math.specs.Limits.{most_cues};
+ghost use Rattle.show_plan.specs.Fitting.{IsFitted, IsSendable, IsValidFitted, StandsAsWord};
+ghost use Rattle.traj_codec.specs.Positions.{durations};
+ghost use Rattle.traj_codec.specs.Spelling.{HasDuration, most_segments};
+ghost use Rattle.show_judge.specs.Answers.{IsSaid, outcome_of};
+ghost use Rattle.show_judge.specs.Refused.{IsOfInput};
+ghost use Rattle.show_judge.specs.Runs.{Behaves};
+ghost use Rattle.show_judge.specs.Shows.{Cut, most_depth};
+ghost use Rattle.show_judge.specs.Verb.{during};
+ghost use Rattle.show_studies.specs.Dynamics.{KeepsMotion, begins_at, cue_from, cue_of, dynamics_text, dynamics_verb, excess_by, extremes, first_excess_of, in_micrometres, limits_of, motion, motion_line};
+ghost use Rattle.show_studies.specs.Speeds.{refused_or};
+
+use crate::motion::{Axes, Extremes, Motion, put_extremes, put_motion};
+use choreo_lines::copy_of;
+use choreo_reader::Name;
+use dynamics_bound::{Kind, Limits, bound, first_above, jumps, rests};
+use fleet_io::{Lines, Sink, Source};
+use refusals::Refusal;
+use show_judge::{Answer, AnyText, Output, Ways, run_any};
+use show_plan::{Fitted, uploadable_law};
+use std::alloc::{AllocError, Global};
+use traj_codec::{Segment, Traj};
+
+// How long segments last together, in milliseconds.
+fn lasting(segments: &[Segment]) -> u32
+    requires { length segments.now ≤ most_segments }
+    ensures { result ≡ sum (durations segments.now) }
+{
+    let mut total = 0;
+    for segment in segments {
+        total += u32::from(segment.ms);
+    }
+    total
+}
+
+// How many of these segments, one a cue, begin before an instant, in milliseconds.
+fn cue_from(cues: &[Segment], instant: u32) -> u16
+    requires { length cues.now ≤ most_cues }
+    ensures value { result ≡ cue_from instant (durations cues.now) }
+    ensures few { result ≤ most_cues }
+{
+    let mut left = instant;
+    let mut begun = 0;
+    for cue in cues {
+        if left == 0 {
+            return begun;
+        }
+        left = left.saturating_sub(u32::from(cue.ms));
+        begun += 1;
+    }
+    begun
+}
+
+// The cue that begins with a segment of what a drone is sent, from 0.
+fn cue_of(cues: &[Segment], t: &Traj, segment: usize) -> u16
+    requires cues { length cues.now ≤ most_cues }
+    requires segments { length t.now.segments ≤ most_segments }
+    requires inside { segment ≤ length t.now.segments }
+    ensures value { result ≡ cue_of (durations cues.now) t.now segment }
+    ensures few { result ≤ most_cues }
+{
+    cue_from(cues, lasting(&t.segments.as_slice()[..segment]))
+}
+
+// The first acceleration or jump of a drone that is above its limit.
+fn excess_by(
+    t: &Traj,
+    name: &Name,
+    cues: &[Segment],
+    depth: u8,
+    limits: Limits,
+) -> Option<Refusal>
+    requires sendable { IsSendable t.now }
+    requires name { IsWord name.now.items }
+    requires cues { length cues.now ≤ most_cues }
+    requires depth { depth ≤ most_depth }
+    ensures excess { result ≡ excess_by limits depth (durations cues.now) t.now name.now }
+    ensures within { IfNone result (IsWithinLimits limits depth t.now) }
+    ensures said { IfSome result IsOfInput }
+{
+    let excess = first_above(t, limits, depth)?;
+    let cue = cue_of(cues, t, excess.segment);
+    let drone = copy_of(name);
+    let axis = excess.axis;
+    Some(match excess.kind {
+        Kind::Acceleration => Refusal::Accelerates {
+            drone,
+            cue,
+            axis,
+            acceleration: excess.value,
+        },
+        Kind::Jump => Refusal::Jumps {
+            drone,
+            cue,
+            axis,
+            speed: excess.value,
+        },
+    })
+}
+
+// Three numbers that are none below 0.
+fn axes(x: i64, y: i64, z: i64) -> Axes
+    ensures { result ≡ record { x = unsigned_abs x; y = unsigned_abs y; z = unsigned_abs z } }
+{
+    Axes {
+        x: x.unsigned_abs(),
+        y: y.unsigned_abs(),
+        z: z.unsigned_abs(),
+    }
+}
+
+// What is found of a drone.
+fn motion_of(t: &Traj, cues: &[Segment], depth: u8) -> Motion
+    requires sendable { IsSendable t.now }
+    requires cues { length cues.now ≤ most_cues }
+    requires depth { depth ≤ most_depth }
+    ensures motion { result ≡ motion depth (durations cues.now) t.now }
+    ensures keeps { (limits : Limits) → IsWithinLimits limits depth t.now → KeepsMotion limits depth t.now }
+{
+    let [x, y, z] = bound(t, depth);
+    let [on_x, on_y, on_z] = jumps(t);
+    let (begins_at_rest, ends_at_rest) = rests(t);
+    Motion {
+        most: Extremes {
+            accelerations: axes(x, y, z),
+            jumps: axes(on_x.speed, on_y.speed, on_z.speed),
+        },
+        cues: Axes {
+            x: u64::from(cue_of(cues, t, on_x.segment)) + 1,
+            y: u64::from(cue_of(cues, t, on_y.segment)) + 1,
+            z: u64::from(cue_of(cues, t, on_z.segment)) + 1,
+        },
+        begins_at_rest,
+        ends_at_rest,
+    }
+}
+
+// The lines of all drones and the last one, or the first number that is above its limit.
+fn answer_drones(
+    alloc: Global,
+    names: &[Name],
+    sent: &[Traj],
+    cues: &[Segment],
+    depth: u8,
+    limits: Limits,
+) -> Result<Answer, AllocError>
+    requires counted { length sent.now ≡ length names.now }
+    requires words { All StandsAsWord names.now }
+    requires sendable { All IsSendable sent.now }
+    requires cues { length cues.now ≤ most_cues }
+    requires depth { depth ≤ most_depth }
+    ensures gives { IfOk result (λ a. outcome_of a ≡
+        refused_or (first_excess_of limits depth (durations cues.now) sent.now names.now) (dynamics_text depth (durations cues.now) sent.now names.now)) }
+    ensures keeps { IfOk result (λ a. (outcome_of a).status ≡ 0 → All (KeepsMotion limits depth) sent.now) }
+    ensures said { IfOk result IsSaid }
+{
+    let mut text = Lines::make(alloc);
+    let mut most = Extremes::nothing();
+    for d in 0..sent.len() {
+        let t = &sent[d];
+        if let Some(refusal) = excess_by(t, &names[d], cues, depth, limits) {
+            return Ok(Answer::Refused { refusal });
+        }
+        let motion = motion_of(t, cues, depth);
+        put_motion(&mut text, names[d].as_slice(), motion)?;
+        most = most.greater(motion.most);
+    }
+    put_extremes(&mut text, most)?;
+    Ok(Answer::Done {
+        output: Output::Text { lines: text },
+    })
+}
+
+// A limit in micrometres, of one in millimetres.
+fn in_micrometres(limit: Option<u32>) -> Option<u64>
+    ensures { result ≡ in_micrometres limit }
+{
+    let millimetres = limit?;
+    Some(u64::from(millimetres) * 1000)
+}
+
+// The limits, in micrometres, of those that the words name in millimetres.
+fn limits_of(accel: Option<u32>, jump: Option<u32>) -> Limits
+    ensures { result ≡ limits_of accel jump }
+{
+    Limits {
+        acceleration: in_micrometres(accel),
+        jump: in_micrometres(jump),
+    }
+}
+
+// What `dynamics` ends with for a show that fits.
+fn answer_fitted(
+    alloc: Global,
+    fitted: &Fitted,
+    depth: u8,
+    accel: Option<u32>,
+    jump: Option<u32>,
+) -> Result<Answer, AllocError>
+    requires valid { IsValidFitted fitted.now }
+    requires depth { depth ≤ most_depth }
+    ensures gives { (s : PlainShow) (cut : Cut) → IsFitted fitted.now s → IfOk result (λ a. (dynamics_verb depth accel jump).gives s cut (outcome_of a)) }
+    ensures promised { (s : PlainShow) (cut : Cut) → IsFitted fitted.now s
+        → IfOk result (λ a. (outcome_of a).status ≡ 0 → (dynamics_verb depth accel jump).promises s cut) }
+    ensures said { IfOk result IsSaid }
+{
+    uploadable_law(fitted);
+    answer_drones(
+        alloc,
+        fitted.names.as_slice(),
+        fitted.sent.as_slice(),
+        fitted.trajs.as_slice()[0].segments.as_slice(),
+        depth,
+        limits_of(accel, jump),
+    )
+}
+
+/// `dynamics` at a depth, with limits or without.
+#[derive(Clone, Copy)]
+pub struct DynamicsVerb {
+    pub depth: u8,
+    pub accel: Option<u32>,
+    pub jump: Option<u32>,
+    ghost most: { depth ≤ most_depth },
+}
+
+impl AnyText for DynamicsVerb {
+    ghost verb = { λ c. dynamics_verb c.depth c.accel c.jump };
+
+    fn ways(&self) -> Ways {
+        Ways {
+            reads: true,
+            has_second: false,
+            by_frames: false,
+            depth: None,
+        }
+    }
+
+    fn answer(&self, alloc: Global, fitted: &Fitted) -> Result<Answer, AllocError> {
+        answer_fitted(alloc, fitted, self.depth, self.accel, self.jump)
+    }
+}
+
+/// Runs `dynamics` (docs/COMMANDS.md): how fast each drone's speed changes at most on x, y and z, in micrometres per second squared, and how
+/// much it jumps at most, in micrometres per second, with the cues; or the first reason why the show is refused, or the first of these that
+/// is above its limit, which are in millimetres.
+pub fn dynamics<S: Source, K: Sink>(
+    alloc: Global,
+    depth: u8,
+    accel: Option<u32>,
+    jump: Option<u32>,
+    source: &mut S,
+    sink: &mut K,
+) -> u8
+    requires { depth ≤ most_depth }
+    ensures { Behaves (dynamics_verb depth accel jump) (during S.left S.faults K.written K.faults source.old source.new sink.old sink.new) result }
+{
+    run_any(alloc, &DynamicsVerb { depth, accel, jump }, source, sink)
+}
