@@ -1,0 +1,5 @@
+pub mod Bends
+pub mod Accelerations
+pub mod Edges
+pub mod Excesses
+pub mod Steps

@@ -1,0 +1,78 @@
+//! The bounds of a trajectory on its acceleration.
+
+ghost use Rattle.std.specs.Prelude.{◌≡◌, ℕ, ◌+◌, ◌*◌, ◌^◌, ◌/◌, ◌≤◌, ◌<◌, ◌∷◌, [], pos, All, length, max};
+ghost use Rattle.fleet_math.specs.Numbers.{IsBelow};
+ghost use Rattle.fleet_math.specs.Bernstein.{at};
+ghost use Rattle.traj_codec.specs.Spelling.{HasDuration};
+ghost use Rattle.dynamics_bound.specs.Accelerations.{KeepsAcceleration, acceleration, acceleration_of, segment_acceleration};
+
+use crate::formed::formed_law;
+use crate::parts::widest_above;
+use crate::walk::Walk;
+use bezier_core::Bez;
+use traj_codec::Traj;
+
+/// How fast the velocity of a trajectory changes at most within its segments on x, y and z, in micrometres per second
+/// squared: on each axis the greatest over its segments and their 2^`depth` parts of the least whole number that is not
+/// below 42 * 10^9 * 4^depth * m / (5040 * 2^(7 depth) * ms^2). Here ms is how long the segment lasts, and m the widest second
+/// difference between control values of the part.
+///
+/// Between any three instants of a segment, for all fractions, the mean velocity changes by at most that number times half
+/// the time between the first and the last. Takes no memory.
+pub fn bound(t: &Traj, depth: u8) -> [i64; 3]
+    requires lasting { All HasDuration t.now.segments }
+    requires depth { depth ≤ 8 }
+    ensures exact { result ≡ pos (acceleration depth t.now 0) ∷ pos (acceleration depth t.now 1) ∷ pos (acceleration depth t.now 2) ∷ [] }
+    ensures keeps { (axis : ℕ) → axis ≤ 2 → KeepsAcceleration t.now axis (acceleration depth t.now axis) }
+    ensures small { (axis : ℕ) → axis ≤ 2 → acceleration depth t.now axis < 2 ^ 53 }
+{
+    formed_law(t);
+    let mut walk = Walk::start(t);
+    let mut most = [0; 3];
+    for k in 0..t.segments.as_slice().len() {
+        most = walk.accelerations(t, k, depth, &most);
+        walk = walk.next(t, k);
+    }
+    [most[0] as i64, most[1] as i64, most[2] as i64]
+}
+
+/// The bound on the acceleration in a segment that lasts `ms` milliseconds, or `most` where that is no less.
+pub fn segment_above(curve: &Bez<8>, ms: u16, depth: u8, most: u64) -> u64
+    requires values { All (IsBelow (2 ^ 28)) curve.now.b }
+    requires lasting { 1 ≤ ms }
+    requires depth { depth ≤ 8 }
+    requires most { most < 2 ^ 53 }
+    ensures exact { result ≡ max most (segment_acceleration depth ms (at curve.now.b)) }
+    ensures small { result < 2 ^ 53 }
+{
+    let least = bend_within(most, ms, depth);
+    let widest = widest_above(curve, depth, least);
+    if widest == least {
+        return most;
+    }
+    most.max(per_second_squared(widest, ms, depth))
+}
+
+// The widest bend of a part with no more than this acceleration.
+fn bend_within(most: u64, ms: u16, depth: u8) -> u128
+    requires depth { depth ≤ 8 }
+    requires most { most < 2 ^ 53 }
+    ensures { result ≡ most * (3 * 2 ^ (5 * depth)) * (ms * ms) / 25000000 }
+{
+    let square = u128::from(ms) * u128::from(ms);
+    u128::from(most) * (3 * 2u128.pow(5 * u32::from(depth))) * square / 25_000_000
+}
+
+// The acceleration with which a segment of `ms` milliseconds has parts of this depth with this widest bend.
+#[tactic(auto, unfolding(crate::specs::Accelerations::acceleration_of))]
+fn per_second_squared(widest: u128, ms: u16, depth: u8) -> u64
+    requires widest { widest ≤ 2 ^ (30 + 5 * depth) }
+    requires lasting { 1 ≤ ms }
+    requires depth { depth ≤ 8 }
+    ensures exact { result ≡ acceleration_of depth ms widest }
+    ensures small { result < 2 ^ 53 }
+{
+    let way = 25_000_000 * 4u128.pow(u32::from(depth)) * widest;
+    let square = u128::from(ms) * u128::from(ms);
+    way.div_ceil(3 * 2u128.pow(7 * u32::from(depth)) * square) as u64
+}

@@ -1,0 +1,96 @@
+//! The greatest jumps of a trajectory's velocity.
+
+ghost use Rattle.std.specs.Prelude.{◌≡◌, ℕ, suc, ◌^◌, ◌≤◌, ◌<◌, ◌∷◌, [], ◌&&◌, nat_eq, All, length};
+ghost use Rattle.traj_codec.specs.Spelling.{HasDuration};
+ghost use Rattle.dynamics_bound.specs.Edges.{AreSame, HasVelocities, IsGreatestJump, arrival, departure, greatest_jump, greatest_of, is_rest_at, jump};
+ghost use Rattle.dynamics_bound.specs.Steps.{three};
+
+use crate::formed::formed_law;
+use crate::walk::Walk;
+use traj_codec::Traj;
+
+/// The greatest jump of a velocity on an axis.
+#[derive(Clone, Copy, Debug, PartialEq, Eq)]
+pub struct Jump {
+    /// How much the velocity changes, in micrometres per second, rounded up.
+    pub speed: i64,
+    /// The first segment at whose beginning it does, from 0. As many as there are segments: the last instant.
+    pub segment: usize,
+}
+
+/// On x, y and z the greatest jump of the velocity between segments, from rest at the first instant and to rest at the last
+/// one. It is exact but for being rounded up, and 0 just where both velocities are the same.
+///
+/// That these are the velocities is what `velocities` says: near its two ends a segment departs from the line with that
+/// velocity by at most half its bound on acceleration times the square of the time. Takes no memory.
+pub fn jumps(t: &Traj) -> [Jump; 3]
+    requires lasting { All HasDuration t.now.segments }
+    ensures exact { result ≡ greatest_jump t.now 0 ∷ greatest_jump t.now 1 ∷ greatest_jump t.now 2 ∷ [] }
+    ensures greatest { (axis : ℕ) → IsGreatestJump t.now axis (greatest_jump t.now axis) }
+    ensures velocities { (axis : ℕ) → axis ≤ 2 → HasVelocities t.now axis }
+    ensures none { (axis edge : ℕ) → edge ≤ length t.now.segments → jump t.now axis edge ≡ 0
+        → AreSame (arrival t.now axis edge) (departure t.now axis edge) }
+    ensures same { (axis edge : ℕ) → edge ≤ length t.now.segments → AreSame (arrival t.now axis edge) (departure t.now axis edge)
+        → jump t.now axis edge ≡ 0 }
+    ensures small { (axis edge : ℕ) → axis ≤ 2 → edge ≤ length t.now.segments → jump t.now axis edge < 2 ^ 53 }
+{
+    formed_law(t);
+    let segments = t.segments.as_slice().len();
+    let mut walk = Walk::start(t);
+    let mut most = [Jump { speed: 0, segment: 0 }; 3];
+    for k in 0..segments {
+        most = greater(most, walk.jumps(t, k), k);
+        walk = walk.next(t, k);
+    }
+    greater(most, walk.jumps(t, segments), segments)
+}
+
+/// Whether a trajectory begins at rest on x, y and z, and whether it ends at rest.
+pub fn rests(t: &Traj) -> (bool, bool)
+    requires lasting { All HasDuration t.now.segments }
+    ensures first { result.0 ≡ is_rest_at t.now 0 }
+    ensures last { result.1 ≡ is_rest_at t.now (length t.now.segments) }
+{
+    let segments = t.segments.as_slice().len();
+    let mut walk = Walk::start(t);
+    let first = walk.jumps(t, 0);
+    for k in 0..segments {
+        walk = walk.next(t, k);
+    }
+    (are_none(first), are_none(walk.jumps(t, segments)))
+}
+
+// The greatest jumps, after those at one edge more.
+fn greater(most: [Jump; 3], speeds: [u64; 3], edge: usize) -> [Jump; 3]
+    requires small { All (λ v. v < 2 ^ 53) speeds }
+    ensures { (f : ℕ → ℕ → ℕ) → most ≡ three (λ axis. greatest_of edge (f axis)) → speeds ≡ three (λ axis. f axis edge)
+        → result ≡ three (λ axis. greatest_of (suc edge) (f axis)) }
+{
+    [
+        or_greater(most[0], speeds[0], edge),
+        or_greater(most[1], speeds[1], edge),
+        or_greater(most[2], speeds[2], edge),
+    ]
+}
+
+// The greater of two jumps, and the first where they are the same.
+fn or_greater(most: Jump, speed: u64, edge: usize) -> Jump
+    requires small { speed < 2 ^ 53 }
+    ensures { (f : ℕ → ℕ) → most ≡ greatest_of edge f → speed ≡ f edge → result ≡ greatest_of (suc edge) f }
+{
+    let speed = speed as i64;
+    if most.speed < speed {
+        return Jump {
+            speed,
+            segment: edge,
+        };
+    }
+    most
+}
+
+// None of three jumps is above 0.
+fn are_none(speeds: [u64; 3]) -> bool
+    ensures { (f : ℕ → ℕ) → speeds ≡ three f → result ≡ (nat_eq (f 0) 0 && nat_eq (f 1) 0 && nat_eq (f 2) 0) }
+{
+    speeds[0] == 0 && speeds[1] == 0 && speeds[2] == 0
+}
