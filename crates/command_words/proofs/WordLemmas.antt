@@ -133,6 +133,27 @@ next_valued o word value words no_start no_readback = by (bytes_eq word (codes "
     by false true none other = absurd (cc)
     by false false none other = next_given o (valued word value) (options_of words)
 
+-- words that begin with `--readback`
+pub next_readback : (o : Options) (word : List ℕ) (words : List (List ℕ)) → bytes_eq word (codes "--start") ≡ false → bytes_eq word (codes "--readback") ≡ true →
+    continued o (word ∷ words) ≡ option_and_then (λ (next : Options). continued next words) (noted o given_readback)
+next_readback o word [] no_start is_readback = by (bytes_eq word (codes "--start")) (bytes_eq word (codes "--readback")) no_start is_readback
+  where
+    by : (start readback : Bool) → start ≡ false → readback ≡ true →
+        option_and_then (collected o) (before (cond start (Some given_start) (cond readback (Some given_readback) None)) (Some []))
+        ≡ option_and_then (λ (next : Options). continued next []) (noted o given_readback)
+    by true readback none is = absurd (cc)
+    by false false none is = absurd (cc)
+    by false true none is = next_given o (Some given_readback) (Some [])
+next_readback o word (value ∷ words) no_start is_readback = by (bytes_eq word (codes "--start")) (bytes_eq word (codes "--readback")) no_start is_readback
+  where
+    by : (start readback : Bool) → start ≡ false → readback ≡ true →
+        option_and_then (collected o) (cond (is_some (cond start (Some given_start) (cond readback (Some given_readback) None)))
+        (before (cond start (Some given_start) (cond readback (Some given_readback) None)) (options_of (value ∷ words))) (before (valued word value) (options_of words)))
+        ≡ option_and_then (λ (next : Options). continued next (value ∷ words)) (noted o given_readback)
+    by true readback none is = absurd (cc)
+    by false false none is = absurd (cc)
+    by false true none is = next_given o (Some given_readback) (options_of (value ∷ words))
+
 -- ---- each form of a command
 
 abbrev make_bare : Command → Unbounded
