@@ -18,6 +18,8 @@ COMMANDS = [
     ("boxes [--depth D]", "reads a show and regions, and says whether its drones keep to them"),
     ("speed [--depth D] [--limit V]", "writes how fast each drone is at most, and refuses above a limit"),
     ("explain [--depth D] [--fine E]", "says where two drones come close, and whether they touch"),
+    ("dynamics [--depth D] [--accel A] [--jump J]",
+     "writes how fast speeds change and where they jump, and refuses above a limit"),
     ("version", "writes the program's version"),
 ]
 FORMS = {form.split()[0]: form for form, _ in COMMANDS}
@@ -25,7 +27,8 @@ PURPOSES = {form.split()[0]: what for form, what in COMMANDS}
 # What stands behind the show and a marker line, in the commands that read two parts.
 SECOND = {"verify": "certificate", "rehearse": "schedule", "upload": "frames", "boxes": "regions"}
 NO_INPUT = ["help", "drill", "version"]
-NUMBERS = {"D": (0, 8), "MS": (1, 60000), "N": (1, 32), "V": (1, 999999999), "E": (0, 5)}
+NUMBERS = {"D": (0, 8), "MS": (1, 60000), "N": (1, 32), "V": (1, 999999999), "E": (0, 5),
+           "A": (0, 999999999), "J": (0, 999999999)}
 HELP = """usage: ./show COMMAND [OPTIONS] [FILE]
        ./show verify SHOW CERTIFICATE
        ./show rehearse SHOW SCHEDULE
@@ -40,8 +43,9 @@ Options may stand before and after the files. Without a file, or with -, the inp
 there are two parts a line %%%% is between them. D is the greatest depth of a part of a cue, 0 to 8; without
 the option it is 6. MS is 1 to 60000, and 100 without the option. N is 1 to 32. --start has drones started
 too; --readback has their memories read back before that. V is 1 to 999999999 micrometres per second; E is 0
-to 5, and 5 without the option. --unproved runs the sources without a proof: in about a minute the first
-time, at once after that. --version says which build of the program this is: note it with each plan.
+to 5, and 5 without the option. A and J are 0 to 999999999 millimetres per second squared, and per
+second. --unproved runs the sources without a proof: in about a minute the first time, at once after
+that. --version says which build of the program this is: note it with each plan.
 
 The language of shows: docs/LANGUAGE.md. Commands, statuses and fault lines: docs/COMMANDS.md. Tools: docs/TOOLS.md.
 """ % "\n".join("%-45s %s" % row for row in COMMANDS)

@@ -1,6 +1,7 @@
 """What the tools have in common: reading files, asking `check`, places and times as people read them."""
 import argparse
 import os
+import re
 import signal
 import subprocess
 import sys
@@ -69,6 +70,26 @@ def ask_check(text, deep=choreo.DEPTH):
         return None
     done = subprocess.run([choreo.PROGRAM, "check", "--depth", str(deep)], input=text, stdout=subprocess.PIPE)
     return done.returncode, done.stdout.decode(errors="replace").strip()
+
+
+MOTION = re.compile(r"^dynamics (\S+) acceleration (\d+) (\d+) (\d+) jump (\d+) cue (\d+) (\d+) cue (\d+) (\d+) cue (\d+) ",
+                    re.M)
+
+
+def ask_dynamics(text, program=None):
+    """What the proved program's `dynamics` says of a show's drones, by name: bounds on acceleration in m/s^2, jumps of
+    speed in m/s and their cues, each on x, y and z; or None where the program isn't built or refuses the show."""
+    program = program or choreo.PROGRAM
+    if not os.access(program, os.X_OK):
+        return None
+    done = subprocess.run([os.path.abspath(program), "dynamics"], input=text, stdout=subprocess.PIPE)
+    if done.returncode:
+        return None
+    found = {}
+    for name, *numbers in MOTION.findall(done.stdout.decode()):
+        numbers = [int(number) for number in numbers]
+        found[name] = ([v / 1e6 for v in numbers[:3]], [v / 1e6 for v in numbers[3::2]], numbers[4::2])
+    return found
 
 
 def missing():

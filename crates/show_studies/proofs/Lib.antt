@@ -2,6 +2,7 @@ pub mod StudyLemmas
 pub mod DecidingLemmas
 pub mod RegionLemmas
 pub mod SpeedLemmas
+pub mod DynamicsLemmas
 pub mod FindingLemmas
 pub mod BoxesLemmas
 pub mod StudyLaws

@@ -35,10 +35,10 @@ speeds_next depth text more sent names d t name within inside t_is name_is more_
     ∙ append_assoc text (speed_of_drone depth t name) (speed_text depth (drop (d + 1) sent) (drop (d + 1) names))
     ∙ ap (λ (xs : List ℕ). text ++ xs) (sym (left_from (speed_text depth) sent names d t name within inside t_is name_is))
 
-after_none : (a b : Option Refusal) → a ≡ None → option_or a b ≡ b
+pub after_none : (a b : Option Refusal) → a ≡ None → option_or a b ≡ b
 after_none a b none = rw none refl
 
-first_there : (a b : Option Refusal) (r : Refusal) → a ≡ Some r → option_or a b ≡ Some r
+pub first_there : (a b : Option Refusal) (r : Refusal) → a ≡ Some r → option_or a b ≡ Some r
 first_there a b r is = rw is refl
 
 -- a drone whose bounds aren't refused leaves the refusal to those after it

@@ -1,0 +1,81 @@
+"""What `dynamics` writes, computed from docs/COMMANDS.md and docs/LANGUAGE.md alone: parts of curves by the polar form
+and not by halving, jumps as fractions. For bench/reference, and for rows of tests."""
+from fractions import Fraction
+from math import ceil, comb
+
+AXES = range(3)
+
+
+def raised(b):
+    """The eight control values of degree seven of a curve."""
+    n = len(b) - 1
+    return [sum(Fraction(comb(n, j) * comb(7 - n, k - j), comb(7, k)) * b[j]
+                for j in range(n + 1) if 0 <= k - j <= 7 - n) for k in range(8)]
+
+
+def part(depth, index, b):
+    """The control values of a part of a curve of degree seven, by the polar form."""
+    begin, end = Fraction(index, 2 ** depth), Fraction(index + 1, 2 ** depth)
+
+    def weight(n, i, at):
+        return comb(n, i) * at ** i * (1 - at) ** (n - i)
+    return [sum(weight(7 - k, i, begin) * weight(k, j, end) * b[i + j] for i in range(8 - k) for j in range(k + 1))
+            for k in range(8)]
+
+
+def acceleration(milliseconds, b, depth):
+    """The bound on the acceleration of a segment, in micrometres per second squared: 42 times the widest second
+    difference of its parts, by the square of a part's duration, rounded up."""
+    rows = [part(depth, index, raised(b)) for index in range(2 ** depth)]
+    widest = max(abs(row[k + 2] - 2 * row[k + 1] + row[k]) for row in rows for k in range(6))
+    return ceil(42 * 10 ** 9 * widest / (Fraction(milliseconds, 2 ** depth) ** 2))
+
+
+def speeds(milliseconds, b):
+    """The speeds at the two ends of a segment, in micrometres per second."""
+    n = len(b) - 1
+    if n == 0:
+        return Fraction(0), Fraction(0)
+    return tuple(Fraction(10 ** 6 * n * step, milliseconds) for step in (b[1] - b[0], b[n] - b[n - 1]))
+
+
+def jumps(sent, axis):
+    """The jump of speed at the beginning of each segment, and at the end of the last one, rounded up."""
+    ends = [speeds(milliseconds, elements[axis]) for milliseconds, elements in sent]
+    before, after = [Fraction(0)] + [last for _, last in ends], [first for first, _ in ends] + [Fraction(0)]
+    return [ceil(abs(b - a)) for a, b in zip(before, after)]
+
+
+def cues_of(sent, cues):
+    """The number of the cue that begins with each segment, from 1, and at the end that after the last one."""
+    begins, at, out, now = {0: 1}, 0, [1], 0
+    for number, milliseconds in enumerate(cues, 2):
+        at += milliseconds
+        begins[at] = number
+    for milliseconds, _ in sent:
+        now += milliseconds
+        out.append(begins[now])
+    return out
+
+
+def dynamics(names, flights, cues, depth, accel=None, jump=None):
+    """The status and what is written for drones that are sent these segments, in a show whose cues last so long; the
+    limits are in millimetres."""
+    lines, most = [], [[0] * 3, [0] * 3]
+    for name, sent in zip(names, flights):
+        numbers, begins = [jumps(sent, axis) for axis in AXES], cues_of(sent, cues)
+        bounds = [[acceleration(milliseconds, elements[axis], depth) for milliseconds, elements in sent]
+                  for axis in AXES]
+        for k, cue in enumerate(begins):
+            rows = [("accel", accel, bounds)] * (k < len(sent)) + [("jump", jump, numbers)]
+            for word, limit, row in rows:
+                for axis in AXES:
+                    if limit is not None and row[axis][k] > 1000 * limit:
+                        return 18, "error 18 drone %s cue %d %s %s %d\n" % (name, cue, word, "xyz"[axis], row[axis][k])
+        top = [max(bounds[axis]) for axis in AXES], [max(numbers[axis]) for axis in AXES]
+        most = [[max(a, b) for a, b in zip(old, new)] for old, new in zip(most, top)]
+        at = ["%d cue %d" % (top[1][axis], begins[numbers[axis].index(top[1][axis])]) for axis in AXES]
+        rest = ["moving" if any(row[k] for row in numbers) else "rest" for k in (0, -1)]
+        lines.append("dynamics %s acceleration %d %d %d jump %s begins %s ends %s\n" % (
+            name, *top[0], " ".join(at), *rest))
+    return 0, "".join(lines) + "greatest acceleration %d %d %d jump %d %d %d\n" % (*most[0], *most[1])
