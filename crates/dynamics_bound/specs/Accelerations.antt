@@ -1,6 +1,6 @@
 -- How fast a trajectory's speed changes at most within its segments: a number for each axis, computed from the control
 -- values of the parts, and what the number promises of the decoded positions.
-use Rattle.std.specs.Prelude.{ℕ, ◌*◌, ◌^◌, ◌≤◌, ◌<◌, ℤ, pos, ◌-ℤ◌, ◌*ℤ◌, unsigned_abs, length, All}
+use Rattle.std.specs.Prelude.{ℕ, suc, ◌*◌, ◌^◌, ◌≤◌, ◌<◌, ℤ, pos, ◌-ℤ◌, ◌*ℤ◌, unsigned_abs, length}
 use Rattle.std.specs.Int.{div_ceil}
 use Rattle.fleet_math.specs.Sums.{power}
 use Rattle.fleet_math.specs.Bernstein.{at}
@@ -8,10 +8,12 @@ use Rattle.bezier_core.specs.Raised.{raised}
 use Rattle.bezier_core.specs.Steps.{IsWithin}
 use Rattle.halving.specs.Part.{part_value}
 use Rattle.traj_codec.specs.declared.traj.Traj.{Traj}
-use Rattle.fleet_math.specs.Decoded.{IsPiece}
-use Rattle.traj_codec.specs.Positions.{decoded, pieces_on, points}
+use Rattle.traj_codec.specs.Positions.{decoded, points}
 use Rattle.speed_bound.specs.Speed.{duration, greatest_below}
-use Rattle.dynamics_bound.specs.Bends.{bend}
+
+-- the second difference of control values at place i, a bend: the step after it less the step before
+abbrev pub bend : (ℕ → ℤ) → ℕ → ℤ
+bend f i = (f (suc (suc i)) -ℤ f (suc i)) -ℤ (f (suc i) -ℤ f i)
 
 -- the widest bend among eight control values
 unfoldable pub widest_bend : (ℕ → ℤ) → ℕ
@@ -51,8 +53,3 @@ KeepsAcceleration t axis a =
     (cue q x y z : ℕ) → cue < length t.segments → x ≤ y → y ≤ z → z ≤ q * duration t cue →
     IsWithin ((pos a *ℤ ((pos z -ℤ pos x) *ℤ ((pos z -ℤ pos y) *ℤ (pos y -ℤ pos x)))) *ℤ power (pos (q * duration t cue)) 7)
     (pos (2000000000 * (q * q)) *ℤ ((after t axis cue q z -ℤ after t axis cue q y) *ℤ (pos y -ℤ pos x) -ℤ (after t axis cue q y -ℤ after t axis cue q x) *ℤ (pos z -ℤ pos y)))
-
--- what the bound promises
-abbrev pub AccelerationLaw : Type 0
-AccelerationLaw =
-    (depth axis : ℕ) (t : Traj) → All IsPiece (pieces_on axis t) → KeepsAcceleration t axis (acceleration depth t axis)

@@ -1,4 +1,3 @@
-pub mod Bends
 pub mod Accelerations
 pub mod Edges
 pub mod Excesses

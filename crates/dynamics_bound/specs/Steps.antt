@@ -4,9 +4,10 @@ use Rattle.fleet_math.specs.Bernstein.{at}
 use Rattle.traj_codec.specs.declared.traj.Segment.{Segment}
 use Rattle.traj_codec.specs.declared.traj.Traj.{Traj}
 use Rattle.traj_codec.specs.Positions.{element_on, value_after}
-use Rattle.dynamics_bound.specs.declared.walk.Foot.{Foot}
+use Rattle.dynamics_bound.specs.declared.jumping.Greatest.{Greatest}
+use Rattle.dynamics_bound.specs.declared.walk.Reached.{Reached}
 use Rattle.dynamics_bound.specs.declared.walk.Walk.{Walk}
-use Rattle.dynamics_bound.specs.Edges.{arrival}
+use Rattle.dynamics_bound.specs.Edges.{arrival, greatest_of, jump}
 
 -- the value on an axis before the segment with this number, over segments that begin with a value
 abbrev pub value_before : ℤ → ℕ → List Segment → ℕ → ℤ
@@ -19,12 +20,16 @@ abbrev pub value_at : Traj → ℕ → ℕ → ℤ
 value_at t axis edge = value_before (at t.start axis) axis t.segments edge
 
 -- where a walk is on an axis at an edge, and the velocity with which it arrives
-abbrev pub foot_at : Traj → ℕ → ℕ → Foot
-foot_at t axis edge = record { value = value_at t axis edge; arrival = arrival t axis edge }
+abbrev pub reached_at : Traj → ℕ → ℕ → Reached
+reached_at t axis edge = record { value = value_at t axis edge; arrival = arrival t axis edge }
 
 -- a walk at an edge
 abbrev pub walk_at : Traj → ℕ → Walk
-walk_at t edge = record { x = foot_at t 0 edge; y = foot_at t 1 edge; z = foot_at t 2 edge }
+walk_at t edge = record { x = reached_at t 0 edge; y = reached_at t 1 edge; z = reached_at t 2 edge }
+
+-- the greatest jumps at the edges before this one
+abbrev pub greatest_before : Traj → ℕ → Greatest
+greatest_before t edge = record { x = greatest_of edge (jump t 0); y = greatest_of edge (jump t 1); z = greatest_of edge (jump t 2) }
 
 -- three numbers on x, y and z
 abbrev pub three : {A : Type 0} → (ℕ → A) → List A

@@ -7,7 +7,7 @@ ghost use Rattle.traj_codec.specs.Spelling.{HasDuration};
 ghost use Rattle.dynamics_bound.specs.Accelerations.{KeepsAcceleration, acceleration, acceleration_of, segment_acceleration};
 
 use crate::formed::formed_law;
-use crate::parts::widest_above;
+use crate::bends::widest_above;
 use crate::walk::Walk;
 use bezier_core::Bez;
 use traj_codec::Traj;
@@ -57,22 +57,23 @@ pub fn segment_above(curve: &Bez<8>, ms: u16, depth: u8, most: u64) -> u64
 fn bend_within(most: u64, ms: u16, depth: u8) -> u128
     requires depth { depth ≤ 8 }
     requires most { most < 2 ^ 53 }
-    ensures { result ≡ most * (3 * 2 ^ (5 * depth)) * (ms * ms) / 25000000 }
+    ensures { result ≡ most * (3 * 32 ^ depth) * (ms * ms) / 25000000 }
 {
-    let square = u128::from(ms) * u128::from(ms);
-    u128::from(most) * (3 * 2u128.pow(5 * u32::from(depth))) * square / 25_000_000
+    let square = ms as u128 * ms as u128;
+    most as u128 * (3 * 32u128.pow(depth as u32)) * square / 25_000_000
 }
 
 // The acceleration with which a segment of `ms` milliseconds has parts of this depth with this widest bend.
 #[tactic(auto, unfolding(crate::specs::Accelerations::acceleration_of))]
 fn per_second_squared(widest: u128, ms: u16, depth: u8) -> u64
-    requires widest { widest ≤ 2 ^ (30 + 5 * depth) }
+    requires widest { widest ≤ 2 ^ 30 * 32 ^ depth }
     requires lasting { 1 ≤ ms }
     requires depth { depth ≤ 8 }
     ensures exact { result ≡ acceleration_of depth ms widest }
     ensures small { result < 2 ^ 53 }
 {
-    let way = 25_000_000 * 4u128.pow(u32::from(depth)) * widest;
-    let square = u128::from(ms) * u128::from(ms);
-    way.div_ceil(3 * 2u128.pow(7 * u32::from(depth)) * square) as u64
+    let way = 25_000_000 * 4u128.pow(depth as u32) * widest;
+    let square = ms as u128 * ms as u128;
+    let time = 3 * 2u128.pow(7 * depth as u32) * square;
+    way.div_ceil(time) as u64
 }

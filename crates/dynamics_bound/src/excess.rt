@@ -9,7 +9,7 @@ use crate::walk::Walk;
 use traj_codec::Traj;
 
 /// What must not be exceeded. Where there is no limit, nothing exceeds it.
-#[derive(Clone, Copy, Debug, PartialEq, Eq)]
+#[derive(Clone, Copy)]
 pub struct Limits {
     /// The bound on the acceleration in a segment, in micrometres per second squared.
     pub acceleration: Option<u64>,
@@ -18,14 +18,14 @@ pub struct Limits {
 }
 
 /// Which limit is exceeded.
-#[derive(Clone, Copy, Debug, PartialEq, Eq)]
+#[derive(Clone, Copy)]
 pub enum Kind {
     Acceleration,
     Jump,
 }
 
 /// What exceeds a limit.
-#[derive(Clone, Copy, Debug, PartialEq, Eq)]
+#[derive(Clone, Copy)]
 pub struct Excess {
     pub kind: Kind,
     /// The segment in which the acceleration is, or at whose beginning the jump is, from 0. As many as there are segments: the

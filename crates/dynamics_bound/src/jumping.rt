@@ -3,14 +3,15 @@
 ghost use Rattle.std.specs.Prelude.{◌≡◌, ℕ, suc, ◌^◌, ◌≤◌, ◌<◌, ◌∷◌, [], ◌&&◌, nat_eq, All, length};
 ghost use Rattle.traj_codec.specs.Spelling.{HasDuration};
 ghost use Rattle.dynamics_bound.specs.Edges.{AreSame, HasVelocities, IsGreatestJump, arrival, departure, greatest_jump, greatest_of, is_rest_at, jump};
-ghost use Rattle.dynamics_bound.specs.Steps.{three};
+ghost use Rattle.dynamics_bound.specs.Steps.{greatest_before, three};
+ghost use Rattle.traj_codec.specs.declared.traj.Traj.{Traj};
 
 use crate::formed::formed_law;
 use crate::walk::Walk;
 use traj_codec::Traj;
 
 /// The greatest jump of a velocity on an axis.
-#[derive(Clone, Copy, Debug, PartialEq, Eq)]
+#[derive(Clone, Copy)]
 pub struct Jump {
     /// How much the velocity changes, in micrometres per second, rounded up.
     pub speed: i64,
@@ -37,12 +38,13 @@ pub fn jumps(t: &Traj) -> [Jump; 3]
     formed_law(t);
     let segments = t.segments.as_slice().len();
     let mut walk = Walk::start(t);
-    let mut most = [Jump { speed: 0, segment: 0 }; 3];
+    let mut most = none();
     for k in 0..segments {
         most = greater(most, walk.jumps(t, k), k);
         walk = walk.next(t, k);
     }
-    greater(most, walk.jumps(t, segments), segments)
+    most = greater(most, walk.jumps(t, segments), segments);
+    [most.x, most.y, most.z]
 }
 
 /// Whether a trajectory begins at rest on x, y and z, and whether it ends at rest.
@@ -60,17 +62,39 @@ pub fn rests(t: &Traj) -> (bool, bool)
     (are_none(first), are_none(walk.jumps(t, segments)))
 }
 
-// The greatest jumps, after those at one edge more.
-fn greater(most: [Jump; 3], speeds: [u64; 3], edge: usize) -> [Jump; 3]
-    requires small { All (λ v. v < 2 ^ 53) speeds }
-    ensures { (f : ℕ → ℕ → ℕ) → most ≡ three (λ axis. greatest_of edge (f axis)) → speeds ≡ three (λ axis. f axis edge)
-        → result ≡ three (λ axis. greatest_of (suc edge) (f axis)) }
+// The greatest jumps so far.
+#[derive(Clone, Copy)]
+struct Greatest {
+    x: Jump,
+    y: Jump,
+    z: Jump,
+}
+
+// Before the first edge there is none.
+fn none() -> Greatest
+    ensures { (t : Traj) → result ≡ greatest_before t 0 }
 {
-    [
-        or_greater(most[0], speeds[0], edge),
-        or_greater(most[1], speeds[1], edge),
-        or_greater(most[2], speeds[2], edge),
-    ]
+    let still = Jump {
+        speed: 0,
+        segment: 0,
+    };
+    Greatest {
+        x: still,
+        y: still,
+        z: still,
+    }
+}
+
+// The greatest jumps, after those at one edge more.
+fn greater(most: Greatest, speeds: [u64; 3], edge: usize) -> Greatest
+    requires small { All (λ v. v < 2 ^ 53) speeds }
+    ensures { (t : Traj) → most ≡ greatest_before t edge → speeds ≡ three (λ axis. jump t axis edge) → result ≡ greatest_before t (suc edge) }
+{
+    Greatest {
+        x: or_greater(most.x, speeds[0], edge),
+        y: or_greater(most.y, speeds[1], edge),
+        z: or_greater(most.z, speeds[2], edge),
+    }
 }
 
 // The greater of two jumps, and the first where they are the same.

@@ -11,10 +11,10 @@
 #![tactic(auto)]
 
 mod acceleration;
+mod bends;
 mod excess;
 mod formed;
 mod jumping;
-mod parts;
 mod velocity;
 mod walk;
 

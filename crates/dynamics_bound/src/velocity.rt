@@ -2,13 +2,15 @@
 
 ghost use Rattle.std.specs.Prelude.{◌≡◌, ◌*◌, ◌^◌, ◌≤◌, ◌<◌, ◌∷◌, pos, ◌-ℤ◌, ◌*ℤ◌, unsigned_abs};
 ghost use Rattle.std.specs.Int.{div_ceil};
+ghost use Rattle.fleet_math.specs.Numbers.{IsBelow};
+ghost use Rattle.bezier_core.specs.Steps.{IsWithin};
 ghost use Rattle.traj_codec.specs.Spelling.{stored};
 ghost use Rattle.dynamics_bound.specs.Edges.{first_step, jump_between, last_step};
 
 use traj_codec::Element;
 
 /// A velocity on an axis: `step` millimetres in `ms` milliseconds.
-#[derive(Clone, Copy, Debug, PartialEq, Eq)]
+#[derive(Clone, Copy)]
 pub struct Velocity {
     pub step: i32,
     pub ms: u16,
@@ -40,9 +42,9 @@ fn first_step(value: i16, element: Element) -> i32
 {
     match element {
         Element::Constant => 0,
-        Element::Linear { v } => times(1, value, v),
-        Element::Cubic { v } => times(3, value, v[0]),
-        Element::Seven { v } => times(7, value, v[0]),
+        Element::Linear { v } => way(value, v),
+        Element::Cubic { v } => 3 * way(value, v[0]),
+        Element::Seven { v } => 7 * way(value, v[0]),
     }
 }
 
@@ -52,17 +54,18 @@ fn last_step(value: i16, element: Element) -> i32
 {
     match element {
         Element::Constant => 0,
-        Element::Linear { v } => times(1, value, v),
-        Element::Cubic { v } => times(3, v[1], v[2]),
-        Element::Seven { v } => times(7, v[5], v[6]),
+        Element::Linear { v } => way(value, v),
+        Element::Cubic { v } => 3 * way(v[1], v[2]),
+        Element::Seven { v } => 7 * way(v[5], v[6]),
     }
 }
 
-// A degree times the step from one value to the next.
-fn times(degree: u8, from: i16, to: i16) -> i32
-    ensures { result ≡ pos degree *ℤ (to -ℤ from) }
+// The way from one value to another.
+fn way(from: i16, to: i16) -> i32
+    ensures exact { result ≡ to -ℤ from }
+    ensures small { IsBelow 65536 result }
 {
-    i32::from(degree) * (i32::from(to) - i32::from(from))
+    i32::from(to) - i32::from(from)
 }
 
 /// How much two velocities differ, in micrometres per second, rounded up.
@@ -72,22 +75,34 @@ pub fn jump_between(v: Velocity, w: Velocity) -> u64
     ensures exact { result ≡ jump_between v w }
     ensures small { result < 2 ^ 53 }
 {
-    per_second(across(w.step, v.ms, v.step, w.ms), v.ms, w.ms)
+    let gap = apart(product(w.step, v.ms), product(v.step, w.ms));
+    per_second(gap, v.ms, w.ms)
 }
 
-// How far apart two fractions are, over both their denominators.
-fn across(w: i32, v_ms: u16, v: i32, w_ms: u16) -> u64
-    requires v { 1 ≤ v_ms }
-    requires w { 1 ≤ w_ms }
-    ensures exact { result ≡ unsigned_abs (w *ℤ pos v_ms -ℤ v *ℤ pos w_ms) }
-    ensures small { result ≤ 2 ^ 32 * (v_ms * w_ms) }
+// A step times a duration.
+fn product(step: i32, ms: u16) -> i64
+    ensures exact { result ≡ step *ℤ pos ms }
+    ensures small { IsWithin (pos (2 ^ 31 * ms)) result }
 {
-    let first = i64::from(w) * i64::from(v_ms);
-    let second = i64::from(v) * i64::from(w_ms);
-    (first - second).unsigned_abs()
+    times(step, ms)
 }
 
-// The same in micrometres per second, rounded up.
+fn times(step: i32, ms: u16) -> i64
+    ensures { result ≡ step *ℤ pos ms }
+{
+    i64::from(step) * i64::from(ms)
+}
+
+// How far apart two numbers are.
+fn apart(a: i64, b: i64) -> u64
+    requires a { IsBelow (2 ^ 60) a }
+    requires b { IsBelow (2 ^ 60) b }
+    ensures { result ≡ unsigned_abs (a -ℤ b) }
+{
+    (a - b).unsigned_abs()
+}
+
+// The difference of two fractions over both their denominators, in micrometres per second, rounded up.
 fn per_second(gap: u64, v_ms: u16, w_ms: u16) -> u64
     requires v { 1 ≤ v_ms }
     requires w { 1 ≤ w_ms }
@@ -95,7 +110,7 @@ fn per_second(gap: u64, v_ms: u16, w_ms: u16) -> u64
     ensures exact { result ≡ div_ceil (1000000 * gap) (v_ms * w_ms) }
     ensures small { result < 2 ^ 53 }
 {
-    let way = 1_000_000 * u128::from(gap);
-    let time = u64::from(v_ms) * u64::from(w_ms);
-    way.div_ceil(u128::from(time)) as u64
+    let way = 1_000_000 * gap as u128;
+    let time = v_ms as u128 * w_ms as u128;
+    way.div_ceil(time) as u64
 }

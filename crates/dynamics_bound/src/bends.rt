@@ -20,7 +20,7 @@ pub fn widest_above(curve: &Bez<8>, depth: u8, least: u128) -> u128
     if depth == 0 {
         return least.max(whole);
     }
-    if 32u128.pow(u32::from(depth)) * whole <= least {
+    if 32u128.pow(depth as u32) * whole <= least {
         return least;
     }
     let (left, right) = halve(curve);
@@ -47,5 +47,24 @@ fn bend(a: i128, b: i128, c: i128) -> u128
     requires c { IsBelow (2 ^ 120) c }
     ensures { result ≡ unsigned_abs ((c -ℤ b) -ℤ (b -ℤ a)) }
 {
-    ((c - b) - (b - a)).unsigned_abs()
+    distance(step(a, b), step(b, c))
+}
+
+// The step from one number to the next.
+fn step(a: i128, b: i128) -> i128
+    requires a { IsBelow (2 ^ 120) a }
+    requires b { IsBelow (2 ^ 120) b }
+    ensures exact { result ≡ b -ℤ a }
+    ensures small { IsBelow (2 ^ 122) result }
+{
+    b - a
+}
+
+// How far one number is from another.
+fn distance(a: i128, b: i128) -> u128
+    requires a { IsBelow (2 ^ 126) a }
+    requires b { IsBelow (2 ^ 126) b }
+    ensures { result ≡ unsigned_abs (b -ℤ a) }
+{
+    (b - a).unsigned_abs()
 }

@@ -1,0 +1,166 @@
+-- From the bends of the parts to the acceleration between each three instants of a segment.
+use Rattle.std.proofs.Common.{◌≡◌, ℕ, zero, suc, ◌*◌, ◌^◌, ◌≤◌, ◌<◌, ℤ, pos, ◌+ℤ◌, ◌-ℤ◌, ◌*ℤ◌, ◌≤ℤ◌, ◌<ℤ◌, neg_ℤ, unsigned_abs, arith, refl, sym, ◌∙◌, ap, List, [], ◌∷◌, length, map, get_or, All}
+use Rattle.std.proofs.lemmas.Int.{ints, by_lt_z}
+use Rattle.std.proofs.lemmas.Nat.{pow_pos, mul-le}
+use Rattle.std.proofs.lemmas.Grind.{div_ceil_times}
+use Rattle.std.proofs.lemmas.List.Elements.{All-head, All-tail}
+use Rattle.fleet_math.specs.Sums.{power}
+use Rattle.fleet_math.specs.Bernstein.{at, bernstein}
+use Rattle.fleet_math.specs.Decoded.{Piece, IsPiece, decoded}
+use Rattle.fleet_math.specs.Decoded as plain
+use Rattle.fleet_math.proofs.RingLemmas.{ring, linear, le_mul_ℤ, mul_add_ℤ, mul_assoc_ℤ, mul_comm_ℤ, mul_neg_ℤ, mul_not_negative, one_mul_ℤ}
+use Rattle.fleet_math.proofs.EdgeLemmas.{points-count}
+use Rattle.bezier_core.specs.Raised.{raised}
+use Rattle.bezier_core.specs.Steps.{IsWithin}
+use Rattle.bezier_core.proofs.BlendLemmas.{within_mul}
+use Rattle.bezier_core.proofs.CurveLemmas.{raise}
+use Rattle.halving.specs.Part.{part_value}
+use Rattle.traj_codec.specs.declared.traj.Segment.{Segment}
+use Rattle.traj_codec.specs.declared.traj.Traj.{Traj}
+use Rattle.traj_codec.specs.Positions.{durations, piece_on, pieces_on, points}
+use Rattle.speed_bound.specs.Speed.{duration, greatest_below}
+use Rattle.speed_bound.proofs.Slopes.{within_same}
+use Rattle.speed_bound.proofs.Speeds.{piece_value, power_low, within_cancel, within_wider}
+use Rattle.speed_bound.proofs.Widths.{greatest-at}
+use Rattle.dynamics_bound.specs.Accelerations.{KeepsAcceleration, bend, widest_bend, widest_bend_part, acceleration_of, segment_acceleration, acceleration_in, acceleration, after}
+use Rattle.dynamics_bound.proofs.Parts.{BendsWithin, three_by_parts}
+
+-- ---- one curve
+value_ring : (u q f a b px py pz : ℤ) → u *ℤ (q *ℤ ((f *ℤ pz -ℤ f *ℤ py) *ℤ a -ℤ (f *ℤ py -ℤ f *ℤ px) *ℤ b)) ≡ (f *ℤ q) *ℤ (u *ℤ ((pz -ℤ py) *ℤ a -ℤ (py -ℤ px) *ℤ b))
+value_ring u q f a b px py pz = simp ring (omega (arith, linear))
+
+room_ring : (a b c p s m : ℤ) → a *ℤ (b *ℤ (c *ℤ (p *ℤ (s *ℤ m)))) ≡ (p *ℤ m) *ℤ (a *ℤ (b *ℤ (c *ℤ s)))
+room_ring a b c p s m = simp ring refl
+
+-- the product of the three times and the scale
+abbrev times : ℤ → ℤ → ℤ → ℤ → ℤ
+times x y z s = (z -ℤ x) *ℤ ((z -ℤ y) *ℤ ((y -ℤ x) *ℤ power s 5))
+
+in_curve : (e a m t : ℕ) (f : ℕ → ℤ) (x y z s px py pz : ℤ) → pos 0 ≤ℤ x → x ≤ℤ y → y ≤ℤ z → z ≤ℤ s → BendsWithin e f (pos m) →
+    25000000 * 4 ^ e * m ≤ a * (3 * 2 ^ (7 * e) * t) → bernstein 7 f x s ≡ pos 5040 *ℤ px → bernstein 7 f y s ≡ pos 5040 *ℤ py → bernstein 7 f z s ≡ pos 5040 *ℤ pz →
+    IsWithin (pos (a * t) *ℤ times x y z s) (pos 2000000000 *ℤ ((pz -ℤ py) *ℤ (y -ℤ x) -ℤ (py -ℤ px) *ℤ (z -ℤ y)))
+in_curve e a m t f x y z s px py pz low first second high bends fast x_is y_is z_is =
+    let w : ℤ = times x y z s in
+    let q : ℤ = pos (2 ^ (7 * e)) in
+    let passed : pos 0 ≤ℤ w =
+    mul_not_negative (z -ℤ x) _ (omega (arith, linear)) (mul_not_negative (z -ℤ y) _ (omega (arith, linear)) (mul_not_negative (y -ℤ x) _ (omega (arith, linear)) (power_low s 5 (omega (arith, linear))))) in
+    let whole : IsWithin (pos 2000000000 *ℤ (pos 21 *ℤ ((z -ℤ x) *ℤ ((z -ℤ y) *ℤ ((y -ℤ x) *ℤ (pos (4 ^ e) *ℤ (power s 5 *ℤ pos m)))))))
+    (pos 2000000000 *ℤ (q *ℤ ((pos 5040 *ℤ pz -ℤ pos 5040 *ℤ py) *ℤ (y -ℤ x) -ℤ (pos 5040 *ℤ py -ℤ pos 5040 *ℤ px) *ℤ (z -ℤ y)))) =
+    within_mul (pos 2000000000) _ _ (omega (arith, ints))
+    (within_same refl (same_value q (y -ℤ x) (z -ℤ y) x_is y_is z_is) (three_by_parts e f (pos m) x y z s low first second high bends)) in
+    let scaled : IsWithin (pos 1680 *ℤ (pos (25000000 * 4 ^ e * m) *ℤ w)) ((pos 5040 *ℤ q) *ℤ (pos 2000000000 *ℤ ((pz -ℤ py) *ℤ (y -ℤ x) -ℤ (py -ℤ px) *ℤ (z -ℤ y)))) =
+    within_same
+    (ap (λ (v : ℤ). pos 2000000000 *ℤ (pos 21 *ℤ v)) (room_ring (z -ℤ x) (z -ℤ y) (y -ℤ x) (pos (4 ^ e)) (power s 5) (pos m))
+    ∙ numbers ((pos (4 ^ e) *ℤ pos m) *ℤ w) ∙ ap (λ (v : ℤ). pos 1680 *ℤ v) (sym (mul_assoc_ℤ (pos 25000000) (pos (4 ^ e) *ℤ pos m) w) ∙ ap (λ (v : ℤ). v *ℤ w) (product (4 ^ e) m)))
+    (value_ring (pos 2000000000) q (pos 5040) (y -ℤ x) (z -ℤ y) px py pz) whole in
+    let room : (pos 1680 *ℤ (pos (25000000 * 4 ^ e * m) *ℤ w)) ≤ℤ ((pos 5040 *ℤ q) *ℤ (pos (a * t) *ℤ w)) =
+    at_most (25000000 * 4 ^ e * m) (a * (3 * 2 ^ (7 * e) * t)) w _ fast passed (spread a (2 ^ (7 * e)) t w) in
+    within_cancel (pos 5040 *ℤ q) _ _ (positive (2 ^ (7 * e)) (pow_pos (7 * e))) (within_wider _ _ _ room scaled)
+  where
+    same_value : (q a b : ℤ) {fx fy fz gx gy gz : ℤ} → fx ≡ gx → fy ≡ gy → fz ≡ gz → q *ℤ ((fz -ℤ fy) *ℤ a -ℤ (fy -ℤ fx) *ℤ b) ≡ q *ℤ ((gz -ℤ gy) *ℤ a -ℤ (gy -ℤ gx) *ℤ b)
+    same_value q a b {fx} {fy} {fz} {gx} {gy} {gz} xs ys zs = cc
+
+    numbers : (y : ℤ) → pos 2000000000 *ℤ (pos 21 *ℤ y) ≡ pos 1680 *ℤ (pos 25000000 *ℤ y)
+    numbers y = omega (arith, linear)
+
+    product : (p m : ℕ) → pos 25000000 *ℤ (pos p *ℤ pos m) ≡ pos (25000000 * p * m)
+    product p m = omega (arith, ints)
+
+    positive : (q : ℕ) → 1 ≤ q → pos 0 <ℤ (pos 5040 *ℤ pos q)
+    positive q some = omega (arith, ints)
+
+    at_most : (n k : ℕ) (z y : ℤ) → n ≤ k → pos 0 ≤ℤ z → pos 1680 *ℤ (pos k *ℤ z) ≡ y → (pos 1680 *ℤ (pos n *ℤ z)) ≤ℤ y
+    at_most n k z y few low e =
+        let more : (z *ℤ pos n) ≤ℤ (z *ℤ pos k) = le_mul_ℤ z (pos n) (pos k) low (omega (arith, ints)) in
+        omega (arith, linear, more, mul_comm_ℤ z (pos n), mul_comm_ℤ z (pos k))
+
+    spread : (a q t : ℕ) (z : ℤ) → pos 1680 *ℤ (pos (a * (3 * q * t)) *ℤ z) ≡ (pos 5040 *ℤ pos q) *ℤ (pos (a * t) *ℤ z)
+    spread a q t z =
+        sym (mul_assoc_ℤ (pos 1680) (pos (a * (3 * q * t))) z) ∙ ap (λ (x : ℤ). x *ℤ z) (counts a q t) ∙ mul_assoc_ℤ (pos 5040 *ℤ pos q) (pos (a * t)) z
+      where
+        counts : (a q t : ℕ) → pos 1680 *ℤ pos (a * (3 * q * t)) ≡ (pos 5040 *ℤ pos q) *ℤ pos (a * t)
+        counts a q t = omega (arith, ints)
+
+-- ---- one segment
+clock_ring : (q a t x y z s : ℤ) → (q *ℤ q) *ℤ ((a *ℤ (t *ℤ t)) *ℤ (x *ℤ (y *ℤ (z *ℤ s)))) ≡ (a *ℤ (x *ℤ (y *ℤ z))) *ℤ ((q *ℤ t) *ℤ ((q *ℤ t) *ℤ s))
+clock_ring q a t x y z s = simp ring refl
+
+clock_value : (q d : ℤ) → (q *ℤ q) *ℤ (pos 2000000000 *ℤ d) ≡ (pos 2000000000 *ℤ (q *ℤ q)) *ℤ d
+clock_value q d = swap q (pos 2000000000) d
+  where
+    swap : (q u d : ℤ) → (q *ℤ q) *ℤ (u *ℤ d) ≡ (u *ℤ (q *ℤ q)) *ℤ d
+    swap q u d = simp ring refl
+
+-- by the clock: s is q times the duration t
+in_time : (q a t : ℕ) (x y z d : ℤ) → IsWithin (pos (a * (t * t)) *ℤ times x y z (pos (q * t))) (pos 2000000000 *ℤ d) →
+    IsWithin ((pos a *ℤ ((z -ℤ x) *ℤ ((z -ℤ y) *ℤ (y -ℤ x)))) *ℤ power (pos (q * t)) 7) (pos (2000000000 * (q * q)) *ℤ d)
+in_time q a t x y z d within =
+    within_same
+    (ap (λ (v : ℤ). (pos q *ℤ pos q) *ℤ (v *ℤ times x y z (pos (q * t)))) (squares a t)
+    ∙ clock_ring (pos q) (pos a) (pos t) (z -ℤ x) (z -ℤ y) (y -ℤ x) (power (pos (q * t)) 5)
+    ∙ ap (λ (v : ℤ). (pos a *ℤ ((z -ℤ x) *ℤ ((z -ℤ y) *ℤ (y -ℤ x)))) *ℤ (v *ℤ (v *ℤ power (pos (q * t)) 5))) (one_product q t))
+    (clock_value (pos q) d ∙ ap (λ (v : ℤ). v *ℤ d) (counts q))
+    (within_mul (pos q *ℤ pos q) _ _ (mul_not_negative (pos q) (pos q) (omega (arith, ints)) (omega (arith, ints))) within)
+  where
+    squares : (a t : ℕ) → pos (a * (t * t)) ≡ pos a *ℤ (pos t *ℤ pos t)
+    squares a t = omega (arith, ints)
+
+    one_product : (q t : ℕ) → pos q *ℤ pos t ≡ pos (q * t)
+    one_product q t = omega (arith, ints)
+
+    counts : (q : ℕ) → pos 2000000000 *ℤ (pos q *ℤ pos q) ≡ pos (2000000000 * (q * q))
+    counts q = omega (arith, ints)
+
+-- a bend of a part is at most the widest
+pub bends_at : (depth : ℕ) (f : ℕ → ℤ) → BendsWithin depth f (pos (widest_bend_part depth f))
+unfolding widest_bend_part widest_bend
+bends_at depth f index inside k small =
+    within_abs (bend (part_value depth index f) k) (greatest_below (2 ^ depth) (λ i. widest_bend (part_value depth i f)))
+    (le_trans (greatest-at 6 (λ i. unsigned_abs (bend (part_value depth index f) i)) k (omega arith)) (greatest-at (2 ^ depth) (λ i. widest_bend (part_value depth i f)) index inside))
+  where
+    within_abs : (x : ℤ) (n : ℕ) → unsigned_abs x ≤ n → IsWithin (pos n) x
+    within_abs x n most = (omega (arith, ints), omega (arith, ints))
+
+    le_trans : {x y z : ℕ} → x ≤ y → y ≤ z → x ≤ z
+    le_trans {x} {y} {z} first second = omega arith
+
+-- the bound of a segment is enough for its bends
+pub fast_at : (depth ms : ℕ) (f : ℕ → ℤ) → 1 ≤ ms → 25000000 * 4 ^ depth * widest_bend_part depth f ≤ segment_acceleration depth ms f * (3 * 2 ^ (7 * depth) * (ms * ms))
+unfolding segment_acceleration acceleration_of
+fast_at depth ms f lasting =
+    (div_ceil_times (25000000 * 4 ^ depth * widest_bend_part depth f) (3 * 2 ^ (7 * depth) * (ms * ms)) (some (2 ^ (7 * depth)) ms (pow_pos (7 * depth)) lasting)).0
+  where
+    some : (q ms : ℕ) → 1 ≤ q → 1 ≤ ms → 0 < 3 * q * (ms * ms)
+    some q ms first second =
+        let square : 1 * 1 ≤ ms * ms = mul-le 1 1 ms ms second second in
+        let product : 1 * 1 ≤ q * (ms * ms) = mul-le 1 1 q (ms * ms) first (omega arith) in
+        omega (arith, product)
+
+pub lasts : (axis : ℕ) (segments : List Segment) (cue : ℕ) → cue < length segments → All IsPiece (map (piece_on axis) segments) → 1 ≤ get_or (durations segments) cue 0
+lasts axis [] cue inside formed = absurd (omega arith)
+lasts axis (s ∷ rest) zero inside formed = (All-head IsPiece (piece_on axis s) (map (piece_on axis) rest) formed).lasts
+lasts axis (s ∷ rest) (suc cue) inside formed = lasts axis rest cue (omega arith) (All-tail IsPiece (piece_on axis s) (map (piece_on axis) rest) formed)
+
+pub length-pieces : (axis : ℕ) (segments : List Segment) → length (map (piece_on axis) segments) ≡ length segments
+length-pieces axis [] = refl
+length-pieces axis (s ∷ rest) = ap suc (length-pieces axis rest)
+
+-- Within each of its segments a trajectory keeps below its bound.
+pub keeps_acceleration : (depth axis : ℕ) (t : Traj) → All IsPiece (pieces_on axis t) → KeepsAcceleration t axis (acceleration depth t axis)
+unfolding acceleration
+keeps_acceleration depth axis t formed cue q x y z inside first second last =
+    let ms : ℕ = duration t cue in
+    let f : ℕ → ℤ = at (raised (points t cue axis)) in
+    let all : ℕ = greatest_below (length t.segments) (acceleration_in depth t axis) in
+    let here : segment_acceleration depth ms f ≤ all = greatest-at (length t.segments) (acceleration_in depth t axis) cue inside in
+    let near : cue < length (pieces_on axis t) = omega (arith, length-pieces axis t.segments) in
+    in_time q all ms (pos x) (pos y) (pos z) _
+    (in_curve depth all (widest_bend_part depth f) (ms * ms) f (pos x) (pos y) (pos z) (pos (q * ms)) (after t axis cue q x) (after t axis cue q y) (after t axis cue q z)
+    (omega (arith, ints)) (omega (arith, ints)) (omega (arith, ints)) (omega (arith, ints)) (bends_at depth f)
+    (grow (segment_acceleration depth ms f) all (3 * 2 ^ (7 * depth) * (ms * ms)) _ here (fast_at depth ms f (lasts axis t.segments cue inside formed)))
+    (piece_value (at t.start axis) (pieces_on axis t) cue x (q * ms) formed near)
+    (piece_value (at t.start axis) (pieces_on axis t) cue y (q * ms) formed near)
+    (piece_value (at t.start axis) (pieces_on axis t) cue z (q * ms) formed near))
+  where
+    grow : (v w b x : ℕ) → v ≤ w → x ≤ v * b → x ≤ w * b
+    grow v w b x less most = let more : v * b ≤ w * b = mul-le v b w b less (omega arith) in omega arith

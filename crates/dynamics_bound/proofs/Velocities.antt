@@ -1,0 +1,87 @@
+-- Velocities: the steps of elements, and how much two velocities differ.
+use Rattle.std.proofs.Common.{◌≡◌, ℕ, suc, ◌+◌, ◌-◌, ◌*◌, ◌^◌, ◌≤◌, ◌<◌, ℤ, pos, ◌-ℤ◌, ◌*ℤ◌, unsigned_abs, arith, refl, sym, ◌∙◌, ap, List, ◌∷◌, length, FitsSigned, to_z, of_z}
+use Rattle.std.specs.Int.{div_ceil}
+use Rattle.std.proofs.lemmas.Int.{ints, to_z-of_z}
+use mir.Syntax.{w32}
+use Rattle.std.proofs.lemmas.Nat.{mul-le}
+use Rattle.std.proofs.lemmas.Grind.{div_ceil_times}
+use Rattle.fleet_math.specs.Bernstein.{at}
+use Rattle.fleet_math.specs.Numbers.{IsBelow}
+use Rattle.fleet_math.proofs.RingLemmas.{mul_comm_ℤ, one_mul_ℤ}
+use Rattle.bezier_core.proofs.BlendLemmas.{within_mul}
+use Rattle.fleet_math.proofs.BernsteinLemmas.{by_lt}
+use Rattle.bezier_core.specs.Steps.{IsWithin}
+use Rattle.dynamics_bound.specs.declared.velocity.Velocity.{Velocity}
+use Rattle.dynamics_bound.specs.Edges.{AreSame, jump_between, last_step}
+
+-- the last step of a cubic, and that of degree seven
+pub last_cubic : (x : ℤ) (v : List ℤ) → length v ≡ 3 → last_step (x ∷ v) ≡ pos 3 *ℤ (at v 2 -ℤ at v 1)
+last_cubic x v count = ap (λ (n : ℕ). pos (suc n - 1) *ℤ (at (x ∷ v) (suc n - 1) -ℤ at (x ∷ v) (suc n - 2))) count
+
+pub last_seven : (x : ℤ) (v : List ℤ) → length v ≡ 7 → last_step (x ∷ v) ≡ pos 7 *ℤ (at v 6 -ℤ at v 5)
+last_seven x v count = ap (λ (n : ℕ). pos (suc n - 1) *ℤ (at (x ∷ v) (suc n - 1) -ℤ at (x ∷ v) (suc n - 2))) count
+
+-- a step is computed as it is
+pub once : (way x : ℤ) → IsBelow 65536 way → way ≡ x → to_z w32 (of_z w32 way) ≡ pos 1 *ℤ x
+once way x small is = to_z-of_z w32 way (omega (arith, ints, small.0, small.1)) ∙ is ∙ sym (one_mul_ℤ x)
+
+pub thrice : (way x : ℤ) → IsBelow 65536 way → way ≡ x → to_z w32 (of_z w32 (pos 3 *ℤ to_z w32 (of_z w32 way))) ≡ pos 3 *ℤ x
+thrice way x small is =
+    rw (to_z-of_z w32 way (omega (arith, ints, small.0, small.1))) (to_z-of_z w32 (pos 3 *ℤ way) (omega (arith, ints, small.0, small.1)) ∙ ap (λ (z : ℤ). pos 3 *ℤ z) is)
+
+pub seven_times : (way x : ℤ) → IsBelow 65536 way → way ≡ x → to_z w32 (of_z w32 (pos 7 *ℤ to_z w32 (of_z w32 way))) ≡ pos 7 *ℤ x
+seven_times way x small is =
+    rw (to_z-of_z w32 way (omega (arith, ints, small.0, small.1))) (to_z-of_z w32 (pos 7 *ℤ way) (omega (arith, ints, small.0, small.1)) ∙ ap (λ (z : ℤ). pos 7 *ℤ z) is)
+
+-- a step of 32 bits times a duration
+pub product_small : (step x : ℤ) (ms : ℕ) → FitsSigned w32 step → x ≡ step *ℤ pos ms → IsWithin (pos (2 ^ 31 * ms)) x
+product_small step x ms fits is =
+    rw (is, mul_comm_ℤ step (pos ms)) (wide (within_mul (pos ms) (pos (2 ^ 31)) step (omega (arith, ints)) (omega (arith, ints), omega (arith, ints))))
+  where
+    wide : {z : ℤ} → IsWithin (pos ms *ℤ pos (2 ^ 31)) z → IsWithin (pos (2 ^ 31 * ms)) z
+    wide {z} within = (omega (arith, ints, within.0), omega (arith, ints, within.1))
+
+-- how far apart two steps over both durations are
+pub gap_small : (a b : ℕ) (x y : ℤ) → 1 ≤ a → 1 ≤ b → IsWithin (pos (2 ^ 31 * a)) x → IsWithin (pos (2 ^ 31 * b)) y → unsigned_abs (x -ℤ y) ≤ 2 ^ 32 * (a * b)
+gap_small a b x y some_a some_b first second =
+    let one : a * 1 ≤ a * b = mul-le a 1 a b (omega arith) some_b in
+    let two : 1 * b ≤ a * b = mul-le 1 b a b some_a (omega arith) in
+    omega (arith, ints, first.0, first.1, second.0, second.1, one, two)
+
+-- a jump fits
+pub jump_small : (gap time r : ℕ) → 1 ≤ time → gap ≤ 2 ^ 32 * time → r * time < 1000000 * gap + time → r < 2 ^ 53
+jump_small gap time r some small below = by_small r (2 ^ 53)
+    (λ large. let product : 2 ^ 53 * time ≤ r * time = mul-le (2 ^ 53) time r time large (omega arith) in
+    absurd (omega (arith, product, below, small, some)))
+  where
+    by_small : (m n : ℕ) → (n ≤ m → m < n) → m < n
+    by_small m n h = by_lt m n (λ less. less) h
+
+pub some_product : (a b : ℕ) → 1 ≤ a → 1 ≤ b → 1 ≤ a * b
+some_product a b first second = let product : 1 * 1 ≤ a * b = mul-le 1 1 a b first second in omega (arith, product)
+
+-- ---- no jump
+-- where there is no jump two velocities are the same
+pub none_same : (v w : Velocity) → 1 ≤ v.ms → 1 ≤ w.ms → jump_between v w ≡ 0 → AreSame v w
+unfolding jump_between
+none_same v w some_v some_w none =
+    flat (w.step *ℤ pos v.ms) (v.step *ℤ pos w.ms) (v.ms * w.ms)
+    (div_ceil_times (1000000 * unsigned_abs (w.step *ℤ pos v.ms -ℤ v.step *ℤ pos w.ms)) (v.ms * w.ms) (some_product v.ms w.ms some_v some_w)).0 none
+  where
+    flat : (x y : ℤ) (time : ℕ) → {r : ℕ} → 1000000 * unsigned_abs (x -ℤ y) ≤ r * time → r ≡ 0 → x ≡ y
+    flat x y time {r} most none =
+        let nothing : r * time ≡ 0 = rw none (omega arith) in
+        omega (arith, ints, most, nothing)
+
+-- and where they are there is none
+pub same_none : (v w : Velocity) → 1 ≤ v.ms → 1 ≤ w.ms → AreSame v w → jump_between v w ≡ 0
+unfolding jump_between
+same_none v w some_v some_w same =
+    let flat : 1000000 * unsigned_abs (w.step *ℤ pos v.ms -ℤ v.step *ℤ pos w.ms) ≡ 0 = omega (arith, ints, same) in
+    rw flat (nothing (v.ms * w.ms) (some_product v.ms w.ms some_v some_w))
+  where
+    nothing : (time : ℕ) → 1 ≤ time → div_ceil 0 time ≡ 0
+    nothing time some = by_lt 0 (div_ceil 0 time)
+        (λ more. let product : 1 * time ≤ div_ceil 0 time * time = mul-le 1 time (div_ceil 0 time) time more (omega arith) in
+        absurd (omega (arith, product, (div_ceil_times 0 time some).1)))
+        (λ less. omega (arith, less))

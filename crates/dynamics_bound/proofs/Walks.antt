@@ -1,0 +1,135 @@
+-- How a walk goes from edge to edge.
+use Rattle.std.proofs.Common.{◌≡◌, ℕ, zero, suc, ◌+◌, ◌≤◌, ◌<◌, max, ℤ, pos, nat_lt, true, false, arith, refl, sym, ◌∙◌, ap, List, [], ◌∷◌, length, map, get_or, All}
+use Rattle.std.proofs.lemmas.Bool.Decides.{nat_tests}
+use Rattle.std.proofs.lemmas.List.Elements.{All-head, All-tail, All-nil, All-cons}
+use Rattle.fleet_math.specs.Bernstein.{at}
+use Rattle.fleet_math.specs.Decoded.{points_from}
+use Rattle.bezier_core.specs.declared.Bez.{Bez}
+use Rattle.bezier_core.specs.Raised.{raised}
+use Rattle.traj_codec.specs.declared.traj.Element.{Element}
+use Rattle.traj_codec.specs.declared.traj.Segment.{Segment}
+use Rattle.traj_codec.specs.declared.traj.Traj.{Traj}
+use Rattle.traj_codec.specs.Spelling.{stored, HasDuration}
+use Rattle.traj_codec.specs.Positions.{durations, element_on, piece_on, points, value_after}
+use Rattle.speed_bound.specs.Speed.{duration}
+use Rattle.dynamics_bound.specs.declared.velocity.Velocity.{Velocity}
+use Rattle.dynamics_bound.specs.declared.walk.Reached.{Reached}
+use Rattle.dynamics_bound.specs.Accelerations.{acceleration_in, segment_acceleration}
+use Rattle.dynamics_bound.specs.Edges.{arrival, departure, first_step, first_velocity, jump, jump_between, last_step, rest}
+use Rattle.dynamics_bound.specs.Steps.{reached_at, value_at, value_before}
+
+-- ---- values, points and durations by the number of a segment
+points_before : (first : ℤ) (axis : ℕ) (segments : List Segment) (k : ℕ) (d : Segment) → k < length segments →
+    get_or (points_from first (map (piece_on axis) segments)) k [] ≡ value_before first axis segments k ∷ stored (element_on (get_or segments k d) axis)
+points_before first axis [] k d inside = absurd (omega arith)
+points_before first axis (s ∷ rest) zero d inside = refl
+points_before first axis (s ∷ rest) (suc k) d inside = points_before (value_after first (element_on s axis)) axis rest k d (omega arith)
+
+-- the points of a segment are the value before it, and then its numbers
+pub points-at : (t : Traj) (axis k : ℕ) (d : Segment) → k < length t.segments → points t k axis ≡ value_at t axis k ∷ stored (element_on (get_or t.segments k d) axis)
+points-at t axis k d inside = points_before (at t.start axis) axis t.segments k d inside
+
+next_before : (first : ℤ) (axis : ℕ) (segments : List Segment) (k : ℕ) (d : Segment) → k < length segments →
+    value_before first axis segments (suc k) ≡ value_after (value_before first axis segments k) (element_on (get_or segments k d) axis)
+next_before first axis [] k d inside = absurd (omega arith)
+next_before first axis (s ∷ rest) zero d inside = refl
+next_before first axis (s ∷ rest) (suc k) d inside = next_before (value_after first (element_on s axis)) axis rest k d (omega arith)
+
+duration_of : (segments : List Segment) (k : ℕ) (d : Segment) → k < length segments → get_or (durations segments) k 0 ≡ (get_or segments k d).ms
+duration_of [] k d inside = absurd (omega arith)
+duration_of (s ∷ rest) zero d inside = refl
+duration_of (s ∷ rest) (suc k) d inside = duration_of rest k d (omega arith)
+
+pub duration-at : (t : Traj) (k : ℕ) (d : Segment) → k < length t.segments → duration t k ≡ (get_or t.segments k d).ms
+duration-at t k d inside = duration_of t.segments k d inside
+
+lasts_of : (segments : List Segment) (k : ℕ) → k < length segments → All HasDuration segments → 1 ≤ get_or (durations segments) k 0
+lasts_of [] k inside lasting = absurd (omega arith)
+lasts_of (s ∷ rest) zero inside lasting = All-head HasDuration s rest lasting
+lasts_of (s ∷ rest) (suc k) inside lasting = lasts_of rest k (omega arith) (All-tail HasDuration s rest lasting)
+
+pub lasts-at : (t : Traj) (k : ℕ) → k < length t.segments → All HasDuration t.segments → 1 ≤ duration t k
+lasts-at t k inside lasting = lasts_of t.segments k inside lasting
+
+-- ---- edges
+-- no velocity is over no time
+pub arrival-lasts : (t : Traj) (axis k : ℕ) → k ≤ length t.segments → All HasDuration t.segments → 1 ≤ (arrival t axis k).ms
+arrival-lasts t axis zero inside lasting = omega arith
+arrival-lasts t axis (suc k) inside lasting = lasts-at t k (omega arith) lasting
+
+-- the velocity behind an edge
+pub departs-inside : (t : Traj) (axis k : ℕ) → k < length t.segments → departure t axis k ≡ first_velocity t axis k
+departs-inside t axis k inside = let test : nat_lt k (length t.segments) ≡ true = grind (arith, nat_tests) in rw test refl
+
+pub departs-last : (t : Traj) (axis k : ℕ) → k ≡ length t.segments → departure t axis k ≡ rest
+departs-last t axis k last = let test : nat_lt k (length t.segments) ≡ false = grind (arith, nat_tests) in rw test refl
+
+same_reached : {v v' s s' : ℤ} {m m' : ℕ} → v ≡ v' → s ≡ s' → m ≡ m' →
+    ◌≡◌ {A = Reached} (record { value = v; arrival = record { step = s; ms = m } }) (record { value = v'; arrival = record { step = s'; ms = m' } })
+same_reached {v} {v'} {s} {s'} {m} {m'} p q r = cc
+
+-- one segment more
+pub reached_next : (t : Traj) (axis k : ℕ) (d : Segment) (here next : Reached) (e : Element) (ms : ℕ) → here ≡ reached_at t axis k → k < length t.segments →
+    e ≡ element_on (get_or t.segments k d) axis → ms ≡ (get_or t.segments k d).ms →
+    next ≡ record { value = value_after here.value e; arrival = record { step = last_step (here.value ∷ stored e); ms = ms } } → next ≡ reached_at t axis (k + 1)
+reached_next t axis k d here next e ms here_is inside e_is ms_is is =
+    let up : k + 1 ≡ suc k = omega arith in
+    is ∙ same_reached value step (ms_is ∙ sym (duration-at t k d inside)) ∙ ap (reached_at t axis) (sym up)
+  where
+    value : value_after here.value e ≡ value_at t axis (suc k)
+    value = rw (here_is, e_is) (sym (next_before (at t.start axis) axis t.segments k d inside))
+
+    step : last_step (here.value ∷ stored e) ≡ last_step (points t k axis)
+    step = rw (here_is, e_is) (ap last_step (sym (points-at t axis k d inside)))
+
+-- what is reached has a velocity over some time
+pub reached-lasts : (t : Traj) (axis k : ℕ) (here : Reached) → here ≡ reached_at t axis k → k ≤ length t.segments → All HasDuration t.segments → 1 ≤ here.arrival.ms
+reached-lasts t axis k here is inside lasting = rw is (arrival-lasts t axis k inside lasting)
+
+-- the jump where a segment begins
+pub jump-inside : (t : Traj) (axis k : ℕ) (d : Segment) (here : Reached) (e : Element) (ms j : ℕ) → here ≡ reached_at t axis k → k < length t.segments →
+    e ≡ element_on (get_or t.segments k d) axis → ms ≡ (get_or t.segments k d).ms →
+    j ≡ jump_between here.arrival (record { step = first_step (here.value ∷ stored e); ms = ms }) → j ≡ jump t axis k
+unfolding jump
+jump-inside t axis k d here e ms j here_is inside e_is ms_is is =
+    is ∙ same (ap (λ (r : Reached). r.arrival) here_is) (same_velocity step (ms_is ∙ sym (duration-at t k d inside)) ∙ sym (departs-inside t axis k inside))
+  where
+    same : {v v' w w' : Velocity} → v ≡ v' → w ≡ w' → jump_between v w ≡ jump_between v' w'
+    same {v} {v'} {w} {w'} p q = cc
+
+    same_velocity : {s s' : ℤ} {m m' : ℕ} → s ≡ s' → m ≡ m' → ◌≡◌ {A = Velocity} (record { step = s; ms = m }) (record { step = s'; ms = m' })
+    same_velocity {s} {s'} {m} {m'} p q = cc
+
+    step : first_step (here.value ∷ stored e) ≡ first_step (points t k axis)
+    step = rw (here_is, e_is) (ap first_step (sym (points-at t axis k d inside)))
+
+-- the jump at the last instant
+pub jump-last : (t : Traj) (axis k : ℕ) (here : Reached) (j : ℕ) → here ≡ reached_at t axis k → k ≡ length t.segments → j ≡ jump_between here.arrival rest → j ≡ jump t axis k
+unfolding jump
+jump-last t axis k here j here_is last is =
+    is ∙ same (ap (λ (r : Reached). r.arrival) here_is) (sym (departs-last t axis k last))
+  where
+    same : {v v' w w' : Velocity} → v ≡ v' → w ≡ w' → jump_between v w ≡ jump_between v' w'
+    same {v} {v'} {w} {w'} p q = cc
+
+-- ---- accelerations
+-- the bound of a segment by its curve
+pub acceleration-at : (depth axis k : ℕ) (t : Traj) (d : Segment) (first : ℤ) (m v : ℕ) → first ≡ value_at t axis k → k < length t.segments →
+    v ≡ max m (segment_acceleration depth (get_or t.segments k d).ms (at (raised (first ∷ stored (element_on (get_or t.segments k d) axis))))) → v ≡ max m (acceleration_in depth t axis k)
+acceleration-at depth axis k t d first m v first_is inside is =
+    is ∙ both (ap (λ (z : ℤ). z ∷ stored (element_on (get_or t.segments k d) axis)) first_is ∙ sym (points-at t axis k d inside)) (sym (duration-at t k d inside))
+  where
+    both : {b b' : List ℤ} {ms ms' : ℕ} → b ≡ b' → ms ≡ ms' → max m (segment_acceleration depth ms (at (raised b))) ≡ max m (segment_acceleration depth ms' (at (raised b')))
+    both {b} {b'} {ms} {ms'} p q = cc
+
+pub by_curves : (depth axis ms m v : ℕ) (curves others : List (Bez 8)) → v ≡ max m (segment_acceleration depth ms (at (get_or curves axis (record { b = [] })).b)) → curves ≡ others →
+    v ≡ max m (segment_acceleration depth ms (at (get_or others axis (record { b = [] })).b))
+by_curves depth axis ms m v curves others is same = is ∙ ap (λ (cs : List (Bez 8)). max m (segment_acceleration depth ms (at (get_or cs axis (record { b = [] })).b))) same
+
+-- three numbers that are the same
+pub three_told : {A : Type 0} {x y z u v w : A} → x ≡ u → y ≡ v → z ≡ w → ◌≡◌ {A = List A} (x ∷ y ∷ z ∷ []) (u ∷ v ∷ w ∷ [])
+three_told {A} {x} {y} {z} {u} {v} {w} p q r = cc
+
+pub three_small : (n x y z : ℕ) → x < n → y < n → z < n → All (λ v. v < n) (x ∷ y ∷ z ∷ [])
+three_small n x y z first second third =
+    All-cons (λ (v : ℕ). v < n) x (y ∷ z ∷ []) first (All-cons (λ (v : ℕ). v < n) y (z ∷ []) second (All-cons (λ (v : ℕ). v < n) z [] third (All-nil (λ (v : ℕ). v < n))))

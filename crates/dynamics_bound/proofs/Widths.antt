@@ -1,0 +1,190 @@
+-- The widest bends of the parts of a curve, and the widths of what is computed from them.
+use Rattle.std.proofs.Common.{◌≡◌, ℕ, zero, suc, ◌+◌, ◌-◌, ◌*◌, ◌^◌, ◌/◌, ◌≤◌, ◌<◌, max, ℤ, pos, ◌-ℤ◌, ◌*ℤ◌, unsigned_abs, arith, lit<, refl, sym, ◌∙◌, ap}
+use Rattle.std.specs.Int.{div_ceil}
+use Rattle.std.proofs.lemmas.Int.{ints}
+use Rattle.std.proofs.lemmas.Nat.{pow-add, pow_pos, mul-le}
+use Rattle.std.proofs.lemmas.Grind.{div_ceil_times}
+use Rattle.std.proofs.Math.Nat.{pow-suc, pow-zero, pow-le-pow_right}
+use Rattle.fleet_math.proofs.BernsteinLemmas.{by_lt}
+use Rattle.bezier_core.specs.Steps.{IsWithin}
+use Rattle.halving.specs.Part.{part_value}
+use Rattle.halving.proofs.PolarLemmas.{polar-same, part-whole}
+use Rattle.sep_parts.proofs.PartBounds.{part-half}
+use Rattle.speed_bound.specs.Speed.{greatest_below}
+use Rattle.speed_bound.proofs.Widths.{greatest-same, greatest-at, greatest-most, greatest-split}
+use Rattle.dynamics_bound.specs.Accelerations.{bend, widest_bend, widest_bend_part, acceleration_of, segment_acceleration}
+use Rattle.dynamics_bound.proofs.Shrinks.{bend_shrinks}
+
+-- ---- the parts of a half are parts of the whole
+same_bend : {x y z x' y' z' : ℤ} → x ≡ x' → y ≡ y' → z ≡ z' → (x -ℤ y) -ℤ (y -ℤ z) ≡ (x' -ℤ y') -ℤ (y' -ℤ z')
+same_bend {x} {y} {z} {x'} {y'} {z'} p q r = cc
+
+pub widest_bend-same : (f g : ℕ → ℤ) → ((k : ℕ) → k ≤ 7 → f k ≡ g k) → widest_bend f ≡ widest_bend g
+unfolding widest_bend
+widest_bend-same f g same =
+    greatest-same 6 _ _ (λ k small. ap unsigned_abs (same_bend (same (suc (suc k)) (omega arith)) (same (suc k) (omega arith)) (same k (omega arith))))
+
+widest-half : (e r : ℕ) (f g : ℕ → ℤ) → ((k : ℕ) → k ≤ 7 → g k ≡ part_value 1 r f k) →
+    widest_bend_part e g ≡ greatest_below (2 ^ e) (λ index. widest_bend (part_value (suc e) (2 ^ e * r + index) f))
+unfolding widest_bend_part
+widest-half e r f g same =
+    greatest-same (2 ^ e) _ _ (λ index small. widest_bend-same _ _
+    (λ k low. polar-same (7 - k) k g (part_value 1 r f) (pos index) (pos (index + 1)) (pos (2 ^ e)) (λ i near. same i (omega arith)) ∙ part-half e r index k f low))
+
+-- the widest bend of a curve's parts is that of the parts of its halves
+pub widest-halves : (e : ℕ) (f left right : ℕ → ℤ) → ((k : ℕ) → k ≤ 7 → left k ≡ part_value 1 0 f k) → ((k : ℕ) → k ≤ 7 → right k ≡ part_value 1 1 f k) →
+    max (widest_bend_part e left) (widest_bend_part e right) ≡ widest_bend_part (suc e) f
+unfolding widest_bend_part
+widest-halves e f left right first second =
+    let doubled : 2 ^ suc e ≡ 2 ^ e + 2 ^ e = rw (pow-suc 2 e) (omega arith) in
+    rw (doubled)
+    (both (widest-half e 0 f left first ∙ greatest-same (2 ^ e) _ _ (λ index small. ap (λ (n : ℕ). widest_bend (part_value (suc e) n f)) (front (2 ^ e) index)))
+    (widest-half e 1 f right second ∙ greatest-same (2 ^ e) _ _ (λ index small. ap (λ (n : ℕ). widest_bend (part_value (suc e) n f)) (back (2 ^ e) index)))
+    ∙ sym (greatest-split (2 ^ e) (2 ^ e) (λ index. widest_bend (part_value (suc e) index f))))
+  where
+    both : {x y z w : ℕ} → x ≡ y → z ≡ w → max x z ≡ max y w
+    both {x} {y} {z} {w} p q = cc
+
+    front : (p index : ℕ) → p * 0 + index ≡ index
+    front p index = omega arith
+
+    back : (p index : ℕ) → p * 1 + index ≡ p + index
+    back p index = omega arith
+
+-- the whole is its own part
+pub widest-whole : (f : ℕ → ℤ) → widest_bend f ≡ widest_bend_part 0 f
+unfolding widest_bend_part
+widest-whole f = widest_bend-same f (part_value 0 0 f) (λ k small. sym (part-whole f k)) ∙ omega arith
+
+-- ---- how wide a bend is
+-- a half bends at most 32 times as much as its whole, at a scale 128 times as large
+half_shrinks : (r : ℕ) (f g : ℕ → ℤ) → r ≤ 1 → ((k : ℕ) → k ≤ 7 → g k ≡ part_value 1 r f k) → widest_bend g ≤ 32 * widest_bend f
+unfolding widest_bend
+half_shrinks r f g side same =
+    greatest-most 6 _ _ (λ k small. most (bend g k) (bend (part_value 1 r f) k) (widest k)
+    (same_bend (same (suc (suc k)) (omega arith)) (same (suc k) (omega arith)) (same k (omega arith)))
+    (bend_shrinks r k f (pos (greatest_below 6 (λ i. unsigned_abs (bend f i)))) side (omega arith)
+    (λ i low. within (bend f i) (greatest_below 6 (λ i. unsigned_abs (bend f i))) (greatest-at 6 (λ i. unsigned_abs (bend f i)) i (omega arith)))))
+  where
+    widest : ℕ → ℕ
+    widest k = greatest_below 6 (λ i. unsigned_abs (bend f i))
+
+    within : (x : ℤ) (n : ℕ) → unsigned_abs x ≤ n → IsWithin (pos n) x
+    within x n small = (omega (arith, ints), omega (arith, ints))
+
+    most : (x y : ℤ) (n : ℕ) → x ≡ y → IsWithin (pos 32 *ℤ pos n) y → unsigned_abs x ≤ 32 * n
+    most x y n is near = rw is (omega (arith, ints, near.0, near.1))
+
+-- so a part of a depth bends at most 32^depth times as much
+pub bends_shrink : (e : ℕ) (f : ℕ → ℤ) → widest_bend_part e f ≤ 32 ^ e * widest_bend f
+bends_shrink zero f = rw (← widest-whole f) (omega arith)
+bends_shrink (suc e) f =
+    rw (← widest-halves e f (part_value 1 0 f) (part_value 1 1 f) (λ k low. refl) (λ k low. refl), pow-suc 32 e)
+    (both (32 ^ e) (widest_bend f) _ _ _ _ (bends_shrink e (part_value 1 0 f)) (half_shrinks 0 f (part_value 1 0 f) (omega arith) (λ k low. refl))
+    (bends_shrink e (part_value 1 1 f)) (half_shrinks 1 f (part_value 1 1 f) (omega arith) (λ k low. refl)))
+  where
+    both : (p w a b x y : ℕ) → a ≤ p * x → x ≤ 32 * w → b ≤ p * y → y ≤ 32 * w → max a b ≤ p * 32 * w
+    both p w a b x y first second third fourth =
+        let one : p * x ≤ p * (32 * w) = mul-le p x p (32 * w) (omega arith) second in
+        let two : p * y ≤ p * (32 * w) = mul-le p y p (32 * w) (omega arith) fourth in
+        omega (arith, one, two, first, third)
+
+-- a bend of small numbers
+pub widest_bend-small : (b : ℕ) (f : ℕ → ℤ) → ((k : ℕ) → k ≤ 7 → IsWithin (pos b) (f k)) → widest_bend f ≤ 4 * b
+unfolding widest_bend
+widest_bend-small b f within =
+    greatest-most 6 _ _ (λ k small. most b (f k) (f (suc k)) (f (suc (suc k))) (within k (omega arith)) (within (suc k) (omega arith)) (within (suc (suc k)) (omega arith)))
+  where
+    most : (b : ℕ) (x y z : ℤ) → IsWithin (pos b) x → IsWithin (pos b) y → IsWithin (pos b) z → unsigned_abs ((z -ℤ y) -ℤ (y -ℤ x)) ≤ 4 * b
+    most b x y z first second third = omega (arith, ints, first.0, first.1, second.0, second.1, third.0, third.1)
+
+pub widest_part-small : (e b : ℕ) (f : ℕ → ℤ) → ((k : ℕ) → k ≤ 7 → IsWithin (pos b) (f k)) → widest_bend_part e f ≤ 4 * b * 32 ^ e
+widest_part-small e b f within =
+    let more : 32 ^ e * widest_bend f ≤ 32 ^ e * (4 * b) = mul-le (32 ^ e) (widest_bend f) (32 ^ e) (4 * b) (omega arith) (widest_bend-small b f within) in
+    omega (arith, bends_shrink e f, more)
+
+-- ---- accelerations
+-- the powers of a depth
+pub powers : (e : ℕ) → 4 ^ e * 32 ^ e ≡ 2 ^ (7 * e)
+powers zero = refl
+powers (suc e) =
+    let more : 7 * suc e ≡ 7 + 7 * e = omega arith in
+    rw (more, pow-add 2 7 (7 * e), ← powers e, pow-suc 4 e, pow-suc 32 e) (product (4 ^ e) (32 ^ e))
+  where
+    product : (p q : ℕ) → p * 4 * (q * 32) ≡ 128 * (p * q)
+    product p q = omega arith
+
+-- a power is positive
+pub some_power : (n e : ℕ) → 1 ≤ n → 1 ≤ n ^ e
+some_power n zero some = rw (pow-zero n) (omega arith)
+some_power n (suc e) some = let product : 1 * 1 ≤ n ^ e * n = mul-le 1 1 (n ^ e) n (some_power n e some) some in rw (pow-suc n e) (omega (arith, product))
+
+-- a positive time
+pub some_time : (q ms : ℕ) → 1 ≤ q → 1 ≤ ms → 0 < 3 * q * (ms * ms)
+some_time q ms first second =
+    let square : 1 * 1 ≤ ms * ms = mul-le 1 1 ms ms second second in
+    let product : 1 * 1 ≤ q * (ms * ms) = mul-le 1 1 q (ms * ms) first (omega arith) in
+    omega (arith, product)
+
+pub least-quotient : (x y b : ℕ) → 0 < b → x ≤ y * b → div_ceil x b ≤ y
+least-quotient x y b some most = by_lt y (div_ceil x b)
+    (λ more. let product : (y + 1) * b ≤ div_ceil x b * b = mul-le (y + 1) b (div_ceil x b) b (omega arith) (omega arith) in
+    absurd (omega (arith, product, (div_ceil_times x b some).1)))
+    (λ h. h)
+
+-- a part that bends by no more than a bound allows
+pub allowed : (depth ms most w least : ℕ) → 1 ≤ ms → least * 25000000 ≤ most * (3 * 32 ^ depth) * (ms * ms) → w ≤ least → acceleration_of depth ms w ≤ most
+unfolding acceleration_of
+allowed depth ms most w least lasting enough small =
+    least-quotient (25000000 * 4 ^ depth * w) most (3 * 2 ^ (7 * depth) * (ms * ms)) (some_time (2 ^ (7 * depth)) ms (pow_pos (7 * depth)) lasting)
+    (rw (← powers depth) (room (4 ^ depth) (32 ^ depth) (ms * ms) w least most enough small))
+  where
+    room : (p q t w least most : ℕ) → least * 25000000 ≤ most * (3 * q) * t → w ≤ least → 25000000 * p * w ≤ most * (3 * (p * q) * t)
+    room p q t w least most enough small =
+        let one : p * w ≤ p * least = mul-le p w p least (omega arith) small in
+        let two : p * (least * 25000000) ≤ p * (most * (3 * q) * t) = mul-le p (least * 25000000) p (most * (3 * q) * t) (omega arith) enough in
+        omega (arith, one, two)
+
+-- what is computed fits
+pub allowed_small : (m q t : ℕ) → m < 2 ^ 53 → q ≤ 2 ^ 40 → t ≤ 2 ^ 32 → m * (3 * q) * t < 2 ^ 128
+allowed_small m q t few small short =
+    let one : m * (3 * q) ≤ 2 ^ 53 * (3 * 2 ^ 40) = mul-le m (3 * q) (2 ^ 53) (3 * 2 ^ 40) (omega arith) (omega (arith, small)) in
+    let two : m * (3 * q) * t ≤ 2 ^ 53 * (3 * 2 ^ 40) * 2 ^ 32 = mul-le (m * (3 * q)) t (2 ^ 53 * (3 * 2 ^ 40)) (2 ^ 32) one short in
+    omega (arith, two)
+
+pub square_small : (ms : ℕ) → ms < 2 ^ 16 → ms * ms ≤ 2 ^ 32
+square_small ms short = mul-le ms ms (2 ^ 16) (2 ^ 16) (omega arith) (omega arith)
+
+pub depth_small : (depth : ℕ) → depth ≤ 8 → (4 ^ depth ≤ 65536) × (32 ^ depth ≤ 2 ^ 40) × (2 ^ (7 * depth) ≤ 2 ^ 56)
+depth_small depth shallow = (four shallow, many shallow, wide (omega arith))
+  where
+    four : depth ≤ 8 → 4 ^ depth ≤ 4 ^ 8
+    four few = pow-le-pow_right {n = 4} (lit< tt) few
+
+    many : depth ≤ 8 → 32 ^ depth ≤ 32 ^ 8
+    many few = pow-le-pow_right {n = 32} (lit< tt) few
+
+    wide : 7 * depth ≤ 56 → 2 ^ (7 * depth) ≤ 2 ^ 56
+    wide few = pow-le-pow_right {n = 2} (lit< tt) few
+
+pub force_small : (p w q : ℕ) → p ≤ 65536 → q ≤ 2 ^ 40 → w ≤ 2 ^ 30 * q → 25000000 * p * w < 2 ^ 128
+force_small p w q few small wide =
+    let more : w ≤ 2 ^ 70 = omega (arith, wide, small) in
+    omega (arith, mul-le p w 65536 (2 ^ 70) few more)
+
+pub acceleration_small : (p q w ms r : ℕ) → 1 ≤ p → 1 ≤ q → w ≤ 2 ^ 30 * q → 1 ≤ ms → r * (3 * (p * q) * (ms * ms)) < 25000000 * p * w + 3 * (p * q) * (ms * ms) → r < 2 ^ 53
+acceleration_small p q w ms r some_p some_q small lasting below = by_small r (2 ^ 53)
+    (λ large.
+    let way : p * w ≤ p * (2 ^ 30 * q) = mul-le p w p (2 ^ 30 * q) (omega arith) small in
+    let square : 1 * 1 ≤ ms * ms = mul-le 1 1 ms ms lasting lasting in
+    let whole : p * q * 1 ≤ p * q * (ms * ms) = mul-le (p * q) 1 (p * q) (ms * ms) (omega arith) (omega arith) in
+    let some : 1 * 1 ≤ p * q = mul-le 1 1 p q some_p some_q in
+    absurd (last (p * q * (ms * ms)) (p * q) (p * w) r (omega (arith, whole)) some (omega (arith, way)) large (omega (arith, below))))
+  where
+    by_small : (m n : ℕ) → (n ≤ m → m < n) → m < n
+    by_small m n h = by_lt m n (λ less. less) h
+
+    last : (t s u r : ℕ) → s ≤ t → 1 ≤ s → u ≤ 2 ^ 30 * s → 2 ^ 53 ≤ r → r * (3 * t) < 25000000 * u + 3 * t → ⊥
+    last t s u r less some most large below =
+        let product : 2 ^ 53 * (3 * t) ≤ r * (3 * t) = mul-le (2 ^ 53) (3 * t) r (3 * t) large (omega arith) in
+        omega (arith, product, below, most, less, some)

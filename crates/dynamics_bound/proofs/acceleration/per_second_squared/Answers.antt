@@ -1,0 +1,42 @@
+use Rattle.std.proofs.Common.{◌≡◌, ◌+◌, ◌*◌, ◌^◌, ◌≤◌, ◌<◌, ℕ, arith, sym}
+use Rattle.std.specs.Int.{div_ceil}
+use Rattle.std.proofs.lemmas.Nat.{mul-le, pow_pos}
+use Rattle.std.proofs.lemmas.Grind.{div_ceil_times}
+use Rattle.dynamics_bound.proofs.Widths.{acceleration_small, depth_small, force_small, powers, some_power, some_time, square_small}
+use Rattle.dynamics_bound.proofs.acceleration.per_second_squared.Goals as goal
+
+pub pow-requires : goal.pow-requires
+pow-requires c = omega (arith, (depth_small c.args.depth c.requires.depth).0)
+
+four : (depth p : ℕ) → depth ≤ 8 → p ≡ 4 ^ depth → p ≤ 65536
+four depth p shallow is = rw is (depth_small depth shallow).0
+
+pub overflow_mul-way : goal.overflow_mul-way
+overflow_mul-way c = omega (arith, four c.args.depth c.pow.result c.requires.depth c.pow.ensures)
+
+pub overflow_mul-way-2 : goal.overflow_mul-way-2
+overflow_mul-way-2 c =
+    let room : 25000000 * c.pow.result * c.args.widest < 2 ^ 128 =
+    force_small c.pow.result c.args.widest (32 ^ c.args.depth) (four c.args.depth c.pow.result c.requires.depth c.pow.ensures) (depth_small c.args.depth c.requires.depth).1 c.requires.widest in
+    omega (arith, room)
+
+pub overflow_mul-time-2 : goal.overflow_mul-time-2
+overflow_mul-time-2 c =
+    let few : c.pow-2.result ≤ 2 ^ 56 = rw c.pow-2.ensures (depth_small c.args.depth c.requires.depth).2 in
+    let room : 3 * c.pow-2.result * (c.args.ms * c.args.ms) ≤ 3 * 2 ^ 56 * 2 ^ 32 =
+    mul-le (3 * c.pow-2.result) (c.args.ms * c.args.ms) (3 * 2 ^ 56) (2 ^ 32) (omega arith) (square_small c.args.ms (omega arith)) in
+    omega (arith, room)
+
+small : (w ms depth p q r : ℕ) → w ≤ 2 ^ 30 * 32 ^ depth → 1 ≤ ms → p ≡ 4 ^ depth → q ≡ 2 ^ (7 * depth) → r ≡ div_ceil (25000000 * p * w) (3 * q * (ms * ms)) → r < 2 ^ 53
+small w ms depth p q r wide lasting p_is q_is r_is =
+    let spread : q ≡ p * 32 ^ depth = rw (p_is, powers depth) q_is in
+    acceleration_small p (32 ^ depth) w ms r (rw p_is (some_power 4 depth (omega arith))) (some_power 32 depth (omega arith)) wide lasting
+    (rw (← spread, r_is) (div_ceil_times (25000000 * p * w) (3 * q * (ms * ms)) (some_time q ms (rw q_is (pow_pos (7 * depth))) lasting)).1)
+
+pub overflow_cast-result : goal.overflow_cast-result
+overflow_cast-result c =
+    let few : c.div_ceil.result < 2 ^ 53 = small c.args.widest c.args.ms c.args.depth c.pow.result c.pow-2.result c.div_ceil.result c.requires.widest c.requires.lasting c.pow.ensures c.pow-2.ensures c.div_ceil.ensures in
+    omega arith
+
+pub returns-clause-small : goal.returns-clause-small
+returns-clause-small c = small c.args.widest c.args.ms c.args.depth c.pow.result c.pow-2.result c.div_ceil.result c.requires.widest c.requires.lasting c.pow.ensures c.pow-2.ensures c.div_ceil.ensures

@@ -1,0 +1,10 @@
+use Rattle.std.proofs.Common.{◌≡◌, None}
+use Rattle.dynamics_bound.specs.Excesses.{excess_before}
+use Rattle.dynamics_bound.specs.Steps.{walk_at}
+use Rattle.dynamics_bound.proofs.excess.first_above.Given as goal
+
+abbrev pub invariant-loop-k : goal.invariant-loop-k
+invariant-loop-k l = record {
+  walk : l.walk ≡ walk_at l.t l.k;
+  none : excess_before l.limits l.depth l.t l.k ≡ None;
+}
