@@ -7,4 +7,6 @@ pub mod Ends
 pub mod Widths
 pub mod Velocities
 pub mod Walks
+pub mod Greatest
+pub mod Excesses
 mod Rows

@@ -1,9 +1,10 @@
 -- How a walk goes from edge to edge.
-use Rattle.std.proofs.Common.{◌≡◌, ℕ, zero, suc, ◌+◌, ◌≤◌, ◌<◌, max, ℤ, pos, nat_lt, true, false, arith, refl, sym, ◌∙◌, ap, List, [], ◌∷◌, length, map, get_or, All}
+use Rattle.std.proofs.Common.{◌≡◌, ℕ, zero, suc, ◌+◌, ◌≤◌, ◌<◌, max, ℤ, pos, nat_lt, true, false, arith, refl, sym, subst, ◌∙◌, ap, List, [], ◌∷◌, length, map, get_or, All}
 use Rattle.std.proofs.lemmas.Bool.Decides.{nat_tests}
-use Rattle.std.proofs.lemmas.List.Elements.{All-head, All-tail, All-nil, All-cons}
+use Rattle.std.proofs.lemmas.List.Elements.{All-head, All-tail, All-nil, All-cons, All-get_or}
 use Rattle.fleet_math.specs.Bernstein.{at}
 use Rattle.fleet_math.specs.Decoded.{points_from}
+use Rattle.fleet_math.proofs.BernsteinLemmas.{by_lt}
 use Rattle.bezier_core.specs.declared.Bez.{Bez}
 use Rattle.bezier_core.specs.Raised.{raised}
 use Rattle.traj_codec.specs.declared.traj.Element.{Element}
@@ -11,12 +12,12 @@ use Rattle.traj_codec.specs.declared.traj.Segment.{Segment}
 use Rattle.traj_codec.specs.declared.traj.Traj.{Traj}
 use Rattle.traj_codec.specs.Spelling.{stored, HasDuration}
 use Rattle.traj_codec.specs.Positions.{durations, element_on, piece_on, points, value_after}
-use Rattle.speed_bound.specs.Speed.{duration}
+use Rattle.speed_bound.specs.Speed.{duration, greatest_below}
 use Rattle.dynamics_bound.specs.declared.velocity.Velocity.{Velocity}
 use Rattle.dynamics_bound.specs.declared.walk.Reached.{Reached}
-use Rattle.dynamics_bound.specs.Accelerations.{acceleration_in, segment_acceleration}
+use Rattle.dynamics_bound.specs.Accelerations.{acceleration, acceleration_in, segment_acceleration}
 use Rattle.dynamics_bound.specs.Edges.{arrival, departure, first_step, first_velocity, jump, jump_between, last_step, rest}
-use Rattle.dynamics_bound.specs.Steps.{reached_at, value_at, value_before}
+use Rattle.dynamics_bound.specs.Steps.{reached_at, three, value_at, value_before}
 
 -- ---- values, points and durations by the number of a segment
 points_before : (first : ℤ) (axis : ℕ) (segments : List Segment) (k : ℕ) (d : Segment) → k < length segments →
@@ -69,30 +70,36 @@ same_reached : {v v' s s' : ℤ} {m m' : ℕ} → v ≡ v' → s ≡ s' → m �
 same_reached {v} {v'} {s} {s'} {m} {m'} p q r = cc
 
 -- one segment more
-pub reached_next : (t : Traj) (axis k : ℕ) (d : Segment) (here next : Reached) (e : Element) (ms : ℕ) → here ≡ reached_at t axis k → k < length t.segments →
-    e ≡ element_on (get_or t.segments k d) axis → ms ≡ (get_or t.segments k d).ms →
-    next ≡ record { value = value_after here.value e; arrival = record { step = last_step (here.value ∷ stored e); ms = ms } } → next ≡ reached_at t axis (k + 1)
-reached_next t axis k d here next e ms here_is inside e_is ms_is is =
+pub reached_next : (t : Traj) (axis k : ℕ) (segments : List Segment) (d : Segment) (here next : Reached) → here ≡ reached_at t axis k → k < length t.segments → segments ≡ t.segments →
+    next ≡ record { value = value_after here.value (element_on (get_or segments k d) axis); arrival = record { step = last_step (here.value ∷ stored (element_on (get_or segments k d) axis)); ms = (get_or segments k d).ms } } →
+    next ≡ reached_at t axis (k + 1)
+reached_next t axis k segments d here next here_is inside segments_are is =
     let up : k + 1 ≡ suc k = omega arith in
-    is ∙ same_reached value step (ms_is ∙ sym (duration-at t k d inside)) ∙ ap (reached_at t axis) (sym up)
+    is ∙ same_reached value step (ap (λ (ss : List Segment). (get_or ss k d).ms) segments_are ∙ sym (duration-at t k d inside)) ∙ ap (reached_at t axis) (sym up)
   where
-    value : value_after here.value e ≡ value_at t axis (suc k)
-    value = rw (here_is, e_is) (sym (next_before (at t.start axis) axis t.segments k d inside))
+    value : value_after here.value (element_on (get_or segments k d) axis) ≡ value_at t axis (suc k)
+    value = rw (here_is, segments_are) (sym (next_before (at t.start axis) axis t.segments k d inside))
 
-    step : last_step (here.value ∷ stored e) ≡ last_step (points t k axis)
-    step = rw (here_is, e_is) (ap last_step (sym (points-at t axis k d inside)))
+    step : last_step (here.value ∷ stored (element_on (get_or segments k d) axis)) ≡ last_step (points t k axis)
+    step = rw (here_is, segments_are) (ap last_step (sym (points-at t axis k d inside)))
+
+pub departure-lasts : (t : Traj) (axis k : ℕ) → All HasDuration t.segments → 1 ≤ (departure t axis k).ms
+departure-lasts t axis k lasting =
+    by_lt k (length t.segments)
+    (λ inside. rw (departs-inside t axis k inside) (lasts-at t k inside lasting))
+    (λ outside. let test : nat_lt k (length t.segments) ≡ false = grind (arith, nat_tests) in rw test (omega arith))
 
 -- what is reached has a velocity over some time
 pub reached-lasts : (t : Traj) (axis k : ℕ) (here : Reached) → here ≡ reached_at t axis k → k ≤ length t.segments → All HasDuration t.segments → 1 ≤ here.arrival.ms
 reached-lasts t axis k here is inside lasting = rw is (arrival-lasts t axis k inside lasting)
 
 -- the jump where a segment begins
-pub jump-inside : (t : Traj) (axis k : ℕ) (d : Segment) (here : Reached) (e : Element) (ms j : ℕ) → here ≡ reached_at t axis k → k < length t.segments →
-    e ≡ element_on (get_or t.segments k d) axis → ms ≡ (get_or t.segments k d).ms →
-    j ≡ jump_between here.arrival (record { step = first_step (here.value ∷ stored e); ms = ms }) → j ≡ jump t axis k
+pub jump-inside : (t : Traj) (axis k : ℕ) (segments : List Segment) (d : Segment) (here : Reached) (j : ℕ) → here ≡ reached_at t axis k → k < length t.segments → segments ≡ t.segments →
+    j ≡ jump_between here.arrival (record { step = first_step (here.value ∷ stored (element_on (get_or segments k d) axis)); ms = (get_or segments k d).ms }) → j ≡ jump t axis k
 unfolding jump
-jump-inside t axis k d here e ms j here_is inside e_is ms_is is =
-    is ∙ same (ap (λ (r : Reached). r.arrival) here_is) (same_velocity step (ms_is ∙ sym (duration-at t k d inside)) ∙ sym (departs-inside t axis k inside))
+jump-inside t axis k segments d here j here_is inside segments_are is =
+    is ∙ same (ap (λ (r : Reached). r.arrival) here_is)
+    (same_velocity step (ap (λ (ss : List Segment). (get_or ss k d).ms) segments_are ∙ sym (duration-at t k d inside)) ∙ sym (departs-inside t axis k inside))
   where
     same : {v v' w w' : Velocity} → v ≡ v' → w ≡ w' → jump_between v w ≡ jump_between v' w'
     same {v} {v'} {w} {w'} p q = cc
@@ -100,8 +107,8 @@ jump-inside t axis k d here e ms j here_is inside e_is ms_is is =
     same_velocity : {s s' : ℤ} {m m' : ℕ} → s ≡ s' → m ≡ m' → ◌≡◌ {A = Velocity} (record { step = s; ms = m }) (record { step = s'; ms = m' })
     same_velocity {s} {s'} {m} {m'} p q = cc
 
-    step : first_step (here.value ∷ stored e) ≡ first_step (points t k axis)
-    step = rw (here_is, e_is) (ap first_step (sym (points-at t axis k d inside)))
+    step : first_step (here.value ∷ stored (element_on (get_or segments k d) axis)) ≡ first_step (points t k axis)
+    step = rw (here_is, segments_are) (ap first_step (sym (points-at t axis k d inside)))
 
 -- the jump at the last instant
 pub jump-last : (t : Traj) (axis k : ℕ) (here : Reached) (j : ℕ) → here ≡ reached_at t axis k → k ≡ length t.segments → j ≡ jump_between here.arrival rest → j ≡ jump t axis k
@@ -114,18 +121,33 @@ jump-last t axis k here j here_is last is =
 
 -- ---- accelerations
 -- the bound of a segment by its curve
-pub acceleration-at : (depth axis k : ℕ) (t : Traj) (d : Segment) (first : ℤ) (m v : ℕ) → first ≡ value_at t axis k → k < length t.segments →
-    v ≡ max m (segment_acceleration depth (get_or t.segments k d).ms (at (raised (first ∷ stored (element_on (get_or t.segments k d) axis))))) → v ≡ max m (acceleration_in depth t axis k)
-acceleration-at depth axis k t d first m v first_is inside is =
-    is ∙ both (ap (λ (z : ℤ). z ∷ stored (element_on (get_or t.segments k d) axis)) first_is ∙ sym (points-at t axis k d inside)) (sym (duration-at t k d inside))
+pub acceleration-at : (depth axis k : ℕ) (t : Traj) (segments : List Segment) (d : Segment) (curves : List (Bez 8)) (here : Reached) (m v : ℕ) → here ≡ reached_at t axis k → k < length t.segments →
+    segments ≡ t.segments → (get_or curves axis (record { b = [] })).b ≡ raised (here.value ∷ stored (element_on (get_or segments k d) axis)) →
+    v ≡ max m (segment_acceleration depth (get_or segments k d).ms (at (get_or curves axis (record { b = [] })).b)) → v ≡ max m (acceleration_in depth t axis k)
+acceleration-at depth axis k t segments d curves here m v here_is inside segments_are curve_is is =
+    is ∙ both (curve_is ∙ ap raised points_are) (ap (λ (ss : List Segment). (get_or ss k d).ms) segments_are ∙ sym (duration-at t k d inside))
   where
-    both : {b b' : List ℤ} {ms ms' : ℕ} → b ≡ b' → ms ≡ ms' → max m (segment_acceleration depth ms (at (raised b))) ≡ max m (segment_acceleration depth ms' (at (raised b')))
+    points_are : here.value ∷ stored (element_on (get_or segments k d) axis) ≡ points t k axis
+    points_are = rw (here_is, segments_are) (sym (points-at t axis k d inside))
+
+    both : {b b' : List ℤ} {ms ms' : ℕ} → b ≡ b' → ms ≡ ms' → max m (segment_acceleration depth ms (at b)) ≡ max m (segment_acceleration depth ms' (at b'))
     both {b} {b'} {ms} {ms'} p q = cc
 
-pub by_curves : (depth axis ms m v : ℕ) (curves others : List (Bez 8)) → v ≡ max m (segment_acceleration depth ms (at (get_or curves axis (record { b = [] })).b)) → curves ≡ others →
-    v ≡ max m (segment_acceleration depth ms (at (get_or others axis (record { b = [] })).b))
-by_curves depth axis ms m v curves others is same = is ∙ ap (λ (cs : List (Bez 8)). max m (segment_acceleration depth ms (at (get_or cs axis (record { b = [] })).b))) same
+-- the greatest accelerations of the segments before one
+abbrev pub most_before : ℕ → Traj → ℕ → ℕ → ℕ
+most_before depth t k axis = greatest_below k (acceleration_in depth t axis)
 
+pub one_more : (depth k : ℕ) (t : Traj) (most new : List ℕ) → most ≡ three (most_before depth t k) → new ≡ three (λ axis. max (get_or most axis 0) (acceleration_in depth t axis k)) →
+    new ≡ three (most_before depth t (k + 1))
+one_more depth k t most new most_is is =
+    let up : k + 1 ≡ suc k = omega arith in
+    is ∙ ap (λ (ms : List ℕ). three (λ axis. max (get_or ms axis 0) (acceleration_in depth t axis k))) most_is ∙ ap (λ (n : ℕ). three (most_before depth t n)) (sym up)
+
+pub all_segments : (depth k : ℕ) (t : Traj) (most : List ℕ) → most ≡ three (most_before depth t k) → k ≡ length t.segments → most ≡ three (acceleration depth t)
+unfolding acceleration
+all_segments depth k t most is last = is ∙ ap (λ (n : ℕ). three (most_before depth t n)) last
+
+-- ---- three numbers
 -- three numbers that are the same
 pub three_told : {A : Type 0} {x y z u v w : A} → x ≡ u → y ≡ v → z ≡ w → ◌≡◌ {A = List A} (x ∷ y ∷ z ∷ []) (u ∷ v ∷ w ∷ [])
 three_told {A} {x} {y} {z} {u} {v} {w} p q r = cc
@@ -133,3 +155,19 @@ three_told {A} {x} {y} {z} {u} {v} {w} p q r = cc
 pub three_small : (n x y z : ℕ) → x < n → y < n → z < n → All (λ v. v < n) (x ∷ y ∷ z ∷ [])
 three_small n x y z first second third =
     All-cons (λ (v : ℕ). v < n) x (y ∷ z ∷ []) first (All-cons (λ (v : ℕ). v < n) y (z ∷ []) second (All-cons (λ (v : ℕ). v < n) z [] third (All-nil (λ (v : ℕ). v < n))))
+
+-- one of three small numbers
+pub small_at : (n i : ℕ) (f : ℕ → ℕ) (xs : List ℕ) → xs ≡ three f → All (λ v. v < n) xs → i < 3 → f i < n
+small_at n i f xs is all inside = by_axis n f i inside (first 0 (omega arith)) (first 1 (omega arith)) (first 2 (omega arith))
+  where
+    three_all : All (λ v. v < n) (three f)
+    three_all = subst (λ (ys : List ℕ). All (λ v. v < n) ys) is all
+
+    first : (k : ℕ) → k < 3 → get_or (three f) k 0 < n
+    first k near = All-get_or (λ (v : ℕ). v < n) (three f) k 0 near three_all
+
+    by_axis : (n : ℕ) (f : ℕ → ℕ) (axis : ℕ) → axis < 3 → f 0 < n → f 1 < n → f 2 < n → f axis < n
+    by_axis n f zero near x y z = x
+    by_axis n f (suc zero) near x y z = y
+    by_axis n f (suc (suc zero)) near x y z = z
+    by_axis n f (suc (suc (suc k))) near x y z = absurd (omega arith)

@@ -33,7 +33,6 @@ pub fn jumps(t: &Traj) -> [Jump; 3]
         → AreSame (arrival t.now axis edge) (departure t.now axis edge) }
     ensures same { (axis edge : ℕ) → edge ≤ length t.now.segments → AreSame (arrival t.now axis edge) (departure t.now axis edge)
         → jump t.now axis edge ≡ 0 }
-    ensures small { (axis edge : ℕ) → axis ≤ 2 → edge ≤ length t.now.segments → jump t.now axis edge < 2 ^ 53 }
 {
     formed_law(t);
     let segments = t.segments.as_slice().len();

@@ -1,6 +1,7 @@
-use Rattle.std.proofs.Common.{◌≡◌, ℕ, arith, ap}
+use Rattle.std.proofs.Common.{◌≡◌, ℕ, ◌<◌, arith, ap, ◌∙◌, List, length}
+use Rattle.traj_codec.specs.declared.traj.Segment.{Segment}
 use Rattle.dynamics_bound.specs.declared.walk.Walk.{Walk}
-use Rattle.dynamics_bound.proofs.Walks.{jump-inside, jump-last, reached-lasts, three_small, three_told}
+use Rattle.dynamics_bound.proofs.Walks.{jump-inside, jump-last, reached-lasts, three_told}
 use Rattle.dynamics_bound.proofs.walk.Walk.jumps.Goals as goal
 
 pub stop-requires : goal.stop-requires
@@ -20,3 +21,19 @@ jump-requires-2-clause-arrived c = reached-lasts c.args.t.now 1 c.args.k c.args.
 
 pub jump-requires-3-clause-arrived : goal.jump-requires-3-clause-arrived
 jump-requires-3-clause-arrived c = reached-lasts c.args.t.now 2 c.args.k c.args.self.now.z (ap (λ (w : Walk). w.z) c.requires.here) c.requires.inside c.requires.lasting
+
+pub returns-then-k-segments-clause-exact : goal.returns-then-k-segments-clause-exact
+returns-then-k-segments-clause-exact c =
+    let last : c.args.k ≡ length c.args.t.now.segments = c.if-k-segments.true ∙ ap (λ (ss : List Segment). length ss) c.as_slice-segments.ensures in
+    three_told
+    (jump-last c.args.t.now 0 c.args.k c.args.self.now.x c.stop.result (ap (λ (w : Walk). w.x) c.requires.here) last c.stop.ensures.exact)
+    (jump-last c.args.t.now 1 c.args.k c.args.self.now.y c.stop-then-k-segments.result (ap (λ (w : Walk). w.y) c.requires.here) last c.stop-then-k-segments.ensures.exact)
+    (jump-last c.args.t.now 2 c.args.k c.args.self.now.z c.stop-then-k-segments-2.result (ap (λ (w : Walk). w.z) c.requires.here) last c.stop-then-k-segments-2.ensures.exact)
+
+pub returns-clause-exact : goal.returns-clause-exact
+returns-clause-exact c =
+    let inside : c.args.k < length c.args.t.now.segments = omega (arith, c.requires.inside, c.if-k-segments.false, ap (λ (ss : List Segment). length ss) c.as_slice-segments.ensures) in
+    three_told
+    (jump-inside c.args.t.now 0 c.args.k c.as_slice-segments.result.now _ c.args.self.now.x c.jump.result (ap (λ (w : Walk). w.x) c.requires.here) inside c.as_slice-segments.ensures c.jump.ensures.exact)
+    (jump-inside c.args.t.now 1 c.args.k c.as_slice-segments.result.now _ c.args.self.now.y c.jump-2.result (ap (λ (w : Walk). w.y) c.requires.here) inside c.as_slice-segments.ensures c.jump-2.ensures.exact)
+    (jump-inside c.args.t.now 2 c.args.k c.as_slice-segments.result.now _ c.args.self.now.z c.jump-3.result (ap (λ (w : Walk). w.z) c.requires.here) inside c.as_slice-segments.ensures c.jump-3.ensures.exact)

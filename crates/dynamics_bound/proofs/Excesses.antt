@@ -1,0 +1,105 @@
+-- The first excess, and that nothing exceeds a limit where there is none.
+use Rattle.std.proofs.Common.{◌≡◌, ℕ, zero, suc, ◌+◌, ◌≤◌, ◌<◌, Bool, nat_lt, true, false, cond, pos, arith, refl, sym, ◌∙◌, ap, Option, Some, None, IfSome, length}
+use Rattle.std.specs.Option.{option_or}
+use Rattle.std.proofs.lemmas.Bool.Decides.{nat_tests}
+use Rattle.fleet_math.proofs.BernsteinLemmas.{by_lt}
+use Rattle.traj_codec.specs.declared.traj.Traj.{Traj}
+use Rattle.speed_bound.proofs.Widths.{greatest-most}
+use Rattle.dynamics_bound.specs.declared.excess.Excess.{Excess}
+use Rattle.dynamics_bound.specs.declared.excess.Kind.{Kind}
+use Rattle.dynamics_bound.specs.declared.excess.Limits.{Limits}
+use Rattle.dynamics_bound.specs.Accelerations.{acceleration, acceleration_in}
+use Rattle.dynamics_bound.specs.Edges.{jump}
+use Rattle.dynamics_bound.specs.Excesses.{IsWithinLimits, above, excess_before, first_excess, jumps_at, sharp_at}
+
+-- what is found in a segment is the first, where nothing was found before
+pub found : (limits : Limits) (depth : ℕ) (t : Traj) (n k : ℕ) (e : Excess) → excess_before limits depth t k ≡ None →
+    option_or (sharp_at limits.acceleration depth t k) (jumps_at limits.jump t k) ≡ Some e → k < n → excess_before limits depth t n ≡ Some e
+found limits depth t zero k e none here inside = absurd (omega arith)
+found limits depth t (suc n) k e none here inside =
+    by_lt k n
+    (λ less. rw (found limits depth t n k e none here less) refl)
+    (λ more. let same : n ≡ k = omega (arith, inside, more) in rw (same, none) here)
+
+pub found_first : (limits : Limits) (depth : ℕ) (t : Traj) (k : ℕ) (e : Excess) → excess_before limits depth t k ≡ None →
+    option_or (sharp_at limits.acceleration depth t k) (jumps_at limits.jump t k) ≡ Some e → k < length t.segments → Some e ≡ first_excess limits depth t
+found_first limits depth t k e none here inside = rw (found limits depth t (length t.segments) k e none here inside) refl
+
+pub found_last : (limits : Limits) (depth : ℕ) (t : Traj) (k : ℕ) (o : Option Excess) → excess_before limits depth t k ≡ None → k ≡ length t.segments →
+    o ≡ jumps_at limits.jump t (length t.segments) → o ≡ first_excess limits depth t
+found_last limits depth t k o none last is =
+    let whole : excess_before limits depth t (length t.segments) ≡ None = rw (← last) none in
+    rw whole is
+
+-- of two the first or the second
+pub by_first : (a b : Option Excess) (e : Excess) → a ≡ Some e → option_or a b ≡ Some e
+by_first a b e is = rw is refl
+
+pub by_second : (a b : Option Excess) (e : Excess) → a ≡ None → b ≡ Some e → option_or a b ≡ Some e
+by_second a b e none is = rw none is
+
+-- one segment more with nothing
+pub none_more : (limits : Limits) (depth : ℕ) (t : Traj) (k : ℕ) → excess_before limits depth t k ≡ None → sharp_at limits.acceleration depth t k ≡ None → jumps_at limits.jump t k ≡ None →
+    excess_before limits depth t (k + 1) ≡ None
+none_more limits depth t k before sharp jumps =
+    let up : k + 1 ≡ suc k = omega arith in
+    rw (up, before, sharp) jumps
+
+-- ---- nothing is above a limit
+neither : {X : Type 0} (a b : Option X) → option_or a b ≡ None → (a ≡ None) × (b ≡ None)
+neither None b none = (refl, none)
+neither (Some x) b none = absurd (cc)
+
+none_before : (limits : Limits) (depth : ℕ) (t : Traj) (n k : ℕ) → excess_before limits depth t n ≡ None → k < n → (sharp_at limits.acceleration depth t k ≡ None) × (jumps_at limits.jump t k ≡ None)
+none_before limits depth t zero k none inside = absurd (omega arith)
+none_before limits depth t (suc n) k none inside =
+    let both = neither (excess_before limits depth t n) (option_or (sharp_at limits.acceleration depth t n) (jumps_at limits.jump t n)) none in
+    by_lt k n
+    (λ less. none_before limits depth t n k both.0 less)
+    (λ more. let same : k ≡ n = omega (arith, inside, more) in rw same (neither (sharp_at limits.acceleration depth t n) (jumps_at limits.jump t n) both.1))
+
+none_above : (kind : Kind) (limit segment : ℕ) (f : ℕ → ℕ) → above kind (Some limit) segment f ≡ None → (axis : ℕ) → axis ≤ 2 → f axis ≤ limit
+none_above kind limit segment f none =
+    go (nat_lt limit (f 0)) refl (nat_lt limit (f 1)) refl (nat_lt limit (f 2)) refl none
+  where
+    excess : ℕ → Excess
+    excess axis = record { kind = kind; segment = segment; axis = axis; value = pos (f axis) }
+
+    by_axis : f 0 ≤ limit → f 1 ≤ limit → f 2 ≤ limit → (axis : ℕ) → axis ≤ 2 → f axis ≤ limit
+    by_axis x y z zero near = x
+    by_axis x y z (suc zero) near = y
+    by_axis x y z (suc (suc zero)) near = z
+    by_axis x y z (suc (suc (suc k))) near = absurd (omega arith)
+
+    below : (m n : ℕ) → nat_lt m n ≡ false → n ≤ m
+    below m n p = grind (arith, nat_tests)
+
+    go : (a : Bool) → nat_lt limit (f 0) ≡ a → (b : Bool) → nat_lt limit (f 1) ≡ b → (c : Bool) → nat_lt limit (f 2) ≡ c →
+        cond a (Some (excess 0)) (cond b (Some (excess 1)) (cond c (Some (excess 2)) None)) ≡ None → (axis : ℕ) → axis ≤ 2 → f axis ≤ limit
+    go true p b q c r none = absurd (cc)
+    go false p true q c r none = absurd (cc)
+    go false p false q true r none = absurd (cc)
+    go false p false q false r none = by_axis (below limit (f 0) p) (below limit (f 1) q) (below limit (f 2) r)
+
+sharp_within : (depth : ℕ) (t : Traj) (limit : Option ℕ) → ((k : ℕ) → k < length t.segments → sharp_at limit depth t k ≡ None) →
+    IfSome limit (λ most. (axis : ℕ) → axis ≤ 2 → acceleration depth t axis ≤ most)
+unfolding acceleration
+sharp_within depth t None none = tt
+sharp_within depth t (Some most) none =
+    λ axis near. greatest-most (length t.segments) (acceleration_in depth t axis) most (λ k inside. none_above _ most k (λ axis. acceleration_in depth t axis k) (none k inside) axis near)
+
+jumps_within : (t : Traj) (limit : Option ℕ) → ((k : ℕ) → k ≤ length t.segments → jumps_at limit t k ≡ None) →
+    IfSome limit (λ most. (axis edge : ℕ) → axis ≤ 2 → edge ≤ length t.segments → jump t axis edge ≤ most)
+jumps_within t None none = tt
+jumps_within t (Some most) none = λ axis edge near inside. none_above _ most edge (λ axis. jump t axis edge) (none edge inside) axis near
+
+-- Where there is no first excess, all is within the limits.
+pub none_within : (limits : Limits) (depth : ℕ) (t : Traj) → first_excess limits depth t ≡ None → IsWithinLimits limits depth t
+none_within limits depth t none =
+    let both = neither (excess_before limits depth t (length t.segments)) (jumps_at limits.jump t (length t.segments)) none in
+    record {
+      acceleration = sharp_within depth t limits.acceleration (λ k inside. (none_before limits depth t (length t.segments) k both.0 inside).0);
+      jumps = jumps_within t limits.jump (λ k inside. by_lt k (length t.segments)
+          (λ less. (none_before limits depth t (length t.segments) k both.0 less).1)
+          (λ more. let same : k ≡ length t.segments = omega (arith, inside, more) in rw same both.1));
+    }

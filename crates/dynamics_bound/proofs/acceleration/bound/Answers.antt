@@ -1,0 +1,40 @@
+use Rattle.std.proofs.Common.{◌≡◌, ℕ, ◌^◌, ◌<◌, ◌≤◌, ℤ, pos, arith, ◌∙◌, ap, List, length, get_or, All, to_z}
+use Rattle.std.proofs.lemmas.Int.{to_z_pos}
+use mir.Syntax.{w64}
+use Rattle.traj_codec.specs.declared.traj.Segment.{Segment}
+use Rattle.traj_codec.specs.declared.traj.Traj.{Traj}
+use Rattle.speed_bound.proofs.Rests.{pieces_formed}
+use Rattle.dynamics_bound.specs.Accelerations.{acceleration}
+use Rattle.dynamics_bound.specs.Steps.{three}
+use Rattle.dynamics_bound.proofs.Segments.{keeps_acceleration}
+use Rattle.dynamics_bound.proofs.Walks.{all_segments, one_more, small_at, three_told}
+use Rattle.dynamics_bound.proofs.acceleration.bound.Goals as goal
+
+pub loop-k-preserved : goal.loop-k-preserved
+loop-k-preserved c = record {
+  walk = c.next-walk.ensures;
+  most = one_more c.args.depth c.loop-k.k c.args.t.now c.loop-k.most c.accelerations-most.result c.loop-k.invariant.most c.accelerations-most.ensures.exact;
+  small = c.accelerations-most.ensures.small;
+}
+
+told : (n m : ℕ) → n ≡ m → m < 2 ^ 53 → to_z w64 n ≡ pos m
+told n m is small = to_z_pos w64 n (omega (arith, is, small)) ∙ ap (λ (k : ℕ). pos k) is
+
+pub returns-clause-exact : goal.returns-clause-exact
+returns-clause-exact c =
+    let last : c.loop-k.k ≡ length c.args.t.now.segments = omega (arith, ap (λ (ss : List Segment). length ss) c.as_slice-k-end.ensures) in
+    let whole : c.loop-k.most ≡ three (acceleration c.args.depth c.args.t.now) = all_segments c.args.depth c.loop-k.k c.args.t.now c.loop-k.most c.loop-k.invariant.most last in
+    three_told
+    (told _ (acceleration c.args.depth c.args.t.now 0) (ap (λ (ms : List ℕ). get_or ms 0 0) whole) (small_at (2 ^ 53) 0 (acceleration c.args.depth c.args.t.now) c.loop-k.most whole c.loop-k.invariant.small (omega arith)))
+    (told _ (acceleration c.args.depth c.args.t.now 1) (ap (λ (ms : List ℕ). get_or ms 1 0) whole) (small_at (2 ^ 53) 1 (acceleration c.args.depth c.args.t.now) c.loop-k.most whole c.loop-k.invariant.small (omega arith)))
+    (told _ (acceleration c.args.depth c.args.t.now 2) (ap (λ (ms : List ℕ). get_or ms 2 0) whole) (small_at (2 ^ 53) 2 (acceleration c.args.depth c.args.t.now) c.loop-k.most whole c.loop-k.invariant.small (omega arith)))
+
+pub returns-clause-keeps : goal.returns-clause-keeps
+returns-clause-keeps c axis near =
+    keeps_acceleration c.args.depth axis c.args.t.now (pieces_formed axis c.args.t.now.segments near c.requires.lasting c.formed_law.ensures)
+
+pub returns-clause-small : goal.returns-clause-small
+returns-clause-small c axis near =
+    let last : c.loop-k.k ≡ length c.args.t.now.segments = omega (arith, ap (λ (ss : List Segment). length ss) c.as_slice-k-end.ensures) in
+    small_at (2 ^ 53) axis (acceleration c.args.depth c.args.t.now) c.loop-k.most
+    (all_segments c.args.depth c.loop-k.k c.args.t.now c.loop-k.most c.loop-k.invariant.most last) c.loop-k.invariant.small (omega arith)

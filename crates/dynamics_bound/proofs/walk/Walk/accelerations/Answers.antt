@@ -1,0 +1,28 @@
+use Rattle.std.proofs.Common.{◌≡◌, ◌^◌, ap, rules, List, [], ◌∷◌, get_or, FitsSigned}
+use Rattle.std.proofs.lemmas.Int.{to_z-of_z}
+use mir.Syntax.{w16}
+use Rattle.bezier_core.specs.declared.Bez.{Bez}
+use Rattle.traj_codec.specs.Positions.{element_on}
+use Rattle.fleet_curves.specs.Raised.{raised_element}
+use Rattle.dynamics_bound.specs.declared.walk.Walk.{Walk}
+use Rattle.dynamics_bound.proofs.Walks.{acceleration-at, three_small, three_told}
+use Rattle.dynamics_bound.proofs.walk.Walk.accelerations.Goals as goal
+
+pub returns-clause-exact : goal.returns-clause-exact
+returns-clause-exact c =
+    let x_fits : FitsSigned w16 c.args.self.now.x.value = search rules in
+    let y_fits : FitsSigned w16 c.args.self.now.y.value = search rules in
+    let z_fits : FitsSigned w16 c.args.self.now.z.value = search rules in
+    let curves : c.raised_segment-curves.result ≡ raised_element c.args.self.now.x.value (element_on (get_or c.as_slice.result.now c.args.k _) 0)
+        ∷ raised_element c.args.self.now.y.value (element_on (get_or c.as_slice.result.now c.args.k _) 1)
+        ∷ raised_element c.args.self.now.z.value (element_on (get_or c.as_slice.result.now c.args.k _) 2) ∷ [] = simp to_z-of_z at c.raised_segment-curves.ensures.exact in
+    three_told
+    (acceleration-at c.args.depth 0 c.args.k c.args.t.now c.as_slice.result.now _ c.raised_segment-curves.result c.args.self.now.x _ c.segment_above.result (ap (λ (w : Walk). w.x) c.requires.here) c.requires.inside c.as_slice.ensures
+    (ap (λ (cs : List (Bez 8)). (get_or cs 0 (record { b = [] })).b) curves) c.segment_above.ensures.exact)
+    (acceleration-at c.args.depth 1 c.args.k c.args.t.now c.as_slice.result.now _ c.raised_segment-curves.result c.args.self.now.y _ c.segment_above-2.result (ap (λ (w : Walk). w.y) c.requires.here) c.requires.inside c.as_slice.ensures
+    (ap (λ (cs : List (Bez 8)). (get_or cs 1 (record { b = [] })).b) curves) c.segment_above-2.ensures.exact)
+    (acceleration-at c.args.depth 2 c.args.k c.args.t.now c.as_slice.result.now _ c.raised_segment-curves.result c.args.self.now.z _ c.segment_above-3.result (ap (λ (w : Walk). w.z) c.requires.here) c.requires.inside c.as_slice.ensures
+    (ap (λ (cs : List (Bez 8)). (get_or cs 2 (record { b = [] })).b) curves) c.segment_above-3.ensures.exact)
+
+pub returns-clause-small : goal.returns-clause-small
+returns-clause-small c = three_small (2 ^ 53) c.segment_above.result c.segment_above-2.result c.segment_above-3.result c.segment_above.ensures.small c.segment_above-2.ensures.small c.segment_above-3.ensures.small
