@@ -26,10 +26,13 @@ loop-k-preserved c =
       most = c.greater-most.ensures c.args.t.now c.loop-k.invariant.most c.jumps.ensures.exact ∙ ap (λ (k : ℕ). greatest_before c.args.t.now k) up;
     }
 
+abbrev three_of : Greatest → List Jump
+three_of m = m.x ∷ m.y ∷ m.z ∷ []
+
 -- the greatest of all edges
 all_edges : (t : Traj) (n : ℕ) (most : Greatest) → n ≡ length t.segments → most ≡ greatest_before t (suc n) → ◌≡◌ {A = List Jump} (most.x ∷ most.y ∷ most.z ∷ []) (greatest_jump t 0 ∷ greatest_jump t 1 ∷ greatest_jump t 2 ∷ [])
 all_edges t n most last is =
-    ap (λ (m : Greatest). ◌∷◌ {A = Jump} m.x (m.y ∷ m.z ∷ [])) (is ∙ ap (λ (k : ℕ). greatest_before t (suc k)) last)
+    ap three_of (is ∙ ap (λ (k : ℕ). greatest_before t (suc k)) last)
 
 pub returns-clause-exact : goal.returns-clause-exact
 returns-clause-exact c =
