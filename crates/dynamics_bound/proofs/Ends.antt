@@ -18,7 +18,7 @@ use Rattle.speed_bound.proofs.Slopes.{steps, within_same}
 use Rattle.speed_bound.proofs.Speeds.{piece_value, power_low, within_cancel, within_wider}
 use Rattle.speed_bound.proofs.Widths.{greatest-at}
 use Rattle.dynamics_bound.specs.Accelerations.{widest_bend_part, segment_acceleration, acceleration_in, acceleration, after}
-use Rattle.dynamics_bound.specs.Edges.{KeepsTangents, HasVelocities, first_step, last_step}
+use Rattle.dynamics_bound.specs.Edges.{HasVelocities, first_step, last_step}
 use Rattle.dynamics_bound.proofs.Parts.{Departs, IsGentle, room_of, position, speed, gentle}
 use Rattle.dynamics_bound.proofs.Edges as ends
 use Rattle.dynamics_bound.proofs.Segments.{bends_at, fast_at, lasts, length-pieces}

@@ -1,5 +1,5 @@
 -- The first excess, and that nothing exceeds a limit where there is none.
-use Rattle.std.proofs.Common.{◌≡◌, ℕ, zero, suc, ◌+◌, ◌≤◌, ◌<◌, Bool, nat_lt, true, false, cond, pos, arith, refl, sym, ◌∙◌, ap, Option, Some, None, IfSome, length}
+use Rattle.std.proofs.Common.{◌≡◌, ℕ, zero, suc, ◌+◌, ◌≤◌, ◌<◌, Bool, nat_lt, true, false, cond, pos, arith, refl, Option, Some, None, IfSome, length}
 use Rattle.std.specs.Option.{option_or}
 use Rattle.std.proofs.lemmas.Bool.Decides.{nat_tests}
 use Rattle.fleet_math.proofs.BernsteinLemmas.{by_lt}

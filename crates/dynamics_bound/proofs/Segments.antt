@@ -1,19 +1,16 @@
 -- From the bends of the parts to the acceleration between each three instants of a segment.
-use Rattle.std.proofs.Common.{◌≡◌, ℕ, zero, suc, ◌*◌, ◌^◌, ◌≤◌, ◌<◌, ℤ, pos, ◌+ℤ◌, ◌-ℤ◌, ◌*ℤ◌, ◌≤ℤ◌, ◌<ℤ◌, neg_ℤ, unsigned_abs, arith, refl, sym, ◌∙◌, ap, List, [], ◌∷◌, length, map, get_or, All}
-use Rattle.std.proofs.lemmas.Int.{ints, by_lt_z}
+use Rattle.std.proofs.Common.{◌≡◌, ℕ, zero, suc, ◌*◌, ◌^◌, ◌≤◌, ◌<◌, ℤ, pos, ◌-ℤ◌, ◌*ℤ◌, ◌≤ℤ◌, ◌<ℤ◌, unsigned_abs, arith, refl, sym, ◌∙◌, ap, List, [], ◌∷◌, length, map, get_or, All}
+use Rattle.std.proofs.lemmas.Int.{ints}
 use Rattle.std.proofs.lemmas.Nat.{pow_pos, mul-le}
 use Rattle.std.proofs.lemmas.Grind.{div_ceil_times}
 use Rattle.std.proofs.lemmas.List.Elements.{All-head, All-tail}
 use Rattle.fleet_math.specs.Sums.{power}
 use Rattle.fleet_math.specs.Bernstein.{at, bernstein}
-use Rattle.fleet_math.specs.Decoded.{Piece, IsPiece, decoded}
-use Rattle.fleet_math.specs.Decoded as plain
-use Rattle.fleet_math.proofs.RingLemmas.{ring, linear, le_mul_ℤ, mul_add_ℤ, mul_assoc_ℤ, mul_comm_ℤ, mul_neg_ℤ, mul_not_negative, one_mul_ℤ}
-use Rattle.fleet_math.proofs.EdgeLemmas.{points-count}
+use Rattle.fleet_math.specs.Decoded.{IsPiece}
+use Rattle.fleet_math.proofs.RingLemmas.{ring, linear, le_mul_ℤ, mul_assoc_ℤ, mul_comm_ℤ, mul_not_negative}
 use Rattle.bezier_core.specs.Raised.{raised}
 use Rattle.bezier_core.specs.Steps.{IsWithin}
 use Rattle.bezier_core.proofs.BlendLemmas.{within_mul}
-use Rattle.bezier_core.proofs.CurveLemmas.{raise}
 use Rattle.halving.specs.Part.{part_value}
 use Rattle.traj_codec.specs.declared.traj.Segment.{Segment}
 use Rattle.traj_codec.specs.declared.traj.Traj.{Traj}

@@ -1,16 +1,13 @@
 -- How far a curve departs from its tangent: by the widest bend among its control values.
-use Rattle.std.proofs.Common.{◌≡◌, ℕ, zero, suc, ◌+◌, ◌≤◌, ℤ, pos, ◌+ℤ◌, ◌-ℤ◌, ◌*ℤ◌, ◌≤ℤ◌, neg_ℤ, arith, refl, sym, ◌∙◌, ap, zero-add}
+use Rattle.std.proofs.Common.{◌≡◌, ℕ, zero, suc, ◌+◌, ◌≤◌, ℤ, pos, ◌+ℤ◌, ◌-ℤ◌, ◌*ℤ◌, ◌≤ℤ◌, neg_ℤ, arith, refl, ◌∙◌, ap}
 use Rattle.std.proofs.lemmas.Int.{ints, by_lt_z}
 use Rattle.fleet_math.specs.Sums.{power}
 use Rattle.fleet_math.specs.Bernstein.{bernstein}
-use Rattle.fleet_math.proofs.RingLemmas.{ring, linear, le_mul_ℤ, mul_assoc_ℤ, one_mul_ℤ, zero_mul_ℤ, mul_comm_ℤ, neg_mul_ℤ}
-use Rattle.fleet_math.proofs.SumLemmas.{power-add}
-use Rattle.fleet_math.proofs.BernsteinLemmas.{bernstein-zero, bernstein-same}
+use Rattle.fleet_math.proofs.RingLemmas.{ring, linear, le_mul_ℤ, zero_mul_ℤ, mul_comm_ℤ, neg_mul_ℤ}
 use Rattle.bezier_core.specs.Steps.{IsWithin}
 use Rattle.bezier_core.proofs.BlendLemmas.{within_mul, bound_positive}
 use Rattle.halving.specs.Part.{polar}
-use Rattle.halving.proofs.HalfLemmas.{bernstein-within}
-use Rattle.halving.proofs.PolarLemmas.{step, polar-same, polar-suc_first, polar-suc_second, polar-mix, polar-first}
+use Rattle.halving.proofs.PolarLemmas.{polar-first}
 use Rattle.speed_bound.proofs.Slopes.{steps, count_more, exchange, none_left, polar-second, polar-within, regroup_sum, within_add, within_same}
 use Rattle.dynamics_bound.specs.Accelerations.{bend}
 

@@ -1,5 +1,5 @@
 -- Velocities: the steps of elements, and how much two velocities differ.
-use Rattle.std.proofs.Common.{◌≡◌, ℕ, suc, ◌+◌, ◌-◌, ◌*◌, ◌^◌, ◌≤◌, ◌<◌, ℤ, pos, ◌-ℤ◌, ◌*ℤ◌, unsigned_abs, arith, refl, sym, ◌∙◌, ap, List, ◌∷◌, length, FitsSigned, to_z, of_z}
+use Rattle.std.proofs.Common.{◌≡◌, ℕ, suc, ◌+◌, ◌-◌, ◌*◌, ◌^◌, ◌≤◌, ◌<◌, ℤ, pos, ◌-ℤ◌, ◌*ℤ◌, unsigned_abs, arith, sym, ◌∙◌, ap, List, ◌∷◌, length, FitsSigned, to_z, of_z}
 use Rattle.std.specs.Int.{div_ceil}
 use Rattle.std.proofs.lemmas.Int.{ints, to_z-of_z}
 use mir.Syntax.{w32}

@@ -1,5 +1,5 @@
 -- The widest bends of the parts of a curve, and the widths of what is computed from them.
-use Rattle.std.proofs.Common.{◌≡◌, ℕ, zero, suc, ◌+◌, ◌-◌, ◌*◌, ◌^◌, ◌/◌, ◌≤◌, ◌<◌, max, ℤ, pos, ◌-ℤ◌, ◌*ℤ◌, unsigned_abs, arith, lit<, refl, sym, ◌∙◌, ap}
+use Rattle.std.proofs.Common.{◌≡◌, ℕ, zero, suc, ◌+◌, ◌-◌, ◌*◌, ◌^◌, ◌≤◌, ◌<◌, max, ℤ, pos, ◌-ℤ◌, ◌*ℤ◌, unsigned_abs, arith, lit<, refl, sym, ◌∙◌, ap}
 use Rattle.std.specs.Int.{div_ceil}
 use Rattle.std.proofs.lemmas.Int.{ints}
 use Rattle.std.proofs.lemmas.Nat.{pow-add, pow_pos, mul-le}
@@ -12,7 +12,7 @@ use Rattle.halving.proofs.PolarLemmas.{polar-same, part-whole}
 use Rattle.sep_parts.proofs.PartBounds.{part-half}
 use Rattle.speed_bound.specs.Speed.{greatest_below}
 use Rattle.speed_bound.proofs.Widths.{greatest-same, greatest-at, greatest-most, greatest-split}
-use Rattle.dynamics_bound.specs.Accelerations.{bend, widest_bend, widest_bend_part, acceleration_of, segment_acceleration}
+use Rattle.dynamics_bound.specs.Accelerations.{bend, widest_bend, widest_bend_part, acceleration_of}
 use Rattle.dynamics_bound.proofs.Shrinks.{bend_shrinks}
 
 -- ---- the parts of a half are parts of the whole

@@ -6,8 +6,8 @@ ghost use Rattle.fleet_math.specs.Bernstein.{at};
 ghost use Rattle.traj_codec.specs.Spelling.{HasDuration};
 ghost use Rattle.dynamics_bound.specs.Accelerations.{KeepsAcceleration, acceleration, acceleration_of, segment_acceleration};
 
-use crate::formed::formed_law;
 use crate::bends::widest_above;
+use crate::formed::formed_law;
 use crate::walk::Walk;
 use bezier_core::Bez;
 use traj_codec::Traj;

@@ -68,7 +68,12 @@ fn sharp_at(walk: &Walk, t: &Traj, k: usize, limit: Option<u64>, depth: u8) -> O
     ensures { result ≡ sharp_at limit depth t.now k }
 {
     let most = limit?;
-    above(Kind::Acceleration, most, k, walk.accelerations(t, k, depth, &[0; 3]))
+    above(
+        Kind::Acceleration,
+        most,
+        k,
+        walk.accelerations(t, k, depth, &[0; 3]),
+    )
 }
 
 // The first jump at an edge that is above the limit.

@@ -1,8 +1,7 @@
-use Rattle.std.proofs.Common.{◌≡◌, ℕ, ◌^◌, ◌<◌, ◌≤◌, ℤ, pos, arith, ◌∙◌, ap, List, length, get_or, All, to_z}
+use Rattle.std.proofs.Common.{◌≡◌, ℕ, ◌^◌, ◌<◌, pos, arith, ◌∙◌, ap, List, length, get_or, to_z}
 use Rattle.std.proofs.lemmas.Int.{to_z_pos}
 use mir.Syntax.{w64}
 use Rattle.traj_codec.specs.declared.traj.Segment.{Segment}
-use Rattle.traj_codec.specs.declared.traj.Traj.{Traj}
 use Rattle.speed_bound.proofs.Rests.{pieces_formed}
 use Rattle.dynamics_bound.specs.Accelerations.{acceleration}
 use Rattle.dynamics_bound.specs.Steps.{three}

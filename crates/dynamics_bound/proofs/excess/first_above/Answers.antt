@@ -1,4 +1,4 @@
-use Rattle.std.proofs.Common.{◌≡◌, ℕ, ◌<◌, sym, arith, ◌∙◌, ap, subst, Option, Some, None, IfNone, List, length}
+use Rattle.std.proofs.Common.{◌≡◌, ℕ, ◌<◌, sym, arith, ◌∙◌, ap, Option, Some, None, IfNone, List, length}
 use Rattle.traj_codec.specs.declared.traj.Segment.{Segment}
 use Rattle.traj_codec.specs.declared.traj.Traj.{Traj}
 use Rattle.dynamics_bound.specs.declared.excess.Excess.{Excess}

@@ -1,4 +1,4 @@
-use Rattle.std.proofs.Common.{◌≡◌, ℤ, ◌-ℤ◌, rules, sym, ◌∙◌, ap, ◌∷◌, length, FitsSigned}
+use Rattle.std.proofs.Common.{◌≡◌, ◌-ℤ◌, rules, sym, ◌∙◌, ap, ◌∷◌, length, FitsSigned}
 use Rattle.std.proofs.lemmas.Int.{to_z-of_z}
 use mir.Syntax.{w16}
 use Rattle.fleet_math.specs.Bernstein.{at}

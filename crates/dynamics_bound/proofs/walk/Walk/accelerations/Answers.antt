@@ -14,8 +14,8 @@ returns-clause-exact c =
     let y_fits : FitsSigned w16 c.args.self.now.y.value = search rules in
     let z_fits : FitsSigned w16 c.args.self.now.z.value = search rules in
     let curves : c.raised_segment-curves.result ≡ raised_element c.args.self.now.x.value (element_on (get_or c.as_slice.result.now c.args.k _) 0)
-        ∷ raised_element c.args.self.now.y.value (element_on (get_or c.as_slice.result.now c.args.k _) 1)
-        ∷ raised_element c.args.self.now.z.value (element_on (get_or c.as_slice.result.now c.args.k _) 2) ∷ [] = simp to_z-of_z at c.raised_segment-curves.ensures.exact in
+    ∷ raised_element c.args.self.now.y.value (element_on (get_or c.as_slice.result.now c.args.k _) 1)
+    ∷ raised_element c.args.self.now.z.value (element_on (get_or c.as_slice.result.now c.args.k _) 2) ∷ [] = simp to_z-of_z at c.raised_segment-curves.ensures.exact in
     three_told
     (acceleration-at c.args.depth 0 c.args.k c.args.t.now c.as_slice.result.now _ c.raised_segment-curves.result c.args.self.now.x _ c.segment_above.result (ap (λ (w : Walk). w.x) c.requires.here) c.requires.inside c.as_slice.ensures
     (ap (λ (cs : List (Bez 8)). (get_or cs 0 (record { b = [] })).b) curves) c.segment_above.ensures.exact)
