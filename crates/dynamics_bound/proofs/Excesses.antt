@@ -1,5 +1,5 @@
 -- The first excess, and that nothing exceeds a limit where there is none.
-use Rattle.std.proofs.Common.{◌≡◌, ℕ, zero, suc, ◌+◌, ◌≤◌, ◌<◌, Bool, nat_lt, true, false, cond, pos, arith, refl, Option, Some, None, IfSome, length}
+use Rattle.std.proofs.Common.{◌≡◌, ℕ, zero, suc, ◌+◌, ◌≤◌, ◌<◌, max, Bool, nat_lt, true, false, cond, pos, arith, refl, ◌∙◌, ap, Option, Some, None, IfSome, length}
 use Rattle.std.specs.Option.{option_or}
 use Rattle.std.proofs.lemmas.Bool.Decides.{nat_tests}
 use Rattle.fleet_math.proofs.BernsteinLemmas.{by_lt}
@@ -44,6 +44,30 @@ pub none_more : (limits : Limits) (depth : ℕ) (t : Traj) (k : ℕ) → excess_
 none_more limits depth t k before sharp jumps =
     let up : k + 1 ≡ suc k = omega arith in
     rw (up, before, sharp) jumps
+
+-- ---- numbers that are taken no less than a limit
+above_one : {X : Type 0} (most least a : ℕ) (x : ℕ → X) (y : X) → least ≤ most → cond (nat_lt most (max least a)) (x (max least a)) y ≡ cond (nat_lt most a) (x a) y
+above_one {X} most least a x y less = by_lt most a
+    (λ more.
+    let first : nat_lt most (max least a) ≡ true = grind (arith, nat_tests) in
+    let second : nat_lt most a ≡ true = grind (arith, nat_tests) in
+    let same : max least a ≡ a = omega arith in
+    rw (first, second, same) refl)
+    (λ no_more.
+    let first : nat_lt most (max least a) ≡ false = grind (arith, nat_tests) in
+    let second : nat_lt most a ≡ false = grind (arith, nat_tests) in
+    rw (first, second) refl)
+
+-- The same is above a limit where each number is taken no less than one that is not above it.
+pub above_least : (what : Kind) (most least segment : ℕ) (f : ℕ → ℕ) → least ≤ most → above what (Some most) segment (λ axis. max least (f axis)) ≡ above what (Some most) segment f
+above_least what most least segment f less =
+    above_one most least (f 0) (excess 0) _ less
+    ∙ ap (cond (nat_lt most (f 0)) (excess 0 (f 0)))
+    (above_one most least (f 1) (excess 1) _ less
+    ∙ ap (cond (nat_lt most (f 1)) (excess 1 (f 1))) (above_one most least (f 2) (excess 2) None less))
+  where
+    excess : ℕ → ℕ → Option Excess
+    excess axis v = Some (record { kind = what; segment = segment; axis = axis; value = pos v })
 
 -- ---- nothing is above a limit
 neither : {X : Type 0} (a b : Option X) → option_or a b ≡ None → (a ≡ None) × (b ≡ None)

@@ -8,6 +8,9 @@ ghost use Rattle.dynamics_bound.specs.Steps.{three, walk_at};
 use crate::walk::Walk;
 use traj_codec::Traj;
 
+/// No acceleration is above this.
+const MOST: u64 = 9_007_199_254_740_991;
+
 /// What must not be exceeded. Where there is no limit, nothing exceeds it.
 #[derive(Clone, Copy)]
 pub struct Limits {
@@ -59,7 +62,7 @@ pub fn first_above(t: &Traj, limits: Limits, depth: u8) -> Option<Excess>
     jumps_at(&walk, t, segments, limits.jump)
 }
 
-// The first acceleration in a segment that is above the limit.
+// The first acceleration in a segment that is above the limit. Parts that are not above it aren't halved.
 fn sharp_at(walk: &Walk, t: &Traj, k: usize, limit: Option<u64>, depth: u8) -> Option<Excess>
     requires here { walk.now ≡ walk_at t.now k }
     requires inside { k < length t.now.segments }
@@ -68,12 +71,8 @@ fn sharp_at(walk: &Walk, t: &Traj, k: usize, limit: Option<u64>, depth: u8) -> O
     ensures { result ≡ sharp_at limit depth t.now k }
 {
     let most = limit?;
-    above(
-        Kind::Acceleration,
-        most,
-        k,
-        walk.accelerations(t, k, depth, &[0; 3]),
-    )
+    let values = walk.accelerations(t, k, depth, &[most.min(MOST); 3]);
+    above(Kind::Acceleration, most, k, values)
 }
 
 // The first jump at an edge that is above the limit.
