@@ -105,7 +105,7 @@ pub fn run<S: Source, K: Sink>(
         → KeepsSpeeds limit depth input (K.written sink.old) (K.written sink.new) }
     ensures touches { (depth fine : ℕ) (input : List ℕ) → command_in words.now.items ≡ Some (Command.Explain depth fine) → S.left source.old ≡ Some input → result ≡ 0
         → TellsTouches depth fine input (K.written sink.old) (K.written sink.new) }
-    ensures dynamics { (depth : ℕ) (accel jump : Option ℕ) (input : List ℕ) → command_in words.now.items ≡ Some (Command.Dynamics depth accel jump) → S.left source.old ≡ Some input → result ≡ 0
+    ensures motions { (depth : ℕ) (accel jump : Option ℕ) (input : List ℕ) → command_in words.now.items ≡ Some (Command.Dynamics depth accel jump) → S.left source.old ≡ Some input → result ≡ 0
         → KeepsDynamics depth accel jump input (K.written sink.old) (K.written sink.new) }
 
     // When an upload with read-back is done, each byte of each load was right when it was read, whoever else alters a byte; no start was

@@ -59,8 +59,8 @@ returns-in-Some-clause-touches g c = λ depth fine input is left done.
     let behaves = behaves_as c.in-Some.command (Explain depth fine) _ _ (one_command _ c.in-Some.command (Explain depth fine) (sym c.command_of.ensures.value ∙ c.in-Some.is) is) c.run_command.ensures in
     rw left at (behaves.headline done)
 
-pub returns-in-Some-clause-dynamics : goal.returns-in-Some-clause-dynamics
-returns-in-Some-clause-dynamics g c = λ depth accel jump input is left done.
+pub returns-in-Some-clause-motions : goal.returns-in-Some-clause-motions
+returns-in-Some-clause-motions g c = λ depth accel jump input is left done.
     let behaves = behaves_as c.in-Some.command (Dynamics depth accel jump) _ _
     (one_command _ c.in-Some.command (Dynamics depth accel jump) (sym c.command_of.ensures.value ∙ c.in-Some.is) is) c.run_command.ensures in
     rw left at (behaves.headline done)
