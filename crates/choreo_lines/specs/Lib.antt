@@ -1,5 +1,6 @@
 pub mod Name
 pub mod FirstWord
-pub mod Says
 pub mod Table
-pub mod Entry
+pub mod Fields
+pub mod Says
+pub mod Steps

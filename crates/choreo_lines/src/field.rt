@@ -1,11 +1,13 @@
-//! The fields of a line: names, numbers and points.
+//! What stands in a place of a line: names, numbers and fixed words.
 
 ghost use Rattle.std.specs.Prelude.{◌≡◌, ◌<◌, ◌≤◌, ◌≤ℤ◌, ◌<ℤ◌, pos, neg_ℤ, length, IfOk};
 ghost use Rattle.text_lines.specs.Tokens.{words_in};
-ghost use Rattle.choreo_lines.specs.Entry.{number_in, natural_in, coordinate_in, yaw_in, name_in, point_in, word};
+ghost use Rattle.choreo_lines.specs.Table.{word};
+ghost use Rattle.choreo_lines.specs.Fields as spec;
 
 use crate::line::LineKind;
-use crate::parts::{Name, Point};
+use crate::parts::{Mirror, Name};
+use crate::table::{Value, Want};
 use crate::word::is_name;
 use arrayvec::ArrayVec;
 use text_lines::{LARGE, NumberFault, Token, word_at};
@@ -14,7 +16,7 @@ use text_lines::{LARGE, NumberFault, Token, word_at};
 pub fn number(word: &[u8], low: i64, high: i64) -> Result<i64, LineKind>
     requires low { neg_ℤ (pos LARGE) <ℤ low }
     requires high { high <ℤ pos LARGE }
-    ensures value { result ≡ number_in low high word.now }
+    ensures value { result ≡ spec.number_in low high word.now }
     ensures within { IfOk result (λ v. (low ≤ℤ v) × (v ≤ℤ high)) }
 {
     match text_lines::number_in(word, low, high) {
@@ -22,41 +24,6 @@ pub fn number(word: &[u8], low: i64, high: i64) -> Result<i64, LineKind>
         Err(NumberFault::NotANumber) => Err(LineKind::BadNumber),
         Err(NumberFault::OutOfRange) => Err(LineKind::Range),
     }
-}
-
-/// A number that isn't negative, in a range.
-pub fn natural_field(word: &[u8], low: u32, high: u32) -> Result<u32, LineKind>
-    requires { high ≤ 1000000000 }
-    ensures value { result ≡ natural_in low high word.now }
-    ensures within { IfOk result (λ n. (low ≤ n) × (n ≤ high)) }
-{
-    let value = number(word, low as i64, high as i64)?;
-    Ok(value as u32)
-}
-
-/// A coordinate in micrometres.
-pub fn coordinate(word: &[u8]) -> Result<i64, LineKind>
-    ensures { result ≡ coordinate_in word.now }
-{
-    number(word, -100_000_000, 100_000_000)
-}
-
-/// A yaw in tenths of a degree.
-pub fn yaw(word: &[u8]) -> Result<i64, LineKind>
-    ensures { result ≡ yaw_in word.now }
-{
-    number(word, -32_768, 32_767)
-}
-
-#[tactic(auto, unfolding(crate::specs::Entry::point_in))]
-pub fn point(x: &[u8], y: &[u8], z: &[u8], yaw_word: &[u8]) -> Result<Point, LineKind>
-    ensures { result ≡ point_in x.now y.now z.now yaw_word.now }
-{
-    let x = coordinate(x)?;
-    let y = coordinate(y)?;
-    let z = coordinate(z)?;
-    let yaw = yaw(yaw_word)?;
-    Ok(Point { x, y, z, yaw })
 }
 
 /// The name of these bytes, which are at most 16.
@@ -78,12 +45,63 @@ pub fn copy_of(name: &Name) -> Name
 
 /// The name that a word is.
 pub fn name(word: &[u8]) -> Result<Name, LineKind>
-    ensures { result ≡ name_in word.now }
+    ensures { result ≡ spec.name_in word.now }
 {
     if is_name(word) {
         Ok(name_kept(word))
     } else {
         Err(LineKind::BadName)
+    }
+}
+
+fn mirror(word: &[u8]) -> Result<Mirror, LineKind>
+    ensures { result ≡ spec.mirror_in word.now }
+{
+    if word == b"none".as_slice() {
+        Ok(Mirror::None)
+    } else if word == b"x".as_slice() {
+        Ok(Mirror::X)
+    } else if word == b"y".as_slice() {
+        Ok(Mirror::Y)
+    } else {
+        Err(LineKind::BadWord)
+    }
+}
+
+fn smooth(word: &[u8]) -> Result<bool, LineKind>
+    ensures { result ≡ spec.smooth_in word.now }
+{
+    if word == b"line".as_slice() {
+        Ok(false)
+    } else if word == b"move".as_slice() {
+        Ok(true)
+    } else {
+        Err(LineKind::BadWord)
+    }
+}
+
+fn ccw(word: &[u8]) -> Result<bool, LineKind>
+    ensures { result ≡ spec.ccw_in word.now }
+{
+    if word == b"ccw".as_slice() {
+        Ok(true)
+    } else if word == b"cw".as_slice() {
+        Ok(false)
+    } else {
+        Err(LineKind::BadWord)
+    }
+}
+
+/// What a word is in its place.
+pub fn value(want: Want, word: &[u8]) -> Result<Value, LineKind>
+    ensures { result ≡ spec.value_in want word.now }
+{
+    match want {
+        Want::Name => Ok(Value::Name(name(word)?)),
+        Want::Mirror => Ok(Value::Mirror(mirror(word)?)),
+        Want::Manner => Ok(Value::Smooth(smooth(word)?)),
+        Want::Sense => Ok(Value::Ccw(ccw(word)?)),
+        Want::Number { low, high } => { Ok(Value::Number(number(word, low as i64, high as i64)?)) }
     }
 }
 

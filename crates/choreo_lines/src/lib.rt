@@ -5,12 +5,12 @@
 //! on it, and puts the lines together to a show.
 #![tactic(auto)]
 
-mod act;
 mod entry;
 mod field;
 mod law;
 mod line;
 mod parts;
+mod table;
 mod word;
 
 pub use entry::entry_of;

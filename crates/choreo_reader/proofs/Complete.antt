@@ -11,7 +11,7 @@ use Rattle.choreo_lines.specs.Says.{may_say}
 use Rattle.choreo_reader.specs.Context.{Opening, OpenRepeat, OpenCue, fault_if, place_of, place_in, in_figure, repeats, is_empty_block}
 use Rattle.choreo_reader.specs.Reading.{Open, InFormation, InFigure, InRepeat, InCue, Built, Step, context_of, openings_of, outer_openings, add_block, with_block, close, build, line_step, lines_step, then_step, built_by, unless, entry_fault}
 use Rattle.choreo_reader.proofs.Blocks.{body_assoc, body_done}
-use Rattle.choreo_lines.proofs.Says.{says_entry}
+use Rattle.choreo_lines.proofs.Reading.{says_entry}
 use Rattle.choreo_lines.specs.declared.line.Place.TheVariants as place
 use Rattle.choreo_lines.specs.declared.line.Entry.{Entry}
 use Rattle.choreo_lines.specs.declared.line.Entry.TheVariants as entry

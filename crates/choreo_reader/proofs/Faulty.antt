@@ -7,17 +7,15 @@ use Rattle.choreo_lines.specs.FirstWord.{keyword_of}
 use Rattle.choreo_reader.specs.Plain as plain
 use Rattle.choreo_lines.specs.Name.{Name}
 use Rattle.choreo_reader.specs.Plain.{Body, PlainShow, has_block, ◌⨾◌}
-use Rattle.choreo_lines.specs.Says.{Says, may_say}
+use Rattle.choreo_lines.specs.Says.{IsFirst, Says, keyword_in, may_say}
 use Rattle.choreo_reader.specs.Text.{Fault, fault_at, forbidden}
 use Rattle.choreo_reader.specs.Context.{Context, open_fault, line_fault, Opened, OpenFormation, OpenFigure, OpenRepeat, OpenCue, this_or, fault_from, fault_of_lines, end_fault, either_fault, fault, is_header, place_of, place_in, opened_by, is_end, is_top, fill, opens, without_innermost, blocks_after, sets_memory, sets_trajectory, sets_ellipsoid, sets_stray, sets_late, context_after, first_word, in_figure}
-use Rattle.choreo_lines.specs.Table.{or_else, as_read, is_cue}
-use Rattle.choreo_lines.proofs.Judged.{err, err_is}
+use Rattle.choreo_lines.specs.Table.{word, as_read}
 use Rattle.choreo_lines.specs.declared.line.Place.{Place}
 use Rattle.choreo_reader.specs.Reading.{Open, InFormation, InFigure, InRepeat, InCue, Built, nothing, context_of, openings_of, outer_openings, is_any, add_block, close_innermost, build, built_by, unless, lines_step, then_step, finish, finish_with, read_lines, reading, unless_forbidden, entry_fault, fault_with}
-use Rattle.choreo_lines.specs.Entry.{entry_of}
+use Rattle.choreo_lines.specs.Fields.{entry_of, kind_of, or_else}
 use Rattle.choreo_reader.proofs.Complete.{TakesBlocks, with_open}
-use Rattle.choreo_lines.proofs.Says.{is_other, name_keyword}
-use Rattle.choreo_lines.proofs.SaysBack.{says_of, keyword_in}
+use Rattle.choreo_lines.proofs.Reading.{acted, is_other, name_keyword, name_read, read_as_name, says_of}
 use Rattle.choreo_reader.proofs.Sound.{InOrder, Holds, step_holds, at_start, IsOutside, top_is, not_in_repeat, not_in_cue, takes_is}
 use Rattle.choreo_lines.specs.declared.line.Keyword.{Keyword}
 use Rattle.choreo_lines.specs.declared.line.Keyword.TheVariants as first
@@ -31,26 +29,18 @@ use Rattle.choreo_reader.specs.declared.show.ActLine.{ActLine}
 -- The first word of a line, by what it says.
 
 -- a line of an entry begins with the entry's word
+first_said : (k : Keyword) (w : List ℕ) → IsFirst k w → (k ≡ first.Other → ⊥) → keyword_of w ≡ k
+first_said first.Other w f n = absurd (n refl)
+first_said k w f n = f
+
 word_said : (ws : List (List ℕ)) (e : Entry) → Says ws e → (keyword_in e ≡ first.Other → ⊥) → keyword_of (first_word ws) ≡ keyword_in e
-word_said ws (entry.Memory id offset) (i, o, e, a, b) n = ap (λ t. keyword_of (first_word t)) e
-word_said ws (entry.Trajectory id) (i, e, a) n = ap (λ t. keyword_of (first_word t)) e
-word_said ws (entry.Ellipsoid r h) (i, o, e, a, b) n = ap (λ t. keyword_of (first_word t)) e
-word_said ws (entry.Stray mm) (i, e, a) n = ap (λ t. keyword_of (first_word t)) e
-word_said ws (entry.Late ms) (i, e, a) n = ap (λ t. keyword_of (first_word t)) e
-word_said ws (entry.Drone name at) (w, point, e, a, b) n = ap (λ t. keyword_of (first_word t)) e
-word_said ws (entry.Formation name) (w, e, a) n = ap (λ t. keyword_of (first_word t)) e
-word_said ws (entry.At name at) (w, point, e, a, b) n = ap (λ t. keyword_of (first_word t)) e
-word_said ws (entry.Figure name roles) (w, rs, e, a, b, c, d) n = ap (λ t. keyword_of (first_word t)) e
-word_said ws (entry.Cue ms) (w, e, a) n = ap (λ t. keyword_of (first_word t)) e
-word_said ws (entry.Repeat times) (w, e, a) n = ap (λ t. keyword_of (first_word t)) e
-word_said ws (entry.Perform figure frame drones) (w, fs, ds, e, a, b, c, d, f) n = ap (λ t. keyword_of (first_word t)) e
-word_said ws (entry.Form formation smooth) (w, e, a) n = ap (λ t. keyword_of (first_word t)) e
-word_said ws (entry.One name act) h n = absurd (n refl)
-word_said ws entry.End e n = ap (λ t. keyword_of (first_word t)) e
+word_said ws e h n = first_said (keyword_in e) (word ws 0) h.0 n
 
 -- that of an act line is a name
 name_said : (ws : List (List ℕ)) (name : Name) (a : _) → Says ws (entry.One name a) → is_other (keyword_of (first_word ws)) ≡ true
-name_said ws name a (n, rest, e, nm, ac) = ap (λ t. is_other (keyword_of (first_word t))) e ∙ name_keyword n nm.1
+name_said ws name a h =
+    let line = acted ws (entry.One name a) h.1 in
+    name_keyword (word ws 0) (name_read (word ws 0) line.name line.named).0
 
 -- The open blocks after a line.
 
@@ -327,21 +317,6 @@ fault_step (Ok x) s l ls done h e ih =
     (λ n. ap (λ c. fault_from c ls) (context_turns l x s h.order b.0 b.1)
     ∙ ih (build s l.number x) (step_holds s (build s l.number x) l done h (ap (built_by s l.number) e ∙ ap (λ o. unless l.number o (build s l.number x)) n)))
 
--- in a cue the first word of an act line is read as a name
-read_as_name : (p : Place) (k : Keyword) → is_cue p ≡ true → is_other k ≡ true → as_read p k ≡ first.Other
-read_as_name place.InCue first.End c o = cc
-read_as_name place.InCue first.Form c o = cc
-read_as_name place.InCue k c o = refl
-read_as_name place.InFigureCue first.End c o = cc
-read_as_name place.InFigureCue k c o = refl
-read_as_name p k c o = cc
-
--- act lines stand in cues
-one_in_cue : (p : Place) (name : Name) (a : _) → may_say p (entry.One name a) ≡ true → is_cue p ≡ true
-one_in_cue place.InCue name a m = refl
-one_in_cue place.InFigureCue name a m = refl
-one_in_cue p name a m = cc
-
 open_word : (c : Context) (e : Entry) → open_fault c (keyword_in e) ≡ entry_fault c e
 open_word c (entry.Memory id offset) = refl
 open_word c e = refl
@@ -358,18 +333,16 @@ open_by p c e m = open_word c e
 
 -- what earlier lines leave open is a matter of the first word
 open_is : (c : Context) (ws : List (List ℕ)) (e : Entry) → Says ws e → may_say (place_of c.open_blocks) e ≡ true → open_fault c (as_read (place_of c.open_blocks) (keyword_of (first_word ws))) ≡ entry_fault c e
-open_is c ws (entry.One name a) (n, rest, is, named, does) m =
-    ap (λ w. open_fault c (as_read (place_of c.open_blocks) (keyword_of w))) (ap first_word is)
-    ∙ ap (open_fault c) (read_as_name (place_of c.open_blocks) (keyword_of n) (one_in_cue (place_of c.open_blocks) name a m) (name_keyword n named.1))
+open_is c ws (entry.One name a) h m = ap (open_fault c) (read_as_name (place_of c.open_blocks) (keyword_of (word ws 0)) m (name_said ws name a h))
 open_is c ws e h m = ap (λ k. open_fault c (as_read (place_of c.open_blocks) k)) (word_said ws e h (λ o. cc)) ∙ open_by (place_of c.open_blocks) c e m
 
 -- what is wrong with a line is what its reading finds, and then what is left open for what it says
 line_by : (c : Context) (l : Line) (r : Result Entry LineKind) → entry_of (place_of c.open_blocks) l.words ≡ r → line_fault c l ≡ fault_with c r
 line_by c l (Ok e) is =
     let b = says_of (place_of c.open_blocks) l.words e is in
-    ap (λ o. or_else o (open_fault c (as_read (place_of c.open_blocks) (keyword_of (first_word l.words))))) (sym (err_is (place_of c.open_blocks) l.words) ∙ ap err is)
+    ap (λ o. or_else o (open_fault c (as_read (place_of c.open_blocks) (keyword_of (first_word l.words))))) (ap kind_of is)
     ∙ open_is c l.words e b.0 b.1
-line_by c l (Err k) is = ap (λ o. or_else o (open_fault c (as_read (place_of c.open_blocks) (keyword_of (first_word l.words))))) (sym (err_is (place_of c.open_blocks) l.words) ∙ ap err is)
+line_by c l (Err k) is = ap (λ o. or_else o (open_fault c (as_read (place_of c.open_blocks) (keyword_of (first_word l.words))))) (ap kind_of is)
 
 fault_steps : (ls done : List Line) (s : Built) → Holds s done → fault_from (context_of s) ls ≡ fault_in (finish (lines_step s ls))
 fault_steps [] done s h = finished_fault s (end_fault (openings_of s.open_blocks))

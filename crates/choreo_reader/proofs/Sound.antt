@@ -15,11 +15,12 @@ use Rattle.choreo_lines.specs.Says.{Says, may_say}
 use Rattle.choreo_reader.specs.Text.{Fault, fault_at, forbidden}
 use Rattle.choreo_reader.specs.Context.{OpenRepeat, OpenCue, fault_if, is_header, end_fault, place_of, place_in, in_figure, repeats}
 use Rattle.choreo_reader.specs.Reading.{Open, InFormation, InFigure, InRepeat, InCue, Built, Step, nothing, context_of, openings_of, is_any, add_block, build, built_by, unless, built_show, line_step, lines_step, then_step, finish, finish_with, read_lines, reading, unless_forbidden, entry_fault}
-use Rattle.choreo_lines.specs.Entry.{entry_of, word}
+use Rattle.choreo_lines.specs.Table.{Word, word}
+use Rattle.choreo_lines.specs.Fields.{entry_of}
 use Rattle.choreo_reader.proofs.Blocks.{body_assoc, body_done}
 use Rattle.choreo_reader.proofs.Complete.{TakesBlocks, Kept, with_open, outer_figure, outer_repeats}
 use Rattle.choreo_reader.proofs.CompleteShow.{add_item}
-use Rattle.choreo_lines.proofs.SaysBack.{says_of, words2}
+use Rattle.choreo_lines.proofs.Reading.{says_of}
 use Rattle.choreo_lines.specs.declared.line.Place.TheVariants as place
 use Rattle.choreo_lines.specs.declared.line.Entry.{Entry}
 use Rattle.choreo_lines.specs.declared.line.Entry.TheVariants as entry
@@ -571,13 +572,19 @@ unforbidden_by : (o : Option Fault) (text : List ℕ) (show : PlainShow) → for
 unforbidden_by None text show e h = record { allowed = e; read = h }
 unforbidden_by (Some f) text show e h = cc
 
+two_words : (ws : List Word) → length ws ≡ 2 → ws ≡ word ws 0 ∷ word ws 1 ∷ []
+two_words [] h = absurd (omega arith)
+two_words (a ∷ []) h = absurd (omega arith)
+two_words (a ∷ b ∷ []) h = refl
+two_words (a ∷ b ∷ c ∷ ws) h = absurd (omega arith)
+
 header_words : (l : Line) → is_header l.words ≡ true → IsHeader l
 header_words l h =
     let p = and_parts (length l.words == 2 && bytes_eq (word l.words 0) (codes "choreo")) (bytes_eq (word l.words 1) (codes "1")) h in
     let q = and_parts (length l.words == 2) (bytes_eq (word l.words 0) (codes "choreo")) p.0 in
     let first = (bytes_eq-Decides (word l.words 0) (codes "choreo")).0 q.1 in
     let second = (bytes_eq-Decides (word l.words 1) (codes "1")).0 p.1 in
-    words2 l.words (eqb-true (length l.words) 2 q.0) ∙ ap (λ w. w ∷ word l.words 1 ∷ []) first ∙ ap (λ w. codes "choreo" ∷ w ∷ []) second
+    two_words l.words (eqb-true (length l.words) 2 q.0) ∙ ap (λ w. w ∷ word l.words 1 ∷ []) first ∙ ap (λ w. codes "choreo" ∷ w ∷ []) second
 
 -- what is read is what the text stands for
 pub sound : (text : List ℕ) (show : PlainShow) → reading text ≡ Ok show → StandsFor text show

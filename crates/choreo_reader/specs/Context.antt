@@ -4,7 +4,8 @@ use Rattle.text_lines.specs.Words.{Line}
 use Rattle.choreo_reader.specs.Plain.{most_nested}
 use Rattle.choreo_reader.specs.Text.{Fault, fault_at, show_lines, forbidden}
 use Rattle.choreo_lines.specs.FirstWord.{keyword_of}
-use Rattle.choreo_lines.specs.Table.{word, or_else, kind_in, as_read}
+use Rattle.choreo_lines.specs.Table.{word, as_read}
+use Rattle.choreo_lines.specs.Fields.{kind_in, or_else}
 use Rattle.choreo_lines.specs.declared.line.LineKind.{LineKind}
 use Rattle.choreo_lines.specs.declared.line.LineKind.TheVariants as kind
 use Rattle.choreo_lines.specs.declared.line.Keyword.{Keyword}
@@ -149,8 +150,7 @@ context_after_word c n keyword = record {
 
 -- the first word of a line
 abbrev pub first_word : List (List ℕ) → List ℕ
-first_word [] = []
-first_word (w ∷ ws) = w
+first_word ws = word ws 0
 
 -- the context after a line
 abbrev pub context_after : Context → Line → Context

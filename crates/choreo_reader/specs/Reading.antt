@@ -2,7 +2,7 @@
 use Rattle.std.specs.Prelude.{nat_le, ℕ, Bool, true, false, List, [], ◌∷◌, ◌++◌, Option, Some, None, Result, Ok, Err, if◌then◌else◌, unwrap_or, is_some}
 use Rattle.text_lines.specs.Words.{Line}
 use Rattle.choreo_reader.specs.Text.{show_lines}
-use Rattle.choreo_lines.specs.Entry.{entry_of}
+use Rattle.choreo_lines.specs.Fields.{entry_of}
 use Rattle.choreo_reader.specs.Plain as plain
 use Rattle.choreo_lines.specs.Name.{Name}
 use Rattle.choreo_reader.specs.Plain.{Body, PlainFigure, PlainShow, has_block, ◌⨾◌, most_nested}

@@ -1,8 +1,8 @@
 use Rattle.std.proofs.Common.{◌+◌, ◌≤◌, sym, ap, ◌∙◌, drop, length, arith, Ok}
 use Rattle.std.proofs.lemmas.Result.{err_from_is_err_and}
-use Rattle.choreo_lines.specs.Entry.{name_in, names_in}
+use Rattle.choreo_lines.specs.Fields.{name_in, names_in}
 use Rattle.text_lines.specs.Tokens.{words_in}
-use Rattle.choreo_lines.proofs.NameLists.{names_more, names_err, names_all, with_front}
+use Rattle.choreo_lines.proofs.Collected.{names_more, names_err, names_all, with_front}
 use Rattle.choreo_lines.proofs.entry.names_in.Goals as goal
 
 pub loop-token-preserved : goal.loop-token-preserved

@@ -1,7 +1,7 @@
 use Rattle.std.proofs.Common.{◌≡◌, drop}
 use Rattle.text_lines.specs.Tokens.{words_in}
-use Rattle.choreo_lines.specs.Entry.{names_in}
-use Rattle.choreo_lines.proofs.NameLists.{with_front}
+use Rattle.choreo_lines.specs.Fields.{names_in}
+use Rattle.choreo_lines.proofs.Collected.{with_front}
 use Rattle.choreo_lines.proofs.entry.names_in.Given as goal
 
 abbrev pub invariant-loop-token : goal.invariant-loop-token

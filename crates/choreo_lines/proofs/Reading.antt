@@ -1,0 +1,248 @@
+-- What the reading of a line gives is what the line says, and it may stand there; and the other way round.
+use Rattle.std.proofs.Common.{◌≡◌, ℕ, zero, suc, Bool, true, false, List, [], ◌∷◌, drop, Result, Ok, Err, refl, sym, ap, subst, ◌∙◌, cond, arith}
+use Rattle.std.specs.Prelude.{◌&&◌, ◌==◌, not, bytes_eq, codes, length, get_or, nat_le, ℤ, pos, ◌≤ℤ◌, IsTrue}
+use Rattle.std.proofs.lemmas.Int.{ints}
+use Rattle.std.proofs.lemmas.Bool.{and_parts}
+use Rattle.text_lines.specs.Numbers.{number_in as number_read}
+use Rattle.text_lines.specs.declared.number.NumberFault.{NumberFault}
+use Rattle.text_lines.proofs.NumberLaws.{read_is_number}
+use Rattle.choreo_lines.specs.Name.{Name, is_name, begins_lower, all_go_in_name}
+use Rattle.choreo_lines.specs.FirstWord.{keyword_of}
+use Rattle.choreo_lines.specs.Table.{Word, word, natural, row_of, act_places, has_count, act_of, may_stand, as_read}
+use Rattle.choreo_lines.specs.Fields.{◌>>=◌, judged, number_in, name_in, mirror_in, smooth_in, ccw_in, value_in, values_in, names_in, number_of, number_at, name_of, name_at, act_with, entry_with, act_by, act_in, act_line, row_line, line_in, line_at, entry_of}
+use Rattle.choreo_lines.specs.Says.{keyword_in, IsFirst, Says, may_say}
+use Rattle.choreo_lines.specs.Steps.{Fits, AllFit, IsNatural}
+use Rattle.choreo_lines.specs.declared.line.LineKind.{LineKind}
+use Rattle.choreo_lines.specs.declared.line.LineKind.TheVariants as kind
+use Rattle.choreo_lines.specs.declared.line.Keyword.{Keyword}
+use Rattle.choreo_lines.specs.declared.line.Keyword.TheVariants as first
+use Rattle.choreo_lines.specs.declared.line.Place.{Place}
+use Rattle.choreo_lines.specs.declared.line.Place.TheVariants as place
+use Rattle.choreo_lines.specs.declared.line.Entry.{Entry}
+use Rattle.choreo_lines.specs.declared.line.Entry.TheVariants as entry
+use Rattle.choreo_lines.specs.declared.parts.Act.{Act}
+use Rattle.choreo_lines.specs.declared.table.Want.{Want}
+use Rattle.choreo_lines.specs.declared.table.Want.TheVariants as want
+use Rattle.choreo_lines.specs.declared.table.Value.{Value}
+use Rattle.choreo_lines.specs.declared.table.Value.TheVariants as value
+use Rattle.choreo_lines.specs.declared.table.ActWord.{ActWord}
+
+-- Steps that gave a value.
+
+pub record Two {A B : Type 0} (r : Result A LineKind) (f : A → Result B LineKind) (y : B) : Type 0 where
+  pub a : A
+  pub first : r ≡ Ok a
+  pub then : f a ≡ Ok y
+
+pub two : {A B : Type 0} (r : Result A LineKind) (f : A → Result B LineKind) (y : B) → (r >>= f) ≡ Ok y → Two r f y
+two (Ok a) f y h = record { a = a; first = refl; then = h }
+two (Err k) f y h = cc
+
+-- what a test let through
+pub passed : {A : Type 0} (b : Bool) (r : Result A LineKind) (k : LineKind) (y : A) → cond b r (Err k) ≡ Ok y → (b ≡ true) × (r ≡ Ok y)
+passed true r k y h = (refl, h)
+passed false r k y h = cc
+
+-- the word that was read as a name is one, and it is this
+pub name_read : (w : Word) (n : Name) → name_in w ≡ Ok n → (is_name w ≡ true) × (w ≡ n.items)
+name_read w n h =
+    let p = passed (is_name w) (Ok (record { items = w })) kind.BadName n h in
+    let same : record { items = w } ≡ n = cc in
+    (p.0, ap (λ (m : Name). m.items) same)
+
+-- Values that were read fit their places.
+
+number_fits : (low high : ℤ) (w : Word) (r : Result ℤ NumberFault) (v : Value) → number_read low high w ≡ r → (judged r >>= (λ x. Ok (value.Number x))) ≡ Ok v → Fits (want.Number low high) v
+number_fits low high w (Ok x) v e h =
+    let same : value.Number x ≡ v = cc in
+    let is = read_is_number low high w x e in
+    subst (Fits (want.Number low high)) same (is.from, is.to)
+number_fits low high w (Err f) v e h = cc
+
+made_fits : {A : Type 0} (wanted : Want) (r : Result A LineKind) (make : A → Value) (v : Value) → ((a : A) → Fits wanted (make a)) → (r >>= (λ a. Ok (make a))) ≡ Ok v → Fits wanted v
+made_fits wanted (Ok a) make v h e = let same : make a ≡ v = cc in subst (Fits wanted) same (h a)
+made_fits wanted (Err k) make v h e = cc
+
+named_fits : (w : Word) (r : Result Name LineKind) (v : Value) → name_in w ≡ r → (r >>= (λ n. Ok (value.Name n))) ≡ Ok v → Fits want.Name v
+named_fits w (Ok n) v e h =
+    let same : value.Name n ≡ v = cc in
+    let p = name_read w n e in
+    subst (Fits want.Name) same (subst (λ x. IsTrue (is_name x)) p.1 p.0)
+named_fits w (Err k) v e h = cc
+
+value_fits : (wanted : Want) (w : Word) (v : Value) → value_in wanted w ≡ Ok v → Fits wanted v
+value_fits want.Name w v h = named_fits w (name_in w) v refl h
+value_fits want.Mirror w v h = made_fits want.Mirror (mirror_in w) value.Mirror v (λ n. tt) h
+value_fits want.Manner w v h = made_fits want.Manner (smooth_in w) value.Smooth v (λ n. tt) h
+value_fits want.Sense w v h = made_fits want.Sense (ccw_in w) value.Ccw v (λ n. tt) h
+value_fits (want.Number low high) w v h = number_fits low high w (number_read low high w) v refl h
+
+pub values_fit : (wants : List Want) (ws : List Word) (vs : List Value) → values_in wants ws ≡ Ok vs → AllFit wants vs
+unfolding values_in
+values_fit [] ws vs h = let same : [] ≡ vs = cc in subst (AllFit []) same tt
+values_fit (wanted ∷ more) ws vs h =
+    let p = two (value_in wanted (word ws 0)) (λ v. values_in more (drop 1 ws) >>= (λ xs. Ok (v ∷ xs))) vs h in
+    let q = two (values_in more (drop 1 ws)) (λ xs. Ok (p.a ∷ xs)) vs p.then in
+    let same : p.a ∷ q.a ≡ vs = cc in
+    subst (AllFit (wanted ∷ more)) same (value_fits wanted (word ws 0) p.a p.first, values_fit more (drop 1 ws) q.a q.first)
+
+name_is : (v : Value) → Fits want.Name v → IsTrue (is_name (name_of v).items)
+name_is (value.Name n) f = f
+name_is v f = absurd f
+
+-- a name that fits a place is one
+name_in_place : (wanted : Want) (v : Value) → wanted ≡ want.Name → Fits wanted v → IsTrue (is_name (name_of v).items)
+name_in_place wanted v e f = name_is v (subst (λ w. Fits w v) e f)
+
+pub name_within : (wants : List Want) (vs : List Value) (k : ℕ) → AllFit wants vs → get_or wants k want.Mirror ≡ want.Name → IsTrue (is_name (name_at vs k).items)
+name_within (w ∷ ws) (v ∷ vs) zero fit e = name_in_place w v e fit.0
+name_within (w ∷ ws) (v ∷ vs) (suc k) fit e = name_within ws vs k fit.1 e
+name_within (w ∷ ws) [] k fit e = absurd fit
+name_within [] vs k fit e = cc
+
+-- An entry is that of its first word.
+
+in_its : (low high : ℤ) (v : Value) → Fits (want.Number low high) v → (low ≤ℤ number_of v) × (number_of v ≤ℤ high)
+in_its low high (value.Number x) f = f
+in_its low high v f = absurd f
+
+-- a number that fits a place is in its range
+number_in_range : (low high : ℤ) (wanted : Want) (v : Value) → wanted ≡ want.Number low high → Fits wanted v → (low ≤ℤ number_of v) × (number_of v ≤ℤ high)
+number_in_range low high wanted v e f = in_its low high v (subst (λ w. Fits w v) e f)
+
+pub number_within : (wants : List Want) (vs : List Value) (k : ℕ) (low high : ℤ) → AllFit wants vs → get_or wants k want.Name ≡ want.Number low high → (low ≤ℤ number_at vs k) × (number_at vs k ≤ℤ high)
+number_within (w ∷ ws) (v ∷ vs) zero low high fit e = number_in_range low high w v e fit.0
+number_within (w ∷ ws) (v ∷ vs) (suc k) low high fit e = number_within ws vs k low high fit.1 e
+number_within (w ∷ ws) [] k low high fit e = absurd fit
+number_within [] vs k low high fit e = cc
+
+pub natural_within : (wants : List Want) (vs : List Value) (k low most : ℕ) → AllFit wants vs → get_or wants k want.Name ≡ natural low most → IsNatural most (number_at vs k)
+natural_within wants vs k low most fit e = let p = number_within wants vs k (pos low) (pos most) fit e in (omega (arith, ints, p.0), p.1)
+
+-- An entry is that of its first word.
+
+with_keyword : (k : Keyword) (vs : List Value) (ns : List Name) → (k ≡ first.Other → ⊥) → keyword_in (entry_with k vs ns) ≡ k
+with_keyword first.Other vs ns h = absurd (h refl)
+with_keyword k vs ns h = refl
+
+-- an act line that was read
+pub record Acted (ws : List Word) (e : Entry) : Type 0 where
+  pub name : Name
+  pub act : Act
+  pub named : name_in (word ws 0) ≡ Ok name
+  pub acts : act_in (drop 1 ws) ≡ Ok act
+  pub is : entry.One name act ≡ e
+
+pub acted : (ws : List Word) (e : Entry) → act_line ws ≡ Ok e → Acted ws e
+unfolding act_line
+acted ws e h =
+    let told = cond (nat_le 2 (length ws)) (act_in (drop 1 ws)) (Err kind.BadCount) in
+    let p = two (name_in (word ws 0)) (λ n. told >>= (λ a. Ok (entry.One n a))) e h in
+    let q = two told (λ a. Ok (entry.One p.a a)) e p.then in
+    let r = passed (nat_le 2 (length ws)) (act_in (drop 1 ws)) kind.BadCount q.a q.first in
+    let same : entry.One p.a q.a ≡ e = cc in
+    record { name = p.a; act = q.a; named = p.first; acts = r.1; is = same }
+
+-- words after the first of a line that were read by its row
+pub record Rowed (k : Keyword) (ws : List Word) (e : Entry) : Type 0 where
+  pub values : List Value
+  pub names : List Name
+  pub count : has_count (row_of k) (length ws) ≡ true
+  pub read : values_in (row_of k).places ws ≡ Ok values
+  pub named : names_in (drop (length (row_of k).places) ws) ≡ Ok names
+  pub is : entry_with k values names ≡ e
+
+pub rowed : (k : Keyword) (ws : List Word) (e : Entry) → row_line k ws ≡ Ok e → Rowed k ws e
+unfolding row_line
+rowed k ws e h =
+    let after = names_in (drop (length (row_of k).places) ws) in
+    let whole = values_in (row_of k).places ws >>= (λ vs. after >>= (λ ns. Ok (entry_with k vs ns))) in
+    let c = passed (has_count (row_of k) (length ws)) whole kind.BadCount e h in
+    let p = two (values_in (row_of k).places ws) (λ vs. after >>= (λ ns. Ok (entry_with k vs ns))) e c.1 in
+    let q = two after (λ ns. Ok (entry_with k p.a ns)) e p.then in
+    let same : entry_with k p.a q.a ≡ e = cc in
+    record { values = p.a; names = q.a; count = c.0; read = p.first; named = q.first; is = same }
+
+line_keyword : (k : Keyword) (ws : List Word) (e : Entry) → line_in k ws ≡ Ok e → keyword_in e ≡ k
+line_keyword first.Other ws e h = let a = acted ws e h in ap keyword_in (sym a.is)
+line_keyword k ws e h = let r = rowed k (drop 1 ws) e h in ap keyword_in (sym r.is) ∙ with_keyword k r.values r.names (λ o. cc)
+
+-- The first word, and as what it is read.
+
+first_read : (p : Place) (k : Keyword) (w : Word) → keyword_of w ≡ k → IsFirst (as_read p k) w
+first_read place.InCue first.End w e = e
+first_read place.InCue first.Form w e = e
+first_read place.InCue k w e = tt
+first_read place.InFigureCue first.End w e = e
+first_read place.InFigureCue k w e = tt
+first_read p first.Other w e = tt
+first_read p k w e = e
+
+stays : (p : Place) (k : Keyword) → may_stand p k ≡ true → (k ≡ first.Other → ⊥) → as_read p k ≡ k
+stays place.InCue first.End m o = refl
+stays place.InCue first.Form m o = refl
+stays place.InCue first.Other m o = absurd (o refl)
+stays place.InCue k m o = cc
+stays place.InFigureCue first.End m o = refl
+stays place.InFigureCue first.Other m o = absurd (o refl)
+stays place.InFigureCue k m o = cc
+stays p k m o = refl
+
+-- A name is no keyword of a cue.
+
+abbrev pub is_other : Keyword → Bool
+is_other first.End = false
+is_other first.Form = false
+is_other _ = true
+
+pick : (b : Bool) (k r : Keyword) → is_other k ≡ true → is_other r ≡ true → is_other (cond b k r) ≡ true
+pick true k r p q = p
+pick false k r p q = q
+
+not_true : (b : Bool) → not b ≡ true → b ≡ false
+not_true true h = cc
+not_true false h = refl
+
+pub name_keyword : (w : Word) → is_name w ≡ true → is_other (keyword_of w) ≡ true
+name_keyword w n =
+    let last = and_parts (begins_lower w && all_go_in_name w && nat_le (length w) 16 && not (bytes_eq w (codes "form"))) (not (bytes_eq w (codes "end"))) n in
+    let form = and_parts (begins_lower w && all_go_in_name w && nat_le (length w) 16) (not (bytes_eq w (codes "form"))) last.0 in
+    let h : is_other (cond (bytes_eq w (codes "form")) first.Form (cond (bytes_eq w (codes "end")) first.End first.Other)) ≡ true =
+    ap (λ b. is_other (cond b first.Form (cond (bytes_eq w (codes "end")) first.End first.Other))) (not_true (bytes_eq w (codes "form")) form.1)
+    ∙ ap (λ b. is_other (cond b first.End first.Other)) (not_true (bytes_eq w (codes "end")) last.1) in
+    pick (bytes_eq w (codes "memory")) first.Memory _ refl (pick (bytes_eq w (codes "trajectory")) first.Trajectory _ refl (pick (bytes_eq w (codes "ellipsoid")) first.Ellipsoid _ refl (pick (bytes_eq w (codes "stray")) first.Stray _ refl (pick (bytes_eq w (codes "late")) first.Late _ refl (pick (bytes_eq w (codes "drone")) first.Drone _ refl (pick (bytes_eq w (codes "formation")) first.Formation _ refl (pick (bytes_eq w (codes "at")) first.At _ refl (pick (bytes_eq w (codes "figure")) first.Figure _ refl (pick (bytes_eq w (codes "cue")) first.Cue _ refl (pick (bytes_eq w (codes "repeat")) first.Repeat _ refl (pick (bytes_eq w (codes "perform")) first.Perform _ refl (h))))))))))))
+
+-- in a cue a name is read as one
+pub read_as_name : (p : Place) (k : Keyword) → may_stand p first.Other ≡ true → is_other k ≡ true → as_read p k ≡ first.Other
+read_as_name place.InCue first.End m o = cc
+read_as_name place.InCue first.Form m o = cc
+read_as_name place.InCue k m o = refl
+read_as_name place.InFigureCue first.End m o = cc
+read_as_name place.InFigureCue k m o = refl
+read_as_name p k m o = cc
+
+-- A line that is read as an entry says it, and may say it there.
+
+pub says_of : (p : Place) (ws : List Word) (e : Entry) → entry_of p ws ≡ Ok e → Says ws e × (may_say p e ≡ true)
+says_of p ws e h =
+    let k = as_read p (keyword_of (word ws 0)) in
+    let q = passed (may_stand p k) (line_in k ws) kind.BadWord e h in
+    let is : keyword_in e ≡ k = line_keyword k ws e q.1 in
+    let begins = first_read p (keyword_of (word ws 0)) (word ws 0) refl in
+    ((subst (λ l. IsFirst l (word ws 0)) (sym is) begins, ap (λ l. line_in l ws) is ∙ q.1), ap (may_stand p) is ∙ q.0)
+
+-- A line that says an entry is read as that, where it may stand.
+
+put : (p : Place) (ws : List Word) (e : Entry) (l k : Keyword) → l ≡ k → line_in k ws ≡ Ok e → may_stand p k ≡ true → line_at p l ws ≡ Ok e
+put p ws e l k same h m = ap (λ x. line_at p x ws) same ∙ ap (λ b. cond b (line_in k ws) (Err kind.BadWord)) m ∙ h
+
+says_by : (p : Place) (ws : List Word) (e : Entry) (k : Keyword) → IsFirst k (word ws 0) → line_in k ws ≡ Ok e → may_stand p k ≡ true → entry_of p ws ≡ Ok e
+says_by p ws e first.Other f h m =
+    let a = acted ws e h in
+    let named = name_keyword (word ws 0) (name_read (word ws 0) a.name a.named).0 in
+    put p ws e (as_read p (keyword_of (word ws 0))) first.Other (read_as_name p (keyword_of (word ws 0)) m named) h m
+says_by p ws e k f h m =
+    put p ws e (as_read p (keyword_of (word ws 0))) k (ap (as_read p) f ∙ stays p k m (λ o. cc)) h m
+
+pub says_entry : (p : Place) (ws : List Word) (e : Entry) → Says ws e → may_say p e ≡ true → entry_of p ws ≡ Ok e
+says_entry p ws e h m = says_by p ws e (keyword_in e) h.0 h.1 m

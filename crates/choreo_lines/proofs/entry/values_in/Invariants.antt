@@ -1,0 +1,10 @@
+use Rattle.std.proofs.Common.{◌≡◌, length}
+use Rattle.text_lines.specs.Tokens.{words_in}
+use Rattle.choreo_lines.specs.Fields.{values_in}
+use Rattle.choreo_lines.proofs.Collected.{with_front, rest}
+use Rattle.choreo_lines.proofs.entry.values_in.Given as goal
+
+abbrev pub invariant-loop-k : goal.invariant-loop-k
+invariant-loop-k l =
+    (values_in l.wants (words_in l.text l.words) ≡ with_front l.values.items (rest l.text l.wants l.words l.k))
+    × (length l.values.items ≡ l.k)

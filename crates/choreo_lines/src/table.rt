@@ -1,0 +1,195 @@
+//! The table of lines: what each line wants in its places, and where it may stand (docs/LANGUAGE.md, "Lines, words and
+//! numbers").
+
+ghost use Rattle.std.specs.Prelude.{◌≡◌, ◌≤◌, length};
+ghost use Rattle.choreo_lines.specs.Table as spec;
+
+use crate::line::{Keyword, Place};
+use crate::parts::{DRONE_LIMIT, Mirror, Name};
+
+/// How many places the longest line has, which is that of a curve.
+pub const MOST_PLACES: usize = 10;
+
+/// What a place of a line wants.
+#[derive(Clone, Copy, PartialEq, Eq, Debug)]
+pub enum Want {
+    Name,
+    /// `none`, `x` or `y`.
+    Mirror,
+    /// `line` or `move`.
+    Manner,
+    /// `ccw` or `cw`.
+    Sense,
+    /// A number from `low` to `high`.
+    Number { low: i32, high: i32 },
+}
+
+/// What stands in a place of a line.
+#[derive(Drop)]
+pub enum Value {
+    Name(Name),
+    Mirror(Mirror),
+    /// Whether a way goes from rest to rest.
+    Smooth(bool),
+    /// Whether an arc goes counter-clockwise.
+    Ccw(bool),
+    Number(i64),
+}
+
+impl Default for Value {
+    fn default() -> Self {
+        Value::Number(0)
+    }
+}
+
+/// The word of an act.
+#[derive(Clone, Copy, PartialEq, Eq, Debug)]
+pub enum ActWord {
+    Hold,
+    Line,
+    Move,
+    Turn,
+    Arc,
+    Curve,
+}
+
+// Micrometres.
+const COORDINATE: Want = Want::Number {
+    low: -100_000_000,
+    high: 100_000_000,
+};
+
+// Tenths of a degree.
+const YAW: Want = Want::Number {
+    low: -32_768,
+    high: 32_767,
+};
+
+const ID: Want = Want::Number { low: 0, high: 255 };
+
+const OFFSET: Want = Want::Number { low: 0, high: 4095 };
+
+const TRAJECTORY: Want = Want::Number { low: 0, high: 9 };
+
+const HALF_AXIS: Want = Want::Number { low: 1, high: 2000 };
+
+const ALLOWANCE: Want = Want::Number { low: 0, high: 1000 };
+
+const DURATION: Want = Want::Number {
+    low: 1,
+    high: 65_535,
+};
+
+const TIMES: Want = Want::Number {
+    low: 1,
+    high: 1_000_000_000,
+};
+
+const TURNS: Want = Want::Number { low: 0, high: 3 };
+
+/// What the places after the first word of a line want.
+pub fn places(first: Keyword) -> &'static [Want]
+    ensures value { result.now ≡ (spec.row_of first).places }
+    ensures few { length result.now ≤ MOST_PLACES }
+{
+    match first {
+        Keyword::Memory => &[ID, OFFSET],
+        Keyword::Trajectory => &[TRAJECTORY],
+        Keyword::Ellipsoid => &[HALF_AXIS, HALF_AXIS],
+        Keyword::Stray | Keyword::Late => &[ALLOWANCE],
+        Keyword::Drone | Keyword::At => &[Want::Name, COORDINATE, COORDINATE, COORDINATE, YAW],
+        Keyword::Formation | Keyword::Figure => &[Want::Name],
+        Keyword::Cue => &[DURATION],
+        Keyword::Repeat => &[TIMES],
+        Keyword::Perform => &[
+            Want::Name,
+            Want::Mirror,
+            TURNS,
+            COORDINATE,
+            COORDINATE,
+            COORDINATE,
+        ],
+        Keyword::Form => &[Want::Name, Want::Manner],
+        Keyword::End | Keyword::Other => &[],
+    }
+}
+
+/// How many names may stand after the places of a line, at least one; none where this is 0.
+pub fn names(first: Keyword) -> usize
+    ensures { result ≡ (spec.row_of first).names }
+{
+    match first {
+        Keyword::Figure | Keyword::Perform => DRONE_LIMIT,
+        _ => 0,
+    }
+}
+
+/// The act of this word.
+pub fn act_word(word: &[u8]) -> Option<ActWord>
+    ensures { result ≡ spec.act_of word.now }
+{
+    if word == b"hold".as_slice() {
+        Some(ActWord::Hold)
+    } else if word == b"line".as_slice() {
+        Some(ActWord::Line)
+    } else if word == b"move".as_slice() {
+        Some(ActWord::Move)
+    } else if word == b"turn".as_slice() {
+        Some(ActWord::Turn)
+    } else if word == b"arc".as_slice() {
+        Some(ActWord::Arc)
+    } else if word == b"curve".as_slice() {
+        Some(ActWord::Curve)
+    } else {
+        None
+    }
+}
+
+/// What the places after the word of an act want.
+pub fn act_places(act: ActWord) -> &'static [Want]
+    ensures value { result.now ≡ spec.act_places act }
+    ensures few { length result.now ≤ MOST_PLACES }
+{
+    match act {
+        ActWord::Hold => &[],
+        ActWord::Line | ActWord::Move => &[COORDINATE, COORDINATE, COORDINATE, YAW],
+        ActWord::Turn => &[YAW],
+        ActWord::Arc => &[Want::Sense, COORDINATE, COORDINATE, YAW],
+        ActWord::Curve => &[
+            COORDINATE, COORDINATE, COORDINATE, COORDINATE, COORDINATE, COORDINATE, COORDINATE,
+            COORDINATE, COORDINATE, YAW,
+        ],
+    }
+}
+
+/// The first word as it is read at a place: in a cue all words are names, but for `end` and, outside figures, `form`.
+pub fn as_read(place: Place, first: Keyword) -> Keyword
+    ensures { result ≡ spec.as_read place first }
+{
+    match (place, first) {
+        (Place::InCue, Keyword::End | Keyword::Form) => first,
+        (Place::InFigureCue, Keyword::End) => first,
+        (Place::InCue | Place::InFigureCue, _) => Keyword::Other,
+        _ => first,
+    }
+}
+
+/// Whether a line with this first word may stand here; `Other` is an act line.
+pub fn may_stand(place: Place, first: Keyword) -> bool
+    ensures { result ≡ spec.may_stand place first }
+{
+    match place {
+        Place::Top => !matches!(
+            first,
+            Keyword::At | Keyword::Form | Keyword::End | Keyword::Other
+        ),
+        Place::InFormation => matches!(first, Keyword::At | Keyword::End),
+        Place::InFigure => matches!(first, Keyword::Cue | Keyword::Repeat | Keyword::End),
+        Place::InRepeat => matches!(
+            first,
+            Keyword::Cue | Keyword::Repeat | Keyword::Perform | Keyword::End
+        ),
+        Place::InCue => matches!(first, Keyword::Form | Keyword::End | Keyword::Other),
+        Place::InFigureCue => matches!(first, Keyword::End | Keyword::Other),
+    }
+}
