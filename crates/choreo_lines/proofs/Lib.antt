@@ -1,3 +1,4 @@
 pub mod Names
 pub mod Collected
 pub mod Reading
+pub mod Rows

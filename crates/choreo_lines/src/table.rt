@@ -11,7 +11,7 @@ use crate::parts::{DRONE_LIMIT, Mirror, Name};
 pub const MOST_PLACES: usize = 10;
 
 /// What a place of a line wants.
-#[derive(Clone, Copy, PartialEq, Eq, Debug)]
+#[derive(Clone, Copy)]
 pub enum Want {
     Name,
     /// `none`, `x` or `y`.
@@ -43,7 +43,7 @@ impl Default for Value {
 }
 
 /// The word of an act.
-#[derive(Clone, Copy, PartialEq, Eq, Debug)]
+#[derive(Clone, Copy)]
 pub enum ActWord {
     Hold,
     Line,

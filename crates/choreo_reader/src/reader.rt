@@ -1,6 +1,6 @@
 //! A show that is read line by line.
 
-ghost use Rattle.std.specs.Prelude.{◌≡◌, ℕ, List, take, drop, ◌+◌, ◌<◌, ◌≤◌, length, OnOk, IfOk, MatchResult, ◌++◌, ◌∷◌, []};
+ghost use Rattle.std.specs.Prelude.{◌≡◌, ℕ, List, Some, take, drop, ◌+◌, ◌<◌, ◌≤◌, length, OnOk, IfOk, MatchResult, ◌++◌, ◌∷◌, []};
 ghost use Rattle.choreo_reader.specs.Plain.{block_of, body_of, plain as plain_show, PlainShow, ◌⨾◌};
 ghost use Rattle.choreo_reader.specs.Grammar.{StandsFor};
 ghost use Rattle.choreo_reader.specs.Plain as plain;
@@ -13,7 +13,7 @@ ghost use Rattle.text_lines.specs.Lines.{lines_of, between_feeds};
 ghost use Rattle.text_lines.specs.Words.{visible, words_of, line_with, numbered};
 ghost use Rattle.text_lines.specs.Tokens.{words_in};
 ghost use Rattle.text_lines.specs.declared.token.Comments.TheVariants.{FromHash};
-ghost use Rattle.choreo_reader.specs.Reading.{InFormation, InFigure, InRepeat, InCue, entry_fault as entry_fault_of, with_block as with_block_of, act_added, place_added, add_block as add_block_of, close as close_of, close_innermost as close_innermost_of, with_act as with_act_of, with_place as with_place_of, nothing, build, opening_of, openings_of, context_of, line_step, lines_step, finish as finish_of, read_lines, reading};
+ghost use Rattle.choreo_reader.specs.Reading.{InFormation, InFigure, InRepeat, InCue, entry_fault as entry_fault_of, with_block as with_block_of, act_added, place_added, add_block as add_block_of, close as close_of, close_innermost as close_innermost_of, with_act as with_act_of, with_place as with_place_of, nothing, build, settings_of, opening_of, openings_of, context_of, line_step, lines_step, finish as finish_of, read_lines, reading};
 
 use crate::fault::ShowFault;
 use crate::show::{ActLine, Block, DroneLine, Figure, Formation, Settings, Show};
@@ -203,6 +203,14 @@ fn push<T: Drop>(list: &mut Vec<T>, item: T) -> Result<(), AllocError>
         list.reserve_exact(list.len() / 4 + LEAST_ROOM)?;
     }
     list.push(item)?;
+    Ok(())
+}
+
+// A setting that was read.
+fn set<T: Drop>(setting: &mut Option<T>, value: T) -> Result<(), AllocError>
+    ensures { OnOk result (setting.new ≡ Some value) }
+{
+    *setting = Some(value);
     Ok(())
 }
 
@@ -418,26 +426,11 @@ impl Reader {
         ensures { OnOk result (built_of self.new ≡ build (built_of self.old) line entry) }
     {
         match entry {
-            Entry::Memory { id, offset } => {
-                self.memory = Some((id, offset));
-                Ok(())
-            }
-            Entry::Trajectory { id } => {
-                self.trajectory = Some(id);
-                Ok(())
-            }
-            Entry::Ellipsoid { r, h } => {
-                self.ellipsoid = Some((r, h));
-                Ok(())
-            }
-            Entry::Stray { mm } => {
-                self.stray = Some(mm);
-                Ok(())
-            }
-            Entry::Late { ms } => {
-                self.late = Some(ms);
-                Ok(())
-            }
+            Entry::Memory { id, offset } => set(&mut self.memory, (id, offset)),
+            Entry::Trajectory { id } => set(&mut self.trajectory, id),
+            Entry::Ellipsoid { r, h } => set(&mut self.ellipsoid, (r, h)),
+            Entry::Stray { mm } => set(&mut self.stray, mm),
+            Entry::Late { ms } => set(&mut self.late, ms),
             Entry::Drone { name, at } => self.add_drone(DroneLine { line, name, at }),
             Entry::Formation { name } => self.begin(no_places(alloc, line, name)),
             Entry::At { name, at } => self.add_place(DroneLine { line, name, at }),
@@ -536,21 +529,35 @@ impl Reader {
         Ok(())
     }
 
+    // The settings that were read, or their defaults.
+    fn settings(&self) -> Settings
+        ensures { result ≡ settings_of (built_of self.now) }
+    {
+        let (memory_id, offset) = self.memory.unwrap_or((2, 0));
+        let (r, h) = self.ellipsoid.unwrap_or((120, 300));
+        Settings {
+            memory_id,
+            offset,
+            trajectory_id: self.trajectory.unwrap_or(0),
+            r,
+            h,
+            stray: self.stray.unwrap_or(0),
+            late: self.late.unwrap_or(0),
+        }
+    }
+
     // The show, where no block is open.
     fn finish(self) -> Result<Show, ShowFault>
         ensures { ShowGives plain_show result (finish_of (Ok (built_of self))) }
     {
+        let settings = self.settings();
         let Reader {
-            memory,
-            trajectory,
-            ellipsoid,
-            stray,
-            late,
             drones,
             formations,
             figures,
             body,
             opened,
+            ..
         } = self;
         if let Some(inner) = opened.last() {
             return Err(ShowFault::Line {
@@ -558,18 +565,8 @@ impl Reader {
                 kind: LineKind::NoEnd,
             });
         }
-        let (memory_id, offset) = memory.unwrap_or((2, 0));
-        let (r, h) = ellipsoid.unwrap_or((120, 300));
         Ok(Show {
-            settings: Settings {
-                memory_id,
-                offset,
-                trajectory_id: trajectory.unwrap_or(0),
-                r,
-                h,
-                stray: stray.unwrap_or(0),
-                late: late.unwrap_or(0),
-            },
+            settings,
             drones: Listed::from_vec(drones),
             formations: Listed::from_vec(formations),
             figures: Listed::from_vec(figures),
