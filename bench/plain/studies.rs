@@ -1,9 +1,10 @@
-//! A plain program that does what `boxes`, `speed` and `explain` do beyond reading a show, from a plan: for bench/studies, which
+//! A plain program that does what `boxes`, `speed`, `dynamics` and `explain` do beyond reading a show, from a plan: for bench/studies, which
 //! compares the two. It has no checks of its input beyond what Rust makes it have.
 //!
 //!     studies read < PLAN
 //!     studies boxes R H DEPTH FILE < PLAN
 //!     studies speed DEPTH < PLAN
+//!     studies dynamics DEPTH < PLAN
 //!     studies closest R H FINE < PLAN
 mod curves;
 
@@ -92,6 +93,72 @@ fn speed(drones: &[Drone], depth: u32) {
         }
         println!("speed {} {} {} {}", drone.name, most[0], most[1], most[2]);
     }
+}
+
+/// The widest second difference in the parts, or `least`. A half bends at most 32 times as much as its whole.
+fn widest_bend(curve: &Curve, depth: u32, least: i128) -> i128 {
+    let whole = curve.windows(3).map(|it| (it[2] - 2 * it[1] + it[0]).abs()).max().unwrap_or(0);
+    if depth == 0 {
+        return least.max(whole);
+    }
+    if whole << (5 * depth) <= least {
+        return least;
+    }
+    let (left, right) = halves(curve);
+    widest_bend(&right, depth - 1, widest_bend(&left, depth - 1, least))
+}
+
+/// The velocities at both ends, as numerators over the duration.
+fn ends(points: &[i64]) -> (i64, i64) {
+    let n = points.len() - 1;
+    if n == 0 {
+        return (0, 0);
+    }
+    (n as i64 * (points[1] - points[0]), n as i64 * (points[n] - points[n - 1]))
+}
+
+fn at_rest(still: bool) -> &'static str {
+    if still { "rest" } else { "moving" }
+}
+
+/// The cue of a segment is the one after it, so no holds may be joined.
+fn dynamics(drones: &[Drone], depth: u32) {
+    let (mut sharpest, mut farthest) = ([0i128; 3], [0i128; 3]);
+    for drone in drones {
+        let (mut most, mut jumps, mut cues, mut still) = ([0i128; 3], [0i128; 3], [1; 3], [true; 2]);
+        for axis in 0..3 {
+            let mut before = (0, 1);
+            for (k, segment) in drone.segments.iter().enumerate() {
+                let (first, last) = ends(&segment.axes[axis]);
+                let (gap, time) = ((first as i128 * before.1 - before.0 * segment.ms).abs(), segment.ms * before.1);
+                let jump = (1_000_000 * gap + time - 1) / time;
+                if jumps[axis] < jump {
+                    (jumps[axis], cues[axis]) = (jump, k + 1);
+                }
+                if k == 0 && gap != 0 {
+                    still[0] = false;
+                }
+                before = (last as i128, segment.ms);
+                let square = 3 * segment.ms * segment.ms;
+                let least = most[axis] * (square << (5 * depth)) / 25_000_000;
+                let widest = widest_bend(&wide(&segment.axes[axis]), depth, least);
+                if widest > least {
+                    let time = square << (7 * depth);
+                    most[axis] = most[axis].max((25_000_000 * (widest << (2 * depth)) + time - 1) / time);
+                }
+            }
+            let jump = (1_000_000 * before.0.abs() + before.1 - 1) / before.1;
+            if jumps[axis] < jump {
+                (jumps[axis], cues[axis]) = (jump, drone.segments.len() + 1);
+            }
+            still[1] &= jump == 0;
+            sharpest[axis] = sharpest[axis].max(most[axis]);
+            farthest[axis] = farthest[axis].max(jumps[axis]);
+        }
+        println!("dynamics {} acceleration {} {} {} jump {} cue {} {} cue {} {} cue {} begins {} ends {}", drone.name, most[0], most[1], most[2],
+            jumps[0], cues[0], jumps[1], cues[1], jumps[2], cues[2], at_rest(still[0]), at_rest(still[1]));
+    }
+    println!("greatest acceleration {} {} {} jump {} {} {}", sharpest[0], sharpest[1], sharpest[2], farthest[0], farthest[1], farthest[2]);
 }
 
 struct Region {
@@ -210,6 +277,7 @@ fn main() -> io::Result<()> {
     match words[1].as_str() {
         "boxes" => boxes(&drones, number(2), number(3), number(4) as u32, &std::fs::read_to_string(&words[5])?),
         "speed" => speed(&drones, number(2) as u32),
+        "dynamics" => dynamics(&drones, number(2) as u32),
         "closest" => closest(&drones, number(2), number(3), number(4) as u32),
         _ => println!("{}", drones.len()),
     }

@@ -21,7 +21,7 @@ use Rattle.dynamics_bound.specs.Accelerations.{widest_bend_part, segment_acceler
 use Rattle.dynamics_bound.specs.Edges.{HasVelocities, first_step, last_step}
 use Rattle.dynamics_bound.proofs.Parts.{Departs, IsGentle, room_of, position, speed, gentle}
 use Rattle.dynamics_bound.proofs.Edges as ends
-use Rattle.dynamics_bound.proofs.Segments.{bends_at, fast_at, lasts, length-pieces}
+use Rattle.dynamics_bound.proofs.Segments.{in_time, in_units, bends_at, fast_at, lasts, length-pieces}
 
 value_ring : (u q f n px py w s d : ℤ) → u *ℤ (q *ℤ ((f *ℤ py -ℤ f *ℤ px) -ℤ n *ℤ (w *ℤ (s *ℤ d)))) ≡ u *ℤ (q *ℤ ((f *ℤ py -ℤ f *ℤ px) -ℤ (w *ℤ s) *ℤ (n *ℤ d)))
 value_ring u q f n px py w s d = simp ring (omega (arith, linear))
@@ -29,77 +29,23 @@ value_ring u q f n px py w s d = simp ring (omega (arith, linear))
 front_ring : (u q f px py w s k : ℤ) → u *ℤ (q *ℤ ((f *ℤ py -ℤ f *ℤ px) -ℤ (w *ℤ s) *ℤ (f *ℤ k))) ≡ (f *ℤ q) *ℤ (u *ℤ ((py -ℤ px) -ℤ w *ℤ (k *ℤ s)))
 front_ring u q f px py w s k = simp ring (omega (arith, linear))
 
-room_ring : (a p s m : ℤ) → a *ℤ (a *ℤ (p *ℤ (s *ℤ m))) ≡ (p *ℤ m) *ℤ (a *ℤ (a *ℤ s))
+room_ring : (a p s m : ℤ) → a *ℤ (a *ℤ (p *ℤ (s *ℤ m))) ≡ (p *ℤ m) *ℤ ((a *ℤ a) *ℤ s)
 room_ring a p s m = simp ring refl
 
 -- by the numbers of a bound
 in_curve : (e a m t : ℕ) (w v s px py gx gy d k : ℤ) → pos 0 ≤ℤ w → pos 0 ≤ℤ s → 25000000 * 4 ^ e * m ≤ a * (3 * 2 ^ (7 * e) * t) →
     gx ≡ pos 5040 *ℤ px → gy ≡ pos 5040 *ℤ py → v ≡ power s 6 *ℤ d → pos 7 *ℤ d ≡ pos 5040 *ℤ k → Departs (pos (2 ^ (7 * e))) (room_of e (pos m) s) w w gx gy v →
-    IsWithin (pos (a * t) *ℤ (w *ℤ (w *ℤ power s 5))) (pos 2000000000 *ℤ ((py -ℤ px) -ℤ w *ℤ (k *ℤ power s 6)))
+    IsWithin (pos (a * t) *ℤ ((w *ℤ w) *ℤ power s 5)) (pos 2000000000 *ℤ ((py -ℤ px) -ℤ w *ℤ (k *ℤ power s 6)))
 in_curve e a m t w v s px py gx gy d k w_low s_low fast x_is y_is v_is d_is departs =
-    let y : ℤ = w *ℤ (w *ℤ power s 5) in
-    let q : ℤ = pos (2 ^ (7 * e)) in
-    let passed : pos 0 ≤ℤ y = mul_not_negative w _ w_low (mul_not_negative w _ w_low (power_low s 5 s_low)) in
-    let scaled : IsWithin (pos 1680 *ℤ (pos (25000000 * 4 ^ e * m) *ℤ y)) ((pos 5040 *ℤ q) *ℤ (pos 2000000000 *ℤ ((py -ℤ px) -ℤ w *ℤ (k *ℤ power s 6)))) =
-    within_same
-    (ap (λ (v : ℤ). pos 2000000000 *ℤ (pos 21 *ℤ v)) (room_ring w (pos (4 ^ e)) (power s 5) (pos m))
-    ∙ numbers ((pos (4 ^ e) *ℤ pos m) *ℤ y) ∙ ap (λ (v : ℤ). pos 1680 *ℤ v) (sym (mul_assoc_ℤ (pos 25000000) (pos (4 ^ e) *ℤ pos m) y) ∙ ap (λ (v : ℤ). v *ℤ y) (product (4 ^ e) m)))
-    (same_value (pos 2000000000) q w x_is y_is v_is ∙ value_ring (pos 2000000000) q (pos 5040) (pos 7) px py w (power s 6) d
-    ∙ ap (λ (z : ℤ). pos 2000000000 *ℤ (q *ℤ ((pos 5040 *ℤ py -ℤ pos 5040 *ℤ px) -ℤ (w *ℤ power s 6) *ℤ z))) d_is
-    ∙ front_ring (pos 2000000000) q (pos 5040) px py w (power s 6) k)
-    (within_mul (pos 2000000000) _ _ (omega (arith, ints)) departs) in
-    let room : (pos 1680 *ℤ (pos (25000000 * 4 ^ e * m) *ℤ y)) ≤ℤ ((pos 5040 *ℤ q) *ℤ (pos (a * t) *ℤ y)) =
-    at_most (25000000 * 4 ^ e * m) (a * (3 * 2 ^ (7 * e) * t)) y _ fast passed (spread a (2 ^ (7 * e)) t y) in
-    within_cancel (pos 5040 *ℤ q) _ _ (positive (2 ^ (7 * e)) (pow_pos (7 * e))) (within_wider _ _ _ room scaled)
+    in_units e a m t ((w *ℤ w) *ℤ power s 5) _ _ _ (mul_not_negative (w *ℤ w) (power s 5) (mul_not_negative w w w_low w_low) (power_low s 5 s_low)) fast
+    (room_ring w (pos (4 ^ e)) (power s 5) (pos m))
+    (same_value (pos 2000000000) (pos (2 ^ (7 * e))) w x_is y_is v_is ∙ value_ring (pos 2000000000) (pos (2 ^ (7 * e))) (pos 5040) (pos 7) px py w (power s 6) d
+    ∙ ap (λ (z : ℤ). pos 2000000000 *ℤ (pos (2 ^ (7 * e)) *ℤ ((pos 5040 *ℤ py -ℤ pos 5040 *ℤ px) -ℤ (w *ℤ power s 6) *ℤ z))) d_is
+    ∙ front_ring (pos 2000000000) (pos (2 ^ (7 * e))) (pos 5040) px py w (power s 6) k)
+    departs
   where
     same_value : (u q w : ℤ) {fx fy gx gy v v' : ℤ} → fx ≡ gx → fy ≡ gy → v ≡ v' → u *ℤ (q *ℤ ((fy -ℤ fx) -ℤ pos 7 *ℤ (w *ℤ v))) ≡ u *ℤ (q *ℤ ((gy -ℤ gx) -ℤ pos 7 *ℤ (w *ℤ v')))
     same_value u q w {fx} {fy} {gx} {gy} {v} {v'} xs ys vs = cc
-
-    numbers : (y : ℤ) → pos 2000000000 *ℤ (pos 21 *ℤ y) ≡ pos 1680 *ℤ (pos 25000000 *ℤ y)
-    numbers y = omega (arith, linear)
-
-    product : (p m : ℕ) → pos 25000000 *ℤ (pos p *ℤ pos m) ≡ pos (25000000 * p * m)
-    product p m = omega (arith, ints)
-
-    positive : (q : ℕ) → 1 ≤ q → pos 0 <ℤ (pos 5040 *ℤ pos q)
-    positive q some = omega (arith, ints)
-
-    at_most : (n k : ℕ) (z y : ℤ) → n ≤ k → pos 0 ≤ℤ z → pos 1680 *ℤ (pos k *ℤ z) ≡ y → (pos 1680 *ℤ (pos n *ℤ z)) ≤ℤ y
-    at_most n k z y few low e =
-        let more : (z *ℤ pos n) ≤ℤ (z *ℤ pos k) = le_mul_ℤ z (pos n) (pos k) low (omega (arith, ints)) in
-        omega (arith, linear, more, mul_comm_ℤ z (pos n), mul_comm_ℤ z (pos k))
-
-    spread : (a q t : ℕ) (z : ℤ) → pos 1680 *ℤ (pos (a * (3 * q * t)) *ℤ z) ≡ (pos 5040 *ℤ pos q) *ℤ (pos (a * t) *ℤ z)
-    spread a q t z =
-        sym (mul_assoc_ℤ (pos 1680) (pos (a * (3 * q * t))) z) ∙ ap (λ (x : ℤ). x *ℤ z) (counts a q t) ∙ mul_assoc_ℤ (pos 5040 *ℤ pos q) (pos (a * t)) z
-      where
-        counts : (a q t : ℕ) → pos 1680 *ℤ pos (a * (3 * q * t)) ≡ (pos 5040 *ℤ pos q) *ℤ pos (a * t)
-        counts a q t = omega (arith, ints)
-
-clock_ring : (q a t w s : ℤ) → (q *ℤ q) *ℤ ((a *ℤ (t *ℤ t)) *ℤ (w *ℤ (w *ℤ s))) ≡ (a *ℤ (w *ℤ w)) *ℤ ((q *ℤ t) *ℤ ((q *ℤ t) *ℤ s))
-clock_ring q a t w s = simp ring refl
-
-in_time : (q a t : ℕ) (w d : ℤ) → IsWithin (pos (a * (t * t)) *ℤ (w *ℤ (w *ℤ power (pos (q * t)) 5))) (pos 2000000000 *ℤ d) →
-    IsWithin ((pos a *ℤ (w *ℤ w)) *ℤ power (pos (q * t)) 7) (pos (2000000000 * (q * q)) *ℤ d)
-in_time q a t w d within =
-    within_same
-    (ap (λ (v : ℤ). (pos q *ℤ pos q) *ℤ (v *ℤ (w *ℤ (w *ℤ power (pos (q * t)) 5)))) (squares a t)
-    ∙ clock_ring (pos q) (pos a) (pos t) w (power (pos (q * t)) 5)
-    ∙ ap (λ (v : ℤ). (pos a *ℤ (w *ℤ w)) *ℤ (v *ℤ (v *ℤ power (pos (q * t)) 5))) (one_product q t))
-    (swap (pos q) (pos 2000000000) d ∙ ap (λ (v : ℤ). v *ℤ d) (counts q))
-    (within_mul (pos q *ℤ pos q) _ _ (mul_not_negative (pos q) (pos q) (omega (arith, ints)) (omega (arith, ints))) within)
-  where
-    swap : (q u d : ℤ) → (q *ℤ q) *ℤ (u *ℤ d) ≡ (u *ℤ (q *ℤ q)) *ℤ d
-    swap q u d = simp ring refl
-
-    squares : (a t : ℕ) → pos (a * (t * t)) ≡ pos a *ℤ (pos t *ℤ pos t)
-    squares a t = omega (arith, ints)
-
-    one_product : (q t : ℕ) → pos q *ℤ pos t ≡ pos (q * t)
-    one_product q t = omega (arith, ints)
-
-    counts : (q : ℕ) → pos 2000000000 *ℤ (pos q *ℤ pos q) ≡ pos (2000000000 * (q * q))
-    counts q = omega (arith, ints)
 
 -- the tangent forwards from the beginning, and backwards from the end with its sign turned
 turned : (q room w t h e v : ℤ) → t ≡ neg_ℤ w → Departs q room w t h e v → Departs q room w w e h v
@@ -131,12 +77,12 @@ has_velocities axis t formed depth cue q x inside last =
     λ y. piece_value (at t.start axis) (pieces_on axis t) cue y s formed near in
     let few : length b - 1 ≤ 7 = omega (arith, count) in
     record {
-      first = in_time q all ms (pos x) _
+      first = in_time q all ms (pos x *ℤ pos x) _
           (in_curve depth all (widest_bend_part depth f) (ms * ms) (pos x) (speed f (pos s) (pos 0)) (pos s) (after t axis cue q 0) (after t axis cue q x) (position f (pos s) (pos 0)) (position f (pos s) (pos x))
           (f 1 -ℤ f 0) (first_step b) (omega (arith, ints)) (omega (arith, ints)) fast (value 0) (value x)
           (bernstein-at_zero 6 (steps f) (pos s)) (ends.first (length b - 1) (at b) few)
           (from_zero (pos (2 ^ (7 * depth))) (room_of depth (pos (widest_bend_part depth f)) (pos s)) (pos x) (position f (pos s) (pos 0)) (position f (pos s) (pos x)) (speed f (pos s) (pos 0)) (curve.fore (pos 0) (pos x) (omega (arith, ints)) (omega (arith, ints)) (omega (arith, ints, last)))));
-      last = in_time q all ms (pos x) _
+      last = in_time q all ms (pos x *ℤ pos x) _
           (in_curve depth all (widest_bend_part depth f) (ms * ms) (pos x) (speed f (pos s) (pos s)) (pos s) (after t axis cue q (s - x)) (after t axis cue q s) (position f (pos s) (pos (s - x))) (position f (pos s) (pos s))
           (f 7 -ℤ f 6) (last_step b) (omega (arith, ints)) (omega (arith, ints)) fast (value (s - x)) (value s)
           (bernstein-at_end 6 (steps f) (pos s)) (ends.last (length b - 1) (at b) few ∙ ap (λ (k : ℕ). pos 5040 *ℤ (pos (length b - 1) *ℤ (at b (length b - 1) -ℤ at b k))) (two_less (length b)))

@@ -22,41 +22,20 @@ use Rattle.speed_bound.proofs.Widths.{greatest-at}
 use Rattle.dynamics_bound.specs.Accelerations.{KeepsAcceleration, bend, widest_bend, widest_bend_part, acceleration_of, segment_acceleration, acceleration_in, acceleration, after}
 use Rattle.dynamics_bound.proofs.Parts.{BendsWithin, three_by_parts}
 
--- ---- one curve
-value_ring : (u q f a b px py pz : ℤ) → u *ℤ (q *ℤ ((f *ℤ pz -ℤ f *ℤ py) *ℤ a -ℤ (f *ℤ py -ℤ f *ℤ px) *ℤ b)) ≡ (f *ℤ q) *ℤ (u *ℤ ((pz -ℤ py) *ℤ a -ℤ (py -ℤ px) *ℤ b))
-value_ring u q f a b px py pz = simp ring (omega (arith, linear))
-
-room_ring : (a b c p s m : ℤ) → a *ℤ (b *ℤ (c *ℤ (p *ℤ (s *ℤ m)))) ≡ (p *ℤ m) *ℤ (a *ℤ (b *ℤ (c *ℤ s)))
-room_ring a b c p s m = simp ring refl
-
--- the product of the three times and the scale
-abbrev times : ℤ → ℤ → ℤ → ℤ → ℤ
-times x y z s = (z -ℤ x) *ℤ ((z -ℤ y) *ℤ ((y -ℤ x) *ℤ power s 5))
-
-in_curve : (e a m t : ℕ) (f : ℕ → ℤ) (x y z s px py pz : ℤ) → pos 0 ≤ℤ x → x ≤ℤ y → y ≤ℤ z → z ≤ℤ s → BendsWithin e f (pos m) →
-    25000000 * 4 ^ e * m ≤ a * (3 * 2 ^ (7 * e) * t) → bernstein 7 f x s ≡ pos 5040 *ℤ px → bernstein 7 f y s ≡ pos 5040 *ℤ py → bernstein 7 f z s ≡ pos 5040 *ℤ pz →
-    IsWithin (pos (a * t) *ℤ times x y z s) (pos 2000000000 *ℤ ((pz -ℤ py) *ℤ (y -ℤ x) -ℤ (py -ℤ px) *ℤ (z -ℤ y)))
-in_curve e a m t f x y z s px py pz low first second high bends fast x_is y_is z_is =
-    let w : ℤ = times x y z s in
-    let q : ℤ = pos (2 ^ (7 * e)) in
-    let passed : pos 0 ≤ℤ w =
-    mul_not_negative (z -ℤ x) _ (omega (arith, linear)) (mul_not_negative (z -ℤ y) _ (omega (arith, linear)) (mul_not_negative (y -ℤ x) _ (omega (arith, linear)) (power_low s 5 (omega (arith, linear))))) in
-    let whole : IsWithin (pos 2000000000 *ℤ (pos 21 *ℤ ((z -ℤ x) *ℤ ((z -ℤ y) *ℤ ((y -ℤ x) *ℤ (pos (4 ^ e) *ℤ (power s 5 *ℤ pos m)))))))
-    (pos 2000000000 *ℤ (q *ℤ ((pos 5040 *ℤ pz -ℤ pos 5040 *ℤ py) *ℤ (y -ℤ x) -ℤ (pos 5040 *ℤ py -ℤ pos 5040 *ℤ px) *ℤ (z -ℤ y)))) =
-    within_mul (pos 2000000000) _ _ (omega (arith, ints))
-    (within_same refl (same_value q (y -ℤ x) (z -ℤ y) x_is y_is z_is) (three_by_parts e f (pos m) x y z s low first second high bends)) in
-    let scaled : IsWithin (pos 1680 *ℤ (pos (25000000 * 4 ^ e * m) *ℤ w)) ((pos 5040 *ℤ q) *ℤ (pos 2000000000 *ℤ ((pz -ℤ py) *ℤ (y -ℤ x) -ℤ (py -ℤ px) *ℤ (z -ℤ y)))) =
+-- ---- units
+-- What 21 times the widest bend bounds, in the numerators of a depth, an acceleration bounds in micrometres and milliseconds.
+pub in_units : (e a m t : ℕ) (y room value d : ℤ) → pos 0 ≤ℤ y → 25000000 * 4 ^ e * m ≤ a * (3 * 2 ^ (7 * e) * t) → room ≡ (pos (4 ^ e) *ℤ pos m) *ℤ y →
+    pos 2000000000 *ℤ value ≡ (pos 5040 *ℤ pos (2 ^ (7 * e))) *ℤ d → IsWithin (pos 21 *ℤ room) value → IsWithin (pos (a * t) *ℤ y) d
+in_units e a m t y room value d passed fast room_is value_is within =
+    let scaled : IsWithin (pos 1680 *ℤ (pos (25000000 * 4 ^ e * m) *ℤ y)) ((pos 5040 *ℤ pos (2 ^ (7 * e))) *ℤ d) =
     within_same
-    (ap (λ (v : ℤ). pos 2000000000 *ℤ (pos 21 *ℤ v)) (room_ring (z -ℤ x) (z -ℤ y) (y -ℤ x) (pos (4 ^ e)) (power s 5) (pos m))
-    ∙ numbers ((pos (4 ^ e) *ℤ pos m) *ℤ w) ∙ ap (λ (v : ℤ). pos 1680 *ℤ v) (sym (mul_assoc_ℤ (pos 25000000) (pos (4 ^ e) *ℤ pos m) w) ∙ ap (λ (v : ℤ). v *ℤ w) (product (4 ^ e) m)))
-    (value_ring (pos 2000000000) q (pos 5040) (y -ℤ x) (z -ℤ y) px py pz) whole in
-    let room : (pos 1680 *ℤ (pos (25000000 * 4 ^ e * m) *ℤ w)) ≤ℤ ((pos 5040 *ℤ q) *ℤ (pos (a * t) *ℤ w)) =
-    at_most (25000000 * 4 ^ e * m) (a * (3 * 2 ^ (7 * e) * t)) w _ fast passed (spread a (2 ^ (7 * e)) t w) in
-    within_cancel (pos 5040 *ℤ q) _ _ (positive (2 ^ (7 * e)) (pow_pos (7 * e))) (within_wider _ _ _ room scaled)
+    (ap (λ (v : ℤ). pos 2000000000 *ℤ (pos 21 *ℤ v)) room_is
+    ∙ numbers ((pos (4 ^ e) *ℤ pos m) *ℤ y) ∙ ap (λ (v : ℤ). pos 1680 *ℤ v) (sym (mul_assoc_ℤ (pos 25000000) (pos (4 ^ e) *ℤ pos m) y) ∙ ap (λ (v : ℤ). v *ℤ y) (product (4 ^ e) m)))
+    value_is (within_mul (pos 2000000000) _ _ (omega (arith, ints)) within) in
+    let more : (pos 1680 *ℤ (pos (25000000 * 4 ^ e * m) *ℤ y)) ≤ℤ ((pos 5040 *ℤ pos (2 ^ (7 * e))) *ℤ (pos (a * t) *ℤ y)) =
+    at_most (25000000 * 4 ^ e * m) (a * (3 * 2 ^ (7 * e) * t)) y _ fast passed (spread a (2 ^ (7 * e)) t y) in
+    within_cancel (pos 5040 *ℤ pos (2 ^ (7 * e))) _ _ (positive (2 ^ (7 * e)) (pow_pos (7 * e))) (within_wider _ _ _ more scaled)
   where
-    same_value : (q a b : ℤ) {fx fy fz gx gy gz : ℤ} → fx ≡ gx → fy ≡ gy → fz ≡ gz → q *ℤ ((fz -ℤ fy) *ℤ a -ℤ (fy -ℤ fx) *ℤ b) ≡ q *ℤ ((gz -ℤ gy) *ℤ a -ℤ (gy -ℤ gx) *ℤ b)
-    same_value q a b {fx} {fy} {fz} {gx} {gy} {gz} xs ys zs = cc
-
     numbers : (y : ℤ) → pos 2000000000 *ℤ (pos 21 *ℤ y) ≡ pos 1680 *ℤ (pos 25000000 *ℤ y)
     numbers y = omega (arith, linear)
 
@@ -78,27 +57,23 @@ in_curve e a m t f x y z s px py pz low first second high bends fast x_is y_is z
         counts : (a q t : ℕ) → pos 1680 *ℤ pos (a * (3 * q * t)) ≡ (pos 5040 *ℤ pos q) *ℤ pos (a * t)
         counts a q t = omega (arith, ints)
 
--- ---- one segment
-clock_ring : (q a t x y z s : ℤ) → (q *ℤ q) *ℤ ((a *ℤ (t *ℤ t)) *ℤ (x *ℤ (y *ℤ (z *ℤ s)))) ≡ (a *ℤ (x *ℤ (y *ℤ z))) *ℤ ((q *ℤ t) *ℤ ((q *ℤ t) *ℤ s))
-clock_ring q a t x y z s = simp ring refl
+clock_ring : (q a t w s : ℤ) → (q *ℤ q) *ℤ ((a *ℤ (t *ℤ t)) *ℤ (w *ℤ s)) ≡ (a *ℤ w) *ℤ ((q *ℤ t) *ℤ ((q *ℤ t) *ℤ s))
+clock_ring q a t w s = simp ring refl
 
-clock_value : (q d : ℤ) → (q *ℤ q) *ℤ (pos 2000000000 *ℤ d) ≡ (pos 2000000000 *ℤ (q *ℤ q)) *ℤ d
-clock_value q d = swap q (pos 2000000000) d
+-- by the clock: the scale is q times the duration t
+pub in_time : (q a t : ℕ) (w d : ℤ) → IsWithin (pos (a * (t * t)) *ℤ (w *ℤ power (pos (q * t)) 5)) (pos 2000000000 *ℤ d) →
+    IsWithin ((pos a *ℤ w) *ℤ power (pos (q * t)) 7) (pos (2000000000 * (q * q)) *ℤ d)
+in_time q a t w d within =
+    within_same
+    (ap (λ (v : ℤ). (pos q *ℤ pos q) *ℤ (v *ℤ (w *ℤ power (pos (q * t)) 5))) (squares a t)
+    ∙ clock_ring (pos q) (pos a) (pos t) w (power (pos (q * t)) 5)
+    ∙ ap (λ (v : ℤ). (pos a *ℤ w) *ℤ (v *ℤ (v *ℤ power (pos (q * t)) 5))) (one_product q t))
+    (swap (pos q) (pos 2000000000) d ∙ ap (λ (v : ℤ). v *ℤ d) (counts q))
+    (within_mul (pos q *ℤ pos q) _ _ (mul_not_negative (pos q) (pos q) (omega (arith, ints)) (omega (arith, ints))) within)
   where
     swap : (q u d : ℤ) → (q *ℤ q) *ℤ (u *ℤ d) ≡ (u *ℤ (q *ℤ q)) *ℤ d
     swap q u d = simp ring refl
 
--- by the clock: s is q times the duration t
-in_time : (q a t : ℕ) (x y z d : ℤ) → IsWithin (pos (a * (t * t)) *ℤ times x y z (pos (q * t))) (pos 2000000000 *ℤ d) →
-    IsWithin ((pos a *ℤ ((z -ℤ x) *ℤ ((z -ℤ y) *ℤ (y -ℤ x)))) *ℤ power (pos (q * t)) 7) (pos (2000000000 * (q * q)) *ℤ d)
-in_time q a t x y z d within =
-    within_same
-    (ap (λ (v : ℤ). (pos q *ℤ pos q) *ℤ (v *ℤ times x y z (pos (q * t)))) (squares a t)
-    ∙ clock_ring (pos q) (pos a) (pos t) (z -ℤ x) (z -ℤ y) (y -ℤ x) (power (pos (q * t)) 5)
-    ∙ ap (λ (v : ℤ). (pos a *ℤ ((z -ℤ x) *ℤ ((z -ℤ y) *ℤ (y -ℤ x)))) *ℤ (v *ℤ (v *ℤ power (pos (q * t)) 5))) (one_product q t))
-    (clock_value (pos q) d ∙ ap (λ (v : ℤ). v *ℤ d) (counts q))
-    (within_mul (pos q *ℤ pos q) _ _ (mul_not_negative (pos q) (pos q) (omega (arith, ints)) (omega (arith, ints))) within)
-  where
     squares : (a t : ℕ) → pos (a * (t * t)) ≡ pos a *ℤ (pos t *ℤ pos t)
     squares a t = omega (arith, ints)
 
@@ -108,6 +83,32 @@ in_time q a t x y z d within =
     counts : (q : ℕ) → pos 2000000000 *ℤ (pos q *ℤ pos q) ≡ pos (2000000000 * (q * q))
     counts q = omega (arith, ints)
 
+-- ---- one curve
+value_ring : (u q f a b px py pz : ℤ) → u *ℤ (q *ℤ ((f *ℤ pz -ℤ f *ℤ py) *ℤ a -ℤ (f *ℤ py -ℤ f *ℤ px) *ℤ b)) ≡ (f *ℤ q) *ℤ (u *ℤ ((pz -ℤ py) *ℤ a -ℤ (py -ℤ px) *ℤ b))
+value_ring u q f a b px py pz = simp ring (omega (arith, linear))
+
+room_ring : (a b c p s m : ℤ) → a *ℤ (b *ℤ (c *ℤ (p *ℤ (s *ℤ m)))) ≡ (p *ℤ m) *ℤ ((a *ℤ (b *ℤ c)) *ℤ s)
+room_ring a b c p s m = simp ring refl
+
+-- the product of the three times
+abbrev times : ℤ → ℤ → ℤ → ℤ
+times x y z = (z -ℤ x) *ℤ ((z -ℤ y) *ℤ (y -ℤ x))
+
+in_curve : (e a m t : ℕ) (f : ℕ → ℤ) (x y z s px py pz : ℤ) → pos 0 ≤ℤ x → x ≤ℤ y → y ≤ℤ z → z ≤ℤ s → BendsWithin e f (pos m) →
+    25000000 * 4 ^ e * m ≤ a * (3 * 2 ^ (7 * e) * t) → bernstein 7 f x s ≡ pos 5040 *ℤ px → bernstein 7 f y s ≡ pos 5040 *ℤ py → bernstein 7 f z s ≡ pos 5040 *ℤ pz →
+    IsWithin (pos (a * t) *ℤ (times x y z *ℤ power s 5)) (pos 2000000000 *ℤ ((pz -ℤ py) *ℤ (y -ℤ x) -ℤ (py -ℤ px) *ℤ (z -ℤ y)))
+in_curve e a m t f x y z s px py pz low first second high bends fast x_is y_is z_is =
+    in_units e a m t (times x y z *ℤ power s 5) _ _ _
+    (mul_not_negative (times x y z) (power s 5)
+    (mul_not_negative (z -ℤ x) _ (omega (arith, linear)) (mul_not_negative (z -ℤ y) (y -ℤ x) (omega (arith, linear)) (omega (arith, linear)))) (power_low s 5 (omega (arith, linear))))
+    fast (room_ring (z -ℤ x) (z -ℤ y) (y -ℤ x) (pos (4 ^ e)) (power s 5) (pos m))
+    (value_ring (pos 2000000000) (pos (2 ^ (7 * e))) (pos 5040) (y -ℤ x) (z -ℤ y) px py pz)
+    (within_same refl (same_value (pos (2 ^ (7 * e))) (y -ℤ x) (z -ℤ y) x_is y_is z_is) (three_by_parts e f (pos m) x y z s low first second high bends))
+  where
+    same_value : (q a b : ℤ) {fx fy fz gx gy gz : ℤ} → fx ≡ gx → fy ≡ gy → fz ≡ gz → q *ℤ ((fz -ℤ fy) *ℤ a -ℤ (fy -ℤ fx) *ℤ b) ≡ q *ℤ ((gz -ℤ gy) *ℤ a -ℤ (gy -ℤ gx) *ℤ b)
+    same_value q a b {fx} {fy} {fz} {gx} {gy} {gz} xs ys zs = cc
+
+-- ---- one segment
 -- a bend of a part is at most the widest
 pub bends_at : (depth : ℕ) (f : ℕ → ℤ) → BendsWithin depth f (pos (widest_bend_part depth f))
 unfolding widest_bend_part widest_bend
@@ -151,7 +152,7 @@ keeps_acceleration depth axis t formed cue q x y z inside first second last =
     let all : ℕ = greatest_below (length t.segments) (acceleration_in depth t axis) in
     let here : segment_acceleration depth ms f ≤ all = greatest-at (length t.segments) (acceleration_in depth t axis) cue inside in
     let near : cue < length (pieces_on axis t) = omega (arith, length-pieces axis t.segments) in
-    in_time q all ms (pos x) (pos y) (pos z) _
+    in_time q all ms (times (pos x) (pos y) (pos z)) _
     (in_curve depth all (widest_bend_part depth f) (ms * ms) f (pos x) (pos y) (pos z) (pos (q * ms)) (after t axis cue q x) (after t axis cue q y) (after t axis cue q z)
     (omega (arith, ints)) (omega (arith, ints)) (omega (arith, ints)) (omega (arith, ints)) (bends_at depth f)
     (grow (segment_acceleration depth ms f) all (3 * 2 ^ (7 * depth) * (ms * ms)) _ here (fast_at depth ms f (lasts axis t.segments cue inside formed)))
