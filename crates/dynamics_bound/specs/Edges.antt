@@ -11,7 +11,7 @@ use Rattle.dynamics_bound.specs.declared.velocity.Velocity.{Velocity}
 use Rattle.dynamics_bound.specs.declared.jumping.Jump.{Jump}
 use Rattle.dynamics_bound.specs.Accelerations.{acceleration, after}
 
--- The degree times the first, and times the last, step between control values: over the duration it is the velocity at the
+-- The degree times the first step between control values, and times the last: over the duration it is the velocity at the
 -- beginning, and at the end. Degree 0 stays: its step is past the end of the list, times 0.
 abbrev pub first_step : List ℤ → ℤ
 first_step b = pos (length b - 1) *ℤ (at b 1 -ℤ at b 0)
@@ -30,8 +30,8 @@ abbrev pub rest : Velocity
 rest = record { step = pos 0; ms = 1 }
 
 -- ---- edges
--- Edge k is the beginning of segment k, from 0; the last edge is the end of the last segment. A trajectory arrives at its
--- first edge from rest, and departs from its last one to rest.
+-- Edge k is the beginning of segment k, from 0, and the last edge is the end of the last segment. A trajectory arrives at
+-- its first edge from rest, and departs from its last one to rest.
 abbrev pub arrival : Traj → ℕ → ℕ → Velocity
 arrival t axis zero = rest
 arrival t axis (suc cue) = last_velocity t axis cue
@@ -76,16 +76,19 @@ abbrev pub is_rest_at : Traj → ℕ → Bool
 is_rest_at t edge = nat_eq (jump t 0 edge) 0 && nat_eq (jump t 1 edge) 0 && nat_eq (jump t 2 edge) 0
 
 -- ---- what the velocities promise
--- They are the velocities: x / q milliseconds after a segment began, or has still to go, the position departs from the line
--- with that velocity by at most half the acceleration times the square of the time. Both sides are multiplied by 2 10^9 q^2
--- (q ms)^7.
+-- They are the velocities: x / q milliseconds after a segment began, or before it ends, the position departs from the line
+-- with that velocity by at most half the acceleration times the square of the time. Both sides are multiplied by
+-- 2 10^9 q^2 (q ms)^7.
 pub record KeepsTangents (t : Traj) (axis a cue q x : ℕ) : Type 0 where
   pub first : IsWithin ((pos a *ℤ (pos x *ℤ pos x)) *ℤ power (pos (q * duration t cue)) 7)
-      (pos (2000000000 * (q * q)) *ℤ ((after t axis cue q x -ℤ after t axis cue q 0) -ℤ pos x *ℤ (first_step (points t cue axis) *ℤ power (pos (q * duration t cue)) 6)))
+      (pos (2000000000 * (q * q)) *ℤ
+      ((after t axis cue q x -ℤ after t axis cue q 0) -ℤ pos x *ℤ (first_step (points t cue axis) *ℤ power (pos (q * duration t cue)) 6)))
   pub last : IsWithin ((pos a *ℤ (pos x *ℤ pos x)) *ℤ power (pos (q * duration t cue)) 7)
-      (pos (2000000000 * (q * q)) *ℤ ((after t axis cue q (q * duration t cue) -ℤ after t axis cue q (q * duration t cue - x)) -ℤ pos x *ℤ (last_step (points t cue axis) *ℤ power (pos (q * duration t cue)) 6)))
+      (pos (2000000000 * (q * q)) *ℤ
+      ((after t axis cue q (q * duration t cue) -ℤ after t axis cue q (q * duration t cue - x)) -ℤ pos x *ℤ (last_step (points t cue axis) *ℤ power (pos (q * duration t cue)) 6)))
 
 -- on an axis a trajectory keeps to them in each of its segments, with its bound on acceleration by parts of any depth
 abbrev pub HasVelocities : Traj → ℕ → Type 0
 HasVelocities t axis =
-    (depth cue q x : ℕ) → cue < length t.segments → x ≤ q * duration t cue → KeepsTangents t axis (acceleration depth t axis) cue q x
+    (depth cue q x : ℕ) → cue < length t.segments → x ≤ q * duration t cue →
+    KeepsTangents t axis (acceleration depth t axis) cue q x

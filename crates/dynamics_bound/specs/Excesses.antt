@@ -30,11 +30,13 @@ jumps_at limit t edge = above kind.Jump limit edge (λ axis. jump t axis edge)
 -- beginning of the segment, and of each x before y before z.
 abbrev pub excess_before : Limits → ℕ → Traj → ℕ → Option Excess
 excess_before limits depth t zero = None
-excess_before limits depth t (suc k) = option_or (excess_before limits depth t k) (option_or (sharp_at limits.acceleration depth t k) (jumps_at limits.jump t k))
+excess_before limits depth t (suc k) =
+    option_or (excess_before limits depth t k) (option_or (sharp_at limits.acceleration depth t k) (jumps_at limits.jump t k))
 
 -- at the last edge there is a jump, and no segment after it
 abbrev pub first_excess : Limits → ℕ → Traj → Option Excess
-first_excess limits depth t = option_or (excess_before limits depth t (length t.segments)) (jumps_at limits.jump t (length t.segments))
+first_excess limits depth t =
+    option_or (excess_before limits depth t (length t.segments)) (jumps_at limits.jump t (length t.segments))
 
 -- no bound on an acceleration, and no jump, is above its limit, if there is one
 pub record IsWithinLimits (limits : Limits) (depth : ℕ) (t : Traj) : Type 0 where

@@ -29,7 +29,8 @@ walk_at t edge = record { x = reached_at t 0 edge; y = reached_at t 1 edge; z = 
 
 -- the greatest jumps at the edges before this one
 abbrev pub greatest_before : Traj → ℕ → Greatest
-greatest_before t edge = record { x = greatest_of edge (jump t 0); y = greatest_of edge (jump t 1); z = greatest_of edge (jump t 2) }
+greatest_before t edge =
+    record { x = greatest_of edge (jump t 0); y = greatest_of edge (jump t 1); z = greatest_of edge (jump t 2) }
 
 -- three numbers on x, y and z
 abbrev pub three : {A : Type 0} → (ℕ → A) → List A

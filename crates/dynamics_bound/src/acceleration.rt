@@ -12,17 +12,18 @@ use crate::walk::Walk;
 use bezier_core::Bez;
 use traj_codec::Traj;
 
-/// How fast the velocity of a trajectory changes at most within its segments on x, y and z, in micrometres per second
-/// squared: on each axis the greatest over its segments and their 2^`depth` parts of the least whole number that is not
-/// below 42 * 10^9 * 4^depth * m / (5040 * 2^(7 depth) * ms^2). Here ms is how long the segment lasts, and m the widest second
-/// difference between control values of the part.
+/// How fast the velocity of a trajectory changes at most within its segments on x, y and z, in micrometres per second squared:
+/// on each axis the greatest over its segments and their 2^`depth` parts of the least whole number that is not below
+/// 42 * 10^9 * 4^depth * m / (5040 * 2^(7 depth) * ms^2). Here ms is how long the segment lasts, and m the widest second
+/// difference of the part's control values.
 ///
-/// Between any three instants of a segment, for all fractions, the mean velocity changes by at most that number times half
-/// the time between the first and the last. Takes no memory.
+/// Between any three instants of a segment, whatever fractions they are, the mean velocity changes by at most that number
+/// times half the time between the first and the last. Takes no memory.
 pub fn bound(t: &Traj, depth: u8) -> [i64; 3]
     requires lasting { All HasDuration t.now.segments }
     requires depth { depth ≤ 8 }
-    ensures exact { result ≡ pos (acceleration depth t.now 0) ∷ pos (acceleration depth t.now 1) ∷ pos (acceleration depth t.now 2) ∷ [] }
+    ensures exact { result ≡ pos (acceleration depth t.now 0) ∷ pos (acceleration depth t.now 1)
+        ∷ pos (acceleration depth t.now 2) ∷ [] }
     ensures keeps { (axis : ℕ) → axis ≤ 2 → KeepsAcceleration t.now axis (acceleration depth t.now axis) }
     ensures small { (axis : ℕ) → axis ≤ 2 → acceleration depth t.now axis < 2 ^ 53 }
 {

@@ -15,14 +15,14 @@ use traj_codec::Traj;
 pub struct Jump {
     /// How much the velocity changes, in micrometres per second, rounded up.
     pub speed: i64,
-    /// The first segment at whose beginning it does, from 0. As many as there are segments: the last instant.
+    /// The first segment at whose beginning it does, from 0. As many as there are segments: it does at the last instant.
     pub segment: usize,
 }
 
-/// On x, y and z the greatest jump of the velocity between segments, from rest at the first instant and to rest at the last
-/// one. It is exact but for being rounded up, and 0 just where both velocities are the same.
+/// On x, y and z the greatest jump of the velocity between segments, from rest at the first instant and to rest at the last one.
+/// It is exact but for being rounded up, and 0 just where both velocities are the same.
 ///
-/// That these are the velocities is what `velocities` says: near its two ends a segment departs from the line with that
+/// That these are the velocities is what `velocities` says: near each of its ends a segment departs from the line with that
 /// velocity by at most half its bound on acceleration times the square of the time. Takes no memory.
 pub fn jumps(t: &Traj) -> [Jump; 3]
     requires lasting { All HasDuration t.now.segments }
@@ -87,7 +87,8 @@ fn none() -> Greatest
 // The greatest jumps, after those at one edge more.
 fn greater(most: Greatest, speeds: [u64; 3], edge: usize) -> Greatest
     requires small { All (λ v. v < 2 ^ 53) speeds }
-    ensures { (t : Traj) → most ≡ greatest_before t edge → speeds ≡ three (λ axis. jump t axis edge) → result ≡ greatest_before t (suc edge) }
+    ensures { (t : Traj) → most ≡ greatest_before t edge → speeds ≡ three (λ axis. jump t axis edge)
+        → result ≡ greatest_before t (suc edge) }
 {
     Greatest {
         x: or_greater(most.x, speeds[0], edge),

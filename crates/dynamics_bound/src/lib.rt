@@ -1,13 +1,14 @@
 //! How a trajectory accelerates at most, and how much its velocity jumps.
 //!
-//! [`bound`] gives a number for each of the axes x, y and z, in micrometres per second squared: between any three instants
-//! of a segment the mean velocity changes by at most that number times half the time between the first and the last.
-//! [`jumps`] gives the greatest jump of the velocity at an edge between two segments, in micrometres per second, and
-//! [`first_above`] the first of these numbers that is above a limit. Nothing is sampled: the numbers are computed from control
-//! values. Takes no memory.
+//! [`bound`] gives a number for each of the axes x, y and z, in micrometres per second squared. Between any three instants of a
+//! segment the mean velocity changes by at most that number times half the time between the first and the last.
 //!
-//! The crate stands on `halving` for the parts of a curve, on `fleet_curves` for the raised curves of a segment, and on the
-//! lemmas of `speed_bound`.
+//! [`jumps`] gives the greatest jump of the velocity between two segments, in micrometres per second, and [`first_above`] the
+//! first of these numbers that is above a limit. Nothing is sampled: the numbers are computed from control values. Takes no
+//! memory.
+//!
+//! The crate stands on `halving` for the parts of a curve, on `fleet_curves` for the raised curves of a segment, and on lemmas
+//! of `speed_bound`.
 #![tactic(auto)]
 
 mod acceleration;

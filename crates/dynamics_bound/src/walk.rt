@@ -73,8 +73,8 @@ impl Walk {
         ]
     }
 
-    /// The bounds on x, y and z of the acceleration in the segment with this number, by its parts of a depth, in micrometres
-    /// per second squared; on each axis no less than `most`.
+    /// The bounds on the acceleration in the segment with this number, by its parts of a depth, in micrometres per second
+    /// squared; on each axis no less than `most`.
     pub fn accelerations(&self, t: &Traj, k: usize, depth: u8, most: &[u64; 3]) -> [u64; 3]
         requires here { self.now ≡ walk_at t.now k }
         requires inside { k < length t.now.segments }
@@ -107,7 +107,10 @@ fn resting(value: i16) -> Reached
 impl Reached {
     // The end of an element that begins here and lasts so long.
     fn after(&self, element: Element, ms: u16) -> Reached
-        ensures { result ≡ record { value = value_after self.now.value element; arrival = record { step = last_step (self.now.value ∷ stored element); ms = ms } } }
+        ensures { result ≡ record {
+          value = value_after self.now.value element;
+          arrival = record { step = last_step (self.now.value ∷ stored element); ms = ms };
+        } }
     {
         Reached {
             value: value_after(self.value, element),
@@ -119,7 +122,8 @@ impl Reached {
     fn jump(&self, element: Element, ms: u16) -> u64
         requires arrived { 1 ≤ self.now.arrival.ms }
         requires lasting { 1 ≤ ms }
-        ensures exact { result ≡ jump_between self.now.arrival (record { step = first_step (self.now.value ∷ stored element); ms = ms }) }
+        ensures exact { result ≡ jump_between self.now.arrival
+            (record { step = first_step (self.now.value ∷ stored element); ms = ms }) }
         ensures small { result < 2 ^ 53 }
     {
         jump_between(self.arrival, first_velocity(self.value, element, ms))
