@@ -1,4 +1,4 @@
-//! Runs of `boxes`, `speed` and `explain`, with results that are known from outside.
+//! Runs of `boxes`, `speed`, `explain` and `dynamics`, with results that are known from outside.
 use crate::tests::{APART, CROSSING, FINE, MARKER, Manner, SHOW, WITHOUT_ROOM, answer, is_met};
 use std::alloc::{AllocError, Global};
 use std::test::Fail;
@@ -210,9 +210,200 @@ fn speeds_and_explanations(rt: HostRuntime) -> Result<(), Fail> {
     Ok(())
 }
 
+// A drone that stays.
+const STILL: &[u8] = b"choreo 1\ndrone solo 0 0 1000000 0\ncue 1000\nend\n";
+
+// A drone that leaves its rest, and ends at speed.
+const END: &[u8] = b"choreo 1\ndrone a 0 0 1000000 0\ncue 1000\na curve 0 0 1000000 500000 0 1000000 1000000 0 1000000 0\nend\n";
+
+// Holds that are joined, before each of two lines.
+const JOINED: &[u8] = b"choreo 1\ndrone solo 0 0 1000000 0\ncue 1000\nend\ncue 500\nend\ncue 2000\nsolo line 0 1000000 1000000 0\nend\ncue 700\nend\ncue 300\nend\ncue 4000\nsolo line 0 1000000 2000000 0\nend\n";
+
+// Two drones: the first jumps later than the second one accelerates.
+const TWO: &[u8] = b"choreo 1\ndrone a 0 0 1000000 0\ndrone b 0 5000000 1000000 0\ncue 1000\nb move 0 6000000 1000000 0\nend\ncue 1000\na line 1000000 0 1000000 0\nend\n";
+
+// A drone that begins at speed and accelerates.
+const BOTH: &[u8] = b"choreo 1\ndrone a 0 0 1000000 0\ncue 1000\na curve 0 500000 1000000 1000000 0 1000000 1000000 0 1000000 0\nend\n";
+
+// A drone that accelerates more in a later cue than the one at whose beginning it jumps.
+const LATER: &[u8] = b"choreo 1\ndrone a 0 0 1000000 0\ncue 1000\na line 0 0 2000000 0\nend\ncue 1000\na move 3000000 0 2000000 0\nend\n";
+
+// By fractions, from the definitions, outside the program: bench/dynamics.py.
+const DYNAMICS: [(&[&str], &[u8], u8, &[u8]); 21] = [
+    (
+        &["dynamics"],
+        SHOW,
+        0,
+        b"dynamics solo acceleration 1878895 0 0 jump 0 cue 1 0 cue 1 0 cue 1 begins rest ends rest\n\
+greatest acceleration 1878895 0 0 jump 0 0 0\n",
+    ),
+    (
+        &["dynamics", "--depth", "0"],
+        SHOW,
+        0,
+        b"dynamics solo acceleration 10500000 0 0 jump 0 cue 1 0 cue 1 0 cue 1 begins rest ends rest\n\
+greatest acceleration 10500000 0 0 jump 0 0 0\n",
+    ),
+    (
+        &["dynamics", "--depth", "8"],
+        SHOW,
+        0,
+        b"dynamics solo acceleration 1878325 0 0 jump 0 cue 1 0 cue 1 0 cue 1 begins rest ends rest\n\
+greatest acceleration 1878325 0 0 jump 0 0 0\n",
+    ),
+    (
+        &["dynamics"],
+        ARC,
+        0,
+        b"dynamics solo acceleration 2688000 2688000 0 jump 1656000 cue 2 1656000 cue 1 0 cue 1 begins moving ends moving\n\
+greatest acceleration 2688000 2688000 0 jump 1656000 1656000 0\n",
+    ),
+    (
+        &["dynamics"],
+        BACK,
+        0,
+        b"dynamics solo acceleration 0 0 0 jump 333334 cue 1 0 cue 1 0 cue 1 begins moving ends moving\n\
+greatest acceleration 0 0 0 jump 333334 0 0\n",
+    ),
+    (
+        &["dynamics"],
+        STILL,
+        0,
+        b"dynamics solo acceleration 0 0 0 jump 0 cue 1 0 cue 1 0 cue 1 begins rest ends rest\n\
+greatest acceleration 0 0 0 jump 0 0 0\n",
+    ),
+    (
+        &["dynamics"],
+        END,
+        0,
+        b"dynamics a acceleration 3000000 0 0 jump 1500000 cue 2 0 cue 1 0 cue 1 begins rest ends moving\n\
+greatest acceleration 3000000 0 0 jump 1500000 0 0\n",
+    ),
+    (
+        &["dynamics", "--jump", "1499"],
+        END,
+        18,
+        b"error 18 drone a cue 2 jump x 1500000\n",
+    ),
+    (
+        &["dynamics"],
+        JOINED,
+        0,
+        b"dynamics solo acceleration 0 0 0 jump 0 cue 1 500000 cue 3 250000 cue 6 begins rest ends moving\n\
+greatest acceleration 0 0 0 jump 0 500000 250000\n",
+    ),
+    (
+        &["dynamics", "--jump", "500"],
+        JOINED,
+        0,
+        b"dynamics solo acceleration 0 0 0 jump 0 cue 1 500000 cue 3 250000 cue 6 begins rest ends moving\n\
+greatest acceleration 0 0 0 jump 0 500000 250000\n",
+    ),
+    (
+        &["dynamics", "--jump", "499"],
+        JOINED,
+        18,
+        b"error 18 drone solo cue 3 jump y 500000\n",
+    ),
+    (
+        &["dynamics", "--accel", "1879"],
+        SHOW,
+        0,
+        b"dynamics solo acceleration 1878895 0 0 jump 0 cue 1 0 cue 1 0 cue 1 begins rest ends rest\n\
+greatest acceleration 1878895 0 0 jump 0 0 0\n",
+    ),
+    (
+        &["dynamics", "--accel", "1878"],
+        SHOW,
+        18,
+        b"error 18 drone solo cue 1 accel x 1878895\n",
+    ),
+    (
+        &["dynamics", "--depth", "0", "--accel", "10500", "--jump", "0"],
+        SHOW,
+        0,
+        b"dynamics solo acceleration 10500000 0 0 jump 0 cue 1 0 cue 1 0 cue 1 begins rest ends rest\n\
+greatest acceleration 10500000 0 0 jump 0 0 0\n",
+    ),
+    (
+        &["dynamics", "--depth", "0", "--accel", "10499"],
+        SHOW,
+        18,
+        b"error 18 drone solo cue 1 accel x 10500000\n",
+    ),
+    (
+        &["dynamics", "--accel", "5000", "--jump", "300"],
+        TWO,
+        18,
+        b"error 18 drone a cue 2 jump x 1000000\n",
+    ),
+    (
+        &["dynamics", "--accel", "5000", "--jump", "300"],
+        BOTH,
+        18,
+        b"error 18 drone a cue 1 accel x 6000000\n",
+    ),
+    (
+        &["dynamics", "--accel", "5000", "--jump", "300"],
+        LATER,
+        18,
+        b"error 18 drone a cue 1 jump z 1000000\n",
+    ),
+    (
+        &["dynamics", "--accel", "5000"],
+        LATER,
+        18,
+        b"error 18 drone a cue 2 accel x 22546729\n",
+    ),
+    (
+        &["dynamics"],
+        WITHOUT_ROOM,
+        4,
+        b"error 4 drone solo bytes 28 room 27\n",
+    ),
+    (&["dynamics", "--limit", "5"], SHOW, 2, b"error 2 usage\n"),
+];
+
+#[test]
+fn accelerations_and_jumps(rt: HostRuntime) -> Result<(), Fail> {
+    for (words, show, status, written) in DYNAMICS {
+        assert!(rt; is_met(rt.alloc(), words, show, b"", status, written)?);
+    }
+    Ok(())
+}
+
+// The name of one of 32 drones.
+fn name_of(d: u8) -> [u8; 3] {
+    [b'd', b'0' + d / 10, b'0' + d % 10]
+}
+
+#[test]
+fn dynamics_of_many(rt: HostRuntime) -> Result<(), Fail> {
+    let mut show = Vec::from_slice(rt.alloc(), b"choreo 1\n")?;
+    let mut written = Vec::new(rt.alloc());
+    for d in 0..32 {
+        show.extend_from_slice(b"drone ")?;
+        show.extend_from_slice(&name_of(d))?;
+        show.extend_from_slice(b" 0 ")?;
+        show.extend_from_slice(&name_of(d)[1..])?;
+        show.extend_from_slice(b"000000 1000000 0\n")?;
+        written.extend_from_slice(b"dynamics ")?;
+        written.extend_from_slice(&name_of(d))?;
+        if d == 31 {
+            written.extend_from_slice(b" acceleration 1878895 0 0 jump 0 cue 1 0 cue 1 0 cue 1 begins rest ends rest\n")?;
+        } else {
+            written.extend_from_slice(b" acceleration 0 0 0 jump 0 cue 1 0 cue 1 0 cue 1 begins rest ends rest\n")?;
+        }
+    }
+    show.extend_from_slice(b"cue 2000\nd31 move 1000000 31000000 1000000 0\nend\n")?;
+    written.extend_from_slice(b"greatest acceleration 1878895 0 0 jump 0 0 0\n")?;
+    assert!(rt; is_met(rt.alloc(), &["dynamics"], &show, b"", 0, &written)?);
+    Ok(())
+}
+
 #[test]
 fn marker_lines_that_are_refused(rt: HostRuntime) -> Result<(), Fail> {
-    for command in ["speed", "explain"] {
+    for command in ["speed", "explain", "dynamics"] {
         assert!(rt;
             is_met(
                 rt.alloc(),
@@ -230,7 +421,7 @@ fn marker_lines_that_are_refused(rt: HostRuntime) -> Result<(), Fail> {
 #[test]
 fn reads_and_writes_that_fail(rt: HostRuntime) -> Result<(), Fail> {
     let failing = Manner { cut: 10, fails: 2 };
-    for command in ["boxes", "speed", "explain"] {
+    for command in ["boxes", "speed", "explain", "dynamics"] {
         let (status, sink) = answer(rt.alloc(), &[command], SHOW, b"", failing, FINE)?;
         assert_eq!(rt; status, 6);
         assert_eq!(rt; sink.written(), b"error 6 read\n".as_slice());

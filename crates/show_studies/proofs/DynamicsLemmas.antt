@@ -1,25 +1,45 @@
 -- What `dynamics` answers, drone by drone.
-use Rattle.std.proofs.Common.{◌≡◌, ℕ, zero, suc, ◌+◌, ◌-◌, ◌<◌, ◌≤◌, max, Bool, true, false, cond, nat_lt, pos, List, [], ◌∷◌, ◌++◌, All, length, map, get_or, drop, Option, Some, None, Result, Ok, Err, IfOk, IfSome, refl, sym, ap, subst, ◌∙◌, arith, append_assoc, append-nil}
+use Rattle.std.proofs.Common.{inl, inr, ◌⊎◌, ◌≡◌, ℕ, zero, suc, ◌+◌, ◌-◌, ◌<◌, ◌≤◌, max, Bool, true, false, cond, nat_lt, pos, List, [], ◌∷◌, ◌++◌, All, length, map, get_or, drop, Option, Some, None, Result, Ok, Err, IfOk, IfSome, refl, sym, ap, subst, ◌∙◌, arith, append_assoc, append-nil}
 use Rattle.std.specs.Option.{option_or}
 use Rattle.std.specs.declared.alloc.AllocError.{AllocError}
 use Rattle.std.proofs.lemmas.List.{drop_all, drop_more}
-use Rattle.std.proofs.lemmas.List.Elements.{All-cons, All-nil}
+use Rattle.std.proofs.lemmas.List.Elements.{All-cons, All-head, All-nil}
 use Rattle.choreo_lines.specs.Name.{Name}
 use Rattle.choreo_reader.specs.Plain.{PlainShow}
 use Rattle.dynamics_bound.specs.declared.excess.Excess.{Excess}
 use Rattle.dynamics_bound.specs.declared.excess.Kind.{Kind}
 use Rattle.dynamics_bound.specs.declared.excess.Kind.TheVariants as kind
 use Rattle.dynamics_bound.specs.declared.excess.Limits.{Limits}
+use Rattle.cue_grid.specs.declared.grid.Grid.{Grid}
+use Rattle.cue_grid.specs.Cues.{grid_of}
 use Rattle.dynamics_bound.specs.Excesses.{above, excess_before, first_excess, jumps_at, sharp_at}
-use Rattle.fleet_io.specs.Words.{IsWord}
+use Rattle.fleet_io.specs.Words.{AreWords}
 use Rattle.refusals.specs.declared.refusal.Refusal.{Refusal}
+use Rattle.traj_codec.specs.declared.traj.Segment.{Segment}
 use Rattle.traj_codec.specs.declared.traj.Traj.{Traj}
+use Rattle.traj_codec.specs.Positions.{durations}
+use Rattle.show_plan.specs.declared.fitted.Fitted.{Fitted}
+use Rattle.show_plan.specs.Fitting.{IsFitted}
+use Rattle.show_plan.specs.Flight.{no_trajectory}
+use Rattle.show_plan.specs.Trajectories.{by_cue, cue_times}
+use Rattle.show_plan.proofs.Flight.{by_cue_counted, flight_lasts}
+use Rattle.show_judge.specs.declared.ends.Answer.{Answer}
+use Rattle.show_judge.specs.Answers.{outcome_of}
+use Rattle.show_judge.specs.Shows.{names_of, sent_of}
+use Rattle.show_studies.specs.Speeds.{refused_or}
 use Rattle.show_judge.specs.Refused.{IsOfInput}
 use Rattle.show_studies.specs.declared.motion.Axes.{Axes}
 use Rattle.show_studies.specs.declared.motion.Extremes.{Extremes}
-use Rattle.show_studies.specs.Dynamics.{KeepsMotion, cue_from, excess_by, excess_refusal, extremes, extremes_of, first_excess_of, motion, motion_line, motion_lines}
+use Rattle.show_studies.specs.Dynamics.{KeepsMotion, cue_from, dynamics_of, dynamics_text, excess_by, excess_in, extremes, extremes_of, first_excess_of, limits_of, motion, motion_line, motion_lines, times_of}
 use Rattle.show_studies.specs.Steps.{greater, nothing}
 use Rattle.show_studies.proofs.SpeedLemmas.{after_none, first_there, left_from}
+
+-- ---- words
+
+-- words, and words after them
+pub words_both : (words more : List (List ℕ)) → AreWords words → AreWords more → AreWords (words ++ more)
+words_both [] more are after = after
+words_both (word ∷ words) more are after = (are.0, words_both words more are.1 after)
 
 -- ---- cues
 
@@ -32,6 +52,58 @@ cue_more (suc m) ms times some = refl
 pub cue_none : (left : ℕ) → cue_from left [] ≡ 0
 cue_none zero = refl
 cue_none (suc m) = refl
+
+-- the cues of a show last as long as the segments by cue of each of its drones
+pub times_are : (g : Grid) (times : List ℕ) (ts : List Traj) → ts ≡ by_cue g → 1 ≤ length ts → All (λ (t : Traj). durations t.segments ≡ times) ts → times ≡ cue_times g
+times_are g times [] is some all = absurd (omega (arith, some))
+times_are g times (t ∷ ts) is some all =
+    sym (All-head (λ (u : Traj). durations u.segments ≡ times) t ts all)
+    ∙ ap (λ (us : List Traj). durations (get_or us 0 no_trajectory).segments) is
+    ∙ flight_lasts g 0 (omega (arith, by_cue_counted g, some, ap (λ (us : List Traj). length us) is))
+
+-- what holds of all trajectories holds of the first
+pub first_has : (P : Traj → Type 0) (ts : List Traj) (t : Traj) → t ≡ get_or ts 0 t → 1 ≤ length ts → All P ts → P t
+first_has P [] t is some all = absurd (omega (arith, some))
+first_has P (u ∷ us) t is some all = subst P (sym is) (All-head P u us all)
+
+-- ---- what is above a limit first
+
+-- it is on one of three axes, in the segment that is looked at
+above_named : (what : Kind) (limit : Option ℕ) (segment : ℕ) (f : ℕ → ℕ) (e : Excess) → above what limit segment f ≡ Some e → (e.axis ≤ 2) × (e.segment ≡ segment)
+above_named what None segment f e is = absurd (cc)
+above_named what (Some limit) segment f e is = by (nat_lt limit (f 0)) (nat_lt limit (f 1)) (nat_lt limit (f 2)) is
+  where
+    on : ℕ → Excess
+    on axis = record { kind = what; segment = segment; axis = axis; value = pos (f axis) }
+
+    named : (axis : ℕ) → axis ≤ 2 → Some (on axis) ≡ Some e → (e.axis ≤ 2) × (e.segment ≡ segment)
+    named axis small same = let it : on axis ≡ e = cc in subst (λ (u : Excess). (u.axis ≤ 2) × (u.segment ≡ segment)) it (small, refl)
+
+    by : (x y z : Bool) → cond x (Some (on 0)) (cond y (Some (on 1)) (cond z (Some (on 2)) None)) ≡ Some e → (e.axis ≤ 2) × (e.segment ≡ segment)
+    by true y z same = named 0 (omega arith) same
+    by false true z same = named 1 (omega arith) same
+    by false false true same = named 2 (omega arith) same
+    by false false false same = absurd (cc)
+
+either : (a b : Option Excess) (e : Excess) → option_or a b ≡ Some e → (a ≡ Some e) ⊎ (b ≡ Some e)
+either None b e is = inr is
+either (Some x) b e is = inl is
+
+before_named : (limits : Limits) (depth : ℕ) (t : Traj) (k : ℕ) (e : Excess) → excess_before limits depth t k ≡ Some e → (e.axis ≤ 2) × (e.segment ≤ k)
+before_named limits depth t zero e is = absurd (cc)
+before_named limits depth t (suc k) e is = elim (either (excess_before limits depth t k) _ e is) [
+  | inl first ↦ let named = before_named limits depth t k e first in (named.0, omega (arith, named.1))
+  | inr later ↦ elim (either (sharp_at limits.acceleration depth t k) (jumps_at limits.jump t k) e later) [
+      | inl sharp ↦ let named = above_named kind.Acceleration limits.acceleration k _ e sharp in (named.0, omega (arith, named.1))
+      | inr jumps ↦ let named = above_named kind.Jump limits.jump k _ e jumps in (named.0, omega (arith, named.1))
+    ]
+]
+
+pub first_named : (limits : Limits) (depth : ℕ) (t : Traj) (e : Excess) → first_excess limits depth t ≡ Some e → (e.axis ≤ 2) × (e.segment ≤ length t.segments)
+first_named limits depth t e is = elim (either (excess_before limits depth t (length t.segments)) (jumps_at limits.jump t (length t.segments)) e is) [
+  | inl before ↦ before_named limits depth t (length t.segments) e before
+  | inr last ↦ let named = above_named kind.Jump limits.jump (length t.segments) _ e last in (named.0, omega (arith, named.1))
+]
 
 -- ---- extremes
 
@@ -90,7 +162,7 @@ motions_next depth times text more sent names d t name within inside t_is name_i
 pub motions_over : (depth : ℕ) (times : List ℕ) (text : List ℕ) (sent : List Traj) (names : List Name) (d : ℕ) → length sent ≤ d →
     text ++ motion_lines depth times (drop d sent) (drop d names) ≡ text
 motions_over depth times text sent names d over =
-    ap (λ (ts : List Traj). text ++ motion_lines depth times ts (drop d names)) (drop_all sent d over) ∙ append-nil text
+    ap (λ (ts : List Traj). text ++ motion_lines depth times ts (drop d names)) (drop_all d sent over) ∙ append-nil text
 
 -- the extremes of one drone more
 pub extremes_next : (depth : ℕ) (m : Extremes) (sent : List Traj) (d : ℕ) (t : Traj) → d < length sent → t ≡ get_or sent d t →
@@ -100,7 +172,7 @@ extremes_next depth m sent d t within t_is =
     ∙ ap (λ (ts : List Traj). greater m (extremes_of depth ts)) (sym (drop_more sent d t within ∙ ap (λ (u : Traj). u ∷ drop (d + 1) sent) (sym t_is)))
 
 pub extremes_over : (depth : ℕ) (m : Extremes) (sent : List Traj) (d : ℕ) → length sent ≤ d → greater m (extremes_of depth (drop d sent)) ≡ m
-extremes_over depth m sent d over = ap (λ (ts : List Traj). greater m (extremes_of depth ts)) (drop_all sent d over) ∙ greater_last m
+extremes_over depth m sent d over = ap (λ (ts : List Traj). greater m (extremes_of depth ts)) (drop_all d sent over) ∙ greater_last m
 
 -- a drone with nothing above a limit leaves the refusal to those after it
 pub excess_next : (limits : Limits) (depth : ℕ) (times : List ℕ) (sent : List Traj) (names : List Name) (d : ℕ) (t : Traj) (name : Name) → d < length sent → d < length names →
@@ -118,7 +190,7 @@ excess_here limits depth times sent names d t name r within inside t_is name_is 
 
 pub excess_over : (limits : Limits) (depth : ℕ) (times : List ℕ) (sent : List Traj) (names : List Name) (d : ℕ) → length sent ≤ d →
     first_excess_of limits depth times (drop d sent) (drop d names) ≡ None
-excess_over limits depth times sent names d over = ap (λ (ts : List Traj). first_excess_of limits depth times ts (drop d names)) (drop_all sent d over)
+excess_over limits depth times sent names d over = ap (λ (ts : List Traj). first_excess_of limits depth times ts (drop d names)) (drop_all d sent over)
 
 -- a drone more that keeps to its motion
 pub keeps_next : (limits : Limits) (depth : ℕ) (sent : List Traj) (d : ℕ) (t : Traj) → d < length sent → t ≡ get_or sent d t → KeepsMotion limits depth t →
@@ -128,4 +200,24 @@ keeps_next limits depth sent d t within t_is keeps later =
     (All-cons (KeepsMotion limits depth) t (drop (d + 1) sent) keeps later)
 
 pub keeps_over : (limits : Limits) (depth : ℕ) (sent : List Traj) (d : ℕ) → length sent ≤ d → All (KeepsMotion limits depth) (drop d sent)
-keeps_over limits depth sent d over = subst (All (KeepsMotion limits depth)) (sym (drop_all sent d over)) (All-nil (KeepsMotion limits depth))
+keeps_over limits depth sent d over = subst (All (KeepsMotion limits depth)) (sym (drop_all d sent over)) (All-nil (KeepsMotion limits depth))
+
+-- the answer for what fits is that for its show
+pub motions_of_show : (f : Fitted) (s : PlainShow) (depth : ℕ) (accel jump : Option ℕ) (limits : Limits) (times : List ℕ) (sent : List Traj) (names : List Name) (result : Result Answer AllocError) →
+    IsFitted f s → limits ≡ limits_of accel jump → times ≡ times_of s → sent ≡ f.sent → names ≡ f.names →
+    IfOk result (λ a. outcome_of a ≡ refused_or (first_excess_of limits depth times sent names) (dynamics_text depth times sent names)) →
+    IfOk result (λ a. outcome_of a ≡ refused_or (excess_in (limits_of accel jump) depth s) (dynamics_of depth s))
+motions_of_show f s depth accel jump limits times sent names (Err e) is limits_are times_are sent_are names_are gives = tt
+motions_of_show f s depth accel jump limits times sent names (Ok a) is limits_are times_are sent_are names_are gives =
+    gives
+    ∙ ap (λ (l : Limits). refused_or (first_excess_of l depth times sent names) (dynamics_text depth times sent names)) limits_are
+    ∙ ap (λ (ms : List ℕ). refused_or (first_excess_of (limits_of accel jump) depth ms sent names) (dynamics_text depth ms sent names)) times_are
+    ∙ ap (λ (ts : List Traj). refused_or (first_excess_of (limits_of accel jump) depth (times_of s) ts names) (dynamics_text depth (times_of s) ts names)) (sent_are ∙ is.sent)
+    ∙ ap (λ (ns : List Name). refused_or (first_excess_of (limits_of accel jump) depth (times_of s) (sent_of s) ns) (dynamics_text depth (times_of s) (sent_of s) ns)) (names_are ∙ is.names)
+
+pub keeps_of_show : (f : Fitted) (s : PlainShow) (depth : ℕ) (accel jump : Option ℕ) (limits : Limits) (sent : List Traj) (result : Result Answer AllocError) →
+    IsFitted f s → limits ≡ limits_of accel jump → sent ≡ f.sent →
+    IfOk result (λ a. (outcome_of a).status ≡ 0 → All (KeepsMotion limits depth) sent) → IfOk result (λ a. (outcome_of a).status ≡ 0 → All (KeepsMotion (limits_of accel jump) depth) (sent_of s))
+keeps_of_show f s depth accel jump limits sent (Err e) is limits_are sent_are keeps = tt
+keeps_of_show f s depth accel jump limits sent (Ok a) is limits_are sent_are keeps =
+    λ done. subst (λ (l : Limits). All (KeepsMotion l depth) (sent_of s)) limits_are (subst (All (KeepsMotion limits depth)) (sent_are ∙ is.sent) (keeps done))

@@ -1,5 +1,5 @@
 -- What `dynamics` gives: how fast the speeds of a show's drones change at most, and where they jump.
-use Rattle.std.specs.Prelude.{◌≡◌, ℕ, zero, suc, ◌+◌, ◌-◌, ◌*◌, ◌≤◌, max, Bool, true, false, List, [], ◌∷◌, ◌++◌, codes, decimal, length, map, take, sum, Option, Some, None}
+use Rattle.std.specs.Prelude.{◌≡◌, ℕ, zero, suc, ◌+◌, ◌-◌, ◌*◌, ◌≤◌, max, Bool, true, false, List, [], ◌∷◌, ◌++◌, codes, decimal, ℤ, length, map, take, sum, Option, Some, None}
 use Rattle.std.specs.List.{All}
 use Rattle.std.specs.Io.KnownBytes.{Appends}
 use Rattle.std.specs.Option.{option_map, option_or}
@@ -123,10 +123,14 @@ dynamics_text depth times sent names = motion_lines depth times sent names ++ ex
 
 -- ---- what is above a limit
 
--- a number of a drone that is above its limit, with the cue in which it is or at whose beginning
+-- a number of a drone on an axis that is above its limit, in what begins with a cue or at its beginning
+abbrev pub refusal_as : Kind → Name → ℕ → ℕ → ℤ → Refusal
+refusal_as kind.Acceleration name cue axis value = refusal.Accelerates name cue axis value
+refusal_as kind.Jump name cue axis value = refusal.Jumps name cue axis value
+
+-- what is above a limit, with the cue of its segment
 abbrev pub excess_refusal : List ℕ → Traj → Name → Excess → Refusal
-excess_refusal times t name (record { kind = kind.Acceleration; segment = segment; axis = axis; value = value }) = refusal.Accelerates name (cue_of times t segment) axis value
-excess_refusal times t name (record { kind = kind.Jump; segment = segment; axis = axis; value = value }) = refusal.Jumps name (cue_of times t segment) axis value
+excess_refusal times t name e = refusal_as e.kind name (cue_of times t e.segment) e.axis e.value
 
 -- the first one of a drone
 abbrev pub excess_by : Limits → ℕ → List ℕ → Traj → Name → Option Refusal

@@ -12,7 +12,7 @@ ghost use Rattle.show_judge.specs.Refused.{IsOfInput};
 ghost use Rattle.show_judge.specs.Runs.{Behaves};
 ghost use Rattle.show_judge.specs.Shows.{Cut, most_depth};
 ghost use Rattle.show_judge.specs.Verb.{during};
-ghost use Rattle.show_studies.specs.Dynamics.{KeepsMotion, begins_at, cue_from, cue_of, dynamics_text, dynamics_verb, excess_by, extremes, first_excess_of, in_micrometres, limits_of, motion, motion_line};
+ghost use Rattle.show_studies.specs.Dynamics.{KeepsMotion, begins_at, cue_from, cue_of, dynamics_text, dynamics_verb, excess_by, first_excess_of, in_micrometres, limits_of, motion, refusal_as, times_of};
 ghost use Rattle.show_studies.specs.Speeds.{refused_or};
 
 use crate::motion::{Axes, Extremes, Motion, put_extremes, put_motion};
@@ -67,6 +67,29 @@ fn cue_of(cues: &[Segment], t: &Traj, segment: usize) -> u16
     cue_from(cues, lasting(&t.segments.as_slice()[..segment]))
 }
 
+// The refusal of a number that is above its limit.
+fn refusal_as(kind: Kind, drone: Name, cue: u16, axis: u8, value: i64) -> Refusal
+    requires name { IsWord drone.items }
+    requires axis { axis ≤ 2 }
+    ensures refusal { result ≡ refusal_as kind drone cue axis value }
+    ensures said { IsOfInput result }
+{
+    match kind {
+        Kind::Acceleration => Refusal::Accelerates {
+            drone,
+            cue,
+            axis,
+            acceleration: value,
+        },
+        Kind::Jump => Refusal::Jumps {
+            drone,
+            cue,
+            axis,
+            speed: value,
+        },
+    }
+}
+
 // The first acceleration or jump of a drone that is above its limit.
 fn excess_by(
     t: &Traj,
@@ -85,22 +108,13 @@ fn excess_by(
 {
     let excess = first_above(t, limits, depth)?;
     let cue = cue_of(cues, t, excess.segment);
-    let drone = copy_of(name);
-    let axis = excess.axis;
-    Some(match excess.kind {
-        Kind::Acceleration => Refusal::Accelerates {
-            drone,
-            cue,
-            axis,
-            acceleration: excess.value,
-        },
-        Kind::Jump => Refusal::Jumps {
-            drone,
-            cue,
-            axis,
-            speed: excess.value,
-        },
-    })
+    Some(refusal_as(
+        excess.kind,
+        copy_of(name),
+        cue,
+        excess.axis,
+        excess.value,
+    ))
 }
 
 // Three numbers that are none below 0.
@@ -194,6 +208,15 @@ fn limits_of(accel: Option<u32>, jump: Option<u32>) -> Limits
     }
 }
 
+// The segments of a drone of a show, one a cue, which last as long as the cues.
+fn cues_of(fitted: &Fitted) -> &[Segment]
+    requires { IsValidFitted fitted.now }
+    ensures few { length result.now ≤ most_cues }
+    ensures times { (s : PlainShow) → IsFitted fitted.now s → durations result.now ≡ times_of s }
+{
+    fitted.trajs.as_slice()[0].segments.as_slice()
+}
+
 // What `dynamics` ends with for a show that fits.
 fn answer_fitted(
     alloc: Global,
@@ -214,7 +237,7 @@ fn answer_fitted(
         alloc,
         fitted.names.as_slice(),
         fitted.sent.as_slice(),
-        fitted.trajs.as_slice()[0].segments.as_slice(),
+        cues_of(fitted),
         depth,
         limits_of(accel, jump),
     )

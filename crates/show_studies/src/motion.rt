@@ -72,7 +72,7 @@ impl Extremes {
 // Three numbers, as words.
 fn put_axes(text: &mut Lines, axes: Axes) -> Result<(), AllocError>
     ensures words { OnOk result (text.new ≡ with_words text.old (axes_words axes)) }
-    ensures are_words { AreWords (axes_words axes) }
+    ensures are_words { OnOk result (AreWords (axes_words axes)) }
 {
     put_number(text, axes.x)?;
     put_number(text, axes.y)?;
@@ -82,8 +82,7 @@ fn put_axes(text: &mut Lines, axes: Axes) -> Result<(), AllocError>
 // A jump and its cue.
 fn put_jump(text: &mut Lines, jump: u64, cue: u64) -> Result<(), AllocError>
     ensures words { OnOk result (text.new ≡ with_words text.old (decimal jump ∷ codes "cue" ∷ decimal cue ∷ [])) }
-    ensures jump_is_word { IsWord (decimal jump) }
-    ensures cue_is_word { IsWord (decimal cue) }
+    ensures are_words { OnOk result (AreWords (decimal jump ∷ codes "cue" ∷ decimal cue ∷ [])) }
 {
     put_number(text, jump)?;
     text.word(b"cue")?;
@@ -93,7 +92,7 @@ fn put_jump(text: &mut Lines, jump: u64, cue: u64) -> Result<(), AllocError>
 // Three jumps, each with its cue.
 fn put_jumps(text: &mut Lines, jumps: Axes, cues: Axes) -> Result<(), AllocError>
     ensures words { OnOk result (text.new ≡ with_words text.old (jump_words jumps cues)) }
-    ensures are_words { AreWords (jump_words jumps cues) }
+    ensures are_words { OnOk result (AreWords (jump_words jumps cues)) }
 {
     put_jump(text, jumps.x, cues.x)?;
     put_jump(text, jumps.y, cues.y)?;

@@ -1,0 +1,59 @@
+"""What ./show adds on an accepted show that no drone flies: lines and cues of shows whose numbers were worked out by hand."""
+import os
+import sys
+import unittest
+
+sys.dont_write_bytecode = True
+TOP = os.path.dirname(os.path.dirname(os.path.abspath(__file__)))
+sys.path.insert(0, os.path.join(TOP, "tools"))
+import flyable
+
+STAND_IN = os.path.join(TOP, ".ci", "stand_in")
+
+
+def warning(*lines):
+    """The words on a show of one drone at x 0, y 0 and z 1 m with these lines, the first of which is line 3."""
+    return flyable.warning(STAND_IN, "\n".join(["choreo 1", "drone a 0 0 1000000 0", *lines, ""]).encode())
+
+
+class Warnings(unittest.TestCase):
+    def test_what_flies(self):
+        self.assertIsNone(warning("cue 2000", "a move 1000000 0 1000000 0", "end"))
+        self.assertIsNone(warning("cue 2000", "end"))
+        # 0.3 m/s, and no more
+        self.assertIsNone(warning("cue 1000", "a line 300000 0 1000000 0", "end"))
+
+    def test_jumps(self):
+        # half a metre in a second after a hold, and 0.301 m/s at the end of a cubic from rest: 3 times 0.301 / 3 m in a second
+        self.assertEqual(warning("cue 1000", "end", "cue 1000", "a line 0 500000 1000000 0", "end"),
+                         "line 5, cue 2: a jumps by 0.50 m/s on y, more than 0.3")
+        self.assertEqual(warning("cue 3000", "a curve 0 0 1000000 0 0 1000000 0 0 1301000 0", "end"),
+                         "line 3, the end: a jumps by 0.30 m/s on z, more than 0.3")
+
+    def test_accelerations(self):
+        # 6 L / T^2 of a cubic from rest to rest: 12 m/s^2 for two metres in a second
+        curve = "a curve 0 0 1000000 2000000 0 1000000 2000000 0 1000000 0"
+        self.assertEqual(warning("cue 1000", curve, "end"),
+                         "line 3, cue 1: a needs up to 12.00 m/s^2 on x, more than 10")
+
+    def test_heights(self):
+        # Down to 1 mm below the floor and up again, and just to the floor; one cue of the text, flown twice.
+        self.assertEqual(warning("cue 5000", "a move 0 0 0 0", "end", "repeat 2", "cue 5000", "a move 0 0 -1000 0", "end", "end"),
+                         "line 7, cue 2: a goes below z 0")
+        self.assertIsNone(warning("cue 5000", "a move 0 0 0 0", "end", "cue 5000", "a move 0 0 500000 0", "end"))
+
+    def test_millimetres_for_micrometres(self):
+        text = b"choreo 1\ndrone a 0 0 1000 0\ncue 2000\na move 1000 0 1000 0\nend\n"
+        self.assertEqual(flyable.warning(STAND_IN, text), "all is within 10 mm of the origin: lengths are micrometres")
+
+    def test_several(self):
+        text = b"choreo 1\ndrone a 0 0 -1000 0\ncue 1\na line 1000 0 -1000 0\nend\n"
+        self.assertEqual(flyable.warning(STAND_IN, text), "line 3, cue 1: a jumps by 1.00 m/s on x, more than 0.3; "
+                         "line 3, cue 1: a goes below z 0; all is within 10 mm of the origin: lengths are micrometres")
+
+    def test_what_is_refused(self):
+        self.assertIsNone(flyable.warning(STAND_IN, b"choreo 2\n"))
+
+
+if __name__ == "__main__":
+    unittest.main()
