@@ -364,13 +364,12 @@ class Words(Processes):
         self.assertIn("[SHOW [REGIONS]]", self.show("boxes", "--help")[1])
         self.assertEqual(self.calls(), [])
 
-    def test_numbers_are_those_of_the_page(self):
-        with open(os.path.join(TOP, "docs", "COMMANDS.md")) as file:
-            page = file.read()
-        rows = re.findall(r"^\| (?:`--[a-z]+ ([A-Z]+)`|([A-Z]) of `drill`) \| ([\d,]+) to ([\d,]+)", page, re.M)
-        found = {first or second: tuple(int(word.replace(",", "")) for word in limits)
-                 for first, second, *limits in rows}
-        self.assertEqual(found, commands.NUMBERS)
+    def test_what_is_read_from_the_page(self):
+        self.assertEqual(commands.SECOND, {"verify": "certificate", "rehearse": "schedule", "upload": "frames",
+                                           "boxes": "regions"})
+        self.assertEqual(commands.NO_INPUT, ["help", "drill", "version"])
+        self.assertEqual(commands.NUMBERS, {"D": (0, 8), "MS": (1, 60000), "N": (1, 32), "V": (1, 999999999), "E": (0, 5),
+                                            "A": (0, 999999999), "J": (0, 999999999)})
 
     def test_options(self):
         # Options before, behind and between, as two words or one.

@@ -1,34 +1,36 @@
-"""The commands of the program, with their options, numbers and files: one table for ./show, its help, the manual page
-and the completion. The program's own `help` has the same forms: docs/COMMANDS.md."""
+"""The commands of the program, with their options, numbers and files, as the tables of docs/COMMANDS.md have them: for
+./show, its help, the manual page and the completion. The program's own `help` has the same forms."""
 import difflib
+import os
 import re
 
-COMMANDS = [
-    ("help", "lists the commands as the program knows them"),
-    ("check [--depth D]", "says whether a show is accepted: drones, cues and milliseconds"),
-    ("compile [--depth D]", "writes a show's plan: each drone's trajectory as bytes, and its packets"),
-    ("certify [--depth D]", "writes a certificate that no two drones come too close"),
-    ("play [--depth D] [--step MS]", "writes where each drone is, every MS milliseconds"),
-    ("report [--depth D]", "writes a show's numbers as JSON: bytes, packets, cues, nodes"),
-    ("verify", "reads a show and a certificate, and says whether the certificate is right"),
-    ("rehearse [--depth D] [--start] [--readback]",
-     "reads a show and a schedule of losses, and writes what drones then hold"),
-    ("upload [--depth D] [--start] [--readback]", "uploads a show over link frames; tools/bridge carries them"),
-    ("drill N [--depth D]", "judges a show of N drones that it makes itself"),
-    ("boxes [--depth D]", "reads a show and regions, and says whether its drones keep to them"),
-    ("speed [--depth D] [--limit V]", "writes how fast each drone is at most, and refuses above a limit"),
-    ("explain [--depth D] [--fine E]", "says where two drones come close, and whether they touch"),
-    ("dynamics [--depth D] [--accel A] [--jump J]",
-     "writes how fast speeds change and where they jump, and refuses above a limit"),
-    ("version", "writes the program's version"),
-]
+PAGE = os.path.join(os.path.dirname(os.path.dirname(os.path.realpath(__file__))), "docs", "COMMANDS.md")
+
+
+def table(document, head):
+    """The rows of the table of a document that has this head, each a list of its cells."""
+    rows = re.search(r"^%s\n((?:\|.*\n)+)" % re.escape(head), document, re.M)[1].splitlines()[1:]
+    return [[cell.strip() for cell in row.strip("|").split("|")] for row in rows]
+
+
+def plain(cell):
+    """A cell without links and quotes."""
+    return re.sub(r"\[(`[^`]*`|[^]]*)\]\([^)]*\)", r"\1", cell).replace("`", "")
+
+
+with open(PAGE, encoding="utf-8") as file:
+    TEXT = file.read()
+ROWS = [list(map(plain, row)) for row in table(TEXT, "| Words | Input | Output at status 0 |")]
+OPTIONS = [list(map(plain, row)) for row in table(TEXT, "| Option | Number | Without it |")]
+COMMANDS = [(form, output) for form, _, output in ROWS]
 FORMS = {form.split()[0]: form for form, _ in COMMANDS}
-PURPOSES = {form.split()[0]: what for form, what in COMMANDS}
-# What stands behind the show and a marker line, in the commands that read two parts.
-SECOND = {"verify": "certificate", "rehearse": "schedule", "upload": "frames", "boxes": "regions"}
-NO_INPUT = ["help", "drill", "version"]
-NUMBERS = {"D": (0, 8), "MS": (1, 60000), "N": (1, 32), "V": (1, 999999999), "E": (0, 5),
-           "A": (0, 999999999), "J": (0, 999999999)}
+PURPOSES = {form.split()[0]: "writes " + output for form, output in COMMANDS}
+# What stands after the show and a marker line, in the commands that read two parts.
+SECOND = {form.split()[0]: given.split()[-1] for form, given, _ in ROWS if "marker line" in given}
+NO_INPUT = [form.split()[0] for form, given, _ in ROWS if given == "nothing"]
+RANGE = re.compile(r"([\d,]+) to ([\d,]+)")
+NUMBERS = {re.search("[A-Z]+", option)[0]: tuple(int(end.replace(",", "")) for end in RANGE.match(number).groups())
+           for option, number, _ in OPTIONS if RANGE.match(number)}
 HELP = """usage: ./show COMMAND [OPTIONS] [FILE]
        ./show verify SHOW CERTIFICATE
        ./show rehearse SHOW SCHEDULE
@@ -37,18 +39,22 @@ HELP = """usage: ./show COMMAND [OPTIONS] [FILE]
        ./show COMMAND --help
        ./show --version
 
+Commands, and what each writes:
+
 %s
 
-Options may stand before and after the files. Without a file, or with -, the input is standard input; where
-there are two parts a line %%%% is between them. D is the greatest depth of a part of a cue, 0 to 8; without
-the option it is 6. MS is 1 to 60000, and 100 without the option. N is 1 to 32. --start has drones started
-too; --readback has their memories read back before that. V is 1 to 999999999 micrometres per second; E is 0
-to 5, and 5 without the option. A and J are 0 to 999999999 millimetres per second squared, and per
-second. --unproved runs the sources without a proof: in about a minute the first time, at once after
-that. --version says which build of the program this is: note it with each plan.
+Options:
+
+%s
+
+They may stand before and after the files. Without a file, or with -, the input is standard input; where
+there are two parts a line %%%% is between them. --unproved runs the sources without a proof: in about a
+minute the first time, at once after that. --version says which build of the program this is: note it with
+each plan.
 
 The language of shows: docs/LANGUAGE.md. Commands, statuses and fault lines: docs/COMMANDS.md. Tools: docs/TOOLS.md.
-""" % "\n".join("%-45s %s" % row for row in COMMANDS)
+""" % ("\n".join("%-45s %s" % row for row in COMMANDS),
+       "\n".join("%-12s %s (without it: %s)" % tuple(row) for row in OPTIONS))
 
 
 def options_of(command):

@@ -56,12 +56,6 @@ def completion():
     return COMPLETION % (" ".join(commands.FORMS), "\n".join(options), "\n".join(few))
 
 
-def table(document, head):
-    """The rows of the table of a document that has this head."""
-    rows = re.search(r"^%s\n((?:\|.*\n)+)" % re.escape(head), document, re.M)[1].splitlines()[1:]
-    return [[cell.strip() for cell in row.strip("|").split("|")] for row in rows]
-
-
 def roff(text):
     """A cell of a table, or a line, as troff has it."""
     text = re.sub(r"\[([^]]*)\]\([^)]*\)", r"\1", text).replace("\\", "\\e").replace("-", "\\-")
@@ -71,8 +65,6 @@ def roff(text):
 
 def page(version):
     """The text of the manual page."""
-    with open(os.path.join(TOP, "docs", "COMMANDS.md"), encoding="utf-8") as file:
-        document = file.read()
     out = ['.TH SHOW 1 "" "hemtoghai %s" "Hemtoghai"' % version, ".SH NAME",
            "show \\- compiles and judges shows of drones", ".SH SYNOPSIS"]
     for form in commands.FORMS.values():
@@ -83,11 +75,11 @@ def page(version):
         out += [".TP", ".B " + roff(form), roff(what[0].upper() + what[1:]) + "."]
         if second:
             out.append("Link frames follow the show." if second == "frames" else "The second part: %s." % second)
-    out += [".SH OPTIONS", "Options may stand before and behind the files."]
-    for option, number, without in table(document, "| Option | Number | Without it |"):
+    out += [".SH OPTIONS", "Options may stand before and after the files."]
+    for option, number, without in commands.table(commands.TEXT, "| Option | Number | Without it |"):
         out += [".TP", roff(option), "%s. Without it: %s." % (roff(number[0].upper() + number[1:]), roff(without))]
     out.append(".SH EXIT STATUS")
-    for status, said, happened, do in table(document, "| Status | Output | What happened | What to do |"):
+    for status, said, happened, do in commands.table(commands.TEXT, "| Status | Output | What happened | What to do |"):
         out += [".TP", "%s: %s" % (roff(status), roff(said)), roff(happened[:1].upper() + happened[1:]) + "."]
         if do:
             out.append("What to do: %s." % roff(do))
