@@ -120,10 +120,10 @@ no_part None None long none = (refl, none)
 -- ---- of a show
 
 -- a fault of names and numbers comes first
-pub early_refused : (c : Ways) (cut : Cut) (s : PlainShow) (f : PlanFault) (r : Refusal) → (IsLate f → ⊥) → plan_fault s ≡ Some f → no_plan (names_of s) 0 f ≡ Some r →
+pub early_refused : (c : Ways) (cut : Cut) (s : PlainShow) (f : PlanFault) (r : Refusal) → (IsLate f → ⊥) → plan_fault s ≡ Some f → no_plan (names_of s) f ≡ Some r →
     show_refusal c cut s ≡ Some r
 early_refused c cut s f r other is said = elim (either (grid_fault s) (range_fault (grid_of s)) (unsendable s) f is) [
-  | inl early ↦ by_early (no_plan (names_of s) 0) (early_fault s) (unsendable s) (marker_refusal c cut) (blocked_by c.depth s) f r early said
+  | inl early ↦ by_early (no_plan (names_of s)) (early_fault s) (unsendable s) (marker_refusal c cut) (blocked_by c.depth s) f r early said
   | inr late ↦ absurd (other (late_named s f late.1).0)
 ]
 
@@ -169,13 +169,13 @@ word_read ds xs k j d fit xs_are j_is inside =
 
 -- then comes a marker line
 pub marker_refused : (c : Ways) (cut : Cut) (s : PlainShow) (r : Refusal) → early_fault s ≡ None → marker_refusal c cut ≡ Some r → show_refusal c cut s ≡ Some r
-marker_refused c cut s r none is = by_marker (no_plan (names_of s) 0) (early_fault s) (unsendable s) (marker_refusal c cut) (blocked_by c.depth s) r none is
+marker_refused c cut s r none is = by_marker (no_plan (names_of s)) (early_fault s) (unsendable s) (marker_refusal c cut) (blocked_by c.depth s) r none is
 
 -- then what can't be sent
 pub late_refused : (c : Ways) (cut : Cut) (s : PlainShow) (f : PlanFault) (r : Refusal) → early_fault s ≡ None → marker_refusal c cut ≡ None → unsendable s ≡ Some f →
-    no_plan (names_of s) 0 f ≡ Some r → show_refusal c cut s ≡ Some r
+    no_plan (names_of s) f ≡ Some r → show_refusal c cut s ≡ Some r
 late_refused c cut s f r none unmarked is said =
-    by_late (no_plan (names_of s) 0) (early_fault s) (unsendable s) (marker_refusal c cut) (blocked_by c.depth s) f r none unmarked is said
+    by_late (no_plan (names_of s)) (early_fault s) (unsendable s) (marker_refusal c cut) (blocked_by c.depth s) f r none unmarked is said
 
 -- a show that fits has none of these before the search
 pub fits_early : (s : PlainShow) → plan_fault s ≡ None → early_fault s ≡ None
@@ -184,4 +184,4 @@ fits_early s fits = (no_part (grid_fault s) (range_fault (grid_of s)) (unsendabl
 pub search_left : (c : Ways) (cut : Cut) (s : PlainShow) → plan_fault s ≡ None → marker_refusal c cut ≡ None → show_refusal c cut s ≡ blocked_by c.depth s
 search_left c cut s fits unmarked =
     let none = no_part (grid_fault s) (range_fault (grid_of s)) (unsendable s) fits in
-    by_search (no_plan (names_of s) 0) (early_fault s) (unsendable s) (marker_refusal c cut) (blocked_by c.depth s) none.0 unmarked none.1
+    by_search (no_plan (names_of s)) (early_fault s) (unsendable s) (marker_refusal c cut) (blocked_by c.depth s) none.0 unmarked none.1

@@ -13,7 +13,7 @@ use Rattle.sep_certificate.specs.declared.certificate.CertFault.TheVariants as c
 use Rattle.sep_certificate.specs.declared.certificate.Certificate.{Certificate}
 use Rattle.sep_certificate.specs.Certificates.{IsFaultOf}
 use Rattle.pair_search.specs.Search.{blocked_place}
-use Rattle.show_plan.specs.declared.fitted.PlanFault.TheVariants as fault
+use Rattle.show_plan.specs.declared.separation.BlockedPart.{BlockedPart}
 use Rattle.show_plan.specs.Separation.{blocked_at, blocked_in, blocked_part, clearance_of, direction_at, slots_of}
 use Rattle.show_judge.specs.Steps.{IsFaultAmong}
 
@@ -43,26 +43,25 @@ slots_among n cues = drones_among n n cues 0 (omega arith)
 -- ---- a blocked part
 
 -- a blocked part names drones that some slot names
-blocked_among : (e : Clearance) (depth : ℕ) (curves : Raised) (n : ℕ) (ss : List Slot) (a b cue index : ℕ) → All (IsAmong n) ss → blocked_in e depth curves ss ≡ Some (fault.Blocked a b cue index) → (a < n) × (b < n)
-blocked_among e depth curves n [] a b cue index all is = absurd (cc)
-blocked_among e depth curves n (s ∷ ss) a b cue index all is =
-    by_place (blocked_place (direction_at e curves s) depth) is (blocked_among e depth curves n ss a b cue index (All-tail (IsAmong n) s ss all))
+blocked_among : (e : Clearance) (depth : ℕ) (curves : Raised) (n : ℕ) (ss : List Slot) (part : BlockedPart) → All (IsAmong n) ss → blocked_in e depth curves ss ≡ Some part → IsAmong n part.slot
+blocked_among e depth curves n [] part all is = absurd (cc)
+blocked_among e depth curves n (s ∷ ss) part all is =
+    by_place (blocked_place (direction_at e curves s) depth) is (blocked_among e depth curves n ss part (All-tail (IsAmong n) s ss all))
   where
     here : IsAmong n s
     here = All-head (IsAmong n) s ss all
 
-    by_place : (o : Option ℕ) → option_or (option_map (blocked_at s) o) (blocked_in e depth curves ss) ≡ Some (fault.Blocked a b cue index) →
-        (blocked_in e depth curves ss ≡ Some (fault.Blocked a b cue index) → (a < n) × (b < n)) → (a < n) × (b < n)
+    by_place : (o : Option ℕ) → option_or (option_map (blocked_at s) o) (blocked_in e depth curves ss) ≡ Some part →
+        (blocked_in e depth curves ss ≡ Some part → IsAmong n part.slot) → IsAmong n part.slot
     by_place None is later = later is
     by_place (Some k) is later =
-        let first : s.a ≡ a = cc in
-        let second : s.b ≡ b = cc in
-        (subst (λ (d : ℕ). d < n) first here.0, subst (λ (d : ℕ). d < n) second here.1)
+        let same : blocked_at s k ≡ part = cc in
+        subst (λ (p : BlockedPart). IsAmong n p.slot) same here
 
 -- of trajectories
-pub part_among : (e : Settings) (depth : ℕ) (trajs : List Traj) (a b cue index : ℕ) → blocked_part e depth trajs ≡ Some (fault.Blocked a b cue index) → (a < length trajs) × (b < length trajs)
+pub part_among : (e : Settings) (depth : ℕ) (trajs : List Traj) (part : BlockedPart) → blocked_part e depth trajs ≡ Some part → IsAmong (length trajs) part.slot
 unfolding raised_of
-part_among e depth trajs a b cue index is = blocked_among (clearance_of e trajs) depth (raised_of trajs) (length trajs) (slots_of trajs) a b cue index (slots_among (length trajs) (raised_of trajs).cues) is
+part_among e depth trajs part is = blocked_among (clearance_of e trajs) depth (raised_of trajs) (length trajs) (slots_of trajs) part (slots_among (length trajs) (raised_of trajs).cues) is
 
 -- ---- a fault of a certificate
 

@@ -18,6 +18,7 @@ use Rattle.refusals.specs.declared.refusal.Refusal.TheVariants as refusal
 use Rattle.refusals.specs.Refusals.{IsSayable, status_of}
 use Rattle.show_plan.specs.declared.fitted.PlanFault.{PlanFault}
 use Rattle.show_plan.specs.declared.fitted.PlanFault.TheVariants as plan
+use Rattle.show_plan.specs.declared.separation.BlockedPart.{BlockedPart}
 use Rattle.show_plan.specs.Fitting.{in_order, unsendable}
 use Rattle.show_plan.specs.Separation.{blocked_part}
 use Rattle.show_judge.specs.Shows.{Cut, marker_number, name_at, names_of, show_limit, trajectories_of}
@@ -44,15 +45,18 @@ text_refusal text = if nat_lt show_limit (length text) then Some refusal.TooLarg
 abbrev pub pair_at : List Name → ℕ → ℕ → ℕ → Pair
 pair_at names a b cue = record { first = name_at names a; second = name_at names b; cue = cue }
 
--- Why a show has no plan, as a refusal; the depth is that of the search. Out of memory is none.
-abbrev pub no_plan : List Name → ℕ → PlanFault → Option Refusal
-no_plan names depth (plan.Grid f) = Some (refusal.Grid f)
-no_plan names depth (plan.Expand (expand.OutOfRange line axis value)) = Some (refusal.Range line axis value)
-no_plan names depth (plan.Expand expand.Memory) = None
-no_plan names depth (plan.TooManySegments drone segments) = Some (refusal.Segments (name_at names drone) segments)
-no_plan names depth (plan.TooLong drone bytes room) = Some (refusal.Room (name_at names drone) bytes room)
-no_plan names depth (plan.Blocked a b cue index) = Some (refusal.Blocked (pair_at names a b cue) index depth)
-no_plan names depth plan.Memory = None
+-- Why a show has no plan, as a refusal. Out of memory is none.
+abbrev pub no_plan : List Name → PlanFault → Option Refusal
+no_plan names (plan.Grid f) = Some (refusal.Grid f)
+no_plan names (plan.Expand (expand.OutOfRange line axis value)) = Some (refusal.Range line axis value)
+no_plan names (plan.Expand expand.Memory) = None
+no_plan names (plan.TooManySegments drone segments) = Some (refusal.Segments (name_at names drone) segments)
+no_plan names (plan.TooLong drone bytes room) = Some (refusal.Room (name_at names drone) bytes room)
+no_plan names plan.Memory = None
+
+-- a blocked part, as a refusal of a search to this depth
+abbrev pub blocked : List Name → ℕ → BlockedPart → Refusal
+blocked names depth part = refusal.Blocked (pair_at names part.slot.a part.slot.b part.slot.cue) part.index depth
 
 -- a marker line is refused by each command that wants nothing after it
 abbrev pub marker_refusal : Ways → Cut → Option Refusal
@@ -63,14 +67,14 @@ marker_refusal c cut =
 -- the first part in which no direction separates two drones, for each command that searches
 abbrev pub blocked_by : Option ℕ → PlainShow → Option Refusal
 blocked_by None s = None
-blocked_by (Some depth) s = option_and_then (no_plan (names_of s) depth) (blocked_part s.settings depth (trajectories_of s))
+blocked_by (Some depth) s = option_map (blocked (names_of s) depth) (blocked_part s.settings depth (trajectories_of s))
 
 -- The first refusal of a show: its names and cues, its numbers, a marker line, what can't be sent, separation.
 abbrev pub show_refusal : Ways → Cut → PlainShow → Option Refusal
 show_refusal c cut s =
-    option_or (option_and_then (no_plan (names_of s) 0) (in_order (grid_fault s) (range_fault (grid_of s)) None))
+    option_or (option_and_then (no_plan (names_of s)) (in_order (grid_fault s) (range_fault (grid_of s)) None))
     (option_or (marker_refusal c cut)
-    (option_or (option_and_then (no_plan (names_of s) 0) (unsendable s))
+    (option_or (option_and_then (no_plan (names_of s)) (unsendable s))
     (blocked_by c.depth s)))
 
 -- ---- the second text

@@ -23,7 +23,7 @@ use figure_expand::ExpandFault;
 use fleet_io::Part;
 use refusals::{Pair, Refusal};
 use sep_certificate::CertFault;
-use show_plan::{Fitted, PlanFault};
+use show_plan::{Fitted, PlanFault, SeparationFault};
 use std::alloc::AllocError;
 
 /// The name of a drone, which counts from 0.
@@ -143,13 +143,16 @@ pub fn unfit(ways: Ways, show: &Show, part: &Part, fault: PlanFault) -> Result<R
         PlanFault::TooLong { drone, bytes, room } => {
             Ok(without_room(ways, show, part, drone, bytes, room))
         }
-        PlanFault::Blocked { .. } => unreachable!(),
         PlanFault::Memory => Err(AllocError),
     }
 }
 
 /// Why a show that fits has no certificate of a depth.
-pub fn unseparated(fitted: &Fitted, depth: u8, fault: PlanFault) -> Result<Refusal, AllocError>
+pub fn unseparated(
+    fitted: &Fitted,
+    depth: u8,
+    fault: SeparationFault,
+) -> Result<Refusal, AllocError>
     requires valid { IsValidFitted fitted.now }
     requires depth { depth ≤ most_depth }
     requires fault { FailsBy (blocked_part fitted.now.settings depth fitted.now.trajs) fault }
@@ -157,16 +160,17 @@ pub fn unseparated(fitted: &Fitted, depth: u8, fault: PlanFault) -> Result<Refus
     ensures said { IfOk result IsOfInput }
 {
     match fault {
-        PlanFault::Blocked { a, b, cue, index } => Ok(Refusal::Blocked {
-            pair: pair_at(fitted.names.as_slice(), a, b, cue),
-            index,
+        SeparationFault::Blocked { part } => Ok(Refusal::Blocked {
+            pair: pair_at(
+                fitted.names.as_slice(),
+                part.slot.a,
+                part.slot.b,
+                part.slot.cue,
+            ),
+            index: part.index,
             depth,
         }),
-        PlanFault::Memory => Err(AllocError),
-        PlanFault::Grid { .. }
-        | PlanFault::Expand { .. }
-        | PlanFault::TooManySegments { .. }
-        | PlanFault::TooLong { .. } => unreachable!(),
+        SeparationFault::Memory => Err(AllocError),
     }
 }
 

@@ -28,7 +28,7 @@ use Rattle.pair_search.specs.Search.{best_tree, split_of}
 use Rattle.pair_search.proofs.Counted.{few_slots}
 use Rattle.choreo_reader.specs.declared.show.Settings.{Settings}
 use Rattle.show_plan.specs.declared.fitted.Fitted.{Fitted}
-use Rattle.show_plan.specs.declared.fitted.PlanFault.{PlanFault}
+use Rattle.show_plan.specs.declared.separation.SeparationFault.{SeparationFault}
 use Rattle.show_plan.specs.Fitting.{IsValidFitted}
 use Rattle.show_plan.specs.Separation.{CountGives, FlyApart, IsShowClear, IsSlotClear, best_certificate, best_nodes, blocked_in, blocked_part, clearance_of, direction_at, measure_of, slots_of, searched}
 use Rattle.show_plan.specs.Steps.{FindsNodes, blocked_slot}
@@ -150,13 +150,13 @@ best_certified e depth trajs law keeps shallow stands reach none =
     }
 
 -- Where nodes are counted, their trees are a certificate.
-pub count_certified : (e : Settings) (depth : ℕ) (trajs : List Traj) (r : Result ℕ PlanFault) → SearchLaw → CertificateLaw → depth ≤ 8 → CurvesStandFor (raised_of trajs) trajs → KeepReach (clearance_of e trajs) trajs → CountGives e depth trajs r → IsOk r →
+pub count_certified : (e : Settings) (depth : ℕ) (trajs : List Traj) (r : Result ℕ SeparationFault) → SearchLaw → CertificateLaw → depth ≤ 8 → CurvesStandFor (raised_of trajs) trajs → KeepReach (clearance_of e trajs) trajs → CountGives e depth trajs r → IsOk r →
     IsCertified e depth trajs (best_certificate e depth trajs)
 count_certified e depth trajs (Ok n) law keeps shallow stands reach gives ok = best_certified e depth trajs law keeps shallow stands reach gives.0
 count_certified e depth trajs (Err f) law keeps shallow stands reach gives ok = absurd (cc)
 
 -- What is counted over the curves of trajectories is counted for these.
-pub count_gives : (e : Settings) (depth : ℕ) (trajs : List Traj) (curves : Raised) (r : Result ℕ PlanFault) → curves ≡ raised_of trajs → FindsNodes (clearance_of e trajs) depth curves r → CountGives e depth trajs r
+pub count_gives : (e : Settings) (depth : ℕ) (trajs : List Traj) (curves : Raised) (r : Result ℕ SeparationFault) → curves ≡ raised_of trajs → FindsNodes (clearance_of e trajs) depth curves r → CountGives e depth trajs r
 count_gives e depth trajs curves r is finds = subst (λ (c : Raised). FindsNodes (clearance_of e trajs) depth c r) is finds
 
 -- The trees that are found over the curves of trajectories are a certificate of these.

@@ -6,13 +6,12 @@ use Rattle.traj_codec.specs.declared.traj.Traj.{Traj}
 use Rattle.sep_parts.specs.declared.clearance.Clearance.{Clearance}
 use Rattle.sep_parts.specs.declared.slot.Slot.{Slot}
 use Rattle.fleet_curves.specs.Raised.{Raised, difference, raised_of}
-use Rattle.sep_parts.specs.Slots.{slot_at}
 use Rattle.pair_search.specs.Laws.{IsFirstBlocked}
 use Rattle.pair_search.specs.Fleets as fleet
 use Rattle.pair_search.specs.Search.{blocked_place}
 use Rattle.pair_search.proofs.SearchLaws.{laws}
 use Rattle.choreo_reader.specs.declared.show.Settings.{Settings}
-use Rattle.show_plan.specs.declared.fitted.PlanFault.{PlanFault}
+use Rattle.show_plan.specs.declared.separation.BlockedPart.{BlockedPart}
 use Rattle.show_plan.specs.Separation.{IsSlotClear, blocked_at, blocked_in, blocked_part, clearance_of, direction_at, measure_of, slots_of, searched}
 use Rattle.show_plan.specs.Steps.{blocked_slot}
 use Rattle.show_plan.specs.Laws.{IsFirstPart, SeparationLaw}
@@ -22,20 +21,16 @@ none_mapped slot None e = refl
 none_mapped slot (Some index) e = absurd (cc)
 
 -- where neither of two is there, the first isn't, and the second isn't
-pub none_first : (a b : Option PlanFault) → option_or a b ≡ None → (a ≡ None) × (b ≡ None)
+pub none_first : (a b : Option BlockedPart) → option_or a b ≡ None → (a ≡ None) × (b ≡ None)
 none_first None b e = (refl, e)
 none_first (Some f) b e = absurd (cc)
 
 -- blocked parts are the same where their pairs, cues and indices are
 same_slot : (s slot : Slot) (k index : ℕ) → blocked_at s k ≡ blocked_at slot index → s ≡ slot
-same_slot s slot k index is =
-    let a : s.a ≡ slot.a = cc in
-    let b : s.b ≡ slot.b = cc in
-    let cue : s.cue ≡ slot.cue = cc in
-    ap (λ (n : ℕ). slot_at n s.b s.cue) a ∙ ap (λ (n : ℕ). slot_at slot.a n s.cue) b ∙ ap (λ (n : ℕ). slot_at slot.a slot.b n) cue
+same_slot s slot k index is = ap (λ (p : BlockedPart). p.slot) is
 
 same_index : (s slot : Slot) (k index : ℕ) → blocked_at s k ≡ blocked_at slot index → k ≡ index
-same_index s slot k index is = cc
+same_index s slot k index is = ap (λ (p : BlockedPart). p.index) is
 
 module _ (e : Clearance) (depth : ℕ) (curves : Raised) where
   -- the part of a slot with this index is the first of its cue without a direction
@@ -70,13 +65,13 @@ module _ (e : Clearance) (depth : ℕ) (curves : Raised) where
   passed : (earlier later : List Slot) → All (IsSlotClear e depth curves) earlier → blocked_in e depth curves (earlier ++ later) ≡ blocked_in e depth curves later
   passed [] later clear = refl
   passed (s ∷ earlier) later clear =
-      ap (λ (o : Option PlanFault). option_or o (blocked_in e depth curves (earlier ++ later))) ((slot_law s).1 (All-head (IsSlotClear e depth curves) s earlier clear))
+      ap (λ (o : Option BlockedPart). option_or o (blocked_in e depth curves (earlier ++ later))) ((slot_law s).1 (All-head (IsSlotClear e depth curves) s earlier clear))
       ∙ passed earlier later (All-tail (IsSlotClear e depth curves) s earlier clear)
 
   none_blocked : (ss : List Slot) → All (IsSlotClear e depth curves) ss → blocked_in e depth curves ss ≡ None
   none_blocked [] clear = refl
   none_blocked (s ∷ ss) clear =
-      ap (λ (o : Option PlanFault). option_or o (blocked_in e depth curves ss)) ((slot_law s).1 (All-head (IsSlotClear e depth curves) s ss clear))
+      ap (λ (o : Option BlockedPart). option_or o (blocked_in e depth curves ss)) ((slot_law s).1 (All-head (IsSlotClear e depth curves) s ss clear))
       ∙ none_blocked ss (All-tail (IsSlotClear e depth curves) s ss clear)
 
   -- the first of these slots that isn't clear, and its first part without a direction

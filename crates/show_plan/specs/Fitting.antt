@@ -100,7 +100,6 @@ pub record IsFitted (f : Fitted) (s : PlainShow) : Type 0 where
 -- Separation isn't judged here.
 abbrev pub PlanFails : PlanFault → PlainShow → Type 0
 PlanFails fault.Memory s = Unit {0}
-PlanFails (fault.Blocked a b cue index) s = ⊥
 PlanFails (fault.Grid grid.Memory) s = ⊥
 PlanFails (fault.Expand expand.Memory) s = ⊥
 PlanFails f s = plan_fault s ≡ Some f

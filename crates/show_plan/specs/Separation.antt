@@ -17,8 +17,9 @@ use Rattle.sep_certificate.specs.declared.certificate.Certificate.{Certificate}
 use Rattle.pair_search.specs.Fleets as fleet
 use Rattle.pair_search.specs.Search.{IsClear}
 use Rattle.choreo_reader.specs.declared.show.Settings.{Settings}
-use Rattle.show_plan.specs.declared.fitted.PlanFault.{PlanFault}
-use Rattle.show_plan.specs.declared.fitted.PlanFault.TheVariants as fault
+use Rattle.show_plan.specs.declared.separation.BlockedPart.{BlockedPart}
+use Rattle.show_plan.specs.declared.separation.SeparationFault.{SeparationFault}
+use Rattle.show_plan.specs.declared.separation.SeparationFault.TheVariants as fault
 
 -- the directions that are searched: the 98 of version 2
 abbrev pub searched : List (List ℤ)
@@ -48,11 +49,11 @@ abbrev pub direction_at : Clearance → Raised → Slot → Place → Option ℕ
 direction_at c curves slot = fleet.direction_at (measure_of c) curves slot
 
 -- the pair of a slot is blocked in this part of its cue
-abbrev pub blocked_at : Slot → ℕ → PlanFault
-blocked_at slot index = fault.Blocked slot.a slot.b slot.cue index
+abbrev pub blocked_at : Slot → ℕ → BlockedPart
+blocked_at slot index = record { slot = slot; index = index }
 
 -- the first part of the depth, slot by slot, that no direction separates
-abbrev pub blocked_in : Clearance → ℕ → Raised → List Slot → Option PlanFault
+abbrev pub blocked_in : Clearance → ℕ → Raised → List Slot → Option BlockedPart
 blocked_in c depth curves = fleet.blocked_in blocked_at (measure_of c) depth curves
 
 -- the slots of trajectories of one show: each pair in each cue
@@ -60,7 +61,7 @@ abbrev pub slots_of : List Traj → List Slot
 slots_of trajs = slots (raised_of trajs).drones (raised_of trajs).cues
 
 -- the first part of the depth, in the order pair, cue, part, in which no direction separates two of these trajectories
-abbrev pub blocked_part : Settings → ℕ → List Traj → Option PlanFault
+abbrev pub blocked_part : Settings → ℕ → List Traj → Option BlockedPart
 blocked_part e depth trajs = blocked_in (clearance_of e trajs) depth (raised_of trajs) (slots_of trajs)
 
 -- the nodes of the tree with the largest possible leaves, each with its first separating direction
@@ -75,23 +76,22 @@ best_certificate e depth trajs = record { version = 2; depth = depth; trees = ma
 abbrev pub node_count : Certificate → ℕ
 node_count cert = sum (map length cert.trees)
 
--- Why nothing is found: this part is blocked, the first one. Out of memory says nothing, and no other fault comes.
-abbrev pub FailsBy : Option PlanFault → PlanFault → Type 0
-FailsBy blocked (fault.Blocked a b cue index) = blocked ≡ Some (fault.Blocked a b cue index)
+-- Why nothing is found: this part is blocked, the first one. Out of memory says nothing.
+abbrev pub FailsBy : Option BlockedPart → SeparationFault → Type 0
+FailsBy blocked (fault.Blocked part) = blocked ≡ Some part
 FailsBy blocked fault.Memory = Unit {0}
-FailsBy blocked _ = ⊥
 
 -- What is wanted, where no part is blocked; else the part that is.
-abbrev pub Finds : {A : Type 0} → Option PlanFault → A → Result A PlanFault → Type 0
+abbrev pub Finds : {A : Type 0} → Option BlockedPart → A → Result A SeparationFault → Type 0
 Finds blocked wanted (Ok found) = (blocked ≡ None) × (found ≡ wanted)
 Finds blocked wanted (Err f) = FailsBy blocked f
 
 -- The certificate with the largest leaves, where no part is blocked; else the first part that is.
-abbrev pub CertificateGives : Settings → ℕ → List Traj → Result Certificate PlanFault → Type 0
+abbrev pub CertificateGives : Settings → ℕ → List Traj → Result Certificate SeparationFault → Type 0
 CertificateGives e depth trajs result = Finds (blocked_part e depth trajs) (best_certificate e depth trajs) result
 
 -- How many nodes that certificate has, where no part is blocked; else the first part that is.
-abbrev pub CountGives : Settings → ℕ → List Traj → Result ℕ PlanFault → Type 0
+abbrev pub CountGives : Settings → ℕ → List Traj → Result ℕ SeparationFault → Type 0
 CountGives e depth trajs result = Finds (blocked_part e depth trajs) (node_count (best_certificate e depth trajs)) result
 
 -- each part of the depth of the pair's cue has a separating direction

@@ -12,28 +12,29 @@ use Rattle.pair_search.specs.Fleets.{nodes_in}
 use Rattle.pair_search.specs.declared.fleet.SearchFault.{SearchFault}
 use Rattle.pair_search.specs.declared.fleet.SearchFault.TheVariants as search
 use Rattle.choreo_reader.specs.declared.show.Settings.{Settings}
-use Rattle.show_plan.specs.declared.fitted.PlanFault.{PlanFault}
-use Rattle.show_plan.specs.declared.fitted.PlanFault.TheVariants as fault
+use Rattle.show_plan.specs.declared.separation.BlockedPart.{BlockedPart}
+use Rattle.show_plan.specs.declared.separation.SeparationFault.{SeparationFault}
+use Rattle.show_plan.specs.declared.separation.SeparationFault.TheVariants as fault
 use Rattle.show_plan.specs.Separation.{Finds, direction_at, blocked_at, blocked_in, best_nodes, measure_of}
 
 -- the first part of a slot's cue, of this depth, that no direction separates
-abbrev pub blocked_slot : Clearance → ℕ → Raised → Slot → Option PlanFault
+abbrev pub blocked_slot : Clearance → ℕ → Raised → Slot → Option BlockedPart
 blocked_slot c depth curves slot = option_map (blocked_at slot) (blocked_place (direction_at c curves slot) depth)
 
 -- what is found at all slots: the trees of each
-abbrev pub FindsTrees : Clearance → ℕ → Raised → Result (List (List Node)) PlanFault → Type 0
+abbrev pub FindsTrees : Clearance → ℕ → Raised → Result (List (List Node)) SeparationFault → Type 0
 FindsTrees c depth curves result =
     Finds (blocked_in c depth curves (slots curves.drones curves.cues)) (map (best_nodes c depth curves) (slots curves.drones curves.cues)) result
 
 -- what is found at all slots: how many nodes their trees have
-abbrev pub FindsNodes : Clearance → ℕ → Raised → Result ℕ PlanFault → Type 0
+abbrev pub FindsNodes : Clearance → ℕ → Raised → Result ℕ SeparationFault → Type 0
 FindsNodes c depth curves result =
     Finds (blocked_in c depth curves (slots curves.drones curves.cues)) (nodes_in (measure_of c) depth curves (slots curves.drones curves.cues)) result
 
--- what a search stops at, as the reason why a show has no plan
-abbrev pub plan_fault : SearchFault → PlanFault
-plan_fault (search.Blocked slot index) = blocked_at slot index
-plan_fault search.Memory = fault.Memory
+-- what a search stops at, as the reason why a show has no certificate
+abbrev pub separation_fault : SearchFault → SeparationFault
+separation_fault (search.Blocked slot index) = fault.Blocked (blocked_at slot index)
+separation_fault search.Memory = fault.Memory
 
 -- ---- packets
 

@@ -36,9 +36,6 @@ pub enum PlanFault {
     TooManySegments { drone: u8, segments: u32 },
     /// The first drone, from 0, whose trajectory has more bytes than a drone's memory has room for after the offset.
     TooLong { drone: u8, bytes: u32, room: u32 },
-    /// The first part of a cue in which no direction separates two drones, in the order pair, cue, part, all counted from 0: part
-    /// `index` of as many equal parts as the depth gives.
-    Blocked { a: u8, b: u8, cue: u16, index: u16 },
     /// Out of memory.
     Memory,
 }

@@ -26,6 +26,8 @@ mod upload;
 
 pub use fitted::{Fitted, PlanFault};
 pub use fitting::fit;
-pub use separation::{certificate, clearance_of, count_nodes, separation_law};
+pub use separation::{
+    BlockedPart, SeparationFault, certificate, clearance_of, count_nodes, separation_law,
+};
 pub use text::plan_text;
 pub use upload::{landing_law, session, uploadable_law};

@@ -9,15 +9,44 @@ ghost use Rattle.sep_certificate.specs.Certificates.{IsWhole, IsValid};
 ghost use Rattle.show_plan.specs.Fitting.{IsValidFitted};
 ghost use Rattle.show_plan.specs.Separation.{CertificateGives, CountGives, IsShowClear, FlyApart, blocked_at, clearance_of, measure_of, searched};
 ghost use Rattle.show_plan.specs.Laws.{IsFirstPart, SeparationLaw};
-ghost use Rattle.show_plan.specs.Steps.{FindsNodes, FindsTrees, plan_fault};
+ghost use Rattle.show_plan.specs.Steps.{FindsNodes, FindsTrees, separation_fault};
 
-use crate::fitted::{Fitted, PlanFault};
+use crate::fitted::Fitted;
 use choreo_reader::Listed;
 use pair_search::{SearchFault, count_all, search_all, search_law};
 use sep_certificate::{Certificate, Curves, Node, certificate_law};
-use sep_parts::{Clearance, Ruler, WIDE, apart_law, table_law};
+use sep_parts::{Clearance, Ruler, Slot, WIDE, apart_law, table_law};
 use speed_bound::{reach, reach_law};
-use std::alloc::Global;
+use std::alloc::{AllocError, Global};
+
+/// A part of a cue in which no direction separates two drones: part `index` of as many equal parts as the depth gives, counted from 0.
+#[derive(Clone, Copy, PartialEq, Eq, Debug)]
+pub struct BlockedPart {
+    /// The two drones and the cue.
+    pub slot: Slot,
+    /// Which part of the cue.
+    pub index: u16,
+}
+
+/// Why a show that fits has no certificate.
+#[derive(Clone, Copy, PartialEq, Eq, Debug)]
+pub enum SeparationFault {
+    /// The first blocked part, in the order pair, cue, part.
+    Blocked { part: BlockedPart },
+    /// Out of memory.
+    Memory,
+}
+
+impl From<AllocError> for SeparationFault {
+    ghost use Rattle.std.specs.Prelude.{◌≡◌};
+    ghost use Rattle.show_plan.specs.declared.separation.SeparationFault.TheVariants.{Memory};
+
+    ghost from_gives = { λ _ e. e ≡ Memory };
+
+    fn from(_: AllocError) -> Self {
+        SeparationFault::Memory
+    }
+}
 
 /// By parts of which depth speeds are bounded, for how far drones move while they are late.
 const REACH_DEPTH: u8 = 6;
@@ -50,18 +79,15 @@ fn ruler_of(clearance: Clearance) -> Ruler<98>
     Ruler::make(&WIDE, clearance)
 }
 
-// What a search stops at, as the reason why a show has no plan.
-fn plan_fault(fault: SearchFault) -> PlanFault
-    ensures { result ≡ plan_fault fault }
+// What a search stops at, as the reason why a show has no certificate.
+fn separation_fault(fault: SearchFault) -> SeparationFault
+    ensures { result ≡ separation_fault fault }
 {
     match fault {
-        SearchFault::Blocked { slot, index } => PlanFault::Blocked {
-            a: slot.a,
-            b: slot.b,
-            cue: slot.cue,
-            index,
+        SearchFault::Blocked { slot, index } => SeparationFault::Blocked {
+            part: BlockedPart { slot, index },
         },
-        SearchFault::Memory => PlanFault::Memory,
+        SearchFault::Memory => SeparationFault::Memory,
     }
 }
 
@@ -71,14 +97,14 @@ fn trees_of(
     curves: &Curves,
     clearance: Clearance,
     depth: u8,
-) -> Result<Listed<Listed<Node>>, PlanFault>
+) -> Result<Listed<Listed<Node>>, SeparationFault>
     requires clearance { IsClearance clearance }
     requires depth { depth ≤ 8 }
     ensures { FindsTrees clearance depth curves.now result }
 {
     match search_all(alloc, curves, &ruler_of(clearance), depth) {
         Ok(trees) => Ok(trees),
-        Err(fault) => Err(plan_fault(fault)),
+        Err(fault) => Err(separation_fault(fault)),
     }
 }
 
@@ -88,14 +114,14 @@ fn nodes_of(
     curves: &Curves,
     clearance: Clearance,
     depth: u8,
-) -> Result<u32, PlanFault>
+) -> Result<u32, SeparationFault>
     requires clearance { IsClearance clearance }
     requires depth { depth ≤ 8 }
     ensures { FindsNodes clearance depth curves.now result }
 {
     match count_all(alloc, curves, &ruler_of(clearance), depth) {
         Ok(count) => Ok(count),
-        Err(fault) => Err(plan_fault(fault)),
+        Err(fault) => Err(separation_fault(fault)),
     }
 }
 
@@ -112,14 +138,14 @@ pub fn separation_law()
 /// `Blocked` exactly where some part of that depth has no separating direction, for some pair and cue: the first, in the order
 /// pair, cue, part. Out of memory is the only other refusal. Where it is Ok, any two drones fly apart, by what the settings let them stray and be
 /// late (docs/SEPARATION.md).
-pub fn certificate(alloc: Global, f: &Fitted, depth: u8) -> Result<Certificate, PlanFault>
+pub fn certificate(alloc: Global, f: &Fitted, depth: u8) -> Result<Certificate, SeparationFault>
     requires valid { IsValidFitted f.now }
     requires depth { depth ≤ 8 }
     ensures gives { CertificateGives f.now.settings depth f.now.trajs result }
     ensures whole { IfOk result (λ cert. IsWhole cert) }
     ensures valid { IfOk result (λ cert. IsValid searched (raised_of f.now.trajs) (clearance_of f.now.settings f.now.trajs) cert) }
     ensures clear { IsOk result → IsShowClear f.now.settings depth f.now.trajs }
-    ensures blocked { (slot : Slot) (index : ℕ) → result ≡ Err (blocked_at slot index)
+    ensures blocked { (slot : Slot) (index : ℕ) → result ≡ Err (SeparationFault.Blocked (blocked_at slot index))
         → IsFirstPart f.now.settings depth f.now.trajs slot index }
     ensures apart { IsOk result → FlyApart f.now.settings f.now.sent }
     ensures apart_by_cue { IsOk result → FlyApart f.now.settings f.now.trajs }
@@ -140,12 +166,12 @@ pub fn certificate(alloc: Global, f: &Fitted, depth: u8) -> Result<Certificate, 
 
 /// How many nodes the certificate of a show that fits has: what [`certificate`] would return, counted and not kept. Conditions and
 /// refusals are those of [`certificate`], and so is its promise: where it is Ok, any two drones are apart at each instant of the show.
-pub fn count_nodes(alloc: Global, f: &Fitted, depth: u8) -> Result<u32, PlanFault>
+pub fn count_nodes(alloc: Global, f: &Fitted, depth: u8) -> Result<u32, SeparationFault>
     requires valid { IsValidFitted f.now }
     requires depth { depth ≤ 8 }
     ensures gives { CountGives f.now.settings depth f.now.trajs result }
     ensures clear { IsOk result → IsShowClear f.now.settings depth f.now.trajs }
-    ensures blocked { (slot : Slot) (index : ℕ) → result ≡ Err (blocked_at slot index)
+    ensures blocked { (slot : Slot) (index : ℕ) → result ≡ Err (SeparationFault.Blocked (blocked_at slot index))
         → IsFirstPart f.now.settings depth f.now.trajs slot index }
     ensures apart { IsOk result → FlyApart f.now.settings f.now.sent }
     ensures apart_by_cue { IsOk result → FlyApart f.now.settings f.now.trajs }

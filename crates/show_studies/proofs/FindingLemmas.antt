@@ -12,8 +12,7 @@ use Rattle.fleet_io.proofs.WordLaws.{fresh_after_line}
 use Rattle.choreo_reader.specs.Plain.{PlainShow}
 use Rattle.choreo_reader.specs.declared.show.Settings.{Settings}
 use Rattle.show_plan.specs.declared.fitted.Fitted.{Fitted}
-use Rattle.show_plan.specs.declared.fitted.PlanFault.{PlanFault}
-use Rattle.show_plan.specs.declared.fitted.PlanFault.TheVariants as fault
+use Rattle.show_plan.specs.declared.separation.BlockedPart.{BlockedPart}
 use Rattle.show_plan.specs.Fitting.{IsFitted, IsValidFitted}
 use Rattle.show_plan.specs.Separation.{FlyApart, blocked_part}
 use Rattle.touch_witness.specs.declared.site.Closest.{Closest}
@@ -28,7 +27,7 @@ use Rattle.traj_codec.specs.declared.traj.Traj.{Traj}
 use Rattle.sep_parts.proofs.Lifts.{exactly_apart, lasting_at, own_some}
 use Rattle.show_studies.specs.declared.findings.Findings.{Findings}
 use Rattle.show_judge.specs.Shows.{cues_in, names_of, sent_of, trajectories_of}
-use Rattle.show_studies.specs.Steps.{IsBlockedAmong, IsClosestAmong, IsFound, IsTouchAmong}
+use Rattle.show_studies.specs.Steps.{IsClosestAmong, IsFound, IsTouchAmong}
 use Rattle.show_studies.specs.Explained.{Explains, blocked_of, explain_text, separation_line, word_at}
 use Rattle.show_judge.proofs.PlanLemmas.{apart_of}
 
@@ -50,7 +49,7 @@ explains_show f s depth fine found text is found_is text_is = record {
   is = text_is
       ∙ ap (λ (ns : List Name). explain_text ns depth f.cues fine found.blocked found.closest found.touch) is.names
       ∙ ap (λ (n : ℕ). explain_text (names_of s) depth n fine found.blocked found.closest found.touch) is.cues
-      ∙ ap (λ (b : Option PlanFault). explain_text (names_of s) depth (cues_in s) fine b found.closest found.touch) (found_is.blocked ∙ blocked_of_show f s depth is);
+      ∙ ap (λ (b : Option BlockedPart). explain_text (names_of s) depth (cues_in s) fine b found.closest found.touch) (found_is.blocked ∙ blocked_of_show f s depth is);
 }
 
 -- where no part of its show is blocked, its drones keep apart
@@ -69,19 +68,14 @@ touch_among trajs r h fine n (Some s) counted is = (omega (arith, is.listed.pair
 -- ---- lines
 
 -- after the first line a line is empty
-pub separation_fresh : (text : List ℕ) (names : List Name) (depth n : ℕ) (blocked : Option PlanFault) → IsBlockedAmong n blocked → is_line_empty (text ++ separation_line names depth blocked) ≡ true
-separation_fresh text names depth n None among = fresh_after_line text (codes "separated") []
-separation_fresh text names depth n (Some (fault.Blocked a b cue index)) among =
+pub separation_fresh : (text : List ℕ) (names : List Name) (depth : ℕ) (blocked : Option BlockedPart) → is_line_empty (text ++ separation_line names depth blocked) ≡ true
+separation_fresh text names depth None = fresh_after_line text (codes "separated") []
+separation_fresh text names depth (Some part) =
     fresh_after_line text (codes "blocked")
-    (codes "pair" ∷ word_at names a ∷ word_at names b ∷ codes "cue" ∷ decimal (cue + 1) ∷ codes "part" ∷ decimal index ∷ codes "of" ∷ decimal (2 ^ depth) ∷ [])
-separation_fresh text names depth n (Some (fault.Grid f)) among = absurd among
-separation_fresh text names depth n (Some (fault.Expand f)) among = absurd among
-separation_fresh text names depth n (Some (fault.TooManySegments drone segments)) among = absurd among
-separation_fresh text names depth n (Some (fault.TooLong drone bytes room)) among = absurd among
-separation_fresh text names depth n (Some fault.Memory) among = absurd among
+    (codes "pair" ∷ word_at names part.slot.a ∷ word_at names part.slot.b ∷ codes "cue" ∷ decimal (part.slot.cue + 1) ∷ codes "part" ∷ decimal part.index ∷ codes "of" ∷ decimal (2 ^ depth) ∷ [])
 
-pub separation_leaves : (text new : List ℕ) (names : List Name) (depth n : ℕ) (blocked : Option PlanFault) → IsBlockedAmong n blocked → new ≡ text ++ separation_line names depth blocked → is_line_empty new ≡ true
-separation_leaves text new names depth n blocked among is = subst (λ (t : List ℕ). is_line_empty t ≡ true) (sym is) (separation_fresh text names depth n blocked among)
+pub separation_leaves : (text new : List ℕ) (names : List Name) (depth : ℕ) (blocked : Option BlockedPart) → new ≡ text ++ separation_line names depth blocked → is_line_empty new ≡ true
+separation_leaves text new names depth blocked is = subst (λ (t : List ℕ). is_line_empty t ≡ true) (sym is) (separation_fresh text names depth blocked)
 
 -- words, and a word more
 pub words_more : (words : List (List ℕ)) (first second : List ℕ) → AreWords words → IsWord first → IsWord second → AreWords (words ++ first ∷ second ∷ [])

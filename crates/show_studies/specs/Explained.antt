@@ -4,8 +4,7 @@ use Rattle.std.specs.Io.KnownBytes.{Appends}
 use Rattle.choreo_lines.specs.Name.{Name}
 use Rattle.choreo_reader.specs.Grammar.{StandsFor}
 use Rattle.choreo_reader.specs.Plain.{PlainShow}
-use Rattle.show_plan.specs.declared.fitted.PlanFault.{PlanFault}
-use Rattle.show_plan.specs.declared.fitted.PlanFault.TheVariants as plan
+use Rattle.show_plan.specs.declared.separation.BlockedPart.{BlockedPart}
 use Rattle.show_plan.specs.Separation.{FlyApart, blocked_part}
 use Rattle.touch_witness.specs.declared.site.Closest.{Closest}
 use Rattle.touch_witness.specs.declared.site.Touch.{Touch}
@@ -19,16 +18,11 @@ use Rattle.show_judge.specs.Verb.{Outcome, Verb, of_any}
 abbrev pub word_at : List Name → ℕ → List ℕ
 word_at names drone = (name_at names drone).items
 
--- the first line: a part that is blocked, if there is one; no other fault is one of separation
-abbrev pub separation_line : List Name → ℕ → Option PlanFault → List ℕ
+-- the first line: a part that is blocked, if there is one
+abbrev pub separation_line : List Name → ℕ → Option BlockedPart → List ℕ
 separation_line names depth None = separated_line
-separation_line names depth (Some (plan.Blocked a b cue index)) =
-    blocked_pair_line (word_at names a) (word_at names b) cue index depth
-separation_line names depth (Some (plan.Grid fault)) = []
-separation_line names depth (Some (plan.Expand fault)) = []
-separation_line names depth (Some (plan.TooManySegments drone segments)) = []
-separation_line names depth (Some (plan.TooLong drone bytes room)) = []
-separation_line names depth (Some plan.Memory) = []
+separation_line names depth (Some part) =
+    blocked_pair_line (word_at names part.slot.a) (word_at names part.slot.b) part.slot.cue part.index depth
 
 -- the second line, of two drones or more: where two of them are closest
 abbrev pub nearest_line : List Name → ℕ → Option Closest → List ℕ
@@ -41,17 +35,17 @@ contact_line names cues fine None = no_touch_line cues fine
 contact_line names cues fine (Some touch) = touch_line (word_at names) fine touch
 
 -- it is written where a part is blocked
-abbrev pub contact_if : Option PlanFault → List ℕ → List ℕ
+abbrev pub contact_if : Option BlockedPart → List ℕ → List ℕ
 contact_if None line = []
-contact_if (Some fault) line = line
+contact_if (Some part) line = line
 
 -- The lines of `explain`.
-abbrev pub explain_text : List Name → ℕ → ℕ → ℕ → Option PlanFault → Option Closest → Option Touch → List ℕ
+abbrev pub explain_text : List Name → ℕ → ℕ → ℕ → Option BlockedPart → Option Closest → Option Touch → List ℕ
 explain_text names depth cues fine blocked closest touch =
     separation_line names depth blocked ++ nearest_line names fine closest ++ contact_if blocked (contact_line names cues fine touch)
 
 -- the first part of the depth in which no direction separates two drones of the show
-abbrev pub blocked_of : ℕ → PlainShow → Option PlanFault
+abbrev pub blocked_of : ℕ → PlainShow → Option BlockedPart
 blocked_of depth s = blocked_part s.settings depth (trajectories_of s)
 
 -- The text says where two drones of the show are closest and where they touch first, among the instants that cut each cue into 2^fine parts:

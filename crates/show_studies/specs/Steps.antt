@@ -6,8 +6,7 @@ use Rattle.keepout_boxes.specs.declared.judging.Judged.{Judged as JudgedRegions}
 use Rattle.keepout_boxes.specs.declared.region.Region.{Region}
 use Rattle.keepout_boxes.specs.Kept.{JudgeGives}
 use Rattle.show_plan.specs.declared.fitted.Fitted.{Fitted}
-use Rattle.show_plan.specs.declared.fitted.PlanFault.{PlanFault}
-use Rattle.show_plan.specs.declared.fitted.PlanFault.TheVariants as fault
+use Rattle.show_plan.specs.declared.separation.BlockedPart.{BlockedPart}
 use Rattle.show_plan.specs.Separation.{FlyApart, blocked_part}
 use Rattle.touch_witness.specs.declared.site.Closest.{Closest}
 use Rattle.touch_witness.specs.declared.site.Touch.{Touch}
@@ -25,15 +24,9 @@ pub record EndsRegions (s : PlainShow) (depth : ℕ) (regions : List Region) (o 
   pub gives : JudgeGives (raised_of (trajectories_of s)) (aside_of s.settings) (upwards_of s.settings) depth regions judged
   pub is : o ≡ regions_end (names_of s) depth (length regions) judged
 
--- a part that is blocked names drones among this many; no other fault is one of separation
-abbrev pub IsBlockedAmong : ℕ → Option PlanFault → Type 0
-IsBlockedAmong drones None = Unit {0}
-IsBlockedAmong drones (Some (fault.Blocked a b cue index)) = (a < drones) × (b < drones)
-IsBlockedAmong drones (Some (fault.Grid f)) = ⊥
-IsBlockedAmong drones (Some (fault.Expand f)) = ⊥
-IsBlockedAmong drones (Some (fault.TooManySegments drone segments)) = ⊥
-IsBlockedAmong drones (Some (fault.TooLong drone bytes room)) = ⊥
-IsBlockedAmong drones (Some fault.Memory) = ⊥
+-- a part that is blocked names drones among this many
+abbrev pub IsBlockedAmong : ℕ → Option BlockedPart → Type 0
+IsBlockedAmong drones blocked = IfSome blocked (λ part. (part.slot.a < drones) × (part.slot.b < drones))
 
 -- both drones of an instant are among this many
 abbrev pub IsSiteAmong : ℕ → Touch → Type 0

@@ -18,12 +18,16 @@ ghost use Rattle.show_studies.specs.Steps.{IsBlockedAmong, IsClosestAmong, IsFou
 use crate::findings::{Findings, findings_text};
 use fleet_io::{Sink, Source};
 use show_judge::{Answer, AnyText, Output, Ways, run_any};
-use show_plan::{Fitted, PlanFault, count_nodes};
+use show_plan::{BlockedPart, Fitted, SeparationFault, count_nodes};
 use std::alloc::{AllocError, Global};
 use touch_witness::{Touch, closest_of, first_touch_of};
 
 // The first part of the depth in which no direction separates two drones, if there is one.
-fn blocked_of(alloc: Global, fitted: &Fitted, depth: u8) -> Result<Option<PlanFault>, AllocError>
+fn blocked_of(
+    alloc: Global,
+    fitted: &Fitted,
+    depth: u8,
+) -> Result<Option<BlockedPart>, AllocError>
     requires valid { IsValidFitted fitted.now }
     requires depth { depth ≤ most_depth }
     ensures is { IfOk result (λ blocked. blocked ≡ blocked_part fitted.now.settings depth fitted.now.trajs) }
@@ -33,21 +37,13 @@ fn blocked_of(alloc: Global, fitted: &Fitted, depth: u8) -> Result<Option<PlanFa
 {
     match count_nodes(alloc, fitted, depth) {
         Ok(_) => Ok(None),
-        Err(PlanFault::Blocked { a, b, cue, index }) => {
-            Ok(Some(PlanFault::Blocked { a, b, cue, index }))
-        }
-        Err(PlanFault::Memory) => Err(AllocError),
-        Err(
-            PlanFault::Grid { .. }
-            | PlanFault::Expand { .. }
-            | PlanFault::TooManySegments { .. }
-            | PlanFault::TooLong { .. },
-        ) => unreachable!(),
+        Err(SeparationFault::Blocked { part }) => Ok(Some(part)),
+        Err(SeparationFault::Memory) => Err(AllocError),
     }
 }
 
 // Where two drones touch first. It is looked for where a part is blocked alone: else none do.
-fn touch_of(fitted: &Fitted, blocked: Option<PlanFault>, fine: u8) -> Option<Touch>
+fn touch_of(fitted: &Fitted, blocked: Option<BlockedPart>, fine: u8) -> Option<Touch>
     requires valid { IsValidFitted fitted.now }
     requires fine { fine ≤ 5 }
     requires apart { blocked ≡ None → FlyApart fitted.now.settings fitted.now.trajs }

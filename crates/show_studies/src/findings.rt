@@ -12,14 +12,14 @@ use choreo_reader::Name;
 use fleet_io::Lines;
 use itoa::Buffer;
 use show_judge::name_at;
-use show_plan::{Fitted, PlanFault};
+use show_plan::{BlockedPart, Fitted};
 use std::alloc::{AllocError, Global};
 use touch_witness::{Closest, Touch};
 
 /// What is found of a show: the first part that is blocked, where two drones are closest, and where two touch first.
 #[derive(Clone, Copy)]
 pub struct Findings {
-    pub blocked: Option<PlanFault>,
+    pub blocked: Option<BlockedPart>,
     pub closest: Option<Closest>,
     pub touch: Option<Touch>,
 }
@@ -99,7 +99,7 @@ fn put_separation(
     text: &mut Lines,
     names: &[Name],
     depth: u8,
-    blocked: Option<PlanFault>,
+    blocked: Option<BlockedPart>,
 ) -> Result<(), AllocError>
     requires fresh { is_line_empty text.old ≡ true }
     requires words { All StandsAsWord names.now }
@@ -107,23 +107,16 @@ fn put_separation(
     requires among { IsBlockedAmong (length names.now) blocked }
     ensures { OnOk result (text.new ≡ text.old ++ separation_line names.now depth blocked) }
 {
-    let Some(fault) = blocked else {
-        return put_separated(text);
-    };
-    match fault {
-        PlanFault::Blocked { a, b, cue, index } => put_blocked(
+    match blocked {
+        None => put_separated(text),
+        Some(part) => put_blocked(
             text,
-            name_at(names, a).as_slice(),
-            name_at(names, b).as_slice(),
-            cue,
-            index,
+            name_at(names, part.slot.a).as_slice(),
+            name_at(names, part.slot.b).as_slice(),
+            part.slot.cue,
+            part.index,
             depth,
         ),
-        PlanFault::Grid { .. }
-        | PlanFault::Expand { .. }
-        | PlanFault::TooManySegments { .. }
-        | PlanFault::TooLong { .. }
-        | PlanFault::Memory => unreachable!(),
     }
 }
 

@@ -2,7 +2,8 @@
 
 use choreo_reader::{MOST_BYTES, read_show};
 use sep_certificate::write_certificate;
-use show_plan::{PlanFault, certificate, count_nodes, fit};
+use sep_parts::Slot;
+use show_plan::{BlockedPart, SeparationFault, certificate, count_nodes, fit};
 use std::alloc::Global;
 use std::test::Fail;
 
@@ -10,7 +11,7 @@ use std::test::Fail;
 #[derive(Clone, Copy, PartialEq, Eq, Debug)]
 enum Answer {
     Certified(bool),
-    Fault(PlanFault),
+    Fault(SeparationFault),
     Other,
 }
 
@@ -21,9 +22,8 @@ fn answer_of(alloc: Global, show: &[u8], depth: u8, wanted: &[u8]) -> Answer {
     let Ok(show) = read_show(alloc, show) else {
         return Answer::Other;
     };
-    let fitted = match fit(alloc, &show) {
-        Ok(fitted) => fitted,
-        Err(fault) => return Answer::Fault(fault),
+    let Ok(fitted) = fit(alloc, &show) else {
+        return Answer::Other;
     };
     let cert = match certificate(alloc, &fitted, depth) {
         Ok(cert) => cert,
@@ -106,7 +106,12 @@ fn nodes_are_counted(rt: HostRuntime) -> Result<(), Fail> {
 
 // The part of this index is the first that is blocked, for two drones in a cue.
 fn blocked(a: u8, b: u8, cue: u16, index: u16) -> Answer {
-    Answer::Fault(PlanFault::Blocked { a, b, cue, index })
+    Answer::Fault(SeparationFault::Blocked {
+        part: BlockedPart {
+            slot: Slot { a, b, cue },
+            index,
+        },
+    })
 }
 
 #[test]

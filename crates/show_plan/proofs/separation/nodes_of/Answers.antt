@@ -15,4 +15,4 @@ pub returns-in-Err : goal.returns-in-Err
 returns-in-Err c =
     let stops : GivesCount (measure_of c.args.clearance) c.args.depth c.args.curves.now (Err c.in-Err.fault) =
     subst (λ (m : Measure). GivesCount m c.args.depth c.args.curves.now (Err c.in-Err.fault)) c.ruler_of.ensures c.in-Err.ensures in
-    rw c.plan_fault.ensures (stopped_by c.args.clearance c.args.depth c.args.curves.now (slots_in c.args.curves.now) c.in-Err.fault stops)
+    rw c.separation_fault.ensures (stopped_by c.args.clearance c.args.depth c.args.curves.now (slots_in c.args.curves.now) c.in-Err.fault stops)
