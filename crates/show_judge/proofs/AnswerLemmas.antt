@@ -219,11 +219,11 @@ input_two c limit left after input a read answers = record {
 }
 
 -- what is judged of a text is judged of the input
-pub judges_text : (c : Verb) (depth : ℕ) (left after : Option (List ℕ)) (text : Text) (j : Judged) → c.ways.has_second ≡ false → ReadsShow left after text →
-    ((cut : Cut) → IsShowText text cut → JudgedGives c.ways depth cut j) → EndsJudged c.ways text j → JudgesInput c.ways depth left after (Ok j)
+pub judges_text : (c : Ways) (depth : ℕ) (left after : Option (List ℕ)) (text : Text) (j : Judged) → c.has_second ≡ false → ReadsShow left after text →
+    ((cut : Cut) → IsShowText text cut → JudgedGives c depth cut j) → EndsJudged c text j → JudgesInput c depth left after (Ok j)
 judges_text c depth left after text j alone read gives ends = record { gives = some_by left _ _ (λ input is. gives (cut_of input) is) read.show; whole = whole_of j ends }
   where
-    whole_of : (j : Judged) → EndsJudged c.ways text j → EndsRead left after j
+    whole_of : (j : Judged) → EndsJudged c text j → EndsRead left after j
     whole_of (judged.Accepted a) ends = read.whole (ends.1 alone)
     whole_of (judged.Refused r) ends = tt
 

@@ -1,8 +1,8 @@
 use Rattle.std.proofs.Common.{refl}
-use Rattle.show_looks.specs.Play.{play_verb}
+use Rattle.show_judge.specs.Verb.{show_ways}
 use Rattle.show_judge.proofs.AnswerLemmas.{judges_text}
 use Rattle.show_looks.proofs.playing.judge_input.Goals as goal
 
 pub returns-clause-judges : goal.returns-clause-judges
 returns-clause-judges g c =
-    judges_text (play_verb c.args.depth 1) c.args.depth _ _ c.in_ok-text.text c.in_ok-accept.field-0 refl c.in_ok-text.ensures.show c.in_ok-accept.ensures.gives c.in_ok-accept.ensures.whole
+    judges_text (show_ways c.args.depth) c.args.depth _ _ c.in_ok-text.text c.in_ok-accept.field-0 refl c.in_ok-text.ensures.show c.in_ok-accept.ensures.gives c.in_ok-accept.ensures.whole
