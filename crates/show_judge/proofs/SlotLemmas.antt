@@ -1,5 +1,5 @@
--- The drones that slots name, and so those that a blocked part and a fault of a certificate name.
-use Rattle.std.proofs.Common.{◌≡◌, ℕ, zero, suc, ◌+◌, ◌^◌, ◌<◌, ◌≤◌, All, List, [], ◌∷◌, length, Option, Some, None, subst, arith}
+-- The drones that slots name, and so those that a blocked part names.
+use Rattle.std.proofs.Common.{◌≡◌, ℕ, zero, suc, ◌+◌, ◌<◌, ◌≤◌, All, List, [], ◌∷◌, length, Option, Some, None, subst, arith}
 use Rattle.std.specs.Option.{option_map, option_or}
 use Rattle.std.proofs.lemmas.List.Elements.{All-nil, All-cons, All-head, All-tail, All-append}
 use Rattle.choreo_reader.specs.declared.show.Settings.{Settings}
@@ -8,14 +8,9 @@ use Rattle.sep_parts.specs.declared.clearance.Clearance.{Clearance}
 use Rattle.sep_parts.specs.declared.slot.Slot.{Slot}
 use Rattle.fleet_curves.specs.Raised.{Raised, raised_of}
 use Rattle.sep_parts.specs.Slots.{slots, slot_at, cues_from, pairs_from, drones_from}
-use Rattle.sep_certificate.specs.declared.certificate.CertFault.{CertFault}
-use Rattle.sep_certificate.specs.declared.certificate.CertFault.TheVariants as cert
-use Rattle.sep_certificate.specs.declared.certificate.Certificate.{Certificate}
-use Rattle.sep_certificate.specs.Certificates.{IsFaultOf}
 use Rattle.pair_search.specs.Search.{blocked_place}
 use Rattle.show_plan.specs.declared.separation.BlockedPart.{BlockedPart}
 use Rattle.show_plan.specs.Separation.{blocked_at, blocked_in, blocked_part, clearance_of, direction_at, slots_of}
-use Rattle.show_judge.specs.Steps.{IsFaultAmong}
 
 -- both drones of the slot are among this many
 abbrev pub IsAmong : ℕ → Slot → Type 0
@@ -62,12 +57,3 @@ blocked_among e depth curves n (s ∷ ss) part all is =
 pub part_among : (e : Settings) (depth : ℕ) (trajs : List Traj) (part : BlockedPart) → blocked_part e depth trajs ≡ Some part → IsAmong (length trajs) part.slot
 unfolding raised_of
 part_among e depth trajs part is = blocked_among (clearance_of e trajs) depth (raised_of trajs) (length trajs) (slots_of trajs) part (slots_among (length trajs) (raised_of trajs).cues) is
-
--- ---- a fault of a certificate
-
--- what a fault of a certificate names is there, and so its drones are among those of the curves
-pub fault_among : (curves : Raised) (c : Certificate) (f : CertFault) → length c.trees < 2 ^ 31 → IsFaultOf curves c f → IsFaultAmong curves.drones c.version f
-fault_among curves c (cert.Missing a b cue) few is = (omega (arith, is.first, is.second), is.second)
-fault_among curves c (cert.Extra tree) few is = omega (arith, is, few)
-fault_among curves c (cert.TooDeep a b cue) few is = (omega (arith, is.first, is.second), is.second)
-fault_among curves c (cert.Fails a b cue place dir control) few is = (omega (arith, is.0.first, is.0.second), is.0.second, is.1)

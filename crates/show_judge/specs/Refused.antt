@@ -9,8 +9,6 @@ use Rattle.cue_grid.specs.Cues.{grid_of}
 use Rattle.cue_grid.specs.Faults.{grid_fault}
 use Rattle.figure_expand.specs.declared.fault.ExpandFault.TheVariants as expand
 use Rattle.figure_expand.specs.Expanded.{range_fault}
-use Rattle.sep_certificate.specs.declared.certificate.CertFault.{CertFault}
-use Rattle.sep_certificate.specs.declared.certificate.CertFault.TheVariants as cert
 use Rattle.show_judge.specs.declared.ways.Ways.{Ways}
 use Rattle.refusals.specs.declared.refusal.Pair.{Pair}
 use Rattle.refusals.specs.declared.refusal.Refusal.{Refusal}
@@ -91,10 +89,3 @@ second_refusal limit faulty_line cut =
 abbrev pub faulty_event : {E : Type 0} → Result (List E) ℕ → Option ℕ
 faulty_event (Ok events) = None
 faulty_event (Err line) = Some line
-
--- what is wrong with a certificate of this version
-abbrev pub not_valid : List Name → ℕ → CertFault → Refusal
-not_valid names version (cert.Missing a b cue) = refusal.Missing (pair_at names a b cue)
-not_valid names version (cert.Extra tree) = refusal.Extra version tree
-not_valid names version (cert.TooDeep a b cue) = refusal.TooDeep (pair_at names a b cue)
-not_valid names version (cert.Fails a b cue place dir control) = refusal.Fails (pair_at names a b cue) place version dir control

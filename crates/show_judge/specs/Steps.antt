@@ -1,11 +1,8 @@
 -- What steps of judging a show hand on, which no public contract cites.
-use Rattle.std.specs.Prelude.{◌≡◌, ℕ, ◌<◌, ◌^◌, Some, None}
+use Rattle.std.specs.Prelude.{◌≡◌, ℕ, Some, None}
 use Rattle.choreo_reader.specs.Plain.{PlainShow}
 use Rattle.cue_grid.specs.Cues.{grid_of}
 use Rattle.show_judge.specs.declared.ways.Ways.{Ways}
-use Rattle.sep_parts.specs.Versions.{known_in}
-use Rattle.sep_certificate.specs.declared.certificate.CertFault.{CertFault}
-use Rattle.sep_certificate.specs.declared.certificate.CertFault.TheVariants as cert
 use Rattle.show_plan.specs.declared.fitted.Fitted.{Fitted}
 use Rattle.show_plan.specs.Fitting.{IsFitted}
 use Rattle.show_plan.specs.Flight.{KeepsNearShow}
@@ -35,10 +32,3 @@ abbrev pub Separated : ℕ → Fitted → Judged → Type 0
 Separated depth f (judged.Accepted a) =
     (a.fitted ≡ f) × FlyApart f.settings f.sent × ((s : PlainShow) → IsFitted f s → (blocked_by (Some depth) s ≡ None) × (a.nodes ≡ nodes_of s depth))
 Separated depth f (judged.Refused r) = (s : PlainShow) → IsFitted f s → blocked_by (Some depth) s ≡ Some r
-
--- a fault of a certificate of this version for this many drones: it names two of them, a tree that a text has a line for, a direction of the table
-abbrev pub IsFaultAmong : ℕ → ℕ → CertFault → Type 0
-IsFaultAmong drones version (cert.Missing a b cue) = (a < drones) × (b < drones)
-IsFaultAmong drones version (cert.Extra tree) = tree < 2 ^ 31
-IsFaultAmong drones version (cert.TooDeep a b cue) = (a < drones) × (b < drones)
-IsFaultAmong drones version (cert.Fails a b cue place dir control) = (a < drones) × (b < drones) × (dir < known_in version)

@@ -17,6 +17,6 @@ pub use ends::{
 };
 pub use input::{Input, Text, next_text, read_show_text, read_two};
 pub use judging::{Accepted, Judged, Planned, accept, fit_text};
-pub use refusing::{marker_number, name_at, not_valid, unseparated};
+pub use refusing::{marker_number, name_at, pair_at, unseparated};
 pub use two::{TwoTexts, run_two};
 pub use ways::Ways;

@@ -1,18 +1,16 @@
-//! Why a show or a certificate is refused, from the faults of the crates below.
+//! Why a show is refused, from the faults of the crates below.
 ghost use Rattle.std.specs.Prelude.{◌≡◌, ◌<◌, ◌≤◌, length, Some, None, IfOk, IfSome};
 ghost use Rattle.std.specs.List.{All};
 ghost use Rattle.fleet_io.specs.Held.{text_limit};
 ghost use Rattle.fleet_io.specs.Words.{IsWord};
 ghost use Rattle.choreo_reader.specs.Plain.{PlainShow, plain};
 ghost use Rattle.choreo_reader.specs.Valid.{IsValid};
-ghost use Rattle.sep_parts.specs.Versions.{IsVersion};
 ghost use Rattle.refusals.specs.Refusals.{AreNamed};
 ghost use Rattle.show_plan.specs.Fitting.{IsFitted, IsValidFitted, PlanFails, StandsAsWord};
 ghost use Rattle.show_plan.specs.Separation.{FailsBy, blocked_part};
 ghost use Rattle.show_judge.specs.Input.{IsShowText};
-ghost use Rattle.show_judge.specs.Refused.{IsOfInput, blocked_by, marker_refusal, not_valid, pair_at, show_refusal};
+ghost use Rattle.show_judge.specs.Refused.{IsOfInput, blocked_by, marker_refusal, pair_at, show_refusal};
 ghost use Rattle.show_judge.specs.Shows.{Cut, marker_number, most_depth, name_at, show_limit};
-ghost use Rattle.show_judge.specs.Steps.{IsFaultAmong};
 
 use crate::input::Text;
 use crate::ways::Ways;
@@ -22,7 +20,6 @@ use cue_grid::GridFault;
 use figure_expand::ExpandFault;
 use fleet_io::Part;
 use refusals::{Pair, Refusal};
-use sep_certificate::CertFault;
 use show_plan::{Fitted, PlanFault, SeparationFault};
 use std::alloc::AllocError;
 
@@ -36,8 +33,8 @@ pub fn name_at(names: &[Name], drone: u8) -> Name
     copy_of(&names[usize::from(drone)])
 }
 
-// Two drones in a cue.
-fn pair_at(names: &[Name], a: u8, b: u8, cue: u16) -> Pair
+/// Two drones in a cue, by their names.
+pub fn pair_at(names: &[Name], a: u8, b: u8, cue: u16) -> Pair
     requires a { a < length names.now }
     requires b { b < length names.now }
     requires words { All StandsAsWord names.now }
@@ -171,38 +168,5 @@ pub fn unseparated(
             depth,
         }),
         SeparationFault::Memory => Err(AllocError),
-    }
-}
-
-/// What is wrong with a certificate of this version for a show of these drones.
-pub fn not_valid(names: &[Name], version: u8, fault: CertFault) -> Refusal
-    requires words { All StandsAsWord names.now }
-    requires version { IsVersion version }
-    requires fault { IsFaultAmong (length names.now) version fault }
-    ensures refusal { result ≡ not_valid names.now version fault }
-    ensures said { IsOfInput result }
-{
-    match fault {
-        CertFault::Missing { a, b, cue } => Refusal::Missing {
-            pair: pair_at(names, a, b, cue),
-        },
-        CertFault::Extra { tree } => Refusal::Extra { version, tree },
-        CertFault::TooDeep { a, b, cue } => Refusal::TooDeep {
-            pair: pair_at(names, a, b, cue),
-        },
-        CertFault::Fails {
-            a,
-            b,
-            cue,
-            place,
-            dir,
-            control,
-        } => Refusal::Fails {
-            pair: pair_at(names, a, b, cue),
-            place,
-            version,
-            dir,
-            control,
-        },
     }
 }

@@ -31,7 +31,7 @@ use Rattle.refusals.specs.declared.refusal.Refusal.TheVariants as refusal
 use Rattle.show_plan.specs.declared.fitted.Fitted.{Fitted}
 use Rattle.show_plan.specs.Fitting.{IsValidFitted}
 use Rattle.show_plan.specs.Separation.{FlyApart, clearance_of}
-use Rattle.show_verify.specs.Verify.{CertificateGives, certificate_limit, judged_for, valid_line, verify_verb}
+use Rattle.show_verify.specs.Verify.{CertificateGives, certificate_limit, judged_for, not_valid, valid_line, verify_verb}
 use Rattle.show_judge.specs.declared.ends.Answer.{Answer}
 use Rattle.show_judge.specs.declared.ends.Answer.TheVariants.{Refused}
 use Rattle.show_judge.specs.declared.ends.Failure.{Failure}
@@ -43,7 +43,7 @@ use Rattle.show_verify.specs.declared.verifying.Taken.TheVariants.{TooLarge as T
 use Rattle.show_judge.specs.Input.{GoesOn, IsReadBoth, IsReadWhole, IsShowText, IsWholeText}
 use Rattle.show_judge.specs.Verb.{Outcome, outcome}
 use Rattle.show_judge.specs.Outcome.{refused}
-use Rattle.show_judge.specs.Refused.{IsOfInput, not_valid, second_refusal}
+use Rattle.show_judge.specs.Refused.{IsOfInput, second_refusal}
 use Rattle.show_verify.specs.SecondTexts.{Feeds, GivesSecond, IsFed, IsFewTaken, IsMarkedBy, IsTakenToEnd, IsTakenWhole, Skips, TakenGives, line_after, taken_by, unless_marked, verdict_outcome}
 use Rattle.show_judge.specs.Shows.{Cut, cut_of, feeds, marker_number, names_of, trajectories_of}
 use Rattle.show_judge.proofs.AnswerLemmas.{apart_of_show, fitted_outcome, fitted_safe, plain_outcome, refused_some, some_by}

@@ -1,2 +1,3 @@
 pub mod Verify
+pub mod Steps
 pub mod SecondTexts

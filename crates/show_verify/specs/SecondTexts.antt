@@ -20,10 +20,10 @@ use Rattle.show_plan.specs.declared.fitted.Fitted.{Fitted}
 use Rattle.show_plan.specs.Fitting.{IsFitted}
 use Rattle.show_verify.specs.declared.verifying.Taken.{Taken}
 use Rattle.show_verify.specs.declared.verifying.Taken.TheVariants.{TooLarge, Whole}
-use Rattle.show_verify.specs.Verify.{CertificateGives, certificate_limit, valid_line}
+use Rattle.show_verify.specs.Verify.{CertificateGives, certificate_limit, not_valid, valid_line}
 use Rattle.show_judge.specs.Verb.{Outcome, outcome}
 use Rattle.show_judge.specs.Outcome.{refused}
-use Rattle.show_judge.specs.Refused.{not_valid, second_refusal}
+use Rattle.show_judge.specs.Refused.{second_refusal}
 use Rattle.show_judge.specs.Shows.{Cut, marker_number}
 
 -- a marker line of this number stands after a text, or none does

@@ -6,7 +6,9 @@ use Rattle.choreo_reader.specs.Plain.{PlainShow}
 use Rattle.fleet_curves.specs.Raised.{raised_of}
 use Rattle.fleet_io.specs.Words.{line}
 use Rattle.refusals.specs.declared.refusal.Refusal.{Refusal}
+use Rattle.refusals.specs.declared.refusal.Refusal.TheVariants as refusal
 use Rattle.sep_certificate.specs.declared.certificate.CertFault.{CertFault}
+use Rattle.sep_certificate.specs.declared.certificate.CertFault.TheVariants as cert
 use Rattle.sep_certificate.specs.declared.certificate.Certificate.{Certificate}
 use Rattle.sep_certificate.specs.declared.text.TheConstants.{CERTIFICATE_LIMIT}
 use Rattle.sep_certificate.specs.Certificates.{IsValid, fault_of}
@@ -16,7 +18,7 @@ use Rattle.show_plan.specs.Separation.{clearance_of}
 use Rattle.text_lines.specs.Marker.{part_of}
 use Rattle.show_judge.specs.Headline.{FliesText}
 use Rattle.show_judge.specs.Outcome.{IsVerb, refused}
-use Rattle.show_judge.specs.Refused.{not_valid, second_refusal}
+use Rattle.show_judge.specs.Refused.{pair_at, second_refusal}
 use Rattle.show_judge.specs.Shows.{Cut, names_of, trajectories_of}
 use Rattle.show_judge.specs.Verb.{FliesApart, Outcome, Verb, of_two, outcome}
 
@@ -27,6 +29,13 @@ certificate_limit = CERTIFICATE_LIMIT
 -- what is said of a certificate that is valid: its depth, and how many trees it has
 unfoldable pub valid_line : ℕ → ℕ → List ℕ
 valid_line depth trees = line (codes "valid") (codes "depth" ∷ decimal depth ∷ codes "trees" ∷ decimal trees ∷ [])
+
+-- what is wrong with a certificate of this version
+abbrev pub not_valid : List Name → ℕ → CertFault → Refusal
+not_valid names version (cert.Missing a b cue) = refusal.Missing (pair_at names a b cue)
+not_valid names version (cert.Extra tree) = refusal.Extra version tree
+not_valid names version (cert.TooDeep a b cue) = refusal.TooDeep (pair_at names a b cue)
+not_valid names version (cert.Fails a b cue place dir control) = refusal.Fails (pair_at names a b cue) place version dir control
 
 -- what a certificate gives that has this first fault, or none
 abbrev pub judged : List Name → Certificate → Option CertFault → Outcome

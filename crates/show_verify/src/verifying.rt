@@ -19,6 +19,7 @@ ghost use Rattle.show_verify.specs.Verify.{VerifyLaw, certificate_limit, verify_
 ghost use Rattle.show_verify.specs.SecondTexts.{GivesSecond, IsFewTaken, IsTakenToEnd, IsTakenWhole, TakenGives, line_after, taken_by, verdict_outcome};
 ghost use Rattle.show_judge.specs.Shows.{show_limit};
 
+use crate::faults::not_valid;
 use crate::lines::valid_line;
 use certificate_checker::{Checker, Verdict};
 use choreo_reader::{MOST_BYTES, show_law};
@@ -27,9 +28,7 @@ use fleet_io::{Ask, Failed, Parts, Sink, Source, part_law};
 use refusals::Refusal;
 use sep_certificate::{CERTIFICATE_LIMIT, certificate_law, text_law};
 use sep_parts::apart_law;
-use show_judge::{
-    Answer, Failure, Output, Planned, Text, Ways, fit_text, next_text, not_valid, respond,
-};
+use show_judge::{Answer, Failure, Output, Planned, Text, Ways, fit_text, next_text, respond};
 use show_plan::{Fitted, clearance_of};
 use speed_bound::reach_law;
 use std::alloc::Global;
