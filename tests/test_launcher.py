@@ -364,12 +364,25 @@ class Words(Processes):
         self.assertIn("[SHOW [REGIONS]]", self.show("boxes", "--help")[1])
         self.assertEqual(self.calls(), [])
 
-    def test_what_is_read_from_the_page(self):
-        self.assertEqual(commands.SECOND, {"verify": "certificate", "rehearse": "schedule", "upload": "frames",
-                                           "boxes": "regions"})
-        self.assertEqual(commands.NO_INPUT, ["help", "drill", "version"])
-        self.assertEqual(commands.NUMBERS, {"D": (0, 8), "MS": (1, 60000), "N": (1, 32), "V": (1, 999999999), "E": (0, 5),
-                                            "A": (0, 999999999), "J": (0, 999999999)})
+    def test_table(self):
+        # What the launcher reads in the tables of COMMANDS.md, for the commands that were there first.
+        for name, limits in (("D", (0, 8)), ("MS", (1, 60000)), ("N", (1, 32)), ("V", (1, 999999999)), ("E", (0, 5))):
+            self.assertEqual(commands.NUMBERS[name], limits)
+        for command, second in (("verify", "certificate"), ("rehearse", "schedule"), ("upload", "frames"),
+                                ("boxes", "regions")):
+            self.assertEqual(commands.SECOND[command], second)
+        self.assertEqual([command for command in commands.FORMS if command in ("check", "play", "help", "drill")
+                          and command not in commands.SECOND and command not in commands.NO_INPUT], ["check", "play"])
+        self.assertEqual(commands.options_of("rehearse"), {"--depth": "D", "--start": None, "--readback": None})
+
+    def test_no_table(self):
+        os.remove(self.path("docs"))
+        os.makedirs(self.path("docs"))
+        os.remove(self.path("tools"))
+        shutil.copytree(os.path.join(TOP, "tools"), self.path("tools"))
+        status, said, told = self.show("check", "good")
+        self.assertEqual((status, said, told.count("\n")), (70, "", 1), told)
+        self.assertIn("docs/COMMANDS.md: No such file", told)
 
     def test_options(self):
         # Options before, behind and between, as two words or one.

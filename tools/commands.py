@@ -1,36 +1,41 @@
-"""The commands of the program, with their options, numbers and files, as the tables of docs/COMMANDS.md have them: for
-./show, its help, the manual page and the completion. The program's own `help` has the same forms."""
+"""The commands of the program, with their options, numbers and files, as the first two tables of docs/COMMANDS.md have
+them: for ./show, its help, the manual page and the completion. The program's own `help` has the same forms.
+"""
 import difflib
 import os
 import re
+import textwrap
 
-PAGE = os.path.join(os.path.dirname(os.path.dirname(os.path.realpath(__file__))), "docs", "COMMANDS.md")
+PAGE = os.path.join(os.path.dirname(os.path.dirname(os.path.abspath(__file__))), "docs", "COMMANDS.md")
 
 
 def table(document, head):
-    """The rows of the table of a document that has this head, each a list of its cells."""
+    """The rows of the table of a document that has this head."""
     rows = re.search(r"^%s\n((?:\|.*\n)+)" % re.escape(head), document, re.M)[1].splitlines()[1:]
     return [[cell.strip() for cell in row.strip("|").split("|")] for row in rows]
 
 
 def plain(cell):
-    """A cell without links and quotes."""
-    return re.sub(r"\[(`[^`]*`|[^]]*)\]\([^)]*\)", r"\1", cell).replace("`", "")
+    """A cell of a table without links and backquotes."""
+    return re.sub(r"\[((?:`[^`]*`|[^]`])*)\]\([^)]*\)", r"\1", cell).replace("`", "").replace("**", "")
 
 
 with open(PAGE, encoding="utf-8") as file:
-    TEXT = file.read()
-ROWS = [list(map(plain, row)) for row in table(TEXT, "| Words | Input | Output at status 0 |")]
-OPTIONS = [list(map(plain, row)) for row in table(TEXT, "| Option | Number | Without it |")]
-COMMANDS = [(form, output) for form, _, output in ROWS]
-FORMS = {form.split()[0]: form for form, _ in COMMANDS}
-PURPOSES = {form.split()[0]: "writes " + output for form, output in COMMANDS}
-# What stands after the show and a marker line, in the commands that read two parts.
-SECOND = {form.split()[0]: given.split()[-1] for form, given, _ in ROWS if "marker line" in given}
-NO_INPUT = [form.split()[0] for form, given, _ in ROWS if given == "nothing"]
-RANGE = re.compile(r"([\d,]+) to ([\d,]+)")
-NUMBERS = {re.search("[A-Z]+", option)[0]: tuple(int(end.replace(",", "")) for end in RANGE.match(number).groups())
-           for option, number, _ in OPTIONS if RANGE.match(number)}
+    page = file.read()
+ROWS = [[plain(cell) for cell in row] for row in table(page, "| Words | Input | Output at status 0 |")]
+OPTIONS = [[plain(cell) for cell in row] for row in table(page, "| Option | Number | Without it |")]
+COMMANDS = [(form, written) for form, _, written in ROWS]
+FORMS = {form.split()[0]: form for form in (row[0] for row in ROWS)}
+PURPOSES = {form.split()[0]: written for form, written in COMMANDS}
+# What stands behind the show and a marker line, in the commands that read two parts.
+SECOND = {form.split()[0]: read.split()[-1] for form, read, _ in ROWS if ", a marker line, " in read}
+NO_INPUT = [form.split()[0] for form, read, _ in ROWS if read == "nothing"]
+NUMBERS = {}  # the least and greatest value of a number, by its name: that of an option, or the first word of a row
+for option, range_of, _ in OPTIONS:
+    limits = re.match(r"([\d,]+) to ([\d,]+)\b", range_of)
+    if limits:
+        name = option.split()[1] if option.startswith("--") else option.split()[0]
+        NUMBERS[name] = tuple(int(limit.replace(",", "")) for limit in limits.groups())
 HELP = """usage: ./show COMMAND [OPTIONS] [FILE]
        ./show verify SHOW CERTIFICATE
        ./show rehearse SHOW SCHEDULE
@@ -39,22 +44,19 @@ HELP = """usage: ./show COMMAND [OPTIONS] [FILE]
        ./show COMMAND --help
        ./show --version
 
-Commands, and what each writes:
-
 %s
 
-Options:
-
-%s
-
-They may stand before and after the files. Without a file, or with -, the input is standard input; where
+Options may stand before and after the files. Without a file, or with -, the input is standard input; where
 there are two parts a line %%%% is between them. --unproved runs the sources without a proof: in about a
 minute the first time, at once after that. --version says which build of the program this is: note it with
 each plan.
 
+%s
+
 The language of shows: docs/LANGUAGE.md. Commands, statuses and fault lines: docs/COMMANDS.md. Tools: docs/TOOLS.md.
 """ % ("\n".join("%-45s %s" % row for row in COMMANDS),
-       "\n".join("%-12s %s (without it: %s)" % tuple(row) for row in OPTIONS))
+       "\n".join(textwrap.fill("%-13s %s. Without it: %s." % tuple(row), 108, subsequent_indent=" " * 14)
+                 for row in OPTIONS))
 
 
 def options_of(command):

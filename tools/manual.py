@@ -1,5 +1,4 @@
-"""The manual page and the completion for Bash of ./show, made from its own table of commands and the tables of
-docs/COMMANDS.md.
+"""The manual page and the completion for Bash of ./show, made from the tables of docs/COMMANDS.md.
 
     python3 tools/manual.py page > show.1; man ./show.1
     python3 tools/manual.py completion > show.bash; . ./show.bash
@@ -75,11 +74,11 @@ def page(version):
         out += [".TP", ".B " + roff(form), roff(what[0].upper() + what[1:]) + "."]
         if second:
             out.append("Link frames follow the show." if second == "frames" else "The second part: %s." % second)
-    out += [".SH OPTIONS", "Options may stand before and after the files."]
-    for option, number, without in commands.table(commands.TEXT, "| Option | Number | Without it |"):
+    out += [".SH OPTIONS", "Options may stand before and behind the files."]
+    for option, number, without in commands.table(commands.page, "| Option | Number | Without it |"):
         out += [".TP", roff(option), "%s. Without it: %s." % (roff(number[0].upper() + number[1:]), roff(without))]
     out.append(".SH EXIT STATUS")
-    for status, said, happened, do in commands.table(commands.TEXT, "| Status | Output | What happened | What to do |"):
+    for status, said, happened, do in commands.table(commands.page, "| Status | Output | What happened | What to do |"):
         out += [".TP", "%s: %s" % (roff(status), roff(said)), roff(happened[:1].upper() + happened[1:]) + "."]
         if do:
             out.append("What to do: %s." % roff(do))
