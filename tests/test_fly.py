@@ -303,6 +303,7 @@ class Flights(unittest.TestCase):
         for words in (["--sim", "what=3"], ["--sim", "stray=x"], ["--fault", "b:what"], ["--fault", "who:dead"], ["--late", "0"],
                       ["--fault", "b:silent:x"], ["--radio", "x"]):
             self.assertEqual(common.run("tools/fly", "--simulate", *words, SHOW)[0], 2, words)
+        self.assertIn("the show has no drone who\n", common.run("tools/fly", "--simulate", "--fault", "who:dead", SHOW)[2])
         self.assertEqual(common.run("tools/fly", SHOW)[0], 2)
         self.assertEqual(common.run("tools/fly", "--fault", "b:dead", "--radio", "x", SHOW)[0], 2)
         self.assertEqual(common.run("tools/fly", "--radio", "no such file", SHOW)[0], 70)

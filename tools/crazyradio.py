@@ -82,8 +82,11 @@ class Radio:
     """
 
     def __init__(self, names, uris):
-        import cflib.crtp  # only here, so that all else runs without the library
-        from cflib.crtp.crtpstack import CRTPPacket
+        try:
+            import cflib.crtp  # only here, so that all else runs without the library
+            from cflib.crtp.crtpstack import CRTPPacket
+        except ImportError as error:
+            raise ImportError("%s: Bitcraze's library is needed, pip install cflib" % error) from error
         self.names, self.uris, self.packet_of = names, uris, CRTPPacket
         self.open, self.listeners, self.faults = True, [], {}
         self.last, self.answers, self.changed = [None] * len(names), {}, threading.Condition()
