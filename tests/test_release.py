@@ -14,12 +14,14 @@ import sys
 import tarfile
 import tempfile
 import unittest
+from unittest import mock
 
 sys.dont_write_bytecode = True
 TOP = os.path.dirname(os.path.dirname(os.path.abspath(__file__)))
 sys.path.insert(0, os.path.join(TOP, "tools"))
 import choreo
 import commands
+import machine
 import manual
 
 PROVED = "logic=proved functions=3 axioms=1"
@@ -293,6 +295,22 @@ class Release(unittest.TestCase):
         finally:
             with open(program, "wb") as file:
                 file.write(whole)
+
+
+class Machine(unittest.TestCase):
+    def test_machines(self):
+        # What the launcher and the tools of a release say, by the machine's processor and C library.
+        for processor, library, wanted in (
+                ("x86_64", ("glibc", "2.34"), None), ("x86_64", ("glibc", "2.40"), None),
+                ("x86_64", ("glibc", "3.0"), None), ("x86_64", ("glibc", "2.31"), "x86_64, glibc 2.31"),
+                ("x86_64", ("glibc", "2.4"), "x86_64, glibc 2.4"), ("x86_64", ("", ""), "x86_64, no glibc "),
+                ("aarch64", ("glibc", "2.36"), "aarch64, glibc 2.36")):
+            with mock.patch("os.path.exists", return_value=True), mock.patch("platform.libc_ver", return_value=library), \
+                    mock.patch("platform.machine", return_value=processor):
+                line = "this release needs an x86-64 machine with glibc 2.34 or later; here: %s"
+                self.assertEqual(machine.fault(), wanted and line % wanted)
+        with mock.patch("platform.libc_ver", return_value=("glibc", "2.31")):
+            self.assertIsNone(machine.fault())  # here is no release
 
 
 class Manual(unittest.TestCase):

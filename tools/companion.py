@@ -8,6 +8,7 @@ import sys
 
 sys.dont_write_bytecode = True  # so that importing leaves no file beside the tools
 import choreo
+import machine
 from choreo import Refused
 from cures import print_cure
 
@@ -64,9 +65,16 @@ def flown_of(path):
         return stop("%s: %s" % (path, refusal), refusal.status)
 
 
+def no_program(program=choreo.PROGRAM):
+    """Why the program can't be run, or None: it isn't built, or this machine isn't one for the release's."""
+    if not os.path.isfile(program) or not os.access(program, os.X_OK):
+        return "the program isn't built; ./show check FILE builds it"
+    return machine.fault() if program == choreo.PROGRAM else None
+
+
 def ask_check(text, deep=choreo.DEPTH):
-    """The status and the line of the proved program's `check` on a show, or None where the program isn't built."""
-    if not os.access(choreo.PROGRAM, os.X_OK):
+    """The status and the line of the proved program's `check` on a show, or None where it can't be run."""
+    if no_program():
         return None
     done = subprocess.run([choreo.PROGRAM, "check", "--depth", str(deep)], input=text, stdout=subprocess.PIPE)
     return done.returncode, done.stdout.decode(errors="replace").strip()
@@ -92,9 +100,9 @@ def ask_dynamics(text, program=None):
     return found
 
 
-def missing():
-    """What to do where the program isn't built."""
-    return "`check` was not asked: the program isn't built; ./show check FILE builds it"
+def missing(program=choreo.PROGRAM):
+    """What to do where the program can't be run."""
+    return "`check` was not asked: %s" % no_program(program)
 
 
 def value(row, u):

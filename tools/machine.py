@@ -1,0 +1,18 @@
+"""What the program of a release needs of a machine, for ./show and the tools. A program that was built here runs here."""
+import os
+import platform
+
+TOP = os.path.dirname(os.path.dirname(os.path.abspath(__file__)))
+OLDEST_LIBRARY = 2, 34  # the C library that the program of a release needs
+
+
+def fault():
+    """Why the program of a release can't run on this machine, or None."""
+    if not os.path.exists(os.path.join(TOP, "MANIFEST.json")):
+        return None
+    name, number = platform.libc_ver()
+    parts = tuple(int(part) for part in number.split(".")[:2] if part.isdigit())
+    if platform.machine() == "x86_64" and name == "glibc" and parts >= OLDEST_LIBRARY:
+        return None
+    return "this release needs an x86-64 machine with glibc %d.%d or later; here: %s, %s %s" % (
+        *OLDEST_LIBRARY, platform.machine(), name or "no glibc", number)
