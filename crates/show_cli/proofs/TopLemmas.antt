@@ -1,9 +1,8 @@
 -- A run of the program, from that of its command.
-use Rattle.std.proofs.Common.{◌≡◌, ◌⊎◌, inl, inr, ℕ, ◌≤◌, List, [], ◌∷◌, Contains, Option, Some, None, refl, sym, subst, arith}
+use Rattle.std.proofs.Common.{◌≡◌, ◌⊎◌, inl, inr, ℕ, ◌≤◌, Contains, Option, Some, None, refl, subst, arith}
 use Rattle.std.proofs.lemmas.List.Elements.{All-contains, All-from_recursion}
 use Rattle.fleet_io.specs.Causes.{Rose}
 use Rattle.command_words.specs.declared.command.Command.{Command}
-use Rattle.show_judge.specs.Headline.{FliesText}
 use Rattle.show_judge.specs.Runs.{Behaves}
 use Rattle.show_judge.specs.Verb.{Run}
 use Rattle.show_judge.proofs.RunLemmas.{statuses}

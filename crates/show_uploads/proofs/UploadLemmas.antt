@@ -1,23 +1,17 @@
 -- What a run of `upload` is, from what it read and wrote.
-use Rattle.std.proofs.Common.{◌≡◌, ◌≢◌, ◌⊎◌, inl, inr, ℕ, ◌+◌, ◌<◌, ◌≤◌, Bool, true, false, cond, ◌||◌, List, [], ◌∷◌, ◌++◌, length, Contains, append_assoc, append-nil, length-append, Option, Some, None, Result, Ok, Err, IfOk, IfSome, refl, sym, ap, subst, ◌∙◌, arith}
+use Rattle.std.proofs.Common.{◌≡◌, ◌≢◌, ◌⊎◌, inl, inr, ℕ, ◌+◌, ◌≤◌, Bool, true, false, List, [], ◌∷◌, ◌++◌, length, Contains, append_assoc, append-nil, length-append, Option, Some, None, Result, Ok, Err, IfOk, IfSome, refl, sym, ap, subst, ◌∙◌, arith}
 use Rattle.std.specs.Io.KnownBytes.{Appends, Consumes}
-use Rattle.std.specs.Prelude.{bytes_eq}
-use Rattle.std.specs.List.{join_with_byte}
 use Rattle.std.proofs.lemmas.List.{append_cancel_right}
-use Rattle.std.proofs.lemmas.Slice.Eq.{bytes_eq-Decides}
 use Rattle.std.proofs.lemmas.List.Elements.{All-cons, All-contains, All-nil}
-use Rattle.std.proofs.lemmas.List.Splits.{join_with_byte-slice_split}
-use Rattle.text_lines.specs.Lines.{between_feeds}
-use Rattle.text_lines.specs.Marker.{has_marker, is_marker, lines_after, lines_before, part_of, rest_of}
-use Rattle.text_lines.specs.Marker.{ended as ended_lines}
+use Rattle.text_lines.specs.Marker.{part_of, rest_of}
 use Rattle.choreo_reader.specs.Grammar.{StandsFor}
 use Rattle.choreo_reader.specs.Laws.{ShowLaw}
 use Rattle.choreo_reader.specs.Plain.{PlainShow}
 use Rattle.fleet_io.specs.Causes.{Rose}
 use Rattle.fleet_io.specs.declared.parts.Part.{Part}
-use Rattle.fleet_io.specs.Held.{Held, has_whole_marker, stream}
+use Rattle.fleet_io.specs.Held.{has_whole_marker}
 use Rattle.fleet_io.specs.Parts.{MarkerLaw, TakesFewAfter, TakesMarked, TakesPart}
-use Rattle.fleet_io.specs.Taken.{AppendsFront, TakesAtMost, TakesFront}
+use Rattle.fleet_io.specs.Taken.{AppendsFront, TakesFront}
 use Rattle.fleet_io.proofs.MarkerLaws.{whole_marker-front}
 use Rattle.link_frames.specs.Frames.{end_frame, frames_bytes}
 use Rattle.link_upload.specs.Uploads.{IsPrompt, StaysPrompt, StopsAtEnd, UploadFails, UploadGives}
@@ -37,7 +31,7 @@ use Rattle.upload_model.specs.Sessions.{Upload as Session}
 use Rattle.show_judge.specs.declared.input.Text.TheVariants.{Whole}
 use Rattle.show_judge.specs.Answers.{IsAccepted, IsRefusedBy, Wrote}
 use Rattle.show_judge.specs.Input.{IsShowText}
-use Rattle.show_judge.specs.Outcome.{IsOutcomeOf, IsSafe, IsVerb, OutcomeLaw, ShowGives}
+use Rattle.show_judge.specs.Outcome.{IsOutcomeOf, IsSafe, OutcomeLaw, ShowGives}
 use Rattle.show_judge.specs.Refused.{IsOfInput}
 use Rattle.show_judge.specs.Runs.{IsOutput, IsStopped, Runs}
 use Rattle.show_judge.specs.Verb.{IsJudged, Outcome, Run, outcome, run_of}

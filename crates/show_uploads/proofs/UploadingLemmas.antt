@@ -1,5 +1,5 @@
 -- The laws of `upload`.
-use Rattle.std.proofs.Common.{◌≡◌, ℕ, ◌==◌, Bool, List, [], ◌++◌, length, Some, refl, arith}
+use Rattle.std.proofs.Common.{◌≡◌, ◌==◌, Bool, [], ◌++◌, length, refl, arith}
 use Rattle.std.proofs.lemmas.List.Elements.{All-nil}
 use Rattle.choreo_reader.specs.Plain.{PlainShow}
 use Rattle.link_frames.specs.Frames.{end_frame}

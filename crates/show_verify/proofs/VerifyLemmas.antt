@@ -1,5 +1,5 @@
 -- The laws of `verify`.
-use Rattle.std.proofs.Common.{◌≡◌, ℕ, ◌==◌, ◌≤◌, Bool, true, false, cond, List, length, Option, Some, None, refl, sym, ap, subst, ◌∙◌, arith}
+use Rattle.std.proofs.Common.{◌≡◌, ℕ, ◌==◌, Bool, true, false, cond, List, length, Option, Some, None, refl, sym, ap, subst, ◌∙◌, arith}
 use Rattle.std.specs.Str.Lines.{lines}
 use Rattle.choreo_reader.specs.Plain.{PlainShow}
 use Rattle.fleet_curves.specs.Raised.{raised_of}

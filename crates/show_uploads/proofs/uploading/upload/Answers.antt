@@ -1,4 +1,3 @@
-use Rattle.std.proofs.Common.{true, false}
 use Rattle.show_judge.proofs.HeadlineLemmas.{behaves_of}
 use Rattle.show_uploads.specs.Upload.{upload_verb}
 use Rattle.show_uploads.proofs.uploading.upload.Goals as goal

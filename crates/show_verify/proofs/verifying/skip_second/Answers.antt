@@ -44,9 +44,11 @@ returns-in_err-ask-clause-left g c = TakesFront-trans _ _ _ c.bytes.invariant.le
 
 pub returns-in-Marker : goal.returns-in-Marker
 returns-in-Marker g c = record {
-  whole = skipped_marked _ _ c.bytes.parts.at_line (stream c.bytes.parts (g.S.Source.left c.bytes.source)) (stream c.part_byte.new.self (g.S.Source.left c.part_byte.new.source)) _
+  whole = skipped_marked (stream c.args.parts.now (g.S.Source.left c.args.source.now)) c.bytes.count c.bytes.parts.at_line (stream c.bytes.parts (g.S.Source.left c.bytes.source))
+      (stream c.part_byte.new.self (g.S.Source.left c.part_byte.new.source)) (g.S.Source.left c.part_byte.new.source)
       c.bytes.invariant.skips (rw c.in-Marker.is at c.in_ok-ask.ensures.asks)
-      (few_marked _ c.bytes.parts.at_line (stream c.bytes.parts (g.S.Source.left c.bytes.source)) c.bytes.invariant.skips.fed c.part_byte.new.self _ c.bytes.invariant.skips.is_fed
+      (few_marked (stream c.args.parts.now (g.S.Source.left c.args.source.now)) c.bytes.parts.at_line (stream c.bytes.parts (g.S.Source.left c.bytes.source)) c.bytes.invariant.skips.fed c.part_byte.new.self
+      (g.S.Source.left c.part_byte.new.source) c.bytes.invariant.skips.is_fed
       (rw c.in-Marker.is at c.in_ok-ask.ensures.asks) c.part_byte.ensures.most);
   cause = record { later = omega (arith, c.part_byte.ensures.cause.later); failed = tt };
   left = TakesFront-trans _ _ _ c.bytes.invariant.left c.part_byte.ensures.left;
@@ -57,8 +59,9 @@ returns-in-End g c =
     let ended : IsTrue c.part_byte.new.self.ended = c.in_ok-ask.ensures.ended c.in-End.is in
     let at_end : IsAtEnd (g.S.Source.left c.part_byte.new.source) = c.part_byte.ensures.at_end ended in
     record {
-      whole = ended_whole _ _ at_end
-          (few_whole _ c.bytes.parts.at_line (stream c.bytes.parts (g.S.Source.left c.bytes.source)) c.bytes.invariant.skips.fed c.part_byte.new.self _ c.bytes.invariant.skips.is_fed
+      whole = ended_whole (stream c.args.parts.now (g.S.Source.left c.args.source.now)) (g.S.Source.left c.part_byte.new.source) at_end
+          (few_whole (stream c.args.parts.now (g.S.Source.left c.args.source.now)) c.bytes.parts.at_line (stream c.bytes.parts (g.S.Source.left c.bytes.source)) c.bytes.invariant.skips.fed c.part_byte.new.self
+          (g.S.Source.left c.part_byte.new.source) c.bytes.invariant.skips.is_fed
           (rw c.in-End.is at c.in_ok-ask.ensures.asks) c.part_byte.ensures.most);
       cause = record { later = omega (arith, c.part_byte.ensures.cause.later); failed = tt };
       left = TakesFront-trans _ _ _ c.bytes.invariant.left c.part_byte.ensures.left;
@@ -67,4 +70,4 @@ returns-in-End g c =
 pub returns-clause-whole : goal.returns-clause-whole
 returns-clause-whole g c =
     let over : 400000000 < c.bytes.count = omega (arith, c.bytes-test.false) in
-    skipped_over (stream c.args.parts.now (g.S.Source.left c.args.source.now)) c.bytes.count c.bytes.parts.at_line (stream c.bytes.parts (g.S.Source.left c.bytes.source)) _ over c.bytes.invariant.skips
+    skipped_over (stream c.args.parts.now (g.S.Source.left c.args.source.now)) c.bytes.count c.bytes.parts.at_line (stream c.bytes.parts (g.S.Source.left c.bytes.source)) (g.S.Source.left c.bytes.source) over c.bytes.invariant.skips
