@@ -86,9 +86,9 @@ MOTION = re.compile(r"^dynamics (\S+) acceleration (\d+) (\d+) (\d+) jump (\d+) 
 
 def ask_dynamics(text, program=None):
     """What the proved program's `dynamics` says of a show's drones, by name: bounds on acceleration in m/s^2, jumps of
-    speed in m/s and their cues, each on x, y and z; or None where the program isn't built or refuses the show."""
+    speed in m/s and their cues, each on x, y and z; or None where the program can't be run or refuses the show."""
     program = program or choreo.PROGRAM
-    if not os.access(program, os.X_OK):
+    if no_program(program):
         return None
     done = subprocess.run([os.path.abspath(program), "dynamics"], input=text, stdout=subprocess.PIPE)
     if done.returncode:
