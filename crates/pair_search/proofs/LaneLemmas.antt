@@ -128,6 +128,11 @@ zeros zero j = refl
 zeros (suc n) zero = refl
 zeros (suc n) (suc j) = zeros n j
 
+pub ones_small : (m n j : ℕ) → 1 < m → IsBelow m (at (replicate n (pos 1)) j)
+ones_small m zero j some = (omega (arith, ints), omega (arith, ints))
+ones_small m (suc n) zero some = (omega (arith, ints), omega (arith, ints))
+ones_small m (suc n) (suc j) some = ones_small m n j some
+
 by_same : {P : Type 0} (j i : ℕ) → (j ≡ i → P) → (j ≢ i → P) → P
 by_same {P} j i same other = by_lt j i (λ less. other (not_less j i less)) (λ more. by_lt i j (λ less. other (not_more j i less)) (λ most. same (omega (arith, more, most))))
   where

@@ -1,8 +1,11 @@
 -- Words of private steps of the search. No public clause cites them.
-use Rattle.std.specs.Prelude.{◌≡◌, ℕ, nat_lt, List, length, Option, Some, None, if◌then◌else◌, Result, Ok, Err}
+use Rattle.std.specs.Prelude.{◌≡◌, ℕ, ◌≤◌, ◌<◌, nat_lt, Bool, true, false, List, length, Option, Some, None, is_none, if◌then◌else◌, Result, Ok, Err}
 use Rattle.std.specs.Option.{option_map, option_or}
 use Rattle.std.specs.declared.alloc.AllocError.{AllocError}
+use Rattle.bezier_core.specs.declared.Bez.{Bez}
 use Rattle.halving.specs.declared.Place.{Place}
+use Rattle.sep_parts.specs.Directions.{direction_of}
+use Rattle.sep_parts.specs.Separates.{low_value}
 use Rattle.sep_parts.specs.Levels.{root}
 use Rattle.fleet_curves.specs.Raised.{Raised}
 use Rattle.sep_parts.specs.Rulers.{Measure}
@@ -20,6 +23,19 @@ use Rattle.pair_search.specs.Fleets.{StopsBy, best_nodes, direction_at, nodes_of
 -- The node of a place: a leaf with its first direction, else a split where the place is less deep than the greatest depth.
 abbrev pub node_for : (Place → Option ℕ) → ℕ → Place → Option Node
 node_for first depth place = option_or (option_map Leaf (first place)) (if nat_lt place.depth depth then Some Split else None)
+
+-- whether the direction with this number separates a place
+abbrev pub does_separate : Measure → List (Bez 8) → Place → ℕ → Bool
+does_separate m diff place dir = is_none (low_value m.clearance diff place (direction_of m.directions dir))
+
+-- none of the directions from one number on and before another separates a place
+abbrev pub NoneFrom : Measure → List (Bez 8) → Place → ℕ → ℕ → Type 0
+NoneFrom m diff place begin past = (k : ℕ) → begin ≤ k → k < past → k < length m.directions → does_separate m diff place k ≡ false
+
+-- the first direction among these that separates a place, if one does
+abbrev pub FindsFrom : Measure → List (Bez 8) → Place → ℕ → ℕ → Option ℕ → Type 0
+FindsFrom m diff place begin past None = NoneFrom m diff place begin past
+FindsFrom m diff place begin past (Some dir) = (begin ≤ dir) × (dir < length m.directions) × NoneFrom m diff place begin dir × (does_separate m diff place dir ≡ true)
 
 -- what a walk gives: as a search, but that nodes may be left where it isn't clear
 abbrev pub WalkGives : (Place → Option ℕ) → ℕ → Result Found AllocError → List Node → Type 0

@@ -1,13 +1,14 @@
 //! The first direction that separates a part.
 
-ghost use Rattle.std.specs.Prelude.{◌≡◌, ◌^◌, All};
+ghost use Rattle.std.specs.Prelude.{◌≡◌, ℕ, ◌+◌, ◌*◌, ◌^◌, ◌≤◌, ◌<◌, pos, ◌<ℤ◌, false, All, IfSome, length};
+ghost use Rattle.fleet_math.specs.Bernstein.{at};
 ghost use Rattle.fleet_math.specs.Numbers.{IsBelow};
 ghost use Rattle.sep_parts.specs.Levels.{IsLevel};
 ghost use Rattle.pair_search.specs.Lanes.{AreLanes, IsPoint, IsSmallPoint};
 ghost use Rattle.pair_search.specs.Search.{first_by};
+ghost use Rattle.pair_search.specs.Steps.{FindsFrom, does_separate};
 
-use crate::lanes::{Lanes, Point, fill};
-use crate::shape::{holds, points_of};
+use crate::lanes::{Lanes, Point, fill, point_at};
 use bezier_core::Bez;
 use sep_parts::{Level, Ruler};
 
@@ -29,7 +30,27 @@ pub fn first_direction<const M: usize>(
     }
 }
 
-// The same where the ends of the part are these. Only directions that hold at both ends are asked.
+// The two ends of a part in whole steps; none where these are too large.
+fn points_of(diff: &[Bez<8>; 3], level: &Level) -> Option<(Point, Point)>
+    requires level { IsLevel diff.now level.now }
+    ensures first { IfSome result (λ ends. IsSmallPoint ends.0 × IsPoint level.now 0 ends.0) }
+    ensures second { IfSome result (λ ends. IsSmallPoint ends.1 × IsPoint level.now 7 ends.1) }
+{
+    level_sizes_law(diff, level);
+    let p = point_at(level, 0)?;
+    let q = point_at(level, 7)?;
+    Some((p, q))
+}
+
+// A law: each of the three curves of a level has eight control values.
+fn level_sizes_law(diff: &[Bez<8>; 3], level: &Level)
+    requires level { IsLevel diff.now level.now }
+    ensures depth { level.now.place.depth ≤ 8 }
+    ensures axes { length level.now.part ≡ 3 }
+    ensures sizes { All (λ curve. length curve.b ≡ 8) level.now.part }
+{}
+
+// The same where the ends of the part are these. Lanes are weighed 16 at a time, since the first direction mostly comes early.
 fn first_near<const M: usize>(
     diff: &[Bez<8>; 3],
     level: &Level,
@@ -45,18 +66,86 @@ fn first_near<const M: usize>(
     requires q { IsSmallPoint q.now × IsPoint level.now 7 q.now }
     ensures { result ≡ first_by ruler.now diff.now level.now.place }
 {
-    let count = ruler.count();
-    let mut near = [0; 112];
-    let most = fill(lanes, p, q, &mut near);
+    // a ruler has at most 98 directions
+    let _count = ruler.count();
+    for group in 0..7 {
+        match first_among(diff, level, ruler, lanes, p, q, 16 * group) {
+            Some(dir) => return Some(dir),
+            None => {}
+        }
+    }
+    None
+}
+
+// The same among 16 directions from one on. Where none of them holds at both ends, none is asked.
+fn first_among<const M: usize>(
+    diff: &[Bez<8>; 3],
+    level: &Level,
+    ruler: &Ruler<M>,
+    lanes: &Lanes,
+    p: &Point,
+    q: &Point,
+    begin: usize,
+) -> Option<u8>
+    requires level { IsLevel diff.now level.now }
+    requires values { All (λ curve. All (IsBelow (2 ^ 30)) curve.b) diff.now }
+    requires lanes { AreLanes ruler.now lanes.now }
+    requires p { IsSmallPoint p.now × IsPoint level.now 0 p.now }
+    requires q { IsSmallPoint q.now × IsPoint level.now 7 q.now }
+    requires begin { begin ≤ 96 }
+    ensures { FindsFrom ruler.now diff.now level.now.place begin (begin + 16) result }
+{
+    let mut near = [0; 16];
+    let most = fill(lanes, p, q, begin, &mut near);
     if most < 0 {
         return None;
     }
-    for dir in 0..count {
-        if holds(diff, level, ruler, dir, near[dir]) {
+    first_from(diff, level, ruler, begin, &near)
+}
+
+// The same with what lanes tell of these directions: one whose `near` is below 0 doesn't separate the part.
+fn first_from<const M: usize>(
+    diff: &[Bez<8>; 3],
+    level: &Level,
+    ruler: &Ruler<M>,
+    begin: usize,
+    near: &[i32; 16],
+) -> Option<u8>
+    requires level { IsLevel diff.now level.now }
+    requires values { All (λ curve. All (IsBelow (2 ^ 30)) curve.b) diff.now }
+    requires begin { begin ≤ 96 }
+    requires near { (i : ℕ) → i < 16 → begin + i < length ruler.now.directions → at near.now i <ℤ pos 0 → does_separate ruler.now diff.now level.now.place (begin + i) ≡ false }
+    ensures { FindsFrom ruler.now diff.now level.now.place begin (begin + 16) result }
+{
+    let count = ruler.count();
+    for i in 0..16 {
+        let dir = begin + i;
+        if dir < count && holds(diff, level, ruler, dir, near[i]) {
             return Some(dir as u8);
         }
     }
     None
+}
+
+// Whether a direction separates a part. It is not asked where `near` is below 0, which says that it doesn't.
+#[inline(always)]
+fn holds<const M: usize>(
+    diff: &[Bez<8>; 3],
+    level: &Level,
+    ruler: &Ruler<M>,
+    dir: usize,
+    near: i32,
+) -> bool
+    requires level { IsLevel diff.now level.now }
+    requires values { All (λ curve. All (IsBelow (2 ^ 30)) curve.b) diff.now }
+    requires dir { dir < length ruler.now.directions }
+    requires near { near <ℤ pos 0 → does_separate ruler.now diff.now level.now.place dir ≡ false }
+    ensures { result ≡ does_separate ruler.now diff.now level.now.place dir }
+{
+    if near < 0 {
+        return false;
+    }
+    ruler.separates(diff, level, dir)
 }
 
 // The same where each direction is asked.

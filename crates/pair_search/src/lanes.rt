@@ -35,7 +35,7 @@ pub fn lanes_of<const M: usize>(ruler: &Ruler<M>) -> Lanes
         x: [0; 112],
         y: [0; 112],
         z: [0; 112],
-        low: [0; 112],
+        low: [1; 112],
     };
     for i in 0..ruler.count() {
         let w = ruler.weights_along(i);
@@ -134,18 +134,19 @@ fn floor_by(value: i128, times: u32) -> i128
     value >> times
 }
 
-/// How far above what they have to reach the lower of two points is, in each lane; and the most of these. Below 0 one of the points
-/// is too low.
-pub fn fill(lanes: &Lanes, p: &Point, q: &Point, near: &mut [i32; 112]) -> i32
+/// How far above what they have to reach the lower of two points is, in 16 lanes from one on; and the most of these. Below 0 one of
+/// the points is too low.
+pub fn fill(lanes: &Lanes, p: &Point, q: &Point, begin: usize, near: &mut [i32; 16]) -> i32
+    requires begin { begin ≤ 96 }
     requires lanes { AreSmallLanes lanes.now }
     requires p { IsSmallPoint p.now }
     requires q { IsSmallPoint q.now }
-    ensures most { (i : ℕ) → i < 112 → at near.new i ≤ℤ result }
-    ensures told { (i : ℕ) → i < 112 → at near.new i <ℤ pos 0 → IsLowAt lanes.now p.now q.now i }
+    ensures most { (i : ℕ) → i < 16 → at near.new i ≤ℤ result }
+    ensures told { (i : ℕ) → i < 16 → at near.new i <ℤ pos 0 → IsLowAt lanes.now p.now q.now (begin + i) }
 {
     let mut most = -1;
-    for i in 0..112 {
-        let value = nearness(lanes, p, q, i);
+    for i in 0..16 {
+        let value = nearness(lanes, p, q, begin + i);
         near[i] = value;
         most = greater(most, value);
     }

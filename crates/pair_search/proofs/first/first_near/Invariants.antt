@@ -1,7 +1,6 @@
-use Rattle.std.proofs.Common.{◌≡◌, ℕ, ◌<◌, false, is_none}
-use Rattle.sep_parts.specs.Directions.{direction_of}
-use Rattle.sep_parts.specs.Separates.{low_value}
+use Rattle.std.proofs.Common.{◌*◌}
+use Rattle.pair_search.specs.Steps.{NoneFrom}
 use Rattle.pair_search.proofs.first.first_near.Given as goal
 
-abbrev pub invariant-loop-dir : goal.invariant-loop-dir
-invariant-loop-dir g l = (k : ℕ) → k < l.dir → is_none (low_value l.ruler.clearance l.diff l.level.place (direction_of l.ruler.directions k)) ≡ false
+abbrev pub invariant-loop-group : goal.invariant-loop-group
+invariant-loop-group g l = NoneFrom l.ruler l.diff l.level.place 0 (16 * l.group)

@@ -1,4 +1,4 @@
-use Rattle.std.proofs.Common.{◌≡◌, ◌<◌, ◌≤ℤ◌, ◌<ℤ◌, ℤ, ℕ, pos, arith, rules, subst, length, FitsSigned, to_z, of_z}
+use Rattle.std.proofs.Common.{◌≡◌, ◌+◌, ◌<◌, ◌≤ℤ◌, ◌<ℤ◌, ℤ, ℕ, pos, arith, rules, subst, length, FitsSigned, to_z, of_z}
 use Rattle.std.proofs.lemmas.Int.{to_z-of_z}
 use mir.Syntax.{w32}
 use Rattle.fleet_math.proofs.RingLemmas.{linear}
@@ -18,6 +18,6 @@ loop-i-preserved c =
       most = rw most
           (set_below (λ (k : ℕ) (z : ℤ). z ≤ℤ c.greater-most.result) c.loop-i.near c.loop-i.i (to_z w32 (of_z w32 c.nearness-value.result)) inside c.greater-most.ensures.second
           (λ k less. omega (arith, linear, c.loop-i.invariant.most k less, c.loop-i.most-is, c.greater-most.ensures.first)));
-      told = set_below (λ (k : ℕ) (z : ℤ). z <ℤ pos 0 → IsLowAt c.args.lanes.now c.args.p.now c.args.q.now k) c.loop-i.near c.loop-i.i (to_z w32 (of_z w32 c.nearness-value.result)) inside
+      told = set_below (λ (k : ℕ) (z : ℤ). z <ℤ pos 0 → IsLowAt c.args.lanes.now c.args.p.now c.args.q.now (c.args.begin + k)) c.loop-i.near c.loop-i.i (to_z w32 (of_z w32 c.nearness-value.result)) inside
           (λ less. c.nearness-value.ensures (subst (λ (z : ℤ). z <ℤ pos 0) value less)) c.loop-i.invariant.told;
     }

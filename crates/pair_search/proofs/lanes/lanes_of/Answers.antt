@@ -6,7 +6,7 @@ use Rattle.fleet_math.specs.Numbers.{IsBelow}
 use Rattle.bezier_core.proofs.EightLemmas.{below_at}
 use Rattle.sep_parts.specs.Directions.{direction_of, threshold, weights}
 use Rattle.pair_search.specs.Lanes.{slack_of}
-use Rattle.pair_search.proofs.LaneLemmas.{kept_lane, long_fits, low_fits, new_lane, small_lane, weight_fits, zeros}
+use Rattle.pair_search.proofs.LaneLemmas.{kept_lane, long_fits, low_fits, new_lane, ones_small, small_lane, weight_fits, zeros}
 use Rattle.pair_search.proofs.lanes.lanes_of.Goals as goal
 
 pub loop-i-init : goal.loop-i-init
@@ -15,7 +15,7 @@ loop-i-init g c = record {
   y_long = refl;
   z_long = refl;
   low_long = refl;
-  small = λ j few. record { x = zero 4001 j (lit< tt); y = zero 4001 j (lit< tt); z = zero 4001 j (lit< tt); low = zero (2 ^ 29) j (lit< tt) };
+  small = λ j few. record { x = zero 4001 j (lit< tt); y = zero 4001 j (lit< tt); z = zero 4001 j (lit< tt); low = ones_small (2 ^ 29) 112 j (lit< tt) };
   done = λ j none. absurd (omega arith);
 }
   where
