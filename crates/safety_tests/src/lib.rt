@@ -10,6 +10,8 @@ mod flights;
 #[cfg(test)]
 mod parts_of_cues;
 #[cfg(test)]
+mod reaches;
+#[cfg(test)]
 mod regions;
 #[cfg(test)]
 mod searches;

@@ -7,16 +7,17 @@ use std::alloc::{AllocError, Global};
 use std::test::Fail;
 use traj_codec::{Element, Listed, Segment, Traj};
 
-const STAYS: Element = Element::Constant;
+pub(crate) const STAYS: Element = Element::Constant;
 
 // A trajectory of two segments.
-fn flight(
+pub(crate) fn flight(
     alloc: Global,
     start: [i16; 4],
     first: Segment,
     second: Segment,
 ) -> Result<Traj, AllocError>
-    ensures { IfOk result (λ t. t.segments ≡ first ∷ second ∷ []) }
+    ensures start { IfOk result (λ t. t.start ≡ start) }
+    ensures segments { IfOk result (λ t. t.segments ≡ first ∷ second ∷ []) }
 {
     let mut segments = Vec::new(alloc);
     segments.push(first)?;
@@ -44,7 +45,7 @@ fn bounds(
 }
 
 // A segment with these elements, of at least a millisecond.
-fn segment(ms: u16, x: Element, y: Element, z: Element) -> Segment
+pub(crate) fn segment(ms: u16, x: Element, y: Element, z: Element) -> Segment
     ensures { 1 ≤ result.ms }
 {
     Segment {
@@ -54,7 +55,7 @@ fn segment(ms: u16, x: Element, y: Element, z: Element) -> Segment
 }
 
 // A metre from rest to rest.
-const METRE: Element = Element::Seven {
+pub(crate) const METRE: Element = Element::Seven {
     v: [0, 0, 0, 1000, 1000, 1000, 1000],
 };
 
@@ -70,8 +71,30 @@ const SHORT_WAVES: Element = Element::Seven {
     v: [40, 60, -90, 100, 0, 0, 10],
 };
 
+// Ways that are fastest near their end, near their beginning, and in between.
+const FAST_AT_LAST: Element = Element::Seven {
+    v: [0, 0, 0, 0, 600, 900, 1000],
+};
+
+const FAST_AT_FIRST: Element = Element::Seven {
+    v: [1000, 0, 0, 0, 0, 0, 0],
+};
+
+const BACK: Element = Element::Seven {
+    v: [1000, 1000, 1000, 300, -200, 0, 0],
+};
+
+const FAST_IN_BETWEEN: Element = Element::Seven {
+    v: [0, 0, 0, 0, 1000, 1000, 1000],
+};
+
+const DECIMETRE: Element = Element::Seven {
+    v: [1000, 1000, 1000, 1100, 1100, 1100, 1100],
+};
+
 // A start, two segments by their durations and elements on x, y and z, and the depth; the bounds in micrometres per second: from rest to rest;
-// a quarter arc; a quotient that is rounded up; the widest numbers; and two segments that differ.
+// a quarter arc; a quotient that is rounded up; the widest numbers; two segments that differ; and parts that are fastest in either half, in
+// either segment.
 type Row = (
     [i16; 4],
     (u16, [Element; 3]),
@@ -80,7 +103,7 @@ type Row = (
     [i64; 3],
 );
 
-const BOUNDS: [Row; 9] = [
+const BOUNDS: [Row; 12] = [
     (
         [0, 0, 1000, 0],
         (2000, [METRE, STAYS, STAYS]),
@@ -196,6 +219,27 @@ const BOUNDS: [Row; 9] = [
         (1300, [STAYS, SHORT_WAVES, Element::Linear { v: 1200 }]),
         3,
         [214286, 592308, 153847],
+    ),
+    (
+        [0; 4],
+        (1000, [FAST_AT_LAST, FAST_IN_BETWEEN, METRE]),
+        (1100, [BACK, FAST_AT_FIRST, DECIMETRE]),
+        0,
+        [4454546, 7000000, 7000000],
+    ),
+    (
+        [0; 4],
+        (1000, [FAST_AT_LAST, FAST_IN_BETWEEN, METRE]),
+        (1100, [BACK, FAST_AT_FIRST, DECIMETRE]),
+        1,
+        [2450000, 3181819, 2187500],
+    ),
+    (
+        [0; 4],
+        (1000, [FAST_AT_LAST, FAST_IN_BETWEEN, METRE]),
+        (1100, [BACK, FAST_AT_FIRST, DECIMETRE]),
+        8,
+        [2119148, 2557441, 2187500],
     ),
 ];
 

@@ -54,3 +54,24 @@ fn by_entries(rt: HostRuntime) -> Result<(), Fail> {
     }
     Ok(())
 }
+
+// The widest ellipsoids that a show may have, 2,000 mm to the side or up and down, alone and with the greatest stray and reach: half axes, stray,
+// reach, and the thresholds along (1, 0, 0), (0, 0, 1) and (1, 1, 1).
+const AT_THE_WIDEST: [(u16, u16, u16, u32, [i128; 3]); 6] = [
+    (2000, 2000, 0, 0, [8000001, 8000001, 13856407]),
+    (2000, 2000, 1000, 65536, [143072001, 143072001, 414000611]),
+    (2000, 1, 0, 0, [4001, 4001, 6929]),
+    (2000, 1, 1000, 65536, [71537, 135076001, 135210002]),
+    (1, 2000, 0, 0, [4001, 4001, 6929]),
+    (1, 2000, 1000, 65536, [135076001, 71537, 267873320]),
+];
+
+#[test]
+fn at_the_widest(rt: HostRuntime) -> Result<(), Fail> {
+    table_law();
+    for (r, h, stray, reach, wanted) in AT_THE_WIDEST {
+        let t = thresholds(&DIRECTIONS, clearance(r, h, stray, [reach; 3]));
+        assert_eq!(rt; [t[21], t[13], t[25]], wanted, "ellipsoid {r} {h}");
+    }
+    Ok(())
+}
