@@ -299,11 +299,7 @@ impl Options {
             option_map (λ given. make given.0 given.1 given.2) result ≡ at_start make self }
         ensures most { IfSome result (λ given. given.0 ≤ most_depth) }
     {
-        if self.is_bounded()
-            || self.step.is_some()
-            || self.limit.is_some()
-            || self.fine.is_some()
-        {
+        if self.is_bounded() || self.step.is_some() || self.limit.is_some() || self.fine.is_some() {
             return None;
         }
         Some((
@@ -364,11 +360,7 @@ impl Options {
         {
             return None;
         }
-        Some((
-            self.depth.unwrap_or(DEFAULT_DEPTH),
-            self.accel,
-            self.jump,
-        ))
+        Some((self.depth.unwrap_or(DEFAULT_DEPTH), self.accel, self.jump))
     }
 }
 

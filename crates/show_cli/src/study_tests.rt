@@ -214,19 +214,24 @@ fn speeds_and_explanations(rt: HostRuntime) -> Result<(), Fail> {
 const STILL: &[u8] = b"choreo 1\ndrone solo 0 0 1000000 0\ncue 1000\nend\n";
 
 // A drone that leaves its rest, and ends at speed.
-const END: &[u8] = b"choreo 1\ndrone a 0 0 1000000 0\ncue 1000\na curve 0 0 1000000 500000 0 1000000 1000000 0 1000000 0\nend\n";
+const END: &[u8] =
+    b"choreo 1\ndrone a 0 0 1000000 0\ncue 1000\na curve 0 0 1000000 500000 0 1000000 1000000 0 1000000 0\nend\n";
 
 // Holds that are joined, before each of two lines.
-const JOINED: &[u8] = b"choreo 1\ndrone solo 0 0 1000000 0\ncue 1000\nend\ncue 500\nend\ncue 2000\nsolo line 0 1000000 1000000 0\nend\ncue 700\nend\ncue 300\nend\ncue 4000\nsolo line 0 1000000 2000000 0\nend\n";
+const JOINED: &[u8] =
+    b"choreo 1\ndrone solo 0 0 1000000 0\ncue 1000\nend\ncue 500\nend\ncue 2000\nsolo line 0 1000000 1000000 0\nend\ncue 700\nend\ncue 300\nend\ncue 4000\nsolo line 0 1000000 2000000 0\nend\n";
 
 // Two drones: the first jumps later than the second one accelerates.
-const TWO: &[u8] = b"choreo 1\ndrone a 0 0 1000000 0\ndrone b 0 5000000 1000000 0\ncue 1000\nb move 0 6000000 1000000 0\nend\ncue 1000\na line 1000000 0 1000000 0\nend\n";
+const TWO: &[u8] =
+    b"choreo 1\ndrone a 0 0 1000000 0\ndrone b 0 5000000 1000000 0\ncue 1000\nb move 0 6000000 1000000 0\nend\ncue 1000\na line 1000000 0 1000000 0\nend\n";
 
 // A drone that begins at speed and accelerates.
-const BOTH: &[u8] = b"choreo 1\ndrone a 0 0 1000000 0\ncue 1000\na curve 0 500000 1000000 1000000 0 1000000 1000000 0 1000000 0\nend\n";
+const BOTH: &[u8] =
+    b"choreo 1\ndrone a 0 0 1000000 0\ncue 1000\na curve 0 500000 1000000 1000000 0 1000000 1000000 0 1000000 0\nend\n";
 
 // A drone that accelerates more in a later cue than the one at whose beginning it jumps.
-const LATER: &[u8] = b"choreo 1\ndrone a 0 0 1000000 0\ncue 1000\na line 0 0 2000000 0\nend\ncue 1000\na move 3000000 0 2000000 0\nend\n";
+const LATER: &[u8] =
+    b"choreo 1\ndrone a 0 0 1000000 0\ncue 1000\na line 0 0 2000000 0\nend\ncue 1000\na move 3000000 0 2000000 0\nend\n";
 
 // By fractions, from the definitions, outside the program: bench/dynamics.py.
 const DYNAMICS: [(&[&str], &[u8], u8, &[u8]); 21] = [
@@ -319,7 +324,9 @@ greatest acceleration 1878895 0 0 jump 0 0 0\n",
         b"error 18 drone solo cue 1 accel x 1878895\n",
     ),
     (
-        &["dynamics", "--depth", "0", "--accel", "10500", "--jump", "0"],
+        &[
+            "dynamics", "--depth", "0", "--accel", "10500", "--jump", "0",
+        ],
         SHOW,
         0,
         b"dynamics solo acceleration 10500000 0 0 jump 0 cue 1 0 cue 1 0 cue 1 begins rest ends rest\n\
@@ -390,9 +397,13 @@ fn dynamics_of_many(rt: HostRuntime) -> Result<(), Fail> {
         written.extend_from_slice(b"dynamics ")?;
         written.extend_from_slice(&name_of(d))?;
         if d == 31 {
-            written.extend_from_slice(b" acceleration 1878895 0 0 jump 0 cue 1 0 cue 1 0 cue 1 begins rest ends rest\n")?;
+            written.extend_from_slice(
+                b" acceleration 1878895 0 0 jump 0 cue 1 0 cue 1 0 cue 1 begins rest ends rest\n",
+            )?;
         } else {
-            written.extend_from_slice(b" acceleration 0 0 0 jump 0 cue 1 0 cue 1 0 cue 1 begins rest ends rest\n")?;
+            written.extend_from_slice(
+                b" acceleration 0 0 0 jump 0 cue 1 0 cue 1 0 cue 1 begins rest ends rest\n",
+            )?;
         }
     }
     show.extend_from_slice(b"cue 2000\nd31 move 1000000 31000000 1000000 0\nend\n")?;

@@ -1,5 +1,5 @@
 -- What `dynamics` answers, drone by drone.
-use Rattle.std.proofs.Common.{inl, inr, ◌⊎◌, ◌≡◌, ℕ, zero, suc, ◌+◌, ◌-◌, ◌<◌, ◌≤◌, max, Bool, true, false, cond, nat_lt, pos, List, [], ◌∷◌, ◌++◌, All, length, map, get_or, drop, Option, Some, None, Result, Ok, Err, IfOk, IfSome, refl, sym, ap, subst, ◌∙◌, arith, append_assoc, append-nil}
+use Rattle.std.proofs.Common.{inl, inr, ◌⊎◌, ◌≡◌, ℕ, zero, suc, ◌+◌, ◌-◌, ◌<◌, ◌≤◌, max, Bool, true, false, cond, nat_lt, pos, List, [], ◌∷◌, ◌++◌, All, length, get_or, drop, Option, Some, None, Result, Ok, Err, IfOk, refl, sym, ap, subst, ◌∙◌, arith, append_assoc, append-nil}
 use Rattle.std.specs.Option.{option_or}
 use Rattle.std.specs.declared.alloc.AllocError.{AllocError}
 use Rattle.std.proofs.lemmas.List.{drop_all, drop_more}
@@ -11,11 +11,9 @@ use Rattle.dynamics_bound.specs.declared.excess.Kind.{Kind}
 use Rattle.dynamics_bound.specs.declared.excess.Kind.TheVariants as kind
 use Rattle.dynamics_bound.specs.declared.excess.Limits.{Limits}
 use Rattle.cue_grid.specs.declared.grid.Grid.{Grid}
-use Rattle.cue_grid.specs.Cues.{grid_of}
 use Rattle.dynamics_bound.specs.Excesses.{above, excess_before, first_excess, jumps_at, sharp_at}
 use Rattle.fleet_io.specs.Words.{AreWords}
 use Rattle.refusals.specs.declared.refusal.Refusal.{Refusal}
-use Rattle.traj_codec.specs.declared.traj.Segment.{Segment}
 use Rattle.traj_codec.specs.declared.traj.Traj.{Traj}
 use Rattle.traj_codec.specs.Positions.{durations}
 use Rattle.show_plan.specs.declared.fitted.Fitted.{Fitted}
@@ -25,9 +23,8 @@ use Rattle.show_plan.specs.Trajectories.{by_cue, cue_times}
 use Rattle.show_plan.proofs.Flight.{by_cue_counted, flight_lasts}
 use Rattle.show_judge.specs.declared.ends.Answer.{Answer}
 use Rattle.show_judge.specs.Answers.{outcome_of}
-use Rattle.show_judge.specs.Shows.{names_of, sent_of}
+use Rattle.show_judge.specs.Shows.{sent_of}
 use Rattle.show_studies.specs.Speeds.{refused_or}
-use Rattle.show_judge.specs.Refused.{IsOfInput}
 use Rattle.show_studies.specs.declared.motion.Axes.{Axes}
 use Rattle.show_studies.specs.declared.motion.Extremes.{Extremes}
 use Rattle.show_studies.specs.Dynamics.{KeepsMotion, cue_from, dynamics_of, dynamics_text, excess_by, excess_in, extremes, extremes_of, first_excess_of, limits_of, motion, motion_line, motion_lines, times_of}
@@ -94,9 +91,9 @@ before_named limits depth t zero e is = absurd (cc)
 before_named limits depth t (suc k) e is = elim (either (excess_before limits depth t k) _ e is) [
   | inl first ↦ let named = before_named limits depth t k e first in (named.0, omega (arith, named.1))
   | inr later ↦ elim (either (sharp_at limits.acceleration depth t k) (jumps_at limits.jump t k) e later) [
-      | inl sharp ↦ let named = above_named kind.Acceleration limits.acceleration k _ e sharp in (named.0, omega (arith, named.1))
-      | inr jumps ↦ let named = above_named kind.Jump limits.jump k _ e jumps in (named.0, omega (arith, named.1))
-    ]
+    | inl sharp ↦ let named = above_named kind.Acceleration limits.acceleration k _ e sharp in (named.0, omega (arith, named.1))
+    | inr jumps ↦ let named = above_named kind.Jump limits.jump k _ e jumps in (named.0, omega (arith, named.1))
+  ]
 ]
 
 pub first_named : (limits : Limits) (depth : ℕ) (t : Traj) (e : Excess) → first_excess limits depth t ≡ Some e → (e.axis ≤ 2) × (e.segment ≤ length t.segments)

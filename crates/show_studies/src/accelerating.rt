@@ -1,18 +1,18 @@
 //! `dynamics`: how fast the speeds of a show's drones change at most, and where they jump.
-ghost use Rattle.std.specs.Prelude.{◌≡◌, ◌≤◌, ◌++◌, ℕ, length, sum, unsigned_abs, None, All, IfNone, IfOk, IfSome};
+ghost use Rattle.std.specs.Prelude.{◌≡◌, ◌≤◌, length, sum, unsigned_abs, None, All, IfNone, IfOk, IfSome};
 ghost use Rattle.choreo_reader.specs.Plain.{PlainShow};
 ghost use Rattle.dynamics_bound.specs.Excesses.{IsWithinLimits};
 ghost use Rattle.fleet_io.specs.Words.{IsWord};
 ghost use Rattle.fleet_math.specs.Limits.{most_cues};
 ghost use Rattle.show_plan.specs.Fitting.{IsFitted, IsSendable, IsValidFitted, StandsAsWord};
 ghost use Rattle.traj_codec.specs.Positions.{durations};
-ghost use Rattle.traj_codec.specs.Spelling.{HasDuration, most_segments};
+ghost use Rattle.traj_codec.specs.Spelling.{most_segments};
 ghost use Rattle.show_judge.specs.Answers.{IsSaid, outcome_of};
 ghost use Rattle.show_judge.specs.Refused.{IsOfInput};
 ghost use Rattle.show_judge.specs.Runs.{Behaves};
 ghost use Rattle.show_judge.specs.Shows.{Cut, most_depth};
 ghost use Rattle.show_judge.specs.Verb.{during};
-ghost use Rattle.show_studies.specs.Dynamics.{KeepsMotion, begins_at, cue_from, cue_of, dynamics_text, dynamics_verb, excess_by, first_excess_of, in_micrometres, limits_of, motion, refusal_as, times_of};
+ghost use Rattle.show_studies.specs.Dynamics.{KeepsMotion, cue_from, cue_of, dynamics_text, dynamics_verb, excess_by, first_excess_of, in_micrometres, limits_of, motion, refusal_as, times_of};
 ghost use Rattle.show_studies.specs.Speeds.{refused_or};
 
 use crate::motion::{Axes, Extremes, Motion, put_extremes, put_motion};
@@ -91,13 +91,7 @@ fn refusal_as(kind: Kind, drone: Name, cue: u16, axis: u8, value: i64) -> Refusa
 }
 
 // The first acceleration or jump of a drone that is above its limit.
-fn excess_by(
-    t: &Traj,
-    name: &Name,
-    cues: &[Segment],
-    depth: u8,
-    limits: Limits,
-) -> Option<Refusal>
+fn excess_by(t: &Traj, name: &Name, cues: &[Segment], depth: u8, limits: Limits) -> Option<Refusal>
     requires sendable { IsSendable t.now }
     requires name { IsWord name.now.items }
     requires cues { length cues.now ≤ most_cues }
@@ -108,13 +102,7 @@ fn excess_by(
 {
     let excess = first_above(t, limits, depth)?;
     let cue = cue_of(cues, t, excess.segment);
-    Some(refusal_as(
-        excess.kind,
-        copy_of(name),
-        cue,
-        excess.axis,
-        excess.value,
-    ))
+    Some(refusal_as(excess.kind, copy_of(name), cue, excess.axis, excess.value))
 }
 
 // Three numbers that are none below 0.

@@ -1,5 +1,5 @@
 //! Lines on how fast a drone's speed changes at most, and where it jumps.
-ghost use Rattle.std.specs.Prelude.{◌≡◌, ◌++◌, ◌∷◌, [], true, codes, decimal, max, OnOk};
+ghost use Rattle.std.specs.Prelude.{◌≡◌, ◌++◌, ◌∷◌, [], true, codes, decimal, OnOk};
 ghost use Rattle.fleet_io.specs.Words.{AreWords, IsWord, is_line_empty, with_words};
 ghost use Rattle.show_studies.specs.Dynamics.{axes_words, extremes_line, jump_words, motion_line, rest_word};
 ghost use Rattle.show_studies.specs.Steps.{greater, greater_axes, nothing};

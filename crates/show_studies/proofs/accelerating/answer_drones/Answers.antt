@@ -3,7 +3,7 @@ use Rattle.refusals.specs.declared.refusal.Refusal.{Refusal}
 use Rattle.traj_codec.specs.Positions.{durations}
 use Rattle.show_studies.specs.declared.motion.Extremes.{Extremes}
 use Rattle.show_studies.specs.declared.motion.Motion.{Motion}
-use Rattle.show_studies.specs.Dynamics.{dynamics_text, excess_by, extremes_of, first_excess_of, motion_line}
+use Rattle.show_studies.specs.Dynamics.{dynamics_text, excess_by, extremes_of, motion_line}
 use Rattle.show_studies.specs.Speeds.{refused_or}
 use Rattle.show_studies.specs.Steps.{greater}
 use Rattle.show_studies.proofs.DynamicsLemmas.{excess_here, excess_next, extremes_next, keeps_next, keeps_over, motions_next}
@@ -17,7 +17,7 @@ returns-in-Some-clause-gives c =
     let within : c.loop-d.d < length sent = omega (arith, c.loop-d-test.true) in
     let inside : c.loop-d.d < length names = omega (arith, within, c.requires.counted) in
     let here = excess_here c.args.limits c.args.depth times sent names c.loop-d.d c.index-sent-d.result c.index-names-d.result c.in-Some.refusal within inside c.index-sent-d.is c.index-names-d.is
-        (sym c.in-Some.ensures.excess) in
+    (sym c.in-Some.ensures.excess) in
     ap (λ (o : Option Refusal). refused_or o (dynamics_text c.args.depth times sent names)) (sym here ∙ c.loop-d.invariant.refusal)
 
 pub loop-d-preserved : goal.loop-d-preserved

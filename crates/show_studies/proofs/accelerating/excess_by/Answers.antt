@@ -1,4 +1,4 @@
-use Rattle.std.proofs.Common.{sym, ap, ◌∙◌, Some}
+use Rattle.std.proofs.Common.{sym}
 use Rattle.show_studies.proofs.DynamicsLemmas.{first_named}
 use Rattle.show_studies.proofs.accelerating.excess_by.Goals as goal
 

@@ -31,7 +31,12 @@ returns-clause-line c =
     subst (λ (t : List ℕ). OnOk c.end.result (c.end.new.self ≡ t))
     (ap (λ (t : List ℕ). t ++ 10 ∷ []) words
     ∙ words_make_line c.args.text.now (codes "dynamics")
-    (c.args.name.now ∷ codes "acceleration" ∷ accelerations ++ codes "jump" ∷ jumps ++ codes "begins" ∷ begins ∷ codes "ends" ∷ ends ∷ []) c.requires.fresh refl
-    (c.requires.name, (refl, words_both accelerations (codes "jump" ∷ jumps ++ codes "begins" ∷ begins ∷ codes "ends" ∷ ends ∷ []) c.in_ok-put_axes.ensures.are_words
-    (refl, words_both jumps (codes "begins" ∷ begins ∷ codes "ends" ∷ ends ∷ []) c.in_ok-put_jumps.ensures.are_words (refl, (begins_is, (refl, (ends_is, tt))))))))
+    (c.args.name.now ∷ codes "acceleration" ∷ accelerations ++ codes "jump" ∷ jumps ++ codes "begins" ∷ begins ∷ codes "ends" ∷ ends ∷ []) c.requires.fresh refl (
+      c.requires.name,
+      (
+        refl,
+        words_both accelerations (codes "jump" ∷ jumps ++ codes "begins" ∷ begins ∷ codes "ends" ∷ ends ∷ []) c.in_ok-put_axes.ensures.are_words
+            (refl, words_both jumps (codes "begins" ∷ begins ∷ codes "ends" ∷ ends ∷ []) c.in_ok-put_jumps.ensures.are_words (refl, (begins_is, (refl, (ends_is, tt))))),
+      ),
+    ))
     c.end.ensures.ok
