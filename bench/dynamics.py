@@ -1,34 +1,44 @@
 """What `dynamics` writes, computed from docs/COMMANDS.md and docs/LANGUAGE.md alone: parts of curves by the polar form
 and not by halving, jumps as fractions. For bench/reference, and for rows of tests."""
 from fractions import Fraction
+from functools import lru_cache
 from math import ceil, comb
 
 AXES = range(3)
 
 
 def raised(b):
-    """The eight control values of degree seven of a curve."""
+    """The eight control values of degree seven of 5,040 times a curve."""
     n = len(b) - 1
-    return [sum(Fraction(comb(n, j) * comb(7 - n, k - j), comb(7, k)) * b[j]
+    return [sum(5040 // comb(7, k) * comb(n, j) * comb(7 - n, k - j) * b[j]
                 for j in range(n + 1) if 0 <= k - j <= 7 - n) for k in range(8)]
 
 
-def part(depth, index, b):
-    """The control values of a part of a curve of degree seven, by the polar form."""
-    begin, end = Fraction(index, 2 ** depth), Fraction(index + 1, 2 ** depth)
+@lru_cache(None)
+def weights(depth, index):
+    """By the polar form, how much of each control value of a curve is in those of a part, times 2^(7 depth)."""
+    whole, begin, end = 2 ** depth, index, index + 1
 
     def weight(n, i, at):
-        return comb(n, i) * at ** i * (1 - at) ** (n - i)
-    return [sum(weight(7 - k, i, begin) * weight(k, j, end) * b[i + j] for i in range(8 - k) for j in range(k + 1))
-            for k in range(8)]
+        return comb(n, i) * at ** i * (whole - at) ** (n - i)
+    return [[sum(weight(7 - k, i, begin) * weight(k, m - i, end) for i in range(8 - k) if 0 <= m - i <= k)
+             for m in range(8)] for k in range(8)]
+
+
+def part(depth, index, b):
+    """The control values of a part of a curve, times 2^(7 depth)."""
+    return [sum(w * v for w, v in zip(row, b)) for row in weights(depth, index)]
 
 
 def acceleration(milliseconds, b, depth):
     """The bound on the acceleration of a segment, in micrometres per second squared: 42 times the widest second
     difference of its parts, by the square of a part's duration, rounded up."""
-    rows = [part(depth, index, raised(b)) for index in range(2 ** depth)]
+    if min(b) == max(b):
+        return 0
+    values = raised(b)
+    rows = (part(depth, index, values) for index in range(2 ** depth))
     widest = max(abs(row[k + 2] - 2 * row[k + 1] + row[k]) for row in rows for k in range(6))
-    return ceil(42 * 10 ** 9 * widest / (Fraction(milliseconds, 2 ** depth) ** 2))
+    return ceil(Fraction(42 * 10 ** 9 * 4 ** depth * widest, 5040 * 2 ** (7 * depth) * milliseconds ** 2))
 
 
 def speeds(milliseconds, b):
