@@ -8,6 +8,8 @@ mod certificates;
 #[cfg(test)]
 mod flights;
 #[cfg(test)]
+mod groups_of_directions;
+#[cfg(test)]
 mod parts_of_cues;
 #[cfg(test)]
 mod reaches;
