@@ -230,10 +230,7 @@ fn wanted(bytes: usize) -> Outcome {
 fn texts_that_end_anywhere(rt: HostRuntime) -> Result<(), Fail> {
     let curves = two(rt.alloc())?;
     for bytes in 0..40 {
-        assert_eq!(rt;
-            becomes(&curves, &WHOLE[..bytes]),
-            wanted(bytes)
-        );
+        assert_eq!(rt; becomes(&curves, &WHOLE[..bytes]), wanted(bytes));
     }
     Ok(())
 }
@@ -250,10 +247,7 @@ fn a_hundred_thousand_splits(rt: HostRuntime) -> Result<(), Fail> {
     for _ in 0..100_001 {
         text.push(b'a')?;
     }
-    assert_eq!(rt;
-        becomes(&curves, &text),
-        Outcome::TooDeep(0, 1, 0)
-    );
+    assert_eq!(rt; becomes(&curves, &text), Outcome::TooDeep(0, 1, 0));
     text.extend_from_slice(b"\n.a")?;
     assert_eq!(rt; becomes(&curves, &text), Outcome::Line(3));
     Ok(())

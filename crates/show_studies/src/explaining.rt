@@ -23,11 +23,7 @@ use std::alloc::{AllocError, Global};
 use touch_witness::{Touch, closest_of, first_touch_of};
 
 // The first part of the depth in which no direction separates two drones, if there is one.
-fn blocked_of(
-    alloc: Global,
-    fitted: &Fitted,
-    depth: u8,
-) -> Result<Option<BlockedPart>, AllocError>
+fn blocked_of(alloc: Global, fitted: &Fitted, depth: u8) -> Result<Option<BlockedPart>, AllocError>
     requires valid { IsValidFitted fitted.now }
     requires depth { depth ≤ most_depth }
     ensures is { IfOk result (λ blocked. blocked ≡ blocked_part fitted.now.settings depth fitted.now.trajs) }
