@@ -144,6 +144,7 @@ FLIGHTS = {
         "stuck", "deafens", "refuses", "silent:3", "wanders:2", "falls:4", "drains:2", "hovers")},
 }
 POOL, BEGUN = concurrent.futures.ThreadPoolExecutor(AT_ONCE), {}
+AGAIN = False  # whether tests are run once more, each by itself
 
 
 def begun(name):
@@ -153,9 +154,16 @@ def begun(name):
     return BEGUN[name]
 
 
+def forget():
+    """Has flights flown anew, each when a test wants it: those before may have failed since the machine was busy."""
+    global POOL, AGAIN
+    POOL, AGAIN = concurrent.futures.ThreadPoolExecutor(AT_ONCE), True
+    BEGUN.clear()
+
+
 def setUpModule():
     unittest.addModuleCleanup(POOL.shutdown)
-    if os.access(common.choreo.PROGRAM, os.X_OK) and "-k" not in sys.argv:
+    if os.access(common.choreo.PROGRAM, os.X_OK) and "-k" not in sys.argv and not AGAIN:
         for name in [*FLIGHTS, "terminal"]:
             begun(name)
 

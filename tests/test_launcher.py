@@ -283,6 +283,13 @@ class Processes(Place):
 
 
 class Signals(Processes):
+    def setUp(self):
+        super().setUp()
+        # What is ignored here, as under nohup, would be ignored by the launcher too.
+        for number in (signal.SIGHUP, signal.SIGINT, signal.SIGQUIT, signal.SIGTERM):
+            if signal.getsignal(number) == signal.SIG_IGN:
+                signal.signal(number, signal.SIG_DFL)
+                self.addCleanup(signal.signal, number, signal.SIG_IGN)
 
     def ended(self, words, slow, number, again=None, **more):
         """Starts the launcher, has it end by a signal while rt works, and says what it left."""

@@ -65,8 +65,9 @@ def flown_of(path):
         return stop("%s: %s" % (path, refusal), refusal.status)
 
 
-def no_program(program=choreo.PROGRAM):
+def no_program(program=None):
     """Why the program can't be run, or None: it isn't built, or this machine isn't one for the release's."""
+    program = program or choreo.PROGRAM
     if not os.path.isfile(program) or not os.access(program, os.X_OK):
         return "the program isn't built; ./show check FILE builds it"
     return machine.fault() if program == choreo.PROGRAM else None
@@ -100,7 +101,7 @@ def ask_dynamics(text, program=None):
     return found
 
 
-def missing(program=choreo.PROGRAM):
+def missing(program=None):
     """What to do where the program can't be run."""
     return "`check` was not asked: %s" % no_program(program)
 
