@@ -1,31 +1,14 @@
 //! Drones that stay, with ellipsoids of half axes 120, 120 and 300 mm, as near as they are still told apart. Which of the 98 directions is
 //! the first was computed from the definitions by exact sums, apart from the program.
 
-ghost use Rattle.std.specs.Prelude.{◌^◌, All};
-ghost use Rattle.fleet_math.specs.Numbers.{IsBelow};
+ghost use Rattle.std.specs.Prelude.{◌≤◌};
 
 use crate::flights::still;
-use bezier_core::Bez;
+use crate::searches::raised;
 use pair_search::{Found, search_with};
 use sep_parts::{Node, Ruler, WIDE, table_law};
+use std::alloc::{AllocError, Global};
 use std::test::Fail;
-
-// The raised curve of a drone that stays at so many millimetres.
-fn staying(millimetres: i16) -> Bez<8>
-    ensures { All (IsBelow (2 ^ 30)) result.b }
-{
-    let v = scaled(millimetres);
-    Bez {
-        b: [v, v, v, v, v, v, v, v],
-    }
-}
-
-// Millimetres at the scale of raised curves.
-fn scaled(millimetres: i16) -> i128
-    ensures { IsBelow (2 ^ 30) result }
-{
-    millimetres as i128 * 5040
-}
 
 // Where the second drone is from the first, in millimetres on x, y and z; the first direction; and a place a millimetre nearer, where no
 // direction tells the two apart. Lanes are weighed 16 at a time, so the directions are the first and the last ones of these groups.
@@ -49,23 +32,33 @@ const PLACES: [([i16; 3], u8, [i16; 3]); 17] = [
     ([157, 163, 211], 97, [156, 162, 210]),
 ];
 
+// What a search among the 98 directions finds where the second drone stays so far from the first, and its nodes.
+fn searched(alloc: Global, place: [i16; 3], depth: u8) -> Result<(Found, Vec<Node>), AllocError>
+    requires { depth ≤ 8 }
+{
+    table_law();
+    let diff = [
+        raised([place[0]; 8]),
+        raised([place[1]; 8]),
+        raised([place[2]; 8]),
+    ];
+    let ruler = Ruler::make(&WIDE, still());
+    let mut nodes = Vec::new(alloc);
+    let found = search_with(&diff, &ruler, depth, &mut nodes)?;
+    Ok((found, nodes))
+}
+
 #[test]
 fn the_first_direction_at_the_edge(rt: HostRuntime) -> Result<(), Fail> {
-    table_law();
-    let ruler = Ruler::make(&WIDE, still());
-    for ([x, y, z], dir, [near_x, near_y, near_z]) in PLACES {
-        let mut nodes = Vec::new(rt.alloc());
-        let apart = [staying(x), staying(y), staying(z)];
-        let found = search_with(&apart, &ruler, 0, &mut nodes)?;
+    for (place, dir, nearer) in PLACES {
+        let (found, nodes) = searched(rt.alloc(), place, 0)?;
         assert!(rt;
             found == Found::Clear && nodes.as_slice() == [Node::Leaf { dir }].as_slice(),
             "direction {dir}"
         );
-        let mut none = Vec::new(rt.alloc());
-        let near = [staying(near_x), staying(near_y), staying(near_z)];
-        let blocked = search_with(&near, &ruler, 0, &mut none)?;
+        let (found, nodes) = searched(rt.alloc(), nearer, 0)?;
         assert!(rt;
-            blocked == Found::Blocked { index: 0 } && none.is_empty(),
+            found == Found::Blocked { index: 0 } && nodes.is_empty(),
             "within direction {dir}"
         );
     }

@@ -15,7 +15,7 @@ use std::test::Fail;
 use traj_codec::{Element, Listed, Segment, Traj};
 
 // A raised curve of control values in millimetres.
-fn raised(mm: [i16; 8]) -> Bez<8>
+pub fn raised(mm: [i16; 8]) -> Bez<8>
     ensures { All (IsBelow (2 ^ 30)) result.b }
 {
     Bez {

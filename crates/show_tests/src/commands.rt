@@ -298,7 +298,7 @@ fn words_that_are_no_command(rt: HostRuntime) -> Result<(), Fail> {
 
 #[test]
 fn the_forms_of_the_commands(rt: HostRuntime) {
-    let lines: [&[u8]; 14] = [
+    let lines: [&[u8]; 15] = [
         b"help",
         b"check [--depth D]",
         b"compile [--depth D]",
