@@ -1,11 +1,14 @@
-//! The numbers of packets.
+//! The numbers of packets, of chunks and of commands.
 
 ghost use Rattle.std.specs.Prelude.{◌≡◌};
 
+use crate::chunks::MEMORY_BYTES;
+use crate::commands::{COMMAND_BYTES, COMPRESSED, DEFINE, IN_MEMORY, START};
 use crate::packet::*;
 use crate::reading::{MEMORY_LEAST, PAYLOAD_BYTES};
 
-/// A law. The numbers of packets, which the definitions cite by their names (docs/RADIO.md, "Messages").
+/// A law. The numbers of packets, chunks and commands, which the definitions cite by their names
+/// (docs/RADIO.md, "Messages", "A drone" and "Commands").
 pub fn limits_law()
     ensures packet { PACKET_BYTES ≡ 31 }
     ensures payload { PAYLOAD_BYTES ≡ 30 }
@@ -18,4 +21,10 @@ pub fn limits_law()
     ensures command_channel { COMMAND_CHANNEL ≡ 0 }
     ensures link_bits { LINK_BITS ≡ 3 }
     ensures least { MEMORY_LEAST ≡ 6 }
+    ensures memory { MEMORY_BYTES ≡ 4096 }
+    ensures define { DEFINE ≡ 6 }
+    ensures start { START ≡ 5 }
+    ensures location { IN_MEMORY ≡ 1 }
+    ensures form { COMPRESSED ≡ 1 }
+    ensures command { COMMAND_BYTES ≡ 9 }
 {}

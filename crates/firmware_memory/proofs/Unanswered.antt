@@ -6,11 +6,11 @@ use Rattle.crtp_packets.specs.declared.reading.PacketFault.{PacketFault}
 use Rattle.crtp_packets.specs.declared.reading.Down.{Down}
 use Rattle.crtp_packets.specs.declared.reading.Down.TheVariants as down
 use Rattle.std.specs.Str.{bytes_eq}
-use Rattle.commander_cmds.specs.Commands.{command_of, plain_scale}
+use Rattle.crtp_packets.specs.Commands.{command_of, plain_scale}
 use Rattle.upload_model.specs.declared.limits.TheConstants.{MEMORY_BYTES, TABLE_ENTRIES}
-use Rattle.commander_cmds.specs.declared.CommandFault.{CommandFault}
-use Rattle.commander_cmds.specs.declared.Command.{Command}
-use Rattle.commander_cmds.specs.declared.Command.TheVariants.{Define, Start}
+use Rattle.crtp_packets.specs.declared.commands.CommandFault.{CommandFault}
+use Rattle.crtp_packets.specs.declared.commands.Command.{Command}
+use Rattle.crtp_packets.specs.declared.commands.Command.TheVariants.{Define, Start}
 use Rattle.upload_model.specs.Drones.{DroneState, Handled, silent, has_entry, write_taken, read_taken, command_taken, message_taken, handled}
 use Rattle.firmware_memory.specs.Shown.{IsOtherMessage, IsOther}
 

@@ -4,9 +4,9 @@ use Rattle.crtp_packets.specs.Reading.{down_of}
 use Rattle.crtp_packets.specs.declared.reading.PacketFault.{PacketFault}
 use Rattle.crtp_packets.specs.declared.reading.Down.{Down}
 use Rattle.crtp_packets.specs.declared.reading.Down.TheVariants as down
-use Rattle.commander_cmds.specs.Commands.{command_of}
+use Rattle.crtp_packets.specs.Commands.{command_of}
 use Rattle.upload_model.specs.Drones.{DroneState}
-use Rattle.firmware_memory.specs.declared.Drone.{Drone}
+use Rattle.firmware_memory.specs.declared.drone.Drone.{Drone}
 
 -- the drone of the definitions that has these fields
 abbrev pub shown : Drone → DroneState

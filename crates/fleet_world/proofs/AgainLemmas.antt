@@ -5,17 +5,17 @@ use Rattle.std.proofs.Common.{Result, Ok, nat_le, nat_lt, ◌==◌, ◌≡◌, �
 use Rattle.std.proofs.lemmas.Bool.{lt-ltb, le-ltb}
 use Rattle.crtp_packets.specs.Packets.{write_request_of, write_answer_of}
 use Rattle.crtp_packets.specs.Reading.{down_of}
-use Rattle.commander_cmds.specs.Commands.{define_of, start_of, answer_of, plain_scale}
-use Rattle.commander_cmds.specs.declared.CommandFault.{CommandFault}
-use Rattle.commander_cmds.specs.declared.Command.{Command}
-use Rattle.commander_cmds.specs.declared.Command.TheVariants.{Define, Start}
+use Rattle.crtp_packets.specs.Commands.{define_of, start_of, answer_of, plain_scale}
+use Rattle.crtp_packets.specs.declared.commands.CommandFault.{CommandFault}
+use Rattle.crtp_packets.specs.declared.commands.Command.{Command}
+use Rattle.crtp_packets.specs.declared.commands.Command.TheVariants.{Define, Start}
 use Rattle.crtp_packets.specs.declared.reading.PacketFault.{PacketFault}
 use Rattle.crtp_packets.specs.declared.reading.Down.{Down}
 use Rattle.upload_model.specs.Drones.{DroneState, Handled, handled, message_taken, command_taken, write_taken, answers, stored, has_entry}
 use Rattle.upload_model.specs.Sessions.{Upload, IsSession, load_of, drone_count, packet_at, packet_count, write_count}
 use Rattle.upload_model.proofs.Readings.{up_of-write_answer, up_of-define_answer, up_of-start_answer, down_of-write, command_of-define, packet_at-write, packet_at-define, packet_at-start, packet_kind, Kind, a_write, a_define, a_start}
 use Rattle.upload_model.proofs.OneDrone.{length-chunk_of}
-use Rattle.mem_chunks.specs.Chunks.{chunk_of}
+use Rattle.crtp_packets.specs.Chunks.{chunk_of}
 use Rattle.fleet_world.specs.Again.{AgainLaw, answer_at, answered_with, status_of}
 
 abbrev HasStatus : (ℕ → List ℕ) → Handled → Type 0

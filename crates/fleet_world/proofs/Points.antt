@@ -14,7 +14,7 @@ use Rattle.upload_model.specs.Sessions.{Upload, drone_count}
 use Rattle.upload_model.specs.Hosts.{out, progress}
 use Rattle.upload_model.specs.Worlds as Worlds
 use Rattle.upload_model.specs.Worlds.{packets_for, host_event, start_world, run, happens, took, take_named, hear_named, option_list}
-use Rattle.firmware_memory.specs.declared.Drone.{Drone}
+use Rattle.firmware_memory.specs.declared.drone.Drone.{Drone}
 use Rattle.firmware_memory.specs.Shown.{shown}
 use Rattle.upload_model.proofs.OneDrone.{slice_get-set_same, slice_get-set_other}
 use Rattle.upload_core.specs.HostState.{HostState, view_of}

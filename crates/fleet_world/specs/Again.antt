@@ -5,8 +5,8 @@ use Rattle.crtp_packets.specs.Reading.{up_of}
 use Rattle.crtp_packets.specs.declared.reading.PacketFault.{PacketFault}
 use Rattle.crtp_packets.specs.declared.reading.Up.{Up}
 use Rattle.crtp_packets.specs.declared.reading.Up.TheVariants.{WriteAnswer, ReadAnswer, CommandAnswer}
-use Rattle.commander_cmds.specs.Commands.{answer_of}
-use Rattle.mem_chunks.specs.Chunks.{chunk_start, chunk_of}
+use Rattle.crtp_packets.specs.Commands.{answer_of}
+use Rattle.crtp_packets.specs.Chunks.{chunk_start, chunk_of}
 use Rattle.upload_model.specs.Drones.{DroneState, handled}
 use Rattle.upload_model.specs.Sessions.{Upload, load_of, packet_at, packet_count, write_count}
 use Rattle.fleet_world.specs.declared.mail.Note.{Note}

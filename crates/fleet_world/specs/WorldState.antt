@@ -7,7 +7,7 @@ use Rattle.upload_model.specs.Drones.{DroneState}
 use Rattle.upload_model.specs.Sessions.{Upload, drone_count}
 use Rattle.upload_model.specs.Hosts.{progress}
 use Rattle.upload_model.specs.Worlds.{World, world}
-use Rattle.firmware_memory.specs.declared.Drone.{Drone}
+use Rattle.firmware_memory.specs.declared.drone.Drone.{Drone}
 use Rattle.firmware_memory.specs.Shown.{shown}
 use Rattle.upload_core.specs.HostState.{HostState, view_of}
 use Rattle.upload_core.specs.HostStandsFor.{HostStandsFor}

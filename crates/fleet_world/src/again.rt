@@ -6,8 +6,7 @@ ghost use Rattle.upload_model.specs.Sessions.{drone_count, packet_count};
 ghost use Rattle.fleet_world.specs.Again.{AgainLaw, answer_at, answered_with, status_of as status_word};
 
 use crate::mail::Note;
-use commander_cmds::answer;
-use crtp_packets::{Packet, Up, WRITE_BYTES, parse_up, write_answer};
+use crtp_packets::{Packet, Up, WRITE_BYTES, command_answer, parse_up, write_answer};
 use upload_core::Session;
 
 /// The status that an answer carries.
@@ -47,5 +46,5 @@ pub fn answer_again(session: &Session, drone: usize, note: Note) -> Packet
             note.status,
         );
     }
-    answer(&session.packet(drone, k), note.status)
+    command_answer(&session.packet(drone, k), note.status)
 }

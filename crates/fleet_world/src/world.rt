@@ -7,7 +7,7 @@ ghost use Rattle.upload_model.specs.Hosts.{progress as progress_of};
 ghost use Rattle.upload_model.specs.Worlds.{world, host_event, happens, took};
 ghost use Rattle.upload_model.specs.Drones.{handled};
 ghost use Rattle.upload_model.specs.Worlds as Worlds;
-ghost use Rattle.firmware_memory.specs.declared.Drone.{Drone};
+ghost use Rattle.firmware_memory.specs.declared.drone.Drone.{Drone};
 ghost use Rattle.fleet_world.specs.WorldState.{WorldState, WorldStandsFor, WorldStandsAt, state_at};
 
 use crate::again::{answer_again, answered};

@@ -1,5 +1,5 @@
 //! Counts and places of chunks that were computed by hand.
-use mem_chunks::{MEMORY_BYTES, chunk, chunk_count};
+use crtp_packets::{MEMORY_BYTES, chunk, chunk_count};
 use std::test::Fail;
 
 #[test]

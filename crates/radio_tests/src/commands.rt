@@ -1,7 +1,9 @@
 //! Commands of the format's table, with bytes that were written out by hand from it.
 ghost use Rattle.std.specs.Prelude.{◌≤◌, length};
 
-use commander_cmds::{Command, CommandFault, PLAIN_SCALE, answer, define, parse_command, start};
+use crtp_packets::{
+    Command, CommandFault, PLAIN_SCALE, command_answer, define, parse_command, start,
+};
 use std::test::Fail;
 
 #[test]
@@ -24,9 +26,9 @@ fn makes_commands(rt: HostRuntime) -> Result<(), Fail> {
 #[test]
 fn makes_answers(rt: HostRuntime) -> Result<(), Fail> {
     for (packet, bytes) in [
-        (answer(&define(0, 0, 1), 2), [0x8C, 6, 0, 1, 2]),
-        (answer(&define(7, 4096, 3), 5), [0x8C, 6, 7, 1, 5]),
-        (answer(&start(4), 0), [0x8C, 5, 0, 0, 0]),
+        (command_answer(&define(0, 0, 1), 2), [0x8C, 6, 0, 1, 2]),
+        (command_answer(&define(7, 4096, 3), 5), [0x8C, 6, 7, 1, 5]),
+        (command_answer(&start(4), 0), [0x8C, 5, 0, 0, 0]),
     ] {
         assert_eq!(rt; packet.bytes(), bytes.as_slice());
     }

@@ -1,6 +1,5 @@
 //! Memories with a path at their end, with bytes that were written out by hand.
-use firmware_memory::{Def, Drone, MEMORY_BYTES, make};
-use memory_curves::curve_of;
+use firmware_memory::{Def, Drone, MEMORY_BYTES, curve_of, make};
 use std::test::Fail;
 use traj_codec::{Element, Segment, Traj};
 

@@ -1,8 +1,7 @@
 //! Packets that one drone takes, and its answers, with bytes that were written out by hand.
 ghost use Rattle.std.specs.Prelude.{◌≤◌, length};
 
-use commander_cmds::answer;
-use crtp_packets::Packet;
+use crtp_packets::{Packet, command_answer};
 use firmware_memory::{Def, Drone, MEMORY_BYTES, TABLE_ENTRIES, make};
 use std::test::Fail;
 

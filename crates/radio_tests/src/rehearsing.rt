@@ -3,9 +3,9 @@ ghost use Rattle.std.specs.Prelude.{◌≡◌, ◌≤◌, false, length, IfOk};
 ghost use Rattle.fleet_io.specs.Words.{IsWord};
 ghost use Rattle.upload_model.specs.Sessions.{drone_count};
 
+use firmware_memory::curve_of;
 use fleet_io::Lines;
 use fleet_world::{Name, World, WorldEvent};
-use memory_curves::curve_of;
 use readback_core::{CarefulEvent, CarefulProgress};
 use rehearsal::{careful_text, memory_text, rehearse, rehearse_carefully};
 use std::alloc::{AllocError, Global};

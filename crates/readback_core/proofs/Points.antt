@@ -17,7 +17,7 @@ use Rattle.readback_model.specs.CarefulHosts.{careful_flight, careful_out, caref
 use Rattle.readback_model.specs.declared.events.CarefulProgress.TheVariants.{Going}
 use Rattle.readback_core.proofs.Hosting.{no-progress}
 use Rattle.readback_model.specs.CarefulWorlds.{altered, careful_start, careful_hears, careful_happens}
-use Rattle.firmware_memory.specs.declared.Drone.{Drone}
+use Rattle.firmware_memory.specs.declared.drone.Drone.{Drone}
 use Rattle.firmware_memory.specs.Shown.{shown}
 use Rattle.upload_model.proofs.OneDrone.{slice_get-set_same, slice_get-set_other}
 use Rattle.fleet_world.specs.WorldState.{state_of, state_at}

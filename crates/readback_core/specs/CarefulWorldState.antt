@@ -2,7 +2,7 @@
 use Rattle.std.specs.Prelude.{◌≡◌, ℕ, ◌<◌, Bool, List, length}
 use Rattle.upload_model.specs.Sessions.{Upload, drone_count}
 use Rattle.upload_model.specs.Worlds.{World}
-use Rattle.firmware_memory.specs.declared.Drone.{Drone}
+use Rattle.firmware_memory.specs.declared.drone.Drone.{Drone}
 use Rattle.fleet_world.specs.WorldState.{state_at}
 use Rattle.readback_core.specs.Mail.{row_of}
 use Rattle.readback_model.specs.declared.events.CarefulProgress.{CarefulProgress}

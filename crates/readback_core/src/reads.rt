@@ -5,8 +5,7 @@ ghost use Rattle.upload_model.specs.Sessions.{drone_count, load_of, packet_count
 ghost use Rattle.readback_model.specs.Reads.{read_count, wanted, read_start, first_read, start_number, careful_count, careful_packet};
 
 use crate::rows::ROW;
-use commander_cmds::start;
-use crtp_packets::{Packet, READ_BYTES, read_request};
+use crtp_packets::{Packet, READ_BYTES, read_request, start};
 use upload_core::Session;
 use upload_model::MEMORY_BYTES;
 

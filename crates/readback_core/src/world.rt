@@ -5,7 +5,7 @@ ghost use Rattle.upload_model.specs.Sessions.{Upload, drone_count};
 ghost use Rattle.upload_model.specs.Worlds as Worlds;
 ghost use Rattle.upload_model.specs.Worlds.{took, packets_by, changed};
 ghost use Rattle.upload_model.specs.Drones.{handled};
-ghost use Rattle.firmware_memory.specs.declared.Drone.{Drone};
+ghost use Rattle.firmware_memory.specs.declared.drone.Drone.{Drone};
 ghost use Rattle.fleet_world.specs.WorldState.{state_at};
 ghost use Rattle.readback_core.specs.Mail.{rows_of, row_of, HasRoom};
 ghost use Rattle.readback_model.specs.Reads.{careful_packet};

@@ -12,7 +12,7 @@ use Rattle.upload_model.specs.Sessions.{Upload, drone_count}
 use Rattle.upload_model.specs.Hosts.{out, progress}
 use Rattle.upload_model.specs.Worlds as Worlds
 use Rattle.upload_model.specs.Worlds.{packets_for, host_event, start_world, run, world, happens, took, take_named, hear_named, option_list}
-use Rattle.firmware_memory.specs.declared.Drone.{Drone}
+use Rattle.firmware_memory.specs.declared.drone.Drone.{Drone}
 use Rattle.firmware_memory.specs.Shown.{shown}
 use Rattle.fleet_world.specs.WorldState.{WorldState, WorldStandsAt, WorldStandsFor, state_at}
 use Rattle.rehearsal.specs.Rehearsed.{blank_drone, rehearsed}

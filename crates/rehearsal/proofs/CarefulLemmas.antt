@@ -15,7 +15,7 @@ use Rattle.readback_model.specs.CarefulHosts.{careful_out, careful_progress}
 use Rattle.readback_model.specs.CarefulWorlds.{altered, careful_start, careful_hears, careful_happens, careful_run, careful_world}
 use Rattle.readback_core.specs.CarefulState.{CarefulStandsFor}
 use Rattle.readback_core.specs.CarefulWorldState.{CarefulWorldState, CarefulWorldStandsAt, CarefulWorldStandsFor, Readback}
-use Rattle.firmware_memory.specs.declared.Drone.{Drone}
+use Rattle.firmware_memory.specs.declared.drone.Drone.{Drone}
 use Rattle.firmware_memory.specs.Shown.{shown}
 use Rattle.fleet_world.specs.WorldState.{state_at}
 use Rattle.rehearsal.specs.Rehearsed.{blank_drone, careful_rehearsed}

@@ -7,7 +7,7 @@ use Rattle.fleet_io.specs.Words.{hex_word, line}
 use Rattle.traj_codec.specs.declared.traj.Traj.{Traj}
 use Rattle.upload_model.specs.declared.loads.Def.{Def}
 use Rattle.upload_model.specs.Drones.{DroneState}
-use Rattle.memory_curves.specs.Decoded.{DecodesTo, last_value}
+use Rattle.firmware_memory.specs.Decoded.{DecodesTo, last_value}
 
 -- the first line
 abbrev pub title_line : List ℕ

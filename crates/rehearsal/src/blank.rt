@@ -2,7 +2,7 @@
 
 ghost use Rattle.std.specs.Prelude.{◌≡◌, All, false, length, IfOk};
 ghost use Rattle.upload_model.specs.Sessions.{drone_count};
-ghost use Rattle.firmware_memory.specs.declared.Drone.{Drone};
+ghost use Rattle.firmware_memory.specs.declared.drone.Drone.{Drone};
 ghost use Rattle.firmware_memory.specs.Shown.{shown};
 ghost use Rattle.fleet_world.specs.WorldState.{WorldStandsAt};
 ghost use Rattle.readback_core.specs.CarefulWorldState.{CarefulWorldStandsAt};

@@ -7,15 +7,14 @@ ghost use Rattle.firmware_memory.specs.Shown.{shown};
 ghost use Rattle.fleet_io.specs.Words.{is_line_empty, with_word, hex_digit, IsWord};
 ghost use Rattle.traj_codec.specs.declared.traj.Traj.{Traj};
 ghost use Rattle.fleet_world.specs.WorldState.{state_at};
-ghost use Rattle.memory_curves.specs.Decoded.{DecodesTo, last_value};
+ghost use Rattle.firmware_memory.specs.Decoded.{DecodesTo, last_value};
 ghost use Rattle.rehearsal.specs.Texts.{title_line, name_line, address_word, memory_line, memory_lines};
 ghost use Rattle.rehearsal.specs.Texts.{entry_line, entry_lines, started_word, started_line, ends_line, ending_line, drone_text, IsCarefulText, IsDecoded, IsFound, IsRehearsalText};
 
-use firmware_memory::{Def, Drone, MEMORY_BYTES, TABLE_ENTRIES};
+use firmware_memory::{Def, Drone, MEMORY_BYTES, TABLE_ENTRIES, curve_of};
 use fleet_io::Lines;
 use fleet_world::{Name, World};
 use integer_player::last_values;
-use memory_curves::curve_of;
 use readback_core::CarefulWorld;
 use std::alloc::{AllocError, Global};
 use traj_codec::Traj;

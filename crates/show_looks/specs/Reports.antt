@@ -4,7 +4,7 @@ use Rattle.std.specs.List.{sum}
 use Rattle.fleet_io.specs.Words.{line}
 use Rattle.choreo_reader.specs.Plain.{PlainShow}
 use Rattle.cue_grid.specs.Cues.{grid_of}
-use Rattle.mem_chunks.specs.Chunks.{chunk_count_of}
+use Rattle.crtp_packets.specs.Chunks.{chunk_count_of}
 use Rattle.traj_codec.specs.declared.traj.Traj.{Traj}
 use Rattle.report_text.specs.Report.{Report}
 use Rattle.show_plan.specs.Fitting.{size}

@@ -1,10 +1,10 @@
 //! Numbers of a show that fits.
 ghost use Rattle.std.specs.Prelude.{◌≡◌, ◌≤◌, ◌+◌, ℕ, List, length, map, IfOk};
 ghost use Rattle.std.specs.List.{All, sum};
-ghost use Rattle.mem_chunks.specs.Chunks.{chunk_count_of};
+ghost use Rattle.crtp_packets.specs.Chunks.{chunk_count_of};
 
 use choreo_reader::Listed;
-use mem_chunks::chunk_count;
+use crtp_packets::chunk_count;
 use std::alloc::{AllocError, Global};
 
 // How many packets bring these bytes to a drone: its writes and its define.

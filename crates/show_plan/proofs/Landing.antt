@@ -5,7 +5,7 @@ use Rattle.std.proofs.lemmas.List.Elements.{All-get_or}
 use Rattle.choreo_reader.specs.declared.show.Settings.{Settings}
 use Rattle.traj_codec.specs.declared.traj.Traj.{Traj}
 use Rattle.traj_codec.specs.Spelling.{IsTrajectory, ending, spelling}
-use Rattle.memory_curves.specs.Decoded.{CurveLaw, DecodesTo, load_for}
+use Rattle.firmware_memory.specs.Decoded.{CurveLaw, DecodesTo, load_for}
 use Rattle.upload_model.specs.Sessions.{IsLoad, IsSession, Upload, drone_count, load_of}
 use Rattle.upload_model.specs.Theorem.{IsSafe, LastingLaw, UploadLaw}
 use Rattle.upload_model.specs.Worlds.{world}

@@ -5,15 +5,15 @@ use Rattle.std.specs.List.{flat_map, range_with_len}
 use Rattle.std.proofs.lemmas.List.{flat_map_more, get_or-map}
 use Rattle.fleet_io.specs.Words.{hex_word, is_line_empty, line}
 use Rattle.fleet_io.proofs.WordLaws.{fresh_after_line}
-use Rattle.mem_chunks.specs.Chunks.{chunk_count_of, chunk_of, chunk_start}
+use Rattle.crtp_packets.specs.Chunks.{chunk_count_of, chunk_of, chunk_start}
 use Rattle.crtp_packets.specs.Packets.{write_request_of}
-use Rattle.commander_cmds.specs.Commands.{define_of, start_of}
+use Rattle.crtp_packets.specs.Commands.{define_of, start_of}
 use Rattle.upload_model.specs.declared.loads.Load.{Load}
 use Rattle.upload_model.specs.Sessions.{Upload, load_of, packet_at, packet_count, write_count}
 use Rattle.upload_core.proofs.Walks.{range-one_more}
 use Rattle.traj_codec.specs.declared.traj.Traj.{Traj}
 use Rattle.traj_codec.specs.Spelling.{IsEncoding}
-use Rattle.memory_curves.specs.Decoded.{load_for}
+use Rattle.firmware_memory.specs.Decoded.{load_for}
 use Rattle.choreo_reader.specs.declared.show.Settings.{Settings}
 use Rattle.show_plan.specs.Landing.{session_for}
 use Rattle.show_plan.specs.Steps.{alone}

@@ -3,7 +3,7 @@ use Rattle.std.proofs.Common.{◌≡◌, ℕ, suc, ◌+◌, ◌-◌, ◌<◌, �
 use Rattle.std.specs.List.{All}
 use Rattle.std.proofs.lemmas.List.{get_or_default}
 use Rattle.std.proofs.lemmas.List.Elements.{All-nil, All-cons, All-from_get_or}
-use Rattle.mem_chunks.specs.declared.TheConstants.{MEMORY_BYTES}
+use Rattle.crtp_packets.specs.declared.chunks.TheConstants.{MEMORY_BYTES}
 use Rattle.fleet_io.specs.Words.{IsWord}
 use Rattle.choreo_lines.specs.Name.{Name, is_name}
 use Rattle.choreo_lines.proofs.Names.{name_has_bytes, name_has_no_line_feed}

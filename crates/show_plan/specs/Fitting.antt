@@ -3,7 +3,7 @@ use Rattle.std.specs.Prelude.{false, true, ◌≡◌, ℕ, ◌+◌, ◌-◌, ◌
 use Rattle.std.specs.Option.{option_or}
 use Rattle.std.specs.List.{sum, All}
 use Rattle.fleet_math.specs.Limits.{most_cues}
-use Rattle.mem_chunks.specs.declared.TheConstants.{MEMORY_BYTES}
+use Rattle.crtp_packets.specs.declared.chunks.TheConstants.{MEMORY_BYTES}
 use Rattle.fleet_io.specs.Words.{IsWord}
 use Rattle.choreo_lines.specs.Name.{Name, is_name}
 use Rattle.choreo_reader.specs.declared.show.DroneLine.{DroneLine}

@@ -5,7 +5,7 @@ use Rattle.cue_grid.specs.declared.grid.Grid.{Grid}
 use Rattle.cue_grid.specs.Faults.{drone_limit}
 use Rattle.traj_codec.specs.declared.traj.Traj.{Traj}
 use Rattle.traj_codec.specs.Spelling.{IsTrajectory}
-use Rattle.memory_curves.specs.Decoded.{DecodesTo, load_for}
+use Rattle.firmware_memory.specs.Decoded.{DecodesTo, load_for}
 use Rattle.upload_model.specs.declared.events.Progress.TheVariants.{Done}
 use Rattle.upload_model.specs.declared.events.WorldEvent.{WorldEvent}
 use Rattle.upload_model.specs.Drones.{DroneState}

@@ -21,9 +21,9 @@ ghost use Rattle.show_plan.specs.Fitting.{AreEncodings, FitGives, IsValidFitted}
 use crate::fitted::{Fitted, PlanFault};
 use choreo_lines::copy_of;
 use choreo_reader::{DroneLine, Listed, Name, Point, Show};
+use crtp_packets::MEMORY_BYTES;
 use cue_grid::{Cue, Grid, GridFault, unroll};
 use figure_expand::{ExpandFault, expand, expansion_law};
-use mem_chunks::MEMORY_BYTES;
 use mm_rounding::{MicroPiece, round_piece, to_mm};
 use std::alloc::{AllocError, Global};
 use traj_codec::{MOST_SEGMENTS, Traj, encode, join_holds, segment_law, size_of, start_law};

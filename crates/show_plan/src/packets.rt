@@ -2,16 +2,14 @@
 
 ghost use Rattle.std.specs.Prelude.{◌≡◌, ◌+◌, ◌<◌, ◌≤◌, ◌++◌, true, length, map, OnOk};
 ghost use Rattle.fleet_io.specs.Words.{is_line_empty, IsWord, hex_word, line};
-ghost use Rattle.mem_chunks.specs.Chunks.{chunk_count_of};
+ghost use Rattle.crtp_packets.specs.Chunks.{chunk_count_of};
 ghost use Rattle.upload_model.specs.Sessions.{packet_at};
 ghost use Rattle.show_plan.specs.Texts.{packet_line, packet_lines, packet_word};
 ghost use Rattle.show_plan.specs.Steps.{alone};
 
 use choreo_reader::Settings;
-use commander_cmds::{define, start};
-use crtp_packets::{Packet, write_request};
+use crtp_packets::{MEMORY_BYTES, Packet, chunk, chunk_count, define, start, write_request};
 use fleet_io::Lines;
-use mem_chunks::{MEMORY_BYTES, chunk, chunk_count};
 use std::alloc::AllocError;
 
 // A line of a word and bytes in two hexadecimal digits each.

@@ -4,12 +4,12 @@ ghost use Rattle.std.specs.Prelude.{◌≡◌, ◌≤◌, length, map, IfOk};
 ghost use Rattle.std.specs.List.{All};
 ghost use Rattle.traj_codec.specs.declared.traj.Traj.{Traj};
 ghost use Rattle.traj_codec.specs.Spelling.{IsEncoding, most_segments};
-ghost use Rattle.memory_curves.specs.Decoded.{load_for};
+ghost use Rattle.firmware_memory.specs.Decoded.{load_for};
 ghost use Rattle.show_plan.specs.Fitting.{AreEncodings, IsValidFitted};
 ghost use Rattle.show_plan.specs.Landing.{AreUploadable, LandingLaw, session_for};
 
 use crate::fitted::Fitted;
-use memory_curves::curve_law;
+use firmware_memory::curve_law;
 use std::alloc::{AllocError, Global};
 use traj_codec::{Traj, join_law};
 use upload_core::{Listed, Load, Session, Settings};

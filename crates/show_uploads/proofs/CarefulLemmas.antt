@@ -10,7 +10,7 @@ use Rattle.choreo_lines.specs.Name.{Name}
 use Rattle.choreo_reader.specs.Plain.{PlainShow}
 use Rattle.choreo_reader.specs.declared.show.Settings.{Settings}
 use Rattle.fleet_world.specs.WorldState.{state_at}
-use Rattle.memory_curves.specs.Decoded.{CurveLaw}
+use Rattle.firmware_memory.specs.Decoded.{CurveLaw}
 use Rattle.readback_model.specs.declared.events.CarefulEvent.{CarefulEvent}
 use Rattle.readback_model.specs.declared.events.CarefulProgress.{CarefulProgress}
 use Rattle.readback_model.specs.declared.events.CarefulProgress.TheVariants.{Going, Done, GaveUp, Refused, Differs}

@@ -7,7 +7,7 @@ use Rattle.choreo_reader.specs.declared.show.Settings.{Settings}
 use Rattle.cue_grid.specs.declared.grid.Grid.{Grid}
 use Rattle.cue_grid.specs.Cues.{grid_of}
 use Rattle.fleet_world.specs.Schedules.{schedule_of}
-use Rattle.memory_curves.specs.Decoded.{CurveLaw, DecodesTo}
+use Rattle.firmware_memory.specs.Decoded.{CurveLaw, DecodesTo}
 use Rattle.refusals.specs.declared.refusal.Refusal.{Refusal}
 use Rattle.refusals.specs.declared.refusal.Refusal.TheVariants as refusal
 use Rattle.rehearsal.specs.Rehearsed.{blank_drone, rehearsed}

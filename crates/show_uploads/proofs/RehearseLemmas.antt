@@ -6,7 +6,7 @@ use Rattle.choreo_reader.specs.Plain.{PlainShow}
 use Rattle.choreo_reader.specs.declared.show.DroneLine.{DroneLine}
 use Rattle.cue_grid.specs.Cues.{grid_of}
 use Rattle.fleet_world.specs.Schedules.{schedule_of}
-use Rattle.memory_curves.specs.Decoded.{CurveLaw}
+use Rattle.firmware_memory.specs.Decoded.{CurveLaw}
 use Rattle.readback_core.specs.CarefulSchedules.{careful_schedule_of}
 use Rattle.rehearsal.specs.Rehearsed.{rehearsed}
 use Rattle.refusals.specs.declared.refusal.Refusal.{Refusal}

@@ -13,7 +13,7 @@ use Rattle.choreo_reader.specs.declared.show.Settings.{Settings}
 use Rattle.cue_grid.specs.declared.grid.Grid.{Grid}
 use Rattle.fleet_world.specs.Schedules.{schedule_of}
 use Rattle.fleet_world.specs.WorldState.{WorldStandsAt, WorldState, state_at}
-use Rattle.memory_curves.specs.Decoded.{DecodesTo, load_for}
+use Rattle.firmware_memory.specs.Decoded.{DecodesTo, load_for}
 use Rattle.refusals.specs.declared.refusal.Refusal.{Refusal}
 use Rattle.refusals.specs.declared.refusal.Refusal.TheVariants as refusal
 use Rattle.rehearsal.specs.Rehearsed.{rehearsed}

@@ -17,9 +17,9 @@ ghost use Rattle.show_judge.specs.Outcome.{IsVerb};
 ghost use Rattle.show_uploads.specs.Rehearse.{RehearseLaw};
 ghost use Rattle.show_uploads.specs.Sessions.{schedule_limit};
 
+use firmware_memory::curve_law;
 use fleet_io::{Part, Sink, Source};
 use fleet_world::{MOST_TEXT, ScheduleFault, WorldEvent, read_schedule_of};
-use memory_curves::curve_law;
 use readback_core::{CarefulEvent, CarefulProgress, read_careful_schedule_of};
 use refusals::Refusal;
 use rehearsal::{careful_text, memory_text};

@@ -5,7 +5,7 @@
 //! that happened to it (`HostStandsFor`), and tells after each event how far the upload is and what is
 //! to be sent. It keeps a bit for each packet, and counts only what is in flight; an answer finds its
 //! packet by its address. All memory is taken by the two `make`s. The definitions are those of `upload_model`, the
-//! packets those of `crtp_packets` and `commander_cmds`, the pieces those of `mem_chunks`.
+//! packets and the chunks those of `crtp_packets`.
 #![tactic(auto)]
 
 mod answers;

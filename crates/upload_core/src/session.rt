@@ -5,9 +5,7 @@ ghost use Rattle.upload_model.specs.Sessions.{IsSession, drone_count, load_of, w
 ghost use Rattle.upload_core.specs.Uploads.{upload_of};
 
 use crate::row::MOST_WRITES;
-use commander_cmds::{define, start};
-use crtp_packets::{Packet, write_request};
-use mem_chunks::{chunk, chunk_count};
+use crtp_packets::{Packet, chunk, chunk_count, define, start, write_request};
 use std::alloc::{AllocError, Global};
 use std::marker::Model;
 use upload_model::{Listed, Load};

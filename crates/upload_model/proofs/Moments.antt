@@ -9,9 +9,9 @@ use Rattle.std.specs.Str.{bytes_eq}
 use Rattle.std.proofs.lemmas.Slice.Eq.{bytes_eq-Decides}
 use Rattle.std.proofs.lemmas.Option.{get_or_from_slice_get, slice_get_within, slice_get-get_or}
 use Rattle.std.proofs.lemmas.List.Elements.{All-nil, All-cons, All-head, All-tail, All-append, All-weaker, All-contains}
-use Rattle.mem_chunks.specs.Chunks.{chunk_of}
+use Rattle.crtp_packets.specs.Chunks.{chunk_of}
 use Rattle.crtp_packets.specs.Reading.{up_of}
-use Rattle.commander_cmds.specs.Commands.{start_of}
+use Rattle.crtp_packets.specs.Commands.{start_of}
 use Rattle.upload_model.specs.declared.events.Event.{Event}
 use Rattle.upload_model.specs.declared.events.Event.TheVariants as event
 use Rattle.upload_model.specs.declared.events.Sent.{Sent}

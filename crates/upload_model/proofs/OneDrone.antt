@@ -4,10 +4,10 @@ use Rattle.std.specs.Prelude.{slice_get, slice_set}
 use Rattle.std.specs.Str.{bytes_eq}
 use Rattle.std.proofs.lemmas.Bool.{le-ltb, lt-ltb, lt-leb, eqb-true, cases_lt, cases_eq, cases_Bool, eq-eqb, ne_eqb, and_parts, false≢true, not-true}
 use Rattle.std.proofs.lemmas.List.{places, length-append, length-take, length-drop, length-set, get_or-take, get_or-drop}
-use Rattle.mem_chunks.specs.Chunks.{chunk_of}
+use Rattle.crtp_packets.specs.Chunks.{chunk_of}
 use Rattle.crtp_packets.specs.Packets.{write_request_of, write_answer_of}
 use Rattle.crtp_packets.specs.Reading.{up_of}
-use Rattle.commander_cmds.specs.Commands.{define_of, start_of, answer_of}
+use Rattle.crtp_packets.specs.Commands.{define_of, start_of, answer_of}
 use Rattle.upload_model.specs.declared.loads.Def.{Def}
 use Rattle.upload_model.specs.Drones.{DroneState, Handled, answers, stored, write_taken, command_taken, message_taken, has_entry, handled}
 use Rattle.upload_model.specs.Sessions.{Upload, IsLoad, IsSession, drone_count, load_of, write_count, packet_count, packet_at}

@@ -8,10 +8,10 @@ use Rattle.crtp_packets.specs.declared.packet.TheConstants.{READ_BYTES}
 use Rattle.crtp_packets.specs.declared.reading.PacketFault.{PacketFault}
 use Rattle.crtp_packets.specs.declared.reading.Down.{Down}
 use Rattle.crtp_packets.specs.declared.reading.Down.TheVariants as down
-use Rattle.commander_cmds.specs.Commands.{command_of, answer_of, plain_scale}
-use Rattle.commander_cmds.specs.declared.CommandFault.{CommandFault}
-use Rattle.commander_cmds.specs.declared.Command.{Command}
-use Rattle.commander_cmds.specs.declared.Command.TheVariants.{Define, Start}
+use Rattle.crtp_packets.specs.Commands.{command_of, answer_of, plain_scale}
+use Rattle.crtp_packets.specs.declared.commands.CommandFault.{CommandFault}
+use Rattle.crtp_packets.specs.declared.commands.Command.{Command}
+use Rattle.crtp_packets.specs.declared.commands.Command.TheVariants.{Define, Start}
 use Rattle.upload_model.specs.declared.limits.TheConstants.{MEMORY_BYTES, TABLE_ENTRIES, ACCEPTED, UNFIT, NO_ROOM}
 use Rattle.upload_model.specs.declared.loads.Def.{Def}
 

@@ -7,7 +7,7 @@ use Rattle.crtp_packets.specs.Reading.{up_of}
 use Rattle.crtp_packets.specs.declared.reading.PacketFault.{PacketFault}
 use Rattle.crtp_packets.specs.declared.reading.Up.{Up}
 use Rattle.crtp_packets.specs.declared.reading.Up.TheVariants.{WriteAnswer, ReadAnswer, CommandAnswer}
-use Rattle.mem_chunks.specs.Chunks.{chunk_start}
+use Rattle.crtp_packets.specs.Chunks.{chunk_start}
 use Rattle.upload_model.specs.declared.limits.TheConstants.{ACCEPTED, PACKETS_IN_FLIGHT, TICKS_TO_GIVE_UP}
 use Rattle.upload_model.specs.declared.events.Event.{Event}
 use Rattle.upload_model.specs.declared.events.Event.TheVariants as event

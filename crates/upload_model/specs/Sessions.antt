@@ -2,9 +2,9 @@
 -- (docs/RADIO.md, "The packets of a session").
 use Rattle.std.specs.Prelude.{ℕ, ◌+◌, ◌<◌, ◌≤◌, Bool, nat_lt, ◌==◌, if◌then◌else◌, List, [], length, map, slice_index_or}
 use Rattle.std.specs.List.{range_with_len}
-use Rattle.mem_chunks.specs.Chunks.{chunk_count_of, chunk_start, chunk_of}
+use Rattle.crtp_packets.specs.Chunks.{chunk_count_of, chunk_start, chunk_of}
 use Rattle.crtp_packets.specs.Packets.{write_request_of}
-use Rattle.commander_cmds.specs.Commands.{define_of, start_of}
+use Rattle.crtp_packets.specs.Commands.{define_of, start_of}
 use Rattle.upload_model.specs.declared.limits.TheConstants.{MEMORY_BYTES, TABLE_ENTRIES, MOST_DRONES, MOST_SEGMENTS}
 use Rattle.upload_model.specs.declared.loads.Load.{Load}
 

@@ -1,8 +1,8 @@
 -- The upload theorem: what holds of every session, of every drone at the start and of every list of
 -- events, whatever the link loses, repeats, delays or reorders.
 use Rattle.std.specs.Prelude.{◌≡◌, ◌≢◌, ℕ, ◌+◌, ◌<◌, ◌≤◌, ◌⊎◌, ◌++◌, [], ◌∷◌, true, List, length, take, slice_get, slice_index, Some, Contains}
-use Rattle.mem_chunks.specs.Chunks.{chunk_start, chunk_of}
-use Rattle.commander_cmds.specs.Commands.{start_of}
+use Rattle.crtp_packets.specs.Chunks.{chunk_start, chunk_of}
+use Rattle.crtp_packets.specs.Commands.{start_of}
 use Rattle.upload_model.specs.declared.limits.TheConstants.{MEMORY_BYTES, TABLE_ENTRIES}
 use Rattle.upload_model.specs.declared.loads.Load.{Load}
 use Rattle.upload_model.specs.declared.events.Progress.TheVariants.{Done, Refused}

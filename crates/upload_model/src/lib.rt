@@ -3,7 +3,7 @@
 //!
 //! Code is in the crates above: `firmware_memory` is one drone, `upload_core` the host, `fleet_world`
 //! the world. They share the plain types of this crate, and their contracts cite its definitions.
-//! It stands on the bytes of the packets, of `mem_chunks`, `crtp_packets` and `commander_cmds`.
+//! It stands on the bytes of packets, chunks and commands, of `crtp_packets`.
 #![tactic(auto)]
 
 mod events;

@@ -2,7 +2,7 @@
 //! upload").
 
 /// The bytes of a drone's trajectory memory.
-pub const MEMORY_BYTES: usize = mem_chunks::MEMORY_BYTES;
+pub const MEMORY_BYTES: usize = crtp_packets::MEMORY_BYTES;
 
 /// The entries of a drone's table of trajectories.
 pub const TABLE_ENTRIES: usize = 10;

@@ -1,7 +1,7 @@
 -- What holds whenever the loop of `rehearse_carefully` begins a turn.
 use Rattle.std.proofs.Common.{◌≡◌, All, List, length, take}
 use Rattle.upload_model.specs.Sessions.{drone_count}
-use Rattle.firmware_memory.specs.declared.Drone.{Drone}
+use Rattle.firmware_memory.specs.declared.drone.Drone.{Drone}
 use Rattle.firmware_memory.specs.Shown.{shown}
 use Rattle.readback_core.specs.CarefulWorldState.{CarefulWorldStandsFor}
 use Rattle.rehearsal.specs.Rehearsed.{blank_drone}

@@ -4,7 +4,7 @@ use Rattle.traj_codec.specs.declared.traj.Traj.{Traj}
 use Rattle.upload_model.specs.Drones.{DroneState}
 use Rattle.firmware_memory.specs.Shown.{shown}
 use Rattle.fleet_world.specs.WorldState.{state_at, state_of}
-use Rattle.memory_curves.specs.Decoded.{DecodesTo}
+use Rattle.firmware_memory.specs.Decoded.{DecodesTo}
 use Rattle.rehearsal.specs.Texts.{title_line, drone_text, AreTexts, IsDecoded}
 use Rattle.rehearsal.proofs.TextLemmas.{texts-next}
 use Rattle.rehearsal.proofs.text.memory_text.Goals as goal

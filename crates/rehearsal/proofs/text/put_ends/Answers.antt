@@ -6,7 +6,7 @@ use Rattle.std.specs.Fmt.{signed_decimal}
 use Rattle.fleet_math.specs.Bernstein.{at}
 use Rattle.fleet_io.specs.Words.{with_word, line}
 use Rattle.fleet_io.proofs.WordLaws.{words_make_line}
-use Rattle.memory_curves.specs.Decoded.{last_value}
+use Rattle.firmware_memory.specs.Decoded.{last_value}
 use Rattle.rehearsal.proofs.TextLemmas.{four-same}
 use Rattle.rehearsal.proofs.text.put_ends.Goals as goal
 

@@ -1,5 +1,5 @@
 use Rattle.std.proofs.Common.{◌≡◌, ◌+◌, ℕ, List, length, map, take}
-use Rattle.mem_chunks.specs.Chunks.{chunk_count_of}
+use Rattle.crtp_packets.specs.Chunks.{chunk_count_of}
 use Rattle.show_looks.proofs.numbers.packets.Given as goal
 
 -- the packets of the rows so far

@@ -1,6 +1,6 @@
 use Rattle.std.proofs.Common.{◌≡◌, ℕ, ◌-◌, ◌≤◌, ◌∙◌, List, length, map, sum, refl, sym, ap, subst, arith}
 use Rattle.std.specs.List.{All}
-use Rattle.mem_chunks.specs.declared.TheConstants.{MEMORY_BYTES}
+use Rattle.crtp_packets.specs.declared.chunks.TheConstants.{MEMORY_BYTES}
 use Rattle.choreo_reader.specs.Plain.{plain}
 use Rattle.choreo_reader.specs.declared.show.DroneLine.{DroneLine}
 use Rattle.traj_codec.specs.declared.traj.Traj.{Traj}

@@ -2,7 +2,7 @@ use Rattle.std.proofs.Common.{◌≡◌, List, map, ap, sym, subst, ◌∙◌}
 use Rattle.traj_codec.specs.declared.traj.Traj.{Traj}
 use Rattle.upload_model.specs.declared.loads.Load.{Load}
 use Rattle.upload_model.specs.Sessions.{IsSession, Upload}
-use Rattle.memory_curves.specs.Decoded.{load_for}
+use Rattle.firmware_memory.specs.Decoded.{load_for}
 use Rattle.show_plan.proofs.Landing.{is_session}
 use Rattle.show_plan.proofs.Uploadable.{uploadable}
 use Rattle.show_plan.proofs.upload.session.Goals as goal

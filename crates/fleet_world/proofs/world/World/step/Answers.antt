@@ -6,7 +6,7 @@ use Rattle.upload_model.specs.Sessions.{Upload}
 use Rattle.upload_model.specs.Hosts.{progress}
 use Rattle.upload_model.specs.Worlds as Worlds
 use Rattle.upload_model.specs.Worlds.{happens, world, start_world}
-use Rattle.firmware_memory.specs.declared.Drone.{Drone}
+use Rattle.firmware_memory.specs.declared.drone.Drone.{Drone}
 use Rattle.fleet_world.specs.WorldState.{WorldStandsAt, WorldStandsFor, state_at}
 use Rattle.fleet_world.proofs.Points.{run-push, on_ok, if_ok}
 use Rattle.fleet_world.proofs.world.World.step.Goals as goal

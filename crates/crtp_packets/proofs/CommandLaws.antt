@@ -1,0 +1,77 @@
+-- A payload that is read as a command is that command, field by field, and the other way round.
+use Rattle.std.proofs.Common.{◌≡◌, ℕ, suc, ◌^◌, ◌<◌, ◌≤◌, true, nat_lt, ◌==◌, List, [], ◌∷◌, ◌++◌, length, drop, slice_index, refl, ap, sym, subst, ◌∙◌, arith, Result, Ok, IfOk}
+use Rattle.std.proofs.lemmas.Bool.{le-ltb}
+use Rattle.byteorder.specs.Endian.{little_number}
+use Rattle.byteorder.specs.Numbers.{little_number-reads_back}
+use Rattle.crtp_packets.proofs.ReadingLaws.{AreBytes, four_bytes, number_fits, if_ok, not_short}
+use Rattle.crtp_packets.specs.Commands.{define_message, start_message, command_of, SpellsCommand}
+use Rattle.crtp_packets.specs.declared.commands.CommandFault.{CommandFault}
+use Rattle.crtp_packets.specs.declared.commands.Command.{Command}
+use Rattle.crtp_packets.specs.declared.commands.Command.TheVariants.{Define, Start}
+
+-- what stands after a define's first byte, or a start's, is the fields that are read there
+record IsRead (rest : List ℕ) : Type 0 where
+  define : SpellsCommand (6 ∷ rest) (Define (slice_index rest 0) (slice_index rest 1) (slice_index rest 2) (little_number 4 (drop 3 rest)) (slice_index rest 7))
+  start : SpellsCommand (5 ∷ rest) (Start (slice_index rest 0) (slice_index rest 1) (slice_index rest 2) (slice_index rest 3)
+      (slice_index rest 4 ∷ slice_index rest 5 ∷ slice_index rest 6 ∷ slice_index rest 7 ∷ []))
+
+fields : (rest : List ℕ) → 8 ≤ length rest → AreBytes rest → IsRead rest
+fields [] long small = absurd (omega arith)
+fields (i ∷ []) long small = absurd (omega arith)
+fields (i ∷ l ∷ []) long small = absurd (omega arith)
+fields (i ∷ l ∷ f ∷ []) long small = absurd (omega arith)
+fields (i ∷ l ∷ f ∷ a ∷ []) long small = absurd (omega arith)
+fields (i ∷ l ∷ f ∷ a ∷ b ∷ []) long small = absurd (omega arith)
+fields (i ∷ l ∷ f ∷ a ∷ b ∷ c ∷ []) long small = absurd (omega arith)
+fields (i ∷ l ∷ f ∷ a ∷ b ∷ c ∷ d ∷ []) long small = absurd (omega arith)
+fields (i ∷ l ∷ f ∷ a ∷ b ∷ c ∷ d ∷ p ∷ tail) long small = record {
+  define = (
+    tail,
+    ap (λ (bs : List ℕ). 6 ∷ i ∷ l ∷ f ∷ ((bs ++ p ∷ []) ++ tail)) (sym (four_bytes a b c d (p ∷ tail) (small 3) (small 4) (small 5) (small 6))),
+    number_fits a b c d (p ∷ tail) (small 3) (small 4) (small 5) (small 6),
+  );
+  start = (tail, refl, refl);
+}
+
+-- a test that holds says that the numbers are equal
+same : (a b : ℕ) → (a == b) ≡ true → a ≡ b
+same a b e = grind arith
+
+pub spells : (payload : List ℕ) → AreBytes payload → IfOk (command_of payload) (SpellsCommand payload)
+spells [] small = tt
+spells (kind ∷ rest) small =
+    if_ok (SpellsCommand (kind ∷ rest)) (kind == 6) _ _
+    (λ at. if_ok (SpellsCommand (kind ∷ rest)) (nat_lt (length rest) 8) _ _ (λ short. tt)
+    (λ long. subst (λ (k : ℕ). SpellsCommand (k ∷ rest) (Define (slice_index rest 0) (slice_index rest 1) (slice_index rest 2) (little_number 4 (drop 3 rest)) (slice_index rest 7)))
+    (sym (same kind 6 at)) (fields rest (not_short (length rest) 8 long) (λ i. small (suc i))).define))
+    (λ other. if_ok (SpellsCommand (kind ∷ rest)) (kind == 5) _ _
+    (λ at. if_ok (SpellsCommand (kind ∷ rest)) (nat_lt (length rest) 8) _ _ (λ short. tt)
+    (λ long. subst (λ (k : ℕ). SpellsCommand (k ∷ rest) (Start (slice_index rest 0) (slice_index rest 1) (slice_index rest 2) (slice_index rest 3) (slice_index rest 4 ∷ slice_index rest 5 ∷ slice_index rest 6 ∷ slice_index rest 7 ∷ [])))
+    (sym (same kind 5 at)) (fields rest (not_short (length rest) 8 long) (λ i. small (suc i))).start))
+    (λ none. tt))
+
+-- a define that is written out is read as itself
+define_read : (id location form offset pieces : ℕ) (rest : List ℕ) → offset < 2 ^ 32 →
+    command_of (define_message id location form offset pieces ++ rest) ≡ Ok (Define id location form offset pieces)
+define_read id location form offset pieces rest fits =
+    let behind = drop 1 (define_message id location form offset pieces ++ rest) in
+    let long : 8 ≤ length behind = omega arith in
+    rw (le-ltb (length behind) 8 long)
+    (ap {B = Result Command CommandFault} (λ (n : ℕ). Ok (Define id location form n pieces)) (little_number-reads_back 4 offset (pieces ∷ rest) fits))
+
+-- a start that is written out is read as itself
+start_read : (mask relative reversed id : ℕ) (scale rest : List ℕ) → length scale ≡ 4 →
+    command_of (start_message mask relative reversed id scale ++ rest) ≡ Ok (Start mask relative reversed id scale)
+start_read mask relative reversed id [] rest four = absurd (omega arith)
+start_read mask relative reversed id (a ∷ []) rest four = absurd (omega arith)
+start_read mask relative reversed id (a ∷ b ∷ []) rest four = absurd (omega arith)
+start_read mask relative reversed id (a ∷ b ∷ c ∷ []) rest four = absurd (omega arith)
+start_read mask relative reversed id (a ∷ b ∷ c ∷ d ∷ []) rest four =
+    let behind = mask ∷ relative ∷ reversed ∷ id ∷ a ∷ b ∷ c ∷ d ∷ rest in
+    let long : 8 ≤ length behind = omega arith in
+    rw (le-ltb (length behind) 8 long) refl
+start_read mask relative reversed id (a ∷ b ∷ c ∷ d ∷ e ∷ scale) rest four = absurd (omega arith)
+
+pub spelled : (payload : List ℕ) (command : Command) → SpellsCommand payload command → command_of payload ≡ Ok command
+spelled payload (Define id location form offset pieces) s = ap command_of s.1 ∙ define_read id location form offset pieces s.0 s.2
+spelled payload (Start mask relative reversed id scale) s = ap command_of s.1 ∙ start_read mask relative reversed id scale s.0 s.2

@@ -1,0 +1,13 @@
+//! What holds of all memories.
+
+ghost use Rattle.firmware_memory.specs.Decoded.{CurveLaw};
+
+use traj_codec::spelling_law;
+
+/// A law. A memory decodes to one trajectory alone, and one that has the load and the entry of a
+/// trajectory decodes to it.
+pub fn curve_law()
+    ensures { CurveLaw }
+{
+    spelling_law();
+}
