@@ -1,18 +1,8 @@
 //! The law of an upload.
 
 ghost use Rattle.std.specs.Prelude.{◌≡◌};
-ghost use Rattle.upload_model.specs.Theorem.{UploadLaw, StartLaw, UnstartedLaw, LastingLaw};
 
 use crate::limits::*;
-
-/// Whatever the link loses, repeats, delays or reorders: what holds at every moment of an upload,
-/// for every session, every drone at the start and every list of events.
-pub fn upload_law()
-    ensures safe { UploadLaw }
-    ensures starts { StartLaw }
-    ensures unstarted { UnstartedLaw }
-    ensures lasts { LastingLaw }
-{}
 
 /// A law. The numbers of the drone's model and of the upload, which the definitions cite by their names
 /// (docs/RADIO.md, "A drone" and "The upload").
