@@ -13,7 +13,7 @@ mod limits;
 mod loads;
 
 pub use events::{Event, Phase, Progress, Reply, Sent, WorldEvent};
-pub use law::limits_law;
+pub use law::{limits_law, readback_law, upload_law};
 pub use limits::{
     ACCEPTED, MEMORY_BYTES, MOST_DRONES, MOST_SEGMENTS, NO_ROOM, PACKETS_IN_FLIGHT, TABLE_ENTRIES,
     TICKS_TO_GIVE_UP, UNFIT,
