@@ -1,11 +1,3 @@
-pub mod Walks
+pub mod Numbers
 pub mod RowLemmas
-pub mod Windows
-pub mod Drones
-pub mod Hearing
-pub mod Flights
-pub mod HostLemmas
-pub mod Acknowledged
-pub mod Standing
-pub mod Looking
-pub mod Known
+pub mod Staying
