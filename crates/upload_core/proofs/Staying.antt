@@ -1,6 +1,6 @@
 -- What is in flight stays so until it is acknowledged; so what isn't in flight and isn't acknowledged never
 -- was, and has no ticks.
-use Rattle.std.proofs.Common.{◌≡◌, ◌≢◌, ◌==◌, ℕ, zero, suc, ◌+◌, ◌<◌, ◌≤◌, Bool, true, false, not, cond, ◌&&◌, ◌||◌, eqb, List, [], ◌∷◌, ◌++◌, take, filter, refl, ap, sym, ◌∙◌, arith, Some}
+use Rattle.std.proofs.Common.{◌≡◌, ◌≢◌, ◌==◌, ℕ, zero, suc, ◌+◌, ◌<◌, ◌≤◌, Bool, true, false, not, cond, ◌&&◌, ◌||◌, eqb, List, [], ◌∷◌, ◌++◌, take, filter, refl, ap, sym, ◌∙◌, arith, Some, inl, inr}
 use Rattle.std.specs.List.{range_with_len, list_any, list_all, flat_map}
 use Rattle.std.proofs.lemmas.Bool.{cases_eq, cases_Bool, eq-eqb, ne_eqb, and_parts, and_from, and_left, false≢true, false_from_ne_true}
 use Rattle.std.proofs.lemmas.List.Folds.{list_any-append}
@@ -69,52 +69,56 @@ among-stays : (p q : ℕ → Bool) → ((j : ℕ) → q j ≡ true → p j ≡ t
 among-stays p q sub a zero l zero i k f g found here = absurd (false≢true found)
 among-stays p q sub a zero l (suc n) i k f g found here = absurd (false≢true found)
 among-stays p q sub a (suc m) zero n i k f g found here = absurd (omega arith)
-among-stays p q sub a (suc m) (suc l) n i k f g found here = by_p (p a) refl n i g found where
-  later : (n i : ℕ) → n ≤ i → among (take n (filter p (range_with_len (a + 1) m))) k ≡ true → among (take i (filter q (range_with_len (a + 1) l))) k ≡ true
-  later n i g found = among-stays p q sub (a + 1) m l n i k (omega arith) g found here
+among-stays p q sub a (suc m) (suc l) n i k f g found here =
+    by_p (λ n i g found. among-stays p q sub (a + 1) m l n i k (omega arith) g found here) (p a) refl n i g found where
+      rest : List ℕ
+      rest = filter p (range_with_len (a + 1) m)
 
-  rest : List ℕ
-  rest = filter p (range_with_len (a + 1) m)
+      less : List ℕ
+      less = filter q (range_with_len (a + 1) l)
 
-  less : List ℕ
-  less = filter q (range_with_len (a + 1) l)
+      Later : Type 0
+      Later = (n i : ℕ) → n ≤ i → among (take n rest) k ≡ true → among (take i less) k ≡ true
 
-  by_q : (b : Bool) → q a ≡ b → (n i : ℕ) → suc n ≤ i → (a == k || among (take n rest) k) ≡ true → among (take i (cond b (a ∷ less) less)) k ≡ true
-  by_q b e n zero g found = absurd (omega arith)
-  by_q true e n (suc i) g found = elim (cases_eq a k) [
-    | inl same ↦ ap (λ c. c || among (take i less) k) (eq-eqb a k same)
-    | inr other ↦
-        ap (λ c. c || among (take i less) k) (ne_eqb a k other)
-        ∙ later n i (omega arith) (sym (ap (λ c. c || among (take n rest) k) (ne_eqb a k other)) ∙ found)
-  ]
-  by_q false e n (suc i) g found = elim (cases_eq a k) [
-    | inl same ↦ absurd (false≢true (sym e ∙ ap q same ∙ here))
-    | inr other ↦ later n (suc i) (omega arith) (sym (ap (λ c. c || among (take n rest) k) (ne_eqb a k other)) ∙ found)
-  ]
+      by_q : Later → (b : Bool) → q a ≡ b → (n i : ℕ) → suc n ≤ i → (a == k || among (take n rest) k) ≡ true → among (take i (cond b (a ∷ less) less)) k ≡ true
+      by_q later b e n zero g found = absurd (omega arith)
+      by_q later true e n (suc i) g found = elim (cases_eq a k) [
+        | inl same ↦ ap (λ c. c || among (take i less) k) (eq-eqb a k same)
+        | inr other ↦
+            ap (λ c. c || among (take i less) k) (ne_eqb a k other)
+            ∙ later n i (omega arith) (sym (ap (λ c. c || among (take n rest) k) (ne_eqb a k other)) ∙ found)
+      ]
+      by_q later false e n (suc i) g found = elim (cases_eq a k) [
+        | inl same ↦ absurd (false≢true (sym e ∙ ap q same ∙ here))
+        | inr other ↦ later n (suc i) (omega arith) (sym (ap (λ c. c || among (take n rest) k) (ne_eqb a k other)) ∙ found)
+      ]
 
-  by_p : (b : Bool) → p a ≡ b → (n i : ℕ) → n ≤ i → among (take n (cond b (a ∷ rest) rest)) k ≡ true → among (take i (cond (q a) (a ∷ less) less)) k ≡ true
-  by_p true e zero i g found = absurd (false≢true found)
-  by_p true e (suc n) i g found = by_q (q a) refl n i g found
-  by_p false e n i g found =
-      let not_q : q a ≡ false = false_from_ne_true (q a) (λ t. false≢true (sym e ∙ sub a t)) in
-      ap (λ b. among (take i (cond b (a ∷ less) less)) k) not_q ∙ later n i g found
+      by_p : Later → (b : Bool) → p a ≡ b → (n i : ℕ) → n ≤ i → among (take n (cond b (a ∷ rest) rest)) k ≡ true → among (take i (cond (q a) (a ∷ less) less)) k ≡ true
+      by_p later true e zero i g found = absurd (false≢true found)
+      by_p later true e (suc n) i g found = by_q later (q a) refl n i g found
+      by_p later false e n i g found =
+          let not_q : q a ≡ false = false_from_ne_true (q a) (λ t. false≢true (sym e ∙ sub a t)) in
+          ap (λ b. among (take i (cond b (a ∷ less) less)) k) not_q ∙ later n i g found
 
 -- what is among the first that pass is in the range and passes
 pub among-passes : (p : ℕ → Bool) (a m n k : ℕ) → among (take n (filter p (range_with_len a m))) k ≡ true → (a ≤ k) × (k < a + m) × (p k ≡ true)
 among-passes p a zero zero k found = absurd (false≢true found)
 among-passes p a zero (suc n) k found = absurd (false≢true found)
-among-passes p a (suc m) n k found = by_p (p a) refl n found where
-  later : (n : ℕ) → among (take n (filter p (range_with_len (a + 1) m))) k ≡ true → (a ≤ k) × (k < a + suc m) × (p k ≡ true)
-  later n found = let r = among-passes p (a + 1) m n k found in let l = r.0 in let b = r.1 in (omega arith, omega arith, r.2)
+among-passes p a (suc m) n k found = by_p (λ n found. wider (among-passes p (a + 1) m n k found)) (p a) refl n found where
+  rest : List ℕ
+  rest = filter p (range_with_len (a + 1) m)
 
-  by_p : (b : Bool) → p a ≡ b → (n : ℕ) → among (take n (cond b (a ∷ filter p (range_with_len (a + 1) m)) (filter p (range_with_len (a + 1) m)))) k ≡ true →
-      (a ≤ k) × (k < a + suc m) × (p k ≡ true)
-  by_p true e zero found = absurd (false≢true found)
-  by_p true e (suc n) found = elim (cases_eq a k) [
+  wider : (a + 1 ≤ k) × (k < a + 1 + m) × (p k ≡ true) → (a ≤ k) × (k < a + suc m) × (p k ≡ true)
+  wider r = let l = r.0 in let b = r.1 in (omega arith, omega arith, r.2)
+
+  by_p : ((n : ℕ) → among (take n rest) k ≡ true → (a ≤ k) × (k < a + suc m) × (p k ≡ true)) → (b : Bool) → p a ≡ b → (n : ℕ) →
+      among (take n (cond b (a ∷ rest) rest)) k ≡ true → (a ≤ k) × (k < a + suc m) × (p k ≡ true)
+  by_p later true e zero found = absurd (false≢true found)
+  by_p later true e (suc n) found = elim (cases_eq a k) [
     | inl same ↦ (omega arith, omega arith, sym (ap p same) ∙ e)
-    | inr other ↦ later n (sym (ap (λ c. c || among (take n (filter p (range_with_len (a + 1) m))) k) (ne_eqb a k other)) ∙ found)
+    | inr other ↦ later n (sym (ap (λ c. c || among (take n rest) k) (ne_eqb a k other)) ∙ found)
   ]
-  by_p false e n found = later n found
+  by_p later false e n found = later n found
 
 -- ---- what is in flight
 

@@ -5,9 +5,10 @@ ghost use Rattle.std.specs.List.{range_with_len, list_all, list_any};
 ghost use Rattle.upload_model.specs.declared.events.Event.{Event};
 ghost use Rattle.upload_model.specs.declared.events.Sent.{Sent};
 ghost use Rattle.upload_model.specs.Sessions.{drone_count, write_count, load_count, read_count, packet_count, is_read, read_address, wanted};
+ghost use Rattle.crtp_packets.specs.Chunks.{chunk_start};
 ghost use Rattle.upload_model.specs.Replies as replies;
 ghost use Rattle.upload_model.specs.Replies.{ReadBack, status_in, read_in, read_reply, reply_in};
-ghost use Rattle.upload_model.specs.Hosts.{phase_of, flight_after, joined, acknowledges, all_packets, counts as counts_for, ends_for, ended_for, includes as includes_sent, if_going};
+ghost use Rattle.upload_model.specs.Hosts.{phase_of, flight_after, joined, acknowledges, sent_to, all_packets, counts as counts_for, ends_for, ended_for, includes as includes_sent, if_going};
 ghost use Rattle.upload_core.specs.Rows.{among, window_at, is_marked, row_at, marked, counted};
 ghost use Rattle.upload_core.specs.Steps.{RowsStand, IsFor, IsLow};
 
@@ -17,19 +18,97 @@ use crate::session::Session;
 use crtp_packets::{DEFINE, PACKET_BYTES, Piece, READ_BYTES, START, Up, WRITE_BYTES, parse_up_bytes};
 use upload_model::{ACCEPTED, Phase, Progress, Reply};
 
-/// The number of the part of so many bytes that begins at this address of this memory.
-fn part_at(session: &Session, id: u8, address: u32, size: usize) -> Option<usize>
-    requires { 1 ≤ size }
-    ensures some { IfSome result (λ k. (id ≡ session.now.memory_id) × (address ≡ session.now.offset + size * k)) }
-    ensures none { IfNone result ((k : ℕ) → id ≡ session.now.memory_id → address ≢ session.now.offset + size * k) }
+/// The write of a drone to this memory at this address.
+fn write_named(session: &Session, drone: usize, id: u8, address: u32) -> Option<usize>
+    requires known { drone < drone_count session.now }
+    ensures some { IfSome result (λ k. (k < write_count session.now drone) × (id ≡ session.now.memory_id) × (address ≡ session.now.offset + chunk_start k)) }
+    ensures none { IfNone result ((k : ℕ) → k < write_count session.now drone → id ≡ session.now.memory_id → address ≢ session.now.offset + chunk_start k) }
 {
     let settings = session.settings();
     let offset = settings.offset as usize;
-    let address = address as usize;
-    if id != settings.memory_id || address < offset || (address - offset) % size != 0 {
+    let at = address as usize;
+    if id != settings.memory_id || at < offset {
         return None;
     }
-    Some((address - offset) / size)
+    let k = (at - offset) / WRITE_BYTES;
+    if (at - offset) % WRITE_BYTES != 0 || k >= session.writes(drone) {
+        return None;
+    }
+    Some(k)
+}
+
+/// The read of a drone from this memory at this address.
+fn read_named(session: &Session, drone: usize, id: u8, address: u32) -> Option<usize>
+    requires known { drone < drone_count session.now }
+    ensures some { IfSome result (λ k. (k < read_count session.now drone) × (id ≡ session.now.memory_id) × (address ≡ read_address session.now k)) }
+    ensures none { IfNone result ((k : ℕ) → k < read_count session.now drone → id ≡ session.now.memory_id → address ≢ read_address session.now k) }
+{
+    let settings = session.settings();
+    let offset = settings.offset as usize;
+    let at = address as usize;
+    if id != settings.memory_id || at < offset {
+        return None;
+    }
+    let k = (at - offset) / READ_BYTES;
+    if (at - offset) % READ_BYTES != 0 || k >= session.reads(drone) {
+        return None;
+    }
+    Some(k)
+}
+
+/// The one write of a drone that a write answer may answer.
+fn write_for(session: &Session, drone: usize, id: u8, address: u32, status: u8) -> Option<u16>
+    requires known { drone < drone_count session.now }
+    ensures { IsFor session.now drone (Ok (Up.WriteAnswer id address status)) result }
+{
+    let _status = status;
+    let _count = session.count(drone);
+    let _writes = session.writes(drone);
+    match write_named(session, drone, id, address) {
+        Some(k) => Some(k as u16),
+        None => None,
+    }
+}
+
+/// The one read of a drone that a read answer may answer.
+fn read_for(
+    session: &Session,
+    drone: usize,
+    id: u8,
+    address: u32,
+    status: u8,
+    piece: &Piece,
+) -> Option<u16>
+    requires known { drone < drone_count session.now }
+    ensures { IsFor session.now drone (Ok (Up.ReadAnswer id address status piece.now)) result }
+{
+    let _status = status;
+    let _len = piece.len();
+    let _count = session.count(drone);
+    let _reads = session.reads(drone);
+    match read_named(session, drone, id, address) {
+        Some(k) => Some((session.first_of(Phase::Reading, drone) + k) as u16),
+        None => None,
+    }
+}
+
+/// The define or the start of a drone, whichever a command answer may answer.
+fn command_for(session: &Session, drone: usize, first: &[u8; 3], status: u8) -> Option<u16>
+    requires known { drone < drone_count session.now }
+    ensures { IsFor session.now drone (Ok (Up.CommandAnswer first.now status)) result }
+{
+    let _status = status;
+    let _count = session.count(drone);
+    if first[0] == DEFINE {
+        return Some(session.writes(drone) as u16);
+    }
+    if first[0] != START {
+        return None;
+    }
+    if !session.starts() {
+        return None;
+    }
+    Some(session.first_of(Phase::Starting, drone) as u16)
 }
 
 /// The one packet of a drone that a message may answer: a write or a read by its address, the define or
@@ -39,29 +118,18 @@ fn candidate(session: &Session, drone: usize, message: &Up) -> Option<u16>
     ensures { IsFor session.now drone (Ok message.now) result }
 {
     match message {
-        Up::WriteAnswer { id, address, .. } => {
-            let k = part_at(session, *id, *address, WRITE_BYTES)?;
-            if k >= session.writes(drone) {
-                return None;
-            }
-            Some(k as u16)
-        }
-        Up::ReadAnswer { id, address, .. } => {
-            let k = part_at(session, *id, *address, READ_BYTES)?;
-            if k >= session.reads(drone) {
-                return None;
-            }
-            Some((session.first_of(Phase::Reading, drone) + k) as u16)
-        }
-        Up::CommandAnswer { first, .. } => {
-            if first[0] == DEFINE {
-                return Some(session.writes(drone) as u16);
-            }
-            if first[0] != START || !session.starts() {
-                return None;
-            }
-            Some(session.first_of(Phase::Starting, drone) as u16)
-        }
+        Up::WriteAnswer {
+            id,
+            address,
+            status,
+        } => write_for(session, drone, *id, *address, *status),
+        Up::ReadAnswer {
+            id,
+            address,
+            status,
+            piece,
+        } => read_for(session, drone, *id, *address, *status, piece),
+        Up::CommandAnswer { first, status } => command_for(session, drone, first, *status),
     }
 }
 
@@ -226,6 +294,25 @@ fn counts(session: &Session, rows: &[Row], phase: Phase, drone: usize, k: usize)
     !matches!(phase, Phase::Loading)
 }
 
+/// Takes packet `k` of a drone out of flight, and puts into `out` what comes in.
+fn settle(session: &Session, rows: &mut [Row], phase: Phase, drone: usize, k: u16, out: &mut Out)
+    requires rows { RowsStand session.now phase rows.old }
+    requires known { drone < drone_count session.now }
+    requires in_flight { among (window_at rows.old drone) k ≡ true }
+    ensures rows { RowsStand session.now phase rows.new }
+    ensures marks { (d j : ℕ) → marked rows.new d j ≡ (marked rows.old d j || (drone == d && k == j)) }
+    ensures others { (d : ℕ) → d ≢ drone → row_at rows.new d ≡ row_at rows.old d }
+    ensures counts { (j : ℕ) → j ≢ k → counted rows.new drone j ≡ counted rows.old drone j }
+    ensures low { IsLow rows.old → IsLow rows.new }
+    ensures len { length rows.new ≡ length rows.old }
+    ensures sent { out.new.items ≡ sent_to drone
+        (filter (λ j. not (among (window_at rows.old drone) j)) (window_at rows.new drone)) }
+{
+    let before = rows[drone].next;
+    rows[drone].settle(k, session.end_of(phase, drone) as u16);
+    put_news(out, drone, before, rows[drone].next);
+}
+
 /// A good answer to packet `k` of a drone, which is in flight.
 fn acknowledge(
     session: &Session,
@@ -252,16 +339,11 @@ fn acknowledge(
         (filter (λ x. not (includes_sent (flight_after session.now (marked rows.old)) x))
         (flight_after session.now (marked rows.new))) }
 {
-    let before = rows[drone].next;
-    rows[drone].settle(k, session.end_of(*phase, drone) as u16);
-    if !rows[drone].window.is_empty() {
-        put_news(out, drone, before, rows[drone].next);
-        return Progress::Going;
-    }
-    out.clear();
+    settle(session, rows, *phase, drone, k, out);
     if !is_settled(rows) {
         return Progress::Going;
     }
+    out.clear();
     *phase = advance(session, rows, *phase);
     if is_settled(rows) {
         return Progress::Done;

@@ -1,6 +1,6 @@
--- Why `read_schedule_of` keeps its contract, at the places where the check needs to be told.
+-- Why `read_schedule` keeps its contract, at the places where the check needs to be told.
 use Rattle.std.proofs.Common.{arith}
-use Rattle.fleet_world.proofs.schedule.read_schedule_of.Goals as goal
+use Rattle.fleet_world.proofs.schedule.read_schedule.Goals as goal
 
 pub put_line-requires-clause-short : goal.put_line-requires-clause-short
 put_line-requires-clause-short c =

@@ -1,0 +1,304 @@
+-- From the rows of a host to the definitions over its list of events.
+use Rattle.std.proofs.Common.{◌≡◌, ◌==◌, ◌≢◌, ℕ, zero, suc, ◌+◌, ◌<◌, ◌≤◌, Bool, true, false, not, cond, ◌&&◌, ◌||◌, eqb, List, [], ◌∷◌, ◌++◌, length, map, filter, refl, ap, sym, subst, ◌∙◌, arith, Option, Some, None, inl, inr}
+use Rattle.std.specs.Prelude.{find, nat_lt, All}
+use Rattle.std.specs.List.{range_with_len, list_any, list_all, flat_map}
+use Rattle.std.specs.Option.{option_or}
+use Rattle.std.proofs.lemmas.Bool.{eq-eqb, ne_eqb, and_parts, false≢true, false_from_ne_true}
+use Rattle.std.proofs.lemmas.List.{length-map}
+use Rattle.std.proofs.lemmas.List.Folds.{list_all-append, find-append}
+use Rattle.std.proofs.lemmas.List.Elements.{All-nil, All-cons, All-head, All-tail, All-map, All-weaker}
+use Rattle.upload_model.specs.declared.events.Event.{Event}
+use Rattle.upload_model.specs.declared.events.Event.TheVariants as event
+use Rattle.upload_model.specs.declared.events.Phase.{Phase}
+use Rattle.upload_model.specs.declared.events.Phase.TheVariants.{Loading}
+use Rattle.upload_model.specs.declared.events.Sent.{Sent}
+use Rattle.upload_model.specs.declared.events.Progress.{Progress}
+use Rattle.upload_model.specs.declared.events.Progress.TheVariants.{Going, Done, GaveUp, Refused, Differs}
+use Rattle.upload_model.specs.Sessions.{Upload, drone_count, load_count, packet_count, first_of, count_of}
+use Rattle.upload_model.specs.Replies.{reply_to, is_good, is_end}
+use Rattle.upload_model.specs.Hosts.{Packets, all_settled, phase_of, allowed, includes, gave_up, if_going, sent_at, sent_to, all_packets, acknowledges, joined, acked, counts, flight_in, flight_after, flight, is_tick, ticks, ended_for, ends_for, ended_by, progress, out}
+use Rattle.upload_model.proofs.HostLaws.{All-flat_map_range, acked-push, acked-more, acked-done}
+use Rattle.upload_model.proofs.HostSteps.{acked-tick, flight-tick, ticks-push, progress-stays, progress-next, progress-tick, Agree, all_settled-agree, phase_of-agree, flight_after-agree}
+use Rattle.upload_core.specs.declared.row.InFlight.{InFlight}
+use Rattle.upload_core.specs.declared.row.Row.{Row}
+use Rattle.upload_core.specs.Rows.{packets_in, among, is_past, is_marked, row_at, marked, window_at, counted, count_in}
+use Rattle.upload_core.specs.Steps.{IsBetween, older, older_row, RowStands, RowsStand, IsReady, IsLow, in_windows}
+use Rattle.upload_core.specs.HostState.{HostView}
+use Rattle.upload_core.specs.HostStandsFor.{HostStandsFor}
+use Rattle.upload_core.proofs.RowLemmas.{packets-older, count_in-older}
+use Rattle.upload_core.proofs.Staying.{includes-flight_at, flight-open, ticks-none}
+use Rattle.upload_core.proofs.Windows.{windows-flight, includes-windows}
+
+-- ---- tests that agree at the packets of a session
+
+find-sent_agree : (p q : Sent → Bool) (d : ℕ) (a n : ℕ) → ((k : ℕ) → k < a + n → p (record { drone = d; packet = k }) ≡ q (record { drone = d; packet = k })) →
+    find p (sent_to d (range_with_len a n)) ≡ find q (sent_to d (range_with_len a n))
+find-sent_agree p q d a zero h = refl
+find-sent_agree p q d a (suc n) h =
+    ap (λ (b : Bool). cond b (Some (record { drone = d; packet = a })) (find p (sent_to d (range_with_len (a + 1) n)))) (h a (omega arith))
+    ∙ ap (λ (o : Option Sent). cond (q (record { drone = d; packet = a })) (Some (record { drone = d; packet = a })) o) (find-sent_agree p q d (a + 1) n (λ k l. h k (omega arith)))
+
+list_all-sent_agree : (p q : Sent → Bool) (d : ℕ) (a n : ℕ) → ((k : ℕ) → k < a + n → p (record { drone = d; packet = k }) ≡ q (record { drone = d; packet = k })) →
+    list_all p (sent_to d (range_with_len a n)) ≡ list_all q (sent_to d (range_with_len a n))
+list_all-sent_agree p q d a zero h = refl
+list_all-sent_agree p q d a (suc n) h =
+    ap (λ (b : Bool). b && list_all p (sent_to d (range_with_len (a + 1) n))) (h a (omega arith))
+    ∙ ap (λ (b : Bool). q (record { drone = d; packet = a }) && b) (list_all-sent_agree p q d (a + 1) n (λ k l. h k (omega arith)))
+
+find-rows_agree : (p q : Sent → Bool) (count : ℕ → ℕ) (a n : ℕ) →
+    ((d k : ℕ) → d < a + n → k < count d → p (record { drone = d; packet = k }) ≡ q (record { drone = d; packet = k })) →
+    find p (flat_map (λ d. sent_to d (range_with_len 0 (count d))) (range_with_len a n)) ≡ find q (flat_map (λ d. sent_to d (range_with_len 0 (count d))) (range_with_len a n))
+find-rows_agree p q count a zero h = refl
+find-rows_agree p q count a (suc n) h =
+    find-append p (sent_to a (range_with_len 0 (count a))) (flat_map (λ d. sent_to d (range_with_len 0 (count d))) (range_with_len (a + 1) n))
+    ∙ ap (λ (o : Option Sent). option_or o (find p (flat_map (λ d. sent_to d (range_with_len 0 (count d))) (range_with_len (a + 1) n)))) (find-sent_agree p q a 0 (count a) (λ k l. h a k (omega arith) (omega arith)))
+    ∙ ap (λ (o : Option Sent). option_or (find q (sent_to a (range_with_len 0 (count a)))) o) (find-rows_agree p q count (a + 1) n (λ d k l b. h d k (omega arith) b))
+    ∙ sym (find-append q (sent_to a (range_with_len 0 (count a))) (flat_map (λ d. sent_to d (range_with_len 0 (count d))) (range_with_len (a + 1) n)))
+
+list_all-rows_agree : (p q : Sent → Bool) (count : ℕ → ℕ) (a n : ℕ) →
+    ((d k : ℕ) → d < a + n → k < count d → p (record { drone = d; packet = k }) ≡ q (record { drone = d; packet = k })) →
+    list_all p (flat_map (λ d. sent_to d (range_with_len 0 (count d))) (range_with_len a n)) ≡ list_all q (flat_map (λ d. sent_to d (range_with_len 0 (count d))) (range_with_len a n))
+list_all-rows_agree p q count a zero h = refl
+list_all-rows_agree p q count a (suc n) h =
+    list_all-append p (sent_to a (range_with_len 0 (count a))) (flat_map (λ d. sent_to d (range_with_len 0 (count d))) (range_with_len (a + 1) n))
+    ∙ ap (λ (b : Bool). b && list_all p (flat_map (λ d. sent_to d (range_with_len 0 (count d))) (range_with_len (a + 1) n))) (list_all-sent_agree p q a 0 (count a) (λ k l. h a k (omega arith) (omega arith)))
+    ∙ ap (λ (b : Bool). list_all q (sent_to a (range_with_len 0 (count a))) && b) (list_all-rows_agree p q count (a + 1) n (λ d k l b. h d k (omega arith) b))
+    ∙ sym (list_all-append q (sent_to a (range_with_len 0 (count a))) (flat_map (λ d. sent_to d (range_with_len 0 (count d))) (range_with_len (a + 1) n)))
+
+abbrev pub SameTest : Upload → (Sent → Bool) → (Sent → Bool) → Type 0
+SameTest s p q = (d k : ℕ) → d < drone_count s → k < packet_count s d → p (record { drone = d; packet = k }) ≡ q (record { drone = d; packet = k })
+
+pub find-packets_agree : (s : Upload) (p q : Sent → Bool) → SameTest s p q → find p (all_packets s) ≡ find q (all_packets s)
+unfolding all_packets
+find-packets_agree s p q h = find-rows_agree p q (packet_count s) 0 (drone_count s) (λ d k l b. h d k (omega arith) b)
+
+pub list_all-packets_agree : (s : Upload) (p q : Sent → Bool) → SameTest s p q → list_all p (all_packets s) ≡ list_all q (all_packets s)
+unfolding all_packets
+list_all-packets_agree s p q h = list_all-rows_agree p q (packet_count s) 0 (drone_count s) (λ d k l b. h d k (omega arith) b)
+
+-- ---- tests that agree at what is in flight
+
+find-agree : (p q : Sent → Bool) (xs : List Sent) → All (λ x. p x ≡ q x) xs → find p xs ≡ find q xs
+find-agree p q [] all = refl
+find-agree p q (x ∷ xs) all =
+    ap (λ b. cond b (Some x) (find p xs)) (All-head (λ y. p y ≡ q y) x xs all)
+    ∙ ap (λ (o : Option Sent). cond (q x) (Some x) o) (find-agree p q xs (All-tail (λ y. p y ≡ q y) x xs all))
+
+all-among : (ks : List ℕ) → All (λ k. among ks k ≡ true) ks
+all-among [] = All-nil (λ k. among [] k ≡ true)
+all-among (x ∷ ks) =
+    All-cons (λ k. among (x ∷ ks) k ≡ true) x ks (ap (λ b. b || among ks x) (eq-eqb x x refl))
+    (All-weaker (λ k. among ks k ≡ true) (λ k. among (x ∷ ks) k ≡ true) (λ k e. later (x == k) e) ks (all-among ks)) where
+      later : {c : Bool} (b : Bool) → c ≡ true → (b || c) ≡ true
+      later true e = refl
+      later false e = e
+
+all-windows : (P : Sent → Type 0) (rows : List Row) (n : ℕ) → ((d k : ℕ) → d < n → among (window_at rows d) k ≡ true → P (record { drone = d; packet = k })) → All P (in_windows rows n)
+all-windows P rows n h =
+    All-flat_map_range P (λ d. sent_to d (window_at rows d)) 0 n
+    (λ d l b. All-map P (λ (k : ℕ). record { drone = d; packet = k }) (window_at rows d)
+    (All-weaker (λ k. among (window_at rows d) k ≡ true) (λ k. P (record { drone = d; packet = k })) (λ k f. h d k (omega arith) f) (window_at rows d) (all-among (window_at rows d))))
+
+-- ---- rows with one tick more
+
+pub row_at-older : (rows : List Row) (d : ℕ) → row_at (map older_row rows) d ≡ older_row (row_at rows d)
+row_at-older [] d = refl
+row_at-older (row ∷ rows) zero = refl
+row_at-older (row ∷ rows) (suc d) = row_at-older rows d
+
+pub older-packets : (rows : List Row) (d : ℕ) → window_at (map older_row rows) d ≡ window_at rows d
+older-packets rows d = ap (λ (row : Row). packets_in row.window.items) (row_at-older rows d) ∙ packets-older (row_at rows d).window.items
+
+pub older-marked : (rows : List Row) (d k : ℕ) → marked (map older_row rows) d k ≡ marked rows d k
+older-marked rows d k =
+    ap (λ (row : Row). is_marked row k) (row_at-older rows d) ∙ ap (λ (ks : List ℕ). is_past (row_at rows d).next ks k) (packets-older (row_at rows d).window.items)
+
+pub older-counted : (rows : List Row) (d k : ℕ) → counted (map older_row rows) d k ≡ counted rows d k + cond (among (window_at rows d) k) 1 0
+older-counted rows d k = ap (λ (row : Row). count_in row.window.items k) (row_at-older rows d) ∙ count_in-older (row_at rows d).window.items k
+
+older-stands : (s : Upload) (p : Phase) (d : ℕ) (row : Row) → RowStands s p d row → RowStands s p d (older_row row)
+older-stands s p d row stands =
+    let h = stands.shape in
+    let long = length-map row.window.items older in
+    record {
+      shape = record {
+        rising = subst (λ (ks : List ℕ). IsBetween (first_of s p d) row.next ks) (sym (packets-older row.window.items)) h.rising;
+        from = h.from;
+        past = h.past;
+        few = let few = h.few in omega arith;
+        full = elim h.full [ inl four ↦ inl (long ∙ four) | inr last ↦ inr last ];
+      };
+      until = stands.until ∙ ap (λ (ks : List ℕ). first_of s p d + allowed s p (λ i k. is_past row.next ks k) d) (sym (packets-older row.window.items));
+    }
+
+pub older-rows : (s : Upload) (p : Phase) (rows : List Row) → RowsStand s p rows → RowsStand s p (map older_row rows)
+older-rows s p rows stand = record {
+  count = length-map rows older_row ∙ stand.count;
+  each = λ d l. subst (RowStands s p d) (sym (row_at-older rows d)) (older-stands s p d (row_at rows d) (stand.each d l));
+}
+
+pub older-phase : (s : Upload) (rows : List Row) → phase_of s (marked rows) ≡ phase_of s (marked (map older_row rows))
+older-phase s rows = sym (phase_of-agree s (marked (map older_row rows)) (marked rows) (λ d k l b. older-marked rows d k))
+
+-- ---- a tick
+
+module _ (s : Upload) (p : Phase) (rows : List Row) (stand : RowsStand s p rows) (phase : p ≡ phase_of s (marked rows)) (answer : Progress)
+    (answer_is : answer ≡ gave_up (find (λ x. counted (map older_row rows) x.drone x.packet == 20) (in_windows rows (length rows)))) where
+  windows : in_windows rows (length rows) ≡ flight_after s (marked rows)
+  windows = ap (in_windows rows) stand.count ∙ sym (windows-flight s p rows stand phase)
+
+  module _ (h : List Event) (stands : HostStandsFor (record { session = s; marked = marked rows; counted = counted rows; progress = Going }) h) where
+    agree : Agree s (marked rows) (acked s h)
+    agree d k l b = stands.marked (inl refl) d k l b
+
+    in_flight : in_windows rows (length rows) ≡ flight s h
+    in_flight = windows ∙ flight_after-agree s (marked rows) (acked s h) agree
+
+    includes_is : (x : Sent) → x.drone < drone_count s → includes (flight s h) x ≡ among (window_at rows x.drone) x.packet
+    includes_is x l = ap (λ (xs : List Sent). includes xs x) (sym in_flight) ∙ includes-windows rows (length rows) x (let n = stand.count in omega arith)
+
+    ticks_more : (x : Sent) → x.drone < drone_count s → includes (flight s h) x ≡ true → counted (map older_row rows) x.drone x.packet ≡ ticks s (h ++ event.Tick ∷ []) x
+    ticks_more x l there =
+        older-counted rows x.drone x.packet ∙ ap (λ (n : ℕ). n + cond (among (window_at rows x.drone) x.packet) 1 0) (stands.counted refl x l there)
+        ∙ ap (λ b. ticks s h x + cond b 1 0) (sym (includes_is x l)) ∙ sym (ticks-push s h event.Tick x)
+
+    pub answer-tick : answer ≡ progress s (h ++ event.Tick ∷ [])
+    answer-tick =
+        answer_is
+        ∙ ap gave_up (find-agree (λ x. counted (map older_row rows) x.drone x.packet == 20) (λ x. eqb (ticks s (h ++ event.Tick ∷ []) x) 20) (in_windows rows (length rows))
+        (all-windows (λ x. (counted (map older_row rows) x.drone x.packet == 20) ≡ eqb (ticks s (h ++ event.Tick ∷ []) x) 20) rows (length rows)
+        (λ d k l f.
+        let n = stand.count in
+        let known : d < drone_count s = omega arith in
+        ap (λ (m : ℕ). m == 20) (ticks_more (record { drone = d; packet = k }) known (includes_is (record { drone = d; packet = k }) known ∙ f)))))
+        ∙ ap (λ (xs : List Sent). gave_up (find (λ x. eqb (ticks s (h ++ event.Tick ∷ []) x) 20) xs)) in_flight
+        ∙ sym (progress-tick s h (sym stands.answer))
+
+    pub stands-tick : HostStandsFor (record { session = s; marked = marked (map older_row rows); counted = counted (map older_row rows); progress = answer }) (h ++ event.Tick ∷ [])
+    stands-tick = record {
+      answer = answer-tick;
+      marked = λ either d k l b. older-marked rows d k ∙ agree d k l b ∙ ap (λ (f : Packets). f d k) (sym (acked-tick s h));
+      counted = λ going x l there. ticks_more x l (ap (λ (xs : List Sent). includes xs x) (sym (flight-tick s h)) ∙ there);
+    }
+
+    pub sent-tick : if_going answer (in_windows rows (length rows)) ≡ out s h event.Tick
+    unfolding out
+    sent-tick = ap (λ (q : Progress). if_going q (in_windows rows (length rows))) answer-tick ∙ ap (if_going (progress s (h ++ event.Tick ∷ []))) in_flight
+
+-- ---- an answer
+
+acknowledges-agree : (s : Upload) (f g : Packets) (e : Event) → Agree s f g → acknowledges s f e ≡ acknowledges s g e
+unfolding acknowledges
+acknowledges-agree s f g e same = ap (find (λ x. is_good (reply_to s x.drone x.packet e))) (flight_after-agree s f g same)
+
+joined-agree : (f g : Packets) (o : Option Sent) (d k : ℕ) → f d k ≡ g d k → joined f o d k ≡ joined g o d k
+joined-agree f g None d k e = e
+joined-agree f g (Some x) d k e = ap (λ b. b || (x.drone == d && x.packet == k)) e
+
+module _ (s : Upload) (rows rows' : List Row) (from : ℕ) (packet : List ℕ) (answer : Progress)
+    (marks_is : (d k : ℕ) → d < drone_count s → marked rows' d k ≡ joined (marked rows) (acknowledges s (marked rows) (event.Up from packet)) d k)
+    (counts_is : (x : Sent) → includes (flight_after s (marked rows')) x ≡ true →
+    counted rows' x.drone x.packet ≡ cond (includes (flight_after s (marked rows)) x) (counted rows x.drone x.packet) 0)
+    (finished : list_all (λ x. marked rows' x.drone x.packet) (all_packets s) ≡ true → answer ≡ Done)
+    (unfinished : list_all (λ x. marked rows' x.drone x.packet) (all_packets s) ≡ false → answer
+    ≡ ended_for s (event.Up from packet) (find (λ x. ends_for s (marked rows') (event.Up from packet) x) (all_packets s))) where
+  abbrev up : Event
+  up = event.Up from packet
+
+  pub ready-hear : (IsLow rows') → answer ≡ Going → IsReady s rows'
+  ready-hear low going = record { unfinished = at (list_all (λ x. marked rows' x.drone x.packet) (all_packets s)) refl; low = low } where
+    at : (b : Bool) → list_all (λ x. marked rows' x.drone x.packet) (all_packets s) ≡ b → b ≡ false
+    at true e = let done_now = finished e in absurd (cc)
+    at false e = refl
+
+  module _ (h : List Event) (stands : HostStandsFor (record { session = s; marked = marked rows; counted = counted rows; progress = Going }) h) where
+    before : Agree s (marked rows) (acked s h)
+    before d k l b = stands.marked (inl refl) d k l b
+
+    now : Agree s (marked rows') (acked s (h ++ up ∷ []))
+    now d k l b =
+        marks_is d k l
+        ∙ ap (λ (o : Option Sent). joined (marked rows) o d k) (acknowledges-agree s (marked rows) (acked s h) up before)
+        ∙ joined-agree (marked rows) (acked s h) (acknowledges s (acked s h) up) d k (before d k l b)
+        ∙ ap (λ (f : Packets). f d k) (sym (acked-push s h up))
+
+    same_test : SameTest s (λ x. ends_for s (marked rows') up x) (λ x. ends_for s (acked s (h ++ up ∷ [])) up x)
+    same_test d k l b =
+        ap (λ t. is_end (reply_to s d k up) && counts s (marked rows') d k && not t) (now d k l b)
+        ∙ ap (λ t. is_end (reply_to s d k up) && (nat_lt k (load_count s d) || not s.readback || t) && not (acked s (h ++ up ∷ []) d k))
+        (all_settled-agree s Loading (marked rows') (acked s (h ++ up ∷ [])) now)
+
+    pub answer-hear : answer ≡ progress s (h ++ up ∷ [])
+    answer-hear = by_all (list_all (λ x. marked rows' x.drone x.packet) (all_packets s)) refl ∙ sym (progress-next s h up (sym stands.answer)) where
+      all_same : list_all (λ x. marked rows' x.drone x.packet) (all_packets s) ≡ list_all (λ x. acked s (h ++ up ∷ []) x.drone x.packet) (all_packets s)
+      all_same = list_all-packets_agree s (λ x. marked rows' x.drone x.packet) (λ x. acked s (h ++ up ∷ []) x.drone x.packet) now
+
+      by_all : (b : Bool) → list_all (λ x. marked rows' x.drone x.packet) (all_packets s) ≡ b →
+          answer ≡ cond (list_all (λ x. acked s (h ++ up ∷ []) x.drone x.packet) (all_packets s)) Done (ended_by s (h ++ up ∷ []) (Some up))
+      by_all true e = finished e ∙ sym (ap (λ t. cond t Done (ended_by s (h ++ up ∷ []) (Some up))) (sym all_same ∙ e))
+      by_all false e =
+          unfinished e
+          ∙ ap (ended_for s up) (find-packets_agree s (λ x. ends_for s (marked rows') up x) (λ x. ends_for s (acked s (h ++ up ∷ [])) up x) same_test)
+          ∙ sym (ap (λ t. cond t Done (ended_by s (h ++ up ∷ []) (Some up))) (sym all_same ∙ e))
+
+    flights : flight_after s (marked rows) ≡ flight s h
+    flights = flight_after-agree s (marked rows) (acked s h) before
+
+    flights' : flight_after s (marked rows') ≡ flight s (h ++ up ∷ [])
+    flights' = flight_after-agree s (marked rows') (acked s (h ++ up ∷ [])) now
+
+    counts_stand : (x : Sent) → x.drone < drone_count s → includes (flight s (h ++ up ∷ [])) x ≡ true → counted rows' x.drone x.packet ≡ ticks s (h ++ up ∷ []) x
+    counts_stand x l there =
+        counts_is x (ap (λ (xs : List Sent). includes xs x) flights' ∙ there)
+        ∙ ap (λ (xs : List Sent). cond (includes xs x) (counted rows x.drone x.packet) 0) flights
+        ∙ by_flight (includes (flight s h) x) refl
+        ∙ (let e : ticks s h x ≡ ticks s h x + 0 = omega arith in e) ∙ sym (ticks-push s h up x) where
+          opened : acked s (h ++ up ∷ []) x.drone x.packet ≡ false
+          opened = (flight-open s (phase_of s (acked s (h ++ up ∷ []))) (acked s (h ++ up ∷ [])) x.drone x.packet
+              (sym (includes-flight_at s (phase_of s (acked s (h ++ up ∷ []))) (acked s (h ++ up ∷ [])) x l) ∙ there)).2
+
+          by_flight : (b : Bool) → includes (flight s h) x ≡ b → cond b (counted rows x.drone x.packet) 0 ≡ ticks s h x
+          by_flight true e = stands.counted refl x l e
+          by_flight false e =
+              sym (ticks-none s h x l (false_from_ne_true (acked s h x.drone x.packet) (λ t. false≢true (sym opened ∙ acked-more s h (up ∷ []) x.drone x.packet t))) e)
+
+    pub stands-hear : HostStandsFor (record { session = s; marked = marked rows'; counted = counted rows'; progress = answer }) (h ++ up ∷ [])
+    stands-hear = record {
+      answer = answer-hear;
+      marked = λ either d k l b. now d k l b;
+      counted = λ going x l there. counts_stand x l there;
+    }
+
+    pub sent-hear : if_going answer (filter (λ x. not (includes (flight_after s (marked rows)) x)) (flight_after s (marked rows'))) ≡ out s h up
+    unfolding out
+    sent-hear =
+        ap (λ (q : Progress). if_going q (filter (λ x. not (includes (flight_after s (marked rows)) x)) (flight_after s (marked rows')))) answer-hear
+        ∙ ap (λ (xs : List Sent). if_going (progress s (h ++ up ∷ [])) (filter (λ x. not (includes xs x)) (flight_after s (marked rows')))) flights
+        ∙ ap (λ (xs : List Sent). if_going (progress s (h ++ up ∷ [])) (filter (λ x. not (includes (flight s h) x)) xs)) flights'
+
+-- ---- after the end
+
+pub stands-ended : (host : HostView) (h : List Event) (e : Event) → host.progress ≢ Going → HostStandsFor host h → HostStandsFor host (h ++ e ∷ [])
+stands-ended host h e ended stands = record {
+  answer = stands.answer ∙ sym (progress-stays host.session h (e ∷ []) (λ g. ended (stands.answer ∙ g)));
+  marked = λ either. elim either [
+    | inl going ↦ absurd (ended going)
+    | inr done ↦ λ d k l b.
+        let all = acked-done host.session h (sym stands.answer ∙ done) d k l b in
+        stands.marked (inr done) d k l b ∙ all ∙ sym (acked-more host.session h (e ∷ []) d k all)
+  ];
+  counted = λ going. absurd (ended going);
+}
+
+if_going-ended : (p : Progress) (xs : List Sent) → p ≢ Going → if_going p xs ≡ []
+if_going-ended Going xs h = absurd (h refl)
+if_going-ended Done xs h = refl
+if_going-ended (GaveUp d k) xs h = refl
+if_going-ended (Refused d k status) xs h = refl
+if_going-ended (Differs d address bytes got) xs h = refl
+
+pub sent-ended : (host : HostView) (h : List Event) (e : Event) → host.progress ≢ Going → HostStandsFor host h → out host.session h e ≡ []
+unfolding out
+sent-ended host h e ended stands =
+    let stays = (stands-ended host h e ended stands).answer in
+    if_going-ended (progress host.session (h ++ e ∷ [])) (sent_at host.session h e) (λ g. ended (stays ∙ g))

@@ -1,0 +1,21 @@
+-- Why `hear_tick` keeps its contract, at the places where the check needs to be told.
+use Rattle.std.proofs.Common.{◌≢◌, ◌∙◌, ap, sym, refl, subst, List}
+use Rattle.std.specs.Prelude.{All}
+use Rattle.std.proofs.lemmas.List.Elements.{All-nil}
+use Rattle.upload_model.specs.declared.events.Sent.{Sent}
+use Rattle.upload_model.specs.declared.events.Event.TheVariants as event
+use Rattle.upload_model.specs.declared.events.Progress.TheVariants.{Going}
+use Rattle.upload_core.specs.HostState.{HostState, IsPacketOf, view_of}
+use Rattle.upload_core.proofs.Standing.{stands-ended, sent-ended}
+use Rattle.upload_core.proofs.host.Host.hear_tick.Goals as goal
+
+pub returns-in_default : goal.returns-in_default
+returns-in_default c =
+    let ended : c.args.self.now.progress ≢ Going = λ g. c.in_default.not-Going (ap (λ (v : HostState). v.progress) c.self.view_is ∙ g) in
+    record {
+      session = refl;
+      stands = λ h stands. stands-ended (view_of c.args.self.now) h event.Tick ended stands;
+      sent = λ h stands. c.clear.ensures ∙ sym (sent-ended (view_of c.args.self.now) h event.Tick ended stands);
+      known = subst (λ (xs : List Sent). All (IsPacketOf c.args.self.now.session) xs) (sym c.clear.ensures) (All-nil (IsPacketOf c.args.self.now.session));
+      answer = λ h stands. ap (λ (v : HostState). v.progress) c.self.view_is ∙ (stands-ended (view_of c.args.self.now) h event.Tick ended stands).answer;
+    }

@@ -1,0 +1,9 @@
+-- What holds whenever the loop of `first_tired` begins a turn.
+use Rattle.std.proofs.Common.{◌≡◌, ◌==◌, None}
+use Rattle.std.specs.Prelude.{find}
+use Rattle.upload_core.specs.Rows.{counted}
+use Rattle.upload_core.specs.Steps.{in_windows}
+use Rattle.upload_core.proofs.rows.first_tired.Given as goal
+
+abbrev pub invariant-loop-drone : goal.invariant-loop-drone
+invariant-loop-drone l = find (λ x. counted l.rows x.drone x.packet == 20) (in_windows l.rows l.drone) ≡ None
