@@ -5,7 +5,7 @@ use Rattle.upload_model.specs.declared.events.Event.TheVariants as event
 use Rattle.upload_model.specs.Sessions.{drone_count}
 use Rattle.upload_model.specs.Worlds as Worlds
 use Rattle.upload_model.specs.Worlds.{host_event, happens}
-use Rattle.fleet_world.specs.WorldState.{WorldState, WorldStandsAt, Readback}
+use Rattle.fleet_world.specs.WorldState.{WorldState, WorldStandsAt}
 use Rattle.fleet_world.specs.Mail.{row_of, rows_of, Row}
 use Rattle.fleet_world.proofs.Points.{take-unknown, hear-unknown, take-named, hear-named, tick-happens, on_ok, alter-nothing, alter-there}
 use Rattle.std.proofs.Common.{inl, inr}

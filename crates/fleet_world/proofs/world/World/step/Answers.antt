@@ -6,10 +6,10 @@ use Rattle.firmware_memory.specs.declared.drone.Drone.{Drone}
 use Rattle.fleet_world.specs.WorldState.{state_at}
 use Rattle.upload_model.specs.declared.events.Progress.{Progress}
 use Rattle.upload_model.specs.declared.events.WorldEvent.{WorldEvent}
-use Rattle.upload_model.specs.Hosts.{progress_of}
+use Rattle.upload_model.specs.Hosts.{progress as progress_of}
 use Rattle.upload_model.specs.Worlds.{happens, world}
 use Rattle.upload_model.proofs.Sending.{world-last}
-use Rattle.fleet_world.specs.WorldState.{WorldStandsAt, WorldStandsFor, Readback}
+use Rattle.fleet_world.specs.WorldState.{WorldStandsAt, WorldStandsFor}
 use Rattle.fleet_world.proofs.Points.{on_ok, if_ok}
 use Rattle.fleet_world.proofs.world.World.step.Goals as goal
 

@@ -2,9 +2,9 @@
 use Rattle.std.proofs.Common.{ap}
 use Rattle.upload_model.proofs.HostSteps.{progress-nil}
 use Rattle.link_upload.specs.Links.{status_of}
-use Rattle.link_upload.proofs.host.HostLinkHost.drone_count.Goals as goal
+use Rattle.link_upload.proofs.host.drone_count.Goals as goal
 
 pub returns-clause-going : goal.returns-clause-going
 returns-clause-going c =
     let some = rw c.session.ensures at (rw c.drones.ensures.value at c.drones.ensures.some) in
-    ap status_of (progress-nil c.args.self.now.session some)
+    ap status_of (progress-nil c.args.host.now.session some)
