@@ -8,9 +8,10 @@ use Rattle.std.proofs.lemmas.List.{append-nil, append_assoc, get_or-set_same, ge
 use Rattle.std.proofs.lemmas.List.Elements.{filter-append}
 use Rattle.std.proofs.lemmas.List.Folds.{find-append}
 use Rattle.upload_model.specs.declared.events.Phase.{Phase}
+use Rattle.upload_model.specs.declared.events.Phase.TheVariants.{Loading, Reading, Starting}
 use Rattle.upload_model.specs.declared.events.Sent.{Sent}
 use Rattle.upload_model.specs.Sessions.{Upload, drone_count, first_of, count_of}
-use Rattle.upload_model.specs.Hosts.{Packets, all_settled, phase_of, includes, flight_in, flight_at, flight_after, sent_to}
+use Rattle.upload_model.specs.Hosts.{Packets, allowed, all_settled, phase_of, includes, flight_in, flight_at, flight_after, sent_to}
 use Rattle.upload_model.proofs.HostSteps.{range-more, list_all-range-agree, flat_map-range-agree}
 use Rattle.upload_core.specs.declared.row.InFlight.{InFlight}
 use Rattle.upload_core.specs.declared.row.Row.{Row}
@@ -36,8 +37,14 @@ row_at-set_other rows d i r other = get_or-set_other rows d i r (record { window
 
 -- ---- what is in flight
 
+-- how far a drone may go depends on its own row
+own-row : (s : Upload) (p : Phase) (rows : List Row) (d : ℕ) → allowed s p (marked rows) d ≡ allowed s p (λ i k. is_marked (row_at rows d) k) d
+own-row s Loading rows d = refl
+own-row s Reading rows d = refl
+own-row s Starting rows d = refl
+
 pub window-flight : (s : Upload) (p : Phase) (rows : List Row) → RowsStand s p rows → (d : ℕ) → d < drone_count s → flight_in s p (marked rows) d ≡ window_at rows d
-window-flight s p rows stand d l = row-flight s p d (row_at rows d) (stand.each d l) (marked rows) (λ k. refl) refl
+window-flight s p rows stand d l = row-flight s p d (row_at rows d) (stand.each d l) (marked rows) (λ k. refl) (own-row s p rows d)
 
 pub windows-flight_at : (s : Upload) (p : Phase) (rows : List Row) → RowsStand s p rows → flight_at s p (marked rows) ≡ in_windows rows (drone_count s)
 unfolding flight_at
