@@ -18,11 +18,11 @@ use Rattle.upload_model.specs.Sessions.{Upload, drone_count, load_count, packet_
 use Rattle.upload_model.specs.Replies.{reply_to, is_good, is_end}
 use Rattle.upload_model.specs.Hosts.{Packets, all_settled, phase_of, allowed, includes, gave_up, if_going, sent_at, sent_to, all_packets, acknowledges, joined, acked, counts, flight_in, flight_after, flight, is_tick, ticks, ended_for, ends_for, ended_by, progress, out}
 use Rattle.upload_model.proofs.HostLaws.{All-flat_map_range, acked-push, acked-more, acked-done}
-use Rattle.upload_model.proofs.HostSteps.{acked-tick, flight-tick, ticks-push, progress-stays, progress-next, progress-tick, Agree, all_settled-agree, phase_of-agree, flight_after-agree}
+use Rattle.upload_model.proofs.HostSteps.{flat_map-range-agree, acked-tick, flight-tick, ticks-push, progress-stays, progress-next, progress-tick, Agree, all_settled-agree, phase_of-agree, flight_after-agree}
 use Rattle.upload_core.specs.declared.row.InFlight.{InFlight}
 use Rattle.upload_core.specs.declared.row.Row.{Row}
 use Rattle.upload_core.specs.Rows.{packets_in, among, is_past, is_marked, row_at, marked, window_at, counted, count_in}
-use Rattle.upload_core.specs.Steps.{IsBetween, older, older_row, RowStands, RowsStand, IsReady, IsLow, in_windows}
+use Rattle.upload_core.specs.Steps.{IsBetween, IsRow, older, older_row, RowStands, RowsStand, IsReady, IsLow, in_windows}
 use Rattle.upload_core.specs.HostState.{HostView}
 use Rattle.upload_core.specs.HostStandsFor.{HostStandsFor}
 use Rattle.upload_core.proofs.RowLemmas.{packets-older, count_in-older}
@@ -116,20 +116,26 @@ older-marked rows d k =
 pub older-counted : (rows : List Row) (d k : ℕ) → counted (map older_row rows) d k ≡ counted rows d k + cond (among (window_at rows d) k) 1 0
 older-counted rows d k = ap (λ (row : Row). count_in row.window.items k) (row_at-older rows d) ∙ count_in-older (row_at rows d).window.items k
 
-older-stands : (s : Upload) (p : Phase) (d : ℕ) (row : Row) → RowStands s p d row → RowStands s p d (older_row row)
-older-stands s p d row stands =
-    let h = stands.shape in
+pub older-windows : (rows : List Row) (n : ℕ) → in_windows (map older_row rows) n ≡ in_windows rows n
+older-windows rows n =
+    flat_map-range-agree (λ d. sent_to d (window_at (map older_row rows) d)) (λ d. sent_to d (window_at rows d)) 0 n (λ d l b. ap (sent_to d) (older-packets rows d))
+
+pub older-row : (a : ℕ) (row : Row) → IsRow a row → IsRow a (older_row row)
+older-row a row h =
     let long = length-map row.window.items older in
     record {
-      shape = record {
-        rising = subst (λ (ks : List ℕ). IsBetween (first_of s p d) row.next ks) (sym (packets-older row.window.items)) h.rising;
-        from = h.from;
-        past = h.past;
-        few = let few = h.few in omega arith;
-        full = elim h.full [ inl four ↦ inl (long ∙ four) | inr last ↦ inr last ];
-      };
-      until = stands.until ∙ ap (λ (ks : List ℕ). first_of s p d + allowed s p (λ i k. is_past row.next ks k) d) (sym (packets-older row.window.items));
+      rising = subst (λ (ks : List ℕ). IsBetween a row.next ks) (sym (packets-older row.window.items)) h.rising;
+      from = h.from;
+      past = h.past;
+      few = let few = h.few in omega arith;
+      full = elim h.full [ inl four ↦ inl (long ∙ four) | inr last ↦ inr last ];
     }
+
+older-stands : (s : Upload) (p : Phase) (d : ℕ) (row : Row) → RowStands s p d row → RowStands s p d (older_row row)
+older-stands s p d row stands = record {
+  shape = older-row (first_of s p d) row stands.shape;
+  until = stands.until ∙ ap (λ (ks : List ℕ). first_of s p d + allowed s p (λ i k. is_past row.next ks k) d) (sym (packets-older row.window.items));
+}
 
 pub older-rows : (s : Upload) (p : Phase) (rows : List Row) → RowsStand s p rows → RowsStand s p (map older_row rows)
 older-rows s p rows stand = record {

@@ -112,11 +112,14 @@ fn first_tired(rows: &[Row]) -> Option<Sent>
     ensures { result ≡ find (λ x. counted rows.now x.drone x.packet == TICKS_TO_GIVE_UP) (in_windows rows.now (length rows.now)) }
 {
     for drone in 0..rows.len() {
-        if let Some(packet) = rows[drone].tired() {
-            return Some(Sent {
-                drone: drone as u8,
-                packet,
-            });
+        match rows[drone].tired() {
+            Some(packet) => {
+                return Some(Sent {
+                    drone: drone as u8,
+                    packet,
+                });
+            }
+            None => {}
         }
     }
     None
