@@ -1,7 +1,8 @@
 -- Which packets of a drone a message says nothing of.
 use Rattle.std.proofs.Common.{◌≡◌, ◌≢◌, ◌==◌, ℕ, ◌+◌, ◌-◌, ◌*◌, ◌<◌, ◌≤◌, Bool, true, false, not, cond, ◌&&◌, ◌||◌, eqb, ltb, leb, List, [], ◌∷◌, length, take, drop, get_or, refl, ap, sym, ◌∙◌, arith, Some, None, Ok, inl, inr}
 use Rattle.std.specs.Str.{bytes_eq}
-use Rattle.std.proofs.lemmas.Bool.{cases_Bool, and_parts, false≢true, eqb-true, ltb-true, not-true, lt-ltb, false_from_ne_true, cases_lt, lt-leb}
+use Rattle.arrayvec.specs.ArrayVec.{ArrayVec}
+use Rattle.std.proofs.lemmas.Bool.{cases_Bool, and_parts, false≢true, eqb-true, ltb-true, leb-true, not-true, lt-ltb, false_from_ne_true, cases_lt, lt-leb}
 use Rattle.std.proofs.lemmas.Slice.Eq.{bytes_eq-Decides}
 use Rattle.crtp_packets.specs.declared.reading.Up.TheVariants.{WriteAnswer, ReadAnswer, CommandAnswer}
 use Rattle.upload_model.specs.declared.events.Reply.TheVariants.{Silent}
@@ -41,3 +42,20 @@ command-silent s d j first status b define start = elim (cases_Bool (is_read s d
   by_kind p past same (a_define e) = define e (ap (λ (xs : List ℕ). get_or xs 0 0) same ∙ ap (λ (xs : List ℕ). get_or (take 3 (drop 1 xs)) 0 0) (packet_at-define s d j e))
   by_kind p past same (a_read i m e) = false≢true (sym p ∙ is_read-at s d j i m e)
   by_kind p past same (a_start e f) = start e f (ap (λ (xs : List ℕ). get_or xs 0 0) same ∙ ap (λ (xs : List ℕ). get_or (take 3 (drop 1 xs)) 0 0) (packet_at-start s d j e))
+
+pub read-silent : (s : Upload) (d j id address status : ℕ) (piece : ArrayVec ℕ) →
+    ((i : ℕ) → i < read_count s d → j ≡ load_count s d + i → id ≡ s.memory_id → address ≡ read_address s i → ⊥) →
+    reply_in s d j (Ok (ReadAnswer id address status piece)) ≡ Silent
+read-silent s d j id address status piece never = elim (cases_Bool (is_read s d j)) [
+  | inl r ↦
+      let inside = and_parts (leb (load_count s d) j) (ltb j (start_number s d)) r in
+      let past : load_count s d ≤ j = leb-true (load_count s d) j inside.0 in
+      let below : j < start_number s d = ltb-true j (start_number s d) inside.1 in
+      reply-of_read s d j (Ok (ReadAnswer id address status piece)) r
+      ∙ ap (λ (b : Bool). read_reply s d j (j - load_count s d) (cond b (Some (record { status = status; bytes = piece.items })) None))
+      (false_from_ne_true (eqb id s.memory_id && eqb address (read_address s (j - load_count s d)) && (not (eqb status 0) || eqb (length piece.items) (length (wanted s d (j - load_count s d))))) (λ all.
+      let outer = and_parts (eqb id s.memory_id && eqb address (read_address s (j - load_count s d))) (not (eqb status 0) || eqb (length piece.items) (length (wanted s d (j - load_count s d)))) all in
+      let inner = and_parts (eqb id s.memory_id) (eqb address (read_address s (j - load_count s d))) outer.0 in
+      never (j - load_count s d) (omega (arith, past, below)) (omega (arith, past)) (eqb-true id s.memory_id inner.0) (eqb-true address (read_address s (j - load_count s d)) inner.1)))
+  | inr p ↦ reply-plain s d j (Ok (ReadAnswer id address status piece)) p
+]
