@@ -5,6 +5,7 @@ import re
 import signal
 import subprocess
 import sys
+import tempfile
 
 sys.dont_write_bytecode = True  # so that importing leaves no file beside the tools
 import choreo
@@ -91,7 +92,10 @@ def ask_dynamics(text, program=None):
     program = program or choreo.PROGRAM
     if no_program(program):
         return None
-    done = subprocess.run([os.path.abspath(program), "dynamics"], input=text, stdout=subprocess.PIPE)
+    with tempfile.TemporaryFile() as source:  # and no pipe: an older program ends without reading it
+        source.write(text)
+        source.seek(0)
+        done = subprocess.run([os.path.abspath(program), "dynamics"], stdin=source, stdout=subprocess.PIPE)
     if done.returncode:
         return None
     found = {}
