@@ -1,40 +1,43 @@
 -- From one point of an upload to the next.
-use Rattle.std.proofs.Common.{◌≡◌, ◌≢◌, ◌==◌, ℕ, ◌<◌, Bool, cond, List, [], ◌∷◌, ◌++◌, length, refl, ap, sym, ◌∙◌, arith, Option, ◌≤◌, Result, Ok, Err, inl, inr}
+use Rattle.std.proofs.Common.{◌≡◌, ◌≢◌, ◌==◌, ℕ, zero, suc, replicate, ◌<◌, Bool, cond, ltb, List, [], ◌∷◌, ◌++◌, length, map, filter, refl, ap, sym, ◌∙◌, arith, Option, ◌≤◌, ◌⊎◌, Result, Ok, Err, inl, inr}
 use Rattle.std.specs.Prelude.{slice_get, slice_set, OnOk, IfOk}
-use Rattle.std.proofs.lemmas.List.{length-set}
-use Rattle.std.proofs.lemmas.Bool.{le-ltb, lt-ltb, eq-eqb, ne_eqb, cases_eq, cond-true, cond-false}
+use Rattle.std.proofs.lemmas.List.{length-set, map-append, append-nil}
+use Rattle.std.proofs.lemmas.List.Elements.{filter-append}
+use Rattle.std.proofs.lemmas.Bool.{le-ltb, lt-ltb, eq-eqb, ne_eqb, cases_eq, cond-true, cond-false, and_left, and_right, and_from}
 use Rattle.upload_model.specs.declared.events.Event.{Event}
+use Rattle.upload_model.specs.declared.events.Event.TheVariants as event
 use Rattle.upload_model.specs.declared.events.Sent.{Sent}
 use Rattle.upload_model.specs.declared.events.Progress.{Progress}
-use Rattle.upload_model.specs.declared.events.Event.TheVariants as event
-use Rattle.upload_model.specs.declared.events.WorldEvent.{WorldEvent}
-use Rattle.upload_model.specs.declared.events.WorldEvent.TheVariants.{Tick, Take, Hear}
+use Rattle.upload_model.specs.declared.events.Progress.TheVariants.{Going}
+use Rattle.upload_model.specs.declared.events.WorldEvent.TheVariants.{Tick, Take, Hear, Alter}
 use Rattle.upload_model.specs.Drones.{DroneState, handled}
-use Rattle.upload_model.specs.Sessions.{Upload, drone_count}
-use Rattle.upload_model.specs.Hosts.{out, progress}
+use Rattle.upload_model.specs.Sessions.{Upload, IsSession, drone_count, packet_at}
+use Rattle.upload_model.specs.Hosts.{flight, out as out_of, progress as progress_of}
 use Rattle.upload_model.specs.Worlds as Worlds
-use Rattle.upload_model.specs.Worlds.{packets_for, host_event, start_world, run, happens, took, take_named, hear_named, option_list}
+use Rattle.upload_model.specs.Worlds.{packets_for, changed, took, take_named, hear_named, option_list, altered, start_world, host_event, happens}
+use Rattle.upload_model.proofs.HostSteps.{progress-nil}
+use Rattle.upload_model.proofs.OneDrone.{slice_get-set_same, slice_get-set_other}
 use Rattle.firmware_memory.specs.declared.drone.Drone.{Drone}
 use Rattle.firmware_memory.specs.Shown.{shown}
-use Rattle.upload_model.proofs.OneDrone.{slice_get-set_same, slice_get-set_other}
 use Rattle.upload_core.specs.HostState.{HostState, view_of}
 use Rattle.upload_core.specs.HostStandsFor.{HostStandsFor}
-use Rattle.upload_model.specs.Hosts.{flight}
-use Rattle.fleet_world.specs.WorldState.{WorldView, IsAt, state_of, state_at}
+use Rattle.fleet_world.specs.Mail.{row_of}
+use Rattle.fleet_world.specs.WorldState.{WorldState, WorldStandsAt, state_of, state_at}
 
 -- the rows after these packets were put after those of their drones
-abbrev pub AfterPut : Upload → List Sent → (ℕ → List (List ℕ)) → (ℕ → List (List ℕ)) → Type 0
-AfterPut s out old new = (d : ℕ) → new d ≡ old d ++ packets_for s out d
+abbrev pub AfterPut : Upload → List Sent → List (List (List ℕ)) → List (List (List ℕ)) → Type 0
+AfterPut s out old new = (d : ℕ) → row_of new d ≡ row_of old d ++ packets_for s out d
 
-pub stands-host_event : (v : WorldView) (s : Upload) (w : Worlds.World) (e : Event) (host' : HostState) (sent : List Sent) (sent' given' : ℕ → List (List ℕ)) (progress' : Progress) →
-    IsAt v s w → ((d : ℕ) → given' d ≡ v.given d) → host'.session ≡ v.host.session → HostStandsFor (view_of host') (w.heard ++ e ∷ []) → sent ≡ out v.host.session w.heard e →
-    AfterPut host'.session sent v.sent sent' → progress' ≡ progress v.host.session (w.heard ++ e ∷ []) →
-    IsAt (record { host = host'; drones = v.drones; sent = sent'; given = given'; progress = progress' }) s (host_event s w e)
+pub stands-host_event : (v : WorldState) (s : Upload) (w : Worlds.World) (e : Event) (host' : HostState) (sent : List Sent) (sent' : List (List (List ℕ))) (progress' : Progress) →
+    WorldStandsAt v s w → host'.session ≡ v.host.session → HostStandsFor (view_of host') (w.heard ++ e ∷ []) →
+    sent ≡ out_of v.host.session w.heard e →
+    AfterPut host'.session sent v.sent sent' → progress' ≡ progress_of v.host.session (w.heard ++ e ∷ []) →
+    WorldStandsAt (record { host = host'; drones = v.drones; sent = sent'; given = v.given; progress = progress' }) s (host_event s w e)
 unfolding host_event
-stands-host_event v s w e host' sent sent' given' progress' at kept same stands sent_is put progress_is = record {
+stands-host_event v s w e host' sent sent' progress' at same stands sent_is put progress_is = record {
   session = same ∙ at.session;
   host = stands;
-  progress = progress_is ∙ ap (λ (u : Upload). progress u (w.heard ++ e ∷ [])) at.session;
+  progress = progress_is ∙ ap (λ (u : Upload). progress_of u (w.heard ++ e ∷ [])) at.session;
   count = at.count;
   drones = at.drones;
   sent = λ d l.
@@ -42,29 +45,29 @@ stands-host_event v s w e host' sent sent' given' progress' at kept same stands 
       ∙ ap (λ (ps : List (List ℕ)). ps ++ packets_for host'.session sent d) (at.sent d l)
       ∙ ap (λ (ps : List (List ℕ)). w.sent d ++ ps)
       (ap (λ (u : Upload). packets_for u sent d) (same ∙ at.session)
-      ∙ ap (λ (xs : List Sent). packets_for s xs d) (sent_is ∙ ap (λ (u : Upload). out u w.heard e) at.session));
-  given = λ d l. kept d ∙ at.given d l;
+      ∙ ap (λ (xs : List Sent). packets_for s xs d) (sent_is ∙ ap (λ (u : Upload). out_of u w.heard e) at.session));
+  given = at.given;
 }
 
-pub stands-start : (s : Upload) (drones : List Drone) (host : HostState) (sent given : ℕ → List (List ℕ)) → host.session ≡ s → HostStandsFor (view_of host) [] → length drones ≡ drone_count s →
-    AfterPut host.session (flight host.session []) (λ d. []) sent → ((d : ℕ) → given d ≡ []) → (p : Progress) → p ≡ progress s [] →
-    IsAt (record { host = host; drones = drones; sent = sent; given = given; progress = p }) s (start_world s (state_at drones))
-unfolding start_world
-stands-start s drones host sent given same stands count put none p is = record {
-  session = same;
-  host = stands;
-  progress = is;
-  count = count;
-  drones = λ d l. refl;
-  sent = λ d l.
-      put d
-      ∙ ap (λ (u : Upload). packets_for u (flight u []) d) same;
-  given = λ d l. none d;
-}
+-- ---- packets that go to a drone, one more at the end
 
-pub run-push : (s : Upload) (w : Worlds.World) (es : List WorldEvent) (e : WorldEvent) → run s w (es ++ e ∷ []) ≡ happens s (run s w es) e
-run-push s w [] e = refl
-run-push s w (f ∷ es) e = run-push s (happens s w f) es e
+packets_for-append : (s : Upload) (xs ys : List Sent) (d : ℕ) → packets_for s (xs ++ ys) d ≡ packets_for s xs d ++ packets_for s ys d
+packets_for-append s xs ys d =
+    ap (map (λ (x : Sent). packet_at s x.drone x.packet)) (filter-append (λ (x : Sent). x.drone == d) xs ys)
+    ∙ map-append (λ (x : Sent). packet_at s x.drone x.packet) (filter (λ (x : Sent). x.drone == d) xs) (filter (λ (x : Sent). x.drone == d) ys)
+
+-- one packet more, for its own drone
+pub packets_for-here : (s : Upload) (xs : List Sent) (x : Sent) → packets_for s (xs ++ x ∷ []) x.drone ≡ packets_for s xs x.drone ++ packet_at s x.drone x.packet ∷ []
+packets_for-here s xs x =
+    packets_for-append s xs (x ∷ []) x.drone
+    ∙ ap (λ (b : Bool). packets_for s xs x.drone ++ map (λ (y : Sent). packet_at s y.drone y.packet) (cond b (x ∷ []) [])) (eq-eqb x.drone x.drone refl)
+
+-- and for another one none
+pub packets_for-other : (s : Upload) (xs : List Sent) (x : Sent) (d : ℕ) → d ≢ x.drone → packets_for s (xs ++ x ∷ []) d ≡ packets_for s xs d
+packets_for-other s xs x d other =
+    packets_for-append s xs (x ∷ []) d
+    ∙ ap (λ (b : Bool). packets_for s xs d ++ map (λ (y : Sent). packet_at s y.drone y.packet) (cond b (x ∷ []) [])) (ne_eqb x.drone d (λ e. other (sym e)))
+    ∙ append-nil (packets_for s xs d)
 
 -- ---- what names nothing changes nothing
 
@@ -104,10 +107,10 @@ state_at-set_same drones d x h = ap state_of (slice_get-set_same drones d x h)
 state_at-set_other : (drones : List Drone) (d i : ℕ) (x : Drone) → (i ≡ d → ⊥) → state_at (slice_set drones d x) i ≡ state_at drones i
 state_at-set_other drones d i x h = ap state_of (slice_get-set_other drones d i x h)
 
-pub stands-took : (v : WorldView) (s : Upload) (w : Worlds.World) (d : ℕ) (packet : List ℕ) (x : Drone) (answer : Option (List ℕ)) (given' : ℕ → List (List ℕ)) →
-    IsAt v s w → d < drone_count s → shown x ≡ (handled (state_at v.drones d) packet).drone → answer ≡ (handled (state_at v.drones d) packet).answer →
-    given' d ≡ v.given d ++ option_list answer → ((i : ℕ) → i ≢ d → given' i ≡ v.given i) →
-    IsAt (record { host = v.host; drones = slice_set v.drones d x; sent = v.sent; given = given'; progress = v.progress }) s (took w d (handled (w.drones d) packet))
+pub stands-took : (v : WorldState) (s : Upload) (w : Worlds.World) (d : ℕ) (packet : List ℕ) (x : Drone) (answer : Option (List ℕ)) (given' : List (List (List ℕ))) →
+    WorldStandsAt v s w → d < drone_count s → shown x ≡ (handled (state_at v.drones d) packet).drone → answer ≡ (handled (state_at v.drones d) packet).answer →
+    row_of given' d ≡ row_of v.given d ++ option_list answer → ((i : ℕ) → i ≢ d → row_of given' i ≡ row_of v.given i) →
+    WorldStandsAt (record { host = v.host; drones = slice_set v.drones d x; sent = v.sent; given = given'; progress = v.progress }) s (took w d (handled (w.drones d) packet))
 stands-took v s w d packet x answer given' at l drone_is answer_is here others = record {
   session = at.session;
   host = at.host;
@@ -126,7 +129,7 @@ stands-took v s w d packet x answer given' at l drone_is answer_is here others =
   sent = at.sent;
   given = λ i b. elim (cases_eq i d) [
     | inl same ↦
-        ap given' same ∙ here
+        ap (row_of given') same ∙ here
         ∙ ap (λ (ps : List (List ℕ)). ps ++ option_list answer) (at.given d l)
         ∙ ap (λ (o : Option (List ℕ)). w.given d ++ option_list o) (answer_is ∙ ap (λ (y : DroneState). (handled y packet).answer) (at.drones d l))
         ∙ sym (cond-true (i == d) (w.given d ++ option_list (handled (w.drones d) packet).answer) (w.given i) (eq-eqb i d same))
@@ -134,4 +137,62 @@ stands-took v s w d packet x answer given' at l drone_is answer_is here others =
         others i other ∙ at.given i b
         ∙ sym (cond-false (i == d) (w.given d ++ option_list (handled (w.drones d) packet).answer) (w.given i) (ne_eqb i d other))
   ];
+}
+
+-- ---- a byte is altered
+
+pub stands-altered : (v : WorldState) (s : Upload) (w : Worlds.World) (d address value : ℕ) (x : Drone) →
+    WorldStandsAt v s w → d < drone_count s → shown x ≡ altered (state_at v.drones d) address value →
+    WorldStandsAt (record { host = v.host; drones = slice_set v.drones d x; sent = v.sent; given = v.given; progress = v.progress }) s (record w { drones = changed w.drones d (altered (w.drones d) address value) })
+stands-altered v s w d address value x at l drone_is = record {
+  session = at.session;
+  host = at.host;
+  progress = at.progress;
+  count = length-set v.drones d x ∙ at.count;
+  drones = λ i b. elim (cases_eq i d) [
+    | inl same ↦
+        ap (state_at (slice_set v.drones d x)) same
+        ∙ state_at-set_same v.drones d x (let n = at.count in omega arith)
+        ∙ drone_is ∙ ap (λ (y : DroneState). altered y address value) (at.drones d l)
+        ∙ sym (cond-true (i == d) (altered (w.drones d) address value) (w.drones i) (eq-eqb i d same))
+    | inr other ↦
+        state_at-set_other v.drones d i x other ∙ at.drones i b
+        ∙ sym (cond-false (i == d) (altered (w.drones d) address value) (w.drones i) (ne_eqb i d other))
+  ];
+  sent = at.sent;
+  given = at.given;
+}
+
+pub alter-nothing : (s : Upload) (w : Worlds.World) (d address value : ℕ) → (drone_count s ≤ d) ⊎ (4096 ≤ address) → happens s w (Alter d address value) ≡ w
+unfolding happens
+alter-nothing s w d address value past =
+    ap (λ (b : Bool). cond b (record w { drones = changed w.drones d (altered (w.drones d) address value) }) w)
+    (elim past [ inl p ↦ and_left (ltb d (drone_count s)) (ltb address 4096) (le-ltb d (drone_count s) p) | inr p ↦ and_right (ltb d (drone_count s)) (ltb address 4096) (le-ltb address 4096 p) ])
+
+pub alter-there : (s : Upload) (w : Worlds.World) (d address value : ℕ) → d < drone_count s → address < 4096 →
+    happens s w (Alter d address value) ≡ record w { drones = changed w.drones d (altered (w.drones d) address value) }
+unfolding happens
+alter-there s w d address value l b =
+    ap (λ (t : Bool). cond t (record w { drones = changed w.drones d (altered (w.drones d) address value) }) w)
+    (and_from (ltb d (drone_count s)) (ltb address 4096) (lt-ltb d (drone_count s) l) (lt-ltb address 4096 b))
+
+-- ---- no event
+
+row_of-empty : (n d : ℕ) → row_of (replicate n []) d ≡ []
+row_of-empty zero d = refl
+row_of-empty (suc n) zero = refl
+row_of-empty (suc n) (suc d) = row_of-empty n d
+
+pub stands-start : (host : HostState) (drones : List Drone) (sent : List (List (List ℕ))) (n m : ℕ) → IsSession host.session → HostStandsFor (view_of host) [] →
+    length drones ≡ drone_count host.session → AfterPut host.session (flight host.session []) (replicate n []) sent →
+    WorldStandsAt (record { host = host; drones = drones; sent = sent; given = replicate m []; progress = Going }) host.session (start_world host.session (state_at drones))
+unfolding start_world
+stands-start host drones sent n m ok stands count put = record {
+  session = refl;
+  host = stands;
+  progress = sym (progress-nil host.session ok.some_drones);
+  count = count;
+  drones = λ d l. refl;
+  sent = λ d l. put d ∙ ap (λ (ps : List (List ℕ)). ps ++ packets_for host.session (flight host.session []) d) (row_of-empty n d);
+  given = λ d l. row_of-empty m d;
 }

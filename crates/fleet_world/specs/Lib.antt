@@ -1,5 +1,4 @@
 pub mod Mail
-pub mod Again
 pub mod WorldState
 pub mod Schedules
 pub mod Faults

@@ -11,35 +11,16 @@ use Rattle.firmware_memory.specs.declared.drone.Drone.{Drone}
 use Rattle.firmware_memory.specs.Shown.{shown}
 use Rattle.upload_core.specs.HostState.{HostState, view_of}
 use Rattle.upload_core.specs.HostStandsFor.{HostStandsFor}
-use Rattle.fleet_world.specs.declared.mail.Note.{Note}
-use Rattle.fleet_world.specs.Again.{sent_packets, given_answers}
+use Rattle.fleet_world.specs.Mail.{row_of}
 
--- What a world keeps: the host, the drones, for each drone notes of the packets ever sent to it and of the
--- answers that it ever gave, and the host's last answer.
+-- What a world keeps: the host, the drones, for each drone the packets ever sent to it and the answers
+-- that it ever gave, and the host's last answer.
 pub record WorldState : Type 0 where
   pub host : HostState
   pub drones : List Drone
-  pub sent : List (List Note)
-  pub given : List (List Note)
+  pub sent : List (List (List ℕ))
+  pub given : List (List (List ℕ))
   pub progress : Progress
-
--- What this says: for each drone the packets ever sent to it and the answers that it ever gave, which are
--- made again from the notes.
-pub record WorldView : Type 0 where
-  pub host : HostState
-  pub drones : List Drone
-  pub sent : ℕ → List (List ℕ)
-  pub given : ℕ → List (List ℕ)
-  pub progress : Progress
-
-abbrev pub seen_world : WorldState → WorldView
-seen_world v = record {
-  host = v.host;
-  drones = v.drones;
-  sent = λ d. sent_packets v.host.session v.sent d;
-  given = λ d. given_answers v.host.session v.given d;
-  progress = v.progress;
-}
 
 -- A drone, if there is one. Past the last drone stands one that nobody speaks of.
 abbrev pub state_of : Option Drone → DroneState
@@ -51,17 +32,14 @@ abbrev pub state_at : List Drone → ℕ → DroneState
 state_at drones d = state_of (slice_get drones d)
 
 -- The world is at this point of a session: host, drones, packets, answers and progress are those of w.
-pub record IsAt (v : WorldView) (s : Upload) (w : World) : Type 0 where
+pub record WorldStandsAt (v : WorldState) (s : Upload) (w : World) : Type 0 where
   pub session : v.host.session ≡ s
   pub host : HostStandsFor (view_of v.host) w.heard
   pub progress : v.progress ≡ progress s w.heard
   pub count : length v.drones ≡ drone_count s
   pub drones : (d : ℕ) → d < drone_count s → state_at v.drones d ≡ w.drones d
-  pub sent : (d : ℕ) → d < drone_count s → v.sent d ≡ w.sent d
-  pub given : (d : ℕ) → d < drone_count s → v.given d ≡ w.given d
-
-abbrev pub WorldStandsAt : WorldState → Upload → World → Type 0
-WorldStandsAt v s w = IsAt (seen_world v) s w
+  pub sent : (d : ℕ) → d < drone_count s → row_of v.sent d ≡ w.sent d
+  pub given : (d : ℕ) → d < drone_count s → row_of v.given d ≡ w.given d
 
 -- The world is where these events lead a session with these drones at the start.
 abbrev pub WorldStandsFor : WorldState → Upload → List Drone → List WorldEvent → Type 0

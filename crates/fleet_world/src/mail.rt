@@ -1,21 +1,24 @@
-//! The packets and the answers of each drone in order, by the numbers of the packets, in one list for each
-//! drone, so that any of them is found at once.
+//! The packets of each drone in order, in one list for each drone, so that any of them is found at once.
 
-ghost use Rattle.std.specs.Prelude.{◌≡◌, ◌≢◌, ℕ, ◌+◌, ◌<◌, ◌≤◌, [], ◌∷◌, ◌++◌, length, replicate, slice_get, IfOk, OnOk, All};
-ghost use Rattle.fleet_world.specs.Mail.{rows_of, row_of, HasRoom, notes_of};
+ghost use Rattle.std.specs.Prelude.{◌≡◌, ◌≢◌, ℕ, ◌+◌, ◌<◌, ◌≤◌, [], ◌∷◌, ◌++◌, length, replicate, slice_get, IfOk, OnOk};
+ghost use Rattle.upload_model.specs.Worlds.{option_list};
+ghost use Rattle.fleet_world.specs.Mail.{rows_of, row_of, HasRoom};
 
+use crtp_packets::{Packet, from_bytes};
 use std::alloc::{AllocError, Global};
-use upload_core::Sent;
 
-/// A packet of a drone by its number, and the status of its answer; 0 where it stands for no answer.
-#[derive(Clone, Copy)]
-pub struct Note {
-    pub packet: u16,
-    pub status: u8,
+/// A packet of the same bytes.
+fn copy_of(packet: &Packet) -> Packet
+    ensures { result ≡ packet.now }
+{
+    match from_bytes(packet.bytes()) {
+        Ok(copy) => copy,
+        Err(_) => unreachable!(),
+    }
 }
 
-/// No note for each of this many drones.
-pub fn empty_rows(alloc: Global, drones: usize) -> Result<Vec<Vec<Note>>, AllocError>
+/// No packet for each of this many drones.
+pub fn empty_rows(alloc: Global, drones: usize) -> Result<Vec<Vec<Packet>>, AllocError>
     ensures { IfOk result (λ rows. rows_of rows.items ≡ replicate drones []) }
 {
     let mut rows = Vec::new(alloc);
@@ -25,8 +28,8 @@ pub fn empty_rows(alloc: Global, drones: usize) -> Result<Vec<Vec<Note>>, AllocE
     Ok(rows)
 }
 
-/// Room for this many more notes of each drone.
-pub fn make_room(rows: &mut [Vec<Note>], packets: usize) -> Result<(), AllocError>
+/// Room for this many more packets of each drone.
+pub fn make_room(rows: &mut [Vec<Packet>], packets: usize) -> Result<(), AllocError>
     ensures same { rows_of rows.new ≡ rows_of rows.old }
     ensures len { length rows.new ≡ length rows.old }
     ensures room { OnOk result (HasRoom rows.new packets) }
@@ -37,46 +40,40 @@ pub fn make_room(rows: &mut [Vec<Note>], packets: usize) -> Result<(), AllocErro
     Ok(())
 }
 
-/// Note `n` of a drone.
-pub fn named(rows: &[Vec<Note>], drone: usize, n: u32) -> Option<Note>
+/// A copy of packet `n` of a drone.
+pub fn named(rows: &[Vec<Packet>], drone: usize, n: u32) -> Option<Packet>
     requires { drone < length rows.now }
     ensures { result ≡ slice_get (row_of (rows_of rows.now) drone) n }
 {
     match rows[drone].get(n as usize) {
-        Some(note) => Some(*note),
+        Some(packet) => Some(copy_of(packet)),
         None => None,
     }
 }
 
-/// One note after those of its drone, for which there is room.
-pub fn put(rows: &mut [Vec<Note>], drone: usize, note: Note)
+/// One packet after those of its drone, for which there is room.
+pub fn put(rows: &mut [Vec<Packet>], drone: usize, packet: Packet)
     requires known { drone < length rows.old }
     requires room { HasRoom rows.old 1 }
     ensures len { length rows.new ≡ length rows.old }
-    ensures here { row_of (rows_of rows.new) drone ≡ row_of (rows_of rows.old) drone ++ note ∷ [] }
+    ensures here { row_of (rows_of rows.new) drone ≡ row_of (rows_of rows.old) drone ++ packet ∷ [] }
     ensures others { (d : ℕ) → d ≢ drone →
         row_of (rows_of rows.new) d ≡ row_of (rows_of rows.old) d }
     ensures room { (n : ℕ) → HasRoom rows.old (n + 1) → HasRoom rows.new n }
 {
-    rows[drone].push_reserved(note);
+    rows[drone].push_reserved(packet);
 }
 
-/// These packets after those of their drones, for which there is room.
-pub fn put_all(out: &[Sent], rows: &mut [Vec<Note>])
-    requires known { All (λ x. x.drone < length rows.old) out.now }
-    requires room { HasRoom rows.old (length out.now) }
+/// A drone's answer, if it gave one, after its others, for which there is room.
+pub fn put_answer(rows: &mut [Vec<Packet>], drone: usize, answer: Option<Packet>)
+    requires known { drone < length rows.old }
+    requires room { HasRoom rows.old 1 }
     ensures len { length rows.new ≡ length rows.old }
-    ensures packets { (d : ℕ) → row_of (rows_of rows.new) d
-        ≡ row_of (rows_of rows.old) d ++ notes_of out.now d }
+    ensures here { row_of (rows_of rows.new) drone ≡ row_of (rows_of rows.old) drone ++ option_list answer }
+    ensures others { (d : ℕ) → d ≢ drone →
+        row_of (rows_of rows.new) d ≡ row_of (rows_of rows.old) d }
 {
-    for x in out {
-        put(
-            rows,
-            x.drone as usize,
-            Note {
-                packet: x.packet,
-                status: 0,
-            },
-        );
+    if let Some(packet) = answer {
+        put(rows, drone, packet);
     }
 }

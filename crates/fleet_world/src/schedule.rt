@@ -1,8 +1,8 @@
 //! Schedules: what happens in a world, as text, one event a line.
 
-ghost use Rattle.std.specs.Prelude.{◌≡◌, ℕ, ◌+◌, ◌<◌, ◌≤◌, ◌^◌, List, [], ◌∷◌, ◌++◌, length, map, Some, None, Ok, IfOk, IfErr, OnOk};
+ghost use Rattle.std.specs.Prelude.{◌≡◌, ℕ, Bool, ◌+◌, ◌<◌, ◌≤◌, ◌^◌, List, [], ◌∷◌, ◌++◌, length, map, Some, None, Ok, IfOk, IfErr, OnOk};
 ghost use Rattle.text_lines.specs.Tokens.{words_in};
-ghost use Rattle.fleet_world.specs.Schedules.{number_of as number_word, place_from, event_with, event_of, events_of, schedule_of};
+ghost use Rattle.fleet_world.specs.Schedules.{number_of as number_word, place_from, event_with, number_to, alteration_of, event_of, events_of, schedule_of};
 ghost use Rattle.fleet_world.specs.Faults.{FaultGives};
 ghost use Rattle.fleet_world.specs.Steps.{IsLine, behind};
 ghost use Rattle.text_lines.specs.Words.{numbered};
@@ -19,10 +19,24 @@ pub const MOST_TEXT: usize = 1_048_576;
 /// The most digits of a number in a schedule.
 const MOST_DIGITS: usize = 9;
 
-/// A law. The limit of a schedule's text and of its numbers' digits (docs/RADIO.md, "Schedules").
+/// The most digits of an address, and the last address of a memory.
+const ADDRESS_DIGITS: usize = 4;
+
+const LAST_ADDRESS: u16 = 4095;
+
+/// The most digits of a value, and the greatest value of a byte.
+const VALUE_DIGITS: usize = 3;
+
+const MOST_VALUE: u16 = 255;
+
+/// A law. The limit of a schedule's text, and of its numbers (docs/RADIO.md, "Schedules").
 pub fn limits_law()
     ensures text { MOST_TEXT ≡ 1048576 }
     ensures digits { MOST_DIGITS ≡ 9 }
+    ensures address_digits { ADDRESS_DIGITS ≡ 4 }
+    ensures address { LAST_ADDRESS ≡ 4095 }
+    ensures value_digits { VALUE_DIGITS ≡ 3 }
+    ensures value { MOST_VALUE ≡ 255 }
 {}
 
 /// A drone's name.
@@ -89,11 +103,55 @@ fn named_event(kind: &[u8], drone: Option<u8>, n: Option<u32>) -> Option<WorldEv
     None
 }
 
-/// The event of a line with these words, where it is `tick`, or `take` or `hear` with a name and a number
-/// (docs/RADIO.md, "Schedules").
-pub fn event_on(text: &[u8], names: &[Name], words: &[Token]) -> Option<WorldEvent>
+/// The number of a word of at most this many digits, where it is at most `most`.
+fn number_within(word: &[u8], digits: usize, most: u16) -> Option<u16>
+    requires { digits ≤ 9 }
+    ensures { result ≡ number_to digits most word.now }
+{
+    if word.len() > digits {
+        return None;
+    }
+    match natural(word) {
+        Some(n) => {
+            if n <= most as u64 {
+                Some(n as u16)
+            } else {
+                None
+            }
+        }
+        None => None,
+    }
+}
+
+/// The alteration of a line of four words.
+fn alteration(text: &[u8], names: &[Name], words: &[Token]) -> Option<WorldEvent>
+    requires names { length names.now ≤ MOST_DRONES }
+    requires words { length words.now ≡ 4 }
+    ensures { result ≡ alteration_of (map (λ name. name.items) names.now) (words_in text.now words.now) }
+{
+    if word_at(text, &words[0]) != b"alter".as_slice() {
+        return None;
+    }
+    let drone = drone_of(names, word_at(text, &words[1]))?;
+    let address = number_within(word_at(text, &words[2]), ADDRESS_DIGITS, LAST_ADDRESS)?;
+    let value = number_within(word_at(text, &words[3]), VALUE_DIGITS, MOST_VALUE)?;
+    Some(WorldEvent::Alter {
+        drone,
+        address,
+        value: value as u8,
+    })
+}
+
+/// The event of a line with these words, where it is `tick`, or `take` or `hear` with a name and a number,
+/// or with read-back an alteration (docs/RADIO.md, "Schedules").
+fn event_on(
+    readback: bool,
+    text: &[u8],
+    names: &[Name],
+    words: &[Token],
+) -> Option<WorldEvent>
     requires { length names.now ≤ MOST_DRONES }
-    ensures { result ≡ event_of (map (λ name. name.items) names.now) (words_in text.now words.now) }
+    ensures { result ≡ event_of readback (map (λ name. name.items) names.now) (words_in text.now words.now) }
 {
     if words.len() == 1 {
         if word_at(text, &words[0]) == b"tick".as_slice() {
@@ -101,14 +159,17 @@ pub fn event_on(text: &[u8], names: &[Name], words: &[Token]) -> Option<WorldEve
         }
         return None;
     }
-    if words.len() != 3 {
-        return None;
+    if words.len() == 3 {
+        return named_event(
+            word_at(text, &words[0]),
+            drone_of(names, word_at(text, &words[1])),
+            number_of(word_at(text, &words[2])),
+        );
     }
-    named_event(
-        word_at(text, &words[0]),
-        drone_of(names, word_at(text, &words[1])),
-        number_of(word_at(text, &words[2])),
-    )
+    if readback && words.len() == 4 {
+        return alteration(text, names, words);
+    }
+    None
 }
 
 /// One event more.
@@ -122,6 +183,7 @@ fn put(events: &mut Vec<WorldEvent>, event: WorldEvent) -> Result<(), AllocError
 /// The event of a line, if it has words, after those of the lines before it.
 fn put_line(
     alloc: Global,
+    readback: bool,
     line: &[u8],
     number: u32,
     names: &[Name],
@@ -131,17 +193,17 @@ fn put_line(
     requires short { length line.now ≤ MOST_TEXT }
     requires names { length names.now ≤ MOST_DRONES }
     ensures ok { OnOk result ((later : List (List ℕ)) →
-        behind events.new.items (events_of (map (λ name. name.items) names.now) (numbered Absent (number + 1) later))
-        ≡ behind events.old.items (events_of (map (λ name. name.items) names.now) (numbered Absent number (line.now ∷ later)))) }
+        behind events.new.items (events_of readback (map (λ name. name.items) names.now) (numbered Absent (number + 1) later))
+        ≡ behind events.old.items (events_of readback (map (λ name. name.items) names.now) (numbered Absent number (line.now ∷ later)))) }
     ensures fault { IfErr result (λ fault. (later : List (List ℕ)) →
-        FaultGives fault (events_of (map (λ name. name.items) names.now) (numbered Absent number (line.now ∷ later)))) }
+        FaultGives fault (events_of readback (map (λ name. name.items) names.now) (numbered Absent number (line.now ∷ later)))) }
 {
     let words = tokens(alloc, line, Comments::Absent)?;
     if words.is_empty() {
         return Ok(());
     }
     let count = line_word_count(words.as_slice());
-    match event_on(line, names, &words.as_slice()[..count]) {
+    match event_on(readback, line, names, &words.as_slice()[..count]) {
         Some(event) => {
             put(events, event)?;
             Ok(())
@@ -152,43 +214,28 @@ fn put_line(
 
 /// The events of a schedule, in order, for drones with these names. Lines without words are skipped.
 /// Else a line is `tick`, or `take NAME N` or `hear NAME N`, where N counts from 1 and has 1 to 9
-/// digits; the first line that is none of these is the fault.
-pub fn read_schedule_of(
+/// digits, or with read-back `alter NAME ADDRESS VALUE`; the first line that is none of these is the
+/// fault.
+pub fn read_schedule(
     alloc: Global,
+    readback: bool,
     text: &[u8],
     names: &[Name],
 ) -> Result<Vec<WorldEvent>, ScheduleFault>
     requires text { length text.now ≤ MOST_TEXT }
     requires names { length names.now ≤ MOST_DRONES }
     ensures ok { IfOk result (λ events.
-        schedule_of (map (λ name. name.items) names.now) text.now ≡ Ok events.items) }
+        schedule_of readback (map (λ name. name.items) names.now) text.now ≡ Ok events.items) }
     ensures fault { IfErr result (λ fault.
-        FaultGives fault (schedule_of (map (λ name. name.items) names.now) text.now)) }
+        FaultGives fault (schedule_of readback (map (λ name. name.items) names.now) text.now)) }
 {
     let mut events = Vec::new(alloc);
     let mut number: u32 = 1;
     let mut rest = text;
     'lines: while let Some((line, behind)) = split_line(rest) {
-        put_line(alloc, line, number, names, &mut events)?;
+        put_line(alloc, readback, line, number, names, &mut events)?;
         number += 1;
         rest = behind;
     }
     Ok(events)
-}
-
-/// The events of a schedule for drones with the names of this vector, as `read_schedule_of` reads
-/// them.
-pub fn read_schedule(
-    alloc: Global,
-    text: &[u8],
-    names: &Vec<Name>,
-) -> Result<Vec<WorldEvent>, ScheduleFault>
-    requires text { length text.now ≤ MOST_TEXT }
-    requires names { length names.now.items ≤ MOST_DRONES }
-    ensures ok { IfOk result (λ events.
-        schedule_of (map (λ name. name.items) names.now.items) text.now ≡ Ok events.items) }
-    ensures fault { IfErr result (λ fault.
-        FaultGives fault (schedule_of (map (λ name. name.items) names.now.items) text.now)) }
-{
-    read_schedule_of(alloc, text, names.as_slice())
 }

@@ -1,37 +1,55 @@
 //! The world, one event at a time.
 
-ghost use Rattle.std.specs.Prelude.{◌≡◌, ℕ, ◌+◌, ◌<◌, ◌≤◌, List, [], ◌∷◌, ◌++◌, length, IfOk, OnOk, OnErr, slice_get, Some};
+ghost use Rattle.std.specs.Prelude.{◌≡◌, ℕ, ◌+◌, ◌<◌, ◌≤◌, List, [], ◌∷◌, ◌++◌, length, IfOk, OnOk, OnErr, slice_get, Some, All};
 ghost use Rattle.upload_model.specs.declared.events.WorldEvent.{WorldEvent};
-ghost use Rattle.upload_model.specs.Sessions.{Upload, IsSession, drone_count, packet_at, packet_count};
+ghost use Rattle.upload_model.specs.Sessions.{Upload, drone_count};
 ghost use Rattle.upload_model.specs.Hosts.{progress as progress_of};
-ghost use Rattle.upload_model.specs.Worlds.{world, host_event, happens, took};
 ghost use Rattle.upload_model.specs.Drones.{handled};
 ghost use Rattle.upload_model.specs.Worlds as Worlds;
+ghost use Rattle.upload_model.specs.Worlds.{world, host_event, happens, took, packets_for, changed, altered};
 ghost use Rattle.firmware_memory.specs.declared.drone.Drone.{Drone};
+ghost use Rattle.upload_core.specs.HostState.{IsPacketOf};
+ghost use Rattle.fleet_world.specs.Mail.{rows_of, row_of, HasRoom};
 ghost use Rattle.fleet_world.specs.WorldState.{WorldState, WorldStandsFor, WorldStandsAt, state_at};
 
-use crate::again::{answer_again, answered};
-use crate::mail::{Note, empty_rows, make_room, named, put, put_all};
-use firmware_memory::Drone;
+use crate::mail::{empty_rows, make_room, named, put, put_answer};
+use crtp_packets::Packet;
+use firmware_memory::{Drone, MEMORY_BYTES};
 use std::alloc::{AllocError, Global};
 use std::marker::Model;
-use upload_core::{Event, Host, MOST_SENT, Out, Progress, Session};
+use upload_core::{Event, Host, MOST_SENT, Out, Progress, Sent, Session};
 use upload_model::WorldEvent;
 
-/// A host, a link and drones. It stands for the list of all that happened in it (`WorldStandsFor`).
+/// These packets after those of their drones, for which there is room.
+fn put_all(session: &Session, out: &[Sent], rows: &mut [Vec<Packet>])
+    requires known { All (IsPacketOf session.now) out.now }
+    requires rows { length rows.old ≡ drone_count session.now }
+    requires room { HasRoom rows.old (length out.now) }
+    ensures len { length rows.new ≡ length rows.old }
+    ensures packets { (d : ℕ) → row_of (rows_of rows.new) d
+        ≡ row_of (rows_of rows.old) d ++ packets_for session.now out.now d }
+{
+    for x in out {
+        let packet = session.packet(x.drone as usize, x.packet as usize);
+        put(rows, x.drone as usize, packet);
+    }
+}
+
+/// A host, a link, and drones whose memories somebody else may alter. It stands for the list of all that
+/// happened in it (`WorldStandsFor`).
 #[derive(Drop)]
 pub struct World {
     host: Host,
     drones: Vec<Drone>,
-    sent: Vec<Vec<Note>>,
-    given: Vec<Vec<Note>>,
+    sent: Vec<Vec<Packet>>,
+    given: Vec<Vec<Packet>>,
     progress: Progress,
 }
 
 impl Model for World {
     ghost use Rattle.std.specs.Prelude.{◌≡◌, length};
     ghost use Rattle.upload_model.specs.Sessions.{drone_count};
-    ghost use Rattle.fleet_world.specs.Mail.{rows_of, AreKnown};
+    ghost use Rattle.fleet_world.specs.Mail.{rows_of};
     ghost use Rattle.fleet_world.specs.WorldState.{WorldState};
 
     ghost Value = { WorldState };
@@ -46,14 +64,12 @@ impl Model for World {
 
     ghost invariant = { λ w. (length w.drones.items ≡ drone_count w.host.session)
         × (length w.sent.items ≡ drone_count w.host.session)
-        × (length w.given.items ≡ drone_count w.host.session)
-        × AreKnown w.host.session (rows_of w.sent.items)
-        × AreKnown w.host.session (rows_of w.given.items) };
+        × (length w.given.items ≡ drone_count w.host.session) };
 }
 
 impl World {
-    /// A world before any event: what is in flight was sent. Session and drones are dropped where the program is out of
-    /// memory.
+    /// A world before any event: what is in flight was sent. Session and drones are dropped where the
+    /// program is out of memory.
     pub fn make(alloc: Global, session: Session, drones: Vec<Drone>) -> Result<World, AllocError>
         requires { length drones.items ≡ drone_count session }
         ensures { IfOk result (λ w. WorldStandsFor w session drones.items []) }
@@ -65,7 +81,7 @@ impl World {
         make_room(sent.as_mut_slice(), MOST_SENT)?;
         let mut out = Out::new();
         host.first(&mut out);
-        put_all(out.as_slice(), sent.as_mut_slice());
+        put_all(host.session(), out.as_slice(), sent.as_mut_slice());
         Ok(World {
             host,
             drones,
@@ -75,12 +91,13 @@ impl World {
         })
     }
 
-    /// One event, and how far the upload is after it. An event that names no packet, no answer or no
-    /// drone of the session changes nothing. Drones still take packets after the upload has ended.
-    /// Where the program is out of memory the world is unchanged.
+    /// One event, and how far the upload is after it. An event that names no packet, no answer, no drone
+    /// of the session or no byte of a memory changes nothing. Drones still take packets after the upload
+    /// has ended. Out of memory, the world is unchanged.
     pub fn step(&mut self, e: WorldEvent) -> Result<Progress, AllocError>
         ensures stands { OnOk result ((s : Upload) (start : List Drone) (events : List WorldEvent) →
-            WorldStandsFor self.old s start events → WorldStandsFor self.new s start (events ++ e ∷ [])) }
+            WorldStandsFor self.old s start events →
+            WorldStandsFor self.new s start (events ++ e ∷ [])) }
         ensures answer { IfOk result (λ p. (s : Upload) (start : List Drone) (events : List WorldEvent) →
             WorldStandsFor self.old s start events →
             p ≡ progress_of s (world s (state_at start) (events ++ e ∷ [])).heard) }
@@ -105,10 +122,7 @@ impl World {
                     return Ok(self.progress);
                 }
                 match named(self.given.as_slice(), drone as usize, n) {
-                    Some(note) => {
-                        let packet = answer_again(self.host.session(), drone as usize, note);
-                        self.happen(Event::Up { drone, packet })
-                    }
+                    Some(packet) => self.happen(Event::Up { drone, packet }),
                     None => Ok(self.progress),
                 }
             }
@@ -116,36 +130,55 @@ impl World {
                 if drone as usize >= self.host.session().drones() {
                     return Ok(self.progress);
                 }
-                let note = match named(self.sent.as_slice(), drone as usize, n) {
-                    Some(note) => note,
+                let packet = match named(self.sent.as_slice(), drone as usize, n) {
+                    Some(packet) => packet,
                     None => return Ok(self.progress),
                 };
-                self.take(drone, note.packet)?;
+                self.take(drone, &packet)?;
+                Ok(self.progress)
+            }
+            WorldEvent::Alter {
+                drone,
+                address,
+                value,
+            } => {
+                if drone as usize >= self.host.session().drones()
+                    || address as usize >= MEMORY_BYTES
+                {
+                    return Ok(self.progress);
+                }
+                self.alter(drone, address, value);
                 Ok(self.progress)
             }
         }
     }
 
-    /// A drone takes a packet, which is made again from its number.
-    fn take(&mut self, drone: u8, packet: u16) -> Result<(), AllocError>
+    /// A byte of a drone's memory is set to a value.
+    fn alter(&mut self, drone: u8, address: u16, value: u8)
         requires known { drone < drone_count self.old.host.session }
-        requires in_range { packet < packet_count self.old.host.session drone }
-        requires session { IsSession self.old.host.session }
+        requires inside { address < MEMORY_BYTES }
+        ensures stands { (s : Upload) (w : Worlds.World) → WorldStandsAt self.old s w →
+            WorldStandsAt self.new s (record w { drones = changed w.drones drone (altered (w.drones drone) address value) }) }
+        ensures progress { self.new.progress ≡ self.old.progress }
+        ensures count { length self.new.drones ≡ length self.old.drones }
+    {
+        let taker = &mut self.drones[drone as usize];
+        taker.memory[address as usize] = value;
+    }
+
+    /// A drone takes a packet.
+    fn take(&mut self, drone: u8, packet: &Packet) -> Result<(), AllocError>
+        requires known { drone < drone_count self.old.host.session }
         ensures stands { OnOk result ((s : Upload) (w : Worlds.World) → WorldStandsAt self.old s w →
-            WorldStandsAt self.new s (took w drone (handled (w.drones drone) (packet_at self.old.host.session drone packet)))) }
+            WorldStandsAt self.new s (took w drone (handled (w.drones drone) packet.now))) }
         ensures progress { self.new.progress ≡ self.old.progress }
         ensures count { length self.new.drones ≡ length self.old.drones }
         ensures err { OnErr result (self.new ≡ self.old) }
     {
         make_room(self.given.as_mut_slice(), 1)?;
-        let made = self.host.session().packet(drone as usize, packet as usize);
         let taker = &mut self.drones[drone as usize];
-        let status = answered(taker.handle(&made));
-        put(
-            self.given.as_mut_slice(),
-            drone as usize,
-            Note { packet, status },
-        );
+        let answer = taker.handle(packet);
+        put_answer(self.given.as_mut_slice(), drone as usize, answer);
         Ok(())
     }
 
@@ -160,7 +193,7 @@ impl World {
         make_room(self.sent.as_mut_slice(), MOST_SENT)?;
         let mut out = Out::new();
         let progress = self.host.event(e, &mut out);
-        put_all(out.as_slice(), self.sent.as_mut_slice());
+        put_all(self.host.session(), out.as_slice(), self.sent.as_mut_slice());
         self.progress = progress;
         Ok(progress)
     }

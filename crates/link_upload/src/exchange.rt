@@ -6,40 +6,43 @@ ghost use Rattle.fleet_io.specs.Causes.{HasCause, Rose};
 ghost use Rattle.fleet_io.specs.Held.{buffer_bytes, stream};
 ghost use Rattle.fleet_io.specs.Taken.{AppendsFront, TakesFront};
 ghost use Rattle.link_frames.specs.Frames.{IsBegun, IsFrame, end_frame, frame_of};
+ghost use Rattle.upload_core.specs.HostStandsFor.{HostStandsFor};
+ghost use Rattle.upload_core.specs.HostState.{IsPacketOf, view_of};
+ghost use Rattle.link_upload.specs.Links.{link_of};
 ghost use Rattle.link_upload.specs.Sends.{answers_after, event_in, packet_frames};
 ghost use Rattle.link_upload.specs.Steps.{Breaks, Ends, Fails, StepGives};
 ghost use Rattle.link_upload.specs.Uploads.{StaysPrompt, StopsAtEnd, UploadFails, UploadGives};
 ghost use Rattle.upload_model.specs.declared.events.Event.{Event};
 
-use crate::host::LinkHost;
+use crate::host::{drone_count, take_packet, take_tick};
 use crate::input::{Next, next_frame};
 use crate::output::send;
 use fleet_io::{Failed, Parts, Sink, Source, write_whole};
 use link_frames::{END_BYTE, View, whole_frame};
-use upload_core::Out;
+use upload_core::{Host, Out};
 
 // Hands a frame to the host of an upload that is going. A packet of a drone that isn't in the session is no event.
 #[inline(always)]
-fn answer<H: LinkHost>(host: &mut H, frame: View<'_>, out: &mut Out) -> Option<u8>
+fn answer(host: &mut Host, frame: View<'_>, out: &mut Out) -> Option<u8>
     requires formed { IsFrame (frame_of frame) }
-    ensures link { H.link host.new ≡ H.link host.old }
-    ensures stands { (h : List Event) → H.stands host.old h → (H.link host.old).ended h ≡ None
-        → H.stands host.new (h ++ event_in (H.link host.old) (frame_of frame.entry)) }
-    ensures answer { (h : List Event) → H.stands host.old h → (H.link host.old).ended h ≡ None
-        → result ≡ (H.link host.old).ended (h ++ event_in (H.link host.old) (frame_of frame.entry)) }
-    ensures sent { (h : List Event) → H.stands host.old h → (H.link host.old).ended h ≡ None
-        → packet_frames (H.link host.old) out.new.items ≡ answers_after (H.link host.old) h (event_in (H.link host.old) (frame_of frame.entry)) }
-    ensures known { All (H.knows host.new) out.new.items }
+    ensures session { host.new.session ≡ host.old.session }
+    ensures stands { (h : List Event) → HostStandsFor (view_of host.old) h → (link_of host.old.session).ended h ≡ None
+        → HostStandsFor (view_of host.new) (h ++ event_in (link_of host.old.session) (frame_of frame.entry)) }
+    ensures answer { (h : List Event) → HostStandsFor (view_of host.old) h → (link_of host.old.session).ended h ≡ None
+        → result ≡ (link_of host.old.session).ended (h ++ event_in (link_of host.old.session) (frame_of frame.entry)) }
+    ensures sent { (h : List Event) → HostStandsFor (view_of host.old) h → (link_of host.old.session).ended h ≡ None
+        → packet_frames (link_of host.old.session) out.new.items ≡ answers_after (link_of host.old.session) h (event_in (link_of host.old.session) (frame_of frame.entry)) }
+    ensures known { All (IsPacketOf host.new.session) out.new.items }
     ensures statuses { IfSome result (λ status. Contains (0 ∷ 9 ∷ 10 ∷ 14 ∷ []) status) }
 {
     match frame {
-        View::Tick => host.take_tick(out),
+        View::Tick => take_tick(host, out),
         View::Packet { drone, packet } => {
-            if usize::from(drone) > host.drone_count() {
+            if usize::from(drone) > drone_count(host) {
                 out.clear();
                 return None;
             }
-            host.take_packet(drone - 1, packet, out)
+            take_packet(host, drone - 1, packet, out)
         }
     }
 }
@@ -53,17 +56,17 @@ enum Stepped {
 
 // Takes the next frame, and hands it to the host of an upload that is going: as it stands where the source has given all of
 // it, else byte by byte.
-fn step<S: Source, H: LinkHost>(
+fn step<S: Source>(
     parts: &mut Parts,
     source: &mut S,
-    host: &mut H,
+    host: &mut Host,
     out: &mut Out,
 ) -> Result<Stepped, Failed>
     requires sound { IsTrue parts.old.sound }
     requires at_end { IsTrue parts.old.ended → IsAtEnd (S.left source.old) }
     requires holds { length parts.old.waiting ≤ buffer_bytes }
-    ensures gives { IfOk result (λ stepped. StepGives stepped (record { link = H.link host.old; Stands = H.stands host.old; Knows = H.knows host.old })
-        (record { link = H.link host.new; Stands = H.stands host.new; Knows = H.knows host.new }) out.new.items (stream parts.old (S.left source.old)) (stream parts.new (S.left source.new))) }
+    ensures gives { IfOk result (λ stepped. StepGives stepped (record { link = link_of host.old.session; Stands = HostStandsFor (view_of host.old); Knows = IsPacketOf host.old.session })
+        (record { link = link_of host.new.session; Stands = HostStandsFor (view_of host.new); Knows = IsPacketOf host.new.session }) out.new.items (stream parts.old (S.left source.old)) (stream parts.new (S.left source.new))) }
     ensures failed { OnErr result ((parts.old.ended ≡ false) × (parts.new.waiting ≡ [])
         × ((begun : List ℕ) × IsBegun begun × Consumes (stream parts.old (S.left source.old)) (S.left source.new) begun)) }
     ensures sound { OnOk result (IsTrue parts.new.sound) }
@@ -112,23 +115,23 @@ const TOO_MANY_FRAMES: u8 = 13;
 
 // Carries an upload to its end, and returns the status. All that the frames lead to has gone out then, but not the end
 // frame.
-fn carry<S: Source, K: Sink, H: LinkHost + Drop>(
+fn carry<S: Source, K: Sink>(
     parts: &mut Parts,
     source: &mut S,
-    mut host: H,
+    mut host: Host,
     sink: &mut K,
 ) -> Result<u8, Broken>
     requires sound { IsTrue parts.old.sound }
     requires at_end { IsTrue parts.old.ended → IsAtEnd (S.left source.old) }
     requires holds { length parts.old.waiting ≤ buffer_bytes }
-    requires new { H.stands host [] }
-    ensures ends { IfOk result (λ status. Ends (H.link host) status (stream parts.old (S.left source.old)) (K.written sink.old) (K.written sink.new)) }
+    requires new { HostStandsFor (view_of host) [] }
+    ensures ends { IfOk result (λ status. Ends (link_of host.session) status (stream parts.old (S.left source.old)) (K.written sink.old) (K.written sink.new)) }
     ensures read { result ≡ Err Broken.Read → Rose (S.faults source.old) (S.faults source.new) × (parts.old.ended ≡ false)
-        × Fails (H.link host) (stream parts.old (S.left source.old)) (S.left source.new) (K.written sink.old) (K.written sink.new) }
+        × Fails (link_of host.session) (stream parts.old (S.left source.old)) (S.left source.new) (K.written sink.old) (K.written sink.new) }
     ensures write { result ≡ Err Broken.Write → Rose (K.faults sink.old) (K.faults sink.new)
-        × Breaks (H.link host) (stream parts.old (S.left source.old)) (K.written sink.old) (K.written sink.new) }
-    ensures prompt { StaysPrompt (H.link host) (stream parts.old (S.left source.old)) (S.left source.new) (K.written sink.old) (K.written sink.new) }
-    ensures stops { StopsAtEnd (H.link host) (stream parts.old (S.left source.old)) (S.left source.new) }
+        × Breaks (link_of host.session) (stream parts.old (S.left source.old)) (K.written sink.old) (K.written sink.new) }
+    ensures prompt { StaysPrompt (link_of host.session) (stream parts.old (S.left source.old)) (S.left source.new) (K.written sink.old) (K.written sink.new) }
+    ensures stops { StopsAtEnd (link_of host.session) (stream parts.old (S.left source.old)) (S.left source.new) }
     ensures grown { (sent : List ℕ) × Appends (K.written sink.old) (K.written sink.new) sent }
     ensures known { IfOk result (λ status. Contains (0 ∷ 8 ∷ 9 ∷ 10 ∷ 11 ∷ 13 ∷ 14 ∷ []) status) }
     ensures left { TakesFront (S.left source.old) (S.left source.new) }
@@ -136,9 +139,9 @@ fn carry<S: Source, K: Sink, H: LinkHost + Drop>(
     ensures sink_later { K.faults sink.old ≤ K.faults sink.new }
 {
     // There is a drone, so the upload goes on before any frame.
-    let _ = host.drone_count();
+    let _ = drone_count(&host);
     let mut out = Out::new();
-    host.put_first(&mut out);
+    host.first(&mut out);
     match send(&host, out.as_slice(), sink) {
         Ok(()) => {}
         Err(Failed) => return Err(Broken::Write),
@@ -179,37 +182,37 @@ fn finish<K: Sink>(sink: &mut K, status: u8) -> u8
     }
 }
 
-/// Carries an upload through link frames (docs/RADIO.md, "Link frames"). What the host sends goes into the sink, and what
+/// Carries an upload through link frames (docs/RADIO.md, "Link frames"), of a host to which nothing has happened. What the host sends goes into the sink, and what
 /// the source gives goes to the host, until the upload is done (0), given up (9) or refused (10), or with read-back a byte
 /// differs (14), 4,000,000 frames were taken (13), a byte has no place or the last frame isn't finished (11), the source ends (8), or a read fails (6). The end
 /// frame with that status goes out last. It returns the status, or 7 where a write failed. It takes no memory.
-pub fn upload<S: Source, K: Sink, H: LinkHost + Drop>(
+pub fn upload<S: Source, K: Sink>(
     parts: &mut Parts,
     source: &mut S,
-    host: H,
+    host: Host,
     sink: &mut K,
 ) -> u8
     requires sound { IsTrue parts.old.sound }
     requires at_end { IsTrue parts.old.ended → IsAtEnd (S.left source.old) }
     requires holds { length parts.old.waiting ≤ buffer_bytes }
-    requires new { H.stands host [] }
+    requires new { HostStandsFor (view_of host) [] }
     // Each status but 6 and 7 is that to which the bytes lead, and all that they lead to was sent.
     ensures ends { result ≢ 6 → result ≢ 7 → IfSome (stream parts.old (S.left source.old)) (λ bytes. (output : List ℕ)
-        × UploadGives (H.link host) bytes result output × Appends (K.written sink.old) (K.written sink.new) output) }
+        × UploadGives (link_of host.session) bytes result output × Appends (K.written sink.old) (K.written sink.new) output) }
     // A read failed: what the frames before it lead to was sent, and the end frame of 6.
     ensures six { result ≡ 6 → Rose (S.faults source.old) (S.faults source.new) × (parts.old.ended ≡ false)
         × IfSome (stream parts.old (S.left source.old)) (λ _. (taken output : List ℕ) × Consumes (stream parts.old (S.left source.old)) (S.left source.new) taken
-        × UploadFails (H.link host) taken output × Appends (K.written sink.old) (K.written sink.new) output) }
+        × UploadFails (link_of host.session) taken output × Appends (K.written sink.old) (K.written sink.new) output) }
     // A write failed: a prefix was sent of what the bytes lead to, or those before a failed read.
     ensures seven { result ≡ 7 → Rose (K.faults sink.old) (K.faults sink.new)
         × IfSome (stream parts.old (S.left source.old)) (λ bytes. (output : List ℕ) × AppendsFront (K.written sink.old) (K.written sink.new) output
-        × (((status : ℕ) × UploadGives (H.link host) bytes status output)
+        × (((status : ℕ) × UploadGives (link_of host.session) bytes status output)
         ⊎ (Rose (S.faults source.old) (S.faults source.new) × (parts.old.ended ≡ false)
-        × ((taken : List ℕ) × Consumes (stream parts.old (S.left source.old)) (S.left source.new) taken × UploadFails (H.link host) taken output)))) }
+        × ((taken : List ℕ) × Consumes (stream parts.old (S.left source.old)) (S.left source.new) taken × UploadFails (link_of host.session) taken output)))) }
     // No answer waits for much further input.
-    ensures prompt { StaysPrompt (H.link host) (stream parts.old (S.left source.old)) (S.left source.new) (K.written sink.old) (K.written sink.new) }
+    ensures prompt { StaysPrompt (link_of host.session) (stream parts.old (S.left source.old)) (S.left source.new) (K.written sink.old) (K.written sink.new) }
     // Once the upload is over no more is read: at most 4,096 bytes after its frames were taken.
-    ensures stops { StopsAtEnd (H.link host) (stream parts.old (S.left source.old)) (S.left source.new) }
+    ensures stops { StopsAtEnd (link_of host.session) (stream parts.old (S.left source.old)) (S.left source.new) }
     // Whether or not the source tells its bytes: what the sink holds only grows.
     ensures grown { (sent : List ℕ) × Appends (K.written sink.old) (K.written sink.new) sent }
     ensures known { Contains (0 ∷ 6 ∷ 7 ∷ 8 ∷ 9 ∷ 10 ∷ 11 ∷ 13 ∷ 14 ∷ []) result }

@@ -5,8 +5,7 @@
 //! contract says which status and which output any bytes lead to (`UploadGives` of `specs/Uploads.antt`), what was sent
 //! where a read or a write failed, and that no answer waits for more than 4,096 further bytes; `upload_law` says that
 //! each list of bytes leads to one end. The crate stands on `fleet_io` for bytes in and out, on `link_frames` for frames,
-//! on `upload_core` and `upload_model` for the host, on `readback_core` and `readback_model` for the one with read-back, on
-//! `crtp_packets` for packets, and on `arrayvec`.
+//! on `upload_core` and `upload_model` for the host, on `crtp_packets` for packets, and on `arrayvec`.
 #![tactic(auto)]
 
 ghost use Rattle.link_upload.specs.Uploads.{UploadLaw};
@@ -17,7 +16,6 @@ mod input;
 mod output;
 
 pub use exchange::upload;
-pub use host::LinkHost;
 
 /// A law. Whatever bytes come, an upload has one end and one output.
 pub fn upload_law()

@@ -4,34 +4,36 @@ ghost use Rattle.std.specs.Prelude.{◌≡◌, ◌+◌, ◌≤◌, ◌++◌, [],
 ghost use Rattle.std.specs.Io.KnownBytes.{Appends};
 ghost use Rattle.fleet_io.specs.Causes.{HasCause};
 ghost use Rattle.fleet_io.specs.Taken.{AppendsFront};
+ghost use Rattle.upload_core.specs.HostState.{IsPacketOf};
+ghost use Rattle.link_upload.specs.Links.{link_of};
 ghost use Rattle.link_upload.specs.Sends.{packet_frames};
 
-use crate::host::LinkHost;
+use crate::host::packet_of;
 use arrayvec::ArrayVec;
 use fleet_io::{Failed, Sink, write_whole};
 use link_frames::{FRAME_BYTES, put_frame};
-use upload_core::{MOST_SENT, Sent};
+use upload_core::{Host, MOST_SENT, Sent};
 
 // The most bytes that one event sends.
 const MOST_OUT: usize = MOST_SENT * FRAME_BYTES;
 
 // The frame of a packet after those of others.
-fn put<H: LinkHost>(host: &H, x: Sent, bytes: &mut ArrayVec<u8, MOST_OUT>)
-    requires known { H.knows host.now x }
+fn put(host: &Host, x: Sent, bytes: &mut ArrayVec<u8, MOST_OUT>)
+    requires known { IsPacketOf host.now.session x }
     requires room { length bytes.old.items + FRAME_BYTES ≤ MOST_OUT }
-    ensures bytes { bytes.new.items ≡ bytes.old.items ++ packet_frames (H.link host.now) (x ∷ []) }
+    ensures bytes { bytes.new.items ≡ bytes.old.items ++ packet_frames (link_of host.now.session) (x ∷ []) }
     ensures most { length bytes.new.items ≤ length bytes.old.items + FRAME_BYTES }
 {
-    let packet = host.packet_of(x);
+    let packet = packet_of(host, x);
     put_frame(x.drone + 1, &packet, bytes);
 }
 
 // Sends packets, in their order.
-pub fn send<K: Sink, H: LinkHost>(host: &H, sent: &[Sent], sink: &mut K) -> Result<(), Failed>
-    requires known { All (H.knows host.now) sent.now }
+pub fn send<K: Sink>(host: &Host, sent: &[Sent], sink: &mut K) -> Result<(), Failed>
+    requires known { All (IsPacketOf host.now.session) sent.now }
     requires few { length sent.now ≤ MOST_SENT }
-    ensures ok { OnOk result (Appends (K.written sink.old) (K.written sink.new) (packet_frames (H.link host.now) sent.now)) }
-    ensures front { OnErr result (AppendsFront (K.written sink.old) (K.written sink.new) (packet_frames (H.link host.now) sent.now)) }
+    ensures ok { OnOk result (Appends (K.written sink.old) (K.written sink.new) (packet_frames (link_of host.now.session) sent.now)) }
+    ensures front { OnErr result (AppendsFront (K.written sink.old) (K.written sink.new) (packet_frames (link_of host.now.session) sent.now)) }
     ensures cause { HasCause (K.faults sink.old) (K.faults sink.new) result }
 {
     if sent.is_empty() {

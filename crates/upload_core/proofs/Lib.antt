@@ -1,11 +1,7 @@
-pub mod Walks
+pub mod Numbers
 pub mod RowLemmas
+pub mod Staying
 pub mod Windows
-pub mod Drones
-pub mod Hearing
-pub mod Flights
-pub mod HostLemmas
-pub mod Acknowledged
+pub mod Walks
+pub mod Candidates
 pub mod Standing
-pub mod Looking
-pub mod Known

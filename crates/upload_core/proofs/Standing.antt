@@ -1,26 +1,33 @@
--- From the marks and counts of a host to the definitions over its list of events.
-use Rattle.std.proofs.Common.{◌≡◌, ◌==◌, ◌≢◌, ℕ, zero, suc, ◌+◌, ◌<◌, ◌≤◌, Bool, true, false, not, cond, ◌&&◌, ◌||◌, eqb, List, [], ◌∷◌, ◌++◌, filter, refl, ap, sym, ◌∙◌, arith, Option, Some, None, inl, inr}
-use Rattle.std.specs.Prelude.{find}
+-- From the rows of a host to the definitions over its list of events.
+use Rattle.std.proofs.Common.{◌≡◌, ◌==◌, ◌≢◌, ℕ, zero, suc, ◌+◌, ◌<◌, ◌≤◌, Bool, true, false, not, cond, ◌&&◌, ◌||◌, eqb, List, [], ◌∷◌, ◌++◌, length, map, filter, refl, ap, sym, subst, ◌∙◌, arith, Option, Some, None, inl, inr}
+use Rattle.std.specs.Prelude.{find, nat_lt, All}
 use Rattle.std.specs.List.{range_with_len, list_any, list_all, flat_map}
 use Rattle.std.specs.Option.{option_or}
-use Rattle.std.proofs.lemmas.Bool.{eq-eqb, ne_eqb}
+use Rattle.std.proofs.lemmas.Bool.{eq-eqb, ne_eqb, and_parts, false≢true, false_from_ne_true}
+use Rattle.std.proofs.lemmas.List.{length-map}
 use Rattle.std.proofs.lemmas.List.Folds.{list_all-append, find-append}
+use Rattle.std.proofs.lemmas.List.Elements.{All-nil, All-cons, All-head, All-tail, All-map, All-weaker}
 use Rattle.upload_model.specs.declared.events.Event.{Event}
 use Rattle.upload_model.specs.declared.events.Event.TheVariants as event
+use Rattle.upload_model.specs.declared.events.Phase.{Phase}
+use Rattle.upload_model.specs.declared.events.Phase.TheVariants.{Loading}
 use Rattle.upload_model.specs.declared.events.Sent.{Sent}
 use Rattle.upload_model.specs.declared.events.Progress.{Progress}
-use Rattle.upload_model.specs.declared.events.Progress.TheVariants.{Going, Done, GaveUp, Refused}
-use Rattle.upload_model.specs.Sessions.{Upload, drone_count, packet_count}
-use Rattle.upload_model.specs.Hosts.{Packets, status_for, is_good, is_bad, includes, refused, gave_up, if_going, sent_at, all_packets, acked, flight_of, flight_after, flight, sent_to, ticks, ended_by, progress, out}
-use Rattle.std.proofs.lemmas.Bool.{false≢true}
-use Rattle.upload_model.proofs.HostLaws.{all_packets-each, acked-done, acked-more}
-use Rattle.upload_core.proofs.Hearing.{find-none_all}
-use Rattle.upload_core.specs.Steps.{IsReady}
-use Rattle.upload_core.proofs.Flights.{includes-flight}
-use Rattle.upload_core.proofs.HostLemmas.{ticks_low, flight_stays, flight-open, never_ticked}
-use Rattle.upload_model.proofs.HostSteps.{acked-push, acked-tick, ticks-push, progress-stays, progress-next, progress-tick, Agree, flight_of-agree, flight_after-agree}
+use Rattle.upload_model.specs.declared.events.Progress.TheVariants.{Going, Done, GaveUp, Refused, Differs}
+use Rattle.upload_model.specs.Sessions.{Upload, drone_count, load_count, packet_count, first_of, count_of}
+use Rattle.upload_model.specs.Replies.{reply_to, is_good, is_end}
+use Rattle.upload_model.specs.Hosts.{Packets, all_settled, phase_of, allowed, includes, gave_up, if_going, sent_at, sent_to, all_packets, acknowledges, joined, acked, counts, flight_in, flight_after, flight, is_tick, ticks, ended_for, ends_for, ended_by, progress, out}
+use Rattle.upload_model.proofs.HostLaws.{All-flat_map_range, acked-push, acked-more, acked-done}
+use Rattle.upload_model.proofs.HostSteps.{flat_map-range-agree, acked-tick, flight-tick, ticks-push, progress-stays, progress-next, progress-tick, Agree, all_settled-agree, phase_of-agree, flight_after-agree}
+use Rattle.upload_core.specs.declared.row.InFlight.{InFlight}
+use Rattle.upload_core.specs.declared.row.Row.{Row}
+use Rattle.upload_core.specs.Rows.{packets_in, among, is_past, is_marked, row_at, marked, window_at, counted, count_in}
+use Rattle.upload_core.specs.Steps.{IsBetween, IsRow, older, older_row, RowStands, RowsStand, IsReady, IsLow, in_windows}
 use Rattle.upload_core.specs.HostState.{HostView}
 use Rattle.upload_core.specs.HostStandsFor.{HostStandsFor}
+use Rattle.upload_core.proofs.RowLemmas.{packets-older, count_in-older}
+use Rattle.upload_core.proofs.Staying.{includes-flight_at, flight-open, ticks-none}
+use Rattle.upload_core.proofs.Windows.{windows-flight, includes-windows}
 
 -- ---- tests that agree at the packets of a session
 
@@ -69,186 +76,211 @@ pub list_all-packets_agree : (s : Upload) (p q : Sent → Bool) → SameTest s p
 unfolding all_packets
 list_all-packets_agree s p q h = list_all-rows_agree p q (packet_count s) 0 (drone_count s) (λ d k l b. h d k (omega arith) b)
 
+-- ---- tests that agree at what is in flight
+
+find-agree : (p q : Sent → Bool) (xs : List Sent) → All (λ x. p x ≡ q x) xs → find p xs ≡ find q xs
+find-agree p q [] all = refl
+find-agree p q (x ∷ xs) all =
+    ap (λ b. cond b (Some x) (find p xs)) (All-head (λ y. p y ≡ q y) x xs all)
+    ∙ ap (λ (o : Option Sent). cond (q x) (Some x) o) (find-agree p q xs (All-tail (λ y. p y ≡ q y) x xs all))
+
+all-among : (ks : List ℕ) → All (λ k. among ks k ≡ true) ks
+all-among [] = All-nil (λ k. among [] k ≡ true)
+all-among (x ∷ ks) =
+    All-cons (λ k. among (x ∷ ks) k ≡ true) x ks (ap (λ b. b || among ks x) (eq-eqb x x refl))
+    (All-weaker (λ k. among ks k ≡ true) (λ k. among (x ∷ ks) k ≡ true) (λ k e. later (x == k) e) ks (all-among ks)) where
+      later : {c : Bool} (b : Bool) → c ≡ true → (b || c) ≡ true
+      later true e = refl
+      later false e = e
+
+all-windows : (P : Sent → Type 0) (rows : List Row) (n : ℕ) → ((d k : ℕ) → d < n → among (window_at rows d) k ≡ true → P (record { drone = d; packet = k })) → All P (in_windows rows n)
+all-windows P rows n h =
+    All-flat_map_range P (λ d. sent_to d (window_at rows d)) 0 n
+    (λ d l b. All-map P (λ (k : ℕ). record { drone = d; packet = k }) (window_at rows d)
+    (All-weaker (λ k. among (window_at rows d) k ≡ true) (λ k. P (record { drone = d; packet = k })) (λ k f. h d k (omega arith) f) (window_at rows d) (all-among (window_at rows d))))
+
+-- ---- rows with one tick more
+
+pub row_at-older : (rows : List Row) (d : ℕ) → row_at (map older_row rows) d ≡ older_row (row_at rows d)
+row_at-older [] d = refl
+row_at-older (row ∷ rows) zero = refl
+row_at-older (row ∷ rows) (suc d) = row_at-older rows d
+
+pub older-packets : (rows : List Row) (d : ℕ) → window_at (map older_row rows) d ≡ window_at rows d
+older-packets rows d = ap (λ (row : Row). packets_in row.window.items) (row_at-older rows d) ∙ packets-older (row_at rows d).window.items
+
+pub older-marked : (rows : List Row) (d k : ℕ) → marked (map older_row rows) d k ≡ marked rows d k
+older-marked rows d k =
+    ap (λ (row : Row). is_marked row k) (row_at-older rows d) ∙ ap (λ (ks : List ℕ). is_past (row_at rows d).next ks k) (packets-older (row_at rows d).window.items)
+
+pub older-counted : (rows : List Row) (d k : ℕ) → counted (map older_row rows) d k ≡ counted rows d k + cond (among (window_at rows d) k) 1 0
+older-counted rows d k = ap (λ (row : Row). count_in row.window.items k) (row_at-older rows d) ∙ count_in-older (row_at rows d).window.items k
+
+pub older-windows : (rows : List Row) (n : ℕ) → in_windows (map older_row rows) n ≡ in_windows rows n
+older-windows rows n =
+    flat_map-range-agree (λ d. sent_to d (window_at (map older_row rows) d)) (λ d. sent_to d (window_at rows d)) 0 n (λ d l b. ap (sent_to d) (older-packets rows d))
+
+pub older-row : (a : ℕ) (row : Row) → IsRow a row → IsRow a (older_row row)
+older-row a row h =
+    let long = length-map row.window.items older in
+    record {
+      rising = subst (λ (ks : List ℕ). IsBetween a row.next ks) (sym (packets-older row.window.items)) h.rising;
+      from = h.from;
+      past = h.past;
+      few = let few = h.few in omega arith;
+      full = elim h.full [ inl four ↦ inl (long ∙ four) | inr last ↦ inr last ];
+    }
+
+older-stands : (s : Upload) (p : Phase) (d : ℕ) (row : Row) → RowStands s p d row → RowStands s p d (older_row row)
+older-stands s p d row stands = record {
+  shape = older-row (first_of s p d) row stands.shape;
+  until = stands.until ∙ ap (λ (ks : List ℕ). first_of s p d + allowed s p (λ i k. is_past row.next ks k) d) (sym (packets-older row.window.items));
+}
+
+pub older-rows : (s : Upload) (p : Phase) (rows : List Row) → RowsStand s p rows → RowsStand s p (map older_row rows)
+older-rows s p rows stand = record {
+  count = length-map rows older_row ∙ stand.count;
+  each = λ d l. subst (RowStands s p d) (sym (row_at-older rows d)) (older-stands s p d (row_at rows d) (stand.each d l));
+}
+
+pub older-phase : (s : Upload) (rows : List Row) → phase_of s (marked rows) ≡ phase_of s (marked (map older_row rows))
+older-phase s rows = sym (phase_of-agree s (marked (map older_row rows)) (marked rows) (λ d k l b. older-marked rows d k))
+
 -- ---- a tick
 
-module _ (s : Upload) (marks : Packets) (counts counts' : ℕ → ℕ → ℕ) (answer : Progress)
-    (counted_is : (d k : ℕ) → d < drone_count s → k < packet_count s d →
-    counts' d k ≡ counts d k + cond (list_any (λ j. j == k) (flight_of s marks d)) 1 0)
-    (ready : IsReady s marks counts)
-    (answer_is : answer ≡ gave_up (find (λ x. counts' x.drone x.packet == 20) (all_packets s))) where
-  none_tired : answer ≡ Going → find (λ x. counts' x.drone x.packet == 20) (all_packets s) ≡ None
-  none_tired going = at (find (λ x. counts' x.drone x.packet == 20) (all_packets s)) (sym answer_is ∙ going) where
-    at : (o : Option Sent) → gave_up o ≡ Going → o ≡ None
-    at None h = refl
-    at (Some x) h = absurd (cc)
+module _ (s : Upload) (p : Phase) (rows : List Row) (stand : RowsStand s p rows) (phase : p ≡ phase_of s (marked rows)) (answer : Progress)
+    (answer_is : answer ≡ gave_up (find (λ x. counted (map older_row rows) x.drone x.packet == 20) (in_windows rows (length rows)))) where
+  windows : in_windows rows (length rows) ≡ flight_after s (marked rows)
+  windows = ap (in_windows rows) stand.count ∙ sym (windows-flight s p rows stand phase)
 
-  pub ready-tick : answer ≡ Going → IsReady s marks counts'
-  ready-tick going = record {
-    unfinished = ready.unfinished;
-    low = λ d k l b.
-        let old = ready.low d k l b in
-        let is = counted_is d k l b in
-        let one : cond (list_any (λ j. j == k) (flight_of s marks d)) 1 0 ≤ 1 = at_most (list_any (λ j. j == k) (flight_of s marks d)) in
-        let each : not (counts' d k == 20) ≡ true = all_packets-each s (λ x. not (counts' x.drone x.packet == 20))
-        (find-none_all (λ x. counts' x.drone x.packet == 20) (all_packets s) (none_tired going)) d k l b in
-        let other : counts' d k ≡ 20 → ⊥ = λ e. false≢true (sym (ap not (eq-eqb (counts' d k) 20 e)) ∙ each) in
-        omega (arith, old, is, one, other);
-    idle = λ d k l b missing out.
-        counted_is d k l b ∙ ap (λ (n : ℕ). n + cond (list_any (λ j. j == k) (flight_of s marks d)) 1 0) (ready.idle d k l b missing out)
-        ∙ ap (λ (t : Bool). 0 + cond t 1 0) out;
-  } where
-    at_most : (b : Bool) → cond b 1 0 ≤ 1
-    at_most true = omega arith
-    at_most false = omega arith
-
-  module _ (h : List Event) (stands : HostStandsFor (record { session = s; marked = marks; counted = counts; progress = Going }) h) where
-    agree : Agree s marks (acked s h)
+  module _ (h : List Event) (stands : HostStandsFor (record { session = s; marked = marked rows; counted = counted rows; progress = Going }) h) where
+    agree : Agree s (marked rows) (acked s h)
     agree d k l b = stands.marked (inl refl) d k l b
 
-    in_flight : (d k : ℕ) → d < drone_count s → list_any (λ j. j == k) (flight_of s marks d) ≡ list_any (λ j. j == k) (flight_of s (acked s h) d)
-    in_flight d k l = ap (λ (xs : List ℕ). list_any (λ j. j == k) xs) (flight_of-agree s marks (acked s h) d l agree)
+    in_flight : in_windows rows (length rows) ≡ flight s h
+    in_flight = windows ∙ flight_after-agree s (marked rows) (acked s h) agree
 
-    ticks_more : (d k : ℕ) → d < drone_count s → ticks s (h ++ event.Tick ∷ []) (record { drone = d; packet = k })
-        ≡ ticks s h (record { drone = d; packet = k }) + cond (list_any (λ j. j == k) (flight_of s marks d)) 1 0
-    ticks_more d k l =
-        ticks-push s h event.Tick (record { drone = d; packet = k })
-        ∙ ap (λ (t : Bool). ticks s h (record { drone = d; packet = k }) + cond t 1 0) (includes-flight s (acked s h) d k l ∙ sym (in_flight d k l))
+    includes_is : (x : Sent) → x.drone < drone_count s → includes (flight s h) x ≡ among (window_at rows x.drone) x.packet
+    includes_is x l = ap (λ (xs : List Sent). includes xs x) (sym in_flight) ∙ includes-windows rows (length rows) x (let n = stand.count in omega arith)
 
-    counts_stand : (d k : ℕ) → d < drone_count s → k < packet_count s d → list_any (λ j. j == k) (flight_of s marks d) ≡ true →
-        counts' d k ≡ ticks s (h ++ event.Tick ∷ []) (record { drone = d; packet = k })
-    counts_stand d k l b there =
-        counted_is d k l b
-        ∙ ap (λ (n : ℕ). n + cond (list_any (λ j. j == k) (flight_of s marks d)) 1 0) (stands.counted refl d k l b (sym (in_flight d k l) ∙ there))
-        ∙ sym (ticks_more d k l)
-
-    same_test : (d k : ℕ) → d < drone_count s → k < packet_count s d → (counts' d k == 20) ≡ eqb (ticks s (h ++ event.Tick ∷ []) (record { drone = d; packet = k })) 20
-    same_test d k l b = by_flight (list_any (λ j. j == k) (flight_of s marks d)) refl where
-      by_flight : (t : Bool) → list_any (λ j. j == k) (flight_of s marks d) ≡ t → (counts' d k == 20) ≡ eqb (ticks s (h ++ event.Tick ∷ []) (record { drone = d; packet = k })) 20
-      by_flight true e = ap (λ (n : ℕ). n == 20) (counts_stand d k l b e)
-      by_flight false e =
-          let low = ready.low d k l b in
-          let few = ticks_low s h (record { drone = d; packet = k }) (sym stands.answer) l b in
-          let ours : counts' d k ≡ counts d k = counted_is d k l b ∙ ap (λ (t : Bool). counts d k + cond t 1 0) e ∙ (let f : counts d k + 0 ≡ counts d k = omega arith in f) in
-          let theirs : ticks s (h ++ event.Tick ∷ []) (record { drone = d; packet = k }) ≡ ticks s h (record { drone = d; packet = k })
-          = ticks_more d k l ∙ ap (λ (t : Bool). ticks s h (record { drone = d; packet = k }) + cond t 1 0) e
-          ∙ (let f : ticks s h (record { drone = d; packet = k }) + 0 ≡ ticks s h (record { drone = d; packet = k }) = omega arith in f) in
-          ne_eqb (counts' d k) 20 (λ f. omega (arith, low, ours, f))
-          ∙ sym (ne_eqb (ticks s (h ++ event.Tick ∷ []) (record { drone = d; packet = k })) 20 (λ f. omega (arith, few, theirs, f)))
+    ticks_more : (x : Sent) → x.drone < drone_count s → includes (flight s h) x ≡ true → counted (map older_row rows) x.drone x.packet ≡ ticks s (h ++ event.Tick ∷ []) x
+    ticks_more x l there =
+        older-counted rows x.drone x.packet ∙ ap (λ (n : ℕ). n + cond (among (window_at rows x.drone) x.packet) 1 0) (stands.counted refl x l there)
+        ∙ ap (λ b. ticks s h x + cond b 1 0) (sym (includes_is x l)) ∙ sym (ticks-push s h event.Tick x)
 
     pub answer-tick : answer ≡ progress s (h ++ event.Tick ∷ [])
     answer-tick =
         answer_is
-        ∙ ap gave_up (find-packets_agree s (λ x. counts' x.drone x.packet == 20) (λ x. eqb (ticks s (h ++ event.Tick ∷ []) x) 20)
-        same_test)
+        ∙ ap gave_up (find-agree (λ x. counted (map older_row rows) x.drone x.packet == 20) (λ x. eqb (ticks s (h ++ event.Tick ∷ []) x) 20) (in_windows rows (length rows))
+        (all-windows (λ x. (counted (map older_row rows) x.drone x.packet == 20) ≡ eqb (ticks s (h ++ event.Tick ∷ []) x) 20) rows (length rows)
+        (λ d k l f.
+        let n = stand.count in
+        let known : d < drone_count s = omega arith in
+        ap (λ (m : ℕ). m == 20) (ticks_more (record { drone = d; packet = k }) known (includes_is (record { drone = d; packet = k }) known ∙ f)))))
+        ∙ ap (λ (xs : List Sent). gave_up (find (λ x. eqb (ticks s (h ++ event.Tick ∷ []) x) 20) xs)) in_flight
         ∙ sym (progress-tick s h (sym stands.answer))
 
-    pub stands-tick : HostStandsFor (record { session = s; marked = marks; counted = counts'; progress = answer }) (h ++ event.Tick ∷ [])
+    pub stands-tick : HostStandsFor (record { session = s; marked = marked (map older_row rows); counted = counted (map older_row rows); progress = answer }) (h ++ event.Tick ∷ [])
     stands-tick = record {
       answer = answer-tick;
-      marked = λ either d k l b. agree d k l b ∙ sym (acked-tick s h d k);
-      counted = λ going d k l b there.
-          counts_stand d k l b
-          (ap (λ (xs : List ℕ). list_any (λ j. j == k) xs) (flight_of-agree s marks (acked s (h ++ event.Tick ∷ [])) d l (λ e i m n. agree e i m n ∙ sym (acked-tick s h e i))) ∙ there);
+      marked = λ either d k l b. older-marked rows d k ∙ agree d k l b ∙ ap (λ (f : Packets). f d k) (sym (acked-tick s h));
+      counted = λ going x l there. ticks_more x l (ap (λ (xs : List Sent). includes xs x) (sym (flight-tick s h)) ∙ there);
     }
 
-    pub sent-tick : if_going answer (flight_after s marks) ≡ out s h event.Tick
+    pub sent-tick : if_going answer (in_windows rows (length rows)) ≡ out s h event.Tick
     unfolding out
-    sent-tick = ap (λ (p : Progress). if_going p (flight_after s marks)) answer-tick
-        ∙ ap (if_going (progress s (h ++ event.Tick ∷ []))) (flight_after-agree s marks (acked s h) agree)
+    sent-tick = ap (λ (q : Progress). if_going q (in_windows rows (length rows))) answer-tick ∙ ap (if_going (progress s (h ++ event.Tick ∷ []))) in_flight
 
 -- ---- an answer
 
-module _ (s : Upload) (marks marks' : Packets) (counts counts' : ℕ → ℕ → ℕ) (from : ℕ) (packet : List ℕ) (answer : Progress)
-    (ready : IsReady s marks counts)
-    (kept : (d k : ℕ) → marks d k ≡ true → marks' d k ≡ true)
-    (counted_is : (d k : ℕ) → marks' d k ≡ false → counts' d k ≡ counts d k)
-    (fewer : (d k : ℕ) → counts' d k ≤ counts d k)
-    (done_is : (d k : ℕ) → d < drone_count s → k < packet_count s d → marks' d k ≡ (marks d k || is_good (status_for s d k (event.Up from packet))))
-    (finished : list_all (λ x. marks' x.drone x.packet) (all_packets s) ≡ true → answer ≡ Done)
-    (unfinished : list_all (λ x. marks' x.drone x.packet) (all_packets s) ≡ false → answer
-    ≡ refused s (event.Up from packet) (find (λ x. is_bad (status_for s x.drone x.packet (event.Up from packet)) && not (marks' x.drone x.packet)) (all_packets s))) where
+acknowledges-agree : (s : Upload) (f g : Packets) (e : Event) → Agree s f g → acknowledges s f e ≡ acknowledges s g e
+unfolding acknowledges
+acknowledges-agree s f g e same = ap (find (λ x. is_good (reply_to s x.drone x.packet e))) (flight_after-agree s f g same)
+
+joined-agree : (f g : Packets) (o : Option Sent) (d k : ℕ) → f d k ≡ g d k → joined f o d k ≡ joined g o d k
+joined-agree f g None d k e = e
+joined-agree f g (Some x) d k e = ap (λ b. b || (x.drone == d && x.packet == k)) e
+
+module _ (s : Upload) (rows rows' : List Row) (from : ℕ) (packet : List ℕ) (answer : Progress)
+    (marks_is : (d k : ℕ) → d < drone_count s → marked rows' d k ≡ joined (marked rows) (acknowledges s (marked rows) (event.Up from packet)) d k)
+    (counts_is : (x : Sent) → includes (flight_after s (marked rows')) x ≡ true →
+    counted rows' x.drone x.packet ≡ cond (includes (flight_after s (marked rows)) x) (counted rows x.drone x.packet) 0)
+    (finished : list_all (λ x. marked rows' x.drone x.packet) (all_packets s) ≡ true → answer ≡ Done)
+    (unfinished : list_all (λ x. marked rows' x.drone x.packet) (all_packets s) ≡ false → answer
+    ≡ ended_for s (event.Up from packet) (find (λ x. ends_for s (marked rows') (event.Up from packet) x) (all_packets s))) where
   abbrev up : Event
   up = event.Up from packet
 
-  unmarked : (d k : ℕ) → marks' d k ≡ false → marks d k ≡ false
-  unmarked d k e = at (marks d k) refl where
-    at : (b : Bool) → marks d k ≡ b → b ≡ false
-    at true f = absurd (false≢true (sym e ∙ kept d k f))
-    at false f = refl
-
-  -- what isn't in flight and isn't marked wasn't in flight before
-  out_before : (d k : ℕ) → d < drone_count s → marks' d k ≡ false → list_any (λ j. j == k) (flight_of s marks' d) ≡ false → list_any (λ j. j == k) (flight_of s marks d) ≡ false
-  out_before d k l missing out = at (list_any (λ j. j == k) (flight_of s marks d)) refl where
-    at : (b : Bool) → list_any (λ j. j == k) (flight_of s marks d) ≡ b → b ≡ false
-    at true f = absurd (false≢true (sym out ∙ flight_stays s marks marks' d k l kept f missing))
-    at false f = refl
-
-  pub ready-hear : answer ≡ Going → IsReady s marks' counts'
-  ready-hear going = record {
-    unfinished = at (list_all (λ x. marks' x.drone x.packet) (all_packets s)) refl;
-    low = λ d k l b. let few = fewer d k in let low = ready.low d k l b in omega arith;
-    idle = λ d k l b missing out. counted_is d k missing ∙ ready.idle d k l b (unmarked d k missing) (out_before d k l missing out);
-  } where
-    at : (b : Bool) → list_all (λ x. marks' x.drone x.packet) (all_packets s) ≡ b → b ≡ false
+  pub ready-hear : (IsLow rows') → answer ≡ Going → IsReady s rows'
+  ready-hear low going = record { unfinished = at (list_all (λ x. marked rows' x.drone x.packet) (all_packets s)) refl; low = low } where
+    at : (b : Bool) → list_all (λ x. marked rows' x.drone x.packet) (all_packets s) ≡ b → b ≡ false
     at true e = let done_now = finished e in absurd (cc)
     at false e = refl
 
-  module _ (h : List Event) (stands : HostStandsFor (record { session = s; marked = marks; counted = counts; progress = Going }) h) where
-    marks_stand : Agree s marks' (acked s (h ++ up ∷ []))
-    marks_stand d k l b =
-        done_is d k l b ∙ ap (λ (t : Bool). t || is_good (status_for s d k up)) (stands.marked (inl refl) d k l b) ∙ sym (acked-push s h up d k)
+  module _ (h : List Event) (stands : HostStandsFor (record { session = s; marked = marked rows; counted = counted rows; progress = Going }) h) where
+    before : Agree s (marked rows) (acked s h)
+    before d k l b = stands.marked (inl refl) d k l b
+
+    now : Agree s (marked rows') (acked s (h ++ up ∷ []))
+    now d k l b =
+        marks_is d k l
+        ∙ ap (λ (o : Option Sent). joined (marked rows) o d k) (acknowledges-agree s (marked rows) (acked s h) up before)
+        ∙ joined-agree (marked rows) (acked s h) (acknowledges s (acked s h) up) d k (before d k l b)
+        ∙ ap (λ (f : Packets). f d k) (sym (acked-push s h up))
+
+    same_test : SameTest s (λ x. ends_for s (marked rows') up x) (λ x. ends_for s (acked s (h ++ up ∷ [])) up x)
+    same_test d k l b =
+        ap (λ t. is_end (reply_to s d k up) && counts s (marked rows') d k && not t) (now d k l b)
+        ∙ ap (λ t. is_end (reply_to s d k up) && (nat_lt k (load_count s d) || not s.readback || t) && not (acked s (h ++ up ∷ []) d k))
+        (all_settled-agree s Loading (marked rows') (acked s (h ++ up ∷ [])) now)
 
     pub answer-hear : answer ≡ progress s (h ++ up ∷ [])
-    answer-hear = by_all (list_all (λ x. marks' x.drone x.packet) (all_packets s)) refl ∙ sym (progress-next s h up (sym stands.answer)) where
-      all_same : list_all (λ x. marks' x.drone x.packet) (all_packets s) ≡ list_all (λ x. acked s (h ++ up ∷ []) x.drone x.packet) (all_packets s)
-      all_same = list_all-packets_agree s (λ x. marks' x.drone x.packet) (λ x. acked s (h ++ up ∷ []) x.drone x.packet) marks_stand
+    answer-hear = by_all (list_all (λ x. marked rows' x.drone x.packet) (all_packets s)) refl ∙ sym (progress-next s h up (sym stands.answer)) where
+      all_same : list_all (λ x. marked rows' x.drone x.packet) (all_packets s) ≡ list_all (λ x. acked s (h ++ up ∷ []) x.drone x.packet) (all_packets s)
+      all_same = list_all-packets_agree s (λ x. marked rows' x.drone x.packet) (λ x. acked s (h ++ up ∷ []) x.drone x.packet) now
 
-      by_all : (b : Bool) → list_all (λ x. marks' x.drone x.packet) (all_packets s) ≡ b →
+      by_all : (b : Bool) → list_all (λ x. marked rows' x.drone x.packet) (all_packets s) ≡ b →
           answer ≡ cond (list_all (λ x. acked s (h ++ up ∷ []) x.drone x.packet) (all_packets s)) Done (ended_by s (h ++ up ∷ []) (Some up))
-      by_all true e = finished e ∙ sym (ap (λ (t : Bool). cond t Done (ended_by s (h ++ up ∷ []) (Some up))) (sym all_same ∙ e))
+      by_all true e = finished e ∙ sym (ap (λ t. cond t Done (ended_by s (h ++ up ∷ []) (Some up))) (sym all_same ∙ e))
       by_all false e =
           unfinished e
-          ∙ ap (refused s up) (find-packets_agree s
-          (λ x. is_bad (status_for s x.drone x.packet up) && not (marks' x.drone x.packet))
-          (λ x. is_bad (status_for s x.drone x.packet up) && not (acked s (h ++ up ∷ []) x.drone x.packet))
-          (λ d k l b. ap (λ (t : Bool). is_bad (status_for s d k up) && not t) (marks_stand d k l b)))
-          ∙ sym (ap (λ (t : Bool). cond t Done (ended_by s (h ++ up ∷ []) (Some up))) (sym all_same ∙ e))
+          ∙ ap (ended_for s up) (find-packets_agree s (λ x. ends_for s (marked rows') up x) (λ x. ends_for s (acked s (h ++ up ∷ [])) up x) same_test)
+          ∙ sym (ap (λ t. cond t Done (ended_by s (h ++ up ∷ []) (Some up))) (sym all_same ∙ e))
 
-    counts_hear : (d k : ℕ) → d < drone_count s → k < packet_count s d → list_any (λ j. j == k) (flight_of s marks' d) ≡ true →
-        counts' d k ≡ ticks s (h ++ up ∷ []) (record { drone = d; packet = k })
-    counts_hear d k l b there =
-        counted_is d k missing ∙ before (list_any (λ j. j == k) (flight_of s marks d)) refl
-        ∙ (let e : ticks s h (record { drone = d; packet = k }) ≡ ticks s h (record { drone = d; packet = k }) + 0 = omega arith in e)
-        ∙ sym (ticks-push s h up (record { drone = d; packet = k })) where
-          missing : marks' d k ≡ false
-          missing = flight-open s marks' d k there
+    flights : flight_after s (marked rows) ≡ flight s h
+    flights = flight_after-agree s (marked rows) (acked s h) before
 
-          in_flight : list_any (λ j. j == k) (flight_of s marks d) ≡ list_any (λ j. j == k) (flight_of s (acked s h) d)
-          in_flight = ap (λ (xs : List ℕ). list_any (λ j. j == k) xs) (flight_of-agree s marks (acked s h) d l (λ e i m n. stands.marked (inl refl) e i m n))
+    flights' : flight_after s (marked rows') ≡ flight s (h ++ up ∷ [])
+    flights' = flight_after-agree s (marked rows') (acked s (h ++ up ∷ [])) now
 
-          before : (t : Bool) → list_any (λ j. j == k) (flight_of s marks d) ≡ t → counts d k ≡ ticks s h (record { drone = d; packet = k })
-          before true e = stands.counted refl d k l b (sym in_flight ∙ e)
-          before false e =
-              ready.idle d k l b (unmarked d k missing) e
-              ∙ sym (never_ticked s h d k l (sym (stands.marked (inl refl) d k l b) ∙ unmarked d k missing) (sym in_flight ∙ e))
+    counts_stand : (x : Sent) → x.drone < drone_count s → includes (flight s (h ++ up ∷ [])) x ≡ true → counted rows' x.drone x.packet ≡ ticks s (h ++ up ∷ []) x
+    counts_stand x l there =
+        counts_is x (ap (λ (xs : List Sent). includes xs x) flights' ∙ there)
+        ∙ ap (λ (xs : List Sent). cond (includes xs x) (counted rows x.drone x.packet) 0) flights
+        ∙ by_flight (includes (flight s h) x) refl
+        ∙ (let e : ticks s h x ≡ ticks s h x + 0 = omega arith in e) ∙ sym (ticks-push s h up x) where
+          opened : acked s (h ++ up ∷ []) x.drone x.packet ≡ false
+          opened = (flight-open s (phase_of s (acked s (h ++ up ∷ []))) (acked s (h ++ up ∷ [])) x.drone x.packet
+              (sym (includes-flight_at s (phase_of s (acked s (h ++ up ∷ []))) (acked s (h ++ up ∷ [])) x l) ∙ there)).2
 
-    pub stands-hear : HostStandsFor (record { session = s; marked = marks'; counted = counts'; progress = answer }) (h ++ up ∷ [])
+          by_flight : (b : Bool) → includes (flight s h) x ≡ b → cond b (counted rows x.drone x.packet) 0 ≡ ticks s h x
+          by_flight true e = stands.counted refl x l e
+          by_flight false e =
+              sym (ticks-none s h x l (false_from_ne_true (acked s h x.drone x.packet) (λ t. false≢true (sym opened ∙ acked-more s h (up ∷ []) x.drone x.packet t))) e)
+
+    pub stands-hear : HostStandsFor (record { session = s; marked = marked rows'; counted = counted rows'; progress = answer }) (h ++ up ∷ [])
     stands-hear = record {
       answer = answer-hear;
-      marked = λ either d k l b. marks_stand d k l b;
-      counted = λ going d k l b there.
-          counts_hear d k l b
-          (ap (λ (xs : List ℕ). list_any (λ j. j == k) xs) (flight_of-agree s marks' (acked s (h ++ up ∷ [])) d l marks_stand) ∙ there);
+      marked = λ either d k l b. now d k l b;
+      counted = λ going x l there. counts_stand x l there;
     }
 
-    pub sent-hear : if_going answer (filter (λ x. not (includes (flight_after s marks) x)) (flight_after s marks')) ≡ out s h up
+    pub sent-hear : if_going answer (filter (λ x. not (includes (flight_after s (marked rows)) x)) (flight_after s (marked rows'))) ≡ out s h up
     unfolding out
     sent-hear =
-        ap (λ (p : Progress). if_going p (filter (λ x. not (includes (flight_after s marks) x)) (flight_after s marks'))) answer-hear
-        ∙ ap (λ (xs : List Sent). if_going (progress s (h ++ up ∷ [])) (filter (λ x. not (includes xs x)) (flight_after s marks')))
-        (flight_after-agree s marks (acked s h) (λ d k l b. stands.marked (inl refl) d k l b))
-        ∙ ap (λ (xs : List Sent). if_going (progress s (h ++ up ∷ [])) (filter (λ x. not (includes (flight s h) x)) xs))
-        (flight_after-agree s marks' (acked s (h ++ up ∷ [])) marks_stand)
+        ap (λ (q : Progress). if_going q (filter (λ x. not (includes (flight_after s (marked rows)) x)) (flight_after s (marked rows')))) answer-hear
+        ∙ ap (λ (xs : List Sent). if_going (progress s (h ++ up ∷ [])) (filter (λ x. not (includes xs x)) (flight_after s (marked rows')))) flights
+        ∙ ap (λ (xs : List Sent). if_going (progress s (h ++ up ∷ [])) (filter (λ x. not (includes (flight s h) x)) xs)) flights'
 
 -- ---- after the end
 
@@ -269,6 +301,7 @@ if_going-ended Going xs h = absurd (h refl)
 if_going-ended Done xs h = refl
 if_going-ended (GaveUp d k) xs h = refl
 if_going-ended (Refused d k status) xs h = refl
+if_going-ended (Differs d address bytes got) xs h = refl
 
 pub sent-ended : (host : HostView) (h : List Event) (e : Event) → host.progress ≢ Going → HostStandsFor host h → out host.session h e ≡ []
 unfolding out

@@ -1,112 +1,24 @@
--- Walks over the packets of a drone, and over the drones, step by step.
-use Rattle.std.proofs.Common.{◌≡◌, ℕ, zero, suc, ◌+◌, ◌-◌, ◌<◌, ◌≤◌, Bool, true, false, not, cond, List, [], ◌∷◌, ◌++◌, length, take, min, filter, refl, ap, sym, ◌∙◌, arith, Option, Some, None}
-use Rattle.std.specs.Prelude.{find}
-use Rattle.std.specs.List.{range_with_len, list_all, flat_map}
-use Rattle.std.proofs.lemmas.Bool.{and_left, and_right, and_from}
-use Rattle.std.proofs.lemmas.List.{take_at, append-nil, append_assoc}
+-- A search, step by step.
+use Rattle.std.proofs.Common.{◌≡◌, ◌≢◌, ℕ, zero, suc, ◌+◌, ◌-◌, ◌<◌, ◌≤◌, ◌==◌, Bool, true, false, cond, eqb, List, [], ◌∷◌, ◌++◌, length, map, take, drop, set, refl, ap, sym, subst, ◌∙◌, arith, Option, Some, None}
+use Rattle.std.specs.Prelude.{find, All}
 use Rattle.std.specs.Option.{option_or}
-use Rattle.std.proofs.lemmas.List.Folds.{list_all-append, list_all-map, find-append}
-use Rattle.std.proofs.lemmas.List.Elements.{filter-append}
+use Rattle.std.specs.List.{range_with_len, flat_map}
+use Rattle.std.proofs.lemmas.Bool.{eq-eqb, ne_eqb}
+use Rattle.std.proofs.lemmas.Grind.{flat_map-append}
+use Rattle.std.proofs.lemmas.List.{map-append}
+use Rattle.std.proofs.lemmas.List.Folds.{find-append}
+use Rattle.std.proofs.lemmas.List.Elements.{All-head, All-tail}
+use Rattle.upload_model.specs.declared.events.Phase.{Phase}
+use Rattle.upload_model.specs.declared.events.Phase.TheVariants.{Loading, Reading, Starting}
 use Rattle.upload_model.specs.declared.events.Sent.{Sent}
-use Rattle.upload_model.specs.Sessions.{Upload, IsSession, drone_count, write_count, packet_count}
-use Rattle.upload_model.specs.Hosts.{Packets, open_writes, flight_from, flight_of, sent_to, acked}
-use Rattle.upload_model.proofs.HostSteps.{range-more}
-use Rattle.upload_model.proofs.HostLaws.{acked-nil}
-
-pub range-one_more : (n : ℕ) → range_with_len 0 (n + 1) ≡ range_with_len 0 n ++ n ∷ []
-range-one_more n =
-    ap (range_with_len 0) (let e : n + 1 ≡ suc n = omega arith in e) ∙ range-more 0 n
-    ∙ ap (λ (k : ℕ). range_with_len 0 n ++ k ∷ []) (let e : 0 + n ≡ n = omega arith in e)
-
-pub range-split : (a m n : ℕ) → range_with_len a (m + n) ≡ range_with_len a m ++ range_with_len (a + m) n
-range-split a zero n =
-    ap (range_with_len a) (let e : 0 + n ≡ n = omega arith in e) ∙ ap (λ (k : ℕ). range_with_len k n) (let e : a ≡ a + 0 = omega arith in e)
-range-split a (suc m) n =
-    ap (range_with_len a) (let e : suc m + n ≡ suc (m + n) = omega arith in e)
-    ∙ ap (λ (xs : List ℕ). a ∷ xs) (range-split (a + 1) m n ∙ ap (λ (k : ℕ). range_with_len (a + 1) m ++ range_with_len k n) (let e : a + 1 + m ≡ a + suc m = omega arith in e))
-
--- all so far, and one more
-pub list_all-walk : (p : ℕ → Bool) (n : ℕ) → list_all p (range_with_len 0 n) ≡ true → p n ≡ true → list_all p (range_with_len 0 (n + 1)) ≡ true
-list_all-walk p n before here =
-    ap (list_all p) (range-one_more n) ∙ list_all-append p (range_with_len 0 n) (n ∷ [])
-    ∙ and_from (list_all p (range_with_len 0 n)) (list_all p (n ∷ [])) before (and_from (p n) true here refl)
-
--- one that fails
-pub list_all-fails : (p : ℕ → Bool) (n k : ℕ) → k < n → p k ≡ false → list_all p (range_with_len 0 n) ≡ false
-list_all-fails p n k l here =
-    ap (λ (m : ℕ). list_all p (range_with_len 0 m)) (let e : n ≡ k + 1 + (n - (k + 1)) = omega arith in e)
-    ∙ ap (list_all p) (range-split 0 (k + 1) (n - (k + 1)))
-    ∙ list_all-append p (range_with_len 0 (k + 1)) (range_with_len (0 + (k + 1)) (n - (k + 1)))
-    ∙ and_left (list_all p (range_with_len 0 (k + 1))) (list_all p (range_with_len (0 + (k + 1)) (n - (k + 1))))
-    (ap (list_all p) (range-one_more k) ∙ list_all-append p (range_with_len 0 k) (k ∷ [])
-    ∙ and_right (list_all p (range_with_len 0 k)) (list_all p (k ∷ [])) (and_left (p k) true here))
-
-pub filter-walk_yes : (p : ℕ → Bool) (n : ℕ) → p n ≡ true → filter p (range_with_len 0 (n + 1)) ≡ filter p (range_with_len 0 n) ++ n ∷ []
-filter-walk_yes p n here =
-    ap (filter p) (range-one_more n) ∙ filter-append p (range_with_len 0 n) (n ∷ [])
-    ∙ ap (λ (b : Bool). filter p (range_with_len 0 n) ++ cond b (n ∷ []) []) here
-
-pub filter-walk_no : (p : ℕ → Bool) (n : ℕ) → p n ≡ false → filter p (range_with_len 0 (n + 1)) ≡ filter p (range_with_len 0 n)
-filter-walk_no p n here =
-    ap (filter p) (range-one_more n) ∙ filter-append p (range_with_len 0 n) (n ∷ [])
-    ∙ ap (λ (b : Bool). filter p (range_with_len 0 n) ++ cond b (n ∷ []) []) here ∙ append-nil (filter p (range_with_len 0 n))
-
--- ---- what is in flight for one drone
-
--- the first four are found
-pub open_writes-full : (s : Upload) (done : Packets) (d k : ℕ) (found : List ℕ) → k + 1 ≤ write_count s d →
-    found ≡ filter (λ j. not (done d j)) (range_with_len 0 (k + 1)) → length found ≡ 4 → found ≡ take 4 (open_writes s done d)
-unfolding open_writes
-open_writes-full s done d k found l is four =
-    sym (ap (take 4)
-    (ap (λ (m : ℕ). filter p (range_with_len 0 m)) (let e : write_count s d ≡ k + 1 + (write_count s d - (k + 1)) = omega arith in e)
-    ∙ ap (filter p) (range-split 0 (k + 1) (write_count s d - (k + 1)))
-    ∙ filter-append p (range_with_len 0 (k + 1)) (range_with_len (0 + (k + 1)) (write_count s d - (k + 1)))
-    ∙ ap (λ (xs : List ℕ). xs ++ filter p (range_with_len (0 + (k + 1)) (write_count s d - (k + 1)))) (sym is))
-    ∙ take_at found (filter p (range_with_len (0 + (k + 1)) (write_count s d - (k + 1)))) 4 four) where
-      p : ℕ → Bool
-      p j = not (done d j)
-
--- some are open, and none is
-flight_from-take : (s : Upload) (done : Packets) (d : ℕ) (xs found : List ℕ) → found ≡ take 4 xs → 1 ≤ length found → found ≡ flight_from s done d xs
-flight_from-take s done d [] found e h = absurd (let n : length found ≡ 0 = ap (λ (ys : List ℕ). length ys) e in omega arith)
-flight_from-take s done d (x ∷ xs) found e h = e
-
-pub flight_of-some : (s : Upload) (done : Packets) (d : ℕ) (found : List ℕ) → found ≡ take 4 (open_writes s done d) → 1 ≤ length found → found ≡ flight_of s done d
-unfolding flight_of
-flight_of-some s done d found e h = flight_from-take s done d (open_writes s done d) found e h
-
-flight_from-none : (s : Upload) (done : Packets) (d : ℕ) (xs found : List ℕ) → found ≡ take 4 xs → length found ≡ 0 → flight_from s done d [] ≡ flight_from s done d xs
-flight_from-none s done d [] found e h = refl
-flight_from-none s done d (x ∷ xs) found e h = absurd (let n : length found ≡ length (take 4 (x ∷ xs)) = ap (λ (ys : List ℕ). length ys) e in omega arith)
-
-pub flight_of-none : (s : Upload) (done : Packets) (d : ℕ) (found : List ℕ) → found ≡ take 4 (open_writes s done d) → length found ≡ 0 →
-    flight_from s done d [] ≡ flight_of s done d
-unfolding flight_of
-flight_of-none s done d found e h = flight_from-none s done d (open_writes s done d) found e h
-
--- ---- over the drones
-
-pub flat_map-walk : {X : Type 0} (f : ℕ → List X) (n : ℕ) → flat_map f (range_with_len 0 (n + 1)) ≡ flat_map f (range_with_len 0 n) ++ f n
-flat_map-walk {X} f n = ap (flat_map f) (range-one_more n) ∙ flat_map-append_one f (range_with_len 0 n) n where
-  flat_map-append_one : (f : ℕ → List X) (xs : List ℕ) (n : ℕ) → flat_map f (xs ++ n ∷ []) ≡ flat_map f xs ++ f n
-  flat_map-append_one f [] n = append-nil (f n)
-  flat_map-append_one f (x ∷ xs) n = ap (λ (ys : List X). f x ++ ys) (flat_map-append_one f xs n) ∙ sym (append_assoc (f x) (flat_map f xs) (f n))
-
-flat_map-append : {X : Type 0} (f : ℕ → List X) (xs ys : List ℕ) → flat_map f (xs ++ ys) ≡ flat_map f xs ++ flat_map f ys
-flat_map-append f [] ys = refl
-flat_map-append {X} f (x ∷ xs) ys = ap (λ (zs : List X). f x ++ zs) (flat_map-append f xs ys) ∙ sym (append_assoc (f x) (flat_map f xs) (flat_map f ys))
-
--- up to place k, and what comes after it
-pub flat_map-split : {X : Type 0} (f : ℕ → List X) (n k : ℕ) → k < n →
-    flat_map f (range_with_len 0 n) ≡ (flat_map f (range_with_len 0 k) ++ f k) ++ flat_map f (range_with_len (0 + (k + 1)) (n - (k + 1)))
-flat_map-split {X} f n k l =
-    ap (λ (m : ℕ). flat_map f (range_with_len 0 m)) (let e : n ≡ k + 1 + (n - (k + 1)) = omega arith in e)
-    ∙ ap (flat_map f) (range-split 0 (k + 1) (n - (k + 1)))
-    ∙ flat_map-append f (range_with_len 0 (k + 1)) (range_with_len (0 + (k + 1)) (n - (k + 1)))
-    ∙ ap (λ (xs : List X). xs ++ flat_map f (range_with_len (0 + (k + 1)) (n - (k + 1)))) (flat_map-walk f k)
-
--- ---- a search
+use Rattle.upload_model.specs.Sessions.{Upload, count_of}
+use Rattle.upload_model.specs.Hosts.{Packets, allowed, sent_to}
+use Rattle.upload_core.specs.declared.row.InFlight.{InFlight}
+use Rattle.upload_core.specs.declared.row.Row.{Row}
+use Rattle.upload_core.specs.Rows.{packets_in, row_at, window_at, counted, count_in}
+use Rattle.upload_core.specs.Steps.{IsBetween, IsRow, older_row, tired_in, in_windows}
+use Rattle.upload_core.proofs.Numbers.{range-split}
+use Rattle.upload_core.proofs.Windows.{range-one_more, windows-walk}
 
 pub find-walk : (p : ℕ → Bool) (n : ℕ) → find p (range_with_len 0 n) ≡ None → p n ≡ false → find p (range_with_len 0 (n + 1)) ≡ None
 find-walk p n before here =
@@ -123,84 +35,93 @@ find-at p n k l before here =
     (ap (find p) (range-one_more k) ∙ find-append p (range_with_len 0 k) (k ∷ [])
     ∙ ap (λ (o : Option ℕ). option_or o (find p (k ∷ []))) before ∙ ap (λ (b : Bool). cond b (Some k) None) here)
 
-abbrev sent_some : ℕ → Option ℕ → Option Sent
-sent_some d None = None
-sent_some d (Some k) = Some (record { drone = d; packet = k })
 
-find-sent_to : (p : Sent → Bool) (d : ℕ) (ks : List ℕ) → find p (sent_to d ks) ≡ sent_some d (find (λ k. p (record { drone = d; packet = k })) ks)
-find-sent_to p d [] = refl
-find-sent_to p d (k ∷ ks) = at (p (record { drone = d; packet = k })) (find-sent_to p d ks) where
-  at : (b : Bool) → find p (sent_to d ks) ≡ sent_some d (find (λ j. p (record { drone = d; packet = j })) ks) →
-      cond b (Some (record { drone = d; packet = k })) (find p (sent_to d ks)) ≡ sent_some d (cond b (Some k) (find (λ j. p (record { drone = d; packet = j })) ks))
+-- ---- what is sent and counted, drone by drone
+
+pub sent-entry : (d : ℕ) (es : List InFlight) (i : ℕ) (x : InFlight) → take (i + 1) es ≡ take i es ++ x ∷ [] →
+    sent_to d (packets_in (take (i + 1) es)) ≡ sent_to d (packets_in (take i es)) ++ record { drone = d; packet = x.packet } ∷ []
+sent-entry d es i x more =
+    ap (λ (xs : List InFlight). sent_to d (packets_in xs)) more
+    ∙ ap (sent_to d) (map-append (λ (e : InFlight). e.packet) (take i es) (x ∷ []))
+    ∙ map-append (λ (k : ℕ). record { drone = d; packet = k }) (packets_in (take i es)) (x.packet ∷ [])
+
+pub older-step : (rows : List Row) (i : ℕ) (row : Row) → i < length rows → row ≡ older_row (row_at rows i) →
+    set (map older_row (take i rows) ++ drop i rows) i row ≡ map older_row (take (i + 1) rows) ++ drop (i + 1) rows
+older-step [] i row l is = absurd (omega arith)
+older-step (x ∷ rows) zero row l is = ap (λ (r : Row). r ∷ rows) is
+older-step (x ∷ rows) (suc i) row l is =
+    ap (λ (ys : List Row). older_row x ∷ ys) (older-step rows i row (omega arith) is)
+    ∙ ap (λ (n : ℕ). map older_row (take n (x ∷ rows)) ++ drop n (x ∷ rows)) (let e : suc (i + 1) ≡ suc i + 1 = omega arith in e)
+
+pub all-at : (rows : List Row) → All (λ (row : Row). All (λ (e : InFlight). e.ticks < 20) row.window.items) rows → (d : ℕ) → d < length rows → All (λ (e : InFlight). e.ticks < 20) (row_at rows d).window.items
+all-at [] low d l = absurd (omega arith)
+all-at (row ∷ rows) low zero l = All-head (λ (r : Row). All (λ (e : InFlight). e.ticks < 20) r.window.items) row rows low
+all-at (row ∷ rows) low (suc d) l = all-at rows (All-tail (λ (r : Row). All (λ (e : InFlight). e.ticks < 20) r.window.items) row rows low) d (omega arith)
+
+-- the first packet at 20 ticks, of one drone and of all
+tired-rising : (a b : ℕ) (es : List InFlight) (q : ℕ → Bool) → IsBetween a b (packets_in es) → ((k : ℕ) → a ≤ k → q k ≡ (count_in es k == 20)) →
+    find q (packets_in es) ≡ tired_in es
+tired-rising a b [] q rising h = refl
+tired-rising a b (e ∷ es) q rising h =
+    ap (λ (v : Bool). cond v (Some e.packet) (find q (packets_in es)))
+    (h e.packet rising.0 ∙ ap (λ (v : Bool). eqb (cond v e.ticks (count_in es e.packet)) 20) (eq-eqb e.packet e.packet refl))
+    ∙ ap (λ (o : Option ℕ). cond (e.ticks == 20) (Some e.packet) o)
+    (tired-rising (e.packet + 1) b es q rising.2
+    (λ k l. h k (let from = rising.0 in omega (arith, from, l)) ∙ ap (λ (v : Bool). eqb (cond v e.ticks (count_in es k)) 20) (ne_eqb e.packet k (λ same. omega (arith, same, l)))))
+
+abbrev pub packet_of : ℕ → Option ℕ → Option Sent
+packet_of d None = None
+packet_of d (Some k) = Some (record { drone = d; packet = k })
+
+find-sent : (q : Sent → Bool) (d : ℕ) (ks : List ℕ) → find q (sent_to d ks) ≡ packet_of d (find (λ k. q (record { drone = d; packet = k })) ks)
+find-sent q d [] = refl
+find-sent q d (k ∷ ks) = at (q (record { drone = d; packet = k })) (find-sent q d ks) where
+  at : (b : Bool) → find q (sent_to d ks) ≡ packet_of d (find (λ j. q (record { drone = d; packet = j })) ks) →
+      cond b (Some (record { drone = d; packet = k })) (find q (sent_to d ks)) ≡ packet_of d (cond b (Some k) (find (λ j. q (record { drone = d; packet = j })) ks))
   at true rest = refl
   at false rest = rest
 
-module _ (p : Sent → Bool) (count : ℕ → ℕ) where
-  abbrev rows : ℕ → List Sent
-  rows d = sent_to d (range_with_len 0 (count d))
+pub tired-row : (rows : List Row) (d : ℕ) → IsRow 0 (row_at rows d) → find (λ x. counted rows x.drone x.packet == 20) (sent_to d (window_at rows d)) ≡ packet_of d (tired_in (row_at rows d).window.items)
+tired-row rows d row =
+    find-sent (λ x. counted rows x.drone x.packet == 20) d (window_at rows d)
+    ∙ ap (packet_of d) (tired-rising 0 (row_at rows d).next (row_at rows d).window.items (λ k. counted rows d k == 20) row.rising (λ k l. refl))
 
-  abbrev row_test : ℕ → ℕ → Bool
-  row_test d k = p (record { drone = d; packet = k })
+pub tired-walk : (rows : List Row) (n : ℕ) → IsRow 0 (row_at rows n) → find (λ x. counted rows x.drone x.packet == 20) (in_windows rows n) ≡ None →
+    find (λ x. counted rows x.drone x.packet == 20) (in_windows rows (n + 1)) ≡ packet_of n (tired_in (row_at rows n).window.items)
+tired-walk rows n row before =
+    ap (find (λ x. counted rows x.drone x.packet == 20)) (windows-walk rows n)
+    ∙ find-append (λ x. counted rows x.drone x.packet == 20) (in_windows rows n) (sent_to n (window_at rows n))
+    ∙ ap (λ (o : Option Sent). option_or o (find (λ x. counted rows x.drone x.packet == 20) (sent_to n (window_at rows n)))) before
+    ∙ tired-row rows n row
 
-  pub find-rows_walk : (d : ℕ) → find p (flat_map rows (range_with_len 0 d)) ≡ None → find (row_test d) (range_with_len 0 (count d)) ≡ None →
-      find p (flat_map rows (range_with_len 0 (d + 1))) ≡ None
-  find-rows_walk d before here =
-      ap (find p) (flat_map-walk rows d) ∙ find-append p (flat_map rows (range_with_len 0 d)) (rows d)
-      ∙ ap (λ (o : Option Sent). option_or o (find p (rows d))) before
-      ∙ find-sent_to p d (range_with_len 0 (count d)) ∙ ap (sent_some d) here
+pub tired-here : (rows : List Row) (n m k : ℕ) → n < m → IsRow 0 (row_at rows n) → find (λ x. counted rows x.drone x.packet == 20) (in_windows rows n) ≡ None →
+    tired_in (row_at rows n).window.items ≡ Some k → find (λ x. counted rows x.drone x.packet == 20) (in_windows rows m) ≡ Some (record { drone = n; packet = k })
+tired-here rows n m k l row before here =
+    ap (λ (j : ℕ). find (λ x. counted rows x.drone x.packet == 20) (in_windows rows j)) (let e : m ≡ n + 1 + (m - (n + 1)) = omega arith in e)
+    ∙ ap (λ (ds : List ℕ). find (λ x. counted rows x.drone x.packet == 20) (flat_map (λ d. sent_to d (window_at rows d)) ds)) (range-split 0 (n + 1) (m - (n + 1)))
+    ∙ ap (find (λ x. counted rows x.drone x.packet == 20)) (flat_map-append (λ d. sent_to d (window_at rows d)) (range_with_len 0 (n + 1)) (range_with_len (0 + (n + 1)) (m - (n + 1))))
+    ∙ find-append (λ x. counted rows x.drone x.packet == 20) (in_windows rows (n + 1)) (flat_map (λ d. sent_to d (window_at rows d)) (range_with_len (0 + (n + 1)) (m - (n + 1))))
+    ∙ ap (λ (o : Option Sent). option_or o (find (λ x. counted rows x.drone x.packet == 20) (flat_map (λ d. sent_to d (window_at rows d)) (range_with_len (0 + (n + 1)) (m - (n + 1))))))
+    (tired-walk rows n row before ∙ ap (packet_of n) here)
 
-  pub find-rows_at : (n d k : ℕ) → d < n → find p (flat_map rows (range_with_len 0 d)) ≡ None → find (row_test d) (range_with_len 0 (count d)) ≡ Some k →
-      find p (flat_map rows (range_with_len 0 n)) ≡ Some (record { drone = d; packet = k })
-  find-rows_at n d k l before here =
-      ap (find p) (flat_map-split rows n d l)
-      ∙ find-append p (flat_map rows (range_with_len 0 d) ++ rows d) (flat_map rows (range_with_len (0 + (d + 1)) (n - (d + 1))))
-      ∙ ap (λ (o : Option Sent). option_or o (find p (flat_map rows (range_with_len (0 + (d + 1)) (n - (d + 1))))))
-      (find-append p (flat_map rows (range_with_len 0 d)) (rows d)
-      ∙ ap (λ (o : Option Sent). option_or o (find p (rows d))) before
-      ∙ find-sent_to p d (range_with_len 0 (count d)) ∙ ap (sent_some d) here)
+-- ---- rows of a phase that begins
 
-  pub list_all-rows_walk : (d : ℕ) → list_all p (flat_map rows (range_with_len 0 d)) ≡ true → list_all (row_test d) (range_with_len 0 (count d)) ≡ true →
-      list_all p (flat_map rows (range_with_len 0 (d + 1))) ≡ true
-  list_all-rows_walk d before here =
-      ap (list_all p) (flat_map-walk rows d) ∙ list_all-append p (flat_map rows (range_with_len 0 d)) (rows d)
-      ∙ and_from (list_all p (flat_map rows (range_with_len 0 d))) (list_all p (rows d)) before
-      (list_all-map p (λ (k : ℕ). record { drone = d; packet = k }) (range_with_len 0 (count d)) ∙ here)
+pub allowed-later : (s : Upload) (p : Phase) (done : Packets) (d : ℕ) → p ≢ Loading → count_of s p d ≡ allowed s p done d
+allowed-later s Loading done d other = absurd (other refl)
+allowed-later s Reading done d other = refl
+allowed-later s Starting done d other = refl
 
-  pub list_all-rows_fails : (n d : ℕ) → d < n → list_all (row_test d) (range_with_len 0 (count d)) ≡ false →
-      list_all p (flat_map rows (range_with_len 0 n)) ≡ false
-  list_all-rows_fails n d l here =
-      ap (list_all p) (flat_map-split rows n d l)
-      ∙ list_all-append p (flat_map rows (range_with_len 0 d) ++ rows d) (flat_map rows (range_with_len (0 + (d + 1)) (n - (d + 1))))
-      ∙ and_left (list_all p (flat_map rows (range_with_len 0 d) ++ rows d)) (list_all p (flat_map rows (range_with_len (0 + (d + 1)) (n - (d + 1)))))
-      (list_all-append p (flat_map rows (range_with_len 0 d)) (rows d)
-      ∙ and_right (list_all p (flat_map rows (range_with_len 0 d))) (list_all p (rows d))
-      (list_all-map p (λ (k : ℕ). record { drone = d; packet = k }) (range_with_len 0 (count d)) ∙ here))
+pub row_at-past : (rows : List Row) (d : ℕ) → length rows ≤ d → row_at rows d ≡ record { window = record { items = [] }; next = 0; until = 0 }
+row_at-past [] d l = refl
+row_at-past (row ∷ rows) zero l = absurd (omega arith)
+row_at-past (row ∷ rows) (suc d) l = row_at-past rows d (omega arith)
 
--- no drone has more packets than a row has places
-pub packet_count-few : (s : Upload) (d : ℕ) → IsSession s → d < drone_count s → packet_count s d ≤ 173
-unfolding packet_count write_count
-packet_count-few s d session l = by_start s.start where
-  by_start : (b : Bool) → write_count s d + cond b 2 1 ≤ 173
-  by_start true = let room = (session.loads d l).has_room in omega arith
-  by_start false = let room = (session.loads d l).has_room in omega arith
-
--- ---- before any event
-
-take-range : (m a n : ℕ) → take m (range_with_len a n) ≡ range_with_len a (min n m)
-take-range zero a n = ap (range_with_len a) (let e : 0 ≡ min n 0 = omega arith in e)
-take-range (suc m) a zero = ap (range_with_len a) (let e : 0 ≡ min 0 (suc m) = omega arith in e)
-take-range (suc m) a (suc n) =
-    ap (λ (xs : List ℕ). a ∷ xs) (take-range m (a + 1) n) ∙ ap (range_with_len a) (let e : suc (min n m) ≡ min (suc n) (suc m) = omega arith in e)
-
-filter-all : (p : ℕ → Bool) (xs : List ℕ) → ((k : ℕ) → p k ≡ true) → filter p xs ≡ xs
-filter-all p [] h = refl
-filter-all p (x ∷ xs) h = ap (λ (b : Bool). cond b (x ∷ filter p xs) (filter p xs)) (h x) ∙ ap (λ (ys : List ℕ). x ∷ ys) (filter-all p xs h)
-
-pub flight_of-first : (s : Upload) (d : ℕ) → 1 ≤ write_count s d → flight_of s (acked s []) d ≡ range_with_len 0 (min (write_count s d) 4)
-unfolding flight_of open_writes
-flight_of-first s d some =
-    ap (flight_from s (acked s []) d) (filter-all (λ k. not (acked s [] d k)) (range_with_len 0 (write_count s d)) (λ k. ap not (acked-nil s d k)))
-    ∙ by_count (write_count s d) some where
-      by_count : (n : ℕ) → 1 ≤ n → flight_from s (acked s []) d (range_with_len 0 n) ≡ range_with_len 0 (min n 4)
-      by_count zero h = absurd (omega arith)
-      by_count (suc n) h = take-range 4 0 (suc n)
+-- a row of which nothing is in flight, seen from the number 0
+pub row-empty : (a : ℕ) (row : Row) → IsRow a row → row.window.items ≡ [] → IsRow 0 row
+row-empty a row h empty = record {
+  rising = subst (λ (es : List InFlight). IsBetween 0 row.next (packets_in es)) (sym empty) tt;
+  from = omega arith;
+  past = h.past;
+  few = h.few;
+  full = h.full;
+}

@@ -1,240 +1,208 @@
--- Numbers that rise: what is in flight of a drone, and the first packet for which the host gives up.
-use Rattle.std.proofs.Common.{◌≡◌, ◌⊎◌, ◌==◌, ℕ, zero, suc, ◌+◌, ◌<◌, ◌≤◌, Bool, true, false, not, cond, ◌&&◌, ◌||◌, List, [], ◌∷◌, ◌++◌, length, take, drop, map, filter, refl, ap, sym, subst, ◌∙◌, arith, Option, Some, None, inl, inr}
+-- What is in flight of all drones, drone by drone, and rows of which one changes.
+use Rattle.std.proofs.Common.{◌≡◌, ◌≢◌, ◌==◌, ℕ, zero, suc, ◌+◌, ◌-◌, ◌<◌, ◌≤◌, Bool, true, false, not, cond, ◌&&◌, ◌||◌, List, [], ◌∷◌, ◌++◌, length, map, filter, set, get_or, refl, ap, sym, subst, ◌∙◌, arith, Option, Some, None, inl, inr}
 use Rattle.std.specs.Prelude.{find, All}
-use Rattle.std.specs.List.{refill}
 use Rattle.std.specs.Option.{option_or}
-use Rattle.std.specs.List.{range_with_len, list_all, list_any}
-use Rattle.std.proofs.lemmas.Bool.{cases_eq, eq-eqb, ne_eqb, eqb-true}
-use Rattle.std.proofs.lemmas.List.{take_at, length-map}
-use Rattle.std.proofs.lemmas.List.Elements.{All-nil, All-cons}
+use Rattle.std.specs.List.{range_with_len, list_any, list_all, flat_map}
+use Rattle.std.proofs.lemmas.Bool.{cases_eq, eq-eqb, ne_eqb, false≢true, eqb-true, and_parts}
+use Rattle.std.proofs.lemmas.List.{append-nil, append_assoc, get_or-set_same, get_or-set_other, length-set, map-append}
+use Rattle.std.proofs.lemmas.List.Elements.{filter-append}
 use Rattle.std.proofs.lemmas.List.Folds.{find-append}
-use Rattle.upload_model.specs.Hosts.{unless_done}
+use Rattle.upload_model.specs.declared.events.Phase.{Phase}
+use Rattle.upload_model.specs.declared.events.Phase.TheVariants.{Loading, Reading, Starting}
+use Rattle.upload_model.specs.declared.events.Sent.{Sent}
+use Rattle.upload_model.specs.Sessions.{Upload, drone_count, first_of, count_of}
+use Rattle.upload_model.specs.Hosts.{Packets, allowed, all_settled, phase_of, includes, flight_in, flight_at, flight_after, sent_to}
+use Rattle.upload_model.proofs.HostSteps.{range-more, list_all-range-agree, flat_map-range-agree}
 use Rattle.upload_core.specs.declared.row.InFlight.{InFlight}
 use Rattle.upload_core.specs.declared.row.Row.{Row}
-use Rattle.upload_core.specs.Rows.{is_in, packets_in, count_in, count_of, first_open}
-use Rattle.upload_core.specs.Steps.{RowView, seen, opens_from, HoldsWindow, late_from, flight_with, older, tired_in, one_of, IsBetween}
-use Rattle.upload_core.proofs.Walks.{range-split}
-use Rattle.upload_core.proofs.RowLemmas.{writes-empty}
+use Rattle.upload_core.specs.Rows.{packets_in, among, is_marked, row_at, marked, window_at}
+use Rattle.upload_core.specs.Steps.{RowStands, RowsStand, in_windows}
+use Rattle.upload_core.proofs.Numbers.{not-past}
+use Rattle.upload_core.proofs.RowLemmas.{row-flight, row-settled, row-open}
+use Rattle.upload_core.proofs.Staying.{includes-rows}
 
--- ---- numbers that rise
+-- ---- rows
 
-between-weaker : (a b : ℕ) (xs : List ℕ) → IsBetween (a + 1) b xs → IsBetween a b xs
-between-weaker a b [] h = h
-between-weaker a b (x ∷ xs) h = (let l = h.0 in omega arith, h.1, h.2)
+-- the element that is indexed
+pub row-at : (rows : List Row) (d : ℕ) (r : Row) → r ≡ get_or rows d r → d < length rows → row_at rows d ≡ r
+row-at [] d r is l = absurd (omega arith)
+row-at (x ∷ rows) zero r is l = sym is
+row-at (x ∷ rows) (suc d) r is l = row-at rows d r is (omega arith)
 
-pub filter-between : (p : ℕ → Bool) (a n b : ℕ) → a + n ≤ b → IsBetween a b (filter p (range_with_len a n))
-filter-between p a zero b l = tt
-filter-between p a (suc n) b l = at (p a) (filter-between p (a + 1) n b (omega arith)) where
-  at : (c : Bool) → IsBetween (a + 1) b (filter p (range_with_len (a + 1) n)) →
-      IsBetween a b (cond c (a ∷ filter p (range_with_len (a + 1) n)) (filter p (range_with_len (a + 1) n)))
-  at true rest = (omega arith, omega arith, rest)
-  at false rest = between-weaker a b (filter p (range_with_len (a + 1) n)) rest
+pub row_at-set_same : (rows : List Row) (d : ℕ) (r : Row) → d < length rows → row_at (set rows d r) d ≡ r
+row_at-set_same rows d r l = get_or-set_same rows d r (record { window = record { items = [] }; next = 0; until = 0 }) l
 
-between-front : (a b : ℕ) (xs ys : List ℕ) → IsBetween a b (xs ++ ys) → IsBetween a b xs
-between-front a b [] ys h = tt
-between-front a b (x ∷ xs) ys h = (h.0, h.1, between-front (x + 1) b xs ys h.2)
+pub row_at-set_other : (rows : List Row) (d i : ℕ) (r : Row) → i ≢ d → row_at (set rows d r) i ≡ row_at rows i
+row_at-set_other rows d i r other = get_or-set_other rows d i r (record { window = record { items = [] }; next = 0; until = 0 }) other
 
-pub between-any : (a b : ℕ) (xs : List ℕ) (k : ℕ) → IsBetween a b xs → (k < a) ⊎ (b ≤ k) → list_any (λ j. j == k) xs ≡ false
-between-any a b [] k h out = refl
-between-any a b (x ∷ xs) k h out =
-    ap (λ c. c || list_any (λ j. j == k) xs) (ne_eqb x k (λ e. elim out [ inl l ↦ let m = h.0 in absurd (omega arith) | inr l ↦ let m = h.1 in absurd (omega arith) ]))
-    ∙ between-any (x + 1) b xs k h.2 (elim out [ inl l ↦ inl (let m = h.0 in omega arith) | inr l ↦ inr l ])
+-- ---- what is in flight
 
-pub take-between : (n a b : ℕ) (xs : List ℕ) → IsBetween a b xs → IsBetween a b (take n xs)
-take-between zero a b xs h = tt
-take-between (suc n) a b [] h = tt
-take-between (suc n) a b (x ∷ xs) h = (h.0, h.1, take-between n (x + 1) b xs h.2)
+-- how far a drone may go depends on its own row
+own-row : (s : Upload) (p : Phase) (rows : List Row) (d : ℕ) → allowed s p (marked rows) d ≡ allowed s p (λ i k. is_marked (row_at rows d) k) d
+own-row s Loading rows d = refl
+own-row s Reading rows d = refl
+own-row s Starting rows d = refl
 
-pub window-between : (v : RowView) (n : ℕ) → HoldsWindow v n → IsBetween 0 n v.window
-window-between v n holds =
-    between-front 0 n v.window (opens_from (is_in v.words) v.next n)
-    (subst (IsBetween 0 n) holds.opens (filter-between (λ j. not (is_in v.words j)) 0 n n (omega arith)))
+pub window-flight : (s : Upload) (p : Phase) (rows : List Row) → RowsStand s p rows → (d : ℕ) → d < drone_count s → flight_in s p (marked rows) d ≡ window_at rows d
+window-flight s p rows stand d l = row-flight s p d (row_at rows d) (stand.each d l) (marked rows) (λ k. refl) (own-row s p rows d)
 
--- ---- counts
+pub windows-flight_at : (s : Upload) (p : Phase) (rows : List Row) → RowsStand s p rows → flight_at s p (marked rows) ≡ in_windows rows (drone_count s)
+unfolding flight_at
+windows-flight_at s p rows stand =
+    flat_map-range-agree (λ d. sent_to d (flight_in s p (marked rows) d)) (λ d. sent_to d (window_at rows d)) 0 (drone_count s)
+    (λ d l b. ap (sent_to d) (window-flight s p rows stand d (omega arith)))
 
-count_in-out : (es : List InFlight) (a b k : ℕ) → IsBetween a b (packets_in es) → (k < a) ⊎ (b ≤ k) → count_in es k ≡ 0
-count_in-out [] a b k h out = refl
-count_in-out (e ∷ es) a b k h out =
-    ap (λ c. cond c e.ticks (count_in es k)) (ne_eqb e.packet k (λ f. elim out [ inl l ↦ let m = h.0 in absurd (omega arith) | inr l ↦ let m = h.1 in absurd (omega arith) ]))
-    ∙ count_in-out es (e.packet + 1) b k h.2 (elim out [ inl l ↦ inl (let m = h.0 in omega arith) | inr l ↦ inr l ])
+pub windows-flight : (s : Upload) (p : Phase) (rows : List Row) → RowsStand s p rows → p ≡ phase_of s (marked rows) → flight_after s (marked rows) ≡ in_windows rows (drone_count s)
+windows-flight s p rows stand is = ap (λ (q : Phase). flight_at s q (marked rows)) (sym is) ∙ windows-flight_at s p rows stand
 
-pub count_in-absent : (es : List InFlight) (k : ℕ) → list_any (λ j. j == k) (packets_in es) ≡ false → count_in es k ≡ 0
-count_in-absent [] k e = refl
-count_in-absent (x ∷ es) k e = at (x.packet == k) (count_in-absent es k) e where
-  at : (b : Bool) → (list_any (λ j. j == k) (packets_in es) ≡ false → count_in es k ≡ 0) → (b || list_any (λ j. j == k) (packets_in es)) ≡ false → cond b x.ticks (count_in es k) ≡ 0
-  at true rest f = absurd (cc)
-  at false rest f = rest f
+pub includes-windows : (rows : List Row) (n : ℕ) (x : Sent) → x.drone < n → includes (in_windows rows n) x ≡ among (window_at rows x.drone) x.packet
+includes-windows rows n x l = includes-rows (window_at rows) 0 n x (omega arith) (omega arith)
 
-pub each-low : (es : List InFlight) (a b : ℕ) → IsBetween a b (packets_in es) → ((k : ℕ) → a ≤ k → k < b → count_in es k < 20) → All (λ e. e.ticks < 255) es
-each-low [] a b h low = All-nil (λ (e : InFlight). e.ticks < 255)
-each-low (e ∷ es) a b h low =
-    All-cons (λ (x : InFlight). x.ticks < 255) e es
-    (let here = low e.packet h.0 h.1 in
-    let is : count_in (e ∷ es) e.packet ≡ e.ticks = ap (λ c. cond c e.ticks (count_in es e.packet)) (eq-eqb e.packet e.packet refl) in
-    omega (arith, here, is))
-    (each-low es (e.packet + 1) b h.2 (λ k l m.
-    subst (λ (n : ℕ). n < 20) (ap (λ c. cond c e.ticks (count_in es k)) (ne_eqb e.packet k (omega arith))) (low k (let f = h.0 in omega arith) m)))
+-- ---- whether a phase is complete
 
-pub count_in-older : (es : List InFlight) (k : ℕ) → count_in (map older es) k ≡ count_in es k + cond (list_any (λ j. j == k) (packets_in es)) 1 0
-count_in-older [] k = refl
-count_in-older (e ∷ es) k = at (e.packet == k) (count_in-older es k) where
-  at : (b : Bool) → count_in (map older es) k ≡ count_in es k + cond (list_any (λ j. j == k) (packets_in es)) 1 0 →
-      cond b (e.ticks + 1) (count_in (map older es) k) ≡ cond b e.ticks (count_in es k) + cond (b || list_any (λ j. j == k) (packets_in es)) 1 0
-  at true rest = refl
+abbrev pub IsEmpty : List Row → Type 0
+IsEmpty rows = (d : ℕ) → (row_at rows d).window.items ≡ []
+
+pub all-settled : (s : Upload) (p : Phase) (rows : List Row) → RowsStand s p rows → ((d : ℕ) → d < drone_count s → (row_at rows d).window.items ≡ []) → all_settled s p (marked rows) ≡ true
+unfolding all_settled
+all-settled s p rows stand none =
+    list_all-range-agree (λ d. list_all (marked rows d) (range_with_len (first_of s p d) (count_of s p d))) (λ d. true) 0 (drone_count s)
+    (λ d l b. (row-settled s p d (row_at rows d) (stand.each d (omega arith)) (none d (omega arith))).1)
+    ∙ each (range_with_len 0 (drone_count s)) where
+      each : (xs : List ℕ) → list_all (λ d. true) xs ≡ true
+      each [] = refl
+      each (x ∷ xs) = each xs
+
+pub not-settled : (s : Upload) (p : Phase) (rows : List Row) → RowsStand s p rows → (d : ℕ) → d < drone_count s → ((row_at rows d).window.items ≡ [] → ⊥) → all_settled s p (marked rows) ≡ false
+unfolding all_settled
+not-settled s p rows stand d l some =
+    not-past (λ i. list_all (marked rows i) (range_with_len (first_of s p i) (count_of s p i))) 0 (drone_count s) d (omega arith) (omega arith) (by_window (row_at rows d).window.items refl) where
+      by_window : (es : List InFlight) → (row_at rows d).window.items ≡ es → list_all (marked rows d) (range_with_len (first_of s p d) (count_of s p d)) ≡ false
+      by_window [] e = absurd (some e)
+      by_window (x ∷ es) e = row-open s p d (row_at rows d) (stand.each d l) x es e
+
+-- rows of which none has anything in flight, and rows of which one has
+pub empty-all : (rows : List Row) → list_all (λ (row : Row). length row.window.items == 0) rows ≡ true → IsEmpty rows
+empty-all [] h d = refl
+empty-all (row ∷ rows) h zero = no-length row.window.items (eqb-true (length row.window.items) 0 (and_parts (length row.window.items == 0) (list_all (λ (r : Row). length r.window.items == 0) rows) h).0) where
+  no-length : (es : List InFlight) → length es ≡ 0 → es ≡ []
+  no-length [] e = refl
+  no-length (x ∷ es) e = absurd (omega arith)
+empty-all (row ∷ rows) h (suc d) =
+    empty-all rows (and_parts (length row.window.items == 0) (list_all (λ (r : Row). length r.window.items == 0) rows) h).1 d
+
+pub some-window : (rows : List Row) → list_all (λ (row : Row). length row.window.items == 0) rows ≡ false → (d : ℕ) × (d < length rows) × ((row_at rows d).window.items ≡ [] → ⊥)
+some-window [] h = absurd (false≢true (sym h))
+some-window (row ∷ rows) h = at (length row.window.items == 0) refl (λ f. some-window rows f) h where
+  at : (b : Bool) → (length row.window.items == 0) ≡ b → (list_all (λ (r : Row). length r.window.items == 0) rows ≡ false → (d : ℕ) × (d < length rows) × ((row_at rows d).window.items ≡ [] → ⊥)) →
+      (b && list_all (λ (r : Row). length r.window.items == 0) rows) ≡ false → (d : ℕ) × (d < suc (length rows)) × ((row_at (row ∷ rows) d).window.items ≡ [] → ⊥)
+  at true e later f = let r = later f in let l = r.1 in (suc r.0, omega arith, r.2)
+  at false e later f = (0, omega arith, (λ none. false≢true (sym e ∙ eq-eqb (length row.window.items) 0 (ap (λ (es : List InFlight). length es) none))))
+
+-- ---- over the drones, one by one
+
+pub range-one_more : (n : ℕ) → range_with_len 0 (n + 1) ≡ range_with_len 0 n ++ n ∷ []
+range-one_more n =
+    ap (range_with_len 0) (let e : n + 1 ≡ suc n = omega arith in e) ∙ range-more 0 n
+    ∙ ap (λ (k : ℕ). range_with_len 0 n ++ k ∷ []) (let e : 0 + n ≡ n = omega arith in e)
+
+pub flat_map-append_one : {X : Type 0} (f : ℕ → List X) (xs : List ℕ) (n : ℕ) → flat_map f (xs ++ n ∷ []) ≡ flat_map f xs ++ f n
+flat_map-append_one f [] n = append-nil (f n)
+flat_map-append_one {X} f (x ∷ xs) n = ap (λ (ys : List X). f x ++ ys) (flat_map-append_one f xs n) ∙ sym (append_assoc (f x) (flat_map f xs) (f n))
+
+pub windows-walk : (rows : List Row) (n : ℕ) → in_windows rows (n + 1) ≡ in_windows rows n ++ sent_to n (window_at rows n)
+windows-walk rows n =
+    ap (flat_map (λ d. sent_to d (window_at rows d))) (range-one_more n) ∙ flat_map-append_one (λ d. sent_to d (window_at rows d)) (range_with_len 0 n) n
+
+pub sent-more : (d a p : ℕ) → a ≤ p → sent_to d (range_with_len a (p - a)) ++ record { drone = d; packet = p } ∷ [] ≡ sent_to d (range_with_len a (p + 1 - a))
+sent-more d a p l =
+    ap (λ (n : ℕ). sent_to d (range_with_len a (p - a)) ++ record { drone = d; packet = n } ∷ []) (let e : p ≡ a + (p - a) = omega arith in e)
+    ∙ sym (map-append (λ (k : ℕ). record { drone = d; packet = k }) (range_with_len a (p - a)) ((a + (p - a)) ∷ []))
+    ∙ ap (sent_to d) (sym (range-more a (p - a)) ∙ ap (range_with_len a) (let e : suc (p - a) ≡ p + 1 - a = omega arith in e))
+
+-- ---- what is in flight and wasn't before
+
+abbrev pub rows_of : (ℕ → List ℕ) → ℕ → ℕ → List Sent
+rows_of f a n = flat_map (λ d. sent_to d (f d)) (range_with_len a n)
+
+filter-sent_to : (q : Sent → Bool) (d : ℕ) (ks : List ℕ) → filter q (sent_to d ks) ≡ sent_to d (filter (λ k. q (record { drone = d; packet = k })) ks)
+filter-sent_to q d [] = refl
+filter-sent_to q d (k ∷ ks) = at (q (record { drone = d; packet = k })) (filter-sent_to q d ks) where
+  at : (b : Bool) → filter q (sent_to d ks) ≡ sent_to d (filter (λ j. q (record { drone = d; packet = j })) ks) →
+      cond b (record { drone = d; packet = k } ∷ filter q (sent_to d ks)) (filter q (sent_to d ks))
+      ≡ sent_to d (cond b (k ∷ filter (λ j. q (record { drone = d; packet = j })) ks) (filter (λ j. q (record { drone = d; packet = j })) ks))
+  at true rest = ap (λ xs. record { drone = d; packet = k } ∷ xs) rest
   at false rest = rest
 
-pub packets-older : (es : List InFlight) → packets_in (map older es) ≡ packets_in es
-packets-older [] = refl
-packets-older (e ∷ es) = ap (λ ks. e.packet ∷ ks) (packets-older es)
+filter-same : (p q : ℕ → Bool) (ks : List ℕ) → ((k : ℕ) → p k ≡ q k) → filter p ks ≡ filter q ks
+filter-same p q [] h = refl
+filter-same p q (k ∷ ks) h = ap (λ b. cond b (k ∷ filter p ks) (filter p ks)) (h k) ∙ ap (λ xs. cond (q k) (k ∷ xs) xs) (filter-same p q ks h)
 
--- ---- the first packet at 20 ticks
+filter-none : (q : ℕ → Bool) (ks : List ℕ) → ((k : ℕ) → among ks k ≡ true → q k ≡ false) → filter q ks ≡ []
+filter-none q [] h = refl
+filter-none q (k ∷ ks) h =
+    ap (λ b. cond b (k ∷ filter q ks) (filter q ks)) (h k (ap (λ b. b || among ks k) (eq-eqb k k refl)))
+    ∙ filter-none q ks (λ j a. h j (later (k == j) a)) where
+      later : {c : Bool} (b : Bool) → c ≡ true → (b || c) ≡ true
+      later true e = refl
+      later false e = e
 
-find-range_agree : (p q : ℕ → Bool) (a n : ℕ) → ((k : ℕ) → a ≤ k → k < a + n → p k ≡ q k) → find p (range_with_len a n) ≡ find q (range_with_len a n)
-find-range_agree p q a zero h = refl
-find-range_agree p q a (suc n) h =
-    ap (λ b. cond b (Some a) (find p (range_with_len (a + 1) n))) (h a (omega arith) (omega arith))
-    ∙ ap (λ o. cond (q a) (Some a) o) (find-range_agree p q (a + 1) n (λ k l m. h k (omega arith) (omega arith)))
+filter-whole : (q : ℕ → Bool) (ks : List ℕ) → ((k : ℕ) → among ks k ≡ true → q k ≡ true) → filter q ks ≡ ks
+filter-whole q [] h = refl
+filter-whole q (k ∷ ks) h =
+    ap (λ b. cond b (k ∷ filter q ks) (filter q ks)) (h k (ap (λ b. b || among ks k) (eq-eqb k k refl)))
+    ∙ ap (λ xs. k ∷ xs) (filter-whole q ks (λ j a. h j (later (k == j) a))) where
+      later : {c : Bool} (b : Bool) → c ≡ true → (b || c) ≡ true
+      later true e = refl
+      later false e = e
 
-find-tired : (es : List InFlight) (a n : ℕ) → IsBetween a (a + n) (packets_in es) → find (λ k. count_in es k == 20) (range_with_len a n) ≡ tired_in es
-find-tired [] a zero h = refl
-find-tired (e ∷ es) a zero h = absurd (let l = h.0 in let m = h.1 in omega arith)
-find-tired [] a (suc n) h = find-tired [] (a + 1) n tt
-find-tired (e ∷ es) a (suc n) h = elim (cases_eq e.packet a) [
+rows-none : (f : ℕ → List ℕ) (a n : ℕ) → ((d : ℕ) → a ≤ d → d < a + n → f d ≡ []) → rows_of f a n ≡ []
+rows-none f a zero h = refl
+rows-none f a (suc n) h =
+    ap (λ ks. sent_to a ks ++ rows_of f (a + 1) n) (h a (omega arith) (omega arith)) ∙ rows-none f (a + 1) n (λ d l m. h d (omega arith) (omega arith))
+
+rows-one : (f : ℕ → List ℕ) (a n i : ℕ) → a ≤ i → i < a + n → ((d : ℕ) → a ≤ d → d < a + n → d ≢ i → f d ≡ []) → rows_of f a n ≡ sent_to i (f i)
+rows-one f a zero i l m h = absurd (omega arith)
+rows-one f a (suc n) i l m h = elim (cases_eq a i) [
   | inl same ↦
-      let later : find (λ k. count_in (e ∷ es) k == 20) (range_with_len (a + 1) n) ≡ tired_in es
-      = find-range_agree (λ k. count_in (e ∷ es) k == 20) (λ k. count_in es k == 20) (a + 1) n
-      (λ k l m. ap (λ c. cond c e.ticks (count_in es k) == 20) (ne_eqb e.packet k (omega arith)))
-      ∙ find-tired es (a + 1) n (subst (λ (b : ℕ). IsBetween (a + 1) b (packets_in es)) (let f : a + suc n ≡ a + 1 + n = omega arith in f) (subst (λ (b : ℕ). IsBetween (b + 1) (a + suc n) (packets_in es)) same h.2)) in
-      ap (λ (t : ℕ). cond (t == 20) (Some a) (find (λ k. count_in (e ∷ es) k == 20) (range_with_len (a + 1) n)))
-      (ap (λ c. cond c e.ticks (count_in es a)) (eq-eqb e.packet a same))
-      ∙ ap (λ o. cond (e.ticks == 20) (Some a) o) later
-      ∙ ap (λ (k : ℕ). cond (e.ticks == 20) (Some k) (tired_in es)) (sym same)
+      ap (λ xs. sent_to a (f a) ++ xs) (rows-none f (a + 1) n (λ d o p. h d (omega arith) (omega arith) (λ e. omega arith)))
+      ∙ append-nil (sent_to a (f a)) ∙ ap (λ (d : ℕ). sent_to d (f d)) same
   | inr other ↦
-      let none : count_in (e ∷ es) a ≡ 0 = count_in-out (e ∷ es) (a + 1) (a + suc n) a (let l = h.0 in omega arith, h.1, h.2) (inl (omega arith)) in
-      ap (λ (t : ℕ). cond (t == 20) (Some a) (find (λ k. count_in (e ∷ es) k == 20) (range_with_len (a + 1) n))) none
-      ∙ find-tired (e ∷ es) (a + 1) n (let l = h.0 in omega arith, (let m = h.1 in omega arith), subst (λ (b : ℕ). IsBetween (e.packet + 1) b (packets_in es)) (let f : a + suc n ≡ a + 1 + n = omega arith in f) h.2)
+      ap (λ ks. sent_to a ks ++ rows_of f (a + 1) n) (h a (omega arith) (omega arith) other)
+      ∙ rows-one f (a + 1) n i (omega arith) (omega arith) (λ d o p q. h d (omega arith) (omega arith) q)
 ]
 
-module _ (row : Row) (n : ℕ) where
-  pub count-write : (k : ℕ) → k < n → count_of row n k ≡ count_in row.writes.items k
-  count-write k l =
-      ap (λ b. cond b row.define_ticks (cond (k == n + 1) row.start_ticks (count_in row.writes.items k))) (ne_eqb k n (omega arith))
-      ∙ ap (λ b. cond b row.start_ticks (count_in row.writes.items k)) (ne_eqb k (n + 1) (omega arith))
+rows-same : (f g : ℕ → List ℕ) (a n : ℕ) → ((d : ℕ) → a ≤ d → d < a + n → f d ≡ g d) → rows_of f a n ≡ rows_of g a n
+rows-same f g a zero h = refl
+rows-same f g a (suc n) h =
+    ap (λ ks. sent_to a ks ++ rows_of f (a + 1) n) (h a (omega arith) (omega arith))
+    ∙ ap (λ xs. sent_to a (g a) ++ xs) (rows-same f g (a + 1) n (λ d l m. h d (omega arith) (omega arith)))
 
-  pub count-define : count_of row n n ≡ row.define_ticks
-  count-define = ap (λ b. cond b row.define_ticks (cond (n == n + 1) row.start_ticks (count_in row.writes.items n))) (eq-eqb n n refl)
+module _ (f g : ℕ → List ℕ) (n : ℕ) where
+  -- what a drone has in flight now and hadn't before
+  abbrev news : ℕ → List ℕ
+  news d = filter (λ k. not (among (f d) k)) (g d)
 
-  pub count-start : count_of row n (n + 1) ≡ row.start_ticks
-  count-start =
-      ap (λ b. cond b row.define_ticks (cond (n + 1 == n + 1) row.start_ticks (count_in row.writes.items (n + 1)))) (ne_eqb (n + 1) n (omega arith))
-      ∙ ap (λ b. cond b row.start_ticks (count_in row.writes.items (n + 1))) (eq-eqb (n + 1) (n + 1) refl)
+  news-rows : (a m : ℕ) → a + m ≤ n → filter (λ x. not (includes (rows_of f 0 n) x)) (rows_of g a m) ≡ rows_of news a m
+  news-rows a zero l = refl
+  news-rows a (suc m) l =
+      filter-append (λ x. not (includes (rows_of f 0 n) x)) (sent_to a (g a)) (rows_of g (a + 1) m)
+      ∙ ap (λ xs. xs ++ filter (λ x. not (includes (rows_of f 0 n) x)) (rows_of g (a + 1) m))
+      (filter-sent_to (λ x. not (includes (rows_of f 0 n) x)) a (g a)
+      ∙ ap (sent_to a) (filter-same (λ k. not (includes (rows_of f 0 n) (record { drone = a; packet = k }))) (λ k. not (among (f a) k)) (g a)
+      (λ k. ap not (includes-rows f 0 n (record { drone = a; packet = k }) (omega arith) (omega arith)))))
+      ∙ ap (λ xs. sent_to a (news a) ++ xs) (news-rows (a + 1) m (omega arith))
 
-  abbrev is_tired : ℕ → Bool
-  is_tired k = count_of row n k == 20
+  -- all is new where none was there before
+  pub news-all : ((d k : ℕ) → d < n → among (g d) k ≡ true → among (f d) k ≡ false) → rows_of g 0 n ≡ filter (λ x. not (includes (rows_of f 0 n) x)) (rows_of g 0 n)
+  news-all h =
+      sym (news-rows 0 n (omega arith) ∙ rows-same news g 0 n
+      (λ d l m. filter-whole (λ k. not (among (f d) k)) (g d) (λ k a. ap not (h d k (omega arith) a))))
 
-  pub tired-row : HoldsWindow (seen row) n → (starts : Bool) →
-      find (λ k. count_of row n k == 20) (range_with_len 0 (n + cond starts 2 1)) ≡ option_or (tired_in row.writes.items) (find (λ k. count_of row n k == 20) (range_with_len n (cond starts 2 1)))
-  tired-row holds starts =
-      ap (find is_tired) (range-split 0 n (cond starts 2 1)) ∙ find-append is_tired (range_with_len 0 n) (range_with_len (0 + n) (cond starts 2 1))
-      ∙ ap (λ o. option_or o (find is_tired (range_with_len (0 + n) (cond starts 2 1))))
-      (find-range_agree is_tired (λ k. count_in row.writes.items k == 20) 0 n (λ k l m. ap (λ (t : ℕ). t == 20) (count-write k (omega arith)))
-      ∙ find-tired row.writes.items 0 n (subst (λ (b : ℕ). IsBetween 0 b (packets_in row.writes.items)) (let f : n ≡ 0 + n = omega arith in f) (window-between (seen row) n holds)))
-      ∙ ap (λ (k : ℕ). option_or (tired_in row.writes.items) (find is_tired (range_with_len k (cond starts 2 1)))) (let f : 0 + n ≡ n = omega arith in f)
-
-  pub tired-late : (starts : Bool) → find (λ k. count_of row n k == 20) (range_with_len n (cond starts 2 1))
-      ≡ cond (row.define_ticks == 20) (Some n) (cond (starts && row.start_ticks == 20) (Some (n + 1)) None)
-  tired-late true =
-      ap (λ (t : ℕ). cond (t == 20) (Some n) (cond (count_of row n (n + 1) == 20) (Some (n + 1)) None)) count-define
-      ∙ ap (λ (t : ℕ). cond (row.define_ticks == 20) (Some n) (cond (t == 20) (Some (n + 1)) None)) count-start
-  tired-late false = ap (λ (t : ℕ). cond (t == 20) (Some n) None) count-define
-
--- ---- one tick more of a row
-
-late-number : (loaded starts : Bool) (n : ℕ) (p : ℕ → Bool) (j : ℕ) → j ∷ [] ≡ late_from loaded starts n p → (j ≡ n) ⊎ (j ≡ n + 1)
-late-number true true n p j e = at (p (n + 1)) e where
-  at : (b : Bool) → j ∷ [] ≡ unless_done b (n + 1) → (j ≡ n) ⊎ (j ≡ n + 1)
-  at true f = absurd (cc)
-  at false f = inr (cc)
-late-number true false n p j e = absurd (cc)
-late-number false starts n p j e = at (p n) e where
-  at : (b : Bool) → j ∷ [] ≡ unless_done b n → (j ≡ n) ⊎ (j ≡ n + 1)
-  at true f = absurd (cc)
-  at false f = inl (cc)
-
-pub late-is : (loaded starts : Bool) (n : ℕ) (p : ℕ → Bool) (o : Option ℕ) (j : ℕ) → o ≡ Some j → one_of o ≡ late_from loaded starts n p → (j ≡ n) ⊎ (j ≡ n + 1)
-late-is loaded starts n p o j is e = late-number loaded starts n p j (ap one_of (sym is) ∙ e)
-
--- where the start is in flight, the session has one
-pub late-inside : (loaded starts : Bool) (n : ℕ) (p : ℕ → Bool) (o : Option ℕ) (j : ℕ) → o ≡ Some j → one_of o ≡ late_from loaded starts n p → j < n + cond starts 2 1
-late-inside true true n p o j is e = elim (late-is true true n p o j is e) [ inl f ↦ omega arith | inr f ↦ omega arith ]
-late-inside true false n p o j is e = absurd (let none : j ∷ [] ≡ [] = ap one_of (sym is) ∙ e in cc)
-late-inside false true n p o j is e = elim (late-is false true n p o j is e) [ inl f ↦ omega arith | inr f ↦ omega arith ]
-late-inside false false n p o j is e = at (p n) (ap one_of (sym is) ∙ e) where
-  at : (b : Bool) → j ∷ [] ≡ unless_done b n → j < n + 1
-  at true f = absurd (cc)
-  at false f = let g : j ≡ n = cc in omega arith
-
--- ---- the first open packet
-
-first-some : (p : ℕ → Bool) (xs ys : List ℕ) (k : ℕ) (ks : List ℕ) (last : ℕ) → filter (λ j. not (p j)) xs ≡ k ∷ ks → first_open p (xs ++ ys) last ≡ k
-first-some p [] ys k ks last e = absurd (cc)
-first-some p (x ∷ xs) ys k ks last e = at (p x) (first-some p xs ys k ks last) e where
-  at : (b : Bool) → (filter (λ j. not (p j)) xs ≡ k ∷ ks → first_open p (xs ++ ys) last ≡ k) →
-      cond (not b) (x ∷ filter (λ j. not (p j)) xs) (filter (λ j. not (p j)) xs) ≡ k ∷ ks → cond b (first_open p (xs ++ ys) last) x ≡ k
-  at true rest f = rest f
-  at false rest f = cc
-
-first-none : (p : ℕ → Bool) (xs ys : List ℕ) (last : ℕ) → list_all p xs ≡ true → first_open p (xs ++ ys) last ≡ first_open p ys last
-first-none p [] ys last e = refl
-first-none p (x ∷ xs) ys last e = at (p x) (first-none p xs ys last) e where
-  at : (b : Bool) → (list_all p xs ≡ true → first_open p (xs ++ ys) last ≡ first_open p ys last) → (b && list_all p xs) ≡ true → cond b (first_open p (xs ++ ys) last) x ≡ first_open p ys last
-  at true rest f = rest f
-  at false rest f = absurd (cc)
-
-module _ (v : RowView) (n : ℕ) (holds : HoldsWindow v n) (starts : Bool) where
-  pub cursor-window : (k : ℕ) (ks : List ℕ) → v.window ≡ k ∷ ks → k ≡ first_open (is_in v.words) (range_with_len 0 (n + cond starts 2 1)) (n + cond starts 2 1)
-  cursor-window k ks is =
-      sym (ap (λ (xs : List ℕ). first_open (is_in v.words) xs (n + cond starts 2 1)) (range-split 0 n (cond starts 2 1))
-      ∙ first-some (is_in v.words) (range_with_len 0 n) (range_with_len (0 + n) (cond starts 2 1)) k (ks ++ opens_from (is_in v.words) v.next n) (n + cond starts 2 1)
-      (holds.opens ∙ ap (λ (xs : List ℕ). xs ++ opens_from (is_in v.words) v.next n) is))
-
-  pub cursor-late : v.window ≡ [] → first_open (is_in v.words) (range_with_len 0 (n + cond starts 2 1)) (n + cond starts 2 1)
-      ≡ cond (is_in v.words n) (cond (starts && is_in v.words (n + 1)) (n + 2) (n + 1)) n
-  cursor-late none =
-      ap (λ (xs : List ℕ). first_open (is_in v.words) xs (n + cond starts 2 1)) (range-split 0 n (cond starts 2 1))
-      ∙ first-none (is_in v.words) (range_with_len 0 n) (range_with_len (0 + n) (cond starts 2 1)) (n + cond starts 2 1) (writes-empty v n holds none)
-      ∙ ap (λ (k : ℕ). first_open (is_in v.words) (range_with_len k (cond starts 2 1)) (n + cond starts 2 1)) (let f : 0 + n ≡ n = omega arith in f)
-      ∙ by_starts starts where
-        by_starts : (b : Bool) → first_open (is_in v.words) (range_with_len n (cond b 2 1)) (n + cond b 2 1) ≡ cond (is_in v.words n) (cond (b && is_in v.words (n + 1)) (n + 2) (n + 1)) n
-        by_starts true = refl
-        by_starts false = refl
-
--- a list that is written back whole
-pub refill-whole : (xs ws : List InFlight) → length ws ≡ length xs → refill (length xs) xs ws ≡ ws
-refill-whole xs ws same = take_at ws (drop (length ws) xs) (length xs) same
-
-pub refill-older : (xs ws : List InFlight) → ws ≡ map older xs → refill (length xs) xs ws ≡ map older xs
-refill-older xs ws is = refill-whole xs ws (ap (λ (ys : List InFlight). length ys) is ∙ length-map xs older) ∙ is
-
-pub older-counts : (row : Row) (n : ℕ) (loaded starts : Bool) → HoldsWindow (seen row) n → (length (packets_in row.writes.items) ≡ 0 → ⊥) → (k : ℕ) →
-    count_of (record row { writes = record { items = map older row.writes.items } }) n k
-    ≡ count_of row n k + cond (list_any (λ j. j == k) (flight_with (packets_in row.writes.items) loaded starts n (is_in row.words))) 1 0
-older-counts row n loaded starts holds some k =
-    by_place (k == n) refl (k == n + 1) refl ∙ ap (λ (ks : List ℕ). count_of row n k + cond (list_any (λ j. j == k) ks) 1 0) (sym (in_window (packets_in row.writes.items) some)) where
-      in_window : (ks : List ℕ) → (length ks ≡ 0 → ⊥) → flight_with ks loaded starts n (is_in row.words) ≡ ks
-      in_window [] h = absurd (h refl)
-      in_window (j ∷ ks) h = refl
-
-      out : n ≤ k → list_any (λ j. j == k) (packets_in row.writes.items) ≡ false
-      out past = between-any 0 n (packets_in row.writes.items) k (window-between (seen row) n holds) (inr past)
-
-      by_place : (b : Bool) → (k == n) ≡ b → (c : Bool) → (k == n + 1) ≡ c →
-          cond b row.define_ticks (cond c row.start_ticks (count_in (map older row.writes.items) k))
-          ≡ cond b row.define_ticks (cond c row.start_ticks (count_in row.writes.items k)) + cond (list_any (λ j. j == k) (packets_in row.writes.items)) 1 0
-      by_place true e c f =
-          (let g : row.define_ticks ≡ row.define_ticks + 0 = omega arith in g)
-          ∙ ap (λ (b : Bool). row.define_ticks + cond b 1 0) (sym (out (let same : k ≡ n = eqb-true k n e in omega arith)))
-      by_place false e true f =
-          (let g : row.start_ticks ≡ row.start_ticks + 0 = omega arith in g)
-          ∙ ap (λ (b : Bool). row.start_ticks + cond b 1 0) (sym (out (let same : k ≡ n + 1 = eqb-true k (n + 1) f in omega arith)))
-      by_place false e false f = count_in-older row.writes.items k
+  -- what is new of one drone, where nothing changed for the others
+  pub news-one : (i : ℕ) → i < n → ((d : ℕ) → d < n → d ≢ i → g d ≡ f d) →
+      sent_to i (filter (λ k. not (among (f i) k)) (g i)) ≡ filter (λ x. not (includes (rows_of f 0 n) x)) (rows_of g 0 n)
+  news-one i known h =
+      sym (news-rows 0 n (omega arith) ∙ rows-one news 0 n i (omega arith) (omega arith)
+      (λ d l m other. filter-none (λ k. not (among (f d) k)) (g d)
+      (λ k a. ap not (ap (λ (ks : List ℕ). among ks k) (sym (h d (omega arith) other)) ∙ a))))

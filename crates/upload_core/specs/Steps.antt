@@ -1,55 +1,28 @@
 -- What holds of each row, and the words of private functions. No public contract cites this file.
-use Rattle.std.specs.Prelude.{◌≡◌, ◌⊎◌, ℕ, ◌+◌, ◌-◌, ◌<◌, ◌≤◌, Bool, true, false, not, ◌==◌, if◌then◌else◌, List, [], ◌∷◌, ◌++◌, length, filter, Option, Some, None}
-use Rattle.std.specs.List.{range_with_len, list_all, list_any}
-use Rattle.upload_model.specs.Sessions.{Upload, drone_count, write_count, packet_count}
-use Rattle.upload_model.specs.declared.events.Event.{Event}
+use Rattle.std.specs.Prelude.{◌≡◌, ◌≢◌, ◌⊎◌, ℕ, ◌+◌, ◌-◌, ◌<◌, ◌≤◌, Bool, true, false, not, ◌&&◌, ◌||◌, nat_lt, ◌==◌, if◌then◌else◌, List, [], ◌∷◌, length, map, filter, Option, Some, None, Result, All}
+use Rattle.std.specs.List.{range_with_len, list_all, flat_map}
+use Rattle.crtp_packets.specs.declared.reading.PacketFault.{PacketFault}
+use Rattle.crtp_packets.specs.declared.reading.Up.{Up}
+use Rattle.upload_model.specs.declared.events.Phase.{Phase}
+use Rattle.upload_model.specs.declared.events.Phase.TheVariants.{Loading, Reading, Starting}
+use Rattle.upload_model.specs.declared.events.Reply.TheVariants.{Silent}
+use Rattle.upload_model.specs.declared.limits.TheConstants.{TICKS_TO_GIVE_UP}
 use Rattle.upload_model.specs.declared.events.Sent.{Sent}
-use Rattle.upload_model.specs.declared.events.Progress.TheVariants.{Going}
-use Rattle.upload_model.specs.Hosts.{Packets, all_packets, flight_of, ticks, progress, unless_done}
+use Rattle.upload_model.specs.Sessions.{Upload, drone_count, packet_count, first_of, count_of}
+use Rattle.upload_model.specs.Replies.{reply_in}
+use Rattle.upload_model.specs.Hosts.{Packets, all_settled, allowed, all_packets, sent_to}
 use Rattle.upload_core.specs.declared.row.InFlight.{InFlight}
 use Rattle.upload_core.specs.declared.row.Row.{Row}
-use Rattle.upload_core.specs.Rows.{is_in, row_at, packets_in, count_of}
+use Rattle.upload_core.specs.Rows.{packets_in, is_marked, row_at, marked, window_at, count_in}
 
--- A row without its counts.
-pub record RowView : Type 0 where
-  pub words : List ℕ
-  pub window : List ℕ
-  pub next : ℕ
+-- Numbers that rise, from a to b - 1 at most.
+abbrev pub IsBetween : ℕ → ℕ → List ℕ → Type 0
+IsBetween a b [] = Unit {0}
+IsBetween a b (x ∷ xs) = (a ≤ x) × (x < b) × IsBetween (x + 1) b xs
 
-abbrev pub seen : Row → RowView
-seen row = record { words = row.words; window = packets_in row.writes.items; next = row.next }
-
--- The numbers from k to n - 1 that aren't in a set.
-abbrev pub opens_from : (ℕ → Bool) → ℕ → ℕ → List ℕ
-opens_from done k n = filter (λ j. not (done j)) (range_with_len k (n - k))
-
--- The window has the first four of n writes that are open; the others are looked for from `next` on.
-pub record HoldsWindow (v : RowView) (n : ℕ) : Type 0 where
-  pub opens : filter (λ j. not (is_in v.words j)) (range_with_len 0 n) ≡ v.window ++ opens_from (is_in v.words) v.next n
-  pub past : v.next ≤ n
-  pub few : length v.window ≤ 4
-  pub full : (length v.window ≡ 4) ⊎ (v.next ≡ n)
-
--- What is in flight of a drone with n writes that are all acknowledged: its define or its start. `loaded`
--- tells whether all writes and defines of all drones are acknowledged.
-abbrev pub late_from : Bool → Bool → ℕ → (ℕ → Bool) → List ℕ
-late_from loaded starts n done =
-    if loaded then (if starts then unless_done (done (n + 1)) (n + 1) else []) else unless_done (done n) n
-
--- What is in flight of a drone with these writes in flight.
-abbrev pub flight_with : List ℕ → Bool → Bool → ℕ → (ℕ → Bool) → List ℕ
-flight_with [] loaded starts n done = late_from loaded starts n done
-flight_with (k ∷ ks) loaded starts n done = k ∷ ks
-
--- The row is that of drone d.
-pub record RowStands (s : Upload) (d : ℕ) (v : RowView) : Type 0 where
-  pub window : HoldsWindow v (write_count s d)
-  pub past : (k : ℕ) → packet_count s d ≤ k → is_in v.words k ≡ false
-
--- These are the rows of a session's drones.
-pub record RowsStand (s : Upload) (rows : List Row) : Type 0 where
-  pub count : length rows ≡ drone_count s
-  pub each : (d : ℕ) → d < drone_count s → RowStands s d (seen (row_at rows d))
+-- What is in flight for the first time.
+abbrev pub fresh : ℕ → InFlight
+fresh k = record { packet = k; ticks = 0 }
 
 -- One tick more.
 abbrev pub older : InFlight → InFlight
@@ -60,37 +33,55 @@ abbrev pub tired_in : List InFlight → Option ℕ
 tired_in [] = None
 tired_in (e ∷ es) = if e.ticks == 20 then Some e.packet else tired_in es
 
--- A number, if there is one, as a list.
-abbrev pub one_of : Option ℕ → List ℕ
-one_of None = []
-one_of (Some k) = k ∷ []
+-- In flight are numbers that rise, from a on: four, or all up to `until`.
+pub record IsRow (a : ℕ) (row : Row) : Type 0 where
+  pub rising : IsBetween a row.next (packets_in row.window.items)
+  pub from : a ≤ row.next
+  pub past : row.next ≤ row.until
+  pub few : length row.window.items ≤ 4
+  pub full : (length row.window.items ≡ 4) ⊎ (row.next ≡ row.until)
 
--- Numbers that rise, from a to b - 1 at most.
-abbrev pub IsBetween : ℕ → ℕ → List ℕ → Type 0
-IsBetween a b [] = Unit {0}
-IsBetween a b (x ∷ xs) = (a ≤ x) × (x < b) × IsBetween (x + 1) b xs
+-- The row is that of drone d in this phase.
+pub record RowStands (s : Upload) (p : Phase) (d : ℕ) (row : Row) : Type 0 where
+  pub shape : IsRow (first_of s p d) row
+  pub until : row.until ≡ first_of s p d + allowed s p (λ i k. is_marked row k) d
 
--- What is in flight stays so until it is acknowledged, so a packet that isn't in flight and isn't
--- acknowledged never was.
-abbrev pub FlightStays : Type 0
-FlightStays = (s : Upload) (done more : Packets) (d k : ℕ) → d < drone_count s →
-    ((e i : ℕ) → done e i ≡ true → more e i ≡ true) →
-    list_any (λ j. j == k) (flight_of s done d) ≡ true → more d k ≡ false → list_any (λ j. j == k) (flight_of s more d) ≡ true
+-- These are the rows of a session's drones in this phase.
+pub record RowsStand (s : Upload) (p : Phase) (rows : List Row) : Type 0 where
+  pub count : length rows ≡ drone_count s
+  pub each : (d : ℕ) → d < drone_count s → RowStands s p d (row_at rows d)
 
--- While an upload is going no packet was counted twenty times.
-abbrev pub TicksLow : Type 0
-TicksLow = (s : Upload) (h : List Event) (x : Sent) → progress s h ≡ Going → x.drone < drone_count s → x.packet < packet_count s x.drone → ticks s h x < 20
+-- All that is in flight, by the rows of the first n drones.
+abbrev pub in_windows : List Row → ℕ → List Sent
+in_windows rows n = flat_map (λ d. sent_to d (window_at rows d)) (range_with_len 0 n)
 
--- While an upload is going, some packet isn't marked, none has been counted as often as the host waits,
--- and what isn't in flight and isn't marked hasn't been counted.
-pub record IsReady (session : Upload) (marks : Packets) (counts : ℕ → ℕ → ℕ) : Type 0 where
-  pub unfinished : list_all (λ x. marks x.drone x.packet) (all_packets session) ≡ false
-  pub low : (d k : ℕ) → d < drone_count session → k < packet_count session d → counts d k < 20
-  pub idle : (d k : ℕ) → d < drone_count session → k < packet_count session d → marks d k ≡ false →
-      list_any (λ j. j == k) (flight_of session marks d) ≡ false → counts d k ≡ 0
+-- A row whose packets in flight have one tick more.
+abbrev pub older_row : Row → Row
+older_row row = record row { window = record { items = map older row.window.items } }
 
--- A row of drone d to which nothing has happened.
+-- Nothing in flight has been counted as often as the host waits.
+abbrev pub IsLow : List Row → Type 0
+IsLow rows = All (λ (row : Row). All (λ (e : InFlight). e.ticks < TICKS_TO_GIVE_UP) row.window.items) rows
+
+-- The phases before this one are complete.
+abbrev pub IsBegun : Upload → Packets → Phase → Type 0
+IsBegun s done Loading = Unit {0}
+IsBegun s done Reading = all_settled s Loading done ≡ true
+IsBegun s done Starting = (all_settled s Loading done ≡ true) × (all_settled s Reading done ≡ true)
+
+-- While an upload is going, some packet isn't marked, and none in flight has been counted as often as the
+-- host waits.
+pub record IsReady (s : Upload) (rows : List Row) : Type 0 where
+  pub unfinished : list_all (λ x. marked rows x.drone x.packet) (all_packets s) ≡ false
+  pub low : IsLow rows
+
+-- A row to which nothing has happened.
 pub record IsStarting (s : Upload) (d : ℕ) (row : Row) : Type 0 where
-  pub stands : RowStands s d (seen row)
-  pub blank : (k : ℕ) → is_in row.words k ≡ false
-  pub counts : (k : ℕ) → count_of row (write_count s d) k ≡ 0
+  pub stands : RowStands s Loading d row
+  pub blank : (k : ℕ) → is_marked row k ≡ false
+  pub counts : (k : ℕ) → count_in row.window.items k ≡ 0
+
+-- What a message says of the packets of drone d, where it may answer packet k alone, or none.
+abbrev pub IsFor : Upload → ℕ → Result Up PacketFault → Option ℕ → Type 0
+IsFor s d m None = (j : ℕ) → j < packet_count s d → reply_in s d j m ≡ Silent
+IsFor s d m (Some k) = (k < packet_count s d) × ((j : ℕ) → j < packet_count s d → j ≢ k → reply_in s d j m ≡ Silent)

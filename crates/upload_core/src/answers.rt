@@ -1,27 +1,144 @@
 //! An answer that the host hears.
 
-ghost use Rattle.std.specs.Prelude.{◌≡◌, ℕ, ◌+◌, ◌*◌, ◌<◌, ◌≤◌, ◌==◌, ◌&&◌, ◌||◌, not, Bool, true, false, List, [], ◌∷◌, ◌++◌, length, filter, find, IfSome, IfNone, Ok, Some, None};
+ghost use Rattle.std.specs.Prelude.{◌≡◌, ◌≢◌, ℕ, ◌+◌, ◌*◌, ◌<◌, ◌≤◌, ◌==◌, ◌&&◌, ◌||◌, not, if◌then◌else◌, Bool, true, false, List, [], ◌∷◌, ◌++◌, length, filter, find, All, IfSome, IfNone, Ok, Some, None};
 ghost use Rattle.std.specs.List.{range_with_len, list_all, list_any};
-ghost use Rattle.crtp_packets.specs.Reading.{up_of};
 ghost use Rattle.upload_model.specs.declared.events.Event.{Event};
-ghost use Rattle.upload_model.specs.declared.events.Progress.{Progress};
-ghost use Rattle.upload_model.specs.Sessions.{drone_count, write_count, packet_count};
-ghost use Rattle.upload_model.specs.Hosts.{status_in, status_for, is_good, is_bad, all_packets, all_loaded, flight_after, includes as includes_sent, refused, if_going};
-ghost use Rattle.upload_core.specs.Rows.{marked, counted};
-ghost use Rattle.upload_core.specs.Steps.{RowsStand};
+ghost use Rattle.upload_model.specs.declared.events.Sent.{Sent};
+ghost use Rattle.upload_model.specs.Sessions.{drone_count, write_count, load_count, read_count, packet_count, is_read, read_address, wanted};
+ghost use Rattle.crtp_packets.specs.Chunks.{chunk_start};
+ghost use Rattle.upload_model.specs.Replies as replies;
+ghost use Rattle.upload_model.specs.Replies.{ReadBack, status_in, read_in, read_reply, reply_in};
+ghost use Rattle.upload_model.specs.Hosts.{phase_of, flight_after, joined, acknowledges, sent_to, all_packets, counts as counts_for, ends_for, ended_for, includes as includes_sent, if_going};
+ghost use Rattle.upload_core.specs.Rows.{among, window_at, is_marked, row_at, marked, counted};
+ghost use Rattle.upload_core.specs.Steps.{RowsStand, IsFor, IsLow};
 
-use crate::flight::{Out, append};
-use crate::row::{Numbers, Row};
-use crate::rows::{drone_flight, is_all_loaded, is_finished, mark, put_flight};
+use crate::row::Row;
+use crate::rows::{Out, advance, is_settled, put_flight, put_news};
 use crate::session::Session;
-use crtp_packets::{PACKET_BYTES, Up, WRITE_BYTES, parse_up_bytes};
-use upload_model::{ACCEPTED, Event, PACKETS_IN_FLIGHT, Progress};
+use crtp_packets::{DEFINE, PACKET_BYTES, Piece, READ_BYTES, START, Up, WRITE_BYTES, parse_up_bytes};
+use upload_model::{ACCEPTED, Phase, Progress, Reply};
 
-/// The status that a message carries for packet `k`, if it matches it.
+/// The write of a drone to this memory at this address.
+fn write_named(session: &Session, drone: usize, id: u8, address: u32) -> Option<usize>
+    requires known { drone < drone_count session.now }
+    ensures some { IfSome result (λ k. (k < write_count session.now drone) × (id ≡ session.now.memory_id) × (address ≡ session.now.offset + chunk_start k)) }
+    ensures none { IfNone result ((k : ℕ) → k < write_count session.now drone → id ≡ session.now.memory_id → address ≢ session.now.offset + chunk_start k) }
+{
+    let settings = session.settings();
+    let offset = settings.offset as usize;
+    let at = address as usize;
+    if id != settings.memory_id || at < offset {
+        return None;
+    }
+    let k = (at - offset) / WRITE_BYTES;
+    if (at - offset) % WRITE_BYTES != 0 || k >= session.writes(drone) {
+        return None;
+    }
+    Some(k)
+}
+
+/// The read of a drone from this memory at this address.
+fn read_named(session: &Session, drone: usize, id: u8, address: u32) -> Option<usize>
+    requires known { drone < drone_count session.now }
+    ensures some { IfSome result (λ k. (k < read_count session.now drone) × (id ≡ session.now.memory_id) × (address ≡ read_address session.now k)) }
+    ensures none { IfNone result ((k : ℕ) → k < read_count session.now drone → id ≡ session.now.memory_id → address ≢ read_address session.now k) }
+{
+    let settings = session.settings();
+    let offset = settings.offset as usize;
+    let at = address as usize;
+    if id != settings.memory_id || at < offset {
+        return None;
+    }
+    let k = (at - offset) / READ_BYTES;
+    if (at - offset) % READ_BYTES != 0 || k >= session.reads(drone) {
+        return None;
+    }
+    Some(k)
+}
+
+/// The one write of a drone that a write answer may answer.
+fn write_for(session: &Session, drone: usize, id: u8, address: u32, status: u8) -> Option<u16>
+    requires known { drone < drone_count session.now }
+    ensures { IsFor session.now drone (Ok (Up.WriteAnswer id address status)) result }
+{
+    let _status = status;
+    let _count = session.count(drone);
+    let _writes = session.writes(drone);
+    match write_named(session, drone, id, address) {
+        Some(k) => Some(k as u16),
+        None => None,
+    }
+}
+
+/// The one read of a drone that a read answer may answer.
+fn read_for(
+    session: &Session,
+    drone: usize,
+    id: u8,
+    address: u32,
+    status: u8,
+    piece: &Piece,
+) -> Option<u16>
+    requires known { drone < drone_count session.now }
+    ensures { IsFor session.now drone (Ok (Up.ReadAnswer id address status piece.now)) result }
+{
+    let _status = status;
+    let _len = piece.len();
+    let _count = session.count(drone);
+    let _reads = session.reads(drone);
+    match read_named(session, drone, id, address) {
+        Some(k) => Some((session.first_of(Phase::Reading, drone) + k) as u16),
+        None => None,
+    }
+}
+
+/// The define or the start of a drone, whichever a command answer may answer.
+fn command_for(session: &Session, drone: usize, first: &[u8; 3], status: u8) -> Option<u16>
+    requires known { drone < drone_count session.now }
+    ensures { IsFor session.now drone (Ok (Up.CommandAnswer first.now status)) result }
+{
+    let _status = status;
+    let _count = session.count(drone);
+    if first[0] == DEFINE {
+        return Some(session.writes(drone) as u16);
+    }
+    if first[0] != START {
+        return None;
+    }
+    if !session.starts() {
+        return None;
+    }
+    Some(session.first_of(Phase::Starting, drone) as u16)
+}
+
+/// The one packet of a drone that a message may answer: a write or a read by its address, the define or
+/// the start by the command.
+fn candidate(session: &Session, drone: usize, message: &Up) -> Option<u16>
+    requires known { drone < drone_count session.now }
+    ensures { IsFor session.now drone (Ok message.now) result }
+{
+    match message {
+        Up::WriteAnswer {
+            id,
+            address,
+            status,
+        } => write_for(session, drone, *id, *address, *status),
+        Up::ReadAnswer {
+            id,
+            address,
+            status,
+            piece,
+        } => read_for(session, drone, *id, *address, *status, piece),
+        Up::CommandAnswer { first, status } => command_for(session, drone, first, *status),
+    }
+}
+
+/// The status that a message carries for packet `k`, which is no read, if it matches it.
 #[tactic(auto, unfolding(upload_model::specs::Sessions::packet_at))]
 fn status_of(session: &Session, drone: usize, k: usize, message: &Up) -> Option<u8>
     requires known { drone < drone_count session.now }
     requires in_range { k < packet_count session.now drone }
+    requires plain { is_read session.now drone k ≡ false }
     ensures { result ≡ status_in session.now drone k (Ok message.now) }
 {
     let writes = session.writes(drone);
@@ -55,150 +172,214 @@ fn status_of(session: &Session, drone: usize, k: usize, message: &Up) -> Option<
     }
 }
 
-/// The write to this memory at this address, or how many writes there are where there is none.
-fn write_at(session: &Session, drone: usize, id: u8, address: u32) -> usize
-    requires { drone < drone_count session.now }
-    ensures few { result ≤ write_count session.now drone }
-    ensures found { (k : ℕ) → k < write_count session.now drone → id ≡ session.now.memory_id →
-        address ≡ session.now.offset + 24 * k → result ≡ k }
-{
-    let settings = session.settings();
-    let offset = settings.offset as usize;
-    let address = address as usize;
-    let writes = session.writes(drone);
-    if id != settings.memory_id || address < offset || (address - offset) % WRITE_BYTES != 0 {
-        return writes;
-    }
-    writes.min((address - offset) / WRITE_BYTES)
-}
-
-/// The first packet of a drone that a message may match: a write by its address, else the define.
-fn first_candidate(session: &Session, drone: usize, message: &Up) -> usize
-    requires { drone < drone_count session.now }
-    ensures few { result ≤ write_count session.now drone }
-    ensures none { (j : ℕ) → j < result → status_in session.now drone j (Ok message.now) ≡ None }
-{
-    match message {
-        Up::WriteAnswer { id, address, .. } => write_at(session, drone, *id, *address),
-        _ => session.writes(drone),
-    }
-}
-
-/// The packet of a drone that an answer of these bytes matches, and its status.
-fn matching(session: &Session, drone: usize, packet: &[u8]) -> Option<(u16, u8)>
+/// The first place at which a read brought another byte than the load's.
+fn first_other(session: &Session, drone: usize, k: usize, bytes: &[u8]) -> Option<usize>
     requires known { drone < drone_count session.now }
-    requires not_empty { 1 ≤ length packet.now }
-    requires fits { length packet.now ≤ PACKET_BYTES }
-    ensures some { IfSome result (λ m. (m.0 < packet_count session.now drone)
-        × (status_in session.now drone m.0 (up_of packet.now) ≡ Some m.1)) }
-    ensures none { IfNone result ((k : ℕ) → k < packet_count session.now drone →
-        status_in session.now drone k (up_of packet.now) ≡ None) }
+    requires in_range { k < read_count session.now drone }
+    requires same_len { length bytes.now ≡ length (wanted session.now drone k) }
+    ensures value { result ≡ replies.first_other (wanted session.now drone k) bytes.now }
+    ensures inside { IfSome result (λ i. i < length bytes.now) }
 {
-    let message = match parse_up_bytes(packet) {
-        Ok(message) => message,
-        Err(_) => return None,
-    };
-    let from = first_candidate(session, drone, &message);
-    for k in from..session.count(drone) {
-        if let Some(status) = status_of(session, drone, k, &message) {
-            return Some((k as u16, status));
+    let len = session.read_len(drone, k);
+    for i in 0..len {
+        if session.wanted_byte(drone, k, i) != bytes[i] {
+            return Some(i);
         }
     }
     None
 }
 
-/// Whether this number is among the numbers.
-fn includes(numbers: &[u16], k: u16) -> bool
-    ensures { result ≡ list_any (λ j. j == k) numbers.now }
+/// What the bytes that a read brought say of it, which is packet `n` of its drone.
+fn compared(session: &Session, drone: u8, k: usize, bytes: &[u8]) -> Reply
+    requires known { drone < drone_count session.now }
+    requires in_range { k < read_count session.now drone }
+    requires same_len { length bytes.now ≡ length (wanted session.now drone k) }
+    ensures { result ≡ replies.compared drone (read_address session.now k) (wanted session.now drone k) bytes.now
+        (replies.first_other (wanted session.now drone k) bytes.now) }
 {
-    numbers.iter().any(|number| *number == k)
-}
-
-/// The numbers that aren't among the earlier ones.
-fn new_numbers(before: &[u16], after: &[u16]) -> Numbers
-    requires { length after.now ≤ PACKETS_IN_FLIGHT }
-    ensures { result.items ≡ filter (λ k. not (list_any (λ j. j == k) before.now)) after.now }
-{
-    let mut found = Numbers::new();
-    for k in after {
-        if !includes(before, *k) {
-            found.push(*k);
+    let from = drone as usize;
+    match first_other(session, from, k, bytes) {
+        None => Reply::Good,
+        Some(i) => {
+            let _len = session.read_len(from, k);
+            let address = session.settings().offset as usize + READ_BYTES * k + i;
+            Reply::Ends {
+                progress: Progress::Differs {
+                    drone,
+                    address: address as u32,
+                    wanted: session.wanted_byte(from, k, i),
+                    got: bytes[i],
+                },
+            }
         }
     }
-    found
 }
 
-/// Marks a packet, and puts what is in flight then and wasn't before.
-fn acknowledge(session: &Session, rows: &mut [Row], drone: usize, k: usize, out: &mut Out)
-    requires rows { RowsStand session.now rows.old }
+/// What a message says of read `k` of a drone, which is its packet `n`.
+fn read_said(session: &Session, drone: u8, n: u16, k: usize, message: &Up) -> Reply
+    requires known { drone < drone_count session.now }
+    requires in_range { k < read_count session.now drone }
+    ensures { result ≡ read_reply session.now drone n k (read_in session.now drone k (Ok message.now)) }
+{
+    let settings = session.settings();
+    let from = drone as usize;
+    let len = session.read_len(from, k);
+    match message {
+        Up::ReadAnswer {
+            id,
+            address,
+            status,
+            piece,
+        } => {
+            if *id != settings.memory_id
+                || *address as usize != settings.offset as usize + READ_BYTES * k
+            {
+                return Reply::Silent;
+            }
+            if *status != ACCEPTED {
+                return Reply::Ends {
+                    progress: Progress::Refused {
+                        drone,
+                        packet: n,
+                        status: *status,
+                    },
+                };
+            }
+            if piece.len() != len {
+                return Reply::Silent;
+            }
+            compared(session, drone, k, piece.as_slice())
+        }
+        _ => Reply::Silent,
+    }
+}
+
+/// What a message says of packet `k` of a drone.
+#[tactic(auto, unfolding(upload_model::specs::Replies::reply_in))]
+fn reply(session: &Session, drone: u8, k: u16, message: &Up) -> Reply
     requires known { drone < drone_count session.now }
     requires in_range { k < packet_count session.now drone }
-    requires unmarked { marked rows.old drone k ≡ false }
-    ensures rows { RowsStand session.now rows.new }
-    ensures marks { (d j : ℕ) → marked rows.new d j ≡ (marked rows.old d j || (d == drone && j == k)) }
-    ensures counts { (d j : ℕ) → marked rows.new d j ≡ false →
-        counted session.now rows.new d j ≡ counted session.now rows.old d j }
-    ensures fewer { (d j : ℕ) → counted session.now rows.new d j ≤ counted session.now rows.old d j }
-    ensures len { length rows.new ≡ length rows.old }
-    ensures sent { out.new.items ≡
-        filter (λ x. not (includes_sent (flight_after session.now (marked rows.old)) x))
-        (flight_after session.now (marked rows.new)) }
+    ensures { result ≡ reply_in session.now drone k (Ok message.now) }
 {
-    out.clear();
-    let writes = session.writes(drone);
-    if k > writes {
-        // A start lets nothing else into flight.
-        mark(session, rows, drone, k);
-        return;
+    let from = drone as usize;
+    let n = k as usize;
+    let first = session.first_of(Phase::Reading, from);
+    if n >= first && n < session.first_of(Phase::Starting, from) {
+        return read_said(session, drone, k, n - first, message);
     }
-    let before = drone_flight(session, rows, false, drone);
-    mark(session, rows, drone, k);
-    if rows[drone].is_loaded(writes) && is_all_loaded(session, rows) {
-        // All that is in flight now are starts, and there were none before.
-        put_flight(session, rows, true, out);
-        return;
+    match status_of(session, from, n, message) {
+        None => Reply::Silent,
+        Some(ACCEPTED) => Reply::Good,
+        Some(status) => Reply::Ends {
+            progress: Progress::Refused {
+                drone,
+                packet: k,
+                status,
+            },
+        },
     }
-    let after = drone_flight(session, rows, false, drone);
-    let found = new_numbers(before.as_slice(), after.as_slice());
-    append(out, drone, found.as_slice());
 }
 
-/// Whether all packets are acknowledged, where the last one was of this drone.
-fn is_last(session: &Session, rows: &[Row], drone: usize) -> bool
-    requires rows { RowsStand session.now rows.now }
+/// Whether an answer may end the upload for packet `k` of a drone. With read-back answers to reads and
+/// starts count once the first phase is complete.
+fn counts(session: &Session, rows: &[Row], phase: Phase, drone: usize, k: usize) -> bool
     requires known { drone < drone_count session.now }
-    ensures { result ≡ list_all (λ x. marked rows.now x.drone x.packet) (all_packets session.now) }
+    requires phase { phase ≡ phase_of session.now (marked rows.now) }
+    ensures { result ≡ counts_for session.now (marked rows.now) drone k }
 {
-    rows[drone].is_done(session.writes(drone), session.starts()) && is_finished(session, rows)
+    let _rows = rows;
+    if k < session.first_of(Phase::Reading, drone) || !session.reads_back() {
+        return true;
+    }
+    !matches!(phase, Phase::Loading)
+}
+
+/// Takes packet `k` of a drone out of flight, and puts into `out` what comes in.
+fn settle(session: &Session, rows: &mut [Row], phase: Phase, drone: usize, k: u16, out: &mut Out)
+    requires rows { RowsStand session.now phase rows.old }
+    requires known { drone < drone_count session.now }
+    requires in_flight { among (window_at rows.old drone) k ≡ true }
+    ensures rows { RowsStand session.now phase rows.new }
+    ensures marks { (d j : ℕ) → marked rows.new d j ≡ (marked rows.old d j || (drone == d && k == j)) }
+    ensures others { (d : ℕ) → d ≢ drone → row_at rows.new d ≡ row_at rows.old d }
+    ensures counts { (j : ℕ) → j ≢ k → counted rows.new drone j ≡ counted rows.old drone j }
+    ensures low { IsLow rows.old → IsLow rows.new }
+    ensures len { length rows.new ≡ length rows.old }
+    ensures sent { out.new.items ≡ sent_to drone
+        (filter (λ j. not (among (window_at rows.old drone) j)) (window_at rows.new drone)) }
+{
+    let before = rows[drone].next;
+    rows[drone].settle(k, session.end_of(phase, drone) as u16);
+    put_news(out, drone, before, rows[drone].next);
+}
+
+/// A good answer to packet `k` of a drone, which is in flight.
+fn acknowledge(
+    session: &Session,
+    rows: &mut [Row],
+    phase: &mut Phase,
+    drone: usize,
+    k: u16,
+    out: &mut Out,
+) -> Progress
+    requires rows { RowsStand session.now phase.old rows.old }
+    requires phase { phase.old ≡ phase_of session.now (marked rows.old) }
+    requires known { drone < drone_count session.now }
+    requires in_flight { among (window_at rows.old drone) k ≡ true }
+    ensures rows { RowsStand session.now phase.new rows.new }
+    ensures phase { phase.new ≡ phase_of session.now (marked rows.new) }
+    ensures marks { (d j : ℕ) → marked rows.new d j ≡ (marked rows.old d j || (drone == d && k == j)) }
+    ensures counts { (x : Sent) → includes_sent (flight_after session.now (marked rows.new)) x ≡ true →
+        counted rows.new x.drone x.packet
+        ≡ (if includes_sent (flight_after session.now (marked rows.old)) x then counted rows.old x.drone x.packet else 0) }
+    ensures low { IsLow rows.old → IsLow rows.new }
+    ensures len { length rows.new ≡ length rows.old }
+    ensures answer { result ≡ (if list_all (λ x. marked rows.new x.drone x.packet) (all_packets session.now) then Progress.Done else Progress.Going) }
+    ensures sent { out.new.items ≡ if_going result
+        (filter (λ x. not (includes_sent (flight_after session.now (marked rows.old)) x))
+        (flight_after session.now (marked rows.new))) }
+{
+    settle(session, rows, *phase, drone, k, out);
+    if !is_settled(rows) {
+        return Progress::Going;
+    }
+    out.clear();
+    *phase = advance(session, rows, *phase);
+    if is_settled(rows) {
+        return Progress::Done;
+    }
+    put_flight(rows, out);
+    Progress::Going
 }
 
 /// An answer of these bytes to an upload that is going.
 pub fn hear(
     session: &Session,
     rows: &mut [Row],
+    phase: &mut Phase,
     drone: u8,
     packet: &[u8],
     out: &mut Out,
 ) -> Progress
     requires not_empty { 1 ≤ length packet.now }
     requires fits { length packet.now ≤ PACKET_BYTES }
-    requires rows { RowsStand session.now rows.old }
+    requires rows { RowsStand session.now phase.old rows.old }
+    requires phase { phase.old ≡ phase_of session.now (marked rows.old) }
     requires going { list_all (λ x. marked rows.old x.drone x.packet) (all_packets session.now) ≡ false }
-    ensures rows { RowsStand session.now rows.new }
-    ensures done { (d k : ℕ) → d < drone_count session.now → k < packet_count session.now d →
-        marked rows.new d k
-        ≡ (marked rows.old d k || is_good (status_for session.now d k (Event.Up drone packet.now))) }
-    ensures kept { (d k : ℕ) → marked rows.old d k ≡ true → marked rows.new d k ≡ true }
-    ensures counts { (d k : ℕ) → marked rows.new d k ≡ false →
-        counted session.now rows.new d k ≡ counted session.now rows.old d k }
-    ensures fewer { (d k : ℕ) → counted session.now rows.new d k ≤ counted session.now rows.old d k }
+    ensures rows { RowsStand session.now phase.new rows.new }
+    ensures phase { phase.new ≡ phase_of session.now (marked rows.new) }
+    ensures marks { (d k : ℕ) → d < drone_count session.now → marked rows.new d k
+        ≡ joined (marked rows.old) (acknowledges session.now (marked rows.old) (Event.Up drone packet.now)) d k }
+    ensures counts { (x : Sent) → includes_sent (flight_after session.now (marked rows.new)) x ≡ true →
+        counted rows.new x.drone x.packet
+        ≡ (if includes_sent (flight_after session.now (marked rows.old)) x then counted rows.old x.drone x.packet else 0) }
+    ensures low { IsLow rows.old → IsLow rows.new }
     ensures len { length rows.new ≡ length rows.old }
     ensures finished { list_all (λ x. marked rows.new x.drone x.packet) (all_packets session.now) ≡ true →
         result ≡ Progress.Done }
     ensures unfinished { list_all (λ x. marked rows.new x.drone x.packet) (all_packets session.now) ≡ false →
-        result ≡ refused session.now (Event.Up drone packet.now)
-        (find (λ x. is_bad (status_for session.now x.drone x.packet (Event.Up drone packet.now))
-        && not (marked rows.new x.drone x.packet)) (all_packets session.now)) }
+        result ≡ ended_for session.now (Event.Up drone packet.now)
+        (find (λ x. ends_for session.now (marked rows.new) (Event.Up drone packet.now) x) (all_packets session.now)) }
     ensures sent { out.new.items ≡ if_going result
         (filter (λ x. not (includes_sent (flight_after session.now (marked rows.old)) x))
         (flight_after session.now (marked rows.new))) }
@@ -208,24 +389,27 @@ pub fn hear(
     if from >= session.drones() {
         return Progress::Going;
     }
-    let (k, status) = match matching(session, from, packet) {
-        Some(found) => found,
+    let message = match parse_up_bytes(packet) {
+        Ok(message) => message,
+        Err(_) => return Progress::Going,
+    };
+    let k = match candidate(session, from, &message) {
+        Some(k) => k,
         None => return Progress::Going,
     };
-    if rows[from].has(k as usize) {
-        return Progress::Going;
+    match reply(session, drone, k, &message) {
+        Reply::Silent => Progress::Going,
+        Reply::Good => {
+            if !rows[from].has(k) {
+                return Progress::Going;
+            }
+            acknowledge(session, rows, phase, from, k, out)
+        }
+        Reply::Ends { progress } => {
+            if rows[from].is_past(k) || !counts(session, rows, *phase, from, k as usize) {
+                return Progress::Going;
+            }
+            progress
+        }
     }
-    if status != ACCEPTED {
-        return Progress::Refused {
-            drone,
-            packet: k,
-            status,
-        };
-    }
-    acknowledge(session, rows, from, k as usize, out);
-    if is_last(session, rows, from) {
-        out.clear();
-        return Progress::Done;
-    }
-    Progress::Going
 }

@@ -1,4 +1,4 @@
-//! The host: it keeps a row of bits and the packets in flight of each drone, and its last answer.
+//! The host: it keeps its phase, of each drone the packets in flight, and its last answer.
 
 ghost use Rattle.std.specs.Prelude.{◌≡◌, ℕ, ◌+◌, ◌*◌, ◌<◌, ◌≤◌, ◌⊎◌, Bool, List, [], ◌∷◌, ◌++◌, length, take, map, IfOk, All};
 ghost use Rattle.upload_model.specs.declared.events.Event.{Event};
@@ -7,19 +7,19 @@ ghost use Rattle.upload_model.specs.Sessions.{drone_count, write_count, packet_c
 ghost use Rattle.upload_model.specs.Hosts.{acked, progress, flight, out as out_of};
 ghost use Rattle.upload_core.specs.HostState.{HostState, IsPacketOf, view_of};
 ghost use Rattle.upload_core.specs.HostStandsFor.{HostStandsFor};
-ghost use Rattle.upload_core.specs.Rows.{IsWord, cursor_of, row_at};
-ghost use Rattle.upload_core.specs.Steps.{IsStarting};
+ghost use Rattle.upload_core.specs.Rows.{IsWord, cursor_of};
 
 use crate::answers::hear;
-use crate::flight::{Out, put_first};
 use crate::row::Row;
-use crate::rows::{first_open, word_at};
+use crate::rows::{Out, first_rows, put_flight, tick};
 use crate::session::Session;
-use crate::tick::tick;
 use crtp_packets::PACKET_BYTES;
 use std::alloc::{AllocError, Global};
 use std::marker::Model;
-use upload_model::{Event, Progress};
+use upload_model::{Event, Phase, Progress};
+
+/// The bits of a word.
+const WORD_BITS: usize = u64::BITS as usize;
 
 /// The host of one upload. A contract sees it by `view_of`, and `HostStandsFor` says which lists of
 /// events it stands for.
@@ -27,6 +27,7 @@ use upload_model::{Event, Progress};
 pub struct Host {
     session: Session,
     rows: Vec<Row>,
+    phase: Phase,
     progress: Progress,
 }
 
@@ -34,7 +35,8 @@ impl Model for Host {
     ghost use Rattle.std.specs.Prelude.{◌≡◌};
     ghost use Rattle.upload_model.specs.Sessions.{IsSession};
     ghost use Rattle.upload_core.specs.HostState.{HostState};
-    ghost use Rattle.upload_core.specs.Rows.{marked, counted};
+    ghost use Rattle.upload_model.specs.Hosts.{phase_of};
+    ghost use Rattle.upload_core.specs.Rows.{marked};
     ghost use Rattle.upload_core.specs.Steps.{RowsStand, IsReady};
     ghost use Rattle.upload_model.specs.declared.events.Progress.TheVariants.{Going};
 
@@ -43,20 +45,14 @@ impl Model for Host {
     ghost view = { λ h. record {
       session = h.session;
       rows = h.rows.items;
+      phase = h.phase;
       progress = h.progress;
     } };
 
-    ghost invariant = { λ h. RowsStand h.session h.rows.items
+    ghost invariant = { λ h. RowsStand h.session h.phase h.rows.items
         × IsSession h.session
-        × (h.progress ≡ Going → IsReady h.session (marked h.rows.items) (counted h.session h.rows.items)) };
-}
-
-/// The row of a drone to which nothing has happened.
-fn first_row(session: &Session, drone: usize) -> Row
-    requires { drone < drone_count session.now }
-    ensures { IsStarting session.now drone result }
-{
-    Row::make(session.writes(drone))
+        × (h.phase ≡ phase_of h.session (marked h.rows.items))
+        × (h.progress ≡ Going → IsReady h.session h.rows.items) };
 }
 
 impl Host {
@@ -66,14 +62,11 @@ impl Host {
         ensures session { IfOk result (λ host. host.session ≡ session) }
         ensures stands { IfOk result (λ host. HostStandsFor (view_of host) []) }
     {
-        let drones = session.drones();
-        let mut rows = Vec::with_capacity(alloc, drones)?;
-        for drone in 0..drones {
-            rows.push(first_row(&session, drone))?;
-        }
+        let rows = first_rows(alloc, &session)?;
         Ok(Host {
             session,
             rows,
+            phase: Phase::Loading,
             progress: Progress::Going,
         })
     }
@@ -85,12 +78,13 @@ impl Host {
         &self.session
     }
 
-    /// Puts into `out` what is in flight before any event.
+    /// Puts into `out` what is in flight before any event, of a host to which nothing has happened.
     pub fn first(&self, out: &mut Out)
+        requires { HostStandsFor (view_of self.now) [] }
         ensures sent { out.new.items ≡ flight self.now.session [] }
         ensures known { All (IsPacketOf self.now.session) out.new.items }
     {
-        put_first(&self.session, out);
+        put_flight(self.rows.as_slice(), out);
     }
 
     /// What the upload has come to with this event. `out` is replaced by what is to be sent now. After
@@ -158,7 +152,8 @@ impl Host {
             (progress self.now.session h ≡ Progress.Going) ⊎ (progress self.now.session h ≡ Progress.Done) →
             result ≡ cursor_of self.now.session (acked self.now.session h) drone }
     {
-        first_open(&self.session, self.rows.as_slice(), drone)
+        let count = self.session.count(drone);
+        count.min(self.rows[drone].cursor())
     }
 
     /// Word `w` of the packets of a drone: bit k is 1 exactly where the drone has a packet 64 w + k and
@@ -170,7 +165,15 @@ impl Host {
             (progress self.now.session h ≡ Progress.Going) ⊎ (progress self.now.session h ≡ Progress.Done) →
             IsWord self.now.session (acked self.now.session h) drone w result }
     {
-        word_at(&self.session, self.rows.as_slice(), drone, w)
+        let count = self.session.count(drone);
+        let mut word = 0;
+        for k in 0..WORD_BITS {
+            let packet = WORD_BITS * w + k;
+            if packet < count && self.rows[drone].is_past(packet as u16) {
+                word |= 1 << k;
+            }
+        }
+        word
     }
 
     /// A tick while the upload is going.
@@ -185,7 +188,7 @@ impl Host {
         ensures answer { (h : List Event) → HostStandsFor (view_of self.old) h →
             result ≡ progress self.old.session (h ++ Event.Tick ∷ []) }
     {
-        let answer = tick(&self.session, self.rows.as_mut_slice(), out);
+        let answer = tick(self.rows.as_mut_slice(), out);
         self.progress = answer;
         answer
     }
@@ -204,7 +207,14 @@ impl Host {
         ensures answer { (h : List Event) → HostStandsFor (view_of self.old) h →
             result ≡ progress self.old.session (h ++ Event.Up drone packet.now ∷ []) }
     {
-        let answer = hear(&self.session, self.rows.as_mut_slice(), drone, packet, out);
+        let answer = hear(
+            &self.session,
+            self.rows.as_mut_slice(),
+            &mut self.phase,
+            drone,
+            packet,
+            out,
+        );
         self.progress = answer;
         answer
     }

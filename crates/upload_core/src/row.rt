@@ -1,21 +1,15 @@
-//! What the host keeps of one drone: a bit for each packet, and the packets in flight with their counts.
+//! What the host keeps of one drone: its packets in flight with their counts, and the first packet that
+//! never was in flight.
 
-ghost use Rattle.std.specs.Prelude.{◌≡◌, ◌≢◌, ◌⊎◌, ℕ, ◌+◌, ◌*◌, ◌<◌, ◌≤◌, ◌==◌, ◌||◌, not, if◌then◌else◌, true, false, List, [], ◌∷◌, ◌++◌, length, map, filter, find, All};
+ghost use Rattle.std.specs.Prelude.{◌≡◌, ◌≢◌, ◌⊎◌, ℕ, ◌+◌, ◌-◌, ◌*◌, ◌<◌, ◌≤◌, ◌==◌, ◌||◌, not, if◌then◌else◌, true, false, List, [], ◌∷◌, ◌++◌, length, map, filter, All};
 ghost use Rattle.std.specs.List.{range_with_len, list_all, list_any};
-ghost use Rattle.upload_core.specs.Rows.{is_in, packets_in, count_in, count_of, first_open};
-ghost use Rattle.upload_core.specs.Steps.{seen, opens_from, HoldsWindow, late_from, flight_with, older, tired_in, one_of};
+ghost use Rattle.upload_model.specs.declared.events.Phase.{Phase};
+ghost use Rattle.upload_model.specs.Sessions.{Upload, first_of, count_of};
+ghost use Rattle.upload_core.specs.Rows.{packets_in, among, is_marked, count_in};
+ghost use Rattle.upload_core.specs.Steps.{fresh, older, tired_in, IsRow, RowStands};
 
 use arrayvec::ArrayVec;
 use upload_model::{PACKETS_IN_FLIGHT, TICKS_TO_GIVE_UP};
-
-/// The bits of a word.
-const WORD_BITS: usize = u64::BITS as usize;
-
-/// The words of a row: a bit for each of the 173 packets that a drone may have.
-pub const WORDS: usize = 3;
-
-/// The most writes of a drone, one for each piece of a whole memory.
-pub const MOST_WRITES: usize = 171;
 
 /// A packet in flight, by its number, and at how many ticks it was so.
 #[derive(Clone, Copy, Default)]
@@ -24,104 +18,60 @@ pub struct InFlight {
     pub ticks: u8,
 }
 
-/// Packets of one drone that are in flight together, by their numbers.
-pub type Numbers = ArrayVec<u16, PACKETS_IN_FLIGHT>;
-
-/// Writes in flight.
-type Window = ArrayVec<InFlight, PACKETS_IN_FLIGHT>;
+/// What is in flight of a drone, by number.
+pub type Window = ArrayVec<InFlight, PACKETS_IN_FLIGHT>;
 
 /// What the host keeps of one drone.
 #[derive(Drop)]
 pub struct Row {
-    /// A bit for each packet that is acknowledged.
-    pub words: [u64; WORDS],
-    /// The writes in flight.
-    pub writes: Window,
-    /// Where to look for the next open write.
+    /// What is in flight.
+    pub window: Window,
+    /// The first packet that never was in flight.
     pub next: u16,
-    /// At how many ticks the define was in flight.
-    pub define_ticks: u8,
-    /// At how many ticks the start was in flight.
-    pub start_ticks: u8,
-}
-
-/// Whether packet `k` is marked.
-fn is_set(words: &[u64], k: usize) -> bool
-    requires { k < 64 * length words.now }
-    ensures { result ≡ is_in words.now k }
-{
-    words[k / WORD_BITS] >> (k % WORD_BITS) & 1 == 1
-}
-
-/// Marks packet `k`.
-fn set(words: &mut [u64], k: usize)
-    requires { k < 64 * length words.old }
-    ensures marks { (j : ℕ) → is_in words.new j ≡ (is_in words.old j || j == k) }
-    ensures len { length words.new ≡ length words.old }
-{
-    words[k / WORD_BITS] |= 1 << (k % WORD_BITS);
+    /// The first packet that may not be in flight yet.
+    pub until: u16,
 }
 
 /// These packets without packet `k`.
-fn without(entries: &[InFlight], k: usize) -> Window
+fn without(entries: &[InFlight], k: u16) -> Window
     requires { length entries.now ≤ PACKETS_IN_FLIGHT }
     ensures { result.items ≡ filter (λ e. not (e.packet == k)) entries.now }
 {
     let mut left = Window::new();
     for entry in entries {
-        if entry.packet as usize != k {
+        if entry.packet != k {
             left.push(*entry);
         }
     }
     left
 }
 
-/// Fills the window with open writes from `next` on. Returns where to look for the next one.
-fn fill(words: &[u64], writes: usize, next: usize, window: &mut Window) -> usize
-    requires words { length words.now ≡ WORDS }
-    requires writes { writes ≤ MOST_WRITES }
-    requires next { next ≤ writes }
+/// Brings packets from `next` on into flight, as many as there is room for. Returns the first one that
+/// is left.
+fn fill(window: &mut Window, next: u16, until: u16) -> u16
+    requires past { next ≤ until }
     requires few { length window.old.items ≤ 4 }
-    ensures opens { packets_in window.new.items ++ opens_from (is_in words.now) result writes
-        ≡ packets_in window.old.items ++ opens_from (is_in words.now) next writes }
-    ensures counts { (j : ℕ) → count_in window.new.items j ≡ count_in window.old.items j }
-    ensures past { result ≤ writes }
+    ensures grown { window.new.items ≡ window.old.items ++ map fresh (range_with_len next (result - next)) }
+    ensures from { next ≤ result }
+    ensures past { result ≤ until }
     ensures few { length window.new.items ≤ 4 }
-    ensures full { (length window.new.items ≡ 4) ⊎ (result ≡ writes) }
+    ensures full { (length window.new.items ≡ 4) ⊎ (result ≡ until) }
 {
-    for k in next..writes {
+    for k in next..until {
         if window.is_full() {
             return k;
         }
-        if !is_set(words, k) {
-            window.push(InFlight {
-                packet: k as u16,
-                ticks: 0,
-            });
-        }
+        window.push(InFlight {
+            packet: k,
+            ticks: 0,
+        });
     }
-    writes
-}
-
-/// The define or the start that is in flight where all writes of a drone are marked.
-fn late_packet(words: &[u64], writes: usize, loaded: bool, starts: bool) -> Option<u16>
-    requires words { length words.now ≡ WORDS }
-    requires writes { writes ≤ MOST_WRITES }
-    ensures { one_of result ≡ late_from loaded starts writes (is_in words.now) }
-{
-    if loaded && !starts {
-        return None;
-    }
-    let k = if loaded { writes + 1 } else { writes };
-    if is_set(words, k) {
-        return None;
-    }
-    Some(k as u16)
+    until
 }
 
 /// Counts one tick for each of these packets.
 fn age(entries: &mut [InFlight])
-    requires { All (λ e. e.ticks < 255) entries.old }
+    requires { All (λ e. e.ticks < TICKS_TO_GIVE_UP) entries.old }
     ensures { entries.new ≡ map older entries.old }
 {
     for i in 0..entries.len() {
@@ -142,159 +92,110 @@ fn tired(entries: &[InFlight]) -> Option<u16>
 }
 
 impl Row {
-    /// The row of a drone to which nothing has happened.
-    pub fn make(writes: usize) -> Row
-        requires few { writes ≤ MOST_WRITES }
-        ensures blank { (k : ℕ) → is_in result.words k ≡ false }
-        ensures window { HoldsWindow (seen result) writes }
-        ensures counts { (k : ℕ) → count_of result writes k ≡ 0 }
+    /// The row of a drone to which nothing has happened, and of which the packets below `until` may be
+    /// in flight.
+    pub fn make(until: u16) -> Row
+        ensures row { IsRow 0 result }
+        ensures blank { (k : ℕ) → is_marked result k ≡ false }
+        ensures counts { (k : ℕ) → count_in result.window.items k ≡ 0 }
+        ensures until { result.until ≡ until }
     {
-        let words = [0; WORDS];
         let mut window = Window::new();
-        let next = fill(&words, writes, 0, &mut window);
+        let next = fill(&mut window, 0, until);
         Row {
-            words,
-            writes: window,
-            next: next as u16,
-            define_ticks: 0,
-            start_ticks: 0,
+            window,
+            next,
+            until,
         }
     }
 
-    /// Marks packet `k`, and lets the next open write into its place.
-    pub fn acknowledge(&mut self, writes: usize, k: usize)
-        requires few { writes ≤ MOST_WRITES }
-        requires in_range { k < writes + 2 }
-        requires window { HoldsWindow (seen self.old) writes }
-        ensures marks { (j : ℕ) → is_in self.new.words j ≡ (is_in self.old.words j || j == k) }
-        ensures window { HoldsWindow (seen self.new) writes }
-        ensures counts { (j : ℕ) → j ≢ k → count_of self.new writes j ≡ count_of self.old writes j }
-        ensures fewer { (j : ℕ) → count_of self.new writes j ≤ count_of self.old writes j }
+    /// Lets packets below `until` into flight, of a drone of which none is.
+    pub fn admit(&mut self, until: u16)
+        requires row { IsRow 0 self.old }
+        requires empty { self.old.window.items ≡ [] }
+        requires more { self.old.next ≤ until }
+        ensures row { IsRow self.old.next self.new }
+        ensures marks { (k : ℕ) → is_marked self.new k ≡ is_marked self.old k }
+        ensures counts { (k : ℕ) → count_in self.new.window.items k ≡ 0 }
+        ensures until { self.new.until ≡ until }
     {
-        set(&mut self.words, k);
-        let mut window = without(self.writes.as_slice(), k);
-        let next = fill(&self.words, writes, self.next as usize, &mut window);
-        self.writes = window;
-        self.next = next as u16;
+        let next = fill(&mut self.window, self.next, until);
+        self.next = next;
+        self.until = until;
     }
 
-    /// Whether packet `k` is marked.
-    pub fn has(&self, k: usize) -> bool
-        requires { k < 192 }
-        ensures { result ≡ is_in self.now.words k }
+    /// Takes packet `k` out of flight, and lets the next ones in; where none is in flight any more, those
+    /// below `end`, too.
+    pub fn settle(&mut self, k: u16, end: u16)
+        requires row { IsRow 0 self.old }
+        requires in_flight { among (packets_in self.old.window.items) k ≡ true }
+        requires more { self.old.until ≤ end }
+        ensures stands { (s : Upload) (p : Phase) (d : ℕ) → RowStands s p d self.old →
+            end ≡ first_of s p d + count_of s p d → RowStands s p d self.new }
+        ensures marks { (j : ℕ) → is_marked self.new j ≡ (is_marked self.old j || j == k) }
+        ensures counts { (j : ℕ) → j ≢ k → count_in self.new.window.items j ≡ count_in self.old.window.items j }
+        ensures low { All (λ e. e.ticks < TICKS_TO_GIVE_UP) self.old.window.items → All (λ e. e.ticks < TICKS_TO_GIVE_UP) self.new.window.items }
+        ensures later { self.old.next ≤ self.new.next }
+        ensures news { filter (λ j. not (among (packets_in self.old.window.items) j)) (packets_in self.new.window.items)
+            ≡ range_with_len self.old.next (self.new.next - self.old.next) }
     {
-        is_set(&self.words, k)
-    }
-
-    /// What is in flight. `loaded` tells whether all writes and defines of all drones are marked.
-    pub fn numbers(&self, writes: usize, loaded: bool, starts: bool) -> Numbers
-        requires { writes ≤ MOST_WRITES }
-        ensures value { result.items
-            ≡ flight_with (packets_in self.now.writes.items) loaded starts writes (is_in self.now.words) }
-        ensures few { length result.items ≤ 4 }
-    {
-        let mut found = Numbers::new();
-        for entry in self.writes.as_slice() {
-            found.push(entry.packet);
+        let mut window = without(self.window.as_slice(), k);
+        let next = fill(&mut window, self.next, self.until);
+        if !window.is_empty() {
+            self.window = window;
+            self.next = next;
+            return;
         }
-        if found.is_empty() {
-            if let Some(packet) = late_packet(&self.words, writes, loaded, starts) {
-                found.push(packet);
+        self.next = fill(&mut window, next, end);
+        self.window = window;
+        self.until = end;
+    }
+
+    /// Whether packet `k` is in flight.
+    pub fn has(&self, k: u16) -> bool
+        ensures { result ≡ among (packets_in self.now.window.items) k }
+    {
+        for entry in self.window.as_slice() {
+            if entry.packet == k {
+                return true;
             }
         }
-        found
+        false
     }
 
-    /// Whether all writes and the define are marked.
-    pub fn is_loaded(&self, writes: usize) -> bool
-        requires few { writes ≤ MOST_WRITES }
-        requires window { HoldsWindow (seen self.now) writes }
-        ensures { result ≡ list_all (is_in self.now.words) (range_with_len 0 (writes + 1)) }
+    /// Whether packet `k` is acknowledged.
+    pub fn is_past(&self, k: u16) -> bool
+        ensures { result ≡ is_marked self.now k }
     {
-        self.writes.is_empty() && is_set(&self.words, writes)
+        k < self.next && !self.has(k)
     }
 
-    /// Whether all packets are marked.
-    pub fn is_done(&self, writes: usize, starts: bool) -> bool
-        requires few { writes ≤ MOST_WRITES }
-        requires window { HoldsWindow (seen self.now) writes }
-        ensures { result ≡ list_all (is_in self.now.words) (range_with_len 0 (writes + (if starts then 2 else 1))) }
+    /// The first packet that isn't acknowledged.
+    pub fn cursor(&self) -> usize
+        requires { IsRow 0 self.now }
+        ensures past { (k : ℕ) → k < result → is_marked self.now k ≡ true }
+        ensures here { is_marked self.now result ≡ false }
     {
-        self.is_loaded(writes) && (!starts || is_set(&self.words, writes + 1))
+        match self.window.first() {
+            Some(entry) => entry.packet as usize,
+            None => self.next as usize,
+        }
     }
 
-    /// The first packet that isn't marked, or how many there are where all are.
-    pub fn cursor(&self, writes: usize, starts: bool) -> usize
-        requires few { writes ≤ MOST_WRITES }
-        requires window { HoldsWindow (seen self.now) writes }
-        ensures { result ≡ first_open (is_in self.now.words)
-            (range_with_len 0 (writes + (if starts then 2 else 1))) (writes + (if starts then 2 else 1)) }
+    /// Counts one tick for what is in flight.
+    pub fn age(&mut self)
+        requires { All (λ e. e.ticks < TICKS_TO_GIVE_UP) self.old.window.items }
+        ensures window { self.new.window.items ≡ map older self.old.window.items }
+        ensures next { self.new.next ≡ self.old.next }
+        ensures until { self.new.until ≡ self.old.until }
     {
-        if let Some(first) = self.writes.first() {
-            return first.packet as usize;
-        }
-        if !is_set(&self.words, writes) {
-            return writes;
-        }
-        if !starts || !is_set(&self.words, writes + 1) {
-            return writes + 1;
-        }
-        writes + 2
-    }
-
-    /// Counts one tick for the define or the start.
-    fn age_late(&mut self, writes: usize, packet: u16)
-        requires few { writes ≤ MOST_WRITES }
-        requires late { (packet ≡ writes) ⊎ (packet ≡ writes + 1) }
-        requires low { count_of self.old writes packet < 255 }
-        ensures same { seen self.new ≡ seen self.old }
-        ensures counts { (k : ℕ) → count_of self.new writes k
-            ≡ count_of self.old writes k + (if packet == k then 1 else 0) }
-    {
-        if packet as usize == writes {
-            self.define_ticks += 1;
-            return;
-        }
-        self.start_ticks += 1;
-    }
-
-    /// Counts one tick for what is in flight. `loaded` tells whether all writes and defines of all drones
-    /// are marked.
-    pub fn age(&mut self, writes: usize, loaded: bool, starts: bool)
-        requires few { writes ≤ MOST_WRITES }
-        requires window { HoldsWindow (seen self.old) writes }
-        requires low { (k : ℕ) → k < writes + (if starts then 2 else 1) →
-            count_of self.old writes k < TICKS_TO_GIVE_UP }
-        ensures same { seen self.new ≡ seen self.old }
-        ensures counts { (k : ℕ) → k < writes + (if starts then 2 else 1) →
-            count_of self.new writes k ≡ count_of self.old writes k
-            + (if list_any (λ j. j == k) (flight_with (packets_in self.old.writes.items) loaded starts writes (is_in self.old.words)) then 1 else 0) }
-    {
-        if !self.writes.is_empty() {
-            age(self.writes.as_mut_slice());
-            return;
-        }
-        if let Some(packet) = late_packet(&self.words, writes, loaded, starts) {
-            self.age_late(writes, packet);
-        }
+        age(self.window.as_mut_slice());
     }
 
     /// The first packet for which the host gives up.
-    pub fn tired(&self, writes: usize, starts: bool) -> Option<u16>
-        requires few { writes ≤ MOST_WRITES }
-        requires window { HoldsWindow (seen self.now) writes }
-        ensures { result ≡ find (λ k. count_of self.now writes k == TICKS_TO_GIVE_UP)
-            (range_with_len 0 (writes + (if starts then 2 else 1))) }
+    pub fn tired(&self) -> Option<u16>
+        ensures { result ≡ tired_in self.now.window.items }
     {
-        if let Some(packet) = tired(self.writes.as_slice()) {
-            return Some(packet);
-        }
-        if self.define_ticks == TICKS_TO_GIVE_UP {
-            return Some(writes as u16);
-        }
-        if starts && self.start_ticks == TICKS_TO_GIVE_UP {
-            return Some(writes as u16 + 1);
-        }
-        None
+        tired(self.window.as_slice())
     }
 }

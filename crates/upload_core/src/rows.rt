@@ -1,118 +1,118 @@
-//! The rows of all drones.
+//! The rows of all drones: what is in flight, and the phase that they are in.
 
-ghost use Rattle.std.specs.Prelude.{◌≡◌, ◌≢◌, ℕ, ◌+◌, ◌*◌, ◌<◌, ◌≤◌, ◌⊎◌, ◌==◌, ◌&&◌, ◌||◌, if◌then◌else◌, Bool, true, false, List, [], ◌∷◌, ◌++◌, length, find};
-ghost use Rattle.std.specs.List.{range_with_len, list_all, list_any};
-ghost use Rattle.upload_model.specs.Sessions.{drone_count, write_count, packet_count};
-ghost use Rattle.upload_model.specs.Hosts.{all_packets, all_loaded, flight_of, flight_after};
-ghost use Rattle.upload_core.specs.Rows.{row_at, marked, counted, cursor_of, IsWord};
-ghost use Rattle.upload_core.specs.Steps.{seen, RowsStand};
+ghost use Rattle.std.specs.Prelude.{◌≡◌, ◌≢◌, ℕ, ◌+◌, ◌-◌, ◌*◌, ◌<◌, ◌≤◌, ◌==◌, ◌||◌, if◌then◌else◌, true, false, List, [], ◌∷◌, ◌++◌, length, map, find, All, IfOk};
+ghost use Rattle.std.specs.List.{range_with_len, list_all};
+ghost use Rattle.upload_model.specs.Sessions.{drone_count, first_of, count_of};
+ghost use Rattle.upload_model.specs.Hosts.{phase_of, sent_to, gave_up, if_going};
+ghost use Rattle.upload_core.specs.Rows.{packets_in, is_marked, row_at, marked, window_at, counted};
+ghost use Rattle.upload_core.specs.Steps.{older_row, IsRow, RowsStand, IsBegun, IsStarting, in_windows};
 
-use crate::flight::{Out, append};
-use crate::row::{Numbers, Row};
+use crate::row::{InFlight, Row};
 use crate::session::Session;
-use upload_model::{PACKETS_IN_FLIGHT, Sent, TICKS_TO_GIVE_UP};
+use arrayvec::ArrayVec;
+use std::alloc::{AllocError, Global};
+use upload_model::{
+    MOST_DRONES, PACKETS_IN_FLIGHT, Phase, Progress, Sent, TICKS_TO_GIVE_UP,
+};
 
-/// Whether all writes and defines of all drones are acknowledged.
-#[tactic(auto, unfolding(upload_model::specs::Hosts::all_loaded))]
-pub fn is_all_loaded(session: &Session, rows: &[Row]) -> bool
-    requires { RowsStand session.now rows.now }
-    ensures { result ≡ all_loaded session.now (marked rows.now) }
+/// The most packets that one event sends.
+pub const MOST_SENT: usize = MOST_DRONES * PACKETS_IN_FLIGHT;
+
+/// The packets that are to be sent, by drone and number.
+pub type Out = ArrayVec<Sent, MOST_SENT>;
+
+/// The row of a drone to which nothing has happened.
+fn first_row(session: &Session, drone: usize) -> Row
+    requires { drone < drone_count session.now }
+    ensures { IsStarting session.now drone result }
+{
+    Row::make(session.writes(drone) as u16)
+}
+
+/// The rows of drones to which nothing has happened.
+pub fn first_rows(alloc: Global, session: &Session) -> Result<Vec<Row>, AllocError>
+    ensures len { IfOk result (λ rows. length rows.items ≡ drone_count session.now) }
+    ensures each { IfOk result (λ rows. (d : ℕ) → d < drone_count session.now → IsStarting session.now d (row_at rows.items d)) }
 {
     let drones = session.drones();
+    let mut rows = Vec::with_capacity(alloc, drones)?;
     for drone in 0..drones {
-        if !rows[drone].is_loaded(session.writes(drone)) {
-            return false;
-        }
+        rows.push(first_row(session, drone))?;
     }
-    true
+    Ok(rows)
 }
 
-/// Whether all packets are acknowledged.
-#[tactic(auto, unfolding(upload_model::specs::Hosts::all_packets))]
-pub fn is_finished(session: &Session, rows: &[Row]) -> bool
-    requires { RowsStand session.now rows.now }
-    ensures { result ≡ list_all (λ x. marked rows.now x.drone x.packet) (all_packets session.now) }
+/// Puts one drone's packets after the others.
+fn put_window(out: &mut Out, drone: usize, entries: &[InFlight])
+    requires known { drone < MOST_DRONES }
+    requires room { length out.old.items + length entries.now ≤ MOST_SENT }
+    ensures { out.new.items ≡ out.old.items ++ sent_to drone (packets_in entries.now) }
 {
-    let drones = session.drones();
-    for drone in 0..drones {
-        if !rows[drone].is_done(session.writes(drone), session.starts()) {
-            return false;
-        }
+    for entry in entries {
+        out.push(Sent {
+            drone: drone as u8,
+            packet: entry.packet,
+        });
     }
-    true
 }
 
-/// What is in flight for one drone. `loaded` tells whether all writes and defines of all drones are
-/// acknowledged.
-pub fn drone_flight(session: &Session, rows: &[Row], loaded: bool, drone: usize) -> Numbers
-    requires rows { RowsStand session.now rows.now }
-    requires known { drone < drone_count session.now }
-    requires loaded { loaded ≡ all_loaded session.now (marked rows.now) }
-    ensures value { result.items ≡ flight_of session.now (marked rows.now) drone }
-    ensures few { length result.items ≤ PACKETS_IN_FLIGHT }
-{
-    rows[drone].numbers(session.writes(drone), loaded, session.starts())
-}
-
-/// All that is in flight, by drone and number. `loaded` tells whether all writes and defines of all
-/// drones are acknowledged.
-#[tactic(auto, unfolding(upload_model::specs::Hosts::flight_after))]
-pub fn put_flight(session: &Session, rows: &[Row], loaded: bool, out: &mut Out)
-    requires rows { RowsStand session.now rows.now }
-    requires loaded { loaded ≡ all_loaded session.now (marked rows.now) }
-    ensures { out.new.items ≡ flight_after session.now (marked rows.now) }
+/// Puts a drone's packets from one number up to another.
+pub fn put_news(out: &mut Out, drone: usize, from: u16, to: u16)
+    requires known { drone < MOST_DRONES }
+    requires few { to - from ≤ PACKETS_IN_FLIGHT }
+    ensures { out.new.items ≡ sent_to drone (range_with_len from (to - from)) }
 {
     out.clear();
-    let drones = session.drones();
-    for drone in 0..drones {
-        let numbers = drone_flight(session, rows, loaded, drone);
-        append(out, drone, numbers.as_slice());
+    for packet in from..to {
+        out.push(Sent {
+            drone: drone as u8,
+            packet,
+        });
     }
 }
 
-/// Marks packet `k` of a drone, and lets its next open write into flight.
-pub fn mark(session: &Session, rows: &mut [Row], drone: usize, k: usize)
-    requires rows { RowsStand session.now rows.old }
-    requires known { drone < drone_count session.now }
-    requires in_range { k < packet_count session.now drone }
-    ensures rows { RowsStand session.now rows.new }
-    ensures marks { (d j : ℕ) → marked rows.new d j ≡ (marked rows.old d j || (d == drone && j == k)) }
-    ensures counts { (d j : ℕ) → marked rows.new d j ≡ false →
-        counted session.now rows.new d j ≡ counted session.now rows.old d j }
-    ensures fewer { (d j : ℕ) → counted session.now rows.new d j ≤ counted session.now rows.old d j }
-    ensures len { length rows.new ≡ length rows.old }
+/// All that is in flight, by drone and number.
+pub fn put_flight(rows: &[Row], out: &mut Out)
+    requires few { length rows.now ≤ MOST_DRONES }
+    requires windows { (d : ℕ) → d < length rows.now → length (row_at rows.now d).window.items ≤ PACKETS_IN_FLIGHT }
+    ensures { out.new.items ≡ in_windows rows.now (length rows.now) }
 {
-    rows[drone].acknowledge(session.writes(drone), k);
+    out.clear();
+    for drone in 0..rows.len() {
+        put_window(out, drone, rows[drone].window.as_slice());
+    }
 }
 
-/// Counts one tick for each packet in flight. `loaded` tells whether all writes and defines of all
-/// drones are acknowledged.
-pub fn age(session: &Session, rows: &mut [Row], loaded: bool)
-    requires rows { RowsStand session.now rows.old }
-    requires loaded { loaded ≡ all_loaded session.now (marked rows.old) }
-    requires low { (d k : ℕ) → d < drone_count session.now → k < packet_count session.now d →
-        counted session.now rows.old d k < TICKS_TO_GIVE_UP }
-    ensures same { (d : ℕ) → seen (row_at rows.new d) ≡ seen (row_at rows.old d) }
-    ensures counts { (d k : ℕ) → d < drone_count session.now → k < packet_count session.now d →
-        counted session.now rows.new d k ≡ counted session.now rows.old d k
-        + (if list_any (λ j. j == k) (flight_of session.now (marked rows.old) d) then 1 else 0) }
-    ensures len { length rows.new ≡ length rows.old }
+/// Whether nothing is in flight.
+pub fn is_settled(rows: &[Row]) -> bool
+    ensures { result ≡ list_all (λ (row : Row). length row.window.items == 0) rows.now }
 {
-    let drones = session.drones();
-    for drone in 0..drones {
-        rows[drone].age(session.writes(drone), loaded, session.starts());
+    for row in rows {
+        if !row.window.is_empty() {
+            return false;
+        }
+    }
+    true
+}
+
+/// Counts one tick for all that is in flight.
+fn age(rows: &mut [Row])
+    requires { All (λ (row : Row). All (λ e. e.ticks < TICKS_TO_GIVE_UP) row.window.items) rows.old }
+    ensures { rows.new ≡ map older_row rows.old }
+{
+    for i in 0..rows.len() {
+        rows[i].age();
     }
 }
 
 /// The first packet for which the host gives up.
-#[tactic(auto, unfolding(upload_model::specs::Hosts::all_packets))]
-pub fn first_tired(session: &Session, rows: &[Row]) -> Option<Sent>
-    requires { RowsStand session.now rows.now }
-    ensures { result ≡ find (λ x. counted session.now rows.now x.drone x.packet == TICKS_TO_GIVE_UP) (all_packets session.now) }
+fn first_tired(rows: &[Row]) -> Option<Sent>
+    requires few { length rows.now ≤ MOST_DRONES }
+    requires rows { (d : ℕ) → d < length rows.now → IsRow 0 (row_at rows.now d) }
+    ensures { result ≡ find (λ x. counted rows.now x.drone x.packet == TICKS_TO_GIVE_UP) (in_windows rows.now (length rows.now)) }
 {
-    let drones = session.drones();
-    for drone in 0..drones {
-        match rows[drone].tired(session.writes(drone), session.starts()) {
+    for drone in 0..rows.len() {
+        match rows[drone].tired() {
             Some(packet) => {
                 return Some(Sent {
                     drone: drone as u8,
@@ -125,22 +125,72 @@ pub fn first_tired(session: &Session, rows: &[Row]) -> Option<Sent>
     None
 }
 
-/// The first packet of a drone that isn't marked, or how many packets the drone has.
-pub fn first_open(session: &Session, rows: &[Row], drone: usize) -> usize
-    requires rows { RowsStand session.now rows.now }
-    requires known { drone < drone_count session.now }
-    ensures { result ≡ cursor_of session.now (marked rows.now) drone }
+/// A tick of an upload that is going: what is in flight is counted, and sent again.
+pub fn tick(rows: &mut [Row], out: &mut Out) -> Progress
+    requires few { length rows.old ≤ MOST_DRONES }
+    requires rows { (d : ℕ) → d < length rows.old → IsRow 0 (row_at rows.old d) }
+    requires low { All (λ (row : Row). All (λ e. e.ticks < TICKS_TO_GIVE_UP) row.window.items) rows.old }
+    ensures rows { rows.new ≡ map older_row rows.old }
+    ensures answer { result ≡ gave_up (find (λ x. counted rows.new x.drone x.packet == TICKS_TO_GIVE_UP)
+        (in_windows rows.old (length rows.old))) }
+    ensures sent { out.new.items ≡ if_going result (in_windows rows.old (length rows.old)) }
 {
-    rows[drone].cursor(session.writes(drone), session.starts())
+    put_flight(rows, out);
+    age(rows);
+    match first_tired(rows) {
+        Some(x) => {
+            out.clear();
+            Progress::GaveUp {
+                drone: x.drone,
+                packet: x.packet,
+            }
+        }
+        None => Progress::Going,
+    }
 }
 
-/// Word `w` of the packets of a drone that are marked.
-pub fn word_at(session: &Session, rows: &[Row], drone: usize, w: usize) -> u64
-    requires rows { RowsStand session.now rows.now }
-    requires known { drone < drone_count session.now }
-    requires in_range { 64 * w < packet_count session.now drone }
-    ensures { IsWord session.now (marked rows.now) drone w result }
+/// Lets a phase's packets into flight, where all of the phase before are acknowledged.
+fn begin(session: &Session, rows: &mut [Row], before: Phase, phase: Phase)
+    requires rows { RowsStand session.now before rows.old }
+    requires settled { (d : ℕ) → d < drone_count session.now → (row_at rows.old d).window.items ≡ [] }
+    requires next { (d : ℕ) → first_of session.now phase d ≡ first_of session.now before d + count_of session.now before d }
+    requires not_first { phase ≢ Phase.Loading }
+    ensures rows { RowsStand session.now phase rows.new }
+    ensures marks { (d k : ℕ) → marked rows.new d k ≡ marked rows.old d k }
+    ensures counts { (d k : ℕ) → counted rows.new d k ≡ 0 }
+    ensures len { length rows.new ≡ length rows.old }
 {
-    let _packets = session.count(drone);
-    rows[drone].words[w]
+    for drone in 0..rows.len() {
+        rows[drone].admit(session.end_of(phase, drone) as u16);
+    }
+}
+
+/// The phase that the upload is in now, where it was in this one: where all of it is acknowledged, the
+/// next one's packets are let into flight.
+pub fn advance(session: &Session, rows: &mut [Row], phase: Phase) -> Phase
+    requires rows { RowsStand session.now phase rows.old }
+    requires begun { IsBegun session.now (marked rows.old) phase }
+    ensures rows { RowsStand session.now result rows.new }
+    ensures phase { result ≡ phase_of session.now (marked rows.new) }
+    ensures marks { (d k : ℕ) → marked rows.new d k ≡ marked rows.old d k }
+    ensures stays { list_all (λ (row : Row). length row.window.items == 0) rows.old ≡ false → rows.new ≡ rows.old }
+    ensures counts { list_all (λ (row : Row). length row.window.items == 0) rows.old ≡ true → (d k : ℕ) → counted rows.new d k ≡ 0 }
+    ensures len { length rows.new ≡ length rows.old }
+{
+    if !is_settled(rows) {
+        return phase;
+    }
+    match phase {
+        Phase::Loading => begin(session, rows, Phase::Loading, Phase::Reading),
+        Phase::Reading => {
+            begin(session, rows, Phase::Reading, Phase::Starting);
+            return Phase::Starting;
+        }
+        Phase::Starting => return Phase::Starting,
+    }
+    if !is_settled(rows) {
+        return Phase::Reading;
+    }
+    begin(session, rows, Phase::Reading, Phase::Starting);
+    Phase::Starting
 }

@@ -1,17 +1,24 @@
 //! What is to be uploaded, and the packets that do it.
 
 ghost use Rattle.std.specs.Prelude.{◌≡◌, ℕ, ◌+◌, ◌*◌, ◌<◌, ◌≤◌, List, [], ◌∷◌, ◌++◌, length, take, map, IfOk, Bool, slice_index, slice_index_or};
-ghost use Rattle.upload_model.specs.Sessions.{IsSession, drone_count, load_of, write_count, packet_count, packet_at};
+ghost use Rattle.upload_model.specs.Sessions.{IsSession, drone_count, load_of, write_count, load_count, read_count, start_number, packet_count, packet_at, read_start, wanted, first_of, count_of};
 ghost use Rattle.upload_core.specs.Uploads.{upload_of};
 
-use crate::row::MOST_WRITES;
-use crtp_packets::{Packet, chunk, chunk_count, define, start, write_request};
+use crtp_packets::{
+    Packet, READ_BYTES, chunk, chunk_count, define, read_request, start, write_request,
+};
 use std::alloc::{AllocError, Global};
 use std::marker::Model;
-use upload_model::{Listed, Load};
+use upload_model::{Listed, Load, MEMORY_BYTES, Phase};
 
-/// The most packets of a drone: a write for each piece of a whole memory, a define and a start.
-pub const MOST_PACKETS: usize = MOST_WRITES + 2;
+/// The most writes of a drone, one for each piece of a whole memory.
+const MOST_WRITES: usize = 171;
+
+/// The most reads of a drone, of a whole memory.
+const MOST_READS: usize = (MEMORY_BYTES + READ_BYTES - 1) / READ_BYTES;
+
+/// The most packets of a drone: its writes, its define, its reads and its start.
+pub const MOST_PACKETS: usize = MOST_WRITES + 1 + MOST_READS + 1;
 
 /// Where the bytes of all loads go: the id of the drones' trajectory memory, the place of the first
 /// byte in it, 0 to 4,095, and the trajectory's id in the table, 0 to 9.
@@ -22,11 +29,13 @@ pub struct Settings {
     pub trajectory_id: u8,
 }
 
-/// An upload: where it goes, what goes to each drone, and whether the drones are started.
+/// An upload: where it goes, what goes to each drone, whether the memories are read back, and whether
+/// the drones are started.
 #[derive(Drop)]
 pub struct Session {
     settings: Settings,
     loads: Vec<Load>,
+    readback: bool,
     start: bool,
 }
 
@@ -36,22 +45,24 @@ impl Model for Session {
 
     ghost Value = { Upload };
 
-    ghost view = { λ s. upload_of s.settings s.loads.items s.start };
+    ghost view = { λ s. upload_of s.settings s.loads.items s.readback s.start };
 
-    ghost invariant = { λ s. IsSession (upload_of s.settings s.loads.items s.start) };
+    ghost invariant = { λ s. IsSession (upload_of s.settings s.loads.items s.readback s.start) };
 }
 
 impl Session {
-    /// A session with its own copy of the loads, one for each drone. `start` tells whether the drones
-    /// are started when all of them have their loads.
+    /// A session with its own copy of the loads, one for each drone. `readback` tells whether each
+    /// memory is read back when all are written, `start` whether the drones are started when all of
+    /// them have their loads.
     pub fn make(
         alloc: Global,
         settings: Settings,
         loads: &Vec<Load>,
+        readback: bool,
         start: bool,
     ) -> Result<Session, AllocError>
-        requires { IsSession (upload_of settings loads.now.items start) }
-        ensures { IfOk result (λ s. s ≡ upload_of settings loads.now.items start) }
+        requires { IsSession (upload_of settings loads.now.items readback start) }
+        ensures { IfOk result (λ s. s ≡ upload_of settings loads.now.items readback start) }
     {
         let mut copies = Vec::new(alloc);
         for load in loads {
@@ -60,18 +71,18 @@ impl Session {
                 pieces: load.pieces,
             })?;
         }
-        Ok(Session::of_loads(settings, copies, start))
+        Ok(Session::of_loads(settings, copies, readback, start))
     }
 
-    /// A session of these loads, one for each drone. It takes no memory. `start` tells whether the
-    /// drones are started when all of them have their loads.
-    pub fn of_loads(settings: Settings, loads: Vec<Load>, start: bool) -> Session
-        requires { IsSession (upload_of settings loads.items start) }
-        ensures { result ≡ upload_of settings loads.items start }
+    /// A session of these loads, one for each drone, as `make` makes it. It takes no memory.
+    pub fn of_loads(settings: Settings, loads: Vec<Load>, readback: bool, start: bool) -> Session
+        requires { IsSession (upload_of settings loads.items readback start) }
+        ensures { result ≡ upload_of settings loads.items readback start }
     {
         Session {
             settings,
             loads,
+            readback,
             start,
         }
     }
@@ -115,8 +126,15 @@ impl Session {
         self.loads[drone].bytes.as_slice()[i]
     }
 
+    /// Whether the memories are read back.
+    pub fn reads_back(&self) -> bool
+        ensures { result ≡ self.now.readback }
+    {
+        self.readback
+    }
+
     /// Whether the drones are started.
-    pub(crate) fn starts(&self) -> bool
+    pub fn starts(&self) -> bool
         ensures { result ≡ self.now.start }
     {
         self.start
@@ -128,11 +146,59 @@ impl Session {
         requires { drone < drone_count self.now }
         ensures value { result ≡ write_count self.now drone }
         ensures some { 1 ≤ result }
-        ensures few { result + 2 ≤ MOST_PACKETS }
+        ensures few { result ≤ MOST_WRITES }
         ensures valid { IsSession self.now }
     {
         let load = &self.loads[drone];
         chunk_count(load.bytes.as_slice().len())
+    }
+
+    /// How many of the packets of a drone are reads: none without read-back.
+    #[tactic(auto, unfolding(upload_model::specs::Sessions::read_count, upload_model::specs::Sessions::part_count))]
+    pub fn reads(&self, drone: usize) -> usize
+        requires { drone < drone_count self.now }
+        ensures value { result ≡ read_count self.now drone }
+        ensures few { result ≤ MOST_READS }
+    {
+        let len = self.load_len(drone);
+        if !self.readback {
+            return 0;
+        }
+        (len + READ_BYTES - 1) / READ_BYTES
+    }
+
+    /// The number of a drone's first packet in a phase.
+    pub fn first_of(&self, phase: Phase, drone: usize) -> usize
+        requires { drone < drone_count self.now }
+        ensures value { result ≡ first_of self.now phase drone }
+        ensures few { result < MOST_PACKETS }
+    {
+        match phase {
+            Phase::Loading => 0,
+            Phase::Reading => self.writes(drone) + 1,
+            Phase::Starting => self.writes(drone) + 1 + self.reads(drone),
+        }
+    }
+
+    /// The number after a drone's last packet in a phase.
+    pub fn end_of(&self, phase: Phase, drone: usize) -> usize
+        requires { drone < drone_count self.now }
+        ensures value { result ≡ first_of self.now phase drone + count_of self.now phase drone }
+        ensures few { result ≤ MOST_PACKETS }
+    {
+        let reads = self.reads(drone);
+        let loads = self.writes(drone) + 1;
+        match phase {
+            Phase::Loading => loads,
+            Phase::Reading => loads + reads,
+            Phase::Starting => {
+                if self.start {
+                    loads + reads + 1
+                } else {
+                    loads + reads
+                }
+            }
+        }
     }
 
     /// How many packets a drone has.
@@ -141,35 +207,70 @@ impl Session {
         requires { drone < drone_count self.now }
         ensures value { result ≡ packet_count self.now drone }
         ensures few { result ≤ MOST_PACKETS }
-        ensures more { write_count self.now drone < result }
+        ensures more { load_count self.now drone ≤ result }
     {
-        let writes = self.writes(drone);
-        if self.start { writes + 2 } else { writes + 1 }
+        self.end_of(Phase::Starting, drone)
     }
 
-    /// Packet `k` of a drone: its writes, then its define, then its start.
-    #[tactic(auto, unfolding(upload_model::specs::Sessions::packet_at, upload_model::specs::Sessions::write_count))]
+    /// How many bytes read `k` of a drone asks for.
+    #[tactic(auto, unfolding(upload_model::specs::Sessions::read_count, upload_model::specs::Sessions::part_count))]
+    pub fn read_len(&self, drone: usize, k: usize) -> usize
+        requires known { drone < drone_count self.now }
+        requires in_range { k < read_count self.now drone }
+        ensures value { result ≡ length (wanted self.now drone k) }
+        ensures some { 1 ≤ result }
+        ensures few { result ≤ READ_BYTES }
+        ensures inside { read_start k + result ≤ length (load_of self.now drone).bytes }
+        ensures room { self.now.offset + read_start k + result ≤ 4096 }
+    {
+        let _reads = self.reads(drone);
+        (self.load_len(drone) - READ_BYTES * k).min(READ_BYTES)
+    }
+
+    /// Byte `i` of those that read `k` of a drone is to bring.
+    #[tactic(auto, unfolding(upload_model::specs::Sessions::read_count, upload_model::specs::Sessions::part_count))]
+    pub fn wanted_byte(&self, drone: usize, k: usize, i: usize) -> u8
+        requires known { drone < drone_count self.now }
+        requires in_range { k < read_count self.now drone }
+        requires inside { i < length (wanted self.now drone k) }
+        ensures { result ≡ slice_index (wanted self.now drone k) i }
+    {
+        let _len = self.read_len(drone, k);
+        self.load_byte(drone, READ_BYTES * k + i)
+    }
+
+    /// Packet `k` of a drone: its writes, then its define, then its reads, then its start.
+    #[tactic(auto, unfolding(upload_model::specs::Sessions::packet_at, upload_model::specs::Sessions::write_count, upload_model::specs::Sessions::packet_count))]
     pub fn packet(&self, drone: usize, k: usize) -> Packet
         requires known { drone < drone_count self.now }
         requires in_range { k < packet_count self.now drone }
         ensures { result ≡ packet_at self.now drone k }
     {
         let writes = self.writes(drone);
-        let load = &self.loads[drone];
-        let bytes = load.bytes.as_slice();
+        let offset = self.settings.offset as u32;
         if k < writes {
+            let bytes = self.loads[drone].bytes.as_slice();
             let (from, to) = chunk(bytes.len(), k);
             return write_request(
                 self.settings.memory_id,
-                self.settings.offset as u32 + from as u32,
+                offset + from as u32,
                 &bytes[from..to],
             );
         }
         if k == writes {
             return define(
                 self.settings.trajectory_id,
-                self.settings.offset as u32,
-                load.pieces,
+                offset,
+                self.loads[drone].pieces,
+            );
+        }
+        let read = k - writes - 1;
+        if read < self.reads(drone) {
+            let len = self.read_len(drone, read);
+            return read_request(
+                self.settings.memory_id,
+                offset + (READ_BYTES * read) as u32,
+                len as u8,
             );
         }
         start(self.settings.trajectory_id)

@@ -1,19 +1,26 @@
 -- Laws of what is acknowledged, in flight and answered.
-use Rattle.std.proofs.Common.{◌≡◌, ℕ, zero, suc, ◌+◌, ◌-◌, ◌<◌, ◌≤◌, Bool, true, false, not, cond, ◌&&◌, eqb, List, [], ◌∷◌, ◌++◌, length, take, drop, refl, sym, ◌∙◌, arith, Option, Some, None, ◌⊎◌, inl, inr, subst}
-use Rattle.std.specs.Prelude.{slice_get, find, All}
+use Rattle.std.proofs.Common.{◌≡◌, ℕ, zero, suc, ◌+◌, ◌-◌, ◌<◌, ◌≤◌, Bool, true, false, not, cond, ◌&&◌, ◌||◌, eqb, ltb, List, [], ◌∷◌, ◌++◌, length, take, drop, refl, ap, sym, ◌∙◌, arith, Option, Some, None, ◌⊎◌, inl, inr, subst}
+use Rattle.std.specs.Prelude.{slice_get, find, filter, All}
 use Rattle.std.specs.List.{range_with_len, list_any, list_all, flat_map}
-use Rattle.std.proofs.lemmas.Bool.{cases_lt, and_parts, or_cases, or_left, false≢true}
+use Rattle.std.proofs.lemmas.Bool.{cases_lt, and_parts, or_cases, or_left, false≢true, eqb-true}
 use Rattle.std.proofs.lemmas.List.{take-append-drop}
 use Rattle.std.proofs.lemmas.Option.{get_or_from_slice_get, slice_get_within}
-use Rattle.std.proofs.lemmas.List.Folds.{list_any-append, list_all-append, list_all-map}
-use Rattle.std.proofs.lemmas.List.Elements.{All-nil, All-cons, All-append, All-filter, All-map, All-take, All-weaker}
+use Rattle.std.proofs.lemmas.List.Folds.{list_all-append, list_all-map}
+use Rattle.std.proofs.lemmas.List.Elements.{All-nil, All-cons, All-head, All-tail, All-append, All-filter, All-map, All-take, All-weaker}
 use Rattle.upload_model.specs.declared.events.Event.{Event}
 use Rattle.upload_model.specs.declared.events.Event.TheVariants as event
+use Rattle.upload_model.specs.declared.events.Phase.{Phase}
+use Rattle.upload_model.specs.declared.events.Phase.TheVariants.{Loading, Reading, Starting}
+use Rattle.upload_model.specs.declared.events.Reply.{Reply}
+use Rattle.upload_model.specs.declared.events.Reply.TheVariants.{Silent, Good, Ends}
 use Rattle.upload_model.specs.declared.events.Sent.{Sent}
 use Rattle.upload_model.specs.declared.events.Progress.{Progress}
-use Rattle.upload_model.specs.declared.events.Progress.TheVariants.{Going, Done, GaveUp, Refused}
-use Rattle.upload_model.specs.Sessions.{Upload, drone_count, write_count, packet_count}
-use Rattle.upload_model.specs.Hosts.{status_for, is_good, is_bad, acked, open_writes, unless_done, all_loaded, flight_from, flight_of, flight_after, flight, sent_to, ticks, all_packets, gave_up, refused, refused_with, ended_by, ending, or_else, progress_within, progress, includes, sent_at, if_going, out}
+use Rattle.upload_model.specs.declared.events.Progress.TheVariants.{Going, Done, GaveUp, Refused, Differs}
+use Rattle.upload_model.specs.Sessions.{Upload, drone_count, write_count, load_count, start_number, start_count, packet_count, first_of, count_of, is_read, read_address, wanted}
+use Rattle.crtp_packets.specs.Reading.{up_of}
+use Rattle.upload_model.specs.Replies.{ReadBack, status_in, read_in, status_reply, first_other, compared, read_reply, reply_in, reply_to, is_good, is_end, end_of}
+use Rattle.upload_model.specs.Hosts.{Packets, all_settled, phase_of, allowed, flight_in, flight_at, flight_after, flight, sent_to, acknowledges, joined, acked_from, acked, ticks, all_packets, gave_up, counts, ended_for, ends_for, ended_by, ending, or_else, progress_within, progress, includes, sent_at, if_going, out}
+use Rattle.upload_model.proofs.Readings.{count-loads, count-reads}
 
 -- ---- lists over ranges
 
@@ -56,117 +63,188 @@ find_passes p (y ∷ ys) x h = at (p y) refl (λ f. find_passes p ys x f) h wher
   at true e later f = let same : y ≡ x = cc in subst (λ z. p z ≡ true) same e
   at false e later f = later f
 
--- ---- what is acknowledged stays so
+-- what is found has what all have
+pub find_has : {X : Type 0} (P : X → Type 0) (p : X → Bool) (xs : List X) (x : X) → All P xs → find p xs ≡ Some x → P x
+find_has P p [] x all h = absurd (cc)
+find_has P p (y ∷ ys) x all h = at (p y) (λ f. find_has P p ys x (All-tail P y ys all) f) h where
+  at : (b : Bool) → (find p ys ≡ Some x → P x) → cond b (Some y) (find p ys) ≡ Some x → P x
+  at true later f = let same : y ≡ x = cc in subst P same (All-head P y ys all)
+  at false later f = later f
+
+-- ---- what is acknowledged stays so, and what is new was in flight
+
+pub acked_from-append : (s : Upload) (done : Packets) (h t : List Event) → acked_from s done (h ++ t) ≡ acked_from s (acked_from s done h) t
+unfolding acked_from
+acked_from-append s done [] t = refl
+acked_from-append s done (e ∷ h) t = acked_from-append s (joined done (acknowledges s done e)) h t
+
+pub acked-push : (s : Upload) (h : List Event) (e : Event) → acked s (h ++ e ∷ []) ≡ joined (acked s h) (acknowledges s (acked s h) e)
+unfolding acked acked_from
+acked-push s h e = acked_from-append s (λ d k. false) h (e ∷ [])
+
+joined-more : (done : Packets) (o : Option Sent) (d k : ℕ) → done d k ≡ true → joined done o d k ≡ true
+joined-more done None d k h = h
+joined-more done (Some x) d k h = or_left (done d k) (eqb x.drone d && eqb x.packet k) h
+
+acked_from-more : (s : Upload) (done : Packets) (t : List Event) (d k : ℕ) → done d k ≡ true → acked_from s done t d k ≡ true
+unfolding acked_from
+acked_from-more s done [] d k h = h
+acked_from-more s done (e ∷ t) d k h =
+    acked_from-more s (joined done (acknowledges s done e)) t d k (joined-more done (acknowledges s done e) d k h)
 
 pub acked-more : (s : Upload) (h t : List Event) (d k : ℕ) → acked s h d k ≡ true → acked s (h ++ t) d k ≡ true
 unfolding acked
 acked-more s h t d k a =
-    list_any-append (λ e. is_good (status_for s d k e)) h t
-    ∙ or_left (list_any (λ e. is_good (status_for s d k e)) h) (list_any (λ e. is_good (status_for s d k e)) t) a
+    ap (λ (f : Packets). f d k) (acked_from-append s (λ d k. false) h t) ∙ acked_from-more s (acked_from s (λ d k. false) h) t d k a
 
 pub acked-take : (s : Upload) (h : List Event) (n d k : ℕ) → acked s (take n h) d k ≡ true → acked s h d k ≡ true
 acked-take s h n d k a = subst (λ g. acked s g d k ≡ true) (take-append-drop n h) (acked-more s (take n h) (drop n h) d k a)
 
-pub acked-cases : (s : Upload) (h : List Event) (e : Event) (d k : ℕ) → acked s (h ++ e ∷ []) d k ≡ true →
-    (acked s h d k ≡ true) ⊎ (is_good (status_for s d k e) ≡ true)
-unfolding acked
-acked-cases s h e d k a =
-    elim (or_cases (list_any (λ x. is_good (status_for s d k x)) h) (list_any (λ x. is_good (status_for s d k x)) (e ∷ []))
-    (sym (list_any-append (λ x. is_good (status_for s d k x)) h (e ∷ [])) ∙ a)) [
-      | inl before ↦ inl before
-      | inr here ↦ elim (or_cases (is_good (status_for s d k e)) false here) [ inl g ↦ inr g | inr f ↦ absurd (false≢true f) ]
-    ]
-
 pub acked-nil : (s : Upload) (d k : ℕ) → acked s [] d k ≡ false
-unfolding acked
+unfolding acked acked_from
 acked-nil s d k = refl
 
--- ---- what is in flight
+pub joined-cases : (done : Packets) (o : Option Sent) (d k : ℕ) → joined done o d k ≡ true →
+    (done d k ≡ true) ⊎ (o ≡ Some (record { drone = d; packet = k }))
+joined-cases done None d k h = inl h
+joined-cases done (Some x) d k h = elim (or_cases (done d k) (eqb x.drone d && eqb x.packet k) h) [
+  | inl before ↦ inl before
+  | inr same ↦
+      let parts = and_parts (eqb x.drone d) (eqb x.packet k) same in
+      let e : x.drone ≡ d = eqb-true x.drone d parts.0 in
+      let f : x.packet ≡ k = eqb-true x.packet k parts.1 in
+      inr (ap (λ (i : ℕ). Some (record { drone = i; packet = x.packet })) e ∙ ap (λ (j : ℕ). Some (record { drone = d; packet = j })) f)
+]
 
--- all writes and defines are acknowledged
-abbrev pub Loaded : Upload → List Event → Type 0
-Loaded s h = (i : ℕ) → i < drone_count s → (k : ℕ) → k ≤ write_count s i → acked s h i k ≡ true
+acknowledges-good : (s : Upload) (done : Packets) (e : Event) (d k : ℕ) → acknowledges s done e ≡ Some (record { drone = d; packet = k }) → is_good (reply_to s d k e) ≡ true
+unfolding acknowledges
+acknowledges-good s done e d k h = find_passes (λ x. is_good (reply_to s x.drone x.packet e)) (flight_after s done) (record { drone = d; packet = k }) h
 
-pub Loaded-from : (s : Upload) (h : List Event) → all_loaded s (acked s h) ≡ true → Loaded s h
-unfolding all_loaded
-Loaded-from s h all i l k b =
-    list_all-range (acked s h i) 0 (write_count s i + 1)
-    (list_all-range (λ d. list_all (acked s h d) (range_with_len 0 (write_count s d + 1))) 0 (drone_count s) all i (omega arith) (omega arith)) k (omega arith) (omega arith)
+pub acked-cases : (s : Upload) (h : List Event) (e : Event) (d k : ℕ) → acked s (h ++ e ∷ []) d k ≡ true →
+    (acked s h d k ≡ true) ⊎ (is_good (reply_to s d k e) ≡ true)
+acked-cases s h e d k a =
+    elim (joined-cases (acked s h) (acknowledges s (acked s h) e) d k (sym (ap (λ (f : Packets). f d k) (acked-push s h e)) ∙ a)) [
+      | inl before ↦ inl before
+      | inr now ↦ inr (acknowledges-good s (acked s h) e d k now)
+    ]
 
-pub record InFlight (s : Upload) (h : List Event) (d k : ℕ) : Type 0 where
+-- ---- phases, and what is in flight
+
+-- all packets of this phase are among these
+abbrev pub Settled : Upload → Phase → Packets → Type 0
+Settled s p done = (i : ℕ) → i < drone_count s → (k : ℕ) → first_of s p i ≤ k → k < first_of s p i + count_of s p i → done i k ≡ true
+
+pub Settled-from : (s : Upload) (p : Phase) (done : Packets) → all_settled s p done ≡ true → Settled s p done
+unfolding all_settled
+Settled-from s p done all i l k a b =
+    list_all-range (done i) (first_of s p i) (count_of s p i)
+    (list_all-range (λ d. list_all (done d) (range_with_len (first_of s p d) (count_of s p d))) 0 (drone_count s) all i (omega arith) (omega arith)) k a b
+
+pub Settled-more : (s : Upload) (p : Phase) (h t : List Event) → Settled s p (acked s h) → Settled s p (acked s (h ++ t))
+Settled-more s p h t f i l k a b = acked-more s h t i k (f i l k a b)
+
+-- the phases before this one are complete
+abbrev pub Begun : Upload → Packets → Phase → Type 0
+Begun s done Loading = Unit {0}
+Begun s done Reading = Settled s Loading done
+Begun s done Starting = Settled s Loading done × Settled s Reading done
+
+not-false : (b : Bool) → not b ≡ false → b ≡ true
+not-false true h = refl
+not-false false h = absurd (false≢true (sym h))
+
+pub phase-begun : (s : Upload) (done : Packets) → Begun s done (phase_of s done)
+unfolding phase_of
+phase-begun s done = by_loading (not (all_settled s Loading done)) refl where
+  by_reading : (b : Bool) → not (all_settled s Reading done) ≡ b → Settled s Loading done → Begun s done (cond b Reading Starting)
+  by_reading true e l = l
+  by_reading false e l = (l, Settled-from s Reading done (not-false (all_settled s Reading done) e))
+
+  by_loading : (b : Bool) → not (all_settled s Loading done) ≡ b → Begun s done (cond b Loading (cond (not (all_settled s Reading done)) Reading Starting))
+  by_loading true e = tt
+  by_loading false e = by_reading (not (all_settled s Reading done)) refl (Settled-from s Loading done (not-false (all_settled s Loading done) e))
+
+pub allowed-few : (s : Upload) (p : Phase) (done : Packets) (d : ℕ) → allowed s p done d ≤ count_of s p d
+allowed-few s Loading done d = by_written (list_all (done d) (range_with_len 0 (write_count s d))) where
+  by_written : (b : Bool) → cond b (load_count s d) (write_count s d) ≤ load_count s d
+  by_written true = omega arith
+  by_written false = omega arith
+allowed-few s Reading done d = omega arith
+allowed-few s Starting done d = omega arith
+
+-- a packet of this phase
+pub record IsIn (s : Upload) (p : Phase) (d k : ℕ) : Type 0 where
+  pub from : first_of s p d ≤ k
+  pub below : k < first_of s p d + count_of s p d
+
+pub flight_in-in : (s : Upload) (p : Phase) (done : Packets) (d : ℕ) → All (IsIn s p d) (flight_in s p done d)
+unfolding flight_in
+flight_in-in s p done d =
+    let few = allowed-few s p done d in
+    All-take (IsIn s p d) 4 (filter (λ k. not (done d k)) (range_with_len (first_of s p d) (allowed s p done d)))
+    (All-filter (λ k. not (done d k)) (IsIn s p d) (range_with_len (first_of s p d) (allowed s p done d))
+    (All-range (IsIn s p d) (first_of s p d) (allowed s p done d) (λ k l b. record { from = l; below = omega arith })))
+
+-- a packet of the session; a read only where all writes and defines are among these, a start only where all reads are, too
+pub record InFlight (s : Upload) (done : Packets) (d k : ℕ) : Type 0 where
   pub inside : k < packet_count s d
-  pub starts_last : k ≡ write_count s d + 1 → Loaded s h
+  pub loaded : load_count s d ≤ k → Settled s Loading done
+  pub read : start_number s d ≤ k → Settled s Reading done
 
-pub packet_count-plain : (s : Upload) (d : ℕ) → write_count s d < packet_count s d
+pub in_flight : (s : Upload) (p : Phase) (done : Packets) (d k : ℕ) → Begun s done p → IsIn s p d k → InFlight s done d k
 unfolding packet_count
-packet_count-plain s d = by_start s.start where
-  by_start : (b : Bool) → write_count s d < write_count s d + cond b 2 1
-  by_start true = omega arith
-  by_start false = omega arith
+in_flight s Loading done d k begun is =
+    let b = is.below in
+    record { inside = omega arith; loaded = λ l. absurd (omega arith); read = λ l. absurd (omega arith) }
+in_flight s Reading done d k begun is =
+    let b = is.below in
+    record { inside = omega arith; loaded = λ l. begun; read = λ l. absurd (omega arith) }
+in_flight s Starting done d k begun is =
+    let b = is.below in
+    record { inside = b; loaded = λ l. begun.0; read = λ l. begun.1 }
 
-pub packet_count-start : (s : Upload) (d : ℕ) → s.start ≡ true → packet_count s d ≡ write_count s d + 2
-unfolding packet_count
-packet_count-start s d h = rw h refl
-
-unless_done-fits : (s : Upload) (h : List Event) (d k : ℕ) (b : Bool) → InFlight s h d k → All (InFlight s h d) (unless_done b k)
-unless_done-fits s h d k true f = All-nil (InFlight s h d)
-unless_done-fits s h d k false f = All-cons (InFlight s h d) k [] f (All-nil (InFlight s h d))
-
-flight_from-fits : (s : Upload) (h : List Event) (d : ℕ) (xs : List ℕ) → All (λ k. k < write_count s d) xs → All (InFlight s h d) (flight_from s (acked s h) d xs)
-flight_from-fits s h d (k ∷ ks) below =
-    All-take (InFlight s h d) 4 (k ∷ ks)
-    (All-weaker (λ j. j < write_count s d) (InFlight s h d)
-    (λ j l. let c = packet_count-plain s d in record { inside = omega arith; starts_last = λ e. absurd (omega arith) }) (k ∷ ks) below)
-flight_from-fits s h d [] below = by_loaded (all_loaded s (acked s h)) refl s.start refl where
-  by_loaded : (b : Bool) → all_loaded s (acked s h) ≡ b → (c : Bool) → s.start ≡ c →
-      All (InFlight s h d) (cond b (cond c (unless_done (acked s h d (write_count s d + 1)) (write_count s d + 1)) []) (unless_done (acked s h d (write_count s d)) (write_count s d)))
-  by_loaded true all true starts =
-      let n = packet_count-start s d starts in
-      unless_done-fits s h d (write_count s d + 1) (acked s h d (write_count s d + 1)) (record { inside = omega arith; starts_last = λ e. Loaded-from s h all })
-  by_loaded true all false starts = All-nil (InFlight s h d)
-  by_loaded false all c starts =
-      unless_done-fits s h d (write_count s d) (acked s h d (write_count s d)) (record { inside = packet_count-plain s d; starts_last = λ e. absurd (omega arith) })
-
-flight_of-fits : (s : Upload) (h : List Event) (d : ℕ) → All (InFlight s h d) (flight_of s (acked s h) d)
-unfolding flight_of open_writes
-flight_of-fits s h d =
-    flight_from-fits s h d (open_writes s (acked s h) d)
-    (All-filter (λ k. not (acked s h d k)) (λ k. k < write_count s d) (range_with_len 0 (write_count s d))
-    (All-range (λ k. k < write_count s d) 0 (write_count s d) (λ k l b. omega arith)))
-
-pub record IsFlight (s : Upload) (h : List Event) (x : Sent) : Type 0 where
+pub record IsFlight (s : Upload) (done : Packets) (x : Sent) : Type 0 where
   pub drone : x.drone < drone_count s
-  pub packet : InFlight s h x.drone x.packet
+  pub packet : InFlight s done x.drone x.packet
 
-pub flight-fits : (s : Upload) (h : List Event) → All (IsFlight s h) (flight s h)
-unfolding flight_after
-flight-fits s h =
-    All-flat_map_range (IsFlight s h) (λ d. sent_to d (flight_of s (acked s h) d)) 0 (drone_count s)
-    (λ d l b. All-map (IsFlight s h) (λ (k : ℕ). record { drone = d; packet = k }) (flight_of s (acked s h) d)
-    (All-weaker (InFlight s h d) (λ k. IsFlight s h (record { drone = d; packet = k }))
-    (λ k f. record { drone = omega arith; packet = f }) (flight_of s (acked s h) d) (flight_of-fits s h d)))
+pub flight_at-fits : (s : Upload) (p : Phase) (done : Packets) → Begun s done p → All (IsFlight s done) (flight_at s p done)
+unfolding flight_at
+flight_at-fits s p done begun =
+    All-flat_map_range (IsFlight s done) (λ d. sent_to d (flight_in s p done d)) 0 (drone_count s)
+    (λ d l b. All-map (IsFlight s done) (λ (k : ℕ). record { drone = d; packet = k }) (flight_in s p done d)
+    (All-weaker (IsIn s p d) (λ k. IsFlight s done (record { drone = d; packet = k }))
+    (λ k f. record { drone = omega arith; packet = in_flight s p done d k begun f }) (flight_in s p done d) (flight_in-in s p done d)))
 
-IsFlight-more : (s : Upload) (h t : List Event) (x : Sent) → IsFlight s h x → IsFlight s (h ++ t) x
+pub flight-fits : (s : Upload) (done : Packets) → All (IsFlight s done) (flight_after s done)
+flight-fits s done = flight_at-fits s (phase_of s done) done (phase-begun s done)
+
+IsFlight-more : (s : Upload) (h t : List Event) (x : Sent) → IsFlight s (acked s h) x → IsFlight s (acked s (h ++ t)) x
 IsFlight-more s h t x f = record {
   drone = f.drone;
-  packet = record { inside = f.packet.inside; starts_last = λ e i l k b. acked-more s h t i k (f.packet.starts_last e i l k b) };
+  packet = record {
+    inside = f.packet.inside;
+    loaded = λ e. Settled-more s Loading h t (f.packet.loaded e);
+    read = λ e. Settled-more s Reading h t (f.packet.read e);
+  };
 }
 
-sent_at-fits : (s : Upload) (g : List Event) (e : Event) → All (IsFlight s (g ++ e ∷ [])) (sent_at s g e)
-sent_at-fits s g event.Tick = All-weaker (IsFlight s g) (IsFlight s (g ++ event.Tick ∷ [])) (λ x f. IsFlight-more s g (event.Tick ∷ []) x f) (flight s g) (flight-fits s g)
+sent_at-fits : (s : Upload) (g : List Event) (e : Event) → All (IsFlight s (acked s (g ++ e ∷ []))) (sent_at s g e)
+sent_at-fits s g event.Tick =
+    All-weaker (IsFlight s (acked s g)) (IsFlight s (acked s (g ++ event.Tick ∷ []))) (λ x f. IsFlight-more s g (event.Tick ∷ []) x f) (flight s g) (flight-fits s (acked s g))
 sent_at-fits s g (event.Up from packet) =
-    All-filter (λ x. not (includes (flight s g) x)) (IsFlight s (g ++ event.Up from packet ∷ [])) (flight s (g ++ event.Up from packet ∷ []))
-    (flight-fits s (g ++ event.Up from packet ∷ []))
+    All-filter (λ x. not (includes (flight s g) x)) (IsFlight s (acked s (g ++ event.Up from packet ∷ []))) (flight s (g ++ event.Up from packet ∷ []))
+    (flight-fits s (acked s (g ++ event.Up from packet ∷ [])))
 
-if_going-fits : (P : Sent → Type 0) (p : Progress) (xs : List Sent) → All P xs → All P (if_going p xs)
+pub if_going-fits : (P : Sent → Type 0) (p : Progress) (xs : List Sent) → All P xs → All P (if_going p xs)
 if_going-fits P Going xs all = all
 if_going-fits P Done xs all = All-nil P
 if_going-fits P (GaveUp d k) xs all = All-nil P
 if_going-fits P (Refused d k status) xs all = All-nil P
+if_going-fits P (Differs d address bytes got) xs all = All-nil P
 
-pub out-fits : (s : Upload) (g : List Event) (e : Event) → All (IsFlight s (g ++ e ∷ [])) (out s g e)
+pub out-fits : (s : Upload) (g : List Event) (e : Event) → All (IsFlight s (acked s (g ++ e ∷ []))) (out s g e)
 unfolding out
-out-fits s g e = if_going-fits (IsFlight s (g ++ e ∷ [])) (progress s (g ++ e ∷ [])) (sent_at s g e) (sent_at-fits s g e)
+out-fits s g e = if_going-fits (IsFlight s (acked s (g ++ e ∷ []))) (progress s (g ++ e ∷ [])) (sent_at s g e) (sent_at-fits s g e)
 
 -- ---- how an upload ends
 
@@ -183,29 +261,89 @@ progress_within-cases s h (suc n) p e = by_before (progress_within s h n) (progr
   by_before (GaveUp d k) (inr c) f = inr (c.0, c.1 ∙ f)
   by_before (Refused d k status) (inl g) f = inl (sym f ∙ g)
   by_before (Refused d k status) (inr c) f = inr (c.0, c.1 ∙ f)
+  by_before (Differs d address bytes got) (inl g) f = inl (sym f ∙ g)
+  by_before (Differs d address bytes got) (inr c) f = inr (c.0, c.1 ∙ f)
 
-not_done : (s : Upload) (g : List Event) (o : Option Event) → ended_by s g o ≡ Done → ⊥
-not_done s g None h = cc
-not_done s g (Some event.Tick) h = by_found (find (λ x. eqb (ticks s g x) 20) (all_packets s)) h where
-  by_found : (o : Option Sent) → gave_up o ≡ Done → ⊥
-  by_found None h = cc
-  by_found (Some x) h = cc
-not_done s g (Some (event.Up from packet)) h =
-    by_found (find (λ x. is_bad (status_for s x.drone x.packet (event.Up from packet)) && not (acked s g x.drone x.packet)) (all_packets s)) h where
-      by_status : (x : Sent) (o : Option ℕ) → refused_with x o ≡ Done → ⊥
-      by_status x None h = cc
-      by_status x (Some status) h = cc
+-- no reply says that an upload is done
+status-not_done : (d k : ℕ) (o : Option ℕ) → end_of (status_reply d k o) ≡ Done → ⊥
+status-not_done d k None h = cc
+status-not_done d k (Some status) h = at (eqb status 0) h where
+  at : (b : Bool) → end_of (cond b Good (Ends (Refused d k status))) ≡ Done → ⊥
+  at true h = cc
+  at false h = cc
 
-      by_found : (o : Option Sent) → refused s (event.Up from packet) o ≡ Done → ⊥
-      by_found None h = cc
-      by_found (Some x) h = by_status x (status_for s x.drone x.packet (event.Up from packet)) h
+compared-not_done : (d address : ℕ) (bytes got : List ℕ) (o : Option ℕ) → end_of (compared d address bytes got o) ≡ Done → ⊥
+compared-not_done d address bytes got None h = cc
+compared-not_done d address bytes got (Some i) h = cc
+
+read-not_done : (s : Upload) (d k j : ℕ) (o : Option ReadBack) → end_of (read_reply s d k j o) ≡ Done → ⊥
+read-not_done s d k j None h = cc
+read-not_done s d k j (Some r) h = at (eqb r.status 0) h where
+  at : (b : Bool) → end_of (cond b (compared d (read_address s j) (wanted s d j) r.bytes (first_other (wanted s d j) r.bytes)) (Ends (Refused d k r.status))) ≡ Done → ⊥
+  at true h = compared-not_done d (read_address s j) (wanted s d j) r.bytes (first_other (wanted s d j) r.bytes) h
+  at false h = cc
+
+reply-not_done : (s : Upload) (d k : ℕ) (e : Event) → end_of (reply_to s d k e) ≡ Done → ⊥
+unfolding reply_to reply_in
+reply-not_done s d k event.Tick h = cc
+reply-not_done s d k (event.Up from packet) h = at (eqb from d && ltb d (drone_count s) && ltb k (packet_count s d)) h where
+  by_read : (b : Bool) → end_of (cond b (read_reply s d k (k - load_count s d) (read_in s d (k - load_count s d) (up_of packet))) (status_reply d k (status_in s d k (up_of packet)))) ≡ Done → ⊥
+  by_read true h = read-not_done s d k (k - load_count s d) (read_in s d (k - load_count s d) (up_of packet)) h
+  by_read false h = status-not_done d k (status_in s d k (up_of packet)) h
+
+  at : (b : Bool) → end_of (cond b (cond (is_read s d k) (read_reply s d k (k - load_count s d) (read_in s d (k - load_count s d) (up_of packet))) (status_reply d k (status_in s d k (up_of packet)))) Silent) ≡ Done → ⊥
+  at true h = by_read (is_read s d k) h
+  at false h = cc
+
+-- what holds of each way in which events may end an upload
+module _ (P : Progress → Type 0) (going : P Going) (tired : (d k : ℕ) → P (GaveUp d k)) (s : Upload) where
+  ended_by-has : (g : List Event) (o : Option Event) → ((e : Event) → o ≡ Some e → (d k : ℕ) → P (end_of (reply_to s d k e))) → P (ended_by s g o)
+  ended_by-has g None h = going
+  ended_by-has g (Some event.Tick) h = by_found (find (λ x. eqb (ticks s g x) 20) (flight s g)) where
+    by_found : (o : Option Sent) → P (gave_up o)
+    by_found None = going
+    by_found (Some x) = tired x.drone x.packet
+  ended_by-has g (Some (event.Up from packet)) h = by_found (find (λ x. ends_for s (acked s g) (event.Up from packet) x) (all_packets s)) where
+    by_found : (o : Option Sent) → P (ended_for s (event.Up from packet) o)
+    by_found None = going
+    by_found (Some x) = h (event.Up from packet) refl x.drone x.packet
+
+  module _ (done : P Done) where
+    pub ending-has : (g : List Event) → All (λ e. (d k : ℕ) → P (end_of (reply_to s d k e))) g → P (ending s g)
+    unfolding ending
+    ending-has g all = by_all (list_all (λ x. acked s g x.drone x.packet) (all_packets s)) where
+      by_all : (b : Bool) → P (cond b Done (ended_by s g (slice_get g (length g - 1))))
+      by_all true = done
+      by_all false =
+          ended_by-has g (slice_get g (length g - 1))
+          (λ e at. subst (λ x. (d k : ℕ) → P (end_of (reply_to s d k x))) (get_or_from_slice_get g (length g - 1) e e at)
+          (all (length g - 1) e (slice_get_within g (length g - 1) e at)))
+
+    or_else-has : (p q : Progress) → P p → P q → P (or_else p q)
+    or_else-has Going q a b = b
+    or_else-has Done q a b = a
+    or_else-has (GaveUp d k) q a b = a
+    or_else-has (Refused d k status) q a b = a
+    or_else-has (Differs d address bytes got) q a b = a
+
+    progress_within-has : (h : List Event) (n : ℕ) → All (λ e. (d k : ℕ) → P (end_of (reply_to s d k e))) h → P (progress_within s h n)
+    unfolding progress_within
+    progress_within-has h zero all = ending-has (take 0 h) (All-take (λ e. (d k : ℕ) → P (end_of (reply_to s d k e))) 0 h all)
+    progress_within-has h (suc n) all =
+        or_else-has (progress_within s h n) (ending s (take (suc n) h)) (progress_within-has h n all)
+        (ending-has (take (suc n) h) (All-take (λ e. (d k : ℕ) → P (end_of (reply_to s d k e))) (suc n) h all))
+
+    pub progress-has : (h : List Event) → All (λ e. (d k : ℕ) → P (end_of (reply_to s d k e))) h → P (progress s h)
+    unfolding progress
+    progress-has h all = progress_within-has h (length h) all
 
 ending-done : (s : Upload) (g : List Event) → ending s g ≡ Done → list_all (λ x. acked s g x.drone x.packet) (all_packets s) ≡ true
 unfolding ending
 ending-done s g h = by_all (list_all (λ x. acked s g x.drone x.packet) (all_packets s)) h where
   by_all : (b : Bool) → cond b Done (ended_by s g (slice_get g (length g - 1))) ≡ Done → b ≡ true
   by_all true h = refl
-  by_all false h = absurd (not_done s g (slice_get g (length g - 1)) h)
+  by_all false h =
+      absurd (ended_by-has (λ p. p ≡ Done → ⊥) (λ e. cc) (λ d k e. cc) s g (slice_get g (length g - 1)) (λ e at d k. reply-not_done s d k e) h)
 
 pub all_packets-each : (s : Upload) (p : Sent → Bool) → list_all p (all_packets s) ≡ true →
     (d k : ℕ) → d < drone_count s → k < packet_count s d → p (record { drone = d; packet = k }) ≡ true
@@ -222,44 +360,4 @@ acked-done s h e d k l b =
     elim (progress_within-cases s h (length h) Done e) [
       | inl never ↦ absurd (cc)
       | inr at ↦ acked-take s h at.0 d k (all_packets-each s (λ x. acked s (take at.0 h) x.drone x.packet) (ending-done s (take at.0 h) at.1) d k l b)
-    ]
-
--- where no event is a refusal, none is answered
-abbrev pub IsQuiet : Upload → Event → Type 0
-IsQuiet s e = (d k : ℕ) → is_bad (status_for s d k e) ≡ false
-
-not_refused_by : (s : Upload) (g : List Event) (o : Option Event) (d k status : ℕ) → ((e : Event) → o ≡ Some e → IsQuiet s e) →
-    ended_by s g o ≡ Refused d k status → ⊥
-not_refused_by s g None d k status quiet h = cc
-not_refused_by s g (Some event.Tick) d k status quiet h = by_found (find (λ x. eqb (ticks s g x) 20) (all_packets s)) h where
-  by_found : (o : Option Sent) → gave_up o ≡ Refused d k status → ⊥
-  by_found None h = cc
-  by_found (Some x) h = cc
-not_refused_by s g (Some (event.Up from packet)) d k status quiet h =
-    by_found (find test (all_packets s)) refl h where
-      test : Sent → Bool
-      test x = is_bad (status_for s x.drone x.packet (event.Up from packet)) && not (acked s g x.drone x.packet)
-
-      by_found : (o : Option Sent) → find test (all_packets s) ≡ o → refused s (event.Up from packet) o ≡ Refused d k status → ⊥
-      by_found None f h = cc
-      by_found (Some x) f h =
-          let bad = (and_parts (is_bad (status_for s x.drone x.packet (event.Up from packet))) (not (acked s g x.drone x.packet)) (find_passes test (all_packets s) x f)).0 in
-          false≢true (sym (quiet (event.Up from packet) refl x.drone x.packet) ∙ bad)
-
-ending-not_refused : (s : Upload) (g : List Event) (d k status : ℕ) → All (IsQuiet s) g → ending s g ≡ Refused d k status → ⊥
-unfolding ending
-ending-not_refused s g d k status quiet h = by_all (list_all (λ x. acked s g x.drone x.packet) (all_packets s)) h where
-  by_all : (b : Bool) → cond b Done (ended_by s g (slice_get g (length g - 1))) ≡ Refused d k status → ⊥
-  by_all true h = cc
-  by_all false h =
-      not_refused_by s g (slice_get g (length g - 1)) d k status
-      (λ e at. subst (IsQuiet s) (get_or_from_slice_get g (length g - 1) e e at)
-      (quiet (length g - 1) e (slice_get_within g (length g - 1) e at))) h
-
-pub progress-not_refused : (s : Upload) (h : List Event) (d k status : ℕ) → All (IsQuiet s) h → progress s h ≡ Refused d k status → ⊥
-unfolding progress
-progress-not_refused s h d k status quiet e =
-    elim (progress_within-cases s h (length h) (Refused d k status) e) [
-      | inl never ↦ absurd (cc)
-      | inr at ↦ ending-not_refused s (take at.0 h) d k status (All-take (IsQuiet s) at.0 h quiet) at.1
     ]

@@ -1,21 +1,23 @@
 -- What one more event does to what is acknowledged, counted and answered.
-use Rattle.std.proofs.Common.{◌≡◌, ◌≢◌, ℕ, zero, suc, ◌+◌, ◌-◌, ◌<◌, ◌≤◌, Bool, true, false, not, cond, ◌&&◌, ◌||◌, eqb, List, [], ◌∷◌, ◌++◌, length, take, filter, refl, ap, sym, ◌∙◌, arith, Option, Some}
-use Rattle.std.specs.Prelude.{slice_get, find, count_by}
+use Rattle.std.proofs.Common.{◌≡◌, ◌≢◌, ℕ, zero, suc, ◌+◌, ◌-◌, ◌<◌, ◌≤◌, Bool, true, false, not, cond, ◌&&◌, ◌||◌, eqb, List, [], ◌∷◌, ◌++◌, length, take, refl, ap, sym, ◌∙◌, arith, Option, Some, None}
+use Rattle.std.specs.Prelude.{slice_get, find, filter, count_by}
 use Rattle.std.specs.List.{range_with_len, list_any, list_all, flat_map}
-use Rattle.std.proofs.Math.Path.{fun_ext}
 use Rattle.std.proofs.lemmas.Bool.{false≢true}
 use Rattle.std.proofs.lemmas.List.{take-append-le, take_all, length_push, length-append, append-nil, append_assoc}
 use Rattle.std.proofs.lemmas.List.Sums.{length-filter}
-use Rattle.std.proofs.lemmas.List.Folds.{list_any-append}
 use Rattle.std.proofs.lemmas.List.Elements.{filter-append}
 use Rattle.upload_model.specs.declared.events.Event.{Event}
 use Rattle.upload_model.specs.declared.events.Event.TheVariants as event
+use Rattle.upload_model.specs.declared.events.Phase.{Phase}
+use Rattle.upload_model.specs.declared.events.Phase.TheVariants.{Loading, Reading, Starting}
 use Rattle.upload_model.specs.declared.events.Sent.{Sent}
 use Rattle.upload_model.specs.declared.events.Progress.{Progress}
-use Rattle.upload_model.specs.declared.events.Progress.TheVariants.{Going, Done, GaveUp, Refused}
-use Rattle.upload_model.specs.Sessions.{Upload, drone_count, write_count, packet_count}
-use Rattle.upload_model.specs.Hosts.{status_for, is_good, acked, Packets, open_writes, all_loaded, unless_done, flight_from, flight_of, flight_after, flight, sent_to, is_tick, includes, ticks_by, ticks, all_packets, gave_up, ended_by, ending, or_else, progress_within, progress}
-use Rattle.upload_model.proofs.HostLaws.{packet_count-plain, packet_count-start, acked-nil, all_packets-each}
+use Rattle.upload_model.specs.declared.events.Progress.TheVariants.{Going, Done, GaveUp, Refused, Differs}
+use Rattle.upload_model.specs.Sessions.{Upload, drone_count, write_count, load_count, packet_count, first_of, count_of}
+use Rattle.upload_model.specs.Replies.{reply_to, is_good}
+use Rattle.upload_model.specs.Hosts.{Packets, all_settled, phase_of, allowed, flight_in, flight_at, flight_after, flight, sent_to, acknowledges, joined, acked, is_tick, includes, ticks, all_packets, gave_up, ended_by, ending, or_else, progress_within, progress}
+use Rattle.upload_model.proofs.Readings.{count-loads}
+use Rattle.upload_model.proofs.HostLaws.{acked-push, acked-nil, all_packets-each, allowed-few}
 
 -- ---- lists
 
@@ -63,61 +65,54 @@ count_by-range-more p n =
       one true = refl
       one false = refl
 
-slice_get-last : {X : Type 0} (xs : List X) (x : X) → slice_get (xs ++ x ∷ []) (length xs) ≡ Some x
+pub slice_get-last : {X : Type 0} (xs : List X) (x : X) → slice_get (xs ++ x ∷ []) (length xs) ≡ Some x
 slice_get-last [] x = refl
 slice_get-last (y ∷ ys) x = slice_get-last ys x
 
-slice_get-before : {X : Type 0} (xs ys : List X) (i : ℕ) → i < length xs → slice_get (xs ++ ys) i ≡ slice_get xs i
+pub slice_get-before : {X : Type 0} (xs ys : List X) (i : ℕ) → i < length xs → slice_get (xs ++ ys) i ≡ slice_get xs i
 slice_get-before [] ys i h = absurd (omega arith)
 slice_get-before (x ∷ xs) ys zero h = refl
 slice_get-before (x ∷ xs) ys (suc i) h = slice_get-before xs ys i (omega arith)
 
 -- ---- one more event
 
-pub acked-push : (s : Upload) (h : List Event) (e : Event) (d k : ℕ) →
-    acked s (h ++ e ∷ []) d k ≡ (acked s h d k || is_good (status_for s d k e))
-unfolding acked
-acked-push s h e d k =
-    list_any-append (λ x. is_good (status_for s d k x)) h (e ∷ [])
-    ∙ ap (λ (b : Bool). list_any (λ x. is_good (status_for s d k x)) h || b) (or_end (is_good (status_for s d k e))) where
-      or_end : (b : Bool) → (b || false) ≡ b
-      or_end true = refl
-      or_end false = refl
+find-none : {X : Type 0} (xs : List X) → find (λ x. false) xs ≡ None
+find-none [] = refl
+find-none (x ∷ xs) = find-none xs
 
-or_nothing : (b : Bool) → (b || false) ≡ b
-or_nothing true = refl
-or_nothing false = refl
+pub acknowledges-tick : (s : Upload) (done : Packets) → acknowledges s done event.Tick ≡ None
+unfolding acknowledges reply_to
+acknowledges-tick s done = find-none (flight_after s done)
 
-pub acked-tick : (s : Upload) (h : List Event) (d k : ℕ) → acked s (h ++ event.Tick ∷ []) d k ≡ acked s h d k
-acked-tick s h d k = acked-push s h event.Tick d k ∙ or_nothing (acked s h d k)
+pub acked-tick : (s : Upload) (h : List Event) → acked s (h ++ event.Tick ∷ []) ≡ acked s h
+acked-tick s h = acked-push s h event.Tick ∙ ap (joined (acked s h)) (acknowledges-tick s (acked s h))
 
-pub ticks_by-push : (f : List Event → List Sent) (h : List Event) (e : Event) (x : Sent) →
-    ticks_by f (h ++ e ∷ []) x ≡ ticks_by f h x + cond (is_tick (Some e) && includes (f h) x) 1 0
-ticks_by-push f h e x =
+pub flight-tick : (s : Upload) (h : List Event) → flight s (h ++ event.Tick ∷ []) ≡ flight s h
+flight-tick s h = ap (flight_after s) (acked-tick s h)
+
+pub ticks-push : (s : Upload) (h : List Event) (e : Event) (x : Sent) →
+    ticks s (h ++ e ∷ []) x ≡ ticks s h x + cond (is_tick (Some e) && includes (flight s h) x) 1 0
+unfolding ticks
+ticks-push s h e x =
     ap (λ (n : ℕ). count_by new (range_with_len 0 n)) (length_push h e ∙ (let g : length h + 1 ≡ suc (length h) = omega arith in g))
     ∙ count_by-range-more new (length h)
     ∙ ap (λ (n : ℕ). n + cond (new (length h)) 1 0) (count_by-range-agree new old 0 (length h) same)
     ∙ ap (λ (b : Bool). count_by old (range_with_len 0 (length h)) + cond b 1 0) here where
       new : ℕ → Bool
-      new i = is_tick (slice_get (h ++ e ∷ []) i) && includes (f (take i (h ++ e ∷ []))) x
+      new i = is_tick (slice_get (h ++ e ∷ []) i) && includes (flight s (take i (h ++ e ∷ []))) x
 
       old : ℕ → Bool
-      old i = is_tick (slice_get h i) && includes (f (take i h)) x
+      old i = is_tick (slice_get h i) && includes (flight s (take i h)) x
 
       same : (i : ℕ) → 0 ≤ i → i < 0 + length h → new i ≡ old i
-      same i l b =
-          ap (λ (o : Option Event). is_tick o && includes (f (take i (h ++ e ∷ []))) x) (slice_get-before h (e ∷ []) i (omega arith))
-          ∙ ap (λ (g : List Event). is_tick (slice_get h i) && includes (f g) x) (take-append-le i h (e ∷ []) (omega arith))
+      same i a b =
+          ap (λ (o : Option Event). is_tick o && includes (flight s (take i (h ++ e ∷ []))) x) (slice_get-before h (e ∷ []) i (omega arith))
+          ∙ ap (λ (g : List Event). is_tick (slice_get h i) && includes (flight s g) x) (take-append-le i h (e ∷ []) (omega arith))
 
-      here : new (length h) ≡ (is_tick (Some e) && includes (f h) x)
+      here : new (length h) ≡ (is_tick (Some e) && includes (flight s h) x)
       here =
-          ap (λ (o : Option Event). is_tick o && includes (f (take (length h) (h ++ e ∷ []))) x) (slice_get-last h e)
-          ∙ ap (λ (g : List Event). is_tick (Some e) && includes (f g) x) (take-append-le (length h) h (e ∷ []) (omega arith) ∙ take_all (length h) h (omega arith))
-
-pub ticks-push : (s : Upload) (h : List Event) (e : Event) (x : Sent) →
-    ticks s (h ++ e ∷ []) x ≡ ticks s h x + cond (is_tick (Some e) && includes (flight s h) x) 1 0
-unfolding ticks
-ticks-push s h e x = ticks_by-push (λ g. flight s g) h e x
+          ap (λ (o : Option Event). is_tick o && includes (flight s (take (length h) (h ++ e ∷ []))) x) (slice_get-last h e)
+          ∙ ap (λ (g : List Event). is_tick (Some e) && includes (flight s g) x) (take-append-le (length h) h (e ∷ []) (omega arith) ∙ take_all (length h) h (omega arith))
 
 -- ---- progress, one event at a time
 
@@ -141,6 +136,7 @@ or_else-stays Going q h = absurd (h refl)
 or_else-stays Done q h = refl
 or_else-stays (GaveUp d k) q h = refl
 or_else-stays (Refused d k status) q h = refl
+or_else-stays (Differs d address bytes got) q h = refl
 
 -- an answer that ended the upload stays
 pub progress-stays : (s : Upload) (h t : List Event) → progress s h ≢ Going → progress s (h ++ t) ≡ progress s h
@@ -155,6 +151,7 @@ or_else-going Going q h = h
 or_else-going Done q h = absurd (cc)
 or_else-going (GaveUp d k) q h = absurd (cc)
 or_else-going (Refused d k status) q h = absurd (cc)
+or_else-going (Differs d address bytes got) q h = absurd (cc)
 
 pub ending-going : (s : Upload) (h : List Event) → progress s h ≡ Going → ending s h ≡ Going
 unfolding progress progress_within
@@ -191,50 +188,61 @@ progress-next s h e g =
 
 -- a tick of an upload that is going
 pub progress-tick : (s : Upload) (h : List Event) → progress s h ≡ Going →
-    progress s (h ++ event.Tick ∷ []) ≡ gave_up (find (λ x. eqb (ticks s (h ++ event.Tick ∷ []) x) 20) (all_packets s))
+    progress s (h ++ event.Tick ∷ []) ≡ gave_up (find (λ x. eqb (ticks s (h ++ event.Tick ∷ []) x) 20) (flight s h))
 progress-tick s h g =
     progress-next s h event.Tick g
-    ∙ ap (λ (f : Sent → Bool). cond (list_all f (all_packets s)) Done (ended_by s (h ++ event.Tick ∷ []) (Some event.Tick))) (fun_ext (λ (x : Sent). acked-tick s h x.drone x.packet))
+    ∙ ap (λ (f : Packets). cond (list_all (λ x. f x.drone x.packet) (all_packets s)) Done (ended_by s (h ++ event.Tick ∷ []) (Some event.Tick))) (acked-tick s h)
     ∙ ap (λ (b : Bool). cond b Done (ended_by s (h ++ event.Tick ∷ []) (Some event.Tick))) (going-open s h g)
+    ∙ ap (λ (xs : List Sent). gave_up (find (λ x. eqb (ticks s (h ++ event.Tick ∷ []) x) 20) xs)) (flight-tick s h)
 
 -- ---- what is in flight depends on the packets of the session alone
 
 abbrev pub Agree : Upload → Packets → Packets → Type 0
 Agree s f g = (d k : ℕ) → d < drone_count s → k < packet_count s d → f d k ≡ g d k
 
-pub all_loaded-agree : (s : Upload) (f g : Packets) → Agree s f g → all_loaded s f ≡ all_loaded s g
-unfolding all_loaded
-all_loaded-agree s f g same =
-    list_all-range-agree (λ d. list_all (f d) (range_with_len 0 (write_count s d + 1))) (λ d. list_all (g d) (range_with_len 0 (write_count s d + 1))) 0 (drone_count s)
-    (λ d l b. list_all-range-agree (f d) (g d) 0 (write_count s d + 1) (λ k m c. let n = packet_count-plain s d in same d k (omega arith) (omega arith)))
+-- the packets of a phase are packets of the session
+pub phase-inside : (s : Upload) (p : Phase) (d : ℕ) → first_of s p d + count_of s p d ≤ packet_count s d
+unfolding packet_count
+phase-inside s Loading d = omega arith
+phase-inside s Reading d = omega arith
+phase-inside s Starting d = omega arith
 
-flight_from-agree : (s : Upload) (f g : Packets) (d : ℕ) (xs : List ℕ) → d < drone_count s → Agree s f g → flight_from s f d xs ≡ flight_from s g d xs
-flight_from-agree s f g d (k ∷ ks) l same = refl
-flight_from-agree s f g d [] l same =
-    ap (λ (b : Bool). cond b (late f) (unless_done (f d (write_count s d)) (write_count s d))) (all_loaded-agree s f g same)
-    ∙ ap (λ (b : Bool). cond (all_loaded s g) (late f) (unless_done b (write_count s d))) (same d (write_count s d) l (packet_count-plain s d))
-    ∙ ap (λ (xs : List ℕ). cond (all_loaded s g) xs (unless_done (g d (write_count s d)) (write_count s d))) (late_same s.start refl) where
-      late : Packets → List ℕ
-      late f = cond s.start (unless_done (f d (write_count s d + 1)) (write_count s d + 1)) []
+pub all_settled-agree : (s : Upload) (p : Phase) (f g : Packets) → Agree s f g → all_settled s p f ≡ all_settled s p g
+unfolding all_settled
+all_settled-agree s p f g same =
+    list_all-range-agree (λ d. list_all (f d) (range_with_len (first_of s p d) (count_of s p d))) (λ d. list_all (g d) (range_with_len (first_of s p d) (count_of s p d))) 0 (drone_count s)
+    (λ d l b. list_all-range-agree (f d) (g d) (first_of s p d) (count_of s p d) (λ k m c. let n = phase-inside s p d in same d k (omega arith) (omega arith)))
 
-      late_same : (b : Bool) → s.start ≡ b →
-          cond b (unless_done (f d (write_count s d + 1)) (write_count s d + 1)) [] ≡ cond b (unless_done (g d (write_count s d + 1)) (write_count s d + 1)) []
-      late_same true e =
-          ap (λ (b : Bool). unless_done b (write_count s d + 1)) (same d (write_count s d + 1) l (let n = packet_count-start s d e in omega arith))
-      late_same false e = refl
+pub phase_of-agree : (s : Upload) (f g : Packets) → Agree s f g → phase_of s f ≡ phase_of s g
+unfolding phase_of
+phase_of-agree s f g same =
+    ap (λ (b : Bool). cond (not b) Loading (cond (not (all_settled s Reading f)) Reading Starting)) (all_settled-agree s Loading f g same)
+    ∙ ap (λ (b : Bool). cond (not (all_settled s Loading g)) Loading (cond (not b) Reading Starting)) (all_settled-agree s Reading f g same)
 
-pub flight_of-agree : (s : Upload) (f g : Packets) (d : ℕ) → d < drone_count s → Agree s f g → flight_of s f d ≡ flight_of s g d
-unfolding flight_of open_writes
-flight_of-agree s f g d l same =
-    ap (flight_from s f d) (filter-range-agree (λ k. not (f d k)) (λ k. not (g d k)) 0 (write_count s d)
-    (λ k m c. ap not (same d k l (let n = packet_count-plain s d in omega arith))))
-    ∙ flight_from-agree s f g d (open_writes s g d) l same
+allowed-agree : (s : Upload) (p : Phase) (f g : Packets) (d : ℕ) → d < drone_count s → Agree s f g → allowed s p f d ≡ allowed s p g d
+allowed-agree s Loading f g d l same =
+    let n = count-loads s d in
+    ap (λ (b : Bool). cond b (load_count s d) (write_count s d))
+    (list_all-range-agree (f d) (g d) 0 (write_count s d) (λ k m c. same d k l (omega arith)))
+allowed-agree s Reading f g d l same = refl
+allowed-agree s Starting f g d l same = refl
+
+pub flight_in-agree : (s : Upload) (p : Phase) (f g : Packets) (d : ℕ) → d < drone_count s → Agree s f g → flight_in s p f d ≡ flight_in s p g d
+unfolding flight_in
+flight_in-agree s p f g d l same =
+    ap (λ (n : ℕ). take 4 (filter (λ k. not (f d k)) (range_with_len (first_of s p d) n))) (allowed-agree s p f g d l same)
+    ∙ ap (take 4) (filter-range-agree (λ k. not (f d k)) (λ k. not (g d k)) (first_of s p d) (allowed s p g d)
+    (λ k m c. let n = phase-inside s p d in let few = allowed-few s p g d in ap not (same d k l (omega arith))))
+
+pub flight_at-agree : (s : Upload) (p : Phase) (f g : Packets) → Agree s f g → flight_at s p f ≡ flight_at s p g
+unfolding flight_at
+flight_at-agree s p f g same =
+    flat_map-range-agree (λ d. sent_to d (flight_in s p f d)) (λ d. sent_to d (flight_in s p g d)) 0 (drone_count s)
+    (λ d l b. ap (sent_to d) (flight_in-agree s p f g d (omega arith) same))
 
 pub flight_after-agree : (s : Upload) (f g : Packets) → Agree s f g → flight_after s f ≡ flight_after s g
-unfolding flight_after
 flight_after-agree s f g same =
-    flat_map-range-agree (λ d. sent_to d (flight_of s f d)) (λ d. sent_to d (flight_of s g d)) 0 (drone_count s)
-    (λ d l b. ap (sent_to d) (flight_of-agree s f g d (omega arith) same))
+    ap (λ (p : Phase). flight_at s p f) (phase_of-agree s f g same) ∙ flight_at-agree s (phase_of s g) f g same
 
 -- ---- no event
 
@@ -248,5 +256,5 @@ progress-nil s some = by_all (list_all (λ x. acked s [] x.drone x.packet) (all_
   by_all : (b : Bool) → list_all (λ x. acked s [] x.drone x.packet) (all_packets s) ≡ b → cond b Done (ended_by s [] (slice_get [] (length {A = Event} [] - 1))) ≡ Going
   by_all false e = refl
   by_all true e =
-      let c = packet_count-plain s 0 in
+      let c = count-loads s 0 in
       absurd (false≢true (sym (acked-nil s 0 0) ∙ all_packets-each s (λ x. acked s [] x.drone x.packet) e 0 0 (omega arith) (omega arith)))

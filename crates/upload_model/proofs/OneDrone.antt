@@ -1,4 +1,4 @@
--- One drone that takes a packet of the session.
+-- One drone that takes a packet of the session which is no read.
 use Rattle.std.proofs.Common.{◌≡◌, ◌≢◌, ℕ, zero, suc, ◌+◌, ◌-◌, ◌*◌, ◌/◌, ◌^◌, ◌<◌, ◌≤◌, min, Bool, true, false, not, cond, ◌&&◌, eqb, ltb, List, [], ◌∷◌, length, take, drop, get_or, set, refl, ap, sym, ◌∙◌, arith, Option, Some, None, ◌⊎◌, inl, inr, subst, IfSome}
 use Rattle.std.specs.Prelude.{slice_get, slice_set}
 use Rattle.std.specs.Str.{bytes_eq}
@@ -10,10 +10,11 @@ use Rattle.crtp_packets.specs.Reading.{up_of}
 use Rattle.crtp_packets.specs.Commands.{define_of, start_of, answer_of}
 use Rattle.upload_model.specs.declared.loads.Def.{Def}
 use Rattle.upload_model.specs.Drones.{DroneState, Handled, answers, stored, write_taken, command_taken, message_taken, has_entry, handled}
-use Rattle.upload_model.specs.Sessions.{Upload, IsLoad, IsSession, drone_count, load_of, write_count, packet_count, packet_at}
-use Rattle.upload_model.specs.Hosts.{status_in, is_good, is_bad}
+use Rattle.upload_model.specs.Sessions.{Upload, IsLoad, IsSession, drone_count, load_of, write_count, start_number, packet_count, packet_at, is_read}
+use Rattle.upload_model.specs.declared.limits.TheConstants.{ACCEPTED}
+use Rattle.upload_model.specs.Replies.{status_in}
 use Rattle.upload_model.specs.Theorem.{IsInside, OnlyLoads, HasPiece, HasEntry}
-use Rattle.upload_model.proofs.Readings.{Kind, a_write, a_define, a_start, packet_kind, packet_at-write, packet_at-define, packet_at-start, down_of-write, command_of-define, up_of-write_answer}
+use Rattle.upload_model.proofs.Readings.{Kind, a_write, a_define, a_read, a_start, packet_kind, is_read-at, packet_at-write, packet_at-define, packet_at-start, down_of-write, command_of-define, up_of-write_answer}
 
 -- ---- a memory after a write
 
@@ -48,12 +49,24 @@ pub in_some_piece : (s : Upload) (d i : ℕ) → i < length (load_of s d).bytes 
 unfolding write_count
 in_some_piece s d i h = omega arith
 
+-- ---- statuses
+
+-- whether there is a status, and it is 0
+abbrev pub accepts : Option ℕ → Bool
+accepts None = false
+accepts (Some status) = eqb status ACCEPTED
+
+-- whether there is a status, and it isn't 0
+abbrev pub refuses : Option ℕ → Bool
+refuses None = false
+refuses (Some status) = not (eqb status ACCEPTED)
+
 -- ---- what a packet is there for
 
 pub record Effect (s : Upload) (d k : ℕ) (x : DroneState) : Type 0 where
   pub piece : k < write_count s d → HasPiece s (load_of s d) k x
   pub entry : k ≡ write_count s d → HasEntry s (load_of s d) x
-  pub starts : k ≡ write_count s d + 1 → x.started ≡ Some s.trajectory_id
+  pub starts : k ≡ start_number s d → x.started ≡ Some s.trajectory_id
 
 pub record OnCourse (s : Upload) (d : ℕ) (start x : DroneState) : Type 0 where
   pub only : OnlyLoads s (load_of s d) start x
@@ -64,18 +77,18 @@ pub record OnCourse (s : Upload) (d : ℕ) (start x : DroneState) : Type 0 where
 pub record Follows (s : Upload) (d k : ℕ) (start x : DroneState) (y : Handled) : Type 0 where
   pub course : OnCourse s d start y.drone
   pub kept : (j : ℕ) → Effect s d j x → Effect s d j y.drone
-  pub good : IfSome y.answer (λ a. (j : ℕ) → j < packet_count s d → is_good (status_in s d j (up_of a)) ≡ true → Effect s d j y.drone)
-  pub not_bad : x.memory_id ≡ s.memory_id → (k ≡ write_count s d + 1 → HasEntry s (load_of s d) x) →
-      IfSome y.answer (λ a. (j : ℕ) → j < packet_count s d → is_bad (status_in s d j (up_of a)) ≡ false)
-  pub started : (k ≡ write_count s d + 1 → ⊥) → y.drone.started ≡ x.started
+  pub good : IfSome y.answer (λ a. (j : ℕ) → j < packet_count s d → is_read s d j ≡ false → accepts (status_in s d j (up_of a)) ≡ true → Effect s d j y.drone)
+  pub not_bad : x.memory_id ≡ s.memory_id → (k ≡ start_number s d → HasEntry s (load_of s d) x) →
+      IfSome y.answer (λ a. (j : ℕ) → j < packet_count s d → is_read s d j ≡ false → refuses (status_in s d j (up_of a)) ≡ false)
+  pub started : (k ≡ start_number s d → ⊥) → y.drone.started ≡ x.started
 
 -- ---- statuses
 
-good_parts : (b : Bool) (status : ℕ) → is_good (cond b (Some status) None) ≡ true → (b ≡ true) × (status ≡ 0)
+good_parts : (b : Bool) (status : ℕ) → accepts (cond b (Some status) None) ≡ true → (b ≡ true) × (status ≡ 0)
 good_parts true status h = (refl, eqb-true status 0 h)
 good_parts false status h = absurd (false≢true h)
 
-never_bad : (b : Bool) → is_bad (cond b (Some 0) None) ≡ false
+never_bad : (b : Bool) → refuses (cond b (Some 0) None) ≡ false
 never_bad true = refl
 never_bad false = refl
 
@@ -102,10 +115,10 @@ status-write_answer s d j id address status fits = ap (status_in s d j) (up_of-w
 
 -- a good answer to a write names its packet
 good_write_answer : (s : Upload) (d k j id status : ℕ) → s.offset + 24 * k < 2 ^ 32 →
-    is_good (status_in s d j (up_of (write_answer_of id (s.offset + 24 * k) status))) ≡ true → (j ≡ k) × (status ≡ 0)
+    accepts (status_in s d j (up_of (write_answer_of id (s.offset + 24 * k) status))) ≡ true → (j ≡ k) × (status ≡ 0)
 good_write_answer s d k j id status fits g =
     let parts = good_parts (ltb j (write_count s d) && eqb id s.memory_id && eqb (s.offset + 24 * k) (s.offset + 24 * j)) status
-    (sym (ap is_good (status-write_answer s d j id (s.offset + 24 * k) status fits)) ∙ g) in
+    (sym (ap accepts (status-write_answer s d j id (s.offset + 24 * k) status fits)) ∙ g) in
     let last = and_parts (ltb j (write_count s d) && eqb id s.memory_id) (eqb (s.offset + 24 * k) (s.offset + 24 * j)) parts.0 in
     let same : s.offset + 24 * k ≡ s.offset + 24 * j = eqb-true (s.offset + 24 * k) (s.offset + 24 * j) last.1 in
     (omega arith, parts.1)
@@ -196,13 +209,13 @@ module _ (s : Upload) (d k : ℕ) (start x : DroneState) (inside : k < write_cou
       record {
         course = stays_on_course;
         kept = λ j e. record { piece = λ h. piece_kept j (e.piece h); entry = e.entry; starts = e.starts };
-        good = λ j lj g.
+        good = λ j lj plain g.
             let named = good_write_answer s d k j s.memory_id 0 (omega arith) g in
             let same : j ≡ k = named.0 in
             subst (λ (n : ℕ). Effect s d n (record x { memory = memory' })) (sym same)
             (record { piece = λ h. piece_there; entry = λ h. absurd (omega arith); starts = λ h. absurd (omega arith) });
-        not_bad = λ same has j lj.
-            ap is_bad (status-write_answer s d j s.memory_id address 0 (omega arith))
+        not_bad = λ same has j lj plain.
+            ap refuses (status-write_answer s d j s.memory_id address 0 (omega arith))
             ∙ never_bad (ltb j (write_count s d) && eqb s.memory_id s.memory_id && eqb address (s.offset + 24 * j));
         started = λ h. refl;
       }
@@ -213,7 +226,7 @@ module _ (s : Upload) (d k : ℕ) (start x : DroneState) (inside : k < write_cou
       record {
         course = course;
         kept = λ j e. e;
-        good = λ j lj g.
+        good = λ j lj plain g.
             let named = good_write_answer s d k j s.memory_id 2 (omega arith) g in
             let never : 2 ≡ 0 = named.1 in
             absurd (omega arith);
@@ -260,9 +273,9 @@ unfolding handled
 handled-start x id small = rw (lt-leb 10 id small) refl
 
 -- a good answer to a define, or to a start, names its packet
-good_define_answer : (s : Upload) (d j offset pieces status : ℕ) → j < packet_count s d →
-    is_good (status_in s d j (up_of (answer_of (define_of s.trajectory_id offset pieces) status))) ≡ true → (j ≡ write_count s d) × (status ≡ 0)
-good_define_answer s d j offset pieces status l g =
+good_define_answer : (s : Upload) (d j offset pieces status : ℕ) → j < packet_count s d → is_read s d j ≡ false →
+    accepts (status_in s d j (up_of (answer_of (define_of s.trajectory_id offset pieces) status))) ≡ true → (j ≡ write_count s d) × (status ≡ 0)
+good_define_answer s d j offset pieces status l plain g =
     let parts = good_parts (not (ltb j (write_count s d)) && bytes_eq (6 ∷ s.trajectory_id ∷ 1 ∷ []) (take 3 (drop 1 (packet_at s d j)))) status g in
     let both = and_parts (not (ltb j (write_count s d))) (bytes_eq (6 ∷ s.trajectory_id ∷ 1 ∷ []) (take 3 (drop 1 (packet_at s d j)))) parts.0 in
     by_kind (packet_kind s d j l) both.0 both.1 parts.1 where
@@ -270,18 +283,20 @@ good_define_answer s d j offset pieces status l g =
           status ≡ 0 → (j ≡ write_count s d) × (status ≡ 0)
       by_kind (a_write w) not_write same z = absurd (false≢true (sym (not-true (ltb j (write_count s d)) not_write) ∙ lt-ltb j (write_count s d) w))
       by_kind (a_define e) not_write same z = (e, z)
+      by_kind (a_read i m e) not_write same z = absurd (false≢true (sym plain ∙ is_read-at s d j i m e))
       by_kind (a_start e b) not_write same z =
           absurd (false≢true (sym (ap (λ (p : List ℕ). bytes_eq (6 ∷ s.trajectory_id ∷ 1 ∷ []) (take 3 (drop 1 p))) (packet_at-start s d j e)) ∙ same))
 
-good_start_answer : (s : Upload) (d j status : ℕ) → j < packet_count s d →
-    is_good (status_in s d j (up_of (answer_of (start_of s.trajectory_id) status))) ≡ true → (j ≡ write_count s d + 1) × (status ≡ 0)
-good_start_answer s d j status l g =
+good_start_answer : (s : Upload) (d j status : ℕ) → j < packet_count s d → is_read s d j ≡ false →
+    accepts (status_in s d j (up_of (answer_of (start_of s.trajectory_id) status))) ≡ true → (j ≡ start_number s d) × (status ≡ 0)
+good_start_answer s d j status l plain g =
     let parts = good_parts (not (ltb j (write_count s d)) && bytes_eq (5 ∷ 0 ∷ 0 ∷ []) (take 3 (drop 1 (packet_at s d j)))) status g in
     let both = and_parts (not (ltb j (write_count s d))) (bytes_eq (5 ∷ 0 ∷ 0 ∷ []) (take 3 (drop 1 (packet_at s d j)))) parts.0 in
     by_kind (packet_kind s d j l) both.0 both.1 parts.1 where
       by_kind : Kind s d j → not (ltb j (write_count s d)) ≡ true → bytes_eq (5 ∷ 0 ∷ 0 ∷ []) (take 3 (drop 1 (packet_at s d j))) ≡ true →
-          status ≡ 0 → (j ≡ write_count s d + 1) × (status ≡ 0)
+          status ≡ 0 → (j ≡ start_number s d) × (status ≡ 0)
       by_kind (a_write w) not_write same z = absurd (false≢true (sym (not-true (ltb j (write_count s d)) not_write) ∙ lt-ltb j (write_count s d) w))
+      by_kind (a_read i m e) not_write same z = absurd (false≢true (sym plain ∙ is_read-at s d j i m e))
       by_kind (a_define e) not_write same z =
           absurd (false≢true (sym (ap (λ (p : List ℕ). bytes_eq (5 ∷ 0 ∷ 0 ∷ []) (take 3 (drop 1 p))) (packet_at-define s d j e)) ∙ same))
       by_kind (a_start e b) not_write same z = (e, z)
@@ -317,11 +332,11 @@ module _ (s : Upload) (d k : ℕ) (start x : DroneState) (small : s.trajectory_i
       table = length-set x.table s.trajectory_id entry ∙ course.table;
     };
     kept = λ j e. record { piece = e.piece; entry = λ h. there; starts = e.starts };
-    good = λ j lj g.
-        let named = good_define_answer s d j s.offset (load_of s d).pieces 0 lj g in
+    good = λ j lj plain g.
+        let named = good_define_answer s d j s.offset (load_of s d).pieces 0 lj plain g in
         let same : j ≡ write_count s d = named.0 in
         record { piece = λ h. absurd (omega arith); entry = λ h. there; starts = λ h. absurd (omega arith) };
-    not_bad = λ same has j lj.
+    not_bad = λ same has j lj plain.
         never_bad (not (ltb j (write_count s d)) && bytes_eq (6 ∷ s.trajectory_id ∷ 1 ∷ []) (take 3 (drop 1 (packet_at s d j))));
     started = λ h. refl;
   }
@@ -335,7 +350,7 @@ module _ (s : Upload) (d k : ℕ) (start x : DroneState) (small : s.trajectory_i
   abbrev start_packet : List ℕ
   start_packet = start_of s.trajectory_id
 
-  follows-started : k ≡ write_count s d + 1 → Follows s d k start x (answers (record x { started = Some s.trajectory_id }) (answer_of start_packet 0))
+  follows-started : k ≡ start_number s d → Follows s d k start x (answers (record x { started = Some s.trajectory_id }) (answer_of start_packet 0))
   follows-started is = record {
     course = record {
       only = record {
@@ -349,28 +364,28 @@ module _ (s : Upload) (d k : ℕ) (start x : DroneState) (small : s.trajectory_i
       table = course.table;
     };
     kept = λ j e. record { piece = e.piece; entry = e.entry; starts = λ h. refl };
-    good = λ j lj g.
-        let named = good_start_answer s d j 0 lj g in
-        let same : j ≡ write_count s d + 1 = named.0 in
+    good = λ j lj plain g.
+        let named = good_start_answer s d j 0 lj plain g in
+        let same : j ≡ start_number s d = named.0 in
         record { piece = λ h. absurd (omega arith); entry = λ h. absurd (omega arith); starts = λ h. refl };
-    not_bad = λ same has j lj.
+    not_bad = λ same has j lj plain.
         never_bad (not (ltb j (write_count s d)) && bytes_eq (5 ∷ 0 ∷ 0 ∷ []) (take 3 (drop 1 (packet_at s d j))));
     started = λ h. absurd (h is);
   }
 
-  follows-start_refused : k ≡ write_count s d + 1 → has_entry x.table s.trajectory_id ≡ false → Follows s d k start x (answers x (answer_of start_packet 2))
+  follows-start_refused : k ≡ start_number s d → has_entry x.table s.trajectory_id ≡ false → Follows s d k start x (answers x (answer_of start_packet 2))
   follows-start_refused is none = record {
     course = course;
     kept = λ j e. e;
-    good = λ j lj g.
-        let named = good_start_answer s d j 2 lj g in
+    good = λ j lj plain g.
+        let named = good_start_answer s d j 2 lj plain g in
         let never : 2 ≡ 0 = named.1 in
         absurd (omega arith);
     not_bad = λ same has. absurd (false≢true (sym none ∙ has_entry_from x.table s.trajectory_id (record { offset = s.offset; pieces = (load_of s d).pieces }) (has is)));
     started = λ h. refl;
   }
 
-  pub follows-start : k ≡ write_count s d + 1 → Follows s d k start x (handled x (packet_at s d k))
+  pub follows-start : k ≡ start_number s d → Follows s d k start x (handled x (packet_at s d k))
   follows-start is =
       let step : handled x (packet_at s d k) ≡ cond (not (has_entry x.table s.trajectory_id)) (answers x (answer_of start_packet 2)) (answers (record x { started = Some s.trajectory_id }) (answer_of start_packet 0))
       = ap (handled x) (packet_at-start s d k is) ∙ handled-start x s.trajectory_id small in
@@ -383,11 +398,12 @@ module _ (s : Upload) (d k : ℕ) (start x : DroneState) (small : s.trajectory_i
             (follows-start_refused is lacks)
       ]
 
--- each packet of the session
-pub follows : (s : Upload) (d k : ℕ) (start x : DroneState) → IsSession s → d < drone_count s → k < packet_count s d →
+-- each packet of the session which is no read
+pub follows : (s : Upload) (d k : ℕ) (start x : DroneState) → IsSession s → d < drone_count s → k < packet_count s d → is_read s d k ≡ false →
     OnCourse s d start x → Follows s d k start x (handled x (packet_at s d k))
-follows s d k start x session inside below course = by_kind (packet_kind s d k below) where
+follows s d k start x session inside below plain course = by_kind (packet_kind s d k below) where
   by_kind : Kind s d k → Follows s d k start x (handled x (packet_at s d k))
   by_kind (a_write w) = follows-write s d k start x w (session.loads d inside) course
   by_kind (a_define e) = follows-define s d k start x session.id_fits session.offset_fits course e
+  by_kind (a_read i m e) = absurd (false≢true (sym plain ∙ is_read-at s d k i m e))
   by_kind (a_start e b) = follows-start s d k start x session.id_fits session.offset_fits course e

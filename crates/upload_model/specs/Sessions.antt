@@ -1,20 +1,25 @@
--- A session: what is to be uploaded to which place, and the packets that do it
+-- A session: what is to be uploaded to which place, and the packets that do it, phase by phase
 -- (docs/RADIO.md, "The packets of a session").
-use Rattle.std.specs.Prelude.{ℕ, ◌+◌, ◌<◌, ◌≤◌, Bool, nat_lt, ◌==◌, if◌then◌else◌, List, [], length, map, slice_index_or}
+use Rattle.std.specs.Prelude.{ℕ, ◌+◌, ◌-◌, ◌*◌, ◌/◌, ◌<◌, ◌≤◌, Bool, ◌&&◌, nat_lt, nat_le, ◌==◌, if◌then◌else◌, List, [], ◌∷◌, length, map, take, drop, slice_index_or}
 use Rattle.std.specs.List.{range_with_len}
 use Rattle.crtp_packets.specs.Chunks.{chunk_count_of, chunk_start, chunk_of}
-use Rattle.crtp_packets.specs.Packets.{write_request_of}
+use Rattle.crtp_packets.specs.Packets.{write_request_of, read_request_of}
+use Rattle.crtp_packets.specs.declared.packet.TheConstants.{READ_BYTES}
 use Rattle.crtp_packets.specs.Commands.{define_of, start_of}
 use Rattle.upload_model.specs.declared.limits.TheConstants.{MEMORY_BYTES, TABLE_ENTRIES, MOST_DRONES, MOST_SEGMENTS}
+use Rattle.upload_model.specs.declared.events.Phase.{Phase}
+use Rattle.upload_model.specs.declared.events.Phase.TheVariants.{Loading, Reading, Starting}
 use Rattle.upload_model.specs.declared.loads.Load.{Load}
 
 -- What is uploaded: to the memory of this id, from this offset on, under this trajectory id, one
--- load for each drone; and whether the drones are started when all is there.
+-- load for each drone; whether the memories are read back when all is written; and whether the drones
+-- are started when all is there.
 pub record Upload : Type 0 where
   pub memory_id : ℕ
   pub offset : ℕ
   pub trajectory_id : ℕ
   pub loads : List Load
+  pub readback : Bool
   pub start : Bool
 
 -- What a load has to be: some bytes that fit into the memory after the offset, and 1 to 255
@@ -42,22 +47,82 @@ pub record IsSession (s : Upload) : Type 0 where
   pub id_fits : s.trajectory_id < TABLE_ENTRIES
   pub loads : (d : ℕ) → d < drone_count s → IsLoad s.offset (load_of s d)
 
+-- ---- reads
+
+-- How many parts of 20 bytes a load has, the last of which may be shorter: its length divided by 20,
+-- rounded up.
+unfoldable pub part_count : Upload → ℕ → ℕ
+part_count s d = (length (load_of s d).bytes + (READ_BYTES - 1)) / READ_BYTES
+
+-- The place in a load of the first byte of part k.
+abbrev pub read_start : ℕ → ℕ
+read_start k = READ_BYTES * k
+
+-- The address at which read k begins.
+abbrev pub read_address : Upload → ℕ → ℕ
+read_address s k = s.offset + read_start k
+
+-- The bytes that read k of drone d has to find: the load's from there on, 20 or as many as are left.
+abbrev pub wanted : Upload → ℕ → ℕ → List ℕ
+wanted s d k = take READ_BYTES (drop (read_start k) (load_of s d).bytes)
+
+-- Read k of drone d, as a packet.
+abbrev pub read_at : Upload → ℕ → ℕ → List ℕ
+read_at s d k = read_request_of s.memory_id (read_address s k) (length (wanted s d k))
+
+-- ---- the packets of a drone, and their numbers
+
 -- How many of the packets of a drone are writes: one for each piece of its load.
 unfoldable pub write_count : Upload → ℕ → ℕ
 write_count s d = chunk_count_of (length (load_of s d).bytes)
 
--- How many packets a drone has: its writes, its define, and its start if the session starts.
-unfoldable pub packet_count : Upload → ℕ → ℕ
-packet_count s d = write_count s d + (if s.start then 2 else 1)
+-- How many are writes and define.
+abbrev pub load_count : Upload → ℕ → ℕ
+load_count s d = write_count s d + 1
 
--- Packet k of a drone: a write for each piece, then the define, then the start. Only numbers below
--- the count name a packet.
+-- How many are reads: one for each part of the load, where the memories are read back.
+unfoldable pub read_count : Upload → ℕ → ℕ
+read_count s d = if s.readback then part_count s d else 0
+
+-- The number of the start: it comes after all else.
+abbrev pub start_number : Upload → ℕ → ℕ
+start_number s d = load_count s d + read_count s d
+
+-- How many are starts: one, where the drones are started.
+abbrev pub start_count : Upload → ℕ
+start_count s = if s.start then 1 else 0
+
+-- How many packets a drone has.
+unfoldable pub packet_count : Upload → ℕ → ℕ
+packet_count s d = start_number s d + start_count s
+
+-- Packet k of a drone: a write for each piece, then the define, then a read for each part, then the
+-- start. Only numbers below the count name a packet.
 unfoldable pub packet_at : Upload → ℕ → ℕ → List ℕ
 packet_at s d k =
     if nat_lt k (write_count s d) then write_request_of s.memory_id (s.offset + chunk_start k) (chunk_of (load_of s d).bytes k)
     else (if k == write_count s d then define_of s.trajectory_id s.offset (load_of s d).pieces
-    else start_of s.trajectory_id)
+    else (if nat_lt k (start_number s d) then read_at s d (k - load_count s d)
+    else start_of s.trajectory_id))
+
+-- Whether packet k of drone d is a read.
+abbrev pub is_read : Upload → ℕ → ℕ → Bool
+is_read s d k = nat_le (load_count s d) k && nat_lt k (start_number s d)
 
 -- The packets of a drone, in order.
 abbrev pub packets_of : Upload → ℕ → List (List ℕ)
 packets_of s d = map (packet_at s d) (range_with_len 0 (packet_count s d))
+
+-- ---- phases
+
+-- The number of the first packet of a drone in a phase.
+abbrev pub first_of : Upload → Phase → ℕ → ℕ
+first_of s Loading d = 0
+first_of s Reading d = load_count s d
+first_of s Starting d = start_number s d
+
+-- How many packets a drone has in a phase. One that isn't wanted has none.
+abbrev pub count_of : Upload → Phase → ℕ → ℕ
+count_of s Loading d = load_count s d
+count_of s Reading d = read_count s d
+count_of s Starting d = start_count s

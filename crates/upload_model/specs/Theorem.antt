@@ -1,13 +1,13 @@
--- The upload theorem: what holds of every session, of every drone at the start and of every list of
--- events, whatever the link loses, repeats, delays or reorders.
+-- The upload theorem: what holds of every session, with read-back or without, of every drone at the
+-- start and of every list of events, whatever the link loses, repeats, delays or reorders.
 use Rattle.std.specs.Prelude.{◌≡◌, ◌≢◌, ℕ, ◌+◌, ◌<◌, ◌≤◌, ◌⊎◌, ◌++◌, [], ◌∷◌, true, List, length, take, slice_get, slice_index, Some, Contains}
 use Rattle.crtp_packets.specs.Chunks.{chunk_start, chunk_of}
 use Rattle.crtp_packets.specs.Commands.{start_of}
 use Rattle.upload_model.specs.declared.limits.TheConstants.{MEMORY_BYTES, TABLE_ENTRIES}
 use Rattle.upload_model.specs.declared.loads.Load.{Load}
-use Rattle.upload_model.specs.declared.events.Progress.TheVariants.{Done, Refused}
+use Rattle.upload_model.specs.declared.events.Progress.TheVariants.{Done, Refused, Differs}
 use Rattle.upload_model.specs.declared.events.WorldEvent.{WorldEvent}
-use Rattle.upload_model.specs.declared.events.WorldEvent.TheVariants.{Take}
+use Rattle.upload_model.specs.declared.events.WorldEvent.TheVariants.{Take, Alter}
 use Rattle.upload_model.specs.Drones.{DroneState}
 use Rattle.upload_model.specs.Sessions.{Upload, IsSession, load_of, drone_count, write_count}
 use Rattle.upload_model.specs.Hosts.{acked, progress}
@@ -44,7 +44,7 @@ HasEntry s l d = slice_get d.table s.trajectory_id ≡ Some (Some (record { offs
 abbrev pub HasLoad : Upload → Load → DroneState → Type 0
 HasLoad s l d = (i : ℕ) → i < length l.bytes → slice_index d.memory (s.offset + i) ≡ slice_index l.bytes i
 
--- What holds at each moment of an upload.
+-- What holds at each moment of an upload where nobody else alters a byte.
 pub record IsSafe (s : Upload) (start : ℕ → DroneState) (w : World) : Type 0 where
   -- Only loads are written, each to its own drone.
   pub only : (d : ℕ) → d < drone_count s → OnlyLoads s (load_of s d) (start d) (w.drones d)
@@ -59,13 +59,25 @@ pub record IsSafe (s : Upload) (start : ℕ → DroneState) (w : World) : Type 0
   pub starts_last : (d i : ℕ) → d < drone_count s → i < drone_count s → Contains (w.sent d) (start_of s.trajectory_id) → HasLoad s (load_of s i) (w.drones i) × HasEntry s (load_of s i) (w.drones i)
   -- Where each drone has the session's memory id, no packet is refused.
   pub not_refused : ((d : ℕ) → d < drone_count s → (start d).memory_id ≡ s.memory_id) → (d k status : ℕ) → progress s w.heard ≢ Refused d k status
+  -- No read differs.
+  pub same : (d address byte got : ℕ) → progress s w.heard ≢ Differs d address byte got
 
--- For every session, all drones at the start and every list of events, each moment is safe. A moment
--- of a list is the end of one of its beginnings, so 'every list' says 'at every moment'.
+-- Nobody else alters a byte.
+abbrev pub IsUnaltered : List WorldEvent → Type 0
+IsUnaltered events = (i d address value : ℕ) → slice_get events i ≡ Some (Alter d address value) → ⊥
+
+-- A session, and drones for it.
+pub record IsCase (s : Upload) (drones : ℕ → DroneState) : Type 0 where
+  pub session : IsSession s
+  pub fit : (d : ℕ) → d < drone_count s → IsDrone (drones d)
+
+-- For every session, all drones at the start and every list of events without an alteration, each
+-- moment is safe. A moment of a list is the end of one of its beginnings, so 'every list' says 'at every
+-- moment'.
 abbrev pub UploadLaw : Type 0
 UploadLaw =
-    (s : Upload) (drones : ℕ → DroneState) → IsSession s → ((d : ℕ) → d < drone_count s → IsDrone (drones d)) →
-    (events : List WorldEvent) → IsSafe s drones (world s drones events)
+    (s : Upload) (drones : ℕ → DroneState) → IsCase s drones → (events : List WorldEvent) → IsUnaltered events →
+    IsSafe s drones (world s drones events)
 
 -- In this world the event is drone d taking a start.
 abbrev pub TakesStart : Upload → World → ℕ → WorldEvent → Type 0
@@ -74,16 +86,14 @@ TakesStart s w d e = (n : ℕ) × (e ≡ Take d n) × (slice_get (w.sent d) n �
 -- One event more: each drone's started id is as before, unless that drone takes a start.
 abbrev pub StartLaw : Type 0
 StartLaw =
-    (s : Upload) (drones : ℕ → DroneState) → IsSession s → ((d : ℕ) → d < drone_count s → IsDrone (drones d)) →
-    (events : List WorldEvent) (e : WorldEvent) (d : ℕ) → d < drone_count s →
+    (s : Upload) (drones : ℕ → DroneState) → IsCase s drones → (events : List WorldEvent) (e : WorldEvent) (d : ℕ) → d < drone_count s →
     (((world s drones (events ++ e ∷ [])).drones d).started ≡ ((world s drones events).drones d).started)
     ⊎ TakesStart s (world s drones events) d e
 
 -- Until drone d takes a start its started id is the one from the beginning.
 abbrev pub UnstartedLaw : Type 0
 UnstartedLaw =
-    (s : Upload) (drones : ℕ → DroneState) → IsSession s → ((d : ℕ) → d < drone_count s → IsDrone (drones d)) →
-    (events : List WorldEvent) (d : ℕ) → d < drone_count s →
+    (s : Upload) (drones : ℕ → DroneState) → IsCase s drones → (events : List WorldEvent) (d : ℕ) → d < drone_count s →
     ((i : ℕ) (e : WorldEvent) → slice_get events i ≡ Some e → TakesStart s (world s drones (take i events)) d e → ⊥) →
     ((world s drones events).drones d).started ≡ (drones d).started
 

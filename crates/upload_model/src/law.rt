@@ -1,17 +1,26 @@
-//! The law of an upload.
+//! The laws of an upload.
 
 ghost use Rattle.std.specs.Prelude.{◌≡◌};
 ghost use Rattle.upload_model.specs.Theorem.{UploadLaw, StartLaw, UnstartedLaw, LastingLaw};
+ghost use Rattle.upload_model.specs.Readback.{ReadsCover, VerifiedLaw, StartsLastLaw};
 
 use crate::limits::*;
 
-/// Whatever the link loses, repeats, delays or reorders: what holds at every moment of an upload,
-/// for every session, every drone at the start and every list of events.
+/// Whatever the link loses, repeats, delays or reorders: what holds at every moment of an upload, with
+/// read-back or without, for every session, every drone at the start and every list of events.
 pub fn upload_law()
     ensures safe { UploadLaw }
     ensures starts { StartLaw }
     ensures unstarted { UnstartedLaw }
     ensures lasts { LastingLaw }
+{}
+
+/// What read-back says, whoever else alters a byte of a memory: each byte of each load was right when it
+/// was read, and no start was sent before.
+pub fn readback_law()
+    ensures cover { ReadsCover }
+    ensures verified { VerifiedLaw }
+    ensures starts { StartsLastLaw }
 {}
 
 /// A law. The numbers of the drone's model and of the upload, which the definitions cite by their names

@@ -1,5 +1,6 @@
-//! An upload as mathematics: one drone, the packets of a session, the host as a function of all that
-//! happened to it, the world of host, link and drones, and the law that every list of events keeps.
+//! An upload as mathematics: one drone, the packets of a session in phases, the host as a function of
+//! all that happened to it, the world of host, link and drones, and the laws that every list of events
+//! keeps, with read-back or without.
 //!
 //! Code is in the crates above: `firmware_memory` is one drone, `upload_core` the host, `fleet_world`
 //! the world. They share the plain types of this crate, and their contracts cite its definitions.
@@ -11,8 +12,8 @@ mod law;
 mod limits;
 mod loads;
 
-pub use events::{Event, Progress, Sent, WorldEvent};
-pub use law::{limits_law, upload_law};
+pub use events::{Event, Phase, Progress, Reply, Sent, WorldEvent};
+pub use law::{limits_law, readback_law, upload_law};
 pub use limits::{
     ACCEPTED, MEMORY_BYTES, MOST_DRONES, MOST_SEGMENTS, NO_ROOM, PACKETS_IN_FLIGHT, TABLE_ENTRIES,
     TICKS_TO_GIVE_UP, UNFIT,

@@ -3,13 +3,16 @@ use Rattle.std.specs.Prelude.{IsTrue}
 use Rattle.std.specs.Io.KnownBytes.{IsAtEnd}
 use Rattle.fleet_io.specs.Held.{stream}
 use Rattle.fleet_io.specs.Taken.{TakesFront}
+use Rattle.link_upload.specs.Links.{link_of}
+use Rattle.upload_core.specs.HostStandsFor.{HostStandsFor}
+use Rattle.upload_core.specs.HostState.{view_of}
 use Rattle.link_upload.proofs.CarryLemmas.{Carries}
 use Rattle.link_upload.proofs.exchange.carry.Given as goal
 
 abbrev pub invariant-frames : goal.invariant-frames
 invariant-frames g l = record {
-  carries : Carries (g.H.LinkHost.link l.fn.host) (stream l.fn.parts (g.S.Source.left l.fn.source)) (stream l.parts (g.S.Source.left l.source)) (g.K.Sink.written l.fn.sink) (g.K.Sink.written l.sink) l.n (g.H.LinkHost.stands l.host);
-  link : g.H.LinkHost.link l.host ≡ g.H.LinkHost.link l.fn.host;
+  carries : Carries (link_of l.fn.host.session) (stream l.fn.parts (g.S.Source.left l.fn.source)) (stream l.parts (g.S.Source.left l.source)) (g.K.Sink.written l.fn.sink) (g.K.Sink.written l.sink) l.n (HostStandsFor (view_of l.host));
+  link : link_of l.host.session ≡ link_of l.fn.host.session;
   sound : IsTrue l.parts.sound;
   holds : length l.parts.waiting ≤ 4096;
   at_end : IsTrue l.parts.ended → IsAtEnd (g.S.Source.left l.source);

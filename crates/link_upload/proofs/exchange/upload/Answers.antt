@@ -1,5 +1,6 @@
 use Rattle.std.proofs.Common.{refl, sym, ◌∙◌, arith}
 use Rattle.link_frames.specs.Frames.{end_frame}
+use Rattle.link_upload.specs.Links.{link_of}
 use Rattle.link_upload.proofs.CarryLemmas.{Rose-later, grown_more}
 use Rattle.link_upload.proofs.FinishLemmas.{cut_broken, cut_ended, cut_failed, ended, failed, grew_ended, grew_failed, is_end, known_by, prompt_kept}
 use Rattle.link_upload.proofs.exchange.upload.Goals as goal
@@ -9,7 +10,7 @@ use Rattle.link_upload.proofs.exchange.upload.Goals as goal
 pub returns-in-Ok-clause-ends : goal.returns-in-Ok-clause-ends
 returns-in-Ok-clause-ends g c = λ not_six not_seven.
     let w = c.finish.ensures.ok not_seven in
-    ended (g.H.LinkHost.link c.args.host) c.in-Ok.status c.finish.result _ _ _ _ w.0 c.in-Ok.ensures.ends w.1
+    ended (link_of c.args.host.session) c.in-Ok.status c.finish.result _ _ _ _ w.0 c.in-Ok.ensures.ends w.1
 
 pub returns-in-Ok-clause-six : goal.returns-in-Ok-clause-six
 returns-in-Ok-clause-six g c = λ six.
@@ -18,11 +19,11 @@ returns-in-Ok-clause-six g c = λ six.
 pub returns-in-Ok-clause-seven : goal.returns-in-Ok-clause-seven
 returns-in-Ok-clause-seven g c = λ seven.
     let is = is_end c.in-Ok.status c.in-Ok.ensures.known in
-    (Rose-later _ _ _ c.carry.ensures.sink_later (c.finish.ensures.cause seven is.1), cut_ended (g.H.LinkHost.link c.args.host) c.in-Ok.status _ _ _ _ _ _ _ _ c.in-Ok.ensures.ends c.finish.ensures.front)
+    (Rose-later _ _ _ c.carry.ensures.sink_later (c.finish.ensures.cause seven is.1), cut_ended (link_of c.args.host.session) c.in-Ok.status _ _ _ _ _ _ _ _ c.in-Ok.ensures.ends c.finish.ensures.front)
 
 pub returns-in-Ok-clause-prompt : goal.returns-in-Ok-clause-prompt
 returns-in-Ok-clause-prompt g c =
-    prompt_kept (g.H.LinkHost.link c.args.host) _ _ _ _ _ (end_frame c.in-Ok.status) c.carry.ensures.prompt (grew_ended (g.H.LinkHost.link c.args.host) c.in-Ok.status _ _ _ c.in-Ok.ensures.ends) c.finish.ensures.front
+    prompt_kept (link_of c.args.host.session) _ _ _ _ _ (end_frame c.in-Ok.status) c.carry.ensures.prompt (grew_ended (link_of c.args.host.session) c.in-Ok.status _ _ _ c.in-Ok.ensures.ends) c.finish.ensures.front
 
 pub returns-in-Ok-clause-known : goal.returns-in-Ok-clause-known
 returns-in-Ok-clause-known g c = known_by c.in-Ok.status c.finish.result (is_end c.in-Ok.status c.in-Ok.ensures.known).2 c.finish.ensures.known
@@ -33,19 +34,19 @@ pub returns-in-Err-Read-clause-six : goal.returns-in-Err-Read-clause-six
 returns-in-Err-Read-clause-six g c = λ six.
     let r = (rw c.in-Err-Read.field-0-is at c.in-Err-Read.ensures.read) refl in
     let w = c.finish-in-Err-Read.ensures.ok (λ seven. omega (arith, six, seven)) in
-    (r.0, r.1, failed (g.H.LinkHost.link c.args.host) _ _ _ _ _ r.2 w.1)
+    (r.0, r.1, failed (link_of c.args.host.session) _ _ _ _ _ r.2 w.1)
 
 pub returns-in-Err-Read-clause-seven : goal.returns-in-Err-Read-clause-seven
 returns-in-Err-Read-clause-seven g c = λ seven.
     let r = (rw c.in-Err-Read.field-0-is at c.in-Err-Read.ensures.read) refl in (
       Rose-later _ _ _ c.carry.ensures.sink_later (c.finish-in-Err-Read.ensures.cause seven (λ e. omega (arith, e))),
-      cut_failed (g.H.LinkHost.link c.args.host) _ _ _ _ _ _ _ _ r.0 r.1 r.2 c.finish-in-Err-Read.ensures.front,
+      cut_failed (link_of c.args.host.session) _ _ _ _ _ _ _ _ r.0 r.1 r.2 c.finish-in-Err-Read.ensures.front,
     )
 
 pub returns-in-Err-Read-clause-prompt : goal.returns-in-Err-Read-clause-prompt
 returns-in-Err-Read-clause-prompt g c =
     let r = (rw c.in-Err-Read.field-0-is at c.in-Err-Read.ensures.read) refl in
-    prompt_kept (g.H.LinkHost.link c.args.host) _ _ _ _ _ (end_frame 6) c.carry.ensures.prompt (grew_failed (g.H.LinkHost.link c.args.host) _ _ _ _ r.2) c.finish-in-Err-Read.ensures.front
+    prompt_kept (link_of c.args.host.session) _ _ _ _ _ (end_frame 6) c.carry.ensures.prompt (grew_failed (link_of c.args.host.session) _ _ _ _ r.2) c.finish-in-Err-Read.ensures.front
 
 pub returns-in-Err-Read-clause-known : goal.returns-in-Err-Read-clause-known
 returns-in-Err-Read-clause-known g c = known_by 6 c.finish-in-Err-Read.result (1, omega arith, refl) c.finish-in-Err-Read.ensures.known
@@ -55,7 +56,7 @@ returns-in-Err-Read-clause-known g c = known_by 6 c.finish-in-Err-Read.result (1
 pub returns-in-Err-Write-clause-seven : goal.returns-in-Err-Write-clause-seven
 returns-in-Err-Write-clause-seven g c = λ _.
     let w = (rw c.in-Err-Write.field-0-is at c.in-Err-Write.ensures.write) refl in
-    (w.0, cut_broken (g.H.LinkHost.link c.args.host) _ _ _ _ _ _ _ w.1)
+    (w.0, cut_broken (link_of c.args.host.session) _ _ _ _ _ _ _ w.1)
 
 pub returns-in-Err-Write-clause-known : goal.returns-in-Err-Write-clause-known
 returns-in-Err-Write-clause-known g c = (2, omega arith, refl)

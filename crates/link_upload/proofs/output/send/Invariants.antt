@@ -1,10 +1,11 @@
 use Rattle.std.proofs.Common.{◌≡◌, ◌*◌, ◌≤◌, length, take}
 use Rattle.link_upload.specs.Sends.{packet_frames}
+use Rattle.link_upload.specs.Links.{link_of}
 use Rattle.link_upload.proofs.output.send.Given as goal
 
 -- the frames of the packets so far
 abbrev pub invariant-loop-x : goal.invariant-loop-x
 invariant-loop-x g l = record {
-  put : l.bytes.items ≡ packet_frames (g.H.LinkHost.link l.host) (take l.x-index l.sent);
+  put : l.bytes.items ≡ packet_frames (link_of l.host.session) (take l.x-index l.sent);
   most : length l.bytes.items ≤ 34 * l.x-index;
 }

@@ -1,6 +1,0 @@
--- Why `careful_status` keeps its contract: a refusal is one of the ends.
-use Rattle.std.proofs.Common.{refl, arith}
-use Rattle.link_upload.proofs.host.careful_status.Goals as goal
-
-pub returns-in-Refused-clause-statuses : goal.returns-in-Refused-clause-statuses
-returns-in-Refused-clause-statuses c = (2, omega arith, refl)

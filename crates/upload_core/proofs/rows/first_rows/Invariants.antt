@@ -1,0 +1,11 @@
+-- What holds whenever the loop of `first_rows` begins a turn.
+use Rattle.std.proofs.Common.{◌≡◌, ◌<◌, ℕ, length}
+use Rattle.upload_core.specs.Rows.{row_at}
+use Rattle.upload_core.specs.Steps.{IsStarting}
+use Rattle.upload_core.proofs.rows.first_rows.Given as goal
+
+abbrev pub invariant-loop-drone : goal.invariant-loop-drone
+invariant-loop-drone l = record {
+  len : length l.rows.items ≡ l.drone;
+  each : (d : ℕ) → d < l.drone → IsStarting l.session d (row_at l.rows.items d);
+}

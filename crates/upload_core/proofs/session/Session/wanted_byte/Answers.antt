@@ -1,0 +1,7 @@
+-- Why `wanted_byte` keeps its contract, at the places where the check needs to be told.
+use Rattle.std.proofs.Common.{◌∙◌, sym}
+use Rattle.upload_model.proofs.OneRead.{wanted-at}
+use Rattle.upload_core.proofs.session.Session.wanted_byte.Goals as goal
+
+pub returns : goal.returns
+returns c = c.load_byte.ensures ∙ sym (wanted-at c.args.self.now c.args.drone c.args.k c.args.i c.requires.inside)
