@@ -1,5 +1,6 @@
 //! A plain program that does what `upload` does, from a plan: for bench/upload, which compares the two. The host is
-//! that of docs/RADIO.md.
+//! that of docs/RADIO.md, but without read-back and starts, and with good answers that count for any packet: those of
+//! bench/upload are all to packets in flight, or to packets that are acknowledged.
 //!
 //!     upload PLAN < FRAMES
 use std::io::{self, Read, Write};
