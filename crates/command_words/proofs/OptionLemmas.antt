@@ -1,44 +1,65 @@
--- Words are read as options exactly where they are these options.
+-- Words are read as options exactly where they are these options, and the walk over them finds what the definition finds.
 use Rattle.std.proofs.Common.{◌≡◌, ℕ, Bool, true, false, cond, List, [], ◌∷◌, ◌++◌, Option, Some, None, codes, refl, sym, ap, subst, ◌∙◌}
-use Rattle.std.specs.Prelude.{bytes_eq, is_some, option_map}
+use Rattle.std.specs.Prelude.{bytes_eq, find, is_some}
+use Rattle.std.specs.Option.{option_map, option_and_then}
 use Rattle.std.proofs.lemmas.Slice.Eq.{bytes_eq-Decides}
-use Rattle.command_words.specs.Commands.{Given, given_depth, given_step, given_start, given_limit, given_fine, given_readback, given_accel, given_jump, options_of, alone, before, valued, depth_of, step_of, limit_of, fine_of, bound_of, SpellsOption, SpellsOptions, WordsLaw}
+use Rattle.command_words.specs.declared.options.OptionName.{OptionName}
+use Rattle.command_words.specs.declared.options.OptionName.TheVariants.{Depth, Step, Start, Readback, Limit, Fine, Accel, Jump}
+use Rattle.command_words.specs.declared.options.Range.{Range}
+use Rattle.command_words.specs.declared.options.Options.{Options}
+use Rattle.command_words.specs.Commands.{Given, word_of, range_of, named_by, flag_with, flag, valued_with, valued, number_from, before, options_of, noted, collected, SpellsWith, SpellsOption, SpellsOptions, WordsLaw}
+use Rattle.command_words.specs.Steps.{continued}
 
--- an option of one word before other words is an option before theirs
-start_then : (rest : List (List ℕ)) → options_of (codes "--start" ∷ rest) ≡ before (Some given_start) (options_of rest)
-start_then [] = refl
-start_then (value ∷ words) = refl
+-- ---- one option before others
 
-readback_then : (rest : List (List ℕ)) → options_of (codes "--readback" ∷ rest) ≡ before (Some given_readback) (options_of rest)
-readback_then [] = refl
-readback_then (value ∷ words) = refl
+-- a flag before other words is an option before theirs
+pub flag_then : (word : List ℕ) (g : Given) (rest : List (List ℕ)) → flag word ≡ Some g → options_of (word ∷ rest) ≡ before (Some g) (options_of rest)
+flag_then word g [] is = ap (λ (f : Option Given). before f (Some [])) is
+flag_then word g (value ∷ words) is =
+    ap (λ (f : Option Given). cond (is_some f) (before f (options_of (value ∷ words))) (before (valued word value) (options_of words))) is
+
+-- an option with its number before other words is an option before theirs
+pub valued_then : (word value : List ℕ) (g : Given) (rest : List (List ℕ)) → flag word ≡ None → valued word value ≡ Some g → options_of (word ∷ value ∷ rest) ≡ before (Some g) (options_of rest)
+valued_then word value g rest none is =
+    ap (λ (f : Option Given). cond (is_some f) (before f (options_of (value ∷ rest))) (before (valued word value) (options_of rest))) none
+    ∙ ap (λ (f : Option Given). before f (options_of rest)) is
 
 -- ---- words that are options are read
 
+flag_word : (n : OptionName) → flag (word_of n) ≡ flag_with n (range_of n)
+flag_word Depth = refl
+flag_word Step = refl
+flag_word Start = refl
+flag_word Readback = refl
+flag_word Limit = refl
+flag_word Fine = refl
+flag_word Accel = refl
+flag_word Jump = refl
+
+valued_word : (n : OptionName) (value : List ℕ) → valued (word_of n) value ≡ valued_with n value (range_of n)
+valued_word Depth value = refl
+valued_word Step value = refl
+valued_word Start value = refl
+valued_word Readback value = refl
+valued_word Limit value = refl
+valued_word Fine value = refl
+valued_word Accel value = refl
+valued_word Jump value = refl
+
+-- one option, spelled by its words, before others
+head : (g : Given) (front rest : List (List ℕ)) (r : Option Range) → range_of g.name ≡ r → SpellsWith g front r → options_of (front ++ rest) ≡ before (Some g) (options_of rest)
+head g front rest None is (front_is, one) =
+    ap (λ (f : List (List ℕ)). options_of (f ++ rest)) front_is
+    ∙ flag_then (word_of g.name) g rest (flag_word g.name ∙ ap (flag_with g.name) is ∙ ap (λ (n : ℕ). Some (record { name = g.name; value = n })) (sym one))
+head g front rest (Some r) is (value, front_is, n_is) =
+    ap (λ (f : List (List ℕ)). options_of (f ++ rest)) front_is
+    ∙ valued_then (word_of g.name) value g rest (flag_word g.name ∙ ap (flag_with g.name) is)
+    (valued_word g.name value ∙ ap (valued_with g.name value) is ∙ ap (option_map (λ (n : ℕ). record { name = g.name; value = n })) n_is)
+
 reads : (gs : List Given) (words : List (List ℕ)) → SpellsOptions gs words → options_of words ≡ Some gs
 reads [] words is = ap options_of is
-reads (given_depth n ∷ gs) words (front, rest, (value, front_is, n_is), spells, is) =
-    ap options_of is ∙ ap (λ (f : List (List ℕ)). options_of (f ++ rest)) front_is
-    ∙ ap (λ (o : Option ℕ). before (option_map given_depth o) (options_of rest)) n_is ∙ ap (before (Some (given_depth n))) (reads gs rest spells)
-reads (given_step n ∷ gs) words (front, rest, (value, front_is, n_is), spells, is) =
-    ap options_of is ∙ ap (λ (f : List (List ℕ)). options_of (f ++ rest)) front_is
-    ∙ ap (λ (o : Option ℕ). before (option_map given_step o) (options_of rest)) n_is ∙ ap (before (Some (given_step n))) (reads gs rest spells)
-reads (given_limit n ∷ gs) words (front, rest, (value, front_is, n_is), spells, is) =
-    ap options_of is ∙ ap (λ (f : List (List ℕ)). options_of (f ++ rest)) front_is
-    ∙ ap (λ (o : Option ℕ). before (option_map given_limit o) (options_of rest)) n_is ∙ ap (before (Some (given_limit n))) (reads gs rest spells)
-reads (given_fine n ∷ gs) words (front, rest, (value, front_is, n_is), spells, is) =
-    ap options_of is ∙ ap (λ (f : List (List ℕ)). options_of (f ++ rest)) front_is
-    ∙ ap (λ (o : Option ℕ). before (option_map given_fine o) (options_of rest)) n_is ∙ ap (before (Some (given_fine n))) (reads gs rest spells)
-reads (given_accel n ∷ gs) words (front, rest, (value, front_is, n_is), spells, is) =
-    ap options_of is ∙ ap (λ (f : List (List ℕ)). options_of (f ++ rest)) front_is
-    ∙ ap (λ (o : Option ℕ). before (option_map given_accel o) (options_of rest)) n_is ∙ ap (before (Some (given_accel n))) (reads gs rest spells)
-reads (given_jump n ∷ gs) words (front, rest, (value, front_is, n_is), spells, is) =
-    ap options_of is ∙ ap (λ (f : List (List ℕ)). options_of (f ++ rest)) front_is
-    ∙ ap (λ (o : Option ℕ). before (option_map given_jump o) (options_of rest)) n_is ∙ ap (before (Some (given_jump n))) (reads gs rest spells)
-reads (given_start ∷ gs) words (front, rest, front_is, spells, is) =
-    ap options_of is ∙ ap (λ (f : List (List ℕ)). options_of (f ++ rest)) front_is ∙ start_then rest ∙ ap (before (Some given_start)) (reads gs rest spells)
-reads (given_readback ∷ gs) words (front, rest, front_is, spells, is) =
-    ap options_of is ∙ ap (λ (f : List (List ℕ)). options_of (f ++ rest)) front_is ∙ readback_then rest ∙ ap (before (Some given_readback)) (reads gs rest spells)
+reads (g ∷ gs) words (front, rest, spells, more, is) =
+    ap options_of is ∙ head g front rest (range_of g.name) refl spells ∙ ap (before (Some g)) (reads gs rest more)
 
 -- ---- words that are read are options
 
@@ -55,110 +76,121 @@ splits None rest gs are = absurd (cc)
 splits (Some given) None gs are = absurd (cc)
 splits (Some given) (Some more) gs are = record { given = given; more = more; first_is = refl; rest_is = refl; is = cc }
 
--- a depth that is read is spelled
-depth_found : (word value : List ℕ) (found : Option ℕ) (given : Given) → word ≡ codes "--depth" → depth_of value ≡ found → option_map given_depth found ≡ Some given → SpellsOption given (word ∷ value ∷ [])
-depth_found word value None given is from are = absurd (cc)
-depth_found word value (Some n) given is from are =
-    let e : given_depth n ≡ given = cc in
-    subst (λ (g : Given). SpellsOption g (word ∷ value ∷ [])) e (value, ap (λ (w : List ℕ). w ∷ value ∷ []) is, from)
+-- the option that a word names has that word
+named_is : (word : List ℕ) (ns : List OptionName) (n : OptionName) → find (λ m. bytes_eq word (word_of m)) ns ≡ Some n → word ≡ word_of n
+named_is word [] n is = absurd (cc)
+named_is word (m ∷ ns) n is = by (bytes_eq word (word_of m)) refl (λ more. named_is word ns n more)
+  where
+    by : (same : Bool) → bytes_eq word (word_of m) ≡ same → (find (λ k. bytes_eq word (word_of k)) ns ≡ Some n → word ≡ word_of n) → word ≡ word_of n
+    by true e later =
+        let found : Some m ≡ Some n = ap (λ (b : Bool). cond b (Some m) (find (λ k. bytes_eq word (word_of k)) ns)) (sym e) ∙ is in
+        let same : m ≡ n = cc found in
+        (bytes_eq-Decides word (word_of m)).0 e ∙ ap word_of same
+    by false e later = later (ap (λ (b : Bool). cond b (Some m) (find (λ k. bytes_eq word (word_of k)) ns)) (sym e) ∙ is)
 
--- a step that is read is spelled
-step_found : (word value : List ℕ) (found : Option ℕ) (given : Given) → word ≡ codes "--step" → step_of value ≡ found → option_map given_step found ≡ Some given → SpellsOption given (word ∷ value ∷ [])
-step_found word value None given is from are = absurd (cc)
-step_found word value (Some n) given is from are =
-    let e : given_step n ≡ given = cc in
-    subst (λ (g : Given). SpellsOption g (word ∷ value ∷ [])) e (value, ap (λ (w : List ℕ). w ∷ value ∷ []) is, from)
+-- a flag that is read is spelled by its word
+flag_found : (word : List ℕ) (found : Option OptionName) (g : Given) → named_by word ≡ found → flag word ≡ Some g → SpellsOption g (word ∷ [])
+flag_found word None g is are = absurd (cc)
+flag_found word (Some n) g is are = by (range_of n) refl
+  where
+    flag_is : flag_with n (range_of n) ≡ Some g
+    flag_is = ap (λ (m : Option OptionName). option_and_then (λ (k : OptionName). flag_with k (range_of k)) m) (sym is) ∙ are
 
--- a limit that is read is spelled
-limit_found : (word value : List ℕ) (found : Option ℕ) (given : Given) → word ≡ codes "--limit" → limit_of value ≡ found → option_map given_limit found ≡ Some given → SpellsOption given (word ∷ value ∷ [])
-limit_found word value None given is from are = absurd (cc)
-limit_found word value (Some n) given is from are =
-    let e : given_limit n ≡ given = cc in
-    subst (λ (g : Given). SpellsOption g (word ∷ value ∷ [])) e (value, ap (λ (w : List ℕ). w ∷ value ∷ []) is, from)
+    by : (r : Option Range) → range_of n ≡ r → SpellsOption g (word ∷ [])
+    by None e =
+        let same : record { name = n; value = 1 } ≡ g = cc (ap (flag_with n) (sym e) ∙ flag_is) in
+        subst (λ (x : Given). SpellsOption x (word ∷ [])) same
+        (subst (λ (r : Option Range). SpellsWith (record { name = n; value = 1 }) (word ∷ []) r) (sym e)
+        (ap (λ (w : List ℕ). w ∷ []) (named_is word (Depth ∷ Step ∷ Start ∷ Readback ∷ Limit ∷ Fine ∷ Accel ∷ Jump ∷ []) n is), refl))
+    by (Some r) e = absurd (cc (ap (flag_with n) (sym e) ∙ flag_is))
 
--- a fineness that is read is spelled
-fine_found : (word value : List ℕ) (found : Option ℕ) (given : Given) → word ≡ codes "--fine" → fine_of value ≡ found → option_map given_fine found ≡ Some given → SpellsOption given (word ∷ value ∷ [])
-fine_found word value None given is from are = absurd (cc)
-fine_found word value (Some n) given is from are =
-    let e : given_fine n ≡ given = cc in
-    subst (λ (g : Given). SpellsOption g (word ∷ value ∷ [])) e (value, ap (λ (w : List ℕ). w ∷ value ∷ []) is, from)
+-- an option with its number that is read is spelled by the two words
+valued_found : (word value : List ℕ) (found : Option OptionName) (g : Given) → named_by word ≡ found → valued word value ≡ Some g → SpellsOption g (word ∷ value ∷ [])
+valued_found word value None g is are = absurd (cc)
+valued_found word value (Some n) g is are = by (range_of n) refl
+  where
+    valued_is : valued_with n value (range_of n) ≡ Some g
+    valued_is = ap (λ (m : Option OptionName). option_and_then (λ (k : OptionName). valued_with k value (range_of k)) m) (sym is) ∙ are
 
--- a limit on acceleration that is read is spelled
-accel_found : (word value : List ℕ) (found : Option ℕ) (given : Given) → word ≡ codes "--accel" → bound_of value ≡ found → option_map given_accel found ≡ Some given → SpellsOption given (word ∷ value ∷ [])
-accel_found word value None given is from are = absurd (cc)
-accel_found word value (Some n) given is from are =
-    let e : given_accel n ≡ given = cc in
-    subst (λ (g : Given). SpellsOption g (word ∷ value ∷ [])) e (value, ap (λ (w : List ℕ). w ∷ value ∷ []) is, from)
+    by : (r : Option Range) → range_of n ≡ r → SpellsOption g (word ∷ value ∷ [])
+    by None e = absurd (cc (ap (valued_with n value) (sym e) ∙ valued_is))
+    by (Some r) e = with_number (number_from r.least r.most value) refl
+      where
+        with_number : (v : Option ℕ) → number_from r.least r.most value ≡ v → SpellsOption g (word ∷ value ∷ [])
+        with_number None none =
+            absurd (cc (ap (option_map (λ (k : ℕ). record { name = n; value = k })) (sym none) ∙ ap (valued_with n value) (sym e) ∙ valued_is))
+        with_number (Some k) number_is =
+            let same : record { name = n; value = k } ≡ g =
+            cc (ap (option_map (λ (j : ℕ). record { name = n; value = j })) (sym number_is) ∙ ap (valued_with n value) (sym e) ∙ valued_is) in
+            subst (λ (x : Given). SpellsOption x (word ∷ value ∷ [])) same
+            (subst (λ (s : Option Range). SpellsWith (record { name = n; value = k }) (word ∷ value ∷ []) s) (sym e)
+            (value, ap (λ (w : List ℕ). w ∷ value ∷ []) (named_is word (Depth ∷ Step ∷ Start ∷ Readback ∷ Limit ∷ Fine ∷ Accel ∷ Jump ∷ []) n is), number_is))
 
--- a limit on jumps that is read is spelled
-jump_found : (word value : List ℕ) (found : Option ℕ) (given : Given) → word ≡ codes "--jump" → bound_of value ≡ found → option_map given_jump found ≡ Some given → SpellsOption given (word ∷ value ∷ [])
-jump_found word value None given is from are = absurd (cc)
-jump_found word value (Some n) given is from are =
-    let e : given_jump n ≡ given = cc in
-    subst (λ (g : Given). SpellsOption g (word ∷ value ∷ [])) e (value, ap (λ (w : List ℕ). w ∷ value ∷ []) is, from)
-
--- an option of two words is spelled by them
-valued_is : (word value : List ℕ) (depth step limit fine accel jump : Bool) (given : Given) → (depth ≡ true → word ≡ codes "--depth") → (step ≡ true → word ≡ codes "--step") →
-    (limit ≡ true → word ≡ codes "--limit") → (fine ≡ true → word ≡ codes "--fine") → (accel ≡ true → word ≡ codes "--accel") → (jump ≡ true → word ≡ codes "--jump") →
-    cond depth (option_map given_depth (depth_of value)) (cond step (option_map given_step (step_of value))
-    (cond limit (option_map given_limit (limit_of value)) (cond fine (option_map given_fine (fine_of value))
-    (cond accel (option_map given_accel (bound_of value)) (cond jump (option_map given_jump (bound_of value)) None))))) ≡ Some given → SpellsOption given (word ∷ value ∷ [])
-valued_is word value true step limit fine accel jump given is_depth is_step is_limit is_fine is_accel is_jump are = depth_found word value (depth_of value) given (is_depth refl) refl are
-valued_is word value false true limit fine accel jump given is_depth is_step is_limit is_fine is_accel is_jump are = step_found word value (step_of value) given (is_step refl) refl are
-valued_is word value false false true fine accel jump given is_depth is_step is_limit is_fine is_accel is_jump are = limit_found word value (limit_of value) given (is_limit refl) refl are
-valued_is word value false false false true accel jump given is_depth is_step is_limit is_fine is_accel is_jump are = fine_found word value (fine_of value) given (is_fine refl) refl are
-valued_is word value false false false false true jump given is_depth is_step is_limit is_fine is_accel is_jump are = accel_found word value (bound_of value) given (is_accel refl) refl are
-valued_is word value false false false false false true given is_depth is_step is_limit is_fine is_accel is_jump are = jump_found word value (bound_of value) given (is_jump refl) refl are
-valued_is word value false false false false false false given is_depth is_step is_limit is_fine is_accel is_jump are = absurd (cc)
-
--- an option of one word is spelled by it
-alone_is : (word : List ℕ) (start readback : Bool) (given : Given) → (start ≡ true → word ≡ codes "--start") → (readback ≡ true → word ≡ codes "--readback") →
-    cond start (Some given_start) (cond readback (Some given_readback) None) ≡ Some given → SpellsOption given (word ∷ [])
-alone_is word true readback given is_start is_readback are =
-    let e : given_start ≡ given = cc in
-    subst (λ (g : Given). SpellsOption g (word ∷ [])) e (ap (λ (w : List ℕ). w ∷ []) (is_start refl))
-alone_is word false true given is_start is_readback are =
-    let e : given_readback ≡ given = cc in
-    subst (λ (g : Given). SpellsOption g (word ∷ [])) e (ap (λ (w : List ℕ). w ∷ []) (is_readback refl))
-alone_is word false false given is_start is_readback are = absurd (cc)
-
-alone_spelled : (word : List ℕ) (given : Given) → alone word ≡ Some given → SpellsOption given (word ∷ [])
-alone_spelled word given are = alone_is word (bytes_eq word (codes "--start")) (bytes_eq word (codes "--readback")) given (bytes_eq-Decides word (codes "--start")).0 (bytes_eq-Decides word (codes "--readback")).0 are
-
--- one word that is read is an option of one word
-single_is : (word : List ℕ) (gs : List Given) → before (alone word) (Some []) ≡ Some gs → SpellsOptions gs (word ∷ [])
-single_is word gs are =
-    let s = splits (alone word) (Some []) gs are in
-    let none : [] ≡ s.more = cc (s.rest_is) in
-    subst (λ (g : List Given). SpellsOptions g (word ∷ [])) (sym s.is) (word ∷ [], [], alone_spelled word s.given s.first_is, subst (λ (more : List Given). SpellsOptions more []) none refl, refl)
-
--- words that are read begin with an option of one word or with one of two words
+-- words that are read begin with a flag or with an option and its number
 several_are : (word value : List ℕ) (words : List (List ℕ)) (one : Bool) (gs : List Given) →
     ((more : List Given) → options_of (value ∷ words) ≡ Some more → SpellsOptions more (value ∷ words)) → ((more : List Given) → options_of words ≡ Some more → SpellsOptions more words) →
-    cond one (before (alone word) (options_of (value ∷ words))) (before (valued word value) (options_of words)) ≡ Some gs → SpellsOptions gs (word ∷ value ∷ words)
+    cond one (before (flag word) (options_of (value ∷ words))) (before (valued word value) (options_of words)) ≡ Some gs → SpellsOptions gs (word ∷ value ∷ words)
 several_are word value words true gs after_one after_two are =
-    let s = splits (alone word) (options_of (value ∷ words)) gs are in
-    subst (λ (g : List Given). SpellsOptions g (word ∷ value ∷ words)) (sym s.is) (word ∷ [], value ∷ words, alone_spelled word s.given s.first_is, after_one s.more s.rest_is, refl)
+    let s = splits (flag word) (options_of (value ∷ words)) gs are in
+    subst (λ (g : List Given). SpellsOptions g (word ∷ value ∷ words)) (sym s.is) (word ∷ [], value ∷ words, flag_found word (named_by word) s.given refl s.first_is, after_one s.more s.rest_is, refl)
 several_are word value words false gs after_one after_two are =
     let s = splits (valued word value) (options_of words) gs are in
-    subst (λ (g : List Given). SpellsOptions g (word ∷ value ∷ words)) (sym s.is) (
-      word ∷ value ∷ [],
-      words,
-      valued_is word value (bytes_eq word (codes "--depth")) (bytes_eq word (codes "--step")) (bytes_eq word (codes "--limit")) (bytes_eq word (codes "--fine"))
-          (bytes_eq word (codes "--accel")) (bytes_eq word (codes "--jump")) s.given
-          (bytes_eq-Decides word (codes "--depth")).0 (bytes_eq-Decides word (codes "--step")).0 (bytes_eq-Decides word (codes "--limit")).0 (bytes_eq-Decides word (codes "--fine")).0
-          (bytes_eq-Decides word (codes "--accel")).0 (bytes_eq-Decides word (codes "--jump")).0 s.first_is,
-      after_two s.more s.rest_is,
-      refl,
-    )
+    subst (λ (g : List Given). SpellsOptions g (word ∷ value ∷ words)) (sym s.is) (word ∷ value ∷ [], words, valued_found word value (named_by word) s.given refl s.first_is, after_two s.more s.rest_is, refl)
 
 are_spelled : (words : List (List ℕ)) (gs : List Given) → options_of words ≡ Some gs → SpellsOptions gs words
 are_spelled [] [] are = refl
 are_spelled [] (given ∷ gs) are = absurd (cc)
-are_spelled (word ∷ []) gs are = single_is word gs are
+are_spelled (word ∷ []) gs are =
+    let s = splits (flag word) (Some []) gs are in
+    let none : [] ≡ s.more = cc (s.rest_is) in
+    subst (λ (g : List Given). SpellsOptions g (word ∷ [])) (sym s.is)
+    (word ∷ [], [], flag_found word (named_by word) s.given refl s.first_is, subst (λ (more : List Given). SpellsOptions more []) none refl, refl)
 are_spelled (word ∷ value ∷ words) gs are =
-    several_are word value words (is_some (alone word)) gs
+    several_are word value words (is_some (flag word)) gs
     (λ more is. are_spelled (value ∷ words) more is) (λ more is. are_spelled words more is) are
 
 pub words_law : WordsLaw
 words_law words gs = (are_spelled words gs, reads gs words)
+
+-- ---- the walk over the words
+
+-- one option is noted, and then the others
+next_given : (names : List OptionName) (o : Options) (g : Given) (rest : Option (List Given)) →
+    option_and_then (collected names o) (before (Some g) rest) ≡ option_and_then (λ (next : Options). option_and_then (collected names next) rest) (noted names o g)
+next_given names o g (Some gs) = refl
+next_given names o g None = by (noted names o g)
+  where
+    by : (x : Option Options) → None ≡ option_and_then (λ (next : Options). option_and_then (collected names next) None) x
+    by None = refl
+    by (Some next) = refl
+
+-- a flag before other words is noted, and then they are
+pub next_flag : (names : List OptionName) (o : Options) (word : List ℕ) (g : Given) (rest : List (List ℕ)) → flag word ≡ Some g →
+    continued names o (word ∷ rest) ≡ option_and_then (λ (next : Options). continued names next rest) (noted names o g)
+next_flag names o word g rest is = ap (option_and_then (collected names o)) (flag_then word g rest is) ∙ next_given names o g (options_of rest)
+
+-- an option and its number before other words are noted, and then they are
+pub next_valued : (names : List OptionName) (o : Options) (word value : List ℕ) (g : Given) (rest : List (List ℕ)) → flag word ≡ None → valued word value ≡ Some g →
+    continued names o (word ∷ value ∷ rest) ≡ option_and_then (λ (next : Options). continued names next rest) (noted names o g)
+next_valued names o word value g rest none is =
+    ap (option_and_then (collected names o)) (valued_then word value g rest none is) ∙ next_given names o g (options_of rest)
+
+-- a word that is no option ends the walk
+pub no_option : (names : List OptionName) (o : Options) (word : List ℕ) (rest : List (List ℕ)) → named_by word ≡ None → continued names o (word ∷ rest) ≡ None
+no_option names o word [] none =
+    ap (λ (n : Option OptionName). option_and_then (collected names o) (before (option_and_then (λ (k : OptionName). flag_with k (range_of k)) n) (Some []))) none
+no_option names o word (value ∷ words) none =
+    ap (λ (n : Option OptionName). option_and_then (collected names o)
+    (cond (is_some (option_and_then (λ (k : OptionName). flag_with k (range_of k)) n))
+    (before (option_and_then (λ (k : OptionName). flag_with k (range_of k)) n) (options_of (value ∷ words)))
+    (before (option_and_then (λ (k : OptionName). valued_with k value (range_of k)) n) (options_of words)))) none
+
+-- an option whose number is missing, or none
+pub no_number : (names : List OptionName) (o : Options) (word : List ℕ) → flag word ≡ None → continued names o (word ∷ []) ≡ None
+no_number names o word none = ap (λ (f : Option Given). option_and_then (collected names o) (before f (Some []))) none
+
+pub bad_number : (names : List OptionName) (o : Options) (word value : List ℕ) (rest : List (List ℕ)) → flag word ≡ None → valued word value ≡ None →
+    continued names o (word ∷ value ∷ rest) ≡ None
+bad_number names o word value rest none is =
+    ap (λ (f : Option Given). option_and_then (collected names o) (cond (is_some f) (before f (options_of (value ∷ rest))) (before (valued word value) (options_of rest)))) none
+    ∙ ap (λ (v : Option Given). option_and_then (collected names o) (before v (options_of rest))) is

@@ -1,9 +1,14 @@
--- The words of the command line, and what they ask for.
-use Rattle.std.specs.Prelude.{◌≡◌, ◌↔◌, ℕ, ◌≤◌, Bool, true, false, ◌&&◌, List, [], ◌∷◌, ◌++◌, length, is_some, nat_le, bytes_eq, codes, Option, Some, None, IfSome, if◌then◌else◌}
+-- The words of the command line, and what they ask for (docs/COMMANDS.md, "Options").
+use Rattle.std.specs.Prelude.{◌≡◌, ◌↔◌, ℕ, ◌≤◌, Bool, true, false, ◌&&◌, not, List, [], ◌∷◌, ◌++◌, length, find, is_some, nat_le, bytes_eq, codes, slice_index_or, slice_set, Option, Some, None, IfSome, unwrap_or, if◌then◌else◌, ◌==◌}
 use Rattle.std.specs.Option.{option_map, option_and_then}
+use Rattle.std.specs.List.{list_any}
 use Rattle.text_lines.specs.Numbers.{natural_of}
 use Rattle.command_words.specs.declared.command.Command.{Command}
 use Rattle.command_words.specs.declared.command.Command.TheVariants.{Help, Version, Check, Compile, Certify, Play, Report, Verify, Rehearse, Upload, Drill, Boxes, Speed, Explain, Dynamics}
+use Rattle.command_words.specs.declared.options.OptionName.{OptionName}
+use Rattle.command_words.specs.declared.options.OptionName.TheVariants.{Depth, Step, Start, Readback, Limit, Fine, Accel, Jump}
+use Rattle.command_words.specs.declared.options.Range.{Range}
+use Rattle.command_words.specs.declared.options.Options.{Options}
 
 -- ---- numbers
 
@@ -52,52 +57,54 @@ between least most (Some n) = if nat_le least n && nat_le n most then Some n els
 abbrev pub number_from : ℕ → ℕ → List ℕ → Option ℕ
 number_from least most word = if nat_le (length word) most_digits then between least most (natural_of word) else None
 
-abbrev pub depth_of : List ℕ → Option ℕ
-depth_of word = number_from 0 most_depth word
-
-abbrev pub step_of : List ℕ → Option ℕ
-step_of word = number_from 1 most_step word
-
-abbrev pub limit_of : List ℕ → Option ℕ
-limit_of word = number_from 1 most_limit word
-
-abbrev pub bound_of : List ℕ → Option ℕ
-bound_of word = number_from 0 most_bound word
-
-abbrev pub fine_of : List ℕ → Option ℕ
-fine_of word = number_from 0 most_fine word
-
-abbrev pub drones_of : List ℕ → Option ℕ
-drones_of word = number_from 1 most_drill word
-
 -- ---- options
 
--- an option that is given
-pub data Given : Type 0 where
-  given_depth : ℕ → Given
-  given_step : ℕ → Given
-  given_start : Given
-  given_limit : ℕ → Given
-  given_fine : ℕ → Given
-  given_readback : Given
-  given_accel : ℕ → Given
-  given_jump : ℕ → Given
+-- the word of an option
+abbrev pub word_of : OptionName → List ℕ
+word_of Depth = codes "--depth"
+word_of Step = codes "--step"
+word_of Start = codes "--start"
+word_of Readback = codes "--readback"
+word_of Limit = codes "--limit"
+word_of Fine = codes "--fine"
+word_of Accel = codes "--accel"
+word_of Jump = codes "--jump"
 
--- an option of two words
+-- the numbers of which one follows it; a flag stands alone
+abbrev pub range_of : OptionName → Option Range
+range_of Depth = Some (record { least = 0; most = most_depth })
+range_of Step = Some (record { least = 1; most = most_step })
+range_of Start = None
+range_of Readback = None
+range_of Limit = Some (record { least = 1; most = most_limit })
+range_of Fine = Some (record { least = 0; most = most_fine })
+range_of Accel = Some (record { least = 0; most = most_bound })
+range_of Jump = Some (record { least = 0; most = most_bound })
+
+-- the option that a word names
+abbrev pub named_by : List ℕ → Option OptionName
+named_by word = find (λ n. bytes_eq word (word_of n)) (Depth ∷ Step ∷ Start ∷ Readback ∷ Limit ∷ Fine ∷ Accel ∷ Jump ∷ [])
+
+-- An option that is given, with its number; a flag has 1.
+pub record Given : Type 0 where
+  pub name : OptionName
+  pub value : ℕ
+
+-- an option that is a flag
+abbrev pub flag_with : OptionName → Option Range → Option Given
+flag_with name None = Some (record { name = name; value = 1 })
+flag_with name (Some r) = None
+
+abbrev pub flag : List ℕ → Option Given
+flag word = option_and_then (λ (n : OptionName). flag_with n (range_of n)) (named_by word)
+
+-- an option with the word of its number
+abbrev pub valued_with : OptionName → List ℕ → Option Range → Option Given
+valued_with name value None = None
+valued_with name value (Some r) = option_map (λ (n : ℕ). record { name = name; value = n }) (number_from r.least r.most value)
+
 abbrev pub valued : List ℕ → List ℕ → Option Given
-valued word value =
-    if bytes_eq word (codes "--depth") then option_map given_depth (depth_of value)
-    else (if bytes_eq word (codes "--step") then option_map given_step (step_of value)
-    else (if bytes_eq word (codes "--limit") then option_map given_limit (limit_of value)
-    else (if bytes_eq word (codes "--fine") then option_map given_fine (fine_of value)
-    else (if bytes_eq word (codes "--accel") then option_map given_accel (bound_of value)
-    else (if bytes_eq word (codes "--jump") then option_map given_jump (bound_of value) else None)))))
-
--- an option of one word
-abbrev pub alone : List ℕ → Option Given
-alone word =
-    if bytes_eq word (codes "--start") then Some given_start
-    else (if bytes_eq word (codes "--readback") then Some given_readback else None)
+valued word value = option_and_then (λ (n : OptionName). valued_with n value (range_of n)) (named_by word)
 
 -- one option before others, where all of them are options
 abbrev pub before : Option Given → Option (List Given) → Option (List Given)
@@ -107,196 +114,122 @@ before (Some given) rest = option_map (λ (gs : List Given). given ∷ gs) rest
 -- The options that words are, in their order; None where some word has no place among them.
 abbrev pub options_of : List (List ℕ) → Option (List Given)
 options_of [] = Some []
-options_of (word ∷ []) = before (alone word) (Some [])
+options_of (word ∷ []) = before (flag word) (Some [])
 options_of (word ∷ value ∷ words) =
-    if is_some (alone word) then before (alone word) (options_of (value ∷ words))
+    if is_some (flag word) then before (flag word) (options_of (value ∷ words))
     else before (valued word value) (options_of words)
 
--- ---- which options a command takes, each at most once, in any order
+-- ---- the options of a command, each at most once, in any order
 
-abbrev pub depths : List Given → List ℕ
-depths [] = []
-depths (given_depth n ∷ gs) = n ∷ depths gs
-depths (given_step n ∷ gs) = depths gs
-depths (given_start ∷ gs) = depths gs
-depths (given_limit n ∷ gs) = depths gs
-depths (given_fine n ∷ gs) = depths gs
-depths (given_readback ∷ gs) = depths gs
-depths (given_accel n ∷ gs) = depths gs
-depths (given_jump n ∷ gs) = depths gs
+-- the place of an option among the values
+abbrev pub place_of : OptionName → ℕ
+place_of Depth = 0
+place_of Step = 1
+place_of Start = 2
+place_of Readback = 3
+place_of Limit = 4
+place_of Fine = 5
+place_of Accel = 6
+place_of Jump = 7
 
-abbrev pub steps : List Given → List ℕ
-steps [] = []
-steps (given_depth n ∷ gs) = steps gs
-steps (given_step n ∷ gs) = n ∷ steps gs
-steps (given_start ∷ gs) = steps gs
-steps (given_limit n ∷ gs) = steps gs
-steps (given_fine n ∷ gs) = steps gs
-steps (given_readback ∷ gs) = steps gs
-steps (given_accel n ∷ gs) = steps gs
-steps (given_jump n ∷ gs) = steps gs
+-- no option is given
+abbrev pub no_options : Options
+no_options = record { values = None ∷ None ∷ None ∷ None ∷ None ∷ None ∷ None ∷ None ∷ [] }
 
-abbrev pub starts : List Given → List Bool
-starts [] = []
-starts (given_depth n ∷ gs) = starts gs
-starts (given_step n ∷ gs) = starts gs
-starts (given_start ∷ gs) = true ∷ starts gs
-starts (given_limit n ∷ gs) = starts gs
-starts (given_fine n ∷ gs) = starts gs
-starts (given_readback ∷ gs) = starts gs
-starts (given_accel n ∷ gs) = starts gs
-starts (given_jump n ∷ gs) = starts gs
+-- the number of an option, if it is given
+abbrev pub given_in : Options → OptionName → Option ℕ
+given_in o name = slice_index_or o.values (place_of name) None
 
-abbrev pub limits : List Given → List ℕ
-limits [] = []
-limits (given_depth n ∷ gs) = limits gs
-limits (given_step n ∷ gs) = limits gs
-limits (given_start ∷ gs) = limits gs
-limits (given_limit n ∷ gs) = n ∷ limits gs
-limits (given_fine n ∷ gs) = limits gs
-limits (given_readback ∷ gs) = limits gs
-limits (given_accel n ∷ gs) = limits gs
-limits (given_jump n ∷ gs) = limits gs
+-- whether a command that takes these options takes this one
+abbrev pub takes : List OptionName → OptionName → Bool
+takes names name = list_any (λ n. place_of n == place_of name) names
 
-abbrev pub fines : List Given → List ℕ
-fines [] = []
-fines (given_depth n ∷ gs) = fines gs
-fines (given_step n ∷ gs) = fines gs
-fines (given_start ∷ gs) = fines gs
-fines (given_limit n ∷ gs) = fines gs
-fines (given_fine n ∷ gs) = n ∷ fines gs
-fines (given_readback ∷ gs) = fines gs
-fines (given_accel n ∷ gs) = fines gs
-fines (given_jump n ∷ gs) = fines gs
+-- one option more; None where the command doesn't take it, or where it is there already
+abbrev pub noted : List OptionName → Options → Given → Option Options
+noted names o g =
+    if takes names g.name && not (is_some (given_in o g.name))
+    then Some (record { values = slice_set o.values (place_of g.name) (Some g.value) }) else None
 
-abbrev pub readbacks : List Given → List Bool
-readbacks [] = []
-readbacks (given_depth n ∷ gs) = readbacks gs
-readbacks (given_step n ∷ gs) = readbacks gs
-readbacks (given_start ∷ gs) = readbacks gs
-readbacks (given_limit n ∷ gs) = readbacks gs
-readbacks (given_fine n ∷ gs) = readbacks gs
-readbacks (given_readback ∷ gs) = true ∷ readbacks gs
-readbacks (given_accel n ∷ gs) = readbacks gs
-readbacks (given_jump n ∷ gs) = readbacks gs
+-- these options more, in their order
+abbrev pub collected : List OptionName → Options → List Given → Option Options
+collected names o [] = Some o
+collected names o (given ∷ gs) = option_and_then (λ (next : Options). collected names next gs) (noted names o given)
 
-abbrev pub accels : List Given → List ℕ
-accels [] = []
-accels (given_depth n ∷ gs) = accels gs
-accels (given_step n ∷ gs) = accels gs
-accels (given_start ∷ gs) = accels gs
-accels (given_limit n ∷ gs) = accels gs
-accels (given_fine n ∷ gs) = accels gs
-accels (given_readback ∷ gs) = accels gs
-accels (given_accel n ∷ gs) = n ∷ accels gs
-accels (given_jump n ∷ gs) = accels gs
+-- what is given by words of a command that takes these options
+abbrev pub options_for : List OptionName → List (List ℕ) → Option Options
+options_for names words = option_and_then (collected names no_options) (options_of words)
 
-abbrev pub jumps : List Given → List ℕ
-jumps [] = []
-jumps (given_depth n ∷ gs) = jumps gs
-jumps (given_step n ∷ gs) = jumps gs
-jumps (given_start ∷ gs) = jumps gs
-jumps (given_limit n ∷ gs) = jumps gs
-jumps (given_fine n ∷ gs) = jumps gs
-jumps (given_readback ∷ gs) = jumps gs
-jumps (given_accel n ∷ gs) = jumps gs
-jumps (given_jump n ∷ gs) = n ∷ jumps gs
+-- the depth, the step and the fineness that are given, or their defaults
+abbrev pub depth_in : Options → ℕ
+depth_in o = unwrap_or (given_in o Depth) default_depth
 
--- the one that is given, or the default; None where it is given twice
-abbrev pub single : {A : Type 0} → A → List A → Option A
-single default [] = Some default
-single default (a ∷ []) = Some a
-single default (a ∷ b ∷ rest) = None
+abbrev pub step_in : Options → ℕ
+step_in o = unwrap_or (given_in o Step) default_step
 
--- the one that is given, if one is; None where it is given twice
-abbrev pub optional : {A : Type 0} → List A → Option (Option A)
-optional [] = Some None
-optional (a ∷ []) = Some (Some a)
-optional (a ∷ b ∷ rest) = None
+abbrev pub fine_in : Options → ℕ
+fine_in o = unwrap_or (given_in o Fine) default_fine
 
--- this where none is given
-abbrev pub without : {A B : Type 0} → List A → Option B → Option B
-without [] b = b
-without (a ∷ rest) b = None
+-- a flag is given
+abbrev pub has : Options → OptionName → Bool
+has o name = is_some (given_in o name)
 
--- where neither a limit on acceleration nor one on jumps is given
-abbrev pub unbounded : List Given → Option Command → Option Command
-unbounded gs c = without (accels gs) (without (jumps gs) c)
+-- ---- commands
 
--- a command that takes no option, `--depth`, `--depth` and `--step`, `--depth`, `--start` and `--readback`, `--depth` and `--limit`, `--depth` and
--- `--fine`, `--depth`, `--accel` and `--jump`
-abbrev pub bare : Command → List Given → Option Command
-bare c gs = without gs (Some c)
+-- a command whose one option is a depth, by what it is with that depth
+abbrev pub with_depth : (ℕ → Command) → List (List ℕ) → Option Command
+with_depth make words = option_map (λ (o : Options). make (depth_in o)) (options_for (Depth ∷ []) words)
 
-abbrev pub with_depth : (ℕ → Command) → List Given → Option Command
-with_depth make gs =
-    unbounded gs (without (steps gs) (without (starts gs) (without (limits gs) (without (fines gs) (without (readbacks gs)
-    (option_map make (single default_depth (depths gs))))))))
+-- a command that takes no option
+abbrev pub bare : Command → List (List ℕ) → Option Command
+bare c words = option_map (λ (o : Options). c) (options_for [] words)
 
-abbrev pub with_step : List Given → Option Command
-with_step gs =
-    unbounded gs (without (starts gs) (without (limits gs) (without (fines gs) (without (readbacks gs) (option_and_then
-    (λ (depth : ℕ). option_map (λ (step : ℕ). Play depth step) (single default_step (steps gs)))
-    (single default_depth (depths gs)))))))
-
-abbrev pub with_start : (ℕ → Bool → Bool → Command) → List Given → Option Command
-with_start make gs =
-    unbounded gs (without (steps gs) (without (limits gs) (without (fines gs) (option_and_then
-    (λ (depth : ℕ). option_and_then (λ (start : Bool). option_map (λ (readback : Bool). make depth start readback) (single false (readbacks gs))) (single false (starts gs)))
-    (single default_depth (depths gs))))))
-
-abbrev pub with_limit : List Given → Option Command
-with_limit gs =
-    unbounded gs (without (steps gs) (without (starts gs) (without (fines gs) (without (readbacks gs) (option_and_then
-    (λ (depth : ℕ). option_map (λ (limit : Option ℕ). Speed depth limit) (optional (limits gs)))
-    (single default_depth (depths gs)))))))
-
-abbrev pub with_fine : List Given → Option Command
-with_fine gs =
-    unbounded gs (without (steps gs) (without (starts gs) (without (limits gs) (without (readbacks gs) (option_and_then
-    (λ (depth : ℕ). option_map (λ (fine : ℕ). Explain depth fine) (single default_fine (fines gs)))
-    (single default_depth (depths gs)))))))
-
-abbrev pub with_bounds : List Given → Option Command
-with_bounds gs =
-    without (steps gs) (without (starts gs) (without (limits gs) (without (fines gs) (without (readbacks gs) (option_and_then
-    (λ (depth : ℕ). option_and_then (λ (accel : Option ℕ). option_map (λ (jump : Option ℕ). Dynamics depth accel jump) (optional (jumps gs))) (optional (accels gs)))
-    (single default_depth (depths gs)))))))
-
--- the command of a name with these options
-abbrev pub named : List ℕ → List Given → Option Command
-named name gs =
-    if bytes_eq name (codes "help") then bare Help gs
-    else (if bytes_eq name (codes "version") then bare Version gs
-    else (if bytes_eq name (codes "check") then with_depth Check gs
-    else (if bytes_eq name (codes "compile") then with_depth Compile gs
-    else (if bytes_eq name (codes "certify") then with_depth Certify gs
-    else (if bytes_eq name (codes "play") then with_step gs
-    else (if bytes_eq name (codes "report") then with_depth Report gs
-    else (if bytes_eq name (codes "verify") then bare Verify gs
-    else (if bytes_eq name (codes "rehearse") then with_start Rehearse gs
-    else (if bytes_eq name (codes "upload") then with_start Upload gs
-    else (if bytes_eq name (codes "boxes") then with_depth Boxes gs
-    else (if bytes_eq name (codes "speed") then with_limit gs
-    else (if bytes_eq name (codes "explain") then with_fine gs
-    else (if bytes_eq name (codes "dynamics") then with_bounds gs
-    else None)))))))))))))
+-- a command that takes a depth and the two flags
+abbrev pub with_flags : (ℕ → Bool → Bool → Command) → List (List ℕ) → Option Command
+with_flags make words = option_map (λ (o : Options). make (depth_in o) (has o Start) (has o Readback)) (options_for (Depth ∷ Start ∷ Readback ∷ []) words)
 
 -- a drill of this many drones
-abbrev pub drill_with : Option ℕ → List (List ℕ) → Option Command
-drill_with None words = None
-drill_with (Some drones) words =
-    option_and_then (λ (gs : List Given). with_depth (λ (depth : ℕ). Drill drones depth) gs) (options_of words)
+abbrev pub drill_with : List (List ℕ) → Option ℕ → Option Command
+drill_with words None = None
+drill_with words (Some drones) = with_depth (λ (depth : ℕ). Drill drones depth) words
 
 abbrev pub drill_in : List (List ℕ) → Option Command
 drill_in [] = None
-drill_in (number ∷ words) = drill_with (drones_of number) words
+drill_in (number ∷ words) = drill_with words (number_from 1 most_drill number)
+
+-- the command of this name that studies a show, with the words after it
+abbrev pub study : List ℕ → List (List ℕ) → Option Command
+study name words =
+    if bytes_eq name (codes "boxes") then with_depth Boxes words
+    else (if bytes_eq name (codes "speed") then option_map (λ (o : Options). Speed (depth_in o) (given_in o Limit)) (options_for (Depth ∷ Limit ∷ []) words)
+    else (if bytes_eq name (codes "explain") then option_map (λ (o : Options). Explain (depth_in o) (fine_in o)) (options_for (Depth ∷ Fine ∷ []) words)
+    else (if bytes_eq name (codes "dynamics") then option_map (λ (o : Options). Dynamics (depth_in o) (given_in o Accel) (given_in o Jump)) (options_for (Depth ∷ Accel ∷ Jump ∷ []) words)
+    else None)))
+
+-- the command of this name that takes packets to drones, with the words after it
+abbrev pub sending : List ℕ → List (List ℕ) → Option Command
+sending name words =
+    if bytes_eq name (codes "rehearse") then with_flags Rehearse words
+    else (if bytes_eq name (codes "upload") then with_flags Upload words
+    else study name words)
+
+-- the command of this name, with the words after it
+abbrev pub named : List ℕ → List (List ℕ) → Option Command
+named name words =
+    if bytes_eq name (codes "help") then bare Help words
+    else (if bytes_eq name (codes "version") then bare Version words
+    else (if bytes_eq name (codes "check") then with_depth Check words
+    else (if bytes_eq name (codes "compile") then with_depth Compile words
+    else (if bytes_eq name (codes "certify") then with_depth Certify words
+    else (if bytes_eq name (codes "play") then option_map (λ (o : Options). Play (depth_in o) (step_in o)) (options_for (Depth ∷ Step ∷ []) words)
+    else (if bytes_eq name (codes "report") then with_depth Report words
+    else (if bytes_eq name (codes "verify") then bare Verify words
+    else (if bytes_eq name (codes "drill") then drill_in words
+    else sending name words))))))))
 
 -- The command that a list of words is: its name, for `drill` a number, and then options.
 abbrev pub command_of : List (List ℕ) → Option Command
 command_of [] = None
-command_of (name ∷ words) =
-    if bytes_eq name (codes "drill") then drill_in words else option_and_then (named name) (options_of words)
+command_of (name ∷ words) = named name words
 
 -- the numbers of a command are those that the program takes
 abbrev pub IsCommand : Command → Type 0
@@ -319,21 +252,13 @@ IsCommand (Dynamics depth accel jump) = (depth ≤ most_depth) × IfSome accel (
 -- ---- what that means
 
 -- the words of an option
+abbrev pub SpellsWith : Given → List (List ℕ) → Option Range → Type 0
+SpellsWith g words None = (words ≡ word_of g.name ∷ []) × (g.value ≡ 1)
+SpellsWith g words (Some r) =
+    (value : List ℕ) × (words ≡ word_of g.name ∷ value ∷ []) × (number_from r.least r.most value ≡ Some g.value)
+
 abbrev pub SpellsOption : Given → List (List ℕ) → Type 0
-SpellsOption (given_depth n) words =
-    (value : List ℕ) × (words ≡ codes "--depth" ∷ value ∷ []) × (depth_of value ≡ Some n)
-SpellsOption (given_step n) words =
-    (value : List ℕ) × (words ≡ codes "--step" ∷ value ∷ []) × (step_of value ≡ Some n)
-SpellsOption given_start words = words ≡ codes "--start" ∷ []
-SpellsOption given_readback words = words ≡ codes "--readback" ∷ []
-SpellsOption (given_limit n) words =
-    (value : List ℕ) × (words ≡ codes "--limit" ∷ value ∷ []) × (limit_of value ≡ Some n)
-SpellsOption (given_fine n) words =
-    (value : List ℕ) × (words ≡ codes "--fine" ∷ value ∷ []) × (fine_of value ≡ Some n)
-SpellsOption (given_accel n) words =
-    (value : List ℕ) × (words ≡ codes "--accel" ∷ value ∷ []) × (bound_of value ≡ Some n)
-SpellsOption (given_jump n) words =
-    (value : List ℕ) × (words ≡ codes "--jump" ∷ value ∷ []) × (bound_of value ≡ Some n)
+SpellsOption g words = SpellsWith g words (range_of g.name)
 
 -- words are these options, one after the other
 abbrev pub SpellsOptions : List Given → List (List ℕ) → Type 0

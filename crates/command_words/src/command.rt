@@ -1,9 +1,10 @@
 //! What the words ask for.
-ghost use Rattle.std.specs.Prelude.{◌≡◌, map, string_bytes, IfSome};
-ghost use Rattle.command_words.specs.Commands.{IsCommand, command_of, drill_in, help_text};
-ghost use Rattle.command_words.specs.Steps.{AreInRange, named_with, study_with};
+ghost use Rattle.std.specs.Prelude.{◌≡◌, ℕ, ◌≤◌, Bool, map, string_bytes, IfSome, Option, option_map};
+ghost use Rattle.command_words.specs.Commands as commands;
+ghost use Rattle.command_words.specs.Commands.{IsCommand, command_of, drill_in, help_text, has};
+ghost use Rattle.command_words.specs.declared.options.Options.{Options};
 
-use crate::options::{Options, number_from, options_of};
+use crate::options::{OptionName, number_from, options_for};
 
 /// What the program is asked for. `depth` says into how small parts a cue is cut: at most into 2^depth, 0 to 8.
 /// `start` says whether the drones are started, `readback` whether the memories are read back before that. The forms are those of [`help_text`].
@@ -78,75 +79,84 @@ pub enum Command {
 }
 
 // The most drones of a drill.
-const MOST_DRILL: u64 = 32;
+const MOST_DRILL: u32 = 32;
 
-// The command of this name that studies a show, with these options.
-fn study(name: &[u8], options: Options) -> Option<Command>
-    requires { AreInRange options }
-    ensures value { result ≡ study_with name.now options }
+// The depth of a command whose one option it is.
+fn depth_of(words: &[String]) -> Option<u8>
+    ensures value { (make : ℕ → Command) → option_map make result ≡ commands.with_depth make (map string_bytes words.now) }
+    ensures most { IfSome result (λ depth. depth ≤ 8) }
+{
+    let options = options_for(&[OptionName::Depth], words)?;
+    Some(options.depth())
+}
+
+// A command that takes no option.
+fn bare(command: Command, words: &[String]) -> Option<Command>
+    ensures value { result ≡ commands.bare command (map string_bytes words.now) }
+    ensures same { IfSome result (λ c. c ≡ command) }
+{
+    let _ = options_for(&[], words)?;
+    Some(command)
+}
+
+// The command of this name that studies a show, with the words after it.
+fn study(name: &[u8], words: &[String]) -> Option<Command>
+    ensures value { result ≡ commands.study name.now (map string_bytes words.now) }
     ensures command { IfSome result IsCommand }
 {
     if name == b"boxes".as_slice() {
-        let depth = options.depth_alone()?;
-        Some(Command::Boxes { depth })
-    } else if name == b"speed".as_slice() {
-        let (depth, limit) = options.depth_and_limit()?;
-        Some(Command::Speed { depth, limit })
-    } else if name == b"explain".as_slice() {
-        let (depth, fine) = options.depth_and_fine()?;
-        Some(Command::Explain { depth, fine })
-    } else if name == b"dynamics".as_slice() {
-        let (depth, accel, jump) = options.depth_and_bounds()?;
-        Some(Command::Dynamics { depth, accel, jump })
-    } else {
-        None
+        let depth = depth_of(words)?;
+        return Some(Command::Boxes { depth });
     }
+    if name == b"speed".as_slice() {
+        let options = options_for(&[OptionName::Depth, OptionName::Limit], words)?;
+        return Some(Command::Speed {
+            depth: options.depth(),
+            limit: options.limit(),
+        });
+    }
+    if name == b"explain".as_slice() {
+        let options = options_for(&[OptionName::Depth, OptionName::Fine], words)?;
+        return Some(Command::Explain {
+            depth: options.depth(),
+            fine: options.fine(),
+        });
+    }
+    if name == b"dynamics".as_slice() {
+        let names = [OptionName::Depth, OptionName::Accel, OptionName::Jump];
+        let options = options_for(&names, words)?;
+        return Some(Command::Dynamics {
+            depth: options.depth(),
+            accel: options.accel(),
+            jump: options.jump(),
+        });
+    }
+    None
 }
 
-// The command of this name with these options; `drill` is none of them.
-fn named(name: &[u8], options: Options) -> Option<Command>
-    requires { AreInRange options }
-    ensures value { result ≡ named_with name.now options }
+// The command of this name that takes packets to drones, with the words after it.
+fn sending(name: &[u8], words: &[String]) -> Option<Command>
+    ensures value { result ≡ commands.sending name.now (map string_bytes words.now) }
     ensures command { IfSome result IsCommand }
 {
-    if name == b"help".as_slice() {
-        options.is_bare().then_some(Command::Help)
-    } else if name == b"version".as_slice() {
-        options.is_bare().then_some(Command::Version)
-    } else if name == b"check".as_slice() {
-        let depth = options.depth_alone()?;
-        Some(Command::Check { depth })
-    } else if name == b"compile".as_slice() {
-        let depth = options.depth_alone()?;
-        Some(Command::Compile { depth })
-    } else if name == b"certify".as_slice() {
-        let depth = options.depth_alone()?;
-        Some(Command::Certify { depth })
-    } else if name == b"play".as_slice() {
-        let (depth, step) = options.depth_and_step()?;
-        Some(Command::Play { depth, step })
-    } else if name == b"report".as_slice() {
-        let depth = options.depth_alone()?;
-        Some(Command::Report { depth })
-    } else if name == b"verify".as_slice() {
-        options.is_bare().then_some(Command::Verify)
-    } else if name == b"rehearse".as_slice() {
-        let (depth, start, readback) = options.depth_and_flags()?;
-        Some(Command::Rehearse {
-            depth,
-            start,
-            readback,
-        })
-    } else if name == b"upload".as_slice() {
-        let (depth, start, readback) = options.depth_and_flags()?;
-        Some(Command::Upload {
-            depth,
-            start,
-            readback,
-        })
-    } else {
-        study(name, options)
+    let names = [OptionName::Depth, OptionName::Start, OptionName::Readback];
+    if name == b"rehearse".as_slice() {
+        let options = options_for(&names, words)?;
+        return Some(Command::Rehearse {
+            depth: options.depth(),
+            start: options.has(OptionName::Start),
+            readback: options.has(OptionName::Readback),
+        });
     }
+    if name == b"upload".as_slice() {
+        let options = options_for(&names, words)?;
+        return Some(Command::Upload {
+            depth: options.depth(),
+            start: options.has(OptionName::Start),
+            readback: options.has(OptionName::Readback),
+        });
+    }
+    study(name, words)
 }
 
 // The drill that the words after `drill` are: a number of drones, and then options.
@@ -156,8 +166,51 @@ fn drill(words: &[String]) -> Option<Command>
 {
     let (number, words) = words.split_first()?;
     let drones = number_from(number.as_bytes(), 1, MOST_DRILL)? as u8;
-    let depth = options_of(words)?.depth_alone()?;
+    let depth = depth_of(words)?;
     Some(Command::Drill { drones, depth })
+}
+
+// The command of this name, with the words after it.
+fn named(name: &[u8], words: &[String]) -> Option<Command>
+    ensures value { result ≡ commands.named name.now (map string_bytes words.now) }
+    ensures command { IfSome result IsCommand }
+{
+    if name == b"help".as_slice() {
+        return bare(Command::Help, words);
+    }
+    if name == b"version".as_slice() {
+        return bare(Command::Version, words);
+    }
+    if name == b"check".as_slice() {
+        let depth = depth_of(words)?;
+        return Some(Command::Check { depth });
+    }
+    if name == b"compile".as_slice() {
+        let depth = depth_of(words)?;
+        return Some(Command::Compile { depth });
+    }
+    if name == b"certify".as_slice() {
+        let depth = depth_of(words)?;
+        return Some(Command::Certify { depth });
+    }
+    if name == b"play".as_slice() {
+        let options = options_for(&[OptionName::Depth, OptionName::Step], words)?;
+        return Some(Command::Play {
+            depth: options.depth(),
+            step: options.step(),
+        });
+    }
+    if name == b"report".as_slice() {
+        let depth = depth_of(words)?;
+        return Some(Command::Report { depth });
+    }
+    if name == b"verify".as_slice() {
+        return bare(Command::Verify, words);
+    }
+    if name == b"drill".as_slice() {
+        return drill(words);
+    }
+    sending(name, words)
 }
 
 /// The command that the words, without the program's name, are: a name, for `drill` a number of drones, and then the
@@ -167,11 +220,7 @@ pub fn command_of(words: &Vec<String>) -> Option<Command>
     ensures command { IfSome result IsCommand }
 {
     let (name, words) = words.split_first()?;
-    if name.as_bytes() == b"drill".as_slice() {
-        drill(words)
-    } else {
-        named(name.as_bytes(), options_of(words)?)
-    }
+    named(name.as_bytes(), words)
 }
 
 /// The forms of the commands, one a line.

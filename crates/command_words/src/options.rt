@@ -1,387 +1,284 @@
 //! The options that are given, each at most once and in any order.
-ghost use Rattle.std.specs.Prelude.{◌≡◌, ℕ, ◌≤◌, Bool, map, string_bytes, IfSome, option_map, option_and_then};
-ghost use Rattle.command_words.specs.declared.command.Command.{Command};
-ghost use Rattle.command_words.specs.declared.command.Command.TheVariants.{Dynamics, Explain, Play, Speed};
-ghost use Rattle.command_words.specs.Commands.{IsCommand, bound_of, depth_of, given_accel, given_depth, fine_of, given_fine, given_jump, given_limit, given_readback, given_start, given_step, limit_of, most_depth, most_fine, most_limit, most_step, number_from, step_of, valued};
-ghost use Rattle.command_words.specs.Steps.{AreInRange, at_bounds, at_fine, at_limit, at_start, at_step, continued, depth_alone, is_bare, is_bounded, no_options, noted};
+ghost use Rattle.std.specs.Prelude.{◌≡◌, ℕ, ◌≤◌, Bool, map, string_bytes, IfSome, IfOk, length, option_map, option_and_then, is_some, true};
+ghost use Rattle.command_words.specs.Commands as commands;
+ghost use Rattle.command_words.specs.Commands.{depth_in, fine_in, given_in, has, most_limit, no_options, noted, options_for, place_of, range_of, step_in, takes, word_of};
+ghost use Rattle.command_words.specs.Steps.{AreInRange, IsInRange};
 
 use text_lines::natural;
 
 // The depth where no option names one.
-const DEFAULT_DEPTH: u8 = 6;
+const DEFAULT_DEPTH: u32 = 6;
 
 // The greatest depth.
-const MOST_DEPTH: u64 = 8;
+const MOST_DEPTH: u32 = 8;
 
 // The step where no option names one, in milliseconds.
-const DEFAULT_STEP: u16 = 100;
+const DEFAULT_STEP: u32 = 100;
 
 // The greatest step, in milliseconds.
-const MOST_STEP: u64 = 60_000;
+const MOST_STEP: u32 = 60_000;
 
 // The greatest limit on speed, in micrometres per second.
-const MOST_LIMIT: u64 = 999_999_999;
+const MOST_LIMIT: u32 = 999_999_999;
 
 // The greatest limit on acceleration, in millimetres per second squared, and on a jump of speed, in millimetres per second.
-const MOST_BOUND: u64 = 999_999_999;
+const MOST_BOUND: u32 = 999_999_999;
 
 // How finely a cue is listed where no option says it.
-const DEFAULT_FINE: u8 = 5;
+const DEFAULT_FINE: u32 = 5;
 
 // The finest.
-const MOST_FINE: u64 = 5;
+const MOST_FINE: u32 = 5;
 
 // The most digits of a number on the command line.
 const MOST_DIGITS: usize = 9;
 
+/// The numbers from `least` to `most`.
+#[derive(Clone, Copy)]
+pub struct Range {
+    pub least: u32,
+    pub most: u32,
+}
+
+/// An option of the command line (docs/COMMANDS.md, "Options").
+#[derive(Clone, Copy)]
+pub enum OptionName {
+    Depth,
+    Step,
+    Start,
+    Readback,
+    Limit,
+    Fine,
+    Accel,
+    Jump,
+}
+
 /// The number that a word is, from `least` to `most`: 1 to 9 decimal digits.
-pub fn number_from(word: &[u8], least: u64, most: u64) -> Option<u64>
+pub fn number_from(word: &[u8], least: u32, most: u32) -> Option<u32>
     requires { most ≤ most_limit }
-    ensures value { result ≡ number_from least most word.now }
+    ensures value { result ≡ commands.number_from least most word.now }
     ensures from { IfSome result (λ n. least ≤ n) }
     ensures to { IfSome result (λ n. n ≤ most) }
 {
     if word.len() > MOST_DIGITS {
         return None;
     }
-    natural(word).filter(|n| least <= *n && *n <= most)
+    let n = natural(word)?;
+    if (least as u64) <= n && n <= most as u64 {
+        Some(n as u32)
+    } else {
+        None
+    }
 }
 
-/// The options that were given so far.
+impl OptionName {
+    // Its word.
+    fn word(self) -> &'static [u8]
+        ensures { result.now ≡ word_of self }
+    {
+        match self {
+            OptionName::Depth => b"--depth",
+            OptionName::Step => b"--step",
+            OptionName::Start => b"--start",
+            OptionName::Readback => b"--readback",
+            OptionName::Limit => b"--limit",
+            OptionName::Fine => b"--fine",
+            OptionName::Accel => b"--accel",
+            OptionName::Jump => b"--jump",
+        }
+    }
+
+    // The numbers of which one follows it; none follows a flag.
+    fn range(self) -> Option<Range>
+        ensures value { result ≡ range_of self }
+        ensures most { IfSome result (λ r. r.most ≤ most_limit) }
+    {
+        let (least, most) = match self {
+            OptionName::Depth => (0, MOST_DEPTH),
+            OptionName::Step => (1, MOST_STEP),
+            OptionName::Limit => (1, MOST_LIMIT),
+            OptionName::Fine => (0, MOST_FINE),
+            OptionName::Accel | OptionName::Jump => (0, MOST_BOUND),
+            OptionName::Start | OptionName::Readback => return None,
+        };
+        Some(Range { least, most })
+    }
+
+    // Its place among the values.
+    fn place(self) -> usize
+        ensures value { result ≡ place_of self }
+        ensures few { result ≤ 7 }
+    {
+        match self {
+            OptionName::Depth => 0,
+            OptionName::Step => 1,
+            OptionName::Start => 2,
+            OptionName::Readback => 3,
+            OptionName::Limit => 4,
+            OptionName::Fine => 5,
+            OptionName::Accel => 6,
+            OptionName::Jump => 7,
+        }
+    }
+}
+
+// The option that a word names.
+fn named_by(word: &[u8]) -> Option<OptionName>
+    ensures { result ≡ commands.named_by word.now }
+{
+    let names = [
+        OptionName::Depth,
+        OptionName::Step,
+        OptionName::Start,
+        OptionName::Readback,
+        OptionName::Limit,
+        OptionName::Fine,
+        OptionName::Accel,
+        OptionName::Jump,
+    ];
+    for name in names {
+        if word == name.word() {
+            return Some(name);
+        }
+    }
+    None
+}
+
+// Whether a command that takes these options takes this one.
+fn takes(names: &[OptionName], name: OptionName) -> bool
+    ensures { result ≡ takes names.now name }
+{
+    for taken in names {
+        if taken.place() == name.place() {
+            return true;
+        }
+    }
+    false
+}
+
+/// The options that were given: the number of each, by its place. A flag has 1.
 #[derive(Clone, Copy)]
 pub struct Options {
-    /// At most 8.
-    pub depth: Option<u8>,
-    /// In milliseconds, 1 to 60,000.
-    pub step: Option<u16>,
-    /// The drones are started.
-    pub start: bool,
-    /// In micrometres per second, 1 to 999,999,999.
-    pub limit: Option<u32>,
-    /// At most 5.
-    pub fine: Option<u8>,
-    /// The memories are read back.
-    pub readback: bool,
-    /// In millimetres per second squared, at most 999,999,999.
-    pub accel: Option<u32>,
-    /// In millimetres per second, at most 999,999,999.
-    pub jump: Option<u32>,
+    pub values: [Option<u32>; 8],
 }
 
 impl Options {
     // Nothing is given.
-    const fn none() -> Options
-        ensures { result ≡ no_options }
+    fn none() -> Options
+        ensures value { result ≡ no_options }
+        ensures range { AreInRange result }
     {
-        Options {
-            depth: None,
-            step: None,
-            start: false,
-            limit: None,
-            fine: None,
-            readback: false,
-            accel: None,
-            jump: None,
-        }
+        Options { values: [None; 8] }
     }
 
-    // A depth more, unless there is one.
-    fn with_depth(self, value: &[u8]) -> Option<Options>
+    // The number of an option, if it is given.
+    fn given(self, name: OptionName) -> Option<u32>
         requires { AreInRange self }
-        ensures value { result ≡ option_and_then (noted self) (option_map given_depth (depth_of value.now)) }
+        ensures value { result ≡ given_in self name }
+        ensures range { IfSome result (IsInRange (range_of name)) }
+    {
+        self.values[name.place()]
+    }
+
+    // One option more, unless it is there, or the command doesn't take it.
+    fn noted(self, names: &[OptionName], name: OptionName, value: u32) -> Option<Options>
+        requires range { AreInRange self }
+        requires value { IsInRange (range_of name) value }
+        ensures value { result ≡ noted names.now self (record { name = name; value = value }) }
         ensures range { IfSome result AreInRange }
     {
-        let depth = number_from(value, 0, MOST_DEPTH)? as u8;
-        if self.depth.is_some() {
+        if !takes(names, name) || self.given(name).is_some() {
             return None;
         }
-        Some(Options {
-            depth: Some(depth),
-            ..self
-        })
+        let mut values = self.values;
+        values[name.place()] = Some(value);
+        Some(Options { values })
     }
 
-    // A step more, unless there is one.
-    fn with_step(self, value: &[u8]) -> Option<Options>
+    /// The depth, 0 to 8; 6 where none is given.
+    pub fn depth(self) -> u8
         requires { AreInRange self }
-        ensures value { result ≡ option_and_then (noted self) (option_map given_step (step_of value.now)) }
-        ensures range { IfSome result AreInRange }
+        ensures value { result ≡ depth_in self }
+        ensures most { result ≤ 8 }
     {
-        let step = number_from(value, 1, MOST_STEP)? as u16;
-        if self.step.is_some() {
-            return None;
-        }
-        Some(Options {
-            step: Some(step),
-            ..self
-        })
+        self.given(OptionName::Depth).unwrap_or(DEFAULT_DEPTH) as u8
     }
 
-    // A limit more, unless there is one.
-    fn with_limit(self, value: &[u8]) -> Option<Options>
+    /// The step in milliseconds, 1 to 60,000; 100 where none is given.
+    pub fn step(self) -> u16
         requires { AreInRange self }
-        ensures value { result ≡ option_and_then (noted self) (option_map given_limit (limit_of value.now)) }
-        ensures range { IfSome result AreInRange }
+        ensures value { result ≡ step_in self }
+        ensures from { 1 ≤ result }
+        ensures to { result ≤ 60000 }
     {
-        let limit = number_from(value, 1, MOST_LIMIT)? as u32;
-        if self.limit.is_some() {
-            return None;
-        }
-        Some(Options {
-            limit: Some(limit),
-            ..self
-        })
+        self.given(OptionName::Step).unwrap_or(DEFAULT_STEP) as u16
     }
 
-    // A fineness more, unless there is one.
-    fn with_fine(self, value: &[u8]) -> Option<Options>
+    /// How finely a cue is listed, 0 to 5; 5 where it isn't given.
+    pub fn fine(self) -> u8
         requires { AreInRange self }
-        ensures value { result ≡ option_and_then (noted self) (option_map given_fine (fine_of value.now)) }
-        ensures range { IfSome result AreInRange }
+        ensures value { result ≡ fine_in self }
+        ensures most { result ≤ 5 }
     {
-        let fine = number_from(value, 0, MOST_FINE)? as u8;
-        if self.fine.is_some() {
-            return None;
-        }
-        Some(Options {
-            fine: Some(fine),
-            ..self
-        })
+        self.given(OptionName::Fine).unwrap_or(DEFAULT_FINE) as u8
     }
 
-    // A limit on acceleration more, unless there is one.
-    fn with_accel(self, value: &[u8]) -> Option<Options>
+    /// The limit on speeds, if it is given, in micrometres per second.
+    pub fn limit(self) -> Option<u32>
         requires { AreInRange self }
-        ensures value { result ≡ option_and_then (noted self) (option_map given_accel (bound_of value.now)) }
-        ensures range { IfSome result AreInRange }
+        ensures value { result ≡ given_in self OptionName.Limit }
+        ensures range { IfSome result (IsInRange (range_of OptionName.Limit)) }
     {
-        let accel = number_from(value, 0, MOST_BOUND)? as u32;
-        if self.accel.is_some() {
-            return None;
-        }
-        Some(Options {
-            accel: Some(accel),
-            ..self
-        })
+        self.given(OptionName::Limit)
     }
 
-    // A limit on jumps more, unless there is one.
-    fn with_jump(self, value: &[u8]) -> Option<Options>
+    /// The limit on accelerations, if it is given, in millimetres per second squared.
+    pub fn accel(self) -> Option<u32>
         requires { AreInRange self }
-        ensures value { result ≡ option_and_then (noted self) (option_map given_jump (bound_of value.now)) }
-        ensures range { IfSome result AreInRange }
+        ensures value { result ≡ given_in self OptionName.Accel }
+        ensures range { IfSome result (IsInRange (range_of OptionName.Accel)) }
     {
-        let jump = number_from(value, 0, MOST_BOUND)? as u32;
-        if self.jump.is_some() {
-            return None;
-        }
-        Some(Options {
-            jump: Some(jump),
-            ..self
-        })
+        self.given(OptionName::Accel)
     }
 
-    // An option of two words more, unless it is there.
-    fn with_valued(self, word: &[u8], value: &[u8]) -> Option<Options>
+    /// The limit on jumps of speed, if it is given, in millimetres per second.
+    pub fn jump(self) -> Option<u32>
         requires { AreInRange self }
-        ensures value { result ≡ option_and_then (noted self) (valued word.now value.now) }
-        ensures range { IfSome result AreInRange }
+        ensures value { result ≡ given_in self OptionName.Jump }
+        ensures range { IfSome result (IsInRange (range_of OptionName.Jump)) }
     {
-        if word == b"--depth".as_slice() {
-            self.with_depth(value)
-        } else if word == b"--step".as_slice() {
-            self.with_step(value)
-        } else if word == b"--limit".as_slice() {
-            self.with_limit(value)
-        } else if word == b"--fine".as_slice() {
-            self.with_fine(value)
-        } else if word == b"--accel".as_slice() {
-            self.with_accel(value)
-        } else if word == b"--jump".as_slice() {
-            self.with_jump(value)
-        } else {
-            None
-        }
+        self.given(OptionName::Jump)
     }
 
-    // Starts more, unless they are there.
-    fn with_start(self) -> Option<Options>
+    /// Whether a flag is given.
+    pub fn has(self, flag: OptionName) -> bool
         requires { AreInRange self }
-        ensures value { result ≡ noted self given_start }
-        ensures range { IfSome result AreInRange }
+        ensures { result ≡ has self flag }
     {
-        if self.start {
-            return None;
-        }
-        Some(Options {
-            start: true,
-            ..self
-        })
-    }
-
-    // Read-back more, unless it is there.
-    fn with_readback(self) -> Option<Options>
-        requires { AreInRange self }
-        ensures value { result ≡ noted self given_readback }
-        ensures range { IfSome result AreInRange }
-    {
-        if self.readback {
-            return None;
-        }
-        Some(Options {
-            readback: true,
-            ..self
-        })
-    }
-
-    // A limit on acceleration or on jumps is given.
-    fn is_bounded(self) -> bool
-        ensures { result ≡ is_bounded self }
-    {
-        self.accel.is_some() || self.jump.is_some()
-    }
-
-    /// No option is given.
-    pub fn is_bare(self) -> bool
-        ensures { result ≡ is_bare self }
-    {
-        !self.is_bounded()
-            && self.depth.is_none()
-            && self.step.is_none()
-            && !self.start
-            && self.limit.is_none()
-            && self.fine.is_none()
-            && !self.readback
-    }
-
-    /// The depth, where no other option is given.
-    pub fn depth_alone(self) -> Option<u8>
-        requires { AreInRange self }
-        ensures value { result ≡ depth_alone self }
-        ensures most { IfSome result (λ depth. depth ≤ most_depth) }
-    {
-        if self.is_bounded()
-            || self.step.is_some()
-            || self.start
-            || self.limit.is_some()
-            || self.fine.is_some()
-            || self.readback
-        {
-            return None;
-        }
-        Some(self.depth.unwrap_or(DEFAULT_DEPTH))
-    }
-
-    /// The depth and the step, where no other option is given.
-    pub fn depth_and_step(self) -> Option<(u8, u16)>
-        requires { AreInRange self }
-        ensures value { option_map (λ given. Play given.0 given.1) result ≡ at_step self }
-        ensures range { IfSome result (λ given. IsCommand (Play given.0 given.1)) }
-    {
-        if self.is_bounded()
-            || self.start
-            || self.limit.is_some()
-            || self.fine.is_some()
-            || self.readback
-        {
-            return None;
-        }
-        Some((
-            self.depth.unwrap_or(DEFAULT_DEPTH),
-            self.step.unwrap_or(DEFAULT_STEP),
-        ))
-    }
-
-    /// The depth, whether a start is given and whether read-back is, where no other option is given.
-    pub fn depth_and_flags(self) -> Option<(u8, bool, bool)>
-        requires { AreInRange self }
-        ensures value { (make : ℕ → Bool → Bool → Command) →
-            option_map (λ given. make given.0 given.1 given.2) result ≡ at_start make self }
-        ensures most { IfSome result (λ given. given.0 ≤ most_depth) }
-    {
-        if self.is_bounded() || self.step.is_some() || self.limit.is_some() || self.fine.is_some() {
-            return None;
-        }
-        Some((
-            self.depth.unwrap_or(DEFAULT_DEPTH),
-            self.start,
-            self.readback,
-        ))
-    }
-
-    /// The depth and the limit, if there is one, where no other option is given.
-    pub fn depth_and_limit(self) -> Option<(u8, Option<u32>)>
-        requires { AreInRange self }
-        ensures value { option_map (λ given. Speed given.0 given.1) result ≡ at_limit self }
-        ensures range { IfSome result (λ given. IsCommand (Speed given.0 given.1)) }
-    {
-        if self.is_bounded()
-            || self.step.is_some()
-            || self.start
-            || self.fine.is_some()
-            || self.readback
-        {
-            return None;
-        }
-        Some((self.depth.unwrap_or(DEFAULT_DEPTH), self.limit))
-    }
-
-    /// The depth and the fineness, where no other option is given.
-    pub fn depth_and_fine(self) -> Option<(u8, u8)>
-        requires { AreInRange self }
-        ensures value { option_map (λ given. Explain given.0 given.1) result ≡ at_fine self }
-        ensures range { IfSome result (λ given. IsCommand (Explain given.0 given.1)) }
-    {
-        if self.is_bounded()
-            || self.step.is_some()
-            || self.start
-            || self.limit.is_some()
-            || self.readback
-        {
-            return None;
-        }
-        Some((
-            self.depth.unwrap_or(DEFAULT_DEPTH),
-            self.fine.unwrap_or(DEFAULT_FINE),
-        ))
-    }
-
-    /// The depth, and the limits on acceleration and on jumps, if there are such, where no other option is given.
-    pub fn depth_and_bounds(self) -> Option<(u8, Option<u32>, Option<u32>)>
-        requires { AreInRange self }
-        ensures value { option_map (λ given. Dynamics given.0 given.1 given.2) result ≡ at_bounds self }
-        ensures range { IfSome result (λ given. IsCommand (Dynamics given.0 given.1 given.2)) }
-    {
-        if self.step.is_some()
-            || self.start
-            || self.limit.is_some()
-            || self.fine.is_some()
-            || self.readback
-        {
-            return None;
-        }
-        Some((self.depth.unwrap_or(DEFAULT_DEPTH), self.accel, self.jump))
+        self.given(flag).is_some()
     }
 }
 
-/// The options that the words are, each of them at most once.
-pub fn options_of(words: &[String]) -> Option<Options>
-    ensures value { result ≡ continued no_options (map string_bytes words.now) }
+/// What the words after a command's name give, of a command that takes these options.
+pub fn options_for(names: &[OptionName], words: &[String]) -> Option<Options>
+    ensures value { result ≡ options_for names.now (map string_bytes words.now) }
     ensures range { IfSome result AreInRange }
 {
     let mut options = Options::none();
     let mut rest = words;
     while let Some((word, after)) = rest.split_first() {
-        if word.as_bytes() == b"--start".as_slice() {
-            options = options.with_start()?;
-            rest = after;
-        } else if word.as_bytes() == b"--readback".as_slice() {
-            options = options.with_readback()?;
-            rest = after;
-        } else {
-            let (value, after) = after.split_first()?;
-            options = options.with_valued(word.as_bytes(), value.as_bytes())?;
-            rest = after;
+        let name = named_by(word.as_bytes())?;
+        match name.range() {
+            None => {
+                options = options.noted(names, name, 1)?;
+                rest = after;
+            }
+            Some(range) => {
+                let (value, after) = after.split_first()?;
+                let n = number_from(value.as_bytes(), range.least, range.most)?;
+                options = options.noted(names, name, n)?;
+                rest = after;
+            }
         }
     }
     Some(options)
