@@ -2,3 +2,4 @@ pub mod RowLemmas
 pub mod Points
 pub mod ScheduleLaws
 pub mod LineLemmas
+pub mod Unaltered

@@ -1,11 +1,12 @@
 -- A schedule as text: one event a line (docs/RADIO.md, "Schedules").
-use Rattle.std.specs.Prelude.{ℕ, ◌+◌, ◌-◌, Bool, ◌&&◌, ◌==◌, nat_le, if◌then◌else◌, List, [], ◌∷◌, length, codes, slice_index_or, Option, Some, None, Result, Ok, Err}
+use Rattle.std.specs.Prelude.{◌≡◌, ℕ, ◌+◌, ◌-◌, Bool, false, ◌&&◌, ◌==◌, nat_le, if◌then◌else◌, List, [], ◌∷◌, length, codes, slice_index_or, Option, Some, None, Result, Ok, Err}
 use Rattle.std.specs.Str.{bytes_eq}
 use Rattle.text_lines.specs.declared.token.Comments.TheVariants.{Absent}
 use Rattle.text_lines.specs.Words.{Line, lines_with_words}
 use Rattle.text_lines.specs.Numbers.{natural_of}
 use Rattle.upload_model.specs.declared.events.WorldEvent.{WorldEvent}
 use Rattle.upload_model.specs.declared.events.WorldEvent.TheVariants.{Tick, Take, Hear, Alter}
+use Rattle.upload_model.specs.Theorem.{IsUnaltered}
 use Rattle.fleet_world.specs.declared.schedule.TheConstants.{MOST_DIGITS, ADDRESS_DIGITS, LAST_ADDRESS, VALUE_DIGITS, MOST_VALUE}
 
 -- The text counts packets and answers from 1, an event counts them from 0. There is no packet 0.
@@ -86,3 +87,8 @@ events_of readback names lines = events_by (λ words. event_of readback names wo
 -- its lines with words in order, or the number of the first faulty line. A `#` is a byte like others.
 abbrev pub schedule_of : Bool → List (List ℕ) → List ℕ → Result (List WorldEvent) ℕ
 schedule_of readback names text = events_of readback names (lines_with_words Absent text)
+
+-- Without read-back a schedule alters no byte.
+abbrev pub ScheduleLaw : Type 0
+ScheduleLaw =
+    (names : List (List ℕ)) (text : List ℕ) (events : List WorldEvent) → schedule_of false names text ≡ Ok events → IsUnaltered events

@@ -12,6 +12,6 @@ mod mail;
 mod schedule;
 mod world;
 
-pub use schedule::{MOST_TEXT, Name, ScheduleFault, limits_law, read_schedule};
+pub use schedule::{MOST_TEXT, Name, ScheduleFault, limits_law, read_schedule, schedule_law};
 pub use upload_model::WorldEvent;
 pub use world::World;

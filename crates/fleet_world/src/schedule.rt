@@ -2,7 +2,7 @@
 
 ghost use Rattle.std.specs.Prelude.{◌≡◌, ℕ, Bool, ◌+◌, ◌<◌, ◌≤◌, ◌^◌, List, [], ◌∷◌, ◌++◌, length, map, Some, None, Ok, IfOk, IfErr, OnOk};
 ghost use Rattle.text_lines.specs.Tokens.{words_in};
-ghost use Rattle.fleet_world.specs.Schedules.{number_of as number_word, place_from, event_with, number_to, alteration_of, event_of, events_of, schedule_of};
+ghost use Rattle.fleet_world.specs.Schedules.{number_of as number_word, place_from, event_with, number_to, alteration_of, event_of, events_of, schedule_of, ScheduleLaw};
 ghost use Rattle.fleet_world.specs.Faults.{FaultGives};
 ghost use Rattle.fleet_world.specs.Steps.{IsLine, behind};
 ghost use Rattle.text_lines.specs.Words.{numbered};
@@ -37,6 +37,11 @@ pub fn limits_law()
     ensures address { LAST_ADDRESS ≡ 4095 }
     ensures value_digits { VALUE_DIGITS ≡ 3 }
     ensures value { MOST_VALUE ≡ 255 }
+{}
+
+/// A law. Without read-back a schedule alters no byte.
+pub fn schedule_law()
+    ensures { ScheduleLaw }
 {}
 
 /// A drone's name.
@@ -144,12 +149,7 @@ fn alteration(text: &[u8], names: &[Name], words: &[Token]) -> Option<WorldEvent
 
 /// The event of a line with these words, where it is `tick`, or `take` or `hear` with a name and a number,
 /// or with read-back an alteration (docs/RADIO.md, "Schedules").
-fn event_on(
-    readback: bool,
-    text: &[u8],
-    names: &[Name],
-    words: &[Token],
-) -> Option<WorldEvent>
+fn event_on(readback: bool, text: &[u8], names: &[Name], words: &[Token]) -> Option<WorldEvent>
     requires { length names.now ≤ MOST_DRONES }
     ensures { result ≡ event_of readback (map (λ name. name.items) names.now) (words_in text.now words.now) }
 {

@@ -193,7 +193,11 @@ impl World {
         make_room(self.sent.as_mut_slice(), MOST_SENT)?;
         let mut out = Out::new();
         let progress = self.host.event(e, &mut out);
-        put_all(self.host.session(), out.as_slice(), self.sent.as_mut_slice());
+        put_all(
+            self.host.session(),
+            out.as_slice(),
+            self.sent.as_mut_slice(),
+        );
         self.progress = progress;
         Ok(progress)
     }

@@ -4,8 +4,9 @@ use Rattle.std.proofs.lemmas.List.Elements.{All-nil, All-cons}
 use Rattle.link_frames.specs.declared.frame.Frame.{Frame}
 use Rattle.link_frames.specs.declared.frame.Frame.TheVariants as frame
 use Rattle.link_frames.specs.Frames.{IsFrame}
-use Rattle.upload_model.specs.Sessions.{Upload, packet_at, write_count, packet_count}
-use Rattle.upload_model.specs.Hosts.{acked, open_writes, all_loaded, flight_of, flight_after, ticks, all_packets, ending, progress_within, progress, out}
+use Rattle.upload_model.specs.Sessions.{Upload, packet_at, write_count, read_count, packet_count}
+use Rattle.upload_model.specs.Replies.{reply_in, reply_to}
+use Rattle.upload_model.specs.Hosts.{acked, acked_from, acknowledges, all_settled, phase_of, flight_in, flight_at, ticks, all_packets, ending, progress_within, progress, out}
 use Rattle.link_upload.specs.Links.{link_of}
 use Rattle.link_upload.specs.Sends.{events_in, sent_over}
 use Rattle.link_upload.specs.Uploads.{UploadGives}
@@ -14,14 +15,14 @@ abbrev path : List ℕ
 path = 0 ∷ 0 ∷ 0 ∷ 0 ∷ 0xE8 ∷ 3 ∷ 0 ∷ 0 ∷ 3 ∷ 0xD0 ∷ 7 ∷ 0 ∷ 0 ∷ 0 ∷ 0 ∷ 0 ∷ 0 ∷ 0xE8 ∷ 3 ∷ 0xE8 ∷ 3 ∷ 0xE8 ∷ 3 ∷ 0xE8 ∷ 3 ∷ 0 ∷ 0 ∷ 0 ∷ []
 
 abbrev session : Bool → Upload
-session start = record { memory_id = 2; offset = 0; trajectory_id = 0; loads = record { bytes = path; pieces = 1 } ∷ []; start = start }
+session start = record { memory_id = 2; offset = 0; trajectory_id = 0; loads = record { bytes = path; pieces = 1 } ∷ []; readback = false; start = start }
 
 -- the frames of the first two writes
 abbrev first : List ℕ
 first = 0x50 ∷ 1 ∷ 0x1E ∷ 0x4E ∷ 2 ∷ 0 ∷ 0 ∷ 0 ∷ 0 ∷ (take 24 path ++ 0x50 ∷ 1 ∷ 0x0A ∷ 0x4E ∷ 2 ∷ 0x18 ∷ 0 ∷ 0 ∷ 0 ∷ 3 ∷ 0 ∷ 0 ∷ 0 ∷ [])
 
 before_any : sent_over (link_of (session false)) [] ≡ first
-unfolding sent_over packet_at write_count packet_count acked open_writes all_loaded flight_of flight_after out progress progress_within ending all_packets ticks
+unfolding sent_over packet_at write_count read_count packet_count acked acked_from acknowledges reply_to reply_in all_settled phase_of flight_in flight_at out progress progress_within ending all_packets ticks
 before_any = refl
 
 -- the first write is refused with status 5
@@ -29,7 +30,7 @@ abbrev refusal : Frame
 refusal = frame.Packet 1 (0x4E ∷ 2 ∷ 0 ∷ 0 ∷ 0 ∷ 0 ∷ 5 ∷ [])
 
 row : UploadGives (link_of (session false)) (0x50 ∷ 1 ∷ 7 ∷ 0x4E ∷ 2 ∷ 0 ∷ 0 ∷ 0 ∷ 0 ∷ 5 ∷ []) 10 (first ++ 0x45 ∷ 10 ∷ [])
-unfolding sent_over packet_at write_count packet_count acked open_writes all_loaded flight_of flight_after out progress progress_within ending all_packets ticks
+unfolding sent_over packet_at write_count read_count packet_count acked acked_from acknowledges reply_to reply_in all_settled phase_of flight_in flight_at out progress progress_within ending all_packets ticks
 row = record {
   frames = refusal ∷ [];
   rest = [];

@@ -10,7 +10,9 @@ use Rattle.link_upload.specs.declared.exchange.Stepped.{Stepped}
 use Rattle.link_upload.specs.declared.exchange.Stepped.TheVariants.{Answered, End as StepEnd, Faulty as StepFaulty}
 use Rattle.link_upload.specs.Sends.{answers_after, event_in, events_in, packet_frames, sent_over}
 use Rattle.link_upload.specs.Uploads.{EndsWith, Takes, UploadGives, frame_limit}
-use Rattle.link_upload.specs.Links.{Link}
+use Rattle.link_upload.specs.Links.{Link, link_of}
+use Rattle.upload_core.specs.HostStandsFor.{HostStandsFor}
+use Rattle.upload_core.specs.HostState.{HostState, IsPacketOf, view_of}
 use Rattle.upload_model.specs.declared.events.Event.{Event}
 use Rattle.upload_model.specs.declared.events.Sent.{Sent}
 
@@ -20,28 +22,24 @@ NextGives (Whole f) old new = IsFrame f × Consumes old new (frame_bytes f)
 NextGives End old new = IsAtEnd old
 NextGives Faulty old new = IfSome old (λ bytes. (1 ≤ length bytes) × BeginsNoFrame bytes)
 
--- What a host is to a link: what it does, the events that it stands for, and its packets.
-pub record AtLink : Type 1 where
-  pub link : Link
-  pub Stands : List Event → Type 0
-  pub Knows : Sent → Type 0
-
--- A host took this frame from the bytes to come, of an upload that was going: the status with which it has ended the upload then, if it
--- has, and what is to be sent.
-pub record TakesFrame (status_now : Option ℕ) (old new : AtLink) (sent : List Sent) (before after : Option (List ℕ)) : Type 0 where
+-- The host took this frame from the bytes to come, of an upload that was going: the status with which it has ended the
+-- upload then, if it has, and what is to be sent.
+pub record TakesFrame (status_now : Option ℕ) (old new : HostState) (sent : List Sent) (before after : Option (List ℕ)) : Type 0 where
   pub frame : Frame
   pub formed : IsFrame frame
   pub taken : Consumes before after (frame_bytes frame)
-  pub link : new.link ≡ old.link
-  pub stands : (h : List Event) → old.Stands h → old.link.ended h ≡ None → new.Stands (h ++ event_in old.link frame)
-  pub answer : (h : List Event) → old.Stands h → old.link.ended h ≡ None → status_now ≡ old.link.ended (h ++ event_in old.link frame)
-  pub sends : (h : List Event) → old.Stands h → old.link.ended h ≡ None →
-      packet_frames old.link sent ≡ answers_after old.link h (event_in old.link frame)
-  pub known : All new.Knows sent
+  pub session : new.session ≡ old.session
+  pub stands : (h : List Event) → HostStandsFor (view_of old) h → (link_of old.session).ended h ≡ None →
+      HostStandsFor (view_of new) (h ++ event_in (link_of old.session) frame)
+  pub answer : (h : List Event) → HostStandsFor (view_of old) h → (link_of old.session).ended h ≡ None →
+      status_now ≡ (link_of old.session).ended (h ++ event_in (link_of old.session) frame)
+  pub sends : (h : List Event) → HostStandsFor (view_of old) h → (link_of old.session).ended h ≡ None →
+      packet_frames (link_of old.session) sent ≡ answers_after (link_of old.session) h (event_in (link_of old.session) frame)
+  pub known : All (IsPacketOf new.session) sent
   pub statuses : IfSome status_now (λ status. Contains (0 ∷ 9 ∷ 10 ∷ 14 ∷ []) status)
 
 -- What a step gives of the bytes to come: a frame that the host took, the end, or bytes that begin with no whole frame.
-abbrev pub StepGives : Stepped → AtLink → AtLink → List Sent → Option (List ℕ) → Option (List ℕ) → Type 0
+abbrev pub StepGives : Stepped → HostState → HostState → List Sent → Option (List ℕ) → Option (List ℕ) → Type 0
 StepGives (Answered status_now) old new sent before after = TakesFrame status_now old new sent before after
 StepGives StepEnd old new sent before after = NextGives End before after
 StepGives StepFaulty old new sent before after = NextGives Faulty before after

@@ -65,8 +65,8 @@ fn step<S: Source>(
     requires sound { IsTrue parts.old.sound }
     requires at_end { IsTrue parts.old.ended → IsAtEnd (S.left source.old) }
     requires holds { length parts.old.waiting ≤ buffer_bytes }
-    ensures gives { IfOk result (λ stepped. StepGives stepped (record { link = link_of host.old.session; Stands = HostStandsFor (view_of host.old); Knows = IsPacketOf host.old.session })
-        (record { link = link_of host.new.session; Stands = HostStandsFor (view_of host.new); Knows = IsPacketOf host.new.session }) out.new.items (stream parts.old (S.left source.old)) (stream parts.new (S.left source.new))) }
+    ensures gives { IfOk result (λ stepped. StepGives stepped host.old host.new out.new.items
+        (stream parts.old (S.left source.old)) (stream parts.new (S.left source.new))) }
     ensures failed { OnErr result ((parts.old.ended ≡ false) × (parts.new.waiting ≡ [])
         × ((begun : List ℕ) × IsBegun begun × Consumes (stream parts.old (S.left source.old)) (S.left source.new) begun)) }
     ensures sound { OnOk result (IsTrue parts.new.sound) }
@@ -182,16 +182,12 @@ fn finish<K: Sink>(sink: &mut K, status: u8) -> u8
     }
 }
 
-/// Carries an upload through link frames (docs/RADIO.md, "Link frames"), of a host to which nothing has happened. What the host sends goes into the sink, and what
-/// the source gives goes to the host, until the upload is done (0), given up (9) or refused (10), or with read-back a byte
-/// differs (14), 4,000,000 frames were taken (13), a byte has no place or the last frame isn't finished (11), the source ends (8), or a read fails (6). The end
-/// frame with that status goes out last. It returns the status, or 7 where a write failed. It takes no memory.
-pub fn upload<S: Source, K: Sink>(
-    parts: &mut Parts,
-    source: &mut S,
-    host: Host,
-    sink: &mut K,
-) -> u8
+/// Carries an upload through link frames (docs/RADIO.md, "Link frames"), of a host to which nothing has happened.
+/// What the host sends goes into the sink, and what the source gives goes to the host, until the upload is done
+/// (0), given up (9) or refused (10), or with read-back a byte differs (14), 4,000,000 frames were taken (13), a
+/// byte has no place or the last frame isn't finished (11), the source ends (8), or a read fails (6). The end frame
+/// with that status goes out last. It returns the status, or 7 where a write failed. It takes no memory.
+pub fn upload<S: Source, K: Sink>(parts: &mut Parts, source: &mut S, host: Host, sink: &mut K) -> u8
     requires sound { IsTrue parts.old.sound }
     requires at_end { IsTrue parts.old.ended → IsAtEnd (S.left source.old) }
     requires holds { length parts.old.waiting ≤ buffer_bytes }

@@ -1,24 +1,24 @@
 -- Worlds whose drones are the same at the start are the same, as far as the session's drones go.
-use Rattle.std.proofs.Common.{◌≡◌, ◌∙◌, ℕ, zero, suc, ◌<◌, ◌==◌, Bool, true, false, cond, List, [], ◌∷◌, ◌++◌, length, Option, Some, None, refl, ap, arith, All, inl, inr}
+use Rattle.std.proofs.Common.{◌≡◌, ◌∙◌, ℕ, zero, suc, ◌<◌, ◌==◌, Bool, true, false, cond, nat_lt, ◌&&◌, List, [], ◌∷◌, ◌++◌, length, Option, Some, None, refl, ap, arith, All, inl, inr}
 use Rattle.std.specs.Prelude.{slice_get}
 use Rattle.std.proofs.lemmas.List.Elements.{All-head, All-tail}
 use Rattle.std.proofs.lemmas.Bool.{cases_lt, le-ltb, lt-ltb}
 use Rattle.upload_model.specs.declared.events.Event.{Event}
 use Rattle.upload_model.specs.declared.events.Event.TheVariants as event
 use Rattle.upload_model.specs.declared.events.WorldEvent.{WorldEvent}
-use Rattle.upload_model.specs.declared.events.WorldEvent.TheVariants.{Tick, Take, Hear}
+use Rattle.upload_model.specs.declared.events.WorldEvent.TheVariants.{Tick, Take, Hear, Alter}
 use Rattle.upload_model.specs.Drones.{DroneState, Handled, handled}
 use Rattle.upload_model.specs.Sessions.{Upload, drone_count}
 use Rattle.upload_model.specs.Hosts.{out, progress}
 use Rattle.upload_model.specs.Worlds as Worlds
-use Rattle.upload_model.specs.Worlds.{packets_for, host_event, start_world, run, world, happens, took, take_named, hear_named, option_list}
+use Rattle.upload_model.specs.Worlds.{packets_for, host_event, start_world, run, world, happens, altered, changed, took, take_named, hear_named, option_list}
 use Rattle.firmware_memory.specs.declared.drone.Drone.{Drone}
 use Rattle.firmware_memory.specs.Shown.{shown}
 use Rattle.fleet_world.specs.WorldState.{WorldState, WorldStandsAt, WorldStandsFor, state_at}
 use Rattle.rehearsal.specs.Rehearsed.{blank_drone, rehearsed}
 
 -- Two worlds are the same, but for drones past the session's last.
-pub record Agree (s : Upload) (v w : Worlds.World) : Type 0 where
+record Agree (s : Upload) (v w : Worlds.World) : Type 0 where
   pub heard : v.heard ≡ w.heard
   pub drones : (d : ℕ) → d < drone_count s → v.drones d ≡ w.drones d
   pub sent : (d : ℕ) → v.sent d ≡ w.sent d
@@ -34,11 +34,11 @@ agree-event s v w e a = record {
   given = a.given;
 }
 
-pub changed-same : {A : Type 0} (b : Bool) (x y p q : A) → x ≡ y → p ≡ q → cond b x p ≡ cond b y q
+changed-same : {A : Type 0} (b : Bool) (x y p q : A) → x ≡ y → p ≡ q → cond b x p ≡ cond b y q
 changed-same true x y p q first second = first
 changed-same false x y p q first second = second
 
-pub agree-take : (s : Upload) (v w : Worlds.World) (d : ℕ) (packet : Option (List ℕ)) → d < drone_count s → Agree s v w → Agree s (take_named v d packet) (take_named w d packet)
+agree-take : (s : Upload) (v w : Worlds.World) (d : ℕ) (packet : Option (List ℕ)) → d < drone_count s → Agree s v w → Agree s (take_named v d packet) (take_named w d packet)
 agree-take s v w d None below a = a
 agree-take s v w d (Some packet) below a =
     let same : handled (v.drones d) packet ≡ handled (w.drones d) packet = ap (λ (x : DroneState). handled x packet) (a.drones d below) in
@@ -56,6 +56,23 @@ agree-hear : (s : Upload) (v w : Worlds.World) (d : ℕ) (packet : Option (List 
 agree-hear s v w d None a = a
 agree-hear s v w d (Some packet) a = agree-event s v w (event.Up d packet) a
 
+-- the world in which a byte of drone d is set to a value
+abbrev with_byte : Worlds.World → ℕ → ℕ → ℕ → Worlds.World
+with_byte w d address value = record w { drones = changed w.drones d (altered (w.drones d) address value) }
+
+agree-alter : (s : Upload) (v w : Worlds.World) (d address value : ℕ) → d < drone_count s → Agree s v w → Agree s (with_byte v d address value) (with_byte w d address value)
+agree-alter s v w d address value below a = record {
+  heard = a.heard;
+  drones = λ i l. changed-same (i == d) (altered (v.drones d) address value) (altered (w.drones d) address value) (v.drones i) (w.drones i)
+      (ap (λ (x : DroneState). altered x address value) (a.drones d below)) (a.drones i l);
+  sent = a.sent;
+  given = a.given;
+}
+
+agree-both : (s : Upload) (t : Bool) (v w x y : Worlds.World) → Agree s v w → Agree s x y → Agree s (cond t v x) (cond t w y)
+agree-both s true v w x y a b = a
+agree-both s false v w x y a b = b
+
 agree-happens : (s : Upload) (v w : Worlds.World) (e : WorldEvent) → Agree s v w → Agree s (happens s v e) (happens s w e)
 unfolding happens
 agree-happens s v w Tick a = agree-event s v w event.Tick a
@@ -65,6 +82,10 @@ agree-happens s v w (Take d n) a = elim (cases_lt d (drone_count s)) [
 ]
 agree-happens s v w (Hear d n) a = elim (cases_lt d (drone_count s)) [
   | inl below ↦ rw (lt-ltb d (drone_count s) below, a.given d below) (agree-hear s v w d (slice_get (w.given d) n) a)
+  | inr past ↦ rw (le-ltb d (drone_count s) past) a
+]
+agree-happens s v w (Alter d address value) a = elim (cases_lt d (drone_count s)) [
+  | inl below ↦ agree-both s (nat_lt d (drone_count s) && nat_lt address 4096) (with_byte v d address value) (with_byte w d address value) v w (agree-alter s v w d address value below a) a
   | inr past ↦ rw (le-ltb d (drone_count s) past) a
 ]
 
@@ -89,7 +110,7 @@ agree-stands x s v w a at = record {
 }
 
 -- one of a list of blank drones
-pub blank-at : (s : Upload) (drones : List Drone) (d : ℕ) → All (λ (x : Drone). shown x ≡ blank_drone s) drones → d < length drones → state_at drones d ≡ blank_drone s
+blank-at : (s : Upload) (drones : List Drone) (d : ℕ) → All (λ (x : Drone). shown x ≡ blank_drone s) drones → d < length drones → state_at drones d ≡ blank_drone s
 blank-at s [] d blank below = absurd (omega arith)
 blank-at s (x ∷ drones) zero blank below = All-head (λ (y : Drone). shown y ≡ blank_drone s) x drones blank
 blank-at s (x ∷ drones) (suc d) blank below = blank-at s drones d (All-tail (λ (y : Drone). shown y ≡ blank_drone s) x drones blank) (omega arith)

@@ -1,5 +1,5 @@
 -- Lines of a memory and of a table, one after another.
-use Rattle.std.proofs.Common.{◌≡◌, ◌∙◌, ℕ, zero, suc, ◌+◌, ◌*◌, ◌/◌, ◌%◌, ◌<◌, true, List, [], ◌∷◌, ◌++◌, length, drop, take, map, get_or, slice_get, ℤ, Option, Some, None, codes, decimal, refl, sym, ap, append_assoc, append-nil, arith}
+use Rattle.std.proofs.Common.{◌≡◌, ◌∙◌, ℕ, suc, ◌+◌, ◌*◌, ◌/◌, ◌%◌, ◌<◌, true, List, [], ◌∷◌, ◌++◌, length, drop, take, map, get_or, ℤ, Option, Some, None, codes, decimal, refl, sym, ap, append_assoc, append-nil, arith}
 use Rattle.std.specs.List.{flat_map, range_with_len}
 use Rattle.std.proofs.lemmas.List.{drop_more, map-append, length-map, length-take}
 use Rattle.std.proofs.lemmas.Grind.{flat_map-append, take_at_read}
@@ -77,20 +77,14 @@ four-same f a b c d a' b' c' d' p q r s = cc
 
 -- ---- drone by drone
 
--- what stands at a place of a table is below its length
-pub place-below : (table : List (Option Def)) (id : ℕ) (o : Option Def) → slice_get table id ≡ Some o → id < length table
-place-below [] id o is = absurd (cc)
-place-below (x ∷ table) zero o is = omega arith
-place-below (x ∷ table) (suc id) o is = omega (arith, place-below table id o is)
-
 -- one drone more
-pub texts-push : (Decodes : DroneState → Option Traj → Type 0) (drones : ℕ → DroneState) (n m : ℕ) (names : List (List ℕ)) (said : List ℕ) (name : List ℕ) (o : Option Traj) → n + length names ≡ m →
-    AreTexts Decodes drones n names said → Decodes (drones m) o → AreTexts Decodes drones n (names ++ name ∷ []) (said ++ drone_text name (drones m) o)
-texts-push Decodes drones n m [] said name o here are decodes =
+pub texts-push : (drones : ℕ → DroneState) (id n m : ℕ) (names : List (List ℕ)) (said : List ℕ) (name : List ℕ) (o : Option Traj) → n + length names ≡ m →
+    AreTexts drones id n names said → IsFound id (drones m) o → AreTexts drones id n (names ++ name ∷ []) (said ++ drone_text name (drones m) o)
+texts-push drones id n m [] said name o here are is =
     let same : n ≡ m = omega arith in
-    (o, [], rw same decodes, refl, rw (are, same) (sym (append-nil (drone_text name (drones m) o))))
-texts-push Decodes drones n m (x ∷ names) said name o here are decodes =
-    let later = texts-push Decodes drones (suc n) m names are.1 name o (omega arith) are.3 decodes in (
+    (o, [], rw same is, refl, rw (are, same) (sym (append-nil (drone_text name (drones m) o))))
+texts-push drones id n m (x ∷ names) said name o here are is =
+    let later = texts-push drones id (suc n) m names are.1 name o (omega arith) are.3 is in (
       are.0,
       are.1 ++ drone_text name (drones m) o,
       are.2,
@@ -99,20 +93,15 @@ texts-push Decodes drones n m (x ∷ names) said name o here are decodes =
     )
 
 -- the text of the first drones, and of one more
-pub texts-next : {N : Type 0} (Decodes : DroneState → Option Traj → Type 0) (f : N → List ℕ) (names : List N) (n0 : N) (drones : ℕ → DroneState) (d : ℕ) (said name : List ℕ) (o : Option Traj) → d < length names → name ≡ f (get_or names d n0) →
-    AreTexts Decodes drones 0 (map f (take d names)) said → Decodes (drones d) o → AreTexts Decodes drones 0 (map f (take (d + 1) names)) (said ++ drone_text name (drones d) o)
-texts-next Decodes f names n0 drones d said name o below is are decodes =
+pub texts-next : {N : Type 0} (drones : ℕ → DroneState) (id : ℕ) (f : N → List ℕ) (names : List N) (n0 : N) (d : ℕ) (said name : List ℕ) (o : Option Traj) → d < length names → name ≡ f (get_or names d n0) →
+    AreTexts drones id 0 (map f (take d names)) said → IsFound id (drones d) o → AreTexts drones id 0 (map f (take (d + 1) names)) (said ++ drone_text name (drones d) o)
+texts-next drones id f names n0 d said name o below is are found =
     let more : map f (take (d + 1) names) ≡ map f (take d names) ++ name ∷ [] =
     ap (map f) (take_at_read names d n0 below).1 ∙ map-append f (take d names) (get_or names d n0 ∷ []) ∙ ap (λ (n : List ℕ). map f (take d names) ++ n ∷ []) (sym is) in
     let many : length (map f (take d names)) ≡ d = omega (arith, length-map (take d names) f, length-take d names) in
-    rw more (texts-push Decodes drones 0 d (map f (take d names)) said name o (omega arith) are decodes)
+    rw more (texts-push drones id 0 d (map f (take d names)) said name o (omega arith) are found)
 
 -- after how a trajectory ends the last line is empty
 pub ending-fresh : (text : List ℕ) (o : Option Traj) → is_line_empty (text ++ ending_line o) ≡ true
 ending-fresh text None = fresh_after_line text (codes "ends") (codes "none" ∷ [])
 ending-fresh text (Some t) = fresh_after_line text (codes "ends") (map (λ axis. signed_decimal (last_value t axis)) (0 ∷ 1 ∷ 2 ∷ 3 ∷ []))
-
--- what is found of a memory, or that none is
-pub found-is : (id : ℕ) (x : DroneState) (o : Option Traj) → IfSome o (λ t. DecodesTo x id t) → IfNone o ((t : Traj) → DecodesTo x id t → ⊥) → IsFound id x o
-found-is id x None some none = none
-found-is id x (Some t) some none = some

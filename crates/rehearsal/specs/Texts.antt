@@ -64,31 +64,18 @@ drone_text name drone found =
     name_line name ++ (memory_lines drone.memory
     ++ (entry_lines 0 drone.table ++ (started_line drone.started ++ ending_line found)))
 
--- The memory decodes to this trajectory under the id; it decodes to one.
-abbrev pub IsDecoded : ℕ → DroneState → Option Traj → Type 0
-IsDecoded id drone (Some t) = DecodesTo drone id t
-IsDecoded id drone None = ⊥
-
 -- The memory decodes to this trajectory under the id, or to none.
 abbrev pub IsFound : ℕ → DroneState → Option Traj → Type 0
 IsFound id drone (Some t) = DecodesTo drone id t
 IsFound id drone None = (t : Traj) → DecodesTo drone id t → ⊥
 
--- What is said of drones of these names, the first of which has number d, where each memory decodes so.
-abbrev pub AreTexts : (DroneState → Option Traj → Type 0) → (ℕ → DroneState) → ℕ → List (List ℕ) → List ℕ → Type 0
-AreTexts Decodes drones d [] text = text ≡ []
-AreTexts Decodes drones d (name ∷ names) text =
-    (found : Option Traj) × (rest : List ℕ) × Decodes (drones d) found × AreTexts Decodes drones (suc d) names rest
+-- What is said of drones of these names, the first of which has number d.
+abbrev pub AreTexts : (ℕ → DroneState) → ℕ → ℕ → List (List ℕ) → List ℕ → Type 0
+AreTexts drones id d [] text = text ≡ []
+AreTexts drones id d (name ∷ names) text =
+    (found : Option Traj) × (rest : List ℕ) × IsFound id (drones d) found × AreTexts drones id (suc d) names rest
     × (text ≡ drone_text name (drones d) found ++ rest)
 
--- the first line, and what is said of the drones
-abbrev pub IsTextBy : (DroneState → Option Traj → Type 0) → (ℕ → DroneState) → List (List ℕ) → List ℕ → Type 0
-IsTextBy Decodes drones names text = (rest : List ℕ) × AreTexts Decodes drones 0 names rest × (text ≡ title_line ++ rest)
-
--- the text of a rehearsal that is done: each memory decodes to some trajectory
+-- The text of a rehearsal that is done: the first line, and what is said of the drones.
 abbrev pub IsRehearsalText : (ℕ → DroneState) → ℕ → List (List ℕ) → List ℕ → Type 0
-IsRehearsalText drones id names text = IsTextBy (IsDecoded id) drones names text
-
--- the text of a rehearsal with read-back that is done: a memory that was altered may decode to none
-abbrev pub IsCarefulText : (ℕ → DroneState) → ℕ → List (List ℕ) → List ℕ → Type 0
-IsCarefulText drones id names text = IsTextBy (IsFound id) drones names text
+IsRehearsalText drones id names text = (rest : List ℕ) × AreTexts drones id 0 names rest × (text ≡ title_line ++ rest)

@@ -1,16 +1,14 @@
 //! A schedule over blank drones.
 
-ghost use Rattle.std.specs.Prelude.{◌≡◌, All, false, length, IfOk};
+ghost use Rattle.std.specs.Prelude.{◌≡◌, All, length, IfOk};
 ghost use Rattle.upload_model.specs.Sessions.{drone_count};
 ghost use Rattle.firmware_memory.specs.declared.drone.Drone.{Drone};
 ghost use Rattle.firmware_memory.specs.Shown.{shown};
 ghost use Rattle.fleet_world.specs.WorldState.{WorldStandsAt};
-ghost use Rattle.readback_core.specs.CarefulWorldState.{CarefulWorldStandsAt};
-ghost use Rattle.rehearsal.specs.Rehearsed.{blank_drone, careful_rehearsed, rehearsed};
+ghost use Rattle.rehearsal.specs.Rehearsed.{blank_drone, rehearsed};
 
 use firmware_memory::{Drone, MEMORY_BYTES, make};
 use fleet_world::{World, WorldEvent};
-use readback_core::{Careful, CarefulEvent, CarefulWorld};
 use std::alloc::{AllocError, Global};
 use upload_core::Session;
 
@@ -37,27 +35,6 @@ pub fn rehearse(alloc: Global, session: Session, events: &[WorldEvent]) -> Resul
 {
     let drones = blank_drones(alloc, &session)?;
     let mut world = World::make(alloc, session, drones)?;
-    for e in events {
-        world.step(*e)?;
-    }
-    Ok(world)
-}
-
-/// The careful world of a session without starts after these events, where each drone begins blank, as in
-/// `rehearse`; `start` tells whether the drones are started after their reads (docs/RADIO.md, "Read-back").
-pub fn rehearse_carefully(
-    alloc: Global,
-    session: Session,
-    start: bool,
-    events: &[CarefulEvent],
-) -> Result<CarefulWorld, AllocError>
-    requires plain { session.start ≡ false }
-    ensures { IfOk result (λ w. CarefulWorldStandsAt w (record { session = session; starts = start })
-        (careful_rehearsed session start events.now)) }
-{
-    let drones = blank_drones(alloc, &session)?;
-    let careful = Careful::make(alloc, session, start)?;
-    let mut world = CarefulWorld::make(alloc, careful, drones)?;
     for e in events {
         world.step(*e)?;
     }

@@ -10,5 +10,5 @@
 mod blank;
 mod text;
 
-pub use blank::{rehearse, rehearse_carefully};
-pub use text::{careful_text, memory_text};
+pub use blank::rehearse;
+pub use text::memory_text;

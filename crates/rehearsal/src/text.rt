@@ -7,15 +7,14 @@ ghost use Rattle.firmware_memory.specs.Shown.{shown};
 ghost use Rattle.fleet_io.specs.Words.{is_line_empty, with_word, hex_digit, IsWord};
 ghost use Rattle.traj_codec.specs.declared.traj.Traj.{Traj};
 ghost use Rattle.fleet_world.specs.WorldState.{state_at};
-ghost use Rattle.firmware_memory.specs.Decoded.{DecodesTo, last_value};
+ghost use Rattle.firmware_memory.specs.Decoded.{last_value};
 ghost use Rattle.rehearsal.specs.Texts.{title_line, name_line, address_word, memory_line, memory_lines};
-ghost use Rattle.rehearsal.specs.Texts.{entry_line, entry_lines, started_word, started_line, ends_line, ending_line, drone_text, IsCarefulText, IsDecoded, IsFound, IsRehearsalText};
+ghost use Rattle.rehearsal.specs.Texts.{entry_line, entry_lines, started_word, started_line, ends_line, ending_line, drone_text, IsFound, IsRehearsalText};
 
 use firmware_memory::{Def, Drone, MEMORY_BYTES, TABLE_ENTRIES, curve_of};
 use fleet_io::Lines;
 use fleet_world::{Name, World};
 use integer_player::last_values;
-use readback_core::CarefulWorld;
 use std::alloc::{AllocError, Global};
 use traj_codec::Traj;
 
@@ -126,14 +125,6 @@ fn put_place(text: &mut Lines, id: u8, entry: Option<Def>) -> Result<(), AllocEr
     }
 }
 
-// The places of a table.
-fn places(table: &[Option<Def>; TABLE_ENTRIES]) -> &[Option<Def>]
-    ensures same { result.now ≡ table.now }
-    ensures many { length result.now ≡ 10 }
-{
-    table.as_slice()
-}
-
 // The entries of a table, in order of their ids.
 fn put_entries(text: &mut Lines, table: &[Option<Def>; TABLE_ENTRIES]) -> Result<(), AllocError>
     requires fresh { is_line_empty text.old ≡ true }
@@ -235,30 +226,7 @@ fn put_drone(
     put_ending(text, found)
 }
 
-// What is said of a drone whose memory decodes to some trajectory under this id.
-fn put_decoded(
-    alloc: Global,
-    text: &mut Lines,
-    name: &[u8],
-    drone: &Drone,
-    id: u8,
-) -> Result<(), AllocError>
-    requires fresh { is_line_empty text.old ≡ true }
-    requires word { IsWord name.now }
-    requires decoded { (t : Traj) × DecodesTo (shown drone.now) id t }
-    ensures value { OnOk result ((found : Option Traj) × IsDecoded id (shown drone.now) found
-        × (text.new ≡ text.old ++ drone_text name.now (shown drone.now) found)) }
-    ensures fresh { OnOk result (is_line_empty text.new ≡ true) }
-{
-    // There are ten, and the id is that of one of them.
-    let _ = places(&drone.defs);
-    match curve_of(alloc, drone, id)? {
-        Some(t) => put_drone(text, name, drone, &Some(t)),
-        None => unreachable!(),
-    }
-}
-
-// What is said of a drone, whether or not its memory decodes under this id.
+// What is said of a drone, with how the trajectory ends to which its memory decodes under this id.
 fn put_found(
     alloc: Global,
     text: &mut Lines,
@@ -277,11 +245,11 @@ fn put_found(
     put_drone(text, name, drone, &found)
 }
 
-/// The text of what the drones of a world hold, whose memories all decode to some trajectory under
-/// this id (docs/COMMANDS.md, `rehearse`): `rehearsal done`; then for each drone `memory` and its name,
-/// 128 rows of an address and 32 bytes, a line for each entry of its table, `started` with the id that
-/// was started, and `ends` with the last values of the trajectory, in millimetres and tenths of a
-/// degree.
+/// The text of what the drones of a world hold, with the trajectories to which their memories decode
+/// under this id (docs/COMMANDS.md, `rehearse`): `rehearsal done`; then for each drone `memory` and its
+/// name, 128 rows of an address and 32 bytes, a line for each entry of its table, `started` with the id
+/// that was started, and `ends` with the last values of the trajectory, in millimetres and tenths of a
+/// degree, or with `none` where the memory decodes to none.
 pub fn memory_text(
     alloc: Global,
     world: &World,
@@ -290,31 +258,9 @@ pub fn memory_text(
 ) -> Result<Lines, AllocError>
     requires few { length names.now ≤ length world.now.drones }
     requires words { All (λ name. IsWord name.items) names.now }
-    requires decoded { (d : ℕ) → d < length names.now → (t : Traj) × DecodesTo (state_at world.now.drones d) id t }
-    ensures { IfOk result (λ text.
-        IsRehearsalText (state_at world.now.drones) id (map (λ name. name.items) names.now) text) }
-{
-    let mut text = Lines::make(alloc);
-    put_title(&mut text)?;
-    for d in 0..names.len() {
-        put_decoded(alloc, &mut text, names[d].as_slice(), world.drone(d), id)?;
-    }
-    Ok(text)
-}
-
-/// The text of what the drones of a careful world hold, under an id from 0 to 9 (docs/COMMANDS.md, `rehearse`): as
-/// `memory_text`, with `ends none` for a drone whose memory decodes to no trajectory.
-pub fn careful_text(
-    alloc: Global,
-    world: &CarefulWorld,
-    names: &[Name],
-    id: u8,
-) -> Result<Lines, AllocError>
-    requires few { length names.now ≤ length world.now.drones }
-    requires words { All (λ name. IsWord name.items) names.now }
     requires id { id < 10 }
     ensures { IfOk result (λ text.
-        IsCarefulText (state_at world.now.drones) id (map (λ name. name.items) names.now) text) }
+        IsRehearsalText (state_at world.now.drones) id (map (λ name. name.items) names.now) text) }
 {
     let mut text = Lines::make(alloc);
     put_title(&mut text)?;

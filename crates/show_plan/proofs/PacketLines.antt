@@ -1,16 +1,17 @@
 -- The packet lines of a drone, one after another.
-use Rattle.std.proofs.Common.{◌≡◌, ℕ, ◌+◌, ◌<◌, true, List, [], ◌++◌, map, length, get_or, codes, sym, ap, ◌∙◌}
+use Rattle.std.proofs.Common.{◌≡◌, ℕ, suc, ◌+◌, ◌-◌, ◌<◌, arith, false, true, List, [], ◌∷◌, ◌++◌, map, length, take, drop, get_or, codes, sym, ap, ◌∙◌}
 use Rattle.std.specs.Prelude.{◌==◌, nat_lt, if◌then◌else◌}
 use Rattle.std.specs.List.{flat_map, range_with_len}
 use Rattle.std.proofs.lemmas.List.{flat_map_more, get_or-map}
 use Rattle.fleet_io.specs.Words.{hex_word, is_line_empty, line}
 use Rattle.fleet_io.proofs.WordLaws.{fresh_after_line}
 use Rattle.crtp_packets.specs.Chunks.{chunk_count_of, chunk_of, chunk_start}
-use Rattle.crtp_packets.specs.Packets.{write_request_of}
+use Rattle.crtp_packets.specs.Packets.{read_request_of, write_request_of}
+use Rattle.crtp_packets.specs.declared.packet.TheConstants.{READ_BYTES}
 use Rattle.crtp_packets.specs.Commands.{define_of, start_of}
 use Rattle.upload_model.specs.declared.loads.Load.{Load}
-use Rattle.upload_model.specs.Sessions.{Upload, load_of, packet_at, packet_count, write_count}
-use Rattle.upload_core.proofs.Walks.{range-one_more}
+use Rattle.upload_model.specs.Sessions.{Upload, load_of, packet_at, packet_count, read_count, read_start, write_count}
+use Rattle.upload_model.proofs.HostSteps.{range-more}
 use Rattle.traj_codec.specs.declared.traj.Traj.{Traj}
 use Rattle.traj_codec.specs.Spelling.{IsEncoding}
 use Rattle.firmware_memory.specs.Decoded.{load_for}
@@ -24,6 +25,11 @@ use Rattle.show_plan.specs.Texts.{packet_line, packet_lines, packet_word}
 abbrev pub first_lines : Upload → ℕ → ℕ → List ℕ
 first_lines s d n = flat_map (packet_line s d) (range_with_len 0 n)
 
+range-one_more : (n : ℕ) → range_with_len 0 (n + 1) ≡ range_with_len 0 n ++ n ∷ []
+range-one_more n =
+    ap (range_with_len 0) (let e : n + 1 ≡ suc n = omega arith in e) ∙ range-more 0 n
+    ∙ ap (λ (k : ℕ). range_with_len 0 n ++ k ∷ []) (let e : 0 + n ≡ n = omega arith in e)
+
 -- one line more
 pub one_line_more : (text more start : List ℕ) (s : Upload) (d n : ℕ) → text ≡ start ++ first_lines s d n → more ≡ text ++ packet_line s d n → more ≡ start ++ first_lines s d (n + 1)
 one_line_more text more start s d n so_far next =
@@ -34,6 +40,10 @@ one_line_more text more start s d n so_far next =
 pub fresh_after_packet : (text more : List ℕ) (s : Upload) (d n : ℕ) → more ≡ text ++ packet_line s d n → is_line_empty more ≡ true
 fresh_after_packet text more s d n is = ap is_line_empty is ∙ fresh_after_line text (packet_word s d n) (map hex_word (packet_at s d n))
 
+-- a read of a load, written out
+abbrev read_of : Settings → Load → ℕ → List ℕ
+read_of e l k = read_request_of e.memory_id (e.offset + read_start k) (length (take READ_BYTES (drop (read_start k) l.bytes)))
+
 -- the packet lines of a load, written out
 abbrev lines_of : Settings → Load → List ℕ
 lines_of e l =
@@ -41,18 +51,19 @@ lines_of e l =
     (if nat_lt k (chunk_count_of (length l.bytes)) then codes "write" else (if k == chunk_count_of (length l.bytes) then codes "define" else codes "start"))
     (map hex_word (if nat_lt k (chunk_count_of (length l.bytes)) then write_request_of e.memory_id (e.offset + chunk_start k) (chunk_of l.bytes k)
     else (if k == chunk_count_of (length l.bytes) then define_of e.trajectory_id e.offset l.pieces
-    else start_of e.trajectory_id))))
-    (range_with_len 0 (chunk_count_of (length l.bytes) + 2))
+    else (if nat_lt k (chunk_count_of (length l.bytes) + 1 + 0) then read_of e l (k - (chunk_count_of (length l.bytes) + 1))
+    else start_of e.trajectory_id)))))
+    (range_with_len 0 (chunk_count_of (length l.bytes) + 1 + 0 + 1))
 
 -- The packets of a drone in the session of a show are those of its load alone.
-pub packets_alone : (e : Settings) (ts : List Traj) (d : ℕ) (bytes : List ℕ) (pieces : ℕ) → load_of (session_for e ts true) d ≡ record { bytes = bytes; pieces = pieces } →
-    packet_lines (alone e bytes pieces) 0 ≡ packet_lines (session_for e ts true) d
-unfolding packet_at packet_count write_count
+pub packets_alone : (e : Settings) (ts : List Traj) (d : ℕ) (bytes : List ℕ) (pieces : ℕ) → load_of (session_for e ts false true) d ≡ record { bytes = bytes; pieces = pieces } →
+    packet_lines (alone e bytes pieces) 0 ≡ packet_lines (session_for e ts false true) d
+unfolding packet_at packet_count read_count write_count
 packets_alone e ts d bytes pieces is = ap (lines_of e) (sym is)
 
 -- those of a drone whose bytes are the encoding of its trajectory
 pub packets_at : (e : Settings) (ts : List Traj) (d : ℕ) (bytes : List ℕ) (t : Traj) → d < length ts → t ≡ get_or ts d t → IsEncoding bytes t →
-    packet_lines (alone e bytes (length t.segments)) 0 ≡ packet_lines (session_for e ts true) d
+    packet_lines (alone e bytes (length t.segments)) 0 ≡ packet_lines (session_for e ts false true) d
 packets_at e ts d bytes t within t_is is =
     packets_alone e ts d bytes (length t.segments)
     (get_or-map load_for ts d t (record { bytes = []; pieces = 0 }) within

@@ -11,7 +11,7 @@ use Rattle.upload_model.specs.declared.events.WorldEvent.{WorldEvent}
 use Rattle.upload_model.specs.Drones.{DroneState}
 use Rattle.upload_model.specs.Hosts.{progress}
 use Rattle.upload_model.specs.Sessions.{Upload, load_of}
-use Rattle.upload_model.specs.Theorem.{IsDrone, OnlyLoads}
+use Rattle.upload_model.specs.Theorem.{IsDrone, IsUnaltered, OnlyLoads}
 use Rattle.upload_model.specs.Worlds.{World, world}
 use Rattle.choreo_reader.specs.declared.show.Settings.{Settings}
 use Rattle.choreo_reader.specs.Valid.{FitsSettings}
@@ -19,16 +19,23 @@ use Rattle.show_plan.specs.Fitting.{IsSendable, size}
 use Rattle.show_plan.specs.Flight.{KeepsNearShow, no_trajectory}
 use Rattle.show_plan.specs.Separation.{FlyApart}
 
--- The session of trajectories: to the memory, the offset and the trajectory id of the show's settings, one load for each; with starts or
--- without.
-abbrev pub session_for : Settings → List Traj → Bool → Upload
-session_for e trajs start =
-    record { memory_id = e.memory_id; offset = e.offset; trajectory_id = e.trajectory_id; loads = map load_for trajs; start = start }
+-- The session of trajectories: to the memory, the offset and the trajectory id of the show's settings, one load for each; with read-back or
+-- without, and with starts or without.
+abbrev pub session_for : Settings → List Traj → Bool → Bool → Upload
+session_for e trajs readback start = record {
+  memory_id = e.memory_id;
+  offset = e.offset;
+  trajectory_id = e.trajectory_id;
+  loads = map load_for trajs;
+  readback = readback;
+  start = start;
+}
 
 -- Each drone's memory decodes to its trajectory of this list and to no other. These keep near to what the show says at every instant, and keep
 -- any two drones apart at every instant.
-pub record IsLanded (g : Grid) (e : Settings) (trajs : List Traj) (start : Bool) (drones : ℕ → DroneState) (w : World) : Type 0 where
-  pub untouched : (d : ℕ) → d < length trajs → OnlyLoads (session_for e trajs start) (load_of (session_for e trajs start) d) (drones d) (w.drones d)
+pub record IsLanded (g : Grid) (e : Settings) (trajs : List Traj) (readback start : Bool) (drones : ℕ → DroneState) (w : World) : Type 0 where
+  pub untouched : (d : ℕ) → d < length trajs →
+      OnlyLoads (session_for e trajs readback start) (load_of (session_for e trajs readback start) d) (drones d) (w.drones d)
   pub started : start ≡ true → (d : ℕ) → d < length trajs → (w.drones d).started ≡ Some e.trajectory_id
   pub counted : length trajs ≡ length g.starts
   pub decoded : (d : ℕ) → d < length trajs → DecodesTo (w.drones d) e.trajectory_id (slice_index_or trajs d no_trajectory)
@@ -36,13 +43,15 @@ pub record IsLanded (g : Grid) (e : Settings) (trajs : List Traj) (start : Bool)
   pub near : KeepsNearShow g trajs
   pub apart : FlyApart e trajs
 
--- Whatever the drones hold at the start, and whatever the link loses, repeats, delays or reorders: once all packets of the session of these
--- trajectories are acknowledged, with starts or without, the memories hold these curves, then and at each later moment.
+-- Whatever the drones hold at the start, and whatever the link loses, repeats, delays or reorders, where nobody else alters a byte: once all
+-- packets of the session of these trajectories are acknowledged, with read-back or without and with starts or without, the memories hold
+-- these curves, then and at each later moment.
 abbrev pub Lands : Grid → Settings → List Traj → Type 0
 Lands g e trajs =
-    (start : Bool) (drones : ℕ → DroneState) (events later : List WorldEvent) → ((d : ℕ) → d < length trajs → IsDrone (drones d)) →
-    progress (session_for e trajs start) (world (session_for e trajs start) drones events).heard ≡ Done →
-    IsLanded g e trajs start drones (world (session_for e trajs start) drones (events ++ later))
+    (readback start : Bool) (drones : ℕ → DroneState) (events later : List WorldEvent) → ((d : ℕ) → d < length trajs → IsDrone (drones d)) →
+    IsUnaltered (events ++ later) →
+    progress (session_for e trajs readback start) (world (session_for e trajs readback start) drones events).heard ≡ Done →
+    IsLanded g e trajs readback start drones (world (session_for e trajs readback start) drones (events ++ later))
 
 -- Trajectories that can be uploaded: 1 to 32 of them, of some segments each, with room from the offset on.
 pub record AreUploadable (e : Settings) (trajs : List Traj) : Type 0 where

@@ -1,5 +1,5 @@
 -- Words of private steps. No public clause cites them.
-use Rattle.std.specs.Prelude.{ℕ, List, [], ◌∷◌, true, map, Option, Result}
+use Rattle.std.specs.Prelude.{ℕ, List, [], ◌∷◌, false, true, map, Option, Result}
 use Rattle.std.specs.Option.{option_map}
 use Rattle.sep_parts.specs.declared.clearance.Clearance.{Clearance}
 use Rattle.sep_parts.specs.declared.slot.Slot.{Slot}
@@ -38,12 +38,13 @@ separation_fault search.Memory = fault.Memory
 
 -- ---- packets
 
--- the session of one drone, with its start: where the show's settings say, these bytes of this many segments
+-- the session of one drone, with its start and without read-back: where the show's settings say, these bytes of this many segments
 abbrev pub alone : Settings → List ℕ → ℕ → Upload
 alone e bytes pieces = record {
   memory_id = e.memory_id;
   offset = e.offset;
   trajectory_id = e.trajectory_id;
   loads = record { bytes = bytes; pieces = pieces } ∷ [];
+  readback = false;
   start = true;
 }

@@ -1,5 +1,5 @@
 -- The texts that say a plan.
-use Rattle.std.specs.Prelude.{ℕ, ◌+◌, ◌==◌, nat_lt, if◌then◌else◌, true, List, [], ◌∷◌, ◌++◌, length, map, codes, decimal}
+use Rattle.std.specs.Prelude.{ℕ, ◌+◌, ◌==◌, nat_lt, if◌then◌else◌, false, true, List, [], ◌∷◌, ◌++◌, length, map, codes, decimal}
 use Rattle.std.specs.List.{flat_map, range_with_len}
 use Rattle.fleet_io.specs.Words.{hex_word, line}
 use Rattle.choreo_lines.specs.Name.{Name}
@@ -29,7 +29,7 @@ data_line bytes = line (codes "data") (map hex_word bytes)
 abbrev pub end_line : List ℕ
 end_line = line (codes "end") []
 
--- what packet k of a drone is: a write of a part of its load, its define, its start
+-- what packet k of a drone is, without read-back: a write of a part of its load, its define, its start
 abbrev pub packet_word : Upload → ℕ → ℕ → List ℕ
 packet_word s d k = if nat_lt k (write_count s d) then codes "write" else (if k == write_count s d then codes "define" else codes "start")
 
@@ -51,6 +51,6 @@ drone_parts s d [] ts = []
 drone_parts s d (name ∷ names) [] = []
 drone_parts s d (name ∷ names) (t ∷ ts) = drone_part s d name.items t ++ drone_parts s (d + 1) names ts
 
--- The plan of drones with these names and trajectories: its packets are those of their session, with starts.
+-- The plan of drones with these names and trajectories: its packets are those of their session without read-back and with starts.
 unfoldable pub plan_text : Settings → List Name → List Traj → List ℕ
-plan_text e names ts = head_line ++ (drone_parts (session_for e ts true) 0 names ts ++ end_line)
+plan_text e names ts = head_line ++ (drone_parts (session_for e ts false true) 0 names ts ++ end_line)

@@ -24,7 +24,7 @@ pub(crate) fn put_bytes(text: &mut Lines, word: &[u8], bytes: &[u8]) -> Result<(
 }
 
 // Packet k of a load: its writes, then its define, then its start.
-#[tactic(auto, unfolding(upload_model::specs::Sessions::packet_at, upload_model::specs::Sessions::write_count))]
+#[tactic(auto, unfolding(upload_model::specs::Sessions::packet_at, upload_model::specs::Sessions::read_count, upload_model::specs::Sessions::write_count))]
 fn packet_of(settings: Settings, bytes: &[u8], pieces: u8, k: usize) -> Packet
     requires short { length bytes.now ≤ MEMORY_BYTES }
     requires known { k < chunk_count_of (length bytes.now) + 2 }

@@ -1,6 +1,6 @@
 //! The texts that say a plan.
 
-ghost use Rattle.std.specs.Prelude.{◌≡◌, ◌≤◌, ◌++◌, ℕ, List, true, length, decimal, IfOk, OnOk};
+ghost use Rattle.std.specs.Prelude.{◌≡◌, ◌≤◌, ◌++◌, ℕ, List, false, true, length, decimal, IfOk, OnOk};
 ghost use Rattle.std.specs.List.{All};
 ghost use Rattle.fleet_io.specs.Words.{is_line_empty, with_word, IsWord};
 ghost use Rattle.traj_codec.specs.declared.traj.Traj.{Traj};
@@ -106,7 +106,7 @@ fn put_parts(
     requires encoded { AreEncodings bytes.now trajs.now }
     requires short { All (λ (bytes : List ℕ). length bytes ≤ MEMORY_BYTES) bytes.now }
     requires few { All (λ (t : Traj). length t.segments ≤ most_segments) trajs.now }
-    ensures parts { OnOk result (text.new ≡ text.old ++ drone_parts (session_for settings trajs.now true) 0 names.now trajs.now) }
+    ensures parts { OnOk result (text.new ≡ text.old ++ drone_parts (session_for settings trajs.now false true) 0 names.now trajs.now) }
     ensures fresh { OnOk result (is_line_empty text.new ≡ true) }
 {
     for d in 0..names.len() {

@@ -41,11 +41,16 @@ fn loads_of(alloc: Global, bytes: &[Listed<u8>], trajs: &[Traj]) -> Result<Vec<L
     Ok(loads)
 }
 
-/// What is uploaded of a show that fits, with starts or without: to the memory, the offset and under the trajectory id of its settings, one
+/// What is uploaded of a show that fits, with read-back or without and with starts or without: to the memory, the offset and under the trajectory id of its settings, one
 /// load for each drone (docs/RADIO.md, "The packets of a session"). Out of memory is the only refusal.
-pub fn session(alloc: Global, f: &Fitted, start: bool) -> Result<Session, AllocError>
+pub fn session(
+    alloc: Global,
+    f: &Fitted,
+    readback: bool,
+    start: bool,
+) -> Result<Session, AllocError>
     requires { IsValidFitted f.now }
-    ensures { IfOk result (λ s. s ≡ session_for f.now.settings f.now.sent start) }
+    ensures { IfOk result (λ s. s ≡ session_for f.now.settings f.now.sent readback start) }
 {
     join_law();
     let loads = loads_of(alloc, f.bytes.as_slice(), f.sent.as_slice())?;
@@ -54,10 +59,11 @@ pub fn session(alloc: Global, f: &Fitted, start: bool) -> Result<Session, AllocE
         offset: f.settings.offset,
         trajectory_id: f.settings.trajectory_id,
     };
-    Ok(Session::of_loads(settings, loads, start))
+    Ok(Session::of_loads(settings, loads, readback, start))
 }
 
-/// A law. Trajectories that can be uploaded, keep near to a show and keep apart land so in the drones' memories, whatever the link does.
+/// A law. Trajectories that can be uploaded, keep near to a show and keep apart are stored so in the drones' memories, whatever the
+/// link does, where nobody else alters a byte.
 pub fn landing_law()
     ensures { LandingLaw }
 {

@@ -1,4 +1,4 @@
-use Rattle.std.proofs.Common.{refl, sym, ◌∙◌, arith}
+use Rattle.std.proofs.Common.{refl, sym, ap, ◌∙◌, arith}
 use Rattle.fleet_io.proofs.TakenLemmas.{TakesFront-none, TakesFront-trans}
 use Rattle.link_upload.specs.Sends.{events_in}
 use Rattle.link_upload.specs.Links.{link_of}
@@ -21,7 +21,7 @@ pub frames-init : goal.frames-init
 frames-init g c =
     record {
       carries = Carries-none (link_of c.args.host.session) _ _ _ _ c.requires.new c.drone_count.ensures.going (rw (c.as_slice.ensures.value, c.first.ensures.sent) at c.in-Ok.ensures.ok);
-      link = refl;
+      session = refl;
       sound = c.requires.sound;
       holds = c.requires.holds;
       at_end = c.requires.at_end;
@@ -83,8 +83,8 @@ returns-in-Err-send-clause-write g c = λ _.
     let carries = inv.carries in
     let took = rw c.in-Answered.is at c.in-Ok-step.ensures.gives in
     let a = answered (link_of c.args.host.session) (link_of c.frames.host.session) (HostStandsFor (view_of c.frames.host)) (HostStandsFor (view_of c.step.new.host)) took.frame c.in-Answered.status c.step.new.out.items
-    (events_in (link_of c.args.host.session) carries.frames) inv.link carries.stands carries.going took.stands took.answer took.sends in
-    let out = rw (took.link, inv.link, c.as_slice-in-frames.ensures.value, a.sent) at c.in-Err-send.ensures.front in
+    (events_in (link_of c.args.host.session) carries.frames) (ap link_of inv.session) carries.stands carries.going took.stands took.answer took.sends in
+    let out = rw (took.session, inv.session, c.as_slice-in-frames.ensures.value, a.sent) at c.in-Err-send.ensures.front in
     (Rose-later _ _ _ inv.sink_later c.in-Err-send.ensures.cause.failed, breaks (link_of c.args.host.session) _ _ _ _ _ _ _ _ carries took.frame took.formed c.frames-test.true took.taken out)
 
 pub returns-in-Err-send-clause-prompt : goal.returns-in-Err-send-clause-prompt
@@ -101,8 +101,8 @@ returns-in-Some-clause-ends g c =
     let carries = inv.carries in
     let took = rw c.in-Answered.is at c.in-Ok-step.ensures.gives in
     let a = answered (link_of c.args.host.session) (link_of c.frames.host.session) (HostStandsFor (view_of c.frames.host)) (HostStandsFor (view_of c.step.new.host)) took.frame c.in-Answered.status c.step.new.out.items
-    (events_in (link_of c.args.host.session) carries.frames) inv.link carries.stands carries.going took.stands took.answer took.sends in
-    let out = rw (took.link, inv.link, c.as_slice-in-frames.ensures.value, a.sent) at c.in-Ok-send.ensures.ok in
+    (events_in (link_of c.args.host.session) carries.frames) (ap link_of inv.session) carries.stands carries.going took.stands took.answer took.sends in
+    let out = rw (took.session, inv.session, c.as_slice-in-frames.ensures.value, a.sent) at c.in-Ok-send.ensures.ok in
     end_answered (link_of c.args.host.session) _ _ _ _ _ _ _ _ carries took.frame took.formed c.frames-test.true took.taken out c.in-Answered.status a.answer c.in-Some.status (λ full rest. rw c.in-Some.is refl)
 
 pub returns-in-Some-clause-prompt : goal.returns-in-Some-clause-prompt
@@ -111,8 +111,8 @@ returns-in-Some-clause-prompt g c =
     let carries = inv.carries in
     let took = rw c.in-Answered.is at c.in-Ok-step.ensures.gives in
     let a = answered (link_of c.args.host.session) (link_of c.frames.host.session) (HostStandsFor (view_of c.frames.host)) (HostStandsFor (view_of c.step.new.host)) took.frame c.in-Answered.status c.step.new.out.items
-    (events_in (link_of c.args.host.session) carries.frames) inv.link carries.stands carries.going took.stands took.answer took.sends in
-    let out = rw (took.link, inv.link, c.as_slice-in-frames.ensures.value, a.sent) at c.in-Ok-send.ensures.ok in
+    (events_in (link_of c.args.host.session) carries.frames) (ap link_of inv.session) carries.stands carries.going took.stands took.answer took.sends in
+    let out = rw (took.session, inv.session, c.as_slice-in-frames.ensures.value, a.sent) at c.in-Ok-send.ensures.ok in
     prompt_answered (link_of c.args.host.session) _ _ _ _ _ _ _ _ _ carries took.frame took.taken out (short_waiting c.step.new.parts.waiting _ c.step.ensures.holds)
 
 pub returns-in-Some-clause-known : goal.returns-in-Some-clause-known
@@ -129,11 +129,11 @@ frames-preserved g c =
     let carries = inv.carries in
     let took = rw c.in-Answered.is at c.in-Ok-step.ensures.gives in
     let a = answered (link_of c.args.host.session) (link_of c.frames.host.session) (HostStandsFor (view_of c.frames.host)) (HostStandsFor (view_of c.step.new.host)) took.frame c.in-Answered.status c.step.new.out.items
-    (events_in (link_of c.args.host.session) carries.frames) inv.link carries.stands carries.going took.stands took.answer took.sends in
-    let out = rw (took.link, inv.link, c.as_slice-in-frames.ensures.value, a.sent) at c.in-Ok-send.ensures.ok in
+    (events_in (link_of c.args.host.session) carries.frames) (ap link_of inv.session) carries.stands carries.going took.stands took.answer took.sends in
+    let out = rw (took.session, inv.session, c.as_slice-in-frames.ensures.value, a.sent) at c.in-Ok-send.ensures.ok in
     record {
       carries = Carries-push (link_of c.args.host.session) _ _ _ _ _ _ _ _ _ _ carries took.frame took.formed took.taken out (omega arith) (sym a.answer ∙ c.in-None.is) a.stands;
-      link = took.link ∙ inv.link;
+      session = took.session ∙ inv.session;
       sound = c.in-Ok-step.ensures.sound;
       holds = c.step.ensures.holds;
       at_end = c.step.ensures.at_end;

@@ -12,7 +12,7 @@ use Rattle.link_upload.proofs.exchange.carry.Given as goal
 abbrev pub invariant-frames : goal.invariant-frames
 invariant-frames g l = record {
   carries : Carries (link_of l.fn.host.session) (stream l.fn.parts (g.S.Source.left l.fn.source)) (stream l.parts (g.S.Source.left l.source)) (g.K.Sink.written l.fn.sink) (g.K.Sink.written l.sink) l.n (HostStandsFor (view_of l.host));
-  link : link_of l.host.session ≡ link_of l.fn.host.session;
+  session : l.host.session ≡ l.fn.host.session;
   sound : IsTrue l.parts.sound;
   holds : length l.parts.waiting ≤ 4096;
   at_end : IsTrue l.parts.ended → IsAtEnd (g.S.Source.left l.source);

@@ -2,13 +2,13 @@
 use Rattle.std.proofs.Common.{◌≡◌, ◌++◌, ℕ, List, map, take, true}
 use Rattle.fleet_io.specs.Words.{is_line_empty}
 use Rattle.fleet_world.specs.WorldState.{state_at}
-use Rattle.rehearsal.specs.Texts.{title_line, AreTexts, IsDecoded}
+use Rattle.rehearsal.specs.Texts.{title_line, AreTexts}
 use Rattle.rehearsal.proofs.text.memory_text.Given as goal
 
 abbrev pub invariant-loop-d : goal.invariant-loop-d
 invariant-loop-d l = record {
   fresh : is_line_empty l.text ≡ true;
   said : List ℕ;
-  texts : AreTexts (IsDecoded l.id) (state_at l.world.drones) 0 (map (λ name. name.items) (take l.d l.names)) said;
+  texts : AreTexts (state_at l.world.drones) l.id 0 (map (λ name. name.items) (take l.d l.names)) said;
   all : l.text ≡ title_line ++ said;
 }

@@ -1,5 +1,5 @@
 use Rattle.std.proofs.Common.{◌≡◌, ◌++◌, arith, ℕ, append-nil, sym, ap, ◌∙◌}
-use Rattle.upload_model.specs.Sessions.{packet_count, write_count}
+use Rattle.upload_model.specs.Sessions.{packet_count, read_count, write_count}
 use Rattle.show_plan.specs.Steps.{alone}
 use Rattle.show_plan.proofs.PacketLines.{first_lines, fresh_after_packet, one_line_more}
 use Rattle.show_plan.proofs.packets.put_packets.Goals as goal
@@ -19,7 +19,7 @@ loop-k-preserved c =
     }
 
 pub returns-clause-lines : goal.returns-clause-lines
-unfolding packet_count write_count
+unfolding packet_count read_count write_count
 returns-clause-lines c =
     let s = alone c.args.settings c.args.bytes.now c.args.pieces in
     let all : c.loop-k.k ≡ packet_count s 0 = omega (arith, c.loop-k-test.false, c.loop-k.auto.k-end, c.chunk_count-k-end.ensures.value) in

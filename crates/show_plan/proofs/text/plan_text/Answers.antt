@@ -1,4 +1,4 @@
-use Rattle.std.proofs.Common.{◌++◌, true, List, ℕ, append_assoc, ap, sym, length, ◌∙◌}
+use Rattle.std.proofs.Common.{◌++◌, false, true, List, ℕ, append_assoc, ap, sym, length, ◌∙◌}
 use Rattle.std.proofs.lemmas.List.{length-map}
 use Rattle.choreo_lines.specs.Name.{Name}
 use Rattle.traj_codec.specs.declared.traj.Traj.{Traj}
@@ -15,12 +15,12 @@ unfolding plan_text
 returns c =
     let e = c.args.f.now.settings in
     let head = c.in_ok-put_head.ensures ∙ ap (λ (t : List ℕ). t ++ head_line) c.in_ok-text.ensures in
-    let parts = drone_parts (session_for e c.as_slice-3.result.now true) 0 c.as_slice.result.now c.as_slice-3.result.now in
+    let parts = drone_parts (session_for e c.as_slice-3.result.now false true) 0 c.as_slice.result.now c.as_slice-3.result.now in
     c.in_ok-put_end.ensures
     ∙ ap (λ (t : List ℕ). t ++ end_line) (c.in_ok-put_parts.ensures.parts ∙ ap (λ (t : List ℕ). t ++ parts) head)
     ∙ append_assoc head_line parts end_line
-    ∙ ap (λ (names : List Name). head_line ++ (drone_parts (session_for e c.as_slice-3.result.now true) 0 names c.as_slice-3.result.now ++ end_line)) c.as_slice.ensures
-    ∙ ap (λ (ts : List Traj). head_line ++ (drone_parts (session_for e ts true) 0 c.args.f.now.names ts ++ end_line)) c.as_slice-3.ensures
+    ∙ ap (λ (names : List Name). head_line ++ (drone_parts (session_for e c.as_slice-3.result.now false true) 0 names c.as_slice-3.result.now ++ end_line)) c.as_slice.ensures
+    ∙ ap (λ (ts : List Traj). head_line ++ (drone_parts (session_for e ts false true) 0 c.args.f.now.names ts ++ end_line)) c.as_slice-3.ensures
 
 pub put_parts-requires-clause-count : goal.put_parts-requires-clause-count
 put_parts-requires-clause-count c =

@@ -1,4 +1,4 @@
-use Rattle.std.proofs.Common.{◌++◌, ◌<◌, ◌≤◌, length, true, List, ℕ, refl, sym, ap, ◌∙◌, subst, arith}
+use Rattle.std.proofs.Common.{◌++◌, ◌<◌, ◌≤◌, length, false, true, List, ℕ, refl, sym, ap, ◌∙◌, subst, arith}
 use Rattle.crtp_packets.specs.declared.chunks.TheConstants.{MEMORY_BYTES}
 use Rattle.traj_codec.specs.declared.traj.Traj.{Traj}
 use Rattle.traj_codec.specs.Spelling.{IsEncoding, most_segments}
@@ -35,7 +35,7 @@ put_part-requires-clause-few c =
 
 pub loop-d-preserved : goal.loop-d-preserved
 loop-d-preserved c =
-    let s = session_for c.args.settings c.args.trajs.now true in
+    let s = session_for c.args.settings c.args.trajs.now false true in
     let within : c.loop-d.d < length c.args.trajs.now = omega (arith, c.requires.count, c.loop-d-test.true) in
     let encoded =
     subst (λ (bytes : List ℕ). IsEncoding bytes c.index-trajs-d.result) (sym (c.as_slice-in-loop-d.ensures ∙ c.index-bytes-d.is))
@@ -52,4 +52,4 @@ loop-d-preserved c =
 
 pub returns-clause-parts : goal.returns-clause-parts
 returns-clause-parts c =
-    sym (parts_over c.loop-d.text (session_for c.args.settings c.args.trajs.now true) c.args.names.now c.args.trajs.now c.loop-d.d c.loop-d-test.false) ∙ c.loop-d.invariant.so_far
+    sym (parts_over c.loop-d.text (session_for c.args.settings c.args.trajs.now false true) c.args.names.now c.args.trajs.now c.loop-d.d c.loop-d-test.false) ∙ c.loop-d.invariant.so_far

@@ -1,4 +1,4 @@
-use Rattle.std.proofs.Common.{◌≡◌, ◌++◌, true, drop}
+use Rattle.std.proofs.Common.{◌≡◌, ◌++◌, false, true, drop}
 use Rattle.fleet_io.specs.Words.{is_line_empty}
 use Rattle.show_plan.specs.Landing.{session_for}
 use Rattle.show_plan.specs.Texts.{drone_parts}
@@ -8,5 +8,5 @@ use Rattle.show_plan.proofs.text.put_parts.Given as goal
 abbrev pub invariant-loop-d : goal.invariant-loop-d
 invariant-loop-d l = record {
   fresh : is_line_empty l.text ≡ true;
-  so_far : l.text ++ drone_parts (session_for l.settings l.trajs true) l.d (drop l.d l.names) (drop l.d l.trajs) ≡ l.initial.text ++ drone_parts (session_for l.settings l.trajs true) 0 l.names l.trajs;
+  so_far : l.text ++ drone_parts (session_for l.settings l.trajs false true) l.d (drop l.d l.names) (drop l.d l.trajs) ≡ l.initial.text ++ drone_parts (session_for l.settings l.trajs false true) 0 l.names l.trajs;
 }

@@ -13,5 +13,5 @@ loads_are c = c.in_ok-loads.ensures ∙ ap (λ (ts : List Traj). map load_for ts
 pub of_loads-requires : goal.of_loads-requires
 of_loads-requires c =
     let e = c.args.f.now.settings in
-    let made : List Load → Upload = λ loads. record { memory_id = e.memory_id; offset = e.offset; trajectory_id = e.trajectory_id; loads = loads; start = c.args.start } in
-    subst (λ (loads : List Load). IsSession (made loads)) (sym (loads_are c)) (is_session e c.args.f.now.sent c.args.start (uploadable c.args.f.now c.join_law.ensures.curve c.requires))
+    let made : List Load → Upload = λ loads. record { memory_id = e.memory_id; offset = e.offset; trajectory_id = e.trajectory_id; loads = loads; readback = c.args.readback; start = c.args.start } in
+    subst (λ (loads : List Load). IsSession (made loads)) (sym (loads_are c)) (is_session e c.args.f.now.sent c.args.readback c.args.start (uploadable c.args.f.now c.join_law.ensures.curve c.requires))

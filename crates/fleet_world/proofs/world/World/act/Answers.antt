@@ -2,7 +2,7 @@
 use Rattle.std.proofs.Common.{◌≡◌, ◌∙◌, ◌<◌, ◌≤◌, ℕ, List, Some, None, ap, sym, subst, arith}
 use Rattle.std.specs.Prelude.{slice_get}
 use Rattle.upload_model.specs.declared.events.Event.TheVariants as event
-use Rattle.upload_model.specs.Sessions.{drone_count}
+use Rattle.upload_model.specs.Sessions.{Upload, drone_count}
 use Rattle.upload_model.specs.Worlds as Worlds
 use Rattle.upload_model.specs.Worlds.{host_event, happens}
 use Rattle.fleet_world.specs.WorldState.{WorldState, WorldStandsAt}

@@ -2,6 +2,7 @@
 use Rattle.std.proofs.Common.{◌≡◌, ◌∙◌, ◌++◌, ℕ, List, ap, sym, subst, arith}
 use Rattle.std.specs.Vec.{with_items}
 use Rattle.std.proofs.lemmas.List.{with_items_is}
+use Rattle.upload_model.specs.Sessions.{Upload}
 use Rattle.upload_model.specs.Worlds.{packets_for}
 use Rattle.upload_model.specs.Worlds.{host_event}
 use Rattle.upload_model.specs.declared.events.Sent.{Sent}
@@ -20,9 +21,10 @@ returns-clause-stands c s w at =
     = with_items_is (with_items c.self.inside.sent c.make_room.new.rows) c.put_all.new.rows (c.put_all.ensures.len ∙ (omega arith)) in
     let same : rows_of c.as_mut_slice-2.result.now ≡ rows_of c.self.inside.sent.items
     = ap rows_of (c.as_mut_slice-2.ensures.value ∙ room_rows) ∙ c.make_room.ensures.same ∙ ap rows_of c.as_mut_slice.ensures.value in
-    let after = stands-host_event v s w c.args.e c.event-progress.new.self c.event-progress.new.out.items (rows_of c.put_all.new.rows) c.event-progress.result here c.event-progress.ensures
+    let after = stands-host_event v s w c.args.e c.event-progress.new.self c.event-progress.new.out.items (rows_of c.put_all.new.rows) c.event-progress.result here c.event-progress.ensures.session
     (c.event-progress.ensures.stands w.heard here.host) (c.event-progress.ensures.sent w.heard here.host)
     (λ d. c.put_all.ensures.packets d
+    ∙ ap (λ (u : Upload). row_of (rows_of c.as_mut_slice-2.result.now) d ++ packets_for u c.as_slice.result.now d) c.session.ensures
     ∙ ap (λ (rows : List (List (List ℕ))). row_of rows d ++ packets_for c.event-progress.new.self.session c.as_slice.result.now d) same
     ∙ ap (λ (xs : List Sent). row_of (rows_of c.self.inside.sent.items) d ++ packets_for c.event-progress.new.self.session xs d) c.as_slice.ensures.value)
     (c.event-progress.ensures.answer w.heard here.host) in
