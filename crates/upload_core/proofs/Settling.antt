@@ -1,22 +1,26 @@
 -- A packet that is acknowledged, and what it lets into flight.
-use Rattle.std.proofs.Common.{◌≡◌, ◌≢◌, ◌==◌, ℕ, zero, suc, ◌+◌, ◌<◌, ◌≤◌, Bool, true, false, not, cond, ◌&&◌, ◌||◌, eqb, List, [], ◌∷◌, ◌++◌, length, filter, refl, ap, sym, subst, ◌∙◌, arith, inl, inr}
+use Rattle.std.proofs.Common.{◌≡◌, ◌≢◌, ◌==◌, ℕ, zero, suc, ◌+◌, ◌<◌, ◌≤◌, Bool, true, false, not, cond, ◌&&◌, ◌||◌, eqb, List, [], ◌∷◌, ◌++◌, length, filter, set, refl, ap, sym, subst, ◌∙◌, arith, inl, inr}
 use Rattle.std.specs.Prelude.{All}
 use Rattle.std.specs.List.{range_with_len, list_any, list_all, flat_map}
 use Rattle.std.proofs.lemmas.Bool.{cases_eq, cases_lt, eq-eqb, ne_eqb, false≢true, false_from_ne_true, or_parts, or_left, or_right, and_from}
 use Rattle.std.proofs.lemmas.List.Folds.{list_any-append}
-use Rattle.std.proofs.lemmas.List.Elements.{All-nil, All-cons, All-from_get_or}
+use Rattle.std.proofs.lemmas.List.Elements.{All-nil, All-cons, All-set, All-from_get_or}
+use Rattle.std.proofs.lemmas.List.{length-set}
+use Rattle.std.proofs.lemmas.List.Filters.{length-filter_both}
+use Rattle.std.proofs.lemmas.List.FromFn.{length-range_with_len}
 use Rattle.upload_model.specs.declared.events.Phase.{Phase}
 use Rattle.upload_model.specs.declared.events.Sent.{Sent}
 use Rattle.upload_model.specs.Sessions.{Upload, drone_count, first_of, count_of}
 use Rattle.upload_model.specs.Hosts.{phase_of, includes, flight_after, sent_to}
-use Rattle.upload_model.proofs.HostLaws.{Settled-from}
+use Rattle.upload_model.proofs.HostLaws.{Settled-from, allowed-few}
 use Rattle.upload_core.specs.declared.row.InFlight.{InFlight}
 use Rattle.upload_core.specs.declared.row.Row.{Row}
-use Rattle.upload_core.specs.Rows.{packets_in, among, row_at, marked, window_at, counted, count_in}
-use Rattle.upload_core.specs.Steps.{IsBetween, IsBegun, IsLow, RowsStand, in_windows}
-use Rattle.upload_core.proofs.Numbers.{between-out, past-in}
+use Rattle.upload_core.specs.Rows.{packets_in, among, is_marked, row_at, marked, window_at, counted, count_in}
+use Rattle.upload_core.specs.Steps.{IsBetween, IsBegun, IsLow, IsRow, RowStands, RowsStand, in_windows}
+use Rattle.upload_core.proofs.Numbers.{between-out, between-weaker, or_nothing, past-in}
 use Rattle.upload_core.proofs.Staying.{includes-flight_at, flight-open}
-use Rattle.upload_core.proofs.Windows.{window-flight, windows-flight, includes-windows, all-settled, news-one, news-all}
+use Rattle.upload_core.proofs.Windows.{row_at-set_same, row_at-set_other, window-flight, windows-flight, includes-windows, all-settled, news-one, news-all}
+use Rattle.upload_core.proofs.Walks.{all-at}
 use Rattle.upload_core.proofs.Phases.{begun-phase}
 
 -- ---- counts
@@ -145,3 +149,59 @@ module _ (s : Upload) (p : Phase) (d k : ℕ) (rows less : List Row) (h : IsLess
         news-all (window_at rows) (window_at later) (drone_count s) (λ i j l there. apart i j l there)
         ∙ ap (λ (xs : List Sent). filter (λ x. not (includes xs x)) (in_windows later (drone_count s))) (sym (windows-flight s p rows h.before h.phase))
         ∙ ap (λ (xs : List Sent). filter (λ x. not (includes (flight_after s (marked rows)) x)) xs) (sym (windows-flight s q later stand phase))
+
+-- ---- rows of which one changes
+
+turned : (j k : ℕ) → (j == k) ≡ (k == j)
+turned j k = elim (cases_eq j k) [
+  | inl same ↦ eq-eqb j k same ∙ sym (eq-eqb k j (sym same))
+  | inr other ↦ ne_eqb j k other ∙ sym (ne_eqb k j (λ e. other (sym e)))
+]
+
+pub row-from_zero : (a : ℕ) (row : Row) → IsRow a row → IsRow 0 row
+row-from_zero a row h = record {
+  rising = between-weaker 0 a row.next (packets_in row.window.items) (omega arith) h.rising;
+  from = omega arith;
+  past = h.past;
+  few = h.few;
+  full = h.full;
+}
+
+pub row-until : (s : Upload) (p : Phase) (d : ℕ) (row : Row) → RowStands s p d row → row.until ≤ first_of s p d + count_of s p d
+row-until s p d row stands =
+    let few = allowed-few s p (λ i k. is_marked row k) d in
+    let until = stands.until in
+    omega (arith, few, until)
+
+-- as many packets are new as there are in flight, at most
+pub news-few : (old new : List ℕ) (a n : ℕ) → filter (λ j. not (among old j)) new ≡ range_with_len a n → length new ≤ 4 → n ≤ 4
+news-few old new a n is few =
+    let long : length (filter (λ j. not (among old j)) new) ≡ n = ap (λ (xs : List ℕ). length xs) is ∙ length-range_with_len a n in
+    let both = length-filter_both (λ j. not (among old j)) (λ j. not (not (among old j))) (λ j. refl) new in
+    omega (arith, long, both, few)
+
+module _ (rows : List Row) (d : ℕ) (row : Row) (fits : d < length rows) where
+  pub set-stands : (s : Upload) (p : Phase) → RowsStand s p rows → RowStands s p d row → RowsStand s p (set rows d row)
+  set-stands s p stand here = record {
+    count = length-set rows d row ∙ stand.count;
+    each = λ i l. elim (cases_eq i d) [
+      | inl same ↦
+          subst (λ (j : ℕ). RowStands s p j (row_at (set rows d row) j)) (sym same) (subst (RowStands s p d) (sym (row_at-set_same rows d row fits)) here)
+      | inr other ↦ subst (RowStands s p i) (sym (row_at-set_other rows d i row other)) (stand.each i l)
+    ];
+  }
+
+  pub set-marks : (k : ℕ) → ((j : ℕ) → is_marked row j ≡ (is_marked (row_at rows d) j || j == k)) →
+      (i j : ℕ) → marked (set rows d row) i j ≡ (marked rows i j || (d == i && k == j))
+  set-marks k marks i j = elim (cases_eq d i) [
+    | inl same ↦
+        subst (λ (n : ℕ). marked (set rows d row) n j ≡ (marked rows n j || (d == n && k == j))) same
+        (ap (λ (r : Row). is_marked r j) (row_at-set_same rows d row fits) ∙ marks j
+        ∙ ap (λ (b : Bool). marked rows d j || b) (turned j k ∙ sym (ap (λ (b : Bool). b && k == j) (eq-eqb d d refl))))
+    | inr other ↦
+        ap (λ (r : Row). is_marked r j) (row_at-set_other rows d i row (λ e. other (sym e)))
+        ∙ sym (ap (λ (b : Bool). marked rows i j || (b && k == j)) (ne_eqb d i other) ∙ or_nothing (marked rows i j))
+  ]
+
+  pub set-low : (All (λ (e : InFlight). e.ticks < 20) (row_at rows d).window.items → All (λ (e : InFlight). e.ticks < 20) row.window.items) → IsLow rows → IsLow (set rows d row)
+  set-low low all = All-set (λ (r : Row). All (λ (e : InFlight). e.ticks < 20) r.window.items) rows d row (low (all-at rows all d fits)) all

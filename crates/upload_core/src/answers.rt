@@ -306,6 +306,7 @@ fn settle(session: &Session, rows: &mut [Row], phase: Phase, drone: usize, k: u1
     ensures sent { out.new.items ≡ sent_to drone
         (filter (λ j. not (among (window_at rows.old drone) j)) (window_at rows.new drone)) }
 {
+    let _drones = session.drones();
     let before = rows[drone].next;
     rows[drone].settle(k, session.end_of(phase, drone) as u16);
     put_news(out, drone, before, rows[drone].next);
@@ -346,6 +347,7 @@ fn acknowledge(
     if is_settled(rows) {
         return Progress::Done;
     }
+    let _drones = session.drones();
     put_flight(rows, out);
     Progress::Going
 }
