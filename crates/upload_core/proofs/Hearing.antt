@@ -2,7 +2,7 @@
 use Rattle.std.proofs.Common.{◌≡◌, ◌≢◌, ◌⊎◌, ◌==◌, ℕ, ◌+◌, ◌<◌, ◌≤◌, Bool, true, false, not, cond, ◌&&◌, ◌||◌, eqb, List, [], ◌∷◌, filter, refl, ap, sym, subst, ◌∙◌, arith, Option, Some, None, Result, Ok, Err, inl, inr}
 use Rattle.std.specs.Prelude.{find, nat_lt}
 use Rattle.std.specs.List.{range_with_len, list_any, list_all}
-use Rattle.std.proofs.lemmas.Bool.{cases_eq, cases_Bool, eq-eqb, eqb-true, lt-ltb, false≢true, and_parts, false_from_ne_true, or_left, or_right, and_left, and_right}
+use Rattle.std.proofs.lemmas.Bool.{cases_eq, cases_Bool, eq-eqb, eqb-true, lt-ltb, false≢true, and_parts, and_from, false_from_ne_true, or_left, or_right, or_parts, and_left, and_right}
 use Rattle.crtp_packets.specs.Reading.{up_of}
 use Rattle.crtp_packets.specs.declared.reading.PacketFault.{PacketFault}
 use Rattle.crtp_packets.specs.declared.reading.Up.{Up}
@@ -14,7 +14,7 @@ use Rattle.upload_model.specs.declared.events.Progress.TheVariants.{Going, Done,
 use Rattle.upload_model.specs.declared.events.Reply.{Reply}
 use Rattle.upload_model.specs.declared.events.Reply.TheVariants.{Silent, Good, Ends}
 use Rattle.upload_model.specs.Sessions.{Upload, drone_count, load_count, packet_count, is_read}
-use Rattle.upload_model.specs.Replies.{read_reply, status_reply, reply_in, reply_to, is_good, is_end}
+use Rattle.upload_model.specs.Replies.{read_reply, status_reply, reply_in, reply_to, is_good, is_end, end_of}
 use Rattle.upload_model.specs.Hosts.{Packets, includes, flight_after, acknowledges, joined, all_packets, counts as counts_for, ended_for, ends_for, if_going}
 use Rattle.upload_model.proofs.Answers.{IsAnswer, answer_from, reply-by}
 use Rattle.upload_core.specs.declared.row.Row.{Row}
@@ -35,11 +35,11 @@ sent-same x y e f = ap (λ (i : ℕ). record { drone = i; packet = x.packet }) e
 -- the one that passes is found where it is among these
 find-only : (p : Sent → Bool) (x : Sent) → p x ≡ true → ((y : Sent) → p y ≡ true → y ≡ x) → (xs : List Sent) → includes xs x ≡ true → find p xs ≡ Some x
 find-only p x here one [] found = absurd (false≢true found)
-find-only p x here one (y ∷ ys) found = at (p y) refl where
-  at : (b : Bool) → p y ≡ b → cond b (Some y) (find p ys) ≡ Some x
-  at true e = ap Some (one y e)
-  at false e =
-      find-only p x here one ys
+find-only p x here one (y ∷ ys) found = at (λ later. find-only p x here one ys later) (p y) refl where
+  at : (includes ys x ≡ true → find p ys ≡ Some x) → (b : Bool) → p y ≡ b → cond b (Some y) (find p ys) ≡ Some x
+  at rest true e = ap Some (one y e)
+  at rest false e =
+      rest
       (sym (ap (λ (b : Bool). b || includes ys x)
       (false_from_ne_true (y.drone == x.drone && y.packet == x.packet) (λ t.
       let parts = and_parts (y.drone == x.drone) (y.packet == x.packet) t in
@@ -49,17 +49,15 @@ find-only p x here one (y ∷ ys) found = at (p y) refl where
 -- none is found where it is not
 find-other : (p : Sent → Bool) (x : Sent) → ((y : Sent) → p y ≡ true → y ≡ x) → (xs : List Sent) → includes xs x ≡ false → find p xs ≡ None
 find-other p x one [] out = refl
-find-other p x one (y ∷ ys) out = at (p y) refl where
-  apart : (a b : Bool) → (a || b) ≡ false → (a ≡ false) × (b ≡ false)
-  apart true b e = absurd (false≢true (sym e))
-  apart false b e = (refl, e)
-
-  at : (b : Bool) → p y ≡ b → cond b (Some y) (find p ys) ≡ None
-  at true e =
-      let same = one y e in
-      absurd (false≢true (sym (apart (y.drone == x.drone && y.packet == x.packet) (includes ys x) out).0
-      ∙ ap (λ (b : Bool). b && y.packet == x.packet) (eq-eqb y.drone x.drone (ap (λ (z : Sent). z.drone) same)) ∙ eq-eqb y.packet x.packet (ap (λ (z : Sent). z.packet) same)))
-  at false e = find-other p x one ys (apart (y.drone == x.drone && y.packet == x.packet) (includes ys x) out).1
+find-other p x one (y ∷ ys) out =
+    let parts = or_parts (y.drone == x.drone && y.packet == x.packet) (includes ys x) out in
+    at parts.0 (find-other p x one ys parts.1) (p y) refl where
+      at : (y.drone == x.drone && y.packet == x.packet) ≡ false → find p ys ≡ None → (b : Bool) → p y ≡ b → cond b (Some y) (find p ys) ≡ None
+      at apart rest true e =
+          let same = one y e in
+          absurd (false≢true (sym apart
+          ∙ ap (λ (b : Bool). b && y.packet == x.packet) (eq-eqb y.drone x.drone (ap (λ (z : Sent). z.drone) same)) ∙ eq-eqb y.packet x.packet (ap (λ (z : Sent). z.packet) same)))
+      at apart rest false e = rest
 
 all_packets-has : (s : Upload) (x : Sent) → x.drone < drone_count s → x.packet < packet_count s x.drone → includes (all_packets s) x ≡ true
 unfolding all_packets
@@ -177,14 +175,14 @@ module _ (s : Upload) (e : Event) (done : Packets) where
 -- ---- an answer that changes nothing
 
 -- what a host makes of an answer: the rows, how far the upload is, and what is sent
-pub record Hears (s : Upload) (e : Event) (rows later : List Row) (answer : Progress) (sent : List Sent) : Type 0 where
+pub record Hears (s : Upload) (e : Event) (rows later : List Row) (answer : Progress) (out : List Sent) : Type 0 where
   pub marks : (d k : ℕ) → d < drone_count s → marked later d k ≡ joined (marked rows) (acknowledges s (marked rows) e) d k
   pub counts : (x : Sent) → includes (flight_after s (marked later)) x ≡ true →
       counted later x.drone x.packet ≡ cond (includes (flight_after s (marked rows)) x) (counted rows x.drone x.packet) 0
   pub finished : list_all (λ x. marked later x.drone x.packet) (all_packets s) ≡ true → answer ≡ Done
   pub unfinished : list_all (λ x. marked later x.drone x.packet) (all_packets s) ≡ false →
       answer ≡ ended_for s e (find (λ x. ends_for s (marked later) e x) (all_packets s))
-  pub sent : sent ≡ if_going answer (filter (λ x. not (includes (flight_after s (marked rows)) x)) (flight_after s (marked later)))
+  pub sent : out ≡ if_going answer (filter (λ x. not (includes (flight_after s (marked rows)) x)) (flight_after s (marked later)))
 
 if_going-nothing : (p : Progress) → if_going p [] ≡ []
 if_going-nothing Going = refl
@@ -212,6 +210,46 @@ hears-same s e rows answer sent going none ends empty = record {
   sent = empty
       ∙ sym (ap (if_going answer) (filter-itself (flight_after s (marked rows)) (flight_after s (marked rows)) (λ x f. f)) ∙ if_going-nothing answer);
 }
+
+-- of nothing at all
+pub hears-silent : (s : Upload) (e : Event) (rows : List Row) (sent : List Sent) → list_all (λ x. marked rows x.drone x.packet) (all_packets s) ≡ false →
+    IsSilent s e → sent ≡ [] → Hears s e rows rows Going sent
+hears-silent s e rows sent going silent empty =
+    hears-same s e rows Going sent going (acknowledges-silent s e (marked rows) silent) (sym (ap (ended_for s e) (ends-silent s e (marked rows) silent))) empty
+
+module _ (s : Upload) (e : Event) (rows : List Row) (sent : List Sent) (going : list_all (λ x. marked rows x.drone x.packet) (all_packets s) ≡ false) (empty : sent ≡ [])
+    (x : Sent) (only : IsOnly s e x) where
+  -- a good answer to what isn't in flight
+  pub hears-out : reply_to s x.drone x.packet e ≡ Good → includes (flight_after s (marked rows)) x ≡ false → Hears s e rows rows Going sent
+  hears-out good out =
+      hears-same s e rows Going sent going (acknowledges-out s e (marked rows) x only out)
+      (sym (ap (ended_for s e)
+      (ends-none s e (marked rows) x only (ap (λ (r : Reply). is_end r && counts_for s (marked rows) x.drone x.packet && not (marked rows x.drone x.packet)) good)))) empty
+
+  module _ (p : Progress) (ends : reply_to s x.drone x.packet e ≡ Ends p) where
+    -- an answer that would end the upload, but comes too late or doesn't count
+    pub hears-past : (counts_for s (marked rows) x.drone x.packet ≡ false) ⊎ (marked rows x.drone x.packet ≡ true) → Hears s e rows rows Going sent
+    hears-past either =
+        hears-same s e rows Going sent going (acknowledges-bad s e (marked rows) x only (ap is_good ends)) (sym (ap (ended_for s e) (ends-none s e (marked rows) x only calm))) empty where
+          calm : ends_for s (marked rows) e x ≡ false
+          calm = elim either [
+            | inl out ↦
+                and_left (is_end (reply_to s x.drone x.packet e) && counts_for s (marked rows) x.drone x.packet) (not (marked rows x.drone x.packet))
+                (and_right (is_end (reply_to s x.drone x.packet e)) (counts_for s (marked rows) x.drone x.packet) out)
+            | inr past ↦
+                and_right (is_end (reply_to s x.drone x.packet e) && counts_for s (marked rows) x.drone x.packet) (not (marked rows x.drone x.packet)) (ap not past)
+          ]
+
+    -- one that ends it
+    pub hears-end : x.drone < drone_count s → x.packet < packet_count s x.drone → counts_for s (marked rows) x.drone x.packet ≡ true →
+        marked rows x.drone x.packet ≡ false → Hears s e rows rows p sent
+    hears-end l b counts opened =
+        hears-same s e rows p sent going (acknowledges-bad s e (marked rows) x only (ap is_good ends))
+        (sym (ap (ended_for s e)
+        (ends-here s e (marked rows) x only l b
+        (and_from (is_end (reply_to s x.drone x.packet e) && counts_for s (marked rows) x.drone x.packet) (not (marked rows x.drone x.packet))
+        (and_from (is_end (reply_to s x.drone x.packet e)) (counts_for s (marked rows) x.drone x.packet) (ap is_end ends) counts) (ap not opened)))
+        ∙ ap end_of ends)) empty
 
 -- a good answer to what is in flight
 pub hears-more : (s : Upload) (e : Event) (rows later : List Row) (answer : Progress) (sent : List Sent) (x : Sent) → IsOnly s e x →
