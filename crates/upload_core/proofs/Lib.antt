@@ -5,3 +5,6 @@ pub mod Windows
 pub mod Walks
 pub mod Candidates
 pub mod Standing
+pub mod Phases
+pub mod Settling
+pub mod Hearing

@@ -140,7 +140,7 @@ flight-open s p done d k found =
       opened false e = refl
 
 module _ (s : Upload) (done more : Packets) (sub : (d k : ℕ) → done d k ≡ true → more d k ≡ true) where
-  settled-more : (p : Phase) → all_settled s p done ≡ true → all_settled s p more ≡ true
+  pub settled-more : (p : Phase) → all_settled s p done ≡ true → all_settled s p more ≡ true
   unfolding all_settled
   settled-more p e =
       all-weaker (λ d. list_all (done d) (range_with_len (first_of s p d) (count_of s p d))) (λ d. list_all (more d) (range_with_len (first_of s p d) (count_of s p d))) 0 (drone_count s)

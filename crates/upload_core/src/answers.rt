@@ -8,7 +8,7 @@ ghost use Rattle.upload_model.specs.Sessions.{drone_count, write_count, load_cou
 ghost use Rattle.crtp_packets.specs.Chunks.{chunk_start};
 ghost use Rattle.upload_model.specs.Replies as replies;
 ghost use Rattle.upload_model.specs.Replies.{ReadBack, status_in, read_in, read_reply, reply_in};
-ghost use Rattle.upload_model.specs.Hosts.{phase_of, flight_after, joined, acknowledges, sent_to, all_packets, counts as counts_for, ends_for, ended_for, includes as includes_sent, if_going};
+ghost use Rattle.upload_model.specs.Hosts.{Packets, phase_of, flight_after, joined, acknowledges, sent_to, all_packets, counts as counts_for, ends_for, ended_for, includes as includes_sent, if_going};
 ghost use Rattle.upload_core.specs.Rows.{among, window_at, is_marked, row_at, marked, counted};
 ghost use Rattle.upload_core.specs.Steps.{RowsStand, IsFor, IsLow};
 
@@ -280,14 +280,12 @@ fn reply(session: &Session, drone: u8, k: u16, message: &Up) -> Reply
     }
 }
 
-/// Whether an answer may end the upload for packet `k` of a drone. With read-back answers to reads and
-/// starts count once the first phase is complete.
-fn counts(session: &Session, rows: &[Row], phase: Phase, drone: usize, k: usize) -> bool
-    requires known { drone < drone_count session.now }
-    requires phase { phase ≡ phase_of session.now (marked rows.now) }
-    ensures { result ≡ counts_for session.now (marked rows.now) drone k }
+/// Whether an answer may end the upload for packet `k` of a drone in this phase. With read-back answers
+/// to reads and starts count once the first phase is complete.
+fn counts(session: &Session, phase: Phase, drone: usize, k: usize) -> bool
+    requires { drone < drone_count session.now }
+    ensures { (done : Packets) → phase ≡ phase_of session.now done → result ≡ counts_for session.now done drone k }
 {
-    let _rows = rows;
     if k < session.first_of(Phase::Reading, drone) || !session.reads_back() {
         return true;
     }
@@ -308,6 +306,7 @@ fn settle(session: &Session, rows: &mut [Row], phase: Phase, drone: usize, k: u1
     ensures sent { out.new.items ≡ sent_to drone
         (filter (λ j. not (among (window_at rows.old drone) j)) (window_at rows.new drone)) }
 {
+    let _drones = session.drones();
     let before = rows[drone].next;
     rows[drone].settle(k, session.end_of(phase, drone) as u16);
     put_news(out, drone, before, rows[drone].next);
@@ -348,6 +347,7 @@ fn acknowledge(
     if is_settled(rows) {
         return Progress::Done;
     }
+    let _drones = session.drones();
     put_flight(rows, out);
     Progress::Going
 }
@@ -406,7 +406,7 @@ pub fn hear(
             acknowledge(session, rows, phase, from, k, out)
         }
         Reply::Ends { progress } => {
-            if rows[from].is_past(k) || !counts(session, rows, *phase, from, k as usize) {
+            if rows[from].is_past(k) || !counts(session, *phase, from, k as usize) {
                 return Progress::Going;
             }
             progress

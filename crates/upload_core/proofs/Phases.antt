@@ -1,0 +1,129 @@
+-- The phase that an upload is in, and whether all is acknowledged.
+use Rattle.std.proofs.Common.{◌≡◌, ℕ, ◌+◌, ◌<◌, ◌≤◌, Bool, true, false, not, cond, ◌&&◌, ◌==◌, List, [], ◌∷◌, length, refl, ap, sym, subst, ◌∙◌, arith, inl, inr}
+use Rattle.std.specs.List.{range_with_len, list_all}
+use Rattle.std.proofs.lemmas.Bool.{cases_lt, false≢true, false_from_ne_true}
+use Rattle.upload_model.specs.declared.events.Phase.{Phase}
+use Rattle.upload_model.specs.declared.events.Phase.TheVariants.{Loading, Reading, Starting}
+use Rattle.upload_model.specs.declared.events.Sent.{Sent}
+use Rattle.upload_model.specs.Sessions.{Upload, drone_count, load_count, read_count, start_number, packet_count, first_of, count_of}
+use Rattle.upload_model.specs.Hosts.{Packets, all_settled, phase_of, all_packets}
+use Rattle.upload_model.proofs.HostLaws.{Settled-from, all_packets-each}
+use Rattle.upload_model.proofs.HostSteps.{all_settled-agree}
+use Rattle.upload_core.specs.declared.row.Row.{Row}
+use Rattle.upload_core.specs.Rows.{marked}
+use Rattle.upload_core.specs.Steps.{IsBegun, RowsStand}
+use Rattle.upload_core.proofs.Staying.{settled-more}
+use Rattle.upload_core.proofs.Windows.{all-settled, not-settled, empty-all, some-window}
+use Rattle.upload_core.proofs.Standing.{list_all-packets_agree}
+
+-- ---- the phase
+
+pub phase-last : (s : Upload) (done : Packets) → IsBegun s done Starting → Starting ≡ phase_of s done
+unfolding phase_of
+phase-last s done begun =
+    sym (ap (λ (b : Bool). cond (not b) Loading (cond (not (all_settled s Reading done)) Reading Starting)) begun.0 ∙ ap (λ (b : Bool). cond (not b) Reading Starting) begun.1)
+
+-- it is the one that has begun and isn't complete
+pub phase-is : (s : Upload) (p : Phase) (done : Packets) → IsBegun s done p → all_settled s p done ≡ false → p ≡ phase_of s done
+unfolding phase_of
+phase-is s Loading done begun here = sym (ap (λ (b : Bool). cond (not b) Loading (cond (not (all_settled s Reading done)) Reading Starting)) here)
+phase-is s Reading done begun here =
+    sym (ap (λ (b : Bool). cond (not b) Loading (cond (not (all_settled s Reading done)) Reading Starting)) begun ∙ ap (λ (b : Bool). cond (not b) Reading Starting) here)
+phase-is s Starting done begun here = phase-last s done begun
+
+begun-of : (s : Upload) (done : Packets) → IsBegun s done (phase_of s done)
+unfolding phase_of
+begun-of s done = by_loading (all_settled s Loading done) refl where
+  by_reading : (b : Bool) → all_settled s Reading done ≡ b → all_settled s Loading done ≡ true → IsBegun s done (cond (not b) Reading Starting)
+  by_reading true e l = (l, e)
+  by_reading false e l = l
+
+  by_loading : (b : Bool) → all_settled s Loading done ≡ b → IsBegun s done (cond (not b) Loading (cond (not (all_settled s Reading done)) Reading Starting))
+  by_loading true e = by_reading (all_settled s Reading done) refl e
+  by_loading false e = tt
+
+pub begun-more : (s : Upload) (done more : Packets) → ((d k : ℕ) → done d k ≡ true → more d k ≡ true) → (p : Phase) → IsBegun s done p → IsBegun s more p
+begun-more s done more sub Loading begun = tt
+begun-more s done more sub Reading begun = settled-more s done more sub Loading begun
+begun-more s done more sub Starting begun = (settled-more s done more sub Loading begun.0, settled-more s done more sub Reading begun.1)
+
+pub begun-phase : (s : Upload) (p : Phase) (done more : Packets) → p ≡ phase_of s done → ((d k : ℕ) → done d k ≡ true → more d k ≡ true) → IsBegun s more p
+begun-phase s p done more is sub = begun-more s done more sub p (subst (IsBegun s done) (sym is) (begun-of s done))
+
+-- whether the phase of these rows is complete
+pub rows-complete : (s : Upload) (p : Phase) (rows : List Row) → RowsStand s p rows → list_all (λ (row : Row). length row.window.items == 0) rows ≡ true → all_settled s p (marked rows) ≡ true
+rows-complete s p rows stand none = all-settled s p rows stand (λ d l. empty-all rows none d)
+
+pub rows-open : (s : Upload) (p : Phase) (rows : List Row) → RowsStand s p rows → list_all (λ (row : Row). length row.window.items == 0) rows ≡ false → all_settled s p (marked rows) ≡ false
+rows-open s p rows stand some =
+    let one = some-window rows some in
+    let l = one.1 in
+    not-settled s p rows stand one.0 (let n = stand.count in omega arith) one.2
+
+-- whether the first phase is complete
+pub loading-open : (s : Upload) (done : Packets) → Loading ≡ phase_of s done → all_settled s Loading done ≡ false
+unfolding phase_of
+loading-open s done is = at (all_settled s Loading done) refl is where
+  later : (b : Bool) → Loading ≡ cond (not b) Reading Starting → ⊥
+  later true e = absurd (cc)
+  later false e = absurd (cc)
+
+  at : (b : Bool) → all_settled s Loading done ≡ b → Loading ≡ cond (not b) Loading (cond (not (all_settled s Reading done)) Reading Starting) → b ≡ false
+  at true e f = absurd (later (all_settled s Reading done) f)
+  at false e f = refl
+
+pub loading-done : (s : Upload) (p : Phase) (done : Packets) → p ≡ phase_of s done → (p ≡ Loading → ⊥) → all_settled s Loading done ≡ true
+loading-done s Loading done is other = absurd (other refl)
+loading-done s Reading done is other = begun-phase s Reading done done is (λ d k e. e)
+loading-done s Starting done is other = (begun-phase s Starting done done is (λ d k e. e)).0
+
+-- ---- all packets
+
+list_all-true : (f : ℕ → Bool) → ((k : ℕ) → f k ≡ true) → (ks : List ℕ) → list_all f ks ≡ true
+list_all-true f h [] = refl
+list_all-true f h (k ∷ ks) = ap (λ (b : Bool). b && list_all f ks) (h k) ∙ list_all-true f h ks
+
+all_settled-all : (s : Upload) (p : Phase) → all_settled s p (λ d k. true) ≡ true
+unfolding all_settled
+all_settled-all s p =
+    list_all-true (λ d. list_all (λ k. true) (range_with_len (first_of s p d) (count_of s p d)))
+    (λ d. list_all-true (λ k. true) (λ k. refl) (range_with_len (first_of s p d) (count_of s p d))) (range_with_len 0 (drone_count s))
+
+-- where a phase isn't complete, not all is acknowledged
+pub all-open : (s : Upload) (p : Phase) (done : Packets) → all_settled s p done ≡ false → list_all (λ x. done x.drone x.packet) (all_packets s) ≡ false
+all-open s p done here =
+    false_from_ne_true (list_all (λ x. done x.drone x.packet) (all_packets s))
+    (λ all. false≢true (sym here ∙ all_settled-agree s p done (λ d k. true) (λ d k l b. all_packets-each s (λ x. done x.drone x.packet) all d k l b) ∙ all_settled-all s p))
+
+list_all-always : (xs : List Sent) → list_all (λ x. true) xs ≡ true
+list_all-always [] = refl
+list_all-always (x ∷ xs) = list_all-always xs
+
+-- all is, where each of the three is complete
+all-three : (s : Upload) (done : Packets) → all_settled s Loading done ≡ true → all_settled s Reading done ≡ true → all_settled s Starting done ≡ true →
+    list_all (λ x. done x.drone x.packet) (all_packets s) ≡ true
+unfolding packet_count
+all-three s done loading reading starting =
+    list_all-packets_agree s (λ x. done x.drone x.packet) (λ x. true) each ∙ list_all-always (all_packets s) where
+      each : (d k : ℕ) → d < drone_count s → k < packet_count s d → done d k ≡ true
+      each d k l b = elim (cases_lt k (load_count s d)) [
+        | inl low ↦ Settled-from s Loading done loading d l k (omega arith) (omega arith)
+        | inr past ↦ elim (cases_lt k (start_number s d)) [
+          | inl inside ↦ Settled-from s Reading done reading d l k past inside
+          | inr last ↦ Settled-from s Starting done starting d l k last b
+        ]
+      ]
+
+-- all is, where the phase that it is in is complete
+pub all-done : (s : Upload) (p : Phase) (done : Packets) → p ≡ phase_of s done → all_settled s p done ≡ true → list_all (λ x. done x.drone x.packet) (all_packets s) ≡ true
+unfolding phase_of
+all-done s p done is here = by_loading (all_settled s Loading done) refl (subst (λ (q : Phase). all_settled s q done ≡ true) is here) where
+  by_reading : (b : Bool) → all_settled s Reading done ≡ b → all_settled s Loading done ≡ true → all_settled s (cond (not b) Reading Starting) done ≡ true →
+      list_all (λ x. done x.drone x.packet) (all_packets s) ≡ true
+  by_reading true e l f = all-three s done l e f
+  by_reading false e l f = absurd (false≢true (sym e ∙ f))
+
+  by_loading : (b : Bool) → all_settled s Loading done ≡ b → all_settled s (cond (not b) Loading (cond (not (all_settled s Reading done)) Reading Starting)) done ≡ true →
+      list_all (λ x. done x.drone x.packet) (all_packets s) ≡ true
+  by_loading true e f = by_reading (all_settled s Reading done) refl e f
+  by_loading false e f = absurd (false≢true (sym e ∙ f))
