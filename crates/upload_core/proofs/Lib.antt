@@ -5,3 +5,5 @@ pub mod Windows
 pub mod Walks
 pub mod Candidates
 pub mod Standing
+pub mod Beginning
+pub mod Looking
