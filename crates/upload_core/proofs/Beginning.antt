@@ -1,5 +1,5 @@
 -- A host to which nothing has happened.
-use Rattle.std.proofs.Common.{◌≡◌, ℕ, ◌+◌, ◌<◌, ◌≤◌, Bool, true, false, not, cond, List, [], ◌∷◌, length, refl, ap, sym, ◌∙◌, arith, inl}
+use Rattle.std.proofs.Common.{◌≡◌, ℕ, ◌+◌, ◌<◌, ◌≤◌, Bool, false, not, cond, List, [], ◌∷◌, length, refl, ap, sym, ◌∙◌, arith, inl}
 use Rattle.std.specs.Prelude.{All}
 use Rattle.std.specs.List.{list_all}
 use Rattle.std.proofs.lemmas.Bool.{eq-eqb, ne_eqb, false≢true, false_from_ne_true}
@@ -8,7 +8,7 @@ use Rattle.upload_model.specs.declared.events.Phase.{Phase}
 use Rattle.upload_model.specs.declared.events.Phase.TheVariants.{Loading, Reading, Starting}
 use Rattle.upload_model.specs.declared.events.Progress.{Progress}
 use Rattle.upload_model.specs.declared.events.Progress.TheVariants.{Going}
-use Rattle.upload_model.specs.Sessions.{Upload, drone_count, packet_count}
+use Rattle.upload_model.specs.Sessions.{Upload, drone_count}
 use Rattle.upload_model.specs.Hosts.{all_settled, phase_of, all_packets, acked, flight}
 use Rattle.upload_model.proofs.Readings.{count-loads}
 use Rattle.upload_model.proofs.HostLaws.{Settled-from, acked-nil, all_packets-each}
@@ -19,24 +19,22 @@ use Rattle.upload_core.specs.HostStandsFor.{HostStandsFor}
 use Rattle.upload_core.specs.Rows.{packets_in, row_at, marked, counted, count_in}
 use Rattle.upload_core.specs.Steps.{IsBetween, IsStarting, RowsStand, IsReady, in_windows}
 use Rattle.upload_core.proofs.Windows.{windows-flight}
-
-abbrev IsFresh : InFlight → Type 0
-IsFresh e = e.ticks < 20
+use Rattle.upload_core.proofs.Standing.{IsUntired}
 
 -- numbers that rise, none of which has a count
-fresh-rising : (a b : ℕ) (es : List InFlight) → IsBetween a b (packets_in es) → ((k : ℕ) → a ≤ k → count_in es k ≡ 0) → All IsFresh es
-fresh-rising a b [] rising none = All-nil IsFresh
-fresh-rising a b (e ∷ es) rising none =
+untired-rising : (a b : ℕ) (es : List InFlight) → IsBetween a b (packets_in es) → ((k : ℕ) → a ≤ k → count_in es k ≡ 0) → All IsUntired es
+untired-rising a b [] rising none = All-nil IsUntired
+untired-rising a b (e ∷ es) rising none =
     let from = rising.0 in
     let here : e.ticks ≡ 0 = sym (ap (λ (v : Bool). cond v e.ticks (count_in es e.packet)) (eq-eqb e.packet e.packet refl)) ∙ none e.packet from in
-    All-cons IsFresh e es (omega arith)
-    (fresh-rising (e.packet + 1) b es rising.2
+    All-cons IsUntired e es (omega arith)
+    (untired-rising (e.packet + 1) b es rising.2
     (λ k l. sym (ap (λ (v : Bool). cond v e.ticks (count_in es k)) (ne_eqb e.packet k (λ same. omega (arith, same, l)))) ∙ none k (omega arith)))
 
 module _ (s : Upload) (some : 1 ≤ drone_count s) (rows : List Row) (count : length rows ≡ drone_count s)
     (each : (d : ℕ) → d < drone_count s → IsStarting s d (row_at rows d)) where
   pub rows-begin : RowsStand s Loading rows
-  rows-begin = record { count = count; each = λ d l. (each d l).stands; }
+  rows-begin = record { count = count; each = λ d l. (each d l).stands }
 
   blank : marked rows 0 0 ≡ false
   blank = (each 0 some).blank 0
@@ -55,11 +53,11 @@ module _ (s : Upload) (some : 1 ≤ drone_count s) (rows : List Row) (count : le
         let n = count-loads s 0 in
         let m = phase-inside s Loading 0 in
         false≢true (sym blank ∙ all_packets-each s (λ x. marked rows x.drone x.packet) all 0 0 some (omega arith)));
-    low = All-from_get_or (λ (row : Row). All IsFresh row.window.items) rows (record { window = record { items = [] }; next = 0; until = 0 })
+    low = All-from_get_or (λ (row : Row). All IsUntired row.window.items) rows (record { window = record { items = [] }; next = 0; until = 0 })
         (λ d l.
         let known : d < drone_count s = omega arith in
         let row = each d known in
-        fresh-rising 0 (row_at rows d).next (row_at rows d).window.items row.stands.shape.rising (λ k m. row.counts k));
+        untired-rising 0 (row_at rows d).next (row_at rows d).window.items row.stands.shape.rising (λ k m. row.counts k));
   }
 
   pub stands-begin : HostStandsFor (record { session = s; marked = marked rows; counted = counted rows; progress = Going }) []

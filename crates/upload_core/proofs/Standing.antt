@@ -1,9 +1,9 @@
 -- From the rows of a host to the definitions over its list of events.
 use Rattle.std.proofs.Common.{◌≡◌, ◌==◌, ◌≢◌, ℕ, zero, suc, ◌+◌, ◌<◌, ◌≤◌, Bool, true, false, not, cond, ◌&&◌, ◌||◌, eqb, List, [], ◌∷◌, ◌++◌, length, map, filter, refl, ap, sym, subst, ◌∙◌, arith, Option, Some, None, inl, inr}
 use Rattle.std.specs.Prelude.{find, nat_lt, All}
-use Rattle.std.specs.List.{range_with_len, list_any, list_all, flat_map}
+use Rattle.std.specs.List.{range_with_len, list_all, flat_map}
 use Rattle.std.specs.Option.{option_or}
-use Rattle.std.proofs.lemmas.Bool.{cases_eq, eq-eqb, ne_eqb, and_parts, false≢true, false_from_ne_true}
+use Rattle.std.proofs.lemmas.Bool.{cases_eq, eq-eqb, false≢true, false_from_ne_true}
 use Rattle.std.proofs.lemmas.List.{length-map}
 use Rattle.std.proofs.lemmas.List.Folds.{list_all-append, find-append}
 use Rattle.std.proofs.lemmas.List.Elements.{All-nil, All-cons, All-head, All-tail, All-map, All-weaker, All-from_get_or}
@@ -14,9 +14,9 @@ use Rattle.upload_model.specs.declared.events.Phase.TheVariants.{Loading}
 use Rattle.upload_model.specs.declared.events.Sent.{Sent}
 use Rattle.upload_model.specs.declared.events.Progress.{Progress}
 use Rattle.upload_model.specs.declared.events.Progress.TheVariants.{Going, Done, GaveUp, Refused, Differs}
-use Rattle.upload_model.specs.Sessions.{Upload, drone_count, load_count, packet_count, first_of, count_of}
+use Rattle.upload_model.specs.Sessions.{Upload, drone_count, load_count, packet_count, first_of}
 use Rattle.upload_model.specs.Replies.{reply_to, is_good, is_end}
-use Rattle.upload_model.specs.Hosts.{Packets, all_settled, phase_of, allowed, includes, gave_up, if_going, sent_at, sent_to, all_packets, acknowledges, joined, acked, counts, flight_in, flight_after, flight, is_tick, ticks, ended_for, ends_for, ended_by, progress, out}
+use Rattle.upload_model.specs.Hosts.{Packets, phase_of, allowed, includes, gave_up, if_going, sent_at, sent_to, all_packets, acknowledges, joined, acked, counts, flight_after, flight, ticks, ended_for, ends_for, ended_by, progress, out}
 use Rattle.upload_model.proofs.HostLaws.{All-flat_map_range, acked-push, acked-more, acked-done, IsFlight, flight-fits}
 use Rattle.upload_model.proofs.HostSteps.{flat_map-range-agree, acked-tick, flight-tick, ticks-push, progress-stays, progress-next, progress-tick, Agree, all_settled-agree, phase_of-agree, flight_after-agree}
 use Rattle.upload_core.specs.declared.row.InFlight.{InFlight}
@@ -191,20 +191,21 @@ find-nowhere q f a (suc n) e d l b =
       | inr other ↦ find-nowhere q f (a + 1) n both.1 d (omega arith) (omega arith)
     ]
 
-abbrev IsFresh : InFlight → Type 0
-IsFresh e = e.ticks < 20
+-- not at 20 ticks yet
+abbrev pub IsUntired : InFlight → Type 0
+IsUntired e = e.ticks < 20
 
-not-tired : (es : List InFlight) → All IsFresh es → tired_in (map older es) ≡ None → All IsFresh (map older es)
-not-tired [] low none = All-nil IsFresh
-not-tired (x ∷ es) low none = at (x.ticks + 1 == 20) refl (λ f. not-tired es (All-tail IsFresh x es low) f) none where
-  at : (b : Bool) → (x.ticks + 1 == 20) ≡ b → (tired_in (map older es) ≡ None → All IsFresh (map older es)) → cond b (Some x.packet) (tired_in (map older es)) ≡ None →
-      All IsFresh (older x ∷ map older es)
+not-tired : (es : List InFlight) → All IsUntired es → tired_in (map older es) ≡ None → All IsUntired (map older es)
+not-tired [] low none = All-nil IsUntired
+not-tired (x ∷ es) low none = at (x.ticks + 1 == 20) refl (λ f. not-tired es (All-tail IsUntired x es low) f) none where
+  at : (b : Bool) → (x.ticks + 1 == 20) ≡ b → (tired_in (map older es) ≡ None → All IsUntired (map older es)) → cond b (Some x.packet) (tired_in (map older es)) ≡ None →
+      All IsUntired (older x ∷ map older es)
   at true e later f = absurd (cc)
-  at false e later f = All-cons IsFresh (older x) (map older es) fresh (later f) where
-    fresh : x.ticks + 1 < 20
-    fresh = elim (cases_eq (x.ticks + 1) 20) [
+  at false e later f = All-cons IsUntired (older x) (map older es) younger (later f) where
+    younger : x.ticks + 1 < 20
+    younger = elim (cases_eq (x.ticks + 1) 20) [
       | inl same ↦ absurd (false≢true (sym e ∙ eq-eqb (x.ticks + 1) 20 same))
-      | inr other ↦ let l = All-head IsFresh x es low in omega arith
+      | inr other ↦ let l = All-head IsUntired x es low in omega arith
     ]
 
 pub ready-tick : (s : Upload) (p : Phase) (rows : List Row) → RowsStand s p rows → (answer : Progress) →
@@ -212,7 +213,7 @@ pub ready-tick : (s : Upload) (p : Phase) (rows : List Row) → RowsStand s p ro
     IsReady s rows → answer ≡ Going → IsReady s (map older_row rows)
 ready-tick s p rows stand answer answer_is ready going = record {
   unfinished = list_all-packets_agree s (λ x. marked (map older_row rows) x.drone x.packet) (λ x. marked rows x.drone x.packet) (λ d k l b. older-marked rows d k) ∙ ready.unfinished;
-  low = All-from_get_or (λ (row : Row). All IsFresh row.window.items) (map older_row rows) (record { window = record { items = [] }; next = 0; until = 0 })
+  low = All-from_get_or (λ (row : Row). All IsUntired row.window.items) (map older_row rows) (record { window = record { items = [] }; next = 0; until = 0 })
       (λ d l. let n = length-map rows older_row in low_at d (omega arith));
 } where
   tired : Sent → Bool
@@ -227,9 +228,9 @@ ready-tick s p rows stand answer answer_is ready going = record {
       (sym (tired-row (map older_row rows) d (subst (IsRow 0) (sym (row_at-older rows d)) (older-row 0 (row_at rows d) (row-shape s p rows stand d l))))
       ∙ find-nowhere tired (λ i. sent_to i (window_at (map older_row rows) i)) 0 (length rows) nothing d (omega arith) (omega arith))
 
-  low_at : (d : ℕ) → d < length rows → All IsFresh (row_at (map older_row rows) d).window.items
+  low_at : (d : ℕ) → d < length rows → All IsUntired (row_at (map older_row rows) d).window.items
   low_at d l =
-      subst (λ (row : Row). All IsFresh row.window.items) (sym (row_at-older rows d))
+      subst (λ (row : Row). All IsUntired row.window.items) (sym (row_at-older rows d))
       (not-tired (row_at rows d).window.items (all-at rows ready.low d l)
       (ap (λ (row : Row). tired_in row.window.items) (sym (row_at-older rows d)) ∙ none_at d l))
 

@@ -6,7 +6,7 @@ use Rattle.std.proofs.lemmas.List.{with_items_is, length-map}
 use Rattle.upload_model.specs.declared.events.Event.TheVariants as event
 use Rattle.upload_model.specs.declared.events.Progress.TheVariants.{Going}
 use Rattle.upload_model.specs.declared.events.Sent.{Sent}
-use Rattle.upload_model.specs.Hosts.{phase_of, flight_after, gave_up, if_going, progress, out}
+use Rattle.upload_model.specs.Hosts.{phase_of, gave_up, if_going, progress, out}
 use Rattle.upload_model.proofs.HostLaws.{if_going-fits}
 use Rattle.upload_core.specs.declared.row.Row.{Row}
 use Rattle.upload_core.specs.HostState.{HostState, IsPacketOf, view_of}

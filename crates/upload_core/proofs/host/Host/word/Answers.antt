@@ -1,5 +1,5 @@
 -- Why `word` keeps its contract, at the places where the check needs to be told.
-use Rattle.std.proofs.Common.{◌≡◌, ◌⊎◌, ◌+◌, ◌*◌, ◌&&◌, ◌<◌, ◌∙◌, ℕ, Bool, List, length, ap, sym, subst, arith}
+use Rattle.std.proofs.Common.{◌≡◌, ◌⊎◌, ◌+◌, ◌*◌, ◌&&◌, ◌<◌, ◌∙◌, List, length, ap, sym, subst, arith}
 use Rattle.std.specs.Prelude.{nat_lt}
 use Rattle.upload_model.specs.declared.events.Event.{Event}
 use Rattle.upload_model.specs.declared.events.Progress.TheVariants.{Going, Done}
@@ -8,7 +8,7 @@ use Rattle.upload_model.specs.Hosts.{acked, progress}
 use Rattle.upload_core.specs.declared.row.Row.{Row}
 use Rattle.upload_core.specs.HostState.{HostState, view_of}
 use Rattle.upload_core.specs.HostStandsFor.{HostStandsFor}
-use Rattle.upload_core.specs.Rows.{bit, is_marked, row_at, marked, IsWord}
+use Rattle.upload_core.specs.Rows.{is_marked, row_at, marked, IsWord}
 use Rattle.upload_core.proofs.Windows.{row-at}
 use Rattle.upload_core.proofs.Looking.{marks-stand, word-here}
 use Rattle.upload_core.proofs.host.Host.word.Goals as goal
