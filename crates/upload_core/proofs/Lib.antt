@@ -1,3 +1,5 @@
+pub mod Beginning
+pub mod Looking
 pub mod Numbers
 pub mod RowLemmas
 pub mod Staying
@@ -5,5 +7,3 @@ pub mod Windows
 pub mod Walks
 pub mod Candidates
 pub mod Standing
-pub mod Beginning
-pub mod Looking
