@@ -1,9 +1,0 @@
-pub mod Walks
-pub mod Finding
-pub mod Hearing
-pub mod Standing
-pub mod Hosting
-pub mod Known
-pub mod RowLemmas
-pub mod RowsBy
-pub mod Points

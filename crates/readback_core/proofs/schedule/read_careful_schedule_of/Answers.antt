@@ -1,8 +1,0 @@
--- Why `read_careful_schedule_of` keeps its contract, at the places where the check needs to be told.
-use Rattle.std.proofs.Common.{arith}
-use Rattle.readback_core.proofs.schedule.read_careful_schedule_of.Goals as goal
-
-pub put_line-requires-clause-short : goal.put_line-requires-clause-short
-put_line-requires-clause-short c =
-    let (cut, place, within, less) = c.in-Some.ensures in
-    omega (arith, within, c.lines.invariant.some, c.lines.invariant.counted, c.requires.text)
