@@ -1,6 +1,5 @@
 //! A plain program that does what `upload` does, from a plan: for bench/upload, which compares the two. The host is
-//! that of docs/RADIO.md, but without read-back and starts, and with good answers that count for any packet: those of
-//! bench/upload are all to packets in flight, or to packets that are acknowledged.
+//! that of docs/RADIO.md, but without read-back and starts.
 //!
 //!     upload PLAN < FRAMES
 use std::io::{self, Read, Write};
@@ -93,6 +92,9 @@ impl Host {
         let mut before = [usize::MAX; 4];
         for (slot, it) in before.iter_mut().zip(drone.flight()) {
             *slot = it;
+        }
+        if !before.contains(&k) {
+            return None;
         }
         drone.acked[k] = true;
         while drone.cursor < drone.writes && drone.acked[drone.cursor] {
