@@ -1,6 +1,6 @@
 -- The definitions at small sessions: each line computes one answer and compares it with what the
 -- document of the radio says.
-use Rattle.std.proofs.Common.{◌≡◌, ℕ, ◌∷◌, ◌++◌, [], List, Bool, true, false, replicate, take, refl, None, Some}
+use Rattle.std.proofs.Common.{◌≡◌, ℕ, ◌∷◌, ◌++◌, [], List, Bool, true, false, replicate, take, drop, refl, None, Some}
 use Rattle.std.specs.Prelude.{map, Option}
 use Rattle.std.specs.List.{range_with_len}
 use Rattle.upload_model.specs.declared.events.Event.TheVariants as event
@@ -52,6 +52,10 @@ memory_after s events = ((world s blank events).drones 0).memory
 
 unfoldable started_after : Upload → List WorldEvent → Option ℕ
 started_after s events = ((world s blank events).drones 0).started
+
+-- what it gave as answers
+unfoldable given_after : Upload → List WorldEvent → List (List ℕ)
+given_after s events = (world s blank events).given 0
 
 -- what the last of these events sends
 unfoldable sends : Upload → List Event → Event → List Sent
@@ -105,6 +109,18 @@ started = refl
 started_id : started_after (session true) (schedule ++ Take 0 3 ∷ Hear 0 4 ∷ []) ≡ Some 0
 unfolding ends ends_after memory_after started_after sends heard_next handled part_count write_count read_count packet_at packet_count reply_in reply_to all_settled phase_of flight_in flight_at acknowledges acked_from acked ticks all_packets ending progress_within progress out start_world host_event happens
 started_id = refl
+
+-- a start that is sent twice is taken three times; its last answer alone is enough
+abbrev often : List WorldEvent
+often = schedule ++ Take 0 3 ∷ Take 0 3 ∷ Tick ∷ Take 0 4 ∷ []
+
+taken_often : drop 4 (given_after (session true) often) ≡ replicate 3 (0x8C ∷ 5 ∷ 0 ∷ 0 ∷ 0 ∷ [])
+unfolding ends ends_after memory_after started_after given_after sends heard_next handled part_count write_count read_count packet_at packet_count reply_in reply_to all_settled phase_of flight_in flight_at acknowledges acked_from acked ticks all_packets ending progress_within progress out start_world host_event happens
+taken_often = refl
+
+taken_often_end : ends_after (session true) (often ++ Hear 0 6 ∷ []) ≡ Done
+unfolding ends ends_after memory_after started_after sends heard_next handled part_count write_count read_count packet_at packet_count reply_in reply_to all_settled phase_of flight_in flight_at acknowledges acked_from acked ticks all_packets ending progress_within progress out start_world host_event happens
+taken_often_end = refl
 
 -- nineteen ticks, and twenty
 abbrev silence : ℕ → List Event

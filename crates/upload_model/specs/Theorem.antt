@@ -97,6 +97,14 @@ UnstartedLaw =
     ((i : ℕ) (e : WorldEvent) → slice_get events i ≡ Some e → TakesStart s (world s drones (take i events)) d e → ⊥) →
     ((world s drones events).drones d).started ≡ (drones d).started
 
+-- At Done, where the session starts, each drone has taken a start at some event, whoever else alters a
+-- byte. It may have taken more than one: nothing bounds how often.
+abbrev pub TakenLaw : Type 0
+TakenLaw =
+    (s : Upload) (drones : ℕ → DroneState) → IsCase s drones → (events : List WorldEvent) (d : ℕ) → d < drone_count s →
+    s.start ≡ true → progress s (world s drones events).heard ≡ Done →
+    (i : ℕ) × (e : WorldEvent) × (slice_get events i ≡ Some e) × TakesStart s (world s drones (take i events)) d e
+
 -- What is acknowledged stays so, and Done stays Done: what follows from them holds at each later
 -- moment.
 abbrev pub LastingLaw : Type 0

@@ -1,7 +1,7 @@
 //! The laws of an upload.
 
 ghost use Rattle.std.specs.Prelude.{◌≡◌};
-ghost use Rattle.upload_model.specs.Theorem.{UploadLaw, StartLaw, UnstartedLaw, LastingLaw};
+ghost use Rattle.upload_model.specs.Theorem.{UploadLaw, StartLaw, UnstartedLaw, TakenLaw, LastingLaw};
 ghost use Rattle.upload_model.specs.Readback.{ReadsCover, VerifiedLaw, StartsLastLaw};
 
 use crate::limits::*;
@@ -12,6 +12,7 @@ pub fn upload_law()
     ensures safe { UploadLaw }
     ensures starts { StartLaw }
     ensures unstarted { UnstartedLaw }
+    ensures taken { TakenLaw }
     ensures lasts { LastingLaw }
 {}
 
