@@ -1,3 +1,5 @@
+pub mod Beginning
+pub mod Looking
 pub mod Numbers
 pub mod RowLemmas
 pub mod Staying

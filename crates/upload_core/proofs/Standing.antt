@@ -1,12 +1,12 @@
 -- From the rows of a host to the definitions over its list of events.
 use Rattle.std.proofs.Common.{◌≡◌, ◌==◌, ◌≢◌, ℕ, zero, suc, ◌+◌, ◌<◌, ◌≤◌, Bool, true, false, not, cond, ◌&&◌, ◌||◌, eqb, List, [], ◌∷◌, ◌++◌, length, map, filter, refl, ap, sym, subst, ◌∙◌, arith, Option, Some, None, inl, inr}
 use Rattle.std.specs.Prelude.{find, nat_lt, All}
-use Rattle.std.specs.List.{range_with_len, list_any, list_all, flat_map}
+use Rattle.std.specs.List.{range_with_len, list_all, flat_map}
 use Rattle.std.specs.Option.{option_or}
-use Rattle.std.proofs.lemmas.Bool.{eq-eqb, ne_eqb, and_parts, false≢true, false_from_ne_true}
+use Rattle.std.proofs.lemmas.Bool.{cases_eq, eq-eqb, false≢true, false_from_ne_true}
 use Rattle.std.proofs.lemmas.List.{length-map}
 use Rattle.std.proofs.lemmas.List.Folds.{list_all-append, find-append}
-use Rattle.std.proofs.lemmas.List.Elements.{All-nil, All-cons, All-head, All-tail, All-map, All-weaker}
+use Rattle.std.proofs.lemmas.List.Elements.{All-nil, All-cons, All-head, All-tail, All-map, All-weaker, All-from_get_or}
 use Rattle.upload_model.specs.declared.events.Event.{Event}
 use Rattle.upload_model.specs.declared.events.Event.TheVariants as event
 use Rattle.upload_model.specs.declared.events.Phase.{Phase}
@@ -14,20 +14,22 @@ use Rattle.upload_model.specs.declared.events.Phase.TheVariants.{Loading}
 use Rattle.upload_model.specs.declared.events.Sent.{Sent}
 use Rattle.upload_model.specs.declared.events.Progress.{Progress}
 use Rattle.upload_model.specs.declared.events.Progress.TheVariants.{Going, Done, GaveUp, Refused, Differs}
-use Rattle.upload_model.specs.Sessions.{Upload, drone_count, load_count, packet_count, first_of, count_of}
+use Rattle.upload_model.specs.Sessions.{Upload, drone_count, load_count, packet_count, first_of}
 use Rattle.upload_model.specs.Replies.{reply_to, is_good, is_end}
-use Rattle.upload_model.specs.Hosts.{Packets, all_settled, phase_of, allowed, includes, gave_up, if_going, sent_at, sent_to, all_packets, acknowledges, joined, acked, counts, flight_in, flight_after, flight, is_tick, ticks, ended_for, ends_for, ended_by, progress, out}
-use Rattle.upload_model.proofs.HostLaws.{All-flat_map_range, acked-push, acked-more, acked-done}
+use Rattle.upload_model.specs.Hosts.{Packets, phase_of, allowed, includes, gave_up, if_going, sent_at, sent_to, all_packets, acknowledges, joined, acked, counts, flight_after, flight, ticks, ended_for, ends_for, ended_by, progress, out}
+use Rattle.upload_model.proofs.HostLaws.{All-flat_map_range, acked-push, acked-more, acked-done, IsFlight, flight-fits}
 use Rattle.upload_model.proofs.HostSteps.{flat_map-range-agree, acked-tick, flight-tick, ticks-push, progress-stays, progress-next, progress-tick, Agree, all_settled-agree, phase_of-agree, flight_after-agree}
 use Rattle.upload_core.specs.declared.row.InFlight.{InFlight}
 use Rattle.upload_core.specs.declared.row.Row.{Row}
 use Rattle.upload_core.specs.Rows.{packets_in, among, is_past, is_marked, row_at, marked, window_at, counted, count_in}
-use Rattle.upload_core.specs.Steps.{IsBetween, IsRow, older, older_row, RowStands, RowsStand, IsReady, IsLow, in_windows}
-use Rattle.upload_core.specs.HostState.{HostView}
+use Rattle.upload_core.specs.Steps.{IsBetween, IsRow, older, older_row, tired_in, RowStands, RowsStand, IsReady, IsLow, in_windows}
+use Rattle.upload_core.specs.HostState.{HostView, IsPacketOf}
 use Rattle.upload_core.specs.HostStandsFor.{HostStandsFor}
+use Rattle.upload_core.proofs.Numbers.{between-weaker}
 use Rattle.upload_core.proofs.RowLemmas.{packets-older, count_in-older}
 use Rattle.upload_core.proofs.Staying.{includes-flight_at, flight-open, ticks-none}
 use Rattle.upload_core.proofs.Windows.{windows-flight, includes-windows}
+use Rattle.upload_core.proofs.Walks.{all-at, packet_of, tired-row}
 
 -- ---- tests that agree at the packets of a session
 
@@ -99,6 +101,12 @@ all-windows P rows n h =
     (λ d l b. All-map P (λ (k : ℕ). record { drone = d; packet = k }) (window_at rows d)
     (All-weaker (λ k. among (window_at rows d) k ≡ true) (λ k. P (record { drone = d; packet = k })) (λ k f. h d k (omega arith) f) (window_at rows d) (all-among (window_at rows d))))
 
+-- ---- what is in flight are packets of the session
+
+pub flight_after-known : (s : Upload) (done : Packets) → All (IsPacketOf s) (flight_after s done)
+flight_after-known s done =
+    All-weaker (IsFlight s done) (IsPacketOf s) (λ x f. record { drone = f.drone; packet = f.packet.inside }) (flight_after s done) (flight-fits s done)
+
 -- ---- rows with one tick more
 
 pub row_at-older : (rows : List Row) (d : ℕ) → row_at (map older_row rows) d ≡ older_row (row_at rows d)
@@ -145,6 +153,86 @@ older-rows s p rows stand = record {
 
 pub older-phase : (s : Upload) (rows : List Row) → phase_of s (marked rows) ≡ phase_of s (marked (map older_row rows))
 older-phase s rows = sym (phase_of-agree s (marked (map older_row rows)) (marked rows) (λ d k l b. older-marked rows d k))
+
+-- a row, seen from the number 0
+pub row-shape : (s : Upload) (p : Phase) (rows : List Row) → RowsStand s p rows → (d : ℕ) → d < length rows → IsRow 0 (row_at rows d)
+row-shape s p rows stand d l =
+    let n = stand.count in
+    let shape = (stand.each d (omega arith)).shape in
+    record {
+      rising = between-weaker 0 (first_of s p d) (row_at rows d).next (packets_in (row_at rows d).window.items) (omega arith) shape.rising;
+      from = omega arith;
+      past = shape.past;
+      few = shape.few;
+      full = shape.full;
+    }
+
+-- ---- a tick after which the upload goes on
+
+no-option : {X : Type 0} (o p : Option X) → option_or o p ≡ None → (o ≡ None) × (p ≡ None)
+no-option None p e = (refl, e)
+no-option (Some x) p e = absurd (cc)
+
+no-packet : (d : ℕ) (o : Option ℕ) → packet_of d o ≡ None → o ≡ None
+no-packet d None e = refl
+no-packet d (Some k) e = absurd (cc)
+
+not-given_up : (o : Option Sent) → gave_up o ≡ Going → o ≡ None
+not-given_up None e = refl
+not-given_up (Some x) e = absurd (cc)
+
+-- what isn't found anywhere isn't found at one drone
+find-nowhere : (q : Sent → Bool) (f : ℕ → List Sent) (a n : ℕ) → find q (flat_map f (range_with_len a n)) ≡ None → (d : ℕ) → a ≤ d → d < a + n → find q (f d) ≡ None
+find-nowhere q f a zero e d l b = absurd (omega arith)
+find-nowhere q f a (suc n) e d l b =
+    let both = no-option (find q (f a)) (find q (flat_map f (range_with_len (a + 1) n))) (sym (find-append q (f a) (flat_map f (range_with_len (a + 1) n))) ∙ e) in
+    elim (cases_eq a d) [
+      | inl same ↦ ap (λ (i : ℕ). find q (f i)) (sym same) ∙ both.0
+      | inr other ↦ find-nowhere q f (a + 1) n both.1 d (omega arith) (omega arith)
+    ]
+
+-- not at 20 ticks yet
+abbrev pub IsUntired : InFlight → Type 0
+IsUntired e = e.ticks < 20
+
+not-tired : (es : List InFlight) → All IsUntired es → tired_in (map older es) ≡ None → All IsUntired (map older es)
+not-tired [] low none = All-nil IsUntired
+not-tired (x ∷ es) low none = at (x.ticks + 1 == 20) refl (λ f. not-tired es (All-tail IsUntired x es low) f) none where
+  at : (b : Bool) → (x.ticks + 1 == 20) ≡ b → (tired_in (map older es) ≡ None → All IsUntired (map older es)) → cond b (Some x.packet) (tired_in (map older es)) ≡ None →
+      All IsUntired (older x ∷ map older es)
+  at true e later f = absurd (cc)
+  at false e later f = All-cons IsUntired (older x) (map older es) younger (later f) where
+    younger : x.ticks + 1 < 20
+    younger = elim (cases_eq (x.ticks + 1) 20) [
+      | inl same ↦ absurd (false≢true (sym e ∙ eq-eqb (x.ticks + 1) 20 same))
+      | inr other ↦ let l = All-head IsUntired x es low in omega arith
+    ]
+
+pub ready-tick : (s : Upload) (p : Phase) (rows : List Row) → RowsStand s p rows → (answer : Progress) →
+    answer ≡ gave_up (find (λ x. counted (map older_row rows) x.drone x.packet == 20) (in_windows rows (length rows))) →
+    IsReady s rows → answer ≡ Going → IsReady s (map older_row rows)
+ready-tick s p rows stand answer answer_is ready going = record {
+  unfinished = list_all-packets_agree s (λ x. marked (map older_row rows) x.drone x.packet) (λ x. marked rows x.drone x.packet) (λ d k l b. older-marked rows d k) ∙ ready.unfinished;
+  low = All-from_get_or (λ (row : Row). All IsUntired row.window.items) (map older_row rows) (record { window = record { items = [] }; next = 0; until = 0 })
+      (λ d l. let n = length-map rows older_row in low_at d (omega arith));
+} where
+  tired : Sent → Bool
+  tired x = counted (map older_row rows) x.drone x.packet == 20
+
+  nothing : find tired (in_windows (map older_row rows) (length rows)) ≡ None
+  nothing = ap (find tired) (older-windows rows (length rows)) ∙ not-given_up (find tired (in_windows rows (length rows))) (sym answer_is ∙ going)
+
+  none_at : (d : ℕ) → d < length rows → tired_in (row_at (map older_row rows) d).window.items ≡ None
+  none_at d l =
+      no-packet d (tired_in (row_at (map older_row rows) d).window.items)
+      (sym (tired-row (map older_row rows) d (subst (IsRow 0) (sym (row_at-older rows d)) (older-row 0 (row_at rows d) (row-shape s p rows stand d l))))
+      ∙ find-nowhere tired (λ i. sent_to i (window_at (map older_row rows) i)) 0 (length rows) nothing d (omega arith) (omega arith))
+
+  low_at : (d : ℕ) → d < length rows → All IsUntired (row_at (map older_row rows) d).window.items
+  low_at d l =
+      subst (λ (row : Row). All IsUntired row.window.items) (sym (row_at-older rows d))
+      (not-tired (row_at rows d).window.items (all-at rows ready.low d l)
+      (ap (λ (row : Row). tired_in row.window.items) (sym (row_at-older rows d)) ∙ none_at d l))
 
 -- ---- a tick
 

@@ -1,18 +1,18 @@
 //! The host: it keeps its phase, of each drone the packets in flight, and its last answer.
 
-ghost use Rattle.std.specs.Prelude.{◌≡◌, ℕ, ◌+◌, ◌*◌, ◌<◌, ◌≤◌, ◌⊎◌, Bool, List, [], ◌∷◌, ◌++◌, length, take, map, IfOk, All};
+ghost use Rattle.std.specs.Prelude.{◌≡◌, ℕ, ◌+◌, ◌*◌, ◌<◌, ◌≤◌, ◌⊎◌, ◌&&◌, nat_lt, Bool, List, [], ◌∷◌, ◌++◌, length, take, map, IfOk, All};
 ghost use Rattle.upload_model.specs.declared.events.Event.{Event};
 ghost use Rattle.upload_model.specs.declared.events.Progress.{Progress};
 ghost use Rattle.upload_model.specs.Sessions.{drone_count, write_count, packet_count};
 ghost use Rattle.upload_model.specs.Hosts.{acked, progress, flight, out as out_of};
 ghost use Rattle.upload_core.specs.HostState.{HostState, IsPacketOf, view_of};
 ghost use Rattle.upload_core.specs.HostStandsFor.{HostStandsFor};
-ghost use Rattle.upload_core.specs.Rows.{IsWord, cursor_of};
+ghost use Rattle.upload_core.specs.Rows.{bit, is_marked, IsWord, cursor_of};
 
 use crate::answers::hear;
 use crate::row::Row;
 use crate::rows::{Out, first_rows, put_flight, tick};
-use crate::session::Session;
+use crate::session::{MOST_PACKETS, Session};
 use crtp_packets::PACKET_BYTES;
 use std::alloc::{AllocError, Global};
 use std::marker::Model;
@@ -53,6 +53,22 @@ impl Model for Host {
         × IsSession h.session
         × (h.phase ≡ phase_of h.session (marked h.rows.items))
         × (h.progress ≡ Going → IsReady h.session h.rows.items) };
+}
+
+/// Word `w` of the first `count` packets of a drone.
+fn word_of(row: &Row, count: usize, w: usize) -> u64
+    requires few { count ≤ MOST_PACKETS }
+    requires in_range { 64 * w < count }
+    ensures { (k : ℕ) → k < 64 → bit result k ≡ (nat_lt (64 * w + k) count && is_marked row.now (64 * w + k)) }
+{
+    let mut word = 0;
+    for k in 0..WORD_BITS {
+        let packet = WORD_BITS * w + k;
+        if packet < count && row.is_past(packet as u16) {
+            word |= 1 << k;
+        }
+    }
+    word
 }
 
 impl Host {
@@ -165,15 +181,7 @@ impl Host {
             (progress self.now.session h ≡ Progress.Going) ⊎ (progress self.now.session h ≡ Progress.Done) →
             IsWord self.now.session (acked self.now.session h) drone w result }
     {
-        let count = self.session.count(drone);
-        let mut word = 0;
-        for k in 0..WORD_BITS {
-            let packet = WORD_BITS * w + k;
-            if packet < count && self.rows[drone].is_past(packet as u16) {
-                word |= 1 << k;
-            }
-        }
-        word
+        word_of(&self.rows[drone], self.session.count(drone), w)
     }
 
     /// A tick while the upload is going.
