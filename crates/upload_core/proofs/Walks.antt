@@ -35,7 +35,6 @@ find-at p n k l before here =
     (ap (find p) (range-one_more k) ∙ find-append p (range_with_len 0 k) (k ∷ [])
     ∙ ap (λ (o : Option ℕ). option_or o (find p (k ∷ []))) before ∙ ap (λ (b : Bool). cond b (Some k) None) here)
 
-
 -- ---- what is sent and counted, drone by drone
 
 pub sent-entry : (d : ℕ) (es : List InFlight) (i : ℕ) (x : InFlight) → take (i + 1) es ≡ take i es ++ x ∷ [] →

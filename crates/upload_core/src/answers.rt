@@ -15,7 +15,9 @@ ghost use Rattle.upload_core.specs.Steps.{RowsStand, IsFor, IsLow};
 use crate::row::Row;
 use crate::rows::{Out, advance, is_settled, put_flight, put_news};
 use crate::session::Session;
-use crtp_packets::{DEFINE, PACKET_BYTES, Piece, READ_BYTES, START, Up, WRITE_BYTES, parse_up_bytes};
+use crtp_packets::{
+    DEFINE, PACKET_BYTES, Piece, READ_BYTES, START, Up, WRITE_BYTES, parse_up_bytes,
+};
 use upload_model::{ACCEPTED, Phase, Progress, Reply};
 
 /// The write of a drone to this memory at this address.

@@ -11,9 +11,7 @@ use crate::row::{InFlight, Row};
 use crate::session::Session;
 use arrayvec::ArrayVec;
 use std::alloc::{AllocError, Global};
-use upload_model::{
-    MOST_DRONES, PACKETS_IN_FLIGHT, Phase, Progress, Sent, TICKS_TO_GIVE_UP,
-};
+use upload_model::{MOST_DRONES, PACKETS_IN_FLIGHT, Phase, Progress, Sent, TICKS_TO_GIVE_UP};
 
 /// The most packets that one event sends.
 pub const MOST_SENT: usize = MOST_DRONES * PACKETS_IN_FLIGHT;

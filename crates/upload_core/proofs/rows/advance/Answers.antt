@@ -40,7 +40,8 @@ returns-clause-phase c =
     let stand : RowsStand c.args.session.now Loading c.args.rows.now
     = subst (λ (p : Phase). RowsStand c.args.session.now p c.args.rows.now) c.in-Loading.is c.requires.rows in
     phase-last c.args.session.now (marked c.begin-2.new.rows)
-    (begun-more c.args.session.now (marked c.begin.new.rows) (marked c.begin-2.new.rows) (λ d k e. c.begin-2.ensures.marks d k ∙ e) Starting
-    (begun-more c.args.session.now (marked c.args.rows.now) (marked c.begin.new.rows) (λ d k e. c.begin.ensures.marks d k ∙ e) Reading
-    (rows-complete c.args.session.now Loading c.args.rows.now stand (sym c.is_settled.ensures ∙ c.if-not-is_settled.false)),
-    rows-complete c.args.session.now Reading c.begin.new.rows c.begin.ensures.rows (sym c.is_settled-2.ensures ∙ c.if-not-is_settled-2.false)))
+    (begun-more c.args.session.now (marked c.begin.new.rows) (marked c.begin-2.new.rows) (λ d k e. c.begin-2.ensures.marks d k ∙ e) Starting (
+      begun-more c.args.session.now (marked c.args.rows.now) (marked c.begin.new.rows) (λ d k e. c.begin.ensures.marks d k ∙ e) Reading
+          (rows-complete c.args.session.now Loading c.args.rows.now stand (sym c.is_settled.ensures ∙ c.if-not-is_settled.false)),
+      rows-complete c.args.session.now Reading c.begin.new.rows c.begin.ensures.rows (sym c.is_settled-2.ensures ∙ c.if-not-is_settled-2.false),
+    ))

@@ -9,7 +9,7 @@ use Rattle.upload_core.proofs.rows.put_news.Goals as goal
 pub loop-packet-preserved : goal.loop-packet-preserved
 loop-packet-preserved c = (
   c.push.ensures.items ∙ ap (λ (xs : List Sent). xs ++ record { drone = c.args.drone; packet = c.loop-packet.packet } ∷ []) c.loop-packet.invariant.0
-  ∙ sent-more c.args.drone c.args.from c.loop-packet.packet (omega arith),
+      ∙ sent-more c.args.drone c.args.from c.loop-packet.packet (omega arith),
   (let few = c.loop-packet.invariant.1 in let long = c.push.ensures.len in omega arith),
   (let last = c.loop-packet.invariant.2 in omega arith),
 )
