@@ -1,16 +1,15 @@
 -- What an answer says of a packet, from the statuses and bytes that it carries.
-use Rattle.std.proofs.Common.{◌≡◌, ◌≢◌, ℕ, zero, suc, ◌+◌, ◌-◌, ◌<◌, ◌≤◌, Bool, true, false, not, cond, ◌&&◌, ◌||◌, eqb, ltb, List, [], ◌∷◌, length, get_or, refl, ap, sym, ◌∙◌, arith, Option, Some, None, Result, Ok, Err, inl, inr, subst}
+use Rattle.std.proofs.Common.{◌≡◌, ℕ, zero, suc, ◌+◌, ◌-◌, ◌<◌, ◌≤◌, Bool, true, false, not, cond, ◌&&◌, ◌||◌, eqb, ltb, List, length, get_or, refl, ap, sym, ◌∙◌, arith, Option, Some, None, Result, Ok, Err, inl, inr, subst}
 use Rattle.std.specs.Prelude.{find}
 use Rattle.std.specs.List.{range_with_len}
-use Rattle.std.proofs.lemmas.Bool.{and_parts, and_from, cases_eq, cases_Bool, false≢true, eqb-true, eq-eqb, lt-ltb, ltb-true, not-true}
+use Rattle.std.proofs.lemmas.Bool.{and_parts, cases_eq, false≢true, eqb-true, eq-eqb, ltb-true}
 use Rattle.crtp_packets.specs.Reading.{up_of}
 use Rattle.crtp_packets.specs.declared.reading.PacketFault.{PacketFault}
 use Rattle.crtp_packets.specs.declared.reading.Up.{Up}
 use Rattle.crtp_packets.specs.declared.reading.Up.TheVariants.{WriteAnswer, ReadAnswer, CommandAnswer}
 use Rattle.upload_model.specs.declared.events.Event.{Event}
 use Rattle.upload_model.specs.declared.events.Event.TheVariants as event
-use Rattle.upload_model.specs.declared.events.Progress.{Progress}
-use Rattle.upload_model.specs.declared.events.Progress.TheVariants.{Going, Done, GaveUp, Refused, Differs}
+use Rattle.upload_model.specs.declared.events.Progress.TheVariants.{Going, Refused, Differs}
 use Rattle.upload_model.specs.declared.events.Reply.{Reply}
 use Rattle.upload_model.specs.declared.events.Reply.TheVariants.{Silent, Good, Ends}
 use Rattle.upload_model.specs.Sessions.{Upload, drone_count, load_count, read_count, packet_count, is_read, read_address, wanted}

@@ -1,7 +1,7 @@
 -- Laws of what is acknowledged, in flight and answered.
-use Rattle.std.proofs.Common.{◌≡◌, ℕ, zero, suc, ◌+◌, ◌-◌, ◌<◌, ◌≤◌, Bool, true, false, not, cond, ◌&&◌, ◌||◌, eqb, ltb, List, [], ◌∷◌, ◌++◌, length, take, drop, refl, ap, sym, ◌∙◌, arith, Option, Some, None, ◌⊎◌, inl, inr, subst}
+use Rattle.std.proofs.Common.{◌≡◌, ℕ, zero, suc, ◌+◌, ◌-◌, ◌<◌, ◌≤◌, Bool, true, false, not, cond, ◌&&◌, eqb, ltb, List, [], ◌∷◌, ◌++◌, length, take, drop, refl, ap, sym, ◌∙◌, arith, Option, Some, None, ◌⊎◌, inl, inr, subst}
 use Rattle.std.specs.Prelude.{slice_get, find, filter, All}
-use Rattle.std.specs.List.{range_with_len, list_any, list_all, flat_map}
+use Rattle.std.specs.List.{range_with_len, list_all, flat_map}
 use Rattle.std.proofs.lemmas.Bool.{cases_lt, and_parts, or_cases, or_left, false≢true, eqb-true}
 use Rattle.std.proofs.lemmas.List.{take-append-drop}
 use Rattle.std.proofs.lemmas.Option.{get_or_from_slice_get, slice_get_within}
@@ -11,16 +11,14 @@ use Rattle.upload_model.specs.declared.events.Event.{Event}
 use Rattle.upload_model.specs.declared.events.Event.TheVariants as event
 use Rattle.upload_model.specs.declared.events.Phase.{Phase}
 use Rattle.upload_model.specs.declared.events.Phase.TheVariants.{Loading, Reading, Starting}
-use Rattle.upload_model.specs.declared.events.Reply.{Reply}
 use Rattle.upload_model.specs.declared.events.Reply.TheVariants.{Silent, Good, Ends}
 use Rattle.upload_model.specs.declared.events.Sent.{Sent}
 use Rattle.upload_model.specs.declared.events.Progress.{Progress}
 use Rattle.upload_model.specs.declared.events.Progress.TheVariants.{Going, Done, GaveUp, Refused, Differs}
-use Rattle.upload_model.specs.Sessions.{Upload, drone_count, write_count, load_count, start_number, start_count, packet_count, first_of, count_of, is_read, read_address, wanted}
+use Rattle.upload_model.specs.Sessions.{Upload, drone_count, write_count, load_count, start_number, packet_count, first_of, count_of, is_read, read_address, wanted}
 use Rattle.crtp_packets.specs.Reading.{up_of}
-use Rattle.upload_model.specs.Replies.{ReadBack, status_in, read_in, status_reply, first_other, compared, read_reply, reply_in, reply_to, is_good, is_end, end_of}
-use Rattle.upload_model.specs.Hosts.{Packets, all_settled, phase_of, allowed, flight_in, flight_at, flight_after, flight, sent_to, acknowledges, joined, acked_from, acked, ticks, all_packets, gave_up, counts, ended_for, ends_for, ended_by, ending, or_else, progress_within, progress, includes, sent_at, if_going, out}
-use Rattle.upload_model.proofs.Readings.{count-loads, count-reads}
+use Rattle.upload_model.specs.Replies.{ReadBack, status_in, read_in, status_reply, first_other, compared, read_reply, reply_in, reply_to, is_good, end_of}
+use Rattle.upload_model.specs.Hosts.{Packets, all_settled, phase_of, allowed, flight_in, flight_at, flight_after, flight, sent_to, acknowledges, joined, acked_from, acked, ticks, all_packets, gave_up, ended_for, ends_for, ended_by, ending, or_else, progress_within, progress, includes, sent_at, if_going, out}
 
 -- ---- lists over ranges
 

@@ -1,7 +1,7 @@
 -- What one more event does to what is acknowledged, counted and answered.
-use Rattle.std.proofs.Common.{◌≡◌, ◌≢◌, ℕ, zero, suc, ◌+◌, ◌-◌, ◌<◌, ◌≤◌, Bool, true, false, not, cond, ◌&&◌, ◌||◌, eqb, List, [], ◌∷◌, ◌++◌, length, take, refl, ap, sym, ◌∙◌, arith, Option, Some, None}
+use Rattle.std.proofs.Common.{◌≡◌, ◌≢◌, ℕ, zero, suc, ◌+◌, ◌-◌, ◌<◌, ◌≤◌, Bool, true, false, not, cond, ◌&&◌, eqb, List, [], ◌∷◌, ◌++◌, length, take, refl, ap, sym, ◌∙◌, arith, Option, Some, None}
 use Rattle.std.specs.Prelude.{slice_get, find, filter, count_by}
-use Rattle.std.specs.List.{range_with_len, list_any, list_all, flat_map}
+use Rattle.std.specs.List.{range_with_len, list_all, flat_map}
 use Rattle.std.proofs.lemmas.Bool.{false≢true}
 use Rattle.std.proofs.lemmas.List.{take-append-le, take_all, length_push, length-append, append-nil, append_assoc}
 use Rattle.std.proofs.lemmas.List.Sums.{length-filter}
@@ -14,7 +14,7 @@ use Rattle.upload_model.specs.declared.events.Sent.{Sent}
 use Rattle.upload_model.specs.declared.events.Progress.{Progress}
 use Rattle.upload_model.specs.declared.events.Progress.TheVariants.{Going, Done, GaveUp, Refused, Differs}
 use Rattle.upload_model.specs.Sessions.{Upload, drone_count, write_count, load_count, packet_count, first_of, count_of}
-use Rattle.upload_model.specs.Replies.{reply_to, is_good}
+use Rattle.upload_model.specs.Replies.{reply_to}
 use Rattle.upload_model.specs.Hosts.{Packets, all_settled, phase_of, allowed, flight_in, flight_at, flight_after, flight, sent_to, acknowledges, joined, acked, is_tick, includes, ticks, all_packets, gave_up, ended_by, ending, or_else, progress_within, progress}
 use Rattle.upload_model.proofs.Readings.{count-loads}
 use Rattle.upload_model.proofs.HostLaws.{acked-push, acked-nil, all_packets-each, allowed-few}

@@ -1,6 +1,6 @@
 -- What later events leave: a started id changes only by a start, and what is acknowledged or done stays
 -- so.
-use Rattle.std.proofs.Common.{◌≡◌, ℕ, ◌+◌, ◌*◌, ◌<◌, Bool, true, not, cond, ◌&&◌, ltb, eqb, List, [], ◌∷◌, ◌++◌, length, take, refl, ap, sym, ◌∙◌, arith, Option, Some, None, ◌⊎◌, inl, inr, subst}
+use Rattle.std.proofs.Common.{◌≡◌, ℕ, ◌+◌, ◌*◌, ◌<◌, true, not, cond, ◌&&◌, ltb, eqb, List, [], ◌∷◌, ◌++◌, length, take, refl, ap, sym, ◌∙◌, arith, Option, Some, None, ◌⊎◌, inl, inr, subst}
 use Rattle.std.specs.Prelude.{slice_get}
 use Rattle.std.proofs.lemmas.Bool.{cases_eq, cond_both, cond-true, cond-false, eq-eqb, ne_eqb, ltb-true}
 use Rattle.std.proofs.lemmas.List.{append-nil, append_assoc}
@@ -13,7 +13,7 @@ use Rattle.upload_model.specs.declared.events.Progress.TheVariants.{Going, Done}
 use Rattle.upload_model.specs.declared.events.WorldEvent.{WorldEvent}
 use Rattle.upload_model.specs.declared.events.WorldEvent.TheVariants.{Tick, Take, Hear, Alter}
 use Rattle.upload_model.specs.Drones.{DroneState, Handled, answers, stored, write_taken, handled}
-use Rattle.upload_model.specs.Sessions.{Upload, IsSession, drone_count, load_of, packet_count, packet_at}
+use Rattle.upload_model.specs.Sessions.{Upload, IsSession, drone_count, load_of, packet_at}
 use Rattle.upload_model.specs.Hosts.{acked, progress}
 use Rattle.upload_model.specs.Worlds.{World, changed, start_world, host_event, take_named, hear_named, altered, happens, world}
 use Rattle.upload_model.specs.Theorem.{TakesStart, StartLaw, UnstartedLaw, LastingLaw}

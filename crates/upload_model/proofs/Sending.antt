@@ -1,6 +1,6 @@
 -- What the host sends, whoever else alters a byte: packets of the session; reads only after the first
 -- phase; starts only after all reads.
-use Rattle.std.proofs.Common.{◌≡◌, ℕ, ◌+◌, ◌<◌, ◌≤◌, Bool, true, false, cond, ◌&&◌, eqb, ltb, List, [], ◌∷◌, ◌++◌, map, get_or, refl, ap, sym, ◌∙◌, arith, Option, Some, None, subst}
+use Rattle.std.proofs.Common.{◌≡◌, ℕ, ◌<◌, ◌≤◌, Bool, true, false, cond, ◌&&◌, eqb, ltb, List, [], ◌∷◌, ◌++◌, map, get_or, refl, ap, sym, ◌∙◌, arith, Option, Some, None, subst}
 use Rattle.std.specs.Prelude.{slice_get, All, Contains, filter}
 use Rattle.std.proofs.lemmas.Bool.{cond_both, eqb-true}
 use Rattle.std.proofs.lemmas.List.{append-nil, append_assoc}
@@ -13,7 +13,7 @@ use Rattle.upload_model.specs.declared.events.Sent.{Sent}
 use Rattle.upload_model.specs.declared.events.WorldEvent.{WorldEvent}
 use Rattle.upload_model.specs.declared.events.WorldEvent.TheVariants.{Tick, Take, Hear, Alter}
 use Rattle.upload_model.specs.Drones.{DroneState}
-use Rattle.upload_model.specs.Sessions.{Upload, drone_count, write_count, load_count, start_number, packet_count, packet_at}
+use Rattle.upload_model.specs.Sessions.{Upload, drone_count, load_count, start_number, packet_count, packet_at}
 use Rattle.upload_model.specs.Hosts.{acked, flight, out}
 use Rattle.upload_model.specs.Worlds.{World, changed, packets_for, start_world, host_event, take_named, hear_named, altered, happens, run, world}
 use Rattle.upload_model.proofs.Readings.{Kind, a_write, a_define, a_read, a_start, packet_kind, packet_at-write, packet_at-define, packet_at-read}

@@ -1,5 +1,5 @@
 -- Each read that is right was right when it was answered, whoever else alters a byte.
-use Rattle.std.proofs.Common.{◌≡◌, ℕ, ◌+◌, ◌-◌, ◌<◌, ◌≤◌, Bool, true, false, List, [], ◌∷◌, ◌++◌, length, take, drop, refl, ap, sym, ◌∙◌, arith, Option, Some, None, inl, inr, subst, IfSome}
+use Rattle.std.proofs.Common.{◌≡◌, ℕ, ◌+◌, ◌<◌, ◌≤◌, true, false, List, [], ◌∷◌, ◌++◌, length, take, drop, refl, ap, sym, ◌∙◌, arith, Option, Some, None, inl, inr, subst, IfSome}
 use Rattle.std.specs.Prelude.{slice_get}
 use Rattle.std.proofs.lemmas.Bool.{cases_Bool, false≢true}
 use Rattle.std.proofs.lemmas.List.{take-append-le}
@@ -8,15 +8,13 @@ use Rattle.crtp_packets.specs.Packets.{read_answer_of}
 use Rattle.crtp_packets.specs.Reading.{up_of}
 use Rattle.upload_model.specs.declared.events.Event.{Event}
 use Rattle.upload_model.specs.declared.events.Event.TheVariants as event
-use Rattle.upload_model.specs.declared.events.Phase.TheVariants.{Loading, Reading}
 use Rattle.upload_model.specs.declared.events.Reply.TheVariants.{Silent}
 use Rattle.upload_model.specs.declared.events.WorldEvent.{WorldEvent}
 use Rattle.upload_model.specs.declared.events.WorldEvent.TheVariants.{Hear}
 use Rattle.upload_model.specs.Drones.{DroneState, Handled, handled}
 use Rattle.upload_model.specs.Sessions.{Upload, IsSession, drone_count, load_count, read_count, start_number, packet_count, packet_at, read_address, wanted, read_at}
-use Rattle.upload_model.specs.Replies.{ReadBack, read_in, reply_in, reply_to, is_good}
-use Rattle.upload_model.specs.Hosts.{acked, progress}
-use Rattle.upload_model.specs.Worlds.{World, happens, start_world, world}
+use Rattle.upload_model.specs.Replies.{ReadBack, read_in, reply_to, is_good}
+use Rattle.upload_model.specs.Worlds.{World, happens, world}
 use Rattle.upload_model.specs.Theorem.{IsCase}
 use Rattle.upload_model.specs.Readback.{is_right, HasRange, WasRight, VerifiedLaw, StartsLastLaw}
 use Rattle.upload_model.proofs.Readings.{Kind, a_write, a_define, a_read, a_start, packet_kind, packet_at-read, is_read-below, is_read-past, count-reads}

@@ -1,6 +1,6 @@
 -- The host, as functions of the whole list h of what happened to it (docs/RADIO.md, "The upload").
 -- These are sets and counts over that list; they say nothing of how a host remembers it.
-use Rattle.std.specs.Prelude.{ℕ, zero, suc, ◌+◌, ◌-◌, Bool, true, false, not, ◌&&◌, ◌||◌, nat_lt, ◌==◌, if◌then◌else◌, List, [], ◌∷◌, ◌++◌, length, take, map, filter, find, count_by, slice_get, Option, Some, None}
+use Rattle.std.specs.Prelude.{ℕ, zero, suc, ◌-◌, Bool, true, false, not, ◌&&◌, ◌||◌, nat_lt, ◌==◌, if◌then◌else◌, List, [], ◌∷◌, ◌++◌, length, take, map, filter, find, count_by, slice_get, Option, Some, None}
 use Rattle.std.specs.List.{range_with_len, list_any, list_all, flat_map}
 use Rattle.upload_model.specs.declared.limits.TheConstants.{PACKETS_IN_FLIGHT, TICKS_TO_GIVE_UP}
 use Rattle.upload_model.specs.declared.events.Event.{Event}

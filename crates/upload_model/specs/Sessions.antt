@@ -1,6 +1,6 @@
 -- A session: what is to be uploaded to which place, and the packets that do it, phase by phase
 -- (docs/RADIO.md, "The packets of a session").
-use Rattle.std.specs.Prelude.{ℕ, ◌+◌, ◌-◌, ◌*◌, ◌/◌, ◌<◌, ◌≤◌, Bool, ◌&&◌, nat_lt, nat_le, ◌==◌, if◌then◌else◌, List, [], ◌∷◌, length, map, take, drop, slice_index_or}
+use Rattle.std.specs.Prelude.{ℕ, ◌+◌, ◌-◌, ◌*◌, ◌/◌, ◌<◌, ◌≤◌, Bool, ◌&&◌, nat_lt, nat_le, ◌==◌, if◌then◌else◌, List, [], length, map, take, drop, slice_index_or}
 use Rattle.std.specs.List.{range_with_len}
 use Rattle.crtp_packets.specs.Chunks.{chunk_count_of, chunk_start, chunk_of}
 use Rattle.crtp_packets.specs.Packets.{write_request_of, read_request_of}

@@ -1,7 +1,7 @@
 -- The world: a host, a link that loses, repeats, delays and reorders packets, the drones, and somebody
 -- else who may alter a byte of a memory. It is given by recursion on the list of what happens in it
 -- (docs/RADIO.md, "What the upload theorem says").
-use Rattle.std.specs.Prelude.{ℕ, Bool, ◌&&◌, nat_lt, ◌==◌, if◌then◌else◌, List, [], ◌∷◌, ◌++◌, map, filter, slice_get, slice_set, Option, Some, None}
+use Rattle.std.specs.Prelude.{ℕ, ◌&&◌, nat_lt, ◌==◌, if◌then◌else◌, List, [], ◌∷◌, ◌++◌, map, filter, slice_get, slice_set, Option, Some, None}
 use Rattle.upload_model.specs.declared.limits.TheConstants.{MEMORY_BYTES}
 use Rattle.upload_model.specs.declared.events.Event.{Event}
 use Rattle.upload_model.specs.declared.events.Event.TheVariants as event
