@@ -1,11 +1,10 @@
 -- What an answer makes of an upload: what it acknowledges, and what it ends it with.
-use Rattle.std.proofs.Common.{◌≡◌, ◌≢◌, ◌⊎◌, ◌==◌, ℕ, ◌+◌, ◌<◌, ◌≤◌, Bool, true, false, not, cond, ◌&&◌, ◌||◌, eqb, List, [], ◌∷◌, filter, refl, ap, sym, subst, ◌∙◌, arith, Option, Some, None, Result, Ok, Err, inl, inr}
+use Rattle.std.proofs.Common.{◌≡◌, ◌⊎◌, ◌==◌, ℕ, ◌<◌, ◌≤◌, Bool, true, false, not, cond, ◌&&◌, ◌||◌, List, [], ◌∷◌, filter, refl, ap, sym, subst, ◌∙◌, arith, Option, Some, None, Err, inl, inr}
 use Rattle.std.specs.Prelude.{find, nat_lt}
-use Rattle.std.specs.List.{range_with_len, list_any, list_all}
-use Rattle.std.proofs.lemmas.Bool.{cases_eq, cases_Bool, eq-eqb, eqb-true, lt-ltb, false≢true, and_parts, and_from, false_from_ne_true, or_left, or_right, or_parts, and_left, and_right}
+use Rattle.std.specs.List.{range_with_len, list_all}
+use Rattle.std.proofs.lemmas.Bool.{cases_eq, eq-eqb, eqb-true, lt-ltb, false≢true, and_parts, and_from, false_from_ne_true, or_left, or_right, or_parts, and_left, and_right}
 use Rattle.crtp_packets.specs.Reading.{up_of}
 use Rattle.crtp_packets.specs.declared.reading.PacketFault.{PacketFault}
-use Rattle.crtp_packets.specs.declared.reading.Up.{Up}
 use Rattle.upload_model.specs.declared.events.Event.{Event}
 use Rattle.upload_model.specs.declared.events.Event.TheVariants as event
 use Rattle.upload_model.specs.declared.events.Sent.{Sent}
@@ -13,10 +12,10 @@ use Rattle.upload_model.specs.declared.events.Progress.{Progress}
 use Rattle.upload_model.specs.declared.events.Progress.TheVariants.{Going, Done, GaveUp, Refused, Differs}
 use Rattle.upload_model.specs.declared.events.Reply.{Reply}
 use Rattle.upload_model.specs.declared.events.Reply.TheVariants.{Silent, Good, Ends}
-use Rattle.upload_model.specs.Sessions.{Upload, drone_count, load_count, packet_count, is_read}
-use Rattle.upload_model.specs.Replies.{read_reply, status_reply, reply_in, reply_to, is_good, is_end, end_of}
+use Rattle.upload_model.specs.Sessions.{Upload, drone_count, packet_count, is_read}
+use Rattle.upload_model.specs.Replies.{reply_in, reply_to, is_good, is_end, end_of}
 use Rattle.upload_model.specs.Hosts.{Packets, includes, flight_after, acknowledges, joined, all_packets, counts as counts_for, ended_for, ends_for, if_going}
-use Rattle.upload_model.proofs.Answers.{IsAnswer, answer_from, reply-by}
+use Rattle.upload_model.proofs.Answers.{reply-by}
 use Rattle.upload_core.specs.declared.row.Row.{Row}
 use Rattle.upload_core.specs.Rows.{marked, counted}
 use Rattle.upload_core.specs.Steps.{IsFor}

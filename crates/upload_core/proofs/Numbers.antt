@@ -1,9 +1,8 @@
 -- Numbers that rise, and what is past of a row.
-use Rattle.std.proofs.Common.{◌≡◌, ◌≢◌, ◌⊎◌, ◌==◌, ℕ, zero, suc, ◌+◌, ◌-◌, ◌<◌, ◌≤◌, Bool, true, false, not, cond, ◌&&◌, ◌||◌, eqb, ltb, List, [], ◌∷◌, ◌++◌, length, take, map, filter, refl, ap, sym, subst, ◌∙◌, arith, inl, inr}
-use Rattle.std.specs.List.{range_with_len, list_all, list_any}
-use Rattle.std.proofs.lemmas.Bool.{cases_eq, cases_lt, cases_Bool, eq-eqb, ne_eqb, eqb-true, lt-ltb, le-ltb, false≢true, and_parts}
-use Rattle.std.proofs.lemmas.List.{append-nil, append_assoc, take_at, take_all, length-append}
-use Rattle.std.proofs.lemmas.List.Folds.{list_any-append, list_all-append}
+use Rattle.std.proofs.Common.{◌≡◌, ◌⊎◌, ◌==◌, ℕ, zero, suc, ◌+◌, ◌-◌, ◌<◌, ◌≤◌, Bool, true, false, not, cond, ◌&&◌, ◌||◌, ltb, List, [], ◌∷◌, ◌++◌, filter, refl, ap, sym, subst, ◌∙◌, arith, inl, inr}
+use Rattle.std.specs.List.{range_with_len, list_all}
+use Rattle.std.proofs.lemmas.Bool.{cases_eq, cases_lt, eq-eqb, ne_eqb, lt-ltb, le-ltb, false≢true}
+use Rattle.std.proofs.lemmas.List.Folds.{list_any-append}
 use Rattle.std.proofs.lemmas.List.Elements.{filter-append}
 use Rattle.upload_core.specs.Rows.{among, is_past}
 use Rattle.upload_core.specs.Steps.{IsBetween}

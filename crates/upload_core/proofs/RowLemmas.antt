@@ -1,10 +1,10 @@
 -- What is in flight of a row, and what one packet less or a tick more makes of it.
-use Rattle.std.proofs.Common.{◌≡◌, ◌≢◌, ◌⊎◌, ◌==◌, ℕ, zero, suc, ◌+◌, ◌-◌, ◌<◌, ◌≤◌, Bool, true, false, not, cond, ◌&&◌, ◌||◌, eqb, ltb, List, [], ◌∷◌, ◌++◌, length, take, drop, map, filter, set, get_or, refl, ap, sym, subst, ◌∙◌, arith, Option, Some, None, inl, inr}
-use Rattle.std.specs.Prelude.{find, All}
+use Rattle.std.proofs.Common.{◌≡◌, ◌≢◌, ◌==◌, ℕ, zero, suc, ◌+◌, ◌-◌, ◌<◌, ◌≤◌, Bool, true, false, not, cond, ◌||◌, eqb, List, [], ◌∷◌, ◌++◌, length, take, drop, map, filter, set, get_or, refl, ap, sym, subst, ◌∙◌, arith, Some, inl, inr}
+use Rattle.std.specs.Prelude.{All}
 use Rattle.std.specs.Option.{option_or}
 use Rattle.std.specs.List.{range_with_len, list_all, list_any, refill}
-use Rattle.std.proofs.lemmas.Bool.{cases_eq, cases_lt, eq-eqb, ne_eqb, false≢true, and_parts, and_from}
-use Rattle.std.proofs.lemmas.List.{append-nil, append_assoc, take_at, take_all, length-map, length-append, map-append}
+use Rattle.std.proofs.lemmas.Bool.{cases_eq, eq-eqb, ne_eqb, false≢true, and_parts, and_from}
+use Rattle.std.proofs.lemmas.List.{append-nil, append_assoc, take_at, take_all, length-map, map-append}
 use Rattle.std.proofs.lemmas.List.Elements.{All-nil, All-cons, All-append, All-filter, filter-append}
 use Rattle.upload_model.specs.declared.events.Phase.{Phase}
 use Rattle.upload_model.specs.declared.events.Phase.TheVariants.{Loading, Reading, Starting}
@@ -15,8 +15,8 @@ use Rattle.upload_model.proofs.HostSteps.{range-more}
 use Rattle.upload_core.specs.declared.row.InFlight.{InFlight}
 use Rattle.upload_core.specs.declared.row.Row.{Row}
 use Rattle.upload_core.specs.Rows.{packets_in, among, is_past, is_marked, count_in}
-use Rattle.upload_core.specs.Steps.{IsBetween, fresh, older, tired_in, IsRow, RowStands}
-use Rattle.upload_core.proofs.Numbers.{filter-agree, range-split, between-weaker, between-range, between-append, between-without, between-out, between-in, past-yes, past-in, past-later, past-grown, past-without, open-split, all-past, not-past}
+use Rattle.upload_core.specs.Steps.{IsBetween, fresh, older, tired_in, RowStands}
+use Rattle.upload_core.proofs.Numbers.{filter-agree, range-split, between-append, between-without, between-out, past-yes, past-in, past-grown, past-without, open-split, not-past}
 
 -- ---- packets and their counts
 

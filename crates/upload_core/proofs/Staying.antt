@@ -1,8 +1,8 @@
 -- What is in flight stays so until it is acknowledged; so what isn't in flight and isn't acknowledged never
 -- was, and has no ticks.
-use Rattle.std.proofs.Common.{◌≡◌, ◌≢◌, ◌==◌, ℕ, zero, suc, ◌+◌, ◌<◌, ◌≤◌, Bool, true, false, not, cond, ◌&&◌, ◌||◌, eqb, List, [], ◌∷◌, ◌++◌, take, filter, refl, ap, sym, ◌∙◌, arith, Some, inl, inr}
-use Rattle.std.specs.List.{range_with_len, list_any, list_all, flat_map}
-use Rattle.std.proofs.lemmas.Bool.{cases_eq, cases_Bool, eq-eqb, ne_eqb, and_parts, and_from, and_left, false≢true, false_from_ne_true}
+use Rattle.std.proofs.Common.{◌≡◌, ◌==◌, ℕ, zero, suc, ◌+◌, ◌<◌, ◌≤◌, Bool, true, false, not, cond, ◌&&◌, ◌||◌, eqb, List, [], ◌∷◌, ◌++◌, take, filter, refl, ap, sym, ◌∙◌, arith, Some, inl, inr}
+use Rattle.std.specs.List.{range_with_len, list_all, flat_map}
+use Rattle.std.proofs.lemmas.Bool.{cases_eq, eq-eqb, ne_eqb, and_parts, and_from, and_left, false≢true, false_from_ne_true}
 use Rattle.std.proofs.lemmas.List.Folds.{list_any-append}
 use Rattle.upload_model.specs.declared.events.Event.{Event}
 use Rattle.upload_model.specs.declared.events.Phase.{Phase}

@@ -1,22 +1,19 @@
 -- What is in flight of all drones, drone by drone, and rows of which one changes.
-use Rattle.std.proofs.Common.{◌≡◌, ◌≢◌, ◌==◌, ℕ, zero, suc, ◌+◌, ◌-◌, ◌<◌, ◌≤◌, Bool, true, false, not, cond, ◌&&◌, ◌||◌, List, [], ◌∷◌, ◌++◌, length, map, filter, set, get_or, refl, ap, sym, subst, ◌∙◌, arith, Option, Some, None, inl, inr}
-use Rattle.std.specs.Prelude.{find, All}
-use Rattle.std.specs.Option.{option_or}
-use Rattle.std.specs.List.{range_with_len, list_any, list_all, flat_map}
-use Rattle.std.proofs.lemmas.Bool.{cases_eq, eq-eqb, ne_eqb, false≢true, eqb-true, and_parts}
-use Rattle.std.proofs.lemmas.List.{append-nil, append_assoc, get_or-set_same, get_or-set_other, length-set, map-append}
+use Rattle.std.proofs.Common.{◌≡◌, ◌≢◌, ◌==◌, ℕ, zero, suc, ◌+◌, ◌-◌, ◌<◌, ◌≤◌, Bool, true, false, not, cond, ◌&&◌, ◌||◌, List, [], ◌∷◌, ◌++◌, length, filter, set, get_or, refl, ap, sym, ◌∙◌, arith, inl, inr}
+use Rattle.std.specs.List.{range_with_len, list_all, flat_map}
+use Rattle.std.proofs.lemmas.Bool.{cases_eq, eq-eqb, false≢true, eqb-true, and_parts}
+use Rattle.std.proofs.lemmas.List.{append-nil, append_assoc, get_or-set_same, get_or-set_other, map-append}
 use Rattle.std.proofs.lemmas.List.Elements.{filter-append}
-use Rattle.std.proofs.lemmas.List.Folds.{find-append}
 use Rattle.upload_model.specs.declared.events.Phase.{Phase}
 use Rattle.upload_model.specs.declared.events.Phase.TheVariants.{Loading, Reading, Starting}
 use Rattle.upload_model.specs.declared.events.Sent.{Sent}
 use Rattle.upload_model.specs.Sessions.{Upload, drone_count, first_of, count_of}
-use Rattle.upload_model.specs.Hosts.{Packets, allowed, all_settled, phase_of, includes, flight_in, flight_at, flight_after, sent_to}
+use Rattle.upload_model.specs.Hosts.{allowed, all_settled, phase_of, includes, flight_in, flight_at, flight_after, sent_to}
 use Rattle.upload_model.proofs.HostSteps.{range-more, list_all-range-agree, flat_map-range-agree}
 use Rattle.upload_core.specs.declared.row.InFlight.{InFlight}
 use Rattle.upload_core.specs.declared.row.Row.{Row}
-use Rattle.upload_core.specs.Rows.{packets_in, among, is_marked, row_at, marked, window_at}
-use Rattle.upload_core.specs.Steps.{RowStands, RowsStand, in_windows}
+use Rattle.upload_core.specs.Rows.{among, is_marked, row_at, marked, window_at}
+use Rattle.upload_core.specs.Steps.{RowsStand, in_windows}
 use Rattle.upload_core.proofs.Numbers.{not-past}
 use Rattle.upload_core.proofs.RowLemmas.{row-flight, row-settled, row-open}
 use Rattle.upload_core.proofs.Staying.{includes-rows}

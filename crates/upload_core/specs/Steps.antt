@@ -1,5 +1,5 @@
 -- What holds of each row, and the words of private functions. No public contract cites this file.
-use Rattle.std.specs.Prelude.{◌≡◌, ◌≢◌, ◌⊎◌, ℕ, ◌+◌, ◌-◌, ◌<◌, ◌≤◌, Bool, true, false, not, ◌&&◌, ◌||◌, nat_lt, ◌==◌, if◌then◌else◌, List, [], ◌∷◌, length, map, filter, Option, Some, None, Result, All}
+use Rattle.std.specs.Prelude.{◌≡◌, ◌≢◌, ◌⊎◌, ℕ, ◌+◌, ◌<◌, ◌≤◌, true, false, ◌==◌, if◌then◌else◌, List, [], ◌∷◌, length, map, Option, Some, None, Result, All}
 use Rattle.std.specs.List.{range_with_len, list_all, flat_map}
 use Rattle.crtp_packets.specs.declared.reading.PacketFault.{PacketFault}
 use Rattle.crtp_packets.specs.declared.reading.Up.{Up}
@@ -8,7 +8,7 @@ use Rattle.upload_model.specs.declared.events.Phase.TheVariants.{Loading, Readin
 use Rattle.upload_model.specs.declared.events.Reply.TheVariants.{Silent}
 use Rattle.upload_model.specs.declared.limits.TheConstants.{TICKS_TO_GIVE_UP}
 use Rattle.upload_model.specs.declared.events.Sent.{Sent}
-use Rattle.upload_model.specs.Sessions.{Upload, drone_count, packet_count, first_of, count_of}
+use Rattle.upload_model.specs.Sessions.{Upload, drone_count, packet_count, first_of}
 use Rattle.upload_model.specs.Replies.{reply_in}
 use Rattle.upload_model.specs.Hosts.{Packets, all_settled, allowed, all_packets, sent_to}
 use Rattle.upload_core.specs.declared.row.InFlight.{InFlight}

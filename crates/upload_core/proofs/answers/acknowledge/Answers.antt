@@ -1,11 +1,8 @@
 -- Why `acknowledge` keeps its contract, at the places where the check needs to be told.
-use Rattle.std.proofs.Common.{◌≡◌, ◌∙◌, ◌<◌, ◌≤◌, ◌==◌, Bool, true, false, cond, List, [], length, ap, sym, ℕ}
-use Rattle.std.specs.List.{list_all}
+use Rattle.std.proofs.Common.{◌≡◌, ◌∙◌, ◌<◌, Bool, true, false, cond, [], ap, sym, ℕ}
 use Rattle.upload_model.specs.declared.events.Progress.TheVariants.{Going, Done}
-use Rattle.upload_model.specs.declared.events.Sent.{Sent}
 use Rattle.upload_model.specs.Sessions.{drone_count}
-use Rattle.upload_model.specs.Hosts.{phase_of, all_packets}
-use Rattle.upload_core.specs.declared.row.Row.{Row}
+use Rattle.upload_model.specs.Hosts.{phase_of}
 use Rattle.upload_core.specs.Rows.{row_at, marked}
 use Rattle.upload_core.specs.Steps.{in_windows}
 use Rattle.upload_core.proofs.Windows.{empty-all}

@@ -1,5 +1,5 @@
 -- Why `command_for` keeps its contract, at the places where the check needs to be told.
-use Rattle.std.proofs.Common.{◌≡◌, ◌+◌, ◌<◌, ◌∙◌, ℕ, Bool, true, cond, sym, subst, arith}
+use Rattle.std.proofs.Common.{◌≡◌, ◌+◌, ◌<◌, ◌∙◌, Bool, true, cond, sym, subst, arith}
 use Rattle.std.proofs.lemmas.Bool.{false≢true}
 use Rattle.upload_model.specs.Sessions.{start_number, packet_count}
 use Rattle.upload_core.proofs.Candidates.{command-silent}

@@ -1,5 +1,5 @@
 -- Why `counts` keeps its contract, at the places where the check needs to be told.
-use Rattle.std.proofs.Common.{◌≡◌, ◌∙◌, ◌≤◌, ◌||◌, Bool, true, false, not, ap, sym, arith}
+use Rattle.std.proofs.Common.{◌≡◌, ◌∙◌, ◌≤◌, ◌||◌, Bool, not, ap, sym, arith}
 use Rattle.std.proofs.lemmas.Bool.{le-ltb}
 use Rattle.upload_model.specs.declared.events.Phase.TheVariants.{Loading}
 use Rattle.upload_model.specs.Sessions.{load_count}

@@ -1,15 +1,13 @@
 -- Why `hear` keeps its contract, at the places where the check needs to be told.
-use Rattle.std.proofs.Common.{◌≡◌, ◌∙◌, ◌<◌, ◌≤◌, ◌+◌, ℕ, List, true, false, length, get_or, refl, ap, sym, subst, arith, Result, Some, None, Ok, Err, inl, inr}
+use Rattle.std.proofs.Common.{◌≡◌, ◌∙◌, ◌<◌, ℕ, List, get_or, refl, ap, sym, subst, arith, Result, Some, None, Ok, inl, inr}
 use Rattle.crtp_packets.specs.Reading.{up_of}
 use Rattle.crtp_packets.specs.declared.reading.PacketFault.{PacketFault}
 use Rattle.crtp_packets.specs.declared.reading.Up.{Up}
 use Rattle.upload_model.specs.declared.events.Event.TheVariants as event
-use Rattle.upload_model.specs.declared.events.Progress.TheVariants.{Going}
 use Rattle.upload_model.specs.declared.events.Reply.{Reply}
 use Rattle.upload_model.specs.declared.events.Reply.TheVariants.{Silent, Good, Ends}
 use Rattle.upload_model.specs.declared.events.Phase.{Phase}
-use Rattle.upload_model.specs.declared.events.Sent.{Sent}
-use Rattle.upload_model.specs.Sessions.{Upload, drone_count, packet_count}
+use Rattle.upload_model.specs.Sessions.{Upload, drone_count}
 use Rattle.upload_model.specs.Replies.{reply_in, reply_to}
 use Rattle.upload_model.specs.Hosts.{phase_of, flight_after, includes}
 use Rattle.upload_core.specs.declared.row.Row.{Row}
@@ -17,7 +15,7 @@ use Rattle.upload_core.specs.Rows.{packets_in, among, is_marked, row_at, marked}
 use Rattle.upload_core.specs.Steps.{IsFor, RowsStand}
 use Rattle.upload_core.proofs.Windows.{row-at}
 use Rattle.upload_core.proofs.Settling.{flight-includes}
-use Rattle.upload_core.proofs.Hearing.{IsOnly, Hears, silent-unknown, silent-fault, silent-none, only-some, only-silent, reply-here, hears-silent, hears-out, hears-past, hears-end, hears-more}
+use Rattle.upload_core.proofs.Hearing.{IsOnly, silent-unknown, silent-fault, silent-none, only-some, only-silent, reply-here, hears-silent, hears-out, hears-past, hears-end, hears-more}
 use Rattle.upload_core.proofs.answers.hear.Goals as goal
 use Rattle.upload_core.proofs.answers.hear.Goals.{then-is_past-via-then-is_past, then-is_past-via-else-is_past+then-not-counts}
 

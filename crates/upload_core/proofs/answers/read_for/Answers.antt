@@ -1,6 +1,6 @@
 -- Why `read_for` keeps its contract, at the places where the check needs to be told.
-use Rattle.std.proofs.Common.{◌≡◌, ◌≢◌, ◌+◌, ◌*◌, ◌<◌, ◌∙◌, ℕ, sym, arith}
-use Rattle.upload_model.specs.Sessions.{read_count, load_count, packet_count, start_number, read_address}
+use Rattle.std.proofs.Common.{◌≡◌, ◌+◌, ◌<◌, ◌∙◌, sym, arith}
+use Rattle.upload_model.specs.Sessions.{read_count, load_count, packet_count, read_address}
 use Rattle.upload_core.proofs.Candidates.{read-silent}
 use Rattle.upload_core.proofs.answers.read_for.Goals as goal
 

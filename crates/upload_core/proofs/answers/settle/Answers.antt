@@ -1,9 +1,9 @@
 -- Why `settle` keeps its contract, at the places where the check needs to be told.
-use Rattle.std.proofs.Common.{◌≡◌, ◌≢◌, ◌∙◌, ◌<◌, ◌≤◌, ◌-◌, ◌==◌, ◌||◌, ℕ, List, not, length, set, get_or, filter, ap, sym, subst, arith}
+use Rattle.std.proofs.Common.{◌≡◌, ◌∙◌, ◌<◌, ◌≤◌, ◌-◌, ◌==◌, ◌||◌, ℕ, not, length, set, get_or, filter, ap, sym, subst, arith}
 use Rattle.std.specs.Prelude.{All}
 use Rattle.std.specs.List.{range_with_len}
 use Rattle.std.proofs.lemmas.List.{length-set, length-map}
-use Rattle.upload_model.specs.Sessions.{drone_count, first_of, count_of}
+use Rattle.upload_model.specs.Sessions.{first_of}
 use Rattle.upload_model.specs.Hosts.{sent_to}
 use Rattle.upload_core.specs.declared.row.InFlight.{InFlight}
 use Rattle.upload_core.specs.declared.row.Row.{Row}

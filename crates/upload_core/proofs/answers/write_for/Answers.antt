@@ -1,5 +1,5 @@
 -- Why `write_for` keeps its contract, at the places where the check needs to be told.
-use Rattle.std.proofs.Common.{◌≡◌, ◌+◌, ◌*◌, ◌<◌, ◌∙◌, ℕ, sym, arith}
+use Rattle.std.proofs.Common.{◌≡◌, ◌+◌, ◌*◌, ◌<◌, ◌∙◌, sym, arith}
 use Rattle.upload_model.specs.Sessions.{write_count}
 use Rattle.upload_core.proofs.Candidates.{write-silent}
 use Rattle.upload_core.proofs.answers.write_for.Goals as goal

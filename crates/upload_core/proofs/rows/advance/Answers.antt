@@ -1,5 +1,5 @@
 -- Why `advance` keeps its contract, at the places where the check needs to be told.
-use Rattle.std.proofs.Common.{◌≡◌, ◌∙◌, sym, subst}
+use Rattle.std.proofs.Common.{◌∙◌, sym, subst}
 use Rattle.upload_model.specs.declared.events.Phase.{Phase}
 use Rattle.upload_model.specs.declared.events.Phase.TheVariants.{Loading, Reading, Starting}
 use Rattle.upload_core.specs.Rows.{marked}

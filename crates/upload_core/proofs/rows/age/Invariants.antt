@@ -1,5 +1,5 @@
 -- What holds whenever the loop of `age` begins a turn.
-use Rattle.std.proofs.Common.{◌≡◌, ◌≤◌, ◌++◌, ℕ, map, take, drop, length}
+use Rattle.std.proofs.Common.{◌≡◌, ◌≤◌, ◌++◌, ℕ, map, take, drop}
 use Rattle.upload_core.specs.Rows.{row_at}
 use Rattle.upload_core.specs.Steps.{older_row}
 use Rattle.upload_core.proofs.rows.age.Given as goal

@@ -1,8 +1,8 @@
 -- Why `begin` keeps its contract, at the places where the check needs to be told.
-use Rattle.std.proofs.Common.{◌≡◌, ◌∙◌, ◌<◌, ◌≤◌, ◌+◌, [], ℕ, List, ap, sym, subst, set, get_or, length, arith, inl, inr}
+use Rattle.std.proofs.Common.{◌≡◌, ◌∙◌, ◌<◌, ◌+◌, [], ℕ, ap, sym, subst, set, get_or, length, arith, inl, inr}
 use Rattle.std.proofs.lemmas.Bool.{cases_eq, cases_lt}
 use Rattle.std.proofs.lemmas.List.{length-set}
-use Rattle.upload_model.specs.Sessions.{drone_count, first_of, count_of}
+use Rattle.upload_model.specs.Sessions.{drone_count, first_of}
 use Rattle.upload_core.specs.declared.row.Row.{Row}
 use Rattle.upload_core.specs.Rows.{row_at, marked, counted, is_marked, count_in}
 use Rattle.upload_core.specs.Steps.{IsRow, RowStands}

@@ -5,7 +5,7 @@ use Rattle.upload_model.specs.declared.events.Sent.{Sent}
 use Rattle.upload_model.specs.Hosts.{sent_to}
 use Rattle.upload_core.specs.declared.row.InFlight.{InFlight}
 use Rattle.upload_core.specs.declared.row.Row.{Row}
-use Rattle.upload_core.specs.Rows.{packets_in, row_at, window_at}
+use Rattle.upload_core.specs.Rows.{packets_in, row_at}
 use Rattle.upload_core.specs.Steps.{in_windows}
 use Rattle.upload_core.proofs.Windows.{row-at, windows-walk}
 use Rattle.upload_core.proofs.rows.put_flight.Goals as goal

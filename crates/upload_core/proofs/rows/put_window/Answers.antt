@@ -1,5 +1,5 @@
 -- Why `put_window` keeps its contract, at the places where the check needs to be told.
-use Rattle.std.proofs.Common.{◌≡◌, ◌∙◌, ◌∷◌, [], ◌++◌, ◌+◌, ℕ, List, ap, sym, get_or, take, length, arith}
+use Rattle.std.proofs.Common.{◌∙◌, ◌∷◌, [], ◌++◌, List, ap, sym, get_or, take, arith}
 use Rattle.std.proofs.lemmas.List.{append_assoc, take_more}
 use Rattle.upload_model.specs.declared.events.Sent.{Sent}
 use Rattle.upload_model.specs.Hosts.{sent_to}

@@ -1,11 +1,11 @@
 -- Why `cursor` keeps its contract, at the places where the check needs to be told.
-use Rattle.std.proofs.Common.{◌≡◌, ◌∙◌, ◌<◌, ◌∷◌, [], ℕ, List, Some, None, true, false, ap, sym, subst, refl}
+use Rattle.std.proofs.Common.{◌≡◌, ◌∙◌, ◌<◌, ◌∷◌, [], ℕ, List, Some, true, false, ap, sym, subst}
 use Rattle.std.specs.Option.{option_copied}
 use Rattle.std.specs.Prelude.{slice_get}
 use Rattle.upload_core.specs.declared.row.InFlight.{InFlight}
 use Rattle.upload_core.specs.Rows.{packets_in, is_past}
 use Rattle.upload_core.specs.Steps.{IsBetween}
-use Rattle.upload_core.proofs.Numbers.{past-yes, past-later, head-first}
+use Rattle.upload_core.proofs.Numbers.{head-first}
 use Rattle.upload_core.proofs.row.Row.cursor.Goals as goal
 
 head-of : (es : List InFlight) (e : InFlight) → slice_get es 0 ≡ Some e → (ks : List ℕ) × (packets_in es ≡ e.packet ∷ ks)
