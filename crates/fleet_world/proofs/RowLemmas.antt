@@ -1,8 +1,8 @@
 -- Rows of packets, one for each drone.
-use Rattle.std.proofs.Common.{◌≡◌, ◌≢◌, ◌==◌, ℕ, ◌+◌, ◌<◌, ◌≤◌, Bool, cond, List, [], ◌∷◌, ◌++◌, length, map, filter, replicate, set, get_or, refl, ap, sym, ◌∙◌, arith}
+use Rattle.std.proofs.Common.{◌≡◌, ◌≢◌, ℕ, ◌+◌, ◌<◌, ◌≤◌, List, [], length, replicate, set, get_or, ap, sym, ◌∙◌, arith}
 use Rattle.std.specs.Prelude.{vec_len, vec_capacity}
-use Rattle.std.proofs.lemmas.List.{map-set, map-append, length-map, length-replicate, get_or-set_same, get_or-set_other, get_or-map, set-get_or, append-nil}
-use Rattle.std.proofs.lemmas.List.Elements.{All-weaker, filter-append}
+use Rattle.std.proofs.lemmas.List.{map-set, length-map, length-replicate, get_or-set_same, get_or-set_other, get_or-map, set-get_or}
+use Rattle.std.proofs.lemmas.List.Elements.{All-weaker}
 use Rattle.fleet_world.specs.Mail.{Row, rows_of, row_of, HasRoom}
 
 -- the row of a drone, read from the rows as they are kept

@@ -1,6 +1,6 @@
 -- Without read-back a schedule alters no byte.
 use Rattle.std.proofs.Common.{◌≡◌, ◌==◌, ℕ, zero, suc, Bool, true, false, cond, List, [], ◌∷◌, codes, length, refl, subst, Option, Some, None, Result, Ok, Err}
-use Rattle.std.specs.Prelude.{slice_get, slice_index_or}
+use Rattle.std.specs.Prelude.{slice_index_or}
 use Rattle.std.specs.Str.{bytes_eq}
 use Rattle.text_lines.specs.declared.token.Comments.TheVariants.{Absent}
 use Rattle.text_lines.specs.Words.{Line, lines_with_words}

@@ -7,9 +7,8 @@ use Rattle.upload_model.proofs.HostSteps.{range-more}
 use Rattle.upload_model.specs.declared.loads.Def.{Def}
 use Rattle.upload_model.specs.Drones.{DroneState}
 use Rattle.traj_codec.specs.declared.traj.Traj.{Traj}
-use Rattle.std.specs.Prelude.{IfSome, IfNone}
 use Rattle.std.specs.Fmt.{signed_decimal}
-use Rattle.firmware_memory.specs.Decoded.{DecodesTo, last_value}
+use Rattle.firmware_memory.specs.Decoded.{last_value}
 use Rattle.fleet_io.specs.Words.{is_line_empty, hex_word, IsWord}
 use Rattle.fleet_io.proofs.WordLaws.{is_line_empty-append, hex_is_word, fresh_after_line}
 use Rattle.rehearsal.specs.Texts.{address_word, memory_line, memory_lines, entry_line, entry_lines, ending_line, drone_text, AreTexts, IsFound}

@@ -5,9 +5,8 @@ use Rattle.choreo_lines.specs.Name.{Name}
 use Rattle.choreo_reader.specs.Plain.{PlainShow}
 use Rattle.choreo_reader.specs.declared.show.DroneLine.{DroneLine}
 use Rattle.cue_grid.specs.Cues.{grid_of}
-use Rattle.fleet_world.specs.Schedules.{schedule_of}
+use Rattle.fleet_world.specs.Schedules.{ScheduleLaw, schedule_of}
 use Rattle.firmware_memory.specs.Decoded.{CurveLaw}
-use Rattle.readback_core.specs.CarefulSchedules.{careful_schedule_of}
 use Rattle.rehearsal.specs.Rehearsed.{rehearsed}
 use Rattle.refusals.specs.declared.refusal.Refusal.{Refusal}
 use Rattle.show_plan.proofs.Flight.{sent_counted}
@@ -19,62 +18,43 @@ use Rattle.upload_model.specs.Worlds.{World}
 use Rattle.show_judge.specs.Refused.{faulty_event, second_refusal}
 use Rattle.show_judge.specs.Shows.{Cut, sent_of, words_of}
 use Rattle.show_judge.specs.Verb.{Outcome}
-use Rattle.show_uploads.specs.Rehearse.{RehearsalEnds, RehearseGives, RehearseLaw, RehearseSucceeds, ScheduleGives, rehearse_known, rehearse_verb}
+use Rattle.show_uploads.specs.Rehearse.{RehearsalEnds, RehearseGives, RehearseLaw, RehearseSucceeds, ScheduleGives, rehearse_known, rehearse_verb, schedule_refusal}
 use Rattle.show_uploads.specs.Sessions.{schedule_limit, session_of}
 use Rattle.show_judge.proofs.HeadlineLemmas.{flies_text}
-use Rattle.show_uploads.proofs.CarefulLemmas.{careful_done, careful_one, no_careful_fault}
-use Rattle.show_uploads.proofs.RehearsalLemmas.{schedule_one, schedule_some}
+use Rattle.show_uploads.proofs.RehearsalLemmas.{events_one, schedule_one, schedule_some}
 
--- ---- without read-back
+ends_done : (p : Progress) (s : PlainShow) (events : List WorldEvent) (w : World) (o : Outcome) → p ≡ Done → RehearsalEnds p s events w o → o.status ≡ 0
+ends_done p s events w o is ends = let done : RehearsalEnds Done s events w o = rw is at ends in done.0
 
-ends_done : (p : Progress) (s : PlainShow) (w : World) (o : Outcome) → p ≡ Done → RehearsalEnds p s w o → o.status ≡ 0
-ends_done p s w o is ends = let done : RehearsalEnds Done s w o = rw is at ends in done.0
-
-same_events : (given : Result (List WorldEvent) ℕ) (xs ys : List WorldEvent) → given ≡ Ok xs → given ≡ Ok ys → xs ≡ ys
-same_events given xs ys first second = cc
-
-schedule_done : (refused : Option Refusal) (s : PlainShow) (start : Bool) (cut : Cut) (o : Outcome) (events : List WorldEvent) → refused ≡ None → ScheduleGives refused s start cut o →
-    schedule_of (words_of s) cut.second ≡ Ok events → progress (session_of s start) (rehearsed (session_of s start) events).heard ≡ Done → o.status ≡ 0
-schedule_done (Some r) s start cut o events none gives is done = absurd (cc)
-schedule_done None s start cut o events none gives is done =
-    let same : events ≡ gives.0 = same_events (schedule_of (words_of s) cut.second) events gives.0 is gives.1 in
-    ends_done (progress (session_of s start) (rehearsed (session_of s start) gives.0).heard) s (rehearsed (session_of s start) gives.0) o
-    (subst (λ (es : List WorldEvent). progress (session_of s start) (rehearsed (session_of s start) es).heard ≡ Done) same done) gives.2
+schedule_done : (refused : Option Refusal) (s : PlainShow) (readback start : Bool) (cut : Cut) (o : Outcome) (events : List WorldEvent) → refused ≡ None → ScheduleGives refused s readback start cut o →
+    schedule_of readback (words_of s) cut.second ≡ Ok events → progress (session_of s readback start) (rehearsed (session_of s readback start) events).heard ≡ Done → o.status ≡ 0
+schedule_done (Some r) s readback start cut o events none gives is done = absurd (cc)
+schedule_done None s readback start cut o events none gives is done =
+    let same : events ≡ gives.0 = events_one (schedule_of readback (words_of s) cut.second) events gives.0 is gives.1 in
+    ends_done (progress (session_of s readback start) (rehearsed (session_of s readback start) gives.0).heard) s gives.0 (rehearsed (session_of s readback start) gives.0) o
+    (subst (λ (es : List WorldEvent). progress (session_of s readback start) (rehearsed (session_of s readback start) es).heard ≡ Done) same done) gives.2
 
 no_faulty : (given : Result (List WorldEvent) ℕ) (events : List WorldEvent) (cut : Cut) → given ≡ Ok events → second_refusal schedule_limit None cut ≡ None →
     second_refusal schedule_limit (faulty_event given) cut ≡ None
 no_faulty given events cut is none = rw is none
-
--- ---- either way
-
-one : CurveLaw → (start readback : Bool) (s : PlainShow) (cut : Cut) (o p : Outcome) → RehearseGives readback s start cut o → RehearseGives readback s start cut p → o ≡ p
-one curve start true s cut o p first second =
-    careful_one curve (second_refusal schedule_limit (faulty_event (careful_schedule_of (words_of s) cut.second)) cut) s start cut o p first second
-one curve start false s cut o p first second =
-    schedule_one curve (second_refusal schedule_limit (faulty_event (schedule_of (words_of s) cut.second)) cut) s start cut o p first second
 
 words_counted : (s : PlainShow) → length (sent_of s) ≡ length (words_of s)
 words_counted s =
     sent_counted (grid_of s) ∙ sym (length-map s.drones (λ (d : DroneLine). d.name))
     ∙ sym (length-map (map (λ (d : DroneLine). d.name) s.drones) (λ (name : Name). name.items))
 
-some : (start readback : Bool) (s : PlainShow) (cut : Cut) → rehearse_known readback start s cut → (o : Outcome) × RehearseGives readback s start cut o
-some start true s cut known = known
-some start false s cut known =
-    schedule_some (second_refusal schedule_limit (faulty_event (schedule_of (words_of s) cut.second)) cut) s start cut refl known (words_counted s)
+some : ScheduleLaw → (start readback : Bool) (s : PlainShow) (cut : Cut) → rehearse_known readback start s cut → (o : Outcome) × RehearseGives s readback start cut o
+some law start true s cut known = known
+some law start false s cut known = schedule_some law (schedule_refusal s false cut) s start cut refl known (words_counted s)
 
-done : (start readback : Bool) (s : PlainShow) (cut : Cut) (o : Outcome) → RehearseGives readback s start cut o → RehearseSucceeds readback s start cut → o.status ≡ 0
-done start true s cut o gives (events, none, is, ends) =
-    careful_done (second_refusal schedule_limit (faulty_event (careful_schedule_of (words_of s) cut.second)) cut) s start cut o events
-    (no_careful_fault (careful_schedule_of (words_of s) cut.second) events cut is none) gives is ends
-done start false s cut o gives (events, none, is, ends) =
-    schedule_done (second_refusal schedule_limit (faulty_event (schedule_of (words_of s) cut.second)) cut) s start cut o events
-    (no_faulty (schedule_of (words_of s) cut.second) events cut is none) gives is ends
+done : (start readback : Bool) (s : PlainShow) (cut : Cut) (o : Outcome) → RehearseGives s readback start cut o → RehearseSucceeds s readback start cut → o.status ≡ 0
+done start readback s cut o gives (events, none, is, ends) =
+    schedule_done (schedule_refusal s readback cut) s readback start cut o events (no_faulty (schedule_of readback (words_of s) cut.second) events cut is none) gives is ends
 
-pub rehearse_laws : CurveLaw → RehearseLaw
-rehearse_laws curve depth start readback = record {
-  one = one curve start readback;
-  some = some start readback;
+pub rehearse_laws : CurveLaw → ScheduleLaw → RehearseLaw
+rehearse_laws curve schedule depth start readback = record {
+  one = λ s cut o p first second. schedule_one curve (schedule_refusal s readback cut) s readback start cut o p first second;
+  some = some schedule start readback;
   done = done start readback;
   apart = λ d s cut searched apart. apart;
   headline = λ input o old new safe appended. flies_text (rehearse_verb depth start readback) input o safe safe.promised;

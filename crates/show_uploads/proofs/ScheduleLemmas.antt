@@ -1,59 +1,68 @@
 -- What `rehearse` answers, from what its steps do.
-use Rattle.std.proofs.Common.{◌≡◌, ℕ, zero, suc, ◌+◌, ◌-◌, ◌<◌, ◌≤◌, Bool, true, false, cond, not, ◌&&◌, ◌==◌, List, [], ◌∷◌, ◌++◌, All, length, map, nat_lt, Option, Some, None, Result, Ok, Err, IfOk, IfSome, refl, sym, ap, subst, ◌∙◌, arith}
+use Rattle.std.proofs.Common.{◌≡◌, ℕ, zero, suc, ◌+◌, ◌-◌, ◌<◌, ◌≤◌, Bool, true, false, cond, ◌==◌, List, [], ◌∷◌, ◌++◌, All, length, map, nat_lt, Option, Some, None, Result, Ok, Err, IfOk, IfSome, refl, sym, ap, subst, ◌∙◌, arith}
 use Rattle.std.specs.Prelude.{find, slice_get, take}
 use Rattle.std.specs.List.{list_all, range_with_len}
 use Rattle.std.specs.Option.{option_map, option_or}
 use Rattle.std.specs.declared.alloc.AllocError.{AllocError}
 use Rattle.std.proofs.lemmas.Bool.{le-ltb}
 use Rattle.std.proofs.lemmas.List.{length-map}
-use Rattle.std.proofs.lemmas.List.Elements.{All-head, All-map, All-tail}
+use Rattle.std.proofs.lemmas.List.Elements.{All-head, All-map, All-tail, All-weaker}
 use Rattle.choreo_lines.specs.Name.{Name}
 use Rattle.choreo_reader.specs.Plain.{PlainShow}
 use Rattle.choreo_reader.specs.declared.show.Settings.{Settings}
+use Rattle.crtp_packets.specs.Reading.{up_of}
+use Rattle.crtp_packets.specs.declared.reading.PacketFault.{PacketFault}
+use Rattle.crtp_packets.specs.declared.reading.Up.{Up}
 use Rattle.cue_grid.specs.declared.grid.Grid.{Grid}
 use Rattle.fleet_world.specs.Schedules.{schedule_of}
 use Rattle.fleet_world.specs.WorldState.{WorldStandsAt, WorldState, state_at}
-use Rattle.firmware_memory.specs.Decoded.{DecodesTo, load_for}
+use Rattle.firmware_memory.specs.Decoded.{load_for}
 use Rattle.refusals.specs.declared.refusal.Refusal.{Refusal}
 use Rattle.refusals.specs.declared.refusal.Refusal.TheVariants as refusal
 use Rattle.rehearsal.specs.Rehearsed.{rehearsed}
-use Rattle.rehearsal.specs.Texts.{AreTexts, IsDecoded, IsRehearsalText, IsTextBy, drone_text}
+use Rattle.rehearsal.specs.Texts.{AreTexts, IsFound, IsRehearsalText, drone_text}
 use Rattle.show_plan.specs.declared.fitted.Fitted.{Fitted}
 use Rattle.show_plan.specs.Fitting.{IsFitted, IsValidFitted}
 use Rattle.show_plan.specs.Landing.{Lands, session_for}
 use Rattle.traj_codec.specs.Joined.{joined}
 use Rattle.traj_codec.specs.declared.traj.Traj.{Traj}
-use Rattle.upload_model.proofs.HostLaws.{All-flat_map_range, All-range}
+use Rattle.upload_model.proofs.Answers.{reply-by}
+use Rattle.upload_model.proofs.HostLaws.{All-flat_map_range, All-range, IsFlight, flight-fits}
 use Rattle.upload_model.specs.declared.events.Event.{Event}
 use Rattle.upload_model.specs.declared.events.Event.TheVariants as event
 use Rattle.upload_model.specs.declared.events.Progress.{Progress}
-use Rattle.upload_model.specs.declared.events.Progress.TheVariants.{Going, Done, GaveUp, Refused}
+use Rattle.upload_model.specs.declared.events.Progress.TheVariants.{Going, Done, GaveUp, Refused, Differs}
+use Rattle.upload_model.specs.declared.events.Reply.{Reply}
+use Rattle.upload_model.specs.declared.events.Reply.TheVariants.{Good, Ends}
 use Rattle.upload_model.specs.declared.events.Sent.{Sent}
 use Rattle.upload_model.specs.declared.events.WorldEvent.{WorldEvent}
 use Rattle.upload_model.specs.Drones.{DroneState}
-use Rattle.upload_model.specs.Hosts.{acked, all_packets, ended_by, ending, gave_up, is_bad, or_else, progress, progress_within, refused, refused_with, sent_to, status_for, ticks}
-use Rattle.upload_model.specs.Sessions.{Upload, drone_count, packet_count}
+use Rattle.upload_model.specs.Hosts.{acked, all_packets, ended_by, ended_for, ending, ends_for, flight, gave_up, or_else, progress, progress_within, sent_to, ticks}
+use Rattle.upload_model.specs.Replies.{ReadBack, compared, end_of, first_other, read_in, read_reply, reply_in, status_in, status_reply}
+use Rattle.upload_model.specs.Sessions.{Upload, drone_count, is_read, load_count, packet_count, read_address, wanted}
+use Rattle.upload_model.specs.Theorem.{IsUnaltered}
 use Rattle.upload_model.specs.Worlds.{World}
 use Rattle.show_judge.specs.declared.ends.Answer.{Answer}
 use Rattle.show_judge.specs.Answers.{outcome_of}
 use Rattle.show_judge.specs.Verb.{Outcome, outcome}
-use Rattle.show_uploads.specs.Rehearse.{RehearsalEnds, Rehearses, ScheduleGives}
-use Rattle.show_judge.specs.Refused.{faulty_event, second_refusal}
+use Rattle.show_uploads.specs.Rehearse.{AllDecode, RehearsalEnds, RehearseGives, Rehearses, SaysHeld, ScheduleGives, schedule_refusal}
 use Rattle.show_judge.specs.Shows.{Cut, marker_number, words_of}
+use Rattle.show_judge.specs.Refused.{faulty_event}
 use Rattle.show_uploads.specs.Sessions.{schedule_limit, session_of}
 use Rattle.show_uploads.proofs.RehearsalLemmas.{decoded_after}
 
--- ---- whose packet ends an upload
+-- ---- whose packet or byte ends an upload
 
--- where a packet ends an upload, its drone is one of this many
+-- where a packet or a byte ends an upload, its drone is one of this many
 abbrev pub IsAmong : ℕ → Progress → Type 0
 IsAmong n Going = Unit {0}
 IsAmong n Done = Unit {0}
 IsAmong n (GaveUp drone packet) = drone < n
 IsAmong n (Refused drone packet status) = drone < n
+IsAmong n (Differs drone address byte got) = drone < n
 
 -- what is found in a list is as each of the list
-pub found : {X : Type 0} (P : X → Type 0) (p : X → Bool) (xs : List X) → All P xs → IfSome (find p xs) P
+found : {X : Type 0} (P : X → Type 0) (p : X → Bool) (xs : List X) → All P xs → IfSome (find p xs) P
 found P p [] all = tt
 found P p (x ∷ xs) all = by_test (p x) (All-head P x xs all) (found P p xs (All-tail P x xs all)) where
   by_test : (b : Bool) → P x → IfSome (find p xs) P → IfSome (cond b (Some x) (find p xs)) P
@@ -67,26 +76,51 @@ packets_below s =
     (λ d low below. All-map (λ (x : Sent). x.drone < drone_count s) (λ (k : ℕ). record { drone = d; packet = k }) (range_with_len 0 (packet_count s d))
     (All-range (λ k. d < drone_count s) 0 (packet_count s d) (λ k l b. omega (arith, below))))
 
+flight_below : (s : Upload) (g : List Event) → All (λ (x : Sent). x.drone < drone_count s) (flight s g)
+flight_below s g = All-weaker (IsFlight s (acked s g)) (λ (x : Sent). x.drone < drone_count s) (λ x fits. fits.drone) (flight s g) (flight-fits s (acked s g))
+
 gave_up_among : (n : ℕ) (o : Option Sent) → IfSome o (λ x. x.drone < n) → IsAmong n (gave_up o)
 gave_up_among n None below = tt
 gave_up_among n (Some x) below = below
 
-refused_with_among : (n : ℕ) (x : Sent) (status : Option ℕ) → x.drone < n → IsAmong n (refused_with x status)
-refused_with_among n x None below = tt
-refused_with_among n x (Some status) below = below
+status_among : (n d k : ℕ) (o : Option ℕ) → d < n → IsAmong n (end_of (status_reply d k o))
+status_among n d k None below = tt
+status_among n d k (Some status) below = by_status (status == 0) where
+  by_status : (b : Bool) → IsAmong n (end_of (cond b Good (Ends (Refused d k status))))
+  by_status true = tt
+  by_status false = below
 
-refused_among : (n : ℕ) (s : Upload) (e : Event) (o : Option Sent) → IfSome o (λ x. x.drone < n) → IsAmong n (refused s e o)
-refused_among n s e None below = tt
-refused_among n s e (Some x) below = refused_with_among n x (status_for s x.drone x.packet e) below
+compared_among : (n d address : ℕ) (bytes got : List ℕ) (o : Option ℕ) → d < n → IsAmong n (end_of (compared d address bytes got o))
+compared_among n d address bytes got None below = tt
+compared_among n d address bytes got (Some i) below = below
+
+read_among : (n : ℕ) (s : Upload) (d k j : ℕ) (o : Option ReadBack) → d < n → IsAmong n (end_of (read_reply s d k j o))
+read_among n s d k j None below = tt
+read_among n s d k j (Some r) below = by_status (r.status == 0) where
+  by_status : (b : Bool) → IsAmong n (end_of (cond b (compared d (read_address s j) (wanted s d j) r.bytes (first_other (wanted s d j) r.bytes)) (Ends (Refused d k r.status))))
+  by_status true = compared_among n d (read_address s j) (wanted s d j) r.bytes (first_other (wanted s d j) r.bytes) below
+  by_status false = below
+
+reply_among : (n : ℕ) (s : Upload) (d k : ℕ) (m : Result Up PacketFault) → d < n → IsAmong n (end_of (reply_in s d k m))
+unfolding reply_in
+reply_among n s d k m below = by_kind (is_read s d k) where
+  by_kind : (b : Bool) → IsAmong n (end_of (cond b (read_reply s d k (k - load_count s d) (read_in s d (k - load_count s d) m)) (status_reply d k (status_in s d k m))))
+  by_kind true = read_among n s d k (k - load_count s d) (read_in s d (k - load_count s d) m) below
+  by_kind false = status_among n d k (status_in s d k m) below
+
+ended_for_among : (n : ℕ) (s : Upload) (from : ℕ) (packet : List ℕ) (o : Option Sent) → IfSome o (λ x. x.drone < n) → IsAmong n (ended_for s (event.Up from packet) o)
+ended_for_among n s from packet None below = tt
+ended_for_among n s from packet (Some x) below =
+    reply-by (λ (r : Reply). IsAmong n (end_of r)) s x.drone x.packet from packet tt (λ same known inside. reply_among n s x.drone x.packet (up_of packet) below)
 
 ended_by_among : (s : Upload) (g : List Event) (o : Option Event) → IsAmong (drone_count s) (ended_by s g o)
 ended_by_among s g None = tt
 ended_by_among s g (Some event.Tick) =
-    gave_up_among (drone_count s) (find (λ x. ticks s g x == 20) (all_packets s)) (found (λ (x : Sent). x.drone < drone_count s) (λ x. ticks s g x == 20) (all_packets s) (packets_below s))
+    gave_up_among (drone_count s) (find (λ x. ticks s g x == 20) (flight s g)) (found (λ (x : Sent). x.drone < drone_count s) (λ x. ticks s g x == 20) (flight s g) (flight_below s g))
 ended_by_among s g (Some (event.Up from packet)) =
-    refused_among (drone_count s) s (event.Up from packet) (find test (all_packets s)) (found (λ (x : Sent). x.drone < drone_count s) test (all_packets s) (packets_below s)) where
+    ended_for_among (drone_count s) s from packet (find test (all_packets s)) (found (λ (x : Sent). x.drone < drone_count s) test (all_packets s) (packets_below s)) where
       test : Sent → Bool
-      test x = is_bad (status_for s x.drone x.packet (event.Up from packet)) && not (acked s g x.drone x.packet)
+      test x = ends_for s (acked s g) (event.Up from packet) x
 
 ending_among : (s : Upload) (g : List Event) → IsAmong (drone_count s) (ending s g)
 unfolding ending
@@ -100,13 +134,14 @@ or_else_among n Going q first second = second
 or_else_among n Done q first second = tt
 or_else_among n (GaveUp drone packet) q first second = first
 or_else_among n (Refused drone packet status) q first second = first
+or_else_among n (Differs drone address byte got) q first second = first
 
 within_among : (s : Upload) (h : List Event) (n : ℕ) → IsAmong (drone_count s) (progress_within s h n)
 unfolding progress_within
 within_among s h zero = ending_among s (take 0 h)
 within_among s h (suc n) = or_else_among (drone_count s) (progress_within s h n) (ending s (take (suc n) h)) (within_among s h n) (ending_among s (take (suc n) h))
 
-pub progress_among : (s : Upload) (h : List Event) → IsAmong (drone_count s) (progress s h)
+progress_among : (s : Upload) (h : List Event) → IsAmong (drone_count s) (progress s h)
 unfolding progress
 progress_among s h = within_among s h (length h)
 
@@ -116,88 +151,89 @@ progress_among s h = within_among s h (length h)
 sent_counted : (f : Fitted) → IsValidFitted f → length f.sent ≡ length f.names
 sent_counted f valid = ap (λ (ts : List Traj). length ts) valid.sent ∙ length-map f.trajs joined ∙ valid.trajs_counted
 
-pub session_counted : (f : Fitted) (start : Bool) → IsValidFitted f → drone_count (session_for f.settings f.sent start) ≡ length f.names
-session_counted f start valid = length-map f.sent load_for ∙ sent_counted f valid
+pub session_counted : (f : Fitted) (readback start : Bool) → IsValidFitted f → drone_count (session_for f.settings f.sent readback start) ≡ length f.names
+session_counted f readback start valid = length-map f.sent load_for ∙ sent_counted f valid
 
 -- The world is where these events lead the session of a show that fits, over drones that are blank at the start.
-abbrev pub StandsAfter : WorldState → Fitted → Bool → List WorldEvent → Type 0
-StandsAfter v f start events = WorldStandsAt v (session_for f.settings f.sent start) (rehearsed (session_for f.settings f.sent start) events)
+abbrev pub StandsAfter : WorldState → Fitted → Bool → Bool → List WorldEvent → Type 0
+StandsAfter v f readback start events = WorldStandsAt v (session_for f.settings f.sent readback start) (rehearsed (session_for f.settings f.sent readback start) events)
 
--- where a packet ends the upload, its drone is one of the show's
-pub among_names : (v : WorldState) (f : Fitted) (start : Bool) (events : List WorldEvent) (p : Progress) → IsValidFitted f → StandsAfter v f start events → p ≡ v.progress → IsAmong (length f.names) p
-among_names v f start events p valid stands is =
-    let s : Upload = session_for f.settings f.sent start in
+-- where a packet or a byte ends the upload, its drone is one of the show's
+pub among_names : (v : WorldState) (f : Fitted) (readback start : Bool) (events : List WorldEvent) (p : Progress) → IsValidFitted f → StandsAfter v f readback start events → p ≡ v.progress → IsAmong (length f.names) p
+among_names v f readback start events p valid stands is =
+    let s : Upload = session_for f.settings f.sent readback start in
     subst (IsAmong (length f.names)) (sym (is ∙ stands.progress))
-    (subst (λ (n : ℕ). IsAmong n (progress s (rehearsed s events).heard)) (session_counted f start valid) (progress_among s (rehearsed s events).heard))
+    (subst (λ (n : ℕ). IsAmong n (progress s (rehearsed s events).heard)) (session_counted f readback start valid) (progress_among s (rehearsed s events).heard))
 
--- where the upload is done, each drone's memory decodes
-pub decoded_names : (v : WorldState) (f : Fitted) (start : Bool) (events : List WorldEvent) → IsValidFitted f → (g : Grid) × Lands g f.settings f.sent → StandsAfter v f start events → v.progress ≡ Done →
-    (d : ℕ) → d < length f.names → (t : Traj) × DecodesTo (state_at v.drones d) f.settings.trajectory_id t
-decoded_names v f start events valid lands stands done d within =
-    let decoded = decoded_after lands.0 f.settings f.sent start events lands.1 (sym stands.progress ∙ done) d (omega (arith, within, sent_counted f valid)) in
-    (decoded.0, subst (λ (x : DroneState). DecodesTo x f.settings.trajectory_id decoded.0) (sym (stands.drones d (omega (arith, within, session_counted f start valid)))) decoded.1)
+-- where the upload is done and nobody altered a byte, each drone's memory decodes
+decoded_names : (v : WorldState) (f : Fitted) (readback start : Bool) (events : List WorldEvent) → IsValidFitted f → (g : Grid) × Lands g f.settings f.sent → StandsAfter v f readback start events → v.progress ≡ Done →
+    IsUnaltered events → AllDecode (rehearsed (session_for f.settings f.sent readback start) events).drones f.settings.trajectory_id (map (λ (name : Name). name.items) f.names)
+decoded_names v f readback start events valid lands stands done unaltered d within =
+    decoded_after lands.0 f.settings f.sent readback start events lands.1 unaltered (sym stands.progress ∙ done) d
+    (omega (arith, within, length-map f.names (λ (name : Name). name.items), sent_counted f valid))
 
 -- the text of drones is that of others which hold the same
-texts_as : (Decodes : DroneState → Option Traj → Type 0) (f g : ℕ → DroneState) (d : ℕ) (names : List (List ℕ)) (text : List ℕ) → ((k : ℕ) → k < length names → f (d + k) ≡ g (d + k)) →
-    AreTexts Decodes f d names text → AreTexts Decodes g d names text
-texts_as Decodes f g d [] text same is = is
-texts_as Decodes f g d (name ∷ names) text same (o, rest, decodes, texts, is) =
+texts_as : (f g : ℕ → DroneState) (id d : ℕ) (names : List (List ℕ)) (text : List ℕ) → ((k : ℕ) → k < length names → f (d + k) ≡ g (d + k)) → AreTexts f id d names text → AreTexts g id d names text
+texts_as f g id d [] text same is = is
+texts_as f g id d (name ∷ names) text same (o, rest, decodes, texts, is) =
     let here : f d ≡ g d = subst (λ (n : ℕ). f n ≡ g n) (omega arith) (same 0 (omega arith)) in (
       o,
       rest,
-      subst (λ (x : DroneState). Decodes x o) here decodes,
-      texts_as Decodes f g (suc d) names rest (λ k within. subst (λ (n : ℕ). f n ≡ g n) (omega arith) (same (suc k) (omega (arith, within)))) texts,
+      subst (λ (x : DroneState). IsFound id x o) here decodes,
+      texts_as f g id (suc d) names rest (λ k within. subst (λ (n : ℕ). f n ≡ g n) (omega arith) (same (suc k) (omega (arith, within)))) texts,
       is ∙ ap (λ (x : DroneState). drone_text name x o ++ rest) here,
     )
 
-pub text_as : (Decodes : DroneState → Option Traj → Type 0) (f g : ℕ → DroneState) (names : List (List ℕ)) (text : List ℕ) → ((d : ℕ) → d < length names → f d ≡ g d) → IsTextBy Decodes f names text → IsTextBy Decodes g names text
-text_as Decodes f g names text same (rest, texts, is) = (rest, texts_as Decodes f g 0 names rest (λ k within. subst (λ (n : ℕ). f n ≡ g n) (omega arith) (same k within)) texts, is)
+text_as : (f g : ℕ → DroneState) (id : ℕ) (names : List (List ℕ)) (text : List ℕ) → ((d : ℕ) → d < length names → f d ≡ g d) → IsRehearsalText f id names text → IsRehearsalText g id names text
+text_as f g id names text same (rest, texts, is) = (rest, texts_as f g id 0 names rest (λ k within. subst (λ (n : ℕ). f n ≡ g n) (omega arith) (same k within)) texts, is)
 
 -- what the progress of a world gives is what its events give
-pub rehearses_by : (v : WorldState) (f : Fitted) (s : PlainShow) (start : Bool) (events : List WorldEvent) (o : Outcome) → IsFitted f s → StandsAfter v f start events →
-    RehearsalEnds v.progress s (rehearsed (session_for f.settings f.sent start) events) o → Rehearses s start events o
-rehearses_by v f s start events o is stands ends =
-    let u : Upload = session_for f.settings f.sent start in
-    let same : u ≡ session_of s start = ap (λ (e : Settings). session_for e f.sent start) is.settings ∙ ap (λ (ts : List Traj). session_for s.settings ts start) is.sent in
-    subst (λ (x : Upload). RehearsalEnds (progress x (rehearsed x events).heard) s (rehearsed x events) o) same
-    (subst (λ (p : Progress). RehearsalEnds p s (rehearsed u events) o) stands.progress ends)
+pub rehearses_by : (v : WorldState) (f : Fitted) (s : PlainShow) (readback start : Bool) (events : List WorldEvent) (o : Outcome) → IsFitted f s → StandsAfter v f readback start events →
+    RehearsalEnds v.progress s events (rehearsed (session_for f.settings f.sent readback start) events) o → Rehearses s readback start events o
+rehearses_by v f s readback start events o is stands ends =
+    let u : Upload = session_for f.settings f.sent readback start in
+    let same : u ≡ session_of s readback start = ap (λ (e : Settings). session_for e f.sent readback start) is.settings ∙ ap (λ (ts : List Traj). session_for s.settings ts readback start) is.sent in
+    subst (λ (x : Upload). RehearsalEnds (progress x (rehearsed x events).heard) s events (rehearsed x events) o) same
+    (subst (λ (p : Progress). RehearsalEnds p s events (rehearsed u events) o) stands.progress ends)
 
 -- what a rehearsal gives that is done
-pub rehearses_done : (v : WorldState) (f : Fitted) (s : PlainShow) (start : Bool) (events : List WorldEvent) (text : List ℕ) → IsValidFitted f → IsFitted f s → StandsAfter v f start events → v.progress ≡ Done →
-    IsRehearsalText (state_at v.drones) f.settings.trajectory_id (map (λ (name : Name). name.items) f.names) text → Rehearses s start events (outcome 0 text)
-rehearses_done v f s start events text valid is stands done said =
-    let u : Upload = session_for f.settings f.sent start in
-    let w : World = rehearsed u events in
-    let named : IsRehearsalText w.drones f.settings.trajectory_id (map (λ (name : Name). name.items) f.names) text =
-    text_as (IsDecoded f.settings.trajectory_id) (state_at v.drones) w.drones (map (λ (name : Name). name.items) f.names) text
-    (λ d within. stands.drones d (omega (arith, within, length-map f.names (λ (name : Name). name.items), session_counted f start valid))) said in
-    let of_show : IsRehearsalText w.drones s.settings.trajectory_id (words_of s) text =
-    subst (λ (e : Settings). IsRehearsalText w.drones e.trajectory_id (words_of s) text) is.settings
-    (subst (λ (names : List Name). IsRehearsalText w.drones f.settings.trajectory_id (map (λ (name : Name). name.items) names) text) is.names named) in
-    rehearses_by v f s start events (outcome 0 text) is stands (subst (λ (p : Progress). RehearsalEnds p s w (outcome 0 text)) (sym done) (refl, of_show))
+pub rehearses_done : (v : WorldState) (f : Fitted) (s : PlainShow) (readback start : Bool) (events : List WorldEvent) (text : List ℕ) → IsValidFitted f → (g : Grid) × Lands g f.settings f.sent → IsFitted f s →
+    StandsAfter v f readback start events → v.progress ≡ Done → IsRehearsalText (state_at v.drones) f.settings.trajectory_id (map (λ (name : Name). name.items) f.names) text →
+    Rehearses s readback start events (outcome 0 text)
+rehearses_done v f s readback start events text valid lands is stands done said =
+    let w : World = rehearsed (session_for f.settings f.sent readback start) events in
+    let named : SaysHeld events w.drones f.settings.trajectory_id (map (λ (name : Name). name.items) f.names) text = record {
+      held = text_as (state_at v.drones) w.drones f.settings.trajectory_id (map (λ (name : Name). name.items) f.names) text
+          (λ d within. stands.drones d (omega (arith, within, length-map f.names (λ (name : Name). name.items), session_counted f readback start valid))) said;
+      decoded = decoded_names v f readback start events valid lands stands done;
+    } in
+    let of_show : SaysHeld events w.drones s.settings.trajectory_id (words_of s) text =
+    subst (λ (e : Settings). SaysHeld events w.drones e.trajectory_id (words_of s) text) is.settings
+    (subst (λ (names : List Name). SaysHeld events w.drones f.settings.trajectory_id (map (λ (name : Name). name.items) names) text) is.names named) in
+    rehearses_by v f s readback start events (outcome 0 text) is stands (subst (λ (p : Progress). RehearsalEnds p s events w (outcome 0 text)) (sym done) (refl, of_show))
 
 -- ---- a second text
 
 -- what a text says over the names of what fits, it says over those of the show
-pub events_of_show : (f : Fitted) (s : PlainShow) (names : List Name) (bytes second : List ℕ) (events given : List WorldEvent) → IsFitted f s → names ≡ f.names → bytes ≡ second → given ≡ events →
-    schedule_of (map (λ (name : Name). name.items) names) bytes ≡ Ok events → schedule_of (words_of s) second ≡ Ok given
-events_of_show f s names bytes second events given is named same same_events says =
-    let here : schedule_of (map (λ (name : Name). name.items) names) second ≡ Ok events =
-    subst (λ (text : List ℕ). schedule_of (map (λ (name : Name). name.items) names) text ≡ Ok events) same says in
-    subst (λ (ns : List Name). schedule_of (map (λ (name : Name). name.items) ns) second ≡ Ok given) (named ∙ is.names)
+pub events_of_show : (f : Fitted) (s : PlainShow) (readback : Bool) (names : List Name) (bytes second : List ℕ) (events given : List WorldEvent) → IsFitted f s → names ≡ f.names → bytes ≡ second → given ≡ events →
+    schedule_of readback (map (λ (name : Name). name.items) names) bytes ≡ Ok events → schedule_of readback (words_of s) second ≡ Ok given
+events_of_show f s readback names bytes second events given is named same same_events says =
+    let here : schedule_of readback (map (λ (name : Name). name.items) names) second ≡ Ok events =
+    subst (λ (text : List ℕ). schedule_of readback (map (λ (name : Name). name.items) names) text ≡ Ok events) same says in
+    subst (λ (ns : List Name). schedule_of readback (map (λ (name : Name). name.items) ns) second ≡ Ok given) (named ∙ is.names)
     (here ∙ ap (λ (es : List WorldEvent). Ok es) (sym same_events))
 
-pub nothing_refused : (too_long marked : Bool) (r q : Refusal) (line : Option ℕ) → too_long ≡ false → line ≡ None → marked ≡ false →
+nothing_refused : (too_long marked : Bool) (r q : Refusal) (line : Option ℕ) → too_long ≡ false → line ≡ None → marked ≡ false →
     cond too_long (Some r) (option_or (option_map (λ (n : ℕ). refusal.SecondLine n) line) (cond marked (Some q) None)) ≡ None
 nothing_refused too_long marked r q line short fine unmarked = rw short (rw fine (rw unmarked refl))
 
 -- what a schedule gives whose events are these
-pub schedule_gives : (s : PlainShow) (start : Bool) (cut : Cut) (events : List WorldEvent) (result : Result Answer AllocError) → length cut.second ≤ schedule_limit →
-    schedule_of (words_of s) cut.second ≡ Ok events → cut.is_second_marked ≡ false → IfOk result (λ a. Rehearses s start events (outcome_of a)) →
-    IfOk result (λ a. ScheduleGives (second_refusal schedule_limit (faulty_event (schedule_of (words_of s) cut.second)) cut) s start cut (outcome_of a))
-schedule_gives s start cut events (Err e) short is unmarked gives = tt
-schedule_gives s start cut events (Ok a) short is unmarked gives =
-    let none : second_refusal schedule_limit (faulty_event (schedule_of (words_of s) cut.second)) cut ≡ None =
+pub schedule_gives : (s : PlainShow) (readback start : Bool) (cut : Cut) (events : List WorldEvent) (result : Result Answer AllocError) → length cut.second ≤ schedule_limit →
+    schedule_of readback (words_of s) cut.second ≡ Ok events → cut.is_second_marked ≡ false → IfOk result (λ a. Rehearses s readback start events (outcome_of a)) →
+    IfOk result (λ a. RehearseGives s readback start cut (outcome_of a))
+schedule_gives s readback start cut events (Err e) short is unmarked gives = tt
+schedule_gives s readback start cut events (Ok a) short is unmarked gives =
+    let none : schedule_refusal s readback cut ≡ None =
     nothing_refused (nat_lt schedule_limit (length cut.second)) cut.is_second_marked refusal.SecondTooLarge (refusal.SecondLine (marker_number cut.second))
-    (faulty_event (schedule_of (words_of s) cut.second)) (le-ltb schedule_limit (length cut.second) short) (ap faulty_event is) unmarked in
-    subst (λ (why : Option Refusal). ScheduleGives why s start cut (outcome_of a)) (sym none) (events, is, gives)
+    (faulty_event (schedule_of readback (words_of s) cut.second)) (le-ltb schedule_limit (length cut.second) short) (ap faulty_event is) unmarked in
+    subst (λ (why : Option Refusal). ScheduleGives why s readback start cut (outcome_of a)) (sym none) (events, is, gives)

@@ -1,5 +1,5 @@
 -- What a run of `upload` is, from what it read and wrote.
-use Rattle.std.proofs.Common.{◌≡◌, ◌≢◌, ◌⊎◌, inl, inr, ℕ, ◌+◌, ◌≤◌, Bool, true, false, List, [], ◌∷◌, ◌++◌, length, Contains, append_assoc, append-nil, length-append, Option, Some, None, Result, Ok, Err, IfOk, IfSome, refl, sym, ap, subst, ◌∙◌, arith}
+use Rattle.std.proofs.Common.{◌≡◌, ◌≢◌, ◌⊎◌, inl, inr, ℕ, ◌+◌, ◌≤◌, Bool, true, false, List, [], ◌∷◌, ◌++◌, length, Contains, append_assoc, append-nil, length-append, Option, Some, None, IfSome, refl, sym, ap, subst, ◌∙◌, arith}
 use Rattle.std.specs.Io.KnownBytes.{Appends, Consumes}
 use Rattle.std.proofs.lemmas.List.{append_cancel_right}
 use Rattle.std.proofs.lemmas.List.Elements.{All-cons, All-contains, All-nil}
@@ -15,7 +15,7 @@ use Rattle.fleet_io.specs.Taken.{AppendsFront, TakesFront}
 use Rattle.fleet_io.proofs.MarkerLaws.{whole_marker-front}
 use Rattle.link_frames.specs.Frames.{end_frame, frames_bytes}
 use Rattle.link_upload.specs.Uploads.{IsPrompt, StaysPrompt, StopsAtEnd, UploadFails, UploadGives}
-use Rattle.link_upload.specs.Links.{Link, careful_link_of, link_of}
+use Rattle.link_upload.specs.Links.{Link, link_of}
 use Rattle.refusals.specs.declared.refusal.Refusal.{Refusal}
 use Rattle.refusals.specs.Refusals.{status_of}
 use Rattle.show_uploads.specs.declared.uploading.Ready.{Ready}
@@ -26,8 +26,7 @@ use Rattle.show_plan.specs.Fitting.{IsFitted}
 use Rattle.show_plan.specs.Landing.{session_for}
 use Rattle.choreo_reader.specs.declared.show.Settings.{Settings}
 use Rattle.traj_codec.specs.declared.traj.Traj.{Traj}
-use Rattle.std.specs.declared.alloc.AllocError.{AllocError}
-use Rattle.upload_model.specs.Sessions.{Upload as Session}
+use Rattle.upload_core.specs.HostState.{HostState}
 use Rattle.show_judge.specs.declared.input.Text.TheVariants.{Whole}
 use Rattle.show_judge.specs.Answers.{IsAccepted, IsRefusedBy, Wrote}
 use Rattle.show_judge.specs.Input.{IsShowText}
@@ -36,7 +35,7 @@ use Rattle.show_judge.specs.Refused.{IsOfInput}
 use Rattle.show_judge.specs.Runs.{IsOutput, IsStopped, Runs}
 use Rattle.show_judge.specs.Verb.{IsJudged, Outcome, Run, outcome, run_of}
 use Rattle.show_judge.specs.Shows.{Cut, cut_of, show_limit}
-use Rattle.show_uploads.specs.Ready.{IsLinkOf, IsReadyFor, ReadyGives}
+use Rattle.show_uploads.specs.Ready.{IsLinkOf, ReadyGives}
 use Rattle.show_uploads.specs.Sessions.{link_in, session_of}
 use Rattle.show_uploads.specs.Upload.{UploadStops, UploadStopsReading, UploadsPromptly, upload_verb, upload_ways}
 use Rattle.show_judge.proofs.AnswerLemmas.{refused_outcome, refused_some}
@@ -52,36 +51,21 @@ ready_of_text depth start readback (Some all) new part ready takes short gives =
     gives (cut_of all) (takes.part, takes.marker, omega (arith, short, ap (λ (xs : List ℕ). length xs) takes.part))
 
 -- what fits of a show is uploaded as the show is
-session_is : (f : Fitted) (s : PlainShow) (b : Bool) → IsFitted f s → session_for f.settings f.sent b ≡ session_of s b
-session_is f s b is = ap (λ (e : Settings). session_for e f.sent b) is.settings ∙ ap (λ (ts : List Traj). session_for s.settings ts b) is.sent
-
-ready_of : (depth : ℕ) (start readback : Bool) (cut : Cut) (a : Accepted) (made : Ready) → IsAccepted (upload_ways depth) depth cut a →
-    IsReadyFor (session_for a.fitted.settings a.fitted.sent) start readback made → ReadyGives (upload_ways depth) start readback cut made
-ready_of depth start false cut a (ready.Host host) is made = record {
-  s = is.s;
-  short = is.short;
-  stands = is.stands;
-  accepted = is.accepted;
-  safe = is.safe;
-  is = ap link_of (made ∙ session_is a.fitted is.s start is.fitted);
-}
-ready_of depth start true cut a (ready.Host host) is made = absurd made
-ready_of depth start false cut a (ready.Careful careful) is made = absurd made
-ready_of depth start true cut a (ready.Careful careful) is made = record {
-  s = is.s;
-  short = is.short;
-  stands = is.stands;
-  accepted = is.accepted;
-  safe = is.safe;
-  is = ap (λ (u : Session). careful_link_of u careful.starts) (made.0 ∙ session_is a.fitted is.s false is.fitted) ∙ ap (careful_link_of (session_of is.s false)) made.1;
-}
-ready_of depth start readback cut a (ready.Refused r) is made = absurd made
+session_is : (f : Fitted) (s : PlainShow) (readback start : Bool) → IsFitted f s → session_for f.settings f.sent readback start ≡ session_of s readback start
+session_is f s readback start is =
+    ap (λ (e : Settings). session_for e f.sent readback start) is.settings ∙ ap (λ (ts : List Traj). session_for s.settings ts readback start) is.sent
 
 -- the host of what is accepted of a text
-pub ready_made : (depth : ℕ) (start readback : Bool) (cut : Cut) (a : Accepted) (result : Result Ready AllocError) → IsAccepted (upload_ways depth) depth cut a →
-    IfOk result (IsReadyFor (session_for a.fitted.settings a.fitted.sent) start readback) → IfOk result (ReadyGives (upload_ways depth) start readback cut)
-ready_made depth start readback cut a (Err e) is made = tt
-ready_made depth start readback cut a (Ok made) is ready_for = ready_of depth start readback cut a made is ready_for
+pub ready_made : (depth : ℕ) (start readback : Bool) (cut : Cut) (a : Accepted) (host : HostState) → IsAccepted (upload_ways depth) depth cut a →
+    host.session ≡ session_for a.fitted.settings a.fitted.sent readback start → ReadyGives (upload_ways depth) start readback cut (ready.Host host)
+ready_made depth start readback cut a host is made = record {
+  s = is.s;
+  short = is.short;
+  stands = is.stands;
+  accepted = is.accepted;
+  safe = is.safe;
+  is = ap link_of (made ∙ session_is a.fitted is.s readback start is.fitted);
+}
 
 -- ---- a run, from its fields
 

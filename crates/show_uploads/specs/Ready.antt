@@ -8,9 +8,7 @@ use Rattle.fleet_io.specs.Parts.{TakesMarked}
 use Rattle.show_judge.specs.declared.ways.Ways.{Ways}
 use Rattle.upload_core.specs.HostStandsFor.{HostStandsFor}
 use Rattle.upload_core.specs.HostState.{view_of}
-use Rattle.readback_core.specs.CarefulState.{CarefulStandsFor}
-use Rattle.link_upload.specs.Links.{Link, careful_link_of, link_of}
-use Rattle.upload_model.specs.Sessions.{Upload as Session}
+use Rattle.link_upload.specs.Links.{Link, link_of}
 use Rattle.show_uploads.specs.declared.uploading.Ready.{Ready}
 use Rattle.show_uploads.specs.declared.uploading.Ready.TheVariants as ready
 use Rattle.show_judge.specs.Answers.{IsRefusedBy}
@@ -31,28 +29,16 @@ pub record IsLinkOf (c : Ways) (start readback : Bool) (cut : Cut) (link : Link)
 -- the host of such an upload, or why the command refuses the show
 abbrev pub ReadyGives : Ways → Bool → Bool → Cut → Ready → Type 0
 ReadyGives c start readback cut (ready.Host host) = IsLinkOf c start readback cut (link_of host.session)
-ReadyGives c start readback cut (ready.Careful careful) = IsLinkOf c start readback cut (careful_link_of careful.host.session careful.starts)
 ReadyGives c start readback cut (ready.Refused r) = IsRefusedBy c cut r
-
--- the host of what is uploaded with starts or without, with read-back (true) or without
-abbrev pub IsReadyFor : (Bool → Session) → Bool → Bool → Ready → Type 0
-IsReadyFor session start false (ready.Host host) = host.session ≡ session start
-IsReadyFor session start true (ready.Host host) = ⊥
-IsReadyFor session start false (ready.Careful careful) = ⊥
-IsReadyFor session start true (ready.Careful careful) = (careful.host.session ≡ session false) × (careful.starts ≡ start)
-IsReadyFor session start readback (ready.Refused r) = ⊥
 
 -- nothing has happened to the host, and a refusal is one of an input
 abbrev pub IsSoundReady : Ready → Type 0
 IsSoundReady (ready.Host host) = HostStandsFor (view_of host) []
-IsSoundReady (ready.Careful careful) = CarefulStandsFor careful []
 IsSoundReady (ready.Refused r) = IsOfInput r
 
 -- Where frames are wanted, the bytes after the marker line are still to come; and unless the input's end was met, the marker line had its line
 -- feed.
 abbrev pub GoesOnReady : Ready → Held → Option (List ℕ) → Option (List ℕ) → Type 0
 GoesOnReady (ready.Host host) held old new =
-    (held.sound ≡ true) × IfSome old (λ all. new ≡ Some (rest_of all)) × (held.ended ≡ false → TakesMarked old new)
-GoesOnReady (ready.Careful careful) held old new =
     (held.sound ≡ true) × IfSome old (λ all. new ≡ Some (rest_of all)) × (held.ended ≡ false → TakesMarked old new)
 GoesOnReady (ready.Refused r) held old new = Unit {0}

@@ -1,8 +1,8 @@
 -- What is uploaded of a show.
-use Rattle.std.specs.Prelude.{ℕ, Bool, true, false}
+use Rattle.std.specs.Prelude.{ℕ, Bool}
 use Rattle.choreo_reader.specs.Plain.{PlainShow}
 use Rattle.fleet_world.specs.declared.schedule.TheConstants.{MOST_TEXT}
-use Rattle.link_upload.specs.Links.{Link, careful_link_of, link_of}
+use Rattle.link_upload.specs.Links.{Link, link_of}
 use Rattle.show_plan.specs.Landing.{session_for}
 use Rattle.upload_model.specs.Sessions.{Upload as Session}
 use Rattle.show_judge.specs.Shows.{sent_of}
@@ -11,11 +11,10 @@ use Rattle.show_judge.specs.Shows.{sent_of}
 abbrev pub schedule_limit : ℕ
 schedule_limit = MOST_TEXT
 
--- what is uploaded of a show, with starts or without
-abbrev pub session_of : PlainShow → Bool → Session
-session_of s start = session_for s.settings (sent_of s) start
+-- what is uploaded of a show, with read-back or without, with starts or without
+abbrev pub session_of : PlainShow → Bool → Bool → Session
+session_of s readback start = session_for s.settings (sent_of s) readback start
 
--- the upload of a show through a link, with starts or without, and with read-back (true) or without
+-- the upload of a show through a link, with starts or without, with read-back or without
 abbrev pub link_in : PlainShow → Bool → Bool → Link
-link_in s start false = link_of (session_of s start)
-link_in s start true = careful_link_of (session_of s false) start
+link_in s start readback = link_of (session_of s readback start)

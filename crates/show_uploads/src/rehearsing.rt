@@ -2,16 +2,13 @@
 ghost use Rattle.std.specs.Prelude.{◌≡◌, ◌≤◌, length, IfOk};
 ghost use Rattle.choreo_reader.specs.Plain.{PlainShow};
 ghost use Rattle.cue_grid.specs.declared.grid.Grid.{Grid};
-ghost use Rattle.fleet_world.specs.Schedules.{schedule_of};
-ghost use Rattle.readback_core.specs.CarefulSchedules.{careful_schedule_of};
 ghost use Rattle.show_plan.specs.Fitting.{IsFitted, IsValidFitted};
 ghost use Rattle.show_plan.specs.Landing.{Lands};
 ghost use Rattle.show_judge.specs.Answers.{IsSaid, outcome_of};
 ghost use Rattle.show_judge.specs.Input.{IsText, IsUnmarked, IsWithin};
-ghost use Rattle.show_uploads.specs.Rehearse.{CarefulScheduleGives, CarefullyRehearses, RehearseGives, Rehearses, ScheduleGives, rehearse_verb};
-ghost use Rattle.show_judge.specs.Refused.{faulty_event, second_refusal};
+ghost use Rattle.show_uploads.specs.Rehearse.{RehearseGives, Rehearses, rehearse_verb};
 ghost use Rattle.show_judge.specs.Runs.{Behaves};
-ghost use Rattle.show_judge.specs.Shows.{Cut, most_depth, words_of};
+ghost use Rattle.show_judge.specs.Shows.{Cut, most_depth};
 ghost use Rattle.show_judge.specs.Verb.{during};
 ghost use Rattle.show_judge.specs.Outcome.{IsVerb};
 ghost use Rattle.show_uploads.specs.Rehearse.{RehearseLaw};
@@ -19,10 +16,9 @@ ghost use Rattle.show_uploads.specs.Sessions.{schedule_limit};
 
 use firmware_memory::curve_law;
 use fleet_io::{Part, Sink, Source};
-use fleet_world::{MOST_TEXT, ScheduleFault, WorldEvent, read_schedule_of};
-use readback_core::{CarefulEvent, CarefulProgress, read_careful_schedule_of};
+use fleet_world::{MOST_TEXT, ScheduleFault, WorldEvent, read_schedule, schedule_law};
 use refusals::Refusal;
-use rehearsal::{careful_text, memory_text};
+use rehearsal::memory_text;
 use show_judge::{Answer, Output, Text, TwoTexts, marker_number, name_at, run_two};
 use show_plan::{Fitted, session};
 use std::alloc::{AllocError, Global};
@@ -32,70 +28,26 @@ use upload_model::Progress;
 fn rehearse_events(
     alloc: Global,
     fitted: &Fitted,
+    readback: bool,
     start: bool,
     events: &[WorldEvent],
 ) -> Result<Answer, AllocError>
     requires valid { IsValidFitted fitted.now }
     requires lands { (g : Grid) × Lands g fitted.now.settings fitted.now.sent }
     ensures gives { (s : PlainShow) → IsFitted fitted.now s
-        → IfOk result (λ a. Rehearses s start events.now (outcome_of a)) }
+        → IfOk result (λ a. Rehearses s readback start events.now (outcome_of a)) }
     ensures said { IfOk result IsSaid }
 {
-    let session = session(alloc, fitted, start)?;
+    let session = session(alloc, fitted, readback, start)?;
     let world = rehearsal::rehearse(alloc, session, events)?;
     let names = fitted.names.as_slice();
-    match world.progress() {
-        Progress::Going => Ok(Answer::Refused {
-            refusal: Refusal::Ended,
-        }),
-        Progress::GaveUp { drone, packet } => Ok(Answer::Refused {
-            refusal: Refusal::GaveUp {
-                drone: name_at(names, drone),
-                packet,
-            },
-        }),
-        Progress::Refused {
-            drone,
-            packet,
-            status,
-        } => Ok(Answer::Refused {
-            refusal: Refusal::Refused {
-                drone: name_at(names, drone),
-                packet,
-                status,
-            },
-        }),
-        Progress::Done => {
-            let lines = memory_text(alloc, &world, names, fitted.settings.trajectory_id)?;
-            Ok(Answer::Done {
-                output: Output::Text { lines },
-            })
-        }
-    }
-}
-
-// What an upload with read-back gives, after these events, over drones that are blank at the start.
-fn rehearse_carefully(
-    alloc: Global,
-    fitted: &Fitted,
-    start: bool,
-    events: &[CarefulEvent],
-) -> Result<Answer, AllocError>
-    requires valid { IsValidFitted fitted.now }
-    ensures gives { (s : PlainShow) → IsFitted fitted.now s
-        → IfOk result (λ a. CarefullyRehearses s start events.now (outcome_of a)) }
-    ensures said { IfOk result IsSaid }
-{
-    let session = session(alloc, fitted, false)?;
-    let world = rehearsal::rehearse_carefully(alloc, session, start, events)?;
-    let names = fitted.names.as_slice();
     let refusal = match world.progress() {
-        CarefulProgress::Going => Refusal::Ended,
-        CarefulProgress::GaveUp { drone, packet } => Refusal::GaveUp {
+        Progress::Going => Refusal::Ended,
+        Progress::GaveUp { drone, packet } => Refusal::GaveUp {
             drone: name_at(names, drone),
             packet,
         },
-        CarefulProgress::Refused {
+        Progress::Refused {
             drone,
             packet,
             status,
@@ -104,7 +56,7 @@ fn rehearse_carefully(
             packet,
             status,
         },
-        CarefulProgress::Differs {
+        Progress::Differs {
             drone,
             address,
             wanted,
@@ -115,8 +67,8 @@ fn rehearse_carefully(
             wanted,
             got,
         },
-        CarefulProgress::Done => {
-            let lines = careful_text(alloc, &world, names, fitted.settings.trajectory_id)?;
+        Progress::Done => {
+            let lines = memory_text(alloc, &world, names, fitted.settings.trajectory_id)?;
             return Ok(Answer::Done {
                 output: Output::Text { lines },
             });
@@ -129,6 +81,7 @@ fn rehearse_carefully(
 fn judge_part(
     alloc: Global,
     fitted: &Fitted,
+    readback: bool,
     start: bool,
     part: &Part,
 ) -> Result<Answer, AllocError>
@@ -137,13 +90,11 @@ fn judge_part(
     requires short { length part.now.bytes.items ≤ schedule_limit }
     ensures gives { (s : PlainShow) (cut : Cut) → IsFitted fitted.now s
         → IsText schedule_limit (Text.Whole part.now) cut.second cut.is_second_marked
-        → IfOk result (λ a. ScheduleGives
-        (second_refusal schedule_limit (faulty_event (schedule_of (words_of s) cut.second)) cut)
-        s start cut (outcome_of a)) }
+        → IfOk result (λ a. RehearseGives s readback start cut (outcome_of a)) }
     ensures whole { IfOk result (λ a. (outcome_of a).status ≡ 0 → IsUnmarked (Text.Whole part.now)) }
     ensures said { IfOk result IsSaid }
 {
-    let events = match read_schedule_of(alloc, &part.bytes, fitted.names.as_slice()) {
+    let events = match read_schedule(alloc, readback, &part.bytes, fitted.names.as_slice()) {
         Ok(events) => events,
         Err(ScheduleFault::Line { line }) => {
             return Ok(Answer::Refused {
@@ -158,102 +109,15 @@ fn judge_part(
             refusal: Refusal::SecondLine { line },
         });
     }
-    rehearse_events(alloc, fitted, start, &events)
-}
-
-// What a second text gives with read-back that isn't too large.
-fn judge_careful_part(
-    alloc: Global,
-    fitted: &Fitted,
-    start: bool,
-    part: &Part,
-) -> Result<Answer, AllocError>
-    requires valid { IsValidFitted fitted.now }
-    requires short { length part.now.bytes.items ≤ schedule_limit }
-    ensures gives { (s : PlainShow) (cut : Cut) → IsFitted fitted.now s
-        → IsText schedule_limit (Text.Whole part.now) cut.second cut.is_second_marked
-        → IfOk result (λ a. CarefulScheduleGives
-        (second_refusal schedule_limit (faulty_event (careful_schedule_of (words_of s) cut.second)) cut)
-        s start cut (outcome_of a)) }
-    ensures whole { IfOk result (λ a. (outcome_of a).status ≡ 0 → IsUnmarked (Text.Whole part.now)) }
-    ensures said { IfOk result IsSaid }
-{
-    let events = match read_careful_schedule_of(alloc, &part.bytes, fitted.names.as_slice()) {
-        Ok(events) => events,
-        Err(ScheduleFault::Line { line }) => {
-            return Ok(Answer::Refused {
-                refusal: Refusal::SecondLine { line },
-            });
-        }
-        Err(ScheduleFault::Memory) => return Err(AllocError),
-    };
-    if part.marker {
-        return Ok(Answer::Refused {
-            refusal: Refusal::SecondLine {
-                line: marker_number(&part.bytes),
-            },
-        });
-    }
-    rehearse_carefully(alloc, fitted, start, &events)
+    rehearse_events(alloc, fitted, readback, start, &events)
 }
 
 // What a second text gives for a show that nothing refuses.
 fn judge_second(
     alloc: Global,
     fitted: &Fitted,
-    start: bool,
-    second: &Text,
-) -> Result<Answer, AllocError>
-    requires valid { IsValidFitted fitted.now }
-    requires lands { (g : Grid) × Lands g fitted.now.settings fitted.now.sent }
-    requires short { IsWithin schedule_limit second.now }
-    ensures gives { (s : PlainShow) (cut : Cut) → IsFitted fitted.now s
-        → IsText schedule_limit second.now cut.second cut.is_second_marked
-        → IfOk result (λ a. ScheduleGives
-        (second_refusal schedule_limit (faulty_event (schedule_of (words_of s) cut.second)) cut)
-        s start cut (outcome_of a)) }
-    ensures whole { IfOk result (λ a. (outcome_of a).status ≡ 0 → IsUnmarked second.now) }
-    ensures said { IfOk result IsSaid }
-{
-    match second {
-        Text::TooLarge => Ok(Answer::Refused {
-            refusal: Refusal::SecondTooLarge,
-        }),
-        Text::Whole { part } => judge_part(alloc, fitted, start, part),
-    }
-}
-
-// What a second text gives with read-back for a show that nothing refuses.
-fn judge_careful(
-    alloc: Global,
-    fitted: &Fitted,
-    start: bool,
-    second: &Text,
-) -> Result<Answer, AllocError>
-    requires valid { IsValidFitted fitted.now }
-    requires short { IsWithin schedule_limit second.now }
-    ensures gives { (s : PlainShow) (cut : Cut) → IsFitted fitted.now s
-        → IsText schedule_limit second.now cut.second cut.is_second_marked
-        → IfOk result (λ a. CarefulScheduleGives
-        (second_refusal schedule_limit (faulty_event (careful_schedule_of (words_of s) cut.second)) cut)
-        s start cut (outcome_of a)) }
-    ensures whole { IfOk result (λ a. (outcome_of a).status ≡ 0 → IsUnmarked second.now) }
-    ensures said { IfOk result IsSaid }
-{
-    match second {
-        Text::TooLarge => Ok(Answer::Refused {
-            refusal: Refusal::SecondTooLarge,
-        }),
-        Text::Whole { part } => judge_careful_part(alloc, fitted, start, part),
-    }
-}
-
-// What a second text gives, with read-back or without, for a show that nothing refuses.
-fn judge_either(
-    alloc: Global,
-    fitted: &Fitted,
-    start: bool,
     readback: bool,
+    start: bool,
     second: &Text,
 ) -> Result<Answer, AllocError>
     requires valid { IsValidFitted fitted.now }
@@ -261,14 +125,15 @@ fn judge_either(
     requires short { IsWithin schedule_limit second.now }
     ensures gives { (s : PlainShow) (cut : Cut) → IsFitted fitted.now s
         → IsText schedule_limit second.now cut.second cut.is_second_marked
-        → IfOk result (λ a. RehearseGives readback s start cut (outcome_of a)) }
+        → IfOk result (λ a. RehearseGives s readback start cut (outcome_of a)) }
     ensures whole { IfOk result (λ a. (outcome_of a).status ≡ 0 → IsUnmarked second.now) }
     ensures said { IfOk result IsSaid }
 {
-    if readback {
-        judge_careful(alloc, fitted, start, second)
-    } else {
-        judge_second(alloc, fitted, start, second)
+    match second {
+        Text::TooLarge => Ok(Answer::Refused {
+            refusal: Refusal::SecondTooLarge,
+        }),
+        Text::Whole { part } => judge_part(alloc, fitted, readback, start, part),
     }
 }
 
@@ -297,7 +162,7 @@ impl TwoTexts for Rehearsal {
     }
 
     fn answer(&self, alloc: Global, fitted: &Fitted, second: &Text) -> Result<Answer, AllocError> {
-        judge_either(alloc, fitted, self.start, self.readback, second)
+        judge_second(alloc, fitted, self.readback, self.start, second)
     }
 }
 
@@ -306,6 +171,7 @@ pub fn rehearse_law()
     ensures { RehearseLaw }
 {
     curve_law();
+    schedule_law();
 }
 
 /// Runs `rehearse` (docs/COMMANDS.md, `rehearse`) at a depth of 0 to 8, with starts or without, with read-back or without: what the drones hold

@@ -14,25 +14,25 @@ ghost use Rattle.show_judge.specs.Input.{IsShowText, IsWithin, TakesOneText};
 ghost use Rattle.show_judge.specs.Runs.{Behaves, Runs, TakesLittle};
 ghost use Rattle.show_judge.specs.Shows.{Cut, cut_of, most_depth, show_limit};
 ghost use Rattle.show_judge.specs.Verb.{IsJudged, during};
-ghost use Rattle.show_uploads.specs.Ready.{GoesOnReady, IsReadyFor, IsSoundReady, ReadyGives};
+ghost use Rattle.show_uploads.specs.Ready.{GoesOnReady, IsSoundReady, ReadyGives};
+ghost use Rattle.upload_core.specs.HostStandsFor.{HostStandsFor};
+ghost use Rattle.upload_core.specs.HostState.{view_of};
 ghost use Rattle.show_uploads.specs.Upload.{UploadStopsReading, UploadingLaw, upload_verb, upload_ways};
 
 use choreo_reader::{MOST_BYTES, show_law};
 use fleet_io::{IoFault, Parts, Sink, Source, marker_law};
 use link_frames::END_BYTE;
 use link_upload::upload_law;
-use readback_core::Careful;
 use refusals::Refusal;
 use show_judge::{Failure, Judged, NO_MEMORY, Text, Ways, accept, finish};
 use show_plan::{Fitted, session};
 use std::alloc::{AllocError, Global};
 use upload_core::Host;
 
-/// The host of an upload, with read-back or without, or why the show is refused.
+/// The host of an upload, or why the show is refused.
 #[derive(Drop)]
 pub enum Ready {
     Host { host: Host },
-    Careful { careful: Careful },
     Refused { refusal: Refusal },
 }
 
@@ -42,19 +42,13 @@ fn make_host(
     fitted: &Fitted,
     start: bool,
     readback: bool,
-) -> Result<Ready, AllocError>
+) -> Result<Host, AllocError>
     requires { IsValidFitted fitted.now }
-    ensures link { IfOk result (IsReadyFor (session_for fitted.now.settings fitted.now.sent) start readback) }
-    ensures sound { IfOk result IsSoundReady }
+    ensures session { IfOk result (λ host. host.session ≡ session_for fitted.now.settings fitted.now.sent readback start) }
+    ensures stands { IfOk result (λ host. HostStandsFor (view_of host) []) }
 {
-    if readback {
-        let session = session(alloc, fitted, false)?;
-        let careful = Careful::make(alloc, session, start)?;
-        return Ok(Ready::Careful { careful });
-    }
-    let session = session(alloc, fitted, start)?;
-    let host = Host::make(alloc, session)?;
-    Ok(Ready::Host { host })
+    let session = session(alloc, fitted, readback, start)?;
+    Host::make(alloc, session)
 }
 
 // The host of an upload of the show that a text stands for, or why the show is refused.
@@ -77,7 +71,10 @@ fn make_ready(
         depth: Some(depth),
     };
     match accept(alloc, ways, depth, text)? {
-        Judged::Accepted { accepted } => make_host(alloc, &accepted.fitted, start, readback),
+        Judged::Accepted { accepted } => {
+            let host = make_host(alloc, &accepted.fitted, start, readback)?;
+            Ok(Ready::Host { host })
+        }
         Judged::Refused { refusal } => Ok(Ready::Refused { refusal }),
     }
 }
@@ -146,7 +143,6 @@ fn carry<S: Source, K: Sink>(
     let mut parts = Parts::make();
     match read_ready(alloc, depth, start, readback, &mut parts, source) {
         Ok(Ready::Host { host }) => link_upload::upload(&mut parts, source, host, sink),
-        Ok(Ready::Careful { careful }) => link_upload::upload(&mut parts, source, careful, sink),
         Ok(Ready::Refused { refusal }) => refuse_by_frame(sink, &refusal),
         Err(Failure::Read) => refuse_by_frame(sink, &Refusal::Read),
         Err(Failure::Memory) => NO_MEMORY,

@@ -1,5 +1,5 @@
 use Rattle.std.proofs.Common.{ap, refl}
-use Rattle.link_upload.specs.Links.{careful_link_of, link_of}
+use Rattle.link_upload.specs.Links.{link_of}
 use Rattle.fleet_io.specs.Held.{Held, stream}
 use Rattle.fleet_io.proofs.TakenLemmas.{TakesFront-trans}
 use Rattle.show_judge.proofs.FewLemmas.{stream_new}
@@ -19,19 +19,6 @@ returns-in-Ok-Host-clause-runs g c =
     (during g.S.Source.left g.S.Source.faults g.K.Sink.written g.K.Sink.faults c.args.source.now c.upload.new.source c.args.sink.now c.upload.new.sink)
     (stream c.read_ready.new.parts (g.S.Source.left c.read_ready.new.source)) c.read_ready.new.parts.ended (g.S.Source.faults c.read_ready.new.source)
     (link_of c.in-Ok-Host.host.session) c.upload.result (outcomes c.show_law.ensures (upload_verb c.args.depth c.args.start c.args.readback) (c.uploading_law.ensures c.args.depth c.args.start c.args.readback)) c.marker_law.ensures c.show_law.ensures
-    (record { is = gives; rest = goes_on.1; fed = goes_on.2 }) c.read_ready.ensures.later (TakesFront-trans _ _ _ c.read_ready.ensures.left u.taken)
-    (record { ends = u.ends; six = u.six; seven = u.seven; prompt = u.prompt; grown = u.grown; known = u.known; reads_later = u.source_later; writes_later = u.sink_later })
-
-pub returns-in-Ok-Careful-clause-runs : goal.returns-in-Ok-Careful-clause-runs
-returns-in-Ok-Careful-clause-runs g c =
-    let is = stream_new c.make-parts.result (g.S.Source.left c.args.source.now) (ap (λ (h : Held). h.waiting) c.make-parts.ensures) in
-    let gives = rw (is, c.in-Ok-Careful.field-0-is) at c.in-Ok-Careful.ensures.gives in
-    let goes_on = rw (is, c.in-Ok-Careful.field-0-is) at c.in-Ok-Careful.ensures.goes_on in
-    let u = c.upload-in-Ok-Careful.ensures in
-    upload_carried c.args.depth c.args.start c.args.readback
-    (during g.S.Source.left g.S.Source.faults g.K.Sink.written g.K.Sink.faults c.args.source.now c.upload-in-Ok-Careful.new.source c.args.sink.now c.upload-in-Ok-Careful.new.sink)
-    (stream c.read_ready.new.parts (g.S.Source.left c.read_ready.new.source)) c.read_ready.new.parts.ended (g.S.Source.faults c.read_ready.new.source)
-    (careful_link_of c.in-Ok-Careful.careful.host.session c.in-Ok-Careful.careful.starts) c.upload-in-Ok-Careful.result (outcomes c.show_law.ensures (upload_verb c.args.depth c.args.start c.args.readback) (c.uploading_law.ensures c.args.depth c.args.start c.args.readback)) c.marker_law.ensures c.show_law.ensures
     (record { is = gives; rest = goes_on.1; fed = goes_on.2 }) c.read_ready.ensures.later (TakesFront-trans _ _ _ c.read_ready.ensures.left u.taken)
     (record { ends = u.ends; six = u.six; seven = u.seven; prompt = u.prompt; grown = u.grown; known = u.known; reads_later = u.source_later; writes_later = u.sink_later })
 
@@ -61,13 +48,6 @@ returns-in-Ok-Host-clause-stops g c = λ judged.
     let gives = rw (is, c.in-Ok-Host.field-0-is) at c.in-Ok-Host.ensures.gives in
     let goes_on = rw (is, c.in-Ok-Host.field-0-is) at c.in-Ok-Host.ensures.goes_on in
     stops_late c.args.depth c.args.start c.args.readback _ _ (stream c.read_ready.new.parts (g.S.Source.left c.read_ready.new.source)) (link_of c.in-Ok-Host.host.session) c.show_law.ensures gives goes_on.1 c.upload.ensures.stops
-
-pub returns-in-Ok-Careful-clause-stops : goal.returns-in-Ok-Careful-clause-stops
-returns-in-Ok-Careful-clause-stops g c = λ judged.
-    let is = stream_new c.make-parts.result (g.S.Source.left c.args.source.now) (ap (λ (h : Held). h.waiting) c.make-parts.ensures) in
-    let gives = rw (is, c.in-Ok-Careful.field-0-is) at c.in-Ok-Careful.ensures.gives in
-    let goes_on = rw (is, c.in-Ok-Careful.field-0-is) at c.in-Ok-Careful.ensures.goes_on in
-    stops_late c.args.depth c.args.start c.args.readback _ _ (stream c.read_ready.new.parts (g.S.Source.left c.read_ready.new.source)) (careful_link_of c.in-Ok-Careful.careful.host.session c.in-Ok-Careful.careful.starts) c.show_law.ensures gives goes_on.1 c.upload-in-Ok-Careful.ensures.stops
 
 pub returns-in-Ok-Refused-clause-stops : goal.returns-in-Ok-Refused-clause-stops
 returns-in-Ok-Refused-clause-stops g c = λ judged.

@@ -1,5 +1,5 @@
 -- Why `step` keeps its contract, at the places where the check needs to be told.
-use Rattle.std.proofs.Common.{◌≡◌, ◌∙◌, ◌++◌, ◌∷◌, [], Bool, List, ap, sym, subst}
+use Rattle.std.proofs.Common.{◌≡◌, ◌∙◌, ◌++◌, ◌∷◌, [], List, ap, sym, subst}
 use Rattle.upload_model.specs.Sessions.{Upload}
 use Rattle.upload_model.specs.Worlds as Worlds
 use Rattle.firmware_memory.specs.declared.drone.Drone.{Drone}
