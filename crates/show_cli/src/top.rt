@@ -6,7 +6,6 @@ ghost use Rattle.fleet_io.specs.Causes.{Rose};
 ghost use Rattle.fleet_io.specs.Taken.{AppendsFront, TakesFront};
 ghost use Rattle.command_words.specs.Commands.{IsCommand};
 ghost use Rattle.drill_show.specs.Drill.{drill_text};
-ghost use Rattle.readback_model.specs.Readback.{StartsLastLaw, UnalteredLaw, VerifiedLaw};
 ghost use Rattle.refusals.specs.Lines.{usage_line};
 ghost use Rattle.show_judge.specs.Headline.{FliesText};
 ghost use Rattle.show_judge.specs.Outcome.{IsVerb, OutcomeLaw};
@@ -18,11 +17,12 @@ ghost use Rattle.show_studies.specs.Dynamics.{KeepsDynamics};
 ghost use Rattle.show_studies.specs.Explained.{TellsTouches};
 ghost use Rattle.show_studies.specs.Speeds.{KeepsSpeeds};
 ghost use Rattle.show_cli.specs.Verbs.{JudgesApart, command_in, verb_of};
+ghost use Rattle.upload_model.specs.Readback.{StartsLastLaw, VerifiedLaw};
+ghost use Rattle.upload_model.specs.Theorem.{TakenLaw, UploadLaw};
 
 use choreo_reader::show_law;
 use command_words::{Command, command_of, help_text};
 use fleet_io::{Sink, Source, SureSink, SureSource};
-use readback_core::readback_law;
 use refusals::Refusal;
 use show_judge::refuse;
 use show_looks::{certify, check, compile, drill, help, play, report, version};
@@ -30,6 +30,7 @@ use show_studies::{boxes, boxes_law, dynamics, explain, speed};
 use show_uploads::{rehearse, rehearse_law, upload, uploading_law};
 use show_verify::{verify, verify_law};
 use std::alloc::Global;
+use upload_model::{readback_law, upload_law};
 
 // Runs a command, each by its function.
 fn run_command<S: Source, K: Sink>(
@@ -109,10 +110,12 @@ pub fn run<S: Source, K: Sink>(
         → KeepsDynamics depth accel jump input (K.written sink.old) (K.written sink.new) }
 
     // When an upload with read-back is done, each byte of each load was right when it was read, whoever else alters a byte; no start was
-    // sent before; and where nobody alters one, no byte differs.
+    // sent before. When an upload with starts is done, each drone took a start. Where nobody alters a byte, each moment of an upload, with
+    // read-back or without, is safe, and no byte differs.
     ensures verified { VerifiedLaw }
     ensures starts_last { StartsLastLaw }
-    ensures unaltered { UnalteredLaw }
+    ensures starts_taken { TakenLaw }
+    ensures unaltered { UploadLaw }
 
     // There is no status above 18; 17 is that of words that the system doesn't give.
     ensures known { result ≤ 18 }
@@ -127,6 +130,7 @@ pub fn run<S: Source, K: Sink>(
     uploading_law();
     boxes_law();
     readback_law();
+    upload_law();
     match command_of(words) {
         Some(command) => run_command(alloc, command, source, sink),
         None => refuse(sink, &Refusal::Usage),
