@@ -1,6 +1,6 @@
 //! What the lines say, where they stand: the words of a line are read by its row of the table.
 
-ghost use Rattle.std.specs.Prelude.{◌≡◌, ◌+◌, ◌<◌, ◌≤◌, length, drop, IfOk, MatchResult, Ok, Err, true};
+ghost use Rattle.std.specs.Prelude.{[], ◌≡◌, ◌+◌, ◌<◌, ◌≤◌, length, drop, IfOk, MatchResult, Ok, Err, true};
 ghost use Rattle.text_lines.specs.Tokens.{words_in};
 ghost use Rattle.choreo_lines.specs.Table.{row_of, has_count as has_count_of};
 ghost use Rattle.choreo_lines.specs.Fields as spec;
@@ -8,6 +8,7 @@ ghost use Rattle.choreo_lines.specs.Fields.{Gives, KindGives};
 ghost use Rattle.choreo_lines.specs.Fields.{number_at as number_of_place};
 ghost use Rattle.choreo_lines.specs.Steps.{AllFit, IsNatural};
 ghost use Rattle.choreo_lines.specs.Says.{Says, may_say};
+ghost use Rattle.choreo_lines.specs.declared.line.Keyword.TheVariants as by;
 
 use crate::field::{copy_of, name, nth, value};
 use crate::line::{Entry, Keyword, LineError, LineKind, Place};
@@ -165,40 +166,88 @@ fn act_with(act: ActWord, values: &[Value]) -> Act
     }
 }
 
+// What the values of a `memory` line denote.
+fn memory_with(values: &[Value]) -> Entry
+    requires { AllFit (row_of by.Memory).places values.now }
+    ensures { result ≡ spec.entry_with by.Memory values.now [] }
+{
+    Entry::Memory {
+        id: natural_at(values, 0, 255) as u8,
+        offset: natural_at(values, 1, 4095) as u16,
+    }
+}
+
+// What the values of an `ellipsoid` line denote.
+fn ellipsoid_with(values: &[Value]) -> Entry
+    requires { AllFit (row_of by.Ellipsoid).places values.now }
+    ensures { result ≡ spec.entry_with by.Ellipsoid values.now [] }
+{
+    Entry::Ellipsoid {
+        r: natural_at(values, 0, 2000) as u16,
+        h: natural_at(values, 1, 2000) as u16,
+    }
+}
+
+// What the values of a `drone` line denote.
+fn drone_with(values: &[Value]) -> Entry
+    ensures { result ≡ spec.entry_with by.Drone values.now [] }
+{
+    Entry::Drone {
+        name: name_at(values, 0),
+        at: point_at(values, 1),
+    }
+}
+
+// What the values of an `at` line denote.
+fn at_with(values: &[Value]) -> Entry
+    ensures { result ≡ spec.entry_with by.At values.now [] }
+{
+    Entry::At {
+        name: name_at(values, 0),
+        at: point_at(values, 1),
+    }
+}
+
+// What the values of a `perform` line denote.
+fn perform_with(values: &[Value], names: Listed<Name>) -> Entry
+    requires { AllFit (row_of by.Perform).places values.now }
+    ensures { result ≡ spec.entry_with by.Perform values.now names }
+{
+    Entry::Perform {
+        figure: name_at(values, 0),
+        frame: Frame {
+            mirror: mirror_at(values, 1),
+            turns: natural_at(values, 2, 3) as u8,
+            dx: number_at(values, 3),
+            dy: number_at(values, 4),
+            dz: number_at(values, 5),
+        },
+        drones: names,
+    }
+}
+
 // What the values of a line's places and the names after them denote.
 fn entry_with(first: Keyword, values: &[Value], names: Listed<Name>) -> Entry
     requires { AllFit (row_of first).places values.now }
     ensures { result ≡ spec.entry_with first values.now names }
 {
     match first {
-        Keyword::Memory => Entry::Memory {
-            id: natural_at(values, 0, 255) as u8,
-            offset: natural_at(values, 1, 4095) as u16,
-        },
+        Keyword::Memory => memory_with(values),
         Keyword::Trajectory => Entry::Trajectory {
             id: natural_at(values, 0, 9) as u8,
         },
-        Keyword::Ellipsoid => Entry::Ellipsoid {
-            r: natural_at(values, 0, 2000) as u16,
-            h: natural_at(values, 1, 2000) as u16,
-        },
+        Keyword::Ellipsoid => ellipsoid_with(values),
         Keyword::Stray => Entry::Stray {
             mm: natural_at(values, 0, 1000) as u16,
         },
         Keyword::Late => Entry::Late {
             ms: natural_at(values, 0, 1000) as u16,
         },
-        Keyword::Drone => Entry::Drone {
-            name: name_at(values, 0),
-            at: point_at(values, 1),
-        },
+        Keyword::Drone => drone_with(values),
         Keyword::Formation => Entry::Formation {
             name: name_at(values, 0),
         },
-        Keyword::At => Entry::At {
-            name: name_at(values, 0),
-            at: point_at(values, 1),
-        },
+        Keyword::At => at_with(values),
         Keyword::Figure => Entry::Figure {
             name: name_at(values, 0),
             roles: names,
@@ -209,17 +258,7 @@ fn entry_with(first: Keyword, values: &[Value], names: Listed<Name>) -> Entry
         Keyword::Repeat => Entry::Repeat {
             times: natural_at(values, 0, 1_000_000_000),
         },
-        Keyword::Perform => Entry::Perform {
-            figure: name_at(values, 0),
-            frame: Frame {
-                mirror: mirror_at(values, 1),
-                turns: natural_at(values, 2, 3) as u8,
-                dx: number_at(values, 3),
-                dy: number_at(values, 4),
-                dz: number_at(values, 5),
-            },
-            drones: names,
-        },
+        Keyword::Perform => perform_with(values, names),
         Keyword::Form => Entry::Form {
             formation: name_at(values, 0),
             smooth: smooth_at(values, 1),

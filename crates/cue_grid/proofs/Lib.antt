@@ -8,3 +8,4 @@ pub mod Numbering
 pub mod Marking
 pub mod Fits
 pub mod Distinct
+pub mod Placing

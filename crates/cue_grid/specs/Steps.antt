@@ -1,5 +1,14 @@
 -- Words of the private steps of unrolling: what one step finds, and what it hands to the next.
-use Rattle.std.specs.Prelude.{ℕ, Bool, not, List, [], ◌∷◌, Option, Some, None}
+use Rattle.std.specs.Prelude.{ℕ, zero, suc, Bool, false, not, List, [], ◌∷◌, Option, Some, None}
+use Rattle.choreo_lines.specs.Name.{Name}
+use Rattle.choreo_lines.specs.declared.parts.Act.{Act}
+use Rattle.choreo_lines.specs.declared.parts.Frame.{Frame}
+use Rattle.choreo_reader.specs.declared.show.ActLine.{ActLine}
+use Rattle.choreo_reader.specs.declared.show.DroneLine.{DroneLine}
+use Rattle.choreo_reader.specs.declared.show.Formation.{Formation}
+use Rattle.cue_grid.specs.Cues.{Playing, act_by, act_line_number, job_or}
+use Rattle.cue_grid.specs.Names.{same_name}
+use Rattle.cue_grid.specs.declared.grid.Job.{Job}
 use Rattle.choreo_reader.specs.Plain as plain
 use Rattle.choreo_reader.specs.Plain.{Body, PlainShow}
 use Rattle.cue_grid.specs.Faults.{drones_faults, formations_faults, figures_faults, show_faults, earlier_of, fault_if}
@@ -28,3 +37,19 @@ line_in plain.Done = 0
 line_in (plain.Cue line ms acts rest) = line
 line_in (plain.Repeat line times inside rest) = line
 line_in (plain.Perform line figure frame drones rest) = line
+
+-- whether this name stands at a place of these
+abbrev pub stands_at : List Name → Name → ℕ → Bool
+stands_at [] n k = false
+stands_at (m ∷ ms) n zero = same_name n m
+stands_at (m ∷ ms) n (suc k) = stands_at ms n k
+
+-- the jobs of drones, in which those that have an act by a line do it, and the others keep theirs
+abbrev pub put_acts : (Name → Option Act) → ℕ → Frame → List DroneLine → List Job → List Job
+put_acts act line frame [] js = js
+put_acts act line frame (d ∷ ds) [] = []
+put_acts act line frame (d ∷ ds) (j ∷ js) = job_or (act d.name) line frame j ∷ put_acts act line frame ds js
+
+-- the same for what a line of a cue gives each drone to do
+abbrev pub put_line_of : List Formation → Playing → ActLine → List DroneLine → List Job → List Job
+put_line_of fs p a ds js = put_acts (λ n. act_by fs p n a) (act_line_number a) p.frame ds js

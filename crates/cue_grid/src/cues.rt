@@ -1,12 +1,13 @@
 //! The cues, written out.
 
-ghost use Rattle.std.specs.Prelude.{◌≡◌, ◌++◌, map, OnOk, IfOk};
+ghost use Rattle.std.specs.Prelude.{◌≡◌, ◌++◌, true, false, map, set, OnOk, IfOk, MatchOption};
 ghost use Rattle.choreo_reader.specs.Plain.{block_of, body_of};
 ghost use Rattle.choreo_reader.specs.Plain as plain;
-ghost use Rattle.cue_grid.specs.Cues.{act_by, act_line_number, job_of, cue_of, player as player_of, figure_cues, cues_in, performed_cues, cues_of as cues_of_show, way_to, as_written as as_written_in_show};
-ghost use Rattle.cue_grid.specs.Shown.{shown, played};
+ghost use Rattle.cue_grid.specs.Cues.{act_if, way_if, cue_of, player as player_of, figure_cues, cues_in, performed_cues, cues_of as cues_of_show, way_to, as_written as as_written_in_show};
+ghost use Rattle.cue_grid.specs.Shown.{shown, played, AreDistinct};
+ghost use Rattle.cue_grid.specs.Steps.{put_acts, put_line_of, stands_at};
 ghost use Rattle.cue_grid.specs.Frames.{no_frame};
-ghost use Rattle.cue_grid.specs.Names.{place_named};
+ghost use Rattle.cue_grid.specs.Names.{same_name as same_name_of, has_name, has_double, names_of, place_named};
 
 use crate::grid::{Cue, Job};
 use crate::lookup::Lookup;
@@ -27,6 +28,7 @@ pub struct Cast<'a> {
 
 /// The cues of a show, in order.
 pub fn cues_of(alloc: Global, show: &Lookup) -> Result<Vec<Cue>, AllocError>
+    requires { AreDistinct show.now }
     ensures { IfOk result (λ cues. cues.items ≡ cues_of_show (shown show.now)) }
 {
     let mut cues = Vec::new(alloc);
@@ -49,6 +51,7 @@ fn put_block(
     block: &Block,
     cues: &mut Vec<Cue>,
 ) -> Result<(), AllocError>
+    requires { AreDistinct show.now }
     ensures { OnOk result (cues.new.items
         ≡ cues.old.items
         ++ cues_in (shown show.now) (played cast.now) (performed_cues (shown show.now))
@@ -94,6 +97,7 @@ fn put_figure(
     body: &[Block],
     cues: &mut Vec<Cue>,
 ) -> Result<(), AllocError>
+    requires { AreDistinct show.now }
     ensures { OnOk result (cues.new.items
         ≡ cues.old.items ++ figure_cues (shown show.now) (played cast.now) (body_of body.now)) }
 {
@@ -112,6 +116,7 @@ fn put_figure_block(
     block: &Block,
     cues: &mut Vec<Cue>,
 ) -> Result<(), AllocError>
+    requires { AreDistinct show.now }
     ensures { OnOk result (cues.new.items
         ≡ cues.old.items
         ++ figure_cues (shown show.now) (played cast.now) (block_of block.now plain.Done)) }
@@ -133,7 +138,7 @@ fn put_figure_block(
     }
 }
 
-// A cue, with one job for each drone of the show.
+// A cue, with one job for each drone of the show. The last line is put first, so that the first line of a drone counts.
 fn cue(
     alloc: Global,
     show: &Lookup,
@@ -142,11 +147,17 @@ fn cue(
     ms: u16,
     acts: &[ActLine],
 ) -> Result<Cue, AllocError>
+    requires { AreDistinct show.now }
     ensures { IfOk result (λ c. c ≡ cue_of (shown show.now) (played cast.now) line ms acts.now) }
 {
-    let mut jobs = Vec::new(alloc);
-    for drone in show.show.drones.as_slice() {
-        jobs.push(job(show, cast, line, acts, &drone.name))?;
+    let hold = Job {
+        line,
+        frame: cast.frame,
+        act: Act::Hold,
+    };
+    let mut jobs = filled(alloc, show.show.drones.as_slice(), hold)?;
+    for k in (0..acts.len()).rev() {
+        put_line(show, cast, k, &acts[k], &mut jobs);
     }
     Ok(Cue {
         ms,
@@ -154,49 +165,113 @@ fn cue(
     })
 }
 
-// The job of a drone in a cue.
-fn job(show: &Lookup, cast: &Cast, line: u32, acts: &[ActLine], drone: &Name) -> Job
-    ensures { result ≡ job_of (shown show.now).formations (played cast.now) line acts.now drone.now }
+// This job for each of these drones.
+fn filled(alloc: Global, drones: &[DroneLine], job: Job) -> Result<Vec<Job>, AllocError>
+    ensures { IfOk result (λ jobs. jobs.items ≡ map (λ d. job) drones.now) }
 {
-    for act_line in acts {
-        if let Some(act) = act_for(show, cast, act_line, drone) {
-            return Job {
-                line: number_of(act_line),
-                frame: cast.frame,
-                act,
-            };
-        }
+    let mut jobs = Vec::with_capacity(alloc, drones.len())?;
+    for drone in drones {
+        jobs.push(job)?;
     }
-    Job {
-        line,
-        frame: cast.frame,
-        act: Act::Hold,
+    Ok(jobs)
+}
+
+// Puts what a line gives each drone to do into its place. The drone of the line is looked for at a place first.
+fn put_line(show: &Lookup, cast: &Cast, from: usize, line: &ActLine, jobs: &mut Vec<Job>)
+    requires { AreDistinct show.now }
+    ensures { jobs.new.items
+        ≡ put_line_of (shown show.now).formations (played cast.now) line.now (shown show.now).drones
+        jobs.old.items }
+{
+    let drones = show.show.drones.as_slice();
+    match line {
+        ActLine::One { line, name, act } => {
+            let job = Job {
+                line: *line,
+                frame: cast.frame,
+                act: *act,
+            };
+            put_one(
+                drones,
+                from,
+                player(cast.roles, cast.drones, name),
+                job,
+                jobs,
+            );
+        }
+        ActLine::Form {
+            line,
+            formation,
+            smooth,
+        } => match show.find_formation(formation) {
+            None => {}
+            Some(found) => {
+                let hold = Job {
+                    line: *line,
+                    frame: cast.frame,
+                    act: Act::Hold,
+                };
+                put_ways(drones, found.places.as_slice(), *smooth, hold, jobs);
+            }
+        },
     }
 }
 
-// What a line gives a drone to do.
-fn act_for(show: &Lookup, cast: &Cast, line: &ActLine, drone: &Name) -> Option<Act>
-    ensures { result ≡ act_by (shown show.now).formations (played cast.now) drone.now line.now }
+// Puts a job into the place of the drone of this name, if there is one.
+fn put_one(drones: &[DroneLine], from: usize, name: &Name, job: Job, jobs: &mut Vec<Job>)
+    requires { has_double (names_of drones.now) ≡ false }
+    ensures { jobs.new.items
+        ≡ put_acts (λ n. act_if (same_name_of n name.now) job.act) job.line job.frame drones.now
+        jobs.old.items }
 {
-    match line {
-        ActLine::One { name, act, .. } => {
-            if same_name(drone, player(cast.roles, cast.drones, name)) {
-                Some(*act)
-            } else {
-                None
-            }
+    match drone_at(drones, from, name) {
+        None => {}
+        Some(k) => put(jobs, k, job),
+    }
+}
+
+// Puts the ways to the places of a formation into the places of their drones, with line and frame of this job.
+fn put_ways(drones: &[DroneLine], places: &[DroneLine], smooth: bool, job: Job, jobs: &mut Vec<Job>)
+    ensures { jobs.new.items
+        ≡ put_acts (λ n. way_if smooth (place_named places.now n)) job.line job.frame drones.now
+        jobs.old.items }
+{
+    for (k, drone) in drones.iter().enumerate() {
+        if let Some(at) = place_in(places, &drone.name) {
+            put(
+                jobs,
+                k,
+                Job {
+                    act: way(smooth, at),
+                    ..job
+                },
+            );
         }
-        ActLine::Form {
-            formation,
-            smooth,
-            ..
-        } => match show.find_formation(formation) {
-            None => None,
-            Some(found) => match place_in(found.places.as_slice(), drone) {
-                None => None,
-                Some(at) => Some(way(*smooth, at)),
-            },
-        },
+    }
+}
+
+// Where the drone of a name stands: at this place, or else the first from the front.
+fn drone_at(drones: &[DroneLine], from: usize, name: &Name) -> Option<usize>
+    ensures { MatchOption result (has_name (names_of drones.now) name.now ≡ false)
+        (λ k. stands_at (names_of drones.now) name.now k ≡ true) }
+{
+    if from < drones.len() && same_name(name, &drones[from].name) {
+        return Some(from);
+    }
+    for (k, drone) in drones.iter().enumerate() {
+        if same_name(name, &drone.name) {
+            return Some(k);
+        }
+    }
+    None
+}
+
+// Puts a job into a place.
+fn put(jobs: &mut Vec<Job>, k: usize, job: Job)
+    ensures { jobs.new.items ≡ set jobs.old.items k job }
+{
+    if k < jobs.len() {
+        jobs[k] = job;
     }
 }
 
@@ -232,16 +307,6 @@ fn way(smooth: bool, to: Point) -> Act
         Act::Move { to }
     } else {
         Act::Line { to }
-    }
-}
-
-// The number of an act line or a `form` line.
-fn number_of(line: &ActLine) -> u32
-    ensures { result ≡ act_line_number line.now }
-{
-    match line {
-        ActLine::One { line, .. } => *line,
-        ActLine::Form { line, .. } => *line,
     }
 }
 

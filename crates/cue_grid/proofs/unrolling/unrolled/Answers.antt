@@ -1,6 +1,6 @@
-use Rattle.std.proofs.Common.{◌∙◌}
+use Rattle.std.proofs.Common.{sym, ◌∙◌}
 use Rattle.cue_grid.specs.Shown.{shown}
-use Rattle.cue_grid.proofs.Distinct.{answered_distinct}
+use Rattle.cue_grid.proofs.Distinct.{answered_distinct, names_apart}
 use Rattle.cue_grid.proofs.Fits.{answered, answered_names}
 use Rattle.cue_grid.proofs.unrolling.unrolled.Goals as goal
 
@@ -16,3 +16,6 @@ returns-clause-names c =
 pub returns-clause-distinct : goal.returns-clause-distinct
 returns-clause-distinct c =
     answered_distinct (shown c.args.show.now) _ _ c.in-Ok.ensures c.in_default.is (c.from_vec.ensures ∙ c.in-Ok-copies_of.ensures ∙ c.as_slice.ensures)
+
+pub cues_of-requires : goal.cues_of-requires
+cues_of-requires c = names_apart (shown c.args.show.now) (sym c.in-Ok.ensures ∙ c.in_default.is)

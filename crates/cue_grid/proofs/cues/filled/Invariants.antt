@@ -1,0 +1,5 @@
+use Rattle.std.proofs.Common.{◌≡◌, take, map}
+use Rattle.cue_grid.proofs.cues.filled.Given as goal
+
+abbrev pub invariant-loop-drone : goal.invariant-loop-drone
+invariant-loop-drone l = l.jobs.items ≡ map (λ d. l.job) (take l.drone-index l.drones)

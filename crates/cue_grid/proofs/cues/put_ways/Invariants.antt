@@ -1,0 +1,8 @@
+use Rattle.std.proofs.Common.{◌≡◌, take}
+use Rattle.cue_grid.specs.Cues.{way_if}
+use Rattle.cue_grid.specs.Names.{place_named}
+use Rattle.cue_grid.specs.Steps.{put_acts}
+use Rattle.cue_grid.proofs.cues.put_ways.Given as goal
+
+abbrev pub invariant-loop-k : goal.invariant-loop-k
+invariant-loop-k l = l.jobs.items ≡ put_acts (λ n. way_if l.smooth (place_named l.places n)) l.job.line l.job.frame (take l.k l.drones) l.initial.jobs.items
