@@ -8,3 +8,4 @@ pub mod Marks
 pub mod Axes
 pub mod LaneLemmas
 pub mod Reaches
+pub mod Waits

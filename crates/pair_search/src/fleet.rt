@@ -14,12 +14,12 @@ ghost use Rattle.pair_search.specs.Steps.{FindsCount, FindsTree};
 use crate::extents::{Extent, are_far, extent_at, extents_of, has_axes};
 use crate::lanes::{Lanes, lanes_of};
 use crate::shape::count_with;
+use crate::waiting::Waiting;
 use crate::walk::{Found, search_by};
 use bezier_core::Bez;
 use fleet_curves::Curves;
-use halving::Place;
 use listed::Listed;
-use sep_parts::{Level, Node, Ruler, Slot, Stack};
+use sep_parts::{Node, Ruler, Slot};
 use std::alloc::{AllocError, Global};
 
 /// Why a search of a fleet finds no trees.
@@ -119,7 +119,7 @@ fn is_far<const M: usize>(curves: &Curves, extents: &[Extent], ruler: &Ruler<M>,
 }
 
 // How many nodes a slot's tree has, or the first part of its cue that no direction separates. `axes` says that the ruler has the
-// directions of the axes, and `hint` and `stack` are as of `count_with`.
+// directions of the axes, and `hint` and `waiting` are as of `count_with`.
 fn count_of<const M: usize>(
     curves: &Curves,
     extents: &[Extent],
@@ -129,37 +129,25 @@ fn count_of<const M: usize>(
     depth: u8,
     slot: Slot,
     hint: &mut usize,
-    stack: &mut Stack,
+    waiting: &mut Waiting,
 ) -> Result<u32, SearchFault>
     requires depth { depth ≤ 8 }
     requires slot { IsSlot curves.now.drones curves.now.cues slot }
     requires extents { AreExtents curves.now extents.now }
     requires axes { IsTrue axes → HasAxes ruler.now.directions }
     requires lanes { AreLanes ruler.now lanes.now }
-    requires empty { stack.old ≡ [] }
+    requires empty { waiting.old ≡ [] }
     ensures finds { FindsCount ruler.now depth curves.now slot result }
-    ensures empty { OnOk result (stack.new ≡ []) }
+    ensures empty { OnOk result (waiting.new ≡ []) }
 {
     if axes && is_far(curves, extents, ruler, slot) {
         return Ok(1);
     }
     let diff = difference_of(curves, slot);
-    match count_with(&diff, ruler, lanes, depth, hint, stack) {
+    match count_with(&diff, ruler, lanes, depth, hint, waiting) {
         Ok(count) => Ok(count),
         Err(index) => Err(SearchFault::Blocked { slot, index }),
     }
-}
-
-// A stack of no level.
-fn no_levels() -> Stack
-    ensures { result ≡ [] }
-{
-    let mut stack = Stack::of(Level {
-        place: Place { depth: 0, index: 0 },
-        part: [Bez { b: [0; 8] }; 3],
-    });
-    stack.pop();
-    stack
 }
 
 /// How many nodes the trees of a fleet have: what [`search_all`] returns, counted. No tree is kept, and no direction is looked for
@@ -178,7 +166,7 @@ pub fn count_all<const M: usize>(
     let extents = extents_of(alloc, curves)?;
     let axes = has_axes(ruler);
     let lanes = lanes_of(ruler);
-    let mut stack = no_levels();
+    let mut waiting = Waiting::none();
     let mut hint = 0;
     let mut count = 0;
     let mut slot = Slot::first();
@@ -192,7 +180,7 @@ pub fn count_all<const M: usize>(
             depth,
             slot,
             &mut hint,
-            &mut stack,
+            &mut waiting,
         )?;
         slot = slot.next(drones, cues);
     }

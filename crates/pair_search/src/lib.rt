@@ -15,6 +15,7 @@ mod first;
 mod fleet;
 mod lanes;
 mod shape;
+mod waiting;
 mod walk;
 
 pub use fleet::{SearchFault, count_all, search_all};

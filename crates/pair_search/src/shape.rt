@@ -10,13 +10,13 @@ ghost use Rattle.pair_search.specs.Steps.{CountGives, marked, node_for};
 
 use crate::first::first_direction;
 use crate::lanes::Lanes;
+use crate::waiting::Waiting;
 use crate::walk::sizes_law;
 use bezier_core::Bez;
-use halving::Place;
-use sep_parts::{Level, Node, Ruler, Stack};
+use sep_parts::{Level, Node, Ruler};
 
 /// How many nodes the best tree of a cue has, or the first part that no direction separates. `hint` is the number of a direction that
-/// is tried first, and becomes that of the last one that separated a part; it changes nothing of what is found. `stack` is
+/// is tried first, and becomes that of the last one that separated a part; it changes nothing of what is found. `waiting` is
 /// empty, and so it is left where there is a tree.
 pub fn count_with<const M: usize>(
     diff: &[Bez<8>; 3],
@@ -24,17 +24,17 @@ pub fn count_with<const M: usize>(
     lanes: &Lanes,
     depth: u8,
     hint: &mut usize,
-    stack: &mut Stack,
+    waiting: &mut Waiting,
 ) -> Result<u32, u16>
     requires depth { depth ≤ 8 }
-    requires empty { stack.old ≡ [] }
+    requires empty { waiting.old ≡ [] }
     requires values { All (λ curve. All (IsBelow (2 ^ 30)) curve.b) diff.now }
     requires lanes { AreLanes ruler.now lanes.now }
     ensures gives { CountGives (first_by ruler.now diff.now) depth result }
-    ensures empty { OnOk result (stack.new ≡ []) }
+    ensures empty { OnOk result (waiting.new ≡ []) }
 {
     sizes_law(diff);
-    count_parts(diff, ruler, lanes, depth, hint, stack)
+    count_parts(diff, ruler, lanes, depth, hint, waiting)
 }
 
 // The same of differences whose curves have eight control values each.
@@ -44,25 +44,22 @@ fn count_parts<const M: usize>(
     lanes: &Lanes,
     depth: u8,
     hint: &mut usize,
-    stack: &mut Stack,
+    waiting: &mut Waiting,
 ) -> Result<u32, u16>
     requires depth { depth ≤ 8 }
-    requires empty { stack.old ≡ [] }
+    requires empty { waiting.old ≡ [] }
     requires sizes { All (λ curve. length curve.b ≡ 8) diff.now }
     requires values { All (λ curve. All (IsBelow (2 ^ 30)) curve.b) diff.now }
     requires lanes { AreLanes ruler.now lanes.now }
     ensures gives { CountGives (first_by ruler.now diff.now) depth result }
-    ensures empty { OnOk result (stack.new ≡ []) }
+    ensures empty { OnOk result (waiting.new ≡ []) }
 {
     let mut count = 0;
-    stack.push(Level {
-        place: Place { depth: 0, index: 0 },
-        part: *diff,
-    });
-    while let Some(level) = stack.pop() {
-        match shape_for(diff, &level, ruler, lanes, depth, hint) {
+    waiting.begin(diff);
+    while let Some(level) = waiting.next() {
+        match shape_for(diff, level, ruler, lanes, depth, hint) {
             Some(node) => {
-                stack.push_below(diff, &level, node);
+                waiting.pass(diff, node);
                 count += 1;
             }
             None => return Err(level.place.index),

@@ -1,10 +1,11 @@
 //! The walk over the parts of a cue, the first half of a part before the second.
 
-ghost use Rattle.std.specs.Prelude.{◌≡◌, ℕ, ◌+◌, ◌^◌, ◌≤◌, ◌<◌, ◌∷◌, ◌++◌, [], length, All, IfOk, OnOk, ◌↔◌};
+ghost use Rattle.std.specs.Prelude.{◌≡◌, ℕ, ◌+◌, ◌^◌, ◌≤◌, ◌<◌, ◌∷◌, ◌++◌, [], List, length, All, IfOk, OnOk, ◌↔◌};
 ghost use Rattle.fleet_math.specs.Numbers.{IsBelow};
 ghost use Rattle.sep_parts.specs.Directions.{AreSmall, IsClearance, IsTableSize};
 ghost use Rattle.sep_parts.specs.Levels.{IsLevel, IsStack, places_of, root};
 ghost use Rattle.sep_parts.specs.Trees.{places_below, IsShallow};
+ghost use Rattle.sep_parts.specs.declared.stack.Level.{Level};
 ghost use Rattle.pair_search.specs.Search.{IsClear, SearchGives, first_by, first_direction};
 ghost use Rattle.pair_search.specs.Lanes.{AreLanes};
 ghost use Rattle.pair_search.specs.Laws.{SearchLaw};
@@ -12,9 +13,10 @@ ghost use Rattle.pair_search.specs.Steps.{WalkGives, node_for};
 
 use crate::first::first_direction;
 use crate::lanes::{Lanes, lanes_of};
+use crate::waiting::Waiting;
 use bezier_core::Bez;
 use halving::Place;
-use sep_parts::{Clearance, Dirs, Level, Node, Ruler, Stack, level_halves};
+use sep_parts::{Clearance, Dirs, Level, Node, Ruler};
 use std::alloc::AllocError;
 
 /// What a search found.
@@ -120,7 +122,7 @@ fn walk<const M: usize>(
             nodes.push(Node::Leaf { dir })?;
             Ok(Found::Clear)
         }
-        Some(Node::Split) => walk_halves(diff, &whole, ruler, lanes, depth, nodes),
+        Some(Node::Split) => walk_halves(diff, ruler, lanes, depth, nodes),
         None => Ok(Found::Blocked { index: 0 }),
     }
 }
@@ -128,7 +130,6 @@ fn walk<const M: usize>(
 // The same of a whole cue that is split.
 fn walk_halves<const M: usize>(
     diff: &[Bez<8>; 3],
-    whole: &Level,
     ruler: &Ruler<M>,
     lanes: &Lanes,
     depth: u8,
@@ -136,20 +137,19 @@ fn walk_halves<const M: usize>(
 ) -> Result<Found, AllocError>
     requires empty { nodes.old.items ≡ [] }
     requires depth { depth ≤ 8 }
-    requires whole { whole.now.place ≡ root }
-    requires level { IsLevel diff.now whole.now }
+    requires sizes { All (λ curve. length curve.b ≡ 8) diff.now }
     requires split { node_for (first_by ruler.now diff.now) depth root ≡ Some Node.Split }
     requires values { All (λ curve. All (IsBelow (2 ^ 30)) curve.b) diff.now }
     requires lanes { AreLanes ruler.now lanes.now }
     ensures { WalkGives (first_by ruler.now diff.now) depth result nodes.new.items }
 {
     nodes.push(Node::Split)?;
-    let (left, right) = level_halves(diff, whole);
-    let mut stack = Stack::of(right);
-    stack.push(left);
-    while let Some(level) = stack.pop() {
-        match node_for(diff, &level, ruler, lanes, depth) {
-            Some(node) => put(diff, &mut stack, nodes, &level, node)?,
+    let mut waiting = Waiting::none();
+    waiting.begin(diff);
+    waiting.pass(diff, Node::Split);
+    while let Some(level) = waiting.next() {
+        match node_for(diff, level, ruler, lanes, depth) {
+            Some(node) => put(diff, &mut waiting, nodes, node)?,
             None => {
                 return Ok(Found::Blocked {
                     index: level.place.index,
@@ -180,25 +180,23 @@ fn node_for<const M: usize>(
     }
 }
 
-// A node after the others, and where it is a split the halves of its part onto the stack, the first half on top.
+// A node after the others, which is that of the next part.
 fn put(
     diff: &[Bez<8>; 3],
-    stack: &mut Stack,
+    waiting: &mut Waiting,
     nodes: &mut Vec<Node>,
-    level: &Level,
     node: Node,
 ) -> Result<(), AllocError>
     requires values { All (λ curve. All (IsBelow (2 ^ 30)) curve.b) diff.now }
-    requires level { IsLevel diff.now level.now }
-    requires stack { IsStack diff.now stack.old }
-    requires room { length stack.old ≤ level.now.place.depth }
-    requires shallow { IsShallow level.now.place node }
-    ensures stack { OnOk result (IsStack diff.now stack.new) }
-    ensures places { OnOk result (places_of stack.new ≡ places_below level.now.place node ++ places_of stack.old) }
+    requires some { 1 ≤ length waiting.old }
+    requires stack { IsStack diff.now waiting.old }
+    requires shallow { (level : Level) (rest : List Level) → waiting.old ≡ level ∷ rest → IsShallow level.place node }
+    ensures stack { OnOk result (IsStack diff.now waiting.new) }
+    ensures places { OnOk result ((level : Level) (rest : List Level) → waiting.old ≡ level ∷ rest → places_of waiting.new ≡ places_below level.place node ++ places_of rest) }
     ensures nodes { OnOk result (nodes.new.items ≡ nodes.old.items ++ node ∷ []) }
 {
     nodes.push(node)?;
-    stack.push_below(diff, level, node);
+    waiting.pass(diff, node);
     Ok(())
 }
 

@@ -10,7 +10,7 @@ loop-lanes-init g c = (
   slots_in c.args.curves.now,
   record { ahead = rw c.first-slot.ensures (first_ahead c.args.curves.now.drones c.args.curves.now.cues (omega arith) (omega arith)); blocked = refl },
   omega arith,
-  c.no_levels-stack.ensures,
+  c.none-waiting.ensures,
 )
 
 pub returns-in_err-count : goal.returns-in_err-count

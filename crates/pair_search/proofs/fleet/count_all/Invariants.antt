@@ -9,7 +9,7 @@ abbrev pub invariant-loop-lanes : goal.invariant-loop-lanes
 invariant-loop-lanes g l =
     (rest : List Slot) × IsPending l.ruler l.depth l.curves l.slot rest
     × (l.count + nodes_in l.ruler l.depth l.curves rest ≡ nodes_in l.ruler l.depth l.curves (slots_in l.curves))
-    × (l.stack ≡ [])
+    × (l.waiting ≡ [])
 
 abbrev pub decreases-loop-lanes : goal.decreases-loop-lanes
 decreases-loop-lanes g l = left l.slot

@@ -1,4 +1,4 @@
-use Rattle.std.proofs.Common.{◌≡◌, sym, ◌∙◌, subst, refl, ap, List, [], ◌∷◌}
+use Rattle.std.proofs.Common.{◌≡◌, ◌∷◌, [], sym, ◌∙◌, subst, refl, ap, drop, List}
 use Rattle.bezier_core.specs.declared.Bez.{Bez}
 use Rattle.sep_parts.specs.declared.stack.Level.{Level}
 use Rattle.sep_parts.specs.Levels.{IsStack, places_of, root}
@@ -8,6 +8,7 @@ use Rattle.pair_search.specs.Steps.{marked}
 use Rattle.pair_search.proofs.Halves.{left_has, right_has}
 use Rattle.pair_search.proofs.Marks.{count_begun, count_blocked, count_ended, count_past}
 use Rattle.pair_search.proofs.Trees.{begun, less_pending}
+use Rattle.pair_search.proofs.Waits.{next_shallow, some_next}
 use Rattle.pair_search.proofs.shape.count_parts.Goals as goal
 
 abbrev whole : (diff : List (Bez 8)) → Level
@@ -15,33 +16,42 @@ whole diff = record { place = root; part = diff }
 
 pub loop-level-init : goal.loop-level-init
 loop-level-init g c =
-    let is : c.push.new.self ≡ whole c.args.diff.now ∷ [] = c.push.ensures ∙ ap (λ (s : List Level). whole c.args.diff.now ∷ s) c.requires.empty in
+    let is : c.begin.new.self ≡ whole c.args.diff.now ∷ [] = c.begin.ensures in
     record {
-      stack = first_stack c.args.diff.now c.push.new.self c.told-diff c.requires.sizes is;
-      state = count_begun (first_by c.args.ruler.now c.args.diff.now) c.args.depth c.push.new.self c.requires.depth (ap places_of is)
+      stack = first_stack c.args.diff.now c.begin.new.self c.told-diff c.requires.sizes is;
+      state = count_begun (first_by c.args.ruler.now c.args.diff.now) c.args.depth c.begin.new.self c.requires.depth (ap places_of is)
           (begun (marked (first_by c.args.ruler.now c.args.diff.now)) c.args.depth);
     }
 
+pub pass-requires : goal.pass-requires
+pass-requires g c = record {
+  values = c.requires.values;
+  some = some_next c.loop-level.waiting (drop 1 c.loop-level.waiting) c.in-Some.level.now c.in-Some.ensures;
+  stack = c.loop-level.invariant.stack;
+  shallow = λ level rest is. next_shallow (marked (first_by c.args.ruler.now c.args.diff.now)) c.args.depth c.loop-level.waiting (drop 1 c.loop-level.waiting) rest c.in-Some.level.now level c.in-Some-shape_for.node
+      c.requires.depth (sym c.shape_for.ensures ∙ c.in-Some-shape_for.is) c.in-Some.ensures is;
+}
+
 pub loop-level-smaller : goal.loop-level-smaller
 loop-level-smaller g c =
-    less_pending (marked (first_by c.args.ruler.now c.args.diff.now)) c.args.depth c.loop-level.stack c.pop.new.self c.push_below.new.self c.in-Some.level c.in-Some-shape_for.node
-    c.in-Some.ensures (sym c.shape_for.ensures ∙ c.in-Some-shape_for.is) c.push_below.ensures.places
+    less_pending (marked (first_by c.args.ruler.now c.args.diff.now)) c.args.depth c.loop-level.waiting (drop 1 c.loop-level.waiting) c.pass.new.self c.in-Some.level.now c.in-Some-shape_for.node
+    c.in-Some.ensures (sym c.shape_for.ensures ∙ c.in-Some-shape_for.is) (c.pass.ensures.places c.in-Some.level.now (drop 1 c.loop-level.waiting) c.in-Some.ensures)
 
 pub loop-level-preserved : goal.loop-level-preserved
 loop-level-preserved g c = record {
-  stack = c.push_below.ensures.stack;
+  stack = c.pass.ensures.stack;
   state = count_past (first_by c.args.ruler.now c.args.diff.now) c.args.depth
       (left_has c.args.ruler.now.clearance c.args.diff.now c.args.ruler.now.directions) (right_has c.args.ruler.now.clearance c.args.diff.now c.args.ruler.now.directions)
-      c.loop-level.stack c.pop.new.self c.push_below.new.self c.in-Some.level c.loop-level.count _ c.in-Some-shape_for.node
-      c.in-Some.ensures (sym c.shape_for.ensures ∙ c.in-Some-shape_for.is) c.push_below.ensures.places refl c.loop-level.invariant.state;
+      c.loop-level.waiting (drop 1 c.loop-level.waiting) c.pass.new.self c.in-Some.level.now c.loop-level.count _ c.in-Some-shape_for.node
+      c.in-Some.ensures (sym c.shape_for.ensures ∙ c.in-Some-shape_for.is) (c.pass.ensures.places c.in-Some.level.now (drop 1 c.loop-level.waiting) c.in-Some.ensures) refl c.loop-level.invariant.state;
 }
 
 pub returns-in-None-clause-gives : goal.returns-in-None-clause-gives
 returns-in-None-clause-gives g c =
-    let stack : IsStack c.args.diff.now (c.in-Some.level ∷ c.pop.new.self) = subst (λ (s : List Level). IsStack c.args.diff.now s) c.in-Some.ensures c.loop-level.invariant.stack in
-    count_blocked (first_by c.args.ruler.now c.args.diff.now) c.args.depth c.loop-level.stack c.pop.new.self c.in-Some.level c.loop-level.count
+    let stack : IsStack c.args.diff.now (c.in-Some.level.now ∷ drop 1 c.loop-level.waiting) = subst (λ (s : List Level). IsStack c.args.diff.now s) c.in-Some.ensures c.loop-level.invariant.stack in
+    count_blocked (first_by c.args.ruler.now c.args.diff.now) c.args.depth c.loop-level.waiting (drop 1 c.loop-level.waiting) c.in-Some.level.now c.loop-level.count
     c.in-Some.ensures stack.1.place.1 (sym c.shape_for.ensures ∙ c.in-None.is) c.loop-level.invariant.state
 
 pub returns-clause-gives : goal.returns-clause-gives
 returns-clause-gives g c =
-    count_ended (first_by c.args.ruler.now c.args.diff.now) c.args.depth c.loop-level.stack c.loop-level.count c.in_default.ensures.0 c.loop-level.invariant.state
+    count_ended (first_by c.args.ruler.now c.args.diff.now) c.args.depth c.loop-level.waiting c.loop-level.count c.in_default.ensures c.loop-level.invariant.state

@@ -6,9 +6,9 @@ use Rattle.pair_search.proofs.shape.count_parts.Given as goal
 
 abbrev pub invariant-loop-level : goal.invariant-loop-level
 invariant-loop-level g l = record {
-  stack : IsStack l.diff l.stack;
-  state : IsCount (first_by l.ruler l.diff) l.depth (places_of l.stack) l.count;
+  stack : IsStack l.diff l.waiting;
+  state : IsCount (first_by l.ruler l.diff) l.depth (places_of l.waiting) l.count;
 }
 
 abbrev pub decreases-loop-level : goal.decreases-loop-level
-decreases-loop-level g l = work l.depth (places_of l.stack)
+decreases-loop-level g l = work l.depth (places_of l.waiting)

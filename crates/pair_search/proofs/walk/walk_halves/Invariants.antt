@@ -5,9 +5,9 @@ use Rattle.pair_search.proofs.walk.walk_halves.Given as goal
 
 abbrev pub invariant-loop-level : goal.invariant-loop-level
 invariant-loop-level g l = record {
-  stack : IsStack l.diff l.stack;
-  walk : IsWalk (first_by l.ruler l.diff) l.depth (places_of l.stack) l.nodes.items;
+  stack : IsStack l.diff l.waiting;
+  walk : IsWalk (first_by l.ruler l.diff) l.depth (places_of l.waiting) l.nodes.items;
 }
 
 abbrev pub decreases-loop-level : goal.decreases-loop-level
-decreases-loop-level g l = work l.depth (places_of l.stack)
+decreases-loop-level g l = work l.depth (places_of l.waiting)

@@ -1,0 +1,131 @@
+//! The parts of a cue that are still to be looked at, each halved where it stands.
+
+ghost use Rattle.std.specs.Prelude.{◌≡◌, ◌<◌, ◌≤◌, ◌^◌, [], ◌∷◌, ◌++◌, List, length, drop, All, MatchOption};
+ghost use Rattle.fleet_math.specs.Numbers.{IsBelow};
+ghost use Rattle.sep_parts.specs.Levels.{IsLevel, IsStack, left_half, places_of, right_half, root};
+ghost use Rattle.sep_parts.specs.Trees.{IsShallow, places_below};
+ghost use Rattle.sep_parts.specs.declared.stack.Level.{Level};
+
+use bezier_core::Bez;
+use halving::Place;
+use sep_parts::{Level, Node, halves};
+use std::marker::Model;
+
+/// At most nine parts, the next one first: one for each depth from 0 to 8. It takes no memory.
+#[derive(Drop)]
+pub struct Waiting {
+    levels: [Level; 9],
+    top: usize,
+}
+
+impl Model for Waiting {
+    ghost use Rattle.std.specs.Prelude.{◌≡◌, List, drop, length, ◌≤◌};
+    ghost use Rattle.sep_parts.specs.declared.stack.Level.{Level};
+
+    ghost Value = { List Level };
+
+    ghost view = { λ s. drop s.top s.levels };
+
+    ghost invariant = { λ s. (s.top ≤ 9) × (length s.levels ≡ 9) };
+}
+
+impl Waiting {
+    /// No part.
+    pub fn none() -> Waiting
+        ensures { result ≡ [] }
+    {
+        let level = Level {
+            place: Place { depth: 0, index: 0 },
+            part: [Bez { b: [0; 8] }; 3],
+        };
+        Waiting {
+            levels: [level; 9],
+            top: 9,
+        }
+    }
+
+    /// The whole cue, where no part waits.
+    pub fn begin(&mut self, diff: &[Bez<8>; 3])
+        requires { self.old ≡ [] }
+        ensures { self.new ≡ record { place = root; part = diff.now } ∷ [] }
+    {
+        self.push(Place { depth: 0, index: 0 }, diff);
+    }
+
+    /// The next part; none where none waits.
+    pub fn next(&self) -> Option<&Level>
+        ensures { MatchOption result (self.now ≡ []) (λ level. self.now ≡ level.now ∷ drop 1 self.now) }
+    {
+        if self.top == 9 { None } else { Some(self.first()) }
+    }
+
+    // The next part. There must be one.
+    fn first(&self) -> &Level
+        requires { 1 ≤ length self.now }
+        ensures { self.now ≡ result.now ∷ drop 1 self.now }
+    {
+        &self.levels[self.top]
+    }
+
+    /// Past the next part, whose node this is: where it is a split its halves take its place, the first half first.
+    pub fn pass(&mut self, diff: &[Bez<8>; 3], node: Node)
+        requires values { All (λ curve. All (IsBelow (2 ^ 30)) curve.b) diff.now }
+        requires some { 1 ≤ length self.old }
+        requires stack { IsStack diff.now self.old }
+        requires shallow { (level : Level) (rest : List Level) → self.old ≡ level ∷ rest → IsShallow level.place node }
+        ensures stack { IsStack diff.now self.new }
+        ensures places { (level : Level) (rest : List Level) → self.old ≡ level ∷ rest → places_of self.new ≡ places_below level.place node ++ places_of rest }
+    {
+        match node {
+            Node::Leaf { .. } => self.drop_next(),
+            Node::Split => self.split(diff),
+        }
+    }
+
+    // The halves of the next part take its place, the first half first.
+    fn split(&mut self, diff: &[Bez<8>; 3])
+        requires values { All (λ curve. All (IsBelow (2 ^ 30)) curve.b) diff.now }
+        requires some { 1 ≤ length self.old }
+        requires stack { IsStack diff.now self.old }
+        requires shallow { (level : Level) (rest : List Level) → self.old ≡ level ∷ rest → level.place.depth < 8 }
+        ensures stack { IsStack diff.now self.new }
+        ensures places { (level : Level) (rest : List Level) → self.old ≡ level ∷ rest → places_of self.new ≡ left_half level.place ∷ right_half level.place ∷ places_of rest }
+    {
+        let level = self.first();
+        let place = level.place;
+        let parts = parts_below(diff, level);
+        self.drop_next();
+        self.push(place.right(), &parts.1);
+        self.push(place.left(), &parts.0);
+    }
+
+    // Without the next part.
+    fn drop_next(&mut self)
+        requires { 1 ≤ length self.old }
+        ensures { self.new ≡ drop 1 self.old }
+    {
+        self.top += 1;
+    }
+
+    // A part before the others. There must be room for it. It is written field by field, so that it is copied once.
+    fn push(&mut self, place: Place, part: &[Bez<8>; 3])
+        requires { length self.old < 9 }
+        ensures { self.new ≡ record { place = place; part = part.now } ∷ self.old }
+    {
+        self.top -= 1;
+        self.levels[self.top].place = place;
+        self.levels[self.top].part = *part;
+    }
+}
+
+// The halves of a part, without their places.
+#[inline(always)]
+fn parts_below(diff: &[Bez<8>; 3], level: &Level) -> ([Bez<8>; 3], [Bez<8>; 3])
+    requires values { All (λ curve. All (IsBelow (2 ^ 30)) curve.b) diff.now }
+    requires level { IsLevel diff.now level.now }
+    requires shallow { level.now.place.depth < 8 }
+    ensures left { IsLevel diff.now (record { place = left_half level.now.place; part = result.0 }) }
+    ensures right { IsLevel diff.now (record { place = right_half level.now.place; part = result.1 }) }
+{
+    halves(&level.part)
+}
