@@ -107,8 +107,8 @@ impl Waiting {
         self.top += 1;
     }
 
-    // A part before the others. There must be room for it. It is written field by field, so that it is copied once.
-    fn push(&mut self, place: Place, part: &[Bez<8>; 3])
+    /// A part before the others. There must be room for it. It is written field by field, so that it is copied once.
+    pub fn push(&mut self, place: Place, part: &[Bez<8>; 3])
         requires { length self.old < 9 }
         ensures { self.new ≡ record { place = place; part = part.now } ∷ self.old }
     {

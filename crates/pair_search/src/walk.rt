@@ -122,7 +122,7 @@ fn walk<const M: usize>(
             nodes.push(Node::Leaf { dir })?;
             Ok(Found::Clear)
         }
-        Some(Node::Split) => walk_halves(diff, ruler, lanes, depth, nodes),
+        Some(Node::Split) => walk_halves(diff, &whole, ruler, lanes, depth, nodes),
         None => Ok(Found::Blocked { index: 0 }),
     }
 }
@@ -130,6 +130,7 @@ fn walk<const M: usize>(
 // The same of a whole cue that is split.
 fn walk_halves<const M: usize>(
     diff: &[Bez<8>; 3],
+    whole: &Level,
     ruler: &Ruler<M>,
     lanes: &Lanes,
     depth: u8,
@@ -137,7 +138,8 @@ fn walk_halves<const M: usize>(
 ) -> Result<Found, AllocError>
     requires empty { nodes.old.items ≡ [] }
     requires depth { depth ≤ 8 }
-    requires sizes { All (λ curve. length curve.b ≡ 8) diff.now }
+    requires whole { whole.now.place ≡ root }
+    requires level { IsLevel diff.now whole.now }
     requires split { node_for (first_by ruler.now diff.now) depth root ≡ Some Node.Split }
     requires values { All (λ curve. All (IsBelow (2 ^ 30)) curve.b) diff.now }
     requires lanes { AreLanes ruler.now lanes.now }
@@ -145,7 +147,7 @@ fn walk_halves<const M: usize>(
 {
     nodes.push(Node::Split)?;
     let mut waiting = Waiting::none();
-    waiting.begin(diff);
+    waiting.push(whole.place, &whole.part);
     waiting.pass(diff, Node::Split);
     while let Some(level) = waiting.next() {
         match node_for(diff, level, ruler, lanes, depth) {

@@ -20,8 +20,9 @@ node_for-requires g c =
 
 pub walk_halves-requires : goal.walk_halves-requires
 walk_halves-requires g c =
+    let level = root_level c.args.diff.now c.told-diff (λ axis small. All-get_or (λ (curve : Bez 8). length curve.b ≡ 8) c.args.diff.now axis (record { b = [] }) (omega arith) c.requires.sizes) in
     let split = sym c.node_for.ensures ∙ c.in-Some-Split.is ∙ ap Some c.in-Some-Split.field-0-is in
-    (search rules, (c.requires.empty, (c.requires.depth, (c.requires.sizes, (split, (c.requires.values, c.requires.lanes))))))
+    (search rules, (c.requires.empty, (c.requires.depth, (refl, (level, (split, (c.requires.values, c.requires.lanes)))))))
 
 pub returns-in_ok-push-in-Some-Leaf : goal.returns-in_ok-push-in-Some-Leaf
 returns-in_ok-push-in-Some-Leaf g c =

@@ -1,36 +1,39 @@
 use Rattle.std.proofs.Common.{◌≡◌, ◌<◌, sym, ◌∙◌, subst, refl, ap, arith, drop, List, [], ◌∷◌, ◌++◌}
-use Rattle.bezier_core.specs.declared.Bez.{Bez}
 use Rattle.sep_parts.specs.declared.stack.Level.{Level}
-use Rattle.sep_parts.specs.Levels.{IsStack, root}
+use Rattle.sep_parts.specs.Levels.{IsStack}
 use Rattle.sep_parts.specs.declared.node.Node.{Node}
 use Rattle.sep_parts.specs.declared.node.Node.TheVariants.{Split}
-use Rattle.sep_parts.proofs.Stacks.{first_stack}
 use Rattle.pair_search.specs.Search.{first_by}
 use Rattle.pair_search.proofs.Halves.{left_has, right_has}
 use Rattle.pair_search.proofs.Trees.{begun, less_pending, past_pending, blocked_pending, ended_pending}
 use Rattle.pair_search.proofs.Waits.{next_same, next_shallow, some_next}
 use Rattle.pair_search.proofs.walk.walk_halves.Goals as goal
 
-abbrev whole : (diff : List (Bez 8)) → Level
-whole diff = record { place = root; part = diff }
+-- the whole cue waits alone
+alone : (whole : Level) (old new : List Level) → old ≡ [] → new ≡ whole ∷ old → new ≡ whole ∷ []
+alone whole old new none is = is ∙ ap (λ (s : List Level). whole ∷ s) none
 
 pub pass-requires : goal.pass-requires
-pass-requires g c = record {
-  values = c.requires.values;
-  some = some_next c.begin.new.self [] (whole c.args.diff.now) c.begin.ensures;
-  stack = first_stack c.args.diff.now c.begin.new.self c.told-diff c.requires.sizes c.begin.ensures;
-  shallow = λ level rest is. subst (λ (l : Level). l.place.depth < 8) (next_same c.begin.new.self [] rest (whole c.args.diff.now) level c.begin.ensures is).0 (omega arith);
-}
+pass-requires g c =
+    let is : c.push-2.new.self ≡ c.args.whole.now ∷ [] = alone c.args.whole.now c.none-waiting.result c.push-2.new.self c.none-waiting.ensures c.push-2.ensures in
+    record {
+      values = c.requires.values;
+      some = some_next c.push-2.new.self [] c.args.whole.now is;
+      stack = rw is (omega arith, c.requires.level, tt);
+      shallow = λ level rest same. subst (λ (l : Level). l.place.depth < 8) (next_same c.push-2.new.self [] rest c.args.whole.now level is same).0 (rw c.requires.whole (omega arith));
+    }
 
 pub loop-level-init : goal.loop-level-init
 loop-level-init g c =
-    let first = first_by c.args.ruler.now c.args.diff.now in record {
+    let first = first_by c.args.ruler.now c.args.diff.now in
+    let is : c.push-2.new.self ≡ c.args.whole.now ∷ [] = alone c.args.whole.now c.none-waiting.result c.push-2.new.self c.none-waiting.ensures c.push-2.ensures in
+    record {
       stack = c.pass.ensures.stack;
       walk = past_pending first c.args.depth
           (left_has c.args.ruler.now.clearance c.args.diff.now c.args.ruler.now.directions) (right_has c.args.ruler.now.clearance c.args.diff.now c.args.ruler.now.directions)
-          (whole c.args.diff.now ∷ []) [] c.pass.new.self (whole c.args.diff.now) [] c.push.new.self.items Split refl c.requires.split
-          (c.pass.ensures.places (whole c.args.diff.now) [] c.begin.ensures)
-          (c.in_ok-push.ensures.items ∙ ap (λ (xs : List Node). xs ++ Split ∷ []) c.requires.empty) (begun first c.args.depth);
+          (c.args.whole.now ∷ []) [] c.pass.new.self c.args.whole.now [] c.push.new.self.items Split refl (rw c.requires.whole c.requires.split)
+          (c.pass.ensures.places c.args.whole.now [] is)
+          (c.in_ok-push.ensures.items ∙ ap (λ (xs : List Node). xs ++ Split ∷ []) c.requires.empty) (rw c.requires.whole (begun first c.args.depth));
     }
 
 pub put-requires : goal.put-requires
