@@ -4,7 +4,7 @@ ghost use Rattle.std.specs.Prelude.{◌≡◌, ◌<◌, ◌≤◌, ◌^◌, leng
 ghost use Rattle.upload_model.specs.Sessions.{drone_count};
 
 use firmware_memory::{Def, Drone, make};
-use fleet_world::{Name, ScheduleFault, World, WorldEvent, read_schedule, read_schedule_of};
+use fleet_world::{Name, ScheduleFault, World, WorldEvent, read_schedule};
 use std::alloc::{AllocError, Global};
 use std::test::Fail;
 use upload_core::{Listed, Load, Progress, Session, Settings};
@@ -32,7 +32,7 @@ fn solo(alloc: Global, start: bool) -> Result<Session, AllocError>
         offset: 0,
         trajectory_id: 0,
     };
-    Session::make(alloc, settings, &loads, start)
+    Session::make(alloc, settings, &loads, false, start)
 }
 
 /// The path on its way to one drone whose memory is blank.
@@ -63,7 +63,7 @@ fn pair(alloc: Global) -> Result<Session, AllocError>
         offset: 0,
         trajectory_id: 0,
     };
-    Session::make(alloc, settings, &loads, true)
+    Session::make(alloc, settings, &loads, false, true)
 }
 
 /// The two loads on their way to two drones whose memories are blank.
@@ -114,7 +114,7 @@ fn run(
     requires names { length names.now.items ≤ 32 }
     ensures { length world.new.drones ≡ length world.old.drones }
 {
-    let events = match read_schedule(alloc, text, names) {
+    let events = match read_schedule(alloc, false, text, names.as_slice()) {
         Ok(events) => events,
         Err(_) => return Err(AllocError),
     };
@@ -202,7 +202,7 @@ fn names_are_places(rt: HostRuntime) -> Result<(), Fail> {
             WorldEvent::Take { drone, n: 0 },
             WorldEvent::Hear { drone, n: 11 },
         ];
-        match read_schedule(alloc, b"take b 1\nhear b 12", &names) {
+        match read_schedule(alloc, false, b"take b 1\nhear b 12", names.as_slice()) {
             Ok(events) => assert!(rt; events.as_slice() == wanted.as_slice()),
             Err(_) => assert!(rt; false),
         }
@@ -218,12 +218,12 @@ fn names_stand_in_a_slice(rt: HostRuntime) -> Result<(), Fail> {
         WorldEvent::Tick,
         WorldEvent::Hear { drone: 1, n: 6 },
     ];
-    match read_schedule_of(rt.alloc(), b"take c 1\n\ntick\nhear b 07\n", &names) {
+    match read_schedule(rt.alloc(), false, b"take c 1\n\ntick\nhear b 07\n", &names) {
         Ok(events) => assert!(rt; events.as_slice() == wanted.as_slice()),
         Err(_) => assert!(rt; false),
     }
     let fault = ScheduleFault::Line { line: 1 };
-    assert!(rt; matches!(read_schedule_of(rt.alloc(), b"take a 1", &[]), Err(f) if f == fault));
+    assert!(rt; matches!(read_schedule(rt.alloc(), false, b"take a 1", &[]), Err(f) if f == fault));
     Ok(())
 }
 
@@ -248,8 +248,10 @@ fn silence_ends_at_twenty_ticks(rt: HostRuntime) -> Result<(), Fail> {
 fn schedules_are_judged(rt: HostRuntime) -> Result<(), Fail> {
     let alloc = rt.alloc();
     let names = solo_name(alloc)?;
-    let faults: [(&[u8], u32); 12] = [
+    let faults: [(&[u8], u32); 13] = [
         (b"tock", 1),
+        // Only a schedule with read-back has this line.
+        (b"alter solo 3 7", 1),
         (b"take solo 0", 1),
         (b"take solo", 1),
         (b"tick\n\ntick now\n", 3),
@@ -263,13 +265,14 @@ fn schedules_are_judged(rt: HostRuntime) -> Result<(), Fail> {
         (b"tick\nhear solo 1\ngive solo 1", 3),
     ];
     for (text, line) in faults {
-        let read = read_schedule(alloc, text, &names);
+        let read = read_schedule(alloc, false, text, names.as_slice());
         assert!(rt; matches!(read, Err(ScheduleFault::Line { line: l }) if l == line));
     }
     let read = read_schedule(
         alloc,
+        false,
         b"\n tick\nhear solo 000000001\ntake solo 999999999\r\n",
-        &names,
+        names.as_slice(),
     );
     let wanted = [
         WorldEvent::Tick,
@@ -316,7 +319,7 @@ fn four(alloc: Global) -> Result<Session, AllocError>
         offset: 0,
         trajectory_id: 0,
     };
-    Session::make(alloc, settings, &loads, true)
+    Session::make(alloc, settings, &loads, false, true)
 }
 
 /// The four loads on their way to four drones whose memories are blank.

@@ -33,7 +33,7 @@ fn two_drones(alloc: Global, start: bool) -> Result<Session, AllocError>
         offset: 0,
         trajectory_id: 0,
     };
-    Session::make(alloc, settings, &loads, start)
+    Session::make(alloc, settings, &loads, false, start)
 }
 
 /// One byte with 255 segments and the path with two, for the last places of two drones.
@@ -54,7 +54,7 @@ fn last_places(alloc: Global) -> Result<Session, AllocError>
         offset: 4068,
         trajectory_id: 9,
     };
-    Ok(Session::of_loads(settings, loads, true))
+    Ok(Session::of_loads(settings, loads, false, true))
 }
 
 /// These bytes come up from a drone; the test ends where they are no packet.
@@ -147,12 +147,14 @@ fn cursors_and_words(rt: HostRuntime) -> Result<(), Fail> {
     let mut host = Host::make(alloc, two_drones(alloc, true)?)?;
     let mut out = Out::new();
     assert!(rt; is_at(&host, 0, 0, 0));
-    // The define is acknowledged before it is sent, and so is a start.
-    let steps: [(&[u8], usize, u64); 4] = [
-        (&[0x8C, 6, 0, 1, 0], 0, 0b0100),
-        (&[0x4E, 2, 0, 0, 0, 0, 0], 1, 0b0101),
-        (&[0x8C, 5, 0, 0, 0], 1, 0b1101),
-        (&[0x4E, 2, 24, 0, 0, 0, 0], 4, 0b1111),
+    // An answer to the define or the start before it is sent doesn't count.
+    let steps: [(&[u8], usize, u64); 6] = [
+        (&[0x8C, 6, 0, 1, 0], 0, 0b0000),
+        (&[0x4E, 2, 0, 0, 0, 0, 0], 1, 0b0001),
+        (&[0x8C, 5, 0, 0, 0], 1, 0b0001),
+        (&[0x4E, 2, 24, 0, 0, 0, 0], 2, 0b0011),
+        (&[0x8C, 6, 0, 1, 0], 3, 0b0111),
+        (&[0x8C, 5, 0, 0, 0], 3, 0b0111),
     ];
     for (bytes, cursor, word) in steps {
         assert!(rt; host.event(up(0, bytes)?, &mut out) == Progress::Going);

@@ -6,12 +6,12 @@
 #![tactic(auto)]
 
 #[cfg(test)]
-mod careful;
-#[cfg(test)]
-mod careful_world;
-#[cfg(test)]
 mod host;
 #[cfg(test)]
 mod link;
+#[cfg(test)]
+mod readback;
+#[cfg(test)]
+mod readback_world;
 #[cfg(test)]
 mod rehearsing;

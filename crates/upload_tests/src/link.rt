@@ -3,11 +3,9 @@
 ghost use Rattle.std.specs.Prelude.{[], IfOk, None};
 ghost use Rattle.upload_core.specs.HostState.{view_of};
 ghost use Rattle.upload_core.specs.HostStandsFor.{HostStandsFor};
-ghost use Rattle.readback_core.specs.CarefulState.{CarefulStandsFor};
 
 use fleet_io::{Failed, MemSink, MemSource, Parts, Sink, Source};
 use link_upload::upload;
-use readback_core::Careful;
 use std::alloc::{AllocError, Global};
 use std::cell::Cell;
 use std::test::Fail;
@@ -41,7 +39,8 @@ const FIRST_REFUSED: &[u8] = b"\x50\x01\x07\x4E\x02\x00\x00\x00\x00\x05";
 // A packet of another port, which acknowledges nothing.
 const OTHER: &[u8] = b"\x50\x01\x03\x00\x48\x69";
 
-fn host_of(alloc: Global, start: bool) -> Result<Host, AllocError>
+// A host for the path to one drone, with read-back or without.
+fn host_of(alloc: Global, readback: bool, start: bool) -> Result<Host, AllocError>
     ensures { IfOk result (λ host. HostStandsFor (view_of host) []) }
 {
     let mut loads = Vec::new(alloc);
@@ -54,7 +53,10 @@ fn host_of(alloc: Global, start: bool) -> Result<Host, AllocError>
         offset: 0,
         trajectory_id: 0,
     };
-    Host::make(alloc, Session::make(alloc, settings, &loads, start)?)
+    Host::make(
+        alloc,
+        Session::make(alloc, settings, &loads, readback, start)?,
+    )
 }
 
 fn joined(alloc: Global, pieces: &[&[u8]]) -> Result<Vec<u8>, AllocError> {
@@ -86,7 +88,12 @@ fn run(
     let fails = Vec::from_slice(alloc, &[write_fails])?;
     let mut sink = MemSink::make(alloc, 4000, 4000, fails)?;
     let mut parts = Parts::make();
-    let status = upload(&mut parts, &mut source, host_of(alloc, start)?, &mut sink);
+    let status = upload(
+        &mut parts,
+        &mut source,
+        host_of(alloc, false, start)?,
+        &mut sink,
+    );
     Ok(Ran {
         status,
         source,
@@ -123,14 +130,19 @@ fn uploads_that_are_done(rt: HostRuntime) -> Result<(), Fail> {
     let rows: [Row; 6] = [
         (false, &all[..3], 0, &[FIRST, DEFINE]),
         (true, all, 0, &[FIRST, DEFINE, START]),
+        // An answer to what isn't in flight doesn't count.
         (
             true,
-            &[STARTED, WROTE_FIRST, WROTE_SECOND, DEFINED],
+            &[STARTED, WROTE_FIRST, WROTE_SECOND, DEFINED, STARTED],
+            0,
+            &[FIRST, DEFINE, START],
+        ),
+        (
+            false,
+            &[DEFINED, WROTE_FIRST, WROTE_SECOND, DEFINED],
             0,
             &[FIRST, DEFINE],
         ),
-        // What was acknowledged early is not sent.
-        (false, &[DEFINED, WROTE_FIRST, WROTE_SECOND], 0, &[FIRST]),
         // The example of docs/RADIO.md, "Link frames".
         (
             false,
@@ -207,8 +219,21 @@ fn the_longest_frame_comes_first(rt: HostRuntime) -> Result<(), Fail> {
 fn inputs_that_end_early(rt: HostRuntime) -> Result<(), Fail> {
     let again: &[u8] = b"\x50\x01\x0A\x4E\x02\x18\x00\x00\x00\x03\x00\x00\x00";
     let stranger: &[u8] = b"\x50\x20\x07\x4E\x02\x00\x00\x00\x00\x05";
-    let rows: [Row; 4] = [
+    let rows: [Row; 6] = [
         (false, &[], 8, &[FIRST]),
+        // The answers to the start and to the define come before these are sent.
+        (
+            true,
+            &[STARTED, WROTE_FIRST, WROTE_SECOND, DEFINED],
+            8,
+            &[FIRST, DEFINE, START],
+        ),
+        (
+            false,
+            &[DEFINED, WROTE_FIRST, WROTE_SECOND],
+            8,
+            &[FIRST, DEFINE],
+        ),
         // The same answer twice acknowledges once.
         (false, &[WROTE_FIRST, WROTE_FIRST], 8, &[FIRST]),
         // A drone that isn't there.
@@ -462,7 +487,7 @@ fn ends_share_a_count(rt: HostRuntime) -> Result<(), Fail> {
     let status = upload(
         &mut parts,
         &mut source,
-        host_of(rt.alloc(), false)?,
+        host_of(rt.alloc(), false, false)?,
         &mut sink,
     );
     assert_eq!(rt; status, 0);
@@ -492,23 +517,6 @@ fn both_ends_fail(rt: HostRuntime) -> Result<(), Fail> {
     Ok(())
 }
 
-// A host with read-back, of the path to one drone.
-fn careful_of(alloc: Global, start: bool) -> Result<Careful, AllocError>
-    ensures { IfOk result (λ c. CarefulStandsFor c []) }
-{
-    let mut loads = Vec::new(alloc);
-    loads.push(Load {
-        bytes: Listed::from_vec(PATH.to_vec(alloc)?),
-        pieces: 1,
-    })?;
-    let settings = Settings {
-        memory_id: 2,
-        offset: 0,
-        trajectory_id: 0,
-    };
-    Careful::make(alloc, Session::make(alloc, settings, &loads, false)?, start)
-}
-
 // The frames of the two reads.
 const READS: &[u8] =
     b"\x50\x01\x07\x4D\x02\x00\x00\x00\x00\x14\x50\x01\x07\x4D\x02\x14\x00\x00\x00\x08";
@@ -524,7 +532,7 @@ const READ_OTHER: &[u8] =
     b"\x50\x01\x0F\x4D\x02\x14\x00\x00\x00\x00\x03\xE8\x04\xE8\x03\x00\x00\x00";
 
 // Whether an upload of this input with read-back ends with this status, after this output and the end frame.
-fn ends_carefully(
+fn ends_with_readback(
     alloc: Global,
     start: bool,
     input: &[&[u8]],
@@ -539,7 +547,7 @@ fn ends_carefully(
     let ended = upload(
         &mut parts,
         &mut source,
-        careful_of(alloc, start)?,
+        host_of(alloc, true, start)?,
         &mut sink,
     );
     Ok(ended == status && sink.written() == wanted.as_slice())
@@ -564,7 +572,7 @@ fn memories_are_read_back(rt: HostRuntime) -> Result<(), Fail> {
         (true, &loaded, 8, &[FIRST, DEFINE, READS]),
     ];
     for (start, input, status, output) in rows {
-        assert!(rt; ends_carefully(rt.alloc(), start, input, status, output)?);
+        assert!(rt; ends_with_readback(rt.alloc(), start, input, status, output)?);
     }
     Ok(())
 }

@@ -1,13 +1,12 @@
 //! A path of two writes, rehearsed, with the text of docs/COMMANDS.md, or put together by hand from it.
-ghost use Rattle.std.specs.Prelude.{◌≡◌, ◌≤◌, false, length, IfOk};
+ghost use Rattle.std.specs.Prelude.{◌≡◌, ◌≤◌, length, IfOk};
 ghost use Rattle.fleet_io.specs.Words.{IsWord};
 ghost use Rattle.upload_model.specs.Sessions.{drone_count};
 
 use firmware_memory::curve_of;
 use fleet_io::Lines;
 use fleet_world::{Name, World, WorldEvent};
-use readback_core::{CarefulEvent, CarefulProgress};
-use rehearsal::{careful_text, memory_text, rehearse, rehearse_carefully};
+use rehearsal::{memory_text, rehearse};
 use std::alloc::{AllocError, Global};
 use std::test::Fail;
 use upload_core::{Listed, Load, Progress, Session, Settings};
@@ -32,7 +31,7 @@ fn solo(alloc: Global) -> Result<Session, AllocError>
         offset: 0,
         trajectory_id: 0,
     };
-    Ok(Session::of_loads(settings, loads, true))
+    Ok(Session::of_loads(settings, loads, false, true))
 }
 
 // A rehearsal of the path.
@@ -123,10 +122,9 @@ fn before_any_event(rt: HostRuntime) -> Result<(), Fail> {
     Ok(())
 }
 
-// The path for one drone, without a start.
-fn solo_plain(alloc: Global) -> Result<Session, AllocError>
-    ensures count { IfOk result (λ s. drone_count s ≡ 1) }
-    ensures plain { IfOk result (λ s. s.start ≡ false) }
+// The path for one drone, with read-back and without a start.
+fn solo_readback(alloc: Global) -> Result<Session, AllocError>
+    ensures { IfOk result (λ s. drone_count s ≡ 1) }
 {
     let mut loads = Vec::new(alloc);
     loads.push(Load {
@@ -138,19 +136,19 @@ fn solo_plain(alloc: Global) -> Result<Session, AllocError>
         offset: 0,
         trajectory_id: 0,
     };
-    Ok(Session::of_loads(settings, loads, false))
+    Ok(Session::of_loads(settings, loads, true, false))
 }
 
-fn take(n: u32) -> CarefulEvent {
-    CarefulEvent::Take { drone: 0, n }
+fn take(n: u32) -> WorldEvent {
+    WorldEvent::Take { drone: 0, n }
 }
 
-fn hear(n: u32) -> CarefulEvent {
-    CarefulEvent::Hear { drone: 0, n }
+fn hear(n: u32) -> WorldEvent {
+    WorldEvent::Hear { drone: 0, n }
 }
 
-fn alter(address: u16, value: u8) -> CarefulEvent {
-    CarefulEvent::Alter {
+fn alter(address: u16, value: u8) -> WorldEvent {
+    WorldEvent::Alter {
         drone: 0,
         address,
         value,
@@ -158,7 +156,7 @@ fn alter(address: u16, value: u8) -> CarefulEvent {
 }
 
 // Whether a rehearsal with read-back is done, in which two events follow the answers to all reads, and its text ends so.
-fn ends_with(alloc: Global, last: [CarefulEvent; 2], end: &[u8]) -> Result<bool, AllocError> {
+fn ends_with(alloc: Global, last: [WorldEvent; 2], end: &[u8]) -> Result<bool, AllocError> {
     let events = [
         take(0),
         take(1),
@@ -173,22 +171,22 @@ fn ends_with(alloc: Global, last: [CarefulEvent; 2], end: &[u8]) -> Result<bool,
         last[0],
         last[1],
     ];
-    let world = rehearse_carefully(alloc, solo_plain(alloc)?, false, &events)?;
-    let text = careful_text(alloc, &world, &[solo_name()], 0)?;
-    Ok(world.progress() == CarefulProgress::Done && text.bytes().ends_with(end))
+    let world = rehearse(alloc, solo_readback(alloc)?, &events)?;
+    let text = memory_text(alloc, &world, &[solo_name()], 0)?;
+    Ok(world.progress() == Progress::Done && text.bytes().ends_with(end))
 }
 
 #[test]
 fn memories_are_altered_after_the_reads(rt: HostRuntime) -> Result<(), Fail> {
-    let rows: [([CarefulEvent; 2], &[u8]); 3] = [
+    let rows: [([WorldEvent; 2], &[u8]); 3] = [
         // A byte that is set to what it is.
         (
-            [alter(4095, 0xFF), CarefulEvent::Tick],
+            [alter(4095, 0xFF), WorldEvent::Tick],
             b"started none\nends 1000 0 1000 0\n",
         ),
         // The second byte of the start on y.
         (
-            [alter(3, 7), CarefulEvent::Tick],
+            [alter(3, 7), WorldEvent::Tick],
             b"started none\nends 1000 1792 1000 0\n",
         ),
         // A segment of no milliseconds.

@@ -1,6 +1,6 @@
 -- What holds whenever the loop of `an_address_is_in_a_memory` begins a turn.
 use Rattle.std.proofs.Common.{◌≡◌, length}
-use Rattle.upload_tests.proofs.careful_world.an_address_is_in_a_memory.Given as goal
+use Rattle.upload_tests.proofs.readback_world.an_address_is_in_a_memory.Given as goal
 
 abbrev pub invariant-loop-drone : goal.invariant-loop-drone
 invariant-loop-drone g l = length l.world.drones ≡ 1

@@ -1,17 +1,13 @@
-//! Careful worlds from schedules as text. What is expected was written out by hand from docs/RADIO.md.
+//! Worlds with read-back from schedules as text. What is expected was written out by hand from docs/RADIO.md.
 
-ghost use Rattle.std.specs.Prelude.{◌≡◌, ◌+◌, ◌<◌, ◌≤◌, length, IfOk, OnOk, false};
+ghost use Rattle.std.specs.Prelude.{◌≡◌, ◌+◌, ◌<◌, ◌≤◌, length, IfOk, OnOk};
 ghost use Rattle.upload_model.specs.Sessions.{drone_count};
 
 use firmware_memory::{Def, Drone, make};
-use fleet_world::{Name, ScheduleFault};
-use readback_core::{
-    Careful, CarefulEvent, CarefulProgress, CarefulWorld, read_careful_schedule,
-    read_careful_schedule_of,
-};
+use fleet_world::{Name, ScheduleFault, World, WorldEvent, read_schedule};
 use std::alloc::{AllocError, Global};
 use std::test::Fail;
-use upload_core::{Listed, Load, Session, Settings};
+use upload_core::{Listed, Load, Progress, Session, Settings};
 
 /// A trajectory of 28 bytes, so of two writes and two reads, with one segment.
 const PATH: [u8; 28] = [
@@ -30,19 +26,19 @@ fn load_of(alloc: Global, bytes: &[u8]) -> Result<Load, AllocError>
     })
 }
 
-/// The same bytes for each of some drones.
+/// The same bytes for each of some drones, with read-back.
 fn session_of(
     alloc: Global,
     bytes: &[u8],
     offset: u16,
     drones: usize,
+    start: bool,
 ) -> Result<Session, AllocError>
     requires some { 1 ≤ length bytes.now }
     requires room { offset + length bytes.now ≤ 4096 }
     requires one { 1 ≤ drones }
     requires few { drones ≤ 32 }
-    ensures count { IfOk result (λ s. drone_count s ≡ drones) }
-    ensures plain { IfOk result (λ s. s.start ≡ false) }
+    ensures { IfOk result (λ s. drone_count s ≡ drones) }
 {
     let mut loads = Vec::new(alloc);
     for _ in 0..drones {
@@ -54,7 +50,7 @@ fn session_of(
         offset,
         trajectory_id: 0,
     };
-    Session::make(alloc, settings, &loads, false)
+    Session::make(alloc, settings, &loads, true, start)
 }
 
 /// The bytes on their way to drones whose memories are blank.
@@ -64,19 +60,19 @@ fn world_of(
     offset: u16,
     drones: usize,
     start: bool,
-) -> Result<CarefulWorld, AllocError>
+) -> Result<World, AllocError>
     requires some { 1 ≤ length bytes.now }
     requires room { offset + length bytes.now ≤ 4096 }
     requires one { 1 ≤ drones }
     requires few { drones ≤ 32 }
     ensures { IfOk result (λ w. length w.drones ≡ drones) }
 {
-    let careful = Careful::make(alloc, session_of(alloc, bytes, offset, drones)?, start)?;
+    let session = session_of(alloc, bytes, offset, drones, start)?;
     let mut blank = Vec::new(alloc);
     for _ in 0..drones {
         blank.push(make(2, [0xFF; 4096]))?;
     }
-    CarefulWorld::make(alloc, careful, blank)
+    World::make(alloc, session, blank)
 }
 
 /// A name of at most 16 bytes.
@@ -87,12 +83,12 @@ fn name_of(bytes: &[u8]) -> Name {
 }
 
 /// What a schedule of two drones leads the world to.
-fn run(alloc: Global, world: &mut CarefulWorld, text: &[u8]) -> Result<CarefulProgress, AllocError>
+fn run(alloc: Global, world: &mut World, text: &[u8]) -> Result<Progress, AllocError>
     requires { length text.now ≤ 1048576 }
     ensures { length world.new.drones ≡ length world.old.drones }
 {
     let names = [name_of(b"solo"), name_of(b"duo")];
-    let events = match read_careful_schedule_of(alloc, text, &names) {
+    let events = match read_schedule(alloc, true, text, &names) {
         Ok(events) => events,
         Err(_) => return Err(AllocError),
     };
@@ -123,7 +119,7 @@ const LOADED: &[u8] =
 const READ: &[u8] = b"take solo 4\ntake solo 5\nhear solo 4\nhear solo 5\n";
 
 /// Byte 3 of the first drone is read as 7.
-const DIFFERS: CarefulProgress = CarefulProgress::Differs {
+const DIFFERS: Progress = Progress::Differs {
     drone: 0,
     address: 3,
     wanted: 0,
@@ -133,10 +129,10 @@ const DIFFERS: CarefulProgress = CarefulProgress::Differs {
 #[test]
 fn a_byte_is_altered(rt: HostRuntime) -> Result<(), Fail> {
     let alloc = rt.alloc();
-    let done = CarefulProgress::Done;
+    let done = Progress::Done;
     let mut altered = PATH;
     altered[3] = 7;
-    let rows: [(&[u8], &[u8], CarefulProgress, &[u8]); 6] = [
+    let rows: [(&[u8], &[u8], Progress, &[u8]); 6] = [
         // Nobody alters a byte.
         (b"", READ, done, &PATH),
         // Before the read is taken, between the read and its answer, and after the answer.
@@ -156,7 +152,7 @@ fn a_byte_is_altered(rt: HostRuntime) -> Result<(), Fail> {
     for (before, after, progress, bytes) in rows {
         let mut world = world_of(alloc, &PATH, 0, 1, false)?;
         let loaded = run(alloc, &mut world, LOADED)?;
-        assert!(rt; loaded == CarefulProgress::Going);
+        assert!(rt; loaded == Progress::Going);
         let _going = run(alloc, &mut world, before)?;
         let ended = run(alloc, &mut world, after)?;
         assert!(rt; ended == progress);
@@ -174,7 +170,7 @@ fn addresses_count_from_the_memory(rt: HostRuntime) -> Result<(), Fail> {
     let _going = run(alloc, &mut world, LOADED)?;
     let _going = run(alloc, &mut world, b"alter solo 120 0\nalter solo 121 1\n")?;
     let ended = run(alloc, &mut world, READ)?;
-    let differs = CarefulProgress::Differs {
+    let differs = Progress::Differs {
         drone: 0,
         address: 120,
         wanted: PATH[20],
@@ -193,12 +189,12 @@ fn an_address_is_in_a_memory(rt: HostRuntime) -> Result<(), Fail> {
     let alloc = rt.alloc();
     let mut world = world_of(alloc, &PATH, 0, 1, false)?;
     for (drone, address) in [(0, 4095), (0, 4096), (0, 65535), (1, 0), (255, 0)] {
-        let event = CarefulEvent::Alter {
+        let event = WorldEvent::Alter {
             drone,
             address,
             value: 7,
         };
-        assert!(rt; world.step(event)? == CarefulProgress::Going);
+        assert!(rt; world.step(event)? == Progress::Going);
     }
     let drone = world.drone(0);
     assert!(rt; drone.memory[4095] == 7);
@@ -209,10 +205,10 @@ fn an_address_is_in_a_memory(rt: HostRuntime) -> Result<(), Fail> {
 #[test]
 fn starts_wait_for_all_reads(rt: HostRuntime) -> Result<(), Fail> {
     let alloc = rt.alloc();
-    let going = CarefulProgress::Going;
+    let going = Progress::Going;
     let mut world = world_of(alloc, &[9], 0, 2, true)?;
     // Packet 1 is the write, 2 the define, 3 the read, 4 the start.
-    let rows: [(&[u8], CarefulProgress, Option<u8>); 5] = [
+    let rows: [(&[u8], Progress, Option<u8>); 5] = [
         (
             b"take solo 1\nhear solo 1\ntake duo 1\nhear duo 1\ntake solo 2\nhear solo 2\n",
             going,
@@ -225,7 +221,7 @@ fn starts_wait_for_all_reads(rt: HostRuntime) -> Result<(), Fail> {
         ),
         (b"take duo 3\nhear duo 3\ntake solo 4\n", going, Some(0)),
         (b"hear solo 4\n", going, Some(0)),
-        (b"take duo 4\nhear duo 4\n", CarefulProgress::Done, Some(0)),
+        (b"take duo 4\nhear duo 4\n", Progress::Done, Some(0)),
     ];
     for (text, progress, started) in rows {
         let now = run(alloc, &mut world, text)?;
@@ -237,14 +233,14 @@ fn starts_wait_for_all_reads(rt: HostRuntime) -> Result<(), Fail> {
 }
 
 /// Each packet from `first` on is taken and its answer heard at once, drone by drone.
-fn fly(world: &mut CarefulWorld, drones: u8, first: u32, packets: u32) -> Result<(), AllocError>
+fn fly(world: &mut World, drones: u8, first: u32, packets: u32) -> Result<(), AllocError>
     requires { first + packets < 65536 }
     ensures { length world.new.drones ≡ length world.old.drones }
 {
     for n in first..first + packets {
         for drone in 0..drones {
-            world.step(CarefulEvent::Take { drone, n })?;
-            world.step(CarefulEvent::Hear { drone, n })?;
+            world.step(WorldEvent::Take { drone, n })?;
+            world.step(WorldEvent::Hear { drone, n })?;
         }
     }
     Ok(())
@@ -256,10 +252,10 @@ fn the_largest_upload(rt: HostRuntime) -> Result<(), Fail> {
     // 171 writes, a define and 205 reads for each drone, and then the starts.
     let mut world = world_of(alloc, &[0xA5; 4096], 0, 32, true)?;
     fly(&mut world, 32, 0, 377)?;
-    assert!(rt; world.progress() == CarefulProgress::Going);
+    assert!(rt; world.progress() == Progress::Going);
     assert!(rt; world.drone(31).started.is_none());
     fly(&mut world, 32, 377, 1)?;
-    assert!(rt; world.progress() == CarefulProgress::Done);
+    assert!(rt; world.progress() == Progress::Done);
     for d in 0..32 {
         assert!(rt; world.drone(d).started == Some(0));
         assert!(rt; has_bytes(world.drone(d), &[0xA5; 4096]));
@@ -284,33 +280,30 @@ fn schedules_are_judged(rt: HostRuntime) -> Result<(), Fail> {
         (b"change solo 3 7", 1),
     ];
     for (text, line) in faults {
-        let read = read_careful_schedule_of(alloc, text, &names);
+        let read = read_schedule(alloc, true, text, &names);
         assert!(rt; matches!(read, Err(ScheduleFault::Line { line: l }) if l == line));
     }
     let wanted = [
-        CarefulEvent::Tick,
-        CarefulEvent::Alter {
+        WorldEvent::Tick,
+        WorldEvent::Alter {
             drone: 1,
             address: 4095,
             value: 255,
         },
-        CarefulEvent::Hear { drone: 0, n: 8 },
-        CarefulEvent::Take { drone: 1, n: 0 },
-        CarefulEvent::Alter {
+        WorldEvent::Hear { drone: 0, n: 8 },
+        WorldEvent::Take { drone: 1, n: 0 },
+        WorldEvent::Alter {
             drone: 0,
             address: 0,
             value: 0,
         },
     ];
     let text = b"tick\nalter duo 4095 255\nhear solo 9\n\ntake duo 01\r\nalter solo 0000 000";
-    match read_careful_schedule_of(alloc, text, &names) {
+    match read_schedule(alloc, true, text, &names) {
         Ok(events) => assert!(rt; events.as_slice() == wanted.as_slice()),
         Err(_) => assert!(rt; false),
     }
-    let names = Vec::new(alloc);
     let fault = ScheduleFault::Line { line: 1 };
-    assert!(rt;
-        matches!(read_careful_schedule(alloc, b"alter a 0 0", &names), Err(f) if f == fault)
-    );
+    assert!(rt; matches!(read_schedule(alloc, true, b"alter a 0 0", &[]), Err(f) if f == fault));
     Ok(())
 }

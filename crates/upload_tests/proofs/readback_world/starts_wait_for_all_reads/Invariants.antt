@@ -1,6 +1,6 @@
 -- What holds whenever the loop of `starts_wait_for_all_reads` begins a turn.
 use Rattle.std.proofs.Common.{◌≡◌, length}
-use Rattle.upload_tests.proofs.careful_world.starts_wait_for_all_reads.Given as goal
+use Rattle.upload_tests.proofs.readback_world.starts_wait_for_all_reads.Given as goal
 
 abbrev pub invariant-loop-text : goal.invariant-loop-text
 invariant-loop-text g l = length l.world.drones ≡ 2

@@ -1,6 +1,6 @@
 -- What holds whenever the loop of `world_of` begins a turn.
 use Rattle.std.proofs.Common.{◌≡◌, length}
-use Rattle.upload_tests.proofs.careful_world.world_of.Given as goal
+use Rattle.upload_tests.proofs.readback_world.world_of.Given as goal
 
 abbrev pub invariant-loop : goal.invariant-loop
 invariant-loop l = length l.blank.items ≡ l.counter

@@ -1,6 +1,6 @@
 -- What holds whenever the loop of `run` begins a turn.
 use Rattle.std.proofs.Common.{◌≡◌, length}
-use Rattle.upload_tests.proofs.careful_world.run.Given as goal
+use Rattle.upload_tests.proofs.readback_world.run.Given as goal
 
 abbrev pub invariant-loop-e : goal.invariant-loop-e
 invariant-loop-e l = length l.world.drones ≡ length l.fn.world.drones

@@ -2,7 +2,7 @@
 use Rattle.std.proofs.Common.{[], arith, rules}
 use Rattle.std.proofs.lemmas.List.Elements.{All-push}
 use Rattle.upload_model.specs.Sessions.{IsLoad}
-use Rattle.upload_tests.proofs.careful_world.session_of.Goals as goal
+use Rattle.upload_tests.proofs.readback_world.session_of.Goals as goal
 
 pub loop-preserved : goal.loop-preserved
 loop-preserved c =

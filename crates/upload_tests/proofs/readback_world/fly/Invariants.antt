@@ -1,6 +1,6 @@
 -- What holds whenever a loop of `fly` begins a turn.
 use Rattle.std.proofs.Common.{◌≡◌, length}
-use Rattle.upload_tests.proofs.careful_world.fly.Given as goal
+use Rattle.upload_tests.proofs.readback_world.fly.Given as goal
 
 abbrev pub invariant-loop-n : goal.invariant-loop-n
 invariant-loop-n l = length l.world.drones ≡ length l.fn.world.drones

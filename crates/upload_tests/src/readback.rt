@@ -1,13 +1,10 @@
-//! A careful host from its first packets to its end, answer by answer. The bytes were written out by
+//! A host with read-back from its first packets to its end, answer by answer. The bytes were written out by
 //! hand from docs/RADIO.md.
 
-ghost use Rattle.std.specs.Prelude.{◌≡◌, ◌≤◌, IfOk, false};
-
 use crtp_packets::from_bytes;
-use readback_core::{Careful, CarefulProgress};
 use std::alloc::{AllocError, Global};
 use std::test::Fail;
-use upload_core::{Event, Listed, Load, Out, Sent, Session, Settings};
+use upload_core::{Event, Host, Listed, Load, Out, Progress, Sent, Session, Settings};
 
 /// A trajectory of 28 bytes, so of two writes and two reads, with one segment.
 const PATH: [u8; 28] = [
@@ -15,11 +12,8 @@ const PATH: [u8; 28] = [
     0, 0,
 ];
 
-/// A session without starts that brings the path to one drone, from an offset on.
-fn one_drone(alloc: Global, offset: u16) -> Result<Session, AllocError>
-    requires { offset ≤ 4000 }
-    ensures { IfOk result (λ s. s.start ≡ false) }
-{
+/// A session with read-back that brings the path to one drone.
+fn one_drone(alloc: Global, start: bool) -> Result<Session, AllocError> {
     let mut loads = Vec::new(alloc);
     loads.push(Load {
         bytes: Listed::from_vec(PATH.to_vec(alloc)?),
@@ -27,10 +21,10 @@ fn one_drone(alloc: Global, offset: u16) -> Result<Session, AllocError>
     })?;
     let settings = Settings {
         memory_id: 2,
-        offset,
+        offset: 0,
         trajectory_id: 0,
     };
-    Session::make(alloc, settings, &loads, false)
+    Session::make(alloc, settings, &loads, true, start)
 }
 
 /// These bytes come up from a drone; the test ends where they are no packet.
@@ -60,8 +54,8 @@ const STARTED: [u8; 5] = [0x8C, 5, 0, 0, 0];
 #[test]
 fn starts_come_after_the_reads(rt: HostRuntime) -> Result<(), Fail> {
     let alloc = rt.alloc();
-    let going = CarefulProgress::Going;
-    let events: [(&[u8], &[Sent], CarefulProgress); 9] = [
+    let going = Progress::Going;
+    let events: [(&[u8], &[Sent], Progress); 9] = [
         (LOADED[0], &[], going),
         (LOADED[1], &[sent(2)], going),
         (LOADED[2], &[sent(3), sent(4)], going),
@@ -71,9 +65,9 @@ fn starts_come_after_the_reads(rt: HostRuntime) -> Result<(), Fail> {
         (&[0x4D, 2, 10, 0, 0, 0, 0, 1], &[], going),
         (&FIRST_READ, &[sent(5)], going),
         (&FIRST_READ, &[], going),
-        (&STARTED, &[], CarefulProgress::Done),
+        (&STARTED, &[], Progress::Done),
     ];
-    let mut host = Careful::make(alloc, one_drone(alloc, 0)?, true)?;
+    let mut host = Host::make(alloc, one_drone(alloc, true)?)?;
     let mut out = Out::new();
     host.first(&mut out);
     assert!(rt; out.as_slice() == [sent(0), sent(1)].as_slice());
@@ -84,18 +78,43 @@ fn starts_come_after_the_reads(rt: HostRuntime) -> Result<(), Fail> {
     Ok(())
 }
 
+// Before all is loaded no answer to a read counts, neither a good one nor one with another byte.
+#[test]
+fn answers_to_reads_wait_for_the_define(rt: HostRuntime) -> Result<(), Fail> {
+    let alloc = rt.alloc();
+    let going = Progress::Going;
+    let mut altered = SECOND_READ;
+    altered[8] = 7;
+    let events: [(&[u8], &[Sent], Progress); 7] = [
+        (LOADED[0], &[], going),
+        (&FIRST_READ, &[], going),
+        (&altered, &[], going),
+        (LOADED[1], &[sent(2)], going),
+        (LOADED[2], &[sent(3), sent(4)], going),
+        (&SECOND_READ, &[], going),
+        (&FIRST_READ, &[], Progress::Done),
+    ];
+    let mut host = Host::make(alloc, one_drone(alloc, false)?)?;
+    let mut out = Out::new();
+    for (bytes, wanted, progress) in events {
+        assert!(rt; host.event(up(0, bytes)?, &mut out) == progress);
+        assert!(rt; out.as_slice() == wanted);
+    }
+    Ok(())
+}
+
 #[test]
 fn another_byte_differs(rt: HostRuntime) -> Result<(), Fail> {
     let alloc = rt.alloc();
-    let mut host = Careful::make(alloc, one_drone(alloc, 0)?, false)?;
+    let mut host = Host::make(alloc, one_drone(alloc, false)?)?;
     let mut out = Out::new();
     for bytes in LOADED {
-        assert!(rt; host.event(up(0, bytes)?, &mut out) == CarefulProgress::Going);
+        assert!(rt; host.event(up(0, bytes)?, &mut out) == Progress::Going);
     }
     let mut altered = SECOND_READ;
     altered[8] = 7;
     altered[10] = 9;
-    let differs = CarefulProgress::Differs {
+    let differs = Progress::Differs {
         drone: 0,
         address: 21,
         wanted: 0xE8,
@@ -112,25 +131,25 @@ fn another_byte_differs(rt: HostRuntime) -> Result<(), Fail> {
 #[test]
 fn a_read_is_silent_or_refused(rt: HostRuntime) -> Result<(), Fail> {
     let alloc = rt.alloc();
-    let mut host = Careful::make(alloc, one_drone(alloc, 0)?, true)?;
+    let mut host = Host::make(alloc, one_drone(alloc, true)?)?;
     let mut out = Out::new();
     for bytes in LOADED {
-        assert!(rt; host.event(up(0, bytes)?, &mut out) == CarefulProgress::Going);
+        assert!(rt; host.event(up(0, bytes)?, &mut out) == Progress::Going);
     }
     for _ in 0..19 {
-        assert!(rt; host.event(Event::Tick, &mut out) == CarefulProgress::Going);
+        assert!(rt; host.event(Event::Tick, &mut out) == Progress::Going);
         assert!(rt; out.as_slice() == [sent(3), sent(4)].as_slice());
     }
-    let ended = CarefulProgress::GaveUp {
+    let ended = Progress::GaveUp {
         drone: 0,
         packet: 3,
     };
     assert!(rt; host.event(Event::Tick, &mut out) == ended);
-    let mut host = Careful::make(alloc, one_drone(alloc, 0)?, true)?;
+    let mut host = Host::make(alloc, one_drone(alloc, true)?)?;
     for bytes in LOADED {
-        assert!(rt; host.event(up(0, bytes)?, &mut out) == CarefulProgress::Going);
+        assert!(rt; host.event(up(0, bytes)?, &mut out) == Progress::Going);
     }
-    let ended = CarefulProgress::Refused {
+    let ended = Progress::Refused {
         drone: 0,
         packet: 4,
         status: 5,
