@@ -56,7 +56,11 @@ impl Waiting {
     pub fn next(&self) -> Option<&Level>
         ensures { MatchOption result (self.now ≡ []) (λ level. self.now ≡ level.now ∷ drop 1 self.now) }
     {
-        if self.top == 9 { None } else { Some(self.first()) }
+        if self.top == 9 {
+            None
+        } else {
+            Some(self.first())
+        }
     }
 
     // The next part. There must be one.
