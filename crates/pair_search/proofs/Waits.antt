@@ -1,5 +1,5 @@
 -- Parts that wait.
-use Rattle.std.proofs.Common.{◌≡◌, ◌+◌, ◌≤◌, ◌<◌, ℕ, arith, sym, ◌∙◌, subst, ap, refl, List, [], ◌∷◌, ◌++◌, length, drop, Option, Some}
+use Rattle.std.proofs.Common.{◌≡◌, ◌+◌, ◌≤◌, ℕ, arith, sym, ◌∙◌, subst, ap, refl, List, [], ◌∷◌, length, drop, Option, Some}
 use Rattle.std.proofs.lemmas.List.{drop-drop}
 use Rattle.bezier_core.specs.declared.Bez.{Bez}
 use Rattle.halving.specs.declared.Place.{Place}

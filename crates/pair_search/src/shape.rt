@@ -37,8 +37,7 @@ pub fn count_with<const M: usize>(
     count_parts(diff, ruler, lanes, depth, hint, waiting)
 }
 
-// The same of differences whose curves have eight control values each. Most pairs are far apart and don't come here.
-#[inline(never)]
+// The same of differences whose curves have eight control values each.
 fn count_parts<const M: usize>(
     diff: &[Bez<8>; 3],
     ruler: &Ruler<M>,

@@ -44,6 +44,16 @@ impl Waiting {
         }
     }
 
+    /// One part alone.
+    pub fn of(level: &Level) -> Waiting
+        ensures { result ≡ level.now ∷ [] }
+    {
+        Waiting {
+            levels: [*level; 9],
+            top: 8,
+        }
+    }
+
     /// The whole cue, where no part waits.
     pub fn begin(&mut self, diff: &[Bez<8>; 3])
         requires { self.old ≡ [] }
@@ -111,8 +121,8 @@ impl Waiting {
         self.top += 1;
     }
 
-    /// A part before the others. There must be room for it. It is written field by field, so that it is copied once.
-    pub fn push(&mut self, place: Place, part: &[Bez<8>; 3])
+    // A part before the others. There must be room for it. It is written field by field, so that it is copied once.
+    fn push(&mut self, place: Place, part: &[Bez<8>; 3])
         requires { length self.old < 9 }
         ensures { self.new ≡ record { place = place; part = part.now } ∷ self.old }
     {

@@ -146,8 +146,7 @@ fn walk_halves<const M: usize>(
     ensures { WalkGives (first_by ruler.now diff.now) depth result nodes.new.items }
 {
     nodes.push(Node::Split)?;
-    let mut waiting = Waiting::none();
-    waiting.push(whole.place, &whole.part);
+    let mut waiting = Waiting::of(whole);
     waiting.pass(diff, Node::Split);
     while let Some(level) = waiting.next() {
         match node_for(diff, level, ruler, lanes, depth) {

@@ -1,4 +1,4 @@
-use Rattle.std.proofs.Common.{◌≡◌, ◌+◌, ◌<ℤ◌, pos, arith, rules, FitsSigned}
+use Rattle.std.proofs.Common.{◌+◌, rules, FitsSigned}
 use mir.Syntax.{w32}
 use Rattle.pair_search.proofs.LaneLemmas.{told_less}
 use Rattle.pair_search.proofs.Firsts.{low_lane, none_near}

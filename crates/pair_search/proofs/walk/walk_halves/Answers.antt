@@ -1,4 +1,4 @@
-use Rattle.std.proofs.Common.{◌≡◌, ◌<◌, sym, ◌∙◌, subst, refl, ap, arith, drop, List, [], ◌∷◌, ◌++◌}
+use Rattle.std.proofs.Common.{◌<◌, sym, ◌∙◌, subst, refl, ap, arith, drop, List, [], ◌∷◌, ◌++◌}
 use Rattle.sep_parts.specs.declared.stack.Level.{Level}
 use Rattle.sep_parts.specs.Levels.{IsStack}
 use Rattle.sep_parts.specs.declared.node.Node.{Node}
@@ -9,30 +9,24 @@ use Rattle.pair_search.proofs.Trees.{begun, less_pending, past_pending, blocked_
 use Rattle.pair_search.proofs.Waits.{next_same, next_shallow, some_next}
 use Rattle.pair_search.proofs.walk.walk_halves.Goals as goal
 
--- the whole cue waits alone
-alone : (whole : Level) (old new : List Level) → old ≡ [] → new ≡ whole ∷ old → new ≡ whole ∷ []
-alone whole old new none is = is ∙ ap (λ (s : List Level). whole ∷ s) none
-
 pub pass-requires : goal.pass-requires
 pass-requires g c =
-    let is : c.push-2.new.self ≡ c.args.whole.now ∷ [] = alone c.args.whole.now c.none-waiting.result c.push-2.new.self c.none-waiting.ensures c.push-2.ensures in
     record {
       values = c.requires.values;
-      some = some_next c.push-2.new.self [] c.args.whole.now is;
-      stack = rw is (omega arith, c.requires.level, tt);
-      shallow = λ level rest same. subst (λ (l : Level). l.place.depth < 8) (next_same c.push-2.new.self [] rest c.args.whole.now level is same).0 (rw c.requires.whole (omega arith));
+      some = some_next c.of-waiting.result [] c.args.whole.now c.of-waiting.ensures;
+      stack = rw c.of-waiting.ensures (omega arith, c.requires.level, tt);
+      shallow = λ level rest same. subst (λ (l : Level). l.place.depth < 8) (next_same c.of-waiting.result [] rest c.args.whole.now level c.of-waiting.ensures same).0 (rw c.requires.whole (omega arith));
     }
 
 pub loop-level-init : goal.loop-level-init
 loop-level-init g c =
     let first = first_by c.args.ruler.now c.args.diff.now in
-    let is : c.push-2.new.self ≡ c.args.whole.now ∷ [] = alone c.args.whole.now c.none-waiting.result c.push-2.new.self c.none-waiting.ensures c.push-2.ensures in
     record {
       stack = c.pass.ensures.stack;
       walk = past_pending first c.args.depth
           (left_has c.args.ruler.now.clearance c.args.diff.now c.args.ruler.now.directions) (right_has c.args.ruler.now.clearance c.args.diff.now c.args.ruler.now.directions)
           (c.args.whole.now ∷ []) [] c.pass.new.self c.args.whole.now [] c.push.new.self.items Split refl (rw c.requires.whole c.requires.split)
-          (c.pass.ensures.places c.args.whole.now [] is)
+          (c.pass.ensures.places c.args.whole.now [] c.of-waiting.ensures)
           (c.in_ok-push.ensures.items ∙ ap (λ (xs : List Node). xs ++ Split ∷ []) c.requires.empty) (rw c.requires.whole (begun first c.args.depth));
     }
 
