@@ -1,5 +1,5 @@
 -- Words of private steps of the search. No public clause cites them.
-use Rattle.std.specs.Prelude.{◌≡◌, ℕ, ◌≤◌, ◌<◌, nat_lt, Bool, true, false, List, length, Option, Some, None, is_none, if◌then◌else◌, Result, Ok, Err}
+use Rattle.std.specs.Prelude.{◌≡◌, ℕ, ◌+◌, ◌-◌, ◌≤◌, ◌<◌, nat_lt, Bool, true, false, List, length, Option, Some, None, is_none, if◌then◌else◌, Result, Ok, Err}
 use Rattle.std.specs.Option.{option_map, option_or}
 use Rattle.std.specs.declared.alloc.AllocError.{AllocError}
 use Rattle.bezier_core.specs.declared.Bez.{Bez}
@@ -66,3 +66,13 @@ CountGives first depth (Err index) = blocked_place first depth ≡ Some index
 abbrev pub FindsCount : Measure → ℕ → Raised → Slot → Result ℕ SearchFault → Type 0
 FindsCount m depth curves slot (Ok count) = (blocked_slot m depth curves slot ≡ None) × (count ≡ length (best_nodes m depth curves slot))
 FindsCount m depth curves slot (Err f) = StopsBy (blocked_slot m depth curves slot) f
+
+-- ---- whether there is a direction, whichever
+-- neither the direction with this number nor the one as far from the end of the table separates a place
+abbrev pub NeitherAt : Measure → List (Bez 8) → Place → ℕ → Type 0
+NeitherAt m diff place i = (does_separate m diff place i ≡ false) × (does_separate m diff place (length m.directions - (i + 1)) ≡ false)
+
+-- one of the two, if one does
+abbrev pub FindsOne : Measure → List (Bez 8) → Place → ℕ → Option ℕ → Type 0
+FindsOne m diff place i None = NeitherAt m diff place i
+FindsOne m diff place i (Some dir) = (dir < length m.directions) × (does_separate m diff place dir ≡ true)

@@ -1,0 +1,29 @@
+-- Directions with their opposites side by side, and what whole steps tell of both. No public clause cites these words.
+use Rattle.std.specs.Prelude.{◌⊎◌, ℕ, ◌+◌, ◌-◌, ◌<◌, ℤ, pos, ◌<ℤ◌, List, length}
+use Rattle.fleet_math.specs.Bernstein.{at}
+use Rattle.bezier_core.specs.Steps.{IsWithin}
+use Rattle.sep_parts.specs.Rulers.{Measure}
+use Rattle.pair_search.specs.declared.lanes.Lanes.{Lanes}
+use Rattle.pair_search.specs.declared.lanes.Point.{Point}
+use Rattle.pair_search.specs.declared.pairs.Pairs.{Pairs}
+use Rattle.pair_search.specs.Lanes.{AreLanes, IsSmallPoint, lane_value}
+
+-- a point above this in one lane is too low in the other lane
+abbrev pub IsHigh : Lanes → ℕ → ℕ → ℤ → Type 0
+IsHigh l i j high = (p : Point) → IsSmallPoint p → high <ℤ lane_value l p i → lane_value l p j <ℤ at l.low j
+
+abbrev pub IsSmallHigh : ℤ → Type 0
+IsSmallHigh high = IsWithin (pos 1000000000) high
+
+abbrev pub AreSmallHighs : List ℤ → Type 0
+AreSmallHighs high = (i : ℕ) → i < 52 → IsSmallHigh (at high i)
+
+-- the pairs have the directions of a ruler, each with the one that stands as far from the end of the table
+pub record ArePairs (m : Measure) (s : Pairs) : Type 0 where
+  pub lanes : AreLanes m s.lanes
+  pub small : AreSmallHighs s.high
+  pub each : (i : ℕ) → i < 52 → i < length m.directions → IsHigh s.lanes i (length m.directions - (i + 1)) (at s.high i)
+
+-- one of two points is so high in a lane that it is too low in the other lane
+abbrev pub IsHighAt : Pairs → Point → Point → ℕ → Type 0
+IsHighAt s p q i = (at s.high i <ℤ lane_value s.lanes p i) ⊎ (at s.high i <ℤ lane_value s.lanes q i)
