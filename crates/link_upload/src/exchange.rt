@@ -16,7 +16,7 @@ ghost use Rattle.upload_model.specs.declared.events.Event.{Event};
 
 use crate::host::{drone_count, take_packet, take_tick};
 use crate::input::{Next, next_frame};
-use crate::output::send;
+use crate::output::{Bytes, send};
 use fleet_io::{Failed, Parts, Sink, Source, write_whole};
 use link_frames::{END_BYTE, View, whole_frame};
 use upload_core::{Host, Out};
@@ -141,8 +141,9 @@ fn carry<S: Source, K: Sink>(
     // There is a drone, so the upload goes on before any frame.
     let _ = drone_count(&host);
     let mut out = Out::new();
+    let mut bytes = Bytes::new();
     host.first(&mut out);
-    match send(&host, out.as_slice(), sink) {
+    match send(&host, out.as_slice(), &mut bytes, sink) {
         Ok(()) => {}
         Err(Failed) => return Err(Broken::Write),
     }
@@ -156,7 +157,7 @@ fn carry<S: Source, K: Sink>(
             Stepped::End => return Ok(ENDED),
             Stepped::Faulty => return Ok(FAULTY),
         };
-        match send(&host, out.as_slice(), sink) {
+        match send(&host, out.as_slice(), &mut bytes, sink) {
             Ok(()) => {}
             Err(Failed) => return Err(Broken::Write),
         }

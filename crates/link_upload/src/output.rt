@@ -17,8 +17,11 @@ use upload_core::{Host, MOST_SENT, Sent};
 // The most bytes that one event sends.
 const MOST_OUT: usize = MOST_SENT * FRAME_BYTES;
 
+// The bytes that one event sends: one place for all events of an upload, since to make it clears 4,352 bytes.
+pub type Bytes = ArrayVec<u8, MOST_OUT>;
+
 // The frame of a packet after those of others.
-fn put(host: &Host, x: Sent, bytes: &mut ArrayVec<u8, MOST_OUT>)
+fn put(host: &Host, x: Sent, bytes: &mut Bytes)
     requires known { IsPacketOf host.now.session x }
     requires room { length bytes.old.items + FRAME_BYTES ≤ MOST_OUT }
     ensures bytes { bytes.new.items ≡ bytes.old.items ++ packet_frames (link_of host.now.session) (x ∷ []) }
@@ -28,8 +31,8 @@ fn put(host: &Host, x: Sent, bytes: &mut ArrayVec<u8, MOST_OUT>)
     put_frame(x.drone + 1, &packet, bytes);
 }
 
-// Sends packets, in their order.
-pub fn send<K: Sink>(host: &Host, sent: &[Sent], sink: &mut K) -> Result<(), Failed>
+// Sends packets, in their order. What `bytes` held before is lost.
+pub fn send<K: Sink>(host: &Host, sent: &[Sent], bytes: &mut Bytes, sink: &mut K) -> Result<(), Failed>
     requires known { All (IsPacketOf host.now.session) sent.now }
     requires few { length sent.now ≤ MOST_SENT }
     ensures ok { OnOk result (Appends (K.written sink.old) (K.written sink.new) (packet_frames (link_of host.now.session) sent.now)) }
@@ -39,9 +42,9 @@ pub fn send<K: Sink>(host: &Host, sent: &[Sent], sink: &mut K) -> Result<(), Fai
     if sent.is_empty() {
         return Ok(());
     }
-    let mut bytes = ArrayVec::new();
+    bytes.clear();
     for x in sent {
-        put(host, *x, &mut bytes);
+        put(host, *x, bytes);
     }
     write_whole(sink, bytes.as_slice())
 }
