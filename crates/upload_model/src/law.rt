@@ -2,6 +2,7 @@
 
 ghost use Rattle.std.specs.Prelude.{◌≡◌};
 ghost use Rattle.upload_model.specs.Theorem.{UploadLaw, StartLaw, UnstartedLaw, TakenLaw, LastingLaw};
+ghost use Rattle.upload_model.specs.Starts.{BeginLaw};
 ghost use Rattle.upload_model.specs.Readback.{ReadsCover, VerifiedLaw, StartsLastLaw};
 
 use crate::limits::*;
@@ -13,6 +14,7 @@ pub fn upload_law()
     ensures starts { StartLaw }
     ensures unstarted { UnstartedLaw }
     ensures taken { TakenLaw }
+    ensures begins { BeginLaw }
     ensures lasts { LastingLaw }
 {}
 
