@@ -1,5 +1,5 @@
 -- The commands of the program.
-use Rattle.std.specs.Prelude.{◌≢◌, ℕ, List, map, string_bytes, Option, String}
+use Rattle.std.specs.Prelude.{◌≡◌, ℕ, List, [], ◌∷◌, map, string_bytes, codes, slice_get, Option, Some, String}
 use Rattle.std.specs.declared.alloc.Global.{Global}
 use Rattle.command_words.specs.Commands.{command_of, help_text}
 use Rattle.command_words.specs.declared.command.Command.{Command}
@@ -43,9 +43,10 @@ verb_of (Speed depth limit) = speed_verb depth limit
 verb_of (Explain depth fine) = explain_verb depth fine
 verb_of (Dynamics depth accel jump) = dynamics_verb depth accel jump
 
--- The command judges whether the drones of its input keep apart: `help` and `version` judge none, `drill` a show of its own, and `boxes`,
--- `speed`, `explain` and `dynamics` something else.
-abbrev pub JudgesApart : Command → Type 0
-JudgesApart c =
-    (c ≢ Help) × (c ≢ Version) × ((drones depth : ℕ) → c ≢ Drill drones depth) × ((depth : ℕ) → c ≢ Boxes depth) × ((depth : ℕ) (limit : Option ℕ) → c ≢ Speed depth limit)
-    × ((depth fine : ℕ) → c ≢ Explain depth fine) × ((depth : ℕ) (accel jump : Option ℕ) → c ≢ Dynamics depth accel jump)
+-- the first of these words
+abbrev pub IsCalled : List (String Global) → List ℕ → Type 0
+IsCalled words name = slice_get (map string_bytes words) 0 ≡ Some name
+
+-- The names of the commands that judge whether the drones of their input keep apart.
+abbrev pub judges_apart : List (List ℕ)
+judges_apart = codes "check" ∷ codes "compile" ∷ codes "certify" ∷ codes "play" ∷ codes "report" ∷ codes "verify" ∷ codes "rehearse" ∷ codes "upload" ∷ []

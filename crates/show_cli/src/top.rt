@@ -1,5 +1,5 @@
 //! The program over any source and any sink.
-ghost use Rattle.std.specs.Prelude.{◌≡◌, ◌≢◌, ◌⊎◌, ℕ, ◌≤◌, List, Option, Some, None};
+ghost use Rattle.std.specs.Prelude.{◌≡◌, ◌≢◌, ◌⊎◌, ℕ, ◌≤◌, List, Option, Some, None, Contains, codes};
 ghost use Rattle.std.specs.Io.KnownBytes.{Appends};
 ghost use Rattle.text_lines.specs.Marker.{part_of};
 ghost use Rattle.fleet_io.specs.Causes.{Rose};
@@ -16,7 +16,7 @@ ghost use Rattle.show_studies.specs.Boxes.{StaysInRegions};
 ghost use Rattle.show_studies.specs.Dynamics.{KeepsDynamics};
 ghost use Rattle.show_studies.specs.Explained.{TellsTouches};
 ghost use Rattle.show_studies.specs.Speeds.{KeepsSpeeds};
-ghost use Rattle.show_cli.specs.Verbs.{JudgesApart, command_in, verb_of};
+ghost use Rattle.show_cli.specs.Verbs.{IsCalled, command_in, judges_apart, verb_of};
 ghost use Rattle.upload_model.specs.Readback.{StartsLastLaw, VerifiedLaw};
 ghost use Rattle.upload_model.specs.Theorem.{TakenLaw, UploadLaw};
 
@@ -91,12 +91,12 @@ pub fn run<S: Source, K: Sink>(
     ensures outcomes { (c : Command) → OutcomeLaw (verb_of c) }
 
     // 0 of a command that judges whether drones keep apart: the show's text stands for a show, near to which they fly and apart, at every instant.
-    ensures flies { (c : Command) (input : List ℕ) → command_in words.now.items ≡ Some c → JudgesApart c → S.left source.old ≡ Some input → result ≡ 0 → FliesText (part_of input) }
+    ensures flies { (name input : List ℕ) → IsCalled words.now.items name → Contains judges_apart name → S.left source.old ≡ Some input → result ≡ 0 → FliesText (part_of input) }
     ensures drilled { (drones depth : ℕ) → command_in words.now.items ≡ Some (Command.Drill drones depth) → result ≡ 0 → FliesText (part_of (drill_text drones)) }
 
     // 0 of `compile`: the input stands for a show, its plan was written, and once the plan's packets are acknowledged, whatever the link
     // does, each drone's memory decodes to one curve, near to the show and apart from every other, at every instant.
-    ensures headline { (depth : ℕ) (input : List ℕ) → command_in words.now.items ≡ Some (Command.Compile depth) → S.left source.old ≡ Some input → result ≡ 0
+    ensures headline { (input : List ℕ) → IsCalled words.now.items (codes "compile") → S.left source.old ≡ Some input → result ≡ 0
         → Headline input (K.written sink.old) (K.written sink.new) }
 
     // 0 of `boxes`, `speed`, `explain` and `dynamics`: what was written holds at every instant of the flight.

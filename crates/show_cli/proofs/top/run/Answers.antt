@@ -8,7 +8,8 @@ use Rattle.show_looks.specs.Reports.{report_of}
 use Rattle.show_looks.proofs.CompileLemmas.{headline_of}
 use Rattle.show_cli.specs.Verbs.{verb_of}
 use Rattle.show_cli.proofs.TopLemmas.{behaves_as, known_small, never_seventeen, never_two, one_command}
-use Rattle.show_cli.proofs.VerbLaws.{flies, laws}
+use Rattle.show_cli.proofs.NameLemmas.{compiles, flies}
+use Rattle.show_cli.proofs.VerbLaws.{laws}
 use Rattle.show_cli.proofs.top.run.Goals as goal
 
 pub returns-in-Some-clause-two : goal.returns-in-Some-clause-two
@@ -31,8 +32,8 @@ pub returns-in-None-clause-outcomes : goal.returns-in-None-clause-outcomes
 returns-in-None-clause-outcomes g c = λ d. outcomes c.show_law.ensures (verb_of d) (laws c.verify_law.ensures c.rehearse_law.ensures c.uploading_law.ensures c.boxes_law.ensures d)
 
 pub returns-in-Some-clause-flies : goal.returns-in-Some-clause-flies
-returns-in-Some-clause-flies g c = λ d input is judges left done.
-    flies d judges input _ _ (behaves_as c.in-Some.command d _ _ (one_command _ c.in-Some.command d (sym c.command_of.ensures.value ∙ c.in-Some.is) is) c.run_command.ensures).runs left done
+returns-in-Some-clause-flies g c = λ name input called judges left done.
+    flies _ c.in-Some.command name called judges (sym c.command_of.ensures.value ∙ c.in-Some.is) input _ _ c.run_command.ensures.runs left done
 
 pub returns-in-Some-clause-drilled : goal.returns-in-Some-clause-drilled
 returns-in-Some-clause-drilled g c = λ drones depth is done.
@@ -40,9 +41,9 @@ returns-in-Some-clause-drilled g c = λ drones depth is done.
     (behaves_as c.in-Some.command (Drill drones depth) _ _ (one_command _ c.in-Some.command (Drill drones depth) (sym c.command_of.ensures.value ∙ c.in-Some.is) is) c.run_command.ensures).runs done
 
 pub returns-in-Some-clause-headline : goal.returns-in-Some-clause-headline
-returns-in-Some-clause-headline g c = λ depth input is left done.
-    headline_of depth input _ _
-    (behaves_as c.in-Some.command (Compile depth) _ _ (one_command _ c.in-Some.command (Compile depth) (sym c.command_of.ensures.value ∙ c.in-Some.is) is) c.run_command.ensures).runs left done
+returns-in-Some-clause-headline g c = λ input called left done.
+    let compile = compiles _ c.in-Some.command called (sym c.command_of.ensures.value ∙ c.in-Some.is) in
+    headline_of compile.0 input _ _ (behaves_as c.in-Some.command (Compile compile.0) _ _ (sym compile.1) c.run_command.ensures).runs left done
 
 pub returns-in-Some-clause-regions : goal.returns-in-Some-clause-regions
 returns-in-Some-clause-regions g c = λ depth input is left done.
