@@ -1,3 +1,4 @@
+pub mod CutLemmas
 pub mod RowLemmas
 pub mod Points
 pub mod ScheduleLaws

@@ -1,8 +1,9 @@
 -- From one point of an upload to the next.
-use Rattle.std.proofs.Common.{◌≡◌, ◌≢◌, ◌==◌, ℕ, zero, suc, replicate, ◌<◌, Bool, cond, ltb, List, [], ◌∷◌, ◌++◌, length, map, filter, refl, ap, sym, ◌∙◌, arith, Option, ◌≤◌, ◌⊎◌, Result, Ok, Err, inl, inr}
-use Rattle.std.specs.Prelude.{slice_get, slice_set, OnOk, IfOk}
+use Rattle.std.proofs.Common.{◌≡◌, ◌≢◌, ◌==◌, ℕ, zero, suc, replicate, ◌<◌, Bool, cond, ltb, List, [], ◌∷◌, ◌++◌, length, map, filter, refl, ap, sym, subst, ◌∙◌, arith, Option, Some, ◌≤◌, ◌⊎◌, Result, Ok, Err, inl, inr}
+use Rattle.std.specs.Prelude.{slice_get, slice_set, option_map, All, OnOk, OnErr, IfOk}
 use Rattle.std.proofs.lemmas.List.{length-set, map-append, append-nil}
-use Rattle.std.proofs.lemmas.List.Elements.{filter-append}
+use Rattle.std.proofs.lemmas.List.Elements.{filter-append, All-nil, All-cons, All-head, All-tail, All-append}
+use Rattle.std.proofs.lemmas.Option.{slice_get-map}
 use Rattle.std.proofs.lemmas.Bool.{le-ltb, lt-ltb, eq-eqb, ne_eqb, cases_eq, cond-true, cond-false, and_left, and_right, and_from}
 use Rattle.upload_model.specs.declared.events.Event.{Event}
 use Rattle.upload_model.specs.declared.events.Event.TheVariants as event
@@ -11,63 +12,110 @@ use Rattle.upload_model.specs.declared.events.Progress.{Progress}
 use Rattle.upload_model.specs.declared.events.Progress.TheVariants.{Going}
 use Rattle.upload_model.specs.declared.events.WorldEvent.TheVariants.{Tick, Take, Hear, Alter}
 use Rattle.upload_model.specs.Drones.{DroneState, handled}
-use Rattle.upload_model.specs.Sessions.{Upload, IsSession, drone_count, packet_at}
+use Rattle.upload_model.specs.Sessions.{Upload, IsSession, drone_count, packet_count, packet_at}
 use Rattle.upload_model.specs.Hosts.{flight, out as out_of, progress as progress_of}
 use Rattle.upload_model.specs.Worlds as Worlds
 use Rattle.upload_model.specs.Worlds.{packets_for, changed, took, take_named, hear_named, option_list, altered, start_world, host_event, happens}
 use Rattle.upload_model.proofs.HostSteps.{progress-nil}
+use Rattle.upload_model.proofs.Moments.{All-slice_get}
 use Rattle.upload_model.proofs.OneDrone.{slice_get-set_same, slice_get-set_other}
 use Rattle.firmware_memory.specs.declared.drone.Drone.{Drone}
 use Rattle.firmware_memory.specs.Shown.{shown}
-use Rattle.upload_core.specs.HostState.{HostState, view_of}
+use Rattle.upload_core.specs.HostState.{HostState, IsPacketOf, view_of}
 use Rattle.upload_core.specs.HostStandsFor.{HostStandsFor}
-use Rattle.fleet_world.specs.Mail.{row_of}
+use Rattle.fleet_world.specs.Traffics.{row_of, packets_at, numbers_for, AreNumbersOf}
 use Rattle.fleet_world.specs.WorldState.{WorldState, WorldStandsAt, state_of, state_at}
 
 -- the rows after these packets were put after those of their drones
-abbrev pub AfterPut : Upload → List Sent → List (List (List ℕ)) → List (List (List ℕ)) → Type 0
-AfterPut s out old new = (d : ℕ) → row_of new d ≡ row_of old d ++ packets_for s out d
+abbrev pub AfterPut : List Sent → List (List ℕ) → List (List ℕ) → Type 0
+AfterPut out old new = (d : ℕ) → row_of new d ≡ row_of old d ++ numbers_for out d
 
-pub stands-host_event : (v : WorldState) (s : Upload) (w : Worlds.World) (e : Event) (host' : HostState) (sent : List Sent) (sent' : List (List (List ℕ))) (progress' : Progress) →
+-- ---- packets that go to a drone, and their numbers
+
+packets-numbers : (s : Upload) (xs : List Sent) (d : ℕ) → packets_at s d (numbers_for xs d) ≡ packets_for s xs d
+packets-numbers s [] d = refl
+packets-numbers s (x ∷ xs) d = elim (cases_eq x.drone d) [
+  | inl here ↦
+      ap (λ (b : Bool). packets_at s d (map (λ (y : Sent). y.packet) (cond b (x ∷ filter (λ (y : Sent). y.drone == d) xs) (filter (λ (y : Sent). y.drone == d) xs)))) (eq-eqb x.drone d here)
+      ∙ ap (λ (i : ℕ). packet_at s i x.packet ∷ packets_at s d (numbers_for xs d)) (sym here)
+      ∙ ap (λ (ps : List (List ℕ)). packet_at s x.drone x.packet ∷ ps) (packets-numbers s xs d)
+      ∙ sym (ap (λ (b : Bool). map (λ (y : Sent). packet_at s y.drone y.packet) (cond b (x ∷ filter (λ (y : Sent). y.drone == d) xs) (filter (λ (y : Sent). y.drone == d) xs))) (eq-eqb x.drone d here))
+  | inr other ↦
+      ap (λ (b : Bool). packets_at s d (map (λ (y : Sent). y.packet) (cond b (x ∷ filter (λ (y : Sent). y.drone == d) xs) (filter (λ (y : Sent). y.drone == d) xs)))) (ne_eqb x.drone d other)
+      ∙ packets-numbers s xs d
+      ∙ sym (ap (λ (b : Bool). map (λ (y : Sent). packet_at s y.drone y.packet) (cond b (x ∷ filter (λ (y : Sent). y.drone == d) xs) (filter (λ (y : Sent). y.drone == d) xs))) (ne_eqb x.drone d other))
+]
+
+-- the packets of numbers to which those of a list are added
+packets-put : (s : Upload) (out : List Sent) (old new : List (List ℕ)) (d : ℕ) → AfterPut out old new →
+    packets_at s d (row_of new d) ≡ packets_at s d (row_of old d) ++ packets_for s out d
+packets-put s out old new d put =
+    ap (packets_at s d) (put d) ∙ map-append (packet_at s d) (row_of old d) (numbers_for out d)
+    ∙ ap (λ (ps : List (List ℕ)). packets_at s d (row_of old d) ++ ps) (packets-numbers s out d)
+
+numbers_for-append : (xs ys : List Sent) (d : ℕ) → numbers_for (xs ++ ys) d ≡ numbers_for xs d ++ numbers_for ys d
+numbers_for-append xs ys d =
+    ap (map (λ (x : Sent). x.packet)) (filter-append (λ (x : Sent). x.drone == d) xs ys)
+    ∙ map-append (λ (x : Sent). x.packet) (filter (λ (x : Sent). x.drone == d) xs) (filter (λ (x : Sent). x.drone == d) ys)
+
+-- one packet more, for its own drone
+pub numbers_for-here : (xs : List Sent) (x : Sent) → numbers_for (xs ++ x ∷ []) x.drone ≡ numbers_for xs x.drone ++ x.packet ∷ []
+numbers_for-here xs x =
+    numbers_for-append xs (x ∷ []) x.drone
+    ∙ ap (λ (b : Bool). numbers_for xs x.drone ++ map (λ (y : Sent). y.packet) (cond b (x ∷ []) [])) (eq-eqb x.drone x.drone refl)
+
+-- and for another one none
+pub numbers_for-other : (xs : List Sent) (x : Sent) (d : ℕ) → d ≢ x.drone → numbers_for (xs ++ x ∷ []) d ≡ numbers_for xs d
+numbers_for-other xs x d other =
+    numbers_for-append xs (x ∷ []) d
+    ∙ ap (λ (b : Bool). numbers_for xs d ++ map (λ (y : Sent). y.packet) (cond b (x ∷ []) [])) (ne_eqb x.drone d (λ e. other (sym e)))
+    ∙ append-nil (numbers_for xs d)
+
+numbers-known : (s : Upload) (xs : List Sent) (d : ℕ) → All (IsPacketOf s) xs → All (λ k. k < packet_count s d) (numbers_for xs d)
+numbers-known s [] d all = All-nil (λ k. k < packet_count s d)
+numbers-known s (x ∷ xs) d all = elim (cases_eq x.drone d) [
+  | inl here ↦
+      subst (λ (b : Bool). All (λ k. k < packet_count s d) (map (λ (y : Sent). y.packet) (cond b (x ∷ filter (λ (y : Sent). y.drone == d) xs) (filter (λ (y : Sent). y.drone == d) xs))))
+      (sym (eq-eqb x.drone d here))
+      (All-cons (λ k. k < packet_count s d) x.packet (numbers_for xs d) (subst (λ (i : ℕ). x.packet < packet_count s i) here (All-head (IsPacketOf s) x xs all).packet)
+      (numbers-known s xs d (All-tail (IsPacketOf s) x xs all)))
+  | inr other ↦
+      subst (λ (b : Bool). All (λ k. k < packet_count s d) (map (λ (y : Sent). y.packet) (cond b (x ∷ filter (λ (y : Sent). y.drone == d) xs) (filter (λ (y : Sent). y.drone == d) xs))))
+      (sym (ne_eqb x.drone d other)) (numbers-known s xs d (All-tail (IsPacketOf s) x xs all))
+]
+
+-- what is put are packets of the session, where what is sent is
+pub known-put : (s : Upload) (out : List Sent) (old new : List (List ℕ)) → All (IsPacketOf s) out → AfterPut out old new → AreNumbersOf s old → AreNumbersOf s new
+known-put s out old new all put known d =
+    subst (All (λ k. k < packet_count s d)) (sym (put d)) (All-append (λ k. k < packet_count s d) (row_of old d) (numbers_for out d) (known d) (numbers-known s out d all))
+
+-- the packet of a number
+pub packet-named : (s : Upload) (d n : ℕ) (ks : List ℕ) (o : Option ℕ) → o ≡ slice_get ks n → slice_get (packets_at s d ks) n ≡ option_map (packet_at s d) o
+packet-named s d n ks o is = slice_get-map (packet_at s d) ks n ∙ ap (option_map (packet_at s d)) (sym is)
+
+pub number-known : (s : Upload) (rows : List (List ℕ)) (d n k : ℕ) → AreNumbersOf s rows → Some k ≡ slice_get (row_of rows d) n → k < packet_count s d
+number-known s rows d n k known is = All-slice_get (λ j. j < packet_count s d) (row_of rows d) n k (sym is) (known d)
+
+-- ---- an event of the host
+
+pub stands-host_event : (v : WorldState) (s : Upload) (w : Worlds.World) (e : Event) (host' : HostState) (sent : List Sent) (sent' : List (List ℕ)) (given' : List (List (List ℕ))) (progress' : Progress) →
     WorldStandsAt v s w → host'.session ≡ v.host.session → HostStandsFor (view_of host') (w.heard ++ e ∷ []) →
     sent ≡ out_of v.host.session w.heard e →
-    AfterPut host'.session sent v.sent sent' → progress' ≡ progress_of v.host.session (w.heard ++ e ∷ []) →
-    WorldStandsAt (record { host = host'; drones = v.drones; sent = sent'; given = v.given; progress = progress' }) s (host_event s w e)
+    AfterPut sent v.sent sent' → given' ≡ v.given → progress' ≡ progress_of v.host.session (w.heard ++ e ∷ []) →
+    WorldStandsAt (record { host = host'; drones = v.drones; sent = sent'; given = given'; progress = progress' }) s (host_event s w e)
 unfolding host_event
-stands-host_event v s w e host' sent sent' progress' at same stands sent_is put progress_is = record {
+stands-host_event v s w e host' sent sent' given' progress' at same stands sent_is put given_is progress_is = record {
   session = same ∙ at.session;
   host = stands;
   progress = progress_is ∙ ap (λ (u : Upload). progress_of u (w.heard ++ e ∷ [])) at.session;
   count = at.count;
   drones = at.drones;
   sent = λ d l.
-      put d
-      ∙ ap (λ (ps : List (List ℕ)). ps ++ packets_for host'.session sent d) (at.sent d l)
-      ∙ ap (λ (ps : List (List ℕ)). w.sent d ++ ps)
-      (ap (λ (u : Upload). packets_for u sent d) (same ∙ at.session)
-      ∙ ap (λ (xs : List Sent). packets_for s xs d) (sent_is ∙ ap (λ (u : Upload). out_of u w.heard e) at.session));
-  given = at.given;
+      packets-put s sent v.sent sent' d put
+      ∙ ap (λ (ps : List (List ℕ)). ps ++ packets_for s sent d) (at.sent d l)
+      ∙ ap (λ (xs : List Sent). w.sent d ++ packets_for s xs d) (sent_is ∙ ap (λ (u : Upload). out_of u w.heard e) at.session);
+  given = λ d l. ap (λ (rows : List (List (List ℕ))). row_of rows d) given_is ∙ at.given d l;
 }
-
--- ---- packets that go to a drone, one more at the end
-
-packets_for-append : (s : Upload) (xs ys : List Sent) (d : ℕ) → packets_for s (xs ++ ys) d ≡ packets_for s xs d ++ packets_for s ys d
-packets_for-append s xs ys d =
-    ap (map (λ (x : Sent). packet_at s x.drone x.packet)) (filter-append (λ (x : Sent). x.drone == d) xs ys)
-    ∙ map-append (λ (x : Sent). packet_at s x.drone x.packet) (filter (λ (x : Sent). x.drone == d) xs) (filter (λ (x : Sent). x.drone == d) ys)
-
--- one packet more, for its own drone
-pub packets_for-here : (s : Upload) (xs : List Sent) (x : Sent) → packets_for s (xs ++ x ∷ []) x.drone ≡ packets_for s xs x.drone ++ packet_at s x.drone x.packet ∷ []
-packets_for-here s xs x =
-    packets_for-append s xs (x ∷ []) x.drone
-    ∙ ap (λ (b : Bool). packets_for s xs x.drone ++ map (λ (y : Sent). packet_at s y.drone y.packet) (cond b (x ∷ []) [])) (eq-eqb x.drone x.drone refl)
-
--- and for another one none
-pub packets_for-other : (s : Upload) (xs : List Sent) (x : Sent) (d : ℕ) → d ≢ x.drone → packets_for s (xs ++ x ∷ []) d ≡ packets_for s xs d
-packets_for-other s xs x d other =
-    packets_for-append s xs (x ∷ []) d
-    ∙ ap (λ (b : Bool). packets_for s xs d ++ map (λ (y : Sent). packet_at s y.drone y.packet) (cond b (x ∷ []) [])) (ne_eqb x.drone d (λ e. other (sym e)))
-    ∙ append-nil (packets_for s xs d)
 
 -- ---- what names nothing changes nothing
 
@@ -95,6 +143,10 @@ pub on_ok : {A B : Type 0} (r : Result A B) (P Q : Type 0) → OnOk r P → (P �
 on_ok (Ok x) P Q h f = f h
 on_ok (Err e) P Q h f = h
 
+pub on_err : {A B : Type 0} (r : Result A B) (P Q : Type 0) → OnErr r P → (P → Q) → OnErr r Q
+on_err (Ok x) P Q h f = h
+on_err (Err e) P Q h f = f h
+
 pub if_ok : {A B : Type 0} (r : Result A B) (P Q : A → Type 0) (S : Type 0) → IfOk r P → OnOk r S → ((x : A) → P x → S → Q x) → IfOk r Q
 if_ok (Ok x) P Q S p s f = f x p s
 if_ok (Err e) P Q S p s f = p
@@ -107,11 +159,11 @@ state_at-set_same drones d x h = ap state_of (slice_get-set_same drones d x h)
 state_at-set_other : (drones : List Drone) (d i : ℕ) (x : Drone) → (i ≡ d → ⊥) → state_at (slice_set drones d x) i ≡ state_at drones i
 state_at-set_other drones d i x h = ap state_of (slice_get-set_other drones d i x h)
 
-pub stands-took : (v : WorldState) (s : Upload) (w : Worlds.World) (d : ℕ) (packet : List ℕ) (x : Drone) (answer : Option (List ℕ)) (given' : List (List (List ℕ))) →
-    WorldStandsAt v s w → d < drone_count s → shown x ≡ (handled (state_at v.drones d) packet).drone → answer ≡ (handled (state_at v.drones d) packet).answer →
+pub stands-took : (v : WorldState) (s : Upload) (w : Worlds.World) (d : ℕ) (packet : List ℕ) (x : Drone) (answer : Option (List ℕ)) (sent' : List (List ℕ)) (given' : List (List (List ℕ))) →
+    WorldStandsAt v s w → d < drone_count s → sent' ≡ v.sent → shown x ≡ (handled (state_at v.drones d) packet).drone → answer ≡ (handled (state_at v.drones d) packet).answer →
     row_of given' d ≡ row_of v.given d ++ option_list answer → ((i : ℕ) → i ≢ d → row_of given' i ≡ row_of v.given i) →
-    WorldStandsAt (record { host = v.host; drones = slice_set v.drones d x; sent = v.sent; given = given'; progress = v.progress }) s (took w d (handled (w.drones d) packet))
-stands-took v s w d packet x answer given' at l drone_is answer_is here others = record {
+    WorldStandsAt (record { host = v.host; drones = slice_set v.drones d x; sent = sent'; given = given'; progress = v.progress }) s (took w d (handled (w.drones d) packet))
+stands-took v s w d packet x answer sent' given' at l same drone_is answer_is here others = record {
   session = at.session;
   host = at.host;
   progress = at.progress;
@@ -126,7 +178,7 @@ stands-took v s w d packet x answer given' at l drone_is answer_is here others =
         state_at-set_other v.drones d i x other ∙ at.drones i b
         ∙ sym (cond-false (i == d) (handled (w.drones d) packet).drone (w.drones i) (ne_eqb i d other))
   ];
-  sent = at.sent;
+  sent = λ i b. ap (λ (rows : List (List ℕ)). packets_at s i (row_of rows i)) same ∙ at.sent i b;
   given = λ i b. elim (cases_eq i d) [
     | inl same ↦
         ap (row_of given') same ∙ here
@@ -178,21 +230,26 @@ alter-there s w d address value l b =
 
 -- ---- no event
 
-row_of-empty : (n d : ℕ) → row_of (replicate n []) d ≡ []
+row_of-empty : {X : Type 0} (n d : ℕ) → ◌≡◌ {A = List X} (row_of (replicate n []) d) []
 row_of-empty zero d = refl
 row_of-empty (suc n) zero = refl
 row_of-empty (suc n) (suc d) = row_of-empty n d
 
-pub stands-start : (host : HostState) (drones : List Drone) (sent : List (List (List ℕ))) (n m : ℕ) → IsSession host.session → HostStandsFor (view_of host) [] →
-    length drones ≡ drone_count host.session → AfterPut host.session (flight host.session []) (replicate n []) sent →
-    WorldStandsAt (record { host = host; drones = drones; sent = sent; given = replicate m []; progress = Going }) host.session (start_world host.session (state_at drones))
+pub none-known : (s : Upload) (n : ℕ) → AreNumbersOf s (replicate n [])
+none-known s n d = subst (All (λ k. k < packet_count s d)) (sym (row_of-empty n d)) (All-nil (λ k. k < packet_count s d))
+
+pub stands-start : (host : HostState) (drones : List Drone) (sent : List (List ℕ)) (given : List (List (List ℕ))) (n : ℕ) → IsSession host.session → HostStandsFor (view_of host) [] →
+    length drones ≡ drone_count host.session → AfterPut (flight host.session []) (replicate n []) sent → given ≡ replicate n [] →
+    WorldStandsAt (record { host = host; drones = drones; sent = sent; given = given; progress = Going }) host.session (start_world host.session (state_at drones))
 unfolding start_world
-stands-start host drones sent n m ok stands count put = record {
+stands-start host drones sent given n ok stands count put none = record {
   session = refl;
   host = stands;
   progress = sym (progress-nil host.session ok.some_drones);
   count = count;
   drones = λ d l. refl;
-  sent = λ d l. put d ∙ ap (λ (ps : List (List ℕ)). ps ++ packets_for host.session (flight host.session []) d) (row_of-empty n d);
-  given = λ d l. row_of-empty m d;
+  sent = λ d l.
+      packets-put host.session (flight host.session []) (replicate n []) sent d put
+      ∙ ap (λ (ks : List ℕ). packets_at host.session d ks ++ packets_for host.session (flight host.session []) d) (row_of-empty n d);
+  given = λ d l. ap (λ (rows : List (List (List ℕ))). row_of rows d) none ∙ row_of-empty n d;
 }

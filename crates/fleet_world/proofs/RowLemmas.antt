@@ -1,43 +1,31 @@
--- Rows of packets, one for each drone.
-use Rattle.std.proofs.Common.{◌≡◌, ◌≢◌, ℕ, ◌+◌, ◌<◌, ◌≤◌, List, [], length, replicate, set, get_or, ap, sym, ◌∙◌, arith}
+-- What each drone has, drone by drone, and traffic that changes at one of them.
+use Rattle.std.proofs.Common.{◌≡◌, ◌≢◌, ℕ, ◌+◌, ◌<◌, ◌≤◌, List, [], length, map, set, get_or, sym, ap, ◌∙◌, arith}
 use Rattle.std.specs.Prelude.{vec_len, vec_capacity}
-use Rattle.std.proofs.lemmas.List.{map-set, length-map, length-replicate, get_or-set_same, get_or-set_other, get_or-map, set-get_or}
+use Rattle.std.proofs.lemmas.List.{map-set, length-map, get_or-set_same, get_or-set_other, get_or-map, set-get_or}
 use Rattle.std.proofs.lemmas.List.Elements.{All-weaker}
-use Rattle.fleet_world.specs.Mail.{Row, rows_of, row_of, HasRoom}
+use Rattle.fleet_world.specs.declared.traffic.Traffic.{Traffic}
+use Rattle.fleet_world.specs.Traffics.{row_of, HasRoom}
 
--- the row of a drone, read from the rows as they are kept
-pub row_of-kept : (rows : List Row) (d : ℕ) (row : Row) → d < length rows → row_of (rows_of rows) d ≡ (get_or rows d row).items
-row_of-kept rows d row l = get_or-map (λ (r : Row). r.items) rows d row [] l
+-- what one drone has, read from the traffic as it is kept
+pub row-kept : {X : Type 0} (f : Traffic → List X) (traffic : List Traffic) (d : ℕ) (t : Traffic) → d < length traffic → row_of (map f traffic) d ≡ f (get_or traffic d t)
+row-kept f traffic d t l = get_or-map f traffic d t [] l
 
--- a row that is written with the same packets
-pub rows_of-set_kept : (rows : List Row) (d : ℕ) (new old : Row) → d < length rows → new.items ≡ (get_or rows d old).items → rows_of (set rows d new) ≡ rows_of rows
-rows_of-set_kept rows d new old l same =
-    map-set (λ (r : Row). r.items) rows d new
-    ∙ ap (set (rows_of rows) d) (same ∙ sym (row_of-kept rows d old l))
-    ∙ set-get_or (rows_of rows) d []
+-- one drone's traffic is written, with the same in it
+pub rows-set_kept : {X : Type 0} (f : Traffic → List X) (traffic : List Traffic) (d : ℕ) (new old : Traffic) → d < length traffic →
+    f new ≡ f (get_or traffic d old) → map f (set traffic d new) ≡ map f traffic
+rows-set_kept f traffic d new old l same =
+    map-set f traffic d new ∙ ap (set (map f traffic) d) (same ∙ sym (row-kept f traffic d old l)) ∙ set-get_or (map f traffic) d []
 
--- a row that is written
-pub row_of-set_same : (rows : List Row) (d : ℕ) (row : Row) → d < length rows → row_of (rows_of (set rows d row)) d ≡ row.items
-row_of-set_same rows d row l =
-    ap (λ (xs : List (List (List ℕ))). get_or xs d []) (map-set (λ (r : Row). r.items) rows d row)
-    ∙ get_or-set_same (rows_of rows) d row.items [] (let n = length-map rows (λ (r : Row). r.items) in omega arith)
+-- one drone's traffic is written, with something else
+pub row-set_same : {X : Type 0} (f : Traffic → List X) (traffic : List Traffic) (d : ℕ) (t : Traffic) → d < length traffic → row_of (map f (set traffic d t)) d ≡ f t
+row-set_same {X} f traffic d t l =
+    ap (λ (rows : List (List X)). get_or rows d []) (map-set f traffic d t) ∙ get_or-set_same (map f traffic) d (f t) [] (let n = length-map traffic f in omega arith)
 
-pub row_of-set_other : (rows : List Row) (d i : ℕ) (row : Row) → i ≢ d → row_of (rows_of (set rows d row)) i ≡ row_of (rows_of rows) i
-row_of-set_other rows d i row other =
-    ap (λ (xs : List (List (List ℕ))). get_or xs i []) (map-set (λ (r : Row). r.items) rows d row)
-    ∙ get_or-set_other (rows_of rows) d i row.items [] other
+pub row-set_other : {X : Type 0} (f : Traffic → List X) (traffic : List Traffic) (d i : ℕ) (t : Traffic) → i ≢ d → row_of (map f (set traffic d t)) i ≡ row_of (map f traffic) i
+row-set_other {X} f traffic d i t other =
+    ap (λ (rows : List (List X)). get_or rows i []) (map-set f traffic d t) ∙ get_or-set_other (map f traffic) d i (f t) [] other
 
 -- less room is enough
-pub HasRoom-less : (rows : List Row) (n m : ℕ) → m ≤ n → HasRoom rows n → HasRoom rows m
-HasRoom-less rows n m l room =
-    All-weaker (λ (row : Row). vec_len row + n ≤ vec_capacity row) (λ (row : Row). vec_len row + m ≤ vec_capacity row) (λ row h. omega arith) rows room
-
--- equal packets are of as many drones
-pub length-rows_of : (rows rows' : List Row) → rows_of rows ≡ rows_of rows' → length rows ≡ length rows'
-length-rows_of rows rows' same =
-    sym (length-map rows (λ (r : Row). r.items)) ∙ ap (λ (xs : List (List (List ℕ))). length xs) same ∙ length-map rows' (λ (r : Row). r.items)
-
--- as many as there are empty rows
-pub length-empty : (rows : List Row) (n : ℕ) → rows_of rows ≡ replicate n [] → length rows ≡ n
-length-empty rows n is =
-    sym (length-map rows (λ (r : Row). r.items)) ∙ ap (λ (xs : List (List (List ℕ))). length xs) is ∙ length-replicate n []
+pub HasRoom-less : (traffic : List Traffic) (n m : ℕ) → m ≤ n → HasRoom traffic n → HasRoom traffic m
+HasRoom-less traffic n m l room =
+    All-weaker (λ (t : Traffic). vec_len t.sent + n ≤ vec_capacity t.sent) (λ (t : Traffic). vec_len t.sent + m ≤ vec_capacity t.sent) (λ t h. omega arith) traffic room

@@ -1,4 +1,4 @@
-pub mod Mail
+pub mod Traffics
 pub mod WorldState
 pub mod Schedules
 pub mod Faults

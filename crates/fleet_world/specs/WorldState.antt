@@ -11,14 +11,14 @@ use Rattle.firmware_memory.specs.declared.drone.Drone.{Drone}
 use Rattle.firmware_memory.specs.Shown.{shown}
 use Rattle.upload_core.specs.HostState.{HostState, view_of}
 use Rattle.upload_core.specs.HostStandsFor.{HostStandsFor}
-use Rattle.fleet_world.specs.Mail.{row_of}
+use Rattle.fleet_world.specs.Traffics.{row_of, packets_at}
 
--- What a world keeps: the host, the drones, for each drone the packets ever sent to it and the answers
--- that it ever gave, and the host's last answer.
+-- What a world keeps: the host, the drones, for each drone the numbers of the packets ever sent to it and
+-- the answers that it ever gave, and the host's last answer.
 pub record WorldState : Type 0 where
   pub host : HostState
   pub drones : List Drone
-  pub sent : List (List (List ℕ))
+  pub sent : List (List ℕ)
   pub given : List (List (List ℕ))
   pub progress : Progress
 
@@ -38,7 +38,7 @@ pub record WorldStandsAt (v : WorldState) (s : Upload) (w : World) : Type 0 wher
   pub progress : v.progress ≡ progress s w.heard
   pub count : length v.drones ≡ drone_count s
   pub drones : (d : ℕ) → d < drone_count s → state_at v.drones d ≡ w.drones d
-  pub sent : (d : ℕ) → d < drone_count s → row_of v.sent d ≡ w.sent d
+  pub sent : (d : ℕ) → d < drone_count s → packets_at s d (row_of v.sent d) ≡ w.sent d
   pub given : (d : ℕ) → d < drone_count s → row_of v.given d ≡ w.given d
 
 -- The world is where these events lead a session with these drones at the start.

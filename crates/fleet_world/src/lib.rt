@@ -2,14 +2,15 @@
 //! drones; and schedules, which tell as text what happens in it.
 //!
 //! A [`World`] takes one event after the other, among them alterations of a memory by somebody else, and
-//! stands for the list of them (`WorldStandsFor`). It keeps packets and answers by their bytes, since an
-//! answer can't be made again once the memory has changed. `upload_law` and `readback_law` of
+//! stands for the list of them (`WorldStandsFor`). It keeps packets by their numbers and answers by their
+//! bytes, since an answer can't be made again once the memory has changed. `upload_law` and `readback_law` of
 //! `upload_model` say what holds for every list. It stands on the host of `upload_core`, the drone of
 //! `firmware_memory`, the definitions of `upload_model` and the lines and words of `text_lines`.
 #![tactic(auto)]
 
-mod mail;
+mod answers;
 mod schedule;
+mod traffic;
 mod world;
 
 pub use schedule::{MOST_TEXT, Name, ScheduleFault, limits_law, read_schedule, schedule_law};

@@ -9,10 +9,10 @@ ghost use Rattle.upload_model.specs.Worlds as Worlds;
 ghost use Rattle.upload_model.specs.Worlds.{world, host_event, happens, took, packets_for, changed, altered};
 ghost use Rattle.firmware_memory.specs.declared.drone.Drone.{Drone};
 ghost use Rattle.upload_core.specs.HostState.{IsPacketOf};
-ghost use Rattle.fleet_world.specs.Mail.{rows_of, row_of, HasRoom};
+ghost use Rattle.fleet_world.specs.Traffics.{sent_of, given_of, row_of, packets_at, numbers_for, HasRoom};
 ghost use Rattle.fleet_world.specs.WorldState.{WorldState, WorldStandsFor, WorldStandsAt, state_at};
 
-use crate::mail::{empty_rows, make_room, named, put, put_answer};
+use crate::traffic::{Traffic, given_answer, make_room, no_traffic, put, sent_number};
 use crtp_packets::Packet;
 use firmware_memory::{Drone, MEMORY_BYTES};
 use std::alloc::{AllocError, Global};
@@ -21,17 +21,15 @@ use upload_core::{Event, Host, MOST_SENT, Out, Progress, Sent, Session};
 use upload_model::WorldEvent;
 
 /// These packets after those of their drones, for which there is room.
-fn put_all(session: &Session, out: &[Sent], rows: &mut [Vec<Packet>])
-    requires known { All (IsPacketOf session.now) out.now }
-    requires rows { length rows.old ≡ drone_count session.now }
-    requires room { HasRoom rows.old (length out.now) }
-    ensures len { length rows.new ≡ length rows.old }
-    ensures packets { (d : ℕ) → row_of (rows_of rows.new) d
-        ≡ row_of (rows_of rows.old) d ++ packets_for session.now out.now d }
+fn put_all(out: &[Sent], traffic: &mut [Traffic])
+    requires known { All (λ x. x.drone < length traffic.old) out.now }
+    requires room { HasRoom traffic.old (length out.now) }
+    ensures len { length traffic.new ≡ length traffic.old }
+    ensures given { given_of traffic.new ≡ given_of traffic.old }
+    ensures sent { (d : ℕ) → row_of (sent_of traffic.new) d ≡ row_of (sent_of traffic.old) d ++ numbers_for out.now d }
 {
     for x in out {
-        let packet = session.packet(x.drone as usize, x.packet as usize);
-        put(rows, x.drone as usize, packet);
+        put(traffic, x.drone as usize, x.packet);
     }
 }
 
@@ -41,15 +39,14 @@ fn put_all(session: &Session, out: &[Sent], rows: &mut [Vec<Packet>])
 pub struct World {
     host: Host,
     drones: Vec<Drone>,
-    sent: Vec<Vec<Packet>>,
-    given: Vec<Vec<Packet>>,
+    traffic: Vec<Traffic>,
     progress: Progress,
 }
 
 impl Model for World {
     ghost use Rattle.std.specs.Prelude.{◌≡◌, length};
     ghost use Rattle.upload_model.specs.Sessions.{drone_count};
-    ghost use Rattle.fleet_world.specs.Mail.{rows_of};
+    ghost use Rattle.fleet_world.specs.Traffics.{sent_of, given_of, AreNumbersOf};
     ghost use Rattle.fleet_world.specs.WorldState.{WorldState};
 
     ghost Value = { WorldState };
@@ -57,14 +54,14 @@ impl Model for World {
     ghost view = { λ w. record {
       host = w.host;
       drones = w.drones.items;
-      sent = rows_of w.sent.items;
-      given = rows_of w.given.items;
+      sent = sent_of w.traffic.items;
+      given = given_of w.traffic.items;
       progress = w.progress;
     } };
 
     ghost invariant = { λ w. (length w.drones.items ≡ drone_count w.host.session)
-        × (length w.sent.items ≡ drone_count w.host.session)
-        × (length w.given.items ≡ drone_count w.host.session) };
+        × (length w.traffic.items ≡ drone_count w.host.session)
+        × AreNumbersOf w.host.session (sent_of w.traffic.items) };
 }
 
 impl World {
@@ -75,18 +72,15 @@ impl World {
         ensures { IfOk result (λ w. WorldStandsFor w session drones.items []) }
     {
         let host = Host::make(alloc, session)?;
-        let count = host.session().drones();
-        let mut sent = empty_rows(alloc, count)?;
-        let given = empty_rows(alloc, count)?;
-        make_room(sent.as_mut_slice(), MOST_SENT)?;
+        let mut traffic = no_traffic(alloc, host.session().drones())?;
+        make_room(traffic.as_mut_slice(), MOST_SENT)?;
         let mut out = Out::new();
         host.first(&mut out);
-        put_all(host.session(), out.as_slice(), sent.as_mut_slice());
+        put_all(out.as_slice(), traffic.as_mut_slice());
         Ok(World {
             host,
             drones,
-            sent,
-            given,
+            traffic,
             progress: Progress::Going,
         })
     }
@@ -121,7 +115,7 @@ impl World {
                 if drone as usize >= self.host.session().drones() {
                     return Ok(self.progress);
                 }
-                match named(self.given.as_slice(), drone as usize, n) {
+                match given_answer(self.traffic.as_slice(), drone as usize, n) {
                     Some(packet) => self.happen(Event::Up { drone, packet }),
                     None => Ok(self.progress),
                 }
@@ -130,7 +124,7 @@ impl World {
                 if drone as usize >= self.host.session().drones() {
                     return Ok(self.progress);
                 }
-                let packet = match named(self.sent.as_slice(), drone as usize, n) {
+                let packet = match self.sent_packet(drone, n) {
                     Some(packet) => packet,
                     None => return Ok(self.progress),
                 };
@@ -166,6 +160,18 @@ impl World {
         taker.memory[address as usize] = value;
     }
 
+    /// Packet `n` of all that were ever sent to a drone.
+    fn sent_packet(&self, drone: u8, n: u32) -> Option<Packet>
+        requires { drone < drone_count self.now.host.session }
+        ensures { result ≡ slice_get (packets_at self.now.host.session drone (row_of self.now.sent drone)) n }
+    {
+        let drone = drone as usize;
+        match sent_number(self.traffic.as_slice(), drone, n) {
+            Some(k) => Some(self.host.session().packet(drone, k as usize)),
+            None => None,
+        }
+    }
+
     /// A drone takes a packet.
     fn take(&mut self, drone: u8, packet: &Packet) -> Result<(), AllocError>
         requires known { drone < drone_count self.old.host.session }
@@ -175,11 +181,10 @@ impl World {
         ensures count { length self.new.drones ≡ length self.old.drones }
         ensures err { OnErr result (self.new ≡ self.old) }
     {
-        make_room(self.given.as_mut_slice(), 1)?;
-        let taker = &mut self.drones[drone as usize];
-        let answer = taker.handle(packet);
-        put_answer(self.given.as_mut_slice(), drone as usize, answer);
-        Ok(())
+        let drone = drone as usize;
+        self.traffic[drone]
+            .given
+            .take(&mut self.drones[drone], packet)
     }
 
     /// An event of the host.
@@ -190,14 +195,10 @@ impl World {
         ensures count { length self.new.drones ≡ length self.old.drones }
         ensures err { OnErr result (self.new ≡ self.old) }
     {
-        make_room(self.sent.as_mut_slice(), MOST_SENT)?;
+        make_room(self.traffic.as_mut_slice(), MOST_SENT)?;
         let mut out = Out::new();
         let progress = self.host.event(e, &mut out);
-        put_all(
-            self.host.session(),
-            out.as_slice(),
-            self.sent.as_mut_slice(),
-        );
+        put_all(out.as_slice(), self.traffic.as_mut_slice());
         self.progress = progress;
         Ok(progress)
     }

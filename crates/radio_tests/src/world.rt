@@ -245,7 +245,7 @@ fn silence_ends_at_twenty_ticks(rt: HostRuntime) -> Result<(), Fail> {
 }
 
 #[test]
-fn schedules_are_judged(rt: HostRuntime) -> Result<(), Fail> {
+fn the_first_faulty_line_is_named(rt: HostRuntime) -> Result<(), Fail> {
     let alloc = rt.alloc();
     let names = solo_name(alloc)?;
     let faults: [(&[u8], u32); 13] = [
@@ -268,12 +268,14 @@ fn schedules_are_judged(rt: HostRuntime) -> Result<(), Fail> {
         let read = read_schedule(alloc, false, text, names.as_slice());
         assert!(rt; matches!(read, Err(ScheduleFault::Line { line: l }) if l == line));
     }
-    let read = read_schedule(
-        alloc,
-        false,
-        b"\n tick\nhear solo 000000001\ntake solo 999999999\r\n",
-        names.as_slice(),
-    );
+    Ok(())
+}
+
+#[test]
+fn numbers_of_nine_digits_are_read(rt: HostRuntime) -> Result<(), Fail> {
+    let alloc = rt.alloc();
+    let names = solo_name(alloc)?;
+    let text = b"\n tick\nhear solo 000000001\ntake solo 999999999\r\n";
     let wanted = [
         WorldEvent::Tick,
         WorldEvent::Hear { drone: 0, n: 0 },
@@ -282,13 +284,9 @@ fn schedules_are_judged(rt: HostRuntime) -> Result<(), Fail> {
             n: 999_999_998,
         },
     ];
-    match read {
-        Ok(events) => {
-            assert!(rt; events.as_slice() == wanted.as_slice());
-        }
-        Err(_) => {
-            assert!(rt; false);
-        }
+    match read_schedule(alloc, false, text, names.as_slice()) {
+        Ok(events) => assert!(rt; events.as_slice() == wanted.as_slice()),
+        Err(_) => assert!(rt; false),
     }
     Ok(())
 }

@@ -1,24 +1,25 @@
 -- A host to which nothing has happened.
-use Rattle.std.proofs.Common.{◌≡◌, ℕ, ◌+◌, ◌<◌, ◌≤◌, Bool, false, not, cond, List, [], ◌∷◌, length, refl, ap, sym, ◌∙◌, arith, inl}
+use Rattle.std.proofs.Common.{◌≡◌, ℕ, ◌+◌, ◌<◌, ◌≤◌, Bool, false, not, cond, List, [], ◌∷◌, ◌++◌, length, refl, ap, sym, ◌∙◌, arith}
 use Rattle.std.specs.Prelude.{All}
-use Rattle.std.specs.List.{list_all}
+use Rattle.std.specs.List.{range_with_len, list_all, flat_map}
 use Rattle.std.proofs.lemmas.Bool.{eq-eqb, ne_eqb, false≢true, false_from_ne_true}
 use Rattle.std.proofs.lemmas.List.Elements.{All-nil, All-cons, All-from_get_or}
 use Rattle.upload_model.specs.declared.events.Phase.{Phase}
 use Rattle.upload_model.specs.declared.events.Phase.TheVariants.{Loading, Reading, Starting}
-use Rattle.upload_model.specs.declared.events.Progress.{Progress}
 use Rattle.upload_model.specs.declared.events.Progress.TheVariants.{Going}
-use Rattle.upload_model.specs.Sessions.{Upload, drone_count}
-use Rattle.upload_model.specs.Hosts.{all_settled, phase_of, all_packets, acked, flight}
+use Rattle.upload_model.specs.declared.events.Sent.{Sent}
+use Rattle.upload_model.specs.Sessions.{Upload, drone_count, write_count, load_count}
+use Rattle.upload_model.specs.Hosts.{Packets, all_settled, phase_of, all_packets, acked, sent_to, flight_in, flight_at, flight}
 use Rattle.upload_model.proofs.Readings.{count-loads}
 use Rattle.upload_model.proofs.HostLaws.{Settled-from, acked-nil, all_packets-each}
-use Rattle.upload_model.proofs.HostSteps.{ticks-nil, progress-nil, phase-inside, flight_after-agree}
+use Rattle.upload_model.proofs.HostSteps.{ticks-nil, progress-nil, phase-inside, list_all-range-agree, flight_after-agree}
 use Rattle.upload_core.specs.declared.row.InFlight.{InFlight}
 use Rattle.upload_core.specs.declared.row.Row.{Row}
 use Rattle.upload_core.specs.HostStandsFor.{HostStandsFor}
-use Rattle.upload_core.specs.Rows.{packets_in, row_at, marked, counted, count_in}
-use Rattle.upload_core.specs.Steps.{IsBetween, IsStarting, RowsStand, IsReady, in_windows}
-use Rattle.upload_core.proofs.Windows.{windows-flight}
+use Rattle.upload_core.specs.Rows.{packets_in, is_marked, row_at, marked, counted, count_in}
+use Rattle.upload_core.specs.Steps.{IsBetween, IsStarting, RowsStand, IsReady}
+use Rattle.upload_core.proofs.RowLemmas.{row-flight}
+use Rattle.upload_core.proofs.Windows.{range-one_more, flat_map-append_one}
 use Rattle.upload_core.proofs.Standing.{IsUntired}
 
 -- numbers that rise, none of which has a count
@@ -31,6 +32,14 @@ untired-rising a b (e ∷ es) rising none =
     (untired-rising (e.packet + 1) b es rising.2
     (λ k l. sym (ap (λ (v : Bool). cond v e.ticks (count_in es k)) (ne_eqb e.packet k (λ same. omega (arith, same, l)))) ∙ none k (omega arith)))
 
+-- the phase in which the first packet of all isn't acknowledged
+phase-first : (s : Upload) → 1 ≤ drone_count s → (done : Packets) → done 0 0 ≡ false → Loading ≡ phase_of s done
+unfolding phase_of
+phase-first s some done blank =
+    ap (λ (b : Bool). cond (not b) Loading (cond (not (all_settled s Reading done)) Reading Starting))
+    (sym (false_from_ne_true (all_settled s Loading done)
+    (λ all. let n = count-loads s 0 in false≢true (sym blank ∙ Settled-from s Loading done all 0 some 0 (omega arith) (omega arith)))))
+
 module _ (s : Upload) (some : 1 ≤ drone_count s) (rows : List Row) (count : length rows ≡ drone_count s)
     (each : (d : ℕ) → d < drone_count s → IsStarting s d (row_at rows d)) where
   pub rows-begin : RowsStand s Loading rows
@@ -40,11 +49,7 @@ module _ (s : Upload) (some : 1 ≤ drone_count s) (rows : List Row) (count : le
   blank = (each 0 some).blank 0
 
   pub phase-begin : Loading ≡ phase_of s (marked rows)
-  unfolding phase_of
-  phase-begin =
-      ap (λ (b : Bool). cond (not b) Loading (cond (not (all_settled s Reading (marked rows))) Reading Starting))
-      (sym (false_from_ne_true (all_settled s Loading (marked rows))
-      (λ all. let n = count-loads s 0 in false≢true (sym blank ∙ Settled-from s Loading (marked rows) all 0 some 0 (omega arith) (omega arith)))))
+  phase-begin = phase-first s some (marked rows) blank
 
   pub ready-begin : IsReady s rows
   ready-begin = record {
@@ -67,9 +72,29 @@ module _ (s : Upload) (some : 1 ≤ drone_count s) (rows : List Row) (count : le
     counted = λ going x l there. (each x.drone l).counts x.packet ∙ sym (ticks-nil s x);
   }
 
--- what is in flight of rows that stand for no event
-pub sent-begin : (s : Upload) (p : Phase) (rows : List Row) → 1 ≤ drone_count s → RowsStand s p rows → p ≡ phase_of s (marked rows) → (q : Progress) →
-    HostStandsFor (record { session = s; marked = marked rows; counted = counted rows; progress = q }) [] → in_windows rows (length rows) ≡ flight s []
-sent-begin s p rows some stand phase q stands =
-    ap (in_windows rows) stand.count ∙ sym (windows-flight s p rows stand phase)
-    ∙ flight_after-agree s (marked rows) (acked s []) (λ d k l b. stands.marked (inl (stands.answer ∙ progress-nil s some)) d k l b)
+-- ---- what is in flight before any event
+
+-- nothing is acknowledged yet
+abbrev pub nothing : Packets
+nothing d k = false
+
+-- what is in flight of the first n drones then
+abbrev pub first_windows : Upload → ℕ → List Sent
+first_windows s n = flat_map (λ d. sent_to d (flight_in s Loading nothing d)) (range_with_len 0 n)
+
+pub first-window : (s : Upload) (d : ℕ) (row : Row) → IsStarting s d row → packets_in row.window.items ≡ flight_in s Loading nothing d
+first-window s d row starting =
+    sym (row-flight s Loading d row starting.stands nothing (λ k. sym (starting.blank k))
+    (ap (λ (b : Bool). cond b (load_count s d) (write_count s d))
+    (list_all-range-agree (nothing d) (λ k. is_marked row k) 0 (write_count s d) (λ k l b. sym (starting.blank k)))))
+
+pub first_windows-walk : (s : Upload) (n : ℕ) → first_windows s (n + 1) ≡ first_windows s n ++ sent_to n (flight_in s Loading nothing n)
+first_windows-walk s n =
+    ap (flat_map (λ d. sent_to d (flight_in s Loading nothing d))) (range-one_more n)
+    ∙ flat_map-append_one (λ d. sent_to d (flight_in s Loading nothing d)) (range_with_len 0 n) n
+
+pub first_windows-flight : (s : Upload) → 1 ≤ drone_count s → first_windows s (drone_count s) ≡ flight s []
+unfolding flight_at
+first_windows-flight s some =
+    ap (λ (p : Phase). flight_at s p nothing) (phase-first s some nothing refl)
+    ∙ flight_after-agree s nothing (acked s []) (λ d k l b. sym (acked-nil s d k))

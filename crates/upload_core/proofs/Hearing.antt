@@ -8,17 +8,18 @@ use Rattle.crtp_packets.specs.declared.reading.PacketFault.{PacketFault}
 use Rattle.upload_model.specs.declared.events.Event.{Event}
 use Rattle.upload_model.specs.declared.events.Event.TheVariants as event
 use Rattle.upload_model.specs.declared.events.Sent.{Sent}
+use Rattle.upload_model.specs.declared.events.Phase.{Phase}
 use Rattle.upload_model.specs.declared.events.Progress.{Progress}
 use Rattle.upload_model.specs.declared.events.Progress.TheVariants.{Going, Done, GaveUp, Refused, Differs}
 use Rattle.upload_model.specs.declared.events.Reply.{Reply}
 use Rattle.upload_model.specs.declared.events.Reply.TheVariants.{Silent, Good, Ends}
 use Rattle.upload_model.specs.Sessions.{Upload, drone_count, packet_count, is_read}
 use Rattle.upload_model.specs.Replies.{reply_in, reply_to, is_good, is_end, end_of}
-use Rattle.upload_model.specs.Hosts.{Packets, includes, flight_after, acknowledges, joined, all_packets, counts as counts_for, ended_for, ends_for, if_going}
+use Rattle.upload_model.specs.Hosts.{Packets, phase_of, includes, flight_after, acknowledges, joined, all_packets, counts as counts_for, ended_for, ends_for, if_going}
 use Rattle.upload_model.proofs.Answers.{reply-by}
 use Rattle.upload_core.specs.declared.row.Row.{Row}
 use Rattle.upload_core.specs.Rows.{marked, counted}
-use Rattle.upload_core.specs.Steps.{IsFor}
+use Rattle.upload_core.specs.Steps.{IsFor, RowsStand, Hears}
 use Rattle.upload_core.proofs.Numbers.{among-range_in}
 use Rattle.upload_core.proofs.Staying.{includes-rows}
 
@@ -173,16 +174,6 @@ module _ (s : Upload) (e : Event) (done : Packets) where
 
 -- ---- an answer that changes nothing
 
--- what a host makes of an answer: the rows, how far the upload is, and what is sent
-pub record Hears (s : Upload) (e : Event) (rows later : List Row) (answer : Progress) (out : List Sent) : Type 0 where
-  pub marks : (d k : ℕ) → d < drone_count s → marked later d k ≡ joined (marked rows) (acknowledges s (marked rows) e) d k
-  pub counts : (x : Sent) → includes (flight_after s (marked later)) x ≡ true →
-      counted later x.drone x.packet ≡ cond (includes (flight_after s (marked rows)) x) (counted rows x.drone x.packet) 0
-  pub finished : list_all (λ x. marked later x.drone x.packet) (all_packets s) ≡ true → answer ≡ Done
-  pub unfinished : list_all (λ x. marked later x.drone x.packet) (all_packets s) ≡ false →
-      answer ≡ ended_for s e (find (λ x. ends_for s (marked later) e x) (all_packets s))
-  pub sent : out ≡ if_going answer (filter (λ x. not (includes (flight_after s (marked rows)) x)) (flight_after s (marked later)))
-
 if_going-nothing : (p : Progress) → if_going p [] ≡ []
 if_going-nothing Going = refl
 if_going-nothing Done = refl
@@ -198,73 +189,70 @@ filter-itself xs (y ∷ ys) sub =
     (ap (λ (b : Bool). b && y.packet == y.packet) (eq-eqb y.drone y.drone refl) ∙ eq-eqb y.packet y.packet refl)))
     ∙ filter-itself xs ys (λ x f. sub x (or_right (y.drone == x.drone && y.packet == x.packet) (includes ys x) f))
 
-pub hears-same : (s : Upload) (e : Event) (rows : List Row) (answer : Progress) (sent : List Sent) →
-    list_all (λ x. marked rows x.drone x.packet) (all_packets s) ≡ false → acknowledges s (marked rows) e ≡ None →
-    answer ≡ ended_for s e (find (λ x. ends_for s (marked rows) e x) (all_packets s)) → sent ≡ [] → Hears s e rows rows answer sent
-hears-same s e rows answer sent going none ends empty = record {
-  marks = λ d k l. ap (λ (o : Option Sent). joined (marked rows) o d k) (sym none);
-  counts = λ x there. sym (ap (λ (b : Bool). cond b (counted rows x.drone x.packet) 0) there);
-  finished = λ all. absurd (false≢true (sym going ∙ all));
-  unfinished = λ some. ends;
-  sent = empty
-      ∙ sym (ap (if_going answer) (filter-itself (flight_after s (marked rows)) (flight_after s (marked rows)) (λ x f. f)) ∙ if_going-nothing answer);
-}
+module _ (s : Upload) (e : Event) (p : Phase) (rows : List Row) (sent : List Sent) (stand : RowsStand s p rows) (phase : p ≡ phase_of s (marked rows))
+    (going : list_all (λ x. marked rows x.drone x.packet) (all_packets s) ≡ false) (empty : sent ≡ []) where
+  hears-same : (answer : Progress) → acknowledges s (marked rows) e ≡ None → answer ≡ ended_for s e (find (λ x. ends_for s (marked rows) e x) (all_packets s)) →
+      Hears s e rows p rows answer sent
+  hears-same answer none ends = record {
+    rows = stand;
+    phase = phase;
+    marks = λ d k l. ap (λ (o : Option Sent). joined (marked rows) o d k) (sym none);
+    counts = λ x there. sym (ap (λ (b : Bool). cond b (counted rows x.drone x.packet) 0) there);
+    low = λ low. low;
+    len = refl;
+    finished = λ all. absurd (false≢true (sym going ∙ all));
+    unfinished = λ some. ends;
+    sent = empty
+        ∙ sym (ap (if_going answer) (filter-itself (flight_after s (marked rows)) (flight_after s (marked rows)) (λ x f. f)) ∙ if_going-nothing answer);
+  }
 
--- of nothing at all
-pub hears-silent : (s : Upload) (e : Event) (rows : List Row) (sent : List Sent) → list_all (λ x. marked rows x.drone x.packet) (all_packets s) ≡ false →
-    IsSilent s e → sent ≡ [] → Hears s e rows rows Going sent
-hears-silent s e rows sent going silent empty =
-    hears-same s e rows Going sent going (acknowledges-silent s e (marked rows) silent) (sym (ap (ended_for s e) (ends-silent s e (marked rows) silent))) empty
+  -- of nothing at all
+  pub hears-silent : IsSilent s e → Hears s e rows p rows Going sent
+  hears-silent silent =
+      hears-same Going (acknowledges-silent s e (marked rows) silent) (sym (ap (ended_for s e) (ends-silent s e (marked rows) silent)))
 
-module _ (s : Upload) (e : Event) (rows : List Row) (sent : List Sent) (going : list_all (λ x. marked rows x.drone x.packet) (all_packets s) ≡ false) (empty : sent ≡ [])
-    (x : Sent) (only : IsOnly s e x) where
-  -- a good answer to what isn't in flight
-  pub hears-out : reply_to s x.drone x.packet e ≡ Good → includes (flight_after s (marked rows)) x ≡ false → Hears s e rows rows Going sent
-  hears-out good out =
-      hears-same s e rows Going sent going (acknowledges-out s e (marked rows) x only out)
-      (sym (ap (ended_for s e)
-      (ends-none s e (marked rows) x only (ap (λ (r : Reply). is_end r && counts_for s (marked rows) x.drone x.packet && not (marked rows x.drone x.packet)) good)))) empty
-
-  module _ (p : Progress) (ends : reply_to s x.drone x.packet e ≡ Ends p) where
-    -- an answer that would end the upload, but comes too late or doesn't count
-    pub hears-past : (counts_for s (marked rows) x.drone x.packet ≡ false) ⊎ (marked rows x.drone x.packet ≡ true) → Hears s e rows rows Going sent
-    hears-past either =
-        hears-same s e rows Going sent going (acknowledges-bad s e (marked rows) x only (ap is_good ends)) (sym (ap (ended_for s e) (ends-none s e (marked rows) x only calm))) empty where
-          calm : ends_for s (marked rows) e x ≡ false
-          calm = elim either [
-            | inl out ↦
-                and_left (is_end (reply_to s x.drone x.packet e) && counts_for s (marked rows) x.drone x.packet) (not (marked rows x.drone x.packet))
-                (and_right (is_end (reply_to s x.drone x.packet e)) (counts_for s (marked rows) x.drone x.packet) out)
-            | inr past ↦
-                and_right (is_end (reply_to s x.drone x.packet e) && counts_for s (marked rows) x.drone x.packet) (not (marked rows x.drone x.packet)) (ap not past)
-          ]
-
-    -- one that ends it
-    pub hears-end : x.drone < drone_count s → x.packet < packet_count s x.drone → counts_for s (marked rows) x.drone x.packet ≡ true →
-        marked rows x.drone x.packet ≡ false → Hears s e rows rows p sent
-    hears-end l b counts opened =
-        hears-same s e rows p sent going (acknowledges-bad s e (marked rows) x only (ap is_good ends))
+  module _ (x : Sent) (only : IsOnly s e x) where
+    -- a good answer to what isn't in flight
+    pub hears-out : reply_to s x.drone x.packet e ≡ Good → includes (flight_after s (marked rows)) x ≡ false → Hears s e rows p rows Going sent
+    hears-out good out =
+        hears-same Going (acknowledges-out s e (marked rows) x only out)
         (sym (ap (ended_for s e)
-        (ends-here s e (marked rows) x only l b
-        (and_from (is_end (reply_to s x.drone x.packet e) && counts_for s (marked rows) x.drone x.packet) (not (marked rows x.drone x.packet))
-        (and_from (is_end (reply_to s x.drone x.packet e)) (counts_for s (marked rows) x.drone x.packet) (ap is_end ends) counts) (ap not opened)))
-        ∙ ap end_of ends)) empty
+        (ends-none s e (marked rows) x only (ap (λ (r : Reply). is_end r && counts_for s (marked rows) x.drone x.packet && not (marked rows x.drone x.packet)) good))))
+
+    module _ (end : Progress) (ends : reply_to s x.drone x.packet e ≡ Ends end) where
+      -- an answer that would end the upload, but comes too late or doesn't count
+      pub hears-past : (counts_for s (marked rows) x.drone x.packet ≡ false) ⊎ (marked rows x.drone x.packet ≡ true) → Hears s e rows p rows Going sent
+      hears-past either =
+          hears-same Going (acknowledges-bad s e (marked rows) x only (ap is_good ends)) (sym (ap (ended_for s e) (ends-none s e (marked rows) x only calm))) where
+            calm : ends_for s (marked rows) e x ≡ false
+            calm = elim either [
+              | inl out ↦
+                  and_left (is_end (reply_to s x.drone x.packet e) && counts_for s (marked rows) x.drone x.packet) (not (marked rows x.drone x.packet))
+                  (and_right (is_end (reply_to s x.drone x.packet e)) (counts_for s (marked rows) x.drone x.packet) out)
+              | inr past ↦
+                  and_right (is_end (reply_to s x.drone x.packet e) && counts_for s (marked rows) x.drone x.packet) (not (marked rows x.drone x.packet)) (ap not past)
+            ]
+
+      -- one that ends it
+      pub hears-end : x.drone < drone_count s → x.packet < packet_count s x.drone → counts_for s (marked rows) x.drone x.packet ≡ true →
+          marked rows x.drone x.packet ≡ false → Hears s e rows p rows end sent
+      hears-end l b counts opened =
+          hears-same end (acknowledges-bad s e (marked rows) x only (ap is_good ends))
+          (sym (ap (ended_for s e)
+          (ends-here s e (marked rows) x only l b
+          (and_from (is_end (reply_to s x.drone x.packet e) && counts_for s (marked rows) x.drone x.packet) (not (marked rows x.drone x.packet))
+          (and_from (is_end (reply_to s x.drone x.packet e)) (counts_for s (marked rows) x.drone x.packet) (ap is_end ends) counts) (ap not opened)))
+          ∙ ap end_of ends))
 
 -- a good answer to what is in flight
-pub hears-more : (s : Upload) (e : Event) (rows later : List Row) (answer : Progress) (sent : List Sent) (x : Sent) → IsOnly s e x →
-    reply_to s x.drone x.packet e ≡ Good → includes (flight_after s (marked rows)) x ≡ true →
-    ((d k : ℕ) → marked later d k ≡ (marked rows d k || (x.drone == d && x.packet == k))) →
-    ((y : Sent) → includes (flight_after s (marked later)) y ≡ true →
-    counted later y.drone y.packet ≡ cond (includes (flight_after s (marked rows)) y) (counted rows y.drone y.packet) 0) →
-    answer ≡ cond (list_all (λ y. marked later y.drone y.packet) (all_packets s)) Done Going →
-    sent ≡ if_going answer (filter (λ y. not (includes (flight_after s (marked rows)) y)) (flight_after s (marked later))) → Hears s e rows later answer sent
-hears-more s e rows later answer sent x only good there marks counts is sends = record {
-  marks = λ d k l. marks d k ∙ ap (λ (o : Option Sent). joined (marked rows) o d k) (sym (acknowledges-here s e (marked rows) x only good there));
-  counts = counts;
-  finished = λ all. is ∙ ap (λ (b : Bool). cond b Done Going) all;
-  unfinished = λ some.
+module _ (s : Upload) (e : Event) (rows later : List Row) (answer : Progress) (x : Sent) (only : IsOnly s e x) (good : reply_to s x.drone x.packet e ≡ Good) where
+  pub marks-more : includes (flight_after s (marked rows)) x ≡ true → ((d k : ℕ) → marked later d k ≡ (marked rows d k || (x.drone == d && x.packet == k))) →
+      (d k : ℕ) → d < drone_count s → marked later d k ≡ joined (marked rows) (acknowledges s (marked rows) e) d k
+  marks-more there marks d k l = marks d k ∙ ap (λ (o : Option Sent). joined (marked rows) o d k) (sym (acknowledges-here s e (marked rows) x only good there))
+
+  pub unfinished-more : answer ≡ cond (list_all (λ y. marked later y.drone y.packet) (all_packets s)) Done Going →
+      list_all (λ y. marked later y.drone y.packet) (all_packets s) ≡ false → answer ≡ ended_for s e (find (λ y. ends_for s (marked later) e y) (all_packets s))
+  unfinished-more is some =
       is ∙ ap (λ (b : Bool). cond b Done Going) some
       ∙ sym (ap (ended_for s e)
-      (ends-none s e (marked later) x only (ap (λ (r : Reply). is_end r && counts_for s (marked later) x.drone x.packet && not (marked later x.drone x.packet)) good)));
-  sent = sends;
-}
+      (ends-none s e (marked later) x only (ap (λ (r : Reply). is_end r && counts_for s (marked later) x.drone x.packet && not (marked later x.drone x.packet)) good)))

@@ -1,19 +1,22 @@
 -- What holds of each row, and the words of private functions. No public contract cites this file.
-use Rattle.std.specs.Prelude.{◌≡◌, ◌≢◌, ◌⊎◌, ℕ, ◌+◌, ◌<◌, ◌≤◌, true, false, ◌==◌, if◌then◌else◌, List, [], ◌∷◌, length, map, Option, Some, None, Result, All}
+use Rattle.std.specs.Prelude.{◌≡◌, ◌≢◌, ◌⊎◌, ℕ, ◌+◌, ◌<◌, ◌≤◌, true, false, not, ◌==◌, if◌then◌else◌, List, [], ◌∷◌, length, map, filter, find, Option, Some, None, Result, All}
 use Rattle.std.specs.List.{range_with_len, list_all, flat_map}
 use Rattle.crtp_packets.specs.declared.reading.PacketFault.{PacketFault}
 use Rattle.crtp_packets.specs.declared.reading.Up.{Up}
+use Rattle.upload_model.specs.declared.events.Event.{Event}
 use Rattle.upload_model.specs.declared.events.Phase.{Phase}
 use Rattle.upload_model.specs.declared.events.Phase.TheVariants.{Loading, Reading, Starting}
+use Rattle.upload_model.specs.declared.events.Progress.{Progress}
+use Rattle.upload_model.specs.declared.events.Progress.TheVariants.{Done}
 use Rattle.upload_model.specs.declared.events.Reply.TheVariants.{Silent}
 use Rattle.upload_model.specs.declared.limits.TheConstants.{TICKS_TO_GIVE_UP}
 use Rattle.upload_model.specs.declared.events.Sent.{Sent}
 use Rattle.upload_model.specs.Sessions.{Upload, drone_count, packet_count, first_of}
 use Rattle.upload_model.specs.Replies.{reply_in}
-use Rattle.upload_model.specs.Hosts.{Packets, all_settled, allowed, all_packets, sent_to}
+use Rattle.upload_model.specs.Hosts.{Packets, all_settled, phase_of, allowed, flight_after, includes, acknowledges, joined, all_packets, sent_to, ended_for, ends_for, if_going}
 use Rattle.upload_core.specs.declared.row.InFlight.{InFlight}
 use Rattle.upload_core.specs.declared.row.Row.{Row}
-use Rattle.upload_core.specs.Rows.{packets_in, is_marked, row_at, marked, window_at, count_in}
+use Rattle.upload_core.specs.Rows.{packets_in, is_marked, row_at, marked, window_at, count_in, counted}
 
 -- Numbers that rise, from a to b - 1 at most.
 abbrev pub IsBetween : ℕ → ℕ → List ℕ → Type 0
@@ -85,3 +88,18 @@ pub record IsStarting (s : Upload) (d : ℕ) (row : Row) : Type 0 where
 abbrev pub IsFor : Upload → ℕ → Result Up PacketFault → Option ℕ → Type 0
 IsFor s d m None = (j : ℕ) → j < packet_count s d → reply_in s d j m ≡ Silent
 IsFor s d m (Some k) = (k < packet_count s d) × ((j : ℕ) → j < packet_count s d → j ≢ k → reply_in s d j m ≡ Silent)
+
+-- What a host makes of an answer while the upload is going: the phase and the rows that it comes to, what
+-- it has marked and counted, how far the upload is, and what is sent.
+pub record Hears (s : Upload) (e : Event) (before : List Row) (p : Phase) (later : List Row) (answer : Progress) (out : List Sent) : Type 0 where
+  pub rows : RowsStand s p later
+  pub phase : p ≡ phase_of s (marked later)
+  pub marks : (d k : ℕ) → d < drone_count s → marked later d k ≡ joined (marked before) (acknowledges s (marked before) e) d k
+  pub counts : (x : Sent) → includes (flight_after s (marked later)) x ≡ true →
+      counted later x.drone x.packet ≡ (if includes (flight_after s (marked before)) x then counted before x.drone x.packet else 0)
+  pub low : IsLow before → IsLow later
+  pub len : length later ≡ length before
+  pub finished : list_all (λ x. marked later x.drone x.packet) (all_packets s) ≡ true → answer ≡ Done
+  pub unfinished : list_all (λ x. marked later x.drone x.packet) (all_packets s) ≡ false →
+      answer ≡ ended_for s e (find (λ x. ends_for s (marked later) e x) (all_packets s))
+  pub sent : out ≡ if_going answer (filter (λ x. not (includes (flight_after s (marked before)) x)) (flight_after s (marked later)))

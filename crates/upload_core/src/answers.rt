@@ -1,6 +1,6 @@
 //! An answer that the host hears.
 
-ghost use Rattle.std.specs.Prelude.{◌≡◌, ◌≢◌, ℕ, ◌+◌, ◌*◌, ◌<◌, ◌≤◌, ◌==◌, ◌&&◌, ◌||◌, not, if◌then◌else◌, Bool, true, false, List, [], ◌∷◌, ◌++◌, length, filter, find, All, IfSome, IfNone, Ok, Some, None};
+ghost use Rattle.std.specs.Prelude.{◌≡◌, ◌≢◌, ℕ, ◌+◌, ◌*◌, ◌<◌, ◌≤◌, ◌==◌, ◌&&◌, ◌||◌, not, if◌then◌else◌, Bool, true, false, List, [], ◌∷◌, ◌++◌, length, filter, All, IfSome, IfNone, Ok, Some, None};
 ghost use Rattle.std.specs.List.{range_with_len, list_all, list_any};
 ghost use Rattle.upload_model.specs.declared.events.Event.{Event};
 ghost use Rattle.upload_model.specs.declared.events.Sent.{Sent};
@@ -8,9 +8,9 @@ ghost use Rattle.upload_model.specs.Sessions.{drone_count, write_count, load_cou
 ghost use Rattle.crtp_packets.specs.Chunks.{chunk_start};
 ghost use Rattle.upload_model.specs.Replies as replies;
 ghost use Rattle.upload_model.specs.Replies.{ReadBack, status_in, read_in, read_reply, reply_in};
-ghost use Rattle.upload_model.specs.Hosts.{Packets, phase_of, flight_after, joined, acknowledges, sent_to, all_packets, counts as counts_for, ends_for, ended_for, includes as includes_sent, if_going};
+ghost use Rattle.upload_model.specs.Hosts.{Packets, phase_of, flight_after, sent_to, all_packets, counts as counts_for, includes as includes_sent, if_going};
 ghost use Rattle.upload_core.specs.Rows.{among, window_at, is_marked, row_at, marked, counted};
-ghost use Rattle.upload_core.specs.Steps.{RowsStand, IsFor, IsLow};
+ghost use Rattle.upload_core.specs.Steps.{RowsStand, IsFor, IsLow, Hears};
 
 use crate::row::Row;
 use crate::rows::{Out, advance, is_settled, put_flight, put_news};
@@ -368,23 +368,7 @@ pub fn hear(
     requires rows { RowsStand session.now phase.old rows.old }
     requires phase { phase.old ≡ phase_of session.now (marked rows.old) }
     requires going { list_all (λ x. marked rows.old x.drone x.packet) (all_packets session.now) ≡ false }
-    ensures rows { RowsStand session.now phase.new rows.new }
-    ensures phase { phase.new ≡ phase_of session.now (marked rows.new) }
-    ensures marks { (d k : ℕ) → d < drone_count session.now → marked rows.new d k
-        ≡ joined (marked rows.old) (acknowledges session.now (marked rows.old) (Event.Up drone packet.now)) d k }
-    ensures counts { (x : Sent) → includes_sent (flight_after session.now (marked rows.new)) x ≡ true →
-        counted rows.new x.drone x.packet
-        ≡ (if includes_sent (flight_after session.now (marked rows.old)) x then counted rows.old x.drone x.packet else 0) }
-    ensures low { IsLow rows.old → IsLow rows.new }
-    ensures len { length rows.new ≡ length rows.old }
-    ensures finished { list_all (λ x. marked rows.new x.drone x.packet) (all_packets session.now) ≡ true →
-        result ≡ Progress.Done }
-    ensures unfinished { list_all (λ x. marked rows.new x.drone x.packet) (all_packets session.now) ≡ false →
-        result ≡ ended_for session.now (Event.Up drone packet.now)
-        (find (λ x. ends_for session.now (marked rows.new) (Event.Up drone packet.now) x) (all_packets session.now)) }
-    ensures sent { out.new.items ≡ if_going result
-        (filter (λ x. not (includes_sent (flight_after session.now (marked rows.old)) x))
-        (flight_after session.now (marked rows.new))) }
+    ensures { Hears session.now (Event.Up drone packet.now) rows.old phase.new rows.new result out.new.items }
 {
     out.clear();
     let from = drone as usize;

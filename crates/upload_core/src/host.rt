@@ -11,7 +11,7 @@ ghost use Rattle.upload_core.specs.Rows.{bit, is_marked, IsWord, cursor_of};
 
 use crate::answers::hear;
 use crate::row::Row;
-use crate::rows::{Out, first_rows, put_flight, tick};
+use crate::rows::{Out, first_flight, first_rows, tick};
 use crate::session::{MOST_PACKETS, Session};
 use crtp_packets::PACKET_BYTES;
 use std::alloc::{AllocError, Global};
@@ -94,13 +94,12 @@ impl Host {
         &self.session
     }
 
-    /// Puts into `out` what is in flight before any event, of a host to which nothing has happened.
+    /// Puts into `out` what is in flight before any event, whatever has happened since.
     pub fn first(&self, out: &mut Out)
-        requires { HostStandsFor (view_of self.now) [] }
         ensures sent { out.new.items ≡ flight self.now.session [] }
         ensures known { All (IsPacketOf self.now.session) out.new.items }
     {
-        put_flight(self.rows.as_slice(), out);
+        first_flight(&self.session, out);
     }
 
     /// What the upload has come to with this event. `out` is replaced by what is to be sent now. After

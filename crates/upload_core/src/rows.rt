@@ -3,7 +3,7 @@
 ghost use Rattle.std.specs.Prelude.{◌≡◌, ◌≢◌, ℕ, ◌+◌, ◌-◌, ◌*◌, ◌<◌, ◌≤◌, ◌==◌, ◌||◌, if◌then◌else◌, true, false, List, [], ◌∷◌, ◌++◌, length, map, find, All, IfOk};
 ghost use Rattle.std.specs.List.{range_with_len, list_all};
 ghost use Rattle.upload_model.specs.Sessions.{drone_count, first_of, count_of};
-ghost use Rattle.upload_model.specs.Hosts.{phase_of, sent_to, gave_up, if_going};
+ghost use Rattle.upload_model.specs.Hosts.{phase_of, flight, sent_to, gave_up, if_going};
 ghost use Rattle.upload_core.specs.Rows.{packets_in, is_marked, row_at, marked, window_at, counted};
 ghost use Rattle.upload_core.specs.Steps.{older_row, IsRow, RowsStand, IsBegun, IsStarting, in_windows};
 
@@ -78,6 +78,17 @@ pub fn put_flight(rows: &[Row], out: &mut Out)
     out.clear();
     for drone in 0..rows.len() {
         put_window(out, drone, rows[drone].window.as_slice());
+    }
+}
+
+/// What is in flight before any event: of each drone what its first row has.
+pub fn first_flight(session: &Session, out: &mut Out)
+    ensures { out.new.items ≡ flight session.now [] }
+{
+    out.clear();
+    for drone in 0..session.drones() {
+        let row = first_row(session, drone);
+        put_window(out, drone, row.window.as_slice());
     }
 }
 

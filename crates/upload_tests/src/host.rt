@@ -191,6 +191,9 @@ fn a_packet_is_refused(rt: HostRuntime) -> Result<(), Fail> {
         assert!(rt; out.is_empty());
     }
     assert!(rt; host.event(Event::Tick, &mut out) == ended);
+    // What is in flight before any event doesn't depend on what came later.
+    host.first(&mut out);
+    assert!(rt; out.as_slice() == first.as_slice());
     Ok(())
 }
 

@@ -264,7 +264,7 @@ fn the_largest_upload(rt: HostRuntime) -> Result<(), Fail> {
 }
 
 #[test]
-fn schedules_are_judged(rt: HostRuntime) -> Result<(), Fail> {
+fn the_first_faulty_alteration_is_named(rt: HostRuntime) -> Result<(), Fail> {
     let alloc = rt.alloc();
     let names = [name_of(b"solo"), name_of(b"duo")];
     let faults: [(&[u8], u32); 10] = [
@@ -283,6 +283,14 @@ fn schedules_are_judged(rt: HostRuntime) -> Result<(), Fail> {
         let read = read_schedule(alloc, true, text, &names);
         assert!(rt; matches!(read, Err(ScheduleFault::Line { line: l }) if l == line));
     }
+    let fault = ScheduleFault::Line { line: 1 };
+    assert!(rt; matches!(read_schedule(alloc, true, b"alter a 0 0", &[]), Err(f) if f == fault));
+    Ok(())
+}
+
+#[test]
+fn alterations_are_read(rt: HostRuntime) -> Result<(), Fail> {
+    let names = [name_of(b"solo"), name_of(b"duo")];
     let wanted = [
         WorldEvent::Tick,
         WorldEvent::Alter {
@@ -299,11 +307,9 @@ fn schedules_are_judged(rt: HostRuntime) -> Result<(), Fail> {
         },
     ];
     let text = b"tick\nalter duo 4095 255\nhear solo 9\n\ntake duo 01\r\nalter solo 0000 000";
-    match read_schedule(alloc, true, text, &names) {
+    match read_schedule(rt.alloc(), true, text, &names) {
         Ok(events) => assert!(rt; events.as_slice() == wanted.as_slice()),
         Err(_) => assert!(rt; false),
     }
-    let fault = ScheduleFault::Line { line: 1 };
-    assert!(rt; matches!(read_schedule(alloc, true, b"alter a 0 0", &[]), Err(f) if f == fault));
     Ok(())
 }

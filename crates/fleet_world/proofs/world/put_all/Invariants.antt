@@ -1,11 +1,12 @@
 -- What holds whenever a loop of `put_all` begins a turn.
 use Rattle.std.proofs.Common.{◌≡◌, ℕ, ◌-◌, ◌++◌, take, length}
-use Rattle.upload_model.specs.Worlds.{packets_for}
-use Rattle.fleet_world.specs.Mail.{rows_of, row_of, HasRoom}
+use Rattle.fleet_world.specs.Traffics.{sent_of, given_of, row_of, numbers_for, HasRoom}
 use Rattle.fleet_world.proofs.world.put_all.Given as goal
 
 abbrev pub invariant-loop-x : goal.invariant-loop-x
-invariant-loop-x l =
-    (length l.rows ≡ length l.fn.rows)
-    × ((d : ℕ) → row_of (rows_of l.rows) d ≡ row_of (rows_of l.fn.rows) d ++ packets_for l.session (take l.x-index l.out) d)
-    × HasRoom l.rows (length l.out - l.x-index)
+invariant-loop-x l = record {
+  len : length l.traffic ≡ length l.fn.traffic;
+  given : given_of l.traffic ≡ given_of l.fn.traffic;
+  sent : (d : ℕ) → row_of (sent_of l.traffic) d ≡ row_of (sent_of l.fn.traffic) d ++ numbers_for (take l.x-index l.out) d;
+  room : HasRoom l.traffic (length l.out - l.x-index);
+}

@@ -1,32 +1,56 @@
 -- Why `happen` keeps its contract, at the places where the check needs to be told.
-use Rattle.std.proofs.Common.{◌≡◌, ◌∙◌, ◌++◌, ℕ, List, ap, sym, subst, arith}
+use Rattle.std.proofs.Common.{◌≡◌, ◌∙◌, ◌++◌, ℕ, List, length, ap, sym, subst, arith}
 use Rattle.std.specs.Vec.{with_items}
 use Rattle.std.proofs.lemmas.List.{with_items_is}
-use Rattle.upload_model.specs.Sessions.{Upload}
-use Rattle.upload_model.specs.Worlds.{packets_for}
+use Rattle.upload_model.specs.Sessions.{Upload, drone_count}
 use Rattle.upload_model.specs.Worlds.{host_event}
 use Rattle.upload_model.specs.declared.events.Sent.{Sent}
-use Rattle.fleet_world.specs.Mail.{Row, rows_of, row_of}
+use Rattle.fleet_world.specs.declared.traffic.Traffic.{Traffic}
+use Rattle.fleet_world.specs.Traffics.{sent_of, given_of, row_of, numbers_for, AreNumbersOf}
 use Rattle.fleet_world.specs.WorldState.{WorldState, WorldStandsAt}
-use Rattle.fleet_world.proofs.Points.{stands-host_event}
+use Rattle.fleet_world.proofs.Points.{AfterPut, known-put, stands-host_event}
 use Rattle.fleet_world.proofs.world.World.happen.Goals as goal
+use Rattle.fleet_world.proofs.world.World.happen.Goals.{After-put_all}
+
+-- the traffic before the packets that are sent now are put, and after
+before : (c : After-put_all) → c.as_mut_slice-2.result.now ≡ c.make_room.new.traffic
+before c =
+    c.as_mut_slice-2.ensures.value
+    ∙ with_items_is c.self.inside.traffic c.make_room.new.traffic (c.make_room.ensures.len ∙ ap (λ (traffic : List Traffic). length traffic) c.as_mut_slice.ensures.value ∙ (omega arith))
+
+after : (c : After-put_all) → (with_items (with_items c.self.inside.traffic c.make_room.new.traffic) c.put_all.new.traffic).items ≡ c.put_all.new.traffic
+after c = with_items_is (with_items c.self.inside.traffic c.make_room.new.traffic) c.put_all.new.traffic (c.put_all.ensures.len ∙ (omega arith))
+
+sent : (c : After-put_all) → AfterPut c.event-progress.new.out.items (sent_of c.self.inside.traffic.items) (sent_of c.put_all.new.traffic)
+sent c d =
+    c.put_all.ensures.sent d
+    ∙ ap (λ (traffic : List Traffic). row_of (sent_of traffic) d ++ numbers_for c.as_slice.result.now d) (before c)
+    ∙ ap (λ (rows : List (List ℕ)). row_of rows d ++ numbers_for c.as_slice.result.now d) (c.make_room.ensures.sent ∙ ap sent_of c.as_mut_slice.ensures.value)
+    ∙ ap (λ (xs : List Sent). row_of (sent_of c.self.inside.traffic.items) d ++ numbers_for xs d) c.as_slice.ensures.value
+
+given : (c : After-put_all) → given_of c.put_all.new.traffic ≡ given_of c.self.inside.traffic.items
+given c = c.put_all.ensures.given ∙ ap given_of (before c) ∙ c.make_room.ensures.given ∙ ap given_of c.as_mut_slice.ensures.value
+
+pub invariant_of-self-2 : goal.invariant_of-self-2
+invariant_of-self-2 c =
+    let w = (goal.at.invariant_of-self-2 c).After-put_all in
+    let session : c.event-progress.new.self.session ≡ c.self.inside.host.session = c.event-progress.ensures.session in (
+      c.self.invariant.0 ∙ sym (ap drone_count session),
+      ap (λ (traffic : List Traffic). length traffic) (after w) ∙ c.put_all.ensures.len ∙ ap (λ (traffic : List Traffic). length traffic) (before w) ∙ c.make_room.ensures.len
+          ∙ ap (λ (traffic : List Traffic). length traffic) c.as_mut_slice.ensures.value ∙ c.self.invariant.1 ∙ sym (ap drone_count session),
+      subst (λ (traffic : List Traffic). AreNumbersOf c.event-progress.new.self.session (sent_of traffic)) (sym (after w))
+          (subst (λ (s : Upload). AreNumbersOf s (sent_of c.put_all.new.traffic)) (sym session)
+          (known-put c.self.inside.host.session c.event-progress.new.out.items (sent_of c.self.inside.traffic.items) (sent_of c.put_all.new.traffic)
+          c.event-progress.ensures.known (sent w) c.self.invariant.2)),
+    )
 
 pub returns-clause-stands : goal.returns-clause-stands
 returns-clause-stands c s w at =
-    let v : WorldState = record { host = c.self.inside.host; drones = c.self.inside.drones.items; sent = rows_of c.self.inside.sent.items; given = rows_of c.self.inside.given.items; progress = c.self.inside.progress } in
-    let here : WorldStandsAt v s w = subst (λ (u : WorldState). WorldStandsAt u s w) (sym c.self.view_is) at in
-    let room_rows : (with_items c.self.inside.sent c.make_room.new.rows).items ≡ c.make_room.new.rows
-    = with_items_is c.self.inside.sent c.make_room.new.rows (c.make_room.ensures.len ∙ (omega arith)) in
-    let put_rows : (with_items (with_items c.self.inside.sent c.make_room.new.rows) c.put_all.new.rows).items ≡ c.put_all.new.rows
-    = with_items_is (with_items c.self.inside.sent c.make_room.new.rows) c.put_all.new.rows (c.put_all.ensures.len ∙ (omega arith)) in
-    let same : rows_of c.as_mut_slice-2.result.now ≡ rows_of c.self.inside.sent.items
-    = ap rows_of (c.as_mut_slice-2.ensures.value ∙ room_rows) ∙ c.make_room.ensures.same ∙ ap rows_of c.as_mut_slice.ensures.value in
-    let after = stands-host_event v s w c.args.e c.event-progress.new.self c.event-progress.new.out.items (rows_of c.put_all.new.rows) c.event-progress.result here c.event-progress.ensures.session
-    (c.event-progress.ensures.stands w.heard here.host) (c.event-progress.ensures.sent w.heard here.host)
-    (λ d. c.put_all.ensures.packets d
-    ∙ ap (λ (u : Upload). row_of (rows_of c.as_mut_slice-2.result.now) d ++ packets_for u c.as_slice.result.now d) c.session.ensures
-    ∙ ap (λ (rows : List (List (List ℕ))). row_of rows d ++ packets_for c.event-progress.new.self.session c.as_slice.result.now d) same
-    ∙ ap (λ (xs : List Sent). row_of (rows_of c.self.inside.sent.items) d ++ packets_for c.event-progress.new.self.session xs d) c.as_slice.ensures.value)
-    (c.event-progress.ensures.answer w.heard here.host) in
-    subst (λ (rows : List Row). WorldStandsAt (record { host = c.event-progress.new.self; drones = c.self.inside.drones.items; sent = rows_of rows; given = rows_of c.self.inside.given.items; progress = c.event-progress.result }) s (host_event s w c.args.e))
-    (sym put_rows) after
+    let u = (goal.at.returns-clause-stands c).After-put_all in
+    let v : WorldState = record { host = c.self.inside.host; drones = c.self.inside.drones.items; sent = sent_of c.self.inside.traffic.items; given = given_of c.self.inside.traffic.items; progress = c.self.inside.progress } in
+    let here : WorldStandsAt v s w = subst (λ (x : WorldState). WorldStandsAt x s w) (sym c.self.view_is) at in
+    subst (λ (traffic : List Traffic). WorldStandsAt (record { host = c.event-progress.new.self; drones = c.self.inside.drones.items; sent = sent_of traffic; given = given_of traffic; progress = c.event-progress.result }) s (host_event s w c.args.e))
+    (sym (after u))
+    (stands-host_event v s w c.args.e c.event-progress.new.self c.event-progress.new.out.items (sent_of c.put_all.new.traffic) (given_of c.put_all.new.traffic) c.event-progress.result
+    here c.event-progress.ensures.session (c.event-progress.ensures.stands w.heard here.host) (c.event-progress.ensures.sent w.heard here.host) (sent u) (given u)
+    (c.event-progress.ensures.answer w.heard here.host))

@@ -1,39 +1,66 @@
 -- Why `take` keeps its contract, at the places where the check needs to be told.
-use Rattle.std.proofs.Common.{◌≡◌, ◌∙◌, ◌++◌, ◌<◌, ℕ, List, ap, sym, subst, arith, length}
-use Rattle.std.specs.Prelude.{slice_set}
-use Rattle.std.specs.Vec.{with_items}
-use Rattle.std.proofs.lemmas.List.{with_items_is}
+use Rattle.std.proofs.Common.{◌≡◌, ◌∙◌, ◌++◌, ◌<◌, ℕ, List, set, refl, ap, sym, subst, arith, length}
+use Rattle.std.specs.Prelude.{All}
+use Rattle.std.proofs.lemmas.List.{length-set, set-get_or}
 use Rattle.std.proofs.lemmas.Option.{slice_get_read}
 use Rattle.upload_model.specs.Drones.{DroneState, handled}
-use Rattle.upload_model.specs.Sessions.{Upload, drone_count}
-use Rattle.upload_model.specs.Worlds.{took, option_list}
+use Rattle.upload_model.specs.Sessions.{Upload, drone_count, packet_count}
+use Rattle.upload_model.specs.Worlds.{option_list}
 use Rattle.firmware_memory.specs.Shown.{shown}
-use Rattle.fleet_world.specs.Mail.{Row, rows_of, row_of}
-use Rattle.fleet_world.specs.WorldState.{state_at, state_of}
-use Rattle.fleet_world.specs.WorldState.{WorldState, WorldStandsAt}
-use Rattle.fleet_world.proofs.Points.{stands-took}
+use Rattle.fleet_world.specs.declared.traffic.Traffic.{Traffic}
+use Rattle.fleet_world.specs.Traffics.{sent_of, given_of, row_of}
+use Rattle.fleet_world.specs.WorldState.{state_at, state_of, WorldState, WorldStandsAt}
+use Rattle.fleet_world.proofs.RowLemmas.{row-kept, rows-set_kept, row-set_same, row-set_other}
+use Rattle.fleet_world.proofs.Points.{stands-took, on_ok, on_err}
 use Rattle.fleet_world.proofs.world.World.take.Goals as goal
 
+-- a drone of the session has its place
+inside : (xs : List Traffic) (d n : ℕ) → length xs ≡ n → d < n → d < length xs
+inside xs d n same l = omega arith
+
+pub invariant_of-self : goal.invariant_of-self
+invariant_of-self c =
+    let known = inside c.self.inside.traffic.items c.args.drone (drone_count c.self.inside.host.session) c.self.invariant.1
+    (subst (λ (v : WorldState). c.args.drone < drone_count v.host.session) (sym c.self.view_is) c.requires.known) in
+    let t : Traffic = record { sent = c.index_mut.result.now.sent; given = c.take.new.self } in (
+      length-set c.self.inside.drones.items c.args.drone c.take.new.drone ∙ c.self.invariant.0,
+      length-set c.self.inside.traffic.items c.args.drone t ∙ c.self.invariant.1,
+      (λ d. subst (λ (rows : List (List ℕ)). All (λ k. k < packet_count c.self.inside.host.session d) (row_of rows d))
+          (sym (rows-set_kept (λ (x : Traffic). x.sent.items) c.self.inside.traffic.items c.args.drone t c.index_mut.result.now known
+          (ap (λ (x : Traffic). x.sent.items) c.index_mut.ensures.value)))
+          (c.self.invariant.2 d)),
+    )
+
 pub returns-clause-stands : goal.returns-clause-stands
-returns-clause-stands c s w at =
-    let v : WorldState = record { host = c.self.inside.host; drones = c.self.inside.drones.items; sent = rows_of c.self.inside.sent.items; given = rows_of c.self.inside.given.items; progress = c.self.inside.progress } in
-    let here : WorldStandsAt v s w = subst (λ (u : WorldState). WorldStandsAt u s w) (sym c.self.view_is) at in
-    let l : c.args.drone < drone_count s = subst (λ (u : Upload). c.args.drone < drone_count u) at.session c.requires.known in
-    let count = here.count in
-    let inside : c.args.drone < length c.self.inside.drones.items = omega arith in
-    let found : state_at c.self.inside.drones.items c.args.drone ≡ shown c.index_mut-taker.result.now
-    = ap state_of (slice_get_read c.self.inside.drones.items (length c.self.inside.drones.items) c.args.drone c.index_mut-taker.result.now (λ i. length c.self.inside.drones.items) inside c.index_mut-taker.ensures.value) in
-    let room_rows : (with_items c.self.inside.given c.make_room.new.rows).items ≡ c.make_room.new.rows
-    = with_items_is c.self.inside.given c.make_room.new.rows (c.make_room.ensures.len ∙ (omega arith)) in
-    let put_rows : (with_items (with_items c.self.inside.given c.make_room.new.rows) c.put_answer.new.rows).items ≡ c.put_answer.new.rows
-    = with_items_is (with_items c.self.inside.given c.make_room.new.rows) c.put_answer.new.rows (c.put_answer.ensures.len ∙ (omega arith)) in
-    let same : rows_of c.as_mut_slice-2.result.now ≡ rows_of c.self.inside.given.items
-    = ap rows_of (c.as_mut_slice-2.ensures.value ∙ room_rows) ∙ c.make_room.ensures.same ∙ ap rows_of c.as_mut_slice.ensures.value in
-    let after = stands-took v s w c.args.drone c.args.packet.now c.handle-answer.new.self c.handle-answer.result (rows_of c.put_answer.new.rows) here l
-    (c.handle-answer.ensures.state ∙ ap (λ (y : DroneState). (handled y c.args.packet.now).drone) (sym found))
-    (c.handle-answer.ensures.answer ∙ ap (λ (y : DroneState). (handled y c.args.packet.now).answer) (sym found))
-    (c.put_answer.ensures.here ∙ ap (λ (rows : List (List (List ℕ))). row_of rows c.args.drone ++ option_list c.handle-answer.result) same)
-    (λ i other. c.put_answer.ensures.others i other ∙ ap (λ (rows : List (List (List ℕ))). row_of rows i) same) in
-    subst (λ (rows : List Row). WorldStandsAt (record { host = c.self.inside.host; drones = slice_set c.self.inside.drones.items c.args.drone c.handle-answer.new.self; sent = rows_of c.self.inside.sent.items; given = rows_of rows; progress = c.self.inside.progress })
-    s (took w c.args.drone (handled (w.drones c.args.drone) c.args.packet.now)))
-    (sym put_rows) after
+returns-clause-stands c =
+    on_ok c.take.result _ _ c.take.ensures.ok (λ h s w at.
+    let v : WorldState = record { host = c.self.inside.host; drones = c.self.inside.drones.items; sent = sent_of c.self.inside.traffic.items; given = given_of c.self.inside.traffic.items; progress = c.self.inside.progress } in
+    let here : WorldStandsAt v s w = subst (λ (x : WorldState). WorldStandsAt x s w) (sym c.self.view_is) at in
+    let l : c.args.drone < drone_count s = subst (λ (x : Upload). c.args.drone < drone_count x) at.session c.requires.known in
+    let known = inside c.self.inside.traffic.items c.args.drone (drone_count s) (c.self.invariant.1 ∙ ap drone_count here.session) l in
+    let t : Traffic = record { sent = c.index_mut.result.now.sent; given = c.take.new.self } in
+    let found : state_at c.self.inside.drones.items c.args.drone ≡ shown c.index_mut-2.result.now
+    = ap state_of (slice_get_read c.self.inside.drones.items (length c.self.inside.drones.items) c.args.drone c.index_mut-2.result.now (λ i. length c.self.inside.drones.items)
+    (let count = here.count in omega arith) c.index_mut-2.ensures.value) in
+    stands-took v s w c.args.drone c.args.packet.now c.take.new.drone (handled (state_at v.drones c.args.drone) c.args.packet.now).answer
+    (sent_of (set c.self.inside.traffic.items c.args.drone t)) (given_of (set c.self.inside.traffic.items c.args.drone t)) here l
+    (rows-set_kept (λ (x : Traffic). x.sent.items) c.self.inside.traffic.items c.args.drone t c.index_mut.result.now known (ap (λ (x : Traffic). x.sent.items) c.index_mut.ensures.value))
+    (h.0 ∙ ap (λ (y : DroneState). (handled y c.args.packet.now).drone) (sym found)) refl
+    (row-set_same (λ (x : Traffic). x.given) c.self.inside.traffic.items c.args.drone t known ∙ h.1
+    ∙ ap (λ (gs : List (List ℕ)). gs ++ option_list (handled (shown c.index_mut-2.result.now) c.args.packet.now).answer)
+    (ap (λ (x : Traffic). x.given) c.index_mut.ensures.value ∙ sym (row-kept (λ (x : Traffic). x.given) c.self.inside.traffic.items c.args.drone c.index_mut.result.now known))
+    ∙ ap (λ (y : DroneState). row_of v.given c.args.drone ++ option_list (handled y c.args.packet.now).answer) (sym found))
+    (λ i other. row-set_other (λ (x : Traffic). x.given) c.self.inside.traffic.items c.args.drone i t other))
+
+pub returns-clause-err : goal.returns-clause-err
+returns-clause-err c =
+    on_err c.take.result _ _ c.take.ensures.err (λ h.
+    let known = inside c.self.inside.traffic.items c.args.drone (drone_count c.self.inside.host.session) c.self.invariant.1
+    (subst (λ (v : WorldState). c.args.drone < drone_count v.host.session) (sym c.self.view_is) c.requires.known) in
+    let t : Traffic = record { sent = c.index_mut.result.now.sent; given = c.take.new.self } in
+    let drones_kept = ap (set c.self.inside.drones.items c.args.drone) (h.0 ∙ c.index_mut-2.ensures.value) ∙ set-get_or c.self.inside.drones.items c.args.drone c.index_mut-2.result.now in
+    let sent_kept = rows-set_kept (λ (x : Traffic). x.sent.items) c.self.inside.traffic.items c.args.drone t c.index_mut.result.now known
+    (ap (λ (x : Traffic). x.sent.items) c.index_mut.ensures.value) in
+    let given_kept = rows-set_kept (λ (x : Traffic). x.given) c.self.inside.traffic.items c.args.drone t c.index_mut.result.now known
+    (h.1 ∙ ap (λ (x : Traffic). x.given) c.index_mut.ensures.value) in
+    (λ i. record { host = c.self.inside.host; drones = drones_kept i; sent = sent_kept i; given = given_kept i; progress = c.self.inside.progress }) ∙ c.self.view_is)

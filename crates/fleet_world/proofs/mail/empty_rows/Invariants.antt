@@ -1,7 +1,0 @@
--- What holds whenever a loop of `empty_rows` begins a turn.
-use Rattle.std.proofs.Common.{◌≡◌, [], replicate}
-use Rattle.fleet_world.specs.Mail.{rows_of}
-use Rattle.fleet_world.proofs.mail.empty_rows.Given as goal
-
-abbrev pub invariant-loop : goal.invariant-loop
-invariant-loop l = rows_of l.rows.items ≡ replicate l.counter []

@@ -1,0 +1,7 @@
+-- What holds whenever the loop of `first_flight` begins a turn.
+use Rattle.std.proofs.Common.{◌≡◌, ◌≤◌, ◌*◌, length}
+use Rattle.upload_core.proofs.Beginning.{first_windows}
+use Rattle.upload_core.proofs.rows.first_flight.Given as goal
+
+abbrev pub invariant-loop-drone : goal.invariant-loop-drone
+invariant-loop-drone l = (l.out.items ≡ first_windows l.session l.drone) × (length l.out.items ≤ 4 * l.drone)
