@@ -1,5 +1,5 @@
 -- No two drones of a show without a fault have one name.
-use Rattle.std.proofs.Common.{◌≡◌, Bool, true, false, refl, sym, ap, ◌∙◌, List, [], ◌∷◌, ◌++◌, Option, None}
+use Rattle.std.proofs.Common.{◌≡◌, ℕ, zero, suc, ◌<◌, Bool, true, false, refl, sym, ap, ◌∙◌, List, [], ◌∷◌, ◌++◌, length, get_or, arith, Option, None}
 use Rattle.std.specs.Prelude.{◌||◌}
 use Rattle.std.proofs.lemmas.Slice.Eq.{bytes_eq-Decides}
 use Rattle.choreo_lines.specs.Name.{Name}
@@ -27,6 +27,12 @@ or_false a b p q = rw (p, q) refl
 left_has : (xs ys : List Name) (n : Name) → has_name xs n ≡ true → has_name (xs ++ ys) n ≡ true
 left_has [] ys n has = absurd (cc)
 left_has (x ∷ xs) ys n has = by_first (same_name n x) (has_name xs n) (has_name (xs ++ ys) n) has (λ later. left_has xs ys n later)
+
+-- a name at a place is one of them
+pub place_has : (xs : List Name) (k : ℕ) (n o : Name) → k < length xs → same_name n (get_or xs k o) ≡ true → has_name xs n ≡ true
+place_has [] k n o within same = absurd (omega arith)
+place_has (x ∷ xs) zero n o within same = ap (λ b. b || has_name xs n) same
+place_has (x ∷ xs) (suc k) n o within same = or_right (same_name n x) (has_name xs n) (place_has xs k n o (omega arith) same)
 
 self_has : (xs : List Name) (n : Name) → has_name (xs ++ n ∷ []) n ≡ true
 self_has [] n = here (same_name n n) ((bytes_eq-Decides n.items n.items).1 refl)

@@ -12,14 +12,9 @@ use Rattle.choreo_reader.specs.declared.show.DroneLine.{DroneLine}
 use Rattle.cue_grid.specs.Counts.{over_at}
 use Rattle.cue_grid.specs.Faults.{drone_limit, no_drone, many_drones, too_many, no_cue, many_cues, or_else, earliest, name_faults, grid_fault}
 use Rattle.cue_grid.specs.Steps.{name_fault}
-use Rattle.cue_grid.specs.Unrolled.{GridFails}
 use Rattle.cue_grid.proofs.Earliest.{earliest_name}
 use Rattle.cue_grid.specs.declared.grid.GridFault.{GridFault}
 use Rattle.cue_grid.specs.declared.grid.GridFault.TheVariants as fault
-
-pub fails_by : (f : GridFault) (s : PlainShow) → grid_fault s ≡ Some f → GridFails f s
-fails_by fault.Memory s h = tt
-fails_by f s h = h
 
 pub few_drones : (s : PlainShow) (ds : List DroneLine) → ds ≡ s.drones → (length ds == 0) ≡ false → length ds ≤ drone_limit → None ≡ or_else (no_drone s) (many_drones s)
 few_drones s ds e n h =

@@ -3,7 +3,6 @@ use Rattle.std.proofs.Common.{◌≡◌, ℕ, zero, suc, ◌+◌, ◌-◌, ◌<�
 use Rattle.std.specs.Prelude.{◌||◌}
 use Rattle.choreo_lines.specs.Name.{Name}
 use Rattle.choreo_lines.specs.declared.parts.Act.{Act}
-use Rattle.choreo_lines.specs.declared.parts.Act.TheVariants as act
 use Rattle.choreo_lines.specs.declared.parts.Frame.{Frame}
 use Rattle.choreo_lines.specs.declared.parts.Point.{Point}
 use Rattle.choreo_reader.specs.declared.show.ActLine.{ActLine}

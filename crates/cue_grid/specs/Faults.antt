@@ -12,7 +12,7 @@ use Rattle.choreo_reader.specs.declared.show.Formation.{Formation}
 use Rattle.cue_grid.specs.Names.{has_name, has_each, has_some, has_double, names_of, formation_named, figure_named, places_in}
 use Rattle.cue_grid.specs.Counts.{over_at}
 use Rattle.cue_grid.specs.declared.grid.GridFault.{GridFault}
-use Rattle.cue_grid.specs.declared.grid.GridFault.TheVariants.{NoDrone, TooManyDrones, DoubleName, UnknownName, DoubleAct, RoleCount, NoCue, TooManyCues, Memory}
+use Rattle.cue_grid.specs.declared.grid.GridFault.TheVariants.{NoDrone, TooManyDrones, DoubleName, UnknownName, DoubleAct, RoleCount, NoCue, TooManyCues}
 
 -- the line that a fault names
 abbrev pub line_of : GridFault → ℕ
@@ -24,7 +24,6 @@ line_of (DoubleAct line) = line
 line_of (RoleCount line) = line
 line_of (NoCue line) = line
 line_of (TooManyCues line) = line
-line_of Memory = 0
 
 -- of the faults of one line the first counts
 abbrev pub fault_if : Bool → GridFault → List GridFault → List GridFault

@@ -15,7 +15,7 @@ ghost use Rattle.cue_grid.specs.Faults.{drone_faults, place_faults, one_formatio
 use crate::acted::{Acted, has_acted, has_some_acted, nobody, put_acted};
 use crate::grid::GridFault;
 use crate::lookup::Lookup;
-use crate::names::{are_drones, has_double, is_among, is_drone};
+use crate::names::{are_drones, has_double, is_drone, is_known};
 use choreo_lines::copy_of;
 use choreo_reader::{ActLine, Block, DroneLine, Figure, Formation, Name};
 use std::alloc::{AllocError, Global};
@@ -113,7 +113,7 @@ fn cue_fault(
 {
     let mut acted = nobody(alloc, show)?;
     for (i, line) in acts.iter().enumerate() {
-        if let Some(fault) = act_line_fault(show, known, &acted, line) {
+        if let Some(fault) = act_line_fault(show, known, &acted, line, i) {
             return Ok(Some(fault));
         }
         // Who has an act by the last line matters to no line after it.
@@ -124,14 +124,23 @@ fn cue_fault(
     Ok(None)
 }
 
-// The fault of a line of a cue, where some names have an act already.
-fn act_line_fault(show: &Lookup, known: &[Name], acted: &Acted, line: &ActLine) -> Option<GridFault>
+// The fault of a line of a cue, where some names have an act already and this many lines stand before it.
+fn act_line_fault(
+    show: &Lookup,
+    known: &[Name],
+    acted: &Acted,
+    line: &ActLine,
+    place: usize,
+) -> Option<GridFault>
     ensures { (names : List NameOf)
         → HaveActs (place_names show.now) acted.now names
         → result ≡ first_of (act_line_faults known.now (shown show.now).formations names line.now) }
 {
     match line {
-        ActLine::One { line, name, .. } => one_fault(show, known, acted, *line, name),
+        ActLine::One { line, name, .. } => {
+            let known = is_known(known, place, name);
+            one_fault(show, known, acted, *line, name)
+        }
         ActLine::Form {
             line,
             formation,
@@ -141,18 +150,12 @@ fn act_line_fault(show: &Lookup, known: &[Name], acted: &Acted, line: &ActLine) 
 }
 
 // The fault of a line that gives one name an act.
-fn one_fault(
-    show: &Lookup,
-    known: &[Name],
-    acted: &Acted,
-    line: u32,
-    name: &Name,
-) -> Option<GridFault>
-    ensures { result ≡ first_of (named_faults line (has_name known.now name.now)
+fn one_fault(show: &Lookup, known: bool, acted: &Acted, line: u32, name: &Name) -> Option<GridFault>
+    ensures { result ≡ first_of (named_faults line known
         (has_act (number_in (place_names show.now) name.now) acted.now.marks.items
         acted.now.others.keys name.now)) }
 {
-    if !is_among(known, name) {
+    if !known {
         Some(GridFault::UnknownName { line })
     } else if has_acted(acted, show, name) {
         Some(GridFault::DoubleAct { line })
@@ -293,7 +296,6 @@ fn line_of(fault: GridFault) -> u32
         GridFault::RoleCount { line } => line,
         GridFault::NoCue { line } => line,
         GridFault::TooManyCues { line } => line,
-        GridFault::Memory => 0,
     }
 }
 

@@ -1,6 +1,7 @@
 //! Cues written out, and what can be wrong with the names and cues of a show.
 
 use choreo_reader::{Act, DroneLine, Frame, Listed};
+use std::alloc::AllocError;
 
 /// What one drone does in a cue.
 #[derive(Clone, Copy, PartialEq, Eq, Debug)]
@@ -50,6 +51,24 @@ pub enum GridFault {
     NoCue { line: u32 },
     /// There are more than 1,000 cues; named is the first block with which there are.
     TooManyCues { line: u32 },
+}
+
+/// Why a show isn't unrolled.
+#[derive(Clone, Copy, PartialEq, Eq, Debug)]
+pub enum UnrollError {
+    /// What is wrong with its names or cues.
+    Fault { fault: GridFault },
     /// Out of memory.
     Memory,
+}
+
+impl From<AllocError> for UnrollError {
+    ghost use Rattle.std.specs.Prelude.{◌≡◌};
+    ghost use Rattle.cue_grid.specs.declared.grid.UnrollError.TheVariants.{Memory};
+
+    ghost from_gives = { λ _ e. e ≡ Memory };
+
+    fn from(_: AllocError) -> Self {
+        UnrollError::Memory
+    }
 }

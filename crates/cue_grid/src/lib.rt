@@ -17,5 +17,5 @@ mod names;
 mod unrolling;
 
 pub use frame::{apply, mirror, quarter_turn, shift};
-pub use grid::{Cue, Grid, GridFault, Job};
+pub use grid::{Cue, Grid, GridFault, Job, UnrollError};
 pub use unrolling::unroll;

@@ -19,6 +19,18 @@ pub fn is_among(names: &[Name], name: &Name) -> bool
     names.iter().any(|other| same_name(name, other))
 }
 
+/// Whether a name is one of these. It is looked for at this place first, since the lines of a cue mostly stand in the
+/// order of the drones.
+#[tactic(auto, using(crate::proofs::Distinct::place_has))]
+pub fn is_known(names: &[Name], place: usize, name: &Name) -> bool
+    ensures { result ≡ has_name names.now name.now }
+{
+    if place < names.len() && same_name(name, &names[place]) {
+        return true;
+    }
+    is_among(names, name)
+}
+
 /// Whether a name is that of one of these drones.
 pub fn is_drone(drones: &[DroneLine], name: &Name) -> bool
     ensures { result ≡ has_name (names_of drones.now) name.now }

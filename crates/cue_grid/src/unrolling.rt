@@ -14,7 +14,7 @@ ghost use Rattle.cue_grid.specs.Grids.{IsGrid};
 use crate::count::over_line;
 use crate::cues::cues_of;
 use crate::faults::name_fault;
-use crate::grid::{Grid, GridFault};
+use crate::grid::{Grid, GridFault, UnrollError};
 use crate::lookup::Lookup;
 use choreo_lines::{DRONE_LIMIT, copy_of};
 use choreo_reader::{DroneLine, Listed, Show};
@@ -23,17 +23,23 @@ use std::alloc::{AllocError, Global};
 /// The cues of a show in order, repeats written out and figures played by their drones, or its first fault. A drone
 /// without an act in a cue holds. What is returned is a valid grid, whose starts have names as the language has them, no two of
 /// them the same.
-pub fn unroll(alloc: Global, show: &Show) -> Result<Grid, GridFault>
+pub fn unroll(alloc: Global, show: &Show) -> Result<Grid, UnrollError>
     requires { IsValid (plain show.now) }
     ensures gives { GridGives result (plain show.now) }
     ensures valid { IfOk result (λ g. IsGrid g) }
     ensures names { IfOk result (λ g. All (λ (s : DroneLine). IsName s.name) g.starts) }
     ensures distinct { IfOk result (λ g. has_double (names_of g.starts) ≡ false) }
 {
-    match Lookup::of(alloc, show) {
-        Ok(lookup) => unrolled(alloc, &lookup),
-        Err(_) => Err(GridFault::Memory),
+    let lookup = Lookup::of(alloc, show)?;
+    if let Some(fault) = first_fault(alloc, &lookup)? {
+        return Err(UnrollError::Fault { fault });
     }
+    let starts = copies_of(alloc, show.drones.as_slice())?;
+    let cues = cues_of(alloc, &lookup)?;
+    Ok(Grid {
+        starts: Listed::from_vec(starts),
+        cues: Listed::from_vec(cues),
+    })
 }
 
 // The fault of too few or too many drones.
@@ -96,34 +102,4 @@ fn copies_of(alloc: Global, drones: &[DroneLine]) -> Result<Vec<DroneLine>, Allo
         })?;
     }
     Ok(copies)
-}
-
-// The cues of a show in order, or its first fault.
-#[tactic(auto, using(crate::proofs::FirstFault::fails_by))]
-fn unrolled(alloc: Global, show: &Lookup) -> Result<Grid, GridFault>
-    requires { IsValid (shown show.now) }
-    ensures gives { GridGives result (shown show.now) }
-    ensures valid { IfOk result (λ g. IsGrid g) }
-    ensures names { IfOk result (λ g. All (λ (s : DroneLine). IsName s.name) g.starts) }
-    ensures distinct { IfOk result (λ g. has_double (names_of g.starts) ≡ false) }
-{
-    let fault = match first_fault(alloc, show) {
-        Ok(fault) => fault,
-        Err(_) => return Err(GridFault::Memory),
-    };
-    if let Some(fault) = fault {
-        return Err(fault);
-    }
-    let starts = match copies_of(alloc, show.show.drones.as_slice()) {
-        Ok(starts) => starts,
-        Err(_) => return Err(GridFault::Memory),
-    };
-    let cues = match cues_of(alloc, show) {
-        Ok(cues) => cues,
-        Err(_) => return Err(GridFault::Memory),
-    };
-    Ok(Grid {
-        starts: Listed::from_vec(starts),
-        cues: Listed::from_vec(cues),
-    })
 }

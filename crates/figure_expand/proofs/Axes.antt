@@ -8,14 +8,13 @@ use Rattle.cue_grid.specs.declared.grid.Grid.{Grid}
 use Rattle.cue_grid.specs.declared.grid.Job.{Job}
 use Rattle.mm_rounding.specs.Rounding.{controls}
 use Rattle.mm_rounding.specs.declared.piece.Axis.{Axis}
-use Rattle.figure_expand.specs.declared.fault.ExpandFault.{ExpandFault}
-use Rattle.figure_expand.specs.declared.fault.ExpandFault.TheVariants as fault
+use Rattle.figure_expand.specs.declared.fault.AxisValue.{AxisValue}
 use Rattle.figure_expand.specs.Acts.{act_of}
 use Rattle.figure_expand.specs.Controls.{axes_of}
-use Rattle.figure_expand.specs.Expanded.{IsOnAnAxis, Value, cue_values, first_unfit, fits, point_values, points_after, range_fault, start_points, start_values, values, values_from, values_of, values_on}
+use Rattle.figure_expand.specs.Expanded.{cue_values, first_unfit, fits, point_values, points_after, range_fault, start_points, start_values, values, values_from, values_of, values_on}
 
 -- the value stands on x, y, z or yaw
-abbrev IsOnAxis : Value → Type 0
+abbrev IsOnAxis : AxisValue → Type 0
 IsOnAxis v = v.axis ≤ 3
 
 on_axis : (line axis : ℕ) (vs : List ℤ) → axis ≤ 3 → All IsOnAxis (values_on line axis vs)
@@ -46,25 +45,18 @@ of_starts [] = All-nil IsOnAxis
 of_starts (s ∷ starts) = All-append IsOnAxis (point_values s.line s.at) (start_values starts) (of_point s.line s.at) (of_starts starts)
 
 -- the first unfit of such values stands on one of the axes
-unfit_axis : (vs : List Value) (line axis : ℕ) (value : ℤ) → All IsOnAxis vs → first_unfit vs ≡ Some (fault.OutOfRange line axis value) → axis ≤ 3
-unfit_axis [] line axis value all is = absurd (cc)
-unfit_axis (v ∷ vs) line axis value all is = by_test (fits v) is (unfit_axis vs line axis value (All-tail IsOnAxis v vs all))
+unfit_axis : (vs : List AxisValue) (v : AxisValue) → All IsOnAxis vs → first_unfit vs ≡ Some v → v.axis ≤ 3
+unfit_axis [] v all is = absurd (cc)
+unfit_axis (x ∷ vs) v all is = by_test (fits x) is (unfit_axis vs v (All-tail IsOnAxis x vs all))
   where
-    by_test : (b : Bool) → cond b (first_unfit vs) (Some (fault.OutOfRange v.line v.axis v.value)) ≡ Some (fault.OutOfRange line axis value) →
-        (first_unfit vs ≡ Some (fault.OutOfRange line axis value) → axis ≤ 3) → axis ≤ 3
+    by_test : (b : Bool) → cond b (first_unfit vs) (Some x) ≡ Some v → (first_unfit vs ≡ Some v → v.axis ≤ 3) → v.axis ≤ 3
     by_test true is later = later is
     by_test false is later =
-        let e : v.axis ≡ axis = cc in
-        let here : v.axis ≤ 3 = All-head IsOnAxis v vs all in
-        subst (λ (n : ℕ). n ≤ 3) e here
+        let e : x ≡ v = cc in
+        subst IsOnAxis e (All-head IsOnAxis x vs all)
 
 -- so does the value that a grid is refused for
-pub range_axis : (g : Grid) (line axis : ℕ) (value : ℤ) → range_fault g ≡ Some (fault.OutOfRange line axis value) → axis ≤ 3
+pub range_axis : (g : Grid) (v : AxisValue) → range_fault g ≡ Some v → v.axis ≤ 3
 unfolding range_fault
-range_axis g line axis value is =
-    unfit_axis (values g) line axis value (All-append IsOnAxis (start_values g.starts) (values_from (start_points g.starts) g.cues) (of_starts g.starts) (in_cues (start_points g.starts) g.cues)) is
-
--- the refusal of a grid is on one of the axes
-pub axis_by : (f : ExpandFault) (g : Grid) → range_fault g ≡ Some f → IsOnAnAxis f
-axis_by fault.Memory g is = tt
-axis_by (fault.OutOfRange line axis value) g is = range_axis g line axis value is
+range_axis g v is =
+    unfit_axis (values g) v (All-append IsOnAxis (start_values g.starts) (values_from (start_points g.starts) g.cues) (of_starts g.starts) (in_cues (start_points g.starts) g.cues)) is

@@ -15,8 +15,8 @@ use Rattle.mm_rounding.specs.declared.piece.MicroPiece.{MicroPiece}
 use Rattle.figure_expand.specs.Acts.{act_of, end_of}
 use Rattle.figure_expand.specs.Controls.{place_controls, yaw_controls, axes_of, piece_of}
 use Rattle.figure_expand.specs.Expanded as expanding
-use Rattle.figure_expand.specs.Expanded.{Value, fits_axis, values_on, values_of, point_values, start_values, start_points, cue_values, points_after, values_from, first_unfit, range_fault, job_in, no_job, pieces_from, expanded_from, expanded}
-use Rattle.figure_expand.specs.declared.fault.ExpandFault.TheVariants as fault
+use Rattle.figure_expand.specs.Expanded.{fits_axis, values_on, values_of, point_values, start_values, start_points, cue_values, points_after, values_from, first_unfit, range_fault, job_in, no_job, pieces_from, expanded_from, expanded}
+use Rattle.figure_expand.specs.declared.fault.AxisValue.{AxisValue}
 use Rattle.figure_expand.specs.Flown.{RoundsWell, StartsWell, FitsWell}
 use Rattle.figure_expand.proofs.Reach.{length-points_after, length-start_points}
 use Rattle.figure_expand.proofs.Pieces.{row_is}
@@ -24,20 +24,20 @@ use Rattle.figure_expand.proofs.Pieces.{row_is}
 -- ---- no value is out of range
 
 -- a value that fits, and the rest
-first_fits : (v : Value) (vs : List Value) → first_unfit (v ∷ vs) ≡ None → (expanding.fits v ≡ true) × (first_unfit vs ≡ None)
+first_fits : (v : AxisValue) (vs : List AxisValue) → first_unfit (v ∷ vs) ≡ None → (expanding.fits v ≡ true) × (first_unfit vs ≡ None)
 first_fits v vs none = by_fit (expanding.fits v) refl none
   where
-    by_fit : (b : Bool) → expanding.fits v ≡ b → cond b (first_unfit vs) (Some (fault.OutOfRange v.line v.axis v.value)) ≡ None → (expanding.fits v ≡ true) × (first_unfit vs ≡ None)
+    by_fit : (b : Bool) → expanding.fits v ≡ b → cond b (first_unfit vs) (Some v) ≡ None → (expanding.fits v ≡ true) × (first_unfit vs ≡ None)
     by_fit true is none = (is, none)
     by_fit false is none = absurd (cc)
 
 -- both of two lists
-both_fit : (xs ys : List Value) → first_unfit (xs ++ ys) ≡ None → (first_unfit xs ≡ None) × (first_unfit ys ≡ None)
+both_fit : (xs ys : List AxisValue) → first_unfit (xs ++ ys) ≡ None → (first_unfit xs ≡ None) × (first_unfit ys ≡ None)
 both_fit [] ys none = (refl, none)
 both_fit (v ∷ xs) ys none =
     let here = first_fits v (xs ++ ys) none in
     let later = both_fit xs ys here.1 in
-    (ap (λ (b : Bool). cond b (first_unfit xs) (Some (fault.OutOfRange v.line v.axis v.value))) here.0 ∙ later.0, later.1)
+    (ap (λ (b : Bool). cond b (first_unfit xs) (Some v)) here.0 ∙ later.0, later.1)
 
 -- the control values of an axis
 each_fits : (line axis : ℕ) (vs : List ℤ) → first_unfit (values_on line axis vs) ≡ None → list_all (fits_axis axis) vs ≡ true
@@ -129,7 +129,7 @@ short_is z is = ap (λ (b : Bool). cond b (Some z) None) is
 
 start_fits : (line : ℕ) (p : Point) → first_unfit (point_values line p) ≡ None → StartsWell p
 start_fits line p none =
-    let value : ℕ → ℤ → Value = λ axis v. record { line = line; axis = axis; value = v } in
+    let value : ℕ → ℤ → AxisValue = λ axis v. record { line = line; axis = axis; value = v } in
     let at_x = first_fits (value 0 p.x) (value 1 p.y ∷ value 2 p.z ∷ value 3 p.yaw ∷ []) none in
     let at_y = first_fits (value 1 p.y) (value 2 p.z ∷ value 3 p.yaw ∷ []) at_x.1 in
     let at_z = first_fits (value 2 p.z) (value 3 p.yaw ∷ []) at_y.1 in

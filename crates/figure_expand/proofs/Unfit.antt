@@ -2,8 +2,7 @@
 use Rattle.std.proofs.Common.{◌≡◌, ℕ, zero, suc, ◌+◌, ◌<◌, ◌≤◌, Bool, true, false, cond, Some, None, List, [], ◌∷◌, ◌++◌, length, get_or, set, drop, arith, refl, sym, ap, ◌∙◌}
 use Rattle.choreo_lines.specs.declared.parts.Point.{Point}
 use Rattle.cue_grid.specs.declared.grid.Job.{Job}
-use Rattle.figure_expand.specs.declared.fault.ExpandFault.{ExpandFault}
-use Rattle.figure_expand.specs.declared.fault.ExpandFault.TheVariants as fault
+use Rattle.figure_expand.specs.declared.fault.AxisValue.{AxisValue}
 use Rattle.cue_grid.specs.declared.grid.Grid.{Grid}
 use Rattle.figure_expand.specs.Acts.{act_of, end_of}
 use Rattle.std.proofs.lemmas.List.{drop_more}
@@ -12,32 +11,32 @@ use Rattle.cue_grid.specs.declared.grid.Cue.{Cue}
 use Rattle.mm_rounding.specs.Rounding.{controls}
 use Rattle.mm_rounding.specs.declared.piece.Axis.{Axis}
 use Rattle.figure_expand.specs.Controls.{axes_of}
-use Rattle.figure_expand.specs.Expanded.{Value, fits, values_on, values_of, point_values, start_values, cue_values, values_from, start_points, first_unfit, points_after, range_fault, ExpandFails}
+use Rattle.figure_expand.specs.Expanded.{fits, values_on, values_of, point_values, start_values, cue_values, values_from, start_points, first_unfit, points_after, range_fault}
 
 -- values that fit are passed over
-pub none_before : (xs ys : List Value) → first_unfit xs ≡ None → first_unfit (xs ++ ys) ≡ first_unfit ys
+pub none_before : (xs ys : List AxisValue) → first_unfit xs ≡ None → first_unfit (xs ++ ys) ≡ first_unfit ys
 none_before [] ys none = refl
 none_before (v ∷ xs) ys none = by_fit (fits v) none (λ rest. none_before xs ys rest)
   where
-    by_fit : (b : Bool) → cond b (first_unfit xs) (Some (fault.OutOfRange v.line v.axis v.value)) ≡ None → (first_unfit xs ≡ None → first_unfit (xs ++ ys) ≡ first_unfit ys) →
-        cond b (first_unfit (xs ++ ys)) (Some (fault.OutOfRange v.line v.axis v.value)) ≡ first_unfit ys
+    by_fit : (b : Bool) → cond b (first_unfit xs) (Some v) ≡ None → (first_unfit xs ≡ None → first_unfit (xs ++ ys) ≡ first_unfit ys) →
+        cond b (first_unfit (xs ++ ys)) (Some v) ≡ first_unfit ys
     by_fit true none later = later none
     by_fit false none later = absurd (cc)
 
 -- the first value that does not fit stays the first
-pub some_before : (xs ys : List Value) (f : ExpandFault) → first_unfit xs ≡ Some f → first_unfit (xs ++ ys) ≡ Some f
+pub some_before : (xs ys : List AxisValue) (f : AxisValue) → first_unfit xs ≡ Some f → first_unfit (xs ++ ys) ≡ Some f
 some_before [] ys f some = absurd (cc)
 some_before (v ∷ xs) ys f some = by_fit (fits v) some (λ rest. some_before xs ys f rest)
   where
-    by_fit : (b : Bool) → cond b (first_unfit xs) (Some (fault.OutOfRange v.line v.axis v.value)) ≡ Some f → (first_unfit xs ≡ Some f → first_unfit (xs ++ ys) ≡ Some f) →
-        cond b (first_unfit (xs ++ ys)) (Some (fault.OutOfRange v.line v.axis v.value)) ≡ Some f
+    by_fit : (b : Bool) → cond b (first_unfit xs) (Some v) ≡ Some f → (first_unfit xs ≡ Some f → first_unfit (xs ++ ys) ≡ Some f) →
+        cond b (first_unfit (xs ++ ys)) (Some v) ≡ Some f
     by_fit true some later = later some
     by_fit false some later = some
 
 -- ---- parts of the values
 
 -- the next axis
-pub axes_here : (line axis : ℕ) (curves : List Axis) (other : Axis) (f : ExpandFault) → axis < length curves →
+pub axes_here : (line axis : ℕ) (curves : List Axis) (other : Axis) (f : AxisValue) → axis < length curves →
     first_unfit (values_on line axis (controls (get_or curves axis other))) ≡ Some f → first_unfit (values_of line axis (drop axis curves)) ≡ Some f
 axes_here line axis curves other f within some =
     ap (λ (axes : List Axis). first_unfit (values_of line axis axes)) (drop_more curves axis other within)
@@ -50,7 +49,7 @@ axes_later line axis curves other within none =
     ∙ none_before (values_on line axis (controls (get_or curves axis other))) (values_of line (axis + 1) (drop (axis + 1) curves)) none
 
 -- the next start
-pub start_here : (starts : List DroneLine) (k : ℕ) (s : DroneLine) (f : ExpandFault) → k < length starts → s ≡ get_or starts k s →
+pub start_here : (starts : List DroneLine) (k : ℕ) (s : DroneLine) (f : AxisValue) → k < length starts → s ≡ get_or starts k s →
     first_unfit (point_values s.line s.at) ≡ Some f → first_unfit (start_values (drop k starts)) ≡ Some f
 start_here starts k s f within is some =
     ap (λ (rest : List DroneLine). first_unfit (start_values rest)) (drop_more starts k s within ∙ ap (λ (here : DroneLine). here ∷ drop (k + 1) starts) (sym is))
@@ -70,7 +69,7 @@ next_drone points jobs d p j within also =
     ap (λ (rest : List Point). cue_values rest (drop d jobs)) (drop_more points d p within)
     ∙ ap (λ (rest : List Job). cue_values (get_or points d p ∷ drop (d + 1) points) rest) (drop_more jobs d j also)
 
-pub drone_here : (points : List Point) (jobs : List Job) (d : ℕ) (p : Point) (j : Job) (f : ExpandFault) → d < length points → d < length jobs →
+pub drone_here : (points : List Point) (jobs : List Job) (d : ℕ) (p : Point) (j : Job) (f : AxisValue) → d < length points → d < length jobs →
     first_unfit (values_of (get_or jobs d j).line 0 (axes_of (get_or points d p) (act_of (get_or jobs d j)))) ≡ Some f → first_unfit (cue_values (drop d points) (drop d jobs)) ≡ Some f
 drone_here points jobs d p j f within also some =
     ap first_unfit (next_drone points jobs d p j within also)
@@ -89,7 +88,7 @@ next_cue : (points : List Point) (cues : List Cue) (k : ℕ) (cue : Cue) → k <
 next_cue points cues k cue within is =
     ap (values_from points) (drop_more cues k cue within ∙ ap (λ (here : Cue). here ∷ drop (k + 1) cues) (sym is))
 
-pub cue_here : (points : List Point) (cues : List Cue) (k : ℕ) (cue : Cue) (f : ExpandFault) → k < length cues → cue ≡ get_or cues k cue →
+pub cue_here : (points : List Point) (cues : List Cue) (k : ℕ) (cue : Cue) (f : AxisValue) → k < length cues → cue ≡ get_or cues k cue →
     first_unfit (cue_values points cue.jobs) ≡ Some f → first_unfit (values_from points (drop k cues)) ≡ Some f
 cue_here points cues k cue f within is some =
     ap first_unfit (next_cue points cues k cue within is) ∙ some_before (cue_values points cue.jobs) (values_from (points_after points cue.jobs) (drop (k + 1) cues)) f some
@@ -141,15 +140,10 @@ moved_all (suc n) [] jobs many all = refl
 moved_all (suc n) (p ∷ points) [] many all = absurd (omega arith)
 moved_all (suc n) (p ∷ points) (j ∷ jobs) many all = ap (λ (rest : List Point). end_of p (act_of j) ∷ rest) (moved_all n points jobs (omega arith) (omega arith))
 
--- ---- refusals
-
--- the first value that does not fit is a refusal
-pub fails_by : (f : ExpandFault) (g : Grid) → range_fault g ≡ Some f → ExpandFails f g
-fails_by fault.Memory g h = tt
-fails_by (fault.OutOfRange line axis value) g h = h
+-- ---- the first of a grid
 
 -- a start that does not fit is the grid's first fault
-pub starts_unfit : (g : Grid) (starts : List DroneLine) (f : ExpandFault) → starts ≡ g.starts → Some f ≡ first_unfit (start_values starts) → Some f ≡ range_fault g
+pub starts_unfit : (g : Grid) (starts : List DroneLine) (f : AxisValue) → starts ≡ g.starts → Some f ≡ first_unfit (start_values starts) → Some f ≡ range_fault g
 unfolding range_fault
 starts_unfit g starts f is some =
     sym (some_before (start_values g.starts) (values_from (start_points g.starts) g.cues) f (ap (λ (xs : List DroneLine). first_unfit (start_values xs)) (sym is) ∙ sym some))

@@ -10,8 +10,9 @@ use Rattle.cue_grid.specs.declared.grid.Grid.{Grid}
 use Rattle.mm_rounding.specs.Rounding.{controls, millimetres, is_short}
 use Rattle.mm_rounding.specs.declared.piece.Axis.{Axis}
 use Rattle.mm_rounding.specs.declared.piece.MicroPiece.{MicroPiece}
-use Rattle.figure_expand.specs.declared.fault.ExpandFault.{ExpandFault}
-use Rattle.figure_expand.specs.declared.fault.ExpandFault.TheVariants as fault
+use Rattle.figure_expand.specs.declared.fault.AxisValue.{AxisValue}
+use Rattle.figure_expand.specs.declared.fault.ExpandError.{ExpandError}
+use Rattle.figure_expand.specs.declared.fault.ExpandError.TheVariants as error
 use Rattle.figure_expand.specs.Acts.{act_of, end_of}
 use Rattle.figure_expand.specs.Controls.{axes_of, piece_of}
 
@@ -39,32 +40,26 @@ expanded g = expanded_from 0 g.starts g.cues
 
 -- ---- the first value out of range
 
--- a written value that has to fit a trajectory: the line that it comes from, its axis (0 to 3), and the value
-pub record Value : Type 0 where
-  pub line : ℕ
-  pub axis : ℕ
-  pub value : ℤ
-
 -- positions have to fit when they are rounded to millimetres, a yaw as it is
 abbrev pub fits_axis : ℕ → ℤ → Bool
 fits_axis axis v = if axis == 3 then is_short v else is_short (millimetres v)
 
 -- whether the value fits a trajectory
-abbrev pub fits : Value → Bool
+abbrev pub fits : AxisValue → Bool
 fits v = fits_axis v.axis v.value
 
 -- the control values of one axis in order
-abbrev pub values_on : ℕ → ℕ → List ℤ → List Value
+abbrev pub values_on : ℕ → ℕ → List ℤ → List AxisValue
 values_on line axis [] = []
 values_on line axis (v ∷ vs) = record { line = line; axis = axis; value = v } ∷ values_on line axis vs
 
 -- the control values of these axes in order
-abbrev pub values_of : ℕ → ℕ → List Axis → List Value
+abbrev pub values_of : ℕ → ℕ → List Axis → List AxisValue
 values_of line axis [] = []
 values_of line axis (a ∷ axes) = values_on line axis (controls a) ++ values_of line (axis + 1) axes
 
 -- the values of a point, axis by axis
-abbrev pub point_values : ℕ → Point → List Value
+abbrev pub point_values : ℕ → Point → List AxisValue
 point_values line p =
     record { line = line; axis = 0; value = p.x }
     ∷ record { line = line; axis = 1; value = p.y }
@@ -73,12 +68,12 @@ point_values line p =
     ∷ []
 
 -- the start values by drone and axis
-abbrev pub start_values : List DroneLine → List Value
+abbrev pub start_values : List DroneLine → List AxisValue
 start_values [] = []
 start_values (s ∷ starts) = point_values s.line s.at ++ start_values starts
 
 -- the control values of one cue by drone, axis and place; the drones are at these points before it
-abbrev pub cue_values : List Point → List Job → List Value
+abbrev pub cue_values : List Point → List Job → List AxisValue
 cue_values [] jobs = []
 cue_values (p ∷ ps) [] = []
 cue_values (p ∷ ps) (j ∷ jobs) = values_of j.line 0 (axes_of p (act_of j)) ++ cue_values ps jobs
@@ -90,7 +85,7 @@ points_after (p ∷ ps) [] = []
 points_after (p ∷ ps) (j ∷ jobs) = end_of p (act_of j) ∷ points_after ps jobs
 
 -- the control values of these cues, one cue after the other
-abbrev pub values_from : List Point → List Cue → List Value
+abbrev pub values_from : List Point → List Cue → List AxisValue
 values_from ps [] = []
 values_from ps (cue ∷ rest) = cue_values ps cue.jobs ++ values_from (points_after ps cue.jobs) rest
 
@@ -101,24 +96,24 @@ start_points (s ∷ starts) = s.at ∷ start_points starts
 
 -- all values that have to fit, in the order in which they are judged: starts by drone and axis, then cues, drones, axes
 -- and control points
-abbrev pub values : Grid → List Value
+abbrev pub values : Grid → List AxisValue
 values g = start_values g.starts ++ values_from (start_points g.starts) g.cues
 
 -- the first of these values that does not fit
-abbrev pub first_unfit : List Value → Option ExpandFault
+abbrev pub first_unfit : List AxisValue → Option AxisValue
 first_unfit [] = None
-first_unfit (v ∷ vs) = if fits v then first_unfit vs else Some (fault.OutOfRange v.line v.axis v.value)
+first_unfit (v ∷ vs) = if fits v then first_unfit vs else Some v
 
 -- the first value of a grid that no trajectory can hold
-unfoldable pub range_fault : Grid → Option ExpandFault
+unfoldable pub range_fault : Grid → Option AxisValue
 range_fault g = first_unfit (values g)
 
--- A refusal is the first value of the grid that no trajectory can hold; out of memory says nothing.
-abbrev pub ExpandFails : ExpandFault → Grid → Type 0
-ExpandFails fault.Memory g = Unit {0}
-ExpandFails f g = range_fault g ≡ Some f
+-- What is named is the first value of the grid that no trajectory can hold; out of memory says nothing.
+abbrev pub ExpandFails : ExpandError → Grid → Type 0
+ExpandFails (error.OutOfRange v) g = range_fault g ≡ Some v
+ExpandFails error.Memory g = Unit {0}
 
--- The value of a refusal is on one of the axes 0 to 3: x, y, z and yaw.
-abbrev pub IsOnAnAxis : ExpandFault → Type 0
-IsOnAnAxis fault.Memory = Unit {0}
-IsOnAnAxis (fault.OutOfRange line axis value) = axis ≤ 3
+-- It is on one of the axes 0 to 3: x, y, z and yaw.
+abbrev pub IsOnAnAxis : ExpandError → Type 0
+IsOnAnAxis (error.OutOfRange v) = v.axis ≤ 3
+IsOnAnAxis error.Memory = Unit {0}

@@ -10,7 +10,7 @@ ghost use Rattle.figure_expand.specs.Bounds.{reach};
 ghost use Rattle.figure_expand.specs.Expanded.{job_in, pieces_from, expanded, range_fault, ExpandFails, IsOnAnAxis};
 
 use crate::acts::act_of;
-use crate::fault::ExpandFault;
+use crate::fault::ExpandError;
 use crate::range::range_fault;
 use crate::shapes::{axes, end_of};
 use choreo_lines::Point;
@@ -76,23 +76,16 @@ fn all_pieces(alloc: Global, grid: &Grid) -> Result<Vec<Vec<MicroPiece>>, AllocE
 ///
 /// `OutOfRange` names the first value that rounds outside two bytes, starts by drone and axis first, then cues, drones,
 /// axes and control points; its axis is one of 0 to 3, for x, y, z and yaw. `Memory` is out of memory.
-#[tactic(auto, using(crate::proofs::Unfit::fails_by, crate::proofs::Axes::axis_by))]
-pub fn expand(alloc: Global, grid: &Grid) -> Result<Vec<Vec<MicroPiece>>, ExpandFault>
+#[tactic(auto, using(crate::proofs::Axes::range_axis))]
+pub fn expand(alloc: Global, grid: &Grid) -> Result<Vec<Vec<MicroPiece>>, ExpandError>
     requires { IsGrid grid.now }
     ensures fits { IfOk result (λ rows. range_fault grid.now ≡ None) }
     ensures pieces { IfOk result (λ rows. map (λ row. row.items) rows.items ≡ expanded grid.now) }
-    ensures fails { IfErr result (λ fault. ExpandFails fault grid.now) }
-    ensures axis { IfErr result (λ fault. IsOnAnAxis fault) }
+    ensures fails { IfErr result (λ error. ExpandFails error grid.now) }
+    ensures axis { IfErr result IsOnAnAxis }
 {
-    let fault = match range_fault(alloc, grid) {
-        Ok(fault) => fault,
-        Err(_) => return Err(ExpandFault::Memory),
-    };
-    if let Some(fault) = fault {
-        return Err(fault);
+    if let Some(value) = range_fault(alloc, grid)? {
+        return Err(ExpandError::OutOfRange { value });
     }
-    match all_pieces(alloc, grid) {
-        Ok(rows) => Ok(rows),
-        Err(_) => Err(ExpandFault::Memory),
-    }
+    Ok(all_pieces(alloc, grid)?)
 }

@@ -14,5 +14,5 @@ mod range;
 mod shapes;
 
 pub use expansion::expand;
-pub use fault::ExpandFault;
+pub use fault::{AxisValue, ExpandError};
 pub use law::expansion_law;

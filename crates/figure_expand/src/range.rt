@@ -10,7 +10,7 @@ ghost use Rattle.figure_expand.specs.Bounds.{AreInReach};
 ghost use Rattle.figure_expand.specs.Expanded.{fits_axis, values_on, values_of, point_values, start_values, start_points, cue_values, points_after, values_from, first_unfit, range_fault};
 
 use crate::acts::act_of;
-use crate::fault::ExpandFault;
+use crate::fault::AxisValue;
 use crate::shapes::{axes, end_of};
 use choreo_lines::Point;
 use choreo_reader::DroneLine;
@@ -33,12 +33,12 @@ fn fits(axis: u8, value: i64) -> bool
 }
 
 // The first of these values on an axis that does not fit.
-fn values_fault(line: u32, axis: u8, values: &[i64]) -> Option<ExpandFault>
+fn values_fault(line: u32, axis: u8, values: &[i64]) -> Option<AxisValue>
     ensures { result ≡ first_unfit (values_on line axis values.now) }
 {
     for value in values {
         if !fits(axis, *value) {
-            return Some(ExpandFault::OutOfRange {
+            return Some(AxisValue {
                 line,
                 axis,
                 value: *value,
@@ -49,7 +49,7 @@ fn values_fault(line: u32, axis: u8, values: &[i64]) -> Option<ExpandFault>
 }
 
 // The first control value of an axis that does not fit.
-fn axis_fault(line: u32, axis: u8, curve: &Axis) -> Option<ExpandFault>
+fn axis_fault(line: u32, axis: u8, curve: &Axis) -> Option<AxisValue>
     ensures { result ≡ first_unfit (values_on line axis (controls curve.now)) }
 {
     match curve {
@@ -61,7 +61,7 @@ fn axis_fault(line: u32, axis: u8, curve: &Axis) -> Option<ExpandFault>
 }
 
 // The first control value of four axes that does not fit.
-fn axes_fault(line: u32, curves: &[Axis; 4]) -> Option<ExpandFault>
+fn axes_fault(line: u32, curves: &[Axis; 4]) -> Option<AxisValue>
     ensures { result ≡ first_unfit (values_of line 0 curves.now) }
 {
     for axis in 0..4 {
@@ -73,7 +73,7 @@ fn axes_fault(line: u32, curves: &[Axis; 4]) -> Option<ExpandFault>
 }
 
 // The first number of a start that does not fit.
-fn point_fault(line: u32, p: &Point) -> Option<ExpandFault>
+fn point_fault(line: u32, p: &Point) -> Option<AxisValue>
     ensures { result ≡ first_unfit (point_values line p.now) }
 {
     let curves = [
@@ -86,7 +86,7 @@ fn point_fault(line: u32, p: &Point) -> Option<ExpandFault>
 }
 
 // The first number of the starts that does not fit.
-fn starts_fault(starts: &[DroneLine]) -> Option<ExpandFault>
+fn starts_fault(starts: &[DroneLine]) -> Option<AxisValue>
     ensures { result ≡ first_unfit (start_values starts.now) }
 {
     for start in starts {
@@ -98,7 +98,7 @@ fn starts_fault(starts: &[DroneLine]) -> Option<ExpandFault>
 }
 
 // The first control value of a cue that does not fit; the drones are at these points before it.
-fn cue_fault(points: &[Point], jobs: &[Job]) -> Option<ExpandFault>
+fn cue_fault(points: &[Point], jobs: &[Job]) -> Option<AxisValue>
     requires count { length points.now ≡ length jobs.now }
     requires points { All (IsPointUpTo (2 ^ 40)) points.now }
     requires jobs { FitJobs jobs.now }
@@ -126,7 +126,7 @@ fn advance(points: &mut [Point], jobs: &[Job])
 }
 
 // The first control value of these cues that does not fit; the drones start at these points.
-fn cues_fault(points: &mut [Point], cues: &[Cue]) -> Option<ExpandFault>
+fn cues_fault(points: &mut [Point], cues: &[Cue]) -> Option<AxisValue>
     requires points { AreInReach 0 points.old }
     requires few { length cues.now ≤ most_cues }
     requires cues { FitCues (length points.old) cues.now }
@@ -154,7 +154,7 @@ fn points_of(alloc: Global, starts: &[DroneLine]) -> Result<Vec<Point>, AllocErr
 }
 
 /// The first value of a grid that no trajectory can hold.
-pub(crate) fn range_fault(alloc: Global, grid: &Grid) -> Result<Option<ExpandFault>, AllocError>
+pub(crate) fn range_fault(alloc: Global, grid: &Grid) -> Result<Option<AxisValue>, AllocError>
     requires { IsGrid grid.now }
     ensures { IfOk result (λ fault. fault ≡ range_fault grid.now) }
 {

@@ -1,5 +1,5 @@
 -- The one word that names what is wrong.
-use Rattle.std.specs.Prelude.{ℕ, List, [], codes, ◌==◌, if◌then◌else◌}
+use Rattle.std.specs.Prelude.{ℕ, List, codes, ◌==◌, if◌then◌else◌}
 use Rattle.choreo_lines.specs.declared.line.LineKind.{LineKind}
 use Rattle.choreo_lines.specs.declared.line.LineKind.TheVariants as of_line
 use Rattle.cue_grid.specs.declared.grid.GridFault.{GridFault}
@@ -19,7 +19,7 @@ kind_word of_line.Nesting = codes "nesting"
 kind_word of_line.EmptyBlock = codes "empty-block"
 kind_word of_line.NoEnd = codes "no-end"
 
--- what is wrong with the names or the cues of a show; out of memory is no fault of a line and has no word
+-- what is wrong with the names or the cues of a show
 abbrev pub grid_word : GridFault → List ℕ
 grid_word (of_grid.NoDrone line) = codes "no-drone"
 grid_word (of_grid.TooManyDrones line) = codes "too-many-drones"
@@ -29,7 +29,6 @@ grid_word (of_grid.DoubleAct line) = codes "double-act"
 grid_word (of_grid.RoleCount line) = codes "role-count"
 grid_word (of_grid.NoCue line) = codes "no-cue"
 grid_word (of_grid.TooManyCues line) = codes "too-many-cues"
-grid_word of_grid.Memory = []
 
 -- the axes x, y, z and yaw, which count from 0
 abbrev pub axis_word : ℕ → List ℕ

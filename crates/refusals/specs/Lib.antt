@@ -1,3 +1,4 @@
 pub mod KindWords
 pub mod Lines
 pub mod Refusals
+pub mod Steps

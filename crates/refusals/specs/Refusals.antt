@@ -1,7 +1,6 @@
 -- Why the program refuses, with the status that it ends with and the line that it writes.
-use Rattle.std.specs.Prelude.{◌≡◌, ◌≢◌, ℕ, ◌<◌, ◌≤◌, ◌^◌, List}
+use Rattle.std.specs.Prelude.{ℕ, ◌<◌, ◌≤◌, ◌^◌, List}
 use Rattle.fleet_io.specs.Words.{IsWord}
-use Rattle.cue_grid.specs.declared.grid.GridFault.TheVariants as grid
 use Rattle.sep_parts.specs.Versions.{IsVersion, known_in}
 use Rattle.refusals.specs.declared.refusal.Pair.{Pair}
 use Rattle.refusals.specs.declared.refusal.Refusal.{Refusal}
@@ -66,12 +65,12 @@ pub record AreNamed (pair : Pair) : Type 0 where
   pub second : IsWord pair.second.items
 
 -- What a refusal names can be said in a line: names are words, an axis is one of four, or of three where it has a speed or an acceleration, a
--- depth is at most 8, a direction is one of its version's table, and out of memory is no fault of names or cues.
+-- depth is at most 8, and a direction is one of its version's table.
 abbrev pub IsSayable : Refusal → Type 0
 IsSayable refused.Usage = Unit {0}
 IsSayable refused.TooLarge = Unit {0}
 IsSayable (refused.Line line kind) = Unit {0}
-IsSayable (refused.Grid fault) = fault ≢ grid.Memory
+IsSayable (refused.Grid fault) = Unit {0}
 IsSayable (refused.Range line axis value) = axis ≤ 3
 IsSayable (refused.Room drone bytes room) = IsWord drone.items
 IsSayable (refused.Segments drone segments) = IsWord drone.items

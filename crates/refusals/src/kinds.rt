@@ -1,8 +1,7 @@
 //! The words that name what is wrong.
 
-ghost use Rattle.std.specs.Prelude.{◌≡◌, ◌≢◌, ◌≤◌, length};
+ghost use Rattle.std.specs.Prelude.{◌≡◌, ◌≤◌, length};
 ghost use Rattle.fleet_io.specs.Words.{IsWord};
-ghost use Rattle.cue_grid.specs.declared.grid.GridFault.TheVariants.{Memory};
 ghost use Rattle.cue_grid.specs.Faults.{line_of};
 ghost use Rattle.refusals.specs.KindWords.{kind_word, grid_word, axis_word};
 
@@ -30,9 +29,8 @@ pub(crate) fn kind_word(kind: LineKind) -> &'static [u8]
     }
 }
 
-// The line that a fault of names or cues names, and the word of its kind. Out of memory has neither.
+// The line that a fault of names or cues names, and the word of its kind.
 pub(crate) fn line_and_word(fault: GridFault) -> (u32, &'static [u8])
-    requires { fault ≢ Memory }
     ensures line { result.0 ≡ line_of fault }
     ensures word { result.1.now ≡ grid_word fault }
     ensures is_word { IsWord result.1.now }
@@ -47,7 +45,6 @@ pub(crate) fn line_and_word(fault: GridFault) -> (u32, &'static [u8])
         GridFault::RoleCount { line } => (line, b"role-count"),
         GridFault::NoCue { line } => (line, b"no-cue"),
         GridFault::TooManyCues { line } => (line, b"too-many-cues"),
-        GridFault::Memory => unreachable!(),
     }
 }
 

@@ -1,7 +1,8 @@
 //! Why the program refuses, as a value.
 
-ghost use Rattle.std.specs.Prelude.{◌≡◌, ◌≤◌};
+ghost use Rattle.std.specs.Prelude.{◌≡◌, false, MatchOption};
 ghost use Rattle.refusals.specs.Refusals.{IsSayable, line_of, status_of};
+ghost use Rattle.refusals.specs.Steps.{is_of_certificate, is_of_show, is_of_study, is_of_upload};
 
 use crate::pairs::{blocked_line, fails_line, missing_line, too_deep_line};
 use crate::singles::{
@@ -35,7 +36,7 @@ pub enum Refusal {
         line: u32,
         kind: LineKind,
     },
-    /// A fault of names or cues. Out of memory is none.
+    /// A fault of names or cues.
     Grid {
         fault: GridFault,
     },
@@ -179,61 +180,112 @@ impl Refusal {
         requires { IsSayable self.now }
         ensures { result ≡ line_of self.now }
     {
+        if let Some(line) = self.show_line() {
+            return line;
+        }
+        if let Some(line) = self.upload_line() {
+            return line;
+        }
+        if let Some(line) = self.certificate_line() {
+            return line;
+        }
+        if let Some(line) = self.study_line() {
+            return line;
+        }
+        // What is left is that the words are no command.
+        usage_line()
+    }
+
+    // The line, if it is of a show or of a failed read.
+    fn show_line(&self) -> Option<ShortLine>
+        requires { IsSayable self.now }
+        ensures { MatchOption result (is_of_show self.now ≡ false) (λ line. line ≡ line_of self.now) }
+    {
         match self {
-            Refusal::Usage => usage_line(),
-            Refusal::TooLarge => too_large_line(),
-            Refusal::Line { line, kind } => faulty_line(*line, *kind),
-            Refusal::Grid { fault } => grid_line(*fault),
-            Refusal::Range { line, axis, value } => range_line(*line, *axis, *value),
-            Refusal::Room { drone, bytes, room } => room_line(drone, *bytes, *room),
-            Refusal::Segments { drone, segments } => segments_line(drone, *segments),
-            Refusal::Blocked { pair, index, depth } => blocked_line(pair, *index, *depth),
-            Refusal::Read => read_line(),
-            Refusal::Ended => ended_line(),
-            Refusal::GaveUp { drone, packet } => gave_up_line(drone, *packet),
+            Refusal::TooLarge => Some(too_large_line()),
+            Refusal::Line { line, kind } => Some(faulty_line(*line, *kind)),
+            Refusal::Grid { fault } => Some(grid_line(*fault)),
+            Refusal::Range { line, axis, value } => Some(range_line(*line, *axis, *value)),
+            Refusal::Room { drone, bytes, room } => Some(room_line(drone, *bytes, *room)),
+            Refusal::Segments { drone, segments } => Some(segments_line(drone, *segments)),
+            Refusal::Blocked { pair, index, depth } => Some(blocked_line(pair, *index, *depth)),
+            Refusal::Read => Some(read_line()),
+            _ => None,
+        }
+    }
+
+    // The line, if it is of an upload.
+    fn upload_line(&self) -> Option<ShortLine>
+        requires { IsSayable self.now }
+        ensures { MatchOption result (is_of_upload self.now ≡ false) (λ line. line ≡ line_of self.now) }
+    {
+        match self {
+            Refusal::Ended => Some(ended_line()),
+            Refusal::GaveUp { drone, packet } => Some(gave_up_line(drone, *packet)),
             Refusal::Refused {
                 drone,
                 packet,
                 status,
-            } => refused_line(drone, *packet, *status),
+            } => Some(refused_line(drone, *packet, *status)),
             Refusal::Differs {
                 drone,
                 address,
                 wanted,
                 got,
-            } => differs_line(drone, *address, *wanted, *got),
-            Refusal::SecondLine { line } => second_line(*line),
-            Refusal::SecondTooLarge => second_too_large_line(),
-            Refusal::Missing { pair } => missing_line(pair),
-            Refusal::Extra { version, tree } => extra_line(*version, *tree),
-            Refusal::TooDeep { pair } => too_deep_line(pair),
+            } => Some(differs_line(drone, *address, *wanted, *got)),
+            _ => None,
+        }
+    }
+
+    // The line, if it is of the second text or of its certificate.
+    fn certificate_line(&self) -> Option<ShortLine>
+        requires { IsSayable self.now }
+        ensures { MatchOption result (is_of_certificate self.now ≡ false) (λ line. line ≡ line_of self.now) }
+    {
+        match self {
+            Refusal::SecondLine { line } => Some(second_line(*line)),
+            Refusal::SecondTooLarge => Some(second_too_large_line()),
+            Refusal::Missing { pair } => Some(missing_line(pair)),
+            Refusal::Extra { version, tree } => Some(extra_line(*version, *tree)),
+            Refusal::TooDeep { pair } => Some(too_deep_line(pair)),
             Refusal::Fails {
                 pair,
                 place,
                 version,
                 dir,
                 control,
-            } => fails_line(pair, *place, *version, *dir, *control),
+            } => Some(fails_line(pair, *place, *version, *dir, *control)),
+            _ => None,
+        }
+    }
+
+    // The line, if it is of a study of regions, speeds or accelerations.
+    fn study_line(&self) -> Option<ShortLine>
+        requires { IsSayable self.now }
+        ensures { MatchOption result (is_of_study self.now ≡ false) (λ line. line ≡ line_of self.now) }
+    {
+        match self {
             Refusal::Enters {
                 region,
                 drone,
                 cue,
                 index,
                 depth,
-            } => enters_line(*region, drone, *cue, *index, *depth),
-            Refusal::TooFast { drone, axis, speed } => too_fast_line(drone, *axis, *speed),
+            } => Some(enters_line(*region, drone, *cue, *index, *depth)),
+            Refusal::TooFast { drone, axis, speed } => Some(too_fast_line(drone, *axis, *speed)),
             Refusal::Accelerates {
                 drone,
                 cue,
                 axis,
                 acceleration,
-            } => accelerates_line(drone, *cue, *axis, *acceleration),
+            } => Some(accelerates_line(drone, *cue, *axis, *acceleration)),
             Refusal::Jumps {
                 drone,
                 cue,
                 axis,
                 speed,
-            } => jumps_line(drone, *cue, *axis, *speed),
+            } => Some(jumps_line(drone, *cue, *axis, *speed)),
+            _ => None,
         }
     }
 }

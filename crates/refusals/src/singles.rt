@@ -1,9 +1,8 @@
 //! Lines on the command, a show, an upload, or a text as a whole.
 
-ghost use Rattle.std.specs.Prelude.{◌≡◌, ◌≢◌, ◌≤◌, ◌<◌, ◌^◌, [], ◌∷◌, length};
+ghost use Rattle.std.specs.Prelude.{◌≡◌, ◌≤◌, ◌<◌, ◌^◌, [], ◌∷◌, length};
 ghost use Rattle.fleet_io.specs.Words.{IsWord, hex_digit, hex_word};
 ghost use Rattle.sep_parts.specs.Versions.{IsVersion, head_count};
-ghost use Rattle.cue_grid.specs.declared.grid.GridFault.TheVariants.{Memory};
 ghost use Rattle.refusals.specs.Lines.{refusal, usage_line, too_large_line, show_line, faulty_line, grid_line, range_line, room_line, read_line, ended_line, gave_up_line, refused_line, differs_line, second_line, second_too_large_line, segments_line, extra_line};
 
 use crate::builder::begin;
@@ -33,10 +32,8 @@ pub(crate) fn faulty_line(line: u32, kind: LineKind) -> ShortLine
     show_line(line, kind_word(kind))
 }
 
-// `error 3 line N WORD`: the line that a fault of names or cues names, and what it is, as `no-drone`. Out of memory has
-// no such line.
+// `error 3 line N WORD`: the line that a fault of names or cues names, and what it is, as `no-drone`.
 pub(crate) fn grid_line(fault: GridFault) -> ShortLine
-    requires { fault ≢ Memory }
     ensures { result ≡ grid_line fault }
 {
     let (line, word) = line_and_word(fault);

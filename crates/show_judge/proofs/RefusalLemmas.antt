@@ -1,22 +1,20 @@
 -- In which order a show's refusals come.
-use Rattle.std.proofs.Common.{◌≡◌, ◌⊎◌, inl, inr, ℕ, zero, suc, ◌+◌, ◌<◌, ◌≤◌, ℤ, List, [], ◌∷◌, length, get_or, map, Option, Some, None, refl, sym, ap, subst, ◌∙◌, arith}
-use Rattle.std.specs.Option.{option_or, option_and_then}
+use Rattle.std.proofs.Common.{◌≡◌, ◌⊎◌, inl, inr, ℕ, zero, suc, ◌+◌, ◌<◌, ◌≤◌, List, [], ◌∷◌, length, get_or, map, Option, Some, None, refl, sym, ap, subst, ◌∙◌, arith}
+use Rattle.std.specs.Option.{option_map, option_or}
 use Rattle.std.proofs.lemmas.List.{length-map}
 use Rattle.fleet_io.specs.Words.{IsWord}
 use Rattle.choreo_reader.specs.declared.show.DroneLine.{DroneLine}
 use Rattle.choreo_reader.specs.Valid.{FitDroneLines}
 use Rattle.choreo_reader.specs.Plain.{PlainShow}
 use Rattle.cue_grid.specs.declared.grid.GridFault.{GridFault}
-use Rattle.cue_grid.specs.declared.grid.GridFault.TheVariants as grid
 use Rattle.cue_grid.specs.Cues.{grid_of}
 use Rattle.cue_grid.specs.Faults.{grid_fault}
-use Rattle.figure_expand.specs.declared.fault.ExpandFault.{ExpandFault}
-use Rattle.figure_expand.specs.declared.fault.ExpandFault.TheVariants as expand
+use Rattle.figure_expand.specs.declared.fault.AxisValue.{AxisValue}
 use Rattle.figure_expand.specs.Expanded.{range_fault}
 use Rattle.show_plan.specs.declared.fitted.PlanFault.{PlanFault}
 use Rattle.show_plan.specs.declared.fitted.PlanFault.TheVariants as fault
 use Rattle.std.proofs.lemmas.List.Elements.{All-get_or}
-use Rattle.show_plan.specs.Fitting.{StandsAsWord, PlanFails, in_order, plan_fault, room, unsendable}
+use Rattle.show_plan.specs.Fitting.{StandsAsWord, in_order, plan_fault, room, unsendable}
 use Rattle.show_plan.specs.Trajectories.{sent}
 use Rattle.show_plan.proofs.Flight.{sent_counted}
 use Rattle.show_plan.proofs.Sendable.{IsSendFault, unsendable_names}
@@ -30,19 +28,19 @@ use Rattle.show_judge.specs.Shows.{Cut, name_at, names_of}
 
 -- ---- four refusals in order
 
-module _ (to : PlanFault → Option Refusal) (early long : Option PlanFault) (marked search : Option Refusal) where
+module _ (to : PlanFault → Refusal) (early long : Option PlanFault) (marked search : Option Refusal) where
   -- the first of a fault of names and numbers, a marker line, what can't be sent, and a blocked part
   abbrev first_of : Option Refusal
-  first_of = option_or (option_and_then to early) (option_or marked (option_or (option_and_then to long) search))
+  first_of = option_or (option_map to early) (option_or marked (option_or (option_map to long) search))
 
-  by_early : (f : PlanFault) (r : Refusal) → early ≡ Some f → to f ≡ Some r → first_of ≡ Some r
-  by_early f r is said = rw (is, said) refl
+  by_early : (f : PlanFault) → early ≡ Some f → first_of ≡ Some (to f)
+  by_early f is = rw is refl
 
   by_marker : (r : Refusal) → early ≡ None → marked ≡ Some r → first_of ≡ Some r
   by_marker r none is = rw (none, is) refl
 
-  by_late : (f : PlanFault) (r : Refusal) → early ≡ None → marked ≡ None → long ≡ Some f → to f ≡ Some r → first_of ≡ Some r
-  by_late f r none unmarked is said = rw (none, unmarked, is, said) refl
+  by_late : (f : PlanFault) → early ≡ None → marked ≡ None → long ≡ Some f → first_of ≡ Some (to f)
+  by_late f none unmarked is = rw (none, unmarked, is) refl
 
   by_search : early ≡ None → marked ≡ None → long ≡ None → first_of ≡ search
   by_search none unmarked fits = rw (none, unmarked, fits) refl
@@ -52,22 +50,6 @@ abbrev pub early_fault : PlainShow → Option PlanFault
 early_fault s = in_order (grid_fault s) (range_fault (grid_of s)) None
 
 -- ---- which fault it is
-
--- a fault of names or cues for which a show has no plan is the first reason for that
-pub grid_fails : (f : GridFault) (s : PlainShow) → PlanFails (fault.Grid f) s → plan_fault s ≡ Some (fault.Grid f)
-grid_fails (grid.NoDrone line) s fails = fails
-grid_fails (grid.TooManyDrones line) s fails = fails
-grid_fails (grid.DoubleName line) s fails = fails
-grid_fails (grid.UnknownName line) s fails = fails
-grid_fails (grid.DoubleAct line) s fails = fails
-grid_fails (grid.RoleCount line) s fails = fails
-grid_fails (grid.NoCue line) s fails = fails
-grid_fails (grid.TooManyCues line) s fails = fails
-grid_fails grid.Memory s fails = absurd fails
-
--- out of memory is none of them
-pub no_grid_memory : (f : GridFault) (s : PlainShow) → PlanFails (fault.Grid f) s → f ≡ grid.Memory → ⊥
-no_grid_memory f s fails is = subst (λ (g : GridFault). PlanFails (fault.Grid g) s) is fails
 
 -- the fault is that a trajectory can't be sent
 abbrev pub IsLate : PlanFault → Type 0
@@ -94,25 +76,25 @@ late_named s f is =
     (named.0, omega (arith, named.1, sent_counted (grid_of s)))
 
 -- a fault is one of names and numbers, or these have none and it is one of what can't be sent
-either : (a : Option GridFault) (b : Option ExpandFault) (long : Option PlanFault) (f : PlanFault) → in_order a b long ≡ Some f →
+either : (a : Option GridFault) (b : Option AxisValue) (long : Option PlanFault) (f : PlanFault) → in_order a b long ≡ Some f →
     (in_order a b None ≡ Some f) ⊎ ((in_order a b None ≡ None) × (long ≡ Some f))
 either (Some e) b long f is = inl is
 either None (Some e) long f is = inl is
 either None None long f is = inr (refl, is)
 
 -- no fault of names and numbers is one of what can't be sent
-not_early : (a : Option GridFault) (b : Option ExpandFault) (f : PlanFault) → in_order a b None ≡ Some f → IsLate f → ⊥
+not_early : (a : Option GridFault) (b : Option AxisValue) (f : PlanFault) → in_order a b None ≡ Some f → IsLate f → ⊥
 not_early (Some e) b f is late = subst IsLate (sym (inside (fault.Grid e) f is)) late
   where
     inside : (x y : PlanFault) → ◌≡◌ {A = Option PlanFault} (Some x) (Some y) → x ≡ y
     inside x y is = cc
-not_early None (Some e) f is late = subst IsLate (sym (inside (fault.Expand e) f is)) late
+not_early None (Some v) f is late = subst IsLate (sym (inside (fault.OutOfRange v) f is)) late
   where
     inside : (x y : PlanFault) → ◌≡◌ {A = Option PlanFault} (Some x) (Some y) → x ≡ y
     inside x y is = cc
 not_early None None f is late = absurd (cc)
 
-no_part : (a : Option GridFault) (b : Option ExpandFault) (long : Option PlanFault) → in_order a b long ≡ None → (in_order a b None ≡ None) × (long ≡ None)
+no_part : (a : Option GridFault) (b : Option AxisValue) (long : Option PlanFault) → in_order a b long ≡ None → (in_order a b None ≡ None) × (long ≡ None)
 no_part (Some e) b long none = absurd (cc)
 no_part None (Some e) long none = absurd (cc)
 no_part None None long none = (refl, none)
@@ -120,10 +102,9 @@ no_part None None long none = (refl, none)
 -- ---- of a show
 
 -- a fault of names and numbers comes first
-pub early_refused : (c : Ways) (cut : Cut) (s : PlainShow) (f : PlanFault) (r : Refusal) → (IsLate f → ⊥) → plan_fault s ≡ Some f → no_plan (names_of s) f ≡ Some r →
-    show_refusal c cut s ≡ Some r
-early_refused c cut s f r other is said = elim (either (grid_fault s) (range_fault (grid_of s)) (unsendable s) f is) [
-  | inl early ↦ by_early (no_plan (names_of s)) (early_fault s) (unsendable s) (marker_refusal c cut) (blocked_by c.depth s) f r early said
+pub early_refused : (c : Ways) (cut : Cut) (s : PlainShow) (f : PlanFault) → (IsLate f → ⊥) → plan_fault s ≡ Some f → show_refusal c cut s ≡ Some (no_plan (names_of s) f)
+early_refused c cut s f other is = elim (either (grid_fault s) (range_fault (grid_of s)) (unsendable s) f is) [
+  | inl early ↦ by_early (no_plan (names_of s)) (early_fault s) (unsendable s) (marker_refusal c cut) (blocked_by c.depth s) f early
   | inr late ↦ absurd (other (late_named s f late.1).0)
 ]
 
@@ -139,14 +120,13 @@ pub late_drone : (s : PlainShow) (f : PlanFault) → IsLate f → plan_fault s �
 late_drone s f sends is = (late_named s f (late_is s f sends is).1).1
 
 -- a number that no trajectory can hold stands on one of four axes
-pub refused_axis : (s : PlainShow) (line axis : ℕ) (value : ℤ) → plan_fault s ≡ Some (fault.Expand (expand.OutOfRange line axis value)) → axis ≤ 3
-refused_axis s line axis value is = by_part (grid_fault s) (range_fault (grid_of s)) refl is
+pub refused_axis : (s : PlainShow) (v : AxisValue) → plan_fault s ≡ Some (fault.OutOfRange v) → v.axis ≤ 3
+refused_axis s v is = by_part (grid_fault s) (range_fault (grid_of s)) refl is
   where
-    by_part : (a : Option GridFault) (b : Option ExpandFault) → range_fault (grid_of s) ≡ b → in_order a b (unsendable s) ≡ Some (fault.Expand (expand.OutOfRange line axis value)) → axis ≤ 3
+    by_part : (a : Option GridFault) (b : Option AxisValue) → range_fault (grid_of s) ≡ b → in_order a b (unsendable s) ≡ Some (fault.OutOfRange v) → v.axis ≤ 3
     by_part (Some e) b at is = absurd (cc)
-    by_part None (Some e) at is = let same : e ≡ expand.OutOfRange line axis value = cc in range_axis (grid_of s) line axis value (at ∙ ap (λ (f : ExpandFault). Some f) same)
-    by_part None None at is =
-        absurd (late_named s (fault.Expand (expand.OutOfRange line axis value)) is).0
+    by_part None (Some w) at is = let same : w ≡ v = cc in range_axis (grid_of s) v (at ∙ ap (λ (x : AxisValue). Some x) same)
+    by_part None None at is = absurd (late_named s (fault.OutOfRange v) is).0
 
 -- ---- names
 
@@ -172,10 +152,10 @@ pub marker_refused : (c : Ways) (cut : Cut) (s : PlainShow) (r : Refusal) → ea
 marker_refused c cut s r none is = by_marker (no_plan (names_of s)) (early_fault s) (unsendable s) (marker_refusal c cut) (blocked_by c.depth s) r none is
 
 -- then what can't be sent
-pub late_refused : (c : Ways) (cut : Cut) (s : PlainShow) (f : PlanFault) (r : Refusal) → early_fault s ≡ None → marker_refusal c cut ≡ None → unsendable s ≡ Some f →
-    no_plan (names_of s) f ≡ Some r → show_refusal c cut s ≡ Some r
-late_refused c cut s f r none unmarked is said =
-    by_late (no_plan (names_of s)) (early_fault s) (unsendable s) (marker_refusal c cut) (blocked_by c.depth s) f r none unmarked is said
+pub late_refused : (c : Ways) (cut : Cut) (s : PlainShow) (f : PlanFault) → early_fault s ≡ None → marker_refusal c cut ≡ None → unsendable s ≡ Some f →
+    show_refusal c cut s ≡ Some (no_plan (names_of s) f)
+late_refused c cut s f none unmarked is =
+    by_late (no_plan (names_of s)) (early_fault s) (unsendable s) (marker_refusal c cut) (blocked_by c.depth s) f none unmarked is
 
 -- a show that fits has none of these before the search
 pub fits_early : (s : PlainShow) → plan_fault s ≡ None → early_fault s ≡ None

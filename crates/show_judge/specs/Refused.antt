@@ -1,13 +1,12 @@
 -- Why a show, or the text after it, is refused.
 use Rattle.std.specs.Prelude.{◌≢◌, ℕ, nat_lt, List, length, Option, Some, None, Result, Ok, Err, if◌then◌else◌}
-use Rattle.std.specs.Option.{option_map, option_or, option_and_then}
+use Rattle.std.specs.Option.{option_map, option_or}
 use Rattle.choreo_lines.specs.Name.{Name}
 use Rattle.choreo_reader.specs.Plain.{PlainShow}
 use Rattle.choreo_reader.specs.Context.{fault}
 use Rattle.choreo_reader.specs.Text.{Fault}
 use Rattle.cue_grid.specs.Cues.{grid_of}
 use Rattle.cue_grid.specs.Faults.{grid_fault}
-use Rattle.figure_expand.specs.declared.fault.ExpandFault.TheVariants as expand
 use Rattle.figure_expand.specs.Expanded.{range_fault}
 use Rattle.show_judge.specs.declared.ways.Ways.{Ways}
 use Rattle.refusals.specs.declared.refusal.Pair.{Pair}
@@ -43,14 +42,12 @@ text_refusal text = if nat_lt show_limit (length text) then Some refusal.TooLarg
 abbrev pub pair_at : List Name → ℕ → ℕ → ℕ → Pair
 pair_at names a b cue = record { first = name_at names a; second = name_at names b; cue = cue }
 
--- Why a show has no plan, as a refusal. Out of memory is none.
-abbrev pub no_plan : List Name → PlanFault → Option Refusal
-no_plan names (plan.Grid f) = Some (refusal.Grid f)
-no_plan names (plan.Expand (expand.OutOfRange line axis value)) = Some (refusal.Range line axis value)
-no_plan names (plan.Expand expand.Memory) = None
-no_plan names (plan.TooManySegments drone segments) = Some (refusal.Segments (name_at names drone) segments)
-no_plan names (plan.TooLong drone bytes room) = Some (refusal.Room (name_at names drone) bytes room)
-no_plan names plan.Memory = None
+-- what keeps a show from having a plan, as a refusal
+abbrev pub no_plan : List Name → PlanFault → Refusal
+no_plan names (plan.Grid f) = refusal.Grid f
+no_plan names (plan.OutOfRange v) = refusal.Range v.line v.axis v.value
+no_plan names (plan.TooManySegments drone segments) = refusal.Segments (name_at names drone) segments
+no_plan names (plan.TooLong drone bytes room) = refusal.Room (name_at names drone) bytes room
 
 -- a blocked part, as a refusal of a search to this depth
 abbrev pub blocked : List Name → ℕ → BlockedPart → Refusal
@@ -70,9 +67,9 @@ blocked_by (Some depth) s = option_map (blocked (names_of s) depth) (blocked_par
 -- The first refusal of a show: its names and cues, its numbers, a marker line, what can't be sent, separation.
 abbrev pub show_refusal : Ways → Cut → PlainShow → Option Refusal
 show_refusal c cut s =
-    option_or (option_and_then (no_plan (names_of s)) (in_order (grid_fault s) (range_fault (grid_of s)) None))
+    option_or (option_map (no_plan (names_of s)) (in_order (grid_fault s) (range_fault (grid_of s)) None))
     (option_or (marker_refusal c cut)
-    (option_or (option_and_then (no_plan (names_of s)) (unsendable s))
+    (option_or (option_map (no_plan (names_of s)) (unsendable s))
     (blocked_by c.depth s)))
 
 -- ---- the second text

@@ -14,7 +14,7 @@ use crate::ways::Ways;
 use choreo_reader::{Show, ShowFault, read_show};
 use fleet_io::Part;
 use refusals::Refusal;
-use show_plan::{Fitted, count_nodes, fit, landing_law, uploadable_law};
+use show_plan::{FitError, Fitted, count_nodes, fit, landing_law, uploadable_law};
 use std::alloc::{AllocError, Global};
 
 /// A show that fits, or why a command refuses it.
@@ -48,10 +48,12 @@ fn fit_show(alloc: Global, ways: Ways, show: &Show, part: &Part) -> Result<Plann
 {
     let fitted = match fit(alloc, show) {
         Ok(fitted) => fitted,
-        Err(fault) => {
-            let refusal = unfit(ways, show, part, fault)?;
-            return Ok(Planned::Refused { refusal });
+        Err(FitError::Fault { fault }) => {
+            return Ok(Planned::Refused {
+                refusal: unfit(ways, show, part, fault),
+            });
         }
+        Err(FitError::Memory) => return Err(AllocError),
     };
     landing_law();
     uploadable_law(&fitted);

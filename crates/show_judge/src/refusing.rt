@@ -6,7 +6,7 @@ ghost use Rattle.fleet_io.specs.Words.{IsWord};
 ghost use Rattle.choreo_reader.specs.Plain.{PlainShow, plain};
 ghost use Rattle.choreo_reader.specs.Valid.{IsValid};
 ghost use Rattle.refusals.specs.Refusals.{AreNamed};
-ghost use Rattle.show_plan.specs.Fitting.{IsFitted, IsValidFitted, PlanFails, StandsAsWord};
+ghost use Rattle.show_plan.specs.Fitting.{IsFitted, IsValidFitted, StandsAsWord, plan_fault};
 ghost use Rattle.show_plan.specs.Separation.{FailsBy, blocked_part};
 ghost use Rattle.show_judge.specs.Input.{IsShowText};
 ghost use Rattle.show_judge.specs.Refused.{IsOfInput, blocked_by, marker_refusal, pair_at, show_refusal};
@@ -16,8 +16,6 @@ use crate::input::Text;
 use crate::ways::Ways;
 use choreo_lines::copy_of;
 use choreo_reader::{Name, Show};
-use cue_grid::GridFault;
-use figure_expand::ExpandFault;
 use fleet_io::Part;
 use refusals::{Pair, Refusal};
 use show_plan::{Fitted, PlanFault, SeparationFault};
@@ -83,8 +81,9 @@ pub fn marker_refusal(ways: Ways, part: &Part) -> Option<Refusal>
 fn without_room(ways: Ways, show: &Show, part: &Part, drone: u8, bytes: u32, room: u32) -> Refusal
     requires valid { IsValid (plain show.now) }
     requires short { length part.now.bytes.items ≤ show_limit }
-    requires fault { PlanFails (PlanFault.TooLong drone bytes room) (plain show.now) }
-    ensures gives { (cut : Cut) → IsShowText (Text.Whole part.now) cut → show_refusal ways cut (plain show.now) ≡ Some result }
+    requires fault { plan_fault (plain show.now) ≡ Some (PlanFault.TooLong drone bytes room) }
+    ensures gives { (cut : Cut) → IsShowText (Text.Whole part.now) cut
+        → show_refusal ways cut (plain show.now) ≡ Some result }
     ensures said { IsOfInput result }
 {
     match marker_refusal(ways, part) {
@@ -101,8 +100,9 @@ fn without_room(ways: Ways, show: &Show, part: &Part, drone: u8, bytes: u32, roo
 fn without_segments(ways: Ways, show: &Show, part: &Part, drone: u8, segments: u32) -> Refusal
     requires valid { IsValid (plain show.now) }
     requires short { length part.now.bytes.items ≤ show_limit }
-    requires fault { PlanFails (PlanFault.TooManySegments drone segments) (plain show.now) }
-    ensures gives { (cut : Cut) → IsShowText (Text.Whole part.now) cut → show_refusal ways cut (plain show.now) ≡ Some result }
+    requires fault { plan_fault (plain show.now) ≡ Some (PlanFault.TooManySegments drone segments) }
+    ensures gives { (cut : Cut) → IsShowText (Text.Whole part.now) cut
+        → show_refusal ways cut (plain show.now) ≡ Some result }
     ensures said { IsOfInput result }
 {
     match marker_refusal(ways, part) {
@@ -115,32 +115,27 @@ fn without_segments(ways: Ways, show: &Show, part: &Part, drone: u8, segments: u
 }
 
 /// Why a show doesn't fit, or the marker line that is refused before.
-pub fn unfit(ways: Ways, show: &Show, part: &Part, fault: PlanFault) -> Result<Refusal, AllocError>
+pub fn unfit(ways: Ways, show: &Show, part: &Part, fault: PlanFault) -> Refusal
     requires valid { IsValid (plain show.now) }
     requires short { length part.now.bytes.items ≤ show_limit }
-    requires fault { PlanFails fault (plain show.now) }
+    requires fault { plan_fault (plain show.now) ≡ Some fault }
     ensures gives { (cut : Cut) → IsShowText (Text.Whole part.now) cut
-        → IfOk result (λ r. show_refusal ways cut (plain show.now) ≡ Some r) }
-    ensures said { IfOk result IsOfInput }
+        → show_refusal ways cut (plain show.now) ≡ Some result }
+    ensures said { IsOfInput result }
 {
     match fault {
-        PlanFault::Grid { fault } => match fault {
-            GridFault::Memory => unreachable!(),
-            fault => Ok(Refusal::Grid { fault }),
-        },
-        PlanFault::Expand { fault } => match fault {
-            ExpandFault::OutOfRange { line, axis, value } => {
-                Ok(Refusal::Range { line, axis, value })
-            }
-            ExpandFault::Memory => unreachable!(),
+        PlanFault::Grid { fault } => Refusal::Grid { fault },
+        PlanFault::OutOfRange { value: found } => Refusal::Range {
+            line: found.line,
+            axis: found.axis,
+            value: found.value,
         },
         PlanFault::TooManySegments { drone, segments } => {
-            Ok(without_segments(ways, show, part, drone, segments))
+            without_segments(ways, show, part, drone, segments)
         }
         PlanFault::TooLong { drone, bytes, room } => {
-            Ok(without_room(ways, show, part, drone, bytes, room))
+            without_room(ways, show, part, drone, bytes, room)
         }
-        PlanFault::Memory => Err(AllocError),
     }
 }
 

@@ -23,15 +23,16 @@ use Rattle.mm_rounding.specs.declared.piece.MicroPiece.{MicroPiece}
 use Rattle.mm_rounding.specs.Rounding.{segment_of}
 use Rattle.figure_expand.specs.Acts.{act_of, end_of}
 use Rattle.figure_expand.specs.Controls.{piece_of}
-use Rattle.figure_expand.specs.declared.fault.ExpandFault.{ExpandFault}
+use Rattle.figure_expand.specs.declared.fault.AxisValue.{AxisValue}
 use Rattle.figure_expand.specs.Expanded.{job_in, pieces_from, expanded_from, expanded, range_fault}
 use Rattle.figure_expand.specs.Flown.{start_of, RoundsWell}
 use Rattle.show_plan.specs.declared.fitted.Fitted.{Fitted}
+use Rattle.show_plan.specs.declared.fitted.FitError.{FitError}
 use Rattle.show_plan.specs.declared.fitted.PlanFault.{PlanFault}
 use Rattle.show_plan.specs.declared.fitted.PlanFault.TheVariants as fault
 use Rattle.show_plan.specs.Trajectories.{trajectory_of, trajectories_of, by_cue, sent}
 use Rattle.show_plan.specs.Flight.{no_trajectory, KeepsNearShow}
-use Rattle.show_plan.specs.Fitting.{IsFlown, IsSendable, size, room, send_fault, first_unsendable, unsendable, in_order, plan_fault, AreEncodings, PlanFails, FitGives}
+use Rattle.show_plan.specs.Fitting.{IsFlown, IsSendable, size, room, send_fault, first_unsendable, unsendable, in_order, plan_fault, AreEncodings, FitGives}
 use Rattle.show_plan.proofs.Flight.{by_cue_counted, flight, flight_at_is, keeps_near_show}
 
 -- ---- lists as the code has them
@@ -207,22 +208,16 @@ unsendable_names space d (t ∷ ts) f is = by_first (send_fault space d t) refl 
     by_first None e is later = let named = later is in record { drone = named.drone; is = named.is; among = omega (arith, named.among) }
     by_first (Some g) e is later = send_names space d t f (d + length (t ∷ ts)) (omega arith) (e ∙ is)
 
-send_fails : (s : PlainShow) (n : ℕ) (f : PlanFault) → IsSendFault n f → plan_fault s ≡ Some f → PlanFails f s
-send_fails s n f named is = elim named.is [
-  | inl many ↦ subst (λ (f : PlanFault). PlanFails f s) (sym many.1) (is ∙ ap (λ (f : PlanFault). Some f) many.1)
-  | inr long ↦ subst (λ (f : PlanFault). PlanFails f s) (sym long.2) (is ∙ ap (λ (f : PlanFault). Some f) long.2)
-]
-
 -- Where names, cues and numbers have no fault, the first trajectory that can't be sent is the reason why the show has no plan.
 pub unsendable_given : (s : PlainShow) (g : Grid) (space : ℕ) (ts : List Traj) (f : PlanFault) →
-    grid_fault s ≡ None → g ≡ grid_of s → range_fault g ≡ None → space ≡ room s → ts ≡ sent g → Some f ≡ first_unsendable space 0 ts → PlanFails f s
+    grid_fault s ≡ None → g ≡ grid_of s → range_fault g ≡ None → space ≡ room s → ts ≡ sent g → Some f ≡ first_unsendable space 0 ts → plan_fault s ≡ Some f
 unsendable_given s g space ts f unrolled is fits space_is ts_are late =
     let range : range_fault (grid_of s) ≡ None = subst (λ (g : Grid). range_fault g ≡ None) is fits in
     let here : unsendable s ≡ Some f =
     sym (late ∙ ap (λ (n : ℕ). first_unsendable n 0 ts) space_is ∙ ap (first_unsendable (room s) 0) (ts_are ∙ ap sent is)) in
-    send_fails s (0 + length ts) f (unsendable_names space 0 ts f (sym late)) (by_order (grid_fault s) (range_fault (grid_of s)) unrolled range here)
+    by_order (grid_fault s) (range_fault (grid_of s)) unrolled range here
   where
-    by_order : (a : Option GridFault) (b : Option ExpandFault) → a ≡ None → b ≡ None → unsendable s ≡ Some f → in_order a b (unsendable s) ≡ Some f
+    by_order : (a : Option GridFault) (b : Option AxisValue) → a ≡ None → b ≡ None → unsendable s ≡ Some f → in_order a b (unsendable s) ≡ Some f
     by_order None None p q here = here
     by_order (Some e) b p q here = absurd (cc)
     by_order None (Some e) p q here = absurd (cc)
@@ -236,13 +231,13 @@ fits_given s g space ts unrolled is fits space_is ts_are none =
     sym (ap (λ (n : ℕ). first_unsendable n 0 ts) space_is ∙ ap (first_unsendable (room s) 0) (ts_are ∙ ap sent is)) ∙ none in
     by_order (grid_fault s) (range_fault (grid_of s)) unrolled range here
   where
-    by_order : (a : Option GridFault) (b : Option ExpandFault) → a ≡ None → b ≡ None → unsendable s ≡ None → in_order a b (unsendable s) ≡ None
+    by_order : (a : Option GridFault) (b : Option AxisValue) → a ≡ None → b ≡ None → unsendable s ≡ None → in_order a b (unsendable s) ≡ None
     by_order None None p q here = here
     by_order (Some e) b p q here = absurd (cc)
     by_order None (Some e) p q here = absurd (cc)
 
 -- What fits is near to the show.
-pub near_given : (r : Result Fitted PlanFault) (s : PlainShow) (g : Grid) → FitGives r s → IsGrid g → g ≡ grid_of s → IfOk r (λ f. KeepsNearShow (grid_of s) f.sent)
+pub near_given : (r : Result Fitted FitError) (s : PlainShow) (g : Grid) → FitGives r s → IsGrid g → g ≡ grid_of s → IfOk r (λ f. KeepsNearShow (grid_of s) f.sent)
 near_given (Ok f) s g gives is e =
     subst (λ (ts : List Traj). KeepsNearShow (grid_of s) ts) (sym gives.1.sent) (keeps_near_show (grid_of s) (subst IsGrid e is))
 near_given (Err f) s g gives is e = tt

@@ -23,9 +23,10 @@ use Rattle.traj_codec.specs.declared.traj.Traj.{Traj}
 use Rattle.traj_codec.specs.Positions.{durations}
 use Rattle.traj_codec.specs.Joined.{joined}
 use Rattle.traj_codec.specs.Spelling.{ending, most_segments, IsEncoding, IsTrajectory}
-use Rattle.figure_expand.specs.declared.fault.ExpandFault.{ExpandFault}
+use Rattle.figure_expand.specs.declared.fault.AxisValue.{AxisValue}
 use Rattle.figure_expand.specs.Expanded.{range_fault}
 use Rattle.show_plan.specs.declared.fitted.Fitted.{Fitted}
+use Rattle.show_plan.specs.declared.fitted.FitError.{FitError}
 use Rattle.show_plan.specs.declared.fitted.PlanFault.{PlanFault}
 use Rattle.show_plan.specs.Trajectories.{by_cue, sent, cue_times}
 use Rattle.show_plan.specs.Flight.{no_trajectory}
@@ -36,7 +37,7 @@ use Rattle.show_plan.proofs.Sendable.{none_unsendable, one_sendable}
 -- ---- no fault
 
 -- where there is no fault of a show, no layer has one
-no_part : (a : Option GridFault) (b : Option ExpandFault) (c : Option PlanFault) → in_order a b c ≡ None → (a ≡ None) × (b ≡ None) × (c ≡ None)
+no_part : (a : Option GridFault) (b : Option AxisValue) (c : Option PlanFault) → in_order a b c ≡ None → (a ≡ None) × (b ≡ None) × (c ≡ None)
 no_part None None c none = (refl, refl, none)
 no_part None (Some f) c none = absurd (cc)
 no_part (Some f) b c none = absurd (cc)
@@ -124,7 +125,7 @@ valid_by f s v none sendable is formed =
     }
 
 -- What is answered is valid.
-pub valid_given : (r : Result Fitted PlanFault) (s : PlainShow) → IsValid s → FitGives r s → IfOk r (λ f. All IsTrajectory f.trajs) → IfOk r (λ f. IsValidFitted f)
+pub valid_given : (r : Result Fitted FitError) (s : PlainShow) → IsValid s → FitGives r s → IfOk r (λ f. All IsTrajectory f.trajs) → IfOk r (λ f. IsValidFitted f)
 valid_given (Ok f) s v gives formed =
     let none = no_part (grid_fault s) (range_fault (grid_of s)) (unsendable s) gives.0 in
     valid_by f s v none.0 none.2 gives.1 formed

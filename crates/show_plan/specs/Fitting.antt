@@ -10,7 +10,6 @@ use Rattle.choreo_reader.specs.declared.show.DroneLine.{DroneLine}
 use Rattle.choreo_reader.specs.Plain.{PlainShow}
 use Rattle.choreo_reader.specs.Valid.{FitsSettings}
 use Rattle.cue_grid.specs.declared.grid.GridFault.{GridFault}
-use Rattle.cue_grid.specs.declared.grid.GridFault.TheVariants as grid
 use Rattle.cue_grid.specs.Cues.{grid_of}
 use Rattle.cue_grid.specs.Faults.{drone_limit, grid_fault}
 use Rattle.cue_grid.specs.Names.{has_double}
@@ -18,10 +17,11 @@ use Rattle.traj_codec.specs.declared.traj.Traj.{Traj}
 use Rattle.traj_codec.specs.Positions.{durations}
 use Rattle.traj_codec.specs.Joined.{joined}
 use Rattle.traj_codec.specs.Spelling.{spelling, ending, IsEncoding, IsTrajectory, HasDuration, most_segments}
-use Rattle.figure_expand.specs.declared.fault.ExpandFault.{ExpandFault}
-use Rattle.figure_expand.specs.declared.fault.ExpandFault.TheVariants as expand
+use Rattle.figure_expand.specs.declared.fault.AxisValue.{AxisValue}
 use Rattle.figure_expand.specs.Expanded.{range_fault}
 use Rattle.show_plan.specs.declared.fitted.Fitted.{Fitted}
+use Rattle.show_plan.specs.declared.fitted.FitError.{FitError}
+use Rattle.show_plan.specs.declared.fitted.FitError.TheVariants as error
 use Rattle.show_plan.specs.declared.fitted.PlanFault.{PlanFault}
 use Rattle.show_plan.specs.declared.fitted.PlanFault.TheVariants as fault
 use Rattle.show_plan.specs.Trajectories.{by_cue, sent, cue_times}
@@ -70,9 +70,9 @@ unsendable s = first_unsendable (room s) 0 (sent (grid_of s))
 -- ---- what is answered
 
 -- the faults of names and cues come first, then the numbers, then what can't be sent
-abbrev pub in_order : Option GridFault → Option ExpandFault → Option PlanFault → Option PlanFault
+abbrev pub in_order : Option GridFault → Option AxisValue → Option PlanFault → Option PlanFault
 in_order (Some f) range late = Some (fault.Grid f)
-in_order None (Some f) late = Some (fault.Expand f)
+in_order None (Some v) late = Some (fault.OutOfRange v)
 in_order None None late = late
 
 -- the first reason why a show has no plan
@@ -96,18 +96,12 @@ pub record IsFitted (f : Fitted) (s : PlainShow) : Type 0 where
   pub sent : f.sent ≡ sent (grid_of s)
   pub bytes : AreEncodings f.bytes f.sent
 
--- A refusal is the first reason why the show has no plan. Out of memory says nothing, and is no fault of names, cues or numbers.
--- Separation isn't judged here.
-abbrev pub PlanFails : PlanFault → PlainShow → Type 0
-PlanFails fault.Memory s = Unit {0}
-PlanFails (fault.Grid grid.Memory) s = ⊥
-PlanFails (fault.Expand expand.Memory) s = ⊥
-PlanFails f s = plan_fault s ≡ Some f
-
--- What fits comes only without such a reason, and is that of the show.
-abbrev pub FitGives : Result Fitted PlanFault → PlainShow → Type 0
+-- What fits comes only without a reason why the show has no plan, and is that of the show. A fault is the first such
+-- reason. Out of memory says nothing. Separation isn't judged here.
+abbrev pub FitGives : Result Fitted FitError → PlainShow → Type 0
 FitGives (Ok f) s = (plan_fault s ≡ None) × IsFitted f s
-FitGives (Err f) s = PlanFails f s
+FitGives (Err (error.Fault f)) s = plan_fault s ≡ Some f
+FitGives (Err error.Memory) s = Unit {0}
 
 -- Valid: settings in range; 1 to 32 names of the language, each of which can stand as a word, no two of them equal; as many trajectories,
 -- by cue and sent, and lists of bytes; 1 to 1,000 cues, each of which lasts some time; these are the durations of the segments of each trajectory by cue, whose

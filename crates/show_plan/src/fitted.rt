@@ -2,7 +2,7 @@
 
 use choreo_reader::{Listed, Name, Settings};
 use cue_grid::GridFault;
-use figure_expand::ExpandFault;
+use figure_expand::AxisValue;
 use std::alloc::AllocError;
 use traj_codec::Traj;
 
@@ -25,28 +25,35 @@ pub struct Fitted {
     pub bytes: Listed<Listed<u8>>,
 }
 
-/// Why a show has no plan.
+/// What keeps a show from having a plan.
 #[derive(Clone, Copy, PartialEq, Eq, Debug)]
 pub enum PlanFault {
     /// A fault of its names or cues.
     Grid { fault: GridFault },
     /// A number that no trajectory can hold.
-    Expand { fault: ExpandFault },
+    OutOfRange { value: AxisValue },
     /// The first drone, from 0, whose trajectory has more segments than a drone's memory can hold, its holds joined.
     TooManySegments { drone: u8, segments: u32 },
     /// The first drone, from 0, whose trajectory has more bytes than a drone's memory has room for after the offset.
     TooLong { drone: u8, bytes: u32, room: u32 },
+}
+
+/// Why a show isn't fitted.
+#[derive(Clone, Copy, PartialEq, Eq, Debug)]
+pub enum FitError {
+    /// What keeps it from having a plan.
+    Fault { fault: PlanFault },
     /// Out of memory.
     Memory,
 }
 
-impl From<AllocError> for PlanFault {
+impl From<AllocError> for FitError {
     ghost use Rattle.std.specs.Prelude.{◌≡◌};
-    ghost use Rattle.show_plan.specs.declared.fitted.PlanFault.TheVariants.{Memory};
+    ghost use Rattle.show_plan.specs.declared.fitted.FitError.TheVariants.{Memory};
 
     ghost from_gives = { λ _ e. e ≡ Memory };
 
     fn from(_: AllocError) -> Self {
-        PlanFault::Memory
+        FitError::Memory
     }
 }

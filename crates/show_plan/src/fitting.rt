@@ -18,12 +18,12 @@ ghost use Rattle.show_plan.specs.Flight.{KeepsNearShow};
 ghost use Rattle.show_plan.specs.Fitting.{IsFlown, IsSendable, first_unsendable, send_fault};
 ghost use Rattle.show_plan.specs.Fitting.{AreEncodings, FitGives, IsValidFitted};
 
-use crate::fitted::{Fitted, PlanFault};
+use crate::fitted::{FitError, Fitted, PlanFault};
 use choreo_lines::copy_of;
 use choreo_reader::{DroneLine, Listed, Name, Point, Show};
 use crtp_packets::MEMORY_BYTES;
-use cue_grid::{Cue, Grid, GridFault, unroll};
-use figure_expand::{ExpandFault, expand, expansion_law};
+use cue_grid::{Cue, Grid, UnrollError, unroll};
+use figure_expand::{ExpandError, expand, expansion_law};
 use mm_rounding::{MicroPiece, round_piece, to_mm};
 use std::alloc::{AllocError, Global};
 use traj_codec::{MOST_SEGMENTS, Traj, encode, join_holds, segment_law, size_of, start_law};
@@ -179,7 +179,7 @@ fn fitted(
     show: &Show,
     grid: &Grid,
     rows: &[Vec<MicroPiece>],
-) -> Result<Fitted, PlanFault>
+) -> Result<Fitted, FitError>
     requires valid { IsValid (plain show.now) }
     requires unrolled { grid_fault (plain show.now) ≡ None }
     requires is { grid.now ≡ grid_of (plain show.now) }
@@ -196,7 +196,7 @@ fn fitted(
     let sent = joined_all(alloc, trajs.as_slice())?;
     let room = MEMORY_BYTES as u32 - u32::from(show.settings.offset);
     if let Some(fault) = first_unsendable(room, sent.as_slice()) {
-        return Err(fault);
+        return Err(FitError::Fault { fault });
     }
     let bytes = encodings(alloc, sent.as_slice())?;
     let names = names_of(alloc, starts)?;
@@ -217,7 +217,7 @@ fn fitted(
 ///
 /// At every instant of the show, also between whole milliseconds, what each drone is sent decodes to is within half a millimetre
 /// of what the show says, on x, y and z, and the yaw is equal (docs/TRAJECTORY.md).
-pub fn fit(alloc: Global, show: &Show) -> Result<Fitted, PlanFault>
+pub fn fit(alloc: Global, show: &Show) -> Result<Fitted, FitError>
     requires { IsValid (plain show.now) }
     ensures gives { FitGives result (plain show.now) }
     ensures valid { IfOk result (λ f. IsValidFitted f) }
@@ -225,13 +225,21 @@ pub fn fit(alloc: Global, show: &Show) -> Result<Fitted, PlanFault>
 {
     let grid = match unroll(alloc, show) {
         Ok(grid) => grid,
-        Err(GridFault::Memory) => return Err(PlanFault::Memory),
-        Err(fault) => return Err(PlanFault::Grid { fault }),
+        Err(UnrollError::Fault { fault }) => {
+            return Err(FitError::Fault {
+                fault: PlanFault::Grid { fault },
+            });
+        }
+        Err(UnrollError::Memory) => return Err(FitError::Memory),
     };
     let rows = match expand(alloc, &grid) {
         Ok(rows) => rows,
-        Err(ExpandFault::Memory) => return Err(PlanFault::Memory),
-        Err(fault) => return Err(PlanFault::Expand { fault }),
+        Err(ExpandError::OutOfRange { value }) => {
+            return Err(FitError::Fault {
+                fault: PlanFault::OutOfRange { value },
+            });
+        }
+        Err(ExpandError::Memory) => return Err(FitError::Memory),
     };
     fitted(alloc, show, &grid, rows.as_slice())
 }

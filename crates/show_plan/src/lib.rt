@@ -24,7 +24,7 @@ mod separation;
 mod text;
 mod upload;
 
-pub use fitted::{Fitted, PlanFault};
+pub use fitted::{FitError, Fitted, PlanFault};
 pub use fitting::fit;
 pub use separation::{
     BlockedPart, SeparationFault, certificate, clearance_of, count_nodes, separation_law,

@@ -4,9 +4,9 @@ ghost use Rattle.show_plan.specs.Fitting.{IsValidFitted};
 
 use choreo_reader::{MOST_BYTES, read_show};
 use cue_grid::GridFault;
-use figure_expand::ExpandFault;
+use figure_expand::AxisValue;
 use fleet_io::Lines;
-use show_plan::{Fitted, PlanFault, fit, plan_text};
+use show_plan::{FitError, Fitted, PlanFault, fit, plan_text};
 use std::alloc::Global;
 
 // What a text fits, or why not; nothing where it isn't a show.
@@ -22,7 +22,8 @@ fn fitted_of(alloc: Global, text: &[u8]) -> Result<Fitted, Option<PlanFault>>
     };
     match fit(alloc, &show) {
         Ok(fitted) => Ok(fitted),
-        Err(fault) => Err(Some(fault)),
+        Err(FitError::Fault { fault }) => Err(Some(fault)),
+        Err(FitError::Memory) => Err(None),
     }
 }
 
@@ -139,8 +140,8 @@ const REFUSALS: [(&[u8], PlanFault); 8] = [
     // a number out of range
     (
         b"choreo 1\ndrone solo 32767500 0 1000000 0\ncue 2000\nsolo move 1000000 0 1000000 0\nend\n",
-        PlanFault::Expand {
-            fault: ExpandFault::OutOfRange {
+        PlanFault::OutOfRange {
+            value: AxisValue {
                 line: 2,
                 axis: 0,
                 value: 32_767_500,
@@ -157,8 +158,8 @@ const REFUSALS: [(&[u8], PlanFault); 8] = [
     // a number out of range comes before want of room
     (
         b"choreo 1\nmemory 2 4095\ndrone solo -32768501 0 1000000 0\ncue 2000\nend\n",
-        PlanFault::Expand {
-            fault: ExpandFault::OutOfRange {
+        PlanFault::OutOfRange {
+            value: AxisValue {
                 line: 3,
                 axis: 0,
                 value: -32_768_501,

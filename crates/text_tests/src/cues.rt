@@ -3,7 +3,7 @@
 ghost use Rattle.std.specs.Prelude.{◌≡◌};
 
 use choreo_reader::{Frame, LineKind, Mirror, Point, ShowFault, read_show};
-use cue_grid::{GridFault, apply, mirror, quarter_turn, shift, unroll};
+use cue_grid::{GridFault, UnrollError, apply, mirror, quarter_turn, shift, unroll};
 use std::alloc::Global;
 
 /// What becomes of a text: this many cues, a faulty line, or a fault of names or cues.
@@ -25,7 +25,8 @@ fn outcome_of(alloc: Global, text: &[u8]) -> Outcome {
         Err(ShowFault::Memory) => Outcome::Memory,
         Ok(show) => match unroll(alloc, &show) {
             Ok(grid) => Outcome::Cues(grid.cues.as_slice().len()),
-            Err(fault) => Outcome::Fault(fault),
+            Err(UnrollError::Fault { fault }) => Outcome::Fault(fault),
+            Err(UnrollError::Memory) => Outcome::Memory,
         },
     }
 }

@@ -1,7 +1,7 @@
 //! Shows by their texts: the control values of their figures, or the first value that no trajectory can hold.
 use choreo_reader::read_show;
 use cue_grid::unroll;
-use figure_expand::{ExpandFault, expand};
+use figure_expand::{AxisValue, ExpandError, expand};
 use mm_rounding::{Axis, MicroPiece};
 use std::alloc::Global;
 
@@ -9,7 +9,7 @@ use std::alloc::Global;
 #[derive(Clone, Copy, PartialEq, Eq)]
 enum Outcome {
     Piece(MicroPiece),
-    Fault(ExpandFault),
+    OutOfRange(AxisValue),
     Other,
 }
 
@@ -27,7 +27,8 @@ fn outcome_of(alloc: Global, text: &[u8]) -> Outcome {
     };
     match expand(alloc, &grid) {
         Ok(rows) => last_piece(&rows),
-        Err(fault) => Outcome::Fault(fault),
+        Err(ExpandError::OutOfRange { value }) => Outcome::OutOfRange(value),
+        Err(ExpandError::Memory) => Outcome::Other,
     }
 }
 
@@ -121,10 +122,10 @@ fn figures(rt: HostRuntime) {
 }
 
 // The first value that no trajectory can hold.
-const RANGES: [(&[u8], ExpandFault); 3] = [
+const RANGES: [(&[u8], AxisValue); 3] = [
     (
         b"choreo 1\ndrone solo 32767500 0 1000000 0\ncue 2000\nsolo move 1000000 0 1000000 0\nend\n",
-        ExpandFault::OutOfRange {
+        AxisValue {
             line: 2,
             axis: 0,
             value: 32_767_500,
@@ -132,7 +133,7 @@ const RANGES: [(&[u8], ExpandFault); 3] = [
     ),
     (
         b"choreo 1\ndrone solo -32768501 0 1000000 0\ncue 2000\nsolo move 1000000 0 1000000 0\nend\n",
-        ExpandFault::OutOfRange {
+        AxisValue {
             line: 2,
             axis: 0,
             value: -32_768_501,
@@ -141,7 +142,7 @@ const RANGES: [(&[u8], ExpandFault); 3] = [
     // the end of a movement
     (
         b"choreo 1\ndrone solo -32768500 32767499 1000000 0\ncue 2000\nsolo move 0 40000000 1000000 0\nend\n",
-        ExpandFault::OutOfRange {
+        AxisValue {
             line: 4,
             axis: 1,
             value: 40_000_000,
@@ -152,6 +153,6 @@ const RANGES: [(&[u8], ExpandFault); 3] = [
 #[test]
 fn ranges(rt: HostRuntime) {
     for (text, wanted) in RANGES {
-        assert!(rt; outcome_of(rt.alloc(), text) == Outcome::Fault(wanted));
+        assert!(rt; outcome_of(rt.alloc(), text) == Outcome::OutOfRange(wanted));
     }
 }

@@ -1,4 +1,4 @@
-use Rattle.std.proofs.Common.{[], ◌∷◌, codes, refl, arith}
+use Rattle.std.proofs.Common.{[], ◌∷◌, codes, refl}
 use Rattle.refusals.specs.Lines.{pair_words}
 use Rattle.refusals.proofs.RefusalLaws.{refusal_made, pair_are_words}
 use Rattle.refusals.proofs.pairs.unproved_pair.Goals as goal

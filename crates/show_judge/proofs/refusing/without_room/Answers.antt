@@ -22,8 +22,8 @@ returns-in-None-clause-gives c = λ cut is.
     let late = late_is s (fault.TooLong c.args.drone c.args.bytes c.args.room) tt c.requires.fault in
     let inside = late_drone s (fault.TooLong c.args.drone c.args.bytes c.args.room) tt c.requires.fault in
     let name = name_read c.args.show.now.drones c.as_slice.result.now c.args.drone c.from.result c.index-as_slice-from.result c.as_slice.ensures c.from.ensures inside in
-    late_refused c.args.ways cut s (fault.TooLong c.args.drone c.args.bytes c.args.room) _ late.0 (sym (c.in-None.ensures.gives cut is)) late.1
-    (ap (λ (n : Name). Some (refusal.Room n c.args.bytes c.args.room)) (sym (c.copy_of.ensures ∙ name)))
+    late_refused c.args.ways cut s (fault.TooLong c.args.drone c.args.bytes c.args.room) late.0 (sym (c.in-None.ensures.gives cut is)) late.1
+    ∙ ap (λ (n : Name). Some (refusal.Room n c.args.bytes c.args.room)) (sym (c.copy_of.ensures ∙ name))
 
 pub returns-in-None-clause-said : goal.returns-in-None-clause-said
 returns-in-None-clause-said c =
