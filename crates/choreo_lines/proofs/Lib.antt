@@ -1,4 +1,5 @@
 pub mod Names
 pub mod Collected
 pub mod Reading
+pub mod Saying
 pub mod Rows

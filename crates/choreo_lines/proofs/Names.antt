@@ -1,22 +1,23 @@
 -- A name is a word: it has a byte, and no byte of it is a blank or a line feed.
 use Rattle.std.proofs.Common.{◌≡◌, ℕ, ◌<◌, ◌≤◌, true, false, List, [], ◌∷◌, length, get_or, sym, ◌∙◌, arith, inl, inr}
 use Rattle.std.specs.Prelude.{◌&&◌, not, nat_le, bytes_eq, codes}
+use Rattle.std.specs.List.{list_all}
 use Rattle.std.proofs.lemmas.Bool.{and_parts, cases_Bool}
 use Rattle.std.proofs.lemmas.Bool.Decides.{nat_tests}
 use Rattle.std.proofs.lemmas.List.Folds.{list_all_at}
 use Rattle.text_lines.specs.Lines.{is_line_feed}
 use Rattle.text_lines.specs.Words.{is_blank}
-use Rattle.choreo_lines.specs.Name.{goes_in_name, all_go_in_name, begins_lower, is_name}
+use Rattle.choreo_lines.specs.Name.{goes_in_name, begins_lower, is_name}
 
 -- a name begins with a letter, and all its bytes go in a name
-name_parts : (word : List ℕ) → is_name word ≡ true → (begins_lower word ≡ true) × (all_go_in_name word ≡ true)
+name_parts : (word : List ℕ) → is_name word ≡ true → (begins_lower word ≡ true) × (list_all goes_in_name word ≡ true)
 name_parts word named =
-    let front = begins_lower word && all_go_in_name word in
+    let front = begins_lower word && list_all goes_in_name word in
     let short = front && nat_le (length word) 16 in
     let p = and_parts (short && not (bytes_eq word (codes "form"))) (not (bytes_eq word (codes "end"))) named in
     let q = and_parts short (not (bytes_eq word (codes "form"))) p.0 in
     let r = and_parts front (nat_le (length word) 16) q.0 in
-    and_parts (begins_lower word) (all_go_in_name word) r.0
+    and_parts (begins_lower word) (list_all goes_in_name word) r.0
 
 -- a name has a byte
 pub name_has_bytes : (word : List ℕ) → is_name word ≡ true → 0 < length word

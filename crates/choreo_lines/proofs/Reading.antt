@@ -1,17 +1,13 @@
--- What the reading of a line gives is what the line says, and it may stand there; and the other way round.
-use Rattle.std.proofs.Common.{◌≡◌, ℕ, zero, suc, Bool, true, false, List, [], ◌∷◌, drop, Result, Ok, Err, refl, sym, ap, subst, ◌∙◌, cond, arith}
-use Rattle.std.specs.Prelude.{◌&&◌, ◌==◌, not, bytes_eq, codes, length, get_or, nat_le, ℤ, pos, ◌≤ℤ◌, IsTrue}
-use Rattle.std.proofs.lemmas.Int.{ints}
+-- How a line is read, step by step: what each step gave, and by which first word.
+use Rattle.std.proofs.Common.{◌≡◌, Bool, true, false, List, drop, Result, Ok, Err, refl, sym, ap, subst, ◌∙◌, cond}
+use Rattle.std.specs.Prelude.{◌&&◌, not, bytes_eq, codes, length, nat_le}
+use Rattle.std.specs.List.{list_all}
 use Rattle.std.proofs.lemmas.Bool.{and_parts}
-use Rattle.text_lines.specs.Numbers.{number_in as number_read}
-use Rattle.text_lines.specs.declared.number.NumberFault.{NumberFault}
-use Rattle.text_lines.proofs.NumberLaws.{read_is_number}
-use Rattle.choreo_lines.specs.Name.{Name, is_name, begins_lower, all_go_in_name}
+use Rattle.choreo_lines.specs.Name.{Name, is_name, begins_lower, goes_in_name}
 use Rattle.choreo_lines.specs.FirstWord.{keyword_of}
-use Rattle.choreo_lines.specs.Table.{Word, word, natural, row_of, act_places, has_count, act_of, may_stand, as_read}
-use Rattle.choreo_lines.specs.Fields.{◌>>=◌, judged, number_in, name_in, mirror_in, smooth_in, ccw_in, value_in, values_in, names_in, number_of, number_at, name_of, name_at, act_with, entry_with, act_by, act_in, act_line, row_line, line_in, line_at, entry_of}
-use Rattle.choreo_lines.specs.Says.{keyword_in, IsFirst, Says, may_say}
-use Rattle.choreo_lines.specs.Steps.{Fits, AllFit, IsNatural}
+use Rattle.choreo_lines.specs.Table.{Word, word, row_of, has_count, may_stand, as_read}
+use Rattle.choreo_lines.specs.Fields.{◌>>=◌, name_in, values_in, names_in, entry_with, act_in, act_line, row_line, line_in, line_at, entry_of}
+use Rattle.choreo_lines.specs.Says.{keyword_in, may_say}
 use Rattle.choreo_lines.specs.declared.line.LineKind.{LineKind}
 use Rattle.choreo_lines.specs.declared.line.LineKind.TheVariants as kind
 use Rattle.choreo_lines.specs.declared.line.Keyword.{Keyword}
@@ -21,11 +17,7 @@ use Rattle.choreo_lines.specs.declared.line.Place.TheVariants as place
 use Rattle.choreo_lines.specs.declared.line.Entry.{Entry}
 use Rattle.choreo_lines.specs.declared.line.Entry.TheVariants as entry
 use Rattle.choreo_lines.specs.declared.parts.Act.{Act}
-use Rattle.choreo_lines.specs.declared.table.Want.{Want}
-use Rattle.choreo_lines.specs.declared.table.Want.TheVariants as want
 use Rattle.choreo_lines.specs.declared.table.Value.{Value}
-use Rattle.choreo_lines.specs.declared.table.Value.TheVariants as value
-use Rattle.choreo_lines.specs.declared.table.ActWord.{ActWord}
 
 -- Steps that gave a value.
 
@@ -49,75 +41,6 @@ name_read w n h =
     let p = passed (is_name w) (Ok (record { items = w })) kind.BadName n h in
     let same : record { items = w } ≡ n = cc in
     (p.0, ap (λ (m : Name). m.items) same)
-
--- Values that were read fit their places.
-
-number_fits : (low high : ℤ) (w : Word) (r : Result ℤ NumberFault) (v : Value) → number_read low high w ≡ r → (judged r >>= (λ x. Ok (value.Number x))) ≡ Ok v → Fits (want.Number low high) v
-number_fits low high w (Ok x) v e h =
-    let same : value.Number x ≡ v = cc in
-    let is = read_is_number low high w x e in
-    subst (Fits (want.Number low high)) same (is.from, is.to)
-number_fits low high w (Err f) v e h = cc
-
-made_fits : {A : Type 0} (wanted : Want) (r : Result A LineKind) (make : A → Value) (v : Value) → ((a : A) → Fits wanted (make a)) → (r >>= (λ a. Ok (make a))) ≡ Ok v → Fits wanted v
-made_fits wanted (Ok a) make v h e = let same : make a ≡ v = cc in subst (Fits wanted) same (h a)
-made_fits wanted (Err k) make v h e = cc
-
-named_fits : (w : Word) (r : Result Name LineKind) (v : Value) → name_in w ≡ r → (r >>= (λ n. Ok (value.Name n))) ≡ Ok v → Fits want.Name v
-named_fits w (Ok n) v e h =
-    let same : value.Name n ≡ v = cc in
-    let p = name_read w n e in
-    subst (Fits want.Name) same (subst (λ x. IsTrue (is_name x)) p.1 p.0)
-named_fits w (Err k) v e h = cc
-
-value_fits : (wanted : Want) (w : Word) (v : Value) → value_in wanted w ≡ Ok v → Fits wanted v
-value_fits want.Name w v h = named_fits w (name_in w) v refl h
-value_fits want.Mirror w v h = made_fits want.Mirror (mirror_in w) value.Mirror v (λ n. tt) h
-value_fits want.Manner w v h = made_fits want.Manner (smooth_in w) value.Smooth v (λ n. tt) h
-value_fits want.Sense w v h = made_fits want.Sense (ccw_in w) value.Ccw v (λ n. tt) h
-value_fits (want.Number low high) w v h = number_fits low high w (number_read low high w) v refl h
-
-pub values_fit : (wants : List Want) (ws : List Word) (vs : List Value) → values_in wants ws ≡ Ok vs → AllFit wants vs
-unfolding values_in
-values_fit [] ws vs h = let same : [] ≡ vs = cc in subst (AllFit []) same tt
-values_fit (wanted ∷ more) ws vs h =
-    let p = two (value_in wanted (word ws 0)) (λ v. values_in more (drop 1 ws) >>= (λ xs. Ok (v ∷ xs))) vs h in
-    let q = two (values_in more (drop 1 ws)) (λ xs. Ok (p.a ∷ xs)) vs p.then in
-    let same : p.a ∷ q.a ≡ vs = cc in
-    subst (AllFit (wanted ∷ more)) same (value_fits wanted (word ws 0) p.a p.first, values_fit more (drop 1 ws) q.a q.first)
-
-name_is : (v : Value) → Fits want.Name v → IsTrue (is_name (name_of v).items)
-name_is (value.Name n) f = f
-name_is v f = absurd f
-
--- a name that fits a place is one
-name_in_place : (wanted : Want) (v : Value) → wanted ≡ want.Name → Fits wanted v → IsTrue (is_name (name_of v).items)
-name_in_place wanted v e f = name_is v (subst (λ w. Fits w v) e f)
-
-pub name_within : (wants : List Want) (vs : List Value) (k : ℕ) → AllFit wants vs → get_or wants k want.Mirror ≡ want.Name → IsTrue (is_name (name_at vs k).items)
-name_within (w ∷ ws) (v ∷ vs) zero fit e = name_in_place w v e fit.0
-name_within (w ∷ ws) (v ∷ vs) (suc k) fit e = name_within ws vs k fit.1 e
-name_within (w ∷ ws) [] k fit e = absurd fit
-name_within [] vs k fit e = cc
-
--- An entry is that of its first word.
-
-in_its : (low high : ℤ) (v : Value) → Fits (want.Number low high) v → (low ≤ℤ number_of v) × (number_of v ≤ℤ high)
-in_its low high (value.Number x) f = f
-in_its low high v f = absurd f
-
--- a number that fits a place is in its range
-number_in_range : (low high : ℤ) (wanted : Want) (v : Value) → wanted ≡ want.Number low high → Fits wanted v → (low ≤ℤ number_of v) × (number_of v ≤ℤ high)
-number_in_range low high wanted v e f = in_its low high v (subst (λ w. Fits w v) e f)
-
-pub number_within : (wants : List Want) (vs : List Value) (k : ℕ) (low high : ℤ) → AllFit wants vs → get_or wants k want.Name ≡ want.Number low high → (low ≤ℤ number_at vs k) × (number_at vs k ≤ℤ high)
-number_within (w ∷ ws) (v ∷ vs) zero low high fit e = number_in_range low high w v e fit.0
-number_within (w ∷ ws) (v ∷ vs) (suc k) low high fit e = number_within ws vs k low high fit.1 e
-number_within (w ∷ ws) [] k low high fit e = absurd fit
-number_within [] vs k low high fit e = cc
-
-pub natural_within : (wants : List Want) (vs : List Value) (k low most : ℕ) → AllFit wants vs → get_or wants k want.Name ≡ natural low most → IsNatural most (number_at vs k)
-natural_within wants vs k low most fit e = let p = number_within wants vs k (pos low) (pos most) fit e in (omega (arith, ints, p.0), p.1)
 
 -- An entry is that of its first word.
 
@@ -169,6 +92,15 @@ line_keyword k ws e h = let r = rowed k (drop 1 ws) e h in ap keyword_in (sym r.
 
 -- The first word, and as what it is read.
 
+-- the word is this first word; that of an act line is a name, which its reading judges
+abbrev pub IsFirst : Keyword → Word → Type 0
+IsFirst first.Other w = Unit {0}
+IsFirst k w = keyword_of w ≡ k
+
+-- the words are read as this entry, by the row of its first word
+abbrev pub IsRead : List Word → Entry → Type 0
+IsRead ws e = IsFirst (keyword_in e) (word ws 0) × (line_in (keyword_in e) ws ≡ Ok e)
+
 first_read : (p : Place) (k : Keyword) (w : Word) → keyword_of w ≡ k → IsFirst (as_read p k) w
 first_read place.InCue first.End w e = e
 first_read place.InCue first.Form w e = e
@@ -205,8 +137,8 @@ not_true false h = refl
 
 pub name_keyword : (w : Word) → is_name w ≡ true → is_other (keyword_of w) ≡ true
 name_keyword w n =
-    let last = and_parts (begins_lower w && all_go_in_name w && nat_le (length w) 16 && not (bytes_eq w (codes "form"))) (not (bytes_eq w (codes "end"))) n in
-    let form = and_parts (begins_lower w && all_go_in_name w && nat_le (length w) 16) (not (bytes_eq w (codes "form"))) last.0 in
+    let last = and_parts (begins_lower w && list_all goes_in_name w && nat_le (length w) 16 && not (bytes_eq w (codes "form"))) (not (bytes_eq w (codes "end"))) n in
+    let form = and_parts (begins_lower w && list_all goes_in_name w && nat_le (length w) 16) (not (bytes_eq w (codes "form"))) last.0 in
     let h : is_other (cond (bytes_eq w (codes "form")) first.Form (cond (bytes_eq w (codes "end")) first.End first.Other)) ≡ true =
     ap (λ b. is_other (cond b first.Form (cond (bytes_eq w (codes "end")) first.End first.Other))) (not_true (bytes_eq w (codes "form")) form.1)
     ∙ ap (λ b. is_other (cond b first.End first.Other)) (not_true (bytes_eq w (codes "end")) last.1) in
@@ -221,28 +153,26 @@ read_as_name place.InFigureCue first.End m o = cc
 read_as_name place.InFigureCue k m o = refl
 read_as_name p k m o = cc
 
--- A line that is read as an entry says it, and may say it there.
+-- A line that is read at a place is read by its own first word, and may stand there; and the other way round.
 
-pub says_of : (p : Place) (ws : List Word) (e : Entry) → entry_of p ws ≡ Ok e → Says ws e × (may_say p e ≡ true)
-says_of p ws e h =
+pub read_of : (p : Place) (ws : List Word) (e : Entry) → entry_of p ws ≡ Ok e → IsRead ws e × (may_say p e ≡ true)
+read_of p ws e h =
     let k = as_read p (keyword_of (word ws 0)) in
     let q = passed (may_stand p k) (line_in k ws) kind.BadWord e h in
     let is : keyword_in e ≡ k = line_keyword k ws e q.1 in
     let begins = first_read p (keyword_of (word ws 0)) (word ws 0) refl in
     ((subst (λ l. IsFirst l (word ws 0)) (sym is) begins, ap (λ l. line_in l ws) is ∙ q.1), ap (may_stand p) is ∙ q.0)
 
--- A line that says an entry is read as that, where it may stand.
-
 put : (p : Place) (ws : List Word) (e : Entry) (l k : Keyword) → l ≡ k → line_in k ws ≡ Ok e → may_stand p k ≡ true → line_at p l ws ≡ Ok e
 put p ws e l k same h m = ap (λ x. line_at p x ws) same ∙ ap (λ b. cond b (line_in k ws) (Err kind.BadWord)) m ∙ h
 
-says_by : (p : Place) (ws : List Word) (e : Entry) (k : Keyword) → IsFirst k (word ws 0) → line_in k ws ≡ Ok e → may_stand p k ≡ true → entry_of p ws ≡ Ok e
-says_by p ws e first.Other f h m =
+read_by : (p : Place) (ws : List Word) (e : Entry) (k : Keyword) → IsFirst k (word ws 0) → line_in k ws ≡ Ok e → may_stand p k ≡ true → entry_of p ws ≡ Ok e
+read_by p ws e first.Other f h m =
     let a = acted ws e h in
     let named = name_keyword (word ws 0) (name_read (word ws 0) a.name a.named).0 in
     put p ws e (as_read p (keyword_of (word ws 0))) first.Other (read_as_name p (keyword_of (word ws 0)) m named) h m
-says_by p ws e k f h m =
+read_by p ws e k f h m =
     put p ws e (as_read p (keyword_of (word ws 0))) k (ap (as_read p) f ∙ stays p k m (λ o. cc)) h m
 
-pub says_entry : (p : Place) (ws : List Word) (e : Entry) → Says ws e → may_say p e ≡ true → entry_of p ws ≡ Ok e
-says_entry p ws e h m = says_by p ws e (keyword_in e) h.0 h.1 m
+pub read_entry : (p : Place) (ws : List Word) (e : Entry) → IsRead ws e → may_say p e ≡ true → entry_of p ws ≡ Ok e
+read_entry p ws e h m = read_by p ws e (keyword_in e) h.0 h.1 m

@@ -1,10 +1,11 @@
 -- Lines whose entries and faults were worked out by hand from the page of the language.
-use Rattle.std.proofs.Common.{◌≡◌, List, [], ◌∷◌, Some, None, Ok, Err, refl}
-use Rattle.std.specs.Prelude.{pos, neg_ℤ, true, false, codes}
-use Rattle.choreo_lines.specs.Table.{Word}
+use Rattle.std.proofs.Common.{◌≡◌, List, [], ◌∷◌, Some, Ok, refl}
+use Rattle.std.specs.Prelude.{List, ℕ, ℤ, ◌≤ℤ◌, pos, neg_ℤ, true, false, codes}
 use Rattle.choreo_lines.specs.Fields.{values_in, names_in, act_in, act_line, row_line, entry_of, kind_in}
+use Rattle.text_lines.specs.Numbers.{IsNumber, number_of}
+use Rattle.choreo_lines.specs.Says.{Says}
 use Rattle.choreo_lines.specs.declared.line.LineKind.TheVariants as kind
-use Rattle.choreo_lines.specs.declared.line.Place.TheVariants.{Top, InFormation, InFigure, InRepeat, InCue, InFigureCue}
+use Rattle.choreo_lines.specs.declared.line.Place.TheVariants.{Top, InRepeat, InCue, InFigureCue}
 use Rattle.choreo_lines.specs.declared.line.Entry.TheVariants as entry
 use Rattle.choreo_lines.specs.declared.parts.Act.TheVariants as act
 use Rattle.choreo_lines.specs.declared.parts.Mirror.TheVariants as mirror
@@ -88,3 +89,42 @@ unknown_act = refl
 hold_with_a_word : kind_in InCue (codes "a" ∷ codes "hold" ∷ codes "1" ∷ []) ≡ Some kind.BadCount
 unfolding act_line act_in
 hold_with_a_word = refl
+
+-- What lines say, word by word.
+
+-- a number that was worked out, and its range
+number : {low high : ℤ} {word : List ℕ} {value : ℤ} → number_of word ≡ Some value → low ≤ℤ value → value ≤ℤ high → IsNumber low high word value
+number is from to = record { is = is; from = from; to = to }
+
+-- `memory 3 100` says 3 and 100, and `memory 3 4096` nothing: the offset is out of its range
+memory_said : Says (codes "memory" ∷ codes "3" ∷ codes "100" ∷ []) (entry.Memory 3 100)
+memory_said = (refl, refl, (number refl (record { le = tt }) (record { le = tt }), (number refl (record { le = tt }) (record { le = tt }), tt)))
+
+no_such_offset : Says (codes "memory" ∷ codes "3" ∷ codes "4096" ∷ []) (entry.Memory 3 4096) → ⊥
+no_such_offset h = h.2.1.0.to.le
+
+-- zeros may stand before a number: `late 0250` says 250
+late_said : Says (codes "late" ∷ codes "0250" ∷ []) (entry.Late 250)
+late_said = (refl, refl, (number refl (record { le = tt }) (record { le = tt }), tt))
+
+-- `figure g p q` has the roles p and q, in this order
+figure_said : Says (codes "figure" ∷ codes "g" ∷ codes "p" ∷ codes "q" ∷ []) (entry.Figure (record { items = codes "g" }) (record { items = codes "p" } ∷ record { items = codes "q" } ∷ []))
+figure_said = (refl, refl, ((refl, refl), ((refl, refl), ((refl, refl), tt))))
+
+-- `a arc cw 1 2 -900` goes clockwise, and the same line doesn't say that it goes the other way
+arc_said : Says (codes "a" ∷ codes "arc" ∷ codes "cw" ∷ codes "1" ∷ codes "2" ∷ codes "-900" ∷ []) (entry.One (record { items = codes "a" }) (act.Arc false (pos 1) (pos 2) (neg_ℤ (pos 900))))
+arc_said = ((refl, refl), (refl, (refl, (number refl (record { le = tt }) (record { le = tt }), (number refl (record { le = tt }) (record { le = tt }), (number refl (record { le = tt }) (record { le = tt }), tt))))))
+
+no_other_way : Says (codes "a" ∷ codes "arc" ∷ codes "cw" ∷ codes "1" ∷ codes "2" ∷ codes "-900" ∷ []) (entry.One (record { items = codes "a" }) (act.Arc true (pos 1) (pos 2) (neg_ℤ (pos 900)))) → ⊥
+no_other_way h = let e = h.1.1.0 in cc
+
+-- `end` says its one word; `end end` says nothing
+end_said : Says (codes "end" ∷ []) entry.End
+end_said = (refl, refl, tt)
+
+no_second_end : Says (codes "end" ∷ codes "end" ∷ []) entry.End → ⊥
+no_second_end h = h.2
+
+-- in a cue the word `memory` names a drone
+memory_holds : Says (codes "memory" ∷ codes "hold" ∷ []) (entry.One (record { items = codes "memory" }) act.Hold)
+memory_holds = ((refl, refl), (refl, tt))

@@ -25,7 +25,7 @@ use Rattle.choreo_lines.specs.declared.parts.Act.TheVariants as act
 use Rattle.choreo_lines.specs.declared.parts.Point.{Point}
 use Rattle.choreo_lines.specs.declared.parts.Mirror.{Mirror}
 use Rattle.choreo_lines.specs.declared.parts.Mirror.TheVariants as mirror
-use Rattle.choreo_lines.specs.Table.{Word, word, Row, row_of, has_count, act_of, act_places, may_stand, as_read}
+use Rattle.choreo_lines.specs.Table.{Word, word, row_of, has_count, act_of, act_places, may_stand, as_read}
 
 -- a step, and then the next with what it gave, or the first fault
 infixl 10 ◌>>=◌

@@ -16,10 +16,6 @@ is_lower b = nat_le 97 b && nat_le b 122
 abbrev pub goes_in_name : ℕ → Bool
 goes_in_name b = is_lower b || is_digit b || b == 95
 
--- bytes that may all stand in a name after its first byte
-abbrev pub all_go_in_name : List ℕ → Bool
-all_go_in_name word = list_all goes_in_name word
-
 -- bytes of which the first is a lower-case letter
 abbrev pub begins_lower : List ℕ → Bool
 begins_lower [] = false
@@ -28,5 +24,5 @@ begins_lower (b ∷ bs) = is_lower b
 -- 1 to 16 bytes, a lower-case letter first, then lower-case letters, digits and `_`; not `form` or `end`
 abbrev pub is_name : List ℕ → Bool
 is_name word =
-    begins_lower word && all_go_in_name word && nat_le (length word) 16
+    begins_lower word && list_all goes_in_name word && nat_le (length word) 16
     && not (bytes_eq word (codes "form")) && not (bytes_eq word (codes "end"))

@@ -1,5 +1,5 @@
 -- The lines of the language as a table: what each line wants in its places, how many names may follow, and where it stands.
-use Rattle.std.specs.Prelude.{ℕ, ◌+◌, Bool, true, false, ◌&&◌, List, [], ◌∷◌, length, get_or, ◌==◌, nat_le, Option, Some, None, ℤ, pos, neg_ℤ, bytes_eq, codes, if◌then◌else◌}
+use Rattle.std.specs.Prelude.{ℕ, ◌+◌, Bool, true, false, ◌&&◌, List, [], ◌∷◌, length, get_or, ◌==◌, nat_le, Option, Some, None, pos, neg_ℤ, bytes_eq, codes, if◌then◌else◌}
 use Rattle.choreo_lines.specs.declared.table.Want.{Want}
 use Rattle.choreo_lines.specs.declared.table.Want.TheVariants as want
 use Rattle.choreo_lines.specs.declared.table.ActWord.{ActWord}

@@ -22,23 +22,24 @@ use listed::Listed;
 use std::alloc::Global;
 use text_lines::{Token, word_at};
 
-// The words in their places, from the left.
+// What the words are in their places, from the left. The list is the caller's, so that it isn't copied.
 fn values_in(
     text: &[u8],
     wants: &[Want],
     words: &[Token],
-) -> Result<ArrayVec<Value, MOST_PLACES>, LineKind>
+    values: &mut ArrayVec<Value, MOST_PLACES>,
+) -> Result<(), LineKind>
     requires few { length wants.now ≤ MOST_PLACES }
     requires words { length wants.now ≤ length words.now }
-    ensures { MatchResult result (λ vs. spec.values_in wants.now (words_in text.now words.now) ≡ Ok vs.items)
+    requires empty { values.now.items ≡ [] }
+    ensures { MatchResult result (λ _. spec.values_in wants.now (words_in text.now words.now) ≡ Ok values.new.items)
         (λ k. spec.values_in wants.now (words_in text.now words.now) ≡ Err k) }
 {
-    let mut values = ArrayVec::new();
     for k in 0..wants.len() {
         let value = value(wants[k], word_at(text, &words[k]))?;
         values.push(value);
     }
-    Ok(values)
+    Ok(())
 }
 
 // The names from the left, before memory runs out.
@@ -281,7 +282,8 @@ fn act_in(text: &[u8], words: &[Token]) -> Result<Act, LineKind>
     if words.len() != places.len() {
         return Err(LineKind::BadCount);
     }
-    let values = values_in(text, places, words)?;
+    let mut values = ArrayVec::new();
+    values_in(text, places, words, &mut values)?;
     Ok(act_with(act, values.as_slice()))
 }
 
@@ -320,7 +322,8 @@ fn row_line(alloc: Global, first: Keyword, text: &[u8], words: &[Token]) -> Resu
         return Err(LineError::Kind(LineKind::BadCount));
     }
     let places = places(first);
-    let values = values_in(text, places, words)?;
+    let mut values = ArrayVec::new();
+    values_in(text, places, words, &mut values)?;
     let names = names_in(alloc, text, &words[places.len()..])?;
     Ok(entry_with(first, values.as_slice(), names))
 }
@@ -360,6 +363,8 @@ pub fn entry_of(
     ensures value { Gives result (spec.entry_of place (words_in text.now words.now)) }
     // The words say the entry, and it may stand here.
     ensures says { IfOk result (λ e. Says (words_in text.now words.now) e × (may_say place e ≡ true)) }
+    // And the other way round, unless memory runs out: an entry that they say, and that may stand here, is the result.
+    ensures said { (e : Entry) → Says (words_in text.now words.now) e → may_say place e ≡ true → Gives result (Ok e) }
     // A refusal names what is wrong by the table of lines, and an entry comes only where nothing is.
     ensures kind { KindGives result (spec.kind_in place (words_in text.now words.now)) }
 {

@@ -1,8 +1,9 @@
 //! Names, and first words.
 
 ghost use Rattle.std.specs.Prelude.{◌≡◌, ◌≤◌, length, IsTrue};
+ghost use Rattle.std.specs.List.{list_all};
 ghost use Rattle.choreo_lines.specs.FirstWord.{keyword_of};
-ghost use Rattle.choreo_lines.specs.Name.{is_name as is_name_of, goes_in_name as goes_in_name_of, all_go_in_name as all_go_in_name_of, begins_lower as begins_lower_of};
+ghost use Rattle.choreo_lines.specs.Name.{is_name as is_name_of, goes_in_name as goes_in_name_of, begins_lower as begins_lower_of};
 
 use crate::line::Keyword;
 
@@ -50,7 +51,7 @@ fn goes_in_name(byte: u8) -> bool
 }
 
 fn all_go_in_name(word: &[u8]) -> bool
-    ensures { result ≡ all_go_in_name_of word.now }
+    ensures { result ≡ list_all goes_in_name_of word.now }
 {
     word.iter().all(|byte| goes_in_name(*byte))
 }

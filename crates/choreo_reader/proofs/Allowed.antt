@@ -1,12 +1,13 @@
--- A text whose bytes may all stand anywhere has no forbidden byte.
-use Rattle.std.proofs.Common.{◌≡◌, ℕ, zero, suc, ◌+◌, Bool, true, false, cond, List, [], ◌∷◌, take, Some, None, refl, sym, ap, ◌∙◌}
+-- Which texts have no forbidden byte; among them are those whose bytes may all stand anywhere.
+use Rattle.std.proofs.Common.{◌≡◌, ℕ, zero, suc, ◌+◌, Bool, true, false, cond, List, [], ◌∷◌, take, Option, Some, None, refl, sym, ap, ◌∙◌}
 use Rattle.std.specs.Prelude.{◌&&◌, ◌||◌}
 use Rattle.std.specs.List.{list_all, onto_first, position_or_len}
 use Rattle.std.proofs.lemmas.Bool.{false≢true}
 use Rattle.text_lines.specs.Lines.{is_line_feed, between_feeds, without_empty_end, lines_of}
-use Rattle.text_lines.specs.Words.{is_hash}
+use Rattle.text_lines.specs.Words.{is_hash, visible}
+use Rattle.text_lines.specs.declared.token.Comments.TheVariants.{FromHash}
 use Rattle.choreo_lines.specs.declared.line.LineKind.TheVariants as kind
-use Rattle.choreo_reader.specs.Text.{are_allowed, forbidden, forbidden_from, fault_at}
+use Rattle.choreo_reader.specs.Text.{Fault, are_allowed, is_clean, forbidden, forbidden_from, fault_at}
 use Rattle.choreo_reader.specs.Steps.{stands_anywhere}
 
 both : (a b : Bool) → (a && b) ≡ true → (a ≡ true) × (b ≡ true)
@@ -52,3 +53,26 @@ none_forbidden number (line ∷ lines) all =
 -- where each byte may stand anywhere, no line has a forbidden byte
 pub plain_allowed : (text : List ℕ) → list_all stands_anywhere text ≡ true → forbidden text ≡ None
 plain_allowed text all = none_forbidden 1 (lines_of text) (lines_allowed (between_feeds text) (pieces_allowed text all))
+
+-- Where all bytes outside the comments are allowed, no line is at fault for them; and the other way round.
+
+clean_by : (b c : Bool) (others : Option Fault) (number : ℕ) → cond b others (Some (fault_at number kind.BadByte)) ≡ None → (others ≡ None → c ≡ true) → (b && c) ≡ true
+clean_by true c others number h more = more h
+clean_by false c others number h more = cc
+
+lines_clean : (number : ℕ) (lines : List (List ℕ)) → forbidden_from number lines ≡ None → list_all (λ line. are_allowed (visible FromHash line)) lines ≡ true
+lines_clean number [] h = refl
+lines_clean number (line ∷ lines) h =
+    clean_by (are_allowed (visible FromHash line)) (list_all (λ l. are_allowed (visible FromHash l)) lines) (forbidden_from (number + 1) lines) number h (lines_clean (number + 1) lines)
+
+clean_lines : (number : ℕ) (lines : List (List ℕ)) → list_all (λ line. are_allowed (visible FromHash line)) lines ≡ true → forbidden_from number lines ≡ None
+clean_lines number [] h = refl
+clean_lines number (line ∷ lines) h =
+    let p = both (are_allowed (visible FromHash line)) (list_all (λ l. are_allowed (visible FromHash l)) lines) h in
+    ap (λ b. cond b (forbidden_from (number + 1) lines) (Some (fault_at number kind.BadByte))) p.0 ∙ clean_lines (number + 1) lines p.1
+
+pub none_clean : (text : List ℕ) → forbidden text ≡ None → is_clean text ≡ true
+none_clean text h = lines_clean 1 (lines_of text) h
+
+pub clean_none : (text : List ℕ) → is_clean text ≡ true → forbidden text ≡ None
+clean_none text h = clean_lines 1 (lines_of text) h

@@ -3,15 +3,16 @@ use Rattle.std.proofs.Common.{◌≡◌, ℕ, ◌+◌, ◌<◌, ◌≤◌, Bool,
 use Rattle.std.specs.Prelude.{◌&&◌, nat_le}
 use Rattle.std.proofs.lemmas.List.{append-nil}
 use Rattle.std.proofs.lemmas.Bool.{and_parts, false≢true}
+use Rattle.std.specs.List.{list_all}
 use Rattle.text_lines.specs.Words.{Line}
 use Rattle.choreo_reader.specs.Plain as plain
 use Rattle.choreo_reader.specs.Plain.{Body, PlainFigure, PlainShow, has_block, ◌⨾◌}
-use Rattle.choreo_reader.specs.Grammar.{SaidLine, IsSaid, AreSaid, at, anywhere, closing, act_said, body_said, is_filled, depth, fits_figure, all_name_one}
+use Rattle.choreo_reader.specs.Grammar.{SaidLine, IsSaid, AreSaid, at, anywhere, closing, act_said, body_said, is_filled, depth, fits_figure, names_one}
 use Rattle.choreo_lines.specs.Says.{may_say}
 use Rattle.choreo_reader.specs.Context.{Opening, OpenRepeat, OpenCue, fault_if, place_of, place_in, in_figure, repeats, is_empty_block}
 use Rattle.choreo_reader.specs.Reading.{Open, InFormation, InFigure, InRepeat, InCue, Built, Step, context_of, openings_of, outer_openings, add_block, with_block, close, build, line_step, lines_step, then_step, built_by, unless, entry_fault}
 use Rattle.choreo_reader.proofs.Blocks.{body_assoc, body_done}
-use Rattle.choreo_lines.proofs.Reading.{says_entry}
+use Rattle.choreo_lines.proofs.Saying.{says_entry}
 use Rattle.choreo_lines.specs.declared.line.Place.TheVariants as place
 use Rattle.choreo_lines.specs.declared.line.Entry.{Entry}
 use Rattle.choreo_lines.specs.declared.line.Entry.TheVariants as entry
@@ -116,20 +117,20 @@ false_unless false h = refl
 
 -- The acts of a cue.
 
-acts_read : (acts done : List ActLine) (s : Built) (line ms : ℕ) (os : List Open) (ls : List Line) → (in_figure (openings_of (InCue line ms done ∷ os)) ≡ true → all_name_one acts ≡ true) → AreSaid ls (map act_said acts) → Reads (with_open s (InCue line ms done ∷ os)) ls (with_open s (InCue line ms (done ++ acts) ∷ os))
+acts_read : (acts done : List ActLine) (s : Built) (line ms : ℕ) (os : List Open) (ls : List Line) → (in_figure (openings_of (InCue line ms done ∷ os)) ≡ true → list_all names_one acts ≡ true) → AreSaid ls (map act_said acts) → Reads (with_open s (InCue line ms done ∷ os)) ls (with_open s (InCue line ms (done ++ acts) ∷ os))
 acts_read [] done s line ms os [] f h = reads_to _ _ _ [] (ap (λ xs. with_open s (InCue line ms xs ∷ os)) (sym (append-nil done))) (reads_none _)
 acts_read [] done s line ms os (l ∷ ls) f h = absurd h
 acts_read (a ∷ acts) done s line ms os [] f h = absurd h
 acts_read (on.One n name a ∷ acts) done s line ms os (l ∷ ls) f h =
     let x = on.One n name a in
     let one = numbered_step (with_open s (InCue line ms done ∷ os)) l n (entry.One name a) h.0 (in_cue (in_figure (openings_of (InCue line ms done ∷ os))) (entry.One name a) refl refl) refl in
-    let others = acts_read acts (done ++ x ∷ []) s line ms os ls (λ e. (and_parts true (all_name_one acts) (f e)).1) h.1 in
+    let others = acts_read acts (done ++ x ∷ []) s line ms os ls (λ e. (and_parts true (list_all names_one acts) (f e)).1) h.1 in
     reads_to _ _ _ (l ∷ ls) (ap (λ xs. with_open s (InCue line ms xs ∷ os)) (append_assoc done (x ∷ []) acts)) (reads_then _ _ _ (l ∷ []) ls one others)
 acts_read (on.Form n name smooth ∷ acts) done s line ms os (l ∷ ls) f h =
     let x = on.Form n name smooth in
-    let outside : in_figure (openings_of (InCue line ms done ∷ os)) ≡ false = false_unless _ (λ e. (and_parts false (all_name_one acts) (f e)).0) in
+    let outside : in_figure (openings_of (InCue line ms done ∷ os)) ≡ false = false_unless _ (λ e. (and_parts false (list_all names_one acts) (f e)).0) in
     let one = numbered_step (with_open s (InCue line ms done ∷ os)) l n (entry.Form name smooth) h.0 (ap (λ b. may_say (place_in OpenCue b) (entry.Form name smooth)) outside) refl in
-    let others = acts_read acts (done ++ x ∷ []) s line ms os ls (λ e. (and_parts false (all_name_one acts) (f e)).1) h.1 in
+    let others = acts_read acts (done ++ x ∷ []) s line ms os ls (λ e. (and_parts false (list_all names_one acts) (f e)).1) h.1 in
     reads_to _ _ _ (l ∷ ls) (ap (λ xs. with_open s (InCue line ms xs ∷ os)) (append_assoc done (x ∷ []) acts)) (reads_then _ _ _ (l ∷ []) ls one others)
 
 -- Blocks after blocks.
@@ -267,14 +268,14 @@ body_reads (plain.Cue line ms acts rest) s os (l ∷ ls) k h =
     let parts = split ls (map act_said acts) (closing ∷ body_said rest) h.1 in
     let ends = first_said parts.back closing (body_said rest) parts.second in
     let one = numbered_step (with_open s os) l line (entry.Cue ms) h.0 (block_stands os (entry.Cue ms) k.takes refl refl refl) refl in
-    let in_order : in_figure (openings_of (InCue line ms [] ∷ os)) ≡ true → all_name_one acts && fits_figure rest ≡ true = λ q. k.figure (sym (outer_figure os) ∙ q) in
-    let inside = acts_read acts [] s line ms os parts.front (λ q. (and_parts (all_name_one acts) (fits_figure rest) (in_order q)).0) parts.first in
+    let in_order : in_figure (openings_of (InCue line ms [] ∷ os)) ≡ true → list_all names_one acts && fits_figure rest ≡ true = λ q. k.figure (sym (outer_figure os) ∙ q) in
+    let inside = acts_read acts [] s line ms os parts.front (λ q. (and_parts (list_all names_one acts) (fits_figure rest) (in_order q)).0) parts.first in
     let block = enclosed s (add_block s os a) os (InCue line ms []) (InCue line ms acts) l ends.line parts.front one inside ends.here (in_cue_end (in_figure (openings_of (InCue line ms acts ∷ os)))) refl (add_anywhere s (InCue line ms acts ∷ os) os a) in
     let kept : Kept (opens os a) rest = record {
       takes = opens_take os a k.takes;
       filled = k.filled;
       nested = omega (arith, k.nested, opens_repeats os a);
-      figure = λ q. (and_parts (all_name_one acts) (fits_figure rest) (k.figure (sym (opens_figure os a) ∙ q))).1;
+      figure = λ q. (and_parts (list_all names_one acts) (fits_figure rest) (k.figure (sym (opens_figure os a) ∙ q))).1;
     } in
     reads_list _ _ _ _ (block_lines l ends.line ls parts.front parts.back ends.others parts.is ends.is)
     (block_then_rest s os a rest (l ∷ (parts.front ++ ends.line ∷ [])) ends.others k.takes block (body_reads rest (base s os a) (opens os a) ends.others kept ends.later))

@@ -11,6 +11,7 @@ use Rattle.choreo_reader.specs.Grammar.{AreSaid, closing, place_said, body_said,
 use Rattle.choreo_reader.specs.Context.{fault_if, is_header, end_fault}
 use Rattle.choreo_reader.specs.Text.{fault_at}
 use Rattle.choreo_reader.specs.Reading.{InFormation, InFigure, Built, nothing, add_block, built_show, is_any, lines_step, finish, finish_with, openings_of, reading, read_lines, unless_forbidden}
+use Rattle.choreo_reader.proofs.Allowed.{clean_none}
 use Rattle.choreo_reader.proofs.Blocks.{body_assoc, body_done}
 use Rattle.choreo_reader.proofs.Complete.{Reads, reads_none, reads_then, reads_to, reads_list, split, first_said, numbered_step, said_anywhere, with_open, enclosed, block_lines, body_reads}
 use Rattle.choreo_lines.specs.declared.line.Entry.TheVariants as entry
@@ -313,7 +314,7 @@ finished is = ap (λ os. finish_with (add_items nothing is) (end_fault (openings
 pub complete : (text : List ℕ) (show : PlainShow) → StandsFor text show → reading text ≡ Ok show
 complete text show (is, header, lines, t, e) =
     let n = single_first is t.single in
-    ap (λ f. unless_forbidden f (read_lines (show_lines text))) t.bytes
+    ap (λ f. unless_forbidden f (read_lines (show_lines text))) (clean_none text t.bytes)
     ∙ ap read_lines t.cut
     ∙ ap (λ b. cond b (finish (lines_step nothing lines)) (Err (fault_at header.number kind.Header))) (header_is header t.first)
     ∙ ap finish (lines_read is lines t.each n t.said)

@@ -7,7 +7,7 @@ use Rattle.choreo_lines.specs.FirstWord.{keyword_of}
 use Rattle.choreo_reader.specs.Plain as plain
 use Rattle.choreo_lines.specs.Name.{Name}
 use Rattle.choreo_reader.specs.Plain.{Body, PlainShow, has_block, ◌⨾◌}
-use Rattle.choreo_lines.specs.Says.{IsFirst, Says, keyword_in, may_say}
+use Rattle.choreo_lines.specs.Says.{Says, keyword_in, may_say}
 use Rattle.choreo_reader.specs.Text.{Fault, fault_at, forbidden}
 use Rattle.choreo_reader.specs.Context.{Context, open_fault, line_fault, Opened, OpenFormation, OpenFigure, OpenRepeat, OpenCue, this_or, fault_from, fault_of_lines, end_fault, either_fault, fault, is_header, place_of, place_in, opened_by, is_end, is_top, fill, opens, without_innermost, blocks_after, sets_memory, sets_trajectory, sets_ellipsoid, sets_stray, sets_late, context_after, first_word, in_figure}
 use Rattle.choreo_lines.specs.Table.{word, as_read}
@@ -15,7 +15,8 @@ use Rattle.choreo_lines.specs.declared.line.Place.{Place}
 use Rattle.choreo_reader.specs.Reading.{Open, InFormation, InFigure, InRepeat, InCue, Built, nothing, context_of, openings_of, outer_openings, is_any, add_block, close_innermost, build, built_by, unless, lines_step, then_step, finish, finish_with, read_lines, reading, unless_forbidden, entry_fault, fault_with}
 use Rattle.choreo_lines.specs.Fields.{entry_of, kind_of, or_else}
 use Rattle.choreo_reader.proofs.Complete.{TakesBlocks, with_open}
-use Rattle.choreo_lines.proofs.Reading.{acted, is_other, name_keyword, name_read, read_as_name, says_of}
+use Rattle.choreo_lines.proofs.Reading.{IsFirst, is_other, name_keyword, read_as_name}
+use Rattle.choreo_lines.proofs.Saying.{says_of, says_read}
 use Rattle.choreo_reader.proofs.Sound.{InOrder, Holds, step_holds, at_start, IsOutside, top_is, not_in_repeat, not_in_cue, takes_is}
 use Rattle.choreo_lines.specs.declared.line.Keyword.{Keyword}
 use Rattle.choreo_lines.specs.declared.line.Keyword.TheVariants as first
@@ -34,13 +35,12 @@ first_said first.Other w f n = absurd (n refl)
 first_said k w f n = f
 
 word_said : (ws : List (List ℕ)) (e : Entry) → Says ws e → (keyword_in e ≡ first.Other → ⊥) → keyword_of (first_word ws) ≡ keyword_in e
-word_said ws e h n = first_said (keyword_in e) (word ws 0) h.0 n
+word_said ws e h n = first_said (keyword_in e) (word ws 0) (says_read ws e h).0 n
 
 -- that of an act line is a name
 name_said : (ws : List (List ℕ)) (name : Name) (a : _) → Says ws (entry.One name a) → is_other (keyword_of (first_word ws)) ≡ true
-name_said ws name a h =
-    let line = acted ws (entry.One name a) h.1 in
-    name_keyword (word ws 0) (name_read (word ws 0) line.name line.named).0
+name_said [] name a h = absurd h
+name_said (w ∷ ws) name a h = name_keyword w h.0.0
 
 -- The open blocks after a line.
 

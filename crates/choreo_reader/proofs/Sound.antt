@@ -5,12 +5,13 @@ use Rattle.std.proofs.lemmas.List.{append-nil, map-append}
 use Rattle.std.proofs.lemmas.Bool.{and_parts, eqb-true}
 use Rattle.std.proofs.lemmas.Bool.Decides.{nat_tests}
 use Rattle.std.proofs.lemmas.Slice.Eq.{bytes_eq-Decides}
+use Rattle.std.specs.List.{list_all}
 use Rattle.text_lines.specs.Words.{Line}
 use Rattle.choreo_reader.specs.Text.{show_lines}
 use Rattle.choreo_reader.specs.Plain as plain
 use Rattle.choreo_lines.specs.Name.{Name}
 use Rattle.choreo_reader.specs.Plain.{Body, PlainFigure, PlainShow, has_block, ◌⨾◌}
-use Rattle.choreo_reader.specs.Grammar.{SaidLine, IsSaid, AreSaid, at, anywhere, closing, act_said, place_said, body_said, is_filled, depth, fits_figure, all_name_one, names_one, Item, Memory, Trajectory, Ellipsoid, Stray, Late, Drone, Formed, Figured, Blocks, item_said, items_said, memories, trajectories, ellipsoids, strays, lates, drones, formations, figures, body, first_or, show_of, IsItem, AreItems, IsHeader, StandsFor}
+use Rattle.choreo_reader.specs.Grammar.{SaidLine, IsSaid, AreSaid, at, anywhere, closing, act_said, place_said, body_said, is_filled, depth, fits_figure, names_one, Item, Memory, Trajectory, Ellipsoid, Stray, Late, Drone, Formed, Figured, Blocks, item_said, items_said, memories, trajectories, ellipsoids, strays, lates, drones, formations, figures, body, first_or, show_of, IsItem, AreItems, IsHeader, StandsFor}
 use Rattle.choreo_lines.specs.Says.{Says, may_say}
 use Rattle.choreo_reader.specs.Text.{Fault, fault_at, forbidden}
 use Rattle.choreo_reader.specs.Context.{OpenRepeat, OpenCue, fault_if, is_header, end_fault, place_of, place_in, in_figure, repeats}
@@ -20,7 +21,8 @@ use Rattle.choreo_lines.specs.Fields.{entry_of}
 use Rattle.choreo_reader.proofs.Blocks.{body_assoc, body_done}
 use Rattle.choreo_reader.proofs.Complete.{TakesBlocks, Kept, with_open, outer_figure, outer_repeats}
 use Rattle.choreo_reader.proofs.CompleteShow.{add_item}
-use Rattle.choreo_lines.proofs.Reading.{says_of}
+use Rattle.choreo_lines.proofs.Saying.{says_of}
+use Rattle.choreo_reader.proofs.Allowed.{none_clean}
 use Rattle.choreo_lines.specs.declared.line.Place.TheVariants as place
 use Rattle.choreo_lines.specs.declared.line.Entry.{Entry}
 use Rattle.choreo_lines.specs.declared.line.Entry.TheVariants as entry
@@ -47,7 +49,7 @@ InOrder [] = Unit {0}
 InOrder (InFormation line name places ∷ os) = os ≡ []
 InOrder (InFigure line name roles b ∷ os) = (os ≡ []) × Kept (InFigure line name roles b ∷ os) b
 InOrder (InRepeat line times b ∷ os) = TakesBlocks os × Kept (InRepeat line times b ∷ os) b × InOrder os
-InOrder (InCue line ms acts ∷ os) = TakesBlocks os × (in_figure (openings_of os) ≡ true → all_name_one acts ≡ true) × InOrder os
+InOrder (InCue line ms acts ∷ os) = TakesBlocks os × (in_figure (openings_of os) ≡ true → list_all names_one acts ≡ true) × InOrder os
 
 -- a state stands for the lines read so far
 pub record Holds (s : Built) (done : List Line) : Type 0 where
@@ -243,7 +245,7 @@ depth_then (plain.Perform line figure frame ds rest) b n p q = depth_then rest b
 fits_then : (a b : Body) → fits_figure a ≡ true → fits_figure b ≡ true → fits_figure (a ⨾ b) ≡ true
 fits_then plain.Done b p q = q
 fits_then (plain.Cue line ms acts rest) b p q =
-    let parts = and_parts (all_name_one acts) (fits_figure rest) p in both (all_name_one acts) (fits_figure (rest ⨾ b)) parts.0 (fits_then rest b parts.1 q)
+    let parts = and_parts (list_all names_one acts) (fits_figure rest) p in both (list_all names_one acts) (fits_figure (rest ⨾ b)) parts.0 (fits_then rest b parts.1 q)
 fits_then (plain.Repeat line times inside rest) b p q =
     let parts = and_parts (fits_figure inside) (fits_figure rest) p in both (fits_figure inside) (fits_figure (rest ⨾ b)) parts.0 (fits_then rest b parts.1 q)
 fits_then (plain.Perform line figure frame ds rest) b p q = cc
@@ -397,7 +399,7 @@ end_goes (InCue line ms acts ∷ os) s done l m h says f =
       takes = h.order.0;
       filled = refl;
       nested = omega (arith, few_repeats os h.order.2 h.order.0);
-      figure = λ e. both (all_name_one acts) true (h.order.1 e) refl;
+      figure = λ e. both (list_all names_one acts) true (h.order.1 e) refl;
     })
 
 place_goes : (os : List Open) (s : Built) (done : List Line) (l : Line) (name : Name) (to : _) → may_say (place_of (openings_of os)) (entry.At name to) ≡ true → Goes s os done l (entry.At name to)
@@ -410,9 +412,9 @@ place_goes (InRepeat line times b ∷ os) s done l name to m h says f = absurd (
 place_goes (InCue line ms acts ∷ os) s done l name to m h says f = absurd (not_in_cue (in_figure (openings_of (InCue line ms acts ∷ os))) (entry.At name to) refl refl m)
 
 -- one more act line, which fits where the cue stands
-all_more : (acts : List ActLine) (a : ActLine) → all_name_one acts ≡ true → names_one a ≡ true → all_name_one (acts ++ a ∷ []) ≡ true
+all_more : (acts : List ActLine) (a : ActLine) → list_all names_one acts ≡ true → names_one a ≡ true → list_all names_one (acts ++ a ∷ []) ≡ true
 all_more [] a h k = both (names_one a) true k refl
-all_more (b ∷ acts) a h k = let parts = and_parts (names_one b) (all_name_one acts) h in both (names_one b) (all_name_one (acts ++ a ∷ [])) parts.0 (all_more acts a parts.1 k)
+all_more (b ∷ acts) a h k = let parts = and_parts (names_one b) (list_all names_one acts) h in both (names_one b) (list_all names_one (acts ++ a ∷ [])) parts.0 (all_more acts a parts.1 k)
 
 act_added : (s : Built) (line ms : ℕ) (acts : List ActLine) (os : List Open) (a : ActLine) (e : Entry) (done : List Line) (l : Line) → Holds (with_open s (InCue line ms acts ∷ os)) done → Says l.words e → act_said a ≡ at l.number e → (in_figure (openings_of os) ≡ true → names_one a ≡ true) → Holds (with_open s (InCue line ms (acts ++ a ∷ []) ∷ os)) (done ++ l ∷ [])
 act_added s line ms acts os a e done l h says same fits =
@@ -597,7 +599,7 @@ sound text show h =
       r.header,
       r.others,
       record {
-        bytes = u.allowed;
+        bytes = none_clean text u.allowed;
         cut = r.is;
         first = header_words r.header r.first;
         said = subst (λ ss. AreSaid r.others ss) none k.said;

@@ -1,40 +1,31 @@
 -- A show that a text stands for is valid.
-use Rattle.std.proofs.Common.{◌≡◌, ℕ, suc, ◌+◌, ◌<◌, ◌≤◌, Bool, true, false, cond, eqb-true, ne_eqb, List, [], ◌∷◌, ◌++◌, map, length, drop, get_or, Option, Some, None, Ok, refl, sym, ap, subst, ◌∙◌, arith, append_assoc}
-use Rattle.std.specs.Prelude.{ℤ, pos, negsuc, nat_abs, nat_le, ◌≤ℤ◌, IsTrue, ◌==◌, ◌&&◌}
+use Rattle.std.proofs.Common.{◌≡◌, ℕ, ◌+◌, ◌<◌, ◌≤◌, Bool, true, false, cond, eqb-true, ne_eqb, List, [], ◌∷◌, ◌++◌, map, length, Option, Some, None, refl, sym, ap, subst, ◌∙◌, arith, append_assoc}
+use Rattle.std.specs.Prelude.{pos, nat_le, ◌≤ℤ◌, ◌==◌, ◌&&◌}
 use Rattle.std.proofs.lemmas.Bool.{and_parts, leb-true}
 use Rattle.std.proofs.lemmas.Int.{ints}
-use Rattle.std.proofs.lemmas.List.{append-nil, length-drop}
+use Rattle.std.proofs.lemmas.List.{append-nil, length-map}
 use Rattle.text_lines.specs.declared.token.Comments.TheVariants.{FromHash}
 use Rattle.text_lines.specs.Words.{visible, Line, line_with, numbered, words_of}
 use Rattle.text_lines.specs.Lines.{lines_of}
-use Rattle.choreo_lines.specs.Name.{is_name}
 use Rattle.choreo_reader.specs.Plain as plain
 use Rattle.choreo_lines.specs.Name.{Name}
 use Rattle.choreo_reader.specs.Plain.{Body, PlainFigure, PlainShow, has_block, ◌⨾◌}
-use Rattle.choreo_lines.specs.Table.{Word, word, coordinate, yaw, natural, row_of, act_places, has_count}
-use Rattle.choreo_lines.specs.Fields.{◌>>=◌, name_in, names_in, values_in, natural_at, name_at, point_at, triple_at, act_with, entry_with, act_by, act_in, line_in}
-use Rattle.choreo_lines.specs.Says.{Says, keyword_in}
-use Rattle.choreo_lines.specs.Steps.{AllFit as ValuesFit}
-use Rattle.choreo_lines.proofs.Reading.{two, passed, acted, rowed, name_read, values_fit, number_within, name_within}
-use Rattle.choreo_lines.specs.declared.table.Want.{Want}
+use Rattle.choreo_lines.specs.Table.{Word, point, row_of, act_places, has_count}
+use Rattle.choreo_lines.specs.Says.{AllHold, point_fields, act_fields, fields_of, keyword_in, SaysAct, Says}
+use Rattle.choreo_lines.proofs.Saying.{FitNamed, held_fit, held_length, holds_fits, no_curve}
 use Rattle.choreo_lines.specs.declared.table.Want.TheVariants as want
-use Rattle.choreo_lines.specs.declared.table.Value.{Value}
-use Rattle.choreo_lines.specs.declared.table.ActWord.{ActWord}
+use Rattle.choreo_lines.specs.declared.table.Value.TheVariants.{Name as Named}
 use Rattle.choreo_lines.specs.declared.table.ActWord.TheVariants as word_of
-use Rattle.choreo_lines.specs.declared.line.LineKind.TheVariants as kind
-use Rattle.choreo_lines.specs.declared.line.Keyword.{Keyword}
-use Rattle.choreo_lines.specs.declared.line.Keyword.TheVariants as first
 use Rattle.choreo_reader.specs.Grammar.{SaidLine, AreSaid, closing, act_said, place_said, body_said, is_filled, depth, Item, Memory, Trajectory, Ellipsoid, Stray, Late, Drone, Formed, Figured, Blocks, item_said, items_said, memories, trajectories, ellipsoids, strays, lates, drones, formations, figures, body, first_or, settings, show_of, AreItems, HasNumber, StandsFor}
-use Rattle.choreo_reader.specs.Valid.{IsName, AreNames, FitsPoint, FitsTriple, FitsAct, FitsFrame, FitActLines, FitsBody, FitDroneLines, FitFormations, FitFigures, FitsSettings, act_lines, body_lines, drone_lines, formation_lines, figure_lines, AllAbove, times, all_lines, IsValid}
+use Rattle.choreo_reader.specs.Valid.{IsName, AreNames, FitsPoint, FitsAct, FitsFrame, FitActLines, FitsBody, FitDroneLines, FitFormations, FitFigures, FitsSettings, act_lines, body_lines, drone_lines, formation_lines, figure_lines, AllAbove, times, all_lines, IsValid}
 use Rattle.choreo_reader.proofs.Sound.{filled_then, depth_then}
 use Rattle.choreo_lines.specs.declared.line.Entry.{Entry}
 use Rattle.choreo_lines.specs.declared.line.Entry.TheVariants as entry
 use Rattle.choreo_lines.specs.declared.parts.Act.{Act}
 use Rattle.choreo_lines.specs.declared.parts.Act.TheVariants as act
+use Rattle.choreo_lines.specs.declared.parts.Point.{Point}
 use Rattle.choreo_reader.specs.declared.show.ActLine.{ActLine}
 use Rattle.choreo_reader.specs.declared.show.ActLine.TheVariants as on
-use Rattle.choreo_lines.specs.declared.parts.Point.{Point}
-use Rattle.choreo_lines.specs.declared.parts.Frame.{Frame}
 use Rattle.choreo_reader.specs.declared.show.DroneLine.{DroneLine}
 use Rattle.choreo_reader.specs.declared.show.Formation.{Formation}
 
@@ -57,103 +48,69 @@ FitsEntry (entry.Form formation smooth) = IsName formation
 FitsEntry (entry.One name a) = IsName name × FitsAct a
 FitsEntry entry.End = Unit {0}
 
-name_fits : (w : Word) (n : Name) → name_in w ≡ Ok n → IsName n
-name_fits w n h = let p = name_read w n h in subst (λ x. IsTrue (is_name x)) p.1 p.0
-
-names_fit : (ws : List Word) (ns : List Name) → names_in ws ≡ Ok ns → AreNames ns × (length ns ≡ length ws)
-unfolding names_in
-names_fit [] ns h = let same : [] ≡ ns = cc in subst (λ ms. AreNames ms × (length ms ≡ 0)) same (tt, refl)
-names_fit (w ∷ ws) ns h =
-    let p = two (name_in w) (λ n. names_in ws >>= (λ ms. Ok (n ∷ ms))) ns h in
-    let q = two (names_in ws) (λ ms. Ok (p.a ∷ ms)) ns p.then in
-    let r = names_fit ws q.a q.first in
-    let same : p.a ∷ q.a ≡ ns = cc in
-    subst (λ ms. AreNames ms × (length ms ≡ suc (length ws))) same ((name_fits w p.a p.first, r.0), ap suc r.1)
+names_fit : (ns : List Name) → FitNamed [] (map Named ns) → AreNames ns
+names_fit [] f = tt
+names_fit (n ∷ ns) f = (f.0, names_fit ns f.1)
 
 -- 1 to 32 names after the places of a line
-names_counted : (places : ℕ) (ws : List Word) (ns : List Name) → length ns ≡ length (drop places ws) → (nat_le (places + 1) (length ws) && nat_le (length ws) (places + 32)) ≡ true → (1 ≤ length ns) × (length ns ≤ 32)
-names_counted places ws ns e h =
-    let p = and_parts (nat_le (places + 1) (length ws)) (nat_le (length ws) (places + 32)) h in
-    let least = leb-true (places + 1) (length ws) p.0 in
-    let most = leb-true (length ws) (places + 32) p.1 in
-    let left = length-drop places ws in
-    (omega (arith, e, least, most, left), omega (arith, e, least, most, left))
+names_counted : (places n : ℕ) (ns : List Name) → (nat_le (places + 1) n && nat_le n (places + 32)) ≡ true → n ≡ places + length (map Named ns) → (1 ≤ length ns) × (length ns ≤ 32)
+names_counted places n ns h e =
+    let p = and_parts (nat_le (places + 1) n) (nat_le n (places + 32)) h in
+    let least = leb-true (places + 1) n p.0 in
+    let most = leb-true n (places + 32) p.1 in
+    let same = length-map ns Named in
+    (omega (arith, e, least, same), omega (arith, e, most, same))
 
-natural_fits : (v : ℤ) (low most : ℕ) → pos low ≤ℤ v → v ≤ℤ pos most → (low ≤ nat_abs v) × (nat_abs v ≤ most)
-natural_fits (pos n) low most a b = (omega (arith, ints, a), omega (arith, ints, b))
-natural_fits (negsuc n) low most a b = absurd (omega (arith, ints, a))
+natural_in : (low most n : ℕ) → (pos low ≤ℤ pos n) × (pos n ≤ℤ pos most) → (low ≤ n) × (n ≤ most)
+natural_in low most n f = let above = f.0 in let below = f.1 in (omega (arith, ints, above), omega (arith, ints, below))
 
-natural_is : (wants : List Want) (vs : List Value) (k low most : ℕ) → ValuesFit wants vs → get_or wants k want.Name ≡ natural low most → (low ≤ natural_at vs k) × (natural_at vs k ≤ most)
-natural_is wants vs k low most f e = let p = number_within wants vs k (pos low) (pos most) f e in natural_fits _ low most p.0 p.1
+point_in : (p : Point) → FitNamed point (point_fields p) → FitsPoint p
+point_in p f = (f.0, f.1.0, f.1.1.0, f.1.1.1.0)
 
-point_is : (wants : List Want) (vs : List Value) (k : ℕ) → ValuesFit wants vs → get_or wants k want.Name ≡ coordinate → get_or wants (k + 1) want.Name ≡ coordinate → get_or wants (k + 2) want.Name ≡ coordinate → get_or wants (k + 3) want.Name ≡ yaw → FitsPoint (point_at vs k)
-point_is wants vs k f x y z a = (number_within wants vs k _ _ f x, number_within wants vs (k + 1) _ _ f y, number_within wants vs (k + 2) _ _ f z, number_within wants vs (k + 3) _ _ f a)
+act_fits : (a : Act) (ws : List Word) → AllHold (act_places (act_fields a).0) ws (act_fields a).1 → FitsAct a
+act_fits act.Hold ws h = tt
+act_fits (act.Line to) ws h = point_in to (held_fit (act_places word_of.Line) ws (point_fields to) h)
+act_fits (act.Move to) ws h = point_in to (held_fit (act_places word_of.Move) ws (point_fields to) h)
+act_fits (act.Turn a) ws h = (held_fit (act_places word_of.Turn) ws _ h).0
+act_fits (act.Arc ccw cx cy a) ws h =
+    let f = held_fit (act_places word_of.Arc) ws (act_fields (act.Arc ccw cx cy a)).1 h in (f.1.0, f.1.1.0, f.1.1.1.0)
+act_fits (act.Curve (x1 ∷ y1 ∷ z1 ∷ []) (x2 ∷ y2 ∷ z2 ∷ []) to) ws h =
+    let f = held_fit (act_places word_of.Curve) ws (act_fields (act.Curve (x1 ∷ y1 ∷ z1 ∷ []) (x2 ∷ y2 ∷ z2 ∷ []) to)).1 h in
+    ((f.0, f.1.0, f.1.1.0), (f.1.1.1.0, f.1.1.1.1.0, f.1.1.1.1.1.0), point_in to f.1.1.1.1.1.1)
+act_fits (act.Curve p1 p2 to) ws h = absurd (no_curve ws h)
 
-triple_is : (wants : List Want) (vs : List Value) (k : ℕ) → ValuesFit wants vs → get_or wants k want.Name ≡ coordinate → get_or wants (k + 1) want.Name ≡ coordinate → get_or wants (k + 2) want.Name ≡ coordinate → FitsTriple (triple_at vs k)
-triple_is wants vs k f x y z = (number_within wants vs k _ _ f x, number_within wants vs (k + 1) _ _ f y, number_within wants vs (k + 2) _ _ f z)
+act_line_fits : (ws : List Word) (a : Act) → SaysAct ws a → FitsAct a
+act_line_fits [] a h = absurd h
+act_line_fits (w ∷ ws) a h = act_fits a ws h.1
 
-act_with_fits : (w : ActWord) (vs : List Value) → ValuesFit (act_places w) vs → FitsAct (act_with w vs)
-act_with_fits word_of.Hold vs f = tt
-act_with_fits word_of.Line vs f = point_is (act_places word_of.Line) vs 0 f refl refl refl refl
-act_with_fits word_of.Move vs f = point_is (act_places word_of.Move) vs 0 f refl refl refl refl
-act_with_fits word_of.Turn vs f = number_within (act_places word_of.Turn) vs 0 _ _ f refl
-act_with_fits word_of.Arc vs f =
-    let wants = act_places word_of.Arc in
-    (number_within wants vs 1 _ _ f refl, number_within wants vs 2 _ _ f refl, number_within wants vs 3 _ _ f refl)
-act_with_fits word_of.Curve vs f =
-    let wants = act_places word_of.Curve in
-    (triple_is wants vs 0 f refl refl refl, triple_is wants vs 3 f refl refl refl, point_is wants vs 6 f refl refl refl refl)
-
-act_by_fits : (o : Option ActWord) (ws : List Word) (a : Act) → act_by o ws ≡ Ok a → FitsAct a
-act_by_fits None ws a h = cc
-act_by_fits (Some w) ws a h =
-    let whole = values_in (act_places w) ws >>= (λ vs. Ok (act_with w vs)) in
-    let p = passed (length ws == length (act_places w)) whole kind.BadCount a h in
-    let q = two (values_in (act_places w) ws) (λ vs. Ok (act_with w vs)) a p.1 in
-    let same : act_with w q.a ≡ a = cc in
-    subst FitsAct same (act_with_fits w q.a (values_fit (act_places w) ws q.a q.first))
-
-act_fits : (ws : List Word) (a : Act) → act_in ws ≡ Ok a → FitsAct a
-unfolding act_in
-act_fits ws a h = act_by_fits _ (drop 1 ws) a h
-
-row_fits : (k : Keyword) (ws : List Word) (vs : List Value) (ns : List Name) → ValuesFit (row_of k).places vs → AreNames ns × (length ns ≡ length (drop (length (row_of k).places) ws)) → has_count (row_of k) (length ws) ≡ true → FitsEntry (entry_with k vs ns)
-row_fits first.Memory ws vs ns f m c = (natural_is (row_of first.Memory).places vs 1 0 4095 f refl).1
-row_fits first.Trajectory ws vs ns f m c = (natural_is (row_of first.Trajectory).places vs 0 0 9 f refl).1
-row_fits first.Ellipsoid ws vs ns f m c =
-    let r = natural_is (row_of first.Ellipsoid).places vs 0 1 2000 f refl in
-    let h = natural_is (row_of first.Ellipsoid).places vs 1 1 2000 f refl in
-    (r.0, r.1, h.0, h.1)
-row_fits first.Stray ws vs ns f m c = (natural_is (row_of first.Stray).places vs 0 0 1000 f refl).1
-row_fits first.Late ws vs ns f m c = (natural_is (row_of first.Late).places vs 0 0 1000 f refl).1
-row_fits first.Drone ws vs ns f m c =
-    let wants = (row_of first.Drone).places in (name_within wants vs 0 f refl, point_is wants vs 1 f refl refl refl refl)
-row_fits first.Formation ws vs ns f m c = name_within (row_of first.Formation).places vs 0 f refl
-row_fits first.At ws vs ns f m c =
-    let wants = (row_of first.At).places in (name_within wants vs 0 f refl, point_is wants vs 1 f refl refl refl refl)
-row_fits first.Figure ws vs ns f m c =
-    let n = names_counted 1 ws ns m.1 c in (name_within (row_of first.Figure).places vs 0 f refl, m.0, n.0, n.1)
-row_fits first.Cue ws vs ns f m c = natural_is (row_of first.Cue).places vs 0 1 65535 f refl
-row_fits first.Repeat ws vs ns f m c = natural_is (row_of first.Repeat).places vs 0 1 1000000000 f refl
-row_fits first.Perform ws vs ns f m c =
-    let wants = (row_of first.Perform).places in
-    let n = names_counted 6 ws ns m.1 c in
-    let shift = triple_is wants vs 3 f refl refl refl in
-    (name_within wants vs 0 f refl, ((natural_is wants vs 2 0 3 f refl).1, shift.0, shift.1, shift.2), m.0, n.0, n.1)
-row_fits first.Form ws vs ns f m c = name_within (row_of first.Form).places vs 0 f refl
-row_fits first.End ws vs ns f m c = tt
-row_fits first.Other ws vs ns f m c = tt
-
-line_fits : (k : Keyword) (ws : List Word) (e : Entry) → line_in k ws ≡ Ok e → FitsEntry e
-line_fits first.Other ws e h =
-    let l = acted ws e h in subst FitsEntry l.is (name_fits (word ws 0) l.name l.named, act_fits (drop 1 ws) l.act l.acts)
-line_fits k ws e h =
-    let r = rowed k (drop 1 ws) e h in
-    subst FitsEntry r.is
-    (row_fits k (drop 1 ws) r.values r.names (values_fit (row_of k).places (drop 1 ws) r.values r.read) (names_fit _ r.names r.named) r.count)
+entry_fits : (e : Entry) (n : ℕ) → has_count (row_of (keyword_in e)) n ≡ true → n ≡ length (fields_of e) → FitNamed (row_of (keyword_in e)).places (fields_of e) → FitsEntry e
+entry_fits (entry.Memory id offset) n c e f = (natural_in 0 4095 offset f.1.0).1
+entry_fits (entry.Trajectory id) n c e f = (natural_in 0 9 id f.0).1
+entry_fits (entry.Ellipsoid r h) n c e f =
+    let p = natural_in 1 2000 r f.0 in let q = natural_in 1 2000 h f.1.0 in (p.0, p.1, q.0, q.1)
+entry_fits (entry.Stray mm) n c e f = (natural_in 0 1000 mm f.0).1
+entry_fits (entry.Late ms) n c e f = (natural_in 0 1000 ms f.0).1
+entry_fits (entry.Drone name to) n c e f = (f.0, point_in to f.1)
+entry_fits (entry.Formation name) n c e f = f.0
+entry_fits (entry.At name to) n c e f = (f.0, point_in to f.1)
+entry_fits (entry.Figure name roles) n c e f =
+    let k = names_counted 1 n roles c (omega (arith, e)) in (f.0, names_fit roles f.1, k.0, k.1)
+entry_fits (entry.Cue ms) n c e f = natural_in 1 65535 ms f.0
+entry_fits (entry.Repeat times) n c e f = natural_in 1 1000000000 times f.0
+entry_fits (entry.Perform figure frame ds) n c e f =
+    let k = names_counted 6 n ds c (omega (arith, e)) in
+    let shift = f.1.1.1 in
+    (f.0, ((natural_in 0 3 frame.turns f.1.1.0).1, shift.0, shift.1.0, shift.1.1.0), names_fit ds shift.1.1.1, k.0, k.1)
+entry_fits (entry.Form formation smooth) n c e f = f.0
+entry_fits (entry.One name a) n c e f = let none = eqb-true n 0 c in absurd (omega (arith, none, e))
+entry_fits entry.End n c e f = tt
 
 says_fits : (ws : List Word) (e : Entry) → Says ws e → FitsEntry e
-says_fits ws e h = line_fits (keyword_in e) ws e h.1
+says_fits [] e h = absurd h
+says_fits (w ∷ ws) (entry.One name a) h = (holds_fits want.Name w (Named name) h.0, act_line_fits ws a h.1)
+says_fits (w ∷ ws) e h =
+    let places = (row_of (keyword_in e)).places in
+    entry_fits e (length ws) h.1 (held_length places ws (fields_of e) h.2) (held_fit places ws (fields_of e) h.2)
 
 -- The lines of a text, one by one.
 

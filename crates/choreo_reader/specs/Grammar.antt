@@ -1,7 +1,8 @@
 -- Which text stands for which show.
 use Rattle.std.specs.Prelude.{◌≡◌, ℕ, ◌+◌, ◌≤◌, max, Bool, true, false, ◌&&◌, List, [], ◌∷◌, ◌++◌, map, length, Option, Some, None, codes, IsTrue}
+use Rattle.std.specs.List.{list_all}
 use Rattle.text_lines.specs.Words.{Line}
-use Rattle.choreo_reader.specs.Text.{show_lines, forbidden}
+use Rattle.choreo_reader.specs.Text.{show_lines, is_clean}
 use Rattle.choreo_lines.specs.Says.{Says}
 use Rattle.choreo_reader.specs.Plain as plain
 use Rattle.choreo_reader.specs.Plain.{Body, PlainFigure, PlainShow, has_block, ◌⨾◌, most_nested}
@@ -197,15 +198,10 @@ abbrev pub names_one : ActLine → Bool
 names_one (on.One line name a) = true
 names_one (on.Form line formation smooth) = false
 
--- act lines of one drone each
-abbrev pub all_name_one : List ActLine → Bool
-all_name_one [] = true
-all_name_one (a ∷ others) = names_one a && all_name_one others
-
 -- no perform stands in a figure, and no `form`
 abbrev pub fits_figure : Body → Bool
 fits_figure plain.Done = true
-fits_figure (plain.Cue line ms acts rest) = all_name_one acts && fits_figure rest
+fits_figure (plain.Cue line ms acts rest) = list_all names_one acts && fits_figure rest
 fits_figure (plain.Repeat line times inside rest) = fits_figure inside && fits_figure rest
 fits_figure (plain.Perform line figure frame drones rest) = false
 
@@ -240,7 +236,7 @@ IsHeader l = l.words ≡ codes "choreo" ∷ codes "1" ∷ []
 
 -- the text is its header and these items
 pub record IsText (text : List ℕ) (is : List Item) (header : Line) (lines : List Line) : Type 0 where
-  pub bytes : forbidden text ≡ None
+  pub bytes : IsTrue (is_clean text)
   pub cut : show_lines text ≡ header ∷ lines
   pub first : IsHeader header
   pub said : AreSaid lines (items_said is)

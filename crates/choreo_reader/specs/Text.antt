@@ -33,6 +33,10 @@ is_allowed b = is_blank b || (nat_le 32 b && nat_le b 126)
 abbrev pub are_allowed : List ℕ → Bool
 are_allowed bytes = list_all is_allowed bytes
 
+-- whether all bytes of a text outside its comments may stand there
+abbrev pub is_clean : List ℕ → Bool
+is_clean text = list_all (λ line. are_allowed (visible FromHash line)) (lines_of text)
+
 -- the first of these lines that has a forbidden byte outside its comment, where they count from this number
 abbrev pub forbidden_from : ℕ → List (List ℕ) → Option Fault
 forbidden_from number [] = None

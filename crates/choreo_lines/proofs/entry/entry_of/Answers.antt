@@ -1,9 +1,9 @@
-use Rattle.std.proofs.Common.{◌≡◌, List, ℕ, true, Result, Ok, Err}
+use Rattle.std.proofs.Common.{◌≡◌, List, ℕ, true, Result, Ok, Err, subst}
 use Rattle.std.specs.Prelude.{IfOk}
 use Rattle.text_lines.specs.Tokens.{words_in}
 use Rattle.choreo_lines.specs.Fields.{Gives, entry_of}
 use Rattle.choreo_lines.specs.Says.{Says, may_say}
-use Rattle.choreo_lines.proofs.Reading.{says_of}
+use Rattle.choreo_lines.proofs.Saying.{says_of, says_entry}
 use Rattle.choreo_lines.specs.declared.line.Place.{Place}
 use Rattle.choreo_lines.specs.declared.line.Entry.{Entry}
 use Rattle.choreo_lines.specs.declared.line.LineError.{LineError}
@@ -15,3 +15,7 @@ said p ws (Err f) h = tt
 
 pub returns-clause-says : goal.returns-clause-says
 returns-clause-says c = said c.args.place (words_in c.args.text.now c.args.words.now) c.entry_at.result c.entry_at.ensures
+
+pub returns-clause-said : goal.returns-clause-said
+returns-clause-said c = λ e says stands.
+    subst (Gives c.entry_at.result) (says_entry c.args.place (words_in c.args.text.now c.args.words.now) e says stands) c.entry_at.ensures

@@ -1,4 +1,4 @@
-use Rattle.std.proofs.Common.{◌+◌, ◌<◌, ◌≤◌, sym, ap, ◌∙◌, length, arith, Ok}
+use Rattle.std.proofs.Common.{◌+◌, ◌<◌, ◌≤◌, sym, ap, ◌∙◌, length, arith}
 use Rattle.std.proofs.lemmas.Result.{err_from_is_err_and}
 use Rattle.choreo_lines.specs.Fields.{value_in}
 use Rattle.choreo_lines.proofs.Collected.{values_more, values_err, values_all, with_front, rest}

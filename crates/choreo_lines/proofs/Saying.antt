@@ -1,0 +1,401 @@
+-- The words of a line say an entry exactly where the line is read as that entry.
+use Rattle.std.proofs.Common.{◌≡◌, ℕ, suc, ◌+◌, ◌≤◌, Bool, true, false, List, [], ◌∷◌, ◌++◌, map, take, drop, Some, None, Option, Result, Ok, Err, refl, sym, ap, ap₂, subst, ◌∙◌, cond, arith, eqb-true, eq-eqb, le-leb}
+use Rattle.std.specs.Prelude.{◌&&◌, ◌==◌, bytes_eq, codes, length, nat_le, nat_abs, ℤ, pos, negsuc, ◌≤ℤ◌, IsTrue}
+use Rattle.std.proofs.lemmas.Bool.{and_parts, leb-true}
+use Rattle.std.proofs.lemmas.Slice.Eq.{bytes_eq-Decides}
+use Rattle.std.proofs.lemmas.List.{drop_all, append-nil}
+use Rattle.text_lines.specs.Numbers.{number_in as number_read}
+use Rattle.text_lines.specs.declared.number.NumberFault.{NumberFault}
+use Rattle.text_lines.proofs.NumberLaws.{read_is_number, number_is_read}
+use Rattle.choreo_lines.specs.Name.{Name, is_name}
+use Rattle.choreo_lines.specs.Table.{Word, word, Row, row_of, act_places, has_count, act_of}
+use Rattle.choreo_lines.specs.Fields.{◌>>=◌, judged, name_in, mirror_in, smooth_in, ccw_in, value_in, values_in, names_in, name_of, act_with, entry_with, act_by, act_in, act_line, row_line, entry_of}
+use Rattle.choreo_lines.specs.Says.{Holds, AllHold, act_fields, fields_of, keyword_in, SaysAct, Says, may_say}
+use Rattle.choreo_lines.specs.Steps.{Fits, AllFit}
+use Rattle.choreo_lines.proofs.Reading.{two, passed, name_read, acted, Rowed, rowed, IsRead, read_of, read_entry}
+use Rattle.choreo_lines.specs.declared.line.LineKind.{LineKind}
+use Rattle.choreo_lines.specs.declared.line.LineKind.TheVariants as kind
+use Rattle.choreo_lines.specs.declared.line.Keyword.{Keyword}
+use Rattle.choreo_lines.specs.declared.line.Keyword.TheVariants as first
+use Rattle.choreo_lines.specs.declared.line.Place.{Place}
+use Rattle.choreo_lines.specs.declared.line.Entry.{Entry}
+use Rattle.choreo_lines.specs.declared.line.Entry.TheVariants as entry
+use Rattle.choreo_lines.specs.declared.parts.Act.{Act}
+use Rattle.choreo_lines.specs.declared.parts.Act.TheVariants as act
+use Rattle.choreo_lines.specs.declared.parts.Mirror.{Mirror}
+use Rattle.choreo_lines.specs.declared.parts.Mirror.TheVariants as mirror
+use Rattle.choreo_lines.specs.declared.table.Want.{Want}
+use Rattle.choreo_lines.specs.declared.table.Want.TheVariants as want
+use Rattle.choreo_lines.specs.declared.table.Value.{Value}
+use Rattle.choreo_lines.specs.declared.table.Value.TheVariants.{Name as Named, Mirror as Mirrored, Smooth, Ccw, Number}
+use Rattle.choreo_lines.specs.declared.table.ActWord.{ActWord}
+use Rattle.choreo_lines.specs.declared.table.ActWord.TheVariants as word_of
+
+-- A word that is read in its place is that value.
+
+fixed_by : {A : Type 0} (P : A → Type 0) (b : Bool) (w c : Word) (x y : A) (rest : Result A LineKind) → bytes_eq w c ≡ b → (w ≡ c → P x) → (rest ≡ Ok y → P y) → cond b (Ok x) rest ≡ Ok y → P y
+fixed_by P true w c x y rest e is other h = let same : x ≡ y = cc in subst P same (is ((bytes_eq-Decides w c).0 e))
+fixed_by P false w c x y rest e is other h = other h
+
+-- a word is a fixed one, or it is read on
+fixed : {A : Type 0} (P : A → Type 0) (w c : Word) (x y : A) (rest : Result A LineKind) → (w ≡ c → P x) → (rest ≡ Ok y → P y) → cond (bytes_eq w c) (Ok x) rest ≡ Ok y → P y
+fixed P w c x y rest is other h = fixed_by P (bytes_eq w c) w c x y rest refl is other h
+
+no_word : {A : Type 0} (P : A → Type 0) (y : A) → ◌≡◌ {A = Result A LineKind} (Err kind.BadWord) (Ok y) → P y
+no_word P y h = cc
+
+mirror_holds : (w : Word) (m : Mirror) → mirror_in w ≡ Ok m → Holds want.Mirror w (Mirrored m)
+mirror_holds w m h =
+    let P = λ (x : Mirror). Holds want.Mirror w (Mirrored x) in
+    fixed P w (codes "none") mirror.None m _ (λ e. e) (fixed P w (codes "x") mirror.X m _ (λ e. e) (fixed P w (codes "y") mirror.Y m _ (λ e. e) (no_word P m))) h
+
+smooth_holds : (w : Word) (s : Bool) → smooth_in w ≡ Ok s → Holds want.Manner w (Smooth s)
+smooth_holds w s h =
+    let P = λ (x : Bool). Holds want.Manner w (Smooth x) in
+    fixed P w (codes "line") false s _ (λ e. e) (fixed P w (codes "move") true s _ (λ e. e) (no_word P s)) h
+
+ccw_holds : (w : Word) (c : Bool) → ccw_in w ≡ Ok c → Holds want.Sense w (Ccw c)
+ccw_holds w c h =
+    let P = λ (x : Bool). Holds want.Sense w (Ccw x) in
+    fixed P w (codes "ccw") true c _ (λ e. e) (fixed P w (codes "cw") false c _ (λ e. e) (no_word P c)) h
+
+judged_is : (r : Result ℤ NumberFault) (v : ℤ) → judged r ≡ Ok v → r ≡ Ok v
+judged_is (Ok x) v h = let same : x ≡ v = cc in ap (λ z. Ok z) same
+judged_is (Err f) v h = cc
+
+value_holds : (wanted : Want) (w : Word) (v : Value) → value_in wanted w ≡ Ok v → Holds wanted w v
+value_holds want.Name w v h =
+    let p = two (name_in w) (λ n. Ok (Named n)) v h in
+    let same : Named p.a ≡ v = cc in
+    let q = name_read w p.a p.first in
+    subst (Holds want.Name w) same (q.0, sym q.1)
+value_holds want.Mirror w v h =
+    let p = two (mirror_in w) (λ m. Ok (Mirrored m)) v h in
+    let same : Mirrored p.a ≡ v = cc in
+    subst (Holds want.Mirror w) same (mirror_holds w p.a p.first)
+value_holds want.Manner w v h =
+    let p = two (smooth_in w) (λ s. Ok (Smooth s)) v h in
+    let same : Smooth p.a ≡ v = cc in
+    subst (Holds want.Manner w) same (smooth_holds w p.a p.first)
+value_holds want.Sense w v h =
+    let p = two (ccw_in w) (λ c. Ok (Ccw c)) v h in
+    let same : Ccw p.a ≡ v = cc in
+    subst (Holds want.Sense w) same (ccw_holds w p.a p.first)
+value_holds (want.Number low high) w v h =
+    let p = two (judged (number_read low high w)) (λ x. Ok (Number x)) v h in
+    let same : Number p.a ≡ v = cc in
+    subst (Holds (want.Number low high) w) same (read_is_number low high w p.a (judged_is (number_read low high w) p.a p.first))
+
+-- A value that a word is in its place fits the place.
+
+pub holds_fits : (wanted : Want) (w : Word) (v : Value) → Holds wanted w v → Fits wanted v
+holds_fits want.Name w (Named n) h = subst (λ x. IsTrue (is_name x)) (sym h.1) h.0
+holds_fits want.Mirror w (Mirrored m) h = tt
+holds_fits want.Manner w (Smooth s) h = tt
+holds_fits want.Sense w (Ccw c) h = tt
+holds_fits (want.Number low high) w (Number v) h = (h.from, h.to)
+holds_fits wanted w v h = absurd h
+
+pub values_fit : (wants : List Want) (ws : List Word) (vs : List Value) → values_in wants ws ≡ Ok vs → AllFit wants vs
+unfolding values_in
+values_fit [] ws vs h = let same : [] ≡ vs = cc in subst (AllFit []) same tt
+values_fit (wanted ∷ more) ws vs h =
+    let p = two (value_in wanted (word ws 0)) (λ v. values_in more (drop 1 ws) >>= (λ xs. Ok (v ∷ xs))) vs h in
+    let q = two (values_in more (drop 1 ws)) (λ xs. Ok (p.a ∷ xs)) vs p.then in
+    let same : p.a ∷ q.a ≡ vs = cc in
+    let first = holds_fits wanted (word ws 0) p.a (value_holds wanted (word ws 0) p.a p.first) in
+    subst (AllFit (wanted ∷ more)) same (first, values_fit more (drop 1 ws) q.a q.first)
+
+-- values that fit these places, and names after the last one
+abbrev pub FitNamed : List Want → List Value → Type 0
+FitNamed [] [] = Unit {0}
+FitNamed [] (v ∷ vs) = Fits want.Name v × FitNamed [] vs
+FitNamed (wanted ∷ more) (v ∷ vs) = Fits wanted v × FitNamed more vs
+FitNamed wants vs = ⊥
+
+pub held_fit : (wants : List Want) (ws : List Word) (vs : List Value) → AllHold wants ws vs → FitNamed wants vs
+held_fit [] [] [] h = tt
+held_fit [] (w ∷ ws) (v ∷ vs) h = (holds_fits want.Name w v h.0, held_fit [] ws vs h.1)
+held_fit (wanted ∷ more) (w ∷ ws) (v ∷ vs) h = (holds_fits wanted w v h.0, held_fit more ws vs h.1)
+held_fit wants ws vs h = absurd h
+
+-- A word that is a value in its place is read as that.
+
+held_name : (w : Word) (v : Value) → Holds want.Name w v → name_in w ≡ Ok (name_of v)
+held_name w (Named n) h =
+    let is : record { items = w } ≡ n = ap (λ x. record { items = x }) (sym h.1) in
+    ap (λ b. cond b (Ok (record { items = w })) (Err kind.BadName)) h.0 ∙ ap (λ x. Ok x) is
+held_name w v h = absurd h
+
+held_value : (wanted : Want) (w : Word) (v : Value) → Holds wanted w v → value_in wanted w ≡ Ok v
+held_value want.Name w (Named n) h = ap (λ r. r >>= (λ x. Ok (Named x))) (held_name w (Named n) h)
+held_value want.Mirror w (Mirrored mirror.None) h = ap (value_in want.Mirror) h
+held_value want.Mirror w (Mirrored mirror.X) h = ap (value_in want.Mirror) h
+held_value want.Mirror w (Mirrored mirror.Y) h = ap (value_in want.Mirror) h
+held_value want.Manner w (Smooth false) h = ap (value_in want.Manner) h
+held_value want.Manner w (Smooth true) h = ap (value_in want.Manner) h
+held_value want.Sense w (Ccw false) h = ap (value_in want.Sense) h
+held_value want.Sense w (Ccw true) h = ap (value_in want.Sense) h
+held_value (want.Number low high) w (Number v) h = ap (λ r. judged r >>= (λ x. Ok (Number x))) (number_is_read low high w v h)
+held_value wanted w v h = absurd h
+
+-- Words in their places, and names after them.
+
+names_hold : (ws : List Word) (ns : List Name) → names_in ws ≡ Ok ns → AllHold [] ws (map Named ns)
+unfolding names_in
+names_hold [] ns h = let same : [] ≡ ns = cc in subst (λ xs. AllHold [] [] (map Named xs)) same tt
+names_hold (w ∷ ws) ns h =
+    let p = two (name_in w) (λ n. names_in ws >>= (λ xs. Ok (n ∷ xs))) ns h in
+    let q = two (names_in ws) (λ xs. Ok (p.a ∷ xs)) ns p.then in
+    let same : p.a ∷ q.a ≡ ns = cc in
+    let r = name_read w p.a p.first in
+    subst (λ xs. AllHold [] (w ∷ ws) (map Named xs)) same ((r.0, sym r.1), names_hold ws q.a q.first)
+
+values_hold : (wants : List Want) (ws : List Word) (vs : List Value) (ns : List Name) → length wants ≤ length ws → values_in wants ws ≡ Ok vs → names_in (drop (length wants) ws) ≡ Ok ns → AllHold wants ws (vs ++ map Named ns)
+unfolding values_in
+values_hold [] ws vs ns l h k = let same : [] ≡ vs = cc in subst (λ xs. AllHold [] ws (xs ++ map Named ns)) same (names_hold ws ns k)
+values_hold (wanted ∷ more) [] vs ns l h k = absurd (omega arith)
+values_hold (wanted ∷ more) (w ∷ ws) vs ns l h k =
+    let p = two (value_in wanted w) (λ v. values_in more ws >>= (λ xs. Ok (v ∷ xs))) vs h in
+    let q = two (values_in more ws) (λ xs. Ok (p.a ∷ xs)) vs p.then in
+    let same : p.a ∷ q.a ≡ vs = cc in
+    let fewer : length more ≤ length ws = omega arith in
+    subst (λ xs. AllHold (wanted ∷ more) (w ∷ ws) (xs ++ map Named ns)) same
+    (value_holds wanted w p.a p.first, values_hold more ws q.a ns fewer q.first k)
+
+-- words of which there are as many as places
+act_values : (wants : List Want) (ws : List Word) (vs : List Value) → length ws ≡ length wants → values_in wants ws ≡ Ok vs → AllHold wants ws vs
+unfolding names_in
+act_values wants ws vs l h =
+    let none : names_in (drop (length wants) ws) ≡ Ok [] = ap names_in (drop_all (length wants) ws (omega (arith, l))) in
+    subst (AllHold wants ws) (append-nil vs) (values_hold wants ws vs [] (omega (arith, l)) h none)
+
+held_values : (wants : List Want) (ws : List Word) (vs : List Value) → AllHold wants ws vs → values_in wants ws ≡ Ok (take (length wants) vs)
+unfolding values_in
+held_values [] ws vs h = refl
+held_values (wanted ∷ more) (w ∷ ws) (v ∷ vs) h =
+    ap (λ r. r >>= (λ x. values_in more ws >>= (λ xs. Ok (x ∷ xs)))) (held_value wanted w v h.0)
+    ∙ ap (λ r. r >>= (λ xs. Ok (v ∷ xs))) (held_values more ws vs h.1)
+held_values wants ws vs h = absurd h
+
+held_names : (wants : List Want) (ws : List Word) (vs : List Value) → AllHold wants ws vs → names_in (drop (length wants) ws) ≡ Ok (map name_of (drop (length wants) vs))
+unfolding names_in
+held_names [] [] [] h = refl
+held_names [] (w ∷ ws) (v ∷ vs) h =
+    ap (λ r. r >>= (λ n. names_in ws >>= (λ ns. Ok (n ∷ ns)))) (held_name w v h.0)
+    ∙ ap (λ r. r >>= (λ ns. Ok (name_of v ∷ ns))) (held_names [] ws vs h.1)
+held_names (wanted ∷ more) (w ∷ ws) (v ∷ vs) h = held_names more ws vs h.1
+held_names wants ws vs h = absurd h
+
+-- as many words as values
+pub held_length : (wants : List Want) (ws : List Word) (vs : List Value) → AllHold wants ws vs → length ws ≡ length vs
+held_length [] [] [] h = refl
+held_length [] (w ∷ ws) (v ∷ vs) h = ap suc (held_length [] ws vs h.1)
+held_length (wanted ∷ more) (w ∷ ws) (v ∷ vs) h = ap suc (held_length more ws vs h.1)
+held_length wants ws vs h = absurd h
+
+-- ten places hold no fewer values
+pub no_curve : (ws : List Word) → AllHold (act_places word_of.Curve) ws [] → ⊥
+no_curve [] h = h
+no_curve (w ∷ ws) h = h
+
+-- What is so for all values that fit their places.
+
+abbrev Each : Want → (Value → Type 0) → Type 0
+Each want.Name P = (n : Name) → P (Named n)
+Each want.Mirror P = (m : Mirror) → P (Mirrored m)
+Each want.Manner P = (s : Bool) → P (Smooth s)
+Each want.Sense P = (c : Bool) → P (Ccw c)
+Each (want.Number low high) P = (v : ℤ) → low ≤ℤ v → P (Number v)
+
+abbrev Every : List Want → (List Value → Type 0) → Type 0
+Every [] P = P []
+Every (wanted ∷ more) P = Each wanted (λ v. Every more (λ vs. P (v ∷ vs)))
+
+each : (wanted : Want) (P : Value → Type 0) → Each wanted P → (v : Value) → Fits wanted v → P v
+each want.Name P h (Named n) f = h n
+each want.Mirror P h (Mirrored m) f = h m
+each want.Manner P h (Smooth s) f = h s
+each want.Sense P h (Ccw c) f = h c
+each (want.Number low high) P h (Number v) f = h v f.0
+each wanted P h v f = absurd f
+
+every : (wants : List Want) (P : List Value → Type 0) → Every wants P → (vs : List Value) → AllFit wants vs → P vs
+every [] P h [] f = h
+every (wanted ∷ more) P h (v ∷ vs) f = every more (λ xs. P (v ∷ xs)) (each wanted (λ x. Every more (λ xs. P (x ∷ xs))) h v f.0) vs f.1
+every wants P h vs f = absurd f
+
+-- An entry of these values has these values.
+
+same_number : (low : ℕ) (v : ℤ) → pos low ≤ℤ v → pos (nat_abs v) ≡ v
+same_number low (pos n) h = refl
+same_number low (negsuc n) h = absurd h.le
+
+act_apart : (k : ActWord) → Every (act_places k) (λ vs. act_fields (act_with k vs) ≡ (k, vs))
+act_apart word_of.Hold = refl
+act_apart word_of.Line = λ x p y q z r yaw s. refl
+act_apart word_of.Move = λ x p y q z r yaw s. refl
+act_apart word_of.Turn = λ yaw s. refl
+act_apart word_of.Arc = λ c x p y q yaw s. refl
+act_apart word_of.Curve = λ x1 p1 y1 q1 z1 r1 x2 p2 y2 q2 z2 r2 x p y q z r yaw s. refl
+
+-- where names follow, they come last
+abbrev IsApart : Keyword → List Name → List Value → Type 0
+IsApart k ns vs = fields_of (entry_with k vs ns) ≡ vs ++ map Named ns
+
+one_number : (low : ℕ) (v : ℤ) → pos low ≤ℤ v → Number (pos (nat_abs v)) ∷ [] ≡ Number v ∷ []
+one_number low v p = ap (λ x. Number x ∷ []) (same_number low v p)
+
+two_numbers : (low : ℕ) (v u : ℤ) → pos low ≤ℤ v → pos low ≤ℤ u → Number (pos (nat_abs v)) ∷ Number (pos (nat_abs u)) ∷ [] ≡ Number v ∷ Number u ∷ []
+two_numbers low v u p q = ap₂ (λ x y. Number x ∷ Number y ∷ []) (same_number low v p) (same_number low u q)
+
+-- lines after which no name stands
+alone : (k : Keyword) → (row_of k).names ≡ 0 → Every (row_of k).places (IsApart k [])
+alone first.Memory none = λ id f offset g. two_numbers 0 id offset f g
+alone first.Trajectory none = λ id f. one_number 0 id f
+alone first.Ellipsoid none = λ r f h g. two_numbers 1 r h f g
+alone first.Stray none = λ mm f. one_number 0 mm f
+alone first.Late none = λ ms f. one_number 0 ms f
+alone first.Drone none = λ n x p y q z r yaw s. refl
+alone first.Formation none = λ n. refl
+alone first.At none = λ n x p y q z r yaw s. refl
+alone first.Figure none = cc
+alone first.Cue none = λ ms f. one_number 1 ms f
+alone first.Repeat none = λ times f. one_number 1 times f
+alone first.Perform none = cc
+alone first.Form none = λ n s. refl
+alone first.End none = refl
+alone first.Other none = refl
+
+apart : (k : Keyword) (ns : List Name) → ((row_of k).names ≡ 0 → ns ≡ []) → Every (row_of k).places (IsApart k ns)
+apart first.Figure ns none = λ n. refl
+apart first.Perform ns none = λ n m t f x p y q z r.
+    ap (λ i. Named n ∷ Mirrored m ∷ Number i ∷ Number x ∷ Number y ∷ Number z ∷ map Named ns) (same_number 0 t f)
+apart k ns none = subst (λ xs. Every (row_of k).places (IsApart k xs)) (sym (none refl)) (alone k refl)
+
+-- How many words a line has.
+
+least_by : (b : Bool) (least most n : ℕ) → cond b (n == least) (nat_le (least + 1) n && nat_le n most) ≡ true → least ≤ n
+least_by true least most n h = let same = eqb-true n least h in omega (arith, same)
+least_by false least most n h =
+    let p = and_parts (nat_le (least + 1) n) (nat_le n most) h in
+    let more = leb-true (least + 1) n p.0 in
+    omega (arith, more)
+
+-- at least as many as it has places
+has_places : (row : Row) (n : ℕ) → has_count row n ≡ true → length row.places ≤ n
+has_places row n h = least_by (row.names == 0) (length row.places) (length row.places + row.names) n h
+
+-- none is left where no name may follow
+none_left : (row : Row) (ws : List Word) → has_count row (length ws) ≡ true → row.names ≡ 0 → drop (length row.places) ws ≡ []
+none_left row ws h e =
+    let same = eqb-true (length ws) (length row.places) (ap (λ n. cond (n == 0) (length ws == length row.places) (nat_le (length row.places + 1) (length ws) && nat_le (length ws) (length row.places + n))) (sym e) ∙ h) in
+    drop_all (length row.places) ws (omega (arith, same))
+
+no_names : (ws : List Word) (ns : List Name) → names_in ws ≡ Ok ns → ws ≡ [] → ns ≡ []
+unfolding names_in
+no_names ws ns h e =
+    let k : Ok [] ≡ Ok ns = ap names_in (sym e) ∙ h in
+    let same : [] ≡ ns = cc in
+    sym same
+
+-- A line that is read by its row, and one of an act.
+
+row_held : (k : Keyword) (ws : List Word) (e : Entry) → Rowed k ws e → AllHold (row_of k).places ws (fields_of e)
+row_held k ws e r =
+    let none = λ (z : (row_of k).names ≡ 0). no_names (drop (length (row_of k).places) ws) r.names r.named (none_left (row_of k) ws r.count z) in
+    let fit = values_fit (row_of k).places ws r.values r.read in
+    let is = every (row_of k).places (IsApart k r.names) (apart k r.names none) r.values fit in
+    subst (AllHold (row_of k).places ws) (sym is ∙ ap fields_of r.is)
+    (values_hold (row_of k).places ws r.values r.names (has_places (row_of k) (length ws) r.count) r.read r.named)
+
+-- the words of an act whose values are taken apart
+abbrev HasAct : Word → List Word → ActWord × List Value → Type 0
+HasAct x ws parts = (act_of x ≡ Some parts.0) × AllHold (act_places parts.0) ws parts.1
+
+act_held : (o : Option ActWord) (x : Word) (ws : List Word) (a : Act) → act_of x ≡ o → act_by o ws ≡ Ok a → HasAct x ws (act_fields a)
+act_held None x ws a e h = cc
+act_held (Some k) x ws a e h =
+    let p = passed (length ws == length (act_places k)) (values_in (act_places k) ws >>= (λ vs. Ok (act_with k vs))) kind.BadCount a h in
+    let q = two (values_in (act_places k) ws) (λ vs. Ok (act_with k vs)) a p.1 in
+    let same : act_with k q.a ≡ a = cc in
+    let count = eqb-true (length ws) (length (act_places k)) p.0 in
+    let fit = values_fit (act_places k) ws q.a q.first in
+    let is = every (act_places k) (λ vs. act_fields (act_with k vs) ≡ (k, vs)) (act_apart k) q.a fit in
+    subst (HasAct x ws) (sym is ∙ ap act_fields same) (e, act_values (act_places k) ws q.a count q.first)
+
+act_says : (ws : List Word) (a : Act) → act_in ws ≡ Ok a → SaysAct ws a
+unfolding act_in
+act_says [] a h = cc
+act_says (x ∷ ws) a h = act_held (act_of x) x ws a refl h
+
+line_says : (ws : List Word) (n : Name) (a : Act) → name_in (word ws 0) ≡ Ok n → act_in (drop 1 ws) ≡ Ok a → Says ws (entry.One n a)
+line_says [] n a named h = cc
+line_says (w ∷ ws) n a named h = let r = name_read w n named in ((r.0, sym r.1), act_says ws a h)
+
+pub read_says : (ws : List Word) (e : Entry) → IsRead ws e → Says ws e
+read_says ws (entry.One n a) h =
+    let l = acted ws (entry.One n a) h.1 in subst (Says ws) l.is (line_says ws l.name l.act l.named l.acts)
+read_says [] e h = cc
+read_says (w ∷ ws) e h =
+    let r = rowed (keyword_in e) ws e h.1 in (h.0, r.count, row_held (keyword_in e) ws e r)
+
+-- A line that says an entry is read as it.
+
+row_read : (k : Keyword) (ws : List Word) (vs : List Value) → has_count (row_of k) (length ws) ≡ true → AllHold (row_of k).places ws vs → row_line k ws ≡ Ok (entry_with k (take (length (row_of k).places) vs) (map name_of (drop (length (row_of k).places) vs)))
+unfolding row_line
+row_read k ws vs c h =
+    let after = names_in (drop (length (row_of k).places) ws) in
+    ap (λ b. cond b (values_in (row_of k).places ws >>= (λ xs. after >>= (λ ns. Ok (entry_with k xs ns)))) (Err kind.BadCount)) c
+    ∙ ap (λ r. r >>= (λ xs. after >>= (λ ns. Ok (entry_with k xs ns)))) (held_values (row_of k).places ws vs h)
+    ∙ ap (λ r. r >>= (λ ns. Ok (entry_with k (take (length (row_of k).places) vs) ns))) (held_names (row_of k).places ws vs h)
+
+names_again : (ns : List Name) → map name_of (map Named ns) ≡ ns
+names_again [] = refl
+names_again (n ∷ ns) = ap (λ xs. n ∷ xs) (names_again ns)
+
+entry_again : (e : Entry) → (keyword_in e ≡ first.Other → ⊥) → entry_with (keyword_in e) (take (length (row_of (keyword_in e)).places) (fields_of e)) (map name_of (drop (length (row_of (keyword_in e)).places) (fields_of e))) ≡ e
+entry_again (entry.Figure name roles) o = ap (entry.Figure name) (names_again roles)
+entry_again (entry.Perform figure frame drones) o = ap (entry.Perform figure frame) (names_again drones)
+entry_again (entry.One name a) o = absurd (o refl)
+entry_again e o = refl
+
+act_by_read : (k : ActWord) (ws : List Word) (vs : List Value) → AllHold (act_places k) ws vs → length vs ≡ length (act_places k) → act_by (Some k) ws ≡ Ok (act_with k (take (length (act_places k)) vs))
+act_by_read k ws vs h e =
+    let count = held_length (act_places k) ws vs h ∙ e in
+    ap (λ n. cond (n == length (act_places k)) (values_in (act_places k) ws >>= (λ xs. Ok (act_with k xs))) (Err kind.BadCount)) count
+    ∙ ap (λ b. cond b (values_in (act_places k) ws >>= (λ xs. Ok (act_with k xs))) (Err kind.BadCount)) (eq-eqb (length (act_places k)) (length (act_places k)) refl)
+    ∙ ap (λ r. r >>= (λ xs. Ok (act_with k xs))) (held_values (act_places k) ws vs h)
+
+act_read : (a : Act) (ws : List Word) → AllHold (act_places (act_fields a).0) ws (act_fields a).1 → act_by (Some (act_fields a).0) ws ≡ Ok a
+act_read act.Hold ws h = act_by_read word_of.Hold ws [] h refl
+act_read (act.Line to) ws h = act_by_read word_of.Line ws _ h refl
+act_read (act.Move to) ws h = act_by_read word_of.Move ws _ h refl
+act_read (act.Turn yaw) ws h = act_by_read word_of.Turn ws _ h refl
+act_read (act.Arc ccw cx cy yaw) ws h = act_by_read word_of.Arc ws _ h refl
+act_read (act.Curve (x1 ∷ y1 ∷ z1 ∷ []) (x2 ∷ y2 ∷ z2 ∷ []) to) ws h = act_by_read word_of.Curve ws _ h refl
+act_read (act.Curve p1 p2 to) ws h = absurd (no_curve ws h)
+
+act_line_read : (w : Word) (ws : List Word) (n : Name) (a : Act) → Holds want.Name w (Named n) → SaysAct ws a → act_line (w ∷ ws) ≡ Ok (entry.One n a)
+unfolding act_line act_in
+act_line_read w [] n a named h = absurd h
+act_line_read w (x ∷ ws) n a named h =
+    let more : nat_le 2 (length (w ∷ x ∷ ws)) ≡ true = le-leb 2 (length (w ∷ x ∷ ws)) (omega arith) in
+    ap (λ t. name_in w >>= (λ m. cond t (act_by (act_of x) ws) (Err kind.BadCount) >>= (λ b. Ok (entry.One m b)))) more
+    ∙ ap (λ r. r >>= (λ m. act_by (act_of x) ws >>= (λ b. Ok (entry.One m b)))) (held_name w (Named n) named)
+    ∙ ap (λ o. act_by o ws >>= (λ b. Ok (entry.One n b))) h.0
+    ∙ ap (λ r. r >>= (λ b. Ok (entry.One n b))) (act_read a ws h.1)
+
+pub says_read : (ws : List Word) (e : Entry) → Says ws e → IsRead ws e
+says_read [] e h = absurd h
+says_read (w ∷ ws) (entry.One n a) h = (tt, act_line_read w ws n a h.0 h.1)
+says_read (w ∷ ws) e h =
+    (h.0, row_read (keyword_in e) ws (fields_of e) h.1 h.2 ∙ ap (λ x. Ok x) (entry_again e (λ o. cc)))
+
+-- A line that is read as an entry says it, and may say it there.
+pub says_of : (p : Place) (ws : List Word) (e : Entry) → entry_of p ws ≡ Ok e → Says ws e × (may_say p e ≡ true)
+says_of p ws e h = let r = read_of p ws e h in (read_says ws e r.0, r.1)
+
+-- A line that says an entry is read as that, where it may stand.
+pub says_entry : (p : Place) (ws : List Word) (e : Entry) → Says ws e → may_say p e ≡ true → entry_of p ws ≡ Ok e
+says_entry p ws e h m = read_entry p ws e (says_read ws e h) m
