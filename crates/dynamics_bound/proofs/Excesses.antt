@@ -1,5 +1,5 @@
 -- The first excess, and that nothing exceeds a limit where there is none.
-use Rattle.std.proofs.Common.{◌≡◌, ℕ, zero, suc, ◌+◌, ◌≤◌, ◌<◌, max, Bool, nat_lt, true, false, cond, pos, arith, refl, ◌∙◌, ap, Option, Some, None, IfSome, length}
+use Rattle.std.proofs.Common.{inl, inr, ◌⊎◌, ◌≡◌, ℕ, zero, suc, ◌+◌, ◌≤◌, ◌<◌, max, Bool, nat_lt, true, false, cond, pos, arith, refl, ◌∙◌, ap, subst, Option, Some, None, IfSome, length}
 use Rattle.std.specs.Option.{option_or}
 use Rattle.std.proofs.lemmas.Bool.Decides.{nat_tests}
 use Rattle.fleet_math.proofs.BernsteinLemmas.{by_lt}
@@ -7,6 +7,7 @@ use Rattle.traj_codec.specs.declared.traj.Traj.{Traj}
 use Rattle.speed_bound.proofs.Widths.{greatest-most}
 use Rattle.dynamics_bound.specs.declared.excess.Excess.{Excess}
 use Rattle.dynamics_bound.specs.declared.excess.Kind.{Kind}
+use Rattle.dynamics_bound.specs.declared.excess.Kind.TheVariants as kind
 use Rattle.dynamics_bound.specs.declared.excess.Limits.{Limits}
 use Rattle.dynamics_bound.specs.Accelerations.{acceleration, acceleration_in}
 use Rattle.dynamics_bound.specs.Edges.{jump}
@@ -127,3 +128,41 @@ none_within limits depth t none =
           (λ less. (none_before limits depth t (length t.segments) k both.0 less).1)
           (λ more. let same : k ≡ length t.segments = omega (arith, inside, more) in rw same both.1));
     }
+
+-- ---- what a first excess names
+-- it is on one of three axes, in the segment that is looked at
+above_named : (what : Kind) (limit : Option ℕ) (segment : ℕ) (f : ℕ → ℕ) (e : Excess) → above what limit segment f ≡ Some e → (e.axis ≤ 2) × (e.segment ≡ segment)
+above_named what None segment f e is = absurd (cc)
+above_named what (Some limit) segment f e is = by (nat_lt limit (f 0)) (nat_lt limit (f 1)) (nat_lt limit (f 2)) is
+  where
+    on : ℕ → Excess
+    on axis = record { kind = what; segment = segment; axis = axis; value = pos (f axis) }
+
+    named : (axis : ℕ) → axis ≤ 2 → Some (on axis) ≡ Some e → (e.axis ≤ 2) × (e.segment ≡ segment)
+    named axis small same = let it : on axis ≡ e = cc in subst (λ (u : Excess). (u.axis ≤ 2) × (u.segment ≡ segment)) it (small, refl)
+
+    by : (x y z : Bool) → cond x (Some (on 0)) (cond y (Some (on 1)) (cond z (Some (on 2)) None)) ≡ Some e → (e.axis ≤ 2) × (e.segment ≡ segment)
+    by true y z same = named 0 (omega arith) same
+    by false true z same = named 1 (omega arith) same
+    by false false true same = named 2 (omega arith) same
+    by false false false same = absurd (cc)
+
+either : (a b : Option Excess) (e : Excess) → option_or a b ≡ Some e → (a ≡ Some e) ⊎ (b ≡ Some e)
+either None b e is = inr is
+either (Some x) b e is = inl is
+
+before_named : (limits : Limits) (depth : ℕ) (t : Traj) (k : ℕ) (e : Excess) → excess_before limits depth t k ≡ Some e → (e.axis ≤ 2) × (e.segment ≤ k)
+before_named limits depth t zero e is = absurd (cc)
+before_named limits depth t (suc k) e is = elim (either (excess_before limits depth t k) _ e is) [
+  | inl first ↦ let named = before_named limits depth t k e first in (named.0, omega (arith, named.1))
+  | inr later ↦ elim (either (sharp_at limits.acceleration depth t k) (jumps_at limits.jump t k) e later) [
+    | inl sharp ↦ let named = above_named kind.Acceleration limits.acceleration k _ e sharp in (named.0, omega (arith, named.1))
+    | inr jumps ↦ let named = above_named kind.Jump limits.jump k _ e jumps in (named.0, omega (arith, named.1))
+  ]
+]
+
+pub first_named : (limits : Limits) (depth : ℕ) (t : Traj) (e : Excess) → first_excess limits depth t ≡ Some e → (e.axis ≤ 2) × (e.segment ≤ length t.segments)
+first_named limits depth t e is = elim (either (excess_before limits depth t (length t.segments)) (jumps_at limits.jump t (length t.segments)) e is) [
+  | inl before ↦ before_named limits depth t (length t.segments) e before
+  | inr last ↦ let named = above_named kind.Jump limits.jump (length t.segments) _ e last in (named.0, omega (arith, named.1))
+]

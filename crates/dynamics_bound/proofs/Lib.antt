@@ -9,4 +9,5 @@ pub mod Velocities
 pub mod Walks
 pub mod Greatest
 pub mod Excesses
+pub mod Motions
 mod Rows

@@ -1,4 +1,6 @@
 pub mod Accelerations
 pub mod Edges
 pub mod Excesses
+pub mod Motions
+pub mod Lines
 pub mod Steps

@@ -1,6 +1,6 @@
 //! The first acceleration or jump above a limit.
 
-ghost use Rattle.std.specs.Prelude.{◌≡◌, ℕ, ◌^◌, ◌≤◌, ◌<◌, Some, All, IfNone, length};
+ghost use Rattle.std.specs.Prelude.{◌≡◌, ℕ, ◌^◌, ◌≤◌, ◌<◌, Some, All, IfNone, IfSome, length};
 ghost use Rattle.traj_codec.specs.Spelling.{HasDuration};
 ghost use Rattle.dynamics_bound.specs.Excesses.{IsWithinLimits, above, first_excess, jumps_at, sharp_at};
 ghost use Rattle.dynamics_bound.specs.Steps.{three, walk_at};
@@ -47,6 +47,7 @@ pub fn first_above(t: &Traj, limits: Limits, depth: u8) -> Option<Excess>
     requires depth { depth ≤ 8 }
     ensures exact { result ≡ first_excess limits depth t.now }
     ensures none { IfNone result (IsWithinLimits limits depth t.now) }
+    ensures named { IfSome result (λ e. (e.axis ≤ 2) × (e.segment ≤ length t.now.segments)) }
 {
     let segments = t.segments.as_slice().len();
     let mut walk = Walk::start(t);

@@ -7,8 +7,10 @@
 //! first of these numbers that is above a limit. Nothing is sampled: the numbers are computed from control values. Takes no
 //! memory.
 //!
-//! The crate stands on `halving` for the parts of a curve, on `fleet_curves` for the raised curves of a segment, and on lemmas
-//! of `speed_bound`.
+//! [`motion_of`] names all of that by the cues of a show, and [`put_motion`] and [`put_extremes`] write the lines that say it.
+//!
+//! The crate stands on `halving` for the parts of a curve, on `fleet_curves` for the raised curves of a segment, on lemmas of
+//! `speed_bound`, and on `fleet_io` for lines.
 #![tactic(auto)]
 
 mod acceleration;
@@ -16,10 +18,14 @@ mod bends;
 mod excess;
 mod formed;
 mod jumping;
+mod lines;
+mod motion;
 mod velocity;
 mod walk;
 
 pub use acceleration::bound;
 pub use excess::{Excess, Kind, Limits, first_above};
 pub use jumping::{Jump, jumps, rests};
+pub use lines::{put_extremes, put_motion};
+pub use motion::{Axes, Extremes, Motion, cue_of, motion_of};
 pub use velocity::Velocity;

@@ -2,12 +2,11 @@
 use Rattle.std.proofs.Common.{◌≡◌, ℕ, ◌+◌, ◌*◌, ◌<◌, ◌≤◌, All, sum, List, [], ◌∷◌, ◌++◌, codes, decimal, ◌^◌, true, length, Option, Some, None, Result, Ok, Err, OnOk, sym, ap, subst, ◌∙◌, arith}
 use Rattle.std.specs.Prelude.{MatchOption}
 use Rattle.std.proofs.Math.Nat.{one-le-pow}
-use Rattle.std.proofs.Math.Pow.{pow_mono}
 use Rattle.std.proofs.lemmas.List.{length-map}
 use Rattle.std.proofs.lemmas.List.Elements.{All-cons, All-head, All-nil, All-tail}
 use Rattle.traj_codec.specs.Joined.{IsLasting}
 use Rattle.choreo_lines.specs.Name.{Name}
-use Rattle.fleet_io.specs.Words.{AreWords, IsWord, is_line_empty}
+use Rattle.fleet_io.specs.Words.{is_line_empty}
 use Rattle.fleet_io.proofs.WordLaws.{fresh_after_line}
 use Rattle.choreo_reader.specs.Plain.{PlainShow}
 use Rattle.choreo_reader.specs.declared.show.Settings.{Settings}
@@ -76,20 +75,6 @@ separation_fresh text names depth (Some part) =
 
 pub separation_leaves : (text new : List ℕ) (names : List Name) (depth : ℕ) (blocked : Option BlockedPart) → new ≡ text ++ separation_line names depth blocked → is_line_empty new ≡ true
 separation_leaves text new names depth blocked is = subst (λ (t : List ℕ). is_line_empty t ≡ true) (sym is) (separation_fresh text names depth blocked)
-
--- words, and a word more
-pub words_more : (words : List (List ℕ)) (first second : List ℕ) → AreWords words → IsWord first → IsWord second → AreWords (words ++ first ∷ second ∷ [])
-words_more [] first second are one two = (one, (two, tt))
-words_more (word ∷ words) first second are one two = (are.0, words_more words first second are.1 one two)
-
--- a cue has few parts
-pub parts_short : (depth : ℕ) → depth ≤ 8 → 2 ^ depth < 2 ^ 64
-parts_short depth small = let few : 2 ^ depth ≤ 2 ^ 8 = pow_mono small in omega (arith, few)
-
--- what follows from what holds on success
-pub on_ok : {A E : Type 0} (r : Result A E) (P Q : Type 0) → (P → Q) → OnOk r P → OnOk r Q
-on_ok (Ok a) P Q by holds = by holds
-on_ok (Err e) P Q by holds = holds
 
 -- ---- where no part is blocked
 

@@ -1,5 +1,5 @@
 -- What `dynamics` gives: how fast the speeds of a show's drones change at most, and where they jump.
-use Rattle.std.specs.Prelude.{◌≡◌, ℕ, zero, suc, ◌+◌, ◌-◌, ◌*◌, ◌≤◌, max, Bool, true, false, List, [], ◌∷◌, ◌++◌, codes, decimal, ℤ, length, map, take, sum, Option, None}
+use Rattle.std.specs.Prelude.{◌≡◌, ℕ, ◌*◌, List, [], ◌∷◌, ◌++◌, ℤ, Option, None}
 use Rattle.std.specs.List.{All}
 use Rattle.std.specs.Io.KnownBytes.{Appends}
 use Rattle.std.specs.Option.{option_map, option_or}
@@ -11,21 +11,15 @@ use Rattle.dynamics_bound.specs.declared.excess.Excess.{Excess}
 use Rattle.dynamics_bound.specs.declared.excess.Kind.{Kind}
 use Rattle.dynamics_bound.specs.declared.excess.Kind.TheVariants as kind
 use Rattle.dynamics_bound.specs.declared.excess.Limits.{Limits}
-use Rattle.dynamics_bound.specs.Accelerations.{KeepsAcceleration, acceleration}
-use Rattle.dynamics_bound.specs.Edges.{HasVelocities, IsGreatestJump, greatest_jump, is_rest_at, jump}
-use Rattle.dynamics_bound.specs.Excesses.{IsWithinLimits, first_excess}
-use Rattle.fleet_io.specs.Words.{line}
+use Rattle.dynamics_bound.specs.Excesses.{first_excess}
+use Rattle.dynamics_bound.specs.Lines.{extremes_line, motion_line}
+use Rattle.dynamics_bound.specs.Motions.{KeepsMotion, cue_of, extremes_of, motion}
 use Rattle.refusals.specs.declared.refusal.Refusal.{Refusal}
 use Rattle.refusals.specs.declared.refusal.Refusal.TheVariants as refusal
 use Rattle.show_plan.specs.Trajectories.{cue_times}
-use Rattle.speed_bound.specs.Speed.{greatest_below}
 use Rattle.traj_codec.specs.declared.traj.Traj.{Traj}
-use Rattle.traj_codec.specs.Positions.{durations}
 use Rattle.show_judge.specs.Shows.{names_of, sent_of}
 use Rattle.show_judge.specs.Verb.{Verb, of_any}
-use Rattle.show_studies.specs.declared.motion.Axes.{Axes}
-use Rattle.show_studies.specs.declared.motion.Extremes.{Extremes}
-use Rattle.show_studies.specs.declared.motion.Motion.{Motion}
 use Rattle.show_studies.specs.Speeds.{refused_or}
 
 -- ---- limits
@@ -37,79 +31,7 @@ in_micrometres limit = option_map (λ (v : ℕ). v * 1000) limit
 abbrev pub limits_of : Option ℕ → Option ℕ → Limits
 limits_of accel jump = record { acceleration = in_micrometres accel; jump = in_micrometres jump }
 
--- ---- cues
-
--- when the segment with this number begins, in milliseconds after the trajectory does; after the last one, when the trajectory ends
-abbrev pub begins_at : Traj → ℕ → ℕ
-begins_at t segment = sum (durations (take segment t.segments))
-
--- how many cues, which last so long, begin before an instant, in milliseconds: the number, from 0, of the cue that begins then
-abbrev pub cue_from : ℕ → List ℕ → ℕ
-cue_from zero times = 0
-cue_from (suc m) [] = 0
-cue_from (suc m) (ms ∷ times) = suc (cue_from (suc m - ms) times)
-
--- the number, from 0, of the cue that begins with a segment; the last instant is the beginning of the cue after the last one
-abbrev pub cue_of : List ℕ → Traj → ℕ → ℕ
-cue_of times t segment = cue_from (begins_at t segment) times
-
--- ---- what is found of a drone
-
-abbrev pub axes : (ℕ → ℕ) → Axes
-axes f = record { x = f 0; y = f 1; z = f 2 }
-
--- how much the velocity jumps at most on an axis, in micrometres per second
-abbrev pub widest_jump : Traj → ℕ → ℕ
-widest_jump t axis = greatest_below (suc (length t.segments)) (jump t axis)
-
--- the bounds on its acceleration, and its greatest jumps
-abbrev pub extremes : ℕ → Traj → Extremes
-extremes depth t = record { accelerations = axes (acceleration depth t); jumps = axes (widest_jump t) }
-
--- these, the cues of the greatest jumps, which count from 1, and whether it rests at its first and at its last instant
-abbrev pub motion : ℕ → List ℕ → Traj → Motion
-motion depth times t = record {
-  most = extremes depth t;
-  cues = axes (λ (axis : ℕ). cue_of times t (greatest_jump t axis).segment + 1);
-  begins_at_rest = is_rest_at t 0;
-  ends_at_rest = is_rest_at t (length t.segments);
-}
-
--- the greatest of some numbers, and 0 where there are none
-abbrev pub greatest : List ℕ → ℕ
-greatest [] = 0
-greatest (n ∷ ns) = max n (greatest ns)
-
--- on each axis the greatest of several drones
-abbrev pub extremes_of : ℕ → List Traj → Extremes
-extremes_of depth sent = record {
-  accelerations = axes (λ (axis : ℕ). greatest (map (λ (t : Traj). acceleration depth t axis) sent));
-  jumps = axes (λ (axis : ℕ). greatest (map (λ (t : Traj). widest_jump t axis) sent));
-}
-
 -- ---- lines
-
-abbrev pub axes_words : Axes → List (List ℕ)
-axes_words a = decimal a.x ∷ decimal a.y ∷ decimal a.z ∷ []
-
--- each jump with its cue
-abbrev pub jump_words : Axes → Axes → List (List ℕ)
-jump_words jumps cues =
-    decimal jumps.x ∷ codes "cue" ∷ decimal cues.x ∷ decimal jumps.y ∷ codes "cue" ∷ decimal cues.y ∷ decimal jumps.z ∷ codes "cue" ∷ decimal cues.z ∷ []
-
-abbrev pub rest_word : Bool → List ℕ
-rest_word true = codes "rest"
-rest_word false = codes "moving"
-
--- the line of a drone
-abbrev pub motion_line : List ℕ → Motion → List ℕ
-motion_line name m =
-    line (codes "dynamics") (name ∷ codes "acceleration" ∷ axes_words m.most.accelerations ++ codes "jump" ∷ jump_words m.most.jumps m.cues
-    ++ codes "begins" ∷ rest_word m.begins_at_rest ∷ codes "ends" ∷ rest_word m.ends_at_rest ∷ [])
-
--- the last line
-abbrev pub extremes_line : Extremes → List ℕ
-extremes_line most = line (codes "greatest") (codes "acceleration" ∷ axes_words most.accelerations ++ codes "jump" ∷ axes_words most.jumps)
 
 -- the lines of drones
 abbrev pub motion_lines : ℕ → List ℕ → List Traj → List Name → List ℕ
@@ -143,15 +65,6 @@ first_excess_of limits depth times (t ∷ ts) [] = None
 first_excess_of limits depth times (t ∷ ts) (name ∷ names) = option_or (excess_by limits depth times t name) (first_excess_of limits depth times ts names)
 
 -- ---- the command
-
--- Within each of its segments a drone's mean speed changes on each axis by at most its bound on acceleration times half the time; the speeds at
--- the ends of segments are those from which its jumps are computed, and none is greater than the greatest; and no bound and no jump is above its
--- limit, if there is one.
-pub record KeepsMotion (limits : Limits) (depth : ℕ) (t : Traj) : Type 0 where
-  pub accelerations : (axis : ℕ) → axis ≤ 2 → KeepsAcceleration t axis (acceleration depth t axis)
-  pub velocities : (axis : ℕ) → axis ≤ 2 → HasVelocities t axis
-  pub jumps : (axis : ℕ) → IsGreatestJump t axis (greatest_jump t axis)
-  pub within : IsWithinLimits limits depth t
 
 -- how long the cues of a show last, in milliseconds
 abbrev pub times_of : PlainShow → List ℕ

@@ -27,12 +27,12 @@ separation_line names depth (Some part) =
 -- the second line, of two drones or more: where two of them are closest
 abbrev pub nearest_line : List Name → ℕ → Option Closest → List ℕ
 nearest_line names fine None = []
-nearest_line names fine (Some closest) = closest_line (word_at names) fine closest
+nearest_line names fine (Some closest) = closest_line (word_at names closest.a) (word_at names closest.b) fine closest
 
 -- the last line: where two drones touch first, or that none do at this many instants
 abbrev pub contact_line : List Name → ℕ → ℕ → Option Touch → List ℕ
 contact_line names cues fine None = no_touch_line cues fine
-contact_line names cues fine (Some touch) = touch_line (word_at names) fine touch
+contact_line names cues fine (Some touch) = touch_line (word_at names touch.a) (word_at names touch.b) fine touch
 
 -- it is written where a part is blocked
 abbrev pub contact_if : Option BlockedPart → List ℕ → List ℕ

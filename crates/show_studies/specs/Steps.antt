@@ -1,5 +1,5 @@
 -- What steps of these commands hand on, which no public contract cites.
-use Rattle.std.specs.Prelude.{◌≡◌, ℕ, ◌<◌, max, List, length, Option, Some, None, IfSome, MatchOption}
+use Rattle.std.specs.Prelude.{◌≡◌, ℕ, ◌<◌, List, length, Option, Some, None, IfSome, MatchOption}
 use Rattle.choreo_reader.specs.Plain.{PlainShow}
 use Rattle.fleet_curves.specs.Raised.{raised_of}
 use Rattle.keepout_boxes.specs.declared.judging.Judged.{Judged as JudgedRegions}
@@ -14,8 +14,6 @@ use Rattle.touch_witness.specs.Sites.{IsClosest, IsFirstTouch, NoTouch, site_of}
 use Rattle.show_judge.specs.Shows.{names_of, trajectories_of}
 use Rattle.show_judge.specs.Verb.{Outcome}
 use Rattle.show_studies.specs.Boxes.{aside_of, regions_end, upwards_of}
-use Rattle.show_studies.specs.declared.motion.Axes.{Axes}
-use Rattle.show_studies.specs.declared.motion.Extremes.{Extremes}
 use Rattle.show_studies.specs.declared.findings.Findings.{Findings}
 
 -- what `boxes` ends with for the regions that were read
@@ -44,15 +42,3 @@ pub record IsFound (depth fine : ℕ) (f : Fitted) (found : Findings) : Type 0 w
   pub apart : found.blocked ≡ None → FlyApart f.settings f.sent
   pub closest : MatchOption found.closest (length f.trajs ≡ 1) (IsClosest f.trajs f.settings.r f.settings.h fine)
   pub touch : MatchOption found.touch (NoTouch f.trajs f.settings.r f.settings.h fine) (IsFirstTouch f.trajs f.settings.r f.settings.h fine)
-
--- on each axis the greater of two numbers
-abbrev pub greater_axes : Axes → Axes → Axes
-greater_axes a b = record { x = max a.x b.x; y = max a.y b.y; z = max a.z b.z }
-
--- the same of two drones
-abbrev pub greater : Extremes → Extremes → Extremes
-greater a b = record { accelerations = greater_axes a.accelerations b.accelerations; jumps = greater_axes a.jumps b.jumps }
-
--- the extremes of no drone
-abbrev pub nothing : Extremes
-nothing = record { accelerations = record { x = 0; y = 0; z = 0 }; jumps = record { x = 0; y = 0; z = 0 } }

@@ -1,71 +1,31 @@
 //! `dynamics`: how fast the speeds of a show's drones change at most, and where they jump.
-ghost use Rattle.std.specs.Prelude.{◌≡◌, ◌≤◌, length, sum, unsigned_abs, None, All, IfNone, IfOk, IfSome};
+ghost use Rattle.std.specs.Prelude.{◌≡◌, ◌≤◌, length, None, All, IfNone, IfOk, IfSome};
 ghost use Rattle.choreo_reader.specs.Plain.{PlainShow};
 ghost use Rattle.dynamics_bound.specs.Excesses.{IsWithinLimits};
+ghost use Rattle.dynamics_bound.specs.Motions.{KeepsMotion};
 ghost use Rattle.fleet_io.specs.Words.{IsWord};
 ghost use Rattle.fleet_math.specs.Limits.{most_cues};
 ghost use Rattle.show_plan.specs.Fitting.{IsFitted, IsSendable, IsValidFitted, StandsAsWord};
 ghost use Rattle.traj_codec.specs.Positions.{durations};
-ghost use Rattle.traj_codec.specs.Spelling.{most_segments};
 ghost use Rattle.show_judge.specs.Answers.{IsSaid, outcome_of};
 ghost use Rattle.show_judge.specs.Refused.{IsOfInput};
 ghost use Rattle.show_judge.specs.Runs.{Behaves};
 ghost use Rattle.show_judge.specs.Shows.{Cut, most_depth};
 ghost use Rattle.show_judge.specs.Verb.{during};
-ghost use Rattle.show_studies.specs.Dynamics.{KeepsMotion, cue_from, cue_of, dynamics_text, dynamics_verb, excess_by, first_excess_of, in_micrometres, limits_of, motion, refusal_as, times_of};
+ghost use Rattle.show_studies.specs.Dynamics.{dynamics_text, dynamics_verb, excess_by, first_excess_of, in_micrometres, limits_of, refusal_as, times_of};
 ghost use Rattle.show_studies.specs.Speeds.{refused_or};
 
-use crate::motion::{Axes, Extremes, Motion, put_extremes, put_motion};
 use choreo_lines::copy_of;
 use choreo_reader::Name;
-use dynamics_bound::{Kind, Limits, bound, first_above, jumps, rests};
+use dynamics_bound::{
+    Extremes, Kind, Limits, cue_of, first_above, motion_of, put_extremes, put_motion,
+};
 use fleet_io::{Lines, Sink, Source};
 use refusals::Refusal;
 use show_judge::{Answer, AnyText, Output, Ways, run_any};
 use show_plan::{Fitted, uploadable_law};
 use std::alloc::{AllocError, Global};
 use traj_codec::{Segment, Traj};
-
-// How long segments last together, in milliseconds.
-fn lasting(segments: &[Segment]) -> u32
-    requires { length segments.now ≤ most_segments }
-    ensures { result ≡ sum (durations segments.now) }
-{
-    let mut total = 0;
-    for segment in segments {
-        total += u32::from(segment.ms);
-    }
-    total
-}
-
-// How many of these segments, one a cue, begin before an instant, in milliseconds.
-fn cue_from(cues: &[Segment], instant: u32) -> u16
-    requires { length cues.now ≤ most_cues }
-    ensures value { result ≡ cue_from instant (durations cues.now) }
-    ensures few { result ≤ most_cues }
-{
-    let mut left = instant;
-    let mut begun = 0;
-    for cue in cues {
-        if left == 0 {
-            return begun;
-        }
-        left = left.saturating_sub(u32::from(cue.ms));
-        begun += 1;
-    }
-    begun
-}
-
-// The cue that begins with a segment of what a drone is sent, from 0.
-fn cue_of(cues: &[Segment], t: &Traj, segment: usize) -> u16
-    requires cues { length cues.now ≤ most_cues }
-    requires segments { length t.now.segments ≤ most_segments }
-    requires inside { segment ≤ length t.now.segments }
-    ensures value { result ≡ cue_of (durations cues.now) t.now segment }
-    ensures few { result ≤ most_cues }
-{
-    cue_from(cues, lasting(&t.segments.as_slice()[..segment]))
-}
 
 // The refusal of a number that is above its limit.
 fn refusal_as(kind: Kind, drone: Name, cue: u16, axis: u8, value: i64) -> Refusal
@@ -103,43 +63,6 @@ fn excess_by(t: &Traj, name: &Name, cues: &[Segment], depth: u8, limits: Limits)
     let excess = first_above(t, limits, depth)?;
     let cue = cue_of(cues, t, excess.segment);
     Some(refusal_as(excess.kind, copy_of(name), cue, excess.axis, excess.value))
-}
-
-// Three numbers that are none below 0.
-fn axes(x: i64, y: i64, z: i64) -> Axes
-    ensures { result ≡ record { x = unsigned_abs x; y = unsigned_abs y; z = unsigned_abs z } }
-{
-    Axes {
-        x: x.unsigned_abs(),
-        y: y.unsigned_abs(),
-        z: z.unsigned_abs(),
-    }
-}
-
-// What is found of a drone.
-fn motion_of(t: &Traj, cues: &[Segment], depth: u8) -> Motion
-    requires sendable { IsSendable t.now }
-    requires cues { length cues.now ≤ most_cues }
-    requires depth { depth ≤ most_depth }
-    ensures motion { result ≡ motion depth (durations cues.now) t.now }
-    ensures keeps { (limits : Limits) → IsWithinLimits limits depth t.now → KeepsMotion limits depth t.now }
-{
-    let [x, y, z] = bound(t, depth);
-    let [on_x, on_y, on_z] = jumps(t);
-    let (begins_at_rest, ends_at_rest) = rests(t);
-    Motion {
-        most: Extremes {
-            accelerations: axes(x, y, z),
-            jumps: axes(on_x.speed, on_y.speed, on_z.speed),
-        },
-        cues: Axes {
-            x: u64::from(cue_of(cues, t, on_x.segment)) + 1,
-            y: u64::from(cue_of(cues, t, on_y.segment)) + 1,
-            z: u64::from(cue_of(cues, t, on_z.segment)) + 1,
-        },
-        begins_at_rest,
-        ends_at_rest,
-    }
 }
 
 // The lines of all drones and the last one, or the first number that is above its limit.

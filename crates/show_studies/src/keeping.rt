@@ -16,11 +16,10 @@ ghost use Rattle.show_judge.specs.Verb.{during};
 ghost use Rattle.show_studies.specs.Steps.{EndsRegions};
 ghost use Rattle.text_lines.specs.Marker.{part_of};
 
-use crate::lines::kept_line;
 use choreo_reader::show_law;
 use fleet_curves::Curves;
 use fleet_io::{Part, Sink, Source};
-use keepout_boxes::{Judged, Region, RegionFault, judge, read_regions, sent_law};
+use keepout_boxes::{Judged, Region, RegionFault, judge, kept_line, read_regions, sent_law};
 use refusals::Refusal;
 use show_judge::{
     Answer, Failure, Input, Output, Planned, Text, Ways, fit_text, marker_number, name_at,

@@ -6,8 +6,6 @@ mod accelerating;
 mod explaining;
 mod findings;
 mod keeping;
-mod lines;
-mod motion;
 mod speeding;
 
 pub use accelerating::{DynamicsVerb, dynamics};

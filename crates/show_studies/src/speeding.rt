@@ -1,9 +1,8 @@
 //! `speed`: how fast the drones of a show are at most.
-ghost use Rattle.std.specs.Prelude.{◌≡◌, ◌≤◌, ◌++◌, ◌∷◌, [], ℕ, pos, true, decimal, length, None, All, IfOk, IfSome, OnOk};
+ghost use Rattle.std.specs.Prelude.{◌≡◌, ◌≤◌, ◌++◌, ℕ, pos, true, length, None, All, IfOk, IfSome};
 ghost use Rattle.choreo_reader.specs.Plain.{PlainShow};
-ghost use Rattle.fleet_io.specs.Words.{IsWord, is_line_empty, with_word};
+ghost use Rattle.fleet_io.specs.Words.{IsWord, is_line_empty};
 ghost use Rattle.show_plan.specs.Fitting.{IsFitted, IsSendable, IsValidFitted, StandsAsWord};
-ghost use Rattle.speed_bound.specs.Lines.{speed_line};
 ghost use Rattle.speed_bound.specs.Speed.{KeepsSpeed, speed};
 ghost use Rattle.traj_codec.specs.Spelling.{HasDuration};
 ghost use Rattle.traj_codec.specs.declared.traj.Traj.{Traj};
@@ -24,7 +23,7 @@ use fleet_io::{Lines, Sink, Source};
 use refusals::Refusal;
 use show_judge::{Answer, AnyText, Output, Ways, run_any};
 use show_plan::{Fitted, uploadable_law};
-use speed_bound::bound;
+use speed_bound::{bound, put_speeds};
 use std::alloc::{AllocError, Global};
 use traj_codec::Traj;
 
@@ -59,29 +58,6 @@ fn too_fast_of(limit: Option<u32>, name: &Name, x: i64, y: i64, z: i64) -> Optio
         return Some(refusal);
     }
     above(limit, name, 2, z)
-}
-
-// A bound, as a word.
-fn put_speed(text: &mut Lines, speed: i64) -> Result<(), AllocError>
-    ensures word { (v : ℕ) → speed ≡ pos v → OnOk result (text.new ≡ with_word text.old (decimal v)) }
-    ensures is_word { (v : ℕ) → speed ≡ pos v → IsWord (decimal v) }
-{
-    text.decimal(speed)
-}
-
-// The line of a drone: its bounds on x, y and z.
-fn put_speeds(text: &mut Lines, name: &[u8], x: i64, y: i64, z: i64) -> Result<(), AllocError>
-    requires fresh { is_line_empty text.old ≡ true }
-    requires name { IsWord name.now }
-    ensures line { (a b c : ℕ) → x ≡ pos a → y ≡ pos b → z ≡ pos c → OnOk result (text.new ≡ text.old ++ speed_line name.now a b c) }
-    ensures fresh { OnOk result (is_line_empty text.new ≡ true) }
-{
-    text.word(b"speed")?;
-    text.word(name)?;
-    put_speed(text, x)?;
-    put_speed(text, y)?;
-    put_speed(text, z)?;
-    text.end()
 }
 
 // Adds the line of a drone, or says why its bounds are refused.

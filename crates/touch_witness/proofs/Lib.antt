@@ -6,4 +6,5 @@ pub mod Shows
 pub mod Least
 pub mod Levels
 pub mod Sharing
+pub mod Words
 mod Rows

@@ -1,13 +1,9 @@
 -- Values of the definitions, compared with lines and numbers that were written down elsewhere.
-use Rattle.std.proofs.Common.{◌≡◌, ℕ, List, [], ◌∷◌, ◌++◌, refl}
+use Rattle.std.proofs.Common.{◌≡◌, [], ◌∷◌, ◌++◌, refl}
 use Rattle.std.specs.Fmt.{digits}
-use Rattle.std.specs.Prelude.{codes, ◌==◌, if◌then◌else◌}
+use Rattle.std.specs.Prelude.{codes}
 use Rattle.touch_witness.specs.Sites.{instant_of}
 use Rattle.touch_witness.specs.Lines.{blocked_pair_line, closest_line, no_touch_line, separated_line, touch_line}
-
--- two drones, a and b
-name : ℕ → List ℕ
-name d = if d == 0 then codes "a" else codes "b"
 
 separated-row : separated_line ≡ codes "separated" ++ 10 ∷ []
 separated-row = refl
@@ -16,12 +12,12 @@ blocked-row : blocked_pair_line (codes "a") (codes "b") 0 28 6 ≡ codes "blocke
 unfolding digits
 blocked-row = refl
 
-closest-row : closest_line name 5 (record { cue = 1; at = 16; a = 0; b = 1; level = 2777 }) ≡ codes "closest pair a b cue 2 at 16 of 32 level 2777" ++ 10 ∷ []
-unfolding digits name
+closest-row : closest_line (codes "a") (codes "b") 5 (record { cue = 1; at = 16; a = 0; b = 1; level = 2777 }) ≡ codes "closest pair a b cue 2 at 16 of 32 level 2777" ++ 10 ∷ []
+unfolding digits
 closest-row = refl
 
-touch-row : touch_line name 5 (record { cue = 0; at = 15; a = 0; b = 1 }) ≡ codes "touch pair a b cue 1 at 15 of 32" ++ 10 ∷ []
-unfolding digits name
+touch-row : touch_line (codes "a") (codes "b") 5 (record { cue = 0; at = 15; a = 0; b = 1 }) ≡ codes "touch pair a b cue 1 at 15 of 32" ++ 10 ∷ []
+unfolding digits
 touch-row = refl
 
 -- one cue has 33 listed instants

@@ -4,12 +4,11 @@ use Rattle.std.specs.Prelude.{ℕ, ◌+◌, ◌*◌, ◌^◌, List, [], ◌∷�
 use Rattle.fleet_io.specs.Words.{line}
 use Rattle.touch_witness.specs.declared.site.Touch.{Touch}
 use Rattle.touch_witness.specs.declared.site.Closest.{Closest}
-use Rattle.touch_witness.specs.Sites.{site_of}
 
--- a pair of drones, a cue, and a fraction of it
-abbrev pub site_words : (ℕ → List ℕ) → ℕ → Touch → List (List ℕ)
-site_words name fine s =
-    codes "pair" ∷ name s.a ∷ name s.b ∷ codes "cue" ∷ decimal (s.cue + 1) ∷ codes "at" ∷ decimal s.at ∷ codes "of"
+-- two drones by their names, a cue, and the fraction at / 2^fine of it
+abbrev pub site_words : List ℕ → List ℕ → ℕ → ℕ → ℕ → List (List ℕ)
+site_words first second fine cue at =
+    codes "pair" ∷ first ∷ second ∷ codes "cue" ∷ decimal (cue + 1) ∷ codes "at" ∷ decimal at ∷ codes "of"
     ∷ decimal (2 ^ fine) ∷ []
 
 -- each part of each cue is separated
@@ -24,13 +23,13 @@ blocked_pair_line first second cue index depth =
     ∷ decimal (2 ^ depth) ∷ [])
 
 -- where two drones are closest, and the level there
-abbrev pub closest_line : (ℕ → List ℕ) → ℕ → Closest → List ℕ
-closest_line name fine c =
-    line (codes "closest") (site_words name fine (site_of c) ++ codes "level" ∷ decimal c.level ∷ [])
+abbrev pub closest_line : List ℕ → List ℕ → ℕ → Closest → List ℕ
+closest_line first second fine c =
+    line (codes "closest") (site_words first second fine c.cue c.at ++ codes "level" ∷ decimal c.level ∷ [])
 
 -- where two drones touch first
-abbrev pub touch_line : (ℕ → List ℕ) → ℕ → Touch → List ℕ
-touch_line name fine s = line (codes "touch") (site_words name fine s)
+abbrev pub touch_line : List ℕ → List ℕ → ℕ → Touch → List ℕ
+touch_line first second fine s = line (codes "touch") (site_words first second fine s.cue s.at)
 
 -- no two drones touch at a listed instant: how many there are, 2^fine + 1 for each cue
 abbrev pub no_touch_line : ℕ → ℕ → List ℕ

@@ -1,10 +1,10 @@
-use Rattle.std.proofs.Common.{◌≡◌, ℕ, ◌<◌, sym, arith, ◌∙◌, ap, Option, Some, None, IfNone, List, length}
+use Rattle.std.proofs.Common.{◌≡◌, ℕ, ◌<◌, sym, arith, ◌∙◌, ap, Option, Some, None, IfNone, IfSome, ◌≤◌, List, length}
 use Rattle.traj_codec.specs.declared.traj.Segment.{Segment}
 use Rattle.traj_codec.specs.declared.traj.Traj.{Traj}
 use Rattle.dynamics_bound.specs.declared.excess.Excess.{Excess}
 use Rattle.dynamics_bound.specs.declared.excess.Limits.{Limits}
 use Rattle.dynamics_bound.specs.Excesses.{IsWithinLimits, excess_before, first_excess, jumps_at, sharp_at}
-use Rattle.dynamics_bound.proofs.Excesses.{by_first, by_second, found_first, found_last, none_more, none_within}
+use Rattle.dynamics_bound.proofs.Excesses.{by_first, by_second, first_named, found_first, found_last, none_more, none_within}
 use Rattle.dynamics_bound.proofs.excess.first_above.Goals as goal
 
 pub returns-in-Some-clause-exact : goal.returns-in-Some-clause-exact
@@ -42,8 +42,17 @@ none_told limits depth t None is = none_within limits depth t (sym is)
 none_told limits depth t (Some e) is = tt
 
 pub returns-clause-none : goal.returns-clause-none
-returns-clause-none c =
-    let end : length c.as_slice-segments.result.now ≡ length c.args.t.now.segments = ap (λ (ss : List Segment). length ss) c.as_slice-segments.ensures in
-    let all : c.loop-k.k ≡ length c.args.t.now.segments = omega (arith, end) in
-    none_told c.args.limits c.args.depth c.args.t.now c.jumps_at-2.result
-    (last c.args.limits c.args.depth c.loop-k.k (length c.as_slice-segments.result.now) c.args.t.now c.jumps_at-2.result c.loop-k.invariant.none all end c.jumps_at-2.ensures)
+returns-clause-none c = none_told c.args.limits c.args.depth c.args.t.now c.jumps_at-2.result (returns-clause-exact c)
+
+named_told : (limits : Limits) (depth : ℕ) (t : Traj) (o : Option Excess) → o ≡ first_excess limits depth t → IfSome o (λ e. (e.axis ≤ 2) × (e.segment ≤ length t.segments))
+named_told limits depth t None is = tt
+named_told limits depth t (Some e) is = first_named limits depth t e (sym is)
+
+pub returns-in-Some-clause-named : goal.returns-in-Some-clause-named
+returns-in-Some-clause-named c = first_named c.args.limits c.args.depth c.args.t.now c.in-Some.excess (sym (returns-in-Some-clause-exact c))
+
+pub returns-in-Some-jumps_at-clause-named : goal.returns-in-Some-jumps_at-clause-named
+returns-in-Some-jumps_at-clause-named c = first_named c.args.limits c.args.depth c.args.t.now c.in-Some-jumps_at.excess (sym (returns-in-Some-jumps_at-clause-exact c))
+
+pub returns-clause-named : goal.returns-clause-named
+returns-clause-named c = named_told c.args.limits c.args.depth c.args.t.now c.jumps_at-2.result (returns-clause-exact c)

@@ -1,12 +1,14 @@
 use Rattle.std.proofs.Common.{List, None, Option, Some, arith, length, sym, ℕ, ◌++◌, ◌<◌, ◌∙◌, ◌≡◌, ◌+◌, ap, drop}
 use Rattle.refusals.specs.declared.refusal.Refusal.{Refusal}
 use Rattle.traj_codec.specs.Positions.{durations}
-use Rattle.show_studies.specs.declared.motion.Extremes.{Extremes}
-use Rattle.show_studies.specs.declared.motion.Motion.{Motion}
-use Rattle.show_studies.specs.Dynamics.{dynamics_text, excess_by, extremes_of, motion_line}
+use Rattle.dynamics_bound.specs.declared.motion.Extremes.{Extremes}
+use Rattle.dynamics_bound.specs.declared.motion.Motion.{Motion}
+use Rattle.dynamics_bound.specs.Lines.{motion_line}
+use Rattle.dynamics_bound.specs.Motions.{extremes_of, greater}
+use Rattle.dynamics_bound.proofs.Motions.{extremes_next}
+use Rattle.show_studies.specs.Dynamics.{dynamics_text, excess_by}
 use Rattle.show_studies.specs.Speeds.{refused_or}
-use Rattle.show_studies.specs.Steps.{greater}
-use Rattle.show_studies.proofs.DynamicsLemmas.{excess_here, excess_next, extremes_next, keeps_next, keeps_over, motions_next}
+use Rattle.show_studies.proofs.DynamicsLemmas.{excess_here, excess_next, keeps_next, keeps_over, motions_next}
 use Rattle.show_studies.proofs.accelerating.answer_drones.Goals as goal
 
 pub returns-in-Some-clause-gives : goal.returns-in-Some-clause-gives

@@ -3,8 +3,8 @@
 use Rattle.std.proofs.Common.{◌≡◌, ◌++◌, All, drop, true}
 use Rattle.fleet_io.specs.Words.{is_line_empty}
 use Rattle.traj_codec.specs.Positions.{durations}
-use Rattle.show_studies.specs.Dynamics.{KeepsMotion, extremes_of, first_excess_of, motion_lines}
-use Rattle.show_studies.specs.Steps.{greater}
+use Rattle.dynamics_bound.specs.Motions.{KeepsMotion, extremes_of, greater}
+use Rattle.show_studies.specs.Dynamics.{first_excess_of, motion_lines}
 use Rattle.show_studies.proofs.accelerating.answer_drones.Given as goal
 
 abbrev pub invariant-loop-d : goal.invariant-loop-d

@@ -1,0 +1,45 @@
+-- Words of a line, and the extremes of trajectories that come one after another.
+use Rattle.std.proofs.Common.{◌≡◌, ℕ, ◌+◌, ◌<◌, max, List, [], ◌∷◌, ◌++◌, length, get_or, drop, sym, ap, ◌∙◌, arith}
+use Rattle.std.proofs.lemmas.List.{drop_more}
+use Rattle.traj_codec.specs.declared.traj.Traj.{Traj}
+use Rattle.fleet_io.specs.Words.{AreWords}
+use Rattle.dynamics_bound.specs.declared.motion.Axes.{Axes}
+use Rattle.dynamics_bound.specs.declared.motion.Extremes.{Extremes}
+use Rattle.dynamics_bound.specs.Motions.{extremes, extremes_of, greater, nothing}
+
+-- words, and words after them
+pub words_both : (words more : List (List ℕ)) → AreWords words → AreWords more → AreWords (words ++ more)
+words_both [] more are after = after
+words_both (word ∷ words) more are after = (are.0, words_both words more are.1 after)
+
+-- ---- extremes
+
+axes_by : (a b : Axes) → a.x ≡ b.x → a.y ≡ b.y → a.z ≡ b.z → a ≡ b
+axes_by a b x y z =
+    ap (λ (n : ℕ). mk n a.y a.z) x ∙ ap (λ (n : ℕ). mk b.x n a.z) y ∙ ap (mk b.x b.y) z
+  where
+    mk : ℕ → ℕ → ℕ → Axes
+    mk x y z = record { x = x; y = y; z = z }
+
+extremes_by : (a b : Extremes) → a.accelerations ≡ b.accelerations → a.jumps ≡ b.jumps → a ≡ b
+extremes_by a b accelerations jumps = ap (λ (n : Axes). mk n a.jumps) accelerations ∙ ap (mk b.accelerations) jumps
+  where
+    mk : Axes → Axes → Extremes
+    mk accelerations jumps = record { accelerations = accelerations; jumps = jumps }
+
+max_three : (a b c : ℕ) → max (max a b) c ≡ max a (max b c)
+max_three a b c = omega arith
+
+-- the greatest of trajectories, and of one more before others
+greater_next : (m g r : Extremes) → greater (greater m g) r ≡ greater m (greater g r)
+greater_next m g r =
+    extremes_by (greater (greater m g) r) (greater m (greater g r))
+    (axes_by _ _ (max_three m.accelerations.x g.accelerations.x r.accelerations.x) (max_three m.accelerations.y g.accelerations.y r.accelerations.y) (max_three m.accelerations.z g.accelerations.z r.accelerations.z))
+    (axes_by _ _ (max_three m.jumps.x g.jumps.x r.jumps.x) (max_three m.jumps.y g.jumps.y r.jumps.y) (max_three m.jumps.z g.jumps.z r.jumps.z))
+
+-- the extremes of one trajectory more
+pub extremes_next : (depth : ℕ) (m : Extremes) (sent : List Traj) (d : ℕ) (t : Traj) → d < length sent → t ≡ get_or sent d t →
+    greater (greater m (extremes depth t)) (extremes_of depth (drop (d + 1) sent)) ≡ greater m (extremes_of depth (drop d sent))
+extremes_next depth m sent d t within t_is =
+    greater_next m (extremes depth t) (extremes_of depth (drop (d + 1) sent))
+    ∙ ap (λ (ts : List Traj). greater m (extremes_of depth ts)) (sym (drop_more sent d t within ∙ ap (λ (u : Traj). u ∷ drop (d + 1) sent) (sym t_is)))

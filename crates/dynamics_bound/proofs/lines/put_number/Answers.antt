@@ -1,0 +1,6 @@
+use Rattle.std.proofs.Common.{arith}
+use Rattle.fleet_io.proofs.WordLaws.{decimal_is_word}
+use Rattle.dynamics_bound.proofs.lines.put_number.Goals as goal
+
+pub returns-clause-is_word : goal.returns-clause-is_word
+returns-clause-is_word c = decimal_is_word c.args.n (omega arith)

@@ -1,0 +1,10 @@
+use Rattle.std.proofs.Common.{◌≡◌, ◌*◌, ◌≤◌, take, sum}
+use Rattle.traj_codec.specs.Positions.{durations}
+use Rattle.dynamics_bound.proofs.motion.lasting.Given as goal
+
+-- the milliseconds so far
+abbrev pub invariant-loop-segment : goal.invariant-loop-segment
+invariant-loop-segment l = record {
+  so_far : l.total ≡ sum (durations (take l.segment-index l.segments));
+  most : l.total ≤ 65535 * l.segment-index;
+}
