@@ -1,5 +1,5 @@
 -- What status 0 says where words begin with the name of a command.
-use Rattle.std.proofs.Common.{◌≡◌, ℕ, List, [], ◌∷◌, Option, Some, None, map, refl, sym, ap, subst, ◌∙◌, Contains}
+use Rattle.std.proofs.Common.{◌≡◌, ℕ, Bool, List, [], ◌∷◌, Option, Some, None, map, refl, sym, ap, subst, ◌∙◌, Contains}
 use Rattle.std.specs.Prelude.{codes, string_bytes, String}
 use Rattle.std.specs.Option.{option_map}
 use Rattle.std.specs.declared.alloc.Global.{Global}
@@ -11,10 +11,10 @@ use Rattle.command_words.specs.declared.command.Command.TheVariants.{Check, Comp
 use Rattle.command_words.specs.declared.options.OptionName.TheVariants.{Depth, Step, Start, Readback}
 use Rattle.command_words.specs.declared.options.Options.{Options}
 use Rattle.text_lines.specs.Marker.{part_of}
-use Rattle.show_judge.specs.Headline.{FliesText}
+use Rattle.show_judge.specs.Headline.{UploadsText}
 use Rattle.show_judge.specs.Runs.{Runs}
 use Rattle.show_judge.specs.Verb.{Run}
-use Rattle.show_judge.proofs.HeadlineLemmas.{flies_of}
+use Rattle.show_judge.proofs.HeadlineLemmas.{uploads_of}
 use Rattle.show_cli.specs.Verbs.{IsCalled, command_in, judges_apart, verb_of}
 
 -- what a value was made of
@@ -36,28 +36,35 @@ compiles words c called is =
     named words (codes "compile") (λ (d : Command). (depth : ℕ) × (Compile depth ≡ d)) c called is
     (λ options told. let o = made_of _ _ c told in (_, o.1))
 
--- status 0 of a command says that the drones of its input keep apart
-abbrev pub Flies : Command → Type 0
-Flies c = (input : List ℕ) (r : Run) (status : ℕ) → Runs (verb_of c) r status → r.left ≡ Some input → status ≡ 0 → FliesText (part_of input)
+-- words that begin with `upload` send, with some options
+pub sends : (words : List (String Global)) (c : Command) → IsCalled words (codes "upload") → command_in words ≡ Some c →
+    (depth : ℕ) × (start : Bool) × (readback : Bool) × (Upload depth start readback ≡ c)
+sends words c called is =
+    named words (codes "upload") (λ (d : Command). (depth : ℕ) × (start : Bool) × (readback : Bool) × (Upload depth start readback ≡ d)) c called is
+    (λ options told. let o = made_of _ _ c told in (_, _, _, o.1))
+
+-- status 0 of a command says that the drones of its input keep apart, and that each upload of it goes right
+abbrev pub Uploads : Command → Type 0
+Uploads c = (input : List ℕ) (r : Run) (status : ℕ) → Runs (verb_of c) r status → r.left ≡ Some input → status ≡ 0 → UploadsText (part_of input)
 
 -- and so does each command of a name
-abbrev pub FliesAs : List ℕ → Type 0
-FliesAs name = (options : List (List ℕ)) (c : Command) → command_of (name ∷ options) ≡ Some c → Flies c
+abbrev pub UploadsAs : List ℕ → Type 0
+UploadsAs name = (options : List (List ℕ)) (c : Command) → command_of (name ∷ options) ≡ Some c → Uploads c
 
-pub flies : (words : List (String Global)) (c : Command) (name : List ℕ) → IsCalled words name → Contains judges_apart name → command_in words ≡ Some c → Flies c
-flies words c name called judges is =
-    named words name Flies c called is (λ options told. All-contains FliesAs judges_apart name (All-from_recursion FliesAs judges_apart all) judges options c told)
+pub uploads : (words : List (String Global)) (c : Command) (name : List ℕ) → IsCalled words name → Contains judges_apart name → command_in words ≡ Some c → Uploads c
+uploads words c name called judges is =
+    named words name Uploads c called is (λ options told. All-contains UploadsAs judges_apart name (All-from_recursion UploadsAs judges_apart all) judges options c told)
   where
-    keeps : (name : List ℕ) (f : Options → Command) → ((o : Options) → Flies (f o)) → ((options : List (List ℕ)) → (x : Option Options) × (command_of (name ∷ options) ≡ option_map f x)) → FliesAs name
-    keeps name f each by options c told = let x = by options in let o = made_of f x.0 c (sym x.1 ∙ told) in subst Flies o.1 (each o.0)
+    keeps : (name : List ℕ) (f : Options → Command) → ((o : Options) → Uploads (f o)) → ((options : List (List ℕ)) → (x : Option Options) × (command_of (name ∷ options) ≡ option_map f x)) → UploadsAs name
+    keeps name f each by options c told = let x = by options in let o = made_of f x.0 c (sym x.1 ∙ told) in subst Uploads o.1 (each o.0)
 
-    all : (FliesAs (codes "check") × (FliesAs (codes "compile") × (FliesAs (codes "certify") × (FliesAs (codes "play") × (FliesAs (codes "report") × (FliesAs (codes "verify") × (FliesAs (codes "rehearse") × (FliesAs (codes "upload") × Unit {0}))))))))
+    all : (UploadsAs (codes "check") × (UploadsAs (codes "compile") × (UploadsAs (codes "certify") × (UploadsAs (codes "play") × (UploadsAs (codes "report") × (UploadsAs (codes "verify") × (UploadsAs (codes "rehearse") × (UploadsAs (codes "upload") × Unit {0}))))))))
     all =
-        (keeps (codes "check") (λ o. Check (depth_in o)) (λ o. flies_of (verb_of (Check (depth_in o))) refl refl (λ s cut promised. promised)) (λ options. (options_for (Depth ∷ []) options, refl)),
-        (keeps (codes "compile") (λ o. Compile (depth_in o)) (λ o. flies_of (verb_of (Compile (depth_in o))) refl refl (λ s cut promised. promised)) (λ options. (options_for (Depth ∷ []) options, refl)),
-        (keeps (codes "certify") (λ o. Certify (depth_in o)) (λ o. flies_of (verb_of (Certify (depth_in o))) refl refl (λ s cut promised. promised)) (λ options. (options_for (Depth ∷ []) options, refl)),
-        (keeps (codes "play") (λ o. Play (depth_in o) (step_in o)) (λ o. flies_of (verb_of (Play (depth_in o) (step_in o))) refl refl (λ s cut promised. promised)) (λ options. (options_for (Depth ∷ Step ∷ []) options, refl)),
-        (keeps (codes "report") (λ o. Report (depth_in o)) (λ o. flies_of (verb_of (Report (depth_in o))) refl refl (λ s cut promised. promised)) (λ options. (options_for (Depth ∷ []) options, refl)),
-        (keeps (codes "verify") (λ o. Verify) (λ o. flies_of (verb_of Verify) refl refl (λ s cut promised. promised)) (λ options. (options_for [] options, refl)),
-        (keeps (codes "rehearse") (λ o. Rehearse (depth_in o) (has o Start) (has o Readback)) (λ o. flies_of (verb_of (Rehearse (depth_in o) (has o Start) (has o Readback))) refl refl (λ s cut promised. promised)) (λ options. (options_for (Depth ∷ Start ∷ Readback ∷ []) options, refl)),
-        (keeps (codes "upload") (λ o. Upload (depth_in o) (has o Start) (has o Readback)) (λ o. flies_of (verb_of (Upload (depth_in o) (has o Start) (has o Readback))) refl refl (λ s cut promised. promised)) (λ options. (options_for (Depth ∷ Start ∷ Readback ∷ []) options, refl)), tt))))))))
+        (keeps (codes "check") (λ o. Check (depth_in o)) (λ o. uploads_of (verb_of (Check (depth_in o))) refl refl (λ s cut promised. promised)) (λ options. (options_for (Depth ∷ []) options, refl)),
+        (keeps (codes "compile") (λ o. Compile (depth_in o)) (λ o. uploads_of (verb_of (Compile (depth_in o))) refl refl (λ s cut promised. promised)) (λ options. (options_for (Depth ∷ []) options, refl)),
+        (keeps (codes "certify") (λ o. Certify (depth_in o)) (λ o. uploads_of (verb_of (Certify (depth_in o))) refl refl (λ s cut promised. promised)) (λ options. (options_for (Depth ∷ []) options, refl)),
+        (keeps (codes "play") (λ o. Play (depth_in o) (step_in o)) (λ o. uploads_of (verb_of (Play (depth_in o) (step_in o))) refl refl (λ s cut promised. promised)) (λ options. (options_for (Depth ∷ Step ∷ []) options, refl)),
+        (keeps (codes "report") (λ o. Report (depth_in o)) (λ o. uploads_of (verb_of (Report (depth_in o))) refl refl (λ s cut promised. promised)) (λ options. (options_for (Depth ∷ []) options, refl)),
+        (keeps (codes "verify") (λ o. Verify) (λ o. uploads_of (verb_of Verify) refl refl (λ s cut promised. promised)) (λ options. (options_for [] options, refl)),
+        (keeps (codes "rehearse") (λ o. Rehearse (depth_in o) (has o Start) (has o Readback)) (λ o. uploads_of (verb_of (Rehearse (depth_in o) (has o Start) (has o Readback))) refl refl (λ s cut promised. promised)) (λ options. (options_for (Depth ∷ Start ∷ Readback ∷ []) options, refl)),
+        (keeps (codes "upload") (λ o. Upload (depth_in o) (has o Start) (has o Readback)) (λ o. uploads_of (verb_of (Upload (depth_in o) (has o Start) (has o Readback))) refl refl (λ s cut promised. promised)) (λ options. (options_for (Depth ∷ Start ∷ Readback ∷ []) options, refl)), tt))))))))

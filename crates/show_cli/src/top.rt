@@ -1,5 +1,5 @@
 //! The program over any source and any sink.
-ghost use Rattle.std.specs.Prelude.{◌≡◌, ◌≢◌, ◌⊎◌, ℕ, ◌≤◌, List, Option, Some, None, Contains, codes};
+ghost use Rattle.std.specs.Prelude.{◌≡◌, ◌≢◌, ◌⊎◌, ℕ, ◌≤◌, Bool, List, Option, Some, None, IfSome, Contains, codes};
 ghost use Rattle.std.specs.Io.KnownBytes.{Appends};
 ghost use Rattle.text_lines.specs.Marker.{part_of};
 ghost use Rattle.fleet_io.specs.Causes.{Rose};
@@ -7,7 +7,7 @@ ghost use Rattle.fleet_io.specs.Taken.{AppendsFront, TakesFront};
 ghost use Rattle.command_words.specs.Commands.{IsCommand};
 ghost use Rattle.drill_show.specs.Drill.{drill_text};
 ghost use Rattle.refusals.specs.Lines.{usage_line};
-ghost use Rattle.show_judge.specs.Headline.{FliesText};
+ghost use Rattle.show_judge.specs.Headline.{FliesText, UploadsText};
 ghost use Rattle.show_judge.specs.Outcome.{IsVerb, OutcomeLaw};
 ghost use Rattle.show_judge.specs.Runs.{Behaves};
 ghost use Rattle.show_judge.specs.Verb.{during, run_of};
@@ -16,9 +16,8 @@ ghost use Rattle.show_studies.specs.Boxes.{StaysInRegions};
 ghost use Rattle.show_studies.specs.Dynamics.{KeepsDynamics};
 ghost use Rattle.show_studies.specs.Explained.{TellsTouches};
 ghost use Rattle.show_studies.specs.Speeds.{KeepsSpeeds};
+ghost use Rattle.show_uploads.specs.Upload.{HasBegun};
 ghost use Rattle.show_cli.specs.Verbs.{IsCalled, command_in, judges_apart, verb_of};
-ghost use Rattle.upload_model.specs.Readback.{StartsLastLaw, VerifiedLaw};
-ghost use Rattle.upload_model.specs.Theorem.{TakenLaw, UploadLaw};
 
 use choreo_reader::show_law;
 use command_words::{Command, command_of, help_text};
@@ -30,7 +29,6 @@ use show_studies::{boxes, boxes_law, dynamics, explain, speed};
 use show_uploads::{rehearse, rehearse_law, upload, uploading_law};
 use show_verify::{verify, verify_law};
 use std::alloc::Global;
-use upload_model::{readback_law, upload_law};
 
 // Runs a command, each by its function.
 fn run_command<S: Source, K: Sink>(
@@ -40,7 +38,8 @@ fn run_command<S: Source, K: Sink>(
     sink: &mut K,
 ) -> u8
     requires { IsCommand command }
-    ensures { Behaves (verb_of command) (during S.left S.faults K.written K.faults source.old source.new sink.old sink.new) result }
+    ensures behaves { Behaves (verb_of command) (during S.left S.faults K.written K.faults source.old source.new sink.old sink.new) result }
+    ensures begun { (depth : ℕ) (start readback : Bool) → command ≡ Command.Upload depth start readback → HasBegun (K.written sink.old) (K.written sink.new) → IfSome (S.left source.old) (λ input. UploadsText (part_of input)) }
 {
     match command {
         Command::Help => help(help_text(), source, sink),
@@ -94,6 +93,14 @@ pub fn run<S: Source, K: Sink>(
     ensures flies { (name input : List ℕ) → IsCalled words.now.items name → Contains judges_apart name → S.left source.old ≡ Some input → result ≡ 0 → FliesText (part_of input) }
     ensures drilled { (drones depth : ℕ) → command_in words.now.items ≡ Some (Command.Drill drones depth) → result ≡ 0 → FliesText (part_of (drill_text drones)) }
 
+    // The same 0 of each upload of that show. When one with read-back is done, each byte of each load was right when it was read, whoever else
+    // alters a byte; no start was sent before. When one with starts is done, each drone took a start. Where nobody alters a byte, each moment
+    // of an upload, with read-back or without, is safe, and when it is done each memory decodes to the curve of its drone.
+    ensures uploads { (name input : List ℕ) → IsCalled words.now.items name → Contains judges_apart name → S.left source.old ≡ Some input → result ≡ 0 → UploadsText (part_of input) }
+    // Of `upload` it holds whatever the status, once the first byte of a packet was written.
+    ensures begun { (input : List ℕ) → IsCalled words.now.items (codes "upload") → S.left source.old ≡ Some input → HasBegun (K.written sink.old) (K.written sink.new)
+        → UploadsText (part_of input) }
+
     // 0 of `compile`: the input stands for a show, its plan was written, and once the plan's packets are acknowledged, whatever the link
     // does, each drone's memory decodes to one curve, near to the show and apart from every other, at every instant.
     ensures headline { (input : List ℕ) → IsCalled words.now.items (codes "compile") → S.left source.old ≡ Some input → result ≡ 0
@@ -109,14 +116,6 @@ pub fn run<S: Source, K: Sink>(
     ensures motions { (depth : ℕ) (accel jump : Option ℕ) (input : List ℕ) → command_in words.now.items ≡ Some (Command.Dynamics depth accel jump) → S.left source.old ≡ Some input → result ≡ 0
         → KeepsDynamics depth accel jump input (K.written sink.old) (K.written sink.new) }
 
-    // When an upload with read-back is done, each byte of each load was right when it was read, whoever else alters a byte; no start was
-    // sent before. When an upload with starts is done, each drone took a start. Where nobody alters a byte, each moment of an upload, with
-    // read-back or without, is safe, and no byte differs.
-    ensures verified { VerifiedLaw }
-    ensures starts_last { StartsLastLaw }
-    ensures starts_taken { TakenLaw }
-    ensures unaltered { UploadLaw }
-
     // There is no status above 18; 17 is that of words that the system doesn't give.
     ensures known { result ≤ 18 }
     ensures given { result ≢ 17 }
@@ -129,8 +128,6 @@ pub fn run<S: Source, K: Sink>(
     rehearse_law();
     uploading_law();
     boxes_law();
-    readback_law();
-    upload_law();
     match command_of(words) {
         Some(command) => run_command(alloc, command, source, sink),
         None => refuse(sink, &Refusal::Usage),

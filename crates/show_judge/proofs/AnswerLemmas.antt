@@ -82,7 +82,7 @@ accepted_outcome c depth cut a o is gives = comes_to c cut is.s o is.short is.st
 
 pub accepted_safe : (c : Verb) → IsVerb c → (depth : ℕ) (cut : Cut) (a : Accepted) (o : Outcome) → (is : IsAccepted c.ways depth cut a) → c.gives is.s cut o → o.status ≡ 0 → IsSafe c cut o
 accepted_safe c law depth cut a o is gives done =
-    let promised = law.apart depth is.s cut is.searched (record { apart = is.safe.apart; lands = is.safe.lands }) in
+    let promised = law.apart depth is.s cut is.searched (record { apart = is.safe.apart; uploads = is.safe.uploads }) in
     record { s = is.s; stands = is.stands; near = is.safe.near; promised = promised; accepted = is.accepted; gives = gives; done = done }
 
 -- a command answers this for a show that is accepted
@@ -150,7 +150,7 @@ fitted_safe c d cut f o plain is fits gives promised done =
 pub apart_of_show : (c : Verb) (cut : Cut) (f : Fitted) → (fits : Fits c.ways cut f) → FlyApart f.settings f.sent → FliesApart fits.s
 apart_of_show c cut f fits apart =
     let of_show : FlyApart fits.s.settings (sent_of fits.s) = subst (λ (e : Settings). FlyApart e (sent_of fits.s)) fits.fitted.settings (subst (FlyApart f.settings) fits.fitted.sent apart) in
-    record { apart = of_show; lands = fits.lands of_show }
+    record { apart = of_show; uploads = fits.uploads of_show }
 
 pub apart_promised : (c : Verb) (cut : Cut) (f : Fitted) (result : Result Answer AllocError) → ((s : PlainShow) → FliesApart s → c.promises s cut) → (fits : Fits c.ways cut f) →
     IfOk result (λ a. (outcome_of a).status ≡ 0 → FlyApart f.settings f.sent) → IfOk result (λ a. (outcome_of a).status ≡ 0 → c.promises fits.s cut)
@@ -233,7 +233,7 @@ pub accepted_lands : (c : Ways) (depth : ℕ) (text : Text) (a : Accepted) → I
 accepted_lands c depth TooLarge a whole short accepted = absurd whole
 accepted_lands c depth (Whole part) a whole short accepted =
     let is = accepted (cut_at part) (refl, refl, short) in
-    (grid_of is.s, subst (λ (e : Settings). Lands (grid_of is.s) e a.fitted.sent) (sym is.fitted.settings) (subst (Lands (grid_of is.s) is.s.settings) (sym is.fitted.sent) is.safe.lands))
+    (grid_of is.s, subst (λ (e : Settings). Lands (grid_of is.s) e a.fitted.sent) (sym is.fitted.settings) (subst (Lands (grid_of is.s) is.s.settings) (sym is.fitted.sent) is.safe.uploads.stored))
 
 -- a command answers this for a show that is accepted and a second text
 pub two_accepted : (c : Verb) → IsVerb c → (depth limit : ℕ) (input : Input) (a : Accepted) (result : Result Answer AllocError) → ((cut : Cut) → IsShowText input.show cut → IsAccepted c.ways depth cut a) →

@@ -9,7 +9,7 @@ use Rattle.choreo_reader.specs.Laws.{ShowLaw}
 use Rattle.choreo_reader.specs.Plain.{PlainShow}
 use Rattle.refusals.specs.declared.refusal.Refusal.{Refusal}
 use Rattle.show_judge.specs.declared.ways.Ways.{Ways}
-use Rattle.show_judge.specs.Headline.{FliesText, SaysOf}
+use Rattle.show_judge.specs.Headline.{FliesText, SaysOf, UploadsText}
 use Rattle.show_judge.specs.Outcome.{IsSafe, IsSafeBy, IsSafeOutcome, IsVerb}
 use Rattle.show_judge.specs.Refused.{marker_refusal, show_refusal}
 use Rattle.show_judge.specs.Runs.{Behaves, Runs, StopsAtMarker, TakesLittle, told}
@@ -56,6 +56,11 @@ says_of v text input o old new alone safe flies is appended = record {
 pub flies_text : (v : Verb) (input : List ℕ) (o : Outcome) → (safe : IsSafe v (cut_of input) o) → FliesApart safe.s → FliesText (part_of input)
 flies_text v input o safe flies = record { s = safe.s; stands = safe.stands; near = safe.near; apart = flies.apart }
 
+-- and what is said of its uploads
+uploads_text : (v : Verb) (input : List ℕ) (o : Outcome) → (safe : IsSafe v (cut_of input) o) → FliesApart safe.s → UploadsText (part_of input)
+unfolding flies_text
+uploads_text v input o safe flies = record { flies = flies_text v input o safe flies; uploads = flies.uploads }
+
 -- the headline of a run with status 0
 pub headlines : (v : Verb) → IsVerb v → (r : Run) (status : ℕ) → Runs v r status → status ≡ 0 → IfSome (told v r) (λ input. v.headline input r.written r.written_after)
 headlines v is r status runs done = some_map (told v r) _ _ (λ input came. is.headline input came.0 r.written r.written_after came.1 came.2) (runs.safe done)
@@ -72,15 +77,15 @@ behaves_of show v is r status runs few marker reading = record {
 }
 
 -- status 0 of a command that promises of the show of its input that it flies apart
-pub flies_of : (v : Verb) → v.ways.reads ≡ true → v.judges ≡ the_input → ((s : PlainShow) (cut : Cut) → v.promises s cut → FliesApart s) → (input : List ℕ) (r : Run) (status : ℕ) → Runs v r status →
-    r.left ≡ Some input → status ≡ 0 → FliesText (part_of input)
-flies_of v reads judges promised input r status runs left done =
+pub uploads_of : (v : Verb) → v.ways.reads ≡ true → v.judges ≡ the_input → ((s : PlainShow) (cut : Cut) → v.promises s cut → FliesApart s) → (input : List ℕ) (r : Run) (status : ℕ) → Runs v r status →
+    r.left ≡ Some input → status ≡ 0 → UploadsText (part_of input)
+uploads_of v reads judges promised input r status runs left done =
     let came : (o : Outcome) × IsSafeOutcome v input o × Appends r.written r.written_after o.output =
     subst (λ (t : Option (List ℕ)). IfSome t (λ i. (o : Outcome) × IsSafeOutcome v i o × Appends r.written r.written_after o.output)) (told_is v r reads ∙ left) (runs.safe done) in
     let safe : IsSafe v (cut_of input) came.0 = subst (λ (j : Judges). IsSafeBy v j input came.0) judges came.1 in
-    flies_text v input came.0 safe (promised safe.s (cut_of input) safe.promised)
+    uploads_text v input came.0 safe (promised safe.s (cut_of input) safe.promised)
 
--- the same of one that judges a text of its own
+-- the flight of one that judges a text of its own
 pub flies_own : (depth : ℕ) (own : List ℕ) (text : PlainShow → List ℕ) (r : Run) (status : ℕ) → Runs (of_own depth own text) r status → status ≡ 0 → FliesText (part_of own)
 flies_own depth own text r status runs done =
     let came : (o : Outcome) × IsSafe (of_own depth own text) (cut_of own) o × Appends r.written r.written_after o.output = runs.safe done in

@@ -11,8 +11,9 @@ use Rattle.refusals.specs.declared.refusal.Refusal.{Refusal}
 use Rattle.show_plan.specs.declared.fitted.Fitted.{Fitted}
 use Rattle.show_plan.specs.Fitting.{IsFitted}
 use Rattle.show_plan.specs.Flight.{KeepsNearShow}
-use Rattle.show_plan.specs.Landing.{AreUploadable, LandingLaw}
+use Rattle.show_plan.specs.Landing.{AreUploadable}
 use Rattle.show_plan.specs.Separation.{FlyApart}
+use Rattle.show_plan.specs.Uploading.{UploadsLaw}
 use Rattle.show_judge.specs.declared.judging.Judged.{Judged}
 use Rattle.show_judge.specs.declared.judging.Judged.TheVariants as judged
 use Rattle.show_judge.specs.declared.judging.Planned.{Planned}
@@ -35,14 +36,14 @@ no_marker false false r none is = refl
 pub apart_of : (f : Fitted) (s : PlainShow) → IsFitted f s → FlyApart f.settings f.sent → FlyApart s.settings (sent_of s)
 apart_of f s is apart = subst (λ (e : Settings). FlyApart e (sent_of s)) is.settings (subst (FlyApart f.settings) is.sent apart)
 
--- what fits of a show is near to it, and lands where it is kept apart
-pub fits_as : LandingLaw → (c : Ways) (cut : Cut) (s : PlainShow) (f : Fitted) → show_refusal c cut s ≡ blocked_by c.depth s → IsFitted f s →
+-- what fits of a show is near to it, and where it is kept apart its uploads go right
+pub fits_as : UploadsLaw → (c : Ways) (cut : Cut) (s : PlainShow) (f : Fitted) → show_refusal c cut s ≡ blocked_by c.depth s → IsFitted f s →
     AreUploadable f.settings f.sent → KeepsNearShow (grid_of s) f.sent → FitsAs c cut s f
 fits_as law c cut s f left is up near = record {
   left = left;
   fitted = is;
   near = subst (KeepsNearShow (grid_of s)) is.sent near;
-  lands = λ apart. law (grid_of s) s.settings (sent_of s)
+  uploads = λ apart. law (grid_of s) s.settings (sent_of s)
       (subst (λ (e : Settings). AreUploadable e (sent_of s)) is.settings (subst (AreUploadable f.settings) is.sent up)) (subst (KeepsNearShow (grid_of s)) is.sent near) apart;
 }
 
@@ -51,7 +52,7 @@ pub plan_of_text : (c : Ways) (cut : Cut) (s : PlainShow) (result : Result Plann
     IfOk result (ShowPlanned c cut s) → IfOk result (PlanGives c cut)
 plan_of_text c cut s (Err e) short stands is = tt
 plan_of_text c cut s (Ok (planned.Fits f)) short stands is =
-    record { s = s; short = short; stands = stands; left = is.left; fitted = is.fitted; near = is.near; lands = is.lands }
+    record { s = s; short = short; stands = stands; left = is.left; fitted = is.fitted; near = is.near; uploads = is.uploads }
 plan_of_text c cut s (Ok (planned.Refused r)) short stands is = inr (s, short, stands, is)
 
 -- where a show that fits is judged for separation, it is accepted or refused
@@ -68,7 +69,7 @@ judged_of_fit c depth cut f (Ok (judged.Accepted a)) is fits separated =
       stands = fits.stands;
       accepted = fits.left ∙ ap (λ (d : Option ℕ). blocked_by d fits.s) is ∙ by.0;
       fitted = subst (λ (g : Fitted). IsFitted g fits.s) (sym separated.0) fits.fitted;
-      safe = record { near = fits.near; apart = apart; lands = fits.lands apart };
+      safe = record { near = fits.near; apart = apart; uploads = fits.uploads apart };
       nodes = by.1;
     }
 judged_of_fit c depth cut f (Ok (judged.Refused r)) is fits separated =

@@ -13,8 +13,8 @@ use Rattle.refusals.specs.Lines.{read_line}
 use Rattle.show_plan.specs.declared.fitted.Fitted.{Fitted}
 use Rattle.show_plan.specs.Fitting.{IsFitted, IsValidFitted}
 use Rattle.show_plan.specs.Flight.{KeepsNearShow}
-use Rattle.show_plan.specs.Landing.{Lands}
 use Rattle.show_plan.specs.Separation.{FlyApart}
+use Rattle.show_plan.specs.Uploading.{Uploads}
 use Rattle.show_judge.specs.declared.ends.Answer.{Answer}
 use Rattle.show_judge.specs.declared.ends.Answer.TheVariants.{Done, Refused}
 use Rattle.show_judge.specs.declared.ends.Failure.{Failure}
@@ -67,7 +67,7 @@ pub record Fits (c : Ways) (cut : Cut) (f : Fitted) : Type 0 where
   pub left : show_refusal c cut s ≡ blocked_by c.depth s
   pub fitted : IsFitted f s
   pub near : KeepsNearShow (grid_of s) (sent_of s)
-  pub lands : FlyApart s.settings (sent_of s) → Lands (grid_of s) s.settings (sent_of s)
+  pub uploads : FlyApart s.settings (sent_of s) → Uploads (grid_of s) s.settings (sent_of s)
 
 -- The show's text stands for a show that fits and that nothing refuses; it is given with the number of nodes of its certificate.
 pub record IsAccepted (c : Ways) (depth : ℕ) (cut : Cut) (a : Accepted) : Type 0 where

@@ -6,8 +6,8 @@ use Rattle.show_judge.specs.declared.ways.Ways.{Ways}
 use Rattle.show_plan.specs.declared.fitted.Fitted.{Fitted}
 use Rattle.show_plan.specs.Fitting.{IsFitted}
 use Rattle.show_plan.specs.Flight.{KeepsNearShow}
-use Rattle.show_plan.specs.Landing.{Lands}
 use Rattle.show_plan.specs.Separation.{FlyApart}
+use Rattle.show_plan.specs.Uploading.{Uploads}
 use Rattle.show_judge.specs.declared.judging.Judged.{Judged}
 use Rattle.show_judge.specs.declared.judging.Judged.TheVariants as judged
 use Rattle.show_judge.specs.declared.judging.Planned.{Planned}
@@ -20,7 +20,7 @@ pub record FitsAs (c : Ways) (cut : Cut) (s : PlainShow) (f : Fitted) : Type 0 w
   pub left : show_refusal c cut s ≡ blocked_by c.depth s
   pub fitted : IsFitted f s
   pub near : KeepsNearShow (grid_of s) (sent_of s)
-  pub lands : FlyApart s.settings (sent_of s) → Lands (grid_of s) s.settings (sent_of s)
+  pub uploads : FlyApart s.settings (sent_of s) → Uploads (grid_of s) s.settings (sent_of s)
 
 -- a show fits, or it is refused
 abbrev pub ShowPlanned : Ways → Cut → PlainShow → Planned → Type 0

@@ -5,8 +5,8 @@ use Rattle.choreo_reader.specs.Plain.{PlainShow}
 use Rattle.cue_grid.specs.Cues.{grid_of}
 use Rattle.refusals.specs.Lines.{read_line}
 use Rattle.show_plan.specs.Flight.{KeepsNearShow}
-use Rattle.show_plan.specs.Landing.{Lands}
 use Rattle.show_plan.specs.Separation.{FlyApart}
+use Rattle.show_plan.specs.Uploading.{Uploads}
 use Rattle.show_judge.specs.declared.ways.Ways.{Ways}
 use Rattle.show_judge.specs.Headline.{SaysOf}
 use Rattle.show_judge.specs.Input.{IsReadBoth}
@@ -80,16 +80,17 @@ pub record Verb : Type 1 where
   -- what status 0 says of an input, and of what was written before and after, in the fewest words
   pub headline : List ℕ → Option (List ℕ) → Option (List ℕ) → Type 0
 
--- any two drones keep apart at every instant with what they are sent, and that lands so in their memories
+-- any two drones keep apart at every instant with what they are sent, and each upload of that goes right and is stored
 pub record FliesApart (s : PlainShow) : Type 0 where
   pub apart : FlyApart s.settings (sent_of s)
-  pub lands : Lands (grid_of s) s.settings (sent_of s)
+  pub uploads : Uploads (grid_of s) s.settings (sent_of s)
 
--- what the drones of the show are sent keeps near to it and keeps any two drones apart, at every instant, and lands so in their memories
+-- what the drones of the show are sent keeps near to it and keeps any two drones apart, at every instant; each upload
+-- of that goes right and is stored
 pub record IsSafeShow (s : PlainShow) : Type 0 where
   pub near : KeepsNearShow (grid_of s) (sent_of s)
   pub apart : FlyApart s.settings (sent_of s)
-  pub lands : Lands (grid_of s) s.settings (sent_of s)
+  pub uploads : Uploads (grid_of s) s.settings (sent_of s)
 
 -- ---- kinds of commands
 

@@ -6,8 +6,8 @@ ghost use Rattle.fleet_io.specs.Causes.{Rose};
 ghost use Rattle.fleet_io.specs.Parts.{TakesFewAfter};
 ghost use Rattle.fleet_io.specs.Taken.{TakesFront};
 ghost use Rattle.show_plan.specs.Fitting.{IsFitted, IsValidFitted};
-ghost use Rattle.show_plan.specs.Landing.{Lands};
 ghost use Rattle.show_plan.specs.Separation.{FlyApart};
+ghost use Rattle.show_plan.specs.Uploading.{Uploads};
 ghost use Rattle.show_judge.specs.Answers.{AnswersInput, AnswersText, IsSaid, outcome_of};
 ghost use Rattle.show_judge.specs.Input.{IsWithin, TakesOneText};
 ghost use Rattle.show_judge.specs.Outcome.{IsVerb, ShowGives};
@@ -39,7 +39,7 @@ pub trait AnyText {
         requires valid { IsValidFitted fitted.now }
         ensures gives { (s : PlainShow) (cut : Cut) → IsFitted fitted.now s
             → IfOk result (λ a. ShowGives (verb self.now) (blocked_by (verb self.now).ways.depth s) s cut (outcome_of a)) }
-        ensures promised { (s : PlainShow) (cut : Cut) → IsFitted fitted.now s → (FlyApart s.settings (sent_of s) → Lands (grid_of s) s.settings (sent_of s))
+        ensures promised { (s : PlainShow) (cut : Cut) → IsFitted fitted.now s → (FlyApart s.settings (sent_of s) → Uploads (grid_of s) s.settings (sent_of s))
             → IfOk result (λ a. (outcome_of a).status ≡ 0 → (verb self.now).promises s cut) }
         ensures said { IfOk result IsSaid };
 }

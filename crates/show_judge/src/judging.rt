@@ -14,7 +14,7 @@ use crate::ways::Ways;
 use choreo_reader::{Show, ShowFault, read_show};
 use fleet_io::Part;
 use refusals::Refusal;
-use show_plan::{FitError, Fitted, count_nodes, fit, landing_law, uploadable_law};
+use show_plan::{FitError, Fitted, count_nodes, fit, uploadable_law, uploads_law};
 use std::alloc::{AllocError, Global};
 
 /// A show that fits, or why a command refuses it.
@@ -55,7 +55,7 @@ fn fit_show(alloc: Global, ways: Ways, show: &Show, part: &Part) -> Result<Plann
         }
         Err(FitError::Memory) => return Err(AllocError),
     };
-    landing_law();
+    uploads_law();
     uploadable_law(&fitted);
     match marker_refusal(ways, part) {
         Some(refusal) => Ok(Planned::Refused { refusal }),

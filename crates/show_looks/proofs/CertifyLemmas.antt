@@ -5,8 +5,8 @@ use Rattle.choreo_reader.specs.Plain.{PlainShow}
 use Rattle.cue_grid.specs.Cues.{grid_of}
 use Rattle.show_plan.specs.declared.fitted.Fitted.{Fitted}
 use Rattle.show_plan.specs.Fitting.{IsFitted}
-use Rattle.show_plan.specs.Landing.{Lands}
 use Rattle.show_plan.specs.Separation.{FlyApart}
+use Rattle.show_plan.specs.Uploading.{Uploads}
 use Rattle.show_judge.specs.declared.ends.Answer.{Answer}
 use Rattle.show_judge.specs.Answers.{outcome_of}
 use Rattle.show_judge.specs.Shows.{sent_of}
@@ -26,7 +26,7 @@ certify_laws depth = record {
 }
 
 -- where what fits flies apart, its show does
-pub apart_kept : (f : Fitted) (s : PlainShow) (result : Result Answer AllocError) → IsFitted f s → (FlyApart s.settings (sent_of s) → Lands (grid_of s) s.settings (sent_of s)) →
+pub apart_kept : (f : Fitted) (s : PlainShow) (result : Result Answer AllocError) → IsFitted f s → (FlyApart s.settings (sent_of s) → Uploads (grid_of s) s.settings (sent_of s)) →
     IfOk result (λ a. (outcome_of a).status ≡ 0 → FlyApart f.settings f.sent) → IfOk result (λ a. (outcome_of a).status ≡ 0 → FliesApart s)
-apart_kept f s (Err e) is lands apart = tt
-apart_kept f s (Ok a) is lands apart = λ done. let of_show = apart_of f s is (apart done) in record { apart = of_show; lands = lands of_show }
+apart_kept f s (Err e) is uploads apart = tt
+apart_kept f s (Ok a) is uploads apart = λ done. let of_show = apart_of f s is (apart done) in record { apart = of_show; uploads = uploads of_show }

@@ -9,14 +9,14 @@ use Rattle.show_judge.specs.Verb.{Outcome, Run, show_ways}
 use Rattle.show_judge.proofs.HeadlineLemmas.{whole_input}
 use Rattle.show_looks.specs.Compile.{Headline, compile_verb}
 
--- what was written safely is a plan that lands
+-- what was written safely is a plan that is stored
 headline : (depth : ℕ) (input : List ℕ) (old new : Option (List ℕ)) (o : Outcome) → IsSafe (compile_verb depth) (cut_of input) o → Appends old new o.output → Headline input old new
 headline depth input old new o safe appended = record {
   s = safe.s;
   sent = sent_of safe.s;
   stands = subst (λ (text : List ℕ). StandsFor text safe.s) (whole_input (show_ways depth) input safe.s refl safe.accepted) safe.stands;
   planned = subst (λ (output : List ℕ). Appends old new output) (ap (λ (p : Outcome). p.output) safe.gives) appended;
-  lands = safe.promised.lands;
+  lands = safe.promised.uploads.stored;
 }
 
 -- the same of a run

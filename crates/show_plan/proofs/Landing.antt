@@ -17,7 +17,7 @@ use Rattle.show_plan.specs.Landing.{AreUploadable, LandingLaw, session_for}
 load_is : (e : Settings) (trajs : List Traj) (readback start : Bool) (d : ℕ) → d < length trajs → load_of (session_for e trajs readback start) d ≡ load_for (get_or trajs d no_trajectory)
 load_is e trajs readback start d within = get_or-map load_for trajs d no_trajectory (record { bytes = []; pieces = 0 }) within
 
-counted : (e : Settings) (trajs : List Traj) (readback start : Bool) → drone_count (session_for e trajs readback start) ≡ length trajs
+pub counted : (e : Settings) (trajs : List Traj) (readback start : Bool) → drone_count (session_for e trajs readback start) ≡ length trajs
 counted e trajs readback start = length-map trajs load_for
 
 some_bytes : (t : Traj) → 1 ≤ size t

@@ -6,6 +6,7 @@ pub mod SeparationLaws
 pub mod Certified
 pub mod PlanLines
 pub mod Landing
+pub mod Uploading
 pub mod Uploadable
 pub mod PacketLines
 pub mod Clearances

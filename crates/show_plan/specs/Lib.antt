@@ -6,3 +6,4 @@ pub mod Separation
 pub mod Laws
 pub mod Steps
 pub mod Landing
+pub mod Uploading

@@ -9,7 +9,8 @@
 //! separates two of them (`specs/Separation.antt`); `separation_law` says what that first part is (`specs/Laws.antt`).
 //!
 //! `plan_text` returns the text with each drone's bytes and the packets that bring them, byte by byte that of `specs/Texts.antt`.
-//! `session` is what is uploaded, and `landing_law` says what it leaves in the drones' memories (`specs/Landing.antt`).
+//! `session` is what is uploaded, `landing_law` says what it leaves in the drones' memories (`specs/Landing.antt`), and
+//! `uploads_law` what holds of each upload of it (`specs/Uploading.antt`).
 //!
 //! It stands on `choreo_reader` for what a show says, on `cue_grid` for its cues, on `figure_expand` and `mm_rounding` for
 //! its pieces and where they round to, on `traj_codec` for trajectories, on `sep_parts`, `pair_search` and `sep_certificate`
@@ -30,4 +31,4 @@ pub use separation::{
     BlockedPart, SeparationFault, certificate, clearance_of, count_nodes, separation_law,
 };
 pub use text::plan_text;
-pub use upload::{landing_law, session, uploadable_law};
+pub use upload::{landing_law, session, uploadable_law, uploads_law};

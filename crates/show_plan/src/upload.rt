@@ -7,13 +7,14 @@ ghost use Rattle.traj_codec.specs.Spelling.{IsEncoding, most_segments};
 ghost use Rattle.firmware_memory.specs.Decoded.{load_for};
 ghost use Rattle.show_plan.specs.Fitting.{AreEncodings, IsValidFitted};
 ghost use Rattle.show_plan.specs.Landing.{AreUploadable, LandingLaw, session_for};
+ghost use Rattle.show_plan.specs.Uploading.{UploadsLaw};
 
 use crate::fitted::Fitted;
 use firmware_memory::curve_law;
 use std::alloc::{AllocError, Global};
 use traj_codec::{Traj, join_law};
 use upload_core::{Listed, Load, Session, Settings};
-use upload_model::upload_law;
+use upload_model::{readback_law, upload_law};
 
 // The load of a trajectory: a copy of its bytes, and how many segments they are.
 fn load_of(alloc: Global, bytes: &[u8], t: &Traj) -> Result<Load, AllocError>
@@ -69,6 +70,17 @@ pub fn landing_law()
 {
     curve_law();
     upload_law();
+}
+
+/// A law. Each upload of trajectories that can be uploaded, keep near to a show and keep apart goes right, whatever the
+/// link does: with read-back each byte was right when it was read, whoever else alters one, and starts come last. What
+/// is uploaded is stored, as `landing_law` says.
+pub fn uploads_law()
+    ensures { UploadsLaw }
+{
+    landing_law();
+    upload_law();
+    readback_law();
 }
 
 /// A law. What is sent of a show that fits can be uploaded.

@@ -4,7 +4,7 @@ ghost use Rattle.choreo_reader.specs.Plain.{PlainShow};
 ghost use Rattle.show_plan.specs.Fitting.{IsFitted, IsValidFitted};
 ghost use Rattle.show_plan.specs.Separation.{FlyApart, blocked_part};
 ghost use Rattle.cue_grid.specs.Cues.{grid_of};
-ghost use Rattle.show_plan.specs.Landing.{Lands};
+ghost use Rattle.show_plan.specs.Uploading.{Uploads};
 ghost use Rattle.show_judge.specs.Answers.{IsSaid, outcome_of};
 ghost use Rattle.show_judge.specs.Outcome.{ShowGives};
 ghost use Rattle.show_judge.specs.Refused.{blocked_by};

@@ -3,3 +3,4 @@ pub mod ScheduleLemmas
 pub mod RehearseLemmas
 pub mod UploadLemmas
 pub mod UploadingLemmas
+mod BegunLemmas

@@ -309,7 +309,7 @@ gives_safe depth start readback all link status output zero is gives = record {
   s = is.s;
   stands = is.stands;
   near = is.safe.near;
-  promised = record { apart = is.safe.apart; lands = is.safe.lands };
+  promised = record { apart = is.safe.apart; uploads = is.safe.uploads };
   accepted = is.accepted;
   gives = subst (λ (t : Link). UploadGives t (rest_of all) status output) is.is gives;
   done = zero;

@@ -1,12 +1,12 @@
 -- What `upload` gives, reads and writes.
-use Rattle.std.specs.Prelude.{◌≡◌, ℕ, Bool, true, false, List, Option, Some, None, IfSome}
+use Rattle.std.specs.Prelude.{◌≡◌, ℕ, Bool, true, false, List, ◌∷◌, ◌++◌, Option, Some, None, IfSome}
 use Rattle.text_lines.specs.Marker.{part_of, rest_of}
 use Rattle.choreo_reader.specs.Grammar.{StandsFor}
 use Rattle.choreo_reader.specs.Plain.{PlainShow}
 use Rattle.fleet_io.specs.Held.{has_whole_marker}
 use Rattle.fleet_io.specs.Parts.{TakesFewAfter}
 use Rattle.link_frames.specs.declared.frame.Frame.{Frame}
-use Rattle.link_frames.specs.Frames.{end_frame}
+use Rattle.link_frames.specs.Frames.{end_frame, packet_byte}
 use Rattle.link_upload.specs.Sends.{events_in}
 use Rattle.link_upload.specs.Uploads.{IsPrompt, StopsAtEnd, Takes, UploadFails, UploadGives}
 use Rattle.show_judge.specs.declared.ways.Ways.{Ways}
@@ -61,6 +61,11 @@ upload_verb depth start readback = record {
   reading = λ r status. IsJudged status → IfSome r.left (λ input. UploadStopsReading (upload_ways depth) start readback input r.left_after);
   headline = λ input old new. FliesText (part_of input);
 }
+
+-- The upload began, by what was written before and after: first of all the first byte of a packet. Of a refused show, or where no show could be
+-- read, the end frame is all that is written.
+abbrev pub HasBegun : Option (List ℕ) → Option (List ℕ) → Type 0
+HasBegun old new = (before later : List ℕ) × (old ≡ Some before) × (new ≡ Some (before ++ packet_byte ∷ later))
 
 -- the laws of the command
 abbrev pub UploadingLaw : Type 0

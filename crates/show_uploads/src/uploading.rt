@@ -1,6 +1,7 @@
 //! `upload`: an upload of a show through link frames.
 ghost use Rattle.std.specs.Prelude.{◌≡◌, ◌≤◌, ℕ, List, [], length, false, IsTrue, IfOk, IfSome};
 ghost use Rattle.std.specs.Io.KnownBytes.{Consumes, IsAtEnd};
+ghost use Rattle.text_lines.specs.Marker.{part_of};
 ghost use Rattle.fleet_io.specs.Causes.{Rose};
 ghost use Rattle.fleet_io.specs.Held.{buffer_bytes, has_whole_marker, stream};
 ghost use Rattle.fleet_io.specs.Parts.{TakesFewAfter};
@@ -10,6 +11,7 @@ ghost use Rattle.refusals.specs.Refusals.{status_of};
 ghost use Rattle.show_plan.specs.Fitting.{IsValidFitted};
 ghost use Rattle.show_plan.specs.Landing.{session_for};
 ghost use Rattle.show_judge.specs.Answers.{Wrote};
+ghost use Rattle.show_judge.specs.Headline.{UploadsText};
 ghost use Rattle.show_judge.specs.Input.{IsShowText, IsWithin, TakesOneText};
 ghost use Rattle.show_judge.specs.Runs.{Behaves, Runs, TakesLittle};
 ghost use Rattle.show_judge.specs.Shows.{Cut, cut_of, most_depth, show_limit};
@@ -17,7 +19,7 @@ ghost use Rattle.show_judge.specs.Verb.{IsJudged, during};
 ghost use Rattle.show_uploads.specs.Ready.{GoesOnReady, IsSoundReady, ReadyGives};
 ghost use Rattle.upload_core.specs.HostStandsFor.{HostStandsFor};
 ghost use Rattle.upload_core.specs.HostState.{view_of};
-ghost use Rattle.show_uploads.specs.Upload.{UploadStopsReading, UploadingLaw, upload_verb, upload_ways};
+ghost use Rattle.show_uploads.specs.Upload.{HasBegun, UploadStopsReading, UploadingLaw, upload_verb, upload_ways};
 
 use choreo_reader::{MOST_BYTES, show_law};
 use fleet_io::{IoFault, Parts, Sink, Source, marker_law};
@@ -136,6 +138,7 @@ fn carry<S: Source, K: Sink>(
     ensures runs { Runs (upload_verb depth start readback) (during S.left S.faults K.written K.faults source.old source.new sink.old sink.new) result }
     ensures few { TakesLittle (upload_verb depth start readback) (during S.left S.faults K.written K.faults source.old source.new sink.old sink.new) }
     ensures stops { IsJudged result → IfSome (S.left source.old) (λ input. UploadStopsReading (upload_ways depth) start readback input (S.left source.new)) }
+    ensures begun { HasBegun (K.written sink.old) (K.written sink.new) → IfSome (S.left source.old) (λ input. UploadsText (part_of input)) }
 {
     uploading_law();
     marker_law();
@@ -158,7 +161,7 @@ pub fn uploading_law()
 
 /// Runs `upload` (docs/COMMANDS.md): reads the show, and carries its upload, with read-back (docs/RADIO.md, "Read-back") or without,
 /// through link frames (docs/RADIO.md, "Link frames") to an end frame; or writes the end frame alone, with the status of the first reason
-/// why the show is refused.
+/// why the show is refused. Where the upload began, what holds of each upload of the show is said however this one ended.
 pub fn upload<S: Source, K: Sink>(
     alloc: Global,
     depth: u8,
@@ -168,7 +171,8 @@ pub fn upload<S: Source, K: Sink>(
     sink: &mut K,
 ) -> u8
     requires depth { depth ≤ most_depth }
-    ensures { Behaves (upload_verb depth start readback) (during S.left S.faults K.written K.faults source.old source.new sink.old sink.new) result }
+    ensures behaves { Behaves (upload_verb depth start readback) (during S.left S.faults K.written K.faults source.old source.new sink.old sink.new) result }
+    ensures begun { HasBegun (K.written sink.old) (K.written sink.new) → IfSome (S.left source.old) (λ input. UploadsText (part_of input)) }
 {
     show_law();
     uploading_law();

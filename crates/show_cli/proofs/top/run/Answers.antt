@@ -1,5 +1,5 @@
 use Rattle.std.proofs.Common.{sym, ◌∙◌}
-use Rattle.command_words.specs.declared.command.Command.TheVariants.{Boxes, Compile, Drill, Dynamics, Explain, Speed}
+use Rattle.command_words.specs.declared.command.Command.TheVariants.{Boxes, Compile, Drill, Dynamics, Explain, Speed, Upload}
 use Rattle.drill_show.specs.Drill.{drill_text}
 use Rattle.show_judge.proofs.HeadlineLemmas.{flies_own}
 use Rattle.show_judge.proofs.VerbLemmas.{outcomes}
@@ -8,16 +8,16 @@ use Rattle.show_looks.specs.Reports.{report_of}
 use Rattle.show_looks.proofs.CompileLemmas.{headline_of}
 use Rattle.show_cli.specs.Verbs.{verb_of}
 use Rattle.show_cli.proofs.TopLemmas.{behaves_as, known_small, never_seventeen, never_two, one_command}
-use Rattle.show_cli.proofs.NameLemmas.{compiles, flies}
+use Rattle.show_cli.proofs.NameLemmas.{compiles, sends, uploads}
 use Rattle.show_cli.proofs.VerbLaws.{laws}
 use Rattle.show_cli.proofs.top.run.Goals as goal
 
 pub returns-in-Some-clause-two : goal.returns-in-Some-clause-two
-returns-in-Some-clause-two g c = λ two. absurd (never_two _ c.run_command.ensures.runs.known two)
+returns-in-Some-clause-two g c = λ two. absurd (never_two _ c.run_command.ensures.behaves.runs.known two)
 
 pub returns-in-Some-clause-behaves : goal.returns-in-Some-clause-behaves
 returns-in-Some-clause-behaves g c = λ d is.
-    behaves_as c.in-Some.command d _ _ (one_command _ c.in-Some.command d (sym c.command_of.ensures.value ∙ c.in-Some.is) is) c.run_command.ensures
+    behaves_as c.in-Some.command d _ _ (one_command _ c.in-Some.command d (sym c.command_of.ensures.value ∙ c.in-Some.is) is) c.run_command.ensures.behaves
 
 pub returns-in-Some-clause-law : goal.returns-in-Some-clause-law
 returns-in-Some-clause-law g c = laws c.verify_law.ensures c.rehearse_law.ensures c.uploading_law.ensures c.boxes_law.ensures
@@ -33,41 +33,50 @@ returns-in-None-clause-outcomes g c = λ d. outcomes c.show_law.ensures (verb_of
 
 pub returns-in-Some-clause-flies : goal.returns-in-Some-clause-flies
 returns-in-Some-clause-flies g c = λ name input called judges left done.
-    flies _ c.in-Some.command name called judges (sym c.command_of.ensures.value ∙ c.in-Some.is) input _ _ c.run_command.ensures.runs left done
+    (uploads _ c.in-Some.command name called judges (sym c.command_of.ensures.value ∙ c.in-Some.is) input _ _ c.run_command.ensures.behaves.runs left done).flies
+
+pub returns-in-Some-clause-uploads : goal.returns-in-Some-clause-uploads
+returns-in-Some-clause-uploads g c = λ name input called judges left done.
+    uploads _ c.in-Some.command name called judges (sym c.command_of.ensures.value ∙ c.in-Some.is) input _ _ c.run_command.ensures.behaves.runs left done
+
+pub returns-in-Some-clause-begun : goal.returns-in-Some-clause-begun
+returns-in-Some-clause-begun g c = λ input called left begun.
+    let upload = sends _ c.in-Some.command called (sym c.command_of.ensures.value ∙ c.in-Some.is) in
+    rw left at (c.run_command.ensures.begun upload.0 upload.1 upload.2 (sym upload.3) begun)
 
 pub returns-in-Some-clause-drilled : goal.returns-in-Some-clause-drilled
 returns-in-Some-clause-drilled g c = λ drones depth is done.
     flies_own depth (drill_text drones) (λ s. drill_of (report_of s depth)) _ _
-    (behaves_as c.in-Some.command (Drill drones depth) _ _ (one_command _ c.in-Some.command (Drill drones depth) (sym c.command_of.ensures.value ∙ c.in-Some.is) is) c.run_command.ensures).runs done
+    (behaves_as c.in-Some.command (Drill drones depth) _ _ (one_command _ c.in-Some.command (Drill drones depth) (sym c.command_of.ensures.value ∙ c.in-Some.is) is) c.run_command.ensures.behaves).runs done
 
 pub returns-in-Some-clause-headline : goal.returns-in-Some-clause-headline
 returns-in-Some-clause-headline g c = λ input called left done.
     let compile = compiles _ c.in-Some.command called (sym c.command_of.ensures.value ∙ c.in-Some.is) in
-    headline_of compile.0 input _ _ (behaves_as c.in-Some.command (Compile compile.0) _ _ (sym compile.1) c.run_command.ensures).runs left done
+    headline_of compile.0 input _ _ (behaves_as c.in-Some.command (Compile compile.0) _ _ (sym compile.1) c.run_command.ensures.behaves).runs left done
 
 pub returns-in-Some-clause-regions : goal.returns-in-Some-clause-regions
 returns-in-Some-clause-regions g c = λ depth input is left done.
-    let behaves = behaves_as c.in-Some.command (Boxes depth) _ _ (one_command _ c.in-Some.command (Boxes depth) (sym c.command_of.ensures.value ∙ c.in-Some.is) is) c.run_command.ensures in
+    let behaves = behaves_as c.in-Some.command (Boxes depth) _ _ (one_command _ c.in-Some.command (Boxes depth) (sym c.command_of.ensures.value ∙ c.in-Some.is) is) c.run_command.ensures.behaves in
     rw left at (behaves.headline done)
 
 pub returns-in-Some-clause-speeds : goal.returns-in-Some-clause-speeds
 returns-in-Some-clause-speeds g c = λ depth limit input is left done.
-    let behaves = behaves_as c.in-Some.command (Speed depth limit) _ _ (one_command _ c.in-Some.command (Speed depth limit) (sym c.command_of.ensures.value ∙ c.in-Some.is) is) c.run_command.ensures in
+    let behaves = behaves_as c.in-Some.command (Speed depth limit) _ _ (one_command _ c.in-Some.command (Speed depth limit) (sym c.command_of.ensures.value ∙ c.in-Some.is) is) c.run_command.ensures.behaves in
     rw left at (behaves.headline done)
 
 pub returns-in-Some-clause-touches : goal.returns-in-Some-clause-touches
 returns-in-Some-clause-touches g c = λ depth fine input is left done.
-    let behaves = behaves_as c.in-Some.command (Explain depth fine) _ _ (one_command _ c.in-Some.command (Explain depth fine) (sym c.command_of.ensures.value ∙ c.in-Some.is) is) c.run_command.ensures in
+    let behaves = behaves_as c.in-Some.command (Explain depth fine) _ _ (one_command _ c.in-Some.command (Explain depth fine) (sym c.command_of.ensures.value ∙ c.in-Some.is) is) c.run_command.ensures.behaves in
     rw left at (behaves.headline done)
 
 pub returns-in-Some-clause-motions : goal.returns-in-Some-clause-motions
 returns-in-Some-clause-motions g c = λ depth accel jump input is left done.
     let behaves = behaves_as c.in-Some.command (Dynamics depth accel jump) _ _
-    (one_command _ c.in-Some.command (Dynamics depth accel jump) (sym c.command_of.ensures.value ∙ c.in-Some.is) is) c.run_command.ensures in
+    (one_command _ c.in-Some.command (Dynamics depth accel jump) (sym c.command_of.ensures.value ∙ c.in-Some.is) is) c.run_command.ensures.behaves in
     rw left at (behaves.headline done)
 
 pub returns-in-Some-clause-given : goal.returns-in-Some-clause-given
-returns-in-Some-clause-given g c = λ seventeen. never_seventeen _ c.run_command.ensures.runs.known seventeen
+returns-in-Some-clause-given g c = λ seventeen. never_seventeen _ c.run_command.ensures.behaves.runs.known seventeen
 
 pub returns-in-Some-clause-known : goal.returns-in-Some-clause-known
-returns-in-Some-clause-known g c = known_small _ c.run_command.ensures.runs.known
+returns-in-Some-clause-known g c = known_small _ c.run_command.ensures.behaves.runs.known

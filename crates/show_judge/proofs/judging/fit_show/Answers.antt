@@ -11,7 +11,7 @@ returns-in-Some-clause-gives c = λ cut is.
 pub returns-in-None-clause-gives : goal.returns-in-None-clause-gives
 returns-in-None-clause-gives c = λ cut is.
     let s = plain c.args.show.now in
-    fits_as c.landing_law.ensures c.args.ways cut s c.in-Ok.fitted (search_left c.args.ways cut s c.in-Ok.ensures.gives.0 (sym (c.in-None.ensures.gives cut is)))
+    fits_as c.uploads_law.ensures c.args.ways cut s c.in-Ok.fitted (search_left c.args.ways cut s c.in-Ok.ensures.gives.0 (sym (c.in-None.ensures.gives cut is)))
     c.in-Ok.ensures.gives.1 c.uploadable_law.ensures c.in-Ok.ensures.near
 
 pub returns-in-None-clause-whole : goal.returns-in-None-clause-whole

@@ -6,6 +6,7 @@ use Rattle.show_judge.proofs.FewLemmas.{stream_new}
 use Rattle.show_judge.proofs.VerbLemmas.{outcomes}
 use Rattle.show_judge.specs.Verb.{during}
 use Rattle.show_uploads.specs.Upload.{upload_verb}
+use Rattle.show_uploads.proofs.BegunLemmas.{begun_link, never_same, never_wrote}
 use Rattle.show_uploads.proofs.UploadLemmas.{stops_failed, stops_late, stops_refused, upload_carried, upload_failed, upload_refused}
 use Rattle.show_uploads.proofs.uploading.carry.Goals as goal
 
@@ -56,3 +57,18 @@ returns-in-Ok-Refused-clause-stops g c = λ judged.
 
 pub returns-in-Err-Read-clause-stops : goal.returns-in-Err-Read-clause-stops
 returns-in-Err-Read-clause-stops g c = λ judged. stops_failed _ _ _ _ c.refuse_by_frame-in-Err-Read.result _ c.refuse_by_frame-in-Err-Read.ensures judged
+
+pub returns-in-Ok-Host-clause-begun : goal.returns-in-Ok-Host-clause-begun
+returns-in-Ok-Host-clause-begun g c = λ begun.
+    let is = stream_new c.make-parts.result (g.S.Source.left c.args.source.now) (ap (λ (h : Held). h.waiting) c.make-parts.ensures) in
+    let gives = rw (is, c.in-Ok-Host.field-0-is) at c.in-Ok-Host.ensures.gives in
+    begun_link c.args.depth c.args.start c.args.readback (g.S.Source.left c.args.source.now) (link_of c.in-Ok-Host.host.session) gives
+
+pub returns-in-Ok-Refused-clause-begun : goal.returns-in-Ok-Refused-clause-begun
+returns-in-Ok-Refused-clause-begun g c = λ begun. absurd (never_wrote _ _ _ _ _ c.refuse_by_frame.result c.refuse_by_frame.ensures begun)
+
+pub returns-in-Err-Read-clause-begun : goal.returns-in-Err-Read-clause-begun
+returns-in-Err-Read-clause-begun g c = λ begun. absurd (never_wrote _ _ _ _ _ c.refuse_by_frame-in-Err-Read.result c.refuse_by_frame-in-Err-Read.ensures begun)
+
+pub returns-in-Err-Memory-clause-begun : goal.returns-in-Err-Memory-clause-begun
+returns-in-Err-Memory-clause-begun g c = λ begun. absurd (never_same _ begun)

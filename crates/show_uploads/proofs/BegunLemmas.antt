@@ -1,0 +1,41 @@
+-- What is said of an upload that began, however it ended.
+use Rattle.std.proofs.Common.{◌≡◌, inl, inr, ℕ, Bool, List, [], ◌∷◌, ◌++◌, length, length-append, append-nil, get_or, Option, Some, IfSome, sym, ap, ◌∙◌, arith}
+use Rattle.std.proofs.lemmas.List.{append_cancel_left}
+use Rattle.text_lines.specs.Marker.{part_of}
+use Rattle.fleet_io.specs.Taken.{AppendsFront}
+use Rattle.link_frames.specs.Frames.{end_frame, packet_byte}
+use Rattle.link_upload.specs.Links.{Link}
+use Rattle.show_judge.specs.Answers.{Wrote}
+use Rattle.show_judge.specs.Headline.{UploadsText}
+use Rattle.show_judge.specs.Shows.{cut_of}
+use Rattle.show_judge.proofs.RunLemmas.{some_map}
+use Rattle.show_uploads.specs.Ready.{IsLinkOf}
+use Rattle.show_uploads.specs.Upload.{HasBegun, upload_ways}
+
+-- a packet's first byte isn't that of an end frame
+never_front : (status : ℕ) (old new : Option (List ℕ)) → AppendsFront old new (end_frame status) → HasBegun old new → ⊥
+never_front status old new (sent, rest, e, appends) (before, later, is, is_new) =
+    let grown : before ++ packet_byte ∷ later ≡ before ++ sent = rw (is, is_new) at appends in
+    let same : packet_byte ∷ later ≡ sent = append_cancel_left before (packet_byte ∷ later) sent grown in
+    let begins : end_frame status ≡ packet_byte ∷ (later ++ rest) = e ∙ ap (λ (xs : List ℕ). xs ++ rest) (sym same) in
+    omega (arith, ap (λ (xs : List ℕ). get_or xs 0 0) begins)
+
+-- where the end frame was written, or a prefix of it, no upload began
+pub never_wrote : (wanted : ℕ) (old new : Option (List ℕ)) (before after status : ℕ) → Wrote wanted (end_frame wanted) old new before after status → HasBegun old new → ⊥
+never_wrote wanted old new before after status wrote begun = elim wrote [
+  | inl (e, appends, later) ↦ never_front wanted old new (end_frame wanted, [], sym (append-nil (end_frame wanted)), appends) begun
+  | inr (e, rose, front, later) ↦ never_front wanted old new front begun
+]
+
+-- where nothing was written, neither
+pub never_same : (old : Option (List ℕ)) → HasBegun old old → ⊥
+never_same old (before, later, is, is_new) =
+    let same : Some before ≡ Some (before ++ packet_byte ∷ later) = sym is ∙ is_new in
+    let grown : before ≡ before ++ packet_byte ∷ later = cc in
+    omega (arith, ap (λ (xs : List ℕ). length xs) grown, length-append before (packet_byte ∷ later))
+
+-- the uploads of a show that is accepted
+pub begun_link : (depth : ℕ) (start readback : Bool) (left : Option (List ℕ)) (link : Link) → IfSome left (λ all. IsLinkOf (upload_ways depth) start readback (cut_of all) link) →
+    IfSome left (λ input. UploadsText (part_of input))
+begun_link depth start readback left link is =
+    some_map left _ _ (λ all it. record { flies = record { s = it.s; stands = it.stands; near = it.safe.near; apart = it.safe.apart }; uploads = it.safe.uploads }) is
