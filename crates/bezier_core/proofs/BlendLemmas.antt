@@ -109,6 +109,3 @@ multiples_fit i j x y few first second =
 
 pub cast_count : (i : ℕ) → i ≤ 5040 → to_z w128 i ≡ pos i
 cast_count i few = to_z_pos w128 i (omega arith)
-
-pub value_within : (x : ℤ) → IsWithin (pos (2 ^ 113)) x → FitsSigned w128 x
-value_within x within = omega (arith, ints)

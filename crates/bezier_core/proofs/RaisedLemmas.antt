@@ -35,9 +35,6 @@ spread-suc n r k f =
     let e : suc k - suc k ≡ 0 = omega arith in rw e refl in
     omega (arith, linear, parts, apart, last)
 
-pub spread-at_zero : (n r : ℕ) (f : ℕ → ℤ) → spread n (suc r) f 0 ≡ spread n r f 0
-spread-at_zero n r f = refl
-
 -- no step: one term is left
 pub spread-none : (n k : ℕ) (f : ℕ → ℤ) → spread n 0 f k ≡ pos (choose n k) *ℤ f k
 spread-none n k f =

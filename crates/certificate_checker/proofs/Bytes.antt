@@ -18,9 +18,9 @@ use Rattle.certificate_checker.specs.declared.verdict.Verdict.TheVariants.{Valid
 use Rattle.certificate_checker.specs.Verdicts.{VerdictGives}
 use Rattle.certificate_checker.specs.Checking.{Checking, FirstLine, Reading, checked, checked_all, closed, nothing_checked, verdict_of}
 use Rattle.certificate_checker.specs.Bytes.{Seen, NamesFault, ApartWhereValid, HasRead, most_bytes}
-use Rattle.certificate_checker.specs.Judgments.{AreFew, AreWithin, HasAtMost, IsNextIn}
-use Rattle.certificate_checker.specs.Steps.{HasRoom, HasTreeRoom, IsReader, IsSound, reading_by, reading_of}
-use Rattle.certificate_checker.proofs.Few.{few_read, few_wider, within_wider}
+use Rattle.certificate_checker.specs.Judgments.{AreFew, AreWithin, IsNextIn}
+use Rattle.certificate_checker.specs.Steps.{HasRoom, IsReader, reading_by, reading_of}
+use Rattle.certificate_checker.proofs.Few.{few_read, within_wider}
 use Rattle.certificate_checker.proofs.Verdicts.{checking_told}
 
 -- ---- what is kept, and what it stands for
@@ -31,29 +31,8 @@ owed_by r stage.First o l k is within tree = absurd (cc)
 owed_by r stage.Depth o l k is within tree = absurd (cc)
 owed_by r stage.Faulty o l k is within tree = absurd (cc)
 
-tree_by : (r : Reader) (s : Stage) (o l k : ℕ) → r.stage ≡ s → AreWithin o l k (reading_by r s) → r.stage ≡ stage.Tree → (r.line ≤ l) × HasAtMost k r.judging.judged
-tree_by r stage.Tree o l k is (owed, line, trees) tree = (line, trees)
-tree_by r stage.First o l k is within tree = absurd (cc)
-tree_by r stage.Depth o l k is within tree = absurd (cc)
-tree_by r stage.Faulty o l k is within tree = absurd (cc)
-
 pub room_of : (r : Reader) (o l k : ℕ) → o < 2 ^ 31 → AreWithin o l k (reading_of r) → HasRoom r
 room_of r o l k small within = λ tree. let few = owed_by r r.stage o l k refl within tree in omega (arith, small, few)
-
-pub tree_room_of : (r : Reader) (o l k : ℕ) → l < 2 ^ 31 → k ≤ most_bytes → AreWithin o l k (reading_of r) → HasTreeRoom r
-tree_room_of r o l k small trees within = λ tree.
-    let few = tree_by r r.stage o l k refl within tree in
-    (omega (arith, small, few.0), few_wider k most_bytes r.judging.judged trees few.1)
-
--- a reader stands for what is kept over some curves, where its difference is that of the next pair and cue
-next_by : (curves : Raised) (r : Reader) (s : Stage) → r.stage ≡ s → IsNextIn curves (reading_by r s) r.judging.diff → r.stage ≡ stage.Tree → IsNextIn curves (reading_by r stage.Tree) r.judging.diff
-next_by curves r stage.Tree is next tree = next
-next_by curves r stage.First is next tree = absurd (cc)
-next_by curves r stage.Depth is next tree = absurd (cc)
-next_by curves r stage.Faulty is next tree = absurd (cc)
-
-pub reader_of : (curves : Raised) (r : Reader) → IsSound r → IsNextIn curves (reading_of r) r.judging.diff → IsReader curves r
-reader_of curves r sound next = record { judging = next_by curves r r.stage refl next; sound = sound }
 
 next_in : (curves : Raised) (r : Reader) (s : Stage) → r.stage ≡ s → IsReader curves r → IsNextIn curves (reading_by r s) r.judging.diff
 next_in curves r stage.Tree is reader = reader.judging is

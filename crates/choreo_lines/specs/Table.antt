@@ -1,5 +1,6 @@
 -- The lines of the language as a table: what each line wants in its places, how many names may follow, and where it stands.
 use Rattle.std.specs.Prelude.{ℕ, ◌+◌, Bool, true, false, ◌&&◌, List, [], ◌∷◌, length, get_or, ◌==◌, nat_le, Option, Some, None, pos, neg_ℤ, bytes_eq, codes, if◌then◌else◌}
+use Rattle.fleet_math.specs.Limits.{most_drones}
 use Rattle.choreo_lines.specs.declared.table.Want.{Want}
 use Rattle.choreo_lines.specs.declared.table.Want.TheVariants as want
 use Rattle.choreo_lines.specs.declared.table.ActWord.{ActWord}
@@ -53,12 +54,12 @@ row_of first.Late = only (natural 0 1000 ∷ [])
 row_of first.Drone = only (want.Name ∷ point)
 row_of first.Formation = only (want.Name ∷ [])
 row_of first.At = only (want.Name ∷ point)
-row_of first.Figure = record { places = want.Name ∷ []; names = 32 }
+row_of first.Figure = record { places = want.Name ∷ []; names = most_drones }
 row_of first.Cue = only (natural 1 65535 ∷ [])
 row_of first.Repeat = only (natural 1 1000000000 ∷ [])
 row_of first.Perform = record {
   places = want.Name ∷ want.Mirror ∷ natural 0 3 ∷ coordinate ∷ coordinate ∷ coordinate ∷ [];
-  names = 32;
+  names = most_drones;
 }
 row_of first.Form = only (want.Name ∷ want.Manner ∷ [])
 row_of first.End = only []

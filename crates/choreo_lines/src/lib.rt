@@ -7,7 +7,6 @@
 
 mod entry;
 mod field;
-mod law;
 mod line;
 mod parts;
 mod table;
@@ -15,8 +14,7 @@ mod word;
 
 pub use entry::entry_of;
 pub use field::{copy_of, name_kept, number};
-pub use law::limits_law;
 pub use line::{Entry, Keyword, LineError, LineKind, Place};
 pub use listed::Listed;
-pub use parts::{Act, DRONE_LIMIT, Frame, Mirror, Name, Point};
+pub use parts::{Act, Frame, Mirror, Name, Point};
 pub use word::{is_name, keyword};

@@ -2,9 +2,6 @@
 
 use arrayvec::ArrayVec;
 
-/// How many drones a show may have, and how many roles a figure (docs/LANGUAGE.md, "How many").
-pub const DRONE_LIMIT: usize = 32;
-
 /// A name, of 1 to 16 bytes: a lower-case letter, then lower-case letters, digits and `_`. It isn't `form` or `end`.
 pub type Name = ArrayVec<u8, 16>;
 

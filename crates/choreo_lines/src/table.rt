@@ -5,7 +5,8 @@ ghost use Rattle.std.specs.Prelude.{◌≡◌, ◌≤◌, length};
 ghost use Rattle.choreo_lines.specs.Table as spec;
 
 use crate::line::{Keyword, Place};
-use crate::parts::{DRONE_LIMIT, Mirror, Name};
+use crate::parts::{Mirror, Name};
+use fleet_math::MOST_DRONES;
 
 /// How many places the longest line has, which is that of a curve.
 pub const MOST_PLACES: usize = 10;
@@ -119,7 +120,7 @@ pub fn names(first: Keyword) -> usize
     ensures { result ≡ (spec.row_of first).names }
 {
     match first {
-        Keyword::Figure | Keyword::Perform => DRONE_LIMIT,
+        Keyword::Figure | Keyword::Perform => MOST_DRONES,
         _ => 0,
     }
 }

@@ -1,5 +1,6 @@
 -- Which shows are valid: those whose lines, names, numbers and counts are as the language lets them be.
 use Rattle.std.specs.Prelude.{ℕ, ◌+◌, ◌==◌, if◌then◌else◌, ◌<◌, ◌≤◌, ℤ, pos, neg_ℤ, ◌≤ℤ◌, List, [], ◌∷◌, ◌++◌, map, length, IsTrue}
+use Rattle.fleet_math.specs.Limits.{most_drones}
 use Rattle.choreo_reader.specs.Plain as plain
 use Rattle.choreo_lines.specs.Name.{Name}
 use Rattle.choreo_reader.specs.Plain.{Body, PlainFigure, PlainShow, has_block, most_nested}
@@ -70,7 +71,7 @@ FitsBody plain.Done = Unit {0}
 FitsBody (plain.Cue line ms acts rest) = (1 ≤ ms) × (ms ≤ 65535) × FitActLines acts × FitsBody rest
 FitsBody (plain.Repeat line times inside rest) = (1 ≤ times) × (times ≤ 1000000000) × FitsBody inside × FitsBody rest
 FitsBody (plain.Perform line figure frame drones rest) =
-    IsName figure × FitsFrame frame × AreNames drones × (1 ≤ length drones) × (length drones ≤ 32) × FitsBody rest
+    IsName figure × FitsFrame frame × AreNames drones × (1 ≤ length drones) × (length drones ≤ most_drones) × FitsBody rest
 
 -- drones or places
 abbrev pub FitDroneLines : List DroneLine → Type 0
@@ -86,7 +87,7 @@ FitFormations (f ∷ fs) = IsName f.name × (1 ≤ length f.places) × FitDroneL
 abbrev pub FitFigures : List PlainFigure → Type 0
 FitFigures [] = Unit {0}
 FitFigures (f ∷ fs) =
-    IsName f.name × AreNames f.roles × (1 ≤ length f.roles) × (length f.roles ≤ 32)
+    IsName f.name × AreNames f.roles × (1 ≤ length f.roles) × (length f.roles ≤ most_drones)
     × IsTrue (has_block f.body) × IsTrue (is_filled f.body) × (depth f.body ≤ most_nested) × IsTrue (fits_figure f.body)
     × FitsBody f.body × FitFigures fs
 

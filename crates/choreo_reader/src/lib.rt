@@ -6,15 +6,13 @@
 #![tactic(auto)]
 
 mod fault;
-mod law;
 mod reader;
 mod show;
 mod token;
 
 pub use choreo_lines::{Act, Frame, LineKind, Listed, Mirror, Name, Point};
 pub use fault::ShowFault;
-pub use law::limits_law;
 pub use reader::{read_show, show_law};
 pub use show::{ActLine, Block, DroneLine, Figure, Formation, Settings, Show};
 pub use text_lines::Token;
-pub use token::{MOST_BYTES, tokens};
+pub use token::tokens;

@@ -1,6 +1,7 @@
 //! A show that is read line by line.
 
 ghost use Rattle.std.specs.Prelude.{◌≡◌, ℕ, List, Some, take, drop, ◌+◌, ◌<◌, ◌≤◌, length, OnOk, IfOk, MatchResult, ◌++◌, ◌∷◌, []};
+ghost use Rattle.fleet_math.specs.Limits.{most_text};
 ghost use Rattle.choreo_reader.specs.Plain.{block_of, body_of, plain as plain_show, PlainShow, ◌⨾◌};
 ghost use Rattle.choreo_reader.specs.Grammar.{StandsFor};
 ghost use Rattle.choreo_reader.specs.Plain as plain;
@@ -17,7 +18,7 @@ ghost use Rattle.choreo_reader.specs.Reading.{InFormation, InFigure, InRepeat, I
 
 use crate::fault::ShowFault;
 use crate::show::{ActLine, Block, DroneLine, Figure, Formation, Settings, Show};
-use crate::token::{MOST_BYTES, first_bad_line, line_words};
+use crate::token::{first_bad_line, line_words};
 use choreo_lines::{Entry, LineError, LineKind, Listed, Name, Place, entry_of};
 use std::alloc::{AllocError, Global};
 use text_lines::{Token, split_line, word_at};
@@ -502,7 +503,7 @@ impl Reader {
 
     // Reads one more line of the text, which may have no words.
     fn text_line(&mut self, alloc: Global, line: &[u8], number: u32) -> Result<(), ShowFault>
-        requires within { length line.now ≤ MOST_BYTES }
+        requires within { length line.now ≤ most_text }
         requires one { between_feeds line.now ≡ line.now ∷ [] }
         ensures { Steps result (built_of self.new) (lines_step (built_of self.old) (line_with number (words_of (visible FromHash line.now)) [])) }
     {
@@ -515,8 +516,8 @@ impl Reader {
 
     // Reads the lines of a text, the first of which has this number.
     fn lines(&mut self, alloc: Global, text: &[u8], first: u32) -> Result<(), ShowFault>
-        requires within { length text.now ≤ MOST_BYTES }
-        requires few { first + length text.now ≤ MOST_BYTES + 1 }
+        requires within { length text.now ≤ most_text }
+        requires few { first + length text.now ≤ most_text + 1 }
         ensures { Steps result (built_of self.new) (lines_step (built_of self.old) (numbered FromHash first (lines_of text.now))) }
     {
         let mut number = first;
@@ -598,7 +599,7 @@ fn is_header(text: &[u8], words: &[Token]) -> bool
 
 // What stands after the header, which is the first line with words, and the number of the line there.
 fn behind_header(alloc: Global, text: &[u8]) -> Result<(&[u8], u32), ShowFault>
-    requires { length text.now ≤ MOST_BYTES }
+    requires { length text.now ≤ most_text }
     ensures { MatchResult result
         (λ cut. (read_lines (show_lines text.now) ≡ finish_of (lines_step nothing (numbered FromHash cut.1 (lines_of cut.0.now))))
         × (cut.1 + length cut.0.now ≤ length text.now + 1)
@@ -629,7 +630,7 @@ fn behind_header(alloc: Global, text: &[u8]) -> Result<(&[u8], u32), ShowFault>
 
 // The show of a text without a forbidden byte. The words of one line at a time are in memory.
 fn read_allowed(alloc: Global, text: &[u8]) -> Result<Show, ShowFault>
-    requires { length text.now ≤ MOST_BYTES }
+    requires { length text.now ≤ most_text }
     ensures { ShowGives plain_show result (read_lines (show_lines text.now)) }
 {
     let (rest, number) = behind_header(alloc, text)?;
@@ -640,7 +641,7 @@ fn read_allowed(alloc: Global, text: &[u8]) -> Result<Show, ShowFault>
 
 // The show of a text, or its first fault.
 fn read_text(alloc: Global, text: &[u8]) -> Result<Show, ShowFault>
-    requires { length text.now ≤ MOST_BYTES }
+    requires { length text.now ≤ most_text }
     ensures { ShowGives plain_show result (reading text.now) }
 {
     if let Some(line) = first_bad_line(text) {
@@ -652,10 +653,10 @@ fn read_text(alloc: Global, text: &[u8]) -> Result<Show, ShowFault>
     read_allowed(alloc, text)
 }
 
-/// The show that a text of at most [`MOST_BYTES`] bytes stands for, or its first faulty line, from 1, and what is wrong
+/// The show that a text of at most `most_text` bytes stands for, or its first faulty line, from 1, and what is wrong
 /// with it. `Memory` where the program is out of memory.
 pub fn read_show(alloc: Global, text: &[u8]) -> Result<Show, ShowFault>
-    requires { length text.now ≤ MOST_BYTES }
+    requires { length text.now ≤ most_text }
     // What the text stands for is read, unless memory runs out.
     ensures only { (show : PlainShow) → StandsFor text.now show → ShowGives plain_show result (Ok show) }
     // The text stands for what is read.

@@ -1,6 +1,7 @@
 //! The words of a show's text.
 
 ghost use Rattle.std.specs.Prelude.{◌≡◌, ◌≤◌, length, [], ◌∷◌, MatchOption, None, Some, IfOk};
+ghost use Rattle.fleet_math.specs.Limits.{most_text};
 ghost use Rattle.choreo_lines.specs.declared.line.LineKind.TheVariants as kind;
 ghost use Rattle.text_lines.specs.declared.token.Comments.TheVariants.{FromHash};
 ghost use Rattle.text_lines.specs.Lines.{between_feeds};
@@ -14,9 +15,6 @@ use crate::fault::ShowFault;
 use choreo_lines::LineKind;
 use std::alloc::{AllocError, Global};
 use text_lines::{Comments, Token, split_line, visible};
-
-/// The bytes of the longest text of a show.
-pub const MOST_BYTES: usize = 1_048_576;
 
 fn is_allowed(byte: u8) -> bool
     ensures { result ≡ is_allowed_of byte }
@@ -51,7 +49,7 @@ fn is_plain(text: &[u8]) -> bool
 // The first line that has a forbidden byte. Most texts have none, in comments neither; these are not cut into lines.
 #[tactic(auto, using(crate::proofs::Allowed::plain_allowed))]
 pub(crate) fn first_bad_line(text: &[u8]) -> Option<u32>
-    requires { length text.now ≤ MOST_BYTES }
+    requires { length text.now ≤ most_text }
     ensures { MatchOption result (forbidden text.now ≡ None) (λ line. forbidden text.now ≡ Some (fault_at line kind.BadByte)) }
 {
     if is_plain(text) {
@@ -72,7 +70,7 @@ pub(crate) fn first_bad_line(text: &[u8]) -> Option<u32>
 // The words of a line on its own, outside its comment.
 #[tactic(auto, using(crate::proofs::OneLine::one_line))]
 pub(crate) fn line_words(alloc: Global, line: &[u8]) -> Result<Vec<Token>, AllocError>
-    requires within { length line.now ≤ MOST_BYTES }
+    requires within { length line.now ≤ most_text }
     requires one { between_feeds line.now ≡ line.now ∷ [] }
     ensures { IfOk result (λ words. words_in line.now words.items ≡ words_of (visible_of FromHash line.now)) }
 {
@@ -81,7 +79,7 @@ pub(crate) fn line_words(alloc: Global, line: &[u8]) -> Result<Vec<Token>, Alloc
 
 /// The words of a text outside comments in order, each with its line and its place.
 pub fn tokens(alloc: Global, text: &[u8]) -> Result<Vec<Token>, ShowFault>
-    requires { length text.now ≤ MOST_BYTES }
+    requires { length text.now ≤ most_text }
     ensures { TokensGive result text.now }
 {
     if let Some(line) = first_bad_line(text) {

@@ -2,6 +2,7 @@
 use Rattle.std.specs.Prelude.{◌≡◌, ◌↔◌, ℕ, ◌≤◌, Bool, true, false, ◌&&◌, not, List, [], ◌∷◌, ◌++◌, length, find, is_some, nat_le, bytes_eq, codes, slice_index_or, slice_set, Option, Some, None, IfSome, unwrap_or, if◌then◌else◌, ◌==◌}
 use Rattle.std.specs.Option.{option_map, option_and_then}
 use Rattle.std.specs.List.{list_any}
+use Rattle.fleet_math.specs.Limits.{most_drones}
 use Rattle.text_lines.specs.Numbers.{natural_of}
 use Rattle.command_words.specs.declared.command.Command.{Command}
 use Rattle.command_words.specs.declared.command.Command.TheVariants.{Help, Version, Check, Compile, Certify, Play, Report, Verify, Rehearse, Upload, Drill, Boxes, Speed, Explain, Dynamics}
@@ -40,10 +41,6 @@ default_fine = 5
 
 abbrev pub most_fine : ℕ
 most_fine = 5
-
--- the most drones of a drill
-abbrev pub most_drill : ℕ
-most_drill = 32
 
 -- the most digits of a number on the command line
 abbrev pub most_digits : ℕ
@@ -194,7 +191,7 @@ drill_with words (Some drones) = with_depth (λ (depth : ℕ). Drill drones dept
 
 abbrev pub drill_in : List (List ℕ) → Option Command
 drill_in [] = None
-drill_in (number ∷ words) = drill_with words (number_from 1 most_drill number)
+drill_in (number ∷ words) = drill_with words (number_from 1 most_drones number)
 
 -- the command of this name that studies a show, with the words after it
 abbrev pub study : List ℕ → List (List ℕ) → Option Command
@@ -243,7 +240,7 @@ IsCommand (Report depth) = depth ≤ most_depth
 IsCommand Verify = Unit {0}
 IsCommand (Rehearse depth start readback) = depth ≤ most_depth
 IsCommand (Upload depth start readback) = depth ≤ most_depth
-IsCommand (Drill drones depth) = (1 ≤ drones) × (drones ≤ most_drill) × (depth ≤ most_depth)
+IsCommand (Drill drones depth) = (1 ≤ drones) × (drones ≤ most_drones) × (depth ≤ most_depth)
 IsCommand (Boxes depth) = depth ≤ most_depth
 IsCommand (Speed depth limit) = (depth ≤ most_depth) × IfSome limit (λ v. (1 ≤ v) × (v ≤ most_limit))
 IsCommand (Explain depth fine) = (depth ≤ most_depth) × (fine ≤ most_fine)

@@ -5,6 +5,7 @@ ghost use Rattle.command_words.specs.Commands.{IsCommand, command_of, drill_in, 
 ghost use Rattle.command_words.specs.declared.options.Options.{Options};
 
 use crate::options::{OptionName, number_from, options_for};
+use fleet_math::MOST_DRONES;
 
 /// What the program is asked for. `depth` says into how small parts a cue is cut: at most into 2^depth, 0 to 8.
 /// `start` says whether the drones are started, `readback` whether the memories are read back before that. The forms are those of [`help_text`].
@@ -77,9 +78,6 @@ pub enum Command {
         jump: Option<u32>,
     },
 }
-
-// The most drones of a drill.
-const MOST_DRILL: u32 = 32;
 
 // The depth of a command whose one option it is.
 fn depth_of(words: &[String]) -> Option<u8>
@@ -165,7 +163,7 @@ fn drill(words: &[String]) -> Option<Command>
     ensures command { IfSome result IsCommand }
 {
     let (number, words) = words.split_first()?;
-    let drones = number_from(number.as_bytes(), 1, MOST_DRILL)? as u8;
+    let drones = number_from(number.as_bytes(), 1, MOST_DRONES as u32)? as u8;
     let depth = depth_of(words)?;
     Some(Command::Drill { drones, depth })
 }

@@ -10,17 +10,18 @@ use Rattle.choreo_reader.specs.declared.show.Block.{Block}
 use Rattle.choreo_reader.specs.declared.show.Figure.{Figure}
 use Rattle.choreo_reader.specs.declared.show.DroneLine.{DroneLine}
 use Rattle.cue_grid.specs.Counts.{over_at}
-use Rattle.cue_grid.specs.Faults.{drone_limit, no_drone, many_drones, too_many, no_cue, many_cues, or_else, earliest, name_faults, grid_fault}
+use Rattle.fleet_math.specs.Limits.{most_drones}
+use Rattle.cue_grid.specs.Faults.{no_drone, many_drones, too_many, no_cue, many_cues, or_else, earliest, name_faults, grid_fault}
 use Rattle.cue_grid.specs.Steps.{name_fault}
 use Rattle.cue_grid.proofs.Earliest.{earliest_name}
 use Rattle.cue_grid.specs.declared.grid.GridFault.{GridFault}
 use Rattle.cue_grid.specs.declared.grid.GridFault.TheVariants as fault
 
-pub few_drones : (s : PlainShow) (ds : List DroneLine) → ds ≡ s.drones → (length ds == 0) ≡ false → length ds ≤ drone_limit → None ≡ or_else (no_drone s) (many_drones s)
+pub few_drones : (s : PlainShow) (ds : List DroneLine) → ds ≡ s.drones → (length ds == 0) ≡ false → length ds ≤ most_drones → None ≡ or_else (no_drone s) (many_drones s)
 few_drones s ds e n h =
     let some : (length s.drones == 0) ≡ false = ap (λ xs. length xs == 0) (sym e) ∙ n in
-    let few : length s.drones ≤ drone_limit = subst (λ xs. length xs ≤ drone_limit) e h in
-    sym (ap (λ b. or_else (cond b (Some (fault.NoDrone 1)) None) (many_drones s)) some ∙ ap too_many (drop_all drone_limit s.drones few))
+    let few : length s.drones ≤ most_drones = subst (λ xs. length xs ≤ most_drones) e h in
+    sym (ap (λ b. or_else (cond b (Some (fault.NoDrone 1)) None) (many_drones s)) some ∙ ap too_many (drop_all most_drones s.drones few))
 
 some_cue : (b : Body) → not (has_block b) ≡ false → no_cue b ≡ None
 some_cue plain.Done h = cc

@@ -20,9 +20,9 @@ use Rattle.choreo_lines.specs.declared.parts.Point.{Point}
 use Rattle.cue_grid.specs.Names.{same_name, formation_named, figure_named, place_named, places_in, names_of}
 use Rattle.cue_grid.specs.Frames.{no_frame}
 use Rattle.cue_grid.specs.Cues.{Playing, as_written, player, way_if, act_if, act_by, act_line_number, job_or, job_of, times_over, cues_in, nothing_performed, cues_of_figure, performed_cues, cues_of, grid_of}
-use Rattle.fleet_math.specs.Limits.{most_cues}
+use Rattle.fleet_math.specs.Limits.{most_cues, most_drones}
 use Rattle.cue_grid.specs.Counts.{count_in, none_performed, figure_count, count_of_figure, perform_count, body_count, line_if_over, over_at}
-use Rattle.cue_grid.specs.Faults.{drone_limit, line_of, perform_faults, body_faults, drones_faults, formations_faults, figures_faults, show_faults, name_faults, earlier_of, earliest, no_drone, too_many, many_drones, no_cue, many_cues, or_else, grid_fault}
+use Rattle.cue_grid.specs.Faults.{line_of, perform_faults, body_faults, drones_faults, formations_faults, figures_faults, show_faults, name_faults, earlier_of, earliest, no_drone, too_many, many_drones, no_cue, many_cues, or_else, grid_fault}
 use Rattle.cue_grid.specs.Grids.{FitsJob, FitJobs, FitCues, IsGrid}
 use Rattle.cue_grid.specs.declared.grid.GridFault.{GridFault}
 use Rattle.cue_grid.specs.declared.grid.GridFault.TheVariants.{NoDrone}
@@ -303,7 +303,7 @@ fit_grid s v h =
     let limit = few s.figures 0 s.body (omega arith) (not_many_cues (over_at s.figures 0 s.body) counts.1) in
     record {
       some_start = some_drone s.drones drones.0;
-      few_starts = all_dropped drone_limit s.drones (not_many (drop drone_limit s.drones) many.0);
+      few_starts = all_dropped most_drones s.drones (not_many (drop most_drones s.drones) many.0);
       starts = points_fit s.drones v.drones;
       some_cue = omega (arith, one, cues_counted s);
       few_cues = omega (arith, limit, cues_counted s);

@@ -1,9 +1,9 @@
 -- The faults of names and cues, in the order in which they are judged: no drone, too many drones, the names by lines,
 -- no cue, too many cues.
 use Rattle.std.specs.Prelude.{ℕ, Bool, true, false, not, ◌||◌, List, [], ◌∷◌, ◌++◌, length, drop, Option, Some, None, ◌==◌, nat_lt, if◌then◌else◌}
+use Rattle.fleet_math.specs.Limits.{most_drones}
 use Rattle.choreo_reader.specs.Plain as plain
 use Rattle.choreo_lines.specs.Name.{Name}
-use Rattle.choreo_lines.specs.declared.parts.TheConstants.{DRONE_LIMIT}
 use Rattle.choreo_reader.specs.Plain.{Body, PlainFigure, PlainShow}
 use Rattle.choreo_reader.specs.declared.show.ActLine.{ActLine}
 use Rattle.choreo_reader.specs.declared.show.ActLine.TheVariants as on
@@ -134,17 +134,13 @@ earliest (f ∷ fs) = earlier_of (Some f) (earliest fs)
 abbrev pub no_drone : PlainShow → Option GridFault
 no_drone s = if length s.drones == 0 then Some (NoDrone 1) else None
 
--- the most drones of a show
-abbrev pub drone_limit : ℕ
-drone_limit = DRONE_LIMIT
-
 abbrev pub too_many : List DroneLine → Option GridFault
 too_many [] = None
 too_many (d ∷ ds) = Some (TooManyDrones d.line)
 
 -- the line of the first drone beyond the limit
 abbrev pub many_drones : PlainShow → Option GridFault
-many_drones s = too_many (drop drone_limit s.drones)
+many_drones s = too_many (drop most_drones s.drones)
 
 -- a show without blocks in its body; the fault names line 1
 abbrev pub no_cue : Body → Option GridFault

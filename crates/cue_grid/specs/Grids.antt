@@ -1,10 +1,9 @@
 -- Which grids are valid: those of which every count and every number is as the language lets it be.
 use Rattle.std.specs.Prelude.{◌≡◌, ℕ, ◌≤◌, List, [], ◌∷◌, length}
 use Rattle.std.specs.List.{All}
-use Rattle.fleet_math.specs.Limits.{most_cues}
+use Rattle.fleet_math.specs.Limits.{most_cues, most_drones}
 use Rattle.choreo_reader.specs.Valid.{FitsPoint, FitsFrame, FitsAct}
 use Rattle.choreo_reader.specs.declared.show.DroneLine.{DroneLine}
-use Rattle.cue_grid.specs.Faults.{drone_limit}
 use Rattle.cue_grid.specs.declared.grid.Job.{Job}
 use Rattle.cue_grid.specs.declared.grid.Cue.{Cue}
 use Rattle.cue_grid.specs.declared.grid.Grid.{Grid}
@@ -31,7 +30,7 @@ FitCues n (c ∷ cs) = FitsCue n c × FitCues n cs
 -- 1 to 32 drones, 1 to 1,000 cues, one job for each drone in each cue, and each number in its range
 pub record IsGrid (g : Grid) : Type 0 where
   pub some_start : 1 ≤ length g.starts
-  pub few_starts : length g.starts ≤ drone_limit
+  pub few_starts : length g.starts ≤ most_drones
   pub starts : All (λ (s : DroneLine). FitsPoint s.at) g.starts
   pub some_cue : 1 ≤ length g.cues
   pub few_cues : length g.cues ≤ most_cues

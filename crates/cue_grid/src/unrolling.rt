@@ -16,8 +16,9 @@ use crate::cues::cues_of;
 use crate::faults::name_fault;
 use crate::grid::{Grid, GridFault, UnrollError};
 use crate::lookup::Lookup;
-use choreo_lines::{DRONE_LIMIT, copy_of};
+use choreo_lines::copy_of;
 use choreo_reader::{DroneLine, Listed, Show};
+use fleet_math::MOST_DRONES;
 use std::alloc::{AllocError, Global};
 
 /// The cues of a show in order, repeats written out and figures played by their drones, or its first fault. A drone
@@ -49,9 +50,9 @@ fn drone_count_fault(show: &Lookup) -> Option<GridFault>
     let drones = show.show.drones.as_slice();
     if drones.is_empty() {
         Some(GridFault::NoDrone { line: 1 })
-    } else if drones.len() > DRONE_LIMIT {
+    } else if drones.len() > MOST_DRONES {
         Some(GridFault::TooManyDrones {
-            line: drones[DRONE_LIMIT].line,
+            line: drones[MOST_DRONES].line,
         })
     } else {
         None

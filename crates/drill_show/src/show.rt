@@ -1,6 +1,7 @@
 //! The text of the drill's show.
 ghost use Rattle.std.specs.Prelude.{◌≡◌, ◌≤◌, ◌<◌, ◌++◌, [], ◌∷◌, codes, decimal, string_bytes, IfOk, OnOk};
 ghost use Rattle.std.specs.List.{flat_map, range_with_len};
+ghost use Rattle.fleet_math.specs.Limits.{most_drones};
 ghost use Rattle.fleet_io.specs.Words.{line};
 ghost use Rattle.drill_show.specs.Drill.{cue_lines, drill_text, drone_line, height_in, move_line, shift_in, x_of, y_of};
 
@@ -45,7 +46,7 @@ fn height_in(cue: u8, i: u8) -> u32
 }
 
 fn put_drone(text: &mut String, i: u8) -> Result<(), AllocError>
-    requires { i < 32 }
+    requires { i < most_drones }
     ensures { OnOk result (string_bytes text.new ≡ string_bytes text.old ++ drone_line i) }
 {
     let (number, x, y) = (i + 1, x_of(i), y_of(i));
@@ -54,7 +55,7 @@ fn put_drone(text: &mut String, i: u8) -> Result<(), AllocError>
 
 fn put_move(text: &mut String, cue: u8, i: u8) -> Result<(), AllocError>
     requires cue { cue < 4 }
-    requires drone { i < 32 }
+    requires drone { i < most_drones }
     ensures { OnOk result (string_bytes text.new ≡ string_bytes text.old ++ move_line cue i) }
 {
     let (number, x, y) = (i + 1, x_of(i) + shift_in(cue), y_of(i));
@@ -64,7 +65,7 @@ fn put_move(text: &mut String, cue: u8, i: u8) -> Result<(), AllocError>
 
 // The lines of a cue of n drones.
 fn put_cue(text: &mut String, n: u8, cue: u8) -> Result<(), AllocError>
-    requires few { n ≤ 32 }
+    requires few { n ≤ most_drones }
     requires cue { cue < 4 }
     ensures { OnOk result (string_bytes text.new ≡ string_bytes text.old ++ cue_lines n cue) }
 {
@@ -77,7 +78,7 @@ fn put_cue(text: &mut String, n: u8, cue: u8) -> Result<(), AllocError>
 
 // The lines of the drones.
 fn put_drones(text: &mut String, n: u8) -> Result<(), AllocError>
-    requires { n ≤ 32 }
+    requires { n ≤ most_drones }
     ensures { OnOk result (string_bytes text.new ≡ string_bytes text.old ++ flat_map drone_line (range_with_len 0 n)) }
 {
     for i in 0..n {
@@ -88,7 +89,7 @@ fn put_drones(text: &mut String, n: u8) -> Result<(), AllocError>
 
 // The lines of the four cues.
 fn put_cues(text: &mut String, n: u8) -> Result<(), AllocError>
-    requires { n ≤ 32 }
+    requires { n ≤ most_drones }
     ensures { OnOk result
         (string_bytes text.new ≡ string_bytes text.old ++ flat_map (cue_lines n) (range_with_len 0 4)) }
 {
@@ -101,7 +102,7 @@ fn put_cues(text: &mut String, n: u8) -> Result<(), AllocError>
 /// The text of the drill's show of n drones, 1 to 32 (`specs/Drill.antt`). Out of memory is the only refusal.
 pub fn drill_text(alloc: Global, n: u8) -> Result<Vec<u8>, AllocError>
     requires some { 1 ≤ n }
-    requires few { n ≤ 32 }
+    requires few { n ≤ most_drones }
     ensures { IfOk result (λ text. text.items ≡ drill_text n) }
 {
     let mut text = String::new(alloc);

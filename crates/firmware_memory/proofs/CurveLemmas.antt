@@ -1,7 +1,5 @@
 -- What was loaded is there, byte by byte, and decodes to what was sent.
-use Rattle.std.proofs.Common.{◌≡◌, ℕ, zero, suc, ◌+◌, ◌<◌, ◌≤◌, List, [], ◌∷◌, ◌++◌, length, drop, min, get_or, slice_get, Option, Some, None, Result, Ok, Err, IfOk, refl, sym, ap, subst, ◌∙◌, append_assoc, arith, inl, inr}
-use Rattle.std.proofs.lemmas.Bool.{cases_lt}
-use Rattle.std.proofs.lemmas.List.{drop_all}
+use Rattle.std.proofs.Common.{◌≡◌, ℕ, zero, suc, ◌+◌, ◌<◌, ◌≤◌, List, [], ◌∷◌, ◌++◌, length, drop, get_or, slice_get, Option, Some, None, Result, Ok, Err, IfOk, refl, sym, ap, subst, ◌∙◌, append_assoc, arith}
 use Rattle.std.specs.List.{All}
 use Rattle.std.specs.Prelude.{IfNone}
 use Rattle.traj_codec.specs.declared.traj.Traj.{Traj}
@@ -65,13 +63,6 @@ loaded_curve s drone d t session known load formed last whole there listed =
     }
 
 -- ---- what is read
-
--- bytes past the end are none
-pub drop-within : (n most : ℕ) (xs : List ℕ) → length xs ≡ most → drop (min n most) xs ≡ drop n xs
-drop-within n most xs long = elim (cases_lt n most) [
-  | inl less ↦ let e : min n most ≡ n = omega arith in rw e refl
-  | inr more ↦ let e : min n most ≡ most = omega arith in rw e (drop_all most xs (omega arith) ∙ sym (drop_all n xs (omega arith)))
-]
 
 -- an entry and a trajectory at its place
 pub decodes : (drone : DroneState) (id : ℕ) (entry : Def) (t : Traj) (used : ℕ) → slice_get drone.table id ≡ Some (Some entry) →

@@ -7,7 +7,8 @@ use Rattle.crtp_packets.specs.declared.reading.Down.{Down}
 use Rattle.crtp_packets.specs.declared.reading.Down.TheVariants as down
 use Rattle.std.specs.Str.{bytes_eq}
 use Rattle.crtp_packets.specs.Commands.{command_of, plain_scale}
-use Rattle.upload_model.specs.declared.limits.TheConstants.{MEMORY_BYTES, TABLE_ENTRIES}
+use Rattle.crtp_packets.specs.declared.chunks.TheConstants.{MEMORY_BYTES}
+use Rattle.upload_model.specs.declared.limits.TheConstants.{TABLE_ENTRIES}
 use Rattle.crtp_packets.specs.declared.commands.CommandFault.{CommandFault}
 use Rattle.crtp_packets.specs.declared.commands.Command.{Command}
 use Rattle.crtp_packets.specs.declared.commands.Command.TheVariants.{Define, Start}

@@ -2,6 +2,7 @@
 use Rattle.std.specs.Prelude.{◌≡◌, ℕ, ◌<◌, ℤ, ◌++◌, drop, length, slice_get, Some}
 use Rattle.std.specs.List.{All, fold}
 use Rattle.fleet_math.specs.Bernstein.{at}
+use Rattle.crtp_packets.specs.declared.chunks.TheConstants.{MEMORY_BYTES}
 use Rattle.traj_codec.specs.declared.traj.Segment.{Segment}
 use Rattle.traj_codec.specs.declared.traj.Traj.{Traj}
 use Rattle.traj_codec.specs.Positions.{element_on, value_after}
@@ -33,5 +34,5 @@ last_value t axis = fold (λ (v : ℤ) (s : Segment). value_after v (element_on 
 pub record CurveLaw : Type 0 where
   pub one : (drone : DroneState) (id : ℕ) (t u : Traj) → DecodesTo drone id t → DecodesTo drone id u → t ≡ u
   pub loaded : (s : Upload) (drone : DroneState) (d : ℕ) (t : Traj) → IsSession s → d < drone_count s →
-      load_of s d ≡ load_for t → IsTrajectory t → All HasDuration t.segments → length drone.memory ≡ 4096 → HasLoad s (load_of s d) drone →
+      load_of s d ≡ load_for t → IsTrajectory t → All HasDuration t.segments → length drone.memory ≡ MEMORY_BYTES → HasLoad s (load_of s d) drone →
       HasEntry s (load_of s d) drone → DecodesTo drone s.trajectory_id t

@@ -92,6 +92,3 @@ raised_small b lengths small =
         rw (at-eight (raised_value (length b - 1) (at b)) k few)
         (below_raised (raised_value (length b - 1) (at b) k)
         (rw (total (length b) k lengths few) at (sum_within (suc k) (part_of (length b - 1) k) (at b) (pos 32768) (λ j near. within_short (at b j) (below_at 32769 b j (lit< tt) small)))))
-
-pub short_wide : (x : ℤ) → IsBelow 32769 x → IsBelow (2 ^ 100) x
-short_wide x small = (omega (arith, ints), omega (arith, ints))

@@ -2,7 +2,7 @@
 use Rattle.std.specs.Prelude.{◌≡◌, ℕ, ◌+◌, ◌*◌, ◌≤◌, ◌<◌, ℤ, ◌-ℤ◌, List, [], ◌∷◌, length, slice_index_or, slice_get, Some, All}
 use Rattle.std.specs.List.{flat_map}
 use Rattle.fleet_math.specs.Bernstein.{at}
-use Rattle.fleet_math.specs.Limits.{most_cues}
+use Rattle.fleet_math.specs.Limits.{most_cues, most_drones}
 use Rattle.bezier_core.specs.declared.Bez.{Bez}
 use Rattle.bezier_core.specs.Along.{controls}
 use Rattle.bezier_core.specs.Raised.{eight, raised}
@@ -11,10 +11,6 @@ use Rattle.traj_codec.specs.declared.traj.Segment.{Segment}
 use Rattle.traj_codec.specs.declared.traj.Traj.{Traj}
 use Rattle.traj_codec.specs.Spelling.{stored}
 use Rattle.traj_codec.specs.Positions.{durations, points, element_on, value_after}
-
--- how many drones a fleet has at most
-abbrev pub most_drones : ℕ
-most_drones = 32
 
 -- What Curves are seen as: how many drones and cues they have, and the three raised curves of each drone and cue,
 -- by drone and then by cue.

@@ -1,12 +1,12 @@
 -- Words of private steps and of what Curves keep. No public clause cites them.
 use Rattle.std.specs.Prelude.{◌≡◌, ℕ, ◌*◌, ◌^◌, ◌≤◌, ℤ, List, length, map, All}
-use Rattle.fleet_math.specs.Limits.{most_cues}
+use Rattle.fleet_math.specs.Limits.{most_cues, most_drones}
 use Rattle.fleet_math.specs.Numbers.{IsBelow}
 use Rattle.bezier_core.specs.declared.Bez.{Bez}
 use Rattle.traj_codec.specs.declared.traj.Segment.{Segment}
 use Rattle.traj_codec.specs.Spelling.{stored}
 use Rattle.traj_codec.specs.Positions.{element_on}
-use Rattle.fleet_curves.specs.Raised.{Raised, most_drones}
+use Rattle.fleet_curves.specs.Raised.{Raised}
 
 -- an element has at most seven control points after its first one
 abbrev pub IsFormed : Segment → Type 0

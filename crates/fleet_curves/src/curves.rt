@@ -6,10 +6,10 @@ ghost use Rattle.fleet_math.specs.Decoded.{last_value};
 ghost use Rattle.bezier_core.specs.Curves.{IsLength};
 ghost use Rattle.fleet_math.specs.Bernstein.{at};
 ghost use Rattle.bezier_core.specs.Raised.{eight, raised};
-ghost use Rattle.fleet_math.specs.Limits.{most_cues};
+ghost use Rattle.fleet_math.specs.Limits.{most_cues, most_drones};
 ghost use Rattle.traj_codec.specs.Spelling.{stored};
 ghost use Rattle.traj_codec.specs.Positions.{element_on, value_after};
-ghost use Rattle.fleet_curves.specs.Raised.{CurvesStandFor, IsOneShow, curves_at, difference, less, most_drones, raised_element, raised_traj, raised_of};
+ghost use Rattle.fleet_curves.specs.Raised.{CurvesStandFor, IsOneShow, curves_at, difference, less, raised_element, raised_traj, raised_of};
 ghost use Rattle.fleet_curves.specs.Steps.{AreSmallCurves, IsFormed, all_curves, curves_of};
 
 use bezier_core::Bez;

@@ -82,20 +82,6 @@ never bytes more off = elim (cases_Bool (is_marker (bytes ++ more))) [
   | inr none ↦ none
 ]
 
--- few bytes may be one yet
-pub few_wait : (bytes : List ℕ) → may_be_marker bytes ≡ true → length bytes < 4
-few_wait [] is = omega arith
-few_wait (a ∷ []) is = omega arith
-few_wait (a ∷ b ∷ []) is = omega arith
-few_wait (a ∷ b ∷ c ∷ []) is = omega arith
-few_wait (a ∷ b ∷ c ∷ d ∷ bytes) is = absurd (elim (either (bytes_eq (a ∷ b ∷ c ∷ d ∷ bytes) (37 ∷ [])) (bytes_eq (a ∷ b ∷ c ∷ d ∷ bytes) (37 ∷ 37 ∷ []) || bytes_eq (a ∷ b ∷ c ∷ d ∷ bytes) (37 ∷ 37 ∷ 13 ∷ [])) is) [
-  | inl e ↦ omega (arith, ap length ((bytes_eq-Decides (a ∷ b ∷ c ∷ d ∷ bytes) (37 ∷ [])).0 e))
-  | inr two ↦ elim (either (bytes_eq (a ∷ b ∷ c ∷ d ∷ bytes) (37 ∷ 37 ∷ [])) (bytes_eq (a ∷ b ∷ c ∷ d ∷ bytes) (37 ∷ 37 ∷ 13 ∷ [])) two) [
-    | inl e ↦ omega (arith, ap length ((bytes_eq-Decides (a ∷ b ∷ c ∷ d ∷ bytes) (37 ∷ 37 ∷ [])).0 e))
-    | inr e ↦ omega (arith, ap length ((bytes_eq-Decides (a ∷ b ∷ c ∷ d ∷ bytes) (37 ∷ 37 ∷ 13 ∷ [])).0 e))
-  ]
-])
-
 -- ---- what waits tells whether a marker line stands here
 
 record Settled (bytes more : List ℕ) : Type 0 where
@@ -145,23 +131,6 @@ asks_plain (Some all) None waiting P same why off then = absurd same
 asks_plain (Some all) (Some rest) waiting P same why off then =
     let s = settled waiting rest why in
     rw (← same) (then true (s.same ∙ off))
-
--- where no line begins none stands here
-pub asks_within : (old : Option (List ℕ)) (here : Bool) (P : Bool → List ℕ → Type 0) → here ≡ false → IfSome old (λ all. (at_line : Bool) → is_marked_here at_line all ≡ false → P at_line all) → IfSome old (λ all. P here all)
-asks_within None here P off then = tt
-asks_within (Some all) here P off then = rw off (then false refl)
-
--- a byte is taken
-pub asks_byte : (old new : Option (List ℕ)) (b : ℕ) → Consumes old new (b ∷ []) → IfSome old (λ all. (at_line : Bool) → is_marked_here at_line all ≡ false → AsksNext (ask.Byte b) (next_of at_line all) new)
-asks_byte None new b is = tt
-asks_byte (Some all) None b is = absurd is
-asks_byte (Some all) (Some rest) b is = rw is (λ at_line off. rw off (refl, refl))
-
--- nothing is left
-pub asks_end : (old new : Option (List ℕ)) → IsAtEnd old → Keeps old new → IfSome old (λ all. (at_line : Bool) → is_marked_here at_line all ≡ false → AsksNext ask.«End» (next_of at_line all) new)
-asks_end None new none same = tt
-asks_end (Some all) None none same = absurd same
-asks_end (Some all) (Some rest) none same = rw (same, none) (λ at_line off. refl)
 
 -- ---- from the code's tests
 

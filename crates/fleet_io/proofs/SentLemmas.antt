@@ -20,17 +20,6 @@ pub Appends-nil : (a : Option (List ℕ)) → Appends a a []
 Appends-nil None = tt
 Appends-nil (Some a) = sym (append-nil a)
 
--- a write that fails adds nothing
-pub Appends-keeps : (a b c : Option (List ℕ)) (xs : List ℕ) → Appends a b xs → Keeps b c → Appends a c xs
-Appends-keeps None b c xs p q = tt
-Appends-keeps (Some a) None c xs p q = absurd p
-Appends-keeps (Some a) (Some b) None xs p q = absurd q
-Appends-keeps (Some a) (Some b) (Some c) xs p q = q ∙ p
-
--- at first nothing went out
-pub HasSent-none : (a : Option (List ℕ)) (bytes : List ℕ) → HasSent a a bytes bytes
-HasSent-none a bytes = ([], refl, Appends-nil a)
-
 -- what a write takes is no longer in the rest
 pub HasSent-more : (a b c : Option (List ℕ)) (bytes rest : List ℕ) (n : ℕ) → HasSent a b bytes rest → Appends b c (take n rest) → HasSent a c bytes (drop n rest)
 HasSent-more a b c bytes rest n p q = (
@@ -38,13 +27,3 @@ HasSent-more a b c bytes rest n p q = (
   p.1 ∙ ap (λ (z : List ℕ). p.0 ++ z) (sym (take-append-drop n rest)) ∙ sym (append_assoc p.0 (take n rest) (drop n rest)),
   Appends-append a b c p.0 (take n rest) p.2 q,
 )
-
--- with no rest all went out
-pub HasSent-all : (a b : Option (List ℕ)) (bytes rest : List ℕ) → rest ≡ [] → HasSent a b bytes rest → Appends a b bytes
-HasSent-all a b bytes rest e p =
-    let same : bytes ≡ p.0 = p.1 ∙ ap (λ (z : List ℕ). p.0 ++ z) e ∙ append-nil p.0 in
-    rw same p.2
-
--- where a write fails a front went out
-pub HasSent-front : (a b c : Option (List ℕ)) (bytes rest : List ℕ) → HasSent a b bytes rest → Keeps b c → AppendsFront a c bytes
-HasSent-front a b c bytes rest p q = (p.0, rest, p.1, Appends-keeps a b c p.0 p.2 q)

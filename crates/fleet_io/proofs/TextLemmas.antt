@@ -24,10 +24,6 @@ Keeps-with_word old text word k = elim (is_line_empty text) as (λ b. Keeps old 
   | false ↦ Keeps-append old text (32 ∷ word) k
 ]
 
--- a text begins with itself
-pub Keeps-same : (old : List ℕ) → Keeps old old
-Keeps-same old = record { longer = omega arith; front = take_all (length old) old (omega arith) }
-
 -- one byte more is one word more
 pub with_hex_more : (text bytes : List ℕ) (i : ℕ) → i < length bytes → with_hex text (take (i + 1) bytes) ≡ with_word (with_hex text (take i bytes)) (hex_word (get_or bytes i 0))
 with_hex_more text bytes i lt = rw (take_more bytes i 0 lt) (fold-append (λ (so_far : List ℕ) (byte : ℕ). with_word so_far (hex_word byte)) text (take i bytes) (get_or bytes i 0 ∷ []))

@@ -3,7 +3,7 @@ use Rattle.std.specs.Prelude.{◌≡◌, ℕ, ◌+◌, ◌≤◌, List, ◌++◌
 use Rattle.std.specs.Io.KnownBytes.{Consumes}
 use Rattle.text_lines.specs.Lines.{between_feeds}
 use Rattle.text_lines.specs.Marker.{has_marker, part_of, rest_of}
-use Rattle.fleet_io.specs.Held.{has_whole_marker}
+use Rattle.fleet_io.specs.Held.{buffer_bytes, has_whole_marker}
 
 -- Of the bytes to come, where they are known, this part was taken, with the marker line after it if there is one.
 pub record TakesPart (old new : Option (List ℕ)) (bytes : List ℕ) (is_marked : Bool) : Type 0 where
@@ -17,7 +17,7 @@ TakesMarked old new = (taken : List ℕ) × Consumes old new taken × (has_whole
 
 -- Of what stands after the part and its marker line a source has given at most 4,096 bytes, where both are known.
 abbrev pub TakesFewAfter : Option (List ℕ) → Option (List ℕ) → Type 0
-TakesFewAfter old left = IfSome old (λ all. IfSome left (λ rest. length (rest_of all) ≤ length rest + 4096))
+TakesFewAfter old left = IfSome old (λ all. IfSome left (λ rest. length (rest_of all) ≤ length rest + buffer_bytes))
 
 -- A text in which a marker line stands with its line feed has the same part, whatever comes after it, and what comes
 -- after it comes after its rest.

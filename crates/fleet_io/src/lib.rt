@@ -19,9 +19,9 @@ mod standard;
 mod stream;
 mod sure;
 
-pub use lines::Lines;
+pub use lines::{Lines, hex_digit};
 pub use memory::{MemSink, MemSource};
-pub use parts::{Ask, IoFault, Part, Parts, marker_law, part_law};
+pub use parts::{Ask, BUFFER_BYTES, IoFault, Part, Parts, limits_law, marker_law, part_law};
 pub use short_line::ShortLine;
 pub use standard::{StdSink, StdSource};
 pub use stream::{Failed, Sink, Source, write_whole};

@@ -112,8 +112,8 @@ fn put_word(text: &mut Vec<u8>, w: &[u8]) -> Result<(), AllocError>
     }
 }
 
-// An upper-case hexadecimal digit.
-fn hex_digit(n: u8) -> u8
+/// An upper-case hexadecimal digit.
+pub fn hex_digit(n: u8) -> u8
     requires { n < 16 }
     ensures { result ≡ hex_digit n }
 {

@@ -14,8 +14,8 @@ use crate::stream::{Failed, Source};
 use std::alloc::{AllocError, AllocFailed, Global};
 use std::marker::Model;
 
-// The most bytes that a reader of parts holds.
-const BUFFER_BYTES: usize = 4096;
+/// The most bytes that a reader of parts holds.
+pub const BUFFER_BYTES: usize = 4096;
 
 /// A stretch of the input up to a marker line or the end. The marker line belongs to no part.
 #[derive(Drop)]
@@ -238,7 +238,7 @@ impl Parts {
         ensures to_end { IfOk result (λ part. part.marker ≡ false → IsTrue self.new.ended) }
         ensures asks { ((S.left source.new ≡ S.left source.old) × (S.faults source.new ≡ S.faults source.old)) ⊎ Asked self.old.waiting (S.left source.old) (S.left source.new) }
         ensures patient { has_whole_marker self.old.waiting ≡ true → (S.left source.new ≡ S.left source.old) × (S.faults source.new ≡ S.faults source.old) }
-        ensures few { TakesAtMost (limit + 4 + 4096) (S.left source.old) (S.left source.new) }
+        ensures few { TakesAtMost (limit + 4 + buffer_bytes) (S.left source.old) (S.left source.new) }
         ensures most { length self.new.waiting ≤ buffer_bytes }
     {
         let _ = &self.buf;
@@ -295,7 +295,7 @@ impl Parts {
         ensures most { length self.new.waiting ≤ buffer_bytes }
         // How much it reads: in any case at most 4,096 bytes more than `limit` and a marker line; of what stands after the
         // part and its marker line at most 4,096 bytes; and to the end where no marker line is whole.
-        ensures few { TakesAtMost (limit + 4 + 4096) (S.left source.old) (S.left source.new) }
+        ensures few { TakesAtMost (limit + 4 + buffer_bytes) (S.left source.old) (S.left source.new) }
         ensures after { IfOk result (λ _. TakesFewAfter (stream self.old (S.left source.old)) (S.left source.new)) }
         ensures met { IfOk result (λ _. IfSome (stream self.old (S.left source.old)) (λ all. has_whole_marker all ≡ false → IsTrue self.new.ended)) }
     {
@@ -494,6 +494,11 @@ fn add(bytes: &mut Vec<u8>, start: &mut usize, byte: u8) -> Result<(), AllocErro
     }
     Ok(())
 }
+
+/// A law. A buffer has the bytes that the definitions say.
+pub fn limits_law()
+    ensures buffer { BUFFER_BYTES ≡ buffer_bytes }
+{}
 
 /// A law. What a text whose marker line is whole is cut into doesn't depend on what comes after it.
 pub fn marker_law()

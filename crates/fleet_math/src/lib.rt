@@ -2,7 +2,8 @@
 //!
 //! The functions are exact on 128 bits. The definitions, over whole numbers without a bound, are those that clauses
 //! everywhere cite: sums, powers and bounds, Bernstein sums of control values, where an instant lies in a row of
-//! durations, the exact position of a trajectory there, and when two positions are near. It stands on no other crate.
+//! durations, the exact position of a trajectory there, and when two positions are near. The limits that several crates share
+//! are constants and definitions here. It stands on no other crate.
 #![tactic(auto)]
 
 ghost use Rattle.std.specs.Prelude.{◌≡◌, ◌+◌, ◌<◌, ◌≤◌, ℕ, List, length, All, ℤ, pos, ◌^◌, ◌-ℤ◌, ◌*ℤ◌, ◌<ℤ◌, ◌≤ℤ◌};
@@ -10,16 +11,11 @@ ghost use Rattle.std.specs.Int.{int_max};
 ghost use Rattle.fleet_math.specs.Numbers.{IsBelow};
 ghost use Rattle.fleet_math.specs.Moments.{moment, moment_in, edge};
 ghost use Rattle.fleet_math.specs.Decoded.{Piece, IsPiece, durations, IsSamePosition};
-ghost use Rattle.fleet_math.specs.Limits.{most_cues};
 ghost use Rattle.fleet_math.specs.Near.{NearLaw};
 
-/// How many cues a show has at most.
-pub const MOST_CUES: usize = 1000;
+mod limits;
 
-/// A law: the limits are the numbers of the definitions.
-pub fn limits_law()
-    ensures cues { MOST_CUES ≡ most_cues }
-{}
+pub use limits::{MOST_CUES, MOST_DRONES, MOST_TEXT, limits_law};
 
 /// The floor of a quotient: the greatest whole number whose product with `b` is at most `a`. Rust's `/` rounds toward
 /// 0 instead, which differs where `a` is negative.

@@ -13,6 +13,6 @@ mod schedule;
 mod traffic;
 mod world;
 
-pub use schedule::{MOST_TEXT, Name, ScheduleFault, limits_law, read_schedule, schedule_law};
+pub use schedule::{Name, ScheduleFault, limits_law, read_schedule, schedule_law};
 pub use upload_model::WorldEvent;
 pub use world::World;

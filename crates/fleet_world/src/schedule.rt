@@ -1,6 +1,7 @@
 //! Schedules: what happens in a world, as text, one event a line.
 
 ghost use Rattle.std.specs.Prelude.{◌≡◌, ℕ, Bool, ◌+◌, ◌<◌, ◌≤◌, ◌^◌, List, [], ◌∷◌, ◌++◌, length, map, Some, None, Ok, IfOk, IfErr, OnOk};
+ghost use Rattle.fleet_math.specs.Limits.{most_drones, most_text};
 ghost use Rattle.text_lines.specs.Tokens.{words_in};
 ghost use Rattle.fleet_world.specs.Schedules.{number_of as number_word, place_from, event_with, number_to, alteration_of, event_of, events_of, schedule_of, ScheduleLaw};
 ghost use Rattle.fleet_world.specs.Faults.{FaultGives};
@@ -11,10 +12,7 @@ ghost use Rattle.text_lines.specs.declared.token.Comments.TheVariants.{Absent};
 use arrayvec::ArrayVec;
 use std::alloc::{AllocError, Global};
 use text_lines::{Comments, Token, line_word_count, natural, split_line, tokens, word_at};
-use upload_model::{MOST_DRONES, WorldEvent};
-
-/// The most bytes of a schedule.
-pub const MOST_TEXT: usize = 1_048_576;
+use upload_model::WorldEvent;
 
 /// The most digits of a number in a schedule.
 const MOST_DIGITS: usize = 9;
@@ -29,9 +27,8 @@ const VALUE_DIGITS: usize = 3;
 
 const MOST_VALUE: u16 = 255;
 
-/// A law. The limit of a schedule's text, and of its numbers (docs/RADIO.md, "Schedules").
+/// A law. The limits of the numbers of a schedule (docs/RADIO.md, "Schedules").
 pub fn limits_law()
-    ensures text { MOST_TEXT ≡ 1048576 }
     ensures digits { MOST_DIGITS ≡ 9 }
     ensures address_digits { ADDRESS_DIGITS ≡ 4 }
     ensures address { LAST_ADDRESS ≡ 4095 }
@@ -82,7 +79,7 @@ fn number_of(word: &[u8]) -> Option<u32>
 
 /// The drone of this name, counted from 0: the first place among the names, where it is there.
 pub fn drone_of(names: &[Name], word: &[u8]) -> Option<u8>
-    requires { length names.now ≤ MOST_DRONES }
+    requires { length names.now ≤ most_drones }
     ensures { result ≡ place_from 0 (map (λ name. name.items) names.now) word.now }
 {
     for (drone, name) in names.iter().enumerate() {
@@ -130,7 +127,7 @@ fn number_within(word: &[u8], digits: usize, most: u16) -> Option<u16>
 
 /// The alteration of a line of four words.
 fn alteration(text: &[u8], names: &[Name], words: &[Token]) -> Option<WorldEvent>
-    requires names { length names.now ≤ MOST_DRONES }
+    requires names { length names.now ≤ most_drones }
     requires words { length words.now ≡ 4 }
     ensures { result ≡ alteration_of (map (λ name. name.items) names.now) (words_in text.now words.now) }
 {
@@ -150,7 +147,7 @@ fn alteration(text: &[u8], names: &[Name], words: &[Token]) -> Option<WorldEvent
 /// The event of a line with these words, where it is `tick`, or `take` or `hear` with a name and a number,
 /// or with read-back an alteration (docs/RADIO.md, "Schedules").
 fn event_on(readback: bool, text: &[u8], names: &[Name], words: &[Token]) -> Option<WorldEvent>
-    requires { length names.now ≤ MOST_DRONES }
+    requires { length names.now ≤ most_drones }
     ensures { result ≡ event_of readback (map (λ name. name.items) names.now) (words_in text.now words.now) }
 {
     if words.len() == 1 {
@@ -190,8 +187,8 @@ fn put_line(
     events: &mut Vec<WorldEvent>,
 ) -> Result<(), ScheduleFault>
     requires line { IsLine line.now }
-    requires short { length line.now ≤ MOST_TEXT }
-    requires names { length names.now ≤ MOST_DRONES }
+    requires short { length line.now ≤ most_text }
+    requires names { length names.now ≤ most_drones }
     ensures ok { OnOk result ((later : List (List ℕ)) →
         behind events.new.items (events_of readback (map (λ name. name.items) names.now) (numbered Absent (number + 1) later))
         ≡ behind events.old.items (events_of readback (map (λ name. name.items) names.now) (numbered Absent number (line.now ∷ later)))) }
@@ -222,8 +219,8 @@ pub fn read_schedule(
     text: &[u8],
     names: &[Name],
 ) -> Result<Vec<WorldEvent>, ScheduleFault>
-    requires text { length text.now ≤ MOST_TEXT }
-    requires names { length names.now ≤ MOST_DRONES }
+    requires text { length text.now ≤ most_text }
+    requires names { length names.now ≤ most_drones }
     ensures ok { IfOk result (λ events.
         schedule_of readback (map (λ name. name.items) names.now) text.now ≡ Ok events.items) }
     ensures fault { IfErr result (λ fault.

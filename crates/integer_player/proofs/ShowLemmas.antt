@@ -7,17 +7,13 @@ use Rattle.std.proofs.lemmas.List.{append-nil, take-append-drop}
 use Rattle.std.proofs.lemmas.List.FromFn.{map-range_with_len_more, take-map-range_with_len}
 use Rattle.std.proofs.lemmas.Grind.{flat_map-append}
 use Rattle.fleet_io.specs.Taken.{AppendsFront}
-use Rattle.fleet_io.proofs.SentLemmas.{Appends-append, Appends-nil}
+use Rattle.fleet_io.proofs.SentLemmas.{Appends-append}
 use Rattle.traj_codec.specs.declared.traj.Traj.{Traj}
 use Rattle.integer_player.specs.Places.{Place, IsPlaceIn, ArePlaces}
 use Rattle.integer_player.specs.Played.{played, row, rows_at, play_text}
 use Rattle.integer_player.specs.Steps.{Passes}
 
 -- ---- what goes out
-
--- at first nothing passed
-pub passes-none : (a : Option (List ℕ)) (w : List ℕ) → Passes a w a w []
-passes-none a w = record { sent = []; appended = Appends-nil a; all = append-nil w }
 
 -- what passes in two steps passes in their order
 pub passes-more : (a b c : Option (List ℕ)) (w v u xs ys : List ℕ) → Passes a w b v xs → Passes b v c u ys → Passes a w c u (xs ++ ys)
@@ -54,11 +50,6 @@ places-at [] ps d t0 p0 are below = absurd (omega arith)
 places-at (t ∷ ts) [] d t0 p0 are below = absurd are
 places-at (t ∷ ts) (p ∷ ps) zero t0 p0 are below = are.0
 places-at (t ∷ ts) (p ∷ ps) (suc d) t0 p0 are below = places-at ts ps d t0 p0 are.1 (omega arith)
-
-pub places-many : (ts : List Traj) (ps : List Place) → ArePlaces ts ps → length ts ≤ length ps
-places-many [] ps are = omega arith
-places-many (t ∷ ts) [] are = absurd are
-places-many (t ∷ ts) (p ∷ ps) are = omega (arith, places-many ts ps are.1)
 
 pub places-set : (ts : List Traj) (ps : List Place) (d : ℕ) (t0 : Traj) (p : Place) → ArePlaces ts ps → IsPlaceIn (get_or ts d t0) p → ArePlaces ts (slice_set ps d p)
 places-set [] ps d t0 p are is = tt

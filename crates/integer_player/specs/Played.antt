@@ -8,7 +8,7 @@ use Rattle.fleet_math.specs.Sums.{power}
 use Rattle.fleet_math.specs.Bernstein.{bern}
 use Rattle.fleet_math.specs.Moments.{Moment, moment}
 use Rattle.traj_codec.specs.declared.traj.Traj.{Traj}
-use Rattle.traj_codec.specs.Spelling.{HasDuration}
+use Rattle.traj_codec.specs.Spelling.{HasDuration, most_segments}
 use Rattle.traj_codec.specs.Positions.{decoded, durations}
 use Rattle.integer_player.specs.Floors.{floor_of}
 
@@ -36,7 +36,7 @@ played t ms = played_at t (moment_of t ms)
 -- The trajectory has 1 to 255 segments, and each lasts some time.
 pub record IsPlayable (t : Traj) : Type 0 where
   pub some : 1 ≤ length t.segments
-  pub few : length t.segments ≤ 255
+  pub few : length t.segments ≤ most_segments
   pub lasting : All HasDuration t.segments
 
 -- how long a trajectory lasts, in milliseconds

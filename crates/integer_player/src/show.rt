@@ -14,14 +14,9 @@ use crate::instant::Instant;
 use crate::player::Player;
 use crate::row::put_row;
 use arrayvec::ArrayVec;
-use fleet_io::{Failed, ShortLine, Sink, write_whole};
+use fleet_io::{BUFFER_BYTES, Failed, ShortLine, Sink, write_whole};
+use fleet_math::MOST_DRONES;
 use traj_codec::Traj;
-
-// The most drones of a show.
-const MOST_DRONES: usize = 32;
-
-// The most bytes of rows that wait to be written.
-const BUFFER_BYTES: usize = 4096;
 
 // The most bytes of a row.
 const LINE_BYTES: usize = 160;
@@ -108,7 +103,7 @@ pub fn play<K: Sink>(
     sink: &mut K,
 ) -> Result<(), Failed>
     requires some { 1 ≤ step }
-    requires few { length trajs.now ≤ 32 }
+    requires few { length trajs.now ≤ MOST_DRONES }
     requires each { length names.now ≡ length trajs.now }
     requires words { All (λ name. IsWord name.items) names.now }
     requires playable { All IsPlayable trajs.now }

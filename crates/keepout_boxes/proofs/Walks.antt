@@ -24,7 +24,7 @@ use Rattle.keepout_boxes.specs.declared.region.Region.{Region}
 use Rattle.keepout_boxes.specs.declared.region.Region.TheVariants.{Keepout, Volume}
 use Rattle.keepout_boxes.specs.Kept.{AllAbove, AllBelow, IsKept, extent, part_of}
 use Rattle.fleet_curves.specs.Raised.{Raised, curves_at}
-use Rattle.keepout_boxes.specs.Steps.{AllKeptIn, CueKept, IsFirstIn, IsFirstOfCue, IsIndex, KeptHere, KeptIn, values_of}
+use Rattle.keepout_boxes.specs.Steps.{AllKeptIn, CueKept, IsFirstIn, IsFirstOfCue, KeptHere, KeptIn, values_of}
 use Rattle.sep_parts.proofs.PartBounds.{part-at_least, part-at_most, part-half}
 use Rattle.keepout_boxes.proofs.Hulls.{less_scaled, more_scaled}
 
@@ -178,10 +178,6 @@ answer_right r h region curves left right scale next n depth parts None (Some i)
     subst (λ (o : Option ℕ). MatchOption o (AllKeptIn r h region curves scale depth) (IsFirstIn r h region curves scale depth)) (sym answer_is)
     (subst (λ (m : ℕ). IsFirstIn r h region curves scale m (parts + i)) (sym deep)
     (subst (λ (p : ℕ). IsFirstIn r h region curves scale (suc n) (p + i)) (sym parts_are) (first_right r h region curves left right scale next n i left_is right_is next_is one other)))
-
-pub index_below : (r h : ℕ) (region : Region) (curves : List (Bez 8)) (scale : ℤ) (n parts : ℕ) (o : Option ℕ) → parts ≡ 2 ^ n → MatchOption o (AllKeptIn r h region curves scale n) (IsFirstIn r h region curves scale n) → IsIndex o parts
-index_below r h region curves scale n parts None are found = tt
-index_below r h region curves scale n parts (Some i) are found = rw are found.inside
 
 -- ---- sizes
 -- what bounds the control values of each curve bounds those of one

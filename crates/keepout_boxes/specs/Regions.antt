@@ -11,10 +11,6 @@ use Rattle.keepout_boxes.specs.declared.reading.RegionFault.{RegionFault}
 use Rattle.keepout_boxes.specs.declared.reading.RegionFault.TheVariants.{Line, Memory}
 use Rattle.keepout_boxes.specs.Kept.{farthest, most_regions}
 
--- how many bytes a text of regions has at most
-abbrev pub most_text : ℕ
-most_text = 1048576
-
 -- the number, if there is one
 abbrev pub number_if : {E : Type 0} → Result ℤ E → Option ℤ
 number_if (Ok n) = Some n

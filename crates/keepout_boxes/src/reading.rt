@@ -3,7 +3,8 @@
 ghost use Rattle.std.specs.Prelude.{◌≡◌, ℕ, ◌+◌, ◌<◌, ◌≤◌, ◌^◌, List, [], ◌∷◌, ◌++◌, length, Some, None, Ok, IfOk, IfErr, IfSome, OnOk, All, ℤ};
 ghost use Rattle.text_lines.specs.Tokens.{words_in};
 ghost use Rattle.keepout_boxes.specs.Kept.{AreEnds, IsNear, most_regions};
-ghost use Rattle.keepout_boxes.specs.Regions.{FaultGives, are_ordered as ordered_ends, coordinate as coordinate_word, corner as corner_words, most_text, region_of, region_with as region_of_kind, regions_of};
+ghost use Rattle.fleet_math.specs.Limits.{most_text};
+ghost use Rattle.keepout_boxes.specs.Regions.{FaultGives, are_ordered as ordered_ends, coordinate as coordinate_word, corner as corner_words, region_of, region_with as region_of_kind, regions_of};
 ghost use Rattle.keepout_boxes.specs.Steps.{IsCoordinate};
 
 use crate::region::Region;

@@ -76,12 +76,6 @@ by_kind byte false false first second is = absurd (cc)
 fed_none : (byte : ℕ) → fed [] byte ≡ fed_kind byte
 fed_none byte = refl
 
-fed_one : (k byte : ℕ) → fed (k ∷ []) byte ≡ cond (nat_le 1 byte && nat_le byte 32) fed_is.More (fed_is.Bad Drone)
-fed_one k byte = refl
-
-fed_two : (k d byte : ℕ) → fed (k ∷ d ∷ []) byte ≡ cond (nat_le 1 byte && nat_le byte 31) fed_is.More (fed_is.Bad Length)
-fed_two k d byte = refl
-
 differ : (m n : ℕ) → n < m → (m == n) ≡ false
 differ m n above = grind (arith, nat_tests)
 

@@ -1,6 +1,7 @@
 -- The frames of a link as bytes, and which frames a list of bytes is (docs/RADIO.md, "Link frames").
 use Rattle.std.specs.Prelude.{◌≡◌, ℕ, ◌+◌, ◌≤◌, ◌&&◌, nat_lt, nat_le, ◌==◌, if◌then◌else◌, List, [], ◌∷◌, ◌++◌, length, drop, slice_index}
 use Rattle.std.specs.List.{flat_map, All}
+use Rattle.fleet_math.specs.Limits.{most_drones}
 use Rattle.link_frames.specs.declared.frame.Frame.{Frame}
 use Rattle.link_frames.specs.declared.frame.Frame.TheVariants as frame
 use Rattle.link_frames.specs.declared.frame.View.{View}
@@ -22,10 +23,6 @@ packet_byte = 0x50
 abbrev pub end_byte : ℕ
 end_byte = 0x45
 
--- drones count from 1 to this in frames
-abbrev pub most_drones : ℕ
-most_drones = 32
-
 -- a packet has at most this many bytes
 abbrev pub most_bytes : ℕ
 most_bytes = 31
@@ -39,7 +36,7 @@ frame_bytes (frame.Packet drone packet) = packet_byte ∷ drone ∷ length packe
 abbrev pub end_frame : ℕ → List ℕ
 end_frame status = end_byte ∷ status ∷ []
 
--- a frame that may stand on a link: a drone from 1 to 32, a packet of 1 to 31 bytes
+-- a frame that may stand on a link: a drone, counted from 1, a packet of 1 to 31 bytes
 abbrev pub IsFrame : Frame → Type 0
 IsFrame frame.Tick = Unit {0}
 IsFrame (frame.Packet drone packet) = (1 ≤ drone) × (drone ≤ most_drones) × (1 ≤ length packet) × (length packet ≤ most_bytes)

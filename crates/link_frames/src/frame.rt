@@ -1,11 +1,13 @@
 //! A frame, what a byte of one gives, and how a frame is written.
 
 ghost use Rattle.std.specs.Prelude.{◌≡◌, ℕ, ◌+◌, ◌≤◌, List, [], ◌∷◌, ◌++◌, length, IfSome, IfNone};
-ghost use Rattle.link_frames.specs.Frames.{BeginsNoFrame, BeginsWithFrame, IsFrame, frame_bytes, frame_of, most_drones, packet_byte};
+ghost use Rattle.fleet_math.specs.Limits.{most_drones};
+ghost use Rattle.link_frames.specs.Frames.{BeginsNoFrame, BeginsWithFrame, IsFrame, frame_bytes, frame_of, packet_byte};
 ghost use Rattle.link_frames.specs.declared.frame.Frame.TheVariants as frame;
 
 use arrayvec::ArrayVec;
 use crtp_packets::{PACKET_BYTES, Packet};
+use fleet_math::MOST_DRONES;
 
 /// The one byte of a tick, `T`.
 pub const TICK_BYTE: u8 = 0x54;
@@ -15,9 +17,6 @@ pub const PACKET_BYTE: u8 = 0x50;
 
 /// The first byte of the end frame, `E`, which goes out last. A status follows. It never comes in.
 pub const END_BYTE: u8 = 0x45;
-
-/// The greatest number of a drone in a frame, where drones count from 1.
-pub const MOST_DRONES: u8 = 32;
 
 /// The most bytes of a frame: three, and a packet of 31.
 pub const FRAME_BYTES: usize = 34;
@@ -102,7 +101,12 @@ fn whole_packet(rest: &[u8]) -> Option<View<'_>>
     }
     let drone = rest[0];
     let len = usize::from(rest[1]);
-    if drone < 1 || drone > MOST_DRONES || len < 1 || len > PACKET_BYTES || len > rest.len() - 2 {
+    if drone < 1
+        || drone > MOST_DRONES as u8
+        || len < 1
+        || len > PACKET_BYTES
+        || len > rest.len() - 2
+    {
         return None;
     }
     let packet = &rest[2..2 + len];

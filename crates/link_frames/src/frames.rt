@@ -3,9 +3,10 @@
 ghost use Rattle.std.specs.Prelude.{◌≡◌, ◌<◌, ◌==◌, [], ◌∷◌, ◌++◌, length};
 ghost use Rattle.link_frames.specs.Frames.{IsBegun, fed, fed_packet, next_begun};
 
-use crate::frame::{FRAME_BYTES, Fed, Frame, FrameFault, MOST_DRONES, PACKET_BYTE, TICK_BYTE};
+use crate::frame::{FRAME_BYTES, Fed, Frame, FrameFault, PACKET_BYTE, TICK_BYTE};
 use arrayvec::ArrayVec;
 use crtp_packets::{PACKET_BYTES, Packet, from_bytes};
+use fleet_math::MOST_DRONES;
 use std::marker::Model;
 
 /// Reads frames from bytes, one byte at a time. Contracts see the bytes since the last whole frame.
@@ -95,7 +96,7 @@ fn fed_by(begun: &[u8], byte: u8) -> Fed
                 why: FrameFault::Kind,
             },
         },
-        1 if byte >= 1 && byte <= MOST_DRONES => Fed::More,
+        1 if byte >= 1 && byte <= MOST_DRONES as u8 => Fed::More,
         1 => Fed::Bad {
             why: FrameFault::Drone,
         },

@@ -3,8 +3,8 @@
 //!
 //! A [`Frames`] is fed one byte after the other and tells when a frame is whole, or that a byte has no place; `whole_frame`
 //! reads the frame that given bytes begin with, all at once; `put_frame` gives the one spelling of a packet's frame. What a frame's bytes are is said by `specs/Frames.antt`; `frame_law` says
-//! that bytes are read as one list of frames alone, however they are cut. The crate stands on `crtp_packets` for packets
-//! and on `arrayvec`; none of its calls takes memory.
+//! that bytes are read as one list of frames alone, however they are cut. The crate stands on `crtp_packets` for packets,
+//! on `fleet_math` for the number of drones, and on `arrayvec`; none of its calls takes memory.
 #![tactic(auto)]
 
 ghost use Rattle.link_frames.specs.Frames.{FrameLaw};
@@ -13,8 +13,8 @@ mod frame;
 mod frames;
 
 pub use frame::{
-    END_BYTE, FRAME_BYTES, Fed, Frame, FrameFault, MOST_DRONES, PACKET_BYTE, TICK_BYTE, View,
-    put_frame, whole_frame,
+    END_BYTE, FRAME_BYTES, Fed, Frame, FrameFault, PACKET_BYTE, TICK_BYTE, View, put_frame,
+    whole_frame,
 };
 pub use frames::Frames;
 

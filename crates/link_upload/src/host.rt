@@ -1,6 +1,7 @@
 //! The host of an upload, as a link sees it.
 
 ghost use Rattle.std.specs.Prelude.{◌≡◌, ◌<◌, ◌≤◌, ◌++◌, ℕ, List, [], ◌∷◌, length, All, Contains, IfSome, None};
+ghost use Rattle.fleet_math.specs.Limits.{most_drones};
 ghost use Rattle.upload_model.specs.declared.events.Event.{Event};
 ghost use Rattle.upload_core.specs.HostStandsFor.{HostStandsFor};
 ghost use Rattle.upload_core.specs.HostState.{IsPacketOf, view_of};
@@ -38,7 +39,7 @@ fn status(progress: Progress) -> Option<u8>
 // How many drones a host has, 1 to 32; so its upload goes on before any event.
 pub fn drone_count(host: &Host) -> usize
     ensures value { result ≡ (link_of host.now.session).drones }
-    ensures few { result ≤ 32 }
+    ensures few { result ≤ most_drones }
     ensures going { (link_of host.now.session).ended [] ≡ None }
 {
     host.session().drones()
@@ -48,7 +49,7 @@ pub fn drone_count(host: &Host) -> usize
 pub fn packet_of(host: &Host, x: Sent) -> Packet
     requires { IsPacketOf host.now.session x }
     ensures value { result ≡ (link_of host.now.session).packet x.drone x.packet }
-    ensures drone { x.drone < 32 }
+    ensures drone { x.drone < most_drones }
 {
     let _drones = host.session().drones();
     host.session()

@@ -1,7 +1,7 @@
 //! Lines on the command, a show, an upload, or a text as a whole.
 
 ghost use Rattle.std.specs.Prelude.{◌≡◌, ◌≤◌, ◌<◌, ◌^◌, [], ◌∷◌, length};
-ghost use Rattle.fleet_io.specs.Words.{IsWord, hex_digit, hex_word};
+ghost use Rattle.fleet_io.specs.Words.{IsWord, hex_word};
 ghost use Rattle.sep_parts.specs.Versions.{IsVersion, head_count};
 ghost use Rattle.refusals.specs.Lines.{refusal, usage_line, too_large_line, show_line, faulty_line, grid_line, range_line, room_line, read_line, ended_line, gave_up_line, refused_line, differs_line, second_line, second_too_large_line, segments_line, extra_line};
 
@@ -9,7 +9,7 @@ use crate::builder::begin;
 use crate::kinds::{axis_word, kind_word, line_and_word};
 use choreo_reader::{LineKind, Name};
 use cue_grid::GridFault;
-use fleet_io::ShortLine;
+use fleet_io::{ShortLine, hex_digit};
 
 // `error 2 usage`: the words of the command aren't those of a command.
 pub(crate) fn usage_line() -> ShortLine
@@ -149,14 +149,6 @@ pub(crate) fn refused_line(name: &Name, packet: u16, status: u8) -> ShortLine
     text.number(u32::from(status));
     text.end();
     text
-}
-
-// An upper-case hexadecimal digit.
-fn hex_digit(n: u8) -> u8
-    requires { n < 16 }
-    ensures { result ≡ hex_digit n }
-{
-    if n < 10 { b'0' + n } else { b'A' - 10 + n }
 }
 
 // A byte in two digits.

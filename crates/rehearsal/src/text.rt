@@ -4,7 +4,7 @@ ghost use Rattle.std.specs.Prelude.{◌≡◌, ℕ, ◌+◌, ◌*◌, ◌<◌, �
 ghost use Rattle.std.specs.Fmt.{signed_decimal};
 ghost use Rattle.fleet_math.specs.Bernstein.{at};
 ghost use Rattle.firmware_memory.specs.Shown.{shown};
-ghost use Rattle.fleet_io.specs.Words.{is_line_empty, with_word, hex_digit, IsWord};
+ghost use Rattle.fleet_io.specs.Words.{is_line_empty, with_word, IsWord};
 ghost use Rattle.traj_codec.specs.declared.traj.Traj.{Traj};
 ghost use Rattle.fleet_world.specs.WorldState.{state_at};
 ghost use Rattle.firmware_memory.specs.Decoded.{last_value};
@@ -12,7 +12,7 @@ ghost use Rattle.rehearsal.specs.Texts.{title_line, name_line, address_word, mem
 ghost use Rattle.rehearsal.specs.Texts.{entry_line, entry_lines, started_word, started_line, ends_line, ending_line, drone_text, IsFound, IsRehearsalText};
 
 use firmware_memory::{Def, Drone, MEMORY_BYTES, TABLE_ENTRIES, curve_of};
-use fleet_io::Lines;
+use fleet_io::{Lines, hex_digit};
 use fleet_world::{Name, World};
 use integer_player::last_values;
 use std::alloc::{AllocError, Global};
@@ -48,13 +48,6 @@ fn put_name(text: &mut Lines, name: &[u8]) -> Result<(), AllocError>
     text.word(b"memory")?;
     text.word(name)?;
     text.end()
-}
-
-fn hex_digit(n: u8) -> u8
-    requires { n < 16 }
-    ensures { result ≡ hex_digit n }
-{
-    if n < 10 { b'0' + n } else { b'A' - 10 + n }
 }
 
 fn address_word(address: u16) -> [u8; 4]

@@ -1,5 +1,5 @@
 -- One leaf: a separated part is apart at each of its instants.
-use Rattle.std.proofs.Common.{◌≡◌, ℕ, zero, suc, ◌+◌, ◌*◌, ◌^◌, ℤ, pos, ◌+ℤ◌, ◌-ℤ◌, ◌*ℤ◌, ◌≤ℤ◌, ◌<ℤ◌, arith, refl, sym, ◌∙◌, ap, List}
+use Rattle.std.proofs.Common.{◌≡◌, ℕ, zero, suc, ◌+◌, ◌*◌, ◌^◌, ℤ, pos, ◌+ℤ◌, ◌-ℤ◌, ◌*ℤ◌, ◌≤ℤ◌, ◌<ℤ◌, arith, refl, sym, ◌∙◌, ap}
 use Rattle.fleet_math.specs.Sums.{power}
 use Rattle.fleet_math.specs.Bernstein.{bernstein}
 use Rattle.fleet_math.proofs.RingLemmas.{ring, linear, le_from_mul_ℤ, one_mul_ℤ, add_mul_ℤ}
@@ -10,12 +10,7 @@ use Rattle.std.proofs.lemmas.Nat.{pow-add, pow_pos}
 use Rattle.bezier_core.proofs.CurveLemmas.{linear_sum}
 use Rattle.halving.specs.Part.{part_value}
 use Rattle.halving.proofs.PolarLemmas.{bernstein-blossom}
-use Rattle.halving.specs.declared.Place.{Place}
-use Rattle.bezier_core.specs.declared.Bez.{Bez}
-use Rattle.sep_parts.specs.declared.clearance.Clearance.{Clearance}
-use Rattle.sep_parts.specs.Directions.{AreSmall, threshold}
-use Rattle.sep_parts.specs.Separates.{Separates}
-use Rattle.sep_parts.proofs.Directed.{Cue, Direction, IsSeparatedBy, IsSeenRaised, along_part, cue_of, direction}
+use Rattle.sep_parts.proofs.Directed.{Cue, Direction, IsSeparatedBy, along_part}
 
 -- scaling both numbers scales the sum
 scale_ring : (x p a u f g : ℤ) → (x *ℤ u) *ℤ (p *ℤ f) +ℤ (x *ℤ a) *ℤ (p *ℤ g) ≡ (x *ℤ p) *ℤ (u *ℤ f +ℤ a *ℤ g)
@@ -87,13 +82,3 @@ along_instant d n r h t e m a c some from to separates =
 
     two_positive : (e : ℕ) → pos 0 <ℤ pos (2 ^ e)
     two_positive e = omega (arith, linear, pow_pos e)
-
--- One leaf: where a direction separates a place, along it the drones are at least its threshold apart at each instant of the place.
-pub leaf_seen : (clear : Clearance) (diff : List (Bez 8)) (place : Place) (n : List ℤ) (a c : ℤ) → pos 1 ≤ℤ c →
-    (pos place.index *ℤ c) ≤ℤ (pos (2 ^ place.depth) *ℤ a) → (pos (2 ^ place.depth) *ℤ a) ≤ℤ (pos (place.index + 1) *ℤ c) →
-    AreSmall n → Separates clear diff place n → IsSeenRaised clear (cue_of diff) a c
-leaf_seen clear diff place n a c some from to small separates = record {
-  n = n;
-  small = small;
-  along = along_instant (cue_of diff) (direction n) clear.r clear.h (threshold clear n) place.depth place.index a c some from to (record { values = separates });
-}

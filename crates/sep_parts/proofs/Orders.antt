@@ -92,11 +92,6 @@ next_ahead drones cues s rest from = go from.n from.cues_left from.rest_is
     go zero left is = absurd (omega (arith, left, from.is_slot.cue))
     go (suc n) left is = (behind n from.m from.k cues s, is, next_cue drones cues s n from.m from.k from.is_slot left from.pairs_left from.drones_left)
 
--- ---- what is still to come
-pub none_ahead : (drones cues : ℕ) (s : Slot) (rest : List Slot) → drones ≤ s.b → IsAhead drones cues s rest → rest ≡ []
-none_ahead drones cues s rest past (inl from) = absurd (omega (arith, from.is_slot.second))
-none_ahead drones cues s rest past (inr over) = over.1
-
 pub some_ahead : (drones cues : ℕ) (s : Slot) (rest : List Slot) → s.b < drones → IsAhead drones cues s rest → IsFrom drones cues s rest
 some_ahead drones cues s rest here (inl from) = from
 some_ahead drones cues s rest here (inr over) = absurd (omega (arith, over.0))

@@ -7,10 +7,6 @@ use Rattle.sep_parts.specs.declared.node.Node.TheVariants.{Split, Leaf}
 use Rattle.sep_parts.specs.Trees.{Tree, only_tree, preorder, spelled_tree, spelled_trees, split_before}
 use Rattle.sep_parts.specs.Trees.Tree.{leaf, split}
 
-map_twice : {X Y Z : Type 0} (f : Y → Z) (g : X → Y) (o : Option X) → option_map f (option_map g o) ≡ option_map (λ x. f (g x)) o
-map_twice f g None = refl
-map_twice f g (Some x) = refl
-
 both_before : (left right : Tree) (o : Option (List Tree)) →
     option_flatten (option_map split_before (option_map (λ trees. left ∷ trees) (option_map (λ trees. right ∷ trees) o))) ≡ option_map (λ trees. split left right ∷ trees) o
 both_before left right None = refl

@@ -14,8 +14,7 @@ pub struct Slot {
 }
 
 impl Slot {
-    ghost use Rattle.fleet_math.specs.Limits.{most_cues};
-    ghost use Rattle.fleet_curves.specs.Raised.{most_drones};
+    ghost use Rattle.fleet_math.specs.Limits.{most_cues, most_drones};
     ghost use Rattle.sep_parts.specs.Slots.{IsSlot, following};
 
     /// The first pair and cue.

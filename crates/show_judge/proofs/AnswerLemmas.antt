@@ -28,7 +28,8 @@ use Rattle.show_judge.specs.Outcome.{IsOutcomeOf, IsSafe, IsVerb, ShowGives, ref
 use Rattle.show_judge.specs.Verb.{FliesApart, Outcome, Verb}
 use Rattle.choreo_reader.specs.declared.show.Settings.{Settings}
 use Rattle.show_judge.specs.Refused.{IsOfInput, blocked_by, show_refusal}
-use Rattle.show_judge.specs.Shows.{Cut, cut_of, nodes_of, sent_of, show_limit}
+use Rattle.fleet_math.specs.Limits.{most_text}
+use Rattle.show_judge.specs.Shows.{Cut, cut_of, nodes_of, sent_of}
 
 -- a refusal has no status 0
 pub refused_some : (r : Refusal) → status_of r ≡ 0 → ⊥
@@ -70,7 +71,7 @@ pub plain_outcome : (c : Verb) (cut : Cut) (r : Refusal) → c.ways.by_frames �
 plain_outcome c cut r plain is = subst (IsOutcomeOf c cut) (said_plain c r plain) (refused_outcome c cut r is)
 
 -- what a show gives that nothing refuses
-comes_to : (c : Verb) (cut : Cut) (s : PlainShow) (o : Outcome) → length cut.show ≤ show_limit → StandsFor cut.show s → show_refusal c.ways cut s ≡ None → c.gives s cut o → IsOutcomeOf c cut o
+comes_to : (c : Verb) (cut : Cut) (s : PlainShow) (o : Outcome) → length cut.show ≤ most_text → StandsFor cut.show s → show_refusal c.ways cut s ≡ None → c.gives s cut o → IsOutcomeOf c cut o
 comes_to c cut s o short stands none gives =
     inr (record { s = s; short = short; stands = stands; gives = subst (λ (r : Option Refusal). ShowGives c r s cut o) (sym none) gives })
 
@@ -228,7 +229,7 @@ judges_text c depth left after text j alone read gives ends = record { gives = s
     whole_of (judged.Refused r) ends = tt
 
 -- what is accepted of a text lands
-pub accepted_lands : (c : Ways) (depth : ℕ) (text : Text) (a : Accepted) → IsWholeText text → IsWithin show_limit text → ((cut : Cut) → IsShowText text cut → IsAccepted c depth cut a) →
+pub accepted_lands : (c : Ways) (depth : ℕ) (text : Text) (a : Accepted) → IsWholeText text → IsWithin most_text text → ((cut : Cut) → IsShowText text cut → IsAccepted c depth cut a) →
     (g : Grid) × Lands g a.fitted.settings a.fitted.sent
 accepted_lands c depth TooLarge a whole short accepted = absurd whole
 accepted_lands c depth (Whole part) a whole short accepted =

@@ -13,7 +13,7 @@ use Rattle.show_judge.specs.Answers.{AnswersInput, Responds}
 use Rattle.show_judge.specs.Input.{IsReadBoth, TakesOneText}
 use Rattle.text_lines.specs.Marker.{part_of}
 use Rattle.show_judge.specs.declared.ways.Ways.{Ways}
-use Rattle.show_judge.specs.Shows.{show_limit}
+use Rattle.fleet_math.specs.Limits.{most_text}
 use Rattle.show_judge.specs.Runs.{Behaves}
 use Rattle.show_judge.specs.Verb.{IsAny, IsTwo, Outcome, Run, Verb, of_show, outcome}
 use Rattle.show_judge.specs.Outcome.{IsVerb}
@@ -85,7 +85,7 @@ wants depth limit v is alone = let e : true ≡ false = sym (ap (λ (w : Ways). 
 pub two_behaves : ShowLaw → (depth : Option ℕ) (limit : ℕ) (v : Verb) (r : Run) (result : Result Answer Failure) (status : ℕ) → IsVerb v → IsTwo depth limit v → AnswersInput v r.left r.left_after result →
     Responds result r.written r.written_after r.writes_failed r.writes_failed_after status → (result ≡ Err Read → Rose r.reads_failed r.reads_failed_after) →
     TakesFront r.left r.left_after → r.reads_failed ≤ r.reads_failed_after →
-    (IfSome r.left (λ all. show_limit < length (part_of all)) → TakesOneText r.left r.left_after) → IfOk result (λ _. IsReadBoth limit r.left r.left_after) → Behaves v r status
+    (IfSome r.left (λ all. most_text < length (part_of all)) → TakesOneText r.left r.left_after) → IfOk result (λ _. IsReadBoth limit r.left r.left_after) → Behaves v r status
 two_behaves law depth limit v r result status is two answers wrote failed taken later few both =
     let runs = runs_answer v r result status (two_plain depth limit v two) (outcomes law v is) answers wrote failed taken later in
     record {

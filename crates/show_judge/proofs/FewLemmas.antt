@@ -10,7 +10,7 @@ use Rattle.text_lines.specs.Marker.{ended as ended_lines}
 use Rattle.fleet_io.specs.Held.{Held, stream}
 use Rattle.fleet_io.specs.Parts.{TakesFewAfter}
 use Rattle.fleet_io.specs.Taken.{TakesAtMost}
-use Rattle.show_judge.specs.Shows.{show_limit}
+use Rattle.fleet_math.specs.Limits.{most_text}
 
 -- where nothing waits the bytes to come are those of the source
 pub stream_new : (held : Held) (left : Option (List ℕ)) → held.waiting ≡ [] → stream held left ≡ left
@@ -67,7 +67,7 @@ apart_text text = by (has_marker (between_feeds text)) refl
     by false is = inl refl
 
 -- where a show's text is too long, at most 4,096 bytes after its marker line were taken
-pub few_after_long : (old new : Option (List ℕ)) → IfSome old (λ all. show_limit < length (part_of all)) → TakesAtMost (show_limit + 4 + 4096) old new → TakesFewAfter old new
+pub few_after_long : (old new : Option (List ℕ)) → IfSome old (λ all. most_text < length (part_of all)) → TakesAtMost (most_text + 4 + 4096) old new → TakesFewAfter old new
 few_after_long None new long few = tt
 few_after_long (Some all) None long few = tt
 few_after_long (Some all) (Some rest) long few = elim (apart_text all) [

@@ -20,7 +20,8 @@ use Rattle.show_judge.specs.declared.judging.Planned.{Planned}
 use Rattle.show_judge.specs.declared.judging.Planned.TheVariants as planned
 use Rattle.show_judge.specs.Answers.{Fits, JudgedGives, PlanGives}
 use Rattle.show_judge.specs.Refused.{blocked_by, show_refusal}
-use Rattle.show_judge.specs.Shows.{Cut, sent_of, show_limit}
+use Rattle.fleet_math.specs.Limits.{most_text}
+use Rattle.show_judge.specs.Shows.{Cut, sent_of}
 use Rattle.show_judge.specs.Steps.{FitsAs, Separated, ShowPlanned}
 
 -- the input that is cut after a show's text
@@ -48,7 +49,7 @@ fits_as law c cut s f left is up near = record {
 }
 
 -- what becomes of a show is what becomes of its text
-pub plan_of_text : (c : Ways) (cut : Cut) (s : PlainShow) (result : Result Planned AllocError) → length cut.show ≤ show_limit → StandsFor cut.show s →
+pub plan_of_text : (c : Ways) (cut : Cut) (s : PlainShow) (result : Result Planned AllocError) → length cut.show ≤ most_text → StandsFor cut.show s →
     IfOk result (ShowPlanned c cut s) → IfOk result (PlanGives c cut)
 plan_of_text c cut s (Err e) short stands is = tt
 plan_of_text c cut s (Ok (planned.Fits f)) short stands is =

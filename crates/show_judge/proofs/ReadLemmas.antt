@@ -12,7 +12,7 @@ use Rattle.show_judge.specs.declared.input.Text.TheVariants.{TooLarge, Whole}
 use Rattle.text_lines.specs.Lines.{between_feeds}
 use Rattle.show_judge.specs.declared.input.Input.{Input}
 use Rattle.show_judge.specs.Input.{GoesOn, IsNextText, IsReadBoth, IsText, IsUnmarked, IsWholeText, ReadsTwo, TakesOneText}
-use Rattle.show_judge.specs.Shows.{show_limit}
+use Rattle.fleet_math.specs.Limits.{most_text}
 use Rattle.show_judge.specs.Verb.{IsJudged}
 
 -- where an answer was judged, it is there
@@ -31,7 +31,7 @@ pub two_read : (limit : ℕ) (left after : Option (List ℕ)) (input : Input) �
 two_read limit None after input reads past = tt
 two_read limit (Some all) after input reads past = λ short second.
     let marked = has_marker (between_feeds (rest_of all)) in
-    let whole : IsWholeText input.show = is_whole show_limit input.show (part_of all) (has_marker (between_feeds all)) reads.texts.show short in (
+    let whole : IsWholeText input.show = is_whole most_text input.show (part_of all) (has_marker (between_feeds all)) reads.texts.show short in (
       λ unmarked. reads.whole whole (is_unmarked limit input.second (part_of (rest_of all)) marked (reads.texts.second whole) second unmarked),
       past whole (is_whole limit input.second (part_of (rest_of all)) marked (reads.texts.second whole) second),
     )
@@ -56,8 +56,8 @@ takes_nothing None most = tt
 takes_nothing (Some x) most = omega arith
 
 -- after a show's text that is too long nothing is taken
-pub little_two : (left mid after : Option (List ℕ)) (show : Text) → IsNextText show_limit show left → TakesOneText left mid → ((IsWholeText show → ⊥) → after ≡ mid) →
-    IfSome left (λ all. show_limit < length (part_of all)) → TakesOneText left after
+pub little_two : (left mid after : Option (List ℕ)) (show : Text) → IsNextText most_text show left → TakesOneText left mid → ((IsWholeText show → ⊥) → after ≡ mid) →
+    IfSome left (λ all. most_text < length (part_of all)) → TakesOneText left after
 little_two None mid after show text few stays long = tt
 little_two (Some all) mid after TooLarge text few stays long = subst (TakesOneText (Some all)) (sym (stays (λ whole. whole))) few
 little_two (Some all) mid after (Whole part) text few stays long = absurd (omega (arith, text.2, long))

@@ -10,7 +10,8 @@ use Rattle.choreo_reader.specs.Plain.{PlainShow}
 use Rattle.refusals.specs.declared.refusal.Refusal.{Refusal}
 use Rattle.show_judge.specs.Outcome.{IsComplete, IsOutcomeOf, IsVerb, OutcomeLaw, ShowGives, said}
 use Rattle.show_judge.specs.Refused.{faulty, show_refusal, text_refusal}
-use Rattle.show_judge.specs.Shows.{Cut, show_limit}
+use Rattle.fleet_math.specs.Limits.{most_text}
+use Rattle.show_judge.specs.Shows.{Cut}
 use Rattle.show_judge.specs.Verb.{Outcome, Verb}
 use Rattle.show_judge.proofs.TextLemmas.{none_said, stands_unrefused}
 
@@ -57,7 +58,7 @@ some_there show v is cut known = by_refusal (text_refusal cut.show) refl
     by_refusal : (r : Option Refusal) → text_refusal cut.show ≡ r → (o : Outcome) × IsOutcomeOf v cut o
     by_refusal (Some r) e = (said v r, inl (ap (option_map (said v)) e))
     by_refusal None e =
-        let parts = within_limit show_limit (length cut.show) _ _ e in
+        let parts = within_limit most_text (length cut.show) _ _ e in
         let found = (show.faultless cut.show).1 (none_mapped faulty (fault cut.show) parts.1) in
         let given = show_some v is (show_refusal v.ways cut found.0) found.0 cut (λ none. known found.0 found.1 none) in
         (given.0, inr (record { s = found.0; short = parts.0; stands = found.1; gives = given.1 }))

@@ -28,7 +28,8 @@ use Rattle.show_judge.specs.declared.judging.Judged.{Judged}
 use Rattle.show_judge.specs.declared.judging.Judged.TheVariants as judged
 use Rattle.show_judge.specs.declared.judging.Planned.{Planned}
 use Rattle.show_judge.specs.declared.judging.Planned.TheVariants as planned
-use Rattle.show_judge.specs.Shows.{Cut, cut_of, nodes_of, sent_of, show_limit}
+use Rattle.fleet_math.specs.Limits.{most_text}
+use Rattle.show_judge.specs.Shows.{Cut, cut_of, nodes_of, sent_of}
 use Rattle.show_judge.specs.Refused.{IsOfInput, blocked_by, show_refusal, text_refusal}
 use Rattle.show_judge.specs.Input.{AreTexts, IsReadWhole, IsShowText, IsUnmarked, IsWholeText}
 use Rattle.show_judge.specs.Outcome.{IsOutcomeOf, IsSafe, refused}
@@ -57,12 +58,12 @@ IsSaid (Refused r) = IsOfInput r
 -- a command refuses the show's text of an input that is cut so
 abbrev pub IsRefusedBy : Ways → Cut → Refusal → Type 0
 IsRefusedBy c cut r =
-    (text_refusal cut.show ≡ Some r) ⊎ ((s : PlainShow) × (length cut.show ≤ show_limit) × StandsFor cut.show s × (show_refusal c cut s ≡ Some r))
+    (text_refusal cut.show ≡ Some r) ⊎ ((s : PlainShow) × (length cut.show ≤ most_text) × StandsFor cut.show s × (show_refusal c cut s ≡ Some r))
 
 -- The show's text stands for a show that fits, as which it is given, and of which nothing is left to refuse but that two drones aren't kept apart.
 pub record Fits (c : Ways) (cut : Cut) (f : Fitted) : Type 0 where
   pub s : PlainShow
-  pub short : length cut.show ≤ show_limit
+  pub short : length cut.show ≤ most_text
   pub stands : StandsFor cut.show s
   pub left : show_refusal c cut s ≡ blocked_by c.depth s
   pub fitted : IsFitted f s
@@ -73,7 +74,7 @@ pub record Fits (c : Ways) (cut : Cut) (f : Fitted) : Type 0 where
 pub record IsAccepted (c : Ways) (depth : ℕ) (cut : Cut) (a : Accepted) : Type 0 where
   pub searched : c.depth ≡ Some depth
   pub s : PlainShow
-  pub short : length cut.show ≤ show_limit
+  pub short : length cut.show ≤ most_text
   pub stands : StandsFor cut.show s
   pub accepted : show_refusal c cut s ≡ None
   pub fitted : IsFitted a.fitted s

@@ -1,5 +1,6 @@
 -- What the program has read of its input.
 use Rattle.std.specs.Prelude.{◌≡◌, ℕ, ◌<◌, ◌+◌, ◌≤◌, Bool, false, List, [], length, Option, Some, IfSome}
+use Rattle.fleet_io.specs.Held.{buffer_bytes}
 use Rattle.fleet_io.specs.Parts.{TakesFewAfter}
 use Rattle.fleet_io.specs.Taken.{TakesAtMost}
 use Rattle.text_lines.specs.Lines.{between_feeds}
@@ -7,7 +8,8 @@ use Rattle.text_lines.specs.Marker.{has_marker, part_of, rest_of}
 use Rattle.show_judge.specs.declared.input.Text.{Text}
 use Rattle.show_judge.specs.declared.input.Text.TheVariants.{TooLarge, Whole}
 use Rattle.show_judge.specs.declared.input.Input.{Input}
-use Rattle.show_judge.specs.Shows.{Cut, cut_of, show_limit}
+use Rattle.fleet_math.specs.Limits.{most_text}
+use Rattle.show_judge.specs.Shows.{Cut, cut_of}
 
 -- A text that was read is these bytes, of which there are at most this many, with a marker line after them or none; it is too large
 -- where there are more.
@@ -47,12 +49,12 @@ IsReadWhole input left = IfSome input (λ _. left ≡ Some [])
 -- one and its marker line; where no marker line stands there, the input was read to its end.
 abbrev pub IsReadBoth : ℕ → Option (List ℕ) → Option (List ℕ) → Type 0
 IsReadBoth limit left left_after =
-    IfSome left (λ all. length (part_of all) ≤ show_limit → length (part_of (rest_of all)) ≤ limit →
+    IfSome left (λ all. length (part_of all) ≤ most_text → length (part_of (rest_of all)) ≤ limit →
     (has_marker (between_feeds (rest_of all)) ≡ false → left_after ≡ Some []) × TakesFewAfter (Some (rest_of all)) left_after)
 
 -- The show's text is the first one of the input that is cut so.
 abbrev pub IsShowText : Text → Cut → Type 0
-IsShowText text cut = IsText show_limit text cut.show cut.is_marked
+IsShowText text cut = IsText most_text text cut.show cut.is_marked
 
 -- The two texts are those of the input that is cut so, the second of at most this many bytes; nothing is wanted after a show's text that is
 -- too large.
@@ -63,16 +65,16 @@ pub record AreTexts (limit : ℕ) (input : Input) (cut : Cut) : Type 0 where
 -- The show's text was read: it is that of the input, and where no marker line stands after it, the input was read to its end.
 pub record ReadsShow (left left_after : Option (List ℕ)) (text : Text) : Type 0 where
   pub show : IfSome left (λ all. IsShowText text (cut_of all))
-  pub short : IsWithin show_limit text
+  pub short : IsWithin most_text text
   pub whole : IsUnmarked text → IsReadWhole left left_after
 
 -- The show's text and a second one were read.
 pub record ReadsTwo (limit : ℕ) (left left_after : Option (List ℕ)) (input : Input) : Type 0 where
   pub texts : IfSome left (λ all. AreTexts limit input (cut_of all))
-  pub short : IsWithin show_limit input.show
+  pub short : IsWithin most_text input.show
   pub second : IsWithin limit input.second
   pub whole : IsWholeText input.show → IsUnmarked input.second → IsReadWhole left left_after
 
 -- At most the bytes of the longest show's text were taken, those of a marker line, and 4,096 that were asked for at once.
 abbrev pub TakesOneText : Option (List ℕ) → Option (List ℕ) → Type 0
-TakesOneText left left_after = TakesAtMost (show_limit + 4 + 4096) left left_after
+TakesOneText left left_after = TakesAtMost (most_text + 4 + buffer_bytes) left left_after

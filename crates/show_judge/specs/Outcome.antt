@@ -10,7 +10,8 @@ use Rattle.refusals.specs.Refusals.{line_of, status_of}
 use Rattle.link_frames.specs.Frames.{end_frame}
 use Rattle.show_plan.specs.Flight.{KeepsNearShow}
 use Rattle.show_judge.specs.Refused.{show_refusal, text_refusal}
-use Rattle.show_judge.specs.Shows.{Cut, cut_of, sent_of, show_limit}
+use Rattle.fleet_math.specs.Limits.{most_text}
+use Rattle.show_judge.specs.Shows.{Cut, cut_of, sent_of}
 use Rattle.show_judge.specs.Verb.{FliesApart, Judges, Outcome, Verb, nothing, outcome, own_text, the_input}
 
 -- a refusal gives its status and its line
@@ -29,7 +30,7 @@ ShowGives v None s cut o = v.gives s cut o
 -- The show's text stands for this show, and it gives this outcome.
 pub record ShowComesTo (v : Verb) (cut : Cut) (o : Outcome) : Type 0 where
   pub s : PlainShow
-  pub short : length cut.show ≤ show_limit
+  pub short : length cut.show ≤ most_text
   pub stands : StandsFor cut.show s
   pub gives : ShowGives v (show_refusal v.ways cut s) s cut o
 
@@ -92,7 +93,7 @@ pub record IsVerb (v : Verb) : Type 0 where
 -- The show's text stands for a show that nothing refuses.
 pub record IsSound (v : Verb) (cut : Cut) : Type 0 where
   pub s : PlainShow
-  pub short : length cut.show ≤ show_limit
+  pub short : length cut.show ≤ most_text
   pub stands : StandsFor cut.show s
   pub accepted : show_refusal v.ways cut s ≡ None
 

@@ -18,7 +18,8 @@ use Rattle.show_plan.specs.declared.fitted.PlanFault.TheVariants as plan
 use Rattle.show_plan.specs.declared.separation.BlockedPart.{BlockedPart}
 use Rattle.show_plan.specs.Fitting.{in_order, unsendable}
 use Rattle.show_plan.specs.Separation.{blocked_part}
-use Rattle.show_judge.specs.Shows.{Cut, marker_number, name_at, names_of, show_limit, trajectories_of}
+use Rattle.fleet_math.specs.Limits.{most_text}
+use Rattle.show_judge.specs.Shows.{Cut, marker_number, name_at, names_of, trajectories_of}
 
 -- A refusal of an input: what it names can be said in a line, and it is neither that the words are no command nor that a read failed.
 pub record IsOfInput (r : Refusal) : Type 0 where
@@ -34,7 +35,7 @@ faulty f = refusal.Line f.line f.kind
 
 -- the refusal of a show's text: it is too long, or it has a first faulty line
 abbrev pub text_refusal : List ℕ → Option Refusal
-text_refusal text = if nat_lt show_limit (length text) then Some refusal.TooLarge else option_map faulty (fault text)
+text_refusal text = if nat_lt most_text (length text) then Some refusal.TooLarge else option_map faulty (fault text)
 
 -- ---- the show
 

@@ -6,7 +6,8 @@ use Rattle.fleet_io.specs.Causes.{Rose}
 use Rattle.fleet_io.specs.Parts.{TakesFewAfter}
 use Rattle.fleet_io.specs.Taken.{AppendsFront, TakesFront}
 use Rattle.show_judge.specs.Input.{TakesOneText}
-use Rattle.show_judge.specs.Shows.{cut_of, show_limit}
+use Rattle.fleet_math.specs.Limits.{most_text}
+use Rattle.show_judge.specs.Shows.{cut_of}
 use Rattle.show_judge.specs.Outcome.{IsComplete, IsOutcome, IsSafeOutcome, judged_text}
 use Rattle.show_judge.specs.Verb.{IsJudged, Outcome, Run, Verb, nothing}
 
@@ -83,7 +84,7 @@ pub record Runs (c : Verb) (r : Run) (status : ℕ) : Type 0 where
 -- A command that wants nothing after a marker line takes no more of its input; nor does one that wants a second text, where the show's is too
 -- long.
 abbrev pub TakesLittle : Verb → Run → Type 0
-TakesLittle c r = (c.ways.has_second ≡ false) ⊎ IfSome r.left (λ input. show_limit < length (part_of input)) → TakesOneText r.left r.left_after
+TakesLittle c r = (c.ways.has_second ≡ false) ⊎ IfSome r.left (λ input. most_text < length (part_of input)) → TakesOneText r.left r.left_after
 
 -- A command that wants nothing after a marker line takes at most 4,096 bytes after it, where it judges its input.
 abbrev pub StopsAtMarker : Verb → Run → ℕ → Type 0

@@ -4,7 +4,6 @@ use Rattle.text_lines.specs.Lines.{between_feeds}
 use Rattle.text_lines.specs.Marker.{has_marker, part_of, rest_of}
 use Rattle.choreo_lines.specs.Name.{Name}
 use Rattle.choreo_reader.specs.Plain.{PlainShow}
-use Rattle.choreo_reader.specs.declared.token.TheConstants.{MOST_BYTES}
 use Rattle.cue_grid.specs.Cues.{grid_of}
 use Rattle.cue_grid.specs.Names as drones
 use Rattle.traj_codec.specs.declared.traj.Traj.{Traj}
@@ -12,10 +11,6 @@ use Rattle.show_plan.specs.Separation.{best_certificate, node_count}
 use Rattle.show_plan.specs.Trajectories.{by_cue, sent}
 
 -- ---- the input
-
--- the most bytes of a show's text
-abbrev pub show_limit : ℕ
-show_limit = MOST_BYTES
 
 -- the greatest depth of a search
 abbrev pub most_depth : ℕ

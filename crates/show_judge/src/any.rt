@@ -13,7 +13,8 @@ ghost use Rattle.show_judge.specs.Input.{IsWithin, TakesOneText};
 ghost use Rattle.show_judge.specs.Outcome.{IsVerb, ShowGives};
 ghost use Rattle.show_judge.specs.Refused.{blocked_by};
 ghost use Rattle.show_judge.specs.Runs.{Behaves};
-ghost use Rattle.show_judge.specs.Shows.{Cut, sent_of, show_limit};
+ghost use Rattle.fleet_math.specs.Limits.{most_text};
+ghost use Rattle.show_judge.specs.Shows.{Cut, sent_of};
 ghost use Rattle.show_judge.specs.Verb.{IsAny, Verb, during};
 
 use crate::ends::{Answer, Failure, respond};
@@ -47,7 +48,7 @@ pub trait AnyText {
 // What the command ends with for a show's text.
 fn answer_text<V: AnyText>(alloc: Global, verb: &V, text: &Text) -> Result<Answer, AllocError>
     requires any { IsAny (V.verb verb.now) }
-    requires short { IsWithin show_limit text.now }
+    requires short { IsWithin most_text text.now }
     ensures { AnswersText (V.verb verb.now) text.now result }
 {
     let ways = verb.ways();

@@ -8,7 +8,8 @@ ghost use Rattle.show_plan.specs.Fitting.{IsFitted, IsValidFitted};
 ghost use Rattle.show_judge.specs.Answers.{AnswersInput, AnswersText, IsSaid, outcome_of};
 ghost use Rattle.show_judge.specs.Input.{IsWithin, TakesOneText};
 ghost use Rattle.show_judge.specs.Runs.{Behaves};
-ghost use Rattle.show_judge.specs.Shows.{most_depth, nodes_of, show_limit};
+ghost use Rattle.fleet_math.specs.Limits.{most_text};
+ghost use Rattle.show_judge.specs.Shows.{most_depth, nodes_of};
 ghost use Rattle.show_judge.specs.Verb.{during, of_show, outcome};
 
 use crate::ends::{Answer, Failure, respond};
@@ -42,7 +43,7 @@ pub trait OneText {
 
 // What the command ends with for a show's text.
 fn answer_text<V: OneText>(alloc: Global, verb: &V, text: &Text) -> Result<Answer, AllocError>
-    requires short { IsWithin show_limit text.now }
+    requires short { IsWithin most_text text.now }
     ensures { AnswersText (of_show (V.searched verb.now) (V.text verb.now)) text.now result }
 {
     let depth = verb.depth();

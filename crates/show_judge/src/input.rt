@@ -1,17 +1,17 @@
 //! What the program reads before it judges: a show's text, and for some commands a second text after it.
 ghost use Rattle.std.specs.Prelude.{◌≡◌, ◌+◌, ◌<◌, ◌≤◌, [], length, IsTrue, IfOk, IfSome, Some};
 ghost use Rattle.std.specs.Io.KnownBytes.{IsAtEnd};
-ghost use Rattle.fleet_io.specs.Held.{stream, text_limit};
+ghost use Rattle.fleet_io.specs.Held.{buffer_bytes, stream, text_limit};
 ghost use Rattle.fleet_io.specs.Causes.{Rose};
 ghost use Rattle.fleet_io.specs.Parts.{TakesFewAfter};
 ghost use Rattle.fleet_io.specs.Taken.{TakesAtMost, TakesFront};
 ghost use Rattle.text_lines.specs.Marker.{part_of, rest_of};
-ghost use Rattle.show_judge.specs.Shows.{show_limit};
+ghost use Rattle.fleet_math.specs.Limits.{most_text};
 ghost use Rattle.show_judge.specs.Input.{GoesOn, IsNextText, IsUnmarked, IsWholeText, IsWithin, ReadsShow, ReadsTwo, TakesOneText};
 
 use crate::ends::Failure;
-use choreo_reader::MOST_BYTES;
 use fleet_io::{IoFault, Part, Parts, Source};
+use fleet_math::MOST_TEXT;
 use std::alloc::Global;
 
 /// A text that was read.
@@ -51,8 +51,8 @@ pub fn next_text<S: Source>(
     ensures at_line { IfOk result (λ text. IsWholeText text → IsTrue parts.new.at_line) }
     ensures at_end { IsTrue parts.new.ended → IsAtEnd (S.left source.new) }
     ensures whole { IfOk result (λ text. IsUnmarked text → IsAtEnd (S.left source.new)) }
-    ensures few { TakesAtMost (limit + 4 + 4096) (S.left source.old) (S.left source.new) }
-    ensures after { parts.old.waiting ≡ [] → limit ≡ show_limit → IfOk result (λ _. TakesFewAfter (S.left source.old) (S.left source.new)) }
+    ensures few { TakesAtMost (limit + 4 + buffer_bytes) (S.left source.old) (S.left source.new) }
+    ensures after { parts.old.waiting ≡ [] → limit ≡ most_text → IfOk result (λ _. TakesFewAfter (S.left source.old) (S.left source.new)) }
     ensures past { IfOk result (λ text. IsWholeText text → TakesFewAfter (stream parts.old (S.left source.old)) (S.left source.new)) }
     ensures failed { result ≡ Err Failure.Read → Rose (S.faults source.old) (S.faults source.new) }
     ensures later { S.faults source.old ≤ S.faults source.new }
@@ -115,7 +115,7 @@ pub fn read_show_text<S: Source>(alloc: Global, source: &mut S) -> Result<Text, 
     ensures left { TakesFront (S.left source.old) (S.left source.new) }
 {
     let mut parts = Parts::make();
-    next_text(alloc, &mut parts, source, MOST_BYTES)
+    next_text(alloc, &mut parts, source, MOST_TEXT)
 }
 
 /// Reads the show's text, and after its marker line a second one of at most `limit` bytes. A text that is too large ends the
@@ -123,14 +123,14 @@ pub fn read_show_text<S: Source>(alloc: Global, source: &mut S) -> Result<Text, 
 pub fn read_two<S: Source>(alloc: Global, source: &mut S, limit: usize) -> Result<Input, Failure>
     requires { limit ≤ text_limit }
     ensures texts { IfOk result (λ input. ReadsTwo limit (S.left source.old) (S.left source.new) input) }
-    ensures few { IfSome (S.left source.old) (λ all. show_limit < length (part_of all)) → TakesOneText (S.left source.old) (S.left source.new) }
+    ensures few { IfSome (S.left source.old) (λ all. most_text < length (part_of all)) → TakesOneText (S.left source.old) (S.left source.new) }
     ensures past { IfOk result (λ input. IsWholeText input.show → IsWholeText input.second → IfSome (S.left source.old) (λ all. TakesFewAfter (Some (rest_of all)) (S.left source.new))) }
     ensures failed { result ≡ Err Failure.Read → Rose (S.faults source.old) (S.faults source.new) }
     ensures later { S.faults source.old ≤ S.faults source.new }
     ensures left { TakesFront (S.left source.old) (S.left source.new) }
 {
     let mut parts = Parts::make();
-    let show = next_text(alloc, &mut parts, source, MOST_BYTES)?;
+    let show = next_text(alloc, &mut parts, source, MOST_TEXT)?;
     let second = read_second(alloc, &mut parts, source, &show, limit)?;
     Ok(Input { show, second })
 }

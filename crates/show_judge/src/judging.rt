@@ -5,7 +5,8 @@ ghost use Rattle.choreo_reader.specs.Valid.{IsValid};
 ghost use Rattle.show_plan.specs.Fitting.{IsValidFitted};
 ghost use Rattle.show_judge.specs.Answers.{EndsJudged, EndsWell, IsSoundJudged, IsSoundPlan, JudgedGives, PlanGives};
 ghost use Rattle.show_judge.specs.Input.{IsShowText, IsWithin};
-ghost use Rattle.show_judge.specs.Shows.{Cut, most_depth, show_limit};
+ghost use Rattle.fleet_math.specs.Limits.{most_text};
+ghost use Rattle.show_judge.specs.Shows.{Cut, most_depth};
 ghost use Rattle.show_judge.specs.Steps.{Separated, ShowPlanned};
 
 use crate::input::Text;
@@ -41,7 +42,7 @@ pub enum Judged {
 // Whether a show fits, and no marker line stands where none may.
 fn fit_show(alloc: Global, ways: Ways, show: &Show, part: &Part) -> Result<Planned, AllocError>
     requires valid { IsValid (plain show.now) }
-    requires short { length part.now.bytes.items ≤ show_limit }
+    requires short { length part.now.bytes.items ≤ most_text }
     ensures gives { (cut : Cut) → IsShowText (Text.Whole part.now) cut → IfOk result (ShowPlanned ways cut (plain show.now)) }
     ensures sound { IfOk result IsSoundPlan }
     ensures whole { IfOk result (EndsWell ways (Text.Whole part.now)) }
@@ -65,7 +66,7 @@ fn fit_show(alloc: Global, ways: Ways, show: &Show, part: &Part) -> Result<Plann
 
 // Whether a text that isn't too large stands for a show that fits.
 fn fit_part(alloc: Global, ways: Ways, part: &Part) -> Result<Planned, AllocError>
-    requires short { length part.now.bytes.items ≤ show_limit }
+    requires short { length part.now.bytes.items ≤ most_text }
     ensures gives { (cut : Cut) → IsShowText (Text.Whole part.now) cut → IfOk result (PlanGives ways cut) }
     ensures sound { IfOk result IsSoundPlan }
     ensures whole { IfOk result (EndsWell ways (Text.Whole part.now)) }
@@ -82,7 +83,7 @@ fn fit_part(alloc: Global, ways: Ways, part: &Part) -> Result<Planned, AllocErro
 /// The show that a text stands for, where it fits and no marker line stands where the command allows none; else the first reason why
 /// the command refuses it. Separation isn't judged.
 pub fn fit_text(alloc: Global, ways: Ways, text: &Text) -> Result<Planned, AllocError>
-    requires short { IsWithin show_limit text.now }
+    requires short { IsWithin most_text text.now }
     ensures gives { (cut : Cut) → IsShowText text.now cut → IfOk result (PlanGives ways cut) }
     ensures sound { IfOk result IsSoundPlan }
     ensures whole { IfOk result (EndsWell ways text.now) }
@@ -119,7 +120,7 @@ fn separate(alloc: Global, fitted: Fitted, depth: u8) -> Result<Judged, AllocErr
 pub fn accept(alloc: Global, ways: Ways, depth: u8, text: &Text) -> Result<Judged, AllocError>
     requires depth { ways.depth ≡ Some depth }
     requires most { depth ≤ most_depth }
-    requires short { IsWithin show_limit text.now }
+    requires short { IsWithin most_text text.now }
     ensures gives { (cut : Cut) → IsShowText text.now cut → IfOk result (JudgedGives ways depth cut) }
     ensures sound { IfOk result IsSoundJudged }
     ensures whole { IfOk result (EndsJudged ways text.now) }

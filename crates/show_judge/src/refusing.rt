@@ -10,7 +10,8 @@ ghost use Rattle.show_plan.specs.Fitting.{IsFitted, IsValidFitted, StandsAsWord,
 ghost use Rattle.show_plan.specs.Separation.{FailsBy, blocked_part};
 ghost use Rattle.show_judge.specs.Input.{IsShowText};
 ghost use Rattle.show_judge.specs.Refused.{IsOfInput, blocked_by, marker_refusal, pair_at, show_refusal};
-ghost use Rattle.show_judge.specs.Shows.{Cut, marker_number, most_depth, name_at, show_limit};
+ghost use Rattle.fleet_math.specs.Limits.{most_text};
+ghost use Rattle.show_judge.specs.Shows.{Cut, marker_number, most_depth, name_at};
 
 use crate::input::Text;
 use crate::ways::Ways;
@@ -62,7 +63,7 @@ pub fn marker_number(text: &[u8]) -> u32
 
 /// A marker line after the show's text, which each command refuses that wants no bytes after it.
 pub fn marker_refusal(ways: Ways, part: &Part) -> Option<Refusal>
-    requires { length part.now.bytes.items ≤ show_limit }
+    requires { length part.now.bytes.items ≤ most_text }
     ensures gives { (cut : Cut) → IsShowText (Text.Whole part.now) cut → result ≡ marker_refusal ways cut }
     ensures said { IfSome result IsOfInput }
 {
@@ -80,7 +81,7 @@ pub fn marker_refusal(ways: Ways, part: &Part) -> Option<Refusal>
 // A drone of the show whose trajectory has no room, unless a marker line is refused before.
 fn without_room(ways: Ways, show: &Show, part: &Part, drone: u8, bytes: u32, room: u32) -> Refusal
     requires valid { IsValid (plain show.now) }
-    requires short { length part.now.bytes.items ≤ show_limit }
+    requires short { length part.now.bytes.items ≤ most_text }
     requires fault { plan_fault (plain show.now) ≡ Some (PlanFault.TooLong drone bytes room) }
     ensures gives { (cut : Cut) → IsShowText (Text.Whole part.now) cut
         → show_refusal ways cut (plain show.now) ≡ Some result }
@@ -99,7 +100,7 @@ fn without_room(ways: Ways, show: &Show, part: &Part, drone: u8, bytes: u32, roo
 // A drone of the show whose trajectory has too many segments, unless a marker line is refused before.
 fn without_segments(ways: Ways, show: &Show, part: &Part, drone: u8, segments: u32) -> Refusal
     requires valid { IsValid (plain show.now) }
-    requires short { length part.now.bytes.items ≤ show_limit }
+    requires short { length part.now.bytes.items ≤ most_text }
     requires fault { plan_fault (plain show.now) ≡ Some (PlanFault.TooManySegments drone segments) }
     ensures gives { (cut : Cut) → IsShowText (Text.Whole part.now) cut
         → show_refusal ways cut (plain show.now) ≡ Some result }
@@ -117,7 +118,7 @@ fn without_segments(ways: Ways, show: &Show, part: &Part, drone: u8, segments: u
 /// Why a show doesn't fit, or the marker line that is refused before.
 pub fn unfit(ways: Ways, show: &Show, part: &Part, fault: PlanFault) -> Refusal
     requires valid { IsValid (plain show.now) }
-    requires short { length part.now.bytes.items ≤ show_limit }
+    requires short { length part.now.bytes.items ≤ most_text }
     requires fault { plan_fault (plain show.now) ≡ Some fault }
     ensures gives { (cut : Cut) → IsShowText (Text.Whole part.now) cut
         → show_refusal ways cut (plain show.now) ≡ Some result }

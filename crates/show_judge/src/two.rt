@@ -11,7 +11,8 @@ ghost use Rattle.show_plan.specs.Landing.{Lands};
 ghost use Rattle.show_judge.specs.Answers.{AnswersInput, AnswersTwo, IsSaid, outcome_of};
 ghost use Rattle.show_judge.specs.Input.{IsReadBoth, IsText, IsUnmarked, IsWithin, TakesOneText};
 ghost use Rattle.show_judge.specs.Runs.{Behaves};
-ghost use Rattle.show_judge.specs.Shows.{Cut, most_depth, show_limit};
+ghost use Rattle.fleet_math.specs.Limits.{most_text};
+ghost use Rattle.show_judge.specs.Shows.{Cut, most_depth};
 ghost use Rattle.show_judge.specs.Verb.{IsTwo, Verb, during};
 ghost use Rattle.show_judge.specs.Outcome.{IsVerb};
 
@@ -61,7 +62,7 @@ pub trait TwoTexts {
 fn answer_two<V: TwoTexts>(alloc: Global, verb: &V, input: &Input) -> Result<Answer, AllocError>
     requires verb { IsVerb (V.verb verb.now) }
     requires two { IsTwo (Some (V.searched verb.now)) (V.most verb.now) (V.verb verb.now) }
-    requires show { IsWithin show_limit input.now.show }
+    requires show { IsWithin most_text input.now.show }
     requires second { IsWithin (V.most verb.now) input.now.second }
     ensures { AnswersTwo (V.verb verb.now) (V.most verb.now) input.now result }
 {
@@ -90,7 +91,7 @@ fn answer_input<V: TwoTexts, S: Source>(
     ensures both { IfOk result (λ _. IsReadBoth (V.most verb.now) (S.left source.old) (S.left source.new)) }
     ensures failed { result ≡ Err Failure.Read → Rose (S.faults source.old) (S.faults source.new) }
     ensures later { S.faults source.old ≤ S.faults source.new }
-    ensures few { IfSome (S.left source.old) (λ all. show_limit < length (part_of all)) → TakesOneText (S.left source.old) (S.left source.new) }
+    ensures few { IfSome (S.left source.old) (λ all. most_text < length (part_of all)) → TakesOneText (S.left source.old) (S.left source.new) }
     ensures left { TakesFront (S.left source.old) (S.left source.new) }
 {
     let limit = verb.limit();

@@ -6,10 +6,6 @@ use Rattle.report_text.specs.Report.{Report}
 use Rattle.show_judge.specs.Verb.{Verb, of_own}
 use Rattle.show_looks.specs.Reports.{report_of}
 
--- the greatest number of drones of a drill
-abbrev pub most_drill : ℕ
-most_drill = 32
-
 -- the line of a drill with these numbers
 abbrev pub drill_of : Report → List ℕ
 drill_of r = drill_line (length r.drones) r.cues (length r.drones * (length r.drones - 1) / 2) (sum r.bytes) (sum r.packets) r.nodes

@@ -7,8 +7,9 @@ ghost use Rattle.show_judge.specs.Answers.{AnswersText, IsSaid, outcome_of};
 ghost use Rattle.show_judge.specs.Input.{IsWithin};
 ghost use Rattle.show_judge.specs.Outcome.{IsOutcomeOf, IsSafe};
 ghost use Rattle.show_judge.specs.Verb.{during, outcome};
-ghost use Rattle.show_looks.specs.Drilled.{drill_of, drill_verb, most_drill};
-ghost use Rattle.show_judge.specs.Shows.{cut_of, most_depth, nodes_of, show_limit};
+ghost use Rattle.fleet_math.specs.Limits.{most_drones, most_text};
+ghost use Rattle.show_looks.specs.Drilled.{drill_of, drill_verb};
+ghost use Rattle.show_judge.specs.Shows.{cut_of, most_depth, nodes_of};
 ghost use Rattle.show_looks.specs.Reports.{report_of};
 ghost use Rattle.show_judge.specs.Runs.{Behaves};
 
@@ -24,7 +25,7 @@ use std::alloc::{AllocError, Global};
 
 // The number of these drones.
 fn drones_in(names: &[Name]) -> u8
-    requires { length names.now ≤ 32 }
+    requires { length names.now ≤ most_drones }
     ensures { result ≡ length names.now }
 {
     names.len() as u8
@@ -33,7 +34,7 @@ fn drones_in(names: &[Name]) -> u8
 // The number of pairs of this many drones.
 fn pairs_of(drones: u8) -> u16
     requires some { 1 ≤ drones }
-    requires few { drones ≤ 32 }
+    requires few { drones ≤ most_drones }
     ensures { result ≡ drones * (drones - 1) / 2 }
 {
     let drones = u16::from(drones);
@@ -67,7 +68,7 @@ fn answer_accepted(alloc: Global, accepted: &Accepted) -> Result<Answer, AllocEr
 // What `drill` ends with for a show's text.
 fn answer_text(alloc: Global, drones: u8, depth: u8, text: &Text) -> Result<Answer, AllocError>
     requires depth { depth ≤ most_depth }
-    requires short { IsWithin show_limit text.now }
+    requires short { IsWithin most_text text.now }
     ensures { AnswersText (drill_verb drones depth) text.now result }
 {
     let ways = Ways {
@@ -86,7 +87,7 @@ fn answer_text(alloc: Global, drones: u8, depth: u8, text: &Text) -> Result<Answ
 fn answer_drill(alloc: Global, drones: u8, depth: u8) -> Result<Answer, Failure>
     requires depth { depth ≤ most_depth }
     requires some { 1 ≤ drones }
-    requires few { drones ≤ most_drill }
+    requires few { drones ≤ most_drones }
     ensures gives { IfOk result (λ a. IsOutcomeOf (drill_verb drones depth) (cut_of (drill_text drones)) (outcome_of a)) }
     ensures safe { IfOk result (λ a. (outcome_of a).status ≡ 0 → IsSafe (drill_verb drones depth) (cut_of (drill_text drones)) (outcome_of a)) }
     ensures said { IfOk result IsSaid }
@@ -108,7 +109,7 @@ pub fn drill<S: Source, K: Sink>(
 ) -> u8
     requires depth { depth ≤ most_depth }
     requires some { 1 ≤ drones }
-    requires few { drones ≤ most_drill }
+    requires few { drones ≤ most_drones }
     ensures { Behaves (drill_verb drones depth) (during S.left S.faults K.written K.faults source.old source.new sink.old sink.new) result }
 {
     show_law();

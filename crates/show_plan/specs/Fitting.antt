@@ -2,7 +2,7 @@
 use Rattle.std.specs.Prelude.{false, true, ◌≡◌, ℕ, ◌+◌, ◌-◌, ◌≤◌, List, [], ◌∷◌, ◌++◌, map, length, nat_le, nat_lt, Option, Some, None, Result, Ok, Err, if◌then◌else◌}
 use Rattle.std.specs.Option.{option_or}
 use Rattle.std.specs.List.{sum, All}
-use Rattle.fleet_math.specs.Limits.{most_cues}
+use Rattle.fleet_math.specs.Limits.{most_cues, most_drones}
 use Rattle.crtp_packets.specs.declared.chunks.TheConstants.{MEMORY_BYTES}
 use Rattle.fleet_io.specs.Words.{IsWord}
 use Rattle.choreo_lines.specs.Name.{Name, is_name}
@@ -11,7 +11,7 @@ use Rattle.choreo_reader.specs.Plain.{PlainShow}
 use Rattle.choreo_reader.specs.Valid.{FitsSettings}
 use Rattle.cue_grid.specs.declared.grid.GridFault.{GridFault}
 use Rattle.cue_grid.specs.Cues.{grid_of}
-use Rattle.cue_grid.specs.Faults.{drone_limit, grid_fault}
+use Rattle.cue_grid.specs.Faults.{grid_fault}
 use Rattle.cue_grid.specs.Names.{has_double}
 use Rattle.traj_codec.specs.declared.traj.Traj.{Traj}
 use Rattle.traj_codec.specs.Positions.{durations}
@@ -110,7 +110,7 @@ FitGives (Err error.Memory) s = Unit {0}
 pub record IsValidFitted (f : Fitted) : Type 0 where
   pub settings : FitsSettings f.settings
   pub some_drone : 1 ≤ length f.names
-  pub few_drones : length f.names ≤ drone_limit
+  pub few_drones : length f.names ≤ most_drones
   pub distinct : has_double f.names ≡ false
   pub named : All (λ (name : Name). is_name name.items ≡ true) f.names
   pub words : All StandsAsWord f.names

@@ -2,7 +2,8 @@
 use Rattle.std.specs.Prelude.{◌≡◌, ℕ, ◌-◌, ◌<◌, ◌≤◌, Bool, true, Some, List, ◌++◌, length, map, slice_index_or}
 use Rattle.std.specs.List.{All}
 use Rattle.cue_grid.specs.declared.grid.Grid.{Grid}
-use Rattle.cue_grid.specs.Faults.{drone_limit}
+use Rattle.fleet_math.specs.Limits.{most_drones}
+use Rattle.crtp_packets.specs.declared.chunks.TheConstants.{MEMORY_BYTES}
 use Rattle.traj_codec.specs.declared.traj.Traj.{Traj}
 use Rattle.traj_codec.specs.Spelling.{IsTrajectory}
 use Rattle.firmware_memory.specs.Decoded.{DecodesTo, load_for}
@@ -57,11 +58,11 @@ Lands g e trajs =
 pub record AreUploadable (e : Settings) (trajs : List Traj) : Type 0 where
   pub settings : FitsSettings e
   pub some : 1 ≤ length trajs
-  pub few : length trajs ≤ drone_limit
+  pub few : length trajs ≤ most_drones
   pub formed : All IsTrajectory trajs
   pub sendable : All IsSendable trajs
   pub segments : All (λ (t : Traj). 1 ≤ length t.segments) trajs
-  pub room : All (λ (t : Traj). size t ≤ 4096 - e.offset) trajs
+  pub room : All (λ (t : Traj). size t ≤ MEMORY_BYTES - e.offset) trajs
 
 -- Trajectories that can be uploaded, keep near to a show and keep apart land so.
 abbrev pub LandingLaw : Type 0

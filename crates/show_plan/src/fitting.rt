@@ -7,7 +7,7 @@ ghost use Rattle.choreo_reader.specs.Valid.{IsValid};
 ghost use Rattle.cue_grid.specs.Cues.{grid_of};
 ghost use Rattle.cue_grid.specs.Faults.{grid_fault};
 ghost use Rattle.cue_grid.specs.Grids.{IsGrid};
-ghost use Rattle.fleet_math.specs.Limits.{most_cues};
+ghost use Rattle.fleet_math.specs.Limits.{most_cues, most_drones};
 ghost use Rattle.traj_codec.specs.Joined.{joined};
 ghost use Rattle.traj_codec.specs.Spelling.{AreNumbers, IsTrajectory};
 ghost use Rattle.mm_rounding.specs.Rounding.{short};
@@ -124,7 +124,7 @@ fn send_fault(room: u32, drone: u8, t: &Traj) -> Option<PlanFault>
 
 // The first trajectory that can't be sent.
 fn first_unsendable(room: u32, trajs: &[Traj]) -> Option<PlanFault>
-    requires few { length trajs.now ≤ 32 }
+    requires few { length trajs.now ≤ most_drones }
     requires flown { All IsFlown trajs.now }
     ensures { result ≡ first_unsendable room 0 trajs.now }
 {

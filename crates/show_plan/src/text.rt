@@ -2,6 +2,7 @@
 
 ghost use Rattle.std.specs.Prelude.{◌≡◌, ◌≤◌, ◌++◌, ℕ, List, false, true, length, decimal, IfOk, OnOk};
 ghost use Rattle.std.specs.List.{All};
+ghost use Rattle.fleet_math.specs.Limits.{most_drones};
 ghost use Rattle.fleet_io.specs.Words.{is_line_empty, with_word, IsWord};
 ghost use Rattle.traj_codec.specs.declared.traj.Traj.{Traj};
 ghost use Rattle.traj_codec.specs.Spelling.{IsEncoding, most_segments};
@@ -123,8 +124,8 @@ fn put_parts(
 
 // The bytes of these rows together.
 fn total(rows: &[Listed<u8>]) -> usize
-    requires few { length rows.now ≤ 32 }
-    requires short { All (λ (row : List ℕ). length row ≤ 4096) rows.now }
+    requires few { length rows.now ≤ most_drones }
+    requires short { All (λ (row : List ℕ). length row ≤ MEMORY_BYTES) rows.now }
     ensures { result ≤ 131072 }
 {
     let mut total = 0;

@@ -18,7 +18,8 @@ use Rattle.show_judge.specs.Verb.{Outcome}
 use Rattle.show_judge.proofs.AnswerLemmas.{refused_some}
 use Rattle.show_judge.proofs.HeadlineLemmas.{none_both}
 use Rattle.show_judge.proofs.VerbLemmas.{none_mapped, within_limit}
-use Rattle.show_studies.specs.Boxes.{BoxesLaw, RegionsGive, StaysInRegions, aside_of, boxes_verb, faulty_region, region_limit, regions_end, upwards_of}
+use Rattle.fleet_math.specs.Limits.{most_text}
+use Rattle.show_studies.specs.Boxes.{BoxesLaw, RegionsGive, StaysInRegions, aside_of, boxes_verb, faulty_region, regions_end, upwards_of}
 use Rattle.show_studies.proofs.DecidingLemmas.{judge_some}
 use Rattle.show_studies.proofs.StudyLemmas.{judge_one, regions_given_one, regions_one}
 
@@ -30,10 +31,10 @@ regions_read (Ok regions) none = (regions, refl)
 regions_read (Err line) none = absurd (cc)
 
 -- a text of regions gives an outcome
-regions_some : (why : Option Refusal) (s : PlainShow) (depth : ℕ) (cut : Cut) → second_refusal region_limit (faulty_region (regions_of cut.second)) cut ≡ why → (o : Outcome) × RegionsGive why s depth cut o
+regions_some : (why : Option Refusal) (s : PlainShow) (depth : ℕ) (cut : Cut) → second_refusal most_text (faulty_region (regions_of cut.second)) cut ≡ why → (o : Outcome) × RegionsGive why s depth cut o
 regions_some (Some r) s depth cut is = (_, refl)
 regions_some None s depth cut is =
-    let parts = within_limit region_limit (length cut.second) _ _ is in
+    let parts = within_limit most_text (length cut.second) _ _ is in
     let regions = regions_read (regions_of cut.second) (none_mapped _ (faulty_region (regions_of cut.second)) (none_both _ _ parts.1).0) in
     let judged = judge_some (raised_of (trajectories_of s)) (aside_of s.settings) (upwards_of s.settings) depth regions.0 in
     (regions_end (names_of s) depth (length regions.0) judged.0, (regions.0, judged.0, regions.1, judged.1, refl))
@@ -41,8 +42,8 @@ regions_some None s depth cut is =
 -- ---- status 0
 
 -- where regions are read, the second text is refused as one without a faulty line
-no_faulty_region : (given : Result (List Region) ℕ) (regions : List Region) (cut : Cut) → given ≡ Ok regions → second_refusal region_limit None cut ≡ None →
-    second_refusal region_limit (faulty_region given) cut ≡ None
+no_faulty_region : (given : Result (List Region) ℕ) (regions : List Region) (cut : Cut) → given ≡ Ok regions → second_refusal most_text None cut ≡ None →
+    second_refusal most_text (faulty_region given) cut ≡ None
 no_faulty_region given regions cut is none = rw is none
 
 regions_done : (refused : Option Refusal) (s : PlainShow) (depth : ℕ) (cut : Cut) (o : Outcome) (regions : List Region) → refused ≡ None → RegionsGive refused s depth cut o →
@@ -79,16 +80,16 @@ stays depth input old new o safe appended =
       says = safe.promised.1;
       kept = safe.promised.2;
       written = subst (λ (output : List ℕ). Appends old new output)
-          (regions_written (second_refusal region_limit (faulty_region (regions_of (cut_of input).second)) (cut_of input)) safe.s depth (cut_of input) o safe.promised.0 safe.gives safe.done safe.promised.1) appended;
+          (regions_written (second_refusal most_text (faulty_region (regions_of (cut_of input).second)) (cut_of input)) safe.s depth (cut_of input) o safe.promised.0 safe.gives safe.done safe.promised.1) appended;
     }
 
 -- ---- the laws
 
 pub boxes_laws : BoxesLaw
 boxes_laws depth = record {
-  one = λ s cut o p first second. regions_one (second_refusal region_limit (faulty_region (regions_of cut.second)) cut) s depth cut o p first second;
-  some = λ s cut known. regions_some (second_refusal region_limit (faulty_region (regions_of cut.second)) cut) s depth cut refl;
-  done = λ s cut o gives succeeds. regions_done (second_refusal region_limit (faulty_region (regions_of cut.second)) cut) s depth cut o succeeds.0
+  one = λ s cut o p first second. regions_one (second_refusal most_text (faulty_region (regions_of cut.second)) cut) s depth cut o p first second;
+  some = λ s cut known. regions_some (second_refusal most_text (faulty_region (regions_of cut.second)) cut) s depth cut refl;
+  done = λ s cut o gives succeeds. regions_done (second_refusal most_text (faulty_region (regions_of cut.second)) cut) s depth cut o succeeds.0
       (no_faulty_region (regions_of cut.second) succeeds.0 cut succeeds.2 succeeds.1) gives succeeds.2 succeeds.3;
   apart = λ d s cut searched apart. absurd (cc);
   headline = λ input o old new safe appended. stays depth input old new o safe appended;

@@ -22,7 +22,8 @@ use Rattle.traj_codec.specs.Positions.{durations}
 use Rattle.show_judge.specs.declared.ends.Answer.{Answer}
 use Rattle.show_judge.specs.Answers.{outcome_of}
 use Rattle.show_judge.specs.Verb.{Outcome}
-use Rattle.show_studies.specs.Boxes.{RegionsGive, aside_of, faulty_region, region_limit, regions_end, upwards_of}
+use Rattle.fleet_math.specs.Limits.{most_text}
+use Rattle.show_studies.specs.Boxes.{RegionsGive, aside_of, faulty_region, regions_end, upwards_of}
 use Rattle.show_judge.specs.Refused.{second_refusal}
 use Rattle.show_judge.specs.Shows.{Cut, marker_number, sent_of, trajectories_of}
 use Rattle.show_studies.specs.Steps.{EndsRegions}
@@ -67,12 +68,12 @@ nothing_refused : (too_long marked : Bool) (r q : Refusal) (line : Option ℕ) �
 nothing_refused too_long marked r q line short fine unmarked = rw short (rw fine (rw unmarked refl))
 
 -- what a text of regions gives that says these
-pub regions_give : (s : PlainShow) (depth : ℕ) (cut : Cut) (regions : List Region) (result : Result Answer AllocError) → length cut.second ≤ region_limit →
+pub regions_give : (s : PlainShow) (depth : ℕ) (cut : Cut) (regions : List Region) (result : Result Answer AllocError) → length cut.second ≤ most_text →
     regions_of cut.second ≡ Ok regions → cut.is_second_marked ≡ false → IfOk result (λ a. EndsRegions s depth regions (outcome_of a)) →
-    IfOk result (λ a. RegionsGive (second_refusal region_limit (faulty_region (regions_of cut.second)) cut) s depth cut (outcome_of a))
+    IfOk result (λ a. RegionsGive (second_refusal most_text (faulty_region (regions_of cut.second)) cut) s depth cut (outcome_of a))
 regions_give s depth cut regions (Err e) short is unmarked gives = tt
 regions_give s depth cut regions (Ok a) short is unmarked gives =
-    let none : second_refusal region_limit (faulty_region (regions_of cut.second)) cut ≡ None =
-    nothing_refused (nat_lt region_limit (length cut.second)) cut.is_second_marked refusal.SecondTooLarge (refusal.SecondLine (marker_number cut.second))
-    (faulty_region (regions_of cut.second)) (le-ltb region_limit (length cut.second) short) (ap faulty_region is) unmarked in
+    let none : second_refusal most_text (faulty_region (regions_of cut.second)) cut ≡ None =
+    nothing_refused (nat_lt most_text (length cut.second)) cut.is_second_marked refusal.SecondTooLarge (refusal.SecondLine (marker_number cut.second))
+    (faulty_region (regions_of cut.second)) (le-ltb most_text (length cut.second) short) (ap faulty_region is) unmarked in
     subst (λ (why : Option Refusal). RegionsGive why s depth cut (outcome_of a)) (sym none) (regions, gives.judged, is, gives.gives, gives.is)

@@ -12,17 +12,14 @@ use Rattle.keepout_boxes.specs.declared.judging.Judged.TheVariants.{Kept, Enters
 use Rattle.keepout_boxes.specs.declared.region.Region.{Region}
 use Rattle.keepout_boxes.specs.Kept.{JudgeGives, KeepClear}
 use Rattle.keepout_boxes.specs.Lines.{kept_line}
-use Rattle.keepout_boxes.specs.Regions.{most_text, regions_of}
+use Rattle.fleet_math.specs.Limits.{most_text}
+use Rattle.keepout_boxes.specs.Regions.{regions_of}
 use Rattle.refusals.specs.declared.refusal.Refusal.{Refusal}
 use Rattle.refusals.specs.declared.refusal.Refusal.TheVariants as refusal
 use Rattle.show_judge.specs.Outcome.{IsVerb, refused}
 use Rattle.show_judge.specs.Refused.{second_refusal}
 use Rattle.show_judge.specs.Shows.{Cut, name_at, names_of, sent_of, trajectories_of}
 use Rattle.show_judge.specs.Verb.{Outcome, Verb, of_two, outcome}
-
--- the most bytes of a text of regions
-abbrev pub region_limit : ℕ
-region_limit = most_text
 
 -- the first faulty line of a text of regions, if there is one
 abbrev pub faulty_region : Result (List Region) ℕ → Option ℕ
@@ -54,7 +51,7 @@ RegionsGive None s depth cut o =
     × (o ≡ regions_end (names_of s) depth (length regions) j)
 
 abbrev pub BoxesGive : ℕ → PlainShow → Cut → Outcome → Type 0
-BoxesGive depth s cut o = RegionsGive (second_refusal region_limit (faulty_region (regions_of cut.second)) cut) s depth cut o
+BoxesGive depth s cut o = RegionsGive (second_refusal most_text (faulty_region (regions_of cut.second)) cut) s depth cut o
 
 -- the second text says regions, to each of which each drone keeps at every instant
 abbrev pub KeepsRegions : PlainShow → Cut → Type 0
@@ -63,7 +60,7 @@ KeepsRegions s cut = (regions : List Region) × (regions_of cut.second ≡ Ok re
 -- the second text says regions, and each part of each drone's way is kept
 abbrev pub BoxesSucceed : ℕ → PlainShow → Cut → Type 0
 BoxesSucceed depth s cut =
-    (regions : List Region) × (second_refusal region_limit None cut ≡ None) × (regions_of cut.second ≡ Ok regions)
+    (regions : List Region) × (second_refusal most_text None cut ≡ None) × (regions_of cut.second ≡ Ok regions)
     × JudgeGives (raised_of (trajectories_of s)) (aside_of s.settings) (upwards_of s.settings) depth regions Kept
 
 -- The first text of the input stands for a show, the second one says these regions, and their number was written. At every instant of the
@@ -79,7 +76,7 @@ pub record StaysInRegions (input : List ℕ) (old new : Option (List ℕ)) : Typ
 
 abbrev pub boxes_verb : ℕ → Verb
 boxes_verb depth =
-    of_two None region_limit (λ s cut o. BoxesGive depth s cut o) (λ s cut. Unit {0}) (λ s cut. KeepsRegions s cut) (λ s cut. BoxesSucceed depth s cut)
+    of_two None most_text (λ s cut o. BoxesGive depth s cut o) (λ s cut. Unit {0}) (λ s cut. KeepsRegions s cut) (λ s cut. BoxesSucceed depth s cut)
     (λ input old new. StaysInRegions input old new)
 
 -- the laws of the command

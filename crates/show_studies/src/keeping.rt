@@ -1,7 +1,8 @@
 //! `boxes`: whether the drones of a show keep out of boxes and in volumes.
 ghost use Rattle.std.specs.Prelude.{◌≡◌, ◌<◌, ◌≤◌, length, All, IfOk, IfSome};
 ghost use Rattle.choreo_reader.specs.Plain.{PlainShow};
-ghost use Rattle.show_judge.specs.Shows.{Cut, most_depth, show_limit};
+ghost use Rattle.fleet_math.specs.Limits.{most_text};
+ghost use Rattle.show_judge.specs.Shows.{Cut, most_depth};
 ghost use Rattle.fleet_io.specs.Causes.{Rose};
 ghost use Rattle.fleet_io.specs.Taken.{TakesFront};
 ghost use Rattle.keepout_boxes.specs.Kept.{IsNear, KeepClear, most_regions};
@@ -9,7 +10,7 @@ ghost use Rattle.keepout_boxes.specs.Regions.{regions_of};
 ghost use Rattle.show_plan.specs.Fitting.{IsFitted, IsValidFitted};
 ghost use Rattle.show_judge.specs.Answers.{AnswersInput, AnswersTwo, IsSaid, outcome_of};
 ghost use Rattle.show_judge.specs.Input.{IsReadBoth, IsText, IsUnmarked, IsWithin, TakesOneText};
-ghost use Rattle.show_studies.specs.Boxes.{BoxesGive, BoxesLaw, KeepsRegions, RegionsGive, aside_of, boxes_verb, faulty_region, region_limit, upwards_of};
+ghost use Rattle.show_studies.specs.Boxes.{BoxesGive, BoxesLaw, KeepsRegions, RegionsGive, aside_of, boxes_verb, faulty_region, upwards_of};
 ghost use Rattle.show_judge.specs.Refused.{second_refusal};
 ghost use Rattle.show_judge.specs.Runs.{Behaves};
 ghost use Rattle.show_judge.specs.Verb.{during};
@@ -19,6 +20,7 @@ ghost use Rattle.text_lines.specs.Marker.{part_of};
 use choreo_reader::show_law;
 use fleet_curves::Curves;
 use fleet_io::{Part, Sink, Source};
+use fleet_math::MOST_TEXT;
 use keepout_boxes::{Judged, Region, RegionFault, judge, kept_line, read_regions, sent_law};
 use refusals::Refusal;
 use show_judge::{
@@ -28,9 +30,6 @@ use show_judge::{
 use show_plan::Fitted;
 use std::alloc::{AllocError, Global};
 use traj_codec::join_law;
-
-// The most bytes of a text of regions.
-const MOST_REGIONS_TEXT: usize = 1_048_576;
 
 // How the drones of a show that fits are judged for these regions.
 fn judge_regions(
@@ -84,10 +83,10 @@ fn judge_regions(
 fn judge_part(alloc: Global, fitted: &Fitted, depth: u8, part: &Part) -> Result<Answer, AllocError>
     requires valid { IsValidFitted fitted.now }
     requires depth { depth ≤ most_depth }
-    requires short { length part.now.bytes.items ≤ region_limit }
-    ensures gives { (s : PlainShow) (cut : Cut) → IsFitted fitted.now s → IsText region_limit (Text.Whole part.now) cut.second cut.is_second_marked
-        → IfOk result (λ a. RegionsGive (second_refusal region_limit (faulty_region (regions_of cut.second)) cut) s depth cut (outcome_of a)) }
-    ensures promised { (s : PlainShow) (cut : Cut) → IsFitted fitted.now s → IsText region_limit (Text.Whole part.now) cut.second cut.is_second_marked
+    requires short { length part.now.bytes.items ≤ most_text }
+    ensures gives { (s : PlainShow) (cut : Cut) → IsFitted fitted.now s → IsText most_text (Text.Whole part.now) cut.second cut.is_second_marked
+        → IfOk result (λ a. RegionsGive (second_refusal most_text (faulty_region (regions_of cut.second)) cut) s depth cut (outcome_of a)) }
+    ensures promised { (s : PlainShow) (cut : Cut) → IsFitted fitted.now s → IsText most_text (Text.Whole part.now) cut.second cut.is_second_marked
         → IfOk result (λ a. (outcome_of a).status ≡ 0 → KeepsRegions s cut) }
     ensures whole { IfOk result (λ a. (outcome_of a).status ≡ 0 → IsUnmarked (Text.Whole part.now)) }
     ensures said { IfOk result IsSaid }
@@ -119,10 +118,10 @@ fn judge_second(
 ) -> Result<Answer, AllocError>
     requires valid { IsValidFitted fitted.now }
     requires depth { depth ≤ most_depth }
-    requires short { IsWithin region_limit second.now }
-    ensures gives { (s : PlainShow) (cut : Cut) → IsFitted fitted.now s → IsText region_limit second.now cut.second cut.is_second_marked
-        → IfOk result (λ a. RegionsGive (second_refusal region_limit (faulty_region (regions_of cut.second)) cut) s depth cut (outcome_of a)) }
-    ensures promised { (s : PlainShow) (cut : Cut) → IsFitted fitted.now s → IsText region_limit second.now cut.second cut.is_second_marked
+    requires short { IsWithin most_text second.now }
+    ensures gives { (s : PlainShow) (cut : Cut) → IsFitted fitted.now s → IsText most_text second.now cut.second cut.is_second_marked
+        → IfOk result (λ a. RegionsGive (second_refusal most_text (faulty_region (regions_of cut.second)) cut) s depth cut (outcome_of a)) }
+    ensures promised { (s : PlainShow) (cut : Cut) → IsFitted fitted.now s → IsText most_text second.now cut.second cut.is_second_marked
         → IfOk result (λ a. (outcome_of a).status ≡ 0 → KeepsRegions s cut) }
     ensures whole { IfOk result (λ a. (outcome_of a).status ≡ 0 → IsUnmarked second.now) }
     ensures said { IfOk result IsSaid }
@@ -138,9 +137,9 @@ fn judge_second(
 // What `boxes` ends with for two texts.
 fn answer_two(alloc: Global, depth: u8, input: &Input) -> Result<Answer, AllocError>
     requires depth { depth ≤ most_depth }
-    requires show { IsWithin show_limit input.now.show }
-    requires second { IsWithin region_limit input.now.second }
-    ensures { AnswersTwo (boxes_verb depth) region_limit input.now result }
+    requires show { IsWithin most_text input.now.show }
+    requires second { IsWithin most_text input.now.second }
+    ensures { AnswersTwo (boxes_verb depth) most_text input.now result }
 {
     let ways = Ways {
         reads: true,
@@ -158,13 +157,13 @@ fn answer_two(alloc: Global, depth: u8, input: &Input) -> Result<Answer, AllocEr
 fn answer_input<S: Source>(alloc: Global, depth: u8, source: &mut S) -> Result<Answer, Failure>
     requires depth { depth ≤ most_depth }
     ensures answers { AnswersInput (boxes_verb depth) (S.left source.old) (S.left source.new) result }
-    ensures both { IfOk result (λ _. IsReadBoth region_limit (S.left source.old) (S.left source.new)) }
+    ensures both { IfOk result (λ _. IsReadBoth most_text (S.left source.old) (S.left source.new)) }
     ensures failed { result ≡ Err Failure.Read → Rose (S.faults source.old) (S.faults source.new) }
     ensures later { S.faults source.old ≤ S.faults source.new }
-    ensures few { IfSome (S.left source.old) (λ all. show_limit < length (part_of all)) → TakesOneText (S.left source.old) (S.left source.new) }
+    ensures few { IfSome (S.left source.old) (λ all. most_text < length (part_of all)) → TakesOneText (S.left source.old) (S.left source.new) }
     ensures left { TakesFront (S.left source.old) (S.left source.new) }
 {
-    let input = read_two(alloc, source, MOST_REGIONS_TEXT)?;
+    let input = read_two(alloc, source, MOST_TEXT)?;
     Ok(answer_two(alloc, depth, &input)?)
 }
 

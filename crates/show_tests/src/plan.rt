@@ -2,10 +2,11 @@
 ghost use Rattle.std.specs.Prelude.{IfOk};
 ghost use Rattle.show_plan.specs.Fitting.{IsValidFitted};
 
-use choreo_reader::{MOST_BYTES, read_show};
+use choreo_reader::read_show;
 use cue_grid::GridFault;
 use figure_expand::AxisValue;
 use fleet_io::Lines;
+use fleet_math::MOST_TEXT;
 use show_plan::{FitError, Fitted, PlanFault, fit, plan_text};
 use std::alloc::Global;
 
@@ -13,7 +14,7 @@ use std::alloc::Global;
 fn fitted_of(alloc: Global, text: &[u8]) -> Result<Fitted, Option<PlanFault>>
     ensures { IfOk result (λ f. IsValidFitted f) }
 {
-    if text.len() > MOST_BYTES {
+    if text.len() > MOST_TEXT {
         return Err(None);
     }
     let show = match read_show(alloc, text) {

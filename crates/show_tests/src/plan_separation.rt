@@ -1,6 +1,7 @@
 //! Certificates of shows. Trees and blocked parts were computed from the definitions by exact sums.
 
-use choreo_reader::{MOST_BYTES, read_show};
+use choreo_reader::read_show;
+use fleet_math::MOST_TEXT;
 use sep_certificate::write_certificate;
 use sep_parts::Slot;
 use show_plan::{BlockedPart, SeparationFault, certificate, count_nodes, fit};
@@ -16,7 +17,7 @@ enum Answer {
 }
 
 fn answer_of(alloc: Global, show: &[u8], depth: u8, wanted: &[u8]) -> Answer {
-    if show.len() > MOST_BYTES || depth > 8 {
+    if show.len() > MOST_TEXT || depth > 8 {
         return Answer::Other;
     }
     let Ok(show) = read_show(alloc, show) else {
@@ -79,7 +80,7 @@ fn drones_that_a_steep_direction_separates(rt: HostRuntime) -> Result<(), Fail> 
 
 // How many nodes are counted, where no part is blocked.
 fn nodes_of(alloc: Global, show: &[u8], depth: u8) -> Option<u32> {
-    if show.len() > MOST_BYTES || depth > 8 {
+    if show.len() > MOST_TEXT || depth > 8 {
         return None;
     }
     let Ok(show) = read_show(alloc, show) else {

@@ -19,7 +19,8 @@ use Rattle.show_judge.specs.Refused.{faulty_event, second_refusal}
 use Rattle.show_judge.specs.Shows.{Cut, sent_of, words_of}
 use Rattle.show_judge.specs.Verb.{Outcome}
 use Rattle.show_uploads.specs.Rehearse.{RehearsalEnds, RehearseGives, RehearseLaw, RehearseSucceeds, ScheduleGives, rehearse_known, rehearse_verb, schedule_refusal}
-use Rattle.show_uploads.specs.Sessions.{schedule_limit, session_of}
+use Rattle.fleet_math.specs.Limits.{most_text}
+use Rattle.show_uploads.specs.Sessions.{session_of}
 use Rattle.show_judge.proofs.HeadlineLemmas.{flies_text}
 use Rattle.show_uploads.proofs.RehearsalLemmas.{events_one, schedule_one, schedule_some}
 
@@ -34,8 +35,8 @@ schedule_done None s readback start cut o events none gives is done =
     ends_done (progress (session_of s readback start) (rehearsed (session_of s readback start) gives.0).heard) s gives.0 (rehearsed (session_of s readback start) gives.0) o
     (subst (λ (es : List WorldEvent). progress (session_of s readback start) (rehearsed (session_of s readback start) es).heard ≡ Done) same done) gives.2
 
-no_faulty : (given : Result (List WorldEvent) ℕ) (events : List WorldEvent) (cut : Cut) → given ≡ Ok events → second_refusal schedule_limit None cut ≡ None →
-    second_refusal schedule_limit (faulty_event given) cut ≡ None
+no_faulty : (given : Result (List WorldEvent) ℕ) (events : List WorldEvent) (cut : Cut) → given ≡ Ok events → second_refusal most_text None cut ≡ None →
+    second_refusal most_text (faulty_event given) cut ≡ None
 no_faulty given events cut is none = rw is none
 
 words_counted : (s : PlainShow) → length (sent_of s) ≡ length (words_of s)

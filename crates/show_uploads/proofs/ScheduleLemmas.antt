@@ -48,7 +48,8 @@ use Rattle.show_judge.specs.Verb.{Outcome, outcome}
 use Rattle.show_uploads.specs.Rehearse.{AllDecode, RehearsalEnds, RehearseGives, Rehearses, SaysHeld, ScheduleGives, schedule_refusal}
 use Rattle.show_judge.specs.Shows.{Cut, marker_number, words_of}
 use Rattle.show_judge.specs.Refused.{faulty_event}
-use Rattle.show_uploads.specs.Sessions.{schedule_limit, session_of}
+use Rattle.fleet_math.specs.Limits.{most_text}
+use Rattle.show_uploads.specs.Sessions.{session_of}
 use Rattle.show_uploads.proofs.RehearsalLemmas.{decoded_after}
 
 -- ---- whose packet or byte ends an upload
@@ -228,12 +229,12 @@ nothing_refused : (too_long marked : Bool) (r q : Refusal) (line : Option ℕ) �
 nothing_refused too_long marked r q line short fine unmarked = rw short (rw fine (rw unmarked refl))
 
 -- what a schedule gives whose events are these
-pub schedule_gives : (s : PlainShow) (readback start : Bool) (cut : Cut) (events : List WorldEvent) (result : Result Answer AllocError) → length cut.second ≤ schedule_limit →
+pub schedule_gives : (s : PlainShow) (readback start : Bool) (cut : Cut) (events : List WorldEvent) (result : Result Answer AllocError) → length cut.second ≤ most_text →
     schedule_of readback (words_of s) cut.second ≡ Ok events → cut.is_second_marked ≡ false → IfOk result (λ a. Rehearses s readback start events (outcome_of a)) →
     IfOk result (λ a. RehearseGives s readback start cut (outcome_of a))
 schedule_gives s readback start cut events (Err e) short is unmarked gives = tt
 schedule_gives s readback start cut events (Ok a) short is unmarked gives =
     let none : schedule_refusal s readback cut ≡ None =
-    nothing_refused (nat_lt schedule_limit (length cut.second)) cut.is_second_marked refusal.SecondTooLarge (refusal.SecondLine (marker_number cut.second))
-    (faulty_event (schedule_of readback (words_of s) cut.second)) (le-ltb schedule_limit (length cut.second) short) (ap faulty_event is) unmarked in
+    nothing_refused (nat_lt most_text (length cut.second)) cut.is_second_marked refusal.SecondTooLarge (refusal.SecondLine (marker_number cut.second))
+    (faulty_event (schedule_of readback (words_of s) cut.second)) (le-ltb most_text (length cut.second) short) (ap faulty_event is) unmarked in
     subst (λ (why : Option Refusal). ScheduleGives why s readback start cut (outcome_of a)) (sym none) (events, is, gives)

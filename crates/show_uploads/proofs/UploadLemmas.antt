@@ -34,7 +34,8 @@ use Rattle.show_judge.specs.Outcome.{IsOutcomeOf, IsSafe, OutcomeLaw, ShowGives}
 use Rattle.show_judge.specs.Refused.{IsOfInput}
 use Rattle.show_judge.specs.Runs.{IsOutput, IsStopped, Runs}
 use Rattle.show_judge.specs.Verb.{IsJudged, Outcome, Run, outcome, run_of}
-use Rattle.show_judge.specs.Shows.{Cut, cut_of, show_limit}
+use Rattle.fleet_math.specs.Limits.{most_text}
+use Rattle.show_judge.specs.Shows.{Cut, cut_of}
 use Rattle.show_uploads.specs.Ready.{IsLinkOf, ReadyGives}
 use Rattle.show_uploads.specs.Sessions.{link_in, session_of}
 use Rattle.show_uploads.specs.Upload.{UploadStops, UploadStopsReading, UploadsPromptly, upload_verb, upload_ways}
@@ -44,7 +45,7 @@ use Rattle.show_judge.proofs.RunLemmas.{refused_among, refused_judged, some_map,
 -- ---- what was read
 
 -- what a text was judged to be, the text of the input is
-pub ready_of_text : (depth : ℕ) (start readback : Bool) (old new : Option (List ℕ)) (part : Part) (ready : Ready) → TakesPart old new part.bytes.items part.marker → length part.bytes.items ≤ show_limit →
+pub ready_of_text : (depth : ℕ) (start readback : Bool) (old new : Option (List ℕ)) (part : Part) (ready : Ready) → TakesPart old new part.bytes.items part.marker → length part.bytes.items ≤ most_text →
     ((cut : Cut) → IsShowText (Whole part) cut → ReadyGives (upload_ways depth) start readback cut ready) → IfSome old (λ all. ReadyGives (upload_ways depth) start readback (cut_of all) ready)
 ready_of_text depth start readback None new part ready takes short gives = tt
 ready_of_text depth start readback (Some all) new part ready takes short gives =

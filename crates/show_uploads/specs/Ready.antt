@@ -14,13 +14,14 @@ use Rattle.show_uploads.specs.declared.uploading.Ready.TheVariants as ready
 use Rattle.show_judge.specs.Answers.{IsRefusedBy}
 use Rattle.show_judge.specs.Verb.{IsSafeShow}
 use Rattle.show_judge.specs.Refused.{IsOfInput, show_refusal}
-use Rattle.show_judge.specs.Shows.{Cut, show_limit}
+use Rattle.fleet_math.specs.Limits.{most_text}
+use Rattle.show_judge.specs.Shows.{Cut}
 use Rattle.show_uploads.specs.Sessions.{link_in}
 
 -- The show's text stands for a show that nothing refuses, and this is its upload through a link.
 pub record IsLinkOf (c : Ways) (start readback : Bool) (cut : Cut) (link : Link) : Type 0 where
   pub s : PlainShow
-  pub short : length cut.show ≤ show_limit
+  pub short : length cut.show ≤ most_text
   pub stands : StandsFor cut.show s
   pub accepted : show_refusal c cut s ≡ None
   pub safe : IsSafeShow s

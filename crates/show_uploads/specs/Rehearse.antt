@@ -23,7 +23,8 @@ use Rattle.show_judge.specs.Outcome.{IsVerb, refused}
 use Rattle.show_judge.specs.Refused.{faulty_event, second_refusal}
 use Rattle.show_judge.specs.Shows.{Cut, name_at, names_of, sent_of, words_of}
 use Rattle.show_judge.specs.Verb.{FliesApart, Outcome, Verb, of_two}
-use Rattle.show_uploads.specs.Sessions.{schedule_limit, session_of}
+use Rattle.fleet_math.specs.Limits.{most_text}
+use Rattle.show_uploads.specs.Sessions.{session_of}
 
 -- ---- schedules
 
@@ -59,7 +60,7 @@ ScheduleGives None s readback start cut o =
 
 -- why a schedule's text is refused, if it is
 abbrev pub schedule_refusal : PlainShow → Bool → Cut → Option Refusal
-schedule_refusal s readback cut = second_refusal schedule_limit (faulty_event (schedule_of readback (words_of s) cut.second)) cut
+schedule_refusal s readback cut = second_refusal most_text (faulty_event (schedule_of readback (words_of s) cut.second)) cut
 
 -- what a schedule's text gives, with read-back (true) or without
 abbrev pub RehearseGives : PlainShow → Bool → Bool → Cut → Outcome → Type 0
@@ -70,7 +71,7 @@ RehearseGives s readback start cut o = ScheduleGives (schedule_refusal s readbac
 -- A schedule leads to the end of the upload, with read-back (true) or without.
 abbrev pub RehearseSucceeds : PlainShow → Bool → Bool → Cut → Type 0
 RehearseSucceeds s readback start cut =
-    (events : List WorldEvent) × (second_refusal schedule_limit None cut ≡ None) × (schedule_of readback (words_of s) cut.second ≡ Ok events)
+    (events : List WorldEvent) × (second_refusal most_text None cut ≡ None) × (schedule_of readback (words_of s) cut.second ≡ Ok events)
     × (progress (session_of s readback start) (rehearsed (session_of s readback start) events).heard ≡ Done)
 
 -- ---- the command
@@ -82,7 +83,7 @@ rehearse_known true start s cut = (o : Outcome) × RehearseGives s true start cu
 
 abbrev pub rehearse_verb : ℕ → Bool → Bool → Verb
 rehearse_verb depth start readback =
-    of_two (Some depth) schedule_limit (λ s cut o. RehearseGives s readback start cut o) (rehearse_known readback start) (λ s cut. FliesApart s) (λ s cut. RehearseSucceeds s readback start cut)
+    of_two (Some depth) most_text (λ s cut o. RehearseGives s readback start cut o) (rehearse_known readback start) (λ s cut. FliesApart s) (λ s cut. RehearseSucceeds s readback start cut)
     (λ input old new. FliesText (part_of input))
 
 -- the laws of the command

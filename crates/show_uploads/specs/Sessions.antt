@@ -1,15 +1,10 @@
 -- What is uploaded of a show.
-use Rattle.std.specs.Prelude.{ℕ, Bool}
+use Rattle.std.specs.Prelude.{Bool}
 use Rattle.choreo_reader.specs.Plain.{PlainShow}
-use Rattle.fleet_world.specs.declared.schedule.TheConstants.{MOST_TEXT}
 use Rattle.link_upload.specs.Links.{Link, link_of}
 use Rattle.show_plan.specs.Landing.{session_for}
 use Rattle.upload_model.specs.Sessions.{Upload as Session}
 use Rattle.show_judge.specs.Shows.{sent_of}
-
--- the most bytes of a schedule's text
-abbrev pub schedule_limit : ℕ
-schedule_limit = MOST_TEXT
 
 -- what is uploaded of a show, with read-back or without, with starts or without
 abbrev pub session_of : PlainShow → Bool → Bool → Session

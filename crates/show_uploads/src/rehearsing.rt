@@ -12,11 +12,12 @@ ghost use Rattle.show_judge.specs.Shows.{Cut, most_depth};
 ghost use Rattle.show_judge.specs.Verb.{during};
 ghost use Rattle.show_judge.specs.Outcome.{IsVerb};
 ghost use Rattle.show_uploads.specs.Rehearse.{RehearseLaw};
-ghost use Rattle.show_uploads.specs.Sessions.{schedule_limit};
+ghost use Rattle.fleet_math.specs.Limits.{most_text};
 
 use firmware_memory::curve_law;
 use fleet_io::{Part, Sink, Source};
-use fleet_world::{MOST_TEXT, ScheduleFault, WorldEvent, read_schedule, schedule_law};
+use fleet_math::MOST_TEXT;
+use fleet_world::{ScheduleFault, WorldEvent, read_schedule, schedule_law};
 use refusals::Refusal;
 use rehearsal::memory_text;
 use show_judge::{Answer, Output, Text, TwoTexts, marker_number, name_at, run_two};
@@ -87,9 +88,9 @@ fn judge_part(
 ) -> Result<Answer, AllocError>
     requires valid { IsValidFitted fitted.now }
     requires lands { (g : Grid) × Lands g fitted.now.settings fitted.now.sent }
-    requires short { length part.now.bytes.items ≤ schedule_limit }
+    requires short { length part.now.bytes.items ≤ most_text }
     ensures gives { (s : PlainShow) (cut : Cut) → IsFitted fitted.now s
-        → IsText schedule_limit (Text.Whole part.now) cut.second cut.is_second_marked
+        → IsText most_text (Text.Whole part.now) cut.second cut.is_second_marked
         → IfOk result (λ a. RehearseGives s readback start cut (outcome_of a)) }
     ensures whole { IfOk result (λ a. (outcome_of a).status ≡ 0 → IsUnmarked (Text.Whole part.now)) }
     ensures said { IfOk result IsSaid }
@@ -122,9 +123,9 @@ fn judge_second(
 ) -> Result<Answer, AllocError>
     requires valid { IsValidFitted fitted.now }
     requires lands { (g : Grid) × Lands g fitted.now.settings fitted.now.sent }
-    requires short { IsWithin schedule_limit second.now }
+    requires short { IsWithin most_text second.now }
     ensures gives { (s : PlainShow) (cut : Cut) → IsFitted fitted.now s
-        → IsText schedule_limit second.now cut.second cut.is_second_marked
+        → IsText most_text second.now cut.second cut.is_second_marked
         → IfOk result (λ a. RehearseGives s readback start cut (outcome_of a)) }
     ensures whole { IfOk result (λ a. (outcome_of a).status ≡ 0 → IsUnmarked second.now) }
     ensures said { IfOk result IsSaid }
@@ -149,7 +150,7 @@ pub struct Rehearsal {
 impl TwoTexts for Rehearsal {
     ghost verb = { λ c. rehearse_verb c.depth c.start c.readback };
 
-    ghost most = { λ c. schedule_limit };
+    ghost most = { λ c. most_text };
 
     ghost searched = { λ c. c.depth };
 

@@ -14,15 +14,17 @@ ghost use Rattle.show_judge.specs.Answers.{Wrote};
 ghost use Rattle.show_judge.specs.Headline.{UploadsText};
 ghost use Rattle.show_judge.specs.Input.{IsShowText, IsWithin, TakesOneText};
 ghost use Rattle.show_judge.specs.Runs.{Behaves, Runs, TakesLittle};
-ghost use Rattle.show_judge.specs.Shows.{Cut, cut_of, most_depth, show_limit};
+ghost use Rattle.fleet_math.specs.Limits.{most_text};
+ghost use Rattle.show_judge.specs.Shows.{Cut, cut_of, most_depth};
 ghost use Rattle.show_judge.specs.Verb.{IsJudged, during};
 ghost use Rattle.show_uploads.specs.Ready.{GoesOnReady, IsSoundReady, ReadyGives};
 ghost use Rattle.upload_core.specs.HostStandsFor.{HostStandsFor};
 ghost use Rattle.upload_core.specs.HostState.{view_of};
 ghost use Rattle.show_uploads.specs.Upload.{HasBegun, UploadStopsReading, UploadingLaw, upload_verb, upload_ways};
 
-use choreo_reader::{MOST_BYTES, show_law};
+use choreo_reader::show_law;
 use fleet_io::{IoFault, Parts, Sink, Source, marker_law};
+use fleet_math::MOST_TEXT;
 use link_frames::END_BYTE;
 use link_upload::upload_law;
 use refusals::Refusal;
@@ -62,7 +64,7 @@ fn make_ready(
     text: &Text,
 ) -> Result<Ready, AllocError>
     requires depth { depth ≤ most_depth }
-    requires short { IsWithin show_limit text.now }
+    requires short { IsWithin most_text text.now }
     ensures gives { (cut : Cut) → IsShowText text.now cut → IfOk result (ReadyGives (upload_ways depth) start readback cut) }
     ensures sound { IfOk result IsSoundReady }
 {
@@ -107,7 +109,7 @@ fn read_ready<S: Source>(
     ensures later { S.faults source.old ≤ S.faults source.new }
     ensures left { TakesFront (S.left source.old) (S.left source.new) }
 {
-    match parts.text(alloc, source, MOST_BYTES) {
+    match parts.text(alloc, source, MOST_TEXT) {
         Ok(part) => Ok(make_ready(alloc, depth, start, readback, &Text::Whole { part })?),
         Err(IoFault::TooLong) => Ok(Ready::Refused {
             refusal: Refusal::TooLarge,

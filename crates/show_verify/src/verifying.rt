@@ -17,14 +17,15 @@ ghost use Rattle.show_judge.specs.Runs.{Behaves};
 ghost use Rattle.show_judge.specs.Verb.{during};
 ghost use Rattle.show_verify.specs.Verify.{VerifyLaw, certificate_limit, verify_verb};
 ghost use Rattle.show_verify.specs.SecondTexts.{GivesSecond, IsFewTaken, IsTakenToEnd, IsTakenWhole, TakenGives, line_after, taken_by, verdict_outcome};
-ghost use Rattle.show_judge.specs.Shows.{show_limit};
+ghost use Rattle.fleet_math.specs.Limits.{most_text};
 
 use crate::faults::not_valid;
 use crate::lines::valid_line;
 use certificate_checker::{Checker, Verdict};
-use choreo_reader::{MOST_BYTES, show_law};
+use choreo_reader::show_law;
 use fleet_curves::Curves;
 use fleet_io::{Ask, Failed, Parts, Sink, Source, part_law};
+use fleet_math::MOST_TEXT;
 use refusals::Refusal;
 use sep_certificate::{CERTIFICATE_LIMIT, certificate_law, text_law};
 use sep_parts::apart_law;
@@ -236,11 +237,11 @@ fn answer_input<S: Source>(alloc: Global, source: &mut S) -> Result<Answer, Fail
     ensures both { IfOk result (λ _. IsReadBoth certificate_limit (S.left source.old) (S.left source.new)) }
     ensures failed { result ≡ Err Failure.Read → Rose (S.faults source.old) (S.faults source.new) }
     ensures later { S.faults source.old ≤ S.faults source.new }
-    ensures few { IfSome (S.left source.old) (λ all. show_limit < length (part_of all)) → TakesOneText (S.left source.old) (S.left source.new) }
+    ensures few { IfSome (S.left source.old) (λ all. most_text < length (part_of all)) → TakesOneText (S.left source.old) (S.left source.new) }
     ensures left { TakesFront (S.left source.old) (S.left source.new) }
 {
     let mut parts = Parts::make();
-    let show = next_text(alloc, &mut parts, source, MOST_BYTES)?;
+    let show = next_text(alloc, &mut parts, source, MOST_TEXT)?;
     let ways = Ways {
         reads: true,
         has_second: true,

@@ -73,14 +73,6 @@ lasts [] cue inside lasting = absurd (omega arith)
 lasts (s ∷ rest) zero inside lasting = All-head HasDuration s rest lasting
 lasts (s ∷ rest) (suc cue) inside lasting = lasts rest cue (omega arith) (All-tail HasDuration s rest lasting)
 
--- what bounds each multiple bounds that of the greatest
-greatest-times : (n : ℕ) (f : ℕ → ℕ) (c x : ℕ) → ((k : ℕ) → k < n → c * f k ≤ x) → c * greatest_below n f ≤ x
-greatest-times zero f c x most = omega arith
-greatest-times (suc n) f c x most = both (greatest_below n f) (f n) (greatest-times n f c x (λ k small. most k (omega arith))) (most n (omega arith))
-  where
-    both : (a b : ℕ) → c * a ≤ x → c * b ≤ x → c * max a b ≤ x
-    both a b first second = grind arith
-
 -- a step of a part is at most the widest
 flat_at : (depth : ℕ) (f : ℕ → ℤ) → AreFlat depth f (pos (widest_part depth f))
 unfolding widest_part widest_step

@@ -194,10 +194,6 @@ steep (suc e) f m d b s low order high flat =
     next_scale : (e : ℕ) → pos (2 ^ (7 * e)) *ℤ pos 128 ≡ pos (2 ^ (7 * suc e))
     next_scale e = let more : 7 * suc e ≡ 7 * e + 7 = omega arith in rw (more, pow-add 2 (7 * e) 7) (omega (arith, ints))
 
--- ---- two instants with denominators of their own
-minus_mul : (x a b : ℤ) → x *ℤ a -ℤ b *ℤ x ≡ x *ℤ (a -ℤ b)
-minus_mul x a b = simp ring (omega (arith, linear))
-
 -- Between a / c and b / d a curve of degree seven changes by at most so much: the positions are numerators over c^7 and d^7.
 pub steep_between : (e : ℕ) (f : ℕ → ℤ) (m a c b d : ℤ) → pos 0 ≤ℤ a → a ≤ℤ c → pos 0 ≤ℤ b → b ≤ℤ d → (d *ℤ a) ≤ℤ (c *ℤ b) → AreFlat e f m →
     IsWithin (change e (c *ℤ b -ℤ d *ℤ a) (power (c *ℤ d) 6 *ℤ m)) (pos (2 ^ (7 * e)) *ℤ (power c 7 *ℤ bernstein 7 f b d -ℤ power d 7 *ℤ bernstein 7 f a c))

@@ -111,8 +111,3 @@ line_put comments number at line shown rest behind old new total cut seen made s
     ∙ append_assoc old (line_tokens number at (visible comments line)) later
     ∙ ap (λ ls. old ++ tokens_from comments number at ls) (sym cut)
     ∙ so_far
-
--- no line is left
-pub lines_put : (comments : Comments) (number at : ℕ) (rest : List ℕ) (old total : List Token) → lines_of rest ≡ [] → old ++ tokens_from comments number at (lines_of rest) ≡ total → old ≡ total
-lines_put comments number at rest old total none so_far =
-    sym (append-nil old) ∙ ap (λ ls. old ++ tokens_from comments number at ls) (sym none) ∙ so_far

@@ -1,9 +1,10 @@
 //! Texts, with what is read of them.
 
 use choreo_reader::{
-    Act, ActLine, Block, DroneLine, Figure, Frame, LineKind, MOST_BYTES, Mirror, Point, Settings,
-    Show, ShowFault, Token, read_show, tokens,
+    Act, ActLine, Block, DroneLine, Figure, Frame, LineKind, Mirror, Point, Settings, Show,
+    ShowFault, Token, read_show, tokens,
 };
+use fleet_math::MOST_TEXT;
 use std::alloc::{AllocError, Global};
 use std::test::Fail;
 
@@ -261,7 +262,7 @@ fn settings_that_are_left_out_have_their_defaults(rt: HostRuntime) {
 
 // Whether a text is a show of these settings.
 fn has_settings(alloc: Global, text: &[u8], wanted: &Settings) -> bool {
-    if text.len() > MOST_BYTES {
+    if text.len() > MOST_TEXT {
         return false;
     }
     match read_show(alloc, text) {
@@ -272,7 +273,7 @@ fn has_settings(alloc: Global, text: &[u8], wanted: &Settings) -> bool {
 
 // Whether the first faulty line of a text is this one, and so faulty.
 fn has_fault(alloc: Global, text: &[u8], line: u32, kind: LineKind) -> bool {
-    if text.len() > MOST_BYTES {
+    if text.len() > MOST_TEXT {
         return false;
     }
     match read_show(alloc, text) {
@@ -458,7 +459,7 @@ fn lines_in_blocks_are_judged(rt: HostRuntime) {
 
 // Whether a text is read, where it isn't too long.
 fn is_read(alloc: Global, text: &[u8]) -> bool {
-    if text.len() > MOST_BYTES {
+    if text.len() > MOST_TEXT {
         return false;
     }
     match read_show(alloc, text) {
@@ -473,9 +474,9 @@ fn the_longest_text_is_read(rt: HostRuntime) -> Result<(), Fail> {
     let mut text = Vec::new(alloc);
     text.extend_from_slice(SMALLEST)?;
     text.push(b'#')?;
-    for _ in SMALLEST.len() + 1..MOST_BYTES {
+    for _ in SMALLEST.len() + 1..MOST_TEXT {
         text.push(b'x')?;
     }
-    assert!(rt; text.len() == MOST_BYTES && is_read(alloc, text.as_slice()));
+    assert!(rt; text.len() == MOST_TEXT && is_read(alloc, text.as_slice()));
     Ok(())
 }

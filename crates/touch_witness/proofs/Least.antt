@@ -34,25 +34,6 @@ before_next : (i j c d : ℕ) → PairBefore i j c (d + 1) → PairBefore i j c 
 before_next i j c d (inl less) = inl (inl less)
 before_next i j c d (inr same) = by_lt j d (λ (l : j < d). inl (inr (same.0, l))) (λ (m : d ≤ j). inr (same.0, omega (arith, same.1)))
 
--- ---- pairs
-pub least_start : (points : List Point) (r h n : ℕ) (x : ℤ) → 2 ≤ n → IsIn (pos 0) (pos (2 ^ 126)) x → x ≡ left_at points r h 0 1 → IsLeastPair points r h n 0 0 (record { a = 0; b = 1; left = x })
-least_start points r h n x two small is = record {
-  order = omega arith;
-  inside = omega arith;
-  small = small;
-  is = is;
-  least = λ i j order inside before. none i j before;
-  first = λ i j order inside before. none_first i j order before;
-}
-  where
-    none : (i j : ℕ) → PairBefore i j 0 0 → x ≤ℤ left_at points r h i j
-    none i j (inl less) = absurd (omega (arith, less))
-    none i j (inr same) = absurd (omega (arith, same.1))
-
-    none_first : (i j : ℕ) → i < j → PairBefore i j 0 1 → x <ℤ left_at points r h i j
-    none_first i j order (inl less) = absurd (omega (arith, less))
-    none_first i j order (inr same) = absurd (omega (arith, same.1, order))
-
 pub least_open : (points : List Point) (r h n a : ℕ) (p : Pair) → IsLeastPair points r h n a 0 p → IsLeastPair points r h n a (a + 1) p
 least_open points r h n a p so_far = record {
   order = so_far.order;
@@ -134,28 +115,6 @@ above_at : (trajs : List Traj) (r h fine cue at : ℕ) (u : Touch) (x : ℤ) →
 above_at trajs r h fine cue at u x cue_is at_is above t v t_is v_is =
     subst (λ (k : ℕ). x <ℤ left_of t v r h (listed fine k u.at)) (sym cue_is) (subst (λ (k : ℕ). x <ℤ left_of t v r h (listed fine cue k)) (sym at_is) (above t v t_is v_is))
 
-pub best_start : (trajs : List Traj) (r h fine : ℕ) (s : Best) → IsNearestAt trajs r h fine 0 0 s → 1 ≤ cues_in trajs → IsBest trajs r h fine 0 0 s
-best_start trajs r h fine s here some = record {
-  among = record { cue = rw here.in_cue some; at = rw here.fraction (omega arith); pair = here.order; drone = here.inside };
-  small = here.small;
-  near = here.near;
-  is = here.is;
-  least = λ u among before. none u before;
-  first = λ u among before. step u among before;
-}
-  where
-    none : (u : Touch) → PairBefore u.cue u.at 0 0 → LeftFrom trajs r h fine u s.left
-    none u (inl less) = absurd (omega (arith, less))
-    none u (inr same) = absurd (omega (arith, same.1))
-
-    in_one : (u : Touch) → IsListed trajs fine u → u.cue ≡ s.site.cue → (u.at < s.site.at) ⊎ ((u.at ≡ s.site.at) × PairBefore u.a u.b s.site.a s.site.b) → LeftAbove trajs r h fine u s.left
-    in_one u among same (inl less) = absurd (omega (arith, less, here.fraction))
-    in_one u among same (inr both) = above_at trajs r h fine 0 0 u s.left (same ∙ here.in_cue) (both.0 ∙ here.fraction) (here.first u.a u.b among.pair among.drone both.1)
-
-    step : (u : Touch) → IsListed trajs fine u → IsBefore u s.site → LeftAbove trajs r h fine u s.left
-    step u among (inl less) = absurd (omega (arith, less, here.in_cue))
-    step u among (inr both) = in_one u among both.0 both.1
-
 pub best_keep : (trajs : List Traj) (r h fine cue at : ℕ) (s p : Best) → IsBest trajs r h fine cue at s → IsNearestAt trajs r h fine cue at p → s.left ≤ℤ p.left → IsBest trajs r h fine cue (at + 1) s
 best_keep trajs r h fine cue at s p so_far here less = record {
   among = so_far.among;
@@ -195,20 +154,6 @@ best_take trajs r h fine cue at s p so_far here less inside fraction = record {
     strict : (u : Touch) → IsListed trajs fine u → IsBefore u p.site → LeftAbove trajs r h fine u p.left
     strict u among (inl earlier) = earlier_one u among (inl (omega (arith, earlier, here.in_cue)))
     strict u among (inr both) = in_one u among both.0 both.1
-
-pub best_next : (trajs : List Traj) (r h fine cue m : ℕ) (s : Best) → IsBest trajs r h fine cue m s → 2 ^ fine < m → IsBest trajs r h fine (cue + 1) 0 s
-best_next trajs r h fine cue m s so_far past = record {
-  among = so_far.among;
-  small = so_far.small;
-  near = so_far.near;
-  is = so_far.is;
-  least = λ u among before. step u among before;
-  first = so_far.first;
-}
-  where
-    step : (u : Touch) → IsListed trajs fine u → PairBefore u.cue u.at (cue + 1) 0 → LeftFrom trajs r h fine u s.left
-    step u among (inl less) = by_lt u.cue cue (λ (l : u.cue < cue). so_far.least u among (inl l)) (λ (k : cue ≤ u.cue). so_far.least u among (inr (omega (arith, less, k), omega (arith, among.at, past))))
-    step u among (inr same) = absurd (omega (arith, same.1))
 
 -- a show has as many cues as its first trajectory segments
 pub cues_are : (trajs : List Traj) (t : Traj) → t ≡ get_or trajs 0 t → 1 ≤ length trajs → cues_in trajs ≡ length t.segments

@@ -1,15 +1,16 @@
 //! The closest of the listed instants.
 
 ghost use Rattle.std.specs.Prelude.{◌≡◌, ℕ, ◌+◌, ◌*◌, ◌^◌, ◌≤◌, ◌<◌, length, All, MatchOption};
-ghost use Rattle.fleet_math.specs.Limits.{most_cues};
+ghost use Rattle.fleet_math.specs.Limits.{most_cues, most_drones};
 ghost use Rattle.sep_parts.specs.Directions.{IsAxis};
-ghost use Rattle.fleet_curves.specs.Raised.{IsOneShow, cues_in, most_drones};
+ghost use Rattle.fleet_curves.specs.Raised.{IsOneShow, cues_in};
 ghost use Rattle.touch_witness.specs.Sites.{IsClosest};
 ghost use Rattle.touch_witness.specs.Steps.{AreStarts, HasCue, IsBest, IsLeastPair, IsNearestAt, IsShort, most_ratio};
 
 use crate::distance::{left_side, right_side};
-use crate::places::{DRONES, Point, Start, next_starts, places, starts};
+use crate::places::{Point, Start, next_starts, places, starts};
 use crate::site::{Closest, Touch};
+use fleet_math::MOST_DRONES;
 use traj_codec::Traj;
 
 // A pair of drones, and the left side of the test for it.
@@ -82,7 +83,7 @@ fn level(left: u128, right: u128) -> u64
 // The closest so far, after a cue.
 fn nearest_in_cue(
     trajs: &[Traj],
-    starts: &[Start; DRONES],
+    starts: &[Start; MOST_DRONES],
     cue: usize,
     r: u16,
     h: u16,
@@ -114,7 +115,7 @@ fn nearest_in_cue(
 // The closest pair at an instant.
 fn nearest_at(
     trajs: &[Traj],
-    starts: &[Start; DRONES],
+    starts: &[Start; MOST_DRONES],
     cue: usize,
     at: u8,
     r: u16,
@@ -146,7 +147,7 @@ fn nearest_at(
 }
 
 // The closest two of the first drones.
-fn least_pair(points: &[Point; DRONES], drones: usize, r: u16, h: u16) -> Pair
+fn least_pair(points: &[Point; MOST_DRONES], drones: usize, r: u16, h: u16) -> Pair
     requires two { 2 ≤ drones }
     requires few { drones ≤ most_drones }
     requires short { All IsShort points.now }
@@ -167,7 +168,7 @@ fn least_pair(points: &[Point; DRONES], drones: usize, r: u16, h: u16) -> Pair
 
 // The closest pair so far, after those of a drone with the drones after it.
 fn least_with(
-    points: &[Point; DRONES],
+    points: &[Point; MOST_DRONES],
     a: usize,
     drones: usize,
     r: u16,

@@ -7,15 +7,13 @@ ghost use Rattle.fleet_math.specs.Sums.{power};
 ghost use Rattle.bezier_core.specs.Steps.{IsWithin};
 ghost use Rattle.traj_codec.specs.Spelling.{IsNumber};
 ghost use Rattle.traj_codec.specs.Positions.{element_on, value_after};
-ghost use Rattle.fleet_curves.specs.Raised.{most_drones};
+ghost use Rattle.fleet_math.specs.Limits.{most_drones};
 ghost use Rattle.touch_witness.specs.Steps.{ArePlaces, AreStarts, HasCue, IsNear, IsPlace, IsShort, IsStart, position, reach};
 
 use bezier_core::Bez;
 use fleet_curves::{row_of_four, value_after};
+use fleet_math::MOST_DRONES;
 use traj_codec::{Element, Segment, Traj};
-
-/// The most drones of a show.
-pub const DRONES: usize = 32;
 
 // What stands in the places of drones that are not there.
 const NO_START: Start = Start { x: 0, y: 0, z: 0 };
@@ -39,11 +37,11 @@ pub struct Point {
 }
 
 /// Where each drone begins the first cue.
-pub fn starts(trajs: &[Traj]) -> [Start; DRONES]
+pub fn starts(trajs: &[Traj]) -> [Start; MOST_DRONES]
     requires { length trajs.now ≤ most_drones }
     ensures { AreStarts trajs.now 0 result }
 {
-    let mut all = [NO_START; DRONES];
+    let mut all = [NO_START; MOST_DRONES];
     for k in 0..trajs.len() {
         all[k] = first_start(&trajs[k]);
     }
@@ -51,13 +49,17 @@ pub fn starts(trajs: &[Traj]) -> [Start; DRONES]
 }
 
 /// Where each drone begins the next cue.
-pub fn next_starts(trajs: &[Traj], starts: &[Start; DRONES], cue: usize) -> [Start; DRONES]
+pub fn next_starts(
+    trajs: &[Traj],
+    starts: &[Start; MOST_DRONES],
+    cue: usize,
+) -> [Start; MOST_DRONES]
     requires few { length trajs.now ≤ most_drones }
     requires cue { All (HasCue cue) trajs.now }
     requires starts { AreStarts trajs.now cue starts.now }
     ensures { AreStarts trajs.now (cue + 1) result }
 {
-    let mut all = [NO_START; DRONES];
+    let mut all = [NO_START; MOST_DRONES];
     for k in 0..trajs.len() {
         all[k] = next_start(&trajs[k], starts[k], cue);
     }
@@ -67,11 +69,11 @@ pub fn next_starts(trajs: &[Traj], starts: &[Start; DRONES], cue: usize) -> [Sta
 /// Where each drone is at a fraction of a cue.
 pub fn places(
     trajs: &[Traj],
-    starts: &[Start; DRONES],
+    starts: &[Start; MOST_DRONES],
     cue: usize,
     at: u8,
     fine: u8,
-) -> [Point; DRONES]
+) -> [Point; MOST_DRONES]
     requires few { length trajs.now ≤ most_drones }
     requires cue { All (HasCue cue) trajs.now }
     requires starts { AreStarts trajs.now cue starts.now }
@@ -81,7 +83,7 @@ pub fn places(
     ensures short { All IsShort result }
     ensures near { All (IsNear fine) result }
 {
-    let mut all = [NO_POINT; DRONES];
+    let mut all = [NO_POINT; MOST_DRONES];
     for k in 0..trajs.len() {
         all[k] = place_of(&trajs[k], starts[k], cue, at, fine);
     }

@@ -1,17 +1,18 @@
 //! The first touch.
 
 ghost use Rattle.std.specs.Prelude.{◌≡◌, ℕ, ◌+◌, ◌*◌, ◌^◌, ◌≤◌, ◌<◌, None, length, All, MatchOption};
-ghost use Rattle.fleet_math.specs.Limits.{most_cues};
+ghost use Rattle.fleet_math.specs.Limits.{most_cues, most_drones};
 ghost use Rattle.sep_parts.specs.Apart.{FlyApartExactly};
 ghost use Rattle.sep_parts.specs.Directions.{IsAxis};
-ghost use Rattle.fleet_curves.specs.Raised.{IsOneShow, most_drones};
+ghost use Rattle.fleet_curves.specs.Raised.{IsOneShow};
 ghost use Rattle.touch_witness.specs.Sites.{IsFirstTouch, NoTouch};
 ghost use Rattle.touch_witness.specs.Steps.{AllDisjoint, AllDisjointFrom, DisjointInCue, AreStarts, HasCue, IsFirstInCue, IsFirstPair, IsFirstSite, IsFirstWith, IsShort, NoneTouch};
 
 use crate::distance::is_touching;
 use crate::formed::formed_law;
-use crate::places::{DRONES, Point, Start, next_starts, places, starts};
+use crate::places::{Point, Start, next_starts, places, starts};
 use crate::site::Touch;
+use fleet_math::MOST_DRONES;
 use traj_codec::Traj;
 
 /// The first of the listed instants and pairs at which two drones touch, for ellipsoids of half axes `r`, `r` and `h`
@@ -66,7 +67,7 @@ fn first_site(trajs: &[Traj], r: u16, h: u16, fine: u8) -> Option<Touch>
 // The first touch in a cue.
 fn touch_in_cue(
     trajs: &[Traj],
-    starts: &[Start; DRONES],
+    starts: &[Start; MOST_DRONES],
     cue: usize,
     r: u16,
     h: u16,
@@ -98,7 +99,7 @@ fn touch_in_cue(
 
 // The first two of the first drones that touch.
 fn first_pair(
-    points: &[Point; DRONES],
+    points: &[Point; MOST_DRONES],
     drones: usize,
     r: u16,
     h: u16,
@@ -122,7 +123,7 @@ fn first_pair(
 
 // The first drone after this one that it touches.
 fn first_with(
-    points: &[Point; DRONES],
+    points: &[Point; MOST_DRONES],
     a: usize,
     drones: usize,
     r: u16,

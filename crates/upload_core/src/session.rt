@@ -1,6 +1,7 @@
 //! What is to be uploaded, and the packets that do it.
 
 ghost use Rattle.std.specs.Prelude.{◌≡◌, ℕ, ◌+◌, ◌*◌, ◌<◌, ◌≤◌, List, [], ◌∷◌, ◌++◌, length, take, map, IfOk, Bool, slice_index, slice_index_or};
+ghost use Rattle.fleet_math.specs.Limits.{most_drones};
 ghost use Rattle.upload_model.specs.Sessions.{IsSession, drone_count, load_of, write_count, load_count, read_count, start_number, packet_count, packet_at, read_start, wanted, first_of, count_of};
 ghost use Rattle.upload_core.specs.Uploads.{upload_of};
 
@@ -91,7 +92,7 @@ impl Session {
     pub fn drones(&self) -> usize
         ensures value { result ≡ drone_count self.now }
         ensures some { 1 ≤ result }
-        ensures few { result ≤ 32 }
+        ensures few { result ≤ most_drones }
         ensures valid { IsSession self.now }
     {
         self.loads.len()
@@ -111,7 +112,7 @@ impl Session {
         requires { drone < drone_count self.now }
         ensures value { result ≡ length (load_of self.now drone).bytes }
         ensures some { 1 ≤ result }
-        ensures fits { self.now.offset + result ≤ 4096 }
+        ensures fits { self.now.offset + result ≤ MEMORY_BYTES }
         ensures valid { IsSession self.now }
     {
         self.loads[drone].bytes.as_slice().len()
@@ -221,7 +222,7 @@ impl Session {
         ensures some { 1 ≤ result }
         ensures few { result ≤ READ_BYTES }
         ensures inside { read_start k + result ≤ length (load_of self.now drone).bytes }
-        ensures room { self.now.offset + read_start k + result ≤ 4096 }
+        ensures room { self.now.offset + read_start k + result ≤ MEMORY_BYTES }
     {
         let _reads = self.reads(drone);
         (self.load_len(drone) - READ_BYTES * k).min(READ_BYTES)

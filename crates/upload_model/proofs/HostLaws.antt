@@ -6,7 +6,7 @@ use Rattle.std.proofs.lemmas.Bool.{cases_lt, and_parts, or_cases, or_left, false
 use Rattle.std.proofs.lemmas.List.{take-append-drop}
 use Rattle.std.proofs.lemmas.Option.{get_or_from_slice_get, slice_get_within}
 use Rattle.std.proofs.lemmas.List.Folds.{list_all-append, list_all-map}
-use Rattle.std.proofs.lemmas.List.Elements.{All-nil, All-cons, All-head, All-tail, All-append, All-filter, All-map, All-take, All-weaker}
+use Rattle.std.proofs.lemmas.List.Elements.{All-nil, All-cons, All-append, All-filter, All-map, All-take, All-weaker}
 use Rattle.upload_model.specs.declared.events.Event.{Event}
 use Rattle.upload_model.specs.declared.events.Event.TheVariants as event
 use Rattle.upload_model.specs.declared.events.Phase.{Phase}
@@ -60,14 +60,6 @@ find_passes p (y ∷ ys) x h = at (p y) refl (λ f. find_passes p ys x f) h wher
   at : (b : Bool) → p y ≡ b → (find p ys ≡ Some x → p x ≡ true) → cond b (Some y) (find p ys) ≡ Some x → p x ≡ true
   at true e later f = let same : y ≡ x = cc in subst (λ z. p z ≡ true) same e
   at false e later f = later f
-
--- what is found has what all have
-pub find_has : {X : Type 0} (P : X → Type 0) (p : X → Bool) (xs : List X) (x : X) → All P xs → find p xs ≡ Some x → P x
-find_has P p [] x all h = absurd (cc)
-find_has P p (y ∷ ys) x all h = at (p y) (λ f. find_has P p ys x (All-tail P y ys all) f) h where
-  at : (b : Bool) → (find p ys ≡ Some x → P x) → cond b (Some y) (find p ys) ≡ Some x → P x
-  at true later f = let same : y ≡ x = cc in subst P same (All-head P y ys all)
-  at false later f = later f
 
 -- ---- what is acknowledged stays so, and what is new was in flight
 

@@ -12,7 +12,8 @@ use Rattle.crtp_packets.specs.Commands.{command_of, answer_of, plain_scale}
 use Rattle.crtp_packets.specs.declared.commands.CommandFault.{CommandFault}
 use Rattle.crtp_packets.specs.declared.commands.Command.{Command}
 use Rattle.crtp_packets.specs.declared.commands.Command.TheVariants.{Define, Start}
-use Rattle.upload_model.specs.declared.limits.TheConstants.{MEMORY_BYTES, TABLE_ENTRIES, ACCEPTED, UNFIT, NO_ROOM}
+use Rattle.crtp_packets.specs.declared.chunks.TheConstants.{MEMORY_BYTES}
+use Rattle.upload_model.specs.declared.limits.TheConstants.{TABLE_ENTRIES, ACCEPTED, UNFIT, NO_ROOM}
 use Rattle.upload_model.specs.declared.loads.Def.{Def}
 
 -- What a drone holds: the id of its trajectory memory, that memory's 4,096 bytes, a table of ten

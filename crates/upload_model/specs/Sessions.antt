@@ -6,7 +6,9 @@ use Rattle.crtp_packets.specs.Chunks.{chunk_count_of, chunk_start, chunk_of}
 use Rattle.crtp_packets.specs.Packets.{write_request_of, read_request_of}
 use Rattle.crtp_packets.specs.declared.packet.TheConstants.{READ_BYTES}
 use Rattle.crtp_packets.specs.Commands.{define_of, start_of}
-use Rattle.upload_model.specs.declared.limits.TheConstants.{MEMORY_BYTES, TABLE_ENTRIES, MOST_DRONES, MOST_SEGMENTS}
+use Rattle.crtp_packets.specs.declared.chunks.TheConstants.{MEMORY_BYTES}
+use Rattle.fleet_math.specs.Limits.{most_drones}
+use Rattle.upload_model.specs.declared.limits.TheConstants.{TABLE_ENTRIES, MOST_SEGMENTS}
 use Rattle.upload_model.specs.declared.events.Phase.{Phase}
 use Rattle.upload_model.specs.declared.events.Phase.TheVariants.{Loading, Reading, Starting}
 use Rattle.upload_model.specs.declared.loads.Load.{Load}
@@ -42,7 +44,7 @@ load_of s d = slice_index_or s.loads d (record { bytes = []; pieces = 0 })
 -- and loads that fit.
 pub record IsSession (s : Upload) : Type 0 where
   pub some_drones : 1 ≤ drone_count s
-  pub few_drones : drone_count s ≤ MOST_DRONES
+  pub few_drones : drone_count s ≤ most_drones
   pub offset_fits : s.offset < MEMORY_BYTES
   pub id_fits : s.trajectory_id < TABLE_ENTRIES
   pub loads : (d : ℕ) → d < drone_count s → IsLoad s.offset (load_of s d)

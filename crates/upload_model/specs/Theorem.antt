@@ -3,7 +3,8 @@
 use Rattle.std.specs.Prelude.{◌≡◌, ◌≢◌, ℕ, ◌+◌, ◌<◌, ◌≤◌, ◌⊎◌, ◌++◌, [], ◌∷◌, true, List, length, take, slice_get, slice_index, Some, Contains}
 use Rattle.crtp_packets.specs.Chunks.{chunk_start, chunk_of}
 use Rattle.crtp_packets.specs.Commands.{start_of}
-use Rattle.upload_model.specs.declared.limits.TheConstants.{MEMORY_BYTES, TABLE_ENTRIES}
+use Rattle.crtp_packets.specs.declared.chunks.TheConstants.{MEMORY_BYTES}
+use Rattle.upload_model.specs.declared.limits.TheConstants.{TABLE_ENTRIES}
 use Rattle.upload_model.specs.declared.loads.Load.{Load}
 use Rattle.upload_model.specs.declared.events.Progress.TheVariants.{Done, Refused, Differs}
 use Rattle.upload_model.specs.declared.events.WorldEvent.{WorldEvent}

@@ -2,7 +2,7 @@
 -- else who may alter a byte of a memory. It is given by recursion on the list of what happens in it
 -- (docs/RADIO.md, "What the upload theorem says").
 use Rattle.std.specs.Prelude.{ℕ, ◌&&◌, nat_lt, ◌==◌, if◌then◌else◌, List, [], ◌∷◌, ◌++◌, map, filter, slice_get, slice_set, Option, Some, None}
-use Rattle.upload_model.specs.declared.limits.TheConstants.{MEMORY_BYTES}
+use Rattle.crtp_packets.specs.declared.chunks.TheConstants.{MEMORY_BYTES}
 use Rattle.upload_model.specs.declared.events.Event.{Event}
 use Rattle.upload_model.specs.declared.events.Event.TheVariants as event
 use Rattle.upload_model.specs.declared.events.Sent.{Sent}

@@ -1,9 +1,6 @@
 //! The numbers of the drone's model and of the upload protocol (docs/RADIO.md, "A drone" and "The
 //! upload").
 
-/// The bytes of a drone's trajectory memory.
-pub const MEMORY_BYTES: usize = crtp_packets::MEMORY_BYTES;
-
 /// The entries of a drone's table of trajectories.
 pub const TABLE_ENTRIES: usize = 10;
 
@@ -15,9 +12,6 @@ pub const UNFIT: u8 = 2;
 
 /// The status of a packet whose bytes do not lie in the memory.
 pub const NO_ROOM: u8 = 5;
-
-/// The most drones of a session.
-pub const MOST_DRONES: usize = 32;
 
 /// The most segments of a load, since a define tells their number in one byte.
 pub const MOST_SEGMENTS: u8 = 255;

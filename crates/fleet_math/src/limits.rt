@@ -1,0 +1,20 @@
+//! The limits that several crates share.
+
+ghost use Rattle.std.specs.Prelude.{◌≡◌};
+ghost use Rattle.fleet_math.specs.Limits.{most_cues, most_drones, most_text};
+
+/// How many cues a show has at most.
+pub const MOST_CUES: usize = 1000;
+
+/// How many drones a show has at most, and how many roles a figure (docs/LANGUAGE.md, "How many").
+pub const MOST_DRONES: usize = 32;
+
+/// How many bytes the text of a show has at most, and one of regions or of a schedule.
+pub const MOST_TEXT: usize = 1_048_576;
+
+/// A law: the limits are the numbers of the definitions.
+pub fn limits_law()
+    ensures cues { MOST_CUES ≡ most_cues }
+    ensures drones { MOST_DRONES ≡ most_drones }
+    ensures text { MOST_TEXT ≡ most_text }
+{}
