@@ -12,7 +12,7 @@ use Rattle.bezier_core.proofs.BlendLemmas.{within_mul}
 use Rattle.fleet_math.proofs.BernsteinLemmas.{by_lt}
 use Rattle.bezier_core.specs.Steps.{IsWithin}
 use Rattle.dynamics_bound.specs.declared.velocity.Velocity.{Velocity}
-use Rattle.dynamics_bound.specs.Edges.{AreSame, jump_between, last_step}
+use Rattle.dynamics_bound.specs.Edges.{AreSame, first_step, jump_between, last_step}
 
 -- the last step of a cubic, and that of degree seven
 pub last_cubic : (x : ℤ) (v : List ℤ) → length v ≡ 3 → last_step (x ∷ v) ≡ pos 3 *ℤ (at v 2 -ℤ at v 1)
@@ -20,6 +20,13 @@ last_cubic x v count = ap (λ (n : ℕ). pos (suc n - 1) *ℤ (at (x ∷ v) (suc
 
 pub last_seven : (x : ℤ) (v : List ℤ) → length v ≡ 7 → last_step (x ∷ v) ≡ pos 7 *ℤ (at v 6 -ℤ at v 5)
 last_seven x v count = ap (λ (n : ℕ). pos (suc n - 1) *ℤ (at (x ∷ v) (suc n - 1) -ℤ at (x ∷ v) (suc n - 2))) count
+
+-- and the first steps of these
+pub first_cubic : (x : ℤ) (v : List ℤ) → length v ≡ 3 → first_step (x ∷ v) ≡ pos 3 *ℤ (at v 0 -ℤ x)
+first_cubic x v count = ap (λ (n : ℕ). pos (suc n - 1) *ℤ (at v 0 -ℤ x)) count
+
+pub first_seven : (x : ℤ) (v : List ℤ) → length v ≡ 7 → first_step (x ∷ v) ≡ pos 7 *ℤ (at v 0 -ℤ x)
+first_seven x v count = ap (λ (n : ℕ). pos (suc n - 1) *ℤ (at v 0 -ℤ x)) count
 
 -- a step is computed as it is
 pub once : (way x : ℤ) → IsBelow 65536 way → way ≡ x → to_z w32 (of_z w32 way) ≡ pos 1 *ℤ x

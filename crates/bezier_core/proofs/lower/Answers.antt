@@ -1,4 +1,4 @@
-use Rattle.std.proofs.Common.{arith, rules, ◌≡◌, ◌<◌, ◌≢◌, ◌+◌, pos, ◌+ℤ◌, ◌-ℤ◌, ◌*ℤ◌, FitsSigned, ◌∙◌, length, get_or, get_or-set_other, get_or-set_same, below_more}
+use Rattle.std.proofs.Common.{arith, rules, ◌≡◌, ℕ, ◌<◌, ◌≢◌, ◌+◌, pos, ◌+ℤ◌, ◌-ℤ◌, ◌*ℤ◌, FitsSigned, ◌∙◌, length, get_or, get_or-set_other, get_or-set_same, below_more}
 use Rattle.std.proofs.Math.ListN.{length-set}
 use Rattle.std.proofs.lemmas.Int.{to_z-of_z}
 use Rattle.fleet_math.specs.Bernstein.{at}
@@ -39,3 +39,22 @@ loop-i-preserved g c =
           (let within : c.loop-i.i < length c.loop-i.row = omega arith in rw get_or-set_same (simp to_z-of_z value));
       left = λ k above. let ne : k ≢ c.loop-i.i = omega arith in rw get_or-set_other (c.loop-i.invariant.left k (omega arith));
     }
+
+pub blend-requires-clause-positive : goal.blend-requires-clause-positive
+blend-requires-clause-positive g c =
+    let a_fits : FitsSigned w128 c.args.a = c.ranges.a in
+    simp to_z-of_z c.requires.positive
+
+pub blend-requires-clause-within : goal.blend-requires-clause-within
+blend-requires-clause-within g c =
+    let a_fits : FitsSigned w128 c.args.a = c.ranges.a in
+    let c_fits : FitsSigned w128 c.args.c = c.ranges.c in
+    simp to_z-of_z c.requires.within
+
+pub returns : goal.returns
+returns g c =
+    let a_fits : FitsSigned w128 c.args.a = c.ranges.a in
+    let c_fits : FitsSigned w128 c.args.c = c.ranges.c in
+    let done : (i : ℕ) → i < c.loop-i.i → at c.loop-i.row i ≡ (c.args.c -ℤ c.args.a) *ℤ at c.args.row.now i +ℤ c.args.a *ℤ at c.args.row.now (i + 1) =
+    simp to_z-of_z at c.loop-i.invariant.done in
+    λ i small. done i (omega arith)

@@ -1,7 +1,10 @@
-use Rattle.std.proofs.Common.{◌≡◌, ◌^◌, ap, rules, List, [], ◌∷◌, get_or, FitsSigned}
+use Rattle.std.proofs.Common.{◌≡◌, ℕ, ◌^◌, ◌<◌, ap, arith, rules, List, [], ◌∷◌, length, get_or, All, FitsSigned}
 use Rattle.std.proofs.lemmas.Int.{to_z-of_z}
+use Rattle.std.proofs.lemmas.List.Elements.{All-get_or}
 use mir.Syntax.{w16}
+use Rattle.fleet_math.specs.Numbers.{IsBelow}
 use Rattle.bezier_core.specs.declared.Bez.{Bez}
+use Rattle.traj_codec.specs.Spelling.{HasDuration}
 use Rattle.traj_codec.specs.Positions.{element_on}
 use Rattle.fleet_curves.specs.Raised.{raised_element}
 use Rattle.dynamics_bound.specs.declared.walk.Walk.{Walk}
@@ -26,3 +29,42 @@ returns-clause-exact c =
 
 pub returns-clause-small : goal.returns-clause-small
 returns-clause-small c = three_small (2 ^ 53) c.segment_above.result c.segment_above-2.result c.segment_above-3.result c.segment_above.ensures.small c.segment_above-2.ensures.small c.segment_above-3.ensures.small
+
+pub segment_above-requires-clause-values : goal.segment_above-requires-clause-values
+segment_above-requires-clause-values c =
+    All-get_or (λ (curve : Bez 8). All (IsBelow (2 ^ 28)) curve.b) c.raised_segment-curves.result 0 _ (omega (arith, ap (λ (cs : List (Bez 8)). length cs) c.raised_segment-curves.ensures.exact)) c.raised_segment-curves.ensures.small
+
+pub segment_above-requires-clause-lasting : goal.segment_above-requires-clause-lasting
+segment_above-requires-clause-lasting c =
+    All-get_or HasDuration c.as_slice.result.now c.args.k _ (rw c.as_slice.ensures c.requires.inside) (rw c.as_slice.ensures c.requires.lasting)
+
+pub segment_above-requires-clause-most : goal.segment_above-requires-clause-most
+segment_above-requires-clause-most c =
+    let count : length c.args.most.now ≡ 3 = search rules in
+    All-get_or (λ (v : ℕ). v < 2 ^ 53) c.args.most.now 0 _ (omega arith) c.requires.most
+
+pub segment_above-requires-2-clause-values : goal.segment_above-requires-2-clause-values
+segment_above-requires-2-clause-values c =
+    All-get_or (λ (curve : Bez 8). All (IsBelow (2 ^ 28)) curve.b) c.raised_segment-curves.result 1 _ (omega (arith, ap (λ (cs : List (Bez 8)). length cs) c.raised_segment-curves.ensures.exact)) c.raised_segment-curves.ensures.small
+
+pub segment_above-requires-2-clause-lasting : goal.segment_above-requires-2-clause-lasting
+segment_above-requires-2-clause-lasting c =
+    All-get_or HasDuration c.as_slice.result.now c.args.k _ (rw c.as_slice.ensures c.requires.inside) (rw c.as_slice.ensures c.requires.lasting)
+
+pub segment_above-requires-2-clause-most : goal.segment_above-requires-2-clause-most
+segment_above-requires-2-clause-most c =
+    let count : length c.args.most.now ≡ 3 = search rules in
+    All-get_or (λ (v : ℕ). v < 2 ^ 53) c.args.most.now 1 _ (omega arith) c.requires.most
+
+pub segment_above-requires-3-clause-values : goal.segment_above-requires-3-clause-values
+segment_above-requires-3-clause-values c =
+    All-get_or (λ (curve : Bez 8). All (IsBelow (2 ^ 28)) curve.b) c.raised_segment-curves.result 2 _ (omega (arith, ap (λ (cs : List (Bez 8)). length cs) c.raised_segment-curves.ensures.exact)) c.raised_segment-curves.ensures.small
+
+pub segment_above-requires-3-clause-lasting : goal.segment_above-requires-3-clause-lasting
+segment_above-requires-3-clause-lasting c =
+    All-get_or HasDuration c.as_slice.result.now c.args.k _ (rw c.as_slice.ensures c.requires.inside) (rw c.as_slice.ensures c.requires.lasting)
+
+pub segment_above-requires-3-clause-most : goal.segment_above-requires-3-clause-most
+segment_above-requires-3-clause-most c =
+    let count : length c.args.most.now ≡ 3 = search rules in
+    All-get_or (λ (v : ℕ). v < 2 ^ 53) c.args.most.now 2 _ (omega arith) c.requires.most

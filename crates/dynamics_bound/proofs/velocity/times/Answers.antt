@@ -1,0 +1,28 @@
+use Rattle.std.proofs.Common.{arith, ◌≡◌, ◌≤◌, ◌*◌, ◌^◌, ◌∙◌, ◌*ℤ◌, ℕ, ℤ, pos, unsigned_abs, Fits, FitsSigned}
+use Rattle.std.proofs.lemmas.Int.{ints, unsigned_abs-mul, to_z-of_z}
+use Rattle.std.proofs.lemmas.Nat.{mul-le}
+use mir.Syntax.{w16, w32, w64}
+use Rattle.dynamics_bound.proofs.velocity.times.Goals as goal
+
+product_fits : (step : ℤ) (ms : ℕ) → FitsSigned w32 step → Fits w16 ms → FitsSigned w64 (step *ℤ pos ms)
+product_fits step ms fits short =
+    let most : unsigned_abs (step *ℤ pos ms) ≤ 2 ^ 31 * 65535 = rw (unsigned_abs-mul step (pos ms)) (mul-le (unsigned_abs step) (unsigned_abs (pos ms)) (2 ^ 31) 65535 (omega (arith, ints)) (omega (arith, ints))) in
+    omega (arith, ints)
+
+wide : (x : ℤ) → FitsSigned w32 x → FitsSigned w64 x
+wide x fits = omega (arith, ints)
+
+long : (n : ℕ) → Fits w16 n → FitsSigned w64 (pos n)
+long n fits = omega (arith, ints)
+
+pub overflow_mul-result : goal.overflow_mul-result
+overflow_mul-result c =
+    let step : c.from.result ≡ c.args.step = c.from.ensures ∙ to_z-of_z w32 c.args.step c.ranges.step in
+    rw (step, c.from-2.ensures, to_z-of_z w64 c.args.step (wide c.args.step c.ranges.step), to_z-of_z w64 (pos c.args.ms) (long c.args.ms c.ranges.ms))
+    (product_fits c.args.step c.args.ms c.ranges.step c.ranges.ms)
+
+pub returns : goal.returns
+returns c =
+    let step : c.from.result ≡ c.args.step = c.from.ensures ∙ to_z-of_z w32 c.args.step c.ranges.step in
+    rw (step, c.from-2.ensures, to_z-of_z w64 c.args.step (wide c.args.step c.ranges.step), to_z-of_z w64 (pos c.args.ms) (long c.args.ms c.ranges.ms))
+    (to_z-of_z w64 _ (product_fits c.args.step c.args.ms c.ranges.step c.ranges.ms))
