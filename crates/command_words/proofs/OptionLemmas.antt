@@ -1,14 +1,12 @@
 -- Words are read as options exactly where they are these options, and the walk over them finds what the definition finds.
-use Rattle.std.proofs.Common.{◌≡◌, ℕ, Bool, true, false, cond, List, [], ◌∷◌, ◌++◌, Option, Some, None, codes, refl, sym, ap, subst, ◌∙◌}
+use Rattle.std.proofs.Common.{◌≡◌, ℕ, Bool, true, false, cond, List, [], ◌∷◌, ◌++◌, Option, Some, None, refl, sym, ap, subst, ◌∙◌}
 use Rattle.std.specs.Prelude.{bytes_eq, find, is_some}
 use Rattle.std.specs.Option.{option_map, option_and_then}
 use Rattle.std.proofs.lemmas.Slice.Eq.{bytes_eq-Decides}
 use Rattle.command_words.specs.declared.options.OptionName.{OptionName}
 use Rattle.command_words.specs.declared.options.OptionName.TheVariants.{Depth, Step, Start, Readback, Limit, Fine, Accel, Jump}
 use Rattle.command_words.specs.declared.options.Range.{Range}
-use Rattle.command_words.specs.declared.options.Options.{Options}
-use Rattle.command_words.specs.Commands.{Given, word_of, range_of, named_by, flag_with, flag, valued_with, valued, number_from, before, options_of, noted, collected, SpellsWith, SpellsOption, SpellsOptions, WordsLaw}
-use Rattle.command_words.specs.Steps.{continued}
+use Rattle.command_words.specs.Commands.{Given, word_of, range_of, named_by, flag_with, flag, valued_with, valued, number_from, before, options_of, SpellsWith, SpellsOption, SpellsOptions, WordsLaw}
 
 -- ---- one option before others
 

@@ -1,8 +1,8 @@
 -- The words of the command line, and what they ask for (docs/COMMANDS.md, "Options").
-use Rattle.std.specs.Prelude.{◌≡◌, ◌↔◌, ℕ, ◌≤◌, Bool, true, false, ◌&&◌, not, List, [], ◌∷◌, ◌++◌, length, find, is_some, nat_le, bytes_eq, codes, slice_index_or, slice_set, Option, Some, None, IfSome, unwrap_or, if◌then◌else◌, ◌==◌}
+use Rattle.std.specs.Prelude.{◌≡◌, ◌↔◌, ℕ, ◌≤◌, Bool, ◌&&◌, not, List, [], ◌∷◌, ◌++◌, length, find, is_some, nat_le, bytes_eq, codes, slice_index_or, slice_set, Option, Some, None, IfSome, unwrap_or, if◌then◌else◌, ◌==◌}
 use Rattle.std.specs.Option.{option_map, option_and_then}
 use Rattle.std.specs.List.{list_any}
-use Rattle.fleet_math.specs.Limits.{most_drones}
+use Rattle.fleet_math.specs.Limits.{most_depth, most_drones}
 use Rattle.text_lines.specs.Numbers.{natural_of}
 use Rattle.command_words.specs.declared.command.Command.{Command}
 use Rattle.command_words.specs.declared.command.Command.TheVariants.{Help, Version, Check, Compile, Certify, Play, Report, Verify, Rehearse, Upload, Drill, Boxes, Speed, Explain, Dynamics}
@@ -13,12 +13,9 @@ use Rattle.command_words.specs.declared.options.Options.{Options}
 
 -- ---- numbers
 
--- the depth where no option names one, and the greatest
+-- the depth where no option names one
 abbrev pub default_depth : ℕ
 default_depth = 6
-
-abbrev pub most_depth : ℕ
-most_depth = 8
 
 -- the step where no option names one, and the greatest, in milliseconds
 abbrev pub default_step : ℕ
@@ -232,19 +229,19 @@ command_of (name ∷ words) = named name words
 abbrev pub IsCommand : Command → Type 0
 IsCommand Help = Unit {0}
 IsCommand Version = Unit {0}
-IsCommand (Check depth) = depth ≤ most_depth
-IsCommand (Compile depth) = depth ≤ most_depth
-IsCommand (Certify depth) = depth ≤ most_depth
-IsCommand (Play depth step) = (depth ≤ most_depth) × (1 ≤ step) × (step ≤ most_step)
-IsCommand (Report depth) = depth ≤ most_depth
+IsCommand (Check depth) = Unit {0}
+IsCommand (Compile depth) = Unit {0}
+IsCommand (Certify depth) = Unit {0}
+IsCommand (Play depth step) = (1 ≤ step) × (step ≤ most_step)
+IsCommand (Report depth) = Unit {0}
 IsCommand Verify = Unit {0}
-IsCommand (Rehearse depth start readback) = depth ≤ most_depth
-IsCommand (Upload depth start readback) = depth ≤ most_depth
-IsCommand (Drill drones depth) = (1 ≤ drones) × (drones ≤ most_drones) × (depth ≤ most_depth)
-IsCommand (Boxes depth) = depth ≤ most_depth
-IsCommand (Speed depth limit) = (depth ≤ most_depth) × IfSome limit (λ v. (1 ≤ v) × (v ≤ most_limit))
-IsCommand (Explain depth fine) = (depth ≤ most_depth) × (fine ≤ most_fine)
-IsCommand (Dynamics depth accel jump) = (depth ≤ most_depth) × IfSome accel (λ a. a ≤ most_bound) × IfSome jump (λ j. j ≤ most_bound)
+IsCommand (Rehearse depth start readback) = Unit {0}
+IsCommand (Upload depth start readback) = Unit {0}
+IsCommand (Drill drones depth) = (1 ≤ drones) × (drones ≤ most_drones)
+IsCommand (Boxes depth) = Unit {0}
+IsCommand (Speed depth limit) = IfSome limit (λ v. (1 ≤ v) × (v ≤ most_limit))
+IsCommand (Explain depth fine) = (fine ≤ most_fine)
+IsCommand (Dynamics depth accel jump) = IfSome accel (λ a. a ≤ most_bound) × IfSome jump (λ j. j ≤ most_bound)
 
 -- ---- what that means
 

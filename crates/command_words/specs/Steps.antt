@@ -1,5 +1,5 @@
 -- The walk over the words, which no public contract cites.
-use Rattle.std.specs.Prelude.{◌≡◌, ℕ, ◌≤◌, List, [], ◌∷◌, length, Option, Some, None, IfSome}
+use Rattle.std.specs.Prelude.{◌≡◌, ℕ, ◌≤◌, List, length, Option, Some, None, IfSome}
 use Rattle.std.specs.Option.{option_and_then}
 use Rattle.command_words.specs.declared.options.OptionName.{OptionName}
 use Rattle.command_words.specs.declared.options.Options.{Options}

@@ -5,9 +5,9 @@ ghost use Rattle.command_words.specs.Commands.{IsCommand, command_of, drill_in, 
 ghost use Rattle.command_words.specs.declared.options.Options.{Options};
 
 use crate::options::{OptionName, number_from, options_for};
-use fleet_math::MOST_DRONES;
+use fleet_math::{Depth, MOST_DRONES};
 
-/// What the program is asked for. `depth` says into how small parts a cue is cut: at most into 2^depth, 0 to 8.
+/// What the program is asked for. `depth` says into how small parts a cue is cut: at most into 2^depth.
 /// `start` says whether the drones are started, `readback` whether the memories are read back before that. The forms are those of [`help_text`].
 #[derive(Clone, Copy, PartialEq, Eq)]
 pub enum Command {
@@ -17,72 +17,71 @@ pub enum Command {
     Version,
     /// Whether a show fits and its drones keep apart.
     Check {
-        depth: u8,
+        depth: Depth,
     },
     /// The plan text of such a show.
     Compile {
-        depth: u8,
+        depth: Depth,
     },
     /// The certificate of such a show.
     Certify {
-        depth: u8,
+        depth: Depth,
     },
     /// Where its drones are, every `step` milliseconds, 1 to 60,000.
     Play {
-        depth: u8,
+        depth: Depth,
         step: u16,
     },
     /// The numbers of such a show.
     Report {
-        depth: u8,
+        depth: Depth,
     },
     /// Whether a certificate is valid for a show.
     Verify,
     /// What an upload of such a show leaves in drones after a schedule.
     Rehearse {
-        depth: u8,
+        depth: Depth,
         start: bool,
         readback: bool,
     },
     /// An upload of such a show through link frames.
     Upload {
-        depth: u8,
+        depth: Depth,
         start: bool,
         readback: bool,
     },
     /// The numbers of the drill's show of this many drones, 1 to 32.
     Drill {
         drones: u8,
-        depth: u8,
+        depth: Depth,
     },
     /// Whether its drones keep out of the boxes and in the volumes of a text of regions.
     Boxes {
-        depth: u8,
+        depth: Depth,
     },
     /// How fast its drones are at most, and whether that is within `limit` micrometres per second, 1 to 999,999,999.
     Speed {
-        depth: u8,
+        depth: Depth,
         limit: Option<u32>,
     },
     /// Why the show is refused: its first blocked part, and where two drones come closest and touch among the instants that cut
     /// each cue into 2^`fine` parts, 0 to 5.
     Explain {
-        depth: u8,
+        depth: Depth,
         fine: u8,
     },
     /// How fast the speeds of its drones change at most and where they jump, and whether that is within `accel` millimetres per second
     /// squared and `jump` millimetres per second, each 0 to 999,999,999.
     Dynamics {
-        depth: u8,
+        depth: Depth,
         accel: Option<u32>,
         jump: Option<u32>,
     },
 }
 
 // The depth of a command whose one option it is.
-fn depth_of(words: &[String]) -> Option<u8>
-    ensures value { (make : ℕ → Command) → option_map make result ≡ commands.with_depth make (map string_bytes words.now) }
-    ensures most { IfSome result (λ depth. depth ≤ 8) }
+fn depth_of(words: &[String]) -> Option<Depth>
+    ensures { (make : ℕ → Command) → option_map make result ≡ commands.with_depth make (map string_bytes words.now) }
 {
     let options = options_for(&[OptionName::Depth], words)?;
     Some(options.depth())

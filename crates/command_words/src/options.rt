@@ -4,13 +4,11 @@ ghost use Rattle.command_words.specs.Commands as commands;
 ghost use Rattle.command_words.specs.Commands.{depth_in, fine_in, given_in, has, most_limit, no_options, noted, options_for, place_of, range_of, step_in, takes, word_of};
 ghost use Rattle.command_words.specs.Steps.{AreInRange, IsInRange};
 
+use fleet_math::{Depth, MOST_DEPTH};
 use text_lines::natural;
 
 // The depth where no option names one.
 const DEFAULT_DEPTH: u32 = 6;
-
-// The greatest depth.
-const MOST_DEPTH: u32 = 8;
 
 // The step where no option names one, in milliseconds.
 const DEFAULT_STEP: u32 = 100;
@@ -94,7 +92,7 @@ impl OptionName {
         ensures most { IfSome result (λ r. r.most ≤ most_limit) }
     {
         let (least, most) = match self {
-            OptionName::Depth => (0, MOST_DEPTH),
+            OptionName::Depth => (0, u32::from(MOST_DEPTH)),
             OptionName::Step => (1, MOST_STEP),
             OptionName::Limit => (1, MOST_LIMIT),
             OptionName::Fine => (0, MOST_FINE),
@@ -195,13 +193,12 @@ impl Options {
         Some(Options { values })
     }
 
-    /// The depth, 0 to 8; 6 where none is given.
-    pub fn depth(self) -> u8
+    /// The depth; 6 where none is given.
+    pub fn depth(self) -> Depth
         requires { AreInRange self }
-        ensures value { result ≡ depth_in self }
-        ensures most { result ≤ 8 }
+        ensures { result ≡ depth_in self }
     {
-        self.given(OptionName::Depth).unwrap_or(DEFAULT_DEPTH) as u8
+        Depth::make(self.given(OptionName::Depth).unwrap_or(DEFAULT_DEPTH) as u8)
     }
 
     /// The step in milliseconds, 1 to 60,000; 100 where none is given.

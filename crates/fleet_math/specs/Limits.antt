@@ -12,3 +12,7 @@ most_drones = 32
 -- how many bytes the text of a show has at most, and one of regions or of a schedule
 abbrev pub most_text : ℕ
 most_text = 1048576
+
+-- how often a segment is halved at most
+abbrev pub most_depth : ℕ
+most_depth = 8

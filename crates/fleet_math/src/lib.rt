@@ -13,9 +13,11 @@ ghost use Rattle.fleet_math.specs.Moments.{moment, moment_in, edge};
 ghost use Rattle.fleet_math.specs.Decoded.{Piece, IsPiece, durations, IsSamePosition};
 ghost use Rattle.fleet_math.specs.Near.{NearLaw};
 
+mod depth;
 mod limits;
 
-pub use limits::{MOST_CUES, MOST_DRONES, MOST_TEXT, limits_law};
+pub use depth::Depth;
+pub use limits::{MOST_CUES, MOST_DEPTH, MOST_DRONES, MOST_TEXT, limits_law};
 
 /// The floor of a quotient: the greatest whole number whose product with `b` is at most `a`. Rust's `/` rounds toward
 /// 0 instead, which differs where `a` is negative.

@@ -1,10 +1,13 @@
 //! The limits that several crates share.
 
 ghost use Rattle.std.specs.Prelude.{◌≡◌};
-ghost use Rattle.fleet_math.specs.Limits.{most_cues, most_drones, most_text};
+ghost use Rattle.fleet_math.specs.Limits.{most_cues, most_depth, most_drones, most_text};
 
 /// How many cues a show has at most.
 pub const MOST_CUES: usize = 1000;
+
+/// How often a segment is halved at most (docs/COMMANDS.md, "Options").
+pub const MOST_DEPTH: u8 = 8;
 
 /// How many drones a show has at most, and how many roles a figure (docs/LANGUAGE.md, "How many").
 pub const MOST_DRONES: usize = 32;
@@ -15,6 +18,7 @@ pub const MOST_TEXT: usize = 1_048_576;
 /// A law: the limits are the numbers of the definitions.
 pub fn limits_law()
     ensures cues { MOST_CUES ≡ most_cues }
+    ensures depth { MOST_DEPTH ≡ most_depth }
     ensures drones { MOST_DRONES ≡ most_drones }
     ensures text { MOST_TEXT ≡ most_text }
 {}

@@ -143,7 +143,7 @@ by_same {P} j i same other = by_lt j i (λ less. other (not_less j i less)) (λ 
     not_more j i less = omega arith
 
 -- what holds of each entry and of a new one holds after the new one is put in
-set_all : (P : ℤ → Type 0) (xs : List ℤ) (i j : ℕ) (v : ℤ) → i < length xs → P v → P (at xs j) → P (at (slice_set xs i v) j)
+pub set_all : (P : ℤ → Type 0) (xs : List ℤ) (i j : ℕ) (v : ℤ) → i < length xs → P v → P (at xs j) → P (at (slice_set xs i v) j)
 set_all P xs i j v inside new old =
     by_same j i
     (λ (same : j ≡ i). rw (same, get_or-set_same) new)

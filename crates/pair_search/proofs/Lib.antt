@@ -9,3 +9,4 @@ pub mod Axes
 pub mod LaneLemmas
 pub mod Reaches
 pub mod Waits
+pub mod OppositeLemmas

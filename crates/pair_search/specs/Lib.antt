@@ -4,3 +4,4 @@ pub mod Laws
 pub mod Fleets
 pub mod Extents
 pub mod Lanes
+pub mod Opposites

@@ -13,6 +13,7 @@ use bezier_core::Bez;
 use sep_parts::{Level, Ruler};
 
 /// The number of the first direction of a ruler that separates a part of the differences `diff`.
+#[inline(never)]
 pub fn first_direction<const M: usize>(
     diff: &[Bez<8>; 3],
     level: &Level,
@@ -31,7 +32,7 @@ pub fn first_direction<const M: usize>(
 }
 
 // The two ends of a part in whole steps; none where these are too large.
-fn points_of(diff: &[Bez<8>; 3], level: &Level) -> Option<(Point, Point)>
+pub(crate) fn points_of(diff: &[Bez<8>; 3], level: &Level) -> Option<(Point, Point)>
     requires level { IsLevel diff.now level.now }
     ensures first { IfSome result (λ ends. IsSmallPoint ends.0 × IsPoint level.now 0 ends.0) }
     ensures second { IfSome result (λ ends. IsSmallPoint ends.1 × IsPoint level.now 7 ends.1) }
@@ -149,7 +150,11 @@ fn holds<const M: usize>(
 }
 
 // The same where each direction is asked.
-fn first_of_all<const M: usize>(diff: &[Bez<8>; 3], level: &Level, ruler: &Ruler<M>) -> Option<u8>
+pub(crate) fn first_of_all<const M: usize>(
+    diff: &[Bez<8>; 3],
+    level: &Level,
+    ruler: &Ruler<M>,
+) -> Option<u8>
     requires level { IsLevel diff.now level.now }
     requires values { All (λ curve. All (IsBelow (2 ^ 30)) curve.b) diff.now }
     ensures { result ≡ first_by ruler.now diff.now level.now.place }

@@ -8,11 +8,13 @@ ghost use Rattle.fleet_curves.specs.Raised.{difference};
 ghost use Rattle.pair_search.specs.Extents.{AreExtents, HasAxes};
 ghost use Rattle.pair_search.specs.Fleets.{GivesCount, GivesTrees};
 ghost use Rattle.pair_search.specs.Lanes.{AreLanes};
+ghost use Rattle.pair_search.specs.Opposites.{AreOpposites};
 ghost use Rattle.pair_search.specs.Search.{HasDirection};
 ghost use Rattle.pair_search.specs.Steps.{FindsCount, FindsTree};
 
 use crate::extents::{Extent, are_far, extent_at, extents_of, has_axes};
 use crate::lanes::{Lanes, lanes_of};
+use crate::opposites::{Opposites, opposites_of};
 use crate::shape::count_with;
 use crate::waiting::Waiting;
 use crate::walk::{Found, search_by};
@@ -125,7 +127,7 @@ fn count_of<const M: usize>(
     extents: &[Extent],
     axes: bool,
     ruler: &Ruler<M>,
-    lanes: &Lanes,
+    opposites: &Opposites,
     depth: u8,
     slot: Slot,
     hint: &mut usize,
@@ -135,7 +137,7 @@ fn count_of<const M: usize>(
     requires slot { IsSlot curves.now.drones curves.now.cues slot }
     requires extents { AreExtents curves.now extents.now }
     requires axes { IsTrue axes → HasAxes ruler.now.directions }
-    requires lanes { AreLanes ruler.now lanes.now }
+    requires opposites { AreOpposites ruler.now opposites.now }
     requires empty { waiting.old ≡ [] }
     ensures finds { FindsCount ruler.now depth curves.now slot result }
     ensures empty { OnOk result (waiting.new ≡ []) }
@@ -144,7 +146,7 @@ fn count_of<const M: usize>(
         return Ok(1);
     }
     let diff = difference_of(curves, slot);
-    match count_with(&diff, ruler, lanes, depth, hint, waiting) {
+    match count_with(&diff, ruler, opposites, depth, hint, waiting) {
         Ok(count) => Ok(count),
         Err(index) => Err(SearchFault::Blocked { slot, index }),
     }
@@ -165,7 +167,7 @@ pub fn count_all<const M: usize>(
     let cues = curves.cues();
     let extents = extents_of(alloc, curves)?;
     let axes = has_axes(ruler);
-    let lanes = lanes_of(ruler);
+    let opposites = opposites_of(ruler);
     let mut waiting = Waiting::none();
     let mut hint = 0;
     let mut count = 0;
@@ -176,7 +178,7 @@ pub fn count_all<const M: usize>(
             extents.as_slice(),
             axes,
             ruler,
-            &lanes,
+            &opposites,
             depth,
             slot,
             &mut hint,

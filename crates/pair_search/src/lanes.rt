@@ -155,6 +155,7 @@ pub fn fill(lanes: &Lanes, p: &Point, q: &Point, begin: usize, near: &mut [i32; 
 
 // The greater of two numbers.
 fn greater(a: i32, b: i32) -> i32
+    ensures either { (result ≡ a) ⊎ (result ≡ b) }
     ensures first { a ≤ℤ result }
     ensures second { b ≤ℤ result }
 {
@@ -175,7 +176,7 @@ fn nearness(lanes: &Lanes, p: &Point, q: &Point, i: usize) -> i32
 }
 
 // A point along the direction of a lane.
-fn lane_at(lanes: &Lanes, p: &Point, i: usize) -> i32
+pub(crate) fn lane_at(lanes: &Lanes, p: &Point, i: usize) -> i32
     requires place { i < 112 }
     requires lanes { AreSmallLanes lanes.now }
     requires point { IsSmallPoint p.now }

@@ -14,7 +14,9 @@ mod extents;
 mod first;
 mod fleet;
 mod lanes;
+mod opposites;
 mod shape;
+mod some;
 mod waiting;
 mod walk;
 

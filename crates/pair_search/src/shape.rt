@@ -4,12 +4,12 @@ ghost use Rattle.std.specs.Prelude.{◌≡◌, ◌^◌, ◌≤◌, [], length, A
 ghost use Rattle.std.specs.Option.{is_some};
 ghost use Rattle.fleet_math.specs.Numbers.{IsBelow};
 ghost use Rattle.sep_parts.specs.Levels.{IsLevel};
-ghost use Rattle.pair_search.specs.Lanes.{AreLanes};
+ghost use Rattle.pair_search.specs.Opposites.{AreOpposites};
 ghost use Rattle.pair_search.specs.Search.{first_by};
 ghost use Rattle.pair_search.specs.Steps.{CountGives, marked, node_for};
 
-use crate::first::first_direction;
-use crate::lanes::Lanes;
+use crate::opposites::Opposites;
+use crate::some::some_direction;
 use crate::waiting::Waiting;
 use crate::walk::sizes_law;
 use bezier_core::Bez;
@@ -21,7 +21,7 @@ use sep_parts::{Level, Node, Ruler};
 pub fn count_with<const M: usize>(
     diff: &[Bez<8>; 3],
     ruler: &Ruler<M>,
-    lanes: &Lanes,
+    opposites: &Opposites,
     depth: u8,
     hint: &mut usize,
     waiting: &mut Waiting,
@@ -29,19 +29,19 @@ pub fn count_with<const M: usize>(
     requires depth { depth ≤ 8 }
     requires empty { waiting.old ≡ [] }
     requires values { All (λ curve. All (IsBelow (2 ^ 30)) curve.b) diff.now }
-    requires lanes { AreLanes ruler.now lanes.now }
+    requires opposites { AreOpposites ruler.now opposites.now }
     ensures gives { CountGives (first_by ruler.now diff.now) depth result }
     ensures empty { OnOk result (waiting.new ≡ []) }
 {
     sizes_law(diff);
-    count_parts(diff, ruler, lanes, depth, hint, waiting)
+    count_parts(diff, ruler, opposites, depth, hint, waiting)
 }
 
 // The same of differences whose curves have eight control values each.
 fn count_parts<const M: usize>(
     diff: &[Bez<8>; 3],
     ruler: &Ruler<M>,
-    lanes: &Lanes,
+    opposites: &Opposites,
     depth: u8,
     hint: &mut usize,
     waiting: &mut Waiting,
@@ -50,14 +50,14 @@ fn count_parts<const M: usize>(
     requires empty { waiting.old ≡ [] }
     requires sizes { All (λ curve. length curve.b ≡ 8) diff.now }
     requires values { All (λ curve. All (IsBelow (2 ^ 30)) curve.b) diff.now }
-    requires lanes { AreLanes ruler.now lanes.now }
+    requires opposites { AreOpposites ruler.now opposites.now }
     ensures gives { CountGives (first_by ruler.now diff.now) depth result }
     ensures empty { OnOk result (waiting.new ≡ []) }
 {
     let mut count = 0;
     waiting.begin(diff);
     while let Some(level) = waiting.next() {
-        match shape_for(diff, level, ruler, lanes, depth, hint) {
+        match shape_for(diff, level, ruler, opposites, depth, hint) {
             Some(node) => {
                 waiting.pass(diff, node);
                 count += 1;
@@ -73,16 +73,16 @@ fn shape_for<const M: usize>(
     diff: &[Bez<8>; 3],
     level: &Level,
     ruler: &Ruler<M>,
-    lanes: &Lanes,
+    opposites: &Opposites,
     depth: u8,
     hint: &mut usize,
 ) -> Option<Node>
     requires level { IsLevel diff.now level.now }
     requires values { All (λ curve. All (IsBelow (2 ^ 30)) curve.b) diff.now }
-    requires lanes { AreLanes ruler.now lanes.now }
+    requires opposites { AreOpposites ruler.now opposites.now }
     ensures { result ≡ node_for (marked (first_by ruler.now diff.now)) depth level.now.place }
 {
-    if has_direction(diff, level, ruler, lanes, hint) {
+    if has_direction(diff, level, ruler, opposites, hint) {
         Some(Node::Leaf { dir: 0 })
     } else if level.place.depth < depth {
         Some(Node::Split)
@@ -96,19 +96,19 @@ fn has_direction<const M: usize>(
     diff: &[Bez<8>; 3],
     level: &Level,
     ruler: &Ruler<M>,
-    lanes: &Lanes,
+    opposites: &Opposites,
     hint: &mut usize,
 ) -> bool
     requires level { IsLevel diff.now level.now }
     requires values { All (λ curve. All (IsBelow (2 ^ 30)) curve.b) diff.now }
-    requires lanes { AreLanes ruler.now lanes.now }
+    requires opposites { AreOpposites ruler.now opposites.now }
     ensures { result ≡ is_some (first_by ruler.now diff.now level.now.place) }
 {
     let last = *hint;
     if last < ruler.count() && ruler.separates(diff, level, last) {
         return true;
     }
-    let Some(dir) = first_direction(diff, level, ruler, lanes) else {
+    let Some(dir) = some_direction(diff, level, ruler, opposites) else {
         return false;
     };
     *hint = usize::from(dir);

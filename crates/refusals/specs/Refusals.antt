@@ -64,8 +64,8 @@ pub record AreNamed (pair : Pair) : Type 0 where
   pub first : IsWord pair.first.items
   pub second : IsWord pair.second.items
 
--- What a refusal names can be said in a line: names are words, an axis is one of four, or of three where it has a speed or an acceleration, a
--- depth is at most 8, and a direction is one of its version's table.
+-- What a refusal names can be said in a line: names are words, an axis is one of four, or of three where it has a speed or an acceleration,
+-- and a direction is one of its version's table.
 abbrev pub IsSayable : Refusal → Type 0
 IsSayable refused.Usage = Unit {0}
 IsSayable refused.TooLarge = Unit {0}
@@ -74,7 +74,7 @@ IsSayable (refused.Grid fault) = Unit {0}
 IsSayable (refused.Range line axis value) = axis ≤ 3
 IsSayable (refused.Room drone bytes room) = IsWord drone.items
 IsSayable (refused.Segments drone segments) = IsWord drone.items
-IsSayable (refused.Blocked pair index depth) = AreNamed pair × (depth ≤ 8)
+IsSayable (refused.Blocked pair index depth) = AreNamed pair
 IsSayable refused.Read = Unit {0}
 IsSayable refused.Ended = Unit {0}
 IsSayable (refused.GaveUp drone packet) = IsWord drone.items
@@ -86,7 +86,7 @@ IsSayable (refused.Missing pair) = AreNamed pair
 IsSayable (refused.Extra version tree) = IsVersion version × (tree < 2 ^ 31)
 IsSayable (refused.TooDeep pair) = AreNamed pair
 IsSayable (refused.Fails pair place version dir control) = AreNamed pair × IsVersion version × (dir < known_in version)
-IsSayable (refused.Enters region drone cue index depth) = IsWord drone.items × (depth ≤ 8)
+IsSayable (refused.Enters region drone cue index depth) = IsWord drone.items
 IsSayable (refused.TooFast drone axis speed) = IsWord drone.items × (axis ≤ 2)
 IsSayable (refused.Accelerates drone cue axis acceleration) = IsWord drone.items × (axis ≤ 2)
 IsSayable (refused.Jumps drone cue axis speed) = IsWord drone.items × (axis ≤ 2)

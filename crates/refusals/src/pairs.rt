@@ -9,14 +9,14 @@ ghost use Rattle.refusals.specs.Refusals.{AreNamed};
 use crate::builder::begin;
 use crate::refusal::Pair;
 use fleet_io::ShortLine;
+use fleet_math::Depth;
 use halving::Place;
 
 // The number of equal parts that a cue has at a depth.
-pub(crate) fn parts(depth: u8) -> u32
-    requires { depth ≤ 8 }
+pub(crate) fn parts(depth: Depth) -> u32
     ensures { result ≡ 2 ^ depth }
 {
-    1 << u32::from(depth)
+    1 << u32::from(depth.levels())
 }
 
 // The two drones and the cue, which counts from 1 in the line.
@@ -36,9 +36,8 @@ fn put_pair(line: &mut ShortLine, pair: &Pair)
 
 // `error 5 pair NAME NAME cue C part I of P`.
 #[tactic(auto, using(fleet_io::proofs::WordLaws::word_adds, fleet_io::proofs::WordLaws::number_adds))]
-pub(crate) fn blocked_line(pair: &Pair, index: u16, depth: u8) -> ShortLine
+pub(crate) fn blocked_line(pair: &Pair, index: u16, depth: Depth) -> ShortLine
     requires named { AreNamed pair.now }
-    requires depth { depth ≤ 8 }
     ensures { result ≡ blocked_line pair.now index depth }
 {
     let mut text = begin(b"5");

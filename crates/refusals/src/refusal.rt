@@ -14,6 +14,7 @@ use crate::studies::{accelerates_line, enters_line, jumps_line, too_fast_line};
 use choreo_reader::{LineKind, Name};
 use cue_grid::GridFault;
 use fleet_io::ShortLine;
+use fleet_math::Depth;
 use halving::Place;
 
 /// Two drones in a cue, which counts from 0.
@@ -62,7 +63,7 @@ pub enum Refusal {
     Blocked {
         pair: Pair,
         index: u16,
-        depth: u8,
+        depth: Depth,
     },
     /// A read failed.
     Read,
@@ -120,7 +121,7 @@ pub enum Refusal {
         drone: Name,
         cue: u16,
         index: u16,
-        depth: u8,
+        depth: Depth,
     },
     /// The bound on a drone's speed on the axis 0, 1 or 2, which are x, y and z, is above the limit. It is in micrometres per second.
     TooFast {

@@ -9,12 +9,12 @@ use crate::kinds::axis_word;
 use crate::pairs::parts;
 use choreo_reader::Name;
 use fleet_io::ShortLine;
+use fleet_math::Depth;
 
 // `error 15 region K drone NAME cue C part I of P`: regions and cues count from 1 in the line.
 #[tactic(auto, using(fleet_io::proofs::WordLaws::word_adds, fleet_io::proofs::WordLaws::number_adds))]
-pub(crate) fn enters_line(region: u8, name: &Name, cue: u16, index: u16, depth: u8) -> ShortLine
+pub(crate) fn enters_line(region: u8, name: &Name, cue: u16, index: u16, depth: Depth) -> ShortLine
     requires name { IsWord name.now.items }
-    requires depth { depth ≤ 8 }
     ensures { result ≡ enters_line region name.now.items cue index depth }
 {
     let mut text = begin(b"15");

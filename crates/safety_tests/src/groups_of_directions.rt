@@ -3,22 +3,25 @@
 
 ghost use Rattle.std.specs.Prelude.{◌≤◌};
 
-use crate::flights::still;
-use crate::searches::raised;
+use crate::flights::{still, two_legs};
+use crate::searches::{nodes_of, raised};
+use fleet_curves::Curves;
 use pair_search::{Found, search_with};
 use sep_parts::{Node, Ruler, WIDE, table_law};
 use std::alloc::{AllocError, Global};
 use std::test::Fail;
 
 // Where the second drone is from the first, in millimetres on x, y and z; the first direction; and a place a millimetre nearer, where no
-// direction tells the two apart. Lanes are weighed 16 at a time, so the directions are the first and the last ones of these groups.
-const PLACES: [([i16; 3], u8, [i16; 3]); 17] = [
+// direction tells the two apart. At each place its first direction is the only one. Lanes are weighed 16 at a time, and 28 at a time with
+// their opposites, so the directions are the first and the last ones of these groups.
+const PLACES: [([i16; 3], u8, [i16; 3]); 18] = [
     ([-158, -164, -196], 0, [-157, -163, -195]),
     ([-157, -167, 188], 1, [-156, -166, 187]),
     ([-159, 163, -199], 14, [-158, 162, -198]),
     ([-159, 162, 205], 15, [-158, 161, 204]),
     ([-67, -167, -400], 16, [-66, -166, -399]),
     ([-98, -196, -245], 17, [-97, -195, -244]),
+    ([-172, 0, -422], 27, [-171, 0, -421]),
     ([-98, 98, -490], 31, [-97, 97, -489]),
     ([-139, 139, -347], 32, [-138, 138, -346]),
     ([0, -112, 532], 47, [0, -111, 531]),
@@ -61,6 +64,30 @@ fn the_first_direction_at_the_edge(rt: HostRuntime) -> Result<(), Fail> {
             found == Found::Blocked { index: 0 } && nodes.is_empty(),
             "within direction {dir}"
         );
+    }
+    Ok(())
+}
+
+// Two drones that stay at two places, through two cues.
+fn staying(alloc: Global, first: [i16; 3], second: [i16; 3]) -> Result<Curves, AllocError> {
+    let first = two_legs(alloc, [first; 3])?;
+    let second = two_legs(alloc, [second; 3])?;
+    let trajs = vec![in alloc; first, second]?;
+    Curves::of_slice(alloc, trajs.as_slice())
+}
+
+// Where it is only asked whether there is a direction, the opposite one is looked at with each: so either drone is the first.
+#[test]
+fn counted_at_the_edge(rt: HostRuntime) -> Result<(), Fail> {
+    table_law();
+    let ruler = Ruler::make(&WIDE, still());
+    for (place, dir, nearer) in PLACES {
+        let apart = staying(rt.alloc(), [0, 0, 0], place)?;
+        assert!(rt; nodes_of(rt.alloc(), &apart, &ruler, 0) == Some(Ok(2)), "direction {dir}");
+        let turned = staying(rt.alloc(), place, [0, 0, 0])?;
+        assert!(rt; nodes_of(rt.alloc(), &turned, &ruler, 0) == Some(Ok(2)), "opposite of {dir}");
+        let near = staying(rt.alloc(), [0, 0, 0], nearer)?;
+        assert!(rt; nodes_of(rt.alloc(), &near, &ruler, 0) == Some(Err(0)), "within {dir}");
     }
     Ok(())
 }

@@ -165,7 +165,7 @@ fn beside(alloc: Global, place: [i16; 3]) -> Result<Curves, AllocError> {
 }
 
 // How many nodes a pair has by both searches, where they say the same; or the part of the first cue that is blocked.
-fn nodes_of(
+pub(crate) fn nodes_of(
     alloc: Global,
     curves: &Curves,
     ruler: &Ruler<98>,

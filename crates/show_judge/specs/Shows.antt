@@ -12,10 +12,6 @@ use Rattle.show_plan.specs.Trajectories.{by_cue, sent}
 
 -- ---- the input
 
--- the greatest depth of a search
-abbrev pub most_depth : ℕ
-most_depth = 8
-
 -- The input, cut at its marker lines: the show's text, whether a marker line stands after it, and all bytes after that line; and of these the
 -- second text, and whether a marker line stands after it.
 pub record Cut : Type 0 where

@@ -52,7 +52,7 @@ fn answer_text<V: AnyText>(alloc: Global, verb: &V, text: &Text) -> Result<Answe
     ensures { AnswersText (V.verb verb.now) text.now result }
 {
     let ways = verb.ways();
-    match fit_text(alloc, ways, text)? {
+    match fit_text(alloc, &ways, text)? {
         Planned::Fits { fitted } => verb.answer(alloc, &fitted),
         Planned::Refused { refusal } => Ok(Answer::Refused { refusal }),
     }

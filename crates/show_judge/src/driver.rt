@@ -9,7 +9,7 @@ ghost use Rattle.show_judge.specs.Answers.{AnswersInput, AnswersText, IsSaid, ou
 ghost use Rattle.show_judge.specs.Input.{IsWithin, TakesOneText};
 ghost use Rattle.show_judge.specs.Runs.{Behaves};
 ghost use Rattle.fleet_math.specs.Limits.{most_text};
-ghost use Rattle.show_judge.specs.Shows.{most_depth, nodes_of};
+ghost use Rattle.show_judge.specs.Shows.{nodes_of};
 ghost use Rattle.show_judge.specs.Verb.{during, of_show, outcome};
 
 use crate::ends::{Answer, Failure, respond};
@@ -28,10 +28,9 @@ pub trait OneText {
     /// What it writes of a show.
     ghost text: { Self → PlainShow → List ℕ };
 
-    /// The depth, at most 8.
-    fn depth(&self) -> u8
-        ensures value { result ≡ searched self.now }
-        ensures most { result ≤ most_depth };
+    /// The depth.
+    fn depth(&self) -> Depth
+        ensures value { result ≡ searched self.now };
 
     /// What it writes of a show that is accepted.
     fn answer(&self, alloc: Global, accepted: &Accepted) -> Result<Answer, AllocError>
@@ -53,7 +52,7 @@ fn answer_text<V: OneText>(alloc: Global, verb: &V, text: &Text) -> Result<Answe
         by_frames: false,
         depth: Some(depth),
     };
-    match accept(alloc, ways, depth, text)? {
+    match accept(alloc, &ways, depth, text)? {
         Judged::Accepted { accepted } => verb.answer(alloc, &accepted),
         Judged::Refused { refusal } => Ok(Answer::Refused { refusal }),
     }

@@ -6,7 +6,7 @@ ghost use Rattle.show_plan.specs.Fitting.{IsValidFitted};
 ghost use Rattle.show_judge.specs.Answers.{EndsJudged, EndsWell, IsSoundJudged, IsSoundPlan, JudgedGives, PlanGives};
 ghost use Rattle.show_judge.specs.Input.{IsShowText, IsWithin};
 ghost use Rattle.fleet_math.specs.Limits.{most_text};
-ghost use Rattle.show_judge.specs.Shows.{Cut, most_depth};
+ghost use Rattle.show_judge.specs.Shows.{Cut};
 ghost use Rattle.show_judge.specs.Steps.{Separated, ShowPlanned};
 
 use crate::input::Text;
@@ -14,6 +14,7 @@ use crate::refusing::{marker_refusal, unfit, unseparated};
 use crate::ways::Ways;
 use choreo_reader::{Show, ShowFault, read_show};
 use fleet_io::Part;
+use fleet_math::Depth;
 use refusals::Refusal;
 use show_plan::{FitError, Fitted, count_nodes, fit, uploadable_law, uploads_law};
 use std::alloc::{AllocError, Global};
@@ -40,12 +41,12 @@ pub enum Judged {
 }
 
 // Whether a show fits, and no marker line stands where none may.
-fn fit_show(alloc: Global, ways: Ways, show: &Show, part: &Part) -> Result<Planned, AllocError>
+fn fit_show(alloc: Global, ways: &Ways, show: &Show, part: &Part) -> Result<Planned, AllocError>
     requires valid { IsValid (plain show.now) }
     requires short { length part.now.bytes.items ≤ most_text }
-    ensures gives { (cut : Cut) → IsShowText (Text.Whole part.now) cut → IfOk result (ShowPlanned ways cut (plain show.now)) }
+    ensures gives { (cut : Cut) → IsShowText (Text.Whole part.now) cut → IfOk result (ShowPlanned ways.now cut (plain show.now)) }
     ensures sound { IfOk result IsSoundPlan }
-    ensures whole { IfOk result (EndsWell ways (Text.Whole part.now)) }
+    ensures whole { IfOk result (EndsWell ways.now (Text.Whole part.now)) }
 {
     let fitted = match fit(alloc, show) {
         Ok(fitted) => fitted,
@@ -65,11 +66,11 @@ fn fit_show(alloc: Global, ways: Ways, show: &Show, part: &Part) -> Result<Plann
 }
 
 // Whether a text that isn't too large stands for a show that fits.
-fn fit_part(alloc: Global, ways: Ways, part: &Part) -> Result<Planned, AllocError>
+fn fit_part(alloc: Global, ways: &Ways, part: &Part) -> Result<Planned, AllocError>
     requires short { length part.now.bytes.items ≤ most_text }
-    ensures gives { (cut : Cut) → IsShowText (Text.Whole part.now) cut → IfOk result (PlanGives ways cut) }
+    ensures gives { (cut : Cut) → IsShowText (Text.Whole part.now) cut → IfOk result (PlanGives ways.now cut) }
     ensures sound { IfOk result IsSoundPlan }
-    ensures whole { IfOk result (EndsWell ways (Text.Whole part.now)) }
+    ensures whole { IfOk result (EndsWell ways.now (Text.Whole part.now)) }
 {
     match read_show(alloc, &part.bytes) {
         Ok(show) => fit_show(alloc, ways, &show, part),
@@ -82,11 +83,11 @@ fn fit_part(alloc: Global, ways: Ways, part: &Part) -> Result<Planned, AllocErro
 
 /// The show that a text stands for, where it fits and no marker line stands where the command allows none; else the first reason why
 /// the command refuses it. Separation isn't judged.
-pub fn fit_text(alloc: Global, ways: Ways, text: &Text) -> Result<Planned, AllocError>
+pub fn fit_text(alloc: Global, ways: &Ways, text: &Text) -> Result<Planned, AllocError>
     requires short { IsWithin most_text text.now }
-    ensures gives { (cut : Cut) → IsShowText text.now cut → IfOk result (PlanGives ways cut) }
+    ensures gives { (cut : Cut) → IsShowText text.now cut → IfOk result (PlanGives ways.now cut) }
     ensures sound { IfOk result IsSoundPlan }
-    ensures whole { IfOk result (EndsWell ways text.now) }
+    ensures whole { IfOk result (EndsWell ways.now text.now) }
 {
     match text {
         Text::Whole { part } => fit_part(alloc, ways, part),
@@ -97,9 +98,8 @@ pub fn fit_text(alloc: Global, ways: Ways, text: &Text) -> Result<Planned, Alloc
 }
 
 // Whether the drones of a show that fits keep apart.
-fn separate(alloc: Global, fitted: Fitted, depth: u8) -> Result<Judged, AllocError>
+fn separate(alloc: Global, fitted: Fitted, depth: Depth) -> Result<Judged, AllocError>
     requires valid { IsValidFitted fitted }
-    requires depth { depth ≤ most_depth }
     ensures gives { IfOk result (Separated depth fitted) }
     ensures sound { IfOk result IsSoundJudged }
 {
@@ -117,13 +117,12 @@ fn separate(alloc: Global, fitted: Fitted, depth: u8) -> Result<Judged, AllocErr
 /// The show that a text stands for, where nothing refuses it: it is well-formed, it fits, no marker line stands where the command
 /// allows none, and at this depth any two of its drones are apart at every instant. Else the first reason why the command
 /// refuses it.
-pub fn accept(alloc: Global, ways: Ways, depth: u8, text: &Text) -> Result<Judged, AllocError>
-    requires depth { ways.depth ≡ Some depth }
-    requires most { depth ≤ most_depth }
+pub fn accept(alloc: Global, ways: &Ways, depth: Depth, text: &Text) -> Result<Judged, AllocError>
+    requires depth { ways.now.depth ≡ Some depth }
     requires short { IsWithin most_text text.now }
-    ensures gives { (cut : Cut) → IsShowText text.now cut → IfOk result (JudgedGives ways depth cut) }
+    ensures gives { (cut : Cut) → IsShowText text.now cut → IfOk result (JudgedGives ways.now depth cut) }
     ensures sound { IfOk result IsSoundJudged }
-    ensures whole { IfOk result (EndsJudged ways text.now) }
+    ensures whole { IfOk result (EndsJudged ways.now text.now) }
 {
     match fit_text(alloc, ways, text)? {
         Planned::Fits { fitted } => separate(alloc, fitted, depth),

@@ -11,13 +11,14 @@ ghost use Rattle.show_plan.specs.Separation.{FailsBy, blocked_part};
 ghost use Rattle.show_judge.specs.Input.{IsShowText};
 ghost use Rattle.show_judge.specs.Refused.{IsOfInput, blocked_by, marker_refusal, pair_at, show_refusal};
 ghost use Rattle.fleet_math.specs.Limits.{most_text};
-ghost use Rattle.show_judge.specs.Shows.{Cut, marker_number, most_depth, name_at};
+ghost use Rattle.show_judge.specs.Shows.{Cut, marker_number, name_at};
 
 use crate::input::Text;
 use crate::ways::Ways;
 use choreo_lines::copy_of;
 use choreo_reader::{Name, Show};
 use fleet_io::Part;
+use fleet_math::Depth;
 use refusals::{Pair, Refusal};
 use show_plan::{Fitted, PlanFault, SeparationFault};
 use std::alloc::AllocError;
@@ -62,9 +63,9 @@ pub fn marker_number(text: &[u8]) -> u32
 }
 
 /// A marker line after the show's text, which each command refuses that wants no bytes after it.
-pub fn marker_refusal(ways: Ways, part: &Part) -> Option<Refusal>
+pub fn marker_refusal(ways: &Ways, part: &Part) -> Option<Refusal>
     requires { length part.now.bytes.items ≤ most_text }
-    ensures gives { (cut : Cut) → IsShowText (Text.Whole part.now) cut → result ≡ marker_refusal ways cut }
+    ensures gives { (cut : Cut) → IsShowText (Text.Whole part.now) cut → result ≡ marker_refusal ways.now cut }
     ensures said { IfSome result IsOfInput }
 {
     if ways.has_second {
@@ -79,12 +80,12 @@ pub fn marker_refusal(ways: Ways, part: &Part) -> Option<Refusal>
 }
 
 // A drone of the show whose trajectory has no room, unless a marker line is refused before.
-fn without_room(ways: Ways, show: &Show, part: &Part, drone: u8, bytes: u32, room: u32) -> Refusal
+fn without_room(ways: &Ways, show: &Show, part: &Part, drone: u8, bytes: u32, room: u32) -> Refusal
     requires valid { IsValid (plain show.now) }
     requires short { length part.now.bytes.items ≤ most_text }
     requires fault { plan_fault (plain show.now) ≡ Some (PlanFault.TooLong drone bytes room) }
     ensures gives { (cut : Cut) → IsShowText (Text.Whole part.now) cut
-        → show_refusal ways cut (plain show.now) ≡ Some result }
+        → show_refusal ways.now cut (plain show.now) ≡ Some result }
     ensures said { IsOfInput result }
 {
     match marker_refusal(ways, part) {
@@ -98,12 +99,12 @@ fn without_room(ways: Ways, show: &Show, part: &Part, drone: u8, bytes: u32, roo
 }
 
 // A drone of the show whose trajectory has too many segments, unless a marker line is refused before.
-fn without_segments(ways: Ways, show: &Show, part: &Part, drone: u8, segments: u32) -> Refusal
+fn without_segments(ways: &Ways, show: &Show, part: &Part, drone: u8, segments: u32) -> Refusal
     requires valid { IsValid (plain show.now) }
     requires short { length part.now.bytes.items ≤ most_text }
     requires fault { plan_fault (plain show.now) ≡ Some (PlanFault.TooManySegments drone segments) }
     ensures gives { (cut : Cut) → IsShowText (Text.Whole part.now) cut
-        → show_refusal ways cut (plain show.now) ≡ Some result }
+        → show_refusal ways.now cut (plain show.now) ≡ Some result }
     ensures said { IsOfInput result }
 {
     match marker_refusal(ways, part) {
@@ -116,12 +117,12 @@ fn without_segments(ways: Ways, show: &Show, part: &Part, drone: u8, segments: u
 }
 
 /// Why a show doesn't fit, or the marker line that is refused before.
-pub fn unfit(ways: Ways, show: &Show, part: &Part, fault: PlanFault) -> Refusal
+pub fn unfit(ways: &Ways, show: &Show, part: &Part, fault: PlanFault) -> Refusal
     requires valid { IsValid (plain show.now) }
     requires short { length part.now.bytes.items ≤ most_text }
     requires fault { plan_fault (plain show.now) ≡ Some fault }
     ensures gives { (cut : Cut) → IsShowText (Text.Whole part.now) cut
-        → show_refusal ways cut (plain show.now) ≡ Some result }
+        → show_refusal ways.now cut (plain show.now) ≡ Some result }
     ensures said { IsOfInput result }
 {
     match fault {
@@ -143,11 +144,10 @@ pub fn unfit(ways: Ways, show: &Show, part: &Part, fault: PlanFault) -> Refusal
 /// Why a show that fits has no certificate of a depth.
 pub fn unseparated(
     fitted: &Fitted,
-    depth: u8,
+    depth: Depth,
     fault: SeparationFault,
 ) -> Result<Refusal, AllocError>
     requires valid { IsValidFitted fitted.now }
-    requires depth { depth ≤ most_depth }
     requires fault { FailsBy (blocked_part fitted.now.settings depth fitted.now.trajs) fault }
     ensures gives { (s : PlainShow) → IsFitted fitted.now s → IfOk result (λ r. blocked_by (Some depth) s ≡ Some r) }
     ensures said { IfOk result IsOfInput }

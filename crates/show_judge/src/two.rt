@@ -12,7 +12,7 @@ ghost use Rattle.show_judge.specs.Answers.{AnswersInput, AnswersTwo, IsSaid, out
 ghost use Rattle.show_judge.specs.Input.{IsReadBoth, IsText, IsUnmarked, IsWithin, TakesOneText};
 ghost use Rattle.show_judge.specs.Runs.{Behaves};
 ghost use Rattle.fleet_math.specs.Limits.{most_text};
-ghost use Rattle.show_judge.specs.Shows.{Cut, most_depth};
+ghost use Rattle.show_judge.specs.Shows.{Cut};
 ghost use Rattle.show_judge.specs.Verb.{IsTwo, Verb, during};
 ghost use Rattle.show_judge.specs.Outcome.{IsVerb};
 
@@ -37,10 +37,9 @@ pub trait TwoTexts {
     /// The depth at which it searches.
     ghost searched: { Self → ℕ };
 
-    /// The depth, at most 8.
-    fn depth(&self) -> u8
-        ensures value { result ≡ searched self.now }
-        ensures most { result ≤ most_depth };
+    /// The depth.
+    fn depth(&self) -> Depth
+        ensures value { result ≡ searched self.now };
 
     /// The most bytes of the second text.
     fn limit(&self) -> usize
@@ -73,7 +72,7 @@ fn answer_two<V: TwoTexts>(alloc: Global, verb: &V, input: &Input) -> Result<Ans
         by_frames: false,
         depth: Some(depth),
     };
-    match accept(alloc, ways, depth, &input.show)? {
+    match accept(alloc, &ways, depth, &input.show)? {
         Judged::Accepted { accepted } => verb.answer(alloc, &accepted.fitted, &input.second),
         Judged::Refused { refusal } => Ok(Answer::Refused { refusal }),
     }

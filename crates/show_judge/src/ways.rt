@@ -1,3 +1,5 @@
+
+use fleet_math::Depth;
 //! What a command reads, and how far it searches.
 
 /// What a command reads, and how far it searches. Each command has one of its own.
@@ -10,5 +12,5 @@ pub struct Ways {
     /// It takes these as frames, and writes frames.
     pub by_frames: bool,
     /// The depth at which it refuses a show of which it can't show that its drones keep apart, if it does.
-    pub depth: Option<u8>,
+    pub depth: Option<Depth>,
 }

@@ -9,11 +9,12 @@ ghost use Rattle.show_judge.specs.Answers.{IsSaid, outcome_of};
 ghost use Rattle.show_judge.specs.Outcome.{ShowGives};
 ghost use Rattle.show_judge.specs.Refused.{blocked_by};
 ghost use Rattle.show_judge.specs.Runs.{Behaves};
-ghost use Rattle.show_judge.specs.Shows.{Cut, most_depth, sent_of};
+ghost use Rattle.show_judge.specs.Shows.{Cut, sent_of};
 ghost use Rattle.show_judge.specs.Verb.{during};
 ghost use Rattle.show_looks.specs.Certify.{certify_verb};
 
 use fleet_io::{Sink, Source};
+use fleet_math::Depth;
 use sep_certificate::write_certificate;
 use show_judge::{Answer, AnyText, Output, Ways, run_any, unseparated};
 use show_plan::{Fitted, certificate};
@@ -22,14 +23,12 @@ use std::alloc::{AllocError, Global};
 /// `certify` at a depth.
 #[derive(Clone, Copy)]
 pub struct CertifyVerb {
-    pub depth: u8,
-    ghost most: { depth ≤ most_depth },
+    pub depth: Depth,
 }
 
 // The certificate of a show that fits, where it has one of the depth.
-fn answer_fitted(alloc: Global, fitted: &Fitted, depth: u8) -> Result<Answer, AllocError>
+fn answer_fitted(alloc: Global, fitted: &Fitted, depth: Depth) -> Result<Answer, AllocError>
     requires valid { IsValidFitted fitted.now }
-    requires depth { depth ≤ most_depth }
     ensures gives { (s : PlainShow) (cut : Cut) → IsFitted fitted.now s
         → IfOk result (λ a. ShowGives (certify_verb depth) (blocked_by (Some depth) s) s cut (outcome_of a)) }
     ensures apart { IfOk result (λ a. (outcome_of a).status ≡ 0 → FlyApart fitted.now.settings fitted.now.sent) }
@@ -67,8 +66,7 @@ impl AnyText for CertifyVerb {
 }
 
 /// Runs `certify` (docs/COMMANDS.md): the certificate of a show, or the first reason why it is refused.
-pub fn certify<S: Source, K: Sink>(alloc: Global, depth: u8, source: &mut S, sink: &mut K) -> u8
-    requires { depth ≤ most_depth }
+pub fn certify<S: Source, K: Sink>(alloc: Global, depth: Depth, source: &mut S, sink: &mut K) -> u8
     ensures { Behaves (certify_verb depth) (during S.left S.faults K.written K.faults source.old source.new sink.old sink.new) result }
 {
     run_any(alloc, &CertifyVerb { depth }, source, sink)

@@ -4,20 +4,20 @@ ghost use Rattle.choreo_reader.specs.Plain.{PlainShow};
 ghost use Rattle.show_plan.specs.Fitting.{IsFitted, IsValidFitted};
 ghost use Rattle.show_judge.specs.Answers.{IsSaid, outcome_of};
 ghost use Rattle.show_judge.specs.Runs.{Behaves};
-ghost use Rattle.show_judge.specs.Shows.{most_depth, nodes_of};
+ghost use Rattle.show_judge.specs.Shows.{nodes_of};
 ghost use Rattle.show_judge.specs.Verb.{during, outcome};
 ghost use Rattle.show_looks.specs.Check.{check_text, check_verb};
 
 use crate::lines::ok_line;
 use fleet_io::{Sink, Source};
+use fleet_math::Depth;
 use show_judge::{Accepted, Answer, OneText, Output, run_one};
 use std::alloc::{AllocError, Global};
 
 /// `check` at a depth.
 #[derive(Clone, Copy)]
 pub struct CheckVerb {
-    pub depth: u8,
-    ghost most: { depth ≤ most_depth },
+    pub depth: Depth,
 }
 
 impl OneText for CheckVerb {
@@ -41,8 +41,7 @@ impl OneText for CheckVerb {
 }
 
 /// Runs `check` (docs/COMMANDS.md): the numbers of its drones and cues and its milliseconds, or the first reason why it is refused.
-pub fn check<S: Source, K: Sink>(alloc: Global, depth: u8, source: &mut S, sink: &mut K) -> u8
-    requires { depth ≤ most_depth }
+pub fn check<S: Source, K: Sink>(alloc: Global, depth: Depth, source: &mut S, sink: &mut K) -> u8
     ensures { Behaves (check_verb depth) (during S.left S.faults K.written K.faults source.old source.new sink.old sink.new) result }
 {
     run_one(alloc, &CheckVerb { depth }, source, sink)

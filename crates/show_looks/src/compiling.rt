@@ -4,11 +4,12 @@ ghost use Rattle.choreo_reader.specs.Plain.{PlainShow};
 ghost use Rattle.show_plan.specs.Fitting.{IsFitted, IsValidFitted};
 ghost use Rattle.show_judge.specs.Answers.{IsSaid, outcome_of};
 ghost use Rattle.show_judge.specs.Runs.{Behaves};
-ghost use Rattle.show_judge.specs.Shows.{most_depth, nodes_of};
+ghost use Rattle.show_judge.specs.Shows.{nodes_of};
 ghost use Rattle.show_judge.specs.Verb.{during, outcome};
 ghost use Rattle.show_looks.specs.Compile.{compile_verb, plan_of};
 
 use fleet_io::{Sink, Source};
+use fleet_math::Depth;
 use show_judge::{Accepted, Answer, OneText, Output, run_one};
 use show_plan::plan_text;
 use std::alloc::{AllocError, Global};
@@ -16,8 +17,7 @@ use std::alloc::{AllocError, Global};
 /// `compile` at a depth.
 #[derive(Clone, Copy)]
 pub struct CompileVerb {
-    pub depth: u8,
-    ghost most: { depth ≤ most_depth },
+    pub depth: Depth,
 }
 
 impl OneText for CompileVerb {
@@ -38,8 +38,7 @@ impl OneText for CompileVerb {
 }
 
 /// Runs `compile` (docs/COMMANDS.md): its plan, or the first reason why it is refused.
-pub fn compile<S: Source, K: Sink>(alloc: Global, depth: u8, source: &mut S, sink: &mut K) -> u8
-    requires { depth ≤ most_depth }
+pub fn compile<S: Source, K: Sink>(alloc: Global, depth: Depth, source: &mut S, sink: &mut K) -> u8
     ensures { Behaves (compile_verb depth) (during S.left S.faults K.written K.faults source.old source.new sink.old sink.new) result }
 {
     run_one(alloc, &CompileVerb { depth }, source, sink)

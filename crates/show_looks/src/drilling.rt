@@ -9,7 +9,7 @@ ghost use Rattle.show_judge.specs.Outcome.{IsOutcomeOf, IsSafe};
 ghost use Rattle.show_judge.specs.Verb.{during, outcome};
 ghost use Rattle.fleet_math.specs.Limits.{most_drones, most_text};
 ghost use Rattle.show_looks.specs.Drilled.{drill_of, drill_verb};
-ghost use Rattle.show_judge.specs.Shows.{cut_of, most_depth, nodes_of};
+ghost use Rattle.show_judge.specs.Shows.{cut_of, nodes_of};
 ghost use Rattle.show_looks.specs.Reports.{report_of};
 ghost use Rattle.show_judge.specs.Runs.{Behaves};
 
@@ -17,6 +17,7 @@ use crate::numbers::{packets, sizes, total};
 use choreo_reader::{Name, show_law};
 use drill_show::{drill_line, drill_text};
 use fleet_io::{Sink, Source, SureSource};
+use fleet_math::Depth;
 use show_judge::{
     Accepted, Answer, Failure, Judged, NO_MEMORY, Output, Text, Ways, accept, read_show_text,
     respond,
@@ -66,8 +67,7 @@ fn answer_accepted(alloc: Global, accepted: &Accepted) -> Result<Answer, AllocEr
 }
 
 // What `drill` ends with for a show's text.
-fn answer_text(alloc: Global, drones: u8, depth: u8, text: &Text) -> Result<Answer, AllocError>
-    requires depth { depth ≤ most_depth }
+fn answer_text(alloc: Global, drones: u8, depth: Depth, text: &Text) -> Result<Answer, AllocError>
     requires short { IsWithin most_text text.now }
     ensures { AnswersText (drill_verb drones depth) text.now result }
 {
@@ -77,15 +77,14 @@ fn answer_text(alloc: Global, drones: u8, depth: u8, text: &Text) -> Result<Answ
         by_frames: false,
         depth: Some(depth),
     };
-    match accept(alloc, ways, depth, text)? {
+    match accept(alloc, &ways, depth, text)? {
         Judged::Accepted { accepted } => answer_accepted(alloc, &accepted),
         Judged::Refused { refusal } => Ok(Answer::Refused { refusal }),
     }
 }
 
 // What `drill` ends with for the show of this many drones, which is read from memory as any other.
-fn answer_drill(alloc: Global, drones: u8, depth: u8) -> Result<Answer, Failure>
-    requires depth { depth ≤ most_depth }
+fn answer_drill(alloc: Global, drones: u8, depth: Depth) -> Result<Answer, Failure>
     requires some { 1 ≤ drones }
     requires few { drones ≤ most_drones }
     ensures gives { IfOk result (λ a. IsOutcomeOf (drill_verb drones depth) (cut_of (drill_text drones)) (outcome_of a)) }
@@ -103,11 +102,10 @@ fn answer_drill(alloc: Global, drones: u8, depth: u8) -> Result<Answer, Failure>
 pub fn drill<S: Source, K: Sink>(
     alloc: Global,
     drones: u8,
-    depth: u8,
+    depth: Depth,
     source: &mut S,
     sink: &mut K,
 ) -> u8
-    requires depth { depth ≤ most_depth }
     requires some { 1 ≤ drones }
     requires few { drones ≤ most_drones }
     ensures { Behaves (drill_verb drones depth) (during S.left S.faults K.written K.faults source.old source.new sink.old sink.new) result }

@@ -9,12 +9,12 @@ ghost use Rattle.show_plan.specs.Fitting.{IsValidFitted};
 ghost use Rattle.show_judge.specs.Answers.{IsSoundJudged, JudgesInput, Wrote};
 ghost use Rattle.show_judge.specs.Input.{TakesOneText};
 ghost use Rattle.show_judge.specs.Runs.{Behaves, Runs, StopsAtMarker, TakesLittle};
-ghost use Rattle.show_judge.specs.Shows.{most_depth};
 ghost use Rattle.show_judge.specs.Verb.{during, show_ways};
 ghost use Rattle.show_looks.specs.Play.{play_verb};
 
 use choreo_reader::show_law;
 use fleet_io::{Failed, Sink, Source};
+use fleet_math::Depth;
 use show_judge::{
     DONE, Failure, Judged, NO_MEMORY, WRITE_FAILED, Ways, accept, fail, read_show_text, refuse,
 };
@@ -23,8 +23,7 @@ use std::alloc::Global;
 use traj_codec::join_law;
 
 // What `play` judges of what its source gives.
-fn judge_input<S: Source>(alloc: Global, depth: u8, source: &mut S) -> Result<Judged, Failure>
-    requires depth { depth ≤ most_depth }
+fn judge_input<S: Source>(alloc: Global, depth: Depth, source: &mut S) -> Result<Judged, Failure>
     ensures judges { JudgesInput (show_ways depth) depth (S.left source.old) (S.left source.new) result }
     ensures sound { IfOk result IsSoundJudged }
     ensures failed { result ≡ Err Failure.Read → Rose (S.faults source.old) (S.faults source.new) }
@@ -40,7 +39,7 @@ fn judge_input<S: Source>(alloc: Global, depth: u8, source: &mut S) -> Result<Ju
         by_frames: false,
         depth: Some(depth),
     };
-    Ok(accept(alloc, ways, depth, &text)?)
+    Ok(accept(alloc, &ways, depth, &text)?)
 }
 
 // Writes the rows of a show that fits, and returns the status.
@@ -63,12 +62,11 @@ fn write_rows<K: Sink>(fitted: &Fitted, step: u16, sink: &mut K) -> u8
 // Judges the show, and writes its rows or why there are none.
 fn carry<S: Source, K: Sink>(
     alloc: Global,
-    depth: u8,
+    depth: Depth,
     step: u16,
     source: &mut S,
     sink: &mut K,
 ) -> u8
-    requires depth { depth ≤ most_depth }
     requires step { 1 ≤ step }
     ensures runs { Runs (play_verb depth step) (during S.left S.faults K.written K.faults source.old source.new sink.old sink.new) result }
     ensures few { TakesLittle (play_verb depth step) (during S.left S.faults K.written K.faults source.old source.new sink.old sink.new) }
@@ -86,12 +84,11 @@ fn carry<S: Source, K: Sink>(
 /// show is refused. All memory is taken before the first row.
 pub fn play<S: Source, K: Sink>(
     alloc: Global,
-    depth: u8,
+    depth: Depth,
     step: u16,
     source: &mut S,
     sink: &mut K,
 ) -> u8
-    requires depth { depth ≤ most_depth }
     requires step { 1 ≤ step }
     ensures { Behaves (play_verb depth step) (during S.left S.faults K.written K.faults source.old source.new sink.old sink.new) result }
 {

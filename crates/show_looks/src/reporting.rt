@@ -5,13 +5,14 @@ ghost use Rattle.report_text.specs.Report.{report_text};
 ghost use Rattle.show_plan.specs.Fitting.{IsFitted, IsValidFitted};
 ghost use Rattle.show_judge.specs.Answers.{IsSaid, outcome_of};
 ghost use Rattle.show_judge.specs.Runs.{Behaves};
-ghost use Rattle.show_judge.specs.Shows.{most_depth, nodes_of};
+ghost use Rattle.show_judge.specs.Shows.{nodes_of};
 ghost use Rattle.show_judge.specs.Verb.{during, outcome};
 ghost use Rattle.show_looks.specs.Report.{report_verb};
 ghost use Rattle.show_looks.specs.Reports.{report_of};
 
 use crate::numbers::{packets, sizes};
 use fleet_io::{Sink, Source};
+use fleet_math::Depth;
 use report_text::report_text;
 use show_judge::{Accepted, Answer, OneText, Output, run_one};
 use std::alloc::{AllocError, Global};
@@ -19,8 +20,7 @@ use std::alloc::{AllocError, Global};
 /// `report` at a depth.
 #[derive(Clone, Copy)]
 pub struct ReportVerb {
-    pub depth: u8,
-    ghost most: { depth ≤ most_depth },
+    pub depth: Depth,
 }
 
 impl OneText for ReportVerb {
@@ -52,8 +52,7 @@ impl OneText for ReportVerb {
 }
 
 /// Runs `report` (docs/COMMANDS.md): the numbers of a show as compact JSON, or the first reason why it is refused.
-pub fn report<S: Source, K: Sink>(alloc: Global, depth: u8, source: &mut S, sink: &mut K) -> u8
-    requires { depth ≤ most_depth }
+pub fn report<S: Source, K: Sink>(alloc: Global, depth: Depth, source: &mut S, sink: &mut K) -> u8
     ensures { Behaves (report_verb depth) (during S.left S.faults K.written K.faults source.old source.new sink.old sink.new) result }
 {
     run_one(alloc, &ReportVerb { depth }, source, sink)

@@ -13,6 +13,7 @@ ghost use Rattle.show_plan.specs.Steps.{FindsNodes, FindsTrees, separation_fault
 
 use crate::fitted::Fitted;
 use choreo_reader::Listed;
+use fleet_math::Depth;
 use pair_search::{SearchFault, count_all, search_all, search_law};
 use sep_certificate::{Certificate, Curves, Node, certificate_law};
 use sep_parts::{Clearance, Ruler, Slot, WIDE, apart_law, table_law};
@@ -96,13 +97,12 @@ fn trees_of(
     alloc: Global,
     curves: &Curves,
     clearance: Clearance,
-    depth: u8,
+    depth: Depth,
 ) -> Result<Listed<Listed<Node>>, SeparationFault>
     requires clearance { IsClearance clearance }
-    requires depth { depth ≤ 8 }
     ensures { FindsTrees clearance depth curves.now result }
 {
-    match search_all(alloc, curves, &ruler_of(clearance), depth) {
+    match search_all(alloc, curves, &ruler_of(clearance), depth.levels()) {
         Ok(trees) => Ok(trees),
         Err(fault) => Err(separation_fault(fault)),
     }
@@ -113,13 +113,12 @@ fn nodes_of(
     alloc: Global,
     curves: &Curves,
     clearance: Clearance,
-    depth: u8,
+    depth: Depth,
 ) -> Result<u32, SeparationFault>
     requires clearance { IsClearance clearance }
-    requires depth { depth ≤ 8 }
     ensures { FindsNodes clearance depth curves.now result }
 {
-    match count_all(alloc, curves, &ruler_of(clearance), depth) {
+    match count_all(alloc, curves, &ruler_of(clearance), depth.levels()) {
         Ok(count) => Ok(count),
         Err(fault) => Err(separation_fault(fault)),
     }
@@ -138,9 +137,8 @@ pub fn separation_law()
 /// `Blocked` exactly where some part of that depth has no separating direction, for some pair and cue: the first, in the order
 /// pair, cue, part. Out of memory is the only other refusal. Where it is Ok, any two drones fly apart, by what the settings let them stray and be
 /// late (docs/SEPARATION.md).
-pub fn certificate(alloc: Global, f: &Fitted, depth: u8) -> Result<Certificate, SeparationFault>
+pub fn certificate(alloc: Global, f: &Fitted, depth: Depth) -> Result<Certificate, SeparationFault>
     requires valid { IsValidFitted f.now }
-    requires depth { depth ≤ 8 }
     ensures gives { CertificateGives f.now.settings depth f.now.trajs result }
     ensures whole { IfOk result (λ cert. IsWhole cert) }
     ensures valid { IfOk result (λ cert. IsValid searched (raised_of f.now.trajs) (clearance_of f.now.settings f.now.trajs) cert) }
@@ -159,16 +157,15 @@ pub fn certificate(alloc: Global, f: &Fitted, depth: u8) -> Result<Certificate, 
     let trees = trees_of(alloc, &curves, clearance, depth)?;
     Ok(Certificate {
         version: 2,
-        depth,
+        depth: depth.levels(),
         trees,
     })
 }
 
 /// How many nodes the certificate of a show that fits has: what [`certificate`] would return, counted and not kept. Conditions and
 /// refusals are those of [`certificate`], and so is its promise: where it is Ok, any two drones are apart at each instant of the show.
-pub fn count_nodes(alloc: Global, f: &Fitted, depth: u8) -> Result<u32, SeparationFault>
+pub fn count_nodes(alloc: Global, f: &Fitted, depth: Depth) -> Result<u32, SeparationFault>
     requires valid { IsValidFitted f.now }
-    requires depth { depth ≤ 8 }
     ensures gives { CountGives f.now.settings depth f.now.trajs result }
     ensures clear { IsOk result → IsShowClear f.now.settings depth f.now.trajs }
     ensures blocked { (slot : Slot) (index : ℕ) → result ≡ Err (SeparationFault.Blocked (blocked_at slot index))

@@ -1,6 +1,5 @@
 -- What `explain` answers, from what its steps do.
-use Rattle.std.proofs.Common.{◌≡◌, ℕ, ◌+◌, ◌*◌, ◌<◌, ◌≤◌, All, sum, List, [], ◌∷◌, ◌++◌, codes, decimal, ◌^◌, true, length, Option, Some, None, Result, Ok, Err, OnOk, sym, ap, subst, ◌∙◌, arith}
-use Rattle.std.specs.Prelude.{MatchOption}
+use Rattle.std.proofs.Common.{◌≡◌, ℕ, ◌+◌, ◌*◌, ◌<◌, ◌≤◌, All, sum, List, [], ◌∷◌, ◌++◌, codes, decimal, ◌^◌, true, length, Option, Some, None, sym, ap, subst, ◌∙◌, arith}
 use Rattle.std.proofs.Math.Nat.{one-le-pow}
 use Rattle.std.proofs.lemmas.List.{length-map}
 use Rattle.std.proofs.lemmas.List.Elements.{All-cons, All-head, All-nil, All-tail}
@@ -8,15 +7,11 @@ use Rattle.traj_codec.specs.Joined.{IsLasting}
 use Rattle.choreo_lines.specs.Name.{Name}
 use Rattle.fleet_io.specs.Words.{is_line_empty}
 use Rattle.fleet_io.proofs.WordLaws.{fresh_after_line}
-use Rattle.choreo_reader.specs.Plain.{PlainShow}
-use Rattle.choreo_reader.specs.declared.show.Settings.{Settings}
 use Rattle.show_plan.specs.declared.fitted.Fitted.{Fitted}
 use Rattle.show_plan.specs.declared.separation.BlockedPart.{BlockedPart}
-use Rattle.show_plan.specs.Fitting.{IsFitted, IsValidFitted}
-use Rattle.show_plan.specs.Separation.{FlyApart, blocked_part}
-use Rattle.touch_witness.specs.declared.site.Closest.{Closest}
-use Rattle.touch_witness.specs.declared.site.Touch.{Touch}
-use Rattle.touch_witness.specs.Sites.{IsClosest, IsFirstTouch, NoTouch, instant_of}
+use Rattle.show_plan.specs.Fitting.{IsValidFitted}
+use Rattle.show_plan.specs.Separation.{FlyApart}
+use Rattle.touch_witness.specs.Sites.{NoTouch, instant_of}
 use Rattle.touch_witness.proofs.Shows.{apart_disjoint, instant_inside}
 use Rattle.traj_codec.specs.declared.traj.Segment.{Segment}
 use Rattle.traj_codec.specs.Positions.{durations}
@@ -24,45 +19,8 @@ use Rattle.upload_model.proofs.Moments.{All-slice_get}
 use Rattle.fleet_curves.specs.Raised as raised
 use Rattle.traj_codec.specs.declared.traj.Traj.{Traj}
 use Rattle.sep_parts.proofs.Lifts.{exactly_apart, lasting_at, own_some}
-use Rattle.show_studies.specs.declared.findings.Findings.{Findings}
-use Rattle.show_judge.specs.Shows.{cues_in, names_of, sent_of, trajectories_of}
-use Rattle.show_studies.specs.Steps.{IsClosestAmong, IsFound, IsTouchAmong}
-use Rattle.show_studies.specs.Explained.{Explains, blocked_of, explain_text, separation_line, word_at}
-use Rattle.show_judge.proofs.PlanLemmas.{apart_of}
-
--- the part that is blocked of what fits is that of its show
-blocked_of_show : (f : Fitted) (s : PlainShow) (depth : ℕ) → IsFitted f s → blocked_part f.settings depth f.trajs ≡ blocked_of depth s
-blocked_of_show f s depth is =
-    ap (λ (e : Settings). blocked_part e depth f.trajs) is.settings ∙ ap (λ (ts : List Traj). blocked_part s.settings depth ts) is.trajs
-
--- what is found of what fits explains its show
-pub explains_show : (f : Fitted) (s : PlainShow) (depth fine : ℕ) (found : Findings) (text : List ℕ) → IsFitted f s → IsFound depth fine f found →
-    text ≡ explain_text f.names depth f.cues fine found.blocked found.closest found.touch → Explains depth fine s text
-explains_show f s depth fine found text is found_is text_is = record {
-  closest = found.closest;
-  touch = found.touch;
-  is_closest = subst (λ (e : Settings). MatchOption found.closest (length (trajectories_of s) ≡ 1) (IsClosest (trajectories_of s) e.r e.h fine)) is.settings
-      (subst (λ (ts : List Traj). MatchOption found.closest (length ts ≡ 1) (IsClosest ts f.settings.r f.settings.h fine)) is.trajs found_is.closest);
-  is_first = subst (λ (e : Settings). MatchOption found.touch (NoTouch (trajectories_of s) e.r e.h fine) (IsFirstTouch (trajectories_of s) e.r e.h fine)) is.settings
-      (subst (λ (ts : List Traj). MatchOption found.touch (NoTouch ts f.settings.r f.settings.h fine) (IsFirstTouch ts f.settings.r f.settings.h fine)) is.trajs found_is.touch);
-  is = text_is
-      ∙ ap (λ (ns : List Name). explain_text ns depth f.cues fine found.blocked found.closest found.touch) is.names
-      ∙ ap (λ (n : ℕ). explain_text (names_of s) depth n fine found.blocked found.closest found.touch) is.cues
-      ∙ ap (λ (b : Option BlockedPart). explain_text (names_of s) depth (cues_in s) fine b found.closest found.touch) (found_is.blocked ∙ blocked_of_show f s depth is);
-}
-
--- where no part of its show is blocked, its drones keep apart
-pub apart_unblocked : (f : Fitted) (s : PlainShow) (depth fine : ℕ) (found : Findings) → IsFitted f s → IsFound depth fine f found → blocked_of depth s ≡ None → FlyApart s.settings (sent_of s)
-apart_unblocked f s depth fine found is found_is none = apart_of f s is (found_is.apart (found_is.blocked ∙ blocked_of_show f s depth is ∙ none))
-
--- the closest two are drones of the show, and so are two that touch
-pub closest_among : (trajs : List Traj) (r h fine n : ℕ) (closest : Option Closest) → length trajs ≡ n → MatchOption closest (length trajs ≡ 1) (IsClosest trajs r h fine) → IsClosestAmong n closest
-closest_among trajs r h fine n None counted is = tt
-closest_among trajs r h fine n (Some c) counted is = (omega (arith, is.among.pair, is.among.drone, counted), omega (arith, is.among.drone, counted))
-
-pub touch_among : (trajs : List Traj) (r h fine n : ℕ) (touch : Option Touch) → length trajs ≡ n → MatchOption touch (NoTouch trajs r h fine) (IsFirstTouch trajs r h fine) → IsTouchAmong n touch
-touch_among trajs r h fine n None counted is = tt
-touch_among trajs r h fine n (Some s) counted is = (omega (arith, is.listed.pair, is.listed.drone, counted), omega (arith, is.listed.drone, counted))
+use Rattle.show_judge.specs.Shows.{cues_in}
+use Rattle.show_studies.specs.Explained.{separation_line, word_at}
 
 -- ---- lines
 

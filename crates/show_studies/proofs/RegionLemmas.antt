@@ -1,56 +1,24 @@
 -- What `boxes` answers, from what its steps do.
-use Rattle.std.proofs.Common.{◌≡◌, ℕ, ◌≤◌, Bool, false, cond, nat_lt, List, [], ◌∷◌, All, length, Option, Some, None, Result, Ok, Err, IfOk, refl, sym, ap, subst, ◌∙◌}
+use Rattle.std.proofs.Common.{◌≡◌, ℕ, ◌≤◌, Bool, false, cond, nat_lt, List, length, Option, Some, None, Result, Ok, Err, IfOk, refl, sym, ap, subst}
 use Rattle.std.specs.Option.{option_map, option_or}
 use Rattle.std.specs.declared.alloc.AllocError.{AllocError}
 use Rattle.std.proofs.lemmas.Bool.{le-ltb}
-use Rattle.std.proofs.lemmas.List.Elements.{All-nil, All-cons, All-head, All-tail}
-use Rattle.choreo_lines.specs.Name.{Name}
 use Rattle.choreo_reader.specs.Plain.{PlainShow}
 use Rattle.choreo_reader.specs.declared.show.Settings.{Settings}
-use Rattle.fleet_curves.specs.Raised.{Raised, raised_of}
-use Rattle.keepout_boxes.specs.declared.judging.Judged.{Judged}
 use Rattle.keepout_boxes.specs.declared.region.Region.{Region}
-use Rattle.keepout_boxes.specs.Kept.{JudgeGives, KeepClear, SentLaw}
+use Rattle.keepout_boxes.specs.Kept.{KeepClear}
 use Rattle.keepout_boxes.specs.Regions.{regions_of}
 use Rattle.refusals.specs.declared.refusal.Refusal.{Refusal}
 use Rattle.refusals.specs.declared.refusal.Refusal.TheVariants as refusal
 use Rattle.show_plan.specs.declared.fitted.Fitted.{Fitted}
-use Rattle.show_plan.specs.Fitting.{IsFitted, IsValidFitted}
-use Rattle.traj_codec.specs.declared.traj.Traj.{Traj}
-use Rattle.traj_codec.specs.Joined.{IsLasting}
-use Rattle.traj_codec.specs.Positions.{durations}
+use Rattle.show_plan.specs.Fitting.{IsFitted}
 use Rattle.show_judge.specs.declared.ends.Answer.{Answer}
 use Rattle.show_judge.specs.Answers.{outcome_of}
-use Rattle.show_judge.specs.Verb.{Outcome}
 use Rattle.fleet_math.specs.Limits.{most_text}
-use Rattle.show_studies.specs.Boxes.{RegionsGive, aside_of, faulty_region, regions_end, upwards_of}
+use Rattle.show_studies.specs.Boxes.{RegionsGive, aside_of, faulty_region, upwards_of}
 use Rattle.show_judge.specs.Refused.{second_refusal}
-use Rattle.show_judge.specs.Shows.{Cut, marker_number, sent_of, trajectories_of}
+use Rattle.show_judge.specs.Shows.{Cut, marker_number, sent_of}
 use Rattle.show_studies.specs.Steps.{EndsRegions}
-
--- what is judged of what fits is judged of its show
-pub ends_regions : (f : Fitted) (s : PlainShow) (curves : Raised) (depth : ℕ) (regions : List Region) (names : List Name) (j : Judged) (o : Outcome) → IsFitted f s → curves ≡ raised_of f.trajs →
-    JudgeGives curves (aside_of f.settings) (upwards_of f.settings) depth regions j → names ≡ f.names → o ≡ regions_end names depth (length regions) j → EndsRegions s depth regions o
-ends_regions f s curves depth regions names j o is curves_are gives named ends = record {
-  judged = j;
-  gives = subst (λ (e : Settings). JudgeGives (raised_of (trajectories_of s)) (aside_of e) (upwards_of e) depth regions j) is.settings
-      (subst (λ (ts : List Traj). JudgeGives (raised_of ts) (aside_of f.settings) (upwards_of f.settings) depth regions j) is.trajs
-      (subst (λ (c : Raised). JudgeGives c (aside_of f.settings) (upwards_of f.settings) depth regions j) curves_are gives));
-  is = ends ∙ ap (λ (ns : List Name). regions_end ns depth (length regions) j) (named ∙ is.names);
-}
-
--- trajectories of these durations last some time
-lasting_all : (times : List ℕ) → All (λ ms. 1 ≤ ms) times → (ts : List Traj) → All (λ (t : Traj). durations t.segments ≡ times) ts → All IsLasting ts
-lasting_all times last [] are = All-nil IsLasting
-lasting_all times last (t ∷ ts) are =
-    All-cons IsLasting t ts (subst (All (λ ms. 1 ≤ ms)) (sym (All-head (λ (t : Traj). durations t.segments ≡ times) t ts are)) last)
-    (lasting_all times last ts (All-tail (λ (t : Traj). durations t.segments ≡ times) t ts are))
-
--- what fits keeps clear with its holds joined, where it does cue by cue
-pub sent_keeps : SentLaw → (f : Fitted) (regions : List Region) → IsValidFitted f → KeepClear (aside_of f.settings) (upwards_of f.settings) regions f.trajs → KeepClear (aside_of f.settings) (upwards_of f.settings) regions f.sent
-sent_keeps law f regions valid clear =
-    subst (KeepClear (aside_of f.settings) (upwards_of f.settings) regions) (sym valid.sent)
-    (law (aside_of f.settings) (upwards_of f.settings) regions f.trajs (lasting_all valid.times valid.last f.trajs valid.lasting) clear)
 
 -- so each drone of its show keeps to each region of the text
 pub regions_promised : (f : Fitted) (s : PlainShow) (cut : Cut) (regions : List Region) (result : Result Answer AllocError) → IsFitted f s → regions_of cut.second ≡ Ok regions →

@@ -15,8 +15,8 @@ use Rattle.speed_bound.specs.Speed.{speed}
 use Rattle.traj_codec.specs.declared.traj.Traj.{Traj}
 use Rattle.show_judge.specs.declared.ends.Answer.{Answer}
 use Rattle.show_judge.specs.Answers.{outcome_of}
-use Rattle.show_studies.specs.Speeds.{KeepsBounds, above, first_too_fast, speed_of_drone, speed_text, refused_or, too_fast, too_fast_by}
-use Rattle.show_judge.specs.Shows.{names_of, sent_of}
+use Rattle.show_studies.specs.Speeds.{KeepsBounds, above, first_too_fast, speed_of_drone, speed_text, too_fast_by}
+use Rattle.show_judge.specs.Shows.{sent_of}
 use Rattle.show_judge.proofs.HeadlineLemmas.{none_both}
 
 -- what is left of drones and names from a drone on, as that drone and what comes after it
@@ -49,12 +49,6 @@ refusal_next limit depth sent names d t name within inside t_is name_is none =
     sym (left_from (first_too_fast limit depth) sent names d t name within inside t_is name_is
     ∙ after_none (too_fast_by limit depth t name) (first_too_fast limit depth (drop (d + 1) sent) (drop (d + 1) names)) none)
 
-pub refusal_here : (limit : Option ℕ) (depth : ℕ) (sent : List Traj) (names : List Name) (d : ℕ) (t : Traj) (name : Name) (r : Refusal) → d < length sent → d < length names →
-    t ≡ get_or sent d t → name ≡ get_or names d name → too_fast_by limit depth t name ≡ Some r → first_too_fast limit depth (drop d sent) (drop d names) ≡ Some r
-refusal_here limit depth sent names d t name r within inside t_is name_is is =
-    left_from (first_too_fast limit depth) sent names d t name within inside t_is name_is
-    ∙ first_there (too_fast_by limit depth t name) (first_too_fast limit depth (drop (d + 1) sent) (drop (d + 1) names)) r is
-
 -- a drone that keeps its bounds more
 pub keeps_next : (limit : Option ℕ) (depth : ℕ) (sent : List Traj) (d : ℕ) (t : Traj) → d < length sent → t ≡ get_or sent d t → KeepsBounds limit depth t →
     All (KeepsBounds limit depth) (drop (d + 1) sent) → All (KeepsBounds limit depth) (drop d sent)
@@ -62,15 +56,7 @@ keeps_next limit depth sent d t within t_is keeps later =
     subst (All (KeepsBounds limit depth)) (sym (drop_more sent d t within ∙ ap (λ (u : Traj). u ∷ drop (d + 1) sent) (sym t_is)))
     (All-cons (KeepsBounds limit depth) t (drop (d + 1) sent) keeps later)
 
--- the answer for what fits is that for its show
-pub speeds_of_show : (f : Fitted) (s : PlainShow) (depth : ℕ) (limit : Option ℕ) (sent : List Traj) (names : List Name) (result : Result Answer AllocError) → IsFitted f s → sent ≡ f.sent → names ≡ f.names →
-    IfOk result (λ a. outcome_of a ≡ refused_or (first_too_fast limit depth sent names) (speed_text depth sent names)) →
-    IfOk result (λ a. outcome_of a ≡ refused_or (too_fast limit depth s) (speed_text depth (sent_of s) (names_of s)))
-speeds_of_show f s depth limit sent names (Err e) is sent_are names_are gives = tt
-speeds_of_show f s depth limit sent names (Ok a) is sent_are names_are gives =
-    gives ∙ ap (λ (ts : List Traj). refused_or (first_too_fast limit depth ts names) (speed_text depth ts names)) (sent_are ∙ is.sent)
-    ∙ ap (λ (ns : List Name). refused_or (first_too_fast limit depth (sent_of s) ns) (speed_text depth (sent_of s) ns)) (names_are ∙ is.names)
-
+-- what the drones of what fits keep, those of its show keep
 pub bounds_of_show : (f : Fitted) (s : PlainShow) (depth : ℕ) (limit : Option ℕ) (sent : List Traj) (result : Result Answer AllocError) → IsFitted f s → sent ≡ f.sent →
     IfOk result (λ a. (outcome_of a).status ≡ 0 → All (KeepsBounds limit depth) sent) → IfOk result (λ a. (outcome_of a).status ≡ 0 → All (KeepsBounds limit depth) (sent_of s))
 bounds_of_show f s depth limit sent (Err e) is sent_are keeps = tt

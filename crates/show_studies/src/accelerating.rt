@@ -10,7 +10,7 @@ ghost use Rattle.traj_codec.specs.Positions.{durations};
 ghost use Rattle.show_judge.specs.Answers.{IsSaid, outcome_of};
 ghost use Rattle.show_judge.specs.Refused.{IsOfInput};
 ghost use Rattle.show_judge.specs.Runs.{Behaves};
-ghost use Rattle.show_judge.specs.Shows.{Cut, most_depth};
+ghost use Rattle.show_judge.specs.Shows.{Cut};
 ghost use Rattle.show_judge.specs.Verb.{during};
 ghost use Rattle.show_studies.specs.Dynamics.{dynamics_text, dynamics_verb, excess_by, first_excess_of, in_micrometres, limits_of, refusal_as, times_of};
 ghost use Rattle.show_studies.specs.Speeds.{refused_or};
@@ -21,6 +21,7 @@ use dynamics_bound::{
     Extremes, Kind, Limits, cue_of, first_above, motion_of, put_extremes, put_motion,
 };
 use fleet_io::{Lines, Sink, Source};
+use fleet_math::Depth;
 use refusals::Refusal;
 use show_judge::{Answer, AnyText, Output, Ways, run_any};
 use show_plan::{Fitted, uploadable_law};
@@ -51,16 +52,15 @@ fn refusal_as(kind: Kind, drone: Name, cue: u16, axis: u8, value: i64) -> Refusa
 }
 
 // The first acceleration or jump of a drone that is above its limit.
-fn excess_by(t: &Traj, name: &Name, cues: &[Segment], depth: u8, limits: Limits) -> Option<Refusal>
+fn excess_by(t: &Traj, name: &Name, cues: &[Segment], depth: Depth, limits: Limits) -> Option<Refusal>
     requires sendable { IsSendable t.now }
     requires name { IsWord name.now.items }
     requires cues { length cues.now ≤ most_cues }
-    requires depth { depth ≤ most_depth }
     ensures excess { result ≡ excess_by limits depth (durations cues.now) t.now name.now }
     ensures within { IfNone result (IsWithinLimits limits depth t.now) }
     ensures said { IfSome result IsOfInput }
 {
-    let excess = first_above(t, limits, depth)?;
+    let excess = first_above(t, limits, depth.levels())?;
     let cue = cue_of(cues, t, excess.segment);
     Some(refusal_as(excess.kind, copy_of(name), cue, excess.axis, excess.value))
 }
@@ -71,14 +71,13 @@ fn answer_drones(
     names: &[Name],
     sent: &[Traj],
     cues: &[Segment],
-    depth: u8,
+    depth: Depth,
     limits: Limits,
 ) -> Result<Answer, AllocError>
     requires counted { length sent.now ≡ length names.now }
     requires words { All StandsAsWord names.now }
     requires sendable { All IsSendable sent.now }
     requires cues { length cues.now ≤ most_cues }
-    requires depth { depth ≤ most_depth }
     ensures gives { IfOk result (λ a. outcome_of a ≡
         refused_or (first_excess_of limits depth (durations cues.now) sent.now names.now) (dynamics_text depth (durations cues.now) sent.now names.now)) }
     ensures keeps { IfOk result (λ a. (outcome_of a).status ≡ 0 → All (KeepsMotion limits depth) sent.now) }
@@ -91,7 +90,7 @@ fn answer_drones(
         if let Some(refusal) = excess_by(t, &names[d], cues, depth, limits) {
             return Ok(Answer::Refused { refusal });
         }
-        let motion = motion_of(t, cues, depth);
+        let motion = motion_of(t, cues, depth.levels());
         put_motion(&mut text, names[d].as_slice(), motion)?;
         most = most.greater(motion.most);
     }
@@ -132,12 +131,11 @@ fn cues_of(fitted: &Fitted) -> &[Segment]
 fn answer_fitted(
     alloc: Global,
     fitted: &Fitted,
-    depth: u8,
+    depth: Depth,
     accel: Option<u32>,
     jump: Option<u32>,
 ) -> Result<Answer, AllocError>
     requires valid { IsValidFitted fitted.now }
-    requires depth { depth ≤ most_depth }
     ensures gives { (s : PlainShow) (cut : Cut) → IsFitted fitted.now s → IfOk result (λ a. (dynamics_verb depth accel jump).gives s cut (outcome_of a)) }
     ensures promised { (s : PlainShow) (cut : Cut) → IsFitted fitted.now s
         → IfOk result (λ a. (outcome_of a).status ≡ 0 → (dynamics_verb depth accel jump).promises s cut) }
@@ -157,10 +155,9 @@ fn answer_fitted(
 /// `dynamics` at a depth, with limits or without.
 #[derive(Clone, Copy)]
 pub struct DynamicsVerb {
-    pub depth: u8,
+    pub depth: Depth,
     pub accel: Option<u32>,
     pub jump: Option<u32>,
-    ghost most: { depth ≤ most_depth },
 }
 
 impl AnyText for DynamicsVerb {
@@ -185,13 +182,12 @@ impl AnyText for DynamicsVerb {
 /// is above its limit, which are in millimetres.
 pub fn dynamics<S: Source, K: Sink>(
     alloc: Global,
-    depth: u8,
+    depth: Depth,
     accel: Option<u32>,
     jump: Option<u32>,
     source: &mut S,
     sink: &mut K,
 ) -> u8
-    requires { depth ≤ most_depth }
     ensures { Behaves (dynamics_verb depth accel jump) (during S.left S.faults K.written K.faults source.old source.new sink.old sink.new) result }
 {
     run_any(alloc, &DynamicsVerb { depth, accel, jump }, source, sink)

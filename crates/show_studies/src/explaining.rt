@@ -9,7 +9,7 @@ ghost use Rattle.show_judge.specs.Answers.{IsSaid, outcome_of};
 ghost use Rattle.show_judge.specs.Outcome.{ShowGives};
 ghost use Rattle.show_judge.specs.Refused.{blocked_by};
 ghost use Rattle.show_judge.specs.Runs.{Behaves};
-ghost use Rattle.show_judge.specs.Shows.{Cut, most_depth, sent_of};
+ghost use Rattle.show_judge.specs.Shows.{Cut, sent_of};
 ghost use Rattle.show_judge.specs.Verb.{during};
 ghost use Rattle.show_studies.specs.Explained.{explain_verb};
 ghost use Rattle.touch_witness.specs.Sites.{IsFirstTouch, NoTouch};
@@ -17,15 +17,15 @@ ghost use Rattle.show_studies.specs.Steps.{IsBlockedAmong, IsClosestAmong, IsFou
 
 use crate::findings::{Findings, findings_text};
 use fleet_io::{Sink, Source};
+use fleet_math::Depth;
 use show_judge::{Answer, AnyText, Output, Ways, run_any};
 use show_plan::{BlockedPart, Fitted, SeparationFault, count_nodes};
 use std::alloc::{AllocError, Global};
 use touch_witness::{Touch, closest_of, first_touch_of};
 
 // The first part of the depth in which no direction separates two drones, if there is one.
-fn blocked_of(alloc: Global, fitted: &Fitted, depth: u8) -> Result<Option<BlockedPart>, AllocError>
+fn blocked_of(alloc: Global, fitted: &Fitted, depth: Depth) -> Result<Option<BlockedPart>, AllocError>
     requires valid { IsValidFitted fitted.now }
-    requires depth { depth ≤ most_depth }
     ensures is { IfOk result (λ blocked. blocked ≡ blocked_part fitted.now.settings depth fitted.now.trajs) }
     ensures apart { IfOk result (λ blocked. blocked ≡ None → FlyApart fitted.now.settings fitted.now.sent) }
     ensures by_cue { IfOk result (λ blocked. blocked ≡ None → FlyApart fitted.now.settings fitted.now.trajs) }
@@ -58,9 +58,8 @@ fn touch_of(fitted: &Fitted, blocked: Option<BlockedPart>, fine: u8) -> Option<T
 }
 
 // What is found of a show that fits.
-fn find(alloc: Global, fitted: &Fitted, depth: u8, fine: u8) -> Result<Findings, AllocError>
+fn find(alloc: Global, fitted: &Fitted, depth: Depth, fine: u8) -> Result<Findings, AllocError>
     requires valid { IsValidFitted fitted.now }
-    requires depth { depth ≤ most_depth }
     requires fine { fine ≤ 5 }
     ensures found { IfOk result (IsFound depth fine fitted.now) }
     ensures blocked { IfOk result (λ found. IsBlockedAmong (length fitted.now.names) found.blocked) }
@@ -83,9 +82,8 @@ fn find(alloc: Global, fitted: &Fitted, depth: u8, fine: u8) -> Result<Findings,
 }
 
 // What `explain` ends with for a show that fits.
-fn answer_fitted(alloc: Global, fitted: &Fitted, depth: u8, fine: u8) -> Result<Answer, AllocError>
+fn answer_fitted(alloc: Global, fitted: &Fitted, depth: Depth, fine: u8) -> Result<Answer, AllocError>
     requires valid { IsValidFitted fitted.now }
-    requires depth { depth ≤ most_depth }
     requires fine { fine ≤ 5 }
     ensures gives { (s : PlainShow) (cut : Cut) → IsFitted fitted.now s → IfOk result (λ a. (explain_verb depth fine).gives s cut (outcome_of a)) }
     ensures promised { (s : PlainShow) (cut : Cut) → IsFitted fitted.now s
@@ -102,9 +100,8 @@ fn answer_fitted(alloc: Global, fitted: &Fitted, depth: u8, fine: u8) -> Result<
 /// `explain` at a depth, over the instants that cut each cue into 2^`fine` parts.
 #[derive(Clone, Copy)]
 pub struct ExplainVerb {
-    pub depth: u8,
+    pub depth: Depth,
     pub fine: u8,
-    ghost most: { depth ≤ most_depth },
     ghost finest: { fine ≤ 5 },
 }
 
@@ -129,12 +126,11 @@ impl AnyText for ExplainVerb {
 /// where they touch first, among the instants that cut each cue into 2^`fine` parts; or the first other reason why the show is refused.
 pub fn explain<S: Source, K: Sink>(
     alloc: Global,
-    depth: u8,
+    depth: Depth,
     fine: u8,
     source: &mut S,
     sink: &mut K,
 ) -> u8
-    requires depth { depth ≤ most_depth }
     requires fine { fine ≤ 5 }
     ensures { Behaves (explain_verb depth fine) (during S.left S.faults K.written K.faults source.old source.new sink.old sink.new) result }
 {

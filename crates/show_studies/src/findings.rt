@@ -2,12 +2,12 @@
 ghost use Rattle.std.specs.Prelude.{◌≡◌, ◌≤◌, ◌++◌, true, length, All, IfOk, OnOk};
 ghost use Rattle.fleet_io.specs.Words.{is_line_empty};
 ghost use Rattle.show_plan.specs.Fitting.{IsValidFitted, StandsAsWord};
-ghost use Rattle.show_judge.specs.Shows.{most_depth};
 ghost use Rattle.show_studies.specs.Steps.{IsBlockedAmong, IsClosestAmong, IsTouchAmong};
 ghost use Rattle.show_studies.specs.Explained.{contact_if, contact_line, explain_text, nearest_line, separation_line};
 
 use choreo_reader::Name;
 use fleet_io::Lines;
+use fleet_math::Depth;
 use show_judge::name_at;
 use show_plan::{BlockedPart, Fitted};
 use std::alloc::{AllocError, Global};
@@ -27,12 +27,11 @@ pub struct Findings {
 fn put_separation(
     text: &mut Lines,
     names: &[Name],
-    depth: u8,
+    depth: Depth,
     blocked: Option<BlockedPart>,
 ) -> Result<(), AllocError>
     requires fresh { is_line_empty text.old ≡ true }
     requires words { All StandsAsWord names.now }
-    requires depth { depth ≤ most_depth }
     requires among { IsBlockedAmong (length names.now) blocked }
     ensures { OnOk result (text.new ≡ text.old ++ separation_line names.now depth blocked) }
 {
@@ -44,7 +43,7 @@ fn put_separation(
             name_at(names, part.slot.b).as_slice(),
             part.slot.cue,
             part.index,
-            depth,
+            depth.levels(),
         ),
     }
 }
@@ -125,12 +124,11 @@ fn put_last(
 pub fn findings_text(
     alloc: Global,
     fitted: &Fitted,
-    depth: u8,
+    depth: Depth,
     fine: u8,
     found: &Findings,
 ) -> Result<Lines, AllocError>
     requires valid { IsValidFitted fitted.now }
-    requires depth { depth ≤ most_depth }
     requires fine { fine ≤ 5 }
     requires blocked { IsBlockedAmong (length fitted.now.names) found.now.blocked }
     requires closest { IsClosestAmong (length fitted.now.names) found.now.closest }

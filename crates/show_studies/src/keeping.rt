@@ -2,7 +2,7 @@
 ghost use Rattle.std.specs.Prelude.{◌≡◌, ◌<◌, ◌≤◌, length, All, IfOk, IfSome};
 ghost use Rattle.choreo_reader.specs.Plain.{PlainShow};
 ghost use Rattle.fleet_math.specs.Limits.{most_text};
-ghost use Rattle.show_judge.specs.Shows.{Cut, most_depth};
+ghost use Rattle.show_judge.specs.Shows.{Cut};
 ghost use Rattle.fleet_io.specs.Causes.{Rose};
 ghost use Rattle.fleet_io.specs.Taken.{TakesFront};
 ghost use Rattle.keepout_boxes.specs.Kept.{IsNear, KeepClear, most_regions};
@@ -20,7 +20,7 @@ ghost use Rattle.text_lines.specs.Marker.{part_of};
 use choreo_reader::show_law;
 use fleet_curves::Curves;
 use fleet_io::{Part, Sink, Source};
-use fleet_math::MOST_TEXT;
+use fleet_math::{Depth, MOST_TEXT};
 use keepout_boxes::{Judged, Region, RegionFault, judge, kept_line, read_regions, sent_law};
 use refusals::Refusal;
 use show_judge::{
@@ -35,11 +35,10 @@ use traj_codec::join_law;
 fn judge_regions(
     alloc: Global,
     fitted: &Fitted,
-    depth: u8,
+    depth: Depth,
     regions: &Vec<Region>,
 ) -> Result<Answer, AllocError>
     requires valid { IsValidFitted fitted.now }
-    requires depth { depth ≤ most_depth }
     requires few { length regions.now.items ≤ most_regions }
     requires near { All IsNear regions.now.items }
     ensures gives { (s : PlainShow) → IsFitted fitted.now s → IfOk result (λ a. EndsRegions s depth regions.now.items (outcome_of a)) }
@@ -54,7 +53,7 @@ fn judge_regions(
         &curves,
         settings.r + settings.stray,
         settings.h + settings.stray,
-        depth,
+        depth.levels(),
         regions,
     ) {
         Judged::Kept => Ok(Answer::Done {
@@ -80,9 +79,8 @@ fn judge_regions(
 }
 
 // What a second text gives that isn't too large.
-fn judge_part(alloc: Global, fitted: &Fitted, depth: u8, part: &Part) -> Result<Answer, AllocError>
+fn judge_part(alloc: Global, fitted: &Fitted, depth: Depth, part: &Part) -> Result<Answer, AllocError>
     requires valid { IsValidFitted fitted.now }
-    requires depth { depth ≤ most_depth }
     requires short { length part.now.bytes.items ≤ most_text }
     ensures gives { (s : PlainShow) (cut : Cut) → IsFitted fitted.now s → IsText most_text (Text.Whole part.now) cut.second cut.is_second_marked
         → IfOk result (λ a. RegionsGive (second_refusal most_text (faulty_region (regions_of cut.second)) cut) s depth cut (outcome_of a)) }
@@ -113,11 +111,10 @@ fn judge_part(alloc: Global, fitted: &Fitted, depth: u8, part: &Part) -> Result<
 fn judge_second(
     alloc: Global,
     fitted: &Fitted,
-    depth: u8,
+    depth: Depth,
     second: &Text,
 ) -> Result<Answer, AllocError>
     requires valid { IsValidFitted fitted.now }
-    requires depth { depth ≤ most_depth }
     requires short { IsWithin most_text second.now }
     ensures gives { (s : PlainShow) (cut : Cut) → IsFitted fitted.now s → IsText most_text second.now cut.second cut.is_second_marked
         → IfOk result (λ a. RegionsGive (second_refusal most_text (faulty_region (regions_of cut.second)) cut) s depth cut (outcome_of a)) }
@@ -135,8 +132,7 @@ fn judge_second(
 }
 
 // What `boxes` ends with for two texts.
-fn answer_two(alloc: Global, depth: u8, input: &Input) -> Result<Answer, AllocError>
-    requires depth { depth ≤ most_depth }
+fn answer_two(alloc: Global, depth: Depth, input: &Input) -> Result<Answer, AllocError>
     requires show { IsWithin most_text input.now.show }
     requires second { IsWithin most_text input.now.second }
     ensures { AnswersTwo (boxes_verb depth) most_text input.now result }
@@ -147,15 +143,14 @@ fn answer_two(alloc: Global, depth: u8, input: &Input) -> Result<Answer, AllocEr
         by_frames: false,
         depth: None,
     };
-    match fit_text(alloc, ways, &input.show)? {
+    match fit_text(alloc, &ways, &input.show)? {
         Planned::Fits { fitted } => judge_second(alloc, &fitted, depth, &input.second),
         Planned::Refused { refusal } => Ok(Answer::Refused { refusal }),
     }
 }
 
 // What `boxes` ends with for what its source gives.
-fn answer_input<S: Source>(alloc: Global, depth: u8, source: &mut S) -> Result<Answer, Failure>
-    requires depth { depth ≤ most_depth }
+fn answer_input<S: Source>(alloc: Global, depth: Depth, source: &mut S) -> Result<Answer, Failure>
     ensures answers { AnswersInput (boxes_verb depth) (S.left source.old) (S.left source.new) result }
     ensures both { IfOk result (λ _. IsReadBoth most_text (S.left source.old) (S.left source.new)) }
     ensures failed { result ≡ Err Failure.Read → Rose (S.faults source.old) (S.faults source.new) }
@@ -174,8 +169,7 @@ pub fn boxes_law()
 
 /// Runs `boxes` (docs/COMMANDS.md): the number of regions, where each drone keeps to each of them throughout the show; or the first
 /// thing that is wrong with either text, or the first part of a cue in which a drone isn't kept.
-pub fn boxes<S: Source, K: Sink>(alloc: Global, depth: u8, source: &mut S, sink: &mut K) -> u8
-    requires depth { depth ≤ most_depth }
+pub fn boxes<S: Source, K: Sink>(alloc: Global, depth: Depth, source: &mut S, sink: &mut K) -> u8
     ensures { Behaves (boxes_verb depth) (during S.left S.faults K.written K.faults source.old source.new sink.old sink.new) result }
 {
     show_law();

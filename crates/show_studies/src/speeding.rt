@@ -14,12 +14,13 @@ ghost use Rattle.show_judge.specs.Outcome.{ShowGives};
 ghost use Rattle.show_studies.specs.Speeds.{KeepsBounds, above, first_too_fast, speed_of_drone, speed_text, speed_verb, refused_or, too_fast_by, too_fast_of};
 ghost use Rattle.show_judge.specs.Refused.{IsOfInput, blocked_by};
 ghost use Rattle.show_judge.specs.Runs.{Behaves};
-ghost use Rattle.show_judge.specs.Shows.{Cut, most_depth, sent_of};
+ghost use Rattle.show_judge.specs.Shows.{Cut, sent_of};
 ghost use Rattle.show_judge.specs.Verb.{during};
 
 use choreo_lines::copy_of;
 use choreo_reader::Name;
 use fleet_io::{Lines, Sink, Source};
+use fleet_math::Depth;
 use refusals::Refusal;
 use show_judge::{Answer, AnyText, Output, Ways, run_any};
 use show_plan::{Fitted, uploadable_law};
@@ -65,20 +66,19 @@ fn put_drone(
     text: &mut Lines,
     name: &Name,
     t: &Traj,
-    depth: u8,
+    depth: Depth,
     limit: Option<u32>,
 ) -> Result<Option<Refusal>, AllocError>
     requires fresh { is_line_empty text.old ≡ true }
     requires name { IsWord name.now.items }
     requires some { 1 ≤ length t.now.segments }
     requires lasting { All HasDuration t.now.segments }
-    requires depth { depth ≤ most_depth }
     ensures refusal { IfOk result (λ r. r ≡ too_fast_by limit depth t.now name.now) }
     ensures line { IfOk result (λ r. r ≡ None → text.new ≡ text.old ++ speed_of_drone depth t.now name.now) }
     ensures keeps { (axis : ℕ) → axis ≤ 2 → KeepsSpeed t.now axis (speed depth t.now axis) }
     ensures said { IfOk result (λ r. IfSome r IsOfInput) }
 {
-    let [x, y, z] = bound(t, depth);
+    let [x, y, z] = bound(t, depth.levels());
     if let Some(refusal) = too_fast_of(limit, name, x, y, z) {
         return Ok(Some(refusal));
     }
@@ -91,14 +91,13 @@ fn answer_drones(
     alloc: Global,
     names: &[Name],
     sent: &[Traj],
-    depth: u8,
+    depth: Depth,
     limit: Option<u32>,
 ) -> Result<Answer, AllocError>
     requires counted { length sent.now ≡ length names.now }
     requires words { All StandsAsWord names.now }
     requires some { All (λ (t : Traj). 1 ≤ length t.segments) sent.now }
     requires sendable { All IsSendable sent.now }
-    requires depth { depth ≤ most_depth }
     ensures gives { IfOk result (λ a. outcome_of a ≡ refused_or (first_too_fast limit depth sent.now names.now) (speed_text depth sent.now names.now)) }
     ensures keeps { IfOk result (λ a. (outcome_of a).status ≡ 0 → All (KeepsBounds limit depth) sent.now) }
     ensures said { IfOk result IsSaid }
@@ -119,11 +118,10 @@ fn answer_drones(
 fn answer_fitted(
     alloc: Global,
     fitted: &Fitted,
-    depth: u8,
+    depth: Depth,
     limit: Option<u32>,
 ) -> Result<Answer, AllocError>
     requires valid { IsValidFitted fitted.now }
-    requires depth { depth ≤ most_depth }
     ensures gives { (s : PlainShow) (cut : Cut) → IsFitted fitted.now s → IfOk result (λ a. (speed_verb depth limit).gives s cut (outcome_of a)) }
     ensures promised { (s : PlainShow) (cut : Cut) → IsFitted fitted.now s
         → IfOk result (λ a. (outcome_of a).status ≡ 0 → (speed_verb depth limit).promises s cut) }
@@ -142,9 +140,8 @@ fn answer_fitted(
 /// `speed` at a depth, with a limit or without.
 #[derive(Clone, Copy)]
 pub struct SpeedVerb {
-    pub depth: u8,
+    pub depth: Depth,
     pub limit: Option<u32>,
-    ghost most: { depth ≤ most_depth },
 }
 
 impl AnyText for SpeedVerb {
@@ -168,12 +165,11 @@ impl AnyText for SpeedVerb {
 /// show is refused, or the first drone and axis whose bound is above the limit.
 pub fn speed<S: Source, K: Sink>(
     alloc: Global,
-    depth: u8,
+    depth: Depth,
     limit: Option<u32>,
     source: &mut S,
     sink: &mut K,
 ) -> u8
-    requires { depth ≤ most_depth }
     ensures { Behaves (speed_verb depth limit) (during S.left S.faults K.written K.faults source.old source.new sink.old sink.new) result }
 {
     run_any(alloc, &SpeedVerb { depth, limit }, source, sink)

@@ -1,5 +1,6 @@
 //! Chosen words and the commands that they are.
 use command_words::{Command, command_of, help_text};
+use fleet_math::Depth;
 use std::alloc::{AllocError, Global};
 use std::test::Fail;
 
@@ -12,198 +13,201 @@ fn command(alloc: Global, line: &str) -> Result<Option<Command>, AllocError> {
     Ok(command_of(&words))
 }
 
-const COMMANDS: [(&str, Command); 38] = [
-    ("help", Command::Help),
-    ("version", Command::Version),
-    ("check", Command::Check { depth: 6 }),
-    ("check --depth 0", Command::Check { depth: 0 }),
-    ("compile --depth 8", Command::Compile { depth: 8 }),
-    ("compile --depth 000000008", Command::Compile { depth: 8 }),
-    ("certify --depth 05", Command::Certify { depth: 5 }),
-    (
-        "play",
-        Command::Play {
-            depth: 6,
-            step: 100,
-        },
-    ),
-    ("play --step 1", Command::Play { depth: 6, step: 1 }),
-    (
-        "play --step 60000",
-        Command::Play {
-            depth: 6,
-            step: 60_000,
-        },
-    ),
-    (
-        "play --step 500 --depth 3",
-        Command::Play {
-            depth: 3,
-            step: 500,
-        },
-    ),
-    (
-        "play --depth 3 --step 000000500",
-        Command::Play {
-            depth: 3,
-            step: 500,
-        },
-    ),
-    ("report", Command::Report { depth: 6 }),
-    ("report --depth 2", Command::Report { depth: 2 }),
-    ("verify", Command::Verify),
-    (
-        "rehearse",
-        Command::Rehearse {
-            depth: 6,
-            start: false,
-            readback: false,
-        },
-    ),
-    (
-        "rehearse --start --depth 3",
-        Command::Rehearse {
-            depth: 3,
-            start: true,
-            readback: false,
-        },
-    ),
-    (
-        "rehearse --depth 3 --start",
-        Command::Rehearse {
-            depth: 3,
-            start: true,
-            readback: false,
-        },
-    ),
-    (
-        "upload --start",
-        Command::Upload {
-            depth: 6,
-            start: true,
-            readback: false,
-        },
-    ),
-    (
-        "upload --depth 7",
-        Command::Upload {
-            depth: 7,
-            start: false,
-            readback: false,
-        },
-    ),
-    (
-        "upload --depth 7 --start",
-        Command::Upload {
-            depth: 7,
-            start: true,
-            readback: false,
-        },
-    ),
-    (
-        "drill 1",
-        Command::Drill {
-            drones: 1,
-            depth: 6,
-        },
-    ),
-    (
-        "drill 32 --depth 8",
-        Command::Drill {
-            drones: 32,
-            depth: 8,
-        },
-    ),
-    (
-        "drill 004 --depth 6",
-        Command::Drill {
-            drones: 4,
-            depth: 6,
-        },
-    ),
-    (
-        "drill 000000016",
-        Command::Drill {
-            drones: 16,
-            depth: 6,
-        },
-    ),
-    ("boxes", Command::Boxes { depth: 6 }),
-    ("boxes --depth 2", Command::Boxes { depth: 2 }),
-    (
-        "speed",
-        Command::Speed {
-            depth: 6,
-            limit: None,
-        },
-    ),
-    (
-        "speed --limit 1600000 --depth 0",
-        Command::Speed {
-            depth: 0,
-            limit: Some(1_600_000),
-        },
-    ),
-    (
-        "speed --depth 8 --limit 999999999",
-        Command::Speed {
-            depth: 8,
-            limit: Some(999_999_999),
-        },
-    ),
-    (
-        "speed --limit 1",
-        Command::Speed {
-            depth: 6,
-            limit: Some(1),
-        },
-    ),
-    ("explain", Command::Explain { depth: 6, fine: 5 }),
-    (
-        "explain --fine 0 --depth 3",
-        Command::Explain { depth: 3, fine: 0 },
-    ),
-    (
-        "explain --depth 3 --fine 05",
-        Command::Explain { depth: 3, fine: 5 },
-    ),
-    (
-        "dynamics",
-        Command::Dynamics {
-            depth: 6,
-            accel: None,
-            jump: None,
-        },
-    ),
-    (
-        "dynamics --jump 0 --depth 8 --accel 999999999",
-        Command::Dynamics {
-            depth: 8,
-            accel: Some(999_999_999),
-            jump: Some(0),
-        },
-    ),
-    (
-        "dynamics --accel 0",
-        Command::Dynamics {
-            depth: 6,
-            accel: Some(0),
-            jump: None,
-        },
-    ),
-    (
-        "dynamics --depth 0 --jump 000000300",
-        Command::Dynamics {
-            depth: 0,
-            accel: None,
-            jump: Some(300),
-        },
-    ),
-];
+// Words, and the commands that they are.
+fn commands() -> [(&'static str, Command); 38] {
+    [
+        ("help", Command::Help),
+        ("version", Command::Version),
+        ("check", Command::Check { depth: Depth::make(6) }),
+        ("check --depth 0", Command::Check { depth: Depth::make(0) }),
+        ("compile --depth 8", Command::Compile { depth: Depth::make(8) }),
+        ("compile --depth 000000008", Command::Compile { depth: Depth::make(8) }),
+        ("certify --depth 05", Command::Certify { depth: Depth::make(5) }),
+        (
+            "play",
+            Command::Play {
+                depth: Depth::make(6),
+                step: 100,
+            },
+        ),
+        ("play --step 1", Command::Play { depth: Depth::make(6), step: 1 }),
+        (
+            "play --step 60000",
+            Command::Play {
+                depth: Depth::make(6),
+                step: 60_000,
+            },
+        ),
+        (
+            "play --step 500 --depth 3",
+            Command::Play {
+                depth: Depth::make(3),
+                step: 500,
+            },
+        ),
+        (
+            "play --depth 3 --step 000000500",
+            Command::Play {
+                depth: Depth::make(3),
+                step: 500,
+            },
+        ),
+        ("report", Command::Report { depth: Depth::make(6) }),
+        ("report --depth 2", Command::Report { depth: Depth::make(2) }),
+        ("verify", Command::Verify),
+        (
+            "rehearse",
+            Command::Rehearse {
+                depth: Depth::make(6),
+                start: false,
+                readback: false,
+            },
+        ),
+        (
+            "rehearse --start --depth 3",
+            Command::Rehearse {
+                depth: Depth::make(3),
+                start: true,
+                readback: false,
+            },
+        ),
+        (
+            "rehearse --depth 3 --start",
+            Command::Rehearse {
+                depth: Depth::make(3),
+                start: true,
+                readback: false,
+            },
+        ),
+        (
+            "upload --start",
+            Command::Upload {
+                depth: Depth::make(6),
+                start: true,
+                readback: false,
+            },
+        ),
+        (
+            "upload --depth 7",
+            Command::Upload {
+                depth: Depth::make(7),
+                start: false,
+                readback: false,
+            },
+        ),
+        (
+            "upload --depth 7 --start",
+            Command::Upload {
+                depth: Depth::make(7),
+                start: true,
+                readback: false,
+            },
+        ),
+        (
+            "drill 1",
+            Command::Drill {
+                drones: 1,
+                depth: Depth::make(6),
+            },
+        ),
+        (
+            "drill 32 --depth 8",
+            Command::Drill {
+                drones: 32,
+                depth: Depth::make(8),
+            },
+        ),
+        (
+            "drill 004 --depth 6",
+            Command::Drill {
+                drones: 4,
+                depth: Depth::make(6),
+            },
+        ),
+        (
+            "drill 000000016",
+            Command::Drill {
+                drones: 16,
+                depth: Depth::make(6),
+            },
+        ),
+        ("boxes", Command::Boxes { depth: Depth::make(6) }),
+        ("boxes --depth 2", Command::Boxes { depth: Depth::make(2) }),
+        (
+            "speed",
+            Command::Speed {
+                depth: Depth::make(6),
+                limit: None,
+            },
+        ),
+        (
+            "speed --limit 1600000 --depth 0",
+            Command::Speed {
+                depth: Depth::make(0),
+                limit: Some(1_600_000),
+            },
+        ),
+        (
+            "speed --depth 8 --limit 999999999",
+            Command::Speed {
+                depth: Depth::make(8),
+                limit: Some(999_999_999),
+            },
+        ),
+        (
+            "speed --limit 1",
+            Command::Speed {
+                depth: Depth::make(6),
+                limit: Some(1),
+            },
+        ),
+        ("explain", Command::Explain { depth: Depth::make(6), fine: 5 }),
+        (
+            "explain --fine 0 --depth 3",
+            Command::Explain { depth: Depth::make(3), fine: 0 },
+        ),
+        (
+            "explain --depth 3 --fine 05",
+            Command::Explain { depth: Depth::make(3), fine: 5 },
+        ),
+        (
+            "dynamics",
+            Command::Dynamics {
+                depth: Depth::make(6),
+                accel: None,
+                jump: None,
+            },
+        ),
+        (
+            "dynamics --jump 0 --depth 8 --accel 999999999",
+            Command::Dynamics {
+                depth: Depth::make(8),
+                accel: Some(999_999_999),
+                jump: Some(0),
+            },
+        ),
+        (
+            "dynamics --accel 0",
+            Command::Dynamics {
+                depth: Depth::make(6),
+                accel: Some(0),
+                jump: None,
+            },
+        ),
+        (
+            "dynamics --depth 0 --jump 000000300",
+            Command::Dynamics {
+                depth: Depth::make(0),
+                accel: None,
+                jump: Some(300),
+            },
+        ),
+    ]
+}
 
 #[test]
 fn words_that_are_a_command(rt: HostRuntime) -> Result<(), Fail> {
-    for (line, wanted) in COMMANDS {
+    for (line, wanted) in commands() {
         assert!(rt; command(rt.alloc(), line)? == Some(wanted));
     }
     Ok(())

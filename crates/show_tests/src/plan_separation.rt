@@ -1,7 +1,7 @@
 //! Certificates of shows. Trees and blocked parts were computed from the definitions by exact sums.
 
 use choreo_reader::read_show;
-use fleet_math::MOST_TEXT;
+use fleet_math::{Depth, MOST_TEXT};
 use sep_certificate::write_certificate;
 use sep_parts::Slot;
 use show_plan::{BlockedPart, SeparationFault, certificate, count_nodes, fit};
@@ -26,7 +26,7 @@ fn answer_of(alloc: Global, show: &[u8], depth: u8, wanted: &[u8]) -> Answer {
     let Ok(fitted) = fit(alloc, &show) else {
         return Answer::Other;
     };
-    let cert = match certificate(alloc, &fitted, depth) {
+    let cert = match certificate(alloc, &fitted, Depth::make(depth)) {
         Ok(cert) => cert,
         Err(fault) => return Answer::Fault(fault),
     };
@@ -89,7 +89,7 @@ fn nodes_of(alloc: Global, show: &[u8], depth: u8) -> Option<u32> {
     let Ok(fitted) = fit(alloc, &show) else {
         return None;
     };
-    count_nodes(alloc, &fitted, depth).ok()
+    count_nodes(alloc, &fitted, Depth::make(depth)).ok()
 }
 
 #[test]

@@ -5,6 +5,7 @@ ghost use Rattle.refusals.specs.Refusals.{AreNamed, IsSayable};
 
 use choreo_reader::{LineKind, Name};
 use cue_grid::GridFault;
+use fleet_math::Depth;
 use halving::Place;
 use refusals::{Pair, Refusal};
 
@@ -93,7 +94,7 @@ fn shows_that_are_refused(rt: HostRuntime) {
     let blocked = Refusal::Blocked {
         pair: a_and_b(0),
         index: 28,
-        depth: 6,
+        depth: Depth::make(6),
     };
     let by_room = says(&room, b"error 4 drone solo bytes 28 room 27\n", 4);
     let by_segments = says(&segments, b"error 4 drone solo segments 256\n", 4);
@@ -177,7 +178,7 @@ fn trees_that_fail(rt: HostRuntime) {
     let digits = Refusal::Fails {
         pair: long_names(999),
         place: Place {
-            depth: 8,
+            depth: Depth::make(8),
             index: 255,
         },
         version: 2,
@@ -205,14 +206,14 @@ fn regions(rt: HostRuntime) {
         drone: named(b"solo"),
         cue: 0,
         index: 25,
-        depth: 6,
+        depth: Depth::make(6),
     };
     let last = Refusal::Enters {
         region: 63,
         drone: named(b"abcdefghijklmnop"),
         cue: 999,
         index: 255,
-        depth: 8,
+        depth: Depth::make(8),
     };
     let at_first = says(
         &first,

@@ -8,7 +8,7 @@ ghost use Rattle.show_judge.specs.Answers.{IsSaid, outcome_of};
 ghost use Rattle.show_judge.specs.Input.{IsText, IsUnmarked, IsWithin};
 ghost use Rattle.show_uploads.specs.Rehearse.{RehearseGives, Rehearses, rehearse_verb};
 ghost use Rattle.show_judge.specs.Runs.{Behaves};
-ghost use Rattle.show_judge.specs.Shows.{Cut, most_depth};
+ghost use Rattle.show_judge.specs.Shows.{Cut};
 ghost use Rattle.show_judge.specs.Verb.{during};
 ghost use Rattle.show_judge.specs.Outcome.{IsVerb};
 ghost use Rattle.show_uploads.specs.Rehearse.{RehearseLaw};
@@ -16,7 +16,7 @@ ghost use Rattle.fleet_math.specs.Limits.{most_text};
 
 use firmware_memory::curve_law;
 use fleet_io::{Part, Sink, Source};
-use fleet_math::MOST_TEXT;
+use fleet_math::{Depth, MOST_TEXT};
 use fleet_world::{ScheduleFault, WorldEvent, read_schedule, schedule_law};
 use refusals::Refusal;
 use rehearsal::memory_text;
@@ -141,10 +141,9 @@ fn judge_second(
 /// `rehearse` at a depth, with starts or without, with read-back or without.
 #[derive(Clone, Copy)]
 pub struct Rehearsal {
-    pub depth: u8,
+    pub depth: Depth,
     pub start: bool,
     pub readback: bool,
-    ghost most: { depth ≤ most_depth },
 }
 
 impl TwoTexts for Rehearsal {
@@ -180,13 +179,12 @@ pub fn rehearse_law()
 /// with the schedule or with how the upload ended. Returns the status.
 pub fn rehearse<S: Source, K: Sink>(
     alloc: Global,
-    depth: u8,
+    depth: Depth,
     start: bool,
     readback: bool,
     source: &mut S,
     sink: &mut K,
 ) -> u8
-    requires depth { depth ≤ most_depth }
     ensures { Behaves (rehearse_verb depth start readback) (during S.left S.faults K.written K.faults source.old source.new sink.old sink.new) result }
 {
     rehearse_law();

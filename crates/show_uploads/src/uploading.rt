@@ -15,7 +15,7 @@ ghost use Rattle.show_judge.specs.Headline.{UploadsText};
 ghost use Rattle.show_judge.specs.Input.{IsShowText, IsWithin, TakesOneText};
 ghost use Rattle.show_judge.specs.Runs.{Behaves, Runs, TakesLittle};
 ghost use Rattle.fleet_math.specs.Limits.{most_text};
-ghost use Rattle.show_judge.specs.Shows.{Cut, cut_of, most_depth};
+ghost use Rattle.show_judge.specs.Shows.{Cut, cut_of};
 ghost use Rattle.show_judge.specs.Verb.{IsJudged, during};
 ghost use Rattle.show_uploads.specs.Ready.{GoesOnReady, IsSoundReady, ReadyGives};
 ghost use Rattle.upload_core.specs.HostStandsFor.{HostStandsFor};
@@ -24,7 +24,7 @@ ghost use Rattle.show_uploads.specs.Upload.{HasBegun, UploadStopsReading, Upload
 
 use choreo_reader::show_law;
 use fleet_io::{IoFault, Parts, Sink, Source, marker_law};
-use fleet_math::MOST_TEXT;
+use fleet_math::{Depth, MOST_TEXT};
 use link_frames::END_BYTE;
 use link_upload::upload_law;
 use refusals::Refusal;
@@ -58,12 +58,11 @@ fn make_host(
 // The host of an upload of the show that a text stands for, or why the show is refused.
 fn make_ready(
     alloc: Global,
-    depth: u8,
+    depth: Depth,
     start: bool,
     readback: bool,
     text: &Text,
 ) -> Result<Ready, AllocError>
-    requires depth { depth ≤ most_depth }
     requires short { IsWithin most_text text.now }
     ensures gives { (cut : Cut) → IsShowText text.now cut → IfOk result (ReadyGives (upload_ways depth) start readback cut) }
     ensures sound { IfOk result IsSoundReady }
@@ -74,7 +73,7 @@ fn make_ready(
         by_frames: true,
         depth: Some(depth),
     };
-    match accept(alloc, ways, depth, text)? {
+    match accept(alloc, &ways, depth, text)? {
         Judged::Accepted { accepted } => {
             let host = make_host(alloc, &accepted.fitted, start, readback)?;
             Ok(Ready::Host { host })
@@ -86,13 +85,12 @@ fn make_ready(
 // Reads the show's text, and makes the host of its upload.
 fn read_ready<S: Source>(
     alloc: Global,
-    depth: u8,
+    depth: Depth,
     start: bool,
     readback: bool,
     parts: &mut Parts,
     source: &mut S,
 ) -> Result<Ready, Failure>
-    requires depth { depth ≤ most_depth }
     requires new { parts.old.waiting ≡ [] }
     requires sound { IsTrue parts.old.sound }
     requires lines { IsTrue parts.old.lines }
@@ -130,13 +128,12 @@ fn refuse_by_frame<K: Sink>(sink: &mut K, refusal: &Refusal) -> u8
 // Reads the show, and carries its upload to an end, or says by a frame why there is none.
 fn carry<S: Source, K: Sink>(
     alloc: Global,
-    depth: u8,
+    depth: Depth,
     start: bool,
     readback: bool,
     source: &mut S,
     sink: &mut K,
 ) -> u8
-    requires depth { depth ≤ most_depth }
     ensures runs { Runs (upload_verb depth start readback) (during S.left S.faults K.written K.faults source.old source.new sink.old sink.new) result }
     ensures few { TakesLittle (upload_verb depth start readback) (during S.left S.faults K.written K.faults source.old source.new sink.old sink.new) }
     ensures stops { IsJudged result → IfSome (S.left source.old) (λ input. UploadStopsReading (upload_ways depth) start readback input (S.left source.new)) }
@@ -166,13 +163,12 @@ pub fn uploading_law()
 /// why the show is refused. Where the upload began, what holds of each upload of the show is said however this one ended.
 pub fn upload<S: Source, K: Sink>(
     alloc: Global,
-    depth: u8,
+    depth: Depth,
     start: bool,
     readback: bool,
     source: &mut S,
     sink: &mut K,
 ) -> u8
-    requires depth { depth ≤ most_depth }
     ensures behaves { Behaves (upload_verb depth start readback) (during S.left S.faults K.written K.faults source.old source.new sink.old sink.new) result }
     ensures begun { HasBegun (K.written sink.old) (K.written sink.new) → IfSome (S.left source.old) (λ input. UploadsText (part_of input)) }
 {

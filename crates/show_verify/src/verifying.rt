@@ -248,7 +248,7 @@ fn answer_input<S: Source>(alloc: Global, source: &mut S) -> Result<Answer, Fail
         by_frames: false,
         depth: None,
     };
-    match fit_text(alloc, ways, &show)? {
+    match fit_text(alloc, &ways, &show)? {
         Planned::Fits { fitted } => answer_second(alloc, &mut parts, source, &fitted),
         Planned::Refused { refusal } => answer_refused(&mut parts, source, &show, refusal),
     }

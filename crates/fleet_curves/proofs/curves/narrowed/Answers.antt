@@ -1,4 +1,8 @@
-use Rattle.std.proofs.Common.{rules, ◌≡◌, length, arith}
+use Rattle.std.proofs.Common.{rules, ◌≡◌, ◌^◌, length, arith, FitsSigned, lit<}
+use mir.Syntax.{w128}
+use Rattle.fleet_math.specs.Bernstein.{at}
+use Rattle.bezier_core.proofs.EightLemmas.{below_at}
+use Rattle.fleet_curves.proofs.Small.{kept}
 use Rattle.fleet_curves.proofs.Rows.{copied}
 use Rattle.fleet_curves.proofs.curves.narrowed.Goals as goal
 
@@ -6,3 +10,8 @@ pub returns : goal.returns
 returns c =
     let len : length c.args.curve.now.b ≡ 8 = search rules in
     copied 8 c.loop-k.k c.loop-k.row c.args.curve.now.b c.loop-k.invariant.same_length len (omega arith) c.loop-k.invariant.done
+
+pub narrow-requires : goal.narrow-requires
+narrow-requires c =
+    let fits : FitsSigned w128 (at c.args.curve.now.b c.loop-k.k) = search rules in
+    kept (2 ^ 28) (at c.args.curve.now.b c.loop-k.k) fits (below_at (2 ^ 28) c.args.curve.now.b c.loop-k.k (lit< tt) c.requires)

@@ -5,4 +5,4 @@ use Rattle.show_judge.proofs.judging.fit_part.Goals as goal
 
 pub returns-in-Ok-clause-gives : goal.returns-in-Ok-clause-gives
 returns-in-Ok-clause-gives c = λ cut is.
-    plan_of_text c.args.ways cut (plain c.in-Ok.show) c.fit_show.result is.2 (rw (sym (c.deref.ensures.value ∙ is.0)) c.in-Ok.ensures.found) (c.fit_show.ensures.gives cut is)
+    plan_of_text c.args.ways.now cut (plain c.in-Ok.show) c.fit_show.result is.2 (rw (sym (c.deref.ensures.value ∙ is.0)) c.in-Ok.ensures.found) (c.fit_show.ensures.gives cut is)

@@ -7,14 +7,14 @@ use Rattle.show_judge.proofs.refusing.unfit.Goals as goal
 
 pub returns-in-Grid-clause-gives : goal.returns-in-Grid-clause-gives
 returns-in-Grid-clause-gives c = λ cut is.
-    early_refused c.args.ways cut (plain c.args.show.now) (fault.Grid c.in-Grid.fault) (λ late. late) (rw c.in-Grid.is at c.requires.fault)
+    early_refused c.args.ways.now cut (plain c.args.show.now) (fault.Grid c.in-Grid.fault) (λ late. late) (rw c.in-Grid.is at c.requires.fault)
 
 pub returns-in-OutOfRange-clause-gives : goal.returns-in-OutOfRange-clause-gives
 returns-in-OutOfRange-clause-gives c = λ cut is.
     let v = c.in-OutOfRange.found in
     let fits : SFits w64 v.value = search rules in
     let same : to_z w64 (of_z w64 v.value) ≡ v.value = to_z-of_z w64 v.value fits in
-    rw same (early_refused c.args.ways cut (plain c.args.show.now) (fault.OutOfRange v) (λ late. late) (rw c.in-OutOfRange.is at c.requires.fault))
+    rw same (early_refused c.args.ways.now cut (plain c.args.show.now) (fault.OutOfRange v) (λ late. late) (rw c.in-OutOfRange.is at c.requires.fault))
 
 pub returns-in-OutOfRange-clause-said : goal.returns-in-OutOfRange-clause-said
 returns-in-OutOfRange-clause-said c =

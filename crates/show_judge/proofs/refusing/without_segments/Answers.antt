@@ -14,7 +14,7 @@ bounds-as_slice-from c =
 
 pub returns-in-Some-clause-gives : goal.returns-in-Some-clause-gives
 returns-in-Some-clause-gives c = λ cut is.
-    marker_refused c.args.ways cut (plain c.args.show.now) c.in-Some.refusal (late_is (plain c.args.show.now) (fault.TooManySegments c.args.drone c.args.segments) tt c.requires.fault).0 (sym (c.in-Some.ensures.gives cut is))
+    marker_refused c.args.ways.now cut (plain c.args.show.now) c.in-Some.refusal (late_is (plain c.args.show.now) (fault.TooManySegments c.args.drone c.args.segments) tt c.requires.fault).0 (sym (c.in-Some.ensures.gives cut is))
 
 pub returns-in-None-clause-gives : goal.returns-in-None-clause-gives
 returns-in-None-clause-gives c = λ cut is.
@@ -22,7 +22,7 @@ returns-in-None-clause-gives c = λ cut is.
     let late = late_is s (fault.TooManySegments c.args.drone c.args.segments) tt c.requires.fault in
     let inside = late_drone s (fault.TooManySegments c.args.drone c.args.segments) tt c.requires.fault in
     let name = name_read c.args.show.now.drones c.as_slice.result.now c.args.drone c.from.result c.index-as_slice-from.result c.as_slice.ensures c.from.ensures inside in
-    late_refused c.args.ways cut s (fault.TooManySegments c.args.drone c.args.segments) late.0 (sym (c.in-None.ensures.gives cut is)) late.1
+    late_refused c.args.ways.now cut s (fault.TooManySegments c.args.drone c.args.segments) late.0 (sym (c.in-None.ensures.gives cut is)) late.1
     ∙ ap (λ (n : Name). Some (refusal.Segments n c.args.segments)) (sym (c.copy_of.ensures ∙ name))
 
 pub returns-in-None-clause-said : goal.returns-in-None-clause-said

@@ -1,0 +1,11 @@
+use Rattle.std.proofs.Common.{◌≡◌, ℕ, ◌+◌, ◌-◌, ◌<◌, length}
+use Rattle.fleet_math.specs.Bernstein.{at}
+use Rattle.pair_search.specs.Opposites.{AreSmallHighs, IsHigh}
+use Rattle.pair_search.proofs.opposites.highs_of.Given as goal
+
+abbrev pub invariant-loop-i : goal.invariant-loop-i
+invariant-loop-i l = record {
+  same_length : length l.high ≡ 56;
+  small : AreSmallHighs l.high;
+  each : (k : ℕ) → k < l.i → IsHigh l.lanes k (l.count - (k + 1)) (at l.high k);
+}

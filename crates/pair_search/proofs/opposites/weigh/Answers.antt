@@ -1,0 +1,24 @@
+use Rattle.std.proofs.Common.{◌≡◌, ◌+◌, ◌<◌, ◌<ℤ◌, ℤ, ℕ, pos, arith, rules, subst, length, FitsSigned, to_z, of_z}
+use Rattle.std.proofs.lemmas.Int.{to_z-of_z}
+use mir.Syntax.{w32}
+use Rattle.pair_search.specs.Lanes.{IsLowAt}
+use Rattle.pair_search.specs.Opposites.{IsHighAt}
+use Rattle.pair_search.proofs.LaneLemmas.{set_below}
+use Rattle.pair_search.proofs.opposites.weigh.Goals as goal
+
+pub loop-i-preserved : goal.loop-i-preserved
+loop-i-preserved c =
+    let fits : FitsSigned w32 c.nearness-value.result = search rules in
+    let value : to_z w32 (of_z w32 c.nearness-value.result) ≡ c.nearness-value.result = to_z-of_z w32 c.nearness-value.result fits in
+    let all_fits : FitsSigned w32 c.both-all.result = search rules in
+    let all : to_z w32 (of_z w32 c.both-all.result) ≡ c.both-all.result = to_z-of_z w32 c.both-all.result all_fits in
+    let inside : c.loop-i.i < length c.loop-i.near = omega (arith, c.loop-i-test.true, c.loop-i.invariant.same_length) in
+    record {
+      same_length = search rules;
+      all = λ less.
+          let under : c.both-all.result <ℤ pos 0 = subst (λ (z : ℤ). z <ℤ pos 0) all less in
+          set_below (λ (k : ℕ) (z : ℤ). z <ℤ pos 0) c.loop-i.near c.loop-i.i (to_z w32 (of_z w32 c.nearness-value.result)) inside (c.both-all.ensures.second under)
+          (c.loop-i.invariant.all (c.both-all.ensures.first under));
+      told = set_below (λ (k : ℕ) (z : ℤ). z <ℤ pos 0 → IsLowAt c.args.opposites.now.lanes c.args.p.now c.args.q.now (c.args.begin + k) × IsHighAt c.args.opposites.now c.args.p.now c.args.q.now (c.args.begin + k)) c.loop-i.near c.loop-i.i (to_z w32 (of_z w32 c.nearness-value.result)) inside
+          (λ less. c.nearness-value.ensures (subst (λ (z : ℤ). z <ℤ pos 0) value less)) c.loop-i.invariant.told;
+    }
