@@ -4,19 +4,19 @@ use Rattle.std.specs.Prelude.{not, is_some, unwrap_or}
 use Rattle.std.proofs.lemmas.List.{append-nil}
 use Rattle.text_lines.specs.Words.{Line}
 use Rattle.choreo_reader.specs.Text.{show_lines}
-use Rattle.choreo_reader.specs.Plain as plain
+use Rattle.choreo_show.specs.Plain as plain
 use Rattle.choreo_lines.specs.Name.{Name}
-use Rattle.choreo_reader.specs.Plain.{Body, PlainFigure, PlainShow, has_block, ◌⨾◌}
+use Rattle.choreo_show.specs.Plain.{Body, PlainFigure, PlainShow, has_block, ◌⨾◌}
 use Rattle.choreo_reader.specs.Grammar.{AreSaid, closing, place_said, body_said, Item, Memory, Trajectory, Ellipsoid, Stray, Late, Drone, Formed, Figured, Blocks, item_said, items_said, memories, trajectories, ellipsoids, strays, lates, drones, formations, figures, body, first_or, show_of, IsItem, AreItems, HasSingleSettings, IsHeader, StandsFor}
 use Rattle.choreo_reader.specs.Context.{fault_if, is_header, end_fault}
 use Rattle.choreo_reader.specs.Text.{fault_at}
 use Rattle.choreo_reader.specs.Reading.{InFormation, InFigure, Built, nothing, add_block, built_show, is_any, lines_step, finish, finish_with, openings_of, reading, read_lines, unless_forbidden}
 use Rattle.choreo_reader.proofs.Allowed.{clean_none}
-use Rattle.choreo_reader.proofs.Blocks.{body_assoc, body_done}
+use Rattle.choreo_show.proofs.Blocks.{body_assoc, body_done}
 use Rattle.choreo_reader.proofs.Complete.{Reads, reads_none, reads_then, reads_to, reads_list, split, first_said, numbered_step, said_anywhere, with_open, enclosed, block_lines, body_reads}
 use Rattle.choreo_lines.specs.declared.line.Entry.TheVariants as entry
 use Rattle.choreo_lines.specs.declared.line.LineKind.TheVariants as kind
-use Rattle.choreo_reader.specs.declared.show.DroneLine.{DroneLine}
+use Rattle.choreo_show.specs.declared.show.DroneLine.{DroneLine}
 
 -- the lines `at` of a formation
 places_read : (places done : List DroneLine) (s : Built) (line : ℕ) (name : Name) (ls : List Line) → AreSaid ls (map place_said places) → Reads (with_open s (InFormation line name done ∷ [])) ls (with_open s (InFormation line name (done ++ places) ∷ []))

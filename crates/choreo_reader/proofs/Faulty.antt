@@ -4,9 +4,9 @@ use Rattle.std.specs.Prelude.{◌&&◌, ◌||◌, is_some}
 use Rattle.text_lines.specs.Words.{Line}
 use Rattle.choreo_reader.specs.Text.{show_lines}
 use Rattle.choreo_lines.specs.FirstWord.{keyword_of}
-use Rattle.choreo_reader.specs.Plain as plain
+use Rattle.choreo_show.specs.Plain as plain
 use Rattle.choreo_lines.specs.Name.{Name}
-use Rattle.choreo_reader.specs.Plain.{Body, PlainShow, has_block, ◌⨾◌}
+use Rattle.choreo_show.specs.Plain.{Body, PlainShow, has_block, ◌⨾◌}
 use Rattle.choreo_lines.specs.Says.{Says, keyword_in, may_say}
 use Rattle.choreo_reader.specs.Text.{Fault, fault_at, forbidden}
 use Rattle.choreo_reader.specs.Context.{Context, open_fault, line_fault, Opened, OpenFormation, OpenFigure, OpenRepeat, OpenCue, this_or, fault_from, fault_of_lines, end_fault, either_fault, fault, is_header, place_of, place_in, opened_by, is_end, is_top, fill, opens, without_innermost, blocks_after, sets_memory, sets_trajectory, sets_ellipsoid, sets_stray, sets_late, context_after, first_word, in_figure}
@@ -25,7 +25,7 @@ use Rattle.choreo_lines.specs.declared.line.LineKind.TheVariants as kind
 use Rattle.choreo_lines.specs.declared.line.Place.TheVariants as place
 use Rattle.choreo_lines.specs.declared.line.Entry.{Entry}
 use Rattle.choreo_lines.specs.declared.line.Entry.TheVariants as entry
-use Rattle.choreo_reader.specs.declared.show.ActLine.{ActLine}
+use Rattle.choreo_show.specs.declared.show.ActLine.{ActLine}
 
 -- The first word of a line, by what it says.
 

@@ -1,4 +1,3 @@
-pub mod Blocks
 pub mod Opened
 pub mod OneLine
 pub mod Allowed

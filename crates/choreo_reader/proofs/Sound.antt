@@ -8,17 +8,18 @@ use Rattle.std.proofs.lemmas.Slice.Eq.{bytes_eq-Decides}
 use Rattle.std.specs.List.{list_all}
 use Rattle.text_lines.specs.Words.{Line}
 use Rattle.choreo_reader.specs.Text.{show_lines}
-use Rattle.choreo_reader.specs.Plain as plain
+use Rattle.choreo_show.specs.Plain as plain
 use Rattle.choreo_lines.specs.Name.{Name}
-use Rattle.choreo_reader.specs.Plain.{Body, PlainFigure, PlainShow, has_block, ◌⨾◌}
-use Rattle.choreo_reader.specs.Grammar.{SaidLine, IsSaid, AreSaid, at, anywhere, closing, act_said, place_said, body_said, is_filled, depth, fits_figure, names_one, Item, Memory, Trajectory, Ellipsoid, Stray, Late, Drone, Formed, Figured, Blocks, item_said, items_said, memories, trajectories, ellipsoids, strays, lates, drones, formations, figures, body, first_or, show_of, IsItem, AreItems, IsHeader, StandsFor}
+use Rattle.choreo_show.specs.Plain.{Body, PlainFigure, PlainShow, has_block, ◌⨾◌}
+use Rattle.choreo_reader.specs.Grammar.{SaidLine, IsSaid, AreSaid, at, anywhere, closing, act_said, place_said, body_said, Item, Memory, Trajectory, Ellipsoid, Stray, Late, Drone, Formed, Figured, Blocks, item_said, items_said, memories, trajectories, ellipsoids, strays, lates, drones, formations, figures, body, first_or, show_of, IsItem, AreItems, IsHeader, StandsFor}
+use Rattle.choreo_show.specs.Shape.{is_filled, depth, fits_figure, names_one}
 use Rattle.choreo_lines.specs.Says.{Says, may_say}
 use Rattle.choreo_reader.specs.Text.{Fault, fault_at, forbidden}
 use Rattle.choreo_reader.specs.Context.{OpenRepeat, OpenCue, fault_if, is_header, end_fault, place_of, place_in, in_figure, repeats}
 use Rattle.choreo_reader.specs.Reading.{Open, InFormation, InFigure, InRepeat, InCue, Built, Step, nothing, context_of, openings_of, is_any, add_block, build, built_by, unless, built_show, line_step, lines_step, then_step, finish, finish_with, read_lines, reading, unless_forbidden, entry_fault}
 use Rattle.choreo_lines.specs.Table.{Word, word}
 use Rattle.choreo_lines.specs.Fields.{entry_of}
-use Rattle.choreo_reader.proofs.Blocks.{body_assoc, body_done}
+use Rattle.choreo_show.proofs.Blocks.{body_assoc, body_done}
 use Rattle.choreo_reader.proofs.Complete.{TakesBlocks, Kept, with_open, outer_figure, outer_repeats}
 use Rattle.choreo_reader.proofs.CompleteShow.{add_item}
 use Rattle.choreo_lines.proofs.Saying.{says_of}
@@ -28,9 +29,9 @@ use Rattle.choreo_lines.specs.declared.line.Entry.{Entry}
 use Rattle.choreo_lines.specs.declared.line.Entry.TheVariants as entry
 use Rattle.choreo_lines.specs.declared.line.LineKind.{LineKind}
 use Rattle.choreo_lines.specs.declared.line.LineKind.TheVariants as kind
-use Rattle.choreo_reader.specs.declared.show.ActLine.{ActLine}
-use Rattle.choreo_reader.specs.declared.show.ActLine.TheVariants as on
-use Rattle.choreo_reader.specs.declared.show.DroneLine.{DroneLine}
+use Rattle.choreo_show.specs.declared.show.ActLine.{ActLine}
+use Rattle.choreo_show.specs.declared.show.ActLine.TheVariants as on
+use Rattle.choreo_show.specs.declared.show.DroneLine.{DroneLine}
 
 -- the lines of an open block so far, and those of all open blocks, the outermost first
 abbrev pub open_said : Open → List SaidLine

@@ -7,27 +7,28 @@ use Rattle.std.proofs.lemmas.List.{append-nil, length-map}
 use Rattle.text_lines.specs.declared.token.Comments.TheVariants.{FromHash}
 use Rattle.text_lines.specs.Words.{visible, Line, line_with, numbered, words_of}
 use Rattle.text_lines.specs.Lines.{lines_of}
-use Rattle.choreo_reader.specs.Plain as plain
+use Rattle.choreo_show.specs.Plain as plain
 use Rattle.choreo_lines.specs.Name.{Name}
-use Rattle.choreo_reader.specs.Plain.{Body, PlainFigure, PlainShow, has_block, ◌⨾◌}
+use Rattle.choreo_show.specs.Plain.{Body, PlainFigure, PlainShow, has_block, ◌⨾◌}
 use Rattle.choreo_lines.specs.Table.{Word, point, row_of, act_places, has_count}
 use Rattle.choreo_lines.specs.Says.{AllHold, point_fields, act_fields, fields_of, keyword_in, SaysAct, Says}
 use Rattle.choreo_lines.proofs.Saying.{FitNamed, held_fit, held_length, holds_fits, no_curve}
 use Rattle.choreo_lines.specs.declared.table.Want.TheVariants as want
 use Rattle.choreo_lines.specs.declared.table.Value.TheVariants.{Name as Named}
 use Rattle.choreo_lines.specs.declared.table.ActWord.TheVariants as word_of
-use Rattle.choreo_reader.specs.Grammar.{SaidLine, AreSaid, closing, act_said, place_said, body_said, is_filled, depth, Item, Memory, Trajectory, Ellipsoid, Stray, Late, Drone, Formed, Figured, Blocks, item_said, items_said, memories, trajectories, ellipsoids, strays, lates, drones, formations, figures, body, first_or, settings, show_of, AreItems, HasNumber, StandsFor}
-use Rattle.choreo_reader.specs.Valid.{IsName, AreNames, FitsPoint, FitsAct, FitsFrame, FitActLines, FitsBody, FitDroneLines, FitFormations, FitFigures, FitsSettings, act_lines, body_lines, drone_lines, formation_lines, figure_lines, AllAbove, times, all_lines, IsValid}
+use Rattle.choreo_reader.specs.Grammar.{SaidLine, AreSaid, closing, act_said, place_said, body_said, Item, Memory, Trajectory, Ellipsoid, Stray, Late, Drone, Formed, Figured, Blocks, item_said, items_said, memories, trajectories, ellipsoids, strays, lates, drones, formations, figures, body, first_or, settings, show_of, AreItems, HasNumber, StandsFor}
+use Rattle.choreo_show.specs.Shape.{is_filled, depth}
+use Rattle.choreo_show.specs.Valid.{IsName, AreNames, FitsPoint, FitsAct, FitsFrame, FitActLines, FitsBody, FitDroneLines, FitFormations, FitFigures, FitsSettings, act_lines, body_lines, drone_lines, formation_lines, figure_lines, AllAbove, times, all_lines, IsValid}
 use Rattle.choreo_reader.proofs.Sound.{filled_then, depth_then}
 use Rattle.choreo_lines.specs.declared.line.Entry.{Entry}
 use Rattle.choreo_lines.specs.declared.line.Entry.TheVariants as entry
 use Rattle.choreo_lines.specs.declared.parts.Act.{Act}
 use Rattle.choreo_lines.specs.declared.parts.Act.TheVariants as act
 use Rattle.choreo_lines.specs.declared.parts.Point.{Point}
-use Rattle.choreo_reader.specs.declared.show.ActLine.{ActLine}
-use Rattle.choreo_reader.specs.declared.show.ActLine.TheVariants as on
-use Rattle.choreo_reader.specs.declared.show.DroneLine.{DroneLine}
-use Rattle.choreo_reader.specs.declared.show.Formation.{Formation}
+use Rattle.choreo_show.specs.declared.show.ActLine.{ActLine}
+use Rattle.choreo_show.specs.declared.show.ActLine.TheVariants as on
+use Rattle.choreo_show.specs.declared.show.DroneLine.{DroneLine}
+use Rattle.choreo_show.specs.declared.show.Formation.{Formation}
 
 -- The ranges of what an entry names.
 

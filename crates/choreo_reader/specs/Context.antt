@@ -1,7 +1,7 @@
 -- The context of a line, and its faults.
 use Rattle.std.specs.Prelude.{ℕ, ◌+◌, Bool, true, false, not, ◌&&◌, ◌||◌, List, [], ◌∷◌, length, ◌==◌, nat_le, Option, Some, None, if◌then◌else◌, bytes_eq, codes}
 use Rattle.text_lines.specs.Words.{Line}
-use Rattle.choreo_reader.specs.Plain.{most_nested}
+use Rattle.choreo_show.specs.Plain.{most_nested}
 use Rattle.choreo_reader.specs.Text.{Fault, fault_at, show_lines, forbidden}
 use Rattle.choreo_lines.specs.FirstWord.{keyword_of}
 use Rattle.choreo_lines.specs.Table.{word, as_read}

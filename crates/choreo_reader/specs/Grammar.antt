@@ -1,18 +1,18 @@
 -- Which text stands for which show.
-use Rattle.std.specs.Prelude.{◌≡◌, ℕ, ◌+◌, ◌≤◌, max, Bool, true, false, ◌&&◌, List, [], ◌∷◌, ◌++◌, map, length, Option, Some, None, codes, IsTrue}
-use Rattle.std.specs.List.{list_all}
+use Rattle.std.specs.Prelude.{◌≡◌, ℕ, ◌≤◌, List, [], ◌∷◌, ◌++◌, map, length, Option, Some, None, codes, IsTrue}
 use Rattle.text_lines.specs.Words.{Line}
 use Rattle.choreo_reader.specs.Text.{show_lines, is_clean}
+use Rattle.choreo_show.specs.Shape.{depth, is_filled, fits_figure}
 use Rattle.choreo_lines.specs.Says.{Says}
-use Rattle.choreo_reader.specs.Plain as plain
-use Rattle.choreo_reader.specs.Plain.{Body, PlainFigure, PlainShow, has_block, ◌⨾◌, most_nested}
+use Rattle.choreo_show.specs.Plain as plain
+use Rattle.choreo_show.specs.Plain.{Body, PlainFigure, PlainShow, has_block, ◌⨾◌, most_nested}
 use Rattle.choreo_lines.specs.declared.line.Entry.{Entry}
 use Rattle.choreo_lines.specs.declared.line.Entry.TheVariants as entry
-use Rattle.choreo_reader.specs.declared.show.ActLine.{ActLine}
-use Rattle.choreo_reader.specs.declared.show.ActLine.TheVariants as on
-use Rattle.choreo_reader.specs.declared.show.DroneLine.{DroneLine}
-use Rattle.choreo_reader.specs.declared.show.Formation.{Formation}
-use Rattle.choreo_reader.specs.declared.show.Settings.{Settings}
+use Rattle.choreo_show.specs.declared.show.ActLine.{ActLine}
+use Rattle.choreo_show.specs.declared.show.ActLine.TheVariants as on
+use Rattle.choreo_show.specs.declared.show.DroneLine.{DroneLine}
+use Rattle.choreo_show.specs.declared.show.Formation.{Formation}
+use Rattle.choreo_show.specs.declared.show.Settings.{Settings}
 
 -- a line of the grammar: what it says, and its number where the show keeps it
 pub record SaidLine : Type 0 where
@@ -178,32 +178,6 @@ show_of is = record {
 }
 
 -- What the blocks of a show keep to.
-
--- how deep repeats stand inside each other
-abbrev pub depth : Body → ℕ
-depth plain.Done = 0
-depth (plain.Cue line ms acts rest) = depth rest
-depth (plain.Repeat line times inside rest) = max (depth inside + 1) (depth rest)
-depth (plain.Perform line figure frame drones rest) = depth rest
-
--- no repeat is empty
-abbrev pub is_filled : Body → Bool
-is_filled plain.Done = true
-is_filled (plain.Cue line ms acts rest) = is_filled rest
-is_filled (plain.Repeat line times inside rest) = has_block inside && is_filled inside && is_filled rest
-is_filled (plain.Perform line figure frame drones rest) = is_filled rest
-
--- an act line of one drone
-abbrev pub names_one : ActLine → Bool
-names_one (on.One line name a) = true
-names_one (on.Form line formation smooth) = false
-
--- no perform stands in a figure, and no `form`
-abbrev pub fits_figure : Body → Bool
-fits_figure plain.Done = true
-fits_figure (plain.Cue line ms acts rest) = list_all names_one acts && fits_figure rest
-fits_figure (plain.Repeat line times inside rest) = fits_figure inside && fits_figure rest
-fits_figure (plain.Perform line figure frame drones rest) = false
 
 -- no repeat stands inside eight others
 pub record IsBody (b : Body) : Type 0 where

@@ -1,8 +1,8 @@
 -- What holds of all texts, whether or not they are read.
 use Rattle.std.specs.Prelude.{◌≡◌, ◌↔◌, ℕ, List, None}
-use Rattle.choreo_reader.specs.Plain.{PlainShow}
+use Rattle.choreo_show.specs.Plain.{PlainShow}
 use Rattle.choreo_reader.specs.Grammar.{StandsFor}
-use Rattle.choreo_reader.specs.Valid.{IsValid}
+use Rattle.choreo_show.specs.Valid.{IsValid}
 use Rattle.choreo_reader.specs.Context.{fault}
 
 -- A text stands for at most one show, which is valid, and for one exactly where it has no fault.

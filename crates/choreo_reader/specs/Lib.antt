@@ -1,9 +1,7 @@
 pub mod Text
 pub mod Steps
-pub mod Plain
 pub mod Grammar
 pub mod Context
-pub mod Valid
 pub mod Reading
 pub mod Reader
 pub mod Laws

@@ -1,6 +1,6 @@
 -- What a reader stands for.
 use Rattle.std.specs.Prelude.{◌≡◌, List, map, reverse, Result, Ok, Err, Option, Some, None}
-use Rattle.choreo_reader.specs.Plain.{body_of, figure_of, PlainShow}
+use Rattle.choreo_show.specs.Plain.{body_of, figure_of, PlainShow}
 use Rattle.choreo_reader.specs.Reading.{Open, InFormation, InFigure, InRepeat, InCue, Built, Step}
 use Rattle.choreo_reader.specs.Text.{fault_at, Fault}
 use Rattle.choreo_reader.specs.declared.fault.ShowFault.{ShowFault}

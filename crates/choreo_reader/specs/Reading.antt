@@ -3,20 +3,20 @@ use Rattle.std.specs.Prelude.{nat_le, ℕ, Bool, true, false, List, [], ◌∷�
 use Rattle.text_lines.specs.Words.{Line}
 use Rattle.choreo_reader.specs.Text.{show_lines}
 use Rattle.choreo_lines.specs.Fields.{entry_of}
-use Rattle.choreo_reader.specs.Plain as plain
+use Rattle.choreo_show.specs.Plain as plain
 use Rattle.choreo_lines.specs.Name.{Name}
-use Rattle.choreo_reader.specs.Plain.{Body, PlainFigure, PlainShow, has_block, ◌⨾◌, most_nested}
+use Rattle.choreo_show.specs.Plain.{Body, PlainFigure, PlainShow, has_block, ◌⨾◌, most_nested}
 use Rattle.choreo_reader.specs.Context.{Context, Opening, OpenFormation, OpenFigure, OpenRepeat, OpenCue, fault_if, repeats, is_empty_block, place_of, is_header, end_fault}
 use Rattle.choreo_reader.specs.Text.{Fault, fault_at, forbidden}
 use Rattle.choreo_lines.specs.declared.line.LineKind.{LineKind}
 use Rattle.choreo_lines.specs.declared.line.LineKind.TheVariants as kind
 use Rattle.choreo_lines.specs.declared.line.Entry.{Entry}
 use Rattle.choreo_lines.specs.declared.line.Entry.TheVariants as entry
-use Rattle.choreo_reader.specs.declared.show.ActLine.{ActLine}
-use Rattle.choreo_reader.specs.declared.show.ActLine.TheVariants as on
-use Rattle.choreo_reader.specs.declared.show.DroneLine.{DroneLine}
-use Rattle.choreo_reader.specs.declared.show.Formation.{Formation}
-use Rattle.choreo_reader.specs.declared.show.Settings.{Settings}
+use Rattle.choreo_show.specs.declared.show.ActLine.{ActLine}
+use Rattle.choreo_show.specs.declared.show.ActLine.TheVariants as on
+use Rattle.choreo_show.specs.declared.show.DroneLine.{DroneLine}
+use Rattle.choreo_show.specs.declared.show.Formation.{Formation}
+use Rattle.choreo_show.specs.declared.show.Settings.{Settings}
 
 -- what earlier lines leave open for an entry
 abbrev pub entry_fault : Context → Entry → Option LineKind

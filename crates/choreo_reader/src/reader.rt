@@ -2,10 +2,10 @@
 
 ghost use Rattle.std.specs.Prelude.{◌≡◌, ℕ, List, Some, take, drop, ◌+◌, ◌<◌, ◌≤◌, length, OnOk, IfOk, MatchResult, ◌++◌, ◌∷◌, []};
 ghost use Rattle.fleet_math.specs.Limits.{most_text};
-ghost use Rattle.choreo_reader.specs.Plain.{block_of, body_of, plain as plain_show, PlainShow, ◌⨾◌};
+ghost use Rattle.choreo_show.specs.Plain.{block_of, body_of, plain as plain_show, PlainShow, ◌⨾◌};
 ghost use Rattle.choreo_reader.specs.Grammar.{StandsFor};
-ghost use Rattle.choreo_reader.specs.Plain as plain;
-ghost use Rattle.choreo_reader.specs.Valid.{IsValid};
+ghost use Rattle.choreo_show.specs.Plain as plain;
+ghost use Rattle.choreo_show.specs.Valid.{IsValid};
 ghost use Rattle.choreo_reader.specs.Laws.{ShowLaw};
 ghost use Rattle.choreo_reader.specs.Reader.{open_of, opens_of, built_of, Steps, ShowGives, ReadingFails, FaultGives};
 ghost use Rattle.choreo_reader.specs.Context.{is_figure as is_figure_of, is_repeat as is_repeat_of, in_figure as in_figure_of, repeats as repeats_of, place_of, is_empty_block as is_empty_block_of, is_header as is_header_of, fault};
@@ -17,7 +17,7 @@ ghost use Rattle.text_lines.specs.declared.token.Comments.TheVariants.{FromHash}
 ghost use Rattle.choreo_reader.specs.Reading.{InFormation, InFigure, InRepeat, InCue, entry_fault as entry_fault_of, with_block as with_block_of, act_added, place_added, add_block as add_block_of, close as close_of, close_innermost as close_innermost_of, with_act as with_act_of, with_place as with_place_of, nothing, build, settings_of, opening_of, openings_of, context_of, line_step, lines_step, finish as finish_of, read_lines, reading};
 
 use crate::fault::ShowFault;
-use crate::show::{ActLine, Block, DroneLine, Figure, Formation, Settings, Show};
+use choreo_show::{ActLine, Block, DroneLine, Figure, Formation, Settings, Show};
 use crate::token::{first_bad_line, line_words};
 use choreo_lines::{Entry, LineError, LineKind, Listed, Name, Place, entry_of};
 use std::alloc::{AllocError, Global};
@@ -216,7 +216,7 @@ fn set<T: Drop>(setting: &mut Option<T>, value: T) -> Result<(), AllocError>
 }
 
 // One more block at the end of a body.
-#[tactic(auto, using(crate::proofs::Blocks::body_push))]
+#[tactic(auto, using(choreo_show::proofs::Blocks::body_push))]
 fn put(body: &mut Vec<Block>, block: Block) -> Result<(), AllocError>
     ensures { OnOk result (body_of body.new.items ≡ body_of body.old.items ⨾ block_of block plain.Done) }
 {

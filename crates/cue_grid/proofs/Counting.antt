@@ -4,15 +4,15 @@ use Rattle.std.specs.Prelude.{min, nat_lt, Vec}
 use Rattle.std.proofs.lemmas.List.{take_more, take_all, drop_all}
 use Rattle.std.proofs.lemmas.Bool.{cases_lt}
 use Rattle.std.proofs.lemmas.Bool.Decides.{nat_tests}
-use Rattle.choreo_reader.specs.Plain as plain
+use Rattle.choreo_show.specs.Plain as plain
 use Rattle.choreo_lines.specs.Name.{Name}
-use Rattle.choreo_reader.specs.Plain.{Body, PlainFigure, ◌⨾◌, block_of, block_step, blocks_then, body_of}
-use Rattle.choreo_reader.proofs.Blocks.{body_push, repeat_is, perform_is, block_out}
-use Rattle.choreo_reader.specs.declared.show.Block.{Block, Block-F}
-use Rattle.choreo_reader.specs.declared.show.Block.TheVariants as block
-use Rattle.choreo_reader.specs.declared.show.Block.TheOpen as layer
-use Rattle.choreo_reader.specs.declared.show.Block.TheViews.{out-Block}
-use Rattle.choreo_reader.specs.declared.show.Block.TheFolds.{map-Block}
+use Rattle.choreo_show.specs.Plain.{Body, PlainFigure, ◌⨾◌, block_of, block_step, blocks_then, body_of}
+use Rattle.choreo_show.proofs.Blocks.{body_push, repeat_is, perform_is, block_out}
+use Rattle.choreo_show.specs.declared.show.Block.{Block, Block-F}
+use Rattle.choreo_show.specs.declared.show.Block.TheVariants as block
+use Rattle.choreo_show.specs.declared.show.Block.TheOpen as layer
+use Rattle.choreo_show.specs.declared.show.Block.TheViews.{out-Block}
+use Rattle.choreo_show.specs.declared.show.Block.TheFolds.{map-Block}
 use Rattle.choreo_lines.specs.declared.parts.Frame.{Frame}
 use Rattle.std.specs.declared.alloc.Global.{Global}
 use Rattle.cue_grid.specs.Names.{figure_named}

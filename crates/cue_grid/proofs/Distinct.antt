@@ -3,8 +3,8 @@ use Rattle.std.proofs.Common.{◌≡◌, ℕ, zero, suc, ◌<◌, Bool, true, fa
 use Rattle.std.specs.Prelude.{◌||◌}
 use Rattle.std.proofs.lemmas.Slice.Eq.{bytes_eq-Decides}
 use Rattle.choreo_lines.specs.Name.{Name}
-use Rattle.choreo_reader.specs.declared.show.DroneLine.{DroneLine}
-use Rattle.choreo_reader.specs.Plain.{PlainShow}
+use Rattle.choreo_show.specs.declared.show.DroneLine.{DroneLine}
+use Rattle.choreo_show.specs.Plain.{PlainShow}
 use Rattle.cue_grid.specs.declared.grid.GridFault.{GridFault}
 use Rattle.cue_grid.specs.declared.grid.GridFault.TheVariants.{DoubleName}
 use Rattle.cue_grid.specs.Counts.{over_at}

@@ -2,14 +2,14 @@
 use Rattle.std.proofs.Common.{◌≡◌, ℕ, ◌<◌, Bool, true, false, cond, List, [], ◌∷◌, ◌++◌, Option, Some, None, refl, sym, ap, subst, ◌∙◌, ◌⊎◌, inl, inr, arith}
 use Rattle.std.specs.Prelude.{not, ◌||◌, nat_lt, length, ◌==◌}
 use Rattle.std.proofs.lemmas.Bool.Decides.{nat_tests}
-use Rattle.choreo_reader.specs.Plain as plain
+use Rattle.choreo_show.specs.Plain as plain
 use Rattle.choreo_lines.specs.Name.{Name}
-use Rattle.choreo_reader.specs.Plain.{Body, PlainFigure, PlainShow}
-use Rattle.choreo_reader.specs.Valid.{AllAbove, act_lines, body_lines, drone_lines, formation_lines, figure_lines, IsValid}
-use Rattle.choreo_reader.specs.declared.show.ActLine.{ActLine}
-use Rattle.choreo_reader.specs.declared.show.ActLine.TheVariants as on
-use Rattle.choreo_reader.specs.declared.show.DroneLine.{DroneLine}
-use Rattle.choreo_reader.specs.declared.show.Formation.{Formation}
+use Rattle.choreo_show.specs.Plain.{Body, PlainFigure, PlainShow}
+use Rattle.choreo_show.specs.Valid.{AllAbove, act_lines, body_lines, drone_lines, formation_lines, figure_lines, IsValid}
+use Rattle.choreo_show.specs.declared.show.ActLine.{ActLine}
+use Rattle.choreo_show.specs.declared.show.ActLine.TheVariants as on
+use Rattle.choreo_show.specs.declared.show.DroneLine.{DroneLine}
+use Rattle.choreo_show.specs.declared.show.Formation.{Formation}
 use Rattle.cue_grid.specs.Names.{has_name, has_each, has_some, has_double, names_of, formation_named, figure_named}
 use Rattle.cue_grid.specs.Faults.{line_of, fault_if, drone_faults, place_faults, one_formation_faults, formation_faults, form_faults, act_line_faults, acted_by, act_faults, perform_faults, body_faults, one_figure_faults, figure_faults, drones_faults, formations_faults, figures_faults, show_faults, name_faults, earlier_of, earliest}
 use Rattle.cue_grid.specs.Steps.{first_of, name_fault}

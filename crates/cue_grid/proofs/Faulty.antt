@@ -2,12 +2,12 @@
 use Rattle.std.proofs.Common.{◌≡◌, ℕ, suc, ◌+◌, ◌<◌, ◌≤◌, List, [], ◌∷◌, ◌++◌, length, get_or, drop, drop-cons, add-one, Option, Some, None, refl, sym, ap, ◌∙◌, append_assoc}
 use Rattle.std.specs.Prelude.{Vec}
 use Rattle.std.proofs.lemmas.List.{drop_all, append-nil}
-use Rattle.choreo_reader.specs.Plain as plain
+use Rattle.choreo_show.specs.Plain as plain
 use Rattle.choreo_lines.specs.Name.{Name}
-use Rattle.choreo_reader.specs.Plain.{Body, PlainShow, ◌⨾◌, block_of, body_of}
-use Rattle.choreo_reader.proofs.Blocks.{block_then, repeat_is}
-use Rattle.choreo_reader.specs.declared.show.Block.{Block}
-use Rattle.choreo_reader.specs.declared.show.Block.TheVariants as block
+use Rattle.choreo_show.specs.Plain.{Body, PlainShow, ◌⨾◌, block_of, body_of}
+use Rattle.choreo_show.proofs.Blocks.{block_then, repeat_is}
+use Rattle.choreo_show.specs.declared.show.Block.{Block}
+use Rattle.choreo_show.specs.declared.show.Block.TheVariants as block
 use Rattle.std.specs.declared.alloc.Global.{Global}
 use Rattle.cue_grid.specs.Names.{names_of, figure_named}
 use Rattle.cue_grid.specs.Steps.{first_of}

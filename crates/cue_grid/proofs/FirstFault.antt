@@ -2,13 +2,13 @@
 use Rattle.std.proofs.Common.{◌≡◌, ℕ, ◌≤◌, false, cond, List, length, map, Option, Some, None, refl, sym, ap, subst, ◌∙◌}
 use Rattle.std.specs.Prelude.{not, ◌==◌}
 use Rattle.std.proofs.lemmas.List.{drop_all}
-use Rattle.choreo_reader.specs.Plain as plain
-use Rattle.choreo_reader.specs.Plain.{Body, PlainShow, has_block, body_of, figure_of}
-use Rattle.choreo_reader.specs.Valid.{IsValid}
-use Rattle.choreo_reader.proofs.Opened.{blocks_none}
-use Rattle.choreo_reader.specs.declared.show.Block.{Block}
-use Rattle.choreo_reader.specs.declared.show.Figure.{Figure}
-use Rattle.choreo_reader.specs.declared.show.DroneLine.{DroneLine}
+use Rattle.choreo_show.specs.Plain as plain
+use Rattle.choreo_show.specs.Plain.{Body, PlainShow, has_block, body_of, figure_of}
+use Rattle.choreo_show.specs.Valid.{IsValid}
+use Rattle.choreo_show.proofs.Blocks.{blocks_none}
+use Rattle.choreo_show.specs.declared.show.Block.{Block}
+use Rattle.choreo_show.specs.declared.show.Figure.{Figure}
+use Rattle.choreo_show.specs.declared.show.DroneLine.{DroneLine}
 use Rattle.cue_grid.specs.Counts.{over_at}
 use Rattle.fleet_math.specs.Limits.{most_drones}
 use Rattle.cue_grid.specs.Faults.{no_drone, many_drones, too_many, no_cue, many_cues, or_else, earliest, name_faults, grid_fault}

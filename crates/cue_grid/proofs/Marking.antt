@@ -5,9 +5,9 @@ use Rattle.std.proofs.lemmas.List.{take_more, append-nil, length-set, get_or-set
 use Rattle.std.proofs.lemmas.Grind.{get_or-set_at}
 use Rattle.indexmap.specs.IndexSet.{insert_key}
 use Rattle.choreo_lines.specs.Name.{Name}
-use Rattle.choreo_reader.specs.declared.show.ActLine.{ActLine}
-use Rattle.choreo_reader.specs.declared.show.ActLine.TheVariants as on
-use Rattle.choreo_reader.specs.declared.show.Formation.{Formation}
+use Rattle.choreo_show.specs.declared.show.ActLine.{ActLine}
+use Rattle.choreo_show.specs.declared.show.ActLine.TheVariants as on
+use Rattle.choreo_show.specs.declared.show.Formation.{Formation}
 use Rattle.choreo_lines.specs.declared.parts.Act.{Act}
 use Rattle.cue_grid.specs.Names.{same_name, has_name, has_some, names_of, formation_named, places_in}
 use Rattle.cue_grid.specs.Marks.{number_in, HasNumbers, IsPlaced, has_act, has_mark, marked, IsActed}

@@ -7,8 +7,8 @@ use Rattle.std.proofs.lemmas.List.Quantifiers.{position-Some}
 use Rattle.std.proofs.lemmas.List.Recursion.{is_position_or_len}
 use Rattle.indexmap.specs.IndexSet.{insert_key}
 use Rattle.choreo_lines.specs.Name.{Name}
-use Rattle.choreo_reader.specs.declared.show.DroneLine.{DroneLine}
-use Rattle.choreo_reader.specs.declared.show.Formation.{Formation}
+use Rattle.choreo_show.specs.declared.show.DroneLine.{DroneLine}
+use Rattle.choreo_show.specs.declared.show.Formation.{Formation}
 use Rattle.cue_grid.specs.Names.{same_name, has_name, names_of, formation_named}
 use Rattle.cue_grid.specs.Numbers.{number_from, number_or, formation_names, IsNumbered}
 use Rattle.cue_grid.specs.Marks.{number_in, Keeps, HasNumbers, IsPlaced, ArePlaced, AllPlaced}

@@ -9,9 +9,9 @@ use Rattle.std.proofs.lemmas.List.{take-map, map-append, take_more, length-map, 
 use Rattle.std.proofs.lemmas.Slice.Eq.{bytes_eq-Decides}
 use Rattle.std.specs.Option.{option_copied}
 use Rattle.choreo_lines.specs.Name.{Name}
-use Rattle.choreo_reader.specs.Plain.{figure_of as plain_figure}
-use Rattle.choreo_reader.specs.declared.show.Figure.{Figure}
-use Rattle.choreo_reader.specs.declared.show.Formation.{Formation}
+use Rattle.choreo_show.specs.Plain.{figure_of as plain_figure}
+use Rattle.choreo_show.specs.declared.show.Figure.{Figure}
+use Rattle.choreo_show.specs.declared.show.Formation.{Formation}
 use Rattle.cue_grid.specs.Names.{same_name, has_name, formation_named, figure_named}
 use Rattle.cue_grid.specs.Numbers.{number_from, number_or, IsNumbered, IsNoted, formation_names, figure_names}
 

@@ -1,11 +1,11 @@
 -- Cues written out, block by block.
 use Rattle.std.proofs.Common.{◌≡◌, ℕ, zero, suc, ◌+◌, ◌<◌, ◌≤◌, false, cond, List, [], ◌∷◌, ◌++◌, length, get_or, take, drop, refl, sym, ap, ◌∙◌, append_assoc, add-one, drop-cons, arith}
 use Rattle.std.proofs.lemmas.List.{take_more, take_all, drop_all, append-nil}
-use Rattle.choreo_reader.specs.Plain as plain
+use Rattle.choreo_show.specs.Plain as plain
 use Rattle.choreo_lines.specs.Name.{Name}
-use Rattle.choreo_reader.specs.Plain.{Body, PlainShow, ◌⨾◌, block_of, body_of}
-use Rattle.choreo_reader.proofs.Blocks.{body_push}
-use Rattle.choreo_reader.specs.declared.show.Block.{Block}
+use Rattle.choreo_show.specs.Plain.{Body, PlainShow, ◌⨾◌, block_of, body_of}
+use Rattle.choreo_show.proofs.Blocks.{body_push}
+use Rattle.choreo_show.specs.declared.show.Block.{Block}
 use Rattle.choreo_lines.specs.declared.parts.Frame.{Frame}
 use Rattle.cue_grid.specs.declared.grid.Cue.{Cue}
 use Rattle.cue_grid.specs.Names.{same_name}

@@ -1,9 +1,9 @@
 -- How many cues there are, without writing them out.
 use Rattle.std.specs.Prelude.{ℕ, ◌+◌, ◌*◌, List, Option, Some, None, nat_lt, if◌then◌else◌}
 use Rattle.fleet_math.specs.Limits.{most_cues}
-use Rattle.choreo_reader.specs.Plain as plain
+use Rattle.choreo_show.specs.Plain as plain
 use Rattle.choreo_lines.specs.Name.{Name}
-use Rattle.choreo_reader.specs.Plain.{Body, PlainFigure, PlainShow}
+use Rattle.choreo_show.specs.Plain.{Body, PlainFigure, PlainShow}
 use Rattle.cue_grid.specs.Names.{figure_named}
 
 -- the number of cues of blocks: a cue counts 1, a repeat its number times its body, and a perform what is handed in for its figure

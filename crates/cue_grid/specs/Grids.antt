@@ -2,8 +2,8 @@
 use Rattle.std.specs.Prelude.{◌≡◌, ℕ, ◌≤◌, List, [], ◌∷◌, length}
 use Rattle.std.specs.List.{All}
 use Rattle.fleet_math.specs.Limits.{most_cues, most_drones}
-use Rattle.choreo_reader.specs.Valid.{FitsPoint, FitsFrame, FitsAct}
-use Rattle.choreo_reader.specs.declared.show.DroneLine.{DroneLine}
+use Rattle.choreo_show.specs.Valid.{FitsPoint, FitsFrame, FitsAct}
+use Rattle.choreo_show.specs.declared.show.DroneLine.{DroneLine}
 use Rattle.cue_grid.specs.declared.grid.Job.{Job}
 use Rattle.cue_grid.specs.declared.grid.Cue.{Cue}
 use Rattle.cue_grid.specs.declared.grid.Grid.{Grid}

@@ -2,8 +2,8 @@
 use Rattle.std.specs.Prelude.{◌≡◌, ℕ, ◌+◌, Bool, List, [], ◌∷◌, map, Option, Some, None, if◌then◌else◌}
 use Rattle.std.specs.Map.{lookup}
 use Rattle.choreo_lines.specs.Name.{Name}
-use Rattle.choreo_reader.specs.declared.show.Formation.{Formation}
-use Rattle.choreo_reader.specs.declared.show.Figure.{Figure}
+use Rattle.choreo_show.specs.declared.show.Formation.{Formation}
+use Rattle.choreo_show.specs.declared.show.Figure.{Figure}
 use Rattle.cue_grid.specs.Names.{same_name}
 
 -- the number of a name among names that are counted from a number on

@@ -1,5 +1,5 @@
 -- What the values that the steps hand on stand for.
-use Rattle.choreo_reader.specs.Plain.{PlainShow, plain}
+use Rattle.choreo_show.specs.Plain.{PlainShow, plain}
 use Rattle.cue_grid.specs.Cues.{Playing}
 use Rattle.std.specs.Prelude.{◌≡◌, List, false}
 use Rattle.choreo_lines.specs.Name.{Name}

@@ -3,14 +3,14 @@ use Rattle.std.specs.Prelude.{ℕ, zero, suc, Bool, false, not, List, [], ◌∷
 use Rattle.choreo_lines.specs.Name.{Name}
 use Rattle.choreo_lines.specs.declared.parts.Act.{Act}
 use Rattle.choreo_lines.specs.declared.parts.Frame.{Frame}
-use Rattle.choreo_reader.specs.declared.show.ActLine.{ActLine}
-use Rattle.choreo_reader.specs.declared.show.DroneLine.{DroneLine}
-use Rattle.choreo_reader.specs.declared.show.Formation.{Formation}
+use Rattle.choreo_show.specs.declared.show.ActLine.{ActLine}
+use Rattle.choreo_show.specs.declared.show.DroneLine.{DroneLine}
+use Rattle.choreo_show.specs.declared.show.Formation.{Formation}
 use Rattle.cue_grid.specs.Cues.{Playing, act_by, act_line_number, job_or}
 use Rattle.cue_grid.specs.Names.{same_name}
 use Rattle.cue_grid.specs.declared.grid.Job.{Job}
-use Rattle.choreo_reader.specs.Plain as plain
-use Rattle.choreo_reader.specs.Plain.{Body, PlainShow}
+use Rattle.choreo_show.specs.Plain as plain
+use Rattle.choreo_show.specs.Plain.{Body, PlainShow}
 use Rattle.cue_grid.specs.Faults.{drones_faults, formations_faults, figures_faults, show_faults, earlier_of, fault_if}
 use Rattle.cue_grid.specs.declared.grid.GridFault.{GridFault}
 use Rattle.cue_grid.specs.declared.grid.GridFault.TheVariants.{UnknownName, DoubleAct}

@@ -8,7 +8,7 @@ ghost use Rattle.cue_grid.specs.Shown.{shown, place_names, HaveActs};
 
 use crate::lookup::Lookup;
 use choreo_lines::copy_of;
-use choreo_reader::{ActLine, Name};
+use choreo_show::{ActLine, Name};
 use indexmap::IndexSet;
 use std::alloc::{AllocError, Global};
 

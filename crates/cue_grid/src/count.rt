@@ -2,14 +2,14 @@
 
 ghost use Rattle.std.specs.Prelude.{◌≡◌, ◌*◌, ◌≤◌, ◌+◌, min};
 ghost use Rattle.fleet_math.specs.Limits.{most_cues};
-ghost use Rattle.choreo_reader.specs.Plain.{block_of, body_of};
-ghost use Rattle.choreo_reader.specs.Plain as plain;
+ghost use Rattle.choreo_show.specs.Plain.{block_of, body_of};
+ghost use Rattle.choreo_show.specs.Plain as plain;
 ghost use Rattle.cue_grid.specs.Shown.{shown};
 ghost use Rattle.cue_grid.specs.Steps.{line_in};
 ghost use Rattle.cue_grid.specs.Counts.{figure_count as figure_count_of, body_count, over_at};
 
 use crate::lookup::Lookup;
-use choreo_reader::Block;
+use choreo_show::Block;
 use fleet_math::MOST_CUES;
 
 /// The line of the first block with which the number of cues exceeds the limit.

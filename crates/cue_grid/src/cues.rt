@@ -1,8 +1,8 @@
 //! The cues, written out.
 
 ghost use Rattle.std.specs.Prelude.{◌≡◌, ◌++◌, true, false, map, set, OnOk, IfOk, MatchOption};
-ghost use Rattle.choreo_reader.specs.Plain.{block_of, body_of};
-ghost use Rattle.choreo_reader.specs.Plain as plain;
+ghost use Rattle.choreo_show.specs.Plain.{block_of, body_of};
+ghost use Rattle.choreo_show.specs.Plain as plain;
 ghost use Rattle.cue_grid.specs.Cues.{act_if, way_if, cue_of, player as player_of, figure_cues, cues_in, performed_cues, cues_of as cues_of_show, way_to, as_written as as_written_in_show};
 ghost use Rattle.cue_grid.specs.Shown.{shown, played, AreDistinct};
 ghost use Rattle.cue_grid.specs.Steps.{put_acts, put_line_of, stands_at};
@@ -12,7 +12,7 @@ ghost use Rattle.cue_grid.specs.Names.{same_name as same_name_of, has_name, has_
 use crate::grid::{Cue, Job};
 use crate::lookup::Lookup;
 use crate::names::same_name;
-use choreo_reader::{Act, ActLine, Block, DroneLine, Frame, Listed, Mirror, Name, Point};
+use choreo_show::{Act, ActLine, Block, DroneLine, Frame, Listed, Mirror, Name, Point};
 use std::alloc::{AllocError, Global};
 
 /// How blocks are played: in which frame, and which drones have which roles.

@@ -2,8 +2,8 @@
 //! the earliest line.
 
 ghost use Rattle.std.specs.Prelude.{◌≡◌, ◌++◌, [], ◌∷◌, take, OnOk, IfOk, List};
-ghost use Rattle.choreo_reader.specs.Plain.{block_of, body_of, figure_of as plain_figure};
-ghost use Rattle.choreo_reader.specs.Plain as plain;
+ghost use Rattle.choreo_show.specs.Plain.{block_of, body_of, figure_of as plain_figure};
+ghost use Rattle.choreo_show.specs.Plain as plain;
 ghost use Rattle.cue_grid.specs.Names.{names_of, has_name, formation_named, figure_named};
 ghost use Rattle.cue_grid.specs.Numbers.{formation_names, figure_names};
 ghost use Rattle.choreo_lines.specs.Name.{Name as NameOf};
@@ -17,7 +17,7 @@ use crate::grid::GridFault;
 use crate::lookup::Lookup;
 use crate::names::{are_drones, has_double, is_drone, is_known};
 use choreo_lines::copy_of;
-use choreo_reader::{ActLine, Block, DroneLine, Figure, Formation, Name};
+use choreo_show::{ActLine, Block, DroneLine, Figure, Formation, Name};
 use std::alloc::{AllocError, Global};
 
 /// The fault of names of the earliest line.

@@ -3,7 +3,7 @@
 ghost use Rattle.std.specs.Prelude.{◌≡◌, ◌≤◌, ◌^◌, ◌+ℤ◌};
 ghost use Rattle.cue_grid.specs.Frames.{shifted, mirrored, turned_once, turned, applied, IsPointUpTo, IsShiftUpTo, IsUpTo};
 
-use choreo_reader::{Frame, Mirror, Point};
+use choreo_show::{Frame, Mirror, Point};
 
 /// Where the frame puts a point: its mirror, then its quarter turns, then its shift. The point is in micrometres, its yaw
 /// in tenths of a degree.

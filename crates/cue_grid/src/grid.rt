@@ -1,6 +1,6 @@
 //! Cues written out, and what can be wrong with the names and cues of a show.
 
-use choreo_reader::{Act, DroneLine, Frame, Listed};
+use choreo_show::{Act, DroneLine, Frame, Listed};
 use std::alloc::AllocError;
 
 /// What one drone does in a cue.

@@ -1,13 +1,13 @@
 //! A show whose formations and figures are found by their names.
 
 ghost use Rattle.std.specs.Prelude.{◌≡◌, OnOk, IfOk, Some, None, MatchOption, map, take, length, vec_items};
-ghost use Rattle.choreo_reader.specs.Plain.{figure_of as plain_figure};
+ghost use Rattle.choreo_show.specs.Plain.{figure_of as plain_figure};
 ghost use Rattle.cue_grid.specs.Numbers.{IsNumbered, IsNoted, formation_names, figure_names};
 ghost use Rattle.cue_grid.specs.Names.{formation_named, figure_named, has_name, names_of};
 ghost use Rattle.cue_grid.specs.Marks.{number_in, Keeps, HasNumbers, IsPlaced, ArePlaced, AllPlaced};
 
 use choreo_lines::copy_of;
-use choreo_reader::{DroneLine, Figure, Formation, Name, Show};
+use choreo_show::{DroneLine, Figure, Formation, Name, Show};
 use indexmap::{IndexMap, IndexSet};
 use std::alloc::{AllocError, AllocFailed, Global};
 

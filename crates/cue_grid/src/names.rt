@@ -3,7 +3,7 @@
 ghost use Rattle.std.specs.Prelude.{◌≡◌};
 ghost use Rattle.cue_grid.specs.Names.{same_name as same_name_of, has_name, has_each, has_double as has_double_of, names_of};
 
-use choreo_reader::{DroneLine, Name};
+use choreo_show::{DroneLine, Name};
 
 /// Whether two names are the same.
 pub fn same_name(a: &Name, b: &Name) -> bool

@@ -2,8 +2,8 @@
 
 ghost use Rattle.std.specs.Prelude.{◌≡◌, false, IfOk};
 ghost use Rattle.std.specs.List.{All};
-ghost use Rattle.choreo_reader.specs.Plain.{plain, body_of};
-ghost use Rattle.choreo_reader.specs.Valid.{IsName, IsValid};
+ghost use Rattle.choreo_show.specs.Plain.{plain, body_of};
+ghost use Rattle.choreo_show.specs.Valid.{IsName, IsValid};
 ghost use Rattle.cue_grid.specs.Faults.{no_drone, many_drones, no_cue, many_cues, or_else, grid_fault};
 ghost use Rattle.cue_grid.specs.Counts.{over_at};
 ghost use Rattle.cue_grid.specs.Names.{has_double, names_of};
@@ -17,7 +17,7 @@ use crate::faults::name_fault;
 use crate::grid::{Grid, GridFault, UnrollError};
 use crate::lookup::Lookup;
 use choreo_lines::copy_of;
-use choreo_reader::{DroneLine, Listed, Show};
+use choreo_show::{DroneLine, Listed, Show};
 use fleet_math::MOST_DRONES;
 use std::alloc::{AllocError, Global};
 

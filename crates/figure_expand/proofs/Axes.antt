@@ -2,7 +2,7 @@
 use Rattle.std.proofs.Common.{◌≡◌, ℕ, ◌+◌, ◌≤◌, ℤ, Bool, true, false, cond, All, List, [], ◌∷◌, length, Some, subst, arith}
 use Rattle.std.proofs.lemmas.List.Elements.{All-nil, All-cons, All-head, All-tail, All-append, All-from_recursion}
 use Rattle.choreo_lines.specs.declared.parts.Point.{Point}
-use Rattle.choreo_reader.specs.declared.show.DroneLine.{DroneLine}
+use Rattle.choreo_show.specs.declared.show.DroneLine.{DroneLine}
 use Rattle.cue_grid.specs.declared.grid.Cue.{Cue}
 use Rattle.cue_grid.specs.declared.grid.Grid.{Grid}
 use Rattle.cue_grid.specs.declared.grid.Job.{Job}

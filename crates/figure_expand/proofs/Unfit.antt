@@ -6,7 +6,7 @@ use Rattle.figure_expand.specs.declared.fault.AxisValue.{AxisValue}
 use Rattle.cue_grid.specs.declared.grid.Grid.{Grid}
 use Rattle.figure_expand.specs.Acts.{act_of, end_of}
 use Rattle.std.proofs.lemmas.List.{drop_more}
-use Rattle.choreo_reader.specs.declared.show.DroneLine.{DroneLine}
+use Rattle.choreo_show.specs.declared.show.DroneLine.{DroneLine}
 use Rattle.cue_grid.specs.declared.grid.Cue.{Cue}
 use Rattle.mm_rounding.specs.Rounding.{controls}
 use Rattle.mm_rounding.specs.declared.piece.Axis.{Axis}

@@ -1,7 +1,7 @@
 //! Acts in the show's own frame.
 
 ghost use Rattle.std.specs.Prelude.{◌≡◌, ◌^◌, pos};
-ghost use Rattle.choreo_reader.specs.Valid.{FitsFrame, FitsPoint, FitsCoordinate, FitsYaw, FitsTriple, FitsAct};
+ghost use Rattle.choreo_show.specs.Valid.{FitsFrame, FitsPoint, FitsCoordinate, FitsYaw, FitsTriple, FitsAct};
 ghost use Rattle.cue_grid.specs.Frames.{applied};
 ghost use Rattle.cue_grid.specs.Grids.{FitsJob};
 ghost use Rattle.figure_expand.specs.Acts.{act_in, act_of, sense_in, place, place_at, heading, numbers_at};

@@ -13,7 +13,7 @@ use crate::acts::act_of;
 use crate::fault::AxisValue;
 use crate::shapes::{axes, end_of};
 use choreo_lines::Point;
-use choreo_reader::DroneLine;
+use choreo_show::DroneLine;
 use cue_grid::{Cue, Grid, Job};
 use mm_rounding::{Axis, to_mm};
 use std::alloc::{AllocError, Global};

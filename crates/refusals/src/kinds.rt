@@ -5,7 +5,7 @@ ghost use Rattle.fleet_io.specs.Words.{IsWord};
 ghost use Rattle.cue_grid.specs.Faults.{line_of};
 ghost use Rattle.refusals.specs.KindWords.{kind_word, grid_word, axis_word};
 
-use choreo_reader::LineKind;
+use choreo_lines::LineKind;
 use cue_grid::GridFault;
 
 // The word of a kind of faulty lines.

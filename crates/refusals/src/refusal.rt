@@ -11,7 +11,7 @@ use crate::singles::{
     too_large_line, usage_line,
 };
 use crate::studies::{accelerates_line, enters_line, jumps_line, too_fast_line};
-use choreo_reader::{LineKind, Name};
+use choreo_lines::{LineKind, Name};
 use cue_grid::GridFault;
 use fleet_io::ShortLine;
 use fleet_math::Depth;

@@ -7,7 +7,7 @@ ghost use Rattle.refusals.specs.Lines.{refusal, usage_line, too_large_line, show
 
 use crate::builder::begin;
 use crate::kinds::{axis_word, kind_word, line_and_word};
-use choreo_reader::{LineKind, Name};
+use choreo_lines::{LineKind, Name};
 use cue_grid::GridFault;
 use fleet_io::{ShortLine, hex_digit};
 

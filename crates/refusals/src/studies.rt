@@ -7,7 +7,7 @@ ghost use Rattle.refusals.specs.Lines.{accelerates_line, enters_line, excess_lin
 use crate::builder::begin;
 use crate::kinds::axis_word;
 use crate::pairs::parts;
-use choreo_reader::Name;
+use choreo_lines::Name;
 use fleet_io::ShortLine;
 use fleet_math::Depth;
 

@@ -1,7 +1,7 @@
 -- What a command gives, from what its steps do.
 use Rattle.std.proofs.Common.{◌≡◌, inl, inr, ℕ, ◌≤◌, false, List, length, Option, Some, None, Result, Ok, Err, IfOk, IfSome, refl, sym, ap, subst, ◌∙◌, arith}
 use Rattle.std.specs.declared.alloc.AllocError.{AllocError}
-use Rattle.choreo_reader.specs.Plain.{PlainShow}
+use Rattle.choreo_show.specs.Plain.{PlainShow}
 use Rattle.choreo_reader.specs.Grammar.{StandsFor}
 use Rattle.refusals.specs.declared.refusal.Refusal.{Refusal}
 use Rattle.refusals.specs.declared.refusal.Refusal.TheVariants as refusal
@@ -26,7 +26,7 @@ use Rattle.show_judge.specs.Answers.{AnswersInput, AnswersText, AnswersTwo, Ends
 use Rattle.show_judge.specs.Input.{IsShowText, IsText, IsUnmarked, IsWholeText, IsWithin, ReadsShow, ReadsTwo}
 use Rattle.show_judge.specs.Outcome.{IsOutcomeOf, IsSafe, IsVerb, ShowGives, refused, said}
 use Rattle.show_judge.specs.Verb.{FliesApart, Outcome, Verb}
-use Rattle.choreo_reader.specs.declared.show.Settings.{Settings}
+use Rattle.choreo_show.specs.declared.show.Settings.{Settings}
 use Rattle.show_judge.specs.Refused.{IsOfInput, blocked_by, show_refusal}
 use Rattle.fleet_math.specs.Limits.{most_text}
 use Rattle.show_judge.specs.Shows.{Cut, cut_of, nodes_of, sent_of}

@@ -1,7 +1,7 @@
 -- A command that reads a show and writes one text of it.
 use Rattle.std.proofs.Common.{Option, ◌≡◌, ℕ, List, Result, Err, IfOk, refl, sym, ◌∙◌, ap, inl, inr, ◌<◌, IfSome, length, true, false}
 use Rattle.choreo_reader.specs.Laws.{ShowLaw}
-use Rattle.choreo_reader.specs.Plain.{PlainShow}
+use Rattle.choreo_show.specs.Plain.{PlainShow}
 use Rattle.fleet_io.specs.Causes.{Rose}
 use Rattle.fleet_io.specs.Parts.{TakesFewAfter}
 use Rattle.fleet_io.specs.Taken.{TakesFront}

@@ -6,7 +6,7 @@ use Rattle.text_lines.specs.Lines.{between_feeds}
 use Rattle.text_lines.specs.Marker.{has_marker, part_of}
 use Rattle.choreo_reader.specs.Grammar.{StandsFor}
 use Rattle.choreo_reader.specs.Laws.{ShowLaw}
-use Rattle.choreo_reader.specs.Plain.{PlainShow}
+use Rattle.choreo_show.specs.Plain.{PlainShow}
 use Rattle.refusals.specs.declared.refusal.Refusal.{Refusal}
 use Rattle.show_judge.specs.declared.ways.Ways.{Ways}
 use Rattle.show_judge.specs.Headline.{FliesText, SaysOf, UploadsText}

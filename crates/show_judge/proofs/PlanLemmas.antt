@@ -2,9 +2,9 @@
 use Rattle.std.proofs.Common.{◌≡◌, inr, ℕ, ◌≤◌, Bool, true, false, cond, [], length, Option, Some, None, Result, Ok, Err, IfOk, refl, sym, ap, subst, ◌∙◌}
 use Rattle.std.specs.declared.alloc.AllocError.{AllocError}
 use Rattle.fleet_io.specs.declared.parts.Part.{Part}
-use Rattle.choreo_reader.specs.Plain.{PlainShow}
+use Rattle.choreo_show.specs.Plain.{PlainShow}
 use Rattle.choreo_reader.specs.Grammar.{StandsFor}
-use Rattle.choreo_reader.specs.declared.show.Settings.{Settings}
+use Rattle.choreo_show.specs.declared.show.Settings.{Settings}
 use Rattle.cue_grid.specs.Cues.{grid_of}
 use Rattle.show_judge.specs.declared.ways.Ways.{Ways}
 use Rattle.refusals.specs.declared.refusal.Refusal.{Refusal}

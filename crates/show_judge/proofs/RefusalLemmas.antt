@@ -3,9 +3,9 @@ use Rattle.std.proofs.Common.{◌≡◌, ◌⊎◌, inl, inr, ℕ, zero, suc, �
 use Rattle.std.specs.Option.{option_map, option_or}
 use Rattle.std.proofs.lemmas.List.{length-map}
 use Rattle.fleet_io.specs.Words.{IsWord}
-use Rattle.choreo_reader.specs.declared.show.DroneLine.{DroneLine}
-use Rattle.choreo_reader.specs.Valid.{FitDroneLines}
-use Rattle.choreo_reader.specs.Plain.{PlainShow}
+use Rattle.choreo_show.specs.declared.show.DroneLine.{DroneLine}
+use Rattle.choreo_show.specs.Valid.{FitDroneLines}
+use Rattle.choreo_show.specs.Plain.{PlainShow}
 use Rattle.cue_grid.specs.declared.grid.GridFault.{GridFault}
 use Rattle.cue_grid.specs.Cues.{grid_of}
 use Rattle.cue_grid.specs.Faults.{grid_fault}

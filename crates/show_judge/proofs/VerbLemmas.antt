@@ -6,7 +6,7 @@ use Rattle.std.proofs.Common.{arith}
 use Rattle.choreo_reader.specs.Context.{fault}
 use Rattle.choreo_reader.specs.Grammar.{StandsFor}
 use Rattle.choreo_reader.specs.Laws.{ShowLaw}
-use Rattle.choreo_reader.specs.Plain.{PlainShow}
+use Rattle.choreo_show.specs.Plain.{PlainShow}
 use Rattle.refusals.specs.declared.refusal.Refusal.{Refusal}
 use Rattle.show_judge.specs.Outcome.{IsComplete, IsOutcomeOf, IsVerb, OutcomeLaw, ShowGives, said}
 use Rattle.show_judge.specs.Refused.{faulty, show_refusal, text_refusal}

@@ -3,7 +3,7 @@ use Rattle.std.specs.Prelude.{◌≡◌, ◌⊎◌, ℕ, ◌≤◌, false, List,
 use Rattle.std.specs.Io.KnownBytes.{Appends}
 use Rattle.std.specs.declared.alloc.AllocError.{AllocError}
 use Rattle.choreo_reader.specs.Grammar.{StandsFor}
-use Rattle.choreo_reader.specs.Plain.{PlainShow}
+use Rattle.choreo_show.specs.Plain.{PlainShow}
 use Rattle.cue_grid.specs.Cues.{grid_of}
 use Rattle.fleet_io.specs.Causes.{Rose}
 use Rattle.fleet_io.specs.Taken.{AppendsFront}

@@ -2,7 +2,7 @@
 use Rattle.std.specs.Prelude.{◌≢◌, ℕ, nat_lt, List, length, Option, Some, None, Result, Ok, Err, if◌then◌else◌}
 use Rattle.std.specs.Option.{option_map, option_or}
 use Rattle.choreo_lines.specs.Name.{Name}
-use Rattle.choreo_reader.specs.Plain.{PlainShow}
+use Rattle.choreo_show.specs.Plain.{PlainShow}
 use Rattle.choreo_reader.specs.Context.{fault}
 use Rattle.choreo_reader.specs.Text.{Fault}
 use Rattle.cue_grid.specs.Cues.{grid_of}

@@ -1,6 +1,6 @@
 -- What steps of judging a show hand on, which no public contract cites.
 use Rattle.std.specs.Prelude.{◌≡◌, ℕ, Some, None}
-use Rattle.choreo_reader.specs.Plain.{PlainShow}
+use Rattle.choreo_show.specs.Plain.{PlainShow}
 use Rattle.cue_grid.specs.Cues.{grid_of}
 use Rattle.show_judge.specs.declared.ways.Ways.{Ways}
 use Rattle.show_plan.specs.declared.fitted.Fitted.{Fitted}

@@ -1,7 +1,7 @@
 -- A command, by what it reads, gives and promises. Each command has one value of it, in a file of its own.
 use Rattle.std.specs.Prelude.{◌≡◌, ◌≢◌, ℕ, true, false, List, Option, Some, None}
 use Rattle.std.specs.Io.KnownBytes.{Appends}
-use Rattle.choreo_reader.specs.Plain.{PlainShow}
+use Rattle.choreo_show.specs.Plain.{PlainShow}
 use Rattle.cue_grid.specs.Cues.{grid_of}
 use Rattle.refusals.specs.Lines.{read_line}
 use Rattle.show_plan.specs.Flight.{KeepsNearShow}

@@ -1,6 +1,6 @@
 //! A command that reads a show's text and answers for what fits.
 ghost use Rattle.std.specs.Prelude.{◌≡◌, ◌≤◌, Err, IfOk};
-ghost use Rattle.choreo_reader.specs.Plain.{PlainShow};
+ghost use Rattle.choreo_show.specs.Plain.{PlainShow};
 ghost use Rattle.cue_grid.specs.Cues.{grid_of};
 ghost use Rattle.fleet_io.specs.Causes.{Rose};
 ghost use Rattle.fleet_io.specs.Parts.{TakesFewAfter};

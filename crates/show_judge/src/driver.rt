@@ -1,6 +1,6 @@
 //! A command that reads a show's text and writes one text of it.
 ghost use Rattle.std.specs.Prelude.{◌≡◌, ◌≤◌, ℕ, List, Err, IfOk};
-ghost use Rattle.choreo_reader.specs.Plain.{PlainShow};
+ghost use Rattle.choreo_show.specs.Plain.{PlainShow};
 ghost use Rattle.fleet_io.specs.Causes.{Rose};
 ghost use Rattle.fleet_io.specs.Parts.{TakesFewAfter};
 ghost use Rattle.fleet_io.specs.Taken.{TakesFront};

@@ -1,7 +1,7 @@
 //! From a show's text to a show that fits, and to one that nothing refuses.
 ghost use Rattle.std.specs.Prelude.{◌≡◌, ◌≤◌, length, Some, IfOk};
-ghost use Rattle.choreo_reader.specs.Plain.{plain};
-ghost use Rattle.choreo_reader.specs.Valid.{IsValid};
+ghost use Rattle.choreo_show.specs.Plain.{plain};
+ghost use Rattle.choreo_show.specs.Valid.{IsValid};
 ghost use Rattle.show_plan.specs.Fitting.{IsValidFitted};
 ghost use Rattle.show_judge.specs.Answers.{EndsJudged, EndsWell, IsSoundJudged, IsSoundPlan, JudgedGives, PlanGives};
 ghost use Rattle.show_judge.specs.Input.{IsShowText, IsWithin};

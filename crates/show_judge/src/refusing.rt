@@ -3,8 +3,8 @@ ghost use Rattle.std.specs.Prelude.{◌≡◌, ◌<◌, ◌≤◌, length, Some,
 ghost use Rattle.std.specs.List.{All};
 ghost use Rattle.fleet_io.specs.Held.{text_limit};
 ghost use Rattle.fleet_io.specs.Words.{IsWord};
-ghost use Rattle.choreo_reader.specs.Plain.{PlainShow, plain};
-ghost use Rattle.choreo_reader.specs.Valid.{IsValid};
+ghost use Rattle.choreo_show.specs.Plain.{PlainShow, plain};
+ghost use Rattle.choreo_show.specs.Valid.{IsValid};
 ghost use Rattle.refusals.specs.Refusals.{AreNamed};
 ghost use Rattle.show_plan.specs.Fitting.{IsFitted, IsValidFitted, StandsAsWord, plan_fault};
 ghost use Rattle.show_plan.specs.Separation.{FailsBy, blocked_part};

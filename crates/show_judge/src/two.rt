@@ -1,6 +1,6 @@
 //! A command that reads a show's text and a second one, and answers.
 ghost use Rattle.std.specs.Prelude.{◌≡◌, ◌≤◌, ℕ, Err, IfOk, IfSome, length, ◌<◌, false, true, Some};
-ghost use Rattle.choreo_reader.specs.Plain.{PlainShow};
+ghost use Rattle.choreo_show.specs.Plain.{PlainShow};
 ghost use Rattle.fleet_io.specs.Causes.{Rose};
 ghost use Rattle.fleet_io.specs.Held.{text_limit};
 ghost use Rattle.fleet_io.specs.Taken.{TakesFront};

@@ -2,7 +2,7 @@
 use Rattle.std.proofs.Common.{◌≡◌, ℕ, List, [], ◌∷◌, map, sum, All, ap, ◌∙◌}
 use Rattle.std.proofs.lemmas.List.Elements.{All-nil, All-cons, All-head, All-tail}
 use Rattle.choreo_lines.specs.Name.{Name}
-use Rattle.choreo_reader.specs.Plain.{PlainShow}
+use Rattle.choreo_show.specs.Plain.{PlainShow}
 use Rattle.integer_player.specs.Played.{duration_of, play_text}
 use Rattle.traj_codec.specs.declared.traj.Traj.{Traj}
 use Rattle.traj_codec.specs.Joined.{JoinLaw, joined}

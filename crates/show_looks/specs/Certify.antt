@@ -1,6 +1,6 @@
 -- What `certify` gives.
 use Rattle.std.specs.Prelude.{◌≡◌, ℕ, List, Some}
-use Rattle.choreo_reader.specs.Plain.{PlainShow}
+use Rattle.choreo_show.specs.Plain.{PlainShow}
 use Rattle.sep_certificate.specs.Texts.{text_of}
 use Rattle.show_plan.specs.Separation.{best_certificate}
 use Rattle.show_judge.specs.Headline.{SaysOf}

@@ -1,6 +1,6 @@
 -- What `check` gives.
 use Rattle.std.specs.Prelude.{ℕ, List, length}
-use Rattle.choreo_reader.specs.Plain.{PlainShow}
+use Rattle.choreo_show.specs.Plain.{PlainShow}
 use Rattle.show_judge.specs.Shows.{cues_in}
 use Rattle.show_judge.specs.Verb.{Verb, of_show}
 use Rattle.show_looks.specs.Reports.{duration_of, ok_line}

@@ -1,6 +1,6 @@
 -- What `play` gives.
 use Rattle.std.specs.Prelude.{ℕ, List}
-use Rattle.choreo_reader.specs.Plain.{PlainShow}
+use Rattle.choreo_show.specs.Plain.{PlainShow}
 use Rattle.integer_player.specs.Played.{play_text}
 use Rattle.show_judge.specs.Shows.{sent_of, words_of}
 use Rattle.show_judge.specs.Verb.{Verb, of_show}

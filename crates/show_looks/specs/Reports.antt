@@ -2,7 +2,7 @@
 use Rattle.std.specs.Prelude.{ℕ, ◌+◌, List, [], ◌∷◌, length, map, codes, decimal}
 use Rattle.std.specs.List.{sum}
 use Rattle.fleet_io.specs.Words.{line}
-use Rattle.choreo_reader.specs.Plain.{PlainShow}
+use Rattle.choreo_show.specs.Plain.{PlainShow}
 use Rattle.cue_grid.specs.Cues.{grid_of}
 use Rattle.crtp_packets.specs.Chunks.{chunk_count_of}
 use Rattle.traj_codec.specs.declared.traj.Traj.{Traj}

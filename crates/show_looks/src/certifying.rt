@@ -1,6 +1,6 @@
 //! `certify`: the certificate of a show.
 ghost use Rattle.std.specs.Prelude.{◌≡◌, ◌≤◌, Some, IfOk};
-ghost use Rattle.choreo_reader.specs.Plain.{PlainShow};
+ghost use Rattle.choreo_show.specs.Plain.{PlainShow};
 ghost use Rattle.cue_grid.specs.Cues.{grid_of};
 ghost use Rattle.show_plan.specs.Fitting.{IsFitted, IsValidFitted};
 ghost use Rattle.show_plan.specs.Separation.{FlyApart};

@@ -26,7 +26,7 @@ use Rattle.pair_search.specs.Fleets as fleet
 use Rattle.pair_search.specs.Fleets.{nodes_of}
 use Rattle.pair_search.specs.Search.{best_tree, split_of}
 use Rattle.pair_search.proofs.Counted.{few_slots}
-use Rattle.choreo_reader.specs.declared.show.Settings.{Settings}
+use Rattle.choreo_show.specs.declared.show.Settings.{Settings}
 use Rattle.show_plan.specs.declared.fitted.Fitted.{Fitted}
 use Rattle.show_plan.specs.declared.separation.SeparationFault.{SeparationFault}
 use Rattle.show_plan.specs.Fitting.{IsValidFitted}

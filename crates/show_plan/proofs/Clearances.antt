@@ -11,8 +11,8 @@ use Rattle.sep_parts.specs.Apart.{KeepReach, MovesWithin}
 use Rattle.sep_parts.specs.Directions.{IsClearance, reach_on}
 use Rattle.speed_bound.specs.Reach.{IsMoving, ReachLaw, reach_of}
 use Rattle.speed_bound.proofs.Reaches.{reach_few}
-use Rattle.choreo_reader.specs.declared.show.Settings.{Settings}
-use Rattle.choreo_reader.specs.Valid.{FitsSettings}
+use Rattle.choreo_show.specs.declared.show.Settings.{Settings}
+use Rattle.choreo_show.specs.Valid.{FitsSettings}
 use Rattle.show_plan.specs.declared.fitted.Fitted.{Fitted}
 use Rattle.show_plan.specs.Fitting.{IsValidFitted}
 use Rattle.show_plan.specs.Separation.{clearance_of, reach_depth}

@@ -13,7 +13,7 @@ use Rattle.fleet_math.specs.Decoded.{last_value}
 use Rattle.fleet_math.specs.Decoded as plain
 use Rattle.fleet_math.proofs.MomentLemmas.{IsInside, moment-inside}
 use Rattle.choreo_lines.specs.declared.parts.Point.{Point}
-use Rattle.choreo_reader.specs.declared.show.DroneLine.{DroneLine}
+use Rattle.choreo_show.specs.declared.show.DroneLine.{DroneLine}
 use Rattle.cue_grid.specs.declared.grid.Job.{Job}
 use Rattle.cue_grid.specs.declared.grid.Cue.{Cue}
 use Rattle.cue_grid.specs.declared.grid.Grid.{Grid}

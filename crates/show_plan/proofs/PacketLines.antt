@@ -15,7 +15,7 @@ use Rattle.upload_model.proofs.HostSteps.{range-more}
 use Rattle.traj_codec.specs.declared.traj.Traj.{Traj}
 use Rattle.traj_codec.specs.Spelling.{IsEncoding}
 use Rattle.firmware_memory.specs.Decoded.{load_for}
-use Rattle.choreo_reader.specs.declared.show.Settings.{Settings}
+use Rattle.choreo_show.specs.declared.show.Settings.{Settings}
 use Rattle.show_plan.specs.Landing.{session_for}
 use Rattle.show_plan.specs.Steps.{alone}
 use Rattle.show_plan.proofs.PlanLines.{sent_is}

@@ -10,7 +10,7 @@ use Rattle.pair_search.specs.Laws.{IsFirstBlocked}
 use Rattle.pair_search.specs.Fleets as fleet
 use Rattle.pair_search.specs.Search.{blocked_place}
 use Rattle.pair_search.proofs.SearchLaws.{laws}
-use Rattle.choreo_reader.specs.declared.show.Settings.{Settings}
+use Rattle.choreo_show.specs.declared.show.Settings.{Settings}
 use Rattle.show_plan.specs.declared.separation.BlockedPart.{BlockedPart}
 use Rattle.show_plan.specs.Separation.{IsSlotClear, blocked_at, blocked_in, blocked_part, clearance_of, direction_at, measure_of, slots_of, searched}
 use Rattle.show_plan.specs.Steps.{blocked_slot}

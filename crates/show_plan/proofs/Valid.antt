@@ -7,10 +7,10 @@ use Rattle.crtp_packets.specs.declared.chunks.TheConstants.{MEMORY_BYTES}
 use Rattle.fleet_io.specs.Words.{IsWord}
 use Rattle.choreo_lines.specs.Name.{Name, is_name}
 use Rattle.choreo_lines.proofs.Names.{name_has_bytes, name_has_no_line_feed}
-use Rattle.choreo_reader.specs.declared.show.DroneLine.{DroneLine}
-use Rattle.choreo_reader.specs.declared.show.Settings.{Settings}
-use Rattle.choreo_reader.specs.Plain.{PlainShow}
-use Rattle.choreo_reader.specs.Valid.{FitDroneLines, FitsSettings, IsValid}
+use Rattle.choreo_show.specs.declared.show.DroneLine.{DroneLine}
+use Rattle.choreo_show.specs.declared.show.Settings.{Settings}
+use Rattle.choreo_show.specs.Plain.{PlainShow}
+use Rattle.choreo_show.specs.Valid.{FitDroneLines, FitsSettings, IsValid}
 use Rattle.cue_grid.specs.declared.grid.Grid.{Grid}
 use Rattle.cue_grid.specs.declared.grid.GridFault.{GridFault}
 use Rattle.cue_grid.specs.Cues.{grid_of}

@@ -6,9 +6,9 @@ use Rattle.fleet_math.specs.Limits.{most_cues, most_drones}
 use Rattle.crtp_packets.specs.declared.chunks.TheConstants.{MEMORY_BYTES}
 use Rattle.fleet_io.specs.Words.{IsWord}
 use Rattle.choreo_lines.specs.Name.{Name, is_name}
-use Rattle.choreo_reader.specs.declared.show.DroneLine.{DroneLine}
-use Rattle.choreo_reader.specs.Plain.{PlainShow}
-use Rattle.choreo_reader.specs.Valid.{FitsSettings}
+use Rattle.choreo_show.specs.declared.show.DroneLine.{DroneLine}
+use Rattle.choreo_show.specs.Plain.{PlainShow}
+use Rattle.choreo_show.specs.Valid.{FitsSettings}
 use Rattle.cue_grid.specs.declared.grid.GridFault.{GridFault}
 use Rattle.cue_grid.specs.Cues.{grid_of}
 use Rattle.cue_grid.specs.Faults.{grid_fault}

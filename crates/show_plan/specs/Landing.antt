@@ -14,8 +14,8 @@ use Rattle.upload_model.specs.Hosts.{progress}
 use Rattle.upload_model.specs.Sessions.{Upload, load_of}
 use Rattle.upload_model.specs.Theorem.{IsDrone, IsUnaltered, OnlyLoads}
 use Rattle.upload_model.specs.Worlds.{World, world}
-use Rattle.choreo_reader.specs.declared.show.Settings.{Settings}
-use Rattle.choreo_reader.specs.Valid.{FitsSettings}
+use Rattle.choreo_show.specs.declared.show.Settings.{Settings}
+use Rattle.choreo_show.specs.Valid.{FitsSettings}
 use Rattle.show_plan.specs.Fitting.{IsSendable, size}
 use Rattle.show_plan.specs.Flight.{KeepsNearShow, no_trajectory}
 use Rattle.show_plan.specs.Separation.{FlyApart}

@@ -5,7 +5,7 @@ use Rattle.traj_codec.specs.declared.traj.Traj.{Traj}
 use Rattle.sep_parts.specs.declared.slot.Slot.{Slot}
 use Rattle.fleet_curves.specs.Raised.{difference, raised_of}
 use Rattle.pair_search.specs.Laws.{IsFirstBlocked}
-use Rattle.choreo_reader.specs.declared.show.Settings.{Settings}
+use Rattle.choreo_show.specs.declared.show.Settings.{Settings}
 use Rattle.show_plan.specs.Separation.{IsShowClear, IsSlotClear, blocked_at, blocked_part, clearance_of, searched, slots_of}
 
 -- A part of a cue is the first, in the order pair, cue, part, in which no direction separates two drones: each slot before its

@@ -16,7 +16,7 @@ use Rattle.speed_bound.specs.Reach.{reach_of}
 use Rattle.sep_certificate.specs.declared.certificate.Certificate.{Certificate}
 use Rattle.pair_search.specs.Fleets as fleet
 use Rattle.pair_search.specs.Search.{IsClear}
-use Rattle.choreo_reader.specs.declared.show.Settings.{Settings}
+use Rattle.choreo_show.specs.declared.show.Settings.{Settings}
 use Rattle.show_plan.specs.declared.separation.BlockedPart.{BlockedPart}
 use Rattle.show_plan.specs.declared.separation.SeparationFault.{SeparationFault}
 use Rattle.show_plan.specs.declared.separation.SeparationFault.TheVariants as fault

@@ -11,7 +11,7 @@ use Rattle.pair_search.specs.Search.{blocked_place}
 use Rattle.pair_search.specs.Fleets.{nodes_in}
 use Rattle.pair_search.specs.declared.fleet.SearchFault.{SearchFault}
 use Rattle.pair_search.specs.declared.fleet.SearchFault.TheVariants as search
-use Rattle.choreo_reader.specs.declared.show.Settings.{Settings}
+use Rattle.choreo_show.specs.declared.show.Settings.{Settings}
 use Rattle.show_plan.specs.declared.separation.BlockedPart.{BlockedPart}
 use Rattle.show_plan.specs.declared.separation.SeparationFault.{SeparationFault}
 use Rattle.show_plan.specs.declared.separation.SeparationFault.TheVariants as fault

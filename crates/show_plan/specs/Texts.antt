@@ -6,7 +6,7 @@ use Rattle.choreo_lines.specs.Name.{Name}
 use Rattle.traj_codec.specs.declared.traj.Traj.{Traj}
 use Rattle.traj_codec.specs.Spelling.{spelling, ending}
 use Rattle.upload_model.specs.Sessions.{Upload, packet_at, packet_count, write_count}
-use Rattle.choreo_reader.specs.declared.show.Settings.{Settings}
+use Rattle.choreo_show.specs.declared.show.Settings.{Settings}
 use Rattle.show_plan.specs.Landing.{session_for}
 
 -- the bytes that a trajectory is sent as: its spelling, and then the ending

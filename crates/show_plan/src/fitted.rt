@@ -1,6 +1,6 @@
 //! A show that fits, and why a show doesn't.
 
-use choreo_reader::{Listed, Name, Settings};
+use choreo_show::{Listed, Name, Settings};
 use cue_grid::GridFault;
 use figure_expand::AxisValue;
 use std::alloc::AllocError;

@@ -2,8 +2,8 @@
 
 ghost use Rattle.std.specs.Prelude.{◌≡◌, ◌≤◌, Some, None, map, length, IfOk};
 ghost use Rattle.std.specs.List.{All, sum};
-ghost use Rattle.choreo_reader.specs.Plain.{plain};
-ghost use Rattle.choreo_reader.specs.Valid.{IsValid};
+ghost use Rattle.choreo_show.specs.Plain.{plain};
+ghost use Rattle.choreo_show.specs.Valid.{IsValid};
 ghost use Rattle.cue_grid.specs.Cues.{grid_of};
 ghost use Rattle.cue_grid.specs.Faults.{grid_fault};
 ghost use Rattle.cue_grid.specs.Grids.{IsGrid};
@@ -20,7 +20,7 @@ ghost use Rattle.show_plan.specs.Fitting.{AreEncodings, FitGives, IsValidFitted}
 
 use crate::fitted::{FitError, Fitted, PlanFault};
 use choreo_lines::copy_of;
-use choreo_reader::{DroneLine, Listed, Name, Point, Show};
+use choreo_show::{DroneLine, Listed, Name, Point, Show};
 use crtp_packets::MEMORY_BYTES;
 use cue_grid::{Cue, Grid, UnrollError, unroll};
 use figure_expand::{ExpandError, expand, expansion_law};

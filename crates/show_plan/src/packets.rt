@@ -7,7 +7,7 @@ ghost use Rattle.upload_model.specs.Sessions.{packet_at};
 ghost use Rattle.show_plan.specs.Texts.{packet_line, packet_lines, packet_word};
 ghost use Rattle.show_plan.specs.Steps.{alone};
 
-use choreo_reader::Settings;
+use choreo_show::Settings;
 use crtp_packets::{MEMORY_BYTES, Packet, chunk, chunk_count, define, start, write_request};
 use fleet_io::Lines;
 use std::alloc::AllocError;

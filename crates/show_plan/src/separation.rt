@@ -12,7 +12,7 @@ ghost use Rattle.show_plan.specs.Laws.{IsFirstPart, SeparationLaw};
 ghost use Rattle.show_plan.specs.Steps.{FindsNodes, FindsTrees, separation_fault};
 
 use crate::fitted::Fitted;
-use choreo_reader::Listed;
+use choreo_show::Listed;
 use fleet_math::Depth;
 use pair_search::{SearchFault, count_all, search_all, search_law};
 use sep_certificate::{Certificate, Curves, Node, certificate_law};

@@ -14,7 +14,7 @@ ghost use Rattle.show_plan.specs.Texts.{head_line, drone_line, end_line, drone_p
 
 use crate::fitted::Fitted;
 use crate::packets::{put_bytes, put_packets};
-use choreo_reader::{Listed, Name, Settings};
+use choreo_show::{Listed, Name, Settings};
 use crtp_packets::MEMORY_BYTES;
 use fleet_io::Lines;
 use std::alloc::{AllocError, Global};

@@ -4,7 +4,7 @@ use Rattle.std.specs.declared.alloc.AllocError.{AllocError}
 use Rattle.std.proofs.lemmas.List.{drop_all, drop_more}
 use Rattle.std.proofs.lemmas.List.Elements.{All-cons, All-head, All-nil}
 use Rattle.choreo_lines.specs.Name.{Name}
-use Rattle.choreo_reader.specs.Plain.{PlainShow}
+use Rattle.choreo_show.specs.Plain.{PlainShow}
 use Rattle.dynamics_bound.specs.declared.excess.Limits.{Limits}
 use Rattle.dynamics_bound.specs.Lines.{motion_line}
 use Rattle.dynamics_bound.specs.Motions.{KeepsMotion, motion}

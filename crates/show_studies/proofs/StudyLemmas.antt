@@ -4,7 +4,7 @@ use Rattle.std.specs.Prelude.{MatchOption, slice_get}
 use Rattle.std.proofs.lemmas.Int.{ints}
 use Rattle.std.proofs.lemmas.Option.{slice_get-get_or}
 use Rattle.fleet_math.proofs.RingLemmas.{le_mul_ℤ, linear, mul_comm_ℤ}
-use Rattle.choreo_reader.specs.Plain.{PlainShow}
+use Rattle.choreo_show.specs.Plain.{PlainShow}
 use Rattle.keepout_boxes.specs.declared.judging.Judged.{Judged}
 use Rattle.keepout_boxes.specs.declared.judging.Judged.TheVariants.{Kept, Enters}
 use Rattle.keepout_boxes.specs.declared.region.Region.{Region}

@@ -4,8 +4,8 @@ use Rattle.std.specs.Io.KnownBytes.{Appends}
 use Rattle.text_lines.specs.Marker.{part_of, rest_of}
 use Rattle.choreo_lines.specs.Name.{Name}
 use Rattle.choreo_reader.specs.Grammar.{StandsFor}
-use Rattle.choreo_reader.specs.Plain.{PlainShow}
-use Rattle.choreo_reader.specs.declared.show.Settings.{Settings}
+use Rattle.choreo_show.specs.Plain.{PlainShow}
+use Rattle.choreo_show.specs.declared.show.Settings.{Settings}
 use Rattle.fleet_curves.specs.Raised.{raised_of}
 use Rattle.keepout_boxes.specs.declared.judging.Judged.{Judged}
 use Rattle.keepout_boxes.specs.declared.judging.Judged.TheVariants.{Kept, Enters}

@@ -5,7 +5,7 @@ use Rattle.std.specs.Io.KnownBytes.{Appends}
 use Rattle.std.specs.Option.{option_map, option_or}
 use Rattle.choreo_lines.specs.Name.{Name}
 use Rattle.choreo_reader.specs.Grammar.{StandsFor}
-use Rattle.choreo_reader.specs.Plain.{PlainShow}
+use Rattle.choreo_show.specs.Plain.{PlainShow}
 use Rattle.cue_grid.specs.Cues.{grid_of}
 use Rattle.dynamics_bound.specs.declared.excess.Excess.{Excess}
 use Rattle.dynamics_bound.specs.declared.excess.Kind.{Kind}

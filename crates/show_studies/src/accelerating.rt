@@ -1,6 +1,6 @@
 //! `dynamics`: how fast the speeds of a show's drones change at most, and where they jump.
 ghost use Rattle.std.specs.Prelude.{◌≡◌, ◌≤◌, length, None, All, IfNone, IfOk, IfSome};
-ghost use Rattle.choreo_reader.specs.Plain.{PlainShow};
+ghost use Rattle.choreo_show.specs.Plain.{PlainShow};
 ghost use Rattle.dynamics_bound.specs.Excesses.{IsWithinLimits};
 ghost use Rattle.dynamics_bound.specs.Motions.{KeepsMotion};
 ghost use Rattle.fleet_io.specs.Words.{IsWord};

@@ -1,6 +1,6 @@
 //! `explain`: why a show is refused, and where its drones come close.
 ghost use Rattle.std.specs.Prelude.{◌≡◌, ◌≤◌, length, None, IfOk, MatchOption};
-ghost use Rattle.choreo_reader.specs.Plain.{PlainShow};
+ghost use Rattle.choreo_show.specs.Plain.{PlainShow};
 ghost use Rattle.show_plan.specs.Fitting.{IsFitted, IsValidFitted};
 ghost use Rattle.show_plan.specs.Separation.{FlyApart, blocked_part};
 ghost use Rattle.cue_grid.specs.Cues.{grid_of};

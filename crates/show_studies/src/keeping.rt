@@ -1,6 +1,6 @@
 //! `boxes`: whether the drones of a show keep out of boxes and in volumes.
 ghost use Rattle.std.specs.Prelude.{◌≡◌, ◌<◌, ◌≤◌, length, All, IfOk, IfSome};
-ghost use Rattle.choreo_reader.specs.Plain.{PlainShow};
+ghost use Rattle.choreo_show.specs.Plain.{PlainShow};
 ghost use Rattle.fleet_math.specs.Limits.{most_text};
 ghost use Rattle.show_judge.specs.Shows.{Cut};
 ghost use Rattle.fleet_io.specs.Causes.{Rose};

@@ -1,6 +1,6 @@
 //! `speed`: how fast the drones of a show are at most.
 ghost use Rattle.std.specs.Prelude.{◌≡◌, ◌≤◌, ◌++◌, ℕ, pos, true, length, None, All, IfOk, IfSome};
-ghost use Rattle.choreo_reader.specs.Plain.{PlainShow};
+ghost use Rattle.choreo_show.specs.Plain.{PlainShow};
 ghost use Rattle.fleet_io.specs.Words.{IsWord, is_line_empty};
 ghost use Rattle.show_plan.specs.Fitting.{IsFitted, IsSendable, IsValidFitted, StandsAsWord};
 ghost use Rattle.speed_bound.specs.Speed.{KeepsSpeed, speed};

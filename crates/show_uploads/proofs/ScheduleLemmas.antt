@@ -8,8 +8,8 @@ use Rattle.std.proofs.lemmas.Bool.{le-ltb}
 use Rattle.std.proofs.lemmas.List.{length-map}
 use Rattle.std.proofs.lemmas.List.Elements.{All-head, All-map, All-tail, All-weaker}
 use Rattle.choreo_lines.specs.Name.{Name}
-use Rattle.choreo_reader.specs.Plain.{PlainShow}
-use Rattle.choreo_reader.specs.declared.show.Settings.{Settings}
+use Rattle.choreo_show.specs.Plain.{PlainShow}
+use Rattle.choreo_show.specs.declared.show.Settings.{Settings}
 use Rattle.crtp_packets.specs.Reading.{up_of}
 use Rattle.crtp_packets.specs.declared.reading.PacketFault.{PacketFault}
 use Rattle.crtp_packets.specs.declared.reading.Up.{Up}

@@ -6,7 +6,7 @@ use Rattle.std.proofs.lemmas.List.Elements.{All-cons, All-contains, All-nil}
 use Rattle.text_lines.specs.Marker.{part_of, rest_of}
 use Rattle.choreo_reader.specs.Grammar.{StandsFor}
 use Rattle.choreo_reader.specs.Laws.{ShowLaw}
-use Rattle.choreo_reader.specs.Plain.{PlainShow}
+use Rattle.choreo_show.specs.Plain.{PlainShow}
 use Rattle.fleet_io.specs.Causes.{Rose}
 use Rattle.fleet_io.specs.declared.parts.Part.{Part}
 use Rattle.fleet_io.specs.Held.{has_whole_marker}
@@ -24,7 +24,7 @@ use Rattle.show_judge.specs.declared.judging.Accepted.{Accepted}
 use Rattle.show_plan.specs.declared.fitted.Fitted.{Fitted}
 use Rattle.show_plan.specs.Fitting.{IsFitted}
 use Rattle.show_plan.specs.Landing.{session_for}
-use Rattle.choreo_reader.specs.declared.show.Settings.{Settings}
+use Rattle.choreo_show.specs.declared.show.Settings.{Settings}
 use Rattle.traj_codec.specs.declared.traj.Traj.{Traj}
 use Rattle.upload_core.specs.HostState.{HostState}
 use Rattle.show_judge.specs.declared.input.Text.TheVariants.{Whole}

@@ -1,7 +1,7 @@
 -- The laws of `upload`.
 use Rattle.std.proofs.Common.{◌≡◌, ◌==◌, Bool, [], ◌++◌, length, refl, arith}
 use Rattle.std.proofs.lemmas.List.Elements.{All-nil}
-use Rattle.choreo_reader.specs.Plain.{PlainShow}
+use Rattle.choreo_show.specs.Plain.{PlainShow}
 use Rattle.link_frames.specs.Frames.{end_frame}
 use Rattle.link_upload.specs.Sends.{events_in, sent_over}
 use Rattle.link_upload.specs.Uploads.{EndsWith, UploadGives, UploadLaw, frame_limit}

@@ -1,7 +1,7 @@
 -- From a show's text to the host of its upload, which no public contract cites.
 use Rattle.std.specs.Prelude.{◌≡◌, ℕ, ◌≤◌, Bool, true, false, List, [], length, Option, Some, None, IfSome}
 use Rattle.text_lines.specs.Marker.{rest_of}
-use Rattle.choreo_reader.specs.Plain.{PlainShow}
+use Rattle.choreo_show.specs.Plain.{PlainShow}
 use Rattle.choreo_reader.specs.Grammar.{StandsFor}
 use Rattle.fleet_io.specs.Held.{Held}
 use Rattle.fleet_io.specs.Parts.{TakesMarked}

@@ -1,6 +1,6 @@
 -- What is uploaded of a show.
 use Rattle.std.specs.Prelude.{Bool}
-use Rattle.choreo_reader.specs.Plain.{PlainShow}
+use Rattle.choreo_show.specs.Plain.{PlainShow}
 use Rattle.link_upload.specs.Links.{Link, link_of}
 use Rattle.show_plan.specs.Landing.{session_for}
 use Rattle.upload_model.specs.Sessions.{Upload as Session}

@@ -1,7 +1,7 @@
 -- What a certificate gives for a show.
 use Rattle.std.proofs.Common.{◌≡◌, List, Option, ap, sym, ◌∙◌}
 use Rattle.choreo_lines.specs.Name.{Name}
-use Rattle.choreo_reader.specs.Plain.{PlainShow}
+use Rattle.choreo_show.specs.Plain.{PlainShow}
 use Rattle.sep_parts.specs.declared.clearance.Clearance.{Clearance}
 use Rattle.sep_parts.specs.Versions.{table_of}
 use Rattle.fleet_curves.specs.Raised.{Raised, raised_of}

@@ -13,8 +13,8 @@ use Rattle.fleet_io.specs.Taken.{TakesFront}
 use Rattle.fleet_io.specs.declared.parts.Ask.{Ask}
 use Rattle.fleet_io.specs.declared.parts.Ask.TheVariants as ask
 use Rattle.choreo_lines.specs.Name.{Name}
-use Rattle.choreo_reader.specs.Plain.{PlainShow}
-use Rattle.choreo_reader.specs.declared.show.Settings.{Settings}
+use Rattle.choreo_show.specs.Plain.{PlainShow}
+use Rattle.choreo_show.specs.declared.show.Settings.{Settings}
 use Rattle.fleet_curves.specs.Raised.{CurvesStandFor, Raised, raised_of}
 use Rattle.traj_codec.specs.declared.traj.Traj.{Traj}
 use Rattle.sep_parts.specs.declared.clearance.Clearance.{Clearance}

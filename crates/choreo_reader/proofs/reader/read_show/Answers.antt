@@ -1,8 +1,8 @@
 use Rattle.std.proofs.Common.{ℕ, List, ap, subst, ◌∙◌, Result, Ok, Err}
 use Rattle.std.specs.Prelude.{IfOk}
-use Rattle.choreo_reader.specs.Plain.{PlainShow, plain}
+use Rattle.choreo_show.specs.Plain.{PlainShow, plain}
 use Rattle.choreo_reader.specs.Grammar.{StandsFor}
-use Rattle.choreo_reader.specs.Valid.{IsValid}
+use Rattle.choreo_show.specs.Valid.{IsValid}
 use Rattle.choreo_reader.specs.Text.{Fault}
 use Rattle.choreo_reader.specs.Context.{fault}
 use Rattle.choreo_reader.specs.Reading.{reading}
@@ -13,7 +13,7 @@ use Rattle.choreo_reader.proofs.ValidShow.{valid}
 use Rattle.choreo_reader.proofs.Faulty.{faulty, fault_in}
 use Rattle.choreo_reader.specs.declared.fault.ShowFault.{ShowFault}
 use Rattle.choreo_reader.specs.declared.fault.ShowFault.TheVariants as failing
-use Rattle.choreo_reader.specs.declared.show.Show.{Show}
+use Rattle.choreo_show.specs.declared.show.Show.{Show}
 use Rattle.choreo_reader.proofs.reader.read_show.Goals as goal
 
 pub returns-clause-only : goal.returns-clause-only

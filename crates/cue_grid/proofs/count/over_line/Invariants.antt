@@ -1,5 +1,5 @@
 use Rattle.std.proofs.Common.{◌≡◌, ◌≤◌, drop}
-use Rattle.choreo_reader.specs.Plain.{body_of}
+use Rattle.choreo_show.specs.Plain.{body_of}
 use Rattle.cue_grid.specs.Shown.{shown}
 use Rattle.fleet_math.specs.Limits.{most_cues}
 use Rattle.cue_grid.specs.Counts.{over_at}

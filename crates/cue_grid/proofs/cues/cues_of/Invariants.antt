@@ -1,5 +1,5 @@
 use Rattle.std.proofs.Common.{◌≡◌, take}
-use Rattle.choreo_reader.specs.Plain.{body_of}
+use Rattle.choreo_show.specs.Plain.{body_of}
 use Rattle.cue_grid.specs.Cues.{body_cues}
 use Rattle.cue_grid.specs.Shown.{shown}
 use Rattle.cue_grid.proofs.cues.cues_of.Given as goal

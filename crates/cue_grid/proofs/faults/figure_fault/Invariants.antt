@@ -1,5 +1,5 @@
 use Rattle.std.proofs.Common.{◌≡◌, [], drop, take, map}
-use Rattle.choreo_reader.specs.Plain.{figure_of as plain_figure}
+use Rattle.choreo_show.specs.Plain.{figure_of as plain_figure}
 use Rattle.cue_grid.specs.Numbers.{figure_names}
 use Rattle.cue_grid.specs.Shown.{shown}
 use Rattle.cue_grid.specs.Steps.{first_of}

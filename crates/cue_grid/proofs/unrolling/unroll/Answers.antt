@@ -1,5 +1,5 @@
 use Rattle.std.proofs.Common.{◌≡◌, ap, sym, ◌∙◌}
-use Rattle.choreo_reader.specs.Plain.{plain}
+use Rattle.choreo_show.specs.Plain.{plain}
 use Rattle.cue_grid.specs.Cues.{cues_of}
 use Rattle.cue_grid.specs.Faults.{grid_fault}
 use Rattle.cue_grid.specs.Shown.{shown}

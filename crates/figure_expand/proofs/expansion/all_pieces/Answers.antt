@@ -1,7 +1,7 @@
 use Rattle.std.proofs.Common.{refl, sym, subst}
 use Rattle.std.specs.List.{All}
-use Rattle.choreo_reader.specs.Valid.{FitsPoint}
-use Rattle.choreo_reader.specs.declared.show.DroneLine.{DroneLine}
+use Rattle.choreo_show.specs.Valid.{FitsPoint}
+use Rattle.choreo_show.specs.declared.show.DroneLine.{DroneLine}
 use Rattle.figure_expand.specs.Expanded.{expanded}
 use Rattle.figure_expand.proofs.Reach.{start_in_reach}
 use Rattle.figure_expand.proofs.expansion.all_pieces.Goals as goal

@@ -1,8 +1,8 @@
 use Rattle.std.proofs.Common.{◌≡◌, ℕ, ◌-◌, ◌≤◌, ◌∙◌, List, length, map, sum, refl, sym, ap, subst, arith}
 use Rattle.std.specs.List.{All}
 use Rattle.crtp_packets.specs.declared.chunks.TheConstants.{MEMORY_BYTES}
-use Rattle.choreo_reader.specs.Plain.{plain}
-use Rattle.choreo_reader.specs.declared.show.DroneLine.{DroneLine}
+use Rattle.choreo_show.specs.Plain.{plain}
+use Rattle.choreo_show.specs.declared.show.DroneLine.{DroneLine}
 use Rattle.traj_codec.specs.declared.traj.Traj.{Traj}
 use Rattle.figure_expand.specs.Flown.{StartsWell, RoundsWell}
 use Rattle.cue_grid.specs.declared.grid.Cue.{Cue}

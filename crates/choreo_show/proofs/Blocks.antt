@@ -1,14 +1,16 @@
 -- The blocks of a body, seen without where they lie in memory.
-use Rattle.std.proofs.Common.{◌≡◌, ℕ, List, [], ◌∷◌, ◌++◌, refl, sym, ap, ◌∙◌}
-use Rattle.choreo_reader.specs.Plain as plain
-use Rattle.choreo_reader.specs.Plain.{Body, ◌⨾◌, block_of, block_step, blocks_then, body_of}
+use Rattle.std.proofs.Common.{◌≡◌, ℕ, suc, true, false, List, [], ◌∷◌, ◌++◌, length, refl, sym, ap, ◌∙◌}
+use Rattle.std.specs.Prelude.{◌==◌, not}
+use Rattle.std.proofs.Math.Dec.{eqb-suc-zero}
+use Rattle.choreo_show.specs.Plain as plain
+use Rattle.choreo_show.specs.Plain.{Body, ◌⨾◌, block_of, block_step, blocks_then, body_of, has_block}
 use Rattle.choreo_lines.specs.Name.{Name}
-use Rattle.choreo_reader.specs.declared.show.Block.{Block, Block-F}
-use Rattle.choreo_reader.specs.declared.show.Block.TheOpen as layer
-use Rattle.choreo_reader.specs.declared.show.Block.TheVariants as block
-use Rattle.choreo_reader.specs.declared.show.Block.TheViews.{out-Block, roll-Block}
-use Rattle.choreo_reader.specs.declared.show.Block.TheFolds.{fold-roll-Block, fold_out-Block, map-Block}
-use Rattle.choreo_reader.specs.declared.show.ActLine.{ActLine}
+use Rattle.choreo_show.specs.declared.show.Block.{Block, Block-F}
+use Rattle.choreo_show.specs.declared.show.Block.TheOpen as layer
+use Rattle.choreo_show.specs.declared.show.Block.TheVariants as block
+use Rattle.choreo_show.specs.declared.show.Block.TheViews.{out-Block, roll-Block}
+use Rattle.choreo_show.specs.declared.show.Block.TheFolds.{fold-roll-Block, fold_out-Block, map-Block}
+use Rattle.choreo_show.specs.declared.show.ActLine.{ActLine}
 use Rattle.choreo_lines.specs.declared.parts.Frame.{Frame}
 use Rattle.std.specs.Prelude.{Vec}
 use Rattle.std.specs.declared.alloc.Global.{Global}
@@ -63,3 +65,18 @@ body_push (a ∷ bs) b =
     ∙ ap (λ c. block_of a plain.Done ⨾ c) (body_push bs b)
     ∙ sym (body_assoc (block_of a plain.Done) (body_of bs) (block_of b plain.Done))
     ∙ ap (λ c. c ⨾ block_of b plain.Done) (sym (block_then a (body_of bs)))
+
+suc_not_zero : (n : ℕ) → (suc n == 0) ≡ false
+suc_not_zero n = eqb-suc-zero n
+
+step_has : (x : Block-F (Body → Body)) (rest : Body) → has_block (block_step x rest) ≡ true
+step_has (layer.Cue line ms acts) rest = refl
+step_has (layer.Repeat line times v) rest = refl
+step_has (layer.Perform line figure frame drones) rest = refl
+
+-- a body is empty where its list of blocks is
+pub blocks_none : (bs : List Block) → not (has_block (body_of bs)) ≡ (length bs == 0)
+blocks_none [] = refl
+blocks_none (b ∷ bs) =
+    ap not (ap (λ (f : Body → Body). has_block (f (body_of bs))) (block_out b) ∙ step_has (map-Block Block (Body → Body) block_of (out-Block b)) (body_of bs))
+    ∙ sym (suc_not_zero (length bs))

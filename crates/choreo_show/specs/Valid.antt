@@ -1,20 +1,20 @@
 -- Which shows are valid: those whose lines, names, numbers and counts are as the language lets them be.
 use Rattle.std.specs.Prelude.{ℕ, ◌+◌, ◌==◌, if◌then◌else◌, ◌<◌, ◌≤◌, ℤ, pos, neg_ℤ, ◌≤ℤ◌, List, [], ◌∷◌, ◌++◌, map, length, IsTrue}
 use Rattle.fleet_math.specs.Limits.{most_drones}
-use Rattle.choreo_reader.specs.Plain as plain
+use Rattle.choreo_show.specs.Plain as plain
 use Rattle.choreo_lines.specs.Name.{Name}
-use Rattle.choreo_reader.specs.Plain.{Body, PlainFigure, PlainShow, has_block, most_nested}
+use Rattle.choreo_show.specs.Plain.{Body, PlainFigure, PlainShow, has_block, most_nested}
 use Rattle.choreo_lines.specs.Name.{is_name}
-use Rattle.choreo_reader.specs.Grammar.{is_filled, depth, fits_figure}
+use Rattle.choreo_show.specs.Shape.{is_filled, depth, fits_figure}
 use Rattle.choreo_lines.specs.declared.parts.Act.{Act}
 use Rattle.choreo_lines.specs.declared.parts.Act.TheVariants as act
-use Rattle.choreo_reader.specs.declared.show.ActLine.{ActLine}
-use Rattle.choreo_reader.specs.declared.show.ActLine.TheVariants as on
+use Rattle.choreo_show.specs.declared.show.ActLine.{ActLine}
+use Rattle.choreo_show.specs.declared.show.ActLine.TheVariants as on
 use Rattle.choreo_lines.specs.declared.parts.Point.{Point}
 use Rattle.choreo_lines.specs.declared.parts.Frame.{Frame}
-use Rattle.choreo_reader.specs.declared.show.DroneLine.{DroneLine}
-use Rattle.choreo_reader.specs.declared.show.Formation.{Formation}
-use Rattle.choreo_reader.specs.declared.show.Settings.{Settings}
+use Rattle.choreo_show.specs.declared.show.DroneLine.{DroneLine}
+use Rattle.choreo_show.specs.declared.show.Formation.{Formation}
+use Rattle.choreo_show.specs.declared.show.Settings.{Settings}
 
 -- a name as the language has it
 abbrev pub IsName : Name → Type 0
