@@ -18,6 +18,7 @@ use crate::judging::{Accepted, Judged, accept};
 use crate::ways::Ways;
 use choreo_reader::show_law;
 use fleet_io::{Sink, Source};
+use fleet_math::Depth;
 use std::alloc::{AllocError, Global};
 
 /// A command that reads a show's text and writes one text of it.

@@ -22,6 +22,7 @@ use crate::judging::{Accepted, Judged, accept};
 use crate::ways::Ways;
 use choreo_reader::show_law;
 use fleet_io::{Sink, Source};
+use fleet_math::Depth;
 use refusals::Refusal;
 use show_plan::Fitted;
 use std::alloc::{AllocError, Global};

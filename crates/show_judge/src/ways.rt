@@ -1,9 +1,9 @@
-
-use fleet_math::Depth;
 //! What a command reads, and how far it searches.
 
+use fleet_math::Depth;
+
 /// What a command reads, and how far it searches. Each command has one of its own.
-#[derive(Clone, Copy, Debug, PartialEq, Eq)]
+#[derive(Clone, Copy)]
 pub struct Ways {
     /// It reads its input.
     pub reads: bool,

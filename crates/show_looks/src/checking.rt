@@ -25,7 +25,7 @@ impl OneText for CheckVerb {
 
     ghost text = { λ c. check_text };
 
-    fn depth(&self) -> u8 {
+    fn depth(&self) -> Depth {
         self.depth
     }
 

@@ -25,7 +25,7 @@ impl OneText for CompileVerb {
 
     ghost text = { λ c. plan_of };
 
-    fn depth(&self) -> u8 {
+    fn depth(&self) -> Depth {
         self.depth
     }
 

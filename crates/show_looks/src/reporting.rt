@@ -28,7 +28,7 @@ impl OneText for ReportVerb {
 
     ghost text = { λ c s. report_text (report_of s c.depth) };
 
-    fn depth(&self) -> u8 {
+    fn depth(&self) -> Depth {
         self.depth
     }
 

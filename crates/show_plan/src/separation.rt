@@ -4,6 +4,7 @@ ghost use Rattle.std.specs.Prelude.{◌≡◌, ◌≤◌, ℕ, [], Err, IfOk, Is
 ghost use Rattle.sep_parts.specs.Directions.{IsClearance};
 ghost use Rattle.sep_parts.specs.Apart.{KeepReach};
 ghost use Rattle.sep_parts.specs.declared.slot.Slot.{Slot};
+ghost use Rattle.fleet_math.specs.Limits.{most_depth};
 ghost use Rattle.fleet_curves.specs.Raised.{raised_of};
 ghost use Rattle.sep_certificate.specs.Certificates.{IsWhole, IsValid};
 ghost use Rattle.show_plan.specs.Fitting.{IsValidFitted};
@@ -100,7 +101,8 @@ fn trees_of(
     depth: Depth,
 ) -> Result<Listed<Listed<Node>>, SeparationFault>
     requires clearance { IsClearance clearance }
-    ensures { FindsTrees clearance depth curves.now result }
+    ensures finds { FindsTrees clearance depth curves.now result }
+    ensures shallow { depth ≤ most_depth }
 {
     match search_all(alloc, curves, &ruler_of(clearance), depth.levels()) {
         Ok(trees) => Ok(trees),
@@ -116,7 +118,8 @@ fn nodes_of(
     depth: Depth,
 ) -> Result<u32, SeparationFault>
     requires clearance { IsClearance clearance }
-    ensures { FindsNodes clearance depth curves.now result }
+    ensures finds { FindsNodes clearance depth curves.now result }
+    ensures shallow { depth ≤ most_depth }
 {
     match count_all(alloc, curves, &ruler_of(clearance), depth.levels()) {
         Ok(count) => Ok(count),

@@ -153,7 +153,7 @@ impl TwoTexts for Rehearsal {
 
     ghost searched = { λ c. c.depth };
 
-    fn depth(&self) -> u8 {
+    fn depth(&self) -> Depth {
         self.depth
     }
 

@@ -13,13 +13,13 @@ counted : (c : goal.After-drop-curves-inside) → IsOk c.nodes_of.result → IsC
 counted c ok =
     let reach : KeepReach (clearance_of c.args.f.now.settings c.args.f.now.trajs) c.args.f.now.trajs =
     subst (λ (clear : Clearance). KeepReach clear c.args.f.now.trajs) c.clearance_of-clearance.ensures.exact c.clearance_of-clearance.ensures.reach in
-    let finds = subst (λ (clear : Clearance). FindsNodes clear c.args.depth c.in_ok-curves.curves c.nodes_of.result) c.clearance_of-clearance.ensures.exact c.nodes_of.ensures in
+    let finds = subst (λ (clear : Clearance). FindsNodes clear c.args.depth c.in_ok-curves.curves c.nodes_of.result) c.clearance_of-clearance.ensures.exact c.nodes_of.ensures.finds in
     let is = c.in_ok-curves.ensures.exact ∙ ap (λ (ts : List Traj). raised_of ts) c.as_slice.ensures in
     let gives = count_gives c.args.f.now.settings c.args.depth c.args.f.now.trajs c.in_ok-curves.curves c.nodes_of.result is finds in
     let stands =
     subst (λ (curves : Raised). CurvesStandFor curves c.args.f.now.trajs) is
     (subst (λ (ts : List Traj). CurvesStandFor c.in_ok-curves.curves ts) c.as_slice.ensures c.in_ok-curves.ensures.stands) in
-    count_certified c.args.f.now.settings c.args.depth c.args.f.now.trajs c.nodes_of.result c.search_law.ensures c.certificate_law.ensures c.requires.depth stands reach gives ok
+    count_certified c.args.f.now.settings c.args.depth c.args.f.now.trajs c.nodes_of.result c.search_law.ensures c.certificate_law.ensures c.nodes_of.ensures.shallow stands reach gives ok
 
 pub returns-clause-clear : goal.returns-clause-clear
 returns-clause-clear c ok = (counted c ok).clear
