@@ -2,7 +2,7 @@
 use Rattle.std.specs.Prelude.{◌≡◌, ◌↔◌, ℕ, ◌≤◌, Bool, ◌&&◌, not, List, [], ◌∷◌, ◌++◌, length, find, is_some, nat_le, bytes_eq, codes, slice_index_or, slice_set, Option, Some, None, IfSome, unwrap_or, if◌then◌else◌, ◌==◌}
 use Rattle.std.specs.Option.{option_map, option_and_then}
 use Rattle.std.specs.List.{list_any}
-use Rattle.fleet_math.specs.Limits.{most_depth, most_drones}
+use Rattle.fleet_math.specs.Limits.{most_depth, most_drones, most_fine}
 use Rattle.text_lines.specs.Numbers.{natural_of}
 use Rattle.command_words.specs.declared.command.Command.{Command}
 use Rattle.command_words.specs.declared.command.Command.TheVariants.{Help, Version, Check, Compile, Certify, Play, Report, Verify, Rehearse, Upload, Drill, Boxes, Speed, Explain, Dynamics}
@@ -32,12 +32,9 @@ most_limit = 999999999
 abbrev pub most_bound : ℕ
 most_bound = 999999999
 
--- how finely a cue is listed where no option says it, and the finest: into 2 ^ fine parts
+-- how finely a cue is listed where no option says it: into 2 ^ fine parts
 abbrev pub default_fine : ℕ
 default_fine = 5
-
-abbrev pub most_fine : ℕ
-most_fine = 5
 
 -- the most digits of a number on the command line
 abbrev pub most_digits : ℕ
@@ -240,7 +237,7 @@ IsCommand (Upload depth start readback) = Unit {0}
 IsCommand (Drill drones depth) = (1 ≤ drones) × (drones ≤ most_drones)
 IsCommand (Boxes depth) = Unit {0}
 IsCommand (Speed depth limit) = IfSome limit (λ v. (1 ≤ v) × (v ≤ most_limit))
-IsCommand (Explain depth fine) = (fine ≤ most_fine)
+IsCommand (Explain depth fine) = Unit {0}
 IsCommand (Dynamics depth accel jump) = IfSome accel (λ a. a ≤ most_bound) × IfSome jump (λ j. j ≤ most_bound)
 
 -- ---- what that means

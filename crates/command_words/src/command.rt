@@ -5,7 +5,7 @@ ghost use Rattle.command_words.specs.Commands.{IsCommand, command_of, drill_in, 
 ghost use Rattle.command_words.specs.declared.options.Options.{Options};
 
 use crate::options::{OptionName, number_from, options_for};
-use fleet_math::{Depth, MOST_DRONES};
+use fleet_math::{Depth, Fine, MOST_DRONES};
 
 /// What the program is asked for. `depth` says into how small parts a cue is cut: at most into 2^depth.
 /// `start` says whether the drones are started, `readback` whether the memories are read back before that. The forms are those of [`help_text`].
@@ -65,10 +65,10 @@ pub enum Command {
         limit: Option<u32>,
     },
     /// Why the show is refused: its first blocked part, and where two drones come closest and touch among the instants that cut
-    /// each cue into 2^`fine` parts, 0 to 5.
+    /// each cue into 2^`fine` parts.
     Explain {
         depth: Depth,
-        fine: u8,
+        fine: Fine,
     },
     /// How fast the speeds of its drones change at most and where they jump, and whether that is within `accel` millimetres per second
     /// squared and `jump` millimetres per second, each 0 to 999,999,999.

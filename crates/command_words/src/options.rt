@@ -4,7 +4,7 @@ ghost use Rattle.command_words.specs.Commands as commands;
 ghost use Rattle.command_words.specs.Commands.{depth_in, fine_in, given_in, has, most_limit, no_options, noted, options_for, place_of, range_of, step_in, takes, word_of};
 ghost use Rattle.command_words.specs.Steps.{AreInRange, IsInRange};
 
-use fleet_math::{Depth, MOST_DEPTH};
+use fleet_math::{Depth, Fine, MOST_DEPTH, MOST_FINE};
 use text_lines::natural;
 
 // The depth where no option names one.
@@ -24,9 +24,6 @@ const MOST_BOUND: u32 = 999_999_999;
 
 // How finely a cue is listed where no option says it.
 const DEFAULT_FINE: u32 = 5;
-
-// The finest.
-const MOST_FINE: u32 = 5;
 
 // The most digits of a number on the command line.
 const MOST_DIGITS: usize = 9;
@@ -95,7 +92,7 @@ impl OptionName {
             OptionName::Depth => (0, u32::from(MOST_DEPTH)),
             OptionName::Step => (1, MOST_STEP),
             OptionName::Limit => (1, MOST_LIMIT),
-            OptionName::Fine => (0, MOST_FINE),
+            OptionName::Fine => (0, u32::from(MOST_FINE)),
             OptionName::Accel | OptionName::Jump => (0, MOST_BOUND),
             OptionName::Start | OptionName::Readback => return None,
         };
@@ -211,13 +208,12 @@ impl Options {
         self.given(OptionName::Step).unwrap_or(DEFAULT_STEP) as u16
     }
 
-    /// How finely a cue is listed, 0 to 5; 5 where it isn't given.
-    pub fn fine(self) -> u8
+    /// How finely a cue is listed; 5 where it isn't given.
+    pub fn fine(self) -> Fine
         requires { AreInRange self }
-        ensures value { result ≡ fine_in self }
-        ensures most { result ≤ 5 }
+        ensures { result ≡ fine_in self }
     {
-        self.given(OptionName::Fine).unwrap_or(DEFAULT_FINE) as u8
+        Fine::make(self.given(OptionName::Fine).unwrap_or(DEFAULT_FINE) as u8)
     }
 
     /// The limit on speeds, if it is given, in micrometres per second.

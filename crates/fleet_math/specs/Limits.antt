@@ -16,3 +16,7 @@ most_text = 1048576
 -- how often a segment is halved at most
 abbrev pub most_depth : ℕ
 most_depth = 8
+
+-- how often a cue is halved at most to list its instants
+abbrev pub most_fine : ℕ
+most_fine = 5

@@ -6,9 +6,10 @@ ghost use Rattle.traj_codec.specs.Positions.{durations};
 ghost use Rattle.fleet_curves.specs.Raised.{AreOneShow};
 
 use crate::flights::{three_legs, two_legs};
+use fleet_math::Fine;
 use std::alloc::{AllocError, Global};
 use std::test::Fail;
-use touch_witness::{Closest, Touch, closest, first_touch};
+use touch_witness::{Axes, Closest, Touch, closest, first_touch};
 use traj_codec::Traj;
 
 fn fleet(
@@ -34,7 +35,7 @@ fn lone(alloc: Global, places: [[i16; 3]; 3]) -> Result<Vec<Traj>, AllocError>
 #[test]
 fn alone(rt: HostRuntime) -> Result<(), Fail> {
     let trajs = lone(rt.alloc(), [[0, 0, 1000], [0, 0, 1000], [1000, 0, 1000]])?;
-    assert!(rt; closest(&trajs, 120, 300, 5).is_none());
+    assert!(rt; closest(&trajs, Axes { r: 120, h: 300 }, Fine::make(5)).is_none());
     Ok(())
 }
 
@@ -124,8 +125,8 @@ fn of_two_drones(rt: HostRuntime) -> Result<(), Fail> {
         let trajs = fleet(rt.alloc(), first, second)?;
         let h = h.max(1).min(2000);
         let found = (
-            touch_of(first_touch(&trajs, 120, h, fine.min(5))),
-            closest_of(closest(&trajs, 120, h, fine.min(5))),
+            touch_of(first_touch(&trajs, Axes { r: 120, h }, Fine::make(fine.min(5)))),
+            closest_of(closest(&trajs, Axes { r: 120, h }, Fine::make(fine.min(5)))),
         );
         assert!(rt; found == (touch, near), "with {h} and {fine}");
     }
@@ -153,8 +154,8 @@ fn up_past_and_down(rt: HostRuntime) -> Result<(), Fail> {
         [[1000, 0, 1000], [1000, 0, 2000], [0, 0, 2000], [0, 0, 1000]],
     )?;
     let found = (
-        touch_of(first_touch(&trajs, 120, 300, 5)),
-        closest_of(closest(&trajs, 120, 300, 5)),
+        touch_of(first_touch(&trajs, Axes { r: 120, h: 300 }, Fine::make(5))),
+        closest_of(closest(&trajs, Axes { r: 120, h: 300 }, Fine::make(5))),
     );
     assert!(rt; found == (None, Some((1, 16, 0, 1, 2777))));
     Ok(())
@@ -181,8 +182,8 @@ fn two_pairs_at_once(rt: HostRuntime) -> Result<(), Fail> {
     ] {
         let trajs = three(rt.alloc(), last)?;
         let found = (
-            touch_of(first_touch(&trajs, 120, 300, fine)),
-            closest_of(closest(&trajs, 120, 300, fine)),
+            touch_of(first_touch(&trajs, Axes { r: 120, h: 300 }, Fine::make(fine))),
+            closest_of(closest(&trajs, Axes { r: 120, h: 300 }, Fine::make(fine))),
         );
         assert!(rt; found == (touch, near), "up to {last}");
     }

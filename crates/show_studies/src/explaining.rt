@@ -1,5 +1,5 @@
 //! `explain`: why a show is refused, and where its drones come close.
-ghost use Rattle.std.specs.Prelude.{◌≡◌, ◌≤◌, length, None, IfOk, MatchOption};
+ghost use Rattle.std.specs.Prelude.{◌≡◌, length, None, IfOk, MatchOption};
 ghost use Rattle.choreo_show.specs.Plain.{PlainShow};
 ghost use Rattle.show_plan.specs.Fitting.{IsFitted, IsValidFitted};
 ghost use Rattle.show_plan.specs.Separation.{FlyApart, blocked_part};
@@ -17,14 +17,18 @@ ghost use Rattle.show_studies.specs.Steps.{IsBlockedAmong, IsClosestAmong, IsFou
 
 use crate::findings::{Findings, findings_text};
 use fleet_io::{Sink, Source};
-use fleet_math::Depth;
+use fleet_math::{Depth, Fine};
 use show_judge::{Answer, AnyText, Output, Ways, run_any};
 use show_plan::{BlockedPart, Fitted, SeparationFault, count_nodes};
 use std::alloc::{AllocError, Global};
-use touch_witness::{Touch, closest_of, first_touch_of};
+use touch_witness::{Axes, Touch, closest_of, first_touch_of};
 
 // The first part of the depth in which no direction separates two drones, if there is one.
-fn blocked_of(alloc: Global, fitted: &Fitted, depth: Depth) -> Result<Option<BlockedPart>, AllocError>
+fn blocked_of(
+    alloc: Global,
+    fitted: &Fitted,
+    depth: Depth,
+) -> Result<Option<BlockedPart>, AllocError>
     requires valid { IsValidFitted fitted.now }
     ensures is { IfOk result (λ blocked. blocked ≡ blocked_part fitted.now.settings depth fitted.now.trajs) }
     ensures apart { IfOk result (λ blocked. blocked ≡ None → FlyApart fitted.now.settings fitted.now.sent) }
@@ -39,9 +43,8 @@ fn blocked_of(alloc: Global, fitted: &Fitted, depth: Depth) -> Result<Option<Blo
 }
 
 // Where two drones touch first. It is looked for where a part is blocked alone: else none do.
-fn touch_of(fitted: &Fitted, blocked: Option<BlockedPart>, fine: u8) -> Option<Touch>
+fn touch_of(fitted: &Fitted, blocked: Option<BlockedPart>, fine: Fine) -> Option<Touch>
     requires valid { IsValidFitted fitted.now }
-    requires fine { fine ≤ 5 }
     requires apart { blocked ≡ None → FlyApart fitted.now.settings fitted.now.trajs }
     ensures { MatchOption result (NoTouch fitted.now.trajs fitted.now.settings.r fitted.now.settings.h fine)
         (IsFirstTouch fitted.now.trajs fitted.now.settings.r fitted.now.settings.h fine) }
@@ -50,17 +53,18 @@ fn touch_of(fitted: &Fitted, blocked: Option<BlockedPart>, fine: u8) -> Option<T
         None => None,
         Some(_) => first_touch_of(
             fitted.trajs.as_slice(),
-            fitted.settings.r,
-            fitted.settings.h,
+            Axes {
+                r: fitted.settings.r,
+                h: fitted.settings.h,
+            },
             fine,
         ),
     }
 }
 
 // What is found of a show that fits.
-fn find(alloc: Global, fitted: &Fitted, depth: Depth, fine: u8) -> Result<Findings, AllocError>
+fn find(alloc: Global, fitted: &Fitted, depth: Depth, fine: Fine) -> Result<Findings, AllocError>
     requires valid { IsValidFitted fitted.now }
-    requires fine { fine ≤ 5 }
     ensures found { IfOk result (IsFound depth fine fitted.now) }
     ensures blocked { IfOk result (λ found. IsBlockedAmong (length fitted.now.names) found.blocked) }
     ensures closest { IfOk result (λ found. IsClosestAmong (length fitted.now.names) found.closest) }
@@ -69,8 +73,10 @@ fn find(alloc: Global, fitted: &Fitted, depth: Depth, fine: u8) -> Result<Findin
     let blocked = blocked_of(alloc, fitted, depth)?;
     let closest = closest_of(
         fitted.trajs.as_slice(),
-        fitted.settings.r,
-        fitted.settings.h,
+        Axes {
+            r: fitted.settings.r,
+            h: fitted.settings.h,
+        },
         fine,
     );
     let touch = touch_of(fitted, blocked, fine);
@@ -82,9 +88,13 @@ fn find(alloc: Global, fitted: &Fitted, depth: Depth, fine: u8) -> Result<Findin
 }
 
 // What `explain` ends with for a show that fits.
-fn answer_fitted(alloc: Global, fitted: &Fitted, depth: Depth, fine: u8) -> Result<Answer, AllocError>
+fn answer_fitted(
+    alloc: Global,
+    fitted: &Fitted,
+    depth: Depth,
+    fine: Fine,
+) -> Result<Answer, AllocError>
     requires valid { IsValidFitted fitted.now }
-    requires fine { fine ≤ 5 }
     ensures gives { (s : PlainShow) (cut : Cut) → IsFitted fitted.now s → IfOk result (λ a. (explain_verb depth fine).gives s cut (outcome_of a)) }
     ensures promised { (s : PlainShow) (cut : Cut) → IsFitted fitted.now s
         → IfOk result (λ a. (outcome_of a).status ≡ 0 → (explain_verb depth fine).promises s cut) }
@@ -101,8 +111,7 @@ fn answer_fitted(alloc: Global, fitted: &Fitted, depth: Depth, fine: u8) -> Resu
 #[derive(Clone, Copy)]
 pub struct ExplainVerb {
     pub depth: Depth,
-    pub fine: u8,
-    ghost finest: { fine ≤ 5 },
+    pub fine: Fine,
 }
 
 impl AnyText for ExplainVerb {
@@ -127,11 +136,10 @@ impl AnyText for ExplainVerb {
 pub fn explain<S: Source, K: Sink>(
     alloc: Global,
     depth: Depth,
-    fine: u8,
+    fine: Fine,
     source: &mut S,
     sink: &mut K,
 ) -> u8
-    requires fine { fine ≤ 5 }
     ensures { Behaves (explain_verb depth fine) (during S.left S.faults K.written K.faults source.old source.new sink.old sink.new) result }
 {
     run_any(alloc, &ExplainVerb { depth, fine }, source, sink)

@@ -1,5 +1,5 @@
 //! Lines on where two drones come close.
-ghost use Rattle.std.specs.Prelude.{◌≡◌, ◌≤◌, ◌++◌, true, length, All, IfOk, OnOk};
+ghost use Rattle.std.specs.Prelude.{◌≡◌, ◌++◌, true, length, All, IfOk, OnOk};
 ghost use Rattle.fleet_io.specs.Words.{is_line_empty};
 ghost use Rattle.show_plan.specs.Fitting.{IsValidFitted, StandsAsWord};
 ghost use Rattle.show_studies.specs.Steps.{IsBlockedAmong, IsClosestAmong, IsTouchAmong};
@@ -7,7 +7,7 @@ ghost use Rattle.show_studies.specs.Explained.{contact_if, contact_line, explain
 
 use choreo_reader::Name;
 use fleet_io::Lines;
-use fleet_math::Depth;
+use fleet_math::{Depth, Fine};
 use show_judge::name_at;
 use show_plan::{BlockedPart, Fitted};
 use std::alloc::{AllocError, Global};
@@ -43,7 +43,7 @@ fn put_separation(
             name_at(names, part.slot.b).as_slice(),
             part.slot.cue,
             part.index,
-            depth.levels(),
+            depth,
         ),
     }
 }
@@ -52,12 +52,11 @@ fn put_separation(
 fn put_nearest(
     text: &mut Lines,
     names: &[Name],
-    fine: u8,
+    fine: Fine,
     closest: Option<Closest>,
 ) -> Result<(), AllocError>
     requires fresh { is_line_empty text.old ≡ true }
     requires words { All StandsAsWord names.now }
-    requires fine { fine ≤ 5 }
     requires among { IsClosestAmong (length names.now) closest }
     ensures line { OnOk result (text.new ≡ text.old ++ nearest_line names.now fine closest) }
     ensures fresh { OnOk result (is_line_empty text.new ≡ true) }
@@ -79,12 +78,11 @@ fn put_contact(
     text: &mut Lines,
     names: &[Name],
     cues: u16,
-    fine: u8,
+    fine: Fine,
     touch: Option<Touch>,
 ) -> Result<(), AllocError>
     requires fresh { is_line_empty text.old ≡ true }
     requires words { All StandsAsWord names.now }
-    requires fine { fine ≤ 5 }
     requires among { IsTouchAmong (length names.now) touch }
     ensures { OnOk result (text.new ≡ text.old ++ contact_line names.now cues fine touch) }
 {
@@ -105,12 +103,11 @@ fn put_last(
     text: &mut Lines,
     names: &[Name],
     cues: u16,
-    fine: u8,
+    fine: Fine,
     found: &Findings,
 ) -> Result<(), AllocError>
     requires fresh { is_line_empty text.old ≡ true }
     requires words { All StandsAsWord names.now }
-    requires fine { fine ≤ 5 }
     requires among { IsTouchAmong (length names.now) found.now.touch }
     ensures { OnOk result (text.new ≡ text.old ++ contact_if found.now.blocked (contact_line names.now cues fine found.now.touch)) }
 {
@@ -125,11 +122,10 @@ pub fn findings_text(
     alloc: Global,
     fitted: &Fitted,
     depth: Depth,
-    fine: u8,
+    fine: Fine,
     found: &Findings,
 ) -> Result<Lines, AllocError>
     requires valid { IsValidFitted fitted.now }
-    requires fine { fine ≤ 5 }
     requires blocked { IsBlockedAmong (length fitted.now.names) found.now.blocked }
     requires closest { IsClosestAmong (length fitted.now.names) found.now.closest }
     requires touch { IsTouchAmong (length fitted.now.names) found.now.touch }

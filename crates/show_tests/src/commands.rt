@@ -1,6 +1,6 @@
 //! Chosen words and the commands that they are.
 use command_words::{Command, command_of, help_text};
-use fleet_math::Depth;
+use fleet_math::{Depth, Fine};
 use std::alloc::{AllocError, Global};
 use std::test::Fail;
 
@@ -161,14 +161,14 @@ fn commands() -> [(&'static str, Command); 38] {
                 limit: Some(1),
             },
         ),
-        ("explain", Command::Explain { depth: Depth::make(6), fine: 5 }),
+        ("explain", Command::Explain { depth: Depth::make(6), fine: Fine::make(5) }),
         (
             "explain --fine 0 --depth 3",
-            Command::Explain { depth: Depth::make(3), fine: 0 },
+            Command::Explain { depth: Depth::make(3), fine: Fine::make(0) },
         ),
         (
             "explain --depth 3 --fine 05",
-            Command::Explain { depth: Depth::make(3), fine: 5 },
+            Command::Explain { depth: Depth::make(3), fine: Fine::make(5) },
         ),
         (
             "dynamics",

@@ -178,7 +178,7 @@ fn trees_that_fail(rt: HostRuntime) {
     let digits = Refusal::Fails {
         pair: long_names(999),
         place: Place {
-            depth: Depth::make(8),
+            depth: 8,
             index: 255,
         },
         version: 2,

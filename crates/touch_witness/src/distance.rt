@@ -6,33 +6,30 @@ ghost use Rattle.bezier_core.specs.Steps.{IsWithin};
 ghost use Rattle.sep_parts.specs.Directions.{IsAxis};
 ghost use Rattle.touch_witness.specs.Steps.{IsShort, left_side, right_side};
 
+use crate::axes::Axes;
 use crate::places::{Point, part_power};
+use fleet_math::Fine;
 
 /// Whether the closed ellipsoids around two points share a point: h^2 (dX^2 + dY^2) + r^2 dZ^2 is at most 4 r^2 h^2
 /// c^14.
-pub fn is_touching(p: &Point, q: &Point, r: u16, h: u16, fine: u8) -> bool
+pub fn is_touching(p: &Point, q: &Point, axes: Axes, fine: Fine) -> bool
     requires first { IsShort p.now }
     requires second { IsShort q.now }
-    requires r { IsAxis r }
-    requires h { IsAxis h }
-    requires fine { fine ≤ 5 }
-    ensures { IsTrue result ↔ (left_side r h p.now q.now ≤ℤ right_side r h fine) }
+    ensures { IsTrue result ↔ (left_side axes.r axes.h p.now q.now ≤ℤ right_side axes.r axes.h fine) }
 {
-    left_side(p, q, r, h) <= right_side(r, h, fine)
+    left_side(p, q, axes) <= right_side(axes, fine)
 }
 
 /// h^2 (dX^2 + dY^2) + r^2 dZ^2
-pub fn left_side(p: &Point, q: &Point, r: u16, h: u16) -> i128
+pub fn left_side(p: &Point, q: &Point, axes: Axes) -> i128
     requires first { IsShort p.now }
     requires second { IsShort q.now }
-    requires r { IsAxis r }
-    requires h { IsAxis h }
-    ensures exact { result ≡ left_side r h p.now q.now }
+    ensures exact { result ≡ left_side axes.r axes.h p.now q.now }
     ensures small { IsIn (pos 0) (pos (2 ^ 126)) result }
 {
     let level = distance_squared(p.x, q.x) + distance_squared(p.y, q.y);
     let upright = distance_squared(p.z, q.z);
-    weighted(h, level) + weighted(r, upright)
+    weighted(axes.h, level) + weighted(axes.r, upright)
 }
 
 // The square of a difference, which fits eight bytes: one multiplication of such numbers is enough.
@@ -66,13 +63,10 @@ fn square(axis: u16) -> u64
 }
 
 /// 4 r^2 h^2 c^14, where c is 2^fine.
-pub fn right_side(r: u16, h: u16, fine: u8) -> i128
-    requires r { IsAxis r }
-    requires h { IsAxis h }
-    requires fine { fine ≤ 5 }
-    ensures exact { result ≡ right_side r h fine }
+pub fn right_side(axes: Axes, fine: Fine) -> i128
+    ensures exact { result ≡ right_side axes.r axes.h fine }
     ensures small { IsIn (pos 1) (pos (2 ^ 116)) result }
 {
-    let area = 4 * square(r) * square(h);
+    let area = 4 * square(axes.r) * square(axes.h);
     area as i128 * part_power(fine, 14)
 }

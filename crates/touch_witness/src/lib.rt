@@ -10,6 +10,7 @@
 //! positions, and on `fleet_io` for lines.
 #![tactic(auto)]
 
+mod axes;
 mod distance;
 mod formed;
 mod lines;
@@ -18,6 +19,7 @@ mod places;
 mod site;
 mod touch;
 
+pub use axes::Axes;
 pub use lines::{put_blocked, put_closest, put_no_touch, put_separated, put_touch};
 pub use nearest::{closest, closest_of};
 pub use site::{Closest, Touch};

@@ -2,11 +2,13 @@
 //! line, and a fraction of a cue or a part of it from 0.
 
 ghost use Rattle.std.specs.Prelude.{◌≡◌, ◌≤◌, ◌+◌, ◌*◌, ◌^◌, ◌++◌, ◌∷◌, [], true, codes, decimal, OnOk};
+ghost use Rattle.fleet_math.specs.Limits.{most_depth, most_fine};
 ghost use Rattle.fleet_io.specs.Words.{IsWord, is_line_empty, with_word, with_words};
 ghost use Rattle.touch_witness.specs.Lines.{blocked_pair_line, closest_line, no_touch_line, separated_line, site_words, touch_line};
 
 use crate::site::{Closest, Touch};
 use fleet_io::Lines;
+use fleet_math::{Depth, Fine};
 use itoa::Buffer;
 use std::alloc::AllocError;
 
@@ -20,11 +22,11 @@ fn put_number(text: &mut Lines, n: u64) -> Result<(), AllocError>
 }
 
 // The number of equal parts that a cue has at a depth.
-fn parts(depth: u8) -> u64
-    requires { depth ≤ 8 }
-    ensures { result ≡ 2 ^ depth }
+fn parts(depth: Depth) -> u64
+    ensures exact { result ≡ 2 ^ depth }
+    ensures depth { depth ≤ most_depth }
 {
-    1 << u64::from(depth)
+    1 << u64::from(depth.levels())
 }
 
 // Two drones and a cue, which counts from 1 in the line.
@@ -49,9 +51,10 @@ pub fn put_separated(text: &mut Lines) -> Result<(), AllocError>
 }
 
 // A part of a cue.
-fn put_part(text: &mut Lines, index: u16, depth: u8) -> Result<(), AllocError>
-    requires { depth ≤ 8 }
-    ensures { OnOk result (text.new ≡ with_words text.old (codes "part" ∷ decimal index ∷ codes "of" ∷ decimal (2 ^ depth) ∷ [])) }
+fn put_part(text: &mut Lines, index: u16, depth: Depth) -> Result<(), AllocError>
+    ensures depth { depth ≤ most_depth }
+    ensures part { OnOk result (text.new ≡ with_words text.old
+        (codes "part" ∷ decimal index ∷ codes "of" ∷ decimal (2 ^ depth) ∷ [])) }
 {
     text.word(b"part")?;
     put_number(text, u64::from(index))?;
@@ -66,12 +69,11 @@ pub fn put_blocked(
     second: &[u8],
     cue: u16,
     index: u16,
-    depth: u8,
+    depth: Depth,
 ) -> Result<(), AllocError>
     requires fresh { is_line_empty text.old ≡ true }
     requires first { IsWord first.now }
     requires second { IsWord second.now }
-    requires depth { depth ≤ 8 }
     ensures { OnOk result (text.new ≡ text.old ++ blocked_pair_line first.now second.now cue index depth) }
 {
     text.word(b"blocked")?;
@@ -85,18 +87,18 @@ fn put_site(
     text: &mut Lines,
     first: &[u8],
     second: &[u8],
-    fine: u8,
+    fine: Fine,
     cue: u16,
     at: u8,
 ) -> Result<(), AllocError>
-    requires { fine ≤ 5 }
-    ensures { OnOk result (text.new ≡ with_words text.old (site_words first.now second.now fine cue at)) }
+    ensures fine { fine ≤ most_fine }
+    ensures site { OnOk result (text.new ≡ with_words text.old (site_words first.now second.now fine cue at)) }
 {
     put_pair(text, first, second, cue)?;
     text.word(b"at")?;
     put_number(text, u64::from(at))?;
     text.word(b"of")?;
-    put_number(text, parts(fine))
+    put_number(text, u64::from(fine.parts()))
 }
 
 /// Adds the line of the two drones that are closest, their listed instant and their level.
@@ -104,13 +106,12 @@ pub fn put_closest(
     text: &mut Lines,
     first: &[u8],
     second: &[u8],
-    fine: u8,
+    fine: Fine,
     closest: Closest,
 ) -> Result<(), AllocError>
     requires fresh { is_line_empty text.old ≡ true }
     requires first { IsWord first.now }
     requires second { IsWord second.now }
-    requires fine { fine ≤ 5 }
     ensures { OnOk result (text.new ≡ text.old ++ closest_line first.now second.now fine closest) }
 {
     text.word(b"closest")?;
@@ -125,13 +126,12 @@ pub fn put_touch(
     text: &mut Lines,
     first: &[u8],
     second: &[u8],
-    fine: u8,
+    fine: Fine,
     touch: Touch,
 ) -> Result<(), AllocError>
     requires fresh { is_line_empty text.old ≡ true }
     requires first { IsWord first.now }
     requires second { IsWord second.now }
-    requires fine { fine ≤ 5 }
     ensures { OnOk result (text.new ≡ text.old ++ touch_line first.now second.now fine touch) }
 {
     text.word(b"touch")?;
@@ -140,17 +140,15 @@ pub fn put_touch(
 }
 
 // The number of instants that are listed.
-fn listed_instants(cues: u16, fine: u8) -> u64
-    requires { fine ≤ 5 }
+fn listed_instants(cues: u16, fine: Fine) -> u64
     ensures { result ≡ cues * (2 ^ fine + 1) }
 {
-    u64::from(cues) * (parts(fine) + 1)
+    u64::from(cues) * (u64::from(fine.parts()) + 1)
 }
 
 /// Adds the line that says that no two drones touch at a listed instant, and how many instants that are.
-pub fn put_no_touch(text: &mut Lines, cues: u16, fine: u8) -> Result<(), AllocError>
+pub fn put_no_touch(text: &mut Lines, cues: u16, fine: Fine) -> Result<(), AllocError>
     requires fresh { is_line_empty text.old ≡ true }
-    requires fine { fine ≤ 5 }
     ensures { OnOk result (text.new ≡ text.old ++ no_touch_line cues fine) }
 {
     text.word(b"no-touch")?;

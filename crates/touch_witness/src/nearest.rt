@@ -2,15 +2,15 @@
 
 ghost use Rattle.std.specs.Prelude.{◌≡◌, ℕ, ◌+◌, ◌*◌, ◌^◌, ◌≤◌, ◌<◌, length, All, MatchOption};
 ghost use Rattle.fleet_math.specs.Limits.{most_cues, most_drones};
-ghost use Rattle.sep_parts.specs.Directions.{IsAxis};
 ghost use Rattle.fleet_curves.specs.Raised.{IsOneShow, cues_in};
 ghost use Rattle.touch_witness.specs.Sites.{IsClosest};
 ghost use Rattle.touch_witness.specs.Steps.{AreStarts, HasCue, IsBest, IsLeastPair, IsNearestAt, IsShort, most_ratio};
 
+use crate::axes::Axes;
 use crate::distance::{left_side, right_side};
 use crate::places::{Point, Start, next_starts, places, starts};
 use crate::site::{Closest, Touch};
-use fleet_math::MOST_DRONES;
+use fleet_math::{Fine, MOST_DRONES};
 use traj_codec::Traj;
 
 // A pair of drones, and the left side of the test for it.
@@ -29,37 +29,31 @@ struct Best {
 }
 
 /// The listed instant and the pair with the least left side of the test, h^2 (dX^2 + dY^2) + r^2 dZ^2, for ellipsoids
-/// of half axes `r`, `r` and `h` in millimetres. Of equals it is the first, by the cue, then by the fraction 0 /
-/// 2^`fine` to 2^`fine` / 2^`fine` of it, then by the first drone, then by the second. None exactly for one trajectory.
-/// The trajectories are those of one show, each with a segment a cue. Takes no memory.
-pub fn closest(trajs: &Vec<Traj>, r: u16, h: u16, fine: u8) -> Option<Closest>
+/// of these half axes. Of equals it is the first, by the cue, then by the fraction 0 / 2^`fine` to 2^`fine` / 2^`fine`
+/// of it, then by the first drone, then by the second. None exactly for one trajectory. The trajectories are those of
+/// one show, each with a segment a cue. Takes no memory.
+pub fn closest(trajs: &Vec<Traj>, axes: Axes, fine: Fine) -> Option<Closest>
     requires show { IsOneShow trajs.now.items }
-    requires r { IsAxis r }
-    requires h { IsAxis h }
-    requires fine { fine ≤ 5 }
-    ensures { MatchOption result (length trajs.now.items ≡ 1) (IsClosest trajs.now.items r h fine) }
+    ensures { MatchOption result (length trajs.now.items ≡ 1) (IsClosest trajs.now.items axes.r axes.h fine) }
 {
-    closest_of(trajs.as_slice(), r, h, fine)
+    closest_of(trajs.as_slice(), axes, fine)
 }
 
 /// The closest of trajectories that are lent as a slice. Conditions and result as [`closest`].
-pub fn closest_of(trajs: &[Traj], r: u16, h: u16, fine: u8) -> Option<Closest>
+pub fn closest_of(trajs: &[Traj], axes: Axes, fine: Fine) -> Option<Closest>
     requires show { IsOneShow trajs.now }
-    requires r { IsAxis r }
-    requires h { IsAxis h }
-    requires fine { fine ≤ 5 }
-    ensures { MatchOption result (length trajs.now ≡ 1) (IsClosest trajs.now r h fine) }
+    ensures { MatchOption result (length trajs.now ≡ 1) (IsClosest trajs.now axes.r axes.h fine) }
 {
     if trajs.len() < 2 {
         return None;
     }
     let mut here = starts(trajs);
-    let mut best = nearest_at(trajs, &here, 0, 0, r, h, fine);
+    let mut best = nearest_at(trajs, &here, 0, 0, axes, fine);
     for cue in 0..trajs[0].segments.as_slice().len() {
-        best = nearest_in_cue(trajs, &here, cue, r, h, fine, best);
+        best = nearest_in_cue(trajs, &here, cue, axes, fine, best);
         here = next_starts(trajs, &here, cue);
     }
-    let right = right_side(r, h, fine);
+    let right = right_side(axes, fine);
     Some(Closest {
         cue: best.site.cue,
         at: best.site.at,
@@ -85,9 +79,8 @@ fn nearest_in_cue(
     trajs: &[Traj],
     starts: &[Start; MOST_DRONES],
     cue: usize,
-    r: u16,
-    h: u16,
-    fine: u8,
+    axes: Axes,
+    fine: Fine,
     so_far: Best,
 ) -> Best
     requires two { 2 ≤ length trajs.now }
@@ -96,15 +89,12 @@ fn nearest_in_cue(
     requires show { cue < cues_in trajs.now }
     requires number { cue < most_cues }
     requires starts { AreStarts trajs.now cue starts.now }
-    requires r { IsAxis r }
-    requires h { IsAxis h }
-    requires fine { fine ≤ 5 }
-    requires so_far { IsBest trajs.now r h fine cue 0 so_far }
-    ensures { IsBest trajs.now r h fine (cue + 1) 0 result }
+    requires so_far { IsBest trajs.now axes.r axes.h fine cue 0 so_far }
+    ensures { IsBest trajs.now axes.r axes.h fine (cue + 1) 0 result }
 {
     let mut best = so_far;
-    for at in 0..2u8.pow(fine as u32) + 1 {
-        let here = nearest_at(trajs, starts, cue, at, r, h, fine);
+    for at in 0..fine.parts() + 1 {
+        let here = nearest_at(trajs, starts, cue, at, axes, fine);
         if here.left < best.left {
             best = here;
         }
@@ -118,9 +108,8 @@ fn nearest_at(
     starts: &[Start; MOST_DRONES],
     cue: usize,
     at: u8,
-    r: u16,
-    h: u16,
-    fine: u8,
+    axes: Axes,
+    fine: Fine,
 ) -> Best
     requires two { 2 ≤ length trajs.now }
     requires few { length trajs.now ≤ most_drones }
@@ -128,13 +117,10 @@ fn nearest_at(
     requires number { cue < most_cues }
     requires starts { AreStarts trajs.now cue starts.now }
     requires at { at ≤ 2 ^ fine }
-    requires r { IsAxis r }
-    requires h { IsAxis h }
-    requires fine { fine ≤ 5 }
-    ensures { IsNearestAt trajs.now r h fine cue at result }
+    ensures { IsNearestAt trajs.now axes.r axes.h fine cue at result }
 {
     let points = places(trajs, starts, cue, at, fine);
-    let pair = least_pair(&points, trajs.len(), r, h);
+    let pair = least_pair(&points, trajs.len(), axes);
     Best {
         site: Touch {
             cue: cue as u16,
@@ -147,21 +133,19 @@ fn nearest_at(
 }
 
 // The closest two of the first drones.
-fn least_pair(points: &[Point; MOST_DRONES], drones: usize, r: u16, h: u16) -> Pair
+fn least_pair(points: &[Point; MOST_DRONES], drones: usize, axes: Axes) -> Pair
     requires two { 2 ≤ drones }
     requires few { drones ≤ most_drones }
     requires short { All IsShort points.now }
-    requires r { IsAxis r }
-    requires h { IsAxis h }
-    ensures { IsLeastPair points.now r h drones drones 0 result }
+    ensures { IsLeastPair points.now axes.r axes.h drones drones 0 result }
 {
     let mut best = Pair {
         a: 0,
         b: 1,
-        left: left_side(&points[0], &points[1], r, h),
+        left: left_side(&points[0], &points[1], axes),
     };
     for a in 0..drones {
-        best = least_with(points, a, drones, r, h, best);
+        best = least_with(points, a, drones, axes, best);
     }
     best
 }
@@ -171,21 +155,18 @@ fn least_with(
     points: &[Point; MOST_DRONES],
     a: usize,
     drones: usize,
-    r: u16,
-    h: u16,
+    axes: Axes,
     so_far: Pair,
 ) -> Pair
     requires few { drones ≤ most_drones }
     requires drone { a < drones }
     requires short { All IsShort points.now }
-    requires r { IsAxis r }
-    requires h { IsAxis h }
-    requires so_far { IsLeastPair points.now r h drones a 0 so_far }
-    ensures { IsLeastPair points.now r h drones (a + 1) 0 result }
+    requires so_far { IsLeastPair points.now axes.r axes.h drones a 0 so_far }
+    ensures { IsLeastPair points.now axes.r axes.h drones (a + 1) 0 result }
 {
     let mut best = so_far;
     for b in a + 1..drones {
-        let left = left_side(&points[a], &points[b], r, h);
+        let left = left_side(&points[a], &points[b], axes);
         if left < best.left {
             best = Pair { a, b, left };
         }

@@ -7,12 +7,12 @@ ghost use Rattle.fleet_math.specs.Sums.{power};
 ghost use Rattle.bezier_core.specs.Steps.{IsWithin};
 ghost use Rattle.traj_codec.specs.Spelling.{IsNumber};
 ghost use Rattle.traj_codec.specs.Positions.{element_on, value_after};
-ghost use Rattle.fleet_math.specs.Limits.{most_drones};
+ghost use Rattle.fleet_math.specs.Limits.{most_drones, most_fine};
 ghost use Rattle.touch_witness.specs.Steps.{ArePlaces, AreStarts, HasCue, IsNear, IsPlace, IsShort, IsStart, position, reach};
 
 use bezier_core::Bez;
 use fleet_curves::{row_of_four, value_after};
-use fleet_math::MOST_DRONES;
+use fleet_math::{Fine, MOST_DRONES};
 use traj_codec::{Element, Segment, Traj};
 
 // What stands in the places of drones that are not there.
@@ -72,13 +72,12 @@ pub fn places(
     starts: &[Start; MOST_DRONES],
     cue: usize,
     at: u8,
-    fine: u8,
+    fine: Fine,
 ) -> [Point; MOST_DRONES]
     requires few { length trajs.now ≤ most_drones }
     requires cue { All (HasCue cue) trajs.now }
     requires starts { AreStarts trajs.now cue starts.now }
     requires at { at ≤ 2 ^ fine }
-    requires fine { fine ≤ 5 }
     ensures places { ArePlaces trajs.now fine cue at result }
     ensures short { All IsShort result }
     ensures near { All (IsNear fine) result }
@@ -116,11 +115,10 @@ fn next_start(t: &Traj, start: Start, cue: usize) -> Start
 }
 
 // Where a drone is at a fraction of a cue.
-fn place_of(t: &Traj, start: Start, cue: usize, at: u8, fine: u8) -> Point
+fn place_of(t: &Traj, start: Start, cue: usize, at: u8, fine: Fine) -> Point
     requires cue { HasCue cue t.now }
     requires start { IsStart t.now cue start }
     requires at { at ≤ 2 ^ fine }
-    requires fine { fine ≤ 5 }
     ensures place { IsPlace t.now fine cue at result }
     ensures short { IsShort result }
     ensures near { IsNear fine result }
@@ -129,9 +127,8 @@ fn place_of(t: &Traj, start: Start, cue: usize, at: u8, fine: u8) -> Point
 }
 
 // The position at a fraction of a segment.
-fn place(start: Start, s: &Segment, at: u8, fine: u8) -> Point
+fn place(start: Start, s: &Segment, at: u8, fine: Fine) -> Point
     requires at { at ≤ 2 ^ fine }
-    requires fine { fine ≤ 5 }
     ensures x { result.x ≡ position start.x (element_on s.now 0) (pos at) (pos (2 ^ fine)) }
     ensures y { result.y ≡ position start.y (element_on s.now 1) (pos at) (pos (2 ^ fine)) }
     ensures z { result.z ≡ position start.z (element_on s.now 2) (pos at) (pos (2 ^ fine)) }
@@ -146,9 +143,8 @@ fn place(start: Start, s: &Segment, at: u8, fine: u8) -> Point
 }
 
 // The position on one axis at a fraction of a segment.
-fn position(first: i16, element: Element, at: u8, fine: u8) -> i128
+fn position(first: i16, element: Element, at: u8, fine: Fine) -> i128
     requires at { at ≤ 2 ^ fine }
-    requires fine { fine ≤ 5 }
     ensures exact { result ≡ position first element (pos at) (pos (2 ^ fine)) }
     ensures small { IsWithin (pos (2 ^ 50)) result }
     ensures near { IsWithin (reach fine) result }
@@ -169,13 +165,12 @@ fn position(first: i16, element: Element, at: u8, fine: u8) -> i128
 }
 
 // The value of a curve at a fraction, times more powers of the fraction's denominator.
-fn value<const N: usize>(curve: &Bez<N>, at: u8, fine: u8, more: u32) -> i128
+fn value<const N: usize>(curve: &Bez<N>, at: u8, fine: Fine, more: u32) -> i128
     requires length { IsLength N }
     requires size { length curve.now.b ≡ N }
     requires values { All IsNumber curve.now.b }
     requires degree { N + more ≡ 8 }
     requires at { at ≤ 2 ^ fine }
-    requires fine { fine ≤ 5 }
     ensures exact { result ≡ power (pos (2 ^ fine)) (8 - length curve.now.b)
         *ℤ bern curve.now.b (pos at) (pos (2 ^ fine)) }
     ensures small { IsWithin (pos (2 ^ 50)) result }
@@ -186,14 +181,14 @@ fn value<const N: usize>(curve: &Bez<N>, at: u8, fine: u8, more: u32) -> i128
 }
 
 /// A power of 2^fine.
-pub fn part_power(fine: u8, times: u32) -> i128
-    requires fine { fine ≤ 5 }
+pub fn part_power(fine: Fine, times: u32) -> i128
     requires times { times ≤ 14 }
+    ensures fine { fine ≤ most_fine }
     ensures exact { result ≡ power (pos (2 ^ fine)) times }
     ensures positive { pos 1 ≤ℤ result }
     ensures small { result ≤ℤ pos (32 ^ times) }
 {
-    2u128.pow(fine as u32).pow(times) as i128
+    (fine.parts() as u128).pow(times) as i128
 }
 
 // The control values of a cubic.

@@ -3,60 +3,53 @@
 ghost use Rattle.std.specs.Prelude.{◌≡◌, ℕ, ◌+◌, ◌*◌, ◌^◌, ◌≤◌, ◌<◌, None, length, All, MatchOption};
 ghost use Rattle.fleet_math.specs.Limits.{most_cues, most_drones};
 ghost use Rattle.sep_parts.specs.Apart.{FlyApartExactly};
-ghost use Rattle.sep_parts.specs.Directions.{IsAxis};
 ghost use Rattle.fleet_curves.specs.Raised.{IsOneShow};
 ghost use Rattle.touch_witness.specs.Sites.{IsFirstTouch, NoTouch};
 ghost use Rattle.touch_witness.specs.Steps.{AllDisjoint, AllDisjointFrom, DisjointInCue, AreStarts, HasCue, IsFirstInCue, IsFirstPair, IsFirstSite, IsFirstWith, IsShort, NoneTouch};
 
+use crate::axes::Axes;
 use crate::distance::is_touching;
 use crate::formed::formed_law;
 use crate::places::{Point, Start, next_starts, places, starts};
 use crate::site::Touch;
-use fleet_math::MOST_DRONES;
+use fleet_math::{Fine, MOST_DRONES};
 use traj_codec::Traj;
 
-/// The first of the listed instants and pairs at which two drones touch, for ellipsoids of half axes `r`, `r` and `h`
-/// in millimetres: that of the first cue, in it of the first of the fractions 0 / 2^`fine` to 2^`fine` / 2^`fine`, then
+/// The first of the listed instants and pairs at which two drones touch, for ellipsoids of these half
+/// axes: that of the first cue, in it of the first of the fractions 0 / 2^`fine` to 2^`fine` / 2^`fine`, then
 /// of the first drone, then of the second. At it the two closed ellipsoids share a point. None exactly where at each of
 /// these instants the closed ellipsoids of any two drones share no point, and so always where drones are apart throughout
 /// the show. The trajectories are those of one show, each with a segment a cue. Takes no memory.
-pub fn first_touch(trajs: &Vec<Traj>, r: u16, h: u16, fine: u8) -> Option<Touch>
+pub fn first_touch(trajs: &Vec<Traj>, axes: Axes, fine: Fine) -> Option<Touch>
     requires show { IsOneShow trajs.now.items }
-    requires r { IsAxis r }
-    requires h { IsAxis h }
-    requires fine { fine ≤ 5 }
-    ensures exact { MatchOption result (NoTouch trajs.now.items r h fine) (IsFirstTouch trajs.now.items r h fine) }
-    ensures none { NoTouch trajs.now.items r h fine → result ≡ None }
-    ensures clear { FlyApartExactly r h trajs.now.items → result ≡ None }
+    ensures exact { MatchOption result (NoTouch trajs.now.items axes.r axes.h fine)
+        (IsFirstTouch trajs.now.items axes.r axes.h fine) }
+    ensures none { NoTouch trajs.now.items axes.r axes.h fine → result ≡ None }
+    ensures clear { FlyApartExactly axes.r axes.h trajs.now.items → result ≡ None }
 {
-    first_touch_of(trajs.as_slice(), r, h, fine)
+    first_touch_of(trajs.as_slice(), axes, fine)
 }
 
 /// The first touch of trajectories that are lent as a slice. Conditions and result as [`first_touch`].
-pub fn first_touch_of(trajs: &[Traj], r: u16, h: u16, fine: u8) -> Option<Touch>
+pub fn first_touch_of(trajs: &[Traj], axes: Axes, fine: Fine) -> Option<Touch>
     requires show { IsOneShow trajs.now }
-    requires r { IsAxis r }
-    requires h { IsAxis h }
-    requires fine { fine ≤ 5 }
-    ensures exact { MatchOption result (NoTouch trajs.now r h fine) (IsFirstTouch trajs.now r h fine) }
-    ensures none { NoTouch trajs.now r h fine → result ≡ None }
-    ensures clear { FlyApartExactly r h trajs.now → result ≡ None }
+    ensures exact { MatchOption result (NoTouch trajs.now axes.r axes.h fine)
+        (IsFirstTouch trajs.now axes.r axes.h fine) }
+    ensures none { NoTouch trajs.now axes.r axes.h fine → result ≡ None }
+    ensures clear { FlyApartExactly axes.r axes.h trajs.now → result ≡ None }
 {
     formed_law(trajs);
-    first_site(trajs, r, h, fine)
+    first_site(trajs, axes, fine)
 }
 
 // The first listed instant and pair at which the left side of the test is not above the right one.
-fn first_site(trajs: &[Traj], r: u16, h: u16, fine: u8) -> Option<Touch>
+fn first_site(trajs: &[Traj], axes: Axes, fine: Fine) -> Option<Touch>
     requires show { IsOneShow trajs.now }
-    requires r { IsAxis r }
-    requires h { IsAxis h }
-    requires fine { fine ≤ 5 }
-    ensures { MatchOption result (NoneTouch trajs.now r h fine) (IsFirstSite trajs.now r h fine) }
+    ensures { MatchOption result (NoneTouch trajs.now axes.r axes.h fine) (IsFirstSite trajs.now axes.r axes.h fine) }
 {
     let mut here = starts(trajs);
     for cue in 0..trajs[0].segments.as_slice().len() {
-        if let Some(touch) = touch_in_cue(trajs, &here, cue, r, h, fine) {
+        if let Some(touch) = touch_in_cue(trajs, &here, cue, axes, fine) {
             return Some(touch);
         }
         here = next_starts(trajs, &here, cue);
@@ -69,23 +62,19 @@ fn touch_in_cue(
     trajs: &[Traj],
     starts: &[Start; MOST_DRONES],
     cue: usize,
-    r: u16,
-    h: u16,
-    fine: u8,
+    axes: Axes,
+    fine: Fine,
 ) -> Option<Touch>
     requires few { length trajs.now ≤ most_drones }
     requires cue { All (HasCue cue) trajs.now }
     requires number { cue < most_cues }
     requires starts { AreStarts trajs.now cue starts.now }
-    requires r { IsAxis r }
-    requires h { IsAxis h }
-    requires fine { fine ≤ 5 }
-    ensures { MatchOption result (DisjointInCue trajs.now r h fine cue (2 ^ fine + 1))
-        (IsFirstInCue trajs.now r h fine cue) }
+    ensures { MatchOption result (DisjointInCue trajs.now axes.r axes.h fine cue (2 ^ fine + 1))
+        (IsFirstInCue trajs.now axes.r axes.h fine cue) }
 {
-    for at in 0..2u8.pow(fine as u32) + 1 {
+    for at in 0..fine.parts() + 1 {
         let points = places(trajs, starts, cue, at, fine);
-        if let Some((a, b)) = first_pair(&points, trajs.len(), r, h, fine) {
+        if let Some((a, b)) = first_pair(&points, trajs.len(), axes, fine) {
             return Some(Touch {
                 cue: cue as u16,
                 at,
@@ -101,20 +90,16 @@ fn touch_in_cue(
 fn first_pair(
     points: &[Point; MOST_DRONES],
     drones: usize,
-    r: u16,
-    h: u16,
-    fine: u8,
+    axes: Axes,
+    fine: Fine,
 ) -> Option<(usize, usize)>
     requires few { drones ≤ most_drones }
     requires short { All IsShort points.now }
-    requires r { IsAxis r }
-    requires h { IsAxis h }
-    requires fine { fine ≤ 5 }
-    ensures { MatchOption result (AllDisjoint points.now r h fine drones drones)
-        (λ pair. IsFirstPair points.now r h fine drones pair.0 pair.1) }
+    ensures { MatchOption result (AllDisjoint points.now axes.r axes.h fine drones drones)
+        (λ pair. IsFirstPair points.now axes.r axes.h fine drones pair.0 pair.1) }
 {
     for a in 0..drones {
-        if let Some(b) = first_with(points, a, drones, r, h, fine) {
+        if let Some(b) = first_with(points, a, drones, axes, fine) {
             return Some((a, b));
         }
     }
@@ -126,21 +111,17 @@ fn first_with(
     points: &[Point; MOST_DRONES],
     a: usize,
     drones: usize,
-    r: u16,
-    h: u16,
-    fine: u8,
+    axes: Axes,
+    fine: Fine,
 ) -> Option<usize>
     requires few { drones ≤ most_drones }
     requires drone { a < drones }
     requires short { All IsShort points.now }
-    requires r { IsAxis r }
-    requires h { IsAxis h }
-    requires fine { fine ≤ 5 }
-    ensures { MatchOption result (AllDisjointFrom points.now r h fine a drones)
-        (IsFirstWith points.now r h fine a drones) }
+    ensures { MatchOption result (AllDisjointFrom points.now axes.r axes.h fine a drones)
+        (IsFirstWith points.now axes.r axes.h fine a drones) }
 {
     for b in a + 1..drones {
-        if is_touching(&points[a], &points[b], r, h, fine) {
+        if is_touching(&points[a], &points[b], axes, fine) {
             return Some(b);
         }
     }

@@ -10,11 +10,11 @@ returns c =
     let second = c.args.second.now in
     let cue = decimal_is_word (c.args.cue + 1) (omega arith) in
     let index = decimal_is_word c.args.index (omega arith) in
-    let parts = decimal_is_word (2 ^ c.args.depth) (parts_short c.args.depth c.requires.depth) in
+    let parts = decimal_is_word (2 ^ c.args.depth) (parts_short c.args.depth c.put_part.ensures.depth) in
     let pair = codes "pair" ∷ first ∷ second ∷ codes "cue" ∷ decimal (c.args.cue + 1) ∷ [] in
     let part = codes "part" ∷ decimal c.args.index ∷ codes "of" ∷ decimal (2 ^ c.args.depth) ∷ [] in
     let words =
-    c.in_ok-put_part.ensures
+    c.in_ok-put_part.ensures.part
     ∙ ap (λ (t : List ℕ). with_words t part) c.in_ok-put_pair.ensures
     ∙ ap (λ (t : List ℕ). with_words (with_words t pair) part) c.in_ok-word.ensures.ok in
     subst (λ (t : List ℕ). OnOk c.end.result (c.end.new.self ≡ t))

@@ -16,11 +16,11 @@ returns c =
     let words =
     c.in_ok-put_number.ensures.word
     ∙ ap (λ (t : List ℕ). with_word t level) c.in_ok-word-2.ensures.ok
-    ∙ ap (λ (t : List ℕ). with_word (with_word t (codes "level")) level) c.in_ok-put_site.ensures
+    ∙ ap (λ (t : List ℕ). with_word (with_word t (codes "level")) level) c.in_ok-put_site.ensures.site
     ∙ ap (λ (t : List ℕ). with_word (with_word (with_words t site) (codes "level")) level) c.in_ok-word.ensures.ok in
     subst (λ (t : List ℕ). OnOk c.end.result (c.end.new.self ≡ t))
     (ap (λ (t : List ℕ). t ++ 10 ∷ []) words
     ∙ words_make_line c.args.text.now (codes "closest") (site ++ codes "level" ∷ level ∷ []) c.requires.fresh refl
-    (site_are_words first second c.args.fine cue at (codes "level" ∷ level ∷ []) c.requires.first c.requires.second (omega (arith, c.requires.fine)) (omega arith) (omega arith)
+    (site_are_words first second c.args.fine cue at (codes "level" ∷ level ∷ []) c.requires.first c.requires.second (omega (arith, c.put_site.ensures.fine)) (omega arith) (omega arith)
     (refl, (c.put_number.ensures.is_word, tt))))
     c.end.ensures.ok

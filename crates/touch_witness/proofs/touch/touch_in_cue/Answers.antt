@@ -9,8 +9,8 @@ use Rattle.touch_witness.proofs.touch.touch_in_cue.Goals as goal
 pub loop-at-preserved : goal.loop-at-preserved
 loop-at-preserved c =
     below_more _ _ c.loop-at.invariant
-    (λ a b order inside. pair_disjoint c.args.trajs.now c.args.r c.args.h c.args.fine c.args.cue c.loop-at.at a b c.places-points.result c.places-points.ensures.places
-    (every c.places-points.result c.args.r c.args.h c.args.fine (length c.args.trajs.now) a b c.in_default.ensures order inside))
+    (λ a b order inside. pair_disjoint c.args.trajs.now c.args.axes.r c.args.axes.h c.args.fine c.args.cue c.loop-at.at a b c.places-points.result c.places-points.ensures.places
+    (every c.places-points.result c.args.axes.r c.args.axes.h c.args.fine (length c.args.trajs.now) a b c.in_default.ensures order inside))
   where
     every : (points : List Point) (r h fine n a b : ℕ) → AllDisjoint points r h fine n n → a < b → b < n → PairDisjoint points r h fine a b
     every points r h fine n a b all order inside = all a (omega arith) b inside order
@@ -25,14 +25,14 @@ earlier_pair points trajs r h fine cue at a b d e places found order inside (inr
 
 pub returns-in-Some : goal.returns-in-Some
 returns-in-Some c =
-    let found : IsFirstPair c.places-points.result c.args.r c.args.h c.args.fine (length c.args.trajs.now) c.in-Some.a c.in-Some.b = c.in-Some.ensures in
+    let found : IsFirstPair c.places-points.result c.args.axes.r c.args.axes.h c.args.fine (length c.args.trajs.now) c.in-Some.a c.in-Some.b = c.in-Some.ensures in
     record {
       in_cue = refl;
       fraction = omega arith;
       order = found.first.order;
       inside = found.first.inside;
-      touches = pair_touches c.args.trajs.now c.args.r c.args.h c.args.fine c.args.cue c.loop-at.at c.in-Some.a c.in-Some.b c.places-points.result c.places-points.ensures.places found.first.touches;
+      touches = pair_touches c.args.trajs.now c.args.axes.r c.args.axes.h c.args.fine c.args.cue c.loop-at.at c.in-Some.a c.in-Some.b c.places-points.result c.places-points.ensures.places found.first.touches;
       earlier = c.loop-at.invariant;
       none_before = λ d e order inside before.
-          earlier_pair c.places-points.result c.args.trajs.now c.args.r c.args.h c.args.fine c.args.cue c.loop-at.at c.in-Some.a c.in-Some.b d e c.places-points.ensures.places found order inside before;
+          earlier_pair c.places-points.result c.args.trajs.now c.args.axes.r c.args.axes.h c.args.fine c.args.cue c.loop-at.at c.in-Some.a c.in-Some.b d e c.places-points.ensures.places found order inside before;
     }
