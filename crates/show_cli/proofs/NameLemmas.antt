@@ -1,5 +1,5 @@
 -- What status 0 says where words begin with the name of a command.
-use Rattle.std.proofs.Common.{◌≡◌, ℕ, Bool, List, [], ◌∷◌, Option, Some, None, map, refl, sym, ap, subst, ◌∙◌, Contains}
+use Rattle.std.proofs.Common.{◌≡◌, ℕ, List, [], ◌∷◌, Option, Some, None, map, refl, sym, ap, subst, ◌∙◌, Contains}
 use Rattle.std.specs.Prelude.{codes, string_bytes, String}
 use Rattle.std.specs.Option.{option_map}
 use Rattle.std.specs.declared.alloc.Global.{Global}
@@ -35,13 +35,6 @@ pub compiles : (words : List (String Global)) (c : Command) → IsCalled words (
 compiles words c called is =
     named words (codes "compile") (λ (d : Command). (depth : ℕ) × (Compile depth ≡ d)) c called is
     (λ options told. let o = made_of _ _ c told in (_, o.1))
-
--- words that begin with `upload` send, with some options
-pub sends : (words : List (String Global)) (c : Command) → IsCalled words (codes "upload") → command_in words ≡ Some c →
-    (depth : ℕ) × (start : Bool) × (readback : Bool) × (Upload depth start readback ≡ c)
-sends words c called is =
-    named words (codes "upload") (λ (d : Command). (depth : ℕ) × (start : Bool) × (readback : Bool) × (Upload depth start readback ≡ d)) c called is
-    (λ options told. let o = made_of _ _ c told in (_, _, _, o.1))
 
 -- status 0 of a command says that the drones of its input keep apart, and that each upload of it goes right
 abbrev pub Uploads : Command → Type 0

@@ -98,8 +98,8 @@ pub fn run<S: Source, K: Sink>(
     // of an upload, with read-back or without, is safe, and when it is done each memory decodes to the curve of its drone.
     ensures uploads { (name input : List ℕ) → IsCalled words.now.items name → Contains judges_apart name → S.left source.old ≡ Some input → result ≡ 0 → UploadsText (part_of input) }
     // Of `upload` it holds whatever the status, once the first byte of a packet was written.
-    ensures begun { (input : List ℕ) → IsCalled words.now.items (codes "upload") → S.left source.old ≡ Some input → HasBegun (K.written sink.old) (K.written sink.new)
-        → UploadsText (part_of input) }
+    ensures begun { (depth : ℕ) (start readback : Bool) (input : List ℕ) → command_in words.now.items ≡ Some (Command.Upload depth start readback) → S.left source.old ≡ Some input
+        → HasBegun (K.written sink.old) (K.written sink.new) → UploadsText (part_of input) }
 
     // 0 of `compile`: the input stands for a show, its plan was written, and once the plan's packets are acknowledged, whatever the link
     // does, each drone's memory decodes to one curve, near to the show and apart from every other, at every instant.

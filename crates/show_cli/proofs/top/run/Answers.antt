@@ -8,7 +8,7 @@ use Rattle.show_looks.specs.Reports.{report_of}
 use Rattle.show_looks.proofs.CompileLemmas.{headline_of}
 use Rattle.show_cli.specs.Verbs.{verb_of}
 use Rattle.show_cli.proofs.TopLemmas.{behaves_as, known_small, never_seventeen, never_two, one_command}
-use Rattle.show_cli.proofs.NameLemmas.{compiles, sends, uploads}
+use Rattle.show_cli.proofs.NameLemmas.{compiles, uploads}
 use Rattle.show_cli.proofs.VerbLaws.{laws}
 use Rattle.show_cli.proofs.top.run.Goals as goal
 
@@ -40,9 +40,8 @@ returns-in-Some-clause-uploads g c = λ name input called judges left done.
     uploads _ c.in-Some.command name called judges (sym c.command_of.ensures.value ∙ c.in-Some.is) input _ _ c.run_command.ensures.behaves.runs left done
 
 pub returns-in-Some-clause-begun : goal.returns-in-Some-clause-begun
-returns-in-Some-clause-begun g c = λ input called left begun.
-    let upload = sends _ c.in-Some.command called (sym c.command_of.ensures.value ∙ c.in-Some.is) in
-    rw left at (c.run_command.ensures.begun upload.0 upload.1 upload.2 (sym upload.3) begun)
+returns-in-Some-clause-begun g c = λ depth start readback input is left begun.
+    rw left at (c.run_command.ensures.begun depth start readback (one_command _ c.in-Some.command (Upload depth start readback) (sym c.command_of.ensures.value ∙ c.in-Some.is) is) begun)
 
 pub returns-in-Some-clause-drilled : goal.returns-in-Some-clause-drilled
 returns-in-Some-clause-drilled g c = λ drones depth is done.
