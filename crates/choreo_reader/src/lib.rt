@@ -12,7 +12,8 @@ mod token;
 
 pub use choreo_lines::LineKind;
 pub use choreo_show::{
-    Act, ActLine, Block, DroneLine, Figure, Formation, Frame, Listed, Mirror, Name, Point, Settings, Show,
+    Act, ActLine, Block, DroneLine, Figure, Formation, Frame, Listed, Mirror, Name, Point,
+    Settings, Show,
 };
 pub use fault::ShowFault;
 pub use reader::{read_show, show_law};

@@ -17,9 +17,9 @@ ghost use Rattle.text_lines.specs.declared.token.Comments.TheVariants.{FromHash}
 ghost use Rattle.choreo_reader.specs.Reading.{InFormation, InFigure, InRepeat, InCue, entry_fault as entry_fault_of, with_block as with_block_of, act_added, place_added, add_block as add_block_of, close as close_of, close_innermost as close_innermost_of, with_act as with_act_of, with_place as with_place_of, nothing, build, settings_of, opening_of, openings_of, context_of, line_step, lines_step, finish as finish_of, read_lines, reading};
 
 use crate::fault::ShowFault;
-use choreo_show::{ActLine, Block, DroneLine, Figure, Formation, Settings, Show};
 use crate::token::{first_bad_line, line_words};
 use choreo_lines::{Entry, LineError, LineKind, Listed, Name, Place, entry_of};
+use choreo_show::{ActLine, Block, DroneLine, Figure, Formation, Settings, Show};
 use std::alloc::{AllocError, Global};
 use text_lines::{Token, split_line, word_at};
 

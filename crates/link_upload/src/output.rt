@@ -32,7 +32,12 @@ fn put(host: &Host, x: Sent, bytes: &mut Bytes)
 }
 
 // Sends packets, in their order. What `bytes` held before is lost.
-pub fn send<K: Sink>(host: &Host, sent: &[Sent], bytes: &mut Bytes, sink: &mut K) -> Result<(), Failed>
+pub fn send<K: Sink>(
+    host: &Host,
+    sent: &[Sent],
+    bytes: &mut Bytes,
+    sink: &mut K,
+) -> Result<(), Failed>
     requires known { All (IsPacketOf host.now.session) sent.now }
     requires few { length sent.now ≤ MOST_SENT }
     ensures ok { OnOk result (Appends (K.written sink.old) (K.written sink.new) (packet_frames (link_of host.now.session) sent.now)) }

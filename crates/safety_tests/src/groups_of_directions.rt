@@ -83,11 +83,20 @@ fn counted_at_the_edge(rt: HostRuntime) -> Result<(), Fail> {
     let ruler = Ruler::make(&WIDE, still());
     for (place, dir, nearer) in PLACES {
         let apart = staying(rt.alloc(), [0, 0, 0], place)?;
-        assert!(rt; nodes_of(rt.alloc(), &apart, &ruler, 0) == Some(Ok(2)), "direction {dir}");
+        assert!(rt;
+            nodes_of(rt.alloc(), &apart, &ruler, 0) == Some(Ok(2)),
+            "direction {dir}"
+        );
         let turned = staying(rt.alloc(), place, [0, 0, 0])?;
-        assert!(rt; nodes_of(rt.alloc(), &turned, &ruler, 0) == Some(Ok(2)), "opposite of {dir}");
+        assert!(rt;
+            nodes_of(rt.alloc(), &turned, &ruler, 0) == Some(Ok(2)),
+            "opposite of {dir}"
+        );
         let near = staying(rt.alloc(), [0, 0, 0], nearer)?;
-        assert!(rt; nodes_of(rt.alloc(), &near, &ruler, 0) == Some(Err(0)), "within {dir}");
+        assert!(rt;
+            nodes_of(rt.alloc(), &near, &ruler, 0) == Some(Err(0)),
+            "within {dir}"
+        );
     }
     Ok(())
 }

@@ -52,12 +52,25 @@ uploads words c name called judges is =
     keeps name f each by options c told = let x = by options in let o = made_of f x.0 c (sym x.1 ∙ told) in subst Uploads o.1 (each o.0)
 
     all : (UploadsAs (codes "check") × (UploadsAs (codes "compile") × (UploadsAs (codes "certify") × (UploadsAs (codes "play") × (UploadsAs (codes "report") × (UploadsAs (codes "verify") × (UploadsAs (codes "rehearse") × (UploadsAs (codes "upload") × Unit {0}))))))))
-    all =
-        (keeps (codes "check") (λ o. Check (depth_in o)) (λ o. uploads_of (verb_of (Check (depth_in o))) refl refl (λ s cut promised. promised)) (λ options. (options_for (Depth ∷ []) options, refl)),
-        (keeps (codes "compile") (λ o. Compile (depth_in o)) (λ o. uploads_of (verb_of (Compile (depth_in o))) refl refl (λ s cut promised. promised)) (λ options. (options_for (Depth ∷ []) options, refl)),
-        (keeps (codes "certify") (λ o. Certify (depth_in o)) (λ o. uploads_of (verb_of (Certify (depth_in o))) refl refl (λ s cut promised. promised)) (λ options. (options_for (Depth ∷ []) options, refl)),
-        (keeps (codes "play") (λ o. Play (depth_in o) (step_in o)) (λ o. uploads_of (verb_of (Play (depth_in o) (step_in o))) refl refl (λ s cut promised. promised)) (λ options. (options_for (Depth ∷ Step ∷ []) options, refl)),
-        (keeps (codes "report") (λ o. Report (depth_in o)) (λ o. uploads_of (verb_of (Report (depth_in o))) refl refl (λ s cut promised. promised)) (λ options. (options_for (Depth ∷ []) options, refl)),
-        (keeps (codes "verify") (λ o. Verify) (λ o. uploads_of (verb_of Verify) refl refl (λ s cut promised. promised)) (λ options. (options_for [] options, refl)),
-        (keeps (codes "rehearse") (λ o. Rehearse (depth_in o) (has o Start) (has o Readback)) (λ o. uploads_of (verb_of (Rehearse (depth_in o) (has o Start) (has o Readback))) refl refl (λ s cut promised. promised)) (λ options. (options_for (Depth ∷ Start ∷ Readback ∷ []) options, refl)),
-        (keeps (codes "upload") (λ o. Upload (depth_in o) (has o Start) (has o Readback)) (λ o. uploads_of (verb_of (Upload (depth_in o) (has o Start) (has o Readback))) refl refl (λ s cut promised. promised)) (λ options. (options_for (Depth ∷ Start ∷ Readback ∷ []) options, refl)), tt))))))))
+    all = (
+      keeps (codes "check") (λ o. Check (depth_in o)) (λ o. uploads_of (verb_of (Check (depth_in o))) refl refl (λ s cut promised. promised)) (λ options. (options_for (Depth ∷ []) options, refl)),
+      (
+        keeps (codes "compile") (λ o. Compile (depth_in o)) (λ o. uploads_of (verb_of (Compile (depth_in o))) refl refl (λ s cut promised. promised)) (λ options. (options_for (Depth ∷ []) options, refl)),
+        (
+          keeps (codes "certify") (λ o. Certify (depth_in o)) (λ o. uploads_of (verb_of (Certify (depth_in o))) refl refl (λ s cut promised. promised)) (λ options. (options_for (Depth ∷ []) options, refl)),
+          (
+            keeps (codes "play") (λ o. Play (depth_in o) (step_in o)) (λ o. uploads_of (verb_of (Play (depth_in o) (step_in o))) refl refl (λ s cut promised. promised)) (λ options. (options_for (Depth ∷ Step ∷ []) options, refl)),
+            (
+              keeps (codes "report") (λ o. Report (depth_in o)) (λ o. uploads_of (verb_of (Report (depth_in o))) refl refl (λ s cut promised. promised)) (λ options. (options_for (Depth ∷ []) options, refl)),
+              (
+                keeps (codes "verify") (λ o. Verify) (λ o. uploads_of (verb_of Verify) refl refl (λ s cut promised. promised)) (λ options. (options_for [] options, refl)),
+                (
+                  keeps (codes "rehearse") (λ o. Rehearse (depth_in o) (has o Start) (has o Readback)) (λ o. uploads_of (verb_of (Rehearse (depth_in o) (has o Start) (has o Readback))) refl refl (λ s cut promised. promised)) (λ options. (options_for (Depth ∷ Start ∷ Readback ∷ []) options, refl)),
+                  (keeps (codes "upload") (λ o. Upload (depth_in o) (has o Start) (has o Readback)) (λ o. uploads_of (verb_of (Upload (depth_in o) (has o Start) (has o Readback))) refl refl (λ s cut promised. promised)) (λ options. (options_for (Depth ∷ Start ∷ Readback ∷ []) options, refl)), tt),
+                ),
+              ),
+            ),
+          ),
+        ),
+      ),
+    )

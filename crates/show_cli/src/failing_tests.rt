@@ -13,7 +13,7 @@ type Row<'a> = (&'a [&'a str], &'a [u8], &'a [u8], u8, &'a [&'a [u8]]);
 const CERTIFICATE: &[u8] = b"%%\ncertificate 6\nr\nl\na\n";
 
 // The rows of the commands that read their input to its end.
-const TO_THE_END: [Row; 14] = [
+const TO_THE_END: [Row; 15] = [
     (
         &["check"],
         APART,
@@ -69,6 +69,16 @@ const TO_THE_END: [Row; 14] = [
     ),
     (&["speed"], SHOW, b"", 0, &[b"speed solo 1093750 0 0\n"]),
     (&["explain"], SHOW, b"", 0, &[b"separated\n"]),
+    (
+        &["dynamics"],
+        SHOW,
+        b"",
+        0,
+        &[
+            b"dynamics solo acceleration 1878895 0 0 jump 0 cue 1 0 cue 1 0 cue 1 begins rest ends rest\n\
+greatest acceleration 1878895 0 0 jump 0 0 0\n",
+        ],
+    ),
     // The second text of a show that is refused is read to its end too.
     (&["verify"], START, CERTIFICATE, 3, &[NO_CUE]),
     (&["rehearse"], START, b"%%\ntake solo 1\n", 3, &[NO_CUE]),

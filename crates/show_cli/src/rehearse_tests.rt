@@ -1,5 +1,6 @@
 //! Rehearsals of the smallest path over memory, with results that are known from outside.
 use fleet_io::{MemSink, MemSource};
+use fleet_math::Depth;
 use show_uploads::rehearse;
 use std::alloc::{AllocError, Global};
 use std::test::Fail;
@@ -34,7 +35,8 @@ fn answer(
     bytes.extend_from_slice(second)?;
     let mut source = MemSource::make(bytes, 1000, Vec::from_slice(alloc, &[fails])?);
     let mut sink = MemSink::make(alloc, 20_000, 1000, Vec::new(alloc))?;
-    let status = rehearse(alloc, 6, start, false, &mut source, &mut sink);
+    let depth = Depth::make(6);
+    let status = rehearse(alloc, depth, start, false, &mut source, &mut sink);
     Ok((status, sink))
 }
 

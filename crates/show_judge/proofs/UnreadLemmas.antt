@@ -12,7 +12,7 @@ use Rattle.show_judge.specs.Outcome.{IsOutcomeOf, IsSafe, IsVerb, OutcomeLaw}
 use Rattle.show_judge.specs.Input.{TakesOneText}
 use Rattle.show_judge.specs.Runs.{Behaves, Runs}
 use Rattle.show_judge.specs.Shows.{cut_of}
-use Rattle.show_judge.specs.Verb.{Judges, Outcome, Run, nothing, of_nothing, of_own, outcome, run_of}
+use Rattle.show_judge.specs.Verb.{Outcome, Run, nothing, of_nothing, of_own, outcome, run_of}
 use Rattle.show_judge.proofs.HeadlineLemmas.{headlines, says_of}
 use Rattle.show_judge.proofs.RunLemmas.{answer_among, answer_judged, completes, runs_memory}
 use Rattle.show_judge.proofs.VerbLemmas.{outcomes}

@@ -1,5 +1,5 @@
 -- What is said of a show that is accepted, and its numbers.
-use Rattle.std.specs.Prelude.{ℕ, ◌+◌, List, [], ◌∷◌, length, map, codes, decimal}
+use Rattle.std.specs.Prelude.{ℕ, ◌+◌, List, [], ◌∷◌, map, codes, decimal}
 use Rattle.std.specs.List.{sum}
 use Rattle.fleet_io.specs.Words.{line}
 use Rattle.choreo_show.specs.Plain.{PlainShow}

@@ -19,7 +19,6 @@ use Rattle.upload_model.proofs.Moments.{All-slice_get}
 use Rattle.fleet_curves.specs.Raised as raised
 use Rattle.traj_codec.specs.declared.traj.Traj.{Traj}
 use Rattle.sep_parts.proofs.Lifts.{exactly_apart, lasting_at, own_some}
-use Rattle.show_judge.specs.Shows.{cues_in}
 use Rattle.show_studies.specs.Explained.{separation_line, word_at}
 
 -- ---- lines

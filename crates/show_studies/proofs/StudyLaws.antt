@@ -1,10 +1,8 @@
 -- The laws of `speed`, of `dynamics` and of `explain`.
-use Rattle.std.proofs.Common.{◌≡◌, ℕ, false, List, Option, Some, None, refl, sym, ap, subst, ◌∙◌}
+use Rattle.std.proofs.Common.{◌≡◌, ℕ, List, Option, Some, None, refl, sym, ap, subst, ◌∙◌}
 use Rattle.std.specs.Io.KnownBytes.{Appends}
 use Rattle.choreo_reader.specs.Grammar.{StandsFor}
-use Rattle.choreo_show.specs.Plain.{PlainShow}
 use Rattle.refusals.specs.declared.refusal.Refusal.{Refusal}
-use Rattle.show_judge.specs.declared.ways.Ways.{Ways}
 use Rattle.show_judge.specs.Outcome.{IsSafe, IsVerb}
 use Rattle.show_judge.specs.Shows.{cut_of, names_of, sent_of}
 use Rattle.show_judge.specs.Verb.{Outcome, outcome}

@@ -10,7 +10,6 @@ use Rattle.touch_witness.specs.declared.site.Closest.{Closest}
 use Rattle.touch_witness.specs.declared.site.Touch.{Touch}
 use Rattle.touch_witness.specs.Lines.{blocked_pair_line, closest_line, no_touch_line, separated_line, touch_line}
 use Rattle.touch_witness.specs.Sites.{IsClosest, IsFirstTouch, NoTouch}
-use Rattle.show_judge.specs.Outcome.{IsVerb}
 use Rattle.show_judge.specs.Shows.{cues_in, name_at, names_of, sent_of, trajectories_of}
 use Rattle.show_judge.specs.Verb.{Outcome, Verb, of_any}
 

@@ -11,7 +11,7 @@ use Rattle.refusals.specs.declared.refusal.Refusal.TheVariants as refusal
 use Rattle.speed_bound.specs.Lines.{speed_line}
 use Rattle.speed_bound.specs.Speed.{KeepsSpeed, speed}
 use Rattle.traj_codec.specs.declared.traj.Traj.{Traj}
-use Rattle.show_judge.specs.Outcome.{IsVerb, refused}
+use Rattle.show_judge.specs.Outcome.{refused}
 use Rattle.show_judge.specs.Shows.{names_of, sent_of}
 use Rattle.show_judge.specs.Verb.{Outcome, Verb, of_any, outcome}
 

@@ -1,5 +1,5 @@
 -- What steps of these commands hand on, which no public contract cites.
-use Rattle.std.specs.Prelude.{◌≡◌, ℕ, ◌<◌, List, length, Option, Some, None, IfSome, MatchOption}
+use Rattle.std.specs.Prelude.{◌≡◌, ℕ, ◌<◌, List, length, Option, None, IfSome, MatchOption}
 use Rattle.choreo_show.specs.Plain.{PlainShow}
 use Rattle.fleet_curves.specs.Raised.{raised_of}
 use Rattle.keepout_boxes.specs.declared.judging.Judged.{Judged as JudgedRegions}

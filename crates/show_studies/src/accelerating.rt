@@ -52,7 +52,13 @@ fn refusal_as(kind: Kind, drone: Name, cue: u16, axis: u8, value: i64) -> Refusa
 }
 
 // The first acceleration or jump of a drone that is above its limit.
-fn excess_by(t: &Traj, name: &Name, cues: &[Segment], depth: Depth, limits: Limits) -> Option<Refusal>
+fn excess_by(
+    t: &Traj,
+    name: &Name,
+    cues: &[Segment],
+    depth: Depth,
+    limits: Limits,
+) -> Option<Refusal>
     requires sendable { IsSendable t.now }
     requires name { IsWord name.now.items }
     requires cues { length cues.now ≤ most_cues }

@@ -79,7 +79,12 @@ fn judge_regions(
 }
 
 // What a second text gives that isn't too large.
-fn judge_part(alloc: Global, fitted: &Fitted, depth: Depth, part: &Part) -> Result<Answer, AllocError>
+fn judge_part(
+    alloc: Global,
+    fitted: &Fitted,
+    depth: Depth,
+    part: &Part,
+) -> Result<Answer, AllocError>
     requires valid { IsValidFitted fitted.now }
     requires short { length part.now.bytes.items ≤ most_text }
     ensures gives { (s : PlainShow) (cut : Cut) → IsFitted fitted.now s → IsText most_text (Text.Whole part.now) cut.second cut.is_second_marked

@@ -18,11 +18,36 @@ fn commands() -> [(&'static str, Command); 38] {
     [
         ("help", Command::Help),
         ("version", Command::Version),
-        ("check", Command::Check { depth: Depth::make(6) }),
-        ("check --depth 0", Command::Check { depth: Depth::make(0) }),
-        ("compile --depth 8", Command::Compile { depth: Depth::make(8) }),
-        ("compile --depth 000000008", Command::Compile { depth: Depth::make(8) }),
-        ("certify --depth 05", Command::Certify { depth: Depth::make(5) }),
+        (
+            "check",
+            Command::Check {
+                depth: Depth::make(6),
+            },
+        ),
+        (
+            "check --depth 0",
+            Command::Check {
+                depth: Depth::make(0),
+            },
+        ),
+        (
+            "compile --depth 8",
+            Command::Compile {
+                depth: Depth::make(8),
+            },
+        ),
+        (
+            "compile --depth 000000008",
+            Command::Compile {
+                depth: Depth::make(8),
+            },
+        ),
+        (
+            "certify --depth 05",
+            Command::Certify {
+                depth: Depth::make(5),
+            },
+        ),
         (
             "play",
             Command::Play {
@@ -30,7 +55,13 @@ fn commands() -> [(&'static str, Command); 38] {
                 step: 100,
             },
         ),
-        ("play --step 1", Command::Play { depth: Depth::make(6), step: 1 }),
+        (
+            "play --step 1",
+            Command::Play {
+                depth: Depth::make(6),
+                step: 1,
+            },
+        ),
         (
             "play --step 60000",
             Command::Play {
@@ -52,8 +83,18 @@ fn commands() -> [(&'static str, Command); 38] {
                 step: 500,
             },
         ),
-        ("report", Command::Report { depth: Depth::make(6) }),
-        ("report --depth 2", Command::Report { depth: Depth::make(2) }),
+        (
+            "report",
+            Command::Report {
+                depth: Depth::make(6),
+            },
+        ),
+        (
+            "report --depth 2",
+            Command::Report {
+                depth: Depth::make(2),
+            },
+        ),
         ("verify", Command::Verify),
         (
             "rehearse",
@@ -131,8 +172,18 @@ fn commands() -> [(&'static str, Command); 38] {
                 depth: Depth::make(6),
             },
         ),
-        ("boxes", Command::Boxes { depth: Depth::make(6) }),
-        ("boxes --depth 2", Command::Boxes { depth: Depth::make(2) }),
+        (
+            "boxes",
+            Command::Boxes {
+                depth: Depth::make(6),
+            },
+        ),
+        (
+            "boxes --depth 2",
+            Command::Boxes {
+                depth: Depth::make(2),
+            },
+        ),
         (
             "speed",
             Command::Speed {
@@ -161,14 +212,26 @@ fn commands() -> [(&'static str, Command); 38] {
                 limit: Some(1),
             },
         ),
-        ("explain", Command::Explain { depth: Depth::make(6), fine: Fine::make(5) }),
+        (
+            "explain",
+            Command::Explain {
+                depth: Depth::make(6),
+                fine: Fine::make(5),
+            },
+        ),
         (
             "explain --fine 0 --depth 3",
-            Command::Explain { depth: Depth::make(3), fine: Fine::make(0) },
+            Command::Explain {
+                depth: Depth::make(3),
+                fine: Fine::make(0),
+            },
         ),
         (
             "explain --depth 3 --fine 05",
-            Command::Explain { depth: Depth::make(3), fine: Fine::make(5) },
+            Command::Explain {
+                depth: Depth::make(3),
+                fine: Fine::make(5),
+            },
         ),
         (
             "dynamics",

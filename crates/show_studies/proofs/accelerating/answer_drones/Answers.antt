@@ -1,4 +1,4 @@
-use Rattle.std.proofs.Common.{List, None, Option, Some, arith, length, sym, ℕ, ◌++◌, ◌<◌, ◌∙◌, ◌≡◌, ◌+◌, ap, drop}
+use Rattle.std.proofs.Common.{List, None, Option, arith, length, sym, ℕ, ◌++◌, ◌<◌, ◌∙◌, ◌≡◌, ◌+◌, ap, drop}
 use Rattle.refusals.specs.declared.refusal.Refusal.{Refusal}
 use Rattle.traj_codec.specs.Positions.{durations}
 use Rattle.dynamics_bound.specs.declared.motion.Extremes.{Extremes}

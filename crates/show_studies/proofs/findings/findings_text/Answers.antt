@@ -1,4 +1,3 @@
-use Rattle.std.proofs.Common.{length}
 use Rattle.show_studies.proofs.FindingLemmas.{separation_leaves}
 use Rattle.show_studies.proofs.findings.findings_text.Goals as goal
 
