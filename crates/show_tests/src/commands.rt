@@ -1,4 +1,6 @@
 //! Chosen words and the commands that they are.
+ghost use Rattle.std.specs.Prelude.{◌≤◌};
+
 use command_words::{Command, command_of, help_text};
 use fleet_math::{Depth, Fine};
 use std::alloc::{AllocError, Global};
@@ -13,257 +15,156 @@ fn command(alloc: Global, line: &str) -> Result<Option<Command>, AllocError> {
     Ok(command_of(&words))
 }
 
+// Commands by their numbers.
+fn check(depth: u8) -> Command
+    requires { depth ≤ 8 }
+{
+    let depth = Depth::make(depth);
+    Command::Check { depth }
+}
+
+fn compile(depth: u8) -> Command
+    requires { depth ≤ 8 }
+{
+    let depth = Depth::make(depth);
+    Command::Compile { depth }
+}
+
+fn certify(depth: u8) -> Command
+    requires { depth ≤ 8 }
+{
+    let depth = Depth::make(depth);
+    Command::Certify { depth }
+}
+
+fn report(depth: u8) -> Command
+    requires { depth ≤ 8 }
+{
+    let depth = Depth::make(depth);
+    Command::Report { depth }
+}
+
+fn boxes(depth: u8) -> Command
+    requires { depth ≤ 8 }
+{
+    let depth = Depth::make(depth);
+    Command::Boxes { depth }
+}
+
+fn play(depth: u8, step: u16) -> Command
+    requires { depth ≤ 8 }
+{
+    let depth = Depth::make(depth);
+    Command::Play { depth, step }
+}
+
+fn rehearse(depth: u8, start: bool, readback: bool) -> Command
+    requires { depth ≤ 8 }
+{
+    let depth = Depth::make(depth);
+    Command::Rehearse {
+        depth,
+        start,
+        readback,
+    }
+}
+
+fn upload(depth: u8, start: bool, readback: bool) -> Command
+    requires { depth ≤ 8 }
+{
+    let depth = Depth::make(depth);
+    Command::Upload {
+        depth,
+        start,
+        readback,
+    }
+}
+
+fn drill(drones: u8, depth: u8) -> Command
+    requires { depth ≤ 8 }
+{
+    let depth = Depth::make(depth);
+    Command::Drill { drones, depth }
+}
+
+fn speed(depth: u8, limit: Option<u32>) -> Command
+    requires { depth ≤ 8 }
+{
+    let depth = Depth::make(depth);
+    Command::Speed { depth, limit }
+}
+
+fn explain(depth: u8, fine: u8) -> Command
+    requires depth { depth ≤ 8 }
+    requires fine { fine ≤ 5 }
+{
+    let depth = Depth::make(depth);
+    let fine = Fine::make(fine);
+    Command::Explain { depth, fine }
+}
+
+fn dynamics(depth: u8, accel: Option<u32>, jump: Option<u32>) -> Command
+    requires { depth ≤ 8 }
+{
+    let depth = Depth::make(depth);
+    Command::Dynamics { depth, accel, jump }
+}
+
 // Words, and the commands that they are.
-fn commands() -> [(&'static str, Command); 38] {
+fn commands() -> [(&'static str, Command); 25] {
     [
         ("help", Command::Help),
         ("version", Command::Version),
-        (
-            "check",
-            Command::Check {
-                depth: Depth::make(6),
-            },
-        ),
-        (
-            "check --depth 0",
-            Command::Check {
-                depth: Depth::make(0),
-            },
-        ),
-        (
-            "compile --depth 8",
-            Command::Compile {
-                depth: Depth::make(8),
-            },
-        ),
-        (
-            "compile --depth 000000008",
-            Command::Compile {
-                depth: Depth::make(8),
-            },
-        ),
-        (
-            "certify --depth 05",
-            Command::Certify {
-                depth: Depth::make(5),
-            },
-        ),
-        (
-            "play",
-            Command::Play {
-                depth: Depth::make(6),
-                step: 100,
-            },
-        ),
-        (
-            "play --step 1",
-            Command::Play {
-                depth: Depth::make(6),
-                step: 1,
-            },
-        ),
-        (
-            "play --step 60000",
-            Command::Play {
-                depth: Depth::make(6),
-                step: 60_000,
-            },
-        ),
-        (
-            "play --step 500 --depth 3",
-            Command::Play {
-                depth: Depth::make(3),
-                step: 500,
-            },
-        ),
-        (
-            "play --depth 3 --step 000000500",
-            Command::Play {
-                depth: Depth::make(3),
-                step: 500,
-            },
-        ),
-        (
-            "report",
-            Command::Report {
-                depth: Depth::make(6),
-            },
-        ),
-        (
-            "report --depth 2",
-            Command::Report {
-                depth: Depth::make(2),
-            },
-        ),
+        ("check", check(6)),
+        ("check --depth 0", check(0)),
+        ("compile --depth 8", compile(8)),
+        ("compile --depth 000000008", compile(8)),
+        ("certify --depth 05", certify(5)),
+        ("play", play(6, 100)),
+        ("play --step 1", play(6, 1)),
+        ("play --step 60000", play(6, 60_000)),
+        ("play --step 500 --depth 3", play(3, 500)),
+        ("play --depth 3 --step 000000500", play(3, 500)),
+        ("report", report(6)),
+        ("report --depth 2", report(2)),
         ("verify", Command::Verify),
-        (
-            "rehearse",
-            Command::Rehearse {
-                depth: Depth::make(6),
-                start: false,
-                readback: false,
-            },
-        ),
-        (
-            "rehearse --start --depth 3",
-            Command::Rehearse {
-                depth: Depth::make(3),
-                start: true,
-                readback: false,
-            },
-        ),
-        (
-            "rehearse --depth 3 --start",
-            Command::Rehearse {
-                depth: Depth::make(3),
-                start: true,
-                readback: false,
-            },
-        ),
-        (
-            "upload --start",
-            Command::Upload {
-                depth: Depth::make(6),
-                start: true,
-                readback: false,
-            },
-        ),
-        (
-            "upload --depth 7",
-            Command::Upload {
-                depth: Depth::make(7),
-                start: false,
-                readback: false,
-            },
-        ),
-        (
-            "upload --depth 7 --start",
-            Command::Upload {
-                depth: Depth::make(7),
-                start: true,
-                readback: false,
-            },
-        ),
-        (
-            "drill 1",
-            Command::Drill {
-                drones: 1,
-                depth: Depth::make(6),
-            },
-        ),
-        (
-            "drill 32 --depth 8",
-            Command::Drill {
-                drones: 32,
-                depth: Depth::make(8),
-            },
-        ),
-        (
-            "drill 004 --depth 6",
-            Command::Drill {
-                drones: 4,
-                depth: Depth::make(6),
-            },
-        ),
-        (
-            "drill 000000016",
-            Command::Drill {
-                drones: 16,
-                depth: Depth::make(6),
-            },
-        ),
-        (
-            "boxes",
-            Command::Boxes {
-                depth: Depth::make(6),
-            },
-        ),
-        (
-            "boxes --depth 2",
-            Command::Boxes {
-                depth: Depth::make(2),
-            },
-        ),
-        (
-            "speed",
-            Command::Speed {
-                depth: Depth::make(6),
-                limit: None,
-            },
-        ),
-        (
-            "speed --limit 1600000 --depth 0",
-            Command::Speed {
-                depth: Depth::make(0),
-                limit: Some(1_600_000),
-            },
-        ),
+        ("rehearse", rehearse(6, false, false)),
+        ("rehearse --start --depth 3", rehearse(3, true, false)),
+        ("rehearse --depth 3 --start", rehearse(3, true, false)),
+        ("upload --start", upload(6, true, false)),
+        ("upload --depth 7", upload(7, false, false)),
+        ("upload --depth 7 --start", upload(7, true, false)),
+        ("drill 1", drill(1, 6)),
+        ("drill 32 --depth 8", drill(32, 8)),
+        ("drill 004 --depth 6", drill(4, 6)),
+        ("drill 000000016", drill(16, 6)),
+    ]
+}
+
+// The same of the commands that study a show.
+fn studies() -> [(&'static str, Command); 13] {
+    [
+        ("boxes", boxes(6)),
+        ("boxes --depth 2", boxes(2)),
+        ("speed", speed(6, None)),
+        ("speed --limit 1600000 --depth 0", speed(0, Some(1_600_000))),
         (
             "speed --depth 8 --limit 999999999",
-            Command::Speed {
-                depth: Depth::make(8),
-                limit: Some(999_999_999),
-            },
+            speed(8, Some(999_999_999)),
         ),
-        (
-            "speed --limit 1",
-            Command::Speed {
-                depth: Depth::make(6),
-                limit: Some(1),
-            },
-        ),
-        (
-            "explain",
-            Command::Explain {
-                depth: Depth::make(6),
-                fine: Fine::make(5),
-            },
-        ),
-        (
-            "explain --fine 0 --depth 3",
-            Command::Explain {
-                depth: Depth::make(3),
-                fine: Fine::make(0),
-            },
-        ),
-        (
-            "explain --depth 3 --fine 05",
-            Command::Explain {
-                depth: Depth::make(3),
-                fine: Fine::make(5),
-            },
-        ),
-        (
-            "dynamics",
-            Command::Dynamics {
-                depth: Depth::make(6),
-                accel: None,
-                jump: None,
-            },
-        ),
+        ("speed --limit 1", speed(6, Some(1))),
+        ("explain", explain(6, 5)),
+        ("explain --fine 0 --depth 3", explain(3, 0)),
+        ("explain --depth 3 --fine 05", explain(3, 5)),
+        ("dynamics", dynamics(6, None, None)),
         (
             "dynamics --jump 0 --depth 8 --accel 999999999",
-            Command::Dynamics {
-                depth: Depth::make(8),
-                accel: Some(999_999_999),
-                jump: Some(0),
-            },
+            dynamics(8, Some(999_999_999), Some(0)),
         ),
-        (
-            "dynamics --accel 0",
-            Command::Dynamics {
-                depth: Depth::make(6),
-                accel: Some(0),
-                jump: None,
-            },
-        ),
+        ("dynamics --accel 0", dynamics(6, Some(0), None)),
         (
             "dynamics --depth 0 --jump 000000300",
-            Command::Dynamics {
-                depth: Depth::make(0),
-                accel: None,
-                jump: Some(300),
-            },
+            dynamics(0, None, Some(300)),
         ),
     ]
 }
@@ -271,6 +172,9 @@ fn commands() -> [(&'static str, Command); 38] {
 #[test]
 fn words_that_are_a_command(rt: HostRuntime) -> Result<(), Fail> {
     for (line, wanted) in commands() {
+        assert!(rt; command(rt.alloc(), line)? == Some(wanted));
+    }
+    for (line, wanted) in studies() {
         assert!(rt; command(rt.alloc(), line)? == Some(wanted));
     }
     Ok(())
