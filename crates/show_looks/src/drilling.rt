@@ -51,8 +51,8 @@ fn answer_accepted(alloc: Global, accepted: &Accepted) -> Result<Answer, AllocEr
 {
     let fitted = &accepted.fitted;
     let drones = drones_in(fitted.names.as_slice());
-    let bytes = sizes(alloc, fitted.bytes.as_slice())?;
-    let packets = packets(alloc, fitted.bytes.as_slice())?;
+    let bytes = sizes(alloc, fitted.sent.as_slice())?;
+    let packets = packets(alloc, bytes.as_slice())?;
     let line = drill_line(
         drones,
         fitted.cues,

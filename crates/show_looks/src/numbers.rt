@@ -1,42 +1,36 @@
 //! Numbers of a show that fits.
-ghost use Rattle.std.specs.Prelude.{◌≡◌, ◌≤◌, ◌+◌, ℕ, List, length, map, IfOk};
+ghost use Rattle.std.specs.Prelude.{◌≡◌, ◌≤◌, ◌+◌, ℕ, length, map, IfOk};
 ghost use Rattle.std.specs.List.{All, sum};
 ghost use Rattle.fleet_math.specs.Limits.{most_drones};
 ghost use Rattle.crtp_packets.specs.Chunks.{chunk_count_of};
+ghost use Rattle.traj_codec.specs.declared.traj.Traj.{Traj};
+ghost use Rattle.show_plan.specs.Fitting.{IsSendable, size};
 
-use choreo_reader::Listed;
 use crtp_packets::{MEMORY_BYTES, chunk_count};
 use std::alloc::{AllocError, Global};
+use traj_codec::{Traj, size_of};
 
-// How many packets bring these bytes to a drone: its writes and its define.
-fn packets_for(bytes: &[u8]) -> u32
-    requires { length bytes.now ≤ MEMORY_BYTES }
-    ensures value { result ≡ chunk_count_of (length bytes.now) + 1 }
-    ensures few { result ≤ 172 }
-{
-    chunk_count(bytes.len()) as u32 + 1
-}
-
-/// The number of bytes in each row.
-pub fn sizes(alloc: Global, rows: &[Listed<u8>]) -> Result<Vec<u32>, AllocError>
-    requires { All (λ (row : List ℕ). length row ≤ MEMORY_BYTES) rows.now }
-    ensures { IfOk result (λ sizes. sizes.items ≡ map length rows.now) }
+/// The number of bytes of each trajectory.
+pub fn sizes(alloc: Global, trajs: &[Traj]) -> Result<Vec<u32>, AllocError>
+    requires sendable { All IsSendable trajs.now }
+    requires short { All (λ (t : Traj). size t ≤ MEMORY_BYTES) trajs.now }
+    ensures { IfOk result (λ sizes. sizes.items ≡ map size trajs.now) }
 {
     let mut sizes = Vec::new(alloc);
-    for row in rows {
-        sizes.push(row.as_slice().len() as u32)?;
+    for t in trajs {
+        sizes.push(size_of(t) as u32)?;
     }
     Ok(sizes)
 }
 
-/// The number of packets of each row: its writes and its define.
-pub fn packets(alloc: Global, rows: &[Listed<u8>]) -> Result<Vec<u32>, AllocError>
-    requires { All (λ (row : List ℕ). length row ≤ MEMORY_BYTES) rows.now }
-    ensures { IfOk result (λ packets. packets.items ≡ map (λ (row : List ℕ). chunk_count_of (length row) + 1) rows.now) }
+/// The number of packets for each of these numbers of bytes: their writes and a define.
+pub fn packets(alloc: Global, sizes: &[u32]) -> Result<Vec<u32>, AllocError>
+    requires { All (λ n. n ≤ MEMORY_BYTES) sizes.now }
+    ensures { IfOk result (λ packets. packets.items ≡ map (λ n. chunk_count_of n + 1) sizes.now) }
 {
     let mut packets = Vec::new(alloc);
-    for row in rows {
-        packets.push(packets_for(row.as_slice()))?;
+    for size in sizes {
+        packets.push(chunk_count(*size as usize) as u32 + 1)?;
     }
     Ok(packets)
 }

@@ -34,8 +34,8 @@ impl OneText for ReportVerb {
 
     fn answer(&self, alloc: Global, accepted: &Accepted) -> Result<Answer, AllocError> {
         let fitted = &accepted.fitted;
-        let bytes = sizes(alloc, fitted.bytes.as_slice())?;
-        let packets = packets(alloc, fitted.bytes.as_slice())?;
+        let bytes = sizes(alloc, fitted.sent.as_slice())?;
+        let packets = packets(alloc, bytes.as_slice())?;
         let bytes = report_text(
             alloc,
             bytes.as_slice(),

@@ -1,11 +1,10 @@
 -- The lines of drones, one drone after another.
-use Rattle.std.proofs.Common.{◌≡◌, ℕ, zero, suc, ◌+◌, ◌<◌, ◌≤◌, List, [], ◌∷◌, ◌++◌, length, drop, get_or, append_assoc, append-nil, arith, refl, sym, ap, ◌∙◌}
+use Rattle.std.proofs.Common.{◌≡◌, ℕ, ◌+◌, ◌<◌, ◌≤◌, List, ◌∷◌, ◌++◌, length, drop, get_or, append_assoc, append-nil, arith, sym, ap, ◌∙◌}
 use Rattle.std.proofs.lemmas.List.{drop_all, drop_more}
 use Rattle.choreo_lines.specs.Name.{Name}
 use Rattle.traj_codec.specs.declared.traj.Traj.{Traj}
 use Rattle.traj_codec.specs.Spelling.{ending, IsEncoding}
 use Rattle.upload_model.specs.Sessions.{Upload}
-use Rattle.show_plan.specs.Fitting.{AreEncodings}
 use Rattle.show_plan.specs.Texts.{sent_bytes, drone_line, data_line, drone_part, drone_parts, packet_lines}
 
 -- an encoding is what a trajectory is sent as
@@ -37,18 +36,3 @@ parts_next text more s names ts k name t within many name_is t_is more_is =
 -- after the last drone nothing is to come
 pub parts_over : (text : List ℕ) (s : Upload) (names : List Name) (ts : List Traj) (k : ℕ) → length names ≤ k → text ++ drone_parts s k (drop k names) (drop k ts) ≡ text
 parts_over text s names ts k over = ap (λ (ns : List Name). text ++ drone_parts s k ns (drop k ts)) (drop_all k names over) ∙ append-nil text
-
--- there are as many lists of bytes as trajectories
-pub encodings_counted : (rows : List (List ℕ)) (ts : List Traj) → AreEncodings rows ts → length rows ≡ length ts
-encodings_counted [] [] are = refl
-encodings_counted [] (t ∷ ts) are = absurd are
-encodings_counted (bytes ∷ rows) [] are = absurd are
-encodings_counted (bytes ∷ rows) (t ∷ ts) are = ap suc (encodings_counted rows ts are.1)
-
--- the bytes with a number are the encoding of the trajectory with this number
-pub encoding_at : (rows : List (List ℕ)) (ts : List Traj) (k : ℕ) (other : List ℕ) (unlike : Traj) → AreEncodings rows ts → k < length ts → IsEncoding (get_or rows k other) (get_or ts k unlike)
-encoding_at [] [] k other unlike are within = absurd (omega arith)
-encoding_at [] (t ∷ ts) k other unlike are within = absurd are
-encoding_at (bytes ∷ rows) [] k other unlike are within = absurd are
-encoding_at (bytes ∷ rows) (t ∷ ts) zero other unlike are within = are.0
-encoding_at (bytes ∷ rows) (t ∷ ts) (suc k) other unlike are within = encoding_at rows ts k other unlike are.1 (omega arith)

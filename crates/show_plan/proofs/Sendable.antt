@@ -1,10 +1,10 @@
 -- Trajectories and their bytes one after another, and what is known of those of a valid grid.
-use Rattle.std.proofs.Common.{◌≡◌, ◌⊎◌, inl, inr, ℕ, suc, ◌+◌, ◌<◌, ◌≤◌, Bool, true, false, cond, Option, Some, None, IfOk, Ok, Err, Result, Vec, Global, List, [], ◌∷◌, ◌++◌, map, take, drop, append_assoc, length, get_or, nat_le, arith, refl, sym, ap, ◌∙◌, subst}
+use Rattle.std.proofs.Common.{◌≡◌, ◌⊎◌, inl, inr, ℕ, suc, ◌+◌, ◌<◌, ◌≤◌, Bool, true, false, cond, Option, Some, None, IfOk, Ok, Err, Result, Vec, Global, List, [], ◌∷◌, ◌++◌, map, drop, append_assoc, length, get_or, nat_le, arith, refl, sym, ap, ◌∙◌, subst}
 use Rattle.std.specs.List.{All}
 use Rattle.std.specs.Option.{option_or}
 use Rattle.std.specs.Prelude.{nat_lt}
 use Rattle.std.proofs.lemmas.Bool.Decides.{nat_tests}
-use Rattle.std.proofs.lemmas.List.{drop_more, take_more, get_or-map}
+use Rattle.std.proofs.lemmas.List.{drop_more, get_or-map}
 use Rattle.std.proofs.lemmas.List.Elements.{All-nil, All-cons, All-head, All-tail, All-get_or, All-from_get_or}
 use Rattle.choreo_lines.specs.declared.parts.Point.{Point}
 use Rattle.choreo_show.specs.declared.show.DroneLine.{DroneLine}
@@ -17,7 +17,7 @@ use Rattle.cue_grid.specs.Faults.{grid_fault}
 use Rattle.cue_grid.specs.Grids.{FitCues, IsGrid}
 use Rattle.traj_codec.specs.declared.traj.Traj.{Traj}
 use Rattle.traj_codec.specs.Joined.{joined}
-use Rattle.traj_codec.specs.Spelling.{IsEncoding, HasDuration, most_segments}
+use Rattle.traj_codec.specs.Spelling.{HasDuration, most_segments}
 use Rattle.traj_codec.proofs.JoinedLemmas.{durations_of, join_holds_law, lasting_of}
 use Rattle.mm_rounding.specs.declared.piece.MicroPiece.{MicroPiece}
 use Rattle.mm_rounding.specs.Rounding.{segment_of}
@@ -32,7 +32,7 @@ use Rattle.show_plan.specs.declared.fitted.PlanFault.{PlanFault}
 use Rattle.show_plan.specs.declared.fitted.PlanFault.TheVariants as fault
 use Rattle.show_plan.specs.Trajectories.{trajectory_of, trajectories_of, by_cue, sent}
 use Rattle.show_plan.specs.Flight.{no_trajectory, KeepsNearShow}
-use Rattle.show_plan.specs.Fitting.{IsFlown, IsSendable, size, room, send_fault, first_unsendable, unsendable, in_order, plan_fault, AreEncodings, FitGives}
+use Rattle.show_plan.specs.Fitting.{IsFlown, IsSendable, size, room, send_fault, first_unsendable, unsendable, in_order, plan_fault, FitGives}
 use Rattle.show_plan.proofs.Flight.{by_cue_counted, flight, flight_at_is, keeps_near_show}
 
 -- ---- lists as the code has them
@@ -74,18 +74,6 @@ trajectory_next ts more starts rows k s row t within many row_is t_is more_is =
     ap (λ (items : List Traj). items ++ rest) more_is
     ∙ append_assoc ts (t ∷ []) rest
     ∙ ap (λ (items : List Traj). ts ++ items) (ap (λ (first : Traj). first ∷ rest) t_is ∙ sym drops)
-
-one_behind : (rows : List (List ℕ)) (ts : List Traj) (bytes : List ℕ) (t : Traj) → AreEncodings rows ts → IsEncoding bytes t → AreEncodings (rows ++ bytes ∷ []) (ts ++ t ∷ [])
-one_behind [] [] bytes t so_far is = (is, tt)
-one_behind [] (u ∷ ts) bytes t so_far is = absurd so_far
-one_behind (row ∷ rows) [] bytes t so_far is = absurd so_far
-one_behind (row ∷ rows) (u ∷ ts) bytes t so_far is = (so_far.0, one_behind rows ts bytes t so_far.1 is)
-
--- one trajectory's bytes more
-pub bytes_next : (rows : List (List ℕ)) (ts : List Traj) (k : ℕ) (t : Traj) (bytes : List ℕ) → k < length ts → t ≡ get_or ts k t → AreEncodings rows (take k ts) → IsEncoding bytes t →
-    AreEncodings (rows ++ bytes ∷ []) (take (k + 1) ts)
-bytes_next rows ts k t bytes within is so_far encoded =
-    subst (AreEncodings (rows ++ bytes ∷ [])) (sym (take_more ts k t within)) (one_behind rows (take k ts) bytes (get_or ts k t) so_far (subst (IsEncoding bytes) is encoded))
 
 -- ---- the trajectories of a grid
 

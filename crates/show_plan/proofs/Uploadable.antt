@@ -1,5 +1,5 @@
 -- What fits can be uploaded.
-use Rattle.std.proofs.Common.{◌≡◌, ℕ, ◌-◌, ◌≤◌, List, [], ◌∷◌, map, length, arith, sym, ap, subst, ◌∙◌}
+use Rattle.std.proofs.Common.{◌≡◌, ℕ, ◌≤◌, List, [], ◌∷◌, map, length, arith, sym, ap, subst, ◌∙◌}
 use Rattle.std.specs.List.{All, sum}
 use Rattle.std.proofs.lemmas.List.{length-map}
 use Rattle.std.proofs.lemmas.List.Sums.{sum_by-cons}
@@ -8,12 +8,10 @@ use Rattle.traj_codec.specs.declared.traj.Segment.{Segment}
 use Rattle.traj_codec.specs.declared.traj.Traj.{Traj}
 use Rattle.traj_codec.specs.Joined.{IsLasting, JoinLaw, joined}
 use Rattle.traj_codec.specs.Positions.{durations}
-use Rattle.traj_codec.specs.Spelling.{IsTrajectory, most_segments}
-use Rattle.traj_codec.proofs.JoinedLemmas.{durations_of}
+use Rattle.traj_codec.specs.Spelling.{IsTrajectory}
 use Rattle.show_plan.specs.declared.fitted.Fitted.{Fitted}
-use Rattle.show_plan.specs.Fitting.{AreEncodings, IsSendable, IsValidFitted, size}
+use Rattle.show_plan.specs.Fitting.{IsValidFitted}
 use Rattle.show_plan.specs.Landing.{AreUploadable}
-use Rattle.show_plan.proofs.Valid.{encoding_size}
 
 -- durations that are some milliseconds together are those of some segments
 some_segments : (ss : List Segment) → 1 ≤ sum (durations ss) → 1 ≤ length ss
@@ -25,15 +23,6 @@ sum_some : (ms : List ℕ) → 1 ≤ length ms → All (λ m. 1 ≤ m) ms → 1 
 sum_some [] some each = absurd (omega arith)
 sum_some (m ∷ ms) some each = omega (arith, sum_by-cons (λ (n : ℕ). n) m ms, All-head (λ (m : ℕ). 1 ≤ m) m ms each)
 
--- the bytes of each have room, so each is short
-all_short : (space : ℕ) (rows : List (List ℕ)) (ts : List Traj) → AreEncodings rows ts → All (λ (bytes : List ℕ). length bytes ≤ space) rows → All (λ (t : Traj). size t ≤ space) ts
-all_short space [] [] are room = All-nil (λ (t : Traj). size t ≤ space)
-all_short space [] (t ∷ ts) are room = absurd are
-all_short space (bytes ∷ rows) [] are room = absurd are
-all_short space (bytes ∷ rows) (t ∷ ts) are room =
-    All-cons (λ (t : Traj). size t ≤ space) t ts (omega (arith, encoding_size bytes t are.0, All-head (λ (bytes : List ℕ). length bytes ≤ space) bytes rows room))
-    (all_short space rows ts are.1 (All-tail (λ (bytes : List ℕ). length bytes ≤ space) bytes rows room))
-
 module _ (law : JoinLaw) (times : List ℕ) (last : All (λ ms. 1 ≤ ms) times) where
   lasts : (t : Traj) → durations t.segments ≡ times → IsLasting t
   lasts t is = subst (λ (ms : List ℕ). All (λ ms. 1 ≤ ms) ms) (sym is) last
@@ -42,16 +31,6 @@ module _ (law : JoinLaw) (times : List ℕ) (last : All (λ ms. 1 ≤ ms) times)
   all_formed [] formed = All-nil IsTrajectory
   all_formed (t ∷ ts) formed =
       All-cons IsTrajectory (joined t) (map joined ts) (law.formed t (All-head IsTrajectory t ts formed)) (all_formed ts (All-tail IsTrajectory t ts formed))
-
-  all_sendable : (ts : List Traj) → All (λ (t : Traj). durations t.segments ≡ times) ts → All (λ (t : Traj). length t.segments ≤ most_segments) (map joined ts) → All IsSendable (map joined ts)
-  all_sendable [] lasting few = All-nil IsSendable
-  all_sendable (t ∷ ts) lasting few =
-      let first : IsSendable (joined t) = record {
-        few = All-head (λ (t : Traj). length t.segments ≤ most_segments) (joined t) (map joined ts) few;
-        last = durations_of (joined t) (law.last t (lasts t (All-head (λ (t : Traj). durations t.segments ≡ times) t ts lasting)));
-      } in
-      All-cons IsSendable (joined t) (map joined ts) first
-      (all_sendable ts (All-tail (λ (t : Traj). durations t.segments ≡ times) t ts lasting) (All-tail (λ (t : Traj). length t.segments ≤ most_segments) (joined t) (map joined ts) few))
 
   all_some : (ts : List Traj) → 1 ≤ length times → All (λ (t : Traj). durations t.segments ≡ times) ts → All (λ (t : Traj). 1 ≤ length t.segments) (map joined ts)
   all_some [] some lasting = All-nil (λ (t : Traj). 1 ≤ length t.segments)
@@ -71,7 +50,7 @@ uploadable f law v =
       some = omega (arith, count, v.some_drone);
       few = omega (arith, count, v.few_drones);
       formed = subst (All IsTrajectory) (sym v.sent) (all_formed law v.times v.last f.trajs v.formed);
-      sendable = subst (All IsSendable) (sym v.sent) (all_sendable law v.times v.last f.trajs v.lasting (subst (All (λ (t : Traj). length t.segments ≤ most_segments)) v.sent v.few_segments));
+      sendable = v.sendable;
       segments = subst (All (λ (t : Traj). 1 ≤ length t.segments)) (sym v.sent) (all_some law v.times v.last f.trajs some v.lasting);
-      room = all_short (4096 - f.settings.offset) f.bytes f.sent v.encoded v.room;
+      room = v.room;
     }

@@ -2,7 +2,7 @@
 use Rattle.std.proofs.Common.{◌≡◌, ℕ, suc, ◌+◌, ◌-◌, ◌<◌, ◌≤◌, true, Option, Some, None, IfOk, Ok, Err, Result, List, [], ◌∷◌, ◌++◌, map, length, eqb, arith, refl, sym, ap, ◌∙◌, subst}
 use Rattle.std.specs.List.{All}
 use Rattle.std.proofs.lemmas.List.{get_or_default}
-use Rattle.std.proofs.lemmas.List.Elements.{All-nil, All-cons, All-from_get_or}
+use Rattle.std.proofs.lemmas.List.Elements.{All-head, All-tail, All-nil, All-cons, All-from_get_or}
 use Rattle.crtp_packets.specs.declared.chunks.TheConstants.{MEMORY_BYTES}
 use Rattle.fleet_io.specs.Words.{IsWord}
 use Rattle.choreo_lines.specs.Name.{Name, is_name}
@@ -22,7 +22,7 @@ use Rattle.cue_grid.proofs.Fits.{fit_grid}
 use Rattle.traj_codec.specs.declared.traj.Traj.{Traj}
 use Rattle.traj_codec.specs.Positions.{durations}
 use Rattle.traj_codec.specs.Joined.{joined}
-use Rattle.traj_codec.specs.Spelling.{ending, most_segments, IsEncoding, IsTrajectory}
+use Rattle.traj_codec.specs.Spelling.{ending, IsEncoding, IsTrajectory}
 use Rattle.figure_expand.specs.declared.fault.AxisValue.{AxisValue}
 use Rattle.figure_expand.specs.Expanded.{range_fault}
 use Rattle.show_plan.specs.declared.fitted.Fitted.{Fitted}
@@ -30,9 +30,9 @@ use Rattle.show_plan.specs.declared.fitted.FitError.{FitError}
 use Rattle.show_plan.specs.declared.fitted.PlanFault.{PlanFault}
 use Rattle.show_plan.specs.Trajectories.{by_cue, sent, cue_times}
 use Rattle.show_plan.specs.Flight.{no_trajectory}
-use Rattle.show_plan.specs.Fitting.{StandsAsWord, size, room, first_unsendable, unsendable, in_order, AreEncodings, IsFitted, FitGives, IsValidFitted}
+use Rattle.show_plan.specs.Fitting.{StandsAsWord, size, room, first_unsendable, unsendable, in_order, IsFitted, IsSendable, FitGives, IsValidFitted}
 use Rattle.show_plan.proofs.Flight.{by_cue_counted, cues_last, flight_lasts, times_counted}
-use Rattle.show_plan.proofs.Sendable.{none_unsendable, one_sendable}
+use Rattle.show_plan.proofs.Sendable.{sendable, sent_flown, none_unsendable, one_sendable}
 
 -- ---- no fault
 
@@ -73,21 +73,18 @@ pub encoding_size : (bytes : List ℕ) (t : Traj) → IsEncoding bytes t → len
 encoding_size bytes t is = ap (λ (xs : List ℕ). length xs) (is.ended ∙ ap (λ (spelled : List ℕ). spelled ++ ending) is.spells.text)
 
 -- where each trajectory can be sent, its bytes have room
-rows_fit : (space d : ℕ) (rows : List (List ℕ)) (ts : List Traj) → first_unsendable space d ts ≡ None → AreEncodings rows ts → All (λ (bytes : List ℕ). length bytes ≤ space) rows
-rows_fit space d [] [] none are = All-nil (λ (bytes : List ℕ). length bytes ≤ space)
-rows_fit space d [] (t ∷ ts) none are = absurd are
-rows_fit space d (bytes ∷ rows) [] none are = absurd are
-rows_fit space d (bytes ∷ rows) (t ∷ ts) none are =
+all_fit : (space d : ℕ) (ts : List Traj) → first_unsendable space d ts ≡ None → All (λ (t : Traj). size t ≤ space) ts
+all_fit space d [] none = All-nil (λ (t : Traj). size t ≤ space)
+all_fit space d (t ∷ ts) none =
     let parts = none_unsendable space d t ts none in
-    All-cons (λ (bytes : List ℕ). length bytes ≤ space) bytes rows (omega (arith, (one_sendable space d t parts.0).1, encoding_size bytes t are.0))
-    (rows_fit space (d + 1) rows ts parts.1 are.1)
+    All-cons (λ (t : Traj). size t ≤ space) t ts (one_sendable space d t parts.0).1 (all_fit space (d + 1) ts parts.1)
 
--- and it has few segments
-few_all : (space d : ℕ) (ts : List Traj) → first_unsendable space d ts ≡ None → All (λ (t : Traj). length t.segments ≤ most_segments) ts
-few_all space d [] none = All-nil (λ (t : Traj). length t.segments ≤ most_segments)
-few_all space d (t ∷ ts) none =
-    let parts = none_unsendable space d t ts none in
-    All-cons (λ (t : Traj). length t.segments ≤ most_segments) t ts (one_sendable space d t parts.0).0 (few_all space (d + 1) ts parts.1)
+-- and is short, wherever it begins
+pub short_all : (offset : ℕ) (ts : List Traj) → All (λ (t : Traj). size t ≤ MEMORY_BYTES - offset) ts → All (λ (t : Traj). size t ≤ MEMORY_BYTES) ts
+short_all offset [] fit = All-nil (λ (t : Traj). size t ≤ MEMORY_BYTES)
+short_all offset (t ∷ ts) fit =
+    let here : size t ≤ MEMORY_BYTES - offset = All-head (λ (t : Traj). size t ≤ MEMORY_BYTES - offset) t ts fit in
+    All-cons (λ (t : Traj). size t ≤ MEMORY_BYTES) t ts (omega (arith, here)) (short_all offset ts (All-tail (λ (t : Traj). size t ≤ MEMORY_BYTES - offset) t ts fit))
 
 -- ---- all of it
 
@@ -95,7 +92,7 @@ each_lasts : (g : Grid) → IsGrid g → All (λ (t : Traj). durations t.segment
 each_lasts g is = All-from_get_or (λ (t : Traj). durations t.segments ≡ cue_times g) (by_cue g) no_trajectory (λ d small. flight_lasts g d (omega (arith, by_cue_counted g)))
 
 valid_by : (f : Fitted) (s : PlainShow) → IsValid s → grid_fault s ≡ None → unsendable s ≡ None → IsFitted f s → All IsTrajectory f.trajs → IsValidFitted f
-valid_by f s v none sendable is formed =
+valid_by f s v none unfaulted is formed =
     let g : Grid = grid_of s in
     let grid : IsGrid g = fit_grid s v none in
     let names : length f.names ≡ length s.drones = ap (λ (ns : List Name). length ns) is.names ∙ names_counted s.drones in
@@ -117,11 +114,10 @@ valid_by f s v none sendable is formed =
       lasting = subst (All (λ (t : Traj). durations t.segments ≡ cue_times g)) (sym is.trajs) (each_lasts g grid);
       formed = formed;
       sent = is.sent ∙ ap (map joined) (sym is.trajs);
-      few_segments = subst (All (λ (t : Traj). length t.segments ≤ most_segments)) (sym is.sent) (few_all (room s) 0 (sent g) sendable);
-      encoded = is.bytes;
+      sendable = subst (All IsSendable) (sym is.sent) (sendable (room s) 0 (sent g) (sent_flown g grid) unfaulted);
       room =
-          subst (λ (settings : Settings). All (λ (bytes : List ℕ). length bytes ≤ MEMORY_BYTES - settings.offset) f.bytes) (sym is.settings)
-          (rows_fit (room s) 0 f.bytes f.sent (ap (first_unsendable (room s) 0) is.sent ∙ sendable) is.bytes);
+          subst (λ (settings : Settings). All (λ (t : Traj). size t ≤ MEMORY_BYTES - settings.offset) f.sent) (sym is.settings)
+          (all_fit (room s) 0 f.sent (ap (first_unsendable (room s) 0) is.sent ∙ unfaulted));
     }
 
 -- What is answered is valid.

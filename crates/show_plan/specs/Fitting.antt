@@ -1,4 +1,4 @@
--- What becomes of a show: its trajectories with their bytes, or the first reason why it has no plan.
+-- What becomes of a show: its trajectories, or the first reason why it has no plan.
 use Rattle.std.specs.Prelude.{false, true, ◌≡◌, ℕ, ◌+◌, ◌-◌, ◌≤◌, List, [], ◌∷◌, ◌++◌, map, length, nat_le, nat_lt, Option, Some, None, Result, Ok, Err, if◌then◌else◌}
 use Rattle.std.specs.Option.{option_or}
 use Rattle.std.specs.List.{sum, All}
@@ -16,7 +16,7 @@ use Rattle.cue_grid.specs.Names.{has_double}
 use Rattle.traj_codec.specs.declared.traj.Traj.{Traj}
 use Rattle.traj_codec.specs.Positions.{durations}
 use Rattle.traj_codec.specs.Joined.{joined}
-use Rattle.traj_codec.specs.Spelling.{spelling, ending, IsEncoding, IsTrajectory, HasDuration, most_segments}
+use Rattle.traj_codec.specs.Spelling.{spelling, ending, IsTrajectory, HasDuration, most_segments}
 use Rattle.figure_expand.specs.declared.fault.AxisValue.{AxisValue}
 use Rattle.figure_expand.specs.Expanded.{range_fault}
 use Rattle.show_plan.specs.declared.fitted.Fitted.{Fitted}
@@ -79,14 +79,8 @@ in_order None None late = late
 abbrev pub plan_fault : PlainShow → Option PlanFault
 plan_fault s = in_order (grid_fault s) (range_fault (grid_of s)) (unsendable s)
 
--- the bytes are those of these trajectories, one by one
-abbrev pub AreEncodings : List (List ℕ) → List Traj → Type 0
-AreEncodings [] [] = Unit {0}
-AreEncodings (bytes ∷ others) (t ∷ ts) = IsEncoding bytes t × AreEncodings others ts
-AreEncodings _ _ = ⊥
-
 -- It has the settings and the names of the show, counts its cues and their milliseconds, and has its trajectories, by cue and as they
--- are sent, with the bytes of the latter.
+-- are sent.
 pub record IsFitted (f : Fitted) (s : PlainShow) : Type 0 where
   pub settings : f.settings ≡ s.settings
   pub names : f.names ≡ map (λ (d : DroneLine). d.name) s.drones
@@ -94,7 +88,6 @@ pub record IsFitted (f : Fitted) (s : PlainShow) : Type 0 where
   pub duration : f.duration ≡ sum (cue_times (grid_of s))
   pub trajs : f.trajs ≡ by_cue (grid_of s)
   pub sent : f.sent ≡ sent (grid_of s)
-  pub bytes : AreEncodings f.bytes f.sent
 
 -- What fits comes only without a reason why the show has no plan, and is that of the show. A fault is the first such
 -- reason. Out of memory says nothing. Separation isn't judged here.
@@ -104,9 +97,9 @@ FitGives (Err (error.Fault f)) s = plan_fault s ≡ Some f
 FitGives (Err error.Memory) s = Unit {0}
 
 -- Valid: settings in range; 1 to 32 names of the language, each of which can stand as a word, no two of them equal; as many trajectories,
--- by cue and sent, and lists of bytes; 1 to 1,000 cues, each of which lasts some time; these are the durations of the segments of each trajectory by cue, whose
--- numbers fit their bytes; what is sent are these trajectories with their holds joined, each of at most 255 segments; and each list of
--- bytes is the encoding of what is sent, and has room in a drone's memory from the offset on.
+-- by cue; 1 to 1,000 cues, each of which lasts some time; these are the durations of the segments of each trajectory by cue, whose
+-- numbers fit their bytes; what is sent are these trajectories with their holds joined, each of at most 255 segments that last some
+-- time, and the bytes of each have room in a drone's memory from the offset on.
 pub record IsValidFitted (f : Fitted) : Type 0 where
   pub settings : FitsSettings f.settings
   pub some_drone : 1 ≤ length f.names
@@ -124,6 +117,5 @@ pub record IsValidFitted (f : Fitted) : Type 0 where
   pub lasting : All (λ (t : Traj). durations t.segments ≡ times) f.trajs
   pub formed : All IsTrajectory f.trajs
   pub sent : f.sent ≡ map joined f.trajs
-  pub few_segments : All (λ (t : Traj). length t.segments ≤ most_segments) f.sent
-  pub encoded : AreEncodings f.bytes f.sent
-  pub room : All (λ (bytes : List ℕ). length bytes ≤ MEMORY_BYTES - f.settings.offset) f.bytes
+  pub sendable : All IsSendable f.sent
+  pub room : All (λ (t : Traj). size t ≤ MEMORY_BYTES - f.settings.offset) f.sent

@@ -6,7 +6,7 @@ use figure_expand::AxisValue;
 use std::alloc::AllocError;
 use traj_codec::Traj;
 
-/// A show with the trajectories of its drones and their bytes. Names, trajectories and bytes have the order of the drones.
+/// A show with the trajectories of its drones. Names and trajectories have the order of the drones.
 #[derive(Drop)]
 pub struct Fitted {
     /// The settings of the show.
@@ -21,8 +21,6 @@ pub struct Fitted {
     pub trajs: Listed<Traj>,
     /// What each drone is sent: its trajectory with whole holds that follow each other joined.
     pub sent: Listed<Traj>,
-    /// The bytes of what each drone is sent: docs/TRAJECTORY.md.
-    pub bytes: Listed<Listed<u8>>,
 }
 
 /// What keeps a show from having a plan.

@@ -1,4 +1,4 @@
-//! The trajectories of a whole show and their bytes, where they have room in the drones' memories.
+//! The trajectories of a whole show, where their bytes have room in the drones' memories.
 
 ghost use Rattle.std.specs.Prelude.{◌≡◌, ◌≤◌, Some, None, map, length, IfOk};
 ghost use Rattle.std.specs.List.{All, sum};
@@ -15,8 +15,8 @@ ghost use Rattle.figure_expand.specs.Expanded.{expanded, range_fault};
 ghost use Rattle.figure_expand.specs.Flown.{StartsWell, RoundsWell};
 ghost use Rattle.show_plan.specs.Trajectories.{start_at, trajectory_of, trajectories_of};
 ghost use Rattle.show_plan.specs.Flight.{KeepsNearShow};
-ghost use Rattle.show_plan.specs.Fitting.{IsFlown, IsSendable, first_unsendable, send_fault};
-ghost use Rattle.show_plan.specs.Fitting.{AreEncodings, FitGives, IsValidFitted};
+ghost use Rattle.show_plan.specs.Fitting.{IsFlown, first_unsendable, send_fault};
+ghost use Rattle.show_plan.specs.Fitting.{FitGives, IsValidFitted};
 
 use crate::fitted::{FitError, Fitted, PlanFault};
 use choreo_lines::copy_of;
@@ -26,7 +26,7 @@ use cue_grid::{Cue, Grid, UnrollError, unroll};
 use figure_expand::{ExpandError, expand, expansion_law};
 use mm_rounding::{MicroPiece, round_piece, to_mm};
 use std::alloc::{AllocError, Global};
-use traj_codec::{MOST_SEGMENTS, Traj, encode, join_holds, segment_law, size_of, start_law};
+use traj_codec::{MOST_SEGMENTS, Traj, join_holds, segment_law, size_of, start_law};
 
 // A yaw in two bytes.
 fn yaw_of(v: i64) -> i16
@@ -137,19 +137,6 @@ fn first_unsendable(room: u32, trajs: &[Traj]) -> Option<PlanFault>
     None
 }
 
-// The bytes of each trajectory.
-fn encodings(alloc: Global, trajs: &[Traj]) -> Result<Vec<Listed<u8>>, AllocError>
-    requires { All IsSendable trajs.now }
-    ensures { IfOk result (λ rows. AreEncodings rows.items trajs.now) }
-{
-    let mut rows = Vec::new(alloc);
-    for d in 0..trajs.len() {
-        let bytes = encode(alloc, &trajs[d])?;
-        rows.push(Listed::from_vec(bytes))?;
-    }
-    Ok(rows)
-}
-
 // The names of drones.
 fn names_of(alloc: Global, starts: &[DroneLine]) -> Result<Vec<Name>, AllocError>
     ensures { IfOk result (λ names. names.items ≡ map (λ (d : DroneLine). d.name) starts.now) }
@@ -198,7 +185,6 @@ fn fitted(
     if let Some(fault) = first_unsendable(room, sent.as_slice()) {
         return Err(FitError::Fault { fault });
     }
-    let bytes = encodings(alloc, sent.as_slice())?;
     let names = names_of(alloc, starts)?;
     Ok(Fitted {
         settings: show.settings,
@@ -207,11 +193,10 @@ fn fitted(
         duration: duration_of(cues),
         trajs: Listed::from_vec(trajs),
         sent: Listed::from_vec(sent),
-        bytes: Listed::from_vec(bytes),
     })
 }
 
-/// The trajectories of a show's drones and their bytes, or the first reason why the show has no plan: a fault of its names or
+/// The trajectories of a show's drones, or the first reason why the show has no plan: a fault of its names or
 /// cues, then a number that no trajectory can hold, then the first drone whose trajectory, its holds joined, has more than 255 segments
 /// or more bytes than 4,096 less the offset.
 ///

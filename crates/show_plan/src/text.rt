@@ -1,24 +1,24 @@
 //! The texts that say a plan.
 
-ghost use Rattle.std.specs.Prelude.{◌≡◌, ◌≤◌, ◌++◌, ℕ, List, false, true, length, decimal, IfOk, OnOk};
+ghost use Rattle.std.specs.Prelude.{◌≡◌, ◌≤◌, ◌++◌, ℕ, false, true, length, decimal, IfOk, OnOk};
 ghost use Rattle.std.specs.List.{All};
 ghost use Rattle.fleet_math.specs.Limits.{most_drones};
 ghost use Rattle.fleet_io.specs.Words.{is_line_empty, with_word, IsWord};
 ghost use Rattle.traj_codec.specs.declared.traj.Traj.{Traj};
 ghost use Rattle.traj_codec.specs.Spelling.{IsEncoding, most_segments};
 ghost use Rattle.upload_model.specs.Sessions.{Upload};
-ghost use Rattle.show_plan.specs.Fitting.{StandsAsWord, AreEncodings, IsValidFitted};
+ghost use Rattle.show_plan.specs.Fitting.{StandsAsWord, IsSendable, IsValidFitted, size};
 ghost use Rattle.show_plan.specs.Landing.{session_for};
 ghost use Rattle.show_plan.specs.Steps.{alone};
 ghost use Rattle.show_plan.specs.Texts.{head_line, drone_line, end_line, drone_part, drone_parts, packet_lines, plan_text};
 
 use crate::fitted::Fitted;
 use crate::packets::{put_bytes, put_packets};
-use choreo_show::{Listed, Name, Settings};
+use choreo_show::{Name, Settings};
 use crtp_packets::MEMORY_BYTES;
 use fleet_io::Lines;
 use std::alloc::{AllocError, Global};
-use traj_codec::{Segment, Traj};
+use traj_codec::{Segment, Traj, encode, size_of};
 
 fn put_head(text: &mut Lines) -> Result<(), AllocError>
     requires { is_line_empty text.old ≡ true }
@@ -95,42 +95,38 @@ fn put_part(
 
 // The lines of each drone.
 fn put_parts(
+    alloc: Global,
     text: &mut Lines,
     settings: Settings,
     names: &[Name],
-    bytes: &[Listed<u8>],
     trajs: &[Traj],
 ) -> Result<(), AllocError>
     requires fresh { is_line_empty text.old ≡ true }
     requires words { All StandsAsWord names.now }
     requires count { length trajs.now ≡ length names.now }
-    requires encoded { AreEncodings bytes.now trajs.now }
-    requires short { All (λ (bytes : List ℕ). length bytes ≤ MEMORY_BYTES) bytes.now }
-    requires few { All (λ (t : Traj). length t.segments ≤ most_segments) trajs.now }
+    requires sendable { All IsSendable trajs.now }
+    requires short { All (λ (t : Traj). size t ≤ MEMORY_BYTES) trajs.now }
     ensures parts { OnOk result (text.new ≡ text.old ++ drone_parts (session_for settings trajs.now false true) 0 names.now trajs.now) }
     ensures fresh { OnOk result (is_line_empty text.new ≡ true) }
 {
     for d in 0..names.len() {
-        put_part(
-            text,
-            settings,
-            names[d].as_slice(),
-            bytes[d].as_slice(),
-            &trajs[d],
-        )?;
+        let t = &trajs[d];
+        let bytes = encode(alloc, t)?;
+        put_part(text, settings, names[d].as_slice(), bytes.as_slice(), t)?;
     }
     Ok(())
 }
 
-// The bytes of these rows together.
-fn total(rows: &[Listed<u8>]) -> usize
-    requires few { length rows.now ≤ most_drones }
-    requires short { All (λ (row : List ℕ). length row ≤ MEMORY_BYTES) rows.now }
+// The bytes of these trajectories together.
+fn total(trajs: &[Traj]) -> usize
+    requires few { length trajs.now ≤ most_drones }
+    requires sendable { All IsSendable trajs.now }
+    requires short { All (λ (t : Traj). size t ≤ MEMORY_BYTES) trajs.now }
     ensures { result ≤ 131072 }
 {
     let mut total = 0;
-    for k in 0..rows.len() {
-        total += rows[k].as_slice().len();
+    for t in trajs {
+        total += size_of(t);
     }
     total
 }
@@ -140,7 +136,7 @@ fn total(rows: &[Listed<u8>]) -> usize
 fn room_for(f: &Fitted) -> usize
     requires { IsValidFitted f.now }
 {
-    100 + 250 * f.names.as_slice().len() + 7 * total(f.bytes.as_slice())
+    100 + 250 * f.names.as_slice().len() + 7 * total(f.sent.as_slice())
 }
 
 /// The plan text of a show that fits: `plan 1`; for each drone a line with its name, the number of its bytes and of its segments, a line
@@ -153,10 +149,10 @@ pub fn plan_text(alloc: Global, f: &Fitted) -> Result<Lines, AllocError>
     let mut text = Lines::with_room(alloc, room_for(f))?;
     put_head(&mut text)?;
     put_parts(
+        alloc,
         &mut text,
         f.settings,
         f.names.as_slice(),
-        f.bytes.as_slice(),
         f.sent.as_slice(),
     )?;
     put_end(&mut text)?;

@@ -1,42 +1,38 @@
 //! What is uploaded of a show that fits, and what it leaves in the drones' memories.
 
-ghost use Rattle.std.specs.Prelude.{◌≡◌, ◌≤◌, length, map, IfOk};
+ghost use Rattle.std.specs.Prelude.{◌≡◌, map, IfOk};
 ghost use Rattle.std.specs.List.{All};
-ghost use Rattle.traj_codec.specs.declared.traj.Traj.{Traj};
-ghost use Rattle.traj_codec.specs.Spelling.{IsEncoding, most_segments};
 ghost use Rattle.firmware_memory.specs.Decoded.{load_for};
-ghost use Rattle.show_plan.specs.Fitting.{AreEncodings, IsValidFitted};
+ghost use Rattle.show_plan.specs.Fitting.{IsSendable, IsValidFitted};
 ghost use Rattle.show_plan.specs.Landing.{AreUploadable, LandingLaw, session_for};
 ghost use Rattle.show_plan.specs.Uploading.{UploadsLaw};
 
 use crate::fitted::Fitted;
 use firmware_memory::curve_law;
 use std::alloc::{AllocError, Global};
-use traj_codec::{Traj, join_law};
+use traj_codec::{Traj, encode, join_law};
 use upload_core::{Listed, Load, Session, Settings};
 use upload_model::{readback_law, upload_law};
 
-// The load of a trajectory: a copy of its bytes, and how many segments they are.
-fn load_of(alloc: Global, bytes: &[u8], t: &Traj) -> Result<Load, AllocError>
-    requires encoded { IsEncoding bytes.now t.now }
-    requires few { length t.now.segments ≤ most_segments }
+// The load of a trajectory: its bytes, and how many segments they are.
+fn load_of(alloc: Global, t: &Traj) -> Result<Load, AllocError>
+    requires { IsSendable t.now }
     ensures { IfOk result (λ load. load ≡ load_for t.now) }
 {
     Ok(Load {
-        bytes: Listed::from_vec(bytes.to_vec(alloc)?),
+        bytes: Listed::from_vec(encode(alloc, t)?),
         pieces: t.segments.as_slice().len() as u8,
     })
 }
 
 // The load of each trajectory.
-fn loads_of(alloc: Global, bytes: &[Listed<u8>], trajs: &[Traj]) -> Result<Vec<Load>, AllocError>
-    requires encoded { AreEncodings bytes.now trajs.now }
-    requires few { All (λ (t : Traj). length t.segments ≤ most_segments) trajs.now }
+fn loads_of(alloc: Global, trajs: &[Traj]) -> Result<Vec<Load>, AllocError>
+    requires { All IsSendable trajs.now }
     ensures { IfOk result (λ loads. loads.items ≡ map load_for trajs.now) }
 {
     let mut loads = Vec::new(alloc);
-    for d in 0..trajs.len() {
-        let load = load_of(alloc, bytes[d].as_slice(), &trajs[d])?;
+    for t in trajs {
+        let load = load_of(alloc, t)?;
         loads.push(load)?;
     }
     Ok(loads)
@@ -54,7 +50,7 @@ pub fn session(
     ensures { IfOk result (λ s. s ≡ session_for f.now.settings f.now.sent readback start) }
 {
     join_law();
-    let loads = loads_of(alloc, f.bytes.as_slice(), f.sent.as_slice())?;
+    let loads = loads_of(alloc, f.sent.as_slice())?;
     let settings = Settings {
         memory_id: f.settings.memory_id,
         offset: f.settings.offset,

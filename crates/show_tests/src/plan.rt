@@ -9,6 +9,7 @@ use fleet_io::Lines;
 use fleet_math::MOST_TEXT;
 use show_plan::{FitError, Fitted, PlanFault, fit, plan_text};
 use std::alloc::Global;
+use traj_codec::encode;
 
 // What a text fits, or why not; nothing where it isn't a show.
 fn fitted_of(alloc: Global, text: &[u8]) -> Result<Fitted, Option<PlanFault>>
@@ -37,15 +38,25 @@ enum Outcome {
     Other,
 }
 
+// The bytes that the first drone is sent, where there is memory for them.
+fn first_bytes(alloc: Global, fitted: &Fitted) -> Option<Vec<u8>>
+    requires { IsValidFitted fitted.now }
+{
+    let sent = fitted.sent.as_slice();
+    if sent.is_empty() {
+        return None;
+    }
+    encode(alloc, &sent[0]).ok()
+}
+
 fn outcome_of(alloc: Global, text: &[u8], wanted: &[u8]) -> Outcome {
     let fitted = match fitted_of(alloc, text) {
         Ok(fitted) => fitted,
         Err(Some(fault)) => return Outcome::Fault(fault),
         Err(None) => return Outcome::Other,
     };
-    match fitted.bytes.as_slice().first() {
+    match first_bytes(alloc, &fitted) {
         Some(bytes) => {
-            let bytes = bytes.as_slice();
             let begins = bytes.starts_with(wanted);
             Outcome::Fits(fitted.cues, fitted.duration, bytes.len(), begins)
         }

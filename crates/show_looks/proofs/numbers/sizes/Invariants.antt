@@ -1,6 +1,7 @@
-use Rattle.std.proofs.Common.{◌≡◌, length, map, take}
+use Rattle.std.proofs.Common.{◌≡◌, map, take}
+use Rattle.show_plan.specs.Fitting.{size}
 use Rattle.show_looks.proofs.numbers.sizes.Given as goal
 
 -- the sizes so far
-abbrev pub invariant-loop-row : goal.invariant-loop-row
-invariant-loop-row l = l.sizes.items ≡ map length (take l.row-index l.rows)
+abbrev pub invariant-loop-t : goal.invariant-loop-t
+invariant-loop-t l = l.sizes.items ≡ map size (take l.t-index l.trajs)

@@ -7,10 +7,10 @@ use Rattle.traj_codec.specs.declared.traj.Traj.{Traj}
 use Rattle.figure_expand.specs.Flown.{StartsWell, RoundsWell}
 use Rattle.cue_grid.specs.declared.grid.Cue.{Cue}
 use Rattle.cue_grid.specs.declared.grid.Grid.{Grid}
-use Rattle.show_plan.specs.Fitting.{AreEncodings, IsFlown, IsSendable}
+use Rattle.show_plan.specs.Fitting.{IsFlown}
 use Rattle.show_plan.specs.Trajectories.{by_cue, sent}
 use Rattle.show_plan.proofs.Flight.{sent_counted}
-use Rattle.show_plan.proofs.Sendable.{same_count, rows_counted, all_are, fits_given, flown, has_segments, sendable, sent_are, sent_flown, unsendable_given}
+use Rattle.show_plan.proofs.Sendable.{same_count, rows_counted, all_are, fits_given, flown, has_segments, sent_are, sent_flown, unsendable_given}
 use Rattle.show_plan.proofs.fitting.fitted.Goals as goal
 
 pub trajectories_of-requires-clause-count : goal.trajectories_of-requires-clause-count
@@ -58,13 +58,6 @@ returns-in-Some c =
       formed = tt;
     }
 
-pub encodings-requires : goal.encodings-requires
-encodings-requires c =
-    let trajs = all_are c.args.grid.now c.as_slice-starts.result.now _ c.as_slice.result.now c.as_slice-starts.ensures c.requires.pieces (c.as_slice.ensures.value ∙ c.in_ok-trajs.ensures.exact) in
-    let all : c.as_slice-2.result.now ≡ sent c.args.grid.now = sent_are c.args.grid.now c.as_slice.result.now c.as_slice-2.result.now trajs (c.as_slice-2.ensures.value ∙ c.in_ok-sent.ensures) in
-    subst (All IsSendable) (c.as_slice-2.ensures.value ∙ sym c.as_slice-3.ensures.value)
-    (sendable _ 0 c.as_slice-2.result.now (subst (All IsFlown) (sym all) (sent_flown c.args.grid.now c.requires.whole)) (sym c.first_unsendable.ensures ∙ c.in_default.is))
-
 pub returns-clause-gives : goal.returns-clause-gives
 returns-clause-gives c =
     let trajs = all_are c.args.grid.now c.as_slice-starts.result.now _ c.as_slice.result.now c.as_slice-starts.ensures c.requires.pieces (c.as_slice.ensures.value ∙ c.in_ok-trajs.ensures.exact) in
@@ -79,7 +72,5 @@ returns-clause-gives c =
         duration = c.duration_of.ensures ∙ ap (λ (cs : List Cue). sum (map (λ (cue : Cue). cue.ms) cs)) cues;
         trajs = c.from_vec-2.ensures ∙ sym c.as_slice.ensures.value ∙ trajs ∙ ap by_cue c.requires.is;
         sent = c.from_vec-3.ensures ∙ sym c.as_slice-2.ensures.value ∙ all ∙ ap sent c.requires.is;
-        bytes = subst (λ (bs : List (List ℕ)). AreEncodings bs c.from_vec-3.result) (sym c.from_vec-4.ensures)
-            (subst (λ (ts : List Traj). AreEncodings c.in_ok-bytes.bytes.items ts) (c.as_slice-3.ensures.value ∙ sym c.from_vec-3.ensures) c.in_ok-bytes.ensures);
       },
     )

@@ -1,46 +1,49 @@
-use Rattle.std.proofs.Common.{◌++◌, ◌<◌, ◌≤◌, length, false, true, List, ℕ, refl, sym, ap, ◌∙◌, subst, arith}
+use Rattle.std.proofs.Common.{◌≡◌, All, get_or, ◌++◌, ◌<◌, ◌≤◌, length, false, true, List, ℕ, refl, sym, ap, ◌∙◌, subst, arith}
 use Rattle.crtp_packets.specs.declared.chunks.TheConstants.{MEMORY_BYTES}
 use Rattle.traj_codec.specs.declared.traj.Traj.{Traj}
-use Rattle.traj_codec.specs.Spelling.{IsEncoding, most_segments}
+use Rattle.traj_codec.specs.Spelling.{IsEncoding}
+use Rattle.show_plan.specs.Fitting.{IsSendable, size}
 use Rattle.show_plan.specs.Landing.{session_for}
 use Rattle.show_plan.specs.Texts.{drone_part}
 use Rattle.show_plan.proofs.PacketLines.{packets_at}
-use Rattle.show_plan.proofs.PlanLines.{parts_next, parts_over, encodings_counted, encoding_at}
+use Rattle.show_plan.proofs.PlanLines.{parts_next, parts_over}
+use Rattle.show_plan.proofs.Valid.{encoding_size}
 use Rattle.show_plan.proofs.text.put_parts.Goals as goal
 
 pub loop-d-init : goal.loop-d-init
 loop-d-init c = record { fresh = c.requires.fresh; so_far = refl }
 
-pub bounds-bytes-d : goal.bounds-bytes-d
-bounds-bytes-d c = omega (arith, encodings_counted c.args.bytes.now c.args.trajs.now c.requires.encoded, c.requires.count, c.loop-d-test.true)
-
 pub put_part-requires-clause-fresh : goal.put_part-requires-clause-fresh
 put_part-requires-clause-fresh c = c.loop-d.invariant.fresh
 
+-- the trajectory can be sent
+can_be_sent : (ts : List Traj) (d : ℕ) (t : Traj) → All IsSendable ts → t ≡ get_or ts d t → d < length ts → IsSendable t
+can_be_sent ts d t all is within = subst IsSendable (sym is) (all d t within)
+
+pub encode-requires : goal.encode-requires
+encode-requires c =
+    let t = can_be_sent c.args.trajs.now c.loop-d.d c.index-trajs-d.result c.requires.sendable c.index-trajs-d.is (omega (arith, c.requires.count, c.loop-d-test.true)) in
+    record { count = t.few; durations = t.last }
+
 pub put_part-requires-clause-encoded : goal.put_part-requires-clause-encoded
 put_part-requires-clause-encoded c =
-    subst (λ (bytes : List ℕ). IsEncoding bytes c.index-trajs-d.result) (sym (c.as_slice-in-loop-d.ensures ∙ c.index-bytes-d.is))
-    (subst (IsEncoding _) (sym c.index-trajs-d.is)
-    (encoding_at c.args.bytes.now c.args.trajs.now c.loop-d.d c.index-bytes-d.result c.index-trajs-d.result c.requires.encoded (omega (arith, c.requires.count, c.loop-d-test.true))))
+    subst (λ (bytes : List ℕ). IsEncoding bytes c.index-trajs-d.result) (sym c.as_slice-in-loop-d.ensures.value) c.in_ok-bytes.ensures
 
 pub put_part-requires-clause-short : goal.put_part-requires-clause-short
 put_part-requires-clause-short c =
-    let inside : c.loop-d.d < length c.args.bytes.now = omega (arith, encodings_counted c.args.bytes.now c.args.trajs.now c.requires.encoded, c.requires.count, c.loop-d-test.true) in
-    subst (λ (bytes : List ℕ). length bytes ≤ MEMORY_BYTES) (sym (c.as_slice-in-loop-d.ensures ∙ c.index-bytes-d.is)) (c.requires.short c.loop-d.d c.index-bytes-d.result inside)
+    let within : c.loop-d.d < length c.args.trajs.now = omega (arith, c.requires.count, c.loop-d-test.true) in
+    let short = subst (λ (t : Traj). size t ≤ MEMORY_BYTES) (sym c.index-trajs-d.is) (c.requires.short c.loop-d.d c.index-trajs-d.result within) in
+    omega (arith, short, c.as_slice-in-loop-d.ensures.len, encoding_size c.in_ok-bytes.bytes.items c.index-trajs-d.result c.in_ok-bytes.ensures)
 
 pub put_part-requires-clause-few : goal.put_part-requires-clause-few
 put_part-requires-clause-few c =
-    let inside : c.loop-d.d < length c.args.trajs.now = omega (arith, c.requires.count, c.loop-d-test.true) in
-    subst (λ (t : Traj). length t.segments ≤ most_segments) (sym c.index-trajs-d.is) (c.requires.few c.loop-d.d c.index-trajs-d.result inside)
+    (can_be_sent c.args.trajs.now c.loop-d.d c.index-trajs-d.result c.requires.sendable c.index-trajs-d.is (omega (arith, c.requires.count, c.loop-d-test.true))).few
 
 pub loop-d-preserved : goal.loop-d-preserved
 loop-d-preserved c =
     let s = session_for c.args.settings c.args.trajs.now false true in
     let within : c.loop-d.d < length c.args.trajs.now = omega (arith, c.requires.count, c.loop-d-test.true) in
-    let encoded =
-    subst (λ (bytes : List ℕ). IsEncoding bytes c.index-trajs-d.result) (sym (c.as_slice-in-loop-d.ensures ∙ c.index-bytes-d.is))
-    (subst (IsEncoding _) (sym c.index-trajs-d.is)
-    (encoding_at c.args.bytes.now c.args.trajs.now c.loop-d.d c.index-bytes-d.result c.index-trajs-d.result c.requires.encoded within)) in
+    let encoded = subst (λ (bytes : List ℕ). IsEncoding bytes c.index-trajs-d.result) (sym c.as_slice-in-loop-d.ensures.value) c.in_ok-bytes.ensures in
     let more =
     c.in_ok-put_part.ensures.part s c.loop-d.d
     (packets_at c.args.settings c.args.trajs.now c.loop-d.d c.as_slice-in-loop-d.result.now c.index-trajs-d.result within c.index-trajs-d.is encoded)

@@ -8,7 +8,7 @@ use Rattle.show_plan.proofs.Uploadable.{uploadable}
 use Rattle.show_plan.proofs.upload.session.Goals as goal
 
 loads_are : (c : goal.In_ok-loads) → c.in_ok-loads.loads.items ≡ map load_for c.args.f.now.sent
-loads_are c = c.in_ok-loads.ensures ∙ ap (λ (ts : List Traj). map load_for ts) c.as_slice-2.ensures
+loads_are c = c.in_ok-loads.ensures ∙ ap (λ (ts : List Traj). map load_for ts) c.as_slice.ensures
 
 pub of_loads-requires : goal.of_loads-requires
 of_loads-requires c =
