@@ -16,6 +16,7 @@ mod memory;
 mod parts;
 mod short_line;
 mod standard;
+pub mod status;
 mod stream;
 mod sure;
 

@@ -17,6 +17,7 @@ ghost use Rattle.upload_model.specs.declared.events.Event.{Event};
 use crate::host::{drone_count, take_packet, take_tick};
 use crate::input::{Next, next_frame};
 use crate::output::{Bytes, send};
+use fleet_io::status::{ENDED, FAULTY, READ_FAILED, TOO_MANY_FRAMES, WRITE_FAILED};
 use fleet_io::{Failed, Parts, Sink, Source, write_whole};
 use link_frames::{END_BYTE, View, whole_frame};
 use upload_core::{Host, Out};
@@ -101,17 +102,6 @@ enum Broken {
 
 // The most frames that are taken in one upload.
 const FRAME_LIMIT: u32 = 4_000_000;
-
-// How an upload ends short of its own end.
-const READ_FAILED: u8 = 6;
-
-const WRITE_FAILED: u8 = 7;
-
-const ENDED: u8 = 8;
-
-const FAULTY: u8 = 11;
-
-const TOO_MANY_FRAMES: u8 = 13;
 
 // Carries an upload to its end, and returns the status. All that the frames lead to has gone out then, but not the end
 // frame.

@@ -8,19 +8,8 @@ ghost use Rattle.upload_core.specs.HostState.{IsPacketOf, view_of};
 ghost use Rattle.link_upload.specs.Links.{link_of, status_of};
 
 use crtp_packets::{PACKET_BYTES, Packet};
+use fleet_io::status::{DIFFERS, DONE, GAVE_UP, REFUSED};
 use upload_core::{Event, Host, Out, Progress, Sent};
-
-/// The status of an upload whose packets are all acknowledged (docs/COMMANDS.md, "Statuses").
-pub const DONE: u8 = 0;
-
-/// The status of an upload that gave up a packet which no drone acknowledged in time.
-pub const GAVE_UP: u8 = 9;
-
-/// The status of an upload that a drone refused.
-pub const REFUSED: u8 = 10;
-
-/// The status of an upload whose read-back found other bytes than were sent.
-pub const DIFFERS: u8 = 14;
 
 // The status of an upload, if it has ended.
 fn status(progress: Progress) -> Option<u8>

@@ -14,6 +14,10 @@ use crate::studies::{accelerates_line, enters_line, jumps_line, too_fast_line};
 use choreo_lines::{LineKind, Name};
 use cue_grid::GridFault;
 use fleet_io::ShortLine;
+use fleet_io::status::{
+    BLOCKED, DIFFERS, ENDED, ENTERS, FAULTY, GAVE_UP, NO_ROOM, NO_SHOW, NOT_VALID, READ_FAILED,
+    REFUSED, TOO_ABRUPT, TOO_FAST, USAGE,
+};
 use fleet_math::Depth;
 use halving::Place;
 
@@ -153,26 +157,26 @@ impl Refusal {
         ensures { result ≡ status_of self.now }
     {
         match self {
-            Refusal::Usage => 2,
+            Refusal::Usage => USAGE,
             Refusal::TooLarge
             | Refusal::Line { .. }
             | Refusal::Grid { .. }
-            | Refusal::Range { .. } => 3,
-            Refusal::Room { .. } | Refusal::Segments { .. } => 4,
-            Refusal::Blocked { .. } => 5,
-            Refusal::Read => 6,
-            Refusal::Ended => 8,
-            Refusal::GaveUp { .. } => 9,
-            Refusal::Refused { .. } => 10,
-            Refusal::Differs { .. } => 14,
-            Refusal::SecondLine { .. } | Refusal::SecondTooLarge => 11,
+            | Refusal::Range { .. } => NO_SHOW,
+            Refusal::Room { .. } | Refusal::Segments { .. } => NO_ROOM,
+            Refusal::Blocked { .. } => BLOCKED,
+            Refusal::Read => READ_FAILED,
+            Refusal::Ended => ENDED,
+            Refusal::GaveUp { .. } => GAVE_UP,
+            Refusal::Refused { .. } => REFUSED,
+            Refusal::Differs { .. } => DIFFERS,
+            Refusal::SecondLine { .. } | Refusal::SecondTooLarge => FAULTY,
             Refusal::Missing { .. }
             | Refusal::Extra { .. }
             | Refusal::TooDeep { .. }
-            | Refusal::Fails { .. } => 12,
-            Refusal::Enters { .. } => 15,
-            Refusal::TooFast { .. } => 16,
-            Refusal::Accelerates { .. } | Refusal::Jumps { .. } => 18,
+            | Refusal::Fails { .. } => NOT_VALID,
+            Refusal::Enters { .. } => ENTERS,
+            Refusal::TooFast { .. } => TOO_FAST,
+            Refusal::Accelerates { .. } | Refusal::Jumps { .. } => TOO_ABRUPT,
         }
     }
 

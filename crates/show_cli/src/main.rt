@@ -9,14 +9,11 @@
 
 mod top;
 
+use fleet_io::status::{NO_MEMORY, NO_WORDS};
 use fleet_io::{StdSink, StdSource};
-use show_judge::NO_MEMORY;
 use std::process::ExitCode;
 use std::{env, io};
 use top::run;
-
-/// The system didn't give the words, or they aren't UTF-8.
-const NO_WORDS: u8 = 17;
 
 fn main(rt: HostRuntime) -> ExitCode {
     let mut args = match env::args(&rt) {

@@ -3,16 +3,10 @@ ghost use Rattle.std.specs.Prelude.{◌≡◌, Err, IfOk};
 ghost use Rattle.refusals.specs.Refusals.{IsSayable, line_of, status_of};
 ghost use Rattle.show_judge.specs.Answers.{IsSaid, Responds, Wrote, output_of};
 
+use fleet_io::status::{DONE, NO_MEMORY, WRITE_FAILED};
 use fleet_io::{Failed, Lines, ShortLine, Sink, write_whole};
 use refusals::Refusal;
 use std::alloc::AllocError;
-
-/// What the command asks for holds, and was written.
-pub const DONE: u8 = 0;
-/// Out of memory, and nothing was written.
-pub const NO_MEMORY: u8 = 1;
-/// A write failed, and only a prefix of the output went out.
-pub const WRITE_FAILED: u8 = 7;
 
 /// What is written.
 #[derive(Drop)]

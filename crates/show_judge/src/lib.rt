@@ -12,9 +12,7 @@ mod ways;
 
 pub use any::{AnyText, run_any};
 pub use driver::{OneText, run_one};
-pub use ends::{
-    Answer, DONE, Failure, NO_MEMORY, Output, WRITE_FAILED, fail, finish, refuse, respond,
-};
+pub use ends::{Answer, Failure, Output, fail, finish, refuse, respond};
 pub use input::{Input, Text, next_text, read_show_text, read_two};
 pub use judging::{Accepted, Judged, Planned, accept, fit_text};
 pub use refusing::{marker_number, name_at, pair_at, unseparated};

@@ -16,11 +16,11 @@ ghost use Rattle.show_judge.specs.Runs.{Behaves};
 use crate::numbers::{packets, sizes, total};
 use choreo_reader::{Name, show_law};
 use drill_show::{drill_line, drill_text};
+use fleet_io::status::NO_MEMORY;
 use fleet_io::{Sink, Source, SureSource};
 use fleet_math::Depth;
 use show_judge::{
-    Accepted, Answer, Failure, Judged, NO_MEMORY, Output, Text, Ways, accept, read_show_text,
-    respond,
+    Accepted, Answer, Failure, Judged, Output, Text, Ways, accept, read_show_text, respond,
 };
 use std::alloc::{AllocError, Global};
 

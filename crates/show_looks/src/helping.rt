@@ -5,8 +5,9 @@ ghost use Rattle.show_looks.specs.Help.{help_verb};
 ghost use Rattle.show_looks.specs.Version.{version_verb};
 
 use choreo_reader::show_law;
+use fleet_io::status::DONE;
 use fleet_io::{Sink, Source};
-use show_judge::{DONE, finish};
+use show_judge::finish;
 
 // Writes these bytes, whatever the input is.
 fn tell<S: Source, K: Sink>(bytes: &[u8], source: &mut S, sink: &mut K) -> u8

@@ -13,11 +13,10 @@ ghost use Rattle.show_judge.specs.Verb.{during, show_ways};
 ghost use Rattle.show_looks.specs.Play.{play_verb};
 
 use choreo_reader::show_law;
+use fleet_io::status::{DONE, WRITE_FAILED};
 use fleet_io::{Failed, Sink, Source};
 use fleet_math::Depth;
-use show_judge::{
-    DONE, Failure, Judged, NO_MEMORY, WRITE_FAILED, Ways, accept, fail, read_show_text, refuse,
-};
+use show_judge::{Failure, Judged, Ways, accept, fail, read_show_text, refuse};
 use show_plan::{Fitted, uploadable_law};
 use std::alloc::Global;
 use traj_codec::join_law;

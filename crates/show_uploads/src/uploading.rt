@@ -23,12 +23,13 @@ ghost use Rattle.upload_core.specs.HostState.{view_of};
 ghost use Rattle.show_uploads.specs.Upload.{HasBegun, UploadStopsReading, UploadingLaw, upload_verb, upload_ways};
 
 use choreo_reader::show_law;
+use fleet_io::status::NO_MEMORY;
 use fleet_io::{IoFault, Parts, Sink, Source, marker_law};
 use fleet_math::{Depth, MOST_TEXT};
 use link_frames::END_BYTE;
 use link_upload::upload_law;
 use refusals::Refusal;
-use show_judge::{Failure, Judged, NO_MEMORY, Text, Ways, accept, finish};
+use show_judge::{Failure, Judged, Text, Ways, accept, finish};
 use show_plan::{Fitted, session};
 use std::alloc::{AllocError, Global};
 use upload_core::Host;
