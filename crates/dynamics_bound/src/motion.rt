@@ -1,8 +1,8 @@
 //! What is found of a trajectory: how fast its speed changes at most, and where it jumps, by the cues of a show.
 ghost use Rattle.std.specs.Prelude.{◌≡◌, ◌≤◌, length, sum, unsigned_abs, All};
-ghost use Rattle.fleet_math.specs.Limits.{most_cues};
+ghost use Rattle.fleet_math.specs.Limits.{most_segments, most_cues};
 ghost use Rattle.traj_codec.specs.Positions.{durations};
-ghost use Rattle.traj_codec.specs.Spelling.{HasDuration, most_segments};
+ghost use Rattle.traj_codec.specs.Spelling.{HasDuration};
 ghost use Rattle.dynamics_bound.specs.Excesses.{IsWithinLimits};
 ghost use Rattle.dynamics_bound.specs.Motions.{KeepsMotion, cue_from, cue_of, greater, greater_axes, motion, nothing};
 

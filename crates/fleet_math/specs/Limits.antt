@@ -13,6 +13,10 @@ most_drones = 32
 abbrev pub most_text : ℕ
 most_text = 1048576
 
+-- how many segments a trajectory in a drone's memory has at most
+abbrev pub most_segments : ℕ
+most_segments = 255
+
 -- how often a segment is halved at most
 abbrev pub most_depth : ℕ
 most_depth = 8

@@ -19,7 +19,9 @@ mod limits;
 
 pub use depth::Depth;
 pub use fine::Fine;
-pub use limits::{MOST_CUES, MOST_DEPTH, MOST_DRONES, MOST_FINE, MOST_TEXT, limits_law};
+pub use limits::{
+    MOST_CUES, MOST_DEPTH, MOST_DRONES, MOST_FINE, MOST_SEGMENTS, MOST_TEXT, limits_law,
+};
 
 /// The floor of a quotient: the greatest whole number whose product with `b` is at most `a`. Rust's `/` rounds toward
 /// 0 instead, which differs where `a` is negative.

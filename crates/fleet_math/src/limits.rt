@@ -1,7 +1,7 @@
 //! The limits that several crates share.
 
 ghost use Rattle.std.specs.Prelude.{◌≡◌};
-ghost use Rattle.fleet_math.specs.Limits.{most_cues, most_depth, most_drones, most_fine, most_text};
+ghost use Rattle.fleet_math.specs.Limits.{most_cues, most_depth, most_drones, most_fine, most_segments, most_text};
 
 /// How many cues a show has at most.
 pub const MOST_CUES: usize = 1000;
@@ -15,6 +15,9 @@ pub const MOST_DRONES: usize = 32;
 /// How often a cue is halved at most to list its instants (docs/COMMANDS.md, "Options").
 pub const MOST_FINE: u8 = 5;
 
+/// How many segments a trajectory in a drone's memory has at most, since a define tells their number in one byte.
+pub const MOST_SEGMENTS: usize = 255;
+
 /// How many bytes the text of a show has at most, and one of regions or of a schedule.
 pub const MOST_TEXT: usize = 1_048_576;
 
@@ -24,5 +27,6 @@ pub fn limits_law()
     ensures depth { MOST_DEPTH ≡ most_depth }
     ensures drones { MOST_DRONES ≡ most_drones }
     ensures fine { MOST_FINE ≡ most_fine }
+    ensures segments { MOST_SEGMENTS ≡ most_segments }
     ensures text { MOST_TEXT ≡ most_text }
 {}

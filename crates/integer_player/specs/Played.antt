@@ -8,7 +8,8 @@ use Rattle.fleet_math.specs.Sums.{power}
 use Rattle.fleet_math.specs.Bernstein.{bern}
 use Rattle.fleet_math.specs.Moments.{Moment, moment}
 use Rattle.traj_codec.specs.declared.traj.Traj.{Traj}
-use Rattle.traj_codec.specs.Spelling.{HasDuration, most_segments}
+use Rattle.traj_codec.specs.Spelling.{HasDuration}
+use Rattle.fleet_math.specs.Limits.{most_segments}
 use Rattle.traj_codec.specs.Positions.{decoded, durations}
 use Rattle.integer_player.specs.Floors.{floor_of}
 

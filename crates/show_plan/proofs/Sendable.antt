@@ -17,7 +17,8 @@ use Rattle.cue_grid.specs.Faults.{grid_fault}
 use Rattle.cue_grid.specs.Grids.{FitCues, IsGrid}
 use Rattle.traj_codec.specs.declared.traj.Traj.{Traj}
 use Rattle.traj_codec.specs.Joined.{joined}
-use Rattle.traj_codec.specs.Spelling.{HasDuration, most_segments}
+use Rattle.traj_codec.specs.Spelling.{HasDuration}
+use Rattle.fleet_math.specs.Limits.{most_segments}
 use Rattle.traj_codec.proofs.JoinedLemmas.{durations_of, join_holds_law, lasting_of}
 use Rattle.mm_rounding.specs.declared.piece.MicroPiece.{MicroPiece}
 use Rattle.mm_rounding.specs.Rounding.{segment_of}

@@ -2,7 +2,7 @@
 use Rattle.std.specs.Prelude.{false, true, ◌≡◌, ℕ, ◌+◌, ◌-◌, ◌≤◌, List, [], ◌∷◌, ◌++◌, map, length, nat_le, nat_lt, Option, Some, None, Result, Ok, Err, if◌then◌else◌}
 use Rattle.std.specs.Option.{option_or}
 use Rattle.std.specs.List.{sum, All}
-use Rattle.fleet_math.specs.Limits.{most_cues, most_drones}
+use Rattle.fleet_math.specs.Limits.{most_segments, most_cues, most_drones}
 use Rattle.crtp_packets.specs.declared.chunks.TheConstants.{MEMORY_BYTES}
 use Rattle.fleet_io.specs.Words.{IsWord}
 use Rattle.choreo_lines.specs.Name.{Name, is_name}
@@ -16,7 +16,7 @@ use Rattle.cue_grid.specs.Names.{has_double}
 use Rattle.traj_codec.specs.declared.traj.Traj.{Traj}
 use Rattle.traj_codec.specs.Positions.{durations}
 use Rattle.traj_codec.specs.Joined.{joined}
-use Rattle.traj_codec.specs.Spelling.{spelling, ending, IsTrajectory, HasDuration, most_segments}
+use Rattle.traj_codec.specs.Spelling.{spelling, ending, IsTrajectory, HasDuration}
 use Rattle.figure_expand.specs.declared.fault.AxisValue.{AxisValue}
 use Rattle.figure_expand.specs.Expanded.{range_fault}
 use Rattle.show_plan.specs.declared.fitted.Fitted.{Fitted}

@@ -24,9 +24,10 @@ use choreo_show::{DroneLine, Listed, Name, Point, Show};
 use crtp_packets::MEMORY_BYTES;
 use cue_grid::{Cue, Grid, UnrollError, unroll};
 use figure_expand::{ExpandError, expand, expansion_law};
+use fleet_math::MOST_SEGMENTS;
 use mm_rounding::{MicroPiece, round_piece, to_mm};
 use std::alloc::{AllocError, Global};
-use traj_codec::{MOST_SEGMENTS, Traj, join_holds, segment_law, size_of, start_law};
+use traj_codec::{Traj, join_holds, segment_law, size_of, start_law};
 
 // A yaw in two bytes.
 fn yaw_of(v: i64) -> i16

@@ -2,10 +2,10 @@
 
 ghost use Rattle.std.specs.Prelude.{◌≡◌, ◌≤◌, ◌++◌, ℕ, false, true, length, decimal, IfOk, OnOk};
 ghost use Rattle.std.specs.List.{All};
-ghost use Rattle.fleet_math.specs.Limits.{most_drones};
+ghost use Rattle.fleet_math.specs.Limits.{most_segments, most_drones};
 ghost use Rattle.fleet_io.specs.Words.{is_line_empty, with_word, IsWord};
 ghost use Rattle.traj_codec.specs.declared.traj.Traj.{Traj};
-ghost use Rattle.traj_codec.specs.Spelling.{IsEncoding, most_segments};
+ghost use Rattle.traj_codec.specs.Spelling.{IsEncoding};
 ghost use Rattle.upload_model.specs.Sessions.{Upload};
 ghost use Rattle.show_plan.specs.Fitting.{StandsAsWord, IsSendable, IsValidFitted, size};
 ghost use Rattle.show_plan.specs.Landing.{session_for};

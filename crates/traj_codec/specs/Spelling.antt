@@ -70,10 +70,6 @@ pub record IsEncoding (bytes : List ℕ) (t : Traj) : Type 0 where
   pub spells : Spells spelled t
   pub ended : bytes ≡ spelled ++ ending
 
--- the most segments that a trajectory in a drone's memory has
-abbrev pub most_segments : ℕ
-most_segments = 255
-
 -- ---- one spelling each
 
 -- the number fits two bytes

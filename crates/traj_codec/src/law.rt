@@ -1,18 +1,12 @@
 //! What holds of all spellings.
 
-ghost use Rattle.std.specs.Prelude.{◌≡◌};
-ghost use Rattle.traj_codec.specs.Spelling.{AreNumbers, IsElement, IsSegment, SpellingLaw, most_segments};
+ghost use Rattle.traj_codec.specs.Spelling.{AreNumbers, IsElement, IsSegment, SpellingLaw};
 
-use crate::{Element, MOST_SEGMENTS, Segment};
+use crate::{Element, Segment};
 
 /// Each trajectory has one spelling, which is no other's, and no spelling of as many segments is a front of another.
 pub fn spelling_law()
     ensures { SpellingLaw }
-{}
-
-/// The limit is the number of the definitions.
-pub fn limits_law()
-    ensures segments { MOST_SEGMENTS ≡ most_segments }
 {}
 
 /// A law. Each value of the type is a segment: its duration and its numbers fit two bytes, and an element has as many numbers as its

@@ -13,8 +13,8 @@ mod traj;
 mod writing;
 
 pub use joining::{join_holds, join_law};
-pub use law::{limits_law, segment_law, spelling_law, start_law};
+pub use law::{segment_law, spelling_law, start_law};
 pub use listed::Listed;
 pub use reading::{CodecFault, decode};
-pub use traj::{Element, MOST_SEGMENTS, Segment, Traj};
+pub use traj::{Element, Segment, Traj};
 pub use writing::{encode, size_of};

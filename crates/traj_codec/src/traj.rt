@@ -26,9 +26,6 @@ pub struct Segment {
     pub elements: [Element; 4],
 }
 
-/// The most segments that a trajectory in a drone's memory has.
-pub const MOST_SEGMENTS: usize = 255;
-
 /// Where a drone starts, and how it moves from there.
 #[derive(Debug, Drop)]
 pub struct Traj {

@@ -7,8 +7,8 @@ use Rattle.crtp_packets.specs.Packets.{write_request_of, read_request_of}
 use Rattle.crtp_packets.specs.declared.packet.TheConstants.{READ_BYTES}
 use Rattle.crtp_packets.specs.Commands.{define_of, start_of}
 use Rattle.crtp_packets.specs.declared.chunks.TheConstants.{MEMORY_BYTES}
-use Rattle.fleet_math.specs.Limits.{most_drones}
-use Rattle.upload_model.specs.declared.limits.TheConstants.{TABLE_ENTRIES, MOST_SEGMENTS}
+use Rattle.fleet_math.specs.Limits.{most_drones, most_segments}
+use Rattle.upload_model.specs.declared.limits.TheConstants.{TABLE_ENTRIES}
 use Rattle.upload_model.specs.declared.events.Phase.{Phase}
 use Rattle.upload_model.specs.declared.events.Phase.TheVariants.{Loading, Reading, Starting}
 use Rattle.upload_model.specs.declared.loads.Load.{Load}
@@ -30,7 +30,7 @@ pub record IsLoad (offset : ℕ) (l : Load) : Type 0 where
   pub some_bytes : 1 ≤ length l.bytes
   pub has_room : offset + length l.bytes ≤ MEMORY_BYTES
   pub some_pieces : 1 ≤ l.pieces
-  pub few_pieces : l.pieces ≤ MOST_SEGMENTS
+  pub few_pieces : l.pieces ≤ most_segments
 
 -- How many drones a session has.
 abbrev pub drone_count : Upload → ℕ

@@ -33,7 +33,6 @@ pub fn limits_law()
     ensures accepted { ACCEPTED ≡ 0 }
     ensures unfit { UNFIT ≡ 2 }
     ensures no_room { NO_ROOM ≡ 5 }
-    ensures segments { MOST_SEGMENTS ≡ 255 }
     ensures window { PACKETS_IN_FLIGHT ≡ 4 }
     ensures patience { TICKS_TO_GIVE_UP ≡ 20 }
 {}

@@ -13,9 +13,6 @@ pub const UNFIT: u8 = 2;
 /// The status of a packet whose bytes do not lie in the memory.
 pub const NO_ROOM: u8 = 5;
 
-/// The most segments of a load, since a define tells their number in one byte.
-pub const MOST_SEGMENTS: u8 = 255;
-
 /// The most writes that are in flight to one drone.
 pub const PACKETS_IN_FLIGHT: usize = 4;
 
