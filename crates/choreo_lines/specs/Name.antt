@@ -8,18 +8,14 @@ use Rattle.text_lines.specs.Numbers.{is_digit}
 abbrev pub Name : Type 0
 Name = ArrayVec ℕ
 
--- a lower-case letter
-abbrev pub is_lower : ℕ → Bool
-is_lower b = nat_le 97 b && nat_le b 122
-
--- what may stand in a name after its first byte
+-- what may stand in a name after its first byte: a lower-case letter, a digit or `_`
 abbrev pub goes_in_name : ℕ → Bool
-goes_in_name b = is_lower b || is_digit b || b == 95
+goes_in_name b = (nat_le 97 b && nat_le b 122) || is_digit b || b == 95
 
 -- bytes of which the first is a lower-case letter
 abbrev pub begins_lower : List ℕ → Bool
 begins_lower [] = false
-begins_lower (b ∷ bs) = is_lower b
+begins_lower (b ∷ bs) = nat_le 97 b && nat_le b 122
 
 -- 1 to 16 bytes, a lower-case letter first, then lower-case letters, digits and `_`; not `form` or `end`
 abbrev pub is_name : List ℕ → Bool

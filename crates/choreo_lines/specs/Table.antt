@@ -28,10 +28,6 @@ pub record Row : Type 0 where
 abbrev pub only : List Want → Row
 only places = record { places = places; names = 0 }
 
--- a number that is not negative
-abbrev pub natural : ℕ → ℕ → Want
-natural low high = want.Number (pos low) (pos high)
-
 -- micrometres
 abbrev pub coordinate : Want
 coordinate = want.Number (neg_ℤ (pos 100000000)) (pos 100000000)
@@ -46,19 +42,19 @@ point = coordinate ∷ coordinate ∷ coordinate ∷ yaw ∷ []
 
 -- the lines by their first word
 abbrev pub row_of : Keyword → Row
-row_of first.Memory = only (natural 0 255 ∷ natural 0 4095 ∷ [])
-row_of first.Trajectory = only (natural 0 9 ∷ [])
-row_of first.Ellipsoid = only (natural 1 2000 ∷ natural 1 2000 ∷ [])
-row_of first.Stray = only (natural 0 1000 ∷ [])
-row_of first.Late = only (natural 0 1000 ∷ [])
+row_of first.Memory = only (want.Number (pos 0) (pos 255) ∷ want.Number (pos 0) (pos 4095) ∷ [])
+row_of first.Trajectory = only (want.Number (pos 0) (pos 9) ∷ [])
+row_of first.Ellipsoid = only (want.Number (pos 1) (pos 2000) ∷ want.Number (pos 1) (pos 2000) ∷ [])
+row_of first.Stray = only (want.Number (pos 0) (pos 1000) ∷ [])
+row_of first.Late = only (want.Number (pos 0) (pos 1000) ∷ [])
 row_of first.Drone = only (want.Name ∷ point)
 row_of first.Formation = only (want.Name ∷ [])
 row_of first.At = only (want.Name ∷ point)
 row_of first.Figure = record { places = want.Name ∷ []; names = most_drones }
-row_of first.Cue = only (natural 1 65535 ∷ [])
-row_of first.Repeat = only (natural 1 1000000000 ∷ [])
+row_of first.Cue = only (want.Number (pos 1) (pos 65535) ∷ [])
+row_of first.Repeat = only (want.Number (pos 1) (pos 1000000000) ∷ [])
 row_of first.Perform = record {
-  places = want.Name ∷ want.Mirror ∷ natural 0 3 ∷ coordinate ∷ coordinate ∷ coordinate ∷ [];
+  places = want.Name ∷ want.Mirror ∷ want.Number (pos 0) (pos 3) ∷ coordinate ∷ coordinate ∷ coordinate ∷ [];
   names = most_drones;
 }
 row_of first.Form = only (want.Name ∷ want.Manner ∷ [])

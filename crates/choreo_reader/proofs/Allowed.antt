@@ -1,13 +1,13 @@
 -- Which texts have no forbidden byte; among them are those whose bytes may all stand anywhere.
 use Rattle.std.proofs.Common.{◌≡◌, ℕ, zero, suc, ◌+◌, Bool, true, false, cond, List, [], ◌∷◌, take, Option, Some, None, refl, sym, ap, ◌∙◌}
-use Rattle.std.specs.Prelude.{◌&&◌, ◌||◌}
+use Rattle.std.specs.Prelude.{◌&&◌, ◌||◌, ◌==◌}
 use Rattle.std.specs.List.{list_all, onto_first, position_or_len}
 use Rattle.std.proofs.lemmas.Bool.{false≢true}
 use Rattle.text_lines.specs.Lines.{is_line_feed, between_feeds, without_empty_end, lines_of}
-use Rattle.text_lines.specs.Words.{is_hash, visible}
+use Rattle.text_lines.specs.Words.{visible}
 use Rattle.text_lines.specs.declared.token.Comments.TheVariants.{FromHash}
 use Rattle.choreo_lines.specs.declared.line.LineKind.TheVariants as kind
-use Rattle.choreo_reader.specs.Text.{Fault, are_allowed, is_clean, forbidden, forbidden_from, fault_at}
+use Rattle.choreo_reader.specs.Text.{Fault, are_allowed, forbidden, forbidden_from, fault_at}
 use Rattle.choreo_reader.specs.Steps.{stands_anywhere}
 
 both : (a b : Bool) → (a && b) ≡ true → (a ≡ true) × (b ≡ true)
@@ -47,7 +47,7 @@ none_forbidden : (number : ℕ) (lines : List (List ℕ)) → list_all are_allow
 none_forbidden number [] all = refl
 none_forbidden number (line ∷ lines) all =
     ap (λ c. cond c (forbidden_from (number + 1) lines) (Some (fault_at number kind.BadByte)))
-    (front_allowed (position_or_len is_hash line) line (both _ _ all).0)
+    (front_allowed (position_or_len (λ b. b == 35) line) line (both _ _ all).0)
     ∙ none_forbidden (number + 1) lines (both _ _ all).1
 
 -- where each byte may stand anywhere, no line has a forbidden byte
@@ -71,8 +71,8 @@ clean_lines number (line ∷ lines) h =
     let p = both (are_allowed (visible FromHash line)) (list_all (λ l. are_allowed (visible FromHash l)) lines) h in
     ap (λ b. cond b (forbidden_from (number + 1) lines) (Some (fault_at number kind.BadByte))) p.0 ∙ clean_lines (number + 1) lines p.1
 
-pub none_clean : (text : List ℕ) → forbidden text ≡ None → is_clean text ≡ true
+pub none_clean : (text : List ℕ) → forbidden text ≡ None → list_all (λ line. are_allowed (visible FromHash line)) (lines_of text) ≡ true
 none_clean text h = lines_clean 1 (lines_of text) h
 
-pub clean_none : (text : List ℕ) → is_clean text ≡ true → forbidden text ≡ None
+pub clean_none : (text : List ℕ) → list_all (λ line. are_allowed (visible FromHash line)) (lines_of text) ≡ true → forbidden text ≡ None
 clean_none text h = clean_lines 1 (lines_of text) h

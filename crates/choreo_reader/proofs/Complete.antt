@@ -7,7 +7,8 @@ use Rattle.std.specs.List.{list_all}
 use Rattle.text_lines.specs.Words.{Line}
 use Rattle.choreo_show.specs.Plain as plain
 use Rattle.choreo_show.specs.Plain.{Body, PlainFigure, PlainShow, has_block, ◌⨾◌}
-use Rattle.choreo_reader.specs.Grammar.{SaidLine, IsSaid, AreSaid, at, anywhere, closing, act_said, body_said}
+use Rattle.choreo_reader.specs.Grammar.{SaidLine, IsSaid, at, anywhere, act_said, body_said}
+use Rattle.choreo_reader.proofs.Items.{closing, AreSaid}
 use Rattle.choreo_show.specs.Shape.{is_filled, depth, fits_figure, names_one}
 use Rattle.choreo_lines.specs.Says.{may_say}
 use Rattle.choreo_reader.specs.Context.{Opening, OpenRepeat, OpenCue, fault_if, place_of, place_in, in_figure, repeats, is_empty_block}

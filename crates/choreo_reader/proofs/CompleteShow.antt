@@ -1,13 +1,15 @@
 -- Every show's texts are read as that show.
+use Rattle.std.proofs.lemmas.List.Elements.{recursion_from_All}
 use Rattle.std.proofs.Common.{◌≡◌, ℕ, ◌+◌, ◌≤◌, Bool, true, false, List, [], ◌∷◌, ◌++◌, length, map, Option, Some, None, Ok, Err, refl, sym, ap, ◌∙◌, arith, cond, append_assoc}
-use Rattle.std.specs.Prelude.{not, is_some, unwrap_or}
+use Rattle.std.specs.Prelude.{not, is_some, unwrap_or, slice_index_or, codes}
 use Rattle.std.proofs.lemmas.List.{append-nil}
 use Rattle.text_lines.specs.Words.{Line}
 use Rattle.choreo_reader.specs.Text.{show_lines}
 use Rattle.choreo_show.specs.Plain as plain
 use Rattle.choreo_lines.specs.Name.{Name}
 use Rattle.choreo_show.specs.Plain.{Body, PlainFigure, PlainShow, has_block, ◌⨾◌}
-use Rattle.choreo_reader.specs.Grammar.{AreSaid, closing, place_said, body_said, Item, Memory, Trajectory, Ellipsoid, Stray, Late, Drone, Formed, Figured, Blocks, item_said, items_said, memories, trajectories, ellipsoids, strays, lates, drones, formations, figures, body, first_or, show_of, IsItem, AreItems, HasSingleSettings, IsHeader, StandsFor}
+use Rattle.choreo_reader.specs.Grammar.{body_said, Item, Memory, Trajectory, Ellipsoid, Stray, Late, Drone, Formed, Figured, Blocks, item_said, show_of, IsItem, HasSingleSettings, StandsFor, parts_of}
+use Rattle.choreo_reader.proofs.Items.{closing, place_said, items_said, memories, trajectories, ellipsoids, strays, lates, drones, formations, figures, body, AreItems, AreSaid}
 use Rattle.choreo_reader.specs.Context.{fault_if, is_header, end_fault}
 use Rattle.choreo_reader.specs.Text.{fault_at}
 use Rattle.choreo_reader.specs.Reading.{InFormation, InFigure, Built, nothing, add_block, built_show, is_any, lines_step, finish, finish_with, openings_of, reading, read_lines, unless_forbidden}
@@ -83,7 +85,7 @@ no_lines (Late ms) s is k n h = absurd h
 no_lines (Drone d) s is k n h = absurd h
 no_lines (Formed f) s is k n h = absurd h
 no_lines (Figured f) s is k n h = absurd h
-no_lines (Blocks b) s is k n h = body_reads b s [] [] (record { takes = tt; filled = k.filled; nested = omega (arith, k.nested); figure = λ q. cc }) h
+no_lines (Blocks b) s is k n h = body_reads b s [] [] (record { takes = tt; filled = k.0; nested = omega (arith, k.1); figure = λ q. cc }) h
 
 item_reads : (i : Item) (s : Built) (is : List Item) (ls : List Line) → IsItem i → Single s (i ∷ is) → AreSaid ls (item_said i) → Reads (with_open s []) ls (add_item s i)
 item_reads i s is [] k n h = no_lines i s is k n h
@@ -116,10 +118,10 @@ item_reads (Figured f) s is (l ∷ ls) k n h =
     let ends = first_said parts.back closing [] parts.second in
     let o = InFigure f.line f.name f.roles plain.Done in
     let one = numbered_step (with_open s []) l f.line (entry.Figure f.name f.roles) h.0 refl refl in
-    let inside = body_reads f.body s (o ∷ []) parts.front (record { takes = tt; filled = k.2.filled; nested = omega (arith, k.2.nested); figure = λ q. k.1 }) parts.first in
+    let inside = body_reads f.body s (o ∷ []) parts.front (record { takes = tt; filled = k.2; nested = omega (arith, k.3); figure = λ q. k.1 }) parts.first in
     let block = enclosed s (add_item s (Figured f)) [] o (InFigure f.line f.name f.roles f.body) l ends.line parts.front one inside ends.here refl (some_blocks (has_block f.body) k.0) refl in
     last_lines _ _ l ends.line ls parts.front parts.back ends.others parts.is ends.is ends.later block
-item_reads (Blocks b) s is (l ∷ ls) k n h = body_reads b s [] (l ∷ ls) (record { takes = tt; filled = k.filled; nested = omega (arith, k.nested); figure = λ q. cc }) h
+item_reads (Blocks b) s is (l ∷ ls) k n h = body_reads b s [] (l ∷ ls) (record { takes = tt; filled = k.0; nested = omega (arith, k.1); figure = λ q. cc }) h
 
 single_later : (i : Item) (s : Built) (is : List Item) → Single s (i ∷ is) → Single (add_item s i) is
 single_later (Memory id offset) s is n = record { memory = omega (arith, n.memory); trajectory = omega (arith, n.trajectory); ellipsoid = omega (arith, n.ellipsoid); stray = omega (arith, n.stray); late = omega (arith, n.late) }
@@ -201,7 +203,7 @@ body_in (Figured f ∷ is) s = body_in is (add_item s (Figured f))
 body_in (Blocks b ∷ is) s = body_in is (add_item s (Blocks b)) ∙ body_assoc s.body b (body is)
 
 abbrev value_or : {A : Type 0} → A → Option A → List A → A
-value_or d None xs = first_or d xs
+value_or d None xs = slice_index_or xs 0 d
 value_or d (Some x) xs = x
 
 value_end : {A : Type 0} (d : A) (o : Option A) → unwrap_or o d ≡ value_or d o []
@@ -273,7 +275,7 @@ late_in e (Figured f ∷ is) s n = late_in e is (add_item s (Figured f)) (single
 late_in e (Blocks b ∷ is) s n = late_in e is (add_item s (Blocks b)) (single_later (Blocks b) s is n)
 
 -- the show of the items
-pub items_show : (is : List Item) → Single nothing is → built_show (add_items nothing is) ≡ show_of is
+pub items_show : (is : List Item) → Single nothing is → built_show (add_items nothing is) ≡ show_of (parts_of is)
 items_show is n =
     let m = memory_in (2, 0) is nothing n in
     let t = trajectory_in 0 is nothing n in
@@ -298,10 +300,10 @@ items_closed (Formed f ∷ is) s = items_closed is (add_item s (Formed f))
 items_closed (Figured f ∷ is) s = items_closed is (add_item s (Figured f))
 items_closed (Blocks b ∷ is) s = items_closed is (add_item s (Blocks b))
 
-header_is : (l : Line) → IsHeader l → is_header l.words ≡ true
+header_is : (l : Line) → l.words ≡ codes "choreo" ∷ codes "1" ∷ [] → is_header l.words ≡ true
 header_is l h = ap is_header h
 
-single_first : (is : List Item) → HasSingleSettings is → Single nothing is
+single_first : (is : List Item) → HasSingleSettings (parts_of is) → Single nothing is
 single_first is h = record { memory = omega (arith, h.memory); trajectory = omega (arith, h.trajectory); ellipsoid = omega (arith, h.ellipsoid); stray = omega (arith, h.stray); late = omega (arith, h.late) }
 
 lines_read : (is : List Item) (lines : List Line) → AreItems is → Single nothing is → AreSaid lines (items_said is) → lines_step nothing lines ≡ Ok (add_items nothing is)
@@ -312,11 +314,11 @@ finished is = ap (λ os. finish_with (add_items nothing is) (end_fault (openings
 
 -- what a text stands for is what is read
 pub complete : (text : List ℕ) (show : PlainShow) → StandsFor text show → reading text ≡ Ok show
-complete text show (is, header, lines, t, e) =
-    let n = single_first is t.single in
+complete text show t =
+    let n = single_first t.items t.single in
     ap (λ f. unless_forbidden f (read_lines (show_lines text))) (clean_none text t.bytes)
     ∙ ap read_lines t.cut
-    ∙ ap (λ b. cond b (finish (lines_step nothing lines)) (Err (fault_at header.number kind.Header))) (header_is header t.first)
-    ∙ ap finish (lines_read is lines t.each n t.said)
-    ∙ finished is
-    ∙ ap (λ x. Ok x) (items_show is n ∙ e)
+    ∙ ap (λ b. cond b (finish (lines_step nothing t.lines)) (Err (fault_at t.header.number kind.Header))) (header_is t.header t.first)
+    ∙ ap finish (lines_read t.items t.lines (recursion_from_All IsItem t.items t.each) n t.said)
+    ∙ finished t.items
+    ∙ ap (λ x. Ok x) (items_show t.items n ∙ t.makes)

@@ -1,5 +1,6 @@
 pub mod Opened
 pub mod OneLine
+pub mod Items
 pub mod Allowed
 pub mod Complete
 pub mod CompleteShow

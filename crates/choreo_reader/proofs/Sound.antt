@@ -1,6 +1,7 @@
 -- What is read is what the text stands for.
+use Rattle.std.proofs.lemmas.List.Elements.{All-from_recursion}
 use Rattle.std.proofs.Common.{◌≡◌, ℕ, ◌+◌, ◌<◌, ◌≤◌, Bool, true, false, List, [], ◌∷◌, ◌++◌, length, map, Option, Some, None, Result, Ok, Err, refl, sym, ap, subst, ◌∙◌, arith, cond, append_assoc}
-use Rattle.std.specs.Prelude.{◌&&◌, ◌==◌, not, nat_le, is_some, option_to_list, unwrap_or, bytes_eq, codes}
+use Rattle.std.specs.Prelude.{◌&&◌, ◌==◌, not, nat_le, is_some, option_to_list, unwrap_or, bytes_eq, codes, slice_index_or}
 use Rattle.std.proofs.lemmas.List.{append-nil, map-append}
 use Rattle.std.proofs.lemmas.Bool.{and_parts, eqb-true}
 use Rattle.std.proofs.lemmas.Bool.Decides.{nat_tests}
@@ -11,7 +12,8 @@ use Rattle.choreo_reader.specs.Text.{show_lines}
 use Rattle.choreo_show.specs.Plain as plain
 use Rattle.choreo_lines.specs.Name.{Name}
 use Rattle.choreo_show.specs.Plain.{Body, PlainFigure, PlainShow, has_block, ◌⨾◌}
-use Rattle.choreo_reader.specs.Grammar.{SaidLine, IsSaid, AreSaid, at, anywhere, closing, act_said, place_said, body_said, Item, Memory, Trajectory, Ellipsoid, Stray, Late, Drone, Formed, Figured, Blocks, item_said, items_said, memories, trajectories, ellipsoids, strays, lates, drones, formations, figures, body, first_or, show_of, IsItem, AreItems, IsHeader, StandsFor}
+use Rattle.choreo_reader.specs.Grammar.{SaidLine, IsSaid, at, anywhere, act_said, body_said, Item, Memory, Trajectory, Ellipsoid, Stray, Late, Drone, Formed, Figured, Blocks, item_said, show_of, IsItem, StandsFor, parts_of}
+use Rattle.choreo_reader.proofs.Items.{closing, place_said, items_said, memories, trajectories, ellipsoids, strays, lates, drones, formations, figures, body, AreItems, AreSaid}
 use Rattle.choreo_show.specs.Shape.{is_filled, depth, fits_figure, names_one}
 use Rattle.choreo_lines.specs.Says.{Says, may_say}
 use Rattle.choreo_reader.specs.Text.{Fault, fault_at, forbidden}
@@ -254,7 +256,7 @@ fits_then (plain.Perform line figure frame ds rest) b p q = cc
 -- one more block, in the innermost open one or at top
 block_added : (s : Built) (os qs : List Open) (a : Body) (done ls : List Line) → (h : Holds (with_open s qs) done) → AreSaid (done ++ ls) (items_said h.items ++ (opens_said os ++ body_said a)) → InOrder os → Kept os a → Holds (add_block s os a) (done ++ ls)
 block_added s [] qs a done ls h said k p =
-    item_holds (Blocks a) s qs done ls h (record { filled = p.filled; nested = omega (arith, p.nested) }) tt said
+    item_holds (Blocks a) s qs done ls h (p.filled, omega (arith, p.nested)) tt said
 block_added s (InFormation line name places ∷ os) qs a done ls h said k p = absurd p.takes
 block_added s (InFigure line name roles b ∷ os) qs a done ls h said k p =
     let to = InFigure line name roles (b ⨾ a) ∷ os in
@@ -384,7 +386,7 @@ end_goes (InFormation line name places ∷ o ∷ os) s done l m h says f = let k
 end_goes (InFigure line name roles b ∷ []) s done l m h says f =
     let some = not_false (has_block b) (fault_none _ kind.EmptyBlock f) in
     let k = h.order.1 in
-    item_closed s (InFigure line name roles b) (Figured (record { line = line; name = name; roles = roles; body = b })) done l h says refl (some, k.figure refl, record { filled = k.filled; nested = omega (arith, k.nested) }) tt
+    item_closed s (InFigure line name roles b) (Figured (record { line = line; name = name; roles = roles; body = b })) done l h says refl (some, k.figure refl, k.filled, omega (arith, k.nested)) tt
 end_goes (InFigure line name roles b ∷ o ∷ os) s done l m h says f = let k : o ∷ os ≡ [] = h.order.0 in cc
 end_goes (InRepeat line times b ∷ os) s done l m h says f =
     let some = not_false (has_block b) (fault_none _ kind.EmptyBlock f) in
@@ -524,11 +526,11 @@ one_set : {A : Type 0} (o : Option A) (xs : List A) → xs ≡ option_to_list o 
 one_set None xs e = subst (λ ys. length ys ≤ 1) (sym e) (omega arith)
 one_set (Some x) xs e = subst (λ ys. length ys ≤ 1) (sym e) (omega arith)
 
-value_set : {A : Type 0} (d : A) (o : Option A) (xs : List A) → xs ≡ option_to_list o → first_or d xs ≡ unwrap_or o d
-value_set d None xs e = ap (first_or d) e
-value_set d (Some x) xs e = ap (first_or d) e
+value_set : {A : Type 0} (d : A) (o : Option A) (xs : List A) → xs ≡ option_to_list o → slice_index_or xs 0 d ≡ unwrap_or o d
+value_set d None xs e = ap (λ ys. slice_index_or ys 0 d) e
+value_set d (Some x) xs e = ap (λ ys. slice_index_or ys 0 d) e
 
-shown : (s : Built) (done : List Line) (h : Holds s done) → show_of h.items ≡ built_show s
+shown : (s : Built) (done : List Line) (h : Holds s done) → show_of (parts_of h.items) ≡ built_show s
 shown s done h =
     let m = value_set (2, 0) s.memory (memories h.items) h.memory in
     let t = value_set 0 s.trajectory (trajectories h.items) h.trajectory in
@@ -581,7 +583,7 @@ two_words (a ∷ []) h = absurd (omega arith)
 two_words (a ∷ b ∷ []) h = refl
 two_words (a ∷ b ∷ c ∷ ws) h = absurd (omega arith)
 
-header_words : (l : Line) → is_header l.words ≡ true → IsHeader l
+header_words : (l : Line) → is_header l.words ≡ true → l.words ≡ codes "choreo" ∷ codes "1" ∷ []
 header_words l h =
     let p = and_parts (length l.words == 2 && bytes_eq (word l.words 0) (codes "choreo")) (bytes_eq (word l.words 1) (codes "1")) h in
     let q = and_parts (length l.words == 2) (bytes_eq (word l.words 0) (codes "choreo")) p.0 in
@@ -595,17 +597,16 @@ sound text show h =
     let u = unforbidden_by (forbidden text) text show refl h in
     let r = lines_by (show_lines text) show u.read in
     let k = steps_hold r.others [] nothing r.state at_start r.steps in
-    let none : items_said k.items ++ opens_said r.state.open_blocks ≡ items_said k.items = ap (λ os. items_said k.items ++ opens_said os) r.closed ∙ append-nil (items_said k.items) in (
-      k.items,
-      r.header,
-      r.others,
-      record {
-        bytes = none_clean text u.allowed;
-        cut = r.is;
-        first = header_words r.header r.first;
-        said = subst (λ ss. AreSaid r.others ss) none k.said;
-        each = k.each;
-        single = record { memory = one_set r.state.memory (memories k.items) k.memory; trajectory = one_set r.state.trajectory (trajectories k.items) k.trajectory; ellipsoid = one_set r.state.ellipsoid (ellipsoids k.items) k.ellipsoid; stray = one_set r.state.stray (strays k.items) k.stray; late = one_set r.state.late (lates k.items) k.late };
-      },
-      shown r.state r.others k ∙ r.shows,
-    )
+    let none : items_said k.items ++ opens_said r.state.open_blocks ≡ items_said k.items = ap (λ os. items_said k.items ++ opens_said os) r.closed ∙ append-nil (items_said k.items) in
+    record {
+      items = k.items;
+      header = r.header;
+      lines = r.others;
+      bytes = none_clean text u.allowed;
+      cut = r.is;
+      first = header_words r.header r.first;
+      said = subst (λ ss. AreSaid r.others ss) none k.said;
+      each = All-from_recursion IsItem k.items k.each;
+      single = record { memory = one_set r.state.memory (memories k.items) k.memory; trajectory = one_set r.state.trajectory (trajectories k.items) k.trajectory; ellipsoid = one_set r.state.ellipsoid (ellipsoids k.items) k.ellipsoid; stray = one_set r.state.stray (strays k.items) k.stray; late = one_set r.state.late (lates k.items) k.late };
+      makes = shown r.state r.others k ∙ r.shows;
+    }

@@ -1,6 +1,7 @@
 -- A show that a text stands for is valid.
+use Rattle.std.proofs.lemmas.List.Elements.{recursion_from_All}
 use Rattle.std.proofs.Common.{◌≡◌, ℕ, ◌+◌, ◌<◌, ◌≤◌, Bool, true, false, cond, eqb-true, ne_eqb, List, [], ◌∷◌, ◌++◌, map, length, Option, Some, None, refl, sym, ap, subst, ◌∙◌, arith, append_assoc}
-use Rattle.std.specs.Prelude.{pos, nat_le, ◌≤ℤ◌, ◌==◌, ◌&&◌}
+use Rattle.std.specs.Prelude.{pos, nat_le, ◌≤ℤ◌, ◌==◌, ◌&&◌, slice_index_or, IfSome}
 use Rattle.std.proofs.lemmas.Bool.{and_parts, leb-true}
 use Rattle.std.proofs.lemmas.Int.{ints}
 use Rattle.std.proofs.lemmas.List.{append-nil, length-map}
@@ -16,7 +17,8 @@ use Rattle.choreo_lines.proofs.Saying.{FitNamed, held_fit, held_length, holds_fi
 use Rattle.choreo_lines.specs.declared.table.Want.TheVariants as want
 use Rattle.choreo_lines.specs.declared.table.Value.TheVariants.{Name as Named}
 use Rattle.choreo_lines.specs.declared.table.ActWord.TheVariants as word_of
-use Rattle.choreo_reader.specs.Grammar.{SaidLine, AreSaid, closing, act_said, place_said, body_said, Item, Memory, Trajectory, Ellipsoid, Stray, Late, Drone, Formed, Figured, Blocks, item_said, items_said, memories, trajectories, ellipsoids, strays, lates, drones, formations, figures, body, first_or, settings, show_of, AreItems, HasNumber, StandsFor}
+use Rattle.choreo_reader.specs.Grammar.{SaidLine, act_said, body_said, Item, Memory, Trajectory, Ellipsoid, Stray, Late, Drone, Formed, Figured, Blocks, item_said, show_of, IsItem, StandsFor, parts_of}
+use Rattle.choreo_reader.proofs.Items.{closing, place_said, items_said, memories, trajectories, ellipsoids, strays, lates, drones, formations, figures, body, AreItems, AreSaid}
 use Rattle.choreo_show.specs.Shape.{is_filled, depth}
 use Rattle.choreo_show.specs.Valid.{IsName, AreNames, FitsPoint, FitsAct, FitsFrame, FitActLines, FitsBody, FitDroneLines, FitFormations, FitFigures, FitsSettings, act_lines, body_lines, drone_lines, formation_lines, figure_lines, AllAbove, times, all_lines, IsValid}
 use Rattle.choreo_reader.proofs.Sound.{filled_then, depth_then}
@@ -177,8 +179,8 @@ figures_fit (Figured f ∷ is) k h = (
   h.0.2,
   h.0.3,
   k.0.0,
-  k.0.2.filled,
-  k.0.2.nested,
+  k.0.2,
+  k.0.3,
   k.0.1,
   body_fits f.body (front_fits (body_said f.body) (closing ∷ []) (front_fits (item_said (Figured f)) (items_said is) h).1),
   figures_fit is k.1 (back_fits (item_said (Figured f)) (items_said is) h),
@@ -192,20 +194,20 @@ show_body_fits (i ∷ is) h = show_body_fits is (back_fits (item_said i) (items_
 
 body_filled : (is : List Item) → AreItems is → is_filled (body is) ≡ true
 body_filled [] k = refl
-body_filled (Blocks b ∷ is) k = filled_then b (body is) k.0.filled (body_filled is k.1)
+body_filled (Blocks b ∷ is) k = filled_then b (body is) k.0.0 (body_filled is k.1)
 body_filled (i ∷ is) k = body_filled is k.1
 
 body_nested : (is : List Item) → AreItems is → 0 + depth (body is) ≤ 8
 body_nested [] k = omega arith
-body_nested (Blocks b ∷ is) k = depth_then b (body is) 0 (omega (arith, k.0.nested)) (body_nested is k.1)
+body_nested (Blocks b ∷ is) k = depth_then b (body is) 0 (omega (arith, k.0.1)) (body_nested is k.1)
 body_nested (i ∷ is) k = body_nested is k.1
 
-memory_fits : (is : List Item) → AllFit (items_said is) → (first_or (2, 0) (memories is)).1 ≤ 4095
+memory_fits : (is : List Item) → AllFit (items_said is) → (slice_index_or (memories is) 0 (2, 0)).1 ≤ 4095
 memory_fits [] h = omega arith
 memory_fits (Memory id offset ∷ is) h = h.0
 memory_fits (i ∷ is) h = memory_fits is (back_fits (item_said i) (items_said is) h)
 
-trajectory_fits : (is : List Item) → AllFit (items_said is) → first_or 0 (trajectories is) ≤ 9
+trajectory_fits : (is : List Item) → AllFit (items_said is) → slice_index_or (trajectories is) 0 0 ≤ 9
 trajectory_fits [] h = omega arith
 trajectory_fits (Trajectory id ∷ is) h = h.0
 trajectory_fits (i ∷ is) h = trajectory_fits is (back_fits (item_said i) (items_said is) h)
@@ -213,22 +215,22 @@ trajectory_fits (i ∷ is) h = trajectory_fits is (back_fits (item_said i) (item
 abbrev FitsEllipsoid : (ℕ × ℕ) → Type 0
 FitsEllipsoid e = (1 ≤ e.0) × (e.0 ≤ 2000) × (1 ≤ e.1) × (e.1 ≤ 2000)
 
-ellipsoid_fits : (is : List Item) → AllFit (items_said is) → FitsEllipsoid (first_or (120, 300) (ellipsoids is))
+ellipsoid_fits : (is : List Item) → AllFit (items_said is) → FitsEllipsoid (slice_index_or (ellipsoids is) 0 (120, 300))
 ellipsoid_fits [] h = (omega arith, omega arith, omega arith, omega arith)
 ellipsoid_fits (Ellipsoid r x ∷ is) h = h.0
 ellipsoid_fits (i ∷ is) h = ellipsoid_fits is (back_fits (item_said i) (items_said is) h)
 
-stray_fits : (is : List Item) → AllFit (items_said is) → first_or 0 (strays is) ≤ 1000
+stray_fits : (is : List Item) → AllFit (items_said is) → slice_index_or (strays is) 0 0 ≤ 1000
 stray_fits [] h = omega arith
 stray_fits (Stray mm ∷ is) h = h.0
 stray_fits (i ∷ is) h = stray_fits is (back_fits (item_said i) (items_said is) h)
 
-late_fits : (is : List Item) → AllFit (items_said is) → first_or 0 (lates is) ≤ 1000
+late_fits : (is : List Item) → AllFit (items_said is) → slice_index_or (lates is) 0 0 ≤ 1000
 late_fits [] h = omega arith
 late_fits (Late ms ∷ is) h = h.0
 late_fits (i ∷ is) h = late_fits is (back_fits (item_said i) (items_said is) h)
 
-settings_fit : (is : List Item) → AllFit (items_said is) → FitsSettings (settings is)
+settings_fit : (is : List Item) → AllFit (items_said is) → FitsSettings (show_of (parts_of is)).settings
 settings_fit is h = let e = ellipsoid_fits is h in (memory_fits is h, trajectory_fits is h, e.0, e.1, e.2, e.3, stray_fits is h, late_fits is h)
 
 -- The numbers of the lines.
@@ -258,7 +260,7 @@ numbered_rise : (ls : List (List ℕ)) (n k : ℕ) → k < n → AllAbove k (lin
 numbered_rise [] n k h = tt
 numbered_rise (l ∷ ls) n k h = with_rise (words_of (visible FromHash l)) n k (numbered FromHash (n + 1) ls) h (numbered_rise ls (n + 1) n (omega arith))
 
-number_rise : (o : Option ℕ) (k n : ℕ) (ns : List ℕ) → HasNumber o k → n < k → AllAbove k ns → AllAbove n (number_then o ns)
+number_rise : (o : Option ℕ) (k n : ℕ) (ns : List ℕ) → IfSome o (λ m. m ≡ k) → n < k → AllAbove k ns → AllAbove n (number_then o ns)
 number_rise None k n ns h l a = lower n k ns (omega arith) a
 number_rise (Some m) k n ns h l a = (omega arith, subst (λ j. AllAbove j ns) (sym h) a)
 
@@ -410,7 +412,7 @@ times_shared n (Blocks b ∷ is) =
     omega (arith, times_shared n is, front, whole)
 
 -- the numbers of all lines, list by list
-times_whole : (n : ℕ) (is : List Item) → times n (all_lines (show_of is)) ≡ times_in n is
+times_whole : (n : ℕ) (is : List Item) → times n (all_lines (show_of (parts_of is))) ≡ times_in n is
 times_whole n is =
     let d = times-append n (drone_lines (drones is)) (formation_lines (formations is) ++ (figure_lines (figures is) ++ body_lines (body is))) in
     let f = times-append n (formation_lines (formations is)) (figure_lines (figures is) ++ body_lines (body is)) in
@@ -418,7 +420,7 @@ times_whole n is =
     omega (arith, d, f, g)
 
 -- the show of a text
-show_valid : (is : List Item) → AreItems is → AllFit (items_said is) → AllAbove 0 (numbers (items_said is)) → IsValid (show_of is)
+show_valid : (is : List Item) → AreItems is → AllFit (items_said is) → AllAbove 0 (numbers (items_said is)) → IsValid (show_of (parts_of is))
 show_valid is k h a =
     record {
       settings = settings_fit is h;
@@ -436,7 +438,7 @@ show_valid is k h a =
     }
 
 pub valid : (text : List ℕ) (show : PlainShow) → StandsFor text show → IsValid show
-valid text show (is, header, lines, t, e) =
-    let rises : AllAbove 0 (line_numbers (header ∷ lines)) = subst (λ ls. AllAbove 0 (line_numbers ls)) t.cut (numbered_rise (lines_of text) 1 0 (omega arith)) in
-    let later = said_rise lines (items_said is) 0 t.said (lower 0 header.number (line_numbers lines) (omega arith) rises.1) in
-    subst IsValid e (show_valid is t.each (said_fit lines (items_said is) t.said) later)
+valid text show t =
+    let rises : AllAbove 0 (line_numbers (t.header ∷ t.lines)) = subst (λ ls. AllAbove 0 (line_numbers ls)) t.cut (numbered_rise (lines_of text) 1 0 (omega arith)) in
+    let later = said_rise t.lines (items_said t.items) 0 t.said (lower 0 t.header.number (line_numbers t.lines) (omega arith) rises.1) in
+    subst IsValid t.makes (show_valid t.items (recursion_from_All IsItem t.items t.each) (said_fit t.lines (items_said t.items) t.said) later)

@@ -1,7 +1,10 @@
 -- Which text stands for which show.
-use Rattle.std.specs.Prelude.{◌≡◌, ℕ, ◌≤◌, List, [], ◌∷◌, ◌++◌, map, length, Option, Some, None, codes, IsTrue}
-use Rattle.text_lines.specs.Words.{Line}
-use Rattle.choreo_reader.specs.Text.{show_lines, is_clean}
+use Rattle.std.specs.Prelude.{◌≡◌, ℕ, ◌≤◌, List, [], ◌∷◌, ◌++◌, map, length, slice_index_or, Option, Some, None, IfSome, codes, IsTrue}
+use Rattle.std.specs.List.{All, AllZip, flat_map, list_all}
+use Rattle.text_lines.specs.declared.token.Comments.TheVariants.{FromHash}
+use Rattle.text_lines.specs.Lines.{lines_of}
+use Rattle.text_lines.specs.Words.{Line, visible, numbered}
+use Rattle.choreo_reader.specs.Text.{is_allowed}
 use Rattle.choreo_show.specs.Shape.{depth, is_filled, fits_figure}
 use Rattle.choreo_lines.specs.Says.{Says}
 use Rattle.choreo_show.specs.Plain as plain
@@ -12,7 +15,6 @@ use Rattle.choreo_show.specs.declared.show.ActLine.{ActLine}
 use Rattle.choreo_show.specs.declared.show.ActLine.TheVariants as on
 use Rattle.choreo_show.specs.declared.show.DroneLine.{DroneLine}
 use Rattle.choreo_show.specs.declared.show.Formation.{Formation}
-use Rattle.choreo_show.specs.declared.show.Settings.{Settings}
 
 -- a line of the grammar: what it says, and its number where the show keeps it
 pub record SaidLine : Type 0 where
@@ -27,25 +29,10 @@ at n e = record { number = Some n; entry = e }
 abbrev pub anywhere : Entry → SaidLine
 anywhere e = record { number = None; entry = e }
 
--- the line that closes a block
-abbrev pub closing : SaidLine
-closing = anywhere entry.End
-
--- the number is that which the show keeps, if it keeps one
-abbrev pub HasNumber : Option ℕ → ℕ → Type 0
-HasNumber None n = Unit {0}
-HasNumber (Some m) n = m ≡ n
-
--- a line of the text says this line of the grammar
+-- a line of the text says this line of the grammar, and has the number that the show keeps, if it keeps one
 pub record IsSaid (l : Line) (s : SaidLine) : Type 0 where
-  pub number : HasNumber s.number l.number
+  pub number : IfSome s.number (λ n. n ≡ l.number)
   pub says : Says l.words s.entry
-
--- these lines say this, one by one
-abbrev pub AreSaid : List Line → List SaidLine → Type 0
-AreSaid [] [] = Unit {0}
-AreSaid (l ∷ ls) (s ∷ ss) = IsSaid l s × AreSaid ls ss
-AreSaid _ _ = ⊥
 
 -- The grammar: a block is its opening line, its contents, and `end`.
 
@@ -54,15 +41,11 @@ abbrev pub act_said : ActLine → SaidLine
 act_said (on.One line name a) = at line (entry.One name a)
 act_said (on.Form line formation smooth) = at line (entry.Form formation smooth)
 
--- the line of a place
-abbrev pub place_said : DroneLine → SaidLine
-place_said d = at d.line (entry.At d.name d.at)
-
 -- the lines of a body
 abbrev pub body_said : Body → List SaidLine
 body_said plain.Done = []
-body_said (plain.Cue line ms acts rest) = at line (entry.Cue ms) ∷ (map act_said acts ++ closing ∷ body_said rest)
-body_said (plain.Repeat line times inside rest) = at line (entry.Repeat times) ∷ (body_said inside ++ closing ∷ body_said rest)
+body_said (plain.Cue line ms acts rest) = at line (entry.Cue ms) ∷ (map act_said acts ++ anywhere entry.End ∷ body_said rest)
+body_said (plain.Repeat line times inside rest) = at line (entry.Repeat times) ∷ (body_said inside ++ anywhere entry.End ∷ body_said rest)
 body_said (plain.Perform line figure frame drones rest) = at line (entry.Perform figure frame drones) ∷ body_said rest
 
 -- an item at top; Blocks is a stretch of cues, repeats and performs
@@ -85,138 +68,82 @@ item_said (Ellipsoid r h) = anywhere (entry.Ellipsoid r h) ∷ []
 item_said (Stray mm) = anywhere (entry.Stray mm) ∷ []
 item_said (Late ms) = anywhere (entry.Late ms) ∷ []
 item_said (Drone d) = at d.line (entry.Drone d.name d.at) ∷ []
-item_said (Formed f) = at f.line (entry.Formation f.name) ∷ (map place_said f.places ++ closing ∷ [])
-item_said (Figured f) = at f.line (entry.Figure f.name f.roles) ∷ (body_said f.body ++ closing ∷ [])
+item_said (Formed f) = at f.line (entry.Formation f.name) ∷ (map (λ (d : DroneLine). at d.line (entry.At d.name d.at)) f.places ++ anywhere entry.End ∷ [])
+item_said (Figured f) = at f.line (entry.Figure f.name f.roles) ∷ (body_said f.body ++ anywhere entry.End ∷ [])
 item_said (Blocks b) = body_said b
 
--- the lines of items, one after the other
-abbrev pub items_said : List Item → List SaidLine
-items_said [] = []
-items_said (i ∷ is) = item_said i ++ items_said is
+-- The items of each kind, in order; the body is all their blocks.
+pub record Parts : Type 0 where
+  pub memories : List (ℕ × ℕ)
+  pub trajectories : List ℕ
+  pub ellipsoids : List (ℕ × ℕ)
+  pub strays : List ℕ
+  pub lates : List ℕ
+  pub drones : List DroneLine
+  pub formations : List Formation
+  pub figures : List PlainFigure
+  pub body : Body
 
--- The lists of a show: the items of each kind in order.
+-- the parts of a show that has these items
+abbrev pub parts_of : List Item → Parts
+parts_of [] = record {
+  memories = []; trajectories = []; ellipsoids = []; strays = []; lates = []; drones = []; formations = []; figures = []; body = plain.Done;
+}
+parts_of (Memory id offset ∷ is) = record (parts_of is) { memories = (id, offset) ∷ (parts_of is).memories }
+parts_of (Trajectory id ∷ is) = record (parts_of is) { trajectories = id ∷ (parts_of is).trajectories }
+parts_of (Ellipsoid r h ∷ is) = record (parts_of is) { ellipsoids = (r, h) ∷ (parts_of is).ellipsoids }
+parts_of (Stray mm ∷ is) = record (parts_of is) { strays = mm ∷ (parts_of is).strays }
+parts_of (Late ms ∷ is) = record (parts_of is) { lates = ms ∷ (parts_of is).lates }
+parts_of (Drone d ∷ is) = record (parts_of is) { drones = d ∷ (parts_of is).drones }
+parts_of (Formed f ∷ is) = record (parts_of is) { formations = f ∷ (parts_of is).formations }
+parts_of (Figured f ∷ is) = record (parts_of is) { figures = f ∷ (parts_of is).figures }
+parts_of (Blocks b ∷ is) = record (parts_of is) { body = b ⨾ (parts_of is).body }
 
--- the settings of `memory`
-abbrev pub memories : List Item → List (ℕ × ℕ)
-memories [] = []
-memories (Memory id offset ∷ is) = (id, offset) ∷ memories is
-memories (_ ∷ is) = memories is
-
--- the settings of `trajectory`
-abbrev pub trajectories : List Item → List ℕ
-trajectories [] = []
-trajectories (Trajectory id ∷ is) = id ∷ trajectories is
-trajectories (_ ∷ is) = trajectories is
-
--- the settings of `ellipsoid`
-abbrev pub ellipsoids : List Item → List (ℕ × ℕ)
-ellipsoids [] = []
-ellipsoids (Ellipsoid r h ∷ is) = (r, h) ∷ ellipsoids is
-ellipsoids (_ ∷ is) = ellipsoids is
-
--- the settings of `stray`
-abbrev pub strays : List Item → List ℕ
-strays [] = []
-strays (Stray mm ∷ is) = mm ∷ strays is
-strays (_ ∷ is) = strays is
-
--- the settings of `late`
-abbrev pub lates : List Item → List ℕ
-lates [] = []
-lates (Late ms ∷ is) = ms ∷ lates is
-lates (_ ∷ is) = lates is
-
--- the drones
-abbrev pub drones : List Item → List DroneLine
-drones [] = []
-drones (Drone d ∷ is) = d ∷ drones is
-drones (_ ∷ is) = drones is
-
--- the formations
-abbrev pub formations : List Item → List Formation
-formations [] = []
-formations (Formed f ∷ is) = f ∷ formations is
-formations (_ ∷ is) = formations is
-
--- the figures
-abbrev pub figures : List Item → List PlainFigure
-figures [] = []
-figures (Figured f ∷ is) = f ∷ figures is
-figures (_ ∷ is) = figures is
-
--- the blocks
-abbrev pub body : List Item → Body
-body [] = plain.Done
-body (Blocks b ∷ is) = b ⨾ body is
-body (_ ∷ is) = body is
-
--- the one that stands, or the default
-abbrev pub first_or : {A : Type 0} → A → List A → A
-first_or d [] = d
-first_or d (x ∷ xs) = x
-
--- the settings, with their defaults
-abbrev pub settings : List Item → Settings
-settings is = record {
-  memory_id = (first_or (2, 0) (memories is)).0;
-  offset = (first_or (2, 0) (memories is)).1;
-  trajectory_id = first_or 0 (trajectories is);
-  r = (first_or (120, 300) (ellipsoids is)).0;
-  h = (first_or (120, 300) (ellipsoids is)).1;
-  stray = first_or 0 (strays is);
-  late = first_or 0 (lates is);
+-- the show of these parts; a setting that no line gives has its default
+abbrev pub show_of : Parts → PlainShow
+show_of p = record {
+  settings = record {
+    memory_id = (slice_index_or p.memories 0 (2, 0)).0;
+    offset = (slice_index_or p.memories 0 (2, 0)).1;
+    trajectory_id = slice_index_or p.trajectories 0 0;
+    r = (slice_index_or p.ellipsoids 0 (120, 300)).0;
+    h = (slice_index_or p.ellipsoids 0 (120, 300)).1;
+    stray = slice_index_or p.strays 0 0;
+    late = slice_index_or p.lates 0 0;
+  };
+  drones = p.drones;
+  formations = p.formations;
+  figures = p.figures;
+  body = p.body;
 }
 
--- the show of these items
-abbrev pub show_of : List Item → PlainShow
-show_of is = record {
-  settings = settings is;
-  drones = drones is;
-  formations = formations is;
-  figures = figures is;
-  body = body is;
-}
-
--- What the blocks of a show keep to.
-
--- no repeat stands inside eight others
-pub record IsBody (b : Body) : Type 0 where
-  pub filled : IsTrue (is_filled b)
-  pub nested : depth b ≤ most_nested
-
--- what an item keeps to
+-- what an item keeps to: no formation, figure or repeat is empty, no repeat stands inside eight others, and no perform or `form` in
+-- a figure
 abbrev pub IsItem : Item → Type 0
 IsItem (Formed f) = 1 ≤ length f.places
-IsItem (Figured f) = IsTrue (has_block f.body) × IsTrue (fits_figure f.body) × IsBody f.body
-IsItem (Blocks b) = IsBody b
+IsItem (Figured f) =
+    IsTrue (has_block f.body) × IsTrue (fits_figure f.body) × IsTrue (is_filled f.body) × (depth f.body ≤ most_nested)
+IsItem (Blocks b) = IsTrue (is_filled b) × (depth b ≤ most_nested)
 IsItem _ = Unit {0}
 
--- what each of these items keeps to
-abbrev pub AreItems : List Item → Type 0
-AreItems [] = Unit {0}
-AreItems (i ∷ is) = IsItem i × AreItems is
-
 -- at most one setting of each kind
-pub record HasSingleSettings (is : List Item) : Type 0 where
-  pub memory : length (memories is) ≤ 1
-  pub trajectory : length (trajectories is) ≤ 1
-  pub ellipsoid : length (ellipsoids is) ≤ 1
-  pub stray : length (strays is) ≤ 1
-  pub late : length (lates is) ≤ 1
+pub record HasSingleSettings (p : Parts) : Type 0 where
+  pub memory : length p.memories ≤ 1
+  pub trajectory : length p.trajectories ≤ 1
+  pub ellipsoid : length p.ellipsoids ≤ 1
+  pub stray : length p.strays ≤ 1
+  pub late : length p.lates ≤ 1
 
--- the words are `choreo 1`
-abbrev pub IsHeader : Line → Type 0
-IsHeader l = l.words ≡ codes "choreo" ∷ codes "1" ∷ []
-
--- the text is its header and these items
-pub record IsText (text : List ℕ) (is : List Item) (header : Line) (lines : List Line) : Type 0 where
-  pub bytes : IsTrue (is_clean text)
-  pub cut : show_lines text ≡ header ∷ lines
-  pub first : IsHeader header
-  pub said : AreSaid lines (items_said is)
-  pub each : AreItems is
-  pub single : HasSingleSettings is
-
--- The text stands for the show: it is a header and items, and these make the show.
-abbrev pub StandsFor : List ℕ → PlainShow → Type 0
-StandsFor text show = (is : List Item) × (header : Line) × (lines : List Line) × IsText text is header lines × (show_of is ≡ show)
+-- The text stands for the show: outside comments it has the bytes that a text may have, its lines with words are a header, the words
+-- `choreo 1`, and then the lines of items, one item after the other, and these items make the show.
+pub record StandsFor (text : List ℕ) (show : PlainShow) : Type 0 where
+  pub items : List Item
+  pub header : Line
+  pub lines : List Line
+  pub bytes : IsTrue (list_all (λ line. list_all is_allowed (visible FromHash line)) (lines_of text))
+  pub cut : numbered FromHash 1 (lines_of text) ≡ header ∷ lines
+  pub first : header.words ≡ codes "choreo" ∷ codes "1" ∷ []
+  pub said : AllZip IsSaid lines (flat_map item_said items)
+  pub each : All IsItem items
+  pub single : HasSingleSettings (parts_of items)
+  pub makes : show_of (parts_of items) ≡ show

@@ -5,7 +5,7 @@ use Rattle.std.specs.declared.alloc.Global.{Global}
 use Rattle.text_lines.specs.declared.token.Token.{Token}
 use Rattle.text_lines.specs.declared.token.Comments.TheVariants.{FromHash}
 use Rattle.text_lines.specs.Lines.{lines_of}
-use Rattle.text_lines.specs.Words.{Line, is_blank, visible, lines_with_words}
+use Rattle.text_lines.specs.Words.{Line, is_blank, visible, numbered}
 use Rattle.text_lines.specs.Tokens.{tokens_of}
 use Rattle.choreo_lines.specs.declared.line.LineKind.{LineKind}
 use Rattle.choreo_lines.specs.declared.line.LineKind.TheVariants as kind
@@ -23,7 +23,7 @@ fault_at line kind = record { line = line; kind = kind }
 
 -- A `#` begins a comment. These are the lines with words of a show's text, each with its number.
 abbrev pub show_lines : List ℕ → List Line
-show_lines text = lines_with_words FromHash text
+show_lines text = numbered FromHash 1 (lines_of text)
 
 -- a byte that may stand outside a comment: a blank, or a printable character
 abbrev pub is_allowed : ℕ → Bool
@@ -32,10 +32,6 @@ is_allowed b = is_blank b || (nat_le 32 b && nat_le b 126)
 -- bytes that may all stand outside a comment
 abbrev pub are_allowed : List ℕ → Bool
 are_allowed bytes = list_all is_allowed bytes
-
--- whether all bytes of a text outside its comments may stand there
-abbrev pub is_clean : List ℕ → Bool
-is_clean text = list_all (λ line. are_allowed (visible FromHash line)) (lines_of text)
 
 -- the first of these lines that has a forbidden byte outside its comment, where they count from this number
 abbrev pub forbidden_from : ℕ → List (List ℕ) → Option Fault

@@ -19,7 +19,9 @@ use Rattle.choreo_lines.specs.declared.parts.Frame.{Frame}
 use Rattle.choreo_lines.specs.declared.parts.Point.{Point}
 use Rattle.cue_grid.specs.Names.{same_name, formation_named, figure_named, place_named, places_in, names_of}
 use Rattle.cue_grid.specs.Frames.{no_frame}
-use Rattle.cue_grid.specs.Cues.{Playing, as_written, player, way_if, act_if, act_by, act_line_number, job_or, job_of, times_over, cues_in, nothing_performed, cues_of_figure, performed_cues, cues_of, grid_of}
+use Rattle.cue_grid.specs.Cues.{Playing, player, job_of, times_over, cues_in, cues_of_figure, cues_of, grid_of}
+use Rattle.cue_grid.proofs.Placing.{job_first}
+use Rattle.cue_grid.specs.Steps.{as_written, way_if, act_if, act_by, act_line_number, job_or, nothing_performed, performed_cues}
 use Rattle.fleet_math.specs.Limits.{most_cues, most_drones}
 use Rattle.cue_grid.specs.Counts.{count_in, none_performed, figure_count, count_of_figure, perform_count, body_count, line_if_over, over_at}
 use Rattle.cue_grid.specs.Faults.{line_of, perform_faults, body_faults, drones_faults, formations_faults, figures_faults, show_faults, name_faults, earlier_of, earliest, no_drone, too_many, many_drones, no_cue, many_cues, or_else, grid_fault}
@@ -243,7 +245,8 @@ job_by (Some a) line frame later f h k = (f, h)
 job_fits : (fs : List Formation) (p : Playing) (line : ℕ) (acts : List ActLine) (drone : Name) → FitFormations fs → FitsFrame p.frame → FitActLines acts → FitsJob (job_of fs p line acts drone)
 job_fits fs p line [] drone v f h = (f, tt)
 job_fits fs p line (a ∷ rest) drone v f h =
-    job_by (act_by fs p drone a) (act_line_number a) p.frame (job_of fs p line rest drone) f (act_fits fs p drone a v h.0) (job_fits fs p line rest drone v f h.1)
+    subst FitsJob (job_first fs p line a rest drone)
+    (job_by (act_by fs p drone a) (act_line_number a) p.frame (job_of fs p line rest drone) f (act_fits fs p drone a v h.0) (job_fits fs p line rest drone v f h.1))
 
 jobs_fit : (fs : List Formation) (p : Playing) (line : ℕ) (acts : List ActLine) (ds : List DroneLine) → FitFormations fs → FitsFrame p.frame → FitActLines acts → FitJobs (map (λ d. job_of fs p line acts d.name) ds)
 jobs_fit fs p line acts [] v f h = tt

@@ -1,6 +1,6 @@
 -- What the lines of a cue give the drones to do, put into the places of the drones line by line.
 use Rattle.std.proofs.Common.{◌≡◌, ℕ, zero, suc, ◌+◌, ◌-◌, ◌<◌, Bool, true, false, List, [], ◌∷◌, length, get_or, set, take, drop, drop-cons, add-one, map, Option, Some, None, refl, sym, ap, ◌∙◌, arith}
-use Rattle.std.specs.Prelude.{◌||◌}
+use Rattle.std.specs.Prelude.{◌||◌, cond}
 use Rattle.choreo_lines.specs.Name.{Name}
 use Rattle.choreo_lines.specs.declared.parts.Act.{Act}
 use Rattle.choreo_lines.specs.declared.parts.Frame.{Frame}
@@ -10,8 +10,8 @@ use Rattle.choreo_show.specs.declared.show.ActLine.TheVariants as on
 use Rattle.choreo_show.specs.declared.show.DroneLine.{DroneLine}
 use Rattle.choreo_show.specs.declared.show.Formation.{Formation}
 use Rattle.cue_grid.specs.Names.{same_name, has_name, has_double, names_of, formation_named, places_in, place_named}
-use Rattle.cue_grid.specs.Cues.{way_to, Playing, act_if, way_if, job_or, job_of}
-use Rattle.cue_grid.specs.Steps.{stands_at, put_acts, put_line_of}
+use Rattle.cue_grid.specs.Cues.{player, Playing, job_of}
+use Rattle.cue_grid.specs.Steps.{act_by, act_line_number, stands_at, put_acts, put_line_of, way_to, act_if, way_if, job_or}
 use Rattle.cue_grid.specs.declared.grid.Job.{Job}
 use Rattle.cue_grid.proofs.Tables.{same_is, same_self}
 
@@ -129,10 +129,28 @@ line_none fs p a line n smooth whole js e g =
     ∙ ap (λ o. put_acts (λ m. way_if smooth (place_named (places_in o) m)) line p.frame whole js) (sym g)
     ∙ ap (λ b. put_line_of fs p b whole js) (sym e)
 
+-- the job of a drone, by what the first line gives it to do
+job_by_act : (b : Bool) (a : Act) (line : ℕ) (fr : Frame) (later : Job) → job_or (act_if b a) line fr later ≡ cond b (job_by line fr a) later
+job_by_act true a line fr later = refl
+job_by_act false a line fr later = refl
+
+job_by_way : (o : Option Point) (smooth : Bool) (line : ℕ) (fr : Frame) (later : Job) →
+    job_or (way_if smooth o) line fr later ≡ elim o [ | Some at ↦ job_by line fr (way_to smooth at) | None ↦ later ]
+job_by_way None smooth line fr later = refl
+job_by_way (Some at) smooth line fr later = refl
+
+pub job_first : (fs : List Formation) (p : Playing) (line : ℕ) (a : ActLine) (rest : List ActLine) (n : Name) →
+    job_or (act_by fs p n a) (act_line_number a) p.frame (job_of fs p line rest n) ≡ job_of fs p line (a ∷ rest) n
+job_first fs p line (on.One l name a) rest n = job_by_act (same_name n (player p.roles p.drones name)) a l p.frame (job_of fs p line rest n)
+job_first fs p line (on.Form l formation smooth) rest n =
+    job_by_way (place_named (places_in (formation_named fs formation)) n) smooth l p.frame (job_of fs p line rest n)
+
 -- a line before others: who has no act by it keeps the job that the others give
 before_all : (fs : List Formation) (p : Playing) (line : ℕ) (a : ActLine) (rest : List ActLine) (ds : List DroneLine) → put_line_of fs p a ds (map (λ d. job_of fs p line rest d.name) ds) ≡ map (λ d. job_of fs p line (a ∷ rest) d.name) ds
 before_all fs p line a rest [] = refl
-before_all fs p line a rest (d ∷ ds) = ap (λ js. job_of fs p line (a ∷ rest) d.name ∷ js) (before_all fs p line a rest ds)
+before_all fs p line a rest (d ∷ ds) =
+    ap (λ j. j ∷ put_line_of fs p a ds (map (λ d. job_of fs p line rest d.name) ds)) (job_first fs p line a rest d.name)
+    ∙ ap (λ js. job_of fs p line (a ∷ rest) d.name ∷ js) (before_all fs p line a rest ds)
 
 -- the loop over the lines, the last first: this many are left
 pub line_put : (fs : List Formation) (p : Playing) (line : ℕ) (acts : List ActLine) (k : ℕ) (a : ActLine) (ds : List DroneLine) (now next : List Job) → 0 < k → k - 1 < length acts → a ≡ get_or acts (k - 1) a → now ≡ map (λ d. job_of fs p line (drop k acts) d.name) ds → next ≡ put_line_of fs p a ds now → next ≡ map (λ d. job_of fs p line (drop (k - 1) acts) d.name) ds

@@ -9,7 +9,8 @@ use Rattle.choreo_show.specs.declared.show.Block.{Block}
 use Rattle.choreo_lines.specs.declared.parts.Frame.{Frame}
 use Rattle.cue_grid.specs.declared.grid.Cue.{Cue}
 use Rattle.cue_grid.specs.Names.{same_name}
-use Rattle.cue_grid.specs.Cues.{Playing, as_written, cue_of, times_over, cues_in, performed_cues, body_cues, player}
+use Rattle.cue_grid.specs.Cues.{Playing, cue_of, times_over, cues_in, player}
+use Rattle.cue_grid.specs.Steps.{as_written, performed_cues}
 use Rattle.cue_grid.specs.Frames.{no_frame}
 
 times_last : {A : Type 0} (n : ℕ) (xs : List A) → times_over (suc n) xs ≡ times_over n xs ++ xs
@@ -73,7 +74,7 @@ role_later roles drones n r i h k e f =
     ∙ ap (λ j. player (drop j roles) (drop j drones) n) (sym (add-one i))
 
 -- a block more of the show, whose blocks are played as they are written
-pub written_put : (s : PlainShow) (fr : Frame) (now next : List Cue) (bs : List Block) (i : ℕ) (b : Block) → fr ≡ no_frame → i < length bs → b ≡ get_or bs i b → now ≡ body_cues s (body_of (take i bs)) → next ≡ now ++ cues_in s (record { frame = fr; roles = []; drones = [] }) (performed_cues s) (block_of b plain.Done) → next ≡ body_cues s (body_of (take (i + 1) bs))
+pub written_put : (s : PlainShow) (fr : Frame) (now next : List Cue) (bs : List Block) (i : ℕ) (b : Block) → fr ≡ no_frame → i < length bs → b ≡ get_or bs i b → now ≡ cues_in s as_written (performed_cues s) (body_of (take i bs)) → next ≡ now ++ cues_in s (record { frame = fr; roles = []; drones = [] }) (performed_cues s) (block_of b plain.Done) → next ≡ cues_in s as_written (performed_cues s) (body_of (take (i + 1) bs))
 written_put s fr now next bs i b p h e g k =
     cues_put s as_written (performed_cues s) [] now next bs i b h e g
     (k ∙ ap (λ f. now ++ cues_in s (record { frame = f; roles = []; drones = [] }) (performed_cues s) (block_of b plain.Done)) p)

@@ -1,13 +1,18 @@
 -- Words of the private steps of unrolling: what one step finds, and what it hands to the next.
-use Rattle.std.specs.Prelude.{ℕ, zero, suc, Bool, false, not, List, [], ◌∷◌, Option, Some, None}
+use Rattle.std.specs.Prelude.{ℕ, zero, suc, Bool, false, not, List, [], ◌∷◌, Option, Some, None, if◌then◌else◌}
 use Rattle.choreo_lines.specs.Name.{Name}
 use Rattle.choreo_lines.specs.declared.parts.Act.{Act}
 use Rattle.choreo_lines.specs.declared.parts.Frame.{Frame}
 use Rattle.choreo_show.specs.declared.show.ActLine.{ActLine}
 use Rattle.choreo_show.specs.declared.show.DroneLine.{DroneLine}
 use Rattle.choreo_show.specs.declared.show.Formation.{Formation}
-use Rattle.cue_grid.specs.Cues.{Playing, act_by, act_line_number, job_or}
-use Rattle.cue_grid.specs.Names.{same_name}
+use Rattle.cue_grid.specs.Cues.{Playing, player, cues_in, cues_of_figure}
+use Rattle.cue_grid.specs.Frames.{no_frame}
+use Rattle.cue_grid.specs.Names.{same_name, places_in, formation_named, place_named, figure_named}
+use Rattle.cue_grid.specs.declared.grid.Cue.{Cue}
+use Rattle.choreo_lines.specs.declared.parts.Point.{Point}
+use Rattle.choreo_lines.specs.declared.parts.Act.TheVariants as act
+use Rattle.choreo_show.specs.declared.show.ActLine.TheVariants as on
 use Rattle.cue_grid.specs.declared.grid.Job.{Job}
 use Rattle.choreo_show.specs.Plain as plain
 use Rattle.choreo_show.specs.Plain.{Body, PlainShow}
@@ -37,6 +42,47 @@ line_in plain.Done = 0
 line_in (plain.Cue line ms acts rest) = line
 line_in (plain.Repeat line times inside rest) = line
 line_in (plain.Perform line figure frame drones rest) = line
+
+-- how the blocks of the show itself are played
+abbrev pub as_written : Playing
+as_written = record { frame = no_frame; roles = []; drones = [] }
+
+-- no figure performs another
+abbrev pub nothing_performed : Name → Frame → List Name → List Cue
+nothing_performed figure frame drones = []
+
+-- the cues of a figure's body
+abbrev pub figure_cues : PlainShow → Playing → Body → List Cue
+figure_cues s p b = cues_in s p nothing_performed b
+
+-- those of a perform in a show
+abbrev pub performed_cues : PlainShow → Name → Frame → List Name → List Cue
+performed_cues s figure frame drones = cues_of_figure s (figure_named s.figures figure) frame drones
+
+-- the way of a `form` line to a place
+abbrev pub way_to : Bool → Point → Act
+way_to smooth at = if smooth then act.Move at else act.Line at
+
+abbrev pub way_if : Bool → Option Point → Option Act
+way_if smooth None = None
+way_if smooth (Some at) = Some (way_to smooth at)
+
+abbrev pub act_if : Bool → Act → Option Act
+act_if b a = if b then Some a else None
+
+-- what a line gives a drone to do
+abbrev pub act_by : List Formation → Playing → Name → ActLine → Option Act
+act_by fs p drone (on.One line name a) = act_if (same_name drone (player p.roles p.drones name)) a
+act_by fs p drone (on.Form line formation smooth) = way_if smooth (place_named (places_in (formation_named fs formation)) drone)
+
+-- the number of an act line or a `form` line
+abbrev pub act_line_number : ActLine → ℕ
+act_line_number (on.One line name a) = line
+act_line_number (on.Form line formation smooth) = line
+
+abbrev pub job_or : Option Act → ℕ → Frame → Job → Job
+job_or (Some a) line frame later = record { line = line; frame = frame; act = a }
+job_or None line frame later = later
 
 -- whether this name stands at a place of these
 abbrev pub stands_at : List Name → Name → ℕ → Bool

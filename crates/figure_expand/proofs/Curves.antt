@@ -6,7 +6,14 @@ use Rattle.fleet_math.specs.Sums.{power}
 use Rattle.fleet_math.specs.Bernstein.{at, bern, bernstein, weight}
 use Rattle.fleet_math.proofs.RingLemmas.{ring, linear, mul_add_ℤ, add_mul_ℤ, mul_assoc_ℤ, mul_zero_ℤ, mul_comm_ℤ}
 use Rattle.fleet_math.proofs.BernsteinLemmas.{bernstein-suc, bernstein-zero, bernstein-same, bernstein-mix, cong_add}
-use Rattle.figure_expand.specs.Written.{from_rest}
+
+-- the way from rest to rest in closed form
+abbrev pub closed_rest : ℤ → ℤ → ℤ → ℤ → ℤ
+closed_rest A B a c =
+    A *ℤ power c 7
+    +ℤ (B -ℤ A) *ℤ (
+    pos 35 *ℤ (power a 4 *ℤ power c 3) -ℤ pos 84 *ℤ (power a 5 *ℤ power c 2)
+    +ℤ pos 70 *ℤ (power a 6 *ℤ c) -ℤ pos 20 *ℤ power a 7)
 
 -- how far each control value has come: the first four not at all, the others the whole way
 abbrev pub step : ℕ → ℤ
@@ -119,7 +126,7 @@ three_is : (z : ℤ) → power z 3 ≡ z *ℤ (z *ℤ z)
 three_is z = ap (λ (x : ℤ). z *ℤ x) (two_is z)
 
 -- The written position of a movement is that of its share.
-pub from_rest-share : (from to a c : ℤ) → from_rest from to a c ≡ from *ℤ power c 7 +ℤ (to -ℤ from) *ℤ share a c
+pub from_rest-share : (from to a c : ℤ) → closed_rest from to a c ≡ from *ℤ power c 7 +ℤ (to -ℤ from) *ℤ share a c
 from_rest-share from to a c =
     let u : ℤ = c -ℤ a in
     let whole : c ≡ a +ℤ u = omega (arith, linear) in

@@ -13,7 +13,8 @@ use Rattle.mm_rounding.specs.declared.piece.Axis.{Axis}
 use Rattle.mm_rounding.specs.declared.piece.Axis.TheVariants.{One, Two, Four, Eight}
 use Rattle.mm_rounding.specs.declared.piece.MicroPiece.{MicroPiece}
 use Rattle.figure_expand.specs.Acts.{act_of, end_of}
-use Rattle.figure_expand.specs.Controls.{place_controls, yaw_controls, axes_of, piece_of}
+use Rattle.figure_expand.specs.Written.{written_points}
+use Rattle.figure_expand.specs.Controls.{axis_with, axes_of, piece_of}
 use Rattle.figure_expand.specs.Expanded as expanding
 use Rattle.figure_expand.specs.Expanded.{fits_axis, values_on, values_of, point_values, start_values, start_points, cue_values, points_after, values_from, first_unfit, range_fault, job_in, no_job, pieces_from, expanded_from, expanded}
 use Rattle.figure_expand.specs.declared.fault.AxisValue.{AxisValue}
@@ -76,8 +77,9 @@ some_time ms some = grind (arith, nat_tests)
 -- a piece
 piece_rounds : (line : ℕ) (p : Point) (ms : ℕ) (j : Job) → 1 ≤ ms → first_unfit (values_of line 0 (axes_of p (act_of j))) ≡ None → RoundsWell (piece_of p ms j)
 piece_rounds line p ms j some none =
+    let on : ℕ → Axis = λ axis. axis_with (written_points p (act_of j) axis) in
     let long : nat_le 1 ms ≡ true = some_time ms some in
-    let all : list_all fits (counted (piece_of p ms j)) ≡ true = axes_fit line (place_controls p (act_of j) 0) (place_controls p (act_of j) 1) (place_controls p (act_of j) 2) (yaw_controls p (act_of j)) none in
+    let all : list_all fits (counted (piece_of p ms j)) ≡ true = axes_fit line (on 0) (on 1) (on 2) (on 3) none in
     ap (λ (b : Bool). cond (b && list_all fits (counted (piece_of p ms j))) (Some (segment_of (piece_of p ms j))) None) long
     ∙ ap (λ (b : Bool). cond b (Some (segment_of (piece_of p ms j))) None) all
 

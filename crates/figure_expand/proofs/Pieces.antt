@@ -20,20 +20,20 @@ use Rattle.mm_rounding.specs.declared.piece.Axis.{Axis}
 use Rattle.mm_rounding.specs.declared.piece.Axis.TheVariants.{One}
 use Rattle.mm_rounding.specs.declared.piece.MicroPiece.{MicroPiece}
 use Rattle.figure_expand.specs.Acts.{act_of, end_of, on_axis, point_after}
-use Rattle.figure_expand.specs.Written.{stays, straight, from_rest, written}
+use Rattle.figure_expand.specs.Written.{from_rest, written_points, ClosedForms}
 use Rattle.figure_expand.specs.Controls.{axes_of, piece_of}
 use Rattle.figure_expand.specs.Expanded.{job_in, no_job, pieces_from, expanded_from, expanded}
 use Rattle.figure_expand.specs.Flown.{start_of, jobs_in, job_at, point_before, FliesAsWritten}
-use Rattle.figure_expand.proofs.Curves.{bern-steps, from_rest-share}
+use Rattle.figure_expand.proofs.Curves.{closed_rest, bern-steps, from_rest-share}
 
--- ---- the polynomial of each kind of control values
+-- ---- the polynomial of each kind of control points
 
 -- one value stays
-one : (v : ℤ) (a c : ℕ) → position (v ∷ []) a c ≡ stays v (pos c)
+one : (v : ℤ) (a c : ℕ) → position (v ∷ []) a c ≡ v *ℤ power (pos c) 7
 one v a c = ap (λ (z : ℤ). power (pos c) 7 *ℤ z) (bernstein-zero (at (v ∷ [])) (pos a) (pos c)) ∙ mul_comm_ℤ (power (pos c) 7) v
 
 -- two values are a straight way
-two : (A B : ℤ) (a c : ℕ) → position (A ∷ B ∷ []) a c ≡ straight A B (pos a) (pos c)
+two : (A B : ℤ) (a c : ℕ) → position (A ∷ B ∷ []) a c ≡ (A *ℤ (pos c -ℤ pos a) +ℤ B *ℤ pos a) *ℤ power (pos c) 6
 two A B a c =
     ap (λ (z : ℤ). power (pos c) 6 *ℤ z)
     (bernstein-suc 0 (at (A ∷ B ∷ [])) (pos a) (pos c)
@@ -45,109 +45,49 @@ two A B a c =
     turned q u a A B = simp ring (omega (arith, linear))
 
 -- eight values, four times the first and four times the last, are the way from rest to rest
-eight : (A B : ℤ) (a c : ℕ) → position (A ∷ A ∷ A ∷ A ∷ B ∷ B ∷ B ∷ B ∷ []) a c ≡ from_rest A B (pos a) (pos c)
+eight : (A B : ℤ) (a c : ℕ) → position (from_rest A B) a c ≡ closed_rest A B (pos a) (pos c)
 eight A B a c = one_mul_ℤ _ ∙ bern-steps A B (pos a) (pos c) ∙ sym (from_rest-share A B (pos a) (pos c))
+
+pub closed_forms : ClosedForms
+closed_forms = record { stays = one; even = two; rest = eight }
 
 -- ---- each act on each axis
 
 abbrev curve_of : Point → Act → ℕ → Axis
 curve_of p x axis = get_or (axes_of p x) axis (One (pos 0))
 
-by_act : (p : Point) (x : Act) (axis : ℕ) → axis < 4 → (a c : ℕ) → position (controls (curve_of p x axis)) a c ≡ written p x axis (pos a) (pos c)
-by_act p act.Hold zero small a c = one p.x a c
-by_act p act.Hold (suc zero) small a c = one p.y a c
-by_act p act.Hold (suc (suc zero)) small a c = one p.z a c
-by_act p act.Hold (suc (suc (suc zero))) small a c = one p.yaw a c
-by_act p act.Hold (suc (suc (suc (suc axis)))) small a c = absurd (omega arith)
-by_act p (act.Line to) zero small a c = two p.x to.x a c
-by_act p (act.Line to) (suc zero) small a c = two p.y to.y a c
-by_act p (act.Line to) (suc (suc zero)) small a c = two p.z to.z a c
-by_act p (act.Line to) (suc (suc (suc zero))) small a c = two p.yaw to.yaw a c
-by_act p (act.Line to) (suc (suc (suc (suc axis)))) small a c = absurd (omega arith)
-by_act p (act.Move to) zero small a c = eight p.x to.x a c
-by_act p (act.Move to) (suc zero) small a c = eight p.y to.y a c
-by_act p (act.Move to) (suc (suc zero)) small a c = eight p.z to.z a c
-by_act p (act.Move to) (suc (suc (suc zero))) small a c = eight p.yaw to.yaw a c
-by_act p (act.Move to) (suc (suc (suc (suc axis)))) small a c = absurd (omega arith)
-by_act p (act.Turn yaw) zero small a c = one p.x a c
-by_act p (act.Turn yaw) (suc zero) small a c = one p.y a c
-by_act p (act.Turn yaw) (suc (suc zero)) small a c = one p.z a c
-by_act p (act.Turn yaw) (suc (suc (suc zero))) small a c = eight p.yaw yaw a c
-by_act p (act.Turn yaw) (suc (suc (suc (suc axis)))) small a c = absurd (omega arith)
-by_act p (act.Arc ccw cx cy yaw) zero small a c = refl
-by_act p (act.Arc ccw cx cy yaw) (suc zero) small a c = refl
-by_act p (act.Arc ccw cx cy yaw) (suc (suc zero)) small a c = one p.z a c
-by_act p (act.Arc ccw cx cy yaw) (suc (suc (suc zero))) small a c = two p.yaw yaw a c
-by_act p (act.Arc ccw cx cy yaw) (suc (suc (suc (suc axis)))) small a c = absurd (omega arith)
-by_act p (act.Curve p1 p2 to) zero small a c = refl
-by_act p (act.Curve p1 p2 to) (suc zero) small a c = refl
-by_act p (act.Curve p1 p2 to) (suc (suc zero)) small a c = refl
-by_act p (act.Curve p1 p2 to) (suc (suc (suc zero))) small a c = two p.yaw to.yaw a c
-by_act p (act.Curve p1 p2 to) (suc (suc (suc (suc axis)))) small a c = absurd (omega arith)
+by_act : (p : Point) (x : Act) (axis : ℕ) → axis < 4 → controls (curve_of p x axis) ≡ written_points p x axis
+by_act p act.Hold zero small = refl
+by_act p x zero small = refl
+by_act p act.Hold (suc zero) small = refl
+by_act p x (suc zero) small = refl
+by_act p act.Hold (suc (suc zero)) small = refl
+by_act p x (suc (suc zero)) small = refl
+by_act p act.Hold (suc (suc (suc zero))) small = refl
+by_act p x (suc (suc (suc zero))) small = refl
+by_act p x (suc (suc (suc (suc axis)))) small = absurd (omega arith)
 
 first_by_act : (p : Point) (x : Act) (axis : ℕ) → axis < 4 → first_control (curve_of p x axis) ≡ on_axis p axis
 first_by_act p act.Hold zero small = refl
+first_by_act p x zero small = refl
 first_by_act p act.Hold (suc zero) small = refl
+first_by_act p x (suc zero) small = refl
 first_by_act p act.Hold (suc (suc zero)) small = refl
+first_by_act p x (suc (suc zero)) small = refl
 first_by_act p act.Hold (suc (suc (suc zero))) small = refl
-first_by_act p act.Hold (suc (suc (suc (suc axis)))) small = absurd (omega arith)
-first_by_act p (act.Line to) zero small = refl
-first_by_act p (act.Line to) (suc zero) small = refl
-first_by_act p (act.Line to) (suc (suc zero)) small = refl
-first_by_act p (act.Line to) (suc (suc (suc zero))) small = refl
-first_by_act p (act.Line to) (suc (suc (suc (suc axis)))) small = absurd (omega arith)
-first_by_act p (act.Move to) zero small = refl
-first_by_act p (act.Move to) (suc zero) small = refl
-first_by_act p (act.Move to) (suc (suc zero)) small = refl
-first_by_act p (act.Move to) (suc (suc (suc zero))) small = refl
-first_by_act p (act.Move to) (suc (suc (suc (suc axis)))) small = absurd (omega arith)
-first_by_act p (act.Turn yaw) zero small = refl
-first_by_act p (act.Turn yaw) (suc zero) small = refl
-first_by_act p (act.Turn yaw) (suc (suc zero)) small = refl
-first_by_act p (act.Turn yaw) (suc (suc (suc zero))) small = refl
-first_by_act p (act.Turn yaw) (suc (suc (suc (suc axis)))) small = absurd (omega arith)
-first_by_act p (act.Arc ccw cx cy yaw) zero small = refl
-first_by_act p (act.Arc ccw cx cy yaw) (suc zero) small = refl
-first_by_act p (act.Arc ccw cx cy yaw) (suc (suc zero)) small = refl
-first_by_act p (act.Arc ccw cx cy yaw) (suc (suc (suc zero))) small = refl
-first_by_act p (act.Arc ccw cx cy yaw) (suc (suc (suc (suc axis)))) small = absurd (omega arith)
-first_by_act p (act.Curve p1 p2 to) zero small = refl
-first_by_act p (act.Curve p1 p2 to) (suc zero) small = refl
-first_by_act p (act.Curve p1 p2 to) (suc (suc zero)) small = refl
-first_by_act p (act.Curve p1 p2 to) (suc (suc (suc zero))) small = refl
-first_by_act p (act.Curve p1 p2 to) (suc (suc (suc (suc axis)))) small = absurd (omega arith)
+first_by_act p x (suc (suc (suc zero))) small = refl
+first_by_act p x (suc (suc (suc (suc axis)))) small = absurd (omega arith)
 
 last_by_act : (p : Point) (x : Act) (axis : ℕ) → axis < 4 → last_control (curve_of p x axis) ≡ on_axis (end_of p x) axis
 last_by_act p act.Hold zero small = refl
+last_by_act p x zero small = refl
 last_by_act p act.Hold (suc zero) small = refl
+last_by_act p x (suc zero) small = refl
 last_by_act p act.Hold (suc (suc zero)) small = refl
+last_by_act p x (suc (suc zero)) small = refl
 last_by_act p act.Hold (suc (suc (suc zero))) small = refl
-last_by_act p act.Hold (suc (suc (suc (suc axis)))) small = absurd (omega arith)
-last_by_act p (act.Line to) zero small = refl
-last_by_act p (act.Line to) (suc zero) small = refl
-last_by_act p (act.Line to) (suc (suc zero)) small = refl
-last_by_act p (act.Line to) (suc (suc (suc zero))) small = refl
-last_by_act p (act.Line to) (suc (suc (suc (suc axis)))) small = absurd (omega arith)
-last_by_act p (act.Move to) zero small = refl
-last_by_act p (act.Move to) (suc zero) small = refl
-last_by_act p (act.Move to) (suc (suc zero)) small = refl
-last_by_act p (act.Move to) (suc (suc (suc zero))) small = refl
-last_by_act p (act.Move to) (suc (suc (suc (suc axis)))) small = absurd (omega arith)
-last_by_act p (act.Turn yaw) zero small = refl
-last_by_act p (act.Turn yaw) (suc zero) small = refl
-last_by_act p (act.Turn yaw) (suc (suc zero)) small = refl
-last_by_act p (act.Turn yaw) (suc (suc (suc zero))) small = refl
-last_by_act p (act.Turn yaw) (suc (suc (suc (suc axis)))) small = absurd (omega arith)
-last_by_act p (act.Arc ccw cx cy yaw) zero small = refl
-last_by_act p (act.Arc ccw cx cy yaw) (suc zero) small = refl
-last_by_act p (act.Arc ccw cx cy yaw) (suc (suc zero)) small = refl
-last_by_act p (act.Arc ccw cx cy yaw) (suc (suc (suc zero))) small = refl
-last_by_act p (act.Arc ccw cx cy yaw) (suc (suc (suc (suc axis)))) small = absurd (omega arith)
-last_by_act p (act.Curve p1 p2 to) zero small = refl
-last_by_act p (act.Curve p1 p2 to) (suc zero) small = refl
-last_by_act p (act.Curve p1 p2 to) (suc (suc zero)) small = refl
-last_by_act p (act.Curve p1 p2 to) (suc (suc (suc zero))) small = refl
-last_by_act p (act.Curve p1 p2 to) (suc (suc (suc (suc axis)))) small = absurd (omega arith)
+last_by_act p x (suc (suc (suc zero))) small = refl
+last_by_act p x (suc (suc (suc (suc axis)))) small = absurd (omega arith)
 
 -- A piece begins where its drone is.
 pub piece_begins : (p : Point) (ms : ℕ) (j : Job) (axis : ℕ) → axis < 4 → first_control (axis_on (piece_of p ms j) axis) ≡ on_axis p axis
@@ -216,4 +156,5 @@ flies_as_written g d k axis drone cue small a c some within =
     row_is 0 g.starts g.cues d _ [] drone ∙ ap (λ (n : ℕ). pieces_from (start_of g d) n g.cues) e in
     let axes : (get_or (get_or (expanded_from 0 g.starts g.cues) d []) k other).axes ≡ axes_of (point_before g d k) (act_of (job_at g d k)) =
     ap (λ (pieces : List MicroPiece). (get_or pieces k other).axes) row ∙ axes_are (start_of g d) d g.cues k other cue in
-    ap (λ (axes : List Axis). position (controls (get_or axes axis (One (pos 0)))) a c) axes ∙ by_act (point_before g d k) (act_of (job_at g d k)) axis small a c
+    ap (λ (axes : List Axis). position (controls (get_or axes axis (One (pos 0)))) a c) axes
+    ∙ ap (λ (points : List ℤ). position points a c) (by_act (point_before g d k) (act_of (job_at g d k)) axis small)

@@ -3,6 +3,8 @@ use Rattle.std.proofs.Common.{◌≡◌, ℕ, zero, suc, ◌+◌, ◌*◌, ◌^�
 use Rattle.std.specs.List.{All}
 use Rattle.std.proofs.lemmas.Int.{ints, to_z-of_z}
 use Rattle.std.proofs.lemmas.List.Elements.{All-nil, All-cons, All-get_or, All-tail}
+use Rattle.std.specs.Prelude.{neg_ℤ, if◌then◌else◌}
+use Rattle.fleet_math.specs.Bernstein.{at}
 use Rattle.fleet_math.specs.Limits.{most_cues}
 use Rattle.choreo_lines.specs.declared.parts.Point.{Point}
 use Rattle.choreo_lines.specs.declared.parts.Frame.{Frame}
@@ -16,7 +18,7 @@ use Rattle.cue_grid.specs.declared.grid.Job.{Job}
 use Rattle.cue_grid.specs.declared.grid.Cue.{Cue}
 use Rattle.cue_grid.specs.Frames.{mirrored, turned_once, turned, shifted, applied, IsUpTo, IsPointUpTo, IsShiftUpTo}
 use Rattle.cue_grid.specs.Grids.{FitsJob, FitJobs, FitsCue, FitCues}
-use Rattle.figure_expand.specs.Acts.{place, heading, place_at, act_in, act_of, end_x, end_y, end_of}
+use Rattle.figure_expand.specs.Acts.{act_in, act_of, end_of}
 use Rattle.figure_expand.specs.Expanded.{start_points, points_after}
 use Rattle.figure_expand.specs.Bounds.{IsActUpTo, reach, AreInReach}
 
@@ -64,13 +66,13 @@ no_way = (omega (arith, ints), omega (arith, ints))
 ahead : FitsYaw (pos 0)
 ahead = (omega (arith, ints), omega (arith, ints))
 
-pub heading_fits : (yaw : ℤ) → FitsYaw yaw → FitsPoint (heading yaw)
+pub heading_fits : (yaw : ℤ) → FitsYaw yaw → FitsPoint (record { x = pos 0; y = pos 0; z = pos 0; yaw = yaw })
 heading_fits yaw fits = (no_way, no_way, no_way, fits)
 
-pub centre_fits : (cx cy : ℤ) → FitsCoordinate cx → FitsCoordinate cy → FitsPoint (place cx cy (pos 0))
-centre_fits cx cy x y = (x, y, no_way, ahead)
+pub centre_fits : (cx cy yaw : ℤ) → FitsCoordinate cx → FitsCoordinate cy → FitsYaw yaw → FitsPoint (record { x = cx; y = cy; z = pos 0; yaw = yaw })
+centre_fits cx cy yaw x y fits = (x, y, no_way, fits)
 
-pub triple_fits : (v : List ℤ) → FitsTriple v → FitsPoint (place_at v)
+pub triple_fits : (v : List ℤ) → FitsTriple v → FitsPoint (record { x = at v 0; y = at v 1; z = at v 2; yaw = pos 0 })
 triple_fits [] fits = absurd fits
 triple_fits (x ∷ []) fits = absurd fits
 triple_fits (x ∷ y ∷ []) fits = absurd fits
@@ -129,10 +131,10 @@ act_in_small : (f : Frame) (a : Act) → FitsFrame f → FitsAct a → IsActUpTo
 act_in_small f act.Hold frame fits = tt
 act_in_small f (act.Line to) frame fits = applied_small f to frame fits
 act_in_small f (act.Move to) frame fits = applied_small f to frame fits
-act_in_small f (act.Turn yaw) frame fits = (applied_small f (heading yaw) frame (heading_fits yaw fits)).yaw
+act_in_small f (act.Turn yaw) frame fits = (applied_small f (record { x = pos 0; y = pos 0; z = pos 0; yaw = yaw }) frame (heading_fits yaw fits)).yaw
 act_in_small f (act.Arc ccw cx cy yaw) frame fits =
-    let centre = applied_small f (place cx cy (pos 0)) frame (centre_fits cx cy fits.0 fits.1) in
-    (centre.x, centre.y, (applied_small f (heading yaw) frame (heading_fits yaw fits.2)).yaw)
+    let centre = applied_small f (record { x = cx; y = cy; z = pos 0; yaw = yaw }) frame (centre_fits cx cy yaw fits.0 fits.1 fits.2) in
+    (centre.x, centre.y, centre.yaw)
 act_in_small f (act.Curve p1 p2 to) frame fits = applied_small f to frame fits.2
 
 -- The numbers of a job's act in the show's frame are small.
@@ -142,12 +144,12 @@ act_small j fits = act_in_small j.frame j.act fits.0 fits.1
 -- ---- ends
 
 end_x_small : (n : ℕ) (ccw : Bool) (px py cx cy : ℤ) → IsUpTo n px → IsUpTo n py → IsUpTo (2 ^ 28) cx → IsUpTo (2 ^ 28) cy →
-    IsUpTo (n + 2 ^ 30) (cx +ℤ end_x ccw (px -ℤ cx) (py -ℤ cy))
+    IsUpTo (n + 2 ^ 30) (cx +ℤ (if ccw then neg_ℤ (py -ℤ cy) else py -ℤ cy))
 end_x_small n true px py cx cy x y c d = (omega (arith, ints, x.0, x.1, y.0, y.1, c.0, c.1, d.0, d.1), omega (arith, ints, x.0, x.1, y.0, y.1, c.0, c.1, d.0, d.1))
 end_x_small n false px py cx cy x y c d = (omega (arith, ints, x.0, x.1, y.0, y.1, c.0, c.1, d.0, d.1), omega (arith, ints, x.0, x.1, y.0, y.1, c.0, c.1, d.0, d.1))
 
 end_y_small : (n : ℕ) (ccw : Bool) (px py cx cy : ℤ) → IsUpTo n px → IsUpTo n py → IsUpTo (2 ^ 28) cx → IsUpTo (2 ^ 28) cy →
-    IsUpTo (n + 2 ^ 30) (cy +ℤ end_y ccw (px -ℤ cx) (py -ℤ cy))
+    IsUpTo (n + 2 ^ 30) (cy +ℤ (if ccw then px -ℤ cx else neg_ℤ (px -ℤ cx)))
 end_y_small n true px py cx cy x y c d = (omega (arith, ints, x.0, x.1, y.0, y.1, c.0, c.1, d.0, d.1), omega (arith, ints, x.0, x.1, y.0, y.1, c.0, c.1, d.0, d.1))
 end_y_small n false px py cx cy x y c d = (omega (arith, ints, x.0, x.1, y.0, y.1, c.0, c.1, d.0, d.1), omega (arith, ints, x.0, x.1, y.0, y.1, c.0, c.1, d.0, d.1))
 

@@ -1,47 +1,25 @@
--- The control values of each act on each axis, in the show's frame.
-use Rattle.std.specs.Prelude.{ℕ, zero, suc, List, [], ◌∷◌, ℤ}
-use Rattle.fleet_math.specs.Bernstein.{at}
+-- The pieces of acts: their control points on each axis, as many as an axis has.
+use Rattle.std.specs.Prelude.{ℕ, List, [], ◌∷◌, ℤ}
 use Rattle.choreo_lines.specs.declared.parts.Point.{Point}
 use Rattle.choreo_lines.specs.declared.parts.Act.{Act}
-use Rattle.choreo_lines.specs.declared.parts.Act.TheVariants as act
 use Rattle.cue_grid.specs.declared.grid.Job.{Job}
 use Rattle.mm_rounding.specs.declared.piece.Axis.{Axis}
 use Rattle.mm_rounding.specs.declared.piece.Axis.TheVariants.{One, Two, Four, Eight}
 use Rattle.mm_rounding.specs.declared.piece.MicroPiece.{MicroPiece}
-use Rattle.figure_expand.specs.Acts.{act_of, arc_x, arc_y, on_axis}
-use Rattle.figure_expand.specs.Written.{four}
+use Rattle.figure_expand.specs.Acts.{act_of}
+use Rattle.figure_expand.specs.Written.{written_points}
 
--- straight from A to B, evenly: degree one
-abbrev pub even_controls : ℤ → ℤ → Axis
-even_controls A B = Two (A ∷ B ∷ [])
+-- the axis with these control points: one, two, four or eight
+abbrev pub axis_with : List ℤ → Axis
+axis_with (v ∷ []) = One v
+axis_with (v ∷ w ∷ []) = Two (v ∷ w ∷ [])
+axis_with (v ∷ w ∷ x ∷ y ∷ []) = Four (v ∷ w ∷ x ∷ y ∷ [])
+axis_with vs = Eight vs
 
--- from rest at A to rest at B: degree seven, A four times and B four times
-abbrev pub rest_controls : ℤ → ℤ → Axis
-rest_controls A B = Eight (A ∷ A ∷ A ∷ A ∷ B ∷ B ∷ B ∷ B ∷ [])
-
--- the control values on x, y and z
-abbrev pub place_controls : Point → Act → ℕ → Axis
-place_controls p act.Hold axis = One (on_axis p axis)
-place_controls p (act.Line to) axis = even_controls (on_axis p axis) (on_axis to axis)
-place_controls p (act.Move to) axis = rest_controls (on_axis p axis) (on_axis to axis)
-place_controls p (act.Turn yaw) axis = One (on_axis p axis)
-place_controls p (act.Arc ccw cx cy yaw) zero = Four (arc_x p ccw cx cy)
-place_controls p (act.Arc ccw cx cy yaw) (suc zero) = Four (arc_y p ccw cx cy)
-place_controls p (act.Arc ccw cx cy yaw) (suc (suc axis)) = One (on_axis p (suc (suc axis)))
-place_controls p (act.Curve p1 p2 to) axis = Four (four (on_axis p axis) (at p1 axis) (at p2 axis) (on_axis to axis))
-
--- the control values of yaw
-abbrev pub yaw_controls : Point → Act → Axis
-yaw_controls p act.Hold = One p.yaw
-yaw_controls p (act.Line to) = even_controls p.yaw to.yaw
-yaw_controls p (act.Move to) = rest_controls p.yaw to.yaw
-yaw_controls p (act.Turn yaw) = rest_controls p.yaw yaw
-yaw_controls p (act.Arc ccw cx cy yaw) = even_controls p.yaw yaw
-yaw_controls p (act.Curve p1 p2 to) = even_controls p.yaw to.yaw
-
--- the control values of x, y, z and yaw
+-- the control points of an act in the show's frame on x, y, z and yaw, from the present point
 abbrev pub axes_of : Point → Act → List Axis
-axes_of p a = place_controls p a 0 ∷ place_controls p a 1 ∷ place_controls p a 2 ∷ yaw_controls p a ∷ []
+axes_of p a =
+    axis_with (written_points p a 0) ∷ axis_with (written_points p a 1) ∷ axis_with (written_points p a 2) ∷ axis_with (written_points p a 3) ∷ []
 
 -- what a drone at this point does in a cue of this many milliseconds with this job
 abbrev pub piece_of : Point → ℕ → Job → MicroPiece

@@ -10,28 +10,30 @@ use Rattle.mm_rounding.specs.Rounding.{millimetres, short, controls, axis_on, ro
 use Rattle.mm_rounding.specs.Near.{position, AtEachFraction}
 use Rattle.mm_rounding.specs.declared.piece.MicroPiece.{MicroPiece}
 use Rattle.figure_expand.specs.Acts.{act_of, point_after}
-use Rattle.figure_expand.specs.Written.{written}
-use Rattle.figure_expand.specs.Expanded.{job_in, no_job, expanded}
+use Rattle.figure_expand.specs.Written.{written_points}
+use Rattle.figure_expand.specs.Expanded.{no_job, expanded}
 
 -- where a drone starts; the numbers count from 0
 abbrev pub start_of : Grid → ℕ → Point
 start_of g d = slice_index_or (map (λ (s : DroneLine). s.at) g.starts) d (record { x = pos 0; y = pos 0; z = pos 0; yaw = pos 0 })
 
--- the jobs of a drone in these cues
+-- the jobs of a drone in these cues: one job stands for each drone, in the order of the drones
 abbrev pub jobs_in : ℕ → List Cue → List Job
-jobs_in d cues = map (λ cue. job_in cue d) cues
+jobs_in d cues = map (λ (cue : Cue). slice_index_or cue.jobs d no_job) cues
+
+-- The written position of a drone on an axis at the part a / c of a cue: that of its job there, from the point at which the jobs of the
+-- cues before it end, or from its start.
+abbrev pub written_at : Grid → ℕ → ℕ → ℕ → ℕ → ℕ → ℤ
+written_at g d k axis a c =
+    position (written_points (point_after (start_of g d) (take k (jobs_in d g.cues))) (act_of (slice_index_or (jobs_in d g.cues) k no_job)) axis) a c
 
 -- the job of a drone in a cue
 abbrev pub job_at : Grid → ℕ → ℕ → Job
 job_at g d k = slice_index_or (jobs_in d g.cues) k no_job
 
--- where a drone is before a cue: at the end of the cue before, or at its start
+-- where a drone is before a cue
 abbrev pub point_before : Grid → ℕ → ℕ → Point
 point_before g d k = point_after (start_of g d) (take k (jobs_in d g.cues))
-
--- the written position of a drone on an axis at the part a / c of a cue
-abbrev pub written_at : Grid → ℕ → ℕ → ℕ → ℕ → ℕ → ℤ
-written_at g d k axis a c = written (point_before g d k) (act_of (job_at g d k)) axis (pos a) (pos c)
 
 -- the piece of a drone in a cue
 abbrev pub piece_at : Grid → ℕ → ℕ → MicroPiece

@@ -4,7 +4,7 @@ ghost use Rattle.std.specs.Prelude.{◌≡◌, ◌^◌, pos};
 ghost use Rattle.choreo_show.specs.Valid.{FitsFrame, FitsPoint, FitsCoordinate, FitsYaw, FitsTriple, FitsAct};
 ghost use Rattle.cue_grid.specs.Frames.{applied};
 ghost use Rattle.cue_grid.specs.Grids.{FitsJob};
-ghost use Rattle.figure_expand.specs.Acts.{act_in, act_of, sense_in, place, place_at, heading, numbers_at};
+ghost use Rattle.figure_expand.specs.Acts.{act_in, act_of, sense_in, control_in};
 ghost use Rattle.figure_expand.specs.Bounds.{IsActUpTo};
 
 use choreo_lines::{Act, Frame, Mirror, Point};
@@ -25,7 +25,7 @@ fn framed(f: &Frame, p: Point) -> Point
 fn framed_yaw(f: &Frame, yaw: i64) -> i64
     requires frame { FitsFrame f.now }
     requires yaw { FitsYaw yaw }
-    ensures { result ≡ (applied f.now (heading yaw)).yaw }
+    ensures { result ≡ (applied f.now (record { x = pos 0; y = pos 0; z = pos 0; yaw = yaw })).yaw }
 {
     framed(
         f,
@@ -39,13 +39,14 @@ fn framed_yaw(f: &Frame, yaw: i64) -> i64
     .yaw
 }
 
-// A centre in the show's frame.
+// The centre of an arc and the yaw at its end, in the show's frame.
 #[tactic(auto, using(crate::proofs::Reach::centre_fits))]
-fn framed_centre(f: &Frame, cx: i64, cy: i64) -> Point
+fn framed_centre(f: &Frame, cx: i64, cy: i64, yaw: i64) -> Point
     requires frame { FitsFrame f.now }
     requires x { FitsCoordinate cx }
     requires y { FitsCoordinate cy }
-    ensures { result ≡ applied f.now (place cx cy (pos 0)) }
+    requires yaw { FitsYaw yaw }
+    ensures { result ≡ applied f.now (record { x = cx; y = cy; z = pos 0; yaw = yaw }) }
 {
     framed(
         f,
@@ -53,7 +54,7 @@ fn framed_centre(f: &Frame, cx: i64, cy: i64) -> Point
             x: cx,
             y: cy,
             z: 0,
-            yaw: 0,
+            yaw,
         },
     )
 }
@@ -63,7 +64,7 @@ fn framed_centre(f: &Frame, cx: i64, cy: i64) -> Point
 fn framed_triple(f: &Frame, v: &[i64; 3]) -> [i64; 3]
     requires frame { FitsFrame f.now }
     requires point { FitsTriple v.now }
-    ensures { result ≡ numbers_at (applied f.now (place_at v.now)) }
+    ensures { result ≡ control_in f.now v.now }
 {
     let p = framed(
         f,
@@ -102,12 +103,12 @@ fn framed_act(f: &Frame, act: &Act) -> Act
             yaw: framed_yaw(f, *yaw),
         },
         Act::Arc { ccw, cx, cy, yaw } => {
-            let centre = framed_centre(f, *cx, *cy);
+            let centre = framed_centre(f, *cx, *cy, *yaw);
             Act::Arc {
                 ccw: framed_sense(f.mirror, *ccw),
                 cx: centre.x,
                 cy: centre.y,
-                yaw: framed_yaw(f, *yaw),
+                yaw: centre.yaw,
             }
         }
         Act::Curve { p1, p2, to } => Act::Curve {

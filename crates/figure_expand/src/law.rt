@@ -11,10 +11,11 @@ ghost use Rattle.figure_expand.specs.Acts.{act_of, end_of, on_axis};
 ghost use Rattle.figure_expand.specs.Controls.{piece_of};
 ghost use Rattle.figure_expand.specs.Expanded.{range_fault};
 ghost use Rattle.figure_expand.specs.Flown.{FliesAsWritten, FitsWell};
+ghost use Rattle.figure_expand.specs.Written.{ClosedForms};
 
 /// A law. The pieces of each grid are at the written position, on each axis and at each fraction of each cue. A piece
 /// begins where its drone is, and ends where the drone is before the next cue. Where no value is out of range, each start
-/// and each piece fits a trajectory.
+/// and each piece fits a trajectory. The curves that no arc or control point makes have these closed forms.
 pub fn expansion_law()
     ensures written { (g : Grid) → FliesAsWritten g }
     ensures fits { (g : Grid) → IsGrid g → range_fault g ≡ None → FitsWell g }
@@ -23,4 +24,5 @@ pub fn expansion_law()
         → first_control (axis_on (piece_of p ms j) axis) ≡ on_axis p axis }
     ensures ends { (p : Point) (ms : ℕ) (j : Job) (axis : ℕ) → axis < 4
         → last_control (axis_on (piece_of p ms j) axis) ≡ on_axis (end_of p (act_of j)) axis }
+    ensures closed { ClosedForms }
 {}

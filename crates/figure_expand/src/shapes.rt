@@ -1,11 +1,11 @@
 //! The control values of acts, and where they end.
 
-ghost use Rattle.std.specs.Prelude.{◌≡◌, ◌^◌, ◌-ℤ◌};
-ghost use Rattle.mm_rounding.specs.declared.piece.Axis.TheVariants.{One, Four};
+ghost use Rattle.std.specs.Prelude.{◌≡◌, ◌^◌, ◌-ℤ◌, neg_ℤ, ◌∷◌, [], if◌then◌else◌};
+ghost use Rattle.mm_rounding.specs.declared.piece.Axis.TheVariants.{One, Two, Four, Eight};
 ghost use Rattle.cue_grid.specs.Frames.{IsUpTo, IsPointUpTo};
-ghost use Rattle.figure_expand.specs.Acts.{handle, end_x, end_y, arc_points, arc_x, arc_y, end_of};
-ghost use Rattle.figure_expand.specs.Controls.{even_controls, rest_controls, axes_of};
-ghost use Rattle.figure_expand.specs.Written.{four};
+ghost use Rattle.figure_expand.specs.Acts.{handle, arc_points, arc_on, end_of};
+ghost use Rattle.figure_expand.specs.Controls.{axes_of};
+ghost use Rattle.figure_expand.specs.Written.{from_rest};
 ghost use Rattle.figure_expand.specs.Bounds.{IsActUpTo};
 
 use choreo_lines::{Act, Point};
@@ -29,7 +29,7 @@ fn handle(s: i64) -> i64
 fn end_x(ccw: bool, vx: i64, vy: i64) -> i64
     requires x { IsUpTo (2 ^ 41) vx }
     requires y { IsUpTo (2 ^ 41) vy }
-    ensures value { result ≡ end_x ccw vx vy }
+    ensures value { result ≡ (if ccw then neg_ℤ vy else vy) }
     ensures small { IsUpTo (2 ^ 41) result }
 {
     if ccw { -vy } else { vy }
@@ -39,7 +39,7 @@ fn end_x(ccw: bool, vx: i64, vy: i64) -> i64
 fn end_y(ccw: bool, vx: i64, vy: i64) -> i64
     requires x { IsUpTo (2 ^ 41) vx }
     requires y { IsUpTo (2 ^ 41) vy }
-    ensures value { result ≡ end_y ccw vx vy }
+    ensures value { result ≡ (if ccw then vx else neg_ℤ vx) }
     ensures small { IsUpTo (2 ^ 41) result }
 {
     if ccw { vx } else { -vx }
@@ -73,7 +73,7 @@ fn arc_x(p: &Point, ccw: bool, cx: i64, cy: i64) -> [i64; 4]
     requires point { IsPointUpTo (2 ^ 40) p.now }
     requires x { IsUpTo (2 ^ 28) cx }
     requires y { IsUpTo (2 ^ 28) cy }
-    ensures { result ≡ arc_x p.now ccw cx cy }
+    ensures { result ≡ arc_on p.now ccw cx cy 0 }
 {
     let vx = way(p.x, cx);
     let vy = way(p.y, cy);
@@ -86,7 +86,7 @@ fn arc_y(p: &Point, ccw: bool, cx: i64, cy: i64) -> [i64; 4]
     requires point { IsPointUpTo (2 ^ 40) p.now }
     requires x { IsUpTo (2 ^ 28) cx }
     requires y { IsUpTo (2 ^ 28) cy }
-    ensures { result ≡ arc_y p.now ccw cx cy }
+    ensures { result ≡ arc_on p.now ccw cx cy 1 }
 {
     let vx = way(p.x, cx);
     let vy = way(p.y, cy);
@@ -103,14 +103,14 @@ fn still(v: i64) -> Axis
 
 // Straight, evenly.
 fn even(from: i64, to: i64) -> Axis
-    ensures { result ≡ even_controls from to }
+    ensures { result ≡ Two (from ∷ to ∷ []) }
 {
     Axis::Two { v: [from, to] }
 }
 
 // Straight, from rest to rest.
 fn rest(from: i64, to: i64) -> Axis
-    ensures { result ≡ rest_controls from to }
+    ensures { result ≡ Eight (from_rest from to) }
 {
     Axis::Eight {
         v: [from, from, from, from, to, to, to, to],
@@ -119,7 +119,7 @@ fn rest(from: i64, to: i64) -> Axis
 
 // A cubic.
 fn curve(from: i64, first: i64, second: i64, to: i64) -> Axis
-    ensures { result ≡ Four (four from first second to) }
+    ensures { result ≡ Four (from ∷ first ∷ second ∷ to ∷ []) }
 {
     Axis::Four {
         v: [from, first, second, to],

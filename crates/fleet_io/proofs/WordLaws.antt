@@ -1,11 +1,11 @@
 -- Texts are made of words, one by one. These laws say which lines the words make.
-use Rattle.std.proofs.Common.{◌≡◌, ℕ, suc, ◌+◌, ◌≤◌, ◌-◌, ◌%◌, ◌^◌, ◌<◌, true, false, cond, eqb, List, [], ◌∷◌, ◌++◌, length, map, ltb, refl, sym, ap, ◌∙◌, append_assoc, append-nil, length-append, arith, ℤ, pos, negsuc}
+use Rattle.std.proofs.Common.{◌≡◌, ℕ, suc, ◌+◌, ◌≤◌, ◌-◌, ◌%◌, ◌^◌, ◌<◌, true, false, cond, eqb, List, [], ◌∷◌, ◌++◌, length, map, ltb, refl, sym, ap, ◌∙◌, append_assoc, append-nil, length-append, arith, ℤ, pos, negsuc, flat_map}
 use lib.Signed.{mag}
 use Rattle.std.specs.Fmt.{decimal, signed_decimal}
 use Rattle.std.proofs.lemmas.Bool.{ne_eqb}
 use Rattle.std.proofs.lemmas.Fmt.{decimal_by_steps, length-decimal-le, length_signed_le}
 use Rattle.std.proofs.lemmas.List.{get_or-append-add}
-use Rattle.fleet_io.specs.Words.{is_line_empty, with_word, with_words, with_hex, hex_word, hex_digit, IsWord, AreWords, spaced, line}
+use Rattle.fleet_io.specs.Words.{is_line_empty, with_word, with_words, with_hex, hex_word, hex_digit, IsWord, AreWords, line}
 
 -- ---- the last line of a text
 
@@ -19,6 +19,10 @@ is_line_empty-append text bytes some =
 pub word_has_bytes : (word : List ℕ) → IsWord word → 0 < length word
 word_has_bytes [] is = absurd (let e : true ≡ false = is in cc)
 word_has_bytes (b ∷ bytes) is = omega arith
+
+-- words, each after a space
+abbrev spaced : List (List ℕ) → List ℕ
+spaced words = flat_map (λ (word : List ℕ). 32 ∷ word) words
 
 -- after a line feed the last line is empty
 pub fresh_after_feed : (text : List ℕ) → is_line_empty (text ++ 10 ∷ []) ≡ true

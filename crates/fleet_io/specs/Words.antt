@@ -35,13 +35,9 @@ abbrev pub AreWords : List (List ℕ) → Type 0
 AreWords [] = Unit {0}
 AreWords (word ∷ words) = IsWord word × AreWords words
 
--- words, each after a space
-abbrev pub spaced : List (List ℕ) → List ℕ
-spaced words = flat_map (λ (word : List ℕ). 32 ∷ word) words
-
 -- a line: its first word, the others, each after a space, and a line feed
 abbrev pub line : List ℕ → List (List ℕ) → List ℕ
-line first others = first ++ spaced others ++ 10 ∷ []
+line first others = first ++ flat_map (λ (word : List ℕ). 32 ∷ word) others ++ 10 ∷ []
 
 -- the most bytes of a short line, with its line feed
 abbrev pub short_line_bytes : ℕ

@@ -3,7 +3,8 @@ use Rattle.std.proofs.Common.{◌≡◌, ◌==◌, ℕ, zero, suc, Bool, true, f
 use Rattle.std.specs.Prelude.{slice_index_or}
 use Rattle.std.specs.Str.{bytes_eq}
 use Rattle.text_lines.specs.declared.token.Comments.TheVariants.{Absent}
-use Rattle.text_lines.specs.Words.{Line, lines_with_words}
+use Rattle.text_lines.specs.Lines.{lines_of}
+use Rattle.text_lines.specs.Words.{Line, numbered}
 use Rattle.upload_model.specs.declared.events.WorldEvent.{WorldEvent}
 use Rattle.upload_model.specs.declared.events.WorldEvent.TheVariants.{Tick, Take, Hear, Alter}
 use Rattle.upload_model.specs.Theorem.{IsUnaltered}
@@ -60,4 +61,4 @@ lines_unaltered read plain (line ∷ lines) events is =
     put_unaltered line.number (read line.words) (events_by read lines) events (plain line.words) (λ es is_es. lines_unaltered read plain lines es is_es) is
 
 pub unaltered_law : ScheduleLaw
-unaltered_law names text events is = lines_unaltered (λ words. event_of false names words) (event_of_plain names) (lines_with_words Absent text) events is
+unaltered_law names text events is = lines_unaltered (λ words. event_of false names words) (event_of_plain names) (numbered Absent 1 (lines_of text)) events is

@@ -2,7 +2,8 @@
 use Rattle.std.specs.Prelude.{◌≡◌, ℕ, ◌+◌, ◌-◌, Bool, false, ◌&&◌, ◌==◌, nat_le, if◌then◌else◌, List, [], ◌∷◌, length, codes, slice_index_or, Option, Some, None, Result, Ok, Err}
 use Rattle.std.specs.Str.{bytes_eq}
 use Rattle.text_lines.specs.declared.token.Comments.TheVariants.{Absent}
-use Rattle.text_lines.specs.Words.{Line, lines_with_words}
+use Rattle.text_lines.specs.Lines.{lines_of}
+use Rattle.text_lines.specs.Words.{Line, numbered}
 use Rattle.text_lines.specs.Numbers.{natural_of}
 use Rattle.upload_model.specs.declared.events.WorldEvent.{WorldEvent}
 use Rattle.upload_model.specs.declared.events.WorldEvent.TheVariants.{Tick, Take, Hear, Alter}
@@ -86,7 +87,7 @@ events_of readback names lines = events_by (λ words. event_of readback names wo
 -- What a schedule text says over drones with these names, with read-back (true) or without: the events of
 -- its lines with words in order, or the number of the first faulty line. A `#` is a byte like others.
 abbrev pub schedule_of : Bool → List (List ℕ) → List ℕ → Result (List WorldEvent) ℕ
-schedule_of readback names text = events_of readback names (lines_with_words Absent text)
+schedule_of readback names text = events_of readback names (numbered Absent 1 (lines_of text))
 
 -- Without read-back a schedule alters no byte.
 abbrev pub ScheduleLaw : Type 0

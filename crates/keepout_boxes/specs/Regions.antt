@@ -2,6 +2,7 @@
 use Rattle.std.specs.Prelude.{◌≡◌, ℕ, zero, suc, ◌+◌, ◌&&◌, ◌==◌, ℤ, pos, neg_ℤ, int_le, Bool, if◌then◌else◌, List, [], ◌∷◌, length, codes, slice_index_or, Option, Some, None, Result, Ok, Err}
 use Rattle.std.specs.Str.{bytes_eq}
 use Rattle.text_lines.specs.declared.token.Comments.TheVariants.{Absent}
+use Rattle.text_lines.specs.Lines.{lines_of}
 use Rattle.text_lines.specs.Words as words
 use Rattle.text_lines.specs.Numbers.{number_in}
 use Rattle.fleet_math.specs.Bernstein.{at}
@@ -67,7 +68,7 @@ regions_from (suc room) (line ∷ lines) = put_region line.number (region_of lin
 -- What a text of regions says: the regions of its lines with words in order, or the number of the first faulty line. A
 -- `#` is a byte like others.
 abbrev pub regions_of : List ℕ → Result (List Region) ℕ
-regions_of text = regions_from most_regions (words.lines_with_words Absent text)
+regions_of text = regions_from most_regions (words.numbered Absent 1 (lines_of text))
 
 -- A line is the first faulty one of the text. Out of memory says nothing.
 abbrev pub FaultGives : RegionFault → Result (List Region) ℕ → Type 0

@@ -1,13 +1,13 @@
 -- The words of a text, by their lines, are its lines with words.
 use Rattle.std.proofs.Common.{◌≡◌, ℕ, suc, ◌+◌, ◌-◌, ◌<◌, ◌≤◌, Bool, true, false, List, [], ◌∷◌, ◌++◌, length, take, drop, refl, sym, ap, subst, ◌∙◌, arith, append_assoc, cond}
-use Rattle.std.specs.Prelude.{◌&&◌, nat_le, slice_range}
+use Rattle.std.specs.Prelude.{◌&&◌, ◌==◌, nat_le, slice_range}
 use Rattle.std.proofs.lemmas.List.{drop-drop, append-nil, length-drop, length-append, take_at, take-append-drop}
 use Rattle.std.proofs.lemmas.Bool.Decides.{nat_tests}
 use Rattle.std.specs.List.{slice_split, onto_first, position_or_len}
 use Rattle.text_lines.specs.declared.token.Comments.{Comments}
 use Rattle.text_lines.specs.declared.token.Comments.TheVariants.{FromHash, Absent}
 use Rattle.text_lines.specs.Lines.{is_line_feed, lines_of, without_empty_end}
-use Rattle.text_lines.specs.Words.{Line, is_blank, is_hash, visible, without_empty, words_of, line_with, numbered, lines_with_words}
+use Rattle.text_lines.specs.Words.{Line, is_blank, visible, without_empty, words_of, line_with, numbered}
 use Rattle.text_lines.specs.Tokens.{words_at, tokens_from, tokens_of, word_in, joined, lines_in}
 use Rattle.text_lines.proofs.ByLine.{Begins, joined_same, other_line}
 use Rattle.text_lines.specs.declared.token.Token.{Token}
@@ -84,7 +84,7 @@ numbered_later comments n m (l ∷ ls) h =
     later_with n m (words_of (visible comments l)) (numbered comments (m + 1) ls) h (numbered_later comments n (m + 1) ls (omega arith))
 
 visible_front : (comments : Comments) (l : List ℕ) → (rest : List ℕ) × (l ≡ visible comments l ++ rest)
-visible_front FromHash l = (drop (position_or_len is_hash l) l, sym (take-append-drop (position_or_len is_hash l) l))
+visible_front FromHash l = (drop (position_or_len (λ b. b == 35) l) l, sym (take-append-drop (position_or_len (λ b. b == 35) l) l))
 visible_front Absent l = ([], sym (append-nil l))
 
 group_lines : (comments : Comments) (text : List ℕ) (n at : ℕ) (ls : List (List ℕ)) → StandAt text at ls → lines_in text (tokens_from comments n at ls) ≡ numbered comments n ls
@@ -99,5 +99,5 @@ group_lines comments text n at (l ∷ ls) (more, d, s) =
     ∙ ap (line_with n (words_of v)) rest
 
 -- the words of a text, by their lines, are its lines with words
-pub lines_grouped : (comments : Comments) (text : List ℕ) → lines_in text (tokens_of comments text) ≡ lines_with_words comments text
+pub lines_grouped : (comments : Comments) (text : List ℕ) → lines_in text (tokens_of comments text) ≡ numbered comments 1 (lines_of text)
 lines_grouped comments text = group_lines comments text 1 0 (lines_of text) (stand_lines text 0 (slice_split is_line_feed text) (stand_pieces is_line_feed text [] text 0 (sym (append-nil text))))

@@ -3,19 +3,14 @@ use Rattle.std.specs.Prelude.{ℕ, ◌+◌, Bool, ◌==◌, ◌||◌, List, [], 
 use Rattle.std.specs.List.{slice_split, before_first}
 use Rattle.text_lines.specs.declared.token.Comments.{Comments}
 use Rattle.text_lines.specs.declared.token.Comments.TheVariants.{FromHash, Absent}
-use Rattle.text_lines.specs.Lines.{lines_of}
 
 -- what separates words: a tab, a carriage return, a space
 abbrev pub is_blank : ℕ → Bool
 is_blank b = b == 9 || b == 13 || b == 32
 
--- a `#` begins a comment
-abbrev pub is_hash : ℕ → Bool
-is_hash b = b == 35
-
--- what is read of a line: where a text has comments, what stands before the first `#`
+-- what is read of a line: where a text has comments, what stands before the first `#`, which is the byte 35
 abbrev pub visible : Comments → List ℕ → List ℕ
-visible FromHash line = before_first is_hash line
+visible FromHash line = before_first (λ b. b == 35) line
 visible Absent line = line
 
 -- no word is empty: between two blanks that stand side by side there is none
@@ -38,12 +33,8 @@ abbrev pub line_with : ℕ → List (List ℕ) → List Line → List Line
 line_with number [] later = later
 line_with number (word ∷ words) later = record { number = number; words = word ∷ words } ∷ later
 
--- those of some lines that have words, where the first of them has this number
+-- those of some lines that have words, in order; the first line has this number, and all lines count
 abbrev pub numbered : Comments → ℕ → List (List ℕ) → List Line
 numbered comments number [] = []
 numbered comments number (line ∷ lines) =
     line_with number (words_of (visible comments line)) (numbered comments (number + 1) lines)
-
--- The lines with words of a text, in order. Their numbers count all lines, from 1.
-abbrev pub lines_with_words : Comments → List ℕ → List Line
-lines_with_words comments text = numbered comments 1 (lines_of text)

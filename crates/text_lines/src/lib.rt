@@ -3,7 +3,7 @@
 //! A text is cut into lines at each line feed; the last line may lack it. The bytes 9, 13 and 32 separate
 //! the words of a line. [`tokens`] gives the words of a text in order, each with its place, and
 //! [`line_word_count`] tells how many of them stand on the first line, so that a reader goes from line to line:
-//! its lines are those of `lines_with_words`, numbered from 1, lines without words counted too.
+//! its lines with words are those of `numbered`, from 1 on, lines without words counted too.
 #![tactic(auto)]
 
 mod line;

@@ -1,8 +1,9 @@
 use Rattle.std.proofs.Common.{◌≡◌, take}
 use Rattle.choreo_show.specs.Plain.{body_of}
-use Rattle.cue_grid.specs.Cues.{body_cues}
+use Rattle.cue_grid.specs.Cues.{cues_in}
 use Rattle.cue_grid.specs.Shown.{shown}
+use Rattle.cue_grid.specs.Steps.{as_written, performed_cues}
 use Rattle.cue_grid.proofs.cues.cues_of.Given as goal
 
 abbrev pub invariant-loop-block : goal.invariant-loop-block
-invariant-loop-block l = l.cues.items ≡ body_cues (shown l.show) (body_of (take l.block-index l.block-items))
+invariant-loop-block l = l.cues.items ≡ cues_in (shown l.show) as_written (performed_cues (shown l.show)) (body_of (take l.block-index l.block-items))
