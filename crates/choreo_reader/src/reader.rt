@@ -502,12 +502,18 @@ impl Reader {
     }
 
     // Reads one more line of the text, which may have no words.
-    fn text_line(&mut self, alloc: Global, line: &[u8], number: u32) -> Result<(), ShowFault>
+    fn text_line(
+        &mut self,
+        alloc: Global,
+        words: &mut Vec<Token>,
+        line: &[u8],
+        number: u32,
+    ) -> Result<(), ShowFault>
         requires within { length line.now ≤ most_text }
         requires one { between_feeds line.now ≡ line.now ∷ [] }
         ensures { Steps result (built_of self.new) (lines_step (built_of self.old) (line_with number (words_of (visible FromHash line.now)) [])) }
     {
-        let words = line_words(alloc, line)?;
+        line_words(words, line)?;
         if words.is_empty() {
             return Ok(());
         }
@@ -520,10 +526,11 @@ impl Reader {
         requires few { first + length text.now ≤ most_text + 1 }
         ensures { Steps result (built_of self.new) (lines_step (built_of self.old) (numbered FromHash first (lines_of text.now))) }
     {
+        let mut words = Vec::new(alloc);
         let mut number = first;
         let mut rest = text;
         'lines: while let Some((line, behind)) = split_line(rest) {
-            self.text_line(alloc, line, number)?;
+            self.text_line(alloc, &mut words, line, number)?;
             number += 1;
             rest = behind;
         }
@@ -606,10 +613,11 @@ fn behind_header(alloc: Global, text: &[u8]) -> Result<(&[u8], u32), ShowFault>
         × (length cut.0.now ≤ length text.now))
         (λ e. ReadingFails e (read_lines (show_lines text.now))) }
 {
+    let mut words = Vec::new(alloc);
     let mut number: u32 = 1;
     let mut rest = text;
     'lines: while let Some((line, behind)) = split_line(rest) {
-        let words = line_words(alloc, line)?;
+        line_words(&mut words, line)?;
         if !words.is_empty() {
             if is_header(line, words.as_slice()) {
                 return Ok((behind, number + 1));
@@ -628,7 +636,7 @@ fn behind_header(alloc: Global, text: &[u8]) -> Result<(&[u8], u32), ShowFault>
     })
 }
 
-// The show of a text without a forbidden byte. The words of one line at a time are in memory.
+// The show of a text without a forbidden byte. The words of one line at a time are in memory, each time in the same.
 fn read_allowed(alloc: Global, text: &[u8]) -> Result<Show, ShowFault>
     requires { length text.now ≤ most_text }
     ensures { ShowGives plain_show result (read_lines (show_lines text.now)) }

@@ -1,6 +1,6 @@
 //! The words of a show's text.
 
-ghost use Rattle.std.specs.Prelude.{◌≡◌, ◌≤◌, length, [], ◌∷◌, MatchOption, None, Some, IfOk};
+ghost use Rattle.std.specs.Prelude.{◌≡◌, ◌≤◌, length, [], ◌∷◌, MatchOption, None, Some, OnOk};
 ghost use Rattle.fleet_math.specs.Limits.{most_text};
 ghost use Rattle.choreo_lines.specs.declared.line.LineKind.TheVariants as kind;
 ghost use Rattle.text_lines.specs.declared.token.Comments.TheVariants.{FromHash};
@@ -14,7 +14,7 @@ ghost use Rattle.choreo_reader.specs.Steps.{stands_anywhere as stands_anywhere_o
 use crate::fault::ShowFault;
 use choreo_lines::LineKind;
 use std::alloc::{AllocError, Global};
-use text_lines::{Comments, Token, split_line, visible};
+use text_lines::{Comments, Token, put_line, split_line, visible};
 
 fn is_allowed(byte: u8) -> bool
     ensures { result ≡ is_allowed_of byte }
@@ -67,14 +67,14 @@ pub(crate) fn first_bad_line(text: &[u8]) -> Option<u32>
     None
 }
 
-// The words of a line on its own, outside its comment.
+// The words of a line on its own, outside its comment, in place of those that the list had.
 #[tactic(auto, using(crate::proofs::OneLine::one_line))]
-pub(crate) fn line_words(alloc: Global, line: &[u8]) -> Result<Vec<Token>, AllocError>
+pub(crate) fn line_words(words: &mut Vec<Token>, line: &[u8]) -> Result<(), AllocError>
     requires within { length line.now ≤ most_text }
     requires one { between_feeds line.now ≡ line.now ∷ [] }
-    ensures { IfOk result (λ words. words_in line.now words.items ≡ words_of (visible_of FromHash line.now)) }
+    ensures { OnOk result (words_in line.now words.new.items ≡ words_of (visible_of FromHash line.now)) }
 {
-    text_lines::tokens(alloc, line, Comments::FromHash)
+    put_line(words, line, Comments::FromHash)
 }
 
 /// The words of a text outside comments in order, each with its line and its place.

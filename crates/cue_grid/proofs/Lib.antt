@@ -9,3 +9,4 @@ pub mod Marking
 pub mod Fits
 pub mod Distinct
 pub mod Placing
+pub mod Ordered

@@ -28,7 +28,7 @@ or_assoc true b c = refl
 or_assoc false b c = refl
 
 -- a name of two lists is one of the first or one of the second
-has_append : (xs ys : List Name) (n : Name) → has_name (xs ++ ys) n ≡ has_name xs n || has_name ys n
+pub has_append : (xs ys : List Name) (n : Name) → has_name (xs ++ ys) n ≡ has_name xs n || has_name ys n
 has_append [] ys n = refl
 has_append (x ∷ xs) ys n = ap (λ b. same_name n x || b) (has_append xs ys n) ∙ or_assoc (same_name n x) (has_name xs n) (has_name ys n)
 

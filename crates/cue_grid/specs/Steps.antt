@@ -4,6 +4,7 @@ use Rattle.choreo_lines.specs.Name.{Name}
 use Rattle.choreo_lines.specs.declared.parts.Act.{Act}
 use Rattle.choreo_lines.specs.declared.parts.Frame.{Frame}
 use Rattle.choreo_show.specs.declared.show.ActLine.{ActLine}
+use Rattle.choreo_show.specs.declared.show.ActLine.TheVariants as on
 use Rattle.choreo_show.specs.declared.show.DroneLine.{DroneLine}
 use Rattle.choreo_show.specs.declared.show.Formation.{Formation}
 use Rattle.cue_grid.specs.Cues.{Playing, player, cues_in, cues_of_figure}
@@ -28,6 +29,21 @@ first_of (f ∷ fs) = Some f
 -- the fault of a line that gives a name an act: whether the name may be there, and whether it has an act already
 abbrev pub named_faults : ℕ → Bool → Bool → List GridFault
 named_faults line known acted = fault_if (not known) (UnknownName line) (fault_if acted (DoubleAct line) [])
+
+-- whether a line gives this name an act, and no other
+abbrev pub gives : ActLine → Name → Bool
+gives (on.One line name act) n = same_name name n
+gives (on.Form line formation smooth) n = false
+
+-- some lines without the first, where that gives this name an act
+abbrev pub without : Name → List ActLine → List ActLine
+without n [] = []
+without n (a ∷ acts) = if gives a n then acts else a ∷ acts
+
+-- the lines that are left where the first goes for each of these names, in their order, to which it gives an act
+abbrev pub lines_after : List Name → List ActLine → List ActLine
+lines_after [] acts = acts
+lines_after (n ∷ ns) acts = lines_after ns (without n acts)
 
 -- of the first faults of the four lists the one of the earliest line
 abbrev pub name_fault : PlainShow → Option GridFault

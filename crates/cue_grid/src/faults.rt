@@ -1,21 +1,21 @@
 //! What is wrong with the names of a show: for each list its first fault, and of these the one of
 //! the earliest line.
 
-ghost use Rattle.std.specs.Prelude.{◌≡◌, ◌++◌, [], ◌∷◌, take, OnOk, IfOk, List};
+ghost use Rattle.std.specs.Prelude.{◌≡◌, ◌++◌, [], ◌∷◌, false, take, IsTrue, OnOk, IfOk, List};
 ghost use Rattle.choreo_show.specs.Plain.{block_of, body_of, figure_of as plain_figure};
 ghost use Rattle.choreo_show.specs.Plain as plain;
-ghost use Rattle.cue_grid.specs.Names.{names_of, has_name, formation_named, figure_named};
+ghost use Rattle.cue_grid.specs.Names.{names_of, has_name, has_double as has_double_of, formation_named, figure_named};
 ghost use Rattle.cue_grid.specs.Numbers.{formation_names, figure_names};
 ghost use Rattle.choreo_lines.specs.Name.{Name as NameOf};
 ghost use Rattle.cue_grid.specs.Marks.{number_in, has_act};
 ghost use Rattle.cue_grid.specs.Shown.{shown, place_names, HaveActs};
-ghost use Rattle.cue_grid.specs.Steps.{named_faults, first_of, name_fault as name_fault_of};
+ghost use Rattle.cue_grid.specs.Steps.{named_faults, first_of, gives as gives_of, lines_after, name_fault as name_fault_of};
 ghost use Rattle.cue_grid.specs.Faults.{drone_faults, place_faults, one_formation_faults, formation_faults, act_line_faults, form_faults, act_faults, perform_faults, body_faults, one_figure_faults, figure_faults, earlier_of as earlier_of_two, line_of as line_of_fault};
 
 use crate::acted::{Acted, has_acted, has_some_acted, nobody, put_acted};
 use crate::grid::GridFault;
 use crate::lookup::Lookup;
-use crate::names::{are_drones, has_double, is_drone, is_known};
+use crate::names::{are_drones, has_double, is_drone, is_known, same_name};
 use choreo_lines::copy_of;
 use choreo_show::{ActLine, Block, DroneLine, Figure, Formation, Name};
 use std::alloc::{AllocError, Global};
@@ -27,7 +27,14 @@ pub fn name_fault(alloc: Global, show: &Lookup) -> Result<Option<GridFault>, All
     let drones = show.show.drones.as_slice();
     let mut known = Vec::new(alloc);
     put_names(&mut known, drones)?;
-    let in_body = body_fault(alloc, show, known.as_slice(), show.show.body.as_slice())?;
+    let distinct = !has_double(known.as_slice());
+    let in_body = body_fault(
+        alloc,
+        show,
+        known.as_slice(),
+        distinct,
+        show.show.body.as_slice(),
+    )?;
     let in_figures = figure_fault(alloc, show)?;
     let in_formations = formation_fault(show);
     Ok(earlier_of(
@@ -101,16 +108,46 @@ fn formation_fault(show: &Lookup) -> Option<GridFault>
     None
 }
 
-// The first fault of the lines of a cue.
+// Whether a line gives this name an act, and no other.
+fn gives(line: &ActLine, given: &Name) -> bool
+    ensures { result ≡ gives_of line.now given.now }
+{
+    match line {
+        ActLine::One { name, .. } => same_name(name, given),
+        ActLine::Form { .. } => false,
+    }
+}
+
+// Whether each of these lines gives one name an act, and their names stand in the order of the known ones.
+fn are_in_order(known: &[Name], acts: &[ActLine]) -> bool
+    ensures { IsTrue result → lines_after known.now acts.now ≡ [] }
+{
+    let mut next: usize = 0;
+    for name in known {
+        if next < acts.len() && gives(&acts[next], name) {
+            next += 1;
+        }
+    }
+    next == acts.len()
+}
+
+// The first fault of the lines of a cue. Mostly they stand in the order of the drones, each with one name: then there is
+// none, where the known names are distinct, and nobody need be kept.
+#[tactic(auto, using(crate::proofs::Ordered::no_fault_in_order))]
 fn cue_fault(
     alloc: Global,
     show: &Lookup,
     known: &[Name],
+    distinct: bool,
     acts: &[ActLine],
 ) -> Result<Option<GridFault>, AllocError>
+    requires { IsTrue distinct → has_double_of known.now ≡ false }
     ensures { IfOk result (λ fault. fault
         ≡ first_of (act_faults known.now (shown show.now).formations [] acts.now)) }
 {
+    if distinct && are_in_order(known, acts) {
+        return Ok(None);
+    }
     let mut acted = nobody(alloc, show)?;
     for (i, line) in acts.iter().enumerate() {
         if let Some(fault) = act_line_fault(show, known, &acted, line, i) {
@@ -210,16 +247,18 @@ fn block_fault(
     alloc: Global,
     show: &Lookup,
     known: &[Name],
+    distinct: bool,
     block: &Block,
 ) -> Result<Option<GridFault>, AllocError>
+    requires { IsTrue distinct → has_double_of known.now ≡ false }
     ensures { IfOk result (λ fault. fault
         ≡ first_of (body_faults (shown show.now) known.now (block_of block.now plain.Done))) }
 {
     match block {
-        Block::Cue { acts, .. } => { cue_fault(alloc, show, known, acts.as_slice()) }
+        Block::Cue { acts, .. } => { cue_fault(alloc, show, known, distinct, acts.as_slice()) }
         Block::Repeat { body, .. } => {
             for inner in body {
-                if let Some(fault) = block_fault(alloc, show, known, inner)? {
+                if let Some(fault) = block_fault(alloc, show, known, distinct, inner)? {
                     return Ok(Some(fault));
                 }
             }
@@ -239,13 +278,15 @@ fn body_fault(
     alloc: Global,
     show: &Lookup,
     known: &[Name],
+    distinct: bool,
     body: &[Block],
 ) -> Result<Option<GridFault>, AllocError>
+    requires { IsTrue distinct → has_double_of known.now ≡ false }
     ensures { IfOk result (λ fault. fault
         ≡ first_of (body_faults (shown show.now) known.now (body_of body.now))) }
 {
     for block in body {
-        if let Some(fault) = block_fault(alloc, show, known, block)? {
+        if let Some(fault) = block_fault(alloc, show, known, distinct, block)? {
             return Ok(Some(fault));
         }
     }
@@ -266,7 +307,13 @@ fn one_figure_fault(
     if show.has_figure_before(earlier, &figure.name) || has_double(figure.roles.as_slice()) {
         return Ok(Some(GridFault::DoubleName { line: figure.line }));
     }
-    body_fault(alloc, show, figure.roles.as_slice(), figure.body.as_slice())
+    body_fault(
+        alloc,
+        show,
+        figure.roles.as_slice(),
+        true,
+        figure.body.as_slice(),
+    )
 }
 
 // The first fault of the figures.

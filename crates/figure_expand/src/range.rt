@@ -15,20 +15,26 @@ use crate::shapes::{axes, end_of};
 use choreo_lines::Point;
 use choreo_show::DroneLine;
 use cue_grid::{Cue, Grid, Job};
-use mm_rounding::{Axis, to_mm};
+use mm_rounding::Axis;
 use std::alloc::{AllocError, Global};
 
 // The number of the axis of yaw.
 const YAW: u8 = 3;
 
-// Whether a trajectory can hold the value: positions in millimetres, a yaw as it is.
+// The least and the greatest position in micrometres that round to 16 bits of millimetres, a half up.
+const LEAST: i64 = -32_768_500;
+
+const GREATEST: i64 = 32_767_499;
+
+// Whether a trajectory can hold the value: positions in millimetres, a yaw as it is. A position is compared as it is, since
+// it is rounded once more where the trajectory is made.
 fn fits(axis: u8, value: i64) -> bool
     ensures { result ≡ fits_axis axis value }
 {
     if axis == YAW {
         i16::try_from(value).is_ok()
     } else {
-        to_mm(value).is_some()
+        LEAST <= value && value <= GREATEST
     }
 }
 

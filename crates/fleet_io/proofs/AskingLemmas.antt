@@ -2,6 +2,7 @@
 use Rattle.std.proofs.Common.{◌≡◌, ℕ, ◌<◌, ◌≤◌, true, false, List, [], ◌∷◌, ◌++◌, length, drop, Option, refl, sym, ap, ◌∙◌, append_assoc, append-nil, inl, inr, ◌⊎◌, arith}
 use Rattle.std.specs.Io.KnownBytes.{Consumes}
 use Rattle.fleet_io.specs.Held.{Asked, without_last, has_whole_marker, buffer_bytes}
+use Rattle.fleet_io.specs.Steps.{Runs}
 use Rattle.fleet_io.proofs.TakenLemmas.{Consumes-append}
 use Rattle.fleet_io.proofs.MarkLemmas.{Gathers}
 
@@ -72,6 +73,19 @@ Asking-step first bytes [] byte after start old mid new f g h gathers asking una
 Asking-step first bytes (w ∷ ws) byte after start old mid new f g h gathers asking unasked asked most =
     let is = unasked (omega arith) in
     from_waiting first bytes (w ∷ ws) byte after old mid new f g h asking is.0 is.1 is.2
+
+-- a byte more, and a run of those that wait after it
+pub Asking-runs : (first bytes waiting byte after waits gathered : List ℕ) (b start : ℕ) (old mid new : Option (List ℕ)) (f g h : ℕ) → Gathers bytes start → Asking first bytes waiting old mid f g
+    → (0 < length waiting → (new ≡ mid) × (h ≡ g) × (waiting ≡ byte ++ after))
+    → (waiting ≡ [] → Consumes mid new (byte ++ after))
+    → length (byte ++ after) ≤ buffer_bytes
+    → byte ≡ b ∷ []
+    → Runs after waits bytes gathered b
+    → Asking first gathered waits old new f h
+Asking-runs first bytes waiting byte after waits gathered b start old mid new f g h gathers asking unasked asked most is runs =
+    let put : gathered ≡ (bytes ++ byte) ++ runs.run = runs.put ∙ rw is (sym (append_assoc bytes (b ∷ []) runs.run)) in
+    let step = Asking-step first bytes waiting byte after start old mid new f g h gathers asking unasked asked most in
+    rw put (from_waiting first (bytes ++ byte) after runs.run waits old new new f h h step refl refl runs.wait)
 
 -- at the beginning nothing was asked
 pub Asking-none : (first : List ℕ) (old : Option (List ℕ)) (f : ℕ) → Asking first [] first old old f f

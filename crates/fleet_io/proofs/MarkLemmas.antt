@@ -1,5 +1,5 @@
 -- The lines that were gathered so far, and the part that they make.
-use Rattle.std.proofs.Common.{◌≡◌, ℕ, ◌+◌, ◌≤◌, Bool, true, false, cond, ◌||◌, ◌&&◌, eqb, List, [], ◌∷◌, ◌++◌, length, take, drop, refl, sym, ap, ◌∙◌, append_assoc, length-append, inl, inr, ◌⊎◌, arith}
+use Rattle.std.proofs.Common.{◌≡◌, ℕ, zero, suc, ◌+◌, ◌≤◌, Bool, true, false, cond, ◌||◌, ◌&&◌, eqb, List, [], ◌∷◌, ◌++◌, length, take, drop, refl, sym, ap, ◌∙◌, append_assoc, length-append, inl, inr, ◌⊎◌, arith}
 use Rattle.std.specs.List.{slice_split, join_with_byte}
 use Rattle.std.specs.Prelude.{bytes_eq}
 use Rattle.std.proofs.lemmas.List.{append-nil, take-append-le, drop-append-le, take-append-drop, drop_all, take_all, length-drop, length-take}
@@ -9,6 +9,8 @@ use Rattle.std.proofs.lemmas.Bool.{cases_Bool, eqb-true}
 use Rattle.std.proofs.lemmas.Slice.Eq.{bytes_eq-Decides}
 use Rattle.text_lines.specs.Lines.{between_feeds}
 use Rattle.text_lines.specs.Marker.{is_marker, has_marker, lines_before, lines_after, ended, part_of, rest_of}
+use Rattle.fleet_io.specs.PartBytes.{first_piece}
+use Rattle.fleet_io.specs.Steps.{Runs}
 use Rattle.fleet_io.proofs.CutLemmas.{split-goes_on, IsFull-split}
 
 -- These bytes are lines without a marker line, and then the line that begins at start.
@@ -23,17 +25,31 @@ pub record Gathers (bytes : List ℕ) (start : ℕ) : Type 0 where
 pub Gathers-none : Gathers [] 0
 Gathers-none = record { within = omega arith; done = []; lines = refl; none = refl; front = refl }
 
+-- bytes without a line feed go on with the last line
+pub Gathers-run : (bytes : List ℕ) (start : ℕ) (run : List ℕ) → between_feeds run ≡ run ∷ [] → Gathers bytes start → Gathers (bytes ++ run) start
+Gathers-run bytes start run whole g = record {
+  within = omega (arith, g.within, length-append bytes run);
+  done = g.done;
+  lines = rw (drop-append-le start bytes run g.within) (split-goes_on (λ x. eqb x 10) bytes run g.done (drop start bytes) run [] g.lines whole);
+  none = g.none;
+  front = take-append-le start bytes run g.within ∙ g.front;
+}
+
 -- a byte that is no line feed goes on with the last line
 pub Gathers-push : (bytes : List ℕ) (start b : ℕ) → eqb b 10 ≡ false → Gathers bytes start → Gathers (bytes ++ b ∷ []) start
 Gathers-push bytes start b plain g =
-    let one : slice_split (λ x. eqb x 10) (b ∷ []) ≡ (b ∷ []) ∷ [] = ap (λ (t : Bool). cond t ([] ∷ [] ∷ []) ((b ∷ []) ∷ [])) plain in
-    record {
-      within = omega (arith, g.within, length-append bytes (b ∷ []));
-      done = g.done;
-      lines = rw (drop-append-le start bytes (b ∷ []) g.within) (split-goes_on (λ x. eqb x 10) bytes (b ∷ []) g.done (drop start bytes) (b ∷ []) [] g.lines one);
-      none = g.none;
-      front = take-append-le start bytes (b ∷ []) g.within ∙ g.front;
-    }
+    Gathers-run bytes start (b ∷ []) (ap (λ (t : Bool). cond t ([] ∷ [] ∷ []) ((b ∷ []) ∷ [])) plain) g
+
+-- the first bytes of a line have no line feed
+pub front_whole : (n : ℕ) (bytes : List ℕ) → n ≤ length (first_piece bytes) → between_feeds (take n bytes) ≡ take n bytes ∷ []
+front_whole zero bytes few = refl
+front_whole (suc n) [] few = refl
+front_whole (suc n) (b ∷ bytes) few = elim (cases_Bool (eqb b 10)) [
+  | inl feed ↦ absurd (let none : length (first_piece (b ∷ bytes)) ≡ 0 = rw feed refl in omega (arith, few, none))
+  | inr other ↦
+      let size : length (first_piece (b ∷ bytes)) ≡ suc (length (first_piece bytes)) = rw other refl in
+      rw (other, front_whole n bytes (omega (arith, few, size))) refl
+]
 
 -- a choice that is false has no true side
 or_false : (a b : Bool) → (a || b) ≡ false → (a ≡ false) × (b ≡ false)
@@ -175,6 +191,11 @@ Gathers-add bytes after start next byte g plain made moved = elim (cases_Bool (e
       let at : next ≡ start = moved ∙ rw other refl in
       rw (made, at) (Gathers-push bytes start byte other g)
 ]
+
+-- one byte more is gathered, and a run without a line feed
+pub Gathers-runs : (bytes after waited waits : List ℕ) (start next byte : ℕ) → Gathers bytes start → (eqb byte 10 && is_marker (drop start bytes)) ≡ false → Runs waited waits bytes after byte → next ≡ cond (eqb byte 10) (length bytes + 1) start → Gathers after next
+Gathers-runs bytes after waited waits start next byte g plain runs moved =
+    rw (runs.put, ← append_assoc bytes (byte ∷ []) runs.run) (Gathers-run (bytes ++ byte ∷ []) next runs.run runs.whole (Gathers-add bytes (bytes ++ byte ∷ []) start next byte g plain refl moved))
 
 -- a byte that ends a marker line is a line feed after one
 pub ends_marker_is : (byte : ℕ) (line : List ℕ) → (eqb byte 10 && is_marker line) ≡ true → (byte ≡ 10) × (is_marker line ≡ true)

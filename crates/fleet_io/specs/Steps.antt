@@ -1,6 +1,7 @@
 -- What each step of a reader of parts keeps.
-use Rattle.std.specs.Prelude.{◌≡◌, ℕ, ◌≤◌, List, ◌++◌, Option, IsTrue}
+use Rattle.std.specs.Prelude.{◌≡◌, ℕ, ◌≤◌, List, [], ◌∷◌, ◌++◌, Option, IsTrue}
 use Rattle.std.specs.Io.KnownBytes.{Consumes, IsAtEnd}
+use Rattle.text_lines.specs.Lines.{between_feeds}
 use Rattle.fleet_io.specs.Held.{Held}
 use Rattle.fleet_io.specs.Taken.{TakesFront}
 
@@ -19,3 +20,10 @@ pub record Refills (waited waits : List ℕ) (had has : Option (List ℕ)) : Typ
   pub bytes : List ℕ
   pub wait : waits ≡ waited ++ bytes
   pub taken : Consumes had has bytes
+
+-- A byte and a run of those that waited were put behind some bytes. The run has no line feed.
+pub record Runs (waited waits before after : List ℕ) (byte : ℕ) : Type 0 where
+  pub run : List ℕ
+  pub wait : waited ≡ run ++ waits
+  pub put : after ≡ before ++ byte ∷ run
+  pub whole : between_feeds run ≡ run ∷ []

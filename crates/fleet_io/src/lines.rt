@@ -1,7 +1,7 @@
 //! A text that grows in memory, word by word.
-ghost use Rattle.std.specs.Prelude.{◌≡◌, ◌<◌, [], ◌∷◌, ◌++◌, IfOk, OnOk, OnErr};
+ghost use Rattle.std.specs.Prelude.{◌≡◌, ◌<◌, [], ◌∷◌, ◌++◌, length, take, IfOk, OnOk, OnErr};
 ghost use Rattle.std.specs.Fmt.{signed_decimal};
-ghost use Rattle.fleet_io.specs.Words.{is_line_empty, with_word, with_hex, hex_digit};
+ghost use Rattle.fleet_io.specs.Words.{is_line_empty, with_word, with_hex, hex_digit, hex_word};
 
 use itoa::Buffer;
 use std::alloc::{AllocError, Global};
@@ -120,6 +120,21 @@ pub fn hex_digit(n: u8) -> u8
     if n < 10 { b'0' + n } else { b'A' - 10 + n }
 }
 
+// A byte as a word. It is pushed digit by digit: a call that copies a slice takes longer than two digits do. An `Err` keeps
+// what stood there, and may leave a front of the word behind it.
+#[tactic(auto, unfolding(crate::specs::Words::with_word))]
+fn put_hex_word(text: &mut Vec<u8>, byte: u8) -> Result<(), AllocError>
+    ensures ok { OnOk result (text.new.items ≡ with_word text.old.items (hex_word byte)) }
+    ensures err { OnErr result (take (length text.old.items) text.new.items ≡ text.old.items) }
+{
+    if !is_line_empty(text) {
+        text.push(b' ')?;
+    }
+    text.push(hex_digit(byte / 16))?;
+    text.push(hex_digit(byte % 16))?;
+    Ok(())
+}
+
 // Each byte as a word. An `Err` changes nothing.
 fn put_hex(text: &mut Vec<u8>, bytes: &[u8]) -> Result<(), AllocError>
     ensures ok { OnOk result (text.new.items ≡ with_hex text.old.items bytes.now) }
@@ -127,8 +142,7 @@ fn put_hex(text: &mut Vec<u8>, bytes: &[u8]) -> Result<(), AllocError>
 {
     let len = text.len();
     for byte in bytes {
-        let word = [hex_digit(*byte / 16), hex_digit(*byte % 16)];
-        match put_word(text, &word) {
+        match put_hex_word(text, *byte) {
             Ok(()) => {}
             Err(error) => {
                 text.truncate(len);

@@ -8,11 +8,12 @@ ghost use Rattle.text_lines.specs.Marker.{is_marker, part_of};
 ghost use Rattle.fleet_io.specs.Held.{stream, given, Asked, has_whole_marker, buffer_bytes, text_limit};
 ghost use Rattle.fleet_io.specs.PartBytes.{AsksNext, begins_line, first_piece, is_marked_here, may_be_marker, next_of, PartLaw};
 ghost use Rattle.fleet_io.specs.Parts.{MarkerLaw, TakesFewAfter, TakesMarked, TakesPart};
-ghost use Rattle.fleet_io.specs.Steps.{Goes, Refills};
+ghost use Rattle.fleet_io.specs.Steps.{Goes, Refills, Runs};
 
 use crate::stream::{Failed, Source};
 use std::alloc::{AllocError, AllocFailed, Global};
 use std::marker::Model;
+use text_lines::len_before;
 
 /// The most bytes that a reader of parts holds.
 pub const BUFFER_BYTES: usize = 4096;
@@ -218,6 +219,34 @@ impl Parts {
         Ok(())
     }
 
+    // One byte more of the lines that are gathered, and then those of the bytes that wait before a line feed, up to this
+    // many bytes in all. What is left of a line is copied at once, where byte by byte it would take ten times as long.
+    fn add_run(
+        &mut self,
+        bytes: &mut Vec<u8>,
+        start: &mut usize,
+        byte: u8,
+        most: usize,
+    ) -> Result<(), AllocError>
+        requires within { start.old ≤ length bytes.old.items }
+        requires room { length bytes.old.items < most }
+        ensures ok { OnOk result (Runs self.old.waiting self.new.waiting bytes.old.items bytes.new.items byte) }
+        ensures short { OnOk result (length bytes.new.items ≤ most) }
+        ensures start { OnOk result (start.new ≡ (if byte == 10 then length bytes.old.items + 1 else start.old)) }
+        ensures err { OnErr result (self.new.waiting ≡ self.old.waiting) }
+        ensures sound { self.new.sound ≡ self.old.sound }
+        ensures lines { self.new.lines ≡ self.old.lines }
+        ensures at_line { self.new.at_line ≡ self.old.at_line }
+        ensures ended { self.new.ended ≡ self.old.ended }
+    {
+        add(bytes, start, byte)?;
+        let waiting = self.waiting();
+        let run = line_len(waiting).min(most - bytes.len());
+        bytes.extend_from_slice(&waiting[..run])?;
+        self.skip(run);
+        Ok(())
+    }
+
     // The next part, where `sound` isn't kept.
     fn gather<S: Source>(
         &mut self,
@@ -254,7 +283,7 @@ impl Parts {
                     if ends_marker(&bytes, start, byte) {
                         return up_to_marker(bytes, start, limit);
                     }
-                    add(&mut bytes, &mut start, byte)?;
+                    self.add_run(&mut bytes, &mut start, byte, limit + 4)?;
                 }
                 None => return up_to_end(bytes, start, limit),
             }
@@ -468,10 +497,7 @@ fn line_len(bytes: &[u8]) -> usize
     ensures value { result ≡ length (first_piece bytes.now) }
     ensures within { result ≤ length bytes.now }
 {
-    bytes
-        .iter()
-        .position(|byte| *byte == b'\n')
-        .unwrap_or(bytes.len())
+    len_before(bytes, b'\n')
 }
 
 // Whether this byte ends a marker line that begins at `start`.

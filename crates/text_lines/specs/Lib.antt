@@ -3,3 +3,4 @@ pub mod Marker
 pub mod Words
 pub mod Tokens
 pub mod Numbers
+pub mod Steps

@@ -10,6 +10,6 @@ mod line;
 mod number;
 mod token;
 
-pub use line::split_line;
+pub use line::{len_before, split_line};
 pub use number::{LARGE, NumberFault, natural, number_in};
-pub use token::{Comments, Token, line_word_count, tokens, visible, word_at};
+pub use token::{Comments, Token, line_word_count, put_line, tokens, visible, word_at};

@@ -1,7 +1,8 @@
 //! The words of a text, as places in it.
 
-ghost use Rattle.std.specs.Prelude.{◌≡◌, ℕ, List, ◌+◌, ◌<◌, ◌≤◌, ◌++◌, ◌∷◌, length, ◌^◌, drop, take, IfOk, OnOk};
+ghost use Rattle.std.specs.Prelude.{◌≡◌, ℕ, List, [], ◌+◌, ◌<◌, ◌≤◌, ◌++◌, ◌∷◌, length, ◌^◌, drop, take, slice_index, IsTrue, IfOk, OnOk};
 ghost use Rattle.std.specs.List.{position_or_len};
+ghost use Rattle.text_lines.specs.Lines.{between_feeds};
 ghost use Rattle.text_lines.specs.Words.{is_blank as is_blank_of, visible as visible_of};
 ghost use Rattle.text_lines.specs.Tokens.{word_in, words_in, word_token, line_tokens, tokens_of, lines_in, first_token};
 
@@ -36,15 +37,37 @@ pub fn visible(line: &[u8], comments: Comments) -> &[u8]
     }
 }
 
-// How many bytes stand before the first blank.
+// Whether a byte separates words.
+fn is_blank(byte: u8) -> bool
+    ensures { result ≡ is_blank_of byte }
+{
+    matches!(byte, b'\t' | b'\r' | b' ')
+}
+
+// Whether each of the four bytes from a place on is greater than a space, so that none of them is blank.
+fn are_four_solid(bytes: &[u8], at: usize) -> bool
+    requires { at + 4 ≤ length bytes.now }
+    ensures { IsTrue result → (k : ℕ) → at ≤ k → k < at + 4 → 32 < slice_index bytes.now k }
+{
+    bytes[at] > b' '
+        && bytes[at + 1] > b' '
+        && bytes[at + 2] > b' '
+        && bytes[at + 3] > b' '
+}
+
+// How many bytes stand before the first blank. Four at a time are passed where a comparison shows that none is blank.
 fn word_len(bytes: &[u8]) -> usize
     ensures value { result ≡ position_or_len is_blank_of bytes.now }
     ensures within { result ≤ length bytes.now }
 {
-    bytes
-        .iter()
-        .position(|b| matches!(*b, b'\t' | b'\r' | b' '))
-        .unwrap_or(bytes.len())
+    let mut at: usize = 0;
+    'fours: while bytes.len() - at >= 4 && are_four_solid(bytes, at) {
+        at += 4;
+    }
+    'ones: while at < bytes.len() && !is_blank(bytes[at]) {
+        at += 1;
+    }
+    at
 }
 
 // One more word, unless it has no byte.
@@ -97,6 +120,22 @@ pub fn tokens(alloc: Global, text: &[u8], comments: Comments) -> Result<Vec<Toke
         rest = behind;
     }
     Ok(tokens)
+}
+
+/// The words of a line on its own, in place of those that the list had. Its room is kept, so that a reader that goes from
+/// line to line takes memory once.
+#[tactic(auto, using(crate::proofs::Alone::alone_tokens))]
+pub fn put_line(
+    tokens: &mut Vec<Token>,
+    line: &[u8],
+    comments: Comments,
+) -> Result<(), AllocError>
+    requires short { length line.now < 2 ^ 31 }
+    requires one { between_feeds line.now ≡ line.now ∷ [] }
+    ensures { OnOk result (tokens.new.items ≡ tokens_of comments line.now) }
+{
+    tokens.clear();
+    put_words(tokens, 1, 0, visible(line, comments))
 }
 
 /// The bytes of a word, and none where it stands outside the text.

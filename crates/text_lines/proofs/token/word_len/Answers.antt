@@ -1,13 +1,11 @@
-use Rattle.std.proofs.Common.{◌∙◌, arith, rules, tests}
-use Rattle.std.proofs.lemmas.Iterator.{YieldsList-from_slice}
-use Rattle.std.proofs.lemmas.Iterator.Search.{position_from_yields_List}
-use Rattle.text_lines.specs.Words.{is_blank}
-use Rattle.text_lines.proofs.Cuts.{unwrap_position, position_within}
+use Rattle.std.proofs.Common.{◌+◌, ◌≤◌, length, sym, arith}
+use Rattle.text_lines.proofs.Solid.{passed_four}
 use Rattle.text_lines.proofs.token.word_len.Goals as goal
 
-pub returns-clause-value : goal.returns-clause-value
-returns-clause-value c =
-    c.unwrap_or.ensures ∙ unwrap_position is_blank c.args.bytes.now c.position.result (position_from_yields_List is_blank _ _ c.position.result c.position.ensures.ran (YieldsList-from_slice c.args.bytes.now cc) (λ x b q k. search (rules, tests)))
-
-pub returns-clause-within : goal.returns-clause-within
-returns-clause-within c = omega (arith, returns-clause-value c, position_within is_blank c.args.bytes.now)
+pub fours-preserved : goal.fours-preserved
+fours-preserved c =
+    let within : c.fours.at + 4 ≤ length c.args.bytes.now = omega arith in
+    record {
+      within = within;
+      passed = passed_four c.args.bytes.now c.fours.at within (c.are_four_solid.ensures c.if-are_four_solid.true) c.fours.invariant.passed;
+    }

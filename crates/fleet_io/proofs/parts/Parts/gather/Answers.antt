@@ -1,11 +1,11 @@
 use Rattle.std.proofs.Common.{◌≡◌, inl, inr, true, [], ◌∷◌, ◌++◌, ◌+◌, take, drop, length, length-append, refl, sym, ap, ◌∙◌, arith}
 use Rattle.std.proofs.lemmas.List.{length-drop, length-take}
 use Rattle.fleet_io.specs.Held.{given}
-use Rattle.fleet_io.proofs.TakenLemmas.{Consumes-append, Consumes-nil}
+use Rattle.fleet_io.proofs.TakenLemmas.{Consumes-append, Consumes-nil, Consumes-runs}
 use Rattle.fleet_io.proofs.GoingLemmas.{Goes-trans, Goes-unasked}
-use Rattle.fleet_io.proofs.AskingLemmas.{Asking-step, Asking-none, Gathers-unmarked, promised, promised_after}
+use Rattle.fleet_io.proofs.AskingLemmas.{Asking-runs, Asking-none, Gathers-unmarked, promised, promised_after}
 use Rattle.fleet_io.proofs.AloneLemmas.{taken_alone, unless}
-use Rattle.fleet_io.proofs.MarkLemmas.{Gathers-add, Gathers-none, ends_marker_is}
+use Rattle.fleet_io.proofs.MarkLemmas.{Gathers-runs, Gathers-none, ends_marker_is}
 use Rattle.fleet_io.proofs.MarkerLaws.{fed_marked, ok_marked}
 use Rattle.fleet_io.proofs.FoundLemmas.{at_marker, at_end, made, refused_at_start, long_already}
 use Rattle.fleet_io.proofs.ReadingLemmas.{takes_at_most}
@@ -29,20 +29,22 @@ pub returns-then-ends_marker-clause-goes : goal.returns-then-ends_marker-clause-
 returns-then-ends_marker-clause-goes g c = Goes-trans _ _ _ _ _ _ _ _ _ c.bytes.invariant.goes c.next.ensures.goes
 
 pub bytes-preserved : goal.bytes-preserved
-bytes-preserved g c = record {
-  gathers = Gathers-add c.bytes.bytes.items _ c.bytes.start _ c.in-Some.byte c.bytes.invariant.gathers (rw c.deref.ensures.value at (sym c.if-ends_marker.ensures)) c.in_ok-add-in-Some.ensures.ok c.in_ok-add-in-Some.ensures.start;
-  taken = rw c.in_ok-add-in-Some.ensures.ok (Consumes-append _ _ _ _ _ c.bytes.invariant.taken (rw c.in-Some.is at c.in-Ok.ensures.some));
-  goes = Goes-trans _ _ _ _ _ _ _ _ _ c.bytes.invariant.goes c.next.ensures.goes;
-  at_line = c.next.ensures.at_line ∙ c.bytes.invariant.at_line;
-  asking =
-      let gives : given c.next.result ≡ c.in-Some.byte ∷ [] = rw (c.in-Ok.is, c.in-Some.is) refl in
-      rw (c.in_ok-add-in-Some.ensures.ok, ← gives) (Asking-step _ _ _ (given c.next.result) _ c.bytes.start _ _ _ _ _ _ c.bytes.invariant.gathers c.bytes.invariant.asking c.next.ensures.unasked c.next.ensures.asked c.next.ensures.most);
-  short = omega (arith, ap length c.in_ok-add-in-Some.ensures.ok, length-append c.bytes.bytes.items (c.in-Some.byte ∷ []));
-  most = omega (arith, c.next.ensures.most, length-append (given c.next.result) c.next.new.self.waiting);
-}
+bytes-preserved g c =
+    let r = c.in_ok-add_run-in-Some.ensures in
+    record {
+      gathers = Gathers-runs c.bytes.bytes.items _ _ _ c.bytes.start _ c.in-Some.byte c.bytes.invariant.gathers (rw c.deref.ensures.value at (sym c.if-ends_marker.ensures)) r.ok r.start;
+      taken = Consumes-runs _ _ _ _ _ _ _ _ c.bytes.invariant.taken (rw c.in-Some.is at c.in-Ok.ensures.some) r.ok;
+      goes = Goes-trans _ _ _ _ _ _ _ _ _ (Goes-trans _ _ _ _ _ _ _ _ _ c.bytes.invariant.goes c.next.ensures.goes) (Goes-unasked _ _ _ _ r.sound r.lines r.ended c.next.ensures.goes.at_end);
+      at_line = r.at_line ∙ c.next.ensures.at_line ∙ c.bytes.invariant.at_line;
+      asking = Asking-runs _ _ _ (given c.next.result) _ _ _ c.in-Some.byte c.bytes.start _ _ _ _ _ _ c.bytes.invariant.gathers c.bytes.invariant.asking c.next.ensures.unasked c.next.ensures.asked c.next.ensures.most (rw (c.in-Ok.is, c.in-Some.is) refl) r.ok;
+      short = r.short;
+      most = omega (arith, c.next.ensures.most, length-append (given c.next.result) c.next.new.self.waiting, ap length r.ok.wait, length-append r.ok.run c.add_run.new.self.waiting);
+    }
 
-pub returns-in_err-add-in-Some-clause-goes : goal.returns-in_err-add-in-Some-clause-goes
-returns-in_err-add-in-Some-clause-goes g c = Goes-trans _ _ _ _ _ _ _ _ _ c.bytes.invariant.goes c.next.ensures.goes
+pub returns-in_err-add_run-in-Some-clause-goes : goal.returns-in_err-add_run-in-Some-clause-goes
+returns-in_err-add_run-in-Some-clause-goes g c =
+    let r = c.in_err-add_run-in-Some.ensures in
+    Goes-trans _ _ _ _ _ _ _ _ _ (Goes-trans _ _ _ _ _ _ _ _ _ c.bytes.invariant.goes c.next.ensures.goes) (Goes-unasked _ _ _ _ r.sound r.lines r.ended c.next.ensures.goes.at_end)
 
 pub returns-in-None-clause-part : goal.returns-in-None-clause-part
 returns-in-None-clause-part g c =
@@ -82,11 +84,11 @@ returns-then-ends_marker-clause-asks g c = (promised_after _ _ _ (given c.next.r
 pub returns-then-ends_marker-clause-patient : goal.returns-then-ends_marker-clause-patient
 returns-then-ends_marker-clause-patient g c = (promised_after _ _ _ (given c.next.result) _ c.bytes.start _ _ _ _ _ _ c.bytes.invariant.gathers c.bytes.invariant.asking c.next.ensures.unasked c.next.ensures.asked c.next.ensures.most).1
 
-pub returns-in_err-add-in-Some-clause-asks : goal.returns-in_err-add-in-Some-clause-asks
-returns-in_err-add-in-Some-clause-asks g c = (promised_after _ _ _ (given c.next.result) _ c.bytes.start _ _ _ _ _ _ c.bytes.invariant.gathers c.bytes.invariant.asking c.next.ensures.unasked c.next.ensures.asked c.next.ensures.most).0
+pub returns-in_err-add_run-in-Some-clause-asks : goal.returns-in_err-add_run-in-Some-clause-asks
+returns-in_err-add_run-in-Some-clause-asks g c = (promised_after _ _ _ (given c.next.result) _ c.bytes.start _ _ _ _ _ _ c.bytes.invariant.gathers c.bytes.invariant.asking c.next.ensures.unasked c.next.ensures.asked c.next.ensures.most).0
 
-pub returns-in_err-add-in-Some-clause-patient : goal.returns-in_err-add-in-Some-clause-patient
-returns-in_err-add-in-Some-clause-patient g c = (promised_after _ _ _ (given c.next.result) _ c.bytes.start _ _ _ _ _ _ c.bytes.invariant.gathers c.bytes.invariant.asking c.next.ensures.unasked c.next.ensures.asked c.next.ensures.most).1
+pub returns-in_err-add_run-in-Some-clause-patient : goal.returns-in_err-add_run-in-Some-clause-patient
+returns-in_err-add_run-in-Some-clause-patient g c = (promised_after _ _ _ (given c.next.result) _ c.bytes.start _ _ _ _ _ _ c.bytes.invariant.gathers c.bytes.invariant.asking c.next.ensures.unasked c.next.ensures.asked c.next.ensures.most).1
 
 pub returns-in-None-clause-asks : goal.returns-in-None-clause-asks
 returns-in-None-clause-asks g c = (promised_after _ _ _ (given c.next.result) _ c.bytes.start _ _ _ _ _ _ c.bytes.invariant.gathers c.bytes.invariant.asking c.next.ensures.unasked c.next.ensures.asked c.next.ensures.most).0
@@ -132,8 +134,8 @@ pub returns-then-ends_marker-clause-few : goal.returns-then-ends_marker-clause-f
 returns-then-ends_marker-clause-few g c =
     takes_at_most _ _ (c.bytes.bytes.items ++ c.in-Some.byte ∷ []) _ _ (c.args.limit + 4) (Consumes-append _ _ _ _ _ c.bytes.invariant.taken (rw c.in-Some.is at c.in-Ok.ensures.some)) (omega (arith, length-append c.bytes.bytes.items (c.in-Some.byte ∷ []))) (omega (arith, c.next.ensures.most, length-append (given c.next.result) c.next.new.self.waiting))
 
-pub returns-in_err-add-in-Some-clause-few : goal.returns-in_err-add-in-Some-clause-few
-returns-in_err-add-in-Some-clause-few g c =
+pub returns-in_err-add_run-in-Some-clause-few : goal.returns-in_err-add_run-in-Some-clause-few
+returns-in_err-add_run-in-Some-clause-few g c =
     takes_at_most _ _ (c.bytes.bytes.items ++ c.in-Some.byte ∷ []) _ _ (c.args.limit + 4) (Consumes-append _ _ _ _ _ c.bytes.invariant.taken (rw c.in-Some.is at c.in-Ok.ensures.some)) (omega (arith, length-append c.bytes.bytes.items (c.in-Some.byte ∷ []))) (omega (arith, c.next.ensures.most, length-append (given c.next.result) c.next.new.self.waiting))
 
 pub returns-in-None-clause-few : goal.returns-in-None-clause-few
