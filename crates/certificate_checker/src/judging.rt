@@ -14,7 +14,7 @@ use bezier_core::Bez;
 use fleet_curves::Curves;
 use halving::Place;
 use sep_certificate::CertFault;
-use sep_parts::{Level, Node, Slot, Stack};
+use sep_parts::{Level, Node, Slot, Waiting};
 use std::marker::Model;
 
 /// The pair and cue whose tree comes next, the places of that tree that are still to be judged, with the parts of the curves there,
@@ -25,7 +25,7 @@ pub struct Judging {
     trees: u32,
     fault: Option<CertFault>,
     diff: [Bez<8>; 3],
-    stack: Stack,
+    waiting: Waiting,
 }
 
 impl Model for Judging {
@@ -35,9 +35,9 @@ impl Model for Judging {
 
     ghost Value = { Judgment };
 
-    ghost view = { λ j. record { judged = judged_by j.slot (places_of j.stack) j.trees j.fault; diff = j.diff } };
+    ghost view = { λ j. record { judged = judged_by j.slot (places_of j.waiting) j.trees j.fault; diff = j.diff } };
 
-    ghost invariant = { λ j. AreRaised j.diff × IsStack j.diff j.stack };
+    ghost invariant = { λ j. AreRaised j.diff × IsStack j.diff j.waiting };
 }
 
 // Zeros, where no pair and cue comes next. Nobody reads them.
@@ -72,7 +72,7 @@ impl Judging {
             trees,
             fault: None,
             diff,
-            stack: Stack::of(Level {
+            waiting: Waiting::of(&Level {
                 place: Place { depth: 0, index: 0 },
                 part: diff,
             }),
@@ -105,18 +105,15 @@ impl Judging {
         Judging::over(difference(curves, slot), slot, trees)
     }
 
-    // Goes before the tree of a pair and cue. What still waits is taken off, so that not all nine levels are written for each tree.
+    // Goes before the tree of a pair and cue.
     fn go_before(&mut self, curves: &Curves, slot: Slot, trees: u32)
         requires { IsSlotOrPast curves.now slot }
         ensures judged { self.new.judged ≡ before_tree slot trees }
         ensures next { IsNext curves.now self.new.judged self.new.diff }
     {
-        'levels: while self.stack.pop().is_some() {}
         self.diff = difference(curves, slot);
-        self.stack.push(Level {
-            place: Place { depth: 0, index: 0 },
-            part: self.diff,
-        });
+        self.waiting.clear();
+        self.waiting.begin(&self.diff);
         self.slot = slot;
         self.trees = trees;
         self.fault = None;
@@ -135,12 +132,12 @@ impl Judging {
         if self.fault.is_some() || usize::from(self.slot.b) >= curves.drones() {
             return;
         }
-        let Some(level) = self.stack.pop() else {
+        let Some(level) = self.waiting.next() else {
             return;
         };
-        self.fault = tables.fault(version, depth, &self.diff, &level, self.slot, node);
+        self.fault = tables.fault(version, depth, &self.diff, level, self.slot, node);
         if self.fault.is_none() {
-            self.stack.push_below(&self.diff, &level, node);
+            self.waiting.pass(&self.diff, node);
         }
     }
 

@@ -1,8 +1,8 @@
 -- The triangle of de Casteljau's rule, and its two edges.
-use Rattle.std.proofs.Common.{◌≡◌, ℕ, zero, suc, ◌≤◌, ◌+◌, ◌-◌, ◌*◌, ◌^◌, ℤ, pos, ◌+ℤ◌, ◌*ℤ◌, ◌≤ℤ◌, arith, sym, subst, ◌∙◌, ap, All, List, lit<}
+use Rattle.std.proofs.Common.{◌≡◌, inl, inr, refl, ℕ, zero, suc, ◌≤◌, ◌+◌, ◌-◌, ◌*◌, ◌^◌, ℤ, pos, ◌+ℤ◌, ◌*ℤ◌, ◌≤ℤ◌, arith, sym, subst, ◌∙◌, ap, All, List, lit<}
 use Rattle.std.proofs.lemmas.Int.{ints}
 use Rattle.std.proofs.lemmas.Nat.{pow-add}
-use Rattle.std.proofs.Math.Nat.{pow-le-pow_right}
+use Rattle.std.proofs.Math.Nat.{mul-le-mul_right, mul_assoc, pow-le-pow_right}
 use Rattle.fleet_math.specs.Sums.{power}
 use Rattle.fleet_math.specs.Bernstein.{at, bernstein}
 use Rattle.fleet_math.proofs.RingLemmas.{linear, one_mul_ℤ, mul_assoc_ℤ}
@@ -13,6 +13,7 @@ use Rattle.bezier_core.specs.Steps.{IsWithin}
 use Rattle.bezier_core.proofs.BlendLemmas.{within_blend, within_mul, power_pos}
 use Rattle.bezier_core.proofs.EightLemmas.{below_at}
 use Rattle.halving.specs.Part.{polar, part_value}
+use Rattle.halving.specs.Steps.{IsWord}
 
 -- the sums of a row keep a bound, scaled
 pub bernstein-within : (n : ℕ) (f : ℕ → ℤ) (m a c : ℤ) → pos 0 ≤ℤ a → a ≤ℤ c → ((k : ℕ) → k ≤ n → IsWithin m (f k)) → IsWithin (power c n *ℤ m) (bernstein n f a c)
@@ -70,31 +71,43 @@ right_edge k f within =
 
 -- ---- bounds
 -- the values of a row are bounded by as many doublings as there were rows
-row_within : (k i : ℕ) (b : List ℤ) → All (IsBelow (2 ^ 118)) b → IsWithin (pos (2 ^ k * 2 ^ 118)) (bernstein k (λ j. at b (i + j)) (pos 1) (pos 2))
-row_within k i b small =
-    rw (sym (ap (λ (z : ℤ). z *ℤ pos (2 ^ 118)) (power_pos 2 k)))
-    (bernstein-within k (λ j. at b (i + j)) (pos (2 ^ 118)) (pos 1) (pos 2) (omega (arith, linear)) (omega (arith, linear))
-    (λ j low. loose _ (below_at (2 ^ 118) b (i + j) (lit< tt) small)))
+row_within : (k i n : ℕ) (b : List ℤ) → 1 ≤ n → All (IsBelow n) b → IsWithin (pos (2 ^ k * n)) (bernstein k (λ j. at b (i + j)) (pos 1) (pos 2))
+row_within k i n b some small =
+    rw (sym (ap (λ (z : ℤ). z *ℤ pos n) (power_pos 2 k)))
+    (bernstein-within k (λ j. at b (i + j)) (pos n) (pos 1) (pos 2) (omega (arith, linear)) (omega (arith, linear))
+    (λ j low. loose _ (below_at n b (i + j) some small)))
   where
-    loose : (x : ℤ) → IsBelow (2 ^ 118) x → IsWithin (pos (2 ^ 118)) x
+    loose : (x : ℤ) → IsBelow n x → IsWithin (pos n) x
     loose x below = (omega (arith, linear), omega (arith, linear))
 
+-- what seven doublings give of a bound for numbers of so many bits
+room_of : (bits : ℕ) → IsWord bits → 2 ^ 7 * 2 ^ (bits - 10) ≡ 2 ^ (bits - 3)
+room_of bits word = elim word [ inl is ↦ rw is refl | inr is ↦ rw is refl ]
+
+some_of : (bits : ℕ) → IsWord bits → 1 ≤ 2 ^ (bits - 10)
+some_of bits word = elim word [ inl is ↦ rw is (lit< tt) | inr is ↦ rw is (lit< tt) ]
+
+more_of : (bits : ℕ) → IsWord bits → 2 ^ (bits - 3) ≤ 2 ^ (bits - 2)
+more_of bits word = pow-le-pow_right {n = 2} (lit< tt) (omega arith)
+
 -- a row's value has room for the sum with its neighbour
-pub row_small : (k i : ℕ) (b : List ℤ) → k ≤ 7 → All (IsBelow (2 ^ 118)) b → IsWithin (pos (2 ^ 125)) (bernstein k (λ j. at b (i + j)) (pos 1) (pos 2))
-row_small k i b few small = close (2 ^ k) (bernstein k (λ j. at b (i + j)) (pos 1) (pos 2)) (pow-le-pow_right {n = 2} (lit< tt) few) (row_within k i b small)
+pub row_small : (bits k i : ℕ) (b : List ℤ) → IsWord bits → k ≤ 7 → All (IsBelow (2 ^ (bits - 10))) b → IsWithin (pos (2 ^ (bits - 3))) (bernstein k (λ j. at b (i + j)) (pos 1) (pos 2))
+row_small bits k i b word few small =
+    let whole : 2 ^ k * 2 ^ (bits - 10) ≤ 2 ^ (bits - 3) = rw (sym (room_of bits word)) (mul-le-mul_right (2 ^ (bits - 10)) (pow-le-pow_right {n = 2} (lit< tt) few)) in
+    wider _ _ whole (row_within k i (2 ^ (bits - 10)) b (some_of bits word) small)
   where
-    close : (p : ℕ) (x : ℤ) → p ≤ 2 ^ 7 → IsWithin (pos (p * 2 ^ 118)) x → IsWithin (pos (2 ^ 125)) x
-    close p x few within = (omega (arith, ints), omega (arith, ints))
+    wider : (p q : ℕ) {x : ℤ} → p ≤ q → IsWithin (pos p) x → IsWithin (pos q) x
+    wider p q more within = (omega (arith, ints), omega (arith, ints))
 
 -- a row's value has room for the doublings that are left
-pub row_room : (k i : ℕ) (b : List ℤ) → k ≤ 7 → All (IsBelow (2 ^ 118)) b → IsWithin (pos (2 ^ 126)) (pos (2 ^ (7 - k)) *ℤ bernstein k (λ j. at b (i + j)) (pos 1) (pos 2))
-row_room k i b few small =
+pub row_room : (bits k i : ℕ) (b : List ℤ) → IsWord bits → k ≤ 7 → All (IsBelow (2 ^ (bits - 10))) b → IsWithin (pos (2 ^ (bits - 2))) (pos (2 ^ (7 - k)) *ℤ bernstein k (λ j. at b (i + j)) (pos 1) (pos 2))
+row_room bits k i b word few small =
     let e : 7 - k + k ≡ 7 = omega arith in
     let whole : 2 ^ (7 - k) * 2 ^ k ≡ 2 ^ 7 = sym (pow-add 2 (7 - k) k) ∙ ap (λ (n : ℕ). 2 ^ n) e in
-    close (2 ^ (7 - k)) (2 ^ k) (pos (2 ^ (7 - k)) *ℤ bernstein k (λ j. at b (i + j)) (pos 1) (pos 2)) whole
-    (within_mul (pos (2 ^ (7 - k))) (pos (2 ^ k * 2 ^ 118)) _ (omega (arith, linear)) (row_within k i b small))
+    close (2 ^ (7 - k)) (2 ^ k) (2 ^ (bits - 10)) (2 ^ (bits - 2)) _ whole (rw (room_of bits word) (more_of bits word))
+    (within_mul (pos (2 ^ (7 - k))) (pos (2 ^ k * 2 ^ (bits - 10))) _ (omega (arith, linear)) (row_within k i (2 ^ (bits - 10)) b (some_of bits word) small))
   where
-    close : (p q : ℕ) (x : ℤ) → p * q ≡ 2 ^ 7 → IsWithin (pos (p * (q * 2 ^ 118))) x → IsWithin (pos (2 ^ 126)) x
-    close p q x whole within =
-        let e : p * (q * 2 ^ 118) ≡ 2 ^ 125 = omega (arith, ap (λ (n : ℕ). n * 2 ^ 118) whole) in
+    close : (p q n most : ℕ) (x : ℤ) → p * q ≡ 2 ^ 7 → 2 ^ 7 * n ≤ most → IsWithin (pos (p * (q * n))) x → IsWithin (pos most) x
+    close p q n most x whole more within =
+        let e : p * (q * n) ≡ 2 ^ 7 * n = sym (mul_assoc p q n) ∙ ap (λ (m : ℕ). m * n) whole in
         (omega (arith, ints), omega (arith, ints))

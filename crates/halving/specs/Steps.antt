@@ -1,5 +1,5 @@
--- A word for the proof of `halve` alone: what is known after some rows of the triangle. No public clause cites it.
-use Rattle.std.specs.Prelude.{◌≡◌, ℕ, ◌+◌, ◌<◌, ◌≤◌, List, ℤ, pos}
+-- Words for the proof of `halve` alone: what is known after some rows of the triangle. No public clause cites them.
+use Rattle.std.specs.Prelude.{◌≡◌, ◌⊎◌, ℕ, ◌+◌, ◌<◌, ◌≤◌, List, ℤ, pos}
 use Rattle.fleet_math.specs.Bernstein.{at, bernstein}
 use Rattle.halving.specs.Part.{part_value}
 
@@ -9,3 +9,7 @@ pub record HasRows (k : ℕ) (b row left right : List ℤ) : Type 0 where
   pub rows : (i : ℕ) → i + k ≤ 7 → at row i ≡ bernstein k (λ j. at b (i + j)) (pos 1) (pos 2)
   pub left_half : (j : ℕ) → j < k → at left j ≡ part_value 1 0 (at b) j
   pub right_half : (j : ℕ) → 8 ≤ j + k → j ≤ 7 → at right j ≡ part_value 1 1 (at b) j
+
+-- numbers of 64 bits, or of 128
+abbrev pub IsWord : ℕ → Type 0
+IsWord bits = (bits ≡ 64) ⊎ (bits ≡ 128)

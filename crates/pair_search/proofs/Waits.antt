@@ -1,48 +1,13 @@
 -- Parts that wait.
-use Rattle.std.proofs.Common.{◌≡◌, ◌+◌, ◌≤◌, ℕ, arith, sym, ◌∙◌, subst, ap, refl, List, [], ◌∷◌, length, drop, Option, Some}
-use Rattle.std.proofs.lemmas.List.{drop-drop}
-use Rattle.bezier_core.specs.declared.Bez.{Bez}
+use Rattle.std.proofs.Common.{◌≡◌, ◌≤◌, ℕ, arith, subst, List, ◌∷◌, Option, Some}
 use Rattle.halving.specs.declared.Place.{Place}
 use Rattle.sep_parts.specs.declared.node.Node.{Node}
 use Rattle.sep_parts.specs.declared.node.Node.TheVariants.{Split, Leaf}
 use Rattle.sep_parts.specs.declared.stack.Level.{Level}
-use Rattle.sep_parts.specs.Levels.{IsLevel, IsStack, left_half, places_of, right_half}
 use Rattle.sep_parts.specs.Trees.{IsShallow}
-use Rattle.sep_parts.proofs.Stacks.{pushed}
+use Rattle.sep_parts.proofs.Stacks.{next_same}
 use Rattle.pair_search.specs.Steps.{node_for}
 use Rattle.pair_search.proofs.Trees.{split_for}
-
--- one part less
-pub drop_one : (t : ℕ) (xs now : List Level) → drop t xs ≡ now → drop (t + 1) xs ≡ drop 1 now
-drop_one t xs now is = sym (drop-drop 1 t xs) ∙ ap (λ (l : List Level). drop 1 l) is
-
--- what is known of the next part
-pub next_told : (diff : List (Bez 8)) (old : List Level) (level : Level) → old ≡ level ∷ drop 1 old → IsStack diff old → (length (drop 1 old) ≤ level.place.depth) × IsLevel diff level × IsStack diff (drop 1 old)
-next_told diff old level is stack = subst (λ (s : List Level). IsStack diff s) is stack
-
--- the next part is one part alone
-pub next_same : (old rest other : List Level) (level next : Level) → old ≡ level ∷ rest → old ≡ next ∷ other → (level ≡ next) × (rest ≡ other)
-next_same old rest other level next is same = (cc, cc)
-
-pub stack_rest : (diff : List (Bez 8)) (old new : List Level) → 1 ≤ length old → new ≡ drop 1 old → IsStack diff old → IsStack diff new
-stack_rest diff [] new some is stack = absurd (omega arith)
-stack_rest diff (level ∷ rest) new some is stack = rw is stack.2
-
-pub places_rest : (old new rest : List Level) (level : Level) → new ≡ drop 1 old → old ≡ level ∷ rest → places_of new ≡ places_of rest
-places_rest old new rest level is old_is = rw (is, old_is) refl
-
--- the halves of the next part in its place
-pub stack_halved : (diff : List (Bez 8)) (old rest middle new : List Level) (level left right : Level) → old ≡ level ∷ drop 1 old → IsStack diff old → rest ≡ drop 1 old →
-    left.place ≡ left_half level.place → right.place ≡ right_half level.place → IsLevel diff left → IsLevel diff right → middle ≡ right ∷ rest → new ≡ left ∷ middle → IsStack diff new
-stack_halved diff old rest middle new level left right is stack rest_is left_is right_is left_level right_level middle_is new_is =
-    let told = next_told diff old level is stack in
-    pushed diff level left right (drop 1 old) middle new told.2 told.0 left_is right_is left_level right_level (subst (λ (s : List Level). middle ≡ right ∷ s) rest_is middle_is) new_is
-
-pub places_halved : (old rest middle new other : List Level) (level next left right : Level) → old ≡ level ∷ drop 1 old → rest ≡ drop 1 old → left.place ≡ left_half level.place → right.place ≡ right_half level.place →
-    middle ≡ right ∷ rest → new ≡ left ∷ middle → old ≡ next ∷ other → places_of new ≡ left_half next.place ∷ right_half next.place ∷ places_of other
-places_halved old rest middle new other level next left right is rest_is left_is right_is middle_is new_is same =
-    let one = next_same old (drop 1 old) other level next is same in
-    rw (new_is, middle_is, rest_is, left_is, right_is) (rw (one.0, one.1) refl)
 
 -- a part that is split is less deep than 8
 pub next_shallow : (first : Place → Option ℕ) (depth : ℕ) (old rest other : List Level) (level next : Level) (node : Node) → depth ≤ 8 → node_for first depth level.place ≡ Some node →
@@ -53,6 +18,3 @@ next_shallow first depth old rest other level next node few found is same =
     shallow : (node : Node) → node_for first depth level.place ≡ Some node → IsShallow level.place node
     shallow Split found = omega (arith, few, (split_for first depth level.place found).1)
     shallow (Leaf dir) found = tt
-
-pub some_next : (old rest : List Level) (level : Level) → old ≡ level ∷ rest → 1 ≤ length old
-some_next old rest level is = rw is (omega arith)

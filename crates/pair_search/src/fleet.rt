@@ -1,6 +1,6 @@
 //! The search of a fleet: each pair of drones in each cue.
 
-ghost use Rattle.std.specs.Prelude.{◌≡◌, ◌^◌, ◌≤◌, [], All, IsTrue, OnOk};
+ghost use Rattle.std.specs.Prelude.{◌≡◌, ◌^◌, ◌≤◌, [], ◌∷◌, ◌++◌, All, IsTrue, OnOk};
 ghost use Rattle.fleet_math.specs.Numbers.{IsBelow};
 ghost use Rattle.sep_parts.specs.Slots.{IsSlot};
 ghost use Rattle.sep_parts.specs.Levels.{root};
@@ -16,12 +16,11 @@ use crate::extents::{Extent, are_far, extent_at, extents_of, has_axes};
 use crate::lanes::{Lanes, lanes_of};
 use crate::opposites::{Opposites, opposites_of};
 use crate::shape::count_with;
-use crate::waiting::Waiting;
 use crate::walk::{Found, search_by};
 use bezier_core::Bez;
 use fleet_curves::Curves;
 use listed::Listed;
-use sep_parts::{Node, Ruler, Slot};
+use sep_parts::{Node, Ruler, Slot, Waiting};
 use std::alloc::{AllocError, Global};
 
 /// Why a search of a fleet finds no trees.
@@ -76,6 +75,18 @@ fn tree_of<const M: usize>(
     }
 }
 
+// A tree after the others, in memory of its own, no more than its nodes take.
+fn add_tree(
+    alloc: Global,
+    nodes: &[Node],
+    trees: &mut Vec<Listed<Node>>,
+) -> Result<(), AllocError>
+    ensures { OnOk result (trees.new.items ≡ trees.old.items ++ nodes.now ∷ []) }
+{
+    trees.push(Listed::from_vec(nodes.to_vec(alloc)?))?;
+    Ok(())
+}
+
 /// The trees of a fleet, one for each pair of drones and each cue, in the order of slots: the nodes, in preorder, of the tree with
 /// the largest possible leaves, each with the first direction of the ruler that separates its part. `depth` is the greatest depth
 /// of a part, 0 to 8.
@@ -95,11 +106,12 @@ pub fn search_all<const M: usize>(
     let cues = curves.cues();
     let lanes = lanes_of(ruler);
     let mut trees = Vec::new(alloc);
+    let mut nodes = Vec::new(alloc);
     let mut slot = Slot::first();
     while usize::from(slot.b) < drones {
-        let mut nodes = Vec::new(alloc);
+        nodes.clear();
         tree_of(curves, ruler, &lanes, depth, slot, &mut nodes)?;
-        let Ok(()) = trees.push(Listed::from_vec(nodes)) else {
+        let Ok(()) = add_tree(alloc, nodes.as_slice(), &mut trees) else {
             return Err(SearchFault::Memory);
         };
         slot = slot.next(drones, cues);

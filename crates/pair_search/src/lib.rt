@@ -17,7 +17,6 @@ mod lanes;
 mod opposites;
 mod shape;
 mod some;
-mod waiting;
 mod walk;
 
 pub use fleet::{SearchFault, count_all, search_all};

@@ -10,10 +10,9 @@ ghost use Rattle.pair_search.specs.Steps.{CountGives, marked, node_for};
 
 use crate::opposites::Opposites;
 use crate::some::some_direction;
-use crate::waiting::Waiting;
 use crate::walk::sizes_law;
 use bezier_core::Bez;
-use sep_parts::{Level, Node, Ruler};
+use sep_parts::{Level, Node, Ruler, Waiting};
 
 /// How many nodes the best tree of a cue has, or the first part that no direction separates. `hint` is the number of a direction that
 /// is tried first, and becomes that of the last one that separated a part; it changes nothing of what is found. `waiting` is

@@ -13,10 +13,9 @@ ghost use Rattle.pair_search.specs.Steps.{WalkGives, node_for};
 
 use crate::first::first_direction;
 use crate::lanes::{Lanes, lanes_of};
-use crate::waiting::Waiting;
 use bezier_core::Bez;
 use halving::Place;
-use sep_parts::{Clearance, Dirs, Level, Node, Ruler};
+use sep_parts::{Clearance, Dirs, Level, Node, Ruler, Waiting};
 use std::alloc::AllocError;
 
 /// What a search found.

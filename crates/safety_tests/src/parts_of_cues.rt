@@ -6,8 +6,7 @@ ghost use Rattle.fleet_math.specs.Numbers.{IsBelow};
 use bezier_core::Bez;
 use halving::Place;
 use sep_parts::{
-    Level, Node, Slot, Stack, above, first_below, halves, level_halves, low_control, projected,
-    separates,
+    Node, Slot, Waiting, above, first_below, halves, low_control, projected, separates,
 };
 use std::test::Fail;
 
@@ -156,8 +155,11 @@ fn both_halves_of_a_cue(rt: HostRuntime) -> Result<(), Fail> {
     Ok(())
 }
 
-// Whether a level stands at a place, and has these control values on x.
-fn is_at(level: &Level, depth: u8, index: u16, x: [i128; 8]) -> bool {
+// Whether the next part stands at a place, and has these control values on x.
+fn is_at(waiting: &Waiting, depth: u8, index: u16, x: [i128; 8]) -> bool {
+    let Some(level) = waiting.next() else {
+        return false;
+    };
     level.place.depth == depth && level.place.index == index && level.part[0].b == x
 }
 
@@ -173,31 +175,18 @@ fn halves_wait_in_order(rt: HostRuntime) -> Result<(), Fail> {
         b: [0, 0, 0, 0, 1, 1, 1, 1],
     };
     let diff = [step, Bez::<8> { b: [0; 8] }, Bez::<8> { b: [5; 8] }];
-    let whole = Level {
-        place: Place { depth: 0, index: 0 },
-        part: diff,
-    };
-    let (first, second) = level_halves(&diff, &whole);
-    assert!(rt; is_at(&first, 1, 0, [0, 0, 0, 0, 8, 24, 44, 64]));
-    assert!(rt; is_at(&second, 1, 1, [64, 84, 104, 120, 128, 128, 128, 128]));
-    let mut stack = Stack::of(second);
-    let Some(top) = stack.pop() else {
-        assert!(rt; false);
-        return Ok(());
-    };
-    stack.push_below(&diff, &top, Node::Leaf { dir: 0 });
-    assert!(rt; stack.pop().is_none());
-    stack.push_below(&diff, &top, Node::Split);
-    let Some(third) = stack.pop() else {
-        assert!(rt; false);
-        return Ok(());
-    };
-    assert!(rt; is_at(&third, 2, 2, THIRD_QUARTER));
-    let Some(last) = stack.pop() else {
-        assert!(rt; false);
-        return Ok(());
-    };
-    assert!(rt; is_at(&last, 2, 3, LAST_QUARTER));
-    assert!(rt; stack.pop().is_none());
+    let mut waiting = Waiting::none();
+    assert!(rt; waiting.next().is_none());
+    waiting.begin(&diff);
+    waiting.pass(&diff, Node::Split);
+    assert!(rt; is_at(&waiting, 1, 0, [0, 0, 0, 0, 8, 24, 44, 64]));
+    waiting.pass(&diff, Node::Leaf { dir: 0 });
+    assert!(rt; is_at(&waiting, 1, 1, [64, 84, 104, 120, 128, 128, 128, 128]));
+    waiting.pass(&diff, Node::Split);
+    assert!(rt; is_at(&waiting, 2, 2, THIRD_QUARTER));
+    waiting.pass(&diff, Node::Leaf { dir: 0 });
+    assert!(rt; is_at(&waiting, 2, 3, LAST_QUARTER));
+    waiting.pass(&diff, Node::Leaf { dir: 0 });
+    assert!(rt; waiting.next().is_none());
     Ok(())
 }

@@ -53,59 +53,44 @@ part-small e m k f place small below =
     below_wide (2 ^ (7 * e)) (part_value e m f k) (pow-le-pow_right {n = 2} (lit< tt) few)
     (part-within e m k f (pos (2 ^ 30 - 1)) place.1 small (λ i low. within_of (f i) (below i low)))
 
+-- the values of a part that is halved at most so many times
+pub level_below : (most n : ℕ) (diff : List (Bez 8)) (level : Level) → level.place.depth ≤ most → 2 ^ (7 * most) * 2 ^ 30 ≤ n → 1 ≤ n → IsLevel diff level →
+    All (λ (curve : Bez 8). All (IsBelow (2 ^ 30)) curve.b) diff → All (λ (curve : Bez 8). All (IsBelow n) curve.b) level.part
+level_below most n diff level shallow room some is small =
+    All-from_get_or (λ (curve : Bez 8). All (IsBelow n) curve.b) level.part (record { b = [] })
+    (λ axis inside. All-from_get_or (IsBelow n) (controls level.part axis) (pos 0) (λ k low. one axis k inside low))
+  where
+    below : (p q : ℕ) (x : ℤ) → p ≤ q → q * 2 ^ 30 ≤ n → IsWithin (pos p *ℤ pos (2 ^ 30 - 1)) x → IsBelow n x
+    below p q x few enough within = (omega (arith, ints, some), omega (arith, ints, some))
+
+    one : (axis k : ℕ) → axis < length level.part → k < length (controls level.part axis) → IsBelow n (at (controls level.part axis) k)
+    one axis k inside low =
+        let axis_is : axis ≤ 2 = omega (arith, is.axes) in
+        let values : controls level.part axis ≡ eight (part_value level.place.depth level.place.index (at (controls diff axis))) = is.part axis axis_is in
+        let few : k ≤ 7 = omega (arith, ap (λ (xs : List ℤ). length xs) values) in
+        let shift : 7 * level.place.depth ≤ 7 * most = omega arith in
+        rw values (rw (at-eight (part_value level.place.depth level.place.index (at (controls diff axis))) k few)
+        (below (2 ^ (7 * level.place.depth)) (2 ^ (7 * most)) (part_value level.place.depth level.place.index (at (controls diff axis)) k) (pow-le-pow_right {n = 2} (lit< tt) shift) room
+        (part-within level.place.depth level.place.index k (at (controls diff axis)) (pos (2 ^ 30 - 1)) is.place.1 few (λ i near. within_of (at (controls diff axis) i) (controls_below (2 ^ 30) diff axis i (lit< tt) small)))))
+
 pub level_small : (diff : List (Bez 8)) (level : Level) → IsLevel diff level → All (λ (curve : Bez 8). All (IsBelow (2 ^ 30)) curve.b) diff →
     All (λ (curve : Bez 8). All (IsBelow (2 ^ 86)) curve.b) level.part
-level_small diff level is small =
-    All-from_get_or (λ (curve : Bez 8). All (IsBelow (2 ^ 86)) curve.b) level.part (record { b = [] })
-    (λ axis inside. All-from_get_or (IsBelow (2 ^ 86)) (controls level.part axis) (pos 0) (λ k low. one axis k inside low))
-  where
-    one : (axis k : ℕ) → axis < length level.part → k < length (controls level.part axis) → IsBelow (2 ^ 86) (at (controls level.part axis) k)
-    one axis k inside low =
-        let axis_is : axis ≤ 2 = omega (arith, is.axes) in
-        let values : controls level.part axis ≡ eight (part_value level.place.depth level.place.index (at (controls diff axis))) = is.part axis axis_is in
-        let few : k ≤ 7 = omega (arith, ap (λ (xs : List ℤ). length xs) values) in
-        rw values (rw (at-eight (part_value level.place.depth level.place.index (at (controls diff axis))) k few)
-        (part-small level.place.depth level.place.index k (at (controls diff axis)) is.place few (λ i near. controls_below (2 ^ 30) diff axis i (lit< tt) small)))
+level_small diff level is small = level_below 8 (2 ^ 86) diff level is.place.0 (omega arith) (lit< tt) is small
 
--- the values of a part that is halved at most twice
-below_narrow : (p : ℕ) (x : ℤ) → p ≤ 2 ^ 14 → IsWithin (pos p *ℤ pos (2 ^ 30 - 1)) x → IsBelow (2 ^ 46) x
-below_narrow p x few within = (omega (arith, ints), omega (arith, ints))
-
+-- of one that is halved at most twice
 pub level_narrow : (diff : List (Bez 8)) (level : Level) → level.place.depth ≤ 2 → IsLevel diff level → All (λ (curve : Bez 8). All (IsBelow (2 ^ 30)) curve.b) diff →
     All (λ (curve : Bez 8). All (IsBelow (2 ^ 46)) curve.b) level.part
-level_narrow diff level shallow is small =
-    All-from_get_or (λ (curve : Bez 8). All (IsBelow (2 ^ 46)) curve.b) level.part (record { b = [] })
-    (λ axis inside. All-from_get_or (IsBelow (2 ^ 46)) (controls level.part axis) (pos 0) (λ k low. one axis k inside low))
-  where
-    one : (axis k : ℕ) → axis < length level.part → k < length (controls level.part axis) → IsBelow (2 ^ 46) (at (controls level.part axis) k)
-    one axis k inside low =
-        let axis_is : axis ≤ 2 = omega (arith, is.axes) in
-        let values : controls level.part axis ≡ eight (part_value level.place.depth level.place.index (at (controls diff axis))) = is.part axis axis_is in
-        let few : k ≤ 7 = omega (arith, ap (λ (xs : List ℤ). length xs) values) in
-        let shift : 7 * level.place.depth ≤ 14 = omega arith in
-        rw values (rw (at-eight (part_value level.place.depth level.place.index (at (controls diff axis))) k few)
-        (below_narrow (2 ^ (7 * level.place.depth)) (part_value level.place.depth level.place.index (at (controls diff axis)) k) (pow-le-pow_right {n = 2} (lit< tt) shift)
-        (part-within level.place.depth level.place.index k (at (controls diff axis)) (pos (2 ^ 30 - 1)) is.place.1 few (λ i near. within_of (at (controls diff axis) i) (controls_below (2 ^ 30) diff axis i (lit< tt) small)))))
+level_narrow diff level shallow is small = level_below 2 (2 ^ 46) diff level shallow (omega arith) (lit< tt) is small
 
--- the values of a part that is halved at most four times
-below_short : (p : ℕ) (x : ℤ) → p ≤ 2 ^ 28 → IsWithin (pos p *ℤ pos (2 ^ 30 - 1)) x → IsBelow (2 ^ 58) x
-below_short p x few within = (omega (arith, ints), omega (arith, ints))
+-- of one that is halved at most three times, whose halves are made in 64 bits
+pub level_halved : (diff : List (Bez 8)) (level : Level) → level.place.depth < 4 → IsLevel diff level → All (λ (curve : Bez 8). All (IsBelow (2 ^ 30)) curve.b) diff →
+    All (λ (curve : Bez 8). All (IsBelow (2 ^ 54)) curve.b) level.part
+level_halved diff level shallow is small = level_below 3 (2 ^ 54) diff level (omega arith) (omega arith) (lit< tt) is small
 
+-- of one that is halved at most four times
 pub level_short : (diff : List (Bez 8)) (level : Level) → level.place.depth ≤ 4 → IsLevel diff level → All (λ (curve : Bez 8). All (IsBelow (2 ^ 30)) curve.b) diff →
     All (λ (curve : Bez 8). All (IsBelow (2 ^ 58)) curve.b) level.part
-level_short diff level shallow is small =
-    All-from_get_or (λ (curve : Bez 8). All (IsBelow (2 ^ 58)) curve.b) level.part (record { b = [] })
-    (λ axis inside. All-from_get_or (IsBelow (2 ^ 58)) (controls level.part axis) (pos 0) (λ k low. one axis k inside low))
-  where
-    one : (axis k : ℕ) → axis < length level.part → k < length (controls level.part axis) → IsBelow (2 ^ 58) (at (controls level.part axis) k)
-    one axis k inside low =
-        let axis_is : axis ≤ 2 = omega (arith, is.axes) in
-        let values : controls level.part axis ≡ eight (part_value level.place.depth level.place.index (at (controls diff axis))) = is.part axis axis_is in
-        let few : k ≤ 7 = omega (arith, ap (λ (xs : List ℤ). length xs) values) in
-        let shift : 7 * level.place.depth ≤ 28 = omega arith in
-        rw values (rw (at-eight (part_value level.place.depth level.place.index (at (controls diff axis))) k few)
-        (below_short (2 ^ (7 * level.place.depth)) (part_value level.place.depth level.place.index (at (controls diff axis)) k) (pow-le-pow_right {n = 2} (lit< tt) shift)
-        (part-within level.place.depth level.place.index k (at (controls diff axis)) (pos (2 ^ 30 - 1)) is.place.1 few (λ i near. within_of (at (controls diff axis) i) (controls_below (2 ^ 30) diff axis i (lit< tt) small)))))
+level_short diff level shallow is small = level_below 4 (2 ^ 58) diff level shallow (omega arith) (lit< tt) is small
 
 -- ---- halves
 half-part : (e m r : ℕ) (f : ℕ → ℤ) (b : List ℤ) → r ≤ 1 → b ≡ eight (part_value e m f) → eight (part_value 1 r (at b)) ≡ eight (part_value (e + 1) (2 * m + r) f)

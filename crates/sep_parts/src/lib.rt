@@ -17,6 +17,7 @@ mod ruler;
 mod rules;
 mod slot;
 mod stack;
+mod waiting;
 
 pub use apart::apart_law;
 pub use clearance::Clearance;
@@ -26,4 +27,5 @@ pub use part::{above, first_below, halves, low_control, projected, separates, si
 pub use ruler::Ruler;
 pub use rules::Rules;
 pub use slot::Slot;
-pub use stack::{Level, Stack, level_halves};
+pub use stack::{Level, parts_below};
+pub use waiting::Waiting;

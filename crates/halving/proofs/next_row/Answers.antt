@@ -10,16 +10,26 @@ use Rattle.halving.proofs.next_row.Goals as goal
 pub doubled-requires-clause-room : goal.doubled-requires-clause-room
 doubled-requires-clause-room g c =
     let x_fits : FitsSigned w128 (get_or c.args.row.now 0 (pos 0)) = search rules in
-    simp to_z-of_z (rw (c.requires.before.rows 0 (omega arith)) (row_room g.row.K 0 c.args.b.now.b c.requires.place c.requires.values))
+    simp to_z-of_z (rw (c.requires.before.rows 0 (omega arith)) (row_room g.row.BITS g.row.K 0 c.args.b.now.b c.requires.word c.requires.place c.requires.values))
 
 pub doubled-requires-2-clause-room : goal.doubled-requires-2-clause-room
 doubled-requires-2-clause-room g c =
     let x_fits : FitsSigned w128 (get_or c.args.row.now (7 - g.row.K) (pos 0)) = search rules in
-    simp to_z-of_z (rw (c.requires.before.rows (7 - g.row.K) (omega arith)) (row_room g.row.K (7 - g.row.K) c.args.b.now.b c.requires.place c.requires.values))
+    simp to_z-of_z (rw (c.requires.before.rows (7 - g.row.K) (omega arith)) (row_room g.row.BITS g.row.K (7 - g.row.K) c.args.b.now.b c.requires.word c.requires.place c.requires.values))
+
+pub doubled-requires-clause-value : goal.doubled-requires-clause-value
+doubled-requires-clause-value g c =
+    let x_fits : FitsSigned w128 (get_or c.args.row.now 0 (pos 0)) = search rules in
+    simp to_z-of_z (rw (c.requires.before.rows 0 (omega arith)) (row_small g.row.BITS g.row.K 0 c.args.b.now.b c.requires.word c.requires.place c.requires.values))
+
+pub doubled-requires-2-clause-value : goal.doubled-requires-2-clause-value
+doubled-requires-2-clause-value g c =
+    let x_fits : FitsSigned w128 (get_or c.args.row.now (7 - g.row.K) (pos 0)) = search rules in
+    simp to_z-of_z (rw (c.requires.before.rows (7 - g.row.K) (omega arith)) (row_small g.row.BITS g.row.K (7 - g.row.K) c.args.b.now.b c.requires.word c.requires.place c.requires.values))
 
 pub sums-requires-clause-values : goal.sums-requires-clause-values
 sums-requires-clause-values g c i small =
-    rw (c.requires.before.rows i (omega arith)) (row_small g.row.K i c.args.b.now.b c.requires.place c.requires.values)
+    rw (c.requires.before.rows i (omega arith)) (row_small g.row.BITS g.row.K i c.args.b.now.b c.requires.word c.requires.place c.requires.values)
 
 pub returns : goal.returns
 returns g c =

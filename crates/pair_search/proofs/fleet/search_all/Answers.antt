@@ -25,6 +25,6 @@ loop-alloc-preserved g c =
     c.next-slot.ensures c.drones-drones.ensures.exact c.cues-cues.ensures.exact c.loop-alloc.invariant.1 in (
       on.next,
       on.pending,
-      tree_next c.args.ruler.now c.args.depth c.args.curves.now c.loop-alloc.invariant.0 on.next c.loop-alloc.slot c.loop-alloc.trees.items c.push.new.self.items _ c.from_vec.result
-          on.is c.in-Ok.ensures.items (c.from_vec.ensures ∙ c.in_ok-tree_of.ensures.1) c.loop-alloc.invariant.2,
+      tree_next c.args.ruler.now c.args.depth c.args.curves.now c.loop-alloc.invariant.0 on.next c.loop-alloc.slot c.loop-alloc.trees.items c.add_tree.new.trees.items _ c.as_slice.result.now
+          on.is c.in-Ok.ensures (c.as_slice.ensures.value ∙ c.in_ok-tree_of.ensures.1) c.loop-alloc.invariant.2,
     )

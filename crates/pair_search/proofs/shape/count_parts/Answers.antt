@@ -8,7 +8,8 @@ use Rattle.pair_search.specs.Steps.{marked}
 use Rattle.pair_search.proofs.Halves.{left_has, right_has}
 use Rattle.pair_search.proofs.Marks.{count_begun, count_blocked, count_ended, count_past}
 use Rattle.pair_search.proofs.Trees.{begun, less_pending}
-use Rattle.pair_search.proofs.Waits.{next_shallow, some_next}
+use Rattle.sep_parts.proofs.Stacks.{some_next}
+use Rattle.pair_search.proofs.Waits.{next_shallow}
 use Rattle.pair_search.proofs.shape.count_parts.Goals as goal
 
 abbrev whole : (diff : List (Bez 8)) → Level

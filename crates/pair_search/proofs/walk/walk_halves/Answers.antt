@@ -6,7 +6,8 @@ use Rattle.sep_parts.specs.declared.node.Node.TheVariants.{Split}
 use Rattle.pair_search.specs.Search.{first_by}
 use Rattle.pair_search.proofs.Halves.{left_has, right_has}
 use Rattle.pair_search.proofs.Trees.{begun, less_pending, past_pending, blocked_pending, ended_pending}
-use Rattle.pair_search.proofs.Waits.{next_same, next_shallow, some_next}
+use Rattle.sep_parts.proofs.Stacks.{next_same, some_next}
+use Rattle.pair_search.proofs.Waits.{next_shallow}
 use Rattle.pair_search.proofs.walk.walk_halves.Goals as goal
 
 pub pass-requires : goal.pass-requires

@@ -2,13 +2,14 @@
 
 ghost use Rattle.std.specs.Prelude.{◌≡◌, ◌<◌, ◌≤◌, ◌^◌, [], ◌∷◌, ◌++◌, List, length, drop, All, MatchOption};
 ghost use Rattle.fleet_math.specs.Numbers.{IsBelow};
-ghost use Rattle.sep_parts.specs.Levels.{IsLevel, IsStack, left_half, places_of, right_half, root};
+ghost use Rattle.sep_parts.specs.Levels.{IsStack, left_half, places_of, right_half, root};
 ghost use Rattle.sep_parts.specs.Trees.{IsShallow, places_below};
 ghost use Rattle.sep_parts.specs.declared.stack.Level.{Level};
 
+use crate::node::Node;
+use crate::stack::{Level, parts_below};
 use bezier_core::Bez;
 use halving::Place;
-use sep_parts::{Level, Node, halves};
 use std::marker::Model;
 
 /// At most nine parts, the next one first: one for each depth from 0 to 8. It takes no memory.
@@ -42,6 +43,13 @@ impl Waiting {
             levels: [level; 9],
             top: 9,
         }
+    }
+
+    /// Nothing waits any more.
+    pub fn clear(&mut self)
+        ensures { self.new ≡ [] }
+    {
+        self.top = 9;
     }
 
     /// One part alone.
@@ -130,16 +138,4 @@ impl Waiting {
         self.levels[self.top].place = place;
         self.levels[self.top].part = *part;
     }
-}
-
-// The halves of a part, without their places.
-#[inline(always)]
-fn parts_below(diff: &[Bez<8>; 3], level: &Level) -> ([Bez<8>; 3], [Bez<8>; 3])
-    requires values { All (λ curve. All (IsBelow (2 ^ 30)) curve.b) diff.now }
-    requires level { IsLevel diff.now level.now }
-    requires shallow { level.now.place.depth < 8 }
-    ensures left { IsLevel diff.now (record { place = left_half level.now.place; part = result.0 }) }
-    ensures right { IsLevel diff.now (record { place = right_half level.now.place; part = result.1 }) }
-{
-    halves(&level.part)
 }

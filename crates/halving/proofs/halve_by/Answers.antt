@@ -6,33 +6,33 @@ use Rattle.bezier_core.proofs.EightLemmas.{eight_from_entries, below_at}
 use Rattle.bezier_core.proofs.SizeLemmas.{eight_below}
 use Rattle.halving.specs.Part.{part_value}
 use Rattle.halving.proofs.HalfLemmas.{half_below}
-use Rattle.halving.proofs.halve.Goals as goal
+use Rattle.halving.proofs.halve_by.Goals as goal
 
 pub next_row-requires-clause-before : goal.next_row-requires-clause-before
-next_row-requires-clause-before c = record {
+next_row-requires-clause-before g c = record {
   rows = λ i small. sym (bernstein-zero (λ j. at c.args.b.now.b (i + j)) (pos 1) (pos 2) ∙ ap (at c.args.b.now.b) (omega arith));
   left_half = λ j none. absurd (omega arith);
   right_half = λ j high low. absurd (omega arith);
 }
 
 pub returns-clause-left : goal.returns-clause-left
-returns-clause-left c =
+returns-clause-left g c =
     let left_length : length c.next_row-8.new.left ≡ 8 = search rules in
     eight_from_entries c.next_row-8.new.left (part_value 1 0 (at c.args.b.now.b)) left_length (λ k small. c.next_row-8.ensures.left_half k small)
 
 pub returns-clause-right : goal.returns-clause-right
-returns-clause-right c =
+returns-clause-right g c =
     let right_length : length c.next_row-8.new.right ≡ 8 = search rules in
     eight_from_entries c.next_row-8.new.right (part_value 1 1 (at c.args.b.now.b)) right_length (λ k small. c.next_row-8.ensures.right_half k (omega arith) (omega arith))
 
 pub returns-clause-left_small : goal.returns-clause-left_small
-returns-clause-left_small c n some below =
-    subst (λ (xs : List ℤ). All (IsBelow (2 ^ 7 * n)) xs) (sym (returns-clause-left c))
+returns-clause-left_small g c n some below =
+    subst (λ (xs : List ℤ). All (IsBelow (2 ^ 7 * n)) xs) (sym (returns-clause-left g c))
     (eight_below (2 ^ 7 * n) (part_value 1 0 (at c.args.b.now.b))
     (λ k few. half_below 0 n k (at c.args.b.now.b) (omega arith) some few (λ i low. below_at n c.args.b.now.b i some below)))
 
 pub returns-clause-right_small : goal.returns-clause-right_small
-returns-clause-right_small c n some below =
-    subst (λ (xs : List ℤ). All (IsBelow (2 ^ 7 * n)) xs) (sym (returns-clause-right c))
+returns-clause-right_small g c n some below =
+    subst (λ (xs : List ℤ). All (IsBelow (2 ^ 7 * n)) xs) (sym (returns-clause-right g c))
     (eight_below (2 ^ 7 * n) (part_value 1 1 (at c.args.b.now.b))
     (λ k few. half_below 1 n k (at c.args.b.now.b) (omega arith) some few (λ i low. below_at n c.args.b.now.b i some below)))
