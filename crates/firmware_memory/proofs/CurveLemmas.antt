@@ -10,7 +10,7 @@ use Rattle.traj_codec.specs.Spelling.{HasDuration, IsTrajectory, SpellingLaw, en
 use Rattle.upload_model.specs.declared.loads.Def.{Def}
 use Rattle.upload_model.specs.Drones.{DroneState}
 use Rattle.upload_model.specs.Sessions.{IsSession, Upload, drone_count, load_of}
-use Rattle.upload_model.specs.Theorem.{HasEntry, HasLoad}
+use Rattle.upload_model.specs.Memories.{HasEntry, HasLoad}
 use Rattle.firmware_memory.specs.Decoded.{DecodesTo, load_for}
 
 -- bytes that stand in a list from its front on

@@ -12,7 +12,7 @@ use Rattle.upload_model.specs.declared.loads.Def.{Def}
 use Rattle.upload_model.specs.declared.loads.Load.{Load}
 use Rattle.upload_model.specs.Drones.{DroneState}
 use Rattle.upload_model.specs.Sessions.{IsSession, Upload, drone_count, load_of}
-use Rattle.upload_model.specs.Theorem.{HasEntry, HasLoad}
+use Rattle.upload_model.specs.Memories.{HasEntry, HasLoad}
 
 -- A drone's memory decodes to this trajectory: its table has an entry of this id, and the bytes of its memory from the
 -- entry's offset on begin with the spelling of the trajectory, which has as many segments as the entry says.

@@ -12,7 +12,8 @@ use Rattle.upload_model.specs.declared.events.WorldEvent.{WorldEvent}
 use Rattle.upload_model.specs.Drones.{DroneState}
 use Rattle.upload_model.specs.Hosts.{progress}
 use Rattle.upload_model.specs.Sessions.{Upload, load_of}
-use Rattle.upload_model.specs.Theorem.{IsDrone, IsUnaltered, OnlyLoads}
+use Rattle.upload_model.specs.Memories.{IsDrone, OnlyLoads}
+use Rattle.upload_model.specs.Theorem.{IsUnaltered}
 use Rattle.upload_model.specs.Worlds.{World, world}
 use Rattle.choreo_show.specs.declared.show.Settings.{Settings}
 use Rattle.choreo_show.specs.Valid.{FitsSettings}

@@ -9,7 +9,8 @@ use Rattle.upload_model.specs.Drones.{DroneState}
 use Rattle.upload_model.specs.Hosts.{progress}
 use Rattle.upload_model.specs.Readback.{WasRight, is_right}
 use Rattle.upload_model.specs.Sessions.{Upload, drone_count, load_of, read_count, read_start, wanted}
-use Rattle.upload_model.specs.Theorem.{IsDrone, IsInside, IsSafe, IsUnaltered, TakesStart}
+use Rattle.upload_model.specs.Memories.{IsDrone, IsInside}
+use Rattle.upload_model.specs.Theorem.{IsSafe, IsUnaltered, TakesStart}
 use Rattle.upload_model.specs.Worlds.{world}
 use Rattle.choreo_show.specs.declared.show.Settings.{Settings}
 use Rattle.show_plan.specs.Flight.{KeepsNearShow}

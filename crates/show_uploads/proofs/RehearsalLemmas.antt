@@ -21,7 +21,8 @@ use Rattle.upload_model.specs.declared.loads.Def.{Def}
 use Rattle.upload_model.specs.Drones.{DroneState}
 use Rattle.upload_model.specs.Hosts.{progress}
 use Rattle.upload_model.specs.Sessions.{Upload}
-use Rattle.upload_model.specs.Theorem.{IsDrone, IsUnaltered}
+use Rattle.upload_model.specs.Memories.{IsDrone}
+use Rattle.upload_model.specs.Theorem.{IsUnaltered}
 use Rattle.upload_model.specs.Worlds.{World}
 use Rattle.show_judge.specs.Verb.{Outcome, outcome}
 use Rattle.show_judge.specs.Outcome.{refused}

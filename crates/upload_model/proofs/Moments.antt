@@ -1,11 +1,10 @@
 -- What holds at every moment of an upload where nobody else alters a byte: every answer ever given was
 -- given after its packet's effect, and says nothing that isn't so.
-use Rattle.std.proofs.Common.{◌≡◌, ℕ, ◌+◌, ◌-◌, ◌*◌, ◌/◌, ◌%◌, ◌^◌, ◌<◌, ◌≤◌, true, false, eqb, ltb, List, [], ◌∷◌, ◌++◌, length, get_or, refl, ap, sym, ◌∙◌, arith, Option, Some, None, IfSome, inl, inr, subst}
+use Rattle.std.proofs.Common.{◌≡◌, ℕ, ◌+◌, ◌-◌, ◌^◌, ◌<◌, ◌≤◌, true, false, eqb, ltb, List, [], ◌∷◌, ◌++◌, length, refl, ap, sym, ◌∙◌, arith, Option, Some, None, IfSome, inl, inr, subst}
 use Rattle.std.specs.Prelude.{slice_get, All}
 use Rattle.std.proofs.lemmas.Bool.{cases_Bool, cond_both, false≢true, eqb-true, ltb-true, cond-true, eq-eqb}
 use Rattle.std.proofs.lemmas.Option.{get_or_from_slice_get, slice_get_within}
 use Rattle.std.proofs.lemmas.List.Elements.{All-nil, All-cons, All-append, All-weaker}
-use Rattle.crtp_packets.specs.Chunks.{chunk_of}
 use Rattle.crtp_packets.specs.Packets.{read_answer_of}
 use Rattle.crtp_packets.specs.Reading.{up_of}
 use Rattle.upload_model.specs.declared.events.Event.{Event}
@@ -21,9 +20,10 @@ use Rattle.upload_model.specs.Sessions.{Upload, IsSession, drone_count, load_of,
 use Rattle.upload_model.specs.Replies.{ReadBack, status_in, read_in, status_reply, reply_in, reply_to, is_good, is_end, end_of}
 use Rattle.upload_model.specs.Hosts.{acked, progress}
 use Rattle.upload_model.specs.Worlds.{World, changed, start_world, host_event, option_list, took, take_named, hear_named, happens, world}
-use Rattle.upload_model.specs.Theorem.{IsDrone, HasPiece, HasEntry, HasLoad, IsSafe, IsUnaltered, IsCase, UploadLaw}
+use Rattle.upload_model.specs.Memories.{IsDrone, HasEntry, HasLoad}
+use Rattle.upload_model.specs.Theorem.{IsSafe, IsUnaltered, IsCase, UploadLaw}
 use Rattle.upload_model.proofs.Readings.{Kind, a_write, a_define, a_read, a_start, packet_kind, packet_at-read, is_read-below, is_read-past, count-loads, count-start, up_of-read_answer}
-use Rattle.upload_model.proofs.OneDrone.{accepts, refuses, Effect, OnCourse, follows, length-chunk_of, chunk_of-at, in_some_piece}
+use Rattle.upload_model.proofs.OneDrone.{accepts, refuses, Effect, OnCourse, follows, pieces_make_load}
 use Rattle.upload_model.proofs.OneRead.{read-fits, reads, read_answer_says, NoRead, session-no_read, load-wanted}
 use Rattle.upload_model.proofs.Answers.{reply-plain, reply-of_read, status-good, status-end, status-same, read-same, read-calm, reply-by}
 use Rattle.upload_model.proofs.HostLaws.{Settled, acked-cases, acked-nil, acked-done, progress-has}
@@ -228,17 +228,6 @@ holds-hear s start w h i m (Some a) n at =
     (λ same l b. subst (λ (j : ℕ). IsCalm s j a) same (All-slice_get (IsCalm s i) (w.given i) n a at (h.calm ids i m)) k b))
 
 -- ---- where all is acknowledged, all is there
-
-pieces_make_load : (s : Upload) (d : ℕ) (x : DroneState) → ((k : ℕ) → k < write_count s d → HasPiece s (load_of s d) k x) → HasLoad s (load_of s d) x
-pieces_make_load s d x pieces i l =
-    let k : ℕ = i / 24 in
-    let j : ℕ = i % 24 in
-    let inside : k < write_count s d = in_some_piece s d i l in
-    let long = length-chunk_of (load_of s d).bytes k in
-    let lj : j < length (chunk_of (load_of s d).bytes k) = omega arith in
-    let at : s.offset + 24 * k + j ≡ s.offset + i = omega arith in
-    let same : 24 * k + j ≡ i = omega arith in
-    sym (ap (λ (n : ℕ). get_or x.memory n 0) at) ∙ pieces k inside j lj ∙ chunk_of-at (load_of s d).bytes k j lj ∙ ap (λ (n : ℕ). get_or (load_of s d).bytes n 0) same
 
 pub there_loaded : (s : Upload) (start : ℕ → DroneState) (w : World) → Holds s start w → Settled s Loading (acked s w.heard) → (i : ℕ) → i < drone_count s →
     HasLoad s (load_of s i) (w.drones i) × HasEntry s (load_of s i) (w.drones i)

@@ -1,5 +1,5 @@
 -- One drone that takes a packet of the session which is no read.
-use Rattle.std.proofs.Common.{◌≡◌, ◌≢◌, ℕ, zero, suc, ◌+◌, ◌-◌, ◌*◌, ◌/◌, ◌^◌, ◌<◌, ◌≤◌, min, Bool, true, false, not, cond, ◌&&◌, eqb, ltb, List, [], ◌∷◌, length, take, drop, get_or, set, refl, ap, sym, ◌∙◌, arith, Option, Some, None, ◌⊎◌, inl, inr, subst, IfSome}
+use Rattle.std.proofs.Common.{◌≡◌, ◌≢◌, ℕ, zero, suc, ◌+◌, ◌-◌, ◌*◌, ◌/◌, ◌%◌, ◌^◌, ◌<◌, ◌≤◌, min, Bool, true, false, not, cond, ◌&&◌, eqb, ltb, List, [], ◌∷◌, length, take, drop, get_or, set, refl, ap, sym, ◌∙◌, arith, Option, Some, None, ◌⊎◌, inl, inr, subst, IfSome}
 use Rattle.std.specs.Prelude.{slice_get, slice_set}
 use Rattle.std.specs.Str.{bytes_eq}
 use Rattle.std.proofs.lemmas.Bool.{le-ltb, lt-ltb, lt-leb, eqb-true, cases_lt, cases_eq, cases_Bool, eq-eqb, ne_eqb, and_parts, false≢true, not-true}
@@ -13,7 +13,7 @@ use Rattle.upload_model.specs.Drones.{DroneState, Handled, answers, stored, writ
 use Rattle.upload_model.specs.Sessions.{Upload, IsLoad, IsSession, drone_count, load_of, write_count, start_number, packet_count, packet_at, is_read}
 use Rattle.upload_model.specs.declared.limits.TheConstants.{ACCEPTED}
 use Rattle.upload_model.specs.Replies.{status_in}
-use Rattle.upload_model.specs.Theorem.{IsInside, OnlyLoads, HasPiece, HasEntry}
+use Rattle.upload_model.specs.Memories.{IsInside, OnlyLoads, HasPiece, HasEntry, HasLoad}
 use Rattle.upload_model.proofs.Readings.{Kind, a_write, a_define, a_read, a_start, packet_kind, is_read-at, packet_at-write, packet_at-define, packet_at-start, down_of-write, command_of-define, up_of-write_answer}
 
 -- ---- a memory after a write
@@ -48,6 +48,18 @@ write_count-below s d k h = omega arith
 pub in_some_piece : (s : Upload) (d i : ℕ) → i < length (load_of s d).bytes → i / 24 < write_count s d
 unfolding write_count
 in_some_piece s d i h = omega arith
+
+-- a memory with each piece has the load
+pub pieces_make_load : (s : Upload) (d : ℕ) (x : DroneState) → ((k : ℕ) → k < write_count s d → HasPiece s (load_of s d) k x) → HasLoad s (load_of s d) x
+pieces_make_load s d x pieces i l =
+    let k : ℕ = i / 24 in
+    let j : ℕ = i % 24 in
+    let inside : k < write_count s d = in_some_piece s d i l in
+    let long = length-chunk_of (load_of s d).bytes k in
+    let lj : j < length (chunk_of (load_of s d).bytes k) = omega arith in
+    let at : s.offset + 24 * k + j ≡ s.offset + i = omega arith in
+    let same : 24 * k + j ≡ i = omega arith in
+    sym (ap (λ (n : ℕ). get_or x.memory n 0) at) ∙ pieces k inside j lj ∙ chunk_of-at (load_of s d).bytes k j lj ∙ ap (λ (n : ℕ). get_or (load_of s d).bytes n 0) same
 
 -- ---- statuses
 
@@ -108,7 +120,7 @@ write_taken-good : (x : DroneState) (id a : ℕ) (piece : List ℕ) → id ≡ x
     write_taken x id a piece ≡ answers (record x { memory = stored x.memory a piece }) (write_answer_of id a 0)
 write_taken-good x id a piece h fits = rw (eq-eqb id x.memory_id h, le-ltb 4096 (a + length piece) fits) refl
 
-status-write_answer : (s : Upload) (d j id address status : ℕ) → address < 2 ^ 32 →
+pub status-write_answer : (s : Upload) (d j id address status : ℕ) → address < 2 ^ 32 →
     status_in s d j (up_of (write_answer_of id address status))
     ≡ cond (ltb j (write_count s d) && eqb id s.memory_id && eqb address (s.offset + 24 * j)) (Some status) None
 status-write_answer s d j id address status fits = ap (status_in s d j) (up_of-write_answer id address status fits)

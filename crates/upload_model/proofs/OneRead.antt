@@ -8,7 +8,7 @@ use Rattle.crtp_packets.specs.Commands.{start_of, answer_of}
 use Rattle.crtp_packets.specs.Chunks.{chunk_of}
 use Rattle.upload_model.specs.Drones.{DroneState, Handled, answers, stored, has_entry, write_taken, read_taken, message_taken, handled}
 use Rattle.upload_model.specs.Sessions.{Upload, IsLoad, IsSession, drone_count, load_of, part_count, read_count, read_address, wanted, read_at, packet_count, packet_at, is_read}
-use Rattle.upload_model.specs.Theorem.{HasLoad}
+use Rattle.upload_model.specs.Memories.{HasLoad}
 use Rattle.upload_model.proofs.Readings.{Kind, a_write, a_define, a_read, a_start, packet_kind, packet_at-define, packet_at-start, is_read-at, up_of-write_answer, down_of-read, up_of-read_answer}
 use Rattle.upload_model.proofs.OneDrone.{handled-write, handled-define, handled-start, length-chunk_of, write_count-below}
 use Rattle.upload_model.specs.Replies.{ReadBack, read_in}

@@ -14,6 +14,7 @@ use Rattle.upload_model.specs.Drones.{DroneState, handled}
 use Rattle.upload_model.specs.Sessions.{Upload, part_count, write_count, read_count, packet_at, packet_count, packets_of}
 use Rattle.upload_model.specs.Replies.{reply_in, reply_to}
 use Rattle.upload_model.specs.Hosts.{all_settled, phase_of, flight_in, flight_at, flight, acknowledges, acked_from, acked, ticks, all_packets, ending, progress_within, progress, out}
+use Rattle.upload_model.specs.Taking.{taken, accepting, IsAccepted}
 use Rattle.upload_model.specs.Worlds.{world, start_world, host_event, happens}
 
 abbrev path : List ℕ
@@ -82,6 +83,40 @@ packets_readback : map (packet_at (with_readback true) 0) (range_with_len 2 4) �
     ∷ (0x8C ∷ 5 ∷ 0 ∷ 0 ∷ 0 ∷ 0 ∷ 0 ∷ 0 ∷ 0x80 ∷ 0x3F ∷ []) ∷ []
 unfolding ends ends_after memory_after started_after sends heard_next handled part_count write_count read_count packet_at packet_count reply_in reply_to all_settled phase_of flight_in flight_at acknowledges acked_from acked ticks all_packets ending progress_within progress out start_world host_event happens
 packets_readback = refl
+
+-- ---- taken in any order
+
+-- a start before the define is refused, the writes come turned round, and three packets come again
+abbrev order : List ℕ
+order = 3 ∷ 1 ∷ 2 ∷ 0 ∷ 3 ∷ 1 ∷ 2 ∷ []
+
+unfoldable drone_after : List ℕ → DroneState
+drone_after ks = taken (session true) 0 (blank 0) ks
+
+taken_memory : (drone_after order).memory ≡ path ++ replicate 112 255
+unfolding drone_after handled write_count read_count packet_at
+taken_memory = refl
+
+taken_early : (drone_after (3 ∷ 1 ∷ [])).started ≡ None
+unfolding drone_after handled write_count read_count packet_at
+taken_early = refl
+
+taken_started : (drone_after order).started ≡ Some 0
+unfolding drone_after handled write_count read_count packet_at
+taken_started = refl
+
+-- the start is accepted at place 4, and its answer is the one of the document
+start_accepted : IsAccepted (session true) 0 (blank 0) order 3
+unfolding drone_after handled write_count read_count packet_at
+start_accepted = (4, refl, refl)
+
+start_accepting : accepting (session true) 0 3 ≡ 0x8C ∷ 5 ∷ 0 ∷ 0 ∷ 0 ∷ []
+unfolding drone_after handled write_count read_count packet_at
+start_accepting = refl
+
+write_accepting : accepting (session true) 0 1 ≡ 0x4E ∷ 2 ∷ 24 ∷ 0 ∷ 0 ∷ 0 ∷ 0 ∷ []
+unfolding drone_after handled write_count read_count packet_at
+write_accepting = refl
 
 -- ---- without read-back
 

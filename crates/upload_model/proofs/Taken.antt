@@ -1,5 +1,5 @@
 -- At Done each drone has taken a start, whoever else alters a byte: only a start is answered as one.
-use Rattle.std.proofs.Common.{◌≡◌, ℕ, ◌+◌, ◌*◌, ◌^◌, ◌<◌, ◌≤◌, Bool, true, false, not, cond, ◌&&◌, eqb, ltb, List, [], ◌∷◌, ◌++◌, length, take, drop, refl, ap, sym, ◌∙◌, arith, Option, Some, None, inl, inr, subst, IfSome}
+use Rattle.std.proofs.Common.{◌≡◌, ℕ, ◌+◌, ◌*◌, ◌^◌, ◌<◌, ◌≤◌, Bool, true, false, not, cond, ◌&&◌, eqb, ltb, List, [], ◌∷◌, ◌++◌, length, take, drop, refl, ap, sym, ◌∙◌, arith, Some, None, inl, inr, subst, IfSome}
 use Rattle.std.specs.Prelude.{slice_get}
 use Rattle.std.specs.Str.{bytes_eq}
 use Rattle.std.proofs.lemmas.Bool.{cases_eq, cond_both, false≢true, le-ltb}
@@ -22,6 +22,7 @@ use Rattle.upload_model.specs.Theorem.{IsCase, TakesStart, TakenLaw}
 use Rattle.upload_model.proofs.Readings.{Kind, a_write, a_define, a_read, a_start, packet_kind, packet_at-define, packet_at-read, packet_at-start, is_read-past, count-start, up_of-write_answer, up_of-read_answer}
 use Rattle.upload_model.proofs.OneDrone.{accepts, handled-write, handled-define, length-chunk_of, write_count-below}
 use Rattle.upload_model.proofs.OneRead.{read-fits, reads}
+use Rattle.upload_model.proofs.Taking.{if_some}
 use Rattle.upload_model.proofs.Answers.{reply-plain, status-good, good-heard}
 use Rattle.upload_model.proofs.HostLaws.{acked-cases, acked-nil, acked-done}
 use Rattle.upload_model.proofs.HostSteps.{slice_get-before, acked-tick}
@@ -79,9 +80,6 @@ other-no_start s d k x session l (a_read j m e) other =
     subst (λ (z : Handled). IfSome z.answer (NoStart s d)) (sym (ap (handled x) (packet_at-read s d k j m e) ∙ y.is))
     (no_start-read s d s.memory_id (read_address s j) y.status y.bytes (omega arith))
 other-no_start s d k x session l (a_start e f) other = absurd (other e)
-
-if_some : (o : Option (List ℕ)) (a : List ℕ) (P : List ℕ → Type 0) → o ≡ Some a → IfSome o P → P a
-if_some o a P e h = subst (λ (q : Option (List ℕ)). IfSome q P) e h
 
 -- a packet that was sent and answered as a start is one
 answered_start : (s : Upload) (h : List Event) (d : ℕ) (x : DroneState) (packet a : List ℕ) → IsSession s → d < drone_count s → IsSent s h d packet →

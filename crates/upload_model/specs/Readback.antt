@@ -10,7 +10,8 @@ use Rattle.upload_model.specs.Drones.{DroneState}
 use Rattle.upload_model.specs.Sessions.{Upload, drone_count, load_of, load_count, read_count, read_start, read_address, wanted}
 use Rattle.upload_model.specs.Hosts.{acked, progress}
 use Rattle.upload_model.specs.Worlds.{world}
-use Rattle.upload_model.specs.Theorem.{IsCase, IsInside}
+use Rattle.upload_model.specs.Memories.{IsInside}
+use Rattle.upload_model.specs.Theorem.{IsCase}
 
 -- Read k of drone d is right after the events h: it is acknowledged.
 abbrev pub is_right : Upload → List Event → ℕ → ℕ → Bool

@@ -4,6 +4,7 @@ ghost use Rattle.std.specs.Prelude.{◌≡◌};
 ghost use Rattle.upload_model.specs.Theorem.{UploadLaw, StartLaw, UnstartedLaw, TakenLaw, LastingLaw};
 ghost use Rattle.upload_model.specs.Starts.{BeginLaw};
 ghost use Rattle.upload_model.specs.Readback.{ReadsCover, VerifiedLaw, StartsLastLaw};
+ghost use Rattle.upload_model.specs.Taking.{TakingLaw};
 
 use crate::limits::*;
 
@@ -24,6 +25,12 @@ pub fn readback_law()
     ensures cover { ReadsCover }
     ensures verified { VerifiedLaw }
     ensures starts { StartsLastLaw }
+{}
+
+/// Whoever sends them, in whatever order and however often: once a drone's writes, its define and its start are accepted, it has its load
+/// and its entry and has started. Nothing but the load is written.
+pub fn taking_law()
+    ensures { TakingLaw }
 {}
 
 /// A law. The numbers of the drone's model and of the upload, which the definitions cite by their names
