@@ -1,8 +1,11 @@
 //! Curves of degree seven in whole numbers: for the plain programs that cut them.
-use std::ops::{Add, Mul, Shl};
+use std::ops::{Add, Mul, Shl, Sub};
 
 /// Whole numbers, of 64 bits or of 128.
-pub trait Whole: Copy + Default + Ord + Add<Output = Self> + Mul<Output = Self> + Shl<u32, Output = Self> {}
+pub trait Whole:
+    Copy + Default + Ord + Add<Output = Self> + Sub<Output = Self> + Mul<Output = Self> + Shl<u32, Output = Self>
+{
+}
 
 impl Whole for i64 {}
 impl Whole for i128 {}
@@ -26,18 +29,34 @@ pub const CHOOSE: [[i64; 8]; 8] = {
     rows
 };
 
+/// By degree, for each control value of degree seven, how often each control value goes into 5,040 times it.
+const SHARES: [[[i64; 8]; 8]; 8] = {
+    let mut shares = [[[0; 8]; 8]; 8];
+    let mut n = 0;
+    while n < 8 {
+        let mut k = 0;
+        while k < 8 {
+            let mut j = 0;
+            while j <= n {
+                if j <= k && k - j <= 7 - n {
+                    shares[n][k][j] = 5040 / CHOOSE[7][k] * CHOOSE[n][j] * CHOOSE[7 - n][k - j];
+                }
+                j += 1;
+            }
+            k += 1;
+        }
+        n += 1;
+    }
+    shares
+};
+
 /// The control values raised to degree seven, times 5,040.
 pub fn raised(points: &[i64]) -> Curve<i64> {
-    let n = points.len() - 1;
-    std::array::from_fn(|k| {
-        let mut sum = 0;
-        for (j, v) in points.iter().enumerate() {
-            if j <= k && k - j <= 7 - n {
-                sum += CHOOSE[n][j] * CHOOSE[7 - n][k - j] * v;
-            }
-        }
-        5040 / CHOOSE[7][k] * sum
-    })
+    let mut out = [0; 8];
+    for (v, shares) in out.iter_mut().zip(&SHARES[points.len() - 1]) {
+        *v = shares.iter().zip(points).map(|(share, point)| share * point).sum();
+    }
+    out
 }
 
 /// Both halves, at a scale of 2^7 times the whole.

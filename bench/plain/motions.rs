@@ -1,0 +1,78 @@
+//! How fast drones are at most, and how far they move while one is late.
+use crate::curves::{halves, Curve, Whole};
+use crate::fleet::{Fleet, Segment, Show};
+use std::fmt::Write;
+
+/// By parts of this depth speeds are bounded, whatever the depth of the search.
+const REACH_DEPTH: u32 = 6;
+
+/// No two positions are farther apart on an axis, in millimetres.
+const FARTHEST: i128 = 65_536;
+
+/// The widest step between neighbouring control values.
+fn widest_step<T: Whole>(curve: &Curve<T>) -> T {
+    curve.windows(2).map(|two| (two[1] - two[0]).max(two[0] - two[1])).max().unwrap_or_default()
+}
+
+/// The greatest of a step that was found and those of a curve's parts of a depth, where `step` is the whole curve's. A
+/// half has no wider step than half its own, at 2^7 times its scale; the half with the wider one comes first.
+fn widest(curve: &Curve<i128>, step: i128, depth: u32, found: i128) -> i128 {
+    if step << (6 * depth) <= found {
+        return found;
+    }
+    if depth == 0 {
+        return step;
+    }
+    let (left, right) = halves(curve);
+    let (first, second) = (widest_step(&left), widest_step(&right));
+    if second <= first {
+        widest(&right, second, depth - 1, widest(&left, first, depth - 1, found))
+    } else {
+        widest(&left, first, depth - 1, widest(&right, second, depth - 1, found))
+    }
+}
+
+/// The greatest of a speed that was found and the bound of a segment on an axis by its parts of a depth, in micrometres per
+/// second.
+fn fastest(segment: &Segment, ms: i64, axis: usize, depth: u32, found: i128) -> i128 {
+    if !segment.moves(axis) {
+        return found;
+    }
+    let curve = segment.raised(axis);
+    let (step, ms) = (widest_step(&curve), i128::from(ms));
+    let time = 5_040 * ms;
+    if i128::from(7_000_000 * step) <= time * found {
+        return found;
+    }
+    let slow = (time * found << (6 * depth)) / 7_000_000;
+    let way = (7_000_000 * widest(&curve.map(i128::from), step.into(), depth, slow)) << depth;
+    let scale = time << (7 * depth);
+    found.max((way + scale - 1) / scale)
+}
+
+/// The lines of all drones' speeds by parts of a depth.
+pub fn speeds(show: &Show, fleet: &Fleet, depth: u32) -> String {
+    let mut out = String::new();
+    for (drone, name) in show.names.iter().enumerate() {
+        let of = |axis| {
+            let flight = fleet.flight(drone).iter().zip(&show.cues);
+            flight.fold(0, |found, (segment, cue)| fastest(segment, cue.ms, axis, depth, found))
+        };
+        let [x, y, z] = [0, 1, 2].map(of);
+        writeln!(out, "speed {name} {x} {y} {z}").expect("room");
+    }
+    out
+}
+
+/// How many millimetres any drone moves on each axis at most in the time by which one may be late.
+pub fn reach(show: &Show, fleet: &Fleet) -> [i64; 3] {
+    if show.late == 0 {
+        return [0; 3];
+    }
+    [0, 1, 2].map(|axis| {
+        let found = fleet.segments.iter().enumerate().fold(0, |found, (k, segment)| {
+            fastest(segment, show.cues[k % fleet.cues].ms, axis, REACH_DEPTH, found)
+        });
+        (i128::from(show.late) * found + 999_999).div_euclid(1_000_000).min(FARTHEST) as i64
+    })
+}
