@@ -1,4 +1,5 @@
 -- Bytes that are cut at places.
+use Rattle.std.proofs.lemmas.Grind.{common_steps}
 use Rattle.std.proofs.Common.{◌≡◌, ℕ, zero, suc, ◌+◌, ◌-◌, ◌<◌, ◌≤◌, List, [], ◌∷◌, ◌++◌, length, take, drop, get_or, refl, ap, ◌∙◌, arith, Some, None}
 use Rattle.std.specs.Prelude.{slice_get, slice_range}
 use Rattle.std.proofs.Math.Seq.{drop-append_seam}
@@ -58,7 +59,4 @@ pub cut-more : (from : ℕ) (bytes more ends : List ℕ) → AreEnds from ends (
     cut from (bytes ++ more) (ends ++ (length bytes + length more) ∷ []) ≡ cut from bytes ends ++ more ∷ []
 cut-more from bytes more [] h =
     ap (λ (p : List ℕ). p ∷ []) (ap (λ (i : ℕ). slice_range (bytes ++ more) i (length bytes + length more)) h ∙ piece-last bytes more)
-cut-more from bytes more (e ∷ ends) h =
-    ap (λ (p : List ℕ). p ∷ cut e (bytes ++ more) (ends ++ (length bytes + length more) ∷ []))
-    (piece-stays bytes more from e (let l = h.0 in omega arith) (ends-after e (length bytes) ends h.2))
-    ∙ ap (λ (ps : List (List ℕ)). slice_range bytes from e ∷ ps) (cut-more e bytes more ends h.2)
+cut-more from bytes more (e ∷ ends) h = grind (arith, common_steps, piece-stays, ends-after, (cut-more e bytes more ends h.2))

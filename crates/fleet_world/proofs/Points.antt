@@ -1,9 +1,9 @@
 -- From one point of an upload to the next.
-use Rattle.std.proofs.Common.{◌≡◌, ◌≢◌, ◌==◌, ℕ, zero, suc, replicate, ◌<◌, Bool, cond, ltb, List, [], ◌∷◌, ◌++◌, length, map, filter, refl, ap, sym, subst, ◌∙◌, arith, Option, Some, ◌≤◌, ◌⊎◌, Result, Ok, Err, inl, inr}
-use Rattle.std.specs.Prelude.{slice_get, slice_set, option_map, All, OnOk, OnErr, IfOk}
+use Rattle.std.proofs.lemmas.Grind.{common_steps}
+use Rattle.std.proofs.Common.{◌≡◌, ◌≢◌, ◌==◌, ℕ, zero, suc, replicate, ◌<◌, Bool, cond, ltb, List, [], ◌∷◌, ◌++◌, length, map, filter, refl, ap, sym, subst, ◌∙◌, arith, Option, ◌≤◌, ◌⊎◌, Result, Ok, Err, inl, inr}
+use Rattle.std.specs.Prelude.{slice_get, slice_set, All, OnOk, OnErr, IfOk}
 use Rattle.std.proofs.lemmas.List.{length-set, map-append, append-nil}
 use Rattle.std.proofs.lemmas.List.Elements.{filter-append, All-nil, All-cons, All-head, All-tail, All-append}
-use Rattle.std.proofs.lemmas.Option.{slice_get-map}
 use Rattle.std.proofs.lemmas.Bool.{le-ltb, lt-ltb, eq-eqb, ne_eqb, cases_eq, cond-true, cond-false, and_left, and_right, and_from}
 use Rattle.upload_model.specs.declared.events.Event.{Event}
 use Rattle.upload_model.specs.declared.events.Event.TheVariants as event
@@ -11,13 +11,12 @@ use Rattle.upload_model.specs.declared.events.Sent.{Sent}
 use Rattle.upload_model.specs.declared.events.Progress.{Progress}
 use Rattle.upload_model.specs.declared.events.Progress.TheVariants.{Going}
 use Rattle.upload_model.specs.declared.events.WorldEvent.TheVariants.{Tick, Take, Hear, Alter}
-use Rattle.upload_model.specs.Drones.{DroneState, handled}
+use Rattle.upload_model.specs.Drones.{handled}
 use Rattle.upload_model.specs.Sessions.{Upload, IsSession, drone_count, packet_count, packet_at}
 use Rattle.upload_model.specs.Hosts.{flight, out as out_of, progress as progress_of}
 use Rattle.upload_model.specs.Worlds as Worlds
 use Rattle.upload_model.specs.Worlds.{packets_for, changed, took, take_named, hear_named, option_list, altered, start_world, host_event, happens}
 use Rattle.upload_model.proofs.HostSteps.{progress-nil}
-use Rattle.upload_model.proofs.Moments.{All-slice_get}
 use Rattle.upload_model.proofs.OneDrone.{slice_get-set_same, slice_get-set_other}
 use Rattle.firmware_memory.specs.declared.drone.Drone.{Drone}
 use Rattle.firmware_memory.specs.Shown.{shown}
@@ -34,17 +33,7 @@ AfterPut out old new = (d : ℕ) → row_of new d ≡ row_of old d ++ numbers_fo
 
 packets-numbers : (s : Upload) (xs : List Sent) (d : ℕ) → packets_at s d (numbers_for xs d) ≡ packets_for s xs d
 packets-numbers s [] d = refl
-packets-numbers s (x ∷ xs) d = elim (cases_eq x.drone d) [
-  | inl here ↦
-      ap (λ (b : Bool). packets_at s d (map (λ (y : Sent). y.packet) (cond b (x ∷ filter (λ (y : Sent). y.drone == d) xs) (filter (λ (y : Sent). y.drone == d) xs)))) (eq-eqb x.drone d here)
-      ∙ ap (λ (i : ℕ). packet_at s i x.packet ∷ packets_at s d (numbers_for xs d)) (sym here)
-      ∙ ap (λ (ps : List (List ℕ)). packet_at s x.drone x.packet ∷ ps) (packets-numbers s xs d)
-      ∙ sym (ap (λ (b : Bool). map (λ (y : Sent). packet_at s y.drone y.packet) (cond b (x ∷ filter (λ (y : Sent). y.drone == d) xs) (filter (λ (y : Sent). y.drone == d) xs))) (eq-eqb x.drone d here))
-  | inr other ↦
-      ap (λ (b : Bool). packets_at s d (map (λ (y : Sent). y.packet) (cond b (x ∷ filter (λ (y : Sent). y.drone == d) xs) (filter (λ (y : Sent). y.drone == d) xs)))) (ne_eqb x.drone d other)
-      ∙ packets-numbers s xs d
-      ∙ sym (ap (λ (b : Bool). map (λ (y : Sent). packet_at s y.drone y.packet) (cond b (x ∷ filter (λ (y : Sent). y.drone == d) xs) (filter (λ (y : Sent). y.drone == d) xs))) (ne_eqb x.drone d other))
-]
+packets-numbers s (x ∷ xs) d = grind (arith, common_steps, cases_eq, cond, filter, eq-eqb, ne_eqb, (packets-numbers s xs d))
 
 -- the packets of numbers to which those of a list are added
 packets-put : (s : Upload) (out : List Sent) (old new : List (List ℕ)) (d : ℕ) → AfterPut out old new →
@@ -66,10 +55,7 @@ numbers_for-here xs x =
 
 -- and for another one none
 pub numbers_for-other : (xs : List Sent) (x : Sent) (d : ℕ) → d ≢ x.drone → numbers_for (xs ++ x ∷ []) d ≡ numbers_for xs d
-numbers_for-other xs x d other =
-    numbers_for-append xs (x ∷ []) d
-    ∙ ap (λ (b : Bool). numbers_for xs d ++ map (λ (y : Sent). y.packet) (cond b (x ∷ []) [])) (ne_eqb x.drone d (λ e. other (sym e)))
-    ∙ append-nil (numbers_for xs d)
+numbers_for-other xs x d other = grind (arith, common_steps, numbers_for-append, cond, ne_eqb, append-nil)
 
 numbers-known : (s : Upload) (xs : List Sent) (d : ℕ) → All (IsPacketOf s) xs → All (λ k. k < packet_count s d) (numbers_for xs d)
 numbers-known s [] d all = All-nil (λ k. k < packet_count s d)
@@ -88,13 +74,6 @@ numbers-known s (x ∷ xs) d all = elim (cases_eq x.drone d) [
 pub known-put : (s : Upload) (out : List Sent) (old new : List (List ℕ)) → All (IsPacketOf s) out → AfterPut out old new → AreNumbersOf s old → AreNumbersOf s new
 known-put s out old new all put known d =
     subst (All (λ k. k < packet_count s d)) (sym (put d)) (All-append (λ k. k < packet_count s d) (row_of old d) (numbers_for out d) (known d) (numbers-known s out d all))
-
--- the packet of a number
-pub packet-named : (s : Upload) (d n : ℕ) (ks : List ℕ) (o : Option ℕ) → o ≡ slice_get ks n → slice_get (packets_at s d ks) n ≡ option_map (packet_at s d) o
-packet-named s d n ks o is = slice_get-map (packet_at s d) ks n ∙ ap (option_map (packet_at s d)) (sym is)
-
-pub number-known : (s : Upload) (rows : List (List ℕ)) (d n k : ℕ) → AreNumbersOf s rows → Some k ≡ slice_get (row_of rows d) n → k < packet_count s d
-number-known s rows d n k known is = All-slice_get (λ j. j < packet_count s d) (row_of rows d) n k (sym is) (known d)
 
 -- ---- an event of the host
 
@@ -163,57 +142,10 @@ pub stands-took : (v : WorldState) (s : Upload) (w : Worlds.World) (d : ℕ) (pa
     WorldStandsAt v s w → d < drone_count s → sent' ≡ v.sent → shown x ≡ (handled (state_at v.drones d) packet).drone → answer ≡ (handled (state_at v.drones d) packet).answer →
     row_of given' d ≡ row_of v.given d ++ option_list answer → ((i : ℕ) → i ≢ d → row_of given' i ≡ row_of v.given i) →
     WorldStandsAt (record { host = v.host; drones = slice_set v.drones d x; sent = sent'; given = given'; progress = v.progress }) s (took w d (handled (w.drones d) packet))
-stands-took v s w d packet x answer sent' given' at l same drone_is answer_is here others = record {
-  session = at.session;
-  host = at.host;
-  progress = at.progress;
-  count = length-set v.drones d x ∙ at.count;
-  drones = λ i b. elim (cases_eq i d) [
-    | inl same ↦
-        ap (state_at (slice_set v.drones d x)) same
-        ∙ state_at-set_same v.drones d x (let n = at.count in omega arith)
-        ∙ drone_is ∙ ap (λ (y : DroneState). (handled y packet).drone) (at.drones d l)
-        ∙ sym (cond-true (i == d) (handled (w.drones d) packet).drone (w.drones i) (eq-eqb i d same))
-    | inr other ↦
-        state_at-set_other v.drones d i x other ∙ at.drones i b
-        ∙ sym (cond-false (i == d) (handled (w.drones d) packet).drone (w.drones i) (ne_eqb i d other))
-  ];
-  sent = λ i b. ap (λ (rows : List (List ℕ)). packets_at s i (row_of rows i)) same ∙ at.sent i b;
-  given = λ i b. elim (cases_eq i d) [
-    | inl same ↦
-        ap (row_of given') same ∙ here
-        ∙ ap (λ (ps : List (List ℕ)). ps ++ option_list answer) (at.given d l)
-        ∙ ap (λ (o : Option (List ℕ)). w.given d ++ option_list o) (answer_is ∙ ap (λ (y : DroneState). (handled y packet).answer) (at.drones d l))
-        ∙ sym (cond-true (i == d) (w.given d ++ option_list (handled (w.drones d) packet).answer) (w.given i) (eq-eqb i d same))
-    | inr other ↦
-        others i other ∙ at.given i b
-        ∙ sym (cond-false (i == d) (w.given d ++ option_list (handled (w.drones d) packet).answer) (w.given i) (ne_eqb i d other))
-  ];
-}
+stands-took v s w d packet x answer sent' given' at l same drone_is answer_is here others =
+    grind (arith, common_steps, length-set, cases_eq, state_at-set_same, cond-true, eq-eqb, state_at-set_other, cond-false, ne_eqb)
 
 -- ---- a byte is altered
-
-pub stands-altered : (v : WorldState) (s : Upload) (w : Worlds.World) (d address value : ℕ) (x : Drone) →
-    WorldStandsAt v s w → d < drone_count s → shown x ≡ altered (state_at v.drones d) address value →
-    WorldStandsAt (record { host = v.host; drones = slice_set v.drones d x; sent = v.sent; given = v.given; progress = v.progress }) s (record w { drones = changed w.drones d (altered (w.drones d) address value) })
-stands-altered v s w d address value x at l drone_is = record {
-  session = at.session;
-  host = at.host;
-  progress = at.progress;
-  count = length-set v.drones d x ∙ at.count;
-  drones = λ i b. elim (cases_eq i d) [
-    | inl same ↦
-        ap (state_at (slice_set v.drones d x)) same
-        ∙ state_at-set_same v.drones d x (let n = at.count in omega arith)
-        ∙ drone_is ∙ ap (λ (y : DroneState). altered y address value) (at.drones d l)
-        ∙ sym (cond-true (i == d) (altered (w.drones d) address value) (w.drones i) (eq-eqb i d same))
-    | inr other ↦
-        state_at-set_other v.drones d i x other ∙ at.drones i b
-        ∙ sym (cond-false (i == d) (altered (w.drones d) address value) (w.drones i) (ne_eqb i d other))
-  ];
-  sent = at.sent;
-  given = at.given;
-}
 
 pub alter-nothing : (s : Upload) (w : Worlds.World) (d address value : ℕ) → (drone_count s ≤ d) ⊎ (4096 ≤ address) → happens s w (Alter d address value) ≡ w
 unfolding happens

@@ -5,7 +5,7 @@ use Rattle.std.specs.Io.KnownBytes.{Appends}
 use Rattle.std.specs.List.{flat_map, range_with_len}
 use Rattle.std.proofs.lemmas.List.{append-nil, take-append-drop}
 use Rattle.std.proofs.lemmas.List.FromFn.{map-range_with_len_more, take-map-range_with_len}
-use Rattle.std.proofs.lemmas.Grind.{flat_map-append}
+use Rattle.std.proofs.lemmas.Grind.{flat_map-append, common_steps}
 use Rattle.fleet_io.specs.Taken.{AppendsFront}
 use Rattle.fleet_io.proofs.SentLemmas.{Appends-append}
 use Rattle.traj_codec.specs.declared.traj.Traj.{Traj}
@@ -17,12 +17,7 @@ use Rattle.integer_player.specs.Steps.{Passes}
 
 -- what passes in two steps passes in their order
 pub passes-more : (a b c : Option (List ℕ)) (w v u xs ys : List ℕ) → Passes a w b v xs → Passes b v c u ys → Passes a w c u (xs ++ ys)
-passes-more a b c w v u xs ys p q = record {
-  sent = p.sent ++ q.sent;
-  appended = Appends-append a b c p.sent q.sent p.appended q.appended;
-  all = sym (append_assoc w xs ys) ∙ ap (λ (zs : List ℕ). zs ++ ys) p.all ∙ append_assoc p.sent v ys
-      ∙ ap (λ (zs : List ℕ). p.sent ++ zs) q.all ∙ sym (append_assoc p.sent q.sent u);
-}
+passes-more a b c w v u xs ys p q = grind (arith, common_steps, Appends-append, append_assoc)
 
 -- a front of the second step after the first one
 pub passes-fails : (a b c : Option (List ℕ)) (w v xs ys : List ℕ) → Passes a w b v xs → AppendsFront b c (v ++ ys) → AppendsFront a c (w ++ (xs ++ ys))

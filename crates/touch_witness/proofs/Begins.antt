@@ -1,8 +1,8 @@
 -- Where drones begin a cue, and where they are in it.
-use Rattle.std.proofs.Common.{◌≡◌, ◌≢◌, ℕ, zero, suc, ◌+◌, ◌-◌, ◌^◌, ◌<◌, ℤ, pos, ◌*ℤ◌, arith, sym, subst, ◌∙◌, ap, List, [], ◌∷◌, length, map, get_or, set, Some, slice_get, below_more, get_or-set_other, get_or-set_same, All, replicate}
+use Rattle.std.proofs.lemmas.Grind.{common_steps}
+use Rattle.std.proofs.Common.{◌≡◌, ℕ, zero, suc, ◌+◌, ◌^◌, ◌<◌, ℤ, pos, arith, sym, subst, ap, List, [], ◌∷◌, length, map, get_or, set, Some, slice_get, below_more, get_or-set_other, get_or-set_same, All, replicate}
 use Rattle.std.proofs.lemmas.List.{get_or-replicate, length-replicate}
-use Rattle.fleet_math.specs.Sums.{power}
-use Rattle.fleet_math.specs.Bernstein.{at, bern}
+use Rattle.fleet_math.specs.Bernstein.{at}
 use Rattle.fleet_math.specs.Decoded.{points_from}
 use Rattle.traj_codec.specs.declared.traj.Segment.{Segment}
 use Rattle.traj_codec.specs.declared.traj.Traj.{Traj}
@@ -34,36 +34,23 @@ points-begin axis first (u ∷ rest) (suc cue) s is inside = points-begin axis (
 pub position-decoded : (t : Traj) (axis fine cue a : ℕ) (s : Segment) (first : ℤ) → s ≡ get_or t.segments cue s → cue < length t.segments → first ≡ begin_of axis (at t.start axis) t.segments cue →
     position first (element_on s axis) (pos a) (pos (2 ^ fine)) ≡ decoded t axis (listed fine cue a)
 unfolding position
-position-decoded t axis fine cue a s first is inside first_is =
-    ap (λ (z : ℤ). power (pos (2 ^ fine)) (8 - length (z ∷ stored (element_on s axis))) *ℤ bern (z ∷ stored (element_on s axis)) (pos a) (pos (2 ^ fine))) first_is
-    ∙ ap (λ (b : List ℤ). power (pos (2 ^ fine)) (8 - length b) *ℤ bern b (pos a) (pos (2 ^ fine))) (sym (points-begin axis (at t.start axis) t.segments cue s is inside))
-    ∙ sym (decoded-points t axis (listed fine cue a))
+position-decoded t axis fine cue a s first is inside first_is = grind (arith, common_steps, pos, points-begin, decoded-points)
 
 -- one place more is filled
 pub filled_more : {A B : Type 0} (Q : A → B → Type 0) (xs : List A) (all : List B) (k : ℕ) (x : A) (v d : B) → k < length all → x ≡ get_or xs k x →
     ((j : ℕ) → j < k → (t : A) → slice_get xs j ≡ Some t → Q t (get_or all j d)) → Q x v →
     (j : ℕ) → j < k + 1 → (t : A) → slice_get xs j ≡ Some t → Q t (get_or (set all k v) j d)
-filled_more {A} {B} Q xs all k x v d room is before here =
-    below_more _ k
-    (λ j low t at_j. let ne : j ≢ k = omega arith in rw get_or-set_other (before j low t at_j))
-    (λ t at_k. rw get_or-set_same (subst (λ (y : A). Q y v) (sym (same_item xs k t x at_k is)) here))
+filled_more {A} {B} Q xs all k x v d room is before here = grind (arith, common_steps, below_more, get_or-set_other, get_or-set_same, same_item)
 
 -- the value with which the next cue begins
 pub next_value : (axis cue : ℕ) (t : Traj) (x first : ℤ) (segments : List Segment) (d : Segment) → segments ≡ t.segments → cue < length t.segments → first ≡ begin_of axis (at t.start axis) t.segments cue →
     x ≡ value_after first (element_on (get_or segments cue d) axis) → x ≡ begin_of axis (at t.start axis) t.segments (cue + 1)
-next_value axis cue t x first segments d same inside first_is is =
-    let there : get_or segments cue d ≡ get_or t.segments cue (get_or segments cue d) =
-    ap (λ (ss : List Segment). get_or ss cue d) same ∙ same_default t.segments cue d (get_or segments cue d) inside in
-    is ∙ ap (λ (z : ℤ). value_after z (element_on (get_or segments cue d) axis)) first_is
-    ∙ sym (begin-next axis (at t.start axis) t.segments cue (get_or segments cue d) there inside)
+next_value axis cue t x first segments d same inside first_is is = grind (arith, common_steps, same_default, begin-next)
 
 -- the position in a cue
 pub position_in : (axis cue fine a : ℕ) (t : Traj) (x first : ℤ) (segments : List Segment) (d : Segment) → segments ≡ t.segments → cue < length t.segments → first ≡ begin_of axis (at t.start axis) t.segments cue →
     x ≡ position first (element_on (get_or segments cue d) axis) (pos a) (pos (2 ^ fine)) → x ≡ decoded t axis (listed fine cue a)
-position_in axis cue fine a t x first segments d same inside first_is is =
-    let there : get_or segments cue d ≡ get_or t.segments cue (get_or segments cue d) =
-    ap (λ (ss : List Segment). get_or ss cue d) same ∙ same_default t.segments cue d (get_or segments cue d) inside in
-    is ∙ position-decoded t axis fine cue a (get_or segments cue d) first there inside first_is
+position_in axis cue fine a t x first segments d same inside first_is is = grind (arith, common_steps, same_default, position-decoded)
 
 pub all_copies : {A : Type 0} (P : A → Type 0) (n : ℕ) (x : A) → P x → All P (replicate n x)
 all_copies P n x here i d inside =

@@ -1,4 +1,5 @@
 -- The least of pairs and of listed instants, one more at a time.
+use Rattle.std.proofs.lemmas.Grind.{common_steps}
 use Rattle.std.proofs.Common.{◌≡◌, ℕ, ◌+◌, ◌^◌, ◌≤◌, ◌<◌, inl, inr, ℤ, pos, ◌*ℤ◌, ◌≤ℤ◌, ◌<ℤ◌, arith, refl, sym, subst, ◌∙◌, List, [], ◌∷◌, length, get_or, FitsSigned, true, false}
 use Rattle.std.proofs.lemmas.Int.{ints}
 use mir.Syntax.{w128}
@@ -35,61 +36,17 @@ before_next i j c d (inl less) = inl (inl less)
 before_next i j c d (inr same) = by_lt j d (λ (l : j < d). inl (inr (same.0, l))) (λ (m : d ≤ j). inr (same.0, omega (arith, same.1)))
 
 pub least_open : (points : List Point) (r h n a : ℕ) (p : Pair) → IsLeastPair points r h n a 0 p → IsLeastPair points r h n a (a + 1) p
-least_open points r h n a p so_far = record {
-  order = so_far.order;
-  inside = so_far.inside;
-  small = so_far.small;
-  is = so_far.is;
-  least = λ i j order inside before. step i j order inside before;
-  first = so_far.first;
-}
-  where
-    step : (i j : ℕ) → i < j → j < n → PairBefore i j a (a + 1) → p.left ≤ℤ left_at points r h i j
-    step i j order inside (inl less) = so_far.least i j order inside (inl less)
-    step i j order inside (inr same) = absurd (omega (arith, same.0, same.1, order))
+least_open points r h n a p so_far = grind (arith, common_steps)
 
 pub least_keep : (points : List Point) (r h n a b : ℕ) (p : Pair) → IsLeastPair points r h n a b p → p.left ≤ℤ left_at points r h a b → IsLeastPair points r h n a (b + 1) p
-least_keep points r h n a b p so_far less = record {
-  order = so_far.order;
-  inside = so_far.inside;
-  small = so_far.small;
-  is = so_far.is;
-  least = λ i j order inside before. step i j order inside (before_next i j a b before);
-  first = so_far.first;
-}
-  where
-    step : (i j : ℕ) → i < j → j < n → PairBefore i j a b ⊎ ((i ≡ a) × (j ≡ b)) → p.left ≤ℤ left_at points r h i j
-    step i j order inside (inl earlier) = so_far.least i j order inside earlier
-    step i j order inside (inr same) = rw (same.0, same.1) less
+least_keep points r h n a b p so_far less = grind (arith, common_steps, before_next)
 
 pub least_take : (points : List Point) (r h n a b : ℕ) (p : Pair) (x : ℤ) → IsLeastPair points r h n a b p → a < b → b < n → IsIn (pos 0) (pos (2 ^ 126)) x → x ≡ left_at points r h a b → x <ℤ p.left →
     IsLeastPair points r h n a (b + 1) (record { a = a; b = b; left = x })
-least_take points r h n a b p x so_far ordered within small is less = record {
-  order = ordered;
-  inside = within;
-  small = small;
-  is = is;
-  least = λ i j order inside before. step i j order inside (before_next i j a b before);
-  first = λ i j order inside before. lt_le x p.left _ less (so_far.least i j order inside before);
-}
-  where
-    step : (i j : ℕ) → i < j → j < n → PairBefore i j a b ⊎ ((i ≡ a) × (j ≡ b)) → x ≤ℤ left_at points r h i j
-    step i j order inside (inl earlier) = le_le x p.left _ (lt_to_le x p.left less) (so_far.least i j order inside earlier)
-    step i j order inside (inr same) = rw (same.0, same.1) (same_le x _ is)
+least_take points r h n a b p x so_far ordered within small is less = grind (arith, common_steps, before_next, lt_le, le_le, lt_to_le, same_le)
 
 pub least_row : (points : List Point) (r h n a b : ℕ) (p : Pair) → IsLeastPair points r h n a b p → n ≤ b → IsLeastPair points r h n (a + 1) 0 p
-least_row points r h n a b p so_far past = record {
-  order = so_far.order;
-  inside = so_far.inside;
-  small = so_far.small;
-  is = so_far.is;
-  least = λ i j order inside before. step i j order inside before;
-  first = so_far.first;
-}
-  where
-    step : (i j : ℕ) → i < j → j < n → PairBefore i j (a + 1) 0 → p.left ≤ℤ left_at points r h i j
-    step i j order inside (inl less) = by_lt i a (λ (l : i < a). so_far.least i j order inside (inl l)) (λ (m : a ≤ i). so_far.least i j order inside (inr (omega (arith, less), omega (arith, inside))))
-    step i j order inside (inr same) = absurd (omega (arith, same.1))
+least_row points r h n a b p so_far past = grind (arith, common_steps, by_lt)
 
 -- the least pair of points is that of the drones there
 pub nearest_told : (trajs : List Traj) (r h fine cue at : ℕ) (points : List Point) (p : Pair) → IsLeastPair points r h (length trajs) (length trajs) 0 p → ArePlaces trajs fine cue at points →
@@ -162,18 +119,7 @@ cues_are (u ∷ rest) t is some = subst (λ (z : Traj). length u.segments ≡ le
 
 -- after the last row
 pub least_more : (points : List Point) (r h n a m : ℕ) (p : Pair) → IsLeastPair points r h n a 0 p → m ≤ a → IsLeastPair points r h n m 0 p
-least_more points r h n a m p so_far past = record {
-  order = so_far.order;
-  inside = so_far.inside;
-  small = so_far.small;
-  is = so_far.is;
-  least = λ i j order inside before. step i j order inside before;
-  first = so_far.first;
-}
-  where
-    step : (i j : ℕ) → i < j → j < n → PairBefore i j m 0 → p.left ≤ℤ left_at points r h i j
-    step i j order inside (inl less) = so_far.least i j order inside (inl (omega (arith, less, past)))
-    step i j order inside (inr same) = absurd (omega (arith, same.1))
+least_more points r h n a m p so_far past = grind (arith, common_steps)
 
 pub fits_126 : (x : ℤ) → IsIn (pos 0) (pos (2 ^ 126)) x → FitsSigned w128 x
 fits_126 x inside = omega (arith, ints)

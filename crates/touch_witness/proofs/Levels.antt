@@ -1,4 +1,5 @@
 -- The level: the floor of 1,000 times the left side over the right side.
+use Rattle.std.proofs.lemmas.Grind.{common_steps}
 use Rattle.std.proofs.Common.{◌≡◌, ℕ, ◌+◌, ◌*◌, ◌/◌, ◌%◌, ◌^◌, ◌≤◌, ◌<◌, ℤ, pos, ◌<ℤ◌, ◌+ℤ◌, ◌-ℤ◌, ◌*ℤ◌, ◌≤ℤ◌, unsigned_abs, arith, ap, sym, subst, ◌∙◌, pow-add, List, length, get_or}
 use Rattle.std.proofs.lemmas.Int.{ints, unsigned_abs-mul}
 use Rattle.std.proofs.lemmas.Nat.{mul-le}
@@ -39,10 +40,7 @@ square_near n a b first second =
     at_most x m few = omega (arith, ints)
 
 weight : (k m : ℕ) (x : ℤ) → k ≤ 4000000 → x ≤ℤ pos m → (pos k *ℤ x) ≤ℤ pos (4000000 * m)
-weight k m x few small = within (pos k *ℤ x) (k * m) (mul-le k m 4000000 m few (omega arith)) (le_mul_pos k x (pos m) small)
-  where
-    within : (y : ℤ) (n : ℕ) → n ≤ 4000000 * m → y ≤ℤ pos n → y ≤ℤ pos (4000000 * m)
-    within y n less most = omega (arith, ints)
+weight k m x few small = grind (arith, common_steps, ints, pos, mul-le, le_mul_pos)
 
 axis_square : (r : ℕ) → r ≤ 2000 → r * r ≤ 4000000
 axis_square r few = omega (arith, mul-le r r 2000 2000 few few)
@@ -81,20 +79,10 @@ abs_is x some = omega (arith, ints)
 
 -- the level as whole numbers with a sign
 level_low : (n : ℕ) (x y : ℤ) → pos 0 ≤ℤ x → pos 0 ≤ℤ y → n * unsigned_abs y ≤ 1000 * unsigned_abs x → (pos n *ℤ y) ≤ℤ (pos 1000 *ℤ x)
-level_low n x y x_some y_some low =
-    subst (λ (z : ℤ). (pos n *ℤ y) ≤ℤ (pos 1000 *ℤ z)) (sym (abs_is x x_some))
-    (subst (λ (z : ℤ). (pos n *ℤ z) ≤ℤ (pos 1000 *ℤ pos (unsigned_abs x))) (sym (abs_is y y_some)) (go (unsigned_abs x) (unsigned_abs y) low))
-  where
-    go : (a b : ℕ) → n * b ≤ 1000 * a → (pos n *ℤ pos b) ≤ℤ (pos 1000 *ℤ pos a)
-    go a b less = omega (arith, ints, less)
+level_low n x y x_some y_some low = grind (arith, common_steps, ints, pos, abs_is, unsigned_abs)
 
 level_high : (n : ℕ) (x y : ℤ) → pos 0 ≤ℤ x → pos 0 ≤ℤ y → 1000 * unsigned_abs x < n * unsigned_abs y → (pos 1000 *ℤ x) <ℤ (pos n *ℤ y)
-level_high n x y x_some y_some high =
-    subst (λ (z : ℤ). (pos 1000 *ℤ z) <ℤ (pos n *ℤ y)) (sym (abs_is x x_some))
-    (subst (λ (z : ℤ). (pos 1000 *ℤ pos (unsigned_abs x)) <ℤ (pos n *ℤ z)) (sym (abs_is y y_some)) (go (unsigned_abs x) (unsigned_abs y) high))
-  where
-    go : (a b : ℕ) → 1000 * a < n * b → (pos 1000 *ℤ pos a) <ℤ (pos n *ℤ pos b)
-    go a b less = omega (arith, ints, less)
+level_high n x y x_some y_some high = grind (arith, common_steps, ints, pos, abs_is, unsigned_abs)
 
 some_told : (y : ℤ) → IsIn (pos 1) (pos (2 ^ 116)) y → pos 0 ≤ℤ y
 some_told y inside = omega (arith, ints, inside.0)

@@ -1,5 +1,6 @@
 -- From points to drones: two points are apart exactly where the drones there are.
-use Rattle.std.proofs.Common.{◌≡◌, ℕ, ◌*◌, ℤ, pos, ◌+ℤ◌, ◌-ℤ◌, ◌*ℤ◌, ◌≤ℤ◌, ◌<ℤ◌, subst, List}
+use Rattle.std.proofs.lemmas.Grind.{common_steps}
+use Rattle.std.proofs.Common.{◌≡◌, ℕ, ℤ, pos, ◌≤ℤ◌, ◌<ℤ◌, subst, List, arith}
 use Rattle.traj_codec.specs.declared.traj.Traj.{Traj}
 use Rattle.touch_witness.specs.declared.places.Point.{Point}
 use Rattle.touch_witness.specs.Sites.{left_of, listed}
@@ -9,12 +10,7 @@ use Rattle.touch_witness.specs.Steps.{ArePlaces, IsPlace, PairDisjoint, PairTouc
 pub sides : (t u : Traj) (r h fine cue at : ℕ) (p q : Point) → IsPlace t fine cue at p → IsPlace u fine cue at q →
     left_side r h p q ≡ left_of t u r h (listed fine cue at)
 unfolding left_side
-sides t u r h fine cue at p q first second = same first.x first.y first.z second.x second.y second.z
-  where
-    same : {a b c d e f x y z k l m : ℤ} → a ≡ x → b ≡ y → c ≡ z → d ≡ k → e ≡ l → f ≡ m →
-        pos (h * h) *ℤ ((d -ℤ a) *ℤ (d -ℤ a) +ℤ (e -ℤ b) *ℤ (e -ℤ b)) +ℤ pos (r * r) *ℤ ((f -ℤ c) *ℤ (f -ℤ c))
-        ≡ pos (h * h) *ℤ ((k -ℤ x) *ℤ (k -ℤ x) +ℤ (l -ℤ y) *ℤ (l -ℤ y)) +ℤ pos (r * r) *ℤ ((m -ℤ z) *ℤ (m -ℤ z))
-    same {a} {b} {c} {d} {e} {f} {x} {y} {z} {k} {l} {m} e1 e2 e3 e4 e5 e6 = cc
+sides t u r h fine cue at p q first second = grind (arith, common_steps, pos)
 
 -- points that are apart are drones that are
 pub pair_disjoint : (trajs : List Traj) (r h fine cue at a b : ℕ) (points : List Point) → ArePlaces trajs fine cue at points → PairDisjoint points r h fine a b → SidesDisjoint trajs r h fine (record { cue = cue; at = at; a = a; b = b })

@@ -1,4 +1,5 @@
 -- A listed instant is an instant of the show: the drones are at the same places there.
+use Rattle.std.proofs.lemmas.Grind.{common_steps}
 use Rattle.std.proofs.Common.{◌≡◌, ℕ, zero, suc, ◌+◌, ◌-◌, ◌*◌, ◌^◌, ◌≤◌, ◌<◌, ℤ, pos, ◌+ℤ◌, ◌-ℤ◌, ◌*ℤ◌, ◌≤ℤ◌, ◌<ℤ◌, arith, refl, sym, subst, ◌∙◌, ap, List, [], ◌∷◌, length, map, get_or, All, sum, Some, slice_get}
 use Rattle.std.proofs.lemmas.Int.{ints}
 use Rattle.std.proofs.lemmas.Nat.{mul-le, pow_pos}
@@ -189,15 +190,8 @@ same_position : (start : ℤ) (pieces : List Piece) (cue a q : ℕ) (m : Moment)
 same_position start pieces cue a q m formed inside (here is) =
     subst (λ (n : Moment). Same (power (pos q) 7) (decoded start pieces (record { cue = cue; a = a; c = q })) (power (pos n.c) 7) (decoded start pieces n)) (sym is)
     (same_here start pieces cue a q (get_or (durations pieces) cue 0) formed inside)
-same_position start pieces cue a q m formed inside (before i next none c is) =
-    subst (λ (n : Moment). Same (power (pos q) 7) (decoded start pieces (record { cue = cue; a = a; c = q })) (power (pos n.c) 7) (decoded start pieces n)) (sym is)
-    (subst (λ (n : ℕ). Same (power (pos q) 7) (decoded start pieces (record { cue = cue; a = n; c = q })) (power (pos c) 7) (decoded start pieces (record { cue = i; a = c; c = c }))) (sym none)
-    (subst (λ (n : ℕ). Same (power (pos q) 7) (decoded start pieces (record { cue = n; a = 0; c = q })) (power (pos c) 7) (decoded start pieces (record { cue = i; a = c; c = c }))) next
-    (same_before start pieces i q c formed (rw next inside))))
-same_position start pieces cue a q m formed inside (behind all c next is) =
-    subst (λ (n : Moment). Same (power (pos q) 7) (decoded start pieces (record { cue = cue; a = a; c = q })) (power (pos n.c) 7) (decoded start pieces n)) (sym is)
-    (subst (λ (n : ℕ). Same (power (pos q) 7) (decoded start pieces (record { cue = cue; a = n; c = q })) (power (pos c) 7) (decoded start pieces (record { cue = suc cue; a = 0; c = c }))) (sym all)
-    (same_behind start pieces cue q c formed (omega (arith, next, durations-count pieces))))
+same_position start pieces cue a q m formed inside (before i next none c is) = grind (arith, common_steps, pos, same_before)
+same_position start pieces cue a q m formed inside (behind all c next is) = grind (arith, common_steps, pos, same_behind, durations-count)
 
 -- ---- two drones
 high_ring : (h r k x y z : ℤ) → h *ℤ ((k *ℤ x) *ℤ (k *ℤ x) +ℤ (k *ℤ y) *ℤ (k *ℤ y)) +ℤ r *ℤ ((k *ℤ z) *ℤ (k *ℤ z)) ≡ (h *ℤ (x *ℤ x +ℤ y *ℤ y) +ℤ r *ℤ (z *ℤ z)) *ℤ (k *ℤ k)
@@ -230,16 +224,7 @@ gap_same k l x y u v first second = omega (arith, linear, first, second, spread 
     spread l x y = simp ring (omega (arith, linear))
 
 power_some : (c : ℕ) → 1 ≤ c → pos 0 <ℤ (power (pos c) 7 *ℤ power (pos c) 7)
-power_some c some =
-    let low : 1 ≤ c ^ 7 = ones c 7 some in
-    subst (λ (z : ℤ). pos 0 <ℤ (z *ℤ z)) (sym (power_pos c 7)) (square (c ^ 7) low)
-  where
-    ones : (c n : ℕ) → 1 ≤ c → 1 ≤ c ^ n
-    ones c zero some = rw pow-zero (omega arith)
-    ones c (suc n) some = rw (pow-suc c n) (mul-le 1 1 (c ^ n) c (ones c n some) some)
-
-    square : (n : ℕ) → 1 ≤ n → pos 0 <ℤ (pos n *ℤ pos n)
-    square n low = let more : 1 * 1 ≤ n * n = mul-le 1 1 n n low low in omega (arith, ints, more)
+power_some c some = grind (arith, common_steps, ints, pos, power_pos, pow-zero, pow-suc, mul-le)
 
 -- drones that are disjoint at one of two moments with the same positions are disjoint at the other
 disjoint_moved : (t u : Traj) (r h : ℕ) (m n : Moment) → 1 ≤ m.c → 1 ≤ n.c →

@@ -1,5 +1,6 @@
 -- What stands in a line can stand as a word.
-use Rattle.std.proofs.Common.{ℕ, ◌+◌, ◌^◌, ◌<◌, ◌≤◌, List, ◌++◌, refl, arith}
+use Rattle.std.proofs.lemmas.Grind.{common_steps}
+use Rattle.std.proofs.Common.{ℕ, ◌^◌, ◌<◌, ◌≤◌, List, ◌++◌, arith}
 use Rattle.std.proofs.Math.Pow.{pow_mono}
 use Rattle.fleet_io.specs.Words.{AreWords, IsWord}
 use Rattle.fleet_io.proofs.WordLaws.{decimal_is_word}
@@ -12,8 +13,4 @@ parts_short depth small = let few : 2 ^ depth ≤ 2 ^ 8 = pow_mono small in omeg
 -- two drones and an instant, and words after them
 pub site_are_words : (first second : List ℕ) (fine cue at : ℕ) (more : List (List ℕ)) → IsWord first → IsWord second → fine ≤ 8 → cue < 2 ^ 16 → at < 2 ^ 8 → AreWords more →
     AreWords (site_words first second fine cue at ++ more)
-site_are_words first second fine cue at more one two small few early after =
-    let number = decimal_is_word (cue + 1) (omega (arith, few)) in
-    let place = decimal_is_word at (omega (arith, early)) in
-    let parts = decimal_is_word (2 ^ fine) (parts_short fine small) in
-    (refl, (one, (two, (refl, (number, (refl, (place, (refl, (parts, after)))))))))
+site_are_words first second fine cue at more one two small few early after = grind (arith, common_steps, decimal_is_word, parts_short)

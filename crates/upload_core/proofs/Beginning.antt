@@ -1,4 +1,5 @@
 -- A host to which nothing has happened.
+use Rattle.std.proofs.lemmas.Grind.{common_steps}
 use Rattle.std.proofs.Common.{◌≡◌, ℕ, ◌+◌, ◌<◌, ◌≤◌, Bool, false, not, cond, List, [], ◌∷◌, ◌++◌, length, refl, ap, sym, ◌∙◌, arith}
 use Rattle.std.specs.Prelude.{All}
 use Rattle.std.specs.List.{range_with_len, list_all, flat_map}
@@ -8,7 +9,7 @@ use Rattle.upload_model.specs.declared.events.Phase.{Phase}
 use Rattle.upload_model.specs.declared.events.Phase.TheVariants.{Loading, Reading, Starting}
 use Rattle.upload_model.specs.declared.events.Progress.TheVariants.{Going}
 use Rattle.upload_model.specs.declared.events.Sent.{Sent}
-use Rattle.upload_model.specs.Sessions.{Upload, drone_count, write_count, load_count}
+use Rattle.upload_model.specs.Sessions.{Upload, drone_count}
 use Rattle.upload_model.specs.Hosts.{Packets, all_settled, phase_of, all_packets, acked, sent_to, flight_in, flight_at, flight}
 use Rattle.upload_model.proofs.Readings.{count-loads}
 use Rattle.upload_model.proofs.HostLaws.{Settled-from, acked-nil, all_packets-each}
@@ -16,7 +17,7 @@ use Rattle.upload_model.proofs.HostSteps.{ticks-nil, progress-nil, phase-inside,
 use Rattle.upload_core.specs.declared.row.InFlight.{InFlight}
 use Rattle.upload_core.specs.declared.row.Row.{Row}
 use Rattle.upload_core.specs.HostStandsFor.{HostStandsFor}
-use Rattle.upload_core.specs.Rows.{packets_in, is_marked, row_at, marked, counted, count_in}
+use Rattle.upload_core.specs.Rows.{packets_in, row_at, marked, counted, count_in}
 use Rattle.upload_core.specs.Steps.{IsBetween, IsStarting, RowsStand, IsReady}
 use Rattle.upload_core.proofs.RowLemmas.{row-flight}
 use Rattle.upload_core.proofs.Windows.{range-one_more, flat_map-append_one}
@@ -83,10 +84,7 @@ abbrev pub first_windows : Upload → ℕ → List Sent
 first_windows s n = flat_map (λ d. sent_to d (flight_in s Loading nothing d)) (range_with_len 0 n)
 
 pub first-window : (s : Upload) (d : ℕ) (row : Row) → IsStarting s d row → packets_in row.window.items ≡ flight_in s Loading nothing d
-first-window s d row starting =
-    sym (row-flight s Loading d row starting.stands nothing (λ k. sym (starting.blank k))
-    (ap (λ (b : Bool). cond b (load_count s d) (write_count s d))
-    (list_all-range-agree (nothing d) (λ k. is_marked row k) 0 (write_count s d) (λ k l b. sym (starting.blank k)))))
+first-window s d row starting = grind (arith, common_steps, row-flight, nothing, cond, list_all-range-agree)
 
 pub first_windows-walk : (s : Upload) (n : ℕ) → first_windows s (n + 1) ≡ first_windows s n ++ sent_to n (flight_in s Loading nothing n)
 first_windows-walk s n =

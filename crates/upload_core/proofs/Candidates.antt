@@ -1,4 +1,5 @@
 -- Which packets of a drone a message says nothing of.
+use Rattle.std.proofs.lemmas.Grind.{common_steps}
 use Rattle.std.proofs.Common.{◌≡◌, ℕ, ◌+◌, ◌-◌, ◌*◌, ◌<◌, ◌≤◌, Bool, true, false, not, cond, ◌&&◌, ◌||◌, eqb, ltb, leb, List, length, take, drop, get_or, ap, sym, ◌∙◌, arith, Some, None, Ok, inl, inr}
 use Rattle.std.specs.Str.{bytes_eq}
 use Rattle.arrayvec.specs.ArrayVec.{ArrayVec}
@@ -13,16 +14,8 @@ use Rattle.upload_model.proofs.Answers.{reply-plain, reply-of_read}
 
 pub write-silent : (s : Upload) (d j id address status : ℕ) → (j < write_count s d → id ≡ s.memory_id → address ≡ s.offset + 24 * j → ⊥) →
     reply_in s d j (Ok (WriteAnswer id address status)) ≡ Silent
-write-silent s d j id address status never = elim (cases_Bool (is_read s d j)) [
-  | inl r ↦ reply-of_read s d j (Ok (WriteAnswer id address status)) r
-  | inr p ↦
-      reply-plain s d j (Ok (WriteAnswer id address status)) p
-      ∙ ap (λ (b : Bool). status_reply d j (cond b (Some status) None))
-      (false_from_ne_true (ltb j (write_count s d) && eqb id s.memory_id && eqb address (s.offset + 24 * j)) (λ all.
-      let outer = and_parts (ltb j (write_count s d) && eqb id s.memory_id) (eqb address (s.offset + 24 * j)) all in
-      let inner = and_parts (ltb j (write_count s d)) (eqb id s.memory_id) outer.0 in
-      never (ltb-true j (write_count s d) inner.0) (eqb-true id s.memory_id inner.1) (eqb-true address (s.offset + 24 * j) outer.1)))
-]
+write-silent s d j id address status never =
+    grind (arith, common_steps, cases_Bool, reply-of_read, reply-plain, cond, false_from_ne_true, ltb, eqb, and_parts, ltb-true, eqb-true)
 
 pub command-silent : (s : Upload) (d j : ℕ) (first : List ℕ) (status : ℕ) → j < packet_count s d →
     (j ≡ write_count s d → get_or first 0 0 ≡ 6 → ⊥) → (j ≡ start_number s d → s.start ≡ true → get_or first 0 0 ≡ 5 → ⊥) →

@@ -1,6 +1,7 @@
 -- What an answer makes of an upload: what it acknowledges, and what it ends it with.
+use Rattle.std.proofs.lemmas.Grind.{common_steps}
 use Rattle.std.proofs.Common.{◌≡◌, ◌⊎◌, ◌==◌, ℕ, ◌<◌, ◌≤◌, Bool, true, false, not, cond, ◌&&◌, ◌||◌, List, [], ◌∷◌, filter, refl, ap, sym, subst, ◌∙◌, arith, Option, Some, None, Err, inl, inr}
-use Rattle.std.specs.Prelude.{find, nat_lt}
+use Rattle.std.specs.Prelude.{find}
 use Rattle.std.specs.List.{range_with_len, list_all}
 use Rattle.std.proofs.lemmas.Bool.{cases_eq, eq-eqb, eqb-true, lt-ltb, false≢true, and_parts, and_from, false_from_ne_true, or_left, or_right, or_parts, and_left, and_right}
 use Rattle.crtp_packets.specs.Reading.{up_of}
@@ -108,10 +109,7 @@ only-some s from k packet only y heard = elim (cases_eq y.drone from) [
 
 pub reply-here : (s : Upload) (d k : ℕ) (packet : List ℕ) → d < drone_count s → k < packet_count s d → reply_to s d k (event.Up d packet) ≡ reply_in s d k (up_of packet)
 unfolding reply_to
-reply-here s d k packet l b =
-    ap (λ (t : Bool). cond (t && nat_lt d (drone_count s) && nat_lt k (packet_count s d)) (reply_in s d k (up_of packet)) Silent) (eq-eqb d d refl)
-    ∙ ap (λ (t : Bool). cond (t && nat_lt k (packet_count s d)) (reply_in s d k (up_of packet)) Silent) (lt-ltb d (drone_count s) l)
-    ∙ ap (λ (t : Bool). cond t (reply_in s d k (up_of packet)) Silent) (lt-ltb k (packet_count s d) b)
+reply-here s d k packet l b = grind (arith, common_steps, cond, eq-eqb, lt-ltb)
 
 -- silence alone
 pub only-silent : (s : Upload) (e : Event) (x : Sent) → IsOnly s e x → reply_to s x.drone x.packet e ≡ Silent → IsSilent s e

@@ -1,9 +1,10 @@
 -- What `cursor` and `word` say of the events that a host stands for.
+use Rattle.std.proofs.lemmas.Grind.{common_steps}
 use Rattle.std.proofs.Common.{◌≡◌, ◌≢◌, ◌⊎◌, ◌==◌, ◌%◌, ◌+◌, ◌*◌, ◌^◌, ◌<◌, ◌≤◌, ◌&&◌, ◌∙◌, ℕ, zero, suc, Bool, true, false, List, cond, refl, ap, sym, arith, inl, inr, w64}
 use Rattle.std.specs.Prelude.{nat_lt, bit_or}
 use Rattle.std.specs.List.{range_with_len}
 use Rattle.std.proofs.lemmas.Bool.{cases_eq, cases_lt, lt-ltb, le-ltb}
-use Rattle.std.proofs.lemmas.Nat.Bits.{bit_at-zero, bit_at_set_same, bit_at_set_other}
+use Rattle.std.proofs.lemmas.Nat.Bits.{bit_at_set_same, bit_at_set_other}
 use Rattle.upload_model.specs.declared.events.Event.{Event}
 use Rattle.upload_model.specs.declared.events.Progress.TheVariants.{Going, Done}
 use Rattle.upload_model.specs.Sessions.{Upload, drone_count, packet_count}
@@ -62,15 +63,9 @@ module _ (s : Upload) (p q : Packets) (d : ℕ) (same : (k : ℕ) → k < packet
 abbrev pub AreBits : (ℕ → Bool) → ℕ → ℕ → Type 0
 AreBits p k word = (j : ℕ) → j < 64 → bit word j ≡ (nat_lt j k && p j)
 
-pub bits-none : (p : ℕ → Bool) → AreBits p 0 0
-bits-none p j l = ap (λ (n : ℕ). n == 1) (bit_at-zero j) ∙ sym (ap (λ (b : Bool). b && p j) (le-ltb j 0 (omega arith)))
-
 -- a number is below k + 1 just where it is below k, unless it is k
 below-same : (j k : ℕ) → j ≢ k → nat_lt j k ≡ nat_lt j (k + 1)
-below-same j k other = elim (cases_lt j k) [
-  | inl low ↦ lt-ltb j k low ∙ sym (lt-ltb j (k + 1) (omega arith))
-  | inr from ↦ le-ltb j k from ∙ sym (le-ltb j (k + 1) (omega arith))
-]
+below-same j k other = grind (arith, common_steps, cases_lt, lt-ltb, le-ltb)
 
 pub shut : (b : Bool) → (b && false) ≡ false
 shut true = refl
@@ -87,10 +82,4 @@ bits-one p k word l bits here j b = elim (cases_eq j k) [
 ]
 
 pub bits-other : (p : ℕ → Bool) (k word : ℕ) → AreBits p k word → p k ≡ false → AreBits p (k + 1) word
-bits-other p k word bits here j b =
-    bits j b ∙ elim (cases_eq j k) [
-      | inl same ↦
-          ap (λ (c : Bool). nat_lt j k && c) (ap p same ∙ here) ∙ shut (nat_lt j k)
-          ∙ sym (ap (λ (c : Bool). nat_lt j (k + 1) && c) (ap p same ∙ here) ∙ shut (nat_lt j (k + 1)))
-      | inr other ↦ ap (λ (c : Bool). c && p j) (below-same j k other)
-    ]
+bits-other p k word bits here j b = grind (arith, common_steps, cases_eq, shut, below-same)

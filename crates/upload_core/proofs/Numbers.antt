@@ -1,5 +1,6 @@
 -- Numbers that rise, and what is past of a row.
-use Rattle.std.proofs.Common.{◌≡◌, ◌⊎◌, ◌==◌, ℕ, zero, suc, ◌+◌, ◌-◌, ◌<◌, ◌≤◌, Bool, true, false, not, cond, ◌&&◌, ◌||◌, ltb, List, [], ◌∷◌, ◌++◌, filter, refl, ap, sym, subst, ◌∙◌, arith, inl, inr}
+use Rattle.std.proofs.lemmas.Grind.{common_steps}
+use Rattle.std.proofs.Common.{◌≡◌, ◌⊎◌, ◌==◌, ℕ, zero, suc, ◌+◌, ◌-◌, ◌<◌, ◌≤◌, Bool, true, false, not, cond, ◌&&◌, ◌||◌, ltb, List, [], ◌∷◌, ◌++◌, filter, refl, ap, sym, subst, ◌∙◌, arith, inl, inr, rules}
 use Rattle.std.specs.List.{range_with_len, list_all}
 use Rattle.std.proofs.lemmas.Bool.{cases_eq, cases_lt, eq-eqb, ne_eqb, lt-ltb, le-ltb, false≢true}
 use Rattle.std.proofs.lemmas.List.Folds.{list_any-append}
@@ -12,10 +13,6 @@ use Rattle.upload_core.specs.Steps.{IsBetween}
 pub between-weaker : (a c b : ℕ) (xs : List ℕ) → a ≤ c → IsBetween c b xs → IsBetween a b xs
 between-weaker a c b [] l h = h
 between-weaker a c b (x ∷ xs) l h = (let m = h.0 in omega arith, h.1, h.2)
-
-pub between-longer : (a b c : ℕ) (xs : List ℕ) → b ≤ c → IsBetween a b xs → IsBetween a c xs
-between-longer a b c [] l h = h
-between-longer a b c (x ∷ xs) l h = (h.0, let m = h.1 in omega arith, between-longer (x + 1) b c xs l h.2)
 
 pub between-range : (a m : ℕ) → IsBetween a (a + m) (range_with_len a m)
 between-range a zero = tt
@@ -41,13 +38,7 @@ between-out a b (x ∷ xs) k h out =
     ∙ between-out (x + 1) b xs k h.2 (elim out [ inl l ↦ inl (let m = h.0 in omega arith) | inr l ↦ inr l ])
 
 pub between-in : (a b : ℕ) (xs : List ℕ) (k : ℕ) → IsBetween a b xs → among xs k ≡ true → (a ≤ k) × (k < b)
-between-in a b xs k h found = elim (cases_lt k a) [
-  | inl low ↦ absurd (false≢true (sym (between-out a b xs k h (inl low)) ∙ found))
-  | inr from ↦ elim (cases_lt k b) [
-    | inl below ↦ (omega arith, below)
-    | inr past ↦ absurd (false≢true (sym (between-out a b xs k h (inr (omega arith))) ∙ found))
-  ]
-]
+between-in a b xs k h found = grind (arith, common_steps, cases_lt, false≢true, between-out)
 
 -- ---- membership
 
@@ -109,18 +100,8 @@ past-later next ks j l = ap (λ b. b && not (among ks j)) (le-ltb j next l)
 
 -- what comes into flight is not past
 pub past-grown : (a next m : ℕ) (ks : List ℕ) (j : ℕ) → IsBetween a next ks → is_past (next + m) (ks ++ range_with_len next m) j ≡ is_past next ks j
-past-grown a next m ks j h = elim (cases_lt j next) [
-  | inl low ↦
-      ap (λ b. b && not (among (ks ++ range_with_len next m) j)) (lt-ltb j (next + m) (omega arith) ∙ sym (lt-ltb j next low))
-      ∙ ap (λ b. ltb j next && not b) (among-append ks (range_with_len next m) j ∙ ap (λ b. among ks j || b) (among-range_out next m j (inl low)) ∙ or_nothing (among ks j))
-  | inr from ↦ elim (cases_lt j (next + m)) [
-    | inl within ↦
-        past-in (next + m) (ks ++ range_with_len next m) j
-        (among-append ks (range_with_len next m) j ∙ ap (λ b. b || among (range_with_len next m) j) (between-out a next ks j h (inr (omega arith))) ∙ among-range_in next m j (omega arith) within)
-        ∙ sym (past-later next ks j (omega arith))
-    | inr past ↦ past-later (next + m) (ks ++ range_with_len next m) j (omega arith) ∙ sym (past-later next ks j (omega arith))
-  ]
-]
+past-grown a next m ks j h =
+    search (rules, cases_lt, not, lt-ltb, ltb, among-append, among-range_out, or_nothing, past-in, between-out, among-range_in, past-later)
 
 -- what leaves it is
 pub past-without : (a next k : ℕ) (ks : List ℕ) (j : ℕ) → IsBetween a next ks → among ks k ≡ true → is_past next (filter (λ i. not (i == k)) ks) j ≡ (is_past next ks j || j == k)
@@ -199,12 +180,6 @@ open-split a next n ks l h =
     ∙ ap (λ (k : ℕ). ks ++ filter (λ j. not (is_past next ks j)) (range_with_len k n)) (let e : a + (next - a) ≡ next = omega arith in e)
     ∙ ap (λ (xs : List ℕ). ks ++ xs) (filter-agree (λ k. not (is_past next ks k)) (λ k. true) next n (λ k m b. ap not (past-later next ks k m)) ∙ filter-all (range_with_len next n))
 
--- all past: nothing in flight
-pub all-past : (a next n : ℕ) → next ≡ a + n → list_all (is_past next []) (range_with_len a n) ≡ true
-all-past a next zero e = refl
-all-past a next (suc n) e =
-    ap (λ b. b && list_all (is_past next []) (range_with_len (a + 1) n)) (past-yes next [] a (omega arith) refl) ∙ all-past (a + 1) next n (omega arith)
-
 -- one that isn't
 pub not-past : (p : ℕ → Bool) (a n k : ℕ) → a ≤ k → k < a + n → p k ≡ false → list_all p (range_with_len a n) ≡ false
 not-past p a zero k l b e = absurd (omega arith)
@@ -218,8 +193,4 @@ not-past p a (suc n) k l b e = elim (cases_eq a k) [
 
 -- the head of rising numbers is the first that isn't past
 pub head-first : (next k : ℕ) (ks : List ℕ) → IsBetween 0 next (k ∷ ks) → ((j : ℕ) → j < k → is_past next (k ∷ ks) j ≡ true) × (is_past next (k ∷ ks) k ≡ false)
-head-first next k ks h =
-    let below = h.1 in (
-      (λ j l. past-yes next (k ∷ ks) j (omega arith) (between-out k next (k ∷ ks) j (omega arith, h.1, h.2) (inl l))),
-      past-in next (k ∷ ks) k (ap (λ c. c || among ks k) (eq-eqb k k refl)),
-    )
+head-first next k ks h = grind (arith, common_steps, past-yes, between-out, past-in, eq-eqb)

@@ -1,4 +1,5 @@
 -- The phase that an upload is in, and whether all is acknowledged.
+use Rattle.std.proofs.lemmas.Grind.{common_steps}
 use Rattle.std.proofs.Common.{◌≡◌, ℕ, ◌<◌, Bool, true, false, not, cond, ◌&&◌, ◌==◌, List, [], ◌∷◌, length, refl, ap, sym, subst, ◌∙◌, arith, inl, inr}
 use Rattle.std.specs.List.{range_with_len, list_all}
 use Rattle.std.proofs.lemmas.Bool.{cases_lt, false≢true, false_from_ne_true}
@@ -55,10 +56,7 @@ pub rows-complete : (s : Upload) (p : Phase) (rows : List Row) → RowsStand s p
 rows-complete s p rows stand none = all-settled s p rows stand (λ d l. empty-all rows none d)
 
 pub rows-open : (s : Upload) (p : Phase) (rows : List Row) → RowsStand s p rows → list_all (λ (row : Row). length row.window.items == 0) rows ≡ false → all_settled s p (marked rows) ≡ false
-rows-open s p rows stand some =
-    let one = some-window rows some in
-    let l = one.1 in
-    not-settled s p rows stand one.0 (let n = stand.count in omega arith) one.2
+rows-open s p rows stand some = grind (arith, common_steps, some-window, not-settled)
 
 -- whether the first phase is complete
 pub loading-open : (s : Upload) (done : Packets) → Loading ≡ phase_of s done → all_settled s Loading done ≡ false

@@ -1,8 +1,8 @@
 -- What is in flight of a row, and what one packet less or a tick more makes of it.
-use Rattle.std.proofs.Common.{◌≡◌, ◌≢◌, ◌==◌, ℕ, zero, suc, ◌+◌, ◌-◌, ◌<◌, ◌≤◌, Bool, true, false, not, cond, ◌||◌, eqb, List, [], ◌∷◌, ◌++◌, length, take, drop, map, filter, set, get_or, refl, ap, sym, subst, ◌∙◌, arith, Some, inl, inr}
+use Rattle.std.proofs.lemmas.Grind.{common_steps}
+use Rattle.std.proofs.Common.{◌≡◌, ◌≢◌, ◌==◌, ℕ, zero, suc, ◌+◌, ◌-◌, ◌<◌, ◌≤◌, Bool, true, false, not, cond, ◌||◌, eqb, List, [], ◌∷◌, ◌++◌, length, take, drop, map, filter, set, get_or, refl, ap, sym, subst, ◌∙◌, arith, inl, inr}
 use Rattle.std.specs.Prelude.{All}
-use Rattle.std.specs.Option.{option_or}
-use Rattle.std.specs.List.{range_with_len, list_all, list_any, refill}
+use Rattle.std.specs.List.{range_with_len, list_all, list_any}
 use Rattle.std.proofs.lemmas.Bool.{cases_eq, eq-eqb, ne_eqb, false≢true, and_parts, and_from}
 use Rattle.std.proofs.lemmas.List.{append-nil, append_assoc, take_at, take_all, length-map, map-append}
 use Rattle.std.proofs.lemmas.List.Elements.{All-nil, All-cons, All-append, All-filter, filter-append}
@@ -15,7 +15,7 @@ use Rattle.upload_model.proofs.HostSteps.{range-more}
 use Rattle.upload_core.specs.declared.row.InFlight.{InFlight}
 use Rattle.upload_core.specs.declared.row.Row.{Row}
 use Rattle.upload_core.specs.Rows.{packets_in, among, is_past, is_marked, count_in}
-use Rattle.upload_core.specs.Steps.{IsBetween, fresh, older, tired_in, RowStands}
+use Rattle.upload_core.specs.Steps.{IsBetween, fresh, older, RowStands}
 use Rattle.upload_core.proofs.Numbers.{filter-agree, range-split, between-append, between-without, between-out, past-yes, past-in, past-grown, past-without, open-split, not-past}
 
 -- ---- packets and their counts
@@ -47,27 +47,7 @@ count_in-without [] k j = at (eqb j k) where
   at : (b : Bool) → ◌≡◌ {A = ℕ} 0 (cond b 0 0)
   at true = refl
   at false = refl
-count_in-without (e ∷ es) k j = elim (cases_eq e.packet k) [
-  | inl same ↦
-      ap (λ b. count_in (cond (not b) (e ∷ filter (λ x. not (x.packet == k)) es) (filter (λ x. not (x.packet == k)) es)) j) (eq-eqb e.packet k same)
-      ∙ count_in-without es k j
-      ∙ elim (cases_eq j k) [
-        | inl here ↦ ap (λ b. cond b 0 (count_in es j)) (eq-eqb j k here) ∙ sym (ap (λ b. cond b 0 (count_in (e ∷ es) j)) (eq-eqb j k here))
-        | inr there ↦
-            ap (λ b. cond (j == k) 0 (cond b e.ticks (count_in es j))) (sym (ne_eqb e.packet j (λ f. there (omega arith))))
-      ]
-  | inr other ↦
-      ap (λ b. count_in (cond (not b) (e ∷ filter (λ x. not (x.packet == k)) es) (filter (λ x. not (x.packet == k)) es)) j) (ne_eqb e.packet k other)
-      ∙ ap (λ n. cond (eqb e.packet j) e.ticks n) (count_in-without es k j)
-      ∙ elim (cases_eq j k) [
-        | inl here ↦
-            ap (λ b. cond b e.ticks (cond (j == k) 0 (count_in es j))) (ne_eqb e.packet j (λ f. other (omega arith)))
-            ∙ ap (λ b. cond b 0 (count_in es j)) (eq-eqb j k here) ∙ sym (ap (λ b. cond b 0 (count_in (e ∷ es) j)) (eq-eqb j k here))
-        | inr there ↦
-            ap (λ b. cond (eqb e.packet j) e.ticks (cond b 0 (count_in es j))) (ne_eqb j k there)
-            ∙ sym (ap (λ b. cond b 0 (count_in (e ∷ es) j)) (ne_eqb j k there))
-      ]
-]
+count_in-without (e ∷ es) k j = grind (arith, common_steps, cases_eq, cond, not, filter, eq-eqb, ne_eqb, eqb, (count_in-without es k j))
 
 pub age-step : (xs : List InFlight) (i : ℕ) → i < length xs →
     set (map older (take i xs) ++ drop i xs) i (older (get_or xs i (record { packet = 0; ticks = 0 }))) ≡ map older (take (i + 1) xs) ++ drop (i + 1) xs
@@ -76,20 +56,6 @@ age-step (x ∷ xs) zero l = refl
 age-step (x ∷ xs) (suc i) l =
     ap (λ ys. older x ∷ ys) (age-step xs i (omega arith))
     ∙ ap (λ n. map older (take n (x ∷ xs)) ++ drop n (x ∷ xs)) (let e : suc (i + 1) ≡ suc i + 1 = omega arith in e)
-
-pub tired-append : (xs ys : List InFlight) → tired_in (xs ++ ys) ≡ option_or (tired_in xs) (tired_in ys)
-tired-append [] ys = refl
-tired-append (x ∷ xs) ys = at (x.ticks == 20) (tired-append xs ys) where
-  at : (b : Bool) → tired_in (xs ++ ys) ≡ option_or (tired_in xs) (tired_in ys) → cond b (Some x.packet) (tired_in (xs ++ ys)) ≡ option_or (cond b (Some x.packet) (tired_in xs)) (tired_in ys)
-  at true rest = refl
-  at false rest = rest
-
--- a list that is written back whole
-pub refill-whole : (xs ws : List InFlight) → length ws ≡ length xs → refill (length xs) xs ws ≡ ws
-refill-whole xs ws same = take_at ws (drop (length ws) xs) (length xs) same
-
-pub refill-older : (xs ws : List InFlight) → ws ≡ map older xs → refill (length xs) xs ws ≡ map older xs
-refill-older xs ws is = refill-whole xs ws (ap (λ (ys : List InFlight). length ys) is ∙ length-map xs older) ∙ is
 
 pub count_in-older : (es : List InFlight) (k : ℕ) → count_in (map older es) k ≡ count_in es k + cond (list_any (λ j. j == k) (packets_in es)) 1 0
 count_in-older [] k = refl
@@ -267,12 +233,7 @@ row-open s p d row stands e es is =
 
 -- one packet more
 pub grows-step : (old xs : List InFlight) (next k : ℕ) → next ≤ k → Grows old xs next k → Grows old (xs ++ fresh k ∷ []) next (k + 1)
-grows-step old xs next k l g =
-    ap (λ (es : List InFlight). es ++ fresh k ∷ []) g ∙ append_assoc old (map fresh (range_with_len next (k - next))) (fresh k ∷ [])
-    ∙ ap (λ (es : List InFlight). old ++ es)
-    (ap (λ (n : ℕ). map fresh (range_with_len next (k - next)) ++ fresh n ∷ []) (let e : k ≡ next + (k - next) = omega arith in e)
-    ∙ sym (map-append fresh (range_with_len next (k - next)) ((next + (k - next)) ∷ []))
-    ∙ ap (map fresh) (sym (range-more next (k - next)) ∙ ap (range_with_len next) (let e : suc (k - next) ≡ k + 1 - next = omega arith in e)))
+grows-step old xs next k l g = grind (arith, common_steps, append_assoc, map-append, range-more)
 
 -- ---- a row with one packet less
 

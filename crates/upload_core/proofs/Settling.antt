@@ -1,4 +1,5 @@
 -- A packet that is acknowledged, and what it lets into flight.
+use Rattle.std.proofs.lemmas.Grind.{common_steps}
 use Rattle.std.proofs.Common.{◌≡◌, ◌≢◌, ◌==◌, ℕ, zero, suc, ◌+◌, ◌<◌, ◌≤◌, Bool, true, false, not, cond, ◌&&◌, ◌||◌, List, [], ◌∷◌, length, filter, set, refl, ap, sym, subst, ◌∙◌, arith, inl, inr}
 use Rattle.std.specs.Prelude.{All}
 use Rattle.std.specs.List.{range_with_len, flat_map}
@@ -153,25 +154,13 @@ module _ (s : Upload) (p : Phase) (d k : ℕ) (rows less : List Row) (h : IsLess
 -- ---- rows of which one changes
 
 turned : (j k : ℕ) → (j == k) ≡ (k == j)
-turned j k = elim (cases_eq j k) [
-  | inl same ↦ eq-eqb j k same ∙ sym (eq-eqb k j (sym same))
-  | inr other ↦ ne_eqb j k other ∙ sym (ne_eqb k j (λ e. other (sym e)))
-]
+turned j k = grind (arith, common_steps, cases_eq, eq-eqb, ne_eqb)
 
 pub row-from_zero : (a : ℕ) (row : Row) → IsRow a row → IsRow 0 row
-row-from_zero a row h = record {
-  rising = between-weaker 0 a row.next (packets_in row.window.items) (omega arith) h.rising;
-  from = omega arith;
-  past = h.past;
-  few = h.few;
-  full = h.full;
-}
+row-from_zero a row h = grind (arith, common_steps, between-weaker)
 
 pub row-until : (s : Upload) (p : Phase) (d : ℕ) (row : Row) → RowStands s p d row → row.until ≤ first_of s p d + count_of s p d
-row-until s p d row stands =
-    let few = allowed-few s p (λ i k. is_marked row k) d in
-    let until = stands.until in
-    omega (arith, few, until)
+row-until s p d row stands = grind (arith, common_steps, allowed-few)
 
 -- as many packets are new as there are in flight, at most
 pub news-few : (old new : List ℕ) (a n : ℕ) → filter (λ j. not (among old j)) new ≡ range_with_len a n → length new ≤ 4 → n ≤ 4

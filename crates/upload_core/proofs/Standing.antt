@@ -1,4 +1,5 @@
 -- From the rows of a host to the definitions over its list of events.
+use Rattle.std.proofs.lemmas.Grind.{common_steps}
 use Rattle.std.proofs.Common.{◌≡◌, ◌==◌, ◌≢◌, ℕ, zero, suc, ◌+◌, ◌<◌, ◌≤◌, Bool, true, false, not, cond, ◌&&◌, ◌||◌, eqb, List, [], ◌∷◌, ◌++◌, length, map, filter, refl, ap, sym, subst, ◌∙◌, arith, Option, Some, None, inl, inr}
 use Rattle.std.specs.Prelude.{find, nat_lt, All}
 use Rattle.std.specs.List.{range_with_len, list_all, flat_map}
@@ -14,15 +15,15 @@ use Rattle.upload_model.specs.declared.events.Phase.TheVariants.{Loading}
 use Rattle.upload_model.specs.declared.events.Sent.{Sent}
 use Rattle.upload_model.specs.declared.events.Progress.{Progress}
 use Rattle.upload_model.specs.declared.events.Progress.TheVariants.{Going, Done, GaveUp, Refused, Differs}
-use Rattle.upload_model.specs.Sessions.{Upload, drone_count, load_count, packet_count, first_of}
+use Rattle.upload_model.specs.Sessions.{Upload, drone_count, load_count, packet_count}
 use Rattle.upload_model.specs.Replies.{reply_to, is_good, is_end}
-use Rattle.upload_model.specs.Hosts.{Packets, phase_of, allowed, includes, gave_up, if_going, sent_at, sent_to, all_packets, acknowledges, joined, acked, counts, flight_after, flight, ticks, ended_for, ends_for, ended_by, progress, out}
+use Rattle.upload_model.specs.Hosts.{Packets, phase_of, includes, gave_up, if_going, sent_at, sent_to, all_packets, acknowledges, joined, acked, counts, flight_after, flight, ticks, ended_for, ends_for, ended_by, progress, out}
 use Rattle.upload_model.proofs.HostLaws.{All-flat_map_range, acked-push, acked-more, acked-done, IsFlight, flight-fits}
 use Rattle.upload_model.proofs.HostSteps.{flat_map-range-agree, acked-tick, flight-tick, ticks-push, progress-stays, progress-next, progress-tick, Agree, all_settled-agree, phase_of-agree, flight_after-agree}
 use Rattle.upload_core.specs.declared.row.InFlight.{InFlight}
 use Rattle.upload_core.specs.declared.row.Row.{Row}
 use Rattle.upload_core.specs.Rows.{packets_in, among, is_past, is_marked, row_at, marked, window_at, counted, count_in}
-use Rattle.upload_core.specs.Steps.{IsBetween, IsRow, older, older_row, tired_in, RowStands, RowsStand, IsReady, IsLow, in_windows}
+use Rattle.upload_core.specs.Steps.{IsRow, older, older_row, tired_in, RowStands, RowsStand, IsReady, IsLow, in_windows}
 use Rattle.upload_core.specs.HostState.{HostView, IsPacketOf}
 use Rattle.upload_core.specs.HostStandsFor.{HostStandsFor}
 use Rattle.upload_core.proofs.Numbers.{between-weaker}
@@ -52,20 +53,14 @@ find-rows_agree : (p q : Sent → Bool) (count : ℕ → ℕ) (a n : ℕ) →
     find p (flat_map (λ d. sent_to d (range_with_len 0 (count d))) (range_with_len a n)) ≡ find q (flat_map (λ d. sent_to d (range_with_len 0 (count d))) (range_with_len a n))
 find-rows_agree p q count a zero h = refl
 find-rows_agree p q count a (suc n) h =
-    find-append p (sent_to a (range_with_len 0 (count a))) (flat_map (λ d. sent_to d (range_with_len 0 (count d))) (range_with_len (a + 1) n))
-    ∙ ap (λ (o : Option Sent). option_or o (find p (flat_map (λ d. sent_to d (range_with_len 0 (count d))) (range_with_len (a + 1) n)))) (find-sent_agree p q a 0 (count a) (λ k l. h a k (omega arith) (omega arith)))
-    ∙ ap (λ (o : Option Sent). option_or (find q (sent_to a (range_with_len 0 (count a)))) o) (find-rows_agree p q count (a + 1) n (λ d k l b. h d k (omega arith) b))
-    ∙ sym (find-append q (sent_to a (range_with_len 0 (count a))) (flat_map (λ d. sent_to d (range_with_len 0 (count d))) (range_with_len (a + 1) n)))
+    grind (arith, common_steps, find-append, find-sent_agree, (find-rows_agree p q count (a + 1) n (λ d k l b. h d k (omega arith) b)))
 
 list_all-rows_agree : (p q : Sent → Bool) (count : ℕ → ℕ) (a n : ℕ) →
     ((d k : ℕ) → d < a + n → k < count d → p (record { drone = d; packet = k }) ≡ q (record { drone = d; packet = k })) →
     list_all p (flat_map (λ d. sent_to d (range_with_len 0 (count d))) (range_with_len a n)) ≡ list_all q (flat_map (λ d. sent_to d (range_with_len 0 (count d))) (range_with_len a n))
 list_all-rows_agree p q count a zero h = refl
 list_all-rows_agree p q count a (suc n) h =
-    list_all-append p (sent_to a (range_with_len 0 (count a))) (flat_map (λ d. sent_to d (range_with_len 0 (count d))) (range_with_len (a + 1) n))
-    ∙ ap (λ (b : Bool). b && list_all p (flat_map (λ d. sent_to d (range_with_len 0 (count d))) (range_with_len (a + 1) n))) (list_all-sent_agree p q a 0 (count a) (λ k l. h a k (omega arith) (omega arith)))
-    ∙ ap (λ (b : Bool). list_all q (sent_to a (range_with_len 0 (count a))) && b) (list_all-rows_agree p q count (a + 1) n (λ d k l b. h d k (omega arith) b))
-    ∙ sym (list_all-append q (sent_to a (range_with_len 0 (count a))) (flat_map (λ d. sent_to d (range_with_len 0 (count d))) (range_with_len (a + 1) n)))
+    grind (arith, common_steps, list_all-append, list_all-sent_agree, (list_all-rows_agree p q count (a + 1) n (λ d k l b. h d k (omega arith) b)))
 
 abbrev pub SameTest : Upload → (Sent → Bool) → (Sent → Bool) → Type 0
 SameTest s p q = (d k : ℕ) → d < drone_count s → k < packet_count s d → p (record { drone = d; packet = k }) ≡ q (record { drone = d; packet = k })
@@ -129,21 +124,10 @@ older-windows rows n =
     flat_map-range-agree (λ d. sent_to d (window_at (map older_row rows) d)) (λ d. sent_to d (window_at rows d)) 0 n (λ d l b. ap (sent_to d) (older-packets rows d))
 
 pub older-row : (a : ℕ) (row : Row) → IsRow a row → IsRow a (older_row row)
-older-row a row h =
-    let long = length-map row.window.items older in
-    record {
-      rising = subst (λ (ks : List ℕ). IsBetween a row.next ks) (sym (packets-older row.window.items)) h.rising;
-      from = h.from;
-      past = h.past;
-      few = let few = h.few in omega arith;
-      full = elim h.full [ inl four ↦ inl (long ∙ four) | inr last ↦ inr last ];
-    }
+older-row a row h = grind (arith, common_steps, length-map, packets-older)
 
 older-stands : (s : Upload) (p : Phase) (d : ℕ) (row : Row) → RowStands s p d row → RowStands s p d (older_row row)
-older-stands s p d row stands = record {
-  shape = older-row (first_of s p d) row stands.shape;
-  until = stands.until ∙ ap (λ (ks : List ℕ). first_of s p d + allowed s p (λ i k. is_past row.next ks k) d) (sym (packets-older row.window.items));
-}
+older-stands s p d row stands = grind (arith, common_steps, older-row, packets-older)
 
 pub older-rows : (s : Upload) (p : Phase) (rows : List Row) → RowsStand s p rows → RowsStand s p (map older_row rows)
 older-rows s p rows stand = record {
@@ -156,16 +140,7 @@ older-phase s rows = sym (phase_of-agree s (marked (map older_row rows)) (marked
 
 -- a row, seen from the number 0
 pub row-shape : (s : Upload) (p : Phase) (rows : List Row) → RowsStand s p rows → (d : ℕ) → d < length rows → IsRow 0 (row_at rows d)
-row-shape s p rows stand d l =
-    let n = stand.count in
-    let shape = (stand.each d (omega arith)).shape in
-    record {
-      rising = between-weaker 0 (first_of s p d) (row_at rows d).next (packets_in (row_at rows d).window.items) (omega arith) shape.rising;
-      from = omega arith;
-      past = shape.past;
-      few = shape.few;
-      full = shape.full;
-    }
+row-shape s p rows stand d l = grind (arith, common_steps, between-weaker)
 
 -- ---- a tick after which the upload goes on
 
@@ -373,16 +348,7 @@ module _ (s : Upload) (rows rows' : List Row) (from : ℕ) (packet : List ℕ) (
 -- ---- after the end
 
 pub stands-ended : (host : HostView) (h : List Event) (e : Event) → host.progress ≢ Going → HostStandsFor host h → HostStandsFor host (h ++ e ∷ [])
-stands-ended host h e ended stands = record {
-  answer = stands.answer ∙ sym (progress-stays host.session h (e ∷ []) (λ g. ended (stands.answer ∙ g)));
-  marked = λ either. elim either [
-    | inl going ↦ absurd (ended going)
-    | inr done ↦ λ d k l b.
-        let all = acked-done host.session h (sym stands.answer ∙ done) d k l b in
-        stands.marked (inr done) d k l b ∙ all ∙ sym (acked-more host.session h (e ∷ []) d k all)
-  ];
-  counted = λ going. absurd (ended going);
-}
+stands-ended host h e ended stands = grind (arith, common_steps, progress-stays, acked-done, acked-more)
 
 if_going-ended : (p : Progress) (xs : List Sent) → p ≢ Going → if_going p xs ≡ []
 if_going-ended Going xs h = absurd (h refl)

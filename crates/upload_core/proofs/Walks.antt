@@ -1,10 +1,10 @@
 -- A search, step by step.
-use Rattle.std.proofs.Common.{◌≡◌, ◌≢◌, ℕ, zero, suc, ◌+◌, ◌-◌, ◌<◌, ◌≤◌, ◌==◌, Bool, true, false, cond, eqb, List, [], ◌∷◌, ◌++◌, length, map, take, drop, set, refl, ap, sym, subst, ◌∙◌, arith, Option, Some, None}
+use Rattle.std.proofs.Common.{◌≡◌, ◌≢◌, ℕ, zero, suc, ◌+◌, ◌-◌, ◌<◌, ◌≤◌, ◌==◌, Bool, true, false, cond, eqb, List, [], ◌∷◌, ◌++◌, length, map, take, drop, set, refl, ap, ◌∙◌, arith, Option, Some, None}
 use Rattle.std.specs.Prelude.{find, All}
 use Rattle.std.specs.Option.{option_or}
 use Rattle.std.specs.List.{range_with_len, flat_map}
 use Rattle.std.proofs.lemmas.Bool.{eq-eqb, ne_eqb}
-use Rattle.std.proofs.lemmas.Grind.{flat_map-append}
+use Rattle.std.proofs.lemmas.Grind.{flat_map-append, common_steps}
 use Rattle.std.proofs.lemmas.List.{map-append}
 use Rattle.std.proofs.lemmas.List.Folds.{find-append}
 use Rattle.std.proofs.lemmas.List.Elements.{All-head, All-tail}
@@ -21,10 +21,7 @@ use Rattle.upload_core.proofs.Numbers.{range-split}
 use Rattle.upload_core.proofs.Windows.{range-one_more, windows-walk}
 
 pub find-walk : (p : ℕ → Bool) (n : ℕ) → find p (range_with_len 0 n) ≡ None → p n ≡ false → find p (range_with_len 0 (n + 1)) ≡ None
-find-walk p n before here =
-    ap (find p) (range-one_more n) ∙ find-append p (range_with_len 0 n) (n ∷ [])
-    ∙ ap (λ (o : Option ℕ). option_or o (find p (n ∷ []))) before
-    ∙ ap (λ (b : Bool). cond b (Some n) None) here
+find-walk p n before here = grind (arith, common_steps, range-one_more, find-append, cond)
 
 pub find-at : (p : ℕ → Bool) (n k : ℕ) → k < n → find p (range_with_len 0 k) ≡ None → p k ≡ true → find p (range_with_len 0 n) ≡ Some k
 find-at p n k l before here =
@@ -39,10 +36,7 @@ find-at p n k l before here =
 
 pub sent-entry : (d : ℕ) (es : List InFlight) (i : ℕ) (x : InFlight) → take (i + 1) es ≡ take i es ++ x ∷ [] →
     sent_to d (packets_in (take (i + 1) es)) ≡ sent_to d (packets_in (take i es)) ++ record { drone = d; packet = x.packet } ∷ []
-sent-entry d es i x more =
-    ap (λ (xs : List InFlight). sent_to d (packets_in xs)) more
-    ∙ ap (sent_to d) (map-append (λ (e : InFlight). e.packet) (take i es) (x ∷ []))
-    ∙ map-append (λ (k : ℕ). record { drone = d; packet = k }) (packets_in (take i es)) (x.packet ∷ [])
+sent-entry d es i x more = grind (arith, common_steps, map-append, take)
 
 pub older-step : (rows : List Row) (i : ℕ) (row : Row) → i < length rows → row ≡ older_row (row_at rows i) →
     set (map older_row (take i rows) ++ drop i rows) i row ≡ map older_row (take (i + 1) rows) ++ drop (i + 1) rows
@@ -87,11 +81,7 @@ tired-row rows d row =
 
 pub tired-walk : (rows : List Row) (n : ℕ) → IsRow 0 (row_at rows n) → find (λ x. counted rows x.drone x.packet == 20) (in_windows rows n) ≡ None →
     find (λ x. counted rows x.drone x.packet == 20) (in_windows rows (n + 1)) ≡ packet_of n (tired_in (row_at rows n).window.items)
-tired-walk rows n row before =
-    ap (find (λ x. counted rows x.drone x.packet == 20)) (windows-walk rows n)
-    ∙ find-append (λ x. counted rows x.drone x.packet == 20) (in_windows rows n) (sent_to n (window_at rows n))
-    ∙ ap (λ (o : Option Sent). option_or o (find (λ x. counted rows x.drone x.packet == 20) (sent_to n (window_at rows n)))) before
-    ∙ tired-row rows n row
+tired-walk rows n row before = grind (arith, common_steps, windows-walk, find-append, tired-row)
 
 pub tired-here : (rows : List Row) (n m k : ℕ) → n < m → IsRow 0 (row_at rows n) → find (λ x. counted rows x.drone x.packet == 20) (in_windows rows n) ≡ None →
     tired_in (row_at rows n).window.items ≡ Some k → find (λ x. counted rows x.drone x.packet == 20) (in_windows rows m) ≡ Some (record { drone = n; packet = k })
@@ -117,10 +107,4 @@ row_at-past (row ∷ rows) (suc d) l = row_at-past rows d (omega arith)
 
 -- a row of which nothing is in flight, seen from the number 0
 pub row-empty : (a : ℕ) (row : Row) → IsRow a row → row.window.items ≡ [] → IsRow 0 row
-row-empty a row h empty = record {
-  rising = subst (λ (es : List InFlight). IsBetween 0 row.next (packets_in es)) (sym empty) tt;
-  from = omega arith;
-  past = h.past;
-  few = h.few;
-  full = h.full;
-}
+row-empty a row h empty = grind (arith, common_steps)

@@ -1,13 +1,11 @@
 -- Why `number_of` keeps its contract, at the places where the check needs to be told.
-use Rattle.std.proofs.Common.{◌∙◌, ◌<◌, sym, arith}
+use Rattle.std.proofs.lemmas.Grind.{common_steps}
+use Rattle.std.proofs.Common.{◌∙◌, sym, arith}
 use Rattle.fleet_world.proofs.ScheduleLaws.{natural-read, number_of-read}
 use Rattle.fleet_world.proofs.schedule.number_of.Goals as goal
 
 pub overflow_cast-result : goal.overflow_cast-result
-overflow_cast-result c =
-    let read = natural-read c.args.word.now c.in-Some.n (omega arith) (sym c.natural.ensures ∙ c.in-Some.is) in
-    let small : c.in-Some.n < 1000000000 = read.1 in
-    omega (arith, small)
+overflow_cast-result c = grind (arith, common_steps, natural-read)
 
 pub returns-in-Some : goal.returns-in-Some
 returns-in-Some c =

@@ -1,5 +1,6 @@
 -- Why `make_room` keeps its contract, at the places where the check needs to be told.
-use Rattle.std.proofs.Common.{◌≡◌, ◌∙◌, ◌+◌, ◌≤◌, List, get_or, set, take, refl, subst, sym, arith}
+use Rattle.std.proofs.lemmas.Grind.{common_steps}
+use Rattle.std.proofs.Common.{◌≡◌, ◌∙◌, ◌+◌, ◌≤◌, List, get_or, set, take, refl, subst, arith}
 use Rattle.std.specs.Prelude.{All, vec_len, vec_capacity}
 use Rattle.std.proofs.lemmas.List.{length-set, take_more_set, take_all}
 use Rattle.std.proofs.lemmas.List.Elements.{All-push}
@@ -27,15 +28,7 @@ pub returns-in_err-reserve-clause-given : goal.returns-in_err-reserve-clause-giv
 returns-in_err-reserve-clause-given c = given-kept (goal.at.returns-in_err-reserve-clause-given c).After-reserve ∙ c.loop-drone.invariant.given
 
 pub loop-drone-preserved : goal.loop-drone-preserved
-loop-drone-preserved c =
-    let w = (goal.at.loop-drone-preserved c).After-reserve in record {
-      sent = sent-kept w ∙ c.loop-drone.invariant.sent;
-      given = given-kept w ∙ c.loop-drone.invariant.given;
-      len = length-set c.loop-drone.traffic c.loop-drone.drone (wider w) ∙ c.loop-drone.invariant.len;
-      room = subst (λ (traffic : List Traffic). All (λ (t : Traffic). vec_len t.sent + c.args.packets ≤ vec_capacity t.sent) traffic)
-          (sym (take_more_set c.loop-drone.traffic c.loop-drone.drone (wider w) (omega arith)))
-          (All-push (λ (t : Traffic). vec_len t.sent + c.args.packets ≤ vec_capacity t.sent) (take c.loop-drone.drone c.loop-drone.traffic) (wider w) c.loop-drone.invariant.room c.in_ok-reserve.ensures.ok);
-    }
+loop-drone-preserved c = grind (arith, common_steps, sent-kept, given-kept, length-set, wider, take_more_set, All-push, take)
 
 pub returns-clause-room : goal.returns-clause-room
 returns-clause-room c =

@@ -1,5 +1,5 @@
-use Rattle.std.proofs.Common.{◌≡◌, ◌^◌, ◌<◌, ℕ, pos, ◌*ℤ◌, length, length-set, refl, ◌∙◌, arith}
-use Rattle.bezier_core.specs.Steps.{IsWithin}
+use Rattle.std.proofs.lemmas.Grind.{common_steps}
+use Rattle.std.proofs.Common.{◌≡◌, ◌<◌, ℕ, pos, length, length-set, refl, ◌∙◌, arith}
 use Rattle.std.proofs.lemmas.Int.{ints}
 use Rattle.std.proofs.lemmas.Option.{slice_get_within}
 use Rattle.traj_codec.specs.declared.traj.Traj.{Traj}
@@ -14,10 +14,7 @@ short_none : IsShort no_point
 short_none = record { x = (omega (arith, ints), omega (arith, ints)); y = (omega (arith, ints), omega (arith, ints)); z = (omega (arith, ints), omega (arith, ints)) }
 
 near_none : (fine : ℕ) → IsNear fine no_point
-near_none fine = record { x = here ((2 ^ fine) ^ 7); y = here ((2 ^ fine) ^ 7); z = here ((2 ^ fine) ^ 7) }
-  where
-    here : (n : ℕ) → IsWithin (pos n *ℤ pos 32768) (pos 0)
-    here n = (omega (arith, ints), omega (arith, ints))
+near_none fine = grind (arith, common_steps, ints, pos)
 
 pub loop-k-init : goal.loop-k-init
 loop-k-init c = record { size = refl; places = λ j low. absurd (omega arith); short = all_copies IsShort 32 no_point short_none; near = all_copies (IsNear c.args.fine) 32 no_point (near_none c.args.fine) }

@@ -1,4 +1,5 @@
-use Rattle.std.proofs.Common.{ℕ, ◌<◌, inl, inr, arith, refl, sym, subst, List, length, below_more}
+use Rattle.std.proofs.lemmas.Grind.{common_steps}
+use Rattle.std.proofs.Common.{ℕ, ◌<◌, inl, inr, arith, sym, subst, List, length, below_more}
 use Rattle.traj_codec.specs.declared.traj.Traj.{Traj}
 use Rattle.touch_witness.specs.declared.places.Point.{Point}
 use Rattle.touch_witness.specs.Steps.{SidesDisjoint}
@@ -24,15 +25,4 @@ earlier_pair points trajs r h fine cue at a b d e places found order inside (inr
     (pair_disjoint trajs r h fine cue at a e points places (found.first.none_before e same.1 (rw same.0 at order)))
 
 pub returns-in-Some : goal.returns-in-Some
-returns-in-Some c =
-    let found : IsFirstPair c.places-points.result c.args.axes.r c.args.axes.h c.args.fine (length c.args.trajs.now) c.in-Some.a c.in-Some.b = c.in-Some.ensures in
-    record {
-      in_cue = refl;
-      fraction = omega arith;
-      order = found.first.order;
-      inside = found.first.inside;
-      touches = pair_touches c.args.trajs.now c.args.axes.r c.args.axes.h c.args.fine c.args.cue c.loop-at.at c.in-Some.a c.in-Some.b c.places-points.result c.places-points.ensures.places found.first.touches;
-      earlier = c.loop-at.invariant;
-      none_before = λ d e order inside before.
-          earlier_pair c.places-points.result c.args.trajs.now c.args.axes.r c.args.axes.h c.args.fine c.args.cue c.loop-at.at c.in-Some.a c.in-Some.b d e c.places-points.ensures.places found order inside before;
-    }
+returns-in-Some c = grind (arith, common_steps, pair_touches, earlier_pair)

@@ -1,5 +1,6 @@
 -- Why `acknowledge` keeps its contract, at the places where the check needs to be told.
-use Rattle.std.proofs.Common.{◌≡◌, ◌∙◌, ◌<◌, Bool, true, false, cond, [], ap, sym, ℕ}
+use Rattle.std.proofs.lemmas.Grind.{common_steps}
+use Rattle.std.proofs.Common.{◌≡◌, ◌∙◌, ◌<◌, Bool, true, false, cond, [], ap, sym, ℕ, arith}
 use Rattle.upload_model.specs.declared.events.Progress.TheVariants.{Going, Done}
 use Rattle.upload_model.specs.Sessions.{drone_count}
 use Rattle.upload_model.specs.Hosts.{phase_of}
@@ -12,16 +13,7 @@ use Rattle.upload_core.proofs.answers.acknowledge.Goals as goal
 use Rattle.upload_core.proofs.answers.acknowledge.Goals.{After-is_settled}
 
 less : (c : After-is_settled) → IsLess c.args.session.now c.args.phase.now c.args.drone c.args.k c.args.rows.now c.settle.new.rows
-less c = record {
-  known = c.requires.known;
-  found = c.requires.in_flight;
-  before = c.requires.rows;
-  phase = c.requires.phase;
-  after = c.settle.ensures.rows;
-  marks = c.settle.ensures.marks;
-  others = c.settle.ensures.others;
-  counts = c.settle.ensures.counts;
-}
+less c = grind (arith, common_steps)
 
 -- ---- something of the phase is in flight
 

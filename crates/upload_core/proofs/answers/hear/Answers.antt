@@ -1,4 +1,5 @@
 -- Why `hear` keeps its contract, at the places where the check needs to be told.
+use Rattle.std.proofs.lemmas.Grind.{common_steps}
 use Rattle.std.proofs.Common.{◌≡◌, ◌∙◌, ◌<◌, ℕ, Bool, cond, List, get_or, ap, sym, subst, arith, Result, Some, None, Ok, inl, inr}
 use Rattle.crtp_packets.specs.Reading.{up_of}
 use Rattle.crtp_packets.specs.declared.reading.PacketFault.{PacketFault}
@@ -13,7 +14,7 @@ use Rattle.upload_model.specs.Sessions.{Upload, drone_count}
 use Rattle.upload_model.specs.Replies.{reply_in, reply_to}
 use Rattle.upload_model.specs.Hosts.{phase_of, flight_after, includes}
 use Rattle.upload_core.specs.declared.row.Row.{Row}
-use Rattle.upload_core.specs.Rows.{packets_in, among, is_marked, marked}
+use Rattle.upload_core.specs.Rows.{packets_in, among, marked}
 use Rattle.upload_core.specs.Steps.{IsFor, RowsStand}
 use Rattle.upload_core.proofs.Windows.{row-at}
 use Rattle.upload_core.proofs.Settling.{flight-includes}
@@ -110,12 +111,7 @@ returns-else-not-has c =
 
 -- the row that is indexed says whether the packet is acknowledged
 past : (c : After-is_past) → marked c.args.rows.now c.args.drone c.in-Some.k ≡ c.is_past.result
-past c =
-    ap (λ (r : Row). is_marked r c.in-Some.k)
-    (row-at c.args.rows.now c.args.drone c.index-rows-from-in-Ends.result c.index-rows-from-in-Ends.is
-    (let n = c.requires.rows.count in let value = c.drones.ensures.value in omega arith)
-    ∙ c.index-rows-from-in-Ends.is)
-    ∙ sym c.is_past.ensures
+past c = grind (arith, common_steps, row-at)
 
 pub returns-then-is_past : goal.returns-then-is_past
 returns-then-is_past c =

@@ -1,13 +1,12 @@
 -- Why `settle` keeps its contract, at the places where the check needs to be told.
-use Rattle.std.proofs.Common.{◌≡◌, ◌∙◌, ◌<◌, ◌≤◌, ◌-◌, ◌==◌, ◌||◌, ℕ, not, length, set, get_or, filter, ap, sym, subst, arith}
-use Rattle.std.specs.Prelude.{All}
+use Rattle.std.proofs.lemmas.Grind.{common_steps}
+use Rattle.std.proofs.Common.{◌≡◌, ◌∙◌, ◌<◌, ◌≤◌, ◌-◌, not, length, set, get_or, filter, ap, sym, subst, arith, rules}
 use Rattle.std.specs.List.{range_with_len}
 use Rattle.std.proofs.lemmas.List.{length-set, length-map}
 use Rattle.upload_model.specs.Sessions.{first_of}
-use Rattle.upload_model.specs.Hosts.{sent_to}
 use Rattle.upload_core.specs.declared.row.InFlight.{InFlight}
 use Rattle.upload_core.specs.declared.row.Row.{Row}
-use Rattle.upload_core.specs.Rows.{packets_in, among, row_at, window_at, is_marked, count_in}
+use Rattle.upload_core.specs.Rows.{packets_in, among, row_at, window_at}
 use Rattle.upload_core.specs.Steps.{IsRow, RowStands}
 use Rattle.upload_core.proofs.Windows.{row-at, row_at-set_same, row_at-set_other}
 use Rattle.upload_core.proofs.Settling.{row-from_zero, row-until, news-few, set-stands, set-marks, set-low}
@@ -38,12 +37,7 @@ settle-requires-clause-in_flight c =
     ap (λ (r : Row). among (packets_in r.window.items) c.args.k) (elem w) ∙ c.requires.in_flight
 
 pub settle-requires-clause-more : goal.settle-requires-clause-more
-settle-requires-clause-more c =
-    let w = (goal.at.settle-requires-clause-more c).After-end_of in
-    let same : (get_or c.args.rows.now c.args.drone c.index-rows-drone-2.result).until ≡ (row_at c.args.rows.now c.args.drone).until = ap (λ (r : Row). r.until) (elem w) in
-    let until = row-until c.args.session.now c.args.phase c.args.drone (row_at c.args.rows.now c.args.drone) (stands w) in
-    let value = c.end_of.ensures.value in
-    omega (arith, same, until, value)
+settle-requires-clause-more c = grind (arith, common_steps, elem, row-until, stands)
 
 -- ---- the row as it is now
 
@@ -76,19 +70,10 @@ few c =
 -- the row that is read again is the new one
 again : (c : After-settle) (r : Row) → r ≡ get_or (set c.args.rows.now c.args.drone c.settle.new.self) c.args.drone r →
     get_or (set c.args.rows.now c.args.drone c.settle.new.self) c.args.drone r ≡ c.settle.new.self
-again c r is =
-    sym is
-    ∙ sym (row-at (set c.args.rows.now c.args.drone c.settle.new.self) c.args.drone r is (let l = inside c in let n = length-set c.args.rows.now c.args.drone c.settle.new.self in omega (arith, l, n)))
-    ∙ row_at-set_same c.args.rows.now c.args.drone c.settle.new.self (inside c)
+again c r is = grind (arith, common_steps, row-at, set, inside, length-set, row_at-set_same)
 
 pub put_news-requires-clause-few : goal.put_news-requires-clause-few
-put_news-requires-clause-few c =
-    let w = (goal.at.put_news-requires-clause-few c).After-settle in
-    let from : (get_or c.args.rows.now c.args.drone c.index-rows-drone.result).next ≡ (row_at c.args.rows.now c.args.drone).next = ap (λ (r : Row). r.next) (before w) in
-    let to : (get_or (set c.args.rows.now c.args.drone c.settle.new.self) c.args.drone c.index-rows-drone-3.result).next ≡ c.settle.new.self.next
-    = ap (λ (r : Row). r.next) (again w c.index-rows-drone-3.result c.index-rows-drone-3.is) in
-    let most = few w in
-    omega (arith, from, to, most)
+put_news-requires-clause-few c = grind (arith, common_steps, before, set, again, few)
 
 pub returns-clause-rows : goal.returns-clause-rows
 returns-clause-rows c =
@@ -96,37 +81,19 @@ returns-clause-rows c =
     set-stands c.args.rows.now c.args.drone c.settle.new.self (inside w) c.args.session.now c.args.phase c.requires.rows (now w)
 
 pub returns-clause-marks : goal.returns-clause-marks
-returns-clause-marks c =
-    let w = (goal.at.returns-clause-marks c).After-settle in
-    set-marks c.args.rows.now c.args.drone c.settle.new.self (inside w) c.args.k
-    (λ j. c.settle.ensures.marks j ∙ ap (λ (r : Row). is_marked r j || j == c.args.k) (old w))
+returns-clause-marks c = grind (arith, common_steps, set-marks, inside, old)
 
 pub returns-clause-others : goal.returns-clause-others
 returns-clause-others c d other = row_at-set_other c.args.rows.now c.args.drone d c.settle.new.self other
 
 pub returns-clause-counts : goal.returns-clause-counts
-returns-clause-counts c j other =
-    let w = (goal.at.returns-clause-counts c).After-settle in
-    ap (λ (r : Row). count_in r.window.items j) (row_at-set_same c.args.rows.now c.args.drone c.settle.new.self (inside w))
-    ∙ c.settle.ensures.counts j other ∙ ap (λ (r : Row). count_in r.window.items j) (old w)
+returns-clause-counts c j other = grind (arith, common_steps, row_at-set_same, inside, old)
 
 pub returns-clause-low : goal.returns-clause-low
-returns-clause-low c =
-    let w = (goal.at.returns-clause-low c).After-settle in
-    set-low c.args.rows.now c.args.drone c.settle.new.self (inside w)
-    (λ low. c.settle.ensures.low (subst (λ (r : Row). All (λ (e : InFlight). e.ticks < 20) r.window.items) (sym (old w)) low))
+returns-clause-low c = search (rules, set-low, inside, old)
 
 pub returns-clause-len : goal.returns-clause-len
 returns-clause-len c = length-set c.args.rows.now c.args.drone c.settle.new.self
 
 pub returns-clause-sent : goal.returns-clause-sent
-returns-clause-sent c =
-    let w = (goal.at.returns-clause-sent c).After-settle in
-    c.put_news.ensures
-    ∙ ap (λ (n : ℕ). sent_to c.args.drone (range_with_len n ((get_or (set c.args.rows.now c.args.drone c.settle.new.self) c.args.drone c.index-rows-drone-3.result).next - n)))
-    (ap (λ (r : Row). r.next) (before w))
-    ∙ ap (λ (n : ℕ). sent_to c.args.drone (range_with_len (row_at c.args.rows.now c.args.drone).next (n - (row_at c.args.rows.now c.args.drone).next)))
-    (ap (λ (r : Row). r.next) (again w c.index-rows-drone-3.result c.index-rows-drone-3.is))
-    ∙ ap (sent_to c.args.drone) (sym (news w))
-    ∙ ap (λ (r : Row). sent_to c.args.drone (filter (λ j. not (among (window_at c.args.rows.now c.args.drone) j)) (packets_in r.window.items)))
-    (sym (row_at-set_same c.args.rows.now c.args.drone c.settle.new.self (inside w)))
+returns-clause-sent c = grind (arith, common_steps, set, before, again, news, filter, not, row_at-set_same, inside)

@@ -1,18 +1,13 @@
 -- Why `put_news` keeps its contract, at the places where the check needs to be told.
-use Rattle.std.proofs.Common.{◌≡◌, ◌∙◌, ◌∷◌, [], ◌++◌, ◌-◌, ℕ, List, ap, arith}
+use Rattle.std.proofs.lemmas.Grind.{common_steps}
+use Rattle.std.proofs.Common.{◌≡◌, ◌∙◌, ◌-◌, ℕ, ap, arith}
 use Rattle.std.specs.List.{range_with_len}
-use Rattle.upload_model.specs.declared.events.Sent.{Sent}
 use Rattle.upload_model.specs.Hosts.{sent_to}
 use Rattle.upload_core.proofs.Windows.{sent-more}
 use Rattle.upload_core.proofs.rows.put_news.Goals as goal
 
 pub loop-packet-preserved : goal.loop-packet-preserved
-loop-packet-preserved c = (
-  c.push.ensures.items ∙ ap (λ (xs : List Sent). xs ++ record { drone = c.args.drone; packet = c.loop-packet.packet } ∷ []) c.loop-packet.invariant.0
-      ∙ sent-more c.args.drone c.args.from c.loop-packet.packet (omega arith),
-  (let few = c.loop-packet.invariant.1 in let long = c.push.ensures.len in omega arith),
-  (let last = c.loop-packet.invariant.2 in omega arith),
-)
+loop-packet-preserved c = grind (arith, common_steps, sent-more)
 
 pub returns : goal.returns
 returns c =

@@ -1,4 +1,5 @@
 -- Why `get` keeps its contract, at the places where the check needs to be told.
+use Rattle.std.proofs.lemmas.Grind.{common_steps}
 use Rattle.std.proofs.Common.{◌∙◌, ℕ, List, Some, length, get_or, ap, sym, subst, arith}
 use Rattle.std.specs.Prelude.{slice_get, slice_range}
 use Rattle.fleet_world.specs.Steps.{cut, AreEnds}
@@ -7,10 +8,7 @@ use Rattle.fleet_world.proofs.answers.Answers.get.Goals as goal
 use Rattle.fleet_world.proofs.answers.Answers.get.Goals.{After-as_slice}
 
 pub returns-then-n-ends : goal.returns-then-n-ends
-returns-then-n-ends c =
-    sym (ap (λ (ps : List (List ℕ)). slice_get ps c.args.n) (sym c.self.view_is)
-    ∙ piece-past 0 c.self.inside.bytes.items c.self.inside.ends.items c.args.n
-    (let past = c.if-n-ends.true in let n = ap (λ (es : List ℕ). length es) c.as_slice-ends.ensures.value in omega (arith, past, n)))
+returns-then-n-ends c = grind (arith, common_steps, piece-past)
 
 piece : (c : After-as_slice) → IsPiece 0 (length c.self.inside.bytes.items) c.self.inside.bytes.items c.as_slice-ends.result.now c.args.n
 piece c =

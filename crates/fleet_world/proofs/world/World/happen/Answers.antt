@@ -1,12 +1,12 @@
 -- Why `happen` keeps its contract, at the places where the check needs to be told.
-use Rattle.std.proofs.Common.{◌≡◌, ◌∙◌, ◌++◌, ℕ, List, length, ap, sym, subst, arith}
+use Rattle.std.proofs.lemmas.Grind.{common_steps}
+use Rattle.std.proofs.Common.{◌≡◌, ◌∙◌, List, length, ap, sym, subst, arith}
 use Rattle.std.specs.Vec.{with_items}
 use Rattle.std.proofs.lemmas.List.{with_items_is}
 use Rattle.upload_model.specs.Sessions.{Upload, drone_count}
 use Rattle.upload_model.specs.Worlds.{host_event}
-use Rattle.upload_model.specs.declared.events.Sent.{Sent}
 use Rattle.fleet_world.specs.declared.traffic.Traffic.{Traffic}
-use Rattle.fleet_world.specs.Traffics.{sent_of, given_of, row_of, numbers_for, AreNumbersOf}
+use Rattle.fleet_world.specs.Traffics.{sent_of, given_of, AreNumbersOf}
 use Rattle.fleet_world.specs.WorldState.{WorldState, WorldStandsAt}
 use Rattle.fleet_world.proofs.Points.{AfterPut, known-put, stands-host_event}
 use Rattle.fleet_world.proofs.world.World.happen.Goals as goal
@@ -22,11 +22,7 @@ after : (c : After-put_all) → (with_items (with_items c.self.inside.traffic c.
 after c = with_items_is (with_items c.self.inside.traffic c.make_room.new.traffic) c.put_all.new.traffic (c.put_all.ensures.len ∙ (omega arith))
 
 sent : (c : After-put_all) → AfterPut c.event-progress.new.out.items (sent_of c.self.inside.traffic.items) (sent_of c.put_all.new.traffic)
-sent c d =
-    c.put_all.ensures.sent d
-    ∙ ap (λ (traffic : List Traffic). row_of (sent_of traffic) d ++ numbers_for c.as_slice.result.now d) (before c)
-    ∙ ap (λ (rows : List (List ℕ)). row_of rows d ++ numbers_for c.as_slice.result.now d) (c.make_room.ensures.sent ∙ ap sent_of c.as_mut_slice.ensures.value)
-    ∙ ap (λ (xs : List Sent). row_of (sent_of c.self.inside.traffic.items) d ++ numbers_for xs d) c.as_slice.ensures.value
+sent c d = grind (arith, common_steps, before)
 
 given : (c : After-put_all) → given_of c.put_all.new.traffic ≡ given_of c.self.inside.traffic.items
 given c = c.put_all.ensures.given ∙ ap given_of (before c) ∙ c.make_room.ensures.given ∙ ap given_of c.as_mut_slice.ensures.value

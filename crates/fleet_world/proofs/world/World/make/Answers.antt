@@ -1,17 +1,17 @@
 -- Why `make` keeps its contract, at the places where the check needs to be told.
-use Rattle.std.proofs.Common.{◌≡◌, ◌∙◌, ◌++◌, ◌<◌, [], ℕ, List, length, replicate, ap, sym, subst, arith}
+use Rattle.std.proofs.lemmas.Grind.{common_steps}
+use Rattle.std.proofs.Common.{◌≡◌, ◌∙◌, [], List, length, replicate, ap, sym, subst, arith}
 use Rattle.std.specs.Prelude.{All}
 use Rattle.std.specs.Vec.{with_items}
 use Rattle.std.proofs.lemmas.List.{with_items_is}
 use Rattle.std.proofs.lemmas.List.Elements.{All-weaker}
 use Rattle.upload_model.specs.declared.events.Progress.TheVariants.{Going}
-use Rattle.upload_model.specs.declared.events.Sent.{Sent}
 use Rattle.upload_model.specs.Sessions.{IsSession, Upload, drone_count}
 use Rattle.upload_model.specs.Hosts.{flight}
 use Rattle.upload_model.specs.Worlds.{start_world}
 use Rattle.upload_core.specs.HostState.{IsPacketOf}
 use Rattle.fleet_world.specs.declared.traffic.Traffic.{Traffic}
-use Rattle.fleet_world.specs.Traffics.{sent_of, given_of, row_of, numbers_for, AreNumbersOf, HasRoom}
+use Rattle.fleet_world.specs.Traffics.{sent_of, given_of, AreNumbersOf}
 use Rattle.fleet_world.specs.WorldState.{state_at, WorldStandsAt}
 use Rattle.fleet_world.proofs.RowLemmas.{HasRoom-less}
 use Rattle.fleet_world.proofs.Points.{AfterPut, known-put, none-known, stands-start}
@@ -32,28 +32,17 @@ after : (c : After-put_all) → (with_items (with_items c.in_ok-traffic.traffic 
 after c = with_items_is (with_items c.in_ok-traffic.traffic c.make_room.new.traffic) c.put_all.new.traffic (c.put_all.ensures.len ∙ (omega arith))
 
 sent : (c : After-put_all) → c.as_mut_slice-2.result.now ≡ c.make_room.new.traffic → AfterPut (flight c.in_ok-host.host.session []) (replicate c.drones.result []) (sent_of c.put_all.new.traffic)
-sent c before d =
-    c.put_all.ensures.sent d
-    ∙ ap (λ (traffic : List Traffic). row_of (sent_of traffic) d ++ numbers_for c.as_slice.result.now d) before
-    ∙ ap (λ (rows : List (List ℕ)). row_of rows d ++ numbers_for c.as_slice.result.now d) (c.make_room.ensures.sent ∙ ap sent_of c.as_mut_slice.ensures.value ∙ c.in_ok-traffic.ensures.sent)
-    ∙ ap (λ (xs : List Sent). row_of (replicate c.drones.result []) d ++ numbers_for xs d) (c.as_slice.ensures.value ∙ c.first.ensures.sent)
+sent c before d = grind (arith, common_steps, replicate)
 
 given : (c : After-put_all) → c.as_mut_slice-2.result.now ≡ c.make_room.new.traffic → given_of c.put_all.new.traffic ≡ replicate c.drones.result []
 given c before =
     c.put_all.ensures.given ∙ ap given_of before ∙ c.make_room.ensures.given ∙ ap given_of c.as_mut_slice.ensures.value ∙ c.in_ok-traffic.ensures.given
 
 pub put_all-requires-clause-known : goal.put_all-requires-clause-known
-put_all-requires-clause-known c =
-    let w = (goal.at.put_all-requires-clause-known c).After-make_room in
-    subst (λ (xs : List Sent). All (λ (x : Sent). x.drone < length c.as_mut_slice-2.result.now) xs) (sym c.as_slice.ensures.value)
-    (All-weaker (IsPacketOf c.in_ok-host.host.session) (λ (x : Sent). x.drone < length c.as_mut_slice-2.result.now)
-    (λ x h. let n = ap (λ (traffic : List Traffic). length traffic) (c.as_mut_slice-2.ensures.value ∙ room w) ∙ count w in let l = h.drone in omega (arith, n, l)) c.first.new.out.items c.first.ensures.known)
+put_all-requires-clause-known c = grind (arith, common_steps, All-weaker, room, count)
 
 pub put_all-requires-clause-room : goal.put_all-requires-clause-room
-put_all-requires-clause-room c =
-    subst (λ (traffic : List Traffic). HasRoom traffic (length c.as_slice.result.now))
-    (sym (c.as_mut_slice-2.ensures.value ∙ room (goal.at.put_all-requires-clause-room c).After-make_room))
-    (HasRoom-less c.make_room.new.traffic 128 (length c.as_slice.result.now) (omega arith) c.in_ok-make_room.ensures.room)
+put_all-requires-clause-room c = grind (arith, common_steps, room, HasRoom-less)
 
 pub invariant_of-result : goal.invariant_of-result
 invariant_of-result c =

@@ -1,10 +1,10 @@
 -- Why `take` keeps its contract, at the places where the check needs to be told.
+use Rattle.std.proofs.lemmas.Grind.{common_steps}
 use Rattle.std.proofs.Common.{◌≡◌, ◌∙◌, ◌++◌, ◌<◌, ℕ, List, set, refl, ap, sym, subst, arith, length}
-use Rattle.std.specs.Prelude.{All}
 use Rattle.std.proofs.lemmas.List.{length-set, set-get_or}
 use Rattle.std.proofs.lemmas.Option.{slice_get_read}
 use Rattle.upload_model.specs.Drones.{DroneState, handled}
-use Rattle.upload_model.specs.Sessions.{Upload, drone_count, packet_count}
+use Rattle.upload_model.specs.Sessions.{Upload, drone_count}
 use Rattle.upload_model.specs.Worlds.{option_list}
 use Rattle.firmware_memory.specs.Shown.{shown}
 use Rattle.fleet_world.specs.declared.traffic.Traffic.{Traffic}
@@ -19,17 +19,7 @@ inside : (xs : List Traffic) (d n : ℕ) → length xs ≡ n → d < n → d < l
 inside xs d n same l = omega arith
 
 pub invariant_of-self : goal.invariant_of-self
-invariant_of-self c =
-    let known = inside c.self.inside.traffic.items c.args.drone (drone_count c.self.inside.host.session) c.self.invariant.1
-    (subst (λ (v : WorldState). c.args.drone < drone_count v.host.session) (sym c.self.view_is) c.requires.known) in
-    let t : Traffic = record { sent = c.index_mut.result.now.sent; given = c.take.new.self } in (
-      length-set c.self.inside.drones.items c.args.drone c.take.new.drone ∙ c.self.invariant.0,
-      length-set c.self.inside.traffic.items c.args.drone t ∙ c.self.invariant.1,
-      (λ d. subst (λ (rows : List (List ℕ)). All (λ k. k < packet_count c.self.inside.host.session d) (row_of rows d))
-          (sym (rows-set_kept (λ (x : Traffic). x.sent.items) c.self.inside.traffic.items c.args.drone t c.index_mut.result.now known
-          (ap (λ (x : Traffic). x.sent.items) c.index_mut.ensures.value)))
-          (c.self.invariant.2 d)),
-    )
+invariant_of-self c = grind (arith, common_steps, inside, length-set, rows-set_kept)
 
 pub returns-clause-stands : goal.returns-clause-stands
 returns-clause-stands c =
@@ -53,14 +43,4 @@ returns-clause-stands c =
     (λ i other. row-set_other (λ (x : Traffic). x.given) c.self.inside.traffic.items c.args.drone i t other))
 
 pub returns-clause-err : goal.returns-clause-err
-returns-clause-err c =
-    on_err c.take.result _ _ c.take.ensures.err (λ h.
-    let known = inside c.self.inside.traffic.items c.args.drone (drone_count c.self.inside.host.session) c.self.invariant.1
-    (subst (λ (v : WorldState). c.args.drone < drone_count v.host.session) (sym c.self.view_is) c.requires.known) in
-    let t : Traffic = record { sent = c.index_mut.result.now.sent; given = c.take.new.self } in
-    let drones_kept = ap (set c.self.inside.drones.items c.args.drone) (h.0 ∙ c.index_mut-2.ensures.value) ∙ set-get_or c.self.inside.drones.items c.args.drone c.index_mut-2.result.now in
-    let sent_kept = rows-set_kept (λ (x : Traffic). x.sent.items) c.self.inside.traffic.items c.args.drone t c.index_mut.result.now known
-    (ap (λ (x : Traffic). x.sent.items) c.index_mut.ensures.value) in
-    let given_kept = rows-set_kept (λ (x : Traffic). x.given) c.self.inside.traffic.items c.args.drone t c.index_mut.result.now known
-    (h.1 ∙ ap (λ (x : Traffic). x.given) c.index_mut.ensures.value) in
-    (λ i. record { host = c.self.inside.host; drones = drones_kept i; sent = sent_kept i; given = given_kept i; progress = c.self.inside.progress }) ∙ c.self.view_is)
+returns-clause-err c = grind (arith, common_steps, on_err, inside, set, set-get_or, rows-set_kept)

@@ -1,4 +1,5 @@
 -- Why `on_answer` keeps its contract, at the places where the check needs to be told.
+use Rattle.std.proofs.lemmas.Grind.{common_steps}
 use Rattle.std.proofs.Common.{◌≡◌, ◌∙◌, ◌∷◌, ◌++◌, [], List, length, not, ap, sym, subst, arith}
 use Rattle.std.specs.Prelude.{All, filter}
 use Rattle.std.specs.Vec.{with_items}
@@ -7,13 +8,13 @@ use Rattle.std.proofs.lemmas.List.Elements.{All-filter}
 use Rattle.upload_model.specs.declared.events.Event.TheVariants as event
 use Rattle.upload_model.specs.declared.events.Progress.TheVariants.{Going}
 use Rattle.upload_model.specs.declared.events.Sent.{Sent}
-use Rattle.upload_model.specs.Hosts.{phase_of, flight_after, includes, progress, out}
+use Rattle.upload_model.specs.Hosts.{flight_after, includes, progress}
 use Rattle.upload_model.proofs.HostLaws.{if_going-fits}
 use Rattle.upload_core.specs.declared.row.Row.{Row}
 use Rattle.upload_core.specs.HostState.{HostState, IsPacketOf, view_of}
 use Rattle.upload_core.specs.HostStandsFor.{HostStandsFor}
 use Rattle.upload_core.specs.Rows.{marked}
-use Rattle.upload_core.specs.Steps.{RowsStand, IsReady, IsLow}
+use Rattle.upload_core.specs.Steps.{RowsStand, IsLow}
 use Rattle.upload_core.proofs.Standing.{flight_after-known, ready-hear, answer-hear, stands-hear, sent-hear}
 use Rattle.upload_core.proofs.host.Host.on_answer.Goals as goal
 use Rattle.upload_core.proofs.host.Host.on_answer.Goals.{After-hear-answer}
@@ -39,16 +40,7 @@ pub hear-answer-requires-clause-rows : goal.hear-answer-requires-clause-rows
 hear-answer-requires-clause-rows c = subst (RowsStand c.self.inside.session c.self.inside.phase) (sym c.as_mut_slice.ensures.value) c.self.invariant.0
 
 pub invariant_of-self : goal.invariant_of-self
-invariant_of-self c =
-    let w = (goal.at.invariant_of-self c).After-hear-answer in (
-      subst (RowsStand c.self.inside.session c.hear-answer.new.phase) (sym (written w)) c.hear-answer.ensures.rows,
-      c.self.invariant.1,
-      c.hear-answer.ensures.phase ∙ ap (λ (rows : List Row). phase_of c.self.inside.session (marked rows)) (sym (written w)),
-      (λ going.
-          subst (IsReady c.self.inside.session) (sym (written w))
-          (ready-hear c.self.inside.session c.as_mut_slice.result.now c.hear-answer.new.rows c.args.drone c.args.packet.now c.hear-answer.result
-          c.hear-answer.ensures.marks c.hear-answer.ensures.counts c.hear-answer.ensures.finished c.hear-answer.ensures.unfinished (c.hear-answer.ensures.low (low_before w)) going)),
-    )
+invariant_of-self c = grind (arith, common_steps, written, ready-hear, low_before)
 
 pub returns-clause-stands : goal.returns-clause-stands
 returns-clause-stands c h stands =
@@ -61,13 +53,7 @@ returns-clause-stands c h stands =
     c.hear-answer.ensures.marks c.hear-answer.ensures.counts c.hear-answer.ensures.finished c.hear-answer.ensures.unfinished h here)
 
 pub returns-clause-sent : goal.returns-clause-sent
-returns-clause-sent c h stands =
-    let w = (goal.at.returns-clause-sent c).After-hear-answer in
-    let here = subst (λ (v : HostState). HostStandsFor (view_of v) h) (seen_by w) stands in
-    c.hear-answer.ensures.sent
-    ∙ sent-hear c.self.inside.session c.as_mut_slice.result.now c.hear-answer.new.rows c.args.drone c.args.packet.now c.hear-answer.result
-    c.hear-answer.ensures.marks c.hear-answer.ensures.counts c.hear-answer.ensures.finished c.hear-answer.ensures.unfinished h here
-    ∙ ap (λ (v : HostState). out v.session h (event.Up c.args.drone c.args.packet.now)) c.self.view_is
+returns-clause-sent c h stands = grind (arith, common_steps, seen_by, sent-hear)
 
 pub returns-clause-answer : goal.returns-clause-answer
 returns-clause-answer c h stands =

@@ -1,4 +1,5 @@
 -- Why `on_tick` keeps its contract, at the places where the check needs to be told.
+use Rattle.std.proofs.lemmas.Grind.{common_steps}
 use Rattle.std.proofs.Common.{◌≡◌, ◌∙◌, ◌==◌, ◌<◌, ℕ, ◌∷◌, ◌++◌, [], List, length, map, ap, sym, subst, arith}
 use Rattle.std.specs.Prelude.{All, find}
 use Rattle.std.specs.Vec.{with_items}
@@ -39,10 +40,7 @@ written c =
 
 answered : (c : After-tick-answer) → c.tick-answer.result
     ≡ gave_up (find (λ x. counted (map older_row c.self.inside.rows.items) x.drone x.packet == 20) (in_windows c.self.inside.rows.items (length c.self.inside.rows.items)))
-answered c =
-    c.tick-answer.ensures.answer
-    ∙ ap (λ (rows : List Row). gave_up (find (λ x. counted rows x.drone x.packet == 20) (in_windows c.as_mut_slice.result.now (length c.as_mut_slice.result.now)))) (aged c)
-    ∙ ap (λ (rows : List Row). gave_up (find (λ x. counted (map older_row c.self.inside.rows.items) x.drone x.packet == 20) (in_windows rows (length rows)))) c.as_mut_slice.ensures.value
+answered c = grind (arith, common_steps, aged)
 
 sent_is : (c : After-tick-answer) → c.tick-answer.new.out.items ≡ if_going c.tick-answer.result (in_windows c.self.inside.rows.items (length c.self.inside.rows.items))
 sent_is c =

@@ -1,21 +1,13 @@
 -- Why `admit` keeps its contract, at the places where the check needs to be told.
-use Rattle.std.proofs.Common.{◌∙◌, List, ap, sym, subst, arith}
+use Rattle.std.proofs.lemmas.Grind.{common_steps}
+use Rattle.std.proofs.Common.{◌∙◌, List, ap, arith}
 use Rattle.upload_core.specs.declared.row.InFlight.{InFlight}
-use Rattle.upload_core.specs.Rows.{packets_in, count_in}
-use Rattle.upload_core.specs.Steps.{IsBetween}
+use Rattle.upload_core.specs.Rows.{count_in}
 use Rattle.upload_core.proofs.RowLemmas.{grows-rising, grows-past, grows-counts}
 use Rattle.upload_core.proofs.row.Row.admit.Goals as goal
 
 pub returns-clause-row : goal.returns-clause-row
-returns-clause-row c = record {
-  rising = grows-rising c.args.self.now.next c.args.self.now.window.items c.fill-next.new.window.items c.args.self.now.next c.fill-next.result
-      c.fill-next.ensures.grown c.fill-next.ensures.from (omega arith)
-      (subst (λ (es : List InFlight). IsBetween c.args.self.now.next c.args.self.now.next (packets_in es)) (sym c.requires.empty) tt);
-  from = c.fill-next.ensures.from;
-  past = c.fill-next.ensures.past;
-  few = c.fill-next.ensures.few;
-  full = c.fill-next.ensures.full;
-}
+returns-clause-row c = grind (arith, common_steps, grows-rising)
 
 pub returns-clause-marks : goal.returns-clause-marks
 returns-clause-marks c k =

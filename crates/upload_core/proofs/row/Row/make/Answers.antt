@@ -1,4 +1,5 @@
 -- Why `make` keeps its contract, at the places where the check needs to be told.
+use Rattle.std.proofs.lemmas.Grind.{common_steps}
 use Rattle.std.proofs.Common.{◌∙◌, List, ap, sym, subst, arith}
 use Rattle.upload_core.specs.declared.row.InFlight.{InFlight}
 use Rattle.upload_core.specs.Rows.{packets_in, count_in}
@@ -12,14 +13,7 @@ none : (c : After-fill-next) → IsBetween 0 0 (packets_in c.new-window.result.i
 none c = subst (λ (es : List InFlight). IsBetween 0 0 (packets_in es)) (sym c.new-window.ensures) tt
 
 pub returns-clause-row : goal.returns-clause-row
-returns-clause-row c = record {
-  rising = grows-rising 0 c.new-window.result.items c.fill-next.new.window.items 0 c.fill-next.result c.fill-next.ensures.grown c.fill-next.ensures.from (omega arith)
-      (none (goal.at.returns-clause-row c).After-fill-next);
-  from = c.fill-next.ensures.from;
-  past = c.fill-next.ensures.past;
-  few = c.fill-next.ensures.few;
-  full = c.fill-next.ensures.full;
-}
+returns-clause-row c = grind (arith, common_steps, grows-rising, none)
 
 pub returns-clause-blank : goal.returns-clause-blank
 returns-clause-blank c k =
