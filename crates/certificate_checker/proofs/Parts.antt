@@ -10,15 +10,6 @@ use Rattle.sep_parts.specs.Versions.{table_of}
 use Rattle.fleet_curves.proofs.Small.{three}
 use Rattle.certificate_checker.specs.Steps.{measure_of}
 
--- each difference has three curves of eight control values
-pub sizes : (curves : Raised) (a b cue : ℕ) → All (λ (curve : Bez 8). length curve.b ≡ 8) (difference curves a b cue)
-unfolding difference
-sizes curves a b cue = three (λ (curve : Bez 8). length curve.b ≡ 8) _ _ _ refl refl refl
-
-pub axes : (curves : Raised) (a b cue : ℕ) → length (difference curves a b cue) ≡ 3
-unfolding difference
-axes curves a b cue = refl
-
 -- a node that a version knows names a direction of its table
 pub known_old : (m : Measure) (clearance : Clearance) (node : Node) → m ≡ measure_of 1 clearance → IsKnown 26 node → IsKnown (length m.directions) node
 unfolding table_of

@@ -18,12 +18,6 @@ abbrev pub judged_by : Slot → List Place → ℕ → Option CertFault → Judg
 judged_by slot places n None = Clear slot places n
 judged_by slot places n (Some fault) = Wrong fault
 
--- three curves of eight control values below 2^30
-pub record AreRaised (diff : List (Bez 8)) : Type 0 where
-  pub axes : length diff ≡ 3
-  pub sizes : All (λ curve. length curve.b ≡ 8) diff
-  pub values : All (λ curve. All (IsBelow (2 ^ 30)) curve.b) diff
-
 -- the difference of the pair of a slot in its cue, where it is one of the show
 abbrev pub IsDifference : Raised → Slot → List (Bez 8) → Type 0
 IsDifference curves slot diff = slot.b < curves.drones → diff ≡ difference curves slot.a slot.b slot.cue

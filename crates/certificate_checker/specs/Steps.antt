@@ -33,9 +33,8 @@ abbrev pub reading_of : Reader → Reading
 reading_of r = reading_by r r.stage
 
 -- what holds whatever the curves are
-pub record IsSound (r : Reader) : Type 0 where
-  pub version : IsVersion r.version
-  pub depth : r.depth ≤ 8
+abbrev pub IsSound : Reader → Type 0
+IsSound r = IsVersion r.version
 
 -- what holds for these curves
 pub record IsReader (curves : Raised) (r : Reader) : Type 0 where

@@ -6,12 +6,13 @@ ghost use Rattle.sep_parts.specs.Trees.{IsKnown};
 ghost use Rattle.sep_parts.specs.Versions.{IsVersion, known_in, table_of};
 ghost use Rattle.certificate_checker.specs.Bytes.{most_bytes};
 ghost use Rattle.certificate_checker.specs.Checking.{before_tree, judged_verdict, with_node, with_tree};
-ghost use Rattle.certificate_checker.specs.Judgments.{AreRaised, HasAtMost, IsDifference, IsNext, IsSlotOrPast};
+ghost use Rattle.certificate_checker.specs.Judgments.{HasAtMost, IsDifference, IsNext, IsSlotOrPast};
 
 use crate::tables::Tables;
 use crate::verdict::Verdict;
 use bezier_core::Bez;
-use fleet_curves::Curves;
+use fleet_curves::{Curves, Difference};
+use fleet_math::Depth;
 use halving::Place;
 use sep_certificate::CertFault;
 use sep_parts::{Level, Node, Slot, Waiting};
@@ -24,34 +25,31 @@ pub struct Judging {
     slot: Slot,
     trees: u32,
     fault: Option<CertFault>,
-    diff: [Bez<8>; 3],
+    diff: Difference,
     waiting: Waiting,
 }
 
 impl Model for Judging {
     ghost use Rattle.std.specs.Prelude.{◌≡◌};
     ghost use Rattle.sep_parts.specs.Levels.{IsStack, places_of};
-    ghost use Rattle.certificate_checker.specs.Judgments.{AreRaised, Judgment, judged_by};
+    ghost use Rattle.certificate_checker.specs.Judgments.{Judgment, judged_by};
 
     ghost Value = { Judgment };
 
     ghost view = { λ j. record { judged = judged_by j.slot (places_of j.waiting) j.trees j.fault; diff = j.diff } };
 
-    ghost invariant = { λ j. AreRaised j.diff × IsStack j.diff j.waiting };
+    ghost invariant = { λ j. IsStack j.diff j.waiting };
 }
 
 // Zeros, where no pair and cue comes next. Nobody reads them.
-fn nothing() -> [Bez<8>; 3]
-    ensures { AreRaised result }
-{
-    [Bez { b: [0; 8] }; 3]
+fn nothing() -> Difference {
+    Difference::make([Bez { b: [0; 8] }; 3])
 }
 
 // The difference of the curves of a pair in a cue.
-fn difference(curves: &Curves, slot: Slot) -> [Bez<8>; 3]
+fn difference(curves: &Curves, slot: Slot) -> Difference
     requires { IsSlotOrPast curves.now slot }
-    ensures raised { AreRaised result }
-    ensures diff { IsDifference curves.now slot result }
+    ensures { IsDifference curves.now slot result }
 {
     if usize::from(slot.b) < curves.drones() {
         curves.diff(slot.a as usize, slot.b as usize, slot.cue as usize)
@@ -62,20 +60,21 @@ fn difference(curves: &Curves, slot: Slot) -> [Bez<8>; 3]
 
 impl Judging {
     // Before the tree of a pair and cue with this difference, after `trees` trees.
-    fn over(diff: [Bez<8>; 3], slot: Slot, trees: u32) -> Judging
-        requires { AreRaised diff }
+    fn over(diff: Difference, slot: Slot, trees: u32) -> Judging
         ensures judged { result.judged ≡ before_tree slot trees }
         ensures diff { result.diff ≡ diff }
     {
+        diff.raised_law();
+        let whole = Level {
+            place: Place { depth: 0, index: 0 },
+            part: *diff.curves(),
+        };
         Judging {
             slot,
             trees,
             fault: None,
             diff,
-            waiting: Waiting::of(&Level {
-                place: Place { depth: 0, index: 0 },
-                part: diff,
-            }),
+            waiting: Waiting::of(&whole),
         }
     }
 
@@ -111,9 +110,11 @@ impl Judging {
         ensures judged { self.new.judged ≡ before_tree slot trees }
         ensures next { IsNext curves.now self.new.judged self.new.diff }
     {
-        self.diff = difference(curves, slot);
+        let diff = difference(curves, slot);
+        diff.raised_law();
         self.waiting.clear();
-        self.waiting.begin(&self.diff);
+        self.waiting.begin(&diff);
+        self.diff = diff;
         self.slot = slot;
         self.trees = trees;
         self.fault = None;
@@ -121,10 +122,9 @@ impl Judging {
 
     // Judges a node of the tree that comes next, of a certificate of this version and depth. After the first fault, and in a tree
     // too many, no node is judged.
-    pub fn node(&mut self, curves: &Curves, tables: &Tables, version: u8, depth: u8, node: Node)
+    pub fn node(&mut self, curves: &Curves, tables: &Tables, version: u8, depth: Depth, node: Node)
         requires next { IsNext curves.now self.old.judged self.old.diff }
         requires version { IsVersion version }
-        requires depth { depth ≤ 8 }
         requires known { IsKnown (known_in version) node }
         ensures judged { self.new.judged ≡ with_node (record { clearance = tables.now; depth = depth }) (table_of version) curves.now self.old.judged node }
         ensures next { IsNext curves.now self.new.judged self.new.diff }
@@ -160,7 +160,7 @@ impl Judging {
     }
 
     // The verdict where the text ends here.
-    pub fn verdict(&self, curves: &Curves, version: u8, depth: u8) -> Verdict
+    pub fn verdict(&self, curves: &Curves, version: u8, depth: Depth) -> Verdict
         ensures { result ≡ judged_verdict curves.now version depth self.now.judged }
     {
         if let Some(fault) = self.fault {
@@ -177,7 +177,7 @@ impl Judging {
             };
         }
         Verdict::Valid {
-            depth,
+            depth: depth.levels(),
             trees: self.trees,
         }
     }

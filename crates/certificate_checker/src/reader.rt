@@ -14,6 +14,7 @@ use crate::tables::Tables;
 use crate::verdict::Verdict;
 use arrayvec::ArrayVec;
 use fleet_curves::Curves;
+use fleet_math::Depth;
 use sep_certificate::depth_of;
 use sep_parts::Node;
 
@@ -32,7 +33,7 @@ pub struct Reader {
     stage: Stage,
     head: ArrayVec<u8, 15>,
     version: u8,
-    depth: u8,
+    depth: Depth,
     line: u32,
     owed: u32,
     digit: Option<u8>,
@@ -70,7 +71,7 @@ impl Reader {
             stage: Stage::First,
             head: ArrayVec::new(),
             version: 1,
-            depth: 0,
+            depth: Depth::make(0),
             line: 1,
             owed: 0,
             digit: None,

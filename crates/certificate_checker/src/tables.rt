@@ -1,14 +1,14 @@
 //! The directions of both versions of certificates, with their thresholds.
 
-ghost use Rattle.std.specs.Prelude.{◌≡◌, ◌^◌, ◌≤◌, ◌<◌, All};
-ghost use Rattle.fleet_math.specs.Numbers.{IsBelow};
+ghost use Rattle.std.specs.Prelude.{◌≡◌, None};
 ghost use Rattle.sep_parts.specs.Directions.{IsClearance};
 ghost use Rattle.sep_parts.specs.Levels.{IsLevel};
-ghost use Rattle.sep_parts.specs.Trees.{IsKnown};
+ghost use Rattle.sep_parts.specs.Trees.{IsKnown, IsShallow};
 ghost use Rattle.sep_parts.specs.Versions.{IsVersion, known_in, table_of};
 ghost use Rattle.sep_certificate.specs.Certificates.{node_fault};
 
-use bezier_core::Bez;
+use fleet_curves::Difference;
+use fleet_math::Depth;
 use sep_certificate::{CertFault, node_fault};
 use sep_parts::{Clearance, DIRECTIONS, Level, Node, Ruler, Slot, WIDE};
 use std::marker::Model;
@@ -48,17 +48,17 @@ impl Tables {
     pub fn fault(
         &self,
         version: u8,
-        depth: u8,
-        diff: &[Bez<8>; 3],
+        depth: Depth,
+        diff: &Difference,
         level: &Level,
         slot: Slot,
         node: Node,
     ) -> Option<CertFault>
         requires version { IsVersion version }
-        requires values { All (λ curve. All (IsBelow (2 ^ 30)) curve.b) diff.now }
         requires level { IsLevel diff.now level.now }
         requires known { IsKnown (known_in version) node }
-        ensures { result ≡ node_fault (record { clearance = self.now; depth = depth }) (table_of version) diff.now slot level.now.place node }
+        ensures exact { result ≡ node_fault (record { clearance = self.now; depth = depth }) (table_of version) diff.now slot level.now.place node }
+        ensures shallow { result ≡ None → IsShallow level.now.place node }
     {
         if version == 1 {
             node_fault(diff, level, slot, &self.old, depth, node)

@@ -3,6 +3,7 @@
 ghost use Rattle.std.specs.Prelude.{◌≡◌, ◌≤◌, ◌∷◌, [], IfOk};
 
 use dynamics_bound::{Excess, Jump, Kind, Limits, bound, first_above, jumps, rests};
+use fleet_math::Depth;
 use std::alloc::{AllocError, Global};
 use std::test::Fail;
 use traj_codec::{Element, Listed, Segment, Traj};
@@ -325,11 +326,10 @@ fn dynamics(
     start: [i16; 4],
     first: Segment,
     second: Segment,
-    depth: u8,
+    depth: Depth,
 ) -> Result<([i64; 3], [Jump; 3], (bool, bool)), AllocError>
     requires first { 1 ≤ first.ms }
     requires second { 1 ≤ second.ms }
-    requires depth { depth ≤ 8 }
 {
     let t = flight(alloc, start, first, second)?;
     Ok((bound(&t, depth), jumps(&t), rests(&t)))
@@ -353,7 +353,7 @@ fn accelerations_and_jumps_of_two_segments(rt: HostRuntime) -> Result<(), Fail> 
             start,
             first,
             second,
-            depth.min(8),
+            Depth::make(depth.min(8)),
         )?;
         assert_eq!(rt; accelerations, bounds);
         assert_eq!(rt;
@@ -381,7 +381,7 @@ fn excess(
     requires second { 1 ≤ second.ms }
 {
     let t = flight(alloc, start, first, second)?;
-    Ok(first_above(&t, limits, 8))
+    Ok(first_above(&t, limits, Depth::make(8)))
 }
 
 // Limits on acceleration and on jumps; whether a jump is the first above them, its segment, its axis and its value.

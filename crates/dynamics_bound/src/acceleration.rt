@@ -3,6 +3,7 @@
 ghost use Rattle.std.specs.Prelude.{◌≡◌, ℕ, ◌+◌, ◌*◌, ◌^◌, ◌/◌, ◌≤◌, ◌<◌, ◌∷◌, [], pos, All, length, max};
 ghost use Rattle.fleet_math.specs.Numbers.{IsBelow};
 ghost use Rattle.fleet_math.specs.Bernstein.{at};
+ghost use Rattle.fleet_math.specs.Limits.{most_depth};
 ghost use Rattle.traj_codec.specs.Spelling.{HasDuration};
 ghost use Rattle.dynamics_bound.specs.Accelerations.{KeepsAcceleration, acceleration, acceleration_of, segment_acceleration};
 
@@ -10,6 +11,7 @@ use crate::bends::widest_above;
 use crate::formed::formed_law;
 use crate::walk::Walk;
 use bezier_core::Bez;
+use fleet_math::Depth;
 use traj_codec::Traj;
 
 /// How fast the velocity of a trajectory changes at most within its segments on x, y and z, in micrometres per second squared:
@@ -19,9 +21,8 @@ use traj_codec::Traj;
 ///
 /// Between any three instants of a segment, whatever fractions they are, the mean velocity changes by at most that number
 /// times half the time between the first and the last. Takes no memory.
-pub fn bound(t: &Traj, depth: u8) -> [i64; 3]
+pub fn bound(t: &Traj, depth: Depth) -> [i64; 3]
     requires lasting { All HasDuration t.now.segments }
-    requires depth { depth ≤ 8 }
     ensures exact { result ≡ pos (acceleration depth t.now 0) ∷ pos (acceleration depth t.now 1)
         ∷ pos (acceleration depth t.now 2) ∷ [] }
     ensures keeps { (axis : ℕ) → axis ≤ 2 → KeepsAcceleration t.now axis (acceleration depth t.now axis) }
@@ -38,10 +39,9 @@ pub fn bound(t: &Traj, depth: u8) -> [i64; 3]
 }
 
 /// The bound on the acceleration in a segment that lasts `ms` milliseconds, or `most` where that is no less.
-pub fn segment_above(curve: &Bez<8>, ms: u16, depth: u8, most: u64) -> u64
+pub fn segment_above(curve: &Bez<8>, ms: u16, depth: Depth, most: u64) -> u64
     requires values { All (IsBelow (2 ^ 28)) curve.now.b }
     requires lasting { 1 ≤ ms }
-    requires depth { depth ≤ 8 }
     requires most { most < 2 ^ 53 }
     ensures exact { result ≡ max most (segment_acceleration depth ms (at curve.now.b)) }
     ensures small { result < 2 ^ 53 }
@@ -55,26 +55,26 @@ pub fn segment_above(curve: &Bez<8>, ms: u16, depth: u8, most: u64) -> u64
 }
 
 // The widest bend of a part with no more than this acceleration.
-fn bend_within(most: u64, ms: u16, depth: u8) -> u128
-    requires depth { depth ≤ 8 }
+fn bend_within(most: u64, ms: u16, depth: Depth) -> u128
     requires most { most < 2 ^ 53 }
-    ensures { result ≡ most * (3 * 32 ^ depth) * (ms * ms) / 25000000 }
+    ensures exact { result ≡ most * (3 * 32 ^ depth) * (ms * ms) / 25000000 }
+    ensures shallow { depth ≤ most_depth }
 {
     let square = ms as u128 * ms as u128;
-    most as u128 * (3 * 32u128.pow(depth as u32)) * square / 25_000_000
+    most as u128 * (3 * 32u128.pow(depth.levels() as u32)) * square / 25_000_000
 }
 
 // The acceleration with which a segment of `ms` milliseconds has parts of this depth with this widest bend.
 #[tactic(auto, unfolding(crate::specs::Accelerations::acceleration_of))]
-fn per_second_squared(widest: u128, ms: u16, depth: u8) -> u64
+fn per_second_squared(widest: u128, ms: u16, depth: Depth) -> u64
     requires widest { widest ≤ 2 ^ 30 * 32 ^ depth }
     requires lasting { 1 ≤ ms }
-    requires depth { depth ≤ 8 }
     ensures exact { result ≡ acceleration_of depth ms widest }
     ensures small { result < 2 ^ 53 }
 {
-    let way = 25_000_000 * 4u128.pow(depth as u32) * widest;
+    let levels = depth.levels() as u32;
+    let way = 25_000_000 * 4u128.pow(levels) * widest;
     let square = ms as u128 * ms as u128;
-    let time = 3 * 2u128.pow(7 * depth as u32) * square;
+    let time = 3 * 2u128.pow(7 * levels) * square;
     way.div_ceil(time) as u64
 }

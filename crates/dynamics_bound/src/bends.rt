@@ -7,25 +7,27 @@ ghost use Rattle.bezier_core.specs.Steps.{IsWithin};
 ghost use Rattle.dynamics_bound.specs.Accelerations.{widest_bend, widest_bend_part};
 
 use bezier_core::Bez;
+use fleet_math::Depth;
 use halving::halve;
 
 /// The widest bend in the 2^`depth` parts of a curve, each at its own scale, or `least` where that is no less. A part that bends
 /// too little is not halved: a half bends at most 32 times as much as its whole, at a scale 128 times as large.
-pub fn widest_above(curve: &Bez<8>, depth: u8, least: u128) -> u128
-    requires depth { depth ≤ 8 }
+pub fn widest_above(curve: &Bez<8>, depth: Depth, least: u128) -> u128
     requires values { All (IsWithin (pos (2 ^ (84 - 7 * depth)))) curve.now.b }
     ensures { result ≡ max least (widest_bend_part depth (at curve.now.b)) }
 {
     let whole = widest_bend(curve);
-    if depth == 0 {
+    let levels = depth.levels();
+    if levels == 0 {
         return least.max(whole);
     }
-    if 32u128.pow(depth as u32) * whole <= least {
+    if 32u128.pow(levels as u32) * whole <= least {
         return least;
     }
+    let below = Depth::make(levels - 1);
     let (left, right) = halve(curve);
-    let first = widest_above(&left, depth - 1, least);
-    widest_above(&right, depth - 1, first)
+    let first = widest_above(&left, below, least);
+    widest_above(&right, below, first)
 }
 
 // The widest bend among the control values of one curve.

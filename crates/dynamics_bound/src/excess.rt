@@ -6,6 +6,7 @@ ghost use Rattle.dynamics_bound.specs.Excesses.{IsWithinLimits, above, first_exc
 ghost use Rattle.dynamics_bound.specs.Steps.{three, walk_at};
 
 use crate::walk::Walk;
+use fleet_math::Depth;
 use traj_codec::Traj;
 
 /// No acceleration is above this.
@@ -42,9 +43,8 @@ pub struct Excess {
 
 /// The first acceleration or jump above its limit, in the order of segments: in each the bound on its acceleration by parts of
 /// a depth, and then the jump at its beginning; of both x before y before z. Takes no memory.
-pub fn first_above(t: &Traj, limits: Limits, depth: u8) -> Option<Excess>
+pub fn first_above(t: &Traj, limits: Limits, depth: Depth) -> Option<Excess>
     requires lasting { All HasDuration t.now.segments }
-    requires depth { depth ≤ 8 }
     ensures exact { result ≡ first_excess limits depth t.now }
     ensures none { IfNone result (IsWithinLimits limits depth t.now) }
     ensures named { IfSome result (λ e. (e.axis ≤ 2) × (e.segment ≤ length t.now.segments)) }
@@ -64,11 +64,10 @@ pub fn first_above(t: &Traj, limits: Limits, depth: u8) -> Option<Excess>
 }
 
 // The first acceleration in a segment that is above the limit. Parts that are not above it aren't halved.
-fn sharp_at(walk: &Walk, t: &Traj, k: usize, limit: Option<u64>, depth: u8) -> Option<Excess>
+fn sharp_at(walk: &Walk, t: &Traj, k: usize, limit: Option<u64>, depth: Depth) -> Option<Excess>
     requires here { walk.now ≡ walk_at t.now k }
     requires inside { k < length t.now.segments }
     requires lasting { All HasDuration t.now.segments }
-    requires depth { depth ≤ 8 }
     ensures { result ≡ sharp_at limit depth t.now k }
 {
     let most = limit?;

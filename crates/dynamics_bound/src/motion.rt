@@ -9,6 +9,7 @@ ghost use Rattle.dynamics_bound.specs.Motions.{KeepsMotion, cue_from, cue_of, gr
 use crate::acceleration::bound;
 use crate::excess::Limits;
 use crate::jumping::{jumps, rests};
+use fleet_math::Depth;
 use traj_codec::{Segment, Traj};
 
 /// Three numbers, on x, y and z.
@@ -126,11 +127,10 @@ fn axes_of(x: i64, y: i64, z: i64) -> Axes
 }
 
 /// What is found of what a drone is sent, by its parts of a depth, where `cues` has a segment for each cue. Takes no memory.
-pub fn motion_of(t: &Traj, cues: &[Segment], depth: u8) -> Motion
+pub fn motion_of(t: &Traj, cues: &[Segment], depth: Depth) -> Motion
     requires segments { length t.now.segments ≤ most_segments }
     requires lasting { All HasDuration t.now.segments }
     requires cues { length cues.now ≤ most_cues }
-    requires depth { depth ≤ 8 }
     ensures motion { result ≡ motion depth (durations cues.now) t.now }
     ensures keeps { (limits : Limits) → IsWithinLimits limits depth t.now → KeepsMotion limits depth t.now }
 {

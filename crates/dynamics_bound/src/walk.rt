@@ -10,6 +10,7 @@ ghost use Rattle.dynamics_bound.specs.Steps.{three, walk_at};
 use crate::acceleration::segment_above;
 use crate::velocity::{Velocity, first_velocity, jump_between, last_velocity};
 use fleet_curves::{raised_segment, value_after};
+use fleet_math::Depth;
 use traj_codec::{Element, Traj};
 
 /// Where a walk is on an axis, in millimetres, and the velocity with which it arrives there.
@@ -75,11 +76,10 @@ impl Walk {
 
     /// The bounds on the acceleration in the segment with this number, by its parts of a depth, in micrometres per second
     /// squared; on each axis no less than `most`.
-    pub fn accelerations(&self, t: &Traj, k: usize, depth: u8, most: &[u64; 3]) -> [u64; 3]
+    pub fn accelerations(&self, t: &Traj, k: usize, depth: Depth, most: &[u64; 3]) -> [u64; 3]
         requires here { self.now ≡ walk_at t.now k }
         requires inside { k < length t.now.segments }
         requires lasting { All HasDuration t.now.segments }
-        requires depth { depth ≤ 8 }
         requires most { All (λ v. v < 2 ^ 53) most.now }
         ensures exact { result ≡ three (λ axis. max (slice_index_or most.now axis 0) (acceleration_in depth t.now axis k)) }
         ensures small { All (λ v. v < 2 ^ 53) result }

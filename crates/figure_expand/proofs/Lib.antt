@@ -4,3 +4,4 @@ pub mod Curves
 pub mod Pieces
 pub mod Fitting
 pub mod Axes
+pub mod Unmoved

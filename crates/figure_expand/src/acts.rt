@@ -1,8 +1,8 @@
 //! Acts in the show's own frame.
 
-ghost use Rattle.std.specs.Prelude.{◌≡◌, ◌^◌, pos};
+ghost use Rattle.std.specs.Prelude.{◌≡◌, ◌^◌, pos, IsTrue};
 ghost use Rattle.choreo_show.specs.Valid.{FitsFrame, FitsPoint, FitsCoordinate, FitsYaw, FitsTriple, FitsAct};
-ghost use Rattle.cue_grid.specs.Frames.{applied};
+ghost use Rattle.cue_grid.specs.Frames.{applied, no_frame};
 ghost use Rattle.cue_grid.specs.Grids.{FitsJob};
 ghost use Rattle.figure_expand.specs.Acts.{act_in, act_of, sense_in, control_in};
 ghost use Rattle.figure_expand.specs.Bounds.{IsActUpTo};
@@ -119,6 +119,13 @@ fn framed_act(f: &Frame, act: &Act) -> Act
     }
 }
 
+// Whether a frame changes nothing, as that of each cue outside figures.
+fn is_unmoved(f: &Frame) -> bool
+    ensures { IsTrue result → f.now ≡ no_frame }
+{
+    matches!(f.mirror, Mirror::None) && f.turns == 0 && f.dx == 0 && f.dy == 0 && f.dz == 0
+}
+
 // The act of a job in the show's frame; its numbers are small.
 #[tactic(auto, using(crate::proofs::Reach::act_small))]
 pub(crate) fn act_of(job: &Job) -> Act
@@ -126,5 +133,8 @@ pub(crate) fn act_of(job: &Job) -> Act
     ensures value { result ≡ act_of job.now }
     ensures small { IsActUpTo (2 ^ 28) result }
 {
+    if is_unmoved(&job.frame) {
+        return job.act;
+    }
     framed_act(&job.frame, &job.act)
 }

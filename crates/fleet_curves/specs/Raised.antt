@@ -1,8 +1,9 @@
 -- The raised curves of a fleet, and the trajectories that they stand for.
-use Rattle.std.specs.Prelude.{◌≡◌, ℕ, ◌+◌, ◌*◌, ◌≤◌, ◌<◌, ℤ, ◌-ℤ◌, List, [], ◌∷◌, length, slice_index_or, slice_get, Some, All}
+use Rattle.std.specs.Prelude.{◌≡◌, ℕ, ◌+◌, ◌*◌, ◌^◌, ◌≤◌, ◌<◌, ℤ, ◌-ℤ◌, List, [], ◌∷◌, length, slice_index_or, slice_get, Some, All}
 use Rattle.std.specs.List.{flat_map}
 use Rattle.fleet_math.specs.Bernstein.{at}
 use Rattle.fleet_math.specs.Limits.{most_cues, most_drones}
+use Rattle.fleet_math.specs.Numbers.{IsBelow}
 use Rattle.bezier_core.specs.declared.Bez.{Bez}
 use Rattle.bezier_core.specs.Along.{controls}
 use Rattle.bezier_core.specs.Raised.{eight, raised}
@@ -32,6 +33,12 @@ unfoldable pub difference : Raised → ℕ → ℕ → ℕ → List (Bez 8)
 difference c a b cue =
     less (curves_at c b cue) (curves_at c a cue) 0 ∷ less (curves_at c b cue) (curves_at c a cue) 1
     ∷ less (curves_at c b cue) (curves_at c a cue) 2 ∷ []
+
+-- three curves of eight control values below 2^30, as differences of raised curves are
+pub record AreRaised (curves : List (Bez 8)) : Type 0 where
+  pub axes : length curves ≡ 3
+  pub sizes : All (λ curve. length curve.b ≡ 8) curves
+  pub values : All (λ curve. All (IsBelow (2 ^ 30)) curve.b) curves
 
 -- ---- the trajectories
 -- the three raised curves of a trajectory in a cue: those of its control points on x, y and z

@@ -12,6 +12,7 @@ ghost use Rattle.traj_codec.specs.Positions.{element_on, value_after};
 ghost use Rattle.fleet_curves.specs.Raised.{CurvesStandFor, IsOneShow, curves_at, difference, less, raised_element, raised_traj, raised_of};
 ghost use Rattle.fleet_curves.specs.Steps.{AreSmallCurves, IsFormed, all_curves, curves_of};
 
+use crate::difference::Difference;
 use bezier_core::Bez;
 use std::alloc::{AllocError, Global};
 use std::marker::Model;
@@ -83,14 +84,12 @@ impl Curves {
         self.cues as usize
     }
 
-    /// The raised curves of drone `b` less those of drone `a`, in a cue, all counted from 0. No control value reaches 2^30.
-    /// Takes no memory.
-    pub fn diff(&self, a: usize, b: usize, cue: usize) -> [Bez<8>; 3]
+    /// The raised curves of drone `b` less those of drone `a`, in a cue, all counted from 0. Takes no memory.
+    pub fn diff(&self, a: usize, b: usize, cue: usize) -> Difference
         requires order { a < b }
         requires drones { b < self.now.drones }
         requires cue { cue < self.now.cues }
-        ensures exact { result ≡ difference self.now a b cue }
-        ensures small { All (λ curve. All (IsBelow (2 ^ 30)) curve.b) result }
+        ensures { result ≡ difference self.now a b cue }
     {
         let first = &self.all[place_of(self.drones, self.cues, a, cue)];
         let second = &self.all[place_of(self.drones, self.cues, b, cue)];
@@ -117,18 +116,17 @@ fn widened_rows(rows: &[[i32; 8]; 3]) -> [Bez<8>; 3]
 }
 
 // The first three curves less the others.
-fn differences(second: &[[i32; 8]; 3], first: &[[i32; 8]; 3]) -> [Bez<8>; 3]
+fn differences(second: &[[i32; 8]; 3], first: &[[i32; 8]; 3]) -> Difference
     requires second { AreSmallCurves (curves_of second.now) }
     requires first { AreSmallCurves (curves_of first.now) }
-    ensures exact { result ≡ less (curves_of second.now) (curves_of first.now) 0
+    ensures { result ≡ less (curves_of second.now) (curves_of first.now) 0
         ∷ less (curves_of second.now) (curves_of first.now) 1 ∷ less (curves_of second.now) (curves_of first.now) 2 ∷ [] }
-    ensures small { All (λ curve. All (IsBelow (2 ^ 30)) curve.b) result }
 {
-    [
+    Difference::make([
         one_less(second, first, 0),
         one_less(second, first, 1),
         one_less(second, first, 2),
-    ]
+    ])
 }
 
 // One control value less another. It is computed in 64 bits, which hold each difference of two numbers of 32.

@@ -6,5 +6,7 @@
 #![tactic(auto)]
 
 mod curves;
+mod difference;
 
 pub use curves::{Curves, raised_segment, row_of_four, value_after};
+pub use difference::Difference;

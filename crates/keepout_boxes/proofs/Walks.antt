@@ -1,5 +1,5 @@
 -- Parts of parts: what is known of the halves of a part is known of the part.
-use Rattle.std.proofs.Common.{◌≡◌, ℕ, suc, ◌+◌, ◌-◌, ◌*◌, ◌^◌, ◌≤◌, ◌<◌, ℤ, pos, ◌+ℤ◌, ◌-ℤ◌, ◌*ℤ◌, ◌≤ℤ◌, ◌<ℤ◌, true, false, arith, refl, sym, subst, ◌∙◌, ap, inl, inr, List, Option, Some, None, All, lit<, MatchOption, FitsSigned, [], length}
+use Rattle.std.proofs.Common.{◌≡◌, ◌≢◌, ℕ, suc, ◌+◌, ◌-◌, ◌*◌, ◌^◌, ◌≤◌, ◌<◌, ℤ, pos, ◌+ℤ◌, ◌-ℤ◌, ◌*ℤ◌, ◌≤ℤ◌, ◌<ℤ◌, true, false, arith, refl, sym, subst, ◌∙◌, ap, inl, inr, List, Option, Some, None, All, lit<, MatchOption, FitsSigned, [], length}
 use Rattle.std.proofs.lemmas.List.{get_or_past}
 use mir.Syntax.{w128}
 use Rattle.sep_parts.proofs.Parts.{part-within}
@@ -191,24 +191,32 @@ controls_within m curves axis k all = by_lt axis (length curves)
         (λ (inside : k < length xs). All-get_or (IsWithin (pos m)) xs k (pos 0) inside each)
         (λ (outside : length xs ≤ k). let none : at xs k ≡ pos 0 = get_or_past xs k (pos 0) outside in rw none (omega (arith, ints), omega (arith, ints)))
 
+-- the number of a depth is at most 8
+pub shallow : {n depth : ℕ} → n ≡ depth → n ≤ 8 → depth ≤ 8
+shallow {n} {depth} same most = omega (arith, same, most)
+
+-- one level less than a depth that isn't 0
+pub less : {n depth below : ℕ} → n ≡ depth → n ≢ 0 → below ≡ n - 1 → suc below ≡ depth
+less {n} {depth} {below} same some is = omega (arith, same, some, is)
+
 -- the halves have room
-pub half_within : (side depth : ℕ) (curves half : List (Bez 8)) → 1 ≤ depth → depth ≤ 8 → side < 2 → length half ≡ 3 → IsHalf side curves half → All (λ (curve : Bez 8). All (IsWithin (pos (2 ^ (84 - 7 * depth)))) curve.b) curves →
-    All (λ (curve : Bez 8). All (IsWithin (pos (2 ^ (84 - 7 * (depth - 1))))) curve.b) half
-half_within side depth curves half some shallow near len is within =
-    All-from_get_or (λ (curve : Bez 8). All (IsWithin (pos (2 ^ (84 - 7 * (depth - 1))))) curve.b) half (record { b = [] }) (λ axis inside. one axis (omega (arith, len)))
+pub half_within : (side depth below : ℕ) (curves half : List (Bez 8)) → suc below ≡ depth → depth ≤ 8 → side < 2 → length half ≡ 3 → IsHalf side curves half → All (λ (curve : Bez 8). All (IsWithin (pos (2 ^ (84 - 7 * depth)))) curve.b) curves →
+    All (λ (curve : Bez 8). All (IsWithin (pos (2 ^ (84 - 7 * below)))) curve.b) half
+half_within side depth below curves half less shallow near len is within =
+    All-from_get_or (λ (curve : Bez 8). All (IsWithin (pos (2 ^ (84 - 7 * below)))) curve.b) half (record { b = [] }) (λ axis inside. one axis (omega (arith, len)))
   where
     wide : (p : ℕ) (x : ℤ) → IsWithin (pos 128 *ℤ pos p) x → IsWithin (pos (128 * p)) x
     wide p x within = (omega (arith, ints, within.0), omega (arith, ints, within.1))
 
-    value : (axis k : ℕ) → k ≤ 7 → IsWithin (pos (2 ^ (84 - 7 * (depth - 1)))) (at (eight (part_value 1 side (at (controls curves axis)))) k)
+    value : (axis k : ℕ) → k ≤ 7 → IsWithin (pos (2 ^ (84 - 7 * below))) (at (eight (part_value 1 side (at (controls curves axis)))) k)
     value axis k small =
-        let e : 84 - 7 * (depth - 1) ≡ 7 + (84 - 7 * depth) = omega arith in
+        let e : 84 - 7 * below ≡ 7 + (84 - 7 * depth) = omega arith in
         rw (e, pow-add 2 7 (84 - 7 * depth), at-eight (part_value 1 side (at (controls curves axis))) k small)
         (wide (2 ^ (84 - 7 * depth)) (part_value 1 side (at (controls curves axis)) k) (part-within 1 side k (at (controls curves axis)) (pos (2 ^ (84 - 7 * depth))) near small (λ i low. controls_within (2 ^ (84 - 7 * depth)) curves axis i within)))
 
-    one : (axis : ℕ) → axis ≤ 2 → All (IsWithin (pos (2 ^ (84 - 7 * (depth - 1))))) (controls half axis)
+    one : (axis : ℕ) → axis ≤ 2 → All (IsWithin (pos (2 ^ (84 - 7 * below)))) (controls half axis)
     one axis small =
-        rw (is axis small) (All-from_get_or (IsWithin (pos (2 ^ (84 - 7 * (depth - 1))))) (eight (part_value 1 side (at (controls curves axis)))) (pos 0) (λ k inside. value axis k (omega arith)))
+        rw (is axis small) (All-from_get_or (IsWithin (pos (2 ^ (84 - 7 * below)))) (eight (part_value 1 side (at (controls curves axis)))) (pos 0) (λ k inside. value axis k (omega arith)))
 
 pub room_of : (depth : ℕ) (x : ℤ) → IsWithin (pos (2 ^ (84 - 7 * depth))) x → IsBelow (2 ^ 118) x
 room_of depth x within =
@@ -225,9 +233,9 @@ scale_room depth scale inside =
 pub next_fits : (scale : ℤ) → IsIn (pos 0) (pos (2 ^ 70)) scale → FitsSigned w128 (pos 128 *ℤ scale)
 next_fits scale inside = omega (arith, ints)
 
-pub next_room : (depth : ℕ) (scale : ℤ) → 1 ≤ depth → depth ≤ 8 → IsIn (pos 0) (pos (2 ^ (70 - 7 * depth))) scale → IsIn (pos 0) (pos (2 ^ (70 - 7 * (depth - 1)))) (pos 128 *ℤ scale)
-next_room depth scale some shallow inside =
-    let e : 70 - 7 * (depth - 1) ≡ 7 + (70 - 7 * depth) = omega arith in
+pub next_room : (depth below : ℕ) (scale : ℤ) → suc below ≡ depth → depth ≤ 8 → IsIn (pos 0) (pos (2 ^ (70 - 7 * depth))) scale → IsIn (pos 0) (pos (2 ^ (70 - 7 * below))) (pos 128 *ℤ scale)
+next_room depth below scale less shallow inside =
+    let e : 70 - 7 * below ≡ 7 + (70 - 7 * depth) = omega arith in
     rw (e, pow-add 2 7 (70 - 7 * depth)) (wide (2 ^ (70 - 7 * depth)) scale inside)
   where
     wide : (p : ℕ) (x : ℤ) → IsIn (pos 0) (pos p) x → IsIn (pos 0) (pos (128 * p)) (pos 128 *ℤ x)

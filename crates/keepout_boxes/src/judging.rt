@@ -7,6 +7,7 @@ ghost use Rattle.keepout_boxes.specs.Steps.{CueKept, DroneKept, IsFirstOfCue, Is
 use crate::region::Region;
 use crate::walk::first_entering;
 use fleet_curves::Curves;
+use fleet_math::Depth;
 
 /// What is judged.
 #[derive(Clone, Copy, Debug, PartialEq, Eq)]
@@ -30,10 +31,9 @@ pub enum Judged {
 /// it is `Kept`, for each list of trajectories that the curves stand for, each drone's decoded position lies outside of
 /// each closed keepout, widened by the ellipsoid's extents, and inside of each volume, narrowed by them, at each
 /// instant p / q of the show, for all whole numbers p and q. Takes no memory.
-pub fn judge(curves: &Curves, r: u16, h: u16, depth: u8, regions: &Vec<Region>) -> Judged
+pub fn judge(curves: &Curves, r: u16, h: u16, depth: Depth, regions: &Vec<Region>) -> Judged
     requires r { IsExtent r }
     requires h { IsExtent h }
-    requires depth { depth ≤ 8 }
     requires few { length regions.now.items ≤ most_regions }
     requires near { All IsNear regions.now.items }
     ensures exact { JudgeGives curves.now r h depth regions.now.items result }
@@ -59,12 +59,11 @@ fn entry_of_region(
     region: &Region,
     r: u16,
     h: u16,
-    depth: u8,
+    depth: Depth,
 ) -> Option<(u8, u16, u16)>
     requires near { IsNear region.now }
     requires r { IsExtent r }
     requires h { IsExtent h }
-    requires depth { depth ≤ 8 }
     ensures { MatchOption result (RegionKept curves.now r h depth region.now curves.now.drones)
         (λ entry. IsFirstOfRegion curves.now r h depth region.now entry.0 entry.1 entry.2) }
 {
@@ -83,13 +82,12 @@ fn entry_of_drone(
     region: &Region,
     r: u16,
     h: u16,
-    depth: u8,
+    depth: Depth,
 ) -> Option<(u16, u16)>
     requires drone { drone < curves.now.drones }
     requires near { IsNear region.now }
     requires r { IsExtent r }
     requires h { IsExtent h }
-    requires depth { depth ≤ 8 }
     ensures { MatchOption result (DroneKept curves.now r h depth region.now drone curves.now.cues)
         (λ entry. IsFirstOfDrone curves.now r h depth region.now drone entry.0 entry.1) }
 {
@@ -109,16 +107,17 @@ fn first_part(
     region: &Region,
     r: u16,
     h: u16,
-    depth: u8,
+    depth: Depth,
 ) -> Option<u16>
     requires drone { drone < curves.now.drones }
     requires cue { cue < curves.now.cues }
     requires near { IsNear region.now }
     requires r { IsExtent r }
     requires h { IsExtent h }
-    requires depth { depth ≤ 8 }
     ensures { MatchOption result (CueKept curves.now r h depth region.now drone cue)
         (IsFirstOfCue curves.now r h depth region.now drone cue) }
 {
+    // a depth is at most 8
+    let _levels = depth.levels();
     first_entering(&curves.one(drone, cue), region, r, h, 5040, depth)
 }

@@ -10,6 +10,7 @@ ghost use Rattle.keepout_boxes.specs.Steps.{AllKeptIn, IsFirstIn, IsIndex};
 use crate::part::is_kept;
 use crate::region::Region;
 use bezier_core::Bez;
+use fleet_math::Depth;
 use sep_parts::halves;
 
 /// The first of the 2^`depth` parts of three curves that isn't kept. Where a part is kept, so are its halves, and they
@@ -20,12 +21,11 @@ pub fn first_entering(
     r: u16,
     h: u16,
     scale: i128,
-    depth: u8,
+    depth: Depth,
 ) -> Option<u16>
     requires near { IsNear region.now }
     requires r { IsExtent r }
     requires h { IsExtent h }
-    requires depth { depth ≤ 8 }
     requires scale { IsIn (pos 0) (pos (2 ^ (70 - 7 * depth))) scale }
     requires values { All (λ curve. All (IsWithin (pos (2 ^ (84 - 7 * depth)))) curve.b) part.now }
     ensures { MatchOption result (AllKeptIn r h region.now part.now scale depth)
@@ -34,17 +34,19 @@ pub fn first_entering(
     if is_kept(part, region, r, h, scale) {
         return None;
     }
-    if depth == 0 {
+    let levels = depth.levels();
+    if levels == 0 {
         return Some(0);
     }
+    let below = Depth::make(levels - 1);
     let (left, right) = halves(part);
     let next = 128 * scale;
-    let first = first_entering(&left, region, r, h, next, depth - 1);
+    let first = first_entering(&left, region, r, h, next, below);
     if first.is_some() {
         return first;
     }
-    let second = first_entering(&right, region, r, h, next, depth - 1);
-    behind(second, 2u16.pow(depth as u32 - 1))
+    let second = first_entering(&right, region, r, h, next, below);
+    behind(second, 2u16.pow(levels as u32 - 1))
 }
 
 // An index, counted from the beginning of the other half.

@@ -2,26 +2,24 @@
 
 ghost use Rattle.std.specs.Prelude.{◌≡◌, ℕ, ◌+◌, ◌*◌, ◌^◌, ◌≤◌, ◌<◌, pos, ◌<ℤ◌, false, All, IfSome, length};
 ghost use Rattle.fleet_math.specs.Bernstein.{at};
-ghost use Rattle.fleet_math.specs.Numbers.{IsBelow};
 ghost use Rattle.sep_parts.specs.Levels.{IsLevel};
 ghost use Rattle.pair_search.specs.Lanes.{AreLanes, IsPoint, IsSmallPoint};
 ghost use Rattle.pair_search.specs.Search.{first_by};
 ghost use Rattle.pair_search.specs.Steps.{FindsFrom, does_separate};
 
 use crate::lanes::{Lanes, Point, fill, point_at};
-use bezier_core::Bez;
+use fleet_curves::Difference;
 use sep_parts::{Level, Ruler};
 
 /// The number of the first direction of a ruler that separates a part of the differences `diff`.
 #[inline(never)]
 pub fn first_direction<const M: usize>(
-    diff: &[Bez<8>; 3],
+    diff: &Difference,
     level: &Level,
     ruler: &Ruler<M>,
     lanes: &Lanes,
 ) -> Option<u8>
     requires level { IsLevel diff.now level.now }
-    requires values { All (λ curve. All (IsBelow (2 ^ 30)) curve.b) diff.now }
     requires lanes { AreLanes ruler.now lanes.now }
     ensures { result ≡ first_by ruler.now diff.now level.now.place }
 {
@@ -32,7 +30,7 @@ pub fn first_direction<const M: usize>(
 }
 
 // The two ends of a part in whole steps; none where these are too large.
-pub(crate) fn points_of(diff: &[Bez<8>; 3], level: &Level) -> Option<(Point, Point)>
+pub(crate) fn points_of(diff: &Difference, level: &Level) -> Option<(Point, Point)>
     requires level { IsLevel diff.now level.now }
     ensures first { IfSome result (λ ends. IsSmallPoint ends.0 × IsPoint level.now 0 ends.0) }
     ensures second { IfSome result (λ ends. IsSmallPoint ends.1 × IsPoint level.now 7 ends.1) }
@@ -44,7 +42,7 @@ pub(crate) fn points_of(diff: &[Bez<8>; 3], level: &Level) -> Option<(Point, Poi
 }
 
 // A law: each of the three curves of a level has eight control values.
-fn level_sizes_law(diff: &[Bez<8>; 3], level: &Level)
+fn level_sizes_law(diff: &Difference, level: &Level)
     requires level { IsLevel diff.now level.now }
     ensures depth { level.now.place.depth ≤ 8 }
     ensures axes { length level.now.part ≡ 3 }
@@ -53,7 +51,7 @@ fn level_sizes_law(diff: &[Bez<8>; 3], level: &Level)
 
 // The same where the ends of the part are these. Lanes are weighed 16 at a time, since the first direction mostly comes early.
 fn first_near<const M: usize>(
-    diff: &[Bez<8>; 3],
+    diff: &Difference,
     level: &Level,
     ruler: &Ruler<M>,
     lanes: &Lanes,
@@ -61,7 +59,6 @@ fn first_near<const M: usize>(
     q: &Point,
 ) -> Option<u8>
     requires level { IsLevel diff.now level.now }
-    requires values { All (λ curve. All (IsBelow (2 ^ 30)) curve.b) diff.now }
     requires lanes { AreLanes ruler.now lanes.now }
     requires p { IsSmallPoint p.now × IsPoint level.now 0 p.now }
     requires q { IsSmallPoint q.now × IsPoint level.now 7 q.now }
@@ -80,7 +77,7 @@ fn first_near<const M: usize>(
 
 // The same among 16 directions from one on. Where none of them holds at both ends, none is asked.
 fn first_among<const M: usize>(
-    diff: &[Bez<8>; 3],
+    diff: &Difference,
     level: &Level,
     ruler: &Ruler<M>,
     lanes: &Lanes,
@@ -89,7 +86,6 @@ fn first_among<const M: usize>(
     begin: usize,
 ) -> Option<u8>
     requires level { IsLevel diff.now level.now }
-    requires values { All (λ curve. All (IsBelow (2 ^ 30)) curve.b) diff.now }
     requires lanes { AreLanes ruler.now lanes.now }
     requires p { IsSmallPoint p.now × IsPoint level.now 0 p.now }
     requires q { IsSmallPoint q.now × IsPoint level.now 7 q.now }
@@ -106,14 +102,13 @@ fn first_among<const M: usize>(
 
 // The same with what lanes tell of these directions: one whose `near` is below 0 doesn't separate the part.
 fn first_from<const M: usize>(
-    diff: &[Bez<8>; 3],
+    diff: &Difference,
     level: &Level,
     ruler: &Ruler<M>,
     begin: usize,
     near: &[i32; 16],
 ) -> Option<u8>
     requires level { IsLevel diff.now level.now }
-    requires values { All (λ curve. All (IsBelow (2 ^ 30)) curve.b) diff.now }
     requires begin { begin ≤ 96 }
     requires near { (i : ℕ) → i < 16 → begin + i < length ruler.now.directions → at near.now i <ℤ pos 0 → does_separate ruler.now diff.now level.now.place (begin + i) ≡ false }
     ensures { FindsFrom ruler.now diff.now level.now.place begin (begin + 16) result }
@@ -131,14 +126,13 @@ fn first_from<const M: usize>(
 // Whether a direction separates a part. It is not asked where `near` is below 0, which says that it doesn't.
 #[inline(always)]
 fn holds<const M: usize>(
-    diff: &[Bez<8>; 3],
+    diff: &Difference,
     level: &Level,
     ruler: &Ruler<M>,
     dir: usize,
     near: i32,
 ) -> bool
     requires level { IsLevel diff.now level.now }
-    requires values { All (λ curve. All (IsBelow (2 ^ 30)) curve.b) diff.now }
     requires dir { dir < length ruler.now.directions }
     requires near { near <ℤ pos 0 → does_separate ruler.now diff.now level.now.place dir ≡ false }
     ensures { result ≡ does_separate ruler.now diff.now level.now.place dir }
@@ -151,12 +145,11 @@ fn holds<const M: usize>(
 
 // The same where each direction is asked.
 pub(crate) fn first_of_all<const M: usize>(
-    diff: &[Bez<8>; 3],
+    diff: &Difference,
     level: &Level,
     ruler: &Ruler<M>,
 ) -> Option<u8>
     requires level { IsLevel diff.now level.now }
-    requires values { All (λ curve. All (IsBelow (2 ^ 30)) curve.b) diff.now }
     ensures { result ≡ first_by ruler.now diff.now level.now.place }
 {
     for dir in 0..ruler.count() {

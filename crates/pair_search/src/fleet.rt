@@ -1,7 +1,6 @@
 //! The search of a fleet: each pair of drones in each cue.
 
 ghost use Rattle.std.specs.Prelude.{◌≡◌, ◌^◌, ◌≤◌, [], ◌∷◌, ◌++◌, All, IsTrue, OnOk};
-ghost use Rattle.fleet_math.specs.Numbers.{IsBelow};
 ghost use Rattle.sep_parts.specs.Slots.{IsSlot};
 ghost use Rattle.sep_parts.specs.Levels.{root};
 ghost use Rattle.fleet_curves.specs.Raised.{difference};
@@ -17,8 +16,8 @@ use crate::lanes::{Lanes, lanes_of};
 use crate::opposites::{Opposites, opposites_of};
 use crate::shape::count_with;
 use crate::walk::{Found, search_by};
-use bezier_core::Bez;
-use fleet_curves::Curves;
+use fleet_curves::{Curves, Difference};
+use fleet_math::Depth;
 use listed::Listed;
 use sep_parts::{Node, Ruler, Slot, Waiting};
 use std::alloc::{AllocError, Global};
@@ -45,10 +44,9 @@ impl From<AllocError> for SearchFault {
 }
 
 // The curves of the second drone of a slot less those of the first, in its cue.
-fn difference_of(curves: &Curves, slot: Slot) -> [Bez<8>; 3]
-    requires slot { IsSlot curves.now.drones curves.now.cues slot }
-    ensures exact { result ≡ difference curves.now slot.a slot.b slot.cue }
-    ensures small { All (λ curve. All (IsBelow (2 ^ 30)) curve.b) result }
+fn difference_of(curves: &Curves, slot: Slot) -> Difference
+    requires { IsSlot curves.now.drones curves.now.cues slot }
+    ensures { result ≡ difference curves.now slot.a slot.b slot.cue }
 {
     curves.diff(slot.a as usize, slot.b as usize, slot.cue as usize)
 }
@@ -58,11 +56,10 @@ fn tree_of<const M: usize>(
     curves: &Curves,
     ruler: &Ruler<M>,
     lanes: &Lanes,
-    depth: u8,
+    depth: Depth,
     slot: Slot,
     nodes: &mut Vec<Node>,
 ) -> Result<(), SearchFault>
-    requires depth { depth ≤ 8 }
     requires slot { IsSlot curves.now.drones curves.now.cues slot }
     requires empty { nodes.old.items ≡ [] }
     requires lanes { AreLanes ruler.now lanes.now }
@@ -97,9 +94,8 @@ pub fn search_all<const M: usize>(
     alloc: Global,
     curves: &Curves,
     ruler: &Ruler<M>,
-    depth: u8,
+    depth: Depth,
 ) -> Result<Listed<Listed<Node>>, SearchFault>
-    requires { depth ≤ 8 }
     ensures { GivesTrees ruler.now depth curves.now result }
 {
     let drones = curves.drones();
@@ -140,12 +136,11 @@ fn count_of<const M: usize>(
     axes: bool,
     ruler: &Ruler<M>,
     opposites: &Opposites,
-    depth: u8,
+    depth: Depth,
     slot: Slot,
     hint: &mut usize,
     waiting: &mut Waiting,
 ) -> Result<u32, SearchFault>
-    requires depth { depth ≤ 8 }
     requires slot { IsSlot curves.now.drones curves.now.cues slot }
     requires extents { AreExtents curves.now extents.now }
     requires axes { IsTrue axes → HasAxes ruler.now.directions }
@@ -170,11 +165,12 @@ pub fn count_all<const M: usize>(
     alloc: Global,
     curves: &Curves,
     ruler: &Ruler<M>,
-    depth: u8,
+    depth: Depth,
 ) -> Result<u32, SearchFault>
-    requires { depth ≤ 8 }
     ensures { GivesCount ruler.now depth curves.now result }
 {
+    // a depth is at most 8
+    let _levels = depth.levels();
     let drones = curves.drones();
     let cues = curves.cues();
     let extents = extents_of(alloc, curves)?;

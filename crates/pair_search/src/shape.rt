@@ -2,7 +2,6 @@
 
 ghost use Rattle.std.specs.Prelude.{◌≡◌, ◌^◌, ◌≤◌, [], length, All, OnOk};
 ghost use Rattle.std.specs.Option.{is_some};
-ghost use Rattle.fleet_math.specs.Numbers.{IsBelow};
 ghost use Rattle.sep_parts.specs.Levels.{IsLevel};
 ghost use Rattle.pair_search.specs.Opposites.{AreOpposites};
 ghost use Rattle.pair_search.specs.Search.{first_by};
@@ -10,49 +9,29 @@ ghost use Rattle.pair_search.specs.Steps.{CountGives, marked, node_for};
 
 use crate::opposites::Opposites;
 use crate::some::some_direction;
-use crate::walk::sizes_law;
-use bezier_core::Bez;
+use fleet_curves::Difference;
+use fleet_math::Depth;
 use sep_parts::{Level, Node, Ruler, Waiting};
 
 /// How many nodes the best tree of a cue has, or the first part that no direction separates. `hint` is the number of a direction that
 /// is tried first, and becomes that of the last one that separated a part; it changes nothing of what is found. `waiting` is
 /// empty, and so it is left where there is a tree.
 pub fn count_with<const M: usize>(
-    diff: &[Bez<8>; 3],
+    diff: &Difference,
     ruler: &Ruler<M>,
     opposites: &Opposites,
-    depth: u8,
+    depth: Depth,
     hint: &mut usize,
     waiting: &mut Waiting,
 ) -> Result<u32, u16>
-    requires depth { depth ≤ 8 }
     requires empty { waiting.old ≡ [] }
-    requires values { All (λ curve. All (IsBelow (2 ^ 30)) curve.b) diff.now }
     requires opposites { AreOpposites ruler.now opposites.now }
     ensures gives { CountGives (first_by ruler.now diff.now) depth result }
     ensures empty { OnOk result (waiting.new ≡ []) }
 {
-    sizes_law(diff);
-    count_parts(diff, ruler, opposites, depth, hint, waiting)
-}
-
-// The same of differences whose curves have eight control values each.
-fn count_parts<const M: usize>(
-    diff: &[Bez<8>; 3],
-    ruler: &Ruler<M>,
-    opposites: &Opposites,
-    depth: u8,
-    hint: &mut usize,
-    waiting: &mut Waiting,
-) -> Result<u32, u16>
-    requires depth { depth ≤ 8 }
-    requires empty { waiting.old ≡ [] }
-    requires sizes { All (λ curve. length curve.b ≡ 8) diff.now }
-    requires values { All (λ curve. All (IsBelow (2 ^ 30)) curve.b) diff.now }
-    requires opposites { AreOpposites ruler.now opposites.now }
-    ensures gives { CountGives (first_by ruler.now diff.now) depth result }
-    ensures empty { OnOk result (waiting.new ≡ []) }
-{
+    // a depth is at most 8
+    let _levels = depth.levels();
+    diff.raised_law();
     let mut count = 0;
     waiting.begin(diff);
     while let Some(level) = waiting.next() {
@@ -69,21 +48,20 @@ fn count_parts<const M: usize>(
 
 // The node of a part, with no direction named: a leaf where some direction separates it, else a split above the greatest depth.
 fn shape_for<const M: usize>(
-    diff: &[Bez<8>; 3],
+    diff: &Difference,
     level: &Level,
     ruler: &Ruler<M>,
     opposites: &Opposites,
-    depth: u8,
+    depth: Depth,
     hint: &mut usize,
 ) -> Option<Node>
     requires level { IsLevel diff.now level.now }
-    requires values { All (λ curve. All (IsBelow (2 ^ 30)) curve.b) diff.now }
     requires opposites { AreOpposites ruler.now opposites.now }
     ensures { result ≡ node_for (marked (first_by ruler.now diff.now)) depth level.now.place }
 {
     if has_direction(diff, level, ruler, opposites, hint) {
         Some(Node::Leaf { dir: 0 })
-    } else if level.place.depth < depth {
+    } else if level.place.depth < depth.levels() {
         Some(Node::Split)
     } else {
         None
@@ -92,14 +70,13 @@ fn shape_for<const M: usize>(
 
 // Whether a direction of a ruler separates a part. The one that did so last is tried first.
 fn has_direction<const M: usize>(
-    diff: &[Bez<8>; 3],
+    diff: &Difference,
     level: &Level,
     ruler: &Ruler<M>,
     opposites: &Opposites,
     hint: &mut usize,
 ) -> bool
     requires level { IsLevel diff.now level.now }
-    requires values { All (λ curve. All (IsBelow (2 ^ 30)) curve.b) diff.now }
     requires opposites { AreOpposites ruler.now opposites.now }
     ensures { result ≡ is_some (first_by ruler.now diff.now level.now.place) }
 {

@@ -3,7 +3,6 @@
 ghost use Rattle.std.specs.Prelude.{◌≡◌, ℕ, ◌+◌, ◌^◌, ◌≤◌, ◌<◌, pos, ◌<ℤ◌, All};
 ghost use Rattle.std.specs.Option.{is_some};
 ghost use Rattle.fleet_math.specs.Bernstein.{at};
-ghost use Rattle.fleet_math.specs.Numbers.{IsBelow};
 ghost use Rattle.sep_parts.specs.Levels.{IsLevel};
 ghost use Rattle.pair_search.specs.Lanes.{IsPoint, IsSmallPoint};
 ghost use Rattle.pair_search.specs.Opposites.{AreOpposites};
@@ -13,18 +12,17 @@ ghost use Rattle.pair_search.specs.Steps.{FindsAmong, FindsOne, NeitherAt};
 use crate::first::{first_of_all, points_of};
 use crate::lanes::Point;
 use crate::opposites::{Opposites, weigh};
-use bezier_core::Bez;
+use fleet_curves::Difference;
 use sep_parts::{Level, Ruler};
 
 /// The number of a direction of a ruler that separates a part of the differences `diff`, if one does.
 pub fn some_direction<const M: usize>(
-    diff: &[Bez<8>; 3],
+    diff: &Difference,
     level: &Level,
     ruler: &Ruler<M>,
     opposites: &Opposites,
 ) -> Option<u8>
     requires level { IsLevel diff.now level.now }
-    requires values { All (λ curve. All (IsBelow (2 ^ 30)) curve.b) diff.now }
     requires opposites { AreOpposites ruler.now opposites.now }
     ensures { is_some result ≡ is_some (first_by ruler.now diff.now level.now.place) }
 {
@@ -36,7 +34,7 @@ pub fn some_direction<const M: usize>(
 
 // The same where the ends of the part are these. Directions are weighed 28 at a time, each with its opposite.
 fn some_near<const M: usize>(
-    diff: &[Bez<8>; 3],
+    diff: &Difference,
     level: &Level,
     ruler: &Ruler<M>,
     opposites: &Opposites,
@@ -44,7 +42,6 @@ fn some_near<const M: usize>(
     q: &Point,
 ) -> Option<u8>
     requires level { IsLevel diff.now level.now }
-    requires values { All (λ curve. All (IsBelow (2 ^ 30)) curve.b) diff.now }
     requires opposites { AreOpposites ruler.now opposites.now }
     requires p { IsSmallPoint p.now × IsPoint level.now 0 p.now }
     requires q { IsSmallPoint q.now × IsPoint level.now 7 q.now }
@@ -63,7 +60,7 @@ fn some_near<const M: usize>(
 
 // The same among 28 directions from one on and their opposites. Where none of them holds at both ends, none is asked.
 fn some_among<const M: usize>(
-    diff: &[Bez<8>; 3],
+    diff: &Difference,
     level: &Level,
     ruler: &Ruler<M>,
     opposites: &Opposites,
@@ -72,7 +69,6 @@ fn some_among<const M: usize>(
     begin: usize,
 ) -> Option<u8>
     requires level { IsLevel diff.now level.now }
-    requires values { All (λ curve. All (IsBelow (2 ^ 30)) curve.b) diff.now }
     requires opposites { AreOpposites ruler.now opposites.now }
     requires p { IsSmallPoint p.now × IsPoint level.now 0 p.now }
     requires q { IsSmallPoint q.now × IsPoint level.now 7 q.now }
@@ -89,14 +85,13 @@ fn some_among<const M: usize>(
 
 // The same with what lanes tell: where `near` is below 0 neither the direction nor its opposite separates the part.
 fn some_from<const M: usize>(
-    diff: &[Bez<8>; 3],
+    diff: &Difference,
     level: &Level,
     ruler: &Ruler<M>,
     begin: usize,
     near: &[i32; 28],
 ) -> Option<u8>
     requires level { IsLevel diff.now level.now }
-    requires values { All (λ curve. All (IsBelow (2 ^ 30)) curve.b) diff.now }
     requires begin { begin ≤ 28 }
     requires near { (i : ℕ) → i < 28 → at near.now i <ℤ pos 0 → NeitherAt ruler.now diff.now level.now.place (begin + i) }
     ensures { FindsAmong ruler.now diff.now level.now.place begin (begin + 28) result }
@@ -114,14 +109,13 @@ fn some_from<const M: usize>(
 // which says that none does.
 #[inline(always)]
 fn some_of<const M: usize>(
-    diff: &[Bez<8>; 3],
+    diff: &Difference,
     level: &Level,
     ruler: &Ruler<M>,
     dir: usize,
     near: i32,
 ) -> Option<u8>
     requires level { IsLevel diff.now level.now }
-    requires values { All (λ curve. All (IsBelow (2 ^ 30)) curve.b) diff.now }
     requires dir { dir < 112 }
     requires near { near <ℤ pos 0 → NeitherAt ruler.now diff.now level.now.place dir }
     ensures { FindsOne ruler.now diff.now level.now.place dir result }

@@ -1,7 +1,6 @@
 //! The walk over the parts of a cue, the first half of a part before the second.
 
 ghost use Rattle.std.specs.Prelude.{◌≡◌, ℕ, ◌+◌, ◌^◌, ◌≤◌, ◌<◌, ◌∷◌, ◌++◌, [], List, length, All, IfOk, OnOk, ◌↔◌};
-ghost use Rattle.fleet_math.specs.Numbers.{IsBelow};
 ghost use Rattle.sep_parts.specs.Directions.{AreSmall, IsClearance, IsTableSize};
 ghost use Rattle.sep_parts.specs.Levels.{IsLevel, IsStack, places_of, root};
 ghost use Rattle.sep_parts.specs.Trees.{places_below, IsShallow};
@@ -13,7 +12,8 @@ ghost use Rattle.pair_search.specs.Steps.{WalkGives, node_for};
 
 use crate::first::first_direction;
 use crate::lanes::{Lanes, lanes_of};
-use bezier_core::Bez;
+use fleet_curves::Difference;
+use fleet_math::Depth;
 use halving::Place;
 use sep_parts::{Clearance, Dirs, Level, Node, Ruler, Waiting};
 use std::alloc::AllocError;
@@ -36,18 +36,16 @@ pub enum Found {
 /// `Blocked` exactly where some part of that depth has no separating direction: the first such part; `nodes` is empty then. Out of
 /// memory is the only refusal, and leaves `nodes` empty.
 pub fn search<const M: usize>(
-    diff: &[Bez<8>; 3],
+    diff: &Difference,
     dirs: &Dirs<M>,
     clearance: Clearance,
-    depth: u8,
+    depth: Depth,
     nodes: &mut Vec<Node>,
 ) -> Result<Found, AllocError>
-    requires depth { depth ≤ 8 }
     requires clearance { IsClearance clearance }
     requires empty { nodes.old.items ≡ [] }
     requires size { IsTableSize M }
     requires entries { All AreSmall dirs.now.n }
-    requires values { All (λ curve. All (IsBelow (2 ^ 30)) curve.b) diff.now }
     ensures exact { SearchGives (first_direction clearance diff.now dirs.now.n) depth result nodes.new.items }
     ensures clear { IfOk result (λ found. (found ≡ Found.Clear) ↔ IsClear clearance diff.now dirs.now.n depth) }
 {
@@ -57,14 +55,12 @@ pub fn search<const M: usize>(
 /// As [`search`], with a ruler made before: for who searches many pairs and cues, since working the thresholds out takes longer
 /// than most searches.
 pub fn search_with<const M: usize>(
-    diff: &[Bez<8>; 3],
+    diff: &Difference,
     ruler: &Ruler<M>,
-    depth: u8,
+    depth: Depth,
     nodes: &mut Vec<Node>,
 ) -> Result<Found, AllocError>
-    requires depth { depth ≤ 8 }
     requires empty { nodes.old.items ≡ [] }
-    requires values { All (λ curve. All (IsBelow (2 ^ 30)) curve.b) diff.now }
     ensures exact { SearchGives (first_by ruler.now diff.now) depth result nodes.new.items }
     ensures clear { IfOk result (λ found.
         (found ≡ Found.Clear) ↔ IsClear ruler.now.clearance diff.now ruler.now.directions depth) }
@@ -74,21 +70,18 @@ pub fn search_with<const M: usize>(
 
 /// As [`search_with`], with the lanes of the ruler made before.
 pub fn search_by<const M: usize>(
-    diff: &[Bez<8>; 3],
+    diff: &Difference,
     ruler: &Ruler<M>,
     lanes: &Lanes,
-    depth: u8,
+    depth: Depth,
     nodes: &mut Vec<Node>,
 ) -> Result<Found, AllocError>
-    requires depth { depth ≤ 8 }
     requires empty { nodes.old.items ≡ [] }
-    requires values { All (λ curve. All (IsBelow (2 ^ 30)) curve.b) diff.now }
     requires lanes { AreLanes ruler.now lanes.now }
     ensures exact { SearchGives (first_by ruler.now diff.now) depth result nodes.new.items }
     ensures clear { IfOk result (λ found.
         (found ≡ Found.Clear) ↔ IsClear ruler.now.clearance diff.now ruler.now.directions depth) }
 {
-    sizes_law(diff);
     let answer = walk(diff, ruler, lanes, depth, nodes);
     if !matches!(answer, Ok(Found::Clear)) {
         nodes.clear();
@@ -99,22 +92,20 @@ pub fn search_by<const M: usize>(
 // The nodes of the parts in preorder, up to the first part that is blocked. Most cues are told by one direction: for them no
 // stack is made.
 fn walk<const M: usize>(
-    diff: &[Bez<8>; 3],
+    diff: &Difference,
     ruler: &Ruler<M>,
     lanes: &Lanes,
-    depth: u8,
+    depth: Depth,
     nodes: &mut Vec<Node>,
 ) -> Result<Found, AllocError>
     requires empty { nodes.old.items ≡ [] }
-    requires depth { depth ≤ 8 }
-    requires sizes { All (λ curve. length curve.b ≡ 8) diff.now }
-    requires values { All (λ curve. All (IsBelow (2 ^ 30)) curve.b) diff.now }
     requires lanes { AreLanes ruler.now lanes.now }
     ensures { WalkGives (first_by ruler.now diff.now) depth result nodes.new.items }
 {
+    diff.raised_law();
     let whole = Level {
         place: Place { depth: 0, index: 0 },
-        part: *diff,
+        part: *diff.curves(),
     };
     match node_for(diff, &whole, ruler, lanes, depth) {
         Some(Node::Leaf { dir }) => {
@@ -128,22 +119,22 @@ fn walk<const M: usize>(
 
 // The same of a whole cue that is split.
 fn walk_halves<const M: usize>(
-    diff: &[Bez<8>; 3],
+    diff: &Difference,
     whole: &Level,
     ruler: &Ruler<M>,
     lanes: &Lanes,
-    depth: u8,
+    depth: Depth,
     nodes: &mut Vec<Node>,
 ) -> Result<Found, AllocError>
     requires empty { nodes.old.items ≡ [] }
-    requires depth { depth ≤ 8 }
     requires whole { whole.now.place ≡ root }
     requires level { IsLevel diff.now whole.now }
     requires split { node_for (first_by ruler.now diff.now) depth root ≡ Some Node.Split }
-    requires values { All (λ curve. All (IsBelow (2 ^ 30)) curve.b) diff.now }
     requires lanes { AreLanes ruler.now lanes.now }
     ensures { WalkGives (first_by ruler.now diff.now) depth result nodes.new.items }
 {
+    // a depth is at most 8
+    let _levels = depth.levels();
     nodes.push(Node::Split)?;
     let mut waiting = Waiting::of(whole);
     waiting.pass(diff, Node::Split);
@@ -162,32 +153,30 @@ fn walk_halves<const M: usize>(
 
 // The node of a part: a leaf where a direction separates it, else a split above the greatest depth.
 fn node_for<const M: usize>(
-    diff: &[Bez<8>; 3],
+    diff: &Difference,
     level: &Level,
     ruler: &Ruler<M>,
     lanes: &Lanes,
-    depth: u8,
+    depth: Depth,
 ) -> Option<Node>
     requires level { IsLevel diff.now level.now }
-    requires values { All (λ curve. All (IsBelow (2 ^ 30)) curve.b) diff.now }
     requires lanes { AreLanes ruler.now lanes.now }
     ensures { result ≡ node_for (first_by ruler.now diff.now) depth level.now.place }
 {
     match first_direction(diff, level, ruler, lanes) {
         Some(dir) => Some(Node::Leaf { dir }),
-        None if level.place.depth < depth => Some(Node::Split),
+        None if level.place.depth < depth.levels() => Some(Node::Split),
         None => None,
     }
 }
 
 // A node after the others, which is that of the next part.
 fn put(
-    diff: &[Bez<8>; 3],
+    diff: &Difference,
     waiting: &mut Waiting,
     nodes: &mut Vec<Node>,
     node: Node,
 ) -> Result<(), AllocError>
-    requires values { All (λ curve. All (IsBelow (2 ^ 30)) curve.b) diff.now }
     requires some { 1 ≤ length waiting.old }
     requires stack { IsStack diff.now waiting.old }
     requires shallow { (level : Level) (rest : List Level) → waiting.old ≡ level ∷ rest → IsShallow level.place node }
@@ -206,18 +195,4 @@ fn put(
 /// valid at that depth, and its leaves are the largest parts with a direction, each with its first.
 pub fn search_law()
     ensures { SearchLaw }
-{}
-
-/// A law: each of three curves of degree seven has eight control values.
-pub(crate) fn sizes_law(diff: &[Bez<8>; 3])
-    ensures { All (λ curve. length curve.b ≡ 8) diff.now }
-{
-    size_law(diff[0].b);
-    size_law(diff[1].b);
-    size_law(diff[2].b);
-}
-
-// A law: eight numbers are eight.
-fn size_law(b: [i128; 8])
-    ensures { length b ≡ 8 }
 {}

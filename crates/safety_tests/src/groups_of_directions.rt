@@ -6,6 +6,8 @@ ghost use Rattle.std.specs.Prelude.{◌≤◌};
 use crate::flights::{still, two_legs};
 use crate::searches::{nodes_of, raised};
 use fleet_curves::Curves;
+use fleet_curves::Difference;
+use fleet_math::Depth;
 use pair_search::{Found, search_with};
 use sep_parts::{Node, Ruler, WIDE, table_law};
 use std::alloc::{AllocError, Global};
@@ -36,15 +38,14 @@ const PLACES: [([i16; 3], u8, [i16; 3]); 18] = [
 ];
 
 // What a search among the 98 directions finds where the second drone stays so far from the first, and its nodes.
-fn searched(alloc: Global, place: [i16; 3], depth: u8) -> Result<(Found, Vec<Node>), AllocError>
-    requires { depth ≤ 8 }
+fn searched(alloc: Global, place: [i16; 3], depth: Depth) -> Result<(Found, Vec<Node>), AllocError>
 {
     table_law();
-    let diff = [
+    let diff = Difference::make([
         raised([place[0]; 8]),
         raised([place[1]; 8]),
         raised([place[2]; 8]),
-    ];
+    ]);
     let ruler = Ruler::make(&WIDE, still());
     let mut nodes = Vec::new(alloc);
     let found = search_with(&diff, &ruler, depth, &mut nodes)?;
@@ -54,12 +55,12 @@ fn searched(alloc: Global, place: [i16; 3], depth: u8) -> Result<(Found, Vec<Nod
 #[test]
 fn the_first_direction_at_the_edge(rt: HostRuntime) -> Result<(), Fail> {
     for (place, dir, nearer) in PLACES {
-        let (found, nodes) = searched(rt.alloc(), place, 0)?;
+        let (found, nodes) = searched(rt.alloc(), place, Depth::make(0))?;
         assert!(rt;
             found == Found::Clear && nodes.as_slice() == [Node::Leaf { dir }].as_slice(),
             "direction {dir}"
         );
-        let (found, nodes) = searched(rt.alloc(), nearer, 0)?;
+        let (found, nodes) = searched(rt.alloc(), nearer, Depth::make(0))?;
         assert!(rt;
             found == Found::Blocked { index: 0 } && nodes.is_empty(),
             "within direction {dir}"

@@ -4,6 +4,8 @@ ghost use Rattle.std.specs.Prelude.{◌^◌, All};
 ghost use Rattle.fleet_math.specs.Numbers.{IsBelow};
 
 use bezier_core::Bez;
+use fleet_curves::Difference;
+use fleet_math::Depth;
 use halving::Place;
 use sep_parts::{
     Node, Slot, Waiting, above, first_below, halves, low_control, projected, separates,
@@ -56,7 +58,7 @@ fn a_direction_at_its_threshold(rt: HostRuntime) -> Result<(), Fail> {
             120,
             h.max(1).min(2000),
             threshold.max(0).min(1_000_000),
-            depth.min(8),
+            Depth::make(depth.min(8)),
         );
         assert!(rt; found == wanted, "{millimetres}, {dip}, {h}, {depth}");
     }
@@ -69,19 +71,20 @@ fn the_first_control_value_that_is_too_low(rt: HostRuntime) -> Result<(), Fail> 
     let along_x = [1, 0, 0];
     let dips = aside(241, 240);
     let seen = projected(&dips, along_x, 120, 300);
+    let whole = Depth::make(0);
     // 72,300 and 72,000 times 5,040
     assert_eq!(rt;
         [seen.b[0], seen.b[3], seen.b[7]],
         [364392000, 362880000, 364392000]
     );
     for (found, wanted) in [
-        (low_control(&dips, along_x, 120, 300, 72001, 0), Some(3)),
-        (low_control(&dips, along_x, 120, 300, 72000, 0), None),
-        (low_control(&dips, along_x, 120, 300, 72301, 0), Some(0)),
-        (first_below(&seen, 72001, 0), Some(3)),
-        (first_below(&seen, 72000, 0), None),
-        (first_below(&seen, 1, 2), None),
-        (first_below(&seen, 5, 2), Some(0)),
+        (low_control(&dips, along_x, 120, 300, 72001, whole), Some(3)),
+        (low_control(&dips, along_x, 120, 300, 72000, whole), None),
+        (low_control(&dips, along_x, 120, 300, 72301, whole), Some(0)),
+        (first_below(&seen, 72001, whole), Some(3)),
+        (first_below(&seen, 72000, whole), None),
+        (first_below(&seen, 1, Depth::make(2)), None),
+        (first_below(&seen, 5, Depth::make(2)), Some(0)),
     ] {
         assert_eq!(rt; found, wanted);
     }
@@ -93,12 +96,12 @@ fn the_first_control_value_that_is_too_low(rt: HostRuntime) -> Result<(), Fail> 
 fn all_control_values_at_the_threshold(rt: HostRuntime) -> Result<(), Fail> {
     let reached = [82_575_360; 8];
     for (threshold, depth, wanted) in [(1, 2, true), (2, 2, false), (1, 3, false)] {
-        assert!(rt; above(&Bez::<8> { b: reached }, threshold, depth) == wanted);
+        assert!(rt; above(&Bez::<8> { b: reached }, threshold, Depth::make(depth)) == wanted);
     }
     for k in 0..8 {
         let mut b = reached;
         b[k] = 82_575_359;
-        assert!(rt; !above(&Bez::<8> { b }, 1, 2), "the value {k}");
+        assert!(rt; !above(&Bez::<8> { b }, 1, Depth::make(2)), "the value {k}");
     }
     Ok(())
 }
@@ -174,7 +177,7 @@ fn halves_wait_in_order(rt: HostRuntime) -> Result<(), Fail> {
     let step = Bez::<8> {
         b: [0, 0, 0, 0, 1, 1, 1, 1],
     };
-    let diff = [step, Bez::<8> { b: [0; 8] }, Bez::<8> { b: [5; 8] }];
+    let diff = Difference::make([step, Bez::<8> { b: [0; 8] }, Bez::<8> { b: [5; 8] }]);
     let mut waiting = Waiting::none();
     assert!(rt; waiting.next().is_none());
     waiting.begin(&diff);

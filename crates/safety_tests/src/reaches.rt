@@ -5,6 +5,7 @@ ghost use Rattle.std.specs.Prelude.{◌≤◌, IfOk};
 ghost use Rattle.speed_bound.specs.Reach.{IsMoving};
 
 use crate::speeds::{METRE, STAYS, flight, segment};
+use fleet_math::Depth;
 use speed_bound::reach;
 use std::alloc::{AllocError, Global};
 use std::test::Fail;
@@ -41,7 +42,7 @@ fn reach_of_two(
     depth: u8,
 ) -> Result<[u32; 3], AllocError> {
     let trajs = vec![in alloc; flown(alloc, first)?, flown(alloc, second)?]?;
-    Ok(reach(trajs.as_slice(), late.min(1000), depth.min(8)))
+    Ok(reach(trajs.as_slice(), late.min(1000), Depth::make(depth.min(8))))
 }
 
 const RESTS: Flight = ([0, 0, 1000, 0], 1, [STAYS; 3]);

@@ -7,6 +7,7 @@ ghost use Rattle.fleet_curves.specs.Raised.{AreOneShow};
 ghost use Rattle.keepout_boxes.specs.Kept.{AreEnds, IsNear};
 
 use fleet_curves::Curves;
+use fleet_math::Depth;
 use keepout_boxes::{Judged, Region, RegionFault, judge, read_regions};
 use std::alloc::{AllocError, Global};
 use std::test::Fail;
@@ -34,9 +35,8 @@ fn solo(alloc: Global) -> Result<Vec<Traj>, AllocError>
 }
 
 // What is judged of one region.
-fn judged(alloc: Global, region: Region, depth: u8) -> Result<Judged, AllocError>
+fn judged(alloc: Global, region: Region, depth: Depth) -> Result<Judged, AllocError>
     requires region { IsNear region }
-    requires depth { depth ≤ 8 }
 {
     let trajs = solo(alloc)?;
     let curves = Curves::make(alloc, &trajs)?;
@@ -108,13 +108,13 @@ const VOLUMES: [([i32; 3], [i32; 3], u8, Judged); 5] = [
 fn regions_of_one_drone(rt: HostRuntime) -> Result<(), Fail> {
     for (low, high, depth, wanted) in KEEPOUTS {
         assert_eq!(rt;
-            judged(rt.alloc(), keepout(low, high), depth.min(8))?,
+            judged(rt.alloc(), keepout(low, high), Depth::make(depth.min(8)))?,
             wanted
         );
     }
     for (low, high, depth, wanted) in VOLUMES {
         assert_eq!(rt;
-            judged(rt.alloc(), volume(low, high), depth.min(8))?,
+            judged(rt.alloc(), volume(low, high), Depth::make(depth.min(8)))?,
             wanted
         );
     }
@@ -190,7 +190,7 @@ fn the_first_region(rt: HostRuntime) -> Result<(), Fail> {
         cue: 0,
         index: 25,
     };
-    assert_eq!(rt; judge(&curves, 120, 300, 6, &regions), entry);
+    assert_eq!(rt; judge(&curves, 120, 300, Depth::make(6), &regions), entry);
     Ok(())
 }
 
@@ -234,10 +234,10 @@ fn the_second_drone_in_the_second_cue(rt: HostRuntime) -> Result<(), Fail> {
     let trajs = pair(rt.alloc())?;
     let curves = Curves::make(rt.alloc(), &trajs)?;
     let below = vec![in rt.alloc(); keepout([300, -50, 1200], [400, 50, 1690])]?;
-    assert_eq!(rt; judge(&curves, 120, 300, 6, &below), Judged::Kept);
+    assert_eq!(rt; judge(&curves, 120, 300, Depth::make(6), &below), Judged::Kept);
     let reached = vec![in rt.alloc(); keepout([300, -50, 1310], [400, 50, 1710])]?;
     assert_eq!(rt;
-        judge(&curves, 120, 300, 6, &reached),
+        judge(&curves, 120, 300, Depth::make(6), &reached),
         Judged::Enters {
             region: 0,
             drone: 1,
@@ -266,7 +266,7 @@ fn keepouts_and_strays(rt: HostRuntime) -> Result<(), Fail> {
     for (low, stray, kept) in BY_STRAY {
         let stray = stray.min(1000);
         let regions = vec![in rt.alloc(); keepout([low, 0, 0], [3000, 10, 2000])]?;
-        let found = judge(&curves, 120 + stray, 300 + stray, 6, &regions);
+        let found = judge(&curves, 120 + stray, 300 + stray, Depth::make(6), &regions);
         assert!(rt; (found == Judged::Kept) == kept, "from {low} with {stray}");
     }
     Ok(())

@@ -7,7 +7,8 @@ ghost use Rattle.traj_codec.specs.Positions.{durations};
 
 use crate::flights::{clearance, still, two_legs};
 use bezier_core::Bez;
-use fleet_curves::Curves;
+use fleet_curves::{Curves, Difference};
+use fleet_math::Depth;
 use pair_search::{Found, SearchFault, count_all, search, search_all, search_with};
 use sep_parts::{DIRECTIONS, Node, Ruler, Slot, WIDE, table_law};
 use std::alloc::{AllocError, Global};
@@ -50,12 +51,11 @@ fn searched(
     x: [i16; 8],
     y: [i16; 8],
     z: [i16; 8],
-    depth: u8,
+    depth: Depth,
 ) -> Result<(Found, Vec<Node>), AllocError>
-    requires { depth ≤ 8 }
 {
     table_law();
-    let diff = [raised(x), raised(y), raised(z)];
+    let diff = Difference::make([raised(x), raised(y), raised(z)]);
     let mut nodes = Vec::new(alloc);
     let found = search(&diff, &DIRECTIONS, still(), depth, &mut nodes)?;
     Ok((found, nodes))
@@ -66,12 +66,11 @@ fn searched_with(
     x: [i16; 8],
     y: [i16; 8],
     z: [i16; 8],
-    depth: u8,
+    depth: Depth,
 ) -> Result<(Found, Vec<Node>), AllocError>
-    requires { depth ≤ 8 }
 {
     table_law();
-    let diff = [raised(x), raised(y), raised(z)];
+    let diff = Difference::make([raised(x), raised(y), raised(z)]);
     let ruler = Ruler::make(&DIRECTIONS, still());
     let mut nodes = Vec::new(alloc);
     let found = search_with(&diff, &ruler, depth, &mut nodes)?;
@@ -141,7 +140,7 @@ const SEARCHES: [([i16; 8], [i16; 8], [i16; 8], u8, Found, &[Node]); 7] = [
 #[test]
 fn trees_of_pairs(rt: HostRuntime) -> Result<(), Fail> {
     for (x, y, z, depth, wanted, tree) in SEARCHES {
-        let (found, nodes) = searched(rt.alloc(), x, y, z, depth.min(8))?;
+        let (found, nodes) = searched(rt.alloc(), x, y, z, Depth::make(depth.min(8)))?;
         assert!(rt; found == wanted && nodes.as_slice() == tree);
     }
     Ok(())
@@ -150,7 +149,7 @@ fn trees_of_pairs(rt: HostRuntime) -> Result<(), Fail> {
 #[test]
 fn a_ruler_made_before(rt: HostRuntime) -> Result<(), Fail> {
     for (x, y, z, depth, wanted, tree) in SEARCHES {
-        let (found, nodes) = searched_with(rt.alloc(), x, y, z, depth.min(8))?;
+        let (found, nodes) = searched_with(rt.alloc(), x, y, z, Depth::make(depth.min(8)))?;
         assert!(rt; found == wanted && nodes.as_slice() == tree);
     }
     Ok(())
@@ -169,9 +168,8 @@ pub(crate) fn nodes_of(
     alloc: Global,
     curves: &Curves,
     ruler: &Ruler<98>,
-    depth: u8,
+    depth: Depth,
 ) -> Option<Result<u64, u16>>
-    requires { depth ≤ 8 }
 {
     let counted = match count_all(alloc, curves, ruler, depth) {
         Ok(count) => Ok(u64::from(count)),
@@ -225,7 +223,7 @@ fn drones_on_one_axis(rt: HostRuntime) -> Result<(), Fail> {
     for (place, stray, reach, wanted) in ON_ONE_AXIS {
         let curves = beside(rt.alloc(), place)?;
         let ruler = Ruler::make(&WIDE, clearance(120, 300, stray, reach));
-        let found = nodes_of(rt.alloc(), &curves, &ruler, 0);
+        let found = nodes_of(rt.alloc(), &curves, &ruler, Depth::make(0));
         assert!(rt; found == Some(wanted), "stray {stray}");
     }
     Ok(())
@@ -282,7 +280,7 @@ fn drones_that_pass(rt: HostRuntime) -> Result<(), Fail> {
     let curves = passing(rt.alloc())?;
     for (stray, reach, depth, wanted) in PASSING {
         let ruler = Ruler::make(&WIDE, clearance(120, 300, stray, reach));
-        let found = nodes_of(rt.alloc(), &curves, &ruler, depth.min(8));
+        let found = nodes_of(rt.alloc(), &curves, &ruler, Depth::make(depth.min(8)));
         assert!(rt; found == Some(wanted), "stray {stray}, depth {depth}");
     }
     Ok(())

@@ -2,6 +2,7 @@
 
 ghost use Rattle.std.specs.Prelude.{◌≡◌, ◌≤◌, ◌∷◌, [], IfOk};
 
+use fleet_math::Depth;
 use speed_bound::bound;
 use std::alloc::{AllocError, Global};
 use std::test::Fail;
@@ -34,11 +35,10 @@ fn bounds(
     start: [i16; 4],
     first: Segment,
     second: Segment,
-    depth: u8,
+    depth: Depth,
 ) -> Result<[i64; 3], AllocError>
     requires first { 1 ≤ first.ms }
     requires second { 1 ≤ second.ms }
-    requires depth { depth ≤ 8 }
 {
     let t = flight(alloc, start, first, second)?;
     Ok(bound(&t, depth))
@@ -248,7 +248,7 @@ fn bounds_of_two_segments(rt: HostRuntime) -> Result<(), Fail> {
     for (start, (first_ms, [x, y, z]), (second_ms, [u, v, w]), depth, wanted) in BOUNDS {
         let first = segment(first_ms, x, y, z);
         let second = segment(second_ms, u, v, w);
-        let found = bounds(rt.alloc(), start, first, second, depth.min(8))?;
+        let found = bounds(rt.alloc(), start, first, second, Depth::make(depth.min(8)))?;
         assert_eq!(rt; found, wanted);
     }
     Ok(())

@@ -1,12 +1,6 @@
 -- The first line of a text.
-use Rattle.std.proofs.Common.{◌≡◌, ℕ, suc, ◌+◌, ◌-◌, ◌≤◌, ◌<◌, Bool, true, false, cond, nat_lt, ◌==◌, arith, refl, sym, ◌∙◌, ap, List, [], ◌∷◌, length, length-drop, take, drop, Option, Some, None}
-use Rattle.std.specs.List.{slice_split, position, position_or_len, before_first, after_first}
-use Rattle.std.specs.Str.Lines.{lines, lines_of_parts, strip_carriage_return}
-use Rattle.std.proofs.lemmas.Bool.Decides.{nat_tests}
-use Rattle.std.proofs.lemmas.List.{take_all}
-use Rattle.std.proofs.lemmas.List.Splits.{slice_split_first, slice_split_none, length-slice_split}
-use Rattle.std.proofs.lemmas.List.Elements.{All-from_get_or}
-use Rattle.sep_parts.proofs.Lows.{none_passes}
+use Rattle.std.proofs.Common.{◌≡◌, ℕ, ◌≤◌, Bool, ◌==◌, arith, refl, List, [], ◌∷◌, length}
+use Rattle.std.specs.Str.Lines.{lines_of_parts, strip_carriage_return}
 
 abbrev is_feed : ℕ → Bool
 is_feed b = b == 10

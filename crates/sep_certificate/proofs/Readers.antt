@@ -1,11 +1,9 @@
 -- One line more of a certificate text.
-use Rattle.std.proofs.Common.{◌≡◌, ℕ, zero, suc, ◌+◌, ◌-◌, ◌≤◌, ◌<◌, Bool, true, false, cond, ◌==◌, ◌&&◌, nat_le, slice_index, arith, refl, sym, ◌∙◌, ap, List, [], ◌∷◌, ◌++◌, append_assoc, length, map, Option, Some}
+use Rattle.std.proofs.Common.{◌≡◌, ℕ, zero, suc, ◌-◌, ◌≤◌, ◌<◌, Bool, true, false, ◌&&◌, nat_le, slice_index, arith, refl, List}
 use Rattle.std.specs.Str.{bytes_eq}
-use Rattle.std.specs.Str.Lines.{lines}
 use Rattle.std.proofs.lemmas.Bool.Decides.{nat_tests}
 use Rattle.std.proofs.lemmas.Slice.Eq.{bytes_eq-Decides}
-use Rattle.sep_parts.specs.declared.node.Node.{Node}
-use Rattle.sep_certificate.specs.Texts.{bad_from, bad_tree, depth_line, is_depth_line, is_tree_line, tree_line}
+use Rattle.sep_certificate.specs.Texts.{depth_line, is_depth_line}
 
 -- the first line of each depth passes
 pub header_told : (depth : ℕ) → depth ≤ 8 → is_depth_line (depth_line depth) ≡ true

@@ -1,17 +1,17 @@
 //! What is wrong with a node of a certificate, and what a valid certificate promises.
 
-ghost use Rattle.std.specs.Prelude.{◌≡◌, ◌^◌, ◌<◌, length, All};
+ghost use Rattle.std.specs.Prelude.{◌≡◌, ◌<◌, None, length};
 ghost use Rattle.std.specs.Option.{option_map};
-ghost use Rattle.fleet_math.specs.Numbers.{IsBelow};
 ghost use Rattle.sep_parts.specs.Rulers.{rules_by};
 ghost use Rattle.sep_parts.specs.Levels.{IsLevel};
 ghost use Rattle.sep_certificate.specs.Laws.{CertificateLaw};
 ghost use Rattle.sep_certificate.specs.Certificates.{node_fault, split_fault};
-ghost use Rattle.sep_parts.specs.Trees.{IsKnown};
+ghost use Rattle.sep_parts.specs.Trees.{IsKnown, IsShallow};
 ghost use Rattle.sep_certificate.specs.Steps.{IsControl};
 
 use crate::certificate::CertFault;
-use bezier_core::Bez;
+use fleet_curves::Difference;
+use fleet_math::Depth;
 use halving::Place;
 use sep_parts::{Level, Node, Ruler, Slot};
 
@@ -25,17 +25,17 @@ pub fn certificate_law()
 /// What is wrong with a node at a level of the differences `diff`, by the directions of a ruler: a split at the depth, or a leaf whose
 /// direction has a control value below its threshold. Takes no memory.
 pub fn node_fault<const M: usize>(
-    diff: &[Bez<8>; 3],
+    diff: &Difference,
     level: &Level,
     slot: Slot,
     ruler: &Ruler<M>,
-    depth: u8,
+    depth: Depth,
     node: Node,
 ) -> Option<CertFault>
-    requires values { All (λ curve. All (IsBelow (2 ^ 30)) curve.b) diff.now }
     requires level { IsLevel diff.now level.now }
     requires known { IsKnown (length ruler.now.directions) node }
-    ensures { result ≡ node_fault (rules_by ruler.now depth) ruler.now.directions diff.now slot level.now.place node }
+    ensures exact { result ≡ node_fault (rules_by ruler.now depth) ruler.now.directions diff.now slot level.now.place node }
+    ensures shallow { result ≡ None → IsShallow level.now.place node }
 {
     match node {
         Node::Split => too_deep(level.place, slot, depth),
@@ -51,10 +51,11 @@ pub fn node_fault<const M: usize>(
 }
 
 // The fault of a split at the greatest depth.
-fn too_deep(place: Place, slot: Slot, depth: u8) -> Option<CertFault>
-    ensures { result ≡ split_fault depth slot place }
+fn too_deep(place: Place, slot: Slot, depth: Depth) -> Option<CertFault>
+    ensures exact { result ≡ split_fault depth slot place }
+    ensures shallow { result ≡ None → place.depth < 8 }
 {
-    if place.depth < depth {
+    if place.depth < depth.levels() {
         None
     } else {
         Some(CertFault::TooDeep {

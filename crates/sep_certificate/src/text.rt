@@ -5,7 +5,7 @@
 //! from `00` to `97`. Lines end with a line feed, which the last may lack; one carriage return
 //! before a line feed is dropped.
 
-ghost use Rattle.std.specs.Prelude.{◌≡◌, ◌↔◌, ◌≤◌, ◌<◌, ◌++◌, ◌∷◌, [], flat_map, All, IfOk, OnOk, MatchOption, IsFalse, IsTrue};
+ghost use Rattle.std.specs.Prelude.{◌≡◌, ◌↔◌, ◌<◌, ◌++◌, ◌∷◌, [], flat_map, All, IfOk, OnOk, MatchOption, IsFalse, IsTrue};
 ghost use Rattle.sep_parts.specs.Versions.{IsVersion, direction_word, known_in};
 ghost use Rattle.sep_certificate.specs.Certificates.{IsWhole};
 ghost use Rattle.sep_parts.specs.Trees.{IsKnown};
@@ -13,6 +13,7 @@ ghost use Rattle.sep_certificate.specs.Readings.{TextLaw};
 ghost use Rattle.sep_certificate.specs.Texts.{Says, depth_line, fed, head_lines, is_depth_line, node_text, text_of, tree_line};
 
 use crate::certificate::Certificate;
+use fleet_math::Depth;
 use sep_parts::Node;
 use std::alloc::{AllocError, Global};
 
@@ -39,7 +40,7 @@ pub fn write_certificate(alloc: Global, cert: &Certificate) -> Result<Vec<u8>, A
     ensures says { IfOk result (λ text. Says text.items cert.now) }
 {
     let mut text = Vec::new(alloc);
-    put_head(&mut text, cert.version, cert.depth)?;
+    put_head(&mut text, cert.version, Depth::make(cert.depth))?;
     for nodes in cert.trees.as_slice() {
         put_tree(&mut text, cert.version, nodes.as_slice())?;
     }
@@ -47,16 +48,15 @@ pub fn write_certificate(alloc: Global, cert: &Certificate) -> Result<Vec<u8>, A
 }
 
 // The lines in front of the trees.
-fn put_head(text: &mut Vec<u8>, version: u8, depth: u8) -> Result<(), AllocError>
+fn put_head(text: &mut Vec<u8>, version: u8, depth: Depth) -> Result<(), AllocError>
     requires version { IsVersion version }
-    requires depth { depth ≤ 8 }
     ensures { OnOk result (text.new.items ≡ text.old.items ++ flat_map fed (head_lines version depth)) }
 {
     if version != 1 {
         text.extend_from_slice(b"version 2\n")?;
     }
     text.extend_from_slice(b"certificate ")?;
-    text.push(b'0' + depth)?;
+    text.push(b'0' + depth.levels())?;
     text.push(b'\n')?;
     Ok(())
 }
@@ -120,10 +120,11 @@ fn put_digits(text: &mut Vec<u8>, dir: u8) -> Result<(), AllocError>
 }
 
 /// The depth that a line says, where it is `certificate` and a digit from 0 to 8.
-pub fn depth_of(line: &[u8]) -> Option<u8>
-    ensures { MatchOption result (IsFalse (is_depth_line line.now)) (λ depth. (depth ≤ 8) × (line.now ≡ depth_line depth)) }
+pub fn depth_of(line: &[u8]) -> Option<Depth>
+    ensures { MatchOption result (IsFalse (is_depth_line line.now)) (λ depth. line.now ≡ depth_line depth) }
 {
-    for depth in 0..9 {
+    for levels in 0..9 {
+        let depth = Depth::make(levels);
         if says_depth(line, depth) {
             return Some(depth);
         }
@@ -132,8 +133,7 @@ pub fn depth_of(line: &[u8]) -> Option<u8>
 }
 
 // Whether a line says a depth.
-fn says_depth(line: &[u8], depth: u8) -> bool
-    requires { depth ≤ 8 }
+fn says_depth(line: &[u8], depth: Depth) -> bool
     ensures { IsTrue result ↔ (line.now ≡ depth_line depth) }
 {
     let header = [
@@ -149,7 +149,7 @@ fn says_depth(line: &[u8], depth: u8) -> bool
         b't',
         b'e',
         b' ',
-        b'0' + depth,
+        b'0' + depth.levels(),
     ];
     line == header.as_slice()
 }

@@ -8,6 +8,7 @@ ghost use Rattle.sep_parts.specs.Separates.{least_value};
 
 use crate::part::scaled;
 use bezier_core::Bez;
+use fleet_math::Depth;
 
 /// The greatest depth of a part that is judged in 64 bits.
 pub(crate) const NARROW_DEPTH: u8 = 2;
@@ -24,7 +25,7 @@ pub(crate) fn separates_narrow(
     r: u16,
     h: u16,
     threshold: i128,
-    depth: u8,
+    depth: Depth,
 ) -> bool
     requires values { All (λ curve. All (IsBelow (2 ^ 46)) curve.b) diff.now }
     requires entries { AreSmall n }
@@ -120,7 +121,7 @@ pub(crate) fn separates_short(
     r: u16,
     h: u16,
     threshold: i128,
-    depth: u8,
+    depth: Depth,
 ) -> bool
     requires values { All (λ curve. All (IsBelow (2 ^ 58)) curve.b) diff.now }
     requires entries { AreSmall n }
@@ -128,7 +129,6 @@ pub(crate) fn separates_short(
     requires h { IsAxis h }
     requires positive { pos 0 ≤ℤ threshold }
     requires small { threshold <ℤ pos (2 ^ 30) }
-    requires depth { depth ≤ 8 }
     ensures { IsTrue result ↔ ((k : ℕ) → k ≤ 7 → least_value threshold depth ≤ℤ along_value diff.now (weights n r h) k) }
 {
     all_reach_short(diff, narrow_weights(n, r, h), scaled(threshold, depth))

@@ -11,18 +11,18 @@ ghost use Rattle.sep_parts.specs.Separates.{IsAbove, first_low, least_value};
 ghost use Rattle.sep_parts.specs.Sizes.{SizeLaw};
 
 use bezier_core::{Bez, along, along_at};
+use fleet_math::Depth;
 use halving::{halve, halve_short};
 
 /// Whether the direction `n` separates a part of the given depth: whether each control value of n_x h dx + n_y h dy + n_z r dz is
 /// at least the threshold, at the scale of raised curves and of the depth. `diff` has the part's control values on x, y and z.
-pub fn separates(diff: &[Bez<8>; 3], n: [i8; 3], r: u16, h: u16, threshold: i128, depth: u8) -> bool
+pub fn separates(diff: &[Bez<8>; 3], n: [i8; 3], r: u16, h: u16, threshold: i128, depth: Depth) -> bool
     requires values { All (λ curve. All (IsBelow (2 ^ 86)) curve.b) diff.now }
     requires entries { AreSmall n }
     requires r { IsAxis r }
     requires h { IsAxis h }
     requires positive { pos 0 ≤ℤ threshold }
     requires small { threshold <ℤ pos (2 ^ 30) }
-    requires depth { depth ≤ 8 }
     ensures { IsTrue result ↔ IsAbove threshold depth (along_value diff.now (weights n r h)) }
 {
     all_reach(diff, weights(n, r, h), scaled(threshold, depth))
@@ -68,7 +68,7 @@ pub fn low_control(
     r: u16,
     h: u16,
     threshold: i128,
-    depth: u8,
+    depth: Depth,
 ) -> Option<usize>
     requires values { All (λ curve. All (IsBelow (2 ^ 86)) curve.b) diff.now }
     requires entries { AreSmall n }
@@ -76,7 +76,6 @@ pub fn low_control(
     requires h { IsAxis h }
     requires positive { pos 0 ≤ℤ threshold }
     requires small { threshold <ℤ pos (2 ^ 30) }
-    requires depth { depth ≤ 8 }
     ensures { result ≡ first_low (along_value diff.now (weights n r h)) (least_value threshold depth) }
 {
     first_below(&projected(diff, n, r, h), threshold, depth)
@@ -95,10 +94,9 @@ pub fn projected(diff: &[Bez<8>; 3], n: [i8; 3], r: u16, h: u16) -> Bez<8>
 }
 
 /// The place, 0 to 7, of the first control value below the threshold, at the scale of raised curves and of the depth.
-pub fn first_below(curve: &Bez<8>, threshold: i128, depth: u8) -> Option<usize>
+pub fn first_below(curve: &Bez<8>, threshold: i128, depth: Depth) -> Option<usize>
     requires positive { pos 0 ≤ℤ threshold }
     requires small { threshold <ℤ pos (2 ^ 30) }
-    requires depth { depth ≤ 8 }
     ensures { result ≡ position (λ v. int_lt v (least_value threshold depth)) curve.now.b }
 {
     let least = scaled(threshold, depth);
@@ -107,10 +105,9 @@ pub fn first_below(curve: &Bez<8>, threshold: i128, depth: u8) -> Option<usize>
 
 /// Whether each of the eight control values is at least the threshold, at the scale of raised curves and of the depth. Of three
 /// curves along a direction, as [`projected`] gives them, it says whether the direction separates their part.
-pub fn above(p: &Bez<8>, threshold: i128, depth: u8) -> bool
+pub fn above(p: &Bez<8>, threshold: i128, depth: Depth) -> bool
     requires positive { pos 0 ≤ℤ threshold }
     requires small { threshold <ℤ pos (2 ^ 30) }
-    requires depth { depth ≤ 8 }
     ensures { IsTrue result ↔ IsAbove threshold depth (at p.now.b) }
 {
     let least = scaled(threshold, depth);
@@ -139,23 +136,21 @@ fn weight(entry: i8, axis: u16) -> i128
 }
 
 // The threshold at the scale of a depth.
-pub(crate) fn scaled(threshold: i128, depth: u8) -> i128
+pub(crate) fn scaled(threshold: i128, depth: Depth) -> i128
     requires positive { pos 0 ≤ℤ threshold }
     requires small { threshold <ℤ pos (2 ^ 30) }
-    requires depth { depth ≤ 8 }
     ensures { result ≡ least_value threshold depth }
 {
     threshold * scale(depth)
 }
 
 // 5,040 times 2 to the 7 times the depth.
-fn scale(depth: u8) -> i128
-    requires { depth ≤ 8 }
+fn scale(depth: Depth) -> i128
     ensures exact { result ≡ pos (5040 * 2 ^ (7 * depth)) }
     ensures positive { pos 0 ≤ℤ result }
     ensures small { result ≤ℤ pos (2 ^ 70) }
 {
-    match depth {
+    match depth.levels() {
         0 => 5040,
         1 => 5040 << 7,
         2 => 5040 << 14,

@@ -11,7 +11,8 @@ use crate::directions::{Dirs, thresholds};
 use crate::narrow::{NARROW_DEPTH, SHORT_DEPTH, narrow_weights, separates_narrow, separates_short};
 use crate::part::{low_control, separates};
 use crate::stack::Level;
-use bezier_core::Bez;
+use fleet_curves::Difference;
+use fleet_math::Depth;
 use std::marker::Model;
 
 /// A table of directions with the threshold of each for a clearance. Contracts see the directions and the clearance, which determine the
@@ -102,15 +103,16 @@ impl<const M: usize> Ruler<M> {
     /// Whether the direction with the number `dir` separates a part of the differences `diff` of raised curves: whether along it no
     /// control value of the part is below the threshold.
     #[inline(always)]
-    pub fn separates(&self, diff: &[Bez<8>; 3], level: &Level, dir: usize) -> bool
-        requires values { All (λ curve. All (IsBelow (2 ^ 30)) curve.b) diff.now }
+    pub fn separates(&self, diff: &Difference, level: &Level, dir: usize) -> bool
         requires level { IsLevel diff.now level.now }
         requires dir { dir < length self.now.directions }
         ensures { result ≡ is_none (low_value self.now.clearance diff.now level.now.place (direction_of self.now.directions dir)) }
     {
+        diff.raised_law();
         let directions = self.directions.n.as_slice();
         let thresholds = self.thresholds.as_slice();
         let Clearance { r, h, .. } = self.clearance;
+        let depth = Depth::make(level.place.depth);
         if level.place.depth <= NARROW_DEPTH {
             return separates_narrow(
                 &level.part,
@@ -118,7 +120,7 @@ impl<const M: usize> Ruler<M> {
                 r,
                 h,
                 thresholds[dir],
-                level.place.depth,
+                depth,
             );
         }
         if level.place.depth <= SHORT_DEPTH {
@@ -128,7 +130,7 @@ impl<const M: usize> Ruler<M> {
                 r,
                 h,
                 thresholds[dir],
-                level.place.depth,
+                depth,
             );
         }
         separates(
@@ -137,18 +139,18 @@ impl<const M: usize> Ruler<M> {
             r,
             h,
             thresholds[dir],
-            level.place.depth,
+            depth,
         )
     }
 
     /// The place, 0 to 7, of the first control value of a part that is below the threshold along the direction with the number
     /// `dir`; none where the direction separates the part. `diff` are the differences of raised curves whose part it is.
-    pub fn low_control(&self, diff: &[Bez<8>; 3], level: &Level, dir: usize) -> Option<usize>
-        requires values { All (λ curve. All (IsBelow (2 ^ 30)) curve.b) diff.now }
+    pub fn low_control(&self, diff: &Difference, level: &Level, dir: usize) -> Option<usize>
         requires level { IsLevel diff.now level.now }
         requires dir { dir < length self.now.directions }
         ensures { result ≡ low_value self.now.clearance diff.now level.now.place (direction_of self.now.directions dir) }
     {
+        diff.raised_law();
         let directions = self.directions.n.as_slice();
         let thresholds = self.thresholds.as_slice();
         low_control(
@@ -157,7 +159,7 @@ impl<const M: usize> Ruler<M> {
             self.clearance.r,
             self.clearance.h,
             thresholds[dir],
-            level.place.depth,
+            Depth::make(level.place.depth),
         )
     }
 }

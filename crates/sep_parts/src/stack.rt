@@ -7,6 +7,7 @@ ghost use Rattle.sep_parts.specs.Levels.{IsLevel, left_half, right_half};
 use crate::narrow::SHORT_DEPTH;
 use crate::part::{halves, halves_short};
 use bezier_core::Bez;
+use fleet_curves::Difference;
 use halving::Place;
 
 /// A place, and the parts of three curves there.
@@ -21,8 +22,7 @@ pub struct Level {
 /// The parts of the two halves of a level, without their places, of the differences `diff` of raised curves. No control value
 /// of a part reaches 2^86. Where those of the halves are below 2^58 they are made in 64 bits.
 #[inline(always)]
-pub fn parts_below(diff: &[Bez<8>; 3], level: &Level) -> ([Bez<8>; 3], [Bez<8>; 3])
-    requires values { All (λ curve. All (IsBelow (2 ^ 30)) curve.b) diff.now }
+pub fn parts_below(diff: &Difference, level: &Level) -> ([Bez<8>; 3], [Bez<8>; 3])
     requires level { IsLevel diff.now level.now }
     requires shallow { level.now.place.depth < 8 }
     ensures left { IsLevel diff.now (record { place = left_half level.now.place; part = result.0 }) }
@@ -30,6 +30,7 @@ pub fn parts_below(diff: &[Bez<8>; 3], level: &Level) -> ([Bez<8>; 3], [Bez<8>; 
     ensures left_small { All (λ curve. All (IsBelow (2 ^ 86)) curve.b) result.0 }
     ensures right_small { All (λ curve. All (IsBelow (2 ^ 86)) curve.b) result.1 }
 {
+    diff.raised_law();
     if level.place.depth < SHORT_DEPTH {
         halves_short(&level.part)
     } else {

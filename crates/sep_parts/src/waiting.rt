@@ -1,7 +1,6 @@
 //! The parts of a cue that are still to be looked at, each halved where it stands.
 
 ghost use Rattle.std.specs.Prelude.{◌≡◌, ◌<◌, ◌≤◌, ◌^◌, [], ◌∷◌, ◌++◌, List, length, drop, All, MatchOption};
-ghost use Rattle.fleet_math.specs.Numbers.{IsBelow};
 ghost use Rattle.sep_parts.specs.Levels.{IsStack, left_half, places_of, right_half, root};
 ghost use Rattle.sep_parts.specs.Trees.{IsShallow, places_below};
 ghost use Rattle.sep_parts.specs.declared.stack.Level.{Level};
@@ -9,6 +8,7 @@ ghost use Rattle.sep_parts.specs.declared.stack.Level.{Level};
 use crate::node::Node;
 use crate::stack::{Level, parts_below};
 use bezier_core::Bez;
+use fleet_curves::Difference;
 use halving::Place;
 use std::marker::Model;
 
@@ -63,11 +63,11 @@ impl Waiting {
     }
 
     /// The whole cue, where no part waits.
-    pub fn begin(&mut self, diff: &[Bez<8>; 3])
+    pub fn begin(&mut self, diff: &Difference)
         requires { self.old ≡ [] }
         ensures { self.new ≡ record { place = root; part = diff.now } ∷ [] }
     {
-        self.push(Place { depth: 0, index: 0 }, diff);
+        self.push(Place { depth: 0, index: 0 }, diff.curves());
     }
 
     /// The next part; none where none waits.
@@ -90,8 +90,7 @@ impl Waiting {
     }
 
     /// Past the next part, whose node this is: where it is a split its halves take its place, the first half first.
-    pub fn pass(&mut self, diff: &[Bez<8>; 3], node: Node)
-        requires values { All (λ curve. All (IsBelow (2 ^ 30)) curve.b) diff.now }
+    pub fn pass(&mut self, diff: &Difference, node: Node)
         requires some { 1 ≤ length self.old }
         requires stack { IsStack diff.now self.old }
         requires shallow { (level : Level) (rest : List Level) → self.old ≡ level ∷ rest → IsShallow level.place node }
@@ -105,8 +104,7 @@ impl Waiting {
     }
 
     // The halves of the next part take its place, the first half first.
-    fn split(&mut self, diff: &[Bez<8>; 3])
-        requires values { All (λ curve. All (IsBelow (2 ^ 30)) curve.b) diff.now }
+    fn split(&mut self, diff: &Difference)
         requires some { 1 ≤ length self.old }
         requires stack { IsStack diff.now self.old }
         requires shallow { (level : Level) (rest : List Level) → self.old ≡ level ∷ rest → level.place.depth < 8 }

@@ -68,7 +68,7 @@ pub fn clearance_of(f: &Fitted) -> Clearance
         h: settings.h,
         stray: settings.stray,
         late: settings.late,
-        reach: reach(f.trajs.as_slice(), settings.late, REACH_DEPTH),
+        reach: reach(f.trajs.as_slice(), settings.late, Depth::make(REACH_DEPTH)),
     }
 }
 
@@ -104,7 +104,9 @@ fn trees_of(
     ensures finds { FindsTrees clearance depth curves.now result }
     ensures shallow { depth ≤ most_depth }
 {
-    match search_all(alloc, curves, &ruler_of(clearance), depth.levels()) {
+    // a depth is at most 8
+    let _levels = depth.levels();
+    match search_all(alloc, curves, &ruler_of(clearance), depth) {
         Ok(trees) => Ok(trees),
         Err(fault) => Err(separation_fault(fault)),
     }
@@ -121,7 +123,9 @@ fn nodes_of(
     ensures finds { FindsNodes clearance depth curves.now result }
     ensures shallow { depth ≤ most_depth }
 {
-    match count_all(alloc, curves, &ruler_of(clearance), depth.levels()) {
+    // a depth is at most 8
+    let _levels = depth.levels();
+    match count_all(alloc, curves, &ruler_of(clearance), depth) {
         Ok(count) => Ok(count),
         Err(fault) => Err(separation_fault(fault)),
     }

@@ -66,7 +66,7 @@ fn excess_by(
     ensures within { IfNone result (IsWithinLimits limits depth t.now) }
     ensures said { IfSome result IsOfInput }
 {
-    let excess = first_above(t, limits, depth.levels())?;
+    let excess = first_above(t, limits, depth)?;
     let cue = cue_of(cues, t, excess.segment);
     Some(refusal_as(excess.kind, copy_of(name), cue, excess.axis, excess.value))
 }
@@ -96,7 +96,7 @@ fn answer_drones(
         if let Some(refusal) = excess_by(t, &names[d], cues, depth, limits) {
             return Ok(Answer::Refused { refusal });
         }
-        let motion = motion_of(t, cues, depth.levels());
+        let motion = motion_of(t, cues, depth);
         put_motion(&mut text, names[d].as_slice(), motion)?;
         most = most.greater(motion.most);
     }

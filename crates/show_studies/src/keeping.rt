@@ -53,7 +53,7 @@ fn judge_regions(
         &curves,
         settings.r + settings.stray,
         settings.h + settings.stray,
-        depth.levels(),
+        depth,
         regions,
     ) {
         Judged::Kept => Ok(Answer::Done {

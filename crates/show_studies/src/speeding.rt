@@ -78,7 +78,7 @@ fn put_drone(
     ensures keeps { (axis : ℕ) → axis ≤ 2 → KeepsSpeed t.now axis (speed depth t.now axis) }
     ensures said { IfOk result (λ r. IfSome r IsOfInput) }
 {
-    let [x, y, z] = bound(t, depth.levels());
+    let [x, y, z] = bound(t, depth);
     if let Some(refusal) = too_fast_of(limit, name, x, y, z) {
         return Ok(Some(refusal));
     }

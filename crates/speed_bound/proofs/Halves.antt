@@ -1,16 +1,22 @@
 -- How wide the steps of a half are, and so those of all parts; and what is no faster than a speed that was found.
-use Rattle.std.proofs.Common.{◌≡◌, ℕ, zero, suc, ◌+◌, ◌-◌, ◌*◌, ◌/◌, ◌^◌, ◌≤◌, ◌<◌, max, ℤ, pos, ◌+ℤ◌, ◌-ℤ◌, ◌*ℤ◌, unsigned_abs, arith, lit<, refl, sym, ◌∙◌, ap}
+use Rattle.std.proofs.Common.{◌≡◌, ◌≢◌, ℕ, zero, suc, ◌+◌, ◌-◌, ◌*◌, ◌/◌, ◌^◌, ◌≤◌, ◌<◌, max, ℤ, pos, ◌+ℤ◌, ◌-ℤ◌, ◌*ℤ◌, unsigned_abs, arith, lit<, refl, sym, ◌∙◌, ap, List, All}
 use Rattle.std.proofs.lemmas.Int.{ints}
+use Rattle.std.proofs.lemmas.List.Elements.{All-from_get_or}
 use Rattle.std.proofs.lemmas.Nat.{mul-le, pow-add, pow_pos}
 use Rattle.std.proofs.Math.Nat.{pow-le-pow_right, pow-suc}
+use Rattle.fleet_math.specs.Bernstein.{at}
+use Rattle.fleet_math.specs.Numbers.{IsBelow}
 use Rattle.fleet_math.specs.Sums.{power}
 use Rattle.fleet_math.proofs.RingLemmas.{ring, linear, one_mul_ℤ}
+use Rattle.bezier_core.specs.Raised.{eight}
 use Rattle.bezier_core.specs.Steps.{IsWithin}
+use Rattle.bezier_core.proofs.CurveLemmas.{at-eight}
 use Rattle.halving.specs.Part.{polar, part_value}
 use Rattle.halving.proofs.PolarLemmas.{blossom}
+use Rattle.sep_parts.proofs.Parts.{part-within}
 use Rattle.speed_bound.specs.Speed.{greatest_below, segment_speed, speed_of, widest_part, widest_step}
 use Rattle.speed_bound.proofs.Slopes.{exchange, polar-within, steps, within_same}
-use Rattle.speed_bound.proofs.Widths.{div_ceil-least, greatest-at, greatest-most, segment_speed-is, some_time, widest-halves, widest-whole, widest_part-small}
+use Rattle.speed_bound.proofs.Widths.{div_ceil-least, greatest-at, greatest-most, segment_speed-is, some_time, widest-halves, widest-whole, widest_part-small, within_at}
 
 -- ---- the steps of a half
 -- what an exchange leaves between two values of the polar form
@@ -189,3 +195,34 @@ slow_small p ms v few short slow =
     let time : p * ms ≤ 2 ^ 48 * 2 ^ 16 = mul-le p ms (2 ^ 48) (2 ^ 16) few (omega arith) in
     let way : p * ms * v ≤ 2 ^ 48 * 2 ^ 16 * 2 ^ 50 = mul-le (p * ms) v (2 ^ 48 * 2 ^ 16) (2 ^ 50) time (omega arith) in
     omega (arith, way)
+
+-- ---- the halves of a curve whose parts have room
+-- the number of a depth is at most 8
+pub shallow : {n depth : ℕ} → n ≡ depth → n ≤ 8 → depth ≤ 8
+shallow {n} {depth} same most = omega (arith, same, most)
+
+-- one level less than a depth that isn't 0
+pub less : {n depth below : ℕ} → n ≡ depth → n ≢ 0 → below ≡ n - 1 → suc below ≡ depth
+less {n} {depth} {below} same some is = omega (arith, same, some, is)
+
+-- the half with this number has room
+pub half_within : (b half : List ℤ) (depth below r : ℕ) → suc below ≡ depth → depth ≤ 8 → r < 2 → half ≡ eight (part_value 1 r (at b)) → All (IsWithin (pos (2 ^ (84 - 7 * depth)))) b →
+    All (IsWithin (pos (2 ^ (84 - 7 * below)))) half
+half_within b half depth below r less shallow side is within =
+    rw is (All-from_get_or (IsWithin (pos (2 ^ (84 - 7 * below)))) (eight (part_value 1 r (at b))) (pos 0) (λ k inside. one k (omega arith)))
+  where
+    wide : (p : ℕ) (x : ℤ) → IsWithin (pos 128 *ℤ pos p) x → IsWithin (pos (128 * p)) x
+    wide p x within = (omega (arith, ints, within.0), omega (arith, ints, within.1))
+
+    one : (k : ℕ) → k ≤ 7 → IsWithin (pos (2 ^ (84 - 7 * below))) (at (eight (part_value 1 r (at b))) k)
+    one k small =
+        let e : 84 - 7 * below ≡ 7 + (84 - 7 * depth) = omega arith in
+        rw (e, pow-add 2 7 (84 - 7 * depth), at-eight (part_value 1 r (at b)) k small)
+        (wide (2 ^ (84 - 7 * depth)) (part_value 1 r (at b) k) (part-within 1 r k (at b) (pos (2 ^ (84 - 7 * depth))) side small (λ i low. within_at (2 ^ (84 - 7 * depth)) b i within)))
+
+-- numbers that are small enough
+pub room_of : (depth : ℕ) (x : ℤ) → IsWithin (pos (2 ^ (84 - 7 * depth))) x → IsBelow (2 ^ 118) x
+room_of depth x within =
+    let more : 84 - 7 * depth ≤ 84 = omega arith in
+    let room : 2 ^ (84 - 7 * depth) ≤ 2 ^ 84 = pow-le-pow_right {n = 2} (lit< tt) more in
+    (omega (arith, ints, room, within.0), omega (arith, ints, room, within.1))

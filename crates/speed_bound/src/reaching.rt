@@ -5,6 +5,7 @@ ghost use Rattle.std.specs.Int.{div_ceil};
 ghost use Rattle.speed_bound.specs.Reach.{IsMoving, ReachLaw, StillLaw, farthest, reach_of};
 
 use crate::trajectory::faster;
+use fleet_math::Depth;
 use traj_codec::Traj;
 
 /// No two positions are farther apart on an axis, in millimetres.
@@ -12,10 +13,9 @@ const FARTHEST: u64 = 65_536;
 
 /// How far trajectories move at most on x, y and z in `late` milliseconds, in millimetres: on each axis the greatest over all of them of the
 /// bound on the speed by parts of the depth, times the time, rounded up. Takes no memory.
-pub fn reach(trajs: &[Traj], late: u16, depth: u8) -> [u32; 3]
+pub fn reach(trajs: &[Traj], late: u16, depth: Depth) -> [u32; 3]
     requires moving { All IsMoving trajs.now }
     requires late { late ≤ 1000 }
-    requires depth { depth ≤ 8 }
     ensures exact { result ≡ reach_of depth late trajs.now 0 ∷ reach_of depth late trajs.now 1 ∷ reach_of depth late trajs.now 2 ∷ [] }
 {
     if late == 0 {

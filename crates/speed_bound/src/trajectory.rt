@@ -3,6 +3,7 @@
 ghost use Rattle.std.specs.Prelude.{◌≡◌, ℕ, ◌+◌, ◌*◌, ◌/◌, ◌^◌, ◌≤◌, ◌<◌, ◌∷◌, [], max, ℤ, pos, ◌≤ℤ◌, All, length, slice_index_or};
 ghost use Rattle.fleet_math.specs.Numbers.{IsBelow};
 ghost use Rattle.fleet_math.specs.Bernstein.{at};
+ghost use Rattle.fleet_math.specs.Limits.{most_depth};
 ghost use Rattle.traj_codec.specs.Spelling.{HasDuration};
 ghost use Rattle.fleet_curves.specs.Steps.{IsFormed};
 ghost use Rattle.speed_bound.specs.Speed.{KeepsSpeed, segment_speed, speed, speed_of};
@@ -10,6 +11,7 @@ ghost use Rattle.speed_bound.specs.Speed.{KeepsSpeed, segment_speed, speed, spee
 use crate::parts::{widest_part, widest_step};
 use bezier_core::Bez;
 use fleet_curves::{raised_segment, value_after};
+use fleet_math::Depth;
 use traj_codec::Traj;
 
 /// How fast a trajectory is at most on x, y and z, in micrometres per second: on each axis the greatest over its
@@ -19,10 +21,9 @@ use traj_codec::Traj;
 ///
 /// Between any two instants p / q and r / s of the trajectory, for all whole numbers, the decoded position on each axis
 /// moves by at most that speed times the time between them. Takes no memory.
-pub fn bound(t: &Traj, depth: u8) -> [i64; 3]
+pub fn bound(t: &Traj, depth: Depth) -> [i64; 3]
     requires some { 1 ≤ length t.now.segments }
     requires lasting { All HasDuration t.now.segments }
-    requires depth { depth ≤ 8 }
     ensures exact { result ≡ pos (speed depth t.now 0) ∷ pos (speed depth t.now 1) ∷ pos (speed depth t.now 2) ∷ [] }
     ensures keeps { (axis : ℕ) → axis ≤ 2 → KeepsSpeed t.now axis (speed depth t.now axis) }
     ensures small { (axis : ℕ) → axis ≤ 2 → speed depth t.now axis < 2 ^ 50 }
@@ -33,9 +34,8 @@ pub fn bound(t: &Traj, depth: u8) -> [i64; 3]
 
 /// On each of the axes x, y and z the greater of a given speed and of the bound on that of a trajectory, by its parts of the depth. What can't
 /// be faster than the given speeds isn't looked at more closely.
-pub fn faster(t: &Traj, depth: u8, least: [u64; 3]) -> [u64; 3]
+pub fn faster(t: &Traj, depth: Depth, least: [u64; 3]) -> [u64; 3]
     requires lasting { All HasDuration t.now.segments }
-    requires depth { depth ≤ 8 }
     requires least { (axis : ℕ) → axis ≤ 2 → slice_index_or least axis 0 < 2 ^ 50 }
     ensures exact { result ≡ max (slice_index_or least 0 0) (speed depth t.now 0) ∷ max (slice_index_or least 1 0) (speed depth t.now 1)
         ∷ max (slice_index_or least 2 0) (speed depth t.now 2) ∷ [] }
@@ -62,10 +62,9 @@ pub fn faster(t: &Traj, depth: u8, least: [u64; 3]) -> [u64; 3]
 
 // The greater of a given speed and of the greatest on the parts of a segment that lasts `ms` milliseconds, in micrometres per second. The
 // speed of the whole curve, as its own part, bounds those of all parts.
-fn segment_speed(curve: &Bez<8>, ms: u16, depth: u8, least: u64) -> u64
+fn segment_speed(curve: &Bez<8>, ms: u16, depth: Depth, least: u64) -> u64
     requires values { All (IsBelow (2 ^ 28)) curve.now.b }
     requires lasting { 1 ≤ ms }
-    requires depth { depth ≤ 8 }
     requires least { least < 2 ^ 50 }
     ensures exact { result ≡ max least (segment_speed depth ms (at curve.now.b)) }
     ensures small { result < 2 ^ 50 }
@@ -83,24 +82,24 @@ fn segment_speed(curve: &Bez<8>, ms: u16, depth: u8, least: u64) -> u64
 }
 
 // The widest step with which a part of this depth of a segment of `ms` milliseconds is no faster than this.
-fn slow_step(speed: u64, ms: u16, depth: u8) -> u128
+fn slow_step(speed: u64, ms: u16, depth: Depth) -> u128
     requires speed { speed < 2 ^ 50 }
-    requires depth { depth ≤ 8 }
-    ensures { result ≡ 5040 * 64 ^ depth * ms * speed / 7000000 }
+    ensures exact { result ≡ 5040 * 64 ^ depth * ms * speed / 7000000 }
+    ensures shallow { depth ≤ most_depth }
 {
-    5_040 * 64u128.pow(depth as u32) * ms as u128 * speed as u128 / 7_000_000
+    5_040 * 64u128.pow(depth.levels() as u32) * ms as u128 * speed as u128 / 7_000_000
 }
 
 // The speed at which a segment of `ms` milliseconds has parts of this depth with this widest step.
 #[tactic(auto, unfolding(crate::specs::Speed::speed_of))]
-fn per_second(widest: u128, ms: u16, depth: u8) -> u64
+fn per_second(widest: u128, ms: u16, depth: Depth) -> u64
     requires widest { widest ≤ 2 ^ (29 + 7 * depth) }
     requires lasting { 1 ≤ ms }
-    requires depth { depth ≤ 8 }
     ensures exact { result ≡ speed_of depth ms widest }
     ensures small { result < 2 ^ 50 }
 {
-    let way = 7_000_000 * 2u128.pow(depth as u32) * widest;
-    let time = 5_040 * 2u128.pow(7 * depth as u32) * ms as u128;
+    let levels = depth.levels() as u32;
+    let way = 7_000_000 * 2u128.pow(levels) * widest;
+    let time = 5_040 * 2u128.pow(7 * levels) * ms as u128;
     way.div_ceil(time) as u64
 }

@@ -3,21 +3,21 @@ use Rattle.dynamics_bound.proofs.Widths.{allowed_small, depth_small, square_smal
 use Rattle.dynamics_bound.proofs.acceleration.bend_within.Goals as goal
 
 pub pow-requires : goal.pow-requires
-pow-requires c = omega (arith, (depth_small c.args.depth c.requires.depth).1)
+pow-requires c = omega (arith, (depth_small c.levels.result c.levels.ensures.most).1)
 
 small : (depth q : ℕ) → depth ≤ 8 → q ≡ 32 ^ depth → q ≤ 2 ^ 40
 small depth q shallow is = rw is (depth_small depth shallow).1
 
 pub overflow_mul-result : goal.overflow_mul-result
-overflow_mul-result c = omega (arith, small c.args.depth c.pow.result c.requires.depth c.pow.ensures)
+overflow_mul-result c = omega (arith, small c.levels.result c.pow.result c.levels.ensures.most c.pow.ensures)
 
 pub overflow_mul-result-2 : goal.overflow_mul-result-2
 overflow_mul-result-2 c =
-    let room : c.args.most * (3 * c.pow.result) * 1 < 2 ^ 128 = allowed_small c.args.most c.pow.result 1 c.requires.most (small c.args.depth c.pow.result c.requires.depth c.pow.ensures) (omega arith) in
+    let room : c.args.most * (3 * c.pow.result) * 1 < 2 ^ 128 = allowed_small c.args.most c.pow.result 1 c.requires.most (small c.levels.result c.pow.result c.levels.ensures.most c.pow.ensures) (omega arith) in
     omega (arith, room)
 
 pub overflow_mul-result-3 : goal.overflow_mul-result-3
 overflow_mul-result-3 c =
     let room : c.args.most * (3 * c.pow.result) * (c.args.ms * c.args.ms) < 2 ^ 128 =
-    allowed_small c.args.most c.pow.result (c.args.ms * c.args.ms) c.requires.most (small c.args.depth c.pow.result c.requires.depth c.pow.ensures) (square_small c.args.ms (omega arith)) in
+    allowed_small c.args.most c.pow.result (c.args.ms * c.args.ms) c.requires.most (small c.levels.result c.pow.result c.levels.ensures.most c.pow.ensures) (square_small c.args.ms (omega arith)) in
     omega (arith, room)

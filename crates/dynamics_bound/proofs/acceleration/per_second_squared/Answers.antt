@@ -6,23 +6,23 @@ use Rattle.dynamics_bound.proofs.Widths.{acceleration_small, depth_small, force_
 use Rattle.dynamics_bound.proofs.acceleration.per_second_squared.Goals as goal
 
 pub pow-requires : goal.pow-requires
-pow-requires c = omega (arith, (depth_small c.args.depth c.requires.depth).0)
+pow-requires c = omega (arith, (depth_small c.levels-levels.result c.levels-levels.ensures.most).0)
 
 four : (depth p : ℕ) → depth ≤ 8 → p ≡ 4 ^ depth → p ≤ 65536
 four depth p shallow is = rw is (depth_small depth shallow).0
 
 pub overflow_mul-way : goal.overflow_mul-way
-overflow_mul-way c = omega (arith, four c.args.depth c.pow.result c.requires.depth c.pow.ensures)
+overflow_mul-way c = omega (arith, four c.levels-levels.result c.pow.result c.levels-levels.ensures.most c.pow.ensures)
 
 pub overflow_mul-way-2 : goal.overflow_mul-way-2
 overflow_mul-way-2 c =
     let room : 25000000 * c.pow.result * c.args.widest < 2 ^ 128 =
-    force_small c.pow.result c.args.widest (32 ^ c.args.depth) (four c.args.depth c.pow.result c.requires.depth c.pow.ensures) (depth_small c.args.depth c.requires.depth).1 c.requires.widest in
+    force_small c.pow.result c.args.widest (32 ^ c.levels-levels.result) (four c.levels-levels.result c.pow.result c.levels-levels.ensures.most c.pow.ensures) (depth_small c.levels-levels.result c.levels-levels.ensures.most).1 (rw c.levels-levels.ensures.same c.requires.widest) in
     omega (arith, room)
 
 pub overflow_mul-time-2 : goal.overflow_mul-time-2
 overflow_mul-time-2 c =
-    let few : c.pow-2.result ≤ 2 ^ 56 = rw c.pow-2.ensures (depth_small c.args.depth c.requires.depth).2 in
+    let few : c.pow-2.result ≤ 2 ^ 56 = rw c.pow-2.ensures (depth_small c.levels-levels.result c.levels-levels.ensures.most).2 in
     let room : 3 * c.pow-2.result * (c.args.ms * c.args.ms) ≤ 3 * 2 ^ 56 * 2 ^ 32 =
     mul-le (3 * c.pow-2.result) (c.args.ms * c.args.ms) (3 * 2 ^ 56) (2 ^ 32) (omega arith) (square_small c.args.ms (omega arith)) in
     omega (arith, room)
@@ -35,8 +35,8 @@ small w ms depth p q r wide lasting p_is q_is r_is =
 
 pub overflow_cast-result : goal.overflow_cast-result
 overflow_cast-result c =
-    let few : c.div_ceil.result < 2 ^ 53 = small c.args.widest c.args.ms c.args.depth c.pow.result c.pow-2.result c.div_ceil.result c.requires.widest c.requires.lasting c.pow.ensures c.pow-2.ensures c.div_ceil.ensures in
+    let few : c.div_ceil.result < 2 ^ 53 = small c.args.widest c.args.ms c.levels-levels.result c.pow.result c.pow-2.result c.div_ceil.result (rw c.levels-levels.ensures.same c.requires.widest) c.requires.lasting c.pow.ensures c.pow-2.ensures c.div_ceil.ensures in
     omega arith
 
 pub returns-clause-small : goal.returns-clause-small
-returns-clause-small c = small c.args.widest c.args.ms c.args.depth c.pow.result c.pow-2.result c.div_ceil.result c.requires.widest c.requires.lasting c.pow.ensures c.pow-2.ensures c.div_ceil.ensures
+returns-clause-small c = small c.args.widest c.args.ms c.levels-levels.result c.pow.result c.pow-2.result c.div_ceil.result (rw c.levels-levels.ensures.same c.requires.widest) c.requires.lasting c.pow.ensures c.pow-2.ensures c.div_ceil.ensures

@@ -9,8 +9,10 @@ use Rattle.dynamics_bound.specs.Accelerations.{acceleration_of, segment_accelera
 use Rattle.dynamics_bound.proofs.Widths.{allowed, widest_part-small}
 use Rattle.dynamics_bound.proofs.acceleration.segment_above.Goals as goal
 
-pub widest_above-widest-requires-clause-values : goal.widest_above-widest-requires-clause-values
-widest_above-widest-requires-clause-values c k d inside = wide c.args.depth _ c.requires.depth (c.requires.values k d inside)
+pub widest_above-widest-requires : goal.widest_above-widest-requires
+widest_above-widest-requires c = record {
+  values = λ k d inside. wide c.args.depth _ c.bend_within-least.ensures.shallow (c.requires.values k d inside);
+}
   where
     wide : (depth : ℕ) (x : ℤ) → depth ≤ 8 → IsBelow (2 ^ 28) x → IsWithin (pos (2 ^ (84 - 7 * depth))) x
     wide depth x shallow below =
@@ -30,7 +32,7 @@ no_sharper depth ms most least widest f lasting least_is widest_is same =
 
 pub returns-then-widest-least-clause-exact : goal.returns-then-widest-least-clause-exact
 returns-then-widest-least-clause-exact c =
-    no_sharper c.args.depth c.args.ms c.args.most c.bend_within-least.result c.widest_above-widest.result (at c.args.curve.now.b) c.requires.lasting c.bend_within-least.ensures
+    no_sharper c.args.depth c.args.ms c.args.most c.bend_within-least.result c.widest_above-widest.result (at c.args.curve.now.b) c.requires.lasting c.bend_within-least.ensures.exact
     c.widest_above-widest.ensures c.if-widest-least.true
 
 -- above the least it is the widest

@@ -4,5 +4,5 @@ use Rattle.fleet_math.specs.Numbers.{IsBelow}
 use Rattle.fleet_curves.proofs.Small.{three}
 use Rattle.fleet_curves.proofs.curves.differences.Goals as goal
 
-pub returns-clause-small : goal.returns-clause-small
-returns-clause-small c = three (λ (curve : Bez 8). All (IsBelow (2 ^ 30)) curve.b) c.one_less.result c.one_less-2.result c.one_less-3.result c.one_less.ensures.small c.one_less-2.ensures.small c.one_less-3.ensures.small
+pub make-requires : goal.make-requires
+make-requires c = three (λ (curve : Bez 8). All (IsBelow (2 ^ 30)) curve.b) c.one_less.result c.one_less-2.result c.one_less-3.result c.one_less.ensures.small c.one_less-2.ensures.small c.one_less-3.ensures.small

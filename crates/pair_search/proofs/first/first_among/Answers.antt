@@ -19,13 +19,10 @@ first_from-requires g c = (
   (
     c.requires.level,
     (
-      c.requires.values,
-      (
-        c.requires.begin,
-        λ i few inside less.
-            low_lane c.args.ruler.now c.args.diff.now c.args.level.now c.args.lanes.now c.args.p.now c.args.q.now (c.args.begin + i) c.requires.level c.requires.p.1 c.requires.q.1 c.requires.lanes inside
-            (c.fill-most.ensures.told i few less),
-      ),
+      c.requires.begin,
+      λ i few inside less.
+          low_lane c.args.ruler.now c.args.diff.now c.args.level.now c.args.lanes.now c.args.p.now c.args.q.now (c.args.begin + i) c.requires.level c.requires.p.1 c.requires.q.1 c.requires.lanes inside
+          (c.fill-most.ensures.told i few less),
     ),
   ),
 )

@@ -19,13 +19,10 @@ some_from-requires g c = (
   (
     c.requires.level,
     (
-      c.requires.values,
-      (
-        c.requires.begin,
-        λ i few less.
-            low_pair c.args.ruler.now c.args.diff.now c.args.level.now c.args.opposites.now c.args.p.now c.args.q.now (c.args.begin + i) c.requires.level c.requires.p c.requires.q c.requires.opposites
-            (c.weigh-all.ensures.told i few less),
-      ),
+      c.requires.begin,
+      λ i few less.
+          low_pair c.args.ruler.now c.args.diff.now c.args.level.now c.args.opposites.now c.args.p.now c.args.q.now (c.args.begin + i) c.requires.level c.requires.p c.requires.q c.requires.opposites
+          (c.weigh-all.ensures.told i few less),
     ),
   ),
 )

@@ -13,7 +13,6 @@ use Rattle.pair_search.proofs.walk.walk_halves.Goals as goal
 pub pass-requires : goal.pass-requires
 pass-requires g c =
     record {
-      values = c.requires.values;
       some = some_next c.of-waiting.result [] c.args.whole.now c.of-waiting.ensures;
       stack = rw c.of-waiting.ensures (omega arith, c.requires.level, tt);
       shallow = λ level rest same. subst (λ (l : Level). l.place.depth < 8) (next_same c.of-waiting.result [] rest c.args.whole.now level c.of-waiting.ensures same).0 (rw c.requires.whole (omega arith));
@@ -33,11 +32,10 @@ loop-level-init g c =
 
 pub put-requires : goal.put-requires
 put-requires g c = record {
-  values = c.requires.values;
   some = some_next c.loop-level.waiting (drop 1 c.loop-level.waiting) c.in-Some.level.now c.in-Some.ensures;
   stack = c.loop-level.invariant.stack;
   shallow = λ level rest is. next_shallow (first_by c.args.ruler.now c.args.diff.now) c.args.depth c.loop-level.waiting (drop 1 c.loop-level.waiting) rest c.in-Some.level.now level c.in-Some-node_for.node
-      c.requires.depth (sym c.node_for.ensures ∙ c.in-Some-node_for.is) c.in-Some.ensures is;
+      (rw c.levels-levels.ensures.same at c.levels-levels.ensures.most) (sym c.node_for.ensures ∙ c.in-Some-node_for.is) c.in-Some.ensures is;
 }
 
 pub loop-level-smaller : goal.loop-level-smaller

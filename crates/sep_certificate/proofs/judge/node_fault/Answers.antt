@@ -16,12 +16,12 @@ none_of (Some k) said e is = absurd (false≢true (sym e ∙ is))
 pub separates-requires : goal.separates-requires
 separates-requires g c =
     let known : c.in-Leaf.dir < length c.args.ruler.now.directions = rw c.in-Leaf.is at c.requires.known in
-    (search rules, (c.requires.values, (c.requires.level, known)))
+    (search rules, (c.requires.level, known))
 
 pub low_control-low-requires : goal.low_control-low-requires
 low_control-low-requires g c =
     let known : c.in-Leaf.dir < length c.args.ruler.now.directions = rw c.in-Leaf.is at c.requires.known in
-    (search rules, (c.requires.values, (c.requires.level, known)))
+    (search rules, (c.requires.level, known))
 
 is_control : (o : Option ℕ) (f : ℕ → ℤ) (least : ℤ) → o ≡ first_low f least → IsControl o
 is_control None f least e = tt
@@ -30,13 +30,13 @@ is_control (Some k) f least e = first_low-small f least k (sym e)
 pub fails-requires : goal.fails-requires
 fails-requires g c = is_control c.low_control-low.result _ _ c.low_control-low.ensures
 
-pub returns-then-separates : goal.returns-then-separates
-returns-then-separates g c =
+pub returns-then-separates-clause-exact : goal.returns-then-separates-clause-exact
+returns-then-separates-clause-exact g c =
     rw c.in-Leaf.is
     (sym (ap (λ (o : Option ℕ). option_map (Fails c.args.slot.a c.args.slot.b c.args.slot.cue c.args.level.now.place c.in-Leaf.dir) o)
     (none_of _ c.separates.result c.separates.ensures c.if-separates.true)))
 
-pub returns-else-separates : goal.returns-else-separates
-returns-else-separates g c =
+pub returns-else-separates-clause-exact : goal.returns-else-separates-clause-exact
+returns-else-separates-clause-exact g c =
     rw c.in-Leaf.is
     (c.fails.ensures ∙ ap (λ (o : Option ℕ). option_map (Fails c.args.slot.a c.args.slot.b c.args.slot.cue c.args.level.now.place c.in-Leaf.dir) o) c.low_control-low.ensures)

@@ -39,15 +39,15 @@ loop-d-preserved c =
     let line =
     c.in_ok-put_motion.ensures.line
     ∙ ap (λ (bytes : List ℕ). text ++ motion_line bytes c.motion_of-motion.result) c.as_slice.ensures.value
-    ∙ ap (λ (m : Motion). text ++ motion_line name.items m) (rw c.levels.ensures.same at c.motion_of-motion.ensures.motion) in
-    let most = c.greater-most.ensures ∙ ap (λ (m : Motion). greater c.loop-d.most m.most) (rw c.levels.ensures.same at c.motion_of-motion.ensures.motion) in
+    ∙ ap (λ (m : Motion). text ++ motion_line name.items m) c.motion_of-motion.ensures.motion in
+    let most = c.greater-most.ensures ∙ ap (λ (m : Motion). greater c.loop-d.most m.most) c.motion_of-motion.ensures.motion in
     record {
       fresh = c.in_ok-put_motion.ensures.fresh;
       so_far = motions_next depth times text c.put_motion.new.text sent names d t name within inside c.index-sent-d.is c.index-names-d-in-loop-d.is line ∙ c.loop-d.invariant.so_far;
       most = ap (λ (e : Extremes). greater e (extremes_of depth (drop (d + 1) sent))) most ∙ extremes_next depth c.loop-d.most sent d t within c.index-sent-d.is ∙ c.loop-d.invariant.most;
       refusal = excess_next limits depth times sent names d t c.index-names-d.result within inside c.index-sent-d.is c.index-names-d.is none ∙ c.loop-d.invariant.refusal;
       keeps = λ later. c.loop-d.invariant.keeps
-          (keeps_next limits depth sent d t within c.index-sent-d.is ((rw c.levels.ensures.same at c.motion_of-motion.ensures.keeps) limits c.in_default.ensures.within) later);
+          (keeps_next limits depth sent d t within c.index-sent-d.is (c.motion_of-motion.ensures.keeps limits c.in_default.ensures.within) later);
     }
 
 pub returns-clause-keeps : goal.returns-clause-keeps

@@ -4,7 +4,7 @@ use Rattle.sep_parts.proofs.Rulers.{positive, small, low}
 use Rattle.sep_parts.proofs.ruler.Ruler.low_control.Goals as goal
 
 pub low_control-requires-clause-values : goal.low_control-requires-clause-values
-low_control-requires-clause-values g c = level_small c.args.diff.now c.args.level.now c.requires.level c.requires.values
+low_control-requires-clause-values g c = level_small c.args.diff.now c.args.level.now c.requires.level c.raised_law.ensures.values
 
 pub low_control-requires-clause-positive : goal.low_control-requires-clause-positive
 low_control-requires-clause-positive g c =
@@ -20,5 +20,5 @@ pub returns : goal.returns
 returns g c =
     let dir : c.args.dir < length c.self.inside.directions.n = rw (sym c.self.view_is) at c.requires.dir in
     rw (sym c.self.view_is)
-    ((rw (c.as_slice-thresholds.ensures, c.as_slice-directions.ensures) at c.low_control.ensures)
+    ((rw (c.as_slice-thresholds.ensures, c.as_slice-directions.ensures, c.make.ensures) at c.low_control.ensures)
     ∙ low c.self.inside.directions.n c.self.inside.thresholds c.self.inside.clearance c.args.dir c.self.invariant dir c.args.diff.now c.args.level.now c.requires.level)

@@ -4,7 +4,7 @@ use Rattle.sep_parts.proofs.Rulers.{positive, small, none_low}
 use Rattle.sep_parts.proofs.ruler.Ruler.separates.Goals as goal
 
 pub separates-requires-clause-values : goal.separates-requires-clause-values
-separates-requires-clause-values g c = level_small c.args.diff.now c.args.level.now c.requires.level c.requires.values
+separates-requires-clause-values g c = level_small c.args.diff.now c.args.level.now c.requires.level c.raised_law.ensures.values
 
 pub separates-requires-clause-positive : goal.separates-requires-clause-positive
 separates-requires-clause-positive g c =
@@ -21,10 +21,10 @@ returns g c =
     let dir : c.args.dir < length c.self.inside.directions.n = rw (sym c.self.view_is) at c.requires.dir in
     rw (sym c.self.view_is)
     (none_low c.self.inside.directions.n c.self.inside.thresholds c.self.inside.clearance c.args.dir c.self.invariant dir c.args.diff.now c.args.level.now c.separates.result c.requires.level
-    (rw (c.as_slice-thresholds.ensures, c.as_slice-directions.ensures) at c.separates.ensures))
+    (rw (c.as_slice-thresholds.ensures, c.as_slice-directions.ensures, c.make-depth.ensures) at c.separates.ensures))
 
 pub separates_narrow-requires-clause-values : goal.separates_narrow-requires-clause-values
-separates_narrow-requires-clause-values g c = level_narrow c.args.diff.now c.args.level.now c.if-level-le-NARROW_DEPTH.true c.requires.level c.requires.values
+separates_narrow-requires-clause-values g c = level_narrow c.args.diff.now c.args.level.now c.if-level-le-NARROW_DEPTH.true c.requires.level c.raised_law.ensures.values
 
 pub separates_narrow-requires-clause-positive : goal.separates_narrow-requires-clause-positive
 separates_narrow-requires-clause-positive g c =
@@ -41,10 +41,10 @@ returns-then-level-le-NARROW_DEPTH g c =
     let dir : c.args.dir < length c.self.inside.directions.n = rw (sym c.self.view_is) at c.requires.dir in
     rw (sym c.self.view_is)
     (none_low c.self.inside.directions.n c.self.inside.thresholds c.self.inside.clearance c.args.dir c.self.invariant dir c.args.diff.now c.args.level.now c.separates_narrow.result c.requires.level
-    (rw (c.as_slice-thresholds.ensures, c.as_slice-directions.ensures) at c.separates_narrow.ensures))
+    (rw (c.as_slice-thresholds.ensures, c.as_slice-directions.ensures, c.make-depth.ensures) at c.separates_narrow.ensures))
 
 pub separates_short-requires-clause-values : goal.separates_short-requires-clause-values
-separates_short-requires-clause-values g c = level_short c.args.diff.now c.args.level.now c.if-level-le-SHORT_DEPTH.true c.requires.level c.requires.values
+separates_short-requires-clause-values g c = level_short c.args.diff.now c.args.level.now c.if-level-le-SHORT_DEPTH.true c.requires.level c.raised_law.ensures.values
 
 pub separates_short-requires-clause-positive : goal.separates_short-requires-clause-positive
 separates_short-requires-clause-positive g c =
@@ -61,4 +61,4 @@ returns-then-level-le-SHORT_DEPTH g c =
     let dir : c.args.dir < length c.self.inside.directions.n = rw (sym c.self.view_is) at c.requires.dir in
     rw (sym c.self.view_is)
     (none_low c.self.inside.directions.n c.self.inside.thresholds c.self.inside.clearance c.args.dir c.self.invariant dir c.args.diff.now c.args.level.now c.separates_short.result c.requires.level
-    (rw (c.as_slice-thresholds.ensures, c.as_slice-directions.ensures) at c.separates_short.ensures))
+    (rw (c.as_slice-thresholds.ensures, c.as_slice-directions.ensures, c.make-depth.ensures) at c.separates_short.ensures))

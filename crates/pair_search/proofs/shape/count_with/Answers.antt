@@ -10,7 +10,7 @@ use Rattle.pair_search.proofs.Marks.{count_begun, count_blocked, count_ended, co
 use Rattle.pair_search.proofs.Trees.{begun, less_pending}
 use Rattle.sep_parts.proofs.Stacks.{some_next}
 use Rattle.pair_search.proofs.Waits.{next_shallow}
-use Rattle.pair_search.proofs.shape.count_parts.Goals as goal
+use Rattle.pair_search.proofs.shape.count_with.Goals as goal
 
 abbrev whole : (diff : List (Bez 8)) → Level
 whole diff = record { place = root; part = diff }
@@ -19,18 +19,17 @@ pub loop-level-init : goal.loop-level-init
 loop-level-init g c =
     let is : c.begin.new.self ≡ whole c.args.diff.now ∷ [] = c.begin.ensures in
     record {
-      stack = first_stack c.args.diff.now c.begin.new.self c.told-diff c.requires.sizes is;
-      state = count_begun (first_by c.args.ruler.now c.args.diff.now) c.args.depth c.begin.new.self c.requires.depth (ap places_of is)
+      stack = first_stack c.args.diff.now c.begin.new.self c.raised_law.ensures.axes c.raised_law.ensures.sizes is;
+      state = count_begun (first_by c.args.ruler.now c.args.diff.now) c.args.depth c.begin.new.self (rw c.levels-levels.ensures.same at c.levels-levels.ensures.most) (ap places_of is)
           (begun (marked (first_by c.args.ruler.now c.args.diff.now)) c.args.depth);
     }
 
 pub pass-requires : goal.pass-requires
 pass-requires g c = record {
-  values = c.requires.values;
   some = some_next c.loop-level.waiting (drop 1 c.loop-level.waiting) c.in-Some.level.now c.in-Some.ensures;
   stack = c.loop-level.invariant.stack;
   shallow = λ level rest is. next_shallow (marked (first_by c.args.ruler.now c.args.diff.now)) c.args.depth c.loop-level.waiting (drop 1 c.loop-level.waiting) rest c.in-Some.level.now level c.in-Some-shape_for.node
-      c.requires.depth (sym c.shape_for.ensures ∙ c.in-Some-shape_for.is) c.in-Some.ensures is;
+      (rw c.levels-levels.ensures.same at c.levels-levels.ensures.most) (sym c.shape_for.ensures ∙ c.in-Some-shape_for.is) c.in-Some.ensures is;
 }
 
 pub loop-level-smaller : goal.loop-level-smaller

@@ -2,7 +2,7 @@ use Rattle.sep_parts.specs.Levels.{IsStack, places_of}
 use Rattle.pair_search.specs.Search.{first_by}
 use Rattle.pair_search.proofs.Marks.{IsCount}
 use Rattle.pair_search.proofs.Trees.{work}
-use Rattle.pair_search.proofs.shape.count_parts.Given as goal
+use Rattle.pair_search.proofs.shape.count_with.Given as goal
 
 abbrev pub invariant-loop-level : goal.invariant-loop-level
 invariant-loop-level g l = record {
