@@ -1,8 +1,9 @@
 -- Numbers of lanes, and what they tell of a direction.
-use Rattle.std.proofs.Common.{◌≡◌, ◌≢◌, inl, inr, ℕ, zero, suc, ◌+◌, ◌*◌, ◌^◌, ◌≤◌, ◌<◌, ℤ, pos, negsuc, ◌+ℤ◌, ◌-ℤ◌, ◌*ℤ◌, ◌≤ℤ◌, ◌<ℤ◌, unsigned_abs, FitsSigned, to_z, of_z, arith, refl, sym, ◌∙◌, ap, subst, List, length, get_or-set_other, get_or-set_same, slice_set, replicate, below_more, is_none, false, true, Option, Some, None}
+use Rattle.std.proofs.Common.{lit<, ◌≡◌, ◌≢◌, inl, inr, ℕ, zero, suc, ◌+◌, ◌*◌, ◌^◌, ◌≤◌, ◌<◌, ℤ, pos, negsuc, neg_ℤ, ◌+ℤ◌, ◌-ℤ◌, ◌*ℤ◌, ◌≤ℤ◌, ◌<ℤ◌, unsigned_abs, FitsSigned, to_z, of_z, arith, refl, sym, ◌∙◌, ap, subst, List, length, get_or-set_other, get_or-set_same, slice_set, replicate, below_more, is_none, false, true, Option, Some, None}
 use lib.Signed.{lt_z}
 use Rattle.std.proofs.lemmas.Int.{ints, unsigned_abs-mul, to_z-of_z}
 use Rattle.std.proofs.lemmas.Nat.{mul-le, pow-add, pow_pos}
+use Rattle.std.proofs.Math.Nat.{pow-le-pow_right}
 use mir.Syntax.{w32, w64}
 use Rattle.fleet_math.specs.Bernstein.{at}
 use Rattle.fleet_math.specs.Numbers.{IsBelow}
@@ -17,11 +18,11 @@ use Rattle.bezier_core.specs.declared.Bez.{Bez}
 use Rattle.bezier_core.specs.Along.{controls}
 use Rattle.bezier_core.proofs.CurveLemmas.{at-eight}
 use Rattle.halving.specs.Part.{part_value}
-use Rattle.fleet_math.proofs.RingLemmas.{linear, le_mul_pos, mul_add_ℤ, mul_assoc_ℤ, mul_comm_ℤ, mul_left_comm_ℤ, neg_mul_ℤ, one_mul_ℤ}
+use Rattle.fleet_math.proofs.RingLemmas.{linear, le_mul_pos, mul_add_ℤ, mul_assoc_ℤ, mul_comm_ℤ, mul_left_comm_ℤ, mul_neg_ℤ, neg_mul_ℤ, one_mul_ℤ}
 use Rattle.bezier_core.specs.Steps.{IsWithin}
 use Rattle.pair_search.specs.declared.lanes.Lanes.{Lanes}
 use Rattle.pair_search.specs.declared.lanes.Point.{Point}
-use Rattle.pair_search.specs.Lanes.{IsLane, IsLowAt, IsPoint, IsSmallLane, lane_value, slack_on, slack_of}
+use Rattle.pair_search.specs.Lanes.{IsFloor, IsLane, IsLowAt, IsPoint, IsSmallLane, lane_value, slack_on, slack_of}
 
 -- ---- sizes
 pub lane_product : (w x : ℤ) → IsBelow 4001 w → IsWithin (pos 65536) x → IsWithin (pos 262144000) (w *ℤ x)
@@ -258,3 +259,34 @@ told_less x fits is = less x (rw (to_z-of_z w32 x fits) at is)
   where
     less : (x : ℤ) → lt_z x (pos 0) ≡ true → x <ℤ pos 0
     less x e = grind (arith, ints)
+
+-- ---- whole steps
+-- a value of a part is few steps
+steps_split : (e : ℕ) → 2 ^ (14 + 7 * e) ≡ 16384 * 2 ^ (7 * e)
+steps_split e = pow-add 2 14 (7 * e)
+
+pub floor_small : (e : ℕ) (v q : ℤ) → IsBelow (2 ^ (7 * e) * 2 ^ 30) v → IsFloor (14 + 7 * e) v q → IsWithin (pos 65536) q
+floor_small e v q below floor = within q floor.low floor.high
+  where
+    next : (n : ℕ) → negsuc (suc n) +ℤ pos 1 ≡ neg_ℤ (pos (suc n))
+    next n = omega (arith, ints)
+
+    turned : (t n : ℕ) → pos t *ℤ (negsuc (suc n) +ℤ pos 1) ≡ neg_ℤ (pos (t * suc n))
+    turned t n = ap (λ (z : ℤ). pos t *ℤ z) (next n) ∙ mul_neg_ℤ (pos t) (pos (suc n))
+
+    few : (p t n : ℕ) → t ≡ 16384 * p → t * n < p * 2 ^ 30 → n < 65536
+    few p t n is less = by_lt n 65536 (λ here. here) (λ later. absurd (omega (arith, is, less, mul-le t 65536 t n (omega arith) later)))
+
+    within : (q : ℤ) → (pos (2 ^ (14 + 7 * e)) *ℤ q) ≤ℤ v → v <ℤ (pos (2 ^ (14 + 7 * e)) *ℤ (q +ℤ pos 1)) → IsWithin (pos 65536) q
+    within (pos n) low high = (omega (arith, ints), omega (arith, ints, few (2 ^ (7 * e)) (2 ^ (14 + 7 * e)) n (steps_split e) (omega (arith, ints, low, below))))
+    within (negsuc zero) low high = (omega (arith, ints), omega (arith, ints))
+    within (negsuc (suc n)) low high =
+        let less : v <ℤ neg_ℤ (pos (2 ^ (14 + 7 * e) * suc n)) = subst (λ (z : ℤ). v <ℤ z) (turned (2 ^ (14 + 7 * e)) n) high in
+        (omega (arith, ints, few (2 ^ (7 * e)) (2 ^ (14 + 7 * e)) (suc n) (steps_split e) (omega (arith, ints, less, below))), omega (arith, ints))
+
+-- it fits 64 bits where it is halved at most four times
+pub value_short : (e : ℕ) (v : ℤ) → e ≤ 4 → IsBelow (2 ^ (7 * e) * 2 ^ 30) v → FitsSigned w64 v
+value_short e v shallow below =
+    let shift : 7 * e ≤ 28 = omega arith in
+    let few : 2 ^ (7 * e) ≤ 2 ^ 28 = pow-le-pow_right {n = 2} (lit< tt) shift in
+    omega (arith, ints, few, below)

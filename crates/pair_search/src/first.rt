@@ -23,31 +23,18 @@ pub fn first_direction<const M: usize>(
     requires lanes { AreLanes ruler.now lanes.now }
     ensures { result ≡ first_by ruler.now diff.now level.now.place }
 {
-    match points_of(diff, level) {
-        Some((p, q)) => first_near(diff, level, ruler, lanes, &p, &q),
-        None => first_of_all(diff, level, ruler),
-    }
+    let (p, q) = points_of(diff, level);
+    first_near(diff, level, ruler, lanes, &p, &q)
 }
 
-// The two ends of a part in whole steps; none where these are too large.
-pub(crate) fn points_of(diff: &Difference, level: &Level) -> Option<(Point, Point)>
+// The two ends of a part in whole steps.
+pub(crate) fn points_of(diff: &Difference, level: &Level) -> (Point, Point)
     requires level { IsLevel diff.now level.now }
-    ensures first { IfSome result (λ ends. IsSmallPoint ends.0 × IsPoint level.now 0 ends.0) }
-    ensures second { IfSome result (λ ends. IsSmallPoint ends.1 × IsPoint level.now 7 ends.1) }
+    ensures first { IsSmallPoint result.0 × IsPoint level.now 0 result.0 }
+    ensures second { IsSmallPoint result.1 × IsPoint level.now 7 result.1 }
 {
-    level_sizes_law(diff, level);
-    let p = point_at(level, 0)?;
-    let q = point_at(level, 7)?;
-    Some((p, q))
+    (point_at(diff, level, 0), point_at(diff, level, 7))
 }
-
-// A law: each of the three curves of a level has eight control values.
-fn level_sizes_law(diff: &Difference, level: &Level)
-    requires level { IsLevel diff.now level.now }
-    ensures depth { level.now.place.depth ≤ 8 }
-    ensures axes { length level.now.part ≡ 3 }
-    ensures sizes { All (λ curve. length curve.b ≡ 8) level.now.part }
-{}
 
 // The same where the ends of the part are these. Lanes are weighed 16 at a time, since the first direction mostly comes early.
 fn first_near<const M: usize>(
@@ -141,21 +128,4 @@ fn holds<const M: usize>(
         return false;
     }
     ruler.separates(diff, level, dir)
-}
-
-// The same where each direction is asked.
-pub(crate) fn first_of_all<const M: usize>(
-    diff: &Difference,
-    level: &Level,
-    ruler: &Ruler<M>,
-) -> Option<u8>
-    requires level { IsLevel diff.now level.now }
-    ensures { result ≡ first_by ruler.now diff.now level.now.place }
-{
-    for dir in 0..ruler.count() {
-        if ruler.separates(diff, level, dir) {
-            return Some(dir as u8);
-        }
-    }
-    None
 }

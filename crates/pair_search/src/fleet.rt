@@ -73,11 +73,7 @@ fn tree_of<const M: usize>(
 }
 
 // A tree after the others, in memory of its own, no more than its nodes take.
-fn add_tree(
-    alloc: Global,
-    nodes: &[Node],
-    trees: &mut Vec<Listed<Node>>,
-) -> Result<(), AllocError>
+fn add_tree(alloc: Global, nodes: &[Node], trees: &mut Vec<Listed<Node>>) -> Result<(), AllocError>
     ensures { OnOk result (trees.new.items ≡ trees.old.items ++ nodes.now ∷ []) }
 {
     trees.push(Listed::from_vec(nodes.to_vec(alloc)?))?;

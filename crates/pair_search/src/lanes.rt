@@ -6,8 +6,10 @@ ghost use Rattle.fleet_math.specs.Numbers.{IsBelow};
 ghost use Rattle.bezier_core.specs.Along.{controls};
 ghost use Rattle.bezier_core.specs.Steps.{IsWithin};
 ghost use Rattle.sep_parts.specs.Directions.{direction_of, threshold, weights};
+ghost use Rattle.sep_parts.specs.Levels.{IsLevel};
 ghost use Rattle.pair_search.specs.Lanes.{AreLanes, AreSmallLanes, IsFloor, IsLowAt, IsPoint, IsSmallPoint, lane_value, slack_of, slack_on, steps_of};
 
+use fleet_curves::Difference;
 use sep_parts::{Level, Ruler};
 
 /// At most 98 directions side by side: the weights of the three axes, and what a point has to reach.
@@ -87,49 +89,68 @@ fn slack(weight: i64) -> i64
     if weight < 0 { 0 } else { weight }
 }
 
-/// The control values of a part at one place, 0 to 7, in whole steps; none where they are too large.
-pub fn point_at(level: &Level, k: usize) -> Option<Point>
+/// The control values at one place, 0 to 7, of a part of the differences `diff` of raised curves, in whole steps.
+pub fn point_at(diff: &Difference, level: &Level, k: usize) -> Point
     requires place { k < 8 }
-    requires depth { level.now.place.depth ≤ 8 }
-    requires axes { length level.now.part ≡ 3 }
-    requires sizes { All (λ curve. length curve.b ≡ 8) level.now.part }
-    ensures small { IfSome result IsSmallPoint }
-    ensures point { IfSome result (IsPoint level.now k) }
+    requires level { IsLevel diff.now level.now }
+    ensures small { IsSmallPoint result }
+    ensures point { IsPoint level.now k result }
 {
-    let times = steps_of(level.place.depth);
-    let x = stepped(level.part[0].b[k], times)?;
-    let y = stepped(level.part[1].b[k], times)?;
-    let z = stepped(level.part[2].b[k], times)?;
-    Some(Point { x, y, z })
+    let depth = level.place.depth;
+    level_law(diff, level);
+    Point {
+        x: stepped(level.part[0].b[k], depth),
+        y: stepped(level.part[1].b[k], depth),
+        z: stepped(level.part[2].b[k], depth),
+    }
+}
+
+// A law: a level has three curves of eight control values each, whose size its depth bounds.
+fn level_law(diff: &Difference, level: &Level)
+    requires level { IsLevel diff.now level.now }
+    ensures depth { level.now.place.depth ≤ 8 }
+    ensures axes { length level.now.part ≡ 3 }
+    ensures sizes { All (λ curve. length curve.b ≡ 8) level.now.part }
+    ensures values { All (λ curve. All (IsBelow (2 ^ (7 * level.now.place.depth) * 2 ^ 30)) curve.b) level.now.part }
+{
+    diff.raised_law();
+}
+
+// A control value of a part of a depth in whole steps, rounded down. To depth 4 it is a number of 64 bits.
+fn stepped(value: i128, depth: u8) -> i32
+    requires depth { depth ≤ 8 }
+    requires value { IsBelow (2 ^ (7 * depth) * 2 ^ 30) value }
+    ensures floor { IsFloor (steps_of depth) value result }
+    ensures small { IsWithin (pos 65536) result }
+{
+    let times = steps_of(depth);
+    if depth <= 4 {
+        floor_short(value as i64, times) as i32
+    } else {
+        floor_by(value, times) as i32
+    }
 }
 
 // A step has 2 to this power.
 fn steps_of(depth: u8) -> u32
     requires { depth ≤ 8 }
-    ensures exact { result ≡ steps_of depth }
-    ensures few { result ≤ 70 }
+    ensures { result ≡ steps_of depth }
 {
     14 + 7 * u32::from(depth)
-}
-
-// A value in whole steps, rounded down; none where it is too large.
-fn stepped(value: i128, times: u32) -> Option<i32>
-    requires { times ≤ 70 }
-    ensures floor { IfSome result (IsFloor times value) }
-    ensures small { IfSome result (IsWithin (pos 65536)) }
-{
-    let steps = floor_by(value, times);
-    if steps < -65536 || 65536 < steps {
-        return None;
-    }
-    Some(steps as i32)
 }
 
 // A value by a power of 2, rounded down.
 fn floor_by(value: i128, times: u32) -> i128
     requires { times ≤ 70 }
-    ensures low { (pos (2 ^ times) *ℤ result) ≤ℤ value }
-    ensures high { value <ℤ (pos (2 ^ times) *ℤ (result +ℤ pos 1)) }
+    ensures { IsFloor times value result }
+{
+    value >> times
+}
+
+// The same of a value of 64 bits.
+fn floor_short(value: i64, times: u32) -> i64
+    requires { times ≤ 42 }
+    ensures { IsFloor times value result }
 {
     value >> times
 }

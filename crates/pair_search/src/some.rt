@@ -9,7 +9,7 @@ ghost use Rattle.pair_search.specs.Opposites.{AreOpposites};
 ghost use Rattle.pair_search.specs.Search.{first_by};
 ghost use Rattle.pair_search.specs.Steps.{FindsAmong, FindsOne, NeitherAt};
 
-use crate::first::{first_of_all, points_of};
+use crate::first::points_of;
 use crate::lanes::Point;
 use crate::opposites::{Opposites, weigh};
 use fleet_curves::Difference;
@@ -26,10 +26,8 @@ pub fn some_direction<const M: usize>(
     requires opposites { AreOpposites ruler.now opposites.now }
     ensures { is_some result ≡ is_some (first_by ruler.now diff.now level.now.place) }
 {
-    match points_of(diff, level) {
-        Some((p, q)) => some_near(diff, level, ruler, opposites, &p, &q),
-        None => first_of_all(diff, level, ruler),
-    }
+    let (p, q) = points_of(diff, level);
+    some_near(diff, level, ruler, opposites, &p, &q)
 }
 
 // The same where the ends of the part are these. Directions are weighed 28 at a time, each with its opposite.

@@ -1,0 +1,59 @@
+use Rattle.std.proofs.Common.{rules, subst, FitsSigned, ℕ, pos}
+use Rattle.std.proofs.lemmas.Int.{to_z-of_z}
+use mir.Syntax.{w32, w64, w128}
+use Rattle.bezier_core.specs.Steps.{IsWithin}
+use Rattle.pair_search.specs.Lanes.{IsFloor, steps_of}
+use Rattle.pair_search.proofs.LaneLemmas.{floor_small, point_fits, value_short}
+use Rattle.pair_search.proofs.lanes.stepped.Goals.{After-floor_by, After-floor_short}
+use Rattle.pair_search.proofs.lanes.stepped.Goals as goal
+
+short_floor : (c : After-floor_short) → IsFloor (steps_of c.args.depth) c.args.value c.floor_short.result
+short_floor c =
+    let v_wide : FitsSigned w128 c.args.value = c.ranges.value in
+    let v_fits : FitsSigned w64 c.args.value = value_short c.args.depth c.args.value c.if-depth-le4.true c.requires.value in
+    subst (λ (times : ℕ). IsFloor times c.args.value c.floor_short.result) c.steps_of-times.ensures (simp to_z-of_z at c.floor_short.ensures)
+
+wide_floor : (c : After-floor_by) → IsFloor (steps_of c.args.depth) c.args.value c.floor_by.result
+wide_floor c =
+    let v_wide : FitsSigned w128 c.args.value = c.ranges.value in
+    subst (λ (times : ℕ). IsFloor times c.args.value c.floor_by.result) c.steps_of-times.ensures (simp to_z-of_z at c.floor_by.ensures)
+
+short_small : (c : After-floor_short) → IsWithin (pos 65536) c.floor_short.result
+short_small c = floor_small c.args.depth c.args.value c.floor_short.result c.requires.value (short_floor c)
+
+wide_small : (c : After-floor_by) → IsWithin (pos 65536) c.floor_by.result
+wide_small c = floor_small c.args.depth c.args.value c.floor_by.result c.requires.value (wide_floor c)
+
+pub overflow_cast-result : goal.overflow_cast-result
+overflow_cast-result c =
+    let fits : FitsSigned w64 c.floor_short.result = search rules in
+    rw (to_z-of_z w64 c.floor_short.result fits) (point_fits _ (short_small c))
+
+pub overflow_cast-result-else-depth-le4 : goal.overflow_cast-result-else-depth-le4
+overflow_cast-result-else-depth-le4 c =
+    let fits : FitsSigned w128 c.floor_by.result = search rules in
+    rw (to_z-of_z w128 c.floor_by.result fits) (point_fits _ (wide_small c))
+
+pub returns-then-depth-le4-clause-floor : goal.returns-then-depth-le4-clause-floor
+returns-then-depth-le4-clause-floor c =
+    let fits : FitsSigned w64 c.floor_short.result = search rules in
+    let few : FitsSigned w32 c.floor_short.result = point_fits _ (short_small c) in
+    rw (to_z-of_z w64 c.floor_short.result fits, to_z-of_z w32 c.floor_short.result few) (short_floor c)
+
+pub returns-then-depth-le4-clause-small : goal.returns-then-depth-le4-clause-small
+returns-then-depth-le4-clause-small c =
+    let fits : FitsSigned w64 c.floor_short.result = search rules in
+    let few : FitsSigned w32 c.floor_short.result = point_fits _ (short_small c) in
+    rw (to_z-of_z w64 c.floor_short.result fits, to_z-of_z w32 c.floor_short.result few) (short_small c)
+
+pub returns-else-depth-le4-clause-floor : goal.returns-else-depth-le4-clause-floor
+returns-else-depth-le4-clause-floor c =
+    let fits : FitsSigned w128 c.floor_by.result = search rules in
+    let few : FitsSigned w32 c.floor_by.result = point_fits _ (wide_small c) in
+    rw (to_z-of_z w128 c.floor_by.result fits, to_z-of_z w32 c.floor_by.result few) (wide_floor c)
+
+pub returns-else-depth-le4-clause-small : goal.returns-else-depth-le4-clause-small
+returns-else-depth-le4-clause-small c =
+    let fits : FitsSigned w128 c.floor_by.result = search rules in
+    let few : FitsSigned w32 c.floor_by.result = point_fits _ (wide_small c) in
+    rw (to_z-of_z w128 c.floor_by.result fits, to_z-of_z w32 c.floor_by.result few) (wide_small c)
