@@ -81,10 +81,10 @@ in_order earlier (n ∷ ns) fs acted (a ∷ acts) none distinct among =
       | inl is ↦
           one_line (earlier ++ n ∷ ns) fs acted a acts n is (here earlier ns n) (not_among (has_name acted n) acted earlier n refl among (new_name earlier ns n distinct))
           ∙ subst (λ all. act_faults all fs (acted ++ n ∷ []) acts ≡ []) moved
-            (in_order (earlier ++ n ∷ []) ns fs (acted ++ n ∷ []) acts (rw is at none) (rw moved distinct) (among_more acted earlier (n ∷ []) (n ∷ []) among (λ m h. h)))
+          (in_order (earlier ++ n ∷ []) ns fs (acted ++ n ∷ []) acts (rw is at none) (rw moved distinct) (among_more acted earlier (n ∷ []) (n ∷ []) among (λ m h. h)))
       | inr other ↦
           subst (λ all. act_faults all fs acted (a ∷ acts) ≡ []) moved
-            (in_order (earlier ++ n ∷ []) ns fs acted (a ∷ acts) (rw other at none) (rw moved distinct) (λ m h. has_append earlier (n ∷ []) m ∙ or_left (has_name earlier m) (has_name (n ∷ []) m) (among m h)))
+          (in_order (earlier ++ n ∷ []) ns fs acted (a ∷ acts) (rw other at none) (rw moved distinct) (λ m h. has_append earlier (n ∷ []) m ∙ or_left (has_name earlier m) (has_name (n ∷ []) m) (among m h)))
     ]
 
 -- lines that stand in the order of distinct names have no fault

@@ -1,6 +1,6 @@
 -- A text that grows keeps what it had.
 use Rattle.std.proofs.Common.{◌≡◌, ℕ, ◌+◌, ◌<◌, ◌≤◌, get_or, true, false, cond, List, [], ◌∷◌, ◌++◌, length, take, ◌∙◌, arith}
-use Rattle.std.proofs.lemmas.List.{take-append-le, length-append, take_all, take_more}
+use Rattle.std.proofs.lemmas.List.{take-append-le, length-append, take_more}
 use Rattle.fleet_io.specs.Words.{is_line_empty, with_word, with_hex, hex_word}
 use Rattle.std.proofs.lemmas.Grind.{fold-append}
 

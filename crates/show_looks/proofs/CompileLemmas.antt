@@ -16,7 +16,7 @@ headline depth input old new o safe appended = record {
   sent = sent_of safe.s;
   stands = subst (λ (text : List ℕ). StandsFor text safe.s) (whole_input (show_ways depth) input safe.s refl safe.accepted) safe.stands;
   planned = subst (λ (output : List ℕ). Appends old new output) (ap (λ (p : Outcome). p.output) safe.gives) appended;
-  lands = safe.promised.uploads.stored;
+  lands = safe.promised.uploads.in_any_order;
 }
 
 -- the same of a run

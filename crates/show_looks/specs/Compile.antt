@@ -5,7 +5,7 @@ use Rattle.choreo_reader.specs.Grammar.{StandsFor}
 use Rattle.choreo_show.specs.Plain.{PlainShow}
 use Rattle.cue_grid.specs.Cues.{grid_of}
 use Rattle.traj_codec.specs.declared.traj.Traj.{Traj}
-use Rattle.show_plan.specs.Landing.{Lands}
+use Rattle.show_plan.specs.Landing.{LandsInAnyOrder}
 use Rattle.show_plan.specs.Texts.{plan_text}
 use Rattle.show_judge.specs.Shows.{names_of, sent_of}
 use Rattle.show_judge.specs.Verb.{Verb, of_show}
@@ -28,4 +28,4 @@ pub record Headline (input : List ℕ) (old new : Option (List ℕ)) : Type 0 wh
   pub sent : List Traj
   pub stands : StandsFor input s
   pub planned : Appends old new (plan_text s.settings (names_of s) sent)
-  pub lands : Lands (grid_of s) s.settings sent
+  pub lands : LandsInAnyOrder (grid_of s) s.settings sent

@@ -1,4 +1,4 @@
--- What is acknowledged has landed.
+-- What is acknowledged has landed, and so has what is accepted.
 use Rattle.std.proofs.Common.{◌≡◌, ℕ, ◌-◌, ◌<◌, ◌≤◌, Bool, List, [], ◌++◌, length, length-append, get_or, sym, subst, ◌∙◌, arith}
 use Rattle.std.proofs.lemmas.List.{get_or-map, length-map}
 use Rattle.std.proofs.lemmas.List.Elements.{All-get_or}
@@ -6,12 +6,19 @@ use Rattle.choreo_show.specs.declared.show.Settings.{Settings}
 use Rattle.traj_codec.specs.declared.traj.Traj.{Traj}
 use Rattle.traj_codec.specs.Spelling.{IsTrajectory, ending, spelling}
 use Rattle.firmware_memory.specs.Decoded.{CurveLaw, DecodesTo, load_for}
-use Rattle.upload_model.specs.Sessions.{IsLoad, IsSession, Upload, drone_count, load_of}
+use Rattle.upload_model.specs.Sessions.{IsLoad, IsSession, Upload, drone_count, is_read, load_of, packet_count, start_number, write_count}
+use Rattle.upload_model.specs.Drones.{DroneState}
+use Rattle.upload_model.specs.Memories.{IsDrone, OnlyLoads, HasEntry, HasLoad}
+use Rattle.upload_model.specs.Taking.{IsAccepted, IsTaken, TakingLaw, taken}
 use Rattle.upload_model.specs.Theorem.{IsSafe, LastingLaw, UploadLaw}
 use Rattle.upload_model.specs.Worlds.{world}
+use Rattle.upload_model.proofs.Readings.{count-loads, count-start, is_read-below, is_read-past}
+use Rattle.upload_model.proofs.Taking.{accepted_later}
+use Rattle.cue_grid.specs.declared.grid.Grid.{Grid}
 use Rattle.show_plan.specs.Fitting.{IsSendable, size}
-use Rattle.show_plan.specs.Flight.{no_trajectory}
-use Rattle.show_plan.specs.Landing.{AreUploadable, LandingLaw, session_for}
+use Rattle.show_plan.specs.Flight.{KeepsNearShow, no_trajectory}
+use Rattle.show_plan.specs.Landing.{AreUploadable, IsLanded, LandingLaw, OrderLaw, session_for}
+use Rattle.show_plan.specs.Separation.{FlyApart}
 
 -- the load of a drone is that of its trajectory
 load_is : (e : Settings) (trajs : List Traj) (readback start : Bool) (d : ℕ) → d < length trajs → load_of (session_for e trajs readback start) d ≡ load_for (get_or trajs d no_trajectory)
@@ -39,6 +46,29 @@ is_session e trajs readback start u = record {
       subst (IsLoad e.offset) (sym (load_is e trajs readback start d within)) fine;
 }
 
+-- memories that have the loads and the entries of trajectories are as they have to be
+landed : CurveLaw → (g : Grid) (e : Settings) (trajs : List Traj) → AreUploadable e trajs → KeepsNearShow g trajs → FlyApart e trajs → (readback start : Bool) (old new : ℕ → DroneState) →
+    ((d : ℕ) → d < length trajs → IsDrone (old d)) →
+    ((d : ℕ) → d < length trajs → OnlyLoads (session_for e trajs readback start) (load_of (session_for e trajs readback start) d) (old d) (new d)) →
+    ((d : ℕ) → d < length trajs → HasLoad (session_for e trajs readback start) (load_of (session_for e trajs readback start) d) (new d)) →
+    ((d : ℕ) → d < length trajs → HasEntry (session_for e trajs readback start) (load_of (session_for e trajs readback start) d) (new d)) →
+    (start ≡ true → (d : ℕ) → d < length trajs → (new d).started ≡ Some e.trajectory_id) → IsLanded g e trajs readback start old new
+landed curve g e trajs u near apart readback start old new fresh only loaded listed started =
+    let s : Upload = session_for e trajs readback start in
+    let decodes : (d : ℕ) → d < length trajs → DecodesTo (new d) e.trajectory_id (get_or trajs d no_trajectory) = λ d within.
+    curve.loaded s (new d) d (get_or trajs d no_trajectory) (is_session e trajs readback start u) (omega (arith, counted e trajs readback start, within)) (load_is e trajs readback start d within)
+    (All-get_or IsTrajectory trajs d no_trajectory within u.formed) (All-get_or IsSendable trajs d no_trajectory within u.sendable).last
+    ((only d within).length_kept ∙ (fresh d within).memory) (loaded d within) (listed d within) in
+    record {
+      untouched = only;
+      started = started;
+      counted = near.drones;
+      decoded = decodes;
+      only = λ d t within other. curve.one (new d) e.trajectory_id t (get_or trajs d no_trajectory) other (decodes d within);
+      near = near;
+      apart = apart;
+    }
+
 pub landing : CurveLaw → UploadLaw → LastingLaw → LandingLaw
 landing curve upload lasting g e trajs u near apart readback start drones events later fresh unaltered done =
     let s : Upload = session_for e trajs readback start in
@@ -46,18 +76,21 @@ landing curve upload lasting g e trajs u near apart readback start drones events
     let count : drone_count s ≡ length trajs = counted e trajs readback start in
     let still = (lasting s drones events later).1 done in
     let safe : IsSafe s drones (world s drones (events ++ later)) = upload s drones (record { session = session; fit = λ d known. fresh d (omega (arith, count, known)) }) (events ++ later) unaltered in
-    let decodes : (d : ℕ) → d < length trajs → DecodesTo ((world s drones (events ++ later)).drones d) e.trajectory_id (get_or trajs d no_trajectory) = λ d within.
-    let known : d < drone_count s = omega (arith, count, within) in
-    let only = safe.only d known in
-    curve.loaded s ((world s drones (events ++ later)).drones d) d (get_or trajs d no_trajectory) session known (load_is e trajs readback start d within)
-    (All-get_or IsTrajectory trajs d no_trajectory within u.formed) (All-get_or IsSendable trajs d no_trajectory within u.sendable).last
-    (only.length_kept ∙ (fresh d within).memory) (safe.loaded d known still) (safe.listed d known still) in
-    record {
-      untouched = λ d within. safe.only d (omega (arith, count, within));
-      started = λ starting d within. safe.started d (omega (arith, count, within)) still starting;
-      counted = near.drones;
-      decoded = decodes;
-      only = λ d t within other. curve.one ((world s drones (events ++ later)).drones d) e.trajectory_id t (get_or trajs d no_trajectory) other (decodes d within);
-      near = near;
-      apart = apart;
-    }
+    landed curve g e trajs u near apart readback start drones (world s drones (events ++ later)).drones fresh
+    (λ d within. safe.only d (omega (arith, count, within))) (λ d within. safe.loaded d (omega (arith, count, within)) still)
+    (λ d within. safe.listed d (omega (arith, count, within)) still) (λ starting d within. safe.started d (omega (arith, count, within)) still starting)
+
+pub in_any_order : CurveLaw → TakingLaw → OrderLaw
+in_any_order curve taking g e trajs u near apart readback start drones order later fresh own accepted =
+    let s : Upload = session_for e trajs readback start in
+    let count : drone_count s ≡ length trajs = counted e trajs readback start in
+    let taken_so : (d : ℕ) → d < length trajs → IsTaken s d (drones d) (order d ++ later d) = λ d within.
+    taking s d (drones d) (order d ++ later d) (is_session e trajs readback start u) (omega (arith, count, within)) (fresh d within) (own d within) in
+    let still : (d k : ℕ) → d < length trajs → k < packet_count s d → is_read s d k ≡ false → IsAccepted s d (drones d) (order d ++ later d) k = λ d k within below plain.
+    accepted_later s d (drones d) (order d) (later d) k (accepted d k within below plain) in
+    landed curve g e trajs u near apart readback start drones (λ d. taken s d (drones d) (order d ++ later d)) fresh
+    (λ d within. (taken_so d within).only)
+    (λ d within. (taken_so d within).loaded (λ k write. let loads = count-loads s d in still d k within (omega arith) (is_read-below s d k (omega arith))))
+    (λ d within. let loads = count-loads s d in (taken_so d within).listed (still d (write_count s d) within (omega arith) (is_read-below s d (write_count s d) (omega arith))))
+    (λ starting d within.
+    let last = count-start s d starting in (taken_so d within).started (still d (start_number s d) within (omega arith) (is_read-past s d (start_number s d) (omega arith))))

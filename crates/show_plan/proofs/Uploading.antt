@@ -3,13 +3,14 @@ use Rattle.std.proofs.Common.{arith}
 use Rattle.upload_model.specs.Readback.{ReadsCover, StartsLastLaw, VerifiedLaw}
 use Rattle.upload_model.specs.Sessions.{Upload}
 use Rattle.upload_model.specs.Theorem.{IsCase, TakenLaw, UploadLaw}
-use Rattle.show_plan.specs.Landing.{LandingLaw, session_for}
+use Rattle.show_plan.specs.Landing.{LandingLaw, OrderLaw, session_for}
 use Rattle.show_plan.specs.Uploading.{UploadsLaw}
 use Rattle.show_plan.proofs.Landing.{counted, is_session}
 
-pub uploads : LandingLaw → UploadLaw → TakenLaw → ReadsCover → VerifiedLaw → StartsLastLaw → UploadsLaw
-uploads landing safe taken cover verified starts_last g e trajs u near apart = record {
+pub uploads : LandingLaw → OrderLaw → UploadLaw → TakenLaw → ReadsCover → VerifiedLaw → StartsLastLaw → UploadsLaw
+uploads landing order safe taken cover verified starts_last g e trajs u near apart = record {
   stored = landing g e trajs u near apart;
+  in_any_order = order g e trajs u near apart;
   each = λ readback start drones events fresh.
       let s : Upload = session_for e trajs readback start in
       let case : IsCase s drones = record { session = is_session e trajs readback start u; fit = λ d known. fresh d (omega (arith, counted e trajs readback start, known)) } in

@@ -1,5 +1,5 @@
 -- What is uploaded to the drones of a show, and what the upload leaves in their memories.
-use Rattle.std.specs.Prelude.{◌≡◌, ℕ, ◌-◌, ◌<◌, ◌≤◌, Bool, true, Some, List, ◌++◌, length, map, slice_index_or}
+use Rattle.std.specs.Prelude.{◌≡◌, ℕ, ◌-◌, ◌<◌, ◌≤◌, Bool, false, true, Some, List, ◌++◌, length, map, slice_index_or}
 use Rattle.std.specs.List.{All}
 use Rattle.cue_grid.specs.declared.grid.Grid.{Grid}
 use Rattle.fleet_math.specs.Limits.{most_drones}
@@ -11,10 +11,11 @@ use Rattle.upload_model.specs.declared.events.Progress.TheVariants.{Done}
 use Rattle.upload_model.specs.declared.events.WorldEvent.{WorldEvent}
 use Rattle.upload_model.specs.Drones.{DroneState}
 use Rattle.upload_model.specs.Hosts.{progress}
-use Rattle.upload_model.specs.Sessions.{Upload, load_of}
+use Rattle.upload_model.specs.Sessions.{Upload, is_read, load_of, packet_count}
+use Rattle.upload_model.specs.Taking.{IsAccepted, taken}
 use Rattle.upload_model.specs.Memories.{IsDrone, OnlyLoads}
 use Rattle.upload_model.specs.Theorem.{IsUnaltered}
-use Rattle.upload_model.specs.Worlds.{World, world}
+use Rattle.upload_model.specs.Worlds.{world}
 use Rattle.choreo_show.specs.declared.show.Settings.{Settings}
 use Rattle.choreo_show.specs.Valid.{FitsSettings}
 use Rattle.show_plan.specs.Fitting.{IsSendable, size}
@@ -33,15 +34,15 @@ session_for e trajs readback start = record {
   start = start;
 }
 
--- Each drone's memory decodes to its trajectory of this list and to no other. These keep near to what the show says at every instant, and keep
--- any two drones apart at every instant.
-pub record IsLanded (g : Grid) (e : Settings) (trajs : List Traj) (readback start : Bool) (drones : ℕ → DroneState) (w : World) : Type 0 where
+-- The drones, which were the old ones, are the new ones: each one's memory decodes to its trajectory of this list and to no other, and all else
+-- in it is as it was. These trajectories keep near to what the show says at every instant, and keep any two drones apart at every instant.
+pub record IsLanded (g : Grid) (e : Settings) (trajs : List Traj) (readback start : Bool) (old new : ℕ → DroneState) : Type 0 where
   pub untouched : (d : ℕ) → d < length trajs →
-      OnlyLoads (session_for e trajs readback start) (load_of (session_for e trajs readback start) d) (drones d) (w.drones d)
-  pub started : start ≡ true → (d : ℕ) → d < length trajs → (w.drones d).started ≡ Some e.trajectory_id
+      OnlyLoads (session_for e trajs readback start) (load_of (session_for e trajs readback start) d) (old d) (new d)
+  pub started : start ≡ true → (d : ℕ) → d < length trajs → (new d).started ≡ Some e.trajectory_id
   pub counted : length trajs ≡ length g.starts
-  pub decoded : (d : ℕ) → d < length trajs → DecodesTo (w.drones d) e.trajectory_id (slice_index_or trajs d no_trajectory)
-  pub only : (d : ℕ) (t : Traj) → d < length trajs → DecodesTo (w.drones d) e.trajectory_id t → t ≡ slice_index_or trajs d no_trajectory
+  pub decoded : (d : ℕ) → d < length trajs → DecodesTo (new d) e.trajectory_id (slice_index_or trajs d no_trajectory)
+  pub only : (d : ℕ) (t : Traj) → d < length trajs → DecodesTo (new d) e.trajectory_id t → t ≡ slice_index_or trajs d no_trajectory
   pub near : KeepsNearShow g trajs
   pub apart : FlyApart e trajs
 
@@ -53,7 +54,18 @@ Lands g e trajs =
     (readback start : Bool) (drones : ℕ → DroneState) (events later : List WorldEvent) → ((d : ℕ) → d < length trajs → IsDrone (drones d)) →
     IsUnaltered (events ++ later) →
     progress (session_for e trajs readback start) (world (session_for e trajs readback start) drones events).heard ≡ Done →
-    IsLanded g e trajs readback start drones (world (session_for e trajs readback start) drones (events ++ later))
+    IsLanded g e trajs readback start drones (world (session_for e trajs readback start) drones (events ++ later)).drones
+
+-- Whatever the drones hold at the start, and whoever sends them their packets of this session, with read-back or without and with starts or
+-- without: each takes its own in whatever order, each of them any number of times. Once it accepted all of them but the reads, the memories hold
+-- these curves, then and after whatever packets of the session it takes later.
+abbrev pub LandsInAnyOrder : Grid → Settings → List Traj → Type 0
+LandsInAnyOrder g e trajs =
+    (readback start : Bool) (drones : ℕ → DroneState) (order later : ℕ → List ℕ) → ((d : ℕ) → d < length trajs → IsDrone (drones d)) →
+    ((d : ℕ) → d < length trajs → All (λ k. k < packet_count (session_for e trajs readback start) d) (order d ++ later d)) →
+    ((d k : ℕ) → d < length trajs → k < packet_count (session_for e trajs readback start) d → is_read (session_for e trajs readback start) d k ≡ false →
+    IsAccepted (session_for e trajs readback start) d (drones d) (order d) k) →
+    IsLanded g e trajs readback start drones (λ d. taken (session_for e trajs readback start) d (drones d) (order d ++ later d))
 
 -- Trajectories that can be uploaded: 1 to 32 of them, of some segments each, with room from the offset on.
 pub record AreUploadable (e : Settings) (trajs : List Traj) : Type 0 where
@@ -68,3 +80,7 @@ pub record AreUploadable (e : Settings) (trajs : List Traj) : Type 0 where
 -- Trajectories that can be uploaded, keep near to a show and keep apart land so.
 abbrev pub LandingLaw : Type 0
 LandingLaw = (g : Grid) (e : Settings) (trajs : List Traj) → AreUploadable e trajs → KeepsNearShow g trajs → FlyApart e trajs → Lands g e trajs
+
+-- And they land so in any order.
+abbrev pub OrderLaw : Type 0
+OrderLaw = (g : Grid) (e : Settings) (trajs : List Traj) → AreUploadable e trajs → KeepsNearShow g trajs → FlyApart e trajs → LandsInAnyOrder g e trajs

@@ -14,7 +14,7 @@ use Rattle.upload_model.specs.Theorem.{IsSafe, IsUnaltered, TakesStart}
 use Rattle.upload_model.specs.Worlds.{world}
 use Rattle.choreo_show.specs.declared.show.Settings.{Settings}
 use Rattle.show_plan.specs.Flight.{KeepsNearShow}
-use Rattle.show_plan.specs.Landing.{AreUploadable, Lands, session_for}
+use Rattle.show_plan.specs.Landing.{AreUploadable, Lands, LandsInAnyOrder, session_for}
 use Rattle.show_plan.specs.Separation.{FlyApart}
 
 -- What holds of an upload of this session, to drones that are so at the start, after these events. Only the last field
@@ -43,9 +43,11 @@ pub record GoesRight (s : Upload) (drones : ℕ → DroneState) (events : List W
 
 -- Whatever the drones hold at the start, and whatever the link loses, repeats, delays or reorders: once all packets of
 -- the session of these trajectories are acknowledged, where nobody else alters a byte, they are stored, near to the
--- show and apart. And each upload of this session goes right, with read-back or without and with starts or without.
+-- show and apart. So they are whoever sends the packets, once all but the reads are accepted. And each upload of this
+-- session goes right, with read-back or without and with starts or without.
 pub record Uploads (g : Grid) (e : Settings) (trajs : List Traj) : Type 0 where
   pub stored : Lands g e trajs
+  pub in_any_order : LandsInAnyOrder g e trajs
   pub each : (readback start : Bool) (drones : ℕ → DroneState) (events : List WorldEvent) →
       ((d : ℕ) → d < length trajs → IsDrone (drones d)) → GoesRight (session_for e trajs readback start) drones events
 

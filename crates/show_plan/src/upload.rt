@@ -12,7 +12,7 @@ use firmware_memory::curve_law;
 use std::alloc::{AllocError, Global};
 use traj_codec::{Traj, encode, join_law};
 use upload_core::{Listed, Load, Session, Settings};
-use upload_model::{readback_law, upload_law};
+use upload_model::{readback_law, taking_law, upload_law};
 
 // The load of a trajectory: its bytes, and how many segments they are.
 fn load_of(alloc: Global, t: &Traj) -> Result<Load, AllocError>
@@ -70,11 +70,13 @@ pub fn landing_law()
 
 /// A law. Each upload of trajectories that can be uploaded, keep near to a show and keep apart goes right, whatever the
 /// link does: with read-back each byte was right when it was read, whoever else alters one, and starts come last. What
-/// is uploaded is stored, as `landing_law` says.
+/// is uploaded is stored, as `landing_law` says; and so it is whoever sends the packets, in whatever order.
 pub fn uploads_law()
     ensures { UploadsLaw }
 {
+    curve_law();
     landing_law();
+    taking_law();
     upload_law();
     readback_law();
 }

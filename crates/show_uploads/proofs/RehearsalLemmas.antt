@@ -103,10 +103,10 @@ pub decoded_after : (g : Grid) (e : Settings) (trajs : List Traj) (readback star
     (d : ℕ) → d < length trajs → (t : Traj) × DecodesTo ((rehearsed (session_for e trajs readback start) events).drones d) e.trajectory_id t
 decoded_after g e trajs readback start events lands unaltered done d within =
     let s : Upload = session_for e trajs readback start in
-    let landed : IsLanded g e trajs readback start (λ n. blank_drone s) (rehearsed s (events ++ [])) =
+    let landed : IsLanded g e trajs readback start (λ n. blank_drone s) (rehearsed s (events ++ [])).drones =
     lands readback start (λ (n : ℕ). blank_drone s) events [] (λ n known. blank_is_drone s) (subst IsUnaltered (sym (append-nil events)) unaltered) done in
-    let here : IsLanded g e trajs readback start (λ n. blank_drone s) (rehearsed s events) =
-    subst (λ (es : List WorldEvent). IsLanded g e trajs readback start (λ n. blank_drone s) (rehearsed s es)) (append-nil events) landed in
+    let here : IsLanded g e trajs readback start (λ n. blank_drone s) (rehearsed s events).drones =
+    subst (λ (es : List WorldEvent). IsLanded g e trajs readback start (λ n. blank_drone s) (rehearsed s es).drones) (append-nil events) landed in
     (get_or trajs d _, here.decoded d within)
 
 ends_some : (q : Progress) (s : PlainShow) (events : List WorldEvent) (w : World) → (q ≡ Done → AllDecode w.drones s.settings.trajectory_id (words_of s)) → (o : Outcome) × RehearsalEnds q s events w o

@@ -1,5 +1,5 @@
 -- The words of a line on its own.
-use Rattle.std.proofs.Common.{◌≡◌, ℕ, List, [], ◌∷◌, append-nil, refl, sym, ap, ◌∙◌}
+use Rattle.std.proofs.Common.{◌≡◌, ℕ, List, [], ◌∷◌, append-nil, refl, ap, ◌∙◌}
 use Rattle.text_lines.specs.declared.token.Comments.{Comments}
 use Rattle.text_lines.specs.declared.token.Comments.TheVariants.{FromHash, Absent}
 use Rattle.text_lines.specs.Lines.{between_feeds, without_empty_end}

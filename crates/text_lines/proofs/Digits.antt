@@ -1,6 +1,6 @@
 -- Decimal digits that are read from a place on.
-use Rattle.std.proofs.Common.{◌≡◌, ℕ, ◌+◌, ◌-◌, ◌*◌, ◌<◌, ◌≤◌, Bool, true, false, ◌&&◌, List, length, get_or, drop, drop-cons, add-one, refl, sym, ap, ◌∙◌, arith}
-use Rattle.std.specs.Prelude.{min, slice_index}
+use Rattle.std.proofs.Common.{◌≡◌, ℕ, ◌+◌, ◌-◌, ◌*◌, ◌<◌, ◌≤◌, Bool, true, false, ◌&&◌, List, length, get_or, drop, drop-cons, add-one, refl, ap, ◌∙◌, arith}
+use Rattle.std.specs.Prelude.{min}
 use Rattle.text_lines.specs.Numbers.{is_digit, digits_after}
 use Rattle.text_lines.specs.Steps.{are_digits_at, number_at}
 

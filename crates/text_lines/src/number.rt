@@ -54,7 +54,7 @@ pub fn natural(word: &[u8]) -> Option<u64>
     }
     let mut n: u64 = 0;
     let mut at: usize = 0;
-    // Most numbers are micrometres, of six digits and more: four at a time they take two thirds of the time.
+    // Most numbers are micrometres, of six digits and more: four of them are bounded once.
     'fours: while word.len() - at >= 4 && are_four_digits(word, at) {
         n = (10_000 * n + four_digits(word, at)).min(LARGE);
         at += 4;

@@ -49,10 +49,7 @@ fn are_four_solid(bytes: &[u8], at: usize) -> bool
     requires { at + 4 ≤ length bytes.now }
     ensures { IsTrue result → (k : ℕ) → at ≤ k → k < at + 4 → 32 < slice_index bytes.now k }
 {
-    bytes[at] > b' '
-        && bytes[at + 1] > b' '
-        && bytes[at + 2] > b' '
-        && bytes[at + 3] > b' '
+    bytes[at] > b' ' && bytes[at + 1] > b' ' && bytes[at + 2] > b' ' && bytes[at + 3] > b' '
 }
 
 // How many bytes stand before the first blank. Four at a time are passed where a comparison shows that none is blank.
@@ -125,11 +122,7 @@ pub fn tokens(alloc: Global, text: &[u8], comments: Comments) -> Result<Vec<Toke
 /// The words of a line on its own, in place of those that the list had. Its room is kept, so that a reader that goes from
 /// line to line takes memory once.
 #[tactic(auto, using(crate::proofs::Alone::alone_tokens))]
-pub fn put_line(
-    tokens: &mut Vec<Token>,
-    line: &[u8],
-    comments: Comments,
-) -> Result<(), AllocError>
+pub fn put_line(tokens: &mut Vec<Token>, line: &[u8], comments: Comments) -> Result<(), AllocError>
     requires short { length line.now < 2 ^ 31 }
     requires one { between_feeds line.now ≡ line.now ∷ [] }
     ensures { OnOk result (tokens.new.items ≡ tokens_of comments line.now) }

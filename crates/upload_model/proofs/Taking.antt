@@ -1,9 +1,11 @@
 -- A drone that takes packets of its session in any order, each of them any number of times.
-use Rattle.std.proofs.Common.{◌≡◌, ℕ, zero, suc, ◌+◌, ◌*◌, ◌<◌, ◌≤◌, Bool, true, false, not, cond, ◌&&◌, ltb, List, [], ◌∷◌, take, drop, refl, ap, sym, ◌∙◌, arith, Option, Some, None, inl, subst, IfSome}
+use Rattle.std.proofs.Common.{◌≡◌, ℕ, zero, suc, ◌+◌, ◌*◌, ◌<◌, ◌≤◌, Bool, true, false, not, cond, ◌&&◌, ltb, List, [], ◌∷◌, ◌++◌, take, drop, refl, ap, sym, ◌∙◌, arith, Option, Some, None, inl, subst, IfSome}
 use Rattle.std.specs.Prelude.{slice_get, All}
 use Rattle.std.specs.Str.{bytes_eq}
 use Rattle.std.proofs.lemmas.Bool.{le-ltb, lt-ltb, eq-eqb}
+use Rattle.std.proofs.lemmas.List.{take-append-le}
 use Rattle.std.proofs.lemmas.List.Elements.{All-head, All-tail}
+use Rattle.std.proofs.lemmas.Option.{slice_get_within}
 use Rattle.crtp_packets.specs.Packets.{write_answer_of}
 use Rattle.crtp_packets.specs.Reading.{up_of}
 use Rattle.crtp_packets.specs.Commands.{answer_of}
@@ -15,6 +17,7 @@ use Rattle.upload_model.specs.Taking.{taken, accepting, IsAccepted, TakingLaw}
 use Rattle.upload_model.proofs.Readings.{Kind, a_write, a_define, a_read, a_start, packet_kind, packet_at-define, packet_at-read, packet_at-start, is_read-below, is_read-past}
 use Rattle.upload_model.proofs.OneDrone.{accepts, Effect, OnCourse, follows, status-write_answer, pieces_make_load, write_count-below}
 use Rattle.upload_model.proofs.OneRead.{reads}
+use Rattle.upload_model.proofs.HostSteps.{slice_get-before}
 
 -- ---- one packet
 
@@ -101,6 +104,13 @@ module _ (s : Upload) (d : ℕ) (start : DroneState) (session : IsSession s) (in
         (subst (λ (n : ℕ). Effect s d k (handled x (packet_at s d n)).drone) (sym same) now)
     at (j ∷ ks) x own course (suc i) here answered =
         at ks (handled x (packet_at s d j)).drone (All-tail IsOwn j ks own) (leaves s d j start x session inside (All-head IsOwn j ks own) course).course i here answered
+
+-- what is accepted stays so, whatever is taken later
+pub accepted_later : (s : Upload) (d : ℕ) (x : DroneState) (ks later : List ℕ) (k : ℕ) → IsAccepted s d x ks k → IsAccepted s d x (ks ++ later) k
+accepted_later s d x ks later k a =
+    let within = slice_get_within ks a.0 k a.1 in
+    (a.0, slice_get-before ks later a.0 within ∙ a.1,
+    ap (λ (js : List ℕ). (handled (taken s d x js) (packet_at s d k)).answer) (take-append-le a.0 ks later (omega arith)) ∙ a.2)
 
 -- ---- the law
 

@@ -1,5 +1,4 @@
-use Rattle.std.proofs.Common.{◌≡◌, ℕ, ◌+◌, ◌*◌, ◌-◌, ◌≤◌, sym, ap, ◌∙◌, drop, length, get_or, arith}
-use Rattle.std.specs.Prelude.{min}
+use Rattle.std.proofs.Common.{◌+◌, ◌*◌, ◌-◌, ◌≤◌, sym, ◌∙◌, drop, length, get_or, arith}
 use Rattle.std.proofs.lemmas.List.{take_rest}
 use Rattle.text_lines.specs.Steps.{number_at}
 use Rattle.text_lines.proofs.Digits.{digit_more, four_more, capped, capped_one}
@@ -26,8 +25,7 @@ loop-digit-preserved c =
     let i = c.loop-digit.digit-index in
     let (m, n_is, so_far) = c.loop-digit.invariant in
     let is = rw take_rest at (sym c.is_digit.ensures ∙ c.if-not-is_digit.false) in
-    let lt = rw take_rest at c.loop-digit-test.true in
-    (
+    let lt = rw take_rest at c.loop-digit-test.true in (
       10 * m + (get_or w i 0 - 48),
       rw (c.min-n-in-loop-digit.ensures, take_rest) (capped_one m c.loop-digit.n (get_or w i 0 - 48) 1000000000000 n_is),
       so_far ∙ digit_more m i (i + 1) w lt (omega arith) is,

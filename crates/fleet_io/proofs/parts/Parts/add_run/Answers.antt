@@ -1,4 +1,4 @@
-use Rattle.std.proofs.Common.{◌≡◌, ℕ, List, [], ◌∷◌, ◌++◌, ◌≤◌, length, take, drop, sym, ap, ◌∙◌, append_assoc, arith}
+use Rattle.std.proofs.Common.{◌≡◌, [], ◌∷◌, ◌≤◌, length, take, sym, ◌∙◌, append_assoc, arith}
 use Rattle.std.proofs.lemmas.List.{take-append-drop}
 use Rattle.fleet_io.proofs.MarkLemmas.{front_whole}
 use Rattle.fleet_io.proofs.parts.Parts.add_run.Goals as goal

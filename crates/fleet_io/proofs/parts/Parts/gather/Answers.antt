@@ -1,4 +1,4 @@
-use Rattle.std.proofs.Common.{◌≡◌, inl, inr, true, [], ◌∷◌, ◌++◌, ◌+◌, take, drop, length, length-append, refl, sym, ap, ◌∙◌, arith}
+use Rattle.std.proofs.Common.{inl, inr, true, [], ◌∷◌, ◌++◌, ◌+◌, take, drop, length, length-append, refl, sym, ap, ◌∙◌, arith}
 use Rattle.std.proofs.lemmas.List.{length-drop, length-take}
 use Rattle.fleet_io.specs.Held.{given}
 use Rattle.fleet_io.proofs.TakenLemmas.{Consumes-append, Consumes-nil, Consumes-runs}
