@@ -7,12 +7,12 @@ use Rattle.choreo_lines.specs.declared.parts.Act.{Act}
 use Rattle.choreo_lines.specs.declared.parts.Act.TheVariants as act
 use Rattle.choreo_show.specs.Valid.{FitsAct, FitsTriple}
 use Rattle.cue_grid.specs.Frames.{applied, no_frame}
-use Rattle.figure_expand.specs.Acts.{act_in, numbers_at, place_at}
+use Rattle.figure_expand.specs.Acts.{act_in, control_in}
 
 stays : (p : Point) → applied no_frame p ≡ p
 stays p = simp +ℤ_idr
 
-triple_stays : (v : List ℤ) → FitsTriple v → numbers_at (applied no_frame (place_at v)) ≡ v
+triple_stays : (v : List ℤ) → FitsTriple v → control_in no_frame v ≡ v
 triple_stays (a ∷ b ∷ c ∷ []) fits = simp +ℤ_idr
 triple_stays [] fits = absurd fits
 triple_stays (a ∷ []) fits = absurd fits
