@@ -101,8 +101,8 @@ pub fn run<S: Source, K: Sink>(
     ensures begun { (depth : ℕ) (start readback : Bool) (input : List ℕ) → command_in words.now.items ≡ Some (Command.Upload depth start readback) → S.left source.old ≡ Some input
         → HasBegun (K.written sink.old) (K.written sink.new) → UploadsText (part_of input) }
 
-    // 0 of `compile`: the input stands for a show, its plan was written, and once the plan's packets are acknowledged, whatever the link
-    // does, each drone's memory decodes to one curve, near to the show and apart from every other, at every instant.
+    // 0 of `compile`: the input stands for a show, and its plan was written. Whoever sends its packets, in whatever order and however often,
+    // once each drone accepted all of its own, its memory decodes to one curve, near to the show and apart from every other, at every instant.
     ensures headline { (input : List ℕ) → IsCalled words.now.items (codes "compile") → S.left source.old ≡ Some input → result ≡ 0
         → Headline input (K.written sink.old) (K.written sink.new) }
 
