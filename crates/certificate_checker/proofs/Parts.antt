@@ -1,13 +1,10 @@
 -- What the checker's parts are made of.
-use Rattle.std.proofs.Common.{◌≡◌, ℕ, sym, subst, length, refl, All}
-use Rattle.bezier_core.specs.declared.Bez.{Bez}
+use Rattle.std.proofs.Common.{◌≡◌, sym, subst, length}
 use Rattle.sep_parts.specs.declared.clearance.Clearance.{Clearance}
 use Rattle.sep_parts.specs.declared.node.Node.{Node}
-use Rattle.fleet_curves.specs.Raised.{Raised, difference}
 use Rattle.sep_parts.specs.Rulers.{Measure}
 use Rattle.sep_parts.specs.Trees.{IsKnown}
 use Rattle.sep_parts.specs.Versions.{table_of}
-use Rattle.fleet_curves.proofs.Small.{three}
 use Rattle.certificate_checker.specs.Steps.{measure_of}
 
 -- a node that a version knows names a direction of its table

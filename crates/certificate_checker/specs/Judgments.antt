@@ -1,6 +1,5 @@
 -- What is kept of the trees of a certificate: what is judged of them, and the curves of the pair and cue whose tree comes next.
-use Rattle.std.specs.Prelude.{◌≡◌, ℕ, ◌+◌, ◌*◌, ◌^◌, ◌≤◌, ◌<◌, List, length, All, Option, Some, None}
-use Rattle.fleet_math.specs.Numbers.{IsBelow}
+use Rattle.std.specs.Prelude.{◌≡◌, ℕ, ◌+◌, ◌*◌, ◌≤◌, ◌<◌, List, Option, Some, None}
 use Rattle.bezier_core.specs.declared.Bez.{Bez}
 use Rattle.halving.specs.declared.Place.{Place}
 use Rattle.sep_parts.specs.declared.slot.Slot.{Slot}

@@ -1,5 +1,5 @@
 -- What the parts of a checker stand for. No public contract uses these words.
-use Rattle.std.specs.Prelude.{◌≡◌, ℕ, ◌^◌, ◌≤◌, ◌<◌}
+use Rattle.std.specs.Prelude.{◌≡◌, ℕ, ◌^◌, ◌<◌}
 use Rattle.sep_parts.specs.declared.clearance.Clearance.{Clearance}
 use Rattle.sep_parts.specs.Rulers.{Measure}
 use Rattle.sep_parts.specs.Versions.{IsVersion, table_of}

@@ -1,21 +1,20 @@
 -- The speeds at the two ends of a segment.
-use Rattle.std.proofs.Common.{◌≡◌, ℕ, ◌-◌, ◌*◌, ◌^◌, ◌≤◌, ◌<◌, ℤ, pos, ◌-ℤ◌, ◌*ℤ◌, ◌≤ℤ◌, ◌<ℤ◌, neg_ℤ, arith, refl, sym, ◌∙◌, ap, List, length, All}
+use Rattle.std.proofs.Common.{◌≡◌, ℕ, ◌-◌, ◌*◌, ◌^◌, ◌≤◌, ◌<◌, ℤ, pos, ◌-ℤ◌, ◌*ℤ◌, ◌≤ℤ◌, neg_ℤ, arith, refl, ◌∙◌, ap, List, length, All}
 use Rattle.std.proofs.lemmas.Int.{ints}
-use Rattle.std.proofs.lemmas.Nat.{pow_pos, mul-le}
+use Rattle.std.proofs.lemmas.Nat.{mul-le}
 use Rattle.fleet_math.specs.Sums.{power}
 use Rattle.fleet_math.specs.Bernstein.{at}
-use Rattle.fleet_math.proofs.RingLemmas.{ring, linear, le_mul_ℤ, mul_assoc_ℤ, mul_comm_ℤ, mul_not_negative}
+use Rattle.fleet_math.proofs.RingLemmas.{ring, linear, mul_not_negative}
 use Rattle.fleet_math.proofs.BernsteinLemmas.{bernstein-at_zero, bernstein-at_end}
 use Rattle.fleet_math.proofs.EdgeLemmas.{points-count}
 use Rattle.bezier_core.specs.Raised.{raised}
 use Rattle.bezier_core.specs.Steps.{IsWithin}
-use Rattle.bezier_core.proofs.BlendLemmas.{within_mul}
 use Rattle.fleet_math.specs.Decoded.{IsPiece}
 use Rattle.traj_codec.specs.declared.traj.Traj.{Traj}
 use Rattle.traj_codec.specs.Positions.{pieces_on, points}
 use Rattle.speed_bound.specs.Speed.{duration, greatest_below}
-use Rattle.speed_bound.proofs.Slopes.{steps, within_same}
-use Rattle.speed_bound.proofs.Speeds.{piece_value, power_low, within_cancel, within_wider}
+use Rattle.speed_bound.proofs.Slopes.{steps}
+use Rattle.speed_bound.proofs.Speeds.{piece_value, power_low}
 use Rattle.speed_bound.proofs.Widths.{greatest-at}
 use Rattle.dynamics_bound.specs.Accelerations.{widest_bend_part, segment_acceleration, acceleration_in, acceleration, after}
 use Rattle.dynamics_bound.specs.Edges.{HasVelocities, first_step, last_step}

@@ -5,7 +5,7 @@ use Rattle.traj_codec.specs.declared.traj.Traj.{Traj}
 use Rattle.fleet_io.specs.Words.{AreWords}
 use Rattle.dynamics_bound.specs.declared.motion.Axes.{Axes}
 use Rattle.dynamics_bound.specs.declared.motion.Extremes.{Extremes}
-use Rattle.dynamics_bound.specs.Motions.{extremes, extremes_of, greater, nothing}
+use Rattle.dynamics_bound.specs.Motions.{extremes, extremes_of, greater}
 
 -- words, and words after them
 pub words_both : (words more : List (List ℕ)) → AreWords words → AreWords more → AreWords (words ++ more)

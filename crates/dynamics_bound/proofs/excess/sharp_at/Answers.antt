@@ -1,4 +1,4 @@
-use Rattle.std.proofs.Common.{◌≡◌, ℕ, ◌≤◌, max, arith, sym, ◌∙◌, ap, Option}
+use Rattle.std.proofs.Common.{ℕ, ◌≤◌, max, arith, sym, ◌∙◌, ap, Option}
 use Rattle.dynamics_bound.specs.declared.excess.Kind.TheVariants as kind
 use Rattle.dynamics_bound.specs.Accelerations.{acceleration_in}
 use Rattle.dynamics_bound.specs.Excesses.{sharp_at}
