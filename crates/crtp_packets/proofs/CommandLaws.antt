@@ -1,10 +1,11 @@
 -- A payload that is read as a command is that command, field by field, and the other way round.
 use Rattle.std.proofs.Common.{◌≡◌, ℕ, suc, ◌^◌, ◌<◌, ◌≤◌, true, nat_lt, ◌==◌, List, [], ◌∷◌, ◌++◌, length, drop, slice_index, refl, ap, sym, subst, ◌∙◌, arith, Result, Ok, IfOk}
 use Rattle.std.proofs.lemmas.Bool.{le-ltb}
-use Rattle.byteorder.specs.Endian.{little_number}
+use Rattle.byteorder.specs.Endian.{little_bytes, little_number}
 use Rattle.byteorder.specs.Numbers.{little_number-reads_back}
 use Rattle.crtp_packets.proofs.ReadingLaws.{AreBytes, four_bytes, number_fits, if_ok, not_short}
-use Rattle.crtp_packets.specs.Commands.{define_message, start_message, command_of, SpellsCommand}
+use Rattle.crtp_packets.specs.Commands.{command_of, SpellsCommand}
+use Rattle.crtp_packets.specs.declared.commands.TheConstants.{DEFINE, START}
 use Rattle.crtp_packets.specs.declared.commands.CommandFault.{CommandFault}
 use Rattle.crtp_packets.specs.declared.commands.Command.{Command}
 use Rattle.crtp_packets.specs.declared.commands.Command.TheVariants.{Define, Start}
@@ -27,7 +28,7 @@ fields (i ∷ l ∷ f ∷ a ∷ b ∷ c ∷ d ∷ []) long small = absurd (omega
 fields (i ∷ l ∷ f ∷ a ∷ b ∷ c ∷ d ∷ p ∷ tail) long small = record {
   define = (
     tail,
-    ap (λ (bs : List ℕ). 6 ∷ i ∷ l ∷ f ∷ ((bs ++ p ∷ []) ++ tail)) (sym (four_bytes a b c d (p ∷ tail) (small 3) (small 4) (small 5) (small 6))),
+    ap (λ (bs : List ℕ). 6 ∷ i ∷ l ∷ f ∷ (bs ++ p ∷ tail)) (sym (four_bytes a b c d (p ∷ tail) (small 3) (small 4) (small 5) (small 6))),
     number_fits a b c d (p ∷ tail) (small 3) (small 4) (small 5) (small 6),
   );
   start = (tail, refl, refl);
@@ -52,16 +53,16 @@ spells (kind ∷ rest) small =
 
 -- a define that is written out is read as itself
 define_read : (id location form offset pieces : ℕ) (rest : List ℕ) → offset < 2 ^ 32 →
-    command_of (define_message id location form offset pieces ++ rest) ≡ Ok (Define id location form offset pieces)
+    command_of (DEFINE ∷ id ∷ location ∷ form ∷ (little_bytes 4 offset ++ pieces ∷ rest)) ≡ Ok (Define id location form offset pieces)
 define_read id location form offset pieces rest fits =
-    let behind = drop 1 (define_message id location form offset pieces ++ rest) in
+    let behind = id ∷ location ∷ form ∷ (little_bytes 4 offset ++ pieces ∷ rest) in
     let long : 8 ≤ length behind = omega arith in
     rw (le-ltb (length behind) 8 long)
     (ap {B = Result Command CommandFault} (λ (n : ℕ). Ok (Define id location form n pieces)) (little_number-reads_back 4 offset (pieces ∷ rest) fits))
 
 -- a start that is written out is read as itself
 start_read : (mask relative reversed id : ℕ) (scale rest : List ℕ) → length scale ≡ 4 →
-    command_of (start_message mask relative reversed id scale ++ rest) ≡ Ok (Start mask relative reversed id scale)
+    command_of (START ∷ mask ∷ relative ∷ reversed ∷ id ∷ (scale ++ rest)) ≡ Ok (Start mask relative reversed id scale)
 start_read mask relative reversed id [] rest four = absurd (omega arith)
 start_read mask relative reversed id (a ∷ []) rest four = absurd (omega arith)
 start_read mask relative reversed id (a ∷ b ∷ []) rest four = absurd (omega arith)

@@ -2,7 +2,7 @@
 -- payload is read as: Bitcraze's high-level commander, restated in docs/RADIO.md, "Commands".
 use Rattle.std.specs.Prelude.{◌≡◌, ◌≢◌, ⊤, ℕ, ◌^◌, ◌<◌, ◌⊎◌, nat_lt, ◌==◌, if◌then◌else◌, List, [], ◌∷◌, ◌++◌, length, take, drop, slice_index, Result, Ok, Err}
 use Rattle.byteorder.specs.Endian.{little_bytes, little_number}
-use Rattle.crtp_packets.specs.Packets.{header_of, payload_in}
+use Rattle.crtp_packets.specs.Packets.{header_of}
 use Rattle.crtp_packets.specs.declared.packet.TheConstants.{COMMANDER_PORT, COMMAND_CHANNEL}
 use Rattle.crtp_packets.specs.declared.commands.TheConstants.{DEFINE, START, IN_MEMORY, COMPRESSED, COMMAND_BYTES}
 use Rattle.crtp_packets.specs.declared.commands.CommandFault.{CommandFault}
@@ -10,39 +10,26 @@ use Rattle.crtp_packets.specs.declared.commands.CommandFault.TheVariants.{Short,
 use Rattle.crtp_packets.specs.declared.commands.Command.{Command}
 use Rattle.crtp_packets.specs.declared.commands.Command.TheVariants.{Define, Start}
 
--- a define's payload: the offset has four bytes, the lowest first
-abbrev pub define_message : ℕ → ℕ → ℕ → ℕ → ℕ → List ℕ
-define_message id location form offset pieces = DEFINE ∷ id ∷ location ∷ form ∷ (little_bytes 4 offset ++ pieces ∷ [])
-
--- a start's payload: the time scale has four bytes
-abbrev pub start_message : ℕ → ℕ → ℕ → ℕ → List ℕ → List ℕ
-start_message mask relative reversed id scale = START ∷ mask ∷ relative ∷ reversed ∷ id ∷ scale
-
--- a define as it is written: in memory, compressed
-abbrev pub define_payload : ℕ → ℕ → ℕ → List ℕ
-define_payload id offset pieces = define_message id IN_MEMORY COMPRESSED offset pieces
-
+-- a define as it is written: in memory, compressed; the offset has four bytes, the lowest first
 abbrev pub define_of : ℕ → ℕ → ℕ → List ℕ
-define_of id offset pieces = header_of COMMANDER_PORT COMMAND_CHANNEL ∷ define_payload id offset pieces
+define_of id offset pieces =
+    header_of COMMANDER_PORT COMMAND_CHANNEL ∷ DEFINE ∷ id ∷ IN_MEMORY ∷ COMPRESSED ∷ (little_bytes 4 offset ++ pieces ∷ [])
 
--- the time scale is 1.0, as the four bytes that it has
-abbrev pub plain_scale : List ℕ
-plain_scale = 0 ∷ 0 ∷ 0x80 ∷ 0x3F ∷ []
-
--- a start as it is written: mask, relative and reversed are 0
+-- a start as it is written: mask, relative and reversed are 0, and the time scale is 1.0, as the four bytes that it has
 abbrev pub start_of : ℕ → List ℕ
-start_of id = header_of COMMANDER_PORT COMMAND_CHANNEL ∷ start_message 0 0 0 id plain_scale
+start_of id = header_of COMMANDER_PORT COMMAND_CHANNEL ∷ START ∷ 0 ∷ 0 ∷ 0 ∷ id ∷ 0 ∷ 0 ∷ 0x80 ∷ 0x3F ∷ []
 
 -- the answer to a command: the first three bytes of its payload, and a status
 abbrev pub answer_of : List ℕ → ℕ → List ℕ
-answer_of request status = header_of COMMANDER_PORT COMMAND_CHANNEL ∷ (take 3 (payload_in request) ++ status ∷ [])
+answer_of request status = header_of COMMANDER_PORT COMMAND_CHANNEL ∷ (take 3 (drop 1 request) ++ status ∷ [])
 
--- the payload is this command, written out field by field; what follows is of no account
+-- The payload is this command, written out field by field: the offset of a define has four bytes, the lowest first, and so has
+-- the time scale of a start. What follows is of no account.
 abbrev pub SpellsCommand : List ℕ → Command → Type 0
 SpellsCommand payload (Define id location form offset pieces) =
-    (rest : List ℕ) × (payload ≡ define_message id location form offset pieces ++ rest) × (offset < 2 ^ 32)
+    (rest : List ℕ) × (payload ≡ DEFINE ∷ id ∷ location ∷ form ∷ (little_bytes 4 offset ++ pieces ∷ rest)) × (offset < 2 ^ 32)
 SpellsCommand payload (Start mask relative reversed id scale) =
-    (rest : List ℕ) × (payload ≡ start_message mask relative reversed id scale ++ rest) × (length scale ≡ 4)
+    (rest : List ℕ) × (payload ≡ START ∷ mask ∷ relative ∷ reversed ∷ id ∷ (scale ++ rest)) × (length scale ≡ 4)
 
 -- the payload has no byte, or begins as a define or a start does and has fewer than nine
 abbrev pub IsShort : List ℕ → Type 0

@@ -1,12 +1,12 @@
 -- A drone gives no answer exactly to a packet that is none of the four, and such a packet changes
 -- nothing.
-use Rattle.std.proofs.Common.{◌≡◌, ℕ, Bool, true, false, cond, not, nat_lt, nat_le, ◌==◌, ◌||◌, ◌+◌, List, length, refl, arith, is_some, IsNone, IsErr, Result, Ok, Err}
+use Rattle.std.proofs.Common.{◌≡◌, ℕ, Bool, true, false, cond, not, nat_lt, nat_le, ◌==◌, ◌||◌, ◌+◌, List, [], ◌∷◌, length, refl, arith, is_some, IsNone, IsErr, Result, Ok, Err}
 use Rattle.crtp_packets.specs.Reading.{down_of}
 use Rattle.crtp_packets.specs.declared.reading.PacketFault.{PacketFault}
 use Rattle.crtp_packets.specs.declared.reading.Down.{Down}
 use Rattle.crtp_packets.specs.declared.reading.Down.TheVariants as down
 use Rattle.std.specs.Str.{bytes_eq}
-use Rattle.crtp_packets.specs.Commands.{command_of, plain_scale}
+use Rattle.crtp_packets.specs.Commands.{command_of}
 use Rattle.crtp_packets.specs.declared.chunks.TheConstants.{MEMORY_BYTES}
 use Rattle.upload_model.specs.declared.limits.TheConstants.{TABLE_ENTRIES}
 use Rattle.crtp_packets.specs.declared.commands.CommandFault.{CommandFault}
@@ -33,7 +33,7 @@ unanswered_command d packet (Ok (Define id location form offset pieces)) none =
     (either (nat_le MEMORY_BYTES offset) _ _ refl refl)) none)
 unanswered_command d packet (Ok (Start mask relative reversed id scale)) none =
     absurd (clash (is_some (command_taken d packet (Ok (Start mask relative reversed id scale))).answer)
-    (either (not (mask == 0) || not (relative == 0) || not (reversed == 0) || not (bytes_eq scale plain_scale) || nat_le TABLE_ENTRIES id || not (has_entry d.table id)) _ _ refl refl) none)
+    (either (not (mask == 0) || not (relative == 0) || not (reversed == 0) || not (bytes_eq scale (0 ∷ 0 ∷ 0x80 ∷ 0x3F ∷ [])) || nat_le TABLE_ENTRIES id || not (has_entry d.table id)) _ _ refl refl) none)
 unanswered_command d packet (Err fault) none = refl
 
 -- a write and a read are answered

@@ -1,24 +1,25 @@
 -- The lines of drones, one drone after another.
-use Rattle.std.proofs.Common.{◌≡◌, ℕ, ◌+◌, ◌<◌, ◌≤◌, List, ◌∷◌, ◌++◌, length, drop, get_or, append_assoc, append-nil, arith, sym, ap, ◌∙◌}
+use Rattle.std.proofs.Common.{◌≡◌, ℕ, ◌+◌, ◌<◌, ◌≤◌, List, [], ◌∷◌, ◌++◌, length, map, codes, drop, get_or, append_assoc, append-nil, arith, sym, ap, ◌∙◌}
 use Rattle.std.proofs.lemmas.List.{drop_all, drop_more}
+use Rattle.fleet_io.specs.Words.{hex_word, line}
 use Rattle.choreo_lines.specs.Name.{Name}
 use Rattle.traj_codec.specs.declared.traj.Traj.{Traj}
-use Rattle.traj_codec.specs.Spelling.{ending, IsEncoding}
+use Rattle.traj_codec.specs.Spelling.{ending, spelling, IsEncoding}
 use Rattle.upload_model.specs.Sessions.{Upload}
-use Rattle.show_plan.specs.Texts.{sent_bytes, drone_line, data_line, drone_part, drone_parts, packet_lines}
+use Rattle.show_plan.specs.Texts.{drone_line, drone_part, drone_parts, packet_lines}
 
 -- an encoding is what a trajectory is sent as
-pub sent_is : (bytes : List ℕ) (t : Traj) → IsEncoding bytes t → bytes ≡ sent_bytes t
+pub sent_is : (bytes : List ℕ) (t : Traj) → IsEncoding bytes t → bytes ≡ spelling t ++ ending
 sent_is bytes t is = is.ended ∙ ap (λ (spelled : List ℕ). spelled ++ ending) is.spells.text
 
 -- the line of a drone, that of its bytes and those of its packets are its lines
 pub part_is : (text first sent : List ℕ) (s : Upload) (d : ℕ) (name bytes : List ℕ) (t : Traj) → IsEncoding bytes t → first ≡ text ++ drone_line name bytes (length t.segments) →
-    sent ≡ first ++ data_line bytes → sent ++ packet_lines s d ≡ text ++ drone_part s d name t
+    sent ≡ first ++ line (codes "data") (map hex_word bytes) → sent ++ packet_lines s d ≡ text ++ drone_part s d name t
 part_is text first sent s d name bytes t is first_is sent_made =
-    ap (λ (xs : List ℕ). xs ++ packet_lines s d) (sent_made ∙ ap (λ (xs : List ℕ). xs ++ data_line bytes) first_is)
-    ∙ ap (λ (xs : List ℕ). xs ++ packet_lines s d) (append_assoc text (drone_line name bytes (length t.segments)) (data_line bytes))
-    ∙ append_assoc text (drone_line name bytes (length t.segments) ++ data_line bytes) (packet_lines s d)
-    ∙ ap (λ (all : List ℕ). text ++ (drone_line name all (length t.segments) ++ data_line all ++ packet_lines s d)) (sent_is bytes t is)
+    ap (λ (xs : List ℕ). xs ++ packet_lines s d) (sent_made ∙ ap (λ (xs : List ℕ). xs ++ line (codes "data") (map hex_word bytes)) first_is)
+    ∙ ap (λ (xs : List ℕ). xs ++ packet_lines s d) (append_assoc text (drone_line name bytes (length t.segments)) (line (codes "data") (map hex_word bytes)))
+    ∙ append_assoc text (drone_line name bytes (length t.segments) ++ line (codes "data") (map hex_word bytes)) (packet_lines s d)
+    ∙ ap (λ (all : List ℕ). text ++ (drone_line name all (length t.segments) ++ line (codes "data") (map hex_word all) ++ packet_lines s d)) (sent_is bytes t is)
 
 -- one drone's lines more: what is to come is less by them
 pub parts_next : (text more : List ℕ) (s : Upload) (names : List Name) (ts : List Traj) (k : ℕ) (name : Name) (t : Traj) →

@@ -9,25 +9,9 @@ use Rattle.upload_model.specs.Sessions.{Upload, packet_at, packet_count, write_c
 use Rattle.choreo_show.specs.declared.show.Settings.{Settings}
 use Rattle.show_plan.specs.Landing.{session_for}
 
--- the bytes that a trajectory is sent as: its spelling, and then the ending
-abbrev pub sent_bytes : Traj → List ℕ
-sent_bytes t = spelling t ++ ending
-
--- what a plan begins with
-abbrev pub head_line : List ℕ
-head_line = line (codes "plan") (codes "1" ∷ [])
-
 -- a drone of this name, whose trajectory has this many segments and is sent as these bytes
 abbrev pub drone_line : List ℕ → List ℕ → ℕ → List ℕ
 drone_line name bytes pieces = line (codes "drone") (name ∷ codes "bytes" ∷ decimal (length bytes) ∷ codes "pieces" ∷ decimal pieces ∷ [])
-
--- the bytes, in two upper-case hexadecimal digits each
-abbrev pub data_line : List ℕ → List ℕ
-data_line bytes = line (codes "data") (map hex_word bytes)
-
--- what a plan ends with
-abbrev pub end_line : List ℕ
-end_line = line (codes "end") []
 
 -- what packet k of a drone is, without read-back: a write of a part of its load, its define, its start
 abbrev pub packet_word : Upload → ℕ → ℕ → List ℕ
@@ -41,9 +25,10 @@ packet_line s d k = line (packet_word s d k) (map hex_word (packet_at s d k))
 abbrev pub packet_lines : Upload → ℕ → List ℕ
 packet_lines s d = flat_map (packet_line s d) (range_with_len 0 (packet_count s d))
 
--- the lines of drone d of a session: what it is sent, as bytes and as packets
+-- the lines of drone d of a session: what it is sent, as bytes, in two upper-case hexadecimal digits each, and as packets
 abbrev pub drone_part : Upload → ℕ → List ℕ → Traj → List ℕ
-drone_part s d name t = drone_line name (sent_bytes t) (length t.segments) ++ data_line (sent_bytes t) ++ packet_lines s d
+drone_part s d name t =
+    drone_line name (spelling t ++ ending) (length t.segments) ++ line (codes "data") (map hex_word (spelling t ++ ending)) ++ packet_lines s d
 
 -- the lines of drones, one drone after another, the first of which has number d
 abbrev pub drone_parts : Upload → ℕ → List Name → List Traj → List ℕ
@@ -51,6 +36,8 @@ drone_parts s d [] ts = []
 drone_parts s d (name ∷ names) [] = []
 drone_parts s d (name ∷ names) (t ∷ ts) = drone_part s d name.items t ++ drone_parts s (d + 1) names ts
 
--- The plan of drones with these names and trajectories: its packets are those of their session without read-back and with starts.
+-- The plan of drones with these names and trajectories, in version 1 of plans: its packets are those of their session without
+-- read-back and with starts.
 unfoldable pub plan_text : Settings → List Name → List Traj → List ℕ
-plan_text e names ts = head_line ++ (drone_parts (session_for e ts false true) 0 names ts ++ end_line)
+plan_text e names ts =
+    line (codes "plan") (codes "1" ∷ []) ++ (drone_parts (session_for e ts false true) 0 names ts ++ line (codes "end") [])

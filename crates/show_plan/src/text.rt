@@ -1,16 +1,16 @@
 //! The texts that say a plan.
 
-ghost use Rattle.std.specs.Prelude.{◌≡◌, ◌≤◌, ◌++◌, ℕ, false, true, length, decimal, IfOk, OnOk};
+ghost use Rattle.std.specs.Prelude.{◌≡◌, ◌≤◌, ◌++◌, ℕ, [], ◌∷◌, false, true, length, codes, decimal, IfOk, OnOk};
 ghost use Rattle.std.specs.List.{All};
 ghost use Rattle.fleet_math.specs.Limits.{most_segments, most_drones};
-ghost use Rattle.fleet_io.specs.Words.{is_line_empty, with_word, IsWord};
+ghost use Rattle.fleet_io.specs.Words.{is_line_empty, line, with_word, IsWord};
 ghost use Rattle.traj_codec.specs.declared.traj.Traj.{Traj};
 ghost use Rattle.traj_codec.specs.Spelling.{IsEncoding};
 ghost use Rattle.upload_model.specs.Sessions.{Upload};
 ghost use Rattle.show_plan.specs.Fitting.{StandsAsWord, IsSendable, IsValidFitted, size};
 ghost use Rattle.show_plan.specs.Landing.{session_for};
 ghost use Rattle.show_plan.specs.Steps.{alone};
-ghost use Rattle.show_plan.specs.Texts.{head_line, drone_line, end_line, drone_part, drone_parts, packet_lines, plan_text};
+ghost use Rattle.show_plan.specs.Texts.{drone_line, drone_part, drone_parts, packet_lines, plan_text};
 
 use crate::fitted::Fitted;
 use crate::packets::{put_bytes, put_packets};
@@ -22,7 +22,7 @@ use traj_codec::{Segment, Traj, encode, size_of};
 
 fn put_head(text: &mut Lines) -> Result<(), AllocError>
     requires { is_line_empty text.old ≡ true }
-    ensures { OnOk result (text.new ≡ text.old ++ head_line) }
+    ensures { OnOk result (text.new ≡ text.old ++ line (codes "plan") (codes "1" ∷ [])) }
 {
     text.word(b"plan")?;
     text.word(b"1")?;
@@ -64,7 +64,7 @@ fn put_drone(
 
 fn put_end(text: &mut Lines) -> Result<(), AllocError>
     requires { is_line_empty text.old ≡ true }
-    ensures { OnOk result (text.new ≡ text.old ++ end_line) }
+    ensures { OnOk result (text.new ≡ text.old ++ line (codes "end") []) }
 {
     text.word(b"end")?;
     text.end()

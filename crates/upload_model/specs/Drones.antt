@@ -1,6 +1,6 @@
 -- One drone as it is modelled here: what it holds, and what each packet does to it
 -- (docs/RADIO.md, "A drone").
-use Rattle.std.specs.Prelude.{ℕ, ◌+◌, Bool, false, not, ◌||◌, nat_lt, nat_le, ◌==◌, if◌then◌else◌, List, [], ◌++◌, length, take, drop, slice_get, slice_set, is_some, Option, Some, None, Result, Ok, Err}
+use Rattle.std.specs.Prelude.{ℕ, ◌+◌, Bool, false, not, ◌||◌, nat_lt, nat_le, ◌==◌, if◌then◌else◌, List, [], ◌∷◌, ◌++◌, length, take, drop, slice_get, slice_set, is_some, Option, Some, None, Result, Ok, Err}
 use Rattle.std.specs.Str.{bytes_eq}
 use Rattle.crtp_packets.specs.Packets.{write_answer_of, read_answer_of}
 use Rattle.crtp_packets.specs.Reading.{down_of}
@@ -8,7 +8,7 @@ use Rattle.crtp_packets.specs.declared.packet.TheConstants.{READ_BYTES}
 use Rattle.crtp_packets.specs.declared.reading.PacketFault.{PacketFault}
 use Rattle.crtp_packets.specs.declared.reading.Down.{Down}
 use Rattle.crtp_packets.specs.declared.reading.Down.TheVariants as down
-use Rattle.crtp_packets.specs.Commands.{command_of, answer_of, plain_scale}
+use Rattle.crtp_packets.specs.Commands.{command_of, answer_of}
 use Rattle.crtp_packets.specs.declared.commands.CommandFault.{CommandFault}
 use Rattle.crtp_packets.specs.declared.commands.Command.{Command}
 use Rattle.crtp_packets.specs.declared.commands.Command.TheVariants.{Define, Start}
@@ -75,7 +75,7 @@ command_taken d packet (Ok (Define id location form offset pieces)) =
     else (if nat_le MEMORY_BYTES offset then answers d (answer_of packet NO_ROOM)
     else answers (record d { table = slice_set d.table id (Some (record { offset = offset; pieces = pieces })) }) (answer_of packet ACCEPTED))
 command_taken d packet (Ok (Start mask relative reversed id scale)) =
-    if not (mask == 0) || not (relative == 0) || not (reversed == 0) || not (bytes_eq scale plain_scale) || nat_le TABLE_ENTRIES id || not (has_entry d.table id)
+    if not (mask == 0) || not (relative == 0) || not (reversed == 0) || not (bytes_eq scale (0 ∷ 0 ∷ 0x80 ∷ 0x3F ∷ [])) || nat_le TABLE_ENTRIES id || not (has_entry d.table id)
     then answers d (answer_of packet UNFIT)
     else answers (record d { started = Some id }) (answer_of packet ACCEPTED)
 command_taken d packet (Err fault) = silent d

@@ -90,13 +90,9 @@ read_count s d = if s.readback then part_count s d else 0
 abbrev pub start_number : Upload → ℕ → ℕ
 start_number s d = load_count s d + read_count s d
 
--- How many are starts: one, where the drones are started.
-abbrev pub start_count : Upload → ℕ
-start_count s = if s.start then 1 else 0
-
--- How many packets a drone has.
+-- How many packets a drone has: one of them is the start, where the drones are started.
 unfoldable pub packet_count : Upload → ℕ → ℕ
-packet_count s d = start_number s d + start_count s
+packet_count s d = start_number s d + (if s.start then 1 else 0)
 
 -- Packet k of a drone: a write for each piece, then the define, then a read for each part, then the
 -- start. Only numbers below the count name a packet.
@@ -127,4 +123,4 @@ first_of s Starting d = start_number s d
 abbrev pub count_of : Upload → Phase → ℕ → ℕ
 count_of s Loading d = load_count s d
 count_of s Reading d = read_count s d
-count_of s Starting d = start_count s
+count_of s Starting d = if s.start then 1 else 0
