@@ -1,7 +1,7 @@
 -- Every show's texts are read as that show.
-use Rattle.std.proofs.lemmas.List.Elements.{recursion_from_All}
 use Rattle.std.proofs.Common.{◌≡◌, ℕ, ◌+◌, ◌≤◌, Bool, true, false, List, [], ◌∷◌, ◌++◌, length, map, Option, Some, None, Ok, Err, refl, sym, ap, ◌∙◌, arith, cond, append_assoc}
-use Rattle.std.specs.Prelude.{not, is_some, unwrap_or, slice_index_or, codes}
+use Rattle.std.proofs.lemmas.List.Elements.{recursion_from_All}
+use Rattle.std.specs.Prelude.{not, is_some, codes}
 use Rattle.std.proofs.lemmas.List.{append-nil}
 use Rattle.text_lines.specs.Words.{Line}
 use Rattle.choreo_reader.specs.Text.{show_lines}
@@ -9,12 +9,11 @@ use Rattle.choreo_show.specs.Plain as plain
 use Rattle.choreo_lines.specs.Name.{Name}
 use Rattle.choreo_show.specs.Plain.{Body, PlainFigure, PlainShow, has_block, ◌⨾◌}
 use Rattle.choreo_reader.specs.Grammar.{body_said, Item, Memory, Trajectory, Ellipsoid, Stray, Late, Drone, Formed, Figured, Blocks, item_said, show_of, IsItem, HasSingleSettings, StandsFor, parts_of}
-use Rattle.choreo_reader.proofs.Items.{closing, place_said, items_said, memories, trajectories, ellipsoids, strays, lates, drones, formations, figures, body, AreItems, AreSaid}
+use Rattle.choreo_reader.proofs.Items.{closing, place_said, items_said, AreItems, AreSaid, add_item, Fresh, parts_in, show_in, item_in, with_last, parts_of-more}
 use Rattle.choreo_reader.specs.Context.{fault_if, is_header, end_fault}
 use Rattle.choreo_reader.specs.Text.{fault_at}
-use Rattle.choreo_reader.specs.Reading.{InFormation, InFigure, Built, nothing, add_block, built_show, is_any, lines_step, finish, finish_with, openings_of, reading, read_lines, unless_forbidden}
+use Rattle.choreo_reader.specs.Reading.{InFormation, InFigure, Built, nothing, built_show, is_any, lines_step, finish, finish_with, openings_of, reading, read_lines, unless_forbidden}
 use Rattle.choreo_reader.proofs.Allowed.{clean_none}
-use Rattle.choreo_show.proofs.Blocks.{body_assoc, body_done}
 use Rattle.choreo_reader.proofs.Complete.{Reads, reads_none, reads_then, reads_to, reads_list, split, first_said, numbered_step, said_anywhere, with_open, enclosed, block_lines, body_reads}
 use Rattle.choreo_lines.specs.declared.line.Entry.TheVariants as entry
 use Rattle.choreo_lines.specs.declared.line.LineKind.TheVariants as kind
@@ -30,18 +29,7 @@ places_read (d ∷ places) done s line name (l ∷ ls) h =
     let others = places_read places (done ++ d ∷ []) s line name ls h.1 in
     reads_to _ _ _ (l ∷ ls) (ap (λ xs. with_open s (InFormation line name xs ∷ [])) (append_assoc done (d ∷ []) places)) (reads_then _ _ _ (l ∷ []) ls one others)
 
--- one more item
-abbrev pub add_item : Built → Item → Built
-add_item s (Memory id offset) = record s { memory = Some (id, offset); open_blocks = [] }
-add_item s (Trajectory id) = record s { trajectory = Some id; open_blocks = [] }
-add_item s (Ellipsoid r h) = record s { ellipsoid = Some (r, h); open_blocks = [] }
-add_item s (Stray mm) = record s { stray = Some mm; open_blocks = [] }
-add_item s (Late ms) = record s { late = Some ms; open_blocks = [] }
-add_item s (Drone d) = record s { drones = s.drones ++ d ∷ []; open_blocks = [] }
-add_item s (Formed f) = record s { formations = s.formations ++ f ∷ []; open_blocks = [] }
-add_item s (Figured f) = record s { figures = s.figures ++ f ∷ []; open_blocks = [] }
-add_item s (Blocks b) = add_block s [] b
-
+-- items, one after the other
 abbrev pub add_items : Built → List Item → Built
 add_items s [] = with_open s []
 add_items s (i ∷ is) = add_items (add_item s i) is
@@ -52,11 +40,11 @@ count (Some x) = 1
 
 -- each setting stands once at most, counting those that stood before
 pub record Single (s : Built) (is : List Item) : Type 0 where
-  pub memory : count s.memory + length (memories is) ≤ 1
-  pub trajectory : count s.trajectory + length (trajectories is) ≤ 1
-  pub ellipsoid : count s.ellipsoid + length (ellipsoids is) ≤ 1
-  pub stray : count s.stray + length (strays is) ≤ 1
-  pub late : count s.late + length (lates is) ≤ 1
+  pub memory : count s.memory + length (parts_of is).memories ≤ 1
+  pub trajectory : count s.trajectory + length (parts_of is).trajectories ≤ 1
+  pub ellipsoid : count s.ellipsoid + length (parts_of is).ellipsoids ≤ 1
+  pub stray : count s.stray + length (parts_of is).strays ≤ 1
+  pub late : count s.late + length (parts_of is).lates ≤ 1
 
 unset : {A : Type 0} (o : Option A) → count o ≡ 0 → fault_if (is_some o) kind.DoubleSetting ≡ None
 unset None h = refl
@@ -154,139 +142,29 @@ items_read (i ∷ is) s ls k n h =
     let others = items_read is (add_item s i) parts.back k.1 (single_later i s is n) parts.second in
     reads_list _ _ _ _ (sym parts.is) (reads_then _ _ _ parts.front parts.back (reads_to _ _ _ parts.front (item_open s i) one) others)
 
-drones_in : (is : List Item) (s : Built) → (add_items s is).drones ≡ s.drones ++ drones is
-drones_in [] s = sym (append-nil s.drones)
-drones_in (Memory id offset ∷ is) s = drones_in is (add_item s (Memory id offset))
-drones_in (Trajectory id ∷ is) s = drones_in is (add_item s (Trajectory id))
-drones_in (Ellipsoid r h ∷ is) s = drones_in is (add_item s (Ellipsoid r h))
-drones_in (Stray mm ∷ is) s = drones_in is (add_item s (Stray mm))
-drones_in (Late ms ∷ is) s = drones_in is (add_item s (Late ms))
-drones_in (Drone d ∷ is) s = drones_in is (add_item s (Drone d)) ∙ append_assoc s.drones (d ∷ []) (drones is)
-drones_in (Formed f ∷ is) s = drones_in is (add_item s (Formed f))
-drones_in (Figured f ∷ is) s = drones_in is (add_item s (Figured f))
-drones_in (Blocks b ∷ is) s = drones_in is (add_item s (Blocks b))
+unset_is : {A : Type 0} (o : Option A) → count o ≡ 0 → o ≡ None
+unset_is None h = refl
+unset_is (Some x) h = cc
 
-formations_in : (is : List Item) (s : Built) → (add_items s is).formations ≡ s.formations ++ formations is
-formations_in [] s = sym (append-nil s.formations)
-formations_in (Memory id offset ∷ is) s = formations_in is (add_item s (Memory id offset))
-formations_in (Trajectory id ∷ is) s = formations_in is (add_item s (Trajectory id))
-formations_in (Ellipsoid r h ∷ is) s = formations_in is (add_item s (Ellipsoid r h))
-formations_in (Stray mm ∷ is) s = formations_in is (add_item s (Stray mm))
-formations_in (Late ms ∷ is) s = formations_in is (add_item s (Late ms))
-formations_in (Drone d ∷ is) s = formations_in is (add_item s (Drone d))
-formations_in (Formed f ∷ is) s = formations_in is (add_item s (Formed f)) ∙ append_assoc s.formations (f ∷ []) (formations is)
-formations_in (Figured f ∷ is) s = formations_in is (add_item s (Figured f))
-formations_in (Blocks b ∷ is) s = formations_in is (add_item s (Blocks b))
+single_fresh : (i : Item) (s : Built) (is : List Item) → Single s (i ∷ is) → Fresh s i
+single_fresh (Memory id offset) s is n = unset_is s.memory (omega (arith, n.memory))
+single_fresh (Trajectory id) s is n = unset_is s.trajectory (omega (arith, n.trajectory))
+single_fresh (Ellipsoid r h) s is n = unset_is s.ellipsoid (omega (arith, n.ellipsoid))
+single_fresh (Stray mm) s is n = unset_is s.stray (omega (arith, n.stray))
+single_fresh (Late ms) s is n = unset_is s.late (omega (arith, n.late))
+single_fresh i s is n = tt
 
-figures_in : (is : List Item) (s : Built) → (add_items s is).figures ≡ s.figures ++ figures is
-figures_in [] s = sym (append-nil s.figures)
-figures_in (Memory id offset ∷ is) s = figures_in is (add_item s (Memory id offset))
-figures_in (Trajectory id ∷ is) s = figures_in is (add_item s (Trajectory id))
-figures_in (Ellipsoid r h ∷ is) s = figures_in is (add_item s (Ellipsoid r h))
-figures_in (Stray mm ∷ is) s = figures_in is (add_item s (Stray mm))
-figures_in (Late ms ∷ is) s = figures_in is (add_item s (Late ms))
-figures_in (Drone d ∷ is) s = figures_in is (add_item s (Drone d))
-figures_in (Formed f ∷ is) s = figures_in is (add_item s (Formed f))
-figures_in (Figured f ∷ is) s = figures_in is (add_item s (Figured f)) ∙ append_assoc s.figures (f ∷ []) (figures is)
-figures_in (Blocks b ∷ is) s = figures_in is (add_item s (Blocks b))
-
-body_in : (is : List Item) (s : Built) → (add_items s is).body ≡ s.body ⨾ body is
-body_in [] s = sym (body_done s.body)
-body_in (Memory id offset ∷ is) s = body_in is (add_item s (Memory id offset))
-body_in (Trajectory id ∷ is) s = body_in is (add_item s (Trajectory id))
-body_in (Ellipsoid r h ∷ is) s = body_in is (add_item s (Ellipsoid r h))
-body_in (Stray mm ∷ is) s = body_in is (add_item s (Stray mm))
-body_in (Late ms ∷ is) s = body_in is (add_item s (Late ms))
-body_in (Drone d ∷ is) s = body_in is (add_item s (Drone d))
-body_in (Formed f ∷ is) s = body_in is (add_item s (Formed f))
-body_in (Figured f ∷ is) s = body_in is (add_item s (Figured f))
-body_in (Blocks b ∷ is) s = body_in is (add_item s (Blocks b)) ∙ body_assoc s.body b (body is)
-
-abbrev value_or : {A : Type 0} → A → Option A → List A → A
-value_or d None xs = slice_index_or xs 0 d
-value_or d (Some x) xs = x
-
-value_end : {A : Type 0} (d : A) (o : Option A) → unwrap_or o d ≡ value_or d o []
-value_end d None = refl
-value_end d (Some x) = refl
-
-value_first : {A : Type 0} (d x : A) (o : Option A) (xs : List A) → count o + length (x ∷ xs) ≤ 1 → x ≡ value_or d o (x ∷ xs)
-value_first d x None xs h = refl
-value_first d x (Some y) xs h = absurd (omega arith)
-
-memory_in : (e : ℕ × ℕ) (is : List Item) (s : Built) → Single s is → unwrap_or (add_items s is).memory e ≡ value_or e s.memory (memories is)
-memory_in e [] s n = value_end e s.memory
-memory_in e (Memory id offset ∷ is) s n = memory_in e is (add_item s (Memory id offset)) (single_later (Memory id offset) s is n) ∙ value_first e (id, offset) s.memory (memories is) n.memory
-memory_in e (Trajectory id ∷ is) s n = memory_in e is (add_item s (Trajectory id)) (single_later (Trajectory id) s is n)
-memory_in e (Ellipsoid r h ∷ is) s n = memory_in e is (add_item s (Ellipsoid r h)) (single_later (Ellipsoid r h) s is n)
-memory_in e (Stray mm ∷ is) s n = memory_in e is (add_item s (Stray mm)) (single_later (Stray mm) s is n)
-memory_in e (Late ms ∷ is) s n = memory_in e is (add_item s (Late ms)) (single_later (Late ms) s is n)
-memory_in e (Drone d ∷ is) s n = memory_in e is (add_item s (Drone d)) (single_later (Drone d) s is n)
-memory_in e (Formed f ∷ is) s n = memory_in e is (add_item s (Formed f)) (single_later (Formed f) s is n)
-memory_in e (Figured f ∷ is) s n = memory_in e is (add_item s (Figured f)) (single_later (Figured f) s is n)
-memory_in e (Blocks b ∷ is) s n = memory_in e is (add_item s (Blocks b)) (single_later (Blocks b) s is n)
-
-trajectory_in : (e : ℕ) (is : List Item) (s : Built) → Single s is → unwrap_or (add_items s is).trajectory e ≡ value_or e s.trajectory (trajectories is)
-trajectory_in e [] s n = value_end e s.trajectory
-trajectory_in e (Memory id offset ∷ is) s n = trajectory_in e is (add_item s (Memory id offset)) (single_later (Memory id offset) s is n)
-trajectory_in e (Trajectory id ∷ is) s n = trajectory_in e is (add_item s (Trajectory id)) (single_later (Trajectory id) s is n) ∙ value_first e id s.trajectory (trajectories is) n.trajectory
-trajectory_in e (Ellipsoid r h ∷ is) s n = trajectory_in e is (add_item s (Ellipsoid r h)) (single_later (Ellipsoid r h) s is n)
-trajectory_in e (Stray mm ∷ is) s n = trajectory_in e is (add_item s (Stray mm)) (single_later (Stray mm) s is n)
-trajectory_in e (Late ms ∷ is) s n = trajectory_in e is (add_item s (Late ms)) (single_later (Late ms) s is n)
-trajectory_in e (Drone d ∷ is) s n = trajectory_in e is (add_item s (Drone d)) (single_later (Drone d) s is n)
-trajectory_in e (Formed f ∷ is) s n = trajectory_in e is (add_item s (Formed f)) (single_later (Formed f) s is n)
-trajectory_in e (Figured f ∷ is) s n = trajectory_in e is (add_item s (Figured f)) (single_later (Figured f) s is n)
-trajectory_in e (Blocks b ∷ is) s n = trajectory_in e is (add_item s (Blocks b)) (single_later (Blocks b) s is n)
-
-ellipsoid_in : (e : ℕ × ℕ) (is : List Item) (s : Built) → Single s is → unwrap_or (add_items s is).ellipsoid e ≡ value_or e s.ellipsoid (ellipsoids is)
-ellipsoid_in e [] s n = value_end e s.ellipsoid
-ellipsoid_in e (Memory id offset ∷ is) s n = ellipsoid_in e is (add_item s (Memory id offset)) (single_later (Memory id offset) s is n)
-ellipsoid_in e (Trajectory id ∷ is) s n = ellipsoid_in e is (add_item s (Trajectory id)) (single_later (Trajectory id) s is n)
-ellipsoid_in e (Stray mm ∷ is) s n = ellipsoid_in e is (add_item s (Stray mm)) (single_later (Stray mm) s is n)
-ellipsoid_in e (Late ms ∷ is) s n = ellipsoid_in e is (add_item s (Late ms)) (single_later (Late ms) s is n)
-ellipsoid_in e (Ellipsoid r h ∷ is) s n = ellipsoid_in e is (add_item s (Ellipsoid r h)) (single_later (Ellipsoid r h) s is n) ∙ value_first e (r, h) s.ellipsoid (ellipsoids is) n.ellipsoid
-ellipsoid_in e (Drone d ∷ is) s n = ellipsoid_in e is (add_item s (Drone d)) (single_later (Drone d) s is n)
-ellipsoid_in e (Formed f ∷ is) s n = ellipsoid_in e is (add_item s (Formed f)) (single_later (Formed f) s is n)
-ellipsoid_in e (Figured f ∷ is) s n = ellipsoid_in e is (add_item s (Figured f)) (single_later (Figured f) s is n)
-ellipsoid_in e (Blocks b ∷ is) s n = ellipsoid_in e is (add_item s (Blocks b)) (single_later (Blocks b) s is n)
-
-stray_in : (e : ℕ) (is : List Item) (s : Built) → Single s is → unwrap_or (add_items s is).stray e ≡ value_or e s.stray (strays is)
-stray_in e [] s n = value_end e s.stray
-stray_in e (Memory id offset ∷ is) s n = stray_in e is (add_item s (Memory id offset)) (single_later (Memory id offset) s is n)
-stray_in e (Trajectory id ∷ is) s n = stray_in e is (add_item s (Trajectory id)) (single_later (Trajectory id) s is n)
-stray_in e (Ellipsoid r h ∷ is) s n = stray_in e is (add_item s (Ellipsoid r h)) (single_later (Ellipsoid r h) s is n)
-stray_in e (Stray mm ∷ is) s n = stray_in e is (add_item s (Stray mm)) (single_later (Stray mm) s is n) ∙ value_first e mm s.stray (strays is) n.stray
-stray_in e (Late ms ∷ is) s n = stray_in e is (add_item s (Late ms)) (single_later (Late ms) s is n)
-stray_in e (Drone d ∷ is) s n = stray_in e is (add_item s (Drone d)) (single_later (Drone d) s is n)
-stray_in e (Formed f ∷ is) s n = stray_in e is (add_item s (Formed f)) (single_later (Formed f) s is n)
-stray_in e (Figured f ∷ is) s n = stray_in e is (add_item s (Figured f)) (single_later (Figured f) s is n)
-stray_in e (Blocks b ∷ is) s n = stray_in e is (add_item s (Blocks b)) (single_later (Blocks b) s is n)
-
-late_in : (e : ℕ) (is : List Item) (s : Built) → Single s is → unwrap_or (add_items s is).late e ≡ value_or e s.late (lates is)
-late_in e [] s n = value_end e s.late
-late_in e (Memory id offset ∷ is) s n = late_in e is (add_item s (Memory id offset)) (single_later (Memory id offset) s is n)
-late_in e (Trajectory id ∷ is) s n = late_in e is (add_item s (Trajectory id)) (single_later (Trajectory id) s is n)
-late_in e (Ellipsoid r h ∷ is) s n = late_in e is (add_item s (Ellipsoid r h)) (single_later (Ellipsoid r h) s is n)
-late_in e (Stray mm ∷ is) s n = late_in e is (add_item s (Stray mm)) (single_later (Stray mm) s is n)
-late_in e (Late ms ∷ is) s n = late_in e is (add_item s (Late ms)) (single_later (Late ms) s is n) ∙ value_first e ms s.late (lates is) n.late
-late_in e (Drone d ∷ is) s n = late_in e is (add_item s (Drone d)) (single_later (Drone d) s is n)
-late_in e (Formed f ∷ is) s n = late_in e is (add_item s (Formed f)) (single_later (Formed f) s is n)
-late_in e (Figured f ∷ is) s n = late_in e is (add_item s (Figured f)) (single_later (Figured f) s is n)
-late_in e (Blocks b ∷ is) s n = late_in e is (add_item s (Blocks b)) (single_later (Blocks b) s is n)
+-- what is read after some items is what all the items are
+items_in : (is done : List Item) (s : Built) → Single s is → parts_in s ≡ parts_of done → parts_in (add_items s is) ≡ parts_of (done ++ is)
+items_in [] done s n h = h ∙ ap parts_of (sym (append-nil done))
+items_in (i ∷ is) done s n h =
+    items_in is (done ++ i ∷ []) (add_item s i) (single_later i s is n)
+    (sym (item_in i s (single_fresh i s is n)) ∙ ap (λ p. with_last p i) h ∙ sym (parts_of-more done i))
+    ∙ ap parts_of (append_assoc done (i ∷ []) is)
 
 -- the show of the items
 pub items_show : (is : List Item) → Single nothing is → built_show (add_items nothing is) ≡ show_of (parts_of is)
-items_show is n =
-    let m = memory_in (2, 0) is nothing n in
-    let t = trajectory_in 0 is nothing n in
-    let e = ellipsoid_in (120, 300) is nothing n in
-    let x = stray_in 0 is nothing n in
-    let y = late_in 0 is nothing n in
-    let d = drones_in is nothing in
-    let f = formations_in is nothing in
-    let g = figures_in is nothing in
-    let b = body_in is nothing in
-    cc
+items_show is n = sym (show_in (add_items nothing is)) ∙ ap show_of (items_in is [] nothing n refl)
 
 items_closed : (is : List Item) (s : Built) → (add_items s is).open_blocks ≡ []
 items_closed [] s = refl

@@ -1,7 +1,7 @@
 -- What is read is what the text stands for.
-use Rattle.std.proofs.lemmas.List.Elements.{All-from_recursion}
 use Rattle.std.proofs.Common.{◌≡◌, ℕ, ◌+◌, ◌<◌, ◌≤◌, Bool, true, false, List, [], ◌∷◌, ◌++◌, length, map, Option, Some, None, Result, Ok, Err, refl, sym, ap, subst, ◌∙◌, arith, cond, append_assoc}
-use Rattle.std.specs.Prelude.{◌&&◌, ◌==◌, not, nat_le, is_some, option_to_list, unwrap_or, bytes_eq, codes, slice_index_or}
+use Rattle.std.proofs.lemmas.List.Elements.{All-from_recursion}
+use Rattle.std.specs.Prelude.{◌&&◌, ◌==◌, not, nat_le, is_some, bytes_eq, codes}
 use Rattle.std.proofs.lemmas.List.{append-nil, map-append}
 use Rattle.std.proofs.lemmas.Bool.{and_parts, eqb-true}
 use Rattle.std.proofs.lemmas.Bool.Decides.{nat_tests}
@@ -12,8 +12,8 @@ use Rattle.choreo_reader.specs.Text.{show_lines}
 use Rattle.choreo_show.specs.Plain as plain
 use Rattle.choreo_lines.specs.Name.{Name}
 use Rattle.choreo_show.specs.Plain.{Body, PlainFigure, PlainShow, has_block, ◌⨾◌}
-use Rattle.choreo_reader.specs.Grammar.{SaidLine, IsSaid, at, anywhere, act_said, body_said, Item, Memory, Trajectory, Ellipsoid, Stray, Late, Drone, Formed, Figured, Blocks, item_said, show_of, IsItem, StandsFor, parts_of}
-use Rattle.choreo_reader.proofs.Items.{closing, place_said, items_said, memories, trajectories, ellipsoids, strays, lates, drones, formations, figures, body, AreItems, AreSaid}
+use Rattle.choreo_reader.specs.Grammar.{SaidLine, IsSaid, at, anywhere, act_said, body_said, Item, Memory, Trajectory, Ellipsoid, Stray, Late, Drone, Formed, Figured, Blocks, item_said, show_of, IsItem, HasSingleSettings, StandsFor, parts_of}
+use Rattle.choreo_reader.proofs.Items.{closing, place_said, items_said, AreItems, AreSaid, add_item, Fresh, parts_in, show_in, single_in, item_in, with_last, parts_of-more}
 use Rattle.choreo_show.specs.Shape.{is_filled, depth, fits_figure, names_one}
 use Rattle.choreo_lines.specs.Says.{Says, may_say}
 use Rattle.choreo_reader.specs.Text.{Fault, fault_at, forbidden}
@@ -21,9 +21,7 @@ use Rattle.choreo_reader.specs.Context.{OpenRepeat, OpenCue, fault_if, is_header
 use Rattle.choreo_reader.specs.Reading.{Open, InFormation, InFigure, InRepeat, InCue, Built, Step, nothing, context_of, openings_of, is_any, add_block, build, built_by, unless, built_show, line_step, lines_step, then_step, finish, finish_with, read_lines, reading, unless_forbidden, entry_fault}
 use Rattle.choreo_lines.specs.Table.{Word, word}
 use Rattle.choreo_lines.specs.Fields.{entry_of}
-use Rattle.choreo_show.proofs.Blocks.{body_assoc, body_done}
 use Rattle.choreo_reader.proofs.Complete.{TakesBlocks, Kept, with_open, outer_figure, outer_repeats}
-use Rattle.choreo_reader.proofs.CompleteShow.{add_item}
 use Rattle.choreo_lines.proofs.Saying.{says_of}
 use Rattle.choreo_reader.proofs.Allowed.{none_clean}
 use Rattle.choreo_lines.specs.declared.line.Place.TheVariants as place
@@ -60,15 +58,7 @@ pub record Holds (s : Built) (done : List Line) : Type 0 where
   pub said : AreSaid done (items_said items ++ opens_said s.open_blocks)
   pub each : AreItems items
   pub order : InOrder s.open_blocks
-  pub memory : memories items ≡ option_to_list s.memory
-  pub trajectory : trajectories items ≡ option_to_list s.trajectory
-  pub ellipsoid : ellipsoids items ≡ option_to_list s.ellipsoid
-  pub stray : strays items ≡ option_to_list s.stray
-  pub late : lates items ≡ option_to_list s.late
-  pub drones_are : drones items ≡ s.drones
-  pub formations_are : formations items ≡ s.formations
-  pub figures_are : figures items ≡ s.figures
-  pub body_is : body items ≡ s.body
+  pub parts : parts_of items ≡ parts_in s
 
 snoc : (ls : List Line) (l : Line) (xs : List SaidLine) (x : SaidLine) → AreSaid ls xs → IsSaid l x → AreSaid (ls ++ l ∷ []) (xs ++ x ∷ [])
 snoc [] l [] x h i = (i, tt)
@@ -96,96 +86,6 @@ each-more : (is : List Item) (i : Item) → AreItems is → IsItem i → AreItem
 each-more [] i h k = (k, tt)
 each-more (j ∷ is) i h k = (h.0, each-more is i h.1 k)
 
-memories-more : (is : List Item) (i : Item) → memories (is ++ i ∷ []) ≡ memories is ++ memories (i ∷ [])
-memories-more [] i = refl
-memories-more (Memory id offset ∷ is) i = ap (λ xs. (id, offset) ∷ xs) (memories-more is i)
-memories-more (j ∷ is) i = memories-more is i
-
-trajectories-more : (is : List Item) (i : Item) → trajectories (is ++ i ∷ []) ≡ trajectories is ++ trajectories (i ∷ [])
-trajectories-more [] i = refl
-trajectories-more (Trajectory id ∷ is) i = ap (λ xs. id ∷ xs) (trajectories-more is i)
-trajectories-more (j ∷ is) i = trajectories-more is i
-
-ellipsoids-more : (is : List Item) (i : Item) → ellipsoids (is ++ i ∷ []) ≡ ellipsoids is ++ ellipsoids (i ∷ [])
-ellipsoids-more [] i = refl
-ellipsoids-more (Ellipsoid r h ∷ is) i = ap (λ xs. (r, h) ∷ xs) (ellipsoids-more is i)
-ellipsoids-more (j ∷ is) i = ellipsoids-more is i
-
-strays-more : (is : List Item) (i : Item) → strays (is ++ i ∷ []) ≡ strays is ++ strays (i ∷ [])
-strays-more [] i = refl
-strays-more (Stray mm ∷ is) i = ap (λ xs. mm ∷ xs) (strays-more is i)
-strays-more (j ∷ is) i = strays-more is i
-
-lates-more : (is : List Item) (i : Item) → lates (is ++ i ∷ []) ≡ lates is ++ lates (i ∷ [])
-lates-more [] i = refl
-lates-more (Late ms ∷ is) i = ap (λ xs. ms ∷ xs) (lates-more is i)
-lates-more (j ∷ is) i = lates-more is i
-
-drones-more : (is : List Item) (i : Item) → drones (is ++ i ∷ []) ≡ drones is ++ drones (i ∷ [])
-drones-more [] i = refl
-drones-more (Drone d ∷ is) i = ap (λ xs. d ∷ xs) (drones-more is i)
-drones-more (j ∷ is) i = drones-more is i
-
-formations-more : (is : List Item) (i : Item) → formations (is ++ i ∷ []) ≡ formations is ++ formations (i ∷ [])
-formations-more [] i = refl
-formations-more (Formed f ∷ is) i = ap (λ xs. f ∷ xs) (formations-more is i)
-formations-more (j ∷ is) i = formations-more is i
-
-figures-more : (is : List Item) (i : Item) → figures (is ++ i ∷ []) ≡ figures is ++ figures (i ∷ [])
-figures-more [] i = refl
-figures-more (Figured f ∷ is) i = ap (λ xs. f ∷ xs) (figures-more is i)
-figures-more (j ∷ is) i = figures-more is i
-
-body-more : (is : List Item) (i : Item) → body (is ++ i ∷ []) ≡ body is ⨾ body (i ∷ [])
-body-more [] i = refl
-body-more (Blocks b ∷ is) i = ap (λ c. b ⨾ c) (body-more is i) ∙ sym (body_assoc b (body is) (body (i ∷ [])))
-body-more (j ∷ is) i = body-more is i
-
--- no setting stands twice
-abbrev Fresh : Built → Item → Type 0
-Fresh s (Memory id offset) = s.memory ≡ None
-Fresh s (Trajectory id) = s.trajectory ≡ None
-Fresh s (Ellipsoid r h) = s.ellipsoid ≡ None
-Fresh s (Stray mm) = s.stray ≡ None
-Fresh s (Late ms) = s.late ≡ None
-Fresh s i = Unit {0}
-
-memories_after : (i : Item) (s : Built) (is : List Item) → Fresh s i → memories is ≡ option_to_list s.memory → memories (is ++ i ∷ []) ≡ option_to_list (add_item s i).memory
-memories_after (Memory id offset) s is f h = memories-more is (Memory id offset) ∙ ap (λ xs. xs ++ (id, offset) ∷ []) (h ∙ ap option_to_list f)
-memories_after i s is f h = memories-more is i ∙ append-nil (memories is) ∙ h
-
-trajectories_after : (i : Item) (s : Built) (is : List Item) → Fresh s i → trajectories is ≡ option_to_list s.trajectory → trajectories (is ++ i ∷ []) ≡ option_to_list (add_item s i).trajectory
-trajectories_after (Trajectory id) s is f h = trajectories-more is (Trajectory id) ∙ ap (λ xs. xs ++ id ∷ []) (h ∙ ap option_to_list f)
-trajectories_after i s is f h = trajectories-more is i ∙ append-nil (trajectories is) ∙ h
-
-ellipsoids_after : (i : Item) (s : Built) (is : List Item) → Fresh s i → ellipsoids is ≡ option_to_list s.ellipsoid → ellipsoids (is ++ i ∷ []) ≡ option_to_list (add_item s i).ellipsoid
-ellipsoids_after (Ellipsoid r x) s is f h = ellipsoids-more is (Ellipsoid r x) ∙ ap (λ xs. xs ++ (r, x) ∷ []) (h ∙ ap option_to_list f)
-ellipsoids_after i s is f h = ellipsoids-more is i ∙ append-nil (ellipsoids is) ∙ h
-
-strays_after : (i : Item) (s : Built) (is : List Item) → Fresh s i → strays is ≡ option_to_list s.stray → strays (is ++ i ∷ []) ≡ option_to_list (add_item s i).stray
-strays_after (Stray mm) s is f h = strays-more is (Stray mm) ∙ ap (λ xs. xs ++ mm ∷ []) (h ∙ ap option_to_list f)
-strays_after i s is f h = strays-more is i ∙ append-nil (strays is) ∙ h
-
-lates_after : (i : Item) (s : Built) (is : List Item) → Fresh s i → lates is ≡ option_to_list s.late → lates (is ++ i ∷ []) ≡ option_to_list (add_item s i).late
-lates_after (Late ms) s is f h = lates-more is (Late ms) ∙ ap (λ xs. xs ++ ms ∷ []) (h ∙ ap option_to_list f)
-lates_after i s is f h = lates-more is i ∙ append-nil (lates is) ∙ h
-
-drones_after : (i : Item) (s : Built) (is : List Item) → drones is ≡ s.drones → drones (is ++ i ∷ []) ≡ (add_item s i).drones
-drones_after (Drone d) s is h = drones-more is (Drone d) ∙ ap (λ xs. xs ++ d ∷ []) h
-drones_after i s is h = drones-more is i ∙ append-nil (drones is) ∙ h
-
-formations_after : (i : Item) (s : Built) (is : List Item) → formations is ≡ s.formations → formations (is ++ i ∷ []) ≡ (add_item s i).formations
-formations_after (Formed f) s is h = formations-more is (Formed f) ∙ ap (λ xs. xs ++ f ∷ []) h
-formations_after i s is h = formations-more is i ∙ append-nil (formations is) ∙ h
-
-figures_after : (i : Item) (s : Built) (is : List Item) → figures is ≡ s.figures → figures (is ++ i ∷ []) ≡ (add_item s i).figures
-figures_after (Figured f) s is h = figures-more is (Figured f) ∙ ap (λ xs. xs ++ f ∷ []) h
-figures_after i s is h = figures-more is i ∙ append-nil (figures is) ∙ h
-
-body_after : (i : Item) (s : Built) (is : List Item) → body is ≡ s.body → body (is ++ i ∷ []) ≡ (add_item s i).body
-body_after (Blocks b) s is h = body-more is (Blocks b) ∙ ap (λ c. body is ⨾ c) (body_done b) ∙ ap (λ c. c ⨾ b) h
-body_after i s is h = body-more is i ∙ body_done (body is) ∙ h
-
 none_open : (i : Item) (s : Built) → (add_item s i).open_blocks ≡ []
 none_open (Memory id offset) s = refl
 none_open i s = refl
@@ -200,21 +100,13 @@ item_holds i s os done ls h k f said =
       said = subst (λ xs. AreSaid (done ++ ls) xs) same said;
       each = each-more h.items i h.each k;
       order = subst InOrder (sym (none_open i s)) tt;
-      memory = memories_after i s h.items f h.memory;
-      trajectory = trajectories_after i s h.items f h.trajectory;
-      ellipsoid = ellipsoids_after i s h.items f h.ellipsoid;
-      stray = strays_after i s h.items f h.stray;
-      late = lates_after i s h.items f h.late;
-      drones_are = drones_after i s h.items h.drones_are;
-      formations_are = formations_after i s h.items h.formations_are;
-      figures_are = figures_after i s h.items h.figures_are;
-      body_is = body_after i s h.items h.body_is;
+      parts = parts_of-more h.items i ∙ ap (λ p. with_last p i) h.parts ∙ item_in i s f;
     }
 
 -- other open blocks, for more lines
 opens_hold : (s : Built) (os qs : List Open) (done ls : List Line) → (h : Holds (with_open s os) done) → AreSaid (done ++ ls) (items_said h.items ++ opens_said qs) → InOrder qs → Holds (with_open s qs) (done ++ ls)
 opens_hold s os qs done ls h said k =
-    record { items = h.items; said = said; each = h.each; order = k; memory = h.memory; trajectory = h.trajectory; ellipsoid = h.ellipsoid; stray = h.stray; late = h.late; drones_are = h.drones_are; formations_are = h.formations_are; figures_are = h.figures_are; body_is = h.body_is }
+    record { items = h.items; said = said; each = h.each; order = k; parts = h.parts }
 
 -- Bodies after bodies.
 
@@ -520,25 +412,7 @@ steps_hold [] done s t h e = let same : s ≡ t = cc in subst (λ xs. Holds t xs
 steps_hold (l ∷ ls) done s t h e = one_more (line_step s l) l ls done s t h refl e (λ u k q. steps_hold ls (done ++ l ∷ []) u t k q)
 
 pub at_start : Holds nothing []
-at_start = record { items = []; said = tt; each = tt; order = tt; memory = refl; trajectory = refl; ellipsoid = refl; stray = refl; late = refl; drones_are = refl; formations_are = refl; figures_are = refl; body_is = refl }
-
-one_set : {A : Type 0} (o : Option A) (xs : List A) → xs ≡ option_to_list o → length xs ≤ 1
-one_set None xs e = subst (λ ys. length ys ≤ 1) (sym e) (omega arith)
-one_set (Some x) xs e = subst (λ ys. length ys ≤ 1) (sym e) (omega arith)
-
-value_set : {A : Type 0} (d : A) (o : Option A) (xs : List A) → xs ≡ option_to_list o → slice_index_or xs 0 d ≡ unwrap_or o d
-value_set d None xs e = ap (λ ys. slice_index_or ys 0 d) e
-value_set d (Some x) xs e = ap (λ ys. slice_index_or ys 0 d) e
-
-shown : (s : Built) (done : List Line) (h : Holds s done) → show_of (parts_of h.items) ≡ built_show s
-shown s done h =
-    let m = value_set (2, 0) s.memory (memories h.items) h.memory in
-    let t = value_set 0 s.trajectory (trajectories h.items) h.trajectory in
-    let e = value_set (120, 300) s.ellipsoid (ellipsoids h.items) h.ellipsoid in
-    let x = value_set 0 s.stray (strays h.items) h.stray in
-    let y = value_set 0 s.late (lates h.items) h.late in
-    let d = h.drones_are in let f = h.formations_are in let g = h.figures_are in let b = h.body_is in
-    cc
+at_start = record { items = []; said = tt; each = tt; order = tt; parts = refl }
 
 -- the parts of a reading that gave a show
 record Read (lines : List Line) (show : PlainShow) : Type 0 where
@@ -607,6 +481,6 @@ sound text show h =
       first = header_words r.header r.first;
       said = subst (λ ss. AreSaid r.others ss) none k.said;
       each = All-from_recursion IsItem k.items k.each;
-      single = record { memory = one_set r.state.memory (memories k.items) k.memory; trajectory = one_set r.state.trajectory (trajectories k.items) k.trajectory; ellipsoid = one_set r.state.ellipsoid (ellipsoids k.items) k.ellipsoid; stray = one_set r.state.stray (strays k.items) k.stray; late = one_set r.state.late (lates k.items) k.late };
-      makes = shown r.state r.others k ∙ r.shows;
+      single = subst HasSingleSettings (sym k.parts) (single_in r.state);
+      makes = ap show_of k.parts ∙ show_in r.state ∙ r.shows;
     }

@@ -1,6 +1,6 @@
 -- A show that a text stands for is valid.
-use Rattle.std.proofs.lemmas.List.Elements.{recursion_from_All}
 use Rattle.std.proofs.Common.{◌≡◌, ℕ, ◌+◌, ◌<◌, ◌≤◌, Bool, true, false, cond, eqb-true, ne_eqb, List, [], ◌∷◌, ◌++◌, map, length, Option, Some, None, refl, sym, ap, subst, ◌∙◌, arith, append_assoc}
+use Rattle.std.proofs.lemmas.List.Elements.{recursion_from_All}
 use Rattle.std.specs.Prelude.{pos, nat_le, ◌≤ℤ◌, ◌==◌, ◌&&◌, slice_index_or, IfSome}
 use Rattle.std.proofs.lemmas.Bool.{and_parts, leb-true}
 use Rattle.std.proofs.lemmas.Int.{ints}
@@ -18,7 +18,7 @@ use Rattle.choreo_lines.specs.declared.table.Want.TheVariants as want
 use Rattle.choreo_lines.specs.declared.table.Value.TheVariants.{Name as Named}
 use Rattle.choreo_lines.specs.declared.table.ActWord.TheVariants as word_of
 use Rattle.choreo_reader.specs.Grammar.{SaidLine, act_said, body_said, Item, Memory, Trajectory, Ellipsoid, Stray, Late, Drone, Formed, Figured, Blocks, item_said, show_of, IsItem, StandsFor, parts_of}
-use Rattle.choreo_reader.proofs.Items.{closing, place_said, items_said, memories, trajectories, ellipsoids, strays, lates, drones, formations, figures, body, AreItems, AreSaid}
+use Rattle.choreo_reader.proofs.Items.{closing, place_said, items_said, drones, formations, figures, body, AreItems, AreSaid}
 use Rattle.choreo_show.specs.Shape.{is_filled, depth}
 use Rattle.choreo_show.specs.Valid.{IsName, AreNames, FitsPoint, FitsAct, FitsFrame, FitActLines, FitsBody, FitDroneLines, FitFormations, FitFigures, FitsSettings, act_lines, body_lines, drone_lines, formation_lines, figure_lines, AllAbove, times, all_lines, IsValid}
 use Rattle.choreo_reader.proofs.Sound.{filled_then, depth_then}
@@ -202,12 +202,12 @@ body_nested [] k = omega arith
 body_nested (Blocks b ∷ is) k = depth_then b (body is) 0 (omega (arith, k.0.1)) (body_nested is k.1)
 body_nested (i ∷ is) k = body_nested is k.1
 
-memory_fits : (is : List Item) → AllFit (items_said is) → (slice_index_or (memories is) 0 (2, 0)).1 ≤ 4095
+memory_fits : (is : List Item) → AllFit (items_said is) → (slice_index_or (parts_of is).memories 0 (2, 0)).1 ≤ 4095
 memory_fits [] h = omega arith
 memory_fits (Memory id offset ∷ is) h = h.0
 memory_fits (i ∷ is) h = memory_fits is (back_fits (item_said i) (items_said is) h)
 
-trajectory_fits : (is : List Item) → AllFit (items_said is) → slice_index_or (trajectories is) 0 0 ≤ 9
+trajectory_fits : (is : List Item) → AllFit (items_said is) → slice_index_or (parts_of is).trajectories 0 0 ≤ 9
 trajectory_fits [] h = omega arith
 trajectory_fits (Trajectory id ∷ is) h = h.0
 trajectory_fits (i ∷ is) h = trajectory_fits is (back_fits (item_said i) (items_said is) h)
@@ -215,17 +215,17 @@ trajectory_fits (i ∷ is) h = trajectory_fits is (back_fits (item_said i) (item
 abbrev FitsEllipsoid : (ℕ × ℕ) → Type 0
 FitsEllipsoid e = (1 ≤ e.0) × (e.0 ≤ 2000) × (1 ≤ e.1) × (e.1 ≤ 2000)
 
-ellipsoid_fits : (is : List Item) → AllFit (items_said is) → FitsEllipsoid (slice_index_or (ellipsoids is) 0 (120, 300))
+ellipsoid_fits : (is : List Item) → AllFit (items_said is) → FitsEllipsoid (slice_index_or (parts_of is).ellipsoids 0 (120, 300))
 ellipsoid_fits [] h = (omega arith, omega arith, omega arith, omega arith)
 ellipsoid_fits (Ellipsoid r x ∷ is) h = h.0
 ellipsoid_fits (i ∷ is) h = ellipsoid_fits is (back_fits (item_said i) (items_said is) h)
 
-stray_fits : (is : List Item) → AllFit (items_said is) → slice_index_or (strays is) 0 0 ≤ 1000
+stray_fits : (is : List Item) → AllFit (items_said is) → slice_index_or (parts_of is).strays 0 0 ≤ 1000
 stray_fits [] h = omega arith
 stray_fits (Stray mm ∷ is) h = h.0
 stray_fits (i ∷ is) h = stray_fits is (back_fits (item_said i) (items_said is) h)
 
-late_fits : (is : List Item) → AllFit (items_said is) → slice_index_or (lates is) 0 0 ≤ 1000
+late_fits : (is : List Item) → AllFit (items_said is) → slice_index_or (parts_of is).lates 0 0 ≤ 1000
 late_fits [] h = omega arith
 late_fits (Late ms ∷ is) h = h.0
 late_fits (i ∷ is) h = late_fits is (back_fits (item_said i) (items_said is) h)

@@ -68,7 +68,9 @@ item_said (Ellipsoid r h) = anywhere (entry.Ellipsoid r h) ∷ []
 item_said (Stray mm) = anywhere (entry.Stray mm) ∷ []
 item_said (Late ms) = anywhere (entry.Late ms) ∷ []
 item_said (Drone d) = at d.line (entry.Drone d.name d.at) ∷ []
-item_said (Formed f) = at f.line (entry.Formation f.name) ∷ (map (λ (d : DroneLine). at d.line (entry.At d.name d.at)) f.places ++ anywhere entry.End ∷ [])
+item_said (Formed f) =
+    at f.line (entry.Formation f.name)
+    ∷ (map (λ (d : DroneLine). at d.line (entry.At d.name d.at)) f.places ++ anywhere entry.End ∷ [])
 item_said (Figured f) = at f.line (entry.Figure f.name f.roles) ∷ (body_said f.body ++ anywhere entry.End ∷ [])
 item_said (Blocks b) = body_said b
 
@@ -87,7 +89,15 @@ pub record Parts : Type 0 where
 -- the parts of a show that has these items
 abbrev pub parts_of : List Item → Parts
 parts_of [] = record {
-  memories = []; trajectories = []; ellipsoids = []; strays = []; lates = []; drones = []; formations = []; figures = []; body = plain.Done;
+  memories = [];
+  trajectories = [];
+  ellipsoids = [];
+  strays = [];
+  lates = [];
+  drones = [];
+  formations = [];
+  figures = [];
+  body = plain.Done;
 }
 parts_of (Memory id offset ∷ is) = record (parts_of is) { memories = (id, offset) ∷ (parts_of is).memories }
 parts_of (Trajectory id ∷ is) = record (parts_of is) { trajectories = id ∷ (parts_of is).trajectories }
@@ -117,8 +127,8 @@ show_of p = record {
   body = p.body;
 }
 
--- what an item keeps to: no formation, figure or repeat is empty, no repeat stands inside eight others, and no perform or `form` in
--- a figure
+-- what an item keeps to: no formation, figure or repeat is empty, no repeat stands inside eight others, and a figure has no perform and
+-- no `form`
 abbrev pub IsItem : Item → Type 0
 IsItem (Formed f) = 1 ≤ length f.places
 IsItem (Figured f) =
@@ -134,8 +144,8 @@ pub record HasSingleSettings (p : Parts) : Type 0 where
   pub stray : length p.strays ≤ 1
   pub late : length p.lates ≤ 1
 
--- The text stands for the show: outside comments it has the bytes that a text may have, its lines with words are a header, the words
--- `choreo 1`, and then the lines of items, one item after the other, and these items make the show.
+-- The text stands for the show: there are items that make the show, and the text is a header, of the words `choreo 1`, and their lines.
+-- Outside comments it has no byte that may not stand there.
 pub record StandsFor (text : List ℕ) (show : PlainShow) : Type 0 where
   pub items : List Item
   pub header : Line

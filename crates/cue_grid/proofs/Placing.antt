@@ -135,7 +135,7 @@ job_by_act true a line fr later = refl
 job_by_act false a line fr later = refl
 
 job_by_way : (o : Option Point) (smooth : Bool) (line : ℕ) (fr : Frame) (later : Job) →
-    job_or (way_if smooth o) line fr later ≡ elim o [ | Some at ↦ job_by line fr (way_to smooth at) | None ↦ later ]
+    job_or (way_if smooth o) line fr later ≡ elim o [ Some at ↦ job_by line fr (way_to smooth at) | None ↦ later ]
 job_by_way None smooth line fr later = refl
 job_by_way (Some at) smooth line fr later = refl
 

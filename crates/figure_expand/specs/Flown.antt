@@ -21,8 +21,8 @@ start_of g d = slice_index_or (map (λ (s : DroneLine). s.at) g.starts) d (recor
 abbrev pub jobs_in : ℕ → List Cue → List Job
 jobs_in d cues = map (λ (cue : Cue). slice_index_or cue.jobs d no_job) cues
 
--- The written position of a drone on an axis at the part a / c of a cue: that of its job there, from the point at which the jobs of the
--- cues before it end, or from its start.
+-- The written position of a drone on an axis at the part a / c of a cue: by its job there, from where its earlier jobs end, or from its
+-- start.
 abbrev pub written_at : Grid → ℕ → ℕ → ℕ → ℕ → ℕ → ℤ
 written_at g d k axis a c =
     position (written_points (point_after (start_of g d) (take k (jobs_in d g.cues))) (act_of (slice_index_or (jobs_in d g.cues) k no_job)) axis) a c
