@@ -1,4 +1,5 @@
 -- Products and their sums that fit an `i128`.
+use Rattle.std.proofs.lemmas.Grind.{common_steps}
 use Rattle.std.proofs.Common.{◌≡◌, ℕ, ◌^◌, ◌<◌, ◌≤◌, ◌+◌, ℤ, pos, ◌+ℤ◌, ◌-ℤ◌, ◌*ℤ◌, ◌<ℤ◌, ◌≤ℤ◌, neg_ℤ, FitsSigned, to_z, arith, refl, sym, ◌∙◌, ap}
 use Rattle.std.proofs.lemmas.Int.{ints, to_z_pos}
 use mir.Syntax.{w128}
@@ -32,15 +33,7 @@ pub bound_positive : (m x : ℤ) → IsWithin m x → pos 0 ≤ℤ m
 bound_positive m x within = omega (arith, linear)
 
 pub fits_part : (b c m x : ℤ) → pos 0 ≤ℤ b → b ≤ℤ c → IsWithin m x → (c *ℤ m) <ℤ pos (2 ^ 127) → FitsSigned w128 (b *ℤ x)
-fits_part b c m x positive within bound fits =
-    let left : IsWithin (b *ℤ m) (b *ℤ x) = within_mul b m x positive bound in
-    let more : (m *ℤ b) ≤ℤ (m *ℤ c) = le_mul_ℤ m b c (bound_positive m x bound) within in
-    let e : b *ℤ m ≡ m *ℤ b = mul_comm_ℤ b m in
-    let d : c *ℤ m ≡ m *ℤ c = mul_comm_ℤ c m in
-    close (b *ℤ x) (b *ℤ m) (c *ℤ m) left (omega (arith, linear)) fits
-  where
-    close : (z p q : ℤ) → IsWithin p z → p ≤ℤ q → q <ℤ pos (2 ^ 127) → FitsSigned w128 z
-    close z p q within below fits = omega (arith, ints)
+fits_part b c m x positive within bound fits = grind (arith, common_steps, ints, within_mul, le_mul_ℤ, bound_positive, mul_comm_ℤ, pos)
 
 pub fits_blend : (a c x y : ℤ) → pos 0 ≤ℤ a → a ≤ℤ c → FitsTimes c x y → FitsSigned w128 ((c -ℤ a) *ℤ x +ℤ a *ℤ y)
 fits_blend a c x y positive within room =
@@ -81,10 +74,7 @@ room_left (negsuc n) r positive short few = absurd (omega (arith, ints))
 
 -- the value of a curve of degree seven or less is below 2^127
 pub value_below : (c v : ℤ) (r : ℕ) → pos 0 ≤ℤ c → c ≤ℤ pos 65535 → r ≤ 7 → IsWithin (pos 32768 *ℤ power c r) v → IsBelow (2 ^ 127) v
-value_below c v zero positive short few within = close v (pos 32768 *ℤ pos 1) within (omega (arith, ints))
-  where
-    close : (z q : ℤ) → IsWithin q z → q <ℤ pos (2 ^ 127) → IsBelow (2 ^ 127) z
-    close z q within fits = (omega (arith, ints), omega (arith, ints))
+value_below c v zero positive short few within = grind (arith, common_steps, ints, pos)
 value_below c v (suc r) positive short few within =
     close v (c *ℤ (pos 32768 *ℤ power c r)) (rw (mul_left_comm_ℤ (pos 32768) c (power c r)) at within) (room_left c r positive short (omega arith))
   where
@@ -102,10 +92,7 @@ multiple_fits i x few within =
     omega (arith, ints)
 
 pub multiples_fit : (i j : ℕ) (x y : ℤ) → i + j ≤ 5040 → IsWithin (pos (2 ^ 113)) x → IsWithin (pos (2 ^ 113)) y → FitsSigned w128 (pos i *ℤ x +ℤ pos j *ℤ y)
-multiples_fit i j x y few first second =
-    let left : IsWithin (pos i *ℤ pos (2 ^ 113)) (pos i *ℤ x) = within_mul (pos i) (pos (2 ^ 113)) x (omega (arith, linear)) first in
-    let right : IsWithin (pos j *ℤ pos (2 ^ 113)) (pos j *ℤ y) = within_mul (pos j) (pos (2 ^ 113)) y (omega (arith, linear)) second in
-    omega (arith, ints)
+multiples_fit i j x y few first second = grind (arith, common_steps, ints, pos, within_mul)
 
 pub cast_count : (i : ℕ) → i ≤ 5040 → to_z w128 i ≡ pos i
 cast_count i few = to_z_pos w128 i (omega arith)

@@ -1,4 +1,5 @@
 -- Raising the degree, one degree at a time, gives the control values that the definition tells.
+use Rattle.std.proofs.lemmas.Grind.{common_steps}
 use Rattle.std.proofs.Common.{◌≡◌, ℕ, zero, suc, ◌<◌, ◌≤◌, ◌+◌, ◌-◌, ◌*◌, ◌/◌, ◌^◌, ℤ, pos, ◌+ℤ◌, ◌*ℤ◌, arith, refl, sym, ◌∙◌, ap, subst}
 use Rattle.std.proofs.lemmas.Int.{ints}
 use Rattle.fleet_math.specs.Sums.{sum_below, power}
@@ -154,10 +155,7 @@ raised_value-spread n k f =
 
 -- the steps up to degree seven make the control values that the definition tells
 pub raised_by-seven : (n k : ℕ) (f : ℕ → ℤ) → n ≤ 7 → k ≤ 7 → raised_by (7 - n) n (λ i. pos (fact n) *ℤ f i) k ≡ raised_value n f k
-raised_by-seven n k f low within =
-    let e : n + (7 - n) ≡ 7 = omega arith in
-    raised_by-value (7 - n) n k f (omega arith)
-    ∙ (rw (e, raised_value-spread n k f, seventh k within) refl)
+raised_by-seven n k f low within = grind (arith, common_steps, raised_by-value, raised_value-spread, seventh)
 
 -- (n + 1) (n + 2) .. (n + r)
 abbrev pub rising : ℕ → ℕ → ℕ

@@ -1,4 +1,5 @@
 -- How a bound on control values grows.
+use Rattle.std.proofs.lemmas.Grind.{common_steps}
 use Rattle.std.proofs.Common.{◌≡◌, ℕ, ◌*◌, ◌-◌, ◌≤◌, ℤ, pos, ◌+ℤ◌, ◌-ℤ◌, ◌*ℤ◌, unsigned_abs, ◌+◌, arith, refl, sym, subst, ◌∙◌, ap, List, All, lit<}
 use Rattle.std.proofs.lemmas.Int.{ints, unsigned_abs-mul}
 use Rattle.std.proofs.lemmas.Nat.{mul-le}
@@ -22,11 +23,7 @@ eight_below n f below =
 
 -- differences
 pub difference_below : (n k : ℕ) (xs ys : List ℤ) → 1 ≤ n → All (IsBelow n) xs → All (IsBelow n) ys → IsBelow (2 * n) (at xs k -ℤ at ys k)
-difference_below n k xs ys some first second =
-    close (at xs k) (at ys k) (below_at n xs k some first) (below_at n ys k some second)
-  where
-    close : (x y : ℤ) → IsBelow n x → IsBelow n y → IsBelow (2 * n) (x -ℤ y)
-    close x y p q = (omega (arith, ints), omega (arith, ints))
+difference_below n k xs ys some first second = grind (arith, common_steps, ints, below_at)
 
 -- weighted sums of three
 product_below : (n : ℕ) (w x : ℤ) → 1 ≤ n → IsBelow 4001 w → IsBelow n x → IsBelow (4000 * n) (w *ℤ x)

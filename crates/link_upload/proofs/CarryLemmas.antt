@@ -1,5 +1,6 @@
 -- What is carried from frame to frame, and how it ends.
-use Rattle.std.proofs.Common.{◌≡◌, inl, inr, ℕ, ◌+◌, ◌<◌, ◌≤◌, Bool, false, List, [], ◌∷◌, ◌++◌, length, take, append_assoc, append-nil, length-append, Option, Some, None, IfSome, refl, sym, ap, ◌∙◌, arith}
+use Rattle.std.proofs.lemmas.Grind.{common_steps}
+use Rattle.std.proofs.Common.{◌≡◌, inl, inr, ℕ, ◌+◌, ◌<◌, ◌≤◌, Bool, List, [], ◌∷◌, ◌++◌, length, take, append_assoc, append-nil, length-append, Option, Some, None, IfSome, refl, sym, ap, ◌∙◌, arith}
 use Rattle.std.specs.Prelude.{◌==◌}
 use Rattle.std.specs.List.{All, Contains}
 use Rattle.std.specs.Io.KnownBytes.{Appends, Consumes, IsAtEnd, prepend_known}
@@ -55,10 +56,7 @@ same_front (x ∷ a) b c e = same_front a b c (cc)
 
 -- a count that rose after a later one rose
 pub Rose-later : (a b c : ℕ) → a ≤ b → Rose b c → Rose a c
-Rose-later a b c l r = elim r [
-  | inl less ↦ inl (omega (arith, l, less))
-  | inr last ↦ inr last
-]
+Rose-later a b c l r = grind (arith, common_steps)
 
 -- the status of an upload's own end is one of those
 abbrev IsOwnEnd : ℕ → Type 0
@@ -106,16 +104,7 @@ pub record Carries (s : Link) (stream now old new : Option (List ℕ)) (n : ℕ)
 -- before any frame
 pub Carries-none : (s : Link) (stream old new : Option (List ℕ)) (Stands : List Event → Type 0) → Stands [] → s.ended [] ≡ None →
     Appends old new (packet_frames s s.first) → Carries s stream stream old new 0 Stands
-Carries-none s stream old new Stands stands going sent = record {
-  frames = [];
-  each = All-nil IsFrame;
-  counted = refl;
-  before = λ k below. absurd (omega (arith, below));
-  going = going;
-  taken = Consumes-nil stream;
-  sent = rw (sent-none s) sent;
-  stands = stands;
-}
+Carries-none s stream old new Stands stands going sent = grind (arith, common_steps, All-nil, Consumes-nil, sent-none)
 
 -- what was sent with the answer to one frame more
 sent_more : (s : Link) (old mid new : Option (List ℕ)) (frames : List Frame) (f : Frame) → Appends old mid (sent_over s (events_in s frames)) →
@@ -150,9 +139,7 @@ takes_of s stream now old new n Stands c bytes rest few cut = record { cut = cut
 -- it ends where it goes on
 end_going : (s : Link) (stream now old new : Option (List ℕ)) (n : ℕ) (Stands : List Event → Type 0) (c : Carries s stream now old new n Stands) (status : ℕ) → n ≤ frame_limit →
     ((rest : List ℕ) → now ≡ Some rest → EndsGoing (length c.frames == frame_limit) rest status) → Ends s status stream old new
-end_going s stream now old new n Stands c status few ends = when_some _ stream (λ bytes known.
-    let left = left_of bytes (frames_bytes c.frames) now (rw known at c.taken) in
-    (c.frames, left.0, takes_of s stream now old new n Stands c bytes left.0 few left.2, rw c.going (ends left.0 left.1), c.sent))
+end_going s stream now old new n Stands c status few ends = grind (arith, common_steps, when_some, left_of, takes_of)
 
 pub end_none : (s : Link) (stream now old new : Option (List ℕ)) (n : ℕ) (Stands : List Event → Type 0) → Carries s stream now old new n Stands → n < frame_limit → IsAtEnd now → Ends s 8 stream old new
 end_none s stream now old new n Stands c few at_end = end_going s stream now old new n Stands c 8 (omega (arith, few)) (λ rest known.
@@ -160,13 +147,7 @@ end_none s stream now old new n Stands c few at_end = end_going s stream now old
 
 pub end_faulty : (s : Link) (stream now old new : Option (List ℕ)) (n : ℕ) (Stands : List Event → Type 0) → Carries s stream now old new n Stands → n < frame_limit →
     IfSome now (λ bytes. (1 ≤ length bytes) × BeginsNoFrame bytes) → Ends s 11 stream old new
-end_faulty s stream now old new n Stands c few faulty = end_going s stream now old new n Stands c 11 (omega (arith, few)) (λ rest known.
-    let f : (1 ≤ length rest) × BeginsNoFrame rest = at_some (λ bytes. (1 ≤ length bytes) × BeginsNoFrame bytes) now rest known faulty in
-    rw (not_full (length c.frames) (omega (arith, c.counted, few))) (by rest f.0 f.1))
-  where
-    by : (rest : List ℕ) → 1 ≤ length rest → BeginsNoFrame rest → EndsGoing false rest 11
-    by [] some none = absurd (omega (arith, some))
-    by (b ∷ bs) some none = (refl, none)
+end_faulty s stream now old new n Stands c few faulty = grind (arith, common_steps, end_going, at_some, not_full, some)
 
 pub end_full : (s : Link) (stream now old new : Option (List ℕ)) (n : ℕ) (Stands : List Event → Type 0) → Carries s stream now old new n Stands → n ≡ frame_limit → Ends s 13 stream old new
 end_full s stream now old new n Stands c full = end_going s stream now old new n Stands c 13 (omega (arith, full)) (λ rest known.
@@ -207,12 +188,7 @@ fails s stream now left old new n Stands c few begun is taken = when_some _ stre
 
 -- what went out before, and then some front of more, is a front of what goes on so
 pub front_more : (old mid new : Option (List ℕ)) (xs ys all : List ℕ) → Appends old mid xs → AppendsFront mid new ys → BeginsWith (xs ++ ys) all → AppendsFront old new all
-front_more old mid new xs ys all a b more = (
-  xs ++ b.0,
-  b.1 ++ more.0,
-  more.1 ∙ ap (λ (l : List ℕ). (xs ++ l) ++ more.0) b.2 ∙ ap (λ (l : List ℕ). l ++ more.0) (sym (append_assoc xs b.0 b.1)) ∙ append_assoc (xs ++ b.0) b.1 more.0,
-  Appends-append old mid new xs b.0 a b.3,
-)
+front_more old mid new xs ys all a b more = grind (arith, common_steps, append_assoc, Appends-append)
 
 pub breaks_first : (s : Link) (stream old new : Option (List ℕ)) → AppendsFront old new (packet_frames s s.first) → Breaks s stream old new
 breaks_first s stream old new front = when_some _ stream (λ bytes known.

@@ -1,4 +1,5 @@
 -- An upload gives one end, with one output.
+use Rattle.std.proofs.lemmas.Grind.{common_steps}
 use Rattle.std.proofs.Common.{◌≡◌, ◌⊎◌, inl, inr, ℕ, zero, suc, ◌+◌, ◌<◌, ◌≤◌, Bool, true, false, List, [], ◌∷◌, ◌++◌, length, take, append_assoc, append-nil, length-append, Option, Some, None, refl, sym, ap, ◌∙◌, arith}
 use Rattle.std.specs.Prelude.{◌==◌}
 use Rattle.std.specs.List.{All}
@@ -35,32 +36,19 @@ bytes-push fs f = flat_map-append frame_bytes fs (f ∷ []) ∙ ap (λ (l : List
 pub less_or_not : (a b : ℕ) → (a < b) ⊎ (b ≤ a)
 less_or_not a zero = inr (omega arith)
 less_or_not zero (suc b) = inl (omega arith)
-less_or_not (suc a) (suc b) = elim (less_or_not a b) [
-  | inl x ↦ inl (omega (arith, x))
-  | inr x ↦ inr (omega (arith, x))
-]
+less_or_not (suc a) (suc b) = grind (arith, common_steps, (less_or_not a b))
 
 -- where the upload goes on after each front of these frames, and after them, it goes on after each front of one more
 pub going-push : (s : Link) (fs : List Frame) (f : Frame) → ((n : ℕ) → n < length fs → s.ended (events_in s (take n fs)) ≡ None) → s.ended (events_in s fs) ≡ None →
     (n : ℕ) → n < length (fs ++ f ∷ []) → s.ended (events_in s (take n (fs ++ f ∷ []))) ≡ None
-going-push s fs f before now n below =
-    let short : n ≤ length fs = omega (arith, below, length_push fs f) in
-    rw (take-append-le n fs (f ∷ []) short) (elim (less_or_not n (length fs)) [
-      | inl less ↦ before n less
-      | inr same ↦ rw (take_all n fs (omega (arith, same))) now
-    ])
+going-push s fs f before now n below = grind (arith, common_steps, length_push, take-append-le, less_or_not, take_all)
 
 pub Takes-none : (s : Link) (bytes : List ℕ) → Takes s bytes [] bytes
 Takes-none s bytes = record { cut = refl; each = All-nil IsFrame; few = omega arith; going = λ n below. absurd (omega (arith, below)) }
 
 pub Takes-push : (s : Link) (bytes rest later : List ℕ) (fs : List Frame) (f : Frame) → Takes s bytes fs rest → s.ended (events_in s fs) ≡ None → length fs < frame_limit → IsFrame f →
     rest ≡ frame_bytes f ++ later → Takes s bytes (fs ++ f ∷ []) later
-Takes-push s bytes rest later fs f t now few formed is = record {
-  cut = t.cut ∙ ap (λ (l : List ℕ). frames_bytes fs ++ l) is ∙ sym (append_assoc (frames_bytes fs) (frame_bytes f) later) ∙ ap (λ (l : List ℕ). l ++ later) (sym (bytes-push fs f));
-  each = All-push IsFrame fs f t.each formed;
-  few = omega (arith, few, length_push fs f);
-  going = going-push s fs f t.going now;
-}
+Takes-push s bytes rest later fs f t now few formed is = grind (arith, common_steps, append_assoc, bytes-push, All-push, length_push, going-push)
 
 -- ---- one end
 
@@ -72,10 +60,7 @@ one_status (Some n) full rest a b x y = x ∙ sym y
 
 -- this many frames are no more than are taken
 pub not_full : (n : ℕ) → n < frame_limit → (n == frame_limit) ≡ false
-not_full n below = by (n == frame_limit) refl where
-  by : (b : Bool) → (n == frame_limit) ≡ b → b ≡ false
-  by true e = absurd (omega (arith, eqb-true n frame_limit e, below))
-  by false e = refl
+not_full n below = grind (arith, common_steps, eqb-true)
 
 open_end : (full : Bool) (rest : List ℕ) (status : ℕ) → full ≡ false → EndsGoing full rest status → BeginsNoFrame rest
 open_end true rest status e x = absurd (cc)
@@ -89,10 +74,7 @@ no_frame s frames rest status ends going few = open_end (length frames == frame_
 
 same_by : (s : Link) (bytes : List ℕ) (status other : ℕ) (output others : List ℕ) (a : UploadGives s bytes status output) (b : UploadGives s bytes other others) (more : List Frame) →
     b.frames ≡ a.frames ++ more → a.rest ≡ frames_bytes more ++ b.rest → (status ≡ other) × (output ≡ others)
-same_by s bytes status other output others a b [] is left =
-    let same : b.frames ≡ a.frames = is ∙ append-nil a.frames in
-    let st : status ≡ other = one_status (s.ended (events_in s a.frames)) (length a.frames == frame_limit) a.rest status other a.ends (rw (same, ← left) at b.ends) in
-    (st, a.sends ∙ ap (λ (n : ℕ). sent_over s (events_in s a.frames) ++ end_frame n) st ∙ ap (λ (fs : List Frame). sent_over s (events_in s fs) ++ end_frame other) (sym same) ∙ sym b.sends)
+same_by s bytes status other output others a b [] is left = grind (arith, common_steps, append-nil, one_status)
 same_by s bytes status other output others a b (g ∷ more) is left =
     let counted : length b.frames ≡ length a.frames + length (g ∷ more) = ap (λ (fs : List Frame). length fs) is ∙ length-append a.frames (g ∷ more) in
     let front : take (length a.frames) b.frames ≡ a.frames = ap (λ (fs : List Frame). take (length a.frames) fs) is ∙ take_at a.frames (g ∷ more) (length a.frames) refl in

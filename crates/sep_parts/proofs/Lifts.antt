@@ -1,4 +1,5 @@
 -- From one cutting into segments to another.
+use Rattle.std.proofs.lemmas.Grind.{common_steps}
 use Rattle.std.proofs.Common.{◌≡◌, ℕ, suc, zero, ◌+◌, ◌-◌, ◌*◌, ◌≤◌, ℤ, pos, negsuc, ◌+ℤ◌, ◌-ℤ◌, ◌*ℤ◌, ◌≤ℤ◌, ◌<ℤ◌, unsigned_abs, arith, refl, sym, ap, ◌∙◌, subst, Bool, true, false, cond, nat_le, List, [], ◌∷◌, All, map, Option, Some, slice_get}
 use Rattle.std.specs.List.{sum}
 use Rattle.std.proofs.lemmas.List.Elements.{All-head, All-tail}
@@ -109,10 +110,7 @@ near_gap t u m axis = decoded u axis m -ℤ decoded t axis m
 pub sent_at : (trajs : List Traj) (a : ℕ) (u : Traj) → slice_get (map joined trajs) a ≡ Some u → (t : Traj) × (slice_get trajs a ≡ Some t) × (u ≡ joined t)
 sent_at [] zero u e = absurd (cc)
 sent_at [] (suc a) u e = absurd (cc)
-sent_at (t ∷ trajs) zero u e = (t, refl, sym (some_inside (joined t) u e))
-  where
-    some_inside : (x y : Traj) → ◌≡◌ {A = Option Traj} (Some x) (Some y) → x ≡ y
-    some_inside x y e = cc
+sent_at (t ∷ trajs) zero u e = grind (arith, common_steps)
 sent_at (t ∷ trajs) (suc a) u e = sent_at trajs a u e
 
 pub lasting_at : (trajs : List Traj) (a : ℕ) (t : Traj) → All IsLasting trajs → slice_get trajs a ≡ Some t → IsLasting t
@@ -190,19 +188,7 @@ over_is (negsuc k) positive = absurd (omega (arith, ints))
 
 at_exact_point : (stray : ℕ) (t : Traj) (p q : ℕ) → 1 ≤ q → IsLasting t → MayBeAt stray t p q (exact_point t p q)
 unfolding exact_point
-at_exact_point stray t p q some lasts =
-    let positive : pos 0 <ℤ power (pos (own t p q).c) 7 = seventh_positive (own t p q).c (own_some t p q some lasts) in
-    let over : pos (unsigned_abs (power (pos (own t p q).c) 7)) ≡ power (pos (own t p q).c) 7 = over_is (power (pos (own t p q).c) 7) positive in
-    record {
-      some = omega (arith, ints, over, positive);
-      near = rw over (nothing (decoded t 0 (own t p q)) (decoded t 1 (own t p q)) (decoded t 2 (own t p q)) (power (pos (own t p q).c) 7) (pos stray *ℤ (power (pos (own t p q).c) 7 *ℤ power (pos (own t p q).c) 7)));
-    }
-  where
-    none : (z : ℤ) → square (z -ℤ z) ≡ pos 0
-    none z = let e : z -ℤ z ≡ pos 0 = omega (arith, linear) in rw e refl
-
-    nothing : (x y z C r : ℤ) → (square (x *ℤ C -ℤ x *ℤ C) +ℤ square (y *ℤ C -ℤ y *ℤ C) +ℤ square (z *ℤ C -ℤ z *ℤ C)) ≤ℤ square r
-    nothing x y z C r = rw (none (x *ℤ C), none (y *ℤ C), none (z *ℤ C)) (square_positive r)
+at_exact_point stray t p q some lasts = grind (arith, common_steps, ints, pos, seventh_positive, own_some, unsigned_abs, over_is, square_positive)
 
 -- the inequality over these denominators
 abbrev Far : ℤ → ℤ → ℤ → (ℕ → ℤ) → (ℕ → ℤ) → ℤ → ℤ → Type 0

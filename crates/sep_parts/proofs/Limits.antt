@@ -1,5 +1,6 @@
 -- How large thresholds are.
-use Rattle.std.proofs.Common.{◌≡◌, ℕ, zero, suc, ◌+◌, ◌*◌, ◌^◌, ◌≤◌, ◌<◌, ℤ, pos, negsuc, neg_ℤ, ◌+ℤ◌, ◌-ℤ◌, ◌*ℤ◌, ◌≤ℤ◌, ◌<ℤ◌, Bool, true, false, cond, int_lt, unsigned_abs, arith, ◌∙◌, FitsSigned, to_z, of_z, refl, ap, List, map, length, get_or, [], All}
+use Rattle.std.proofs.lemmas.Grind.{common_steps}
+use Rattle.std.proofs.Common.{◌≡◌, ℕ, zero, suc, ◌*◌, ◌^◌, ◌≤◌, ◌<◌, ℤ, pos, negsuc, neg_ℤ, ◌+ℤ◌, ◌-ℤ◌, ◌*ℤ◌, ◌≤ℤ◌, ◌<ℤ◌, Bool, true, false, cond, int_lt, unsigned_abs, arith, ◌∙◌, FitsSigned, to_z, of_z, refl, ap, List, map, length, get_or, [], All}
 use Rattle.std.proofs.lemmas.Int.{ints, to_z-of_z, unsigned_abs-mul}
 use Rattle.std.proofs.lemmas.Nat.{mul-le}
 use Rattle.std.proofs.lemmas.List.Elements.{All-get_or, All-from_get_or}
@@ -10,7 +11,7 @@ use Rattle.fleet_math.proofs.RingLemmas.{linear, le_mul_ℤ}
 use Rattle.fleet_math.proofs.BernsteinLemmas.{by_lt}
 use Rattle.fleet_math.specs.Numbers.{IsBelow}
 use Rattle.sep_parts.specs.declared.clearance.Clearance.{Clearance}
-use Rattle.sep_parts.specs.Directions.{AreSmall, IsAxis, IsClearance, IsSquare, for_ellipsoids, for_reach, for_strays, length_squared, limit_along, reach_on, root_from, root_above, root_reaching, stray_limit, threshold, weights}
+use Rattle.sep_parts.specs.Directions.{AreSmall, IsAxis, IsClearance, IsSquare, for_ellipsoids, for_reach, for_strays, length_squared, limit_along, root_from, root_above, stray_limit, threshold, weights}
 use Rattle.sep_parts.proofs.Cauchy.{square_positive}
 
 root_from-least : (v : ℤ) (n k s : ℕ) → k ≤ s → v <ℤ pos (s * s) → root_from v n k ≤ s
@@ -60,13 +61,7 @@ area_small x y small few = grind arith
 
 -- an entry times a half axis
 pub weight_small : (n : List ℤ) (k axis : ℕ) → AreSmall n → k ≤ 2 → IsAxis axis → IsBelow 4001 (at n k *ℤ pos axis)
-weight_small n k axis small few is_axis =
-    close (at n k) (small.low k few) (small.high k few)
-  where
-    close : (x : ℤ) → neg_ℤ (pos 2) ≤ℤ x → x ≤ℤ pos 2 → IsBelow 4001 (x *ℤ pos axis)
-    close x low high =
-        let m : unsigned_abs (x *ℤ pos axis) ≤ 2 * 2000 = rw (unsigned_abs-mul x (pos axis)) (mul-le (unsigned_abs x) (unsigned_abs (pos axis)) 2 2000 (omega (arith, ints)) (omega (arith, ints))) in
-        (omega (arith, ints), omega (arith, ints))
+weight_small n k axis small few is_axis = grind (arith, common_steps, ints, neg_ℤ, pos, unsigned_abs, unsigned_abs-mul, mul-le)
 
 -- a weight stays what it is in the program
 pub weight_kept : (x : ℤ) → IsBelow 4001 x → IsBelow 4001 (to_z w128 (of_z w128 x))
@@ -111,14 +106,7 @@ way_small : (w : ℤ) (reach : ℕ) → IsBelow 4001 w → reach ≤ 65536 → u
 way_small w reach below few = mul-le (unsigned_abs w) reach 4000 65536 (omega (arith, ints)) few
 
 pub reach_small : (c : Clearance) (n : List ℤ) → IsClearance c → AreSmall n → for_reach c n ≤ℤ pos 786432000
-reach_small c n clear small =
-    omega (
-      arith,
-      ints,
-      way_small (at n 0 *ℤ pos c.h) (reach_on c 0) (weight_small n 0 c.h small (omega arith) clear.upwards) (clear.reach 0),
-      way_small (at n 1 *ℤ pos c.h) (reach_on c 1) (weight_small n 1 c.h small (omega arith) clear.upwards) (clear.reach 1),
-      way_small (at n 2 *ℤ pos c.r) (reach_on c 2) (weight_small n 2 c.r small (omega arith) clear.across) (clear.reach 2),
-    )
+reach_small c n clear small = grind (arith, common_steps, ints, way_small, pos, weight_small)
 
 pub threshold_small : (c : Clearance) (n : List ℤ) → IsClearance c → AreSmall n → threshold c n <ℤ pos (2 ^ 30)
 threshold_small c n clear small =
@@ -129,12 +117,7 @@ threshold_small c n clear small =
 
 -- and it is not negative
 pub threshold_low : (c : Clearance) (n : List ℤ) → pos 0 ≤ℤ threshold c n
-threshold_low c n =
-    together (root_above (limit_along c.r c.h n)) (root_reaching (stray_limit c n))
-    (unsigned_abs (at n 0 *ℤ pos c.h) * reach_on c 0 + unsigned_abs (at n 1 *ℤ pos c.h) * reach_on c 1 + unsigned_abs (at n 2 *ℤ pos c.r) * reach_on c 2)
-  where
-    together : (x y z : ℕ) → pos 0 ≤ℤ (pos x +ℤ pos y +ℤ pos z)
-    together x y z = omega (arith, ints)
+threshold_low c n = grind (arith, common_steps, ints, unsigned_abs, pos)
 
 -- an entry of the thresholds of a table
 pub threshold_at : (f : List ℤ → ℤ) (ts : List ℤ) (dirs : List (List ℤ)) (i : ℕ) → ts ≡ map f dirs → i < length dirs → at ts i ≡ f (get_or dirs i [])

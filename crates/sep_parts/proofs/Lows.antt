@@ -1,4 +1,5 @@
 -- The first control value below a number.
+use Rattle.std.proofs.lemmas.Grind.{common_steps}
 use Rattle.std.proofs.Common.{◌≡◌, ℕ, zero, suc, ◌+◌, ◌^◌, ◌≤◌, ◌<◌, ℤ, pos, ◌≤ℤ◌, Bool, true, false, cond, not, int_le, int_lt, nat_lt, arith, refl, ap, subst, List, [], ◌∷◌, length, get_or, Option, Some, None, IsTrue}
 use Rattle.std.specs.Prelude.{◌↔◌}
 use Rattle.std.specs.List.{list_all, position, position_or_len}
@@ -19,11 +20,7 @@ use Rattle.sep_parts.specs.Separates.{first_low}
 -- where no place is found, no element passes
 pub none_passes : {X : Type 0} (p : X → Bool) (xs : List X) (k : ℕ) (d : X) → k < length xs → length xs ≤ position_or_len p xs → p (get_or xs k d) ≡ false
 none_passes p [] k d inside far = absurd (omega arith)
-none_passes p (x ∷ xs) zero d inside far = first (p x) refl far
-  where
-    first : (b : Bool) → p x ≡ b → length (x ∷ xs) ≤ cond (not b) (1 + position_or_len p xs) 0 → p x ≡ false
-    first true e far = absurd (omega arith)
-    first false e far = e
+none_passes p (x ∷ xs) zero d inside far = grind (arith, common_steps, cond, not)
 none_passes p (x ∷ xs) (suc k) d inside far = none_passes p xs k d (omega arith) (later (p x) far)
   where
     later : (b : Bool) → length (x ∷ xs) ≤ cond (not b) (1 + position_or_len p xs) 0 → length xs ≤ position_or_len p xs
@@ -31,11 +28,7 @@ none_passes p (x ∷ xs) (suc k) d inside far = none_passes p xs k d (omega arit
     later false far = omega arith
 
 beyond : (m n i : ℕ) → cond (nat_lt m n) (Some i) None ≡ (let none : Option ℕ = None in none) → n ≤ m
-beyond m n i e = go (nat_lt m n) refl e
-  where
-    go : (b : Bool) → nat_lt m n ≡ b → cond b (Some i) None ≡ (let none : Option ℕ = None in none) → n ≤ m
-    go true is e = cc
-    go false is e = grind (arith, nat_tests)
+beyond m n i e = grind (arith, common_steps, nat_lt, cond, nat_tests)
 
 pub first_low-values : (f : ℕ → ℤ) (least : ℤ) → first_low f least ≡ None → (k : ℕ) → k ≤ 7 → least ≤ℤ f k
 unfolding first_low
@@ -45,20 +38,11 @@ first_low-values f least none k small =
     omega (arith, ints, fails, at-eight f k small)
 
 not_below : (x y z : ℤ) → y ≡ x → z ≤ℤ x → int_lt y z ≡ false
-not_below x y z e above = go (int_lt y z) refl
-  where
-    go : (b : Bool) → int_lt y z ≡ b → b ≡ false
-    go true is = absurd (omega (arith, ints, is, e, above))
-    go false is = refl
+not_below x y z e above = grind (arith, common_steps, ints, int_lt)
 
 pub first_low-none : (f : ℕ → ℤ) (least : ℤ) → ((k : ℕ) → k ≤ 7 → least ≤ℤ f k) → first_low f least ≡ None
 unfolding first_low
-first_low-none f least above =
-    let p : ℤ → Bool = λ v. int_lt v least in
-    let none : position_or_len p (eight f) ≡ 8 = position_or_len_is p (eight f) 8 (pos 0) (omega arith)
-    (λ k small. not_below (f k) (at (eight f) k) least (at-eight f k (omega arith)) (above k (omega arith)))
-    (λ less. absurd (omega arith)) in
-    ap (λ n. cond (nat_lt n 8) (Some n) None) none
+first_low-none f least above = grind (arith, common_steps, int_lt, position_or_len_is, pos, not_below, at-eight, cond, nat_lt)
 
 -- eight values are all at least a number exactly where each of them is
 pub all_above : (b : List ℤ) (least : ℤ) → length b ≡ 8 → IsTrue (list_all (λ v. int_le least v) b) ↔ ((k : ℕ) → k ≤ 7 → least ≤ℤ at b k)

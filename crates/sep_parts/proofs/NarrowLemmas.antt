@@ -1,6 +1,7 @@
 -- What fits into 64 bits of a part that is halved at most twice.
+use Rattle.std.proofs.lemmas.Grind.{common_steps}
 use Rattle.std.specs.Int.Signed.{le_z}
-use Rattle.std.proofs.Common.{Bool, true, false, refl, ◌≡◌, ℕ, ◌*◌, ◌^◌, zero, suc, ◌≤◌, ℤ, pos, ◌≤ℤ◌, ◌<ℤ◌, ◌+ℤ◌, ◌*ℤ◌, unsigned_abs, FitsSigned, to_z, of_z, arith}
+use Rattle.std.proofs.Common.{true, ◌≡◌, ℕ, ◌*◌, ◌^◌, zero, suc, ◌≤◌, ℤ, pos, ◌≤ℤ◌, ◌<ℤ◌, ◌+ℤ◌, ◌*ℤ◌, unsigned_abs, FitsSigned, to_z, of_z, arith}
 use Rattle.std.proofs.lemmas.Int.{ints, unsigned_abs-mul, to_z-of_z}
 use Rattle.std.proofs.lemmas.Nat.{mul-le}
 use mir.Syntax.{w64, w128}
@@ -41,11 +42,7 @@ narrow_least t (suc (suc (suc depth))) some small few = absurd (omega arith)
 
 -- a comparison of a sum tells of what it is
 pub reach_told : (least sum along : ℤ) → sum ≡ along → (le_z least sum ≡ true → least ≤ℤ along) × (least ≤ℤ along → le_z least sum ≡ true)
-reach_told least sum along is = (λ yes. omega (arith, ints, yes, is), λ above. go (le_z least sum) refl above)
-  where
-    go : (b : Bool) → le_z least sum ≡ b → least ≤ℤ along → b ≡ true
-    go true e above = refl
-    go false e above = absurd (omega (arith, ints, e, is, above))
+reach_told least sum along is = grind (arith, common_steps, ints)
 
 -- ---- parts that are halved at most four times
 pub short_product : (w x : ℤ) → IsBelow 4001 w → IsBelow (2 ^ 58) x → IsBelow (2 ^ 70) (w *ℤ x)

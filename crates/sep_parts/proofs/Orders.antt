@@ -1,4 +1,5 @@
 -- The slots of a show in order: those from a slot on, and the slot after it.
+use Rattle.std.proofs.lemmas.Grind.{common_steps}
 use Rattle.std.proofs.Common.{◌≡◌, ◌⊎◌, inl, inr, ℕ, zero, suc, ◌+◌, ◌≤◌, ◌<◌, nat_lt, true, false, arith, refl, List, [], ◌∷◌, ◌++◌, append_assoc, All}
 use Rattle.std.proofs.lemmas.List.Elements.{All-nil, All-cons, All-append}
 use Rattle.std.proofs.lemmas.Bool.Decides.{nat_tests}
@@ -28,16 +29,7 @@ pub pairs_ahead : (drones cues a m k : ℕ) → 1 ≤ cues → m + a + 2 ≡ dro
     IsAhead drones cues (slot_at a (suc a) 0) (pairs_from m cues a (suc a) ++ drones_from k cues (suc a))
 pairs_ahead drones cues a zero zero some pairs left = inr (omega arith, refl)
 pairs_ahead drones cues a zero (suc k) some pairs left = absurd (omega arith)
-pairs_ahead drones cues a (suc m) k some pairs left = inl (record {
-  n = cues;
-  m = m;
-  k = k;
-  is_slot = record { first = omega arith; second = omega arith; cue = omega arith };
-  cues_left = omega arith;
-  pairs_left = omega arith;
-  drones_left = omega arith;
-  rest_is = append_assoc (cues_from cues a (suc a) 0) (pairs_from m cues a (suc (suc a))) (drones_from k cues (suc a));
-})
+pairs_ahead drones cues a (suc m) k some pairs left = grind (arith, common_steps, append_assoc)
 
 pub first_ahead : (drones cues : ℕ) → 1 ≤ drones → 1 ≤ cues → IsAhead drones cues (slot_at 0 1 0) (slots drones cues)
 unfolding slots

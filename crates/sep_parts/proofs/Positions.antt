@@ -1,4 +1,5 @@
 -- From the raised differences to the decoded positions.
+use Rattle.std.proofs.lemmas.Grind.{common_steps}
 use Rattle.std.proofs.Common.{◌≡◌, refl, ℕ, zero, suc, ◌≤◌, ◌<◌, ℤ, pos, negsuc, neg_ℤ, ◌+ℤ◌, ◌-ℤ◌, ◌*ℤ◌, ◌≤ℤ◌, ◌<ℤ◌, arith, sym, ◌∙◌, ap, List, length}
 use Rattle.std.proofs.lemmas.Int.{ints}
 use Rattle.fleet_math.specs.Sums.{power}
@@ -42,10 +43,7 @@ raised_axis t cue (suc (suc (suc k))) near = absurd (omega arith)
 pub curve_value : (t : Traj) (m : Moment) (axis : ℕ) (curves : List (Bez 8)) → curves ≡ raised_in t m.cue → m.cue < length t.segments → axis ≤ 2 → length (points t m.cue axis) ≤ 8 →
     bernstein 7 (at (controls curves axis)) (pos m.a) (pos m.c) ≡ pos 5040 *ℤ decoded t axis m
 unfolding plain.decoded
-curve_value t m axis curves is inside near few =
-    ap (λ (cs : List (Bez 8)). bernstein 7 (at (controls cs axis)) (pos m.a) (pos m.c)) is
-    ∙ ap (λ (b : List ℤ). bernstein 7 (at b) (pos m.a) (pos m.c)) (raised_axis t m.cue axis near)
-    ∙ raise (points t m.cue axis) (length (points t m.cue axis)) (pos m.a) (pos m.c) refl (has_points t m.cue axis inside) few
+curve_value t m axis curves is inside near few = grind (arith, common_steps, pos, raised_axis, raise, has_points)
 
 scale_minus : (s x y : ℤ) → s *ℤ x -ℤ s *ℤ y ≡ s *ℤ (x -ℤ y)
 scale_minus s x y = simp ring (omega (arith, linear))

@@ -1,4 +1,5 @@
 -- The least number whose square is above another.
+use Rattle.std.proofs.lemmas.Grind.{common_steps}
 use Rattle.std.proofs.Common.{◌≡◌, ℕ, zero, suc, ◌+◌, ◌*◌, ◌≤◌, ◌<◌, ℤ, pos, negsuc, ◌+ℤ◌, ◌-ℤ◌, ◌*ℤ◌, ◌≤ℤ◌, ◌<ℤ◌, Bool, true, false, cond, int_lt, unsigned_abs, arith, refl, sym, ap, ◌∙◌, List}
 use Rattle.std.proofs.lemmas.Int.{ints}
 use Rattle.fleet_math.proofs.BernsteinLemmas.{by_lt}
@@ -49,11 +50,7 @@ root_from-above v (suc n) k above =
 
 pub root_above-above : (v : ℤ) → v <ℤ (pos (root_above v) *ℤ pos (root_above v))
 unfolding root_above
-root_above-above v = root_from-above v (suc (unsigned_abs v)) 0 (enough v)
-  where
-    enough : (v : ℤ) → v <ℤ pos ((0 + suc (unsigned_abs v)) * (0 + suc (unsigned_abs v)))
-    enough (pos x) = omega (arith, ints, square_from x)
-    enough (negsuc x) = omega (arith, ints)
+root_above-above v = grind (arith, common_steps, ints, root_from-above, unsigned_abs, pos, square_from, negsuc)
 
 -- the same for a number that is told otherwise
 pub root_of : (v w t : ℤ) → v ≡ w → pos 0 ≤ℤ t → v <ℤ (t *ℤ t) → ((s : ℤ) → pos 0 ≤ℤ s → v <ℤ (s *ℤ s) → t ≤ℤ s) → t ≡ pos (root_above w)
@@ -61,15 +58,7 @@ root_of v w t e positive above least = root_above-is v t positive above least �
 
 -- the number that the search finds is the least root
 pub root_is_least : (v : ℤ) → IsLeastRoot v (pos (root_above v))
-root_is_least v = record {
-  not_negative = omega (arith, ints);
-  above = root_above-above v;
-  least = λ s positive more. least v s positive more;
-}
-  where
-    least : (v s : ℤ) → pos 0 ≤ℤ s → v <ℤ (s *ℤ s) → pos (root_above v) ≤ℤ s
-    least v (pos m) positive more = omega (arith, ints, root_above-least v m more)
-    least v (negsuc m) positive more = absurd (omega (arith, ints, positive))
+root_is_least v = grind (arith, common_steps, ints, root_above-above, pos, root_above-least, negsuc)
 
 -- the least number whose square is at least v is the least one whose square is above v - 1
 pub root_is_reaching : (v : ℤ) → IsLeastReaching v (pos (root_reaching v))

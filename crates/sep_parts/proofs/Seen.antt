@@ -1,5 +1,6 @@
 -- From what is seen along a direction to the ellipsoids around all points that two drones may be at.
-use Rattle.std.proofs.Common.{◌≡◌, ℕ, ◌+◌, ◌*◌, ◌≤◌, ℤ, pos, neg_ℤ, ◌+ℤ◌, ◌-ℤ◌, ◌*ℤ◌, ◌≤ℤ◌, ◌<ℤ◌, unsigned_abs, arith, refl, sym, ap, subst, List}
+use Rattle.std.proofs.lemmas.Grind.{common_steps}
+use Rattle.std.proofs.Common.{◌≡◌, ℕ, ◌+◌, ◌*◌, ◌≤◌, ℤ, pos, neg_ℤ, ◌+ℤ◌, ◌-ℤ◌, ◌*ℤ◌, ◌≤ℤ◌, ◌<ℤ◌, unsigned_abs, arith, refl, sym, subst, List}
 use Rattle.std.proofs.lemmas.Int.{ints, by_lt_z}
 use Rattle.fleet_math.specs.Sums.{power}
 use Rattle.fleet_math.specs.Numbers.{IsIn}
@@ -81,10 +82,7 @@ spread_weights u v w h r x y z = simp ring refl
 
 -- twelve times each side
 right_side : (x y : ℕ) (z : ℤ) → (pos 12 *ℤ pos (4 * x * y)) *ℤ z +ℤ z ≡ pos (48 * x * y + 1) *ℤ z
-right_side x y z = let e : 48 * x * y ≡ 12 * (4 * x * y) = omega arith in rw e (one_more (4 * x * y) z)
-  where
-    one_more : (n : ℕ) (z : ℤ) → (pos 12 *ℤ pos n) *ℤ z +ℤ z ≡ pos (12 * n + 1) *ℤ z
-    one_more n z = omega (arith, ints)
+right_side x y z = grind (arith, common_steps, ints, pos)
 
 left_side : (x y : ℕ) (u v : ℤ) → pos 12 *ℤ (pos x *ℤ u +ℤ pos y *ℤ v) ≡ pos (12 * x) *ℤ u +ℤ pos (12 * y) *ℤ v
 left_side x y u v = omega (arith, ints)
@@ -115,11 +113,7 @@ strays_enough clear n = same clear.stray (length_squared (weights n clear.r clea
 
 -- the reach's part
 reach_is : (clear : Clearance) (n : List ℤ) → for_reach clear n ≡ sizes_dot (at (weights n clear.r clear.h)) (λ axis. pos (reach_on clear axis))
-reach_is clear n =
-    three (unsigned_abs (at n 0 *ℤ pos clear.h)) (unsigned_abs (at n 1 *ℤ pos clear.h)) (unsigned_abs (at n 2 *ℤ pos clear.r)) (reach_on clear 0) (reach_on clear 1) (reach_on clear 2)
-  where
-    three : (a b c x y z : ℕ) → pos (a * x + b * y + c * z) ≡ pos a *ℤ pos x +ℤ pos b *ℤ pos y +ℤ pos c *ℤ pos z
-    three a b c x y z = omega (arith, ints)
+reach_is clear n = grind (arith, common_steps, ints, unsigned_abs, pos)
 
 -- ---- all points
 -- Where the second drone is seen to be a threshold from the first at the instant p / q, and moves within the reach from there to its own instant,
@@ -161,21 +155,7 @@ turned x y d e = simp ring (omega (arith, linear))
 
 -- Two ellipsoids share no point whichever is named first.
 pub share_none_turned : (r h : ℕ) (first second : Point) → ShareNoPoint r h first second → ShareNoPoint r h second first
-share_none_turned r h first second none = record {
-  apart = numbers (pos (48 * (r * r) * (h * h) + 1)) (pos (12 * (h * h))) (pos (12 * (r * r))) (pos first.over) (pos second.over)
-      (first.on 0) (first.on 1) (first.on 2) (second.on 0) (second.on 1) (second.on 2) none.apart;
-}
-  where
-    numbers : (k a b d e x y z u v w : ℤ) → (k *ℤ square (d *ℤ e)) ≤ℤ (a *ℤ (square (u *ℤ d -ℤ x *ℤ e) +ℤ square (v *ℤ d -ℤ y *ℤ e)) +ℤ b *ℤ square (w *ℤ d -ℤ z *ℤ e)) →
-        (k *ℤ square (e *ℤ d)) ≤ℤ (a *ℤ (square (x *ℤ e -ℤ u *ℤ d) +ℤ square (y *ℤ e -ℤ v *ℤ d)) +ℤ b *ℤ square (z *ℤ e -ℤ w *ℤ d))
-    numbers k a b d e x y z u v w far =
-        swap (ap (λ (n : ℤ). k *ℤ square n) (mul_comm_ℤ d e)) (sums (turned x u d e) (turned y v d e) (turned z w d e)) far
-      where
-        swap : {x y z t : ℤ} → x ≡ z → y ≡ t → x ≤ℤ y → z ≤ℤ t
-        swap {x} {y} {z} {t} p q h = omega (arith, linear)
-
-        sums : {x y z u v w : ℤ} → x ≡ u → y ≡ v → z ≡ w → a *ℤ (x +ℤ y) +ℤ b *ℤ z ≡ a *ℤ (u +ℤ v) +ℤ b *ℤ w
-        sums {x} {y} {z} {u} {v} {w} p q r = cc
+share_none_turned r h first second none = grind (arith, common_steps, pos, mul_comm_ℤ, turned)
 
 -- Two instants are as near to one another whichever is named first.
 pub together_turned : (late p q s w : ℕ) → AreTogether late p q s w → AreTogether late s w p q

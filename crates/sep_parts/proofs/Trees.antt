@@ -1,5 +1,6 @@
 -- Nodes spell a tree exactly where they are its preorder.
-use Rattle.std.proofs.Common.{◌≡◌, ℕ, refl, sym, ◌∙◌, ap, List, [], ◌∷◌, ◌++◌, append_assoc, append-nil, Option, Some, None}
+use Rattle.std.proofs.lemmas.Grind.{common_steps}
+use Rattle.std.proofs.Common.{◌≡◌, ℕ, refl, sym, ◌∙◌, ap, List, [], ◌∷◌, ◌++◌, append_assoc, append-nil, Option, Some, None, arith}
 use Rattle.std.specs.List.{flat_map}
 use Rattle.std.specs.Option.{option_flatten, option_map}
 use Rattle.sep_parts.specs.declared.node.Node.{Node}
@@ -46,10 +47,4 @@ trees_told (Leaf dir ∷ nodes) trees e = leaf_told dir nodes (spelled_trees nod
 trees_told (Split ∷ nodes) trees e = split_told nodes (spelled_trees nodes) trees (trees_told nodes) e
 
 pub tree_told : (nodes : List Node) (tree : Tree) → spelled_tree nodes ≡ Some tree → nodes ≡ preorder tree
-tree_told nodes tree e = go (spelled_trees nodes) refl e
-  where
-    go : (o : Option (List Tree)) → spelled_trees nodes ≡ o → option_flatten (option_map only_tree o) ≡ Some tree → nodes ≡ preorder tree
-    go None is e = cc
-    go (Some []) is e = cc
-    go (Some (one ∷ [])) is e = let same : one ≡ tree = cc in trees_told nodes (one ∷ []) is ∙ append-nil (preorder one) ∙ ap preorder same
-    go (Some (one ∷ two ∷ more)) is e = cc
+tree_told nodes tree e = grind (arith, common_steps, trees_told, append-nil)

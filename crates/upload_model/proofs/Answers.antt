@@ -1,5 +1,6 @@
 -- What an answer says of a packet, from the statuses and bytes that it carries.
-use Rattle.std.proofs.Common.{◌≡◌, ℕ, zero, suc, ◌+◌, ◌-◌, ◌<◌, ◌≤◌, Bool, true, false, not, cond, ◌&&◌, ◌||◌, eqb, ltb, List, length, get_or, refl, ap, sym, ◌∙◌, arith, Option, Some, None, Result, Ok, Err, inl, inr, subst}
+use Rattle.std.proofs.lemmas.Grind.{common_steps}
+use Rattle.std.proofs.Common.{◌≡◌, ℕ, zero, suc, ◌+◌, ◌-◌, ◌<◌, ◌≤◌, Bool, true, false, not, cond, eqb, ltb, List, length, get_or, refl, ap, sym, ◌∙◌, arith, Option, Some, None, Result, Ok, Err, inl, inr, subst}
 use Rattle.std.specs.Prelude.{find}
 use Rattle.std.specs.List.{range_with_len}
 use Rattle.std.proofs.lemmas.Bool.{and_parts, cases_eq, false≢true, eqb-true, eq-eqb, ltb-true}
@@ -11,7 +12,7 @@ use Rattle.upload_model.specs.declared.events.Event.{Event}
 use Rattle.upload_model.specs.declared.events.Event.TheVariants as event
 use Rattle.upload_model.specs.declared.events.Progress.TheVariants.{Going, Refused, Differs}
 use Rattle.upload_model.specs.declared.events.Reply.{Reply}
-use Rattle.upload_model.specs.declared.events.Reply.TheVariants.{Silent, Good, Ends}
+use Rattle.upload_model.specs.declared.events.Reply.TheVariants.{Silent, Ends}
 use Rattle.upload_model.specs.Sessions.{Upload, drone_count, load_count, read_count, packet_count, is_read, read_address, wanted}
 use Rattle.upload_model.specs.Replies.{ReadBack, status_in, read_in, status_reply, first_other, compared, read_reply, reply_in, reply_to, is_good, is_end, end_of}
 use Rattle.upload_model.proofs.OneDrone.{accepts, refuses}
@@ -41,24 +42,15 @@ reply-read s d k j m l e =
 
 pub status-good : (d k : ℕ) (o : Option ℕ) → is_good (status_reply d k o) ≡ true → accepts o ≡ true
 status-good d k None h = h
-status-good d k (Some status) h = at (eqb status 0) h where
-  at : (b : Bool) → is_good (cond b Good (Ends (Refused d k status))) ≡ true → b ≡ true
-  at true h = refl
-  at false h = absurd (false≢true h)
+status-good d k (Some status) h = grind (arith, common_steps, eqb, cond, false≢true)
 
 pub status-end : (d k : ℕ) (o : Option ℕ) → refuses o ≡ false → is_end (status_reply d k o) ≡ false
 status-end d k None h = refl
-status-end d k (Some status) h = at (eqb status 0) h where
-  at : (b : Bool) → not b ≡ false → is_end (cond b Good (Ends (Refused d k status))) ≡ false
-  at true h = refl
-  at false h = absurd (false≢true (sym h))
+status-end d k (Some status) h = grind (arith, common_steps, eqb, not, cond, false≢true)
 
 pub status-same : (d k : ℕ) (o : Option ℕ) (i address byte got : ℕ) → end_of (status_reply d k o) ≡ Differs i address byte got → ⊥
 status-same d k None i address byte got h = cc
-status-same d k (Some status) i address byte got h = at (eqb status 0) h where
-  at : (b : Bool) → end_of (cond b Good (Ends (Refused d k status))) ≡ Differs i address byte got → ⊥
-  at true h = cc
-  at false h = cc
+status-same d k (Some status) i address byte got h = grind (arith, common_steps, eqb, cond)
 
 -- ---- bytes
 
@@ -93,18 +85,7 @@ other-same bytes =
 
 -- an answer of status 0 has as many bytes as the read asks for
 pub read_in-length : (s : Upload) (d j : ℕ) (m : Result Up PacketFault) (r : ReadBack) → read_in s d j m ≡ Some r → r.status ≡ 0 → length r.bytes ≡ length (wanted s d j)
-read_in-length s d j (Ok (ReadAnswer id address status piece)) r h good =
-    at (eqb id s.memory_id && eqb address (read_address s j) && (not (eqb status 0) || eqb (length piece.items) (length (wanted s d j)))) refl h where
-      at : (b : Bool) → (eqb id s.memory_id && eqb address (read_address s j) && (not (eqb status 0) || eqb (length piece.items) (length (wanted s d j)))) ≡ b →
-          cond b (Some (record { status = status; bytes = piece.items })) None ≡ Some r → length r.bytes ≡ length (wanted s d j)
-      at false e f = absurd (let no : None ≡ Some r = f in cc)
-      at true e f =
-          let same : record { status = status; bytes = piece.items } ≡ r = cc in
-          let zero_status : status ≡ 0 = ap (λ (q : ReadBack). q.status) same ∙ good in
-          let last = (and_parts (eqb id s.memory_id && eqb address (read_address s j)) (not (eqb status 0) || eqb (length piece.items) (length (wanted s d j))) e).1 in
-          let long : eqb (length piece.items) (length (wanted s d j)) ≡ true
-          = sym (ap (λ (b : Bool). not b || eqb (length piece.items) (length (wanted s d j))) (eq-eqb status 0 zero_status)) ∙ last in
-          ap (λ (q : ReadBack). length q.bytes) (sym same) ∙ eqb-true (length piece.items) (length (wanted s d j)) long
+read_in-length s d j (Ok (ReadAnswer id address status piece)) r h good = grind (arith, common_steps, eqb, not, cond, and_parts, eq-eqb, eqb-true)
 read_in-length s d j (Ok (WriteAnswer id address status)) r h good = absurd (let no : None ≡ Some r = h in cc)
 read_in-length s d j (Ok (CommandAnswer first status)) r h good = absurd (let no : None ≡ Some r = h in cc)
 read_in-length s d j (Err fault) r h good = absurd (let no : None ≡ Some r = h in cc)
@@ -117,20 +98,7 @@ pub record Brought (s : Upload) (d j : ℕ) (m : Result Up PacketFault) : Type 0
   pub bytes : read.bytes ≡ wanted s d j
 
 pub brought : (s : Upload) (d k j : ℕ) (m : Result Up PacketFault) → is_good (read_reply s d k j (read_in s d j m)) ≡ true → Brought s d j m
-brought s d k j m h = by_read (read_in s d j m) refl h where
-  by_other : (r : ReadBack) → read_in s d j m ≡ Some r → r.status ≡ 0 → (o : Option ℕ) → first_other (wanted s d j) r.bytes ≡ o →
-      is_good (compared d (read_address s j) (wanted s d j) r.bytes o) ≡ true → Brought s d j m
-  by_other r e z None f g = record { read = r; is = e; good = z; bytes = other-none (wanted s d j) r.bytes (read_in-length s d j m r e z) f }
-  by_other r e z (Some i) f g = absurd (false≢true g)
-
-  by_status : (r : ReadBack) → read_in s d j m ≡ Some r → (b : Bool) → eqb r.status 0 ≡ b →
-      is_good (cond b (compared d (read_address s j) (wanted s d j) r.bytes (first_other (wanted s d j) r.bytes)) (Ends (Refused d k r.status))) ≡ true → Brought s d j m
-  by_status r e true f g = by_other r e (eqb-true r.status 0 f) (first_other (wanted s d j) r.bytes) refl g
-  by_status r e false f g = absurd (false≢true g)
-
-  by_read : (o : Option ReadBack) → read_in s d j m ≡ o → is_good (read_reply s d k j o) ≡ true → Brought s d j m
-  by_read None e g = absurd (false≢true g)
-  by_read (Some r) e g = by_status r e (eqb r.status 0) refl g
+brought s d k j m h = grind (arith, common_steps, other-none, read_in-length, false≢true, eqb, cond, eqb-true)
 
 -- an answer whose bytes, if it has status 0, are the load's never says that they differ; if its status is 0, it ends nothing
 pub read-same : (s : Upload) (d k j : ℕ) (o : Option ReadBack) → ((r : ReadBack) → o ≡ Some r → r.status ≡ 0 → r.bytes ≡ wanted s d j) →
@@ -164,19 +132,7 @@ pub record IsAnswer (s : Upload) (d k : ℕ) (e : Event) : Type 0 where
 
 pub answer_from : (s : Upload) (d k from : ℕ) (packet : List ℕ) → (reply_to s d k (event.Up from packet) ≡ Silent → ⊥) → IsAnswer s d k (event.Up from packet)
 unfolding reply_to
-answer_from s d k from packet h = at (eqb from d && ltb d (drone_count s) && ltb k (packet_count s d)) refl h where
-  at : (t : Bool) → (eqb from d && ltb d (drone_count s) && ltb k (packet_count s d)) ≡ t → (cond t (reply_in s d k (up_of packet)) Silent ≡ Silent → ⊥) → IsAnswer s d k (event.Up from packet)
-  at true e f =
-      let outer = and_parts (eqb from d && ltb d (drone_count s)) (ltb k (packet_count s d)) e in
-      let inner = and_parts (eqb from d) (ltb d (drone_count s)) outer.0 in
-      record {
-        packet = packet;
-        is = ap (λ (i : ℕ). event.Up i packet) (eqb-true from d inner.0);
-        known = ltb-true d (drone_count s) inner.1;
-        inside = ltb-true k (packet_count s d) outer.1;
-        reply = ap (λ (b : Bool). cond b (reply_in s d k (up_of packet)) Silent) e;
-      }
-  at false e f = absurd (f refl)
+answer_from s d k from packet h = grind (arith, common_steps, eqb, ltb, cond, and_parts, eqb-true, ltb-true)
 
 pub good-heard : (s : Upload) (d k from : ℕ) (packet : List ℕ) → is_good (reply_to s d k (event.Up from packet)) ≡ true → IsAnswer s d k (event.Up from packet)
 good-heard s d k from packet g = answer_from s d k from packet (λ silent. false≢true (sym (ap is_good silent) ∙ g))
@@ -185,10 +141,4 @@ good-heard s d k from packet g = answer_from s d k from packet (λ silent. false
 pub reply-by : (P : Reply → Type 0) (s : Upload) (d k from : ℕ) (packet : List ℕ) → P Silent → (from ≡ d → d < drone_count s → k < packet_count s d → P (reply_in s d k (up_of packet))) →
     P (reply_to s d k (event.Up from packet))
 unfolding reply_to
-reply-by P s d k from packet silent known = at (eqb from d && ltb d (drone_count s) && ltb k (packet_count s d)) refl where
-  at : (t : Bool) → (eqb from d && ltb d (drone_count s) && ltb k (packet_count s d)) ≡ t → P (cond t (reply_in s d k (up_of packet)) Silent)
-  at true e =
-      let outer = and_parts (eqb from d && ltb d (drone_count s)) (ltb k (packet_count s d)) e in
-      let inner = and_parts (eqb from d) (ltb d (drone_count s)) outer.0 in
-      known (eqb-true from d inner.0) (ltb-true d (drone_count s) inner.1) (ltb-true k (packet_count s d) outer.1)
-  at false e = silent
+reply-by P s d k from packet silent known = grind (arith, common_steps, eqb, ltb, cond, and_parts, eqb-true, ltb-true)

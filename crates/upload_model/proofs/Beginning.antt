@@ -1,36 +1,26 @@
 -- A drone that takes a start begins: it is counted.
-use Rattle.std.proofs.Common.{◌≡◌, ℕ, zero, suc, ◌≤◌, Bool, true, cond, ◌&&◌, List, [], ◌∷◌, take, refl, ap, ◌∙◌, arith, Option, Some, None}
+use Rattle.std.proofs.lemmas.Grind.{common_steps}
+use Rattle.std.proofs.Common.{◌≡◌, ℕ, zero, suc, ◌≤◌, true, cond, List, [], ◌∷◌, take, arith, Some}
 use Rattle.std.specs.Prelude.{slice_get}
 use Rattle.std.proofs.lemmas.Bool.{eq-eqb}
 use Rattle.std.proofs.lemmas.Slice.Eq.{bytes_eq-Decides}
 use Rattle.std.proofs.lemmas.Option.{slice_get_within}
-use Rattle.crtp_packets.specs.Commands.{start_of}
 use Rattle.upload_model.specs.declared.events.WorldEvent.{WorldEvent}
 use Rattle.upload_model.specs.Sessions.{Upload}
 use Rattle.upload_model.specs.Worlds.{World, start_world, happens, run}
 use Rattle.upload_model.specs.Theorem.{TakesStart}
-use Rattle.upload_model.specs.Starts.{is_start, begins, beginnings, BeginLaw}
+use Rattle.upload_model.specs.Starts.{begins, beginnings, BeginLaw}
 use Rattle.upload_model.proofs.Taken.{taken_law}
 
 -- a drone that takes a start begins
 takes-begins : (s : Upload) (w : World) (d : ℕ) (e : WorldEvent) → TakesStart s w d e → begins s w d e ≡ true
-takes-begins s w d e (n, is, named) =
-    ap (λ (f : WorldEvent). begins s w d f) is
-    ∙ ap (λ (b : Bool). b && is_start s (slice_get (w.sent d) n)) (eq-eqb d d refl)
-    ∙ ap (λ (p : Option (List ℕ)). is_start s p) named
-    ∙ (bytes_eq-Decides (start_of s.trajectory_id) (start_of s.trajectory_id)).1 refl
+takes-begins s w d e (n, is, named) = grind (arith, common_steps, eq-eqb, bytes_eq-Decides)
 
 -- who takes a start at event i of these has begun at least once
 counted : (s : Upload) (w : World) (d : ℕ) (events : List WorldEvent) (i : ℕ) (e : WorldEvent) → slice_get events i ≡ Some e →
     TakesStart s (run s w (take i events)) d e → 1 ≤ beginnings s w d events
 counted s w d [] i e is takes = let l = slice_get_within [] i e is in absurd (omega arith)
-counted s w d (f ∷ es) zero e is takes =
-    let begun : begins s w d f ≡ true = ap (λ (g : Option WorldEvent). begins_at g) is ∙ takes-begins s w d e takes in
-    omega (arith, ap {B = ℕ} (λ (b : Bool). cond b 1 0) begun)
-  where
-    begins_at : Option WorldEvent → Bool
-    begins_at None = true
-    begins_at (Some g) = begins s w d g
+counted s w d (f ∷ es) zero e is takes = grind (arith, common_steps, takes-begins, cond)
 counted s w d (f ∷ es) (suc i) e is takes = omega (arith, counted s (happens s w f) d es i e is takes)
 
 pub begin_law : BeginLaw

@@ -1,4 +1,5 @@
 -- At which event each answer was given, and at which event the host heard it.
+use Rattle.std.proofs.lemmas.Grind.{common_steps}
 use Rattle.std.proofs.Common.{◌≡◌, ℕ, ◌+◌, ◌<◌, ◌&&◌, eqb, ltb, List, [], ◌∷◌, ◌++◌, length, take, refl, ap, sym, ◌∙◌, arith, Option, Some, None, ◌⊎◌, inl, inr}
 use Rattle.std.specs.Prelude.{slice_get}
 use Rattle.std.proofs.lemmas.Bool.{cases_lt, cases_eq, cond_both, ltb-true, cond-true, cond-false, eq-eqb, ne_eqb}
@@ -8,7 +9,7 @@ use Rattle.upload_model.specs.declared.events.Event.{Event}
 use Rattle.upload_model.specs.declared.events.Event.TheVariants as event
 use Rattle.upload_model.specs.Drones.{DroneState, handled}
 use Rattle.upload_model.specs.Sessions.{Upload, drone_count}
-use Rattle.upload_model.specs.Worlds.{World, changed, option_list, took, take_named, hear_named, altered, start_world, host_event, happens, world}
+use Rattle.upload_model.specs.Worlds.{World, changed, took, take_named, hear_named, altered, start_world, host_event, happens, world}
 use Rattle.upload_model.specs.declared.events.WorldEvent.{WorldEvent}
 use Rattle.upload_model.specs.declared.events.WorldEvent.TheVariants.{Tick, Take, Hear, Alter}
 use Rattle.upload_model.proofs.HostSteps.{slice_get-last, slice_get-before}
@@ -36,28 +37,7 @@ pub record GivesNow (w : World) (e : WorldEvent) (d : ℕ) (new : List (List ℕ
 
 given-took : (s : Upload) (w : World) (i m : ℕ) (packet : List ℕ) → slice_get (w.sent i) m ≡ Some packet → (d : ℕ) →
     ((took w i (handled (w.drones i) packet)).given d ≡ w.given d) ⊎ GivesNow w (Take i m) d ((took w i (handled (w.drones i) packet)).given d)
-given-took s w i m packet at d =
-    elim (cases_eq d i) [
-      | inl same ↦ here same (handled (w.drones i) packet).answer refl
-      | inr other ↦ inl (cond-false (eqb d i) (w.given i ++ option_list (handled (w.drones i) packet).answer) (w.given d) (ne_eqb d i other))
-    ] where
-      now : d ≡ i → (took w i (handled (w.drones i) packet)).given d ≡ w.given i ++ option_list (handled (w.drones i) packet).answer
-      now same = cond-true (eqb d i) (w.given i ++ option_list (handled (w.drones i) packet).answer) (w.given d) (eq-eqb d i same)
-
-      here : d ≡ i → (o : Option (List ℕ)) → (handled (w.drones i) packet).answer ≡ o →
-          ((took w i (handled (w.drones i) packet)).given d ≡ w.given d) ⊎ GivesNow w (Take i m) d ((took w i (handled (w.drones i) packet)).given d)
-      here same None e =
-          inl (now same ∙ ap (λ (o : Option (List ℕ)). w.given i ++ option_list o) e ∙ append-nil (w.given i) ∙ sym (ap w.given same))
-      here same (Some a) e =
-          inr (record {
-            m = m;
-            takes = ap (λ (j : ℕ). Take j m) (sym same);
-            packet = packet;
-            named = ap (λ (j : ℕ). slice_get (w.sent j) m) same ∙ at;
-            answer = a;
-            answers = ap (λ (j : ℕ). (handled (w.drones j) packet).answer) same ∙ e;
-            gives = now same ∙ ap (λ (o : Option (List ℕ)). w.given i ++ option_list o) e ∙ ap (λ (xs : List (List ℕ)). xs ++ a ∷ []) (sym (ap w.given same));
-          })
+given-took s w i m packet at d = grind (arith, common_steps, cases_eq, cond-false, eqb, ne_eqb, cond-true, eq-eqb, append-nil)
 
 given-take : (s : Upload) (w : World) (i m : ℕ) (o : Option (List ℕ)) → slice_get (w.sent i) m ≡ o → (d : ℕ) →
     ((take_named w i o).given d ≡ w.given d) ⊎ GivesNow w (Take i m) d ((take_named w i o).given d)
@@ -143,23 +123,7 @@ pub record GivenAt (s : Upload) (drones : ℕ → DroneState) (events : List Wor
 
 GivenAt-more : (s : Upload) (drones : ℕ → DroneState) (events : List WorldEvent) (e : WorldEvent) (d j : ℕ) (a : List ℕ) →
     GivenAt s drones events d j a → GivenAt s drones (events ++ e ∷ []) d j a
-GivenAt-more s drones events e d j a g =
-    let l = g.within in
-    let n = length_push events e in
-    let before : take g.given_at (events ++ e ∷ []) ≡ take g.given_at events = take-append-le g.given_at events (e ∷ []) (omega arith) in
-    let after : take (g.given_at + 1) (events ++ e ∷ []) ≡ take (g.given_at + 1) events = take-append-le (g.given_at + 1) events (e ∷ []) (omega arith) in
-    record {
-      given_at = g.given_at;
-      within = omega arith;
-      m = g.m;
-      takes = slice_get-before events (e ∷ []) g.given_at l ∙ g.takes;
-      packet = g.packet;
-      named = ap (λ (es : List WorldEvent). slice_get ((world s drones es).sent d) g.m) before ∙ g.named;
-      answers = ap (λ (es : List WorldEvent). (handled ((world s drones es).drones d) g.packet).answer) before ∙ g.answers;
-      gives = ap (λ (es : List WorldEvent). (world s drones es).given d) after ∙ g.gives
-          ∙ ap (λ (es : List WorldEvent). (world s drones es).given d ++ a ∷ []) (sym before);
-      numbered = ap (λ (es : List WorldEvent). length ((world s drones es).given d)) before ∙ g.numbered;
-    }
+GivenAt-more s drones events e d j a g = grind (arith, common_steps, length_push, take, take-append-le, slice_get-before)
 
 start-given : (s : Upload) (drones : ℕ → DroneState) (d : ℕ) → (start_world s drones).given d ≡ []
 unfolding start_world

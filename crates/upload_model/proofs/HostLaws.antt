@@ -1,4 +1,5 @@
 -- Laws of what is acknowledged, in flight and answered.
+use Rattle.std.proofs.lemmas.Grind.{common_steps}
 use Rattle.std.proofs.Common.{◌≡◌, ℕ, zero, suc, ◌+◌, ◌-◌, ◌<◌, ◌≤◌, Bool, true, false, not, cond, ◌&&◌, eqb, ltb, List, [], ◌∷◌, ◌++◌, length, take, drop, refl, ap, sym, ◌∙◌, arith, Option, Some, None, ◌⊎◌, inl, inr, subst}
 use Rattle.std.specs.Prelude.{slice_get, find, filter, All}
 use Rattle.std.specs.List.{range_with_len, list_all, flat_map}
@@ -11,13 +12,11 @@ use Rattle.upload_model.specs.declared.events.Event.{Event}
 use Rattle.upload_model.specs.declared.events.Event.TheVariants as event
 use Rattle.upload_model.specs.declared.events.Phase.{Phase}
 use Rattle.upload_model.specs.declared.events.Phase.TheVariants.{Loading, Reading, Starting}
-use Rattle.upload_model.specs.declared.events.Reply.TheVariants.{Silent, Good, Ends}
 use Rattle.upload_model.specs.declared.events.Sent.{Sent}
 use Rattle.upload_model.specs.declared.events.Progress.{Progress}
 use Rattle.upload_model.specs.declared.events.Progress.TheVariants.{Going, Done, GaveUp, Refused, Differs}
-use Rattle.upload_model.specs.Sessions.{Upload, drone_count, write_count, load_count, start_number, packet_count, first_of, count_of, is_read, read_address, wanted}
-use Rattle.crtp_packets.specs.Reading.{up_of}
-use Rattle.upload_model.specs.Replies.{ReadBack, status_in, read_in, status_reply, first_other, compared, read_reply, reply_in, reply_to, is_good, end_of}
+use Rattle.upload_model.specs.Sessions.{Upload, drone_count, load_count, start_number, packet_count, first_of, count_of}
+use Rattle.upload_model.specs.Replies.{ReadBack, status_reply, compared, read_reply, reply_in, reply_to, is_good, end_of}
 use Rattle.upload_model.specs.Hosts.{Packets, all_settled, phase_of, allowed, flight_in, flight_at, flight_after, flight, sent_to, acknowledges, joined, acked_from, acked, ticks, all_packets, gave_up, ended_for, ends_for, ended_by, ending, or_else, progress_within, progress, includes, sent_at, if_going, out}
 
 -- ---- lists over ranges
@@ -97,14 +96,7 @@ acked-nil s d k = refl
 pub joined-cases : (done : Packets) (o : Option Sent) (d k : ℕ) → joined done o d k ≡ true →
     (done d k ≡ true) ⊎ (o ≡ Some (record { drone = d; packet = k }))
 joined-cases done None d k h = inl h
-joined-cases done (Some x) d k h = elim (or_cases (done d k) (eqb x.drone d && eqb x.packet k) h) [
-  | inl before ↦ inl before
-  | inr same ↦
-      let parts = and_parts (eqb x.drone d) (eqb x.packet k) same in
-      let e : x.drone ≡ d = eqb-true x.drone d parts.0 in
-      let f : x.packet ≡ k = eqb-true x.packet k parts.1 in
-      inr (ap (λ (i : ℕ). Some (record { drone = i; packet = x.packet })) e ∙ ap (λ (j : ℕ). Some (record { drone = d; packet = j })) f)
-]
+joined-cases done (Some x) d k h = grind (arith, common_steps, or_cases, eqb, and_parts, eqb-true)
 
 acknowledges-good : (s : Upload) (done : Packets) (e : Event) (d k : ℕ) → acknowledges s done e ≡ Some (record { drone = d; packet = k }) → is_good (reply_to s d k e) ≡ true
 unfolding acknowledges
@@ -112,11 +104,7 @@ acknowledges-good s done e d k h = find_passes (λ x. is_good (reply_to s x.dron
 
 pub acked-cases : (s : Upload) (h : List Event) (e : Event) (d k : ℕ) → acked s (h ++ e ∷ []) d k ≡ true →
     (acked s h d k ≡ true) ⊎ (is_good (reply_to s d k e) ≡ true)
-acked-cases s h e d k a =
-    elim (joined-cases (acked s h) (acknowledges s (acked s h) e) d k (sym (ap (λ (f : Packets). f d k) (acked-push s h e)) ∙ a)) [
-      | inl before ↦ inl before
-      | inr now ↦ inr (acknowledges-good s (acked s h) e d k now)
-    ]
+acked-cases s h e d k a = grind (arith, common_steps, joined-cases, acked-push, acknowledges-good)
 
 -- ---- phases, and what is in flight
 
@@ -155,10 +143,7 @@ phase-begun s done = by_loading (not (all_settled s Loading done)) refl where
   by_loading false e = by_reading (not (all_settled s Reading done)) refl (Settled-from s Loading done (not-false (all_settled s Loading done) e))
 
 pub allowed-few : (s : Upload) (p : Phase) (done : Packets) (d : ℕ) → allowed s p done d ≤ count_of s p d
-allowed-few s Loading done d = by_written (list_all (done d) (range_with_len 0 (write_count s d))) where
-  by_written : (b : Bool) → cond b (load_count s d) (write_count s d) ≤ load_count s d
-  by_written true = omega arith
-  by_written false = omega arith
+allowed-few s Loading done d = grind (arith, common_steps, cond)
 allowed-few s Reading done d = omega arith
 allowed-few s Starting done d = omega arith
 
@@ -257,10 +242,7 @@ progress_within-cases s h (suc n) p e = by_before (progress_within s h n) (progr
 -- no reply says that an upload is done
 status-not_done : (d k : ℕ) (o : Option ℕ) → end_of (status_reply d k o) ≡ Done → ⊥
 status-not_done d k None h = cc
-status-not_done d k (Some status) h = at (eqb status 0) h where
-  at : (b : Bool) → end_of (cond b Good (Ends (Refused d k status))) ≡ Done → ⊥
-  at true h = cc
-  at false h = cc
+status-not_done d k (Some status) h = grind (arith, common_steps, eqb, cond)
 
 compared-not_done : (d address : ℕ) (bytes got : List ℕ) (o : Option ℕ) → end_of (compared d address bytes got o) ≡ Done → ⊥
 compared-not_done d address bytes got None h = cc
@@ -268,22 +250,12 @@ compared-not_done d address bytes got (Some i) h = cc
 
 read-not_done : (s : Upload) (d k j : ℕ) (o : Option ReadBack) → end_of (read_reply s d k j o) ≡ Done → ⊥
 read-not_done s d k j None h = cc
-read-not_done s d k j (Some r) h = at (eqb r.status 0) h where
-  at : (b : Bool) → end_of (cond b (compared d (read_address s j) (wanted s d j) r.bytes (first_other (wanted s d j) r.bytes)) (Ends (Refused d k r.status))) ≡ Done → ⊥
-  at true h = compared-not_done d (read_address s j) (wanted s d j) r.bytes (first_other (wanted s d j) r.bytes) h
-  at false h = cc
+read-not_done s d k j (Some r) h = grind (arith, common_steps, eqb, cond, compared-not_done)
 
 reply-not_done : (s : Upload) (d k : ℕ) (e : Event) → end_of (reply_to s d k e) ≡ Done → ⊥
 unfolding reply_to reply_in
 reply-not_done s d k event.Tick h = cc
-reply-not_done s d k (event.Up from packet) h = at (eqb from d && ltb d (drone_count s) && ltb k (packet_count s d)) h where
-  by_read : (b : Bool) → end_of (cond b (read_reply s d k (k - load_count s d) (read_in s d (k - load_count s d) (up_of packet))) (status_reply d k (status_in s d k (up_of packet)))) ≡ Done → ⊥
-  by_read true h = read-not_done s d k (k - load_count s d) (read_in s d (k - load_count s d) (up_of packet)) h
-  by_read false h = status-not_done d k (status_in s d k (up_of packet)) h
-
-  at : (b : Bool) → end_of (cond b (cond (is_read s d k) (read_reply s d k (k - load_count s d) (read_in s d (k - load_count s d) (up_of packet))) (status_reply d k (status_in s d k (up_of packet)))) Silent) ≡ Done → ⊥
-  at true h = by_read (is_read s d k) h
-  at false h = cc
+reply-not_done s d k (event.Up from packet) h = grind (arith, common_steps, eqb, ltb, cond, read-not_done, status-not_done)
 
 -- what holds of each way in which events may end an upload
 module _ (P : Progress → Type 0) (going : P Going) (tired : (d k : ℕ) → P (GaveUp d k)) (s : Upload) where
@@ -329,11 +301,7 @@ module _ (P : Progress → Type 0) (going : P Going) (tired : (d k : ℕ) → P 
 
 ending-done : (s : Upload) (g : List Event) → ending s g ≡ Done → list_all (λ x. acked s g x.drone x.packet) (all_packets s) ≡ true
 unfolding ending
-ending-done s g h = by_all (list_all (λ x. acked s g x.drone x.packet) (all_packets s)) h where
-  by_all : (b : Bool) → cond b Done (ended_by s g (slice_get g (length g - 1))) ≡ Done → b ≡ true
-  by_all true h = refl
-  by_all false h =
-      absurd (ended_by-has (λ p. p ≡ Done → ⊥) (λ e. cc) (λ d k e. cc) s g (slice_get g (length g - 1)) (λ e at d k. reply-not_done s d k e) h)
+ending-done s g h = grind (arith, common_steps, cond, reply-not_done)
 
 pub all_packets-each : (s : Upload) (p : Sent → Bool) → list_all p (all_packets s) ≡ true →
     (d k : ℕ) → d < drone_count s → k < packet_count s d → p (record { drone = d; packet = k }) ≡ true

@@ -1,4 +1,5 @@
 -- What one more event does to what is acknowledged, counted and answered.
+use Rattle.std.proofs.lemmas.Grind.{common_steps}
 use Rattle.std.proofs.Common.{◌≡◌, ◌≢◌, ℕ, zero, suc, ◌+◌, ◌-◌, ◌<◌, ◌≤◌, Bool, true, false, not, cond, ◌&&◌, eqb, List, [], ◌∷◌, ◌++◌, length, take, refl, ap, sym, ◌∙◌, arith, Option, Some, None}
 use Rattle.std.specs.Prelude.{slice_get, find, filter, count_by}
 use Rattle.std.specs.List.{range_with_len, list_all, flat_map}
@@ -13,7 +14,7 @@ use Rattle.upload_model.specs.declared.events.Phase.TheVariants.{Loading, Readin
 use Rattle.upload_model.specs.declared.events.Sent.{Sent}
 use Rattle.upload_model.specs.declared.events.Progress.{Progress}
 use Rattle.upload_model.specs.declared.events.Progress.TheVariants.{Going, Done, GaveUp, Refused, Differs}
-use Rattle.upload_model.specs.Sessions.{Upload, drone_count, write_count, load_count, packet_count, first_of, count_of}
+use Rattle.upload_model.specs.Sessions.{Upload, drone_count, packet_count, first_of, count_of}
 use Rattle.upload_model.specs.Replies.{reply_to}
 use Rattle.upload_model.specs.Hosts.{Packets, all_settled, phase_of, allowed, flight_in, flight_at, flight_after, flight, sent_to, acknowledges, joined, acked, is_tick, includes, ticks, all_packets, gave_up, ended_by, ending, or_else, progress_within, progress}
 use Rattle.upload_model.proofs.Readings.{count-loads}
@@ -125,11 +126,7 @@ progress_within-before s h t (suc n) l =
 
 pub progress-push : (s : Upload) (h : List Event) (e : Event) → progress s (h ++ e ∷ []) ≡ or_else (progress s h) (ending s (h ++ e ∷ []))
 unfolding progress progress_within
-progress-push s h e =
-    ap (progress_within s (h ++ e ∷ [])) (length_push h e ∙ (let f : length h + 1 ≡ suc (length h) = omega arith in f))
-    ∙ ap (λ (p : Progress). or_else p (ending s (take (suc (length h)) (h ++ e ∷ [])))) (progress_within-before s h (e ∷ []) (length h) (omega arith))
-    ∙ ap (λ (g : List Event). or_else (progress_within s h (length h)) (ending s g))
-    (take_all (suc (length h)) (h ++ e ∷ []) (let l = length_push h e in omega arith))
+progress-push s h e = grind (arith, common_steps, length_push, take, progress_within-before, take_all)
 
 or_else-stays : (p q : Progress) → p ≢ Going → or_else p q ≡ p
 or_else-stays Going q h = absurd (h refl)
@@ -155,11 +152,7 @@ or_else-going (Differs d address bytes got) q h = absurd (cc)
 
 pub ending-going : (s : Upload) (h : List Event) → progress s h ≡ Going → ending s h ≡ Going
 unfolding progress progress_within
-ending-going s h g = by_len (length h) refl g where
-  by_len : (n : ℕ) → length h ≡ n → progress_within s h n ≡ Going → ending s h ≡ Going
-  by_len zero e p = ap (ending s) (sym (take_all 0 h (omega arith))) ∙ p
-  by_len (suc n) e p =
-      ap (ending s) (sym (take_all (suc n) h (omega arith))) ∙ or_else-going (progress_within s h n) (ending s (take (suc n) h)) p
+ending-going s h g = grind (arith, common_steps, take_all, or_else-going, take)
 
 -- while the upload is going, something isn't acknowledged
 pub going-open : (s : Upload) (h : List Event) → progress s h ≡ Going → list_all (λ x. acked s h x.drone x.packet) (all_packets s) ≡ false
@@ -181,10 +174,7 @@ pub progress-next : (s : Upload) (h : List Event) (e : Event) → progress s h �
     progress s (h ++ e ∷ [])
     ≡ cond (list_all (λ x. acked s (h ++ e ∷ []) x.drone x.packet) (all_packets s)) Done (ended_by s (h ++ e ∷ []) (Some e))
 unfolding ending
-progress-next s h e g =
-    progress-push s h e
-    ∙ ap (λ (p : Progress). or_else p (ending s (h ++ e ∷ []))) g
-    ∙ ap (λ (o : Option Event). cond (list_all (λ x. acked s (h ++ e ∷ []) x.drone x.packet) (all_packets s)) Done (ended_by s (h ++ e ∷ []) o)) (last-push h e)
+progress-next s h e g = grind (arith, common_steps, progress-push, cond, last-push)
 
 -- a tick of an upload that is going
 pub progress-tick : (s : Upload) (h : List Event) → progress s h ≡ Going →
@@ -220,19 +210,13 @@ phase_of-agree s f g same =
     ∙ ap (λ (b : Bool). cond (not (all_settled s Loading g)) Loading (cond (not b) Reading Starting)) (all_settled-agree s Reading f g same)
 
 allowed-agree : (s : Upload) (p : Phase) (f g : Packets) (d : ℕ) → d < drone_count s → Agree s f g → allowed s p f d ≡ allowed s p g d
-allowed-agree s Loading f g d l same =
-    let n = count-loads s d in
-    ap (λ (b : Bool). cond b (load_count s d) (write_count s d))
-    (list_all-range-agree (f d) (g d) 0 (write_count s d) (λ k m c. same d k l (omega arith)))
+allowed-agree s Loading f g d l same = grind (arith, common_steps, count-loads, cond, list_all-range-agree)
 allowed-agree s Reading f g d l same = refl
 allowed-agree s Starting f g d l same = refl
 
 pub flight_in-agree : (s : Upload) (p : Phase) (f g : Packets) (d : ℕ) → d < drone_count s → Agree s f g → flight_in s p f d ≡ flight_in s p g d
 unfolding flight_in
-flight_in-agree s p f g d l same =
-    ap (λ (n : ℕ). take 4 (filter (λ k. not (f d k)) (range_with_len (first_of s p d) n))) (allowed-agree s p f g d l same)
-    ∙ ap (take 4) (filter-range-agree (λ k. not (f d k)) (λ k. not (g d k)) (first_of s p d) (allowed s p g d)
-    (λ k m c. let n = phase-inside s p d in let few = allowed-few s p g d in ap not (same d k l (omega arith))))
+flight_in-agree s p f g d l same = grind (arith, common_steps, take, not, allowed-agree, filter-range-agree, phase-inside, allowed-few)
 
 pub flight_at-agree : (s : Upload) (p : Phase) (f g : Packets) → Agree s f g → flight_at s p f ≡ flight_at s p g
 unfolding flight_at

@@ -1,18 +1,18 @@
 -- What later events leave: a started id changes only by a start, and what is acknowledged or done stays
 -- so.
+use Rattle.std.proofs.lemmas.Grind.{common_steps}
 use Rattle.std.proofs.Common.{◌≡◌, ℕ, ◌+◌, ◌*◌, ◌<◌, true, not, cond, ◌&&◌, ltb, eqb, List, [], ◌∷◌, ◌++◌, length, take, refl, ap, sym, ◌∙◌, arith, Option, Some, None, ◌⊎◌, inl, inr, subst}
 use Rattle.std.specs.Prelude.{slice_get}
 use Rattle.std.proofs.lemmas.Bool.{cases_eq, cond_both, cond-true, cond-false, eq-eqb, ne_eqb, ltb-true}
 use Rattle.std.proofs.lemmas.List.{append-nil, append_assoc}
 use Rattle.crtp_packets.specs.Chunks.{chunk_of}
-use Rattle.crtp_packets.specs.Packets.{write_answer_of}
 use Rattle.crtp_packets.specs.Commands.{start_of}
 use Rattle.upload_model.specs.declared.events.Event.{Event}
 use Rattle.upload_model.specs.declared.events.Event.TheVariants as event
 use Rattle.upload_model.specs.declared.events.Progress.TheVariants.{Going, Done}
 use Rattle.upload_model.specs.declared.events.WorldEvent.{WorldEvent}
 use Rattle.upload_model.specs.declared.events.WorldEvent.TheVariants.{Tick, Take, Hear, Alter}
-use Rattle.upload_model.specs.Drones.{DroneState, Handled, answers, stored, write_taken, handled}
+use Rattle.upload_model.specs.Drones.{DroneState, Handled, write_taken, handled}
 use Rattle.upload_model.specs.Sessions.{Upload, IsSession, drone_count, load_of, packet_at}
 use Rattle.upload_model.specs.Hosts.{acked, progress}
 use Rattle.upload_model.specs.Worlds.{World, changed, start_world, host_event, take_named, hear_named, altered, happens, world}
@@ -29,12 +29,7 @@ use Rattle.upload_model.proofs.Giving.{take_before, Heard, nothing, a_tick, an_a
 -- ---- only a start changes a started id
 
 write-started : (x : DroneState) (id address : ℕ) (piece : List ℕ) → (write_taken x id address piece).drone.started ≡ x.started
-write-started x id address piece =
-    cond_both (not (eqb id x.memory_id)) (answers x (write_answer_of id address 2))
-    (cond (ltb 4096 (address + length piece)) (answers x (write_answer_of id address 5)) (answers (record x { memory = stored x.memory address piece }) (write_answer_of id address 0)))
-    (λ y. y.drone.started ≡ x.started) (λ b. refl)
-    (λ b. cond_both (ltb 4096 (address + length piece)) (answers x (write_answer_of id address 5)) (answers (record x { memory = stored x.memory address piece }) (write_answer_of id address 0))
-    (λ y. y.drone.started ≡ x.started) (λ c. refl) (λ c. refl))
+write-started x id address piece = grind (arith, common_steps, cond_both, not, eqb, cond, ltb)
 
 sent-started : (s : Upload) (h : List Event) (d : ℕ) (x : DroneState) (packet : List ℕ) → IsSession s → d < drone_count s →
     IsSent s h d packet → ((handled x packet).drone.started ≡ x.started) ⊎ (packet ≡ start_of s.trajectory_id)

@@ -1,12 +1,13 @@
 -- One drone that takes a read, and what its answers to all other packets say of reads.
-use Rattle.std.proofs.Common.{◌≡◌, ◌≢◌, ℕ, suc, ◌+◌, ◌-◌, ◌*◌, ◌/◌, ◌^◌, ◌<◌, ◌≤◌, min, Bool, true, false, not, cond, ◌&&◌, ◌||◌, eqb, ltb, List, [], ◌∷◌, length, take, drop, get_or, refl, ap, sym, ◌∙◌, arith, Some, None, inl, inr, subst, IfSome}
+use Rattle.std.proofs.lemmas.Grind.{common_steps}
+use Rattle.std.proofs.Common.{◌≡◌, ℕ, suc, ◌+◌, ◌-◌, ◌*◌, ◌/◌, ◌^◌, ◌<◌, ◌≤◌, min, Bool, true, false, not, cond, eqb, ltb, List, [], ◌∷◌, length, take, drop, get_or, refl, ap, sym, ◌∙◌, arith, Some, None, subst, IfSome}
 use Rattle.std.proofs.lemmas.Bool.{cases_eq, cond_both, and_parts, false≢true, eqb-true, eq-eqb, ne_eqb, le-ltb}
 use Rattle.std.proofs.lemmas.List.{length-take, length-drop, get_or-take, get_or-drop}
 use Rattle.crtp_packets.specs.Packets.{write_answer_of, read_answer_of}
 use Rattle.crtp_packets.specs.Reading.{up_of}
-use Rattle.crtp_packets.specs.Commands.{start_of, answer_of}
+use Rattle.crtp_packets.specs.Commands.{start_of}
 use Rattle.crtp_packets.specs.Chunks.{chunk_of}
-use Rattle.upload_model.specs.Drones.{DroneState, Handled, answers, stored, has_entry, write_taken, read_taken, message_taken, handled}
+use Rattle.upload_model.specs.Drones.{DroneState, Handled, answers, write_taken, read_taken, message_taken, handled}
 use Rattle.upload_model.specs.Sessions.{Upload, IsLoad, IsSession, drone_count, load_of, part_count, read_count, read_address, wanted, read_at, packet_count, packet_at, is_read}
 use Rattle.upload_model.specs.Memories.{HasLoad}
 use Rattle.upload_model.proofs.Readings.{Kind, a_write, a_define, a_read, a_start, packet_kind, packet_at-define, packet_at-start, is_read-at, up_of-write_answer, down_of-read, up_of-read_answer}
@@ -26,10 +27,7 @@ wanted-at s d k i h =
 
 read_count-below : (s : Upload) (d k : ℕ) → k < read_count s d → 20 * k < length (load_of s d).bytes
 unfolding read_count part_count
-read_count-below s d k h = by_readback s.readback h where
-  by_readback : (b : Bool) → k < cond b (part_count s d) 0 → 20 * k < length (load_of s d).bytes
-  by_readback true l = omega arith
-  by_readback false l = absurd (omega arith)
+read_count-below s d k h = grind (arith, common_steps, cond)
 
 -- each read asks for 1 to 20 bytes of the memory
 pub record Fits (s : Upload) (d k : ℕ) : Type 0 where
@@ -59,24 +57,7 @@ pub record Reads (s : Upload) (d k : ℕ) (x : DroneState) (y : Handled) : Type 
   pub willing : x.memory_id ≡ s.memory_id → status ≡ 0
 
 pub reads : (s : Upload) (d k : ℕ) (x : DroneState) → IsLoad s.offset (load_of s d) → k < read_count s d → Reads s d k x (handled x (read_at s d k))
-reads s d k x load h =
-    let f = read-fits s d k load h in
-    let a = f.some in let b = f.few in let c = f.inside in
-    let is : handled x (read_at s d k) ≡ read_taken x s.memory_id (read_address s k) (length (wanted s d k)) = handled-read s d k x (omega arith) in
-    let some : length (wanted s d k) ≢ 0 = omega arith in
-    elim (cases_eq s.memory_id x.memory_id) [
-      | inl same ↦
-          let taken : read_taken x s.memory_id (read_address s k) (length (wanted s d k))
-          ≡ answers x (read_answer_of s.memory_id (read_address s k) 0 (take (length (wanted s d k)) (drop (read_address s k) x.memory)))
-          = rw (eq-eqb s.memory_id x.memory_id same, ne_eqb (length (wanted s d k)) 0 some, le-ltb 20 (length (wanted s d k)) b, le-ltb 4096 (read_address s k + length (wanted s d k)) c) refl in
-          subst (Reads s d k x) (sym (is ∙ taken))
-          (record { status = 0; bytes = take (length (wanted s d k)) (drop (read_address s k) x.memory); is = refl; memory = λ z. refl; willing = λ e. refl })
-      | inr other ↦
-          let taken : read_taken x s.memory_id (read_address s k) (length (wanted s d k)) ≡ answers x (read_answer_of s.memory_id (read_address s k) 2 [])
-          = rw (ne_eqb s.memory_id x.memory_id other) refl in
-          subst (Reads s d k x) (sym (is ∙ taken))
-          (record { status = 2; bytes = []; is = refl; memory = λ z. absurd (omega arith); willing = λ e. absurd (other (sym e)) })
-    ]
+reads s d k x load h = grind (arith, common_steps, read-fits, handled-read, cases_eq, take, drop, eq-eqb, ne_eqb, le-ltb)
 
 -- what the answer to a read says
 in_parts : (b : Bool) (r q : ReadBack) → cond b (Some r) None ≡ Some q → (b ≡ true) × (r ≡ q)
@@ -86,14 +67,7 @@ in_parts false r q h = absurd (let no : None ≡ Some q = h in cc)
 pub read_answer_says : (s : Upload) (d j k status : ℕ) (bytes : List ℕ) (r : ReadBack) → read_address s k < 2 ^ 32 →
     read_in s d j (up_of (read_answer_of s.memory_id (read_address s k) status bytes)) ≡ Some r →
     (j ≡ k) × (r.status ≡ status) × (r.bytes ≡ bytes)
-read_answer_says s d j k status bytes r fits h =
-    let parts = in_parts (eqb s.memory_id s.memory_id && eqb (read_address s k) (read_address s j) && (not (eqb status 0) || eqb (length bytes) (length (wanted s d j))))
-    (record { status = status; bytes = bytes }) r
-    (sym (ap (read_in s d j) (up_of-read_answer s.memory_id (read_address s k) status bytes fits)) ∙ h) in
-    let first = and_parts (eqb s.memory_id s.memory_id && eqb (read_address s k) (read_address s j)) (not (eqb status 0) || eqb (length bytes) (length (wanted s d j))) parts.0 in
-    let second = and_parts (eqb s.memory_id s.memory_id) (eqb (read_address s k) (read_address s j)) first.0 in
-    let same : read_address s k ≡ read_address s j = eqb-true (read_address s k) (read_address s j) second.1 in
-    (omega arith, sym (ap (λ (q : ReadBack). q.status) parts.1), sym (ap (λ (q : ReadBack). q.bytes) parts.1))
+read_answer_says s d j k status bytes r fits h = grind (arith, common_steps, in_parts, eqb, not, up_of-read_answer, and_parts, eqb-true)
 
 -- ---- all other packets
 
@@ -105,18 +79,10 @@ no_read-write : (s : Upload) (d id address status : ℕ) → address < 2 ^ 32 �
 no_read-write s d id address status fits k = ap (read_in s d k) (up_of-write_answer id address status fits)
 
 write-no_read : (s : Upload) (d : ℕ) (x : DroneState) (id address : ℕ) (piece : List ℕ) → address < 2 ^ 32 → IfSome (write_taken x id address piece).answer (NoRead s d)
-write-no_read s d x id address piece fits =
-    cond_both (not (eqb id x.memory_id)) (answers x (write_answer_of id address 2))
-    (cond (ltb 4096 (address + length piece)) (answers x (write_answer_of id address 5)) (answers (record x { memory = stored x.memory address piece }) (write_answer_of id address 0)))
-    (λ y. IfSome y.answer (NoRead s d)) (λ b. no_read-write s d id address 2 fits)
-    (λ b. cond_both (ltb 4096 (address + length piece)) (answers x (write_answer_of id address 5)) (answers (record x { memory = stored x.memory address piece }) (write_answer_of id address 0))
-    (λ y. IfSome y.answer (NoRead s d)) (λ c. no_read-write s d id address 5 fits) (λ c. no_read-write s d id address 0 fits))
+write-no_read s d x id address piece fits = grind (arith, common_steps, cond_both, not, eqb, cond, ltb, no_read-write)
 
 pub start-no_read : (s : Upload) (d : ℕ) (x : DroneState) → s.trajectory_id < 10 → IfSome (handled x (start_of s.trajectory_id)).answer (NoRead s d)
-start-no_read s d x small =
-    subst (λ (y : Handled). IfSome y.answer (NoRead s d)) (sym (handled-start x s.trajectory_id small))
-    (cond_both (not (has_entry x.table s.trajectory_id)) (answers x (answer_of (start_of s.trajectory_id) 2)) (answers (record x { started = Some s.trajectory_id }) (answer_of (start_of s.trajectory_id) 0))
-    (λ y. IfSome y.answer (NoRead s d)) (λ b k. refl) (λ b k. refl))
+start-no_read s d x small = grind (arith, common_steps, handled-start, cond_both, not)
 
 -- a packet of the session which is no read
 pub session-no_read : (s : Upload) (d n : ℕ) (x : DroneState) → IsSession s → d < drone_count s → n < packet_count s d → is_read s d n ≡ false →

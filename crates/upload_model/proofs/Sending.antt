@@ -1,5 +1,6 @@
 -- What the host sends, whoever else alters a byte: packets of the session; reads only after the first
 -- phase; starts only after all reads.
+use Rattle.std.proofs.lemmas.Grind.{common_steps}
 use Rattle.std.proofs.Common.{◌≡◌, ℕ, ◌<◌, ◌≤◌, Bool, true, false, cond, ◌&&◌, eqb, ltb, List, [], ◌∷◌, ◌++◌, map, get_or, refl, ap, sym, ◌∙◌, arith, Option, Some, None, subst}
 use Rattle.std.specs.Prelude.{slice_get, All, Contains, filter}
 use Rattle.std.proofs.lemmas.Bool.{cond_both, eqb-true}
@@ -131,7 +132,4 @@ sends-world s drones events =
 -- where a start was sent, both phases before are complete
 pub start_sent : (s : Upload) (w : World) → Sends s w → (d : ℕ) → d < drone_count s → Contains (w.sent d) (start_of s.trajectory_id) →
     Settled s Loading (acked s w.heard) × Settled s Reading (acked s w.heard)
-start_sent s w sends d l has =
-    let sent = All-contains (IsSent s w.heard d) (w.sent d) (start_of s.trajectory_id) (sends d l) has in
-    let last = last_number s d sent.number sent.inside sent.is in
-    (sent.loaded (omega arith), sent.read (omega arith))
+start_sent s w sends d l has = grind (arith, common_steps, All-contains, last_number)

@@ -1,4 +1,5 @@
 -- Each read that is right was right when it was answered, whoever else alters a byte.
+use Rattle.std.proofs.lemmas.Grind.{common_steps}
 use Rattle.std.proofs.Common.{◌≡◌, ℕ, ◌+◌, ◌<◌, ◌≤◌, true, false, List, [], ◌∷◌, ◌++◌, length, take, drop, refl, ap, sym, ◌∙◌, arith, Option, Some, None, inl, inr, subst, IfSome}
 use Rattle.std.specs.Prelude.{slice_get}
 use Rattle.std.proofs.lemmas.Bool.{cases_Bool, false≢true}
@@ -86,26 +87,7 @@ had_range s h d k x packet a r ok l b sent answers says good same = by_kind (pac
 
 WasRight-more : (s : Upload) (drones : ℕ → DroneState) (events : List WorldEvent) (e : WorldEvent) (d k : ℕ) →
     WasRight s drones events d k → WasRight s drones (events ++ e ∷ []) d k
-WasRight-more s drones events e d k g =
-    let l = slice_get_within events g.heard_at (Hear d g.n) g.hears in
-    let m = g.earlier in
-    let at : (n : ℕ) → n ≤ length events → take n (events ++ e ∷ []) ≡ take n events = λ n b. take-append-le n events (e ∷ []) b in
-    record {
-      heard_at = g.heard_at;
-      n = g.n;
-      hears = slice_get-before events (e ∷ []) g.heard_at l ∙ g.hears;
-      before = ap (λ (es : List WorldEvent). is_right s (world s drones es).heard d k) (at g.heard_at (omega arith)) ∙ g.before;
-      after = ap (λ (es : List WorldEvent). is_right s (world s drones es).heard d k) (at (g.heard_at + 1) (omega arith)) ∙ g.after;
-      given_at = g.given_at;
-      earlier = g.earlier;
-      m = g.m;
-      takes = slice_get-before events (e ∷ []) g.given_at (omega arith) ∙ g.takes;
-      answer = g.answer;
-      gives = ap (λ (es : List WorldEvent). (world s drones es).given d) (at (g.given_at + 1) (omega arith)) ∙ g.gives
-          ∙ ap (λ (es : List WorldEvent). (world s drones es).given d ++ g.answer ∷ []) (sym (at g.given_at (omega arith)));
-      numbered = ap (λ (es : List WorldEvent). length ((world s drones es).given d)) (at g.given_at (omega arith)) ∙ g.numbered;
-      had = subst (λ (es : List WorldEvent). HasRange s d k ((world s drones es).drones d)) (sym (at g.given_at (omega arith))) g.had;
-    }
+WasRight-more s drones events e d k g = grind (arith, common_steps, slice_get_within, take, take-append-le, slice_get-before, given_at)
 
 abbrev AllWereRight : Upload → (ℕ → DroneState) → List WorldEvent → Type 0
 AllWereRight s drones es =

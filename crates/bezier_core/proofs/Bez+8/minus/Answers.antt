@@ -1,3 +1,4 @@
+use Rattle.std.proofs.lemmas.Grind.{common_steps}
 use Rattle.std.proofs.Common.{arith, ◌*◌, ◌^◌, ℕ, ℤ, ◌-ℤ◌, sym, subst, List, All, FitsSigned, to_z, of_z, lit<}
 use Rattle.std.proofs.lemmas.Int.{ints}
 use mir.Syntax.{w128}
@@ -10,10 +11,7 @@ use Rattle.bezier_core.proofs.Bez+8.minus.Goals as goal
 -- a difference of two entries, as the code makes it, fits
 fits : (xs ys : List ℤ) (k : ℕ) → All (IsBelow (2 ^ 125)) xs → All (IsBelow (2 ^ 125)) ys →
     FitsSigned w128 (to_z w128 (of_z w128 (at xs k)) -ℤ to_z w128 (of_z w128 (at ys k)))
-fits xs ys k first second =
-    let x : IsBelow (2 ^ 125) (at xs k) = below_at (2 ^ 125) xs k (lit< tt) first in
-    let y : IsBelow (2 ^ 125) (at ys k) = below_at (2 ^ 125) ys k (lit< tt) second in
-    omega (arith, ints)
+fits xs ys k first second = grind (arith, common_steps, ints, below_at, lit<)
 
 pub returns-clause-exact : goal.returns-clause-exact
 returns-clause-exact c = same_eight _ _ (λ k small. difference c.args.self.now.b c.args.other.now.b k c.requires.own c.requires.others)

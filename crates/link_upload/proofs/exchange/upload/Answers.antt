@@ -1,3 +1,4 @@
+use Rattle.std.proofs.lemmas.Grind.{common_steps}
 use Rattle.std.proofs.Common.{refl, sym, ◌∙◌, arith}
 use Rattle.link_frames.specs.Frames.{end_frame}
 use Rattle.link_upload.specs.Links.{link_of}
@@ -31,10 +32,7 @@ returns-in-Ok-clause-known g c = known_by c.in-Ok.status c.finish.result (is_end
 -- ---- a read failed
 
 pub returns-in-Err-Read-clause-six : goal.returns-in-Err-Read-clause-six
-returns-in-Err-Read-clause-six g c = λ six.
-    let r = (rw c.in-Err-Read.field-0-is at c.in-Err-Read.ensures.read) refl in
-    let w = c.finish-in-Err-Read.ensures.ok (λ seven. omega (arith, six, seven)) in
-    (r.0, r.1, failed (link_of c.args.host.session) _ _ _ _ _ r.2 w.1)
+returns-in-Err-Read-clause-six g c = grind (arith, common_steps, failed)
 
 pub returns-in-Err-Read-clause-seven : goal.returns-in-Err-Read-clause-seven
 returns-in-Err-Read-clause-seven g c = λ seven.
@@ -54,9 +52,7 @@ returns-in-Err-Read-clause-known g c = known_by 6 c.finish-in-Err-Read.result (1
 -- ---- a write failed
 
 pub returns-in-Err-Write-clause-seven : goal.returns-in-Err-Write-clause-seven
-returns-in-Err-Write-clause-seven g c = λ _.
-    let w = (rw c.in-Err-Write.field-0-is at c.in-Err-Write.ensures.write) refl in
-    (w.0, cut_broken (link_of c.args.host.session) _ _ _ _ _ _ _ w.1)
+returns-in-Err-Write-clause-seven g c = grind (arith, common_steps, cut_broken)
 
 pub returns-in-Err-Write-clause-known : goal.returns-in-Err-Write-clause-known
 returns-in-Err-Write-clause-known g c = (2, omega arith, refl)

@@ -1,4 +1,5 @@
-use Rattle.std.proofs.Common.{rules, ℤ, pos, ◌*ℤ◌, ◌≤ℤ◌, ◌<ℤ◌, ◌≡◌, ◌^◌, FitsSigned, subst, sym}
+use Rattle.std.proofs.lemmas.Grind.{common_steps}
+use Rattle.std.proofs.Common.{rules, ℤ, pos, ◌*ℤ◌, ◌≤ℤ◌, ◌<ℤ◌, ◌≡◌, FitsSigned, arith}
 use Rattle.std.proofs.lemmas.Int.{to_z-of_z}
 use mir.Syntax.{w128}
 use Rattle.sep_parts.specs.Directions.{for_ellipsoids}
@@ -15,8 +16,4 @@ returns c =
     λ s positive more. c.least_root_above.ensures.least s positive (simp to_z-of_z more) in
     let exact : c.least_root_above.result ≡ for_ellipsoids c.args.clearance c.args.n =
     root_of c.limit.result _ c.least_root_above.result c.limit.ensures.exact c.least_root_above.ensures.not_negative above least in
-    simp to_z-of_z (record {
-      exact = exact;
-      positive = c.least_root_above.ensures.not_negative;
-      small = subst (λ (z : ℤ). z ≤ℤ pos (2 ^ 25)) (sym exact) (ellipsoids_small c.args.clearance c.args.n c.requires.clearance c.requires.entries);
-    })
+    grind (arith, common_steps, to_z-of_z, pos, ellipsoids_small)

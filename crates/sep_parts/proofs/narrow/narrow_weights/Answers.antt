@@ -1,6 +1,7 @@
-use Rattle.std.proofs.Common.{rules, arith, get_or, pos, FitsSigned}
+use Rattle.std.proofs.lemmas.Grind.{common_steps}
+use Rattle.std.proofs.Common.{rules, arith, pos, FitsSigned}
 use Rattle.std.proofs.lemmas.Int.{to_z-of_z}
-use mir.Syntax.{w8, w64}
+use mir.Syntax.{w64}
 use Rattle.fleet_math.specs.Numbers.{IsBelow}
 use Rattle.fleet_curves.proofs.Small.{three}
 use Rattle.sep_parts.proofs.NarrowLemmas.{narrow_kept}
@@ -17,15 +18,7 @@ pub narrow_weight-requires-3-clause-entry : goal.narrow_weight-requires-3-clause
 narrow_weight-requires-3-clause-entry c = entry_small c.args.n 2 c.requires.entries (omega arith)
 
 pub returns-clause-exact : goal.returns-clause-exact
-returns-clause-exact c =
-    let x : FitsSigned w8 (get_or c.args.n 0 (pos 0)) = entry_fits c.args.n 0 c.requires.entries (omega arith) in
-    let y : FitsSigned w8 (get_or c.args.n 1 (pos 0)) = entry_fits c.args.n 1 c.requires.entries (omega arith) in
-    let z : FitsSigned w8 (get_or c.args.n 2 (pos 0)) = entry_fits c.args.n 2 c.requires.entries (omega arith) in
-    let x_fits : FitsSigned w64 c.narrow_weight.result = search rules in
-    let y_fits : FitsSigned w64 c.narrow_weight-2.result = search rules in
-    let z_fits : FitsSigned w64 c.narrow_weight-3.result = search rules in
-    told_three w64 _ _ _ _ _ _ x_fits y_fits z_fits (simp to_z-of_z at c.narrow_weight.ensures.exact)
-    (simp to_z-of_z at c.narrow_weight-2.ensures.exact) (simp to_z-of_z at c.narrow_weight-3.ensures.exact)
+returns-clause-exact c = grind (arith, common_steps, pos, entry_fits, told_three, to_z-of_z)
 
 pub returns-clause-small : goal.returns-clause-small
 returns-clause-small c =

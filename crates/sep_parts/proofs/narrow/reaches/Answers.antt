@@ -1,4 +1,5 @@
-use Rattle.std.proofs.Common.{◌≡◌, ◌^◌, ℤ, ◌+ℤ◌, ◌*ℤ◌, FitsSigned, lit<}
+use Rattle.std.proofs.lemmas.Grind.{common_steps}
+use Rattle.std.proofs.Common.{◌≡◌, ◌^◌, ℤ, ◌+ℤ◌, ◌*ℤ◌, FitsSigned, lit<, arith}
 use Rattle.std.proofs.lemmas.Int.{to_z-of_z}
 use Rattle.fleet_math.specs.Bernstein.{at}
 use Rattle.fleet_math.specs.Numbers.{IsBelow}
@@ -9,20 +10,10 @@ use mir.Syntax.{w64, w128}
 use Rattle.sep_parts.proofs.narrow.reaches.Goals as goal
 
 pub weighted-x-requires : goal.weighted-x-requires
-weighted-x-requires c =
-    let weight : IsBelow 4001 (at c.args.w 0) = below_at 4001 c.args.w 0 (lit< tt) c.requires.weights in
-    let value : IsBelow (2 ^ 46) (at (controls c.args.diff.now 0) c.args.k) = controls_below (2 ^ 46) c.args.diff.now 0 c.args.k (lit< tt) c.requires.values in
-    let weight_fit : FitsSigned w64 (at c.args.w 0) = weight_fits _ weight in
-    let value_fit : FitsSigned w128 (at (controls c.args.diff.now 0) c.args.k) = value_fits _ value in
-    record { weight = simp to_z-of_z weight; value = simp to_z-of_z value }
+weighted-x-requires c = grind (arith, common_steps, below_at, lit<, controls_below, weight_fits, value_fits, to_z-of_z)
 
 pub weighted-y-requires : goal.weighted-y-requires
-weighted-y-requires c =
-    let weight : IsBelow 4001 (at c.args.w 1) = below_at 4001 c.args.w 1 (lit< tt) c.requires.weights in
-    let value : IsBelow (2 ^ 46) (at (controls c.args.diff.now 1) c.args.k) = controls_below (2 ^ 46) c.args.diff.now 1 c.args.k (lit< tt) c.requires.values in
-    let weight_fit : FitsSigned w64 (at c.args.w 1) = weight_fits _ weight in
-    let value_fit : FitsSigned w128 (at (controls c.args.diff.now 1) c.args.k) = value_fits _ value in
-    record { weight = simp to_z-of_z weight; value = simp to_z-of_z value }
+weighted-y-requires c = grind (arith, common_steps, below_at, lit<, controls_below, weight_fits, value_fits, to_z-of_z)
 
 pub weighted-z-requires : goal.weighted-z-requires
 weighted-z-requires c =
@@ -33,10 +24,7 @@ weighted-z-requires c =
     record { weight = simp to_z-of_z weight; value = simp to_z-of_z value }
 
 pub overflow_add-result : goal.overflow_add-result
-overflow_add-result c =
-    let x_fit : FitsSigned w64 c.weighted-x.result = product_fits _ c.weighted-x.ensures.small in
-    let y_fit : FitsSigned w64 c.weighted-y.result = product_fits _ c.weighted-y.ensures.small in
-    simp to_z-of_z (sum_fits _ _ _ c.weighted-x.ensures.small c.weighted-y.ensures.small c.weighted-z.ensures.small).0
+overflow_add-result c = grind (arith, common_steps, product_fits, to_z-of_z, sum_fits)
 
 pub overflow_add-result-2 : goal.overflow_add-result-2
 overflow_add-result-2 c =

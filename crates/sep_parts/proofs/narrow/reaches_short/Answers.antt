@@ -1,4 +1,5 @@
-use Rattle.std.proofs.Common.{◌≡◌, ◌^◌, ℤ, ◌+ℤ◌, ◌*ℤ◌, FitsSigned, lit<}
+use Rattle.std.proofs.lemmas.Grind.{common_steps}
+use Rattle.std.proofs.Common.{◌≡◌, ◌^◌, ℤ, ◌+ℤ◌, ◌*ℤ◌, FitsSigned, lit<, arith}
 use Rattle.std.proofs.lemmas.Int.{to_z-of_z}
 use Rattle.fleet_math.specs.Bernstein.{at}
 use Rattle.fleet_math.specs.Numbers.{IsBelow}
@@ -9,20 +10,10 @@ use mir.Syntax.{w64, w128}
 use Rattle.sep_parts.proofs.narrow.reaches_short.Goals as goal
 
 pub weighted_short-x-requires : goal.weighted_short-x-requires
-weighted_short-x-requires c =
-    let weight : IsBelow 4001 (at c.args.w 0) = below_at 4001 c.args.w 0 (lit< tt) c.requires.weights in
-    let value : IsBelow (2 ^ 58) (at (controls c.args.diff.now 0) c.args.k) = controls_below (2 ^ 58) c.args.diff.now 0 c.args.k (lit< tt) c.requires.values in
-    let weight_fit : FitsSigned w64 (at c.args.w 0) = weight_fits _ weight in
-    let value_fit : FitsSigned w128 (at (controls c.args.diff.now 0) c.args.k) = value_fits _ value in
-    record { weight = simp to_z-of_z weight; value = simp to_z-of_z value }
+weighted_short-x-requires c = grind (arith, common_steps, below_at, lit<, controls_below, weight_fits, value_fits, to_z-of_z)
 
 pub weighted_short-y-requires : goal.weighted_short-y-requires
-weighted_short-y-requires c =
-    let weight : IsBelow 4001 (at c.args.w 1) = below_at 4001 c.args.w 1 (lit< tt) c.requires.weights in
-    let value : IsBelow (2 ^ 58) (at (controls c.args.diff.now 1) c.args.k) = controls_below (2 ^ 58) c.args.diff.now 1 c.args.k (lit< tt) c.requires.values in
-    let weight_fit : FitsSigned w64 (at c.args.w 1) = weight_fits _ weight in
-    let value_fit : FitsSigned w128 (at (controls c.args.diff.now 1) c.args.k) = value_fits _ value in
-    record { weight = simp to_z-of_z weight; value = simp to_z-of_z value }
+weighted_short-y-requires c = grind (arith, common_steps, below_at, lit<, controls_below, weight_fits, value_fits, to_z-of_z)
 
 pub weighted_short-z-requires : goal.weighted_short-z-requires
 weighted_short-z-requires c =

@@ -1,4 +1,5 @@
-use Rattle.std.proofs.Common.{◌≡◌, FitsSigned, rules, ◌∙◌, ap, sym, subst, ℤ, to_z, of_z}
+use Rattle.std.proofs.lemmas.Grind.{common_steps}
+use Rattle.std.proofs.Common.{◌≡◌, FitsSigned, rules, ◌∙◌, ap, ℤ, to_z, of_z, arith}
 use Rattle.std.proofs.lemmas.Int.{to_z-of_z}
 use mir.Syntax.{w64, w128}
 use Rattle.sep_parts.specs.Directions.{weights}
@@ -8,11 +9,7 @@ use Rattle.sep_parts.proofs.NarrowLemmas.{narrow_least}
 use Rattle.sep_parts.proofs.narrow.separates_narrow.Goals as goal
 
 pub overflow_cast-scaled : goal.overflow_cast-scaled
-overflow_cast-scaled c =
-    let threshold_fits : FitsSigned w128 c.args.threshold = c.ranges.threshold in
-    let wide_fits : FitsSigned w128 c.scaled.result = search rules in
-    let least_is : c.scaled.result ≡ least_value c.args.threshold c.args.depth = simp to_z-of_z at c.scaled.ensures in
-    subst (FitsSigned w64) (sym (to_z-of_z w128 c.scaled.result wide_fits ∙ least_is)) (narrow_least c.args.threshold c.args.depth c.requires.positive c.requires.small c.requires.depth)
+overflow_cast-scaled c = grind (arith, common_steps, to_z-of_z, narrow_least)
 
 pub returns : goal.returns
 returns c =
