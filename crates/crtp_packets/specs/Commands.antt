@@ -23,8 +23,8 @@ start_of id = header_of COMMANDER_PORT COMMAND_CHANNEL ∷ START ∷ 0 ∷ 0 ∷
 abbrev pub answer_of : List ℕ → ℕ → List ℕ
 answer_of request status = header_of COMMANDER_PORT COMMAND_CHANNEL ∷ (take 3 (drop 1 request) ++ status ∷ [])
 
--- The payload is this command, written out field by field: the offset of a define has four bytes, the lowest first, and so has
--- the time scale of a start. What follows is of no account.
+-- The payload is this command, written out field by field: the offset of a define has four bytes, the lowest first, and the
+-- time scale of a start has four. What follows is of no account.
 abbrev pub SpellsCommand : List ℕ → Command → Type 0
 SpellsCommand payload (Define id location form offset pieces) =
     (rest : List ℕ) × (payload ≡ DEFINE ∷ id ∷ location ∷ form ∷ (little_bytes 4 offset ++ pieces ∷ rest)) × (offset < 2 ^ 32)

@@ -1,5 +1,5 @@
 -- Lines of a cue that stand in the order of distinct names have no fault.
-use Rattle.std.proofs.Common.{◌≡◌, Bool, true, false, cond, List, [], ◌∷◌, ◌++◌, append_assoc, refl, sym, ap, subst, ◌∙◌, inl, inr}
+use Rattle.std.proofs.Common.{◌≡◌, Bool, true, false, List, [], ◌∷◌, ◌++◌, append_assoc, refl, sym, subst, ◌∙◌, inl, inr}
 use Rattle.std.proofs.lemmas.Bool.{cases_Bool}
 use Rattle.std.specs.Prelude.{◌||◌}
 use Rattle.choreo_lines.specs.Name.{Name}
@@ -7,7 +7,7 @@ use Rattle.choreo_show.specs.declared.show.ActLine.{ActLine}
 use Rattle.choreo_show.specs.declared.show.ActLine.TheVariants as on
 use Rattle.choreo_show.specs.declared.show.Formation.{Formation}
 use Rattle.cue_grid.specs.Names.{same_name, has_name, has_double}
-use Rattle.cue_grid.specs.Steps.{gives, without, lines_after}
+use Rattle.cue_grid.specs.Steps.{gives, lines_after}
 use Rattle.cue_grid.specs.Faults.{act_faults}
 use Rattle.cue_grid.proofs.Tables.{same_is, same_self}
 use Rattle.cue_grid.proofs.Marking.{has_append}

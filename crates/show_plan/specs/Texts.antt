@@ -36,8 +36,7 @@ drone_parts s d [] ts = []
 drone_parts s d (name ∷ names) [] = []
 drone_parts s d (name ∷ names) (t ∷ ts) = drone_part s d name.items t ++ drone_parts s (d + 1) names ts
 
--- The plan of drones with these names and trajectories, in version 1 of plans: its packets are those of their session without
--- read-back and with starts.
+-- The plan of drones with these names and trajectories: its packets are those of their session without read-back and with starts.
 unfoldable pub plan_text : Settings → List Name → List Traj → List ℕ
 plan_text e names ts =
     line (codes "plan") (codes "1" ∷ []) ++ (drone_parts (session_for e ts false true) 0 names ts ++ line (codes "end") [])

@@ -67,8 +67,9 @@ read_taken d id address len =
 
 -- A define: refused for an id past the table and for a location or a form that isn't a compressed
 -- trajectory in memory, then for an offset past the memory; else it fills the table's entry.
--- A start: refused where it isn't plain, and for an id past the table or without an entry; else
--- the drone has started that id. Any other command is not answered.
+-- A start: refused unless mask, relative and reversed are 0 and the time scale is 1.0, and for an
+-- id past the table or without an entry; else the drone has started that id. Any other command is
+-- not answered.
 abbrev pub command_taken : DroneState → List ℕ → Result Command CommandFault → Handled
 command_taken d packet (Ok (Define id location form offset pieces)) =
     if nat_le TABLE_ENTRIES id || not (location == 1) || not (form == 1) then answers d (answer_of packet UNFIT)
