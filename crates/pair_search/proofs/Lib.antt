@@ -10,3 +10,4 @@ pub mod LaneLemmas
 pub mod Reaches
 pub mod Waits
 pub mod OppositeLemmas
+pub mod NearLemmas

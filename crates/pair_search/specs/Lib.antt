@@ -5,3 +5,4 @@ pub mod Fleets
 pub mod Extents
 pub mod Lanes
 pub mod Opposites
+pub mod Nears
