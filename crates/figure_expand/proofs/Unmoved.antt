@@ -1,7 +1,6 @@
 -- The frame that changes nothing leaves each act.
-use Rattle.std.proofs.Common.{◌≡◌, ℕ, ℤ, pos, List, [], ◌∷◌, length, refl, sym, ap, arith}
+use Rattle.std.proofs.Common.{◌≡◌, ℤ, List, [], ◌∷◌, refl}
 use Rattle.std.proofs.Math.IntN.{+ℤ_idr}
-use Rattle.fleet_math.specs.Bernstein.{at}
 use Rattle.choreo_lines.specs.declared.parts.Point.{Point}
 use Rattle.choreo_lines.specs.declared.parts.Act.{Act}
 use Rattle.choreo_lines.specs.declared.parts.Act.TheVariants as act
