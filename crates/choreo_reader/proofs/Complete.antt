@@ -1,4 +1,5 @@
 -- What the grammar says is read.
+use Rattle.std.proofs.lemmas.Grind.{common_steps}
 use Rattle.std.proofs.Common.{◌≡◌, ℕ, ◌+◌, ◌<◌, ◌≤◌, Bool, true, false, List, [], ◌∷◌, ◌++◌, map, Option, Some, None, Ok, refl, sym, ap, ◌∙◌, arith, append_assoc}
 use Rattle.std.specs.Prelude.{◌&&◌, nat_le}
 use Rattle.std.proofs.lemmas.List.{append-nil}
@@ -257,12 +258,7 @@ body_reads (plain.Perform line figure frame drones rest) s os (l ∷ ls) k h =
     let e = entry.Perform figure frame drones in
     let outside : in_figure (openings_of os) ≡ false = false_unless _ k.figure in
     let one = numbered_step (with_open s os) l line e h.0 (perform_stands os e k.takes outside refl refl) refl in
-    let kept : Kept (opens os a) rest = record {
-      takes = opens_take os a k.takes;
-      filled = k.filled;
-      nested = omega (arith, k.nested, opens_repeats os a);
-      figure = λ q. absurd (false≢true (sym outside ∙ sym (opens_figure os a) ∙ q));
-    } in
+    let kept : Kept (opens os a) rest = grind (arith, common_steps, opens_take, opens_repeats, false≢true, opens_figure) in
     block_then_rest s os a rest (l ∷ []) ls k.takes one (body_reads rest (base s os a) (opens os a) ls kept h.1)
 body_reads (plain.Cue line ms acts rest) s os [] k h = absurd h
 body_reads (plain.Cue line ms acts rest) s os (l ∷ ls) k h =
@@ -273,12 +269,7 @@ body_reads (plain.Cue line ms acts rest) s os (l ∷ ls) k h =
     let in_order : in_figure (openings_of (InCue line ms [] ∷ os)) ≡ true → list_all names_one acts && fits_figure rest ≡ true = λ q. k.figure (sym (outer_figure os) ∙ q) in
     let inside = acts_read acts [] s line ms os parts.front (λ q. (and_parts (list_all names_one acts) (fits_figure rest) (in_order q)).0) parts.first in
     let block = enclosed s (add_block s os a) os (InCue line ms []) (InCue line ms acts) l ends.line parts.front one inside ends.here (in_cue_end (in_figure (openings_of (InCue line ms acts ∷ os)))) refl (add_anywhere s (InCue line ms acts ∷ os) os a) in
-    let kept : Kept (opens os a) rest = record {
-      takes = opens_take os a k.takes;
-      filled = k.filled;
-      nested = omega (arith, k.nested, opens_repeats os a);
-      figure = λ q. (and_parts (list_all names_one acts) (fits_figure rest) (k.figure (sym (opens_figure os a) ∙ q))).1;
-    } in
+    let kept : Kept (opens os a) rest = grind (arith, common_steps, opens_take, opens_repeats, and_parts, opens_figure) in
     reads_list _ _ _ _ (block_lines l ends.line ls parts.front parts.back ends.others parts.is ends.is)
     (block_then_rest s os a rest (l ∷ (parts.front ++ ends.line ∷ [])) ends.others k.takes block (body_reads rest (base s os a) (opens os a) ends.others kept ends.later))
 body_reads (plain.Repeat line times inside rest) s os [] k h = absurd h
@@ -291,19 +282,9 @@ body_reads (plain.Repeat line times inside rest) s os (l ∷ ls) k h =
     let o = InRepeat line times plain.Done in
     let few : repeats (openings_of os) < 8 = omega (arith, k.nested) in
     let one = numbered_step (with_open s os) l line (entry.Repeat times) h.0 (block_stands os (entry.Repeat times) k.takes refl refl refl) (ap (λ b. fault_if b kind.Nesting) (no_nesting (repeats (openings_of os)) few)) in
-    let kept_inside : Kept (o ∷ os) inside = record {
-      takes = tt;
-      filled = fills'.1;
-      nested = omega (arith, k.nested, outer_repeats os);
-      figure = λ q. (and_parts (fits_figure inside) (fits_figure rest) (k.figure (sym (outer_figure os) ∙ q))).0;
-    } in
+    let kept_inside : Kept (o ∷ os) inside = grind (arith, common_steps, outer_repeats, and_parts, outer_figure) in
     let contents = body_reads inside s (o ∷ os) parts.front kept_inside parts.first in
     let block = enclosed s (add_block s os a) os o (InRepeat line times inside) l ends.line parts.front one contents ends.here (in_repeat_end (in_figure (openings_of (InRepeat line times inside ∷ os)))) (not_empty (has_block inside) line (outer_openings os) fills'.0) (add_anywhere s (InRepeat line times inside ∷ os) os a) in
-    let kept : Kept (opens os a) rest = record {
-      takes = opens_take os a k.takes;
-      filled = fills.1;
-      nested = omega (arith, k.nested, opens_repeats os a);
-      figure = λ q. (and_parts (fits_figure inside) (fits_figure rest) (k.figure (sym (opens_figure os a) ∙ q))).1;
-    } in
+    let kept : Kept (opens os a) rest = grind (arith, common_steps, opens_take, opens_repeats, and_parts, opens_figure) in
     reads_list _ _ _ _ (block_lines l ends.line ls parts.front parts.back ends.others parts.is ends.is)
     (block_then_rest s os a rest (l ∷ (parts.front ++ ends.line ∷ [])) ends.others k.takes block (body_reads rest (base s os a) (opens os a) ends.others kept ends.later))

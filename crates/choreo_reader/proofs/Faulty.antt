@@ -1,5 +1,6 @@
 -- The fault of a reading is the first fault of the text by the contexts of its lines.
-use Rattle.std.proofs.Common.{◌≡◌, ℕ, Bool, true, false, List, [], ◌∷◌, ◌++◌, Option, Some, None, Result, Ok, Err, refl, sym, ap, subst, ◌∙◌, cond}
+use Rattle.std.proofs.lemmas.Grind.{common_steps}
+use Rattle.std.proofs.Common.{◌≡◌, ℕ, Bool, true, false, List, [], ◌∷◌, ◌++◌, Option, Some, None, Result, Ok, Err, refl, sym, ap, subst, ◌∙◌, cond, arith}
 use Rattle.std.specs.Prelude.{◌&&◌, ◌||◌, is_some}
 use Rattle.text_lines.specs.Words.{Line}
 use Rattle.choreo_reader.specs.Text.{show_lines}
@@ -9,7 +10,7 @@ use Rattle.choreo_lines.specs.Name.{Name}
 use Rattle.choreo_show.specs.Plain.{Body, PlainShow, has_block, ◌⨾◌}
 use Rattle.choreo_lines.specs.Says.{Says, keyword_in, may_say}
 use Rattle.choreo_reader.specs.Text.{Fault, fault_at, forbidden}
-use Rattle.choreo_reader.specs.Context.{Context, open_fault, line_fault, Opened, OpenFormation, OpenFigure, OpenRepeat, OpenCue, this_or, fault_from, fault_of_lines, end_fault, either_fault, fault, is_header, place_of, place_in, opened_by, is_end, is_top, fill, opens, without_innermost, blocks_after, sets_memory, sets_trajectory, sets_ellipsoid, sets_stray, sets_late, context_after, first_word, in_figure}
+use Rattle.choreo_reader.specs.Context.{Context, open_fault, line_fault, Opened, OpenFormation, OpenFigure, OpenRepeat, OpenCue, this_or, fault_from, fault_of_lines, end_fault, either_fault, fault, is_header, place_of, place_in, opened_by, is_end, is_top, fill, opens, blocks_after, sets_memory, sets_trajectory, sets_ellipsoid, sets_stray, sets_late, context_after, first_word, in_figure}
 use Rattle.choreo_lines.specs.Table.{word, as_read}
 use Rattle.choreo_lines.specs.declared.line.Place.{Place}
 use Rattle.choreo_reader.specs.Reading.{Open, InFormation, InFigure, InRepeat, InCue, Built, nothing, context_of, openings_of, outer_openings, is_any, add_block, close_innermost, build, built_by, unless, lines_step, then_step, finish, finish_with, read_lines, reading, unless_forbidden, entry_fault, fault_with}
@@ -125,11 +126,7 @@ at_turns (InCue line ms acts ∷ os) s n name to m = absurd (not_in_cue (in_figu
 
 -- an act line, whose first word may be anything but `end`
 acts_turn : (line ms : ℕ) (acts : List ActLine) (os : List Open) (n : ℕ) (k : Keyword) (a : ActLine) → is_end k ≡ false → blocks_after n (openings_of (InCue line ms acts ∷ os)) k ≡ openings_of (InCue line ms (acts ++ a ∷ []) ∷ os)
-acts_turn line ms acts os n k a h =
-    let c = InCue line ms acts in
-    ap (λ b. cond b (without_innermost (openings_of (InCue line ms acts ∷ os))) (opens n (openings_of (InCue line ms acts ∷ os)) (opened_by (place_of (openings_of (InCue line ms acts ∷ os))) k))) h
-    ∙ ap (opens n (openings_of (InCue line ms acts ∷ os))) (none_in_cue (in_figure (openings_of (InCue line ms acts ∷ os))) k)
-    ∙ ap (λ b. record { kind = OpenCue; line = line; filled = b } ∷ outer_openings os) (sym (any_more acts a))
+acts_turn line ms acts os n k a h = grind (arith, common_steps, cond, none_in_cue, any_more)
 
 one_turns : (os : List Open) (s : Built) (n : ℕ) (k : Keyword) (name : Name) (a : _) → is_other k ≡ true → may_say (place_of (openings_of os)) (entry.One name a) ≡ true → Follows os s n k (entry.One name a)
 one_turns [] s n k name a h m = cc
@@ -217,14 +214,7 @@ settings_keep s t os first.Trajectory h n = cc
 settings_keep s t os first.Ellipsoid h n = cc
 settings_keep s t os first.Stray h n = cc
 settings_keep s t os first.Late h n = cc
-settings_keep s t os k h n =
-    record {
-      memory = or_none (is_some s.memory) (is_top (openings_of os)) ∙ ap is_some (sym h.memory);
-      trajectory = or_none (is_some s.trajectory) (is_top (openings_of os)) ∙ ap is_some (sym h.trajectory);
-      ellipsoid = or_none (is_some s.ellipsoid) (is_top (openings_of os)) ∙ ap is_some (sym h.ellipsoid);
-      stray = or_none (is_some s.stray) (is_top (openings_of os)) ∙ ap is_some (sym h.stray);
-      late = or_none (is_some s.late) (is_top (openings_of os)) ∙ ap is_some (sym h.late);
-    }
+settings_keep s t os k h n = grind (arith, common_steps, or_none)
 
 add_keeps : (s : Built) (os : List Open) (a : Body) → KeepsSettings s (add_block s os a)
 add_keeps s [] a = record { memory = refl; trajectory = refl; ellipsoid = refl; stray = refl; late = refl }
@@ -338,10 +328,7 @@ open_is c ws e h m = ap (λ k. open_fault c (as_read (place_of c.open_blocks) k)
 
 -- what is wrong with a line is what its reading finds, and then what is left open for what it says
 line_by : (c : Context) (l : Line) (r : Result Entry LineKind) → entry_of (place_of c.open_blocks) l.words ≡ r → line_fault c l ≡ fault_with c r
-line_by c l (Ok e) is =
-    let b = says_of (place_of c.open_blocks) l.words e is in
-    ap (λ o. or_else o (open_fault c (as_read (place_of c.open_blocks) (keyword_of (first_word l.words))))) (ap kind_of is)
-    ∙ open_is c l.words e b.0 b.1
+line_by c l (Ok e) is = grind (arith, common_steps, says_of, open_is)
 line_by c l (Err k) is = ap (λ o. or_else o (open_fault c (as_read (place_of c.open_blocks) (keyword_of (first_word l.words))))) (ap kind_of is)
 
 fault_steps : (ls done : List Line) (s : Built) → Holds s done → fault_from (context_of s) ls ≡ fault_in (finish (lines_step s ls))

@@ -1,4 +1,5 @@
 -- No two drones of a show without a fault have one name.
+use Rattle.std.proofs.lemmas.Grind.{common_steps}
 use Rattle.std.proofs.Common.{◌≡◌, ℕ, zero, suc, ◌<◌, Bool, true, false, refl, sym, ap, ◌∙◌, List, [], ◌∷◌, ◌++◌, length, get_or, arith, Option, None}
 use Rattle.std.specs.Prelude.{◌||◌}
 use Rattle.std.proofs.lemmas.Slice.Eq.{bytes_eq-Decides}
@@ -7,8 +8,7 @@ use Rattle.choreo_show.specs.declared.show.DroneLine.{DroneLine}
 use Rattle.choreo_show.specs.Plain.{PlainShow}
 use Rattle.cue_grid.specs.declared.grid.GridFault.{GridFault}
 use Rattle.cue_grid.specs.declared.grid.GridFault.TheVariants.{DoubleName}
-use Rattle.cue_grid.specs.Counts.{over_at}
-use Rattle.cue_grid.specs.Faults.{fault_if, drone_faults, drones_faults, formations_faults, figures_faults, show_faults, name_faults, earliest, no_drone, many_drones, no_cue, many_cues, or_else, grid_fault}
+use Rattle.cue_grid.specs.Faults.{fault_if, drone_faults, grid_fault}
 use Rattle.cue_grid.specs.Names.{same_name, has_name, has_double, names_of}
 use Rattle.cue_grid.proofs.Fits.{neither, both_empty, no_earliest}
 use Rattle.cue_grid.proofs.Tables.{same_is}
@@ -35,10 +35,7 @@ place_has (x ∷ xs) zero n o within same = ap (λ b. b || has_name xs n) same
 place_has (x ∷ xs) (suc k) n o within same = or_right (same_name n x) (has_name xs n) (place_has xs k n o (omega arith) same)
 
 self_has : (xs : List Name) (n : Name) → has_name (xs ++ n ∷ []) n ≡ true
-self_has [] n = here (same_name n n) ((bytes_eq-Decides n.items n.items).1 refl)
-  where
-    here : (b : Bool) → b ≡ true → (b || false) ≡ true
-    here b h = rw h refl
+self_has [] n = grind (arith, common_steps, bytes_eq-Decides)
 self_has (x ∷ xs) n = or_right (same_name n x) (has_name (xs ++ n ∷ []) n) (self_has xs n)
 
 -- a test that gives no fault fails
@@ -68,12 +65,7 @@ apart earlier (d ∷ ds) empty =
 
 -- no two drones of a show without a fault have one name
 pub names_apart : (s : PlainShow) → grid_fault s ≡ None → has_double (names_of s.drones) ≡ false
-names_apart s none =
-    let drones = neither (no_drone s) (or_else (many_drones s) (or_else (earliest (name_faults s)) (or_else (no_cue s.body) (many_cues (over_at s.figures 0 s.body))))) none in
-    let many = neither (many_drones s) (or_else (earliest (name_faults s)) (or_else (no_cue s.body) (many_cues (over_at s.figures 0 s.body)))) drones.1 in
-    let names = neither (earliest (name_faults s)) (or_else (no_cue s.body) (many_cues (over_at s.figures 0 s.body))) many.1 in
-    let without = no_earliest (name_faults s) names.0 in
-    (apart [] s.drones (both_empty (drones_faults s) (formations_faults s ++ (figures_faults s ++ show_faults s)) without).0).0
+names_apart s none = grind (arith, common_steps, neither, no_earliest, apart, both_empty)
 
 -- nor have the starts of what is answered of such a show
 pub answered_distinct : (s : PlainShow) (o : Option GridFault) (starts : List DroneLine) → o ≡ grid_fault s → o ≡ None → starts ≡ s.drones → has_double (names_of starts) ≡ false

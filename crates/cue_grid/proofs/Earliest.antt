@@ -1,6 +1,7 @@
 -- In a valid show the fault of the earliest line is the earliest of the first faults of the four lists.
+use Rattle.std.proofs.lemmas.Grind.{common_steps}
 use Rattle.std.proofs.Common.{◌≡◌, ℕ, ◌<◌, Bool, true, false, cond, List, [], ◌∷◌, ◌++◌, Option, Some, None, refl, sym, ap, subst, ◌∙◌, ◌⊎◌, inl, inr, arith}
-use Rattle.std.specs.Prelude.{not, ◌||◌, nat_lt, length, ◌==◌}
+use Rattle.std.specs.Prelude.{nat_lt}
 use Rattle.std.proofs.lemmas.Bool.Decides.{nat_tests}
 use Rattle.choreo_show.specs.Plain as plain
 use Rattle.choreo_lines.specs.Name.{Name}
@@ -10,11 +11,11 @@ use Rattle.choreo_show.specs.declared.show.ActLine.{ActLine}
 use Rattle.choreo_show.specs.declared.show.ActLine.TheVariants as on
 use Rattle.choreo_show.specs.declared.show.DroneLine.{DroneLine}
 use Rattle.choreo_show.specs.declared.show.Formation.{Formation}
-use Rattle.cue_grid.specs.Names.{has_name, has_each, has_some, has_double, names_of, formation_named, figure_named}
-use Rattle.cue_grid.specs.Faults.{line_of, fault_if, drone_faults, place_faults, one_formation_faults, formation_faults, form_faults, act_line_faults, acted_by, act_faults, perform_faults, body_faults, one_figure_faults, figure_faults, drones_faults, formations_faults, figures_faults, show_faults, name_faults, earlier_of, earliest}
+use Rattle.cue_grid.specs.Names.{has_name, has_some, names_of, figure_named}
+use Rattle.cue_grid.specs.Faults.{line_of, fault_if, drone_faults, place_faults, formation_faults, form_faults, acted_by, act_faults, perform_faults, body_faults, figure_faults, drones_faults, formations_faults, figures_faults, show_faults, name_faults, earlier_of, earliest}
 use Rattle.cue_grid.specs.Steps.{first_of, name_fault}
 use Rattle.cue_grid.specs.declared.grid.GridFault.{GridFault}
-use Rattle.cue_grid.specs.declared.grid.GridFault.TheVariants.{DoubleName, UnknownName, DoubleAct, RoleCount}
+use Rattle.cue_grid.specs.declared.grid.GridFault.TheVariants.{DoubleName, DoubleAct}
 
 -- The faults stand at some of these lines, in their order.
 abbrev Within : List GridFault → List ℕ → Type 0
@@ -59,17 +60,12 @@ drones_within (d ∷ ds) earlier =
 
 places_within : (ps : List DroneLine) (drones earlier : List Name) → Within (place_faults drones earlier ps) (drone_lines ps)
 places_within [] drones earlier = tt
-places_within (p ∷ ps) drones earlier =
-    within_line (fault_if (not (has_name drones p.name)) (UnknownName p.line) (fault_if (has_name earlier p.name) (DoubleAct p.line) [])) (place_faults drones (earlier ++ p.name ∷ []) ps) p.line (drone_lines ps)
-    (at_most_if (not (has_name drones p.name)) (UnknownName p.line) (fault_if (has_name earlier p.name) (DoubleAct p.line) []) p.line refl (at_most_if (has_name earlier p.name) (DoubleAct p.line) [] p.line refl tt))
-    (places_within ps drones (earlier ++ p.name ∷ []))
+places_within (p ∷ ps) drones earlier = grind (arith, common_steps, within_line, at_most_if, (places_within ps drones (earlier ++ p.name ∷ [])))
 
 formations_within : (fs : List Formation) (drones earlier : List Name) → Within (formation_faults drones earlier fs) (formation_lines fs)
 formations_within [] drones earlier = tt
 formations_within (f ∷ fs) drones earlier =
-    within_append (f.line ∷ drone_lines f.places) (one_formation_faults drones earlier f) (formation_faults drones (earlier ++ f.name ∷ []) fs) (formation_lines fs)
-    (within_line (fault_if (has_name earlier f.name) (DoubleName f.line) []) (place_faults drones [] f.places) f.line (drone_lines f.places) (at_most_if (has_name earlier f.name) (DoubleName f.line) [] f.line refl tt) (places_within f.places drones []))
-    (formations_within fs drones (earlier ++ f.name ∷ []))
+    grind (arith, common_steps, within_append, within_line, at_most_if, places_within, (formations_within fs drones (earlier ++ f.name ∷ [])))
 
 form_at_most : (line : ℕ) (acted : List Name) (o : Option Formation) → AtMost line (form_faults line acted o)
 form_at_most line acted None = refl
@@ -78,20 +74,13 @@ form_at_most line acted (Some f) = at_most_if (has_some acted (names_of f.places
 acts_within : (acts : List ActLine) (known : List Name) (fs : List Formation) (acted : List Name) → Within (act_faults known fs acted acts) (act_lines acts)
 acts_within [] known fs acted = tt
 acts_within (on.One line name a ∷ acts) known fs acted =
-    within_line (act_line_faults known fs acted (on.One line name a)) (act_faults known fs (acted ++ name ∷ []) acts) line (act_lines acts)
-    (at_most_if (not (has_name known name)) (UnknownName line) (fault_if (has_name acted name) (DoubleAct line) []) line refl (at_most_if (has_name acted name) (DoubleAct line) [] line refl tt))
-    (acts_within acts known fs (acted ++ name ∷ []))
+    grind (arith, common_steps, within_line, at_most_if, (acts_within acts known fs (acted ++ name ∷ [])))
 acts_within (on.Form line formation smooth ∷ acts) known fs acted =
-    within_line (form_faults line acted (formation_named fs formation)) (act_faults known fs (acted ++ acted_by fs (on.Form line formation smooth)) acts) line (act_lines acts)
-    (form_at_most line acted (formation_named fs formation))
-    (acts_within acts known fs (acted ++ acted_by fs (on.Form line formation smooth)))
+    grind (arith, common_steps, within_line, form_at_most, (acts_within acts known fs (acted ++ acted_by fs (on.Form line formation smooth))))
 
 perform_at_most : (drones : List Name) (line : ℕ) (o : Option PlainFigure) (named : List Name) → AtMost line (perform_faults drones line o named)
 perform_at_most drones line None named = refl
-perform_at_most drones line (Some f) named =
-    at_most_if (not (length named == length f.roles)) (RoleCount line) (fault_if (not (has_each drones named)) (UnknownName line) (fault_if (has_double named) (DoubleAct line) [])) line refl
-    (at_most_if (not (has_each drones named)) (UnknownName line) (fault_if (has_double named) (DoubleAct line) []) line refl
-    (at_most_if (has_double named) (DoubleAct line) [] line refl tt))
+perform_at_most drones line (Some f) named = grind (arith, common_steps, at_most_if)
 
 body_within : (b : Body) (s : PlainShow) (known : List Name) → Within (body_faults s known b) (body_lines b)
 body_within plain.Done s known = tt
@@ -105,9 +94,7 @@ body_within (plain.Perform line figure frame drones rest) s known =
 figures_within : (fs : List PlainFigure) (s : PlainShow) (earlier : List Name) → Within (figure_faults s earlier fs) (figure_lines fs)
 figures_within [] s earlier = tt
 figures_within (f ∷ fs) s earlier =
-    within_append (f.line ∷ body_lines f.body) (one_figure_faults s earlier f) (figure_faults s (earlier ++ f.name ∷ []) fs) (figure_lines fs)
-    (within_line (fault_if (has_name earlier f.name || has_double f.roles) (DoubleName f.line) []) (body_faults s f.roles f.body) f.line (body_lines f.body) (at_most_if (has_name earlier f.name || has_double f.roles) (DoubleName f.line) [] f.line refl tt) (body_within f.body s f.roles))
-    (figures_within fs s (earlier ++ f.name ∷ []))
+    grind (arith, common_steps, within_append, within_line, at_most_if, body_within, (figures_within fs s (earlier ++ f.name ∷ [])))
 
 -- Where the lines rise, the first fault is the one of the earliest line.
 
@@ -173,13 +160,4 @@ earliest_name s v =
     let f = earliest_first 0 (formations_faults s) (rising (formation_lines s.formations) (formations_faults s) 0 (formations_within s.formations (names_of s.drones) []) v.formation_lines) in
     let g = earliest_first 0 (figures_faults s) (rising (figure_lines s.figures) (figures_faults s) 0 (figures_within s.figures s []) v.figure_lines) in
     let b = earliest_first 0 (show_faults s) (rising (body_lines s.body) (show_faults s) 0 (body_within s.body s (names_of s.drones)) v.body_lines) in
-    sym (
-    earliest-append (drones_faults s) (formations_faults s ++ (figures_faults s ++ show_faults s))
-    ∙ ap (λ o. earlier_of o (earliest (formations_faults s ++ (figures_faults s ++ show_faults s)))) d
-    ∙ ap (earlier_of (first_of (drones_faults s))) (
-    earliest-append (formations_faults s) (figures_faults s ++ show_faults s)
-    ∙ ap (λ o. earlier_of o (earliest (figures_faults s ++ show_faults s))) f
-    ∙ ap (earlier_of (first_of (formations_faults s))) (
-    earliest-append (figures_faults s) (show_faults s)
-    ∙ ap (λ o. earlier_of o (earliest (show_faults s))) g
-    ∙ ap (earlier_of (first_of (figures_faults s))) b)))
+    grind (arith, common_steps, earliest-append)

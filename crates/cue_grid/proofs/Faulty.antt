@@ -1,5 +1,6 @@
 -- The first fault of some blocks.
-use Rattle.std.proofs.Common.{◌≡◌, ℕ, suc, ◌+◌, ◌<◌, ◌≤◌, List, [], ◌∷◌, ◌++◌, length, get_or, drop, drop-cons, add-one, Option, Some, None, refl, sym, ap, ◌∙◌, append_assoc}
+use Rattle.std.proofs.lemmas.Grind.{common_steps}
+use Rattle.std.proofs.Common.{◌≡◌, ℕ, ◌+◌, ◌<◌, ◌≤◌, List, [], ◌∷◌, ◌++◌, length, get_or, drop, drop-cons, add-one, Option, Some, None, refl, sym, ap, ◌∙◌, append_assoc, arith}
 use Rattle.std.specs.Prelude.{Vec}
 use Rattle.std.proofs.lemmas.List.{drop_all, append-nil}
 use Rattle.choreo_show.specs.Plain as plain
@@ -35,12 +36,7 @@ body_faults-then s known (plain.Perform line figure frame drones rest) b =
     ∙ sym (append_assoc (perform_faults (names_of s.drones) line (figure_named s.figures figure) drones) (body_faults s known rest) (body_faults s known b))
 
 body_first : (s : PlainShow) (known : List Name) (bs : List Block) (i : ℕ) (b : Block) → i < length bs → b ≡ get_or bs i b → body_faults s known (body_of (drop i bs)) ≡ body_faults s known (block_of b plain.Done) ++ body_faults s known (body_of (drop (i + 1) bs))
-body_first s known bs i b h e =
-    ap (λ xs. body_faults s known (body_of xs)) (drop-cons bs i b h)
-    ∙ ap (body_faults s known) (block_then (get_or bs i b) (body_of (drop (suc i) bs)))
-    ∙ body_faults-then s known (block_of (get_or bs i b) plain.Done) (body_of (drop (suc i) bs))
-    ∙ ap (λ x. body_faults s known (block_of x plain.Done) ++ body_faults s known (body_of (drop (suc i) bs))) (sym e)
-    ∙ ap (λ j. body_faults s known (block_of b plain.Done) ++ body_faults s known (body_of (drop j bs))) (sym (add-one i))
+body_first s known bs i b h e = grind (arith, common_steps, drop-cons, block_then, drop, body_faults-then, add-one)
 
 -- a fault of the block at hand is the first one
 pub body_here : (s : PlainShow) (known : List Name) (bs : List Block) (i : ℕ) (b : Block) (o : Option GridFault) (f : GridFault) → i < length bs → b ≡ get_or bs i b → o ≡ first_of (body_faults s known (block_of b plain.Done)) → o ≡ Some f → Some f ≡ first_of (body_faults s known (body_of (drop i bs)))
@@ -54,11 +50,7 @@ body_later s known bs i b o h e g k =
 
 -- a repeat has the faults of its body
 pub repeat_faults : (s : PlainShow) (known : List Name) (b : Block) (line times : ℕ) (v : Vec Block Global) (items : List Block) → b ≡ block.Repeat line times v → items ≡ v.items → first_of (body_faults s known (body_of items)) ≡ first_of (body_faults s known (block_of b plain.Done))
-repeat_faults s known b line times v items e f =
-    ap (λ xs. first_of (body_faults s known (body_of xs))) f
-    ∙ ap first_of (sym (append-nil (body_faults s known (body_of v.items))))
-    ∙ ap (λ c. first_of (body_faults s known c)) (sym (repeat_is line times v plain.Done))
-    ∙ ap (λ x. first_of (body_faults s known (block_of x plain.Done))) (sym e)
+repeat_faults s known b line times v items e f = grind (arith, common_steps, append-nil, repeat_is)
 
 pub body_end : (s : PlainShow) (known : List Name) (bs : List Block) (i : ℕ) → length bs ≤ i → first_of (body_faults s known (body_of (drop i bs))) ≡ None
 body_end s known bs i h = ap (λ xs. first_of (body_faults s known (body_of xs))) (drop_all i bs h)

@@ -1,5 +1,6 @@
 -- The first fault of a show, of the faults of its parts.
-use Rattle.std.proofs.Common.{◌≡◌, ℕ, ◌≤◌, false, cond, List, length, map, Option, Some, None, refl, sym, ap, subst, ◌∙◌}
+use Rattle.std.proofs.lemmas.Grind.{common_steps}
+use Rattle.std.proofs.Common.{◌≡◌, ℕ, ◌≤◌, false, cond, List, length, map, Option, Some, None, refl, sym, ap, subst, ◌∙◌, arith}
 use Rattle.std.specs.Prelude.{not, ◌==◌}
 use Rattle.std.proofs.lemmas.List.{drop_all}
 use Rattle.choreo_show.specs.Plain as plain
@@ -11,7 +12,7 @@ use Rattle.choreo_show.specs.declared.show.Figure.{Figure}
 use Rattle.choreo_show.specs.declared.show.DroneLine.{DroneLine}
 use Rattle.cue_grid.specs.Counts.{over_at}
 use Rattle.fleet_math.specs.Limits.{most_drones}
-use Rattle.cue_grid.specs.Faults.{no_drone, many_drones, too_many, no_cue, many_cues, or_else, earliest, name_faults, grid_fault}
+use Rattle.cue_grid.specs.Faults.{no_drone, many_drones, too_many, no_cue, many_cues, or_else, grid_fault}
 use Rattle.cue_grid.specs.Steps.{name_fault}
 use Rattle.cue_grid.proofs.Earliest.{earliest_name}
 use Rattle.cue_grid.specs.declared.grid.GridFault.{GridFault}
@@ -31,10 +32,7 @@ some_cue (plain.Perform line figure frame drones rest) h = refl
 
 -- no fault of the counts
 pub few_cues : (given bs : List Block) (those figures : List Figure) (o : Option ℕ) → given ≡ bs → those ≡ figures → (length given == 0) ≡ false → o ≡ over_at (map figure_of those) 0 (body_of given) → o ≡ None → None ≡ or_else (no_cue (body_of bs)) (many_cues (over_at (map figure_of figures) 0 (body_of bs)))
-few_cues given bs those figures o p q n e h =
-    let some : no_cue (body_of bs) ≡ None = ap (λ xs. no_cue (body_of xs)) (sym p) ∙ some_cue (body_of given) (blocks_none given ∙ n) in
-    let none : over_at (map figure_of figures) 0 (body_of bs) ≡ None = ap (λ fs. over_at (map figure_of fs) 0 (body_of bs)) (sym q) ∙ ap (λ xs. over_at (map figure_of those) 0 (body_of xs)) (sym p) ∙ sym e ∙ h in
-    sym (ap (λ f. or_else f (many_cues (over_at (map figure_of figures) 0 (body_of bs)))) some ∙ ap many_cues none)
+few_cues given bs those figures o p q n e h = grind (arith, common_steps, some_cue, blocks_none)
 
 or_else_assoc : (a b c : Option GridFault) → or_else (or_else a b) c ≡ or_else a (or_else b c)
 or_else_assoc None b c = refl
@@ -42,11 +40,7 @@ or_else_assoc (Some f) b c = refl
 
 -- the fault of a valid show, of its parts
 pub grid_fault_by : (s : PlainShow) → IsValid s → (d n c : Option GridFault) → d ≡ or_else (no_drone s) (many_drones s) → n ≡ name_fault s → c ≡ or_else (no_cue s.body) (many_cues (over_at s.figures 0 s.body)) → or_else d (or_else n c) ≡ grid_fault s
-grid_fault_by s v d n c p q r =
-    ap (λ x. or_else x (or_else n c)) p
-    ∙ or_else_assoc (no_drone s) (many_drones s) (or_else n c)
-    ∙ ap (λ x. or_else (no_drone s) (or_else (many_drones s) (or_else x c))) (q ∙ earliest_name s v)
-    ∙ ap (λ x. or_else (no_drone s) (or_else (many_drones s) (or_else (earliest (name_faults s)) x))) r
+grid_fault_by s v d n c p q r = grind (arith, common_steps, or_else_assoc, earliest_name)
 
 -- a fault of names, where the drones are of a good number
 pub name_fault_by : (s : PlainShow) → IsValid s → (d n : Option GridFault) (f : GridFault) → d ≡ or_else (no_drone s) (many_drones s) → d ≡ None → n ≡ name_fault s → n ≡ Some f → Some f ≡ grid_fault s

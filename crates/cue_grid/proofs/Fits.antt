@@ -1,4 +1,5 @@
 -- The grid of a valid show without a fault is valid.
+use Rattle.std.proofs.lemmas.Grind.{common_steps}
 use Rattle.std.proofs.Common.{◌≡◌, ℕ, zero, suc, ◌+◌, ◌*◌, ◌≤◌, Bool, true, false, cond, List, [], ◌∷◌, ◌++◌, map, length, drop, Option, Some, None, refl, sym, ap, subst, ◌∙◌, arith}
 use Rattle.std.specs.Prelude.{◌&&◌, nat_lt, ◌==◌, IsTrue, neg_ℤ, pos, ◌≤ℤ◌}
 use Rattle.std.specs.List.{All}
@@ -108,13 +109,9 @@ counted : (s : PlainShow) (p : Playing) (performed : Name → Frame → List Nam
 counted s p performed count h plain.Done = refl
 counted s p performed count h (plain.Cue line ms acts rest) = omega (arith, counted s p performed count h rest)
 counted s p performed count h (plain.Repeat line times inside rest) =
-    length-append (times_over times (cues_in s p performed inside)) (cues_in s p performed rest)
-    ∙ ap (λ k. k + length (cues_in s p performed rest)) (length-times_over times (cues_in s p performed inside) ∙ ap (λ k. times * k) (counted s p performed count h inside))
-    ∙ ap (λ k. times * count_in count inside + k) (counted s p performed count h rest)
+    grind (arith, common_steps, length-append, length-times_over, (counted s p performed count h inside), (counted s p performed count h rest))
 counted s p performed count h (plain.Perform line figure frame drones rest) =
-    length-append (performed figure frame drones) (cues_in s p performed rest)
-    ∙ ap (λ k. k + length (cues_in s p performed rest)) (h figure frame drones)
-    ∙ ap (λ k. count figure + k) (counted s p performed count h rest)
+    grind (arith, common_steps, length-append, (counted s p performed count h rest))
 
 figure_counted : (s : PlainShow) (o : Option PlainFigure) (frame : Frame) (drones : List Name) → length (cues_of_figure s o frame drones) ≡ count_of_figure o
 figure_counted s None frame drones = refl
@@ -184,10 +181,7 @@ some_cue s known (plain.Repeat line times inside rest) v h f k e =
     let none = both_empty (body_faults s known inside) (body_faults s known rest) e in
     let one = at_least times (body_count s.figures inside) k.0 (some_cue s known inside v p.0 p.1 k.2 none.0) in
     omega (arith, one)
-some_cue s known (plain.Perform line figure frame drones rest) v h f k e =
-    let none = both_empty (perform_faults (names_of s.drones) line (figure_named s.figures figure) drones) (body_faults s known rest) e in
-    let one = unknown_figure (names_of s.drones) line (figure_named s.figures figure) drones none.0 (figure_fits s.figures figure v) in
-    omega (arith, one)
+some_cue s known (plain.Perform line figure frame drones rest) v h f k e = grind (arith, common_steps, both_empty, unknown_figure, figure_fits)
 
 -- The numbers of the jobs.
 

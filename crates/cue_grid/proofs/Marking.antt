@@ -1,8 +1,8 @@
 -- Who has an act in a cue: the marks and the other names of the code are the names of the list of the definition.
-use Rattle.std.proofs.Common.{◌≡◌, ℕ, suc, ◌+◌, ◌<◌, Bool, true, false, cond, List, [], ◌∷◌, ◌++◌, length, get_or, set, take, drop, drop-cons, add-one, Option, Some, None, refl, sym, ap, subst, ◌∙◌, append_assoc}
+use Rattle.std.proofs.Common.{◌≡◌, ℕ, suc, ◌+◌, ◌<◌, Bool, true, false, cond, List, [], ◌∷◌, ◌++◌, length, get_or, set, take, drop, drop-cons, add-one, Option, Some, None, refl, sym, ap, subst, ◌∙◌, append_assoc, arith}
 use Rattle.std.specs.Prelude.{◌||◌}
 use Rattle.std.proofs.lemmas.List.{take_more, append-nil, length-set, get_or-set_other}
-use Rattle.std.proofs.lemmas.Grind.{get_or-set_at}
+use Rattle.std.proofs.lemmas.Grind.{get_or-set_at, common_steps}
 use Rattle.indexmap.specs.IndexSet.{insert_key}
 use Rattle.choreo_lines.specs.Name.{Name}
 use Rattle.choreo_show.specs.declared.show.ActLine.{ActLine}
@@ -134,11 +134,7 @@ acted_more fs acts i a h e = sym (ap (acted_all fs) (take_more acts i a h ∙ ap
 
 -- a line without a fault: the first one is after it
 pub line_later : (known : List Name) (fs : List Formation) (acts : List ActLine) (i : ℕ) (a : ActLine) (o : Option GridFault) → i < length acts → a ≡ get_or acts i a → o ≡ first_of (act_line_faults known fs (acted_all fs (take i acts)) a) → o ≡ None → first_of (act_faults known fs (acted_all fs (take i acts)) (drop i acts)) ≡ first_of (act_faults known fs (acted_all fs (take (i + 1) acts)) (drop (i + 1) acts))
-line_later known fs acts i a o h e f g =
-    ap (λ ls. first_of (act_faults known fs (acted_all fs (take i acts)) ls)) (drop-cons acts i a h ∙ ap (λ b. b ∷ drop (suc i) acts) (sym e))
-    ∙ first_later (act_line_faults known fs (acted_all fs (take i acts)) a) (act_faults known fs (acted_all fs (take i acts) ++ acted_by fs a) (drop (suc i) acts)) (sym f ∙ g)
-    ∙ ap (λ ns. first_of (act_faults known fs ns (drop (suc i) acts))) (acted_more fs acts i a h e)
-    ∙ ap (λ j. first_of (act_faults known fs (acted_all fs (take (i + 1) acts)) (drop j acts))) (sym (add-one i))
+line_later known fs acts i a o h e f g = grind (arith, common_steps, acted_all, take, drop-cons, drop, first_later, acted_more, add-one)
 
 -- a line with a fault: it is the first one
 pub line_here : (known : List Name) (fs : List Formation) (acts : List ActLine) (i : ℕ) (a : ActLine) (o : Option GridFault) (fault : GridFault) → i < length acts → a ≡ get_or acts i a → o ≡ first_of (act_line_faults known fs (acted_all fs (take i acts)) a) → o ≡ Some fault → first_of (act_faults known fs (acted_all fs (take i acts)) (drop i acts)) ≡ Some fault

@@ -1,4 +1,5 @@
 -- Names on `at` lines and their numbers: a number is one name's alone, and new names leave the numbers of others.
+use Rattle.std.proofs.lemmas.Grind.{common_steps}
 use Rattle.std.proofs.Common.{◌≡◌, ℕ, zero, suc, ◌+◌, ◌<◌, Bool, true, false, cond, List, [], ◌∷◌, ◌++◌, length, get_or, take, Option, Some, None, refl, sym, ap, subst, ◌∙◌, arith, option_map, slice_get, option_copied, MatchOption, Bor, position, ◌||◌, nat_lt, map}
 use Rattle.std.specs.Map.{lookup}
 use Rattle.std.specs.List.{position_or_len}
@@ -29,14 +30,7 @@ one_more : (f : ℕ) → 1 + f ≡ suc f
 one_more f = omega arith
 
 shift_cond : (f l : ℕ) → option_map suc (cond (nat_lt f l) (Some f) None) ≡ cond (nat_lt (1 + f) (suc l)) (Some (1 + f)) None
-shift_cond f l =
-    map_cond (nat_lt f l) f
-    ∙ ap (λ b. cond b (Some (suc f)) None) (both_suc l f (cases_lt f l))
-    ∙ sym (ap (λ g. cond (nat_lt g (suc l)) (Some g) None) (one_more f))
-  where
-    map_cond : (b : Bool) (g : ℕ) → option_map suc (cond b (Some g) None) ≡ cond b (Some (suc g)) None
-    map_cond true g = refl
-    map_cond false g = refl
+shift_cond f l = grind (arith, common_steps, nat_lt, cond, both_suc, cases_lt, one_more, option_map)
 
 by_first_one : (n m : Name) (ms : List Name) (b : Bool) → number_from 0 ms n ≡ cond (nat_lt (first n ms) (length ms)) (Some (first n ms)) None → cond b (Some 0) (number_from (0 + 1) ms n) ≡ cond (nat_lt (cond b 0 (1 + first n ms)) (suc (length ms))) (Some (cond b 0 (1 + first n ms))) None
 by_first_one n m ms true h = ap (λ b. cond b (Some 0) None) (first_below (length ms))
@@ -80,20 +74,11 @@ new_number (m ∷ ms) n h = new_one n m ms (same_name n m) (new_number ms n) h
 
 put_number : (ks : List Name) (n : Name) (b : Bool) → has_name ks n ≡ b → number_in (cond b ks (ks ++ n ∷ [])) n ≡ Some (first n ks)
 put_number ks n true h = known_number ks n h
-put_number ks n false h =
-    let new = new_number ks n h in
-    number_more 0 ks n n
-    ∙ ap (λ o. number_or o (same_name n n) (0 + length ks)) new.0
-    ∙ ap (λ b. cond b (Some (0 + length ks)) None) (same_self n n refl)
-    ∙ ap (λ f. Some f) ((let z : 0 + length ks ≡ length ks = omega arith in z) ∙ sym new.1)
+put_number ks n false h = grind (arith, common_steps, new_number, number_more, cond, same_self)
 
 -- the number that a set gives a name
 pub put_in : (old new : List Name) (key name : Name) (k : ℕ) → new ≡ insert_key same_name old key → k ≡ position_or_len (same_name key) old → key ≡ name → number_in new name ≡ Some k
-put_in old new key name k e f g =
-    ap (number_in new) (sym g)
-    ∙ ap (λ xs. number_in xs key) e
-    ∙ put_number old key (has_name old key) refl
-    ∙ ap (λ j. Some j) (first_is key old ∙ sym f)
+put_in old new key name k e f g = grind (arith, common_steps, put_number, first_is)
 
 put_keeps : (ks : List Name) (m : Name) (b : Bool) → Keeps ks (cond b ks (ks ++ m ∷ []))
 put_keeps ks m true n k h = h
@@ -122,11 +107,7 @@ numbers_push keys (m ∷ ns) (j ∷ ks) n k h g = (h.0, numbers_push keys ns ks 
 
 -- the loop that numbers places
 pub place_numbered : (old new : List Name) (ps : List DroneLine) (i : ℕ) (p : DroneLine) (ks next : List ℕ) (k : ℕ) → i < length ps → p ≡ get_or ps i p → HasNumbers old (names_of (take i ps)) ks → Keeps old new → number_in new p.name ≡ Some k → next ≡ ks ++ k ∷ [] → HasNumbers new (names_of (take (i + 1) ps)) next
-place_numbered old new ps i p ks next k h e inv keep num f =
-    let names : names_of (take i ps) ++ p.name ∷ [] ≡ names_of (take (i + 1) ps) = sym (ap names_of (take_more ps i p h ∙ ap (λ q. take i ps ++ q ∷ []) (sym e)) ∙ map-append (λ (d : DroneLine). d.name) (take i ps) (p ∷ [])) in
-    subst (λ xs. HasNumbers new xs next) names
-    (subst (λ xs. HasNumbers new (names_of (take i ps) ++ p.name ∷ []) xs) (sym f)
-    (numbers_push new (names_of (take i ps)) ks p.name k (numbers_keep old new (names_of (take i ps)) ks keep inv) num))
+place_numbered old new ps i p ks next k h e inv keep num f = grind (arith, common_steps, take, take_more, map-append, numbers_push, numbers_keep)
 
 placed_keep : {V : Type 0} (items : V → List ℕ) (old new : List Name) (fs : List Formation) (vs : List V) → Keeps old new → ArePlaced items old fs vs → ArePlaced items new fs vs
 placed_keep items old new [] [] h g = g
@@ -142,10 +123,7 @@ placed_push items keys (e ∷ fs) (w ∷ vs) f v h g = (h.0, placed_push items k
 
 -- the loop that numbers the places of formations
 pub formation_placed : {V : Type 0} (items : V → List ℕ) (old new : List Name) (fs : List Formation) (i : ℕ) (f : Formation) (vs next : List V) (v : V) (ps : List DroneLine) → i < length fs → f ≡ get_or fs i f → ArePlaced items old (take i fs) vs → Keeps old new → ps ≡ f.places → HasNumbers new (names_of ps) (items v) → next ≡ vs ++ v ∷ [] → ArePlaced items new (take (i + 1) fs) next
-formation_placed items old new fs i f vs next v ps h e inv keep p num g =
-    subst (λ xs. ArePlaced items new xs next) (sym (take_more fs i f h ∙ ap (λ x. take i fs ++ x ∷ []) (sym e)))
-    (subst (λ xs. ArePlaced items new (take i fs ++ f ∷ []) xs) (sym g)
-    (placed_push items new (take i fs) vs f v (placed_keep items old new (take i fs) vs keep inv) (subst (λ xs. HasNumbers new (names_of xs) (items v)) p num)))
+formation_placed items old new fs i f vs next v ps h e inv keep p num g = grind (arith, common_steps, take_more, take, placed_push, placed_keep)
 
 -- As equations.
 

@@ -1,4 +1,5 @@
 -- What the lines of a cue give the drones to do, put into the places of the drones line by line.
+use Rattle.std.proofs.lemmas.Grind.{common_steps}
 use Rattle.std.proofs.Common.{◌≡◌, ℕ, zero, suc, ◌+◌, ◌-◌, ◌<◌, Bool, true, false, List, [], ◌∷◌, length, get_or, set, take, drop, drop-cons, add-one, map, Option, Some, None, refl, sym, ap, ◌∙◌, arith}
 use Rattle.std.specs.Prelude.{◌||◌, cond}
 use Rattle.choreo_lines.specs.Name.{Name}
@@ -71,12 +72,7 @@ other ms n m false same hasnt has = refl
 pub put_somebody : (ds : List DroneLine) (js : List Job) (n : Name) (k : ℕ) (job : Job) → has_double (names_of ds) ≡ false → stands_at (names_of ds) n k ≡ true → put_acts (λ m. act_if (same_name m n) job.act) job.line job.frame ds js ≡ set js k job
 put_somebody [] js n k job h s = cc
 put_somebody (d ∷ ds) [] n k job h s = refl
-put_somebody (d ∷ ds) (j ∷ js) n zero job h s =
-    let parts = or_parts (has_name (names_of ds) d.name) (has_double (names_of ds)) h in
-    let same : n ≡ d.name = same_is n d.name s in
-    ap (λ b. job_or (act_if b job.act) job.line job.frame j ∷ put_acts (λ m. act_if (same_name m n) job.act) job.line job.frame ds js)
-    (same_self d.name n (sym same))
-    ∙ ap (λ xs. job ∷ xs) (put_nobody ds js n job (ap (has_name (names_of ds)) same ∙ parts.0))
+put_somebody (d ∷ ds) (j ∷ js) n zero job h s = grind (arith, common_steps, or_parts, same_is, same_self, put_nobody)
 put_somebody (d ∷ ds) (j ∷ js) n (suc k) job h s =
     let parts = or_parts (has_name (names_of ds) d.name) (has_double (names_of ds)) h in
     ap (λ b. job_or (act_if b job.act) job.line job.frame j ∷ put_acts (λ m. act_if (same_name m n) job.act) job.line job.frame ds js)

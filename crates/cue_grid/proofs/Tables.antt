@@ -1,4 +1,5 @@
 -- Names and their numbers.
+use Rattle.std.proofs.lemmas.Grind.{common_steps}
 use Rattle.std.proofs.Common.{◌≡◌, ℕ, zero, suc, ◌+◌, ◌<◌, Bool, true, false, cond, List, [], ◌∷◌, ◌++◌, map, length, get_or, take, Option, Some, None, refl, sym, ap, ◌∙◌, arith, slice_get, is_some, option_map, add-one, MatchOption, Bor, ◌≤◌, ◌⊎◌, inl, inr}
 use Rattle.std.specs.Prelude.{nat_lt, IfSome, ◌||◌}
 use Rattle.std.proofs.lemmas.Option.{slice_get_past, slice_get-get_or}
@@ -38,11 +39,7 @@ noted_by : (old new : List (Name × ℕ)) (name n : Name) (i : ℕ) (b c : Bool)
 noted_by old new name n i true true h e f g = g ∙ ap (λ o. number_or o true i) (sym (ap (λ m. lookup (same_name m) old) (same_is n name f) ∙ h))
 noted_by old new name n i true false h e f g = let s = same_self n name (sym (same_is name n e)) in cc
 noted_by old new name n i false true h e f g = let s = same_self name n (sym (same_is n name f)) in cc
-noted_by old new name n i false false h e f g = g ∙ none_or (lookup (same_name n) old) i
-  where
-    none_or : (o : Option ℕ) (k : ℕ) → o ≡ number_or o false k
-    none_or None k = refl
-    none_or (Some j) k = refl
+noted_by old new name n i false false h e f g = grind (arith, common_steps)
 
 pub noted : (old new : List (Name × ℕ)) (name : Name) (i : ℕ) → lookup (same_name name) old ≡ None → ((n : Name) → lookup (same_name n) new ≡ cond (same_name name n) (Some i) (lookup (same_name n) old)) → IsNoted old new name i
 noted old new name i h g n = noted_by old new name n i (same_name name n) (same_name n name) h refl refl (g n)
@@ -59,12 +56,7 @@ number_more k (x ∷ ms) m n = number_one k ms m n (same_name n x) (number_more 
 -- the loops that number a list, whose items have names
 pub names_noted : {A : Type 0} (name_of : A → Name) (xs : List A) (i : ℕ) (x : A) (old new : List (Name × ℕ)) → i < length xs → x ≡ get_or xs i x → IsNumbered (map name_of (take i xs)) old → IsNoted old new (name_of x) i → IsNumbered (map name_of (take (i + 1) xs)) new
 names_noted {A} name_of xs i x old new h e inv note n =
-    let len : length (map name_of (take i xs)) ≡ i = length-map (take i xs) name_of ∙ length-take-le i xs (omega arith) in
-    note n
-    ∙ ap (λ o. number_or o (same_name n (name_of x)) i) (inv n)
-    ∙ ap (λ j. number_or (number_from 0 (map name_of (take i xs)) n) (same_name n (name_of x)) j) (sym (let z : 0 + length (map name_of (take i xs)) ≡ i = omega (arith, len) in z))
-    ∙ sym (number_more 0 (map name_of (take i xs)) (name_of x) n)
-    ∙ ap (λ ys. number_from 0 ys n) (sym (ap (map name_of) (take_more xs i x h ∙ ap (λ y. take i xs ++ y ∷ []) (sym e)) ∙ map-append name_of (take i xs) (x ∷ [])))
+    grind (arith, common_steps, take, length-map, length-take-le, number_more, take_more, map-append)
 
 some_is : (o : Option ℕ) → is_some o ≡ true → (j : ℕ) × (o ≡ Some j)
 some_is None h = cc
@@ -149,10 +141,7 @@ is_below i (Some j) = nat_lt j i
 
 below_zero : (o : Option ℕ) → false ≡ is_below zero o
 below_zero None = refl
-below_zero (Some j) = sym (none_below j)
-  where
-    none_below : (j : ℕ) → nat_lt j 0 ≡ false
-    none_below j = grind (arith, nat_tests)
+below_zero (Some j) = grind (arith, common_steps, nat_tests)
 
 pub both_suc : (i j : ℕ) → (j < i) ⊎ (i ≤ j) → nat_lt j i ≡ nat_lt (suc j) (suc i)
 both_suc i j (inl h) = (let a : nat_lt j i ≡ true = grind (arith, nat_tests) in a) ∙ sym (let b : nat_lt (suc j) (suc i) ≡ true = grind (arith, nat_tests) in b)

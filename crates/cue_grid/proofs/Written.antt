@@ -1,4 +1,5 @@
 -- Cues written out, block by block.
+use Rattle.std.proofs.lemmas.Grind.{common_steps}
 use Rattle.std.proofs.Common.{◌≡◌, ℕ, zero, suc, ◌+◌, ◌<◌, ◌≤◌, false, cond, List, [], ◌∷◌, ◌++◌, length, get_or, take, drop, refl, sym, ap, ◌∙◌, append_assoc, add-one, drop-cons, arith}
 use Rattle.std.proofs.lemmas.List.{take_more, take_all, drop_all, append-nil}
 use Rattle.choreo_show.specs.Plain as plain
@@ -36,10 +37,7 @@ cues_in-then s p performed (plain.Perform line figure frame drones rest) b =
     ∙ sym (append_assoc (performed figure frame drones) (cues_in s p performed rest) (cues_in s p performed b))
 
 cues_more : (s : PlainShow) (p : Playing) (performed : Name → Frame → List Name → List Cue) (bs : List Block) (i : ℕ) (d : Block) → i < length bs → cues_in s p performed (body_of (take (i + 1) bs)) ≡ cues_in s p performed (body_of (take i bs)) ++ cues_in s p performed (block_of (get_or bs i d) plain.Done)
-cues_more s p performed bs i d h =
-    ap (λ xs. cues_in s p performed (body_of xs)) (take_more bs i d h)
-    ∙ ap (cues_in s p performed) (body_push (take i bs) (get_or bs i d))
-    ∙ cues_in-then s p performed (body_of (take i bs)) (block_of (get_or bs i d) plain.Done)
+cues_more s p performed bs i d h = grind (arith, common_steps, take_more, body_push, take, cues_in-then)
 
 -- What a loop over blocks appends: one block more, and one turn more.
 

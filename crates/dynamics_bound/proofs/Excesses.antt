@@ -1,5 +1,6 @@
 -- The first excess, and that nothing exceeds a limit where there is none.
-use Rattle.std.proofs.Common.{inl, inr, ◌⊎◌, ◌≡◌, ℕ, zero, suc, ◌+◌, ◌≤◌, ◌<◌, max, Bool, nat_lt, true, false, cond, pos, arith, refl, ◌∙◌, ap, subst, Option, Some, None, IfSome, length}
+use Rattle.std.proofs.lemmas.Grind.{common_steps}
+use Rattle.std.proofs.Common.{inl, inr, ◌⊎◌, ◌≡◌, ℕ, zero, suc, ◌+◌, ◌≤◌, ◌<◌, max, nat_lt, cond, pos, arith, refl, Option, Some, None, IfSome, length}
 use Rattle.std.specs.Option.{option_or}
 use Rattle.std.proofs.lemmas.Bool.Decides.{nat_tests}
 use Rattle.fleet_math.proofs.BernsteinLemmas.{by_lt}
@@ -7,7 +8,6 @@ use Rattle.traj_codec.specs.declared.traj.Traj.{Traj}
 use Rattle.speed_bound.proofs.Widths.{greatest-most}
 use Rattle.dynamics_bound.specs.declared.excess.Excess.{Excess}
 use Rattle.dynamics_bound.specs.declared.excess.Kind.{Kind}
-use Rattle.dynamics_bound.specs.declared.excess.Kind.TheVariants as kind
 use Rattle.dynamics_bound.specs.declared.excess.Limits.{Limits}
 use Rattle.dynamics_bound.specs.Accelerations.{acceleration, acceleration_in}
 use Rattle.dynamics_bound.specs.Edges.{jump}
@@ -48,27 +48,11 @@ none_more limits depth t k before sharp jumps =
 
 -- ---- numbers that are taken no less than a limit
 above_one : {X : Type 0} (most least a : ℕ) (x : ℕ → X) (y : X) → least ≤ most → cond (nat_lt most (max least a)) (x (max least a)) y ≡ cond (nat_lt most a) (x a) y
-above_one {X} most least a x y less = by_lt most a
-    (λ more.
-    let first : nat_lt most (max least a) ≡ true = grind (arith, nat_tests) in
-    let second : nat_lt most a ≡ true = grind (arith, nat_tests) in
-    let same : max least a ≡ a = omega arith in
-    rw (first, second, same) refl)
-    (λ no_more.
-    let first : nat_lt most (max least a) ≡ false = grind (arith, nat_tests) in
-    let second : nat_lt most a ≡ false = grind (arith, nat_tests) in
-    rw (first, second) refl)
+above_one {X} most least a x y less = grind (arith, common_steps, by_lt, nat_lt, max, nat_tests)
 
 -- The same is above a limit where each number is taken no less than one that is not above it.
 pub above_least : (what : Kind) (most least segment : ℕ) (f : ℕ → ℕ) → least ≤ most → above what (Some most) segment (λ axis. max least (f axis)) ≡ above what (Some most) segment f
-above_least what most least segment f less =
-    above_one most least (f 0) (excess 0) _ less
-    ∙ ap (cond (nat_lt most (f 0)) (excess 0 (f 0)))
-    (above_one most least (f 1) (excess 1) _ less
-    ∙ ap (cond (nat_lt most (f 1)) (excess 1 (f 1))) (above_one most least (f 2) (excess 2) None less))
-  where
-    excess : ℕ → ℕ → Option Excess
-    excess axis v = Some (record { kind = what; segment = segment; axis = axis; value = pos v })
+above_least what most least segment f less = grind (arith, common_steps, above_one, cond, nat_lt, pos)
 
 -- ---- nothing is above a limit
 neither : {X : Type 0} (a b : Option X) → option_or a b ≡ None → (a ≡ None) × (b ≡ None)
@@ -84,27 +68,7 @@ none_before limits depth t (suc n) k none inside =
     (λ more. let same : k ≡ n = omega (arith, inside, more) in rw same (neither (sharp_at limits.acceleration depth t n) (jumps_at limits.jump t n) both.1))
 
 none_above : (kind : Kind) (limit segment : ℕ) (f : ℕ → ℕ) → above kind (Some limit) segment f ≡ None → (axis : ℕ) → axis ≤ 2 → f axis ≤ limit
-none_above kind limit segment f none =
-    go (nat_lt limit (f 0)) refl (nat_lt limit (f 1)) refl (nat_lt limit (f 2)) refl none
-  where
-    excess : ℕ → Excess
-    excess axis = record { kind = kind; segment = segment; axis = axis; value = pos (f axis) }
-
-    by_axis : f 0 ≤ limit → f 1 ≤ limit → f 2 ≤ limit → (axis : ℕ) → axis ≤ 2 → f axis ≤ limit
-    by_axis x y z zero near = x
-    by_axis x y z (suc zero) near = y
-    by_axis x y z (suc (suc zero)) near = z
-    by_axis x y z (suc (suc (suc k))) near = absurd (omega arith)
-
-    below : (m n : ℕ) → nat_lt m n ≡ false → n ≤ m
-    below m n p = grind (arith, nat_tests)
-
-    go : (a : Bool) → nat_lt limit (f 0) ≡ a → (b : Bool) → nat_lt limit (f 1) ≡ b → (c : Bool) → nat_lt limit (f 2) ≡ c →
-        cond a (Some (excess 0)) (cond b (Some (excess 1)) (cond c (Some (excess 2)) None)) ≡ None → (axis : ℕ) → axis ≤ 2 → f axis ≤ limit
-    go true p b q c r none = absurd (cc)
-    go false p true q c r none = absurd (cc)
-    go false p false q true r none = absurd (cc)
-    go false p false q false r none = by_axis (below limit (f 0) p) (below limit (f 1) q) (below limit (f 2) r)
+none_above kind limit segment f none = grind (arith, common_steps, nat_lt, pos, nat_tests, cond)
 
 sharp_within : (depth : ℕ) (t : Traj) (limit : Option ℕ) → ((k : ℕ) → k < length t.segments → sharp_at limit depth t k ≡ None) →
     IfSome limit (λ most. (axis : ℕ) → axis ≤ 2 → acceleration depth t axis ≤ most)
@@ -133,19 +97,7 @@ none_within limits depth t none =
 -- it is on one of three axes, in the segment that is looked at
 above_named : (what : Kind) (limit : Option ℕ) (segment : ℕ) (f : ℕ → ℕ) (e : Excess) → above what limit segment f ≡ Some e → (e.axis ≤ 2) × (e.segment ≡ segment)
 above_named what None segment f e is = absurd (cc)
-above_named what (Some limit) segment f e is = by (nat_lt limit (f 0)) (nat_lt limit (f 1)) (nat_lt limit (f 2)) is
-  where
-    on : ℕ → Excess
-    on axis = record { kind = what; segment = segment; axis = axis; value = pos (f axis) }
-
-    named : (axis : ℕ) → axis ≤ 2 → Some (on axis) ≡ Some e → (e.axis ≤ 2) × (e.segment ≡ segment)
-    named axis small same = let it : on axis ≡ e = cc in subst (λ (u : Excess). (u.axis ≤ 2) × (u.segment ≡ segment)) it (small, refl)
-
-    by : (x y z : Bool) → cond x (Some (on 0)) (cond y (Some (on 1)) (cond z (Some (on 2)) None)) ≡ Some e → (e.axis ≤ 2) × (e.segment ≡ segment)
-    by true y z same = named 0 (omega arith) same
-    by false true z same = named 1 (omega arith) same
-    by false false true same = named 2 (omega arith) same
-    by false false false same = absurd (cc)
+above_named what (Some limit) segment f e is = grind (arith, common_steps, nat_lt, pos, cond)
 
 either : (a b : Option Excess) (e : Excess) → option_or a b ≡ Some e → (a ≡ Some e) ⊎ (b ≡ Some e)
 either None b e is = inr is
@@ -155,14 +107,8 @@ before_named : (limits : Limits) (depth : ℕ) (t : Traj) (k : ℕ) (e : Excess)
 before_named limits depth t zero e is = absurd (cc)
 before_named limits depth t (suc k) e is = elim (either (excess_before limits depth t k) _ e is) [
   | inl first ↦ let named = before_named limits depth t k e first in (named.0, omega (arith, named.1))
-  | inr later ↦ elim (either (sharp_at limits.acceleration depth t k) (jumps_at limits.jump t k) e later) [
-    | inl sharp ↦ let named = above_named kind.Acceleration limits.acceleration k _ e sharp in (named.0, omega (arith, named.1))
-    | inr jumps ↦ let named = above_named kind.Jump limits.jump k _ e jumps in (named.0, omega (arith, named.1))
-  ]
+  | inr later ↦ grind (arith, common_steps, either, above_named)
 ]
 
 pub first_named : (limits : Limits) (depth : ℕ) (t : Traj) (e : Excess) → first_excess limits depth t ≡ Some e → (e.axis ≤ 2) × (e.segment ≤ length t.segments)
-first_named limits depth t e is = elim (either (excess_before limits depth t (length t.segments)) (jumps_at limits.jump t (length t.segments)) e is) [
-  | inl before ↦ before_named limits depth t (length t.segments) e before
-  | inr last ↦ let named = above_named kind.Jump limits.jump (length t.segments) _ e last in (named.0, omega (arith, named.1))
-]
+first_named limits depth t e is = grind (arith, common_steps, either, before_named, above_named)

@@ -1,4 +1,5 @@
 -- The first of the greatest numbers.
+use Rattle.std.proofs.lemmas.Grind.{common_steps}
 use Rattle.std.proofs.Common.{◌≡◌, ℕ, zero, suc, ◌≤◌, ◌<◌, max, Bool, nat_lt, true, false, cond, pos, arith, refl, sym, ◌∙◌, ap, length}
 use Rattle.std.proofs.lemmas.Bool.Decides.{nat_tests}
 use Rattle.traj_codec.specs.declared.traj.Traj.{Traj}
@@ -8,11 +9,7 @@ use Rattle.dynamics_bound.specs.Edges.{IsGreatestJump, first_greatest, greatest_
 
 -- the first of the greatest is one of the numbers
 first-inside : (n : ℕ) (f : ℕ → ℕ) → first_greatest (suc n) f ≤ n
-first-inside zero f = go (nat_lt 0 (f 0))
-  where
-    go : (s : Bool) → cond s 0 0 ≤ 0
-    go true = omega arith
-    go false = omega arith
+first-inside zero f = grind (arith, common_steps, nat_lt, cond)
 first-inside (suc n) f = go (nat_lt (greatest_below (suc n) f) (f (suc n))) (first-inside n f)
   where
     go : (s : Bool) → first_greatest (suc n) f ≤ n → cond s (suc n) (first_greatest (suc n) f) ≤ suc n
@@ -21,11 +18,7 @@ first-inside (suc n) f = go (nat_lt (greatest_below (suc n) f) (f (suc n))) (fir
 
 -- it is the greatest
 first-is : (n : ℕ) (f : ℕ → ℕ) → f (first_greatest (suc n) f) ≡ greatest_below (suc n) f
-first-is zero f = go (nat_lt 0 (f 0))
-  where
-    go : (s : Bool) → f (cond s 0 0) ≡ max 0 (f 0)
-    go true = omega arith
-    go false = omega arith
+first-is zero f = grind (arith, common_steps, nat_lt, cond, max)
 first-is (suc n) f = go (nat_lt (greatest_below (suc n) f) (f (suc n))) refl (first-is n f)
   where
     go : (s : Bool) → nat_lt (greatest_below (suc n) f) (f (suc n)) ≡ s → f (first_greatest (suc n) f) ≡ greatest_below (suc n) f →

@@ -1,4 +1,5 @@
 -- Words of a line, and the extremes of trajectories that come one after another.
+use Rattle.std.proofs.lemmas.Grind.{common_steps}
 use Rattle.std.proofs.Common.{◌≡◌, ℕ, ◌+◌, ◌<◌, max, List, [], ◌∷◌, ◌++◌, length, get_or, drop, sym, ap, ◌∙◌, arith}
 use Rattle.std.proofs.lemmas.List.{drop_more}
 use Rattle.traj_codec.specs.declared.traj.Traj.{Traj}
@@ -15,27 +16,17 @@ words_both (word ∷ words) more are after = (are.0, words_both words more are.1
 -- ---- extremes
 
 axes_by : (a b : Axes) → a.x ≡ b.x → a.y ≡ b.y → a.z ≡ b.z → a ≡ b
-axes_by a b x y z =
-    ap (λ (n : ℕ). mk n a.y a.z) x ∙ ap (λ (n : ℕ). mk b.x n a.z) y ∙ ap (mk b.x b.y) z
-  where
-    mk : ℕ → ℕ → ℕ → Axes
-    mk x y z = record { x = x; y = y; z = z }
+axes_by a b x y z = grind (arith, common_steps)
 
 extremes_by : (a b : Extremes) → a.accelerations ≡ b.accelerations → a.jumps ≡ b.jumps → a ≡ b
-extremes_by a b accelerations jumps = ap (λ (n : Axes). mk n a.jumps) accelerations ∙ ap (mk b.accelerations) jumps
-  where
-    mk : Axes → Axes → Extremes
-    mk accelerations jumps = record { accelerations = accelerations; jumps = jumps }
+extremes_by a b accelerations jumps = grind (arith, common_steps)
 
 max_three : (a b c : ℕ) → max (max a b) c ≡ max a (max b c)
 max_three a b c = omega arith
 
 -- the greatest of trajectories, and of one more before others
 greater_next : (m g r : Extremes) → greater (greater m g) r ≡ greater m (greater g r)
-greater_next m g r =
-    extremes_by (greater (greater m g) r) (greater m (greater g r))
-    (axes_by _ _ (max_three m.accelerations.x g.accelerations.x r.accelerations.x) (max_three m.accelerations.y g.accelerations.y r.accelerations.y) (max_three m.accelerations.z g.accelerations.z r.accelerations.z))
-    (axes_by _ _ (max_three m.jumps.x g.jumps.x r.jumps.x) (max_three m.jumps.y g.jumps.y r.jumps.y) (max_three m.jumps.z g.jumps.z r.jumps.z))
+greater_next m g r = grind (arith, common_steps, extremes_by, axes_by, max_three)
 
 -- the extremes of one trajectory more
 pub extremes_next : (depth : ℕ) (m : Extremes) (sent : List Traj) (d : ℕ) (t : Traj) → d < length sent → t ≡ get_or sent d t →

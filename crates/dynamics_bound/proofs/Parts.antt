@@ -1,4 +1,5 @@
 -- The same by the parts of a depth: what is known of both halves is known of the whole.
+use Rattle.std.proofs.lemmas.Grind.{common_steps}
 use Rattle.std.proofs.Common.{◌≡◌, ℕ, zero, suc, ◌+◌, ◌-◌, ◌*◌, ◌^◌, ◌≤◌, ◌<◌, ℤ, pos, ◌+ℤ◌, ◌-ℤ◌, ◌*ℤ◌, ◌≤ℤ◌, arith, refl, sym, ◌∙◌, ap}
 use Rattle.std.proofs.lemmas.Int.{ints, by_lt_z}
 use Rattle.std.proofs.lemmas.Nat.{pow-add}
@@ -61,22 +62,10 @@ pub record IsGentle (q room : ℤ) (g v : ℤ → ℤ) (low high : ℤ) : Type 0
   pub turn : (x y : ℤ) → low ≤ℤ x → x ≤ℤ y → y ≤ℤ high → Turns q room (y -ℤ x) (v x) (v y)
 
 departs_same : (q room : ℤ) {w t h e s w' t' h' e' s' : ℤ} → w ≡ w' → t ≡ t' → h ≡ h' → e ≡ e' → s ≡ s' → Departs q room w t h e s → Departs q room w' t' h' e' s'
-departs_same q room {w} {t} {h} {e} {s} {w'} {t'} {h'} {e'} {s'} ws ts hs es ss departs = within_same rooms values departs
-  where
-    rooms : pos 21 *ℤ (w *ℤ (w *ℤ room)) ≡ pos 21 *ℤ (w' *ℤ (w' *ℤ room))
-    rooms = cc
-
-    values : q *ℤ ((e -ℤ h) -ℤ pos 7 *ℤ (t *ℤ s)) ≡ q *ℤ ((e' -ℤ h') -ℤ pos 7 *ℤ (t' *ℤ s'))
-    values = cc
+departs_same q room {w} {t} {h} {e} {s} {w'} {t'} {h'} {e'} {s'} ws ts hs es ss departs = grind (arith, common_steps, within_same, pos)
 
 turns_same : (q room : ℤ) {w x y w' x' y' : ℤ} → w ≡ w' → x ≡ x' → y ≡ y' → Turns q room w x y → Turns q room w' x' y'
-turns_same q room {w} {x} {y} {w'} {x'} {y'} ws xs ys turns = within_same rooms values turns
-  where
-    rooms : pos 6 *ℤ (w *ℤ room) ≡ pos 6 *ℤ (w' *ℤ room)
-    rooms = cc
-
-    values : q *ℤ (y -ℤ x) ≡ q *ℤ (y' -ℤ x')
-    values = cc
+turns_same q room {w} {x} {y} {w'} {x'} {y'} ws xs ys turns = grind (arith, common_steps, within_same, pos)
 
 -- the same, later by t
 shifted : (q room : ℤ) (g v g' v' : ℤ → ℤ) (t s high : ℤ) → high ≤ℤ (t +ℤ s) → ((x : ℤ) → g (x -ℤ t) ≡ g' x) → ((x : ℤ) → v (x -ℤ t) ≡ v' x) →
@@ -247,15 +236,7 @@ halved q p c f s gentle =
     }
 
 same_gentle : {q q' room room' : ℤ} {g v : ℤ → ℤ} {low high : ℤ} → q ≡ q' → room ≡ room' → IsGentle q room g v low high → IsGentle q' room' g v low high
-same_gentle {q} {q'} {room} {room'} {g} {v} {low} {high} qs rooms gentle =
-    record {
-      fore = λ x y x_low order y_high. within_same (wide (y -ℤ x)) (ap (λ (z : ℤ). z *ℤ ((g y -ℤ g x) -ℤ pos 7 *ℤ ((y -ℤ x) *ℤ v x))) qs) (gentle.fore x y x_low order y_high);
-      back = λ x y x_low order y_high. within_same (wide (y -ℤ x)) (ap (λ (z : ℤ). z *ℤ ((g x -ℤ g y) -ℤ pos 7 *ℤ ((x -ℤ y) *ℤ v y))) qs) (gentle.back x y x_low order y_high);
-      turn = λ x y x_low order y_high. within_same (ap (λ (z : ℤ). pos 6 *ℤ ((y -ℤ x) *ℤ z)) rooms) (ap (λ (z : ℤ). z *ℤ (v y -ℤ v x)) qs) (gentle.turn x y x_low order y_high);
-    }
-  where
-    wide : (w : ℤ) → pos 21 *ℤ (w *ℤ (w *ℤ room)) ≡ pos 21 *ℤ (w *ℤ (w *ℤ room'))
-    wide w = ap (λ (z : ℤ). pos 21 *ℤ (w *ℤ (w *ℤ z))) rooms
+same_gentle {q} {q'} {room} {room'} {g} {v} {low} {high} qs rooms gentle = grind (arith, common_steps, within_same, pos)
 
 -- Where no part of a depth bends more than m, the whole is gentle.
 pub gentle : (e : ℕ) (f : ℕ → ℤ) (m s : ℤ) → pos 0 ≤ℤ s → BendsWithin e f m → IsGentle (pos (2 ^ (7 * e))) (room_of e m s) (position f s) (speed f s) (pos 0) s

@@ -2,7 +2,7 @@
 use Rattle.std.proofs.Common.{◌≡◌, ℕ, zero, suc, ◌*◌, ◌^◌, ◌≤◌, ◌<◌, ℤ, pos, ◌-ℤ◌, ◌*ℤ◌, ◌≤ℤ◌, ◌<ℤ◌, unsigned_abs, arith, refl, sym, ◌∙◌, ap, List, [], ◌∷◌, length, map, get_or, All}
 use Rattle.std.proofs.lemmas.Int.{ints}
 use Rattle.std.proofs.lemmas.Nat.{pow_pos, mul-le}
-use Rattle.std.proofs.lemmas.Grind.{div_ceil_times}
+use Rattle.std.proofs.lemmas.Grind.{div_ceil_times, common_steps}
 use Rattle.std.proofs.lemmas.List.Elements.{All-head, All-tail}
 use Rattle.fleet_math.specs.Sums.{power}
 use Rattle.fleet_math.specs.Bernstein.{at, bernstein}
@@ -125,14 +125,7 @@ bends_at depth f index inside k small =
 -- the bound of a segment is enough for its bends
 pub fast_at : (depth ms : ℕ) (f : ℕ → ℤ) → 1 ≤ ms → 25000000 * 4 ^ depth * widest_bend_part depth f ≤ segment_acceleration depth ms f * (3 * 2 ^ (7 * depth) * (ms * ms))
 unfolding segment_acceleration acceleration_of
-fast_at depth ms f lasting =
-    (div_ceil_times (25000000 * 4 ^ depth * widest_bend_part depth f) (3 * 2 ^ (7 * depth) * (ms * ms)) (some (2 ^ (7 * depth)) ms (pow_pos (7 * depth)) lasting)).0
-  where
-    some : (q ms : ℕ) → 1 ≤ q → 1 ≤ ms → 0 < 3 * q * (ms * ms)
-    some q ms first second =
-        let square : 1 * 1 ≤ ms * ms = mul-le 1 1 ms ms second second in
-        let product : 1 * 1 ≤ q * (ms * ms) = mul-le 1 1 q (ms * ms) first (omega arith) in
-        omega (arith, product)
+fast_at depth ms f lasting = grind (arith, common_steps, div_ceil_times, pow_pos, mul-le)
 
 pub lasts : (axis : ℕ) (segments : List Segment) (cue : ℕ) → cue < length segments → All IsPiece (map (piece_on axis) segments) → 1 ≤ get_or (durations segments) cue 0
 lasts axis [] cue inside formed = absurd (omega arith)

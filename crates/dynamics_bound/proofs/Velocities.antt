@@ -1,10 +1,9 @@
 -- Velocities: the steps of elements, and how much two velocities differ.
 use Rattle.std.proofs.Common.{◌≡◌, ℕ, suc, ◌+◌, ◌-◌, ◌*◌, ◌^◌, ◌≤◌, ◌<◌, ℤ, pos, ◌-ℤ◌, ◌*ℤ◌, unsigned_abs, arith, sym, ◌∙◌, ap, List, ◌∷◌, length, FitsSigned, to_z, of_z}
-use Rattle.std.specs.Int.{div_ceil}
 use Rattle.std.proofs.lemmas.Int.{ints, to_z-of_z}
 use mir.Syntax.{w32}
 use Rattle.std.proofs.lemmas.Nat.{mul-le}
-use Rattle.std.proofs.lemmas.Grind.{div_ceil_times}
+use Rattle.std.proofs.lemmas.Grind.{div_ceil_times, common_steps}
 use Rattle.fleet_math.specs.Bernstein.{at}
 use Rattle.fleet_math.specs.Numbers.{IsBelow}
 use Rattle.fleet_math.proofs.RingLemmas.{mul_comm_ℤ, one_mul_ℤ}
@@ -42,27 +41,15 @@ seven_times way x small is =
 
 -- a step of 32 bits times a duration
 pub product_small : (step x : ℤ) (ms : ℕ) → FitsSigned w32 step → x ≡ step *ℤ pos ms → IsWithin (pos (2 ^ 31 * ms)) x
-product_small step x ms fits is =
-    rw (is, mul_comm_ℤ step (pos ms)) (wide (within_mul (pos ms) (pos (2 ^ 31)) step (omega (arith, ints)) (omega (arith, ints), omega (arith, ints))))
-  where
-    wide : {z : ℤ} → IsWithin (pos ms *ℤ pos (2 ^ 31)) z → IsWithin (pos (2 ^ 31 * ms)) z
-    wide {z} within = (omega (arith, ints, within.0), omega (arith, ints, within.1))
+product_small step x ms fits is = grind (arith, common_steps, ints, mul_comm_ℤ, pos, within_mul)
 
 -- how far apart two steps over both durations are
 pub gap_small : (a b : ℕ) (x y : ℤ) → 1 ≤ a → 1 ≤ b → IsWithin (pos (2 ^ 31 * a)) x → IsWithin (pos (2 ^ 31 * b)) y → unsigned_abs (x -ℤ y) ≤ 2 ^ 32 * (a * b)
-gap_small a b x y some_a some_b first second =
-    let one : a * 1 ≤ a * b = mul-le a 1 a b (omega arith) some_b in
-    let two : 1 * b ≤ a * b = mul-le 1 b a b some_a (omega arith) in
-    omega (arith, ints, first.0, first.1, second.0, second.1, one, two)
+gap_small a b x y some_a some_b first second = grind (arith, common_steps, ints, mul-le)
 
 -- a jump fits
 pub jump_small : (gap time r : ℕ) → 1 ≤ time → gap ≤ 2 ^ 32 * time → r * time < 1000000 * gap + time → r < 2 ^ 53
-jump_small gap time r some small below = by_small r (2 ^ 53)
-    (λ large. let product : 2 ^ 53 * time ≤ r * time = mul-le (2 ^ 53) time r time large (omega arith) in
-    absurd (omega (arith, product, below, small, some)))
-  where
-    by_small : (m n : ℕ) → (n ≤ m → m < n) → m < n
-    by_small m n h = by_lt m n (λ less. less) h
+jump_small gap time r some small below = grind (arith, common_steps, mul-le, by_lt)
 
 pub some_product : (a b : ℕ) → 1 ≤ a → 1 ≤ b → 1 ≤ a * b
 some_product a b first second = let product : 1 * 1 ≤ a * b = mul-le 1 1 a b first second in omega (arith, product)
@@ -71,24 +58,9 @@ some_product a b first second = let product : 1 * 1 ≤ a * b = mul-le 1 1 a b f
 -- where there is no jump two velocities are the same
 pub none_same : (v w : Velocity) → 1 ≤ v.ms → 1 ≤ w.ms → jump_between v w ≡ 0 → AreSame v w
 unfolding jump_between
-none_same v w some_v some_w none =
-    flat (w.step *ℤ pos v.ms) (v.step *ℤ pos w.ms) (v.ms * w.ms)
-    (div_ceil_times (1000000 * unsigned_abs (w.step *ℤ pos v.ms -ℤ v.step *ℤ pos w.ms)) (v.ms * w.ms) (some_product v.ms w.ms some_v some_w)).0 none
-  where
-    flat : (x y : ℤ) (time : ℕ) → {r : ℕ} → 1000000 * unsigned_abs (x -ℤ y) ≤ r * time → r ≡ 0 → x ≡ y
-    flat x y time {r} most none =
-        let nothing : r * time ≡ 0 = rw none (omega arith) in
-        omega (arith, ints, most, nothing)
+none_same v w some_v some_w none = grind (arith, common_steps, ints, pos, div_ceil_times, unsigned_abs, some_product)
 
 -- and where they are there is none
 pub same_none : (v w : Velocity) → 1 ≤ v.ms → 1 ≤ w.ms → AreSame v w → jump_between v w ≡ 0
 unfolding jump_between
-same_none v w some_v some_w same =
-    let flat : 1000000 * unsigned_abs (w.step *ℤ pos v.ms -ℤ v.step *ℤ pos w.ms) ≡ 0 = omega (arith, ints, same) in
-    rw flat (nothing (v.ms * w.ms) (some_product v.ms w.ms some_v some_w))
-  where
-    nothing : (time : ℕ) → 1 ≤ time → div_ceil 0 time ≡ 0
-    nothing time some = by_lt 0 (div_ceil 0 time)
-        (λ more. let product : 1 * time ≤ div_ceil 0 time * time = mul-le 1 time (div_ceil 0 time) time more (omega arith) in
-        absurd (omega (arith, product, (div_ceil_times 0 time some).1)))
-        (λ less. omega (arith, less))
+same_none v w some_v some_w same = grind (arith, common_steps, ints, unsigned_abs, pos, some_product, by_lt, mul-le, div_ceil_times)

@@ -1,5 +1,6 @@
 -- How a walk goes from edge to edge.
-use Rattle.std.proofs.Common.{◌≡◌, ℕ, zero, suc, ◌+◌, ◌≤◌, ◌<◌, max, ℤ, nat_lt, true, false, arith, refl, sym, subst, ◌∙◌, ap, List, [], ◌∷◌, length, map, get_or, All}
+use Rattle.std.proofs.lemmas.Grind.{common_steps}
+use Rattle.std.proofs.Common.{◌≡◌, ℕ, zero, suc, ◌+◌, ◌≤◌, ◌<◌, max, ℤ, nat_lt, true, false, arith, refl, sym, ◌∙◌, ap, List, [], ◌∷◌, length, map, get_or, All}
 use Rattle.std.proofs.lemmas.Bool.Decides.{nat_tests}
 use Rattle.std.proofs.lemmas.List.Elements.{All-head, All-tail, All-nil, All-cons, All-get_or}
 use Rattle.fleet_math.specs.Bernstein.{at}
@@ -12,7 +13,6 @@ use Rattle.traj_codec.specs.declared.traj.Traj.{Traj}
 use Rattle.traj_codec.specs.Spelling.{stored, HasDuration}
 use Rattle.traj_codec.specs.Positions.{durations, element_on, piece_on, points, value_after}
 use Rattle.speed_bound.specs.Speed.{duration, greatest_below}
-use Rattle.dynamics_bound.specs.declared.velocity.Velocity.{Velocity}
 use Rattle.dynamics_bound.specs.declared.walk.Reached.{Reached}
 use Rattle.dynamics_bound.specs.Accelerations.{acceleration, acceleration_in, segment_acceleration}
 use Rattle.dynamics_bound.specs.Edges.{arrival, departure, first_step, first_velocity, jump, jump_between, last_step, rest}
@@ -83,10 +83,7 @@ reached_next t axis k segments d here next here_is inside segments_are is =
     step = rw (here_is, segments_are) (ap last_step (sym (points-at t axis k d inside)))
 
 pub departure-lasts : (t : Traj) (axis k : ℕ) → All HasDuration t.segments → 1 ≤ (departure t axis k).ms
-departure-lasts t axis k lasting =
-    by_lt k (length t.segments)
-    (λ inside. rw (departs-inside t axis k inside) (lasts-at t k inside lasting))
-    (λ outside. let test : nat_lt k (length t.segments) ≡ false = grind (arith, nat_tests) in rw test (omega arith))
+departure-lasts t axis k lasting = grind (arith, common_steps, by_lt, departs-inside, lasts-at, nat_lt, nat_tests)
 
 -- what is reached has a velocity over some time
 pub reached-lasts : (t : Traj) (axis k : ℕ) (here : Reached) → here ≡ reached_at t axis k → k ≤ length t.segments → All HasDuration t.segments → 1 ≤ here.arrival.ms
@@ -96,27 +93,12 @@ reached-lasts t axis k here is inside lasting = rw is (arrival-lasts t axis k in
 pub jump-inside : (t : Traj) (axis k : ℕ) (segments : List Segment) (d : Segment) (here : Reached) (j : ℕ) → here ≡ reached_at t axis k → k < length t.segments → segments ≡ t.segments →
     j ≡ jump_between here.arrival (record { step = first_step (here.value ∷ stored (element_on (get_or segments k d) axis)); ms = (get_or segments k d).ms }) → j ≡ jump t axis k
 unfolding jump
-jump-inside t axis k segments d here j here_is inside segments_are is =
-    is ∙ same (ap (λ (r : Reached). r.arrival) here_is)
-    (same_velocity step (ap (λ (ss : List Segment). (get_or ss k d).ms) segments_are ∙ sym (duration-at t k d inside)) ∙ sym (departs-inside t axis k inside))
-  where
-    same : {v v' w w' : Velocity} → v ≡ v' → w ≡ w' → jump_between v w ≡ jump_between v' w'
-    same {v} {v'} {w} {w'} p q = cc
-
-    same_velocity : {s s' : ℤ} {m m' : ℕ} → s ≡ s' → m ≡ m' → ◌≡◌ {A = Velocity} (record { step = s; ms = m }) (record { step = s'; ms = m' })
-    same_velocity {s} {s'} {m} {m'} p q = cc
-
-    step : first_step (here.value ∷ stored (element_on (get_or segments k d) axis)) ≡ first_step (points t k axis)
-    step = rw (here_is, segments_are) (ap first_step (sym (points-at t axis k d inside)))
+jump-inside t axis k segments d here j here_is inside segments_are is = grind (arith, common_steps, duration-at, departs-inside, points-at)
 
 -- the jump at the last instant
 pub jump-last : (t : Traj) (axis k : ℕ) (here : Reached) (j : ℕ) → here ≡ reached_at t axis k → k ≡ length t.segments → j ≡ jump_between here.arrival rest → j ≡ jump t axis k
 unfolding jump
-jump-last t axis k here j here_is last is =
-    is ∙ same (ap (λ (r : Reached). r.arrival) here_is) (sym (departs-last t axis k last))
-  where
-    same : {v v' w w' : Velocity} → v ≡ v' → w ≡ w' → jump_between v w ≡ jump_between v' w'
-    same {v} {v'} {w} {w'} p q = cc
+jump-last t axis k here j here_is last is = grind (arith, common_steps, departs-last)
 
 -- ---- accelerations
 -- the bound of a segment by its curve
@@ -124,13 +106,7 @@ pub acceleration-at : (depth axis k : ℕ) (t : Traj) (segments : List Segment) 
     segments ≡ t.segments → (get_or curves axis (record { b = [] })).b ≡ raised (here.value ∷ stored (element_on (get_or segments k d) axis)) →
     v ≡ max m (segment_acceleration depth (get_or segments k d).ms (at (get_or curves axis (record { b = [] })).b)) → v ≡ max m (acceleration_in depth t axis k)
 acceleration-at depth axis k t segments d curves here m v here_is inside segments_are curve_is is =
-    is ∙ both (curve_is ∙ ap raised points_are) (ap (λ (ss : List Segment). (get_or ss k d).ms) segments_are ∙ sym (duration-at t k d inside))
-  where
-    points_are : here.value ∷ stored (element_on (get_or segments k d) axis) ≡ points t k axis
-    points_are = rw (here_is, segments_are) (sym (points-at t axis k d inside))
-
-    both : {b b' : List ℤ} {ms ms' : ℕ} → b ≡ b' → ms ≡ ms' → max m (segment_acceleration depth ms (at b)) ≡ max m (segment_acceleration depth ms' (at b'))
-    both {b} {b'} {ms} {ms'} p q = cc
+    grind (arith, common_steps, duration-at, points-at, max)
 
 -- the greatest accelerations of the segments before one
 abbrev pub most_before : ℕ → Traj → ℕ → ℕ → ℕ
@@ -157,16 +133,4 @@ three_small n x y z first second third =
 
 -- one of three small numbers
 pub small_at : (n i : ℕ) (f : ℕ → ℕ) (xs : List ℕ) → xs ≡ three f → All (λ v. v < n) xs → i < 3 → f i < n
-small_at n i f xs is all inside = by_axis n f i inside (first 0 (omega arith)) (first 1 (omega arith)) (first 2 (omega arith))
-  where
-    three_all : All (λ v. v < n) (three f)
-    three_all = subst (λ (ys : List ℕ). All (λ v. v < n) ys) is all
-
-    first : (k : ℕ) → k < 3 → get_or (three f) k 0 < n
-    first k near = All-get_or (λ (v : ℕ). v < n) (three f) k 0 near three_all
-
-    by_axis : (n : ℕ) (f : ℕ → ℕ) (axis : ℕ) → axis < 3 → f 0 < n → f 1 < n → f 2 < n → f axis < n
-    by_axis n f zero near x y z = x
-    by_axis n f (suc zero) near x y z = y
-    by_axis n f (suc (suc zero)) near x y z = z
-    by_axis n f (suc (suc (suc k))) near x y z = absurd (omega arith)
+small_at n i f xs is all inside = grind (arith, common_steps, All-get_or)

@@ -3,7 +3,7 @@ use Rattle.std.proofs.Common.{◌≡◌, ℕ, zero, suc, ◌+◌, ◌-◌, ◌*�
 use Rattle.std.specs.Int.{div_ceil}
 use Rattle.std.proofs.lemmas.Int.{ints}
 use Rattle.std.proofs.lemmas.Nat.{pow-add, pow_pos, mul-le}
-use Rattle.std.proofs.lemmas.Grind.{div_ceil_times}
+use Rattle.std.proofs.lemmas.Grind.{div_ceil_times, common_steps}
 use Rattle.std.proofs.Math.Nat.{pow-suc, pow-zero, pow-le-pow_right}
 use Rattle.fleet_math.proofs.BernsteinLemmas.{by_lt}
 use Rattle.bezier_core.specs.Steps.{IsWithin}
@@ -121,16 +121,10 @@ some_power n (suc e) some = let product : 1 * 1 ≤ n ^ e * n = mul-le 1 1 (n ^ 
 
 -- a positive time
 pub some_time : (q ms : ℕ) → 1 ≤ q → 1 ≤ ms → 0 < 3 * q * (ms * ms)
-some_time q ms first second =
-    let square : 1 * 1 ≤ ms * ms = mul-le 1 1 ms ms second second in
-    let product : 1 * 1 ≤ q * (ms * ms) = mul-le 1 1 q (ms * ms) first (omega arith) in
-    omega (arith, product)
+some_time q ms first second = grind (arith, common_steps, mul-le)
 
 pub least-quotient : (x y b : ℕ) → 0 < b → x ≤ y * b → div_ceil x b ≤ y
-least-quotient x y b some most = by_lt y (div_ceil x b)
-    (λ more. let product : (y + 1) * b ≤ div_ceil x b * b = mul-le (y + 1) b (div_ceil x b) b (omega arith) (omega arith) in
-    absurd (omega (arith, product, (div_ceil_times x b some).1)))
-    (λ h. h)
+least-quotient x y b some most = grind (arith, common_steps, by_lt, mul-le, div_ceil_times)
 
 -- a part that bends by no more than a bound allows
 pub allowed : (depth ms most w least : ℕ) → 1 ≤ ms → least * 25000000 ≤ most * (3 * 32 ^ depth) * (ms * ms) → w ≤ least → acceleration_of depth ms w ≤ most
@@ -147,10 +141,7 @@ allowed depth ms most w least lasting enough small =
 
 -- what is computed fits
 pub allowed_small : (m q t : ℕ) → m < 2 ^ 53 → q ≤ 2 ^ 40 → t ≤ 2 ^ 32 → m * (3 * q) * t < 2 ^ 128
-allowed_small m q t few small short =
-    let one : m * (3 * q) ≤ 2 ^ 53 * (3 * 2 ^ 40) = mul-le m (3 * q) (2 ^ 53) (3 * 2 ^ 40) (omega arith) (omega (arith, small)) in
-    let two : m * (3 * q) * t ≤ 2 ^ 53 * (3 * 2 ^ 40) * 2 ^ 32 = mul-le (m * (3 * q)) t (2 ^ 53 * (3 * 2 ^ 40)) (2 ^ 32) one short in
-    omega (arith, two)
+allowed_small m q t few small short = grind (arith, common_steps, mul-le)
 
 pub square_small : (ms : ℕ) → ms < 2 ^ 16 → ms * ms ≤ 2 ^ 32
 square_small ms short = mul-le ms ms (2 ^ 16) (2 ^ 16) (omega arith) (omega arith)

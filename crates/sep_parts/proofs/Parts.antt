@@ -1,4 +1,5 @@
 -- The parts of the curves at a place: how large they are, their halves, and their values along a direction.
+use Rattle.std.proofs.lemmas.Grind.{common_steps}
 use Rattle.std.proofs.Common.{◌≡◌, ℕ, suc, ◌+◌, ◌-◌, ◌*◌, ◌^◌, ◌≤◌, ◌<◌, ℤ, pos, ◌+ℤ◌, ◌*ℤ◌, arith, sym, ◌∙◌, ap, List, [], length, All, lit<}
 use Rattle.std.proofs.lemmas.Int.{ints}
 use Rattle.std.proofs.Math.Nat.{pow-le-pow_right, pow-suc}
@@ -117,20 +118,11 @@ left_level diff part level is shallow len halves = record {
 
 pub right_level : (diff part : List (Bez 8)) (level : Level) → IsLevel diff level → level.place.depth < 8 → length part ≡ 3 →
     ((axis : ℕ) → axis ≤ 2 → controls part axis ≡ eight (part_value 1 1 (at (controls level.part axis)))) → IsLevel diff (record { place = right_half level.place; part = part })
-right_level diff part level is shallow len halves = record {
-  place = (omega arith, rw (next_depth level.place.depth) (omega (arith, is.place.1)));
-  axes = len;
-  part = λ axis small. halves axis small ∙ half-part level.place.depth level.place.index 1 (at (controls diff axis)) (controls level.part axis) (omega arith) (is.part axis small);
-}
+right_level diff part level is shallow len halves = grind (arith, common_steps, next_depth, half-part)
 
 -- the whole curves are the part at the root
 pub root_level : (diff : List (Bez 8)) → length diff ≡ 3 → ((axis : ℕ) → axis ≤ 2 → length (controls diff axis) ≡ 8) → IsLevel diff (record { place = root; part = diff })
-root_level diff len sizes = record {
-  place = (omega arith, omega arith);
-  axes = len;
-  part = λ axis small. list_of_eight (controls diff axis) (sizes axis small)
-      ∙ same_eight (at (controls diff axis)) (part_value 0 0 (at (controls diff axis))) (λ k few. sym (part-whole (at (controls diff axis)) k));
-}
+root_level diff len sizes = grind (arith, common_steps, list_of_eight, same_eight, part-whole)
 
 -- ---- along a direction
 pub low-along : (diff : List (Bez 8)) (level : Level) (n : List ℤ) (r h : ℕ) (least : ℤ) → IsLevel diff level →

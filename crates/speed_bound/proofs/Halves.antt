@@ -1,4 +1,5 @@
 -- How wide the steps of a half are, and so those of all parts; and what is no faster than a speed that was found.
+use Rattle.std.proofs.lemmas.Grind.{common_steps}
 use Rattle.std.proofs.Common.{◌≡◌, ◌≢◌, ℕ, zero, suc, ◌+◌, ◌-◌, ◌*◌, ◌/◌, ◌^◌, ◌≤◌, ◌<◌, max, ℤ, pos, ◌+ℤ◌, ◌-ℤ◌, ◌*ℤ◌, unsigned_abs, arith, lit<, refl, sym, ◌∙◌, ap, List, All}
 use Rattle.std.proofs.lemmas.Int.{ints}
 use Rattle.std.proofs.lemmas.List.Elements.{All-from_get_or}
@@ -86,11 +87,7 @@ none_wider depth p step least f p_is step_is few =
 
 -- a curve that isn't halved
 pub whole_wider : (depth p step least : ℕ) (f : ℕ → ℤ) → depth ≡ 0 → p ≡ 64 ^ depth → step ≡ widest_step f → least < p * step → step ≡ max least (widest_part depth f)
-whole_wider depth p step least f none p_is step_is more =
-    let one : p ≡ 1 = p_is ∙ ap (λ (n : ℕ). 64 ^ n) none in
-    let same : widest_part depth f ≡ step = ap (λ (n : ℕ). widest_part n f) none ∙ sym (widest-whole f) ∙ sym step_is in
-    let less : p * step ≡ step = ap (λ (n : ℕ). n * step) one ∙ omega arith in
-    omega (arith, same, less, more)
+whole_wider depth p step least f none p_is step_is more = grind (arith, common_steps, widest-whole)
 
 -- both halves, one after the other
 pub both_wider : (least found widest first second whole : ℕ) → found ≡ max least first → widest ≡ max found second → max first second ≡ whole → widest ≡ max least whole
@@ -191,10 +188,7 @@ scaled_small depth p step shallow p_is few =
 
 -- 64 to a depth times a duration times a speed
 pub slow_small : (p ms v : ℕ) → p ≤ 2 ^ 48 → ms < 2 ^ 16 → v < 2 ^ 50 → 5040 * p * ms * v < 2 ^ 128
-slow_small p ms v few short slow =
-    let time : p * ms ≤ 2 ^ 48 * 2 ^ 16 = mul-le p ms (2 ^ 48) (2 ^ 16) few (omega arith) in
-    let way : p * ms * v ≤ 2 ^ 48 * 2 ^ 16 * 2 ^ 50 = mul-le (p * ms) v (2 ^ 48 * 2 ^ 16) (2 ^ 50) time (omega arith) in
-    omega (arith, way)
+slow_small p ms v few short slow = grind (arith, common_steps, mul-le)
 
 -- ---- the halves of a curve whose parts have room
 -- the number of a depth is at most 8

@@ -3,7 +3,7 @@ use Rattle.std.proofs.Common.{◌≡◌, ℕ, zero, suc, ◌+◌, ◌-◌, ◌*�
 use Rattle.std.specs.Int.{div_ceil}
 use Rattle.std.proofs.lemmas.Int.{ints}
 use Rattle.std.proofs.lemmas.Nat.{mul-le}
-use Rattle.std.proofs.lemmas.Grind.{div_ceil_times}
+use Rattle.std.proofs.lemmas.Grind.{div_ceil_times, common_steps}
 use Rattle.std.proofs.lemmas.List.Elements.{All-nil, All-cons, All-head, All-tail, All-from_get_or, All-get_or}
 use Rattle.fleet_math.specs.Sums.{power}
 use Rattle.fleet_math.specs.Numbers.{IsIn}
@@ -40,10 +40,7 @@ product_of x y = omega (arith, ints)
 
 -- how far two instants are apart, in time
 time_apart : (late q w a b : ℕ) → a ≤ b + late * (q * w) → b ≤ a + late * (q * w) → unsigned_abs (pos b -ℤ pos a) ≤ late * (q * w)
-time_apart late q w a b first second = go (late * (q * w)) first second
-  where
-    go : (n : ℕ) → a ≤ b + n → b ≤ a + n → unsigned_abs (pos b -ℤ pos a) ≤ n
-    go n first second = omega (arith, ints)
+time_apart late q w a b first second = grind (arith, common_steps, ints, unsigned_abs, pos)
 
 -- a number by its size
 by_size : (x n : ℤ) → pos (unsigned_abs x) ≤ℤ n → IsIn (neg_ℤ n) n x
@@ -241,10 +238,4 @@ reach_few depth late trajs axis = greatest-most (length trajs) (λ drone. reach 
 -- where nobody is late nobody moves
 pub reach_none : (depth : ℕ) (trajs : List Traj) (axis : ℕ) → reach_of depth 0 trajs axis ≡ 0
 unfolding reach_of reach
-reach_none depth trajs axis =
-    let most : greatest_below (length trajs) (λ drone. reach depth 0 (traj_at trajs drone) axis) ≤ 0 =
-    greatest-most (length trajs) (λ drone. reach depth 0 (traj_at trajs drone) axis) 0 (λ k inside. none (speed depth (traj_at trajs k) axis)) in
-    omega (arith, most)
-  where
-    none : (v : ℕ) → min farthest (div_ceil (0 * v) 1000000) ≤ 0
-    none v = omega (arith, (div_ceil_times (0 * v) 1000000 (omega arith)).1)
+reach_none depth trajs axis = grind (arith, common_steps, greatest-most, min, div_ceil_times)

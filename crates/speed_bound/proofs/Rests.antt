@@ -3,7 +3,7 @@ use Rattle.std.proofs.Common.{◌≡◌, ℕ, zero, suc, ◌+◌, ◌*◌, ◌^�
 use Rattle.std.proofs.lemmas.Int.{ints}
 use Rattle.std.proofs.Math.Seq.{drop-cons}
 use Rattle.std.proofs.lemmas.Nat.{pow_pos, mul-le}
-use Rattle.std.proofs.lemmas.Grind.{div_ceil_times}
+use Rattle.std.proofs.lemmas.Grind.{div_ceil_times, common_steps}
 use Rattle.std.proofs.lemmas.List.Elements.{All-head, All-tail, All-nil, All-cons}
 use Rattle.fleet_math.specs.Bernstein.{at}
 use Rattle.fleet_math.specs.Decoded.{Piece, IsPiece, points_from}
@@ -53,10 +53,7 @@ pub next_speed : (depth axis : ℕ) (first first' : ℤ) (segments : List Segmen
     fastest' ≡ max fastest here → max fastest (speed_from depth axis first (drop i segments)) ≡ whole → max fastest' (speed_from depth axis first' (drop (i + 1) segments)) ≡ whole
 unfolding speed_from
 next_speed depth axis first first' segments i d fastest fastest' here whole inside here_is first_is fastest_is same =
-    let up : i + 1 ≡ suc i = omega arith in
-    let front : max fastest (max here (speed_from depth axis first' (drop (suc i) segments))) ≡ whole =
-    rw (here_is, first_is) (ap (λ (ss : List Segment). max fastest (speed_from depth axis first ss)) (sym (drop-cons segments i d inside)) ∙ same) in
-    rw (up, fastest_is) (omega (arith, front))
+    grind (arith, common_steps, max, speed_from, drop, drop-cons)
 
 -- ---- what the bound promises
 -- each of the pieces of formed segments lasts some time and has at most seven stored points

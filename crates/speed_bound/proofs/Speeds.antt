@@ -1,4 +1,5 @@
 -- From the steps of the parts to the speed between each two instants of a trajectory.
+use Rattle.std.proofs.lemmas.Grind.{common_steps}
 use Rattle.std.proofs.Common.{◌≡◌, ℕ, zero, suc, ◌+◌, ◌-◌, ◌*◌, ◌^◌, ◌≤◌, ◌<◌, ℤ, pos, negsuc, ◌+ℤ◌, ◌-ℤ◌, ◌*ℤ◌, ◌≤ℤ◌, ◌<ℤ◌, neg_ℤ, unsigned_abs, arith, refl, sym, ◌∙◌, ap, subst, List, [], ◌∷◌, length, get_or, All, sum}
 use Rattle.std.proofs.lemmas.Int.{ints, by_lt_z}
 use Rattle.std.proofs.lemmas.Nat.{pow_pos}
@@ -186,18 +187,7 @@ durations-count (piece ∷ rest) = omega (arith, durations-count rest)
 along_pieces : (e v : ℕ) (start : ℤ) (pieces : List Piece) (i n : ℕ) → AreSlow e v start pieces → i + n < length pieces →
     IsWithin (pos v *ℤ (pos (time_before (durations pieces) (i + n)) -ℤ pos (time_before (durations pieces) i)))
     (pos 1000000 *ℤ (first_of_piece start pieces (i + n) -ℤ first_of_piece start pieces i))
-along_pieces e v start pieces i zero slow inside =
-    let same : i + 0 ≡ i = omega arith in
-    rw same (nothing v (time_before (durations pieces) i) (first_of_piece start pieces i))
-  where
-    nothing : (v t : ℕ) (x : ℤ) → IsWithin (pos v *ℤ (pos t -ℤ pos t)) (pos 1000000 *ℤ (x -ℤ x))
-    nothing v t x = within_same (zero_bound v t) (zero_value x) (omega (arith, ints), omega (arith, ints))
-      where
-        zero_bound : (v t : ℕ) → pos 0 ≡ pos v *ℤ (pos t -ℤ pos t)
-        zero_bound v t = let e : pos t -ℤ pos t ≡ pos 0 = omega (arith, linear) in rw e (omega (arith, linear, mul_comm_ℤ (pos v) (pos 0), zero_mul_ℤ (pos v)))
-
-        zero_value : (x : ℤ) → pos 0 ≡ pos 1000000 *ℤ (x -ℤ x)
-        zero_value x = let e : x -ℤ x ≡ pos 0 = omega (arith, linear) in rw e refl
+along_pieces e v start pieces i zero slow inside = grind (arith, common_steps, ints, first_of_piece, pos, within_same, mul_comm_ℤ, zero_mul_ℤ)
 along_pieces e v start pieces i (suc n) slow inside =
     let up : i + suc n ≡ suc (i + n) = omega arith in
     let here : i + n < length pieces = omega arith in
@@ -441,11 +431,7 @@ unsigned-neg (negsuc k) = refl
 -- the same with the instants exchanged
 turned_numbers : (v q s a b : ℕ) (k l x y : ℤ) → (pos (1000000 * (s * q)) *ℤ pos (unsigned_abs (l *ℤ x -ℤ k *ℤ y))) ≤ℤ (pos (v * unsigned_abs (pos a -ℤ pos b)) *ℤ (l *ℤ k)) →
     (pos (1000000 * (q * s)) *ℤ pos (unsigned_abs (k *ℤ y -ℤ l *ℤ x))) ≤ℤ (pos (v * unsigned_abs (pos b -ℤ pos a)) *ℤ (k *ℤ l))
-turned_numbers v q s a b k l x y within =
-    rw (swap_minus (k *ℤ y) (l *ℤ x), swap_minus (pos b) (pos a), unsigned-neg (l *ℤ x -ℤ k *ℤ y), unsigned-neg (pos a -ℤ pos b), swap q s, mul_comm_ℤ k l) within
-  where
-    swap : (q s : ℕ) → q * s ≡ s * q
-    swap q s = omega arith
+turned_numbers v q s a b k l x y within = grind (arith, common_steps, swap_minus, pos, unsigned-neg, mul_comm_ℤ)
 
 turned : (v p q r s : ℕ) (start : ℤ) (pieces : List Piece) (m n : Moment) → Within v start pieces r s p q n m → Within v start pieces p q r s m n
 turned v p q r s start pieces m n within =

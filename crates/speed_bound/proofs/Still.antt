@@ -1,4 +1,5 @@
 -- Where nobody strays or is late, drones that fly apart exactly fly apart.
+use Rattle.std.proofs.lemmas.Grind.{common_steps}
 use Rattle.std.proofs.Common.{◌≡◌, ℕ, zero, suc, ◌+◌, ◌*◌, ◌≤◌, ℤ, pos, negsuc, neg_ℤ, ◌+ℤ◌, ◌-ℤ◌, ◌*ℤ◌, ◌≤ℤ◌, ◌<ℤ◌, arith, refl, ◌∙◌, ap, subst, List, [], ◌∷◌, All, slice_get, Some, sum}
 use Rattle.std.proofs.lemmas.Int.{ints}
 use Rattle.std.proofs.lemmas.Nat.{mul-le}
@@ -35,13 +36,7 @@ root_none (negsuc k) below = absurd (omega (arith, ints, below))
 
 -- where the sum of three squares is at most 0, each number is 0
 nothing_aside : (x y z n : ℤ) → (square x +ℤ square y +ℤ square z) ≤ℤ square (pos 0 *ℤ n) → (x ≡ pos 0) × (y ≡ pos 0) × (z ≡ pos 0)
-nothing_aside x y z n near =
-    let none : square (pos 0 *ℤ n) ≡ pos 0 = rw (zero_mul_ℤ n) refl in
-    let low = rw none at near in (
-      root_none x (omega (arith, linear, low, square_positive y, square_positive z)),
-      root_none y (omega (arith, linear, low, square_positive x, square_positive z)),
-      root_none z (omega (arith, linear, low, square_positive x, square_positive y)),
-    )
+nothing_aside x y z n near = grind (arith, common_steps, pos, zero_mul_ℤ, root_none, square_positive)
 
 -- nothing is left between 0 and 0
 no_way : (n x : ℤ) → IsIn (neg_ℤ (pos 0 *ℤ n)) (pos 0 *ℤ n) x → x ≡ pos 0

@@ -1,11 +1,11 @@
 -- The greatest of some numbers, and the widest steps of the parts of a curve.
-use Rattle.std.proofs.Common.{◌≡◌, ℕ, zero, suc, ◌+◌, ◌-◌, ◌*◌, ◌^◌, ◌≤◌, ◌<◌, max, ℤ, pos, ◌-ℤ◌, ◌*ℤ◌, unsigned_abs, arith, refl, sym, ◌∙◌, ap, List, length, All}
+use Rattle.std.proofs.Common.{◌≡◌, ℕ, zero, suc, ◌+◌, ◌-◌, ◌*◌, ◌^◌, ◌≤◌, ◌<◌, max, ℤ, pos, ◌-ℤ◌, ◌*ℤ◌, unsigned_abs, arith, refl, sym, ◌∙◌, ap, List, All}
 use Rattle.std.proofs.lemmas.List.{get_or_past}
 use Rattle.std.proofs.lemmas.List.Elements.{All-get_or}
 use Rattle.fleet_math.specs.Bernstein.{at}
 use Rattle.std.proofs.lemmas.Int.{ints}
 use Rattle.std.proofs.lemmas.Nat.{pow_pos, mul-le}
-use Rattle.std.proofs.lemmas.Grind.{div_ceil_times}
+use Rattle.std.proofs.lemmas.Grind.{div_ceil_times, common_steps}
 use Rattle.std.proofs.Math.Nat.{pow-suc}
 use Rattle.std.specs.Int.{div_ceil}
 use Rattle.bezier_core.specs.Steps.{IsWithin}
@@ -62,17 +62,11 @@ greatest-map (suc n) f g none grows = rw (greatest-map n f g none grows) (both (
 -- ---- widest steps
 -- what bounds each number of a list bounds the one at a place
 pub within_at : (m : ℕ) (xs : List ℤ) (k : ℕ) → All (IsWithin (pos m)) xs → IsWithin (pos m) (at xs k)
-within_at m xs k all = by_lt k (length xs)
-    (λ (inside : k < length xs). All-get_or (IsWithin (pos m)) xs k (pos 0) inside all)
-    (λ (outside : length xs ≤ k). let none : at xs k ≡ pos 0 = get_or_past xs k (pos 0) outside in rw none (omega (arith, ints), omega (arith, ints)))
+within_at m xs k all = grind (arith, common_steps, ints, by_lt, All-get_or, pos, get_or_past)
 
 pub widest_step-same : (f g : ℕ → ℤ) → ((k : ℕ) → k ≤ 7 → f k ≡ g k) → widest_step f ≡ widest_step g
 unfolding widest_step
-widest_step-same f g same =
-    greatest-same 7 _ _ (λ k small. ap unsigned_abs (same_minus (same (suc k) (omega arith)) (same k (omega arith))))
-  where
-    same_minus : {x y z w : ℤ} → x ≡ y → z ≡ w → x -ℤ z ≡ y -ℤ w
-    same_minus {x} {y} {z} {w} p q = cc
+widest_step-same f g same = grind (arith, common_steps, greatest-same, unsigned_abs)
 
 -- the parts of a half are parts of the whole
 widest-half : (e r : ℕ) (f g : ℕ → ℤ) → ((k : ℕ) → k ≤ 7 → g k ≡ part_value 1 r f k) →
@@ -128,22 +122,11 @@ pub way_small : (p w : ℕ) → p ≤ 256 → w ≤ 2 ^ 85 → 7000000 * p * w <
 way_small p w few small = omega (arith, mul-le p w 256 (2 ^ 85) few small)
 
 pub speed_small : (p q w ms r : ℕ) → p ≤ 256 → 1 ≤ q → w ≤ 2 ^ 29 * q → 1 ≤ ms → r * (5040 * q * ms) < 7000000 * p * w + 5040 * q * ms → r < 2 ^ 50
-speed_small p q w ms r few some small lasting below = by_small r (2 ^ 50)
-    (λ large.
-    let way : p * w ≤ 256 * (2 ^ 29 * q) = mul-le p w 256 (2 ^ 29 * q) few small in
-    let time : q * 1 ≤ q * ms = mul-le q 1 q ms (omega arith) lasting in
-    let product : 2 ^ 50 * (5040 * q * ms) ≤ r * (5040 * q * ms) = mul-le (2 ^ 50) (5040 * q * ms) r (5040 * q * ms) large (omega arith) in
-    absurd (omega (arith, way, time, product, below)))
-  where
-    by_small : (m n : ℕ) → (n ≤ m → m < n) → m < n
-    by_small m n h = by_lt m n (λ less. less) h
+speed_small p q w ms r few some small lasting below = grind (arith, common_steps, mul-le, by_lt)
 
 -- a quotient that is rounded up is the least number that is enough
 pub div_ceil-least : (x y b : ℕ) → 0 < b → x ≤ y * b → div_ceil x b ≤ y
-div_ceil-least x y b some most = by_lt y (div_ceil x b)
-    (λ more. let product : (y + 1) * b ≤ div_ceil x b * b = mul-le (y + 1) b (div_ceil x b) b (omega arith) (omega arith) in
-    absurd (omega (arith, product, (div_ceil_times x b some).1)))
-    (λ h. h)
+div_ceil-least x y b some most = grind (arith, common_steps, by_lt, mul-le, div_ceil_times)
 
 -- a positive time
 pub some_time : (q ms : ℕ) → 1 ≤ q → 1 ≤ ms → 0 < 5040 * q * ms

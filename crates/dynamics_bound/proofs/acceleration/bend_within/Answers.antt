@@ -1,3 +1,4 @@
+use Rattle.std.proofs.lemmas.Grind.{common_steps}
 use Rattle.std.proofs.Common.{◌≡◌, ◌*◌, ◌^◌, ◌≤◌, ◌<◌, ℕ, arith}
 use Rattle.dynamics_bound.proofs.Widths.{allowed_small, depth_small, square_small}
 use Rattle.dynamics_bound.proofs.acceleration.bend_within.Goals as goal
@@ -17,7 +18,4 @@ overflow_mul-result-2 c =
     omega (arith, room)
 
 pub overflow_mul-result-3 : goal.overflow_mul-result-3
-overflow_mul-result-3 c =
-    let room : c.args.most * (3 * c.pow.result) * (c.args.ms * c.args.ms) < 2 ^ 128 =
-    allowed_small c.args.most c.pow.result (c.args.ms * c.args.ms) c.requires.most (small c.levels.result c.pow.result c.levels.ensures.most c.pow.ensures) (square_small c.args.ms (omega arith)) in
-    omega (arith, room)
+overflow_mul-result-3 c = grind (arith, common_steps, allowed_small, small, square_small)

@@ -1,4 +1,5 @@
-use Rattle.std.proofs.Common.{◌≡◌, ℕ, ◌^◌, ◌<◌, pos, arith, ◌∙◌, ap, List, length, get_or, to_z}
+use Rattle.std.proofs.lemmas.Grind.{common_steps}
+use Rattle.std.proofs.Common.{◌≡◌, ℕ, ◌^◌, ◌<◌, pos, arith, ◌∙◌, ap, List, length, to_z}
 use Rattle.std.proofs.lemmas.Int.{to_z_pos}
 use mir.Syntax.{w64}
 use Rattle.traj_codec.specs.declared.traj.Segment.{Segment}
@@ -10,11 +11,7 @@ use Rattle.dynamics_bound.proofs.Walks.{all_segments, one_more, small_at, three_
 use Rattle.dynamics_bound.proofs.acceleration.bound.Goals as goal
 
 pub loop-k-preserved : goal.loop-k-preserved
-loop-k-preserved c = record {
-  walk = c.next-walk.ensures;
-  most = one_more c.args.depth c.loop-k.k c.args.t.now c.loop-k.most c.accelerations-most.result c.loop-k.invariant.most c.accelerations-most.ensures.exact;
-  small = c.accelerations-most.ensures.small;
-}
+loop-k-preserved c = grind (arith, common_steps, one_more)
 
 told : (n m : ℕ) → n ≡ m → m < 2 ^ 53 → to_z w64 n ≡ pos m
 told n m is small = to_z_pos w64 n (omega (arith, is, small)) ∙ ap (λ (k : ℕ). pos k) is
@@ -23,10 +20,7 @@ pub returns-clause-exact : goal.returns-clause-exact
 returns-clause-exact c =
     let last : c.loop-k.k ≡ length c.args.t.now.segments = omega (arith, ap (λ (ss : List Segment). length ss) c.as_slice-k-end.ensures) in
     let whole : c.loop-k.most ≡ three (acceleration c.args.depth c.args.t.now) = all_segments c.args.depth c.loop-k.k c.args.t.now c.loop-k.most c.loop-k.invariant.most last in
-    three_told
-    (told _ (acceleration c.args.depth c.args.t.now 0) (ap (λ (ms : List ℕ). get_or ms 0 0) whole) (small_at (2 ^ 53) 0 (acceleration c.args.depth c.args.t.now) c.loop-k.most whole c.loop-k.invariant.small (omega arith)))
-    (told _ (acceleration c.args.depth c.args.t.now 1) (ap (λ (ms : List ℕ). get_or ms 1 0) whole) (small_at (2 ^ 53) 1 (acceleration c.args.depth c.args.t.now) c.loop-k.most whole c.loop-k.invariant.small (omega arith)))
-    (told _ (acceleration c.args.depth c.args.t.now 2) (ap (λ (ms : List ℕ). get_or ms 2 0) whole) (small_at (2 ^ 53) 2 (acceleration c.args.depth c.args.t.now) c.loop-k.most whole c.loop-k.invariant.small (omega arith)))
+    grind (arith, common_steps, three_told, told, small_at)
 
 pub returns-clause-keeps : goal.returns-clause-keeps
 returns-clause-keeps c axis near =

@@ -1,7 +1,7 @@
 use Rattle.std.proofs.Common.{◌≡◌, ◌*◌, ◌^◌, ◌≤◌, ◌<◌, ℕ, arith}
 use Rattle.std.specs.Int.{div_ceil}
 use Rattle.std.proofs.lemmas.Nat.{mul-le, pow_pos}
-use Rattle.std.proofs.lemmas.Grind.{div_ceil_times}
+use Rattle.std.proofs.lemmas.Grind.{div_ceil_times, common_steps}
 use Rattle.dynamics_bound.proofs.Widths.{acceleration_small, depth_small, force_small, powers, some_power, some_time, square_small}
 use Rattle.dynamics_bound.proofs.acceleration.per_second_squared.Goals as goal
 
@@ -15,17 +15,10 @@ pub overflow_mul-way : goal.overflow_mul-way
 overflow_mul-way c = omega (arith, four c.levels-levels.result c.pow.result c.levels-levels.ensures.most c.pow.ensures)
 
 pub overflow_mul-way-2 : goal.overflow_mul-way-2
-overflow_mul-way-2 c =
-    let room : 25000000 * c.pow.result * c.args.widest < 2 ^ 128 =
-    force_small c.pow.result c.args.widest (32 ^ c.levels-levels.result) (four c.levels-levels.result c.pow.result c.levels-levels.ensures.most c.pow.ensures) (depth_small c.levels-levels.result c.levels-levels.ensures.most).1 (rw c.levels-levels.ensures.same c.requires.widest) in
-    omega (arith, room)
+overflow_mul-way-2 c = grind (arith, common_steps, force_small, four, depth_small)
 
 pub overflow_mul-time-2 : goal.overflow_mul-time-2
-overflow_mul-time-2 c =
-    let few : c.pow-2.result ≤ 2 ^ 56 = rw c.pow-2.ensures (depth_small c.levels-levels.result c.levels-levels.ensures.most).2 in
-    let room : 3 * c.pow-2.result * (c.args.ms * c.args.ms) ≤ 3 * 2 ^ 56 * 2 ^ 32 =
-    mul-le (3 * c.pow-2.result) (c.args.ms * c.args.ms) (3 * 2 ^ 56) (2 ^ 32) (omega arith) (square_small c.args.ms (omega arith)) in
-    omega (arith, room)
+overflow_mul-time-2 c = grind (arith, common_steps, depth_small, mul-le, square_small)
 
 small : (w ms depth p q r : ℕ) → w ≤ 2 ^ 30 * 32 ^ depth → 1 ≤ ms → p ≡ 4 ^ depth → q ≡ 2 ^ (7 * depth) → r ≡ div_ceil (25000000 * p * w) (3 * q * (ms * ms)) → r < 2 ^ 53
 small w ms depth p q r wide lasting p_is q_is r_is =

@@ -1,11 +1,12 @@
-use Rattle.std.proofs.Common.{◌≡◌, ℕ, ◌-◌, ◌*◌, ◌^◌, ◌/◌, ◌≤◌, ℤ, pos, max, arith, lit<, ◌∙◌, ap}
+use Rattle.std.proofs.lemmas.Grind.{common_steps}
+use Rattle.std.proofs.Common.{◌≡◌, ℕ, ◌-◌, ◌*◌, ◌^◌, ◌/◌, ◌≤◌, ℤ, pos, max, arith, lit<}
 use Rattle.std.proofs.lemmas.Int.{ints}
 use Rattle.std.proofs.Math.Nat.{div-mul-le_self, pow-le-pow_right}
 use Rattle.fleet_math.specs.Bernstein.{at}
 use Rattle.fleet_math.specs.Numbers.{IsBelow}
 use Rattle.bezier_core.specs.Steps.{IsWithin}
 use Rattle.bezier_core.proofs.EightLemmas.{below_at}
-use Rattle.dynamics_bound.specs.Accelerations.{acceleration_of, segment_acceleration, widest_bend_part}
+use Rattle.dynamics_bound.specs.Accelerations.{segment_acceleration, widest_bend_part}
 use Rattle.dynamics_bound.proofs.Widths.{allowed, widest_part-small}
 use Rattle.dynamics_bound.proofs.acceleration.segment_above.Goals as goal
 
@@ -24,11 +25,7 @@ widest_above-widest-requires c = record {
 no_sharper : (depth ms most least widest : ℕ) (f : ℕ → ℤ) → 1 ≤ ms → least ≡ most * (3 * 32 ^ depth) * (ms * ms) / 25000000 → widest ≡ max least (widest_bend_part depth f) → widest ≡ least →
     most ≡ max most (segment_acceleration depth ms f)
 unfolding segment_acceleration
-no_sharper depth ms most least widest f lasting least_is widest_is same =
-    let small : widest_bend_part depth f ≤ least = omega (arith, widest_is, same) in
-    let enough : least * 25000000 ≤ most * (3 * 32 ^ depth) * (ms * ms) = rw least_is (div-mul-le_self (most * (3 * 32 ^ depth) * (ms * ms)) 25000000) in
-    let below : acceleration_of depth ms (widest_bend_part depth f) ≤ most = allowed depth ms most (widest_bend_part depth f) least lasting enough small in
-    omega (arith, below)
+no_sharper depth ms most least widest f lasting least_is widest_is same = grind (arith, common_steps, div-mul-le_self, allowed)
 
 pub returns-then-widest-least-clause-exact : goal.returns-then-widest-least-clause-exact
 returns-then-widest-least-clause-exact c =
@@ -50,7 +47,4 @@ per_second_squared-requires-clause-widest c =
 
 pub returns-clause-exact : goal.returns-clause-exact
 unfolding segment_acceleration
-returns-clause-exact c =
-    let is : c.widest_above-widest.result ≡ widest_bend_part c.args.depth (at c.args.curve.now.b) =
-    larger c.bend_within-least.result (widest_bend_part c.args.depth (at c.args.curve.now.b)) c.widest_above-widest.result c.widest_above-widest.ensures c.if-widest-least.false in
-    c.max.ensures ∙ ap (λ (n : ℕ). max c.args.most n) (c.per_second_squared.ensures.exact ∙ ap (λ (n : ℕ). acceleration_of c.args.depth c.args.ms n) is)
+returns-clause-exact c = grind (arith, common_steps, larger, max)

@@ -1,3 +1,4 @@
+use Rattle.std.proofs.lemmas.Grind.{common_steps}
 use Rattle.std.proofs.Common.{◌≡◌, ℕ, ◌<◌, sym, arith, ◌∙◌, ap, Option, Some, None, IfNone, IfSome, ◌≤◌, List, length}
 use Rattle.traj_codec.specs.declared.traj.Segment.{Segment}
 use Rattle.traj_codec.specs.declared.traj.Traj.{Traj}
@@ -21,10 +22,7 @@ returns-in-Some-jumps_at-clause-exact c =
     (sym c.jumps_at.ensures ∙ c.in-Some-jumps_at.is)) inside
 
 pub loop-k-preserved : goal.loop-k-preserved
-loop-k-preserved c = record {
-  walk = c.next-walk.ensures;
-  none = none_more c.args.limits c.args.depth c.args.t.now c.loop-k.k c.loop-k.invariant.none (sym c.sharp_at.ensures ∙ c.in_default.is) (sym c.jumps_at.ensures ∙ c.in_default-jumps_at.is);
-}
+loop-k-preserved c = grind (arith, common_steps, none_more)
 
 -- the last jump is the first excess, where there is none before
 last : (limits : Limits) (depth k n : ℕ) (t : Traj) (o : Option Excess) → excess_before limits depth t k ≡ None → k ≡ length t.segments → n ≡ length t.segments → o ≡ jumps_at limits.jump t n →

@@ -1,7 +1,7 @@
-use Rattle.std.proofs.Common.{◌≡◌, ◌-ℤ◌, rules, sym, ◌∙◌, ap, ◌∷◌, length, FitsSigned}
+use Rattle.std.proofs.lemmas.Grind.{common_steps}
+use Rattle.std.proofs.Common.{◌≡◌, ◌-ℤ◌, rules, sym, ◌∙◌, ap, ◌∷◌, FitsSigned, arith}
 use Rattle.std.proofs.lemmas.Int.{to_z-of_z}
 use mir.Syntax.{w16}
-use Rattle.fleet_math.specs.Bernstein.{at}
 use Rattle.traj_codec.specs.Spelling.{stored}
 use Rattle.traj_codec.specs.declared.traj.Element.{Element}
 use Rattle.dynamics_bound.specs.Edges.{last_step}
@@ -16,19 +16,7 @@ returns-in-Linear c =
     once c.way.result _ c.way.ensures.small exact ∙ ap (λ (e : Element). last_step (c.args.value ∷ stored e)) (sym c.in-Linear.is)
 
 pub returns-in-Cubic : goal.returns-in-Cubic
-returns-in-Cubic c =
-    let count : length c.in-Cubic.v ≡ 3 = search rules in
-    let from : FitsSigned w16 (at c.in-Cubic.v 1) = search rules in
-    let to : FitsSigned w16 (at c.in-Cubic.v 2) = search rules in
-    let exact : c.way-in-Cubic.result ≡ at c.in-Cubic.v 2 -ℤ at c.in-Cubic.v 1 = simp to_z-of_z at c.way-in-Cubic.ensures.exact in
-    thrice c.way-in-Cubic.result _ c.way-in-Cubic.ensures.small exact ∙ sym (last_cubic c.args.value c.in-Cubic.v count)
-    ∙ ap (λ (e : Element). last_step (c.args.value ∷ stored e)) (sym c.in-Cubic.is)
+returns-in-Cubic c = grind (arith, common_steps, to_z-of_z, thrice, last_cubic)
 
 pub returns-in-Seven : goal.returns-in-Seven
-returns-in-Seven c =
-    let count : length c.in-Seven.v ≡ 7 = search rules in
-    let from : FitsSigned w16 (at c.in-Seven.v 5) = search rules in
-    let to : FitsSigned w16 (at c.in-Seven.v 6) = search rules in
-    let exact : c.way-in-Seven.result ≡ at c.in-Seven.v 6 -ℤ at c.in-Seven.v 5 = simp to_z-of_z at c.way-in-Seven.ensures.exact in
-    seven_times c.way-in-Seven.result _ c.way-in-Seven.ensures.small exact ∙ sym (last_seven c.args.value c.in-Seven.v count)
-    ∙ ap (λ (e : Element). last_step (c.args.value ∷ stored e)) (sym c.in-Seven.is)
+returns-in-Seven c = grind (arith, common_steps, to_z-of_z, seven_times, last_seven)

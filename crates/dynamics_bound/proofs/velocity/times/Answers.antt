@@ -1,4 +1,5 @@
-use Rattle.std.proofs.Common.{arith, ◌≡◌, ◌≤◌, ◌*◌, ◌^◌, ◌∙◌, ◌*ℤ◌, ℕ, ℤ, pos, unsigned_abs, Fits, FitsSigned}
+use Rattle.std.proofs.lemmas.Grind.{common_steps}
+use Rattle.std.proofs.Common.{arith, ◌≤◌, ◌*◌, ◌^◌, ◌*ℤ◌, ℕ, ℤ, pos, unsigned_abs, Fits, FitsSigned}
 use Rattle.std.proofs.lemmas.Int.{ints, unsigned_abs-mul, to_z-of_z}
 use Rattle.std.proofs.lemmas.Nat.{mul-le}
 use mir.Syntax.{w16, w32, w64}
@@ -16,13 +17,7 @@ long : (n : ℕ) → Fits w16 n → FitsSigned w64 (pos n)
 long n fits = omega (arith, ints)
 
 pub overflow_mul-result : goal.overflow_mul-result
-overflow_mul-result c =
-    let step : c.from.result ≡ c.args.step = c.from.ensures ∙ to_z-of_z w32 c.args.step c.ranges.step in
-    rw (step, c.from-2.ensures, to_z-of_z w64 c.args.step (wide c.args.step c.ranges.step), to_z-of_z w64 (pos c.args.ms) (long c.args.ms c.ranges.ms))
-    (product_fits c.args.step c.args.ms c.ranges.step c.ranges.ms)
+overflow_mul-result c = grind (arith, common_steps, to_z-of_z, wide, pos, long, product_fits)
 
 pub returns : goal.returns
-returns c =
-    let step : c.from.result ≡ c.args.step = c.from.ensures ∙ to_z-of_z w32 c.args.step c.ranges.step in
-    rw (step, c.from-2.ensures, to_z-of_z w64 c.args.step (wide c.args.step c.ranges.step), to_z-of_z w64 (pos c.args.ms) (long c.args.ms c.ranges.ms))
-    (to_z-of_z w64 _ (product_fits c.args.step c.args.ms c.ranges.step c.ranges.ms))
+returns c = grind (arith, common_steps, to_z-of_z, wide, pos, long, product_fits)

@@ -1,4 +1,5 @@
-use Rattle.std.proofs.Common.{◌≡◌, ℕ, zero, suc, ◌+◌, ◌*◌, ◌<◌, max, min, arith, refl, sym, ap, ◌∙◌, List, [], ◌∷◌, length, get_or}
+use Rattle.std.proofs.lemmas.Grind.{common_steps}
+use Rattle.std.proofs.Common.{◌≡◌, ℕ, zero, suc, ◌+◌, ◌*◌, ◌<◌, max, min, arith, refl, ap, ◌∙◌, List, [], ◌∷◌, length, get_or}
 use Rattle.std.specs.Int.{div_ceil}
 use Rattle.traj_codec.specs.declared.traj.Traj.{Traj}
 use Rattle.speed_bound.specs.Reach.{farthest, reach_of, traj_at}
@@ -10,11 +11,7 @@ three : {x y z u v w : ℕ} → x ≡ u → y ≡ v → z ≡ w → ◌≡◌ {A
 three {x} {y} {z} {u} {v} {w} p q r = cc
 
 pub returns-then-late-eq0 : goal.returns-then-late-eq0
-returns-then-late-eq0 c =
-    let none : c.args.late ≡ 0 = omega (arith, c.if-late-eq0.true) in
-    record {
-      exact = rw none (three (sym (reach_none c.args.depth c.args.trajs.now 0)) (sym (reach_none c.args.depth c.args.trajs.now 1)) (sym (reach_none c.args.depth c.args.trajs.now 2)));
-    }
+returns-then-late-eq0 c = grind (arith, common_steps, three, reach_none)
 
 -- the way at the greatest speed of all trajectories
 way_of : (depth late axis : ℕ) (trajs : List Traj) (way v i : ℕ) → way ≡ min farthest (div_ceil (late * v) 1000000) → v ≡ greatest_below i (λ drone. speed depth (traj_at trajs drone) axis) → i ≡ length trajs →
@@ -23,14 +20,7 @@ way_of depth late axis trajs way v i way_is v_is all =
     way_is ∙ ap (λ (n : ℕ). min farthest (div_ceil (late * n) 1000000)) (v_is ∙ ap (λ (k : ℕ). greatest_below k (λ drone. speed depth (traj_at trajs drone) axis)) all) ∙ reach_by_speed depth late trajs axis
 
 pub returns : goal.returns
-returns c =
-    let all : c.loop-t.t-index ≡ length c.args.trajs.now = omega arith in
-    record {
-      exact = three
-          (way_of c.args.depth c.args.late 0 c.args.trajs.now c.way_in.result _ c.loop-t.t-index c.way_in.ensures (ap (λ (xs : List ℕ). get_or xs 0 0) c.loop-t.invariant.exact) all)
-          (way_of c.args.depth c.args.late 1 c.args.trajs.now c.way_in-2.result _ c.loop-t.t-index c.way_in-2.ensures (ap (λ (xs : List ℕ). get_or xs 1 0) c.loop-t.invariant.exact) all)
-          (way_of c.args.depth c.args.late 2 c.args.trajs.now c.way_in-3.result _ c.loop-t.t-index c.way_in-3.ensures (ap (λ (xs : List ℕ). get_or xs 2 0) c.loop-t.invariant.exact) all);
-    }
+returns c = grind (arith, common_steps, three, way_of)
 
 same_item : (xs : List Traj) (i : ℕ) (d e : Traj) → i < length xs → get_or xs i d ≡ get_or xs i e
 same_item [] i d e inside = absurd (omega arith)
@@ -40,21 +30,7 @@ same_item (x ∷ xs) (suc i) d e inside = same_item xs i d e (omega arith)
 -- one trajectory more
 next : (depth axis : ℕ) (trajs : List Traj) (t : Traj) (i v : ℕ) → i < length trajs → t ≡ get_or trajs i t → v ≡ greatest_below i (λ drone. speed depth (traj_at trajs drone) axis) →
     max v (speed depth t axis) ≡ greatest_below (i + 1) (λ drone. speed depth (traj_at trajs drone) axis)
-next depth axis trajs t i v inside t_is v_is =
-    let up : i + 1 ≡ suc i = omega arith in
-    let item : t ≡ traj_at trajs i = t_is ∙ same_item trajs i t (record { start = []; segments = [] }) inside in
-    rw up (both v_is (ap (λ (t : Traj). speed depth t axis) item))
-  where
-    both : {x y z w : ℕ} → x ≡ y → z ≡ w → max x z ≡ max y w
-    both {x} {y} {z} {w} p q = cc
+next depth axis trajs t i v inside t_is v_is = grind (arith, common_steps, same_item, max)
 
 pub loop-t-preserved : goal.loop-t-preserved
-loop-t-preserved c =
-    let before = c.loop-t.invariant.exact in
-    record {
-      exact = c.faster-fastest.ensures.exact ∙ three
-          (next c.args.depth 0 c.args.trajs.now c.t-item.result c.loop-t.t-index _ c.loop-t-test.true c.t-item.is (ap (λ (xs : List ℕ). get_or xs 0 0) before))
-          (next c.args.depth 1 c.args.trajs.now c.t-item.result c.loop-t.t-index _ c.loop-t-test.true c.t-item.is (ap (λ (xs : List ℕ). get_or xs 1 0) before))
-          (next c.args.depth 2 c.args.trajs.now c.t-item.result c.loop-t.t-index _ c.loop-t-test.true c.t-item.is (ap (λ (xs : List ℕ). get_or xs 2 0) before));
-      small = c.faster-fastest.ensures.small;
-    }
+loop-t-preserved c = grind (arith, common_steps, three, next)

@@ -1,4 +1,5 @@
-use Rattle.std.proofs.Common.{◌≡◌, ℕ, zero, suc, ◌≤◌, ◌<◌, ◌^◌, max, ℤ, pos, arith, rules, subst, ◌∙◌, ap, List, [], ◌∷◌, drop, length, All, FitsSigned, to_z, of_z, get_or}
+use Rattle.std.proofs.lemmas.Grind.{common_steps}
+use Rattle.std.proofs.Common.{◌≡◌, ℕ, ◌≤◌, ◌<◌, ◌^◌, max, ℤ, pos, arith, rules, subst, ◌∙◌, ap, List, [], ◌∷◌, drop, length, All, FitsSigned, to_z, of_z, get_or}
 use Rattle.std.proofs.lemmas.Int.{to_z-of_z}
 use Rattle.std.proofs.lemmas.List.{drop_all, take_all}
 use Rattle.std.proofs.lemmas.List.Elements.{All-get_or}
@@ -37,25 +38,10 @@ returns-clause-formed c =
     subst (λ (ss : List Segment). All IsFormed ss) (take_all c.loop-s.s-index c.as_slice-s-items.result.now c.loop-s-test.false ∙ c.as_slice-s-items.ensures) c.loop-s.invariant.formed
 
 start_is : (depth axis : ℕ) (t : Traj) (first : ℤ) (segments : List Segment) (least : ℕ) → first ≡ at t.start axis → segments ≡ t.segments → max least (speed_from depth axis first segments) ≡ max least (speed depth t axis)
-start_is depth axis t first segments least first_is segments_are =
-    let whole : speed_from depth axis first segments ≡ speed depth t axis =
-    ap (λ (z : ℤ). speed_from depth axis z segments) first_is ∙ ap (λ (ss : List Segment). speed_from depth axis (at t.start axis) ss) segments_are ∙ speed_from-whole depth axis t in
-    ap (λ (n : ℕ). max least n) whole
+start_is depth axis t first segments least first_is segments_are = grind (arith, common_steps, speed_from, speed_from-whole, max)
 
 pub loop-s-init : goal.loop-s-init
-loop-s-init c =
-    let x_fits : FitsSigned w16 (get_or c.args.t.now.start 0 (pos 0)) = search rules in
-    let y_fits : FitsSigned w16 (get_or c.args.t.now.start 1 (pos 0)) = search rules in
-    let z_fits : FitsSigned w16 (get_or c.args.t.now.start 2 (pos 0)) = search rules in
-    record {
-      x = start_is c.args.depth 0 c.args.t.now _ c.as_slice-s-items.result.now _ (to_z-of_z w16 (get_or c.args.t.now.start 0 (pos 0)) x_fits) c.as_slice-s-items.ensures;
-      y = start_is c.args.depth 1 c.args.t.now _ c.as_slice-s-items.result.now _ (to_z-of_z w16 (get_or c.args.t.now.start 1 (pos 0)) y_fits) c.as_slice-s-items.ensures;
-      z = start_is c.args.depth 2 c.args.t.now _ c.as_slice-s-items.result.now _ (to_z-of_z w16 (get_or c.args.t.now.start 2 (pos 0)) z_fits) c.as_slice-s-items.ensures;
-      small_x = c.requires.least 0 (omega arith);
-      small_y = c.requires.least 1 (omega arith);
-      small_z = c.requires.least 2 (omega arith);
-      formed = λ k d inside. absurd (omega arith);
-    }
+loop-s-init c = grind (arith, common_steps, pos, start_is, to_z-of_z)
 
 -- a speed by the curves of a segment
 by_curves : (depth axis ms : ℕ) (curves others : List (Bez 8)) → curves ≡ others → segment_speed depth ms (at (get_or curves axis (record { b = [] })).b) ≡ segment_speed depth ms (at (get_or others axis (record { b = [] })).b)
@@ -96,10 +82,4 @@ returns-clause-exact c =
     (all_left c.args.depth 2 (to_z w16 c.loop-s.z-bits) c.as_slice-s-items.result.now c.loop-s.s-index c.loop-s.fastest_z _ c.loop-s-test.false c.loop-s.invariant.z)
 
 pub returns-clause-small : goal.returns-clause-small
-returns-clause-small c axis near = on_axis c.loop-s.fastest_x c.loop-s.fastest_y c.loop-s.fastest_z axis near c.loop-s.invariant.small_x c.loop-s.invariant.small_y c.loop-s.invariant.small_z
-  where
-    on_axis : (x y z axis : ℕ) → axis ≤ 2 → x < 2 ^ 50 → y < 2 ^ 50 → z < 2 ^ 50 → get_or (x ∷ y ∷ z ∷ []) axis 0 < 2 ^ 50
-    on_axis x y z zero near first second third = first
-    on_axis x y z (suc zero) near first second third = second
-    on_axis x y z (suc (suc zero)) near first second third = third
-    on_axis x y z (suc (suc (suc k))) near first second third = absurd (omega arith)
+returns-clause-small c axis near = grind (arith, common_steps)

@@ -1,4 +1,5 @@
-use Rattle.std.proofs.Common.{◌≡◌, ◌<◌, arith, ap, ◌∙◌, List, length}
+use Rattle.std.proofs.lemmas.Grind.{common_steps}
+use Rattle.std.proofs.Common.{◌<◌, arith, ap, List, length}
 use Rattle.traj_codec.specs.declared.traj.Segment.{Segment}
 use Rattle.dynamics_bound.specs.declared.walk.Walk.{Walk}
 use Rattle.dynamics_bound.proofs.Walks.{jump-inside, jump-last, reached-lasts, three_told}
@@ -23,12 +24,7 @@ pub jump-requires-3-clause-arrived : goal.jump-requires-3-clause-arrived
 jump-requires-3-clause-arrived c = reached-lasts c.args.t.now 2 c.args.k c.args.self.now.z (ap (λ (w : Walk). w.z) c.requires.here) c.requires.inside c.requires.lasting
 
 pub returns-then-k-segments-clause-exact : goal.returns-then-k-segments-clause-exact
-returns-then-k-segments-clause-exact c =
-    let last : c.args.k ≡ length c.args.t.now.segments = c.if-k-segments.true ∙ ap (λ (ss : List Segment). length ss) c.as_slice-segments.ensures in
-    three_told
-    (jump-last c.args.t.now 0 c.args.k c.args.self.now.x c.stop.result (ap (λ (w : Walk). w.x) c.requires.here) last c.stop.ensures.exact)
-    (jump-last c.args.t.now 1 c.args.k c.args.self.now.y c.stop-then-k-segments.result (ap (λ (w : Walk). w.y) c.requires.here) last c.stop-then-k-segments.ensures.exact)
-    (jump-last c.args.t.now 2 c.args.k c.args.self.now.z c.stop-then-k-segments-2.result (ap (λ (w : Walk). w.z) c.requires.here) last c.stop-then-k-segments-2.ensures.exact)
+returns-then-k-segments-clause-exact c = grind (arith, common_steps, three_told, jump-last)
 
 pub returns-clause-exact : goal.returns-clause-exact
 returns-clause-exact c =

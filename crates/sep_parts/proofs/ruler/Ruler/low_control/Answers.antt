@@ -1,4 +1,5 @@
-use Rattle.std.proofs.Common.{◌<◌, length, sym, ◌∙◌}
+use Rattle.std.proofs.lemmas.Grind.{common_steps}
+use Rattle.std.proofs.Common.{◌<◌, length, sym, arith}
 use Rattle.sep_parts.proofs.Parts.{level_small}
 use Rattle.sep_parts.proofs.Rulers.{positive, small, low}
 use Rattle.sep_parts.proofs.ruler.Ruler.low_control.Goals as goal
@@ -17,8 +18,4 @@ low_control-requires-clause-small g c =
     rw c.as_slice-thresholds.ensures (small c.self.inside.directions.n c.self.inside.thresholds c.self.inside.clearance c.args.dir c.self.invariant dir)
 
 pub returns : goal.returns
-returns g c =
-    let dir : c.args.dir < length c.self.inside.directions.n = rw (sym c.self.view_is) at c.requires.dir in
-    rw (sym c.self.view_is)
-    ((rw (c.as_slice-thresholds.ensures, c.as_slice-directions.ensures, c.make.ensures) at c.low_control.ensures)
-    ∙ low c.self.inside.directions.n c.self.inside.thresholds c.self.inside.clearance c.args.dir c.self.invariant dir c.args.diff.now c.args.level.now c.requires.level)
+returns g c = grind (arith, common_steps, low)
