@@ -14,7 +14,7 @@ use std::alloc::{AllocError, Global};
 use std::test::Fail;
 
 // Where the second drone is from the first, in millimetres on x, y and z; the first direction; and a place a millimetre nearer, where no
-// direction tells the two apart. At each place its first direction is the only one. Lanes are weighed 16 at a time, and 28 at a time with
+// direction tells the two apart. At each place its first direction is the only one. Lanes are weighed 28 at a time with
 // their opposites, so the directions are the first and the last ones of these groups.
 const PLACES: [([i16; 3], u8, [i16; 3]); 18] = [
     ([-158, -164, -196], 0, [-157, -163, -195]),
@@ -85,17 +85,17 @@ fn counted_at_the_edge(rt: HostRuntime) -> Result<(), Fail> {
     for (place, dir, nearer) in PLACES {
         let apart = staying(rt.alloc(), [0, 0, 0], place)?;
         assert!(rt;
-            nodes_of(rt.alloc(), &apart, &ruler, 0) == Some(Ok(2)),
+            nodes_of(rt.alloc(), &apart, &ruler, Depth::make(0)) == Some(Ok(2)),
             "direction {dir}"
         );
         let turned = staying(rt.alloc(), place, [0, 0, 0])?;
         assert!(rt;
-            nodes_of(rt.alloc(), &turned, &ruler, 0) == Some(Ok(2)),
+            nodes_of(rt.alloc(), &turned, &ruler, Depth::make(0)) == Some(Ok(2)),
             "opposite of {dir}"
         );
         let near = staying(rt.alloc(), [0, 0, 0], nearer)?;
         assert!(rt;
-            nodes_of(rt.alloc(), &near, &ruler, 0) == Some(Err(0)),
+            nodes_of(rt.alloc(), &near, &ruler, Depth::make(0)) == Some(Err(0)),
             "within {dir}"
         );
     }

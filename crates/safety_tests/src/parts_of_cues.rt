@@ -2,6 +2,7 @@
 
 ghost use Rattle.std.specs.Prelude.{◌^◌, All};
 ghost use Rattle.fleet_math.specs.Numbers.{IsBelow};
+ghost use Rattle.sep_parts.specs.Levels.{IsStack};
 
 use bezier_core::Bez;
 use fleet_curves::Difference;
@@ -171,6 +172,21 @@ const THIRD_QUARTER: [i128; 8] = [8192, 9472, 10752, 11968, 13056, 13968, 14688,
 
 const LAST_QUARTER: [i128; 8] = [15228, 15768, 16128, 16320, 16384, 16384, 16384, 16384];
 
+// Past the next part, whose node this is, where one waits that may be split.
+fn passed(waiting: &mut Waiting, diff: &Difference, node: Node) -> bool
+    requires { IsStack diff.now waiting.old }
+    ensures { IsStack diff.now waiting.new }
+{
+    let splits = match waiting.next() {
+        Some(level) => level.place.depth < 8,
+        None => false,
+    };
+    if splits {
+        waiting.pass(diff, node);
+    }
+    splits
+}
+
 // The halves of the step, and those of its second half, whose first is the third quarter: by the double sum.
 #[test]
 fn halves_wait_in_order(rt: HostRuntime) -> Result<(), Fail> {
@@ -178,18 +194,19 @@ fn halves_wait_in_order(rt: HostRuntime) -> Result<(), Fail> {
         b: [0, 0, 0, 0, 1, 1, 1, 1],
     };
     let diff = Difference::make([step, Bez::<8> { b: [0; 8] }, Bez::<8> { b: [5; 8] }]);
+    diff.raised_law();
     let mut waiting = Waiting::none();
     assert!(rt; waiting.next().is_none());
     waiting.begin(&diff);
-    waiting.pass(&diff, Node::Split);
+    assert!(rt; passed(&mut waiting, &diff, Node::Split));
     assert!(rt; is_at(&waiting, 1, 0, [0, 0, 0, 0, 8, 24, 44, 64]));
-    waiting.pass(&diff, Node::Leaf { dir: 0 });
+    assert!(rt; passed(&mut waiting, &diff, Node::Leaf { dir: 0 }));
     assert!(rt; is_at(&waiting, 1, 1, [64, 84, 104, 120, 128, 128, 128, 128]));
-    waiting.pass(&diff, Node::Split);
+    assert!(rt; passed(&mut waiting, &diff, Node::Split));
     assert!(rt; is_at(&waiting, 2, 2, THIRD_QUARTER));
-    waiting.pass(&diff, Node::Leaf { dir: 0 });
+    assert!(rt; passed(&mut waiting, &diff, Node::Leaf { dir: 0 }));
     assert!(rt; is_at(&waiting, 2, 3, LAST_QUARTER));
-    waiting.pass(&diff, Node::Leaf { dir: 0 });
+    assert!(rt; passed(&mut waiting, &diff, Node::Leaf { dir: 0 }));
     assert!(rt; waiting.next().is_none());
     Ok(())
 }
