@@ -56,9 +56,9 @@ Lands g e trajs =
     progress (session_for e trajs readback start) (world (session_for e trajs readback start) drones events).heard ≡ Done →
     IsLanded g e trajs readback start drones (world (session_for e trajs readback start) drones (events ++ later)).drones
 
--- Whatever the drones hold at the start, and whoever sends them their packets of this session, with read-back or without and with starts or
--- without: each takes its own in whatever order, each of them any number of times. Once it accepted all of them but the reads, the memories hold
--- these curves, then and after whatever packets of the session it takes later.
+-- The drones may hold anything at the start, and anybody may send them their packets of the session of these trajectories, with read-back or
+-- without and with starts or without. Each drone takes its own, in any order, each of them any number of times. Once the drones accepted all but
+-- the reads, their memories hold these curves, then and after whatever packets of the session they take later.
 abbrev pub LandsInAnyOrder : Grid → Settings → List Traj → Type 0
 LandsInAnyOrder g e trajs =
     (readback start : Bool) (drones : ℕ → DroneState) (order later : ℕ → List ℕ) → ((d : ℕ) → d < length trajs → IsDrone (drones d)) →
