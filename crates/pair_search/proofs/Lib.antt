@@ -10,4 +10,3 @@ pub mod LaneLemmas
 pub mod Reaches
 pub mod Waits
 pub mod OppositeLemmas
-pub mod NearLemmas

@@ -5,4 +5,3 @@ pub mod Fleets
 pub mod Extents
 pub mod Lanes
 pub mod Opposites
-pub mod Nears

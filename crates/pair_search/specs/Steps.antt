@@ -28,6 +28,15 @@ node_for first depth place = option_or (option_map Leaf (first place)) (if nat_l
 abbrev pub does_separate : Measure → List (Bez 8) → Place → ℕ → Bool
 does_separate m diff place dir = is_none (low_value m.clearance diff place (direction_of m.directions dir))
 
+-- none of the directions from one number on and before another separates a place
+abbrev pub NoneFrom : Measure → List (Bez 8) → Place → ℕ → ℕ → Type 0
+NoneFrom m diff place begin past = (k : ℕ) → begin ≤ k → k < past → k < length m.directions → does_separate m diff place k ≡ false
+
+-- the first direction among these that separates a place, if one does
+abbrev pub FindsFrom : Measure → List (Bez 8) → Place → ℕ → ℕ → Option ℕ → Type 0
+FindsFrom m diff place begin past None = NoneFrom m diff place begin past
+FindsFrom m diff place begin past (Some dir) = (begin ≤ dir) × (dir < length m.directions) × NoneFrom m diff place begin dir × (does_separate m diff place dir ≡ true)
+
 -- what a walk gives: as a search, but that nodes may be left where it isn't clear
 abbrev pub WalkGives : (Place → Option ℕ) → ℕ → Result Found AllocError → List Node → Type 0
 WalkGives first depth (Ok Clear) nodes = (blocked_place first depth ≡ None) × (option_map preorder (best_tree first depth root) ≡ Some nodes)

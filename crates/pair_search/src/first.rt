@@ -3,14 +3,11 @@
 ghost use Rattle.std.specs.Prelude.{◌≡◌, ℕ, ◌+◌, ◌*◌, ◌^◌, ◌≤◌, ◌<◌, pos, ◌<ℤ◌, false, All, IfSome, length};
 ghost use Rattle.fleet_math.specs.Bernstein.{at};
 ghost use Rattle.sep_parts.specs.Levels.{IsLevel};
-ghost use Rattle.pair_search.specs.Lanes.{IsPoint, IsSmallPoint};
-ghost use Rattle.pair_search.specs.Opposites.{AreOpposites};
+ghost use Rattle.pair_search.specs.Lanes.{AreLanes, IsPoint, IsSmallPoint};
 ghost use Rattle.pair_search.specs.Search.{first_by};
-ghost use Rattle.pair_search.specs.Nears.{AreNear, FindsInBack, FindsInFront, NoneInFront};
-ghost use Rattle.pair_search.specs.Steps.{does_separate};
+ghost use Rattle.pair_search.specs.Steps.{FindsFrom, does_separate};
 
-use crate::lanes::{Point, point_at};
-use crate::opposites::{Opposites, weigh};
+use crate::lanes::{Lanes, Point, fill, point_at};
 use fleet_curves::Difference;
 use sep_parts::{Level, Ruler};
 
@@ -20,14 +17,14 @@ pub fn first_direction<const M: usize>(
     diff: &Difference,
     level: &Level,
     ruler: &Ruler<M>,
-    opposites: &Opposites,
+    lanes: &Lanes,
 ) -> Option<u8>
     requires level { IsLevel diff.now level.now }
-    requires opposites { AreOpposites ruler.now opposites.now }
+    requires lanes { AreLanes ruler.now lanes.now }
     ensures { result ≡ first_by ruler.now diff.now level.now.place }
 {
     let (p, q) = points_of(diff, level);
-    first_near(diff, level, ruler, opposites, &p, &q)
+    first_near(diff, level, ruler, lanes, &p, &q)
 }
 
 // The two ends of a part in whole steps.
@@ -39,140 +36,75 @@ pub(crate) fn points_of(diff: &Difference, level: &Level) -> (Point, Point)
     (point_at(diff, level, 0), point_at(diff, level, 7))
 }
 
-// The same where the ends of the part are these. The directions of the first half of a table come first, 28 at a time, and then their
-// opposites, the last one's first. Each is weighed together with its opposite.
+// The same where the ends of the part are these. Lanes are weighed 16 at a time, since the first direction mostly comes early.
 fn first_near<const M: usize>(
     diff: &Difference,
     level: &Level,
     ruler: &Ruler<M>,
-    opposites: &Opposites,
+    lanes: &Lanes,
     p: &Point,
     q: &Point,
 ) -> Option<u8>
     requires level { IsLevel diff.now level.now }
-    requires opposites { AreOpposites ruler.now opposites.now }
+    requires lanes { AreLanes ruler.now lanes.now }
     requires p { IsSmallPoint p.now × IsPoint level.now 0 p.now }
     requires q { IsSmallPoint q.now × IsPoint level.now 7 q.now }
-    ensures { result ≡ first_by ruler.now diff.now level.now.place }
-{
-    let near = near_among(diff, level, ruler, opposites, p, q, 0);
-    match front_among(diff, level, ruler, 0, &near) {
-        Some(dir) => Some(dir),
-        None => first_past(diff, level, ruler, opposites, p, q, &near),
-    }
-}
-
-// The same where none of the first 28 directions separates the part, and `near` says what lanes tell of their opposites.
-fn first_past<const M: usize>(
-    diff: &Difference,
-    level: &Level,
-    ruler: &Ruler<M>,
-    opposites: &Opposites,
-    p: &Point,
-    q: &Point,
-    near: &Near,
-) -> Option<u8>
-    requires level { IsLevel diff.now level.now }
-    requires opposites { AreOpposites ruler.now opposites.now }
-    requires p { IsSmallPoint p.now × IsPoint level.now 0 p.now }
-    requires q { IsSmallPoint q.now × IsPoint level.now 7 q.now }
-    requires near { AreNear ruler.now diff.now level.now.place 0 near.now }
-    requires none { NoneInFront ruler.now diff.now level.now.place 0 28 }
     ensures { result ≡ first_by ruler.now diff.now level.now.place }
 {
     // a ruler has at most 98 directions
     let _count = ruler.count();
-    let far = near_among(diff, level, ruler, opposites, p, q, 28);
-    match front_among(diff, level, ruler, 28, &far) {
-        Some(dir) => return Some(dir),
-        None => {}
-    }
-    match back_among(diff, level, ruler, 28, &far) {
-        Some(dir) => return Some(dir),
-        None => {}
-    }
-    back_among(diff, level, ruler, 0, near)
-}
-
-// What lanes tell of 28 directions from one on and of their opposites: where a number is below 0 neither separates the part. `all` is
-// below 0 only where each number is.
-#[derive(Drop)]
-pub struct Near {
-    pub each: [i32; 28],
-    pub all: i32,
-}
-
-// What lanes tell of 28 directions from one on.
-#[inline(always)]
-fn near_among<const M: usize>(
-    diff: &Difference,
-    level: &Level,
-    ruler: &Ruler<M>,
-    opposites: &Opposites,
-    p: &Point,
-    q: &Point,
-    begin: usize,
-) -> Near
-    requires level { IsLevel diff.now level.now }
-    requires opposites { AreOpposites ruler.now opposites.now }
-    requires p { IsSmallPoint p.now × IsPoint level.now 0 p.now }
-    requires q { IsSmallPoint q.now × IsPoint level.now 7 q.now }
-    requires begin { begin ≤ 28 }
-    ensures { AreNear ruler.now diff.now level.now.place begin result }
-{
-    let mut each = [0; 28];
-    let all = weigh(opposites, p, q, begin, &mut each);
-    Near { each, all }
-}
-
-// The first of 28 directions from one on, as far as they stand in the first half of a table. Where lanes tell of each that it doesn't
-// separate the part, none is asked.
-fn front_among<const M: usize>(
-    diff: &Difference,
-    level: &Level,
-    ruler: &Ruler<M>,
-    begin: usize,
-    near: &Near,
-) -> Option<u8>
-    requires level { IsLevel diff.now level.now }
-    requires begin { begin ≤ 28 }
-    requires near { AreNear ruler.now diff.now level.now.place begin near.now }
-    ensures { FindsInFront ruler.now diff.now level.now.place begin (begin + 28) result }
-{
-    if near.all < 0 {
-        return None;
-    }
-    let count = ruler.count();
-    for i in 0..28 {
-        let dir = begin + i;
-        if dir + dir < count && holds(diff, level, ruler, dir, near.each[i]) {
-            return Some(dir as u8);
+    for group in 0..7 {
+        match first_among(diff, level, ruler, lanes, p, q, 16 * group) {
+            Some(dir) => return Some(dir),
+            None => {}
         }
     }
     None
 }
 
-// The first of the opposites of these directions, of which the last one's stands first in the table.
-fn back_among<const M: usize>(
+// The same among 16 directions from one on. Where none of them holds at both ends, none is asked.
+fn first_among<const M: usize>(
+    diff: &Difference,
+    level: &Level,
+    ruler: &Ruler<M>,
+    lanes: &Lanes,
+    p: &Point,
+    q: &Point,
+    begin: usize,
+) -> Option<u8>
+    requires level { IsLevel diff.now level.now }
+    requires lanes { AreLanes ruler.now lanes.now }
+    requires p { IsSmallPoint p.now × IsPoint level.now 0 p.now }
+    requires q { IsSmallPoint q.now × IsPoint level.now 7 q.now }
+    requires begin { begin ≤ 96 }
+    ensures { FindsFrom ruler.now diff.now level.now.place begin (begin + 16) result }
+{
+    let mut near = [0; 16];
+    let most = fill(lanes, p, q, begin, &mut near);
+    if most < 0 {
+        return None;
+    }
+    first_from(diff, level, ruler, begin, &near)
+}
+
+// The same with what lanes tell of these directions: one whose `near` is below 0 doesn't separate the part.
+fn first_from<const M: usize>(
     diff: &Difference,
     level: &Level,
     ruler: &Ruler<M>,
     begin: usize,
-    near: &Near,
+    near: &[i32; 16],
 ) -> Option<u8>
     requires level { IsLevel diff.now level.now }
-    requires begin { begin ≤ 28 }
-    requires near { AreNear ruler.now diff.now level.now.place begin near.now }
-    ensures { FindsInBack ruler.now diff.now level.now.place begin (begin + 28) result }
+    requires begin { begin ≤ 96 }
+    requires near { (i : ℕ) → i < 16 → begin + i < length ruler.now.directions → at near.now i <ℤ pos 0 → does_separate ruler.now diff.now level.now.place (begin + i) ≡ false }
+    ensures { FindsFrom ruler.now diff.now level.now.place begin (begin + 16) result }
 {
-    if near.all < 0 {
-        return None;
-    }
     let count = ruler.count();
-    for i in 0..28 {
-        let dir = begin + (27 - i);
-        if dir + dir < count && holds(diff, level, ruler, count - (dir + 1), near.each[27 - i]) {
-            return Some((count - (dir + 1)) as u8);
+    for i in 0..16 {
+        let dir = begin + i;
+        if dir < count && holds(diff, level, ruler, dir, near[i]) {
+            return Some(dir as u8);
         }
     }
     None

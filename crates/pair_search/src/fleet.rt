@@ -6,11 +6,13 @@ ghost use Rattle.sep_parts.specs.Levels.{root};
 ghost use Rattle.fleet_curves.specs.Raised.{difference};
 ghost use Rattle.pair_search.specs.Extents.{AreExtents, HasAxes};
 ghost use Rattle.pair_search.specs.Fleets.{GivesCount, GivesTrees};
+ghost use Rattle.pair_search.specs.Lanes.{AreLanes};
 ghost use Rattle.pair_search.specs.Opposites.{AreOpposites};
 ghost use Rattle.pair_search.specs.Search.{HasDirection};
 ghost use Rattle.pair_search.specs.Steps.{FindsCount, FindsTree};
 
 use crate::extents::{Extent, are_far, extent_at, extents_of, has_axes};
+use crate::lanes::{Lanes, lanes_of};
 use crate::opposites::{Opposites, opposites_of};
 use crate::shape::count_with;
 use crate::walk::{Found, search_by};
@@ -53,18 +55,18 @@ fn difference_of(curves: &Curves, slot: Slot) -> Difference
 fn tree_of<const M: usize>(
     curves: &Curves,
     ruler: &Ruler<M>,
-    opposites: &Opposites,
+    lanes: &Lanes,
     depth: Depth,
     slot: Slot,
     nodes: &mut Vec<Node>,
 ) -> Result<(), SearchFault>
     requires slot { IsSlot curves.now.drones curves.now.cues slot }
     requires empty { nodes.old.items ≡ [] }
-    requires opposites { AreOpposites ruler.now opposites.now }
+    requires lanes { AreLanes ruler.now lanes.now }
     ensures { FindsTree ruler.now depth curves.now slot nodes.new.items result }
 {
     let diff = difference_of(curves, slot);
-    match search_by(&diff, ruler, opposites, depth, nodes)? {
+    match search_by(&diff, ruler, lanes, depth, nodes)? {
         Found::Clear => Ok(()),
         Found::Blocked { index } => Err(SearchFault::Blocked { slot, index }),
     }
@@ -94,13 +96,13 @@ pub fn search_all<const M: usize>(
 {
     let drones = curves.drones();
     let cues = curves.cues();
-    let opposites = opposites_of(ruler);
+    let lanes = lanes_of(ruler);
     let mut trees = Vec::new(alloc);
     let mut nodes = Vec::new(alloc);
     let mut slot = Slot::first();
     while usize::from(slot.b) < drones {
         nodes.clear();
-        tree_of(curves, ruler, &opposites, depth, slot, &mut nodes)?;
+        tree_of(curves, ruler, &lanes, depth, slot, &mut nodes)?;
         let Ok(()) = add_tree(alloc, nodes.as_slice(), &mut trees) else {
             return Err(SearchFault::Memory);
         };

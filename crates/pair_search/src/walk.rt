@@ -6,12 +6,12 @@ ghost use Rattle.sep_parts.specs.Levels.{IsLevel, IsStack, places_of, root};
 ghost use Rattle.sep_parts.specs.Trees.{places_below, IsShallow};
 ghost use Rattle.sep_parts.specs.declared.stack.Level.{Level};
 ghost use Rattle.pair_search.specs.Search.{IsClear, SearchGives, first_by, first_direction};
-ghost use Rattle.pair_search.specs.Opposites.{AreOpposites};
+ghost use Rattle.pair_search.specs.Lanes.{AreLanes};
 ghost use Rattle.pair_search.specs.Laws.{SearchLaw};
 ghost use Rattle.pair_search.specs.Steps.{WalkGives, node_for};
 
 use crate::first::first_direction;
-use crate::opposites::{Opposites, opposites_of};
+use crate::lanes::{Lanes, lanes_of};
 use fleet_curves::Difference;
 use fleet_math::Depth;
 use halving::Place;
@@ -65,24 +65,24 @@ pub fn search_with<const M: usize>(
     ensures clear { IfOk result (λ found.
         (found ≡ Found.Clear) ↔ IsClear ruler.now.clearance diff.now ruler.now.directions depth) }
 {
-    search_by(diff, ruler, &opposites_of(ruler), depth, nodes)
+    search_by(diff, ruler, &lanes_of(ruler), depth, nodes)
 }
 
 /// As [`search_with`], with the lanes of the ruler made before.
 pub fn search_by<const M: usize>(
     diff: &Difference,
     ruler: &Ruler<M>,
-    opposites: &Opposites,
+    lanes: &Lanes,
     depth: Depth,
     nodes: &mut Vec<Node>,
 ) -> Result<Found, AllocError>
     requires empty { nodes.old.items ≡ [] }
-    requires opposites { AreOpposites ruler.now opposites.now }
+    requires lanes { AreLanes ruler.now lanes.now }
     ensures exact { SearchGives (first_by ruler.now diff.now) depth result nodes.new.items }
     ensures clear { IfOk result (λ found.
         (found ≡ Found.Clear) ↔ IsClear ruler.now.clearance diff.now ruler.now.directions depth) }
 {
-    let answer = walk(diff, ruler, opposites, depth, nodes);
+    let answer = walk(diff, ruler, lanes, depth, nodes);
     if !matches!(answer, Ok(Found::Clear)) {
         nodes.clear();
     }
@@ -94,12 +94,12 @@ pub fn search_by<const M: usize>(
 fn walk<const M: usize>(
     diff: &Difference,
     ruler: &Ruler<M>,
-    opposites: &Opposites,
+    lanes: &Lanes,
     depth: Depth,
     nodes: &mut Vec<Node>,
 ) -> Result<Found, AllocError>
     requires empty { nodes.old.items ≡ [] }
-    requires opposites { AreOpposites ruler.now opposites.now }
+    requires lanes { AreLanes ruler.now lanes.now }
     ensures { WalkGives (first_by ruler.now diff.now) depth result nodes.new.items }
 {
     diff.raised_law();
@@ -107,12 +107,12 @@ fn walk<const M: usize>(
         place: Place { depth: 0, index: 0 },
         part: *diff.curves(),
     };
-    match node_for(diff, &whole, ruler, opposites, depth) {
+    match node_for(diff, &whole, ruler, lanes, depth) {
         Some(Node::Leaf { dir }) => {
             nodes.push(Node::Leaf { dir })?;
             Ok(Found::Clear)
         }
-        Some(Node::Split) => walk_halves(diff, &whole, ruler, opposites, depth, nodes),
+        Some(Node::Split) => walk_halves(diff, &whole, ruler, lanes, depth, nodes),
         None => Ok(Found::Blocked { index: 0 }),
     }
 }
@@ -122,7 +122,7 @@ fn walk_halves<const M: usize>(
     diff: &Difference,
     whole: &Level,
     ruler: &Ruler<M>,
-    opposites: &Opposites,
+    lanes: &Lanes,
     depth: Depth,
     nodes: &mut Vec<Node>,
 ) -> Result<Found, AllocError>
@@ -130,7 +130,7 @@ fn walk_halves<const M: usize>(
     requires whole { whole.now.place ≡ root }
     requires level { IsLevel diff.now whole.now }
     requires split { node_for (first_by ruler.now diff.now) depth root ≡ Some Node.Split }
-    requires opposites { AreOpposites ruler.now opposites.now }
+    requires lanes { AreLanes ruler.now lanes.now }
     ensures { WalkGives (first_by ruler.now diff.now) depth result nodes.new.items }
 {
     // a depth is at most 8
@@ -139,7 +139,7 @@ fn walk_halves<const M: usize>(
     let mut waiting = Waiting::of(whole);
     waiting.pass(diff, Node::Split);
     while let Some(level) = waiting.next() {
-        match node_for(diff, level, ruler, opposites, depth) {
+        match node_for(diff, level, ruler, lanes, depth) {
             Some(node) => put(diff, &mut waiting, nodes, node)?,
             None => {
                 return Ok(Found::Blocked {
@@ -156,14 +156,14 @@ fn node_for<const M: usize>(
     diff: &Difference,
     level: &Level,
     ruler: &Ruler<M>,
-    opposites: &Opposites,
+    lanes: &Lanes,
     depth: Depth,
 ) -> Option<Node>
     requires level { IsLevel diff.now level.now }
-    requires opposites { AreOpposites ruler.now opposites.now }
+    requires lanes { AreLanes ruler.now lanes.now }
     ensures { result ≡ node_for (first_by ruler.now diff.now) depth level.now.place }
 {
-    match first_direction(diff, level, ruler, opposites) {
+    match first_direction(diff, level, ruler, lanes) {
         Some(dir) => Some(Node::Leaf { dir }),
         None if level.place.depth < depth.levels() => Some(Node::Split),
         None => None,

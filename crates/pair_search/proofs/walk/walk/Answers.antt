@@ -16,13 +16,13 @@ whole diff = record { place = root; part = diff }
 
 pub node_for-requires : goal.node_for-requires
 node_for-requires g c =
-    (search rules, (rw c.curves.ensures (root_level c.args.diff.now c.raised_law.ensures.axes (λ axis small. All-get_or (λ (curve : Bez 8). length curve.b ≡ 8) c.args.diff.now axis (record { b = [] }) (omega arith) c.raised_law.ensures.sizes)), c.requires.opposites))
+    (search rules, (rw c.curves.ensures (root_level c.args.diff.now c.raised_law.ensures.axes (λ axis small. All-get_or (λ (curve : Bez 8). length curve.b ≡ 8) c.args.diff.now axis (record { b = [] }) (omega arith) c.raised_law.ensures.sizes)), c.requires.lanes))
 
 pub walk_halves-requires : goal.walk_halves-requires
 walk_halves-requires g c =
     let level = root_level c.args.diff.now c.raised_law.ensures.axes (λ axis small. All-get_or (λ (curve : Bez 8). length curve.b ≡ 8) c.args.diff.now axis (record { b = [] }) (omega arith) c.raised_law.ensures.sizes) in
     let split = sym c.node_for.ensures ∙ c.in-Some-Split.is ∙ ap Some c.in-Some-Split.field-0-is in
-    (search rules, (c.requires.empty, (refl, (rw c.curves.ensures level, (split, c.requires.opposites)))))
+    (search rules, (c.requires.empty, (refl, (rw c.curves.ensures level, (split, c.requires.lanes)))))
 
 pub returns-in_ok-push-in-Some-Leaf : goal.returns-in_ok-push-in-Some-Leaf
 returns-in_ok-push-in-Some-Leaf g c =
