@@ -14,7 +14,7 @@ use std::alloc::{AllocError, Global};
 use std::test::Fail;
 
 // Where the second drone is from the first, in millimetres on x, y and z; the first direction; and a place a millimetre nearer, where no
-// direction tells the two apart. At each place its first direction is the only one. Lanes are weighed 28 at a time with
+// direction tells the two apart. At each place its first direction is the only one. Lanes are weighed 16 at a time, and 28 at a time with
 // their opposites, so the directions are the first and the last ones of these groups.
 const PLACES: [([i16; 3], u8, [i16; 3]); 18] = [
     ([-158, -164, -196], 0, [-157, -163, -195]),
