@@ -245,7 +245,7 @@ next_room depth below scale less shallow inside =
 scale_is : (n : ℕ) → pos n *ℤ pos 5040 ≡ pos (5040 * n)
 scale_is n = omega (arith, ints)
 
-to_here : (c : Raised) (r h depth : ℕ) (region : Region) (drone cue : ℕ) (curves : List (Bez 8)) (i : ℕ) → curves ≡ curves_at c drone cue → KeptIn r h region curves (pos 5040) depth i → KeptHere c r h depth region drone cue i
+pub to_here : (c : Raised) (r h depth : ℕ) (region : Region) (drone cue : ℕ) (curves : List (Bez 8)) (i : ℕ) → curves ≡ curves_at c drone cue → KeptIn r h region curves (pos 5040) depth i → KeptHere c r h depth region drone cue i
 to_here c r h depth region drone cue curves i is kept =
     kept-same r h region (part_of curves depth i) (part_of (curves_at c drone cue) depth i) (pos (2 ^ (7 * depth)) *ℤ pos 5040) (pos (5040 * 2 ^ (7 * depth)))
     (λ axis k near small. ap (λ (cs : List (Bez 8)). part_of cs depth i axis k) is) (scale_is (2 ^ (7 * depth))) kept

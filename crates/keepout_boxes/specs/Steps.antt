@@ -1,5 +1,5 @@
 -- Words of private steps. No public clause cites them.
-use Rattle.std.specs.Prelude.{◌≡◌, ℕ, ◌*◌, ◌^◌, ◌<◌, ℤ, pos, neg_ℤ, ◌*ℤ◌, List, Option, Some, None, slice_get}
+use Rattle.std.specs.Prelude.{◌≡◌, ℕ, ◌*◌, ◌^◌, ◌≤◌, ◌<◌, ℤ, pos, neg_ℤ, ◌*ℤ◌, ◌≤ℤ◌, List, Option, Some, None, slice_get, slice_index_or}
 use Rattle.fleet_math.specs.Numbers.{IsIn}
 use Rattle.fleet_math.specs.Bernstein.{at}
 use Rattle.bezier_core.specs.declared.Bez.{Bez}
@@ -71,6 +71,23 @@ pub record IsFirstOfRegion (c : Raised) (r h depth : ℕ) (region : Region) (dro
 abbrev pub RegionsKept : Raised → ℕ → ℕ → ℕ → List Region → ℕ → Type 0
 RegionsKept c r h depth regions m =
     (k : ℕ) → k < m → (region : Region) → slice_get regions k ≡ Some region → RegionKept c r h depth region c.drones
+
+-- ---- flights
+-- Three rows of which the first two values, on each axis, have each control value of a drone's first m cues between them.
+abbrev pub Covers : Raised → ℕ → List (Bez 8) → ℕ → Type 0
+Covers c drone flight m =
+    (cue : ℕ) → cue < m → (axis : ℕ) → axis ≤ 2 → (k : ℕ) → k ≤ 7 →
+    IsIn (values_of flight axis 0) (values_of flight axis 1) (values_of (curves_at c drone cue) axis k)
+
+-- such rows for each of the first m drones, over all cues
+abbrev pub CoverAll : Raised → List (List (Bez 8)) → ℕ → Type 0
+CoverAll c boxes m = (drone : ℕ) → drone < m → (none : List (Bez 8)) → Covers c drone (slice_index_or boxes drone none) c.cues
+
+-- Ends that lie as far out as those before, and have eight control values between them.
+pub record IsWider (low high : ℤ) (g : ℕ → ℤ) (lower higher : ℤ) : Type 0 where
+  pub as_low : lower ≤ℤ low
+  pub as_high : high ≤ℤ higher
+  pub between : (k : ℕ) → k ≤ 7 → IsIn lower higher (g k)
 
 -- a number that lies within the limits
 abbrev pub IsCoordinate : ℤ → Type 0

@@ -2,10 +2,13 @@
 
 ghost use Rattle.std.specs.Prelude.{◌≡◌, ℕ, ◌*◌, ◌^◌, ◌≤◌, ◌<◌, pos, length, All, MatchOption};
 ghost use Rattle.keepout_boxes.specs.Kept.{IsExtent, IsNear, JudgeGives, StaysClear, most_regions};
-ghost use Rattle.keepout_boxes.specs.Steps.{CueKept, DroneKept, IsFirstOfCue, IsFirstOfDrone, IsFirstOfRegion, RegionKept};
+ghost use Rattle.keepout_boxes.specs.Steps.{CoverAll, Covers, CueKept, DroneKept, IsFirstOfCue, IsFirstOfDrone, IsFirstOfRegion, RegionKept};
 
+use crate::flight::{Boxes, boxes_of};
+use crate::part::is_kept;
 use crate::region::Region;
 use crate::walk::first_entering;
+use bezier_core::Bez;
 use fleet_curves::Curves;
 use fleet_math::Depth;
 
@@ -40,8 +43,16 @@ pub fn judge(curves: &Curves, r: u16, h: u16, depth: Depth, regions: &Vec<Region
     ensures clear { result ≡ Judged.Kept → StaysClear curves.now r h regions.now.items }
 {
     let regions = regions.as_slice();
+    let boxes = boxes_of(curves);
     for k in 0..regions.len() {
-        if let Some((drone, cue, index)) = entry_of_region(curves, &regions[k], r, h, depth) {
+        if let Some((drone, cue, index)) = entry_of_region(
+            curves,
+            &boxes,
+            &regions[k],
+            r,
+            h,
+            depth,
+        ) {
             return Judged::Enters {
                 region: k as u8,
                 drone,
@@ -56,11 +67,13 @@ pub fn judge(curves: &Curves, r: u16, h: u16, depth: Depth, regions: &Vec<Region
 // The first part of a region's first drone that isn't kept: the drone, the cue and the index.
 fn entry_of_region(
     curves: &Curves,
+    boxes: &Boxes,
     region: &Region,
     r: u16,
     h: u16,
     depth: Depth,
 ) -> Option<(u8, u16, u16)>
+    requires boxes { CoverAll curves.now boxes.now curves.now.drones }
     requires near { IsNear region.now }
     requires r { IsExtent r }
     requires h { IsExtent h }
@@ -68,29 +81,43 @@ fn entry_of_region(
         (λ entry. IsFirstOfRegion curves.now r h depth region.now entry.0 entry.1 entry.2) }
 {
     for drone in 0..curves.drones() {
-        if let Some((cue, index)) = entry_of_drone(curves, drone, region, r, h, depth) {
+        if let Some((cue, index)) = entry_of_drone(
+            curves,
+            drone,
+            &boxes[drone],
+            region,
+            r,
+            h,
+            depth,
+        ) {
             return Some((drone as u8, cue, index));
         }
     }
     None
 }
 
-// The first part of a drone that isn't kept: the cue and the index.
+// The first part of a drone that isn't kept: the cue and the index. Where the box of its flight is kept, so is each part,
+// and no cue is looked at.
 fn entry_of_drone(
     curves: &Curves,
     drone: usize,
+    flight: &[Bez<8>; 3],
     region: &Region,
     r: u16,
     h: u16,
     depth: Depth,
 ) -> Option<(u16, u16)>
     requires drone { drone < curves.now.drones }
+    requires flight { Covers curves.now drone flight.now curves.now.cues }
     requires near { IsNear region.now }
     requires r { IsExtent r }
     requires h { IsExtent h }
     ensures { MatchOption result (DroneKept curves.now r h depth region.now drone curves.now.cues)
         (λ entry. IsFirstOfDrone curves.now r h depth region.now drone entry.0 entry.1) }
 {
+    if is_kept(flight, region, r, h, 5040) {
+        return None;
+    }
     for cue in 0..curves.cues() {
         if let Some(index) = first_part(curves, drone, cue, region, r, h, depth) {
             return Some((cue as u16, index));

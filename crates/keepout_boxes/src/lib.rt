@@ -9,6 +9,7 @@
 //! raised curves.
 #![tactic(auto)]
 
+mod flight;
 mod judging;
 mod lines;
 mod part;
