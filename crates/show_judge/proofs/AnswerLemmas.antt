@@ -1,4 +1,5 @@
 -- What a command gives, from what its steps do.
+use Rattle.std.proofs.lemmas.Grind.{common_steps}
 use Rattle.std.proofs.Common.{◌≡◌, inl, inr, ℕ, ◌≤◌, false, List, length, Option, Some, None, Result, Ok, Err, IfOk, IfSome, refl, sym, ap, subst, ◌∙◌, arith}
 use Rattle.std.specs.declared.alloc.AllocError.{AllocError}
 use Rattle.choreo_show.specs.Plain.{PlainShow}
@@ -11,7 +12,6 @@ use Rattle.show_plan.specs.Fitting.{IsFitted}
 use Rattle.show_plan.specs.Separation.{FlyApart}
 use Rattle.show_judge.specs.declared.judging.Accepted.{Accepted}
 use Rattle.show_judge.specs.declared.judging.Judged.{Judged}
-use Rattle.show_judge.specs.declared.judging.Judged.TheVariants as judged
 use Rattle.show_judge.specs.declared.ends.Answer.{Answer}
 use Rattle.show_judge.specs.declared.ends.Answer.TheVariants.{Refused}
 use Rattle.show_judge.specs.declared.input.Input.{Input}
@@ -22,7 +22,7 @@ use Rattle.cue_grid.specs.declared.grid.Grid.{Grid}
 use Rattle.cue_grid.specs.Cues.{grid_of}
 use Rattle.show_plan.specs.Landing.{Lands}
 use Rattle.show_judge.proofs.PlanLemmas.{cut_at}
-use Rattle.show_judge.specs.Answers.{AnswersInput, AnswersText, AnswersTwo, EndsJudged, EndsRead, Fits, IsAccepted, IsRefusedBy, IsSaid, JudgedGives, JudgesInput, outcome_of}
+use Rattle.show_judge.specs.Answers.{AnswersInput, AnswersText, AnswersTwo, EndsJudged, Fits, IsAccepted, IsRefusedBy, IsSaid, JudgedGives, JudgesInput, outcome_of}
 use Rattle.show_judge.specs.Input.{IsShowText, IsText, IsUnmarked, IsWholeText, IsWithin, ReadsShow, ReadsTwo}
 use Rattle.show_judge.specs.Outcome.{IsOutcomeOf, IsSafe, IsVerb, ShowGives, refused, said}
 use Rattle.show_judge.specs.Verb.{FliesApart, Outcome, Verb}
@@ -97,12 +97,7 @@ answers_done c law depth text a answer accepted gives unmarked is_said = record 
 }
 
 pub answers_refused : (c : Verb) (text : Text) (r : Refusal) → c.ways.by_frames ≡ false → ((cut : Cut) → IsShowText text cut → IsRefusedBy c.ways cut r) → IsOfInput r → AnswersText c text (Ok (Refused r))
-answers_refused c text r plain is of_input = record {
-  gives = λ cut text. plain_outcome c cut r plain (is cut text);
-  safe = λ cut text done. absurd (refused_some r done);
-  whole = λ done. absurd (refused_some r done);
-  said = of_input;
-}
+answers_refused c text r plain is of_input = grind (arith, common_steps, plain_outcome, refused_some)
 
 pub answers_memory : (c : Verb) (text : Text) (e : AllocError) → AnswersText c text (Err e)
 answers_memory c text e = record { gives = λ cut is. tt; safe = λ cut is. tt; whole = tt; said = tt }
@@ -135,17 +130,7 @@ fitted_outcome c d cut f o is fits gives =
 
 pub fitted_safe : (c : Verb) (d : Option ℕ) (cut : Cut) (f : Fitted) (o : Outcome) → c.ways.by_frames ≡ false → c.ways.depth ≡ d → (fits : Fits c.ways cut f) →
     ShowGives c (blocked_by d fits.s) fits.s cut o → c.promises fits.s cut → o.status ≡ 0 → IsSafe c cut o
-fitted_safe c d cut f o plain is fits gives promised done =
-    let given = given_by c (blocked_by d fits.s) fits.s cut o plain gives done in
-    record {
-      s = fits.s;
-      stands = fits.stands;
-      near = fits.near;
-      promised = promised;
-      accepted = left_of c d cut f is fits ∙ given.none;
-      gives = given.gives;
-      done = done;
-    }
+fitted_safe c d cut f o plain is fits gives promised done = grind (arith, common_steps, given_by, left_of)
 
 -- where what fits flies apart, that is promised of its show
 pub apart_of_show : (c : Verb) (cut : Cut) (f : Fitted) → (fits : Fits c.ways cut f) → FlyApart f.settings f.sent → FliesApart fits.s
@@ -174,12 +159,7 @@ answers_fitted c d text f (Ok a) plain is fits gives promised is_said unmarked =
 
 pub two_refused : (c : Verb) (limit : ℕ) (input : Input) (r : Refusal) → c.ways.by_frames ≡ false → ((cut : Cut) → IsShowText input.show cut → IsRefusedBy c.ways cut r) → IsOfInput r →
     AnswersTwo c limit input (Ok (Refused r))
-two_refused c limit input r plain is of_input = record {
-  gives = λ cut texts. plain_outcome c cut r plain (is cut texts.show);
-  safe = λ cut texts done. absurd (refused_some r done);
-  whole = λ done. absurd (refused_some r done);
-  said = of_input;
-}
+two_refused c limit input r plain is of_input = grind (arith, common_steps, plain_outcome, refused_some)
 
 pub two_memory : (c : Verb) (limit : ℕ) (input : Input) (e : AllocError) → AnswersTwo c limit input (Err e)
 two_memory c limit input e = record { gives = λ cut is. tt; safe = λ cut is. tt; whole = tt; said = tt }
@@ -222,11 +202,7 @@ input_two c limit left after input a read answers = record {
 -- what is judged of a text is judged of the input
 pub judges_text : (c : Ways) (depth : ℕ) (left after : Option (List ℕ)) (text : Text) (j : Judged) → c.has_second ≡ false → ReadsShow left after text →
     ((cut : Cut) → IsShowText text cut → JudgedGives c depth cut j) → EndsJudged c text j → JudgesInput c depth left after (Ok j)
-judges_text c depth left after text j alone read gives ends = record { gives = some_by left _ _ (λ input is. gives (cut_of input) is) read.show; whole = whole_of j ends }
-  where
-    whole_of : (j : Judged) → EndsJudged c text j → EndsRead left after j
-    whole_of (judged.Accepted a) ends = read.whole (ends.1 alone)
-    whole_of (judged.Refused r) ends = tt
+judges_text c depth left after text j alone read gives ends = grind (arith, common_steps, some_by)
 
 -- what is accepted of a text lands
 pub accepted_lands : (c : Ways) (depth : ℕ) (text : Text) (a : Accepted) → IsWholeText text → IsWithin most_text text → ((cut : Cut) → IsShowText text cut → IsAccepted c depth cut a) →

@@ -1,5 +1,6 @@
 -- A command that reads a show and writes one text of it.
-use Rattle.std.proofs.Common.{Option, ◌≡◌, ℕ, List, Result, Err, IfOk, refl, sym, ◌∙◌, ap, inl, inr, ◌<◌, IfSome, length, true, false}
+use Rattle.std.proofs.lemmas.Grind.{common_steps}
+use Rattle.std.proofs.Common.{Option, ◌≡◌, ℕ, List, Result, Err, IfOk, refl, sym, ◌∙◌, ap, ◌<◌, IfSome, length, true, false, arith}
 use Rattle.choreo_reader.specs.Laws.{ShowLaw}
 use Rattle.choreo_show.specs.Plain.{PlainShow}
 use Rattle.fleet_io.specs.Causes.{Rose}
@@ -63,14 +64,7 @@ pub any_behaves : ShowLaw → (v : Verb) (r : Run) (result : Result Answer Failu
     Behaves v r status
 any_behaves law v r result status is any answers wrote failed taken later few after =
     let runs = runs_answer v r result status (any_plain v any) (outcomes law v is) answers wrote failed taken later in
-    record {
-      runs = runs;
-      complete = completes v (outcomes law v is) r status runs;
-      few = λ wanted. few;
-      marker = λ alone reads judged. judged_answer result r.written r.written_after r.writes_failed r.writes_failed_after status _ wrote after judged;
-      reading = any.reading r status;
-      headline = headlines v is r status runs;
-    }
+    grind (arith, common_steps, completes, outcomes, judged_answer, headlines)
 
 -- ---- two texts
 
@@ -88,14 +82,4 @@ pub two_behaves : ShowLaw → (depth : Option ℕ) (limit : ℕ) (v : Verb) (r :
     (IfSome r.left (λ all. most_text < length (part_of all)) → TakesOneText r.left r.left_after) → IfOk result (λ _. IsReadBoth limit r.left r.left_after) → Behaves v r status
 two_behaves law depth limit v r result status is two answers wrote failed taken later few both =
     let runs = runs_answer v r result status (two_plain depth limit v two) (outcomes law v is) answers wrote failed taken later in
-    record {
-      runs = runs;
-      complete = completes v (outcomes law v is) r status runs;
-      few = λ wanted. elim wanted [
-        | inl alone ↦ absurd (wants depth limit v two alone)
-        | inr long ↦ few long
-      ];
-      marker = λ alone reads judged. absurd (wants depth limit v two alone);
-      reading = two.reading r status (λ judged. judged_answer result r.written r.written_after r.writes_failed r.writes_failed_after status _ wrote both judged);
-      headline = headlines v is r status runs;
-    }
+    grind (arith, common_steps, completes, outcomes, wants, judged_answer, headlines)

@@ -1,6 +1,6 @@
 -- How much was read of a text that is too long.
-use Rattle.std.proofs.Common.{◌≡◌, ◌⊎◌, inl, inr, ℕ, ◌+◌, ◌<◌, ◌≤◌, Bool, true, false, cond, ◌||◌, List, [], ◌∷◌, ◌++◌, length, length-append, Option, Some, None, IfSome, refl, ap, subst, arith}
-use Rattle.std.specs.Prelude.{bytes_eq}
+use Rattle.std.proofs.lemmas.Grind.{common_steps}
+use Rattle.std.proofs.Common.{◌≡◌, ◌⊎◌, inl, inr, ℕ, ◌+◌, ◌<◌, ◌≤◌, Bool, true, false, cond, ◌||◌, List, [], ◌∷◌, ◌++◌, length, length-append, Option, Some, None, IfSome, refl, subst, arith}
 use Rattle.std.specs.List.{join_with_byte}
 use Rattle.std.proofs.lemmas.Slice.Eq.{bytes_eq-Decides}
 use Rattle.std.proofs.lemmas.List.Splits.{join_with_byte-slice_split}
@@ -23,10 +23,7 @@ or_true false b e = inr e
 
 -- a marker line has at least two bytes
 marker_length : (line : List ℕ) → is_marker line ≡ true → 2 ≤ length line
-marker_length line is = elim (or_true (bytes_eq line (37 ∷ 37 ∷ [])) (bytes_eq line (37 ∷ 37 ∷ 13 ∷ [])) is) [
-  | inl e ↦ omega (arith, ap (λ (xs : List ℕ). length xs) ((bytes_eq-Decides line (37 ∷ 37 ∷ [])).0 e))
-  | inr e ↦ omega (arith, ap (λ (xs : List ℕ). length xs) ((bytes_eq-Decides line (37 ∷ 37 ∷ 13 ∷ [])).0 e))
-]
+marker_length line is = grind (arith, common_steps, or_true, bytes_eq-Decides)
 
 -- Nothing stands after a marker line, or what stands before it and after it leaves at least three bytes of the text to it.
 abbrev pub AreApart : List ℕ → List ℕ → List ℕ → Type 0
@@ -34,11 +31,7 @@ AreApart front rest text = (rest ≡ []) ⊎ (length front + 3 + length rest ≤
 
 apart_lines : (lines : List (List ℕ)) → has_marker lines ≡ true → AreApart (ended_lines (lines_before lines)) (join_with_byte 10 (lines_after lines)) (join_with_byte 10 lines)
 apart_lines [] is = absurd (let e : false ≡ true = is in cc)
-apart_lines (line ∷ []) is = by (is_marker line) is
-  where
-    by : (b : Bool) → (b || false) ≡ true → AreApart (ended_lines (cond b [] (line ∷ []))) (join_with_byte 10 (cond b [] [])) line
-    by true found = inl refl
-    by false found = absurd (cc)
+apart_lines (line ∷ []) is = grind (arith, common_steps, cond)
 apart_lines (line ∷ next ∷ lines) is = by (is_marker line) refl is (apart_lines (next ∷ lines))
   where
     by : (b : Bool) → is_marker line ≡ b → (b || has_marker (next ∷ lines)) ≡ true →
@@ -70,7 +63,4 @@ apart_text text = by (has_marker (between_feeds text)) refl
 pub few_after_long : (old new : Option (List ℕ)) → IfSome old (λ all. most_text < length (part_of all)) → TakesAtMost (most_text + 4 + 4096) old new → TakesFewAfter old new
 few_after_long None new long few = tt
 few_after_long (Some all) None long few = tt
-few_after_long (Some all) (Some rest) long few = elim (apart_text all) [
-  | inl none ↦ omega (arith, ap (λ (xs : List ℕ). length xs) none)
-  | inr apart ↦ omega (arith, apart, long, few)
-]
+few_after_long (Some all) (Some rest) long few = grind (arith, common_steps, apart_text)

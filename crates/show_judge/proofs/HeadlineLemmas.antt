@@ -1,17 +1,17 @@
 -- What status 0 says, from what a run promises.
-use Rattle.std.proofs.Common.{◌≡◌, ℕ, Bool, true, false, cond, List, Option, Some, None, IfSome, refl, ap, subst, ◌∙◌}
+use Rattle.std.proofs.lemmas.Grind.{common_steps}
+use Rattle.std.proofs.Common.{◌≡◌, ℕ, Bool, true, false, cond, List, Option, Some, None, IfSome, refl, subst, ◌∙◌, arith}
 use Rattle.std.specs.Io.KnownBytes.{Appends}
 use Rattle.std.specs.Option.{option_or}
 use Rattle.text_lines.specs.Lines.{between_feeds}
 use Rattle.text_lines.specs.Marker.{has_marker, part_of}
-use Rattle.choreo_reader.specs.Grammar.{StandsFor}
 use Rattle.choreo_reader.specs.Laws.{ShowLaw}
 use Rattle.choreo_show.specs.Plain.{PlainShow}
 use Rattle.refusals.specs.declared.refusal.Refusal.{Refusal}
 use Rattle.show_judge.specs.declared.ways.Ways.{Ways}
 use Rattle.show_judge.specs.Headline.{FliesText, SaysOf, UploadsText}
 use Rattle.show_judge.specs.Outcome.{IsSafe, IsSafeBy, IsSafeOutcome, IsVerb}
-use Rattle.show_judge.specs.Refused.{marker_refusal, show_refusal}
+use Rattle.show_judge.specs.Refused.{show_refusal}
 use Rattle.show_judge.specs.Runs.{Behaves, Runs, StopsAtMarker, TakesLittle, told}
 use Rattle.show_judge.specs.Shows.{Cut, cut_of}
 use Rattle.show_judge.specs.Verb.{FliesApart, Judges, Outcome, Run, Verb, of_own, outcome, the_input}
@@ -36,21 +36,12 @@ part_whole input unmarked = rw unmarked refl
 
 -- the text of a show that a command of one text accepts is the whole input
 pub whole_input : (w : Ways) (input : List ℕ) (s : PlainShow) → w.has_second ≡ false → show_refusal w (cut_of input) s ≡ None → part_of input ≡ input
-whole_input w input s alone none =
-    let later = none_both _ _ none in
-    let marked : marker_refusal w (cut_of input) ≡ None = (none_both _ _ later.1).0 in
-    part_whole input (unmarked_by w.has_second (has_marker (between_feeds input)) _ alone marked)
+whole_input w input s alone none = grind (arith, common_steps, none_both, part_whole, unmarked_by)
 
 -- what a command of one text says of a show that flies apart
 pub says_of : (v : Verb) (text : PlainShow → List ℕ) (input : List ℕ) (o : Outcome) (old new : Option (List ℕ)) → v.ways.has_second ≡ false → (safe : IsSafe v (cut_of input) o) → FliesApart safe.s →
     o ≡ outcome 0 (text safe.s) → Appends old new o.output → SaysOf text input old new
-says_of v text input o old new alone safe flies is appended = record {
-  s = safe.s;
-  stands = subst (λ (whole : List ℕ). StandsFor whole safe.s) (whole_input v.ways input safe.s alone safe.accepted) safe.stands;
-  near = safe.near;
-  apart = flies.apart;
-  written = subst (λ (output : List ℕ). Appends old new output) (ap (λ (p : Outcome). p.output) is) appended;
-}
+says_of v text input o old new alone safe flies is appended = grind (arith, common_steps, whole_input)
 
 -- the show's text of an input whose show flies apart
 pub flies_text : (v : Verb) (input : List ℕ) (o : Outcome) → (safe : IsSafe v (cut_of input) o) → FliesApart safe.s → FliesText (part_of input)
@@ -67,14 +58,7 @@ headlines v is r status runs done = some_map (told v r) _ _ (λ input came. is.h
 
 -- A run of a command with what it read.
 pub behaves_of : ShowLaw → (v : Verb) → IsVerb v → (r : Run) (status : ℕ) → Runs v r status → TakesLittle v r → StopsAtMarker v r status → v.reading r status → Behaves v r status
-behaves_of show v is r status runs few marker reading = record {
-  runs = runs;
-  few = few;
-  marker = marker;
-  reading = reading;
-  complete = completes v (outcomes show v is) r status runs;
-  headline = headlines v is r status runs;
-}
+behaves_of show v is r status runs few marker reading = grind (arith, common_steps, completes, outcomes, headlines)
 
 -- status 0 of a command that promises of the show of its input that it flies apart
 pub uploads_of : (v : Verb) → v.ways.reads ≡ true → v.judges ≡ the_input → ((s : PlainShow) (cut : Cut) → v.promises s cut → FliesApart s) → (input : List ℕ) (r : Run) (status : ℕ) → Runs v r status →

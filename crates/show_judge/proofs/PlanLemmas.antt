@@ -1,5 +1,6 @@
 -- From a show that fits to one that is accepted.
-use Rattle.std.proofs.Common.{◌≡◌, inr, ℕ, ◌≤◌, Bool, true, false, cond, [], length, Option, Some, None, Result, Ok, Err, IfOk, refl, sym, ap, subst, ◌∙◌}
+use Rattle.std.proofs.lemmas.Grind.{common_steps}
+use Rattle.std.proofs.Common.{◌≡◌, inr, ℕ, ◌≤◌, Bool, true, false, cond, [], length, Option, Some, None, Result, Ok, Err, IfOk, refl, ap, subst, ◌∙◌, arith}
 use Rattle.std.specs.declared.alloc.AllocError.{AllocError}
 use Rattle.fleet_io.specs.declared.parts.Part.{Part}
 use Rattle.choreo_show.specs.Plain.{PlainShow}
@@ -60,18 +61,6 @@ plan_of_text c cut s (Ok (planned.Refused r)) short stands is = inr (s, short, s
 pub judged_of_fit : (c : Ways) (depth : ℕ) (cut : Cut) (f : Fitted) (result : Result Judged AllocError) → c.depth ≡ Some depth → Fits c cut f → IfOk result (Separated depth f) →
     IfOk result (JudgedGives c depth cut)
 judged_of_fit c depth cut f (Err e) is fits separated = tt
-judged_of_fit c depth cut f (Ok (judged.Accepted a)) is fits separated =
-    let by = separated.2 fits.s fits.fitted in
-    let apart = apart_of f fits.s fits.fitted separated.1 in
-    record {
-      searched = is;
-      s = fits.s;
-      short = fits.short;
-      stands = fits.stands;
-      accepted = fits.left ∙ ap (λ (d : Option ℕ). blocked_by d fits.s) is ∙ by.0;
-      fitted = subst (λ (g : Fitted). IsFitted g fits.s) (sym separated.0) fits.fitted;
-      safe = record { near = fits.near; apart = apart; uploads = fits.uploads apart };
-      nodes = by.1;
-    }
+judged_of_fit c depth cut f (Ok (judged.Accepted a)) is fits separated = grind (arith, common_steps, apart_of)
 judged_of_fit c depth cut f (Ok (judged.Refused r)) is fits separated =
     inr (fits.s, fits.short, fits.stands, fits.left ∙ ap (λ (d : Option ℕ). blocked_by d fits.s) is ∙ separated fits.s fits.fitted)

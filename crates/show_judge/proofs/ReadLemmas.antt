@@ -1,17 +1,17 @@
 -- How much a run reads.
-use Rattle.std.proofs.Common.{◌≡◌, inl, inr, ℕ, ◌<◌, ◌≤◌, Bool, false, List, Option, Some, None, Result, Ok, Err, IfOk, IfSome, length, sym, subst, ◌∙◌, arith}
+use Rattle.std.proofs.lemmas.Grind.{common_steps}
+use Rattle.std.proofs.Common.{◌≡◌, ℕ, ◌<◌, List, Option, Some, None, Result, Ok, Err, IfOk, IfSome, length, sym, subst, arith}
 use Rattle.fleet_io.specs.Parts.{TakesFewAfter}
 use Rattle.fleet_io.specs.Taken.{TakesAtMost}
 use Rattle.show_judge.specs.declared.ends.Answer.{Answer}
 use Rattle.show_judge.specs.declared.ends.Failure.{Failure}
 use Rattle.show_judge.specs.declared.ends.Failure.TheVariants.{Read, Memory}
 use Rattle.show_judge.specs.Answers.{Responds}
-use Rattle.text_lines.specs.Marker.{has_marker, part_of, rest_of}
+use Rattle.text_lines.specs.Marker.{part_of, rest_of}
 use Rattle.show_judge.specs.declared.input.Text.{Text}
 use Rattle.show_judge.specs.declared.input.Text.TheVariants.{TooLarge, Whole}
-use Rattle.text_lines.specs.Lines.{between_feeds}
 use Rattle.show_judge.specs.declared.input.Input.{Input}
-use Rattle.show_judge.specs.Input.{GoesOn, IsNextText, IsReadBoth, IsText, IsUnmarked, IsWholeText, ReadsTwo, TakesOneText}
+use Rattle.show_judge.specs.Input.{GoesOn, IsNextText, IsReadBoth, IsWholeText, ReadsTwo, TakesOneText}
 use Rattle.fleet_math.specs.Limits.{most_text}
 use Rattle.show_judge.specs.Verb.{IsJudged}
 
@@ -19,30 +19,14 @@ use Rattle.show_judge.specs.Verb.{IsJudged}
 pub judged_answer : (answer : Result Answer Failure) (old new : Option (List ℕ)) (before after status : ℕ) (P : Type 0) → Responds answer old new before after status →
     IfOk answer (λ _. P) → IsJudged status → P
 judged_answer (Ok a) old new before after status P responds holds judged = holds
-judged_answer (Err Read) old new before after status P responds holds judged = absurd (elim responds [
-  | inl wrote ↦ judged.1 wrote.0
-  | inr failed ↦ judged.2 failed.0
-])
+judged_answer (Err Read) old new before after status P responds holds judged = grind (arith, common_steps)
 judged_answer (Err Memory) old new before after status P responds holds judged = absurd (judged.0 responds.0)
 
 -- both texts were read
 pub two_read : (limit : ℕ) (left after : Option (List ℕ)) (input : Input) → ReadsTwo limit left after input →
     (IsWholeText input.show → IsWholeText input.second → IfSome left (λ all. TakesFewAfter (Some (rest_of all)) after)) → IsReadBoth limit left after
 two_read limit None after input reads past = tt
-two_read limit (Some all) after input reads past = λ short second.
-    let marked = has_marker (between_feeds (rest_of all)) in
-    let whole : IsWholeText input.show = is_whole most_text input.show (part_of all) (has_marker (between_feeds all)) reads.texts.show short in (
-      λ unmarked. reads.whole whole (is_unmarked limit input.second (part_of (rest_of all)) marked (reads.texts.second whole) second unmarked),
-      past whole (is_whole limit input.second (part_of (rest_of all)) marked (reads.texts.second whole) second),
-    )
-  where
-    is_whole : (limit : ℕ) (text : Text) (bytes : List ℕ) (marked : Bool) → IsText limit text bytes marked → length bytes ≤ limit → IsWholeText text
-    is_whole limit TooLarge bytes marked is short = absurd (omega (arith, is, short))
-    is_whole limit (Whole part) bytes marked is short = tt
-
-    is_unmarked : (limit : ℕ) (text : Text) (bytes : List ℕ) (marked : Bool) → IsText limit text bytes marked → length bytes ≤ limit → marked ≡ false → IsUnmarked text
-    is_unmarked limit TooLarge bytes marked is short plain = absurd (omega (arith, is, short))
-    is_unmarked limit (Whole part) bytes marked is short plain = is.1 ∙ plain
+two_read limit (Some all) after input reads past = grind (arith, common_steps)
 
 -- few bytes were taken of what stands after the second text
 pub few_both : (left mid after : Option (List ℕ)) (show : Text) → IsWholeText show → GoesOn show left mid → TakesFewAfter mid after → IfSome left (λ all. TakesFewAfter (Some (rest_of all)) after)

@@ -1,5 +1,6 @@
 -- In which order a show's refusals come.
-use Rattle.std.proofs.Common.{◌≡◌, ◌⊎◌, inl, inr, ℕ, zero, suc, ◌+◌, ◌<◌, ◌≤◌, List, [], ◌∷◌, length, get_or, map, Option, Some, None, refl, sym, ap, subst, ◌∙◌, arith}
+use Rattle.std.proofs.lemmas.Grind.{common_steps}
+use Rattle.std.proofs.Common.{◌≡◌, ◌⊎◌, inl, inr, ℕ, ◌+◌, ◌<◌, ◌≤◌, List, [], length, get_or, map, Option, Some, None, refl, sym, ap, subst, ◌∙◌, arith}
 use Rattle.std.specs.Option.{option_map, option_or}
 use Rattle.std.proofs.lemmas.List.{length-map}
 use Rattle.fleet_io.specs.Words.{IsWord}
@@ -64,10 +65,7 @@ drone_of (fault.TooLong drone bytes space) = drone
 drone_of _ = 0
 
 send_fault_late : (n : ℕ) (f : PlanFault) → IsSendFault n f → IsLate f × (drone_of f < n)
-send_fault_late n f named = elim named.is [
-  | inl many ↦ subst (λ (f : PlanFault). IsLate f × (drone_of f < n)) (sym many.1) (tt, named.among)
-  | inr long ↦ subst (λ (f : PlanFault). IsLate f × (drone_of f < n)) (sym long.2) (tt, named.among)
-]
+send_fault_late n f named = grind (arith, common_steps, drone_of)
 
 -- the first trajectory that can't be sent is that of a drone
 late_named : (s : PlainShow) (f : PlanFault) → unsendable s ≡ Some f → IsLate f × (drone_of f < length s.drones)
@@ -84,14 +82,8 @@ either None None long f is = inr (refl, is)
 
 -- no fault of names and numbers is one of what can't be sent
 not_early : (a : Option GridFault) (b : Option AxisValue) (f : PlanFault) → in_order a b None ≡ Some f → IsLate f → ⊥
-not_early (Some e) b f is late = subst IsLate (sym (inside (fault.Grid e) f is)) late
-  where
-    inside : (x y : PlanFault) → ◌≡◌ {A = Option PlanFault} (Some x) (Some y) → x ≡ y
-    inside x y is = cc
-not_early None (Some v) f is late = subst IsLate (sym (inside (fault.OutOfRange v) f is)) late
-  where
-    inside : (x y : PlanFault) → ◌≡◌ {A = Option PlanFault} (Some x) (Some y) → x ≡ y
-    inside x y is = cc
+not_early (Some e) b f is late = grind (arith, common_steps)
+not_early None (Some v) f is late = grind (arith, common_steps)
 not_early None None f is late = absurd (cc)
 
 no_part : (a : Option GridFault) (b : Option AxisValue) (long : Option PlanFault) → in_order a b long ≡ None → (in_order a b None ≡ None) × (long ≡ None)
@@ -132,12 +124,7 @@ refused_axis s v is = by_part (grid_fault s) (range_fault (grid_of s)) refl is
 
 -- the name of a drone that is read from the drones' lines
 pub name_read : (ds xs : List DroneLine) (k j : ℕ) (d : DroneLine) → xs ≡ ds → j ≡ k → k < length ds → (get_or xs j d).name ≡ name_at (map (λ (d : DroneLine). d.name) ds) k
-name_read ds xs k j d xs_are j_is inside = rw (xs_are, j_is) (here ds k inside)
-  where
-    here : (ds : List DroneLine) (k : ℕ) → k < length ds → (get_or ds k d).name ≡ name_at (map (λ (d : DroneLine). d.name) ds) k
-    here [] k inside = absurd (omega arith)
-    here (x ∷ ds) zero inside = refl
-    here (x ∷ ds) (suc k) inside = here ds k (omega arith)
+name_read ds xs k j d xs_are j_is inside = grind (arith, common_steps)
 
 -- it can stand as a word
 pub word_read : (ds xs : List DroneLine) (k j : ℕ) (d : DroneLine) → FitDroneLines ds → xs ≡ ds → j ≡ k → k < length ds → IsWord (get_or xs j d).name.items

@@ -1,6 +1,7 @@
 -- What a run of a command is, from what it read and wrote.
-use Rattle.std.proofs.Common.{◌≡◌, ◌⊎◌, inl, inr, ℕ, zero, suc, ◌≤◌, true, false, List, [], ◌∷◌, ◌++◌, Contains, Option, Some, None, Result, Ok, Err, IfSome, refl, sym, ap, subst, ◌∙◌, arith}
-use Rattle.std.specs.Io.KnownBytes.{Appends, Consumes}
+use Rattle.std.proofs.lemmas.Grind.{common_steps}
+use Rattle.std.proofs.Common.{◌≡◌, ◌⊎◌, inl, inr, ℕ, zero, suc, ◌≤◌, true, false, List, [], ◌∷◌, Contains, Option, Some, None, Result, Ok, Err, IfSome, refl, sym, ap, subst, ◌∙◌, arith}
+use Rattle.std.specs.Io.KnownBytes.{Appends}
 use Rattle.fleet_io.specs.Causes.{Rose}
 use Rattle.fleet_io.specs.Taken.{TakesFront}
 use Rattle.refusals.specs.declared.refusal.Refusal.{Refusal}
@@ -174,13 +175,7 @@ runs_wrote c r status o plain law answered wrote =
 
 -- what was taken where a read failed, with the line that is written then
 stopped_by : (c : Verb) (r : Run) → IsPlain c → TakesFront r.left r.left_after → IsStopped c r read_line
-stopped_by c r plain taken = by_left r.left r.left_after taken.0 taken.1
-  where
-    by_left : (left after : Option (List ℕ)) (front : List ℕ) → Consumes left after front →
-        IfSome left (λ input. (taken later : List ℕ) × (input ≡ taken ++ later) × (after ≡ Some later) × c.stops taken read_line)
-    by_left None after front consumes = tt
-    by_left (Some input) None front consumes = absurd consumes
-    by_left (Some input) (Some later) front consumes = (front, later, consumes, refl, plain.stops front)
+stopped_by c r plain taken = grind (arith, common_steps)
 
 some_any : (left : Option (List ℕ)) (P : Type 0) → P → IfSome left (λ _. P)
 some_any None P p = tt
@@ -229,23 +224,7 @@ runs_stopped c r status plain rose taken reads_later wrote = elim wrote [
 -- Out of memory, and nothing was written; what a command that reads nothing leaves of its source.
 pub runs_memory : (c : Verb) (r : Run) (status : ℕ) → ((output : List ℕ) → c.judges ≡ nothing output → ⊥) → ((r : Run) → c.prompt r) → status ≡ 1 → r.written_after ≡ r.written → r.writes_failed_after ≡ r.writes_failed →
     (reads c ≡ false → (r.left_after ≡ r.left) × (r.reads_failed_after ≡ r.reads_failed)) → TakesFront r.left r.left_after → r.reads_failed ≤ r.reads_failed_after → Runs c r status
-runs_memory c r status other prompt is written faults unread taken reads_later = record {
-  outcome = λ judged. absurd (judged.0 is);
-  exact = λ quiet. some_each (told c r) _ (λ input o is_o. inr is);
-  safe = λ zero. absurd (omega (arith, zero, is));
-  whole = λ zero all. absurd (omega (arith, zero, is));
-  one = λ one. (written, faults);
-  always = λ output is. absurd (other output is);
-  six = λ six. absurd (omega (arith, six, is));
-  stopped = λ six. absurd (omega (arith, six, is));
-  seven = λ seven. absurd (omega (arith, seven, is));
-  prompt = λ seven. prompt r;
-  unread = unread;
-  known = (1, omega arith, rw is refl);
-  taken = taken;
-  reads_later = reads_later;
-  writes_later = omega (arith, faults);
-}
+runs_memory c r status other prompt is written faults unread taken reads_later = grind (arith, common_steps, some_each)
 
 -- A command that reads its input whole answered, failed to read or was out of memory.
 pub runs_answer : (c : Verb) (r : Run) (result : Result Answer Failure) (status : ℕ) → IsPlain c → OutcomeLaw c → AnswersInput c r.left r.left_after result →
@@ -280,7 +259,4 @@ outcome_done c law the_input input o lacks is = law.complete (cut_of input) o la
 outcome_done c law (own_text text) input o lacks is = law.complete (cut_of text) o lacks is
 
 pub completes : (c : Verb) → OutcomeLaw c → (r : Run) (status : ℕ) → Runs c r status → Completes c r status
-completes c law r status runs quiet = elim (judged_or status (λ six. quiet.0 (runs.six six).0) (λ seven. quiet.1 (runs.seven seven).0)) [
-  | inl one ↦ some_each (told c r) _ (λ input lacks. inr one)
-  | inr judged ↦ some_map (told c r) _ _ (λ input came lacks. inl (came.2 ∙ outcome_done c law c.judges input came.0 lacks came.1)) (runs.outcome judged)
-]
+completes c law r status runs quiet = grind (arith, common_steps, judged_or, some_each, some_map, outcome_done)

@@ -1,4 +1,5 @@
 -- A run of a command that reads nothing.
+use Rattle.std.proofs.lemmas.Grind.{common_steps}
 use Rattle.std.proofs.Common.{◌≡◌, inl, inr, ℕ, List, Option, Some, None, Result, Ok, Err, IfOk, refl, sym, ap, subst, ◌∙◌, arith}
 use Rattle.std.specs.Io.KnownBytes.{Appends}
 use Rattle.choreo_reader.specs.Laws.{ShowLaw}
@@ -26,13 +27,7 @@ few_taken (Some bytes) = omega arith
 
 -- it keeps the laws of a command
 pub nothing_verb : (bytes : List ℕ) → IsVerb (of_nothing bytes)
-nothing_verb bytes = record {
-  one = λ s cut o p first second. first ∙ sym second;
-  some = λ s cut known. (outcome 0 bytes, refl);
-  done = λ s cut o gives succeeds. ap (λ (o : Outcome). o.status) gives;
-  apart = λ d s cut searched apart. tt;
-  headline = λ input o old new is appended. subst (λ (output : List ℕ). Appends old new output) (ap (λ (p : Outcome). p.output) is) appended;
-}
+nothing_verb bytes = grind (arith, common_steps)
 
 same_bytes : (a b : List ℕ) → nothing a ≡ nothing b → a ≡ b
 same_bytes a b same = cc
@@ -40,23 +35,7 @@ same_bytes a b same = cc
 runs_nothing : (bytes : List ℕ) (left : Option (List ℕ)) (faults : ℕ) (old new : Option (List ℕ)) (before after status : ℕ) → Wrote 0 bytes old new before after status →
     Runs (of_nothing bytes) (run_of left left faults faults old new before after) status
 runs_nothing bytes left faults old new before after status wrote = elim wrote [
-  | inl (e, appends, later) ↦ record {
-    outcome = λ judged. (outcome 0 bytes, refl, e, appends);
-    exact = λ quiet o is. inl (e ∙ sym (ap (λ (p : Outcome). p.status) is), rw is appends);
-    safe = λ zero. (outcome 0 bytes, refl, appends);
-    whole = λ zero all. absurd (cc);
-    one = λ one. absurd (omega (arith, one, e));
-    always = λ output is. inr (e, subst (λ (xs : List ℕ). Appends old new xs) (same_bytes bytes output is) appends);
-    six = λ six. absurd (omega (arith, six, e));
-    stopped = λ six. absurd (omega (arith, six, e));
-    seven = λ seven. absurd (omega (arith, seven, e));
-    prompt = λ seven. tt;
-    unread = λ none. (refl, refl);
-    known = (0, omega arith, rw e refl);
-    taken = TakesFront-none left;
-    reads_later = omega arith;
-    writes_later = later;
-  }
+  | inl (e, appends, later) ↦ grind (arith, common_steps, same_bytes, TakesFront-none)
   | inr (e, rose, front, later) ↦ record {
     outcome = λ judged. absurd (judged.2 e);
     exact = λ quiet. absurd (quiet.1 rose);
@@ -82,14 +61,7 @@ pub nothing_behaves : ShowLaw → (bytes : List ℕ) (left : Option (List ℕ)) 
 nothing_behaves law bytes left faults old new before after status wrote =
     let r : Run = run_of left left faults faults old new before after in
     let runs = runs_nothing bytes left faults old new before after status wrote in
-    record {
-      runs = runs;
-      few = λ wanted. few_taken left;
-      marker = λ alone reads judged. absurd (cc);
-      reading = tt;
-      complete = completes (of_nothing bytes) (outcomes law (of_nothing bytes) (nothing_verb bytes)) r status runs;
-      headline = headlines (of_nothing bytes) (nothing_verb bytes) r status runs;
-    }
+    grind (arith, common_steps, few_taken, completes, outcomes, nothing_verb, headlines)
 
 -- ---- one that judges a text of its own
 

@@ -1,5 +1,6 @@
 -- An input gives a command one outcome, from the command's own laws.
-use Rattle.std.proofs.Common.{◌≡◌, inl, inr, ℕ, ◌≤◌, true, false, Bool, cond, nat_lt, length, Option, Some, None, refl, sym, ap, subst, ◌∙◌}
+use Rattle.std.proofs.lemmas.Grind.{common_steps}
+use Rattle.std.proofs.Common.{◌≡◌, inl, inr, ℕ, ◌≤◌, cond, nat_lt, length, Option, Some, None, refl, sym, ap, subst, ◌∙◌}
 use Rattle.std.specs.Option.{option_map}
 use Rattle.std.proofs.lemmas.Bool.Decides.{nat_tests}
 use Rattle.std.proofs.Common.{arith}
@@ -20,10 +21,7 @@ show_one v is (Some r) s cut o p first second = first ∙ sym second
 show_one v is None s cut o p first second = is.one s cut o p first second
 
 one_alone : ShowLaw → (v : Verb) → IsVerb v → (cut : Cut) (o p : Outcome) → IsOutcomeOf v cut o → IsOutcomeOf v cut p → o ≡ p
-one_alone show v is cut o p (inl first) (inl second) = same (sym first ∙ second)
-  where
-    same : Some o ≡ Some p → o ≡ p
-    same e = cc
+one_alone show v is cut o p (inl first) (inl second) = grind (arith, common_steps)
 one_alone show v is cut o p (inl refused) (inr comes) =
     absurd (none_said v (text_refusal cut.show) o (stands_unrefused show cut.show comes.s comes.short comes.stands) refused)
 one_alone show v is cut o p (inr comes) (inl refused) =
@@ -34,14 +32,7 @@ one_alone show v is cut o p (inr first) (inr second) =
 
 -- a test that refuses nothing, with what it stands for
 pub within_limit : (limit n : ℕ) (r : Refusal) (more : Option Refusal) → cond (nat_lt limit n) (Some r) more ≡ None → (n ≤ limit) × (more ≡ None)
-within_limit limit n r more none = by_test (nat_lt limit n) refl none
-  where
-    short : (m n : ℕ) → nat_lt m n ≡ false → n ≤ m
-    short m n test = grind (arith, nat_tests)
-
-    by_test : (b : Bool) → nat_lt limit n ≡ b → cond b (Some r) more ≡ None → (n ≤ limit) × (more ≡ None)
-    by_test true test none = absurd (cc)
-    by_test false test none = (short limit n test, none)
+within_limit limit n r more none = grind (arith, common_steps, nat_lt, nat_tests, cond)
 
 -- what gives nothing comes of nothing
 pub none_mapped : {A : Type 0} (f : A → Refusal) (o : Option A) → option_map f o ≡ None → o ≡ None

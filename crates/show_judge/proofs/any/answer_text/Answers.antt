@@ -1,7 +1,8 @@
-use Rattle.std.proofs.Common.{ap, refl, subst, ◌∙◌}
+use Rattle.std.proofs.lemmas.Grind.{common_steps}
+use Rattle.std.proofs.Common.{ap, refl, subst, ◌∙◌, arith}
 use Rattle.show_judge.specs.declared.judging.Planned.TheVariants.{Fits as fits_as}
 use Rattle.show_judge.specs.declared.ways.Ways.{Ways}
-use Rattle.show_judge.specs.Answers.{EndsWell, Fits, IsRefusedBy}
+use Rattle.show_judge.specs.Answers.{EndsWell, Fits}
 use Rattle.show_judge.proofs.AnswerLemmas.{answers_fitted, answers_refused}
 use Rattle.show_judge.proofs.any.answer_text.Goals as goal
 
@@ -16,7 +17,4 @@ returns-in-Fits g c =
     (ends.1 (ap (λ (w : Ways). w.has_second) c.ways-ways.ensures ∙ c.requires.any.alone))
 
 pub returns-in-Refused : goal.returns-in-Refused
-returns-in-Refused g c =
-    answers_refused (g.V.AnyText.verb c.args.verb.now) c.args.text.now c.in-Refused.refusal c.requires.any.lines
-    (λ cut is. subst (λ (w : Ways). IsRefusedBy w cut c.in-Refused.refusal) c.ways-ways.ensures (rw c.in-Refused.is at (c.in_ok-fitted.ensures.gives cut is)))
-    (rw c.in-Refused.is at c.in_ok-fitted.ensures.sound)
+returns-in-Refused g c = grind (arith, common_steps, answers_refused)

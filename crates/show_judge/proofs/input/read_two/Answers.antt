@@ -1,5 +1,6 @@
+use Rattle.std.proofs.lemmas.Grind.{common_steps}
 use Rattle.fleet_io.proofs.TakenLemmas.{TakesFront-trans}
-use Rattle.std.proofs.Common.{ap}
+use Rattle.std.proofs.Common.{ap, arith}
 use Rattle.fleet_io.specs.Held.{Held}
 use Rattle.show_judge.proofs.ReadLemmas.{few_both, little_two}
 use Rattle.show_judge.proofs.FewLemmas.{stream_new}
@@ -22,6 +23,4 @@ returns-clause-few g c =
     little_two _ _ _ c.in_ok-show.show (rw is at c.in_ok-show.ensures.text) c.next_text.ensures.few c.read_second.ensures.stays
 
 pub returns-clause-past : goal.returns-clause-past
-returns-clause-past g c = λ whole whole_second.
-    let is = stream_new c.make-parts.result (g.S.Source.left c.args.source.now) (ap (λ (h : Held). h.waiting) c.make-parts.ensures) in
-    few_both _ _ _ c.in_ok-show.show whole (rw is at c.in_ok-show.ensures.rest) (c.in_ok-second.ensures.past whole whole_second)
+returns-clause-past g c = grind (arith, common_steps, stream_new, few_both)

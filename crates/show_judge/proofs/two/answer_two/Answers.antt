@@ -1,9 +1,10 @@
-use Rattle.std.proofs.Common.{ap, sym, Some, subst}
+use Rattle.std.proofs.lemmas.Grind.{common_steps}
+use Rattle.std.proofs.Common.{sym, Some, subst, arith}
 use Rattle.show_judge.specs.declared.judging.Judged.TheVariants.{Accepted}
 use Rattle.show_judge.specs.declared.ways.Ways.{Ways}
 use Rattle.show_judge.specs.Answers.{EndsJudged}
 use Rattle.show_judge.specs.Verb.{two_ways}
-use Rattle.show_judge.specs.Answers.{IsAccepted, IsRefusedBy}
+use Rattle.show_judge.specs.Answers.{IsAccepted}
 use Rattle.show_judge.proofs.AnswerLemmas.{accepted_lands, two_accepted, two_refused}
 use Rattle.show_judge.proofs.two.answer_two.Goals as goal
 
@@ -26,7 +27,4 @@ returns-in-Accepted g c =
     c.answer.ensures.gives ends.0 c.answer.ensures.whole c.answer.ensures.said
 
 pub returns-in-Refused : goal.returns-in-Refused
-returns-in-Refused g c =
-    two_refused (g.V.TwoTexts.verb c.args.verb.now) (g.V.TwoTexts.most c.args.verb.now) c.args.input.now c.in-Refused.refusal (ap (λ (w : Ways). w.by_frames) c.requires.two.ways)
-    (λ cut is. subst (λ (w : Ways). IsRefusedBy w cut c.in-Refused.refusal) (sym c.requires.two.ways) (rw (c.in-Refused.is, c.depth-depth.ensures.value) at (c.in_ok-accepted.ensures.gives cut is)))
-    (rw c.in-Refused.is at c.in_ok-accepted.ensures.sound)
+returns-in-Refused g c = grind (arith, common_steps, two_refused)
