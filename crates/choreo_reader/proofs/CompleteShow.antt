@@ -1,18 +1,17 @@
 -- Every show's texts are read as that show.
-use Rattle.std.proofs.Common.{◌≡◌, ℕ, ◌+◌, ◌≤◌, Bool, true, false, List, [], ◌∷◌, ◌++◌, length, map, Option, Some, None, Ok, Err, refl, sym, ap, ◌∙◌, arith, cond, append_assoc}
+use Rattle.std.proofs.lemmas.Grind.{common_steps}
+use Rattle.std.proofs.Common.{◌≡◌, ℕ, ◌+◌, ◌≤◌, Bool, true, false, List, [], ◌∷◌, ◌++◌, length, map, Option, Some, None, Ok, refl, sym, ap, ◌∙◌, arith, cond, append_assoc}
 use Rattle.std.proofs.lemmas.List.Elements.{recursion_from_All}
 use Rattle.std.specs.Prelude.{not, is_some, codes}
 use Rattle.std.proofs.lemmas.List.{append-nil}
 use Rattle.text_lines.specs.Words.{Line}
-use Rattle.choreo_reader.specs.Text.{show_lines}
 use Rattle.choreo_show.specs.Plain as plain
 use Rattle.choreo_lines.specs.Name.{Name}
 use Rattle.choreo_show.specs.Plain.{Body, PlainFigure, PlainShow, has_block, ◌⨾◌}
 use Rattle.choreo_reader.specs.Grammar.{body_said, Item, Memory, Trajectory, Ellipsoid, Stray, Late, Drone, Formed, Figured, Blocks, item_said, show_of, IsItem, HasSingleSettings, StandsFor, parts_of}
 use Rattle.choreo_reader.proofs.Items.{closing, place_said, items_said, AreItems, AreSaid, add_item, Fresh, parts_in, show_in, item_in, with_last, parts_of-more}
 use Rattle.choreo_reader.specs.Context.{fault_if, is_header, end_fault}
-use Rattle.choreo_reader.specs.Text.{fault_at}
-use Rattle.choreo_reader.specs.Reading.{InFormation, InFigure, Built, nothing, built_show, is_any, lines_step, finish, finish_with, openings_of, reading, read_lines, unless_forbidden}
+use Rattle.choreo_reader.specs.Reading.{InFormation, InFigure, Built, nothing, built_show, is_any, lines_step, finish, finish_with, openings_of, reading}
 use Rattle.choreo_reader.proofs.Allowed.{clean_none}
 use Rattle.choreo_reader.proofs.Complete.{Reads, reads_none, reads_then, reads_to, reads_list, split, first_said, numbered_step, said_anywhere, with_open, enclosed, block_lines, body_reads}
 use Rattle.choreo_lines.specs.declared.line.Entry.TheVariants as entry
@@ -192,11 +191,4 @@ finished is = ap (λ os. finish_with (add_items nothing is) (end_fault (openings
 
 -- what a text stands for is what is read
 pub complete : (text : List ℕ) (show : PlainShow) → StandsFor text show → reading text ≡ Ok show
-complete text show t =
-    let n = single_first t.items t.single in
-    ap (λ f. unless_forbidden f (read_lines (show_lines text))) (clean_none text t.bytes)
-    ∙ ap read_lines t.cut
-    ∙ ap (λ b. cond b (finish (lines_step nothing t.lines)) (Err (fault_at t.header.number kind.Header))) (header_is t.header t.first)
-    ∙ ap finish (lines_read t.items t.lines (recursion_from_All IsItem t.items t.each) n t.said)
-    ∙ finished t.items
-    ∙ ap (λ x. Ok x) (items_show t.items n ∙ t.makes)
+complete text show t = grind (arith, common_steps, single_first, clean_none, cond, header_is, lines_read, recursion_from_All, finished, items_show)

@@ -1,4 +1,5 @@
 -- The items of a show, word by word for the proofs: the lines of all, and what is read of them.
+use Rattle.std.proofs.lemmas.Grind.{common_steps}
 use Rattle.std.proofs.Common.{◌≡◌, ◌≤◌, List, [], ◌∷◌, ◌++◌, length, Option, Some, None, refl, sym, ap, ◌∙◌, arith}
 use Rattle.std.specs.Prelude.{option_to_list, unwrap_or, slice_index_or}
 use Rattle.std.specs.List.{AllByRecursion, AllZip, flat_map}
@@ -87,13 +88,7 @@ set_value d (Some x) = refl
 
 -- they make the show that was read
 pub show_in : (s : Built) → show_of (parts_in s) ≡ built_show s
-show_in s =
-    let m = set_value (2, 0) s.memory in
-    let t = set_value 0 s.trajectory in
-    let e = set_value (120, 300) s.ellipsoid in
-    let x = set_value 0 s.stray in
-    let y = set_value 0 s.late in
-    cc
+show_in s = grind (arith, common_steps, set_value)
 
 few : {A : Type 0} (o : Option A) → length (option_to_list o) ≤ 1
 few None = omega arith

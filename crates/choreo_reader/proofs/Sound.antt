@@ -1,7 +1,8 @@
 -- What is read is what the text stands for.
+use Rattle.std.proofs.lemmas.Grind.{common_steps}
 use Rattle.std.proofs.Common.{◌≡◌, ℕ, ◌+◌, ◌<◌, ◌≤◌, Bool, true, false, List, [], ◌∷◌, ◌++◌, length, map, Option, Some, None, Result, Ok, Err, refl, sym, ap, subst, ◌∙◌, arith, cond, append_assoc}
 use Rattle.std.proofs.lemmas.List.Elements.{All-from_recursion}
-use Rattle.std.specs.Prelude.{◌&&◌, ◌==◌, not, nat_le, is_some, bytes_eq, codes}
+use Rattle.std.specs.Prelude.{◌&&◌, not, nat_le, is_some, codes}
 use Rattle.std.proofs.lemmas.List.{append-nil, map-append}
 use Rattle.std.proofs.lemmas.Bool.{and_parts, eqb-true}
 use Rattle.std.proofs.lemmas.Bool.Decides.{nat_tests}
@@ -95,13 +96,7 @@ item_holds : (i : Item) (s : Built) (os : List Open) (done ls : List Line) → (
 item_holds i s os done ls h k f said =
     let same : items_said h.items ++ item_said i ≡ items_said (h.items ++ i ∷ []) ++ opens_said (add_item s i).open_blocks =
     sym (items_said-more h.items i) ∙ sym (append-nil (items_said (h.items ++ i ∷ []))) ∙ ap (λ qs. items_said (h.items ++ i ∷ []) ++ opens_said qs) (sym (none_open i s)) in
-    record {
-      items = h.items ++ i ∷ [];
-      said = subst (λ xs. AreSaid (done ++ ls) xs) same said;
-      each = each-more h.items i h.each k;
-      order = subst InOrder (sym (none_open i s)) tt;
-      parts = parts_of-more h.items i ∙ ap (λ p. with_last p i) h.parts ∙ item_in i s f;
-    }
+    grind (arith, common_steps, each-more, none_open, parts_of-more, with_last, item_in)
 
 -- other open blocks, for more lines
 opens_hold : (s : Built) (os qs : List Open) (done ls : List Line) → (h : Holds (with_open s os) done) → AreSaid (done ++ ls) (items_said h.items ++ opens_said qs) → InOrder qs → Holds (with_open s qs) (done ++ ls)
@@ -357,16 +352,11 @@ goes (entry.Drone name to) os s done l m = at_top (entry.Drone name to) os s don
     (λ h says f. item_line (Drone (record { line = l.number; name = name; at = to })) (entry.Drone name to) _ s done l h tt tt refl (here l _ says))
 goes (entry.Formation name) os s done l m = at_top (entry.Formation name) os s done l (refl, refl, refl, refl, refl) m
     (λ h says f. block_opened s [] (InFormation l.number name []) (entry.Formation name) done l h says refl refl)
-goes (entry.Figure name roles) os s done l m = at_top (entry.Figure name roles) os s done l (refl, refl, refl, refl, refl) m
-    (λ h says f. block_opened s [] (InFigure l.number name roles plain.Done) (entry.Figure name roles) done l h says refl
-    (refl, record { takes = tt; filled = refl; nested = omega arith; figure = λ q. refl }))
+goes (entry.Figure name roles) os s done l m = grind (arith, common_steps, at_top, block_opened)
 goes (entry.Cue ms) os s done l m =
     λ h says f. block_opened s os (InCue l.number ms []) (entry.Cue ms) done l h says refl
     (takes_is os (entry.Cue ms) refl refl refl m, λ q. refl, h.order)
-goes (entry.Repeat times) os s done l m =
-    λ h says f. let few = few_more (repeats (openings_of os)) (fault_none _ kind.Nesting f) in
-    block_opened s os (InRepeat l.number times plain.Done) (entry.Repeat times) done l h says refl
-    (takes_is os (entry.Repeat times) refl refl refl m, record { takes = tt; filled = refl; nested = omega (arith, few, outer_repeats os); figure = λ q. refl }, h.order)
+goes (entry.Repeat times) os s done l m = grind (arith, common_steps, few_more, fault_none, block_opened, takes_is, outer_repeats)
 goes (entry.Perform figure frame ds) os s done l m =
     λ h says f.
     let takes = takes_is os (entry.Perform figure frame ds) refl refl refl m in
@@ -458,12 +448,7 @@ two_words (a ∷ b ∷ []) h = refl
 two_words (a ∷ b ∷ c ∷ ws) h = absurd (omega arith)
 
 header_words : (l : Line) → is_header l.words ≡ true → l.words ≡ codes "choreo" ∷ codes "1" ∷ []
-header_words l h =
-    let p = and_parts (length l.words == 2 && bytes_eq (word l.words 0) (codes "choreo")) (bytes_eq (word l.words 1) (codes "1")) h in
-    let q = and_parts (length l.words == 2) (bytes_eq (word l.words 0) (codes "choreo")) p.0 in
-    let first = (bytes_eq-Decides (word l.words 0) (codes "choreo")).0 q.1 in
-    let second = (bytes_eq-Decides (word l.words 1) (codes "1")).0 p.1 in
-    two_words l.words (eqb-true (length l.words) 2 q.0) ∙ ap (λ w. w ∷ word l.words 1 ∷ []) first ∙ ap (λ w. codes "choreo" ∷ w ∷ []) second
+header_words l h = grind (arith, common_steps, and_parts, bytes_eq-Decides, two_words, eqb-true)
 
 -- what is read is what the text stands for
 pub sound : (text : List ℕ) (show : PlainShow) → reading text ≡ Ok show → StandsFor text show

@@ -1,4 +1,5 @@
 -- A show that a text stands for is valid.
+use Rattle.std.proofs.lemmas.Grind.{common_steps}
 use Rattle.std.proofs.Common.{◌≡◌, ℕ, ◌+◌, ◌<◌, ◌≤◌, Bool, true, false, cond, eqb-true, ne_eqb, List, [], ◌∷◌, ◌++◌, map, length, Option, Some, None, refl, sym, ap, subst, ◌∙◌, arith, append_assoc}
 use Rattle.std.proofs.lemmas.List.Elements.{recursion_from_All}
 use Rattle.std.specs.Prelude.{pos, nat_le, ◌≤ℤ◌, ◌==◌, ◌&&◌, slice_index_or, IfSome}
@@ -57,12 +58,7 @@ names_fit (n ∷ ns) f = (f.0, names_fit ns f.1)
 
 -- 1 to 32 names after the places of a line
 names_counted : (places n : ℕ) (ns : List Name) → (nat_le (places + 1) n && nat_le n (places + 32)) ≡ true → n ≡ places + length (map Named ns) → (1 ≤ length ns) × (length ns ≤ 32)
-names_counted places n ns h e =
-    let p = and_parts (nat_le (places + 1) n) (nat_le n (places + 32)) h in
-    let least = leb-true (places + 1) n p.0 in
-    let most = leb-true n (places + 32) p.1 in
-    let same = length-map ns Named in
-    (omega (arith, e, least, same), omega (arith, e, most, same))
+names_counted places n ns h e = grind (arith, common_steps, and_parts, leb-true, length-map)
 
 natural_in : (low most n : ℕ) → (pos low ≤ℤ pos n) × (pos n ≤ℤ pos most) → (low ≤ n) × (n ≤ most)
 natural_in low most n f = let above = f.0 in let below = f.1 in (omega (arith, ints, above), omega (arith, ints, below))
@@ -100,10 +96,7 @@ entry_fits (entry.Figure name roles) n c e f =
     let k = names_counted 1 n roles c (omega (arith, e)) in (f.0, names_fit roles f.1, k.0, k.1)
 entry_fits (entry.Cue ms) n c e f = natural_in 1 65535 ms f.0
 entry_fits (entry.Repeat times) n c e f = natural_in 1 1000000000 times f.0
-entry_fits (entry.Perform figure frame ds) n c e f =
-    let k = names_counted 6 n ds c (omega (arith, e)) in
-    let shift = f.1.1.1 in
-    (f.0, ((natural_in 0 3 frame.turns f.1.1.0).1, shift.0, shift.1.0, shift.1.1.0), names_fit ds shift.1.1.1, k.0, k.1)
+entry_fits (entry.Perform figure frame ds) n c e f = grind (arith, common_steps, names_counted, natural_in, names_fit)
 entry_fits (entry.Form formation smooth) n c e f = f.0
 entry_fits (entry.One name a) n c e f = let none = eqb-true n 0 c in absurd (omega (arith, none, e))
 entry_fits entry.End n c e f = tt
@@ -369,10 +362,7 @@ times-below n k (m ∷ ns) h a =
     omega (arith, here, times-below n m ns (omega (arith, a.0)) a.1)
 
 times-once_by : (b : Bool) (n m : ℕ) (ns : List ℕ) → (n == m) ≡ b → AllAbove m ns → times n ns ≤ 1 → times n (m ∷ ns) ≤ 1
-times-once_by true n m ns e a h =
-    let none : times n ns ≡ 0 = times-below n m ns (omega (arith, eqb-true n m e)) a in
-    let here : times n (m ∷ ns) ≡ 1 + times n ns = ap (λ b. (cond b 1 0) + times n ns) e in
-    omega arith
+times-once_by true n m ns e a h = grind (arith, common_steps, times-below, eqb-true, cond)
 times-once_by false n m ns e a h =
     let here : times n (m ∷ ns) ≡ 0 + times n ns = ap (λ b. (cond b 1 0) + times n ns) e in
     omega arith
@@ -413,11 +403,7 @@ times_shared n (Blocks b ∷ is) =
 
 -- the numbers of all lines, list by list
 times_whole : (n : ℕ) (is : List Item) → times n (all_lines (show_of (parts_of is))) ≡ times_in n is
-times_whole n is =
-    let d = times-append n (drone_lines (drones is)) (formation_lines (formations is) ++ (figure_lines (figures is) ++ body_lines (body is))) in
-    let f = times-append n (formation_lines (formations is)) (figure_lines (figures is) ++ body_lines (body is)) in
-    let g = times-append n (figure_lines (figures is)) (body_lines (body is)) in
-    omega (arith, d, f, g)
+times_whole n is = grind (arith, common_steps, times-append, drones, formations, figures, body)
 
 -- the show of a text
 show_valid : (is : List Item) → AreItems is → AllFit (items_said is) → AllAbove 0 (numbers (items_said is)) → IsValid (show_of (parts_of is))
