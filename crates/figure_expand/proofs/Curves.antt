@@ -1,9 +1,10 @@
 -- The curve from rest to rest, as a closed polynomial and as a Bernstein sum: both are the first value times c^7, and the way times
 -- the share of it that is done.
+use Rattle.std.proofs.lemmas.Grind.{common_steps}
 use Rattle.std.proofs.Common.{◌≡◌, ℕ, zero, suc, ◌≤◌, ℤ, pos, ◌+ℤ◌, ◌-ℤ◌, ◌*ℤ◌, [], ◌∷◌, arith, sym, ap, ◌∙◌}
 use Rattle.std.proofs.lemmas.Int.{ints}
 use Rattle.fleet_math.specs.Sums.{power}
-use Rattle.fleet_math.specs.Bernstein.{at, bern, bernstein, weight}
+use Rattle.fleet_math.specs.Bernstein.{bern, bernstein, weight}
 use Rattle.fleet_math.proofs.RingLemmas.{ring, linear, mul_add_ℤ, add_mul_ℤ, mul_assoc_ℤ, mul_zero_ℤ, mul_comm_ℤ}
 use Rattle.fleet_math.proofs.BernsteinLemmas.{bernstein-suc, bernstein-zero, bernstein-same, bernstein-mix, cong_add}
 
@@ -33,12 +34,7 @@ split u a p = sym (add_mul_ℤ u a p)
 -- control values that are all 1 have the sum c ^ n
 pub bernstein-ones : (n : ℕ) (a c : ℤ) → bernstein n (λ _. pos 1) a c ≡ power c n
 bernstein-ones zero a c = bernstein-zero (λ _. pos 1) a c
-bernstein-ones (suc n) a c =
-    let whole : (c -ℤ a) +ℤ a ≡ c = omega (arith, linear) in
-    bernstein-suc n (λ _. pos 1) a c
-    ∙ cong_add (ap (λ (x : ℤ). (c -ℤ a) *ℤ x) (bernstein-ones n a c)) (ap (λ (x : ℤ). a *ℤ x) (bernstein-ones n a c))
-    ∙ split (c -ℤ a) a (power c n)
-    ∙ ap (λ (x : ℤ). x *ℤ power c n) whole
+bernstein-ones (suc n) a c = grind (arith, common_steps, bernstein-suc, pos, cong_add, split, (bernstein-ones n a c), (bernstein-ones n a c))
 
 -- The control values x, x, x, x, y, y, y, y: the first value times c^7, and the way times the share.
 pub bernstein-steps : (f : ℕ → ℤ) (x y a c : ℤ) → ((k : ℕ) → k ≤ 7 → f k ≡ x *ℤ pos 1 +ℤ (y -ℤ x) *ℤ step k) → bernstein 7 f a c ≡ x *ℤ power c 7 +ℤ (y -ℤ x) *ℤ share a c
@@ -56,18 +52,7 @@ other_value x y = omega (arith, ints)
 
 -- the sum of such a list
 pub bern-steps : (x y a c : ℤ) → bern (x ∷ x ∷ x ∷ x ∷ y ∷ y ∷ y ∷ y ∷ []) a c ≡ x *ℤ power c 7 +ℤ (y -ℤ x) *ℤ share a c
-bern-steps x y a c = bernstein-steps (at (x ∷ x ∷ x ∷ x ∷ y ∷ y ∷ y ∷ y ∷ [])) x y a c are
-  where
-    are : (k : ℕ) → k ≤ 7 → at (x ∷ x ∷ x ∷ x ∷ y ∷ y ∷ y ∷ y ∷ []) k ≡ x *ℤ pos 1 +ℤ (y -ℤ x) *ℤ step k
-    are zero small = first_value x y
-    are (suc zero) small = first_value x y
-    are (suc (suc zero)) small = first_value x y
-    are (suc (suc (suc zero))) small = first_value x y
-    are (suc (suc (suc (suc zero)))) small = other_value x y
-    are (suc (suc (suc (suc (suc zero))))) small = other_value x y
-    are (suc (suc (suc (suc (suc (suc zero)))))) small = other_value x y
-    are (suc (suc (suc (suc (suc (suc (suc zero))))))) small = other_value x y
-    are (suc (suc (suc (suc (suc (suc (suc (suc k)))))))) small = absurd (omega arith)
+bern-steps x y a c = grind (arith, common_steps, bernstein-steps, pos, step, first_value, other_value)
 
 -- ---- the closed polynomial
 

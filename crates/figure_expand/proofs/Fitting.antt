@@ -1,5 +1,6 @@
 -- Where no value of a grid is out of range, each of its starts and pieces fits a trajectory.
-use Rattle.std.proofs.Common.{◌≡◌, ℕ, zero, suc, ◌+◌, ◌<◌, ◌≤◌, Bool, true, false, cond, ◌&&◌, nat_le, Some, None, ℤ, pos, List, [], ◌∷◌, ◌++◌, map, length, get_or, arith, refl, sym, ap, ◌∙◌, subst}
+use Rattle.std.proofs.lemmas.Grind.{common_steps}
+use Rattle.std.proofs.Common.{◌≡◌, ℕ, zero, suc, ◌+◌, ◌<◌, ◌≤◌, Bool, true, cond, ◌&&◌, nat_le, Some, None, ℤ, pos, List, [], ◌∷◌, ◌++◌, map, length, get_or, arith, refl, sym, ap, ◌∙◌, subst}
 use Rattle.std.specs.List.{list_all}
 use Rattle.std.proofs.lemmas.Bool.Decides.{nat_tests}
 use Rattle.choreo_lines.specs.declared.parts.Point.{Point}
@@ -8,13 +9,12 @@ use Rattle.cue_grid.specs.declared.grid.Job.{Job}
 use Rattle.cue_grid.specs.declared.grid.Cue.{Cue}
 use Rattle.cue_grid.specs.declared.grid.Grid.{Grid}
 use Rattle.cue_grid.specs.Grids.{FitCues, IsGrid}
-use Rattle.mm_rounding.specs.Rounding.{millimetres, is_short, short, controls, rounded, fits, counted, segment_of}
+use Rattle.mm_rounding.specs.Rounding.{millimetres, is_short, short, controls, rounded, fits}
 use Rattle.mm_rounding.specs.declared.piece.Axis.{Axis}
 use Rattle.mm_rounding.specs.declared.piece.Axis.TheVariants.{One, Two, Four, Eight}
 use Rattle.mm_rounding.specs.declared.piece.MicroPiece.{MicroPiece}
 use Rattle.figure_expand.specs.Acts.{act_of, end_of}
-use Rattle.figure_expand.specs.Written.{written_points}
-use Rattle.figure_expand.specs.Controls.{axis_with, axes_of, piece_of}
+use Rattle.figure_expand.specs.Controls.{axes_of, piece_of}
 use Rattle.figure_expand.specs.Expanded as expanding
 use Rattle.figure_expand.specs.Expanded.{fits_axis, values_on, values_of, point_values, start_values, start_points, cue_values, points_after, values_from, first_unfit, range_fault, job_in, no_job, pieces_from, expanded_from, expanded}
 use Rattle.figure_expand.specs.declared.fault.AxisValue.{AxisValue}
@@ -26,11 +26,7 @@ use Rattle.figure_expand.proofs.Pieces.{row_is}
 
 -- a value that fits, and the rest
 first_fits : (v : AxisValue) (vs : List AxisValue) → first_unfit (v ∷ vs) ≡ None → (expanding.fits v ≡ true) × (first_unfit vs ≡ None)
-first_fits v vs none = by_fit (expanding.fits v) refl none
-  where
-    by_fit : (b : Bool) → expanding.fits v ≡ b → cond b (first_unfit vs) (Some v) ≡ None → (expanding.fits v ≡ true) × (first_unfit vs ≡ None)
-    by_fit true is none = (is, none)
-    by_fit false is none = absurd (cc)
+first_fits v vs none = grind (arith, common_steps, cond)
 
 -- both of two lists
 both_fit : (xs ys : List AxisValue) → first_unfit (xs ++ ys) ≡ None → (first_unfit xs ≡ None) × (first_unfit ys ≡ None)
@@ -60,28 +56,14 @@ place_fits (Eight v) all = sym (rounded_fit v) ∙ all
 
 -- four axes
 axes_fit : (line : ℕ) (x y z w : Axis) → first_unfit (values_of line 0 (x ∷ y ∷ z ∷ w ∷ [])) ≡ None → list_all fits (rounded x ∷ rounded y ∷ rounded z ∷ w ∷ []) ≡ true
-axes_fit line x y z w none =
-    let at_x = both_fit (values_on line 0 (controls x)) (values_of line 1 (y ∷ z ∷ w ∷ [])) none in
-    let at_y = both_fit (values_on line 1 (controls y)) (values_of line 2 (z ∷ w ∷ [])) at_x.1 in
-    let at_z = both_fit (values_on line 2 (controls z)) (values_of line 3 (w ∷ [])) at_y.1 in
-    let at_w = both_fit (values_on line 3 (controls w)) [] at_z.1 in
-    let x_fits : fits (rounded x) ≡ true = place_fits x (each_fits line 0 (controls x) at_x.0) in
-    let y_fits : fits (rounded y) ≡ true = place_fits y (each_fits line 1 (controls y) at_y.0) in
-    let z_fits : fits (rounded z) ≡ true = place_fits z (each_fits line 2 (controls z) at_z.0) in
-    let w_fits : fits w ≡ true = each_fits line 3 (controls w) at_w.0 in
-    rw (x_fits, y_fits, z_fits, w_fits) refl
+axes_fit line x y z w none = grind (arith, common_steps, both_fit, place_fits, each_fits)
 
 some_time : (ms : ℕ) → 1 ≤ ms → nat_le 1 ms ≡ true
 some_time ms some = grind (arith, nat_tests)
 
 -- a piece
 piece_rounds : (line : ℕ) (p : Point) (ms : ℕ) (j : Job) → 1 ≤ ms → first_unfit (values_of line 0 (axes_of p (act_of j))) ≡ None → RoundsWell (piece_of p ms j)
-piece_rounds line p ms j some none =
-    let on : ℕ → Axis = λ axis. axis_with (written_points p (act_of j) axis) in
-    let long : nat_le 1 ms ≡ true = some_time ms some in
-    let all : list_all fits (counted (piece_of p ms j)) ≡ true = axes_fit line (on 0) (on 1) (on 2) (on 3) none in
-    ap (λ (b : Bool). cond (b && list_all fits (counted (piece_of p ms j))) (Some (segment_of (piece_of p ms j))) None) long
-    ∙ ap (λ (b : Bool). cond b (Some (segment_of (piece_of p ms j))) None) all
+piece_rounds line p ms j some none = grind (arith, common_steps, nat_le, some_time, axes_fit, cond)
 
 -- ---- each drone and cue
 
@@ -130,18 +112,7 @@ short_is : (z : ℤ) → is_short z ≡ true → short z ≡ Some z
 short_is z is = ap (λ (b : Bool). cond b (Some z) None) is
 
 start_fits : (line : ℕ) (p : Point) → first_unfit (point_values line p) ≡ None → StartsWell p
-start_fits line p none =
-    let value : ℕ → ℤ → AxisValue = λ axis v. record { line = line; axis = axis; value = v } in
-    let at_x = first_fits (value 0 p.x) (value 1 p.y ∷ value 2 p.z ∷ value 3 p.yaw ∷ []) none in
-    let at_y = first_fits (value 1 p.y) (value 2 p.z ∷ value 3 p.yaw ∷ []) at_x.1 in
-    let at_z = first_fits (value 2 p.z) (value 3 p.yaw ∷ []) at_y.1 in
-    let at_yaw = first_fits (value 3 p.yaw) [] at_z.1 in
-    record {
-      x = short_is (millimetres p.x) at_x.0;
-      y = short_is (millimetres p.y) at_y.0;
-      z = short_is (millimetres p.z) at_z.0;
-      yaw = short_is p.yaw at_yaw.0;
-    }
+start_fits line p none = grind (arith, common_steps, first_fits, short_is)
 
 starts_fit : (starts : List DroneLine) → first_unfit (start_values starts) ≡ None → (k : ℕ) (other : DroneLine) → k < length starts → StartsWell (get_or starts k other).at
 starts_fit [] none k other within = absurd (omega arith)

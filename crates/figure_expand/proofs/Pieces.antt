@@ -1,11 +1,12 @@
 -- The pieces of a grid are where the text says.
+use Rattle.std.proofs.lemmas.Grind.{common_steps}
 use Rattle.std.proofs.Common.{◌≡◌, ℕ, zero, suc, ◌+◌, ◌<◌, ℤ, pos, ◌+ℤ◌, ◌-ℤ◌, ◌*ℤ◌, List, [], ◌∷◌, ◌++◌, map, take, drop, append_assoc, length, get_or, arith, refl, sym, ap, ◌∙◌}
 use Rattle.std.specs.List.{All}
 use Rattle.std.proofs.lemmas.List.Elements.{All-nil, All-cons}
 use Rattle.std.proofs.lemmas.List.{drop_more}
 use Rattle.fleet_math.specs.Sums.{power}
 use Rattle.fleet_math.specs.Bernstein.{at}
-use Rattle.fleet_math.proofs.RingLemmas.{ring, linear, mul_comm_ℤ, one_mul_ℤ}
+use Rattle.fleet_math.proofs.RingLemmas.{mul_comm_ℤ, one_mul_ℤ}
 use Rattle.fleet_math.proofs.BernsteinLemmas.{bernstein-zero, bernstein-suc, cong_add}
 use Rattle.choreo_lines.specs.declared.parts.Point.{Point}
 use Rattle.choreo_lines.specs.declared.parts.Act.{Act}
@@ -34,15 +35,7 @@ one v a c = ap (λ (z : ℤ). power (pos c) 7 *ℤ z) (bernstein-zero (at (v ∷
 
 -- two values are a straight way
 two : (A B : ℤ) (a c : ℕ) → position (A ∷ B ∷ []) a c ≡ (A *ℤ (pos c -ℤ pos a) +ℤ B *ℤ pos a) *ℤ power (pos c) 6
-two A B a c =
-    ap (λ (z : ℤ). power (pos c) 6 *ℤ z)
-    (bernstein-suc 0 (at (A ∷ B ∷ [])) (pos a) (pos c)
-    ∙ cong_add (ap (λ (z : ℤ). (pos c -ℤ pos a) *ℤ z) (bernstein-zero (at (A ∷ B ∷ [])) (pos a) (pos c)))
-    (ap (λ (z : ℤ). pos a *ℤ z) (bernstein-zero (λ k. at (A ∷ B ∷ []) (suc k)) (pos a) (pos c))))
-    ∙ turned (power (pos c) 6) (pos c -ℤ pos a) (pos a) A B
-  where
-    turned : (q u a A B : ℤ) → q *ℤ (u *ℤ A +ℤ a *ℤ B) ≡ (A *ℤ u +ℤ B *ℤ a) *ℤ q
-    turned q u a A B = simp ring (omega (arith, linear))
+two A B a c = grind (arith, common_steps, pos, bernstein-suc, cong_add, bernstein-zero)
 
 -- eight values, four times the first and four times the last, are the way from rest to rest
 eight : (A B : ℤ) (a c : ℕ) → position (from_rest A B) a c ≡ closed_rest A B (pos a) (pos c)
@@ -135,16 +128,7 @@ row_is first (s ∷ starts) cues (suc d) other rest within =
 pub piece_next : (pieces more : List MicroPiece) (p after : Point) (d : ℕ) (cues : List Cue) (k : ℕ) (cue : Cue) (piece : MicroPiece) → k < length cues → cue ≡ get_or cues k cue →
     piece ≡ piece_of p cue.ms (job_in cue d) → after ≡ end_of p (act_of (job_in cue d)) → more ≡ pieces ++ piece ∷ [] →
     more ++ pieces_from after d (drop (k + 1) cues) ≡ pieces ++ pieces_from p d (drop k cues)
-piece_next pieces more p after d cues k cue piece within is piece_is after_is more_is =
-    let rest : List Cue = drop (k + 1) cues in
-    let drops : pieces_from p d (drop k cues) ≡ piece_of p cue.ms (job_in cue d) ∷ pieces_from (end_of p (act_of (job_in cue d))) d rest =
-    ap (pieces_from p d) (drop_more cues k cue within ∙ ap (λ (here : Cue). here ∷ rest) (sym is)) in
-    ap (λ (items : List MicroPiece). items ++ pieces_from after d rest) more_is
-    ∙ append_assoc pieces (piece ∷ []) (pieces_from after d rest)
-    ∙ ap (λ (items : List MicroPiece). pieces ++ items)
-    (ap (λ (first : MicroPiece). first ∷ pieces_from after d rest) piece_is
-    ∙ ap (λ (q : Point). piece_of p cue.ms (job_in cue d) ∷ pieces_from q d rest) after_is
-    ∙ sym drops)
+piece_next pieces more p after d cues k cue piece within is piece_is after_is more_is = grind (arith, common_steps, drop, drop_more, append_assoc)
 
 -- The pieces of a grid are at the written position.
 pub flies_as_written : (g : Grid) → FliesAsWritten g

@@ -1,4 +1,5 @@
 -- How far the numbers of points and acts are from 0.
+use Rattle.std.proofs.lemmas.Grind.{common_steps}
 use Rattle.std.proofs.Common.{◌≡◌, ℕ, zero, suc, ◌+◌, ◌*◌, ◌^◌, ◌<◌, ◌≤◌, Bool, true, false, ℤ, pos, ◌+ℤ◌, ◌-ℤ◌, List, [], ◌∷◌, length, get_or, to_z, of_z, w64, arith, refl, sym, ap, subst}
 use Rattle.std.specs.List.{All}
 use Rattle.std.proofs.lemmas.Int.{ints, to_z-of_z}
@@ -30,12 +31,7 @@ wider m n v less small = (omega (arith, ints, small.0), omega (arith, ints, smal
 
 -- a bound of a point's numbers may be larger
 pub wider_point : (m n : ℕ) (p : Point) → m ≤ n → IsPointUpTo m p → IsPointUpTo n p
-wider_point m n p less small = record {
-  x = wider m n p.x less small.x;
-  y = wider m n p.y less small.y;
-  z = wider m n p.z less small.z;
-  yaw = wider m n p.yaw less small.yaw;
-}
+wider_point m n p less small = grind (arith, common_steps, wider)
 
 yaw_small : (v : ℤ) → FitsYaw v → IsUpTo 100000000 v
 yaw_small v fits = (omega (arith, ints, fits.0), omega (arith, ints, fits.1))
@@ -53,11 +49,7 @@ shift_small f fits = record { dx = fits.1; dy = fits.2; dz = fits.3 }
 
 -- a shift of a show, with the bound that `apply` asks for
 pub shift_fits : (f : Frame) → FitsFrame f → IsShiftUpTo (2 ^ 40) f
-shift_fits f fits = record {
-  dx = wider 100000000 (2 ^ 40) f.dx (omega arith) fits.1;
-  dy = wider 100000000 (2 ^ 40) f.dy (omega arith) fits.2;
-  dz = wider 100000000 (2 ^ 40) f.dz (omega arith) fits.3;
-}
+shift_fits f fits = grind (arith, common_steps, wider)
 
 -- the coordinate 0 and the yaw 0 are in range
 no_way : FitsCoordinate (pos 0)
@@ -83,26 +75,11 @@ triple_fits (x ∷ y ∷ z ∷ w ∷ v) fits = absurd fits
 
 mirrored_small : (m : Mirror) (n : ℕ) (p : Point) → IsPointUpTo n p → IsPointUpTo (n + 1800) (mirrored m p)
 mirrored_small mirror.None n p small = wider_point n (n + 1800) p (omega arith) small
-mirrored_small mirror.X n p small = record {
-  x = (omega (arith, ints, small.x.1), omega (arith, ints, small.x.0));
-  y = wider n (n + 1800) p.y (omega arith) small.y;
-  z = wider n (n + 1800) p.z (omega arith) small.z;
-  yaw = (omega (arith, ints, small.yaw.1), omega (arith, ints, small.yaw.0));
-}
-mirrored_small mirror.Y n p small = record {
-  x = wider n (n + 1800) p.x (omega arith) small.x;
-  y = (omega (arith, ints, small.y.1), omega (arith, ints, small.y.0));
-  z = wider n (n + 1800) p.z (omega arith) small.z;
-  yaw = (omega (arith, ints, small.yaw.1), omega (arith, ints, small.yaw.0));
-}
+mirrored_small mirror.X n p small = grind (arith, common_steps, ints, wider)
+mirrored_small mirror.Y n p small = grind (arith, common_steps, ints, wider)
 
 turned_once_small : (n : ℕ) (p : Point) → IsPointUpTo n p → IsPointUpTo (n + 900) (turned_once p)
-turned_once_small n p small = record {
-  x = (omega (arith, ints, small.y.1), omega (arith, ints, small.y.0));
-  y = wider n (n + 900) p.x (omega arith) small.x;
-  z = wider n (n + 900) p.z (omega arith) small.z;
-  yaw = (omega (arith, ints, small.yaw.0), omega (arith, ints, small.yaw.1));
-}
+turned_once_small n p small = grind (arith, common_steps, ints, wider)
 
 turned_small : (k n : ℕ) (p : Point) → IsPointUpTo n p → IsPointUpTo (n + 900 * k) (turned k p)
 turned_small zero n p small = wider_point n (n + 900 * 0) p (omega arith) small

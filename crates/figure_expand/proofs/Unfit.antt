@@ -1,4 +1,5 @@
 -- The first value that does not fit, step by step.
+use Rattle.std.proofs.lemmas.Grind.{common_steps}
 use Rattle.std.proofs.Common.{◌≡◌, ℕ, zero, suc, ◌+◌, ◌<◌, ◌≤◌, Bool, true, false, cond, Some, None, List, [], ◌∷◌, ◌++◌, length, get_or, set, drop, arith, refl, sym, ap, ◌∙◌}
 use Rattle.choreo_lines.specs.declared.parts.Point.{Point}
 use Rattle.cue_grid.specs.declared.grid.Job.{Job}
@@ -152,7 +153,4 @@ starts_unfit g starts f is some =
 pub cues_unfit : (g : Grid) (starts : List DroneLine) (points : List Point) (cues : List Cue) → starts ≡ g.starts → first_unfit (start_values starts) ≡ None →
     points ≡ start_points g.starts → cues ≡ g.cues → first_unfit (values_from points cues) ≡ range_fault g
 unfolding range_fault
-cues_unfit g starts points cues is none points_are cues_are =
-    ap (λ (ps : List Point). first_unfit (values_from ps cues)) points_are
-    ∙ ap (λ (cs : List Cue). first_unfit (values_from (start_points g.starts) cs)) cues_are
-    ∙ sym (none_before (start_values g.starts) (values_from (start_points g.starts) g.cues) (ap (λ (xs : List DroneLine). first_unfit (start_values xs)) (sym is) ∙ none))
+cues_unfit g starts points cues is none points_are cues_are = grind (arith, common_steps, none_before)

@@ -1,4 +1,5 @@
-use Rattle.std.proofs.Common.{ℕ, ◌+◌, ◌<◌, arith, sym, ◌∙◌, subst}
+use Rattle.std.proofs.lemmas.Grind.{common_steps}
+use Rattle.std.proofs.Common.{ℕ, ◌+◌, ◌<◌, arith, sym, subst}
 use Rattle.cue_grid.specs.Frames.{IsPointUpTo}
 use Rattle.figure_expand.specs.Bounds.{reach}
 use Rattle.figure_expand.specs.Expanded.{job_in, no_job}
@@ -27,8 +28,5 @@ loop-cue-preserved c =
       reached =
           subst (IsPointUpTo (reach (c.loop-cue.cue-index + 1))) (sym c.step-piece.ensures.end)
           (end_in_reach c.loop-cue.cue-index c.loop-cue.point (job_in c.cue-item.result c.args.d) c.loop-cue.invariant.reached job);
-      left =
-          piece_next c.loop-cue.pieces.items c.push.new.self.items c.loop-cue.point c.step-piece.new.point c.args.d c.args.cues.now c.loop-cue.cue-index c.cue-item.result c.step-piece.result
-          c.loop-cue-test.true c.cue-item.is c.step-piece.ensures.piece c.step-piece.ensures.end c.in_ok-push.ensures.items
-          ∙ c.loop-cue.invariant.left;
+      left = grind (arith, common_steps, piece_next);
     }

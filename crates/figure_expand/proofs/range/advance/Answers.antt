@@ -1,8 +1,8 @@
-use Rattle.std.proofs.Common.{◌≡◌, pos, ◌^◌, List, get_or, set, arith, sym, ap, ◌∙◌, subst}
+use Rattle.std.proofs.lemmas.Grind.{common_steps}
+use Rattle.std.proofs.Common.{◌≡◌, pos, List, get_or, set, arith, ap, ◌∙◌}
 use Rattle.std.proofs.lemmas.List.Elements.{All-get_or}
 use Rattle.choreo_lines.specs.declared.parts.Point.{Point}
 use Rattle.choreo_lines.specs.declared.parts.Act.{Act}
-use Rattle.cue_grid.specs.Frames.{IsPointUpTo}
 use Rattle.figure_expand.specs.Acts.{act_of, end_of}
 use Rattle.figure_expand.specs.Expanded.{no_job}
 use Rattle.figure_expand.proofs.Reach.{job_fits}
@@ -13,11 +13,7 @@ pub act_of-requires : goal.act_of-requires
 act_of-requires c = job_fits c.args.jobs.now c.loop-d.d no_job (omega arith) c.requires.jobs
 
 pub end_of-requires-clause-point : goal.end_of-requires-clause-point
-end_of-requires-clause-point c =
-    let here : Point = record { x = pos 0; y = pos 0; z = pos 0; yaw = pos 0 } in
-    let same : get_or c.loop-d.points c.loop-d.d here ≡ get_or c.args.points.now c.loop-d.d here =
-    ap (λ (ps : List Point). get_or ps c.loop-d.d here) c.loop-d.invariant ∙ not_moved c.loop-d.d c.args.points.now c.args.jobs.now here in
-    subst (IsPointUpTo (2 ^ 40)) (sym same) (All-get_or (IsPointUpTo (2 ^ 40)) c.args.points.now c.loop-d.d here (omega arith) c.requires.points)
+end_of-requires-clause-point c = grind (arith, common_steps, pos, not_moved, All-get_or)
 
 pub loop-d-preserved : goal.loop-d-preserved
 loop-d-preserved c =
@@ -26,9 +22,7 @@ loop-d-preserved c =
     ap (λ (ps : List Point). get_or ps c.loop-d.d here) c.loop-d.invariant ∙ not_moved c.loop-d.d c.args.points.now c.args.jobs.now here in
     let moves : c.end_of.result ≡ end_of (get_or c.args.points.now c.loop-d.d here) (act_of (get_or c.args.jobs.now c.loop-d.d no_job)) =
     c.end_of.ensures ∙ ap (λ (p : Point). end_of p c.act_of.result) same ∙ ap (λ (a : Act). end_of (get_or c.args.points.now c.loop-d.d here) a) c.act_of.ensures.value in
-    ap (λ (ps : List Point). set ps c.loop-d.d c.end_of.result) c.loop-d.invariant
-    ∙ ap (λ (p : Point). set (moved c.loop-d.d c.args.points.now c.args.jobs.now) c.loop-d.d p) moves
-    ∙ moved_more c.loop-d.d c.args.points.now c.args.jobs.now here no_job (omega arith) (omega arith)
+    grind (arith, common_steps, set, moved, moved_more)
 
 pub returns : goal.returns
 returns c = c.loop-d.invariant ∙ moved_all c.loop-d.d c.args.points.now c.args.jobs.now c.requires.count (omega arith)

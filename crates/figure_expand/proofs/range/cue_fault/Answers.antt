@@ -1,3 +1,4 @@
+use Rattle.std.proofs.lemmas.Grind.{common_steps}
 use Rattle.std.proofs.Common.{pos, List, get_or, arith, sym, ap, ◌∙◌}
 use Rattle.choreo_lines.specs.declared.parts.Point.{Point}
 use Rattle.choreo_lines.specs.declared.parts.Act.{Act}
@@ -21,8 +22,4 @@ returns-in-Some c =
     ∙ ap (λ (axes : List Axis). first_unfit (values_of (get_or c.args.jobs.now c.loop-d.d no_job).line 0 axes)) (c.axes-curves.ensures ∙ ap (λ (a : Act). axes_of (get_or c.args.points.now c.loop-d.d here) a) c.act_of.ensures.value))))
 
 pub loop-d-preserved : goal.loop-d-preserved
-loop-d-preserved c =
-    let here : Point = record { x = pos 0; y = pos 0; z = pos 0; yaw = pos 0 } in
-    c.loop-d.invariant ∙ drone_later c.args.points.now c.args.jobs.now c.loop-d.d here no_job (omega arith) (omega arith)
-    (sym (sym c.in_default.is ∙ c.axes_fault.ensures
-    ∙ ap (λ (axes : List Axis). first_unfit (values_of (get_or c.args.jobs.now c.loop-d.d no_job).line 0 axes)) (c.axes-curves.ensures ∙ ap (λ (a : Act). axes_of (get_or c.args.points.now c.loop-d.d here) a) c.act_of.ensures.value)))
+loop-d-preserved c = grind (arith, common_steps, pos, drone_later)

@@ -1,9 +1,10 @@
+use Rattle.std.proofs.lemmas.Grind.{common_steps}
 use Rattle.std.proofs.Common.{◌≡◌, ◌+◌, List, length, drop, arith, sym, ap, ◌∙◌, subst}
 use Rattle.choreo_lines.specs.declared.parts.Point.{Point}
 use Rattle.cue_grid.specs.declared.grid.Job.{Job}
 use Rattle.cue_grid.specs.Grids.{FitJobs}
 use Rattle.figure_expand.specs.Bounds.{AreInReach}
-use Rattle.figure_expand.specs.Expanded.{cue_values, values_from, points_after, first_unfit}
+use Rattle.figure_expand.specs.Expanded.{cue_values, points_after, first_unfit}
 use Rattle.figure_expand.proofs.Reach.{next_fits, all_small, points_in_reach, length-points_after}
 use Rattle.figure_expand.proofs.Unfit.{cue_here, cue_later}
 use Rattle.figure_expand.proofs.range.cues_fault.Goals as goal
@@ -47,9 +48,5 @@ loop-cue-preserved c =
     record {
       count = ap (length {A = Point}) moves ∙ length-points_after c.loop-cue.points c.cue-item.result.jobs count ∙ c.loop-cue.invariant.count;
       reached = subst (AreInReach (c.loop-cue.cue-index + 1)) (sym moves) (points_in_reach c.loop-cue.cue-index c.loop-cue.points c.cue-item.result.jobs count c.loop-cue.invariant.reached next.jobs);
-      left =
-          c.loop-cue.invariant.left
-          ∙ cue_later c.loop-cue.points c.args.cues.now c.loop-cue.cue-index c.cue-item.result c.loop-cue-test.true c.cue-item.is
-          (sym (sym c.in_default.is ∙ c.cue_fault.ensures ∙ ap (λ (jobs : List Job). first_unfit (cue_values c.loop-cue.points jobs)) c.as_slice-jobs.ensures))
-          ∙ ap (λ (ps : List Point). first_unfit (values_from ps (drop (c.loop-cue.cue-index + 1) c.args.cues.now))) (sym moves);
+      left = grind (arith, common_steps, cue_later, drop);
     }

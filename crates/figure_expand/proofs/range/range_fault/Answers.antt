@@ -1,7 +1,5 @@
-use Rattle.std.proofs.Common.{◌≡◌, ℕ, List, length, sym, ap, ◌∙◌, subst}
-use Rattle.choreo_lines.specs.declared.parts.Point.{Point}
-use Rattle.cue_grid.specs.declared.grid.Cue.{Cue}
-use Rattle.cue_grid.specs.Grids.{FitCues}
+use Rattle.std.proofs.lemmas.Grind.{common_steps}
+use Rattle.std.proofs.Common.{◌≡◌, sym, ap, ◌∙◌, subst, arith}
 use Rattle.figure_expand.specs.Bounds.{AreInReach}
 use Rattle.figure_expand.specs.Expanded.{start_points}
 use Rattle.figure_expand.proofs.Reach.{starts_in_reach, length-start_points}
@@ -17,10 +15,7 @@ cues_fault-requires-clause-points c =
     subst (AreInReach 0) (sym points) (starts_in_reach c.args.grid.now.starts c.requires.starts)
 
 pub cues_fault-requires-clause-cues : goal.cues_fault-requires-clause-cues
-cues_fault-requires-clause-cues c =
-    let points : c.as_mut_slice.result.now ≡ start_points c.args.grid.now.starts = c.as_mut_slice.ensures.value ∙ c.in_ok-points.ensures ∙ ap start_points c.as_slice-starts.ensures in
-    subst (λ (n : ℕ). FitCues n c.as_slice.result.now) (sym (ap (length {A = Point}) points ∙ length-start_points c.args.grid.now.starts))
-    (subst (λ (cues : List Cue). FitCues (length c.args.grid.now.starts) cues) (sym c.as_slice.ensures) c.requires.cues)
+cues_fault-requires-clause-cues c = grind (arith, common_steps, length-start_points)
 
 pub returns : goal.returns
 returns c =
