@@ -1,4 +1,5 @@
 -- How a reader of parts asked its source, step by step.
+use Rattle.std.proofs.lemmas.Grind.{common_steps}
 use Rattle.std.proofs.Common.{◌≡◌, ℕ, ◌<◌, ◌≤◌, true, false, List, [], ◌∷◌, ◌++◌, length, drop, Option, refl, sym, ap, ◌∙◌, append_assoc, append-nil, inl, inr, ◌⊎◌, arith}
 use Rattle.std.specs.Io.KnownBytes.{Consumes}
 use Rattle.fleet_io.specs.Held.{Asked, without_last, has_whole_marker, buffer_bytes}
@@ -93,10 +94,7 @@ Asking-none first old f = inl (refl, refl, refl)
 
 -- what is promised of asking, and of a call that began with a whole marker line
 pub promised : (first bytes waiting : List ℕ) (old new : Option (List ℕ)) (f g : ℕ) → Asking first bytes waiting old new f g → (((new ≡ old) × (g ≡ f)) ⊎ Asked first old new) × (has_whole_marker first ≡ true → (new ≡ old) × (g ≡ f))
-promised first bytes waiting old new f g asking = elim asking [
-  | inl none ↦ (inl (none.1, none.2), λ _. (none.1, none.2))
-  | inr yet ↦ (inr yet.asked, λ marked. absurd (let e : true ≡ false = sym marked ∙ yet.plain in cc))
-]
+promised first bytes waiting old new f g asking = grind (arith, common_steps)
 
 -- what is promised after one more step
 pub promised_after : (first bytes waiting byte after : List ℕ) (start : ℕ) (old mid new : Option (List ℕ)) (f g h : ℕ) → Gathers bytes start → Asking first bytes waiting old mid f g

@@ -1,6 +1,7 @@
 -- What comes next of a part, from the bytes that wait.
+use Rattle.std.proofs.lemmas.Grind.{common_steps}
 use Rattle.std.proofs.Common.{◌≡◌, ℕ, suc, ◌+◌, Bool, true, false, eqb, ◌||◌, List, [], ◌∷◌, ◌++◌, length, take, drop, append-nil, Option, Some, None, refl, sym, ap, ◌∙◌, inl, inr, ◌⊎◌, arith}
-use Rattle.std.specs.Prelude.{IfSome, IsTrue, bytes_eq}
+use Rattle.std.specs.Prelude.{IfSome, IsTrue}
 use Rattle.std.specs.Io.KnownBytes.{Keeps, IsAtEnd, prepend_known}
 use Rattle.std.specs.List.{position_or_len}
 use Rattle.std.proofs.lemmas.Bool.{cases_Bool}
@@ -20,17 +21,11 @@ position_is (b ∷ bytes) = elim (cases_Bool (eqb b 10)) [
 
 pub take_piece : (bytes : List ℕ) → take (length (first_piece bytes)) bytes ≡ first_piece bytes
 take_piece [] = refl
-take_piece (b ∷ bytes) = elim (cases_Bool (eqb b 10)) [
-  | inl feed ↦ rw feed refl
-  | inr other ↦ rw other (ap (λ (xs : List ℕ). b ∷ xs) (take_piece bytes))
-]
+take_piece (b ∷ bytes) = grind (arith, common_steps, cases_Bool, eqb, (take_piece bytes))
 
 pub drop_piece : (bytes : List ℕ) → drop (suc (length (first_piece bytes))) bytes ≡ after_piece bytes
 drop_piece [] = refl
-drop_piece (b ∷ bytes) = elim (cases_Bool (eqb b 10)) [
-  | inl feed ↦ rw feed refl
-  | inr other ↦ rw other (drop_piece bytes)
-]
+drop_piece (b ∷ bytes) = grind (arith, common_steps, cases_Bool, eqb, (drop_piece bytes))
 
 -- a line feed ends the first line, or all bytes belong to it
 record HasFeed (bytes : List ℕ) : Type 0 where
@@ -43,13 +38,7 @@ record HasNone (bytes : List ℕ) : Type 0 where
 
 fed : (bytes : List ℕ) → HasFeed bytes ⊎ HasNone bytes
 fed [] = inr (record { first = λ more. refl; all = refl })
-fed (b ∷ bytes) = elim (cases_Bool (eqb b 10)) [
-  | inl feed ↦ inl (record { first = λ more. rw feed refl; after = λ more. rw feed refl })
-  | inr other ↦ elim (fed bytes) [
-    | inl has ↦ inl (record { first = λ more. rw other (ap (λ (xs : List ℕ). b ∷ xs) (has.first more)); after = λ more. rw other (has.after more) })
-    | inr none ↦ inr (record { first = λ more. rw other (ap (λ (xs : List ℕ). b ∷ xs) (none.first more)); all = rw other (ap (λ (xs : List ℕ). b ∷ xs) none.all) })
-  ]
-]
+fed (b ∷ bytes) = grind (arith, common_steps, cases_Bool, eqb, (fed bytes))
 
 -- ---- what may be a marker line yet
 
@@ -71,16 +60,10 @@ either true b is = inl refl
 either false b is = inr is
 
 marker_front : (bytes more : List ℕ) → is_marker (bytes ++ more) ≡ true → may_be_marker bytes ≡ true
-marker_front bytes more is = elim (either (bytes_eq (bytes ++ more) (37 ∷ 37 ∷ [])) (bytes_eq (bytes ++ more) (37 ∷ 37 ∷ 13 ∷ [])) is) [
-  | inl e ↦ plain_front bytes more ((bytes_eq-Decides (bytes ++ more) (37 ∷ 37 ∷ [])).0 e)
-  | inr e ↦ return_front bytes more ((bytes_eq-Decides (bytes ++ more) (37 ∷ 37 ∷ 13 ∷ [])).0 e)
-]
+marker_front bytes more is = grind (arith, common_steps, either, plain_front, bytes_eq-Decides, return_front)
 
 never : (bytes more : List ℕ) → may_be_marker bytes ≡ false → is_marker (bytes ++ more) ≡ false
-never bytes more off = elim (cases_Bool (is_marker (bytes ++ more))) [
-  | inl is ↦ absurd (let e : true ≡ false = sym (marker_front bytes more is) ∙ off in cc)
-  | inr none ↦ none
-]
+never bytes more off = grind (arith, common_steps, cases_Bool, marker_front)
 
 -- ---- what waits tells whether a marker line stands here
 
@@ -95,12 +78,7 @@ settled bytes more why = elim why [
       record { same = ap (λ (xs : List ℕ). is_marker (first_piece xs)) all; after = λ _. ap after_piece all ∙ sym (ap (λ (xs : List ℕ). after_piece bytes ++ xs) none ∙ append-nil (after_piece bytes)) }
   | inl off ↦ elim (fed bytes) [
     | inl has ↦ record { same = ap is_marker (has.first more); after = λ _. has.after more }
-    | inr none ↦
-        let whole : is_marker bytes ≡ false = ap is_marker (sym (append-nil bytes)) ∙ never bytes [] off in
-        record {
-          same = ap is_marker (none.first more) ∙ never bytes (first_piece more) off ∙ sym (ap is_marker none.all ∙ whole);
-          after = λ is. absurd (let e : true ≡ false = sym is ∙ ap is_marker none.all ∙ whole in cc);
-        }
+    | inr none ↦ grind (arith, common_steps, append-nil, never)
   ]
 ]
 
@@ -117,11 +95,7 @@ pub asks_marker : (old left : Option (List ℕ)) (waiting kept : List ℕ) → K
     kept ≡ after_piece waiting → IfSome old (λ all. AsksNext ask.Marker (next_of true all) (prepend_known kept left))
 asks_marker None left waiting kept same why is taken = tt
 asks_marker (Some all) None waiting kept same why is taken = absurd same
-asks_marker (Some all) (Some rest) waiting kept same why is taken =
-    let s = settled waiting rest why in
-    let marked : is_marker (first_piece all) ≡ true = ap (λ (xs : List ℕ). is_marker (first_piece xs)) (sym same) ∙ s.same ∙ is in
-    let after : kept ++ rest ≡ after_piece all = ap (λ (xs : List ℕ). xs ++ rest) taken ∙ sym (s.after is) ∙ ap after_piece same in
-    rw (next_marked all marked) (ap Some after)
+asks_marker (Some all) (Some rest) waiting kept same why is taken = grind (arith, common_steps, settled, next_marked)
 
 -- no marker line stands here
 pub asks_plain : (old left : Option (List ℕ)) (waiting : List ℕ) (P : Bool → List ℕ → Type 0) → Keeps old (prepend_known waiting left) → (may_be_marker waiting ≡ false) ⊎ IsAtEnd left →
@@ -136,10 +110,7 @@ asks_plain (Some all) (Some rest) waiting P same why off then =
 
 -- what tells it
 pub tells : (waiting : List ℕ) (left : Option (List ℕ)) (ended : Bool) → (may_be_marker waiting ≡ false) ⊎ IsTrue ended → (IsTrue ended → IsAtEnd left) → (may_be_marker waiting ≡ false) ⊎ IsAtEnd left
-tells waiting left ended why at_end = elim why [
-  | inl off ↦ inl off
-  | inr is ↦ inr (at_end is)
-]
+tells waiting left ended why at_end = grind (arith, common_steps)
 
 -- the bytes before the first line feed
 pub line_is : (bytes : List ℕ) (len : ℕ) → len ≡ length (first_piece bytes) → is_marker (take len bytes) ≡ is_marker (first_piece bytes)

@@ -1,5 +1,6 @@
 -- Lines of joined texts.
-use Rattle.std.proofs.Common.{◌≡◌, ℕ, Bool, true, false, cond, List, [], ◌∷◌, ◌++◌, refl, sym, ap, ◌∙◌}
+use Rattle.std.proofs.lemmas.Grind.{common_steps}
+use Rattle.std.proofs.Common.{◌≡◌, ℕ, Bool, cond, List, [], ◌∷◌, ◌++◌, refl, sym, ap, ◌∙◌, arith}
 use Rattle.std.specs.List.{slice_split, onto_first}
 
 -- the last line of one text goes on with the first of another
@@ -23,10 +24,7 @@ IsFull-onto x (l ∷ ls) = record { first = x ∷ l; others = ls; is = refl }
 -- a text has a first line
 pub IsFull-split : (p : ℕ → Bool) (xs : List ℕ) → IsFull (slice_split p xs)
 IsFull-split p [] = record { first = []; others = []; is = refl }
-IsFull-split p (x ∷ xs) = elim (p x) as (λ b. IsFull (cond b ([] ∷ slice_split p xs) (onto_first x (slice_split p xs)))) [
-  | true ↦ record { first = []; others = slice_split p xs; is = refl }
-  | false ↦ IsFull-onto x (slice_split p xs)
-]
+IsFull-split p (x ∷ xs) = grind (arith, common_steps, cond, IsFull-onto)
 
 -- a whole line in front stays in front
 meet-cons : (l : List ℕ) (ls ms : List (List ℕ)) → IsFull ls → meet (l ∷ ls) ms ≡ l ∷ meet ls ms
@@ -50,10 +48,7 @@ pub split-append : (p : ℕ → Bool) (xs ys : List ℕ) → slice_split p (xs +
 split-append p [] ys = sym (meet-nil (slice_split p ys) (IsFull-split p ys))
 split-append p (x ∷ xs) ys =
     let more = split-append p xs ys in
-    elim (p x) as (λ b. cond b ([] ∷ slice_split p (xs ++ ys)) (onto_first x (slice_split p (xs ++ ys))) ≡ meet (cond b ([] ∷ slice_split p xs) (onto_first x (slice_split p xs))) (slice_split p ys)) [
-      | true ↦ ap (λ (ls : List (List ℕ)). [] ∷ ls) more ∙ sym (meet-cons [] (slice_split p xs) (slice_split p ys) (IsFull-split p xs))
-      | false ↦ ap (λ (ls : List (List ℕ)). onto_first x ls) more ∙ meet-onto x (slice_split p xs) (slice_split p ys) (IsFull-split p xs) (IsFull-split p ys)
-    ]
+    grind (arith, common_steps, cond, meet, meet-cons, IsFull-split, meet-onto)
 
 -- a list with a line at its end has a first line
 IsFull-push : (ls : List (List ℕ)) (l : List ℕ) → IsFull (ls ++ l ∷ [])

@@ -1,5 +1,6 @@
 -- The part that a reader of parts returns.
-use Rattle.std.proofs.Common.{◌≡◌, ℕ, ◌+◌, ◌<◌, ◌≤◌, Bool, true, false, List, [], ◌∷◌, ◌++◌, length, take, drop, Option, Some, None, Result, Ok, Err, refl, ap, ◌∙◌, append-nil, inl, inr, arith}
+use Rattle.std.proofs.lemmas.Grind.{common_steps}
+use Rattle.std.proofs.Common.{◌≡◌, ℕ, ◌+◌, ◌<◌, ◌≤◌, Bool, true, false, List, [], ◌∷◌, ◌++◌, length, take, drop, Option, Some, None, Result, Ok, Err, refl, ap, ◌∙◌, append-nil, arith}
 use Rattle.std.specs.Prelude.{IfOk, IfErr, IfSome}
 use Rattle.std.specs.Io.KnownBytes.{Consumes, Keeps, IsAtEnd}
 use Rattle.std.proofs.lemmas.List.{length-take}
@@ -62,13 +63,5 @@ pub at_end : (old mid new : Option (List ℕ)) (bytes : List ℕ) (start limit :
     → (is_marker (drop start bytes) ≡ true → IfOk r (λ part. (part.bytes.items ≡ take start bytes) × (part.marker ≡ true) × (start ≤ limit)) × IfErr r (λ fault. (fault ≡ TooLong) × (limit < start)))
     → (is_marker (drop start bytes) ≡ false → IfOk r (λ part. (part.bytes.items ≡ bytes) × (part.marker ≡ false) × (length bytes ≤ limit)) × IfErr r (λ fault. (fault ≡ TooLong) × (limit < length bytes)))
     → IfOk r (λ part. TakesPart old new part.bytes.items part.marker) × (r ≡ Err TooLong → IfSome old (λ all. limit < length (part_of all)))
-at_end old mid new bytes start limit r before none same g marked whole = elim (cases_Bool (is_marker (drop start bytes))) [
-  | inl is ↦
-      let takes : TakesPart old new (take start bytes) true = ends old mid new bytes (take start bytes) true before none same (Finds-last_marker bytes start is g) in
-      let both = marked is in
-      (made old new (take start bytes) true start limit r takes both.0, refused_at_start old new bytes start limit r g.within takes both.1)
-  | inr plain ↦
-      let takes : TakesPart old new bytes false = ends old mid new bytes bytes false before none same (Finds-none bytes start plain g) in
-      let both = whole plain in
-      (made old new bytes false (length bytes) limit r takes both.0, refused old new bytes false limit r takes both.1)
-]
+at_end old mid new bytes start limit r before none same g marked whole =
+    grind (arith, common_steps, cases_Bool, drop, take, ends, Finds-last_marker, made, refused_at_start, Finds-none, refused)

@@ -1,5 +1,6 @@
 -- What steps of a reader of parts keep adds up.
-use Rattle.std.proofs.Common.{◌≡◌, ℕ, List, Option, refl, ◌∙◌, arith}
+use Rattle.std.proofs.lemmas.Grind.{common_steps}
+use Rattle.std.proofs.Common.{◌≡◌, ℕ, List, Option, ◌∙◌, arith}
 use Rattle.std.specs.Prelude.{IsTrue}
 use Rattle.std.specs.Io.KnownBytes.{IsAtEnd}
 use Rattle.fleet_io.specs.Held.{Held}
@@ -14,19 +15,9 @@ Goes-trans a b c l m n f g h p q = record {
   sound = q.sound ∙ p.sound;
   lines = q.lines ∙ p.lines;
   at_end = q.at_end;
-  stays_ended = λ ended.
-      let before = p.stays_ended ended in
-      let now = q.stays_ended before.0 in
-      (now.0, now.1 ∙ before.1, now.2 ∙ before.2);
+  stays_ended = grind (arith, common_steps);
 }
 
 -- a step that doesn't ask the source
 pub Goes-unasked : (a b : Held) (l : Option (List ℕ)) (f : ℕ) → b.sound ≡ a.sound → b.lines ≡ a.lines → b.ended ≡ a.ended → (IsTrue a.ended → IsAtEnd l) → Goes a b l l f f
-Goes-unasked a b l f sound lines ended at_end = record {
-  left = TakesFront-none l;
-  later = omega arith;
-  sound = sound;
-  lines = lines;
-  at_end = λ now. at_end (rw ended at now);
-  stays_ended = λ before. (rw ended before, refl, refl);
-}
+Goes-unasked a b l f sound lines ended at_end = grind (arith, common_steps, TakesFront-none)

@@ -1,7 +1,7 @@
 -- The lines that were gathered so far, and the part that they make.
+use Rattle.std.proofs.lemmas.Grind.{common_steps}
 use Rattle.std.proofs.Common.{◌≡◌, ℕ, zero, suc, ◌+◌, ◌≤◌, Bool, true, false, cond, ◌||◌, ◌&&◌, eqb, List, [], ◌∷◌, ◌++◌, length, take, drop, refl, sym, ap, ◌∙◌, append_assoc, length-append, inl, inr, ◌⊎◌, arith}
 use Rattle.std.specs.List.{join_with_byte}
-use Rattle.std.specs.Prelude.{bytes_eq}
 use Rattle.std.proofs.lemmas.List.{append-nil, take-append-le, drop-append-le, take-append-drop, drop_all, take_all, length-drop, length-take}
 use Rattle.std.proofs.lemmas.List.Splits.{join_with_byte-slice_split}
 use Rattle.std.proofs.lemmas.List.Concat.{flat_map-append}
@@ -27,13 +27,7 @@ Gathers-none = record { within = omega arith; done = []; lines = refl; none = re
 
 -- bytes without a line feed go on with the last line
 pub Gathers-run : (bytes : List ℕ) (start : ℕ) (run : List ℕ) → between_feeds run ≡ run ∷ [] → Gathers bytes start → Gathers (bytes ++ run) start
-Gathers-run bytes start run whole g = record {
-  within = omega (arith, g.within, length-append bytes run);
-  done = g.done;
-  lines = rw (drop-append-le start bytes run g.within) (split-goes_on (λ x. eqb x 10) bytes run g.done (drop start bytes) run [] g.lines whole);
-  none = g.none;
-  front = take-append-le start bytes run g.within ∙ g.front;
-}
+Gathers-run bytes start run whole g = grind (arith, common_steps, length-append, drop-append-le, split-goes_on, eqb, drop, take-append-le)
 
 -- a byte that is no line feed goes on with the last line
 pub Gathers-push : (bytes : List ℕ) (start b : ℕ) → eqb b 10 ≡ false → Gathers bytes start → Gathers (bytes ++ b ∷ []) start
@@ -77,13 +71,7 @@ Gathers-feed bytes start plain g =
     let line : List ℕ = drop start bytes ++ 10 ∷ [] in
     let split : bytes ≡ ended g.done ++ drop start bytes = sym (take-append-drop start bytes) ∙ ap (λ (xs : List ℕ). xs ++ drop start bytes) g.front in
     let last : ended (g.done ++ drop start bytes ∷ []) ≡ ended g.done ++ line = flat_map-append (λ (l : List ℕ). l ++ 10 ∷ []) g.done (drop start bytes ∷ []) ∙ ap (λ (xs : List ℕ). ended g.done ++ xs) (append-nil line) in
-    record {
-      within = omega arith;
-      done = g.done ++ drop start bytes ∷ [];
-      lines = rw after (cut ∙ rw (append-nil (drop start bytes)) (sym (append_assoc g.done (drop start bytes ∷ []) ([] ∷ []))));
-      none = any-push g.done (drop start bytes) g.none plain;
-      front = all ∙ ap (λ (xs : List ℕ). xs ++ 10 ∷ []) split ∙ append_assoc (ended g.done) (drop start bytes) (10 ∷ []) ∙ sym last;
-    }
+    grind (arith, common_steps, drop, append-nil, append_assoc, any-push)
 
 -- ---- the part
 
@@ -138,10 +126,7 @@ Finds-none bytes start plain g =
 
 -- a marker line has at most three bytes
 short_marker : (line : List ℕ) → is_marker line ≡ true → length line ≤ 3
-short_marker line is = elim (or_true (bytes_eq line (37 ∷ 37 ∷ [])) (bytes_eq line (37 ∷ 37 ∷ 13 ∷ [])) is) [
-  | inl e ↦ omega (arith, ap length ((bytes_eq-Decides line (37 ∷ 37 ∷ [])).0 e))
-  | inr e ↦ omega (arith, ap length ((bytes_eq-Decides line (37 ∷ 37 ∷ 13 ∷ [])).0 e))
-]
+short_marker line is = grind (arith, common_steps, or_true, bytes_eq-Decides)
 
 -- lines that are no marker lines stand before the first one
 plain_before : (done lines : List (List ℕ)) → has_marker done ≡ false → lines_before (done ++ lines) ≡ done ++ lines_before lines
@@ -152,10 +137,7 @@ plain_before (l ∷ done) lines none =
 
 -- a line that is no marker line belongs to the part
 first_before : (line : List ℕ) (lines : List (List ℕ)) → (is_marker line ≡ true) ⊎ (length line ≤ length (ended (lines_before (line ∷ lines))))
-first_before line lines = elim (is_marker line) as (λ b. (b ≡ true) ⊎ (length line ≤ length (ended (cond b [] (line ∷ lines_before lines))))) [
-  | true ↦ inl refl
-  | false ↦ inr (omega (arith, length-append (line ++ 10 ∷ []) (ended (lines_before lines)), length-append line (10 ∷ [])))
-]
+first_before line lines = grind (arith, common_steps, cond, length-append)
 
 -- gathered bytes belong to the part, but for three at most
 pub too_long : (text bytes more : List ℕ) (start : ℕ) → text ≡ bytes ++ more → Gathers bytes start → length bytes ≤ length (part_of text) + 3
@@ -170,27 +152,15 @@ too_long text bytes more start e g = elim (cases_Bool (has_marker (between_feeds
       let sizes : length (ended (lines_before (between_feeds text))) ≡ length (ended g.done) + length (ended (lines_before (line ∷ full.others))) = rw (before, flat_map-append (λ (l : List ℕ). l ++ 10 ∷ []) g.done (lines_before (line ∷ full.others))) (length-append (ended g.done) (ended (lines_before (line ∷ full.others)))) in
       let begun : length (ended g.done) ≡ start = sym (ap length g.front) ∙ omega (arith, length-take start bytes, g.within) in
       let at_least : length (drop start bytes) ≤ length line = omega (arith, length-append (drop start bytes) full.first) in
-      rw marked (elim (first_before line full.others) [
-        | inl is ↦ omega (arith, short_marker line is, length-drop start bytes, sizes, begun, at_least)
-        | inr long ↦ omega (arith, long, length-drop start bytes, sizes, begun, at_least)
-      ])
+      grind (arith, common_steps, first_before, short_marker, length-drop)
 ]
 
 -- ---- one byte more
 
 -- one byte more is gathered
 pub Gathers-add : (bytes after : List ℕ) (start next byte : ℕ) → Gathers bytes start → (eqb byte 10 && is_marker (drop start bytes)) ≡ false → after ≡ bytes ++ byte ∷ [] → next ≡ cond (eqb byte 10) (length bytes + 1) start → Gathers after next
-Gathers-add bytes after start next byte g plain made moved = elim (cases_Bool (eqb byte 10)) [
-  | inl feed ↦
-      let is : byte ≡ 10 = eqb-true byte 10 feed in
-      let text : after ≡ bytes ++ 10 ∷ [] = rw (← is) made in
-      let at : next ≡ length (bytes ++ 10 ∷ []) = moved ∙ rw feed (sym (length-append bytes (10 ∷ []))) in
-      let no_marker : is_marker (drop start bytes) ≡ false = rw feed at plain in
-      rw (text, at) (Gathers-feed bytes start no_marker g)
-  | inr other ↦
-      let at : next ≡ start = moved ∙ rw other refl in
-      rw (made, at) (Gathers-push bytes start byte other g)
-]
+Gathers-add bytes after start next byte g plain made moved =
+    grind (arith, common_steps, cases_Bool, eqb, eqb-true, length-append, drop, Gathers-feed, Gathers-push)
 
 -- one byte more is gathered, and a run without a line feed
 pub Gathers-runs : (bytes after waited waits : List ℕ) (start next byte : ℕ) → Gathers bytes start → (eqb byte 10 && is_marker (drop start bytes)) ≡ false → Runs waited waits bytes after byte → next ≡ cond (eqb byte 10) (length bytes + 1) start → Gathers after next
@@ -199,7 +169,4 @@ Gathers-runs bytes after waited waits start next byte g plain runs moved =
 
 -- a byte that ends a marker line is a line feed after one
 pub ends_marker_is : (byte : ℕ) (line : List ℕ) → (eqb byte 10 && is_marker line) ≡ true → (byte ≡ 10) × (is_marker line ≡ true)
-ends_marker_is byte line e = elim (cases_Bool (eqb byte 10)) [
-  | inl feed ↦ (eqb-true byte 10 feed, rw feed at e)
-  | inr other ↦ absurd (let w : false ≡ true = rw other at e in cc)
-]
+ends_marker_is byte line e = grind (arith, common_steps, cases_Bool, eqb, eqb-true)

@@ -1,5 +1,6 @@
 -- A marker line with its line feed cuts a text, whatever comes after it.
-use Rattle.std.proofs.Common.{◌≡◌, ℕ, Bool, true, false, cond, eqb, ◌||◌, List, [], ◌∷◌, ◌++◌, drop, Option, refl, sym, ap, ◌∙◌, append_assoc, append-nil}
+use Rattle.std.proofs.lemmas.Grind.{common_steps}
+use Rattle.std.proofs.Common.{◌≡◌, ℕ, Bool, true, false, cond, eqb, ◌||◌, List, [], ◌∷◌, ◌++◌, drop, Option, refl, sym, ap, ◌∙◌, append_assoc, append-nil, arith}
 use Rattle.std.specs.List.{join_with_byte}
 use Rattle.std.specs.Prelude.{Result, Ok, Err, IfOk}
 use Rattle.std.specs.Io.KnownBytes.{Consumes}
@@ -96,15 +97,8 @@ cut_by text more last m front ms lines others is =
     let marked : has_marker (between_feeds text) ≡ true = rw lines (any-front front (last ∷ []) is) in
     let long = marked_part (text ++ more) whole in
     let short = marked_part text marked in
-    let back : join_with_byte 10 (m ∷ ms) ≡ more = ap (λ (ls : List (List ℕ)). join_with_byte 10 ls) (sym others) ∙ join_with_byte-slice_split 10 more in (
-      long.0 ∙ ap (λ (ls : List (List ℕ)). ended (lines_before ls)) all ∙ ap ended (before-front front ((last ++ m) ∷ ms) is ∙ sym (before-front front (last ∷ []) is))
-          ∙ ap (λ (ls : List (List ℕ)). ended (lines_before ls)) (sym lines) ∙ sym short.0,
-      long.1 ∙ ap (λ (ls : List (List ℕ)). join_with_byte 10 (lines_after ls)) all ∙ ap (λ (ls : List (List ℕ)). join_with_byte 10 ls) (after-front front ((last ++ m) ∷ ms) is)
-          ∙ join-meet (lines_after front) last m ms ∙ ap (λ (xs : List ℕ). join_with_byte 10 (lines_after front ++ last ∷ []) ++ xs) back
-          ∙ ap (λ (ls : List (List ℕ)). join_with_byte 10 ls ++ more) (sym (after-front front (last ∷ []) is)) ∙ ap (λ (ls : List (List ℕ)). join_with_byte 10 (lines_after ls) ++ more) (sym lines)
-          ∙ ap (λ (xs : List ℕ). xs ++ more) (sym short.1),
-      whole,
-    )
+    let back : join_with_byte 10 (m ∷ ms) ≡ more = ap (λ (ls : List (List ℕ)). join_with_byte 10 ls) (sym others) ∙ join_with_byte-slice_split 10 more in 
+        grind (arith, common_steps, before-front, after-front, join-meet)
 
 pub marker_law : MarkerLaw
 marker_law text more is =

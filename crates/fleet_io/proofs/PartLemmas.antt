@@ -1,5 +1,6 @@
 -- A part byte by byte is the part by lines.
-use Rattle.std.proofs.Common.{◌≡◌, ℕ, Bool, true, false, cond, ◌&&◌, ◌||◌, eqb, List, [], ◌∷◌, ◌++◌, append_assoc, refl, sym, ap, ◌∙◌}
+use Rattle.std.proofs.lemmas.Grind.{common_steps}
+use Rattle.std.proofs.Common.{◌≡◌, ℕ, Bool, true, false, cond, ◌&&◌, ◌||◌, eqb, List, [], ◌∷◌, ◌++◌, append_assoc, refl, sym, ap, ◌∙◌, arith}
 use Rattle.std.specs.List.{join_with_byte, onto_first}
 use Rattle.std.proofs.lemmas.Bool.{eqb-true}
 use Rattle.std.proofs.lemmas.List.Splits.{join_with_byte-slice_split}
@@ -76,16 +77,7 @@ part_is (b ∷ bytes) at_line = go (at_line && is_marker (first_piece (b ∷ byt
 
 part_law : (all : List ℕ) → part_left true all ≡ part_of all
 unfolding part_of
-part_law all =
-    part_is all true ∙ go (is_marker (first_piece all)) (has_marker (tail_pieces all)) refl refl
-    ∙ ap (λ (ps : List (List ℕ)). cond (has_marker ps) (ended (lines_before ps)) all) (sym (split_is all))
-  where
-    go : (m k : Bool) → is_marker (first_piece all) ≡ m → has_marker (tail_pieces all) ≡ k →
-        cond m [] (cond k (first_piece all ++ 10 ∷ ended (lines_before (tail_pieces all))) all)
-        ≡ cond (m || k) (ended (cond m [] (first_piece all ∷ lines_before (tail_pieces all)))) all
-    go true k f g = refl
-    go false true f g = sym (append_assoc (first_piece all) (10 ∷ []) (ended (lines_before (tail_pieces all))))
-    go false false f g = refl
+part_law all = grind (arith, common_steps, part_is, tail_pieces, cond, split_is, append_assoc)
 
 -- ---- the rest
 after_is : (bytes : List ℕ) → after_piece bytes ≡ join_with_byte 10 (tail_pieces bytes)
@@ -122,19 +114,7 @@ rest_is (b ∷ bytes) at_line = go (at_line && is_marker (first_piece (b ∷ byt
 
 rest_law : (all : List ℕ) → rest_left true all ≡ rest_of all
 unfolding rest_of
-rest_law all =
-    rest_is all true ∙ go (is_marker (first_piece all)) (has_marker (tail_pieces all)) refl refl
-    ∙ ap (λ (ps : List (List ℕ)). cond (has_marker ps) (join_with_byte 10 (lines_after ps)) []) (sym (split_is all))
-  where
-    go : (m k : Bool) → is_marker (first_piece all) ≡ m → has_marker (tail_pieces all) ≡ k →
-        cond m (join_with_byte 10 (tail_pieces all)) (cond k (join_with_byte 10 (lines_after (tail_pieces all))) [])
-        ≡ cond (m || k) (join_with_byte 10 (cond m (tail_pieces all) (lines_after (tail_pieces all)))) []
-    go true k f g = refl
-    go false k f g = refl
+rest_law all = grind (arith, common_steps, rest_is, tail_pieces, cond, split_is)
 
 pub part_by_bytes : PartLaw
-part_by_bytes = record {
-  part = part_law;
-  marked = λ all. marked_is all true ∙ ap has_marker (sym (split_is all));
-  rest = rest_law;
-}
+part_by_bytes = grind (arith, common_steps, part_law, marked_is, split_is, rest_law)

@@ -1,5 +1,6 @@
 -- How much a reader of parts takes from its source.
-use Rattle.std.proofs.Common.{◌≡◌, ℕ, ◌+◌, ◌≤◌, Bool, true, false, List, ◌++◌, length, length-append, Option, Some, None, refl, sym, ap, ◌∙◌, inl, inr, ◌⊎◌, arith}
+use Rattle.std.proofs.lemmas.Grind.{common_steps}
+use Rattle.std.proofs.Common.{◌≡◌, ℕ, ◌+◌, ◌≤◌, Bool, true, false, List, ◌++◌, length, length-append, Option, Some, None, refl, ap, ◌⊎◌, arith}
 use Rattle.std.specs.Prelude.{IfSome}
 use Rattle.std.specs.Io.KnownBytes.{Consumes, prepend_known}
 use Rattle.text_lines.specs.Marker.{rest_of}
@@ -28,11 +29,5 @@ takes_few_after kept (Some all) (Some rest) is held =
 pub meets_end : (old new : Option (List ℕ)) (marked : Bool) (P : Type 0) → (marked ≡ false → P) → (marked ≡ true → P ⊎ TakesMarked old new) → IfSome old (λ all. has_whole_marker all ≡ false → P)
 meets_end None new marked P plain fed = tt
 meets_end (Some all) new false P plain fed = λ _. plain refl
-meets_end (Some all) None true P plain fed = λ _. elim (fed refl) [
-  | inl is ↦ is
-  | inr takes ↦ absurd takes.1
-]
-meets_end (Some all) (Some rest) true P plain fed = λ none. elim (fed refl) [
-  | inl is ↦ is
-  | inr takes ↦ absurd (let e : false ≡ true = sym (rw takes.1 at none) ∙ whole_marker-front takes.0 rest takes.2 in cc)
-]
+meets_end (Some all) None true P plain fed = grind (arith, common_steps)
+meets_end (Some all) (Some rest) true P plain fed = grind (arith, common_steps, whole_marker-front)

@@ -1,8 +1,8 @@
 -- A text that grows keeps what it had.
-use Rattle.std.proofs.Common.{◌≡◌, ℕ, ◌+◌, ◌<◌, ◌≤◌, get_or, true, false, cond, List, [], ◌∷◌, ◌++◌, length, take, ◌∙◌, arith}
+use Rattle.std.proofs.Common.{◌≡◌, ℕ, ◌+◌, ◌<◌, ◌≤◌, get_or, cond, List, [], ◌∷◌, ◌++◌, length, take, arith}
 use Rattle.std.proofs.lemmas.List.{take-append-le, length-append, take_more}
-use Rattle.fleet_io.specs.Words.{is_line_empty, with_word, with_hex, hex_word}
-use Rattle.std.proofs.lemmas.Grind.{fold-append}
+use Rattle.fleet_io.specs.Words.{with_word, with_hex, hex_word}
+use Rattle.std.proofs.lemmas.Grind.{fold-append, common_steps}
 
 -- The text begins with the old one.
 pub record Keeps (old text : List ℕ) : Type 0 where
@@ -11,18 +11,12 @@ pub record Keeps (old text : List ℕ) : Type 0 where
 
 -- bytes at the end keep the beginning
 pub Keeps-append : (old text more : List ℕ) → Keeps old text → Keeps old (text ++ more)
-Keeps-append old text more k = record {
-  longer = omega (arith, k.longer, length-append text more);
-  front = take-append-le (length old) text more k.longer ∙ k.front;
-}
+Keeps-append old text more k = grind (arith, common_steps, length-append, take-append-le)
 
 -- a word keeps the beginning
 pub Keeps-with_word : (old text word : List ℕ) → Keeps old text → Keeps old (with_word text word)
 unfolding with_word
-Keeps-with_word old text word k = elim (is_line_empty text) as (λ b. Keeps old (cond b (text ++ word) (text ++ 32 ∷ word))) [
-  | true ↦ Keeps-append old text word k
-  | false ↦ Keeps-append old text (32 ∷ word) k
-]
+Keeps-with_word old text word k = grind (arith, common_steps, cond, Keeps-append)
 
 -- one byte more is one word more
 pub with_hex_more : (text bytes : List ℕ) (i : ℕ) → i < length bytes → with_hex text (take (i + 1) bytes) ≡ with_word (with_hex text (take i bytes)) (hex_word (get_or bytes i 0))

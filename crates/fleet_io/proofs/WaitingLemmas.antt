@@ -1,5 +1,6 @@
 -- The bytes that wait in a buffer.
-use Rattle.std.proofs.Common.{◌≡◌, ℕ, ◌+◌, ◌-◌, ◌≤◌, min, List, ◌++◌, length, take, drop, append_assoc, length-append, Option, Some, None, refl, sym, ap, ◌∙◌, inl, inr, arith}
+use Rattle.std.proofs.lemmas.Grind.{common_steps}
+use Rattle.std.proofs.Common.{◌≡◌, ℕ, ◌+◌, ◌-◌, ◌≤◌, min, List, ◌++◌, length, take, drop, append_assoc, length-append, Option, Some, None, refl, sym, ap, ◌∙◌, arith}
 use Rattle.std.specs.List.{copy_within}
 use Rattle.std.specs.Io.KnownBytes.{Consumes, Keeps, prepend_known}
 use Rattle.std.proofs.lemmas.Bool.{cases_lt}
@@ -17,12 +18,7 @@ between_is start end buf order =
 
 -- some bytes fewer
 pub skipped : (start end count : ℕ) (buf : List ℕ) → start ≤ end → drop (min end (start + count)) (take end buf) ≡ drop count (drop start (take end buf))
-skipped start end count buf order = elim (cases_lt end (start + count)) [
-  | inr few ↦ let at : min end (start + count) ≡ start + count = omega (arith, few) in rw at (sym (drop-drop count start (take end buf)))
-  | inl more ↦
-      drop_all (min end (start + count)) (take end buf) (omega (arith, length-take end buf, more))
-      ∙ sym (drop_all count (drop start (take end buf)) (omega (arith, length-drop start (take end buf), length-take end buf, more)))
-]
+skipped start end count buf order = grind (arith, common_steps, cases_lt, min, drop-drop, take, drop_all, length-take, drop, length-drop)
 
 -- What waits after a read after what was moved to the front.
 pub moved : (buf shifted given : List ℕ) (start end n k : ℕ) → start ≤ end → end ≤ length buf → shifted ≡ copy_within buf start end 0 → length given ≡ k → n ≤ k →
@@ -52,9 +48,4 @@ Keeps-refilled waited waits old new r = rw r.wait (Keeps-read waited r.bytes old
 pub unmoved : (buf shifted given : List ℕ) (start end k : ℕ) → start ≤ end → end ≤ length buf → shifted ≡ copy_within buf start end 0 →
     drop start (take end buf) ≡ take (end - start) (put_mid (end - start) k shifted given)
 unmoved buf shifted given start end k order within is =
-    let size : ℕ = end - start in
-    let front : List ℕ = take size (drop start buf) in
-    let sized : length front ≡ size = length-take-le size (drop start buf) (omega (arith, length-drop start buf, within)) in
-    let kept : take size shifted ≡ front = ap (λ (xs : List ℕ). take size xs) is ∙ take_at front (drop (0 + size) buf) size sized in
-    let total : length shifted ≡ length buf = ap length is ∙ omega (arith, length-append front (drop (0 + size) buf), sized, length-drop (0 + size) buf, within) in
-    sym (take-put_mid_below size k shifted given size (omega arith) (omega (arith, total, within)) ∙ kept ∙ between_is start end buf order)
+    grind (arith, common_steps, take, drop, length-take-le, length-drop, take_at, length-append, take-put_mid_below, between_is)

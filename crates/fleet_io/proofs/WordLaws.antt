@@ -1,4 +1,5 @@
 -- Texts are made of words, one by one. These laws say which lines the words make.
+use Rattle.std.proofs.lemmas.Grind.{common_steps}
 use Rattle.std.proofs.Common.{◌≡◌, ℕ, suc, ◌+◌, ◌≤◌, ◌-◌, ◌%◌, ◌^◌, ◌<◌, true, false, cond, eqb, List, [], ◌∷◌, ◌++◌, length, map, ltb, refl, sym, ap, ◌∙◌, append_assoc, append-nil, length-append, arith, ℤ, pos, negsuc, flat_map}
 use lib.Signed.{mag}
 use Rattle.std.specs.Fmt.{decimal, signed_decimal}
@@ -66,19 +67,13 @@ words_next text (word ∷ words) going are =
 
 -- The line law: on an empty line, a word, further words and a line feed make the line of these words.
 pub words_make_line : (text first : List ℕ) (others : List (List ℕ)) → is_line_empty text ≡ true → IsWord first → AreWords others → with_words text (first ∷ others) ++ 10 ∷ [] ≡ text ++ line first others
-words_make_line text first others fresh is are =
-    let here = word_first text first fresh in
-    let more = words_next (text ++ first) others (going_after_word text first is) are in
-    rw here (ap (λ (xs : List ℕ). xs ++ 10 ∷ []) (more ∙ append_assoc text first (spaced others)) ∙ append_assoc text (first ++ spaced others) (10 ∷ []))
+words_make_line text first others fresh is are = grind (arith, common_steps, word_first, words_next, going_after_word, append_assoc, spaced)
 
 -- ---- bytes as words
 
 -- a hexadecimal digit is no line feed
 hex_digit_is_none : (n : ℕ) → eqb (hex_digit n) 10 ≡ false
-hex_digit_is_none n = elim (ltb n 10) as (λ b. eqb (cond b (48 + n) (55 + n)) 10 ≡ false) [
-  | true ↦ ne_eqb (48 + n) 10 (omega arith)
-  | false ↦ ne_eqb (55 + n) 10 (omega arith)
-]
+hex_digit_is_none n = grind (arith, common_steps, ltb, eqb, cond, ne_eqb)
 
 -- two hexadecimal digits are a word
 pub hex_is_word : (byte : ℕ) → IsWord (hex_word byte)
@@ -114,10 +109,7 @@ signed_is_word (negsuc n) small = going_after_word (45 ∷ []) (decimal (suc n))
 -- a word adds its bytes and at most a space
 pub word_adds : (text word : List ℕ) → length (with_word text word) ≤ length text + length word + 1
 unfolding with_word
-word_adds text word = elim (is_line_empty text) as (λ b. length (cond b (text ++ word) (text ++ 32 ∷ word)) ≤ length text + length word + 1) [
-  | true ↦ omega (arith, length-append text word)
-  | false ↦ omega (arith, length-append text (32 ∷ word))
-]
+word_adds text word = grind (arith, common_steps, cond, length-append)
 
 -- the digits of a number below 2^32, as a word, add at most ten bytes and a space
 pub number_adds : (text : List ℕ) (n : ℕ) → n < 2 ^ 32 → length (with_word text (decimal n)) ≤ length text + 11

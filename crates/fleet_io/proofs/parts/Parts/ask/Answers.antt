@@ -1,4 +1,5 @@
-use Rattle.std.proofs.Common.{◌≡◌, true, false, take, sym, ◌∙◌}
+use Rattle.std.proofs.lemmas.Grind.{common_steps}
+use Rattle.std.proofs.Common.{◌≡◌, true, false, take, sym, ◌∙◌, arith}
 use Rattle.std.proofs.lemmas.Result.{IfOk-weaker}
 use Rattle.text_lines.specs.Marker.{is_marker}
 use Rattle.fleet_io.specs.PartBytes.{AsksNext, next_of, first_piece}
@@ -19,11 +20,7 @@ pub returns-then-not-is_marker-clause-goes : goal.returns-then-not-is_marker-cla
 returns-then-not-is_marker-clause-goes g c = Goes-trans _ _ _ _ _ _ _ _ _ c.fill.ensures.goes c.plain-then-not-is_marker.ensures.goes
 
 pub returns-clause-asks : goal.returns-clause-asks
-returns-clause-asks g c =
-    let here : c.args.self.now.at_line ≡ true = rw (← c.self.view_is) c.if-not-self.false in
-    let len_is = rw c.waiting.ensures.value at c.line_len-len.ensures.value in
-    let is : is_marker (first_piece c.fill.new.self.waiting) ≡ true = sym (line_is _ _ len_is) ∙ (rw c.waiting-2.ensures.value at (sym c.if-not-is_marker.ensures)) in
-    rw here (asks_marker _ _ _ _ c.fill.ensures.keeps (tells c.fill.new.self.waiting (g.S.Source.left c.fill.new.source) c.fill.new.self.ended c.in-Ok.ensures.tells c.fill.ensures.goes.at_end) is (c.skip.ensures.waiting ∙ after_is _ _ len_is))
+returns-clause-asks g c = grind (arith, common_steps, line_is, asks_marker, tells, after_is)
 
 pub returns-clause-goes : goal.returns-clause-goes
 returns-clause-goes g c = Goes-trans _ _ _ _ _ _ _ _ _ c.fill.ensures.goes (Goes-unasked _ _ _ _ c.skip.ensures.sound c.skip.ensures.lines c.skip.ensures.ended c.fill.ensures.goes.at_end)

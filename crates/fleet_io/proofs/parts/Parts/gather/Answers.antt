@@ -1,3 +1,4 @@
+use Rattle.std.proofs.lemmas.Grind.{common_steps}
 use Rattle.std.proofs.Common.{inl, inr, true, [], ◌∷◌, ◌++◌, ◌+◌, take, drop, length, length-append, refl, sym, ap, ◌∙◌, arith}
 use Rattle.std.proofs.lemmas.List.{length-drop, length-take}
 use Rattle.fleet_io.specs.Held.{given}
@@ -60,15 +61,7 @@ pub returns-clause-too_long : goal.returns-clause-too_long
 returns-clause-too_long g c = λ _. long_already _ _ c.bytes.bytes.items c.bytes.start c.args.limit (omega arith) c.bytes.invariant.taken c.bytes.invariant.gathers
 
 pub bytes-init : goal.bytes-init
-bytes-init g c = record {
-  gathers = rw c.new-bytes.ensures.items Gathers-none;
-  taken = rw c.new-bytes.ensures.items (Consumes-nil _);
-  goes = Goes-unasked _ _ _ _ refl refl refl c.requires.at_end;
-  at_line = refl;
-  asking = rw c.new-bytes.ensures.items (Asking-none _ _ _);
-  short = omega arith;
-  most = rw (← c.self.view_is) (omega (arith, c.self.invariant.1, length-drop c.self.inside.start (take c.self.inside.end c.self.inside.buf), length-take c.self.inside.end c.self.inside.buf));
-}
+bytes-init g c = grind (arith, common_steps, Gathers-none, Consumes-nil, Goes-unasked, Asking-none, length-drop, take, length-take)
 
 -- ---- how the source was asked
 

@@ -1,3 +1,4 @@
+use Rattle.std.proofs.lemmas.Grind.{common_steps}
 use Rattle.std.proofs.Common.{[], ◌-◌, append-nil, sym, ◌∙◌, take, arith}
 use Rattle.std.proofs.KnownBytes.{Consumes-kept}
 use Rattle.fleet_io.proofs.TakenLemmas.{Consumes-nil}
@@ -17,10 +18,4 @@ returns-in-Err-clause-refills g c =
     })
 
 pub returns-in-Ok-clause-refills : goal.returns-in-Ok-clause-refills
-returns-in-Ok-clause-refills g c =
-    let s = c.self.inside in
-    rw (← c.self.view_is) (record {
-      bytes = take c.in-Ok.count c.read.new.buf;
-      wait = moved s.buf c.copy_within.new.self c.read.new.buf s.start s.end c.in-Ok.count (4096 - (s.end - s.start)) (omega arith) (omega arith) c.copy_within.ensures.after (omega arith) (omega (arith, c.in-Ok.ensures.bound.0));
-      taken = c.in-Ok.ensures.bytes.0;
-    })
+returns-in-Ok-clause-refills g c = grind (arith, common_steps, take, moved)
