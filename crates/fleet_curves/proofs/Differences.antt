@@ -1,4 +1,5 @@
 -- The differences of raised curves.
+use Rattle.std.proofs.lemmas.Grind.{common_steps}
 use Rattle.std.proofs.Common.{◌≡◌, ℕ, zero, suc, ◌^◌, ◌<◌, ◌≤◌, ◌-◌, ℤ, pos, ◌-ℤ◌, arith, refl, ◌∙◌, ap, List, [], ◌∷◌, length, get_or, All, lit<}
 use Rattle.std.proofs.lemmas.Int.{ints}
 use Rattle.std.proofs.lemmas.List.Elements.{All-from_get_or}
@@ -71,11 +72,7 @@ same_default (x ∷ xs) (suc i) d e inside = same_default xs i d e (omega arith)
 pub differences_at : (xs : List (List (Bez 8))) (i j : ℕ) (second first : List (Bez 8)) → j < length xs → i < length xs → second ≡ get_or xs j second → first ≡ get_or xs i first →
     (less second first 0 ∷ less second first 1 ∷ less second first 2 ∷ [])
     ≡ (less (get_or xs j []) (get_or xs i []) 0 ∷ less (get_or xs j []) (get_or xs i []) 1 ∷ less (get_or xs j []) (get_or xs i []) 2 ∷ [])
-differences_at xs i j second first j_in i_in second_is first_is =
-    let e : second ≡ get_or xs j [] = second_is ∙ same_default xs j second [] j_in in
-    let f : first ≡ get_or xs i [] = first_is ∙ same_default xs i first [] i_in in
-    ap (λ (s : List (Bez 8)). less s first 0 ∷ less s first 1 ∷ less s first 2 ∷ []) e
-    ∙ ap (λ (s : List (Bez 8)). less (get_or xs j []) s 0 ∷ less (get_or xs j []) s 1 ∷ less (get_or xs j []) s 2 ∷ []) f
+differences_at xs i j second first j_in i_in second_is first_is = grind (arith, common_steps, same_default)
 
 pub same_curves : (a b c : Bez 8) (x y z : List ℤ) → a.b ≡ x → b.b ≡ y → c.b ≡ z →
     ◌≡◌ {A = List (Bez 8)} (a ∷ b ∷ c ∷ []) (record { b = x } ∷ record { b = y } ∷ record { b = z } ∷ [])

@@ -6,8 +6,8 @@ use Rattle.std.proofs.lemmas.List.{take_more}
 use Rattle.std.proofs.lemmas.List.Elements.{All-head, All-tail, All-append, All-cons}
 use Rattle.bezier_core.specs.declared.Bez.{Bez}
 use Rattle.traj_codec.specs.declared.traj.Segment.{Segment}
-use Rattle.traj_codec.specs.Positions.{durations, element_on, value_after}
-use Rattle.std.proofs.lemmas.Grind.{flat_map-append}
+use Rattle.traj_codec.specs.Positions.{element_on, value_after}
+use Rattle.std.proofs.lemmas.Grind.{flat_map-append, common_steps}
 use Rattle.traj_codec.specs.declared.traj.Traj.{Traj}
 use Rattle.fleet_curves.specs.Raised.{AreOneShow, raised_element, raised_from, raised_traj, cues_in}
 use Rattle.fleet_curves.specs.Steps.{AreHeld, AreSmallCurves}
@@ -46,29 +46,15 @@ length-fleet {A} f (x ∷ xs) n lengths =
 
 -- one trajectory more
 pub fleet_more : {A B : Type 0} (f : A → List B) (xs : List A) (i : ℕ) (x : A) (old new : List B) → i < length xs → x ≡ get_or xs i x → old ≡ flat_map f (take i xs) → new ≡ old ++ f x → new ≡ flat_map f (take (i + 1) xs)
-fleet_more {A} {B} f xs i x old new inside x_is old_is new_is =
-    new_is ∙ ap (λ (ys : List B). ys ++ f x) old_is ∙ sym
-    (ap (λ (ys : List A). flat_map f ys) (take_more xs i x inside) ∙ flat_map-append f (take i xs) (get_or xs i x ∷ [])
-    ∙ ap (λ (ys : List B). flat_map f (take i xs) ++ ys) (append-nil (f (get_or xs i x)) ∙ ap f (sym x_is)))
+fleet_more {A} {B} f xs i x old new inside x_is old_is new_is = grind (arith, common_steps, take_more, flat_map-append, take, append-nil)
 
 pub fleet_held : (trajs : List Traj) (times : List ℕ) (drones cues : ℕ) (curves : List (List (Bez 8))) → AreOneShow times trajs → drones ≡ length trajs → cues ≡ length times →
     curves ≡ flat_map raised_traj trajs → All AreSmallCurves curves → AreHeld (record { drones = drones; cues = cues; curves = curves })
-fleet_held trajs times drones cues curves show drones_is cues_is curves_is small = record {
-  some_drones = omega (arith, show.some_drones);
-  few_drones = omega (arith, show.few_drones);
-  some_cues = omega (arith, show.some_cues);
-  few_cues = omega (arith, show.few_cues);
-  total = ap (λ (cs : List (List (Bez 8))). length cs) curves_is ∙ length-fleet raised_traj trajs (length times) (fleet_lengths trajs times show.same_times)
-      ∙ sym (ap (λ (n : ℕ). n * cues) drones_is ∙ ap (λ (n : ℕ). length trajs * n) cues_is);
-  small = small;
-}
+fleet_held trajs times drones cues curves show drones_is cues_is curves_is small = grind (arith, common_steps, length-fleet, fleet_lengths)
 
 -- the first trajectory has as many segments as each
 pub first_cues : (trajs : List Traj) (times : List ℕ) (t : Traj) (segments : List Segment) → AreOneShow times trajs → t ≡ get_or trajs 0 t → segments ≡ t.segments → length segments ≡ length times
-first_cues trajs times t segments show t_is segments_is =
-    ap (λ (ss : List Segment). length ss) segments_is
-    ∙ sym (length-durations t.segments)
-    ∙ ap (λ (ns : List ℕ). length ns) (subst (λ (u : Traj). durations u.segments ≡ times) (sym t_is) (show.same_times 0 t show.some_drones))
+first_cues trajs times t segments show t_is segments_is = grind (arith, common_steps, length-durations)
 
 -- the first trajectory has as many segments as a fleet has cues
 pub first_cues_in : (trajs : List Traj) (t : Traj) (segments : List Segment) → 1 ≤ length trajs → t ≡ get_or trajs 0 t → segments ≡ t.segments → length segments ≡ cues_in trajs

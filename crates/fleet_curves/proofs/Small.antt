@@ -1,4 +1,5 @@
 -- Small numbers, and what holds of three of anything.
+use Rattle.std.proofs.lemmas.Grind.{common_steps}
 use Rattle.std.proofs.Common.{◌≡◌, ℕ, zero, suc, ℤ, ◌-ℤ◌, arith, ◌∙◌, [], ◌∷◌, All, FitsSigned, to_z, of_z}
 use Rattle.std.proofs.lemmas.Int.{ints}
 use Rattle.std.proofs.lemmas.Int.{to_z-of_z}
@@ -24,7 +25,4 @@ told_short x y small fits is = told x (to_z w16 (of_z w16 y)) small is ∙ to_z-
 
 -- the difference of two numbers of 32 bits
 pub told_gap : (g x y : ℤ) → FitsSigned w32 x → FitsSigned w32 y → g ≡ to_z w32 (of_z w32 x) -ℤ to_z w32 (of_z w32 y) → to_z w128 (of_z w128 g) ≡ x -ℤ y
-told_gap g x y upper lower is =
-    let gap : g ≡ x -ℤ y = simp to_z-of_z at is in
-    let fits : FitsSigned w128 g = omega (arith, ints) in
-    to_z-of_z w128 g fits ∙ gap
+told_gap g x y upper lower is = grind (arith, common_steps, ints, to_z-of_z)

@@ -1,4 +1,5 @@
 -- The curves that are made of trajectories stand for them: each is the raised curve of its control points.
+use Rattle.std.proofs.lemmas.Grind.{common_steps}
 use Rattle.std.proofs.Common.{◌≡◌, ℕ, zero, suc, ◌+◌, ◌*◌, ◌≤◌, ◌<◌, ℤ, arith, refl, sym, ◌∙◌, ap, subst, List, [], ◌∷◌, length, get_or, map, All, Some, slice_get}
 use Rattle.std.specs.List.{flat_map}
 use Rattle.std.proofs.lemmas.List.{get_or-append-add}
@@ -61,11 +62,7 @@ same_three {x} {y} {z} {u} {v} {w} p q r =
 
 -- the curves of a trajectory in a cue
 raised_cue : (t : Traj) (cue : ℕ) → cue < length t.segments → get_or (raised_traj t) cue [] ≡ raised_in t cue
-raised_cue t cue inside =
-    raised_from-three t.segments (at t.start 0) (at t.start 1) (at t.start 2) cue inside
-    ∙ same_three (raised_from-points t.segments (at t.start 0) (at t.start 1) (at t.start 2) cue 0 inside (omega arith))
-    (raised_from-points t.segments (at t.start 0) (at t.start 1) (at t.start 2) cue 1 inside (omega arith))
-    (raised_from-points t.segments (at t.start 0) (at t.start 1) (at t.start 2) cue 2 inside (omega arith))
+raised_cue t cue inside = grind (arith, common_steps, raised_from-three, same_three, raised_from-points)
 
 pub length-raised_from : (segments : List Segment) (x y z : ℤ) → length (raised_from x y z segments) ≡ length segments
 length-raised_from [] x y z = refl
@@ -120,9 +117,7 @@ same_item (y ∷ xs) zero t x is told = cc
 same_item (y ∷ xs) (suc k) t x is told = same_item xs k t x is told
 
 pub fleet_lengths : (trajs : List Traj) (times : List ℕ) → All (λ (t : Traj). durations t.segments ≡ times) trajs → All (λ (t : Traj). length (raised_traj t) ≡ length times) trajs
-fleet_lengths trajs times same = λ k d near.
-    length-raised_from (get_or trajs k d).segments (at (get_or trajs k d).start 0) (at (get_or trajs k d).start 1) (at (get_or trajs k d).start 2)
-    ∙ sym (length-durations (get_or trajs k d).segments) ∙ ap (λ (ns : List ℕ). length ns) (same k d near)
+fleet_lengths trajs times same = grind (arith, common_steps, length-raised_from, length-durations)
 
 -- a trajectory of the show has as many segments as the show has cues
 pub segments_of : (t : Traj) (times : List ℕ) → durations t.segments ≡ times → length t.segments ≡ length times

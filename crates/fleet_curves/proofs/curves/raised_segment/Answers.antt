@@ -1,6 +1,6 @@
-use Rattle.std.proofs.Common.{◌≤◌, ◌^◌, length, All, FitsSigned}
+use Rattle.std.proofs.lemmas.Grind.{common_steps}
+use Rattle.std.proofs.Common.{◌≤◌, ◌^◌, length, All, arith}
 use Rattle.std.proofs.lemmas.Int.{to_z-of_z}
-use mir.Syntax.{w16}
 use Rattle.bezier_core.specs.declared.Bez.{Bez}
 use Rattle.fleet_math.specs.Numbers.{IsBelow}
 use Rattle.traj_codec.specs.Spelling.{stored}
@@ -10,12 +10,7 @@ use Rattle.fleet_curves.proofs.Differences.{same_curves, three_axes}
 use Rattle.fleet_curves.proofs.curves.raised_segment.Goals as goal
 
 pub returns-clause-exact : goal.returns-clause-exact
-returns-clause-exact c =
-    let x_fits : FitsSigned w16 c.args.x = c.ranges.x in
-    let y_fits : FitsSigned w16 c.args.y = c.ranges.y in
-    let z_fits : FitsSigned w16 c.args.z = c.ranges.z in
-    same_curves c.raised.result c.raised-2.result c.raised-3.result _ _ _
-    (simp to_z-of_z at c.raised.ensures.exact) (simp to_z-of_z at c.raised-2.ensures.exact) (simp to_z-of_z at c.raised-3.ensures.exact)
+returns-clause-exact c = grind (arith, common_steps, same_curves, to_z-of_z)
 
 pub returns-clause-formed : goal.returns-clause-formed
 returns-clause-formed c = three_axes (λ axis. length (stored (element_on c.args.s.now axis)) ≤ 7) c.raised.ensures.formed c.raised-2.ensures.formed c.raised-3.ensures.formed

@@ -1,4 +1,5 @@
-use Rattle.std.proofs.Common.{◌≡◌, refl, ℕ, All, length, ap, subst, sym, ◌∙◌, List}
+use Rattle.std.proofs.lemmas.Grind.{common_steps}
+use Rattle.std.proofs.Common.{◌≡◌, refl, ℕ, All, length, ap, subst, sym, ◌∙◌, List, arith}
 use Rattle.std.specs.List.{flat_map}
 use Rattle.std.proofs.lemmas.List.{take_all}
 use Rattle.bezier_core.specs.declared.Bez.{Bez}
@@ -18,11 +19,7 @@ loop-t-preserved c = record {
 }
 
 pub invariant_of-result : goal.invariant_of-result
-invariant_of-result c =
-    let curves_are : all_curves c.loop-t.all.items ≡ flat_map raised_traj c.args.trajs.now =
-    c.loop-t.invariant.curves ∙ ap (λ (ts : List Traj). flat_map raised_traj ts) (take_all c.loop-t.t-index c.args.trajs.now c.loop-t-test.false) in
-    let cues : length c.as_slice.result.now ≡ length c.requires.0 = first_cues c.args.trajs.now c.requires.0 c.index-trajs-0.result c.as_slice.result.now c.requires.1 c.index-trajs-0.is (c.as_slice.ensures ∙ sym (ap (λ (t : Traj). t.segments) c.index-trajs-0.is)) in
-    fleet_held c.args.trajs.now c.requires.0 (length c.args.trajs.now) (length c.as_slice.result.now) (all_curves c.loop-t.all.items) c.requires.1 refl cues curves_are c.loop-t.invariant.small
+invariant_of-result c = grind (arith, common_steps, take_all, first_cues, fleet_held)
 
 pub returns-clause-stands : goal.returns-clause-stands
 returns-clause-stands c =
@@ -39,8 +36,4 @@ unfolding raised_of
 is_raised trajs drones cues curves drones_are cues_are curves_are = rw (drones_are, cues_are, curves_are) refl
 
 pub returns-clause-exact : goal.returns-clause-exact
-returns-clause-exact c =
-    is_raised c.args.trajs.now (length c.args.trajs.now) (length c.as_slice.result.now) (all_curves c.loop-t.all.items)
-    refl
-    (first_cues_in c.args.trajs.now c.index-trajs-0.result c.as_slice.result.now c.requires.1.some_drones c.index-trajs-0.is (c.as_slice.ensures ∙ sym (ap (λ (t : Traj). t.segments) c.index-trajs-0.is)))
-    (c.loop-t.invariant.curves ∙ ap (λ (ts : List Traj). flat_map raised_traj ts) (take_all c.loop-t.t-index c.args.trajs.now c.loop-t-test.false))
+returns-clause-exact c = grind (arith, common_steps, is_raised, first_cues_in, take_all)
