@@ -1,9 +1,9 @@
 -- How a line is read, step by step: what each step gave, and by which first word.
-use Rattle.std.proofs.Common.{◌≡◌, Bool, true, false, List, drop, Result, Ok, Err, refl, sym, ap, subst, ◌∙◌, cond}
-use Rattle.std.specs.Prelude.{◌&&◌, not, bytes_eq, codes, length, nat_le}
-use Rattle.std.specs.List.{list_all}
+use Rattle.std.proofs.lemmas.Grind.{common_steps}
+use Rattle.std.proofs.Common.{◌≡◌, Bool, true, false, List, drop, Result, Ok, Err, refl, sym, ap, subst, ◌∙◌, cond, arith}
+use Rattle.std.specs.Prelude.{not, length}
 use Rattle.std.proofs.lemmas.Bool.{and_parts}
-use Rattle.choreo_lines.specs.Name.{Name, is_name, begins_lower, goes_in_name}
+use Rattle.choreo_lines.specs.Name.{Name, is_name}
 use Rattle.choreo_lines.specs.FirstWord.{keyword_of}
 use Rattle.choreo_lines.specs.Table.{Word, word, row_of, has_count, may_stand, as_read}
 use Rattle.choreo_lines.specs.Fields.{◌>>=◌, name_in, values_in, names_in, entry_with, act_in, act_line, row_line, line_in, line_at, entry_of}
@@ -37,10 +37,7 @@ passed false r k y h = cc
 
 -- the word that was read as a name is one, and it is this
 pub name_read : (w : Word) (n : Name) → name_in w ≡ Ok n → (is_name w ≡ true) × (w ≡ n.items)
-name_read w n h =
-    let p = passed (is_name w) (Ok (record { items = w })) kind.BadName n h in
-    let same : record { items = w } ≡ n = cc in
-    (p.0, ap (λ (m : Name). m.items) same)
+name_read w n h = grind (arith, common_steps, passed)
 
 -- An entry is that of its first word.
 
@@ -58,13 +55,7 @@ pub record Acted (ws : List Word) (e : Entry) : Type 0 where
 
 pub acted : (ws : List Word) (e : Entry) → act_line ws ≡ Ok e → Acted ws e
 unfolding act_line
-acted ws e h =
-    let told = cond (nat_le 2 (length ws)) (act_in (drop 1 ws)) (Err kind.BadCount) in
-    let p = two (name_in (word ws 0)) (λ n. told >>= (λ a. Ok (entry.One n a))) e h in
-    let q = two told (λ a. Ok (entry.One p.a a)) e p.then in
-    let r = passed (nat_le 2 (length ws)) (act_in (drop 1 ws)) kind.BadCount q.a q.first in
-    let same : entry.One p.a q.a ≡ e = cc in
-    record { name = p.a; act = q.a; named = p.first; acts = r.1; is = same }
+acted ws e h = grind (arith, common_steps, cond, drop, two, passed)
 
 -- words after the first of a line that were read by its row
 pub record Rowed (k : Keyword) (ws : List Word) (e : Entry) : Type 0 where
@@ -77,14 +68,7 @@ pub record Rowed (k : Keyword) (ws : List Word) (e : Entry) : Type 0 where
 
 pub rowed : (k : Keyword) (ws : List Word) (e : Entry) → row_line k ws ≡ Ok e → Rowed k ws e
 unfolding row_line
-rowed k ws e h =
-    let after = names_in (drop (length (row_of k).places) ws) in
-    let whole = values_in (row_of k).places ws >>= (λ vs. after >>= (λ ns. Ok (entry_with k vs ns))) in
-    let c = passed (has_count (row_of k) (length ws)) whole kind.BadCount e h in
-    let p = two (values_in (row_of k).places ws) (λ vs. after >>= (λ ns. Ok (entry_with k vs ns))) e c.1 in
-    let q = two after (λ ns. Ok (entry_with k p.a ns)) e p.then in
-    let same : entry_with k p.a q.a ≡ e = cc in
-    record { values = p.a; names = q.a; count = c.0; read = p.first; named = q.first; is = same }
+rowed k ws e h = grind (arith, common_steps, drop, passed, two)
 
 line_keyword : (k : Keyword) (ws : List Word) (e : Entry) → line_in k ws ≡ Ok e → keyword_in e ≡ k
 line_keyword first.Other ws e h = let a = acted ws e h in ap keyword_in (sym a.is)
@@ -136,13 +120,7 @@ not_true true h = cc
 not_true false h = refl
 
 pub name_keyword : (w : Word) → is_name w ≡ true → is_other (keyword_of w) ≡ true
-name_keyword w n =
-    let last = and_parts (begins_lower w && list_all goes_in_name w && nat_le (length w) 16 && not (bytes_eq w (codes "form"))) (not (bytes_eq w (codes "end"))) n in
-    let form = and_parts (begins_lower w && list_all goes_in_name w && nat_le (length w) 16) (not (bytes_eq w (codes "form"))) last.0 in
-    let h : is_other (cond (bytes_eq w (codes "form")) first.Form (cond (bytes_eq w (codes "end")) first.End first.Other)) ≡ true =
-    ap (λ b. is_other (cond b first.Form (cond (bytes_eq w (codes "end")) first.End first.Other))) (not_true (bytes_eq w (codes "form")) form.1)
-    ∙ ap (λ b. is_other (cond b first.End first.Other)) (not_true (bytes_eq w (codes "end")) last.1) in
-    pick (bytes_eq w (codes "memory")) first.Memory _ refl (pick (bytes_eq w (codes "trajectory")) first.Trajectory _ refl (pick (bytes_eq w (codes "ellipsoid")) first.Ellipsoid _ refl (pick (bytes_eq w (codes "stray")) first.Stray _ refl (pick (bytes_eq w (codes "late")) first.Late _ refl (pick (bytes_eq w (codes "drone")) first.Drone _ refl (pick (bytes_eq w (codes "formation")) first.Formation _ refl (pick (bytes_eq w (codes "at")) first.At _ refl (pick (bytes_eq w (codes "figure")) first.Figure _ refl (pick (bytes_eq w (codes "cue")) first.Cue _ refl (pick (bytes_eq w (codes "repeat")) first.Repeat _ refl (pick (bytes_eq w (codes "perform")) first.Perform _ refl (h))))))))))))
+name_keyword w n = grind (arith, common_steps, and_parts, is_other, cond, not_true, pick)
 
 -- in a cue a name is read as one
 pub read_as_name : (p : Place) (k : Keyword) → may_stand p first.Other ≡ true → is_other k ≡ true → as_read p k ≡ first.Other

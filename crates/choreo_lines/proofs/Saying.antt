@@ -1,10 +1,10 @@
 -- The words of a line say an entry exactly where the line is read as that entry.
+use Rattle.std.proofs.lemmas.Grind.{common_steps}
 use Rattle.std.proofs.Common.{◌≡◌, ℕ, suc, ◌+◌, ◌≤◌, Bool, true, false, List, [], ◌∷◌, ◌++◌, map, take, drop, Some, None, Option, Result, Ok, Err, refl, sym, ap, ap₂, subst, ◌∙◌, cond, arith, eqb-true, eq-eqb, le-leb}
 use Rattle.std.specs.Prelude.{◌&&◌, ◌==◌, bytes_eq, codes, length, nat_le, nat_abs, ℤ, pos, negsuc, ◌≤ℤ◌, IsTrue}
 use Rattle.std.proofs.lemmas.Bool.{and_parts, leb-true}
 use Rattle.std.proofs.lemmas.Slice.Eq.{bytes_eq-Decides}
 use Rattle.std.proofs.lemmas.List.{drop_all, append-nil}
-use Rattle.text_lines.specs.Numbers.{number_in as number_read}
 use Rattle.text_lines.specs.declared.number.NumberFault.{NumberFault}
 use Rattle.text_lines.proofs.NumberLaws.{read_is_number, number_is_read}
 use Rattle.choreo_lines.specs.Name.{Name, is_name}
@@ -64,27 +64,11 @@ judged_is (Ok x) v h = let same : x ≡ v = cc in ap (λ z. Ok z) same
 judged_is (Err f) v h = cc
 
 value_holds : (wanted : Want) (w : Word) (v : Value) → value_in wanted w ≡ Ok v → Holds wanted w v
-value_holds want.Name w v h =
-    let p = two (name_in w) (λ n. Ok (Named n)) v h in
-    let same : Named p.a ≡ v = cc in
-    let q = name_read w p.a p.first in
-    subst (Holds want.Name w) same (q.0, sym q.1)
-value_holds want.Mirror w v h =
-    let p = two (mirror_in w) (λ m. Ok (Mirrored m)) v h in
-    let same : Mirrored p.a ≡ v = cc in
-    subst (Holds want.Mirror w) same (mirror_holds w p.a p.first)
-value_holds want.Manner w v h =
-    let p = two (smooth_in w) (λ s. Ok (Smooth s)) v h in
-    let same : Smooth p.a ≡ v = cc in
-    subst (Holds want.Manner w) same (smooth_holds w p.a p.first)
-value_holds want.Sense w v h =
-    let p = two (ccw_in w) (λ c. Ok (Ccw c)) v h in
-    let same : Ccw p.a ≡ v = cc in
-    subst (Holds want.Sense w) same (ccw_holds w p.a p.first)
-value_holds (want.Number low high) w v h =
-    let p = two (judged (number_read low high w)) (λ x. Ok (Number x)) v h in
-    let same : Number p.a ≡ v = cc in
-    subst (Holds (want.Number low high) w) same (read_is_number low high w p.a (judged_is (number_read low high w) p.a p.first))
+value_holds want.Name w v h = grind (arith, common_steps, two, name_read)
+value_holds want.Mirror w v h = grind (arith, common_steps, two, mirror_holds)
+value_holds want.Manner w v h = grind (arith, common_steps, two, smooth_holds)
+value_holds want.Sense w v h = grind (arith, common_steps, two, ccw_holds)
+value_holds (want.Number low high) w v h = grind (arith, common_steps, two, read_is_number, judged_is)
 
 -- A value that a word is in its place fits the place.
 
@@ -277,10 +261,7 @@ apart k ns none = subst (λ xs. Every (row_of k).places (IsApart k xs)) (sym (no
 
 least_by : (b : Bool) (least most n : ℕ) → cond b (n == least) (nat_le (least + 1) n && nat_le n most) ≡ true → least ≤ n
 least_by true least most n h = let same = eqb-true n least h in omega (arith, same)
-least_by false least most n h =
-    let p = and_parts (nat_le (least + 1) n) (nat_le n most) h in
-    let more = leb-true (least + 1) n p.0 in
-    omega (arith, more)
+least_by false least most n h = grind (arith, common_steps, and_parts, leb-true)
 
 -- at least as many as it has places
 has_places : (row : Row) (n : ℕ) → has_count row n ≡ true → length row.places ≤ n
@@ -294,10 +275,7 @@ none_left row ws h e =
 
 no_names : (ws : List Word) (ns : List Name) → names_in ws ≡ Ok ns → ws ≡ [] → ns ≡ []
 unfolding names_in
-no_names ws ns h e =
-    let k : Ok [] ≡ Ok ns = ap names_in (sym e) ∙ h in
-    let same : [] ≡ ns = cc in
-    sym same
+no_names ws ns h e = grind (arith, common_steps)
 
 -- A line that is read by its row, and one of an act.
 
@@ -344,11 +322,7 @@ read_says (w ∷ ws) e h =
 
 row_read : (k : Keyword) (ws : List Word) (vs : List Value) → has_count (row_of k) (length ws) ≡ true → AllHold (row_of k).places ws vs → row_line k ws ≡ Ok (entry_with k (take (length (row_of k).places) vs) (map name_of (drop (length (row_of k).places) vs)))
 unfolding row_line
-row_read k ws vs c h =
-    let after = names_in (drop (length (row_of k).places) ws) in
-    ap (λ b. cond b (values_in (row_of k).places ws >>= (λ xs. after >>= (λ ns. Ok (entry_with k xs ns)))) (Err kind.BadCount)) c
-    ∙ ap (λ r. r >>= (λ xs. after >>= (λ ns. Ok (entry_with k xs ns)))) (held_values (row_of k).places ws vs h)
-    ∙ ap (λ r. r >>= (λ ns. Ok (entry_with k (take (length (row_of k).places) vs) ns))) (held_names (row_of k).places ws vs h)
+row_read k ws vs c h = grind (arith, common_steps, drop, cond, held_values, take, held_names)
 
 names_again : (ns : List Name) → map name_of (map Named ns) ≡ ns
 names_again [] = refl
@@ -361,11 +335,7 @@ entry_again (entry.One name a) o = absurd (o refl)
 entry_again e o = refl
 
 act_by_read : (k : ActWord) (ws : List Word) (vs : List Value) → AllHold (act_places k) ws vs → length vs ≡ length (act_places k) → act_by (Some k) ws ≡ Ok (act_with k (take (length (act_places k)) vs))
-act_by_read k ws vs h e =
-    let count = held_length (act_places k) ws vs h ∙ e in
-    ap (λ n. cond (n == length (act_places k)) (values_in (act_places k) ws >>= (λ xs. Ok (act_with k xs))) (Err kind.BadCount)) count
-    ∙ ap (λ b. cond b (values_in (act_places k) ws >>= (λ xs. Ok (act_with k xs))) (Err kind.BadCount)) (eq-eqb (length (act_places k)) (length (act_places k)) refl)
-    ∙ ap (λ r. r >>= (λ xs. Ok (act_with k xs))) (held_values (act_places k) ws vs h)
+act_by_read k ws vs h e = grind (arith, common_steps, held_length, cond, eq-eqb, held_values)
 
 act_read : (a : Act) (ws : List Word) → AllHold (act_places (act_fields a).0) ws (act_fields a).1 → act_by (Some (act_fields a).0) ws ≡ Ok a
 act_read act.Hold ws h = act_by_read word_of.Hold ws [] h refl
@@ -379,12 +349,7 @@ act_read (act.Curve p1 p2 to) ws h = absurd (no_curve ws h)
 act_line_read : (w : Word) (ws : List Word) (n : Name) (a : Act) → Holds want.Name w (Named n) → SaysAct ws a → act_line (w ∷ ws) ≡ Ok (entry.One n a)
 unfolding act_line act_in
 act_line_read w [] n a named h = absurd h
-act_line_read w (x ∷ ws) n a named h =
-    let more : nat_le 2 (length (w ∷ x ∷ ws)) ≡ true = le-leb 2 (length (w ∷ x ∷ ws)) (omega arith) in
-    ap (λ t. name_in w >>= (λ m. cond t (act_by (act_of x) ws) (Err kind.BadCount) >>= (λ b. Ok (entry.One m b)))) more
-    ∙ ap (λ r. r >>= (λ m. act_by (act_of x) ws >>= (λ b. Ok (entry.One m b)))) (held_name w (Named n) named)
-    ∙ ap (λ o. act_by o ws >>= (λ b. Ok (entry.One n b))) h.0
-    ∙ ap (λ r. r >>= (λ b. Ok (entry.One n b))) (act_read a ws h.1)
+act_line_read w (x ∷ ws) n a named h = grind (arith, common_steps, le-leb, cond, held_name, act_read)
 
 pub says_read : (ws : List Word) (e : Entry) → Says ws e → IsRead ws e
 says_read [] e h = absurd h

@@ -1,15 +1,12 @@
-use Rattle.std.proofs.Common.{◌+◌, ◌≤◌, sym, ap, ◌∙◌, drop, length, arith, Ok}
+use Rattle.std.proofs.lemmas.Grind.{common_steps}
+use Rattle.std.proofs.Common.{◌≤◌, sym, ap, ◌∙◌, drop, length, arith, Ok}
 use Rattle.std.proofs.lemmas.Result.{err_from_is_err_and}
-use Rattle.choreo_lines.specs.Fields.{name_in, names_in}
-use Rattle.text_lines.specs.Tokens.{words_in}
+use Rattle.choreo_lines.specs.Fields.{name_in}
 use Rattle.choreo_lines.proofs.Collected.{names_more, names_err, names_all, with_front}
 use Rattle.choreo_lines.proofs.entry.names_in.Goals as goal
 
 pub loop-token-preserved : goal.loop-token-preserved
-loop-token-preserved c =
-    c.loop-token.invariant
-    ∙ names_more _ _ _ _ _ _ c.loop-token-test.true (sym (c.in_ok-name.ensures ∙ ap name_in c.word_at.ensures))
-    ∙ ap (λ front. with_front front (names_in (words_in c.args.text.now (drop (c.loop-token.token-index + 1) c.args.words.now)))) (sym c.in_ok-push.ensures.items)
+loop-token-preserved c = grind (arith, common_steps, names_more, with_front, drop)
 
 pub returns-in_err-name : goal.returns-in_err-name
 returns-in_err-name c =

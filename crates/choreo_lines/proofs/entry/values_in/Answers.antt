@@ -1,4 +1,5 @@
-use Rattle.std.proofs.Common.{◌+◌, ◌<◌, ◌≤◌, sym, ap, ◌∙◌, length, arith}
+use Rattle.std.proofs.lemmas.Grind.{common_steps}
+use Rattle.std.proofs.Common.{◌<◌, ◌≤◌, sym, ap, ◌∙◌, length, arith}
 use Rattle.std.proofs.lemmas.Result.{err_from_is_err_and}
 use Rattle.choreo_lines.specs.Fields.{value_in}
 use Rattle.choreo_lines.proofs.Collected.{values_more, values_err, values_all, with_front, rest}
@@ -13,15 +14,7 @@ returns-in_err-value c =
     ∙ values_err _ _ _ _ _ _ _ _ c.loop-k-test.true has (sym (c.in_err-value.ensures ∙ ap (value_in _) c.word_at.ensures)))
 
 pub loop-k-preserved : goal.loop-k-preserved
-loop-k-preserved c =
-    let has : c.loop-k.k < length c.args.words.now = omega (arith, c.requires.words, c.loop-k-test.true) in
-    let counted = c.push.ensures.len in
-    let before = c.loop-k.invariant.1 in (
-      c.loop-k.invariant.0
-          ∙ values_more _ _ _ _ _ _ _ _ c.loop-k-test.true has (sym (c.in_ok-value.ensures ∙ ap (value_in _) c.word_at.ensures))
-          ∙ ap (λ front. with_front front (rest c.args.text.now c.args.wants.now c.args.words.now (c.loop-k.k + 1))) (sym c.push.ensures.items),
-      omega (arith, counted, before),
-    )
+loop-k-preserved c = grind (arith, common_steps, values_more, with_front, rest)
 
 pub returns : goal.returns
 returns c =
