@@ -1,6 +1,6 @@
 -- Bytes that spell trees of version 2: leaves are two digits.
+use Rattle.std.proofs.lemmas.Grind.{common_steps}
 use Rattle.std.proofs.Common.{◌≡◌, ℕ, zero, suc, ◌+◌, ◌-◌, ◌*◌, ◌/◌, ◌%◌, ◌≤◌, ◌<◌, Bool, true, false, cond, ◌&&◌, ◌==◌, nat_le, arith, refl, sym, ◌∙◌, ap, List, [], ◌∷◌, ◌++◌, append-nil, All}
-use Rattle.std.specs.Prelude.{nat_lt}
 use Rattle.std.proofs.lemmas.Bool.Decides.{nat_tests}
 use Rattle.std.proofs.lemmas.List.Elements.{All-nil, All-cons}
 use Rattle.sep_parts.specs.declared.node.Node.{Node}
@@ -21,10 +21,7 @@ both true false e = cc
 both false b e = cc
 
 digit_told : (b : ℕ) → is_digit b ≡ true → (48 ≤ b) × (b ≤ 57)
-digit_told b e = let parts = both (nat_le 48 b) (nat_le b 57) e in (low 48 b parts.0, low b 57 parts.1)
-  where
-    low : (m n : ℕ) → nat_le m n ≡ true → m ≤ n
-    low m n e = grind (arith, nat_tests)
+digit_told b e = grind (arith, common_steps, both, nat_le, nat_tests)
 
 -- two digits that name a direction
 pub record IsLeafOf (b c : ℕ) : Type 0 where
@@ -35,15 +32,7 @@ pub record IsLeafOf (b c : ℕ) : Type 0 where
   pub small : two_digits b c < 98
 
 pub leaf_told : (b c : ℕ) → is_wide_leaf b c ≡ true → IsLeafOf b c
-leaf_told b c e =
-    let first = both (is_digit b && is_digit c) (nat_lt (two_digits b c) 98) e in
-    let digits = both (is_digit b) (is_digit c) first.0 in
-    let one = digit_told b digits.0 in
-    let two = digit_told c digits.1 in
-    record { first_low = one.0; first_high = one.1; second_low = two.0; second_high = two.1; small = below (two_digits b c) 98 first.1 }
-  where
-    below : (m n : ℕ) → nat_lt m n ≡ true → m < n
-    below m n e = grind (arith, nat_tests)
+leaf_told b c e = grind (arith, common_steps, both, digit_told, nat_tests)
 
 -- they are the word of the direction
 pub word_is : (b c : ℕ) → IsLeafOf b c → (48 + two_digits b c / 10 ≡ b) × (48 + two_digits b c % 10 ≡ c)
@@ -58,11 +47,7 @@ record SpellsWide (n : ℕ) (line : List ℕ) (nodes : List Node) : Type 0 where
   known : All (IsKnown 98) nodes
 
 dot_first : (n b : ℕ) (bytes : List ℕ) (nodes : List Node) → b ≡ 46 → SpellsWide (suc (suc n)) bytes nodes → SpellsWide (suc n) (b ∷ bytes) (Split ∷ nodes)
-dot_first n b bytes nodes e spells = record {
-  is = ap (λ (x : ℕ). x ∷ bytes) e ∙ ap (λ (xs : List ℕ). 46 ∷ xs) spells.is;
-  forest = two_in_one n nodes spells.forest;
-  known = All-cons (IsKnown 98) Split nodes tt spells.known;
-}
+dot_first n b bytes nodes e spells = grind (arith, common_steps, two_in_one, All-cons)
 
 leaf_first : (n b c : ℕ) (bytes : List ℕ) (nodes : List Node) → IsLeafOf b c → SpellsWide n bytes nodes → SpellsWide (suc n) (b ∷ c ∷ bytes) (Leaf (two_digits b c) ∷ nodes)
 leaf_first n b c bytes nodes is spells =
@@ -105,11 +90,7 @@ dot_step n [] = (refl, refl)
 dot_step n (c ∷ bytes) = (refl, refl)
 
 pub not_dot : (b : ℕ) → (b ≡ 46 → ⊥) → (b == 46) ≡ false
-not_dot b other = go (b == 46) refl
-  where
-    go : (s : Bool) → (b == 46) ≡ s → s ≡ false
-    go true e = absurd (other (dot_told b e))
-    go false e = refl
+not_dot b other = grind (arith, common_steps, dot_told)
 
 -- ---- from nodes to bytes and back
 pub word_back : (dir : ℕ) → two_digits (48 + dir / 10) (48 + dir % 10) ≡ dir
@@ -121,30 +102,13 @@ word_no_dot dir = not_dot (48 + dir / 10) (λ e. absurd (omega (arith, e)))
 pub wide_back : (nodes : List Node) → wide_nodes (tree_line 2 nodes) ≡ nodes
 wide_back [] = refl
 wide_back (Split ∷ nodes) = (dot_step 0 (tree_line 2 nodes)).1 ∙ ap (λ (ns : List Node). Split ∷ ns) (wide_back nodes)
-wide_back (Leaf dir ∷ nodes) =
-    ap (λ (s : Bool). cond s (Split ∷ wide_nodes ((48 + dir % 10) ∷ tree_line 2 nodes)) (Leaf (two_digits (48 + dir / 10) (48 + dir % 10)) ∷ wide_nodes (tree_line 2 nodes))) (word_no_dot dir)
-    ∙ ap (λ (d : ℕ). Leaf d ∷ wide_nodes (tree_line 2 nodes)) (word_back dir)
-    ∙ ap (λ (ns : List Node). Leaf dir ∷ ns) (wide_back nodes)
+wide_back (Leaf dir ∷ nodes) = grind (arith, common_steps, cond, word_no_dot, word_back, (wide_back nodes))
 
 digit_is : (d : ℕ) → d ≤ 9 → is_digit (48 + d) ≡ true
-digit_is d small = two (nat_le 48 (48 + d)) (nat_le (48 + d) 57) (above 48 (48 + d) (omega arith)) (above (48 + d) 57 (omega arith))
-  where
-    above : (m n : ℕ) → m ≤ n → nat_le m n ≡ true
-    above m n h = grind (arith, nat_tests)
-
-    two : (a b : Bool) → a ≡ true → b ≡ true → (a && b) ≡ true
-    two a b p q = rw (p, q) refl
+digit_is d small = grind (arith, common_steps, nat_le, nat_tests)
 
 pub leaf_is : (dir : ℕ) → dir < 98 → is_wide_leaf (48 + dir / 10) (48 + dir % 10) ≡ true
-leaf_is dir small =
-    three (is_digit (48 + dir / 10)) (is_digit (48 + dir % 10)) (nat_lt (two_digits (48 + dir / 10) (48 + dir % 10)) 98)
-    (digit_is (dir / 10) (omega arith)) (digit_is (dir % 10) (omega arith)) (below (two_digits (48 + dir / 10) (48 + dir % 10)) 98 (omega (arith, word_back dir)))
-  where
-    below : (m n : ℕ) → m < n → nat_lt m n ≡ true
-    below m n h = grind (arith, nat_tests)
-
-    three : (a b c : Bool) → a ≡ true → b ≡ true → c ≡ true → (a && b && c) ≡ true
-    three a b c p q r = rw (p, q, r) refl
+leaf_is dir small = grind (arith, common_steps, digit_is, word_back, nat_tests)
 
 -- the word of a known direction spells one tree more
 pub word_spelled : (n dir : ℕ) (rest : List ℕ) → dir < 98 → is_spelled_wide (suc n) ((48 + dir / 10) ∷ (48 + dir % 10) ∷ rest) ≡ is_spelled_wide n rest

@@ -1,5 +1,6 @@
 -- Where a certificate is valid by any table of directions, the ellipsoids around any two drones are disjoint throughout the show.
-use Rattle.std.proofs.Common.{◌≡◌, refl, ℕ, ◌+◌, ◌*◌, ◌≤◌, ◌<◌, ℤ, pos, negsuc, neg_ℤ, ◌+ℤ◌, ◌-ℤ◌, ◌*ℤ◌, ◌≤ℤ◌, ◌<ℤ◌, unsigned_abs, arith, sym, ◌∙◌, ap, subst, List, length, All, Some, slice_get, sum}
+use Rattle.std.proofs.lemmas.Grind.{common_steps}
+use Rattle.std.proofs.Common.{◌≡◌, refl, ℕ, ◌*◌, ◌≤◌, ◌<◌, ℤ, pos, negsuc, neg_ℤ, ◌+ℤ◌, ◌-ℤ◌, ◌*ℤ◌, ◌≤ℤ◌, ◌<ℤ◌, unsigned_abs, arith, sym, ◌∙◌, ap, subst, List, length, All, Some, slice_get, sum}
 use Rattle.std.proofs.lemmas.Int.{ints, by_lt_z}
 use Rattle.fleet_math.specs.Sums.{power}
 use Rattle.fleet_math.specs.Numbers.{IsIn}
@@ -138,11 +139,7 @@ strays_enough clear n = same clear.stray (length_squared (weights n clear.r clea
 
 -- what the reach takes away is its part
 reach_is : (clear : Clearance) (n : List ℤ) → for_reach clear n ≡ sizes_dot (at (weights n clear.r clear.h)) (λ axis. pos (reach_on clear axis))
-reach_is clear n =
-    three (unsigned_abs (at n 0 *ℤ pos clear.h)) (unsigned_abs (at n 1 *ℤ pos clear.h)) (unsigned_abs (at n 2 *ℤ pos clear.r)) (reach_on clear 0) (reach_on clear 1) (reach_on clear 2)
-  where
-    three : (a b c x y z : ℕ) → pos (a * x + b * y + c * z) ≡ pos a *ℤ pos x +ℤ pos b *ℤ pos y +ℤ pos c *ℤ pos z
-    three a b c x y z = omega (arith, ints)
+reach_is clear n = grind (arith, common_steps, ints, unsigned_abs, pos)
 
 -- Where the second drone is seen to be a threshold from the first at the instant p / q, and moves within the reach from there to its own instant,
 -- the ellipsoids around the points that the two may be at are disjoint.
@@ -209,11 +206,7 @@ in_order rules dirs curves trees valid trajs stands reach a b t u order t_is u_i
     let t_times : durations t.segments ≡ stands.times = at_place (λ (t : Traj). durations t.segments ≡ stands.times) trajs a t stands.one_show.same_times t_is in
     let u_times : durations u.segments ≡ stands.times = at_place (λ (t : Traj). durations t.segments ≡ stands.times) trajs b u stands.one_show.same_times u_is in
     let u_lasts : IsLasting u = subst (λ (ns : List ℕ). All (λ ms. 1 ≤ ms) ns) (sym u_times) stands.one_show.lasting in
-    let inside : IsInside (length stands.times) (moment (durations t.segments) p q) =
-    subst (λ (ns : List ℕ). IsInside (length ns) (moment (durations t.segments) p q)) t_times
-    (moment-inside (durations t.segments) p q p_some
-    (omega (arith, ap (λ (ns : List ℕ). length ns) t_times, stands.one_show.some_cues))
-    (subst (λ (ns : List ℕ). All (λ ms. 1 ≤ ms) ns) (sym t_times) stands.one_show.lasting) p_before) in
+    let inside : IsInside (length stands.times) (moment (durations t.segments) p q) = grind (arith, common_steps, moment-inside) in
     let moves = at_place (λ (t : Traj). (axis : ℕ) → axis ≤ 2 → MovesWithin rules.clearance.late (reach_on rules.clearance axis) t axis) trajs b u reach u_is in
     seen_disjoint rules.clearance dirs t u p q s w (moment (durations t.segments) p q) first second inside.some (own_some u s w w_some u_lasts) refl (ap (λ (ns : List ℕ). moment ns p q) (u_times ∙ sym t_times))
     (seen_along rules dirs curves trees trajs stands a b t u (moment (durations t.segments) p q) valid order t_is u_is inside)

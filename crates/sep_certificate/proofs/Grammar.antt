@@ -1,4 +1,5 @@
 -- A line is one whole tree by its grammar exactly where what the reader counts says so.
+use Rattle.std.proofs.lemmas.Grind.{common_steps}
 use Rattle.std.proofs.Common.{◌≡◌, inl, inr, ℕ, suc, ◌+◌, ◌-◌, ◌/◌, ◌%◌, ◌<◌, Bool, true, false, cond, ◌==◌, arith, refl, sym, ◌∙◌, ap, subst, List, [], ◌∷◌, ◌++◌, append_assoc, append-nil, Option, Some, None, All}
 use Rattle.std.specs.Option.{is_some, option_flatten, option_map}
 use Rattle.std.proofs.lemmas.List.Concat.{flat_map-append}
@@ -54,13 +55,7 @@ letters_back (Leaf dir ∷ nodes) known =
 
 digits_told : (line : List ℕ) (nodes : List Node) → digit_nodes line ≡ Some nodes → IsLineOf 2 line nodes
 digits_told [] nodes e = let is : [] ≡ nodes = cc in rw (sym is) (refl, All-nil (IsKnown 98))
-digits_told (b ∷ []) nodes e = go (b == 46) refl e
-  where
-    go : (s : Bool) → (b == 46) ≡ s → cond s (Some (Split ∷ [])) None ≡ Some nodes → IsLineOf 2 (b ∷ []) nodes
-    go true p e =
-        let is : Split ∷ [] ≡ nodes = cc in
-        rw (sym is) (ap (λ (x : ℕ). x ∷ []) (dot_told b p), All-cons (IsKnown 98) Split [] tt (All-nil (IsKnown 98)))
-    go false p e = cc
+digits_told (b ∷ []) nodes e = grind (arith, common_steps, cond, dot_told, All-cons, All-nil)
 digits_told (b ∷ c ∷ bytes) nodes e = go (b == 46) (is_wide_leaf b c) refl refl (digit_nodes (c ∷ bytes)) (digit_nodes bytes) (digits_told (c ∷ bytes)) (digits_told bytes) e
   where
     go : (s t : Bool) → (b == 46) ≡ s → is_wide_leaf b c ≡ t → (o u : Option (List Node)) → ((found : List Node) → o ≡ Some found → IsLineOf 2 (c ∷ bytes) found) →

@@ -1,4 +1,5 @@
 -- Where a certificate is valid, any two drones are apart throughout the show.
+use Rattle.std.proofs.lemmas.Grind.{common_steps}
 use Rattle.std.proofs.Common.{◌≡◌, ℕ, ◌*◌, ◌≤◌, ◌<◌, ℤ, pos, arith, refl, sym, ◌∙◌, ap, subst, List, length, All, Some, slice_get, sum}
 use Rattle.std.proofs.lemmas.Int.{ints}
 use Rattle.std.proofs.lemmas.Option.{slice_get_within}
@@ -56,11 +57,7 @@ in_order rules dirs curves trees small valid trajs stands reach a b t u order t_
     let t_times : durations t.segments ≡ stands.times = at_place (λ (t : Traj). durations t.segments ≡ stands.times) trajs a t stands.one_show.same_times t_is in
     let u_times : durations u.segments ≡ stands.times = at_place (λ (t : Traj). durations t.segments ≡ stands.times) trajs b u stands.one_show.same_times u_is in
     let u_lasts : IsLasting u = subst (λ (ns : List ℕ). All (λ ms. 1 ≤ ms) ns) (sym u_times) stands.one_show.lasting in
-    let inside : IsInside (length stands.times) (moment (durations t.segments) p q) =
-    subst (λ (ns : List ℕ). IsInside (length ns) (moment (durations t.segments) p q)) t_times
-    (moment-inside (durations t.segments) p q p_some
-    (omega (arith, ap (λ (ns : List ℕ). length ns) t_times, stands.one_show.some_cues))
-    (subst (λ (ns : List ℕ). All (λ ms. 1 ≤ ms) ns) (sym t_times) stands.one_show.lasting) p_before) in
+    let inside : IsInside (length stands.times) (moment (durations t.segments) p q) = grind (arith, common_steps, moment-inside) in
     let moves = at_place (λ (t : Traj). (axis : ℕ) → axis ≤ 2 → MovesWithin rules.clearance.late (reach_on rules.clearance axis) t axis) trajs b u reach u_is in
     seen_apart rules.clearance t u p q s w (moment (durations t.segments) p q) first second inside.some (own_some u s w w_some u_lasts) refl (ap (λ (ns : List ℕ). moment ns p q) (u_times ∙ sym t_times))
     (seen_at rules dirs curves trees trajs stands a b t u (moment (durations t.segments) p q) small valid order t_is u_is inside)

@@ -1,4 +1,5 @@
 -- A text without a faulty line says a certificate.
+use Rattle.std.proofs.lemmas.Grind.{common_steps}
 use Rattle.std.proofs.Common.{◌≡◌, inl, inr, ℕ, suc, ◌+◌, ◌^◌, ◌≤◌, ◌<◌, Bool, true, false, cond, ◌==◌, arith, refl, ◌∙◌, ap, List, [], ◌∷◌, length, map, Some, None, All}
 use Rattle.std.specs.List.{slice_split}
 use Rattle.std.specs.Str.{bytes_eq}
@@ -11,7 +12,7 @@ use Rattle.sep_parts.specs.Versions.{IsVersion, known_in}
 use Rattle.sep_parts.specs.Trees.{IsKnown, IsTree, preorder}
 use Rattle.sep_parts.specs.declared.node.Node.{Node}
 use Rattle.sep_certificate.specs.declared.certificate.Certificate.{Certificate}
-use Rattle.sep_certificate.specs.Texts.{Says, bad_from, bad_line, bad_tree, depth_line, is_depth_line, is_tree_line, tree_line, version_line}
+use Rattle.sep_certificate.specs.Texts.{Says, bad_from, bad_line, bad_tree, depth_line, is_tree_line, tree_line, version_line}
 use Rattle.sep_certificate.proofs.Grammar.{told_line}
 use Rattle.sep_certificate.proofs.Readers.{header_from, same_told}
 
@@ -48,38 +49,16 @@ record AreBody (version : ℕ) (ls : List (List ℕ)) (depth : ℕ) (trees : Lis
 
 body_said : (version n : ℕ) → IsVersion version → (ls : List (List ℕ)) → bad_from version n ls ≡ None → (depth : ℕ) × (trees : List (List Node)) × AreBody version ls depth trees
 body_said version n is [] e = cc
-body_said version n is (line ∷ more) e = go (is_depth_line line) refl e
-  where
-    go : (s : Bool) → is_depth_line line ≡ s → cond s (bad_tree version (suc n) more) (Some n) ≡ None → (depth : ℕ) × (trees : List (List Node)) × AreBody version (line ∷ more) depth trees
-    go true p e =
-        let head = header_from line p in
-        let rest = trees_said version (suc n) is more e in (
-          head.0,
-          rest.0,
-          record {
-            small = head.1;
-            lines_are = ap (λ (l : List ℕ). l ∷ more) head.2 ∙ ap (λ (ls : List (List ℕ)). depth_line head.0 ∷ ls) rest.1.lines_are;
-            whole = rest.1.whole;
-            known = rest.1.known;
-          },
-        )
-    go false p e = cc
+body_said version n is (line ∷ more) e = grind (arith, common_steps, cond, header_from, trees_said)
 
 -- the certificate of these lines has no more trees than there are lines
 count_trees : (version depth : ℕ) (ls : List (List ℕ)) (trees : List (List Node)) → ls ≡ depth_line depth ∷ map (tree_line version) trees → length trees < length ls
-count_trees version depth ls trees is =
-    let counted : length (map (tree_line version) trees) ≡ length trees = length-map trees (tree_line version) in
-    let same : length ls ≡ suc (length (map (tree_line version) trees)) = ap (λ (l : List (List ℕ)). length l) is in
-    omega (arith, counted, same)
+count_trees version depth ls trees is = grind (arith, common_steps, length-map)
 
 -- a text has at most one line more than bytes
 parts_few : (parts : List (List ℕ)) → length (lines_of_parts parts) ≤ length parts
 parts_few [] = omega arith
-parts_few (x ∷ []) = one (length x == 0)
-  where
-    one : (b : Bool) → length (cond b [] (x ∷ [])) ≤ 1
-    one true = omega arith
-    one false = omega arith
+parts_few (x ∷ []) = grind (arith, common_steps, cond)
 parts_few (x ∷ y ∷ more) = omega (arith, parts_few (y ∷ more))
 
 lines_few : (text : List ℕ) → length (lines text) ≤ length text + 1

@@ -1,5 +1,6 @@
 -- Bytes that spell trees.
-use Rattle.std.proofs.Common.{◌≡◌, ℕ, zero, suc, ◌+◌, ◌-◌, ◌≤◌, ◌<◌, Bool, true, false, cond, ◌&&◌, ◌==◌, nat_le, arith, refl, sym, ◌∙◌, ap, List, [], ◌∷◌, ◌++◌, append_assoc, append-nil, map, All}
+use Rattle.std.proofs.lemmas.Grind.{common_steps}
+use Rattle.std.proofs.Common.{◌≡◌, ℕ, zero, suc, ◌+◌, ◌-◌, ◌≤◌, ◌<◌, Bool, true, false, cond, ◌==◌, nat_le, arith, refl, sym, ◌∙◌, ap, List, [], ◌∷◌, ◌++◌, append_assoc, append-nil, map, All}
 use Rattle.std.proofs.lemmas.Bool.Decides.{nat_tests}
 use Rattle.std.proofs.lemmas.List.Elements.{All-cons}
 use Rattle.sep_parts.specs.declared.node.Node.{Node}
@@ -37,12 +38,7 @@ abbrev IsSpelling : ℕ → List ℕ → Type 0
 IsSpelling n line = (nodes : List Node) × (line ≡ tree_line 1 nodes) × IsForest n nodes × All (IsKnown 26) nodes
 
 pub letter_told : (b : ℕ) → is_letter b ≡ true → (97 ≤ b) × (b ≤ 122)
-letter_told b e = go (nat_le 97 b) (nat_le b 122) refl refl e
-  where
-    go : (s t : Bool) → nat_le 97 b ≡ s → nat_le b 122 ≡ t → (s && t) ≡ true → (97 ≤ b) × (b ≤ 122)
-    go true true p q e = (grind (arith, nat_tests), grind (arith, nat_tests))
-    go true false p q e = cc
-    go false t p q e = cc
+letter_told b e = grind (arith, common_steps, nat_le, nat_tests)
 
 pub dot_told : (b : ℕ) → (b == 46) ≡ true → b ≡ 46
 dot_told b e = grind (arith, nat_tests)
@@ -89,10 +85,4 @@ all_back (Leaf dir ∷ nodes) = two (back dir) (all_back nodes)
 
 -- the nodes of a line
 pub line_told : (line : List ℕ) → is_spelled 1 line ≡ true → (line ≡ tree_line 1 (map node_of_byte line)) × IsTree (map node_of_byte line) × All (IsKnown 26) (map node_of_byte line)
-line_told line e = go (tree_of_line line e)
-  where
-    go : (nodes : List Node) × (line ≡ tree_line 1 nodes) × IsTree nodes × All (IsKnown 26) nodes →
-        (line ≡ tree_line 1 (map node_of_byte line)) × IsTree (map node_of_byte line) × All (IsKnown 26) (map node_of_byte line)
-    go (nodes, is, tree, known) =
-        let nodes_are : map node_of_byte line ≡ nodes = ap (λ (xs : List ℕ). map node_of_byte xs) is ∙ all_back nodes in
-        rw nodes_are (is, tree, known)
+line_told line e = grind (arith, common_steps, tree_of_line, all_back)

@@ -1,7 +1,8 @@
 -- The law of certificate texts.
-use Rattle.std.proofs.Common.{◌≡◌, ℕ, zero, suc, ◌+◌, ◌-◌, ◌/◌, ◌%◌, ◌≤◌, inl, inr, Bool, true, false, cond, not, ◌&&◌, ◌==◌, slice_index, take, arith, refl, sym, ◌∙◌, ap, subst, List, [], ◌∷◌, ◌++◌, append_assoc, append-nil, length, map, Some, None, All}
-use Rattle.std.specs.List.{flat_map, slice_split}
-use Rattle.std.specs.Str.Lines.{lines, lines_of_parts, strip_carriage_return}
+use Rattle.std.proofs.lemmas.Grind.{common_steps}
+use Rattle.std.proofs.Common.{◌≡◌, ℕ, zero, suc, ◌+◌, ◌/◌, ◌%◌, ◌≤◌, inl, inr, Bool, true, false, cond, not, ◌&&◌, ◌==◌, slice_index, take, arith, refl, sym, ◌∙◌, ap, List, [], ◌∷◌, ◌++◌, append_assoc, append-nil, map, Some, None, All}
+use Rattle.std.specs.List.{flat_map}
+use Rattle.std.specs.Str.Lines.{lines}
 use Rattle.std.proofs.lemmas.Bool.Decides.{nat_tests}
 use Rattle.std.proofs.lemmas.List.Splits.{slice_split_at, length-slice_split}
 use Rattle.std.proofs.lemmas.List.Elements.{All-cons, All-head, All-tail}
@@ -45,11 +46,7 @@ no_return (b ∷ bytes) (suc k) e = no_return bytes k (plain_first (b == 10) (b 
 -- a plain line with its line feed is the first line
 first_plain : (line text : List ℕ) → are_plain line ≡ true → lines ((line ++ 10 ∷ []) ++ text) ≡ line ∷ lines text
 first_plain line text plain =
-    let kept : strip_carriage_return line ≡ line = ap (λ (s : Bool). cond s (take (length line - 1) line) line) (no_return line (length line - 1) plain) in
-    ap lines (append_assoc line (10 ∷ []) text)
-    ∙ ap lines_of_parts (slice_split_at (λ b. b == 10) line 10 text (no_feed line plain) refl)
-    ∙ strip_first line (slice_split (λ b. b == 10) text) (omega (arith, length-slice_split (λ b. b == 10) text))
-    ∙ ap (λ (l : List ℕ). l ∷ lines text) kept
+    grind (arith, common_steps, cond, take, no_return, append_assoc, slice_split_at, no_feed, strip_first, length-slice_split)
 
 plain_byte : (b : ℕ) → 14 ≤ b → ((b == 10) ≡ false) × ((b == 13) ≡ false)
 plain_byte b above = (grind (arith, nat_tests), grind (arith, nat_tests))
@@ -84,10 +81,7 @@ depth_first depth text =
 head_first : (b : Bool) (depth : ℕ) (text : List ℕ) →
     lines (flat_map fed (cond b (depth_line depth ∷ []) (version_line ∷ depth_line depth ∷ [])) ++ text) ≡ cond b (depth_line depth ∷ []) (version_line ∷ depth_line depth ∷ []) ++ lines text
 head_first true depth text = depth_first depth text
-head_first false depth text =
-    ap lines (append_assoc (fed version_line) (fed (depth_line depth) ++ []) text)
-    ∙ first_plain version_line ((fed (depth_line depth) ++ []) ++ text) refl
-    ∙ ap (λ (ls : List (List ℕ)). version_line ∷ ls) (depth_first depth text)
+head_first false depth text = grind (arith, common_steps, append_assoc, first_plain, depth_first)
 
 -- What is written says its certificate.
 written : (cert : Certificate) → IsWhole cert → Says (text_of cert) cert
@@ -111,18 +105,7 @@ no_bad_from version n depth more small none = ap (λ (b : Bool). cond b (bad_tre
 
 -- A text that says a certificate has no faulty line.
 clean : (text : List ℕ) (cert : Certificate) → Says text cert → bad_line (lines text) ≡ None
-clean text cert says = ap bad_line says.lines_are ∙ by_version cert.version says.whole.version (λ n. no_bad cert.version n says.whole.version cert.trees says.whole.whole.trees says.whole.whole.leaves)
-  where
-    by_version : (version : ℕ) → IsVersion version → ((n : ℕ) → bad_tree version n (map (tree_line version) cert.trees) ≡ None) →
-        bad_line (head_lines version cert.depth ++ map (tree_line version) cert.trees) ≡ None
-    by_version version is none = elim is [
-      | inl e ↦
-          subst (λ (v : ℕ). ((n : ℕ) → bad_tree v n (map (tree_line v) cert.trees) ≡ None) → bad_line (head_lines v cert.depth ++ map (tree_line v) cert.trees) ≡ None) (sym e)
-          (λ none. no_bad_from 1 1 cert.depth (map (tree_line 1) cert.trees) says.whole.whole.depth (none 2)) none
-      | inr e ↦
-          subst (λ (v : ℕ). ((n : ℕ) → bad_tree v n (map (tree_line v) cert.trees) ≡ None) → bad_line (head_lines v cert.depth ++ map (tree_line v) cert.trees) ≡ None) (sym e)
-          (λ none. no_bad_from 2 2 cert.depth (map (tree_line 2) cert.trees) says.whole.whole.depth (none 3)) none
-    ]
+clean text cert says = grind (arith, common_steps, no_bad, no_bad_from)
 
 -- ---- one certificate
 trees_back : (back : List ℕ → List Node) (version : ℕ) → ((nodes : List Node) → back (tree_line version nodes) ≡ nodes) → (trees : List (List Node)) → map back (map (tree_line version) trees) ≡ trees
@@ -153,17 +136,11 @@ same_lines back version each depth other trees others same = (
 )
 
 same_cert : (cert other : Certificate) → cert.version ≡ other.version → cert.depth ≡ other.depth → cert.trees ≡ other.trees → cert ≡ other
-same_cert cert other version depth trees =
-    ap (λ (n : ℕ). record { version = n; depth = cert.depth; trees = cert.trees }) version
-    ∙ ap (λ (n : ℕ). record { version = other.version; depth = n; trees = cert.trees }) depth
-    ∙ ap (λ (ts : List (List Node)). record { version = other.version; depth = other.depth; trees = ts }) trees
+same_cert cert other version depth trees = grind (arith, common_steps)
 
 -- a text of one version is none of the other
 differ : (depth : ℕ) (more others : List (List ℕ)) → depth_line depth ∷ more ≡ version_line ∷ others → ⊥
-differ depth more others same = absurd (lengths (length (depth_line depth)) (length version_line) refl refl (ap (λ (ls : List (List ℕ)). length (first_of ls)) same))
-  where
-    lengths : (n m : ℕ) → n ≡ 13 → m ≡ 9 → n ≡ m → ⊥
-    lengths n m first second e = omega (arith, first, second, e)
+differ depth more others same = grind (arith, common_steps, first_of)
 
 -- the lines of two certificates
 abbrev lines_by : ℕ → Certificate → List (List ℕ)

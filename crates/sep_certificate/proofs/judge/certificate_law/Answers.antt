@@ -1,4 +1,5 @@
-use Rattle.sep_parts.specs.Slots.{slots}
+use Rattle.std.proofs.Common.{arith}
+use Rattle.std.proofs.lemmas.Grind.{common_steps}
 use Rattle.sep_certificate.specs.Certificates.{rules_of}
 use Rattle.sep_certificate.proofs.Disjoint.{keeps_disjoint}
 use Rattle.sep_certificate.proofs.Keeping.{keeps}
@@ -9,8 +10,5 @@ pub returns : goal.returns
 returns c = record {
   apart = λ dirs curves clear cert small valid. keeps (rules_of clear cert) dirs curves cert.trees small valid;
   disjoint = λ dirs curves clear cert valid. keeps_disjoint (rules_of clear cert) dirs curves cert.trees valid;
-  exact = λ dirs curves clear cert whole. (
-    valid_of (rules_of clear cert) dirs curves (slots curves.drones curves.cues) 0 cert.trees whole.trees,
-    none_of_valid (rules_of clear cert) dirs curves (slots curves.drones curves.cues) 0 cert.trees,
-  );
+  exact = grind (arith, common_steps, valid_of, none_of_valid);
 }

@@ -1,4 +1,5 @@
-use Rattle.std.proofs.Common.{rules, ◌≡◌, ℕ, ◌<◌, ℤ, length, Option, Some, None, Bool, true, refl, sym, ◌∙◌, ap}
+use Rattle.std.proofs.lemmas.Grind.{common_steps}
+use Rattle.std.proofs.Common.{rules, ◌≡◌, ℕ, ◌<◌, ℤ, length, Option, Some, None, Bool, true, refl, sym, ◌∙◌, ap, arith}
 use Rattle.std.proofs.lemmas.Bool.{false≢true}
 use Rattle.std.specs.Prelude.{is_none}
 use Rattle.std.specs.Option.{option_map}
@@ -31,10 +32,7 @@ pub fails-requires : goal.fails-requires
 fails-requires g c = is_control c.low_control-low.result _ _ c.low_control-low.ensures
 
 pub returns-then-separates-clause-exact : goal.returns-then-separates-clause-exact
-returns-then-separates-clause-exact g c =
-    rw c.in-Leaf.is
-    (sym (ap (λ (o : Option ℕ). option_map (Fails c.args.slot.a c.args.slot.b c.args.slot.cue c.args.level.now.place c.in-Leaf.dir) o)
-    (none_of _ c.separates.result c.separates.ensures c.if-separates.true)))
+returns-then-separates-clause-exact g c = grind (arith, common_steps, none_of)
 
 pub returns-else-separates-clause-exact : goal.returns-else-separates-clause-exact
 returns-else-separates-clause-exact g c =
