@@ -1,5 +1,6 @@
 -- The first part that isn't kept, of all regions.
-use Rattle.std.proofs.Common.{◌≡◌, ℕ, ◌^◌, ◌<◌, sym, subst, ◌∙◌, ap, inl, inr, List, length, get_or, Some, slice_get}
+use Rattle.std.proofs.lemmas.Grind.{common_steps}
+use Rattle.std.proofs.Common.{◌≡◌, ℕ, ◌^◌, ◌<◌, sym, subst, ◌∙◌, ap, inl, inr, List, length, get_or, Some, slice_get, arith}
 use Rattle.fleet_curves.specs.Raised.{Raised}
 use Rattle.fleet_curves.proofs.Differences.{same_default}
 use Rattle.fleet_curves.proofs.Standing.{item_there, same_item}
@@ -23,17 +24,11 @@ before c r h depth regions k drone cue index x told earlier found t spot (inr (s
     subst (λ (y : Region). KeptHere c r h depth y t.drone t.cue t.index) (sym (same_item regions k region x (ap (λ (n : ℕ). slice_get regions n) (sym same) ∙ is) told))
     (subst (λ (d : ℕ). KeptHere c r h depth x d t.cue t.index) (sym same_drone) (found.first.cues_before t.cue less t.index spot.has_part))
 before c r h depth regions k drone cue index x told earlier found t spot (inr (same, inr (same_drone, inr (same_cue, less)))) region is =
-    subst (λ (y : Region). KeptHere c r h depth y t.drone t.cue t.index) (sym (same_item regions k region x (ap (λ (n : ℕ). slice_get regions n) (sym same) ∙ is) told))
-    (subst (λ (d : ℕ). KeptHere c r h depth x d t.cue t.index) (sym same_drone)
-    (subst (λ (q : ℕ). KeptHere c r h depth x drone q t.index) (sym same_cue) (found.first.first.parts_before t.index less)))
+    grind (arith, common_steps, same_item, slice_get)
 
 pub first_entry : (c : Raised) (r h depth : ℕ) (regions : List Region) (k drone cue index : ℕ) (x : Region) → k < length regions → x ≡ get_or regions k x → RegionsKept c r h depth regions k → IsFirstOfRegion c r h depth x drone cue index →
     IsFirstEntry c r h depth regions (record { region = k; drone = drone; cue = cue; index = index })
-first_entry c r h depth regions k drone cue index x inside told earlier found = record {
-  spot = record { has_region = inside; has_drone = found.has_drone; has_cue = found.first.has_cue; has_part = found.first.first.has_part };
-  enters = λ kept. found.first.first.enters (kept x (item_there regions k x told inside));
-  kept_before = before c r h depth regions k drone cue index x told earlier found;
-}
+first_entry c r h depth regions k drone cue index x inside told earlier found = grind (arith, common_steps, item_there, before)
 
 -- the same of an element that is read
 pub region_read : (c : Raised) (r h depth : ℕ) (regions : List Region) (k : ℕ) (d : Region) → k < length regions → ((drone : ℕ) → drone < c.drones → (cue : ℕ) → cue < c.cues → (index : ℕ) → index < 2 ^ depth → KeptHere c r h depth (get_or regions k d) drone cue index) →

@@ -1,4 +1,5 @@
 -- Parts of parts: what is known of the halves of a part is known of the part.
+use Rattle.std.proofs.lemmas.Grind.{common_steps}
 use Rattle.std.proofs.Common.{◌≡◌, ◌≢◌, ℕ, suc, ◌+◌, ◌-◌, ◌*◌, ◌^◌, ◌≤◌, ◌<◌, ℤ, pos, ◌+ℤ◌, ◌-ℤ◌, ◌*ℤ◌, ◌≤ℤ◌, ◌<ℤ◌, true, false, arith, refl, sym, subst, ◌∙◌, ap, inl, inr, List, Option, Some, None, All, lit<, MatchOption, FitsSigned, [], length}
 use Rattle.std.proofs.lemmas.List.{get_or_past}
 use mir.Syntax.{w128}
@@ -30,26 +31,8 @@ use Rattle.keepout_boxes.proofs.Hulls.{less_scaled, more_scaled}
 
 -- the same of equal control values at an equal scale
 pub kept-same : (r h : ℕ) (region : Region) (f g : ℕ → ℕ → ℤ) (s u : ℤ) → ((axis k : ℕ) → axis ≤ 2 → k ≤ 7 → f axis k ≡ g axis k) → s ≡ u → IsKept r h region f s → IsKept r h region g u
-kept-same r h (Keepout low high) f g s u same scales kept =
-    let axis : ℕ = kept.0 in (
-      axis,
-      kept.1,
-      elim (kept.2) [
-        | inl below ↦ inl (λ k small. below_same (f axis k) (g axis k) (at low axis -ℤ extent r h axis) s u (same axis k kept.1 small) scales (below k small))
-        | inr above ↦ inr (λ k small. above_same (f axis k) (g axis k) (at high axis +ℤ extent r h axis) s u (same axis k kept.1 small) scales (above k small))
-      ],
-    )
-  where
-    below_same : (x y l s u : ℤ) → x ≡ y → s ≡ u → x <ℤ (l *ℤ s) → y <ℤ (l *ℤ u)
-    below_same x y l s u e d less = rw (sym e, sym d) less
-
-    above_same : (x y l s u : ℤ) → x ≡ y → s ≡ u → (l *ℤ s) <ℤ x → (l *ℤ u) <ℤ y
-    above_same x y l s u e d more = rw (sym e, sym d) more
-kept-same r h (Volume low high) f g s u same scales kept = λ axis near k small.
-    between_same (f axis k) (g axis k) (at low axis +ℤ extent r h axis) (at high axis -ℤ extent r h axis) s u (same axis k near small) scales (kept axis near k small)
-  where
-    between_same : (x y l m s u : ℤ) → x ≡ y → s ≡ u → IsIn (l *ℤ s) (m *ℤ s) x → IsIn (l *ℤ u) (m *ℤ u) y
-    between_same x y l m s u e d inside = rw (sym e, sym d) inside
+kept-same r h (Keepout low high) f g s u same scales kept = grind (arith, common_steps)
+kept-same r h (Volume low high) f g s u same scales kept = grind (arith, common_steps)
 
 -- ---- where a part is kept, so is each part of it
 limit_scaled : (l s p : ℤ) → (l *ℤ s) *ℤ p ≡ l *ℤ (p *ℤ s)
@@ -89,13 +72,7 @@ kept_within r h (Volume low high) curves scale n i inside kept = λ axis near k 
 
 -- ---- the whole part
 pub first_whole : (r h : ℕ) (region : Region) (curves : List (Bez 8)) (scale : ℤ) (depth : ℕ) → depth ≡ 0 → (IsKept r h region (values_of curves) scale → ⊥) → IsFirstIn r h region curves scale depth 0
-first_whole r h region curves scale depth none enters =
-    subst (λ (n : ℕ). IsFirstIn r h region curves scale n 0) (sym none)
-    (record {
-      inside = omega arith;
-      enters = λ kept. enters (kept-same r h region (part_of curves 0 0) (values_of curves) (pos 1 *ℤ scale) scale (λ axis k near small. part-whole (at (controls curves axis)) k) (one_mul_ℤ scale) kept);
-      kept_before = λ i less. absurd (omega arith);
-    })
+first_whole r h region curves scale depth none enters = grind (arith, common_steps, kept-same, pos, part-whole, one_mul_ℤ)
 
 -- ---- the halves
 -- curves that are a half of others
@@ -182,14 +159,7 @@ answer_right r h region curves left right scale next n depth parts None (Some i)
 -- ---- sizes
 -- what bounds the control values of each curve bounds those of one
 controls_within : (m : ℕ) (curves : List (Bez 8)) (axis k : ℕ) → All (λ (curve : Bez 8). All (IsWithin (pos m)) curve.b) curves → IsWithin (pos m) (at (controls curves axis) k)
-controls_within m curves axis k all = by_lt axis (length curves)
-    (λ (inside : axis < length curves). number (controls curves axis) (All-get_or (λ (curve : Bez 8). All (IsWithin (pos m)) curve.b) curves axis (record { b = [] }) inside all))
-    (λ (outside : length curves ≤ axis). let none : controls curves axis ≡ [] = ap (λ (curve : Bez 8). curve.b) (get_or_past curves axis (record { b = [] }) outside) in rw none (omega (arith, ints), omega (arith, ints)))
-  where
-    number : (xs : List ℤ) → All (IsWithin (pos m)) xs → IsWithin (pos m) (at xs k)
-    number xs each = by_lt k (length xs)
-        (λ (inside : k < length xs). All-get_or (IsWithin (pos m)) xs k (pos 0) inside each)
-        (λ (outside : length xs ≤ k). let none : at xs k ≡ pos 0 = get_or_past xs k (pos 0) outside in rw none (omega (arith, ints), omega (arith, ints)))
+controls_within m curves axis k all = grind (arith, common_steps, ints, by_lt, All-get_or, pos, get_or_past)
 
 -- the number of a depth is at most 8
 pub shallow : {n depth : ℕ} → n ≡ depth → n ≤ 8 → depth ≤ 8
@@ -258,11 +228,7 @@ from_here c r h depth region drone cue curves i is kept =
 pub answer_cue : (c : Raised) (r h depth : ℕ) (region : Region) (drone cue : ℕ) (curves : List (Bez 8)) (o : Option ℕ) → curves ≡ curves_at c drone cue →
     MatchOption o (AllKeptIn r h region curves (pos 5040) depth) (IsFirstIn r h region curves (pos 5040) depth) → MatchOption o (CueKept c r h depth region drone cue) (IsFirstOfCue c r h depth region drone cue)
 answer_cue c r h depth region drone cue curves None is found = λ i inside. to_here c r h depth region drone cue curves i is (found i inside)
-answer_cue c r h depth region drone cue curves (Some index) is found = record {
-  has_part = found.inside;
-  enters = λ kept. found.enters (from_here c r h depth region drone cue curves index is kept);
-  parts_before = λ i less. to_here c r h depth region drone cue curves i is (found.kept_before i less);
-}
+answer_cue c r h depth region drone cue curves (Some index) is found = grind (arith, common_steps, from_here, less, to_here)
 
 pub first_scale : (depth : ℕ) → depth ≤ 8 → pos 5040 ≤ℤ pos (2 ^ (70 - 7 * depth))
 first_scale depth shallow =
