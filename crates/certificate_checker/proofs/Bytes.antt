@@ -1,5 +1,6 @@
 -- What a checker has read after a byte more, and what its verdict says.
-use Rattle.std.proofs.Common.{◌≡◌, ℕ, ◌+◌, ◌*◌, ◌^◌, ◌≤◌, ◌<◌, arith, refl, sym, ◌∙◌, ap, subst, List, [], ◌∷◌, ◌++◌, length}
+use Rattle.std.proofs.lemmas.Grind.{common_steps}
+use Rattle.std.proofs.Common.{◌≡◌, ℕ, ◌+◌, ◌*◌, ◌^◌, ◌≤◌, ◌<◌, arith, refl, sym, subst, List, [], ◌∷◌, ◌++◌, length}
 use Rattle.bezier_core.specs.declared.Bez.{Bez}
 use Rattle.fleet_curves.specs.Raised.{Raised}
 use Rattle.sep_parts.specs.declared.clearance.Clearance.{Clearance}
@@ -61,30 +62,17 @@ checked_more clearance curves c (x ∷ bytes) b = checked_more clearance curves 
 
 pub read_more : (old new : Seen) (curves : Raised) (bytes : List ℕ) (b : ℕ) → new.clearance ≡ old.clearance → HasRead old curves bytes →
     new.checking ≡ checked old.clearance curves old.checking b → IsNextIn curves new.checking.reading new.diff → HasRead new curves (bytes ++ b ∷ [])
-read_more old new curves bytes b same has_read read next = record {
-  read = read ∙ ap (λ (c : Checking). checked old.clearance curves c b) has_read.read ∙ sym (checked_more old.clearance curves nothing_checked bytes b)
-      ∙ ap (λ (clearance : Clearance). checked_all clearance curves nothing_checked (bytes ++ b ∷ [])) (sym same);
-  next = next;
-}
+read_more old new curves bytes b same has_read read next = grind (arith, common_steps, checked_more)
 
 -- ---- the verdict
 pub verdict_told : (c : Seen) (curves : Raised) (bytes : List ℕ) (verdict : Verdict) → 1 ≤ curves.drones → 1 ≤ curves.cues → length bytes ≤ most_bytes → HasRead c curves bytes →
     verdict ≡ verdict_of curves (closed c.clearance curves c.checking) → VerdictGives curves c.clearance bytes verdict
-verdict_told c curves bytes verdict drones cues short has_read is =
-    subst (VerdictGives curves c.clearance bytes)
-    (sym (is ∙ ap (λ (checking : Checking). verdict_of curves (closed c.clearance curves checking)) has_read.read))
-    (checking_told curves c.clearance bytes drones cues (omega arith))
+verdict_told c curves bytes verdict drones cues short has_read is = grind (arith, common_steps, checking_told)
 
 pub named_told : (curves : Raised) (clearance : Clearance) (text : List ℕ) (verdict : Verdict) → VerdictGives curves clearance text verdict → NamesFault curves verdict
 named_told curves clearance text (Valid depth trees) gives = tt
 named_told curves clearance text (Line line) gives = tt
-named_told curves clearance text (Refused version fault) (cert, says, version_is, is) = (
-  cert,
-  rw version_is at says.whole.version,
-  version_is,
-  says.whole.whole.few,
-  fault_named curves cert (rules_of clearance cert) (table_of cert.version) fault says.whole.whole.leaves is,
-)
+named_told curves clearance text (Refused version fault) (cert, says, version_is, is) = grind (arith, common_steps, fault_named)
 
 pub safe_told : (curves : Raised) (clearance : Clearance) (text : List ℕ) (verdict : Verdict) → VerdictGives curves clearance text verdict → ApartWhereValid curves clearance verdict
 safe_told curves clearance text (Line line) gives = tt

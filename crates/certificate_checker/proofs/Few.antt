@@ -1,44 +1,24 @@
 -- The numbers that are kept of a text are small: a byte adds at most two trees that are still to come, three lines and one whole tree.
+use Rattle.std.proofs.lemmas.Grind.{common_steps}
 use Rattle.std.proofs.Common.{◌≡◌, ℕ, zero, suc, ◌+◌, ◌*◌, ◌≤◌, ◌==◌, Bool, true, false, cond, nat_lt, bytes_eq, arith, subst, List, [], ◌∷◌, length, ℤ, Option, Some, None, slice_index, ◌-◌}
-use Rattle.halving.specs.declared.Place.{Place}
 use Rattle.sep_parts.specs.declared.clearance.Clearance.{Clearance}
 use Rattle.sep_parts.specs.declared.node.Node.{Node}
 use Rattle.sep_parts.specs.declared.node.Node.TheVariants.{Split, Leaf}
 use Rattle.sep_parts.specs.declared.rules.Rules.{Rules}
-use Rattle.fleet_curves.specs.Raised.{Raised, difference}
-use Rattle.sep_parts.specs.Slots.{following}
+use Rattle.fleet_curves.specs.Raised.{Raised}
 use Rattle.sep_parts.specs.Versions.{table_of}
-use Rattle.sep_certificate.specs.declared.certificate.CertFault.{CertFault}
-use Rattle.sep_certificate.specs.declared.certificate.CertFault.TheVariants.{Extra}
-use Rattle.sep_certificate.specs.Certificates.{node_fault}
 use Rattle.sep_certificate.specs.Texts.{is_depth_line, is_digit, is_letter, is_wide_leaf, two_digits, version_line}
-use Rattle.certificate_checker.specs.Checking.{Checking, Clear, DepthLine, Faulty, FirstLine, Judged, Reading, TreeLine, TreesRead, Wrong, after_node, at_places, before_tree, byte_read, checked, checked_all, depth_read, digit_read, first_tree, fresh, letter_read, line_byte, line_read, node_read, rules_in, with_node, with_return, with_tree}
+use Rattle.certificate_checker.specs.Checking.{Checking, Clear, DepthLine, Faulty, FirstLine, Judged, Reading, TreeLine, TreesRead, Wrong, byte_read, checked, checked_all, depth_read, digit_read, first_tree, fresh, letter_read, line_byte, line_read, node_read, rules_in, with_node, with_return, with_tree}
 use Rattle.certificate_checker.specs.Judgments.{AreFew, AreWithin, HasAtMost}
 
 -- ---- trees
 few_node : (rules : Rules) (dirs : List (List ℤ)) (curves : Raised) (most : ℕ) (j : Judged) (node : Node) → HasAtMost most j → HasAtMost most (with_node rules dirs curves j node)
 few_node rules dirs curves most (Wrong fault) node few = tt
-few_node rules dirs curves most (Clear slot places n) node few = by_slot (nat_lt slot.b curves.drones)
-  where
-    by_fault : (place : Place) (rest : List Place) (o : Option CertFault) → HasAtMost most (after_node slot place rest n node o)
-    by_fault place rest None = few
-    by_fault place rest (Some fault) = tt
-
-    by_places : (places : List Place) → HasAtMost most (at_places rules dirs (difference curves slot.a slot.b slot.cue) slot places n node)
-    by_places [] = few
-    by_places (place ∷ rest) = by_fault place rest (node_fault rules dirs (difference curves slot.a slot.b slot.cue) slot place node)
-
-    by_slot : (s : Bool) → HasAtMost most (cond s (at_places rules dirs (difference curves slot.a slot.b slot.cue) slot places n node) (Clear slot places n))
-    by_slot true = by_places places
-    by_slot false = few
+few_node rules dirs curves most (Clear slot places n) node few = grind (arith, common_steps, nat_lt, cond)
 
 few_tree : (curves : Raised) (most : ℕ) (j : Judged) → HasAtMost most j → HasAtMost (suc most) (with_tree curves j)
 few_tree curves most (Wrong fault) few = tt
-few_tree curves most (Clear slot places n) few = by_slot (nat_lt slot.b curves.drones)
-  where
-    by_slot : (s : Bool) → HasAtMost (suc most) (cond s (before_tree (following curves.drones curves.cues slot) (suc n)) (Wrong (Extra n)))
-    by_slot true = omega (arith, few)
-    by_slot false = tt
+few_tree curves most (Clear slot places n) few = grind (arith, common_steps, nat_lt, cond)
 
 pub few_wider : (m n : ℕ) (j : Judged) → m ≤ n → HasAtMost m j → HasAtMost n j
 few_wider m n (Wrong fault) less few = tt

@@ -1,9 +1,10 @@
 -- The lines before the trees, of which fifteen bytes are kept.
+use Rattle.std.proofs.lemmas.Grind.{common_steps}
 use Rattle.sep_parts.specs.declared.clearance.Clearance.{Clearance}
 use Rattle.std.proofs.Common.{◌≡◌, ℕ, ◌+◌, ◌≤◌, ◌<◌, Bool, true, false, cond, nat_lt, bytes_eq, arith, refl, sym, ◌∙◌, ap, List, [], ◌∷◌, ◌++◌, append_assoc, append-nil, length, length-append}
 use Rattle.std.proofs.lemmas.Bool.Decides.{nat_tests}
 use Rattle.fleet_curves.specs.Raised.{Raised}
-use Rattle.sep_certificate.specs.Texts.{depth_line, is_depth_line, version_line}
+use Rattle.sep_certificate.specs.Texts.{is_depth_line, version_line}
 use Rattle.sep_certificate.proofs.Readers.{header_from, same_told}
 use Rattle.certificate_checker.specs.Checking.{FirstLine, DepthLine, Faulty, kept, line_read, depth_read}
 use Rattle.certificate_checker.proofs.Folds.{bytes_read}
@@ -49,26 +50,10 @@ kept_long head (b ∷ bytes) few many =
     go false p one same = let full : 15 ≤ length head = grind (arith, nat_tests) in same (omega arith)
 
 no_version : (line : List ℕ) → 14 ≤ length line → bytes_eq line version_line ≡ false
-no_version line long = go (bytes_eq line version_line) refl
-  where
-    go : (s : Bool) → bytes_eq line version_line ≡ s → s ≡ false
-    go false p = refl
-    go true p = absurd (nine (length line) (length version_line) refl (ap (λ (bytes : List ℕ). length bytes) (same_told line version_line p)) long)
-      where
-        nine : (n m : ℕ) → m ≡ 9 → n ≡ m → 14 ≤ n → ⊥
-        nine n m m_is e long = omega (arith, m_is, e, long)
+no_version line long = grind (arith, common_steps, bytes_eq, same_told)
 
 no_depth : (line : List ℕ) → 14 ≤ length line → is_depth_line line ≡ false
-no_depth line long = go (is_depth_line line) refl
-  where
-    go : (s : Bool) → is_depth_line line ≡ s → s ≡ false
-    go false p = refl
-    go true p =
-        let found = header_from line p in
-        absurd (thirteen (length line) (length (depth_line found.0)) refl (ap (λ (bytes : List ℕ). length bytes) found.2) long)
-      where
-        thirteen : (n m : ℕ) → m ≡ 13 → n ≡ m → 14 ≤ n → ⊥
-        thirteen n m m_is e long = omega (arith, m_is, e, long)
+no_depth line long = grind (arith, common_steps, header_from)
 
 -- what is kept of a line is judged as the line
 module _ (curves : Raised) where

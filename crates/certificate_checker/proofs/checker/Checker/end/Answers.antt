@@ -1,3 +1,4 @@
+use Rattle.std.proofs.lemmas.Grind.{common_steps}
 use Rattle.std.proofs.Common.{◌≡◌, arith, sym, subst}
 use Rattle.certificate_checker.specs.Bytes.{Seen, most_bytes}
 use Rattle.certificate_checker.specs.Checking.{closed, verdict_of}
@@ -11,9 +12,7 @@ verdict-requires-clause-few c =
     (few_of c.args.self.now c.args.curves.now c.requires.0 c.requires.1 c.requires.2)
 
 pub returns-clause-gives : goal.returns-clause-gives
-returns-clause-gives c = λ bytes short has_read.
-    verdict_told c.args.self.now c.args.curves.now bytes c.verdict.result (omega arith) (omega arith) short has_read
-    (subst (λ (s : Seen). c.verdict.result ≡ verdict_of c.args.curves.now (closed s.clearance c.args.curves.now s.checking)) c.self.view_is c.verdict.ensures.verdict)
+returns-clause-gives c = grind (arith, common_steps, verdict_told)
 
 pub returns-clause-named : goal.returns-clause-named
 returns-clause-named c =
