@@ -110,11 +110,10 @@ impl Judging {
         ensures judged { self.new.judged ≡ before_tree slot trees }
         ensures next { IsNext curves.now self.new.judged self.new.diff }
     {
-        let diff = difference(curves, slot);
-        diff.raised_law();
+        self.diff = difference(curves, slot);
+        self.diff.raised_law();
         self.waiting.clear();
-        self.waiting.begin(&diff);
-        self.diff = diff;
+        self.waiting.begin(&self.diff);
         self.slot = slot;
         self.trees = trees;
         self.fault = None;

@@ -3,4 +3,4 @@ use Rattle.certificate_checker.proofs.judging.Judging.go_before.Goals as goal
 
 pub invariant_of-self : goal.invariant_of-self
 invariant_of-self c =
-    first_stack c.difference-diff.result c.begin.new.self c.raised_law.ensures.axes c.raised_law.ensures.sizes c.begin.ensures
+    first_stack c.difference-self-inside.result c.begin.new.self c.raised_law.ensures.axes c.raised_law.ensures.sizes c.begin.ensures
