@@ -1,5 +1,6 @@
 -- The laws of `boxes`.
-use Rattle.std.proofs.Common.{◌≡◌, ℕ, List, length, Option, Some, None, Result, Ok, Err, refl, sym, ap, subst, ◌∙◌}
+use Rattle.std.proofs.lemmas.Grind.{common_steps}
+use Rattle.std.proofs.Common.{◌≡◌, ℕ, List, length, Option, Some, None, Result, Ok, Err, refl, sym, ap, subst, ◌∙◌, arith}
 use Rattle.std.specs.Io.KnownBytes.{Appends}
 use Rattle.choreo_show.specs.Plain.{PlainShow}
 use Rattle.fleet_curves.specs.Raised.{raised_of}
@@ -72,16 +73,7 @@ regions_written None s depth cut o regions (others, j, reads, judges, ends) done
     ∙ ap (λ (rs : List Region). kept_line (length rs)) (regions_given_one (regions_of cut.second) others regions reads says)
 
 stays : (depth : ℕ) (input : List ℕ) (old new : Option (List ℕ)) (o : Outcome) → IsSafe (boxes_verb depth) (cut_of input) o → Appends old new o.output → StaysInRegions input old new
-stays depth input old new o safe appended =
-    record {
-      s = safe.s;
-      regions = safe.promised.0;
-      stands = safe.stands;
-      says = safe.promised.1;
-      kept = safe.promised.2;
-      written = subst (λ (output : List ℕ). Appends old new output)
-          (regions_written (second_refusal most_text (faulty_region (regions_of (cut_of input).second)) (cut_of input)) safe.s depth (cut_of input) o safe.promised.0 safe.gives safe.done safe.promised.1) appended;
-    }
+stays depth input old new o safe appended = grind (arith, common_steps, regions_written)
 
 -- ---- the laws
 

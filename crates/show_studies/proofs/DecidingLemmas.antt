@@ -1,5 +1,6 @@
 -- Drones are judged for any regions in some way: each part is kept, or there is a first one that isn't.
-use Rattle.std.proofs.Common.{◌≡◌, ◌⊎◌, inl, inr, ℕ, zero, suc, ◌*◌, ◌^◌, ◌<◌, ◌≤◌, ℤ, pos, ◌+ℤ◌, ◌-ℤ◌, ◌*ℤ◌, ◌≤ℤ◌, ◌<ℤ◌, List, length, Option, Some, None, refl, sym, subst, arith}
+use Rattle.std.proofs.lemmas.Grind.{common_steps}
+use Rattle.std.proofs.Common.{◌≡◌, ◌⊎◌, inl, inr, ℕ, zero, suc, ◌*◌, ◌^◌, ◌<◌, ◌≤◌, ℤ, pos, ◌+ℤ◌, ◌-ℤ◌, ◌*ℤ◌, ◌≤ℤ◌, ◌<ℤ◌, List, length, Option, Some, None, refl, subst, arith}
 use Rattle.std.specs.Prelude.{slice_get}
 use Rattle.std.proofs.lemmas.Int.{by_lt_z, ints}
 use Rattle.fleet_math.specs.Bernstein.{at}
@@ -9,7 +10,7 @@ use Rattle.keepout_boxes.specs.declared.judging.Judged.{Judged}
 use Rattle.keepout_boxes.specs.declared.judging.Judged.TheVariants.{Kept, Enters}
 use Rattle.keepout_boxes.specs.declared.region.Region.{Region}
 use Rattle.keepout_boxes.specs.declared.region.Region.TheVariants.{Keepout, Volume}
-use Rattle.keepout_boxes.specs.Kept.{AllAbove, AllBelow, AllBetween, IsBefore, IsKept, IsSpot, JudgeGives, KeptAt, Spot, extent, part_of}
+use Rattle.keepout_boxes.specs.Kept.{AllAbove, AllBelow, AllBetween, IsKept, JudgeGives, KeptAt, Spot, extent, part_of}
 use Rattle.show_studies.proofs.StudyLemmas.{compared}
 
 -- ---- what can be decided
@@ -26,12 +27,7 @@ record First (n : ℕ) (P : ℕ → Type 0) : Type 0 where
   before : (k : ℕ) → k < where_is → P k
 
 below_or_last : (n : ℕ) (P : ℕ → Type 0) (k : ℕ) → k < suc n → ((j : ℕ) → j < n → P j) → P n → P k
-below_or_last n P k below all last = by_order (compared k n)
-  where
-    by_order : (k < n) ⊎ ((k ≡ n) ⊎ (n < k)) → P k
-    by_order (inl less) = all k less
-    by_order (inr (inl same)) = subst P (sym same) last
-    by_order (inr (inr above)) = absurd (omega (arith, below, above))
+below_or_last n P k below all last = grind (arith, common_steps, compared)
 
 -- it holds of all numbers below n, or there is a first one of which it doesn't
 all_or_first : (n : ℕ) (P : ℕ → Type 0) → ((k : ℕ) → Is (P k)) → ((k : ℕ) → k < n → P k) ⊎ First n P
@@ -152,23 +148,7 @@ region_decided c r h depth regions region =
 entered : (c : Raised) (r h depth : ℕ) (regions : List Region) (a : First (length regions) (RegionKept c r h depth regions)) (b : First c.drones (DroneKept c r h depth regions a.where_is))
     (u : First c.cues (CueKept c r h depth regions a.where_is b.where_is)) (i : First (2 ^ depth) (PartKept c r h depth regions a.where_is b.where_is u.where_is)) →
     JudgeGives c r h depth regions (Enters a.where_is b.where_is u.where_is i.where_is)
-entered c r h depth regions a b u i = record {
-  spot = record { has_region = a.below; has_drone = b.below; has_cue = u.below; has_part = i.below };
-  enters = i.fails;
-  kept_before = before;
-}
-  where
-    before : (t : Spot) → IsSpot c regions depth t → IsBefore t (spot a.where_is b.where_is u.where_is i.where_is) → KeptAt c r h depth regions t
-    before t is (inl less) = a.before t.region less t.drone is.has_drone t.cue is.has_cue t.index is.has_part
-    before t is (inr (same, inl less)) =
-        subst (λ (region : ℕ). PartKept c r h depth regions region t.drone t.cue t.index) (sym same) (b.before t.drone less t.cue is.has_cue t.index is.has_part)
-    before t is (inr (same, inr (drone, inl less))) =
-        subst (λ (region : ℕ). PartKept c r h depth regions region t.drone t.cue t.index) (sym same)
-        (subst (λ (d : ℕ). PartKept c r h depth regions a.where_is d t.cue t.index) (sym drone) (u.before t.cue less t.index is.has_part))
-    before t is (inr (same, inr (drone, inr (cue, less)))) =
-        subst (λ (region : ℕ). PartKept c r h depth regions region t.drone t.cue t.index) (sym same)
-        (subst (λ (d : ℕ). PartKept c r h depth regions a.where_is d t.cue t.index) (sym drone)
-        (subst (λ (k : ℕ). PartKept c r h depth regions a.where_is b.where_is k t.index) (sym cue) (i.before t.index less)))
+entered c r h depth regions a b u i = grind (arith, common_steps, spot)
 
 -- drones are judged in some way
 pub judge_some : (c : Raised) (r h depth : ℕ) (regions : List Region) → (j : Judged) × JudgeGives c r h depth regions j

@@ -1,4 +1,5 @@
 -- What `dynamics` answers, drone by drone.
+use Rattle.std.proofs.lemmas.Grind.{common_steps}
 use Rattle.std.proofs.Common.{◌≡◌, ℕ, ◌+◌, ◌<◌, ◌≤◌, List, [], ◌∷◌, ◌++◌, All, length, get_or, drop, Option, Some, None, Result, Ok, Err, IfOk, sym, ap, subst, ◌∙◌, arith, append_assoc}
 use Rattle.std.specs.declared.alloc.AllocError.{AllocError}
 use Rattle.std.proofs.lemmas.List.{drop_all, drop_more}
@@ -79,11 +80,7 @@ pub motions_of_show : (f : Fitted) (s : PlainShow) (depth : ℕ) (accel jump : O
     IfOk result (λ a. outcome_of a ≡ refused_or (excess_in (limits_of accel jump) depth s) (dynamics_of depth s))
 motions_of_show f s depth accel jump limits times sent names (Err e) is limits_are times_are sent_are names_are gives = tt
 motions_of_show f s depth accel jump limits times sent names (Ok a) is limits_are times_are sent_are names_are gives =
-    gives
-    ∙ ap (λ (l : Limits). refused_or (first_excess_of l depth times sent names) (dynamics_text depth times sent names)) limits_are
-    ∙ ap (λ (ms : List ℕ). refused_or (first_excess_of (limits_of accel jump) depth ms sent names) (dynamics_text depth ms sent names)) times_are
-    ∙ ap (λ (ts : List Traj). refused_or (first_excess_of (limits_of accel jump) depth (times_of s) ts names) (dynamics_text depth (times_of s) ts names)) (sent_are ∙ is.sent)
-    ∙ ap (λ (ns : List Name). refused_or (first_excess_of (limits_of accel jump) depth (times_of s) (sent_of s) ns) (dynamics_text depth (times_of s) (sent_of s) ns)) (names_are ∙ is.names)
+    grind (arith, common_steps, times_are)
 
 pub keeps_of_show : (f : Fitted) (s : PlainShow) (depth : ℕ) (accel jump : Option ℕ) (limits : Limits) (sent : List Traj) (result : Result Answer AllocError) →
     IsFitted f s → limits ≡ limits_of accel jump → sent ≡ f.sent →

@@ -1,10 +1,10 @@
 -- What `boxes` answers, from what its steps do.
-use Rattle.std.proofs.Common.{◌≡◌, ℕ, ◌≤◌, Bool, false, cond, nat_lt, List, length, Option, Some, None, Result, Ok, Err, IfOk, refl, sym, ap, subst}
+use Rattle.std.proofs.lemmas.Grind.{common_steps}
+use Rattle.std.proofs.Common.{◌≡◌, ℕ, ◌≤◌, Bool, false, cond, nat_lt, List, length, Option, Some, None, Result, Ok, Err, IfOk, refl, arith}
 use Rattle.std.specs.Option.{option_map, option_or}
 use Rattle.std.specs.declared.alloc.AllocError.{AllocError}
 use Rattle.std.proofs.lemmas.Bool.{le-ltb}
 use Rattle.choreo_show.specs.Plain.{PlainShow}
-use Rattle.choreo_show.specs.declared.show.Settings.{Settings}
 use Rattle.keepout_boxes.specs.declared.region.Region.{Region}
 use Rattle.keepout_boxes.specs.Kept.{KeepClear}
 use Rattle.keepout_boxes.specs.Regions.{regions_of}
@@ -17,7 +17,7 @@ use Rattle.show_judge.specs.Answers.{outcome_of}
 use Rattle.fleet_math.specs.Limits.{most_text}
 use Rattle.show_studies.specs.Boxes.{RegionsGive, aside_of, faulty_region, upwards_of}
 use Rattle.show_judge.specs.Refused.{second_refusal}
-use Rattle.show_judge.specs.Shows.{Cut, marker_number, sent_of}
+use Rattle.show_judge.specs.Shows.{Cut, sent_of}
 use Rattle.show_studies.specs.Steps.{EndsRegions}
 
 -- so each drone of its show keeps to each region of the text
@@ -25,11 +25,7 @@ pub regions_promised : (f : Fitted) (s : PlainShow) (cut : Cut) (regions : List 
     IfOk result (λ a. (outcome_of a).status ≡ 0 → KeepClear (aside_of f.settings) (upwards_of f.settings) regions f.sent) →
     IfOk result (λ a. (outcome_of a).status ≡ 0 → (rs : List Region) × (regions_of cut.second ≡ Ok rs) × KeepClear (aside_of s.settings) (upwards_of s.settings) rs (sent_of s))
 regions_promised f s cut regions (Err e) is reads clear = tt
-regions_promised f s cut regions (Ok a) is reads clear = λ done. (
-  regions,
-  reads,
-  subst (λ (e : Settings). KeepClear (aside_of e) (upwards_of e) regions (sent_of s)) is.settings (subst (KeepClear (aside_of f.settings) (upwards_of f.settings) regions) is.sent (clear done)),
-)
+regions_promised f s cut regions (Ok a) is reads clear = grind (arith, common_steps)
 
 nothing_refused : (too_long marked : Bool) (r q : Refusal) (line : Option ℕ) → too_long ≡ false → line ≡ None → marked ≡ false →
     cond too_long (Some r) (option_or (option_map (λ (n : ℕ). refusal.SecondLine n) line) (cond marked (Some q) None)) ≡ None
@@ -40,8 +36,4 @@ pub regions_give : (s : PlainShow) (depth : ℕ) (cut : Cut) (regions : List Reg
     regions_of cut.second ≡ Ok regions → cut.is_second_marked ≡ false → IfOk result (λ a. EndsRegions s depth regions (outcome_of a)) →
     IfOk result (λ a. RegionsGive (second_refusal most_text (faulty_region (regions_of cut.second)) cut) s depth cut (outcome_of a))
 regions_give s depth cut regions (Err e) short is unmarked gives = tt
-regions_give s depth cut regions (Ok a) short is unmarked gives =
-    let none : second_refusal most_text (faulty_region (regions_of cut.second)) cut ≡ None =
-    nothing_refused (nat_lt most_text (length cut.second)) cut.is_second_marked refusal.SecondTooLarge (refusal.SecondLine (marker_number cut.second))
-    (faulty_region (regions_of cut.second)) (le-ltb most_text (length cut.second) short) (ap faulty_region is) unmarked in
-    subst (λ (why : Option Refusal). RegionsGive why s depth cut (outcome_of a)) (sym none) (regions, gives.judged, is, gives.gives, gives.is)
+regions_give s depth cut regions (Ok a) short is unmarked gives = grind (arith, common_steps, nothing_refused, nat_lt, le-ltb)

@@ -1,5 +1,6 @@
 -- What `speed` answers, drone by drone.
-use Rattle.std.proofs.Common.{◌≡◌, ℕ, zero, suc, ◌+◌, ◌<◌, ◌≤◌, Bool, true, false, cond, nat_lt, pos, List, ◌∷◌, ◌++◌, All, length, get_or, drop, Option, Some, None, Result, Ok, Err, IfOk, IfSome, refl, sym, ap, subst, ◌∙◌, arith, append_assoc}
+use Rattle.std.proofs.lemmas.Grind.{common_steps}
+use Rattle.std.proofs.Common.{◌≡◌, ℕ, zero, suc, ◌+◌, ◌<◌, ◌≤◌, cond, nat_lt, pos, List, ◌∷◌, ◌++◌, All, length, get_or, drop, Option, Some, None, Result, Ok, Err, IfOk, IfSome, refl, sym, ap, subst, ◌∙◌, arith, append_assoc}
 use Rattle.std.specs.Option.{option_or}
 use Rattle.std.specs.declared.alloc.AllocError.{AllocError}
 use Rattle.std.proofs.lemmas.Bool.Decides.{nat_tests}
@@ -8,7 +9,6 @@ use Rattle.std.proofs.lemmas.List.Elements.{All-cons, All-nil}
 use Rattle.choreo_lines.specs.Name.{Name}
 use Rattle.choreo_show.specs.Plain.{PlainShow}
 use Rattle.refusals.specs.declared.refusal.Refusal.{Refusal}
-use Rattle.refusals.specs.declared.refusal.Refusal.TheVariants as refusal
 use Rattle.show_plan.specs.declared.fitted.Fitted.{Fitted}
 use Rattle.show_plan.specs.Fitting.{IsFitted}
 use Rattle.speed_bound.specs.Speed.{speed}
@@ -30,10 +30,7 @@ left_from F sent names d t name within inside t_is name_is =
 pub speeds_next : (depth : ℕ) (text more : List ℕ) (sent : List Traj) (names : List Name) (d : ℕ) (t : Traj) (name : Name) → d < length sent → d < length names →
     t ≡ get_or sent d t → name ≡ get_or names d name → more ≡ text ++ speed_of_drone depth t name →
     more ++ speed_text depth (drop (d + 1) sent) (drop (d + 1) names) ≡ text ++ speed_text depth (drop d sent) (drop d names)
-speeds_next depth text more sent names d t name within inside t_is name_is more_is =
-    ap (λ (xs : List ℕ). xs ++ speed_text depth (drop (d + 1) sent) (drop (d + 1) names)) more_is
-    ∙ append_assoc text (speed_of_drone depth t name) (speed_text depth (drop (d + 1) sent) (drop (d + 1) names))
-    ∙ ap (λ (xs : List ℕ). text ++ xs) (sym (left_from (speed_text depth) sent names d t name within inside t_is name_is))
+speeds_next depth text more sent names d t name within inside t_is name_is more_is = grind (arith, common_steps, drop, append_assoc, left_from)
 
 pub after_none : (a b : Option Refusal) → a ≡ None → option_or a b ≡ b
 after_none a b none = rw none refl
@@ -69,14 +66,7 @@ keeps_over limit depth sent d over = subst (All (KeepsBounds limit depth)) (sym 
 -- ---- bounds that aren't refused are within the limit
 
 above_none : (limit : ℕ) (name : Name) (axis v : ℕ) → above (Some limit) name axis v ≡ None → v ≤ limit
-above_none limit name axis v none = by_test (nat_lt limit v) refl none
-  where
-    short : (m n : ℕ) → nat_lt m n ≡ false → n ≤ m
-    short m n test = grind (arith, nat_tests)
-
-    by_test : (b : Bool) → nat_lt limit v ≡ b → cond b (Some (refusal.TooFast name axis (pos v))) None ≡ None → v ≤ limit
-    by_test true test none = absurd (cc)
-    by_test false test none = short limit v test
+above_none limit name axis v none = grind (arith, common_steps, nat_lt, nat_tests, cond, pos)
 
 within_axes : (most : ℕ) (depth : ℕ) (t : Traj) → speed depth t 0 ≤ most → speed depth t 1 ≤ most → speed depth t 2 ≤ most → (axis : ℕ) → axis ≤ 2 → speed depth t axis ≤ most
 within_axes most depth t x y z zero small = x
@@ -86,7 +76,4 @@ within_axes most depth t x y z (suc (suc (suc n))) small = absurd (omega (arith,
 
 pub bounds_within : (limit : Option ℕ) (depth : ℕ) (t : Traj) (name : Name) → too_fast_by limit depth t name ≡ None → IfSome limit (λ most. (axis : ℕ) → axis ≤ 2 → speed depth t axis ≤ most)
 bounds_within None depth t name none = tt
-bounds_within (Some most) depth t name none =
-    let later = none_both (above (Some most) name 0 (speed depth t 0)) _ none in
-    let last = none_both (above (Some most) name 1 (speed depth t 1)) _ later.1 in
-    within_axes most depth t (above_none most name 0 (speed depth t 0) later.0) (above_none most name 1 (speed depth t 1) last.0) (above_none most name 2 (speed depth t 2) last.1)
+bounds_within (Some most) depth t name none = grind (arith, common_steps, none_both, within_axes, above_none)

@@ -1,25 +1,25 @@
 -- What `boxes` and `explain` say of a show is one thing alone.
+use Rattle.std.proofs.lemmas.Grind.{common_steps}
 use Rattle.std.proofs.Common.{◌≡◌, ◌⊎◌, inl, inr, ℕ, zero, suc, ◌+◌, ◌<◌, ◌≤◌, ℤ, pos, ◌*ℤ◌, ◌≤ℤ◌, ◌<ℤ◌, List, [], length, get_or, Option, Some, None, Result, Ok, refl, sym, ap, subst, ◌∙◌, arith}
 use Rattle.std.specs.Prelude.{MatchOption, slice_get}
 use Rattle.std.proofs.lemmas.Int.{ints}
 use Rattle.std.proofs.lemmas.Option.{slice_get-get_or}
-use Rattle.fleet_math.proofs.RingLemmas.{le_mul_ℤ, linear, mul_comm_ℤ}
+use Rattle.fleet_math.proofs.RingLemmas.{le_mul_ℤ, mul_comm_ℤ}
 use Rattle.choreo_show.specs.Plain.{PlainShow}
 use Rattle.keepout_boxes.specs.declared.judging.Judged.{Judged}
 use Rattle.keepout_boxes.specs.declared.judging.Judged.TheVariants.{Kept, Enters}
 use Rattle.keepout_boxes.specs.declared.region.Region.{Region}
 use Rattle.keepout_boxes.specs.Kept.{IsBefore as Precedes, IsFirstEntry, JudgeGives, Spot}
-use Rattle.keepout_boxes.specs.Regions.{regions_of}
 use Rattle.refusals.specs.declared.refusal.Refusal.{Refusal}
-use Rattle.fleet_curves.specs.Raised.{Raised, raised_of}
+use Rattle.fleet_curves.specs.Raised.{Raised}
 use Rattle.touch_witness.specs.declared.site.Closest.{Closest}
 use Rattle.touch_witness.specs.declared.site.Touch.{Touch}
 use Rattle.touch_witness.specs.Sites.{DisjointAt, IsBefore, IsClosest, IsFirstTouch, IsListed, LeftAbove, LeftFrom, LeftIs, NoTouch, TouchAt, left_of, listed, right_of, site_of}
 use Rattle.traj_codec.specs.declared.traj.Traj.{Traj}
 use Rattle.show_judge.specs.Verb.{Outcome}
-use Rattle.show_studies.specs.Boxes.{RegionsGive, aside_of, regions_end, upwards_of}
-use Rattle.show_judge.specs.Shows.{Cut, cues_in, names_of, trajectories_of}
-use Rattle.show_studies.specs.Explained.{Explains, blocked_of, explain_text}
+use Rattle.show_studies.specs.Boxes.{RegionsGive}
+use Rattle.show_judge.specs.Shows.{Cut}
+use Rattle.show_studies.specs.Explained.{Explains}
 
 -- ---- orders
 
@@ -47,10 +47,7 @@ then_compared m n (inr (inr above)) rest = inr (inr (inl above))
 -- ---- regions
 
 spots_compared : (s t : Spot) → Precedes s t ⊎ (((s.region ≡ t.region) × ((s.drone ≡ t.drone) × ((s.cue ≡ t.cue) × (s.index ≡ t.index)))) ⊎ Precedes t s)
-spots_compared s t =
-    then_compared s.region t.region (compared s.region t.region)
-    (then_compared s.drone t.drone (compared s.drone t.drone)
-    (then_compared s.cue t.cue (compared s.cue t.cue) (compared s.index t.index)))
+spots_compared s t = grind (arith, common_steps, then_compared, compared)
 
 -- there is one first part that isn't kept
 entry_one : (c : Raised) (r h depth : ℕ) (regions : List Region) (s t : Spot) → IsFirstEntry c r h depth regions s → IsFirstEntry c r h depth regions t →
@@ -83,19 +80,12 @@ regions_given_one given regions others first second = cc
 pub regions_one : (refused : Option Refusal) (s : PlainShow) (depth : ℕ) (cut : Cut) (o p : Outcome) → RegionsGive refused s depth cut o → RegionsGive refused s depth cut p → o ≡ p
 regions_one (Some r) s depth cut o p first second = first ∙ sym second
 regions_one None s depth cut o p (regions, j, reads, judges, ends) (others, k, reads_others, judges_others, ends_others) =
-    let same : others ≡ regions = regions_given_one (regions_of cut.second) others regions reads_others reads in
-    let judged : j ≡ k = judge_one (raised_of (trajectories_of s)) (aside_of s.settings) (upwards_of s.settings) depth regions j k judges
-    (subst (λ (rs : List Region). JudgeGives (raised_of (trajectories_of s)) (aside_of s.settings) (upwards_of s.settings) depth rs k) same judges_others) in
-    ends ∙ ap (λ (i : Judged). regions_end (names_of s) depth (length regions) i) judged
-    ∙ ap (λ (rs : List Region). regions_end (names_of s) depth (length rs) k) (sym same) ∙ sym ends_others
+    grind (arith, common_steps, regions_given_one, judge_one)
 
 -- ---- the first touch
 
 sites_compared : (s t : Touch) → IsBefore s t ⊎ (((s.cue ≡ t.cue) × ((s.at ≡ t.at) × ((s.a ≡ t.a) × (s.b ≡ t.b)))) ⊎ IsBefore t s)
-sites_compared s t =
-    then_compared s.cue t.cue (compared s.cue t.cue)
-    (then_compared s.at t.at (compared s.at t.at)
-    (then_compared s.a t.a (compared s.a t.a) (compared s.b t.b)))
+sites_compared s t = grind (arith, common_steps, then_compared, compared)
 
 abbrev site : ℕ → ℕ → ℕ → ℕ → Touch
 site cue at a b = record { cue = cue; at = at; a = a; b = b }
@@ -138,27 +128,13 @@ touches_one trajs r h fine (Some s) (Some t) first second = ap Some (touch_one t
 
 -- a number of wholes is at most another, where it is so of what they hold
 not_above : (c d : ℕ) (x right : ℤ) → pos 0 ≤ℤ right → (pos c *ℤ right) ≤ℤ x → x <ℤ (pos (d + 1) *ℤ right) → c ≤ d
-not_above c d x right positive low high = by_order (compared d c)
-  where
-    larger : d + 1 ≤ c → ⊥
-    larger more =
-        let e : (right *ℤ pos (d + 1)) ≤ℤ (right *ℤ pos c) = le_mul_ℤ right (pos (d + 1)) (pos c) positive (omega (arith, ints, more)) in
-        omega (arith, linear, e, mul_comm_ℤ right (pos (d + 1)), mul_comm_ℤ right (pos c), low, high)
-
-    by_order : (d < c) ⊎ ((d ≡ c) ⊎ (c < d)) → c ≤ d
-    by_order (inl below) = absurd (larger (omega (arith, below)))
-    by_order (inr (inl same)) = omega (arith, same)
-    by_order (inr (inr above)) = omega (arith, above)
+not_above c d x right positive low high = grind (arith, common_steps, ints, compared, pos, le_mul_ℤ, mul_comm_ℤ)
 
 positive_by : (c : ℕ) (x right : ℤ) → (pos c *ℤ right) ≤ℤ x → x <ℤ (pos (c + 1) *ℤ right) → pos 0 ≤ℤ right
 positive_by c x right low high = omega (arith, ints, low, high)
 
 level_one : (c d : ℕ) (x right : ℤ) → (pos c *ℤ right) ≤ℤ x → x <ℤ (pos (c + 1) *ℤ right) → (pos d *ℤ right) ≤ℤ x → x <ℤ (pos (d + 1) *ℤ right) → c ≡ d
-level_one c d x right c_low c_high d_low d_high =
-    let positive : pos 0 ≤ℤ right = positive_by c x right c_low c_high in
-    let up : c ≤ d = not_above c d x right positive c_low d_high in
-    let down : d ≤ c = not_above d c x right positive d_low c_high in
-    omega (arith, up, down)
+level_one c d x right c_low c_high d_low d_high = grind (arith, common_steps, pos, positive_by, not_above)
 
 -- of two that are closest, neither left side is below the other
 left_at : (trajs : List Traj) (r h fine : ℕ) (s : Touch) (x : ℤ) → IsListed trajs fine s → LeftIs trajs r h fine s x →
@@ -227,10 +203,4 @@ nearest_one trajs r h fine (Some c) (Some d) first second = ap Some (closest_one
 
 -- what is explained is one text
 pub explained_one : (depth fine : ℕ) (s : PlainShow) (text other : List ℕ) → Explains depth fine s text → Explains depth fine s other → text ≡ other
-explained_one depth fine s text other first second =
-    first.is
-    ∙ ap (λ (c : Option Closest). explain_text (names_of s) depth (cues_in s) fine (blocked_of depth s) c first.touch)
-    (nearest_one (trajectories_of s) s.settings.r s.settings.h fine first.closest second.closest first.is_closest second.is_closest)
-    ∙ ap (λ (t : Option Touch). explain_text (names_of s) depth (cues_in s) fine (blocked_of depth s) second.closest t)
-    (touches_one (trajectories_of s) s.settings.r s.settings.h fine first.touch second.touch first.is_first second.is_first)
-    ∙ sym second.is
+explained_one depth fine s text other first second = grind (arith, common_steps, nearest_one, touches_one)

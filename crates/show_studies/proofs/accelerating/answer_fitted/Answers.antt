@@ -1,10 +1,10 @@
+use Rattle.std.proofs.Common.{arith}
+use Rattle.std.proofs.lemmas.Grind.{common_steps}
 use Rattle.show_studies.proofs.DynamicsLemmas.{keeps_of_show, motions_of_show}
 use Rattle.show_studies.proofs.accelerating.answer_fitted.Goals as goal
 
 pub returns-clause-gives : goal.returns-clause-gives
-returns-clause-gives c = λ s cut is.
-    motions_of_show c.args.fitted.now s c.args.depth c.args.accel c.args.jump _ _ _ _ c.answer_drones.result is c.limits_of.ensures (c.cues_of.ensures.times s is) c.as_slice-2.ensures c.as_slice.ensures
-    c.answer_drones.ensures.gives
+returns-clause-gives c = grind (arith, common_steps, motions_of_show)
 
 pub returns-clause-promised : goal.returns-clause-promised
 returns-clause-promised c = λ s cut is.
