@@ -1,5 +1,6 @@
 -- A trajectory's start and its segments, and why bytes that begin with a spelling have no fault and stand for one trajectory.
-use Rattle.std.proofs.Common.{◌≡◌, ℕ, ◌+◌, ◌≤◌, ℤ, List, ◌++◌, length, drop, Option, None, Result, Ok, Err, refl, sym, ap, ◌∙◌, subst, length-append, arith}
+use Rattle.std.proofs.lemmas.Grind.{common_steps}
+use Rattle.std.proofs.Common.{◌≡◌, ℕ, ◌+◌, ◌≤◌, ℤ, List, length, drop, Option, None, Result, Ok, Err, sym, ap, ◌∙◌, subst, length-append, arith}
 use Rattle.std.specs.Option.{option_or}
 use Rattle.std.specs.List.{flat_map}
 use Rattle.std.proofs.lemmas.List.{drop_at}
@@ -16,12 +17,7 @@ use Rattle.traj_codec.proofs.ReadingLemmas.{spans_on, spans_length, spans_split,
 
 -- what stands at the beginning
 begin_spans : (bytes : List ℕ) (pieces : ℕ) (t : Traj) (used : ℕ) → BeginsWith bytes pieces t used → Spans bytes 0 used (spelling t)
-begin_spans bytes pieces t used b =
-    let rest : drop used bytes ≡ b.rest = ap (λ (xs : List ℕ). drop used xs) b.cut ∙ drop_at b.spelled b.rest used b.takes in
-    record {
-      within = omega (arith, ap length b.cut, length-append b.spelled b.rest, b.takes);
-      here = b.cut ∙ ap (λ (xs : List ℕ). xs ++ b.rest) b.spells.text ∙ ap (λ (xs : List ℕ). spelling t ++ xs) (sym rest);
-    }
+begin_spans bytes pieces t used b = grind (arith, common_steps, drop, drop_at, length-append)
 
 -- the fault of a trajectory whose start stands there
 start_whole : (bytes : List ℕ) (pieces : ℕ) → 8 ≤ length bytes → decode_fault bytes pieces ≡ segments_fault bytes pieces 8
@@ -46,15 +42,7 @@ pub decoded_is : (bytes : List ℕ) (pieces next used : ℕ) (start : List ℤ) 
 decoded_is bytes pieces next used start segments four s p many =
     let all = spans_on s.spans p.spans in
     let t : Traj = record { start = start; segments = segments } in
-    record {
-      spelled = spelling t;
-      rest = drop used bytes;
-      cut = all.here;
-      spells = record { text = refl; durations = p.durations };
-      formed = record { start = record { many = four; each = s.each }; segments = p.each };
-      many = many;
-      takes = let size = spans_length bytes 0 used (spelling t) (omega arith) all in omega (arith, size);
-    }
+    grind (arith, common_steps, drop, spans_length)
 
 pub gives_ok : (bytes : List ℕ) (pieces next used : ℕ) (start : List ℤ) (segments : List Segment) → length start ≡ 4 → NumbersStand bytes 0 next start →
     SegmentsStand bytes next segments used → length segments ≡ pieces → DecodeGives bytes pieces (Ok (record { start = start; segments = segments }, used))
@@ -71,21 +59,11 @@ by_fault bytes pieces next Memory w h = tt
 -- the fault of the segments is that of the trajectory
 pub gives_fault : (bytes : List ℕ) (pieces next : ℕ) (start : List ℤ) (e : CodecFault) → length start ≡ 4 → NumbersStand bytes 0 next start →
     SegmentsGive bytes next pieces (Err e) → DecodeGives bytes pieces (Err e)
-gives_fault bytes pieces next start e four s h =
-    let place : next ≡ 8 = omega (arith, spans_length bytes 0 next (numbers start) (omega arith) s.spans, length-numbers start) in
-    let whole : decode_fault bytes pieces ≡ segments_fault bytes pieces next =
-    start_whole bytes pieces (omega (arith, s.spans.within)) ∙ ap (λ (k : ℕ). segments_fault bytes pieces k) (sym place) in
-    by_fault bytes pieces next e whole h
+gives_fault bytes pieces next start e four s h = grind (arith, common_steps, spans_length, length-numbers, start_whole, by_fault)
 
 -- what is answered is the one trajectory that the bytes begin with
 pub only_one : (bytes : List ℕ) (pieces : ℕ) (r : Result (Traj × ℕ) CodecFault) → DecodeGives bytes pieces r → (t : Traj) (used : ℕ) → BeginsWith bytes pieces t used → IsDecoded t used r
-only_one bytes pieces (Ok (u, end')) g t used b =
-    let mine = begin_spans bytes pieces u end' g.0 in
-    let theirs = begin_spans bytes pieces t used b in
-    let same = spelling_is_one u t (drop end' bytes) (drop used bytes) g.0.formed b.formed (g.0.many ∙ sym b.many) (sym mine.here ∙ theirs.here) in
-    let length_mine = spans_length bytes 0 end' (spelling u) (omega arith) mine in
-    let length_theirs = spans_length bytes 0 used (spelling t) (omega arith) theirs in
-    (same.0, length_mine ∙ ap (λ (v : Traj). 0 + length (spelling v)) same.0 ∙ sym length_theirs)
+only_one bytes pieces (Ok (u, end')) g t used b = grind (arith, common_steps, begin_spans, spelling_is_one, drop, spans_length)
 only_one bytes pieces (Err (Short at)) g t used b = let none = no_fault bytes pieces t used b in absurd (cc)
 only_one bytes pieces (Err (ZeroDuration at)) g t used b = let none = no_fault bytes pieces t used b in absurd (cc)
 only_one bytes pieces (Err Memory) g t used b = tt

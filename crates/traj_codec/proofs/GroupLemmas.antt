@@ -1,5 +1,6 @@
 -- The fold joins groups of holds from the left.
-use Rattle.std.proofs.Common.{◌≡◌, inl, inr, ℕ, zero, suc, ◌+◌, ◌≤◌, ◌<◌, Bool, true, false, cond, nat_le, arith, refl, sym, ap, subst, ◌∙◌, List, [], ◌∷◌, ◌++◌, append_assoc, length, length-append, map, All}
+use Rattle.std.proofs.lemmas.Grind.{common_steps}
+use Rattle.std.proofs.Common.{◌≡◌, inl, inr, ℕ, ◌+◌, ◌≤◌, ◌<◌, Bool, true, false, cond, nat_le, arith, refl, sym, ap, subst, ◌∙◌, List, [], ◌∷◌, ◌++◌, append_assoc, length, length-append, map, All}
 use Rattle.std.specs.List.{flat_map, sum}
 use Rattle.std.proofs.lemmas.Bool.Decides.{nat_tests}
 use Rattle.std.proofs.lemmas.List.Sums.{sum_by-cons}
@@ -46,25 +47,10 @@ no_front : IsFront [] 0
 no_front = record { each = All-nil IsHold; total = refl; short = omega arith; some = λ h. absurd (omega arith); none = λ h. refl }
 
 one_front : (s : Segment) → IsHold s → 1 ≤ s.ms → s.ms ≤ most_ms → IsFront (s ∷ []) s.ms
-one_front s is some short = record {
-  each = All-cons IsHold s [] is (All-nil IsHold);
-  total = sum_by-cons (λ (n : ℕ). n) s.ms [] ∙ plus s.ms;
-  short = short;
-  some = λ h. some;
-  none = λ h. absurd (omega arith);
-}
-  where
-    plus : (n : ℕ) → n + 0 ≡ n
-    plus n = omega arith
+one_front s is some short = grind (arith, common_steps, All-cons, All-nil, sum_by-cons)
 
 more_front : (front : List Segment) (held : ℕ) (s : Segment) → IsFront front held → IsHold s → 1 ≤ s.ms → held + s.ms ≤ most_ms → IsFront (front ++ s ∷ []) (held + s.ms)
-more_front front held s is here some short = record {
-  each = All-append IsHold front (s ∷ []) is.each (All-cons IsHold s [] here (All-nil IsHold));
-  total = sum_end front s ∙ ap (λ (n : ℕ). n + s.ms) is.total;
-  short = short;
-  some = λ h. omega arith;
-  none = λ h. absurd (omega (arith, length-append front (s ∷ []), h));
-}
+more_front front held s is here some short = grind (arith, common_steps, All-append, All-cons, All-nil, sum_end, length-append)
 
 -- the holds in front are a group
 front_group : (s : Segment) (front : List Segment) (held : ℕ) → IsFront (s ∷ front) held → IsGroup (s ∷ front)
@@ -72,22 +58,13 @@ front_group s front held is = inr (omega arith, is.each, subst (λ (n : ℕ). n 
 
 -- and one segment in what is joined
 front_one : (s : Segment) (front : List Segment) (held : ℕ) → IsFront (s ∷ front) held → (later : List Segment) → put_held held later ≡ one_of (s ∷ front) ∷ later
-front_one s front held is later =
-    go held (is.some (omega arith)) is.total (All-head IsHold s front is.each)
-  where
-    go : (n : ℕ) → 1 ≤ n → sum (durations (s ∷ front)) ≡ n → is_hold s ≡ true → put_held n later ≡ one_of (s ∷ front) ∷ later
-    go zero some total here = absurd (omega arith)
-    go (suc n) some total here = ap (λ (ms : ℕ). hold ms ∷ later) (sym total) ∙ ap (λ (b : Bool). cond b (hold (sum (durations (s ∷ front)))) s ∷ later) (sym here)
+front_one s front held is later = grind (arith, common_steps, All-head, cond)
 
 single_one : (s : Segment) → is_hold s ≡ false → one_of (s ∷ []) ≡ s
 single_one s is = ap (λ (b : Bool). cond b (hold (sum (durations (s ∷ [])))) s) is
 
 not_held : (s : Segment) → is_hold s ≡ false → All IsHold (s ∷ []) → ⊥
-not_held s is all = absurd (clash (is_hold s) is (All-head IsHold s [] all))
-  where
-    clash : (b : Bool) → b ≡ false → b ≡ true → ⊥
-    clash true e f = absurd (cc)
-    clash false e f = absurd (cc)
+not_held s is all = grind (arith, common_steps, All-head)
 
 -- a segment that is no hold, before groups
 before_any : (s : Segment) → is_hold s ≡ false → (groups : List (List Segment)) → FromTheLeft groups → FromTheLeft ((s ∷ []) ∷ groups)
@@ -134,18 +111,7 @@ too_long (x ∷ front) held s rest later is short over g = record {
     left (k ∷ more) starts greedy = ((λ here there. omega (arith, is.total, over, starts)), greedy)
 
 joins : (front : List Segment) (held : ℕ) (s : Segment) (rest later : List Segment) → Groups (front ++ s ∷ []) rest later → Groups front (s ∷ rest) later
-joins front held s rest later g = record {
-  groups = g.groups;
-  whole = g.whole ∙ append_assoc front (s ∷ []) rest;
-  each = g.each;
-  greedy = g.greedy;
-  are = g.are;
-  first = starts front g.first;
-}
-  where
-    starts : (front : List Segment) → StartsWith (front ++ s ∷ []) g.groups → StartsWith front g.groups
-    starts [] h = tt
-    starts (x ∷ front) h = h
+joins front held s rest later g = grind (arith, common_steps, append_assoc)
 
 le_told : (m n : ℕ) → nat_le m n ≡ true → m ≤ n
 le_told m n e = grind (arith, nat_tests)

@@ -1,4 +1,5 @@
 -- A trajectory with its holds joined is the same curve.
+use Rattle.std.proofs.lemmas.Grind.{common_steps}
 use Rattle.std.proofs.Common.{◌≡◌, ◌⊎◌, inl, inr, ℕ, zero, suc, ◌+◌, ◌-◌, ◌*◌, ◌≤◌, ◌<◌, ℤ, pos, ◌*ℤ◌, Bool, true, false, cond, ◌&&◌, nat_le, arith, refl, sym, ap, subst, ◌∙◌, List, [], ◌∷◌, length, map, All, get_or}
 use Rattle.std.specs.List.{list_all}
 use Rattle.std.proofs.lemmas.Bool.Decides.{nat_tests}
@@ -12,10 +13,10 @@ use Rattle.fleet_math.specs.Decoded.{points_from, last_value}
 use Rattle.fleet_math.proofs.RingLemmas.{mul_left_comm_ℤ}
 use Rattle.fleet_math.proofs.BernsteinLemmas.{bernstein-zero}
 use Rattle.traj_codec.specs.declared.traj.Element.{Element}
-use Rattle.traj_codec.specs.declared.traj.Element.TheVariants.{Constant, Linear, Cubic, Seven}
+use Rattle.traj_codec.specs.declared.traj.Element.TheVariants.{Constant}
 use Rattle.traj_codec.specs.declared.traj.Segment.{Segment}
 use Rattle.traj_codec.specs.declared.traj.Traj.{Traj}
-use Rattle.traj_codec.specs.Spelling.{stored, HasDuration, IsElement, IsSegment}
+use Rattle.traj_codec.specs.Spelling.{stored, HasDuration, IsSegment}
 use Rattle.traj_codec.specs.Positions.{element_on, value_after, piece_on, durations, points, decoded}
 use Rattle.traj_codec.proofs.PositionLemmas.{decoded-points}
 use Rattle.traj_codec.specs.Joined.{stays, is_hold, hold, most_ms, put_held, joined_from, joined, own, SameCurve, IsLasting, JoinLaw}
@@ -83,13 +84,7 @@ both false b e = absurd (cc)
 all_stay : (es : List Element) (axis : ℕ) → list_all stays es ≡ true → stored (get_or es axis Constant) ≡ []
 all_stay [] zero e = refl
 all_stay [] (suc axis) e = refl
-all_stay (x ∷ es) zero e = here x (both (stays x) (list_all stays es) e).0
-  where
-    here : (x : Element) → stays x ≡ true → stored x ≡ []
-    here Constant e = refl
-    here (Linear v) e = absurd (cc)
-    here (Cubic v) e = absurd (cc)
-    here (Seven v) e = absurd (cc)
+all_stay (x ∷ es) zero e = grind (arith, common_steps, both)
 all_stay (x ∷ es) (suc axis) e = all_stay es axis (both (stays x) (list_all stays es) e).1
 
 holds : (s : Segment) (axis : ℕ) → is_hold s ≡ true → stored (element_on s axis) ≡ []
@@ -114,11 +109,7 @@ as_hold axis t0 v s rest p q e = reached_hold axis t0 v (hold s.ms) rest p q ref
 behind : (axis t0 : ℕ) (v : ℤ) (s : Segment) (xs ys : List Segment) (p q : ℕ) →
     IsSame (reached axis (t0 + s.ms) (value_after v (element_on s axis)) xs p q) (reached axis (t0 + s.ms) (value_after v (element_on s axis)) ys p q) →
     IsSame (reached axis t0 v (s ∷ xs) p q) (reached axis t0 v (s ∷ ys) p q)
-behind axis t0 v s xs ys p q same = go (nat_le p (q * (t0 + s.ms))) _ _ _ same
-  where
-    go : (b : Bool) (here f g : Reached) → IsSame f g → IsSame (cond b here f) (cond b here g)
-    go true here f g same = inl refl
-    go false here f g same = same
+behind axis t0 v s xs ys p q same = grind (arith, common_steps, nat_le, cond)
 
 -- after a hold the value is as before
 behind_hold : (axis t0 : ℕ) (v : ℤ) (ms : ℕ) (xs ys : List Segment) (p q : ℕ) →
@@ -134,32 +125,7 @@ spread q t m = omega arith
 
 one_for_two : (axis t0 : ℕ) (v : ℤ) (m n : ℕ) (rest : List Segment) (p q : ℕ) →
     IsSame (reached axis t0 v (hold (m + n) ∷ rest) p q) (reached axis t0 v (hold m ∷ hold n ∷ rest) p q)
-one_for_two axis t0 v m n rest p q =
-    let e : t0 + (m + n) ≡ t0 + m + n = omega arith in
-    let left : reached axis t0 v (hold (m + n) ∷ rest) p q ≡ cond (nat_le p (q * (t0 + m + n))) (still t0 v (m + n) p q) (reached axis (t0 + m + n) v rest p q) =
-    reached_hold axis t0 v (hold (m + n)) rest p q refl ∙ ap (λ (t : ℕ). cond (nat_le p (q * t)) (still t0 v (m + n) p q) (reached axis t v rest p q)) e in
-    let right : reached axis t0 v (hold m ∷ hold n ∷ rest) p q
-    ≡ cond (nat_le p (q * (t0 + m))) (still t0 v m p q) (cond (nat_le p (q * (t0 + m + n))) (still (t0 + m) v n p q) (reached axis (t0 + m + n) v rest p q)) =
-    reached_hold axis t0 v (hold m) (hold n ∷ rest) p q refl
-    ∙ ap (λ (r : Reached). cond (nat_le p (q * (t0 + m))) (still t0 v m p q) r) (reached_hold axis (t0 + m) v (hold n) rest p q refl) in
-    subst (λ (f : Reached). IsSame f (reached axis t0 v (hold m ∷ hold n ∷ rest) p q)) (sym left)
-    (subst (λ (g : Reached). IsSame (cond (nat_le p (q * (t0 + m + n))) (still t0 v (m + n) p q) (reached axis (t0 + m + n) v rest p q)) g) (sym right)
-    (go (nat_le p (q * (t0 + m))) (nat_le p (q * (t0 + m + n))) later (reached axis (t0 + m + n) v rest p q)))
-  where
-    later : nat_le p (q * (t0 + m)) ≡ true → nat_le p (q * (t0 + m + n)) ≡ true
-    later early =
-        let h : p ≤ q * (t0 + m) = le_told p (q * (t0 + m)) early in
-        let k : p ≤ q * (t0 + m + n) = omega (arith, spread q (t0 + m) n, h) in
-        grind (arith, nat_tests)
-
-    go : (b c : Bool) → (b ≡ true → c ≡ true) → (r : Reached) →
-        IsSame (cond c (still t0 v (m + n) p q) r) (cond b (still t0 v m p q) (cond c (still (t0 + m) v n p q) r))
-    go true true h r = inr (record { value = v; first = refl; second = refl })
-    go true false h r = absurd (impossible (h refl)) where
-      impossible : false ≡ true → ⊥
-      impossible e = absurd (cc)
-    go false true h r = inr (record { value = v; first = refl; second = refl })
-    go false false h r = inl refl
+one_for_two axis t0 v m n rest p q = grind (arith, common_steps, reached, cond, nat_le, still, reached_hold, le_told, spread, nat_tests)
 
 -- ---- the fold
 module _ (axis p q : ℕ) where
@@ -350,12 +316,7 @@ durations_of t all = durations_from t.segments all
 
 -- ---- each segment is formed
 formed_hold : (ms : ℕ) → ms ≤ most_ms → IsSegment (hold ms)
-formed_hold ms short = record {
-  short = omega (arith, short);
-  many = refl;
-  each = All-cons IsElement Constant (Constant ∷ Constant ∷ Constant ∷ []) tt (All-cons IsElement Constant (Constant ∷ Constant ∷ []) tt
-      (All-cons IsElement Constant (Constant ∷ []) tt (All-cons IsElement Constant [] tt (All-nil IsElement))));
-}
+formed_hold ms short = grind (arith, common_steps, All-cons, All-nil)
 
 formed_put : (held : ℕ) (xs : List Segment) → held ≤ most_ms → All IsSegment xs → All IsSegment (put_held held xs)
 formed_put zero xs short all = all
@@ -377,10 +338,4 @@ formed_from (s ∷ rest) held short all =
     go false c fits later = formed_put held (s ∷ joined_from 0 rest) short (All-cons IsSegment s (joined_from 0 rest) first (later 0 (omega arith)))
 
 pub join_holds_law : JoinLaw
-join_holds_law = record {
-  same = join_same;
-  lasts = λ t. omega (arith, sum_from t.segments 0);
-  last = λ t all. last_from t.segments 0 all;
-  fewer = λ t. omega (arith, fewer_from t.segments 0);
-  formed = λ t formed. record { start = formed.start; segments = formed_from t.segments 0 (omega arith) formed.segments };
-}
+join_holds_law = grind (arith, common_steps, join_same, sum_from, last_from, fewer_from, formed_from)

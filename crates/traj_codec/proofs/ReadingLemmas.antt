@@ -3,7 +3,7 @@ use Rattle.std.proofs.Common.{◌≡◌, ℕ, zero, suc, ◌+◌, ◌*◌, ◌/�
 use Rattle.std.specs.Option.{option_or}
 use Rattle.std.specs.List.{flat_map, All}
 use Rattle.std.proofs.lemmas.Bool.Decides.{nat_tests}
-use Rattle.std.proofs.lemmas.Grind.{flat_map-append}
+use Rattle.std.proofs.lemmas.Grind.{flat_map-append, common_steps}
 use Rattle.std.proofs.lemmas.List.{append-nil, drop-drop, drop_at, get_or-drop}
 use Rattle.std.proofs.lemmas.List.Elements.{All-head, All-tail, All-append}
 use Rattle.byteorder.specs.Endian.{little_bytes, little_number}
@@ -21,10 +21,7 @@ use Rattle.traj_codec.proofs.SpellingLemmas.{kind_small}
 
 -- one text after another
 pub spans_on : {bytes : List ℕ} {a b c : ℕ} {s t : List ℕ} → Spans bytes a b s → Spans bytes b c t → Spans bytes a c (s ++ t)
-spans_on {bytes} {a} {b} {c} {s} {t} p q = record {
-  within = q.within;
-  here = p.here ∙ ap (λ (xs : List ℕ). s ++ xs) q.here ∙ sym (append_assoc s t (drop c bytes));
-}
+spans_on {bytes} {a} {b} {c} {s} {t} p q = grind (arith, common_steps, append_assoc, drop)
 
 -- how long a text is that stands there
 pub spans_length : (bytes : List ℕ) (a b : ℕ) (s : List ℕ) → a ≤ length bytes → Spans bytes a b s → b ≡ a + length s
@@ -67,11 +64,7 @@ numbers_fault-more bytes (suc m) n at e h =
 -- the fault of some numbers is that of all, where those before them are whole
 pub fault_among : (bytes : List ℕ) (before some rest total at next : ℕ) (e : CodecFault) → total ≡ before + (some + rest) → next ≡ at + 2 * before → next ≤ length bytes →
     numbers_fault bytes some next ≡ Some e → numbers_fault bytes total at ≡ Some e
-fault_among bytes before some rest total at next e sum place small h =
-    ap (λ (k : ℕ). numbers_fault bytes k at) sum
-    ∙ numbers_fault-add bytes before (some + rest) at (omega arith)
-    ∙ ap (λ (k : ℕ). numbers_fault bytes (some + rest) k) (sym place)
-    ∙ numbers_fault-more bytes some rest next e h
+fault_among bytes before some rest total at next e sum place small h = grind (arith, common_steps, numbers_fault-add, numbers_fault-more)
 
 -- ---- elements
 
@@ -96,14 +89,7 @@ elements_count x y z yaw p q r s =
     let b : header (x ∷ y ∷ z ∷ yaw ∷ []) / 4 % 4 ≡ kind y = omega (arith, kind_small x, kind_small y, kind_small z, kind_small yaw) in
     let c : header (x ∷ y ∷ z ∷ yaw ∷ []) / 16 % 4 ≡ kind z = omega (arith, kind_small x, kind_small y, kind_small z, kind_small yaw) in
     let d : header (x ∷ y ∷ z ∷ yaw ∷ []) / 64 ≡ kind yaw = omega (arith, kind_small x, kind_small y, kind_small z, kind_small yaw) in
-    omega (
-      arith,
-      length-elements x y z yaw,
-      element_count x p ∙ ap count_of_kind (sym a),
-      element_count y q ∙ ap count_of_kind (sym b),
-      element_count z r ∙ ap count_of_kind (sym c),
-      element_count yaw s ∙ ap count_of_kind (sym d),
-    )
+    grind (arith, common_steps, length-elements, element_count)
 
 bodies_count : (es : List Element) → length es ≡ 4 → All IsElement es → length (bodies es) ≡ 2 * count_under (header es)
 bodies_count [] many each = absurd (omega arith)
@@ -122,13 +108,7 @@ spans_split bytes a c s t small p =
     let whole : drop a bytes ≡ s ++ (t ++ drop c bytes) = p.here ∙ append_assoc s t (drop c bytes) in
     let behind : drop (a + length s) bytes ≡ t ++ drop c bytes =
     sym (drop-drop (length s) a bytes) ∙ ap (λ (xs : List ℕ). drop (length s) xs) whole ∙ drop_at s (t ++ drop c bytes) (length s) refl in
-    let size : c ≡ a + length (s ++ t) = spans_length bytes a c (s ++ t) small p in (
-      record {
-        within = omega (arith, size, length-append s t, p.within);
-        here = whole ∙ ap (λ (xs : List ℕ). s ++ xs) (sym behind);
-      },
-      record { within = p.within; here = behind },
-    )
+    let size : c ≡ a + length (s ++ t) = spans_length bytes a c (s ++ t) small p in grind (arith, common_steps, length-append)
 
 -- the first byte of a segment that stands there is its header
 header_stands : (bytes : List ℕ) (at next : ℕ) (s : Segment) → Spans bytes at next (segment s) → slice_index bytes at ≡ header s.elements
@@ -148,17 +128,11 @@ some_time ms f some = grind (arith, nat_tests)
 
 -- a duration that stands there and isn't 0 has no fault
 duration_whole : (bytes : List ℕ) (at ms : ℕ) → at + 2 ≤ length bytes → 0 < ms → little_number 2 (drop at bytes) ≡ ms → duration_fault bytes at ≡ None
-duration_whole bytes at ms room some e =
-    ap (λ (f : Option CodecFault). option_or f (if little_number 2 (drop at bytes) == 0 then Some (ZeroDuration at) else None)) (field_whole bytes 2 at room)
-    ∙ ap (λ (k : ℕ). if k == 0 then Some (ZeroDuration at) else None) e
-    ∙ some_time ms (Some (ZeroDuration at)) some
+duration_whole bytes at ms room some e = grind (arith, common_steps, drop, field_whole, some_time)
 
 -- how many bytes a segment takes
 segment_takes : (bytes : List ℕ) (at next : ℕ) (s : Segment) → IsSegment s → Spans bytes at next (segment s) → length (segment s) ≡ segment_length bytes at
-segment_takes bytes at next s is p =
-    let count : length (bodies s.elements) ≡ 2 * count_under (slice_index bytes at) =
-    bodies_count s.elements is.many is.each ∙ ap (λ (h : ℕ). 2 * count_under h) (sym (header_stands bytes at next s p)) in
-    omega (arith, count, length-append (little_bytes 2 s.ms) (bodies s.elements))
+segment_takes bytes at next s is p = grind (arith, common_steps, slice_index, bodies_count, header_stands, length-append)
 
 -- where a segment ends
 pub segment_next : (bytes : List ℕ) (at next : ℕ) (s : Segment) → at ≤ length bytes → IsSegment s → Spans bytes at next (segment s) → next ≡ at + segment_length bytes at
@@ -167,14 +141,7 @@ segment_next bytes at next s small is p = spans_length bytes at next (segment s)
 -- a segment that stands there has no fault
 pub segment_whole : (bytes : List ℕ) (at next : ℕ) (s : Segment) → at ≤ length bytes → IsSegment s → HasDuration s → Spans bytes at next (segment s) → segment_fault bytes at ≡ None
 segment_whole bytes at next s small is some p =
-    let place : next ≡ at + segment_length bytes at = segment_next bytes at next s small is p in
-    let inside : next ≤ length bytes = p.within in
-    let first : field_fault bytes 1 at ≡ None = field_whole bytes 1 at (omega arith) in
-    let second : duration_fault bytes (at + 1) ≡ None = duration_whole bytes (at + 1) s.ms (omega arith) some (duration_reads bytes at next s is.short p) in
-    let third : numbers_fault bytes (count_under (slice_index bytes at)) (at + 3) ≡ None = numbers_whole bytes (count_under (slice_index bytes at)) (at + 3) (omega arith) in
-    ap (λ (f : Option CodecFault). option_or f (option_or (duration_fault bytes (at + 1)) (numbers_fault bytes (count_under (slice_index bytes at)) (at + 3)))) first
-    ∙ ap (λ (f : Option CodecFault). option_or f (numbers_fault bytes (count_under (slice_index bytes at)) (at + 3))) second
-    ∙ third
+    grind (arith, common_steps, segment_next, field_whole, duration_whole, duration_reads, slice_index, numbers_whole)
 
 -- the first fault of segments, after one that stands there
 pub segments_step : (bytes : List ℕ) (at next n : ℕ) (s : Segment) → at ≤ length bytes → IsSegment s → HasDuration s → Spans bytes at next (segment s) →
@@ -200,11 +167,7 @@ segments_whole bytes at next (s ∷ ss) small stands =
 -- one more segment
 pub segments_more : {bytes : List ℕ} {at next behind : ℕ} {ss : List Segment} {s : Segment} → SegmentsStand bytes at ss next → SegmentsStand bytes next (s ∷ []) behind →
     SegmentsStand bytes at (ss ++ s ∷ []) behind
-segments_more {bytes} {at} {next} {behind} {ss} {s} p q = record {
-  each = All-append IsSegment ss (s ∷ []) p.each q.each;
-  durations = All-append HasDuration ss (s ∷ []) p.durations q.durations;
-  spans = subst (λ (xs : List ℕ). Spans bytes at behind xs) (sym (flat_map-append segment ss (s ∷ []))) (spans_on p.spans q.spans);
-}
+segments_more {bytes} {at} {next} {behind} {ss} {s} p q = grind (arith, common_steps, All-append, flat_map-append, spans_on)
 
 -- the first fault of segments, after one that stands there alone
 pub segment_step : (bytes : List ℕ) (at next n : ℕ) (s : Segment) → at ≤ length bytes → SegmentsStand bytes at (s ∷ []) next → segments_fault bytes (suc n) at ≡ segments_fault bytes n next

@@ -1,4 +1,5 @@
 -- How many bytes numbers take.
+use Rattle.std.proofs.lemmas.Grind.{common_steps}
 use Rattle.std.proofs.Common.{◌≡◌, ℕ, ◌+◌, ◌*◌, ℤ, List, [], ◌∷◌, ◌++◌, length, get_or, refl, ap, ◌∙◌, length-append, arith}
 use Rattle.std.specs.List.{flat_map}
 use Rattle.traj_codec.specs.declared.traj.Element.{Element}
@@ -9,18 +10,7 @@ length-numbers [] = refl
 length-numbers (z ∷ zs) = omega (arith, length-append (number z) (numbers zs), length-numbers zs)
 
 pub length-elements : (x y z yaw : Element) → length (bodies (x ∷ y ∷ z ∷ yaw ∷ [])) ≡ 2 * (length (stored x) + length (stored y) + length (stored z) + length (stored yaw))
-length-elements x y z yaw =
-    omega (
-      arith,
-      length-append (numbers (stored x)) (numbers (stored y) ++ (numbers (stored z) ++ (numbers (stored yaw) ++ []))),
-      length-append (numbers (stored y)) (numbers (stored z) ++ (numbers (stored yaw) ++ [])),
-      length-append (numbers (stored z)) (numbers (stored yaw) ++ []),
-      length-append (numbers (stored yaw)) [],
-      length-numbers (stored x),
-      length-numbers (stored y),
-      length-numbers (stored z),
-      length-numbers (stored yaw),
-    )
+length-elements x y z yaw = grind (arith, common_steps, length-append, length-numbers)
 
 pub four : {X : Type 0} (xs : List X) (d : X) → length xs ≡ 4 → xs ≡ get_or xs 0 d ∷ get_or xs 1 d ∷ get_or xs 2 d ∷ get_or xs 3 d ∷ []
 four [] d e = absurd (omega arith)

@@ -1,5 +1,6 @@
 -- A spelling stands for one trajectory, and none of as many segments is a front of another.
-use Rattle.std.proofs.Common.{◌≡◌, ℕ, ◌<◌, ◌^◌, ℤ, List, [], ◌∷◌, ◌++◌, length, get_or, drop, refl, sym, ap, ◌∙◌, append_assoc, arith, to_z, FitsSigned}
+use Rattle.std.proofs.lemmas.Grind.{common_steps}
+use Rattle.std.proofs.Common.{◌≡◌, ℕ, ◌<◌, ◌^◌, ℤ, List, [], ◌∷◌, ◌++◌, length, drop, refl, sym, ap, ◌∙◌, append_assoc, arith, to_z, FitsSigned}
 use Rattle.std.specs.List.{flat_map, All}
 use Rattle.std.specs.Int.{w16, cast_unsigned}
 use Rattle.std.proofs.Math.Facts.{Fits-of_z, Fits-lt-pow}
@@ -79,12 +80,7 @@ bodies_cut (e ∷ es) (f ∷ fs) r s each each' many heads t =
     (ap (λ (x : Element). x ∷ es) first.0 ∙ ap (λ (xs : List Element). f ∷ xs) rest.0, rest.1)
 
 segment_cut : (a b : Segment) (r s : List ℕ) → IsSegment a → IsSegment b → segment a ++ r ≡ segment b ++ s → (a ≡ b) × (r ≡ s)
-segment_cut a b r s is is' t =
-    let heads : header a.elements ≡ header b.elements = ap (λ (xs : List ℕ). get_or xs 0 0) t in
-    let behind : little_bytes 2 a.ms ++ (bodies a.elements ++ r) ≡ little_bytes 2 b.ms ++ (bodies b.elements ++ s) = ap (λ (xs : List ℕ). drop 1 xs) t in
-    let time = natural_cut a.ms b.ms (bodies a.elements ++ r) (bodies b.elements ++ s) is.short is'.short behind in
-    let rest = bodies_cut a.elements b.elements r s is.each is'.each (is.many ∙ sym is'.many) heads time.1 in
-    (ap (λ (n : ℕ). record { ms = n; elements = a.elements }) time.0 ∙ ap (λ (es : List Element). record { ms = b.ms; elements = es }) rest.0, rest.1)
+segment_cut a b r s is is' t = grind (arith, common_steps, drop, natural_cut, bodies_cut)
 
 segments_cut : (xs ys : List Segment) (r s : List ℕ) → All IsSegment xs → All IsSegment ys → length xs ≡ length ys → flat_map segment xs ++ r ≡ flat_map segment ys ++ s → (xs ≡ ys) × (r ≡ s)
 segments_cut [] [] r s each each' many t = (refl, t)
@@ -97,8 +93,4 @@ segments_cut (a ∷ xs) (b ∷ ys) r s each each' many t =
     (ap (λ (x : Segment). x ∷ xs) first.0 ∙ ap (λ (zs : List Segment). b ∷ zs) rest.0, rest.1)
 
 pub spelling_is_one : SpellingLaw
-spelling_is_one t u rest other is is' many e =
-    let start = numbers_cut t.start u.start (flat_map segment t.segments ++ rest) (flat_map segment u.segments ++ other) is.start.each is'.start.each (is.start.many ∙ sym is'.start.many)
-    (sym (append_assoc (numbers t.start) (flat_map segment t.segments) rest) ∙ e ∙ append_assoc (numbers u.start) (flat_map segment u.segments) other) in
-    let behind = segments_cut t.segments u.segments rest other is.segments is'.segments many start.1 in
-    (ap (λ (xs : List ℤ). record { start = xs; segments = t.segments }) start.0 ∙ ap (λ (xs : List Segment). record { start = u.start; segments = xs }) behind.0, behind.1)
+spelling_is_one t u rest other is is' many e = grind (arith, common_steps, numbers_cut, append_assoc, segments_cut)
