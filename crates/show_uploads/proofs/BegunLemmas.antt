@@ -1,5 +1,6 @@
 -- What is said of an upload that began, however it ended.
-use Rattle.std.proofs.Common.{◌≡◌, inl, inr, ℕ, Bool, List, [], ◌∷◌, ◌++◌, length, length-append, append-nil, get_or, Option, Some, IfSome, sym, ap, ◌∙◌, arith}
+use Rattle.std.proofs.lemmas.Grind.{common_steps}
+use Rattle.std.proofs.Common.{◌≡◌, inl, inr, ℕ, Bool, List, [], ◌∷◌, ◌++◌, length, length-append, append-nil, Option, Some, IfSome, sym, ap, ◌∙◌, arith}
 use Rattle.std.proofs.lemmas.List.{append_cancel_left}
 use Rattle.text_lines.specs.Marker.{part_of}
 use Rattle.fleet_io.specs.Taken.{AppendsFront}
@@ -14,11 +15,7 @@ use Rattle.show_uploads.specs.Upload.{HasBegun, upload_ways}
 
 -- a packet's first byte isn't that of an end frame
 never_front : (status : ℕ) (old new : Option (List ℕ)) → AppendsFront old new (end_frame status) → HasBegun old new → ⊥
-never_front status old new (sent, rest, e, appends) (before, later, is, is_new) =
-    let grown : before ++ packet_byte ∷ later ≡ before ++ sent = rw (is, is_new) at appends in
-    let same : packet_byte ∷ later ≡ sent = append_cancel_left before (packet_byte ∷ later) sent grown in
-    let begins : end_frame status ≡ packet_byte ∷ (later ++ rest) = e ∙ ap (λ (xs : List ℕ). xs ++ rest) (sym same) in
-    omega (arith, ap (λ (xs : List ℕ). get_or xs 0 0) begins)
+never_front status old new (sent, rest, e, appends) (before, later, is, is_new) = grind (arith, common_steps, append_cancel_left)
 
 -- where the end frame was written, or a prefix of it, no upload began
 pub never_wrote : (wanted : ℕ) (old new : Option (List ℕ)) (before after status : ℕ) → Wrote wanted (end_frame wanted) old new before after status → HasBegun old new → ⊥

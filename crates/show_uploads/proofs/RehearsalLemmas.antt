@@ -1,4 +1,5 @@
 -- What a rehearsal gives: one outcome alone, and one where the show lands.
+use Rattle.std.proofs.lemmas.Grind.{common_steps}
 use Rattle.std.proofs.Common.{◌≡◌, ℕ, suc, ◌+◌, ◌<◌, Bool, true, false, cond, List, [], ◌∷◌, ◌++◌, append-nil, length, get_or, Option, Some, None, Result, Ok, Err, refl, sym, ap, subst, ◌∙◌, arith}
 use Rattle.std.proofs.lemmas.List.{length-replicate}
 use Rattle.std.specs.Option.{option_map, option_or}
@@ -71,9 +72,7 @@ events_one given xs ys first second = cc
 pub schedule_one : CurveLaw → (why : Option Refusal) (s : PlainShow) (readback start : Bool) (cut : Cut) (o p : Outcome) → ScheduleGives why s readback start cut o → ScheduleGives why s readback start cut p → o ≡ p
 schedule_one law (Some r) s readback start cut o p first second = first ∙ sym second
 schedule_one law None s readback start cut o p (events, is, ends) (others, is_others, ends_others) =
-    let same : others ≡ events = events_one (schedule_of readback (words_of s) cut.second) others events is_others is in
-    ends_one law (progress (session_of s readback start) (rehearsed (session_of s readback start) events).heard) s events (rehearsed (session_of s readback start) events) o p ends
-    (subst (λ (es : List WorldEvent). Rehearses s readback start es p) same ends_others)
+    grind (arith, common_steps, events_one, ends_one)
 
 -- ---- one outcome where the show lands
 

@@ -1,5 +1,6 @@
 -- The laws of `rehearse`.
-use Rattle.std.proofs.Common.{◌≡◌, ℕ, Bool, true, false, List, length, map, Option, Some, None, Result, Ok, refl, sym, subst, ◌∙◌}
+use Rattle.std.proofs.lemmas.Grind.{common_steps}
+use Rattle.std.proofs.Common.{◌≡◌, ℕ, Bool, true, false, List, length, map, Option, Some, None, Result, Ok, refl, sym, ◌∙◌, arith}
 use Rattle.std.proofs.lemmas.List.{length-map}
 use Rattle.choreo_lines.specs.Name.{Name}
 use Rattle.choreo_show.specs.Plain.{PlainShow}
@@ -18,7 +19,7 @@ use Rattle.upload_model.specs.Worlds.{World}
 use Rattle.show_judge.specs.Refused.{faulty_event, second_refusal}
 use Rattle.show_judge.specs.Shows.{Cut, sent_of, words_of}
 use Rattle.show_judge.specs.Verb.{Outcome}
-use Rattle.show_uploads.specs.Rehearse.{RehearsalEnds, RehearseGives, RehearseLaw, RehearseSucceeds, ScheduleGives, rehearse_known, rehearse_verb, schedule_refusal}
+use Rattle.show_uploads.specs.Rehearse.{RehearsalEnds, RehearseGives, RehearseLaw, RehearseSucceeds, ScheduleGives, rehearse_known, schedule_refusal}
 use Rattle.fleet_math.specs.Limits.{most_text}
 use Rattle.show_uploads.specs.Sessions.{session_of}
 use Rattle.show_judge.proofs.HeadlineLemmas.{flies_text}
@@ -30,10 +31,7 @@ ends_done p s events w o is ends = let done : RehearsalEnds Done s events w o = 
 schedule_done : (refused : Option Refusal) (s : PlainShow) (readback start : Bool) (cut : Cut) (o : Outcome) (events : List WorldEvent) → refused ≡ None → ScheduleGives refused s readback start cut o →
     schedule_of readback (words_of s) cut.second ≡ Ok events → progress (session_of s readback start) (rehearsed (session_of s readback start) events).heard ≡ Done → o.status ≡ 0
 schedule_done (Some r) s readback start cut o events none gives is done = absurd (cc)
-schedule_done None s readback start cut o events none gives is done =
-    let same : events ≡ gives.0 = events_one (schedule_of readback (words_of s) cut.second) events gives.0 is gives.1 in
-    ends_done (progress (session_of s readback start) (rehearsed (session_of s readback start) gives.0).heard) s gives.0 (rehearsed (session_of s readback start) gives.0) o
-    (subst (λ (es : List WorldEvent). progress (session_of s readback start) (rehearsed (session_of s readback start) es).heard ≡ Done) same done) gives.2
+schedule_done None s readback start cut o events none gives is done = grind (arith, common_steps, events_one, ends_done)
 
 no_faulty : (given : Result (List WorldEvent) ℕ) (events : List WorldEvent) (cut : Cut) → given ≡ Ok events → second_refusal most_text None cut ≡ None →
     second_refusal most_text (faulty_event given) cut ≡ None
@@ -53,10 +51,4 @@ done start readback s cut o gives (events, none, is, ends) =
     schedule_done (schedule_refusal s readback cut) s readback start cut o events (no_faulty (schedule_of readback (words_of s) cut.second) events cut is none) gives is ends
 
 pub rehearse_laws : CurveLaw → ScheduleLaw → RehearseLaw
-rehearse_laws curve schedule depth start readback = record {
-  one = λ s cut o p first second. schedule_one curve (schedule_refusal s readback cut) s readback start cut o p first second;
-  some = some schedule start readback;
-  done = done start readback;
-  apart = λ d s cut searched apart. apart;
-  headline = λ input o old new safe appended. flies_text (rehearse_verb depth start readback) input o safe safe.promised;
-}
+rehearse_laws curve schedule depth start readback = grind (arith, common_steps, schedule_one, some, done, flies_text)

@@ -1,7 +1,8 @@
 -- What `rehearse` answers, from what its steps do.
-use Rattle.std.proofs.Common.{◌≡◌, ℕ, zero, suc, ◌+◌, ◌-◌, ◌<◌, ◌≤◌, Bool, true, false, cond, ◌==◌, List, [], ◌∷◌, ◌++◌, All, length, map, nat_lt, Option, Some, None, Result, Ok, Err, IfOk, IfSome, refl, sym, ap, subst, ◌∙◌, arith}
-use Rattle.std.specs.Prelude.{find, slice_get, take}
-use Rattle.std.specs.List.{list_all, range_with_len}
+use Rattle.std.proofs.lemmas.Grind.{common_steps}
+use Rattle.std.proofs.Common.{◌≡◌, ℕ, zero, suc, ◌+◌, ◌<◌, ◌≤◌, Bool, true, false, cond, ◌==◌, List, [], ◌∷◌, ◌++◌, All, length, map, nat_lt, Option, Some, None, Result, Ok, Err, IfOk, IfSome, refl, sym, ap, subst, ◌∙◌, arith}
+use Rattle.std.specs.Prelude.{find, take}
+use Rattle.std.specs.List.{range_with_len}
 use Rattle.std.specs.Option.{option_map, option_or}
 use Rattle.std.specs.declared.alloc.AllocError.{AllocError}
 use Rattle.std.proofs.lemmas.Bool.{le-ltb}
@@ -33,23 +34,20 @@ use Rattle.upload_model.specs.declared.events.Event.TheVariants as event
 use Rattle.upload_model.specs.declared.events.Progress.{Progress}
 use Rattle.upload_model.specs.declared.events.Progress.TheVariants.{Going, Done, GaveUp, Refused, Differs}
 use Rattle.upload_model.specs.declared.events.Reply.{Reply}
-use Rattle.upload_model.specs.declared.events.Reply.TheVariants.{Good, Ends}
 use Rattle.upload_model.specs.declared.events.Sent.{Sent}
 use Rattle.upload_model.specs.declared.events.WorldEvent.{WorldEvent}
 use Rattle.upload_model.specs.Drones.{DroneState}
-use Rattle.upload_model.specs.Hosts.{acked, all_packets, ended_by, ended_for, ending, ends_for, flight, gave_up, or_else, progress, progress_within, sent_to, ticks}
-use Rattle.upload_model.specs.Replies.{ReadBack, compared, end_of, first_other, read_in, read_reply, reply_in, status_in, status_reply}
-use Rattle.upload_model.specs.Sessions.{Upload, drone_count, is_read, load_count, packet_count, read_address, wanted}
+use Rattle.upload_model.specs.Hosts.{acked, all_packets, ended_by, ended_for, ending, flight, gave_up, or_else, progress, progress_within, sent_to, ticks}
+use Rattle.upload_model.specs.Replies.{ReadBack, compared, end_of, read_reply, reply_in, status_reply}
+use Rattle.upload_model.specs.Sessions.{Upload, drone_count, packet_count}
 use Rattle.upload_model.specs.Theorem.{IsUnaltered}
 use Rattle.upload_model.specs.Worlds.{World}
 use Rattle.show_judge.specs.declared.ends.Answer.{Answer}
 use Rattle.show_judge.specs.Answers.{outcome_of}
 use Rattle.show_judge.specs.Verb.{Outcome, outcome}
-use Rattle.show_uploads.specs.Rehearse.{AllDecode, RehearsalEnds, RehearseGives, Rehearses, SaysHeld, ScheduleGives, schedule_refusal}
-use Rattle.show_judge.specs.Shows.{Cut, marker_number, words_of}
-use Rattle.show_judge.specs.Refused.{faulty_event}
+use Rattle.show_uploads.specs.Rehearse.{AllDecode, RehearsalEnds, RehearseGives, Rehearses, SaysHeld}
+use Rattle.show_judge.specs.Shows.{Cut, words_of}
 use Rattle.fleet_math.specs.Limits.{most_text}
-use Rattle.show_uploads.specs.Sessions.{session_of}
 use Rattle.show_uploads.proofs.RehearsalLemmas.{decoded_after}
 
 -- ---- whose packet or byte ends an upload
@@ -86,10 +84,7 @@ gave_up_among n (Some x) below = below
 
 status_among : (n d k : ℕ) (o : Option ℕ) → d < n → IsAmong n (end_of (status_reply d k o))
 status_among n d k None below = tt
-status_among n d k (Some status) below = by_status (status == 0) where
-  by_status : (b : Bool) → IsAmong n (end_of (cond b Good (Ends (Refused d k status))))
-  by_status true = tt
-  by_status false = below
+status_among n d k (Some status) below = grind (arith, common_steps, cond)
 
 compared_among : (n d address : ℕ) (bytes got : List ℕ) (o : Option ℕ) → d < n → IsAmong n (end_of (compared d address bytes got o))
 compared_among n d address bytes got None below = tt
@@ -97,17 +92,11 @@ compared_among n d address bytes got (Some i) below = below
 
 read_among : (n : ℕ) (s : Upload) (d k j : ℕ) (o : Option ReadBack) → d < n → IsAmong n (end_of (read_reply s d k j o))
 read_among n s d k j None below = tt
-read_among n s d k j (Some r) below = by_status (r.status == 0) where
-  by_status : (b : Bool) → IsAmong n (end_of (cond b (compared d (read_address s j) (wanted s d j) r.bytes (first_other (wanted s d j) r.bytes)) (Ends (Refused d k r.status))))
-  by_status true = compared_among n d (read_address s j) (wanted s d j) r.bytes (first_other (wanted s d j) r.bytes) below
-  by_status false = below
+read_among n s d k j (Some r) below = grind (arith, common_steps, cond, compared_among)
 
 reply_among : (n : ℕ) (s : Upload) (d k : ℕ) (m : Result Up PacketFault) → d < n → IsAmong n (end_of (reply_in s d k m))
 unfolding reply_in
-reply_among n s d k m below = by_kind (is_read s d k) where
-  by_kind : (b : Bool) → IsAmong n (end_of (cond b (read_reply s d k (k - load_count s d) (read_in s d (k - load_count s d) m)) (status_reply d k (status_in s d k m))))
-  by_kind true = read_among n s d k (k - load_count s d) (read_in s d (k - load_count s d) m) below
-  by_kind false = status_among n d k (status_in s d k m) below
+reply_among n s d k m below = grind (arith, common_steps, cond, read_among, status_among)
 
 ended_for_among : (n : ℕ) (s : Upload) (from : ℕ) (packet : List ℕ) (o : Option Sent) → IfSome o (λ x. x.drone < n) → IsAmong n (ended_for s (event.Up from packet) o)
 ended_for_among n s from packet None below = tt
@@ -118,17 +107,11 @@ ended_by_among : (s : Upload) (g : List Event) (o : Option Event) → IsAmong (d
 ended_by_among s g None = tt
 ended_by_among s g (Some event.Tick) =
     gave_up_among (drone_count s) (find (λ x. ticks s g x == 20) (flight s g)) (found (λ (x : Sent). x.drone < drone_count s) (λ x. ticks s g x == 20) (flight s g) (flight_below s g))
-ended_by_among s g (Some (event.Up from packet)) =
-    ended_for_among (drone_count s) s from packet (find test (all_packets s)) (found (λ (x : Sent). x.drone < drone_count s) test (all_packets s) (packets_below s)) where
-      test : Sent → Bool
-      test x = ends_for s (acked s g) (event.Up from packet) x
+ended_by_among s g (Some (event.Up from packet)) = grind (arith, common_steps, ended_for_among, found, packets_below)
 
 ending_among : (s : Upload) (g : List Event) → IsAmong (drone_count s) (ending s g)
 unfolding ending
-ending_among s g = by_all (list_all (λ x. acked s g x.drone x.packet) (all_packets s)) where
-  by_all : (b : Bool) → IsAmong (drone_count s) (cond b Done (ended_by s g (slice_get g (length g - 1))))
-  by_all true = tt
-  by_all false = ended_by_among s g (slice_get g (length g - 1))
+ending_among s g = grind (arith, common_steps, cond, ended_by_among)
 
 or_else_among : (n : ℕ) (p q : Progress) → IsAmong n p → IsAmong n q → IsAmong n (or_else p q)
 or_else_among n Going q first second = second
@@ -161,10 +144,7 @@ StandsAfter v f readback start events = WorldStandsAt v (session_for f.settings 
 
 -- where a packet or a byte ends the upload, its drone is one of the show's
 pub among_names : (v : WorldState) (f : Fitted) (readback start : Bool) (events : List WorldEvent) (p : Progress) → IsValidFitted f → StandsAfter v f readback start events → p ≡ v.progress → IsAmong (length f.names) p
-among_names v f readback start events p valid stands is =
-    let s : Upload = session_for f.settings f.sent readback start in
-    subst (IsAmong (length f.names)) (sym (is ∙ stands.progress))
-    (subst (λ (n : ℕ). IsAmong n (progress s (rehearsed s events).heard)) (session_counted f readback start valid) (progress_among s (rehearsed s events).heard))
+among_names v f readback start events p valid stands is = grind (arith, common_steps, session_counted, progress_among)
 
 -- where the upload is done and nobody altered a byte, each drone's memory decodes
 decoded_names : (v : WorldState) (f : Fitted) (readback start : Bool) (events : List WorldEvent) → IsValidFitted f → (g : Grid) × Lands g f.settings f.sent → StandsAfter v f readback start events → v.progress ≡ Done →
@@ -191,11 +171,7 @@ text_as f g id names text same (rest, texts, is) = (rest, texts_as f g id 0 name
 -- what the progress of a world gives is what its events give
 pub rehearses_by : (v : WorldState) (f : Fitted) (s : PlainShow) (readback start : Bool) (events : List WorldEvent) (o : Outcome) → IsFitted f s → StandsAfter v f readback start events →
     RehearsalEnds v.progress s events (rehearsed (session_for f.settings f.sent readback start) events) o → Rehearses s readback start events o
-rehearses_by v f s readback start events o is stands ends =
-    let u : Upload = session_for f.settings f.sent readback start in
-    let same : u ≡ session_of s readback start = ap (λ (e : Settings). session_for e f.sent readback start) is.settings ∙ ap (λ (ts : List Traj). session_for s.settings ts readback start) is.sent in
-    subst (λ (x : Upload). RehearsalEnds (progress x (rehearsed x events).heard) s events (rehearsed x events) o) same
-    (subst (λ (p : Progress). RehearsalEnds p s events (rehearsed u events) o) stands.progress ends)
+rehearses_by v f s readback start events o is stands ends = grind (arith, common_steps)
 
 -- what a rehearsal gives that is done
 pub rehearses_done : (v : WorldState) (f : Fitted) (s : PlainShow) (readback start : Bool) (events : List WorldEvent) (text : List ℕ) → IsValidFitted f → (g : Grid) × Lands g f.settings f.sent → IsFitted f s →
@@ -218,11 +194,7 @@ rehearses_done v f s readback start events text valid lands is stands done said 
 -- what a text says over the names of what fits, it says over those of the show
 pub events_of_show : (f : Fitted) (s : PlainShow) (readback : Bool) (names : List Name) (bytes second : List ℕ) (events given : List WorldEvent) → IsFitted f s → names ≡ f.names → bytes ≡ second → given ≡ events →
     schedule_of readback (map (λ (name : Name). name.items) names) bytes ≡ Ok events → schedule_of readback (words_of s) second ≡ Ok given
-events_of_show f s readback names bytes second events given is named same same_events says =
-    let here : schedule_of readback (map (λ (name : Name). name.items) names) second ≡ Ok events =
-    subst (λ (text : List ℕ). schedule_of readback (map (λ (name : Name). name.items) names) text ≡ Ok events) same says in
-    subst (λ (ns : List Name). schedule_of readback (map (λ (name : Name). name.items) ns) second ≡ Ok given) (named ∙ is.names)
-    (here ∙ ap (λ (es : List WorldEvent). Ok es) (sym same_events))
+events_of_show f s readback names bytes second events given is named same same_events says = grind (arith, common_steps)
 
 nothing_refused : (too_long marked : Bool) (r q : Refusal) (line : Option ℕ) → too_long ≡ false → line ≡ None → marked ≡ false →
     cond too_long (Some r) (option_or (option_map (λ (n : ℕ). refusal.SecondLine n) line) (cond marked (Some q) None)) ≡ None
@@ -233,8 +205,4 @@ pub schedule_gives : (s : PlainShow) (readback start : Bool) (cut : Cut) (events
     schedule_of readback (words_of s) cut.second ≡ Ok events → cut.is_second_marked ≡ false → IfOk result (λ a. Rehearses s readback start events (outcome_of a)) →
     IfOk result (λ a. RehearseGives s readback start cut (outcome_of a))
 schedule_gives s readback start cut events (Err e) short is unmarked gives = tt
-schedule_gives s readback start cut events (Ok a) short is unmarked gives =
-    let none : schedule_refusal s readback cut ≡ None =
-    nothing_refused (nat_lt most_text (length cut.second)) cut.is_second_marked refusal.SecondTooLarge (refusal.SecondLine (marker_number cut.second))
-    (faulty_event (schedule_of readback (words_of s) cut.second)) (le-ltb most_text (length cut.second) short) (ap faulty_event is) unmarked in
-    subst (λ (why : Option Refusal). ScheduleGives why s readback start cut (outcome_of a)) (sym none) (events, is, gives)
+schedule_gives s readback start cut events (Ok a) short is unmarked gives = grind (arith, common_steps, nothing_refused, nat_lt, le-ltb)

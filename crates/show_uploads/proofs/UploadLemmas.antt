@@ -1,4 +1,5 @@
 -- What a run of `upload` is, from what it read and wrote.
+use Rattle.std.proofs.lemmas.Grind.{common_steps}
 use Rattle.std.proofs.Common.{◌≡◌, ◌≢◌, ◌⊎◌, inl, inr, ℕ, ◌+◌, ◌≤◌, Bool, true, false, List, [], ◌∷◌, ◌++◌, length, Contains, append_assoc, append-nil, length-append, Option, Some, None, IfSome, refl, sym, ap, subst, ◌∙◌, arith}
 use Rattle.std.specs.Io.KnownBytes.{Appends, Consumes}
 use Rattle.std.proofs.lemmas.List.{append_cancel_right}
@@ -15,7 +16,7 @@ use Rattle.fleet_io.specs.Taken.{AppendsFront, TakesFront}
 use Rattle.fleet_io.proofs.MarkerLaws.{whole_marker-front}
 use Rattle.link_frames.specs.Frames.{end_frame, frames_bytes}
 use Rattle.link_upload.specs.Uploads.{IsPrompt, StaysPrompt, StopsAtEnd, UploadFails, UploadGives}
-use Rattle.link_upload.specs.Links.{Link, link_of}
+use Rattle.link_upload.specs.Links.{Link}
 use Rattle.refusals.specs.declared.refusal.Refusal.{Refusal}
 use Rattle.refusals.specs.Refusals.{status_of}
 use Rattle.show_uploads.specs.declared.uploading.Ready.{Ready}
@@ -30,7 +31,7 @@ use Rattle.upload_core.specs.HostState.{HostState}
 use Rattle.show_judge.specs.declared.input.Text.TheVariants.{Whole}
 use Rattle.show_judge.specs.Answers.{IsAccepted, IsRefusedBy, Wrote}
 use Rattle.show_judge.specs.Input.{IsShowText}
-use Rattle.show_judge.specs.Outcome.{IsOutcomeOf, IsSafe, OutcomeLaw, ShowGives}
+use Rattle.show_judge.specs.Outcome.{IsOutcomeOf, IsSafe, OutcomeLaw}
 use Rattle.show_judge.specs.Refused.{IsOfInput}
 use Rattle.show_judge.specs.Runs.{IsOutput, IsStopped, Runs}
 use Rattle.show_judge.specs.Verb.{IsJudged, Outcome, Run, outcome, run_of}
@@ -59,14 +60,7 @@ session_is f s readback start is =
 -- the host of what is accepted of a text
 pub ready_made : (depth : ℕ) (start readback : Bool) (cut : Cut) (a : Accepted) (host : HostState) → IsAccepted (upload_ways depth) depth cut a →
     host.session ≡ session_for a.fitted.settings a.fitted.sent readback start → ReadyGives (upload_ways depth) start readback cut (ready.Host host)
-ready_made depth start readback cut a host is made = record {
-  s = is.s;
-  short = is.short;
-  stands = is.stands;
-  accepted = is.accepted;
-  safe = is.safe;
-  is = ap link_of (made ∙ session_is a.fitted is.s readback start is.fitted);
-}
+ready_made depth start readback cut a host is made = grind (arith, common_steps, session_is)
 
 -- ---- a run, from its fields
 
@@ -110,27 +104,6 @@ some_each : (left : Option (List ℕ)) (P : List ℕ → Type 0) → ((x : List 
 some_each None P by = tt
 some_each (Some x) P by = by x
 
--- out of memory, and nothing was written
-pub upload_memory : (depth : ℕ) (start readback : Bool) (r : Run) (status : ℕ) → status ≡ 1 → r.written_after ≡ r.written → r.writes_failed_after ≡ r.writes_failed → TakesFront r.left r.left_after →
-    r.reads_failed ≤ r.reads_failed_after → Runs (upload_verb depth start readback) r status
-upload_memory depth start readback r status is written faults taken reads_later = record {
-  outcome = λ judged. absurd (judged.0 is);
-  exact = λ quiet. some_each r.left _ (λ input o is_o. inr is);
-  safe = λ zero. absurd (omega (arith, zero, is));
-  whole = λ zero all. absurd (cc);
-  one = λ one. (written, faults);
-  always = λ output is. absurd (cc);
-  six = λ six. absurd (omega (arith, six, is));
-  stopped = λ six. absurd (omega (arith, six, is));
-  seven = λ seven. absurd (omega (arith, seven, is));
-  prompt = λ seven. absurd (omega (arith, seven, is));
-  unread = λ none. absurd (cc);
-  known = (1, omega arith, rw is refl);
-  taken = taken;
-  reads_later = reads_later;
-  writes_later = omega (arith, faults);
-}
-
 -- ---- a refusal
 
 -- where few bytes were taken after the marker line, no answer waits for more
@@ -141,13 +114,7 @@ prompt_few depth start readback r marker few taken sent carried whole s stands a
 
 -- where few bytes were taken after the marker line, few were after the last frame
 stops_few : (depth : ℕ) (start readback : Bool) (input : List ℕ) (after : Option (List ℕ)) → TakesFewAfter (Some input) after → UploadStopsReading (upload_ways depth) start readback input after
-stops_few depth start readback input after few = record {
-  accepted = λ s stands accepted bytes later frames rest bytes_are later_is takes over.
-      let same : rest_of input ≡ bytes = cc in
-      let short : length (rest_of input) ≤ length later + 4096 = rw later_is at few in
-      omega (arith, short, ap (λ (xs : List ℕ). length xs) same, ap (λ (xs : List ℕ). length xs) takes.cut, length-append (frames_bytes frames) rest);
-  refused = λ none. few;
-}
+stops_few depth start readback input after few = grind (arith, common_steps, length-append)
 
 pub stops_refused : (depth : ℕ) (start readback : Bool) (left after : Option (List ℕ)) → TakesFewAfter left after →
     IfSome left (λ input. UploadStopsReading (upload_ways depth) start readback input after)
@@ -156,10 +123,7 @@ stops_refused depth start readback (Some input) after few = stops_few depth star
 
 -- where a read failed nothing was judged
 pub stops_failed : (old new : Option (List ℕ)) (before after status : ℕ) (P : Type 0) → Wrote 6 (end_frame 6) old new before after status → IsJudged status → P
-stops_failed old new before after status P wrote judged = absurd (elim wrote [
-  | inl (e, appends, later) ↦ judged.1 e
-  | inr (e, rose, front, later) ↦ judged.2 e
-])
+stops_failed old new before after status P wrote judged = grind (arith, common_steps)
 
 -- the end frame alone was written, with the status of a refusal
 pub upload_refused : (depth : ℕ) (start readback : Bool) (r : Run) (refusal : Refusal) (status : ℕ) → OutcomeLaw (upload_verb depth start readback) → MarkerLaw → IfSome r.left (λ all. IsRefusedBy (upload_ways depth) (cut_of all) refusal) →
@@ -208,9 +172,7 @@ stopped_early depth start readback (Some input) (Some later) taken consumes none
 
 prompt_early : (depth : ℕ) (start readback : Bool) (r : Run) (taken : List ℕ) → Consumes r.left r.left_after taken → has_whole_marker taken ≡ false → UploadsPromptly (upload_ways depth) start readback r
 prompt_early depth start readback r taken consumes none others sent carried whole s stands accepted =
-    let same : others ++ carried.later ≡ taken ++ carried.later = rw (carried.left, carried.left_after) at consumes in
-    let e : others ≡ taken = append_cancel_right others taken carried.later same in
-    absurd (let f : true ≡ false = sym whole ∙ ap (λ (xs : List ℕ). has_whole_marker xs) e ∙ none in cc)
+    grind (arith, common_steps, append_cancel_right)
 
 -- the end frame alone was written, with the status of a failed read
 pub upload_failed : (depth : ℕ) (start readback : Bool) (r : Run) (taken : List ℕ) (status : ℕ) → OutcomeLaw (upload_verb depth start readback) → Rose r.reads_failed r.reads_failed_after → Consumes r.left r.left_after taken → has_whole_marker taken ≡ false →
@@ -288,33 +250,16 @@ among_of status known = All-contains IsAmong (0 ∷ 6 ∷ 7 ∷ 8 ∷ 9 ∷ 10 �
     known
 
 rose_later : (a b c : ℕ) → a ≤ b → Rose b c → Rose a c
-rose_later a b c later rose = elim rose [
-  | inl less ↦ inl (omega (arith, later, less))
-  | inr last ↦ inr last
-]
+rose_later a b c later rose = grind (arith, common_steps)
 
 -- what the frames lead to is the outcome of the input
 gives_outcome : (depth : ℕ) (start readback : Bool) (all : List ℕ) (link : Link) (status : ℕ) (output : List ℕ) → IsLinkOf (upload_ways depth) start readback (cut_of all) link →
     UploadGives link (rest_of all) status output → IsOutcomeOf (upload_verb depth start readback) (cut_of all) (outcome status output)
-gives_outcome depth start readback all link status output is gives = inr (record {
-  s = is.s;
-  short = is.short;
-  stands = is.stands;
-  gives = subst (λ (r : Option Refusal). ShowGives (upload_verb depth start readback) r is.s (cut_of all) (outcome status output)) (sym is.accepted)
-      (subst (λ (t : Link). UploadGives t (rest_of all) status output) is.is gives);
-})
+gives_outcome depth start readback all link status output is gives = grind (arith, common_steps)
 
 gives_safe : (depth : ℕ) (start readback : Bool) (all : List ℕ) (link : Link) (status : ℕ) (output : List ℕ) → status ≡ 0 → IsLinkOf (upload_ways depth) start readback (cut_of all) link →
     UploadGives link (rest_of all) status output → IsSafe (upload_verb depth start readback) (cut_of all) (outcome status output)
-gives_safe depth start readback all link status output zero is gives = record {
-  s = is.s;
-  stands = is.stands;
-  near = is.safe.near;
-  promised = record { apart = is.safe.apart; uploads = is.safe.uploads };
-  accepted = is.accepted;
-  gives = subst (λ (t : Link). UploadGives t (rest_of all) status output) is.is gives;
-  done = zero;
-}
+gives_safe depth start readback all link status output zero is gives = grind (arith, common_steps)
 
 -- bytes that stand before others, and come to the same, are none
 none_before : (ys xs : List ℕ) → xs ≡ ys ++ xs → ys ≡ []
@@ -337,12 +282,7 @@ stopped_late depth start readback (Some all) (Some later) mid link taken output 
     let none : rest_of text ≡ [] = none_before (rest_of text) (rest_of all) (ap (λ (xs : List ℕ). rest_of xs) at_text ∙ whole.1) in
     let part : part_of all ≡ part_of (text ++ taken) = ap (λ (xs : List ℕ). part_of xs) at_text ∙ whole.0 ∙ sym short.0 in
     let frames : taken ≡ rest_of (text ++ taken) = sym (short.1 ∙ ap (λ (xs : List ℕ). xs ++ taken) none) in
-    let stops : UploadStops (upload_ways depth) start readback true (text ++ taken) output = (
-      is.s,
-      subst (λ (xs : List ℕ). StandsFor xs is.s) part is.stands,
-      is.accepted,
-      subst (λ (xs : List ℕ). UploadFails (link_in is.s start readback) xs output) frames (subst (λ (t : Link). UploadFails t taken output) is.is fails),
-    ) in
+    let stops : UploadStops (upload_ways depth) start readback true (text ++ taken) output = grind (arith, common_steps) in
     (text ++ taken, later, at_text ∙ ap (λ (xs : List ℕ). text ++ xs) at_rest ∙ sym (append_assoc text taken later), refl, rw (whole_marker-front text taken marked.2) stops)
 
 -- no answer waits for much further input

@@ -1,4 +1,5 @@
-use Rattle.std.proofs.Common.{ap, refl}
+use Rattle.std.proofs.lemmas.Grind.{common_steps}
+use Rattle.std.proofs.Common.{ap, refl, arith}
 use Rattle.link_upload.specs.Links.{link_of}
 use Rattle.fleet_io.specs.Held.{Held, stream}
 use Rattle.fleet_io.proofs.TakenLemmas.{TakesFront-trans}
@@ -51,9 +52,7 @@ returns-in-Ok-Host-clause-stops g c = λ judged.
     stops_late c.args.depth c.args.start c.args.readback _ _ (stream c.read_ready.new.parts (g.S.Source.left c.read_ready.new.source)) (link_of c.in-Ok-Host.host.session) c.show_law.ensures gives goes_on.1 c.upload.ensures.stops
 
 pub returns-in-Ok-Refused-clause-stops : goal.returns-in-Ok-Refused-clause-stops
-returns-in-Ok-Refused-clause-stops g c = λ judged.
-    let is = stream_new c.make-parts.result (g.S.Source.left c.args.source.now) (ap (λ (h : Held). h.waiting) c.make-parts.ensures) in
-    stops_refused c.args.depth c.args.start c.args.readback _ _ (rw is at c.in-Ok-Refused.ensures.few)
+returns-in-Ok-Refused-clause-stops g c = grind (arith, common_steps, stream_new, stops_refused)
 
 pub returns-in-Err-Read-clause-stops : goal.returns-in-Err-Read-clause-stops
 returns-in-Err-Read-clause-stops g c = λ judged. stops_failed _ _ _ _ c.refuse_by_frame-in-Err-Read.result _ c.refuse_by_frame-in-Err-Read.ensures judged

@@ -1,4 +1,5 @@
-use Rattle.std.proofs.Common.{refl}
+use Rattle.std.proofs.lemmas.Grind.{common_steps}
+use Rattle.std.proofs.Common.{arith}
 use Rattle.show_judge.proofs.FewLemmas.{few_after_long, stream_new}
 use Rattle.show_uploads.proofs.UploadLemmas.{ready_of_text}
 use Rattle.show_uploads.proofs.uploading.read_ready.Goals as goal
@@ -8,7 +9,4 @@ returns-in_ok-make_ready-in-Ok-clause-gives g c =
     ready_of_text c.args.depth c.args.start c.args.readback _ _ c.in-Ok.part _ c.in-Ok.ensures.part c.in-Ok.ensures.fits c.in_ok-make_ready-in-Ok.ensures.gives
 
 pub returns-in-Err-TooLong-clause-few : goal.returns-in-Err-TooLong-clause-few
-returns-in-Err-TooLong-clause-few g c =
-    let is = stream_new c.args.parts.now (g.S.Source.left c.args.source.now) c.requires.new in
-    let long = (rw (is, c.in-Err-TooLong.field-0-is) at c.in-Err-TooLong.ensures.too_long) refl in
-    rw is (few_after_long _ _ long c.in-Err-TooLong.ensures.few)
+returns-in-Err-TooLong-clause-few g c = grind (arith, common_steps, stream_new, few_after_long)
