@@ -1,4 +1,5 @@
 -- Drones that are far apart on an axis are separated by its direction.
+use Rattle.std.proofs.lemmas.Grind.{common_steps}
 use Rattle.std.proofs.Common.{◌≡◌, ◌⊎◌, inl, inr, ℕ, zero, suc, ◌+◌, ◌*◌, ◌≤◌, ℤ, pos, negsuc, neg_ℤ, ◌+ℤ◌, ◌-ℤ◌, ◌*ℤ◌, ◌≤ℤ◌, ◌<ℤ◌, unsigned_abs, arith, refl, sym, ◌∙◌, ap, List, [], ◌∷◌}
 use Rattle.std.proofs.lemmas.Int.{ints, unsigned_abs-mul}
 use Rattle.fleet_math.specs.Bernstein.{at}
@@ -20,20 +21,11 @@ use Rattle.pair_search.specs.Search.{HasDirection}
 
 -- (2 p + 1)^2 is above 4 p^2
 square_above : (r h : ℕ) → (pos (4 * (r * r) * (h * h)) *ℤ pos 1) <ℤ pos ((2 * (r * h) + 1) * (2 * (r * h) + 1))
-square_above r h = omega (arith, ints, same r h, wide (r * h))
-  where
-    same : (r h : ℕ) → 4 * (r * r) * (h * h) ≡ 4 * ((r * h) * (r * h))
-    same r h = grind arith
-
-    wide : (p : ℕ) → (2 * p + 1) * (2 * p + 1) ≡ 4 * (p * p) + 4 * p + 1
-    wide p = grind arith
+square_above r h = grind (arith, common_steps, ints)
 
 -- what the strays take away along an axis with this weight is at most twice a stray, times the weight
 square_reaching : (stray other : ℕ) → ((pos (4 * (stray * stray)) *ℤ pos (other * other)) -ℤ pos 1) <ℤ pos ((2 * (stray * other)) * (2 * (stray * other)))
-square_reaching stray other = omega (arith, ints, same stray other)
-  where
-    same : (s o : ℕ) → 4 * (s * s) * (o * o) ≡ (2 * (s * o)) * (2 * (s * o))
-    same s o = grind arith
+square_reaching stray other = grind (arith, common_steps, ints)
 
 -- the threshold along an axis with this weight is at most that of the ellipsoids, that of the strays, and the way of a late drone
 axis_threshold : (c : Clearance) (n : List ℤ) (half other reach : ℕ) → length_squared n ≡ pos 1 → length_squared (weights n c.r c.h) ≡ pos (other * other) →
@@ -86,20 +78,13 @@ square_one : (w : ℕ) → (pos 1 *ℤ pos w) *ℤ (pos 1 *ℤ pos w) ≡ pos (w
 square_one w = ap (λ (z : ℤ). z *ℤ z) (one_mul_ℤ (pos w))
 
 square_minus : (w : ℕ) → (negsuc 0 *ℤ pos w) *ℤ (negsuc 0 *ℤ pos w) ≡ pos (w * w)
-square_minus w =
-    ap (λ (z : ℤ). z *ℤ z) (minus_one (pos w)) ∙ neg_mul_ℤ (pos w) (neg_ℤ (pos w)) ∙ ap (λ (z : ℤ). neg_ℤ z) (mul_neg_ℤ (pos w) (pos w)) ∙ twice (pos w *ℤ pos w)
-  where
-    twice : (z : ℤ) → neg_ℤ (neg_ℤ z) ≡ z
-    twice z = omega (arith, linear)
+square_minus w = grind (arith, common_steps, minus_one, pos, neg_mul_ℤ, neg_ℤ, mul_neg_ℤ)
 
 size_one : (w : ℕ) → unsigned_abs (pos 1 *ℤ pos w) ≡ w
 size_one w = ap (λ (z : ℤ). unsigned_abs z) (one_mul_ℤ (pos w))
 
 size_minus : (w : ℕ) → unsigned_abs (negsuc 0 *ℤ pos w) ≡ w
-size_minus w = unsigned_abs-mul (negsuc 0) (pos w) ∙ one w
-  where
-    one : (w : ℕ) → 1 * w ≡ w
-    one w = omega arith
+size_minus w = grind (arith, common_steps, unsigned_abs-mul, negsuc, pos)
 
 size_none : (w : ℕ) → unsigned_abs (pos 0 *ℤ pos w) ≡ 0
 size_none w = ap (λ (z : ℤ). unsigned_abs z) (zero_mul_ℤ (pos w))
@@ -130,22 +115,13 @@ only_third : (x y z : ℤ) (w : ℕ) → x ≡ pos 0 → y ≡ pos 0 → z ≡ p
 only_third x y z w a b c = omega (arith, linear, a, b, c)
 
 first_way : (u v w x y z other : ℕ) → u ≡ other → v ≡ 0 → w ≡ 0 → pos (u * x + v * y + w * z) ≡ pos (other * x)
-first_way u v w x y z other a b c = rw (a, b, c) (ap (λ (n : ℕ). pos n) (none (other * x)))
-  where
-    none : (n : ℕ) → n + 0 * y + 0 * z ≡ n
-    none n = omega arith
+first_way u v w x y z other a b c = grind (arith, common_steps, pos)
 
 second_way : (u v w x y z other : ℕ) → u ≡ 0 → v ≡ other → w ≡ 0 → pos (u * x + v * y + w * z) ≡ pos (other * y)
-second_way u v w x y z other a b c = rw (a, b, c) (ap (λ (n : ℕ). pos n) (none (other * y)))
-  where
-    none : (n : ℕ) → 0 * x + n + 0 * z ≡ n
-    none n = omega arith
+second_way u v w x y z other a b c = grind (arith, common_steps, pos)
 
 third_way : (u v w x y z other : ℕ) → u ≡ 0 → v ≡ 0 → w ≡ other → pos (u * x + v * y + w * z) ≡ pos (other * z)
-third_way u v w x y z other a b c = rw (a, b, c) (ap (λ (n : ℕ). pos n) (none (other * z)))
-  where
-    none : (n : ℕ) → 0 * x + 0 * y + n ≡ n
-    none n = omega arith
+third_way u v w x y z other a b c = grind (arith, common_steps, pos)
 
 module _ (c : Clearance) (diff : List (Bez 8)) where
   -- the control values of the whole, on an axis

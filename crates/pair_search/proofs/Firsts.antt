@@ -1,4 +1,5 @@
 -- The first direction that separates a place.
+use Rattle.std.proofs.lemmas.Grind.{common_steps}
 use Rattle.std.proofs.Common.{◌≡◌, ℕ, ◌+◌, ◌-◌, ◌≤◌, ◌<◌, ℤ, pos, ◌≤ℤ◌, ◌<ℤ◌, Bool, true, false, zero, suc, ◌∷◌, cond, nat_lt, arith, refl, sym, subst, List, [], length, get_or, Option, Some, None, is_none, not}
 use Rattle.std.specs.List.{position, position_or_len}
 use Rattle.std.proofs.lemmas.List.Sums.{position_or_len_is}
@@ -22,10 +23,7 @@ use Rattle.pair_search.proofs.LaneLemmas.{lane_fails_at}
 
 -- the first place where a test passes
 pub position-is : {X : Type 0} (p : X → Bool) (xs : List X) (i : ℕ) (d : X) → i < length xs → ((k : ℕ) → k < i → p (get_or xs k d) ≡ false) → p (get_or xs i d) ≡ true → position p xs ≡ Some i
-position-is p xs i d inside before here =
-    let e : position_or_len p xs ≡ i = position_or_len_is p xs i d (omega arith) before (λ less. here) in
-    let less : nat_lt i (length xs) ≡ true = grind (arith, nat_tests) in
-    rw (e, less) refl
+position-is p xs i d inside before here = grind (arith, common_steps, position_or_len_is, nat_lt, nat_tests)
 
 -- no place passes
 pub position-none : {X : Type 0} (p : X → Bool) (xs : List X) (d : X) → ((k : ℕ) → k < length xs → p (get_or xs k d) ≡ false) → position p xs ≡ None

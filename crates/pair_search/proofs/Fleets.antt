@@ -1,4 +1,5 @@
 -- The walk over the slots of a fleet: what is found at one of them, and what has been found of those before it.
+use Rattle.std.proofs.lemmas.Grind.{common_steps}
 use Rattle.std.proofs.Common.{◌≡◌, ℕ, ◌+◌, ◌-◌, ◌*◌, ◌^◌, ◌<◌, ◌≤◌, arith, length, refl, sym, ◌∙◌, ap, subst, List, [], ◌∷◌, ◌++◌, append_assoc, map, Option, Some, None, Result, Ok, Err}
 use Rattle.std.specs.Option.{option_map, option_or}
 use Rattle.std.proofs.lemmas.List.Sums.{sum_by-cons}
@@ -127,14 +128,7 @@ past m depth curves slot after rest drones cues here clear after_is drones_are c
     let next = next_ahead curves.drones curves.cues slot rest (some_ahead curves.drones curves.cues slot rest here pending.ahead) in
     let is : after ≡ following curves.drones curves.cues slot =
     after_is ∙ ap (λ (n : ℕ). following n cues slot) drones_are ∙ ap (λ (n : ℕ). following curves.drones n slot) cues_are in
-    record {
-      next = next.0;
-      is = next.1;
-      pending = record {
-        ahead = subst (λ (s : Slot). IsAhead curves.drones curves.cues s next.0) (sym is) next.2;
-        blocked = clear_next m depth curves rest next.0 slot _ next.1 clear pending.blocked;
-      };
-    }
+    grind (arith, common_steps)
 
 -- a slot that is blocked stops the walk
 pub stopped : (m : Measure) (depth : ℕ) (curves : Raised) (slot : Slot) (rest : List Slot) (f : SearchFault) → slot.b < curves.drones →

@@ -1,4 +1,5 @@
 -- Numbers of lanes, and what they tell of a direction.
+use Rattle.std.proofs.lemmas.Grind.{common_steps}
 use Rattle.std.proofs.Common.{lit<, ◌≡◌, ◌≢◌, inl, inr, ℕ, zero, suc, ◌+◌, ◌*◌, ◌^◌, ◌≤◌, ◌<◌, ℤ, pos, negsuc, neg_ℤ, ◌+ℤ◌, ◌-ℤ◌, ◌*ℤ◌, ◌≤ℤ◌, ◌<ℤ◌, unsigned_abs, FitsSigned, to_z, of_z, arith, refl, sym, ◌∙◌, ap, subst, List, length, get_or-set_other, get_or-set_same, slice_set, replicate, below_more, is_none, false, true, Option, Some, None}
 use lib.Signed.{lt_z}
 use Rattle.std.proofs.lemmas.Int.{ints, unsigned_abs-mul, to_z-of_z}
@@ -135,20 +136,11 @@ ones_small m (suc n) zero some = (omega (arith, ints), omega (arith, ints))
 ones_small m (suc n) (suc j) some = ones_small m n j some
 
 by_same : {P : Type 0} (j i : ℕ) → (j ≡ i → P) → (j ≢ i → P) → P
-by_same {P} j i same other = by_lt j i (λ less. other (not_less j i less)) (λ more. by_lt i j (λ less. other (not_more j i less)) (λ most. same (omega (arith, more, most))))
-  where
-    not_less : (j i : ℕ) → j < i → j ≢ i
-    not_less j i less = omega arith
-
-    not_more : (j i : ℕ) → i < j → j ≢ i
-    not_more j i less = omega arith
+by_same {P} j i same other = grind (arith, common_steps, by_lt)
 
 -- what holds of each entry and of a new one holds after the new one is put in
 pub set_all : (P : ℤ → Type 0) (xs : List ℤ) (i j : ℕ) (v : ℤ) → i < length xs → P v → P (at xs j) → P (at (slice_set xs i v) j)
-set_all P xs i j v inside new old =
-    by_same j i
-    (λ (same : j ≡ i). rw (same, get_or-set_same) new)
-    (λ (ne : j ≢ i). rw get_or-set_other old)
+set_all P xs i j v inside new old = grind (arith, common_steps, by_same, get_or-set_same, get_or-set_other)
 
 abbrev put_lane : Lanes → ℕ → ℤ → ℤ → ℤ → ℤ → Lanes
 put_lane l i x y z low = record { x = slice_set l.x i x; y = slice_set l.y i y; z = slice_set l.z i z; low = slice_set l.low i low }
@@ -165,27 +157,12 @@ small_lane l i j x y z low x_long y_long z_long low_long inside x_small y_small 
 
 -- another lane stays as it was
 pub kept_lane : (clear : Clearance) (n : List ℤ) (l : Lanes) (i j : ℕ) (x y z low : ℤ) → j ≢ i → IsLane clear n l j → IsLane clear n (put_lane l i x y z low) j
-kept_lane clear n l i j x y z low ne is = record {
-  x = rw get_or-set_other is.x;
-  y = rw get_or-set_other is.y;
-  z = rw get_or-set_other is.z;
-  low = rw get_or-set_other is.low;
-}
+kept_lane clear n l i j x y z low ne is = grind (arith, common_steps, get_or-set_other)
 
 -- the new lane
 pub new_lane : (clear : Clearance) (n : List ℤ) (l : Lanes) (i : ℕ) (x y z low : ℤ) → length l.x ≡ 112 → length l.y ≡ 112 → length l.z ≡ 112 → length l.low ≡ 112 → i < 112 →
     x ≡ at (weights n clear.r clear.h) 0 → y ≡ at (weights n clear.r clear.h) 1 → z ≡ at (weights n clear.r clear.h) 2 → (pos 16384 *ℤ (low +ℤ slack_of (weights n clear.r clear.h))) ≤ℤ (pos 5040 *ℤ threshold clear n) → IsLane clear n (put_lane l i x y z low) i
-new_lane clear n l i x y z low x_long y_long z_long low_long inside x_is y_is z_is reach =
-    let x_in : i < length l.x = omega (arith, x_long, inside) in
-    let y_in : i < length l.y = omega (arith, y_long, inside) in
-    let z_in : i < length l.z = omega (arith, z_long, inside) in
-    let low_in : i < length l.low = omega (arith, low_long, inside) in
-    record {
-      x = rw get_or-set_same x_is;
-      y = rw get_or-set_same y_is;
-      z = rw get_or-set_same z_is;
-      low = rw get_or-set_same reach;
-    }
+new_lane clear n l i x y z low x_long y_long z_long low_long inside x_is y_is z_is reach = grind (arith, common_steps, get_or-set_same)
 
 -- ---- a lane that is too low
 -- the steps of a part, and what it has to be at least
@@ -255,10 +232,7 @@ lane_fails_at diff level clear n l p q i is start end lane (inr less) = lane_fai
 
 -- a test of a number of 32 bits
 pub told_less : (x : ℤ) → FitsSigned w32 x → lt_z (to_z w32 (of_z w32 x)) (pos 0) ≡ true → x <ℤ pos 0
-told_less x fits is = less x (rw (to_z-of_z w32 x fits) at is)
-  where
-    less : (x : ℤ) → lt_z x (pos 0) ≡ true → x <ℤ pos 0
-    less x e = grind (arith, ints)
+told_less x fits is = grind (arith, common_steps, ints, to_z-of_z, pos)
 
 -- ---- whole steps
 -- a value of a part is few steps
@@ -286,7 +260,4 @@ floor_small e v q below floor = within q floor.low floor.high
 
 -- it fits 64 bits where it is halved at most four times
 pub value_short : (e : ℕ) (v : ℤ) → e ≤ 4 → IsBelow (2 ^ (7 * e) * 2 ^ 30) v → FitsSigned w64 v
-value_short e v shallow below =
-    let shift : 7 * e ≤ 28 = omega arith in
-    let few : 2 ^ (7 * e) ≤ 2 ^ 28 = pow-le-pow_right {n = 2} (lit< tt) shift in
-    omega (arith, ints, few, below)
+value_short e v shallow below = grind (arith, common_steps, ints, pow-le-pow_right, lit<)

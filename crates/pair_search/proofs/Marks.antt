@@ -1,5 +1,6 @@
 -- A search that asks only whether a place has a direction finds trees of the same shape.
-use Rattle.std.proofs.Common.{◌≡◌, ℕ, zero, suc, ◌+◌, ◌-◌, ◌≤◌, ◌<◌, ◌^◌, arith, refl, sym, ◌∙◌, ap, List, [], ◌∷◌, ◌++◌, length, length-append, Option, Some, None, is_none, true, false, cond, nat_lt, ℤ, Ok}
+use Rattle.std.proofs.lemmas.Grind.{common_steps}
+use Rattle.std.proofs.Common.{◌≡◌, ℕ, zero, suc, ◌+◌, ◌≤◌, ◌<◌, ◌^◌, arith, refl, sym, ◌∙◌, ap, List, [], ◌∷◌, ◌++◌, length, length-append, Option, Some, None, is_none, true, false, cond, nat_lt, ℤ, Ok}
 use Rattle.std.specs.Option.{is_some, option_map, option_or}
 use Rattle.bezier_core.specs.declared.Bez.{Bez}
 use Rattle.halving.specs.declared.Place.{Place}
@@ -83,10 +84,7 @@ marked_size first (suc n) p =
 size_told : (o other : Option Tree) (nodes : List Node) → option_map preorder o ≡ Some nodes → sized o ≡ sized other → length nodes ≡ length (nodes_of other)
 size_told None other nodes is same = absurd (cc)
 size_told (Some tree) None nodes is same = absurd (cc)
-size_told (Some tree) (Some other) nodes is same =
-    let nodes_are : preorder tree ≡ nodes = cc in
-    let sizes_are : length (preorder tree) ≡ length (preorder other) = cc in
-    ap (λ (ns : List Node). length ns) (sym nodes_are) ∙ sizes_are
+size_told (Some tree) (Some other) nodes is same = grind (arith, common_steps)
 
 -- ---- the walk by marks
 -- the state of a walk that counts its nodes: so many, and at most 511 in all
@@ -110,13 +108,7 @@ size_at (suc (suc (suc (suc (suc (suc (suc (suc (suc n))))))))) few = absurd (om
 
 -- at the beginning
 pub count_begun : (first : Place → Option ℕ) (depth : ℕ) (stack : List Level) → depth ≤ 8 → places_of stack ≡ root ∷ [] → IsWalk (marked first) depth (root ∷ []) [] → IsCount first depth (places_of stack) 0
-count_begun first depth stack few is begun =
-    rw is record {
-      nodes = [];
-      walk = begun;
-      counted = refl;
-      room = omega (arith, size_at (depth - 0) (omega arith));
-    }
+count_begun first depth stack few is begun = grind (arith, common_steps, begun, size_at)
 
 -- past a node
 pub count_past : (first : Place → Option ℕ) (depth : ℕ) → ((p : Place) → Has first p → Has first (left_half p)) → ((p : Place) → Has first p → Has first (right_half p)) →

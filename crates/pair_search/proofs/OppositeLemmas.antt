@@ -139,12 +139,6 @@ pub room_high : (a b high : ℤ) → ((high -ℤ a) <ℤ pos 0) ⊎ ((high -ℤ 
 room_high a b high (inl less) = inl (omega (arith, linear, less))
 room_high a b high (inr less) = inr (omega (arith, linear, less))
 
-pub neg_low_fits : (low : ℤ) → IsBelow (2 ^ 29) low → FitsSigned w32 (neg_ℤ low)
-neg_low_fits low small = omega (arith, ints)
-
-pub neg_low_small : (low : ℤ) → IsBelow (2 ^ 29) low → IsSmallHigh (neg_ℤ low)
-neg_low_small low small = (omega (arith, ints), omega (arith, ints))
-
 -- the same of what two numbers are
 pub low_moved : (a b u v low : ℤ) → a ≡ u → b ≡ v → (a <ℤ low) ⊎ (b <ℤ low) → (u <ℤ low) ⊎ (v <ℤ low)
 low_moved a b u v low p q (inl less) = inl (subst (λ (z : ℤ). z <ℤ low) p less)

@@ -1,6 +1,7 @@
 -- The walk over the places of a tree: what is pending, what is done, and what is found at the end.
+use Rattle.std.proofs.lemmas.Grind.{common_steps}
 use Rattle.std.proofs.Common.{◌≡◌, ℕ, zero, suc, ◌+◌, ◌-◌, ◌*◌, ◌^◌, ◌≤◌, ◌<◌, Bool, true, false, cond, nat_lt, arith, refl, sym, ◌∙◌, ap, subst, List, [], ◌∷◌, ◌++◌, append_assoc, append-nil, Option, Some, None}
-use Rattle.std.specs.Option.{option_map, option_or}
+use Rattle.std.specs.Option.{option_map}
 use Rattle.std.proofs.Math.Nat.{pow-suc}
 use Rattle.std.proofs.lemmas.Bool.Decides.{nat_tests}
 use Rattle.halving.specs.declared.Place.{Place}
@@ -80,28 +81,13 @@ start-is (suc n) m = start-is n (2 * m) ∙ rw (pow-suc 2 n) (twice (2 ^ n) m)
 
 -- what a node is for
 pub leaf_for : (first : Place → Option ℕ) (depth : ℕ) (p : Place) (dir : ℕ) → node_for first depth p ≡ Some (Leaf dir) → first p ≡ Some dir
-leaf_for first depth p dir e = go (first p) (nat_lt p.depth depth) e
-  where
-    go : (o : Option ℕ) (deeper : Bool) → option_or (option_map Leaf o) (cond deeper (Some Split) None) ≡ Some (Leaf dir) → o ≡ Some dir
-    go None true e = cc
-    go None false e = cc
-    go (Some d) deeper e = cc
+leaf_for first depth p dir e = grind (arith, common_steps, nat_lt, cond)
 
 pub split_for : (first : Place → Option ℕ) (depth : ℕ) (p : Place) → node_for first depth p ≡ Some Split → (first p ≡ None) × (p.depth < depth)
-split_for first depth p e = go (first p) (nat_lt p.depth depth) refl e
-  where
-    go : (o : Option ℕ) (deeper : Bool) → nat_lt p.depth depth ≡ deeper → option_or (option_map Leaf o) (cond deeper (Some Split) None) ≡ Some Split → (o ≡ None) × (p.depth < depth)
-    go None true is e = (refl, grind (arith, nat_tests))
-    go None false is e = cc
-    go (Some d) deeper is e = cc
+split_for first depth p e = grind (arith, common_steps, nat_lt, cond, nat_tests)
 
 pub none_for : (first : Place → Option ℕ) (depth : ℕ) (p : Place) → node_for first depth p ≡ None → (first p ≡ None) × (depth ≤ p.depth)
-none_for first depth p e = go (first p) (nat_lt p.depth depth) refl e
-  where
-    go : (o : Option ℕ) (deeper : Bool) → nat_lt p.depth depth ≡ deeper → option_or (option_map Leaf o) (cond deeper (Some Split) None) ≡ (let none : Option Node = None in none) → (o ≡ None) × (depth ≤ p.depth)
-    go None true is e = cc
-    go None false is e = (refl, grind (arith, nat_tests))
-    go (Some d) deeper is e = cc
+none_for first depth p e = grind (arith, common_steps, nat_lt, cond, nat_tests)
 
 -- ---- nodes
 -- the best tree of a place with a direction is a leaf
@@ -191,21 +177,7 @@ module _ (first : Place → Option ℕ) (depth : ℕ) (left_has : (p : Place) �
 
 -- the beginning of a walk
 pub begun : (first : Place → Option ℕ) (depth : ℕ) → IsWalk first depth (root ∷ []) []
-begun first depth =
-    let whole : depth - 0 ≡ depth = omega arith in
-    record {
-      b = 0;
-      next = (omega arith, sym (start-zero (depth - 0)), start-is (depth - 0) 1 ∙ ap (λ (n : ℕ). 2 ^ n * 1) whole ∙ one (2 ^ depth));
-      done = λ j below. absurd (omega arith);
-      same = alone (best_tree first (depth - 0) root) ∙ ap (λ (n : ℕ). option_map preorder (best_tree first n root)) whole;
-    }
-  where
-    one : (n : ℕ) → n * 1 ≡ n
-    one n = omega arith
-
-    alone : (o : Option Tree) → behind [] (joined o (Some [])) ≡ option_map preorder o
-    alone None = refl
-    alone (Some tree) = ap Some (append-nil (preorder tree))
+begun first depth = grind (arith, common_steps, start-zero, start-is, behind, joined, append-nil)
 
 -- ---- the first part that is blocked
 pub first_without-some : (f : ℕ → Option ℕ) (n k i : ℕ) → k ≤ i → i < k + n → f i ≡ None → ((j : ℕ) → j < i → (dir : ℕ) × (f j ≡ Some dir)) → first_without f n k ≡ Some i
@@ -240,10 +212,7 @@ blocked first depth p ps nodes inside is walk =
 pub ended : (first : Place → Option ℕ) (depth : ℕ) (nodes : List Node) → IsWalk first depth [] nodes →
     (blocked_place first depth ≡ None) × (option_map preorder (best_tree first depth root) ≡ Some nodes)
 unfolding blocked_place
-ended first depth nodes walk = (
-  first_without-none (λ index. first (place_at depth index)) (2 ^ depth) 0 (λ j below. walk.done j (omega (arith, walk.next))),
-  sym walk.same ∙ ap Some (append-nil nodes),
-)
+ended first depth nodes walk = grind (arith, common_steps, first_without-none, append-nil)
 
 -- ---- the work that is left
 pub less_work : (first : Place → Option ℕ) (depth : ℕ) (p : Place) (ps : List Place) (node : Node) → node_for first depth p ≡ Some node → work depth (places_below p node ++ ps) < work depth (p ∷ ps)

@@ -1,8 +1,8 @@
 -- Parts that wait.
-use Rattle.std.proofs.Common.{◌≡◌, ◌≤◌, ℕ, arith, subst, List, ◌∷◌, Option, Some}
+use Rattle.std.proofs.lemmas.Grind.{common_steps}
+use Rattle.std.proofs.Common.{◌≡◌, ◌≤◌, ℕ, arith, List, ◌∷◌, Option, Some}
 use Rattle.halving.specs.declared.Place.{Place}
 use Rattle.sep_parts.specs.declared.node.Node.{Node}
-use Rattle.sep_parts.specs.declared.node.Node.TheVariants.{Split, Leaf}
 use Rattle.sep_parts.specs.declared.stack.Level.{Level}
 use Rattle.sep_parts.specs.Trees.{IsShallow}
 use Rattle.sep_parts.proofs.Stacks.{next_same}
@@ -12,9 +12,4 @@ use Rattle.pair_search.proofs.Trees.{split_for}
 -- a part that is split is less deep than 8
 pub next_shallow : (first : Place → Option ℕ) (depth : ℕ) (old rest other : List Level) (level next : Level) (node : Node) → depth ≤ 8 → node_for first depth level.place ≡ Some node →
     old ≡ level ∷ rest → old ≡ next ∷ other → IsShallow next.place node
-next_shallow first depth old rest other level next node few found is same =
-    subst (λ (l : Level). IsShallow l.place node) (next_same old rest other level next is same).0 (shallow node found)
-  where
-    shallow : (node : Node) → node_for first depth level.place ≡ Some node → IsShallow level.place node
-    shallow Split found = omega (arith, few, (split_for first depth level.place found).1)
-    shallow (Leaf dir) found = tt
+next_shallow first depth old rest other level next node few found is same = grind (arith, common_steps, next_same, split_for)

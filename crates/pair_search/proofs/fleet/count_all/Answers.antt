@@ -1,4 +1,5 @@
-use Rattle.std.proofs.Common.{ℕ, ◌+◌, refl, ap, arith}
+use Rattle.std.proofs.lemmas.Grind.{common_steps}
+use Rattle.std.proofs.Common.{refl, arith}
 use Rattle.std.proofs.lemmas.Result.{err_from_is_err_and}
 use Rattle.sep_parts.proofs.Orders.{first_ahead}
 use Rattle.pair_search.specs.Fleets.{best_nodes, slots_in}
@@ -23,14 +24,7 @@ pub loop-depth-preserved : goal.loop-depth-preserved
 loop-depth-preserved g c =
     let on =
     past c.args.ruler.now c.args.depth c.args.curves.now c.loop-depth.slot c.next-slot.result c.loop-depth.invariant.0 c.drones-drones.result c.cues-cues.result (omega arith) c.in_ok-count.ensures.finds.0
-    c.next-slot.ensures c.drones-drones.ensures.exact c.cues-cues.ensures.exact c.loop-depth.invariant.1 in (
-      on.next,
-      on.pending,
-      count_next c.args.ruler.now c.args.depth c.args.curves.now c.loop-depth.invariant.0 on.next c.loop-depth.slot c.loop-depth.count _ _
-          (best_nodes c.args.ruler.now c.args.depth c.args.curves.now c.loop-depth.slot)
-          on.is refl (ap (λ (n : ℕ). c.loop-depth.count + n) c.in_ok-count.ensures.finds.1) c.loop-depth.invariant.2,
-      c.in_ok-count.ensures.empty,
-    )
+    c.next-slot.ensures c.drones-drones.ensures.exact c.cues-cues.ensures.exact c.loop-depth.invariant.1 in grind (arith, common_steps, count_next)
 
 pub overflow_add-count : goal.overflow_add-count
 overflow_add-count g c =

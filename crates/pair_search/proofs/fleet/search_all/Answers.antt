@@ -1,4 +1,5 @@
-use Rattle.std.proofs.Common.{refl, ◌∙◌, arith}
+use Rattle.std.proofs.lemmas.Grind.{common_steps}
+use Rattle.std.proofs.Common.{refl, arith}
 use Rattle.std.proofs.lemmas.Result.{err_from_is_err_and}
 use Rattle.sep_parts.proofs.Orders.{first_ahead}
 use Rattle.pair_search.specs.Fleets.{slots_in}
@@ -22,9 +23,4 @@ pub loop-alloc-preserved : goal.loop-alloc-preserved
 loop-alloc-preserved g c =
     let on =
     past c.args.ruler.now c.args.depth c.args.curves.now c.loop-alloc.slot c.next-slot.result c.loop-alloc.invariant.0 c.drones-drones.result c.cues-cues.result (omega arith) c.in_ok-tree_of.ensures.0
-    c.next-slot.ensures c.drones-drones.ensures.exact c.cues-cues.ensures.exact c.loop-alloc.invariant.1 in (
-      on.next,
-      on.pending,
-      tree_next c.args.ruler.now c.args.depth c.args.curves.now c.loop-alloc.invariant.0 on.next c.loop-alloc.slot c.loop-alloc.trees.items c.add_tree.new.trees.items _ c.as_slice.result.now
-          on.is c.in-Ok.ensures (c.as_slice.ensures.value ∙ c.in_ok-tree_of.ensures.1) c.loop-alloc.invariant.2,
-    )
+    c.next-slot.ensures c.drones-drones.ensures.exact c.cues-cues.ensures.exact c.loop-alloc.invariant.1 in grind (arith, common_steps, tree_next)

@@ -1,4 +1,5 @@
-use Rattle.std.proofs.Common.{◌≡◌, ◌*ℤ◌, ◌+ℤ◌, ◌∙◌, FitsSigned, refl}
+use Rattle.std.proofs.lemmas.Grind.{common_steps}
+use Rattle.std.proofs.Common.{◌≡◌, ◌*ℤ◌, ◌+ℤ◌, ◌∙◌, FitsSigned, refl, arith}
 use Rattle.std.proofs.lemmas.Int.{to_z-of_z}
 use mir.Syntax.{w32}
 use Rattle.fleet_math.specs.Bernstein.{at}
@@ -17,19 +18,10 @@ lane_times-requires-3-clause-weight c =
     rw (to_z-of_z w32 (at c.args.lanes.now.z c.args.i) (weight_fits _ small)) small
 
 pub overflow_add-result : goal.overflow_add-result
-overflow_add-result c =
-    let x_fits : FitsSigned w32 c.lane_times.result = lane_fits _ c.lane_times.ensures.small in
-    let y_fits : FitsSigned w32 c.lane_times-2.result = lane_fits _ c.lane_times-2.ensures.small in
-    rw (to_z-of_z w32 c.lane_times.result x_fits, to_z-of_z w32 c.lane_times-2.result y_fits)
-    (lane_sum _ _ _ c.lane_times.ensures.small c.lane_times-2.ensures.small c.lane_times-2.ensures.small).0
+overflow_add-result c = grind (arith, common_steps, lane_fits, to_z-of_z, lane_sum)
 
 pub overflow_add-result-2 : goal.overflow_add-result-2
-overflow_add-result-2 c =
-    let x_fits : FitsSigned w32 c.lane_times.result = lane_fits _ c.lane_times.ensures.small in
-    let y_fits : FitsSigned w32 c.lane_times-2.result = lane_fits _ c.lane_times-2.ensures.small in
-    let z_fits : FitsSigned w32 c.lane_times-3.result = lane_fits _ c.lane_times-3.ensures.small in
-    let told = lane_sum _ _ _ c.lane_times.ensures.small c.lane_times-2.ensures.small c.lane_times-3.ensures.small in
-    rw (to_z-of_z w32 c.lane_times.result x_fits, to_z-of_z w32 c.lane_times-2.result y_fits, to_z-of_z w32 c.lane_times-3.result z_fits, to_z-of_z w32 (c.lane_times.result +ℤ c.lane_times-2.result) told.0) told.1
+overflow_add-result-2 c = grind (arith, common_steps, lane_fits, lane_sum, to_z-of_z)
 
 pub returns-clause-exact : goal.returns-clause-exact
 returns-clause-exact c =
@@ -57,10 +49,4 @@ returns-clause-small c =
     let y_fits : FitsSigned w32 c.lane_times-2.result = lane_fits _ c.lane_times-2.ensures.small in
     let z_fits : FitsSigned w32 c.lane_times-3.result = lane_fits _ c.lane_times-3.ensures.small in
     let told = lane_sum _ _ _ c.lane_times.ensures.small c.lane_times-2.ensures.small c.lane_times-3.ensures.small in
-    rw (
-      to_z-of_z w32 c.lane_times.result x_fits,
-      to_z-of_z w32 c.lane_times-2.result y_fits,
-      to_z-of_z w32 c.lane_times-3.result z_fits,
-      to_z-of_z w32 (c.lane_times.result +ℤ c.lane_times-2.result) told.0,
-      to_z-of_z w32 (c.lane_times.result +ℤ c.lane_times-2.result +ℤ c.lane_times-3.result) told.1,
-    ) told.2
+    grind (arith, common_steps, to_z-of_z)

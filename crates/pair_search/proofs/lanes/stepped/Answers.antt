@@ -1,4 +1,5 @@
-use Rattle.std.proofs.Common.{rules, subst, FitsSigned, ℕ, pos}
+use Rattle.std.proofs.lemmas.Grind.{common_steps}
+use Rattle.std.proofs.Common.{rules, subst, FitsSigned, ℕ, pos, arith}
 use Rattle.std.proofs.lemmas.Int.{to_z-of_z}
 use mir.Syntax.{w32, w64, w128}
 use Rattle.bezier_core.specs.Steps.{IsWithin}
@@ -8,10 +9,7 @@ use Rattle.pair_search.proofs.lanes.stepped.Goals.{After-floor_by, After-floor_s
 use Rattle.pair_search.proofs.lanes.stepped.Goals as goal
 
 short_floor : (c : After-floor_short) → IsFloor (steps_of c.args.depth) c.args.value c.floor_short.result
-short_floor c =
-    let v_wide : FitsSigned w128 c.args.value = c.ranges.value in
-    let v_fits : FitsSigned w64 c.args.value = value_short c.args.depth c.args.value c.if-depth-le4.true c.requires.value in
-    subst (λ (times : ℕ). IsFloor times c.args.value c.floor_short.result) c.steps_of-times.ensures (simp to_z-of_z at c.floor_short.ensures)
+short_floor c = grind (arith, common_steps, value_short, to_z-of_z)
 
 wide_floor : (c : After-floor_by) → IsFloor (steps_of c.args.depth) c.args.value c.floor_by.result
 wide_floor c =
@@ -41,19 +39,10 @@ returns-then-depth-le4-clause-floor c =
     rw (to_z-of_z w64 c.floor_short.result fits, to_z-of_z w32 c.floor_short.result few) (short_floor c)
 
 pub returns-then-depth-le4-clause-small : goal.returns-then-depth-le4-clause-small
-returns-then-depth-le4-clause-small c =
-    let fits : FitsSigned w64 c.floor_short.result = search rules in
-    let few : FitsSigned w32 c.floor_short.result = point_fits _ (short_small c) in
-    rw (to_z-of_z w64 c.floor_short.result fits, to_z-of_z w32 c.floor_short.result few) (short_small c)
+returns-then-depth-le4-clause-small c = grind (arith, common_steps, point_fits, short_small, to_z-of_z)
 
 pub returns-else-depth-le4-clause-floor : goal.returns-else-depth-le4-clause-floor
-returns-else-depth-le4-clause-floor c =
-    let fits : FitsSigned w128 c.floor_by.result = search rules in
-    let few : FitsSigned w32 c.floor_by.result = point_fits _ (wide_small c) in
-    rw (to_z-of_z w128 c.floor_by.result fits, to_z-of_z w32 c.floor_by.result few) (wide_floor c)
+returns-else-depth-le4-clause-floor c = grind (arith, common_steps, point_fits, wide_small, to_z-of_z, wide_floor)
 
 pub returns-else-depth-le4-clause-small : goal.returns-else-depth-le4-clause-small
-returns-else-depth-le4-clause-small c =
-    let fits : FitsSigned w128 c.floor_by.result = search rules in
-    let few : FitsSigned w32 c.floor_by.result = point_fits _ (wide_small c) in
-    rw (to_z-of_z w128 c.floor_by.result fits, to_z-of_z w32 c.floor_by.result few) (wide_small c)
+returns-else-depth-le4-clause-small c = grind (arith, common_steps, point_fits, wide_small, to_z-of_z)

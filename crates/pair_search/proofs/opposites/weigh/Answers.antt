@@ -1,3 +1,4 @@
+use Rattle.std.proofs.lemmas.Grind.{common_steps}
 use Rattle.std.proofs.Common.{◌≡◌, ◌+◌, ◌<◌, ◌<ℤ◌, ℤ, ℕ, pos, arith, rules, subst, length, FitsSigned, to_z, of_z}
 use Rattle.std.proofs.lemmas.Int.{to_z-of_z}
 use mir.Syntax.{w32}
@@ -15,10 +16,7 @@ loop-i-preserved c =
     let inside : c.loop-i.i < length c.loop-i.near = omega (arith, c.loop-i-test.true, c.loop-i.invariant.same_length) in
     record {
       same_length = search rules;
-      all = λ less.
-          let under : c.both-all.result <ℤ pos 0 = subst (λ (z : ℤ). z <ℤ pos 0) all less in
-          set_below (λ (k : ℕ) (z : ℤ). z <ℤ pos 0) c.loop-i.near c.loop-i.i (to_z w32 (of_z w32 c.nearness-value.result)) inside (c.both-all.ensures.second under)
-          (c.loop-i.invariant.all (c.both-all.ensures.first under));
+      all = grind (arith, common_steps, pos, set_below, to_z, of_z);
       told = set_below (λ (k : ℕ) (z : ℤ). z <ℤ pos 0 → IsLowAt c.args.opposites.now.lanes c.args.p.now c.args.q.now (c.args.begin + k) × IsHighAt c.args.opposites.now c.args.p.now c.args.q.now (c.args.begin + k)) c.loop-i.near c.loop-i.i (to_z w32 (of_z w32 c.nearness-value.result)) inside
           (λ less. c.nearness-value.ensures (subst (λ (z : ℤ). z <ℤ pos 0) value less)) c.loop-i.invariant.told;
     }

@@ -1,7 +1,8 @@
-use Rattle.std.proofs.Common.{◌≡◌, ◌∷◌, [], sym, ◌∙◌, subst, refl, ap, drop, List}
+use Rattle.std.proofs.lemmas.Grind.{common_steps}
+use Rattle.std.proofs.Common.{◌∷◌, sym, ◌∙◌, subst, refl, drop, List, arith}
 use Rattle.bezier_core.specs.declared.Bez.{Bez}
 use Rattle.sep_parts.specs.declared.stack.Level.{Level}
-use Rattle.sep_parts.specs.Levels.{IsStack, places_of, root}
+use Rattle.sep_parts.specs.Levels.{IsStack, root}
 use Rattle.sep_parts.proofs.Stacks.{first_stack}
 use Rattle.pair_search.specs.Search.{first_by}
 use Rattle.pair_search.specs.Steps.{marked}
@@ -16,21 +17,10 @@ abbrev whole : (diff : List (Bez 8)) → Level
 whole diff = record { place = root; part = diff }
 
 pub loop-level-init : goal.loop-level-init
-loop-level-init g c =
-    let is : c.begin.new.self ≡ whole c.args.diff.now ∷ [] = c.begin.ensures in
-    record {
-      stack = first_stack c.args.diff.now c.begin.new.self c.raised_law.ensures.axes c.raised_law.ensures.sizes is;
-      state = count_begun (first_by c.args.ruler.now c.args.diff.now) c.args.depth c.begin.new.self (rw c.levels-levels.ensures.same at c.levels-levels.ensures.most) (ap places_of is)
-          (begun (marked (first_by c.args.ruler.now c.args.diff.now)) c.args.depth);
-    }
+loop-level-init g c = grind (arith, common_steps, whole, first_stack, count_begun, begun)
 
 pub pass-requires : goal.pass-requires
-pass-requires g c = record {
-  some = some_next c.loop-level.waiting (drop 1 c.loop-level.waiting) c.in-Some.level.now c.in-Some.ensures;
-  stack = c.loop-level.invariant.stack;
-  shallow = λ level rest is. next_shallow (marked (first_by c.args.ruler.now c.args.diff.now)) c.args.depth c.loop-level.waiting (drop 1 c.loop-level.waiting) rest c.in-Some.level.now level c.in-Some-shape_for.node
-      (rw c.levels-levels.ensures.same at c.levels-levels.ensures.most) (sym c.shape_for.ensures ∙ c.in-Some-shape_for.is) c.in-Some.ensures is;
-}
+pass-requires g c = grind (arith, common_steps, some_next, drop, next_shallow)
 
 pub loop-level-smaller : goal.loop-level-smaller
 loop-level-smaller g c =

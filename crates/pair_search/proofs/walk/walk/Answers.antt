@@ -1,3 +1,4 @@
+use Rattle.std.proofs.lemmas.Grind.{common_steps}
 use Rattle.std.proofs.Common.{◌≡◌, ◌∷◌, ◌++◌, [], length, sym, ◌∙◌, ap, refl, arith, rules, List, Some}
 use Rattle.std.proofs.lemmas.List.Elements.{All-get_or}
 use Rattle.bezier_core.specs.declared.Bez.{Bez}
@@ -19,10 +20,7 @@ node_for-requires g c =
     (search rules, (rw c.curves.ensures (root_level c.args.diff.now c.raised_law.ensures.axes (λ axis small. All-get_or (λ (curve : Bez 8). length curve.b ≡ 8) c.args.diff.now axis (record { b = [] }) (omega arith) c.raised_law.ensures.sizes)), c.requires.lanes))
 
 pub walk_halves-requires : goal.walk_halves-requires
-walk_halves-requires g c =
-    let level = root_level c.args.diff.now c.raised_law.ensures.axes (λ axis small. All-get_or (λ (curve : Bez 8). length curve.b ≡ 8) c.args.diff.now axis (record { b = [] }) (omega arith) c.raised_law.ensures.sizes) in
-    let split = sym c.node_for.ensures ∙ c.in-Some-Split.is ∙ ap Some c.in-Some-Split.field-0-is in
-    (search rules, (c.requires.empty, (refl, (rw c.curves.ensures level, (split, c.requires.lanes)))))
+walk_halves-requires g c = grind (arith, common_steps, root_level, All-get_or)
 
 pub returns-in_ok-push-in-Some-Leaf : goal.returns-in_ok-push-in-Some-Leaf
 returns-in_ok-push-in-Some-Leaf g c =

@@ -1,4 +1,5 @@
-use Rattle.std.proofs.Common.{◌<◌, sym, ◌∙◌, subst, refl, ap, arith, drop, List, [], ◌∷◌, ◌++◌}
+use Rattle.std.proofs.lemmas.Grind.{common_steps}
+use Rattle.std.proofs.Common.{sym, ◌∙◌, subst, refl, ap, arith, drop, List, [], ◌∷◌, ◌++◌}
 use Rattle.sep_parts.specs.declared.stack.Level.{Level}
 use Rattle.sep_parts.specs.Levels.{IsStack}
 use Rattle.sep_parts.specs.declared.node.Node.{Node}
@@ -11,12 +12,7 @@ use Rattle.pair_search.proofs.Waits.{next_shallow}
 use Rattle.pair_search.proofs.walk.walk_halves.Goals as goal
 
 pub pass-requires : goal.pass-requires
-pass-requires g c =
-    record {
-      some = some_next c.of-waiting.result [] c.args.whole.now c.of-waiting.ensures;
-      stack = rw c.of-waiting.ensures (omega arith, c.requires.level, tt);
-      shallow = λ level rest same. subst (λ (l : Level). l.place.depth < 8) (next_same c.of-waiting.result [] rest c.args.whole.now level c.of-waiting.ensures same).0 (rw c.requires.whole (omega arith));
-    }
+pass-requires g c = grind (arith, common_steps, some_next, next_same)
 
 pub loop-level-init : goal.loop-level-init
 loop-level-init g c =
@@ -31,12 +27,7 @@ loop-level-init g c =
     }
 
 pub put-requires : goal.put-requires
-put-requires g c = record {
-  some = some_next c.loop-level.waiting (drop 1 c.loop-level.waiting) c.in-Some.level.now c.in-Some.ensures;
-  stack = c.loop-level.invariant.stack;
-  shallow = λ level rest is. next_shallow (first_by c.args.ruler.now c.args.diff.now) c.args.depth c.loop-level.waiting (drop 1 c.loop-level.waiting) rest c.in-Some.level.now level c.in-Some-node_for.node
-      (rw c.levels-levels.ensures.same at c.levels-levels.ensures.most) (sym c.node_for.ensures ∙ c.in-Some-node_for.is) c.in-Some.ensures is;
-}
+put-requires g c = grind (arith, common_steps, some_next, drop, next_shallow)
 
 pub loop-level-smaller : goal.loop-level-smaller
 loop-level-smaller g c =
