@@ -14,7 +14,7 @@ use Rattle.upload_model.specs.declared.events.Progress.{Progress}
 use Rattle.upload_model.specs.declared.events.Progress.TheVariants.{Going, Done, GaveUp, Refused, Differs}
 use Rattle.upload_model.specs.declared.events.Reply.{Reply}
 use Rattle.upload_model.specs.declared.events.Reply.TheVariants.{Silent, Good, Ends}
-use Rattle.upload_model.specs.Sessions.{Upload, drone_count, packet_count, is_read}
+use Rattle.upload_model.specs.Sessions.{Upload, drone_count, packet_count}
 use Rattle.upload_model.specs.Replies.{reply_in, reply_to, is_good, is_end, end_of}
 use Rattle.upload_model.specs.Hosts.{Packets, phase_of, includes, flight_after, acknowledges, joined, all_packets, counts as counts_for, ended_for, ends_for, if_going}
 use Rattle.upload_model.proofs.Answers.{reply-by}
@@ -81,10 +81,7 @@ silent-unknown s from packet past x = reply-by (λ (r : Reply). r ≡ Silent) s 
 
 reply-fault : (s : Upload) (d k : ℕ) (fault : PacketFault) → reply_in s d k (Err fault) ≡ Silent
 unfolding reply_in
-reply-fault s d k fault = at (is_read s d k) where
-  at : (b : Bool) → cond b Silent Silent ≡ Silent
-  at true = refl
-  at false = refl
+reply-fault s d k fault = grind (arith, common_steps, cond)
 
 pub silent-fault : (s : Upload) (from : ℕ) (packet : List ℕ) (fault : PacketFault) → up_of packet ≡ Err fault → IsSilent s (event.Up from packet)
 silent-fault s from packet fault is x =
@@ -113,14 +110,7 @@ reply-here s d k packet l b = grind (arith, common_steps, cond, eq-eqb, lt-ltb)
 
 -- silence alone
 pub only-silent : (s : Upload) (e : Event) (x : Sent) → IsOnly s e x → reply_to s x.drone x.packet e ≡ Silent → IsSilent s e
-only-silent s e x only none y = at (reply_to s y.drone y.packet e) refl where
-  same : (reply_to s y.drone y.packet e ≡ Silent → ⊥) → reply_to s y.drone y.packet e ≡ Silent
-  same heard = ap (λ (z : Sent). reply_to s z.drone z.packet e) (only y heard) ∙ none
-
-  at : (r : Reply) → reply_to s y.drone y.packet e ≡ r → reply_to s y.drone y.packet e ≡ Silent
-  at Silent is = is
-  at Good is = same (λ none. cc)
-  at (Ends p) is = same (λ none. cc)
+only-silent s e x only none y = grind (arith, common_steps)
 
 -- ---- what it acknowledges, and for which packet it ends the upload
 

@@ -90,10 +90,7 @@ pub past-yes : (next : ℕ) (ks : List ℕ) (j : ℕ) → j < next → among ks 
 past-yes next ks j l out = ap (λ b. b && not (among ks j)) (lt-ltb j next l) ∙ ap not out
 
 pub past-in : (next : ℕ) (ks : List ℕ) (j : ℕ) → among ks j ≡ true → is_past next ks j ≡ false
-past-in next ks j found = ap (λ b. ltb j next && not b) found ∙ none (ltb j next) where
-  none : (b : Bool) → (b && false) ≡ false
-  none true = refl
-  none false = refl
+past-in next ks j found = grind (arith, common_steps, ltb, not)
 
 pub past-later : (next : ℕ) (ks : List ℕ) (j : ℕ) → next ≤ j → is_past next ks j ≡ false
 past-later next ks j l = ap (λ b. b && not (among ks j)) (le-ltb j next l)
@@ -105,27 +102,7 @@ past-grown a next m ks j h =
 
 -- what leaves it is
 pub past-without : (a next k : ℕ) (ks : List ℕ) (j : ℕ) → IsBetween a next ks → among ks k ≡ true → is_past next (filter (λ i. not (i == k)) ks) j ≡ (is_past next ks j || j == k)
-past-without a next k ks j h found =
-    ap (λ b. ltb j next && not b) (among-without ks k j) ∙ elim (cases_eq j k) [
-      | inl same ↦
-          let inside = between-in a next ks k h found in
-          ap (λ b. ltb j next && not (among ks j && not b)) (eq-eqb j k same) ∙ ap (λ b. ltb j next && not b) (none (among ks j))
-          ∙ ap (λ b. b && true) (lt-ltb j next (omega arith)) ∙ sym (ap (λ b. is_past next ks j || b) (eq-eqb j k same) ∙ all (is_past next ks j))
-      | inr other ↦
-          ap (λ b. ltb j next && not (among ks j && not b)) (ne_eqb j k other) ∙ ap (λ b. ltb j next && not b) (same (among ks j))
-          ∙ sym (ap (λ b. is_past next ks j || b) (ne_eqb j k other) ∙ or_nothing (is_past next ks j))
-    ] where
-      none : (b : Bool) → (b && false) ≡ false
-      none true = refl
-      none false = refl
-
-      all : (b : Bool) → (b || true) ≡ true
-      all true = refl
-      all false = refl
-
-      same : (b : Bool) → (b && true) ≡ b
-      same true = refl
-      same false = refl
+past-without a next k ks j h found = grind (arith, common_steps, ltb, not, among-without, cases_eq, between-in, eq-eqb, lt-ltb, ne_eqb, or_nothing)
 
 -- ---- what is open
 

@@ -34,14 +34,7 @@ phase-is s Starting done begun here = phase-last s done begun
 
 begun-of : (s : Upload) (done : Packets) → IsBegun s done (phase_of s done)
 unfolding phase_of
-begun-of s done = by_loading (all_settled s Loading done) refl where
-  by_reading : (b : Bool) → all_settled s Reading done ≡ b → all_settled s Loading done ≡ true → IsBegun s done (cond (not b) Reading Starting)
-  by_reading true e l = (l, e)
-  by_reading false e l = l
-
-  by_loading : (b : Bool) → all_settled s Loading done ≡ b → IsBegun s done (cond (not b) Loading (cond (not (all_settled s Reading done)) Reading Starting))
-  by_loading true e = by_reading (all_settled s Reading done) refl e
-  by_loading false e = tt
+begun-of s done = grind (arith, common_steps, cond, not)
 
 pub begun-more : (s : Upload) (done more : Packets) → ((d k : ℕ) → done d k ≡ true → more d k ≡ true) → (p : Phase) → IsBegun s done p → IsBegun s more p
 begun-more s done more sub Loading begun = tt
@@ -61,14 +54,7 @@ rows-open s p rows stand some = grind (arith, common_steps, some-window, not-set
 -- whether the first phase is complete
 pub loading-open : (s : Upload) (done : Packets) → Loading ≡ phase_of s done → all_settled s Loading done ≡ false
 unfolding phase_of
-loading-open s done is = at (all_settled s Loading done) refl is where
-  later : (b : Bool) → Loading ≡ cond (not b) Reading Starting → ⊥
-  later true e = absurd (cc)
-  later false e = absurd (cc)
-
-  at : (b : Bool) → all_settled s Loading done ≡ b → Loading ≡ cond (not b) Loading (cond (not (all_settled s Reading done)) Reading Starting) → b ≡ false
-  at true e f = absurd (later (all_settled s Reading done) f)
-  at false e f = refl
+loading-open s done is = grind (arith, common_steps, cond, not)
 
 pub loading-done : (s : Upload) (p : Phase) (done : Packets) → p ≡ phase_of s done → (p ≡ Loading → ⊥) → all_settled s Loading done ≡ true
 loading-done s Loading done is other = absurd (other refl)
@@ -115,13 +101,4 @@ all-three s done loading reading starting =
 -- all is, where the phase that it is in is complete
 pub all-done : (s : Upload) (p : Phase) (done : Packets) → p ≡ phase_of s done → all_settled s p done ≡ true → list_all (λ x. done x.drone x.packet) (all_packets s) ≡ true
 unfolding phase_of
-all-done s p done is here = by_loading (all_settled s Loading done) refl (subst (λ (q : Phase). all_settled s q done ≡ true) is here) where
-  by_reading : (b : Bool) → all_settled s Reading done ≡ b → all_settled s Loading done ≡ true → all_settled s (cond (not b) Reading Starting) done ≡ true →
-      list_all (λ x. done x.drone x.packet) (all_packets s) ≡ true
-  by_reading true e l f = all-three s done l e f
-  by_reading false e l f = absurd (false≢true (sym e ∙ f))
-
-  by_loading : (b : Bool) → all_settled s Loading done ≡ b → all_settled s (cond (not b) Loading (cond (not (all_settled s Reading done)) Reading Starting)) done ≡ true →
-      list_all (λ x. done x.drone x.packet) (all_packets s) ≡ true
-  by_loading true e f = by_reading (all_settled s Reading done) refl e f
-  by_loading false e f = absurd (false≢true (sym e ∙ f))
+all-done s p done is here = grind (arith, common_steps, cond, not, all-three, false≢true)

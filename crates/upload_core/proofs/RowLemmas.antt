@@ -43,10 +43,7 @@ packets-without (e ∷ es) k = at (e.packet == k) (packets-without es k) where
   at false rest = ap (λ xs. e.packet ∷ xs) rest
 
 pub count_in-without : (es : List InFlight) (k j : ℕ) → count_in (filter (λ e. not (e.packet == k)) es) j ≡ cond (j == k) 0 (count_in es j)
-count_in-without [] k j = at (eqb j k) where
-  at : (b : Bool) → ◌≡◌ {A = ℕ} 0 (cond b 0 0)
-  at true = refl
-  at false = refl
+count_in-without [] k j = grind (arith, common_steps, eqb, cond)
 count_in-without (e ∷ es) k j = grind (arith, common_steps, cases_eq, cond, not, filter, eq-eqb, ne_eqb, eqb, (count_in-without es k j))
 
 pub age-step : (xs : List InFlight) (i : ℕ) → i < length xs →
@@ -207,19 +204,7 @@ row-flight s p d row stands done same reach =
 -- nothing in flight: all of the phase is marked; something: not all is
 pub row-settled : (s : Upload) (p : Phase) (d : ℕ) (row : Row) → RowStands s p d row → row.window.items ≡ [] →
     (row.next ≡ first_of s p d + count_of s p d) × (list_all (is_marked row) (range_with_len (first_of s p d) (count_of s p d)) ≡ true)
-row-settled s p d row stands none =
-    let h = stands.shape in
-    let last : row.next ≡ row.until = elim h.full [ inl four ↦ absurd (let e : length row.window.items ≡ 0 = ap (λ (es : List InFlight). length es) none in omega arith) | inr l ↦ l ] in
-    let marks : (j : ℕ) → j < row.next → is_marked row j ≡ true = λ j l. past-yes row.next (packets_in row.window.items) j l (ap (λ (es : List InFlight). among (packets_in es) j) none) in
-    let end : row.next ≡ first_of s p d + count_of s p d = reach p stands.until last marks in
-    (end, all-below (is_marked row) (first_of s p d) (count_of s p d) (λ k l b. marks k (omega arith))) where
-      reach : (q : Phase) → row.until ≡ first_of s q d + allowed s q (λ i k. is_marked row k) d → row.next ≡ row.until → ((j : ℕ) → j < row.next → is_marked row j ≡ true) → row.next ≡ first_of s q d + count_of s q d
-      reach Loading until last marks = by_written (list_all (is_marked row) (range_with_len 0 (write_count s d))) refl until where
-        by_written : (b : Bool) → list_all (is_marked row) (range_with_len 0 (write_count s d)) ≡ b → row.until ≡ 0 + cond b (load_count s d) (write_count s d) → row.next ≡ 0 + load_count s d
-        by_written true e u = last ∙ u
-        by_written false e u = absurd (false≢true (sym e ∙ all-below (is_marked row) 0 (write_count s d) (λ k l b. marks k (omega arith))))
-      reach Reading until last marks = last ∙ until
-      reach Starting until last marks = last ∙ until
+row-settled s p d row stands none = grind (arith, common_steps, past-yes, all-below, cond, false≢true)
 
 pub row-open : (s : Upload) (p : Phase) (d : ℕ) (row : Row) → RowStands s p d row → (e : InFlight) (es : List InFlight) → row.window.items ≡ e ∷ es →
     list_all (is_marked row) (range_with_len (first_of s p d) (count_of s p d)) ≡ false

@@ -34,10 +34,7 @@ count-none (e ∷ es) k h =
     ap (λ (b : Bool). cond b e.ticks (count_in es k)) parts.0 ∙ count-none es k parts.1
 
 count-known : (es : List InFlight) (k : ℕ) → count_in es k ≡ cond (among (packets_in es) k) (count_in es k) 0
-count-known es k = at (among (packets_in es) k) refl where
-  at : (b : Bool) → among (packets_in es) k ≡ b → count_in es k ≡ cond b (count_in es k) 0
-  at true e = refl
-  at false e = count-none es k e
+count-known es k = grind (arith, common_steps, cond, count-none)
 
 -- where all counts are 0, none is as high as the host waits
 low-entries : (a b : ℕ) (es : List InFlight) → IsBetween a b (packets_in es) → ((k : ℕ) → count_in es k ≡ 0) → All (λ (e : InFlight). e.ticks < 20) es

@@ -1,5 +1,6 @@
 -- What is in flight stays so until it is acknowledged; so what isn't in flight and isn't acknowledged never
 -- was, and has no ticks.
+use Rattle.std.proofs.lemmas.Grind.{common_steps}
 use Rattle.std.proofs.Common.{◌≡◌, ◌==◌, ℕ, zero, suc, ◌+◌, ◌<◌, ◌≤◌, Bool, true, false, not, cond, ◌&&◌, ◌||◌, eqb, List, [], ◌∷◌, ◌++◌, take, filter, refl, ap, sym, ◌∙◌, arith, Some, inl, inr}
 use Rattle.std.specs.List.{range_with_len, list_all, flat_map}
 use Rattle.std.proofs.lemmas.Bool.{cases_eq, eq-eqb, ne_eqb, and_parts, and_from, and_left, false≢true, false_from_ne_true}
@@ -22,10 +23,7 @@ or_nothing true = refl
 or_nothing false = refl
 
 includes-sent_to : (i : ℕ) (ks : List ℕ) (x : Sent) → includes (sent_to i ks) x ≡ (eqb i x.drone && among ks x.packet)
-includes-sent_to i [] x = at (eqb i x.drone) where
-  at : (b : Bool) → false ≡ (b && false)
-  at true = refl
-  at false = refl
+includes-sent_to i [] x = grind (arith, common_steps, eqb)
 includes-sent_to i (k ∷ ks) x =
     ap (λ (b : Bool). (eqb i x.drone && eqb k x.packet) || b) (includes-sent_to i ks x) ∙ at (eqb i x.drone) (eqb k x.packet) (among ks x.packet) where
       at : (a b c : Bool) → ((a && b) || (a && c)) ≡ (a && (b || c))

@@ -1,4 +1,5 @@
 -- What is in flight of all drones, drone by drone, and rows of which one changes.
+use Rattle.std.proofs.lemmas.Grind.{common_steps}
 use Rattle.std.proofs.Common.{◌≡◌, ◌≢◌, ◌==◌, ℕ, zero, suc, ◌+◌, ◌-◌, ◌<◌, ◌≤◌, Bool, true, false, not, cond, ◌&&◌, ◌||◌, List, [], ◌∷◌, ◌++◌, length, filter, set, get_or, refl, ap, sym, ◌∙◌, arith, inl, inr}
 use Rattle.std.specs.List.{range_with_len, list_all, flat_map}
 use Rattle.std.proofs.lemmas.Bool.{cases_eq, eq-eqb, false≢true, eqb-true, and_parts}
@@ -81,10 +82,7 @@ not-settled s p rows stand d l some =
 -- rows of which none has anything in flight, and rows of which one has
 pub empty-all : (rows : List Row) → list_all (λ (row : Row). length row.window.items == 0) rows ≡ true → IsEmpty rows
 empty-all [] h d = refl
-empty-all (row ∷ rows) h zero = no-length row.window.items (eqb-true (length row.window.items) 0 (and_parts (length row.window.items == 0) (list_all (λ (r : Row). length r.window.items == 0) rows) h).0) where
-  no-length : (es : List InFlight) → length es ≡ 0 → es ≡ []
-  no-length [] e = refl
-  no-length (x ∷ es) e = absurd (omega arith)
+empty-all (row ∷ rows) h zero = grind (arith, common_steps, eqb-true, and_parts)
 empty-all (row ∷ rows) h (suc d) =
     empty-all rows (and_parts (length row.window.items == 0) (list_all (λ (r : Row). length r.window.items == 0) rows) h).1 d
 

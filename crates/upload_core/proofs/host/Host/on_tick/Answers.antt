@@ -1,16 +1,15 @@
 -- Why `on_tick` keeps its contract, at the places where the check needs to be told.
 use Rattle.std.proofs.lemmas.Grind.{common_steps}
 use Rattle.std.proofs.Common.{◌≡◌, ◌∙◌, ◌==◌, ◌<◌, ℕ, ◌∷◌, ◌++◌, [], List, length, map, ap, sym, subst, arith}
-use Rattle.std.specs.Prelude.{All, find}
+use Rattle.std.specs.Prelude.{find}
 use Rattle.std.specs.Vec.{with_items}
 use Rattle.std.proofs.lemmas.List.{with_items_is, length-map}
 use Rattle.upload_model.specs.declared.events.Event.TheVariants as event
 use Rattle.upload_model.specs.declared.events.Progress.TheVariants.{Going}
-use Rattle.upload_model.specs.declared.events.Sent.{Sent}
 use Rattle.upload_model.specs.Hosts.{phase_of, gave_up, if_going, progress, out}
 use Rattle.upload_model.proofs.HostLaws.{if_going-fits}
 use Rattle.upload_core.specs.declared.row.Row.{Row}
-use Rattle.upload_core.specs.HostState.{HostState, IsPacketOf, view_of}
+use Rattle.upload_core.specs.HostState.{HostState, view_of}
 use Rattle.upload_core.specs.HostStandsFor.{HostStandsFor}
 use Rattle.upload_core.specs.Rows.{row_at, marked, counted}
 use Rattle.upload_core.specs.Steps.{older_row, IsRow, RowsStand, IsReady, in_windows}
@@ -91,7 +90,4 @@ returns-clause-known c =
     let flight
     = ap (in_windows c.self.inside.rows.items) c.self.invariant.0.count
     ∙ sym (windows-flight c.self.inside.session c.self.inside.phase c.self.inside.rows.items c.self.invariant.0 c.self.invariant.2) in
-    subst (λ (v : HostState). All (IsPacketOf v.session) c.tick-answer.new.out.items) c.self.view_is
-    (subst (λ (xs : List Sent). All (IsPacketOf c.self.inside.session) xs) (sym (sent_is w))
-    (if_going-fits (IsPacketOf c.self.inside.session) c.tick-answer.result (in_windows c.self.inside.rows.items (length c.self.inside.rows.items))
-    (subst (λ (xs : List Sent). All (IsPacketOf c.self.inside.session) xs) (sym flight) (flight_after-known c.self.inside.session (marked c.self.inside.rows.items)))))
+    grind (arith, common_steps, sent_is, if_going-fits, flight_after-known)
