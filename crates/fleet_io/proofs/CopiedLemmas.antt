@@ -10,8 +10,8 @@ pub gives : (bytes from buf to : List ℕ) (at cut n : ℕ) → from ≡ drop at
 gives bytes from buf to at cut n front some count made =
     let given : take n to ≡ take n from = rw made (take_at (take n from) (drop n buf) n (omega (arith, length-take n from))) in
     let left : drop (at + n) bytes ≡ drop n from = rw front (sym (drop-drop n at bytes)) in
-    let total : length to ≡ length buf = rw made (omega (arith, length-append (take n from) (drop n buf), length-take n from, length-drop n buf)) in 
-        grind (arith, common_steps, take-append-drop, drop_all)
+    let total : length to ≡ length buf = rw made (omega (arith, length-append (take n from) (drop n buf), length-take n from, length-drop n buf)) in
+    grind (arith, common_steps, take-append-drop, drop_all)
 
 -- a sink keeps of all that was written as much as it has room for
 pub keeps : (kept bytes : List ℕ) (room n : ℕ) → length kept ≤ room → n ≡ min (length bytes) (room - length kept) → kept ++ take n bytes ≡ take room (kept ++ bytes)

@@ -97,8 +97,8 @@ cut_by text more last m front ms lines others is =
     let marked : has_marker (between_feeds text) ≡ true = rw lines (any-front front (last ∷ []) is) in
     let long = marked_part (text ++ more) whole in
     let short = marked_part text marked in
-    let back : join_with_byte 10 (m ∷ ms) ≡ more = ap (λ (ls : List (List ℕ)). join_with_byte 10 ls) (sym others) ∙ join_with_byte-slice_split 10 more in 
-        grind (arith, common_steps, before-front, after-front, join-meet)
+    let back : join_with_byte 10 (m ∷ ms) ≡ more = ap (λ (ls : List (List ℕ)). join_with_byte 10 ls) (sym others) ∙ join_with_byte-slice_split 10 more in
+    grind (arith, common_steps, before-front, after-front, join-meet)
 
 pub marker_law : MarkerLaw
 marker_law text more is =

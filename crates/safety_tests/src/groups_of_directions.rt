@@ -5,8 +5,7 @@ ghost use Rattle.std.specs.Prelude.{◌≤◌};
 
 use crate::flights::{still, two_legs};
 use crate::searches::{nodes_of, raised};
-use fleet_curves::Curves;
-use fleet_curves::Difference;
+use fleet_curves::{Curves, Difference};
 use fleet_math::Depth;
 use pair_search::{Found, search_with};
 use sep_parts::{Node, Ruler, WIDE, table_law};
@@ -38,8 +37,11 @@ const PLACES: [([i16; 3], u8, [i16; 3]); 18] = [
 ];
 
 // What a search among the 98 directions finds where the second drone stays so far from the first, and its nodes.
-fn searched(alloc: Global, place: [i16; 3], depth: Depth) -> Result<(Found, Vec<Node>), AllocError>
-{
+fn searched(
+    alloc: Global,
+    place: [i16; 3],
+    depth: Depth,
+) -> Result<(Found, Vec<Node>), AllocError> {
     table_law();
     let diff = Difference::make([
         raised([place[0]; 8]),

@@ -234,7 +234,10 @@ fn the_second_drone_in_the_second_cue(rt: HostRuntime) -> Result<(), Fail> {
     let trajs = pair(rt.alloc())?;
     let curves = Curves::make(rt.alloc(), &trajs)?;
     let below = vec![in rt.alloc(); keepout([300, -50, 1200], [400, 50, 1690])]?;
-    assert_eq!(rt; judge(&curves, 120, 300, Depth::make(6), &below), Judged::Kept);
+    assert_eq!(rt;
+        judge(&curves, 120, 300, Depth::make(6), &below),
+        Judged::Kept
+    );
     let reached = vec![in rt.alloc(); keepout([300, -50, 1310], [400, 50, 1710])]?;
     assert_eq!(rt;
         judge(&curves, 120, 300, Depth::make(6), &reached),

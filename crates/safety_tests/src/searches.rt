@@ -52,8 +52,7 @@ fn searched(
     y: [i16; 8],
     z: [i16; 8],
     depth: Depth,
-) -> Result<(Found, Vec<Node>), AllocError>
-{
+) -> Result<(Found, Vec<Node>), AllocError> {
     table_law();
     let diff = Difference::make([raised(x), raised(y), raised(z)]);
     let mut nodes = Vec::new(alloc);
@@ -67,8 +66,7 @@ fn searched_with(
     y: [i16; 8],
     z: [i16; 8],
     depth: Depth,
-) -> Result<(Found, Vec<Node>), AllocError>
-{
+) -> Result<(Found, Vec<Node>), AllocError> {
     table_law();
     let diff = Difference::make([raised(x), raised(y), raised(z)]);
     let ruler = Ruler::make(&DIRECTIONS, still());
@@ -169,8 +167,7 @@ pub(crate) fn nodes_of(
     curves: &Curves,
     ruler: &Ruler<98>,
     depth: Depth,
-) -> Option<Result<u64, u16>>
-{
+) -> Option<Result<u64, u16>> {
     let counted = match count_all(alloc, curves, ruler, depth) {
         Ok(count) => Ok(u64::from(count)),
         Err(SearchFault::Blocked { index, .. }) => Err(index),

@@ -16,7 +16,14 @@ use halving::{halve, halve_short};
 
 /// Whether the direction `n` separates a part of the given depth: whether each control value of n_x h dx + n_y h dy + n_z r dz is
 /// at least the threshold, at the scale of raised curves and of the depth. `diff` has the part's control values on x, y and z.
-pub fn separates(diff: &[Bez<8>; 3], n: [i8; 3], r: u16, h: u16, threshold: i128, depth: Depth) -> bool
+pub fn separates(
+    diff: &[Bez<8>; 3],
+    n: [i8; 3],
+    r: u16,
+    h: u16,
+    threshold: i128,
+    depth: Depth,
+) -> bool
     requires values { All (λ curve. All (IsBelow (2 ^ 86)) curve.b) diff.now }
     requires entries { AreSmall n }
     requires r { IsAxis r }

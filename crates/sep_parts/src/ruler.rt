@@ -114,33 +114,12 @@ impl<const M: usize> Ruler<M> {
         let Clearance { r, h, .. } = self.clearance;
         let depth = Depth::make(level.place.depth);
         if level.place.depth <= NARROW_DEPTH {
-            return separates_narrow(
-                &level.part,
-                directions[dir],
-                r,
-                h,
-                thresholds[dir],
-                depth,
-            );
+            return separates_narrow(&level.part, directions[dir], r, h, thresholds[dir], depth);
         }
         if level.place.depth <= SHORT_DEPTH {
-            return separates_short(
-                &level.part,
-                directions[dir],
-                r,
-                h,
-                thresholds[dir],
-                depth,
-            );
+            return separates_short(&level.part, directions[dir], r, h, thresholds[dir], depth);
         }
-        separates(
-            &level.part,
-            directions[dir],
-            r,
-            h,
-            thresholds[dir],
-            depth,
-        )
+        separates(&level.part, directions[dir], r, h, thresholds[dir], depth)
     }
 
     /// The place, 0 to 7, of the first control value of a part that is below the threshold along the direction with the number

@@ -108,9 +108,11 @@ module _ (s : Upload) (d : ℕ) (start : DroneState) (session : IsSession s) (in
 -- what is accepted stays so, whatever is taken later
 pub accepted_later : (s : Upload) (d : ℕ) (x : DroneState) (ks later : List ℕ) (k : ℕ) → IsAccepted s d x ks k → IsAccepted s d x (ks ++ later) k
 accepted_later s d x ks later k a =
-    let within = slice_get_within ks a.0 k a.1 in
-    (a.0, slice_get-before ks later a.0 within ∙ a.1,
-    ap (λ (js : List ℕ). (handled (taken s d x js) (packet_at s d k)).answer) (take-append-le a.0 ks later (omega arith)) ∙ a.2)
+    let within = slice_get_within ks a.0 k a.1 in (
+      a.0,
+      slice_get-before ks later a.0 within ∙ a.1,
+      ap (λ (js : List ℕ). (handled (taken s d x js) (packet_at s d k)).answer) (take-append-le a.0 ks later (omega arith)) ∙ a.2,
+    )
 
 -- ---- the law
 

@@ -15,8 +15,6 @@ mod loads;
 pub use crtp_packets::MEMORY_BYTES;
 pub use events::{Event, Phase, Progress, Reply, Sent, WorldEvent};
 pub use law::{limits_law, readback_law, taking_law, upload_law};
-pub use limits::{
-    ACCEPTED, NO_ROOM, PACKETS_IN_FLIGHT, TABLE_ENTRIES, TICKS_TO_GIVE_UP, UNFIT,
-};
+pub use limits::{ACCEPTED, NO_ROOM, PACKETS_IN_FLIGHT, TABLE_ENTRIES, TICKS_TO_GIVE_UP, UNFIT};
 pub use listed::Listed;
 pub use loads::{Def, Load};
