@@ -1,12 +1,11 @@
 -- What is true of the certificate with the largest leaves, where no part of a show is blocked.
+use Rattle.std.proofs.lemmas.Grind.{common_steps}
 use Rattle.std.proofs.Common.{◌≡◌, inr, ℕ, zero, suc, ◌≤◌, ◌<◌, arith, refl, sym, ap, subst, List, [], ◌∷◌, ◌++◌, map, All, Option, Some, None, Result, Ok, Err, IsOk}
 use Rattle.std.specs.Option.{option_map, option_or}
 use Rattle.std.proofs.lemmas.List.{length-map}
 use Rattle.std.proofs.lemmas.List.Elements.{All-nil, All-cons, All-head, All-tail, All-append}
 use Rattle.halving.specs.declared.Place.{Place}
 use Rattle.traj_codec.specs.declared.traj.Traj.{Traj}
-use Rattle.traj_codec.specs.Joined.{IsLasting}
-use Rattle.traj_codec.specs.Positions.{durations}
 use Rattle.sep_parts.specs.Apart.{KeepReach, KeepsApart, SentLaw}
 use Rattle.sep_parts.specs.declared.clearance.Clearance.{Clearance}
 use Rattle.sep_parts.specs.declared.slot.Slot.{Slot}
@@ -171,12 +170,4 @@ certified e depth trajs curves trees law keeps shallow stands reach is found =
 
 -- What is sent flies apart where the trajectories by cue do.
 pub sent_flies_apart : (f : Fitted) → IsValidFitted f → SentLaw → FlyApart f.settings f.trajs → FlyApart f.settings f.sent
-sent_flies_apart f valid law apart =
-    subst (FlyApart f.settings) (sym valid.sent) (law f.settings.r f.settings.h f.settings.stray f.settings.late f.trajs (all_lasting f.trajs valid.lasting) apart)
-  where
-    all_lasting : (ts : List Traj) → All (λ (t : Traj). durations t.segments ≡ valid.times) ts → All IsLasting ts
-    all_lasting [] all = All-nil IsLasting
-    all_lasting (t ∷ ts) all =
-        All-cons IsLasting t ts
-        (subst (λ (ms : List ℕ). All (λ ms. 1 ≤ ms) ms) (sym (All-head (λ (t : Traj). durations t.segments ≡ valid.times) t ts all)) valid.last)
-        (all_lasting ts (All-tail (λ (t : Traj). durations t.segments ≡ valid.times) t ts all))
+sent_flies_apart f valid law apart = grind (arith, common_steps, All-nil, All-cons, All-head, All-tail)

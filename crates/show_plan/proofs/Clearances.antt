@@ -1,5 +1,6 @@
 -- The clearance of a show that fits.
-use Rattle.std.proofs.Common.{◌≡◌, ℕ, zero, suc, ◌≤◌, arith, sym, ap, subst, ◌∙◌, List, [], ◌∷◌, length, All}
+use Rattle.std.proofs.lemmas.Grind.{common_steps}
+use Rattle.std.proofs.Common.{◌≡◌, ℕ, ◌≤◌, arith, sym, ap, subst, ◌∙◌, List, [], ◌∷◌, length, All}
 use Rattle.std.proofs.lemmas.List.Elements.{All-nil, All-cons, All-head, All-tail}
 use Rattle.traj_codec.specs.declared.traj.Segment.{Segment}
 use Rattle.traj_codec.specs.declared.traj.Traj.{Traj}
@@ -7,8 +8,8 @@ use Rattle.traj_codec.specs.Spelling.{HasDuration, IsTrajectory}
 use Rattle.traj_codec.specs.Positions.{durations}
 use Rattle.fleet_curves.proofs.Standing.{length-durations}
 use Rattle.sep_parts.specs.declared.clearance.Clearance.{Clearance}
-use Rattle.sep_parts.specs.Apart.{KeepReach, MovesWithin}
-use Rattle.sep_parts.specs.Directions.{IsClearance, reach_on}
+use Rattle.sep_parts.specs.Apart.{KeepReach}
+use Rattle.sep_parts.specs.Directions.{IsClearance}
 use Rattle.speed_bound.specs.Reach.{IsMoving, ReachLaw, reach_of}
 use Rattle.speed_bound.proofs.Reaches.{reach_few}
 use Rattle.choreo_show.specs.declared.show.Settings.{Settings}
@@ -38,31 +39,11 @@ moving f valid = all_moving valid.times (omega (arith, valid.times_counted, vali
 
 pub is_clearance : (e : Settings) (trajs : List Traj) → FitsSettings e → IsClearance (clearance_of e trajs)
 unfolding clearance_of
-is_clearance e trajs fits = record { across = (fits.2, fits.3); upwards = (fits.4, fits.5); stray = fits.6; reach = few }
-  where
-    few : (axis : ℕ) → reach_on (clearance_of e trajs) axis ≤ 65536
-    few zero = reach_few reach_depth e.late trajs 0
-    few (suc zero) = reach_few reach_depth e.late trajs 1
-    few (suc (suc zero)) = reach_few reach_depth e.late trajs 2
-    few (suc (suc (suc k))) = omega arith
+is_clearance e trajs fits = grind (arith, common_steps, reach_few)
 
 pub keep_reach : (e : Settings) (trajs : List Traj) → ReachLaw → All IsMoving trajs → KeepReach (clearance_of e trajs) trajs
 unfolding clearance_of
-keep_reach e trajs law moving = all trajs (law reach_depth e.late trajs moving)
-  where
-    all : (ts : List Traj) → All (λ t. (axis : ℕ) → axis ≤ 2 → MovesWithin e.late (reach_of reach_depth e.late trajs axis) t axis) ts →
-        All (λ t. (axis : ℕ) → axis ≤ 2 → MovesWithin e.late (reach_on (clearance_of e trajs) axis) t axis) ts
-    all [] h = All-nil _
-    all (t ∷ ts) h =
-        All-cons (λ (t : Traj). (axis : ℕ) → axis ≤ 2 → MovesWithin e.late (reach_on (clearance_of e trajs) axis) t axis) t ts
-        (one t (All-head (λ (t : Traj). (axis : ℕ) → axis ≤ 2 → MovesWithin e.late (reach_of reach_depth e.late trajs axis) t axis) t ts h))
-        (all ts (All-tail (λ (t : Traj). (axis : ℕ) → axis ≤ 2 → MovesWithin e.late (reach_of reach_depth e.late trajs axis) t axis) t ts h))
-      where
-        one : (t : Traj) → ((axis : ℕ) → axis ≤ 2 → MovesWithin e.late (reach_of reach_depth e.late trajs axis) t axis) → (axis : ℕ) → axis ≤ 2 → MovesWithin e.late (reach_on (clearance_of e trajs) axis) t axis
-        one t h zero near = h 0 near
-        one t h (suc zero) near = h 1 near
-        one t h (suc (suc zero)) near = h 2 near
-        one t h (suc (suc (suc k))) near = absurd (omega arith)
+keep_reach e trajs law moving = grind (arith, common_steps, moving, All-nil, All-cons, All-head, All-tail)
 
 -- with the reach that is computed
 pub exactly : (e : Settings) (trajs ts : List Traj) (rs : List ℕ) → rs ≡ reach_of reach_depth e.late ts 0 ∷ reach_of reach_depth e.late ts 1 ∷ reach_of reach_depth e.late ts 2 ∷ [] → ts ≡ trajs →

@@ -1,4 +1,5 @@
 -- The trajectories of a grid are near to what the show says, at every instant.
+use Rattle.std.proofs.lemmas.Grind.{common_steps}
 use Rattle.std.proofs.Common.{◌≡◌, ℕ, zero, suc, ◌+◌, ◌*◌, ◌<◌, ◌≤◌, ℤ, pos, ◌*ℤ◌, List, [], ◌∷◌, map, take, length, get_or, sum, arith, refl, sym, ap, ◌∙◌, subst}
 use Rattle.std.specs.List.{All}
 use Rattle.std.proofs.lemmas.List.{get_or-map, length-map}
@@ -46,10 +47,7 @@ leads : (axis : Axis) (from to : ℤ) → IsAxis axis → first_control axis ≡
     value_after (millimetres from) (element_of (rounded axis)) ≡ millimetres to
 leads axis from to is begins ends =
     let edges = rounded_edges axis is in
-    ap (λ (z : ℤ). value_after z (element_of (rounded axis))) (ap millimetres (sym begins) ∙ sym edges.0)
-    ∙ ends_there (rounded axis) (rounded_is_axis axis is)
-    ∙ edges.1
-    ∙ ap millimetres ends
+    grind (arith, common_steps, ends_there, rounded_is_axis)
 
 -- an element of yaw leads from one value to the other
 leads_yaw : (axis : Axis) (from to : ℤ) → IsAxis axis → first_control axis ≡ from → last_control axis ≡ to → value_after from (element_of axis) ≡ to
@@ -158,10 +156,7 @@ written_is g d axis m drone inside small =
 by_piece : (axis : Axis) (e : Element) (first w d : ℤ) (a c : ℕ) → IsAxis axis →
     IsNear (position (controls axis) a c) (position (first_control (rounded axis) ∷ stored e) a c) c →
     first_control axis ≡ first → position (controls axis) a c ≡ w → d ≡ position (millimetres first ∷ stored e) a c → IsNear w d c
-by_piece axis e first w d a c is near begins written decoded =
-    subst (λ (z : ℤ). IsNear z d c) written
-    (subst (λ (z : ℤ). IsNear (position (controls axis) a c) z c)
-    (ap (λ (z : ℤ). position (z ∷ stored e) a c) ((rounded_edges axis is).0 ∙ ap millimetres begins) ∙ sym decoded) near)
+by_piece axis e first w d a c is near begins written decoded = grind (arith, common_steps, rounded_edges)
 
 -- within a cue, both over its c
 abbrev NearAt : Grid → ℕ → ℕ → Moment → Type 0

@@ -1,4 +1,5 @@
 -- The packet lines of a drone, one after another.
+use Rattle.std.proofs.lemmas.Grind.{common_steps}
 use Rattle.std.proofs.Common.{◌≡◌, ℕ, suc, ◌+◌, ◌-◌, ◌<◌, arith, false, true, List, [], ◌∷◌, ◌++◌, map, length, take, drop, get_or, codes, sym, ap, ◌∙◌}
 use Rattle.std.specs.Prelude.{◌==◌, nat_lt, if◌then◌else◌}
 use Rattle.std.specs.List.{flat_map, range_with_len}
@@ -14,7 +15,6 @@ use Rattle.upload_model.specs.Sessions.{Upload, load_of, packet_at, packet_count
 use Rattle.upload_model.proofs.HostSteps.{range-more}
 use Rattle.traj_codec.specs.declared.traj.Traj.{Traj}
 use Rattle.traj_codec.specs.Spelling.{IsEncoding}
-use Rattle.firmware_memory.specs.Decoded.{load_for}
 use Rattle.choreo_show.specs.declared.show.Settings.{Settings}
 use Rattle.show_plan.specs.Landing.{session_for}
 use Rattle.show_plan.specs.Steps.{alone}
@@ -64,8 +64,4 @@ packets_alone e ts d bytes pieces is = ap (lines_of e) (sym is)
 -- those of a drone whose bytes are the encoding of its trajectory
 pub packets_at : (e : Settings) (ts : List Traj) (d : ℕ) (bytes : List ℕ) (t : Traj) → d < length ts → t ≡ get_or ts d t → IsEncoding bytes t →
     packet_lines (alone e bytes (length t.segments)) 0 ≡ packet_lines (session_for e ts false true) d
-packets_at e ts d bytes t within t_is is =
-    packets_alone e ts d bytes (length t.segments)
-    (get_or-map load_for ts d t (record { bytes = []; pieces = 0 }) within
-    ∙ ap load_for (sym t_is)
-    ∙ ap (λ (sent : List ℕ). let l : Load = record { bytes = sent; pieces = length t.segments } in l) (sym (sent_is bytes t is)))
+packets_at e ts d bytes t within t_is is = grind (arith, common_steps, packets_alone, get_or-map, sent_is)

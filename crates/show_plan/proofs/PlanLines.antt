@@ -1,5 +1,6 @@
 -- The lines of drones, one drone after another.
-use Rattle.std.proofs.Common.{◌≡◌, ℕ, ◌+◌, ◌<◌, ◌≤◌, List, [], ◌∷◌, ◌++◌, length, map, codes, drop, get_or, append_assoc, append-nil, arith, sym, ap, ◌∙◌}
+use Rattle.std.proofs.lemmas.Grind.{common_steps}
+use Rattle.std.proofs.Common.{◌≡◌, ℕ, ◌+◌, ◌<◌, ◌≤◌, List, ◌++◌, length, map, codes, drop, get_or, append_assoc, append-nil, arith, ap, ◌∙◌}
 use Rattle.std.proofs.lemmas.List.{drop_all, drop_more}
 use Rattle.fleet_io.specs.Words.{hex_word, line}
 use Rattle.choreo_lines.specs.Name.{Name}
@@ -15,24 +16,13 @@ sent_is bytes t is = is.ended ∙ ap (λ (spelled : List ℕ). spelled ++ ending
 -- the line of a drone, that of its bytes and those of its packets are its lines
 pub part_is : (text first sent : List ℕ) (s : Upload) (d : ℕ) (name bytes : List ℕ) (t : Traj) → IsEncoding bytes t → first ≡ text ++ drone_line name bytes (length t.segments) →
     sent ≡ first ++ line (codes "data") (map hex_word bytes) → sent ++ packet_lines s d ≡ text ++ drone_part s d name t
-part_is text first sent s d name bytes t is first_is sent_made =
-    ap (λ (xs : List ℕ). xs ++ packet_lines s d) (sent_made ∙ ap (λ (xs : List ℕ). xs ++ line (codes "data") (map hex_word bytes)) first_is)
-    ∙ ap (λ (xs : List ℕ). xs ++ packet_lines s d) (append_assoc text (drone_line name bytes (length t.segments)) (line (codes "data") (map hex_word bytes)))
-    ∙ append_assoc text (drone_line name bytes (length t.segments) ++ line (codes "data") (map hex_word bytes)) (packet_lines s d)
-    ∙ ap (λ (all : List ℕ). text ++ (drone_line name all (length t.segments) ++ line (codes "data") (map hex_word all) ++ packet_lines s d)) (sent_is bytes t is)
+part_is text first sent s d name bytes t is first_is sent_made = grind (arith, common_steps, codes, append_assoc, sent_is)
 
 -- one drone's lines more: what is to come is less by them
 pub parts_next : (text more : List ℕ) (s : Upload) (names : List Name) (ts : List Traj) (k : ℕ) (name : Name) (t : Traj) →
     k < length names → length ts ≡ length names → name ≡ get_or names k name → t ≡ get_or ts k t → more ≡ text ++ drone_part s k name.items t →
     more ++ drone_parts s (k + 1) (drop (k + 1) names) (drop (k + 1) ts) ≡ text ++ drone_parts s k (drop k names) (drop k ts)
-parts_next text more s names ts k name t within many name_is t_is more_is =
-    let also : k < length ts = omega (arith, many, within) in
-    let here : List ℕ = drone_part s k name.items t in
-    let rest : List ℕ = drone_parts s (k + 1) (drop (k + 1) names) (drop (k + 1) ts) in
-    let drops : drone_parts s k (drop k names) (drop k ts) ≡ here ++ rest =
-    ap (λ (ns : List Name). drone_parts s k ns (drop k ts)) (drop_more names k name within ∙ ap (λ (n : Name). n ∷ drop (k + 1) names) (sym name_is))
-    ∙ ap (λ (us : List Traj). drone_parts s k (name ∷ drop (k + 1) names) us) (drop_more ts k t also ∙ ap (λ (u : Traj). u ∷ drop (k + 1) ts) (sym t_is)) in
-    ap (λ (xs : List ℕ). xs ++ rest) more_is ∙ append_assoc text here rest ∙ ap (λ (xs : List ℕ). text ++ xs) (sym drops)
+parts_next text more s names ts k name t within many name_is t_is more_is = grind (arith, common_steps, drop, drop_more, append_assoc)
 
 -- after the last drone nothing is to come
 pub parts_over : (text : List ℕ) (s : Upload) (names : List Name) (ts : List Traj) (k : ℕ) → length names ≤ k → text ++ drone_parts s k (drop k names) (drop k ts) ≡ text

@@ -1,4 +1,5 @@
 -- Trajectories and their bytes one after another, and what is known of those of a valid grid.
+use Rattle.std.proofs.lemmas.Grind.{common_steps}
 use Rattle.std.proofs.Common.{◌≡◌, ◌⊎◌, inl, inr, ℕ, suc, ◌+◌, ◌<◌, ◌≤◌, Bool, true, false, cond, Option, Some, None, IfOk, Ok, Err, Result, Vec, Global, List, [], ◌∷◌, ◌++◌, map, drop, append_assoc, length, get_or, nat_le, arith, refl, sym, ap, ◌∙◌, subst}
 use Rattle.std.specs.List.{All}
 use Rattle.std.specs.Option.{option_or}
@@ -11,7 +12,6 @@ use Rattle.choreo_show.specs.declared.show.DroneLine.{DroneLine}
 use Rattle.choreo_show.specs.Plain.{PlainShow}
 use Rattle.cue_grid.specs.declared.grid.Cue.{Cue}
 use Rattle.cue_grid.specs.declared.grid.Grid.{Grid}
-use Rattle.cue_grid.specs.declared.grid.GridFault.{GridFault}
 use Rattle.cue_grid.specs.Cues.{grid_of}
 use Rattle.cue_grid.specs.Faults.{grid_fault}
 use Rattle.cue_grid.specs.Grids.{FitCues, IsGrid}
@@ -24,7 +24,6 @@ use Rattle.mm_rounding.specs.declared.piece.MicroPiece.{MicroPiece}
 use Rattle.mm_rounding.specs.Rounding.{segment_of}
 use Rattle.figure_expand.specs.Acts.{act_of, end_of}
 use Rattle.figure_expand.specs.Controls.{piece_of}
-use Rattle.figure_expand.specs.declared.fault.AxisValue.{AxisValue}
 use Rattle.figure_expand.specs.Expanded.{job_in, pieces_from, expanded_from, expanded, range_fault}
 use Rattle.figure_expand.specs.Flown.{start_of, RoundsWell}
 use Rattle.show_plan.specs.declared.fitted.Fitted.{Fitted}
@@ -33,7 +32,7 @@ use Rattle.show_plan.specs.declared.fitted.PlanFault.{PlanFault}
 use Rattle.show_plan.specs.declared.fitted.PlanFault.TheVariants as fault
 use Rattle.show_plan.specs.Trajectories.{trajectory_of, trajectories_of, by_cue, sent}
 use Rattle.show_plan.specs.Flight.{no_trajectory, KeepsNearShow}
-use Rattle.show_plan.specs.Fitting.{IsFlown, IsSendable, size, room, send_fault, first_unsendable, unsendable, in_order, plan_fault, FitGives}
+use Rattle.show_plan.specs.Fitting.{IsFlown, IsSendable, size, room, send_fault, first_unsendable, plan_fault, FitGives}
 use Rattle.show_plan.proofs.Flight.{by_cue_counted, flight, flight_at_is, keeps_near_show}
 
 -- ---- lists as the code has them
@@ -66,15 +65,7 @@ pub trajectory_next : (ts more : List Traj) (starts : List DroneLine) (rows : Li
     k < length starts → length rows ≡ length starts → row ≡ get_or (map items_of rows) k row → t ≡ trajectory_of (get_or starts k s).at row → more ≡ ts ++ t ∷ [] →
     more ++ trajectories_of (drop (k + 1) starts) (drop (k + 1) (map items_of rows)) ≡ ts ++ trajectories_of (drop k starts) (drop k (map items_of rows))
 trajectory_next ts more starts rows k s row t within many row_is t_is more_is =
-    let lists : List (List MicroPiece) = map items_of rows in
-    let rest : List Traj = trajectories_of (drop (k + 1) starts) (drop (k + 1) lists) in
-    let also : k < length lists = omega (arith, as_many rows, many, within) in
-    let drops : trajectories_of (drop k starts) (drop k lists) ≡ trajectory_of (get_or starts k s).at row ∷ rest =
-    ap (λ (ss : List DroneLine). trajectories_of ss (drop k lists)) (drop_more starts k s within)
-    ∙ ap (λ (rs : List (List MicroPiece)). trajectories_of (get_or starts k s ∷ drop (k + 1) starts) rs) (drop_more lists k row also ∙ ap (λ (here : List MicroPiece). here ∷ drop (k + 1) lists) (sym row_is)) in
-    ap (λ (items : List Traj). items ++ rest) more_is
-    ∙ append_assoc ts (t ∷ []) rest
-    ∙ ap (λ (items : List Traj). ts ++ items) (ap (λ (first : Traj). first ∷ rest) t_is ∙ sym drops)
+    grind (arith, common_steps, items_of, drop, as_many, drop_more, append_assoc)
 
 -- ---- the trajectories of a grid
 
@@ -103,10 +94,7 @@ segments_last n p d (cue ∷ cues) fit =
     fit.0.lasts (segments_last n (end_of p (act_of (job_in cue d))) d cues fit.1)
 
 flight_flown : (g : Grid) (d : ℕ) → IsGrid g → IsFlown (flight g d)
-flight_flown g d is = record {
-  few = omega (arith, is.few_cues, segments_counted (start_of g d) d g.cues);
-  last = segments_last (length g.starts) (start_of g d) d g.cues is.cues;
-}
+flight_flown g d is = grind (arith, common_steps, segments_counted, segments_last)
 
 -- the trajectories of a grid have at most 1,000 segments, each of which lasts some time
 pub flown : (g : Grid) → IsGrid g → All IsFlown (by_cue g)
@@ -143,27 +131,11 @@ sent_are g ts all ts_are all_are = all_are ∙ ap (map joined) ts_are
 
 -- a trajectory that can be sent has few segments, and bytes that have room
 pub one_sendable : (space d : ℕ) (t : Traj) → send_fault space d t ≡ None → (length t.segments ≤ most_segments) × (size t ≤ space)
-one_sendable space d t none = by_tests (nat_lt most_segments (length t.segments)) (nat_le (size t) space) refl refl none
-  where
-    few_told : (m n : ℕ) → nat_lt m n ≡ false → n ≤ m
-    few_told m n e = grind (arith, nat_tests)
-
-    room_told : (m n : ℕ) → nat_le m n ≡ true → m ≤ n
-    room_told m n e = grind (arith, nat_tests)
-
-    by_tests : (a b : Bool) → nat_lt most_segments (length t.segments) ≡ a → nat_le (size t) space ≡ b →
-        cond a (Some (fault.TooManySegments d (length t.segments))) (cond b None (Some (fault.TooLong d (size t) space))) ≡ None → (length t.segments ≤ most_segments) × (size t ≤ space)
-    by_tests true b p q none = absurd (cc)
-    by_tests false true p q none = (few_told most_segments (length t.segments) p, room_told (size t) space q)
-    by_tests false false p q none = absurd (cc)
+one_sendable space d t none = grind (arith, common_steps, nat_le, nat_tests, cond)
 
 -- the first one and the others
 pub none_unsendable : (space d : ℕ) (t : Traj) (ts : List Traj) → first_unsendable space d (t ∷ ts) ≡ None → (send_fault space d t ≡ None) × (first_unsendable space (d + 1) ts ≡ None)
-none_unsendable space d t ts none = by_first (send_fault space d t) none
-  where
-    by_first : (o : Option PlanFault) → option_or o (first_unsendable space (d + 1) ts) ≡ None → (o ≡ None) × (first_unsendable space (d + 1) ts ≡ None)
-    by_first None none = (refl, none)
-    by_first (Some f) none = absurd (cc)
+none_unsendable space d t ts none = grind (arith, common_steps)
 
 -- where none is named, each can be sent
 pub sendable : (space d : ℕ) (ts : List Traj) → All IsFlown ts → first_unsendable space d ts ≡ None → All IsSendable ts
@@ -200,30 +172,12 @@ unsendable_names space d (t ∷ ts) f is = by_first (send_fault space d t) refl 
 -- Where names, cues and numbers have no fault, the first trajectory that can't be sent is the reason why the show has no plan.
 pub unsendable_given : (s : PlainShow) (g : Grid) (space : ℕ) (ts : List Traj) (f : PlanFault) →
     grid_fault s ≡ None → g ≡ grid_of s → range_fault g ≡ None → space ≡ room s → ts ≡ sent g → Some f ≡ first_unsendable space 0 ts → plan_fault s ≡ Some f
-unsendable_given s g space ts f unrolled is fits space_is ts_are late =
-    let range : range_fault (grid_of s) ≡ None = subst (λ (g : Grid). range_fault g ≡ None) is fits in
-    let here : unsendable s ≡ Some f =
-    sym (late ∙ ap (λ (n : ℕ). first_unsendable n 0 ts) space_is ∙ ap (first_unsendable (room s) 0) (ts_are ∙ ap sent is)) in
-    by_order (grid_fault s) (range_fault (grid_of s)) unrolled range here
-  where
-    by_order : (a : Option GridFault) (b : Option AxisValue) → a ≡ None → b ≡ None → unsendable s ≡ Some f → in_order a b (unsendable s) ≡ Some f
-    by_order None None p q here = here
-    by_order (Some e) b p q here = absurd (cc)
-    by_order None (Some e) p q here = absurd (cc)
+unsendable_given s g space ts f unrolled is fits space_is ts_are late = grind (arith, common_steps)
 
 -- Where these have no fault and each trajectory can be sent, the show has a plan.
 pub fits_given : (s : PlainShow) (g : Grid) (space : ℕ) (ts : List Traj) →
     grid_fault s ≡ None → g ≡ grid_of s → range_fault g ≡ None → space ≡ room s → ts ≡ sent g → first_unsendable space 0 ts ≡ None → plan_fault s ≡ None
-fits_given s g space ts unrolled is fits space_is ts_are none =
-    let range : range_fault (grid_of s) ≡ None = subst (λ (g : Grid). range_fault g ≡ None) is fits in
-    let here : unsendable s ≡ None =
-    sym (ap (λ (n : ℕ). first_unsendable n 0 ts) space_is ∙ ap (first_unsendable (room s) 0) (ts_are ∙ ap sent is)) ∙ none in
-    by_order (grid_fault s) (range_fault (grid_of s)) unrolled range here
-  where
-    by_order : (a : Option GridFault) (b : Option AxisValue) → a ≡ None → b ≡ None → unsendable s ≡ None → in_order a b (unsendable s) ≡ None
-    by_order None None p q here = here
-    by_order (Some e) b p q here = absurd (cc)
-    by_order None (Some e) p q here = absurd (cc)
+fits_given s g space ts unrolled is fits space_is ts_are none = grind (arith, common_steps)
 
 -- What fits is near to the show.
 pub near_given : (r : Result Fitted FitError) (s : PlainShow) (g : Grid) → FitGives r s → IsGrid g → g ≡ grid_of s → IfOk r (λ f. KeepsNearShow (grid_of s) f.sent)

@@ -1,5 +1,6 @@
 -- What fits is valid.
-use Rattle.std.proofs.Common.{◌≡◌, ℕ, suc, ◌+◌, ◌-◌, ◌<◌, ◌≤◌, true, Option, Some, None, IfOk, Ok, Err, Result, List, [], ◌∷◌, ◌++◌, map, length, eqb, arith, refl, sym, ap, ◌∙◌, subst}
+use Rattle.std.proofs.lemmas.Grind.{common_steps}
+use Rattle.std.proofs.Common.{◌≡◌, ℕ, suc, ◌+◌, ◌-◌, ◌≤◌, true, Option, Some, None, IfOk, Ok, Err, Result, List, [], ◌∷◌, ◌++◌, map, length, eqb, arith, refl, sym, ap, ◌∙◌, subst}
 use Rattle.std.specs.List.{All}
 use Rattle.std.proofs.lemmas.List.{get_or_default}
 use Rattle.std.proofs.lemmas.List.Elements.{All-head, All-tail, All-nil, All-cons, All-from_get_or}
@@ -46,10 +47,7 @@ no_part (Some f) b c none = absurd (cc)
 
 -- a name can stand as a word
 pub name_is_word : (word : List ℕ) → is_name word ≡ true → IsWord word
-name_is_word word named =
-    let some : 0 < length word = name_has_bytes word named in
-    let inside : length word - 1 < length word = omega arith in
-    ap (λ (b : ℕ). eqb b 10) (sym (get_or_default word (length word - 1) 0 10 inside)) ∙ name_has_no_line_feed word (length word - 1) named inside
+name_is_word word named = grind (arith, common_steps, name_has_bytes, eqb, get_or_default, name_has_no_line_feed)
 
 -- so can the names of drones that are as the language has them
 pub names_are_words : (ds : List DroneLine) → FitDroneLines ds → All StandsAsWord (map (λ (d : DroneLine). d.name) ds)

@@ -1,12 +1,11 @@
-use Rattle.std.proofs.Common.{◌≤◌, ◌++◌, false, true, List, [], ◌∷◌, codes, ℕ, All, append_assoc, ap, sym, subst, length, ◌∙◌}
+use Rattle.std.proofs.lemmas.Grind.{common_steps}
+use Rattle.std.proofs.Common.{◌≤◌, List, codes, All, append_assoc, ap, sym, subst, length, ◌∙◌, arith}
 use Rattle.std.proofs.lemmas.List.{length-map}
-use Rattle.fleet_io.specs.Words.{line}
 use Rattle.choreo_lines.specs.Name.{Name}
 use Rattle.traj_codec.specs.declared.traj.Traj.{Traj}
 use Rattle.traj_codec.specs.Joined.{joined}
 use Rattle.show_plan.specs.Fitting.{IsSendable, size}
-use Rattle.show_plan.specs.Landing.{session_for}
-use Rattle.show_plan.specs.Texts.{drone_parts, plan_text}
+use Rattle.show_plan.specs.Texts.{plan_text}
 use Rattle.show_plan.proofs.Valid.{short_all}
 use Rattle.show_plan.proofs.text.plan_text.Goals as goal
 
@@ -15,17 +14,7 @@ put_end-requires c = c.in_ok-put_parts.ensures.fresh
 
 pub returns : goal.returns
 unfolding plan_text
-returns c =
-    let e = c.args.f.now.settings in
-    let first : List ℕ = line (codes "plan") (codes "1" ∷ []) in
-    let last : List ℕ = line (codes "end") [] in
-    let head = c.in_ok-put_head.ensures ∙ ap (λ (t : List ℕ). t ++ first) c.in_ok-text.ensures in
-    let parts = drone_parts (session_for e c.as_slice-2.result.now false true) 0 c.as_slice.result.now c.as_slice-2.result.now in
-    c.in_ok-put_end.ensures
-    ∙ ap (λ (t : List ℕ). t ++ last) (c.in_ok-put_parts.ensures.parts ∙ ap (λ (t : List ℕ). t ++ parts) head)
-    ∙ append_assoc first parts last
-    ∙ ap (λ (names : List Name). first ++ (drone_parts (session_for e c.as_slice-2.result.now false true) 0 names c.as_slice-2.result.now ++ last)) c.as_slice.ensures
-    ∙ ap (λ (ts : List Traj). first ++ (drone_parts (session_for e ts false true) 0 c.args.f.now.names ts ++ last)) c.as_slice-2.ensures
+returns c = grind (arith, common_steps, codes, append_assoc)
 
 pub put_parts-requires-clause-sendable : goal.put_parts-requires-clause-sendable
 put_parts-requires-clause-sendable c = subst (All IsSendable) (sym c.as_slice-2.ensures) c.requires.sendable

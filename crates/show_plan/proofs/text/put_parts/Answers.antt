@@ -1,8 +1,8 @@
-use Rattle.std.proofs.Common.{◌≡◌, All, get_or, ◌++◌, ◌<◌, ◌≤◌, length, false, true, List, ℕ, refl, sym, ap, ◌∙◌, subst, arith}
-use Rattle.crtp_packets.specs.declared.chunks.TheConstants.{MEMORY_BYTES}
+use Rattle.std.proofs.lemmas.Grind.{common_steps}
+use Rattle.std.proofs.Common.{◌≡◌, All, get_or, ◌++◌, ◌<◌, length, false, true, List, ℕ, refl, sym, ap, ◌∙◌, subst, arith}
 use Rattle.traj_codec.specs.declared.traj.Traj.{Traj}
 use Rattle.traj_codec.specs.Spelling.{IsEncoding}
-use Rattle.show_plan.specs.Fitting.{IsSendable, size}
+use Rattle.show_plan.specs.Fitting.{IsSendable}
 use Rattle.show_plan.specs.Landing.{session_for}
 use Rattle.show_plan.specs.Texts.{drone_part}
 use Rattle.show_plan.proofs.PacketLines.{packets_at}
@@ -30,10 +30,7 @@ put_part-requires-clause-encoded c =
     subst (λ (bytes : List ℕ). IsEncoding bytes c.index-trajs-d.result) (sym c.as_slice-in-loop-d.ensures.value) c.in_ok-bytes.ensures
 
 pub put_part-requires-clause-short : goal.put_part-requires-clause-short
-put_part-requires-clause-short c =
-    let within : c.loop-d.d < length c.args.trajs.now = omega (arith, c.requires.count, c.loop-d-test.true) in
-    let short = subst (λ (t : Traj). size t ≤ MEMORY_BYTES) (sym c.index-trajs-d.is) (c.requires.short c.loop-d.d c.index-trajs-d.result within) in
-    omega (arith, short, c.as_slice-in-loop-d.ensures.len, encoding_size c.in_ok-bytes.bytes.items c.index-trajs-d.result c.in_ok-bytes.ensures)
+put_part-requires-clause-short c = grind (arith, common_steps, encoding_size)
 
 pub put_part-requires-clause-few : goal.put_part-requires-clause-few
 put_part-requires-clause-few c =

@@ -1,16 +1,13 @@
-use Rattle.std.proofs.Common.{◌≡◌, ◌≤◌, List, length, All, ap, ◌∙◌, arith, sym, subst}
+use Rattle.std.proofs.lemmas.Grind.{common_steps}
+use Rattle.std.proofs.Common.{◌≤◌, All, arith, sym, subst}
 use Rattle.std.proofs.lemmas.List.{length-map}
 use Rattle.traj_codec.specs.declared.traj.Traj.{Traj}
-use Rattle.traj_codec.specs.Joined.{joined}
 use Rattle.show_plan.specs.Fitting.{IsSendable, size}
 use Rattle.show_plan.proofs.Valid.{short_all}
 use Rattle.show_plan.proofs.text.room_for.Goals as goal
 
 pub total-requires-clause-few : goal.total-requires-clause-few
-total-requires-clause-few c =
-    let sent : length c.as_slice-2.result.now ≡ length c.args.f.now.trajs =
-    ap (λ (ts : List Traj). length ts) (c.as_slice-2.ensures ∙ c.requires.sent) ∙ length-map c.args.f.now.trajs joined in
-    omega (arith, sent, c.requires.trajs_counted, c.requires.few_drones)
+total-requires-clause-few c = grind (arith, common_steps, length-map)
 
 pub total-requires-clause-sendable : goal.total-requires-clause-sendable
 total-requires-clause-sendable c = subst (All IsSendable) (sym c.as_slice-2.ensures) c.requires.sendable
