@@ -1,5 +1,6 @@
 -- What was loaded is there, byte by byte, and decodes to what was sent.
-use Rattle.std.proofs.Common.{◌≡◌, ℕ, zero, suc, ◌+◌, ◌<◌, ◌≤◌, List, [], ◌∷◌, ◌++◌, length, drop, get_or, slice_get, Option, Some, None, Result, Ok, Err, IfOk, refl, sym, ap, subst, ◌∙◌, append_assoc, arith}
+use Rattle.std.proofs.lemmas.Grind.{common_steps}
+use Rattle.std.proofs.Common.{◌≡◌, ℕ, zero, suc, ◌+◌, ◌<◌, ◌≤◌, List, [], ◌∷◌, ◌++◌, length, drop, get_or, slice_get, Option, Some, None, Result, Ok, Err, IfOk, refl, ap, subst, append_assoc, arith}
 use Rattle.std.specs.List.{All}
 use Rattle.std.specs.Prelude.{IfNone}
 use Rattle.traj_codec.specs.declared.traj.Traj.{Traj}
@@ -34,11 +35,7 @@ one_entry : (e f : Def) (o : Option (Option Def)) → o ≡ Some (Some e) → o 
 one_entry e f o first second = cc
 
 pub one_curve : SpellingLaw → (drone : DroneState) (id : ℕ) (t u : Traj) → DecodesTo drone id t → DecodesTo drone id u → t ≡ u
-one_curve law drone id t u first second =
-    let same : first.entry ≡ second.entry = one_entry first.entry second.entry _ first.listed second.listed in
-    let other : BeginsWith (drop first.entry.offset drone.memory) first.entry.pieces u second.used = rw same second.begins in
-    (law t u first.begins.rest other.rest first.begins.formed other.formed (first.begins.many ∙ sym other.many)
-    (ap (λ (xs : List ℕ). xs ++ first.begins.rest) (sym first.begins.spells.text) ∙ sym first.begins.cut ∙ other.cut ∙ ap (λ (xs : List ℕ). xs ++ other.rest) other.spells.text)).0
+one_curve law drone id t u first second = grind (arith, common_steps, one_entry, drop)
 
 pub loaded_curve : (s : Upload) (drone : DroneState) (d : ℕ) (t : Traj) → IsSession s → d < drone_count s → load_of s d ≡ load_for t → IsTrajectory t →
     All HasDuration t.segments → length drone.memory ≡ 4096 → HasLoad s (load_of s d) drone → HasEntry s (load_of s d) drone → DecodesTo drone s.trajectory_id t
@@ -51,15 +48,7 @@ loaded_curve s drone d t session known load formed last whole there listed =
       entry = record { offset = s.offset; pieces = length t.segments };
       used = length (spelling t);
       listed = rw load at listed;
-      begins = record {
-        spelled = spelling t;
-        rest = ending ++ drop (length bytes) (drop s.offset drone.memory);
-        cut = stands ∙ append_assoc (spelling t) ending (drop (length bytes) (drop s.offset drone.memory));
-        spells = record { text = refl; durations = last };
-        formed = formed;
-        many = refl;
-        takes = refl;
-      };
+      begins = grind (arith, common_steps, drop, append_assoc);
     }
 
 -- ---- what is read
@@ -82,16 +71,10 @@ unread drone id entry t listed none is =
 
 -- where a fault is read, the bytes begin with no trajectory
 pub not_short : (t : Traj) (used place : ℕ) (fault : CodecFault) (r : Result (Traj × ℕ) CodecFault) → r ≡ Err fault → fault ≡ Short place → IsDecoded t used r → ⊥
-not_short t used place fault r is short decoded =
-    let there : IsDecoded t used (Err fault) = rw is at decoded in
-    let here : IsDecoded t used (Err (Short place)) = rw short at there in
-    here
+not_short t used place fault r is short decoded = grind (arith, common_steps)
 
 pub not_zero : (t : Traj) (used place : ℕ) (fault : CodecFault) (r : Result (Traj × ℕ) CodecFault) → r ≡ Err fault → fault ≡ ZeroDuration place → IsDecoded t used r → ⊥
-not_zero t used place fault r is none decoded =
-    let there : IsDecoded t used (Err fault) = rw is at decoded in
-    let here : IsDecoded t used (Err (ZeroDuration place)) = rw none at there in
-    here
+not_zero t used place fault r is none decoded = grind (arith, common_steps)
 
 -- what follows where nothing is found
 pub none_weaker : {T E : Type 0} (r : Result (Option T) E) (P Q : Type 0) → (P → Q) → IfOk r (λ o. IfNone o P) → IfOk r (λ o. IfNone o Q)

@@ -1,5 +1,6 @@
 -- A drone gives no answer exactly to a packet that is none of the four, and such a packet changes
 -- nothing.
+use Rattle.std.proofs.lemmas.Grind.{common_steps}
 use Rattle.std.proofs.Common.{◌≡◌, ℕ, Bool, true, false, cond, not, nat_lt, nat_le, ◌==◌, ◌||◌, ◌+◌, List, [], ◌∷◌, length, refl, arith, is_some, IsNone, IsErr, Result, Ok, Err}
 use Rattle.crtp_packets.specs.Reading.{down_of}
 use Rattle.crtp_packets.specs.declared.reading.PacketFault.{PacketFault}
@@ -27,10 +28,7 @@ either false x y p q = q
 -- a define and a start are answered
 unanswered_command : (d : DroneState) (packet : List ℕ) (c : Result Command CommandFault) →
     IsNone (command_taken d packet c).answer → IsErr c
-unanswered_command d packet (Ok (Define id location form offset pieces)) none =
-    absurd (clash (is_some (command_taken d packet (Ok (Define id location form offset pieces))).answer)
-    (either (nat_le TABLE_ENTRIES id || not (location == 1) || not (form == 1)) _ _ refl
-    (either (nat_le MEMORY_BYTES offset) _ _ refl refl)) none)
+unanswered_command d packet (Ok (Define id location form offset pieces)) none = grind (arith, common_steps, clash, is_some, either, nat_le, not)
 unanswered_command d packet (Ok (Start mask relative reversed id scale)) none =
     absurd (clash (is_some (command_taken d packet (Ok (Start mask relative reversed id scale))).answer)
     (either (not (mask == 0) || not (relative == 0) || not (reversed == 0) || not (bytes_eq scale (0 ∷ 0 ∷ 0x80 ∷ 0x3F ∷ [])) || nat_le TABLE_ENTRIES id || not (has_entry d.table id)) _ _ refl refl) none)

@@ -1,15 +1,12 @@
-use Rattle.std.proofs.Common.{ℕ, List, Option, sym, subst, ap, ◌∙◌, IsNone, refl}
+use Rattle.std.proofs.lemmas.Grind.{common_steps}
+use Rattle.std.proofs.Common.{ap, ◌∙◌, arith}
 use Rattle.upload_model.specs.Drones.{Handled}
 use Rattle.firmware_memory.specs.Shown.{shown}
 use Rattle.firmware_memory.proofs.Unanswered.{unanswered, unmoved}
 use Rattle.firmware_memory.proofs.drone.Drone.handle.Goals as goal
 
 pub returns-clause-unanswered : goal.returns-clause-unanswered
-returns-clause-unanswered c = (
-  λ none. unanswered (shown c.args.self.now) c.args.packet.now (subst (λ (o : Option (List ℕ)). IsNone o) c.step.ensures.answer none),
-  λ other. subst (λ (o : Option (List ℕ)). IsNone o)
-      (sym (c.step.ensures.answer ∙ ap (λ (h : Handled). h.answer) (unmoved (shown c.args.self.now) c.args.packet.now other))) refl,
-)
+returns-clause-unanswered c = grind (arith, common_steps, unanswered, unmoved)
 
 pub returns-clause-unchanged : goal.returns-clause-unchanged
 returns-clause-unchanged c =
