@@ -1,5 +1,6 @@
 -- The chunks of a list of bytes, one after the other, are the list.
-use Rattle.std.proofs.Common.{◌≡◌, ℕ, zero, suc, ◌+◌, ◌*◌, ◌-◌, ◌<◌, ◌≤◌, List, [], ◌++◌, length, take, drop, refl, ap, sym, ◌∙◌, arith, inl, inr}
+use Rattle.std.proofs.lemmas.Grind.{common_steps}
+use Rattle.std.proofs.Common.{◌≡◌, ℕ, zero, suc, ◌+◌, ◌*◌, ◌-◌, ◌<◌, ◌≤◌, List, ◌++◌, length, take, drop, refl, ap, sym, ◌∙◌, arith, inl, inr}
 use Rattle.std.proofs.lemmas.Bool.{cases_lt}
 use Rattle.std.proofs.lemmas.List.{take-append-drop, take_all, drop_all, drop-drop, length-take, length-drop, append-nil}
 use Rattle.std.specs.List.{flat_map, range_with_len}
@@ -9,11 +10,7 @@ use Rattle.crtp_packets.specs.Chunks.{chunk_count_of, chunk_of, chunk_start, chu
 next_chunk : (bytes : List ℕ) (k : ℕ) → k < chunk_count_of (length bytes) →
     chunk_of bytes k ++ drop (24 * (k + 1)) bytes ≡ drop (24 * k) bytes
 next_chunk bytes k h = elim (cases_lt (length bytes) (24 * k + 24)) [
-  | inl last ↦
-      let size : chunk_end (length bytes) k - chunk_start k ≡ length bytes - 24 * k = omega arith in
-      let whole : take (length bytes - 24 * k) (drop (24 * k) bytes) ≡ drop (24 * k) bytes = take_all (length bytes - 24 * k) (drop (24 * k) bytes) (omega (arith, length-drop (24 * k) bytes)) in
-      let behind : drop (24 * (k + 1)) bytes ≡ [] = drop_all (24 * (k + 1)) bytes (omega arith) in
-      rw (size, whole, behind, append-nil) refl
+  | inl last ↦ grind (arith, common_steps, take, drop, take_all, length-drop, drop_all, append-nil)
   | inr full ↦
       let size : chunk_end (length bytes) k - chunk_start k ≡ 24 = omega arith in
       let place : 24 * (k + 1) ≡ 24 * k + 24 = omega arith in
@@ -32,14 +29,7 @@ last_chunks bytes (suc n) k e =
 -- how long chunk k is
 chunk_length : (bytes : List ℕ) (k : ℕ) → k < chunk_count_of (length bytes) →
     (1 ≤ length (chunk_of bytes k)) × (length (chunk_of bytes k) ≤ 24)
-chunk_length bytes k h =
-    let size = length-take (chunk_end (length bytes) k - chunk_start k) (drop (chunk_start k) bytes) in
-    let rest = length-drop (chunk_start k) bytes in
-    (omega (arith, size, rest), omega (arith, size, rest))
+chunk_length bytes k h = grind (arith, common_steps, length-take, drop, length-drop)
 
 pub covers : (bytes : List ℕ) → Covers bytes
-covers bytes = record {
-  joined = last_chunks bytes (chunk_count_of (length bytes)) 0 (omega arith);
-  some = λ k h. (chunk_length bytes k h).0;
-  few = λ k h. (chunk_length bytes k h).1;
-}
+covers bytes = grind (arith, common_steps, last_chunks, chunk_length)

@@ -1,12 +1,11 @@
 -- A payload that is read as a command is that command, field by field, and the other way round.
-use Rattle.std.proofs.Common.{◌≡◌, ℕ, suc, ◌^◌, ◌<◌, ◌≤◌, true, nat_lt, ◌==◌, List, [], ◌∷◌, ◌++◌, length, drop, slice_index, refl, ap, sym, subst, ◌∙◌, arith, Result, Ok, IfOk}
+use Rattle.std.proofs.lemmas.Grind.{common_steps}
+use Rattle.std.proofs.Common.{◌≡◌, ℕ, suc, ◌^◌, ◌<◌, ◌≤◌, true, nat_lt, ◌==◌, List, [], ◌∷◌, ◌++◌, length, drop, slice_index, refl, ap, sym, subst, ◌∙◌, arith, Ok, IfOk}
 use Rattle.std.proofs.lemmas.Bool.{le-ltb}
 use Rattle.byteorder.specs.Endian.{little_bytes, little_number}
-use Rattle.byteorder.specs.Numbers.{little_number-reads_back}
 use Rattle.crtp_packets.proofs.ReadingLaws.{AreBytes, four_bytes, number_fits, if_ok, not_short}
 use Rattle.crtp_packets.specs.Commands.{command_of, SpellsCommand}
 use Rattle.crtp_packets.specs.declared.commands.TheConstants.{DEFINE, START}
-use Rattle.crtp_packets.specs.declared.commands.CommandFault.{CommandFault}
 use Rattle.crtp_packets.specs.declared.commands.Command.{Command}
 use Rattle.crtp_packets.specs.declared.commands.Command.TheVariants.{Define, Start}
 
@@ -54,11 +53,7 @@ spells (kind ∷ rest) small =
 -- a define that is written out is read as itself
 define_read : (id location form offset pieces : ℕ) (rest : List ℕ) → offset < 2 ^ 32 →
     command_of (DEFINE ∷ id ∷ location ∷ form ∷ (little_bytes 4 offset ++ pieces ∷ rest)) ≡ Ok (Define id location form offset pieces)
-define_read id location form offset pieces rest fits =
-    let behind = id ∷ location ∷ form ∷ (little_bytes 4 offset ++ pieces ∷ rest) in
-    let long : 8 ≤ length behind = omega arith in
-    rw (le-ltb (length behind) 8 long)
-    (ap {B = Result Command CommandFault} (λ (n : ℕ). Ok (Define id location form n pieces)) (little_number-reads_back 4 offset (pieces ∷ rest) fits))
+define_read id location form offset pieces rest fits = grind (arith, common_steps, le-ltb)
 
 -- a start that is written out is read as itself
 start_read : (mask relative reversed id : ℕ) (scale rest : List ℕ) → length scale ≡ 4 →
@@ -67,10 +62,7 @@ start_read mask relative reversed id [] rest four = absurd (omega arith)
 start_read mask relative reversed id (a ∷ []) rest four = absurd (omega arith)
 start_read mask relative reversed id (a ∷ b ∷ []) rest four = absurd (omega arith)
 start_read mask relative reversed id (a ∷ b ∷ c ∷ []) rest four = absurd (omega arith)
-start_read mask relative reversed id (a ∷ b ∷ c ∷ d ∷ []) rest four =
-    let behind = mask ∷ relative ∷ reversed ∷ id ∷ a ∷ b ∷ c ∷ d ∷ rest in
-    let long : 8 ≤ length behind = omega arith in
-    rw (le-ltb (length behind) 8 long) refl
+start_read mask relative reversed id (a ∷ b ∷ c ∷ d ∷ []) rest four = grind (arith, common_steps, le-ltb)
 start_read mask relative reversed id (a ∷ b ∷ c ∷ d ∷ e ∷ scale) rest four = absurd (omega arith)
 
 pub spelled : (payload : List ℕ) (command : Command) → SpellsCommand payload command → command_of payload ≡ Ok command

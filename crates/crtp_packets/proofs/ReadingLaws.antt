@@ -1,5 +1,6 @@
 -- A packet that is read as a message is that message, field by field, and the other way round.
-use Rattle.std.proofs.Common.{◌≡◌, ℕ, suc, ◌^◌, ◌<◌, ◌≤◌, Bool, true, false, cond, nat_lt, List, [], ◌∷◌, ◌++◌, length, drop, slice_index, refl, ap, sym, ◌∙◌, arith, Result, IfOk, ◌/◌, ◌%◌}
+use Rattle.std.proofs.lemmas.Grind.{common_steps}
+use Rattle.std.proofs.Common.{◌≡◌, ℕ, suc, ◌^◌, ◌<◌, ◌≤◌, Bool, true, false, cond, nat_lt, List, [], ◌∷◌, ◌++◌, length, drop, slice_index, refl, ap, sym, ◌∙◌, arith, Result, IfOk}
 use Rattle.byteorder.specs.Endian.{little_bytes, little_number}
 use Rattle.crtp_packets.specs.Reading.{IsAt, is_at, down_of, up_of, SpellsDown, SpellsUp}
 
@@ -10,13 +11,7 @@ AreBytes xs = (i : ℕ) → slice_index xs i < 256
 -- the four bytes of the number that four bytes make are these bytes
 pub four_bytes : (a b c d : ℕ) (rest : List ℕ) → a < 256 → b < 256 → c < 256 → d < 256 →
     little_bytes 4 (little_number 4 (a ∷ b ∷ c ∷ d ∷ rest)) ≡ a ∷ b ∷ c ∷ d ∷ []
-four_bytes a b c d rest ha hb hc hd =
-    let n = little_number 4 (a ∷ b ∷ c ∷ d ∷ rest) in
-    let first : n % 256 ≡ a = omega arith in
-    let second : n / 256 % 256 ≡ b = omega arith in
-    let third : n / 65536 % 256 ≡ c = omega arith in
-    let fourth : n / 16777216 % 256 ≡ d = omega arith in
-    rw (first, second, third, fourth) refl
+four_bytes a b c d rest ha hb hc hd = grind (arith, common_steps)
 
 -- a number of four bytes is below 2 ^ 32
 pub number_fits : (a b c d : ℕ) (rest : List ℕ) → a < 256 → b < 256 → c < 256 → d < 256 →
