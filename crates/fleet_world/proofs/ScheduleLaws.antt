@@ -1,5 +1,6 @@
 -- Numbers of nine digits are small, and a schedule is read line by line.
-use Rattle.std.proofs.Common.{◌≡◌, ℕ, zero, suc, ◌+◌, ◌-◌, ◌*◌, ◌<◌, ◌≤◌, Bool, true, false, cond, List, [], ◌∷◌, ◌++◌, length, refl, ap, sym, ◌∙◌, arith, Option, Some, None, Result, Ok, Err}
+use Rattle.std.proofs.lemmas.Grind.{common_steps}
+use Rattle.std.proofs.Common.{◌≡◌, ℕ, zero, suc, ◌+◌, ◌-◌, ◌*◌, ◌<◌, ◌≤◌, Bool, true, false, cond, List, [], ◌∷◌, ◌++◌, length, refl, ap, sym, ◌∙◌, arith, Some, None, Result, Ok, Err}
 use Rattle.std.proofs.lemmas.Bool.{and_parts, leb-true, le-leb, ne_eqb}
 use Rattle.std.proofs.lemmas.List.{append_assoc}
 use Rattle.std.specs.Prelude.{nat_le, min, option_map}
@@ -58,14 +59,7 @@ natural_of-small (d ∷ ds) m l e =
 
 -- what is read of a word of nine bytes at most is its number
 pub natural-read : (w : List ℕ) (n : ℕ) → length w ≤ 9 → option_map (λ k. min k LARGE) (natural_of w) ≡ Some n → (natural_of w ≡ Some n) × (n < 1000000000)
-natural-read w n l is = by_number (natural_of w) refl is where
-  by_number : (o : Option ℕ) → natural_of w ≡ o → option_map (λ k. min k LARGE) o ≡ Some n → (o ≡ Some n) × (n < 1000000000)
-  by_number None e f = absurd (cc)
-  by_number (Some m) e f =
-      let small = natural_of-small w m l e in
-      let same : min m LARGE ≡ n = some-is (min m LARGE) n f in
-      let is : m ≡ n = omega (arith, small, same) in
-      (ap (λ (k : ℕ). Some k) is, omega (arith, small, is))
+natural-read w n l is = grind (arith, common_steps, natural_of-small, some-is)
 
 pub number_of-read : (w : List ℕ) (n : ℕ) → length w ≤ 9 → natural_of w ≡ Some n → (n ≡ 0 → ⊥) → Some (n - 1) ≡ number_of w
 number_of-read w n l is some =

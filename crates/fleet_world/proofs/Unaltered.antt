@@ -1,6 +1,6 @@
 -- Without read-back a schedule alters no byte.
-use Rattle.std.proofs.Common.{◌≡◌, ◌==◌, ℕ, zero, suc, Bool, true, false, cond, List, [], ◌∷◌, codes, length, refl, subst, Option, Some, None, Result, Ok, Err}
-use Rattle.std.specs.Prelude.{slice_index_or}
+use Rattle.std.proofs.lemmas.Grind.{common_steps}
+use Rattle.std.proofs.Common.{◌≡◌, ℕ, zero, suc, Bool, true, false, cond, List, [], ◌∷◌, codes, refl, subst, Option, Some, None, Result, Ok, Err, arith}
 use Rattle.std.specs.Str.{bytes_eq}
 use Rattle.text_lines.specs.declared.token.Comments.TheVariants.{Absent}
 use Rattle.text_lines.specs.Lines.{lines_of}
@@ -8,7 +8,7 @@ use Rattle.text_lines.specs.Words.{Line, numbered}
 use Rattle.upload_model.specs.declared.events.WorldEvent.{WorldEvent}
 use Rattle.upload_model.specs.declared.events.WorldEvent.TheVariants.{Tick, Take, Hear, Alter}
 use Rattle.upload_model.specs.Theorem.{IsUnaltered}
-use Rattle.fleet_world.specs.Schedules.{ScheduleLaw, drone_of, event_of, event_with, events_by, number_of, put_event}
+use Rattle.fleet_world.specs.Schedules.{ScheduleLaw, event_of, event_with, events_by, put_event}
 
 -- no alteration
 abbrev IsPlain : Option WorldEvent → Type 0
@@ -30,12 +30,7 @@ event_with_plain kind (Some drone) None = tt
 event_with_plain kind None n = tt
 
 event_of_plain : (names words : List (List ℕ)) → IsPlain (event_of false names words)
-event_of_plain names words =
-    plain_cond (length words == 1) (cond (bytes_eq (slice_index_or words 0 []) (codes "tick")) (Some Tick) None) (cond (length words == 3) event None)
-    (plain_cond (bytes_eq (slice_index_or words 0 []) (codes "tick")) (Some Tick) None tt tt)
-    (plain_cond (length words == 3) event None (event_with_plain (slice_index_or words 0 []) (drone_of names (slice_index_or words 1 [])) (number_of (slice_index_or words 2 []))) tt) where
-      event : Option WorldEvent
-      event = event_with (slice_index_or words 0 []) (drone_of names (slice_index_or words 1 [])) (number_of (slice_index_or words 2 []))
+event_of_plain names words = grind (arith, common_steps, plain_cond, cond, codes, event_with_plain)
 
 -- an event that is no alteration, before others that are none
 unaltered_cons : (e : WorldEvent) (es : List WorldEvent) → IsPlain (Some e) → IsUnaltered es → IsUnaltered (e ∷ es)
@@ -54,9 +49,7 @@ put_unaltered number (Some e) (Ok es) events plain rest is =
 
 lines_unaltered : (read : List (List ℕ) → Option WorldEvent) → ((words : List (List ℕ)) → IsPlain (read words)) → (lines : List Line) (events : List WorldEvent) →
     events_by read lines ≡ Ok events → IsUnaltered events
-lines_unaltered read plain [] events is = λ i d address value at.
-    let none : events ≡ [] = cc in
-    absurd (cc (none, at))
+lines_unaltered read plain [] events is = grind (arith, common_steps)
 lines_unaltered read plain (line ∷ lines) events is =
     put_unaltered line.number (read line.words) (events_by read lines) events (plain line.words) (λ es is_es. lines_unaltered read plain lines es is_es) is
 
