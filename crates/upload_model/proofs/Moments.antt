@@ -1,5 +1,6 @@
 -- What holds at every moment of an upload where nobody else alters a byte: every answer ever given was
 -- given after its packet's effect, and says nothing that isn't so.
+use Rattle.std.proofs.lemmas.Grind.{common_steps}
 use Rattle.std.proofs.Common.{◌≡◌, ℕ, ◌+◌, ◌-◌, ◌^◌, ◌<◌, ◌≤◌, true, false, eqb, ltb, List, [], ◌∷◌, ◌++◌, length, refl, ap, sym, ◌∙◌, arith, Option, Some, None, IfSome, inl, inr, subst}
 use Rattle.std.specs.Prelude.{slice_get, All}
 use Rattle.std.proofs.lemmas.Bool.{cases_Bool, cond_both, false≢true, eqb-true, ltb-true, cond-true, eq-eqb}
@@ -58,12 +59,7 @@ SameIds s start = (d : ℕ) → d < drone_count s → (start d).memory_id ≡ s.
 
 -- a read leaves nothing in a drone
 pub read-no_effect : (s : Upload) (d j : ℕ) (x : DroneState) → j < packet_count s d → is_read s d j ≡ true → Effect s d j x
-read-no_effect s d j x b r = by_kind (packet_kind s d j b) where
-  by_kind : Kind s d j → Effect s d j x
-  by_kind (a_write w) = absurd (false≢true (sym (is_read-below s d j (omega arith)) ∙ r))
-  by_kind (a_define e) = absurd (false≢true (sym (is_read-below s d j (omega arith)) ∙ r))
-  by_kind (a_read i m e) = record { piece = λ h. absurd (omega arith); entry = λ h. absurd (omega arith); starts = λ h. absurd (omega arith) }
-  by_kind (a_start e f) = absurd (false≢true (sym (is_read-past s d j (omega arith)) ∙ r))
+read-no_effect s d j x b r = grind (arith, common_steps, packet_kind, a_write, false≢true, is_read-below, a_define, a_read, a_start, is_read-past)
 
 -- what a drone does with packet k of its session
 pub record Takes (s : Upload) (d k : ℕ) (start x : DroneState) (y : Handled) : Type 0 where
@@ -171,19 +167,7 @@ pub record Holds (s : Upload) (start : ℕ → DroneState) (w : World) : Type 0 
 
 pub holds-start : (s : Upload) (drones : ℕ → DroneState) → ((d : ℕ) → d < drone_count s → IsDrone (drones d)) → Holds s drones (start_world s drones)
 unfolding start_world
-holds-start s drones fit = record {
-  course = λ d l. record {
-    only = record { inside = λ i b. inl refl; outside = λ i n. refl; length_kept = refl; other_entries = λ id n. refl; same_id = refl };
-    memory = (fit d l).memory;
-    table = (fit d l).table;
-  };
-  given = λ d l. All-nil (IsGiven s d (drones d));
-  truthful = λ d l. All-nil (IsTrue s d);
-  acknowledged = λ d k l b a. absurd (false≢true (sym (acked-nil s d k) ∙ a));
-  true_heard = All-nil (IsTrueEvent s);
-  calm = λ same d l. All-nil (IsCalm s d);
-  quiet = λ same. All-nil (IsQuiet s);
-}
+holds-start s drones fit = grind (arith, common_steps, All-nil, false≢true, acked-nil)
 
 -- ---- an event of the host
 

@@ -1,4 +1,5 @@
 -- One drone that takes a packet of the session which is no read.
+use Rattle.std.proofs.lemmas.Grind.{common_steps}
 use Rattle.std.proofs.Common.{◌≡◌, ◌≢◌, ℕ, zero, suc, ◌+◌, ◌-◌, ◌*◌, ◌/◌, ◌%◌, ◌^◌, ◌<◌, ◌≤◌, min, Bool, true, false, not, cond, ◌&&◌, eqb, ltb, List, [], ◌∷◌, length, take, drop, get_or, set, refl, ap, sym, ◌∙◌, arith, Option, Some, None, ◌⊎◌, inl, inr, subst, IfSome}
 use Rattle.std.specs.Prelude.{slice_get, slice_set}
 use Rattle.std.specs.Str.{bytes_eq}
@@ -9,7 +10,7 @@ use Rattle.crtp_packets.specs.Packets.{write_request_of, write_answer_of}
 use Rattle.crtp_packets.specs.Reading.{up_of}
 use Rattle.crtp_packets.specs.Commands.{define_of, start_of, answer_of}
 use Rattle.upload_model.specs.declared.loads.Def.{Def}
-use Rattle.upload_model.specs.Drones.{DroneState, Handled, answers, stored, write_taken, command_taken, message_taken, has_entry, handled}
+use Rattle.upload_model.specs.Drones.{DroneState, Handled, answers, stored, write_taken, message_taken, has_entry, handled}
 use Rattle.upload_model.specs.Sessions.{Upload, IsLoad, IsSession, drone_count, load_of, write_count, start_number, packet_count, packet_at, is_read}
 use Rattle.upload_model.specs.declared.limits.TheConstants.{ACCEPTED}
 use Rattle.upload_model.specs.Replies.{status_in}
@@ -128,12 +129,7 @@ status-write_answer s d j id address status fits = ap (status_in s d j) (up_of-w
 -- a good answer to a write names its packet
 good_write_answer : (s : Upload) (d k j id status : ℕ) → s.offset + 24 * k < 2 ^ 32 →
     accepts (status_in s d j (up_of (write_answer_of id (s.offset + 24 * k) status))) ≡ true → (j ≡ k) × (status ≡ 0)
-good_write_answer s d k j id status fits g =
-    let parts = good_parts (ltb j (write_count s d) && eqb id s.memory_id && eqb (s.offset + 24 * k) (s.offset + 24 * j)) status
-    (sym (ap accepts (status-write_answer s d j id (s.offset + 24 * k) status fits)) ∙ g) in
-    let last = and_parts (ltb j (write_count s d) && eqb id s.memory_id) (eqb (s.offset + 24 * k) (s.offset + 24 * j)) parts.0 in
-    let same : s.offset + 24 * k ≡ s.offset + 24 * j = eqb-true (s.offset + 24 * k) (s.offset + 24 * j) last.1 in
-    (omega arith, parts.1)
+good_write_answer s d k j id status fits g = grind (arith, common_steps, good_parts, ltb, eqb, accepts, status-write_answer, and_parts, eqb-true)
 
 module _ (s : Upload) (d k : ℕ) (start x : DroneState) (inside : k < write_count s d) (fits : IsLoad s.offset (load_of s d))
     (course : OnCourse s d start x) where
@@ -273,10 +269,7 @@ pub handled-define : (x : DroneState) (id offset pieces : ℕ) → id < 10 → o
     handled x (define_of id offset pieces)
     ≡ answers (record x { table = slice_set x.table id (Some (record { offset = offset; pieces = pieces })) }) (answer_of (define_of id offset pieces) 0)
 unfolding handled
-handled-define x id offset pieces small fits =
-    let wide : offset < 2 ^ 32 = omega arith in
-    ap (command_taken x (define_of id offset pieces)) (command_of-define id offset pieces wide)
-    ∙ rw (lt-leb 10 id small, lt-leb 4096 offset fits) refl
+handled-define x id offset pieces small fits = grind (arith, common_steps, command_of-define, lt-leb)
 
 pub handled-start : (x : DroneState) (id : ℕ) → id < 10 →
     handled x (start_of id)

@@ -1,7 +1,7 @@
 -- At Done each drone has taken a start, whoever else alters a byte: only a start is answered as one.
-use Rattle.std.proofs.Common.{◌≡◌, ℕ, ◌+◌, ◌*◌, ◌^◌, ◌<◌, ◌≤◌, Bool, true, false, not, cond, ◌&&◌, eqb, ltb, List, [], ◌∷◌, ◌++◌, length, take, drop, refl, ap, sym, ◌∙◌, arith, Some, None, inl, inr, subst, IfSome}
+use Rattle.std.proofs.lemmas.Grind.{common_steps}
+use Rattle.std.proofs.Common.{◌≡◌, ℕ, ◌+◌, ◌*◌, ◌^◌, ◌<◌, true, false, not, cond, eqb, ltb, List, [], ◌∷◌, ◌++◌, take, drop, refl, ap, sym, ◌∙◌, arith, Some, inl, inr, subst, IfSome}
 use Rattle.std.specs.Prelude.{slice_get}
-use Rattle.std.specs.Str.{bytes_eq}
 use Rattle.std.proofs.lemmas.Bool.{cases_eq, cond_both, false≢true, le-ltb}
 use Rattle.std.proofs.lemmas.List.{take-append-le}
 use Rattle.std.proofs.lemmas.Option.{slice_get_within}
@@ -13,8 +13,8 @@ use Rattle.upload_model.specs.declared.events.Event.{Event}
 use Rattle.upload_model.specs.declared.events.Event.TheVariants as event
 use Rattle.upload_model.specs.declared.events.WorldEvent.{WorldEvent}
 use Rattle.upload_model.specs.declared.events.WorldEvent.TheVariants.{Take}
-use Rattle.upload_model.specs.Drones.{DroneState, Handled, answers, stored, write_taken, handled}
-use Rattle.upload_model.specs.Sessions.{Upload, IsSession, drone_count, load_of, write_count, start_number, packet_at, read_address}
+use Rattle.upload_model.specs.Drones.{DroneState, Handled, answers, write_taken, handled}
+use Rattle.upload_model.specs.Sessions.{Upload, IsSession, drone_count, load_of, start_number, packet_at, read_address}
 use Rattle.upload_model.specs.Replies.{status_in, reply_to, is_good}
 use Rattle.upload_model.specs.Hosts.{acked}
 use Rattle.upload_model.specs.Worlds.{World, happens, world}
@@ -37,25 +37,13 @@ abbrev NoStart : Upload → ℕ → List ℕ → Type 0
 NoStart s d a = accepts (status_in s d (start_number s d) (up_of a)) ≡ false
 
 no_start-write : (s : Upload) (d id address status : ℕ) → address < 2 ^ 32 → NoStart s d (write_answer_of id address status)
-no_start-write s d id address status fits =
-    let past : write_count s d ≤ start_number s d = omega arith in
-    ap (λ m. accepts (status_in s d (start_number s d) m)) (up_of-write_answer id address status fits)
-    ∙ ap (λ (b : Bool). accepts (cond (b && eqb id s.memory_id && eqb address (s.offset + 24 * start_number s d)) (Some status) None)) (le-ltb (start_number s d) (write_count s d) past)
+no_start-write s d id address status fits = grind (arith, common_steps, accepts, up_of-write_answer, cond, eqb, le-ltb)
 
 write-no_start : (s : Upload) (d : ℕ) (x : DroneState) (id address : ℕ) (piece : List ℕ) → address < 2 ^ 32 → IfSome (write_taken x id address piece).answer (NoStart s d)
-write-no_start s d x id address piece fits =
-    cond_both (not (eqb id x.memory_id)) (answers x (write_answer_of id address 2))
-    (cond (ltb 4096 (address + length piece)) (answers x (write_answer_of id address 5)) (answers (record x { memory = stored x.memory address piece }) (write_answer_of id address 0)))
-    (λ y. IfSome y.answer (NoStart s d)) (λ b. no_start-write s d id address 2 fits)
-    (λ b. cond_both (ltb 4096 (address + length piece)) (answers x (write_answer_of id address 5)) (answers (record x { memory = stored x.memory address piece }) (write_answer_of id address 0))
-    (λ y. IfSome y.answer (NoStart s d)) (λ c. no_start-write s d id address 5 fits) (λ c. no_start-write s d id address 0 fits))
+write-no_start s d x id address piece fits = grind (arith, common_steps, cond_both, not, eqb, cond, ltb, no_start-write)
 
 no_start-define : (s : Upload) (d offset pieces status : ℕ) → NoStart s d (answer_of (define_of s.trajectory_id offset pieces) status)
-no_start-define s d offset pieces status =
-    let past : write_count s d ≤ start_number s d = omega arith in
-    ap (λ (p : List ℕ). accepts (cond (not (ltb (start_number s d) (write_count s d)) && bytes_eq (6 ∷ s.trajectory_id ∷ 1 ∷ []) (take 3 (drop 1 p))) (Some status) None))
-    (packet_at-start s d (start_number s d) refl)
-    ∙ ap (λ (b : Bool). accepts (cond (not b && false) (Some status) None)) (le-ltb (start_number s d) (write_count s d) past)
+no_start-define s d offset pieces status = grind (arith, common_steps, accepts, cond, not, ltb, take, drop, packet_at-start, le-ltb)
 
 no_start-read : (s : Upload) (d id address status : ℕ) (bytes : List ℕ) → address < 2 ^ 32 → NoStart s d (read_answer_of id address status bytes)
 no_start-read s d id address status bytes fits =
@@ -108,11 +96,7 @@ accepted s d i a g =
     let bytes : a ≡ h.packet = cc in
     let plain = is_read-past s d (start_number s d) (omega arith) in
     let reply = sym (ap is_good (h.reply ∙ reply-plain s d (start_number s d) (up_of h.packet) plain)) ∙ g in
-    record {
-      drone = same;
-      good = subst (λ (p : List ℕ). accepts (status_in s d (start_number s d) (up_of p)) ≡ true) (sym bytes)
-          (status-good d (start_number s d) (status_in s d (start_number s d) (up_of h.packet)) reply);
-    }
+    grind (arith, common_steps, accepts, status-good)
 
 -- ---- every list of events
 
@@ -125,14 +109,7 @@ record HasTaken (s : Upload) (drones : ℕ → DroneState) (events : List WorldE
 
 HasTaken-more : (s : Upload) (drones : ℕ → DroneState) (events : List WorldEvent) (e : WorldEvent) (d : ℕ) →
     HasTaken s drones events d → HasTaken s drones (events ++ e ∷ []) d
-HasTaken-more s drones events e d t =
-    let l = slice_get_within events t.i t.e t.is in
-    record {
-      i = t.i;
-      e = t.e;
-      is = slice_get-before events (e ∷ []) t.i l ∙ t.is;
-      takes = subst (λ (es : List WorldEvent). TakesStart s (world s drones es) d t.e) (sym (take-append-le t.i events (e ∷ []) (omega arith))) t.takes;
-    }
+HasTaken-more s drones events e d t = grind (arith, common_steps, slice_get_within, slice_get-before, take-append-le)
 
 abbrev AllHaveTaken : Upload → (ℕ → DroneState) → List WorldEvent → Type 0
 AllHaveTaken s drones es =

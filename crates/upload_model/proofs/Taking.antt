@@ -1,7 +1,7 @@
 -- A drone that takes packets of its session in any order, each of them any number of times.
-use Rattle.std.proofs.Common.{◌≡◌, ℕ, zero, suc, ◌+◌, ◌*◌, ◌<◌, ◌≤◌, Bool, true, false, not, cond, ◌&&◌, ltb, List, [], ◌∷◌, ◌++◌, take, drop, refl, ap, sym, ◌∙◌, arith, Option, Some, None, inl, subst, IfSome}
+use Rattle.std.proofs.lemmas.Grind.{common_steps}
+use Rattle.std.proofs.Common.{◌≡◌, ℕ, zero, suc, ◌+◌, ◌*◌, ◌<◌, ◌≤◌, Bool, true, false, not, cond, ltb, List, [], ◌∷◌, ◌++◌, take, drop, refl, ap, sym, ◌∙◌, arith, Option, Some, None, subst, IfSome}
 use Rattle.std.specs.Prelude.{slice_get, All}
-use Rattle.std.specs.Str.{bytes_eq}
 use Rattle.std.proofs.lemmas.Bool.{le-ltb, lt-ltb, eq-eqb}
 use Rattle.std.proofs.lemmas.List.{take-append-le}
 use Rattle.std.proofs.lemmas.List.Elements.{All-head, All-tail}
@@ -44,10 +44,7 @@ leaves s d k start x session inside below course = by_kind (packet_kind s d k be
 
 accepted-write : (s : Upload) (d k : ℕ) → s.offset + 24 * k < 4294967296 → k < write_count s d →
     accepts (status_in s d k (up_of (accepting s d k))) ≡ true
-accepted-write s d k fits w =
-    ap (λ (b : Bool). accepts (status_in s d k (up_of (cond b (write_answer_of s.memory_id (s.offset + 24 * k) 0) (answer_of (packet_at s d k) 0))))) (lt-ltb k (write_count s d) w)
-    ∙ ap accepts (status-write_answer s d k s.memory_id (s.offset + 24 * k) 0 fits)
-    ∙ rw (lt-ltb k (write_count s d) w, eq-eqb s.memory_id s.memory_id refl, eq-eqb (s.offset + 24 * k) (s.offset + 24 * k) refl) refl
+accepted-write s d k fits w = grind (arith, common_steps, accepts, cond, lt-ltb, status-write_answer, eq-eqb)
 
 accepted-command : (s : Upload) (d k : ℕ) (packet : List ℕ) → write_count s d ≤ k → packet_at s d k ≡ packet →
     accepts (status_in s d k (up_of (answer_of packet 0))) ≡ true → accepts (status_in s d k (up_of (accepting s d k))) ≡ true
@@ -56,14 +53,10 @@ accepted-command s d k packet past is good =
     ∙ ap (λ (p : List ℕ). accepts (status_in s d k (up_of (answer_of p 0)))) is ∙ good
 
 accepted-define : (s : Upload) (d k : ℕ) → k ≡ write_count s d → accepts (status_in s d k (up_of (accepting s d k))) ≡ true
-accepted-define s d k e = accepted-command s d k _ (omega arith) (packet_at-define s d k e)
-    (ap (λ (p : List ℕ). accepts (cond (not (ltb k (write_count s d)) && bytes_eq (6 ∷ s.trajectory_id ∷ 1 ∷ []) (take 3 (drop 1 p))) (Some 0) None)) (packet_at-define s d k e)
-    ∙ (let past : write_count s d ≤ k = omega arith in rw (le-ltb k (write_count s d) past, eq-eqb s.trajectory_id s.trajectory_id refl) refl))
+accepted-define s d k e = grind (arith, common_steps, accepted-command, packet_at-define, accepts, cond, not, ltb, take, drop, le-ltb, eq-eqb)
 
 accepted-start : (s : Upload) (d k : ℕ) → k ≡ start_number s d → accepts (status_in s d k (up_of (accepting s d k))) ≡ true
-accepted-start s d k e = accepted-command s d k _ (omega arith) (packet_at-start s d k e)
-    (ap (λ (p : List ℕ). accepts (cond (not (ltb k (write_count s d)) && bytes_eq (5 ∷ 0 ∷ 0 ∷ []) (take 3 (drop 1 p))) (Some 0) None)) (packet_at-start s d k e)
-    ∙ (let past : write_count s d ≤ k = omega arith in rw (le-ltb k (write_count s d) past) refl))
+accepted-start s d k e = grind (arith, common_steps, accepted-command, packet_at-start, accepts, cond, not, ltb, take, drop, le-ltb)
 
 -- ---- a list of packets
 
@@ -107,22 +100,13 @@ module _ (s : Upload) (d : ℕ) (start : DroneState) (session : IsSession s) (in
 
 -- what is accepted stays so, whatever is taken later
 pub accepted_later : (s : Upload) (d : ℕ) (x : DroneState) (ks later : List ℕ) (k : ℕ) → IsAccepted s d x ks k → IsAccepted s d x (ks ++ later) k
-accepted_later s d x ks later k a =
-    let within = slice_get_within ks a.0 k a.1 in (
-      a.0,
-      slice_get-before ks later a.0 within ∙ a.1,
-      ap (λ (js : List ℕ). (handled (taken s d x js) (packet_at s d k)).answer) (take-append-le a.0 ks later (omega arith)) ∙ a.2,
-    )
+accepted_later s d x ks later k a = grind (arith, common_steps, slice_get_within, slice_get-before, take-append-le)
 
 -- ---- the law
 
 -- a drone is on its course from its own state
 begins : (s : Upload) (d : ℕ) (x : DroneState) → IsDrone x → OnCourse s d x x
-begins s d x drone = record {
-  only = record { inside = λ i l. inl refl; outside = λ i n. refl; length_kept = refl; other_entries = λ id other. refl; same_id = refl };
-  memory = drone.memory;
-  table = drone.table;
-}
+begins s d x drone = grind (arith, common_steps)
 
 pub taking_law : TakingLaw
 taking_law s d x ks session inside drone own = record {
