@@ -1,12 +1,16 @@
 -- What is acknowledged has landed, and so has what is accepted.
-use Rattle.std.proofs.Common.{◌≡◌, ℕ, ◌-◌, ◌<◌, ◌≤◌, Bool, false, true, List, [], ◌++◌, length, length-append, get_or, Some, sym, subst, ◌∙◌, arith}
+use Rattle.std.proofs.lemmas.Grind.{common_steps}
+use Rattle.std.proofs.Common.{◌≡◌, ℕ, ◌-◌, ◌<◌, ◌≤◌, Bool, false, true, List, [], ◌∷◌, ◌++◌, All, length, length-append, get_or, Some, sym, subst, ◌∙◌, arith, map}
 use Rattle.std.proofs.lemmas.List.{get_or-map, length-map}
-use Rattle.std.proofs.lemmas.List.Elements.{All-get_or}
+use Rattle.std.proofs.lemmas.List.Elements.{All-cons, All-get_or, All-nil}
 use Rattle.choreo_show.specs.declared.show.Settings.{Settings}
 use Rattle.traj_codec.specs.declared.traj.Traj.{Traj}
 use Rattle.traj_codec.specs.Spelling.{IsTrajectory, ending, spelling}
 use Rattle.firmware_memory.specs.Decoded.{CurveLaw, DecodesTo, load_for}
 use Rattle.upload_model.specs.Sessions.{IsLoad, IsSession, Upload, drone_count, is_read, load_of, packet_count, start_number, write_count}
+use Rattle.upload_model.specs.declared.loads.Load.{Load}
+use Rattle.upload_core.specs.declared.session.Settings.{Settings as Place}
+use Rattle.upload_core.specs.Uploads.{upload_of}
 use Rattle.upload_model.specs.Drones.{DroneState}
 use Rattle.upload_model.specs.Memories.{IsDrone, OnlyLoads, HasEntry, HasLoad}
 use Rattle.upload_model.specs.Taking.{IsAccepted, IsTaken, TakingLaw, taken}
@@ -45,6 +49,26 @@ is_session e trajs readback start u = record {
       let fine : IsLoad e.offset (load_for t) = record { some_bytes = some_bytes t; has_room = omega (arith, room, some_bytes t); some_pieces = segments; few_pieces = sendable.few } in
       subst (IsLoad e.offset) (sym (load_is e trajs readback start d within)) fine;
 }
+
+-- a session to the place that the settings say, of the loads of trajectories, is that of the trajectories
+pub session_is : (place : Place) (e : Settings) (loads : List Load) (ts : List Traj) (readback start : Bool) → place.memory_id ≡ e.memory_id → place.offset ≡ e.offset → place.trajectory_id ≡ e.trajectory_id →
+    loads ≡ map load_for ts → upload_of place loads readback start ≡ session_for e ts readback start
+session_is place e loads ts readback start memory offset id loads_are = grind (arith, common_steps)
+
+-- each of the trajectories can be uploaded alone
+pub alone_uploadable : (e : Settings) (trajs : List Traj) (d : ℕ) (t : Traj) → AreUploadable e trajs → t ≡ get_or trajs d t → d < length trajs → AreUploadable e (t ∷ [])
+alone_uploadable e trajs d t u is within = record {
+  settings = u.settings;
+  some = omega arith;
+  few = omega arith;
+  formed = one IsTrajectory u.formed;
+  sendable = one IsSendable u.sendable;
+  segments = one (λ (x : Traj). 1 ≤ length x.segments) u.segments;
+  room = one (λ (x : Traj). size x ≤ 4096 - e.offset) u.room;
+}
+  where
+    one : (P : Traj → Type 0) → All P trajs → All P (t ∷ [])
+    one P all = All-cons P t [] (subst P (sym is) (All-get_or P trajs d t within all)) (All-nil P)
 
 -- memories that have the loads and the entries of trajectories are as they have to be
 landed : CurveLaw → (g : Grid) (e : Settings) (trajs : List Traj) → AreUploadable e trajs → KeepsNearShow g trajs → FlyApart e trajs → (readback start : Bool) (old new : ℕ → DroneState) →

@@ -1,5 +1,4 @@
 -- The packet lines of a drone, one after another.
-use Rattle.std.proofs.lemmas.Grind.{common_steps}
 use Rattle.std.proofs.Common.{◌≡◌, ℕ, suc, ◌+◌, ◌-◌, ◌<◌, arith, false, true, List, [], ◌∷◌, ◌++◌, map, length, take, drop, get_or, codes, sym, ap, ◌∙◌}
 use Rattle.std.specs.Prelude.{◌==◌, nat_lt, if◌then◌else◌}
 use Rattle.std.specs.List.{flat_map, range_with_len}
@@ -14,11 +13,9 @@ use Rattle.upload_model.specs.declared.loads.Load.{Load}
 use Rattle.upload_model.specs.Sessions.{Upload, load_of, packet_at, packet_count, read_count, read_start, write_count}
 use Rattle.upload_model.proofs.HostSteps.{range-more}
 use Rattle.traj_codec.specs.declared.traj.Traj.{Traj}
-use Rattle.traj_codec.specs.Spelling.{IsEncoding}
+use Rattle.firmware_memory.specs.Decoded.{load_for}
 use Rattle.choreo_show.specs.declared.show.Settings.{Settings}
 use Rattle.show_plan.specs.Landing.{session_for}
-use Rattle.show_plan.specs.Steps.{alone}
-use Rattle.show_plan.proofs.PlanLines.{sent_is}
 use Rattle.show_plan.specs.Texts.{packet_line, packet_lines, packet_word}
 
 -- the lines of the first packets
@@ -55,13 +52,12 @@ lines_of e l =
     else start_of e.trajectory_id)))))
     (range_with_len 0 (chunk_count_of (length l.bytes) + 1 + 0 + 1))
 
--- The packets of a drone in the session of a show are those of its load alone.
-pub packets_alone : (e : Settings) (ts : List Traj) (d : ℕ) (bytes : List ℕ) (pieces : ℕ) → load_of (session_for e ts false true) d ≡ record { bytes = bytes; pieces = pieces } →
-    packet_lines (alone e bytes pieces) 0 ≡ packet_lines (session_for e ts false true) d
+-- The packets of a drone in the session of a show are those of a session of its trajectory alone.
+pub packets_alone : (e : Settings) (ts : List Traj) (d : ℕ) (t : Traj) → load_of (session_for e ts false true) d ≡ load_for t →
+    packet_lines (session_for e (t ∷ []) false true) 0 ≡ packet_lines (session_for e ts false true) d
 unfolding packet_at packet_count read_count write_count
-packets_alone e ts d bytes pieces is = ap (lines_of e) (sym is)
+packets_alone e ts d t is = ap (lines_of e) (sym is)
 
--- those of a drone whose bytes are the encoding of its trajectory
-pub packets_at : (e : Settings) (ts : List Traj) (d : ℕ) (bytes : List ℕ) (t : Traj) → d < length ts → t ≡ get_or ts d t → IsEncoding bytes t →
-    packet_lines (alone e bytes (length t.segments)) 0 ≡ packet_lines (session_for e ts false true) d
-packets_at e ts d bytes t within t_is is = grind (arith, common_steps, packets_alone, get_or-map, sent_is)
+pub packets_at : (e : Settings) (ts : List Traj) (d : ℕ) (t : Traj) → d < length ts → t ≡ get_or ts d t → packet_lines (session_for e (t ∷ []) false true) 0 ≡ packet_lines (session_for e ts false true) d
+packets_at e ts d t within t_is =
+    packets_alone e ts d t (get_or-map load_for ts d t (record { bytes = []; pieces = 0 }) within ∙ ap load_for (sym t_is))

@@ -5,18 +5,19 @@ use Rattle.std.proofs.lemmas.List.{drop_all, drop_more}
 use Rattle.fleet_io.specs.Words.{hex_word, line}
 use Rattle.choreo_lines.specs.Name.{Name}
 use Rattle.traj_codec.specs.declared.traj.Traj.{Traj}
-use Rattle.traj_codec.specs.Spelling.{ending, spelling, IsEncoding}
+use Rattle.traj_codec.specs.Spelling.{ending, spelling}
 use Rattle.upload_model.specs.Sessions.{Upload}
 use Rattle.show_plan.specs.Texts.{drone_line, drone_part, drone_parts, packet_lines}
 
--- an encoding is what a trajectory is sent as
-pub sent_is : (bytes : List ℕ) (t : Traj) → IsEncoding bytes t → bytes ≡ spelling t ++ ending
-sent_is bytes t is = is.ended ∙ ap (λ (spelled : List ℕ). spelled ++ ending) is.spells.text
-
 -- the line of a drone, that of its bytes and those of its packets are its lines
-pub part_is : (text first sent : List ℕ) (s : Upload) (d : ℕ) (name bytes : List ℕ) (t : Traj) → IsEncoding bytes t → first ≡ text ++ drone_line name bytes (length t.segments) →
-    sent ≡ first ++ line (codes "data") (map hex_word bytes) → sent ++ packet_lines s d ≡ text ++ drone_part s d name t
-part_is text first sent s d name bytes t is first_is sent_made = grind (arith, common_steps, codes, append_assoc, sent_is)
+pub part_is : (text first sent : List ℕ) (s : Upload) (d : ℕ) (name : List ℕ) (t : Traj) → first ≡ text ++ drone_line name (spelling t ++ ending) (length t.segments) →
+    sent ≡ first ++ line (codes "data") (map hex_word (spelling t ++ ending)) → sent ++ packet_lines s d ≡ text ++ drone_part s d name t
+part_is text first sent s d name t first_is sent_made =
+    let head = drone_line name (spelling t ++ ending) (length t.segments) in
+    let bytes = line (codes "data") (map hex_word (spelling t ++ ending)) in
+    ap (λ (xs : List ℕ). xs ++ packet_lines s d) (sent_made ∙ ap (λ (xs : List ℕ). xs ++ bytes) first_is)
+    ∙ ap (λ (xs : List ℕ). xs ++ packet_lines s d) (append_assoc text head bytes)
+    ∙ append_assoc text (head ++ bytes) (packet_lines s d)
 
 -- one drone's lines more: what is to come is less by them
 pub parts_next : (text more : List ℕ) (s : Upload) (names : List Name) (ts : List Traj) (k : ℕ) (name : Name) (t : Traj) →

@@ -1,17 +1,15 @@
 -- Words of private steps. No public clause cites them.
-use Rattle.std.specs.Prelude.{ℕ, List, [], ◌∷◌, false, true, map, Option, Result}
+use Rattle.std.specs.Prelude.{ℕ, List, map, Option, Result}
 use Rattle.std.specs.Option.{option_map}
 use Rattle.sep_parts.specs.declared.clearance.Clearance.{Clearance}
 use Rattle.sep_parts.specs.declared.slot.Slot.{Slot}
 use Rattle.fleet_curves.specs.Raised.{Raised}
 use Rattle.sep_parts.specs.Slots.{slots}
 use Rattle.sep_parts.specs.declared.node.Node.{Node}
-use Rattle.upload_model.specs.Sessions.{Upload}
 use Rattle.pair_search.specs.Search.{blocked_place}
 use Rattle.pair_search.specs.Fleets.{nodes_in}
 use Rattle.pair_search.specs.declared.fleet.SearchFault.{SearchFault}
 use Rattle.pair_search.specs.declared.fleet.SearchFault.TheVariants as search
-use Rattle.choreo_show.specs.declared.show.Settings.{Settings}
 use Rattle.show_plan.specs.declared.separation.BlockedPart.{BlockedPart}
 use Rattle.show_plan.specs.declared.separation.SeparationFault.{SeparationFault}
 use Rattle.show_plan.specs.declared.separation.SeparationFault.TheVariants as fault
@@ -35,16 +33,3 @@ FindsNodes c depth curves result =
 abbrev pub separation_fault : SearchFault → SeparationFault
 separation_fault (search.Blocked slot index) = fault.Blocked (blocked_at slot index)
 separation_fault search.Memory = fault.Memory
-
--- ---- packets
-
--- the session of one drone, with its start and without read-back: where the show's settings say, these bytes of this many segments
-abbrev pub alone : Settings → List ℕ → ℕ → Upload
-alone e bytes pieces = record {
-  memory_id = e.memory_id;
-  offset = e.offset;
-  trajectory_id = e.trajectory_id;
-  loads = record { bytes = bytes; pieces = pieces } ∷ [];
-  readback = false;
-  start = true;
-}

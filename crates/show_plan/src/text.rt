@@ -8,17 +8,18 @@ ghost use Rattle.traj_codec.specs.declared.traj.Traj.{Traj};
 ghost use Rattle.traj_codec.specs.Spelling.{IsEncoding};
 ghost use Rattle.upload_model.specs.Sessions.{Upload};
 ghost use Rattle.show_plan.specs.Fitting.{StandsAsWord, IsSendable, IsValidFitted, size};
-ghost use Rattle.show_plan.specs.Landing.{session_for};
-ghost use Rattle.show_plan.specs.Steps.{alone};
+ghost use Rattle.show_plan.specs.Landing.{AreUploadable, session_for};
 ghost use Rattle.show_plan.specs.Texts.{drone_line, drone_part, drone_parts, packet_lines, plan_text};
 
 use crate::fitted::Fitted;
 use crate::packets::{put_bytes, put_packets};
+use crate::upload::{load_of, place_in};
 use choreo_show::{Name, Settings};
 use crtp_packets::MEMORY_BYTES;
 use fleet_io::Lines;
 use std::alloc::{AllocError, Global};
-use traj_codec::{Segment, Traj, encode, size_of};
+use traj_codec::{Segment, Traj, join_law, size_of};
+use upload_core::Session;
 
 fn put_head(text: &mut Lines) -> Result<(), AllocError>
     requires { is_line_empty text.old ≡ true }
@@ -70,27 +71,30 @@ fn put_end(text: &mut Lines) -> Result<(), AllocError>
     text.end()
 }
 
-// The lines of drone d of a session: its trajectory's bytes, and the packets that bring them.
+// The lines of a drone: its trajectory's bytes, and the packets that bring them, which are those of a session of this drone alone.
 fn put_part(
+    alloc: Global,
     text: &mut Lines,
     settings: Settings,
     name: &[u8],
-    bytes: &[u8],
     t: &Traj,
 ) -> Result<(), AllocError>
     requires fresh { is_line_empty text.old ≡ true }
     requires name { IsWord name.now }
-    requires encoded { IsEncoding bytes.now t.now }
-    requires short { length bytes.now ≤ MEMORY_BYTES }
-    requires few { length t.now.segments ≤ most_segments }
-    ensures part { (s : Upload) (d : ℕ) → packet_lines (alone settings bytes.now (length t.now.segments)) 0 ≡ packet_lines s d
+    requires uploadable { AreUploadable settings (t.now ∷ []) }
+    ensures part { (s : Upload) (d : ℕ) → packet_lines (session_for settings (t.now ∷ []) false true) 0 ≡ packet_lines s d
         → OnOk result (text.new ≡ text.old ++ drone_part s d name.now t.now) }
     ensures fresh { OnOk result (is_line_empty text.new ≡ true) }
 {
+    let load = load_of(alloc, t)?;
+    let bytes = load.bytes.as_slice();
     let segments = t.segments.as_slice();
     put_drone(text, name, bytes, segments)?;
     put_bytes(text, b"data", bytes)?;
-    put_packets(text, settings, bytes, segments.len() as u8)
+    let mut loads = Vec::new(alloc);
+    loads.push(load)?;
+    let session = Session::of_loads(place_in(settings), loads, false, true);
+    put_packets(text, &session, 0)
 }
 
 // The lines of each drone.
@@ -104,15 +108,12 @@ fn put_parts(
     requires fresh { is_line_empty text.old ≡ true }
     requires words { All StandsAsWord names.now }
     requires count { length trajs.now ≡ length names.now }
-    requires sendable { All IsSendable trajs.now }
-    requires short { All (λ (t : Traj). size t ≤ MEMORY_BYTES) trajs.now }
+    requires uploadable { AreUploadable settings trajs.now }
     ensures parts { OnOk result (text.new ≡ text.old ++ drone_parts (session_for settings trajs.now false true) 0 names.now trajs.now) }
     ensures fresh { OnOk result (is_line_empty text.new ≡ true) }
 {
     for d in 0..names.len() {
-        let t = &trajs[d];
-        let bytes = encode(alloc, t)?;
-        put_part(text, settings, names[d].as_slice(), bytes.as_slice(), t)?;
+        put_part(alloc, text, settings, names[d].as_slice(), &trajs[d])?;
     }
     Ok(())
 }
@@ -146,6 +147,7 @@ pub fn plan_text(alloc: Global, f: &Fitted) -> Result<Lines, AllocError>
     requires { IsValidFitted f.now }
     ensures { IfOk result (λ text. text ≡ plan_text f.now.settings f.now.names f.now.sent) }
 {
+    join_law();
     let mut text = Lines::with_room(alloc, room_for(f))?;
     put_head(&mut text)?;
     put_parts(

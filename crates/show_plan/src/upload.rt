@@ -15,7 +15,7 @@ use upload_core::{Listed, Load, Session, Settings};
 use upload_model::{readback_law, taking_law, upload_law};
 
 // The load of a trajectory: its bytes, and how many segments they are.
-fn load_of(alloc: Global, t: &Traj) -> Result<Load, AllocError>
+pub(crate) fn load_of(alloc: Global, t: &Traj) -> Result<Load, AllocError>
     requires { IsSendable t.now }
     ensures { IfOk result (λ load. load ≡ load_for t.now) }
 {
@@ -38,6 +38,19 @@ fn loads_of(alloc: Global, trajs: &[Traj]) -> Result<Vec<Load>, AllocError>
     Ok(loads)
 }
 
+// Where the bytes go, by the settings of a show.
+pub(crate) fn place_in(settings: choreo_show::Settings) -> Settings
+    ensures memory_id { result.memory_id ≡ settings.memory_id }
+    ensures offset { result.offset ≡ settings.offset }
+    ensures trajectory_id { result.trajectory_id ≡ settings.trajectory_id }
+{
+    Settings {
+        memory_id: settings.memory_id,
+        offset: settings.offset,
+        trajectory_id: settings.trajectory_id,
+    }
+}
+
 /// What is uploaded of a show that fits, with read-back or without and with starts or without: to the memory, the offset and under the trajectory id of its settings, one
 /// load for each drone (docs/RADIO.md, "The packets of a session"). Out of memory is the only refusal.
 pub fn session(
@@ -51,12 +64,7 @@ pub fn session(
 {
     join_law();
     let loads = loads_of(alloc, f.sent.as_slice())?;
-    let settings = Settings {
-        memory_id: f.settings.memory_id,
-        offset: f.settings.offset,
-        trajectory_id: f.settings.trajectory_id,
-    };
-    Ok(Session::of_loads(settings, loads, readback, start))
+    Ok(Session::of_loads(place_in(f.settings), loads, readback, start))
 }
 
 /// A law. Trajectories that can be uploaded, keep near to a show and keep apart are stored so in the drones' memories, whatever the

@@ -1,6 +1,5 @@
 use Rattle.std.proofs.Common.{◌≡◌, ◌++◌, true}
 use Rattle.fleet_io.specs.Words.{is_line_empty}
-use Rattle.show_plan.specs.Steps.{alone}
 use Rattle.show_plan.proofs.PacketLines.{first_lines}
 use Rattle.show_plan.proofs.packets.put_packets.Given as goal
 
@@ -8,5 +7,5 @@ use Rattle.show_plan.proofs.packets.put_packets.Given as goal
 abbrev pub invariant-loop-k : goal.invariant-loop-k
 invariant-loop-k l = record {
   fresh : is_line_empty l.text ≡ true;
-  so_far : l.text ≡ l.initial.text ++ first_lines (alone l.settings l.bytes l.pieces) 0 l.k;
+  so_far : l.text ≡ l.initial.text ++ first_lines l.session l.drone l.k;
 }

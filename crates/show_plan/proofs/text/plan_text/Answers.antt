@@ -1,12 +1,12 @@
 use Rattle.std.proofs.lemmas.Grind.{common_steps}
-use Rattle.std.proofs.Common.{◌≤◌, List, codes, All, append_assoc, ap, sym, subst, length, ◌∙◌, arith}
+use Rattle.std.proofs.Common.{List, codes, append_assoc, ap, sym, subst, length, ◌∙◌, arith}
 use Rattle.std.proofs.lemmas.List.{length-map}
 use Rattle.choreo_lines.specs.Name.{Name}
 use Rattle.traj_codec.specs.declared.traj.Traj.{Traj}
 use Rattle.traj_codec.specs.Joined.{joined}
-use Rattle.show_plan.specs.Fitting.{IsSendable, size}
+use Rattle.show_plan.specs.Landing.{AreUploadable}
 use Rattle.show_plan.specs.Texts.{plan_text}
-use Rattle.show_plan.proofs.Valid.{short_all}
+use Rattle.show_plan.proofs.Uploadable.{uploadable}
 use Rattle.show_plan.proofs.text.plan_text.Goals as goal
 
 pub put_end-requires : goal.put_end-requires
@@ -16,11 +16,9 @@ pub returns : goal.returns
 unfolding plan_text
 returns c = grind (arith, common_steps, codes, append_assoc)
 
-pub put_parts-requires-clause-sendable : goal.put_parts-requires-clause-sendable
-put_parts-requires-clause-sendable c = subst (All IsSendable) (sym c.as_slice-2.ensures) c.requires.sendable
-
-pub put_parts-requires-clause-short : goal.put_parts-requires-clause-short
-put_parts-requires-clause-short c = subst (All (λ (t : Traj). size t ≤ 4096)) (sym c.as_slice-2.ensures) (short_all c.args.f.now.settings.offset c.args.f.now.sent c.requires.room)
+pub put_parts-requires-clause-uploadable : goal.put_parts-requires-clause-uploadable
+put_parts-requires-clause-uploadable c =
+    subst (AreUploadable c.args.f.now.settings) (sym c.as_slice-2.ensures) (uploadable c.args.f.now c.join_law.ensures.curve c.requires)
 
 pub put_parts-requires-clause-count : goal.put_parts-requires-clause-count
 put_parts-requires-clause-count c =
