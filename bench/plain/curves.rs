@@ -72,3 +72,26 @@ pub fn halves<T: Whole>(curve: &Curve<T>) -> (Curve<T>, Curve<T>) {
     }
     (left, right)
 }
+
+/// The widest step between neighbouring control values.
+pub fn widest_step<T: Whole>(curve: &Curve<T>) -> T {
+    curve.windows(2).map(|two| (two[1] - two[0]).max(two[0] - two[1])).max().unwrap_or_default()
+}
+
+/// The greatest of a step that was found and those of a curve's parts of a depth, where `step` is the whole curve's. A
+/// half has no wider step than half its own, at 2^7 times its scale; the half with the wider one comes first.
+pub fn widest(curve: &Curve<i128>, step: i128, depth: u32, found: i128) -> i128 {
+    if step << (6 * depth) <= found {
+        return found;
+    }
+    if depth == 0 {
+        return step;
+    }
+    let (left, right) = halves(curve);
+    let (first, second) = (widest_step(&left), widest_step(&right));
+    if second <= first {
+        widest(&right, second, depth - 1, widest(&left, first, depth - 1, found))
+    } else {
+        widest(&left, first, depth - 1, widest(&right, second, depth - 1, found))
+    }
+}

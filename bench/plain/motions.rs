@@ -1,5 +1,5 @@
 //! How fast drones are at most, and how far they move while one is late.
-use crate::curves::{halves, Curve, Whole};
+use crate::curves::{widest, widest_step};
 use crate::fleet::{Fleet, Segment, Show};
 use std::fmt::Write;
 
@@ -8,29 +8,6 @@ const REACH_DEPTH: u32 = 6;
 
 /// No two positions are farther apart on an axis, in millimetres.
 const FARTHEST: i128 = 65_536;
-
-/// The widest step between neighbouring control values.
-fn widest_step<T: Whole>(curve: &Curve<T>) -> T {
-    curve.windows(2).map(|two| (two[1] - two[0]).max(two[0] - two[1])).max().unwrap_or_default()
-}
-
-/// The greatest of a step that was found and those of a curve's parts of a depth, where `step` is the whole curve's. A
-/// half has no wider step than half its own, at 2^7 times its scale; the half with the wider one comes first.
-fn widest(curve: &Curve<i128>, step: i128, depth: u32, found: i128) -> i128 {
-    if step << (6 * depth) <= found {
-        return found;
-    }
-    if depth == 0 {
-        return step;
-    }
-    let (left, right) = halves(curve);
-    let (first, second) = (widest_step(&left), widest_step(&right));
-    if second <= first {
-        widest(&right, second, depth - 1, widest(&left, first, depth - 1, found))
-    } else {
-        widest(&left, first, depth - 1, widest(&right, second, depth - 1, found))
-    }
-}
 
 /// The greatest of a speed that was found and the bound of a segment on an axis by its parts of a depth, in micrometres per
 /// second.

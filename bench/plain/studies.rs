@@ -8,7 +8,7 @@
 //!     studies closest R H FINE < PLAN
 mod curves;
 
-use curves::{halves, raised, CHOOSE};
+use curves::{halves, raised, widest, widest_step, CHOOSE};
 use std::io::{self, Read};
 
 type Curve = curves::Curve<i128>;
@@ -50,29 +50,6 @@ fn decoded(name: &str, pieces: usize, data: &[u8]) -> Drone {
 /// The raised curve in 128 bits.
 fn wide(points: &[i64]) -> Curve {
     raised(points).map(i128::from)
-}
-
-/// The widest step between neighbouring control values.
-fn widest_step(curve: &Curve) -> i128 {
-    curve.windows(2).map(|two| (two[1] - two[0]).abs()).max().unwrap_or(0)
-}
-
-/// The greatest of a step that was found and those of a curve's parts of a depth, where `step` is the whole curve's. A half has
-/// no wider step than half its own, at 2^7 times its scale; the half with the wider one comes first.
-fn widest(curve: &Curve, step: i128, depth: u32, found: i128) -> i128 {
-    if step << (6 * depth) <= found {
-        return found;
-    }
-    if depth == 0 {
-        return step;
-    }
-    let (left, right) = halves(curve);
-    let (first, second) = (widest_step(&left), widest_step(&right));
-    if second <= first {
-        widest(&right, second, depth - 1, widest(&left, first, depth - 1, found))
-    } else {
-        widest(&left, first, depth - 1, widest(&right, second, depth - 1, found))
-    }
 }
 
 fn speed(drones: &[Drone], depth: u32) {
