@@ -1,5 +1,6 @@
 -- The value of a refusal is on one of four axes.
-use Rattle.std.proofs.Common.{◌≡◌, ℕ, ◌+◌, ◌≤◌, ℤ, Bool, true, false, cond, All, List, [], ◌∷◌, length, Some, subst, arith}
+use Rattle.std.proofs.Common.{◌≡◌, ℕ, ◌+◌, ◌≤◌, ℤ, Bool, true, false, cond, All, List, [], ◌∷◌, length, Option, Some, None, sym, subst, arith}
+use Rattle.std.specs.Prelude.{IfSome}
 use Rattle.std.proofs.lemmas.List.Elements.{All-nil, All-cons, All-head, All-tail, All-append, All-from_recursion}
 use Rattle.choreo_lines.specs.declared.parts.Point.{Point}
 use Rattle.choreo_show.specs.declared.show.DroneLine.{DroneLine}
@@ -56,7 +57,11 @@ unfit_axis (x ∷ vs) v all is = by_test (fits x) is (unfit_axis vs v (All-tail 
         subst IsOnAxis e (All-head IsOnAxis x vs all)
 
 -- so does the value that a grid is refused for
-pub range_axis : (g : Grid) (v : AxisValue) → range_fault g ≡ Some v → v.axis ≤ 3
+range_axis : (g : Grid) (v : AxisValue) → range_fault g ≡ Some v → v.axis ≤ 3
 unfolding range_fault
 range_axis g v is =
     unfit_axis (values g) v (All-append IsOnAxis (start_values g.starts) (values_from (start_points g.starts) g.cues) (of_starts g.starts) (in_cues (start_points g.starts) g.cues)) is
+
+pub fault_axis : (g : Grid) (fault : Option AxisValue) → fault ≡ range_fault g → IfSome fault (λ v. v.axis ≤ 3)
+fault_axis g None is = tt
+fault_axis g (Some v) is = range_axis g v (sym is)

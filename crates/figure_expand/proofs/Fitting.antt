@@ -1,15 +1,18 @@
 -- Where no value of a grid is out of range, each of its starts and pieces fits a trajectory.
 use Rattle.std.proofs.lemmas.Grind.{common_steps}
-use Rattle.std.proofs.Common.{◌≡◌, ℕ, zero, suc, ◌+◌, ◌<◌, ◌≤◌, Bool, true, cond, ◌&&◌, nat_le, Some, None, ℤ, pos, List, [], ◌∷◌, ◌++◌, map, length, get_or, arith, refl, sym, ap, ◌∙◌, subst}
-use Rattle.std.specs.List.{list_all}
+use Rattle.std.proofs.Common.{◌≡◌, ℕ, zero, suc, ◌+◌, ◌<◌, ◌≤◌, Bool, true, false, cond, ◌&&◌, nat_le, Some, None, ℤ, pos, List, [], ◌∷◌, ◌++◌, map, length, get_or, arith, refl, sym, ap, ◌∙◌, subst}
+use Rattle.std.specs.List.{list_all, All}
+use Rattle.std.proofs.lemmas.Bool.{and_parts}
 use Rattle.std.proofs.lemmas.Bool.Decides.{nat_tests}
+use Rattle.std.proofs.lemmas.List.Elements.{All-head, All-tail, All-get_or}
 use Rattle.choreo_lines.specs.declared.parts.Point.{Point}
 use Rattle.choreo_show.specs.declared.show.DroneLine.{DroneLine}
 use Rattle.cue_grid.specs.declared.grid.Job.{Job}
 use Rattle.cue_grid.specs.declared.grid.Cue.{Cue}
 use Rattle.cue_grid.specs.declared.grid.Grid.{Grid}
 use Rattle.cue_grid.specs.Grids.{FitCues, IsGrid}
-use Rattle.mm_rounding.specs.Rounding.{millimetres, is_short, short, controls, rounded, fits}
+use Rattle.traj_codec.specs.declared.traj.Segment.{Segment}
+use Rattle.mm_rounding.specs.Rounding.{millimetres, is_short, short, controls, rounded, fits, axis_on, counted, segment_of}
 use Rattle.mm_rounding.specs.declared.piece.Axis.{Axis}
 use Rattle.mm_rounding.specs.declared.piece.Axis.TheVariants.{One, Two, Four, Eight}
 use Rattle.mm_rounding.specs.declared.piece.MicroPiece.{MicroPiece}
@@ -21,6 +24,7 @@ use Rattle.figure_expand.specs.declared.fault.AxisValue.{AxisValue}
 use Rattle.figure_expand.specs.Flown.{RoundsWell, StartsWell, FitsWell}
 use Rattle.figure_expand.proofs.Reach.{length-points_after, length-start_points}
 use Rattle.figure_expand.proofs.Pieces.{row_is}
+use Rattle.figure_expand.proofs.Unfit.{none_before}
 
 -- ---- no value is out of range
 
@@ -136,3 +140,86 @@ fits_well g is none =
           (pieces_round (start_points g.starts) (get_or (map (λ (s : DroneLine). s.at) g.starts) d o) o d (length g.starts) g.cues k other (length-start_points g.starts) drone is.cues (start_at g.starts d o) parts.1
           (subst (λ (pieces : List MicroPiece). k < length pieces) row small));
     }
+
+-- ---- the other way round
+
+-- the control values of an axis
+each_back : (line axis : ℕ) (vs : List ℤ) → list_all (fits_axis axis) vs ≡ true → first_unfit (values_on line axis vs) ≡ None
+each_back line axis [] all = refl
+each_back line axis (v ∷ vs) all =
+    let parts = and_parts (fits_axis axis v) (list_all (fits_axis axis) vs) all in
+    ap (λ (b : Bool). cond b (first_unfit (values_on line axis vs)) (Some (record { line = line; axis = axis; value = v }))) parts.0 ∙ each_back line axis vs parts.1
+
+place_back : (axis : Axis) → fits (rounded axis) ≡ true → list_all (λ v. is_short (millimetres v)) (controls axis) ≡ true
+place_back (One v) all = rounded_fit (v ∷ []) ∙ all
+place_back (Two v) all = rounded_fit v ∙ all
+place_back (Four v) all = rounded_fit v ∙ all
+place_back (Eight v) all = rounded_fit v ∙ all
+
+-- four axes
+axes_back : (line : ℕ) (x y z w : Axis) → list_all fits (rounded x ∷ rounded y ∷ rounded z ∷ w ∷ []) ≡ true → first_unfit (values_of line 0 (x ∷ y ∷ z ∷ w ∷ [])) ≡ None
+axes_back line x y z w all =
+    let at_x = and_parts (fits (rounded x)) (list_all fits (rounded y ∷ rounded z ∷ w ∷ [])) all in
+    let at_y = and_parts (fits (rounded y)) (list_all fits (rounded z ∷ w ∷ [])) at_x.1 in
+    let at_z = and_parts (fits (rounded z)) (list_all fits (w ∷ [])) at_y.1 in
+    none_before (values_on line 0 (controls x)) (values_of line 1 (y ∷ z ∷ w ∷ [])) (each_back line 0 (controls x) (place_back x at_x.0))
+    ∙ none_before (values_on line 1 (controls y)) (values_of line 2 (z ∷ w ∷ [])) (each_back line 1 (controls y) (place_back y at_y.0))
+    ∙ none_before (values_on line 2 (controls z)) (values_of line 3 (w ∷ [])) (each_back line 2 (controls z) (place_back z at_z.0))
+    ∙ none_before (values_on line 3 (controls w)) [] (each_back line 3 (controls w) (and_parts (fits w) true at_z.1).0)
+
+-- a piece
+piece_back : (line : ℕ) (p : Point) (ms : ℕ) (j : Job) → RoundsWell (piece_of p ms j) → first_unfit (values_of line 0 (axes_of p (act_of j))) ≡ None
+piece_back line p ms j well =
+    let piece : MicroPiece = piece_of p ms j in
+    axes_back line (axis_on piece 0) (axis_on piece 1) (axis_on piece 2) (axis_on piece 3)
+    (and_parts (nat_le 1 ms) (list_all fits (counted piece)) (passed (nat_le 1 ms && list_all fits (counted piece)) (segment_of piece) well)).1
+  where
+    passed : (b : Bool) (s : Segment) → cond b (Some s) None ≡ Some s → b ≡ true
+    passed true s is = refl
+    passed false s is = absurd (cc)
+
+cue_back : (points : List Point) (jobs : List Job) (o : Point) → length points ≡ length jobs →
+    ((d : ℕ) → d < length points → first_unfit (values_of (get_or jobs d no_job).line 0 (axes_of (get_or points d o) (act_of (get_or jobs d no_job)))) ≡ None) →
+    first_unfit (cue_values points jobs) ≡ None
+cue_back [] jobs o many each = refl
+cue_back (p ∷ points) [] o many each = refl
+cue_back (p ∷ points) (j ∷ jobs) o many each =
+    none_before (values_of j.line 0 (axes_of p (act_of j))) (cue_values points jobs) (each 0 (omega arith))
+    ∙ cue_back points jobs o (omega arith) (λ d within. each (suc d) (omega arith))
+
+cues_back : (points : List Point) (o : Point) (n : ℕ) (cues : List Cue) → length points ≡ n → FitCues n cues →
+    ((d : ℕ) → d < n → All RoundsWell (pieces_from (get_or points d o) d cues)) → first_unfit (values_from points cues) ≡ None
+cues_back points o n [] many fit each = refl
+cues_back points o n (cue ∷ cues) many fit each =
+    let count : length points ≡ length cue.jobs = many ∙ sym fit.0.count in
+    none_before (cue_values points cue.jobs) (values_from (points_after points cue.jobs) cues)
+    (cue_back points cue.jobs o count (λ d within.
+    piece_back (job_in cue d).line (get_or points d o) cue.ms (job_in cue d)
+    (All-head RoundsWell (piece_of (get_or points d o) cue.ms (job_in cue d)) (pieces_from (end_of (get_or points d o) (act_of (job_in cue d))) d cues) (each d (omega arith)))))
+    ∙ cues_back (points_after points cue.jobs) o n cues (length-points_after points cue.jobs count ∙ many) fit.1 (λ d within.
+    subst (λ (q : Point). All RoundsWell (pieces_from q d cues)) (sym (moves points cue.jobs d o (omega arith) count))
+    (All-tail RoundsWell (piece_of (get_or points d o) cue.ms (job_in cue d)) (pieces_from (end_of (get_or points d o) (act_of (job_in cue d))) d cues) (each d within)))
+
+short_back : (z : ℤ) → short z ≡ Some z → is_short z ≡ true
+short_back z is = grind (arith, common_steps)
+
+start_back : (line : ℕ) (p : Point) → StartsWell p → first_unfit (point_values line p) ≡ None
+start_back line p well = grind (arith, common_steps, short_back)
+
+starts_back : (starts : List DroneLine) → All (λ (s : DroneLine). StartsWell s.at) starts → first_unfit (start_values starts) ≡ None
+starts_back [] all = refl
+starts_back (s ∷ starts) all =
+    none_before (point_values s.line s.at) (start_values starts) (start_back s.line s.at (All-head (λ (s : DroneLine). StartsWell s.at) s starts all))
+    ∙ starts_back starts (All-tail (λ (s : DroneLine). StartsWell s.at) s starts all)
+
+-- No value is out of range of a grid of which each start and each piece fits a trajectory.
+pub fits_back : (g : Grid) → IsGrid g → FitsWell g → range_fault g ≡ None
+unfolding range_fault expanded
+fits_back g is well =
+    let o : Point = record { x = pos 0; y = pos 0; z = pos 0; yaw = pos 0 } in
+    none_before (start_values g.starts) (values_from (start_points g.starts) g.cues) (starts_back g.starts well.starts)
+    ∙ cues_back (start_points g.starts) o (length g.starts) g.cues (length-start_points g.starts) is.cues (λ d within.
+    let e : 0 + d ≡ d = omega arith in
+    subst (All RoundsWell)
+    (row_is 0 g.starts g.cues d o [] within ∙ ap (λ (n : ℕ). pieces_from (get_or (map (λ (s : DroneLine). s.at) g.starts) d o) n g.cues) e ∙ ap (λ (p : Point). pieces_from p d g.cues) (sym (start_at g.starts d o)))
+    (All-get_or (All RoundsWell) (expanded g) d [] (omega (arith, length-rows 0 g.starts g.cues)) well.pieces))

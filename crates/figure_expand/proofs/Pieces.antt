@@ -1,9 +1,8 @@
 -- The pieces of a grid are where the text says.
 use Rattle.std.proofs.lemmas.Grind.{common_steps}
-use Rattle.std.proofs.Common.{◌≡◌, ℕ, zero, suc, ◌+◌, ◌<◌, ℤ, pos, ◌+ℤ◌, ◌-ℤ◌, ◌*ℤ◌, List, [], ◌∷◌, ◌++◌, map, take, drop, append_assoc, length, get_or, arith, refl, sym, ap, ◌∙◌}
+use Rattle.std.proofs.Common.{◌≡◌, ℕ, zero, suc, ◌+◌, ◌<◌, ℤ, pos, ◌+ℤ◌, ◌-ℤ◌, ◌*ℤ◌, List, [], ◌∷◌, map, take, length, get_or, arith, refl, sym, ap, ◌∙◌}
 use Rattle.std.specs.List.{All}
 use Rattle.std.proofs.lemmas.List.Elements.{All-nil, All-cons}
-use Rattle.std.proofs.lemmas.List.{drop_more}
 use Rattle.fleet_math.specs.Sums.{power}
 use Rattle.fleet_math.specs.Bernstein.{at}
 use Rattle.fleet_math.proofs.RingLemmas.{mul_comm_ℤ, one_mul_ℤ}
@@ -123,12 +122,6 @@ row_is first (s ∷ starts) cues zero other rest within = let e : first ≡ firs
 row_is first (s ∷ starts) cues (suc d) other rest within =
     let e : (first + 1) + d ≡ first + suc d = omega arith in
     row_is (first + 1) starts cues d other rest (omega arith) ∙ ap (λ (n : ℕ). pieces_from (get_or (map (λ (s : DroneLine). s.at) starts) d other) n cues) e
-
--- one piece more, as the code puts it after the others
-pub piece_next : (pieces more : List MicroPiece) (p after : Point) (d : ℕ) (cues : List Cue) (k : ℕ) (cue : Cue) (piece : MicroPiece) → k < length cues → cue ≡ get_or cues k cue →
-    piece ≡ piece_of p cue.ms (job_in cue d) → after ≡ end_of p (act_of (job_in cue d)) → more ≡ pieces ++ piece ∷ [] →
-    more ++ pieces_from after d (drop (k + 1) cues) ≡ pieces ++ pieces_from p d (drop k cues)
-piece_next pieces more p after d cues k cue piece within is piece_is after_is more_is = grind (arith, common_steps, drop, drop_more, append_assoc)
 
 -- The pieces of a grid are at the written position.
 pub flies_as_written : (g : Grid) → FliesAsWritten g

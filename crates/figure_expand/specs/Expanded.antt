@@ -1,5 +1,5 @@
 -- The pieces of a grid, and the first value that no trajectory can hold.
-use Rattle.std.specs.Prelude.{◌≡◌, ℕ, ◌+◌, ◌≤◌, Bool, ◌==◌, List, [], ◌∷◌, ◌++◌, Option, Some, None, ℤ, slice_index_or, if◌then◌else◌}
+use Rattle.std.specs.Prelude.{ℕ, ◌+◌, Bool, ◌==◌, List, [], ◌∷◌, ◌++◌, Option, Some, None, ℤ, slice_index_or, if◌then◌else◌}
 use Rattle.choreo_lines.specs.declared.parts.Point.{Point}
 use Rattle.choreo_show.specs.declared.show.DroneLine.{DroneLine}
 use Rattle.choreo_lines.specs.declared.parts.Act.TheVariants as act
@@ -11,8 +11,6 @@ use Rattle.mm_rounding.specs.Rounding.{controls, millimetres, is_short}
 use Rattle.mm_rounding.specs.declared.piece.Axis.{Axis}
 use Rattle.mm_rounding.specs.declared.piece.MicroPiece.{MicroPiece}
 use Rattle.figure_expand.specs.declared.fault.AxisValue.{AxisValue}
-use Rattle.figure_expand.specs.declared.fault.ExpandError.{ExpandError}
-use Rattle.figure_expand.specs.declared.fault.ExpandError.TheVariants as error
 use Rattle.figure_expand.specs.Acts.{act_of, end_of}
 use Rattle.figure_expand.specs.Controls.{axes_of, piece_of}
 
@@ -107,13 +105,3 @@ first_unfit (v ∷ vs) = if fits v then first_unfit vs else Some v
 -- the first value of a grid that no trajectory can hold
 unfoldable pub range_fault : Grid → Option AxisValue
 range_fault g = first_unfit (values g)
-
--- What is named is the first value of the grid that no trajectory can hold; out of memory says nothing.
-abbrev pub ExpandFails : ExpandError → Grid → Type 0
-ExpandFails (error.OutOfRange v) g = range_fault g ≡ Some v
-ExpandFails error.Memory g = Unit {0}
-
--- It is on one of the axes 0 to 3: x, y, z and yaw.
-abbrev pub IsOnAnAxis : ExpandError → Type 0
-IsOnAnAxis (error.OutOfRange v) = v.axis ≤ 3
-IsOnAnAxis error.Memory = Unit {0}

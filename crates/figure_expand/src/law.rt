@@ -14,11 +14,12 @@ ghost use Rattle.figure_expand.specs.Flown.{FliesAsWritten, FitsWell};
 ghost use Rattle.figure_expand.specs.Written.{ClosedForms};
 
 /// A law. The pieces of each grid are at the written position, on each axis and at each fraction of each cue. A piece
-/// begins where its drone is, and ends where the drone is before the next cue. Where no value is out of range, each start
+/// begins where its drone is, and ends where the drone is before the next cue. No value is out of range exactly where each start
 /// and each piece fits a trajectory. The curves that no arc or control point makes have these closed forms.
 pub fn expansion_law()
     ensures written { (g : Grid) → FliesAsWritten g }
     ensures fits { (g : Grid) → IsGrid g → range_fault g ≡ None → FitsWell g }
+    ensures held { (g : Grid) → IsGrid g → FitsWell g → range_fault g ≡ None }
     ensures whole { (p : Point) (ms : ℕ) (j : Job) → IsPiece (piece_of p ms j) }
     ensures begins { (p : Point) (ms : ℕ) (j : Job) (axis : ℕ) → axis < 4
         → first_control (axis_on (piece_of p ms j) axis) ≡ on_axis p axis }

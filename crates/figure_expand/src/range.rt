@@ -1,6 +1,6 @@
 //! The first value that no trajectory can hold.
 
-ghost use Rattle.std.specs.Prelude.{◌≡◌, ◌+◌, ◌<◌, ◌≤◌, ◌^◌, length, IfOk};
+ghost use Rattle.std.specs.Prelude.{◌≡◌, ◌+◌, ◌<◌, ◌≤◌, ◌^◌, length, IfOk, IfSome};
 ghost use Rattle.std.specs.List.{All};
 ghost use Rattle.mm_rounding.specs.Rounding.{controls};
 ghost use Rattle.fleet_math.specs.Limits.{most_cues};
@@ -159,10 +159,12 @@ fn points_of(alloc: Global, starts: &[DroneLine]) -> Result<Vec<Point>, AllocErr
     Ok(points)
 }
 
-/// The first value of a grid that no trajectory can hold.
-pub(crate) fn range_fault(alloc: Global, grid: &Grid) -> Result<Option<AxisValue>, AllocError>
+/// The first value of a grid that no trajectory can hold, which rounds outside two bytes: starts by drone and axis first, then cues,
+/// drones, axes and control points. Its axis is one of 0 to 3, for x, y, z and yaw.
+pub fn range_fault(alloc: Global, grid: &Grid) -> Result<Option<AxisValue>, AllocError>
     requires { IsGrid grid.now }
-    ensures { IfOk result (λ fault. fault ≡ range_fault grid.now) }
+    ensures first { IfOk result (λ fault. fault ≡ range_fault grid.now) }
+    ensures axis { IfOk result (λ fault. IfSome fault (λ v. v.axis ≤ 3)) }
 {
     let starts = grid.starts.as_slice();
     if let Some(fault) = starts_fault(starts) {

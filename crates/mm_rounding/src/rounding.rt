@@ -25,8 +25,8 @@ fn millimetres(v: i64) -> i64
     }
 }
 
-// The number in two bytes, where it fits.
-fn short(v: i64) -> Option<i16>
+/// The number in two bytes, where it fits.
+pub fn short(v: i64) -> Option<i16>
     ensures { result ≡ short v }
 {
     i16::try_from(v).ok()

@@ -3,7 +3,7 @@ use Rattle.std.proofs.lemmas.Grind.{common_steps}
 use Rattle.std.proofs.Common.{◌≡◌, ℕ, zero, suc, ◌+◌, ◌*◌, ◌<◌, ◌≤◌, ℤ, pos, ◌*ℤ◌, List, [], ◌∷◌, map, take, length, get_or, sum, arith, refl, sym, ap, ◌∙◌, subst}
 use Rattle.std.specs.List.{All}
 use Rattle.std.proofs.lemmas.List.{get_or-map, length-map}
-use Rattle.std.proofs.lemmas.List.Elements.{All-nil, All-cons, All-get_or}
+use Rattle.std.proofs.lemmas.List.Elements.{All-nil, All-cons, All-get_or, All-from_get_or}
 use Rattle.fleet_math.specs.Bernstein.{at}
 use Rattle.fleet_math.specs.Moments.{Moment, moment}
 use Rattle.fleet_math.specs.Near.{IsNear}
@@ -35,9 +35,10 @@ use Rattle.mm_rounding.proofs.Elements.{rounded_is_axis, rounded_edges, ends_the
 use Rattle.figure_expand.specs.Acts.{act_of, end_of, on_axis, point_after}
 use Rattle.figure_expand.specs.Controls.{axes_of, piece_of}
 use Rattle.figure_expand.specs.Expanded.{job_in, no_job, pieces_from, expanded_from, expanded}
-use Rattle.figure_expand.specs.Flown.{start_of, jobs_in, job_at, point_before, piece_at, written_at}
+use Rattle.figure_expand.specs.Flown.{start_of, jobs_in, job_at, point_before, piece_at, written_at, StartsWell, RoundsWell, FitsWell}
 use Rattle.figure_expand.proofs.Pieces.{row_is, piece_begins, piece_ends, piece_whole, flies_as_written}
 use Rattle.show_plan.specs.Trajectories.{start_at, trajectory_of, trajectories_of, by_cue, sent, cue_times}
+use Rattle.show_plan.specs.Steps.{FitsDrone, flight}
 use Rattle.show_plan.specs.Flight.{FliesNearOn, FliesNear, written, no_trajectory, KeepsNearShow}
 
 -- ---- the ends of axes
@@ -104,6 +105,18 @@ flight_is first (s ∷ starts) cues (suc d) other within =
     flight_is (first + 1) starts cues d other (omega arith)
     ∙ ap (λ (n : ℕ). trajectory_of (get_or (map (λ (s : DroneLine). s.at) starts) d other) (pieces_from (get_or (map (λ (s : DroneLine). s.at) starts) d other) n cues)) e
 
+rows_from : (first : ℕ) (starts : List DroneLine) (cues : List Cue) → length (expanded_from first starts cues) ≡ length starts
+rows_from first [] cues = refl
+rows_from first (s ∷ starts) cues = ap suc (rows_from (first + 1) starts cues)
+
+-- there are as many rows of pieces as drones
+rows_counted : (g : Grid) → length (expanded g) ≡ length g.starts
+unfolding expanded
+rows_counted g = rows_from 0 g.starts g.cues
+
+abbrev no_start : DroneLine
+no_start = record { line = 0; name = record { items = [] }; at = record { x = pos 0; y = pos 0; z = pos 0; yaw = pos 0 } }
+
 -- there are as many trajectories as drones
 pub flights_counted : (first : ℕ) (starts : List DroneLine) (cues : List Cue) → length (trajectories_of starts (expanded_from first starts cues)) ≡ length starts
 flights_counted first [] cues = refl
@@ -113,19 +126,41 @@ pub by_cue_counted : (g : Grid) → length (by_cue g) ≡ length g.starts
 unfolding expanded
 by_cue_counted g = flights_counted 0 g.starts g.cues
 
+-- the pieces of a drone of a grid
+pub row_at_is : (g : Grid) (d : ℕ) → d < length g.starts → get_or (expanded g) d [] ≡ pieces_from (start_of g d) d g.cues
+unfolding expanded
+row_at_is g d drone =
+    let e : 0 + d ≡ d = omega arith in
+    row_is 0 g.starts g.cues d _ [] drone ∙ ap (λ (n : ℕ). pieces_from (start_of g d) n g.cues) e
+
+-- the line of a drone has its start
+start_is : (g : Grid) (d : ℕ) (s : DroneLine) → d < length g.starts → start_of g d ≡ (get_or g.starts d s).at
+start_is g d s drone = get_or-map (λ (s : DroneLine). s.at) g.starts d s _ drone
+
+-- where each number of a grid fits a trajectory, those of each drone do
+pub drone_fits : (g : Grid) (d : ℕ) → d < length g.starts → FitsWell g → FitsDrone g d
+drone_fits g d drone fits =
+    let s : DroneLine = get_or g.starts d no_start in
+    record {
+      start = subst StartsWell (sym (start_is g d no_start drone)) (All-get_or (λ (s : DroneLine). StartsWell s.at) g.starts d no_start drone fits.starts);
+      pieces = subst (All RoundsWell) (row_at_is g d drone) (All-get_or (All RoundsWell) (expanded g) d [] (omega (arith, rows_counted g)) fits.pieces);
+    }
+
+-- and the other way round
+pub all_fit : (g : Grid) → ((d : ℕ) → d < length g.starts → FitsDrone g d) → FitsWell g
+all_fit g each = record {
+  starts = All-from_get_or (λ (s : DroneLine). StartsWell s.at) g.starts no_start (λ d drone. subst StartsWell (start_is g d no_start drone) (each d drone).start);
+  pieces = All-from_get_or (All RoundsWell) (expanded g) [] (λ d within.
+      let drone : d < length g.starts = omega (arith, rows_counted g) in
+      subst (All RoundsWell) (sym (row_at_is g d drone)) (each d drone).pieces);
+}
+
 -- the piece of a drone in a cue of a grid
 piece_at_is : (g : Grid) (d k : ℕ) → d < length g.starts → k < length g.cues →
     piece_at g d k ≡ piece_of (point_before g d k) (get_or (cue_times g) k 0) (job_at g d k)
-unfolding expanded
 piece_at_is g d k drone cue =
     let other : MicroPiece = record { ms = 0; axes = [] } in
-    let e : 0 + d ≡ d = omega arith in
-    ap (λ (pieces : List MicroPiece). get_or pieces k other) (row_is 0 g.starts g.cues d _ [] drone ∙ ap (λ (n : ℕ). pieces_from (start_of g d) n g.cues) e)
-    ∙ piece_is (start_of g d) d g.cues k other cue
-
--- the trajectory of a drone of a grid
-abbrev pub flight : Grid → ℕ → Traj
-flight g d = trajectory_of (start_of g d) (pieces_from (start_of g d) d g.cues)
+    ap (λ (pieces : List MicroPiece). get_or pieces k other) (row_at_is g d drone) ∙ piece_is (start_of g d) d g.cues k other cue
 
 pub flight_at_is : (g : Grid) (d : ℕ) → d < length g.starts → get_or (by_cue g) d no_trajectory ≡ flight g d
 unfolding expanded

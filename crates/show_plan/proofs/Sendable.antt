@@ -1,87 +1,94 @@
 -- Trajectories and their bytes one after another, and what is known of those of a valid grid.
 use Rattle.std.proofs.lemmas.Grind.{common_steps}
-use Rattle.std.proofs.Common.{◌≡◌, ◌⊎◌, inl, inr, ℕ, suc, ◌+◌, ◌<◌, ◌≤◌, Bool, true, false, cond, Option, Some, None, IfOk, Ok, Err, Result, Vec, Global, List, [], ◌∷◌, ◌++◌, map, drop, append_assoc, length, get_or, nat_le, arith, refl, sym, ap, ◌∙◌, subst}
-use Rattle.std.specs.List.{All}
+use Rattle.std.proofs.Common.{◌≡◌, ◌⊎◌, inl, inr, ℕ, suc, ◌+◌, ◌<◌, ◌≤◌, Bool, true, false, cond, Option, Some, None, IfOk, Ok, Err, Result, List, [], ◌∷◌, ◌++◌, map, drop, append_assoc, length, get_or, nat_le, arith, refl, sym, ap, ◌∙◌, subst}
+use Rattle.std.specs.List.{All, list_all}
 use Rattle.std.specs.Option.{option_or}
-use Rattle.std.specs.Prelude.{nat_lt}
+use Rattle.std.specs.Prelude.{nat_lt, ◌&&◌, ℤ, MatchOption}
 use Rattle.std.proofs.lemmas.Bool.Decides.{nat_tests}
-use Rattle.std.proofs.lemmas.List.{drop_more, get_or-map}
-use Rattle.std.proofs.lemmas.List.Elements.{All-nil, All-cons, All-head, All-tail, All-get_or, All-from_get_or}
+use Rattle.std.proofs.lemmas.List.{drop_more}
+use Rattle.std.proofs.lemmas.List.Elements.{All-nil, All-cons, All-head, All-tail, All-from_get_or}
 use Rattle.choreo_lines.specs.declared.parts.Point.{Point}
-use Rattle.choreo_show.specs.declared.show.DroneLine.{DroneLine}
 use Rattle.choreo_show.specs.Plain.{PlainShow}
 use Rattle.cue_grid.specs.declared.grid.Cue.{Cue}
 use Rattle.cue_grid.specs.declared.grid.Grid.{Grid}
 use Rattle.cue_grid.specs.Cues.{grid_of}
 use Rattle.cue_grid.specs.Faults.{grid_fault}
 use Rattle.cue_grid.specs.Grids.{FitCues, IsGrid}
+use Rattle.traj_codec.specs.declared.traj.Segment.{Segment}
 use Rattle.traj_codec.specs.declared.traj.Traj.{Traj}
 use Rattle.traj_codec.specs.Joined.{joined}
 use Rattle.traj_codec.specs.Spelling.{HasDuration}
 use Rattle.fleet_math.specs.Limits.{most_segments}
 use Rattle.traj_codec.proofs.JoinedLemmas.{durations_of, join_holds_law, lasting_of}
 use Rattle.mm_rounding.specs.declared.piece.MicroPiece.{MicroPiece}
-use Rattle.mm_rounding.specs.Rounding.{segment_of}
+use Rattle.mm_rounding.specs.Rounding.{millimetres, is_short, short, fits, counted, rounding, segment_of}
 use Rattle.figure_expand.specs.Acts.{act_of, end_of}
 use Rattle.figure_expand.specs.Controls.{piece_of}
-use Rattle.figure_expand.specs.Expanded.{job_in, pieces_from, expanded_from, expanded, range_fault}
-use Rattle.figure_expand.specs.Flown.{start_of, RoundsWell}
+use Rattle.figure_expand.specs.Expanded.{job_in, pieces_from, range_fault}
+use Rattle.figure_expand.specs.Flown.{start_of, RoundsWell, StartsWell}
 use Rattle.show_plan.specs.declared.fitted.Fitted.{Fitted}
 use Rattle.show_plan.specs.declared.fitted.FitError.{FitError}
 use Rattle.show_plan.specs.declared.fitted.PlanFault.{PlanFault}
 use Rattle.show_plan.specs.declared.fitted.PlanFault.TheVariants as fault
-use Rattle.show_plan.specs.Trajectories.{trajectory_of, trajectories_of, by_cue, sent}
+use Rattle.show_plan.specs.Trajectories.{start_at, by_cue, sent}
 use Rattle.show_plan.specs.Flight.{no_trajectory, KeepsNearShow}
 use Rattle.show_plan.specs.Fitting.{IsFlown, IsSendable, size, room, send_fault, first_unsendable, plan_fault, FitGives}
-use Rattle.show_plan.proofs.Flight.{by_cue_counted, flight, flight_at_is, keeps_near_show}
+use Rattle.show_plan.specs.Steps.{flight}
+use Rattle.show_plan.proofs.Flight.{by_cue_counted, flight_at_is, keeps_near_show}
 
--- ---- lists as the code has them
+-- ---- one drone
 
-abbrev items_of : Vec MicroPiece Global → List MicroPiece
-items_of row = row.items
+-- the next piece of a drone, and those after it
+pub pieces_next : (p : Point) (d : ℕ) (cues : List Cue) (k : ℕ) (cue : Cue) → k < length cues → cue ≡ get_or cues k cue →
+    pieces_from p d (drop k cues) ≡ piece_of p cue.ms (job_in cue d) ∷ pieces_from (end_of p (act_of (job_in cue d))) d (drop (k + 1) cues)
+pieces_next p d cues k cue within is = ap (pieces_from p d) (drop_more cues k cue within ∙ ap (λ (here : Cue). here ∷ drop (k + 1) cues) (sym is))
 
-as_many : (rows : List (Vec MicroPiece Global)) → length (map items_of rows) ≡ length rows
-as_many [] = refl
-as_many (row ∷ rows) = ap suc (as_many rows)
+-- a segment that a piece is rounded to is its own
+pub rounds : (p : MicroPiece) (s : Segment) → Some s ≡ rounding p → (s ≡ segment_of p) × RoundsWell p
+rounds p s is = by_test (nat_le 1 p.ms && list_all fits (counted p)) (segment_of p) is
+  where
+    by_test : (b : Bool) (t : Segment) → Some s ≡ cond b (Some t) None → (s ≡ t) × (cond b (Some t) None ≡ Some t)
+    by_test true t is = (cc, refl)
+    by_test false t is = absurd (cc)
 
--- there are as many rows as lists of pieces
-pub same_count : (rows : List (Vec MicroPiece Global)) (lists : List (List MicroPiece)) → map items_of rows ≡ lists → length rows ≡ length lists
-same_count rows lists e = sym (as_many rows) ∙ ap (λ (xs : List (List MicroPiece)). length xs) e
+-- a piece that is rounded to none doesn't round well
+pub rounds_not : (p : MicroPiece) → None ≡ rounding p → RoundsWell p → ⊥
+rounds_not p is well = grind (arith, common_steps)
 
--- a row is the list of pieces with its number
-pub row_at : (rows : List (Vec MicroPiece Global)) (k : ℕ) (row : Vec MicroPiece Global) (items : List MicroPiece) → k < length rows → row ≡ get_or rows k row → items ≡ row.items →
-    items ≡ get_or (map items_of rows) k items
-row_at rows k row items within is items_are = items_are ∙ ap items_of is ∙ sym (get_or-map items_of rows k row items within)
+-- one segment more, as the code puts it after the others
+pub segments_next : (segments more : List Segment) (whole rest : List MicroPiece) (piece : MicroPiece) (s : Segment) →
+    whole ≡ piece ∷ rest → s ≡ segment_of piece → more ≡ segments ++ s ∷ [] → more ++ map segment_of rest ≡ segments ++ map segment_of whole
+segments_next segments more whole rest piece s whole_is s_is more_is =
+    ap (λ (xs : List Segment). xs ++ map segment_of rest) more_is
+    ∙ append_assoc segments (s ∷ []) (map segment_of rest)
+    ∙ ap (λ (x : Segment). segments ++ x ∷ map segment_of rest) s_is
+    ∙ ap (λ (ps : List MicroPiece). segments ++ map segment_of ps) (sym whole_is)
 
--- what holds of each list of pieces holds of this row
-pub row_holds : (rows : List (Vec MicroPiece Global)) (k : ℕ) (row : Vec MicroPiece Global) (items : List MicroPiece) → k < length rows → row ≡ get_or rows k row → items ≡ row.items →
-    All (All RoundsWell) (map items_of rows) → All RoundsWell items
-row_holds rows k row items within is items_are all =
-    subst (All RoundsWell) (sym (row_at rows k row items within is items_are))
-    (All-get_or (All RoundsWell) (map items_of rows) k items (omega (arith, as_many rows, within)) all)
+-- a start that two bytes hold, number by number
+pub starts : (p : Point) (x y z yaw : ℤ) → Some x ≡ short (millimetres p.x) → Some y ≡ short (millimetres p.y) → Some z ≡ short (millimetres p.z) → Some yaw ≡ short p.yaw →
+    StartsWell p × (x ∷ y ∷ z ∷ yaw ∷ [] ≡ start_at p)
+starts p x y z yaw is_x is_y is_z is_yaw =
+    let at_x = kept (is_short (millimetres p.x)) x (millimetres p.x) is_x in
+    let at_y = kept (is_short (millimetres p.y)) y (millimetres p.y) is_y in
+    let at_z = kept (is_short (millimetres p.z)) z (millimetres p.z) is_z in
+    let at_yaw = kept (is_short p.yaw) yaw p.yaw is_yaw in
+    (record { x = at_x.1; y = at_y.1; z = at_z.1; yaw = at_yaw.1 }, rw (at_x.0, at_y.0, at_z.0, at_yaw.0) refl)
+  where
+    kept : (b : Bool) (v z : ℤ) → Some v ≡ cond b (Some z) None → (v ≡ z) × (cond b (Some z) None ≡ Some z)
+    kept true v z is = (cc, refl)
+    kept false v z is = absurd (cc)
 
--- one trajectory more, as the code puts it after the others
-pub trajectory_next : (ts more : List Traj) (starts : List DroneLine) (rows : List (Vec MicroPiece Global)) (k : ℕ) (s : DroneLine) (row : List MicroPiece) (t : Traj) →
-    k < length starts → length rows ≡ length starts → row ≡ get_or (map items_of rows) k row → t ≡ trajectory_of (get_or starts k s).at row → more ≡ ts ++ t ∷ [] →
-    more ++ trajectories_of (drop (k + 1) starts) (drop (k + 1) (map items_of rows)) ≡ ts ++ trajectories_of (drop k starts) (drop k (map items_of rows))
-trajectory_next ts more starts rows k s row t within many row_is t_is more_is =
-    grind (arith, common_steps, items_of, drop, as_many, drop_more, append_assoc)
+-- ---- what is found or not
+
+pub none_of : {A : Type 0} (o : Option A) (P : Type 0) (Q : A → Type 0) → o ≡ None → MatchOption o P Q → P
+none_of None P Q is found = found
+none_of (Some x) P Q is found = absurd (cc)
+
+pub some_of : {A : Type 0} (o : Option A) (P : Type 0) (Q : A → Type 0) (x : A) → o ≡ Some x → MatchOption o P Q → Q x
+some_of None P Q x is found = absurd (cc)
+some_of (Some y) P Q x is found = let e : y ≡ x = cc in subst Q e found
 
 -- ---- the trajectories of a grid
-
-rows_from : (first : ℕ) (starts : List DroneLine) (cues : List Cue) → length (expanded_from first starts cues) ≡ length starts
-rows_from first [] cues = refl
-rows_from first (s ∷ starts) cues = ap suc (rows_from (first + 1) starts cues)
-
--- a grid has as many rows of pieces as drones
-pub rows_counted : (g : Grid) → length (expanded g) ≡ length g.starts
-unfolding expanded
-rows_counted g = rows_from 0 g.starts g.cues
-
--- the trajectories as the code makes them
-pub all_are : (g : Grid) (starts : List DroneLine) (rows : List (List MicroPiece)) (ts : List Traj) → starts ≡ g.starts → rows ≡ expanded g → ts ≡ trajectories_of starts rows → ts ≡ by_cue g
-all_are g starts rows ts starts_are rows_are ts_are =
-    ts_are ∙ ap (λ (ss : List DroneLine). trajectories_of ss rows) starts_are ∙ ap (λ (rs : List (List MicroPiece)). trajectories_of g.starts rs) rows_are
 
 segments_counted : (p : Point) (d : ℕ) (cues : List Cue) → length (map segment_of (pieces_from p d cues)) ≡ length cues
 segments_counted p d [] = refl

@@ -1,6 +1,12 @@
 -- Words of private steps. No public clause cites them.
 use Rattle.std.specs.Prelude.{ℕ, List, map, Option, Result}
+use Rattle.std.specs.List.{All}
 use Rattle.std.specs.Option.{option_map}
+use Rattle.cue_grid.specs.declared.grid.Grid.{Grid}
+use Rattle.traj_codec.specs.declared.traj.Traj.{Traj}
+use Rattle.figure_expand.specs.Expanded.{pieces_from}
+use Rattle.figure_expand.specs.Flown.{start_of, StartsWell, RoundsWell}
+use Rattle.show_plan.specs.Trajectories.{trajectory_of}
 use Rattle.sep_parts.specs.declared.clearance.Clearance.{Clearance}
 use Rattle.sep_parts.specs.declared.slot.Slot.{Slot}
 use Rattle.fleet_curves.specs.Raised.{Raised}
@@ -14,6 +20,15 @@ use Rattle.show_plan.specs.declared.separation.BlockedPart.{BlockedPart}
 use Rattle.show_plan.specs.declared.separation.SeparationFault.{SeparationFault}
 use Rattle.show_plan.specs.declared.separation.SeparationFault.TheVariants as fault
 use Rattle.show_plan.specs.Separation.{Finds, direction_at, blocked_at, blocked_in, best_nodes, measure_of}
+
+-- the trajectory of a drone of a grid
+abbrev pub flight : Grid → ℕ → Traj
+flight g d = trajectory_of (start_of g d) (pieces_from (start_of g d) d g.cues)
+
+-- a trajectory can hold each number of a drone
+pub record FitsDrone (g : Grid) (d : ℕ) : Type 0 where
+  pub start : StartsWell (start_of g d)
+  pub pieces : All RoundsWell (pieces_from (start_of g d) d g.cues)
 
 -- the first part of a slot's cue, of this depth, that no direction separates
 abbrev pub blocked_slot : Clearance → ℕ → Raised → Slot → Option BlockedPart

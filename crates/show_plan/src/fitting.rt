@@ -1,19 +1,22 @@
 //! The trajectories of a whole show, where their bytes have room in the drones' memories.
 
-ghost use Rattle.std.specs.Prelude.{◌≡◌, ◌≤◌, Some, None, map, length, IfOk};
+ghost use Rattle.std.specs.Prelude.{◌≡◌, ◌<◌, ◌≤◌, Err, None, MatchOption, map, length, IfOk};
 ghost use Rattle.std.specs.List.{All, sum};
-ghost use Rattle.choreo_show.specs.Plain.{plain};
+ghost use Rattle.choreo_show.specs.Plain.{PlainShow, plain};
 ghost use Rattle.choreo_show.specs.Valid.{IsValid};
 ghost use Rattle.cue_grid.specs.Cues.{grid_of};
 ghost use Rattle.cue_grid.specs.Faults.{grid_fault};
-ghost use Rattle.cue_grid.specs.Grids.{IsGrid};
+ghost use Rattle.cue_grid.specs.Frames.{IsPointUpTo};
+ghost use Rattle.cue_grid.specs.Grids.{FitCues, IsGrid};
 ghost use Rattle.fleet_math.specs.Limits.{most_cues, most_drones};
 ghost use Rattle.traj_codec.specs.Joined.{joined};
-ghost use Rattle.traj_codec.specs.Spelling.{AreNumbers, IsTrajectory};
-ghost use Rattle.mm_rounding.specs.Rounding.{short};
-ghost use Rattle.figure_expand.specs.Expanded.{expanded, range_fault};
+ghost use Rattle.traj_codec.specs.Spelling.{AreNumbers, IsSegment, IsTrajectory};
+ghost use Rattle.mm_rounding.specs.Rounding.{segment_of};
+ghost use Rattle.figure_expand.specs.Bounds.{reach};
+ghost use Rattle.figure_expand.specs.Expanded.{pieces_from, range_fault};
 ghost use Rattle.figure_expand.specs.Flown.{StartsWell, RoundsWell};
-ghost use Rattle.show_plan.specs.Trajectories.{start_at, trajectory_of, trajectories_of};
+ghost use Rattle.show_plan.specs.Trajectories.{by_cue, start_at};
+ghost use Rattle.show_plan.specs.Steps.{FitsDrone, flight};
 ghost use Rattle.show_plan.specs.Flight.{KeepsNearShow};
 ghost use Rattle.show_plan.specs.Fitting.{IsFlown, first_unsendable, send_fault};
 ghost use Rattle.show_plan.specs.Fitting.{FitGives, IsValidFitted};
@@ -23,71 +26,92 @@ use choreo_lines::copy_of;
 use choreo_show::{DroneLine, Listed, Name, Point, Show};
 use crtp_packets::MEMORY_BYTES;
 use cue_grid::{Cue, Grid, UnrollError, unroll};
-use figure_expand::{ExpandError, expand, expansion_law};
+use figure_expand::{expansion_law, range_fault, step};
 use fleet_math::MOST_SEGMENTS;
-use mm_rounding::{MicroPiece, round_piece, to_mm};
+use mm_rounding::{round_piece, short, to_mm};
 use std::alloc::{AllocError, Global};
-use traj_codec::{Traj, join_holds, segment_law, size_of, start_law};
+use traj_codec::{Segment, Traj, join_holds, segment_law, size_of, start_law};
 
-// A yaw in two bytes.
-fn yaw_of(v: i64) -> i16
-    requires { short v ≡ Some v }
-    ensures { result ≡ v }
+// Where a trajectory starts that begins at this point, if a trajectory can hold it.
+fn start_at(p: &Point) -> Option<[i16; 4]>
+    ensures { MatchOption result (StartsWell p.now → ⊥) (λ start. StartsWell p.now × (start ≡ start_at p.now) × AreNumbers 4 start) }
 {
-    i16::try_from(v).unwrap()
-}
-
-// Where a trajectory starts that begins at this point.
-fn start_at(p: &Point) -> [i16; 4]
-    requires { StartsWell p.now }
-    ensures exact { result ≡ start_at p.now }
-    ensures formed { AreNumbers 4 result }
-{
-    let x = to_mm(p.x).unwrap();
-    let y = to_mm(p.y).unwrap();
-    let z = to_mm(p.z).unwrap();
-    let start = [x, y, z, yaw_of(p.yaw)];
+    let x = to_mm(p.x)?;
+    let y = to_mm(p.y)?;
+    let z = to_mm(p.z)?;
+    let yaw = short(p.yaw)?;
+    let start = [x, y, z, yaw];
     start_law(start);
-    start
+    Some(start)
 }
 
-// The trajectory of a drone that starts at this point.
-fn trajectory_of(alloc: Global, start: &Point, pieces: &[MicroPiece]) -> Result<Traj, AllocError>
-    requires start { StartsWell start.now }
-    requires pieces { All RoundsWell pieces.now }
-    ensures exact { IfOk result (λ t. t ≡ trajectory_of start.now pieces.now) }
-    ensures formed { IfOk result IsTrajectory }
+// The segments of drone `d`, which is at this point before these cues, if a trajectory can hold them.
+fn segments_of(
+    alloc: Global,
+    start: &Point,
+    d: usize,
+    drones: usize,
+    cues: &[Cue],
+) -> Result<Option<Vec<Segment>>, AllocError>
+    requires start { IsPointUpTo (reach 0) start.now }
+    requires drone { d < drones }
+    requires few { length cues.now ≤ most_cues }
+    requires cues { FitCues drones cues.now }
+    ensures { IfOk result (λ found. MatchOption found (All RoundsWell (pieces_from start.now d cues.now) → ⊥)
+        (λ segments. All RoundsWell (pieces_from start.now d cues.now)
+        × (segments.items ≡ map segment_of (pieces_from start.now d cues.now)) × All IsSegment segments.items)) }
 {
-    let mut segments = Vec::new(alloc);
-    for piece in pieces {
-        let segment = round_piece(piece).unwrap();
+    let mut point = *start;
+    let mut segments = Vec::with_capacity(alloc, cues.len())?;
+    for cue in cues {
+        let piece = step(&mut point, d, cue);
+        let Some(segment) = round_piece(&piece) else {
+            return Ok(None);
+        };
         segment_law(segment);
         segments.push(segment)?;
     }
-    Ok(Traj {
-        start: start_at(start),
-        segments: Listed::from_vec(segments),
-    })
+    Ok(Some(segments))
 }
 
-// The trajectory of each drone.
-fn trajectories_of(
-    alloc: Global,
-    starts: &[DroneLine],
-    rows: &[Vec<MicroPiece>],
-) -> Result<Vec<Traj>, AllocError>
-    requires count { length rows.now ≡ length starts.now }
-    requires starts { All (λ (s : DroneLine). StartsWell s.at) starts.now }
-    requires pieces { All (All RoundsWell) (map (λ row. row.items) rows.now) }
-    ensures exact { IfOk result (λ ts. ts.items ≡ trajectories_of starts.now (map (λ row. row.items) rows.now)) }
-    ensures formed { IfOk result (λ ts. All IsTrajectory ts.items) }
+// The trajectory of drone `d` of a grid, if a trajectory can hold its numbers.
+fn trajectory_of(alloc: Global, grid: &Grid, d: usize) -> Result<Option<Traj>, AllocError>
+    requires whole { IsGrid grid.now }
+    requires drone { d < length grid.now.starts }
+    ensures { IfOk result (λ found. MatchOption found (FitsDrone grid.now d → ⊥)
+        (λ t. FitsDrone grid.now d × (t ≡ flight grid.now d) × IsTrajectory t)) }
 {
-    let mut trajs = Vec::new(alloc);
-    for d in 0..starts.len() {
-        let t = trajectory_of(alloc, &starts[d].at, rows[d].as_slice())?;
-        trajs.push(t)?;
+    let starts = grid.starts.as_slice();
+    let at = &starts[d].at;
+    let Some(start) = start_at(at) else {
+        return Ok(None);
+    };
+    let found = segments_of(alloc, at, d, starts.len(), grid.cues.as_slice())?;
+    let Some(segments) = found else {
+        return Ok(None);
+    };
+    Ok(Some(Traj {
+        start,
+        segments: Listed::from_vec(segments),
+    }))
+}
+
+// The trajectory of each drone of a grid, if a trajectory can hold its numbers.
+fn trajectories_of(alloc: Global, grid: &Grid) -> Result<Option<Vec<Traj>>, AllocError>
+    requires { IsGrid grid.now }
+    ensures { IfOk result (λ found. MatchOption found (range_fault grid.now ≡ None → ⊥)
+        (λ ts. (range_fault grid.now ≡ None) × (ts.items ≡ by_cue grid.now) × All IsTrajectory ts.items)) }
+{
+    expansion_law();
+    let drones = grid.starts.as_slice().len();
+    let mut trajs = Vec::with_capacity(alloc, drones)?;
+    for d in 0..drones {
+        match trajectory_of(alloc, grid, d)? {
+            Some(t) => trajs.push(t)?,
+            None => return Ok(None),
+        }
     }
-    Ok(trajs)
+    Ok(Some(trajs))
 }
 
 // The trajectories with whole holds that follow each other joined.
@@ -161,37 +185,50 @@ fn duration_of(cues: &[Cue]) -> u32
     total
 }
 
-// What becomes of a show whose pieces a trajectory can hold.
-fn fitted(
-    alloc: Global,
-    show: &Show,
-    grid: &Grid,
-    rows: &[Vec<MicroPiece>],
-) -> Result<Fitted, FitError>
+// Why a grid of which a trajectory can't hold a number has no plan.
+fn out_of_range(alloc: Global, grid: &Grid) -> FitError
+    requires whole { IsGrid grid.now }
+    requires unheld { range_fault grid.now ≡ None → ⊥ }
+    ensures { (s : PlainShow) → grid_fault s ≡ None → grid.now ≡ grid_of s → FitGives (Err result) s }
+{
+    match range_fault(alloc, grid) {
+        Ok(Some(value)) => FitError::Fault {
+            fault: PlanFault::OutOfRange { value },
+        },
+        Ok(None) => unreachable!(),
+        Err(_) => FitError::Memory,
+    }
+}
+
+// What becomes of a show whose trajectories hold all its numbers.
+fn fitted(alloc: Global, show: &Show, grid: Grid, trajs: Vec<Traj>) -> Result<Fitted, FitError>
     requires valid { IsValid (plain show.now) }
     requires unrolled { grid_fault (plain show.now) ≡ None }
-    requires is { grid.now ≡ grid_of (plain show.now) }
-    requires whole { IsGrid grid.now }
-    requires held { range_fault grid.now ≡ None }
-    requires pieces { map (λ row. row.items) rows.now ≡ expanded grid.now }
+    requires is { grid ≡ grid_of (plain show.now) }
+    requires whole { IsGrid grid }
+    requires held { range_fault grid ≡ None }
+    requires trajs { trajs.items ≡ by_cue grid }
+    requires formed { All IsTrajectory trajs.items }
     ensures gives { FitGives result (plain show.now) }
     ensures formed { IfOk result (λ f. All IsTrajectory f.trajs) }
 {
-    expansion_law();
-    let starts = grid.starts.as_slice();
-    let cues = grid.cues.as_slice();
-    let trajs = trajectories_of(alloc, starts, rows)?;
-    let sent = joined_all(alloc, trajs.as_slice())?;
+    let names = names_of(alloc, grid.starts.as_slice())?;
+    let all = grid.cues.as_slice();
+    let cues = all.len() as u16;
+    let duration = duration_of(all);
+    // Its memory is used again for what is sent.
+    drop(grid);
+    let flown = trajs.as_slice();
+    let sent = joined_all(alloc, flown)?;
     let room = MEMORY_BYTES as u32 - u32::from(show.settings.offset);
     if let Some(fault) = first_unsendable(room, sent.as_slice()) {
         return Err(FitError::Fault { fault });
     }
-    let names = names_of(alloc, starts)?;
     Ok(Fitted {
         settings: show.settings,
         names: Listed::from_vec(names),
-        cues: cues.len() as u16,
-        duration: duration_of(cues),
+        cues,
+        duration,
         trajs: Listed::from_vec(trajs),
         sent: Listed::from_vec(sent),
     })
@@ -218,14 +255,8 @@ pub fn fit(alloc: Global, show: &Show) -> Result<Fitted, FitError>
         }
         Err(UnrollError::Memory) => return Err(FitError::Memory),
     };
-    let rows = match expand(alloc, &grid) {
-        Ok(rows) => rows,
-        Err(ExpandError::OutOfRange { value }) => {
-            return Err(FitError::Fault {
-                fault: PlanFault::OutOfRange { value },
-            });
-        }
-        Err(ExpandError::Memory) => return Err(FitError::Memory),
-    };
-    fitted(alloc, show, &grid, rows.as_slice())
+    match trajectories_of(alloc, &grid)? {
+        Some(trajs) => fitted(alloc, show, grid, trajs),
+        None => Err(out_of_range(alloc, &grid)),
+    }
 }

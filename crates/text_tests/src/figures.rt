@@ -1,7 +1,9 @@
 //! Shows by their texts: the control values of their figures, or the first value that no trajectory can hold.
+ghost use Rattle.cue_grid.specs.Grids.{IsGrid};
+
 use choreo_reader::read_show;
-use cue_grid::unroll;
-use figure_expand::{AxisValue, ExpandError, expand};
+use cue_grid::{Grid, unroll};
+use figure_expand::{AxisValue, range_fault, step};
 use mm_rounding::{Axis, MicroPiece};
 use std::alloc::Global;
 
@@ -25,21 +27,24 @@ fn outcome_of(alloc: Global, text: &[u8]) -> Outcome {
         Ok(grid) => grid,
         Err(_) => return Outcome::Other,
     };
-    match expand(alloc, &grid) {
-        Ok(rows) => last_piece(&rows),
-        Err(ExpandError::OutOfRange { value }) => Outcome::OutOfRange(value),
-        Err(ExpandError::Memory) => Outcome::Other,
+    match range_fault(alloc, &grid) {
+        Ok(None) => last_piece(&grid),
+        Ok(Some(value)) => Outcome::OutOfRange(value),
+        Err(_) => Outcome::Other,
     }
 }
 
-fn last_piece(rows: &[Vec<MicroPiece>]) -> Outcome {
-    match rows.first() {
-        Some(row) => match row.last() {
-            Some(piece) => Outcome::Piece(*piece),
-            None => Outcome::Other,
-        },
-        None => Outcome::Other,
+// What the first drone does in the last of one or two cues.
+fn last_piece(grid: &Grid) -> Outcome
+    requires { IsGrid grid.now }
+{
+    let cues = grid.cues.as_slice();
+    let mut point = grid.starts.as_slice()[0].at;
+    let first = step(&mut point, 0, &cues[0]);
+    if cues.len() > 1 {
+        return Outcome::Piece(step(&mut point, 0, &cues[1]));
     }
+    Outcome::Piece(first)
 }
 
 fn piece(axes: [Axis; 4]) -> Outcome {

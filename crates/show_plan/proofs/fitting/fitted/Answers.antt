@@ -1,46 +1,43 @@
 use Rattle.std.proofs.lemmas.Grind.{common_steps}
-use Rattle.std.proofs.Common.{◌≤◌, ◌∙◌, List, length, sum, sym, ap, subst, arith}
+use Rattle.std.proofs.Common.{◌≡◌, None, ◌≤◌, ◌∙◌, List, length, map, sum, ap, sym, subst, arith}
 use Rattle.std.specs.List.{All}
-use Rattle.choreo_show.specs.declared.show.DroneLine.{DroneLine}
 use Rattle.traj_codec.specs.declared.traj.Traj.{Traj}
-use Rattle.figure_expand.specs.Flown.{StartsWell, RoundsWell}
-use Rattle.show_plan.specs.Fitting.{IsFlown}
+use Rattle.choreo_show.specs.Plain.{plain}
+use Rattle.cue_grid.specs.Cues.{grid_of}
+use Rattle.cue_grid.specs.declared.grid.Cue.{Cue}
+use Rattle.cue_grid.specs.declared.grid.Grid.{Grid}
+use Rattle.show_plan.specs.Fitting.{IsFlown, plan_fault}
 use Rattle.show_plan.proofs.Flight.{sent_counted}
-use Rattle.show_plan.proofs.Sendable.{same_count, rows_counted, all_are, fits_given, flown, has_segments, sent_are, sent_flown, unsendable_given}
+use Rattle.show_plan.proofs.Sendable.{fits_given, flown, has_segments, sent_are, sent_flown, unsendable_given}
 use Rattle.show_plan.proofs.fitting.fitted.Goals as goal
-
-pub trajectories_of-requires-clause-count : goal.trajectories_of-requires-clause-count
-trajectories_of-requires-clause-count c =
-    same_count c.args.rows.now _ c.requires.pieces ∙ rows_counted c.args.grid.now ∙ sym (ap (λ (starts : List DroneLine). length starts) c.as_slice-starts.ensures)
-
-pub trajectories_of-requires-clause-starts : goal.trajectories_of-requires-clause-starts
-trajectories_of-requires-clause-starts c =
-    let fits = c.expansion_law.ensures.fits c.args.grid.now c.requires.whole c.requires.held in
-    subst (All (λ (s : DroneLine). StartsWell s.at)) (sym c.as_slice-starts.ensures) fits.starts
-
-pub trajectories_of-requires-clause-pieces : goal.trajectories_of-requires-clause-pieces
-trajectories_of-requires-clause-pieces c =
-    let fits = c.expansion_law.ensures.fits c.args.grid.now c.requires.whole c.requires.held in
-    subst (All (All RoundsWell)) (sym c.requires.pieces) fits.pieces
 
 pub joined_all-requires-clause-some : goal.joined_all-requires-clause-some
 joined_all-requires-clause-some c =
-    let all = all_are c.args.grid.now c.as_slice-starts.result.now _ c.as_slice.result.now c.as_slice-starts.ensures c.requires.pieces (c.as_slice.ensures.value ∙ c.in_ok-trajs.ensures.exact) in
-    subst (All (λ (t : Traj). 1 ≤ length t.segments)) (sym all) (has_segments c.args.grid.now c.requires.whole)
+    subst (All (λ (t : Traj). 1 ≤ length t.segments)) (sym (c.as_slice-flown.ensures.value ∙ c.requires.trajs)) (has_segments c.args.grid c.requires.whole)
 
 pub joined_all-requires-clause-flown : goal.joined_all-requires-clause-flown
-joined_all-requires-clause-flown c =
-    let all = all_are c.args.grid.now c.as_slice-starts.result.now _ c.as_slice.result.now c.as_slice-starts.ensures c.requires.pieces (c.as_slice.ensures.value ∙ c.in_ok-trajs.ensures.exact) in
-    subst (All IsFlown) (sym all) (flown c.args.grid.now c.requires.whole)
+joined_all-requires-clause-flown c = subst (All IsFlown) (sym (c.as_slice-flown.ensures.value ∙ c.requires.trajs)) (flown c.args.grid c.requires.whole)
 
 pub first_unsendable-requires-clause-few : goal.first_unsendable-requires-clause-few
-first_unsendable-requires-clause-few c = grind (arith, common_steps, all_are, sent_are, sent_counted)
+first_unsendable-requires-clause-few c = grind (arith, common_steps, sent_are, sent_counted)
 
 pub first_unsendable-requires-clause-flown : goal.first_unsendable-requires-clause-flown
-first_unsendable-requires-clause-flown c = grind (arith, common_steps, all_are, sent_are, sent_flown)
+first_unsendable-requires-clause-flown c = grind (arith, common_steps, sent_are, sent_flown)
 
 pub returns-in-Some : goal.returns-in-Some
-returns-in-Some c = grind (arith, common_steps, all_are, sent_are, unsendable_given)
+returns-in-Some c = grind (arith, common_steps, sent_are, unsendable_given)
 
 pub returns-clause-gives : goal.returns-clause-gives
-returns-clause-gives c = grind (arith, common_steps, all_are, sent_are, fits_given, sum)
+returns-clause-gives c =
+    let none : plan_fault (plain c.args.show.now) ≡ None = grind (arith, common_steps, sent_are, fits_given) in
+    let all : c.as_slice-all.result.now ≡ (grid_of (plain c.args.show.now)).cues = c.as_slice-all.ensures ∙ ap (λ (g : Grid). g.cues) c.requires.is in (
+      none,
+      record {
+        settings = grind (arith, common_steps);
+        names = grind (arith, common_steps);
+        cues = omega (arith, ap (λ (cues : List Cue). length cues) all, c.requires.whole.few_cues, ap (λ (g : Grid). length g.cues) c.requires.is);
+        duration = c.duration_of-duration.ensures ∙ ap (λ (cues : List Cue). sum (map (λ (cue : Cue). cue.ms) cues)) all;
+        trajs = grind (arith, common_steps);
+        sent = grind (arith, common_steps, sent_are);
+      },
+    )

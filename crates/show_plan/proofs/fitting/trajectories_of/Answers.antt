@@ -1,20 +1,46 @@
-use Rattle.std.proofs.Common.{All, [], ◌∷◌, ◌∙◌, arith, subst, sym}
-use Rattle.std.proofs.lemmas.List.Elements.{All-append, All-cons, All-nil}
+use Rattle.std.proofs.Common.{◌≡◌, ◌<◌, List, [], ◌∷◌, ◌++◌, length, take, sym, ap, ◌∙◌, subst, arith}
+use Rattle.std.specs.List.{All}
+use Rattle.std.proofs.lemmas.List.{take_more, take_all}
+use Rattle.std.proofs.lemmas.List.Elements.{All-push}
+use Rattle.fleet_math.proofs.BernsteinLemmas.{by_lt}
+use Rattle.choreo_show.specs.declared.show.DroneLine.{DroneLine}
+use Rattle.traj_codec.specs.declared.traj.Traj.{Traj}
 use Rattle.traj_codec.specs.Spelling.{IsTrajectory}
-use Rattle.show_plan.proofs.Sendable.{row_at, row_holds, trajectory_next}
+use Rattle.show_plan.specs.Flight.{no_trajectory}
+use Rattle.show_plan.specs.Steps.{FitsDrone}
+use Rattle.show_plan.specs.Trajectories.{by_cue}
+use Rattle.show_plan.proofs.Flight.{all_fit, by_cue_counted, drone_fits, flight_at_is}
+use Rattle.show_plan.proofs.Sendable.{none_of, some_of}
 use Rattle.show_plan.proofs.fitting.trajectories_of.Goals as goal
 
-pub trajectory_of-requires-clause-pieces : goal.trajectory_of-requires-clause-pieces
-trajectory_of-requires-clause-pieces c =
-    row_holds c.args.rows.now c.loop-d.d c.index-rows-d.result c.as_slice.result.now (omega (arith, c.requires.count, c.loop-d-test.true)) c.index-rows-d.is c.as_slice.ensures.value c.requires.pieces
+pub returns-in-None : goal.returns-in-None
+returns-in-None c held =
+    let drones = ap (λ (starts : List DroneLine). length starts) c.as_slice-drones.ensures in
+    none_of c.in_ok-t.field-0 _ _ c.in-None.is c.in_ok-t.ensures
+    (drone_fits c.args.grid.now c.loop-d.d (omega (arith, drones)) (c.expansion_law.ensures.fits c.args.grid.now c.requires held))
 
 pub loop-d-preserved : goal.loop-d-preserved
-loop-d-preserved c = (
-  trajectory_next c.loop-d.trajs.items c.push.new.self.items c.args.starts.now c.args.rows.now c.loop-d.d c.index-starts-d.result c.as_slice.result.now c.in_ok-t.t
-      c.loop-d-test.true c.requires.count
-      (row_at c.args.rows.now c.loop-d.d c.index-rows-d.result c.as_slice.result.now (omega (arith, c.requires.count, c.loop-d-test.true)) c.index-rows-d.is c.as_slice.ensures.value)
-      c.in_ok-t.ensures.exact c.in_ok-push.ensures.items
-      ∙ c.loop-d.invariant.0,
-  subst (All IsTrajectory) (sym c.in_ok-push.ensures.items)
-      (All-append IsTrajectory c.loop-d.trajs.items (c.in_ok-t.t ∷ []) c.loop-d.invariant.1 (All-cons IsTrajectory c.in_ok-t.t [] c.in_ok-t.ensures.formed (All-nil IsTrajectory))),
-)
+loop-d-preserved c =
+    let g = c.args.grid.now in
+    let d = c.loop-d.d in
+    let drones = ap (λ (starts : List DroneLine). length starts) c.as_slice-drones.ensures in
+    let drone : d < length g.starts = omega (arith, drones) in
+    let found = some_of c.in_ok-t.field-0 _ _ c.in-Some.t c.in-Some.is c.in_ok-t.ensures in
+    record {
+      so_far =
+          c.in_ok-push-in-Some.ensures.items
+          ∙ ap (λ (ts : List Traj). ts ++ c.in-Some.t ∷ []) c.loop-d.invariant.so_far
+          ∙ ap (λ (t : Traj). take d (by_cue g) ++ t ∷ []) (found.1 ∙ sym (flight_at_is g d drone))
+          ∙ sym (take_more (by_cue g) d no_trajectory (omega (arith, by_cue_counted g)));
+      formed = subst (All IsTrajectory) (sym c.in_ok-push-in-Some.ensures.items) (All-push IsTrajectory c.loop-d.trajs.items c.in-Some.t c.loop-d.invariant.formed found.2);
+      fit = λ k small. by_lt k d (λ (before : k < d). c.loop-d.invariant.fit k before) (λ above. let e : d ≡ k = omega arith in subst (FitsDrone g) e found.0);
+    }
+
+pub returns : goal.returns
+returns c =
+    let g = c.args.grid.now in
+    let drones = ap (λ (starts : List DroneLine). length starts) c.as_slice-drones.ensures in (
+      c.expansion_law.ensures.held g c.requires (all_fit g (λ d drone. c.loop-d.invariant.fit d (omega (arith, drones)))),
+      c.loop-d.invariant.so_far ∙ take_all c.loop-d.d (by_cue g) (omega (arith, drones, by_cue_counted g)),
+      c.loop-d.invariant.formed,
+    )

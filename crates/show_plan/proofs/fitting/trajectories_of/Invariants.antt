@@ -1,10 +1,13 @@
-use Rattle.std.proofs.Common.{◌≡◌, All, ◌++◌, map, drop}
+use Rattle.std.proofs.Common.{◌≡◌, ℕ, ◌<◌, All, take}
 use Rattle.traj_codec.specs.Spelling.{IsTrajectory}
-use Rattle.show_plan.specs.Trajectories.{trajectories_of}
+use Rattle.show_plan.specs.Steps.{FitsDrone}
+use Rattle.show_plan.specs.Trajectories.{by_cue}
 use Rattle.show_plan.proofs.fitting.trajectories_of.Given as goal
 
 -- the trajectories so far
 abbrev pub invariant-loop-d : goal.invariant-loop-d
-invariant-loop-d l =
-    (l.trajs.items ++ trajectories_of (drop l.d l.starts) (drop l.d (map (λ row. row.items) l.rows)) ≡ trajectories_of l.starts (map (λ row. row.items) l.rows))
-    × All IsTrajectory l.trajs.items
+invariant-loop-d l = record {
+  so_far : l.trajs.items ≡ take l.d (by_cue l.grid);
+  formed : All IsTrajectory l.trajs.items;
+  fit : (k : ℕ) → k < l.d → FitsDrone l.grid k;
+}
