@@ -6,8 +6,9 @@ use Rattle.std.proofs.lemmas.Bool.{and_parts}
 use Rattle.choreo_lines.specs.Name.{Name, is_name}
 use Rattle.choreo_lines.specs.FirstWord.{keyword_of}
 use Rattle.choreo_lines.specs.Table.{Word, word, row_of, has_count, may_stand, as_read}
-use Rattle.choreo_lines.specs.Fields.{◌>>=◌, name_in, values_in, names_in, entry_with, act_in, act_line, row_line, line_in, line_at, entry_of}
-use Rattle.choreo_lines.specs.Says.{keyword_in, may_say}
+use Rattle.choreo_lines.specs.Values.{keyword_in, entry_with}
+use Rattle.choreo_lines.specs.Fields.{◌>>=◌, name_in, values_in, names_in, act_in, act_line, row_line, line_in, line_at, entry_of}
+use Rattle.choreo_lines.specs.Says.{may_say}
 use Rattle.choreo_lines.specs.declared.line.LineKind.{LineKind}
 use Rattle.choreo_lines.specs.declared.line.LineKind.TheVariants as kind
 use Rattle.choreo_lines.specs.declared.line.Keyword.{Keyword}

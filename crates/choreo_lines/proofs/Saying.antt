@@ -1,17 +1,17 @@
 -- The words of a line say an entry exactly where the line is read as that entry.
 use Rattle.std.proofs.lemmas.Grind.{common_steps}
-use Rattle.std.proofs.Common.{◌≡◌, ℕ, suc, ◌+◌, ◌≤◌, Bool, true, false, List, [], ◌∷◌, ◌++◌, map, take, drop, Some, None, Option, Result, Ok, Err, refl, sym, ap, ap₂, subst, ◌∙◌, cond, arith, eqb-true, eq-eqb, le-leb}
+use Rattle.std.proofs.Common.{◌≡◌, ℕ, suc, ◌+◌, ◌≤◌, Bool, true, false, List, [], ◌∷◌, ◌++◌, map, take, drop, Some, None, Option, Result, Ok, Err, refl, sym, ap, subst, ◌∙◌, cond, arith, eqb-true, eq-eqb, le-leb}
 use Rattle.std.specs.Prelude.{◌&&◌, ◌==◌, bytes_eq, codes, length, nat_le, nat_abs, ℤ, pos, negsuc, ◌≤ℤ◌, IsTrue}
 use Rattle.std.proofs.lemmas.Bool.{and_parts, leb-true}
 use Rattle.std.proofs.lemmas.Slice.Eq.{bytes_eq-Decides}
-use Rattle.std.proofs.lemmas.List.{drop_all, append-nil}
+use Rattle.std.proofs.lemmas.List.{drop_all, take_all, append-nil}
 use Rattle.text_lines.specs.declared.number.NumberFault.{NumberFault}
 use Rattle.text_lines.proofs.NumberLaws.{read_is_number, number_is_read}
 use Rattle.choreo_lines.specs.Name.{Name, is_name}
 use Rattle.choreo_lines.specs.Table.{Word, word, Row, row_of, act_places, has_count, act_of}
-use Rattle.choreo_lines.specs.Fields.{◌>>=◌, judged, name_in, mirror_in, smooth_in, ccw_in, value_in, values_in, names_in, name_of, act_with, entry_with, act_by, act_in, act_line, row_line, entry_of}
-use Rattle.choreo_lines.specs.Says.{Holds, AllHold, act_fields, fields_of, keyword_in, SaysAct, Says, may_say}
-use Rattle.choreo_lines.specs.Steps.{Fits, AllFit}
+use Rattle.choreo_lines.specs.Values.{Fits, AllFit, name_of, act_fields, act_with, keyword_in, fields_of, entry_with}
+use Rattle.choreo_lines.specs.Fields.{◌>>=◌, judged, name_in, mirror_in, smooth_in, ccw_in, value_in, values_in, names_in, act_by, act_in, act_line, row_line, entry_of}
+use Rattle.choreo_lines.specs.Says.{Holds, AllHold, SaysAct, Says, may_say}
 use Rattle.choreo_lines.proofs.Reading.{two, passed, name_read, acted, Rowed, rowed, IsRead, read_of, read_entry}
 use Rattle.choreo_lines.specs.declared.line.LineKind.{LineKind}
 use Rattle.choreo_lines.specs.declared.line.LineKind.TheVariants as kind
@@ -21,7 +21,6 @@ use Rattle.choreo_lines.specs.declared.line.Place.{Place}
 use Rattle.choreo_lines.specs.declared.line.Entry.{Entry}
 use Rattle.choreo_lines.specs.declared.line.Entry.TheVariants as entry
 use Rattle.choreo_lines.specs.declared.parts.Act.{Act}
-use Rattle.choreo_lines.specs.declared.parts.Act.TheVariants as act
 use Rattle.choreo_lines.specs.declared.parts.Mirror.{Mirror}
 use Rattle.choreo_lines.specs.declared.parts.Mirror.TheVariants as mirror
 use Rattle.choreo_lines.specs.declared.table.Want.{Want}
@@ -80,24 +79,19 @@ holds_fits want.Sense w (Ccw c) h = tt
 holds_fits (want.Number low high) w (Number v) h = (h.from, h.to)
 holds_fits wanted w v h = absurd h
 
-pub values_fit : (wants : List Want) (ws : List Word) (vs : List Value) → values_in wants ws ≡ Ok vs → AllFit wants vs
+-- values that are read fit their places, one each
+pub values_fit : (wants : List Want) (ws : List Word) (vs : List Value) → values_in wants ws ≡ Ok vs → AllFit wants vs × (length vs ≡ length wants)
 unfolding values_in
-values_fit [] ws vs h = let same : [] ≡ vs = cc in subst (AllFit []) same tt
+values_fit [] ws vs h = let same : [] ≡ vs = cc in subst (λ xs. AllFit [] xs × (length xs ≡ 0)) same (tt, refl)
 values_fit (wanted ∷ more) ws vs h =
     let p = two (value_in wanted (word ws 0)) (λ v. values_in more (drop 1 ws) >>= (λ xs. Ok (v ∷ xs))) vs h in
     let q = two (values_in more (drop 1 ws)) (λ xs. Ok (p.a ∷ xs)) vs p.then in
     let same : p.a ∷ q.a ≡ vs = cc in
     let first = holds_fits wanted (word ws 0) p.a (value_holds wanted (word ws 0) p.a p.first) in
-    subst (AllFit (wanted ∷ more)) same (first, values_fit more (drop 1 ws) q.a q.first)
+    let later = values_fit more (drop 1 ws) q.a q.first in
+    subst (λ xs. AllFit (wanted ∷ more) xs × (length xs ≡ suc (length more))) same ((first, later.0), ap suc later.1)
 
--- values that fit these places, and names after the last one
-abbrev pub FitNamed : List Want → List Value → Type 0
-FitNamed [] [] = Unit {0}
-FitNamed [] (v ∷ vs) = Fits want.Name v × FitNamed [] vs
-FitNamed (wanted ∷ more) (v ∷ vs) = Fits wanted v × FitNamed more vs
-FitNamed wants vs = ⊥
-
-pub held_fit : (wants : List Want) (ws : List Word) (vs : List Value) → AllHold wants ws vs → FitNamed wants vs
+pub held_fit : (wants : List Want) (ws : List Word) (vs : List Value) → AllHold wants ws vs → AllFit wants vs
 held_fit [] [] [] h = tt
 held_fit [] (w ∷ ws) (v ∷ vs) h = (holds_fits want.Name w v h.0, held_fit [] ws vs h.1)
 held_fit (wanted ∷ more) (w ∷ ws) (v ∷ vs) h = (holds_fits wanted w v h.0, held_fit more ws vs h.1)
@@ -178,84 +172,30 @@ held_length [] (w ∷ ws) (v ∷ vs) h = ap suc (held_length [] ws vs h.1)
 held_length (wanted ∷ more) (w ∷ ws) (v ∷ vs) h = ap suc (held_length more ws vs h.1)
 held_length wants ws vs h = absurd h
 
--- ten places hold no fewer values
-pub no_curve : (ws : List Word) → AllHold (act_places word_of.Curve) ws [] → ⊥
-no_curve [] h = h
-no_curve (w ∷ ws) h = h
-
--- What is so for all values that fit their places.
-
-abbrev Each : Want → (Value → Type 0) → Type 0
-Each want.Name P = (n : Name) → P (Named n)
-Each want.Mirror P = (m : Mirror) → P (Mirrored m)
-Each want.Manner P = (s : Bool) → P (Smooth s)
-Each want.Sense P = (c : Bool) → P (Ccw c)
-Each (want.Number low high) P = (v : ℤ) → low ≤ℤ v → P (Number v)
-
-abbrev Every : List Want → (List Value → Type 0) → Type 0
-Every [] P = P []
-Every (wanted ∷ more) P = Each wanted (λ v. Every more (λ vs. P (v ∷ vs)))
-
-each : (wanted : Want) (P : Value → Type 0) → Each wanted P → (v : Value) → Fits wanted v → P v
-each want.Name P h (Named n) f = h n
-each want.Mirror P h (Mirrored m) f = h m
-each want.Manner P h (Smooth s) f = h s
-each want.Sense P h (Ccw c) f = h c
-each (want.Number low high) P h (Number v) f = h v f.0
-each wanted P h v f = absurd f
-
-every : (wants : List Want) (P : List Value → Type 0) → Every wants P → (vs : List Value) → AllFit wants vs → P vs
-every [] P h [] f = h
-every (wanted ∷ more) P h (v ∷ vs) f = every more (λ xs. P (v ∷ xs)) (each wanted (λ x. Every more (λ xs. P (x ∷ xs))) h v f.0) vs f.1
-every wants P h vs f = absurd f
-
--- An entry of these values has these values.
+-- Values that fit their places are those of what they denote.
 
 same_number : (low : ℕ) (v : ℤ) → pos low ≤ℤ v → pos (nat_abs v) ≡ v
 same_number low (pos n) h = refl
 same_number low (negsuc n) h = absurd h.le
 
+-- what is so for all values that fit their places, one each
+abbrev Every : List Want → (List Value → Type 0) → Type 0
+Every [] P = P []
+Every (wanted ∷ more) P = (v : Value) → Fits wanted v → Every more (λ vs. P (v ∷ vs))
+
+every : (wants : List Want) (P : List Value → Type 0) → Every wants P → (vs : List Value) → AllFit wants vs → length vs ≡ length wants → P vs
+every [] P h [] f l = h
+every [] P h (v ∷ vs) f l = absurd (omega arith)
+every (wanted ∷ more) P h [] f l = absurd f
+every (wanted ∷ more) P h (v ∷ vs) f l = every more (λ xs. P (v ∷ xs)) (h v f.0) vs f.1 (omega arith)
+
 act_apart : (k : ActWord) → Every (act_places k) (λ vs. act_fields (act_with k vs) ≡ (k, vs))
 act_apart word_of.Hold = refl
-act_apart word_of.Line = λ x p y q z r yaw s. refl
-act_apart word_of.Move = λ x p y q z r yaw s. refl
-act_apart word_of.Turn = λ yaw s. refl
-act_apart word_of.Arc = λ c x p y q yaw s. refl
-act_apart word_of.Curve = λ x1 p1 y1 q1 z1 r1 x2 p2 y2 q2 z2 r2 x p y q z r yaw s. refl
+act_apart k = grind (arith, common_steps)
 
 -- where names follow, they come last
-abbrev IsApart : Keyword → List Name → List Value → Type 0
-IsApart k ns vs = fields_of (entry_with k vs ns) ≡ vs ++ map Named ns
-
-one_number : (low : ℕ) (v : ℤ) → pos low ≤ℤ v → Number (pos (nat_abs v)) ∷ [] ≡ Number v ∷ []
-one_number low v p = ap (λ x. Number x ∷ []) (same_number low v p)
-
-two_numbers : (low : ℕ) (v u : ℤ) → pos low ≤ℤ v → pos low ≤ℤ u → Number (pos (nat_abs v)) ∷ Number (pos (nat_abs u)) ∷ [] ≡ Number v ∷ Number u ∷ []
-two_numbers low v u p q = ap₂ (λ x y. Number x ∷ Number y ∷ []) (same_number low v p) (same_number low u q)
-
--- lines after which no name stands
-alone : (k : Keyword) → (row_of k).names ≡ 0 → Every (row_of k).places (IsApart k [])
-alone first.Memory none = λ id f offset g. two_numbers 0 id offset f g
-alone first.Trajectory none = λ id f. one_number 0 id f
-alone first.Ellipsoid none = λ r f h g. two_numbers 1 r h f g
-alone first.Stray none = λ mm f. one_number 0 mm f
-alone first.Late none = λ ms f. one_number 0 ms f
-alone first.Drone none = λ n x p y q z r yaw s. refl
-alone first.Formation none = λ n. refl
-alone first.At none = λ n x p y q z r yaw s. refl
-alone first.Figure none = cc
-alone first.Cue none = λ ms f. one_number 1 ms f
-alone first.Repeat none = λ times f. one_number 1 times f
-alone first.Perform none = cc
-alone first.Form none = λ n s. refl
-alone first.End none = refl
-alone first.Other none = refl
-
-apart : (k : Keyword) (ns : List Name) → ((row_of k).names ≡ 0 → ns ≡ []) → Every (row_of k).places (IsApart k ns)
-apart first.Figure ns none = λ n. refl
-apart first.Perform ns none = λ n m t f x p y q z r.
-    ap (λ i. Named n ∷ Mirrored m ∷ Number i ∷ Number x ∷ Number y ∷ Number z ∷ map Named ns) (same_number 0 t f)
-apart k ns none = subst (λ xs. Every (row_of k).places (IsApart k xs)) (sym (none refl)) (alone k refl)
+entry_apart : (k : Keyword) (vs : List Value) (ns : List Name) → AllFit (row_of k).places vs → length vs ≡ length (row_of k).places → ((row_of k).names ≡ 0 → ns ≡ []) → fields_of (entry_with k vs ns) ≡ vs ++ map Named ns
+entry_apart k vs ns f l none = grind (arith, common_steps, same_number)
 
 -- How many words a line has.
 
@@ -283,7 +223,7 @@ row_held : (k : Keyword) (ws : List Word) (e : Entry) → Rowed k ws e → AllHo
 row_held k ws e r =
     let none = λ (z : (row_of k).names ≡ 0). no_names (drop (length (row_of k).places) ws) r.names r.named (none_left (row_of k) ws r.count z) in
     let fit = values_fit (row_of k).places ws r.values r.read in
-    let is = every (row_of k).places (IsApart k r.names) (apart k r.names none) r.values fit in
+    let is = entry_apart k r.values r.names fit.0 fit.1 none in
     subst (AllHold (row_of k).places ws) (sym is ∙ ap fields_of r.is)
     (values_hold (row_of k).places ws r.values r.names (has_places (row_of k) (length ws) r.count) r.read r.named)
 
@@ -299,7 +239,7 @@ act_held (Some k) x ws a e h =
     let same : act_with k q.a ≡ a = cc in
     let count = eqb-true (length ws) (length (act_places k)) p.0 in
     let fit = values_fit (act_places k) ws q.a q.first in
-    let is = every (act_places k) (λ vs. act_fields (act_with k vs) ≡ (k, vs)) (act_apart k) q.a fit in
+    let is = every (act_places k) (λ vs. act_fields (act_with k vs) ≡ (k, vs)) (act_apart k) q.a fit.0 fit.1 in
     subst (HasAct x ws) (sym is ∙ ap act_fields same) (e, act_values (act_places k) ws q.a count q.first)
 
 act_says : (ws : List Word) (a : Act) → act_in ws ≡ Ok a → SaysAct ws a
@@ -337,14 +277,16 @@ entry_again e o = refl
 act_by_read : (k : ActWord) (ws : List Word) (vs : List Value) → AllHold (act_places k) ws vs → length vs ≡ length (act_places k) → act_by (Some k) ws ≡ Ok (act_with k (take (length (act_places k)) vs))
 act_by_read k ws vs h e = grind (arith, common_steps, held_length, cond, eq-eqb, held_values)
 
+-- an act whose values fit their places is the one with these values
+act_again : (a : Act) → AllFit (act_places (act_fields a).0) (act_fields a).1 → (act_with (act_fields a).0 (act_fields a).1 ≡ a) × (length (act_fields a).1 ≡ length (act_places (act_fields a).0))
+act_again a f = grind (arith, common_steps)
+
 act_read : (a : Act) (ws : List Word) → AllHold (act_places (act_fields a).0) ws (act_fields a).1 → act_by (Some (act_fields a).0) ws ≡ Ok a
-act_read act.Hold ws h = act_by_read word_of.Hold ws [] h refl
-act_read (act.Line to) ws h = act_by_read word_of.Line ws _ h refl
-act_read (act.Move to) ws h = act_by_read word_of.Move ws _ h refl
-act_read (act.Turn yaw) ws h = act_by_read word_of.Turn ws _ h refl
-act_read (act.Arc ccw cx cy yaw) ws h = act_by_read word_of.Arc ws _ h refl
-act_read (act.Curve (x1 ∷ y1 ∷ z1 ∷ []) (x2 ∷ y2 ∷ z2 ∷ []) to) ws h = act_by_read word_of.Curve ws _ h refl
-act_read (act.Curve p1 p2 to) ws h = absurd (no_curve ws h)
+act_read a ws h =
+    let is = act_again a (held_fit (act_places (act_fields a).0) ws (act_fields a).1 h) in
+    act_by_read (act_fields a).0 ws (act_fields a).1 h is.1
+    ∙ ap (λ vs. Ok (act_with (act_fields a).0 vs)) (take_all (length (act_places (act_fields a).0)) (act_fields a).1 (omega (arith, is.1)))
+    ∙ ap (λ x. Ok x) is.0
 
 act_line_read : (w : Word) (ws : List Word) (n : Name) (a : Act) → Holds want.Name w (Named n) → SaysAct ws a → act_line (w ∷ ws) ≡ Ok (entry.One n a)
 unfolding act_line act_in

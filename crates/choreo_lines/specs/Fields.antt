@@ -1,5 +1,5 @@
 -- What the words of a line say by the table, or what is wrong with them: its places are read from the left.
-use Rattle.std.specs.Prelude.{ℕ, ◌+◌, ◌≡◌, Bool, true, false, List, [], ◌∷◌, length, get_or, drop, ◌==◌, nat_le, Option, Some, None, Result, Ok, Err, ℤ, pos, nat_abs, bytes_eq, codes, if◌then◌else◌}
+use Rattle.std.specs.Prelude.{◌≡◌, Bool, true, false, List, [], ◌∷◌, length, drop, ◌==◌, nat_le, Option, Some, None, Result, Ok, Err, ℤ, bytes_eq, codes, if◌then◌else◌}
 use Rattle.text_lines.specs.Numbers.{number_in as number_read}
 use Rattle.text_lines.specs.declared.number.NumberFault.{NumberFault}
 use Rattle.text_lines.specs.declared.number.NumberFault.TheVariants.{NotANumber, OutOfRange}
@@ -10,7 +10,6 @@ use Rattle.choreo_lines.specs.declared.table.Want.TheVariants as want
 use Rattle.choreo_lines.specs.declared.table.Value.{Value}
 use Rattle.choreo_lines.specs.declared.table.Value.TheVariants.{Name as Named, Mirror as Mirrored, Smooth, Ccw, Number}
 use Rattle.choreo_lines.specs.declared.table.ActWord.{ActWord}
-use Rattle.choreo_lines.specs.declared.table.ActWord.TheVariants as word_of
 use Rattle.choreo_lines.specs.declared.line.LineKind.{LineKind}
 use Rattle.choreo_lines.specs.declared.line.LineKind.TheVariants as kind
 use Rattle.choreo_lines.specs.declared.line.LineError.{LineError}
@@ -21,11 +20,10 @@ use Rattle.choreo_lines.specs.declared.line.Place.{Place}
 use Rattle.choreo_lines.specs.declared.line.Entry.{Entry}
 use Rattle.choreo_lines.specs.declared.line.Entry.TheVariants as entry
 use Rattle.choreo_lines.specs.declared.parts.Act.{Act}
-use Rattle.choreo_lines.specs.declared.parts.Act.TheVariants as act
-use Rattle.choreo_lines.specs.declared.parts.Point.{Point}
 use Rattle.choreo_lines.specs.declared.parts.Mirror.{Mirror}
 use Rattle.choreo_lines.specs.declared.parts.Mirror.TheVariants as mirror
 use Rattle.choreo_lines.specs.Table.{Word, word, row_of, has_count, act_of, act_places, may_stand, as_read}
+pub use Rattle.choreo_lines.specs.Values.{number_at, natural_at, name_at, mirror_at, smooth_at, ccw_at, point_at, triple_at, act_with, entry_with}
 
 -- a step, and then the next with what it gave, or the first fault
 infixl 10 ◌>>=◌
@@ -105,98 +103,6 @@ values_in (wanted ∷ more) ws = value_in wanted (word ws 0) >>= (λ v. values_i
 unfoldable pub names_in : List Word → Result (List Name) LineKind
 names_in [] = Ok []
 names_in (w ∷ ws) = name_in w >>= (λ n. names_in ws >>= (λ ns. Ok (n ∷ ns)))
-
--- What the values of a line denote.
-
--- a number, or 0
-abbrev pub number_of : Value → ℤ
-number_of (Number v) = v
-number_of v = pos 0
-
--- a sense, or clockwise
-abbrev pub ccw_of : Value → Bool
-ccw_of (Ccw c) = c
-ccw_of v = false
-
--- a manner, or evenly
-abbrev pub smooth_of : Value → Bool
-smooth_of (Smooth s) = s
-smooth_of v = false
-
--- a mirror, or none
-abbrev pub mirror_of : Value → Mirror
-mirror_of (Mirrored m) = m
-mirror_of v = mirror.None
-
--- a name, or no bytes
-abbrev pub name_of : Value → Name
-name_of (Named n) = n
-name_of v = record { items = [] }
-
--- the value at a place
-abbrev pub value_at : List Value → ℕ → Value
-value_at vs k = get_or vs k (Number (pos 0))
-
--- the number at a place
-abbrev pub number_at : List Value → ℕ → ℤ
-number_at vs k = number_of (value_at vs k)
-
--- the same where it is not negative
-abbrev pub natural_at : List Value → ℕ → ℕ
-natural_at vs k = nat_abs (number_at vs k)
-
--- the name at a place
-abbrev pub name_at : List Value → ℕ → Name
-name_at vs k = name_of (value_at vs k)
-
--- the mirror at a place
-abbrev pub mirror_at : List Value → ℕ → Mirror
-mirror_at vs k = mirror_of (value_at vs k)
-
--- the manner at a place
-abbrev pub smooth_at : List Value → ℕ → Bool
-smooth_at vs k = smooth_of (value_at vs k)
-
--- the sense at a place
-abbrev pub ccw_at : List Value → ℕ → Bool
-ccw_at vs k = ccw_of (value_at vs k)
-
--- the point whose x stands at a place
-abbrev pub point_at : List Value → ℕ → Point
-point_at vs k = record { x = number_at vs k; y = number_at vs (k + 1); z = number_at vs (k + 2); yaw = number_at vs (k + 3) }
-
--- the three coordinates of which the first stands at a place
-abbrev pub triple_at : List Value → ℕ → List ℤ
-triple_at vs k = number_at vs k ∷ number_at vs (k + 1) ∷ number_at vs (k + 2) ∷ []
-
--- those of an act
-abbrev pub act_with : ActWord → List Value → Act
-act_with word_of.Hold vs = act.Hold
-act_with word_of.Line vs = act.Line (point_at vs 0)
-act_with word_of.Move vs = act.Move (point_at vs 0)
-act_with word_of.Turn vs = act.Turn (number_at vs 0)
-act_with word_of.Arc vs = act.Arc (ccw_at vs 0) (number_at vs 1) (number_at vs 2) (number_at vs 3)
-act_with word_of.Curve vs = act.Curve (triple_at vs 0) (triple_at vs 3) (point_at vs 6)
-
--- those of a line with this first word, and the names after them; act lines have no such word
-abbrev pub entry_with : Keyword → List Value → List Name → Entry
-entry_with first.Memory vs ns = entry.Memory (natural_at vs 0) (natural_at vs 1)
-entry_with first.Trajectory vs ns = entry.Trajectory (natural_at vs 0)
-entry_with first.Ellipsoid vs ns = entry.Ellipsoid (natural_at vs 0) (natural_at vs 1)
-entry_with first.Stray vs ns = entry.Stray (natural_at vs 0)
-entry_with first.Late vs ns = entry.Late (natural_at vs 0)
-entry_with first.Drone vs ns = entry.Drone (name_at vs 0) (point_at vs 1)
-entry_with first.Formation vs ns = entry.Formation (name_at vs 0)
-entry_with first.At vs ns = entry.At (name_at vs 0) (point_at vs 1)
-entry_with first.Figure vs ns = entry.Figure (name_at vs 0) ns
-entry_with first.Cue vs ns = entry.Cue (natural_at vs 0)
-entry_with first.Repeat vs ns = entry.Repeat (natural_at vs 0)
-entry_with first.Perform vs ns =
-    entry.Perform (name_at vs 0)
-    (record { mirror = mirror_at vs 1; turns = natural_at vs 2; dx = number_at vs 3; dy = number_at vs 4; dz = number_at vs 5 }) ns
-entry_with first.Form vs ns = entry.Form (name_at vs 0) (smooth_at vs 1)
-entry_with first.End vs ns = entry.End
-entry_with first.Other vs ns = entry.End
 
 -- A whole line.
 

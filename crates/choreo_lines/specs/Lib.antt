@@ -1,6 +1,7 @@
 pub mod Name
 pub mod FirstWord
 pub mod Table
+pub mod Values
 pub mod Fields
 pub mod Says
 pub mod Steps

@@ -6,7 +6,8 @@ ghost use Rattle.choreo_lines.specs.Table.{row_of, has_count as has_count_of};
 ghost use Rattle.choreo_lines.specs.Fields as spec;
 ghost use Rattle.choreo_lines.specs.Fields.{Gives, KindGives};
 ghost use Rattle.choreo_lines.specs.Fields.{number_at as number_of_place};
-ghost use Rattle.choreo_lines.specs.Steps.{AllFit, IsNatural};
+ghost use Rattle.choreo_lines.specs.Values.{AllFit};
+ghost use Rattle.choreo_lines.specs.Steps.{IsNatural};
 ghost use Rattle.choreo_lines.specs.Says.{Says, may_say};
 ghost use Rattle.choreo_lines.specs.declared.line.Keyword.TheVariants as by;
 

@@ -8,7 +8,8 @@ use Rattle.choreo_lines.specs.FirstWord.{keyword_of}
 use Rattle.choreo_show.specs.Plain as plain
 use Rattle.choreo_lines.specs.Name.{Name}
 use Rattle.choreo_show.specs.Plain.{Body, PlainShow, has_block, ◌⨾◌}
-use Rattle.choreo_lines.specs.Says.{Says, keyword_in, may_say}
+use Rattle.choreo_lines.specs.Values.{keyword_in}
+use Rattle.choreo_lines.specs.Says.{Says, may_say}
 use Rattle.choreo_reader.specs.Text.{Fault, fault_at, forbidden}
 use Rattle.choreo_reader.specs.Context.{Context, open_fault, line_fault, Opened, OpenFormation, OpenFigure, OpenRepeat, OpenCue, this_or, fault_from, fault_of_lines, end_fault, either_fault, fault, is_header, place_of, place_in, opened_by, is_end, is_top, fill, opens, blocks_after, sets_memory, sets_trajectory, sets_ellipsoid, sets_stray, sets_late, context_after, first_word, in_figure}
 use Rattle.choreo_lines.specs.Table.{word, as_read}

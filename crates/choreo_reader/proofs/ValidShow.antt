@@ -1,176 +1,111 @@
 -- A show that a text stands for is valid.
 use Rattle.std.proofs.lemmas.Grind.{common_steps}
-use Rattle.std.proofs.Common.{◌≡◌, ℕ, ◌+◌, ◌<◌, ◌≤◌, Bool, true, false, cond, eqb-true, ne_eqb, List, [], ◌∷◌, ◌++◌, map, length, Option, Some, None, refl, sym, ap, subst, ◌∙◌, arith, append_assoc}
+use Rattle.std.proofs.Common.{◌≡◌, ℕ, ◌+◌, ◌<◌, ◌≤◌, Bool, true, false, cond, eqb-true, ne_eqb, List, [], ◌∷◌, ◌++◌, map, Option, Some, None, refl, sym, ap, subst, ◌∙◌, arith, append_assoc}
 use Rattle.std.proofs.lemmas.List.Elements.{recursion_from_All}
-use Rattle.std.specs.Prelude.{pos, nat_le, ◌≤ℤ◌, ◌==◌, ◌&&◌, slice_index_or, IfSome}
-use Rattle.std.proofs.lemmas.Bool.{and_parts, leb-true}
+use Rattle.std.specs.Prelude.{◌==◌, slice_index_or, IfSome, IsTrue}
 use Rattle.std.proofs.lemmas.Int.{ints}
-use Rattle.std.proofs.lemmas.List.{append-nil, length-map}
+use Rattle.std.proofs.lemmas.List.{append-nil}
 use Rattle.text_lines.specs.declared.token.Comments.TheVariants.{FromHash}
 use Rattle.text_lines.specs.Words.{visible, Line, line_with, numbered, words_of}
 use Rattle.text_lines.specs.Lines.{lines_of}
 use Rattle.choreo_show.specs.Plain as plain
-use Rattle.choreo_lines.specs.Name.{Name}
 use Rattle.choreo_show.specs.Plain.{Body, PlainFigure, PlainShow, has_block, ◌⨾◌}
-use Rattle.choreo_lines.specs.Table.{Word, point, row_of, act_places, has_count}
-use Rattle.choreo_lines.specs.Says.{AllHold, point_fields, act_fields, fields_of, keyword_in, SaysAct, Says}
-use Rattle.choreo_lines.proofs.Saying.{FitNamed, held_fit, held_length, holds_fits, no_curve}
+use Rattle.choreo_lines.specs.Table.{Word, row_of, act_places, has_count}
+use Rattle.choreo_lines.specs.Values.{act_fields, keyword_in, fields_of}
+use Rattle.choreo_lines.specs.Says.{SaysAct, Says}
+use Rattle.choreo_lines.proofs.Saying.{held_fit, held_length, holds_fits}
 use Rattle.choreo_lines.specs.declared.table.Want.TheVariants as want
 use Rattle.choreo_lines.specs.declared.table.Value.TheVariants.{Name as Named}
-use Rattle.choreo_lines.specs.declared.table.ActWord.TheVariants as word_of
 use Rattle.choreo_reader.specs.Grammar.{SaidLine, act_said, body_said, Item, Memory, Trajectory, Ellipsoid, Stray, Late, Drone, Formed, Figured, Blocks, item_said, show_of, IsItem, StandsFor, parts_of}
 use Rattle.choreo_reader.proofs.Items.{closing, place_said, items_said, drones, formations, figures, body, AreItems, AreSaid}
 use Rattle.choreo_show.specs.Shape.{is_filled, depth}
-use Rattle.choreo_show.specs.Valid.{IsName, AreNames, FitsPoint, FitsAct, FitsFrame, FitActLines, FitsBody, FitDroneLines, FitFormations, FitFigures, FitsSettings, act_lines, body_lines, drone_lines, formation_lines, figure_lines, AllAbove, times, all_lines, IsValid}
+use Rattle.choreo_show.specs.Valid.{IsName, FitsAct, FitsLine, FitActLines, FitsBody, FitDroneLines, FitFormations, FitFigures, FitsSettings, act_lines, body_lines, drone_lines, formation_lines, figure_lines, AllAbove, times, all_lines, IsValid}
 use Rattle.choreo_reader.proofs.Sound.{filled_then, depth_then}
 use Rattle.choreo_lines.specs.declared.line.Entry.{Entry}
 use Rattle.choreo_lines.specs.declared.line.Entry.TheVariants as entry
 use Rattle.choreo_lines.specs.declared.parts.Act.{Act}
-use Rattle.choreo_lines.specs.declared.parts.Act.TheVariants as act
-use Rattle.choreo_lines.specs.declared.parts.Point.{Point}
 use Rattle.choreo_show.specs.declared.show.ActLine.{ActLine}
 use Rattle.choreo_show.specs.declared.show.ActLine.TheVariants as on
 use Rattle.choreo_show.specs.declared.show.DroneLine.{DroneLine}
 use Rattle.choreo_show.specs.declared.show.Formation.{Formation}
 
--- The ranges of what an entry names.
+-- The ranges of what a line says.
 
 abbrev FitsEntry : Entry → Type 0
-FitsEntry (entry.Memory id offset) = offset ≤ 4095
-FitsEntry (entry.Trajectory id) = id ≤ 9
-FitsEntry (entry.Ellipsoid r h) = (1 ≤ r) × (r ≤ 2000) × (1 ≤ h) × (h ≤ 2000)
-FitsEntry (entry.Stray mm) = mm ≤ 1000
-FitsEntry (entry.Late ms) = ms ≤ 1000
-FitsEntry (entry.Drone name to) = IsName name × FitsPoint to
-FitsEntry (entry.Formation name) = IsName name
-FitsEntry (entry.At name to) = IsName name × FitsPoint to
-FitsEntry (entry.Figure name roles) = IsName name × AreNames roles × (1 ≤ length roles) × (length roles ≤ 32)
-FitsEntry (entry.Cue ms) = (1 ≤ ms) × (ms ≤ 65535)
-FitsEntry (entry.Repeat times) = (1 ≤ times) × (times ≤ 1000000000)
-FitsEntry (entry.Perform figure frame ds) = IsName figure × FitsFrame frame × AreNames ds × (1 ≤ length ds) × (length ds ≤ 32)
-FitsEntry (entry.Form formation smooth) = IsName formation
 FitsEntry (entry.One name a) = IsName name × FitsAct a
-FitsEntry entry.End = Unit {0}
+FitsEntry e = FitsLine e
 
-names_fit : (ns : List Name) → FitNamed [] (map Named ns) → AreNames ns
-names_fit [] f = tt
-names_fit (n ∷ ns) f = (f.0, names_fit ns f.1)
-
--- 1 to 32 names after the places of a line
-names_counted : (places n : ℕ) (ns : List Name) → (nat_le (places + 1) n && nat_le n (places + 32)) ≡ true → n ≡ places + length (map Named ns) → (1 ≤ length ns) × (length ns ≤ 32)
-names_counted places n ns h e = grind (arith, common_steps, and_parts, leb-true, length-map)
-
-natural_in : (low most n : ℕ) → (pos low ≤ℤ pos n) × (pos n ≤ℤ pos most) → (low ≤ n) × (n ≤ most)
-natural_in low most n f = let above = f.0 in let below = f.1 in (omega (arith, ints, above), omega (arith, ints, below))
-
-point_in : (p : Point) → FitNamed point (point_fields p) → FitsPoint p
-point_in p f = (f.0, f.1.0, f.1.1.0, f.1.1.1.0)
-
-act_fits : (a : Act) (ws : List Word) → AllHold (act_places (act_fields a).0) ws (act_fields a).1 → FitsAct a
-act_fits act.Hold ws h = tt
-act_fits (act.Line to) ws h = point_in to (held_fit (act_places word_of.Line) ws (point_fields to) h)
-act_fits (act.Move to) ws h = point_in to (held_fit (act_places word_of.Move) ws (point_fields to) h)
-act_fits (act.Turn a) ws h = (held_fit (act_places word_of.Turn) ws _ h).0
-act_fits (act.Arc ccw cx cy a) ws h =
-    let f = held_fit (act_places word_of.Arc) ws (act_fields (act.Arc ccw cx cy a)).1 h in (f.1.0, f.1.1.0, f.1.1.1.0)
-act_fits (act.Curve (x1 ∷ y1 ∷ z1 ∷ []) (x2 ∷ y2 ∷ z2 ∷ []) to) ws h =
-    let f = held_fit (act_places word_of.Curve) ws (act_fields (act.Curve (x1 ∷ y1 ∷ z1 ∷ []) (x2 ∷ y2 ∷ z2 ∷ []) to)).1 h in
-    ((f.0, f.1.0, f.1.1.0), (f.1.1.1.0, f.1.1.1.1.0, f.1.1.1.1.1.0), point_in to f.1.1.1.1.1.1)
-act_fits (act.Curve p1 p2 to) ws h = absurd (no_curve ws h)
-
-act_line_fits : (ws : List Word) (a : Act) → SaysAct ws a → FitsAct a
-act_line_fits [] a h = absurd h
-act_line_fits (w ∷ ws) a h = act_fits a ws h.1
-
-entry_fits : (e : Entry) (n : ℕ) → has_count (row_of (keyword_in e)) n ≡ true → n ≡ length (fields_of e) → FitNamed (row_of (keyword_in e)).places (fields_of e) → FitsEntry e
-entry_fits (entry.Memory id offset) n c e f = (natural_in 0 4095 offset f.1.0).1
-entry_fits (entry.Trajectory id) n c e f = (natural_in 0 9 id f.0).1
-entry_fits (entry.Ellipsoid r h) n c e f =
-    let p = natural_in 1 2000 r f.0 in let q = natural_in 1 2000 h f.1.0 in (p.0, p.1, q.0, q.1)
-entry_fits (entry.Stray mm) n c e f = (natural_in 0 1000 mm f.0).1
-entry_fits (entry.Late ms) n c e f = (natural_in 0 1000 ms f.0).1
-entry_fits (entry.Drone name to) n c e f = (f.0, point_in to f.1)
-entry_fits (entry.Formation name) n c e f = f.0
-entry_fits (entry.At name to) n c e f = (f.0, point_in to f.1)
-entry_fits (entry.Figure name roles) n c e f =
-    let k = names_counted 1 n roles c (omega (arith, e)) in (f.0, names_fit roles f.1, k.0, k.1)
-entry_fits (entry.Cue ms) n c e f = natural_in 1 65535 ms f.0
-entry_fits (entry.Repeat times) n c e f = natural_in 1 1000000000 times f.0
-entry_fits (entry.Perform figure frame ds) n c e f = grind (arith, common_steps, names_counted, natural_in, names_fit)
-entry_fits (entry.Form formation smooth) n c e f = f.0
-entry_fits (entry.One name a) n c e f = let none = eqb-true n 0 c in absurd (omega (arith, none, e))
-entry_fits entry.End n c e f = tt
+act_fits : (ws : List Word) (a : Act) → SaysAct ws a → FitsAct a
+act_fits [] a h = absurd h
+act_fits (w ∷ ws) a h = held_fit (act_places (act_fields a).0) ws (act_fields a).1 h.1
 
 says_fits : (ws : List Word) (e : Entry) → Says ws e → FitsEntry e
 says_fits [] e h = absurd h
-says_fits (w ∷ ws) (entry.One name a) h = (holds_fits want.Name w (Named name) h.0, act_line_fits ws a h.1)
+says_fits (w ∷ ws) (entry.One name a) h = (holds_fits want.Name w (Named name) h.0, act_fits ws a h.1)
 says_fits (w ∷ ws) e h =
-    let places = (row_of (keyword_in e)).places in
-    entry_fits e (length ws) h.1 (held_length places ws (fields_of e) h.2) (held_fit places ws (fields_of e) h.2)
+    let row = row_of (keyword_in e) in
+    (subst (λ n. IsTrue (has_count row n)) (held_length row.places ws (fields_of e) h.2) h.1, held_fit row.places ws (fields_of e) h.2)
 
 -- The lines of a text, one by one.
 
-abbrev AllFit : List SaidLine → Type 0
-AllFit [] = Unit {0}
-AllFit (s ∷ ss) = FitsEntry s.entry × AllFit ss
+abbrev LinesFit : List SaidLine → Type 0
+LinesFit [] = Unit {0}
+LinesFit (s ∷ ss) = FitsEntry s.entry × LinesFit ss
 
-said_fit : (ls : List Line) (xs : List SaidLine) → AreSaid ls xs → AllFit xs
+said_fit : (ls : List Line) (xs : List SaidLine) → AreSaid ls xs → LinesFit xs
 said_fit [] [] h = tt
 said_fit [] (x ∷ xs) h = absurd h
 said_fit (l ∷ ls) [] h = absurd h
 said_fit (l ∷ ls) (x ∷ xs) h = (says_fits l.words x.entry h.0.says, said_fit ls xs h.1)
 
-front_fits : (xs ys : List SaidLine) → AllFit (xs ++ ys) → AllFit xs
+front_fits : (xs ys : List SaidLine) → LinesFit (xs ++ ys) → LinesFit xs
 front_fits [] ys h = tt
 front_fits (x ∷ xs) ys h = (h.0, front_fits xs ys h.1)
 
-back_fits : (xs ys : List SaidLine) → AllFit (xs ++ ys) → AllFit ys
+back_fits : (xs ys : List SaidLine) → LinesFit (xs ++ ys) → LinesFit ys
 back_fits [] ys h = h
 back_fits (x ∷ xs) ys h = back_fits xs ys h.1
 
-acts_fit : (acts : List ActLine) → AllFit (map act_said acts) → FitActLines acts
+acts_fit : (acts : List ActLine) → LinesFit (map act_said acts) → FitActLines acts
 acts_fit [] h = tt
 acts_fit (on.One line name a ∷ acts) h = (h.0, acts_fit acts h.1)
 acts_fit (on.Form line formation smooth ∷ acts) h = (h.0, acts_fit acts h.1)
 
-places_fit : (ps : List DroneLine) → AllFit (map place_said ps) → FitDroneLines ps
+places_fit : (ps : List DroneLine) → LinesFit (map place_said ps) → FitDroneLines ps
 places_fit [] h = tt
-places_fit (p ∷ ps) h = (h.0.0, h.0.1, places_fit ps h.1)
+places_fit (p ∷ ps) h = (h.0.1.0, h.0.1.1, places_fit ps h.1)
 
-body_fits : (b : Body) → AllFit (body_said b) → FitsBody b
+body_fits : (b : Body) → LinesFit (body_said b) → FitsBody b
 body_fits plain.Done h = tt
 body_fits (plain.Cue line ms acts rest) h =
-    (h.0.0, h.0.1, acts_fit acts (front_fits (map act_said acts) (closing ∷ body_said rest) h.1), body_fits rest (back_fits (map act_said acts) (closing ∷ body_said rest) h.1).1)
+    (h.0, acts_fit acts (front_fits (map act_said acts) (closing ∷ body_said rest) h.1), body_fits rest (back_fits (map act_said acts) (closing ∷ body_said rest) h.1).1)
 body_fits (plain.Repeat line times inside rest) h =
-    (h.0.0, h.0.1, body_fits inside (front_fits (body_said inside) (closing ∷ body_said rest) h.1), body_fits rest (back_fits (body_said inside) (closing ∷ body_said rest) h.1).1)
-body_fits (plain.Perform line figure frame ds rest) h = (h.0.0, h.0.1, h.0.2, h.0.3, h.0.4, body_fits rest h.1)
+    (h.0, body_fits inside (front_fits (body_said inside) (closing ∷ body_said rest) h.1), body_fits rest (back_fits (body_said inside) (closing ∷ body_said rest) h.1).1)
+body_fits (plain.Perform line figure frame ds rest) h = (h.0, body_fits rest h.1)
 
 then_fits : (a b : Body) → FitsBody a → FitsBody b → FitsBody (a ⨾ b)
 then_fits plain.Done b h k = k
-then_fits (plain.Cue line ms acts rest) b h k = (h.0, h.1, h.2, then_fits rest b h.3 k)
-then_fits (plain.Repeat line times inside rest) b h k = (h.0, h.1, h.2, then_fits rest b h.3 k)
-then_fits (plain.Perform line figure frame ds rest) b h k = (h.0, h.1, h.2, h.3, h.4, then_fits rest b h.5 k)
+then_fits (plain.Cue line ms acts rest) b h k = (h.0, h.1, then_fits rest b h.2 k)
+then_fits (plain.Repeat line times inside rest) b h k = (h.0, h.1, then_fits rest b h.2 k)
+then_fits (plain.Perform line figure frame ds rest) b h k = (h.0, then_fits rest b h.1 k)
 
 -- Item by item.
 
-drones_fit : (is : List Item) → AllFit (items_said is) → FitDroneLines (drones is)
+drones_fit : (is : List Item) → LinesFit (items_said is) → FitDroneLines (drones is)
 drones_fit [] h = tt
-drones_fit (Drone d ∷ is) h = (h.0.0, h.0.1, drones_fit is h.1)
+drones_fit (Drone d ∷ is) h = (h.0.1.0, h.0.1.1, drones_fit is h.1)
 drones_fit (i ∷ is) h = drones_fit is (back_fits (item_said i) (items_said is) h)
 
-formations_fit : (is : List Item) → AreItems is → AllFit (items_said is) → FitFormations (formations is)
+formations_fit : (is : List Item) → AreItems is → LinesFit (items_said is) → FitFormations (formations is)
 formations_fit [] k h = tt
 formations_fit (Formed f ∷ is) k h =
-    (h.0, k.0, places_fit f.places (front_fits (map place_said f.places) (closing ∷ []) (front_fits (item_said (Formed f)) (items_said is) h).1), formations_fit is k.1 (back_fits (item_said (Formed f)) (items_said is) h))
+    (h.0.1.0, k.0, places_fit f.places (front_fits (map place_said f.places) (closing ∷ []) (front_fits (item_said (Formed f)) (items_said is) h).1), formations_fit is k.1 (back_fits (item_said (Formed f)) (items_said is) h))
 formations_fit (i ∷ is) k h = formations_fit is k.1 (back_fits (item_said i) (items_said is) h)
 
-figures_fit : (is : List Item) → AreItems is → AllFit (items_said is) → FitFigures (figures is)
+figures_fit : (is : List Item) → AreItems is → LinesFit (items_said is) → FitFigures (figures is)
 figures_fit [] k h = tt
 figures_fit (Figured f ∷ is) k h = (
-  h.0.0,
-  h.0.1,
-  h.0.2,
-  h.0.3,
+  h.0,
   k.0.0,
   k.0.2,
   k.0.3,
@@ -180,7 +115,7 @@ figures_fit (Figured f ∷ is) k h = (
 )
 figures_fit (i ∷ is) k h = figures_fit is k.1 (back_fits (item_said i) (items_said is) h)
 
-show_body_fits : (is : List Item) → AllFit (items_said is) → FitsBody (body is)
+show_body_fits : (is : List Item) → LinesFit (items_said is) → FitsBody (body is)
 show_body_fits [] h = tt
 show_body_fits (Blocks b ∷ is) h = then_fits b (body is) (body_fits b (front_fits (body_said b) (items_said is) h)) (show_body_fits is (back_fits (body_said b) (items_said is) h))
 show_body_fits (i ∷ is) h = show_body_fits is (back_fits (item_said i) (items_said is) h)
@@ -195,35 +130,36 @@ body_nested [] k = omega arith
 body_nested (Blocks b ∷ is) k = depth_then b (body is) 0 (omega (arith, k.0.1)) (body_nested is k.1)
 body_nested (i ∷ is) k = body_nested is k.1
 
-memory_fits : (is : List Item) → AllFit (items_said is) → (slice_index_or (parts_of is).memories 0 (2, 0)).1 ≤ 4095
+memory_fits : (is : List Item) → LinesFit (items_said is) → (slice_index_or (parts_of is).memories 0 (2, 0)).1 ≤ 4095
 memory_fits [] h = omega arith
-memory_fits (Memory id offset ∷ is) h = h.0
+memory_fits (Memory id offset ∷ is) h = omega (arith, ints, h.0.1.1.0.1)
 memory_fits (i ∷ is) h = memory_fits is (back_fits (item_said i) (items_said is) h)
 
-trajectory_fits : (is : List Item) → AllFit (items_said is) → slice_index_or (parts_of is).trajectories 0 0 ≤ 9
+trajectory_fits : (is : List Item) → LinesFit (items_said is) → slice_index_or (parts_of is).trajectories 0 0 ≤ 9
 trajectory_fits [] h = omega arith
-trajectory_fits (Trajectory id ∷ is) h = h.0
+trajectory_fits (Trajectory id ∷ is) h = omega (arith, ints, h.0.1.0.1)
 trajectory_fits (i ∷ is) h = trajectory_fits is (back_fits (item_said i) (items_said is) h)
 
 abbrev FitsEllipsoid : (ℕ × ℕ) → Type 0
 FitsEllipsoid e = (1 ≤ e.0) × (e.0 ≤ 2000) × (1 ≤ e.1) × (e.1 ≤ 2000)
 
-ellipsoid_fits : (is : List Item) → AllFit (items_said is) → FitsEllipsoid (slice_index_or (parts_of is).ellipsoids 0 (120, 300))
+ellipsoid_fits : (is : List Item) → LinesFit (items_said is) → FitsEllipsoid (slice_index_or (parts_of is).ellipsoids 0 (120, 300))
 ellipsoid_fits [] h = (omega arith, omega arith, omega arith, omega arith)
-ellipsoid_fits (Ellipsoid r x ∷ is) h = h.0
+ellipsoid_fits (Ellipsoid r x ∷ is) h =
+    (omega (arith, ints, h.0.1.0.0), omega (arith, ints, h.0.1.0.1), omega (arith, ints, h.0.1.1.0.0), omega (arith, ints, h.0.1.1.0.1))
 ellipsoid_fits (i ∷ is) h = ellipsoid_fits is (back_fits (item_said i) (items_said is) h)
 
-stray_fits : (is : List Item) → AllFit (items_said is) → slice_index_or (parts_of is).strays 0 0 ≤ 1000
+stray_fits : (is : List Item) → LinesFit (items_said is) → slice_index_or (parts_of is).strays 0 0 ≤ 1000
 stray_fits [] h = omega arith
-stray_fits (Stray mm ∷ is) h = h.0
+stray_fits (Stray mm ∷ is) h = omega (arith, ints, h.0.1.0.1)
 stray_fits (i ∷ is) h = stray_fits is (back_fits (item_said i) (items_said is) h)
 
-late_fits : (is : List Item) → AllFit (items_said is) → slice_index_or (parts_of is).lates 0 0 ≤ 1000
+late_fits : (is : List Item) → LinesFit (items_said is) → slice_index_or (parts_of is).lates 0 0 ≤ 1000
 late_fits [] h = omega arith
-late_fits (Late ms ∷ is) h = h.0
+late_fits (Late ms ∷ is) h = omega (arith, ints, h.0.1.0.1)
 late_fits (i ∷ is) h = late_fits is (back_fits (item_said i) (items_said is) h)
 
-settings_fit : (is : List Item) → AllFit (items_said is) → FitsSettings (show_of (parts_of is)).settings
+settings_fit : (is : List Item) → LinesFit (items_said is) → FitsSettings (show_of (parts_of is)).settings
 settings_fit is h = let e = ellipsoid_fits is h in (memory_fits is h, trajectory_fits is h, e.0, e.1, e.2, e.3, stray_fits is h, late_fits is h)
 
 -- The numbers of the lines.
@@ -406,7 +342,7 @@ times_whole : (n : ℕ) (is : List Item) → times n (all_lines (show_of (parts_
 times_whole n is = grind (arith, common_steps, times-append, drones, formations, figures, body)
 
 -- the show of a text
-show_valid : (is : List Item) → AreItems is → AllFit (items_said is) → AllAbove 0 (numbers (items_said is)) → IsValid (show_of (parts_of is))
+show_valid : (is : List Item) → AreItems is → LinesFit (items_said is) → AllAbove 0 (numbers (items_said is)) → IsValid (show_of (parts_of is))
 show_valid is k h a =
     record {
       settings = settings_fit is h;

@@ -5,14 +5,16 @@ use Rattle.std.specs.Prelude.{◌&&◌, nat_lt, ◌==◌, IsTrue, neg_ℤ, pos, 
 use Rattle.std.specs.List.{All}
 use Rattle.std.proofs.lemmas.List.{length-append, length-map}
 use Rattle.std.proofs.lemmas.List.Elements.{All-nil, All-cons}
+use Rattle.std.proofs.lemmas.Int.{ints}
 use Rattle.std.proofs.lemmas.Bool.Decides.{nat_tests}
 use Rattle.choreo_show.specs.Plain as plain
 use Rattle.choreo_lines.specs.Name.{Name}
 use Rattle.choreo_show.specs.Plain.{Body, PlainFigure, PlainShow, has_block}
 use Rattle.choreo_show.specs.Shape.{is_filled, fits_figure}
-use Rattle.choreo_show.specs.Valid.{IsName, FitsCoordinate, FitsPoint, FitsAct, FitsFrame, FitsActLine, FitActLines, FitsBody, FitDroneLines, FitFormations, FitFigures, IsValid}
+use Rattle.choreo_show.specs.Valid.{IsName, FitsCoordinate, FitsPoint, FitsAct, FitsFrame, FitsLine, FitsActLine, FitActLines, FitsBody, FitDroneLines, FitFormations, FitFigures, IsValid}
 use Rattle.choreo_show.specs.declared.show.ActLine.{ActLine}
 use Rattle.choreo_show.specs.declared.show.ActLine.TheVariants as on
+use Rattle.choreo_lines.specs.declared.line.Entry.TheVariants as entry
 use Rattle.choreo_lines.specs.declared.parts.Act.{Act}
 use Rattle.choreo_show.specs.declared.show.DroneLine.{DroneLine}
 use Rattle.choreo_show.specs.declared.show.Formation.{Formation}
@@ -137,7 +139,7 @@ some_in_figure (plain.Cue line ms acts rest) h f g k = omega arith
 some_in_figure (plain.Repeat line times inside rest) h f g k =
     let p = first_two (has_block inside) (is_filled inside) (is_filled rest) f in
     let q = first_two (fits_figure inside) (fits_figure rest) true (kept_true (fits_figure inside) (fits_figure rest) g) in
-    let one = at_least times (figure_count inside) k.0 (some_in_figure inside p.0 p.1 q.0 k.2) in
+    let one = at_least times (figure_count inside) (omega (arith, ints, k.0.1.0.0)) (some_in_figure inside p.0 p.1 q.0 k.1) in
     omega (arith, one)
   where
     kept_true : (a b : Bool) → IsTrue (a && b) → IsTrue (a && b && true)
@@ -166,7 +168,7 @@ figure_fits : (fs : List PlainFigure) (n : Name) → FitFigures fs → IsFitIfAn
 figure_fits [] n h = tt
 figure_fits (f ∷ fs) n h =
     found_by (same_name n f.name) f (figure_named fs n)
-    (record { blocks = h.4; filled = h.5; plays = h.7; fits = h.8 }) (figure_fits fs n h.9)
+    (record { blocks = h.1; filled = h.2; plays = h.4; fits = h.5 }) (figure_fits fs n h.6)
 
 unknown_figure : (drones : List Name) (line : ℕ) (o : Option PlainFigure) (named : List Name) → perform_faults drones line o named ≡ [] → IsFitIfAny o → 1 ≤ count_of_figure o
 unknown_figure drones line None named h k = cc
@@ -179,7 +181,7 @@ some_cue s known (plain.Cue line ms acts rest) v h f k e = omega arith
 some_cue s known (plain.Repeat line times inside rest) v h f k e =
     let p = first_two (has_block inside) (is_filled inside) (is_filled rest) f in
     let none = both_empty (body_faults s known inside) (body_faults s known rest) e in
-    let one = at_least times (body_count s.figures inside) k.0 (some_cue s known inside v p.0 p.1 k.2 none.0) in
+    let one = at_least times (body_count s.figures inside) (omega (arith, ints, k.0.1.0.0)) (some_cue s known inside v p.0 p.1 k.1 none.0) in
     omega (arith, one)
 some_cue s known (plain.Perform line figure frame drones rest) v h f k e = grind (arith, common_steps, both_empty, unknown_figure, figure_fits)
 
@@ -254,16 +256,20 @@ fit_times : (n t : ℕ) (xs : List Cue) → FitCues n xs → FitCues n (times_ov
 fit_times n zero xs h = tt
 fit_times n (suc t) xs h = fit_then n xs (times_over t xs) h (fit_times n t xs h)
 
+-- the frame of a perform
+frame_fits : (figure : Name) (frame : Frame) (drones : List Name) → FitsLine (entry.Perform figure frame drones) → FitsFrame frame
+frame_fits figure frame drones h = (omega (arith, ints, h.1.1.1.0.1), h.1.1.1.1.0, h.1.1.1.1.1.0, h.1.1.1.1.1.1.0)
+
 -- each cue of blocks fits where those of their performs do
 cues_fit : (s : PlainShow) (p : Playing) (performed : Name → Frame → List Name → List Cue) → FitFormations s.formations → FitsFrame p.frame → ((figure : Name) (frame : Frame) (drones : List Name) → FitsFrame frame → FitCues (length s.drones) (performed figure frame drones)) → (b : Body) → FitsBody b → FitCues (length s.drones) (cues_in s p performed b)
 cues_fit s p performed v f g plain.Done h = tt
 cues_fit s p performed v f g (plain.Cue line ms acts rest) h =
-    (record { lasts = h.0; short = h.1; count = length-map s.drones (λ d. job_of s.formations p line acts d.name); jobs = jobs_fit s.formations p line acts s.drones v f h.2 }, cues_fit s p performed v f g rest h.3)
+    (record { lasts = omega (arith, ints, h.0.1.0.0); short = omega (arith, ints, h.0.1.0.1); count = length-map s.drones (λ d. job_of s.formations p line acts d.name); jobs = jobs_fit s.formations p line acts s.drones v f h.1 }, cues_fit s p performed v f g rest h.2)
 cues_fit s p performed v f g (plain.Repeat line times inside rest) h =
     fit_then (length s.drones) (times_over times (cues_in s p performed inside)) (cues_in s p performed rest)
-    (fit_times (length s.drones) times (cues_in s p performed inside) (cues_fit s p performed v f g inside h.2)) (cues_fit s p performed v f g rest h.3)
+    (fit_times (length s.drones) times (cues_in s p performed inside) (cues_fit s p performed v f g inside h.1)) (cues_fit s p performed v f g rest h.2)
 cues_fit s p performed v f g (plain.Perform line figure frame drones rest) h =
-    fit_then (length s.drones) (performed figure frame drones) (cues_in s p performed rest) (g figure frame drones h.1) (cues_fit s p performed v f g rest h.5)
+    fit_then (length s.drones) (performed figure frame drones) (cues_in s p performed rest) (g figure frame drones (frame_fits figure frame drones h.0)) (cues_fit s p performed v f g rest h.1)
 
 figure_cues_fit : (s : PlainShow) (o : Option PlainFigure) (frame : Frame) (drones : List Name) → FitFormations s.formations → IsFitIfAny o → FitsFrame frame → FitCues (length s.drones) (cues_of_figure s o frame drones)
 figure_cues_fit s None frame drones v k f = tt

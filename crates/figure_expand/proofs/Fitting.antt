@@ -16,7 +16,8 @@ use Rattle.mm_rounding.specs.Rounding.{millimetres, is_short, short, controls, r
 use Rattle.mm_rounding.specs.declared.piece.Axis.{Axis}
 use Rattle.mm_rounding.specs.declared.piece.Axis.TheVariants.{One, Two, Four, Eight}
 use Rattle.mm_rounding.specs.declared.piece.MicroPiece.{MicroPiece}
-use Rattle.figure_expand.specs.Acts.{act_of, end_of}
+use Rattle.figure_expand.specs.Acts.{act_of}
+use Rattle.figure_expand.specs.Written.{end_of}
 use Rattle.figure_expand.specs.Controls.{axes_of, piece_of}
 use Rattle.figure_expand.specs.Expanded as expanding
 use Rattle.figure_expand.specs.Expanded.{fits_axis, values_on, values_of, point_values, start_values, start_points, cue_values, points_after, values_from, first_unfit, range_fault, job_in, no_job, pieces_from, expanded_from, expanded}

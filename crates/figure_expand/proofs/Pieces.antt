@@ -3,6 +3,8 @@ use Rattle.std.proofs.lemmas.Grind.{common_steps}
 use Rattle.std.proofs.Common.{◌≡◌, ℕ, zero, suc, ◌+◌, ◌<◌, ℤ, pos, ◌+ℤ◌, ◌-ℤ◌, ◌*ℤ◌, List, [], ◌∷◌, map, take, length, get_or, arith, refl, sym, ap, ◌∙◌}
 use Rattle.std.specs.List.{All}
 use Rattle.std.proofs.lemmas.List.Elements.{All-nil, All-cons}
+use Rattle.std.proofs.lemmas.List.Elements.{All-from_recursion}
+use Rattle.std.proofs.lemmas.List.{drop_more}
 use Rattle.fleet_math.specs.Sums.{power}
 use Rattle.fleet_math.specs.Bernstein.{at}
 use Rattle.fleet_math.proofs.RingLemmas.{mul_comm_ℤ, one_mul_ℤ}
@@ -19,8 +21,8 @@ use Rattle.mm_rounding.specs.Near.{position, IsAxis, IsPiece, last_control}
 use Rattle.mm_rounding.specs.declared.piece.Axis.{Axis}
 use Rattle.mm_rounding.specs.declared.piece.Axis.TheVariants.{One}
 use Rattle.mm_rounding.specs.declared.piece.MicroPiece.{MicroPiece}
-use Rattle.figure_expand.specs.Acts.{act_of, end_of, on_axis, point_after}
-use Rattle.figure_expand.specs.Written.{from_rest, written_points, ClosedForms}
+use Rattle.figure_expand.specs.Acts.{act_of, on_axis}
+use Rattle.figure_expand.specs.Written.{from_rest, written_points, ClosedForms, end_of, point_after}
 use Rattle.figure_expand.specs.Controls.{axes_of, piece_of}
 use Rattle.figure_expand.specs.Expanded.{job_in, no_job, pieces_from, expanded_from, expanded}
 use Rattle.figure_expand.specs.Flown.{start_of, jobs_in, job_at, point_before, FliesAsWritten}
@@ -59,6 +61,7 @@ by_act p act.Hold (suc (suc (suc zero))) small = refl
 by_act p x (suc (suc (suc zero))) small = refl
 by_act p x (suc (suc (suc (suc axis)))) small = absurd (omega arith)
 
+-- the first control point is where the drone is
 first_by_act : (p : Point) (x : Act) (axis : ℕ) → axis < 4 → first_control (curve_of p x axis) ≡ on_axis p axis
 first_by_act p act.Hold zero small = refl
 first_by_act p x zero small = refl
@@ -70,7 +73,9 @@ first_by_act p act.Hold (suc (suc (suc zero))) small = refl
 first_by_act p x (suc (suc (suc zero))) small = refl
 first_by_act p x (suc (suc (suc (suc axis)))) small = absurd (omega arith)
 
+-- the last one is where the act ends
 last_by_act : (p : Point) (x : Act) (axis : ℕ) → axis < 4 → last_control (curve_of p x axis) ≡ on_axis (end_of p x) axis
+unfolding end_of
 last_by_act p act.Hold zero small = refl
 last_by_act p x zero small = refl
 last_by_act p act.Hold (suc zero) small = refl
@@ -89,17 +94,9 @@ piece_begins p ms j axis small = first_by_act p (act_of j) axis small
 pub piece_ends : (p : Point) (ms : ℕ) (j : Job) (axis : ℕ) → axis < 4 → last_control (axis_on (piece_of p ms j) axis) ≡ on_axis (end_of p (act_of j)) axis
 piece_ends p ms j axis small = last_by_act p (act_of j) axis small
 
-four_axes : (x y z w : Axis) → IsAxis x → IsAxis y → IsAxis z → IsAxis w → All IsAxis (x ∷ y ∷ z ∷ w ∷ [])
-four_axes x y z w is_x is_y is_z is_w =
-    All-cons IsAxis x (y ∷ z ∷ w ∷ []) is_x (All-cons IsAxis y (z ∷ w ∷ []) is_y (All-cons IsAxis z (w ∷ []) is_z (All-cons IsAxis w [] is_w (All-nil IsAxis))))
-
 whole_by_act : (p : Point) (x : Act) → All IsAxis (axes_of p x)
-whole_by_act p act.Hold = four_axes _ _ _ _ tt tt tt tt
-whole_by_act p (act.Line to) = four_axes _ _ _ _ refl refl refl refl
-whole_by_act p (act.Move to) = four_axes _ _ _ _ refl refl refl refl
-whole_by_act p (act.Turn yaw) = four_axes _ _ _ _ tt tt tt refl
-whole_by_act p (act.Arc ccw cx cy yaw) = four_axes _ _ _ _ refl refl tt refl
-whole_by_act p (act.Curve p1 p2 to) = four_axes _ _ _ _ refl refl refl refl
+whole_by_act p act.Hold = All-from_recursion IsAxis (axes_of p act.Hold) assumption
+whole_by_act p x = All-from_recursion IsAxis (axes_of p x) assumption
 
 -- The axes of a piece have as many control values as their names say.
 pub piece_whole : (p : Point) (ms : ℕ) (j : Job) → IsPiece (piece_of p ms j)

@@ -1,10 +1,9 @@
 -- How far the numbers of points and acts are from 0.
 use Rattle.std.proofs.lemmas.Grind.{common_steps}
-use Rattle.std.proofs.Common.{◌≡◌, ℕ, zero, suc, ◌+◌, ◌*◌, ◌^◌, ◌<◌, ◌≤◌, Bool, true, false, ℤ, pos, ◌+ℤ◌, ◌-ℤ◌, List, [], ◌∷◌, length, get_or, to_z, of_z, w64, arith, refl, sym, ap, subst}
+use Rattle.std.proofs.Common.{◌≡◌, ℕ, zero, suc, ◌+◌, ◌*◌, ◌^◌, ◌<◌, ◌≤◌, true, ℤ, pos, ◌+ℤ◌, List, [], ◌∷◌, length, get_or, to_z, of_z, w64, arith, refl, sym, ap, subst}
 use Rattle.std.specs.List.{All}
 use Rattle.std.proofs.lemmas.Int.{ints, to_z-of_z}
 use Rattle.std.proofs.lemmas.List.Elements.{All-nil, All-cons, All-get_or, All-tail}
-use Rattle.std.specs.Prelude.{neg_ℤ, if◌then◌else◌}
 use Rattle.fleet_math.specs.Bernstein.{at}
 use Rattle.fleet_math.specs.Limits.{most_cues}
 use Rattle.choreo_lines.specs.declared.parts.Point.{Point}
@@ -14,14 +13,15 @@ use Rattle.choreo_lines.specs.declared.parts.Mirror.TheVariants as mirror
 use Rattle.choreo_lines.specs.declared.parts.Act.{Act}
 use Rattle.choreo_lines.specs.declared.parts.Act.TheVariants as act
 use Rattle.choreo_show.specs.declared.show.DroneLine.{DroneLine}
-use Rattle.choreo_show.specs.Valid.{FitsFrame, FitsPoint, FitsCoordinate, FitsYaw, FitsTriple, FitsAct}
+use Rattle.choreo_show.specs.Valid.{FitsFrame, FitsPoint, FitsCoordinate, FitsAct}
 use Rattle.cue_grid.specs.declared.grid.Job.{Job}
 use Rattle.cue_grid.specs.declared.grid.Cue.{Cue}
-use Rattle.cue_grid.specs.Frames.{mirrored, turned_once, turned, shifted, applied, IsUpTo, IsPointUpTo, IsShiftUpTo}
+use Rattle.cue_grid.specs.Frames.{mirrored, turned_once, turned, IsUpTo, IsPointUpTo, IsShiftUpTo}
 use Rattle.cue_grid.specs.Grids.{FitsJob, FitJobs, FitsCue, FitCues}
-use Rattle.figure_expand.specs.Acts.{act_in, act_of, end_of}
+use Rattle.figure_expand.specs.Acts.{act_in, act_of}
+use Rattle.figure_expand.specs.Written.{end_of}
 use Rattle.figure_expand.specs.Expanded.{start_points, points_after}
-use Rattle.figure_expand.specs.Bounds.{IsActUpTo, reach, AreInReach}
+use Rattle.figure_expand.specs.Bounds.{FitsYaw, FitsTriple, IsActUpTo, reach, AreInReach}
 
 -- ---- the points of a show
 
@@ -38,7 +38,7 @@ yaw_small v fits = (omega (arith, ints, fits.0), omega (arith, ints, fits.1))
 
 -- a point of a show
 pub point_small : (p : Point) → FitsPoint p → IsPointUpTo 100000000 p
-point_small p fits = record { x = fits.0; y = fits.1; z = fits.2; yaw = yaw_small p.yaw fits.3 }
+point_small p fits = record { x = fits.0; y = fits.1.0; z = fits.1.1.0; yaw = yaw_small p.yaw fits.1.1.1.0 }
 
 -- a point of a show, with the bound that `apply` asks for
 pub point_fits : (p : Point) → FitsPoint p → IsPointUpTo (2 ^ 40) p
@@ -59,17 +59,20 @@ ahead : FitsYaw (pos 0)
 ahead = (omega (arith, ints), omega (arith, ints))
 
 pub heading_fits : (yaw : ℤ) → FitsYaw yaw → FitsPoint (record { x = pos 0; y = pos 0; z = pos 0; yaw = yaw })
-heading_fits yaw fits = (no_way, no_way, no_way, fits)
+heading_fits yaw fits = (no_way, (no_way, (no_way, (fits, tt))))
 
 pub centre_fits : (cx cy yaw : ℤ) → FitsCoordinate cx → FitsCoordinate cy → FitsYaw yaw → FitsPoint (record { x = cx; y = cy; z = pos 0; yaw = yaw })
-centre_fits cx cy yaw x y fits = (x, y, no_way, fits)
+centre_fits cx cy yaw x y fits = (x, (y, (no_way, (fits, tt))))
 
 pub triple_fits : (v : List ℤ) → FitsTriple v → FitsPoint (record { x = at v 0; y = at v 1; z = at v 2; yaw = pos 0 })
-triple_fits [] fits = absurd fits
-triple_fits (x ∷ []) fits = absurd fits
-triple_fits (x ∷ y ∷ []) fits = absurd fits
-triple_fits (x ∷ y ∷ z ∷ []) fits = (fits.0, fits.1, fits.2, ahead)
-triple_fits (x ∷ y ∷ z ∷ w ∷ v) fits = absurd fits
+triple_fits (x ∷ y ∷ z ∷ []) fits = (fits.0, (fits.1.0, (fits.1.1.0, (ahead, tt))))
+triple_fits v fits = grind (arith, common_steps)
+
+-- the handles and the end of a curve
+pub curve_fits : (p1 p2 : List ℤ) (to : Point) → FitsAct (act.Curve p1 p2 to) → FitsTriple p1 × FitsTriple p2 × FitsPoint to
+curve_fits (x1 ∷ y1 ∷ z1 ∷ []) (x2 ∷ y2 ∷ z2 ∷ []) to fits =
+    ((fits.0, (fits.1.0, (fits.1.1.0, tt))), (fits.1.1.1.0, (fits.1.1.1.1.0, (fits.1.1.1.1.1.0, tt))), fits.1.1.1.1.1.1)
+curve_fits p1 p2 to fits = absurd fits
 
 -- ---- acts in the show's frame
 
@@ -86,33 +89,22 @@ turned_small zero n p small = wider_point n (n + 900 * 0) p (omega arith) small
 turned_small (suc k) n p small =
     wider_point ((n + 900 * k) + 900) (n + 900 * suc k) (turned_once (turned k p)) (omega arith) (turned_once_small (n + 900 * k) (turned k p) (turned_small k n p small))
 
-moved_small : (m n : ℕ) (v by : ℤ) → IsUpTo m by → IsUpTo n v → IsUpTo (n + m) (v +ℤ by)
-moved_small m n v by shift small = (omega (arith, ints, shift.0, small.0), omega (arith, ints, shift.1, small.1))
-
-shifted_small : (m n : ℕ) (f : Frame) (p : Point) → IsShiftUpTo m f → IsPointUpTo n p → IsPointUpTo (n + m) (shifted f p)
-shifted_small m n f p shift small = record {
-  x = moved_small m n p.x f.dx shift.dx small.x;
-  y = moved_small m n p.y f.dy shift.dy small.y;
-  z = moved_small m n p.z f.dz shift.dz small.z;
-  yaw = wider n (n + m) p.yaw (omega arith) small.yaw;
-}
-
--- where a frame of a show puts a point of it
-pub applied_small : (f : Frame) (p : Point) → FitsFrame f → FitsPoint p → IsPointUpTo (2 ^ 28) (applied f p)
+-- where the mirror and the turns of a frame put a point of a show
+applied_small : (f : Frame) (p : Point) → FitsFrame f → FitsPoint p → IsPointUpTo (2 ^ 27) (turned f.turns (mirrored f.mirror p))
 applied_small f p frame point =
-    wider_point (((100000000 + 1800) + 900 * f.turns) + 100000000) (2 ^ 28) (applied f p) (omega (arith, frame.0))
-    (shifted_small 100000000 ((100000000 + 1800) + 900 * f.turns) f (turned f.turns (mirrored f.mirror p)) (shift_small f frame)
-    (turned_small f.turns (100000000 + 1800) (mirrored f.mirror p) (mirrored_small f.mirror 100000000 p (point_small p point))))
+    wider_point ((100000000 + 1800) + 900 * f.turns) (2 ^ 27) (turned f.turns (mirrored f.mirror p)) (omega (arith, frame.0))
+    (turned_small f.turns (100000000 + 1800) (mirrored f.mirror p) (mirrored_small f.mirror 100000000 p (point_small p point)))
 
 act_in_small : (f : Frame) (a : Act) → FitsFrame f → FitsAct a → IsActUpTo (2 ^ 28) (act_in f a)
 act_in_small f act.Hold frame fits = tt
-act_in_small f (act.Line to) frame fits = applied_small f to frame fits
-act_in_small f (act.Move to) frame fits = applied_small f to frame fits
-act_in_small f (act.Turn yaw) frame fits = (applied_small f (record { x = pos 0; y = pos 0; z = pos 0; yaw = yaw }) frame (heading_fits yaw fits)).yaw
+act_in_small f (act.Line to) frame fits = omega (arith, ints, applied_small f to frame fits)
+act_in_small f (act.Move to) frame fits = omega (arith, ints, applied_small f to frame fits)
+act_in_small f (act.Turn yaw) frame fits = omega (arith, ints, applied_small f _ frame (heading_fits yaw fits.0))
 act_in_small f (act.Arc ccw cx cy yaw) frame fits =
-    let centre = applied_small f (record { x = cx; y = cy; z = pos 0; yaw = yaw }) frame (centre_fits cx cy yaw fits.0 fits.1 fits.2) in
-    (centre.x, centre.y, centre.yaw)
-act_in_small f (act.Curve p1 p2 to) frame fits = applied_small f to frame fits.2
+    omega (arith, ints, applied_small f _ frame (centre_fits cx cy yaw fits.1.0 fits.1.1.0 fits.1.1.1.0))
+act_in_small f (act.Curve p1 p2 to) frame fits =
+    let parts = curve_fits p1 p2 to fits in
+    omega (arith, ints, applied_small f _ frame (triple_fits p1 parts.0), applied_small f _ frame (triple_fits p2 parts.1), applied_small f to frame parts.2)
 
 -- The numbers of a job's act in the show's frame are small.
 pub act_small : (j : Job) → FitsJob j → IsActUpTo (2 ^ 28) (act_of j)
@@ -120,34 +112,14 @@ act_small j fits = act_in_small j.frame j.act fits.0 fits.1
 
 -- ---- ends
 
-end_x_small : (n : ℕ) (ccw : Bool) (px py cx cy : ℤ) → IsUpTo n px → IsUpTo n py → IsUpTo (2 ^ 28) cx → IsUpTo (2 ^ 28) cy →
-    IsUpTo (n + 2 ^ 30) (cx +ℤ (if ccw then neg_ℤ (py -ℤ cy) else py -ℤ cy))
-end_x_small n true px py cx cy x y c d = (omega (arith, ints, x.0, x.1, y.0, y.1, c.0, c.1, d.0, d.1), omega (arith, ints, x.0, x.1, y.0, y.1, c.0, c.1, d.0, d.1))
-end_x_small n false px py cx cy x y c d = (omega (arith, ints, x.0, x.1, y.0, y.1, c.0, c.1, d.0, d.1), omega (arith, ints, x.0, x.1, y.0, y.1, c.0, c.1, d.0, d.1))
-
-end_y_small : (n : ℕ) (ccw : Bool) (px py cx cy : ℤ) → IsUpTo n px → IsUpTo n py → IsUpTo (2 ^ 28) cx → IsUpTo (2 ^ 28) cy →
-    IsUpTo (n + 2 ^ 30) (cy +ℤ (if ccw then px -ℤ cx else neg_ℤ (px -ℤ cx)))
-end_y_small n true px py cx cy x y c d = (omega (arith, ints, x.0, x.1, y.0, y.1, c.0, c.1, d.0, d.1), omega (arith, ints, x.0, x.1, y.0, y.1, c.0, c.1, d.0, d.1))
-end_y_small n false px py cx cy x y c d = (omega (arith, ints, x.0, x.1, y.0, y.1, c.0, c.1, d.0, d.1), omega (arith, ints, x.0, x.1, y.0, y.1, c.0, c.1, d.0, d.1))
-
 -- An act takes a drone at most 2 ^ 30 further away.
 pub end_small : (n : ℕ) (p : Point) (a : Act) → IsPointUpTo n p → IsActUpTo (2 ^ 28) a → IsPointUpTo (n + 2 ^ 30) (end_of p a)
-end_small n p act.Hold small fits = wider_point n (n + 2 ^ 30) p (omega arith) small
-end_small n p (act.Line to) small fits = wider_point (2 ^ 28) (n + 2 ^ 30) to (omega arith) fits
-end_small n p (act.Move to) small fits = wider_point (2 ^ 28) (n + 2 ^ 30) to (omega arith) fits
-end_small n p (act.Turn yaw) small fits = record {
-  x = wider n (n + 2 ^ 30) p.x (omega arith) small.x;
-  y = wider n (n + 2 ^ 30) p.y (omega arith) small.y;
-  z = wider n (n + 2 ^ 30) p.z (omega arith) small.z;
-  yaw = wider (2 ^ 28) (n + 2 ^ 30) yaw (omega arith) fits;
-}
-end_small n p (act.Arc ccw cx cy yaw) small fits = record {
-  x = end_x_small n ccw p.x p.y cx cy small.x small.y fits.0 fits.1;
-  y = end_y_small n ccw p.x p.y cx cy small.x small.y fits.0 fits.1;
-  z = wider n (n + 2 ^ 30) p.z (omega arith) small.z;
-  yaw = wider (2 ^ 28) (n + 2 ^ 30) yaw (omega arith) fits.2;
-}
-end_small n p (act.Curve p1 p2 to) small fits = wider_point (2 ^ 28) (n + 2 ^ 30) to (omega arith) fits
+unfolding end_of
+end_small n p act.Hold small fits = omega (arith, ints)
+end_small n p (act.Arc true cx cy yaw) small fits = omega (arith, ints)
+end_small n p (act.Curve (x1 ∷ y1 ∷ z1 ∷ []) (x2 ∷ y2 ∷ z2 ∷ []) to) small fits = omega (arith, ints)
+end_small n p (act.Curve p1 p2 to) small fits = absurd fits
+end_small n p a small fits = omega (arith, ints)
 
 -- one cue more
 reach_more : (k : ℕ) → reach k + 2 ^ 30 ≡ reach (k + 1)

@@ -5,7 +5,8 @@ use Rattle.choreo_lines.specs.declared.parts.Point.{Point}
 use Rattle.cue_grid.specs.declared.grid.Job.{Job}
 use Rattle.figure_expand.specs.declared.fault.AxisValue.{AxisValue}
 use Rattle.cue_grid.specs.declared.grid.Grid.{Grid}
-use Rattle.figure_expand.specs.Acts.{act_of, end_of}
+use Rattle.figure_expand.specs.Acts.{act_of}
+use Rattle.figure_expand.specs.Written.{end_of}
 use Rattle.std.proofs.lemmas.List.{drop_more}
 use Rattle.choreo_show.specs.declared.show.DroneLine.{DroneLine}
 use Rattle.cue_grid.specs.declared.grid.Cue.{Cue}

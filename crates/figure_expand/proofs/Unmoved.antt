@@ -1,27 +1,19 @@
 -- The frame that changes nothing leaves each act.
-use Rattle.std.proofs.Common.{◌≡◌, ℤ, List, [], ◌∷◌, refl}
+use Rattle.std.proofs.Common.{◌≡◌, [], ◌∷◌, refl, ap, ◌∙◌, arith}
 use Rattle.std.proofs.Math.IntN.{+ℤ_idr}
-use Rattle.choreo_lines.specs.declared.parts.Point.{Point}
 use Rattle.choreo_lines.specs.declared.parts.Act.{Act}
 use Rattle.choreo_lines.specs.declared.parts.Act.TheVariants as act
-use Rattle.choreo_show.specs.Valid.{FitsAct, FitsTriple}
-use Rattle.cue_grid.specs.Frames.{applied, no_frame}
-use Rattle.figure_expand.specs.Acts.{act_in, control_in}
+use Rattle.choreo_show.specs.Valid.{FitsAct}
+use Rattle.cue_grid.specs.Frames.{no_frame}
+use Rattle.cue_grid.specs.Grids.{FitsJob}
+use Rattle.cue_grid.specs.declared.grid.Job.{Job}
+use Rattle.figure_expand.specs.Acts.{act_in, act_of}
 
-stays : (p : Point) → applied no_frame p ≡ p
-stays p = simp +ℤ_idr
+act_stays : (a : Act) → FitsAct a → act_in no_frame a ≡ a
+act_stays act.Hold fits = refl
+act_stays (act.Curve (x1 ∷ y1 ∷ z1 ∷ []) (x2 ∷ y2 ∷ z2 ∷ []) to) fits = simp +ℤ_idr
+act_stays (act.Curve p1 p2 to) fits = absurd fits
+act_stays a fits = grind (arith, +ℤ_idr)
 
-triple_stays : (v : List ℤ) → FitsTriple v → control_in no_frame v ≡ v
-triple_stays (a ∷ b ∷ c ∷ []) fits = simp +ℤ_idr
-triple_stays [] fits = absurd fits
-triple_stays (a ∷ []) fits = absurd fits
-triple_stays (a ∷ b ∷ []) fits = absurd fits
-triple_stays (a ∷ b ∷ c ∷ d ∷ v) fits = absurd fits
-
-pub unmoved : (a : Act) → FitsAct a → act_in no_frame a ≡ a
-unmoved act.Hold fits = refl
-unmoved (act.Line to) fits = rw stays refl
-unmoved (act.Move to) fits = rw stays refl
-unmoved (act.Turn yaw) fits = refl
-unmoved (act.Arc ccw cx cy yaw) fits = simp +ℤ_idr
-unmoved (act.Curve p1 p2 to) fits = let first = triple_stays p1 fits.0 in let second = triple_stays p2 fits.1 in let last = stays to in cc
+pub unmoved : (j : Job) → j.frame ≡ no_frame → FitsJob j → act_of j ≡ j.act
+unmoved j still fits = ap (λ f. act_in f j.act) still ∙ act_stays j.act fits.1

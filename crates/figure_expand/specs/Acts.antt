@@ -1,4 +1,4 @@
--- What a job does, in the show's own frame, and where it ends.
+-- What a job does, in the show's own frame, and the control points of arcs.
 use Rattle.std.specs.Prelude.{ℕ, zero, suc, Bool, not, List, [], ◌∷◌, map, ℤ, pos, neg_ℤ, ◌+ℤ◌, ◌-ℤ◌, ◌*ℤ◌, if◌then◌else◌}
 use Rattle.std.specs.Int.{int_div_euclid}
 use Rattle.fleet_math.specs.Bernstein.{at}
@@ -57,23 +57,3 @@ arc_points present centre v w =
 abbrev pub arc_on : Point → Bool → ℤ → ℤ → ℕ → List ℤ
 arc_on p ccw cx cy zero = arc_points p.x cx (p.x -ℤ cx) (if ccw then neg_ℤ (p.y -ℤ cy) else p.y -ℤ cy)
 arc_on p ccw cx cy (suc axis) = arc_points p.y cy (p.y -ℤ cy) (if ccw then p.x -ℤ cx else neg_ℤ (p.x -ℤ cx))
-
--- ---- where an act ends that is in the show's frame, from the present point
-
-abbrev pub end_of : Point → Act → Point
-end_of p act.Hold = p
-end_of p (act.Line to) = to
-end_of p (act.Move to) = to
-end_of p (act.Turn yaw) = record { x = p.x; y = p.y; z = p.z; yaw = yaw }
-end_of p (act.Arc ccw cx cy yaw) = record {
-  x = at (arc_on p ccw cx cy 0) 3;
-  y = at (arc_on p ccw cx cy 1) 3;
-  z = p.z;
-  yaw = yaw;
-}
-end_of p (act.Curve p1 p2 to) = to
-
--- where a drone is after these jobs
-abbrev pub point_after : Point → List Job → Point
-point_after p [] = p
-point_after p (j ∷ jobs) = point_after (end_of p (act_of j)) jobs

@@ -11,7 +11,8 @@ use Rattle.mm_rounding.specs.Rounding.{controls, millimetres, is_short}
 use Rattle.mm_rounding.specs.declared.piece.Axis.{Axis}
 use Rattle.mm_rounding.specs.declared.piece.MicroPiece.{MicroPiece}
 use Rattle.figure_expand.specs.declared.fault.AxisValue.{AxisValue}
-use Rattle.figure_expand.specs.Acts.{act_of, end_of}
+use Rattle.figure_expand.specs.Acts.{act_of}
+use Rattle.figure_expand.specs.Written.{end_of}
 use Rattle.figure_expand.specs.Controls.{axes_of, piece_of}
 
 -- what stands where no job does: nothing is done

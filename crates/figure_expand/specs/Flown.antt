@@ -9,8 +9,8 @@ use Rattle.cue_grid.specs.declared.grid.Grid.{Grid}
 use Rattle.mm_rounding.specs.Rounding.{millimetres, short, controls, axis_on, rounding, segment_of}
 use Rattle.mm_rounding.specs.Near.{position, AtEachFraction}
 use Rattle.mm_rounding.specs.declared.piece.MicroPiece.{MicroPiece}
-use Rattle.figure_expand.specs.Acts.{act_of, point_after}
-use Rattle.figure_expand.specs.Written.{written_points}
+use Rattle.figure_expand.specs.Acts.{act_of}
+use Rattle.figure_expand.specs.Written.{written_points, point_after}
 use Rattle.figure_expand.specs.Expanded.{no_job, expanded}
 
 -- where a drone starts; the numbers count from 0

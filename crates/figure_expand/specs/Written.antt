@@ -2,11 +2,13 @@
 use Rattle.std.specs.Prelude.{◌≡◌, ℕ, List, [], ◌∷◌, ℤ, pos, ◌+ℤ◌, ◌-ℤ◌, ◌*ℤ◌, ◌==◌, if◌then◌else◌}
 use Rattle.fleet_math.specs.Sums.{power}
 use Rattle.fleet_math.specs.Bernstein.{at}
+use Rattle.fleet_math.specs.Decoded.{last_value}
 use Rattle.choreo_lines.specs.declared.parts.Point.{Point}
 use Rattle.choreo_lines.specs.declared.parts.Act.{Act}
 use Rattle.choreo_lines.specs.declared.parts.Act.TheVariants as act
 use Rattle.mm_rounding.specs.Near.{position}
-use Rattle.figure_expand.specs.Acts.{arc_on, on_axis}
+use Rattle.cue_grid.specs.declared.grid.Job.{Job}
+use Rattle.figure_expand.specs.Acts.{act_of, arc_on, on_axis}
 
 -- from rest at A to rest at B: degree seven, and at each end no speed, acceleration or jerk
 abbrev pub from_rest : ℤ → ℤ → List ℤ
@@ -23,6 +25,20 @@ written_points p (act.Arc ccw cx cy yaw) axis =
     if axis == 3 then p.yaw ∷ yaw ∷ [] else if axis == 2 then p.z ∷ [] else arc_on p ccw cx cy axis
 written_points p (act.Curve p1 p2 to) axis =
     if axis == 3 then p.yaw ∷ to.yaw ∷ [] else on_axis p axis ∷ at p1 axis ∷ at p2 axis ∷ on_axis to axis ∷ []
+
+-- where an act in the show's frame ends, from the present point: at its last control point on each axis
+unfoldable pub end_of : Point → Act → Point
+end_of p a = record {
+  x = last_value (pos 0) (written_points p a 0);
+  y = last_value (pos 0) (written_points p a 1);
+  z = last_value (pos 0) (written_points p a 2);
+  yaw = last_value (pos 0) (written_points p a 3);
+}
+
+-- where a drone is after these jobs
+abbrev pub point_after : Point → List Job → Point
+point_after p [] = p
+point_after p (j ∷ jobs) = point_after (end_of p (act_of j)) jobs
 
 -- In closed form, as numerators over c ^ 7: what stays, what goes evenly, and the way from rest to rest, which is
 -- A + (B - A)(35 u^4 - 84 u^5 + 70 u^6 - 20 u^7) at u = a / c.

@@ -1,11 +1,11 @@
 //! Acts in the show's own frame.
 
 ghost use Rattle.std.specs.Prelude.{◌≡◌, ◌^◌, pos, IsTrue};
-ghost use Rattle.choreo_show.specs.Valid.{FitsFrame, FitsPoint, FitsCoordinate, FitsYaw, FitsTriple, FitsAct};
+ghost use Rattle.choreo_show.specs.Valid.{FitsFrame, FitsPoint, FitsCoordinate, FitsAct};
 ghost use Rattle.cue_grid.specs.Frames.{applied, no_frame};
 ghost use Rattle.cue_grid.specs.Grids.{FitsJob};
 ghost use Rattle.figure_expand.specs.Acts.{act_in, act_of, sense_in, control_in};
-ghost use Rattle.figure_expand.specs.Bounds.{IsActUpTo};
+ghost use Rattle.figure_expand.specs.Bounds.{FitsYaw, FitsTriple, IsActUpTo};
 
 use choreo_lines::{Act, Frame, Mirror, Point};
 use cue_grid::{Job, apply};
@@ -90,6 +90,7 @@ fn framed_sense(mirror: Mirror, ccw: bool) -> bool
 }
 
 // An act in the show's frame.
+#[tactic(auto, using(crate::proofs::Reach::curve_fits))]
 fn framed_act(f: &Frame, act: &Act) -> Act
     requires frame { FitsFrame f.now }
     requires act { FitsAct act.now }

@@ -3,7 +3,8 @@
 ghost use Rattle.std.specs.Prelude.{◌≡◌, ◌+◌, ◌<◌, ◌^◌, ℕ, length};
 ghost use Rattle.cue_grid.specs.Frames.{IsPointUpTo};
 ghost use Rattle.cue_grid.specs.Grids.{FitJobs};
-ghost use Rattle.figure_expand.specs.Acts.{act_of, end_of};
+ghost use Rattle.figure_expand.specs.Acts.{act_of};
+ghost use Rattle.figure_expand.specs.Written.{end_of};
 ghost use Rattle.figure_expand.specs.Controls.{piece_of};
 ghost use Rattle.figure_expand.specs.Expanded.{job_in};
 

@@ -7,11 +7,11 @@ ghost use Rattle.cue_grid.specs.declared.grid.Grid.{Grid};
 ghost use Rattle.cue_grid.specs.Grids.{IsGrid};
 ghost use Rattle.mm_rounding.specs.Rounding.{axis_on, first_control};
 ghost use Rattle.mm_rounding.specs.Near.{IsPiece, last_control};
-ghost use Rattle.figure_expand.specs.Acts.{act_of, end_of, on_axis};
+ghost use Rattle.figure_expand.specs.Acts.{act_of, on_axis};
 ghost use Rattle.figure_expand.specs.Controls.{piece_of};
 ghost use Rattle.figure_expand.specs.Expanded.{range_fault};
 ghost use Rattle.figure_expand.specs.Flown.{FliesAsWritten, FitsWell};
-ghost use Rattle.figure_expand.specs.Written.{ClosedForms};
+ghost use Rattle.figure_expand.specs.Written.{end_of, ClosedForms};
 
 /// A law. The pieces of each grid are at the written position, on each axis and at each fraction of each cue. A piece
 /// begins where its drone is, and ends where the drone is before the next cue. No value is out of range exactly where each start

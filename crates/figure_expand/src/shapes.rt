@@ -3,9 +3,9 @@
 ghost use Rattle.std.specs.Prelude.{◌≡◌, ◌^◌, ◌-ℤ◌, neg_ℤ, ◌∷◌, [], if◌then◌else◌};
 ghost use Rattle.mm_rounding.specs.declared.piece.Axis.TheVariants.{One, Two, Four, Eight};
 ghost use Rattle.cue_grid.specs.Frames.{IsUpTo, IsPointUpTo};
-ghost use Rattle.figure_expand.specs.Acts.{handle, arc_points, arc_on, end_of};
+ghost use Rattle.figure_expand.specs.Acts.{handle, arc_points, arc_on};
 ghost use Rattle.figure_expand.specs.Controls.{axes_of};
-ghost use Rattle.figure_expand.specs.Written.{from_rest};
+ghost use Rattle.figure_expand.specs.Written.{from_rest, end_of};
 ghost use Rattle.figure_expand.specs.Bounds.{IsActUpTo};
 
 use choreo_lines::{Act, Point};
@@ -166,6 +166,7 @@ pub(crate) fn axes(p: &Point, act: &Act) -> [Axis; 4]
 }
 
 /// Where an act in the show's frame ends, from the present point.
+#[tactic(auto, unfolding(crate::specs::Written::end_of))]
 pub(crate) fn end_of(p: &Point, act: &Act) -> Point
     requires point { IsPointUpTo (2 ^ 40) p.now }
     requires act { IsActUpTo (2 ^ 28) act.now }

@@ -32,7 +32,8 @@ use Rattle.mm_rounding.specs.declared.piece.MicroPiece.{MicroPiece}
 use Rattle.mm_rounding.specs.Rounding.{millimetres, controls, first_control, rounded, element_of, axis_on, segment_of}
 use Rattle.mm_rounding.specs.Near.{IsAxis, position, last_control}
 use Rattle.mm_rounding.proofs.Elements.{rounded_is_axis, rounded_edges, ends_there, stays_near}
-use Rattle.figure_expand.specs.Acts.{act_of, end_of, on_axis, point_after}
+use Rattle.figure_expand.specs.Acts.{act_of, on_axis}
+use Rattle.figure_expand.specs.Written.{end_of, point_after}
 use Rattle.figure_expand.specs.Controls.{axes_of, piece_of}
 use Rattle.figure_expand.specs.Expanded.{job_in, no_job, pieces_from, expanded_from, expanded}
 use Rattle.figure_expand.specs.Flown.{start_of, jobs_in, job_at, point_before, piece_at, written_at, StartsWell, RoundsWell, FitsWell}

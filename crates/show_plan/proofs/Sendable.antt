@@ -22,7 +22,8 @@ use Rattle.fleet_math.specs.Limits.{most_segments}
 use Rattle.traj_codec.proofs.JoinedLemmas.{durations_of, join_holds_law, lasting_of}
 use Rattle.mm_rounding.specs.declared.piece.MicroPiece.{MicroPiece}
 use Rattle.mm_rounding.specs.Rounding.{millimetres, is_short, short, fits, counted, rounding, segment_of}
-use Rattle.figure_expand.specs.Acts.{act_of, end_of}
+use Rattle.figure_expand.specs.Acts.{act_of}
+use Rattle.figure_expand.specs.Written.{end_of}
 use Rattle.figure_expand.specs.Controls.{piece_of}
 use Rattle.figure_expand.specs.Expanded.{job_in, pieces_from, range_fault}
 use Rattle.figure_expand.specs.Flown.{start_of, RoundsWell, StartsWell}

@@ -1,9 +1,13 @@
-use Rattle.std.proofs.Common.{sym, ap, ◌∙◌}
-use Rattle.figure_expand.specs.Acts.{act_in}
+use Rattle.std.proofs.Common.{◌^◌, sym, subst}
+use Rattle.figure_expand.specs.Bounds.{IsActUpTo}
+use Rattle.figure_expand.proofs.Reach.{act_small}
 use Rattle.figure_expand.proofs.Unmoved.{unmoved}
 use Rattle.figure_expand.proofs.acts.act_of.Goals as goal
 
 pub returns-then-is_unmoved-clause-value : goal.returns-then-is_unmoved-clause-value
-returns-then-is_unmoved-clause-value c =
-    let still = c.is_unmoved.ensures c.if-is_unmoved.true in
-    sym (ap (λ f. act_in f c.args.job.now.act) still ∙ unmoved c.args.job.now.act c.requires.1)
+returns-then-is_unmoved-clause-value c = sym (unmoved c.args.job.now (c.is_unmoved.ensures c.if-is_unmoved.true) c.requires)
+
+pub returns-then-is_unmoved-clause-small : goal.returns-then-is_unmoved-clause-small
+returns-then-is_unmoved-clause-small c =
+    let still = unmoved c.args.job.now (c.is_unmoved.ensures c.if-is_unmoved.true) c.requires in
+    subst (IsActUpTo (2 ^ 28)) still (act_small c.args.job.now c.requires)

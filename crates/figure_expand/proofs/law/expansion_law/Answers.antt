@@ -1,5 +1,3 @@
-use Rattle.std.proofs.Common.{arith}
-use Rattle.std.proofs.lemmas.Grind.{common_steps}
 use Rattle.figure_expand.proofs.Pieces.{closed_forms, flies_as_written, piece_whole, piece_begins, piece_ends}
 use Rattle.figure_expand.proofs.Fitting.{fits_well, fits_back}
 use Rattle.figure_expand.proofs.law.expansion_law.Goals as goal
