@@ -6,3 +6,4 @@ pub mod MomentLemmas
 pub mod EdgeLemmas
 pub mod Rows
 pub mod NearLemmas
+pub mod DepthLemmas

@@ -1,6 +1,6 @@
 -- Parts of parts: what is known of the halves of a part is known of the part.
 use Rattle.std.proofs.lemmas.Grind.{common_steps}
-use Rattle.std.proofs.Common.{◌≡◌, ◌≢◌, ℕ, suc, ◌+◌, ◌-◌, ◌*◌, ◌^◌, ◌≤◌, ◌<◌, ℤ, pos, ◌+ℤ◌, ◌-ℤ◌, ◌*ℤ◌, ◌≤ℤ◌, ◌<ℤ◌, true, false, arith, refl, sym, subst, ◌∙◌, ap, inl, inr, List, Option, Some, None, All, lit<, MatchOption, FitsSigned, [], length}
+use Rattle.std.proofs.Common.{◌≡◌, ℕ, suc, ◌+◌, ◌-◌, ◌*◌, ◌^◌, ◌≤◌, ◌<◌, ℤ, pos, ◌+ℤ◌, ◌-ℤ◌, ◌*ℤ◌, ◌≤ℤ◌, ◌<ℤ◌, true, false, arith, refl, sym, subst, ◌∙◌, ap, inl, inr, List, Option, Some, None, All, lit<, MatchOption, FitsSigned, [], length}
 use Rattle.std.proofs.lemmas.List.{get_or_past}
 use mir.Syntax.{w128}
 use Rattle.sep_parts.proofs.Parts.{part-within}
@@ -161,14 +161,6 @@ answer_right r h region curves left right scale next n depth parts None (Some i)
 controls_within : (m : ℕ) (curves : List (Bez 8)) (axis k : ℕ) → All (λ (curve : Bez 8). All (IsWithin (pos m)) curve.b) curves → IsWithin (pos m) (at (controls curves axis) k)
 controls_within m curves axis k all = grind (arith, common_steps, ints, by_lt, All-get_or, pos, get_or_past)
 
--- the number of a depth is at most 8
-pub shallow : {n depth : ℕ} → n ≡ depth → n ≤ 8 → depth ≤ 8
-shallow {n} {depth} same most = omega (arith, same, most)
-
--- one level less than a depth that isn't 0
-pub less : {n depth below : ℕ} → n ≡ depth → n ≢ 0 → below ≡ n - 1 → suc below ≡ depth
-less {n} {depth} {below} same some is = omega (arith, same, some, is)
-
 -- the halves have room
 pub half_within : (side depth below : ℕ) (curves half : List (Bez 8)) → suc below ≡ depth → depth ≤ 8 → side < 2 → length half ≡ 3 → IsHalf side curves half → All (λ (curve : Bez 8). All (IsWithin (pos (2 ^ (84 - 7 * depth)))) curve.b) curves →
     All (λ (curve : Bez 8). All (IsWithin (pos (2 ^ (84 - 7 * below)))) curve.b) half
@@ -228,7 +220,7 @@ from_here c r h depth region drone cue curves i is kept =
 pub answer_cue : (c : Raised) (r h depth : ℕ) (region : Region) (drone cue : ℕ) (curves : List (Bez 8)) (o : Option ℕ) → curves ≡ curves_at c drone cue →
     MatchOption o (AllKeptIn r h region curves (pos 5040) depth) (IsFirstIn r h region curves (pos 5040) depth) → MatchOption o (CueKept c r h depth region drone cue) (IsFirstOfCue c r h depth region drone cue)
 answer_cue c r h depth region drone cue curves None is found = λ i inside. to_here c r h depth region drone cue curves i is (found i inside)
-answer_cue c r h depth region drone cue curves (Some index) is found = grind (arith, common_steps, from_here, less, to_here)
+answer_cue c r h depth region drone cue curves (Some index) is found = grind (arith, common_steps, from_here, to_here)
 
 pub first_scale : (depth : ℕ) → depth ≤ 8 → pos 5040 ≤ℤ pos (2 ^ (70 - 7 * depth))
 first_scale depth shallow =

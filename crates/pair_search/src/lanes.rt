@@ -10,6 +10,7 @@ ghost use Rattle.sep_parts.specs.Levels.{IsLevel};
 ghost use Rattle.pair_search.specs.Lanes.{AreLanes, AreSmallLanes, IsFloor, IsLowAt, IsPoint, IsSmallPoint, lane_value, slack_of, slack_on, steps_of};
 
 use fleet_curves::Difference;
+use fleet_math::Depth;
 use sep_parts::{Level, Ruler};
 
 /// At most 98 directions side by side: the weights of the three axes, and what a point has to reach.
@@ -96,8 +97,8 @@ pub fn point_at(diff: &Difference, level: &Level, k: usize) -> Point
     ensures small { IsSmallPoint result }
     ensures point { IsPoint level.now k result }
 {
-    let depth = level.place.depth;
     level_law(diff, level);
+    let depth = Depth::make(level.place.depth);
     Point {
         x: stepped(level.part[0].b[k], depth),
         y: stepped(level.part[1].b[k], depth),
@@ -117,14 +118,13 @@ fn level_law(diff: &Difference, level: &Level)
 }
 
 // A control value of a part of a depth in whole steps, rounded down. To depth 4 it is a number of 64 bits.
-fn stepped(value: i128, depth: u8) -> i32
-    requires depth { depth ≤ 8 }
+fn stepped(value: i128, depth: Depth) -> i32
     requires value { IsBelow (2 ^ (7 * depth) * 2 ^ 30) value }
     ensures floor { IsFloor (steps_of depth) value result }
     ensures small { IsWithin (pos 65536) result }
 {
     let times = steps_of(depth);
-    if depth <= 4 {
+    if depth.levels() <= 4 {
         floor_short(value as i64, times) as i32
     } else {
         floor_by(value, times) as i32
@@ -132,11 +132,10 @@ fn stepped(value: i128, depth: u8) -> i32
 }
 
 // A step has 2 to this power.
-fn steps_of(depth: u8) -> u32
-    requires { depth ≤ 8 }
+fn steps_of(depth: Depth) -> u32
     ensures { result ≡ steps_of depth }
 {
-    14 + 7 * u32::from(depth)
+    14 + 7 * u32::from(depth.levels())
 }
 
 // A value by a power of 2, rounded down.

@@ -1,6 +1,6 @@
 -- How wide the steps of a half are, and so those of all parts; and what is no faster than a speed that was found.
 use Rattle.std.proofs.lemmas.Grind.{common_steps}
-use Rattle.std.proofs.Common.{◌≡◌, ◌≢◌, ℕ, zero, suc, ◌+◌, ◌-◌, ◌*◌, ◌/◌, ◌^◌, ◌≤◌, ◌<◌, max, ℤ, pos, ◌+ℤ◌, ◌-ℤ◌, ◌*ℤ◌, unsigned_abs, arith, lit<, refl, sym, ◌∙◌, ap, List, All}
+use Rattle.std.proofs.Common.{◌≡◌, ℕ, zero, suc, ◌+◌, ◌-◌, ◌*◌, ◌/◌, ◌^◌, ◌≤◌, ◌<◌, max, ℤ, pos, ◌+ℤ◌, ◌-ℤ◌, ◌*ℤ◌, unsigned_abs, arith, lit<, refl, sym, ◌∙◌, ap, List, All}
 use Rattle.std.proofs.lemmas.Int.{ints}
 use Rattle.std.proofs.lemmas.List.Elements.{All-from_get_or}
 use Rattle.std.proofs.lemmas.Nat.{mul-le, pow-add, pow_pos}
@@ -191,14 +191,6 @@ pub slow_small : (p ms v : ℕ) → p ≤ 2 ^ 48 → ms < 2 ^ 16 → v < 2 ^ 50 
 slow_small p ms v few short slow = grind (arith, common_steps, mul-le)
 
 -- ---- the halves of a curve whose parts have room
--- the number of a depth is at most 8
-pub shallow : {n depth : ℕ} → n ≡ depth → n ≤ 8 → depth ≤ 8
-shallow {n} {depth} same most = omega (arith, same, most)
-
--- one level less than a depth that isn't 0
-pub less : {n depth below : ℕ} → n ≡ depth → n ≢ 0 → below ≡ n - 1 → suc below ≡ depth
-less {n} {depth} {below} same some is = omega (arith, same, some, is)
-
 -- the half with this number has room
 pub half_within : (b half : List ℤ) (depth below r : ℕ) → suc below ≡ depth → depth ≤ 8 → r < 2 → half ≡ eight (part_value 1 r (at b)) → All (IsWithin (pos (2 ^ (84 - 7 * depth)))) b →
     All (IsWithin (pos (2 ^ (84 - 7 * below)))) half

@@ -4,10 +4,11 @@ use mir.Syntax.{w128}
 use Rattle.std.proofs.lemmas.Int.{ints}
 use Rattle.std.proofs.Math.Nat.{pow-le-pow_right}
 use Rattle.fleet_math.specs.Bernstein.{at}
+use Rattle.fleet_math.proofs.DepthLemmas.{less, shallow}
 use Rattle.bezier_core.specs.Steps.{IsWithin}
 use Rattle.bezier_core.proofs.CurveLemmas.{at-eight}
 use Rattle.halving.specs.Part.{part_value}
-use Rattle.speed_bound.proofs.Halves.{half_within, less, room_of, shallow}
+use Rattle.speed_bound.proofs.Halves.{half_within, room_of}
 use Rattle.speed_bound.proofs.Widths.{within_at}
 use Rattle.dynamics_bound.specs.Accelerations.{widest_bend, widest_bend_part}
 use Rattle.dynamics_bound.proofs.Widths.{bends_shrink, depth_small, widest-halves, widest-whole, widest_bend-small}

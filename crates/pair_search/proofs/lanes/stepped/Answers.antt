@@ -27,22 +27,22 @@ overflow_cast-result c =
     let fits : FitsSigned w64 c.floor_short.result = search rules in
     rw (to_z-of_z w64 c.floor_short.result fits) (point_fits _ (short_small c))
 
-pub overflow_cast-result-else-depth-le4 : goal.overflow_cast-result-else-depth-le4
-overflow_cast-result-else-depth-le4 c =
+pub overflow_cast-result-else-levels-le4 : goal.overflow_cast-result-else-levels-le4
+overflow_cast-result-else-levels-le4 c =
     let fits : FitsSigned w128 c.floor_by.result = search rules in
     rw (to_z-of_z w128 c.floor_by.result fits) (point_fits _ (wide_small c))
 
-pub returns-then-depth-le4-clause-floor : goal.returns-then-depth-le4-clause-floor
-returns-then-depth-le4-clause-floor c =
+pub returns-then-levels-le4-clause-floor : goal.returns-then-levels-le4-clause-floor
+returns-then-levels-le4-clause-floor c =
     let fits : FitsSigned w64 c.floor_short.result = search rules in
     let few : FitsSigned w32 c.floor_short.result = point_fits _ (short_small c) in
     rw (to_z-of_z w64 c.floor_short.result fits, to_z-of_z w32 c.floor_short.result few) (short_floor c)
 
-pub returns-then-depth-le4-clause-small : goal.returns-then-depth-le4-clause-small
-returns-then-depth-le4-clause-small c = grind (arith, common_steps, point_fits, short_small, to_z-of_z)
+pub returns-then-levels-le4-clause-small : goal.returns-then-levels-le4-clause-small
+returns-then-levels-le4-clause-small c = grind (arith, common_steps, point_fits, short_small, to_z-of_z)
 
-pub returns-else-depth-le4-clause-floor : goal.returns-else-depth-le4-clause-floor
-returns-else-depth-le4-clause-floor c = grind (arith, common_steps, point_fits, wide_small, to_z-of_z, wide_floor)
+pub returns-else-levels-le4-clause-floor : goal.returns-else-levels-le4-clause-floor
+returns-else-levels-le4-clause-floor c = grind (arith, common_steps, point_fits, wide_small, to_z-of_z, wide_floor)
 
-pub returns-else-depth-le4-clause-small : goal.returns-else-depth-le4-clause-small
-returns-else-depth-le4-clause-small c = grind (arith, common_steps, point_fits, wide_small, to_z-of_z)
+pub returns-else-levels-le4-clause-small : goal.returns-else-levels-le4-clause-small
+returns-else-levels-le4-clause-small c = grind (arith, common_steps, point_fits, wide_small, to_z-of_z)
