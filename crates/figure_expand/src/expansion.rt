@@ -14,8 +14,9 @@ use choreo_lines::Point;
 use cue_grid::Cue;
 use mm_rounding::MicroPiece;
 
-/// What drone `d` does in a cue, from where it is at the end of the cue before, or from its start: the control values of its act in
-/// the show's frame, in micrometres and tenths of a degree (docs/LANGUAGE.md). The point moves to the end of the cue.
+/// What drone `d` does in a cue, from where it is at the end of the cue before, or from its start: the control values of
+/// its act in the show's frame, in micrometres and tenths of a degree (docs/LANGUAGE.md). The point moves to the end of the
+/// cue.
 pub fn step(point: &mut Point, d: usize, cue: &Cue) -> MicroPiece
     requires point { IsPointUpTo (2 ^ 40) point.old }
     requires drone { d < length cue.now.jobs }
@@ -27,7 +28,11 @@ pub fn step(point: &mut Point, d: usize, cue: &Cue) -> MicroPiece
 {
     let jobs = cue.jobs.as_slice();
     let act = act_of(&jobs[d]);
-    let axes = axes(point, &act);
-    *point = end_of(point, &act);
-    MicroPiece { ms: cue.ms, axes }
+    let end = end_of(point, &act);
+    let piece = MicroPiece {
+        ms: cue.ms,
+        axes: axes(point, &act),
+    };
+    *point = end;
+    piece
 }

@@ -17,7 +17,7 @@ use Rattle.traj_codec.specs.Positions.{value_after}
 use Rattle.mm_rounding.specs.declared.piece.Axis.{Axis}
 use Rattle.mm_rounding.specs.declared.piece.Axis.TheVariants.{One, Two, Four, Eight}
 use Rattle.mm_rounding.specs.declared.piece.MicroPiece.{MicroPiece}
-use Rattle.mm_rounding.specs.Rounding.{millimetres, controls, first_control, rounded, all_equal, behind_first, element_of, fits, fitted, axis_on, segment_of}
+use Rattle.mm_rounding.specs.Rounding.{millimetres, is_short, short, shorts, controls, first_control, rounded, all_equal, behind_first, element_of, fits, fitted, axis_on, segment_of}
 use Rattle.mm_rounding.specs.Near.{IsAxis, position, KeepsNear, KeepsEqual, last_control, EndsThere, IsPiece, StaysNear}
 use Rattle.mm_rounding.proofs.Curves.{near_curve, position-constant}
 
@@ -122,13 +122,24 @@ fitted_is axis x is = by_fit (fits axis) (element_of axis) x is
     by_fit true e x is = (refl, cc)
     by_fit false e x is = absurd (cc)
 
+unfit : {A : Type 0} (b : Bool) (x : A) → None ≡ cond b (Some x) None → b ≡ false
+unfit true x is = absurd (cc)
+unfit false x is = refl
+
 -- without an element a number does not fit
 unfitted : (axis : Axis) → None ≡ fitted axis → fits axis ≡ false
-unfitted axis is = by_fit (fits axis) (element_of axis) is
+unfitted axis is = unfit (fits axis) (element_of axis) is
+
+-- a number that does not fit leaves nothing of all of them
+pub one_unfitted : (v : List ℤ) (k : ℕ) → k < length v → None ≡ short (millimetres (at v k)) → None ≡ shorts (map millimetres v)
+one_unfitted [] k small is = absurd (omega arith)
+one_unfitted (z ∷ v) zero small is = rw (unfit (is_short (millimetres z)) (millimetres z) is) refl
+one_unfitted (z ∷ v) (suc k) small is =
+    rw (unfit (list_all is_short (map millimetres v)) (map millimetres v) (one_unfitted v k (omega arith) is)) (neither (is_short (millimetres z)) (map millimetres (z ∷ v)))
   where
-    by_fit : (b : Bool) (e : Element) → None ≡ cond b (Some e) None → b ≡ false
-    by_fit true e is = absurd (cc)
-    by_fit false e is = refl
+    neither : (b : Bool) (x : List ℤ) → None ≡ cond (b && false) (Some x) None
+    neither true x = refl
+    neither false x = refl
 
 some_time : (ms : ℕ) → (ms ≡ 0 → ⊥) → nat_le 1 ms ≡ true
 some_time zero some = absurd (some refl)

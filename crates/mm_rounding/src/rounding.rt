@@ -42,15 +42,18 @@ pub fn to_mm(v: i64) -> Option<i16>
     short(millimetres(v))
 }
 
-// Each number in whole millimetres.
-fn each_rounded<const N: usize>(v: &[i64; N]) -> [i64; N]
-    ensures { result ≡ map millimetres v.now }
+// Each number in whole millimetres, where all of these fit two bytes.
+fn short_millimetres<const N: usize>(v: &[i64; N]) -> Option<[i16; N]>
+    ensures { result ≡ shorts (map millimetres v.now) }
 {
     let mut row = [0; N];
     for k in 0..N {
-        row[k] = millimetres(v[k]);
+        match to_mm(v[k]) {
+            Some(number) => row[k] = number,
+            None => return None,
+        }
     }
-    row
+    Some(row)
 }
 
 // Each number in two bytes, where all fit.
@@ -65,18 +68,6 @@ fn shorts<const N: usize>(v: &[i64; N]) -> Option<[i16; N]>
         }
     }
     Some(row)
-}
-
-// The axis with each control value in whole millimetres.
-fn rounded(axis: &Axis) -> Axis
-    ensures { result ≡ rounded axis.now }
-{
-    match axis {
-        Axis::One { v } => Axis::One { v: millimetres(*v) },
-        Axis::Two { v } => Axis::Two { v: each_rounded(v) },
-        Axis::Four { v } => Axis::Four { v: each_rounded(v) },
-        Axis::Eight { v } => Axis::Eight { v: each_rounded(v) },
-    }
 }
 
 // Whether all control values equal the first one.
@@ -125,6 +116,30 @@ fn seven(v: &[i16; 8]) -> Element
     }
 }
 
+// The element of an axis of x, y or z, where it can hold each control value in whole millimetres.
+fn rounded_element(axis: &Axis) -> Option<Element>
+    ensures { result ≡ fitted (rounded axis.now) }
+{
+    match axis {
+        Axis::One { v } => match to_mm(*v) {
+            Some(_) => Some(Element::Constant),
+            None => None,
+        },
+        Axis::Two { v } => match short_millimetres(v) {
+            Some(row) => Some(linear(&row)),
+            None => None,
+        },
+        Axis::Four { v } => match short_millimetres(v) {
+            Some(row) => Some(cubic(&row)),
+            None => None,
+        },
+        Axis::Eight { v } => match short_millimetres(v) {
+            Some(row) => Some(seven(&row)),
+            None => None,
+        },
+    }
+}
+
 // The element of an axis, where it can hold each control value.
 fn element(axis: &Axis) -> Option<Element>
     ensures { result ≡ fitted axis.now }
@@ -159,9 +174,9 @@ pub fn round_piece(p: &MicroPiece) -> Option<Segment>
     if p.ms == 0 {
         return None;
     }
-    let x = element(&rounded(&p.axes[0]))?;
-    let y = element(&rounded(&p.axes[1]))?;
-    let z = element(&rounded(&p.axes[2]))?;
+    let x = rounded_element(&p.axes[0])?;
+    let y = rounded_element(&p.axes[1])?;
+    let z = rounded_element(&p.axes[2])?;
     let yaw = element(&p.axes[3])?;
     Some(Segment {
         ms: p.ms,

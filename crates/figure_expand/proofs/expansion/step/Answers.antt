@@ -13,4 +13,4 @@ act_of-act-requires c =
 
 pub returns-clause-reach : goal.returns-clause-reach
 returns-clause-reach c n small =
-    subst (IsPointUpTo (n + 2 ^ 30)) (sym c.end_of.ensures) (end_small n c.args.point.now c.act_of-act.result small c.act_of-act.ensures.small)
+    subst (IsPointUpTo (n + 2 ^ 30)) (sym c.end_of-end.ensures) (end_small n c.args.point.now c.act_of-act.result small c.act_of-act.ensures.small)

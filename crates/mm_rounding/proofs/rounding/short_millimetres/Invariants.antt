@@ -1,0 +1,12 @@
+use Rattle.std.proofs.Common.{◌≡◌, true, map, length, take}
+use Rattle.std.specs.List.{list_all}
+use Rattle.mm_rounding.specs.Rounding.{millimetres, is_short}
+use Rattle.mm_rounding.proofs.rounding.short_millimetres.Given as goal
+
+-- this many numbers fit, and are kept
+abbrev pub invariant-loop-k : goal.invariant-loop-k
+invariant-loop-k g l = record {
+  same_length : length l.row ≡ g.row.N;
+  fit : list_all is_short (map millimetres (take l.k l.v)) ≡ true;
+  done : take l.k l.row ≡ map millimetres (take l.k l.v);
+}
