@@ -71,7 +71,3 @@ pub values_all : (text : List ℕ) (front : List Value) (wants : List Want) (ts 
 unfolding values_in
 values_all text front wants ts i h =
     ap (λ xs. with_front front (values_in xs (words_in text (drop i ts)))) (drop_all i wants h) ∙ ap (λ vs. Ok vs) (append-nil front)
-
-pub with_none : {A : Type 0} (r : Result (List A) LineKind) → r ≡ with_front [] r
-with_none (Ok xs) = refl
-with_none (Err k) = refl

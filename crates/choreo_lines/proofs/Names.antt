@@ -21,18 +21,11 @@ name_has_bytes (b ∷ word) named = omega arith
 above_blanks : (b : ℕ) → goes_in_name b ≡ true → 33 ≤ b
 above_blanks b h = grind (arith, nat_tests)
 
-no_blank : (b : ℕ) → 33 ≤ b → is_blank b ≡ false
-no_blank b h = grind (arith, nat_tests)
-
 no_line_feed : (b : ℕ) → 33 ≤ b → is_line_feed b ≡ false
 no_line_feed b h = grind (arith, nat_tests)
 
 byte_goes : (word : List ℕ) (i : ℕ) → is_name word ≡ true → i < length word → goes_in_name (get_or word i 0) ≡ true
 byte_goes word i named lt = grind (arith, common_steps, cases_Bool, list_all_at, name_parts)
-
--- no byte of a name separates words
-pub name_has_no_blank : (word : List ℕ) (i : ℕ) → is_name word ≡ true → i < length word → is_blank (get_or word i 0) ≡ false
-name_has_no_blank word i named lt = no_blank (get_or word i 0) (above_blanks (get_or word i 0) (byte_goes word i named lt))
 
 -- no byte of a name ends a line
 pub name_has_no_line_feed : (word : List ℕ) (i : ℕ) → is_name word ≡ true → i < length word → is_line_feed (get_or word i 0) ≡ false

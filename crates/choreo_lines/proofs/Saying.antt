@@ -32,31 +32,14 @@ use Rattle.choreo_lines.specs.declared.table.ActWord.TheVariants as word_of
 
 -- A word that is read in its place is that value.
 
-fixed_by : {A : Type 0} (P : A → Type 0) (b : Bool) (w c : Word) (x y : A) (rest : Result A LineKind) → bytes_eq w c ≡ b → (w ≡ c → P x) → (rest ≡ Ok y → P y) → cond b (Ok x) rest ≡ Ok y → P y
-fixed_by P true w c x y rest e is other h = let same : x ≡ y = cc in subst P same (is ((bytes_eq-Decides w c).0 e))
-fixed_by P false w c x y rest e is other h = other h
-
--- a word is a fixed one, or it is read on
-fixed : {A : Type 0} (P : A → Type 0) (w c : Word) (x y : A) (rest : Result A LineKind) → (w ≡ c → P x) → (rest ≡ Ok y → P y) → cond (bytes_eq w c) (Ok x) rest ≡ Ok y → P y
-fixed P w c x y rest is other h = fixed_by P (bytes_eq w c) w c x y rest refl is other h
-
-no_word : {A : Type 0} (P : A → Type 0) (y : A) → ◌≡◌ {A = Result A LineKind} (Err kind.BadWord) (Ok y) → P y
-no_word P y h = cc
-
 mirror_holds : (w : Word) (m : Mirror) → mirror_in w ≡ Ok m → Holds want.Mirror w (Mirrored m)
-mirror_holds w m h =
-    let P = λ (x : Mirror). Holds want.Mirror w (Mirrored x) in
-    fixed P w (codes "none") mirror.None m _ (λ e. e) (fixed P w (codes "x") mirror.X m _ (λ e. e) (fixed P w (codes "y") mirror.Y m _ (λ e. e) (no_word P m))) h
+mirror_holds w m h = grind (arith, common_steps, bytes_eq-Decides)
 
 smooth_holds : (w : Word) (s : Bool) → smooth_in w ≡ Ok s → Holds want.Manner w (Smooth s)
-smooth_holds w s h =
-    let P = λ (x : Bool). Holds want.Manner w (Smooth x) in
-    fixed P w (codes "line") false s _ (λ e. e) (fixed P w (codes "move") true s _ (λ e. e) (no_word P s)) h
+smooth_holds w s h = grind (arith, common_steps, bytes_eq-Decides)
 
 ccw_holds : (w : Word) (c : Bool) → ccw_in w ≡ Ok c → Holds want.Sense w (Ccw c)
-ccw_holds w c h =
-    let P = λ (x : Bool). Holds want.Sense w (Ccw x) in
-    fixed P w (codes "ccw") true c _ (λ e. e) (fixed P w (codes "cw") false c _ (λ e. e) (no_word P c)) h
+ccw_holds w c h = grind (arith, common_steps, bytes_eq-Decides)
 
 judged_is : (r : Result ℤ NumberFault) (v : ℤ) → judged r ≡ Ok v → r ≡ Ok v
 judged_is (Ok x) v h = let same : x ≡ v = cc in ap (λ z. Ok z) same
@@ -107,15 +90,8 @@ held_name w v h = absurd h
 
 held_value : (wanted : Want) (w : Word) (v : Value) → Holds wanted w v → value_in wanted w ≡ Ok v
 held_value want.Name w (Named n) h = ap (λ r. r >>= (λ x. Ok (Named x))) (held_name w (Named n) h)
-held_value want.Mirror w (Mirrored mirror.None) h = ap (value_in want.Mirror) h
-held_value want.Mirror w (Mirrored mirror.X) h = ap (value_in want.Mirror) h
-held_value want.Mirror w (Mirrored mirror.Y) h = ap (value_in want.Mirror) h
-held_value want.Manner w (Smooth false) h = ap (value_in want.Manner) h
-held_value want.Manner w (Smooth true) h = ap (value_in want.Manner) h
-held_value want.Sense w (Ccw false) h = ap (value_in want.Sense) h
-held_value want.Sense w (Ccw true) h = ap (value_in want.Sense) h
 held_value (want.Number low high) w (Number v) h = ap (λ r. judged r >>= (λ x. Ok (Number x))) (number_is_read low high w v h)
-held_value wanted w v h = absurd h
+held_value wanted w v h = grind (arith, common_steps)
 
 -- Words in their places, and names after them.
 
@@ -274,19 +250,12 @@ entry_again (entry.Perform figure frame drones) o = ap (entry.Perform figure fra
 entry_again (entry.One name a) o = absurd (o refl)
 entry_again e o = refl
 
-act_by_read : (k : ActWord) (ws : List Word) (vs : List Value) → AllHold (act_places k) ws vs → length vs ≡ length (act_places k) → act_by (Some k) ws ≡ Ok (act_with k (take (length (act_places k)) vs))
-act_by_read k ws vs h e = grind (arith, common_steps, held_length, cond, eq-eqb, held_values)
-
 -- an act whose values fit their places is the one with these values
 act_again : (a : Act) → AllFit (act_places (act_fields a).0) (act_fields a).1 → (act_with (act_fields a).0 (act_fields a).1 ≡ a) × (length (act_fields a).1 ≡ length (act_places (act_fields a).0))
 act_again a f = grind (arith, common_steps)
 
 act_read : (a : Act) (ws : List Word) → AllHold (act_places (act_fields a).0) ws (act_fields a).1 → act_by (Some (act_fields a).0) ws ≡ Ok a
-act_read a ws h =
-    let is = act_again a (held_fit (act_places (act_fields a).0) ws (act_fields a).1 h) in
-    act_by_read (act_fields a).0 ws (act_fields a).1 h is.1
-    ∙ ap (λ vs. Ok (act_with (act_fields a).0 vs)) (take_all (length (act_places (act_fields a).0)) (act_fields a).1 (omega (arith, is.1)))
-    ∙ ap (λ x. Ok x) is.0
+act_read a ws h = grind (arith, common_steps, act_again, held_fit, held_length, held_values, take_all, cond, eq-eqb)
 
 act_line_read : (w : Word) (ws : List Word) (n : Name) (a : Act) → Holds want.Name w (Named n) → SaysAct ws a → act_line (w ∷ ws) ≡ Ok (entry.One n a)
 unfolding act_line act_in

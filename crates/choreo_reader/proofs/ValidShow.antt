@@ -130,37 +130,10 @@ body_nested [] k = omega arith
 body_nested (Blocks b ∷ is) k = depth_then b (body is) 0 (omega (arith, k.0.1)) (body_nested is k.1)
 body_nested (i ∷ is) k = body_nested is k.1
 
-memory_fits : (is : List Item) → LinesFit (items_said is) → (slice_index_or (parts_of is).memories 0 (2, 0)).1 ≤ 4095
-memory_fits [] h = omega arith
-memory_fits (Memory id offset ∷ is) h = omega (arith, ints, h.0.1.1.0.1)
-memory_fits (i ∷ is) h = memory_fits is (back_fits (item_said i) (items_said is) h)
-
-trajectory_fits : (is : List Item) → LinesFit (items_said is) → slice_index_or (parts_of is).trajectories 0 0 ≤ 9
-trajectory_fits [] h = omega arith
-trajectory_fits (Trajectory id ∷ is) h = omega (arith, ints, h.0.1.0.1)
-trajectory_fits (i ∷ is) h = trajectory_fits is (back_fits (item_said i) (items_said is) h)
-
-abbrev FitsEllipsoid : (ℕ × ℕ) → Type 0
-FitsEllipsoid e = (1 ≤ e.0) × (e.0 ≤ 2000) × (1 ≤ e.1) × (e.1 ≤ 2000)
-
-ellipsoid_fits : (is : List Item) → LinesFit (items_said is) → FitsEllipsoid (slice_index_or (parts_of is).ellipsoids 0 (120, 300))
-ellipsoid_fits [] h = (omega arith, omega arith, omega arith, omega arith)
-ellipsoid_fits (Ellipsoid r x ∷ is) h =
-    (omega (arith, ints, h.0.1.0.0), omega (arith, ints, h.0.1.0.1), omega (arith, ints, h.0.1.1.0.0), omega (arith, ints, h.0.1.1.0.1))
-ellipsoid_fits (i ∷ is) h = ellipsoid_fits is (back_fits (item_said i) (items_said is) h)
-
-stray_fits : (is : List Item) → LinesFit (items_said is) → slice_index_or (parts_of is).strays 0 0 ≤ 1000
-stray_fits [] h = omega arith
-stray_fits (Stray mm ∷ is) h = omega (arith, ints, h.0.1.0.1)
-stray_fits (i ∷ is) h = stray_fits is (back_fits (item_said i) (items_said is) h)
-
-late_fits : (is : List Item) → LinesFit (items_said is) → slice_index_or (parts_of is).lates 0 0 ≤ 1000
-late_fits [] h = omega arith
-late_fits (Late ms ∷ is) h = omega (arith, ints, h.0.1.0.1)
-late_fits (i ∷ is) h = late_fits is (back_fits (item_said i) (items_said is) h)
-
 settings_fit : (is : List Item) → LinesFit (items_said is) → FitsSettings (show_of (parts_of is)).settings
-settings_fit is h = let e = ellipsoid_fits is h in (memory_fits is h, trajectory_fits is h, e.0, e.1, e.2, e.3, stray_fits is h, late_fits is h)
+settings_fit [] h = omega arith
+settings_fit (Memory id offset ∷ is) h = omega (arith, ints, settings_fit is h.1)
+settings_fit (i ∷ is) h = omega (arith, ints, settings_fit is (back_fits (item_said i) (items_said is) h))
 
 -- The numbers of the lines.
 
@@ -206,10 +179,6 @@ number_then-append (Some n) xs ys = refl
 numbers-append : (xs ys : List SaidLine) → numbers (xs ++ ys) ≡ numbers xs ++ numbers ys
 numbers-append [] ys = refl
 numbers-append (x ∷ xs) ys = ap (number_then x.number) (numbers-append xs ys) ∙ number_then-append x.number (numbers xs) (numbers ys)
-
-above_front : (n : ℕ) (xs ys : List ℕ) → AllAbove n (xs ++ ys) → AllAbove n xs
-above_front n [] ys a = tt
-above_front n (x ∷ xs) ys a = (a.0, above_front x xs ys a.1)
 
 above_back : (n : ℕ) (xs ys : List ℕ) → AllAbove n (xs ++ ys) → AllAbove n ys
 above_back n [] ys a = a

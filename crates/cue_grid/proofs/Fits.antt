@@ -1,7 +1,7 @@
 -- The grid of a valid show without a fault is valid.
 use Rattle.std.proofs.lemmas.Grind.{common_steps}
 use Rattle.std.proofs.Common.{◌≡◌, ℕ, zero, suc, ◌+◌, ◌*◌, ◌≤◌, Bool, true, false, cond, List, [], ◌∷◌, ◌++◌, map, length, drop, Option, Some, None, refl, sym, ap, subst, ◌∙◌, arith}
-use Rattle.std.specs.Prelude.{◌&&◌, nat_lt, ◌==◌, IsTrue, neg_ℤ, pos, ◌≤ℤ◌}
+use Rattle.std.specs.Prelude.{IfSome, ◌&&◌, nat_lt, ◌==◌, IsTrue, neg_ℤ, pos, ◌≤ℤ◌}
 use Rattle.std.specs.List.{All}
 use Rattle.std.proofs.lemmas.List.{length-append, length-map}
 use Rattle.std.proofs.lemmas.List.Elements.{All-nil, All-cons}
@@ -155,22 +155,18 @@ pub record IsFitFigure (f : PlainFigure) : Type 0 where
   pub plays : IsTrue (fits_figure f.body)
   pub fits : FitsBody f.body
 
--- the same of a figure that may be missing
-abbrev IsFitIfAny : Option PlainFigure → Type 0
-IsFitIfAny None = Unit {0}
-IsFitIfAny (Some f) = IsFitFigure f
+-- what is so of what a test lets through, and of what else there may be
+some_by : {A : Type 0} (P : A → Type 0) (b : Bool) (x : A) (o : Option A) → P x → IfSome o P → IfSome (cond b (Some x) o) P
+some_by P true x o h k = h
+some_by P false x o h k = k
 
-found_by : (b : Bool) (f : PlainFigure) (o : Option PlainFigure) → IsFitFigure f → IsFitIfAny o → IsFitIfAny (cond b (Some f) o)
-found_by true f o h k = h
-found_by false f o h k = k
-
-figure_fits : (fs : List PlainFigure) (n : Name) → FitFigures fs → IsFitIfAny (figure_named fs n)
+figure_fits : (fs : List PlainFigure) (n : Name) → FitFigures fs → IfSome (figure_named fs n) IsFitFigure
 figure_fits [] n h = tt
 figure_fits (f ∷ fs) n h =
-    found_by (same_name n f.name) f (figure_named fs n)
+    some_by IsFitFigure (same_name n f.name) f (figure_named fs n)
     (record { blocks = h.1; filled = h.2; plays = h.4; fits = h.5 }) (figure_fits fs n h.6)
 
-unknown_figure : (drones : List Name) (line : ℕ) (o : Option PlainFigure) (named : List Name) → perform_faults drones line o named ≡ [] → IsFitIfAny o → 1 ≤ count_of_figure o
+unknown_figure : (drones : List Name) (line : ℕ) (o : Option PlainFigure) (named : List Name) → perform_faults drones line o named ≡ [] → IfSome o IsFitFigure → 1 ≤ count_of_figure o
 unknown_figure drones line None named h k = cc
 unknown_figure drones line (Some f) named h k = some_in_figure f.body k.blocks k.filled k.plays k.fits
 
@@ -187,54 +183,34 @@ some_cue s known (plain.Perform line figure frame drones rest) v h f k e = grind
 
 -- The numbers of the jobs.
 
-abbrev FitsActIfAny : Option Act → Type 0
-FitsActIfAny None = Unit {0}
-FitsActIfAny (Some a) = FitsAct a
-
-abbrev FitsPointIfAny : Option Point → Type 0
-FitsPointIfAny None = Unit {0}
-FitsPointIfAny (Some p) = FitsPoint p
-
-abbrev FitsFormationIfAny : Option Formation → Type 0
-FitsFormationIfAny None = Unit {0}
-FitsFormationIfAny (Some f) = FitDroneLines f.places
-
-place_by : (b : Bool) (p : Point) (o : Option Point) → FitsPoint p → FitsPointIfAny o → FitsPointIfAny (cond b (Some p) o)
-place_by true p o h k = h
-place_by false p o h k = k
-
-place_fits : (ps : List DroneLine) (n : Name) → FitDroneLines ps → FitsPointIfAny (place_named ps n)
+place_fits : (ps : List DroneLine) (n : Name) → FitDroneLines ps → IfSome (place_named ps n) FitsPoint
 place_fits [] n h = tt
-place_fits (p ∷ ps) n h = place_by (same_name n p.name) p.at (place_named ps n) h.1 (place_fits ps n h.2)
+place_fits (p ∷ ps) n h = some_by FitsPoint (same_name n p.name) p.at (place_named ps n) h.1 (place_fits ps n h.2)
 
-formation_by : (b : Bool) (f : Formation) (o : Option Formation) → FitDroneLines f.places → FitsFormationIfAny o → FitsFormationIfAny (cond b (Some f) o)
-formation_by true f o h k = h
-formation_by false f o h k = k
-
-formation_fits : (fs : List Formation) (n : Name) → FitFormations fs → FitsFormationIfAny (formation_named fs n)
+formation_fits : (fs : List Formation) (n : Name) → FitFormations fs → IfSome (formation_named fs n) (λ f. FitDroneLines f.places)
 formation_fits [] n h = tt
-formation_fits (f ∷ fs) n h = formation_by (same_name n f.name) f (formation_named fs n) h.2 (formation_fits fs n h.3)
+formation_fits (f ∷ fs) n h = some_by (λ f. FitDroneLines f.places) (same_name n f.name) f (formation_named fs n) h.2 (formation_fits fs n h.3)
 
-places_fit : (o : Option Formation) → FitsFormationIfAny o → FitDroneLines (places_in o)
+places_fit : (o : Option Formation) → IfSome o (λ f. FitDroneLines f.places) → FitDroneLines (places_in o)
 places_fit None h = tt
 places_fit (Some f) h = h
 
-way_fits : (smooth : Bool) (o : Option Point) → FitsPointIfAny o → FitsActIfAny (way_if smooth o)
+way_fits : (smooth : Bool) (o : Option Point) → IfSome o FitsPoint → IfSome (way_if smooth o) FitsAct
 way_fits smooth None h = tt
 way_fits true (Some p) h = h
 way_fits false (Some p) h = h
 
-act_if_fits : (b : Bool) (a : Act) → FitsAct a → FitsActIfAny (act_if b a)
+act_if_fits : (b : Bool) (a : Act) → FitsAct a → IfSome (act_if b a) FitsAct
 act_if_fits true a h = h
 act_if_fits false a h = tt
 
-act_fits : (fs : List Formation) (p : Playing) (drone : Name) (a : ActLine) → FitFormations fs → FitsActLine a → FitsActIfAny (act_by fs p drone a)
+act_fits : (fs : List Formation) (p : Playing) (drone : Name) (a : ActLine) → FitFormations fs → FitsActLine a → IfSome (act_by fs p drone a) FitsAct
 act_fits fs p drone (on.One line name a) v h = act_if_fits (same_name drone (player p.roles p.drones name)) a h.1
 act_fits fs p drone (on.Form line formation smooth) v h =
     way_fits smooth (place_named (places_in (formation_named fs formation)) drone)
     (place_fits (places_in (formation_named fs formation)) drone (places_fit (formation_named fs formation) (formation_fits fs formation v)))
 
-job_by : (o : Option Act) (line : ℕ) (frame : Frame) (later : Job) → FitsFrame frame → FitsActIfAny o → FitsJob later → FitsJob (job_or o line frame later)
+job_by : (o : Option Act) (line : ℕ) (frame : Frame) (later : Job) → FitsFrame frame → IfSome o FitsAct → FitsJob later → FitsJob (job_or o line frame later)
 job_by None line frame later f h k = k
 job_by (Some a) line frame later f h k = (f, h)
 
@@ -271,7 +247,7 @@ cues_fit s p performed v f g (plain.Repeat line times inside rest) h =
 cues_fit s p performed v f g (plain.Perform line figure frame drones rest) h =
     fit_then (length s.drones) (performed figure frame drones) (cues_in s p performed rest) (g figure frame drones (frame_fits figure frame drones h.0)) (cues_fit s p performed v f g rest h.1)
 
-figure_cues_fit : (s : PlainShow) (o : Option PlainFigure) (frame : Frame) (drones : List Name) → FitFormations s.formations → IsFitIfAny o → FitsFrame frame → FitCues (length s.drones) (cues_of_figure s o frame drones)
+figure_cues_fit : (s : PlainShow) (o : Option PlainFigure) (frame : Frame) (drones : List Name) → FitFormations s.formations → IfSome o IsFitFigure → FitsFrame frame → FitCues (length s.drones) (cues_of_figure s o frame drones)
 figure_cues_fit s None frame drones v k f = tt
 figure_cues_fit s (Some x) frame drones v k f =
     cues_fit s (record { frame = frame; roles = x.roles; drones = drones }) nothing_performed v f (λ figure fr ds h. tt) x.body k.fits

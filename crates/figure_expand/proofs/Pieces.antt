@@ -2,9 +2,7 @@
 use Rattle.std.proofs.lemmas.Grind.{common_steps}
 use Rattle.std.proofs.Common.{◌≡◌, ℕ, zero, suc, ◌+◌, ◌<◌, ℤ, pos, ◌+ℤ◌, ◌-ℤ◌, ◌*ℤ◌, List, [], ◌∷◌, map, take, length, get_or, arith, refl, sym, ap, ◌∙◌}
 use Rattle.std.specs.List.{All}
-use Rattle.std.proofs.lemmas.List.Elements.{All-nil, All-cons}
 use Rattle.std.proofs.lemmas.List.Elements.{All-from_recursion}
-use Rattle.std.proofs.lemmas.List.{drop_more}
 use Rattle.fleet_math.specs.Sums.{power}
 use Rattle.fleet_math.specs.Bernstein.{at}
 use Rattle.fleet_math.proofs.RingLemmas.{mul_comm_ℤ, one_mul_ℤ}
@@ -51,40 +49,16 @@ abbrev curve_of : Point → Act → ℕ → Axis
 curve_of p x axis = get_or (axes_of p x) axis (One (pos 0))
 
 by_act : (p : Point) (x : Act) (axis : ℕ) → axis < 4 → controls (curve_of p x axis) ≡ written_points p x axis
-by_act p act.Hold zero small = refl
-by_act p x zero small = refl
-by_act p act.Hold (suc zero) small = refl
-by_act p x (suc zero) small = refl
-by_act p act.Hold (suc (suc zero)) small = refl
-by_act p x (suc (suc zero)) small = refl
-by_act p act.Hold (suc (suc (suc zero))) small = refl
-by_act p x (suc (suc (suc zero))) small = refl
-by_act p x (suc (suc (suc (suc axis)))) small = absurd (omega arith)
+by_act p x axis small = grind (arith, common_steps)
 
 -- the first control point is where the drone is
 first_by_act : (p : Point) (x : Act) (axis : ℕ) → axis < 4 → first_control (curve_of p x axis) ≡ on_axis p axis
-first_by_act p act.Hold zero small = refl
-first_by_act p x zero small = refl
-first_by_act p act.Hold (suc zero) small = refl
-first_by_act p x (suc zero) small = refl
-first_by_act p act.Hold (suc (suc zero)) small = refl
-first_by_act p x (suc (suc zero)) small = refl
-first_by_act p act.Hold (suc (suc (suc zero))) small = refl
-first_by_act p x (suc (suc (suc zero))) small = refl
-first_by_act p x (suc (suc (suc (suc axis)))) small = absurd (omega arith)
+first_by_act p x axis small = grind (arith, common_steps)
 
 -- the last one is where the act ends
 last_by_act : (p : Point) (x : Act) (axis : ℕ) → axis < 4 → last_control (curve_of p x axis) ≡ on_axis (end_of p x) axis
 unfolding end_of
-last_by_act p act.Hold zero small = refl
-last_by_act p x zero small = refl
-last_by_act p act.Hold (suc zero) small = refl
-last_by_act p x (suc zero) small = refl
-last_by_act p act.Hold (suc (suc zero)) small = refl
-last_by_act p x (suc (suc zero)) small = refl
-last_by_act p act.Hold (suc (suc (suc zero))) small = refl
-last_by_act p x (suc (suc (suc zero))) small = refl
-last_by_act p x (suc (suc (suc (suc axis)))) small = absurd (omega arith)
+last_by_act p x axis small = grind (arith, common_steps)
 
 -- A piece begins where its drone is.
 pub piece_begins : (p : Point) (ms : ℕ) (j : Job) (axis : ℕ) → axis < 4 → first_control (axis_on (piece_of p ms j) axis) ≡ on_axis p axis

@@ -33,19 +33,13 @@ wider m n v less small = (omega (arith, ints, small.0), omega (arith, ints, smal
 pub wider_point : (m n : ℕ) (p : Point) → m ≤ n → IsPointUpTo m p → IsPointUpTo n p
 wider_point m n p less small = grind (arith, common_steps, wider)
 
-yaw_small : (v : ℤ) → FitsYaw v → IsUpTo 100000000 v
-yaw_small v fits = (omega (arith, ints, fits.0), omega (arith, ints, fits.1))
-
 -- a point of a show
 pub point_small : (p : Point) → FitsPoint p → IsPointUpTo 100000000 p
-point_small p fits = record { x = fits.0; y = fits.1.0; z = fits.1.1.0; yaw = yaw_small p.yaw fits.1.1.1.0 }
+point_small p fits = omega (arith, ints)
 
 -- a point of a show, with the bound that `apply` asks for
 pub point_fits : (p : Point) → FitsPoint p → IsPointUpTo (2 ^ 40) p
 point_fits p fits = wider_point 100000000 (2 ^ 40) p (omega arith) (point_small p fits)
-
-shift_small : (f : Frame) → FitsFrame f → IsShiftUpTo 100000000 f
-shift_small f fits = record { dx = fits.1; dy = fits.2; dz = fits.3 }
 
 -- a shift of a show, with the bound that `apply` asks for
 pub shift_fits : (f : Frame) → FitsFrame f → IsShiftUpTo (2 ^ 40) f
@@ -77,9 +71,8 @@ curve_fits p1 p2 to fits = absurd fits
 -- ---- acts in the show's frame
 
 mirrored_small : (m : Mirror) (n : ℕ) (p : Point) → IsPointUpTo n p → IsPointUpTo (n + 1800) (mirrored m p)
-mirrored_small mirror.None n p small = wider_point n (n + 1800) p (omega arith) small
-mirrored_small mirror.X n p small = grind (arith, common_steps, ints, wider)
-mirrored_small mirror.Y n p small = grind (arith, common_steps, ints, wider)
+mirrored_small mirror.None n p small = omega (arith, ints)
+mirrored_small m n p small = omega (arith, ints)
 
 turned_once_small : (n : ℕ) (p : Point) → IsPointUpTo n p → IsPointUpTo (n + 900) (turned_once p)
 turned_once_small n p small = grind (arith, common_steps, ints, wider)

@@ -57,12 +57,6 @@ start_here starts k s f within is some =
     ap (λ (rest : List DroneLine). first_unfit (start_values rest)) (drop_more starts k s within ∙ ap (λ (here : DroneLine). here ∷ drop (k + 1) starts) (sym is))
     ∙ some_before (point_values s.line s.at) (start_values (drop (k + 1) starts)) f some
 
-pub start_later : (starts : List DroneLine) (k : ℕ) (s : DroneLine) → k < length starts → s ≡ get_or starts k s →
-    first_unfit (point_values s.line s.at) ≡ None → first_unfit (start_values (drop k starts)) ≡ first_unfit (start_values (drop (k + 1) starts))
-start_later starts k s within is none =
-    ap (λ (rest : List DroneLine). first_unfit (start_values rest)) (drop_more starts k s within ∙ ap (λ (here : DroneLine). here ∷ drop (k + 1) starts) (sym is))
-    ∙ none_before (point_values s.line s.at) (start_values (drop (k + 1) starts)) none
-
 -- the values of the drones from the next one on
 next_drone : (points : List Point) (jobs : List Job) (d : ℕ) (p : Point) (j : Job) → d < length points → d < length jobs →
     cue_values (drop d points) (drop d jobs)
@@ -108,12 +102,6 @@ moved zero points jobs = points
 moved (suc n) [] jobs = []
 moved (suc n) (p ∷ points) [] = p ∷ points
 moved (suc n) (p ∷ points) (j ∷ jobs) = end_of p (act_of j) ∷ moved n points jobs
-
-pub length-moved : (n : ℕ) (points : List Point) (jobs : List Job) → length (moved n points jobs) ≡ length points
-length-moved zero points jobs = refl
-length-moved (suc n) [] jobs = refl
-length-moved (suc n) (p ∷ points) [] = refl
-length-moved (suc n) (p ∷ points) (j ∷ jobs) = ap suc (length-moved n points jobs)
 
 -- the next point is still where it was
 pub not_moved : (n : ℕ) (points : List Point) (jobs : List Job) (other : Point) → get_or (moved n points jobs) n other ≡ get_or points n other

@@ -3,4 +3,4 @@ use Rattle.figure_expand.proofs.Fitting.{fits_well, fits_back}
 use Rattle.figure_expand.proofs.law.expansion_law.Goals as goal
 
 pub returns : goal.returns
-returns c = grind (arith, common_steps, flies_as_written, fits_well, fits_back, piece_whole, piece_begins, piece_ends, closed_forms)
+returns c = assumption (flies_as_written, fits_well, fits_back, piece_whole, piece_begins, piece_ends, closed_forms)

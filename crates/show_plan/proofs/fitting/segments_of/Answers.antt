@@ -6,7 +6,8 @@ use Rattle.cue_grid.specs.Frames.{IsPointUpTo}
 use Rattle.mm_rounding.specs.declared.piece.MicroPiece.{MicroPiece}
 use Rattle.mm_rounding.specs.Rounding.{rounding}
 use Rattle.traj_codec.specs.Spelling.{IsSegment}
-use Rattle.figure_expand.specs.Acts.{act_of, end_of}
+use Rattle.figure_expand.specs.Acts.{act_of}
+use Rattle.figure_expand.specs.Written.{end_of}
 use Rattle.figure_expand.specs.Bounds.{reach}
 use Rattle.figure_expand.specs.Controls.{piece_of}
 use Rattle.figure_expand.specs.Expanded.{job_in, pieces_from}
