@@ -67,7 +67,7 @@ impl Judging {
         diff.raised_law();
         let whole = Level {
             place: Place { depth: 0, index: 0 },
-            part: *diff.curves(),
+            part: diff.curves(),
         };
         Judging {
             slot,

@@ -1,5 +1,5 @@
 -- Curves that are kept as rows of control values.
-use Rattle.std.proofs.Common.{◌≡◌, ℕ, zero, suc, ◌≤◌, ◌<◌, ℤ, ◌-ℤ◌, ◌^◌, arith, refl, sym, ◌∙◌, ap, subst, All, List, [], ◌∷◌, ◌++◌, length, take, get_or, map}
+use Rattle.std.proofs.Common.{◌≡◌, ◌≢◌, ℕ, zero, suc, ◌+◌, ◌≤◌, ◌<◌, ℤ, ◌-ℤ◌, ◌^◌, arith, below_more, get_or-set_other, get_or-set_same, slice_set, refl, sym, ◌∙◌, ap, subst, All, List, [], ◌∷◌, ◌++◌, length, take, get_or, map}
 use Rattle.std.proofs.lemmas.List.{length-map, map-append, take_all}
 use Rattle.std.proofs.lemmas.List.Elements.{All-get_or}
 use Rattle.fleet_math.specs.Bernstein.{at}
@@ -7,9 +7,13 @@ use Rattle.fleet_math.specs.Numbers.{IsBelow}
 use Rattle.bezier_core.specs.declared.Bez.{Bez}
 use Rattle.bezier_core.specs.Along.{controls}
 use Rattle.bezier_core.specs.Raised.{eight}
-use Rattle.fleet_curves.specs.Raised.{less}
-use Rattle.fleet_curves.specs.Steps.{AreSmallCurves, all_curves, curves_of}
+use Rattle.fleet_curves.specs.Raised.{AreRaised, curves_of, less}
+use Rattle.fleet_curves.specs.Steps.{AreSmallCurves, all_curves}
 use Rattle.fleet_curves.proofs.Differences.{same_default}
+
+-- what holds of the entries so far and of the new one
+pub set_below : (P : ℕ → ℤ → Type 0) (xs : List ℤ) (i : ℕ) (v : ℤ) → i < length xs → P i v → ((k : ℕ) → k < i → P k (at xs k)) → (k : ℕ) → k < i + 1 → P k (at (slice_set xs i v) k)
+set_below P xs i v inside new old = below_more _ _ (λ k less. let ne : k ≢ i = omega (arith, less) in rw get_or-set_other (old k less)) (rw get_or-set_same new)
 
 -- an entry of a list that is mapped, also past its end
 map_at : {X Y : Type 0} (f : X → Y) (xs : List X) (i : ℕ) (d : X) → get_or (map f xs) i (f d) ≡ f (get_or xs i d)
@@ -50,6 +54,19 @@ small_row rows axis inside small =
 
 pub row_told : (rows : List (List ℤ)) (axis : ℕ) (row : List ℤ) → axis < length rows → row ≡ get_or rows axis row → row ≡ controls (curves_of rows) axis
 row_told rows axis row inside is = is ∙ same_default rows axis row [] inside ∙ sym (controls_row rows axis)
+
+-- what holds of rows holds of their curves
+rows_all : (P : List ℤ → Type 0) (rows : List (List ℤ)) → All P rows → All (λ (curve : Bez 8). P curve.b) (curves_of rows)
+rows_all P rows all k d inside =
+    let counted : length (curves_of rows) ≡ length rows = length-map rows (λ row. record { b = row }) in
+    subst (λ (curve : Bez 8). P curve.b) (sym (map_at (λ row. record { b = row }) rows k d.b)) (all k d.b (omega (arith, counted, inside)))
+
+pub rows_raised : (rows : List (List ℤ)) → length rows ≡ 3 → All (λ (row : List ℤ). length row ≡ 8) rows → All (λ (row : List ℤ). All (IsBelow (2 ^ 30)) row) rows → AreRaised (curves_of rows)
+rows_raised rows three eights small = record {
+  axes = length-map rows (λ row. record { b = row }) ∙ three;
+  sizes = rows_all (λ (row : List ℤ). length row ≡ 8) rows eights;
+  values = rows_all (λ (row : List ℤ). All (IsBelow (2 ^ 30)) row) rows small;
+}
 
 -- a difference of two of them
 pub less_told : (second first : List (Bez 8)) (axis : ℕ) (x y : List ℤ) (r : Bez 8) → x ≡ controls second axis → y ≡ controls first axis → r.b ≡ eight (λ k. at x k -ℤ at y k) → r ≡ less second first axis

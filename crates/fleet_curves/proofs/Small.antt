@@ -1,6 +1,5 @@
 -- Small numbers, and what holds of three of anything.
-use Rattle.std.proofs.lemmas.Grind.{common_steps}
-use Rattle.std.proofs.Common.{◌≡◌, ℕ, zero, suc, ℤ, ◌-ℤ◌, arith, ◌∙◌, [], ◌∷◌, All, FitsSigned, to_z, of_z}
+use Rattle.std.proofs.Common.{◌≡◌, ℕ, zero, suc, ℤ, ◌-ℤ◌, ◌^◌, List, arith, ◌∙◌, [], ◌∷◌, All, FitsSigned, to_z, of_z}
 use Rattle.std.proofs.lemmas.Int.{ints}
 use Rattle.std.proofs.lemmas.Int.{to_z-of_z}
 use mir.Syntax.{w16, w32, w128}
@@ -23,6 +22,14 @@ told x y small is = let fits : FitsSigned w128 x = omega (arith, ints) in to_z-o
 pub told_short : (x y : ℤ) → IsBelow 32769 x → FitsSigned w16 y → x ≡ to_z w16 (of_z w16 y) → to_z w128 (of_z w128 x) ≡ y
 told_short x y small fits is = told x (to_z w16 (of_z w16 y)) small is ∙ to_z-of_z w16 y fits
 
--- the difference of two numbers of 32 bits
-pub told_gap : (g x y : ℤ) → FitsSigned w32 x → FitsSigned w32 y → g ≡ to_z w32 (of_z w32 x) -ℤ to_z w32 (of_z w32 y) → to_z w128 (of_z w128 g) ≡ x -ℤ y
-told_gap g x y upper lower is = grind (arith, common_steps, ints, to_z-of_z)
+-- the difference of two numbers below 2^28
+pub told_gap : (g x y : ℤ) → IsBelow (2 ^ 28) x → IsBelow (2 ^ 28) y → g ≡ to_z w32 (of_z w32 x) -ℤ to_z w32 (of_z w32 y) → to_z w32 (of_z w32 g) ≡ x -ℤ y
+told_gap g x y upper lower is =
+    let x_fits : FitsSigned w32 x = omega (arith, ints, upper.0, upper.1) in
+    let y_fits : FitsSigned w32 y = omega (arith, ints, lower.0, lower.1) in
+    let fits : FitsSigned w32 (x -ℤ y) = omega (arith, ints, upper.0, upper.1, lower.0, lower.1) in
+    rw (is, to_z-of_z w32 x x_fits, to_z-of_z w32 y y_fits) (to_z-of_z w32 (x -ℤ y) fits)
+
+-- numbers below 2^28 are below 2^30
+pub wider : (xs : List ℤ) → All (IsBelow (2 ^ 28)) xs → All (IsBelow (2 ^ 30)) xs
+wider xs small k d inside = let here = small k d inside in (omega (arith, ints, here.0), omega (arith, ints, here.1))

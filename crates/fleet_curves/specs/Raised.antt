@@ -1,5 +1,5 @@
 -- The raised curves of a fleet, and the trajectories that they stand for.
-use Rattle.std.specs.Prelude.{◌≡◌, ℕ, ◌+◌, ◌*◌, ◌^◌, ◌≤◌, ◌<◌, ℤ, ◌-ℤ◌, List, [], ◌∷◌, length, slice_index_or, slice_get, Some, All}
+use Rattle.std.specs.Prelude.{◌≡◌, ℕ, ◌+◌, ◌*◌, ◌^◌, ◌≤◌, ◌<◌, ℤ, ◌-ℤ◌, List, [], ◌∷◌, length, slice_index_or, slice_get, map, Some, All}
 use Rattle.std.specs.List.{flat_map}
 use Rattle.fleet_math.specs.Bernstein.{at}
 use Rattle.fleet_math.specs.Limits.{most_cues, most_drones}
@@ -19,6 +19,10 @@ pub record Raised : Type 0 where
   pub drones : ℕ
   pub cues : ℕ
   pub curves : List (List (Bez 8))
+
+-- the curves of rows of control values
+abbrev pub curves_of : List (List ℤ) → List (Bez 8)
+curves_of rows = map (λ row. record { b = row }) rows
 
 -- the three raised curves of a drone in a cue
 abbrev pub curves_at : Raised → ℕ → ℕ → List (Bez 8)

@@ -6,7 +6,7 @@ use Rattle.bezier_core.specs.declared.Bez.{Bez}
 use Rattle.traj_codec.specs.declared.traj.Segment.{Segment}
 use Rattle.traj_codec.specs.Spelling.{stored}
 use Rattle.traj_codec.specs.Positions.{element_on}
-use Rattle.fleet_curves.specs.Raised.{Raised}
+use Rattle.fleet_curves.specs.Raised.{Raised, curves_of}
 
 -- an element has at most seven control points after its first one
 abbrev pub IsFormed : Segment → Type 0
@@ -15,10 +15,6 @@ IsFormed s = (axis : ℕ) → axis ≤ 2 → length (stored (element_on s axis))
 -- the control values of a drone's curves in a cue are below 2^28
 abbrev pub AreSmallCurves : List (Bez 8) → Type 0
 AreSmallCurves curves = All (λ (curve : Bez 8). All (IsBelow (2 ^ 28)) curve.b) curves
-
--- the curves of rows of control values
-abbrev pub curves_of : List (List ℤ) → List (Bez 8)
-curves_of rows = map (λ row. record { b = row }) rows
 
 -- those of a fleet
 abbrev pub all_curves : List (List (List ℤ)) → List (List (Bez 8))

@@ -9,10 +9,11 @@ ghost use Rattle.bezier_core.specs.Raised.{eight, raised};
 ghost use Rattle.fleet_math.specs.Limits.{most_cues, most_drones};
 ghost use Rattle.traj_codec.specs.Spelling.{stored};
 ghost use Rattle.traj_codec.specs.Positions.{element_on, value_after};
-ghost use Rattle.fleet_curves.specs.Raised.{CurvesStandFor, IsOneShow, curves_at, difference, less, raised_element, raised_traj, raised_of};
-ghost use Rattle.fleet_curves.specs.Steps.{AreSmallCurves, IsFormed, all_curves, curves_of};
+ghost use Rattle.fleet_curves.specs.Raised.{CurvesStandFor, IsOneShow, curves_at, curves_of, difference, less, raised_element, raised_traj, raised_of};
+ghost use Rattle.fleet_curves.specs.Steps.{AreSmallCurves, IsFormed, all_curves};
 
 use crate::difference::Difference;
+use crate::widths::{narrowed, widened_rows};
 use bezier_core::Bez;
 use std::alloc::{AllocError, Global};
 use std::marker::Model;
@@ -91,9 +92,18 @@ impl Curves {
         requires cue { cue < self.now.cues }
         ensures { result ≡ difference self.now a b cue }
     {
-        let first = &self.all[place_of(self.drones, self.cues, a, cue)];
-        let second = &self.all[place_of(self.drones, self.cues, b, cue)];
-        differences(second, first)
+        differences(self.rows(b, cue), self.rows(a, cue))
+    }
+
+    /// The control values of a drone's raised curves in a cue, both counted from 0: a row for x, one for y and one for z, as
+    /// they are kept. No control value reaches 2^28. Takes no memory.
+    pub fn rows(&self, drone: usize, cue: usize) -> &[[i32; 8]; 3]
+        requires drone { drone < self.now.drones }
+        requires cue { cue < self.now.cues }
+        ensures exact { curves_of result.now ≡ curves_at self.now drone cue }
+        ensures small { All (λ curve. All (IsBelow (2 ^ 28)) curve.b) (curves_at self.now drone cue) }
+    {
+        &self.all[place_of(self.drones, self.cues, drone, cue)]
     }
 
     /// The raised curves of a drone in a cue, both counted from 0: on x, y and z 5,040 times the curve in millimetres. No
@@ -104,15 +114,8 @@ impl Curves {
         ensures exact { result ≡ curves_at self.now drone cue }
         ensures small { All (λ curve. All (IsBelow (2 ^ 28)) curve.b) result }
     {
-        widened_rows(&self.all[place_of(self.drones, self.cues, drone, cue)])
+        widened_rows(self.rows(drone, cue))
     }
-}
-
-// The curves of three rows.
-fn widened_rows(rows: &[[i32; 8]; 3]) -> [Bez<8>; 3]
-    ensures { result ≡ curves_of rows.now }
-{
-    [widened(&rows[0]), widened(&rows[1]), widened(&rows[2])]
 }
 
 // The first three curves less the others.
@@ -122,75 +125,44 @@ fn differences(second: &[[i32; 8]; 3], first: &[[i32; 8]; 3]) -> Difference
     ensures { result ≡ less (curves_of second.now) (curves_of first.now) 0
         ∷ less (curves_of second.now) (curves_of first.now) 1 ∷ less (curves_of second.now) (curves_of first.now) 2 ∷ [] }
 {
-    Difference::make([
+    Difference::of_rows([
         one_less(second, first, 0),
         one_less(second, first, 1),
         one_less(second, first, 2),
     ])
 }
 
-// One control value less another. It is computed in 64 bits, which hold each difference of two numbers of 32.
-fn gap(second: i32, first: i32) -> i128
+// One control value less another.
+fn gap(second: i32, first: i32) -> i32
+    requires second { IsBelow (2 ^ 28) second }
+    requires first { IsBelow (2 ^ 28) first }
     ensures { result ≡ second -ℤ first }
 {
-    i128::from(i64::from(second) - i64::from(first))
+    second - first
 }
 
-macro_rules! gaps {
-    ($second:expr, $first:expr; $($k:literal)*) => {
-        [$(gap($second[$k], $first[$k])),*]
-    };
-}
-
-// One row of control values less another. Neither is widened to a curve first.
-fn row_less(second: &[i32; 8], first: &[i32; 8]) -> Bez<8>
-    ensures { result.b ≡ eight (λ k. at second.now k -ℤ at first.now k) }
-{
-    Bez {
-        b: gaps!(second, first; 0 1 2 3 4 5 6 7),
-    }
-}
-
-// One curve less another.
-fn one_less(second: &[[i32; 8]; 3], first: &[[i32; 8]; 3], axis: usize) -> Bez<8>
-    requires axis { axis < 3 }
-    requires second { AreSmallCurves (curves_of second.now) }
-    requires first { AreSmallCurves (curves_of first.now) }
-    ensures exact { result ≡ less (curves_of second.now) (curves_of first.now) axis }
-    ensures small { All (IsBelow (2 ^ 30)) result.b }
-{
-    row_less(&second[axis], &first[axis])
-}
-
-// A curve whose control values are kept in 32 bits.
-fn widened(row: &[i32; 8]) -> Bez<8>
-    ensures { result.b ≡ row.now }
-{
-    let mut b = [0; 8];
-    for k in 0..8 {
-        b[k] = row[k] as i128;
-    }
-    Bez { b }
-}
-
-// The control values of a curve in 32 bits.
-fn narrowed(curve: &Bez<8>) -> [i32; 8]
-    requires { All (IsBelow (2 ^ 28)) curve.now.b }
-    ensures { result ≡ curve.now.b }
+// One row of control values less another.
+fn row_less(second: &[i32; 8], first: &[i32; 8]) -> [i32; 8]
+    requires second { All (IsBelow (2 ^ 28)) second.now }
+    requires first { All (IsBelow (2 ^ 28)) first.now }
+    ensures { result ≡ eight (λ k. at second.now k -ℤ at first.now k) }
 {
     let mut row = [0; 8];
     for k in 0..8 {
-        row[k] = narrow(curve.b[k]);
+        row[k] = gap(second[k], first[k]);
     }
     row
 }
 
-// A control value in 32 bits.
-fn narrow(value: i128) -> i32
-    requires { IsBelow (2 ^ 28) value }
-    ensures { result ≡ value }
+// One curve less another.
+fn one_less(second: &[[i32; 8]; 3], first: &[[i32; 8]; 3], axis: usize) -> [i32; 8]
+    requires axis { axis < 3 }
+    requires second { AreSmallCurves (curves_of second.now) }
+    requires first { AreSmallCurves (curves_of first.now) }
+    ensures exact { record { b = result } ≡ less (curves_of second.now) (curves_of first.now) axis }
+    ensures small { All (IsBelow (2 ^ 30)) result }
 {
-    value as i32
+    row_less(&second[axis], &first[axis])
 }
 
 // Where the curves of a drone and a cue stand.

@@ -60,6 +60,12 @@ module _ (m : Measure) (diff : List (Bez 8)) (place : Place) where
       by_lt k (begin + i) (λ less. none k from less inside)
       (λ more. let is : begin + i ≡ k = omega (arith, more, past) in subst (λ (j : ℕ). does_separate m diff place j ≡ false) is (here (omega (arith, is, inside))))
 
+  -- none of the first, nor the direction after them
+  pub none_next : (past : ℕ) → NoneFrom m diff place 0 past → does_separate m diff place past ≡ false → NoneFrom m diff place 0 (past + 1)
+  none_next past none here k from less inside =
+      by_lt k past (λ before. none k from before inside)
+      (λ after. let is : past ≡ k = omega (arith, after, less) in subst (λ (j : ℕ). does_separate m diff place j ≡ false) is here)
+
   -- none at all
   pub none_first : (past : ℕ) → length m.directions ≤ past → NoneFrom m diff place 0 past → None ≡ first_by m diff place
   unfolding first_direction

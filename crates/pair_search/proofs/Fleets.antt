@@ -1,6 +1,6 @@
 -- The walk over the slots of a fleet: what is found at one of them, and what has been found of those before it.
 use Rattle.std.proofs.lemmas.Grind.{common_steps}
-use Rattle.std.proofs.Common.{◌≡◌, ℕ, ◌+◌, ◌-◌, ◌*◌, ◌^◌, ◌<◌, ◌≤◌, arith, length, refl, sym, ◌∙◌, ap, subst, List, [], ◌∷◌, ◌++◌, append_assoc, map, Option, Some, None, Result, Ok, Err}
+use Rattle.std.proofs.Common.{◌≡◌, ℕ, zero, suc, ◌+◌, ◌-◌, ◌*◌, ◌^◌, ◌<◌, ◌≤◌, arith, length, refl, sym, ◌∙◌, ap, subst, List, [], ◌∷◌, ◌++◌, append_assoc, map, Option, Some, None, Result, Ok, Err}
 use Rattle.std.specs.Option.{option_map, option_or}
 use Rattle.std.proofs.lemmas.List.Sums.{sum_by-cons}
 use Rattle.bezier_core.specs.declared.Bez.{Bez}
@@ -8,18 +8,20 @@ use Rattle.halving.specs.declared.Place.{Place}
 use Rattle.sep_parts.specs.declared.slot.Slot.{Slot}
 use Rattle.fleet_curves.specs.Raised.{Raised, difference}
 use Rattle.sep_parts.specs.Rulers.{Measure}
-use Rattle.sep_parts.specs.Slots.{following, slots}
+use Rattle.sep_parts.specs.Levels.{root}
+use Rattle.sep_parts.specs.Slots.{cues_from, following, following_pair, slot_at, slots}
 use Rattle.sep_parts.specs.declared.node.Node.{Node}
 use Rattle.sep_parts.specs.Trees.{Tree, preorder}
-use Rattle.sep_parts.proofs.Orders.{IsAhead, next_ahead, some_ahead}
+use Rattle.sep_parts.proofs.Orders.{IsAhead, next_ahead, pair_ahead, some_ahead}
 use Rattle.pair_search.specs.declared.fleet.SearchFault.{SearchFault}
 use Rattle.pair_search.specs.declared.fleet.SearchFault.TheVariants as fault
 use Rattle.pair_search.specs.declared.walk.Found.{Found}
 use Rattle.pair_search.specs.declared.walk.Found.TheVariants as found
-use Rattle.pair_search.specs.Search.{SearchGives, first_by}
+use Rattle.pair_search.specs.Search.{HasDirection, SearchGives, first_by}
 use Rattle.pair_search.specs.Fleets.{StopsBy, best_nodes, blocked_in, direction_at, nodes_in, nodes_of}
-use Rattle.pair_search.specs.Steps.{CountGives, FindsCount, blocked_slot}
+use Rattle.pair_search.specs.Steps.{CountGives, FindsCount, IsPairFar, blocked_slot}
 use Rattle.pair_search.proofs.Counted.{nodes_fit}
+use Rattle.pair_search.proofs.Marks.{root_counted}
 
 -- ---- one slot
 
@@ -102,6 +104,21 @@ module _ (m : Measure) (depth : ℕ) (curves : Raised) where
       let one : nodes_in m depth curves (slot ∷ next) ≡ length (best_nodes m depth curves slot) + nodes_in m depth curves next = sum_by-cons (λ (n : ℕ). n) (length (best_nodes m depth curves slot)) (map length (map (best_nodes m depth curves) next)) in
       omega (arith, one, ap (nodes_in m depth curves) is, ap (λ (ns : List Node). length ns) nodes_is, more_is, same)
 
+  -- cues that have a direction, each as a whole, aren't blocked, and have a node each
+  pub far_cues : (n a b cue : ℕ) (next : List Slot) → ((k : ℕ) → cue ≤ k → k < cue + n → HasDirection m.clearance (difference curves a b k) m.directions root) →
+      (blocked_in fault.Blocked m depth curves (cues_from n a b cue ++ next) ≡ blocked_in fault.Blocked m depth curves next)
+      × (nodes_in m depth curves (cues_from n a b cue ++ next) ≡ n + nodes_in m depth curves next)
+  far_cues zero a b cue next far = let same : nodes_in m depth curves next ≡ 0 + nodes_in m depth curves next = omega arith in (refl, same)
+  far_cues (suc n) a b cue next far =
+      let slot : Slot = slot_at a b cue in
+      let rest : List Slot = cues_from n a b (suc cue) ++ next in
+      let here : FindsCount m depth curves slot (Ok 1) =
+      counted_found m depth curves slot (difference curves a b cue) refl (Ok 1) 1 refl
+      (root_counted m.clearance (difference curves a b cue) m.directions depth (far cue (omega arith) (omega arith))) in
+      let more = far_cues n a b (suc cue) next (λ k above below. far k (omega arith) (omega arith)) in
+      let counted = count_next (slot ∷ rest) rest slot 0 (length (best_nodes m depth curves slot)) _ (best_nodes m depth curves slot) refl refl (omega arith) refl in
+      (sym (clear_next (slot ∷ rest) rest slot _ refl here.0 refl) ∙ more.0, omega (arith, counted, here.1, more.1))
+
   -- a slot that is blocked is the first one that is
   pub blocked_next : (rest next : List Slot) (slot : Slot) (whole : Option SearchFault) (f : SearchFault) → rest ≡ slot ∷ next →
       StopsBy (blocked_slot m depth curves slot) f → blocked_in fault.Blocked m depth curves rest ≡ whole → StopsBy whole f
@@ -129,6 +146,25 @@ past m depth curves slot after rest drones cues here clear after_is drones_are c
     let is : after ≡ following curves.drones curves.cues slot =
     after_is ∙ ap (λ (n : ℕ). following n cues slot) drones_are ∙ ap (λ (n : ℕ). following curves.drones n slot) cues_are in
     grind (arith, common_steps)
+
+-- past all cues of a pair that is far apart
+pub past_pair : (m : Measure) (depth : ℕ) (curves : Raised) (slot after : Slot) (rest : List Slot) (drones : ℕ) → slot.b < curves.drones → IsPairFar m curves slot →
+    after ≡ following_pair drones slot → drones ≡ curves.drones → IsPending m depth curves slot rest →
+    (next : List Slot) × IsPending m depth curves after next × (nodes_in m depth curves rest ≡ curves.cues + nodes_in m depth curves next)
+past_pair m depth curves slot after rest drones here far after_is drones_are pending =
+    let next = pair_ahead curves.drones curves.cues slot rest (some_ahead curves.drones curves.cues slot rest here pending.ahead) far.begins in
+    let cues = far_cues m depth curves curves.cues slot.a slot.b 0 next.0 (λ k above below. far.each k (omega (arith, below))) in (
+      next.0,
+      record { ahead = rw (after_is, drones_are) (next.2); blocked = sym cues.0 ∙ sym (ap (blocked_in fault.Blocked m depth curves) next.1) ∙ pending.blocked },
+      ap (nodes_in m depth curves) next.1 ∙ cues.1,
+    )
+
+-- and the nodes of its cues are few
+pub pair_fits : (m : Measure) (depth : ℕ) (curves : Raised) (slot : Slot) (rest : List Slot) (count : ℕ) → depth ≤ 8 → curves.drones ≤ 32 → curves.cues ≤ 1000 → slot.b < curves.drones → IsPairFar m curves slot →
+    IsPending m depth curves slot rest → count + nodes_in m depth curves rest ≡ nodes_in m depth curves (slots curves.drones curves.cues) → count + curves.cues < 2 ^ 32
+pair_fits m depth curves slot rest count shallow drones cues here far pending same =
+    let next = past_pair m depth curves slot (following_pair curves.drones slot) rest curves.drones here far refl refl pending in
+    omega (arith, next.2, same, nodes_fit m depth curves shallow curves.drones curves.cues drones cues)
 
 -- a slot that is blocked stops the walk
 pub stopped : (m : Measure) (depth : ℕ) (curves : Raised) (slot : Slot) (rest : List Slot) (f : SearchFault) → slot.b < curves.drones →

@@ -1,6 +1,6 @@
 -- Numbers of lanes, and what they tell of a direction.
 use Rattle.std.proofs.lemmas.Grind.{common_steps}
-use Rattle.std.proofs.Common.{lit<, ◌≡◌, ◌≢◌, inl, inr, ℕ, zero, suc, ◌+◌, ◌*◌, ◌^◌, ◌≤◌, ◌<◌, ℤ, pos, negsuc, neg_ℤ, ◌+ℤ◌, ◌-ℤ◌, ◌*ℤ◌, ◌≤ℤ◌, ◌<ℤ◌, unsigned_abs, FitsSigned, to_z, of_z, arith, refl, sym, ◌∙◌, ap, subst, List, length, get_or-set_other, get_or-set_same, slice_set, replicate, below_more, is_none, false, true, Option, Some, None}
+use Rattle.std.proofs.Common.{lit<, ◌≡◌, ◌≢◌, inl, inr, ℕ, zero, suc, ◌+◌, ◌*◌, ◌^◌, ◌≤◌, ◌<◌, ℤ, pos, negsuc, neg_ℤ, ◌+ℤ◌, ◌-ℤ◌, ◌*ℤ◌, ◌≤ℤ◌, ◌<ℤ◌, unsigned_abs, FitsSigned, to_z, of_z, arith, refl, sym, ◌∙◌, ap, subst, List, length, get_or-set_other, get_or-set_same, slice_set, replicate, is_none, false, true, Option, Some, None}
 use lib.Signed.{lt_z}
 use Rattle.std.proofs.lemmas.Int.{ints, unsigned_abs-mul, to_z-of_z}
 use Rattle.std.proofs.lemmas.Nat.{mul-le, pow-add, pow_pos}
@@ -121,10 +121,6 @@ sum_weighed d u v w p q r x y z px xp qy yq rz zr =
         ap (λ (z : ℤ). d *ℤ z) (regroup a b c e f g) ∙ mul_add_ℤ d ((a +ℤ e) +ℤ (b +ℤ f)) (c +ℤ g) ∙ ap (λ (z : ℤ). z +ℤ d *ℤ (c +ℤ g)) (mul_add_ℤ d (a +ℤ e) (b +ℤ f))
 
 -- ---- tables that are filled
--- what holds of the entries so far and of the new one
-pub set_below : (P : ℕ → ℤ → Type 0) (xs : List ℤ) (i : ℕ) (v : ℤ) → i < length xs → P i v → ((k : ℕ) → k < i → P k (at xs k)) → (k : ℕ) → k < i + 1 → P k (at (slice_set xs i v) k)
-set_below P xs i v inside new old = below_more _ _ (λ k less. let ne : k ≢ i = omega (arith, less) in rw get_or-set_other (old k less)) (rw get_or-set_same new)
-
 pub zeros : (n j : ℕ) → at (replicate n (pos 0)) j ≡ pos 0
 zeros zero j = refl
 zeros (suc n) zero = refl

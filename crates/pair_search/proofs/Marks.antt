@@ -155,12 +155,19 @@ module _ (c : Clearance) (diff : List (Bez 8)) (dirs : List (List ℤ)) (place :
   none_there fails = rw (position-none (λ n. is_none (low_value c diff place n)) dirs [] fails) refl
 
 -- ---- a whole cue that some direction separates
+-- one that separates it gives a first one
+pub has_there : (c : Clearance) (diff : List (Bez 8)) (dirs : List (List ℤ)) (dir : ℕ) → dir < length dirs → is_none (low_value c diff root (direction_of dirs dir)) ≡ true → Has (first_direction c diff dirs) root
+unfolding first_direction
+has_there c diff dirs dir inside passes = position-there (λ n. is_none (low_value c diff root n)) dirs dir [] inside passes
+
 -- its tree has one node
-pub root_counted : (c : Clearance) (diff : List (Bez 8)) (dirs : List (List ℤ)) (depth : ℕ) → HasDirection c diff dirs root → CountGives (first_direction c diff dirs) depth (Ok 1)
-root_counted c diff dirs depth some =
+pub has_counted : (c : Clearance) (diff : List (Bez 8)) (dirs : List (List ℤ)) (depth : ℕ) → Has (first_direction c diff dirs) root → CountGives (first_direction c diff dirs) depth (Ok 1)
+has_counted c diff dirs depth has =
     let first : Place → Option ℕ = first_direction c diff dirs in
-    let has : Has first root = first-there c diff dirs root some.0 some.1 some.2 in
     let node : node_for first depth root ≡ Some (Leaf has.0) = ap (λ (o : Option ℕ). option_or (option_map Leaf o) (cond (nat_lt 0 depth) (Some Split) None)) has.1 in
     let told = ended first depth (Leaf has.0 ∷ [])
     (past first depth (left_has c diff dirs) (right_has c diff dirs) root [] [] (Leaf has.0) node (begun first depth)) in
     (told.0, size_told (best_tree first depth root) (best_tree first depth root) (Leaf has.0 ∷ []) told.1 refl)
+
+pub root_counted : (c : Clearance) (diff : List (Bez 8)) (dirs : List (List ℤ)) (depth : ℕ) → HasDirection c diff dirs root → CountGives (first_direction c diff dirs) depth (Ok 1)
+root_counted c diff dirs depth some = has_counted c diff dirs depth (first-there c diff dirs root some.0 some.1 some.2)

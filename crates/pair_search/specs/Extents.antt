@@ -4,7 +4,7 @@ use Rattle.fleet_math.specs.Bernstein.{at}
 use Rattle.fleet_math.specs.Numbers.{IsBelow}
 use Rattle.bezier_core.specs.declared.Bez.{Bez}
 use Rattle.bezier_core.specs.Along.{controls}
-use Rattle.fleet_curves.specs.Raised.{Raised}
+use Rattle.fleet_curves.specs.Raised.{Raised, curves_at}
 use Rattle.sep_parts.specs.declared.clearance.Clearance.{Clearance}
 use Rattle.sep_parts.specs.Directions.{Stands, reach_on}
 use Rattle.pair_search.specs.declared.extents.Extent.{Extent}
@@ -26,6 +26,22 @@ pub record HasExtents (c : Raised) (n : ℕ) (all : List Extent) : Type 0 where
 -- these are the extents of all curves of a fleet
 abbrev pub AreExtents : Raised → List Extent → Type 0
 AreExtents c all = HasExtents c (c.drones * c.cues) all
+
+-- an extent of each cue of a drone
+abbrev pub IsFlight : Raised → ℕ → Extent → Type 0
+IsFlight c drone e = (cue : ℕ) → cue < c.cues → IsExtent (curves_at c drone cue) e
+
+-- such an extent for each of the first m drones
+abbrev pub HaveFlights : Raised → List Extent → ℕ → Type 0
+HaveFlights c flights m = (drone : ℕ) → drone < m → (none : Extent) → IsFlight c drone (slice_index_or flights drone none)
+
+-- and for each
+abbrev pub AreFlights : Raised → List Extent → Type 0
+AreFlights c flights = HaveFlights c flights c.drones
+
+-- what lies in one of two extents lies in the third
+abbrev pub IsWider : Extent → Extent → Extent → Type 0
+IsWider first second wide = (a b : List (Bez 8)) → IsExtent a first → IsExtent b second → IsExtent a wide × IsExtent b wide
 
 -- what is kept clear on an axis whose half axis has this length: two half axes, two strays and the way of a drone that is late
 abbrev pub room_on : Clearance → ℕ → ℕ → ℕ

@@ -7,7 +7,7 @@ use Rattle.halving.specs.declared.Place.{Place}
 use Rattle.sep_parts.specs.Directions.{direction_of}
 use Rattle.sep_parts.specs.Separates.{low_value}
 use Rattle.sep_parts.specs.Levels.{root}
-use Rattle.fleet_curves.specs.Raised.{Raised}
+use Rattle.fleet_curves.specs.Raised.{Raised, difference}
 use Rattle.sep_parts.specs.Rulers.{Measure}
 use Rattle.sep_parts.specs.declared.slot.Slot.{Slot}
 use Rattle.sep_parts.specs.declared.node.Node.{Node}
@@ -17,7 +17,7 @@ use Rattle.pair_search.specs.declared.walk.Found.{Found}
 use Rattle.pair_search.specs.declared.walk.Found.TheVariants.{Clear, Blocked}
 use Rattle.pair_search.specs.declared.fleet.SearchFault.{SearchFault}
 use Rattle.pair_search.specs.declared.fleet.SearchFault.TheVariants as fault
-use Rattle.pair_search.specs.Search.{best_tree, blocked_place}
+use Rattle.pair_search.specs.Search.{HasDirection, best_tree, blocked_place}
 use Rattle.pair_search.specs.Fleets.{StopsBy, best_nodes, direction_at, nodes_of}
 
 -- The node of a place: a leaf with its first direction, else a split where the place is less deep than the greatest depth.
@@ -66,6 +66,11 @@ CountGives first depth (Err index) = blocked_place first depth ≡ Some index
 abbrev pub FindsCount : Measure → ℕ → Raised → Slot → Result ℕ SearchFault → Type 0
 FindsCount m depth curves slot (Ok count) = (blocked_slot m depth curves slot ≡ None) × (count ≡ length (best_nodes m depth curves slot))
 FindsCount m depth curves slot (Err f) = StopsBy (blocked_slot m depth curves slot) f
+
+-- all cues of a slot's pair are to come, and each as a whole has a direction
+pub record IsPairFar (m : Measure) (curves : Raised) (slot : Slot) : Type 0 where
+  pub begins : slot.cue ≡ 0
+  pub each : (cue : ℕ) → cue < curves.cues → HasDirection m.clearance (difference curves slot.a slot.b cue) m.directions root
 
 -- ---- whether there is a direction, whichever
 -- neither a direction of the first half of the table nor the one as far from its end separates a place

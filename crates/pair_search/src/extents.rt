@@ -3,11 +3,11 @@
 ghost use Rattle.std.specs.Prelude.{◌≡◌, ℕ, ◌+◌, ◌*◌, ◌^◌, ◌≤◌, ◌<◌, ℤ, pos, ◌-ℤ◌, ◌≤ℤ◌, ◌⊎◌, All, IfOk, OnOk, IsTrue, length};
 ghost use Rattle.fleet_math.specs.Bernstein.{at};
 ghost use Rattle.fleet_math.specs.Numbers.{IsBelow};
-ghost use Rattle.fleet_curves.specs.Raised.{curves_at};
+ghost use Rattle.fleet_curves.specs.Raised.{curves_at, curves_of};
 ghost use Rattle.sep_parts.specs.Directions.{IsAxis, IsClearance, reach_on};
-ghost use Rattle.pair_search.specs.Extents.{AreExtents, HasAxes, HasExtents, IsBetween, IsExtent, IsFar, IsFarOn, gap_of, room_on};
+ghost use Rattle.pair_search.specs.Extents.{AreExtents, AreFlights, HasAxes, HasExtents, IsBetween, IsExtent, IsFar, IsFarOn, IsFlight, IsWider, gap_of, room_on};
 
-use bezier_core::Bez;
+use crate::lanes::greater;
 use fleet_curves::Curves;
 use sep_parts::{Clearance, Ruler};
 use std::alloc::{AllocError, Global};
@@ -15,8 +15,8 @@ use std::alloc::{AllocError, Global};
 /// The least and the greatest of the control values of three curves, or numbers beyond these: on x, y and z.
 #[derive(Clone, Copy)]
 pub struct Extent {
-    pub low: [i64; 3],
-    pub high: [i64; 3],
+    pub low: [i32; 3],
+    pub high: [i32; 3],
 }
 
 /// The extents of a fleet, by drone and then by cue.
@@ -37,66 +37,102 @@ fn add_extents(all: &mut Vec<Extent>, curves: &Curves, drone: usize) -> Result<(
     ensures { OnOk result (HasExtents curves.now ((drone + 1) * curves.now.cues) all.new.items) }
 {
     for cue in 0..curves.cues() {
-        all.push(extent_of(&curves.one(drone, cue)))?;
+        all.push(extent_of(curves.rows(drone, cue)))?;
     }
     Ok(())
 }
 
-// The extent of three curves.
-fn extent_of(curves: &[Bez<8>; 3]) -> Extent
-    requires values { All (λ curve. All (IsBelow (2 ^ 28)) curve.b) curves.now }
-    ensures { IsExtent curves.now result }
+// The extent of three curves, whose control values are these rows.
+fn extent_of(rows: &[[i32; 8]; 3]) -> Extent
+    requires values { All (λ curve. All (IsBelow (2 ^ 28)) curve.b) (curves_of rows.now) }
+    ensures { IsExtent (curves_of rows.now) result }
 {
     Extent {
-        low: [least(&curves[0]), least(&curves[1]), least(&curves[2])],
-        high: [
-            greatest(&curves[0]),
-            greatest(&curves[1]),
-            greatest(&curves[2]),
-        ],
+        low: [least(&rows[0]), least(&rows[1]), least(&rows[2])],
+        high: [greatest(&rows[0]), greatest(&rows[1]), greatest(&rows[2])],
     }
 }
 
-// The least control value of a curve.
-fn least(curve: &Bez<8>) -> i64
-    requires values { All (IsBelow (2 ^ 28)) curve.now.b }
-    ensures below { (k : ℕ) → k ≤ 7 → result ≤ℤ at curve.now.b k }
+// The least of eight control values.
+fn least(row: &[i32; 8]) -> i32
+    requires { All (IsBelow (2 ^ 28)) row.now }
+    ensures below { (k : ℕ) → k ≤ 7 → result ≤ℤ at row.now k }
     ensures small { IsBelow (2 ^ 28) result }
 {
-    let mut least = short(curve, 0);
+    let mut least = row[0];
     for k in 0..8 {
-        let value = short(curve, k);
-        if value < least {
-            least = value;
-        }
+        least = lesser(least, row[k]);
     }
     least
 }
 
-// The greatest control value of a curve.
-fn greatest(curve: &Bez<8>) -> i64
-    requires values { All (IsBelow (2 ^ 28)) curve.now.b }
-    ensures above { (k : ℕ) → k ≤ 7 → at curve.now.b k ≤ℤ result }
+// The greatest of eight control values.
+fn greatest(row: &[i32; 8]) -> i32
+    requires { All (IsBelow (2 ^ 28)) row.now }
+    ensures above { (k : ℕ) → k ≤ 7 → at row.now k ≤ℤ result }
     ensures small { IsBelow (2 ^ 28) result }
 {
-    let mut greatest = short(curve, 0);
+    let mut greatest = row[0];
     for k in 0..8 {
-        let value = short(curve, k);
-        if greatest < value {
-            greatest = value;
-        }
+        greatest = greater(greatest, row[k]);
     }
     greatest
 }
 
-// A control value in 64 bits.
-fn short(curve: &Bez<8>, k: usize) -> i64
-    requires place { k < 8 }
-    requires values { All (IsBelow (2 ^ 28)) curve.now.b }
-    ensures exact { result ≡ at curve.now.b k }
-    ensures small { IsBelow (2 ^ 28) result }
+// The lesser of two numbers.
+fn lesser(a: i32, b: i32) -> i32
+    ensures either { (result ≡ a) ⊎ (result ≡ b) }
+    ensures first { result ≤ℤ a }
+    ensures second { result ≤ℤ b }
 {
-    curve.b[k] as i64
+    if a < b { a } else { b }
+}
+
+/// The extents of whole flights, by drone: of each all cues. There are at most 32 drones.
+pub fn flights_of(curves: &Curves, all: &[Extent]) -> [Extent; 32]
+    requires extents { AreExtents curves.now all.now }
+    ensures { AreFlights curves.now result }
+{
+    let mut flights = [Extent {
+        low: [0; 3],
+        high: [0; 3],
+    }; 32];
+    for drone in 0..curves.drones() {
+        flights[drone] = flight_of(curves, all, drone);
+    }
+    flights
+}
+
+// The extent of a drone's flight.
+fn flight_of(curves: &Curves, all: &[Extent], drone: usize) -> Extent
+    requires extents { AreExtents curves.now all.now }
+    requires drone { drone < curves.now.drones }
+    ensures { IsFlight curves.now drone result }
+{
+    let cues = curves.cues();
+    let mut flight = extent_at(curves, all, drone, 0);
+    for cue in 0..cues {
+        flight = wider(&flight, &extent_at(curves, all, drone, cue));
+    }
+    flight
+}
+
+// An extent that has two others in it.
+fn wider(first: &Extent, second: &Extent) -> Extent
+    ensures { IsWider first.now second.now result }
+{
+    Extent {
+        low: [
+            lesser(first.low[0], second.low[0]),
+            lesser(first.low[1], second.low[1]),
+            lesser(first.low[2], second.low[2]),
+        ],
+        high: [
+            greater(first.high[0], second.high[0]),
+            greater(first.high[1], second.high[1]),
+            greater(first.high[2], second.high[2]),
+        ],
+    }
 }
 
 /// Whether a table has the directions of the three axes, both ways.
@@ -189,7 +225,7 @@ fn are_far_on(first: &Extent, second: &Extent, axis: usize, room: u32) -> bool
 }
 
 // Whether a gap fits between two numbers.
-fn is_between(high: i64, low: i64, gap: i64) -> bool
+fn is_between(high: i32, low: i32, gap: i32) -> bool
     requires high { IsBelow (2 ^ 28) high }
     requires low { IsBelow (2 ^ 28) low }
     ensures { IsTrue result → IsBetween high low gap }
@@ -198,9 +234,9 @@ fn is_between(high: i64, low: i64, gap: i64) -> bool
 }
 
 // How far apart control values must be for so much room: more than the room, in raised millimetres.
-fn gap_of(room: u32) -> i64
+fn gap_of(room: u32) -> i32
     requires { room ≤ 71536 }
     ensures { result ≡ gap_of room }
 {
-    5040 * (i64::from(room) + 1)
+    (5040 * (room + 1)) as i32
 }

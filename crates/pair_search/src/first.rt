@@ -2,7 +2,7 @@
 
 ghost use Rattle.std.specs.Prelude.{◌≡◌, ℕ, ◌+◌, ◌*◌, ◌^◌, ◌≤◌, ◌<◌, pos, ◌<ℤ◌, false, All, IfSome, length};
 ghost use Rattle.fleet_math.specs.Bernstein.{at};
-ghost use Rattle.sep_parts.specs.Levels.{IsLevel};
+ghost use Rattle.sep_parts.specs.Levels.{IsLevel, root};
 ghost use Rattle.pair_search.specs.Lanes.{AreLanes, IsPoint, IsSmallPoint};
 ghost use Rattle.pair_search.specs.Search.{first_by};
 ghost use Rattle.pair_search.specs.Steps.{FindsFrom, does_separate};
@@ -25,6 +25,19 @@ pub fn first_direction<const M: usize>(
 {
     let (p, q) = points_of(diff, level);
     first_near(diff, level, ruler, lanes, &p, &q)
+}
+
+/// The number of the first direction of a ruler that separates the whole cue.
+#[inline(never)]
+pub fn first_of_whole<const M: usize>(diff: &Difference, ruler: &Ruler<M>) -> Option<u8>
+    ensures { result ≡ first_by ruler.now diff.now root }
+{
+    for dir in 0..ruler.count() {
+        if ruler.separates_whole(diff, dir) {
+            return Some(dir as u8);
+        }
+    }
+    None
 }
 
 // The two ends of a part in whole steps.

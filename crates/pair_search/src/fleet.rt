@@ -4,22 +4,21 @@ ghost use Rattle.std.specs.Prelude.{◌≡◌, ◌^◌, ◌≤◌, [], ◌∷◌
 ghost use Rattle.sep_parts.specs.Slots.{IsSlot};
 ghost use Rattle.sep_parts.specs.Levels.{root};
 ghost use Rattle.fleet_curves.specs.Raised.{difference};
-ghost use Rattle.pair_search.specs.Extents.{AreExtents, HasAxes};
+ghost use Rattle.pair_search.specs.Extents.{AreExtents, AreFlights, HasAxes};
 ghost use Rattle.pair_search.specs.Fleets.{GivesCount, GivesTrees};
 ghost use Rattle.pair_search.specs.Lanes.{AreLanes};
 ghost use Rattle.pair_search.specs.Opposites.{AreOpposites};
 ghost use Rattle.pair_search.specs.Search.{HasDirection};
-ghost use Rattle.pair_search.specs.Steps.{FindsCount, FindsTree};
+ghost use Rattle.pair_search.specs.Steps.{FindsCount, FindsTree, IsPairFar};
 
-use crate::extents::{Extent, are_far, extent_at, extents_of, has_axes};
+use crate::extents::{Extent, are_far, extent_at, extents_of, flights_of, has_axes};
 use crate::lanes::{Lanes, lanes_of};
 use crate::opposites::{Opposites, opposites_of};
 use crate::shape::count_with;
 use crate::walk::{Found, search_by};
 use fleet_curves::{Curves, Difference};
 use fleet_math::Depth;
-use listed::Listed;
-use sep_parts::{Node, Ruler, Slot, Waiting};
+use sep_parts::{Forest, Node, Ruler, Slot, Waiting};
 use std::alloc::{AllocError, Global};
 
 /// Why a search of a fleet finds no trees.
@@ -72,14 +71,6 @@ fn tree_of<const M: usize>(
     }
 }
 
-// A tree after the others, in memory of its own, no more than its nodes take.
-fn add_tree(alloc: Global, nodes: &[Node], trees: &mut Vec<Listed<Node>>) -> Result<(), AllocError>
-    ensures { OnOk result (trees.new.items ≡ trees.old.items ++ nodes.now ∷ []) }
-{
-    trees.push(Listed::from_vec(nodes.to_vec(alloc)?))?;
-    Ok(())
-}
-
 /// The trees of a fleet, one for each pair of drones and each cue, in the order of slots: the nodes, in preorder, of the tree with
 /// the largest possible leaves, each with the first direction of the ruler that separates its part. `depth` is the greatest depth
 /// of a part, 0 to 8.
@@ -91,24 +82,22 @@ pub fn search_all<const M: usize>(
     curves: &Curves,
     ruler: &Ruler<M>,
     depth: Depth,
-) -> Result<Listed<Listed<Node>>, SearchFault>
+) -> Result<Forest, SearchFault>
     ensures { GivesTrees ruler.now depth curves.now result }
 {
     let drones = curves.drones();
     let cues = curves.cues();
     let lanes = lanes_of(ruler);
-    let mut trees = Vec::new(alloc);
+    let mut trees = Forest::none(alloc);
     let mut nodes = Vec::new(alloc);
     let mut slot = Slot::first();
     while usize::from(slot.b) < drones {
         nodes.clear();
         tree_of(curves, ruler, &lanes, depth, slot, &mut nodes)?;
-        let Ok(()) = add_tree(alloc, nodes.as_slice(), &mut trees) else {
-            return Err(SearchFault::Memory);
-        };
+        trees.push(nodes.as_slice())?;
         slot = slot.next(drones, cues);
     }
-    Ok(Listed::from_vec(trees))
+    Ok(trees)
 }
 
 // Whether the drones of a slot are so far apart on an axis that its direction separates the whole cue.
@@ -122,6 +111,37 @@ fn is_far<const M: usize>(curves: &Curves, extents: &[Extent], ruler: &Ruler<M>,
     let second = extent_at(curves, extents, slot.b as usize, slot.cue as usize);
     let clearance = ruler.clearance();
     are_far(&first, &second, &clearance)
+}
+
+// Whether all cues of a slot's pair are to come, and the whole flights of the two are so far apart on an axis that its direction
+// separates each of these cues. `axes` says that the ruler has the directions of the axes.
+fn is_pair_far<const M: usize>(
+    curves: &Curves,
+    flights: &[Extent; 32],
+    axes: bool,
+    ruler: &Ruler<M>,
+    slot: Slot,
+) -> bool
+    requires slot { IsSlot curves.now.drones curves.now.cues slot }
+    requires flights { AreFlights curves.now flights.now }
+    requires axes { IsTrue axes → HasAxes ruler.now.directions }
+    ensures { IsTrue result → IsPairFar ruler.now curves.now slot }
+{
+    if slot.cue != 0 {
+        return false;
+    }
+    if !axes {
+        return false;
+    }
+    // there are at most 32 drones, and some cue
+    let _drones = curves.drones();
+    let _cues = curves.cues();
+    let clearance = ruler.clearance();
+    are_far(
+        &flights[slot.a as usize],
+        &flights[slot.b as usize],
+        &clearance,
+    )
 }
 
 // How many nodes a slot's tree has, or the first part of its cue that no direction separates. `axes` says that the ruler has the
@@ -170,6 +190,7 @@ pub fn count_all<const M: usize>(
     let drones = curves.drones();
     let cues = curves.cues();
     let extents = extents_of(alloc, curves)?;
+    let flights = flights_of(curves, extents.as_slice());
     let axes = has_axes(ruler);
     let opposites = opposites_of(ruler);
     let mut waiting = Waiting::none();
@@ -177,6 +198,11 @@ pub fn count_all<const M: usize>(
     let mut count = 0;
     let mut slot = Slot::first();
     while usize::from(slot.b) < drones {
+        if is_pair_far(curves, &flights, axes, ruler, slot) {
+            count += cues as u32;
+            slot = slot.next_pair(drones);
+            continue;
+        }
         count += count_of(
             curves,
             extents.as_slice(),

@@ -173,8 +173,8 @@ pub fn fill(lanes: &Lanes, p: &Point, q: &Point, begin: usize, near: &mut [i32; 
     most
 }
 
-// The greater of two numbers.
-fn greater(a: i32, b: i32) -> i32
+/// The greater of two numbers.
+pub(crate) fn greater(a: i32, b: i32) -> i32
     ensures either { (result ≡ a) ⊎ (result ≡ b) }
     ensures first { a ≤ℤ result }
     ensures second { b ≤ℤ result }

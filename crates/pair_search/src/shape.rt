@@ -32,6 +32,10 @@ pub fn count_with<const M: usize>(
     // a depth is at most 8
     let _levels = depth.levels();
     diff.raised_law();
+    let last = *hint;
+    if last < ruler.count() && ruler.separates_whole(diff, last) {
+        return Ok(1);
+    }
     let mut count = 0;
     waiting.begin(diff);
     while let Some(level) = waiting.next() {

@@ -10,11 +10,10 @@ ghost use Rattle.pair_search.specs.Lanes.{AreLanes};
 ghost use Rattle.pair_search.specs.Laws.{SearchLaw};
 ghost use Rattle.pair_search.specs.Steps.{WalkGives, node_for};
 
-use crate::first::first_direction;
+use crate::first::{first_direction, first_of_whole};
 use crate::lanes::{Lanes, lanes_of};
 use fleet_curves::Difference;
 use fleet_math::Depth;
-use halving::Place;
 use sep_parts::{Clearance, Dirs, Level, Node, Ruler, Waiting};
 use std::alloc::AllocError;
 
@@ -102,41 +101,46 @@ fn walk<const M: usize>(
     requires lanes { AreLanes ruler.now lanes.now }
     ensures { WalkGives (first_by ruler.now diff.now) depth result nodes.new.items }
 {
-    diff.raised_law();
-    let whole = Level {
-        place: Place { depth: 0, index: 0 },
-        part: *diff.curves(),
-    };
-    match node_for(diff, &whole, ruler, lanes, depth) {
+    match node_of_whole(diff, ruler, depth) {
         Some(Node::Leaf { dir }) => {
             nodes.push(Node::Leaf { dir })?;
             Ok(Found::Clear)
         }
-        Some(Node::Split) => walk_halves(diff, &whole, ruler, lanes, depth, nodes),
+        Some(Node::Split) => walk_halves(diff, ruler, lanes, depth, nodes),
         None => Ok(Found::Blocked { index: 0 }),
+    }
+}
+
+// The node of a whole cue: a leaf where a direction separates it, else a split where the depth allows one.
+fn node_of_whole<const M: usize>(diff: &Difference, ruler: &Ruler<M>, depth: Depth) -> Option<Node>
+    ensures { result ≡ node_for (first_by ruler.now diff.now) depth root }
+{
+    match first_of_whole(diff, ruler) {
+        Some(dir) => Some(Node::Leaf { dir }),
+        None if depth.levels() > 0 => Some(Node::Split),
+        None => None,
     }
 }
 
 // The same of a whole cue that is split.
 fn walk_halves<const M: usize>(
     diff: &Difference,
-    whole: &Level,
     ruler: &Ruler<M>,
     lanes: &Lanes,
     depth: Depth,
     nodes: &mut Vec<Node>,
 ) -> Result<Found, AllocError>
     requires empty { nodes.old.items ≡ [] }
-    requires whole { whole.now.place ≡ root }
-    requires level { IsLevel diff.now whole.now }
     requires split { node_for (first_by ruler.now diff.now) depth root ≡ Some Node.Split }
     requires lanes { AreLanes ruler.now lanes.now }
     ensures { WalkGives (first_by ruler.now diff.now) depth result nodes.new.items }
 {
     // a depth is at most 8
     let _levels = depth.levels();
+    diff.raised_law();
     nodes.push(Node::Split)?;
-    let mut waiting = Waiting::of(whole);
+    let mut waiting = Waiting::none();
+    waiting.begin(diff);
     waiting.pass(diff, Node::Split);
     while let Some(level) = waiting.next() {
         match node_for(diff, level, ruler, lanes, depth) {

@@ -10,7 +10,7 @@ use bezier_core::Bez;
 use fleet_curves::{Curves, Difference};
 use fleet_math::Depth;
 use pair_search::{Found, SearchFault, count_all, search, search_all, search_with};
-use sep_parts::{DIRECTIONS, Node, Ruler, Slot, WIDE, table_law};
+use sep_parts::{DIRECTIONS, Forest, Node, Ruler, Slot, WIDE, table_law};
 use std::alloc::{AllocError, Global};
 use std::test::Fail;
 use traj_codec::{Element, Listed, Segment, Traj};
@@ -174,7 +174,7 @@ pub(crate) fn nodes_of(
         Err(SearchFault::Memory) => return None,
     };
     let found = match search_all(alloc, curves, ruler, depth) {
-        Ok(trees) => Ok(all_nodes(trees.as_slice())),
+        Ok(trees) => Ok(all_nodes(&trees)),
         Err(SearchFault::Blocked { index, .. }) => Err(index),
         Err(SearchFault::Memory) => return None,
     };
@@ -186,10 +186,10 @@ pub(crate) fn nodes_of(
 }
 
 // How many nodes trees have.
-fn all_nodes(trees: &[Listed<Node>]) -> u64 {
+fn all_nodes(trees: &Forest) -> u64 {
     let mut count: u64 = 0;
-    for tree in trees {
-        count = count.saturating_add(tree.as_slice().len() as u64);
+    for k in 0..trees.len() {
+        count = count.saturating_add(trees.tree(k).len() as u64);
     }
     count
 }

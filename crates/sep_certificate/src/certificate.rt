@@ -1,8 +1,7 @@
 //! A certificate, and what may be wrong with one.
 
 use halving::Place;
-use listed::Listed;
-use sep_parts::Node;
+use sep_parts::Forest;
 
 /// A certificate: for each pair of drones and each cue a tree, none deeper than `depth`.
 #[derive(Debug, Drop)]
@@ -12,7 +11,7 @@ pub struct Certificate {
     /// The greatest depth of a part, 0 to 8: a part of depth d is one of 2^d equal parts of its cue.
     pub depth: u8,
     /// The trees by pair, (0, 1), (0, 2) and so on by first and then second drone, and for each pair by cue.
-    pub trees: Listed<Listed<Node>>,
+    pub trees: Forest,
 }
 
 /// Why a certificate isn't valid. Drones, cues, trees and control values count from 0.

@@ -41,8 +41,8 @@ pub fn write_certificate(alloc: Global, cert: &Certificate) -> Result<Vec<u8>, A
 {
     let mut text = Vec::new(alloc);
     put_head(&mut text, cert.version, Depth::make(cert.depth))?;
-    for nodes in cert.trees.as_slice() {
-        put_tree(&mut text, cert.version, nodes.as_slice())?;
+    for k in 0..cert.trees.len() {
+        put_tree(&mut text, cert.version, cert.trees.tree(k))?;
     }
     Ok(text)
 }

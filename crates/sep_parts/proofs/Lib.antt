@@ -20,3 +20,4 @@ pub mod Instants
 pub mod PartBounds
 pub mod Entries
 pub mod NarrowLemmas
+pub mod Cuts

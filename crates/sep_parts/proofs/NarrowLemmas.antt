@@ -4,7 +4,7 @@ use Rattle.std.specs.Int.Signed.{le_z}
 use Rattle.std.proofs.Common.{true, ◌≡◌, ℕ, ◌*◌, ◌^◌, zero, suc, ◌≤◌, ℤ, pos, ◌≤ℤ◌, ◌<ℤ◌, ◌+ℤ◌, ◌*ℤ◌, unsigned_abs, FitsSigned, to_z, of_z, arith}
 use Rattle.std.proofs.lemmas.Int.{ints, unsigned_abs-mul, to_z-of_z}
 use Rattle.std.proofs.lemmas.Nat.{mul-le}
-use mir.Syntax.{w64, w128}
+use mir.Syntax.{w32, w64, w128}
 use Rattle.fleet_math.specs.Numbers.{IsBelow}
 use Rattle.sep_parts.specs.Separates.{least_value}
 
@@ -13,6 +13,13 @@ pub narrow_product : (w x : ℤ) → IsBelow 4001 w → IsBelow (2 ^ 46) x → I
 narrow_product w x small below =
     let m : unsigned_abs (w *ℤ x) ≤ 4000 * (2 ^ 46) = rw (unsigned_abs-mul w x) (mul-le (unsigned_abs w) (unsigned_abs x) 4000 (2 ^ 46) (omega (arith, ints)) (omega (arith, ints))) in
     (omega (arith, ints), omega (arith, ints))
+
+-- and so is its product with a number of 32 bits
+pub row_product : (w x : ℤ) → IsBelow 4001 w → FitsSigned w32 x → IsBelow (2 ^ 58) (w *ℤ x)
+row_product w x small fits = narrow_product w x small (omega (arith, ints), omega (arith, ints))
+
+pub row_fits : (x : ℤ) → FitsSigned w32 x → FitsSigned w64 x
+row_fits x fits = omega (arith, ints)
 
 -- three such products and their sum fit
 pub narrow_sum : (x y z : ℤ) → IsBelow (2 ^ 58) x → IsBelow (2 ^ 58) y → IsBelow (2 ^ 58) z → FitsSigned w64 (x +ℤ y) × FitsSigned w64 (x +ℤ y +ℤ z)

@@ -4,7 +4,7 @@ use Rattle.std.proofs.Common.{◌≡◌, ◌⊎◌, inl, inr, ℕ, zero, suc, �
 use Rattle.std.proofs.lemmas.List.Elements.{All-nil, All-cons, All-append}
 use Rattle.std.proofs.lemmas.Bool.Decides.{nat_tests}
 use Rattle.sep_parts.specs.declared.slot.Slot.{Slot}
-use Rattle.sep_parts.specs.Slots.{IsSlot, following, slots, slot_at, cues_from, pairs_from, drones_from}
+use Rattle.sep_parts.specs.Slots.{IsSlot, following, following_pair, slots, slot_at, cues_from, pairs_from, drones_from}
 
 -- the slots from one on: n cues of its pair, m pairs after it with the same first drone, and the pairs among the k drones after that one
 pub record IsFrom (drones cues : ℕ) (s : Slot) (rest : List Slot) : Type 0 where
@@ -36,6 +36,29 @@ unfolding slots
 first_ahead zero cues some_drones some_cues = absurd (omega arith)
 first_ahead (suc drones) cues some_drones some_cues = pairs_ahead (suc drones) cues 0 drones drones some_cues (omega arith) (omega arith)
 
+-- the pairs after that of a slot
+next_pair : (drones cues : ℕ) (s : Slot) (m k : ℕ) → IsSlot drones cues s → m + s.b + 1 ≡ drones → k + s.a + 1 ≡ drones →
+    IsAhead drones cues (following_pair drones s) (pairs_from m cues s.a (suc s.b) ++ drones_from k cues (suc s.a))
+next_pair drones cues s (suc m) k is pairs_left drones_left =
+    let more : nat_lt (s.b + 1) drones ≡ true = grind (arith, nat_tests) in
+    let up : s.b + 1 ≡ suc s.b = omega arith in
+    rw more (inl (record {
+      n = cues;
+      m = m;
+      k = k;
+      is_slot = record { first = omega (arith, is.first); second = omega arith; cue = omega (arith, is.cue) };
+      cues_left = omega arith;
+      pairs_left = omega arith;
+      drones_left = drones_left;
+      rest_is = rw up (append_assoc (cues_from cues s.a (suc s.b) 0) (pairs_from m cues s.a (suc (suc s.b))) (drones_from k cues (suc s.a)));
+    }))
+next_pair drones cues s zero zero is pairs_left drones_left = absurd (omega (arith, is.first, is.second))
+next_pair drones cues s zero (suc k) is pairs_left drones_left =
+    let last : nat_lt (s.b + 1) drones ≡ false = grind (arith, nat_tests) in
+    let up : s.a + 1 ≡ suc s.a = omega arith in
+    let twice : s.a + 2 ≡ suc (suc s.a) = omega arith in
+    rw (last, up, twice) (pairs_ahead drones cues (suc s.a) k k (omega (arith, is.cue)) (omega arith) (omega arith))
+
 -- the slot after one, by cases
 next_cue : (drones cues : ℕ) (s : Slot) (n m k : ℕ) → IsSlot drones cues s → suc n + s.cue ≡ cues → m + s.b + 1 ≡ drones → k + s.a + 1 ≡ drones →
     IsAhead drones cues (following drones cues s) (behind n m k cues s)
@@ -52,28 +75,8 @@ next_cue drones cues s (suc n) m k is cues_left pairs_left drones_left =
       drones_left = drones_left;
       rest_is = rw up refl;
     }))
-next_cue drones cues s zero (suc m) k is cues_left pairs_left drones_left =
-    let none : nat_lt (s.cue + 1) cues ≡ false = grind (arith, nat_tests) in
-    let more : nat_lt (s.b + 1) drones ≡ true = grind (arith, nat_tests) in
-    let up : s.b + 1 ≡ suc s.b = omega arith in
-    let some : 1 ≤ cues = omega arith in
-    rw (none, more) (inl (record {
-      n = cues;
-      m = m;
-      k = k;
-      is_slot = record { first = omega (arith, is.first); second = omega arith; cue = omega arith };
-      cues_left = omega arith;
-      pairs_left = omega arith;
-      drones_left = drones_left;
-      rest_is = rw up (append_assoc (cues_from cues s.a (suc s.b) 0) (pairs_from m cues s.a (suc (suc s.b))) (drones_from k cues (suc s.a)));
-    }))
-next_cue drones cues s zero zero zero is cues_left pairs_left drones_left = absurd (omega (arith, is.first, is.second))
-next_cue drones cues s zero zero (suc k) is cues_left pairs_left drones_left =
-    let none : nat_lt (s.cue + 1) cues ≡ false = grind (arith, nat_tests) in
-    let last : nat_lt (s.b + 1) drones ≡ false = grind (arith, nat_tests) in
-    let up : s.a + 1 ≡ suc s.a = omega arith in
-    let twice : s.a + 2 ≡ suc (suc s.a) = omega arith in
-    rw (none, last, up, twice) (pairs_ahead drones cues (suc s.a) k k (omega arith) (omega arith) (omega arith))
+next_cue drones cues s zero m k is cues_left pairs_left drones_left =
+    let none : nat_lt (s.cue + 1) cues ≡ false = grind (arith, nat_tests) in rw none (next_pair drones cues s m k is pairs_left drones_left)
 
 pub next_ahead : (drones cues : ℕ) (s : Slot) (rest : List Slot) → IsFrom drones cues s rest →
     (next : List Slot) × (rest ≡ s ∷ next) × IsAhead drones cues (following drones cues s) next
@@ -83,6 +86,16 @@ next_ahead drones cues s rest from = go from.n from.cues_left from.rest_is
         (next : List Slot) × (rest ≡ s ∷ next) × IsAhead drones cues (following drones cues s) next
     go zero left is = absurd (omega (arith, left, from.is_slot.cue))
     go (suc n) left is = (behind n from.m from.k cues s, is, next_cue drones cues s n from.m from.k from.is_slot left from.pairs_left from.drones_left)
+
+-- the pair after one whose cues are all to come
+pub pair_ahead : (drones cues : ℕ) (s : Slot) (rest : List Slot) → IsFrom drones cues s rest → s.cue ≡ 0 →
+    (next : List Slot) × (rest ≡ cues_from cues s.a s.b 0 ++ next) × IsAhead drones cues (following_pair drones s) next
+pair_ahead drones cues s rest from begins =
+    let all : from.n ≡ cues = omega (arith, from.cues_left, begins) in (
+      pairs_from from.m cues s.a (suc s.b) ++ drones_from from.k cues (suc s.a),
+      rw (all, begins) at from.rest_is,
+      next_pair drones cues s from.m from.k from.is_slot from.pairs_left from.drones_left,
+    )
 
 pub some_ahead : (drones cues : ℕ) (s : Slot) (rest : List Slot) → s.b < drones → IsAhead drones cues s rest → IsFrom drones cues s rest
 some_ahead drones cues s rest here (inl from) = from

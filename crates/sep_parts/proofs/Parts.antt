@@ -3,7 +3,7 @@ use Rattle.std.proofs.lemmas.Grind.{common_steps}
 use Rattle.std.proofs.Common.{◌≡◌, ℕ, suc, ◌+◌, ◌-◌, ◌*◌, ◌^◌, ◌≤◌, ◌<◌, ℤ, pos, ◌+ℤ◌, ◌*ℤ◌, arith, sym, ◌∙◌, ap, List, [], length, All, lit<}
 use Rattle.std.proofs.lemmas.Int.{ints}
 use Rattle.std.proofs.Math.Nat.{pow-le-pow_right, pow-suc}
-use Rattle.std.proofs.lemmas.List.Elements.{All-from_get_or}
+use Rattle.std.proofs.lemmas.List.Elements.{All-from_get_or, All-get_or}
 use Rattle.fleet_math.specs.Sums.{power}
 use Rattle.fleet_math.proofs.SumLemmas.{power-add}
 use Rattle.fleet_math.specs.Bernstein.{at, bernstein}
@@ -19,6 +19,7 @@ use Rattle.halving.specs.Part.{part_value, polar}
 use Rattle.halving.specs.Places.{IsPlace}
 use Rattle.halving.proofs.HalfLemmas.{bernstein-within}
 use Rattle.halving.proofs.PolarLemmas.{polar-same, part-part, part-whole}
+use Rattle.fleet_curves.specs.Raised.{AreRaised}
 use Rattle.sep_parts.specs.declared.stack.Level.{Level}
 use Rattle.sep_parts.specs.Directions.{weights}
 use Rattle.sep_parts.specs.Separates.{first_low, part_along}
@@ -123,6 +124,10 @@ right_level diff part level is shallow len halves = grind (arith, common_steps, 
 -- the whole curves are the part at the root
 pub root_level : (diff : List (Bez 8)) → length diff ≡ 3 → ((axis : ℕ) → axis ≤ 2 → length (controls diff axis) ≡ 8) → IsLevel diff (record { place = root; part = diff })
 root_level diff len sizes = grind (arith, common_steps, list_of_eight, same_eight, part-whole)
+
+-- that of a difference
+pub raised_level : (diff : List (Bez 8)) → AreRaised diff → IsLevel diff (record { place = root; part = diff })
+raised_level diff is = root_level diff is.axes (λ axis near. All-get_or (λ (curve : Bez 8). length curve.b ≡ 8) diff axis (record { b = [] }) (omega (arith, is.axes, near)) is.sizes)
 
 -- ---- along a direction
 pub low-along : (diff : List (Bez 8)) (level : Level) (n : List ℤ) (r h : ℕ) (least : ℤ) → IsLevel diff level →

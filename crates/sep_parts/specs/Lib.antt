@@ -7,3 +7,4 @@ pub mod Slots
 pub mod Levels
 pub mod Trees
 pub mod Rulers
+pub mod Steps

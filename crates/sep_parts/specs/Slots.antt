@@ -30,9 +30,10 @@ pub record IsSlot (drones cues : ℕ) (s : Slot) : Type 0 where
   pub second : s.b < drones
   pub cue : s.cue < cues
 
--- the slot after one; past the last slot its second drone is none of the show
+-- the first slot of the pair after that of a slot; past the last pair its second drone is none of the show
+abbrev pub following_pair : ℕ → Slot → Slot
+following_pair drones s = if nat_lt (s.b + 1) drones then slot_at s.a (s.b + 1) 0 else slot_at (s.a + 1) (s.a + 2) 0
+
+-- the slot after one
 abbrev pub following : ℕ → ℕ → Slot → Slot
-following drones cues s =
-    if nat_lt (s.cue + 1) cues then record { a = s.a; b = s.b; cue = s.cue + 1 }
-    else if nat_lt (s.b + 1) drones then record { a = s.a; b = s.b + 1; cue = 0 }
-    else record { a = s.a + 1; b = s.a + 2; cue = 0 }
+following drones cues s = if nat_lt (s.cue + 1) cues then slot_at s.a s.b (s.cue + 1) else following_pair drones s

@@ -10,6 +10,7 @@
 mod apart;
 mod clearance;
 mod directions;
+mod forest;
 mod narrow;
 mod node;
 mod part;
@@ -22,6 +23,7 @@ mod waiting;
 pub use apart::apart_law;
 pub use clearance::Clearance;
 pub use directions::{DIRECTIONS, Dirs, WIDE, table_law, threshold_law, thresholds};
+pub use forest::Forest;
 pub use node::{Node, tree_law};
 pub use part::{above, first_below, halves, low_control, projected, separates, size_law};
 pub use ruler::Ruler;

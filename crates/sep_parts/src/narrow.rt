@@ -1,8 +1,10 @@
 //! Parts of the first halvings, in 64 bits.
 
-ghost use Rattle.std.specs.Prelude.{◌≡◌, ℕ, ◌^◌, ◌≤◌, ◌<◌, ℤ, pos, ◌*ℤ◌, ◌≤ℤ◌, ◌<ℤ◌, All, IsTrue, ◌↔◌};
+ghost use Rattle.std.specs.Prelude.{◌≡◌, ℕ, ◌^◌, ◌≤◌, ◌<◌, ℤ, pos, ◌+ℤ◌, ◌*ℤ◌, ◌≤ℤ◌, ◌<ℤ◌, All, IsTrue, ◌↔◌};
+ghost use Rattle.fleet_math.specs.Bernstein.{at};
 ghost use Rattle.fleet_math.specs.Numbers.{IsBelow};
 ghost use Rattle.bezier_core.specs.Along.{along_value};
+ghost use Rattle.fleet_curves.specs.Raised.{curves_of};
 ghost use Rattle.sep_parts.specs.Directions.{AreSmall, IsAxis, weights};
 ghost use Rattle.sep_parts.specs.Separates.{least_value};
 
@@ -175,4 +177,80 @@ fn weighted_short(weight: i64, value: i128) -> i128
     ensures small { IsBelow (2 ^ 70) result }
 {
     i128::from(weight) * i128::from(value as i64)
+}
+
+/// What `separates` returns of three whole curves, whose control values are these rows.
+#[inline(always)]
+pub(crate) fn separates_rows(
+    rows: &[[i32; 8]; 3],
+    n: [i8; 3],
+    r: u16,
+    h: u16,
+    threshold: i128,
+) -> bool
+    requires entries { AreSmall n }
+    requires r { IsAxis r }
+    requires h { IsAxis h }
+    requires positive { pos 0 ≤ℤ threshold }
+    requires small { threshold <ℤ pos (2 ^ 30) }
+    ensures { IsTrue result ↔ ((k : ℕ) → k ≤ 7 → least_value threshold 0 ≤ℤ along_value (curves_of rows.now) (weights n r h) k) }
+{
+    all_reach_rows(rows, narrow_weights(n, r, h), whole_least(threshold))
+}
+
+// What each weighted sum of a whole cue is to be at least.
+fn whole_least(threshold: i128) -> i64
+    requires positive { pos 0 ≤ℤ threshold }
+    requires small { threshold <ℤ pos (2 ^ 30) }
+    ensures { result ≡ least_value threshold 0 }
+{
+    threshold as i64 * 5040
+}
+
+macro_rules! each_reaches_rows {
+    ($rows:expr, $w:expr, $least:expr; $($k:literal)*) => {
+        $(
+            if !reaches_rows($rows, $w, $least, $k) {
+                return false;
+            }
+        )*
+    };
+}
+
+// Whether each weighted sum is at least so much, the ends of the curves first.
+fn all_reach_rows(rows: &[[i32; 8]; 3], w: [i64; 3], least: i64) -> bool
+    requires weights { All (IsBelow 4001) w }
+    ensures { IsTrue result ↔ ((k : ℕ) → k ≤ 7 → least ≤ℤ along_value (curves_of rows.now) w k) }
+{
+    each_reaches_rows!(rows, w, least; 0 7 1 2 3 4 5 6);
+    true
+}
+
+// Whether one weighted sum is at least so much.
+fn reaches_rows(rows: &[[i32; 8]; 3], w: [i64; 3], least: i64, k: usize) -> bool
+    requires place { k < 8 }
+    requires weights { All (IsBelow 4001) w }
+    ensures { IsTrue result ↔ (least ≤ℤ along_value (curves_of rows.now) w k) }
+{
+    sum_reaches(w, rows[0][k], rows[1][k], rows[2][k], least)
+}
+
+// Whether the weighted sum of three numbers is at least so much.
+fn sum_reaches(w: [i64; 3], x: i32, y: i32, z: i32, least: i64) -> bool
+    requires weights { All (IsBelow 4001) w }
+    ensures { IsTrue result ↔ (least ≤ℤ (at w 0 *ℤ x +ℤ at w 1 *ℤ y +ℤ at w 2 *ℤ z)) }
+{
+    let a = weighted_row(w[0], x);
+    let b = weighted_row(w[1], y);
+    let c = weighted_row(w[2], z);
+    least <= a + b + c
+}
+
+// A number of 32 bits times a weight.
+fn weighted_row(weight: i64, value: i32) -> i64
+    requires { IsBelow 4001 weight }
+    ensures product { result ≡ weight *ℤ value }
+    ensures small { IsBelow (2 ^ 58) result }
+{
+    weight * i64::from(value)
 }

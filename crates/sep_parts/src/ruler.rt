@@ -3,12 +3,14 @@
 ghost use Rattle.std.specs.Prelude.{◌≡◌, ◌^◌, ◌<◌, ◌≤◌, pos, ◌≤ℤ◌, ◌<ℤ◌, length, All, IsTrue, is_none};
 ghost use Rattle.fleet_math.specs.Numbers.{IsBelow};
 ghost use Rattle.sep_parts.specs.Directions.{AreSmall, IsClearance, IsTableSize, Stands, direction_of, threshold, weights};
-ghost use Rattle.sep_parts.specs.Levels.{IsLevel};
+ghost use Rattle.sep_parts.specs.Levels.{IsLevel, root};
 ghost use Rattle.sep_parts.specs.Separates.{low_value};
 
 use crate::clearance::Clearance;
 use crate::directions::{Dirs, thresholds};
-use crate::narrow::{NARROW_DEPTH, SHORT_DEPTH, narrow_weights, separates_narrow, separates_short};
+use crate::narrow::{
+    NARROW_DEPTH, SHORT_DEPTH, narrow_weights, separates_narrow, separates_rows, separates_short,
+};
 use crate::part::{low_control, separates};
 use crate::stack::Level;
 use fleet_curves::Difference;
@@ -120,6 +122,19 @@ impl<const M: usize> Ruler<M> {
             return separates_short(&level.part, directions[dir], r, h, thresholds[dir], depth);
         }
         separates(&level.part, directions[dir], r, h, thresholds[dir], depth)
+    }
+
+    /// Whether the direction with the number `dir` separates the whole cue: what [`Ruler::separates`] returns of it.
+    #[inline(always)]
+    pub fn separates_whole(&self, diff: &Difference, dir: usize) -> bool
+        requires dir { dir < length self.now.directions }
+        ensures { result ≡ is_none (low_value self.now.clearance diff.now root (direction_of self.now.directions dir)) }
+    {
+        diff.raised_law();
+        let directions = self.directions.n.as_slice();
+        let thresholds = self.thresholds.as_slice();
+        let Clearance { r, h, .. } = self.clearance;
+        separates_rows(diff.rows(), directions[dir], r, h, thresholds[dir])
     }
 
     /// The place, 0 to 7, of the first control value of a part that is below the threshold along the direction with the number

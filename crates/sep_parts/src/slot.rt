@@ -15,7 +15,7 @@ pub struct Slot {
 
 impl Slot {
     ghost use Rattle.fleet_math.specs.Limits.{most_cues, most_drones};
-    ghost use Rattle.sep_parts.specs.Slots.{IsSlot, following};
+    ghost use Rattle.sep_parts.specs.Slots.{IsSlot, following, following_pair};
 
     /// The first pair and cue.
     pub fn first() -> Slot
@@ -24,7 +24,7 @@ impl Slot {
         Slot { a: 0, b: 1, cue: 0 }
     }
 
-    /// The pair and cue after this one: the next cue of the pair, else the next second drone, else the next first drone.
+    /// The pair and cue after this one: the next cue of the pair, else the first cue of the next pair.
     pub fn next(&self, drones: usize, cues: usize) -> Slot
         requires drones { drones ≤ most_drones }
         requires cues { cues ≤ most_cues }
@@ -37,7 +37,19 @@ impl Slot {
                 b: self.b,
                 cue: self.cue + 1,
             }
-        } else if (self.b as usize + 1) < drones {
+        } else {
+            self.next_pair(drones)
+        }
+    }
+
+    /// The first cue of the next pair: with the next second drone, else with the next first drone.
+    pub fn next_pair(&self, drones: usize) -> Slot
+        requires drones { drones ≤ most_drones }
+        requires first { self.now.a < self.now.b }
+        requires second { self.now.b < drones }
+        ensures { result ≡ following_pair drones self.now }
+    {
+        if (self.b as usize + 1) < drones {
             Slot {
                 a: self.a,
                 b: self.b + 1,

@@ -67,7 +67,7 @@ impl Waiting {
         requires { self.old ≡ [] }
         ensures { self.new ≡ record { place = root; part = diff.now } ∷ [] }
     {
-        self.push(Place { depth: 0, index: 0 }, diff.curves());
+        self.push(Place { depth: 0, index: 0 }, &diff.curves());
     }
 
     /// The next part; none where none waits.

@@ -13,11 +13,10 @@ ghost use Rattle.show_plan.specs.Laws.{IsFirstPart, SeparationLaw};
 ghost use Rattle.show_plan.specs.Steps.{FindsNodes, FindsTrees, separation_fault};
 
 use crate::fitted::Fitted;
-use choreo_show::Listed;
 use fleet_math::Depth;
 use pair_search::{SearchFault, count_all, search_all, search_law};
-use sep_certificate::{Certificate, Curves, Node, certificate_law};
-use sep_parts::{Clearance, Ruler, Slot, WIDE, apart_law, table_law};
+use sep_certificate::{Certificate, Curves, certificate_law};
+use sep_parts::{Clearance, Forest, Ruler, Slot, WIDE, apart_law, table_law};
 use speed_bound::{reach, reach_law};
 use std::alloc::{AllocError, Global};
 
@@ -99,7 +98,7 @@ fn trees_of(
     curves: &Curves,
     clearance: Clearance,
     depth: Depth,
-) -> Result<Listed<Listed<Node>>, SeparationFault>
+) -> Result<Forest, SeparationFault>
     requires clearance { IsClearance clearance }
     ensures finds { FindsTrees clearance depth curves.now result }
     ensures shallow { depth ≤ most_depth }

@@ -3,7 +3,8 @@ use Rattle.std.proofs.lemmas.Int.{to_z-of_z}
 use Rattle.std.proofs.lemmas.List.{take_all}
 use mir.Syntax.{w16}
 use Rattle.traj_codec.specs.declared.traj.Segment.{Segment}
-use Rattle.fleet_curves.specs.Steps.{IsFormed, AreSmallCurves, all_curves, curves_of}
+use Rattle.fleet_curves.specs.Raised.{curves_of}
+use Rattle.fleet_curves.specs.Steps.{IsFormed, AreSmallCurves, all_curves}
 use Rattle.fleet_curves.proofs.Fleets.{next_curves, all_more, all_push}
 use Rattle.fleet_curves.proofs.Rows.{curves_push}
 use Rattle.fleet_curves.proofs.curves.add_traj.Goals as goal

@@ -6,21 +6,21 @@ use Rattle.pair_search.specs.Fleets.{slots_in}
 use Rattle.pair_search.proofs.Fleets.{past, stopped, tree_next}
 use Rattle.pair_search.proofs.fleet.search_all.Goals as goal
 
-pub loop-alloc-init : goal.loop-alloc-init
-loop-alloc-init g c = (
+pub loop-depth-init : goal.loop-depth-init
+loop-depth-init g c = (
   slots_in c.args.curves.now,
   record { ahead = rw c.first-slot.ensures (first_ahead c.args.curves.now.drones c.args.curves.now.cues (omega arith) (omega arith)); blocked = refl },
-  rw c.new-trees.ensures.items refl,
+  rw c.none-trees.ensures refl,
 )
 
 pub returns-in_err-tree_of : goal.returns-in_err-tree_of
 returns-in_err-tree_of g c =
     let p = err_from_is_err_and c.from_residual.result c.from_residual.ensures.1 in
     rw (p.1, p.2)
-    (stopped c.args.ruler.now c.args.depth c.args.curves.now c.loop-alloc.slot c.loop-alloc.invariant.0 c.in_err-tree_of.field-0.0 (omega arith) c.in_err-tree_of.ensures c.loop-alloc.invariant.1)
+    (stopped c.args.ruler.now c.args.depth c.args.curves.now c.loop-depth.slot c.loop-depth.invariant.0 c.in_err-tree_of.field-0.0 (omega arith) c.in_err-tree_of.ensures c.loop-depth.invariant.1)
 
-pub loop-alloc-preserved : goal.loop-alloc-preserved
-loop-alloc-preserved g c =
+pub loop-depth-preserved : goal.loop-depth-preserved
+loop-depth-preserved g c =
     let on =
-    past c.args.ruler.now c.args.depth c.args.curves.now c.loop-alloc.slot c.next-slot.result c.loop-alloc.invariant.0 c.drones-drones.result c.cues-cues.result (omega arith) c.in_ok-tree_of.ensures.0
-    c.next-slot.ensures c.drones-drones.ensures.exact c.cues-cues.ensures.exact c.loop-alloc.invariant.1 in grind (arith, common_steps, tree_next)
+    past c.args.ruler.now c.args.depth c.args.curves.now c.loop-depth.slot c.next-slot.result c.loop-depth.invariant.0 c.drones-drones.result c.cues-cues.result (omega arith) c.in_ok-tree_of.ensures.0
+    c.next-slot.ensures c.drones-drones.ensures.exact c.cues-cues.ensures.exact c.loop-depth.invariant.1 in grind (arith, common_steps, tree_next)

@@ -5,10 +5,10 @@ use Rattle.pair_search.proofs.Fleets.{IsPending, left}
 use Rattle.pair_search.proofs.fleet.search_all.Given as goal
 
 -- the slots so far aren't blocked, and have their trees
-abbrev pub invariant-loop-alloc : goal.invariant-loop-alloc
-invariant-loop-alloc g l =
+abbrev pub invariant-loop-depth : goal.invariant-loop-depth
+invariant-loop-depth g l =
     (rest : List Slot) × IsPending l.ruler l.depth l.curves l.slot rest
-    × (l.trees.items ++ map (best_nodes l.ruler l.depth l.curves) rest ≡ map (best_nodes l.ruler l.depth l.curves) (slots_in l.curves))
+    × (l.trees ++ map (best_nodes l.ruler l.depth l.curves) rest ≡ map (best_nodes l.ruler l.depth l.curves) (slots_in l.curves))
 
-abbrev pub decreases-loop-alloc : goal.decreases-loop-alloc
-decreases-loop-alloc g l = left l.slot
+abbrev pub decreases-loop-depth : goal.decreases-loop-depth
+decreases-loop-depth g l = left l.slot

@@ -3,7 +3,7 @@ use Rattle.std.proofs.lemmas.Int.{to_z-of_z}
 use mir.Syntax.{w32}
 use Rattle.fleet_math.proofs.RingLemmas.{linear}
 use Rattle.pair_search.specs.Lanes.{IsLowAt}
-use Rattle.pair_search.proofs.LaneLemmas.{set_below}
+use Rattle.fleet_curves.proofs.Rows.{set_below}
 use Rattle.pair_search.proofs.lanes.fill.Goals as goal
 
 pub loop-i-preserved : goal.loop-i-preserved

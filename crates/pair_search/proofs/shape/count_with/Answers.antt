@@ -7,7 +7,7 @@ use Rattle.sep_parts.proofs.Stacks.{first_stack}
 use Rattle.pair_search.specs.Search.{first_by}
 use Rattle.pair_search.specs.Steps.{marked}
 use Rattle.pair_search.proofs.Halves.{left_has, right_has}
-use Rattle.pair_search.proofs.Marks.{count_begun, count_blocked, count_ended, count_past}
+use Rattle.pair_search.proofs.Marks.{has_counted, has_there, count_begun, count_blocked, count_ended, count_past}
 use Rattle.pair_search.proofs.Trees.{begun, less_pending}
 use Rattle.sep_parts.proofs.Stacks.{some_next}
 use Rattle.pair_search.proofs.Waits.{next_shallow}
@@ -15,6 +15,11 @@ use Rattle.pair_search.proofs.shape.count_with.Goals as goal
 
 abbrev whole : (diff : List (Bez 8)) → Level
 whole diff = record { place = root; part = diff }
+
+pub returns-then-separates_whole-clause-gives : goal.returns-then-separates_whole-clause-gives
+returns-then-separates_whole-clause-gives g c =
+    has_counted c.args.ruler.now.clearance c.args.diff.now c.args.ruler.now.directions c.args.depth
+    (has_there c.args.ruler.now.clearance c.args.diff.now c.args.ruler.now.directions c.args.hint.now (omega (arith, c.if-last-count.true, c.count.ensures.exact)) (sym c.separates_whole.ensures ∙ c.if-separates_whole.true))
 
 pub loop-level-init : goal.loop-level-init
 loop-level-init g c = grind (arith, common_steps, whole, first_stack, count_begun, begun)

@@ -1,18 +1,30 @@
 use Rattle.std.proofs.lemmas.Grind.{common_steps}
 use Rattle.std.proofs.Common.{sym, ◌∙◌, subst, refl, ap, arith, drop, List, [], ◌∷◌, ◌++◌}
 use Rattle.sep_parts.specs.declared.stack.Level.{Level}
-use Rattle.sep_parts.specs.Levels.{IsStack}
+use Rattle.bezier_core.specs.declared.Bez.{Bez}
+use Rattle.sep_parts.specs.Trees.{IsShallow}
+use Rattle.sep_parts.specs.Levels.{IsStack, root}
 use Rattle.sep_parts.specs.declared.node.Node.{Node}
 use Rattle.sep_parts.specs.declared.node.Node.TheVariants.{Split}
 use Rattle.pair_search.specs.Search.{first_by}
 use Rattle.pair_search.proofs.Halves.{left_has, right_has}
 use Rattle.pair_search.proofs.Trees.{begun, less_pending, past_pending, blocked_pending, ended_pending}
-use Rattle.sep_parts.proofs.Stacks.{next_same, some_next}
+use Rattle.sep_parts.proofs.Stacks.{first_stack, next_same, some_next}
 use Rattle.pair_search.proofs.Waits.{next_shallow}
 use Rattle.pair_search.proofs.walk.walk_halves.Goals as goal
 
-pub pass-requires : goal.pass-requires
-pass-requires g c = grind (arith, common_steps, some_next, next_same)
+abbrev whole : (diff : List (Bez 8)) → Level
+whole diff = record { place = root; part = diff }
+
+pub pass-requires-clause-some : goal.pass-requires-clause-some
+pass-requires-clause-some g c = some_next c.begin.new.self [] (whole c.args.diff.now) c.begin.ensures
+
+pub pass-requires-clause-stack : goal.pass-requires-clause-stack
+pass-requires-clause-stack g c = first_stack c.args.diff.now c.begin.new.self c.raised_law.ensures.axes c.raised_law.ensures.sizes c.begin.ensures
+
+pub pass-requires-clause-shallow : goal.pass-requires-clause-shallow
+pass-requires-clause-shallow g c level rest is =
+    subst (λ (l : Level). IsShallow l.place Split) ((next_same c.begin.new.self [] rest (whole c.args.diff.now) level c.begin.ensures is).0) (omega arith)
 
 pub loop-level-init : goal.loop-level-init
 loop-level-init g c =
@@ -21,9 +33,9 @@ loop-level-init g c =
       stack = c.pass.ensures.stack;
       walk = past_pending first c.args.depth
           (left_has c.args.ruler.now.clearance c.args.diff.now c.args.ruler.now.directions) (right_has c.args.ruler.now.clearance c.args.diff.now c.args.ruler.now.directions)
-          (c.args.whole.now ∷ []) [] c.pass.new.self c.args.whole.now [] c.push.new.self.items Split refl (rw c.requires.whole c.requires.split)
-          (c.pass.ensures.places c.args.whole.now [] c.of-waiting.ensures)
-          (c.in_ok-push.ensures.items ∙ ap (λ (xs : List Node). xs ++ Split ∷ []) c.requires.empty) (rw c.requires.whole (begun first c.args.depth));
+          (whole c.args.diff.now ∷ []) [] c.pass.new.self (whole c.args.diff.now) [] c.push.new.self.items Split refl c.requires.split
+          (c.pass.ensures.places (whole c.args.diff.now) [] c.begin.ensures)
+          (c.in_ok-push.ensures.items ∙ ap (λ (xs : List Node). xs ++ Split ∷ []) c.requires.empty) (begun first c.args.depth);
     }
 
 pub put-requires : goal.put-requires

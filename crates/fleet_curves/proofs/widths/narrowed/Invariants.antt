@@ -1,5 +1,5 @@
 use Rattle.std.proofs.Common.{◌≡◌, length, take}
-use Rattle.fleet_curves.proofs.curves.narrowed.Given as goal
+use Rattle.fleet_curves.proofs.widths.narrowed.Given as goal
 
 abbrev pub invariant-loop-k : goal.invariant-loop-k
 invariant-loop-k l = record {

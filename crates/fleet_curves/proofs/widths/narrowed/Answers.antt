@@ -4,7 +4,7 @@ use Rattle.fleet_math.specs.Bernstein.{at}
 use Rattle.bezier_core.proofs.EightLemmas.{below_at}
 use Rattle.fleet_curves.proofs.Small.{kept}
 use Rattle.fleet_curves.proofs.Rows.{copied}
-use Rattle.fleet_curves.proofs.curves.narrowed.Goals as goal
+use Rattle.fleet_curves.proofs.widths.narrowed.Goals as goal
 
 pub returns : goal.returns
 returns c =
@@ -14,4 +14,4 @@ returns c =
 pub narrow-requires : goal.narrow-requires
 narrow-requires c =
     let fits : FitsSigned w128 (at c.args.curve.now.b c.loop-k.k) = search rules in
-    kept (2 ^ 28) (at c.args.curve.now.b c.loop-k.k) fits (below_at (2 ^ 28) c.args.curve.now.b c.loop-k.k (lit< tt) c.requires)
+    kept (2 ^ 30) (at c.args.curve.now.b c.loop-k.k) fits (below_at (2 ^ 30) c.args.curve.now.b c.loop-k.k (lit< tt) c.requires)

@@ -1,6 +1,6 @@
 use Rattle.std.proofs.Common.{rules, ◌≡◌, length, arith}
 use Rattle.fleet_curves.proofs.Rows.{copied}
-use Rattle.fleet_curves.proofs.curves.widened.Goals as goal
+use Rattle.fleet_curves.proofs.widths.widened.Goals as goal
 
 pub returns : goal.returns
 returns c =

@@ -1,0 +1,9 @@
+use Rattle.std.proofs.Common.{◌≡◌, length}
+use Rattle.pair_search.specs.Extents.{HaveFlights}
+use Rattle.pair_search.proofs.extents.flights_of.Given as goal
+
+abbrev pub invariant-loop-drone : goal.invariant-loop-drone
+invariant-loop-drone l = record {
+  all : length l.flights ≡ 32;
+  done : HaveFlights l.curves l.flights l.drone;
+}

@@ -1,0 +1,7 @@
+use Rattle.std.proofs.Common.{List, length, ap, arith}
+use Rattle.sep_parts.specs.declared.node.Node.{Node}
+use Rattle.sep_parts.proofs.Cuts.{length-cut}
+use Rattle.sep_parts.proofs.forest.Forest.len.Goals as goal
+
+pub returns : goal.returns
+returns c = omega (arith, length-cut 0 c.self.inside.nodes.items c.self.inside.ends.items, ap (λ (trees : List (List Node)). length trees) c.self.view_is)

@@ -1,0 +1,41 @@
+use Rattle.std.proofs.Common.{arith, ◌≡◌, refl, subst, ℤ, ◌≤ℤ◌, to_z, of_z}
+use Rattle.std.proofs.lemmas.Int.{to_z-of_z}
+use mir.Syntax.{w64}
+use Rattle.bezier_core.specs.Along.{along_value}
+use Rattle.fleet_curves.specs.Raised.{curves_of}
+use Rattle.sep_parts.proofs.Lows.{ends_and_others, one_refuses}
+use Rattle.sep_parts.proofs.narrow.all_reach_rows.Goals as goal
+
+pub returns : goal.returns
+returns c =
+    let told : to_z w64 (of_z w64 c.args.least) ≡ c.args.least = to_z-of_z w64 c.args.least c.ranges.least in (
+      λ ok k small. subst (λ (least : ℤ). least ≤ℤ along_value (curves_of c.args.rows.now) c.args.w k) told
+          (ends_and_others (along_value (curves_of c.args.rows.now) c.args.w) (to_z w64 (of_z w64 c.args.least))
+          (c.if-not-reaches_rows.ensures.0 refl) (c.if-not-reaches_rows-2.ensures.0 refl) (c.if-not-reaches_rows-3.ensures.0 refl) (c.if-not-reaches_rows-4.ensures.0 refl)
+          (c.if-not-reaches_rows-5.ensures.0 refl) (c.if-not-reaches_rows-6.ensures.0 refl) (c.if-not-reaches_rows-7.ensures.0 refl) (c.if-not-reaches_rows-8.ensures.0 refl) k small),
+      λ above. refl,
+    )
+
+pub returns-then-not-reaches_rows : goal.returns-then-not-reaches_rows
+returns-then-not-reaches_rows c = one_refuses _ _ _ 0 (to_z-of_z w64 c.args.least c.ranges.least) (omega arith) c.if-not-reaches_rows.ensures.1
+
+pub returns-then-not-reaches_rows-2 : goal.returns-then-not-reaches_rows-2
+returns-then-not-reaches_rows-2 c = one_refuses _ _ _ 7 (to_z-of_z w64 c.args.least c.ranges.least) (omega arith) c.if-not-reaches_rows-2.ensures.1
+
+pub returns-then-not-reaches_rows-3 : goal.returns-then-not-reaches_rows-3
+returns-then-not-reaches_rows-3 c = one_refuses _ _ _ 1 (to_z-of_z w64 c.args.least c.ranges.least) (omega arith) c.if-not-reaches_rows-3.ensures.1
+
+pub returns-then-not-reaches_rows-4 : goal.returns-then-not-reaches_rows-4
+returns-then-not-reaches_rows-4 c = one_refuses _ _ _ 2 (to_z-of_z w64 c.args.least c.ranges.least) (omega arith) c.if-not-reaches_rows-4.ensures.1
+
+pub returns-then-not-reaches_rows-5 : goal.returns-then-not-reaches_rows-5
+returns-then-not-reaches_rows-5 c = one_refuses _ _ _ 3 (to_z-of_z w64 c.args.least c.ranges.least) (omega arith) c.if-not-reaches_rows-5.ensures.1
+
+pub returns-then-not-reaches_rows-6 : goal.returns-then-not-reaches_rows-6
+returns-then-not-reaches_rows-6 c = one_refuses _ _ _ 4 (to_z-of_z w64 c.args.least c.ranges.least) (omega arith) c.if-not-reaches_rows-6.ensures.1
+
+pub returns-then-not-reaches_rows-7 : goal.returns-then-not-reaches_rows-7
+returns-then-not-reaches_rows-7 c = one_refuses _ _ _ 5 (to_z-of_z w64 c.args.least c.ranges.least) (omega arith) c.if-not-reaches_rows-7.ensures.1
+
+pub returns-then-not-reaches_rows-8 : goal.returns-then-not-reaches_rows-8
+returns-then-not-reaches_rows-8 c = one_refuses _ _ _ 6 (to_z-of_z w64 c.args.least c.ranges.least) (omega arith) c.if-not-reaches_rows-8.ensures.1

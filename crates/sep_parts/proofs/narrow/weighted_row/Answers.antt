@@ -1,0 +1,11 @@
+use Rattle.std.proofs.lemmas.Grind.{common_steps}
+use Rattle.std.proofs.Common.{arith}
+use Rattle.std.proofs.lemmas.Int.{to_z-of_z}
+use Rattle.sep_parts.proofs.NarrowLemmas.{narrow_fits, narrow_weight_fits, row_fits, row_product}
+use Rattle.sep_parts.proofs.narrow.weighted_row.Goals as goal
+
+pub returns-clause-product : goal.returns-clause-product
+returns-clause-product c = grind (arith, common_steps, narrow_fits, narrow_weight_fits, row_fits, row_product, to_z-of_z)
+
+pub returns-clause-small : goal.returns-clause-small
+returns-clause-small c = grind (arith, common_steps, narrow_fits, narrow_weight_fits, row_fits, row_product, to_z-of_z)
