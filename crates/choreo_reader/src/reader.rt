@@ -20,14 +20,16 @@ use crate::fault::ShowFault;
 use crate::token::{first_bad_line, line_words};
 use choreo_lines::{Entry, LineError, LineKind, Listed, Name, Place, entry_of};
 use choreo_show::{ActLine, Block, DroneLine, Figure, Formation, Settings, Show};
+use fleet_math::MOST_DRONES;
 use std::alloc::{AllocError, Global};
 use text_lines::{Token, split_line, word_at};
 
 /// How many repeats may stand inside each other (docs/LANGUAGE.md, "A repeat").
 const MOST_NESTED: usize = 8;
 
-// For how many items a list without any takes room.
-const LEAST_ROOM: usize = 4;
+// For how many items a list without any takes room: the lines of a cue in which each drone has one. What is left of it is
+// given back where the list is whole.
+const LEAST_ROOM: usize = MOST_DRONES;
 
 /// An open block with what stands in it so far.
 #[derive(Drop)]
