@@ -1,7 +1,9 @@
 -- The laws of curves, over lists.
-use Rattle.std.proofs.Common.{◌≡◌, ℕ, zero, suc, ◌≤◌, ◌-◌, ℤ, pos, ◌+ℤ◌, ◌*ℤ◌, ◌≤ℤ◌, arith, refl, ◌∙◌, List, length, All}
+use Rattle.std.proofs.Common.{◌≡◌, ℕ, zero, suc, ◌≤◌, ◌-◌, ℤ, pos, ◌+ℤ◌, ◌*ℤ◌, ◌≤ℤ◌, arith, refl, ◌∙◌, List, [], ◌∷◌, length, All}
+use Rattle.std.proofs.lemmas.Grind.{common_steps}
 use Rattle.std.proofs.lemmas.List.Elements.{All-get_or}
 use Rattle.fleet_math.specs.Sums.{power}
+use Rattle.fleet_math.proofs.RingLemmas.{linear}
 use Rattle.fleet_math.specs.Bernstein.{at, bern, bernstein}
 use Rattle.fleet_math.proofs.BernsteinLemmas.{bernstein-at_least, bernstein-same, bernstein-add, bernstein-scale, bernstein-mix}
 use Rattle.bezier_core.specs.Raised.{eight, raised, raised_value}
@@ -9,15 +11,14 @@ use Rattle.bezier_core.proofs.RaisedLemmas.{bernstein-raised}
 
 -- an entry of the eight values of f
 pub at-eight : (f : ℕ → ℤ) (k : ℕ) → k ≤ 7 → at (eight f) k ≡ f k
-at-eight f zero within = refl
-at-eight f (suc zero) within = refl
-at-eight f (suc (suc zero)) within = refl
-at-eight f (suc (suc (suc zero))) within = refl
-at-eight f (suc (suc (suc (suc zero)))) within = refl
-at-eight f (suc (suc (suc (suc (suc zero))))) within = refl
-at-eight f (suc (suc (suc (suc (suc (suc zero)))))) within = refl
-at-eight f (suc (suc (suc (suc (suc (suc (suc zero))))))) within = refl
 at-eight f (suc (suc (suc (suc (suc (suc (suc (suc k)))))))) within = absurd (omega arith)
+at-eight f k within = refl
+
+-- the raised control values of a curve that stays at one value
+pub raised-level : (b : List ℤ) → length b ≡ 1 → raised b ≡ eight (λ k. pos 5040 *ℤ at b 0)
+unfolding raised_value
+raised-level (x ∷ []) one = grind (arith, common_steps, linear)
+raised-level xs one = absurd (omega arith)
 
 pub bern-eight : (f : ℕ → ℤ) (a c : ℤ) → bern (eight f) a c ≡ bernstein 7 f a c
 bern-eight f a c = bernstein-same 7 (at (eight f)) f a c (λ k within. at-eight f k within)

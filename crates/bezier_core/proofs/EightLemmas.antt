@@ -20,16 +20,8 @@ same_eight f g same = grind (arith, common_steps)
 
 -- a list of eight is made of its entries
 pub list_of_eight : (xs : List ℤ) → length xs ≡ 8 → xs ≡ eight (at xs)
-list_of_eight [] e = absurd (omega arith)
-list_of_eight (a ∷ []) e = absurd (omega arith)
-list_of_eight (a ∷ b ∷ []) e = absurd (omega arith)
-list_of_eight (a ∷ b ∷ c ∷ []) e = absurd (omega arith)
-list_of_eight (a ∷ b ∷ c ∷ d ∷ []) e = absurd (omega arith)
-list_of_eight (a ∷ b ∷ c ∷ d ∷ i ∷ []) e = absurd (omega arith)
-list_of_eight (a ∷ b ∷ c ∷ d ∷ i ∷ j ∷ []) e = absurd (omega arith)
-list_of_eight (a ∷ b ∷ c ∷ d ∷ i ∷ j ∷ k ∷ []) e = absurd (omega arith)
 list_of_eight (a ∷ b ∷ c ∷ d ∷ i ∷ j ∷ k ∷ l ∷ []) e = refl
-list_of_eight (a ∷ b ∷ c ∷ d ∷ i ∷ j ∷ k ∷ l ∷ m ∷ rest) e = absurd (omega arith)
+list_of_eight xs e = absurd (omega arith)
 
 -- what the entries are settles the list
 pub eight_from_entries : (xs : List ℤ) (f : ℕ → ℤ) → length xs ≡ 8 → ((k : ℕ) → k < 8 → at xs k ≡ f k) → xs ≡ eight f

@@ -134,15 +134,8 @@ raised_by-value (suc r) n (suc k) f within = by_lt k (n + r)
 
 -- 5,040 / C(7, k) is k! (7 - k)!
 seventh : (k : ℕ) → k ≤ 7 → 5040 / choose 7 k ≡ fact k * fact (7 - k)
-seventh zero within = refl
-seventh (suc zero) within = refl
-seventh (suc (suc zero)) within = refl
-seventh (suc (suc (suc zero))) within = refl
-seventh (suc (suc (suc (suc zero)))) within = refl
-seventh (suc (suc (suc (suc (suc zero))))) within = refl
-seventh (suc (suc (suc (suc (suc (suc zero)))))) within = refl
-seventh (suc (suc (suc (suc (suc (suc (suc zero))))))) within = refl
 seventh (suc (suc (suc (suc (suc (suc (suc (suc k)))))))) within = absurd (omega arith)
+seventh k within = refl
 
 raised_value-spread : (n k : ℕ) (f : ℕ → ℤ) → raised_value n f k ≡ pos (5040 / choose 7 k) *ℤ spread n (7 - n) f k
 unfolding raised_value

@@ -1,6 +1,6 @@
 -- How a bound on control values grows.
 use Rattle.std.proofs.lemmas.Grind.{common_steps}
-use Rattle.std.proofs.Common.{◌≡◌, ℕ, ◌*◌, ◌-◌, ◌≤◌, ℤ, pos, ◌+ℤ◌, ◌-ℤ◌, ◌*ℤ◌, unsigned_abs, ◌+◌, arith, refl, sym, subst, ◌∙◌, ap, List, All, lit<}
+use Rattle.std.proofs.Common.{◌≡◌, ℕ, ◌*◌, ◌-◌, ◌≤◌, ℤ, pos, ◌+ℤ◌, ◌-ℤ◌, ◌*ℤ◌, unsigned_abs, ◌+◌, arith, refl, sym, subst, ◌∙◌, ap, List, All, length, lit<}
 use Rattle.std.proofs.lemmas.Int.{ints, unsigned_abs-mul}
 use Rattle.std.proofs.lemmas.Nat.{mul-le}
 use Rattle.std.proofs.lemmas.List.Elements.{All-from_get_or}
@@ -9,7 +9,7 @@ use Rattle.fleet_math.specs.Numbers.{IsBelow}
 use Rattle.fleet_math.proofs.RingLemmas.{linear, mul_assoc_ℤ}
 use Rattle.bezier_core.specs.declared.Bez.{Bez}
 use Rattle.bezier_core.specs.Along.{along_value, controls}
-use Rattle.bezier_core.specs.Raised.{eight, fact, raised_value}
+use Rattle.bezier_core.specs.Raised.{eight, fact, raised, raised_value}
 use Rattle.bezier_core.specs.Steps.{IsWithin}
 use Rattle.bezier_core.proofs.BlendLemmas.{within_mul}
 use Rattle.bezier_core.proofs.CurveLemmas.{at-eight}
@@ -42,7 +42,7 @@ along_below n k xyz w some weights values = close _ _ _ (term 0) (term 1) (term 
     close x y z p q r = (omega (arith, ints), omega (arith, ints))
 
 -- raised control values
-pub raised_below : (n m k : ℕ) (f : ℕ → ℤ) → n ≤ 7 → 1 ≤ m → k ≤ 7 → ((i : ℕ) → i ≤ n → IsBelow m (f i)) → IsBelow (5040 * m) (raised_value n f k)
+raised_below : (n m k : ℕ) (f : ℕ → ℤ) → n ≤ 7 → 1 ≤ m → k ≤ 7 → ((i : ℕ) → i ≤ n → IsBelow m (f i)) → IsBelow (5040 * m) (raised_value n f k)
 raised_below n m k f low some small below =
     let e : n + (7 - n) ≡ 7 = omega arith in
     let whole : rising n (7 - n) * fact n ≡ 5040 = rising-fact n (7 - n) ∙ ap fact e in
@@ -61,3 +61,8 @@ raised_below n m k f low some small below =
         sym (mul_assoc_ℤ (pos g) (pos h) (pos (m - 1))) ∙ ap (λ (z : ℤ). z *ℤ pos (m - 1)) (product ∙ ap pos whole) in
         let bound : IsWithin (pos 5040 *ℤ pos (m - 1)) x = subst (λ (z : ℤ). IsWithin z x) e within in
         (omega (arith, ints), omega (arith, ints))
+
+pub raised_small : (n : ℕ) (b : List ℤ) → length b ≤ 8 → 1 ≤ n → All (IsBelow n) b → All (IsBelow (5040 * n)) (raised b)
+raised_small n b few some below =
+    eight_below (5040 * n) (raised_value (length b - 1) (at b))
+    (λ k small. raised_below (length b - 1) n k (at b) (omega arith) some small (λ i near. below_at n b i some below))

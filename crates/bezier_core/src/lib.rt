@@ -49,6 +49,11 @@ impl<const N: usize> Bez<N> {
         ensures exact { result.b ≡ raised self.now.b }
         ensures small { (n : ℕ) → 1 ≤ n → All (IsBelow n) self.now.b → All (IsBelow (5040 * n)) result.b }
     {
+        if N == 1 {
+            return Bez {
+                b: level(self.b[0]),
+            };
+        }
         let mut row = scaled(&self.b);
         for degree in N - 1..7 {
             raise(&mut row, degree);
@@ -95,6 +100,14 @@ pub fn along(xyz: &[Bez<8>; 3], w: [i128; 3]) -> Bez<8>
     Bez {
         b: weighted_sums!(xyz, w; 0 1 2 3 4 5 6 7),
     }
+}
+
+// The control values of degree seven of 5,040 times a curve that stays at one value.
+fn level(value: i128) -> [i128; 8]
+    requires { IsBelow (2 ^ 100) value }
+    ensures { result ≡ eight (λ k. pos 5040 *ℤ value) }
+{
+    [5040 * value; 8]
 }
 
 // The control values of degree `n`, times the product of 1 to `n`, in front of zeros.

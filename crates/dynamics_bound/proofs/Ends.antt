@@ -2,6 +2,7 @@
 use Rattle.std.proofs.Common.{◌≡◌, ℕ, ◌-◌, ◌*◌, ◌^◌, ◌≤◌, ◌<◌, ℤ, pos, ◌-ℤ◌, ◌*ℤ◌, ◌≤ℤ◌, neg_ℤ, arith, refl, ◌∙◌, ap, List, length, All}
 use Rattle.std.proofs.lemmas.Int.{ints}
 use Rattle.std.proofs.lemmas.Nat.{mul-le}
+use Rattle.std.proofs.lemmas.List.{length-map}
 use Rattle.fleet_math.specs.Sums.{power}
 use Rattle.fleet_math.specs.Bernstein.{at}
 use Rattle.fleet_math.proofs.RingLemmas.{ring, linear, mul_not_negative}
@@ -11,7 +12,7 @@ use Rattle.bezier_core.specs.Raised.{raised}
 use Rattle.bezier_core.specs.Steps.{IsWithin}
 use Rattle.fleet_math.specs.Decoded.{IsPiece}
 use Rattle.traj_codec.specs.declared.traj.Traj.{Traj}
-use Rattle.traj_codec.specs.Positions.{pieces_on, points}
+use Rattle.traj_codec.specs.Positions.{piece_on, pieces_on, points}
 use Rattle.speed_bound.specs.Speed.{duration, greatest_below}
 use Rattle.speed_bound.proofs.Slopes.{steps}
 use Rattle.speed_bound.proofs.Speeds.{piece_value, power_low}
@@ -20,7 +21,7 @@ use Rattle.dynamics_bound.specs.Accelerations.{widest_bend_part, segment_acceler
 use Rattle.dynamics_bound.specs.Edges.{HasVelocities, first_step, last_step}
 use Rattle.dynamics_bound.proofs.Parts.{Departs, IsGentle, room_of, position, speed, gentle}
 use Rattle.dynamics_bound.proofs.Edges as ends
-use Rattle.dynamics_bound.proofs.Segments.{in_time, in_units, bends_at, fast_at, lasts, length-pieces}
+use Rattle.dynamics_bound.proofs.Segments.{in_time, in_units, bends_at, fast_at, lasts}
 
 value_ring : (u q f n px py w s d : ℤ) → u *ℤ (q *ℤ ((f *ℤ py -ℤ f *ℤ px) -ℤ n *ℤ (w *ℤ (s *ℤ d)))) ≡ u *ℤ (q *ℤ ((f *ℤ py -ℤ f *ℤ px) -ℤ (w *ℤ s) *ℤ (n *ℤ d)))
 value_ring u q f n px py w s d = simp ring (omega (arith, linear))
@@ -66,7 +67,7 @@ has_velocities axis t formed depth cue q x inside last =
     let f : ℕ → ℤ = at (raised b) in
     let all : ℕ = greatest_below (length t.segments) (acceleration_in depth t axis) in
     let here : segment_acceleration depth ms f ≤ all = greatest-at (length t.segments) (acceleration_in depth t axis) cue inside in
-    let near : cue < length (pieces_on axis t) = omega (arith, length-pieces axis t.segments) in
+    let near : cue < length (pieces_on axis t) = omega (arith, length-map t.segments (piece_on axis)) in
     let count : (1 ≤ length b) × (length b ≤ 8) = points-count (at t.start axis) (pieces_on axis t) cue formed near in
     let fast : 25000000 * 4 ^ depth * widest_bend_part depth f ≤ all * (3 * 2 ^ (7 * depth) * (ms * ms)) =
     grow (segment_acceleration depth ms f) all (3 * 2 ^ (7 * depth) * (ms * ms)) _ here (fast_at depth ms f (lasts axis t.segments cue inside formed)) in

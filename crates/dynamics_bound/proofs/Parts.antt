@@ -14,29 +14,12 @@ use Rattle.halving.specs.Part.{polar, part_value}
 use Rattle.halving.proofs.PolarLemmas.{blossom, bernstein-blossom, polar-first, part-whole, left_half, right_half}
 use Rattle.sep_parts.proofs.PartBounds.{part-half}
 use Rattle.sep_parts.proofs.Leaf.{bernstein-scaled}
-use Rattle.speed_bound.proofs.Slopes.{steps, exchange, polar-second, within_add, within_same}
+use Rattle.speed_bound.proofs.Halves.{steps-half}
+use Rattle.speed_bound.proofs.Slopes.{steps, exchanged, minus_same, next_scale, polar-second, within_add, within_same}
 use Rattle.dynamics_bound.specs.Accelerations.{bend}
-use Rattle.dynamics_bound.proofs.Tangents.{exchanged, tangent}
+use Rattle.dynamics_bound.proofs.Tangents.{tangent}
 
 -- ---- the speeds of a half
-pub polar_step : (x y z b d : ℤ) → x ≡ y +ℤ (b -ℤ d) *ℤ z → y -ℤ x ≡ (d -ℤ b) *ℤ z
-polar_step x y z b d e = rw e (expand y z b d)
-  where
-    expand : (y z b d : ℤ) → y -ℤ (y +ℤ (b -ℤ d) *ℤ z) ≡ (d -ℤ b) *ℤ z
-    expand y z b d = simp ring (omega (arith, linear))
-
--- the steps of a half are those of the whole, in a half of the time
-pub steps-half : (r k : ℕ) (f : ℕ → ℤ) → k ≤ 6 → steps (part_value 1 r f) k ≡ blossom 6 (steps f) (pos r) (pos (r + 1)) (pos 2) k
-steps-half r k f small =
-    let e : 7 - k ≡ suc (6 - k) = omega arith in
-    let d : 7 - suc k ≡ 6 - k = omega arith in
-    rw (e, d)
-    (polar_step _ _ _ (pos r) (pos (r + 1)) (exchange (6 - k) k f (pos r) (pos (r + 1)) (pos 2))
-    ∙ one (polar (6 - k) k (steps f) (pos r) (pos (r + 1)) (pos 2)))
-  where
-    one : (z : ℤ) → (pos (r + 1) -ℤ pos r) *ℤ z ≡ z
-    one z = let e : pos (r + 1) -ℤ pos r ≡ pos 1 = omega (arith, ints) in rw e (one_mul_ℤ z)
-
 speed_half : (r : ℕ) (f : ℕ → ℤ) (a c : ℤ) → bernstein 6 (steps (part_value 1 r f)) a c ≡ bernstein 6 (steps f) (pos r *ℤ (c -ℤ a) +ℤ pos (r + 1) *ℤ a) (pos 2 *ℤ c)
 speed_half r f a c =
     bernstein-same 6 _ (blossom 6 (steps f) (pos r) (pos (r + 1)) (pos 2)) a c (λ k small. steps-half r k f small)
@@ -196,12 +179,9 @@ whole_gentle f m s bends =
           (tangent f m (y -ℤ x) y x s (omega (arith, linear)) high low (omega (arith, linear)) (omega (arith, linear), omega (arith, linear)) bends);
       back = λ x y low order high. within_same refl (sym (one_mul_ℤ _))
           (tangent f m (y -ℤ x) x y s low (omega (arith, linear)) (omega (arith, linear)) high (omega (arith, linear), omega (arith, linear)) bends);
-      turn = λ x y low order high. within_same refl (same_minus (polar-first 6 (steps f) y x s) (polar-second 6 (steps f) y x s) ∙ sym (one_mul_ℤ _))
+      turn = λ x y low order high. within_same refl (minus_same (polar-first 6 (steps f) y x s) (polar-second 6 (steps f) y x s) ∙ sym (one_mul_ℤ _))
           (exchanged 6 0 5 (steps f) m (y -ℤ x) y x s refl (omega (arith, linear)) high low (omega (arith, linear)) (omega (arith, linear), omega (arith, linear)) bends);
     }
-  where
-    same_minus : {x y z w : ℤ} → x ≡ y → z ≡ w → x -ℤ z ≡ y -ℤ w
-    same_minus {x} {y} {z} {w} p q = cc
 
 scale_value : (q t k n x y gx gy vx : ℤ) → q *ℤ (((t *ℤ k) *ℤ gy -ℤ (t *ℤ k) *ℤ gx) -ℤ n *ℤ ((t *ℤ y -ℤ t *ℤ x) *ℤ (k *ℤ vx))) ≡ (q *ℤ (t *ℤ k)) *ℤ ((gy -ℤ gx) -ℤ n *ℤ ((y -ℤ x) *ℤ vx))
 scale_value q t k n x y gx gy vx = simp ring (omega (arith, linear))
@@ -265,9 +245,6 @@ gentle (suc e) f m s some bends =
 
     next_power : (e : ℕ) → pos 2 *ℤ (pos 2 *ℤ pos (4 ^ e)) ≡ pos (4 ^ suc e)
     next_power e = rw (pow-suc 4 e) (omega (arith, ints))
-
-    next_scale : (e : ℕ) → pos (2 ^ (7 * e)) *ℤ pos 128 ≡ pos (2 ^ (7 * suc e))
-    next_scale e = let more : 7 * suc e ≡ 7 * e + 7 = omega arith in rw (more, pow-add 2 (7 * e) 7) (omega (arith, ints))
 
 -- ---- three instants
 three_value : (q x y z f g h n v : ℤ) → (y -ℤ x) *ℤ (q *ℤ ((h -ℤ g) -ℤ n *ℤ ((z -ℤ y) *ℤ v))) +ℤ (z -ℤ y) *ℤ (q *ℤ ((f -ℤ g) -ℤ n *ℤ ((x -ℤ y) *ℤ v)))

@@ -3,6 +3,7 @@ use Rattle.std.proofs.Common.{◌≡◌, ℕ, zero, suc, ◌*◌, ◌^◌, ◌�
 use Rattle.std.proofs.lemmas.Int.{ints}
 use Rattle.std.proofs.lemmas.Nat.{pow_pos, mul-le}
 use Rattle.std.proofs.lemmas.Grind.{div_ceil_times, common_steps}
+use Rattle.std.proofs.lemmas.List.{length-map}
 use Rattle.std.proofs.lemmas.List.Elements.{All-head, All-tail}
 use Rattle.fleet_math.specs.Sums.{power}
 use Rattle.fleet_math.specs.Bernstein.{at, bernstein}
@@ -16,6 +17,7 @@ use Rattle.traj_codec.specs.declared.traj.Segment.{Segment}
 use Rattle.traj_codec.specs.declared.traj.Traj.{Traj}
 use Rattle.traj_codec.specs.Positions.{durations, piece_on, pieces_on, points}
 use Rattle.speed_bound.specs.Speed.{duration, greatest_below}
+use Rattle.speed_bound.proofs.Halves.{within_abs}
 use Rattle.speed_bound.proofs.Slopes.{within_same}
 use Rattle.speed_bound.proofs.Speeds.{piece_value, power_low, within_cancel, within_wider}
 use Rattle.speed_bound.proofs.Widths.{greatest-at}
@@ -114,13 +116,7 @@ pub bends_at : (depth : ℕ) (f : ℕ → ℤ) → BendsWithin depth f (pos (wid
 unfolding widest_bend_part widest_bend
 bends_at depth f index inside k small =
     within_abs (bend (part_value depth index f) k) (greatest_below (2 ^ depth) (λ i. widest_bend (part_value depth i f)))
-    (le_trans (greatest-at 6 (λ i. unsigned_abs (bend (part_value depth index f) i)) k (omega arith)) (greatest-at (2 ^ depth) (λ i. widest_bend (part_value depth i f)) index inside))
-  where
-    within_abs : (x : ℤ) (n : ℕ) → unsigned_abs x ≤ n → IsWithin (pos n) x
-    within_abs x n most = (omega (arith, ints), omega (arith, ints))
-
-    le_trans : {x y z : ℕ} → x ≤ y → y ≤ z → x ≤ z
-    le_trans {x} {y} {z} first second = omega arith
+    (omega (arith, greatest-at 6 (λ i. unsigned_abs (bend (part_value depth index f) i)) k (omega arith), greatest-at (2 ^ depth) (λ i. widest_bend (part_value depth i f)) index inside))
 
 -- the bound of a segment is enough for its bends
 pub fast_at : (depth ms : ℕ) (f : ℕ → ℤ) → 1 ≤ ms → 25000000 * 4 ^ depth * widest_bend_part depth f ≤ segment_acceleration depth ms f * (3 * 2 ^ (7 * depth) * (ms * ms))
@@ -132,10 +128,6 @@ lasts axis [] cue inside formed = absurd (omega arith)
 lasts axis (s ∷ rest) zero inside formed = (All-head IsPiece (piece_on axis s) (map (piece_on axis) rest) formed).lasts
 lasts axis (s ∷ rest) (suc cue) inside formed = lasts axis rest cue (omega arith) (All-tail IsPiece (piece_on axis s) (map (piece_on axis) rest) formed)
 
-pub length-pieces : (axis : ℕ) (segments : List Segment) → length (map (piece_on axis) segments) ≡ length segments
-length-pieces axis [] = refl
-length-pieces axis (s ∷ rest) = ap suc (length-pieces axis rest)
-
 -- Within each of its segments a trajectory keeps below its bound.
 pub keeps_acceleration : (depth axis : ℕ) (t : Traj) → All IsPiece (pieces_on axis t) → KeepsAcceleration t axis (acceleration depth t axis)
 unfolding acceleration
@@ -144,7 +136,7 @@ keeps_acceleration depth axis t formed cue q x y z inside first second last =
     let f : ℕ → ℤ = at (raised (points t cue axis)) in
     let all : ℕ = greatest_below (length t.segments) (acceleration_in depth t axis) in
     let here : segment_acceleration depth ms f ≤ all = greatest-at (length t.segments) (acceleration_in depth t axis) cue inside in
-    let near : cue < length (pieces_on axis t) = omega (arith, length-pieces axis t.segments) in
+    let near : cue < length (pieces_on axis t) = omega (arith, length-map t.segments (piece_on axis)) in
     in_time q all ms (times (pos x) (pos y) (pos z)) _
     (in_curve depth all (widest_bend_part depth f) (ms * ms) f (pos x) (pos y) (pos z) (pos (q * ms)) (after t axis cue q x) (after t axis cue q y) (after t axis cue q z)
     (omega (arith, ints)) (omega (arith, ints)) (omega (arith, ints)) (omega (arith, ints)) (bends_at depth f)

@@ -6,19 +6,16 @@ use Rattle.fleet_math.proofs.RingLemmas.{one_mul_ℤ}
 use Rattle.bezier_core.specs.Steps.{IsWithin}
 use Rattle.halving.specs.Part.{polar, part_value}
 use Rattle.halving.proofs.PolarLemmas.{blossom}
-use Rattle.speed_bound.proofs.Slopes.{steps, exchange, polar-within, within_same}
+use Rattle.speed_bound.proofs.Halves.{polar_step, steps-half}
+use Rattle.speed_bound.proofs.Slopes.{steps, exchange, minus_same, polar-within, within_same}
 use Rattle.dynamics_bound.specs.Accelerations.{bend}
-use Rattle.dynamics_bound.proofs.Parts.{polar_step, steps-half}
 
 -- the bends of a half are the polar form of those of the whole
 bend-half : (r k : ℕ) (f : ℕ → ℤ) → k ≤ 5 → bend (part_value 1 r f) k ≡ polar (5 - k) k (steps (steps f)) (pos r) (pos (r + 1)) (pos 2)
 bend-half r k f small =
-    same_minus (steps-half r (suc k) f (omega arith)) (steps-half r k f (omega arith))
+    minus_same (steps-half r (suc k) f (omega arith)) (steps-half r k f (omega arith))
     ∙ again
   where
-    same_minus : {x y z w : ℤ} → x ≡ y → z ≡ w → x -ℤ z ≡ y -ℤ w
-    same_minus {x} {y} {z} {w} p q = cc
-
     one : (z : ℤ) → (pos (r + 1) -ℤ pos r) *ℤ z ≡ z
     one z = let e : pos (r + 1) -ℤ pos r ≡ pos 1 = omega (arith, ints) in rw e (one_mul_ℤ z)
 

@@ -5,48 +5,11 @@ use Rattle.fleet_math.specs.Sums.{power}
 use Rattle.fleet_math.specs.Bernstein.{bernstein}
 use Rattle.fleet_math.proofs.RingLemmas.{ring, linear, le_mul_ℤ, zero_mul_ℤ, mul_comm_ℤ, neg_mul_ℤ}
 use Rattle.bezier_core.specs.Steps.{IsWithin}
-use Rattle.bezier_core.proofs.BlendLemmas.{within_mul, bound_positive}
+use Rattle.bezier_core.proofs.BlendLemmas.{within_mul}
 use Rattle.halving.specs.Part.{polar}
 use Rattle.halving.proofs.PolarLemmas.{polar-first}
-use Rattle.speed_bound.proofs.Slopes.{steps, count_more, exchange, none_left, polar-second, polar-within, regroup_sum, within_add, within_same}
+use Rattle.speed_bound.proofs.Slopes.{steps, count_more, exchange, exchanged, minus_same, polar-second, within_add, within_product, within_same}
 use Rattle.dynamics_bound.specs.Accelerations.{bend}
-
--- ---- the product of two bounds
-pub within_product : (w t m x : ℤ) → IsWithin w t → IsWithin m x → IsWithin (w *ℤ m) (t *ℤ x)
-within_product w t m x first second =
-    let some : pos 0 ≤ℤ m = bound_positive m x second in
-    by_lt_z t (pos 0)
-    (λ less.
-    let one : IsWithin (neg_ℤ t *ℤ m) (neg_ℤ t *ℤ x) = within_mul (neg_ℤ t) m x (omega (arith, linear)) second in
-    let more : (m *ℤ neg_ℤ t) ≤ℤ (m *ℤ w) = le_mul_ℤ m (neg_ℤ t) w some (omega (arith, linear)) in
-    turned (neg_ℤ t *ℤ m) (w *ℤ m) (neg_ℤ t *ℤ x) (t *ℤ x) one (omega (arith, linear, more, mul_comm_ℤ m (neg_ℤ t), mul_comm_ℤ m w)) (neg_mul_ℤ t x))
-    (λ not_less.
-    let one : IsWithin (t *ℤ m) (t *ℤ x) = within_mul t m x not_less second in
-    let more : (m *ℤ t) ≤ℤ (m *ℤ w) = le_mul_ℤ m t w some (omega (arith, linear)) in
-    wider (t *ℤ m) (w *ℤ m) (t *ℤ x) one (omega (arith, linear, more, mul_comm_ℤ m t, mul_comm_ℤ m w)))
-  where
-    wider : (p q x : ℤ) → IsWithin p x → p ≤ℤ q → IsWithin q x
-    wider p q x within more = (omega (arith, linear), omega (arith, linear))
-
-    turned : (p q x y : ℤ) → IsWithin p x → p ≤ℤ q → x ≡ neg_ℤ y → IsWithin q y
-    turned p q x y within more e = (omega (arith, linear), omega (arith, linear))
-
--- ---- arguments of the polar form exchanged, in either direction
--- j of the arguments exchanged; w bounds how far apart the two are
-pub exchanged : (j k n : ℕ) (f : ℕ → ℤ) (m w b d s : ℤ) → j + k ≡ suc n → pos 0 ≤ℤ b → b ≤ℤ s → pos 0 ≤ℤ d → d ≤ℤ s → IsWithin w (b -ℤ d) →
-    ((i : ℕ) → i ≤ n → IsWithin m (steps f i)) → IsWithin (pos j *ℤ (w *ℤ (power s n *ℤ m))) (polar j k f b d s -ℤ polar 0 (suc n) f b d s)
-exchanged zero k n f m w b d s e b_low b_high d_low d_high near within =
-    let same : k ≡ suc n = omega arith in
-    none_left (polar 0 k f b d s) (polar 0 (suc n) f b d s) (w *ℤ (power s n *ℤ m)) (ap (λ (i : ℕ). polar 0 i f b d s) same)
-exchanged (suc j) k n f m w b d s e b_low b_high d_low d_high near within =
-    let rest : j + k ≡ n = omega arith in
-    let one : IsWithin (w *ℤ (power s (j + k) *ℤ m)) ((b -ℤ d) *ℤ polar j k (steps f) b d s) =
-    within_product w (b -ℤ d) (power s (j + k) *ℤ m) (polar j k (steps f) b d s) near
-    (polar-within j k (steps f) m b d s b_low b_high d_low d_high (λ i small. within i (omega arith))) in
-    within_same
-    (ap (λ (i : ℕ). pos j *ℤ (w *ℤ (power s n *ℤ m)) +ℤ w *ℤ (power s i *ℤ m)) rest ∙ count_more j (w *ℤ (power s n *ℤ m)))
-    (regroup_sum (polar j (suc k) f b d s) ((b -ℤ d) *ℤ polar j k (steps f) b d s) (polar (suc j) k f b d s) (polar 0 (suc n) f b d s) (exchange j k f b d s))
-    (within_add _ _ _ _ (exchanged j (suc k) n f m w b d s (omega arith) b_low b_high d_low d_high near within) one)
 
 -- ---- the tangent
 -- 0 + 1 + .. + (j - 1)
@@ -103,6 +66,3 @@ unfolding before
 tangent f m w b d s b_low b_high d_low d_high near within =
     within_same refl (ap (λ (z : ℤ). z -ℤ pos 7 *ℤ ((b -ℤ d) *ℤ bernstein 6 (steps f) d s)) (minus_same (polar-first 7 f b d s) (polar-second 7 f b d s)))
     (along_tangent 7 0 5 f m w b d s refl b_low b_high d_low d_high near within)
-  where
-    minus_same : {x y z w : ℤ} → x ≡ y → z ≡ w → x -ℤ z ≡ y -ℤ w
-    minus_same {x} {y} {z} {w} p q = cc

@@ -8,14 +8,13 @@ use Rattle.std.proofs.Math.Nat.{pow-suc, pow-zero, pow-le-pow_right}
 use Rattle.fleet_math.proofs.BernsteinLemmas.{by_lt}
 use Rattle.bezier_core.specs.Steps.{IsWithin}
 use Rattle.halving.specs.Part.{part_value}
-use Rattle.halving.proofs.PolarLemmas.{polar-same, part-whole}
-use Rattle.sep_parts.proofs.PartBounds.{part-half}
 use Rattle.speed_bound.specs.Speed.{greatest_below}
-use Rattle.speed_bound.proofs.Widths.{greatest-same, greatest-at, greatest-most, greatest-split}
+use Rattle.speed_bound.proofs.Widths.{div_ceil-least, greatest-same, greatest-at, greatest-most, parts-halves, parts-shrink, parts-whole}
+use Rattle.speed_bound.proofs.Halves.{within_abs}
 use Rattle.dynamics_bound.specs.Accelerations.{bend, widest_bend, widest_bend_part, acceleration_of}
 use Rattle.dynamics_bound.proofs.Shrinks.{bend_shrinks}
 
--- ---- the parts of a half are parts of the whole
+-- ---- the parts of a depth
 same_bend : {x y z x' y' z' : ℤ} → x ≡ x' → y ≡ y' → z ≡ z' → (x -ℤ y) -ℤ (y -ℤ z) ≡ (x' -ℤ y') -ℤ (y' -ℤ z')
 same_bend {x} {y} {z} {x'} {y'} {z'} p q r = cc
 
@@ -24,70 +23,33 @@ unfolding widest_bend
 widest_bend-same f g same =
     greatest-same 6 _ _ (λ k small. ap unsigned_abs (same_bend (same (suc (suc k)) (omega arith)) (same (suc k) (omega arith)) (same k (omega arith))))
 
-widest-half : (e r : ℕ) (f g : ℕ → ℤ) → ((k : ℕ) → k ≤ 7 → g k ≡ part_value 1 r f k) →
-    widest_bend_part e g ≡ greatest_below (2 ^ e) (λ index. widest_bend (part_value (suc e) (2 ^ e * r + index) f))
-unfolding widest_bend_part
-widest-half e r f g same =
-    greatest-same (2 ^ e) _ _ (λ index small. widest_bend-same _ _
-    (λ k low. polar-same (7 - k) k g (part_value 1 r f) (pos index) (pos (index + 1)) (pos (2 ^ e)) (λ i near. same i (omega arith)) ∙ part-half e r index k f low))
-
 -- the widest bend of a curve's parts is that of the parts of its halves
 pub widest-halves : (e : ℕ) (f left right : ℕ → ℤ) → ((k : ℕ) → k ≤ 7 → left k ≡ part_value 1 0 f k) → ((k : ℕ) → k ≤ 7 → right k ≡ part_value 1 1 f k) →
     max (widest_bend_part e left) (widest_bend_part e right) ≡ widest_bend_part (suc e) f
 unfolding widest_bend_part
-widest-halves e f left right first second =
-    let doubled : 2 ^ suc e ≡ 2 ^ e + 2 ^ e = rw (pow-suc 2 e) (omega arith) in
-    rw (doubled)
-    (both (widest-half e 0 f left first ∙ greatest-same (2 ^ e) _ _ (λ index small. ap (λ (n : ℕ). widest_bend (part_value (suc e) n f)) (front (2 ^ e) index)))
-    (widest-half e 1 f right second ∙ greatest-same (2 ^ e) _ _ (λ index small. ap (λ (n : ℕ). widest_bend (part_value (suc e) n f)) (back (2 ^ e) index)))
-    ∙ sym (greatest-split (2 ^ e) (2 ^ e) (λ index. widest_bend (part_value (suc e) index f))))
-  where
-    both : {x y z w : ℕ} → x ≡ y → z ≡ w → max x z ≡ max y w
-    both {x} {y} {z} {w} p q = cc
-
-    front : (p index : ℕ) → p * 0 + index ≡ index
-    front p index = omega arith
-
-    back : (p index : ℕ) → p * 1 + index ≡ p + index
-    back p index = omega arith
+widest-halves = parts-halves widest_bend widest_bend-same
 
 -- the whole is its own part
 pub widest-whole : (f : ℕ → ℤ) → widest_bend f ≡ widest_bend_part 0 f
 unfolding widest_bend_part
-widest-whole f = widest_bend-same f (part_value 0 0 f) (λ k small. sym (part-whole f k)) ∙ omega arith
+widest-whole = parts-whole widest_bend widest_bend-same
 
 -- ---- how wide a bend is
 -- a half bends at most 32 times as much as its whole, at a scale 128 times as large
-half_shrinks : (r : ℕ) (f g : ℕ → ℤ) → r ≤ 1 → ((k : ℕ) → k ≤ 7 → g k ≡ part_value 1 r f k) → widest_bend g ≤ 32 * widest_bend f
+half_shrinks : (r : ℕ) (f : ℕ → ℤ) → r ≤ 1 → widest_bend (part_value 1 r f) ≤ 32 * widest_bend f
 unfolding widest_bend
-half_shrinks r f g side same =
-    greatest-most 6 _ _ (λ k small. most (bend g k) (bend (part_value 1 r f) k) (widest k)
-    (same_bend (same (suc (suc k)) (omega arith)) (same (suc k) (omega arith)) (same k (omega arith)))
+half_shrinks r f side =
+    greatest-most 6 _ _ (λ k small. most (bend (part_value 1 r f) k) (greatest_below 6 (λ i. unsigned_abs (bend f i)))
     (bend_shrinks r k f (pos (greatest_below 6 (λ i. unsigned_abs (bend f i)))) side (omega arith)
-    (λ i low. within (bend f i) (greatest_below 6 (λ i. unsigned_abs (bend f i))) (greatest-at 6 (λ i. unsigned_abs (bend f i)) i (omega arith)))))
+    (λ i low. within_abs (bend f i) (greatest_below 6 (λ i. unsigned_abs (bend f i))) (greatest-at 6 (λ i. unsigned_abs (bend f i)) i (omega arith)))))
   where
-    widest : ℕ → ℕ
-    widest k = greatest_below 6 (λ i. unsigned_abs (bend f i))
-
-    within : (x : ℤ) (n : ℕ) → unsigned_abs x ≤ n → IsWithin (pos n) x
-    within x n small = (omega (arith, ints), omega (arith, ints))
-
-    most : (x y : ℤ) (n : ℕ) → x ≡ y → IsWithin (pos 32 *ℤ pos n) y → unsigned_abs x ≤ 32 * n
-    most x y n is near = rw is (omega (arith, ints, near.0, near.1))
+    most : (y : ℤ) (n : ℕ) → IsWithin (pos 32 *ℤ pos n) y → unsigned_abs y ≤ 32 * n
+    most y n near = omega (arith, ints, near.0, near.1)
 
 -- so a part of a depth bends at most 32^depth times as much
 pub bends_shrink : (e : ℕ) (f : ℕ → ℤ) → widest_bend_part e f ≤ 32 ^ e * widest_bend f
-bends_shrink zero f = rw (← widest-whole f) (omega arith)
-bends_shrink (suc e) f =
-    rw (← widest-halves e f (part_value 1 0 f) (part_value 1 1 f) (λ k low. refl) (λ k low. refl), pow-suc 32 e)
-    (both (32 ^ e) (widest_bend f) _ _ _ _ (bends_shrink e (part_value 1 0 f)) (half_shrinks 0 f (part_value 1 0 f) (omega arith) (λ k low. refl))
-    (bends_shrink e (part_value 1 1 f)) (half_shrinks 1 f (part_value 1 1 f) (omega arith) (λ k low. refl)))
-  where
-    both : (p w a b x y : ℕ) → a ≤ p * x → x ≤ 32 * w → b ≤ p * y → y ≤ 32 * w → max a b ≤ p * 32 * w
-    both p w a b x y first second third fourth =
-        let one : p * x ≤ p * (32 * w) = mul-le p x p (32 * w) (omega arith) second in
-        let two : p * y ≤ p * (32 * w) = mul-le p y p (32 * w) (omega arith) fourth in
-        omega (arith, one, two, first, third)
+unfolding widest_bend_part
+bends_shrink = parts-shrink widest_bend widest_bend-same 32 half_shrinks
 
 -- a bend of small numbers
 pub widest_bend-small : (b : ℕ) (f : ℕ → ℤ) → ((k : ℕ) → k ≤ 7 → IsWithin (pos b) (f k)) → widest_bend f ≤ 4 * b
@@ -123,14 +85,11 @@ some_power n (suc e) some = let product : 1 * 1 ≤ n ^ e * n = mul-le 1 1 (n ^ 
 pub some_time : (q ms : ℕ) → 1 ≤ q → 1 ≤ ms → 0 < 3 * q * (ms * ms)
 some_time q ms first second = grind (arith, common_steps, mul-le)
 
-pub least-quotient : (x y b : ℕ) → 0 < b → x ≤ y * b → div_ceil x b ≤ y
-least-quotient x y b some most = grind (arith, common_steps, by_lt, mul-le, div_ceil_times)
-
 -- a part that bends by no more than a bound allows
 pub allowed : (depth ms most w least : ℕ) → 1 ≤ ms → least * 25000000 ≤ most * (3 * 32 ^ depth) * (ms * ms) → w ≤ least → acceleration_of depth ms w ≤ most
 unfolding acceleration_of
 allowed depth ms most w least lasting enough small =
-    least-quotient (25000000 * 4 ^ depth * w) most (3 * 2 ^ (7 * depth) * (ms * ms)) (some_time (2 ^ (7 * depth)) ms (pow_pos (7 * depth)) lasting)
+    div_ceil-least (25000000 * 4 ^ depth * w) most (3 * 2 ^ (7 * depth) * (ms * ms)) (some_time (2 ^ (7 * depth)) ms (pow_pos (7 * depth)) lasting)
     (rw (← powers depth) (room (4 ^ depth) (32 ^ depth) (ms * ms) w least most enough small))
   where
     room : (p q t w least most : ℕ) → least * 25000000 ≤ most * (3 * q) * t → w ≤ least → 25000000 * p * w ≤ most * (3 * (p * q) * t)

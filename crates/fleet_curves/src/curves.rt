@@ -241,8 +241,8 @@ fn last_of(v: &[i16]) -> i16
     v[v.len() - 1]
 }
 
-// The raised curve of an element.
-fn raised(first: i16, element: Element) -> Bez<8>
+/// The raised curve of an element that begins with this value: one of the three that [`raised_segment`] returns.
+pub fn raised(first: i16, element: Element) -> Bez<8>
     ensures exact { result.b ≡ raised (first ∷ stored element) }
     ensures formed { length (stored element) ≤ 7 }
     ensures small { All (IsBelow (2 ^ 28)) result.b }

@@ -9,5 +9,5 @@ mod curves;
 mod difference;
 mod widths;
 
-pub use curves::{Curves, raised_segment, row_of_four, value_after};
+pub use curves::{Curves, raised, raised_segment, row_of_four, value_after};
 pub use difference::Difference;

@@ -1,5 +1,6 @@
 -- The polar form, step by step: the order of the steps does not matter, a part of a part is a part of the whole, and
 -- halving along a path gives the part at its end.
+use Rattle.std.proofs.lemmas.Grind.{common_steps}
 use Rattle.std.proofs.Common.{◌≡◌, ℕ, zero, suc, ◌<◌, ◌≤◌, ◌+◌, ◌-◌, ◌*◌, ◌/◌, ◌%◌, ◌^◌, ℤ, pos, ◌+ℤ◌, ◌-ℤ◌, ◌*ℤ◌, arith, refl, sym, ◌∙◌, ap}
 use Rattle.std.proofs.lemmas.Int.{ints}
 use Rattle.fleet_math.specs.Bernstein.{bernstein}
@@ -17,8 +18,7 @@ step b s f i = (s -ℤ b) *ℤ f i +ℤ b *ℤ f (suc i)
 -- the polar form depends on no more than its control values
 pub polar-same : (j k : ℕ) (f g : ℕ → ℤ) (b d s : ℤ) → ((i : ℕ) → i ≤ j + k → f i ≡ g i) → polar j k f b d s ≡ polar j k g b d s
 unfolding polar
-polar-same j k f g b d s same =
-    bernstein-same j _ _ b s (λ i small. bernstein-same k _ _ d s (λ l low. same (i + l) (omega arith)))
+polar-same j k f g b d s same = grind (arith, common_steps, bernstein-same)
 
 -- a step at the first place
 pub polar-suc_first : (j k : ℕ) (f : ℕ → ℤ) (b d s : ℤ) → polar (suc j) k f b d s ≡ polar j k (step b s f) b d s
@@ -32,10 +32,7 @@ polar-suc_first j k f b d s =
 -- a step at the second place
 pub polar-suc_second : (j k : ℕ) (f : ℕ → ℤ) (b d s : ℤ) → polar j (suc k) f b d s ≡ polar j k (step d s f) b d s
 unfolding polar
-polar-suc_second j k f b d s =
-    bernstein-same j _ _ b s (λ i small.
-    bernstein-step k (λ l. f (i + l)) d s
-    ∙ bernstein-same k _ _ d s (λ l low. ap (λ (n : ℕ). (s -ℤ d) *ℤ f (i + l) +ℤ d *ℤ f n) (omega arith)))
+polar-suc_second j k f b d s = grind (arith, common_steps, bernstein-same, bernstein-step)
 
 -- of degree 0 it is the one control value
 pub polar-none : (f : ℕ → ℤ) (b d s : ℤ) → polar 0 0 f b d s ≡ f 0
@@ -72,11 +69,7 @@ step-blossom n j f b d s p t small =
 pub polar-blossom_second : (k : ℕ) (f : ℕ → ℤ) (b d s p q t : ℤ) →
     polar 0 k (blossom k f b d s) p q t ≡ polar 0 k f (b *ℤ (t -ℤ p) +ℤ d *ℤ p) (b *ℤ (t -ℤ q) +ℤ d *ℤ q) (s *ℤ t)
 polar-blossom_second zero f b d s p q t = polar-none _ p q t ∙ polar-none f b d s ∙ sym (polar-none f _ _ _)
-polar-blossom_second (suc k) f b d s p q t =
-    polar-suc_second 0 k (blossom (suc k) f b d s) p q t
-    ∙ polar-same 0 k _ (blossom k (step (b *ℤ (t -ℤ q) +ℤ d *ℤ q) (s *ℤ t) f) b d s) p q t (λ i small. step-blossom k i f b d s q t (omega arith))
-    ∙ polar-blossom_second k (step (b *ℤ (t -ℤ q) +ℤ d *ℤ q) (s *ℤ t) f) b d s p q t
-    ∙ sym (polar-suc_second 0 k f _ _ _)
+polar-blossom_second (suc k) f b d s p q t = grind (arith, common_steps, polar-suc_second, blossom, polar-same, step, step-blossom, (polar-blossom_second k (step (b *ℤ (t -ℤ q) +ℤ d *ℤ q) (s *ℤ t) f) b d s p q t))
 
 pub polar-blossom : (j k n : ℕ) (f : ℕ → ℤ) (b d s p q t : ℤ) → n ≡ j + k →
     polar j k (blossom n f b d s) p q t ≡ polar j k f (b *ℤ (t -ℤ p) +ℤ d *ℤ p) (b *ℤ (t -ℤ q) +ℤ d *ℤ q) (s *ℤ t)
@@ -124,9 +117,7 @@ one_power (suc n) = rw (one_power n) refl
 -- the whole is its own part
 pub part-whole : (f : ℕ → ℤ) (k : ℕ) → part_value 0 0 f k ≡ f k
 unfolding polar
-part-whole f k =
-    bernstein-at_zero (7 - k) (λ i. bernstein k (λ l. f (i + l)) (pos 1) (pos 1)) (pos 1)
-    ∙ rw (one_power (7 - k), bernstein-at_end k (λ l. f (0 + l)) (pos 1), one_power k, one_mul_ℤ (pos 1 *ℤ f (0 + k)), one_mul_ℤ (f (0 + k)), zero-add k) refl
+part-whole f k = grind (arith, common_steps, bernstein-at_zero, one_power, bernstein-at_end, one_mul_ℤ, zero-add)
 
 -- the two ends of a half, in parts of the next depth
 next_place : (h r : ℕ) → r ≤ 1 → (pos h *ℤ (pos 2 -ℤ pos r) +ℤ pos (h + 1) *ℤ pos r ≡ pos (2 * h + r)) × (pos h *ℤ (pos 2 -ℤ pos (r + 1)) +ℤ pos (h + 1) *ℤ pos (r + 1) ≡ pos (2 * h + r + 1))

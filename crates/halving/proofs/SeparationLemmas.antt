@@ -1,4 +1,5 @@
 -- The halves of a part keep a lower bound, scaled: the halves of a separated place are separated.
+use Rattle.std.proofs.lemmas.Grind.{common_steps}
 use Rattle.std.proofs.Common.{ℕ, suc, ◌≤◌, ◌+◌, ◌-◌, ◌*◌, ℤ, pos, ◌*ℤ◌, ◌≤ℤ◌, arith}
 use Rattle.std.proofs.lemmas.Int.{ints}
 use Rattle.fleet_math.specs.Sums.{power}
@@ -11,9 +12,7 @@ use Rattle.halving.proofs.PolarLemmas.{part-part}
 pub polar-at_least : (j k : ℕ) (f : ℕ → ℤ) (low b d s : ℤ) → pos 0 ≤ℤ b → b ≤ℤ s → pos 0 ≤ℤ d → d ≤ℤ s → ((i : ℕ) → i ≤ j + k → low ≤ℤ f i) →
     ((low *ℤ power s k) *ℤ power s j) ≤ℤ polar j k f b d s
 unfolding polar
-polar-at_least j k f low b d s b_pos b_in d_pos d_in above =
-    bernstein-at_least j (λ i. bernstein k (λ l. f (i + l)) d s) (low *ℤ power s k) b s b_pos b_in
-    (λ i small. bernstein-at_least k (λ l. f (i + l)) low d s d_pos d_in (λ l near. above (i + l) (omega arith)))
+polar-at_least j k f low b d s b_pos b_in d_pos d_in above = grind (arith, common_steps, bernstein-at_least)
 
 -- where the values of a part are at least low, those of its halves are at least low times 2^7
 pub half-at_least : (e m r k : ℕ) (f : ℕ → ℤ) (low : ℤ) → r ≤ 1 → k ≤ 7 → ((i : ℕ) → i ≤ 7 → low ≤ℤ part_value e m f i) →

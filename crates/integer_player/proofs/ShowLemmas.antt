@@ -54,35 +54,30 @@ places-set (t ∷ ts) (q ∷ ps) (suc d) t0 p are is = (are.0, places-set ts ps 
 
 pub places-push : (ts : List Traj) (ps : List Place) (n : ℕ) (t0 : Traj) (p : Place) → n < length ts → length ps ≡ n → ArePlaces (take n ts) ps → IsPlaceIn (get_or ts n t0) p →
     ArePlaces (take (suc n) ts) (ps ++ p ∷ [])
-places-push [] ps n t0 p below many are is = absurd (omega arith)
 places-push (t ∷ ts) [] zero t0 p below many are is = (is, tt)
-places-push (t ∷ ts) (q ∷ ps) zero t0 p below many are is = absurd (omega arith)
-places-push (t ∷ ts) [] (suc n) t0 p below many are is = absurd (omega arith)
 places-push (t ∷ ts) (q ∷ ps) (suc n) t0 p below many are is = (are.0, places-push ts ps n t0 p (omega arith) (omega arith) are.1 is)
+places-push xs ys zs t0 p below many are is = absurd (omega arith)
 
 -- ---- rows
 
 -- the row of one drone more
 pub rows-push : {N : Type 0} (f : N → List ℕ) (ms : ℕ) (names : List N) (ts : List Traj) (d : ℕ) (n0 : N) (t0 : Traj) → d < length ts → length names ≡ length ts →
     rows_at ms (map f (take (suc d) names)) (take (suc d) ts) ≡ rows_at ms (map f (take d names)) (take d ts) ++ row ms (f (get_or names d n0)) (played (get_or ts d t0) ms)
-rows-push f ms [] [] d n0 t0 below same = absurd (omega arith)
-rows-push f ms [] (t ∷ ts) d n0 t0 below same = absurd (omega arith)
-rows-push f ms (n ∷ names) [] d n0 t0 below same = absurd (omega arith)
 rows-push f ms (n ∷ names) (t ∷ ts) zero n0 t0 below same = append-nil (row ms (f n) (played t ms))
 rows-push f ms (n ∷ names) (t ∷ ts) (suc d) n0 t0 below same =
     ap (λ (xs : List ℕ). row ms (f n) (played t ms) ++ xs) (rows-push f ms names ts d n0 t0 (omega arith) (omega arith))
     ∙ sym (append_assoc (row ms (f n) (played t ms)) (rows_at ms (map f (take d names)) (take d ts)) (row ms (f (get_or names d n0)) (played (get_or ts d t0) ms)))
+rows-push f ms xs ys d n0 t0 below same = absurd (omega arith)
 
 -- the rows of the first drones, and of the others
 pub rows-split : {N : Type 0} (f : N → List ℕ) (ms : ℕ) (names : List N) (ts : List Traj) (d : ℕ) → length names ≡ length ts →
     rows_at ms (map f names) ts ≡ rows_at ms (map f (take d names)) (take d ts) ++ rows_at ms (map f (drop d names)) (drop d ts)
 rows-split f ms names ts zero same = refl
 rows-split f ms [] [] (suc d) same = refl
-rows-split f ms [] (t ∷ ts) (suc d) same = absurd (omega arith)
-rows-split f ms (n ∷ names) [] (suc d) same = absurd (omega arith)
 rows-split f ms (n ∷ names) (t ∷ ts) (suc d) same =
     ap (λ (xs : List ℕ). row ms (f n) (played t ms) ++ xs) (rows-split f ms names ts d (omega arith))
     ∙ sym (append_assoc (row ms (f n) (played t ms)) (rows_at ms (map f (take d names)) (take d ts)) (rows_at ms (map f (drop d names)) (drop d ts)))
+rows-split f ms xs ys zs same = absurd (omega arith)
 
 -- of the same name and numbers it is the same row
 pub row-same : (ms : ℕ) (a b : List ℕ) (x y : List ℤ) → a ≡ b → x ≡ y → row ms a x ≡ row ms b y

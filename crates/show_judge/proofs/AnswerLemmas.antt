@@ -34,28 +34,7 @@ use Rattle.show_judge.specs.Shows.{Cut, cut_of, nodes_of, sent_of}
 -- a refusal has no status 0
 pub refused_some : (r : Refusal) → status_of r ≡ 0 → ⊥
 refused_some refusal.Usage is = omega (arith, is)
-refused_some refusal.TooLarge is = omega (arith, is)
-refused_some (refusal.Line line kind) is = omega (arith, is)
-refused_some (refusal.Grid fault) is = omega (arith, is)
-refused_some (refusal.Range line axis value) is = omega (arith, is)
-refused_some (refusal.Room drone bytes room) is = omega (arith, is)
-refused_some (refusal.Segments drone segments) is = omega (arith, is)
-refused_some (refusal.Blocked pair index depth) is = omega (arith, is)
-refused_some refusal.Read is = omega (arith, is)
-refused_some refusal.Ended is = omega (arith, is)
-refused_some (refusal.GaveUp drone packet) is = omega (arith, is)
-refused_some (refusal.Refused drone packet status) is = omega (arith, is)
-refused_some (refusal.Differs drone address wanted got) is = omega (arith, is)
-refused_some (refusal.SecondLine line) is = omega (arith, is)
-refused_some refusal.SecondTooLarge is = omega (arith, is)
-refused_some (refusal.Missing pair) is = omega (arith, is)
-refused_some (refusal.Extra version tree) is = omega (arith, is)
-refused_some (refusal.TooDeep pair) is = omega (arith, is)
-refused_some (refusal.Fails pair place version dir control) is = omega (arith, is)
-refused_some (refusal.Enters region drone cue index depth) is = omega (arith, is)
-refused_some (refusal.TooFast drone axis speed) is = omega (arith, is)
-refused_some (refusal.Accelerates drone cue axis acceleration) is = omega (arith, is)
-refused_some (refusal.Jumps drone cue axis speed) is = omega (arith, is)
+refused_some r is = omega (arith, is)
 
 -- a command that writes no frames says a refusal by its line
 pub said_plain : (c : Verb) (r : Refusal) → c.ways.by_frames ≡ false → said c r ≡ refused r

@@ -25,9 +25,8 @@ none_both (Some r) b none = absurd (cc)
 
 -- where no marker line is refused, and none may stand there, there is none
 unmarked_by : (second marked : Bool) (r : Refusal) → second ≡ false → cond second None (cond marked (Some r) None) ≡ None → marked ≡ false
-unmarked_by true marked r alone none = absurd (cc)
-unmarked_by false true r alone none = absurd (cc)
 unmarked_by false false r alone none = refl
+unmarked_by xs ys r alone none = absurd (cc)
 
 -- an input without a marker line is its own part
 part_whole : (input : List ℕ) → has_marker (between_feeds input) ≡ false → part_of input ≡ input

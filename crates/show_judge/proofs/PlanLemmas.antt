@@ -31,9 +31,8 @@ cut_at part = record { show = part.bytes.items; is_marked = part.marker; frames 
 
 -- where no marker line is refused, none stands there, unless bytes are wanted after it
 pub no_marker : (second marked : Bool) (r : Refusal) → cond second None (cond marked (Some r) None) ≡ None → second ≡ false → marked ≡ false
-no_marker true marked r none is = absurd (cc)
-no_marker false true r none is = absurd (cc)
 no_marker false false r none is = refl
+no_marker xs ys r none is = absurd (cc)
 
 pub apart_of : (f : Fitted) (s : PlainShow) → IsFitted f s → FlyApart f.settings f.sent → FlyApart s.settings (sent_of s)
 apart_of f s is apart = subst (λ (e : Settings). FlyApart e (sent_of s)) is.settings (subst (FlyApart f.settings) is.sent apart)

@@ -87,9 +87,8 @@ not_early None (Some v) f is late = grind (arith, common_steps)
 not_early None None f is late = absurd (cc)
 
 no_part : (a : Option GridFault) (b : Option AxisValue) (long : Option PlanFault) → in_order a b long ≡ None → (in_order a b None ≡ None) × (long ≡ None)
-no_part (Some e) b long none = absurd (cc)
-no_part None (Some e) long none = absurd (cc)
 no_part None None long none = (refl, none)
+no_part xs ys long none = absurd (cc)
 
 -- ---- of a show
 

@@ -3,7 +3,7 @@ use Rattle.std.proofs.lemmas.Grind.{common_steps}
 use Rattle.std.proofs.Common.{◌≡◌, ◌⊎◌, inl, inr, ℕ, zero, suc, ◌≤◌, true, false, List, [], ◌∷◌, Contains, Option, Some, None, Result, Ok, Err, IfSome, refl, sym, ap, subst, ◌∙◌, arith}
 use Rattle.std.specs.Io.KnownBytes.{Appends}
 use Rattle.fleet_io.specs.Causes.{Rose}
-use Rattle.fleet_io.specs.Taken.{TakesFront}
+use Rattle.fleet_io.specs.Taken.{AppendsFront, TakesFront}
 use Rattle.refusals.specs.declared.refusal.Refusal.{Refusal}
 use Rattle.refusals.specs.declared.refusal.Refusal.TheVariants as refusal
 use Rattle.refusals.specs.Refusals.{status_of}
@@ -17,7 +17,7 @@ use Rattle.show_judge.specs.Input.{IsReadWhole}
 use Rattle.show_judge.specs.Outcome.{IsComplete, IsOutcome, IsOutcomeBy, IsOutcomeOf, IsSafe, IsSafeBy, IsSafeOutcome, OutcomeLaw, judged_text}
 use Rattle.show_judge.specs.Verb.{IsJudged, Judges, Outcome, Run, Verb, nothing, own_text, the_input}
 use Rattle.show_judge.specs.Refused.{IsOfInput}
-use Rattle.show_judge.specs.Runs.{Completes, IsStopped, Runs, reads, told}
+use Rattle.show_judge.specs.Runs.{Completes, IsOutput, IsStopped, Runs, reads, told}
 use Rattle.show_judge.specs.Shows.{cut_of}
 
 -- what holds of known bytes gives what follows from it
@@ -69,28 +69,8 @@ refused_among (refusal.Jumps drone cue axis speed) is = (16, omega arith, refl)
 
 pub refused_judged : (r : Refusal) → IsOfInput r → IsJudged (status_of r)
 refused_judged refusal.Usage is = absurd (is.command refl)
-refused_judged refusal.TooLarge is = ((λ e. omega (arith, e)), (λ e. omega (arith, e)), (λ e. omega (arith, e)))
-refused_judged (refusal.Line line kind) is = ((λ e. omega (arith, e)), (λ e. omega (arith, e)), (λ e. omega (arith, e)))
-refused_judged (refusal.Grid fault) is = ((λ e. omega (arith, e)), (λ e. omega (arith, e)), (λ e. omega (arith, e)))
-refused_judged (refusal.Range line axis value) is = ((λ e. omega (arith, e)), (λ e. omega (arith, e)), (λ e. omega (arith, e)))
-refused_judged (refusal.Room drone bytes room) is = ((λ e. omega (arith, e)), (λ e. omega (arith, e)), (λ e. omega (arith, e)))
-refused_judged (refusal.Segments drone segments) is = ((λ e. omega (arith, e)), (λ e. omega (arith, e)), (λ e. omega (arith, e)))
-refused_judged (refusal.Blocked pair index depth) is = ((λ e. omega (arith, e)), (λ e. omega (arith, e)), (λ e. omega (arith, e)))
 refused_judged refusal.Read is = absurd (is.read refl)
-refused_judged refusal.Ended is = ((λ e. omega (arith, e)), (λ e. omega (arith, e)), (λ e. omega (arith, e)))
-refused_judged (refusal.GaveUp drone packet) is = ((λ e. omega (arith, e)), (λ e. omega (arith, e)), (λ e. omega (arith, e)))
-refused_judged (refusal.Refused drone packet status) is = ((λ e. omega (arith, e)), (λ e. omega (arith, e)), (λ e. omega (arith, e)))
-refused_judged (refusal.Differs drone address wanted got) is = ((λ e. omega (arith, e)), (λ e. omega (arith, e)), (λ e. omega (arith, e)))
-refused_judged (refusal.SecondLine line) is = ((λ e. omega (arith, e)), (λ e. omega (arith, e)), (λ e. omega (arith, e)))
-refused_judged refusal.SecondTooLarge is = ((λ e. omega (arith, e)), (λ e. omega (arith, e)), (λ e. omega (arith, e)))
-refused_judged (refusal.Missing pair) is = ((λ e. omega (arith, e)), (λ e. omega (arith, e)), (λ e. omega (arith, e)))
-refused_judged (refusal.Extra version tree) is = ((λ e. omega (arith, e)), (λ e. omega (arith, e)), (λ e. omega (arith, e)))
-refused_judged (refusal.TooDeep pair) is = ((λ e. omega (arith, e)), (λ e. omega (arith, e)), (λ e. omega (arith, e)))
-refused_judged (refusal.Fails pair place version dir control) is = ((λ e. omega (arith, e)), (λ e. omega (arith, e)), (λ e. omega (arith, e)))
-refused_judged (refusal.Enters region drone cue index depth) is = ((λ e. omega (arith, e)), (λ e. omega (arith, e)), (λ e. omega (arith, e)))
-refused_judged (refusal.TooFast drone axis speed) is = ((λ e. omega (arith, e)), (λ e. omega (arith, e)), (λ e. omega (arith, e)))
-refused_judged (refusal.Accelerates drone cue axis acceleration) is = ((λ e. omega (arith, e)), (λ e. omega (arith, e)), (λ e. omega (arith, e)))
-refused_judged (refusal.Jumps drone cue axis speed) is = ((λ e. omega (arith, e)), (λ e. omega (arith, e)), (λ e. omega (arith, e)))
+refused_judged r is = ((λ e. omega (arith, e)), (λ e. omega (arith, e)), (λ e. omega (arith, e)))
 
 -- what judges its input doesn't judge nothing
 pub judges_input : (j : Judges) (output : List ℕ) → j ≡ the_input → j ≡ nothing output → ⊥
@@ -129,6 +109,28 @@ outcome_from c input o plain is = subst (λ (j : Judges). IsOutcomeBy c j input 
 safe_for : (c : Verb) (input : List ℕ) (o : Outcome) → IsPlain c → IsSafe c (cut_of input) o → IsSafeOutcome c input o
 safe_for c input o plain is = subst (λ (j : Judges). IsSafeBy c j input o) (sym plain.judges) is
 
+-- The sink failed, and a prefix of what was to be written went out.
+pub runs_failed : (c : Verb) (r : Run) (status : ℕ) (output : List ℕ) → status ≡ 7 → Rose r.writes_failed r.writes_failed_after → IsOutput c r output → AppendsFront r.written r.written_after output →
+    c.prompt r → (reads c ≡ false → (r.left_after ≡ r.left) × (r.reads_failed_after ≡ r.reads_failed)) → TakesFront r.left r.left_after → r.reads_failed ≤ r.reads_failed_after →
+    r.writes_failed ≤ r.writes_failed_after → Runs c r status
+runs_failed c r status output e rose is front prompt unread taken reads_later writes_later = record {
+  outcome = λ judged. absurd (judged.2 e);
+  exact = λ quiet. absurd (quiet.1 rose);
+  safe = λ zero. absurd (omega (arith, zero, e));
+  whole = λ zero all. absurd (omega (arith, zero, e));
+  one = λ one. absurd (omega (arith, one, e));
+  always = λ bytes none. inl e;
+  six = λ six. absurd (omega (arith, six, e));
+  stopped = λ six. absurd (omega (arith, six, e));
+  seven = λ seven. (rose, (output, is, front));
+  prompt = λ seven. prompt;
+  unread = unread;
+  known = (6, omega arith, rw e refl);
+  taken = taken;
+  reads_later = reads_later;
+  writes_later = writes_later;
+}
+
 -- An answer that is the outcome of the input was written, or the sink failed.
 pub runs_wrote : (c : Verb) (r : Run) (status : ℕ) (o : Outcome) → IsPlain c → OutcomeLaw c → IsAnswered c r o →
     Wrote o.status o.output r.written r.written_after r.writes_failed r.writes_failed_after status → Runs c r status
@@ -154,23 +156,9 @@ runs_wrote c r status o plain law answered wrote =
         reads_later = answered.later;
         writes_later = later;
       }
-      | inr (e, rose, front, later) ↦ record {
-        outcome = λ is. absurd (is.2 e);
-        exact = λ quiet. absurd (quiet.1 rose);
-        safe = λ zero. absurd (omega (arith, zero, e));
-        whole = λ zero all. absurd (omega (arith, zero, e));
-        one = λ is. absurd (omega (arith, is, e));
-        always = λ output is. inl e;
-        six = λ is. absurd (omega (arith, is, e));
-        stopped = λ is. absurd (omega (arith, is, e));
-        seven = λ is. (rose, (o.output, inl (rw told_so (some_map r.left _ _ (λ input is_o. (o, outcome_for c input o plain is_o, refl)) answered.is)), front));
-        prompt = λ is. plain.prompt r;
-        unread = λ none. absurd (let f : true ≡ false = sym plain.reads ∙ none in cc);
-        known = (6, omega arith, rw e refl);
-        taken = answered.taken;
-        reads_later = answered.later;
-        writes_later = later;
-      }
+      | inr (e, rose, front, later) ↦
+        runs_failed c r status o.output e rose (inl (rw told_so (some_map r.left _ _ (λ input is_o. (o, outcome_for c input o plain is_o, refl)) answered.is))) front
+        (plain.prompt r) (λ none. absurd (let f : true ≡ false = sym plain.reads ∙ none in cc)) answered.taken answered.later later
     ]
 
 -- what was taken where a read failed, with the line that is written then
@@ -202,23 +190,8 @@ runs_stopped c r status plain rose taken reads_later wrote = elim wrote [
     reads_later = reads_later;
     writes_later = later;
   }
-  | inr (e, failed, front, later) ↦ record {
-    outcome = λ is. absurd (is.2 e);
-    exact = λ quiet. absurd (quiet.1 failed);
-    safe = λ zero. absurd (omega (arith, zero, e));
-    whole = λ zero all. absurd (omega (arith, zero, e));
-    one = λ is. absurd (omega (arith, is, e));
-    always = λ output is. inl e;
-    six = λ is. absurd (omega (arith, is, e));
-    stopped = λ is. absurd (omega (arith, is, e));
-    seven = λ is. (failed, (read_line, inr (rose, stopped_by c r plain taken), front));
-    prompt = λ is. plain.prompt r;
-    unread = λ none. absurd (let f : true ≡ false = sym plain.reads ∙ none in cc);
-    known = (6, omega arith, rw e refl);
-    taken = taken;
-    reads_later = reads_later;
-    writes_later = later;
-  }
+  | inr (e, failed, front, later) ↦
+    runs_failed c r status read_line e failed (inr (rose, stopped_by c r plain taken)) front (plain.prompt r) (λ none. absurd (let f : true ≡ false = sym plain.reads ∙ none in cc)) taken reads_later later
 ]
 
 -- Out of memory, and nothing was written; what a command that reads nothing leaves of its source.

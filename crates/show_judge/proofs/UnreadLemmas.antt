@@ -15,7 +15,7 @@ use Rattle.show_judge.specs.Runs.{Behaves, Runs}
 use Rattle.show_judge.specs.Shows.{cut_of}
 use Rattle.show_judge.specs.Verb.{Outcome, Run, nothing, of_nothing, of_own, outcome, run_of}
 use Rattle.show_judge.proofs.HeadlineLemmas.{headlines, says_of}
-use Rattle.show_judge.proofs.RunLemmas.{answer_among, answer_judged, completes, runs_memory}
+use Rattle.show_judge.proofs.RunLemmas.{answer_among, answer_judged, completes, runs_failed, runs_memory}
 use Rattle.show_judge.proofs.VerbLemmas.{outcomes}
 
 -- at most so much was taken of what was left
@@ -36,23 +36,8 @@ runs_nothing : (bytes : List ℕ) (left : Option (List ℕ)) (faults : ℕ) (old
     Runs (of_nothing bytes) (run_of left left faults faults old new before after) status
 runs_nothing bytes left faults old new before after status wrote = elim wrote [
   | inl (e, appends, later) ↦ grind (arith, common_steps, same_bytes, TakesFront-none)
-  | inr (e, rose, front, later) ↦ record {
-    outcome = λ judged. absurd (judged.2 e);
-    exact = λ quiet. absurd (quiet.1 rose);
-    safe = λ zero. absurd (omega (arith, zero, e));
-    whole = λ zero all. absurd (cc);
-    one = λ one. absurd (omega (arith, one, e));
-    always = λ output is. inl e;
-    six = λ six. absurd (omega (arith, six, e));
-    stopped = λ six. absurd (omega (arith, six, e));
-    seven = λ seven. (rose, (bytes, inl (outcome 0 bytes, refl, refl), front));
-    prompt = λ seven. tt;
-    unread = λ none. (refl, refl);
-    known = (6, omega arith, rw e refl);
-    taken = TakesFront-none left;
-    reads_later = omega arith;
-    writes_later = later;
-  }
+  | inr (e, rose, front, later) ↦
+    runs_failed (of_nothing bytes) (run_of left left faults faults old new before after) status bytes e rose (inl (outcome 0 bytes, refl, refl)) front tt (λ none. (refl, refl)) (TakesFront-none left) (omega arith) later
 ]
 
 -- What was written of it.
@@ -104,23 +89,9 @@ runs_own show depth own text (Ok a) left faults old new before after status is s
         reads_later = omega arith;
         writes_later = later;
       }
-      | inr (e, rose, front, later) ↦ record {
-        outcome = λ judged. absurd (judged.2 e);
-        exact = λ quiet. absurd (quiet.1 rose);
-        safe = λ done. absurd (omega (arith, done, e));
-        whole = λ done all. absurd (cc);
-        one = λ one. absurd (omega (arith, one, e));
-        always = λ output is. inl e;
-        six = λ six. absurd (omega (arith, six, e));
-        stopped = λ six. absurd (omega (arith, six, e));
-        seven = λ seven. (rose, ((outcome_of a).output, inl (outcome_of a, is, refl), front));
-        prompt = λ seven. tt;
-        unread = λ none. (refl, refl);
-        known = (6, omega arith, rw e refl);
-        taken = TakesFront-none left;
-        reads_later = omega arith;
-        writes_later = later;
-      }
+      | inr (e, rose, front, later) ↦
+        runs_failed (of_own depth own text) (run_of left left faults faults old new before after) status (outcome_of a).output e rose (inl (outcome_of a, is, refl)) front tt
+        (λ none. (refl, refl)) (TakesFront-none left) (omega arith) later
     ]
 
 -- What was answered for it and written.

@@ -1,6 +1,6 @@
 -- How wide the steps of a half are, and so those of all parts; and what is no faster than a speed that was found.
 use Rattle.std.proofs.lemmas.Grind.{common_steps}
-use Rattle.std.proofs.Common.{◌≡◌, ℕ, zero, suc, ◌+◌, ◌-◌, ◌*◌, ◌/◌, ◌^◌, ◌≤◌, ◌<◌, max, ℤ, pos, ◌+ℤ◌, ◌-ℤ◌, ◌*ℤ◌, unsigned_abs, arith, lit<, refl, sym, ◌∙◌, ap, List, All}
+use Rattle.std.proofs.Common.{◌≡◌, ◌≢◌, ℕ, zero, suc, ◌+◌, ◌-◌, ◌*◌, ◌/◌, ◌^◌, ◌≤◌, ◌<◌, max, ℤ, pos, ◌+ℤ◌, ◌-ℤ◌, ◌*ℤ◌, unsigned_abs, arith, lit<, refl, sym, ◌∙◌, ap, List, [], ◌∷◌, All}
 use Rattle.std.proofs.lemmas.Int.{ints}
 use Rattle.std.proofs.lemmas.List.Elements.{All-from_get_or}
 use Rattle.std.proofs.lemmas.Nat.{mul-le, pow-add, pow_pos}
@@ -9,15 +9,18 @@ use Rattle.fleet_math.specs.Bernstein.{at}
 use Rattle.fleet_math.specs.Numbers.{IsBelow}
 use Rattle.fleet_math.specs.Sums.{power}
 use Rattle.fleet_math.proofs.RingLemmas.{ring, linear, one_mul_ℤ}
-use Rattle.bezier_core.specs.Raised.{eight}
+use Rattle.bezier_core.specs.Raised.{eight, raised}
 use Rattle.bezier_core.specs.Steps.{IsWithin}
-use Rattle.bezier_core.proofs.CurveLemmas.{at-eight}
+use Rattle.bezier_core.proofs.CurveLemmas.{at-eight, raised-level}
 use Rattle.halving.specs.Part.{polar, part_value}
 use Rattle.halving.proofs.PolarLemmas.{blossom}
 use Rattle.sep_parts.proofs.Parts.{part-within}
+use Rattle.traj_codec.specs.declared.traj.Element.{Element}
+use Rattle.traj_codec.specs.declared.traj.Element.TheVariants.{Constant}
+use Rattle.traj_codec.specs.Spelling.{stored}
 use Rattle.speed_bound.specs.Speed.{greatest_below, segment_speed, speed_of, widest_part, widest_step}
 use Rattle.speed_bound.proofs.Slopes.{exchange, polar-within, steps, within_same}
-use Rattle.speed_bound.proofs.Widths.{div_ceil-least, greatest-at, greatest-most, segment_speed-is, some_time, widest-halves, widest-whole, widest_part-small, within_at}
+use Rattle.speed_bound.proofs.Widths.{div_ceil-least, greatest-at, greatest-most, parts-shrink, segment_speed-is, some_time, widest-whole, widest_part-small, widest_step-same, within_at}
 
 -- ---- the steps of a half
 -- what an exchange leaves between two values of the polar form
@@ -46,13 +49,14 @@ step_shrinks r k f m side small within =
     within_same (ap (λ (n : ℕ). power (pos 2) n *ℤ m) whole) (sym (steps-half r k f small))
     (polar-within (6 - k) k (steps f) m (pos r) (pos (r + 1)) (pos 2) (omega (arith, ints)) (omega (arith, ints)) (omega (arith, ints)) (omega (arith, ints)) (λ i low. within i (omega arith)))
 
+-- a number by its size
+pub within_abs : (x : ℤ) (n : ℕ) → unsigned_abs x ≤ n → IsWithin (pos n) x
+within_abs x n most = (omega (arith, ints), omega (arith, ints))
+
 -- each step is at most the widest
 step_within : (f : ℕ → ℤ) (i : ℕ) → i ≤ 6 → IsWithin (pos (widest_step f)) (steps f i)
 unfolding widest_step
-step_within f i small = by_size (steps f i) _ (greatest-at 7 (λ k. unsigned_abs (f (suc k) -ℤ f k)) i (omega arith))
-  where
-    by_size : (x : ℤ) (n : ℕ) → unsigned_abs x ≤ n → IsWithin (pos n) x
-    by_size x n most = (omega (arith, ints), omega (arith, ints))
+step_within f i small = within_abs (steps f i) _ (greatest-at 7 (λ k. unsigned_abs (f (suc k) -ℤ f k)) i (omega arith))
 
 -- the widest step of a half is at most 64 times that of the whole
 pub widest_shrinks : (r : ℕ) (f : ℕ → ℤ) → r ≤ 1 → widest_step (part_value 1 r f) ≤ 64 * widest_step f
@@ -66,28 +70,25 @@ widest_shrinks r f side =
 
 -- The widest step of the parts of a depth is at most 64 to the depth times that of the whole.
 pub widest_most : (e : ℕ) (f : ℕ → ℤ) → widest_part e f ≤ 64 ^ e * widest_step f
-widest_most zero f = omega (arith, widest-whole f)
-widest_most (suc e) f =
-    let halves : max (widest_part e (part_value 1 0 f)) (widest_part e (part_value 1 1 f)) ≡ widest_part (suc e) f =
-    widest-halves e f (part_value 1 0 f) (part_value 1 1 f) (λ k small. refl) (λ k small. refl) in
-    let first : 64 ^ e * widest_step (part_value 1 0 f) ≤ 64 ^ e * (64 * widest_step f) = mul-le (64 ^ e) _ (64 ^ e) _ (omega arith) (widest_shrinks 0 f (omega arith)) in
-    let second : 64 ^ e * widest_step (part_value 1 1 f) ≤ 64 ^ e * (64 * widest_step f) = mul-le (64 ^ e) _ (64 ^ e) _ (omega arith) (widest_shrinks 1 f (omega arith)) in
-    rw (pow-suc 64 e)
-    (both (64 ^ e) (widest_step f) _ _ _ halves (omega (arith, first, widest_most e (part_value 1 0 f))) (omega (arith, second, widest_most e (part_value 1 1 f))))
-  where
-    both : (p w x y z : ℕ) → max x y ≡ z → x ≤ p * (64 * w) → y ≤ p * (64 * w) → z ≤ p * 64 * w
-    both p w x y z is first second = omega (arith, is, first, second)
+unfolding widest_part
+widest_most = parts-shrink widest_step widest_step-same 64 widest_shrinks
 
 -- ---- what a search for the widest step may pass over
+sixth : (n : ℕ) → 2 ^ (6 * n) ≡ 64 ^ n
+sixth zero = refl
+sixth (suc n) = let more : 6 * suc n ≡ 6 * n + 6 = omega arith in rw (more, pow-add 2 (6 * n) 6, sixth n, pow-suc 64 n) refl
+
 -- a curve whose parts can't have a wider step than what was found
-pub none_wider : (depth p step least : ℕ) (f : ℕ → ℤ) → p ≡ 64 ^ depth → step ≡ widest_step f → p * step ≤ least → least ≡ max least (widest_part depth f)
-none_wider depth p step least f p_is step_is few =
-    let most : widest_part depth f ≤ p * step = rw (p_is, step_is) (widest_most depth f) in
-    omega (arith, most, few)
+pub none_wider : (depth levels step least : ℕ) (f : ℕ → ℤ) → levels ≡ depth → step ≡ widest_step f → step ≤ least / 2 ^ (6 * levels) → least ≡ max least (widest_part depth f)
+none_wider depth levels step least f same step_is few =
+    let most : widest_part depth f ≤ 64 ^ levels * step = rw (same, step_is) (widest_most depth f) in
+    let floor : 64 ^ levels * (least / 64 ^ levels) ≤ least = omega arith in
+    let grown : 64 ^ levels * step ≤ 64 ^ levels * (least / 64 ^ levels) = mul-le (64 ^ levels) step (64 ^ levels) _ (omega arith) (rw (sixth levels) at few) in
+    omega (arith, most, floor, grown)
 
 -- a curve that isn't halved
-pub whole_wider : (depth p step least : ℕ) (f : ℕ → ℤ) → depth ≡ 0 → p ≡ 64 ^ depth → step ≡ widest_step f → least < p * step → step ≡ max least (widest_part depth f)
-whole_wider depth p step least f none p_is step_is more = grind (arith, common_steps, widest-whole)
+pub whole_wider : (levels step least : ℕ) (f : ℕ → ℤ) → levels ≡ 0 → step ≡ widest_step f → least / 2 ^ (6 * levels) < step → step ≡ max least (widest_part levels f)
+whole_wider levels step least f none step_is more = grind (arith, common_steps, widest-whole)
 
 -- both halves, one after the other
 pub both_wider : (least found widest first second whole : ℕ) → found ≡ max least first → widest ≡ max found second → max first second ≡ whole → widest ≡ max least whole
@@ -129,6 +130,15 @@ segment_no_faster depth ms step least f lasting step_is slow =
     no_faster depth ms (widest_part depth f) least lasting (slow_way (2 ^ depth) (64 ^ depth) (2 ^ (7 * depth)) (widest_part depth f) step ms least (scale_is depth) most slow) in
     omega (arith, few, segment_speed-is depth ms f lasting)
 
+-- a segment that stays at one value
+level_step : (b : List ℤ) (x : ℤ) → b ≡ eight (λ k. x) → 0 ≡ widest_step (at b)
+unfolding widest_step
+level_step b x is = rw is (grind (arith, common_steps, ints))
+
+pub still_slow : (depth ms least : ℕ) (x : ℤ) (e : Element) → e ≡ Constant → 1 ≤ ms → least ≡ max least (segment_speed depth ms (at (raised (x ∷ stored e))))
+still_slow depth ms least x e is lasting =
+    rw is (segment_no_faster depth ms 0 least (at (raised (x ∷ []))) lasting (level_step (raised (x ∷ [])) (pos 5040 *ℤ x) (raised-level (x ∷ []) refl)) (omega arith))
+
 -- a segment none of whose parts has a wider step than the widest slow one
 pub parts_no_faster : (depth ms slow found least : ℕ) (f : ℕ → ℤ) → 1 ≤ ms → slow ≡ 5040 * 64 ^ depth * ms * least / 7000000 → found ≡ max slow (widest_part depth f) → found ≤ slow →
     least ≡ max least (segment_speed depth ms f)
@@ -168,23 +178,6 @@ step_small b step f is within = omega (arith, is, widest-whole f, widest_part-sm
 -- 64 to a depth
 pub scale_small : (depth : ℕ) → depth ≤ 8 → 64 ^ depth ≤ 2 ^ 48
 scale_small depth shallow = let most : 64 ^ depth ≤ 64 ^ 8 = pow-le-pow_right {n = 64} (lit< tt) shallow in omega (arith, most)
-
--- 64 to a depth times a step of a part that is halved so often
-pub scaled_small : (depth p step : ℕ) → depth ≤ 8 → p ≡ 64 ^ depth → step ≤ 2 * 2 ^ (84 - 7 * depth) → p * step < 2 ^ 128
-scaled_small depth p step shallow p_is few =
-    let all : 84 ≡ 7 * depth + (84 - 7 * depth) = omega arith in
-    let whole : 2 ^ 84 ≡ 2 ^ (7 * depth) * 2 ^ (84 - 7 * depth) = ap (λ (n : ℕ). 2 ^ n) all ∙ pow-add 2 (7 * depth) (84 - 7 * depth) in
-    numbers (2 ^ depth) p (2 ^ (7 * depth)) (2 ^ (84 - 7 * depth)) step (pow_pos depth) (ap (λ (n : ℕ). 2 ^ depth * n) p_is ∙ scale_is depth) whole few
-  where
-    numbers : (t p q x step : ℕ) → 1 ≤ t → t * p ≡ q → 2 ^ 84 ≡ q * x → step ≤ 2 * x → p * step < 2 ^ 128
-    numbers t p q x step some is whole few =
-        let way : p * step ≤ p * (2 * x) = mul-le p step p (2 * x) (omega arith) few in
-        let more : 1 * (p * (2 * x)) ≤ t * (p * (2 * x)) = mul-le 1 _ t _ some (omega arith) in
-        let same : t * (p * (2 * x)) ≡ 2 * (q * x) = regroup ∙ ap (λ (n : ℕ). 2 * (n * x)) is in
-        omega (arith, way, more, same, whole)
-      where
-        regroup : t * (p * (2 * x)) ≡ 2 * (t * p * x)
-        regroup = omega arith
 
 -- 64 to a depth times a duration times a speed
 pub slow_small : (p ms v : ℕ) → p ≤ 2 ^ 48 → ms < 2 ^ 16 → v < 2 ^ 50 → 5040 * p * ms * v < 2 ^ 128

@@ -4,6 +4,7 @@ use Rattle.std.specs.Int.{div_ceil}
 use Rattle.std.proofs.lemmas.Int.{ints}
 use Rattle.std.proofs.lemmas.Nat.{mul-le}
 use Rattle.std.proofs.lemmas.Grind.{div_ceil_times, common_steps}
+use Rattle.std.proofs.lemmas.List.{get_or_past, length-map}
 use Rattle.std.proofs.lemmas.List.Elements.{All-nil, All-cons, All-head, All-tail, All-from_get_or, All-get_or}
 use Rattle.fleet_math.specs.Sums.{power}
 use Rattle.fleet_math.specs.Numbers.{IsIn}
@@ -31,21 +32,17 @@ use Rattle.sep_parts.proofs.Instants.{Lies, moment-lies, time_before-suc}
 use Rattle.speed_bound.specs.Reach.{IsMoving, ReachLaw, farthest, reach, reach_of, traj_at}
 use Rattle.speed_bound.specs.Speed.{KeepsSpeed, greatest_below, speed}
 use Rattle.speed_bound.proofs.Rests.{keeps_speed, pieces_formed}
-use Rattle.speed_bound.proofs.Speeds.{le_from_mul, power_low}
+use Rattle.speed_bound.proofs.Speeds.{le_from_mul, power_low, product_of}
 use Rattle.speed_bound.proofs.Widths.{div_ceil-least, greatest-at, greatest-map, greatest-most}
 
 -- ---- by the speed
-product_of : (x y : ℕ) → pos x *ℤ pos y ≡ pos (x * y)
-product_of x y = omega (arith, ints)
-
 -- how far two instants are apart, in time
 time_apart : (late q w a b : ℕ) → a ≤ b + late * (q * w) → b ≤ a + late * (q * w) → unsigned_abs (pos b -ℤ pos a) ≤ late * (q * w)
 time_apart late q w a b first second = grind (arith, common_steps, ints, unsigned_abs, pos)
 
 -- a number by its size
 by_size : (x n : ℤ) → pos (unsigned_abs x) ≤ℤ n → IsIn (neg_ℤ n) n x
-by_size (pos k) n most = (omega (arith, ints), omega (arith, ints))
-by_size (negsuc k) n most = (omega (arith, ints), omega (arith, ints))
+by_size x n most = (omega (arith, ints), omega (arith, ints))
 
 -- what a speed allows in a time, and what is left when the time and the units are cancelled
 cancelled : (n v d e k : ℕ) (x N : ℤ) → pos 0 ≤ℤ N → 1 ≤ n → d ≤ e * n → e * v ≤ k * 1000000 → (pos (1000000 * n) *ℤ x) ≤ℤ (pos (v * d) *ℤ N) → x ≤ℤ (pos k *ℤ N)
@@ -115,9 +112,7 @@ points_numbers (s ∷ rest) first axis (suc cue) near is all inside =
 
 -- a number of a list, or 0 past its end
 within_at : (b : List ℤ) (k : ℕ) → All IsNumber b → IsWithin (pos 32768) (at b k)
-within_at [] k all = (omega (arith, ints), omega (arith, ints))
-within_at (x ∷ rest) zero all = let is : IsNumber x = All-head IsNumber x rest all in (omega (arith, ints, is.0), omega (arith, ints, is.1))
-within_at (x ∷ rest) (suc k) all = within_at rest k (All-tail IsNumber x rest all)
+within_at b k all = grind (arith, common_steps, ints, by_lt, All-get_or, pos, get_or_past)
 
 seventh_power : (x y : ℤ) (n : ℕ) → 1 ≤ n → n ≤ 8 → power x (8 - n) *ℤ (power x (n - 1) *ℤ y) ≡ power x 7 *ℤ y
 seventh_power x y n some few =
@@ -140,22 +135,14 @@ position_within start pieces m formed inside before numbers =
 -- at each instant
 position_at : (t : Traj) (axis p q : ℕ) → axis ≤ 2 → IsMoving t → p ≤ q * sum (durations t.segments) → IsWithin (power (pos (own t p q).c) 7 *ℤ pos 32768) (decoded t axis (own t p q))
 position_at t axis p q near moving before =
-    let lies : Lies (durations t.segments) p q (own t p q) = moment-lies (durations t.segments) p q (omega (arith, count t.segments, moving.some)) before in
-    let in_piece : lies.cue < length (pieces_on axis t) = omega (arith, lies.inside, count t.segments, pieces_count axis t.segments) in
-    let here : lies.cue < length t.segments = omega (arith, lies.inside, count t.segments) in
+    let lies : Lies (durations t.segments) p q (own t p q) = moment-lies (durations t.segments) p q (omega (arith, length-map t.segments (λ (s : Segment). s.ms), moving.some)) before in
+    let in_piece : lies.cue < length (pieces_on axis t) = omega (arith, lies.inside, length-map t.segments (λ (s : Segment). s.ms), length-map t.segments (piece_on axis)) in
+    let here : lies.cue < length t.segments = omega (arith, lies.inside, length-map t.segments (λ (s : Segment). s.ms)) in
     rw lies.is
     (position_within (at t.start axis) (pieces_on axis t) _ (pieces_formed axis t.segments near moving.lasting (formed_of t.segments moving.formed.segments)) in_piece
     (ends p q (time_before (durations t.segments) lies.cue) (get_or (durations t.segments) lies.cue 0) _ (time_before-suc (durations t.segments) lies.cue lies.inside) lies.to)
     (points_numbers t.segments (at t.start axis) axis lies.cue near (start_is t axis near moving.formed) moving.formed.segments here))
   where
-    count : (segments : List Segment) → length (durations segments) ≡ length segments
-    count [] = refl
-    count (s ∷ rest) = ap suc (count rest)
-
-    pieces_count : (axis : ℕ) (segments : List Segment) → length (map (piece_on axis) segments) ≡ length segments
-    pieces_count axis [] = refl
-    pieces_count axis (s ∷ rest) = ap suc (pieces_count axis rest)
-
     ends : (p q before ms after : ℕ) → after ≡ before + ms → p ≤ q * after → p - q * before ≤ q * ms
     ends p q before ms after e to = omega (arith, ap (λ (n : ℕ). q * n) e, to, spread q before ms)
       where

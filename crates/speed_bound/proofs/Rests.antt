@@ -4,6 +4,7 @@ use Rattle.std.proofs.lemmas.Int.{ints}
 use Rattle.std.proofs.Math.Seq.{drop-cons}
 use Rattle.std.proofs.lemmas.Nat.{pow_pos, mul-le}
 use Rattle.std.proofs.lemmas.Grind.{div_ceil_times, common_steps}
+use Rattle.std.proofs.lemmas.List.{length-map}
 use Rattle.std.proofs.lemmas.List.Elements.{All-head, All-tail, All-nil, All-cons}
 use Rattle.fleet_math.specs.Bernstein.{at}
 use Rattle.fleet_math.specs.Decoded.{Piece, IsPiece, points_from}
@@ -19,6 +20,7 @@ use Rattle.traj_codec.specs.Positions.{durations, element_on, piece_on, pieces_o
 use Rattle.traj_codec.proofs.PositionLemmas.{durations_on}
 use Rattle.fleet_curves.specs.Steps.{IsFormed}
 use Rattle.speed_bound.specs.Speed.{KeepsSpeed, greatest_below, segment_speed, speed, speed_of, widest_part, widest_step}
+use Rattle.speed_bound.proofs.Halves.{within_abs}
 use Rattle.speed_bound.proofs.Slopes.{AreFlat}
 use Rattle.speed_bound.proofs.Speeds.{AreSlow, Within, keeps}
 use Rattle.speed_bound.proofs.Widths.{greatest-first, greatest-at, segment_speed-is, some_time}
@@ -48,11 +50,12 @@ unfolding speed_from
 speed_from-none depth axis first = refl
 
 -- one segment more
-pub next_speed : (depth axis : ℕ) (first first' : ℤ) (segments : List Segment) (i : ℕ) (d : Segment) (fastest fastest' here whole : ℕ) → i < length segments →
-    here ≡ segment_speed depth (get_or segments i d).ms (at (raised (first ∷ stored (element_on (get_or segments i d) axis)))) → first' ≡ value_after first (element_on (get_or segments i d) axis) →
-    fastest' ≡ max fastest here → max fastest (speed_from depth axis first (drop i segments)) ≡ whole → max fastest' (speed_from depth axis first' (drop (i + 1) segments)) ≡ whole
+pub next_speed : (depth axis : ℕ) (first first' : ℤ) (segments : List Segment) (i : ℕ) (d : Segment) (fastest fastest' whole : ℕ) → i < length segments →
+    first' ≡ value_after first (element_on (get_or segments i d) axis) →
+    fastest' ≡ max fastest (segment_speed depth (get_or segments i d).ms (at (raised (first ∷ stored (element_on (get_or segments i d) axis))))) →
+    max fastest (speed_from depth axis first (drop i segments)) ≡ whole → max fastest' (speed_from depth axis first' (drop (i + 1) segments)) ≡ whole
 unfolding speed_from
-next_speed depth axis first first' segments i d fastest fastest' here whole inside here_is first_is fastest_is same =
+next_speed depth axis first first' segments i d fastest fastest' whole inside first_is fastest_is same =
     grind (arith, common_steps, max, speed_from, drop, drop-cons)
 
 -- ---- what the bound promises
@@ -75,13 +78,7 @@ flat_at : (depth : ℕ) (f : ℕ → ℤ) → AreFlat depth f (pos (widest_part 
 unfolding widest_part widest_step
 flat_at depth f index inside k small =
     within_abs (part_value depth index f (suc k) -ℤ part_value depth index f k) (greatest_below (2 ^ depth) (λ i. widest_step (part_value depth i f)))
-    (le_trans (greatest-at 7 (λ i. unsigned_abs (part_value depth index f (suc i) -ℤ part_value depth index f i)) k (omega arith)) (greatest-at (2 ^ depth) (λ i. widest_step (part_value depth i f)) index inside))
-  where
-    within_abs : (x : ℤ) (n : ℕ) → unsigned_abs x ≤ n → IsWithin (pos n) x
-    within_abs x n most = (omega (arith, ints), omega (arith, ints))
-
-    le_trans : {x y z : ℕ} → x ≤ y → y ≤ z → x ≤ z
-    le_trans {x} {y} {z} first second = omega arith
+    (omega (arith, greatest-at 7 (λ i. unsigned_abs (part_value depth index f (suc i) -ℤ part_value depth index f i)) k (omega arith), greatest-at (2 ^ depth) (λ i. widest_step (part_value depth i f)) index inside))
 
 -- the way of the widest step takes no more than the time, at the speed of its segment
 fast_at : (depth ms : ℕ) (f : ℕ → ℤ) → 1 ≤ ms → 7000000 * 2 ^ depth * widest_part depth f ≤ segment_speed depth ms f * (5040 * 2 ^ (7 * depth) * ms)
@@ -97,13 +94,9 @@ slow depth axis t near lasting formed = record {
   formed = pieces_formed axis t.segments near lasting formed;
   width = λ cue. widest_part depth (at (raised (points t cue axis)));
   flat = λ cue inside. flat_at depth (at (raised (points t cue axis)));
-  fast = λ cue inside. one cue (omega (arith, length-pieces axis t.segments));
+  fast = λ cue inside. one cue (omega (arith, length-map t.segments (piece_on axis)));
 }
   where
-    length-pieces : (axis : ℕ) (segments : List Segment) → length (map (piece_on axis) segments) ≡ length segments
-    length-pieces axis [] = refl
-    length-pieces axis (s ∷ rest) = ap suc (length-pieces axis rest)
-
     one : (cue : ℕ) → cue < length t.segments → 7000000 * 2 ^ depth * widest_part depth (at (raised (points t cue axis)))
         ≤ greatest_below (length t.segments) (λ cue. segment_speed depth (get_or (durations t.segments) cue 0) (at (raised (points t cue axis)))) * (5040 * 2 ^ (7 * depth) * get_or (plain.durations (pieces_on axis t)) cue 0)
     one cue inside =
@@ -121,10 +114,6 @@ keeps_speed depth axis t near some lasting formed p q r s q_some s_some p_in r_i
     let same : plain.durations (pieces_on axis t) ≡ durations t.segments = durations_on axis t.segments in
     record {
       within = subst (λ (ns : List ℕ). Within (speed depth t axis) (at t.start axis) (pieces_on axis t) p q r s (moment ns p q) (moment ns r s)) same
-          (keeps depth (speed depth t axis) (at t.start axis) (pieces_on axis t) p q r s (slow depth axis t near lasting formed) (omega (arith, length-map axis t.segments))
+          (keeps depth (speed depth t axis) (at t.start axis) (pieces_on axis t) p q r s (slow depth axis t near lasting formed) (omega (arith, length-map t.segments (piece_on axis)))
           (rw same p_in) (rw same r_in));
     }
-  where
-    length-map : (axis : ℕ) (segments : List Segment) → length (map (piece_on axis) segments) ≡ length segments
-    length-map axis [] = refl
-    length-map axis (s ∷ rest) = ap suc (length-map axis rest)

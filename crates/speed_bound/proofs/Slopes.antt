@@ -1,21 +1,29 @@
 -- How much a curve of degree seven changes between two instants: by the widest step between neighbours among its control values,
 -- and by those of its parts.
-use Rattle.std.proofs.Common.{◌≡◌, ℕ, zero, suc, ◌+◌, ◌*◌, ◌^◌, ◌≤◌, ◌<◌, ℤ, pos, ◌+ℤ◌, ◌-ℤ◌, ◌*ℤ◌, ◌≤ℤ◌, arith, refl, sym, ◌∙◌, ap, zero-add}
+use Rattle.std.proofs.Common.{◌≡◌, ℕ, zero, suc, ◌+◌, ◌*◌, ◌^◌, ◌≤◌, ◌<◌, ℤ, pos, ◌+ℤ◌, ◌-ℤ◌, ◌*ℤ◌, ◌≤ℤ◌, neg_ℤ, arith, refl, sym, ◌∙◌, ap, zero-add}
 use Rattle.std.proofs.lemmas.Int.{ints, by_lt_z}
 use Rattle.std.proofs.Math.Nat.{pow-suc}
 use Rattle.fleet_math.specs.Sums.{power}
 use Rattle.fleet_math.specs.Bernstein.{bernstein}
-use Rattle.fleet_math.proofs.RingLemmas.{ring, linear, le_mul_ℤ, mul_add_ℤ, add_mul_ℤ, mul_assoc_ℤ, one_mul_ℤ, zero_mul_ℤ, mul_comm_ℤ}
+use Rattle.fleet_math.proofs.RingLemmas.{ring, linear, le_mul_ℤ, mul_not_negative, mul_add_ℤ, add_mul_ℤ, mul_assoc_ℤ, one_mul_ℤ, zero_mul_ℤ, mul_comm_ℤ, neg_mul_ℤ}
 use Rattle.std.proofs.lemmas.Nat.{pow-add}
 use Rattle.fleet_math.proofs.SumLemmas.{power-add}
 use Rattle.fleet_math.proofs.BernsteinLemmas.{bernstein-zero, bernstein-same}
 use Rattle.bezier_core.specs.Steps.{IsWithin}
-use Rattle.bezier_core.proofs.BlendLemmas.{within_mul}
+use Rattle.bezier_core.proofs.BlendLemmas.{bound_positive, within_mul}
 use Rattle.halving.specs.Part.{polar, part_value}
 use Rattle.halving.proofs.HalfLemmas.{bernstein-within}
 use Rattle.halving.proofs.PolarLemmas.{step, polar-same, polar-suc_first, polar-suc_second, polar-mix, polar-first, part-whole, left_half, right_half}
 use Rattle.sep_parts.proofs.PartBounds.{part-half}
 use Rattle.sep_parts.proofs.Leaf.{bernstein-scaled}
+
+-- two differences
+pub minus_same : {x y z w : ℤ} → x ≡ y → z ≡ w → x -ℤ z ≡ y -ℤ w
+minus_same {x} {y} {z} {w} p q = cc
+
+-- the scale of the next depth
+pub next_scale : (e : ℕ) → pos (2 ^ (7 * e)) *ℤ pos 128 ≡ pos (2 ^ (7 * suc e))
+next_scale e = let more : 7 * suc e ≡ 7 * e + 7 = omega arith in rw (more, pow-add 2 (7 * e) 7) (omega (arith, ints))
 
 -- the steps between neighbours
 abbrev pub steps : (ℕ → ℤ) → ℕ → ℤ
@@ -58,28 +66,48 @@ pub count_more : (j : ℕ) (z : ℤ) → pos j *ℤ z +ℤ z ≡ pos (suc j) *�
 count_more j z = omega (arith, ints)
 
 -- a number added before the last one is taken off
-pub regroup_sum : (x y z u : ℤ) → z ≡ x +ℤ y → (x -ℤ u) +ℤ y ≡ z -ℤ u
+regroup_sum : (x y z u : ℤ) → z ≡ x +ℤ y → (x -ℤ u) +ℤ y ≡ z -ℤ u
 regroup_sum x y z u e = omega (arith, linear)
 
 -- where nothing is exchanged nothing is left
-pub none_left : (x y z : ℤ) → x ≡ y → IsWithin (pos 0 *ℤ z) (x -ℤ y)
+none_left : (x y z : ℤ) → x ≡ y → IsWithin (pos 0 *ℤ z) (x -ℤ y)
 none_left x y z e = (omega (arith, linear, zero_mul_ℤ z), omega (arith, linear, zero_mul_ℤ z))
 
--- j of the arguments exchanged
-exchanged : (j k n : ℕ) (f : ℕ → ℤ) (m b d s : ℤ) → j + k ≡ suc n → pos 0 ≤ℤ d → d ≤ℤ b → b ≤ℤ s → ((i : ℕ) → i ≤ n → IsWithin m (steps f i)) →
-    IsWithin (pos j *ℤ ((b -ℤ d) *ℤ (power s n *ℤ m))) (polar j k f b d s -ℤ polar 0 (suc n) f b d s)
-exchanged zero k n f m b d s e low order high within =
+-- the product of two bounds
+pub within_product : (w t m x : ℤ) → IsWithin w t → IsWithin m x → IsWithin (w *ℤ m) (t *ℤ x)
+within_product w t m x first second =
+    let some : pos 0 ≤ℤ m = bound_positive m x second in
+    by_lt_z t (pos 0)
+    (λ less.
+    let one : IsWithin (neg_ℤ t *ℤ m) (neg_ℤ t *ℤ x) = within_mul (neg_ℤ t) m x (omega (arith, linear)) second in
+    let more : (m *ℤ neg_ℤ t) ≤ℤ (m *ℤ w) = le_mul_ℤ m (neg_ℤ t) w some (omega (arith, linear)) in
+    turned (neg_ℤ t *ℤ m) (w *ℤ m) (neg_ℤ t *ℤ x) (t *ℤ x) one (omega (arith, linear, more, mul_comm_ℤ m (neg_ℤ t), mul_comm_ℤ m w)) (neg_mul_ℤ t x))
+    (λ not_less.
+    let one : IsWithin (t *ℤ m) (t *ℤ x) = within_mul t m x not_less second in
+    let more : (m *ℤ t) ≤ℤ (m *ℤ w) = le_mul_ℤ m t w some (omega (arith, linear)) in
+    wider (t *ℤ m) (w *ℤ m) (t *ℤ x) one (omega (arith, linear, more, mul_comm_ℤ m t, mul_comm_ℤ m w)))
+  where
+    wider : (p q x : ℤ) → IsWithin p x → p ≤ℤ q → IsWithin q x
+    wider p q x within more = (omega (arith, linear), omega (arith, linear))
+
+    turned : (p q x y : ℤ) → IsWithin p x → p ≤ℤ q → x ≡ neg_ℤ y → IsWithin q y
+    turned p q x y within more e = (omega (arith, linear), omega (arith, linear))
+
+-- j of the arguments exchanged; w bounds how far apart the two are
+pub exchanged : (j k n : ℕ) (f : ℕ → ℤ) (m w b d s : ℤ) → j + k ≡ suc n → pos 0 ≤ℤ b → b ≤ℤ s → pos 0 ≤ℤ d → d ≤ℤ s → IsWithin w (b -ℤ d) →
+    ((i : ℕ) → i ≤ n → IsWithin m (steps f i)) → IsWithin (pos j *ℤ (w *ℤ (power s n *ℤ m))) (polar j k f b d s -ℤ polar 0 (suc n) f b d s)
+exchanged zero k n f m w b d s e b_low b_high d_low d_high near within =
     let same : k ≡ suc n = omega arith in
-    none_left (polar 0 k f b d s) (polar 0 (suc n) f b d s) ((b -ℤ d) *ℤ (power s n *ℤ m)) (ap (λ (i : ℕ). polar 0 i f b d s) same)
-exchanged (suc j) k n f m b d s e low order high within =
+    none_left (polar 0 k f b d s) (polar 0 (suc n) f b d s) (w *ℤ (power s n *ℤ m)) (ap (λ (i : ℕ). polar 0 i f b d s) same)
+exchanged (suc j) k n f m w b d s e b_low b_high d_low d_high near within =
     let rest : j + k ≡ n = omega arith in
-    let one : IsWithin ((b -ℤ d) *ℤ (power s (j + k) *ℤ m)) ((b -ℤ d) *ℤ polar j k (steps f) b d s) =
-    within_mul (b -ℤ d) (power s (j + k) *ℤ m) (polar j k (steps f) b d s) (omega (arith, linear))
-    (polar-within j k (steps f) m b d s (omega (arith, linear)) high low (omega (arith, linear)) (λ i small. within i (omega arith))) in
+    let one : IsWithin (w *ℤ (power s (j + k) *ℤ m)) ((b -ℤ d) *ℤ polar j k (steps f) b d s) =
+    within_product w (b -ℤ d) (power s (j + k) *ℤ m) (polar j k (steps f) b d s) near
+    (polar-within j k (steps f) m b d s b_low b_high d_low d_high (λ i small. within i (omega arith))) in
     within_same
-    (ap (λ (i : ℕ). pos j *ℤ ((b -ℤ d) *ℤ (power s n *ℤ m)) +ℤ (b -ℤ d) *ℤ (power s i *ℤ m)) rest ∙ count_more j ((b -ℤ d) *ℤ (power s n *ℤ m)))
+    (ap (λ (i : ℕ). pos j *ℤ (w *ℤ (power s n *ℤ m)) +ℤ w *ℤ (power s i *ℤ m)) rest ∙ count_more j (w *ℤ (power s n *ℤ m)))
     (regroup_sum (polar j (suc k) f b d s) ((b -ℤ d) *ℤ polar j k (steps f) b d s) (polar (suc j) k f b d s) (polar 0 (suc n) f b d s) (exchange j k f b d s))
-    (within_add _ _ _ _ (exchanged j (suc k) n f m b d s (omega arith) low order high within) one)
+    (within_add _ _ _ _ (exchanged j (suc k) n f m w b d s (omega arith) b_low b_high d_low d_high near within) one)
 
 -- With no first argument the polar form is the sum too.
 pub polar-second : (n : ℕ) (f : ℕ → ℤ) (b d s : ℤ) → polar 0 n f b d s ≡ bernstein n f d s
@@ -90,10 +118,8 @@ polar-second n f b d s = bernstein-zero (λ i. bernstein n (λ l. f (i + l)) d s
 pub slope : (f : ℕ → ℤ) (m b d s : ℤ) → pos 0 ≤ℤ d → d ≤ℤ b → b ≤ℤ s → ((i : ℕ) → i ≤ 6 → IsWithin m (steps f i)) →
     IsWithin (pos 7 *ℤ ((b -ℤ d) *ℤ (power s 6 *ℤ m))) (bernstein 7 f b s -ℤ bernstein 7 f d s)
 slope f m b d s low order high within =
-    within_same refl (minus_same (polar-first 7 f b d s) (polar-second 7 f b d s)) (exchanged 7 0 6 f m b d s refl low order high within)
-  where
-    minus_same : {x y z w : ℤ} → x ≡ y → z ≡ w → x -ℤ z ≡ y -ℤ w
-    minus_same {x} {y} {z} {w} p q = cc
+    within_same refl (minus_same (polar-first 7 f b d s) (polar-second 7 f b d s)) 
+    (exchanged 7 0 6 f m (b -ℤ d) b d s refl (omega (arith, linear)) high low (omega (arith, linear)) (omega (arith, linear), omega (arith, linear)) within)
 
 -- ---- by the parts of a depth
 -- each part of the depth has no wider step than m
@@ -109,9 +135,6 @@ flat_half e r f m small flat index inside k low =
     bound zero small = rw (pow-suc 2 e) (omega arith)
     bound (suc zero) small = rw (pow-suc 2 e) (omega arith)
     bound (suc (suc r)) small = absurd (omega arith)
-
-    minus_same : {x y z w : ℤ} → x ≡ y → z ≡ w → x -ℤ z ≡ y -ℤ w
-    minus_same {x} {y} {z} {w} p q = cc
 
 -- how much a curve may change while `time` passes, at a bound on the steps of its parts of a depth
 abbrev pub change : ℕ → ℤ → ℤ → ℤ
@@ -160,9 +183,6 @@ pub steep : (e : ℕ) (f : ℕ → ℤ) (m d b s : ℤ) → pos 0 ≤ℤ d → d
 steep zero f m d b s low order high flat =
     within_same (ap (λ (z : ℤ). pos 7 *ℤ z) (sym (one_mul_ℤ ((b -ℤ d) *ℤ (power s 6 *ℤ m))))) (sym (one_mul_ℤ (bernstein 7 f b s -ℤ bernstein 7 f d s)))
     (slope f m b d s low order high (λ i small. within_same refl (minus_same (part-whole f (suc i)) (part-whole f i)) (flat 0 (omega arith) i small)))
-  where
-    minus_same : {x y z w : ℤ} → x ≡ y → z ≡ w → x -ℤ z ≡ y -ℤ w
-    minus_same {x} {y} {z} {w} p q = cc
 steep (suc e) f m d b s low order high flat =
     let w : ℤ = power s 6 *ℤ m in
     let q : ℤ = pos (2 ^ (7 * e)) in
@@ -179,9 +199,6 @@ steep (suc e) f m d b s low order high flat =
     ∙ ap (λ (z : ℤ). z *ℤ (bernstein 7 f b s -ℤ bernstein 7 f d s)) (next_scale e))
     both
   where
-    minus_same : {x y z w : ℤ} → x ≡ y → z ≡ w → x -ℤ z ≡ y -ℤ w
-    minus_same {x} {y} {z} {w} p q = cc
-
     shifted : (x y s : ℤ) → (y -ℤ s) -ℤ (x -ℤ s) ≡ y -ℤ x
     shifted x y s = omega (arith, linear)
 
@@ -191,9 +208,6 @@ steep (suc e) f m d b s low order high flat =
     next_power : (e : ℕ) → pos 2 *ℤ pos (2 ^ e) ≡ pos (2 ^ suc e)
     next_power e = rw (pow-suc 2 e) (omega (arith, ints))
 
-    next_scale : (e : ℕ) → pos (2 ^ (7 * e)) *ℤ pos 128 ≡ pos (2 ^ (7 * suc e))
-    next_scale e = let more : 7 * suc e ≡ 7 * e + 7 = omega arith in rw (more, pow-add 2 (7 * e) 7) (omega (arith, ints))
-
 -- Between a / c and b / d a curve of degree seven changes by at most so much: the positions are numerators over c^7 and d^7.
 pub steep_between : (e : ℕ) (f : ℕ → ℤ) (m a c b d : ℤ) → pos 0 ≤ℤ a → a ≤ℤ c → pos 0 ≤ℤ b → b ≤ℤ d → (d *ℤ a) ≤ℤ (c *ℤ b) → AreFlat e f m →
     IsWithin (change e (c *ℤ b -ℤ d *ℤ a) (power (c *ℤ d) 6 *ℤ m)) (pos (2 ^ (7 * e)) *ℤ (power c 7 *ℤ bernstein 7 f b d -ℤ power d 7 *ℤ bernstein 7 f a c))
@@ -202,9 +216,3 @@ steep_between e f m a c b d a_low a_high b_low b_high order flat =
     (ap (λ (z : ℤ). pos (2 ^ (7 * e)) *ℤ z)
     (minus_same (bernstein-scaled 7 f c b d) (ap (λ (z : ℤ). bernstein 7 f (d *ℤ a) z) (mul_comm_ℤ c d) ∙ bernstein-scaled 7 f d a c)))
     (steep e f m (d *ℤ a) (c *ℤ b) (c *ℤ d) (mul_not_negative d a (omega (arith, linear)) a_low) order (le_mul_ℤ c b d (omega (arith, linear)) b_high) flat)
-  where
-    minus_same : {x y z w : ℤ} → x ≡ y → z ≡ w → x -ℤ z ≡ y -ℤ w
-    minus_same {x} {y} {z} {w} p q = cc
-
-    mul_not_negative : (x y : ℤ) → pos 0 ≤ℤ x → pos 0 ≤ℤ y → pos 0 ≤ℤ (x *ℤ y)
-    mul_not_negative x y first second = omega (arith, linear, le_mul_ℤ x (pos 0) y first second, mul_comm_ℤ x (pos 0), zero_mul_ℤ x)

@@ -2,19 +2,20 @@
 use Rattle.std.proofs.lemmas.Grind.{common_steps}
 use Rattle.std.proofs.Common.{◌≡◌, ℕ, zero, suc, ◌+◌, ◌-◌, ◌*◌, ◌^◌, ◌≤◌, ◌<◌, ℤ, pos, negsuc, ◌+ℤ◌, ◌-ℤ◌, ◌*ℤ◌, ◌≤ℤ◌, ◌<ℤ◌, neg_ℤ, unsigned_abs, arith, refl, sym, ◌∙◌, ap, subst, List, [], ◌∷◌, length, get_or, All, sum}
 use Rattle.std.proofs.lemmas.Int.{ints, by_lt_z}
+use Rattle.std.proofs.lemmas.List.{length-map}
 use Rattle.std.proofs.lemmas.Nat.{pow_pos}
 use Rattle.fleet_math.specs.Sums.{power}
 use Rattle.fleet_math.specs.Bernstein.{at, bernstein}
 use Rattle.fleet_math.specs.Moments.{Moment, moment, time_before}
 use Rattle.fleet_math.specs.Decoded.{Piece, IsPiece, points, durations, decoded}
-use Rattle.fleet_math.proofs.RingLemmas.{ring, linear, le_mul_ℤ, le_mul_pos, mul_add_ℤ, mul_assoc_ℤ, one_mul_ℤ, zero_mul_ℤ, mul_comm_ℤ, mul_neg_ℤ}
+use Rattle.fleet_math.proofs.RingLemmas.{ring, linear, le_mul_ℤ, le_mul_pos, mul_not_negative, mul_add_ℤ, mul_assoc_ℤ, one_mul_ℤ, zero_mul_ℤ, mul_comm_ℤ, mul_neg_ℤ}
 use Rattle.fleet_math.proofs.BernsteinLemmas.{by_lt}
 use Rattle.fleet_math.proofs.EdgeLemmas.{points-count, points-joined, decoded-at_start, decoded-at_end}
 use Rattle.bezier_core.specs.Raised.{raised}
 use Rattle.bezier_core.specs.Steps.{IsWithin}
 use Rattle.bezier_core.proofs.BlendLemmas.{within_mul}
 use Rattle.bezier_core.proofs.CurveLemmas.{raise}
-use Rattle.speed_bound.proofs.Slopes.{AreFlat, steep_between, within_add, within_same}
+use Rattle.speed_bound.proofs.Slopes.{AreFlat, minus_same, steep_between, within_add, within_same}
 use Rattle.sep_parts.proofs.Instants.{Lies, moment-lies, time_before-suc}
 
 -- ---- a positive factor cancels
@@ -33,6 +34,10 @@ within_cancel s m x positive within =
 -- a wider bound
 pub within_wider : (m n x : ℤ) → m ≤ℤ n → IsWithin m x → IsWithin n x
 within_wider m n x wider within = (omega (arith, linear), omega (arith, linear))
+
+-- two products
+same_product : {x y z w : ℤ} → x ≡ y → z ≡ w → x *ℤ z ≡ y *ℤ w
+same_product {x} {y} {z} {w} p q = cc
 
 -- ---- one segment
 value_ring : (u q f k x l y : ℤ) → u *ℤ (q *ℤ (k *ℤ (f *ℤ x) -ℤ l *ℤ (f *ℤ y))) ≡ (f *ℤ q) *ℤ (u *ℤ (k *ℤ x -ℤ l *ℤ y))
@@ -131,7 +136,7 @@ to_end e v start pieces cue a c slow inside before =
     let ended : place start pieces cue 1 1 ≡ last_of_piece start pieces cue = decoded-at_end start pieces cue 1 slow.formed inside ∙ one_mul_ℤ (last_of_piece start pieces cue) in
     within_same
     (ap (λ (z : ℤ). pos (v * get_or (durations pieces) cue 0) *ℤ z) (same_product (ones (pos c) (pos a)) (ap (λ (z : ℤ). power z 6) (times_one (pos c)))))
-    (ap (λ (z : ℤ). pos 1000000 *ℤ z) (same_minus (ap (λ (z : ℤ). power (pos c) 7 *ℤ z) ended) (one_mul_ℤ (place start pieces cue a c))))
+    (ap (λ (z : ℤ). pos 1000000 *ℤ z) (minus_same (ap (λ (z : ℤ). power (pos c) 7 *ℤ z) ended) (one_mul_ℤ (place start pieces cue a c))))
     (in_piece e v start pieces cue a c 1 1 slow inside before (omega arith) (omega arith))
   where
     ones : (c a : ℤ) → c *ℤ pos 1 -ℤ pos 1 *ℤ a ≡ c -ℤ a
@@ -139,12 +144,6 @@ to_end e v start pieces cue a c slow inside before =
 
     times_one : (c : ℤ) → c *ℤ pos 1 ≡ c
     times_one c = omega (arith, linear, mul_comm_ℤ c (pos 1), one_mul_ℤ c)
-
-    same_product : {x y z w : ℤ} → x ≡ y → z ≡ w → x *ℤ z ≡ y *ℤ w
-    same_product {x} {y} {z} {w} p q = cc
-
-    same_minus : {x y z w : ℤ} → x ≡ y → z ≡ w → x -ℤ z ≡ y -ℤ w
-    same_minus {x} {y} {z} {w} p q = cc
 
 -- from the beginning of a piece to one of its instants
 from_start : (e v : ℕ) (start : ℤ) (pieces : List Piece) (cue b d : ℕ) → AreSlow e v start pieces → cue < length pieces → b ≤ d →
@@ -154,17 +153,11 @@ from_start e v start pieces cue b d slow inside before =
     let begun : place start pieces cue 0 1 ≡ first_of_piece start pieces cue = decoded-at_start start pieces cue 1 slow.formed inside ∙ one_mul_ℤ (first_of_piece start pieces cue) in
     within_same
     (ap (λ (z : ℤ). pos (v * get_or (durations pieces) cue 0) *ℤ z) (same_product (ones (pos d) (pos b)) (ap (λ (z : ℤ). power z 6) (one_mul_ℤ (pos d)))))
-    (ap (λ (z : ℤ). pos 1000000 *ℤ z) (same_minus (one_mul_ℤ (place start pieces cue b d)) (ap (λ (z : ℤ). power (pos d) 7 *ℤ z) begun)))
+    (ap (λ (z : ℤ). pos 1000000 *ℤ z) (minus_same (one_mul_ℤ (place start pieces cue b d)) (ap (λ (z : ℤ). power (pos d) 7 *ℤ z) begun)))
     (in_piece e v start pieces cue 0 1 b d slow inside (omega arith) before (omega arith))
   where
     ones : (d b : ℤ) → pos 1 *ℤ b -ℤ d *ℤ pos 0 ≡ b
     ones d b = omega (arith, linear, one_mul_ℤ b, mul_comm_ℤ d (pos 0), zero_mul_ℤ d)
-
-    same_product : {x y z w : ℤ} → x ≡ y → z ≡ w → x *ℤ z ≡ y *ℤ w
-    same_product {x} {y} {z} {w} p q = cc
-
-    same_minus : {x y z w : ℤ} → x ≡ y → z ≡ w → x -ℤ z ≡ y -ℤ w
-    same_minus {x} {y} {z} {w} p q = cc
 
 -- from one end of a piece to the other
 through : (e v : ℕ) (start : ℤ) (pieces : List Piece) (cue : ℕ) → AreSlow e v start pieces → cue < length pieces →
@@ -173,15 +166,8 @@ through e v start pieces cue slow inside =
     let ended : place start pieces cue 1 1 ≡ last_of_piece start pieces cue = decoded-at_end start pieces cue 1 slow.formed inside ∙ one_mul_ℤ (last_of_piece start pieces cue) in
     within_same
     (mul_comm_ℤ (pos (v * get_or (durations pieces) cue 0)) (pos 1) ∙ one_mul_ℤ (pos (v * get_or (durations pieces) cue 0)))
-    (ap (λ (z : ℤ). pos 1000000 *ℤ z) (same_minus ended (one_mul_ℤ (first_of_piece start pieces cue))))
+    (ap (λ (z : ℤ). pos 1000000 *ℤ z) (minus_same ended (one_mul_ℤ (first_of_piece start pieces cue))))
     (from_start e v start pieces cue 1 1 slow inside (omega arith))
-  where
-    same_minus : {x y z w : ℤ} → x ≡ y → z ≡ w → x -ℤ z ≡ y -ℤ w
-    same_minus {x} {y} {z} {w} p q = cc
-
-durations-count : (pieces : List Piece) → length (durations pieces) ≡ length pieces
-durations-count [] = refl
-durations-count (piece ∷ rest) = omega (arith, durations-count rest)
 
 -- from the beginning of a piece to that of a later one
 along_pieces : (e v : ℕ) (start : ℤ) (pieces : List Piece) (i n : ℕ) → AreSlow e v start pieces → i + n < length pieces →
@@ -192,7 +178,7 @@ along_pieces e v start pieces i (suc n) slow inside =
     let up : i + suc n ≡ suc (i + n) = omega arith in
     let here : i + n < length pieces = omega arith in
     let before : time_before (durations pieces) (suc (i + n)) ≡ time_before (durations pieces) (i + n) + get_or (durations pieces) (i + n) 0 =
-    time_before-suc (durations pieces) (i + n) (omega (arith, durations-count pieces)) in
+    time_before-suc (durations pieces) (i + n) (omega (arith, length-map pieces (λ (piece : Piece). piece.ms))) in
     let joined : first_of_piece start pieces (suc (i + n)) ≡ last_of_piece start pieces (i + n) = points-joined start pieces (i + n) (omega arith) in
     rw (up, before, joined)
     (within_same (times v (time_before (durations pieces) (i + n)) (get_or (durations pieces) (i + n) 0) (time_before (durations pieces) i))
@@ -231,11 +217,8 @@ combine_value : (w q s k l x y e f : ℤ) →
     ≡ (w *ℤ (q *ℤ s)) *ℤ (k *ℤ y -ℤ l *ℤ x)
 combine_value w q s k l x y e f = simp ring (omega (arith, linear))
 
-product_of : (m n : ℕ) → pos m *ℤ pos n ≡ pos (m * n)
+pub product_of : (m n : ℕ) → pos m *ℤ pos n ≡ pos (m * n)
 product_of m n = omega (arith, ints)
-
-low_product : (x y : ℤ) → pos 0 ≤ℤ x → pos 0 ≤ℤ y → pos 0 ≤ℤ (x *ℤ y)
-low_product x y first second = omega (arith, linear, le_mul_ℤ x (pos 0) y first second, mul_comm_ℤ x (pos 0), zero_mul_ℤ x)
 
 -- three bounds, each multiplied, make one
 three_within : (i j k l m n x y z : ℤ) → pos 0 ≤ℤ i → pos 0 ≤ℤ j → pos 0 ≤ℤ k → IsWithin l x → IsWithin m y → IsWithin n z →
@@ -259,17 +242,14 @@ apart_in_time v p q r s t u ms ms' a b c d x y e f c_is d_is ended before begun 
     let third_all : IsWithin (pos v *ℤ ((pos r -ℤ pos s *ℤ pos u) *ℤ l)) (pos s *ℤ (pos 1000000 *ℤ (y -ℤ l *ℤ f))) =
     within_same (at_scale s v ms' d (pos b) (power (pos d) 6) d_is ∙ ap (λ (z : ℤ). pos v *ℤ (z *ℤ l)) (gone r s u b begun)) refl (within_mul (pos s) _ _ (omega (arith, ints)) third) in
     within_same
-    (combine_bound (pos v) (pos p) (pos q) (pos r) (pos s) (pos t) (pos u) k l ∙ ap (λ (z : ℤ). pos v *ℤ (z *ℤ (k *ℤ l))) (same_minus (product_of r q) (product_of p s)))
+    (combine_bound (pos v) (pos p) (pos q) (pos r) (pos s) (pos t) (pos u) k l ∙ ap (λ (z : ℤ). pos v *ℤ (z *ℤ (k *ℤ l))) (minus_same (product_of r q) (product_of p s)))
     (combine_value (pos 1000000) (pos q) (pos s) k l x y e f ∙ ap (λ (z : ℤ). z *ℤ (k *ℤ y -ℤ l *ℤ x)) (counted q s))
     (three_within (pos s *ℤ l) ((pos q *ℤ pos s) *ℤ (k *ℤ l)) (pos q *ℤ k) _ _ _ _ _ _
-    (low_product (pos s) l (omega (arith, ints)) l_low)
-    (low_product (pos q *ℤ pos s) (k *ℤ l) (omega (arith, ints)) (low_product k l k_low l_low))
-    (low_product (pos q) k (omega (arith, ints)) k_low)
+    (mul_not_negative (pos s) l (omega (arith, ints)) l_low)
+    (mul_not_negative (pos q *ℤ pos s) (k *ℤ l) (omega (arith, ints)) (mul_not_negative k l k_low l_low))
+    (mul_not_negative (pos q) k (omega (arith, ints)) k_low)
     first_all second third_all)
   where
-    same_minus : {x y z w : ℤ} → x ≡ y → z ≡ w → x -ℤ z ≡ y -ℤ w
-    same_minus {x} {y} {z} {w} p q = cc
-
     at_scale : (q v ms c : ℕ) (x w : ℤ) → c ≡ q * ms → pos q *ℤ (pos (v * ms) *ℤ (x *ℤ w)) ≡ pos v *ℤ (x *ℤ (pos c *ℤ w))
     at_scale q v ms c x w is =
         ap (λ (z : ℤ). pos q *ℤ (z *ℤ (x *ℤ w))) (sym (product_of v ms)) ∙ end_ring (pos q) (pos v) (pos ms) x w
@@ -294,8 +274,8 @@ in_later_piece e v start pieces p q r s i n slow inside p_from p_to r_from r_to 
     let times : List ℕ = durations pieces in
     let up : i + suc n ≡ suc i + n = omega arith in
     let here : i < length pieces = omega arith in
-    let first_ends : time_before times (suc i) ≡ time_before times i + get_or times i 0 = time_before-suc times i (omega (arith, durations-count pieces)) in
-    let second_ends : time_before times (suc (i + suc n)) ≡ time_before times (i + suc n) + get_or times (i + suc n) 0 = time_before-suc times (i + suc n) (omega (arith, durations-count pieces)) in
+    let first_ends : time_before times (suc i) ≡ time_before times i + get_or times i 0 = time_before-suc times i (omega (arith, length-map pieces (λ (piece : Piece). piece.ms))) in
+    let second_ends : time_before times (suc (i + suc n)) ≡ time_before times (i + suc n) + get_or times (i + suc n) 0 = time_before-suc times (i + suc n) (omega (arith, length-map pieces (λ (piece : Piece). piece.ms))) in
     let p_before : p ≤ q * time_before times i + q * get_or times i 0 = omega (arith, ap (λ (t : ℕ). q * t) first_ends, spread q (time_before times i) (get_or times i 0)) in
     let r_before : r ≤ s * time_before times (i + suc n) + s * get_or times (i + suc n) 0 =
     omega (arith, ap (λ (t : ℕ). s * t) second_ends, spread s (time_before times (i + suc n)) (get_or times (i + suc n) 0)) in
@@ -348,9 +328,6 @@ at_one_piece v p q r s t ms a b c d x y c_is d_is p_is r_is within =
     d_in : pos d ≡ pos s *ℤ pos ms
     d_in = ap (λ (n : ℕ). pos n) d_is ∙ sym (product_of s ms)
 
-    same_product : {x y z w : ℤ} → x ≡ y → z ≡ w → x *ℤ z ≡ y *ℤ w
-    same_product {x} {y} {z} {w} p q = cc
-
     times : (p q r s t a b : ℕ) → p ≡ q * t + a → r ≡ s * t + b → pos q *ℤ pos b -ℤ pos s *ℤ pos a ≡ pos (r * q) -ℤ pos (p * s)
     times p q r s t a b p_is r_is = omega (arith, ints, ap (λ (n : ℕ). n * s) p_is, ap (λ (n : ℕ). n * q) r_is)
 
@@ -365,7 +342,7 @@ in_same_piece : (e v : ℕ) (start : ℤ) (pieces : List Piece) (p q r s i : ℕ
     (record { cue = i; a = r - s * time_before (durations pieces) i; c = s * get_or (durations pieces) i 0 })
 in_same_piece e v start pieces p q r s i slow inside p_from p_to r_from r_to order =
     let times : List ℕ = durations pieces in
-    let ends : time_before times (suc i) ≡ time_before times i + get_or times i 0 = time_before-suc times i (omega (arith, durations-count pieces)) in
+    let ends : time_before times (suc i) ≡ time_before times i + get_or times i 0 = time_before-suc times i (omega (arith, length-map pieces (λ (piece : Piece). piece.ms))) in
     let p_before : p ≤ q * time_before times i + q * get_or times i 0 = omega (arith, ap (λ (t : ℕ). q * t) ends, spread q (time_before times i) (get_or times i 0)) in
     let r_before : r ≤ s * time_before times i + s * get_or times i 0 = omega (arith, ap (λ (t : ℕ). s * t) ends, spread s (time_before times i) (get_or times i 0)) in
     at_one_piece v p q r s (time_before times i) (get_or times i 0) (p - q * time_before times i) (r - s * time_before times i) (q * get_or times i 0) (s * get_or times i 0)
@@ -406,14 +383,13 @@ absolute n b (pos k) within = within.1
 absolute n b (negsuc k) within = omega (arith, linear, within.0, mul_neg_ℤ (pos n) (pos (suc k)))
 
 time_at_most : (x : ℤ) → x ≤ℤ pos (unsigned_abs x)
-time_at_most (pos k) = omega (arith, ints)
-time_at_most (negsuc k) = omega (arith, ints)
+time_at_most x = omega (arith, ints)
 
 told : (v p q r s : ℕ) (start : ℤ) (pieces : List Piece) (m n : Moment) → within_speed v start pieces p q r s m n → Within v start pieces p q r s m n
 told v p q r s start pieces m n within =
     let t : ℤ = pos (r * q) -ℤ pos (p * s) in
     let k : ℤ = power (pos m.c) 7 *ℤ power (pos n.c) 7 in
-    let k_low : pos 0 ≤ℤ k = low_product (power (pos m.c) 7) (power (pos n.c) 7) (power_low (pos m.c) 7 (omega (arith, ints))) (power_low (pos n.c) 7 (omega (arith, ints))) in
+    let k_low : pos 0 ≤ℤ k = mul_not_negative (power (pos m.c) 7) (power (pos n.c) 7) (power_low (pos m.c) 7 (omega (arith, ints))) (power_low (pos n.c) 7 (omega (arith, ints))) in
     let more : (k *ℤ t) ≤ℤ (k *ℤ pos (unsigned_abs t)) = le_mul_ℤ k t (pos (unsigned_abs t)) k_low (time_at_most t) in
     let most : (pos v *ℤ (k *ℤ t)) ≤ℤ (pos v *ℤ (k *ℤ pos (unsigned_abs t))) = le_mul_pos v (k *ℤ t) (k *ℤ pos (unsigned_abs t)) more in
     let least : (pos (1000000 * (q * s)) *ℤ pos (unsigned_abs (power (pos m.c) 7 *ℤ decoded start pieces n -ℤ power (pos n.c) 7 *ℤ decoded start pieces m))) ≤ℤ (pos v *ℤ (t *ℤ k)) =
@@ -424,9 +400,7 @@ told v p q r s start pieces m n within =
     spread v t k = ap (λ (z : ℤ). z *ℤ k) (sym (product_of v t)) ∙ mul_assoc_ℤ (pos v) (pos t) k ∙ ap (λ (z : ℤ). pos v *ℤ z) (mul_comm_ℤ (pos t) k)
 
 unsigned-neg : (x : ℤ) → unsigned_abs (neg_ℤ x) ≡ unsigned_abs x
-unsigned-neg (pos zero) = refl
-unsigned-neg (pos (suc k)) = refl
-unsigned-neg (negsuc k) = refl
+unsigned-neg x = omega (arith, ints)
 
 -- the same with the instants exchanged
 turned_numbers : (v q s a b : ℕ) (k l x y : ℤ) → (pos (1000000 * (s * q)) *ℤ pos (unsigned_abs (l *ℤ x -ℤ k *ℤ y))) ≤ℤ (pos (v * unsigned_abs (pos a -ℤ pos b)) *ℤ (l *ℤ k)) →
@@ -473,9 +447,9 @@ pub keeps : (e v : ℕ) (start : ℤ) (pieces : List Piece) (p q r s : ℕ) → 
     Within v start pieces p q r s (moment (durations pieces) p q) (moment (durations pieces) r s)
 keeps e v start pieces p q r s slow some p_in r_in =
     let times : List ℕ = durations pieces in
-    let first : Lies times p q (moment times p q) = moment-lies times p q (omega (arith, durations-count pieces)) p_in in
-    let second : Lies times r s (moment times r s) = moment-lies times r s (omega (arith, durations-count pieces)) r_in in
+    let first : Lies times p q (moment times p q) = moment-lies times p q (omega (arith, length-map pieces (λ (piece : Piece). piece.ms))) p_in in
+    let second : Lies times r s (moment times r s) = moment-lies times r s (omega (arith, length-map pieces (λ (piece : Piece). piece.ms))) r_in in
     rw (first.is, second.is)
     (by_lt second.cue first.cue
-    (λ later. turned v p q r s start pieces _ _ (in_order e v start pieces r s p q second.cue first.cue slow (omega (arith, durations-count pieces, first.inside)) (omega arith) second.from second.to first.from first.to))
-    (λ before. in_order e v start pieces p q r s first.cue second.cue slow (omega (arith, durations-count pieces, second.inside)) before first.from first.to second.from second.to))
+    (λ later. turned v p q r s start pieces _ _ (in_order e v start pieces r s p q second.cue first.cue slow (omega (arith, length-map pieces (λ (piece : Piece). piece.ms), first.inside)) (omega arith) second.from second.to first.from first.to))
+    (λ before. in_order e v start pieces p q r s first.cue second.cue slow (omega (arith, length-map pieces (λ (piece : Piece). piece.ms), second.inside)) before first.from first.to second.from second.to))

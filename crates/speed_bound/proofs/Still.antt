@@ -12,6 +12,8 @@ use Rattle.traj_codec.specs.declared.traj.Traj.{Traj}
 use Rattle.traj_codec.specs.Spelling.{HasDuration}
 use Rattle.traj_codec.specs.Positions.{decoded, durations}
 use Rattle.traj_codec.specs.Joined.{own, IsLasting}
+use Rattle.traj_codec.proofs.JoinedLemmas.{lasting_of}
+use Rattle.fleet_curves.proofs.Standing.{at_place}
 use Rattle.sep_parts.specs.Apart.{AreApart, AreTogether, aside, between, gap, square, way}
 use Rattle.sep_parts.proofs.Cauchy.{square_positive}
 use Rattle.sep_parts.proofs.Lifts.{lift, own_some, seventh_positive, whole_of}
@@ -64,16 +66,6 @@ same_gap t u v x y C C' D' d e positive first second same =
     rest a b c z = rw (zero_mul_ℤ a, zero_mul_ℤ b, zero_mul_ℤ c) (omega (arith, linear))
 
 -- ---- trajectories
-moving_at : (trajs : List Traj) (a : ℕ) (t : Traj) → All IsMoving trajs → slice_get trajs a ≡ Some t → IsMoving t
-moving_at [] zero t all e = absurd (cc)
-moving_at [] (suc a) t all e = absurd (cc)
-moving_at (u ∷ trajs) zero t all e = let same : u ≡ t = cc in subst IsMoving same (All-head IsMoving u trajs all)
-moving_at (u ∷ trajs) (suc a) t all e = moving_at trajs a t (All-tail IsMoving u trajs all) e
-
-lasting_of : (segments : List Segment) → All HasDuration segments → All (λ ms. 1 ≤ ms) (durations segments)
-lasting_of [] all = All-nil (λ (ms : ℕ). 1 ≤ ms)
-lasting_of (s ∷ rest) all = All-cons (λ (ms : ℕ). 1 ≤ ms) s.ms (durations rest) (All-head HasDuration s rest all) (lasting_of rest (All-tail HasDuration s rest all))
-
 -- at the same instant, named by other fractions, a trajectory is at the same place
 same_place : (t : Traj) (axis p q s w : ℕ) → axis ≤ 2 → IsMoving t → 1 ≤ q → 1 ≤ w → p ≤ q * sum (durations t.segments) → s ≤ w * sum (durations t.segments) → AreTogether 0 p q s w → way t axis p q s w ≡ pos 0
 same_place t axis p q s w near moving q_some w_some p_in s_in together =
@@ -89,10 +81,10 @@ not_past p q s w n some same before = le_cancel p (q * n) w some (omega (arith, 
 
 pub still : StillLaw
 still r h trajs moving far a b t u differ t_is u_is p q s w q_some w_some p_before s_before together first second at_first at_second =
-    let t_moving : IsMoving t = moving_at trajs a t moving t_is in
-    let u_moving : IsMoving u = moving_at trajs b u moving u_is in
-    let t_lasts : IsLasting t = lasting_of t.segments t_moving.lasting in
-    let u_lasts : IsLasting u = lasting_of u.segments u_moving.lasting in
+    let t_moving : IsMoving t = at_place IsMoving trajs a t moving t_is in
+    let u_moving : IsMoving u = at_place IsMoving trajs b u moving u_is in
+    let t_lasts : IsLasting t = lasting_of t t_moving.lasting in
+    let u_lasts : IsLasting u = lasting_of u u_moving.lasting in
     let same : p * w ≡ s * q = omega (arith, together.before, together.after) in
     let u_before : p ≤ q * sum (durations u.segments) = not_past p q s w (sum (durations u.segments)) w_some same s_before in
     let exact : AreApart t u r h p q = far a b t u differ t_is u_is p q q_some p_before u_before in

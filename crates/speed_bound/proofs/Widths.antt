@@ -6,7 +6,7 @@ use Rattle.fleet_math.specs.Bernstein.{at}
 use Rattle.std.proofs.lemmas.Int.{ints}
 use Rattle.std.proofs.lemmas.Nat.{pow_pos, mul-le}
 use Rattle.std.proofs.lemmas.Grind.{div_ceil_times, common_steps}
-use Rattle.std.proofs.Math.Nat.{pow-suc}
+use Rattle.std.proofs.Math.Nat.{pow-suc, pow-zero}
 use Rattle.std.specs.Int.{div_ceil}
 use Rattle.bezier_core.specs.Steps.{IsWithin}
 use Rattle.halving.specs.Part.{part_value}
@@ -68,38 +68,63 @@ pub widest_step-same : (f g : ℕ → ℤ) → ((k : ℕ) → k ≤ 7 → f k �
 unfolding widest_step
 widest_step-same f g same = grind (arith, common_steps, greatest-same, unsigned_abs)
 
--- the parts of a half are parts of the whole
-widest-half : (e r : ℕ) (f g : ℕ → ℤ) → ((k : ℕ) → k ≤ 7 → g k ≡ part_value 1 r f k) →
-    widest_part e g ≡ greatest_below (2 ^ e) (λ index. widest_step (part_value (suc e) (2 ^ e * r + index) f))
-unfolding widest_part
-widest-half e r f g same =
-    greatest-same (2 ^ e) _ _ (λ index small. widest_step-same _ _
-    (λ k low. polar-same (7 - k) k g (part_value 1 r f) (pos index) (pos (index + 1)) (pos (2 ^ e)) (λ i near. same i (omega arith)) ∙ part-half e r index k f low))
+-- ---- what is greatest over the parts of a depth, of a word that depends on eight control values alone
+module _ (word : (ℕ → ℤ) → ℕ) (same : (f g : ℕ → ℤ) → ((k : ℕ) → k ≤ 7 → f k ≡ g k) → word f ≡ word g) where
+  -- the parts of a half are parts of the whole
+  parts-half : (e r : ℕ) (f g : ℕ → ℤ) → ((k : ℕ) → k ≤ 7 → g k ≡ part_value 1 r f k) →
+      greatest_below (2 ^ e) (λ index. word (part_value e index g)) ≡ greatest_below (2 ^ e) (λ index. word (part_value (suc e) (2 ^ e * r + index) f))
+  parts-half e r f g half =
+      greatest-same (2 ^ e) _ _ (λ index small. same _ _
+      (λ k low. polar-same (7 - k) k g (part_value 1 r f) (pos index) (pos (index + 1)) (pos (2 ^ e)) (λ i near. half i (omega arith)) ∙ part-half e r index k f low))
 
--- the widest step of a curve's parts is that of the parts of its halves
+  -- it is that of the parts of both halves
+  pub parts-halves : (e : ℕ) (f left right : ℕ → ℤ) → ((k : ℕ) → k ≤ 7 → left k ≡ part_value 1 0 f k) → ((k : ℕ) → k ≤ 7 → right k ≡ part_value 1 1 f k) →
+      max (greatest_below (2 ^ e) (λ index. word (part_value e index left))) (greatest_below (2 ^ e) (λ index. word (part_value e index right)))
+      ≡ greatest_below (2 ^ suc e) (λ index. word (part_value (suc e) index f))
+  parts-halves e f left right first second =
+      let doubled : 2 ^ suc e ≡ 2 ^ e + 2 ^ e = rw (pow-suc 2 e) (omega arith) in
+      rw (doubled)
+      (both (parts-half e 0 f left first ∙ greatest-same (2 ^ e) _ _ (λ index small. ap (λ (n : ℕ). word (part_value (suc e) n f)) (front (2 ^ e) index)))
+      (parts-half e 1 f right second ∙ greatest-same (2 ^ e) _ _ (λ index small. ap (λ (n : ℕ). word (part_value (suc e) n f)) (back (2 ^ e) index)))
+      ∙ sym (greatest-split (2 ^ e) (2 ^ e) (λ index. word (part_value (suc e) index f))))
+    where
+      both : {x y z w : ℕ} → x ≡ y → z ≡ w → max x z ≡ max y w
+      both {x} {y} {z} {w} p q = cc
+
+      front : (p index : ℕ) → p * 0 + index ≡ index
+      front p index = omega arith
+
+      back : (p index : ℕ) → p * 1 + index ≡ p + index
+      back p index = omega arith
+
+  -- the whole is its own part
+  pub parts-whole : (f : ℕ → ℤ) → word f ≡ greatest_below (2 ^ 0) (λ index. word (part_value 0 index f))
+  parts-whole f = same f (part_value 0 0 f) (λ k small. sym (part-whole f k)) ∙ omega arith
+
+  -- where that of a half is at most n times that of the whole, that of a part is at most n to the depth times that of the whole
+  pub parts-shrink : (n : ℕ) → ((r : ℕ) (f : ℕ → ℤ) → r ≤ 1 → word (part_value 1 r f) ≤ n * word f) → (e : ℕ) (f : ℕ → ℤ) →
+      greatest_below (2 ^ e) (λ index. word (part_value e index f)) ≤ n ^ e * word f
+  parts-shrink n shrinks zero f = rw (← parts-whole f, pow-zero n) (omega arith)
+  parts-shrink n shrinks (suc e) f =
+      rw (← parts-halves e f (part_value 1 0 f) (part_value 1 1 f) (λ k small. refl) (λ k small. refl), pow-suc n e)
+      (both (n ^ e) (word f) _ _ _ _ (parts-shrink n shrinks e (part_value 1 0 f)) (shrinks 0 f (omega arith)) (parts-shrink n shrinks e (part_value 1 1 f)) (shrinks 1 f (omega arith)))
+    where
+      both : (p w a b x y : ℕ) → a ≤ p * x → x ≤ n * w → b ≤ p * y → y ≤ n * w → max a b ≤ p * n * w
+      both p w a b x y first second third fourth =
+          let one : p * x ≤ p * (n * w) = mul-le p x p (n * w) (omega arith) second in
+          let two : p * y ≤ p * (n * w) = mul-le p y p (n * w) (omega arith) fourth in
+          let same : p * (n * w) ≡ p * n * w = omega arith in
+          omega (arith, one, two, first, third, same)
+
+-- ---- widest steps of parts
 pub widest-halves : (e : ℕ) (f left right : ℕ → ℤ) → ((k : ℕ) → k ≤ 7 → left k ≡ part_value 1 0 f k) → ((k : ℕ) → k ≤ 7 → right k ≡ part_value 1 1 f k) →
     max (widest_part e left) (widest_part e right) ≡ widest_part (suc e) f
 unfolding widest_part
-widest-halves e f left right first second =
-    let doubled : 2 ^ suc e ≡ 2 ^ e + 2 ^ e = rw (pow-suc 2 e) (omega arith) in
-    rw (doubled)
-    (both (widest-half e 0 f left first ∙ greatest-same (2 ^ e) _ _ (λ index small. ap (λ (n : ℕ). widest_step (part_value (suc e) n f)) (front (2 ^ e) index)))
-    (widest-half e 1 f right second ∙ greatest-same (2 ^ e) _ _ (λ index small. ap (λ (n : ℕ). widest_step (part_value (suc e) n f)) (back (2 ^ e) index)))
-    ∙ sym (greatest-split (2 ^ e) (2 ^ e) (λ index. widest_step (part_value (suc e) index f))))
-  where
-    both : {x y z w : ℕ} → x ≡ y → z ≡ w → max x z ≡ max y w
-    both {x} {y} {z} {w} p q = cc
+widest-halves = parts-halves widest_step widest_step-same
 
-    front : (p index : ℕ) → p * 0 + index ≡ index
-    front p index = omega arith
-
-    back : (p index : ℕ) → p * 1 + index ≡ p + index
-    back p index = omega arith
-
--- the whole is its own part
 pub widest-whole : (f : ℕ → ℤ) → widest_step f ≡ widest_part 0 f
 unfolding widest_part
-widest-whole f = widest_step-same f (part_value 0 0 f) (λ k small. sym (part-whole f k)) ∙ omega arith
+widest-whole = parts-whole widest_step widest_step-same
 
 -- how wide a step is
 step_most : (b : ℕ) (x y : ℤ) → IsWithin (pos b) x → IsWithin (pos b) y → unsigned_abs (y -ℤ x) ≤ 2 * b

@@ -4,15 +4,16 @@ ghost use Rattle.std.specs.Prelude.{◌≡◌, ℕ, ◌+◌, ◌*◌, ◌/◌, �
 ghost use Rattle.fleet_math.specs.Numbers.{IsBelow};
 ghost use Rattle.fleet_math.specs.Bernstein.{at};
 ghost use Rattle.fleet_math.specs.Limits.{most_depth};
-ghost use Rattle.traj_codec.specs.Spelling.{HasDuration};
+ghost use Rattle.bezier_core.specs.Raised.{raised};
+ghost use Rattle.traj_codec.specs.Spelling.{HasDuration, stored};
 ghost use Rattle.fleet_curves.specs.Steps.{IsFormed};
 ghost use Rattle.speed_bound.specs.Speed.{KeepsSpeed, segment_speed, speed, speed_of};
 
 use crate::parts::{widest_part, widest_step};
 use bezier_core::Bez;
-use fleet_curves::{raised_segment, value_after};
+use fleet_curves::{raised, value_after};
 use fleet_math::Depth;
-use traj_codec::Traj;
+use traj_codec::{Element, Traj};
 
 /// How fast a trajectory is at most on x, y and z, in micrometres per second: on each axis the greatest over its
 /// segments and their 2^`depth` parts of the least whole number that is not below 7 * 10^6 * 2^depth * m / (5040 * 2^(7
@@ -49,15 +50,29 @@ pub fn faster(t: &Traj, depth: Depth, least: [u64; 3]) -> [u64; 3]
     let mut fastest_y = least[1];
     let mut fastest_z = least[2];
     for s in t.segments.as_slice() {
-        let curves = raised_segment(x, y, z, s);
-        fastest_x = segment_speed(&curves[0], s.ms, depth, fastest_x);
-        fastest_y = segment_speed(&curves[1], s.ms, depth, fastest_y);
-        fastest_z = segment_speed(&curves[2], s.ms, depth, fastest_z);
+        fastest_x = element_speed(x, s.elements[0], s.ms, depth, fastest_x);
+        fastest_y = element_speed(y, s.elements[1], s.ms, depth, fastest_y);
+        fastest_z = element_speed(z, s.elements[2], s.ms, depth, fastest_z);
         x = value_after(x, s.elements[0]);
         y = value_after(y, s.elements[1]);
         z = value_after(z, s.elements[2]);
     }
     [fastest_x, fastest_y, fastest_z]
+}
+
+// The greater of a given speed and of the bound of an element that begins with this value and lasts `ms` milliseconds. One that stays at it
+// isn't raised.
+fn element_speed(first: i16, element: Element, ms: u16, depth: Depth, least: u64) -> u64
+    requires lasting { 1 ≤ ms }
+    requires least { least < 2 ^ 50 }
+    ensures exact { result ≡ max least (segment_speed depth ms (at (raised (first ∷ stored element)))) }
+    ensures formed { length (stored element) ≤ 7 }
+    ensures small { result < 2 ^ 50 }
+{
+    match element {
+        Element::Constant => least,
+        _ => segment_speed(&raised(first, element), ms, depth, least),
+    }
 }
 
 // The greater of a given speed and of the greatest on the parts of a segment that lasts `ms` milliseconds, in micrometres per second. The

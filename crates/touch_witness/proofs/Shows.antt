@@ -3,6 +3,7 @@ use Rattle.std.proofs.lemmas.Grind.{common_steps}
 use Rattle.std.proofs.Common.{◌≡◌, ℕ, zero, suc, ◌+◌, ◌-◌, ◌*◌, ◌^◌, ◌≤◌, ◌<◌, ℤ, pos, ◌+ℤ◌, ◌-ℤ◌, ◌*ℤ◌, ◌≤ℤ◌, ◌<ℤ◌, arith, refl, sym, subst, ◌∙◌, ap, List, [], ◌∷◌, length, map, get_or, All, sum, Some, slice_get}
 use Rattle.std.proofs.lemmas.Int.{ints}
 use Rattle.std.proofs.lemmas.Nat.{mul-le, pow_pos}
+use Rattle.std.proofs.lemmas.List.{length-map}
 use Rattle.std.proofs.lemmas.List.Sums.{sum_by-cons}
 use Rattle.std.proofs.lemmas.List.Elements.{All-head, All-tail, All-nil, All-cons}
 use Rattle.fleet_math.specs.Sums.{power}
@@ -180,10 +181,6 @@ instant_there times cue at q lasting inside fraction some =
     let lies : Lies times (instant_of times cue at q) q (moment times (instant_of times cue at q) q) = moment-lies times (instant_of times cue at q) q (omega arith) (instant_inside times cue at q inside fraction) in
     there times cue at q (instant_of times cue at q) lies.cue (moment times (instant_of times cue at q) q) lasting inside fraction some refl lies.inside lies.is lies.from lies.to
 
-durations-count : (pieces : List Piece) → length (durations pieces) ≡ length pieces
-durations-count [] = refl
-durations-count (piece ∷ rest) = omega (arith, durations-count rest)
-
 -- the position at the instant is that at the fraction
 same_position : (start : ℤ) (pieces : List Piece) (cue a q : ℕ) (m : Moment) → All IsPiece pieces → cue < length pieces → IsThere (durations pieces) cue a q m →
     Same (power (pos q) 7) (decoded start pieces (record { cue = cue; a = a; c = q })) (power (pos m.c) 7) (decoded start pieces m)
@@ -191,7 +188,7 @@ same_position start pieces cue a q m formed inside (here is) =
     subst (λ (n : Moment). Same (power (pos q) 7) (decoded start pieces (record { cue = cue; a = a; c = q })) (power (pos n.c) 7) (decoded start pieces n)) (sym is)
     (same_here start pieces cue a q (get_or (durations pieces) cue 0) formed inside)
 same_position start pieces cue a q m formed inside (before i next none c is) = grind (arith, common_steps, pos, same_before)
-same_position start pieces cue a q m formed inside (behind all c next is) = grind (arith, common_steps, pos, same_behind, durations-count)
+same_position start pieces cue a q m formed inside (behind all c next is) = grind (arith, common_steps, pos, same_behind, length-map)
 
 -- ---- two drones
 high_ring : (h r k x y z : ℤ) → h *ℤ ((k *ℤ x) *ℤ (k *ℤ x) +ℤ (k *ℤ y) *ℤ (k *ℤ y)) +ℤ r *ℤ ((k *ℤ z) *ℤ (k *ℤ z)) ≡ (h *ℤ (x *ℤ x +ℤ y *ℤ y) +ℤ r *ℤ (z *ℤ z)) *ℤ (k *ℤ k)
@@ -314,10 +311,6 @@ pieces_formed axis (s ∷ rest) near lasting formed =
     (record { lasts = All-head (λ (ms : ℕ). 1 ≤ ms) s.ms (traj.durations rest) lasting; few = All-head IsFormed s rest formed axis near })
     (pieces_formed axis rest near (All-tail (λ (ms : ℕ). 1 ≤ ms) s.ms (traj.durations rest) lasting) (All-tail IsFormed s rest formed))
 
-length-map : (axis : ℕ) (segments : List Segment) → length (map (piece_on axis) segments) ≡ length segments
-length-map axis [] = refl
-length-map axis (s ∷ rest) = ap suc (length-map axis rest)
-
 -- a drone at the instant of a fraction
 drone_same : (t : Traj) (times : List ℕ) (cue a q axis : ℕ) → axis ≤ 2 → traj.durations t.segments ≡ times → All (λ ms. 1 ≤ ms) times → All IsFormed t.segments → cue < length times → a ≤ q → 1 ≤ q →
     Same (power (pos q) 7) (traj.decoded t axis (record { cue = cue; a = a; c = q })) (power (pos (moment times (instant_of times cue a q) q).c) 7) (traj.decoded t axis (moment times (instant_of times cue a q) q))
@@ -325,7 +318,7 @@ drone_same t times cue a q axis near is lasting formed inside fraction some =
     let on : durations (pieces_on axis t) ≡ times = durations_on axis t.segments ∙ is in
     same_position (at t.start axis) (pieces_on axis t) cue a q (moment times (instant_of times cue a q) q)
     (pieces_formed axis t.segments near (subst (λ (ns : List ℕ). All (λ ms. 1 ≤ ms) ns) (sym is) lasting) formed)
-    (omega (arith, inside, ap (λ (ns : List ℕ). length ns) on, durations-count (pieces_on axis t)))
+    (omega (arith, inside, ap (λ (ns : List ℕ). length ns) on, length-map (pieces_on axis t) (λ (piece : Piece). piece.ms)))
     (subst (λ (ns : List ℕ). IsThere ns cue a q (moment times (instant_of times cue a q) q)) (sym on) (instant_there times cue a q lasting inside fraction some))
 
 -- ---- a pair of drones of one show

@@ -1,3 +1,4 @@
+use Rattle.std.proofs.lemmas.Grind.{common_steps}
 use Rattle.std.proofs.Common.{arith, rules, ◌≡◌, ◌+◌, ◌*◌, ◌^◌, ℤ, pos, sym, subst, ◌∙◌, ap, List, length, All}
 use Rattle.fleet_math.specs.Bernstein.{at}
 use Rattle.fleet_math.proofs.BernsteinLemmas.{bernstein-zero}
@@ -9,11 +10,7 @@ use Rattle.halving.proofs.HalfLemmas.{half_below}
 use Rattle.halving.proofs.halve_by.Goals as goal
 
 pub next_row-requires-clause-before : goal.next_row-requires-clause-before
-next_row-requires-clause-before g c = record {
-  rows = λ i small. sym (bernstein-zero (λ j. at c.args.b.now.b (i + j)) (pos 1) (pos 2) ∙ ap (at c.args.b.now.b) (omega arith));
-  left_half = λ j none. absurd (omega arith);
-  right_half = λ j high low. absurd (omega arith);
-}
+next_row-requires-clause-before g c = grind (arith, common_steps, bernstein-zero)
 
 pub returns-clause-left : goal.returns-clause-left
 returns-clause-left g c =

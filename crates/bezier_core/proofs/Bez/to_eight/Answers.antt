@@ -1,5 +1,6 @@
-use Rattle.std.proofs.Common.{arith, rules, ◌≡◌, ◌≤◌, ◌-◌, ◌*◌, ◌^◌, ℤ, pos, ◌*ℤ◌, sym, subst, ◌∙◌, List, length, All, lit<}
-use Rattle.std.proofs.lemmas.Int.{ints}
+use Rattle.std.proofs.Common.{arith, rules, ◌≡◌, ◌≤◌, ◌-◌, ◌*◌, ◌^◌, ℤ, pos, ◌*ℤ◌, sym, subst, ◌∙◌, FitsSigned, List, length, All, lit<}
+use Rattle.std.proofs.lemmas.Int.{ints, to_z-of_z}
+use mir.Syntax.{w128}
 use Rattle.fleet_math.specs.Bernstein.{at}
 use Rattle.fleet_math.specs.Numbers.{IsBelow}
 use Rattle.bezier_core.specs.Steps.{IsWithin}
@@ -7,7 +8,8 @@ use Rattle.bezier_core.specs.Raised.{fact, raised_value}
 use Rattle.bezier_core.proofs.BlendLemmas.{length_bounds}
 use Rattle.bezier_core.proofs.EightLemmas.{below_at, eight_from_entries}
 use Rattle.bezier_core.proofs.RaisedLemmas.{raised_by-small, raised_by-seven, next_matches}
-use Rattle.bezier_core.proofs.SizeLemmas.{eight_below, raised_below}
+use Rattle.bezier_core.proofs.CurveLemmas.{raised-level}
+use Rattle.bezier_core.proofs.SizeLemmas.{raised_small}
 use Rattle.bezier_core.proofs.Bez.to_eight.Goals as goal
 
 within_of : (x : ℤ) → IsBelow (2 ^ 100) x → IsWithin (pos (2 ^ 100)) x
@@ -29,6 +31,18 @@ loop-degree-preserved g c = record {
       ∙ next_matches (g.row.N - 1) c.loop-degree.degree k (at c.loop-degree.row) (λ i. pos (fact (g.row.N - 1)) *ℤ at c.args.self.now.b i) c.loop-degree.invariant.low small c.loop-degree.invariant.values;
 }
 
+pub returns-then-this-eq1-clause-exact : goal.returns-then-this-eq1-clause-exact
+returns-then-this-eq1-clause-exact g c =
+    let len : length c.args.self.now.b ≡ g.row.N = search rules in
+    let fits : FitsSigned w128 (at c.args.self.now.b 0) = search rules in
+    (simp to_z-of_z at c.level.ensures) ∙ sym (raised-level c.args.self.now.b (len ∙ c.if-this-eq1.true))
+
+pub returns-then-this-eq1-clause-small : goal.returns-then-this-eq1-clause-small
+returns-then-this-eq1-clause-small g c n some below =
+    let len : length c.args.self.now.b ≡ g.row.N = search rules in
+    subst (λ (xs : List ℤ). All (IsBelow (5040 * n)) xs) (sym (returns-then-this-eq1-clause-exact g c))
+    (raised_small n c.args.self.now.b (omega (arith, c.if-this-eq1.true)) some below)
+
 pub returns-clause-exact : goal.returns-clause-exact
 returns-clause-exact g c =
     let bounds : (1 ≤ g.row.N) × (g.row.N ≤ 8) = length_bounds g.row.N c.requires.length in
@@ -41,7 +55,4 @@ pub returns-clause-small : goal.returns-clause-small
 returns-clause-small g c n some below =
     let bounds : (1 ≤ g.row.N) × (g.row.N ≤ 8) = length_bounds g.row.N c.requires.length in
     let len : length c.args.self.now.b ≡ g.row.N = search rules in
-    let few : length c.args.self.now.b - 1 ≤ 7 = omega arith in
-    subst (λ (xs : List ℤ). All (IsBelow (5040 * n)) xs) (sym (returns-clause-exact g c))
-    (eight_below (5040 * n) (raised_value (length c.args.self.now.b - 1) (at c.args.self.now.b))
-    (λ k small. raised_below (length c.args.self.now.b - 1) n k (at c.args.self.now.b) few some small (λ i near. below_at n c.args.self.now.b i some below)))
+    subst (λ (xs : List ℤ). All (IsBelow (5040 * n)) xs) (sym (returns-clause-exact g c)) (raised_small n c.args.self.now.b (omega arith) some below)
