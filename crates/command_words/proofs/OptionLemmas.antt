@@ -1,5 +1,6 @@
 -- Words are read as options exactly where they are these options, and the walk over them finds what the definition finds.
-use Rattle.std.proofs.Common.{◌≡◌, ℕ, Bool, true, false, cond, List, [], ◌∷◌, ◌++◌, Option, Some, None, refl, sym, ap, subst, ◌∙◌}
+use Rattle.std.proofs.lemmas.Grind.{common_steps}
+use Rattle.std.proofs.Common.{◌≡◌, ℕ, Bool, true, false, cond, List, [], ◌∷◌, ◌++◌, Option, Some, None, refl, sym, ap, subst, ◌∙◌, arith}
 use Rattle.std.specs.Prelude.{bytes_eq, find, is_some}
 use Rattle.std.specs.Option.{option_map, option_and_then}
 use Rattle.std.proofs.lemmas.Slice.Eq.{bytes_eq-Decides}
@@ -18,9 +19,7 @@ flag_then word g (value ∷ words) is =
 
 -- an option with its number before other words is an option before theirs
 pub valued_then : (word value : List ℕ) (g : Given) (rest : List (List ℕ)) → flag word ≡ None → valued word value ≡ Some g → options_of (word ∷ value ∷ rest) ≡ before (Some g) (options_of rest)
-valued_then word value g rest none is =
-    ap (λ (f : Option Given). cond (is_some f) (before f (options_of (value ∷ rest))) (before (valued word value) (options_of rest))) none
-    ∙ ap (λ (f : Option Given). before f (options_of rest)) is
+valued_then word value g rest none is = grind (arith, common_steps, cond)
 
 -- ---- words that are options are read
 
@@ -46,13 +45,8 @@ valued_word Jump value = refl
 
 -- one option, spelled by its words, before others
 head : (g : Given) (front rest : List (List ℕ)) (r : Option Range) → range_of g.name ≡ r → SpellsWith g front r → options_of (front ++ rest) ≡ before (Some g) (options_of rest)
-head g front rest None is (front_is, one) =
-    ap (λ (f : List (List ℕ)). options_of (f ++ rest)) front_is
-    ∙ flag_then (word_of g.name) g rest (flag_word g.name ∙ ap (flag_with g.name) is ∙ ap (λ (n : ℕ). Some (record { name = g.name; value = n })) (sym one))
-head g front rest (Some r) is (value, front_is, n_is) =
-    ap (λ (f : List (List ℕ)). options_of (f ++ rest)) front_is
-    ∙ valued_then (word_of g.name) value g rest (flag_word g.name ∙ ap (flag_with g.name) is)
-    (valued_word g.name value ∙ ap (valued_with g.name value) is ∙ ap (option_map (λ (n : ℕ). record { name = g.name; value = n })) n_is)
+head g front rest None is (front_is, one) = grind (arith, common_steps, flag_then, flag_word)
+head g front rest (Some r) is (value, front_is, n_is) = grind (arith, common_steps, valued_then, flag_word, valued_word)
 
 reads : (gs : List Given) (words : List (List ℕ)) → SpellsOptions gs words → options_of words ≡ Some gs
 reads [] words is = ap options_of is

@@ -16,14 +16,6 @@ record IsRead (rest : List ℕ) : Type 0 where
       (slice_index rest 4 ∷ slice_index rest 5 ∷ slice_index rest 6 ∷ slice_index rest 7 ∷ []))
 
 fields : (rest : List ℕ) → 8 ≤ length rest → AreBytes rest → IsRead rest
-fields [] long small = absurd (omega arith)
-fields (i ∷ []) long small = absurd (omega arith)
-fields (i ∷ l ∷ []) long small = absurd (omega arith)
-fields (i ∷ l ∷ f ∷ []) long small = absurd (omega arith)
-fields (i ∷ l ∷ f ∷ a ∷ []) long small = absurd (omega arith)
-fields (i ∷ l ∷ f ∷ a ∷ b ∷ []) long small = absurd (omega arith)
-fields (i ∷ l ∷ f ∷ a ∷ b ∷ c ∷ []) long small = absurd (omega arith)
-fields (i ∷ l ∷ f ∷ a ∷ b ∷ c ∷ d ∷ []) long small = absurd (omega arith)
 fields (i ∷ l ∷ f ∷ a ∷ b ∷ c ∷ d ∷ p ∷ tail) long small = record {
   define = (
     tail,
@@ -32,6 +24,7 @@ fields (i ∷ l ∷ f ∷ a ∷ b ∷ c ∷ d ∷ p ∷ tail) long small = recor
   );
   start = (tail, refl, refl);
 }
+fields rest long small = absurd (omega arith)
 
 -- a test that holds says that the numbers are equal
 same : (a b : ℕ) → (a == b) ≡ true → a ≡ b
@@ -58,12 +51,8 @@ define_read id location form offset pieces rest fits = grind (arith, common_step
 -- a start that is written out is read as itself
 start_read : (mask relative reversed id : ℕ) (scale rest : List ℕ) → length scale ≡ 4 →
     command_of (START ∷ mask ∷ relative ∷ reversed ∷ id ∷ (scale ++ rest)) ≡ Ok (Start mask relative reversed id scale)
-start_read mask relative reversed id [] rest four = absurd (omega arith)
-start_read mask relative reversed id (a ∷ []) rest four = absurd (omega arith)
-start_read mask relative reversed id (a ∷ b ∷ []) rest four = absurd (omega arith)
-start_read mask relative reversed id (a ∷ b ∷ c ∷ []) rest four = absurd (omega arith)
 start_read mask relative reversed id (a ∷ b ∷ c ∷ d ∷ []) rest four = grind (arith, common_steps, le-ltb)
-start_read mask relative reversed id (a ∷ b ∷ c ∷ d ∷ e ∷ scale) rest four = absurd (omega arith)
+start_read mask relative reversed id scale rest four = absurd (omega arith)
 
 pub spelled : (payload : List ℕ) (command : Command) → SpellsCommand payload command → command_of payload ≡ Ok command
 spelled payload (Define id location form offset pieces) s = ap command_of s.1 ∙ define_read id location form offset pieces s.0 s.2

@@ -25,17 +25,12 @@ record IsPlaced (payload : List ℕ) : Type 0 where
   behind : drop 5 payload ≡ slice_index payload 5 ∷ drop 6 payload
 
 placed : (payload : List ℕ) → 6 ≤ length payload → AreBytes payload → IsPlaced payload
-placed [] long small = absurd (omega arith)
-placed (i ∷ []) long small = absurd (omega arith)
-placed (i ∷ a ∷ []) long small = absurd (omega arith)
-placed (i ∷ a ∷ b ∷ []) long small = absurd (omega arith)
-placed (i ∷ a ∷ b ∷ c ∷ []) long small = absurd (omega arith)
-placed (i ∷ a ∷ b ∷ c ∷ d ∷ []) long small = absurd (omega arith)
 placed (i ∷ a ∷ b ∷ c ∷ d ∷ x ∷ rest) long small = record {
   whole = ap (λ (bs : List ℕ). i ∷ (bs ++ x ∷ rest)) (sym (four_bytes a b c d (x ∷ rest) (small 1) (small 2) (small 3) (small 4)));
   fits = number_fits a b c d (x ∷ rest) (small 1) (small 2) (small 3) (small 4);
   behind = refl;
 }
+placed payload long small = absurd (omega arith)
 
 -- a test of port and channel that holds says them
 at_true : (header p c : ℕ) → is_at header p c ≡ true → IsAt header p c
@@ -70,11 +65,8 @@ spells-down (header ∷ payload) some small =
 -- four bytes or more are three bytes, a byte and the rest
 answer_whole : (payload : List ℕ) → 4 ≤ length payload →
     payload ≡ (slice_index payload 0 ∷ slice_index payload 1 ∷ slice_index payload 2 ∷ []) ++ slice_index payload 3 ∷ drop 4 payload
-answer_whole [] long = absurd (omega arith)
-answer_whole (a ∷ []) long = absurd (omega arith)
-answer_whole (a ∷ b ∷ []) long = absurd (omega arith)
-answer_whole (a ∷ b ∷ c ∷ []) long = absurd (omega arith)
 answer_whole (a ∷ b ∷ c ∷ d ∷ rest) long = refl
+answer_whole payload long = absurd (omega arith)
 
 pub spells-up : (packet : List ℕ) → 1 ≤ length packet → AreBytes packet → IfOk (up_of packet) (SpellsUp packet)
 spells-up [] some small = absurd (omega arith)

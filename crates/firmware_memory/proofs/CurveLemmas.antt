@@ -79,8 +79,7 @@ not_zero t used place fault r is none decoded = grind (arith, common_steps)
 -- what follows where nothing is found
 pub none_weaker : {T E : Type 0} (r : Result (Option T) E) (P Q : Type 0) → (P → Q) → IfOk r (λ o. IfNone o P) → IfOk r (λ o. IfNone o Q)
 none_weaker (Ok None) P Q f p = f p
-none_weaker (Ok (Some x)) P Q f p = tt
-none_weaker (Err e) P Q f p = tt
+none_weaker r P Q f p = tt
 
 -- what stands at a place of the table
 pub listed_at : (table : List (Option Def)) (id : ℕ) (o : Option Def) → id < length table → get_or table id None ≡ o → slice_get table id ≡ Some o

@@ -1,11 +1,6 @@
 -- Bytes that are cut at places.
-use Rattle.std.proofs.lemmas.Grind.{common_steps}
-use Rattle.std.proofs.Common.{◌≡◌, ℕ, zero, suc, ◌+◌, ◌-◌, ◌<◌, ◌≤◌, List, [], ◌∷◌, ◌++◌, length, take, drop, get_or, refl, ap, ◌∙◌, arith, Some, None}
-use Rattle.std.specs.Prelude.{slice_get, slice_range}
+use Rattle.fleet_world.proofs.Prelude.{common_steps, ◌≡◌, ℕ, zero, suc, ◌+◌, ◌-◌, ◌<◌, ◌≤◌, List, [], ◌∷◌, ◌++◌, length, take, drop, get_or, refl, ap, ◌∙◌, arith, Some, None, slice_get, slice_range, drop-append-le, take-append-le, take_all, length-drop, slice_get_past, begin_of, cut, AreEnds}
 use Rattle.std.proofs.Math.Seq.{drop-append_seam}
-use Rattle.std.proofs.lemmas.List.{drop-append-le, take-append-le, take_all, length-drop}
-use Rattle.std.proofs.lemmas.Option.{slice_get_past}
-use Rattle.fleet_world.specs.Steps.{begin_of, cut, AreEnds}
 
 ends-after : (from to : ℕ) (ends : List ℕ) → AreEnds from ends to → from ≤ to
 ends-after from to [] h = omega arith

@@ -1,3 +1,4 @@
+mod Prelude
 pub mod CutLemmas
 pub mod RowLemmas
 pub mod Points

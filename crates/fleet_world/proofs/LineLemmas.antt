@@ -1,14 +1,9 @@
 -- A line of a schedule, read alone.
-use Rattle.std.proofs.Common.{◌≡◌, ◌⊎◌, inl, inr, ℕ, ◌+◌, ◌<◌, ◌≤◌, Bool, true, false, List, [], ◌∷◌, length, take, drop, get_or, refl, sym, ap, ◌∙◌, arith}
-use Rattle.std.specs.Prelude.{nat_lt}
+use Rattle.fleet_world.proofs.Prelude.{◌≡◌, ◌⊎◌, inl, inr, ℕ, ◌+◌, ◌<◌, ◌≤◌, Bool, true, false, List, [], ◌∷◌, length, take, drop, get_or, refl, sym, ap, ◌∙◌, arith, nat_lt, get_or-take, length-take, take_all, Absent, is_line_feed, lines_of, Line, line_with, numbered, words_of}
 use Rattle.std.specs.List.{position_or_len}
 use Rattle.std.proofs.lemmas.Bool.Decides.{nat_tests}
-use Rattle.std.proofs.lemmas.List.{get_or-take, length-take, take_all}
 use Rattle.std.proofs.lemmas.List.Sums.{position_or_len_is, fails_before_first}
-use Rattle.text_lines.specs.declared.token.Comments.TheVariants.{Absent}
 use Rattle.text_lines.specs.declared.token.Token.{Token}
-use Rattle.text_lines.specs.Lines.{is_line_feed, lines_of}
-use Rattle.text_lines.specs.Words.{Line, line_with, numbered, words_of}
 use Rattle.text_lines.specs.Tokens.{lines_in, tokens_of, words_in}
 use Rattle.text_lines.proofs.Cuts.{line_last, line_more, position_within}
 use Rattle.text_lines.proofs.Grouped.{lines_grouped}

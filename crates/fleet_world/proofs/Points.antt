@@ -1,29 +1,13 @@
 -- From one point of an upload to the next.
-use Rattle.std.proofs.lemmas.Grind.{common_steps}
-use Rattle.std.proofs.Common.{◌≡◌, ◌≢◌, ◌==◌, ℕ, zero, suc, replicate, ◌<◌, Bool, cond, ltb, List, [], ◌∷◌, ◌++◌, length, map, filter, refl, ap, sym, subst, ◌∙◌, arith, Option, ◌≤◌, ◌⊎◌, Result, Ok, Err, inl, inr}
-use Rattle.std.specs.Prelude.{slice_get, slice_set, All, OnOk, OnErr, IfOk}
-use Rattle.std.proofs.lemmas.List.{length-set, map-append, append-nil}
-use Rattle.std.proofs.lemmas.List.Elements.{filter-append, All-nil, All-cons, All-head, All-tail, All-append}
-use Rattle.std.proofs.lemmas.Bool.{le-ltb, lt-ltb, eq-eqb, ne_eqb, cases_eq, cond-true, cond-false, and_left, and_right, and_from}
+use Rattle.fleet_world.proofs.Prelude.{common_steps, ◌≡◌, ◌≢◌, ◌==◌, ℕ, zero, suc, replicate, ◌<◌, Bool, cond, ltb, List, [], ◌∷◌, ◌++◌, length, map, filter, refl, ap, sym, subst, ◌∙◌, arith, Option, ◌≤◌, ◌⊎◌, Result, Ok, Err, inl, inr, slice_get, slice_set, All, OnOk, IfOk, length-set, map-append, append-nil, filter-append, All-nil, All-cons, All-head, All-tail, All-append, le-ltb, lt-ltb, eq-eqb, ne_eqb, cases_eq, cond-true, cond-false, and_left, and_right, and_from, Sent, Going, Tick, Take, Hear, Alter, handled, Upload, IsSession, drone_count, packet_count, packet_at, flight, out as out_of, progress as progress_of, packets_for, changed, took, take_named, hear_named, option_list, altered, start_world, host_event, happens, shown, HostState, IsPacketOf, view_of, row_of, packets_at, numbers_for, AreNumbersOf, WorldState, WorldStandsAt, state_of, state_at}
 use Rattle.upload_model.specs.declared.events.Event.{Event}
 use Rattle.upload_model.specs.declared.events.Event.TheVariants as event
-use Rattle.upload_model.specs.declared.events.Sent.{Sent}
 use Rattle.upload_model.specs.declared.events.Progress.{Progress}
-use Rattle.upload_model.specs.declared.events.Progress.TheVariants.{Going}
-use Rattle.upload_model.specs.declared.events.WorldEvent.TheVariants.{Tick, Take, Hear, Alter}
-use Rattle.upload_model.specs.Drones.{handled}
-use Rattle.upload_model.specs.Sessions.{Upload, IsSession, drone_count, packet_count, packet_at}
-use Rattle.upload_model.specs.Hosts.{flight, out as out_of, progress as progress_of}
 use Rattle.upload_model.specs.Worlds as Worlds
-use Rattle.upload_model.specs.Worlds.{packets_for, changed, took, take_named, hear_named, option_list, altered, start_world, host_event, happens}
 use Rattle.upload_model.proofs.HostSteps.{progress-nil}
 use Rattle.upload_model.proofs.OneDrone.{slice_get-set_same, slice_get-set_other}
 use Rattle.firmware_memory.specs.declared.drone.Drone.{Drone}
-use Rattle.firmware_memory.specs.Shown.{shown}
-use Rattle.upload_core.specs.HostState.{HostState, IsPacketOf, view_of}
 use Rattle.upload_core.specs.HostStandsFor.{HostStandsFor}
-use Rattle.fleet_world.specs.Traffics.{row_of, packets_at, numbers_for, AreNumbersOf}
-use Rattle.fleet_world.specs.WorldState.{WorldState, WorldStandsAt, state_of, state_at}
 
 -- the rows after these packets were put after those of their drones
 abbrev pub AfterPut : List Sent → List (List ℕ) → List (List ℕ) → Type 0
@@ -121,10 +105,6 @@ tick-happens s w = refl
 pub on_ok : {A B : Type 0} (r : Result A B) (P Q : Type 0) → OnOk r P → (P → Q) → OnOk r Q
 on_ok (Ok x) P Q h f = f h
 on_ok (Err e) P Q h f = h
-
-pub on_err : {A B : Type 0} (r : Result A B) (P Q : Type 0) → OnErr r P → (P → Q) → OnErr r Q
-on_err (Ok x) P Q h f = h
-on_err (Err e) P Q h f = f h
 
 pub if_ok : {A B : Type 0} (r : Result A B) (P Q : A → Type 0) (S : Type 0) → IfOk r P → OnOk r S → ((x : A) → P x → S → Q x) → IfOk r Q
 if_ok (Ok x) P Q S p s f = f x p s

@@ -1,10 +1,5 @@
 -- What each drone has, drone by drone, and traffic that changes at one of them.
-use Rattle.std.proofs.Common.{◌≡◌, ◌≢◌, ℕ, ◌+◌, ◌<◌, ◌≤◌, List, [], length, map, set, get_or, sym, ap, ◌∙◌, arith}
-use Rattle.std.specs.Prelude.{vec_len, vec_capacity}
-use Rattle.std.proofs.lemmas.List.{map-set, length-map, get_or-set_same, get_or-set_other, get_or-map, set-get_or}
-use Rattle.std.proofs.lemmas.List.Elements.{All-weaker}
-use Rattle.fleet_world.specs.declared.traffic.Traffic.{Traffic}
-use Rattle.fleet_world.specs.Traffics.{row_of, HasRoom}
+use Rattle.fleet_world.proofs.Prelude.{◌≡◌, ◌≢◌, ℕ, ◌+◌, ◌<◌, ◌≤◌, List, [], length, map, set, get_or, sym, ap, ◌∙◌, arith, vec_len, vec_capacity, map-set, length-map, get_or-set_same, get_or-set_other, get_or-map, set-get_or, All-weaker, Traffic, row_of, HasRoom}
 
 -- what one drone has, read from the traffic as it is kept
 pub row-kept : {X : Type 0} (f : Traffic → List X) (traffic : List Traffic) (d : ℕ) (t : Traffic) → d < length traffic → row_of (map f traffic) d ≡ f (get_or traffic d t)

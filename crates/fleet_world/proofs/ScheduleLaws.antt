@@ -1,13 +1,7 @@
 -- Numbers of nine digits are small, and a schedule is read line by line.
-use Rattle.std.proofs.lemmas.Grind.{common_steps}
-use Rattle.std.proofs.Common.{◌≡◌, ℕ, zero, suc, ◌+◌, ◌-◌, ◌*◌, ◌<◌, ◌≤◌, Bool, true, false, cond, List, [], ◌∷◌, ◌++◌, length, refl, ap, sym, ◌∙◌, arith, Some, None, Result, Ok, Err}
-use Rattle.std.proofs.lemmas.Bool.{and_parts, leb-true, le-leb, ne_eqb}
-use Rattle.std.proofs.lemmas.List.{append_assoc}
-use Rattle.std.specs.Prelude.{nat_le, min, option_map}
+use Rattle.fleet_world.proofs.Prelude.{common_steps, ◌≡◌, ℕ, zero, suc, ◌+◌, ◌-◌, ◌*◌, ◌<◌, ◌≤◌, Bool, true, false, cond, List, [], ◌∷◌, ◌++◌, length, refl, ap, sym, ◌∙◌, arith, Some, None, Result, Ok, Err, and_parts, leb-true, le-leb, ne_eqb, append_assoc, nat_le, min, option_map, counted_from_0, number_of, put_event, behind}
 use Rattle.text_lines.specs.declared.number.TheConstants.{LARGE}
 use Rattle.text_lines.specs.Numbers.{is_digit, digits_after, natural_of}
-use Rattle.fleet_world.specs.Schedules.{counted_from_0, number_of, put_event}
-use Rattle.fleet_world.specs.Steps.{behind}
 
 -- x times ten to the k
 abbrev times_ten : ℕ → ℕ → ℕ

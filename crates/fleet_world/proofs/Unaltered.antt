@@ -1,22 +1,12 @@
 -- Without read-back a schedule alters no byte.
-use Rattle.std.proofs.lemmas.Grind.{common_steps}
-use Rattle.std.proofs.Common.{◌≡◌, ℕ, zero, suc, Bool, true, false, cond, List, [], ◌∷◌, codes, refl, subst, Option, Some, None, Result, Ok, Err, arith}
+use Rattle.fleet_world.proofs.Prelude.{common_steps, ◌≡◌, ℕ, zero, suc, Bool, true, false, cond, List, [], ◌∷◌, codes, refl, subst, Option, Some, None, Result, Ok, Err, arith, Absent, lines_of, Line, numbered, WorldEvent, Take, Hear, Alter, ScheduleLaw, event_of, event_with, events_by, put_event}
 use Rattle.std.specs.Str.{bytes_eq}
-use Rattle.text_lines.specs.declared.token.Comments.TheVariants.{Absent}
-use Rattle.text_lines.specs.Lines.{lines_of}
-use Rattle.text_lines.specs.Words.{Line, numbered}
-use Rattle.upload_model.specs.declared.events.WorldEvent.{WorldEvent}
-use Rattle.upload_model.specs.declared.events.WorldEvent.TheVariants.{Tick, Take, Hear, Alter}
 use Rattle.upload_model.specs.Theorem.{IsUnaltered}
-use Rattle.fleet_world.specs.Schedules.{ScheduleLaw, event_of, event_with, events_by, put_event}
 
 -- no alteration
 abbrev IsPlain : Option WorldEvent → Type 0
-IsPlain None = Unit {0}
-IsPlain (Some Tick) = Unit {0}
-IsPlain (Some (Take d n)) = Unit {0}
-IsPlain (Some (Hear d n)) = Unit {0}
 IsPlain (Some (Alter d address value)) = ⊥
+IsPlain event = Unit {0}
 
 plain_cond : (b : Bool) (x y : Option WorldEvent) → IsPlain x → IsPlain y → IsPlain (cond b x y)
 plain_cond true x y first second = first
@@ -26,8 +16,7 @@ event_with_plain : (kind : List ℕ) (drone n : Option ℕ) → IsPlain (event_w
 event_with_plain kind (Some drone) (Some n) =
     plain_cond (bytes_eq kind (codes "take")) (Some (Take drone n)) (cond (bytes_eq kind (codes "hear")) (Some (Hear drone n)) None) tt
     (plain_cond (bytes_eq kind (codes "hear")) (Some (Hear drone n)) None tt tt)
-event_with_plain kind (Some drone) None = tt
-event_with_plain kind None n = tt
+event_with_plain kind drone n = tt
 
 event_of_plain : (names words : List (List ℕ)) → IsPlain (event_of false names words)
 event_of_plain names words = grind (arith, common_steps, plain_cond, cond, codes, event_with_plain)

@@ -1,4 +1,5 @@
 -- What bytes of a frame that is begun look like, and what one byte more makes of them.
+use Rattle.std.proofs.lemmas.Grind.{common_steps}
 use Rattle.std.proofs.Common.{◌≡◌, ℕ, ◌+◌, ◌-◌, ◌<◌, ◌≤◌, Bool, true, false, cond, List, [], ◌∷◌, ◌++◌, length, drop, take, replicate, length-append, append_assoc, refl, sym, ap, ◌∙◌, arith}
 use Rattle.std.specs.List.{All}
 use Rattle.std.proofs.lemmas.List.{length-replicate, length-take, take-append-drop}
@@ -25,12 +26,7 @@ shape_of [] f more formed cut some = tt
 shape_of (k ∷ bs) frame.Tick more formed cut some = absurd (let e = ap (λ (xs : List ℕ). length xs) cut in omega (arith, e, length-append bs more, some))
 shape_of (k ∷ []) (frame.Packet d p) more formed cut some = cc
 shape_of (k ∷ e ∷ []) (frame.Packet d p) more formed cut some = let is : e ≡ d = cc in (cc, rw is formed.0, rw is formed.1)
-shape_of (k ∷ e ∷ n ∷ q) (frame.Packet d p) more formed cut some =
-    let is : e ≡ d = cc in
-    let counted : n ≡ length p = cc in
-    let rest : p ≡ q ++ more = cc in
-    let len : length p ≡ length q + length more = ap (λ (xs : List ℕ). length xs) rest ∙ length-append q more in
-    (cc, rw is formed.0, rw is formed.1, rw counted formed.2, rw counted formed.3, omega (arith, counted, len, some))
+shape_of (k ∷ e ∷ n ∷ q) (frame.Packet d p) more formed cut some = grind (arith, common_steps, length-append)
 
 pub shape : (bytes : List ℕ) → IsBegun bytes → Shape bytes
 shape bytes b = shape_of bytes b.frame b.more b.formed b.cut b.some
@@ -54,17 +50,10 @@ begun (k ∷ d ∷ n ∷ p) is =
 -- a frame that is begun is no whole one: no frame is a proper front of another
 pub no_frame : (bytes : List ℕ) → Shape bytes → BeginsNoFrame bytes
 no_frame [] is frame.Tick later formed cut = cc
-no_frame [] is (frame.Packet d p) later formed cut = cc
 no_frame (k ∷ []) is frame.Tick later formed cut = let b : k ≡ 0x54 = cc in omega (arith, is, b)
-no_frame (k ∷ e ∷ []) is frame.Tick later formed cut = let b : k ≡ 0x54 = cc in omega (arith, is.0, b)
-no_frame (k ∷ e ∷ n ∷ q) is frame.Tick later formed cut = let b : k ≡ 0x54 = cc in omega (arith, is.0, b)
-no_frame (k ∷ []) is (frame.Packet d p) later formed cut = cc
-no_frame (k ∷ e ∷ []) is (frame.Packet d p) later formed cut = cc
-no_frame (k ∷ e ∷ n ∷ q) is (frame.Packet d p) later formed cut =
-    let counted : n ≡ length p = cc in
-    let rest : q ≡ p ++ later = cc in
-    let len : length q ≡ length p + length later = ap (λ (xs : List ℕ). length xs) rest ∙ length-append p later in
-    omega (arith, counted, len, is.5)
+no_frame (k ∷ rest) is frame.Tick later formed cut = let b : k ≡ 0x54 = cc in grind arith
+no_frame (k ∷ e ∷ n ∷ q) is (frame.Packet d p) later formed cut = grind (arith, common_steps, length-append)
+no_frame bytes is f later formed cut = cc
 
 -- ---- one byte more
 
@@ -116,9 +105,7 @@ pub more_step : (bytes : List ℕ) (byte : ℕ) → Shape bytes → fed bytes by
 more_step [] byte is fed_so = by_kind byte (byte == 0x54) (byte == 0x50) refl refl fed_so
 more_step (k ∷ []) byte is fed_so = let ok = within byte 32 (passed (nat_le 1 byte && nat_le byte 32) Drone fed_so) in (is, ok.0, ok.1)
 more_step (k ∷ d ∷ []) byte is fed_so = let ok = within byte 31 (passed (nat_le 1 byte && nat_le byte 31) Length fed_so) in (is.0, is.1, is.2, ok.0, ok.1, omega (arith, ok.0))
-more_step (k ∷ d ∷ n ∷ p) byte is fed_so =
-    let short = below (length p + 1) n (still_short (nat_lt (length p + 1) n) (frame.Packet d (p ++ byte ∷ [])) (sym (fed_long k d n p byte) ∙ fed_so)) in
-    (is.0, is.1, is.2, is.3, is.4, omega (arith, short, length-append p (byte ∷ [])))
+more_step (k ∷ d ∷ n ∷ p) byte is fed_so = grind (arith, common_steps, below, still_short, fed_long, length-append)
 
 whole_packet : (t : Bool) (f g : Frame) → cond t fed_is.More (fed_is.Frame f) ≡ fed_is.Frame g → (t ≡ false) × (f ≡ g)
 whole_packet true f g is = absurd (cc)
@@ -133,11 +120,7 @@ pub whole_step : (bytes : List ℕ) (byte : ℕ) (f : Frame) → Shape bytes →
 whole_step [] byte f is fed_so = let k = whole_kind byte (byte == 0x54) (byte == 0x50) f refl fed_so in rw (k.1, k.0) (tt, refl)
 whole_step (k ∷ []) byte f is fed_so = absurd (never_whole (nat_le 1 byte && nat_le byte 32) Drone f fed_so)
 whole_step (k ∷ d ∷ []) byte f is fed_so = absurd (never_whole (nat_le 1 byte && nat_le byte 31) Length f fed_so)
-whole_step (k ∷ d ∷ n ∷ p) byte f is fed_so =
-    let w = whole_packet (nat_lt (length p + 1) n) (frame.Packet d (p ++ byte ∷ [])) f (sym (fed_long k d n p byte) ∙ fed_so) in
-    let full = not_below (length p + 1) n w.0 in
-    let len : length (p ++ byte ∷ []) ≡ n = omega (arith, full, is.5, length-append p (byte ∷ [])) in
-    rw (← w.1) ((is.1, is.2, omega (arith, len, is.3), omega (arith, len, is.4)), rw (is.0, len) refl)
+whole_step (k ∷ d ∷ n ∷ p) byte f is fed_so = grind (arith, common_steps, whole_packet, fed_long, not_below, length-append)
 
 bad_kind : (byte : ℕ) (a b : Bool) (why : FrameFault) → (byte == 0x54) ≡ a → (byte == 0x50) ≡ b → cond a (fed_is.Frame frame.Tick) (cond b fed_is.More (fed_is.Bad Kind)) ≡ fed_is.Bad why →
     (byte ≡ 0x54 → ⊥) × (byte ≡ 0x50 → ⊥)
@@ -187,11 +170,7 @@ one_step : (f g : Frame) (r s : List ℕ) → frame_bytes f ++ r ≡ frame_bytes
 one_step frame.Tick frame.Tick r s is = (refl, cc)
 one_step frame.Tick (frame.Packet d p) r s is = absurd (let b : tick_byte ≡ packet_byte = cc in omega (arith, b))
 one_step (frame.Packet d p) frame.Tick r s is = absurd (let b : packet_byte ≡ tick_byte = cc in omega (arith, b))
-one_step (frame.Packet d p) (frame.Packet e q) r s is =
-    let drone : d ≡ e = cc in
-    let len : length p ≡ length q = cc in
-    let rest : p ++ r ≡ q ++ s = cc in
-    (rw (drone, front_of p q r s len rest) refl, back_of p q r s len rest)
+one_step (frame.Packet d p) (frame.Packet e q) r s is = grind (arith, common_steps, front_of, back_of)
 
 pub one_list : (fs gs : List Frame) (rest left : List ℕ) → All IsFrame fs → All IsFrame gs → BeginsNoFrame rest → BeginsNoFrame left →
     frames_bytes fs ++ rest ≡ frames_bytes gs ++ left → (fs ≡ gs) × (rest ≡ left)

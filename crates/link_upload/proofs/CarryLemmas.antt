@@ -1,25 +1,6 @@
 -- What is carried from frame to frame, and how it ends.
-use Rattle.std.proofs.lemmas.Grind.{common_steps}
-use Rattle.std.proofs.Common.{◌≡◌, inl, inr, ℕ, ◌+◌, ◌<◌, ◌≤◌, Bool, List, [], ◌∷◌, ◌++◌, length, take, append_assoc, append-nil, length-append, Option, Some, None, IfSome, refl, sym, ap, ◌∙◌, arith}
-use Rattle.std.specs.Prelude.{◌==◌}
-use Rattle.std.specs.List.{All, Contains}
-use Rattle.std.specs.Io.KnownBytes.{Appends, Consumes, IsAtEnd, prepend_known}
-use Rattle.std.proofs.lemmas.List.{length_push, take_at}
-use Rattle.std.proofs.lemmas.List.Elements.{All-cons, All-contains, All-head, All-nil, All-push}
-use Rattle.fleet_io.specs.Causes.{Rose}
-use Rattle.fleet_io.specs.Held.{buffer_bytes}
-use Rattle.fleet_io.specs.Taken.{AppendsFront}
-use Rattle.fleet_io.proofs.SentLemmas.{Appends-append}
-use Rattle.fleet_io.proofs.TakenLemmas.{Consumes-append, Consumes-nil}
-use Rattle.link_frames.specs.declared.frame.Frame.{Frame}
-use Rattle.link_frames.specs.Frames.{BeginsNoFrame, IsBegun, IsFrame, frame_bytes, frames_bytes}
-use Rattle.link_frames.proofs.FrameLemmas.{frame_law}
-use Rattle.upload_model.specs.declared.events.Event.{Event}
+use Rattle.link_upload.proofs.Prelude.{common_steps, ◌≡◌, inl, inr, ℕ, ◌+◌, ◌<◌, ◌≤◌, Bool, List, [], ◌∷◌, ◌++◌, length, take, append_assoc, append-nil, length-append, Option, Some, None, IfSome, refl, sym, ap, ◌∙◌, arith, ◌==◌, All, Contains, Appends, Consumes, IsAtEnd, prepend_known, length_push, take_at, All-cons, All-contains, All-head, All-nil, All-push, Rose, buffer_bytes, AppendsFront, Appends-append, Consumes-append, Consumes-nil, Frame, BeginsNoFrame, IsBegun, IsFrame, frame_bytes, frames_bytes, frame_law, Event, Link, answers_after, event_in, events_in, packet_frames, sent_over, Breaks, Ends, Fails, BeginsWith, EndsGoing, EndsWith, StaysPrompt, StopsAtEnd, Takes, frame_limit}
 use Rattle.upload_model.specs.declared.events.Sent.{Sent}
-use Rattle.link_upload.specs.Links.{Link}
-use Rattle.link_upload.specs.Sends.{answers_after, event_in, events_in, packet_frames, sent_over}
-use Rattle.link_upload.specs.Steps.{Breaks, Ends, Fails}
-use Rattle.link_upload.specs.Uploads.{BeginsWith, EndsGoing, EndsWith, StaysPrompt, StopsAtEnd, Takes, frame_limit}
 use Rattle.link_upload.proofs.StepLemmas.{short}
 use Rattle.link_upload.proofs.SendLemmas.{BeginsWith-trans, events-push, sent-front, sent-none, sent-push}
 use Rattle.link_upload.proofs.FrontLemmas.{compare}
@@ -298,11 +279,7 @@ short_waiting waiting (Some xs) few rest behind known known_left g more formed l
 pub short_frame : (mid : Option (List ℕ)) (waiting : List ℕ) (left : Option (List ℕ)) (f : Frame) → length waiting ≤ buffer_bytes → Consumes mid (prepend_known waiting left) (frame_bytes f) → IsShort mid left
 short_frame None waiting left f few taken rest behind known known_left g more formed long is = absurd (cc)
 short_frame (Some xs) waiting None f few taken rest behind known known_left g more formed long is = absurd taken
-short_frame (Some xs) waiting (Some ys) f few taken rest behind known known_left g more formed long is =
-    let e : ys ≡ behind = cc in
-    let r : xs ≡ rest = cc in
-    let step = frame_law.step f g (waiting ++ ys) more (sym taken ∙ r ∙ is) in
-    omega (arith, long, few, length-append waiting ys, ap (λ (l : List ℕ). length l) step.1, ap (λ (l : List ℕ). length l) e)
+short_frame (Some xs) waiting (Some ys) f few taken rest behind known known_left g more formed long is = grind (arith, common_steps, frame_law, length-append)
 
 -- nothing is left
 pub short_end : (now left : Option (List ℕ)) → IsAtEnd now → IsShort now left

@@ -1,16 +1,5 @@
 -- An upload with its end frame.
-use Rattle.std.proofs.Common.{◌≡◌, ◌≢◌, ◌⊎◌, inl, inr, ℕ, Bool, false, List, [], ◌∷◌, ◌++◌, append_assoc, append-nil, Option, Some, None, IfSome, refl, sym, ap, ◌∙◌, arith}
-use Rattle.std.specs.List.{Contains}
-use Rattle.std.specs.Io.KnownBytes.{Appends, Consumes}
-use Rattle.std.proofs.lemmas.List.Elements.{All-cons, All-contains, All-nil}
-use Rattle.fleet_io.specs.Causes.{Rose}
-use Rattle.fleet_io.specs.Taken.{AppendsFront}
-use Rattle.fleet_io.proofs.SentLemmas.{Appends-append}
-use Rattle.link_frames.specs.Frames.{end_frame}
-use Rattle.link_upload.specs.Links.{Link}
-use Rattle.link_upload.specs.Sends.{events_in, sent_over}
-use Rattle.link_upload.specs.Steps.{Breaks, Ends, Fails}
-use Rattle.link_upload.specs.Uploads.{StaysPrompt, UploadFails, UploadGives}
+use Rattle.link_upload.proofs.Prelude.{◌≡◌, ◌≢◌, ◌⊎◌, inl, inr, ℕ, Bool, false, List, [], ◌∷◌, ◌++◌, append_assoc, append-nil, Option, Some, None, IfSome, refl, sym, ap, ◌∙◌, arith, Contains, Appends, Consumes, All-cons, All-contains, All-nil, Rose, AppendsFront, Appends-append, end_frame, Link, events_in, sent_over, Breaks, Ends, Fails, StaysPrompt, UploadFails, UploadGives}
 use Rattle.link_upload.proofs.SendLemmas.{BeginsWith-trans}
 use Rattle.link_upload.proofs.CarryLemmas.{front_more, same_front}
 

@@ -1,10 +1,7 @@
 -- Lists of frames at the front of bytes.
-use Rattle.std.proofs.Common.{◌≡◌, ◌⊎◌, inl, inr, ℕ, List, [], ◌∷◌, ◌++◌, append_assoc, append-nil, refl, sym, ap, ◌∙◌}
-use Rattle.link_frames.specs.declared.frame.Frame.{Frame}
+use Rattle.link_upload.proofs.Prelude.{◌≡◌, ◌⊎◌, inl, inr, ℕ, List, [], ◌∷◌, ◌++◌, append_assoc, append-nil, refl, sym, ap, ◌∙◌, Frame, BeginsNoFrame, IsBegun, IsFrame, fed, frame_bytes, frames_bytes, frame_law}
 use Rattle.link_frames.specs.declared.frame.Fed.{Fed}
 use Rattle.link_frames.specs.declared.frame.Fed.TheVariants as fed_is
-use Rattle.link_frames.specs.Frames.{BeginsNoFrame, IsBegun, IsFrame, fed, frame_bytes, frames_bytes}
-use Rattle.link_frames.proofs.FrameLemmas.{frame_law}
 
 -- The first frames are a prefix of the others, and what stands after them are the other frames with what stands after
 -- those.

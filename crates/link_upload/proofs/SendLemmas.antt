@@ -1,19 +1,9 @@
 -- What is sent over events that come one after the other.
-use Rattle.std.proofs.Common.{◌≡◌, List, [], ◌∷◌, ◌++◌, append_assoc, append-nil, sym, ap, ◌∙◌, ℕ}
-use Rattle.std.proofs.lemmas.List.Concat.{flat_map-append}
-use Rattle.link_frames.specs.declared.frame.Frame.{Frame}
-use Rattle.upload_model.specs.declared.events.Event.{Event}
-use Rattle.link_upload.specs.Links.{Link}
-use Rattle.link_upload.specs.Sends.{answers_after, event_in, events_in, packet_frames, sent_over}
-use Rattle.link_upload.specs.Uploads.{BeginsWith}
+use Rattle.link_upload.proofs.Prelude.{arith, common_steps, ◌≡◌, List, [], ◌∷◌, ◌++◌, append_assoc, append-nil, sym, ap, ◌∙◌, ℕ, flat_map-append, Frame, Event, Link, answers_after, event_in, events_in, packet_frames, sent_over, BeginsWith}
 
 answers-append : (s : Link) (g xs ys : List Event) → answers_after s g (xs ++ ys) ≡ answers_after s g xs ++ answers_after s (g ++ xs) ys
 answers-append s g [] ys = ap (λ (h : List Event). answers_after s h ys) (sym (append-nil g))
-answers-append s g (e ∷ es) ys =
-    let front : List ℕ = packet_frames s (s.out g e) in
-    let mid : List ℕ = answers_after s (g ++ e ∷ []) es in
-    ap (λ (l : List ℕ). front ++ l) (answers-append s (g ++ e ∷ []) es ys ∙ ap (λ (h : List Event). mid ++ answers_after s h ys) (append_assoc g (e ∷ []) es))
-    ∙ sym (append_assoc front mid (answers_after s (g ++ e ∷ es) ys))
+answers-append s g (e ∷ es) ys = grind (arith, common_steps, append_assoc, (answers-append s (g ++ e ∷ []) es ys))
 
 -- more events send what they send after the first ones
 pub sent-append : (s : Link) (h es : List Event) → sent_over s (h ++ es) ≡ sent_over s h ++ answers_after s h es

@@ -1,9 +1,6 @@
 -- Steps from frame to frame.
-use Rattle.std.proofs.Common.{◌≡◌, ℕ, ◌<◌, ◌≤◌, List, [], ◌∷◌, ◌++◌, length, length-append, append_assoc, Option, Some, None, IfSome, ap, ◌∙◌, arith}
-use Rattle.std.specs.Io.KnownBytes.{Consumes}
-use Rattle.link_frames.specs.declared.frame.Frame.{Frame}
+use Rattle.link_upload.proofs.Prelude.{◌≡◌, ℕ, ◌<◌, ◌≤◌, List, [], ◌∷◌, ◌++◌, length, length-append, append_assoc, Option, Some, None, IfSome, ap, ◌∙◌, arith, Consumes, Frame, BeginsNoFrame, IsBegun, IsFrame, frame_bytes}
 use Rattle.link_frames.specs.declared.frame.Frame.TheVariants as frame
-use Rattle.link_frames.specs.Frames.{BeginsNoFrame, IsBegun, IsFrame, frame_bytes}
 
 -- bytes that begin with a byte out of place
 pub bad_front : (a b : Option (List ℕ)) (bytes : List ℕ) (byte : ℕ) → Consumes a b (bytes ++ byte ∷ []) → ((later : List ℕ) → BeginsNoFrame (bytes ++ byte ∷ later)) → IfSome a (λ all. (1 ≤ length all) × BeginsNoFrame all)

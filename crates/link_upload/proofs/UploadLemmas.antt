@@ -1,20 +1,8 @@
 -- An upload gives one end, with one output.
-use Rattle.std.proofs.lemmas.Grind.{common_steps}
-use Rattle.std.proofs.Common.{◌≡◌, ◌⊎◌, inl, inr, ℕ, zero, suc, ◌+◌, ◌<◌, ◌≤◌, Bool, true, false, List, [], ◌∷◌, ◌++◌, length, take, append_assoc, append-nil, length-append, Option, Some, None, refl, sym, ap, ◌∙◌, arith}
-use Rattle.std.specs.Prelude.{◌==◌}
-use Rattle.std.specs.List.{All}
-use Rattle.std.proofs.lemmas.List.{length_push, take_all, take_at, take-append-le}
-use Rattle.std.proofs.lemmas.List.Concat.{flat_map-append}
-use Rattle.std.proofs.lemmas.List.Elements.{All-head, All-nil, All-push, All-tail}
+use Rattle.link_upload.proofs.Prelude.{common_steps, ◌≡◌, ◌⊎◌, inl, inr, ℕ, zero, suc, ◌+◌, ◌<◌, ◌≤◌, Bool, true, false, List, [], ◌∷◌, ◌++◌, length, take, append_assoc, append-nil, length-append, Option, Some, None, refl, sym, ap, ◌∙◌, arith, ◌==◌, All, length_push, take_all, take_at, take-append-le, flat_map-append, All-head, All-nil, All-push, All-tail, Frame, BeginsNoFrame, IsFrame, end_frame, frame_bytes, frames_bytes, frame_law, Link, events_in, sent_over, BeginsWith, EndsGoing, EndsWith, Takes, UploadGives, UploadLaw, frame_limit}
 use Rattle.std.proofs.lemmas.Bool.{eqb-true}
 use Rattle.std.proofs.lemmas.Bool.Decides.{nat_tests}
-use Rattle.link_frames.specs.declared.frame.Frame.{Frame}
 use Rattle.link_frames.specs.declared.frame.Frame.TheVariants as frame
-use Rattle.link_frames.specs.Frames.{BeginsNoFrame, IsFrame, end_frame, frame_bytes, frames_bytes}
-use Rattle.link_frames.proofs.FrameLemmas.{frame_law}
-use Rattle.link_upload.specs.Links.{Link}
-use Rattle.link_upload.specs.Sends.{events_in, sent_over}
-use Rattle.link_upload.specs.Uploads.{BeginsWith, EndsGoing, EndsWith, Takes, UploadGives, UploadLaw, frame_limit}
 use Rattle.link_upload.proofs.SendLemmas.{BeginsWith-trans, sent-front}
 use Rattle.link_upload.proofs.FrontLemmas.{BeginsFrame, compare, found}
 
@@ -26,8 +14,7 @@ All-later (x ∷ xs) ys all = All-later xs ys (All-tail IsFrame x (xs ++ ys) all
 
 -- a frame has some bytes
 pub frame_some : (f : Frame) → 1 ≤ length (frame_bytes f)
-frame_some frame.Tick = omega arith
-frame_some (frame.Packet drone packet) = omega arith
+frame_some f = grind (arith, common_steps)
 
 -- the bytes of frames and of one more
 pub bytes-push : (fs : List Frame) (f : Frame) → frames_bytes (fs ++ f ∷ []) ≡ frames_bytes fs ++ frame_bytes f
@@ -53,10 +40,8 @@ Takes-push s bytes rest later fs f t now few formed is = grind (arith, common_st
 -- ---- one end
 
 one_status : (p : Option ℕ) (full : Bool) (rest : List ℕ) (a b : ℕ) → EndsWith p full rest a → EndsWith p full rest b → a ≡ b
-one_status None true rest a b x y = x ∙ sym y
-one_status None false [] a b x y = x ∙ sym y
 one_status None false (c ∷ cs) a b x y = x.0 ∙ sym y.0
-one_status (Some n) full rest a b x y = x ∙ sym y
+one_status p full rest a b x y = x ∙ sym y
 
 -- this many frames are no more than are taken
 pub not_full : (n : ℕ) → n < frame_limit → (n == frame_limit) ≡ false

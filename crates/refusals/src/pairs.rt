@@ -1,5 +1,7 @@
 //! What is wrong with two drones in a cue.
 
+#![tactic(auto, using(fleet_io::proofs::WordLaws::word_adds, fleet_io::proofs::WordLaws::number_adds))]
+
 ghost use Rattle.std.specs.Prelude.{◌≡◌, ◌≤◌, ◌<◌, ◌+◌, ◌^◌, ◌∷◌, codes, length};
 ghost use Rattle.fleet_io.specs.Words.{IsWord, with_word, with_words, short_line_bytes};
 ghost use Rattle.sep_parts.specs.Versions.{IsVersion, direction_word, known_in};
@@ -20,7 +22,6 @@ pub(crate) fn parts(depth: Depth) -> u32
 }
 
 // The two drones and the cue, which counts from 1 in the line.
-#[tactic(auto, using(fleet_io::proofs::WordLaws::word_adds, fleet_io::proofs::WordLaws::number_adds))]
 fn put_pair(line: &mut ShortLine, pair: &Pair)
     requires { length line.old ≤ 40 }
     ensures words { line.new ≡ with_words line.old (pair_words pair.now) }
@@ -35,7 +36,6 @@ fn put_pair(line: &mut ShortLine, pair: &Pair)
 }
 
 // `error 5 pair NAME NAME cue C part I of P`.
-#[tactic(auto, using(fleet_io::proofs::WordLaws::word_adds, fleet_io::proofs::WordLaws::number_adds))]
 pub(crate) fn blocked_line(pair: &Pair, index: u16, depth: Depth) -> ShortLine
     requires named { AreNamed pair.now }
     ensures { result ≡ blocked_line pair.now index depth }
@@ -67,7 +67,6 @@ pub(crate) fn too_deep_line(pair: &Pair) -> ShortLine
 }
 
 // What the certificate lacks for two drones in a cue, in one word.
-#[tactic(auto, using(fleet_io::proofs::WordLaws::word_adds))]
 fn unproved_pair(word: &[u8], pair: &Pair) -> ShortLine
     requires word { IsWord word.now }
     requires short { length word.now ≤ 8 }
@@ -82,7 +81,6 @@ fn unproved_pair(word: &[u8], pair: &Pair) -> ShortLine
 }
 
 // A direction, by the word of the version.
-#[tactic(auto, using(fleet_io::proofs::WordLaws::word_adds))]
 fn put_direction(line: &mut ShortLine, version: u8, dir: u8)
     requires version { IsVersion version }
     requires known { dir < known_in version }
@@ -99,7 +97,6 @@ fn put_direction(line: &mut ShortLine, version: u8, dir: u8)
 
 // `error 12 fails pair NAME NAME cue C part DEPTH INDEX direction DIR control K`. Directions are letters in version 1,
 // two digits in version 2.
-#[tactic(auto, using(fleet_io::proofs::WordLaws::word_adds, fleet_io::proofs::WordLaws::number_adds))]
 pub(crate) fn fails_line(pair: &Pair, place: Place, version: u8, dir: u8, control: u8) -> ShortLine
     requires named { AreNamed pair.now }
     requires version { IsVersion version }

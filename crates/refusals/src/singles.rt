@@ -1,5 +1,7 @@
 //! Lines on the command, a show, an upload, or a text as a whole.
 
+#![tactic(auto, using(fleet_io::proofs::WordLaws::word_adds, fleet_io::proofs::WordLaws::number_adds, fleet_io::proofs::WordLaws::decimal_adds))]
+
 ghost use Rattle.std.specs.Prelude.{◌≡◌, ◌≤◌, ◌<◌, ◌^◌, [], ◌∷◌, length};
 ghost use Rattle.fleet_io.specs.Words.{IsWord, hex_word};
 ghost use Rattle.sep_parts.specs.Versions.{IsVersion, head_count};
@@ -41,7 +43,6 @@ pub(crate) fn grid_line(fault: GridFault) -> ShortLine
 }
 
 // A line of the show and one word on it.
-#[tactic(auto, using(fleet_io::proofs::WordLaws::word_adds, fleet_io::proofs::WordLaws::number_adds))]
 fn show_line(line: u32, word: &[u8]) -> ShortLine
     requires is_word { IsWord word.now }
     requires short { length word.now ≤ 15 }
@@ -57,7 +58,6 @@ fn show_line(line: u32, word: &[u8]) -> ShortLine
 
 // `error 3 line N out-of-range AXIS VALUE`: a number that doesn't fit two bytes when it is rounded. The axes 0 to 3 are x,
 // y, z and yaw; the value is the one before rounding, in micrometres, or on yaw in tenths of a degree.
-#[tactic(auto, using(fleet_io::proofs::WordLaws::word_adds, fleet_io::proofs::WordLaws::number_adds, fleet_io::proofs::WordLaws::decimal_adds))]
 pub(crate) fn range_line(line: u32, axis: u8, value: i64) -> ShortLine
     requires { axis ≤ 3 }
     ensures { result ≡ range_line line axis value }
@@ -73,7 +73,6 @@ pub(crate) fn range_line(line: u32, axis: u8, value: i64) -> ShortLine
 }
 
 // `error 4 drone NAME bytes N room M`: the drone's trajectory takes more bytes than it has room for.
-#[tactic(auto, using(fleet_io::proofs::WordLaws::word_adds, fleet_io::proofs::WordLaws::number_adds))]
 pub(crate) fn room_line(name: &Name, bytes: u32, room: u32) -> ShortLine
     requires { IsWord name.now.items }
     ensures { result ≡ room_line name.now.items bytes room }
@@ -91,7 +90,6 @@ pub(crate) fn room_line(name: &Name, bytes: u32, room: u32) -> ShortLine
 
 // `error 4 drone NAME segments N`: the drone's trajectory has more segments than one may have, whole holds that follow each other
 // joined.
-#[tactic(auto, using(fleet_io::proofs::WordLaws::word_adds, fleet_io::proofs::WordLaws::number_adds))]
 pub(crate) fn segments_line(name: &Name, segments: u32) -> ShortLine
     requires { IsWord name.now.items }
     ensures { result ≡ segments_line name.now.items segments }
@@ -120,7 +118,6 @@ pub(crate) fn ended_line() -> ShortLine
 }
 
 // `error 9 drone NAME packet K`: a packet of a drone wasn't acknowledged in time. It counts from 1 in the line.
-#[tactic(auto, using(fleet_io::proofs::WordLaws::word_adds, fleet_io::proofs::WordLaws::number_adds))]
 pub(crate) fn gave_up_line(name: &Name, packet: u16) -> ShortLine
     requires { IsWord name.now.items }
     ensures { result ≡ gave_up_line name.now.items packet }
@@ -135,7 +132,6 @@ pub(crate) fn gave_up_line(name: &Name, packet: u16) -> ShortLine
 }
 
 // `error 10 drone NAME packet K status S`: a drone refused a packet. It counts from 1 in the line.
-#[tactic(auto, using(fleet_io::proofs::WordLaws::word_adds, fleet_io::proofs::WordLaws::number_adds))]
 pub(crate) fn refused_line(name: &Name, packet: u16, status: u8) -> ShortLine
     requires { IsWord name.now.items }
     ensures { result ≡ refused_line name.now.items packet status }
@@ -159,7 +155,6 @@ fn hex_word(byte: u8) -> [u8; 2]
 }
 
 // `error 14 drone NAME address A wanted HH got HH`: a byte of a drone's memory differs from the load's.
-#[tactic(auto, using(fleet_io::proofs::WordLaws::word_adds, fleet_io::proofs::WordLaws::number_adds))]
 pub(crate) fn differs_line(name: &Name, address: u32, wanted: u8, got: u8) -> ShortLine
     requires { IsWord name.now.items }
     ensures { result ≡ differs_line name.now.items address wanted got }
@@ -178,7 +173,6 @@ pub(crate) fn differs_line(name: &Name, address: u32, wanted: u8, got: u8) -> Sh
 }
 
 // `error 11 line N`: a faulty line of the second text, from 1.
-#[tactic(auto, using(fleet_io::proofs::WordLaws::word_adds, fleet_io::proofs::WordLaws::number_adds))]
 pub(crate) fn second_line(line: u32) -> ShortLine
     ensures { result ≡ second_line line }
 {
@@ -198,7 +192,6 @@ pub(crate) fn second_too_large_line() -> ShortLine
 
 // `error 12 extra line N`: a tree of no pair and cue, in a text of this version. Trees count from 0, and stand from the second line on
 // in version 1, from the third in version 2.
-#[tactic(auto, using(fleet_io::proofs::WordLaws::word_adds, fleet_io::proofs::WordLaws::number_adds))]
 pub(crate) fn extra_line(version: u8, tree: u32) -> ShortLine
     requires version { IsVersion version }
     requires tree { tree < 2 ^ 31 }
@@ -222,7 +215,6 @@ fn head_count(version: u8) -> u32
 }
 
 // A status and one word.
-#[tactic(auto, using(fleet_io::proofs::WordLaws::word_adds))]
 fn one_word(status: &[u8], word: &[u8]) -> ShortLine
     requires status { IsWord status.now }
     requires short_status { length status.now ≤ 2 }

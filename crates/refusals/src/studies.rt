@@ -1,5 +1,7 @@
 //! Lines on a drone that enters a region, and on one that may be too fast or accelerate or jump too much.
 
+#![tactic(auto, using(fleet_io::proofs::WordLaws::word_adds, fleet_io::proofs::WordLaws::number_adds, fleet_io::proofs::WordLaws::decimal_adds))]
+
 ghost use Rattle.std.specs.Prelude.{◌≡◌, ◌≤◌, length};
 ghost use Rattle.fleet_io.specs.Words.{IsWord};
 ghost use Rattle.refusals.specs.Lines.{accelerates_line, enters_line, excess_line, jumps_line, too_fast_line};
@@ -12,7 +14,6 @@ use fleet_io::ShortLine;
 use fleet_math::Depth;
 
 // `error 15 region K drone NAME cue C part I of P`: regions and cues count from 1 in the line.
-#[tactic(auto, using(fleet_io::proofs::WordLaws::word_adds, fleet_io::proofs::WordLaws::number_adds))]
 pub(crate) fn enters_line(region: u8, name: &Name, cue: u16, index: u16, depth: Depth) -> ShortLine
     requires name { IsWord name.now.items }
     ensures { result ≡ enters_line region name.now.items cue index depth }
@@ -33,7 +34,6 @@ pub(crate) fn enters_line(region: u8, name: &Name, cue: u16, index: u16, depth: 
 }
 
 // `error 16 drone NAME AXIS speed V`: the axes 0 to 2 are x, y and z.
-#[tactic(auto, using(fleet_io::proofs::WordLaws::word_adds, fleet_io::proofs::WordLaws::number_adds, fleet_io::proofs::WordLaws::decimal_adds))]
 pub(crate) fn too_fast_line(name: &Name, axis: u8, speed: i64) -> ShortLine
     requires name { IsWord name.now.items }
     requires axis { axis ≤ 2 }
@@ -50,7 +50,6 @@ pub(crate) fn too_fast_line(name: &Name, axis: u8, speed: i64) -> ShortLine
 }
 
 // `error 18 drone NAME cue C WHAT AXIS VALUE`: cues count from 1 in the line.
-#[tactic(auto, using(fleet_io::proofs::WordLaws::word_adds, fleet_io::proofs::WordLaws::number_adds, fleet_io::proofs::WordLaws::decimal_adds))]
 fn excess_line(name: &Name, cue: u16, what: &[u8], axis: u8, value: i64) -> ShortLine
     requires name { IsWord name.now.items }
     requires what { IsWord what.now }

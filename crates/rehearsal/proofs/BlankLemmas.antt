@@ -1,21 +1,11 @@
 -- Worlds whose drones are the same at the start are the same, as far as the session's drones go.
-use Rattle.std.proofs.Common.{◌≡◌, ◌∙◌, ℕ, zero, suc, ◌<◌, ◌==◌, Bool, true, false, cond, nat_lt, ◌&&◌, List, [], ◌∷◌, ◌++◌, length, Option, Some, None, refl, ap, arith, All, inl, inr}
-use Rattle.std.specs.Prelude.{slice_get}
-use Rattle.std.proofs.lemmas.List.Elements.{All-head, All-tail}
+use Rattle.rehearsal.proofs.Prelude.{common_steps, ◌≡◌, ℕ, zero, suc, ◌<◌, Bool, true, false, cond, nat_lt, List, [], ◌∷◌, length, Option, Some, None, refl, arith, All, All-head, All-tail, WorldEvent, DroneState, Upload, drone_count, Drone, shown, WorldState, WorldStandsAt, WorldStandsFor, state_at, blank_drone, rehearsed}
 use Rattle.std.proofs.lemmas.Bool.{cases_lt, le-ltb, lt-ltb}
 use Rattle.upload_model.specs.declared.events.Event.{Event}
 use Rattle.upload_model.specs.declared.events.Event.TheVariants as event
-use Rattle.upload_model.specs.declared.events.WorldEvent.{WorldEvent}
 use Rattle.upload_model.specs.declared.events.WorldEvent.TheVariants.{Tick, Take, Hear, Alter}
-use Rattle.upload_model.specs.Drones.{DroneState, Handled, handled}
-use Rattle.upload_model.specs.Sessions.{Upload, drone_count}
-use Rattle.upload_model.specs.Hosts.{out, progress}
 use Rattle.upload_model.specs.Worlds as Worlds
-use Rattle.upload_model.specs.Worlds.{packets_for, host_event, start_world, run, world, happens, altered, changed, took, take_named, hear_named, option_list}
-use Rattle.firmware_memory.specs.declared.drone.Drone.{Drone}
-use Rattle.firmware_memory.specs.Shown.{shown}
-use Rattle.fleet_world.specs.WorldState.{WorldState, WorldStandsAt, WorldStandsFor, state_at}
-use Rattle.rehearsal.specs.Rehearsed.{blank_drone, rehearsed}
+use Rattle.upload_model.specs.Worlds.{host_event, start_world, run, world, happens, altered, changed, take_named, hear_named}
 
 -- Two worlds are the same, but for drones past the session's last.
 record Agree (s : Upload) (v w : Worlds.World) : Type 0 where
@@ -26,13 +16,7 @@ record Agree (s : Upload) (v w : Worlds.World) : Type 0 where
 
 agree-event : (s : Upload) (v w : Worlds.World) (e : Event) → Agree s v w → Agree s (host_event s v e) (host_event s w e)
 unfolding host_event
-agree-event s v w e a = record {
-  heard = ap (λ (h : List Event). h ++ e ∷ []) a.heard;
-  drones = a.drones;
-  sent = λ d. ap (λ (ps : List (List ℕ)). ps ++ packets_for s (out s v.heard e) d) (a.sent d)
-      ∙ ap (λ (h : List Event). w.sent d ++ packets_for s (out s h e) d) a.heard;
-  given = a.given;
-}
+agree-event s v w e a = grind (arith, common_steps)
 
 changed-same : {A : Type 0} (b : Bool) (x y p q : A) → x ≡ y → p ≡ q → cond b x p ≡ cond b y q
 changed-same true x y p q first second = first
@@ -40,17 +24,7 @@ changed-same false x y p q first second = second
 
 agree-take : (s : Upload) (v w : Worlds.World) (d : ℕ) (packet : Option (List ℕ)) → d < drone_count s → Agree s v w → Agree s (take_named v d packet) (take_named w d packet)
 agree-take s v w d None below a = a
-agree-take s v w d (Some packet) below a =
-    let same : handled (v.drones d) packet ≡ handled (w.drones d) packet = ap (λ (x : DroneState). handled x packet) (a.drones d below) in
-    record {
-      heard = a.heard;
-      drones = λ i l. changed-same (i == d) (handled (v.drones d) packet).drone (handled (w.drones d) packet).drone (v.drones i) (w.drones i)
-          (ap (λ (h : Handled). h.drone) same) (a.drones i l);
-      sent = a.sent;
-      given = λ i l. changed-same (i == d) (v.given d ++ option_list (handled (v.drones d) packet).answer) (w.given d ++ option_list (handled (w.drones d) packet).answer) (v.given i) (w.given i)
-          (ap (λ (xs : List (List ℕ)). xs ++ option_list (handled (v.drones d) packet).answer) (a.given d below)
-          ∙ ap (λ (h : Handled). w.given d ++ option_list h.answer) same) (a.given i l);
-    }
+agree-take s v w d (Some packet) below a = grind (arith, common_steps, changed-same)
 
 agree-hear : (s : Upload) (v w : Worlds.World) (d : ℕ) (packet : Option (List ℕ)) → Agree s v w → Agree s (hear_named s v d packet) (hear_named s w d packet)
 agree-hear s v w d None a = a
@@ -61,13 +35,7 @@ abbrev with_byte : Worlds.World → ℕ → ℕ → ℕ → Worlds.World
 with_byte w d address value = record w { drones = changed w.drones d (altered (w.drones d) address value) }
 
 agree-alter : (s : Upload) (v w : Worlds.World) (d address value : ℕ) → d < drone_count s → Agree s v w → Agree s (with_byte v d address value) (with_byte w d address value)
-agree-alter s v w d address value below a = record {
-  heard = a.heard;
-  drones = λ i l. changed-same (i == d) (altered (v.drones d) address value) (altered (w.drones d) address value) (v.drones i) (w.drones i)
-      (ap (λ (x : DroneState). altered x address value) (a.drones d below)) (a.drones i l);
-  sent = a.sent;
-  given = a.given;
-}
+agree-alter s v w d address value below a = grind (arith, common_steps, changed-same)
 
 agree-both : (s : Upload) (t : Bool) (v w x y : Worlds.World) → Agree s v w → Agree s x y → Agree s (cond t v x) (cond t w y)
 agree-both s true v w x y a b = a
@@ -76,18 +44,9 @@ agree-both s false v w x y a b = b
 agree-happens : (s : Upload) (v w : Worlds.World) (e : WorldEvent) → Agree s v w → Agree s (happens s v e) (happens s w e)
 unfolding happens
 agree-happens s v w Tick a = agree-event s v w event.Tick a
-agree-happens s v w (Take d n) a = elim (cases_lt d (drone_count s)) [
-  | inl below ↦ rw (lt-ltb d (drone_count s) below, a.sent d) (agree-take s v w d (slice_get (w.sent d) n) below a)
-  | inr past ↦ rw (le-ltb d (drone_count s) past) a
-]
-agree-happens s v w (Hear d n) a = elim (cases_lt d (drone_count s)) [
-  | inl below ↦ rw (lt-ltb d (drone_count s) below, a.given d below) (agree-hear s v w d (slice_get (w.given d) n) a)
-  | inr past ↦ rw (le-ltb d (drone_count s) past) a
-]
-agree-happens s v w (Alter d address value) a = elim (cases_lt d (drone_count s)) [
-  | inl below ↦ agree-both s (nat_lt d (drone_count s) && nat_lt address 4096) (with_byte v d address value) (with_byte w d address value) v w (agree-alter s v w d address value below a) a
-  | inr past ↦ rw (le-ltb d (drone_count s) past) a
-]
+agree-happens s v w (Take d n) a = grind (arith, common_steps, cases_lt, lt-ltb, agree-take, le-ltb)
+agree-happens s v w (Hear d n) a = grind (arith, common_steps, cases_lt, lt-ltb, agree-hear, le-ltb)
+agree-happens s v w (Alter d address value) a = grind (arith, common_steps, cases_lt, agree-both, nat_lt, with_byte, agree-alter, le-ltb)
 
 agree-run : (s : Upload) (v w : Worlds.World) (es : List WorldEvent) → Agree s v w → Agree s (run s v es) (run s w es)
 agree-run s v w [] a = a
@@ -99,15 +58,7 @@ agree-start s f g same = record { heard = refl; drones = same; sent = λ d. refl
 
 -- what stands for one of them stands for the other
 agree-stands : (x : WorldState) (s : Upload) (v w : Worlds.World) → Agree s v w → WorldStandsAt x s v → WorldStandsAt x s w
-agree-stands x s v w a at = record {
-  session = at.session;
-  host = rw a.heard at at.host;
-  progress = at.progress ∙ ap (progress s) a.heard;
-  count = at.count;
-  drones = λ d l. at.drones d l ∙ a.drones d l;
-  sent = λ d l. at.sent d l ∙ a.sent d;
-  given = λ d l. at.given d l ∙ a.given d l;
-}
+agree-stands x s v w a at = grind (arith, common_steps)
 
 -- one of a list of blank drones
 blank-at : (s : Upload) (drones : List Drone) (d : ℕ) → All (λ (x : Drone). shown x ≡ blank_drone s) drones → d < length drones → state_at drones d ≡ blank_drone s

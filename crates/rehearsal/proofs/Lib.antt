@@ -1,2 +1,3 @@
+mod Prelude
 pub mod BlankLemmas
 pub mod TextLemmas

@@ -1,17 +1,8 @@
 -- Lines of a memory and of a table, one after another.
-use Rattle.std.proofs.Common.{◌≡◌, ◌∙◌, ℕ, suc, ◌+◌, ◌*◌, ◌/◌, ◌%◌, ◌<◌, true, List, [], ◌∷◌, ◌++◌, length, drop, take, map, get_or, ℤ, Option, Some, None, codes, decimal, refl, sym, ap, append_assoc, append-nil, arith}
-use Rattle.std.specs.List.{flat_map, range_with_len}
-use Rattle.std.proofs.lemmas.List.{drop_more, map-append, length-map, length-take}
-use Rattle.std.proofs.lemmas.Grind.{flat_map-append, take_at_read}
+use Rattle.rehearsal.proofs.Prelude.{common_steps, ◌≡◌, ◌∙◌, ℕ, suc, ◌+◌, ◌*◌, ◌/◌, ◌%◌, ◌<◌, true, List, [], ◌∷◌, ◌++◌, length, drop, take, map, get_or, ℤ, Option, Some, None, codes, decimal, refl, sym, ap, append_assoc, append-nil, arith, flat_map, range_with_len, drop_more, map-append, length-map, length-take, flat_map-append, take_at_read, DroneState, signed_decimal, last_value, is_line_empty, hex_word, IsWord, is_line_empty-append, hex_is_word, fresh_after_line, address_word, memory_line, memory_lines, entry_line, entry_lines, ending_line, drone_text, AreTexts, IsFound}
 use Rattle.upload_model.proofs.HostSteps.{range-more}
 use Rattle.upload_model.specs.declared.loads.Def.{Def}
-use Rattle.upload_model.specs.Drones.{DroneState}
 use Rattle.traj_codec.specs.declared.traj.Traj.{Traj}
-use Rattle.std.specs.Fmt.{signed_decimal}
-use Rattle.firmware_memory.specs.Decoded.{last_value}
-use Rattle.fleet_io.specs.Words.{is_line_empty, hex_word, IsWord}
-use Rattle.fleet_io.proofs.WordLaws.{is_line_empty-append, hex_is_word, fresh_after_line}
-use Rattle.rehearsal.specs.Texts.{address_word, memory_line, memory_lines, entry_line, entry_lines, ending_line, drone_text, AreTexts, IsFound}
 
 -- an address is a word
 pub address_is_word : (address : ℕ) → IsWord (address_word address)
@@ -42,17 +33,7 @@ entry-fresh text id (Some entry) fresh =
 pub entries-next : (text old new : List ℕ) (table : List (Option Def)) (id : ℕ) (d : Option Def) → id < length table →
     is_line_empty old ≡ true → old ++ entry_lines id (drop id table) ≡ text → new ≡ old ++ entry_line id (get_or table id d) →
     (is_line_empty new ≡ true) × (new ++ entry_lines (id + 1) (drop (id + 1) table) ≡ text)
-entries-next text old new table id d below fresh so_far more =
-    let entry : Option Def = get_or table id d in
-    let e : id + 1 ≡ suc id = omega arith in
-    let here : entry_lines id (drop id table) ≡ entry_line id entry ++ entry_lines (id + 1) (drop (id + 1) table) =
-    ap (entry_lines id) (drop_more table id d below)
-    ∙ ap (λ (n : ℕ). entry_line id entry ++ entry_lines n (drop (id + 1) table)) (sym e) in (
-      ap is_line_empty more ∙ entry-fresh old id entry fresh,
-      ap (λ (xs : List ℕ). xs ++ entry_lines (id + 1) (drop (id + 1) table)) more
-          ∙ append_assoc old (entry_line id entry) (entry_lines (id + 1) (drop (id + 1) table))
-          ∙ ap (λ (xs : List ℕ). old ++ xs) (sym here) ∙ so_far,
-    )
+entries-next text old new table id d below fresh so_far more = grind (arith, common_steps, get_or, drop, drop_more, entry-fresh, append_assoc)
 
 -- after a memory the last line is empty
 pub memory-fresh : (text memory : List ℕ) → is_line_empty (text ++ memory_lines memory) ≡ true
@@ -82,23 +63,12 @@ pub texts-push : (drones : ℕ → DroneState) (id n m : ℕ) (names : List (Lis
 texts-push drones id n m [] said name o here are is =
     let same : n ≡ m = omega arith in
     (o, [], rw same is, refl, rw (are, same) (sym (append-nil (drone_text name (drones m) o))))
-texts-push drones id n m (x ∷ names) said name o here are is =
-    let later = texts-push drones id (suc n) m names are.1 name o (omega arith) are.3 is in (
-      are.0,
-      are.1 ++ drone_text name (drones m) o,
-      are.2,
-      later,
-      ap (λ (xs : List ℕ). xs ++ drone_text name (drones m) o) are.4 ∙ append_assoc (drone_text x (drones n) are.0) are.1 (drone_text name (drones m) o),
-    )
+texts-push drones id n m (x ∷ names) said name o here are is = grind (arith, common_steps, append_assoc, (texts-push drones id (suc n) m names are.1 name o (omega arith) are.3 is))
 
 -- the text of the first drones, and of one more
 pub texts-next : {N : Type 0} (drones : ℕ → DroneState) (id : ℕ) (f : N → List ℕ) (names : List N) (n0 : N) (d : ℕ) (said name : List ℕ) (o : Option Traj) → d < length names → name ≡ f (get_or names d n0) →
     AreTexts drones id 0 (map f (take d names)) said → IsFound id (drones d) o → AreTexts drones id 0 (map f (take (d + 1) names)) (said ++ drone_text name (drones d) o)
-texts-next drones id f names n0 d said name o below is are found =
-    let more : map f (take (d + 1) names) ≡ map f (take d names) ++ name ∷ [] =
-    ap (map f) (take_at_read names d n0 below).1 ∙ map-append f (take d names) (get_or names d n0 ∷ []) ∙ ap (λ (n : List ℕ). map f (take d names) ++ n ∷ []) (sym is) in
-    let many : length (map f (take d names)) ≡ d = omega (arith, length-map (take d names) f, length-take d names) in
-    rw more (texts-push drones id 0 d (map f (take d names)) said name o (omega arith) are found)
+texts-next drones id f names n0 d said name o below is are found = grind (arith, common_steps, take, take_at_read, map-append, get_or, length-map, length-take, texts-push)
 
 -- after how a trajectory ends the last line is empty
 pub ending-fresh : (text : List ℕ) (o : Option Traj) → is_line_empty (text ++ ending_line o) ≡ true

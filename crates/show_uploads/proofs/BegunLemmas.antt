@@ -1,17 +1,6 @@
 -- What is said of an upload that began, however it ended.
-use Rattle.std.proofs.lemmas.Grind.{common_steps}
-use Rattle.std.proofs.Common.{◌≡◌, inl, inr, ℕ, Bool, List, [], ◌∷◌, ◌++◌, length, length-append, append-nil, Option, Some, IfSome, sym, ap, ◌∙◌, arith}
-use Rattle.std.proofs.lemmas.List.{append_cancel_left}
-use Rattle.text_lines.specs.Marker.{part_of}
-use Rattle.fleet_io.specs.Taken.{AppendsFront}
-use Rattle.link_frames.specs.Frames.{end_frame, packet_byte}
-use Rattle.link_upload.specs.Links.{Link}
-use Rattle.show_judge.specs.Answers.{Wrote}
+use Rattle.show_uploads.proofs.Prelude.{common_steps, ◌≡◌, inl, inr, ℕ, Bool, List, [], ◌∷◌, ◌++◌, length, length-append, append-nil, Option, Some, IfSome, sym, ap, ◌∙◌, arith, append_cancel_left, part_of, AppendsFront, end_frame, packet_byte, Link, Wrote, cut_of, some_map, IsLinkOf, HasBegun, upload_ways}
 use Rattle.show_judge.specs.Headline.{UploadsText}
-use Rattle.show_judge.specs.Shows.{cut_of}
-use Rattle.show_judge.proofs.RunLemmas.{some_map}
-use Rattle.show_uploads.specs.Ready.{IsLinkOf}
-use Rattle.show_uploads.specs.Upload.{HasBegun, upload_ways}
 
 -- a packet's first byte isn't that of an end frame
 never_front : (status : ℕ) (old new : Option (List ℕ)) → AppendsFront old new (end_frame status) → HasBegun old new → ⊥

@@ -1,3 +1,4 @@
+mod Prelude
 pub mod RehearsalLemmas
 pub mod ScheduleLemmas
 pub mod RehearseLemmas

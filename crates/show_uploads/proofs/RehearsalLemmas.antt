@@ -1,36 +1,8 @@
 -- What a rehearsal gives: one outcome alone, and one where the show lands.
-use Rattle.std.proofs.lemmas.Grind.{common_steps}
-use Rattle.std.proofs.Common.{◌≡◌, ℕ, suc, ◌+◌, ◌<◌, Bool, true, false, cond, List, [], ◌∷◌, ◌++◌, append-nil, length, get_or, Option, Some, None, Result, Ok, Err, refl, sym, ap, subst, ◌∙◌, arith}
-use Rattle.std.proofs.lemmas.List.{length-replicate}
-use Rattle.std.specs.Option.{option_map, option_or}
-use Rattle.choreo_show.specs.Plain.{PlainShow}
-use Rattle.choreo_show.specs.declared.show.Settings.{Settings}
-use Rattle.cue_grid.specs.declared.grid.Grid.{Grid}
-use Rattle.cue_grid.specs.Cues.{grid_of}
-use Rattle.fleet_world.specs.Schedules.{ScheduleLaw, schedule_of}
-use Rattle.firmware_memory.specs.Decoded.{CurveLaw, DecodesTo}
-use Rattle.refusals.specs.declared.refusal.Refusal.{Refusal}
+use Rattle.show_uploads.proofs.Prelude.{common_steps, ◌≡◌, ℕ, suc, ◌+◌, ◌<◌, Bool, true, false, cond, List, [], ◌∷◌, ◌++◌, append-nil, length, get_or, Option, Some, None, Result, Ok, Err, refl, sym, ap, subst, ◌∙◌, arith, length-replicate, option_map, option_or, PlainShow, Settings, Grid, grid_of, ScheduleLaw, schedule_of, CurveLaw, DecodesTo, Refusal, blank_drone, rehearsed, AreTexts, IsFound, IsRehearsalText, drone_text, title_line, IsLanded, Lands, session_for, Traj, Progress, Going, Done, GaveUp, Refused, Differs, WorldEvent, DroneState, progress, Upload, IsUnaltered, World, Outcome, outcome, refused, AllDecode, RehearsalEnds, Rehearses, ScheduleGives, schedule_refusal, faulty_event, Cut, name_at, names_of, sent_of, words_of, session_of}
 use Rattle.refusals.specs.declared.refusal.Refusal.TheVariants as refusal
-use Rattle.rehearsal.specs.Rehearsed.{blank_drone, rehearsed}
-use Rattle.rehearsal.specs.Texts.{AreTexts, IsFound, IsRehearsalText, drone_text, title_line}
-use Rattle.show_plan.specs.Landing.{IsLanded, Lands, session_for}
-use Rattle.traj_codec.specs.declared.traj.Traj.{Traj}
-use Rattle.upload_model.specs.declared.events.Progress.{Progress}
-use Rattle.upload_model.specs.declared.events.Progress.TheVariants.{Going, Done, GaveUp, Refused, Differs}
-use Rattle.upload_model.specs.declared.events.WorldEvent.{WorldEvent}
 use Rattle.upload_model.specs.declared.loads.Def.{Def}
-use Rattle.upload_model.specs.Drones.{DroneState}
-use Rattle.upload_model.specs.Hosts.{progress}
-use Rattle.upload_model.specs.Sessions.{Upload}
 use Rattle.upload_model.specs.Memories.{IsDrone}
-use Rattle.upload_model.specs.Theorem.{IsUnaltered}
-use Rattle.upload_model.specs.Worlds.{World}
-use Rattle.show_judge.specs.Verb.{Outcome, outcome}
-use Rattle.show_judge.specs.Outcome.{refused}
-use Rattle.show_uploads.specs.Rehearse.{AllDecode, RehearsalEnds, Rehearses, ScheduleGives, schedule_refusal}
-use Rattle.show_judge.specs.Refused.{faulty_event}
-use Rattle.show_judge.specs.Shows.{Cut, name_at, names_of, sent_of, words_of}
-use Rattle.show_uploads.specs.Sessions.{session_of}
 
 -- ---- one outcome alone
 
@@ -58,12 +30,9 @@ pub outcome_by : (o p : Outcome) → o.status ≡ p.status → o.output ≡ p.ou
 outcome_by o p status output = ap (λ (n : ℕ). outcome n o.output) status ∙ ap (outcome p.status) output
 
 ends_one : CurveLaw → (q : Progress) (s : PlainShow) (events : List WorldEvent) (w : World) (o p : Outcome) → RehearsalEnds q s events w o → RehearsalEnds q s events w p → o ≡ p
-ends_one law Going s events w o p first second = first ∙ sym second
-ends_one law (GaveUp drone packet) s events w o p first second = first ∙ sym second
-ends_one law (Refused drone packet status) s events w o p first second = first ∙ sym second
-ends_one law (Differs drone address byte got) s events w o p first second = first ∙ sym second
 ends_one law Done s events w o p first second =
     outcome_by o p (first.0 ∙ sym second.0) (text_one law w.drones s.settings.trajectory_id (words_of s) o.output p.output first.1.held second.1.held)
+ends_one law q s events w o p first second = first ∙ sym second
 
 pub events_one : (given : Result (List WorldEvent) ℕ) (xs ys : List WorldEvent) → given ≡ Ok xs → given ≡ Ok ys → xs ≡ ys
 events_one given xs ys first second = cc

@@ -1,28 +1,7 @@
 -- The laws of `rehearse`.
-use Rattle.std.proofs.lemmas.Grind.{common_steps}
-use Rattle.std.proofs.Common.{◌≡◌, ℕ, Bool, true, false, List, length, map, Option, Some, None, Result, Ok, refl, sym, ◌∙◌, arith}
-use Rattle.std.proofs.lemmas.List.{length-map}
-use Rattle.choreo_lines.specs.Name.{Name}
-use Rattle.choreo_show.specs.Plain.{PlainShow}
+use Rattle.show_uploads.proofs.Prelude.{common_steps, ◌≡◌, ℕ, Bool, true, false, List, length, map, Option, Some, None, Result, Ok, refl, sym, ◌∙◌, arith, length-map, Name, PlainShow, grid_of, ScheduleLaw, schedule_of, CurveLaw, rehearsed, Refusal, Progress, Done, WorldEvent, progress, World, faulty_event, second_refusal, Cut, sent_of, words_of, Outcome, RehearsalEnds, RehearseGives, RehearseLaw, RehearseSucceeds, ScheduleGives, rehearse_known, schedule_refusal, most_text, session_of, flies_text}
 use Rattle.choreo_show.specs.declared.show.DroneLine.{DroneLine}
-use Rattle.cue_grid.specs.Cues.{grid_of}
-use Rattle.fleet_world.specs.Schedules.{ScheduleLaw, schedule_of}
-use Rattle.firmware_memory.specs.Decoded.{CurveLaw}
-use Rattle.rehearsal.specs.Rehearsed.{rehearsed}
-use Rattle.refusals.specs.declared.refusal.Refusal.{Refusal}
 use Rattle.show_plan.proofs.Flight.{sent_counted}
-use Rattle.upload_model.specs.declared.events.Progress.{Progress}
-use Rattle.upload_model.specs.declared.events.Progress.TheVariants.{Done}
-use Rattle.upload_model.specs.declared.events.WorldEvent.{WorldEvent}
-use Rattle.upload_model.specs.Hosts.{progress}
-use Rattle.upload_model.specs.Worlds.{World}
-use Rattle.show_judge.specs.Refused.{faulty_event, second_refusal}
-use Rattle.show_judge.specs.Shows.{Cut, sent_of, words_of}
-use Rattle.show_judge.specs.Verb.{Outcome}
-use Rattle.show_uploads.specs.Rehearse.{RehearsalEnds, RehearseGives, RehearseLaw, RehearseSucceeds, ScheduleGives, rehearse_known, schedule_refusal}
-use Rattle.fleet_math.specs.Limits.{most_text}
-use Rattle.show_uploads.specs.Sessions.{session_of}
-use Rattle.show_judge.proofs.HeadlineLemmas.{flies_text}
 use Rattle.show_uploads.proofs.RehearsalLemmas.{events_one, schedule_one, schedule_some}
 
 ends_done : (p : Progress) (s : PlainShow) (events : List WorldEvent) (w : World) (o : Outcome) → p ≡ Done → RehearsalEnds p s events w o → o.status ≡ 0

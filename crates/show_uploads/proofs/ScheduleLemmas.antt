@@ -1,53 +1,22 @@
 -- What `rehearse` answers, from what its steps do.
-use Rattle.std.proofs.lemmas.Grind.{common_steps}
-use Rattle.std.proofs.Common.{◌≡◌, ℕ, zero, suc, ◌+◌, ◌<◌, ◌≤◌, Bool, true, false, cond, ◌==◌, List, [], ◌∷◌, ◌++◌, All, length, map, nat_lt, Option, Some, None, Result, Ok, Err, IfOk, IfSome, refl, sym, ap, subst, ◌∙◌, arith}
+use Rattle.show_uploads.proofs.Prelude.{common_steps, ◌≡◌, ℕ, zero, suc, ◌+◌, ◌<◌, ◌≤◌, Bool, true, false, cond, ◌==◌, List, [], ◌∷◌, ◌++◌, All, length, map, nat_lt, Option, Some, None, Result, Ok, Err, IfOk, IfSome, refl, sym, ap, subst, ◌∙◌, arith, option_map, option_or, length-map, All-head, All-map, All-tail, All-weaker, Name, PlainShow, Settings, Grid, schedule_of, WorldStandsAt, WorldState, state_at, load_for, Refusal, rehearsed, AreTexts, IsFound, IsRehearsalText, drone_text, Fitted, IsFitted, IsValidFitted, Lands, session_for, Traj, Progress, Going, Done, GaveUp, Refused, Differs, WorldEvent, DroneState, acked, all_packets, ended_by, ended_for, ending, flight, gave_up, or_else, progress, progress_within, sent_to, ticks, Upload, drone_count, packet_count, IsUnaltered, World, outcome_of, Outcome, outcome, AllDecode, RehearsalEnds, RehearseGives, Rehearses, SaysHeld, Cut, words_of, most_text}
 use Rattle.std.specs.Prelude.{find, take}
 use Rattle.std.specs.List.{range_with_len}
-use Rattle.std.specs.Option.{option_map, option_or}
 use Rattle.std.specs.declared.alloc.AllocError.{AllocError}
 use Rattle.std.proofs.lemmas.Bool.{le-ltb}
-use Rattle.std.proofs.lemmas.List.{length-map}
-use Rattle.std.proofs.lemmas.List.Elements.{All-head, All-map, All-tail, All-weaker}
-use Rattle.choreo_lines.specs.Name.{Name}
-use Rattle.choreo_show.specs.Plain.{PlainShow}
-use Rattle.choreo_show.specs.declared.show.Settings.{Settings}
 use Rattle.crtp_packets.specs.Reading.{up_of}
 use Rattle.crtp_packets.specs.declared.reading.PacketFault.{PacketFault}
 use Rattle.crtp_packets.specs.declared.reading.Up.{Up}
-use Rattle.cue_grid.specs.declared.grid.Grid.{Grid}
-use Rattle.fleet_world.specs.Schedules.{schedule_of}
-use Rattle.fleet_world.specs.WorldState.{WorldStandsAt, WorldState, state_at}
-use Rattle.firmware_memory.specs.Decoded.{load_for}
-use Rattle.refusals.specs.declared.refusal.Refusal.{Refusal}
 use Rattle.refusals.specs.declared.refusal.Refusal.TheVariants as refusal
-use Rattle.rehearsal.specs.Rehearsed.{rehearsed}
-use Rattle.rehearsal.specs.Texts.{AreTexts, IsFound, IsRehearsalText, drone_text}
-use Rattle.show_plan.specs.declared.fitted.Fitted.{Fitted}
-use Rattle.show_plan.specs.Fitting.{IsFitted, IsValidFitted}
-use Rattle.show_plan.specs.Landing.{Lands, session_for}
 use Rattle.traj_codec.specs.Joined.{joined}
-use Rattle.traj_codec.specs.declared.traj.Traj.{Traj}
 use Rattle.upload_model.proofs.Answers.{reply-by}
 use Rattle.upload_model.proofs.HostLaws.{All-flat_map_range, All-range, IsFlight, flight-fits}
 use Rattle.upload_model.specs.declared.events.Event.{Event}
 use Rattle.upload_model.specs.declared.events.Event.TheVariants as event
-use Rattle.upload_model.specs.declared.events.Progress.{Progress}
-use Rattle.upload_model.specs.declared.events.Progress.TheVariants.{Going, Done, GaveUp, Refused, Differs}
 use Rattle.upload_model.specs.declared.events.Reply.{Reply}
 use Rattle.upload_model.specs.declared.events.Sent.{Sent}
-use Rattle.upload_model.specs.declared.events.WorldEvent.{WorldEvent}
-use Rattle.upload_model.specs.Drones.{DroneState}
-use Rattle.upload_model.specs.Hosts.{acked, all_packets, ended_by, ended_for, ending, flight, gave_up, or_else, progress, progress_within, sent_to, ticks}
 use Rattle.upload_model.specs.Replies.{ReadBack, compared, end_of, read_reply, reply_in, status_reply}
-use Rattle.upload_model.specs.Sessions.{Upload, drone_count, packet_count}
-use Rattle.upload_model.specs.Theorem.{IsUnaltered}
-use Rattle.upload_model.specs.Worlds.{World}
 use Rattle.show_judge.specs.declared.ends.Answer.{Answer}
-use Rattle.show_judge.specs.Answers.{outcome_of}
-use Rattle.show_judge.specs.Verb.{Outcome, outcome}
-use Rattle.show_uploads.specs.Rehearse.{AllDecode, RehearsalEnds, RehearseGives, Rehearses, SaysHeld}
-use Rattle.show_judge.specs.Shows.{Cut, words_of}
-use Rattle.fleet_math.specs.Limits.{most_text}
 use Rattle.show_uploads.proofs.RehearsalLemmas.{decoded_after}
 
 -- ---- whose packet or byte ends an upload
@@ -116,9 +85,7 @@ ending_among s g = grind (arith, common_steps, cond, ended_by_among)
 or_else_among : (n : ℕ) (p q : Progress) → IsAmong n p → IsAmong n q → IsAmong n (or_else p q)
 or_else_among n Going q first second = second
 or_else_among n Done q first second = tt
-or_else_among n (GaveUp drone packet) q first second = first
-or_else_among n (Refused drone packet status) q first second = first
-or_else_among n (Differs drone address byte got) q first second = first
+or_else_among n p q first second = first
 
 within_among : (s : Upload) (h : List Event) (n : ℕ) → IsAmong (drone_count s) (progress_within s h n)
 unfolding progress_within

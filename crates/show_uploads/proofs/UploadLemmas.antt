@@ -1,47 +1,21 @@
 -- What a run of `upload` is, from what it read and wrote.
-use Rattle.std.proofs.lemmas.Grind.{common_steps}
-use Rattle.std.proofs.Common.{◌≡◌, ◌≢◌, ◌⊎◌, inl, inr, ℕ, ◌+◌, ◌≤◌, Bool, true, false, List, [], ◌∷◌, ◌++◌, length, Contains, append_assoc, append-nil, length-append, Option, Some, None, IfSome, refl, sym, ap, subst, ◌∙◌, arith}
+use Rattle.show_uploads.proofs.Prelude.{common_steps, ◌≡◌, ◌≢◌, ◌⊎◌, inl, inr, ℕ, ◌+◌, ◌≤◌, Bool, true, false, List, [], ◌∷◌, ◌++◌, length, Contains, append_assoc, append-nil, length-append, Option, Some, None, IfSome, refl, sym, ap, subst, ◌∙◌, arith, append_cancel_right, All-cons, All-contains, All-nil, part_of, rest_of, PlainShow, has_whole_marker, AppendsFront, TakesFront, end_frame, frames_bytes, IsPrompt, StaysPrompt, StopsAtEnd, UploadFails, UploadGives, Link, Refusal, Fitted, IsFitted, session_for, Settings, Traj, IsAccepted, IsRefusedBy, Wrote, IsOutcomeOf, IsSafe, OutcomeLaw, IsOfInput, IsJudged, Outcome, Run, outcome, run_of, most_text, Cut, cut_of, IsLinkOf, ReadyGives, link_in, session_of, UploadStops, UploadStopsReading, UploadsPromptly, upload_verb, upload_ways, refused_among, refused_judged, some_map, statuses}
 use Rattle.std.specs.Io.KnownBytes.{Appends, Consumes}
-use Rattle.std.proofs.lemmas.List.{append_cancel_right}
-use Rattle.std.proofs.lemmas.List.Elements.{All-cons, All-contains, All-nil}
-use Rattle.text_lines.specs.Marker.{part_of, rest_of}
 use Rattle.choreo_reader.specs.Grammar.{StandsFor}
 use Rattle.choreo_reader.specs.Laws.{ShowLaw}
-use Rattle.choreo_show.specs.Plain.{PlainShow}
 use Rattle.fleet_io.specs.Causes.{Rose}
 use Rattle.fleet_io.specs.declared.parts.Part.{Part}
-use Rattle.fleet_io.specs.Held.{has_whole_marker}
 use Rattle.fleet_io.specs.Parts.{MarkerLaw, TakesFewAfter, TakesMarked, TakesPart}
-use Rattle.fleet_io.specs.Taken.{AppendsFront, TakesFront}
 use Rattle.fleet_io.proofs.MarkerLaws.{whole_marker-front}
-use Rattle.link_frames.specs.Frames.{end_frame, frames_bytes}
-use Rattle.link_upload.specs.Uploads.{IsPrompt, StaysPrompt, StopsAtEnd, UploadFails, UploadGives}
-use Rattle.link_upload.specs.Links.{Link}
-use Rattle.refusals.specs.declared.refusal.Refusal.{Refusal}
 use Rattle.refusals.specs.Refusals.{status_of}
 use Rattle.show_uploads.specs.declared.uploading.Ready.{Ready}
 use Rattle.show_uploads.specs.declared.uploading.Ready.TheVariants as ready
 use Rattle.show_judge.specs.declared.judging.Accepted.{Accepted}
-use Rattle.show_plan.specs.declared.fitted.Fitted.{Fitted}
-use Rattle.show_plan.specs.Fitting.{IsFitted}
-use Rattle.show_plan.specs.Landing.{session_for}
-use Rattle.choreo_show.specs.declared.show.Settings.{Settings}
-use Rattle.traj_codec.specs.declared.traj.Traj.{Traj}
 use Rattle.upload_core.specs.HostState.{HostState}
 use Rattle.show_judge.specs.declared.input.Text.TheVariants.{Whole}
-use Rattle.show_judge.specs.Answers.{IsAccepted, IsRefusedBy, Wrote}
 use Rattle.show_judge.specs.Input.{IsShowText}
-use Rattle.show_judge.specs.Outcome.{IsOutcomeOf, IsSafe, OutcomeLaw}
-use Rattle.show_judge.specs.Refused.{IsOfInput}
 use Rattle.show_judge.specs.Runs.{IsOutput, IsStopped, Runs}
-use Rattle.show_judge.specs.Verb.{IsJudged, Outcome, Run, outcome, run_of}
-use Rattle.fleet_math.specs.Limits.{most_text}
-use Rattle.show_judge.specs.Shows.{Cut, cut_of}
-use Rattle.show_uploads.specs.Ready.{IsLinkOf, ReadyGives}
-use Rattle.show_uploads.specs.Sessions.{link_in, session_of}
-use Rattle.show_uploads.specs.Upload.{UploadStops, UploadStopsReading, UploadsPromptly, upload_verb, upload_ways}
 use Rattle.show_judge.proofs.AnswerLemmas.{refused_outcome, refused_some}
-use Rattle.show_judge.proofs.RunLemmas.{refused_among, refused_judged, some_map, statuses}
 
 -- ---- what was read
 

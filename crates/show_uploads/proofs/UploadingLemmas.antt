@@ -1,15 +1,6 @@
 -- The laws of `upload`.
-use Rattle.std.proofs.Common.{◌≡◌, ◌==◌, Bool, [], ◌++◌, length, refl, arith}
-use Rattle.std.proofs.lemmas.List.Elements.{All-nil}
-use Rattle.choreo_show.specs.Plain.{PlainShow}
-use Rattle.link_frames.specs.Frames.{end_frame}
+use Rattle.show_uploads.proofs.Prelude.{◌≡◌, ◌==◌, Bool, [], ◌++◌, length, refl, arith, All-nil, PlainShow, end_frame, EndsWith, UploadGives, UploadLaw, frame_limit, Cut, Outcome, flies_text, link_in, UploadSucceeds, UploadingLaw, upload_verb}
 use Rattle.link_upload.specs.Sends.{events_in, sent_over}
-use Rattle.link_upload.specs.Uploads.{EndsWith, UploadGives, UploadLaw, frame_limit}
-use Rattle.show_judge.specs.Shows.{Cut}
-use Rattle.show_judge.specs.Verb.{Outcome}
-use Rattle.show_judge.proofs.HeadlineLemmas.{flies_text}
-use Rattle.show_uploads.specs.Sessions.{link_in}
-use Rattle.show_uploads.specs.Upload.{UploadSucceeds, UploadingLaw, upload_verb}
 use Rattle.show_uploads.proofs.RehearsalLemmas.{outcome_by}
 
 one : UploadLaw → (start readback : Bool) (s : PlainShow) (cut : Cut) (o p : Outcome) → UploadGives (link_in s start readback) cut.frames o.status o.output →

@@ -1,24 +1,5 @@
 -- A host to which nothing has happened.
-use Rattle.std.proofs.lemmas.Grind.{common_steps}
-use Rattle.std.proofs.Common.{◌≡◌, ℕ, ◌+◌, ◌<◌, ◌≤◌, Bool, false, not, cond, List, [], ◌∷◌, ◌++◌, length, refl, ap, sym, ◌∙◌, arith}
-use Rattle.std.specs.Prelude.{All}
-use Rattle.std.specs.List.{range_with_len, list_all, flat_map}
-use Rattle.std.proofs.lemmas.Bool.{eq-eqb, ne_eqb, false≢true, false_from_ne_true}
-use Rattle.std.proofs.lemmas.List.Elements.{All-nil, All-cons, All-from_get_or}
-use Rattle.upload_model.specs.declared.events.Phase.{Phase}
-use Rattle.upload_model.specs.declared.events.Phase.TheVariants.{Loading, Reading, Starting}
-use Rattle.upload_model.specs.declared.events.Progress.TheVariants.{Going}
-use Rattle.upload_model.specs.declared.events.Sent.{Sent}
-use Rattle.upload_model.specs.Sessions.{Upload, drone_count}
-use Rattle.upload_model.specs.Hosts.{Packets, all_settled, phase_of, all_packets, acked, sent_to, flight_in, flight_at, flight}
-use Rattle.upload_model.proofs.Readings.{count-loads}
-use Rattle.upload_model.proofs.HostLaws.{Settled-from, acked-nil, all_packets-each}
-use Rattle.upload_model.proofs.HostSteps.{ticks-nil, progress-nil, phase-inside, list_all-range-agree, flight_after-agree}
-use Rattle.upload_core.specs.declared.row.InFlight.{InFlight}
-use Rattle.upload_core.specs.declared.row.Row.{Row}
-use Rattle.upload_core.specs.HostStandsFor.{HostStandsFor}
-use Rattle.upload_core.specs.Rows.{packets_in, row_at, marked, counted, count_in}
-use Rattle.upload_core.specs.Steps.{IsBetween, IsStarting, RowsStand, IsReady}
+use Rattle.upload_core.proofs.Prelude.{common_steps, ◌≡◌, ℕ, ◌+◌, ◌<◌, ◌≤◌, Bool, false, not, cond, List, [], ◌∷◌, ◌++◌, length, refl, ap, sym, ◌∙◌, arith, All, range_with_len, list_all, flat_map, eq-eqb, ne_eqb, false≢true, false_from_ne_true, All-nil, All-cons, All-from_get_or, Phase, Loading, Reading, Starting, Going, Sent, Upload, drone_count, Packets, all_settled, phase_of, all_packets, acked, sent_to, flight_in, flight_at, flight, count-loads, Settled-from, acked-nil, all_packets-each, ticks-nil, progress-nil, phase-inside, list_all-range-agree, flight_after-agree, InFlight, Row, HostStandsFor, packets_in, row_at, marked, counted, count_in, IsBetween, IsStarting, RowsStand, IsReady}
 use Rattle.upload_core.proofs.RowLemmas.{row-flight}
 use Rattle.upload_core.proofs.Windows.{range-one_more, flat_map-append_one}
 use Rattle.upload_core.proofs.Standing.{IsUntired}

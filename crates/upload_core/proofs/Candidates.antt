@@ -1,16 +1,9 @@
 -- Which packets of a drone a message says nothing of.
-use Rattle.std.proofs.lemmas.Grind.{common_steps}
-use Rattle.std.proofs.Common.{◌≡◌, ℕ, ◌+◌, ◌-◌, ◌*◌, ◌<◌, ◌≤◌, Bool, true, false, not, cond, ◌&&◌, ◌||◌, eqb, ltb, leb, List, length, take, drop, get_or, ap, sym, ◌∙◌, arith, Some, None, Ok, inl, inr}
+use Rattle.upload_core.proofs.Prelude.{common_steps, ◌≡◌, ℕ, ◌+◌, ◌-◌, ◌*◌, ◌<◌, ◌≤◌, Bool, true, false, not, cond, ◌&&◌, ◌||◌, eqb, ltb, leb, List, length, take, drop, get_or, ap, sym, ◌∙◌, arith, Some, None, Ok, inl, inr, cases_Bool, and_parts, false≢true, eqb-true, ltb-true, leb-true, not-true, lt-ltb, false_from_ne_true, Silent, Upload, write_count, load_count, read_count, start_number, packet_count, packet_at, is_read, read_address, wanted, status_reply, read_reply, reply_in, Kind, a_write, a_define, a_read, a_start, packet_kind, packet_at-define, packet_at-start, is_read-at, reply-plain, reply-of_read}
 use Rattle.std.specs.Str.{bytes_eq}
 use Rattle.arrayvec.specs.ArrayVec.{ArrayVec}
-use Rattle.std.proofs.lemmas.Bool.{cases_Bool, and_parts, false≢true, eqb-true, ltb-true, leb-true, not-true, lt-ltb, false_from_ne_true}
 use Rattle.std.proofs.lemmas.Slice.Eq.{bytes_eq-Decides}
 use Rattle.crtp_packets.specs.declared.reading.Up.TheVariants.{WriteAnswer, ReadAnswer, CommandAnswer}
-use Rattle.upload_model.specs.declared.events.Reply.TheVariants.{Silent}
-use Rattle.upload_model.specs.Sessions.{Upload, write_count, load_count, read_count, start_number, packet_count, packet_at, is_read, read_address, wanted}
-use Rattle.upload_model.specs.Replies.{status_reply, read_reply, reply_in}
-use Rattle.upload_model.proofs.Readings.{Kind, a_write, a_define, a_read, a_start, packet_kind, packet_at-define, packet_at-start, is_read-at}
-use Rattle.upload_model.proofs.Answers.{reply-plain, reply-of_read}
 
 pub write-silent : (s : Upload) (d j id address status : ℕ) → (j < write_count s d → id ≡ s.memory_id → address ≡ s.offset + 24 * j → ⊥) →
     reply_in s d j (Ok (WriteAnswer id address status)) ≡ Silent

@@ -1,26 +1,6 @@
 -- What an answer makes of an upload: what it acknowledges, and what it ends it with.
-use Rattle.std.proofs.lemmas.Grind.{common_steps}
-use Rattle.std.proofs.Common.{◌≡◌, ◌⊎◌, ◌==◌, ℕ, ◌<◌, ◌≤◌, Bool, true, false, not, cond, ◌&&◌, ◌||◌, List, [], ◌∷◌, filter, refl, ap, sym, subst, ◌∙◌, arith, Option, Some, None, Err, inl, inr}
-use Rattle.std.specs.Prelude.{find}
-use Rattle.std.specs.List.{range_with_len, list_all}
-use Rattle.std.proofs.lemmas.Bool.{cases_eq, eq-eqb, eqb-true, lt-ltb, false≢true, and_parts, and_from, false_from_ne_true, or_left, or_right, or_parts, and_left, and_right}
-use Rattle.crtp_packets.specs.Reading.{up_of}
-use Rattle.crtp_packets.specs.declared.reading.PacketFault.{PacketFault}
-use Rattle.upload_model.specs.declared.events.Event.{Event}
+use Rattle.upload_core.proofs.Prelude.{common_steps, ◌≡◌, ◌⊎◌, ◌==◌, ℕ, ◌<◌, ◌≤◌, Bool, true, false, not, cond, ◌&&◌, ◌||◌, List, [], ◌∷◌, filter, refl, ap, sym, subst, ◌∙◌, arith, Option, Some, None, Err, inl, inr, find, range_with_len, list_all, cases_eq, eq-eqb, eqb-true, lt-ltb, false≢true, and_parts, and_from, false_from_ne_true, or_left, or_right, or_parts, and_left, and_right, up_of, PacketFault, Event, Sent, Phase, Progress, Going, Done, Reply, Silent, Good, Ends, Upload, drone_count, packet_count, reply_in, reply_to, is_good, is_end, end_of, Packets, phase_of, includes, flight_after, acknowledges, joined, all_packets, counts as counts_for, ended_for, ends_for, if_going, reply-by, Row, marked, counted, IsFor, RowsStand, Hears}
 use Rattle.upload_model.specs.declared.events.Event.TheVariants as event
-use Rattle.upload_model.specs.declared.events.Sent.{Sent}
-use Rattle.upload_model.specs.declared.events.Phase.{Phase}
-use Rattle.upload_model.specs.declared.events.Progress.{Progress}
-use Rattle.upload_model.specs.declared.events.Progress.TheVariants.{Going, Done, GaveUp, Refused, Differs}
-use Rattle.upload_model.specs.declared.events.Reply.{Reply}
-use Rattle.upload_model.specs.declared.events.Reply.TheVariants.{Silent, Good, Ends}
-use Rattle.upload_model.specs.Sessions.{Upload, drone_count, packet_count}
-use Rattle.upload_model.specs.Replies.{reply_in, reply_to, is_good, is_end, end_of}
-use Rattle.upload_model.specs.Hosts.{Packets, phase_of, includes, flight_after, acknowledges, joined, all_packets, counts as counts_for, ended_for, ends_for, if_going}
-use Rattle.upload_model.proofs.Answers.{reply-by}
-use Rattle.upload_core.specs.declared.row.Row.{Row}
-use Rattle.upload_core.specs.Rows.{marked, counted}
-use Rattle.upload_core.specs.Steps.{IsFor, RowsStand, Hears}
 use Rattle.upload_core.proofs.Numbers.{among-range_in}
 use Rattle.upload_core.proofs.Staying.{includes-rows}
 
@@ -164,10 +144,7 @@ module _ (s : Upload) (e : Event) (done : Packets) where
 
 if_going-nothing : (p : Progress) → if_going p [] ≡ []
 if_going-nothing Going = refl
-if_going-nothing Done = refl
-if_going-nothing (GaveUp d k) = refl
-if_going-nothing (Refused d k status) = refl
-if_going-nothing (Differs d address bytes got) = refl
+if_going-nothing p = refl
 
 filter-itself : (xs ys : List Sent) → ((x : Sent) → includes ys x ≡ true → includes xs x ≡ true) → filter (λ x. not (includes xs x)) ys ≡ []
 filter-itself xs [] sub = refl

@@ -1,3 +1,4 @@
+mod Prelude
 pub mod Beginning
 pub mod Looking
 pub mod Numbers

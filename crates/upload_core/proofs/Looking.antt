@@ -1,17 +1,7 @@
 -- What `cursor` and `word` say of the events that a host stands for.
-use Rattle.std.proofs.lemmas.Grind.{common_steps}
-use Rattle.std.proofs.Common.{◌≡◌, ◌≢◌, ◌⊎◌, ◌==◌, ◌%◌, ◌+◌, ◌*◌, ◌^◌, ◌<◌, ◌≤◌, ◌&&◌, ◌∙◌, ℕ, zero, suc, Bool, true, false, List, cond, refl, ap, sym, arith, inl, inr, w64}
-use Rattle.std.specs.Prelude.{nat_lt, bit_or}
-use Rattle.std.specs.List.{range_with_len}
-use Rattle.std.proofs.lemmas.Bool.{cases_eq, cases_lt, lt-ltb, le-ltb}
+use Rattle.upload_core.proofs.Prelude.{common_steps, ◌≡◌, ◌≢◌, ◌⊎◌, ◌==◌, ◌%◌, ◌+◌, ◌*◌, ◌^◌, ◌<◌, ◌≤◌, ◌&&◌, ◌∙◌, ℕ, zero, suc, Bool, true, false, List, cond, refl, ap, sym, arith, inl, inr, w64, nat_lt, bit_or, range_with_len, cases_eq, cases_lt, lt-ltb, le-ltb, Event, Going, Done, Upload, drone_count, packet_count, Packets, acked, progress, HostState, view_of, HostStandsFor, bit, marked, first_open, cursor_of, IsWord}
 use Rattle.std.proofs.lemmas.Nat.Bits.{bit_at_set_same, bit_at_set_other}
-use Rattle.upload_model.specs.declared.events.Event.{Event}
-use Rattle.upload_model.specs.declared.events.Progress.TheVariants.{Going, Done}
-use Rattle.upload_model.specs.Sessions.{Upload, drone_count, packet_count}
-use Rattle.upload_model.specs.Hosts.{Packets, acked, progress}
-use Rattle.upload_core.specs.HostState.{HostState, view_of}
-use Rattle.upload_core.specs.HostStandsFor.{HostStandsFor}
-use Rattle.upload_core.specs.Rows.{bit, marked, first_open, cursor_of, IsWord}
+use Rattle.upload_core.proofs.Numbers.{shut}
 
 -- the host has marked what the events acknowledge
 pub marks-stand : (v : HostState) (h : List Event) (d : ℕ) → d < drone_count v.session → HostStandsFor (view_of v) h →
@@ -66,10 +56,6 @@ AreBits p k word = (j : ℕ) → j < 64 → bit word j ≡ (nat_lt j k && p j)
 -- a number is below k + 1 just where it is below k, unless it is k
 below-same : (j k : ℕ) → j ≢ k → nat_lt j k ≡ nat_lt j (k + 1)
 below-same j k other = grind (arith, common_steps, cases_lt, lt-ltb, le-ltb)
-
-pub shut : (b : Bool) → (b && false) ≡ false
-shut true = refl
-shut false = refl
 
 pub bits-one : (p : ℕ → Bool) (k word : ℕ) → k < 64 → AreBits p k word → p k ≡ true → AreBits p (k + 1) (bit_or word (1 * 2 ^ k % 18446744073709551616))
 bits-one p k word l bits here j b = elim (cases_eq j k) [

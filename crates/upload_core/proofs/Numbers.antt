@@ -1,12 +1,5 @@
 -- Numbers that rise, and what is past of a row.
-use Rattle.std.proofs.lemmas.Grind.{common_steps}
-use Rattle.std.proofs.Common.{◌≡◌, ◌⊎◌, ◌==◌, ℕ, zero, suc, ◌+◌, ◌-◌, ◌<◌, ◌≤◌, Bool, true, false, not, cond, ◌&&◌, ◌||◌, ltb, List, [], ◌∷◌, ◌++◌, filter, refl, ap, sym, subst, ◌∙◌, arith, inl, inr, rules}
-use Rattle.std.specs.List.{range_with_len, list_all}
-use Rattle.std.proofs.lemmas.Bool.{cases_eq, cases_lt, eq-eqb, ne_eqb, lt-ltb, le-ltb, false≢true}
-use Rattle.std.proofs.lemmas.List.Folds.{list_any-append}
-use Rattle.std.proofs.lemmas.List.Elements.{filter-append}
-use Rattle.upload_core.specs.Rows.{among, is_past}
-use Rattle.upload_core.specs.Steps.{IsBetween}
+use Rattle.upload_core.proofs.Prelude.{and_parts, and_from, filter-range-agree, common_steps, ◌≡◌, ◌⊎◌, ◌==◌, ℕ, zero, suc, ◌+◌, ◌-◌, ◌<◌, ◌≤◌, Bool, true, false, not, cond, ◌&&◌, ◌||◌, ltb, List, [], ◌∷◌, ◌++◌, filter, refl, ap, sym, subst, ◌∙◌, arith, inl, inr, rules, range_with_len, list_all, cases_eq, cases_lt, eq-eqb, ne_eqb, lt-ltb, le-ltb, false≢true, list_any-append, filter-append, among, is_past, IsBetween}
 
 -- ---- numbers that rise
 
@@ -46,6 +39,10 @@ pub or_nothing : (b : Bool) → (b || false) ≡ b
 or_nothing true = refl
 or_nothing false = refl
 
+pub shut : (b : Bool) → (b && false) ≡ false
+shut true = refl
+shut false = refl
+
 pub among-append : (xs ys : List ℕ) (k : ℕ) → among (xs ++ ys) k ≡ (among xs k || among ys k)
 among-append xs ys k = list_any-append (λ j. j == k) xs ys
 
@@ -67,7 +64,7 @@ among-without (x ∷ xs) k j = elim (cases_eq x k) [
       ∙ among-without xs k j ∙ elim (cases_eq x j) [
         | inl here ↦
             let is : (j == k) ≡ true = eq-eqb j k (sym here ∙ same) in
-            ap (λ c. among xs j && not c) is ∙ none (among xs j) ∙ sym (ap (λ c. (x == j || among xs j) && not c) is ∙ none (x == j || among xs j))
+            ap (λ c. among xs j && not c) is ∙ shut (among xs j) ∙ sym (ap (λ c. (x == j || among xs j) && not c) is ∙ shut (x == j || among xs j))
         | inr other ↦ sym (ap (λ c. (c || among xs j) && not (j == k)) (ne_eqb x j other))
       ]
   | inr apart ↦
@@ -79,10 +76,7 @@ among-without (x ∷ xs) k j = elim (cases_eq x k) [
         | inr other ↦
             ap (λ c. c || (among xs j && not (j == k))) (ne_eqb x j other) ∙ sym (ap (λ c. (c || among xs j) && not (j == k)) (ne_eqb x j other))
       ]
-] where
-  none : (b : Bool) → (b && false) ≡ false
-  none true = refl
-  none false = refl
+]
 
 -- ---- what is past
 
@@ -106,12 +100,6 @@ past-without a next k ks j h found = grind (arith, common_steps, ltb, not, among
 
 -- ---- what is open
 
-pub filter-agree : (p q : ℕ → Bool) (a n : ℕ) → ((k : ℕ) → a ≤ k → k < a + n → p k ≡ q k) → filter p (range_with_len a n) ≡ filter q (range_with_len a n)
-filter-agree p q a zero h = refl
-filter-agree p q a (suc n) h =
-    ap (λ b. cond b (a ∷ filter p (range_with_len (a + 1) n)) (filter p (range_with_len (a + 1) n))) (h a (omega arith) (omega arith))
-    ∙ ap (λ xs. cond (q a) (a ∷ xs) xs) (filter-agree p q (a + 1) n (λ k l b. h k (omega arith) (omega arith)))
-
 filter-all : (xs : List ℕ) → filter (λ k. true) xs ≡ xs
 filter-all [] = refl
 filter-all (x ∷ xs) = ap (λ ys. x ∷ ys) (filter-all xs)
@@ -125,7 +113,7 @@ among-rising a (suc n) (k ∷ ks) h = elim (cases_eq k a) [
   | inl same ↦
       let rest : IsBetween (a + 1) (a + 1 + n) ks = subst (λ (b : ℕ). IsBetween (a + 1) b ks) (let e : a + suc n ≡ a + 1 + n = omega arith in e) (subst (λ (i : ℕ). IsBetween (i + 1) (a + suc n) ks) same h.2) in
       ap (λ b. cond (b || among ks a) (a ∷ filter (among (k ∷ ks)) (range_with_len (a + 1) n)) (filter (among (k ∷ ks)) (range_with_len (a + 1) n))) (eq-eqb k a same)
-      ∙ ap (λ xs. a ∷ xs) (filter-agree (among (k ∷ ks)) (among ks) (a + 1) n (λ j l b. ap (λ c. c || among ks j) (ne_eqb k j (omega arith))) ∙ among-rising (a + 1) n ks rest)
+      ∙ ap (λ xs. a ∷ xs) (filter-range-agree (among (k ∷ ks)) (among ks) (a + 1) n (λ j l b. ap (λ c. c || among ks j) (ne_eqb k j (omega arith))) ∙ among-rising (a + 1) n ks rest)
       ∙ ap (λ (i : ℕ). i ∷ ks) (sym same)
   | inr other ↦
       let l = h.0 in
@@ -152,21 +140,24 @@ open-split a next n ks l h =
     ap (filter (λ k. not (is_past next ks k))) (range-split a (next - a) n)
     ∙ filter-append (λ k. not (is_past next ks k)) (range_with_len a (next - a)) (range_with_len (a + (next - a)) n)
     ∙ ap (λ (xs : List ℕ). xs ++ filter (λ k. not (is_past next ks k)) (range_with_len (a + (next - a)) n))
-    (filter-agree (λ k. not (is_past next ks k)) (among ks) a (next - a) (λ k m b. ap (λ c. not (c && not (among ks k))) (lt-ltb k next (omega arith)) ∙ not_not (among ks k))
+    (filter-range-agree (λ k. not (is_past next ks k)) (among ks) a (next - a) (λ k m b. ap (λ c. not (c && not (among ks k))) (lt-ltb k next (omega arith)) ∙ not_not (among ks k))
     ∙ among-rising a (next - a) ks (subst (λ (b : ℕ). IsBetween a b ks) (let e : next ≡ a + (next - a) = omega arith in e) h))
     ∙ ap (λ (k : ℕ). ks ++ filter (λ j. not (is_past next ks j)) (range_with_len k n)) (let e : a + (next - a) ≡ next = omega arith in e)
-    ∙ ap (λ (xs : List ℕ). ks ++ xs) (filter-agree (λ k. not (is_past next ks k)) (λ k. true) next n (λ k m b. ap not (past-later next ks k m)) ∙ filter-all (range_with_len next n))
+    ∙ ap (λ (xs : List ℕ). ks ++ xs) (filter-range-agree (λ k. not (is_past next ks k)) (λ k. true) next n (λ k m b. ap not (past-later next ks k m)) ∙ filter-all (range_with_len next n))
+
+pub all-weaker : (p q : ℕ → Bool) (a n : ℕ) → ((k : ℕ) → p k ≡ true → q k ≡ true) → list_all p (range_with_len a n) ≡ true → list_all q (range_with_len a n) ≡ true
+all-weaker p q a zero h e = refl
+all-weaker p q a (suc n) h e =
+    let parts = and_parts (p a) (list_all p (range_with_len (a + 1) n)) e in
+    and_from (q a) (list_all q (range_with_len (a + 1) n)) (h a parts.0) (all-weaker p q (a + 1) n h parts.1)
 
 -- one that isn't
 pub not-past : (p : ℕ → Bool) (a n k : ℕ) → a ≤ k → k < a + n → p k ≡ false → list_all p (range_with_len a n) ≡ false
 not-past p a zero k l b e = absurd (omega arith)
 not-past p a (suc n) k l b e = elim (cases_eq a k) [
   | inl same ↦ ap (λ c. c && list_all p (range_with_len (a + 1) n)) (ap p same ∙ e)
-  | inr other ↦ ap (λ c. p a && c) (not-past p (a + 1) n k (omega arith) (omega arith) e) ∙ none (p a)
-] where
-  none : (b : Bool) → (b && false) ≡ false
-  none true = refl
-  none false = refl
+  | inr other ↦ ap (λ c. p a && c) (not-past p (a + 1) n k (omega arith) (omega arith) e) ∙ shut (p a)
+]
 
 -- the head of rising numbers is the first that isn't past
 pub head-first : (next k : ℕ) (ks : List ℕ) → IsBetween 0 next (k ∷ ks) → ((j : ℕ) → j < k → is_past next (k ∷ ks) j ≡ true) × (is_past next (k ∷ ks) k ≡ false)

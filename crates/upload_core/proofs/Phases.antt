@@ -1,18 +1,5 @@
 -- The phase that an upload is in, and whether all is acknowledged.
-use Rattle.std.proofs.lemmas.Grind.{common_steps}
-use Rattle.std.proofs.Common.{◌≡◌, ℕ, ◌<◌, Bool, true, false, not, cond, ◌&&◌, ◌==◌, List, [], ◌∷◌, length, refl, ap, sym, subst, ◌∙◌, arith, inl, inr}
-use Rattle.std.specs.List.{range_with_len, list_all}
-use Rattle.std.proofs.lemmas.Bool.{cases_lt, false≢true, false_from_ne_true}
-use Rattle.upload_model.specs.declared.events.Phase.{Phase}
-use Rattle.upload_model.specs.declared.events.Phase.TheVariants.{Loading, Reading, Starting}
-use Rattle.upload_model.specs.declared.events.Sent.{Sent}
-use Rattle.upload_model.specs.Sessions.{Upload, drone_count, load_count, start_number, packet_count, first_of, count_of}
-use Rattle.upload_model.specs.Hosts.{Packets, all_settled, phase_of, all_packets}
-use Rattle.upload_model.proofs.HostLaws.{Settled-from, all_packets-each}
-use Rattle.upload_model.proofs.HostSteps.{all_settled-agree}
-use Rattle.upload_core.specs.declared.row.Row.{Row}
-use Rattle.upload_core.specs.Rows.{marked}
-use Rattle.upload_core.specs.Steps.{IsBegun, RowsStand}
+use Rattle.upload_core.proofs.Prelude.{common_steps, ◌≡◌, ℕ, ◌<◌, Bool, true, false, not, cond, ◌&&◌, ◌==◌, List, [], ◌∷◌, length, refl, ap, sym, subst, ◌∙◌, arith, inl, inr, range_with_len, list_all, cases_lt, false≢true, false_from_ne_true, Phase, Loading, Reading, Starting, Sent, Upload, drone_count, load_count, start_number, packet_count, first_of, count_of, Packets, all_settled, phase_of, all_packets, Settled-from, all_packets-each, all_settled-agree, Row, marked, IsBegun, RowsStand}
 use Rattle.upload_core.proofs.Staying.{settled-more}
 use Rattle.upload_core.proofs.Windows.{all-settled, not-settled, empty-all, some-window}
 use Rattle.upload_core.proofs.Standing.{list_all-packets_agree}

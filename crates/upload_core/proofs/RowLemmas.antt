@@ -1,22 +1,6 @@
 -- What is in flight of a row, and what one packet less or a tick more makes of it.
-use Rattle.std.proofs.lemmas.Grind.{common_steps}
-use Rattle.std.proofs.Common.{◌≡◌, ◌≢◌, ◌==◌, ℕ, zero, suc, ◌+◌, ◌-◌, ◌<◌, ◌≤◌, Bool, true, false, not, cond, ◌||◌, eqb, List, [], ◌∷◌, ◌++◌, length, take, drop, map, filter, set, get_or, refl, ap, sym, subst, ◌∙◌, arith, inl, inr}
-use Rattle.std.specs.Prelude.{All}
-use Rattle.std.specs.List.{range_with_len, list_all, list_any}
-use Rattle.std.proofs.lemmas.Bool.{cases_eq, eq-eqb, ne_eqb, false≢true, and_parts, and_from}
-use Rattle.std.proofs.lemmas.List.{append-nil, append_assoc, take_at, take_all, length-map, map-append}
-use Rattle.std.proofs.lemmas.List.Elements.{All-nil, All-cons, All-append, All-filter, filter-append}
-use Rattle.upload_model.specs.declared.events.Phase.{Phase}
-use Rattle.upload_model.specs.declared.events.Phase.TheVariants.{Loading, Reading, Starting}
-use Rattle.upload_model.specs.Sessions.{Upload, write_count, load_count, first_of, count_of}
-use Rattle.upload_model.specs.Hosts.{Packets, allowed, flight_in}
-use Rattle.upload_model.proofs.HostLaws.{allowed-few}
-use Rattle.upload_model.proofs.HostSteps.{range-more}
-use Rattle.upload_core.specs.declared.row.InFlight.{InFlight}
-use Rattle.upload_core.specs.declared.row.Row.{Row}
-use Rattle.upload_core.specs.Rows.{packets_in, among, is_past, is_marked, count_in}
-use Rattle.upload_core.specs.Steps.{IsBetween, fresh, older, RowStands}
-use Rattle.upload_core.proofs.Numbers.{filter-agree, range-split, between-append, between-without, between-out, past-yes, past-in, past-grown, past-without, open-split, not-past}
+use Rattle.upload_core.proofs.Prelude.{filter-range-agree, common_steps, ◌≡◌, ◌≢◌, ◌==◌, ℕ, zero, suc, ◌+◌, ◌-◌, ◌<◌, ◌≤◌, Bool, true, false, not, cond, ◌||◌, eqb, List, [], ◌∷◌, ◌++◌, length, take, drop, map, filter, set, get_or, refl, ap, sym, subst, ◌∙◌, arith, inl, inr, All, range_with_len, list_all, list_any, cases_eq, eq-eqb, ne_eqb, false≢true, and_from, append-nil, append_assoc, take_at, take_all, length-map, map-append, All-nil, All-cons, All-append, All-filter, filter-append, Phase, Loading, Upload, write_count, load_count, first_of, count_of, Packets, allowed, flight_in, allowed-few, range-more, InFlight, Row, packets_in, among, is_past, is_marked, count_in, IsBetween, fresh, older, RowStands}
+use Rattle.upload_core.proofs.Numbers.{all-weaker, range-split, between-append, between-without, between-out, past-yes, past-in, past-grown, past-without, open-split, not-past}
 
 -- ---- packets and their counts
 
@@ -149,12 +133,6 @@ module _ (row : Row) (k : ℕ) (left : List InFlight) (is : left ≡ filter (λ 
 
 -- ---- what may be in flight
 
-all-more : (p q : ℕ → Bool) (a n : ℕ) → ((k : ℕ) → p k ≡ true → q k ≡ true) → list_all p (range_with_len a n) ≡ true → list_all q (range_with_len a n) ≡ true
-all-more p q a zero h e = refl
-all-more p q a (suc n) h e =
-    let parts = and_parts (p a) (list_all p (range_with_len (a + 1) n)) e in
-    and_from (q a) (list_all q (range_with_len (a + 1) n)) (h a parts.0) (all-more p q (a + 1) n h parts.1)
-
 all-below : (p : ℕ → Bool) (a n : ℕ) → ((k : ℕ) → a ≤ k → k < a + n → p k ≡ true) → list_all p (range_with_len a n) ≡ true
 all-below p a zero h = refl
 all-below p a (suc n) h =
@@ -167,10 +145,9 @@ module _ (s : Upload) (d : ℕ) (old new : ℕ → Bool) (more : (j : ℕ) → o
   allowed-same Loading until is x l opened = by_old (list_all old (range_with_len 0 (write_count s d))) refl is where
     by_old : (b : Bool) → list_all old (range_with_len 0 (write_count s d)) ≡ b → until ≡ 0 + cond b (load_count s d) (write_count s d) →
         until ≡ 0 + cond (list_all new (range_with_len 0 (write_count s d))) (load_count s d) (write_count s d)
-    by_old true e u = u ∙ ap (λ b. 0 + cond b (load_count s d) (write_count s d)) (sym (all-more old new 0 (write_count s d) more e))
+    by_old true e u = u ∙ ap (λ b. 0 + cond b (load_count s d) (write_count s d)) (sym (all-weaker old new 0 (write_count s d) more e))
     by_old false e u = u ∙ ap (λ b. 0 + cond b (load_count s d) (write_count s d)) (sym (not-past new 0 (write_count s d) x (omega arith) (omega arith) opened))
-  allowed-same Reading until is x l opened = is
-  allowed-same Starting until is x l opened = is
+  allowed-same p until is x l opened = is
 
   pub allowed-all : (p : Phase) (until end : ℕ) → until ≡ first_of s p d + allowed s p (λ i k. old k) d → end ≡ first_of s p d + count_of s p d →
       ((j : ℕ) → j < until → new j ≡ true) → end ≡ first_of s p d + allowed s p (λ i k. new k) d
@@ -179,8 +156,7 @@ module _ (s : Upload) (d : ℕ) (old new : ℕ → Bool) (more : (j : ℕ) → o
         reaches : (b : Bool) → until ≡ 0 + cond b (load_count s d) (write_count s d) → (k : ℕ) → k < 0 + write_count s d → k < until
         reaches true u k l = omega arith
         reaches false u k l = omega arith
-  allowed-all Reading until end is last all = last
-  allowed-all Starting until end is last all = last
+  allowed-all p until end is last all = last
 
 -- ---- what is in flight of a row
 
@@ -190,7 +166,7 @@ unfolding flight_in
 row-flight s p d row stands done same reach =
     let h = stands.shape in
     let from = h.from in let past = h.past in let until = stands.until in
-    ap (take 4) (filter-agree (λ k. not (done d k)) (λ k. not (is_marked row k)) (first_of s p d) (allowed s p done d) (λ k l b. ap not (same k)))
+    ap (take 4) (filter-range-agree (λ k. not (done d k)) (λ k. not (is_marked row k)) (first_of s p d) (allowed s p done d) (λ k l b. ap not (same k)))
     ∙ ap (λ (n : ℕ). take 4 (filter (λ k. not (is_marked row k)) (range_with_len (first_of s p d) n))) (let e : allowed s p done d ≡ row.next - first_of s p d + (row.until - row.next) = omega arith in e)
     ∙ ap (take 4) (open-split (first_of s p d) row.next (row.until - row.next) (packets_in row.window.items) from h.rising)
     ∙ elim h.full [

@@ -1,23 +1,7 @@
 -- A packet that is acknowledged, and what it lets into flight.
-use Rattle.std.proofs.lemmas.Grind.{common_steps}
-use Rattle.std.proofs.Common.{◌≡◌, ◌≢◌, ◌==◌, ℕ, zero, suc, ◌+◌, ◌<◌, ◌≤◌, Bool, true, false, not, cond, ◌&&◌, ◌||◌, List, [], ◌∷◌, length, filter, set, refl, ap, sym, subst, ◌∙◌, arith, inl, inr}
-use Rattle.std.specs.Prelude.{All}
-use Rattle.std.specs.List.{range_with_len, flat_map}
-use Rattle.std.proofs.lemmas.Bool.{cases_eq, cases_lt, eq-eqb, ne_eqb, false≢true, false_from_ne_true, or_parts, or_left, or_right, and_from}
-use Rattle.std.proofs.lemmas.List.Folds.{list_any-append}
-use Rattle.std.proofs.lemmas.List.Elements.{All-nil, All-cons, All-set, All-from_get_or}
-use Rattle.std.proofs.lemmas.List.{length-set}
+use Rattle.upload_core.proofs.Prelude.{common_steps, ◌≡◌, ◌≢◌, ◌==◌, ℕ, zero, suc, ◌+◌, ◌<◌, ◌≤◌, Bool, true, false, not, cond, ◌&&◌, ◌||◌, List, [], ◌∷◌, length, filter, set, refl, ap, sym, subst, ◌∙◌, arith, inl, inr, All, range_with_len, flat_map, cases_eq, cases_lt, eq-eqb, ne_eqb, false≢true, false_from_ne_true, or_parts, or_left, or_right, and_from, list_any-append, All-nil, All-cons, All-set, All-from_get_or, length-set, Phase, Sent, Upload, drone_count, first_of, count_of, phase_of, includes, flight_after, sent_to, Settled-from, allowed-few, InFlight, Row, packets_in, among, is_marked, row_at, marked, window_at, counted, count_in, IsBetween, IsBegun, IsLow, IsRow, RowStands, RowsStand, in_windows}
 use Rattle.std.proofs.lemmas.List.Filters.{length-filter_both}
 use Rattle.std.proofs.lemmas.List.FromFn.{length-range_with_len}
-use Rattle.upload_model.specs.declared.events.Phase.{Phase}
-use Rattle.upload_model.specs.declared.events.Sent.{Sent}
-use Rattle.upload_model.specs.Sessions.{Upload, drone_count, first_of, count_of}
-use Rattle.upload_model.specs.Hosts.{phase_of, includes, flight_after, sent_to}
-use Rattle.upload_model.proofs.HostLaws.{Settled-from, allowed-few}
-use Rattle.upload_core.specs.declared.row.InFlight.{InFlight}
-use Rattle.upload_core.specs.declared.row.Row.{Row}
-use Rattle.upload_core.specs.Rows.{packets_in, among, is_marked, row_at, marked, window_at, counted, count_in}
-use Rattle.upload_core.specs.Steps.{IsBetween, IsBegun, IsLow, IsRow, RowStands, RowsStand, in_windows}
 use Rattle.upload_core.proofs.Numbers.{between-out, between-weaker, or_nothing, past-in}
 use Rattle.upload_core.proofs.Staying.{flight-open}
 use Rattle.upload_core.proofs.Windows.{row_at-set_same, row_at-set_other, window-flight, windows-flight, includes-windows, all-settled, news-one, news-all}

@@ -1,31 +1,6 @@
 -- From the rows of a host to the definitions over its list of events.
-use Rattle.std.proofs.lemmas.Grind.{common_steps}
-use Rattle.std.proofs.Common.{◌≡◌, ◌==◌, ◌≢◌, ℕ, zero, suc, ◌+◌, ◌<◌, ◌≤◌, Bool, true, false, not, cond, ◌&&◌, ◌||◌, eqb, List, [], ◌∷◌, ◌++◌, length, map, filter, refl, ap, sym, subst, ◌∙◌, arith, Option, Some, None, inl, inr}
-use Rattle.std.specs.Prelude.{find, nat_lt, All}
-use Rattle.std.specs.List.{range_with_len, list_all, flat_map}
-use Rattle.std.specs.Option.{option_or}
-use Rattle.std.proofs.lemmas.Bool.{cases_eq, eq-eqb, false≢true, false_from_ne_true}
-use Rattle.std.proofs.lemmas.List.{length-map}
-use Rattle.std.proofs.lemmas.List.Folds.{list_all-append, find-append}
-use Rattle.std.proofs.lemmas.List.Elements.{All-nil, All-cons, All-head, All-tail, All-map, All-weaker, All-from_get_or}
-use Rattle.upload_model.specs.declared.events.Event.{Event}
+use Rattle.upload_core.proofs.Prelude.{common_steps, ◌≡◌, ◌==◌, ◌≢◌, ℕ, zero, suc, ◌+◌, ◌<◌, ◌≤◌, Bool, true, false, not, cond, ◌&&◌, ◌||◌, eqb, List, [], ◌∷◌, ◌++◌, length, map, filter, refl, ap, sym, subst, ◌∙◌, arith, Option, Some, None, inl, inr, find, nat_lt, All, range_with_len, list_all, flat_map, option_or, cases_eq, eq-eqb, false≢true, false_from_ne_true, length-map, list_all-append, find-append, All-nil, All-cons, All-head, All-tail, All-map, All-weaker, All-from_get_or, Event, Phase, Loading, Sent, Progress, Going, Done, Upload, drone_count, load_count, packet_count, reply_to, is_good, is_end, Packets, phase_of, includes, gave_up, if_going, sent_at, sent_to, all_packets, acknowledges, joined, acked, counts, flight_after, flight, ticks, ended_for, ends_for, ended_by, progress, out, All-flat_map_range, acked-push, acked-more, acked-done, IsFlight, flight-fits, flat_map-range-agree, acked-tick, flight-tick, ticks-push, progress-stays, progress-next, progress-tick, Agree, all_settled-agree, phase_of-agree, flight_after-agree, InFlight, Row, packets_in, among, is_past, is_marked, row_at, marked, window_at, counted, count_in, IsRow, older, older_row, tired_in, RowStands, RowsStand, IsReady, IsLow, in_windows, HostView, IsPacketOf, HostStandsFor}
 use Rattle.upload_model.specs.declared.events.Event.TheVariants as event
-use Rattle.upload_model.specs.declared.events.Phase.{Phase}
-use Rattle.upload_model.specs.declared.events.Phase.TheVariants.{Loading}
-use Rattle.upload_model.specs.declared.events.Sent.{Sent}
-use Rattle.upload_model.specs.declared.events.Progress.{Progress}
-use Rattle.upload_model.specs.declared.events.Progress.TheVariants.{Going, Done, GaveUp, Refused, Differs}
-use Rattle.upload_model.specs.Sessions.{Upload, drone_count, load_count, packet_count}
-use Rattle.upload_model.specs.Replies.{reply_to, is_good, is_end}
-use Rattle.upload_model.specs.Hosts.{Packets, phase_of, includes, gave_up, if_going, sent_at, sent_to, all_packets, acknowledges, joined, acked, counts, flight_after, flight, ticks, ended_for, ends_for, ended_by, progress, out}
-use Rattle.upload_model.proofs.HostLaws.{All-flat_map_range, acked-push, acked-more, acked-done, IsFlight, flight-fits}
-use Rattle.upload_model.proofs.HostSteps.{flat_map-range-agree, acked-tick, flight-tick, ticks-push, progress-stays, progress-next, progress-tick, Agree, all_settled-agree, phase_of-agree, flight_after-agree}
-use Rattle.upload_core.specs.declared.row.InFlight.{InFlight}
-use Rattle.upload_core.specs.declared.row.Row.{Row}
-use Rattle.upload_core.specs.Rows.{packets_in, among, is_past, is_marked, row_at, marked, window_at, counted, count_in}
-use Rattle.upload_core.specs.Steps.{IsRow, older, older_row, tired_in, RowStands, RowsStand, IsReady, IsLow, in_windows}
-use Rattle.upload_core.specs.HostState.{HostView, IsPacketOf}
-use Rattle.upload_core.specs.HostStandsFor.{HostStandsFor}
 use Rattle.upload_core.proofs.Numbers.{between-weaker}
 use Rattle.upload_core.proofs.RowLemmas.{packets-older, count_in-older}
 use Rattle.upload_core.proofs.Staying.{includes-flight_at, flight-open, ticks-none}
@@ -352,10 +327,7 @@ stands-ended host h e ended stands = grind (arith, common_steps, progress-stays,
 
 if_going-ended : (p : Progress) (xs : List Sent) → p ≢ Going → if_going p xs ≡ []
 if_going-ended Going xs h = absurd (h refl)
-if_going-ended Done xs h = refl
-if_going-ended (GaveUp d k) xs h = refl
-if_going-ended (Refused d k status) xs h = refl
-if_going-ended (Differs d address bytes got) xs h = refl
+if_going-ended p xs h = refl
 
 pub sent-ended : (host : HostView) (h : List Event) (e : Event) → host.progress ≢ Going → HostStandsFor host h → out host.session h e ≡ []
 unfolding out

@@ -1,26 +1,10 @@
 -- What is in flight stays so until it is acknowledged; so what isn't in flight and isn't acknowledged never
 -- was, and has no ticks.
-use Rattle.std.proofs.lemmas.Grind.{common_steps}
-use Rattle.std.proofs.Common.{◌≡◌, ◌==◌, ℕ, zero, suc, ◌+◌, ◌<◌, ◌≤◌, Bool, true, false, not, cond, ◌&&◌, ◌||◌, eqb, List, [], ◌∷◌, ◌++◌, take, filter, refl, ap, sym, ◌∙◌, arith, Some, inl, inr}
-use Rattle.std.specs.List.{range_with_len, list_all, flat_map}
-use Rattle.std.proofs.lemmas.Bool.{cases_eq, eq-eqb, ne_eqb, and_parts, and_from, and_left, false≢true, false_from_ne_true}
-use Rattle.std.proofs.lemmas.List.Folds.{list_any-append}
-use Rattle.upload_model.specs.declared.events.Event.{Event}
-use Rattle.upload_model.specs.declared.events.Phase.{Phase}
-use Rattle.upload_model.specs.declared.events.Phase.TheVariants.{Loading, Reading, Starting}
-use Rattle.upload_model.specs.declared.events.Sent.{Sent}
-use Rattle.upload_model.specs.Sessions.{Upload, drone_count, write_count, load_count, first_of, count_of}
-use Rattle.upload_model.specs.Hosts.{Packets, all_settled, phase_of, allowed, flight_in, flight_at, flight_after, flight, sent_to, acked, is_tick, includes, ticks}
-use Rattle.upload_model.proofs.HostLaws.{list_all-range, allowed-few, acked-more}
-use Rattle.upload_model.proofs.HostSteps.{ticks-push, ticks-nil}
+use Rattle.upload_core.proofs.Prelude.{common_steps, ◌≡◌, ◌==◌, ℕ, zero, suc, ◌+◌, ◌<◌, ◌≤◌, Bool, true, false, not, cond, ◌&&◌, ◌||◌, eqb, List, [], ◌∷◌, ◌++◌, take, filter, refl, ap, sym, ◌∙◌, arith, Some, inl, inr, range_with_len, list_all, flat_map, cases_eq, eq-eqb, ne_eqb, and_left, false≢true, false_from_ne_true, list_any-append, Event, Phase, Loading, Reading, Starting, Sent, Upload, drone_count, write_count, load_count, first_of, count_of, Packets, all_settled, phase_of, allowed, flight_in, flight_at, flight_after, flight, sent_to, acked, is_tick, includes, ticks, list_all-range, allowed-few, acked-more, ticks-push, ticks-nil, among}
 use Rattle.upload_model.proofs.Sending.{by_last}
-use Rattle.upload_core.specs.Rows.{among}
+use Rattle.upload_core.proofs.Numbers.{all-weaker, or_nothing, shut}
 
 -- ---- membership
-
-or_nothing : (b : Bool) → (b || false) ≡ b
-or_nothing true = refl
-or_nothing false = refl
 
 includes-sent_to : (i : ℕ) (ks : List ℕ) (x : Sent) → includes (sent_to i ks) x ≡ (eqb i x.drone && among ks x.packet)
 includes-sent_to i [] x = grind (arith, common_steps, eqb)
@@ -64,8 +48,7 @@ includes-flight_at s p done x l = includes-rows (λ d. flight_in s p done d) 0 (
 -- a number among them stays so where fewer pass
 among-stays : (p q : ℕ → Bool) → ((j : ℕ) → q j ≡ true → p j ≡ true) → (a m l n i k : ℕ) → m ≤ l → n ≤ i →
     among (take n (filter p (range_with_len a m))) k ≡ true → q k ≡ true → among (take i (filter q (range_with_len a l))) k ≡ true
-among-stays p q sub a zero l zero i k f g found here = absurd (false≢true found)
-among-stays p q sub a zero l (suc n) i k f g found here = absurd (false≢true found)
+among-stays p q sub a zero l n i k f g found here = grind (arith, common_steps)
 among-stays p q sub a (suc m) zero n i k f g found here = absurd (omega arith)
 among-stays p q sub a (suc m) (suc l) n i k f g found here =
     by_p (λ n i g found. among-stays p q sub (a + 1) m l n i k (omega arith) g found here) (p a) refl n i g found where
@@ -100,8 +83,7 @@ among-stays p q sub a (suc m) (suc l) n i k f g found here =
 
 -- what is among the first that pass is in the range and passes
 pub among-passes : (p : ℕ → Bool) (a m n k : ℕ) → among (take n (filter p (range_with_len a m))) k ≡ true → (a ≤ k) × (k < a + m) × (p k ≡ true)
-among-passes p a zero zero k found = absurd (false≢true found)
-among-passes p a zero (suc n) k found = absurd (false≢true found)
+among-passes p a zero n k found = grind (arith, common_steps)
 among-passes p a (suc m) n k found = by_p (λ n found. wider (among-passes p (a + 1) m n k found)) (p a) refl n found where
   rest : List ℕ
   rest = filter p (range_with_len (a + 1) m)
@@ -119,12 +101,6 @@ among-passes p a (suc m) n k found = by_p (λ n found. wider (among-passes p (a 
   by_p later false e n found = later n found
 
 -- ---- what is in flight
-
-all-weaker : (p q : ℕ → Bool) (a n : ℕ) → ((k : ℕ) → p k ≡ true → q k ≡ true) → list_all p (range_with_len a n) ≡ true → list_all q (range_with_len a n) ≡ true
-all-weaker p q a zero h e = refl
-all-weaker p q a (suc n) h e =
-    let parts = and_parts (p a) (list_all p (range_with_len (a + 1) n)) e in
-    and_from (q a) (list_all q (range_with_len (a + 1) n)) (h a parts.0) (all-weaker p q (a + 1) n h parts.1)
 
 pub flight-open : (s : Upload) (p : Phase) (done : Packets) (d k : ℕ) → among (flight_in s p done d) k ≡ true →
     (first_of s p d ≤ k) × (k < first_of s p d + count_of s p d) × (done d k ≡ false)
@@ -157,8 +133,7 @@ module _ (s : Upload) (done more : Packets) (sub : (d k : ℕ) → done d k ≡ 
         = ap (λ b. cond b (load_count s d) (write_count s d)) (all-weaker (done d) (more d) 0 (write_count s d) (sub d) e) in
         omega arith
     by_written false e = at_least (list_all (more d) (range_with_len 0 (write_count s d)))
-  allowed-more Reading d = omega arith
-  allowed-more Starting d = omega arith
+  allowed-more p d = omega arith
 
   in-stays : (p : Phase) (d k : ℕ) → among (flight_in s p done d) k ≡ true → more d k ≡ false → among (flight_in s p more d) k ≡ true
   unfolding flight_in
@@ -217,7 +192,4 @@ ticks-none s h x l =
           = false_from_ne_true (includes (flight s g) x)
           (λ t. false≢true (sym out ∙ flight-stays s (acked s g) (acked s (g ++ e ∷ [])) (λ d k. acked-more s g (e ∷ []) d k) x l t opened)) in
           ticks-push s g e x ∙ ap (λ (n : ℕ). n + cond (is_tick (Some e) && includes (flight s g) x) 1 0) (before old was)
-          ∙ ap (λ (b : Bool). 0 + cond (is_tick (Some e) && b) 1 0) was ∙ none (is_tick (Some e)) where
-            none : (b : Bool) → 0 + cond (b && false) 1 0 ≡ 0
-            none true = refl
-            none false = refl
+          ∙ ap (λ (b : Bool). 0 + cond (is_tick (Some e) && b) 1 0) was ∙ ap (λ (b : Bool). 0 + cond b 1 0) (shut (is_tick (Some e)))

@@ -1,22 +1,5 @@
 -- A search, step by step.
-use Rattle.std.proofs.Common.{◌≡◌, ◌≢◌, ℕ, zero, suc, ◌+◌, ◌-◌, ◌<◌, ◌≤◌, ◌==◌, Bool, true, false, cond, eqb, List, [], ◌∷◌, ◌++◌, length, map, take, drop, set, refl, ap, ◌∙◌, arith, Option, Some, None}
-use Rattle.std.specs.Prelude.{find, All}
-use Rattle.std.specs.Option.{option_or}
-use Rattle.std.specs.List.{range_with_len, flat_map}
-use Rattle.std.proofs.lemmas.Bool.{eq-eqb, ne_eqb}
-use Rattle.std.proofs.lemmas.Grind.{flat_map-append, common_steps}
-use Rattle.std.proofs.lemmas.List.{map-append}
-use Rattle.std.proofs.lemmas.List.Folds.{find-append}
-use Rattle.std.proofs.lemmas.List.Elements.{All-head, All-tail}
-use Rattle.upload_model.specs.declared.events.Phase.{Phase}
-use Rattle.upload_model.specs.declared.events.Phase.TheVariants.{Loading, Reading, Starting}
-use Rattle.upload_model.specs.declared.events.Sent.{Sent}
-use Rattle.upload_model.specs.Sessions.{Upload, count_of}
-use Rattle.upload_model.specs.Hosts.{Packets, allowed, sent_to}
-use Rattle.upload_core.specs.declared.row.InFlight.{InFlight}
-use Rattle.upload_core.specs.declared.row.Row.{Row}
-use Rattle.upload_core.specs.Rows.{packets_in, row_at, window_at, counted, count_in}
-use Rattle.upload_core.specs.Steps.{IsBetween, IsRow, older_row, tired_in, in_windows}
+use Rattle.upload_core.proofs.Prelude.{◌≡◌, ◌≢◌, ℕ, zero, suc, ◌+◌, ◌-◌, ◌<◌, ◌≤◌, ◌==◌, Bool, true, false, cond, eqb, List, [], ◌∷◌, ◌++◌, length, map, take, drop, set, refl, ap, ◌∙◌, arith, Option, Some, None, find, All, option_or, range_with_len, flat_map, eq-eqb, ne_eqb, flat_map-append, common_steps, map-append, find-append, All-head, All-tail, Phase, Loading, Sent, Upload, count_of, Packets, allowed, sent_to, InFlight, Row, packets_in, row_at, window_at, counted, count_in, IsBetween, IsRow, older_row, tired_in, in_windows}
 use Rattle.upload_core.proofs.Numbers.{range-split}
 use Rattle.upload_core.proofs.Windows.{range-one_more, windows-walk}
 
@@ -97,8 +80,7 @@ tired-here rows n m k l row before here =
 
 pub allowed-later : (s : Upload) (p : Phase) (done : Packets) (d : ℕ) → p ≢ Loading → count_of s p d ≡ allowed s p done d
 allowed-later s Loading done d other = absurd (other refl)
-allowed-later s Reading done d other = refl
-allowed-later s Starting done d other = refl
+allowed-later s p done d other = refl
 
 pub row_at-past : (rows : List Row) (d : ℕ) → length rows ≤ d → row_at rows d ≡ record { window = record { items = [] }; next = 0; until = 0 }
 row_at-past [] d l = refl

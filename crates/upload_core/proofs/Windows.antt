@@ -1,20 +1,5 @@
 -- What is in flight of all drones, drone by drone, and rows of which one changes.
-use Rattle.std.proofs.lemmas.Grind.{common_steps}
-use Rattle.std.proofs.Common.{◌≡◌, ◌≢◌, ◌==◌, ℕ, zero, suc, ◌+◌, ◌-◌, ◌<◌, ◌≤◌, Bool, true, false, not, cond, ◌&&◌, ◌||◌, List, [], ◌∷◌, ◌++◌, length, filter, set, get_or, refl, ap, sym, ◌∙◌, arith, inl, inr}
-use Rattle.std.specs.List.{range_with_len, list_all, flat_map}
-use Rattle.std.proofs.lemmas.Bool.{cases_eq, eq-eqb, false≢true, eqb-true, and_parts}
-use Rattle.std.proofs.lemmas.List.{append-nil, append_assoc, get_or-set_same, get_or-set_other, map-append}
-use Rattle.std.proofs.lemmas.List.Elements.{filter-append}
-use Rattle.upload_model.specs.declared.events.Phase.{Phase}
-use Rattle.upload_model.specs.declared.events.Phase.TheVariants.{Loading, Reading, Starting}
-use Rattle.upload_model.specs.declared.events.Sent.{Sent}
-use Rattle.upload_model.specs.Sessions.{Upload, drone_count, first_of, count_of}
-use Rattle.upload_model.specs.Hosts.{allowed, all_settled, phase_of, includes, flight_in, flight_at, flight_after, sent_to}
-use Rattle.upload_model.proofs.HostSteps.{range-more, list_all-range-agree, flat_map-range-agree}
-use Rattle.upload_core.specs.declared.row.InFlight.{InFlight}
-use Rattle.upload_core.specs.declared.row.Row.{Row}
-use Rattle.upload_core.specs.Rows.{among, is_marked, row_at, marked, window_at}
-use Rattle.upload_core.specs.Steps.{RowsStand, in_windows}
+use Rattle.upload_core.proofs.Prelude.{filter_agree, common_steps, ◌≡◌, ◌≢◌, ◌==◌, ℕ, zero, suc, ◌+◌, ◌-◌, ◌<◌, ◌≤◌, Bool, true, false, not, cond, ◌&&◌, ◌||◌, List, [], ◌∷◌, ◌++◌, length, filter, set, get_or, refl, ap, sym, ◌∙◌, arith, inl, inr, range_with_len, list_all, flat_map, cases_eq, eq-eqb, false≢true, eqb-true, and_parts, append-nil, append_assoc, get_or-set_same, get_or-set_other, map-append, filter-append, Phase, Loading, Sent, Upload, drone_count, first_of, count_of, allowed, all_settled, phase_of, includes, flight_in, flight_at, flight_after, sent_to, range-more, list_all-range-agree, flat_map-range-agree, InFlight, Row, among, is_marked, row_at, marked, window_at, RowsStand, in_windows}
 use Rattle.upload_core.proofs.Numbers.{not-past}
 use Rattle.upload_core.proofs.RowLemmas.{row-flight, row-settled, row-open}
 use Rattle.upload_core.proofs.Staying.{includes-rows}
@@ -38,8 +23,7 @@ row_at-set_other rows d i r other = get_or-set_other rows d i r (record { window
 -- how far a drone may go depends on its own row
 own-row : (s : Upload) (p : Phase) (rows : List Row) (d : ℕ) → allowed s p (marked rows) d ≡ allowed s p (λ i k. is_marked (row_at rows d) k) d
 own-row s Loading rows d = refl
-own-row s Reading rows d = refl
-own-row s Starting rows d = refl
+own-row s p rows d = refl
 
 pub window-flight : (s : Upload) (p : Phase) (rows : List Row) → RowsStand s p rows → (d : ℕ) → d < drone_count s → flight_in s p (marked rows) d ≡ window_at rows d
 window-flight s p rows stand d l = row-flight s p d (row_at rows d) (stand.each d l) (marked rows) (λ k. refl) (own-row s p rows d)
@@ -129,10 +113,6 @@ filter-sent_to q d (k ∷ ks) = at (q (record { drone = d; packet = k })) (filte
   at true rest = ap (λ xs. record { drone = d; packet = k } ∷ xs) rest
   at false rest = rest
 
-filter-same : (p q : ℕ → Bool) (ks : List ℕ) → ((k : ℕ) → p k ≡ q k) → filter p ks ≡ filter q ks
-filter-same p q [] h = refl
-filter-same p q (k ∷ ks) h = ap (λ b. cond b (k ∷ filter p ks) (filter p ks)) (h k) ∙ ap (λ xs. cond (q k) (k ∷ xs) xs) (filter-same p q ks h)
-
 filter-none : (q : ℕ → Bool) (ks : List ℕ) → ((k : ℕ) → among ks k ≡ true → q k ≡ false) → filter q ks ≡ []
 filter-none q [] h = refl
 filter-none q (k ∷ ks) h =
@@ -184,8 +164,8 @@ module _ (f g : ℕ → List ℕ) (n : ℕ) where
       filter-append (λ x. not (includes (rows_of f 0 n) x)) (sent_to a (g a)) (rows_of g (a + 1) m)
       ∙ ap (λ xs. xs ++ filter (λ x. not (includes (rows_of f 0 n) x)) (rows_of g (a + 1) m))
       (filter-sent_to (λ x. not (includes (rows_of f 0 n) x)) a (g a)
-      ∙ ap (sent_to a) (filter-same (λ k. not (includes (rows_of f 0 n) (record { drone = a; packet = k }))) (λ k. not (among (f a) k)) (g a)
-      (λ k. ap not (includes-rows f 0 n (record { drone = a; packet = k }) (omega arith) (omega arith)))))
+      ∙ ap (sent_to a) (filter_agree (λ k. not (includes (rows_of f 0 n) (record { drone = a; packet = k }))) (λ k. not (among (f a) k))
+      (λ k. ap not (includes-rows f 0 n (record { drone = a; packet = k }) (omega arith) (omega arith))) (g a)))
       ∙ ap (λ xs. sent_to a (news a) ++ xs) (news-rows (a + 1) m (omega arith))
 
   -- all is new where none was there before

@@ -1,23 +1,10 @@
 -- What an answer says of a packet, from the statuses and bytes that it carries.
-use Rattle.std.proofs.lemmas.Grind.{common_steps}
-use Rattle.std.proofs.Common.{◌≡◌, ℕ, zero, suc, ◌+◌, ◌-◌, ◌<◌, ◌≤◌, Bool, true, false, not, cond, eqb, ltb, List, length, get_or, refl, ap, sym, ◌∙◌, arith, Option, Some, None, Result, Ok, Err, inl, inr, subst}
-use Rattle.std.specs.Prelude.{find}
-use Rattle.std.specs.List.{range_with_len}
-use Rattle.std.proofs.lemmas.Bool.{and_parts, cases_eq, false≢true, eqb-true, eq-eqb, ltb-true}
-use Rattle.crtp_packets.specs.Reading.{up_of}
-use Rattle.crtp_packets.specs.declared.reading.PacketFault.{PacketFault}
-use Rattle.crtp_packets.specs.declared.reading.Up.{Up}
-use Rattle.crtp_packets.specs.declared.reading.Up.TheVariants.{WriteAnswer, ReadAnswer, CommandAnswer}
-use Rattle.upload_model.specs.declared.events.Event.{Event}
+use Rattle.upload_model.proofs.Prelude.{ext_get_or, common_steps, ◌≡◌, ℕ, zero, suc, ◌+◌, ◌-◌, ◌<◌, ◌≤◌, Bool, true, false, not, cond, eqb, ltb, List, length, get_or, refl, ap, sym, ◌∙◌, arith, Option, Some, None, Result, Ok, inl, inr, subst, find, range_with_len, and_parts, cases_eq, false≢true, eqb-true, eq-eqb, ltb-true, up_of, PacketFault, Up, Event, Going, Refused, Differs, Reply, Silent, Ends, Upload, drone_count, load_count, read_count, packet_count, is_read, read_address, wanted, ReadBack, status_in, read_in, status_reply, first_other, compared, read_reply, reply_in, reply_to, is_good, is_end, end_of}
+use Rattle.crtp_packets.specs.declared.reading.Up.TheVariants.{ReadAnswer}
 use Rattle.upload_model.specs.declared.events.Event.TheVariants as event
-use Rattle.upload_model.specs.declared.events.Progress.TheVariants.{Going, Refused, Differs}
-use Rattle.upload_model.specs.declared.events.Reply.{Reply}
-use Rattle.upload_model.specs.declared.events.Reply.TheVariants.{Silent, Ends}
-use Rattle.upload_model.specs.Sessions.{Upload, drone_count, load_count, read_count, packet_count, is_read, read_address, wanted}
-use Rattle.upload_model.specs.Replies.{ReadBack, status_in, read_in, status_reply, first_other, compared, read_reply, reply_in, reply_to, is_good, is_end, end_of}
 use Rattle.upload_model.proofs.OneDrone.{accepts, refuses}
-use Rattle.upload_model.proofs.OneRead.{ext}
 use Rattle.upload_model.proofs.Readings.{is_read-at}
+use Rattle.upload_model.proofs.HostLaws.{not-false}
 
 -- ---- which of both a reply is
 
@@ -66,17 +53,13 @@ find-nothing : (p : ℕ → Bool) (a n : ℕ) → ((k : ℕ) → p k ≡ false) 
 find-nothing p a zero h = refl
 find-nothing p a (suc n) h = ap (λ (b : Bool). cond b (Some a) (find p (range_with_len (a + 1) n))) (h a) ∙ find-nothing p (a + 1) n h
 
-not_false : (b : Bool) → not b ≡ false → b ≡ true
-not_false true h = refl
-not_false false h = absurd (false≢true (sym h))
-
 -- bytes of one length that differ nowhere are the same
 pub other-none : (bytes got : List ℕ) → length got ≡ length bytes → first_other bytes got ≡ None → got ≡ bytes
 other-none bytes got long h =
-    ext got bytes long
+    ext_get_or 0 got bytes long
     (λ i l.
     let same : eqb (get_or bytes i 0) (get_or got i 0) ≡ true
-    = not_false (eqb (get_or bytes i 0) (get_or got i 0)) (find_none (λ j. not (eqb (get_or bytes j 0) (get_or got j 0))) 0 (length bytes) h i (omega arith) (omega arith)) in
+    = not-false (eqb (get_or bytes i 0) (get_or got i 0)) (find_none (λ j. not (eqb (get_or bytes j 0) (get_or got j 0))) 0 (length bytes) h i (omega arith) (omega arith)) in
     sym (eqb-true (get_or bytes i 0) (get_or got i 0) same))
 
 pub other-same : (bytes : List ℕ) → first_other bytes bytes ≡ None
@@ -86,9 +69,7 @@ other-same bytes =
 -- an answer of status 0 has as many bytes as the read asks for
 pub read_in-length : (s : Upload) (d j : ℕ) (m : Result Up PacketFault) (r : ReadBack) → read_in s d j m ≡ Some r → r.status ≡ 0 → length r.bytes ≡ length (wanted s d j)
 read_in-length s d j (Ok (ReadAnswer id address status piece)) r h good = grind (arith, common_steps, eqb, not, cond, and_parts, eq-eqb, eqb-true)
-read_in-length s d j (Ok (WriteAnswer id address status)) r h good = absurd (let no : None ≡ Some r = h in cc)
-read_in-length s d j (Ok (CommandAnswer first status)) r h good = absurd (let no : None ≡ Some r = h in cc)
-read_in-length s d j (Err fault) r h good = absurd (let no : None ≡ Some r = h in cc)
+read_in-length s d j m r h good = absurd (let no : None ≡ Some r = h in cc)
 
 -- a good reply to a read brought the load's bytes
 pub record Brought (s : Upload) (d j : ℕ) (m : Result Up PacketFault) : Type 0 where

@@ -1,14 +1,6 @@
 -- A drone that takes a start begins: it is counted.
-use Rattle.std.proofs.lemmas.Grind.{common_steps}
-use Rattle.std.proofs.Common.{◌≡◌, ℕ, zero, suc, ◌≤◌, true, cond, List, [], ◌∷◌, take, arith, Some}
-use Rattle.std.specs.Prelude.{slice_get}
-use Rattle.std.proofs.lemmas.Bool.{eq-eqb}
+use Rattle.upload_model.proofs.Prelude.{common_steps, ◌≡◌, ℕ, zero, suc, ◌≤◌, true, cond, List, [], ◌∷◌, take, arith, Some, slice_get, eq-eqb, slice_get_within, WorldEvent, Upload, World, start_world, happens, run, TakesStart}
 use Rattle.std.proofs.lemmas.Slice.Eq.{bytes_eq-Decides}
-use Rattle.std.proofs.lemmas.Option.{slice_get_within}
-use Rattle.upload_model.specs.declared.events.WorldEvent.{WorldEvent}
-use Rattle.upload_model.specs.Sessions.{Upload}
-use Rattle.upload_model.specs.Worlds.{World, start_world, happens, run}
-use Rattle.upload_model.specs.Theorem.{TakesStart}
 use Rattle.upload_model.specs.Starts.{begins, beginnings, BeginLaw}
 use Rattle.upload_model.proofs.Taken.{taken_law}
 

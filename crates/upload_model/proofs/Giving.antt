@@ -1,17 +1,6 @@
 -- At which event each answer was given, and at which event the host heard it.
-use Rattle.std.proofs.lemmas.Grind.{common_steps}
-use Rattle.std.proofs.Common.{◌≡◌, ℕ, ◌+◌, ◌<◌, ◌&&◌, eqb, ltb, List, [], ◌∷◌, ◌++◌, length, take, refl, ap, sym, ◌∙◌, arith, Option, Some, None, ◌⊎◌, inl, inr}
-use Rattle.std.specs.Prelude.{slice_get}
-use Rattle.std.proofs.lemmas.Bool.{cases_lt, cases_eq, cond_both, ltb-true, cond-true, cond-false, eq-eqb, ne_eqb}
-use Rattle.std.proofs.lemmas.List.{take-append-le, take_all, length_push, append-nil}
-use Rattle.std.proofs.lemmas.Option.{slice_get_within}
-use Rattle.upload_model.specs.declared.events.Event.{Event}
+use Rattle.upload_model.proofs.Prelude.{common_steps, ◌≡◌, ℕ, ◌+◌, ◌<◌, ◌&&◌, eqb, ltb, List, [], ◌∷◌, ◌++◌, length, take, refl, ap, sym, ◌∙◌, arith, Option, Some, None, ◌⊎◌, inl, inr, slice_get, cases_lt, cases_eq, cond_both, ltb-true, cond-true, cond-false, eq-eqb, ne_eqb, take-append-le, take_all, length_push, append-nil, slice_get_within, Event, DroneState, handled, Upload, drone_count, World, changed, took, take_named, hear_named, altered, start_world, host_event, happens, world, WorldEvent, Tick, Take, Hear, Alter}
 use Rattle.upload_model.specs.declared.events.Event.TheVariants as event
-use Rattle.upload_model.specs.Drones.{DroneState, handled}
-use Rattle.upload_model.specs.Sessions.{Upload, drone_count}
-use Rattle.upload_model.specs.Worlds.{World, changed, took, take_named, hear_named, altered, start_world, host_event, happens, world}
-use Rattle.upload_model.specs.declared.events.WorldEvent.{WorldEvent}
-use Rattle.upload_model.specs.declared.events.WorldEvent.TheVariants.{Tick, Take, Hear, Alter}
 use Rattle.upload_model.proofs.HostSteps.{slice_get-last, slice_get-before}
 use Rattle.upload_model.proofs.Sending.{by_last, world-last}
 
@@ -86,8 +75,7 @@ unfolding host_event
 heard-hears s w e = refl
 
 heard-take : (s : Upload) (w : World) (i : ℕ) (o : Option (List ℕ)) → (take_named w i o).heard ≡ w.heard
-heard-take s w i None = refl
-heard-take s w i (Some packet) = refl
+heard-take s w i o = grind (arith, common_steps)
 
 heard-hear : (s : Upload) (w : World) (i n : ℕ) → i < drone_count s → (o : Option (List ℕ)) → slice_get (w.given i) n ≡ o →
     Heard s w (Hear i n) (hear_named s w i o).heard

@@ -1,23 +1,7 @@
 -- Laws of what is acknowledged, in flight and answered.
-use Rattle.std.proofs.lemmas.Grind.{common_steps}
-use Rattle.std.proofs.Common.{◌≡◌, ℕ, zero, suc, ◌+◌, ◌-◌, ◌<◌, ◌≤◌, Bool, true, false, not, cond, ◌&&◌, eqb, ltb, List, [], ◌∷◌, ◌++◌, length, take, drop, refl, ap, sym, ◌∙◌, arith, Option, Some, None, ◌⊎◌, inl, inr, subst}
-use Rattle.std.specs.Prelude.{slice_get, find, filter, All}
-use Rattle.std.specs.List.{range_with_len, list_all, flat_map}
-use Rattle.std.proofs.lemmas.Bool.{cases_lt, and_parts, or_cases, or_left, false≢true, eqb-true}
-use Rattle.std.proofs.lemmas.List.{take-append-drop}
-use Rattle.std.proofs.lemmas.Option.{get_or_from_slice_get, slice_get_within}
+use Rattle.upload_model.proofs.Prelude.{common_steps, ◌≡◌, ℕ, zero, suc, ◌+◌, ◌-◌, ◌<◌, ◌≤◌, Bool, true, false, not, cond, ◌&&◌, eqb, ltb, List, [], ◌∷◌, ◌++◌, length, take, drop, refl, ap, sym, ◌∙◌, arith, Option, Some, None, ◌⊎◌, inl, inr, subst, slice_get, find, filter, All, range_with_len, list_all, flat_map, cases_lt, and_parts, or_cases, or_left, false≢true, eqb-true, take-append-drop, get_or_from_slice_get, slice_get_within, All-nil, All-cons, All-append, All-filter, All-map, All-take, All-weaker, Event, Phase, Loading, Reading, Starting, Sent, Progress, Going, Done, GaveUp, Upload, drone_count, load_count, start_number, packet_count, first_of, count_of, ReadBack, status_reply, compared, read_reply, reply_in, reply_to, is_good, end_of, Packets, all_settled, phase_of, allowed, flight_in, flight_at, flight_after, flight, sent_to, acknowledges, joined, acked_from, acked, ticks, all_packets, gave_up, ended_for, ends_for, ended_by, ending, or_else, progress_within, progress, includes, sent_at, if_going, out}
 use Rattle.std.proofs.lemmas.List.Folds.{list_all-append, list_all-map}
-use Rattle.std.proofs.lemmas.List.Elements.{All-nil, All-cons, All-append, All-filter, All-map, All-take, All-weaker}
-use Rattle.upload_model.specs.declared.events.Event.{Event}
 use Rattle.upload_model.specs.declared.events.Event.TheVariants as event
-use Rattle.upload_model.specs.declared.events.Phase.{Phase}
-use Rattle.upload_model.specs.declared.events.Phase.TheVariants.{Loading, Reading, Starting}
-use Rattle.upload_model.specs.declared.events.Sent.{Sent}
-use Rattle.upload_model.specs.declared.events.Progress.{Progress}
-use Rattle.upload_model.specs.declared.events.Progress.TheVariants.{Going, Done, GaveUp, Refused, Differs}
-use Rattle.upload_model.specs.Sessions.{Upload, drone_count, load_count, start_number, packet_count, first_of, count_of}
-use Rattle.upload_model.specs.Replies.{ReadBack, status_reply, compared, read_reply, reply_in, reply_to, is_good, end_of}
-use Rattle.upload_model.specs.Hosts.{Packets, all_settled, phase_of, allowed, flight_in, flight_at, flight_after, flight, sent_to, acknowledges, joined, acked_from, acked, ticks, all_packets, gave_up, ended_for, ends_for, ended_by, ending, or_else, progress_within, progress, includes, sent_at, if_going, out}
 
 -- ---- lists over ranges
 
@@ -127,7 +111,7 @@ Begun s done Loading = Unit {0}
 Begun s done Reading = Settled s Loading done
 Begun s done Starting = Settled s Loading done × Settled s Reading done
 
-not-false : (b : Bool) → not b ≡ false → b ≡ true
+pub not-false : (b : Bool) → not b ≡ false → b ≡ true
 not-false true h = refl
 not-false false h = absurd (false≢true (sym h))
 
@@ -144,8 +128,7 @@ phase-begun s done = by_loading (not (all_settled s Loading done)) refl where
 
 pub allowed-few : (s : Upload) (p : Phase) (done : Packets) (d : ℕ) → allowed s p done d ≤ count_of s p d
 allowed-few s Loading done d = grind (arith, common_steps, cond)
-allowed-few s Reading done d = omega arith
-allowed-few s Starting done d = omega arith
+allowed-few s p done d = omega arith
 
 -- a packet of this phase
 pub record IsIn (s : Upload) (p : Phase) (d k : ℕ) : Type 0 where
@@ -212,10 +195,7 @@ sent_at-fits s g (event.Up from packet) =
 
 pub if_going-fits : (P : Sent → Type 0) (p : Progress) (xs : List Sent) → All P xs → All P (if_going p xs)
 if_going-fits P Going xs all = all
-if_going-fits P Done xs all = All-nil P
-if_going-fits P (GaveUp d k) xs all = All-nil P
-if_going-fits P (Refused d k status) xs all = All-nil P
-if_going-fits P (Differs d address bytes got) xs all = All-nil P
+if_going-fits P p xs all = All-nil P
 
 pub out-fits : (s : Upload) (g : List Event) (e : Event) → All (IsFlight s (acked s (g ++ e ∷ []))) (out s g e)
 unfolding out
@@ -230,14 +210,8 @@ progress_within-cases s h (suc n) p e = by_before (progress_within s h n) (progr
   by_before : (q : Progress) → (q ≡ Going) ⊎ ((m : ℕ) × (ending s (take m h) ≡ q)) → or_else q (ending s (take (suc n) h)) ≡ p →
       (p ≡ Going) ⊎ ((m : ℕ) × (ending s (take m h) ≡ p))
   by_before Going c f = inr (suc n, f)
-  by_before Done (inl g) f = inl (sym f ∙ g)
-  by_before Done (inr c) f = inr (c.0, c.1 ∙ f)
-  by_before (GaveUp d k) (inl g) f = inl (sym f ∙ g)
-  by_before (GaveUp d k) (inr c) f = inr (c.0, c.1 ∙ f)
-  by_before (Refused d k status) (inl g) f = inl (sym f ∙ g)
-  by_before (Refused d k status) (inr c) f = inr (c.0, c.1 ∙ f)
-  by_before (Differs d address bytes got) (inl g) f = inl (sym f ∙ g)
-  by_before (Differs d address bytes got) (inr c) f = inr (c.0, c.1 ∙ f)
+  by_before q (inl g) f = inl (sym f ∙ g)
+  by_before q (inr c) f = inr (c.0, c.1 ∙ f)
 
 -- no reply says that an upload is done
 status-not_done : (d k : ℕ) (o : Option ℕ) → end_of (status_reply d k o) ≡ Done → ⊥
@@ -245,8 +219,7 @@ status-not_done d k None h = cc
 status-not_done d k (Some status) h = grind (arith, common_steps, eqb, cond)
 
 compared-not_done : (d address : ℕ) (bytes got : List ℕ) (o : Option ℕ) → end_of (compared d address bytes got o) ≡ Done → ⊥
-compared-not_done d address bytes got None h = cc
-compared-not_done d address bytes got (Some i) h = cc
+compared-not_done d address bytes got o h = grind (arith, common_steps)
 
 read-not_done : (s : Upload) (d k j : ℕ) (o : Option ReadBack) → end_of (read_reply s d k j o) ≡ Done → ⊥
 read-not_done s d k j None h = cc
@@ -283,10 +256,7 @@ module _ (P : Progress → Type 0) (going : P Going) (tired : (d k : ℕ) → P 
 
     or_else-has : (p q : Progress) → P p → P q → P (or_else p q)
     or_else-has Going q a b = b
-    or_else-has Done q a b = a
-    or_else-has (GaveUp d k) q a b = a
-    or_else-has (Refused d k status) q a b = a
-    or_else-has (Differs d address bytes got) q a b = a
+    or_else-has p q a b = a
 
     progress_within-has : (h : List Event) (n : ℕ) → All (λ e. (d k : ℕ) → P (end_of (reply_to s d k e))) h → P (progress_within s h n)
     unfolding progress_within

@@ -1,22 +1,7 @@
 -- What one more event does to what is acknowledged, counted and answered.
-use Rattle.std.proofs.lemmas.Grind.{common_steps}
-use Rattle.std.proofs.Common.{◌≡◌, ◌≢◌, ℕ, zero, suc, ◌+◌, ◌-◌, ◌<◌, ◌≤◌, Bool, true, false, not, cond, ◌&&◌, eqb, List, [], ◌∷◌, ◌++◌, length, take, refl, ap, sym, ◌∙◌, arith, Option, Some, None}
-use Rattle.std.specs.Prelude.{slice_get, find, filter, count_by}
-use Rattle.std.specs.List.{range_with_len, list_all, flat_map}
-use Rattle.std.proofs.lemmas.Bool.{false≢true}
-use Rattle.std.proofs.lemmas.List.{take-append-le, take_all, length_push, length-append, append-nil, append_assoc}
+use Rattle.upload_model.proofs.Prelude.{common_steps, ◌≡◌, ◌≢◌, ℕ, zero, suc, ◌+◌, ◌-◌, ◌<◌, ◌≤◌, Bool, true, false, not, cond, ◌&&◌, eqb, List, [], ◌∷◌, ◌++◌, length, take, refl, ap, sym, ◌∙◌, arith, Option, Some, None, slice_get, find, filter, count_by, range_with_len, list_all, flat_map, false≢true, take-append-le, take_all, length_push, length-append, append-nil, append_assoc, filter-append, Event, Phase, Loading, Reading, Starting, Sent, Progress, Going, Done, Upload, drone_count, packet_count, first_of, count_of, reply_to, Packets, all_settled, phase_of, allowed, flight_in, flight_at, flight_after, flight, sent_to, acknowledges, joined, acked, is_tick, includes, ticks, all_packets, gave_up, ended_by, ending, or_else, progress_within, progress}
 use Rattle.std.proofs.lemmas.List.Sums.{length-filter}
-use Rattle.std.proofs.lemmas.List.Elements.{filter-append}
-use Rattle.upload_model.specs.declared.events.Event.{Event}
 use Rattle.upload_model.specs.declared.events.Event.TheVariants as event
-use Rattle.upload_model.specs.declared.events.Phase.{Phase}
-use Rattle.upload_model.specs.declared.events.Phase.TheVariants.{Loading, Reading, Starting}
-use Rattle.upload_model.specs.declared.events.Sent.{Sent}
-use Rattle.upload_model.specs.declared.events.Progress.{Progress}
-use Rattle.upload_model.specs.declared.events.Progress.TheVariants.{Going, Done, GaveUp, Refused, Differs}
-use Rattle.upload_model.specs.Sessions.{Upload, drone_count, packet_count, first_of, count_of}
-use Rattle.upload_model.specs.Replies.{reply_to}
-use Rattle.upload_model.specs.Hosts.{Packets, all_settled, phase_of, allowed, flight_in, flight_at, flight_after, flight, sent_to, acknowledges, joined, acked, is_tick, includes, ticks, all_packets, gave_up, ended_by, ending, or_else, progress_within, progress}
 use Rattle.upload_model.proofs.Readings.{count-loads}
 use Rattle.upload_model.proofs.HostLaws.{acked-push, acked-nil, all_packets-each, allowed-few}
 
@@ -130,10 +115,7 @@ progress-push s h e = grind (arith, common_steps, length_push, take, progress_wi
 
 or_else-stays : (p q : Progress) → p ≢ Going → or_else p q ≡ p
 or_else-stays Going q h = absurd (h refl)
-or_else-stays Done q h = refl
-or_else-stays (GaveUp d k) q h = refl
-or_else-stays (Refused d k status) q h = refl
-or_else-stays (Differs d address bytes got) q h = refl
+or_else-stays p q h = refl
 
 -- an answer that ended the upload stays
 pub progress-stays : (s : Upload) (h t : List Event) → progress s h ≢ Going → progress s (h ++ t) ≡ progress s h
@@ -145,10 +127,7 @@ progress-stays s h (e ∷ t) n =
 
 or_else-going : (p q : Progress) → or_else p q ≡ Going → q ≡ Going
 or_else-going Going q h = h
-or_else-going Done q h = absurd (cc)
-or_else-going (GaveUp d k) q h = absurd (cc)
-or_else-going (Refused d k status) q h = absurd (cc)
-or_else-going (Differs d address bytes got) q h = absurd (cc)
+or_else-going p q h = absurd (cc)
 
 pub ending-going : (s : Upload) (h : List Event) → progress s h ≡ Going → ending s h ≡ Going
 unfolding progress progress_within
@@ -211,8 +190,7 @@ phase_of-agree s f g same =
 
 allowed-agree : (s : Upload) (p : Phase) (f g : Packets) (d : ℕ) → d < drone_count s → Agree s f g → allowed s p f d ≡ allowed s p g d
 allowed-agree s Loading f g d l same = grind (arith, common_steps, count-loads, cond, list_all-range-agree)
-allowed-agree s Reading f g d l same = refl
-allowed-agree s Starting f g d l same = refl
+allowed-agree s p f g d l same = refl
 
 pub flight_in-agree : (s : Upload) (p : Phase) (f g : Packets) (d : ℕ) → d < drone_count s → Agree s f g → flight_in s p f d ≡ flight_in s p g d
 unfolding flight_in

@@ -1,22 +1,7 @@
 -- What later events leave: a started id changes only by a start, and what is acknowledged or done stays
 -- so.
-use Rattle.std.proofs.lemmas.Grind.{common_steps}
-use Rattle.std.proofs.Common.{◌≡◌, ℕ, ◌+◌, ◌*◌, ◌<◌, true, not, cond, ◌&&◌, ltb, eqb, List, [], ◌∷◌, ◌++◌, length, take, refl, ap, sym, ◌∙◌, arith, Option, Some, None, ◌⊎◌, inl, inr, subst}
-use Rattle.std.specs.Prelude.{slice_get}
-use Rattle.std.proofs.lemmas.Bool.{cases_eq, cond_both, cond-true, cond-false, eq-eqb, ne_eqb, ltb-true}
-use Rattle.std.proofs.lemmas.List.{append-nil, append_assoc}
-use Rattle.crtp_packets.specs.Chunks.{chunk_of}
-use Rattle.crtp_packets.specs.Commands.{start_of}
-use Rattle.upload_model.specs.declared.events.Event.{Event}
+use Rattle.upload_model.proofs.Prelude.{common_steps, ◌≡◌, ℕ, ◌+◌, ◌*◌, ◌<◌, true, not, cond, ◌&&◌, ltb, eqb, List, [], ◌∷◌, ◌++◌, length, take, refl, ap, sym, ◌∙◌, arith, Option, Some, None, ◌⊎◌, inl, inr, subst, slice_get, cases_eq, cond_both, cond-true, cond-false, eq-eqb, ne_eqb, ltb-true, append-nil, append_assoc, chunk_of, start_of, Event, Done, WorldEvent, Tick, Take, Hear, Alter, DroneState, Handled, write_taken, handled, Upload, IsSession, drone_count, load_of, packet_at, acked, progress, World, changed, start_world, host_event, take_named, hear_named, altered, happens, world, TakesStart, StartLaw, UnstartedLaw, LastingLaw}
 use Rattle.upload_model.specs.declared.events.Event.TheVariants as event
-use Rattle.upload_model.specs.declared.events.Progress.TheVariants.{Going, Done}
-use Rattle.upload_model.specs.declared.events.WorldEvent.{WorldEvent}
-use Rattle.upload_model.specs.declared.events.WorldEvent.TheVariants.{Tick, Take, Hear, Alter}
-use Rattle.upload_model.specs.Drones.{DroneState, Handled, write_taken, handled}
-use Rattle.upload_model.specs.Sessions.{Upload, IsSession, drone_count, load_of, packet_at}
-use Rattle.upload_model.specs.Hosts.{acked, progress}
-use Rattle.upload_model.specs.Worlds.{World, changed, start_world, host_event, take_named, hear_named, altered, happens, world}
-use Rattle.upload_model.specs.Theorem.{TakesStart, StartLaw, UnstartedLaw, LastingLaw}
 use Rattle.upload_model.proofs.Readings.{Kind, a_write, a_define, a_read, a_start, packet_kind, packet_at-define, packet_at-read, packet_at-start}
 use Rattle.upload_model.proofs.OneDrone.{handled-write, handled-define, length-chunk_of, write_count-below}
 use Rattle.upload_model.proofs.OneRead.{reads}
@@ -127,11 +112,8 @@ keeps P more s drones events later p =
       by_heard w e h (a_tick grows) = subst P (sym grows) (more w.heard event.Tick h)
       by_heard w e h (an_answer now) = subst P (sym now.grows) (more w.heard (event.Up now.i now.answer) h)
 
-done_not_going : Done ≡ Going → ⊥
-done_not_going e = cc
-
 done-more : (s : Upload) (h : List Event) (e : Event) → progress s h ≡ Done → progress s (h ++ e ∷ []) ≡ Done
-done-more s h e done = progress-stays s h (e ∷ []) (λ going. done_not_going (sym done ∙ going)) ∙ done
+done-more s h e done = progress-stays s h (e ∷ []) (λ going. absurd (cc (sym done ∙ going))) ∙ done
 
 pub lasting_law : LastingLaw
 lasting_law s drones events later = (

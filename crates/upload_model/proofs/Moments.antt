@@ -1,28 +1,7 @@
 -- What holds at every moment of an upload where nobody else alters a byte: every answer ever given was
 -- given after its packet's effect, and says nothing that isn't so.
-use Rattle.std.proofs.lemmas.Grind.{common_steps}
-use Rattle.std.proofs.Common.{◌≡◌, ℕ, ◌+◌, ◌-◌, ◌^◌, ◌<◌, ◌≤◌, true, false, eqb, ltb, List, [], ◌∷◌, ◌++◌, length, refl, ap, sym, ◌∙◌, arith, Option, Some, None, IfSome, inl, inr, subst}
-use Rattle.std.specs.Prelude.{slice_get, All}
-use Rattle.std.proofs.lemmas.Bool.{cases_Bool, cond_both, false≢true, eqb-true, ltb-true, cond-true, eq-eqb}
-use Rattle.std.proofs.lemmas.Option.{get_or_from_slice_get, slice_get_within}
-use Rattle.std.proofs.lemmas.List.Elements.{All-nil, All-cons, All-append, All-weaker}
-use Rattle.crtp_packets.specs.Packets.{read_answer_of}
-use Rattle.crtp_packets.specs.Reading.{up_of}
-use Rattle.upload_model.specs.declared.events.Event.{Event}
+use Rattle.upload_model.proofs.Prelude.{common_steps, ◌≡◌, ℕ, ◌+◌, ◌-◌, ◌^◌, ◌<◌, ◌≤◌, true, false, eqb, ltb, List, [], ◌∷◌, ◌++◌, length, refl, ap, sym, ◌∙◌, arith, Option, Some, None, IfSome, inl, inr, subst, slice_get, All, cases_Bool, cond_both, false≢true, eqb-true, ltb-true, cond-true, eq-eqb, get_or_from_slice_get, slice_get_within, All-nil, All-cons, All-append, All-weaker, read_answer_of, up_of, Event, Loading, Going, Done, Refused, Differs, Reply, Silent, Good, Ends, WorldEvent, Tick, Take, Hear, Alter, DroneState, Handled, answers, handled, Upload, IsSession, drone_count, load_of, write_count, load_count, read_count, start_number, packet_count, packet_at, is_read, read_address, wanted, ReadBack, status_in, read_in, status_reply, reply_in, reply_to, is_good, is_end, end_of, acked, progress, World, changed, start_world, host_event, option_list, took, take_named, hear_named, happens, world, IsDrone, HasEntry, HasLoad, IsSafe, IsUnaltered, IsCase, UploadLaw}
 use Rattle.upload_model.specs.declared.events.Event.TheVariants as event
-use Rattle.upload_model.specs.declared.events.Phase.TheVariants.{Loading}
-use Rattle.upload_model.specs.declared.events.Progress.TheVariants.{Going, Done, Refused, Differs}
-use Rattle.upload_model.specs.declared.events.Reply.{Reply}
-use Rattle.upload_model.specs.declared.events.Reply.TheVariants.{Silent, Good, Ends}
-use Rattle.upload_model.specs.declared.events.WorldEvent.{WorldEvent}
-use Rattle.upload_model.specs.declared.events.WorldEvent.TheVariants.{Tick, Take, Hear, Alter}
-use Rattle.upload_model.specs.Drones.{DroneState, Handled, answers, handled}
-use Rattle.upload_model.specs.Sessions.{Upload, IsSession, drone_count, load_of, write_count, load_count, read_count, start_number, packet_count, packet_at, is_read, read_address, wanted}
-use Rattle.upload_model.specs.Replies.{ReadBack, status_in, read_in, status_reply, reply_in, reply_to, is_good, is_end, end_of}
-use Rattle.upload_model.specs.Hosts.{acked, progress}
-use Rattle.upload_model.specs.Worlds.{World, changed, start_world, host_event, option_list, took, take_named, hear_named, happens, world}
-use Rattle.upload_model.specs.Memories.{IsDrone, HasEntry, HasLoad}
-use Rattle.upload_model.specs.Theorem.{IsSafe, IsUnaltered, IsCase, UploadLaw}
 use Rattle.upload_model.proofs.Readings.{Kind, a_write, a_define, a_read, a_start, packet_kind, packet_at-read, is_read-below, is_read-past, count-loads, count-start, up_of-read_answer}
 use Rattle.upload_model.proofs.OneDrone.{accepts, refuses, Effect, OnCourse, follows, pieces_make_load}
 use Rattle.upload_model.proofs.OneRead.{read-fits, reads, read_answer_says, NoRead, session-no_read, load-wanted}

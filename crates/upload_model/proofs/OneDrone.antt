@@ -1,20 +1,8 @@
 -- One drone that takes a packet of the session which is no read.
-use Rattle.std.proofs.lemmas.Grind.{common_steps}
-use Rattle.std.proofs.Common.{◌≡◌, ◌≢◌, ℕ, zero, suc, ◌+◌, ◌-◌, ◌*◌, ◌/◌, ◌%◌, ◌^◌, ◌<◌, ◌≤◌, min, Bool, true, false, not, cond, ◌&&◌, eqb, ltb, List, [], ◌∷◌, length, take, drop, get_or, set, refl, ap, sym, ◌∙◌, arith, Option, Some, None, ◌⊎◌, inl, inr, subst, IfSome}
-use Rattle.std.specs.Prelude.{slice_get, slice_set}
+use Rattle.upload_model.proofs.Prelude.{common_steps, ◌≡◌, ◌≢◌, ℕ, zero, suc, ◌+◌, ◌-◌, ◌*◌, ◌/◌, ◌%◌, ◌^◌, ◌<◌, ◌≤◌, min, Bool, true, false, not, cond, ◌&&◌, eqb, ltb, List, [], ◌∷◌, length, take, drop, get_or, set, refl, ap, sym, ◌∙◌, arith, Option, Some, None, ◌⊎◌, inl, inr, subst, IfSome, slice_get, slice_set, le-ltb, lt-ltb, lt-leb, eqb-true, cases_lt, cases_eq, cases_Bool, eq-eqb, ne_eqb, and_parts, false≢true, not-true, places, length-append, length-take, length-drop, length-set, get_or-take, get_or-drop, chunk_of, write_request_of, write_answer_of, up_of, define_of, start_of, answer_of, DroneState, Handled, answers, stored, write_taken, message_taken, has_entry, handled, Upload, IsLoad, IsSession, drone_count, load_of, write_count, start_number, packet_count, packet_at, is_read, status_in, IsInside, OnlyLoads, HasPiece, HasEntry, HasLoad}
 use Rattle.std.specs.Str.{bytes_eq}
-use Rattle.std.proofs.lemmas.Bool.{le-ltb, lt-ltb, lt-leb, eqb-true, cases_lt, cases_eq, cases_Bool, eq-eqb, ne_eqb, and_parts, false≢true, not-true}
-use Rattle.std.proofs.lemmas.List.{places, length-append, length-take, length-drop, length-set, get_or-take, get_or-drop}
-use Rattle.crtp_packets.specs.Chunks.{chunk_of}
-use Rattle.crtp_packets.specs.Packets.{write_request_of, write_answer_of}
-use Rattle.crtp_packets.specs.Reading.{up_of}
-use Rattle.crtp_packets.specs.Commands.{define_of, start_of, answer_of}
 use Rattle.upload_model.specs.declared.loads.Def.{Def}
-use Rattle.upload_model.specs.Drones.{DroneState, Handled, answers, stored, write_taken, message_taken, has_entry, handled}
-use Rattle.upload_model.specs.Sessions.{Upload, IsLoad, IsSession, drone_count, load_of, write_count, start_number, packet_count, packet_at, is_read}
 use Rattle.upload_model.specs.declared.limits.TheConstants.{ACCEPTED}
-use Rattle.upload_model.specs.Replies.{status_in}
-use Rattle.upload_model.specs.Memories.{IsInside, OnlyLoads, HasPiece, HasEntry, HasLoad}
 use Rattle.upload_model.proofs.Readings.{Kind, a_write, a_define, a_read, a_start, packet_kind, is_read-at, packet_at-write, packet_at-define, packet_at-start, down_of-write, command_of-define, up_of-write_answer}
 
 -- ---- a memory after a write
@@ -259,11 +247,9 @@ slice_get-set_same (x ∷ xs) zero y h = refl
 slice_get-set_same (x ∷ xs) (suc i) y h = slice_get-set_same xs i y (omega arith)
 
 pub slice_get-set_other : {X : Type 0} (xs : List X) (i j : ℕ) (y : X) → j ≢ i → slice_get (set xs i y) j ≡ slice_get xs j
-slice_get-set_other [] i j y h = refl
 slice_get-set_other (x ∷ xs) zero zero y h = absurd (h refl)
-slice_get-set_other (x ∷ xs) zero (suc j) y h = refl
-slice_get-set_other (x ∷ xs) (suc i) zero y h = refl
 slice_get-set_other (x ∷ xs) (suc i) (suc j) y h = slice_get-set_other xs i j y (omega arith)
+slice_get-set_other xs i j y h = refl
 
 pub handled-define : (x : DroneState) (id offset pieces : ℕ) → id < 10 → offset < 4096 →
     handled x (define_of id offset pieces)

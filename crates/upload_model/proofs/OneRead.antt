@@ -1,19 +1,7 @@
 -- One drone that takes a read, and what its answers to all other packets say of reads.
-use Rattle.std.proofs.lemmas.Grind.{common_steps}
-use Rattle.std.proofs.Common.{◌≡◌, ℕ, suc, ◌+◌, ◌-◌, ◌*◌, ◌/◌, ◌^◌, ◌<◌, ◌≤◌, min, Bool, true, false, not, cond, eqb, ltb, List, [], ◌∷◌, length, take, drop, get_or, refl, ap, sym, ◌∙◌, arith, Some, None, subst, IfSome}
-use Rattle.std.proofs.lemmas.Bool.{cases_eq, cond_both, and_parts, false≢true, eqb-true, eq-eqb, ne_eqb, le-ltb}
-use Rattle.std.proofs.lemmas.List.{length-take, length-drop, get_or-take, get_or-drop}
-use Rattle.crtp_packets.specs.Packets.{write_answer_of, read_answer_of}
-use Rattle.crtp_packets.specs.Reading.{up_of}
-use Rattle.crtp_packets.specs.Commands.{start_of}
-use Rattle.crtp_packets.specs.Chunks.{chunk_of}
-use Rattle.upload_model.specs.Drones.{DroneState, Handled, answers, write_taken, read_taken, message_taken, handled}
-use Rattle.upload_model.specs.Sessions.{Upload, IsLoad, IsSession, drone_count, load_of, part_count, read_count, read_address, wanted, read_at, packet_count, packet_at, is_read}
-use Rattle.upload_model.specs.Memories.{HasLoad}
+use Rattle.upload_model.proofs.Prelude.{ext_get_or, common_steps, ◌≡◌, ℕ, ◌+◌, ◌-◌, ◌*◌, ◌/◌, ◌^◌, ◌<◌, ◌≤◌, min, Bool, true, false, not, cond, eqb, ltb, List, length, take, drop, get_or, refl, ap, sym, ◌∙◌, arith, Some, None, subst, IfSome, cases_eq, cond_both, and_parts, false≢true, eqb-true, eq-eqb, ne_eqb, le-ltb, length-take, length-drop, get_or-take, get_or-drop, write_answer_of, read_answer_of, up_of, start_of, chunk_of, DroneState, Handled, answers, write_taken, read_taken, message_taken, handled, Upload, IsLoad, IsSession, drone_count, load_of, part_count, read_count, read_address, wanted, read_at, packet_count, packet_at, is_read, HasLoad, ReadBack, read_in, HasRange, ReadsCover}
 use Rattle.upload_model.proofs.Readings.{Kind, a_write, a_define, a_read, a_start, packet_kind, packet_at-define, packet_at-start, is_read-at, up_of-write_answer, down_of-read, up_of-read_answer}
 use Rattle.upload_model.proofs.OneDrone.{handled-write, handled-define, handled-start, length-chunk_of, write_count-below}
-use Rattle.upload_model.specs.Replies.{ReadBack, read_in}
-use Rattle.upload_model.specs.Readback.{HasRange, ReadsCover}
 
 -- ---- the bytes of a read
 
@@ -102,13 +90,6 @@ session-no_read s d n x session l b plain = by_kind (packet_kind s d n b) where
 
 -- ---- what an answer with the load's bytes shows, and what a memory with the load answers
 
-pub ext : (xs ys : List ℕ) → length xs ≡ length ys → ((i : ℕ) → i < length xs → get_or xs i 0 ≡ get_or ys i 0) → xs ≡ ys
-ext [] [] l same = refl
-ext [] (y ∷ ys) l same = absurd (omega arith)
-ext (x ∷ xs) [] l same = absurd (omega arith)
-ext (x ∷ xs) (y ∷ ys) l same =
-    ap (λ (z : ℕ). z ∷ xs) (same 0 (omega arith)) ∙ ap (λ (zs : List ℕ). y ∷ zs) (ext xs ys (omega arith) (λ i b. same (suc i) (omega arith)))
-
 memory-at : (m : List ℕ) (address len i : ℕ) → i < len → get_or (take len (drop address m)) i 0 ≡ get_or m (address + i) 0
 memory-at m address len i h = get_or-take len (drop address m) i 0 h ∙ get_or-drop address m i 0
 
@@ -122,7 +103,7 @@ load-wanted s d k x f long has =
     let a = f.inside in let b = f.load in
     let l : length (take (length (wanted s d k)) (drop (read_address s k) x.memory)) ≡ length (wanted s d k)
     = length-take (length (wanted s d k)) (drop (read_address s k) x.memory) ∙ (let e = length-drop (read_address s k) x.memory in let m : min (length (wanted s d k)) (length (drop (read_address s k) x.memory)) ≡ length (wanted s d k) = omega arith in m) in
-    ext (take (length (wanted s d k)) (drop (read_address s k) x.memory)) (wanted s d k) l
+    ext_get_or 0 (take (length (wanted s d k)) (drop (read_address s k) x.memory)) (wanted s d k) l
     (λ i h.
     let below : i < length (wanted s d k) = omega arith in
     let at : read_address s k + i ≡ s.offset + (20 * k + i) = omega arith in

@@ -1,24 +1,6 @@
 -- At Done each drone has taken a start, whoever else alters a byte: only a start is answered as one.
-use Rattle.std.proofs.lemmas.Grind.{common_steps}
-use Rattle.std.proofs.Common.{◌≡◌, ℕ, ◌+◌, ◌*◌, ◌^◌, ◌<◌, true, false, not, cond, eqb, ltb, List, [], ◌∷◌, ◌++◌, take, drop, refl, ap, sym, ◌∙◌, arith, Some, inl, inr, subst, IfSome}
-use Rattle.std.specs.Prelude.{slice_get}
-use Rattle.std.proofs.lemmas.Bool.{cases_eq, cond_both, false≢true, le-ltb}
-use Rattle.std.proofs.lemmas.List.{take-append-le}
-use Rattle.std.proofs.lemmas.Option.{slice_get_within}
-use Rattle.crtp_packets.specs.Chunks.{chunk_of}
-use Rattle.crtp_packets.specs.Packets.{write_answer_of, read_answer_of}
-use Rattle.crtp_packets.specs.Reading.{up_of}
-use Rattle.crtp_packets.specs.Commands.{define_of, start_of, answer_of}
-use Rattle.upload_model.specs.declared.events.Event.{Event}
+use Rattle.upload_model.proofs.Prelude.{common_steps, ◌≡◌, ℕ, ◌+◌, ◌*◌, ◌^◌, ◌<◌, true, false, not, cond, eqb, ltb, List, [], ◌∷◌, ◌++◌, take, drop, refl, ap, sym, ◌∙◌, arith, Some, inl, inr, subst, IfSome, slice_get, cases_eq, cond_both, false≢true, le-ltb, take-append-le, slice_get_within, chunk_of, write_answer_of, read_answer_of, up_of, define_of, start_of, answer_of, Event, WorldEvent, Take, DroneState, Handled, answers, write_taken, handled, Upload, IsSession, drone_count, load_of, start_number, packet_at, read_address, status_in, reply_to, is_good, acked, World, happens, world, IsCase, TakesStart, TakenLaw}
 use Rattle.upload_model.specs.declared.events.Event.TheVariants as event
-use Rattle.upload_model.specs.declared.events.WorldEvent.{WorldEvent}
-use Rattle.upload_model.specs.declared.events.WorldEvent.TheVariants.{Take}
-use Rattle.upload_model.specs.Drones.{DroneState, Handled, answers, write_taken, handled}
-use Rattle.upload_model.specs.Sessions.{Upload, IsSession, drone_count, load_of, start_number, packet_at, read_address}
-use Rattle.upload_model.specs.Replies.{status_in, reply_to, is_good}
-use Rattle.upload_model.specs.Hosts.{acked}
-use Rattle.upload_model.specs.Worlds.{World, happens, world}
-use Rattle.upload_model.specs.Theorem.{IsCase, TakesStart, TakenLaw}
 use Rattle.upload_model.proofs.Readings.{Kind, a_write, a_define, a_read, a_start, packet_kind, packet_at-define, packet_at-read, packet_at-start, is_read-past, count-start, up_of-write_answer, up_of-read_answer}
 use Rattle.upload_model.proofs.OneDrone.{accepts, handled-write, handled-define, length-chunk_of, write_count-below}
 use Rattle.upload_model.proofs.OneRead.{read-fits, reads}

@@ -1,19 +1,5 @@
 -- A drone that takes packets of its session in any order, each of them any number of times.
-use Rattle.std.proofs.lemmas.Grind.{common_steps}
-use Rattle.std.proofs.Common.{◌≡◌, ℕ, zero, suc, ◌+◌, ◌*◌, ◌<◌, ◌≤◌, Bool, true, false, not, cond, ltb, List, [], ◌∷◌, ◌++◌, take, drop, refl, ap, sym, ◌∙◌, arith, Option, Some, None, subst, IfSome}
-use Rattle.std.specs.Prelude.{slice_get, All}
-use Rattle.std.proofs.lemmas.Bool.{le-ltb, lt-ltb, eq-eqb}
-use Rattle.std.proofs.lemmas.List.{take-append-le}
-use Rattle.std.proofs.lemmas.List.Elements.{All-head, All-tail}
-use Rattle.std.proofs.lemmas.Option.{slice_get_within}
-use Rattle.crtp_packets.specs.Packets.{write_answer_of}
-use Rattle.crtp_packets.specs.Reading.{up_of}
-use Rattle.crtp_packets.specs.Commands.{answer_of}
-use Rattle.upload_model.specs.Drones.{DroneState, Handled, handled}
-use Rattle.upload_model.specs.Sessions.{Upload, IsSession, drone_count, write_count, start_number, packet_count, packet_at, is_read}
-use Rattle.upload_model.specs.Replies.{status_in}
-use Rattle.upload_model.specs.Memories.{IsDrone}
-use Rattle.upload_model.specs.Taking.{taken, accepting, IsAccepted, TakingLaw}
+use Rattle.upload_model.proofs.Prelude.{common_steps, ◌≡◌, ℕ, zero, suc, ◌+◌, ◌*◌, ◌<◌, ◌≤◌, Bool, true, false, not, cond, ltb, List, [], ◌∷◌, ◌++◌, take, drop, refl, ap, sym, ◌∙◌, arith, Option, Some, None, subst, IfSome, slice_get, All, le-ltb, lt-ltb, eq-eqb, take-append-le, All-head, All-tail, slice_get_within, write_answer_of, up_of, answer_of, DroneState, Handled, handled, Upload, IsSession, drone_count, write_count, start_number, packet_count, packet_at, is_read, status_in, IsDrone, taken, accepting, IsAccepted, TakingLaw}
 use Rattle.upload_model.proofs.Readings.{Kind, a_write, a_define, a_read, a_start, packet_kind, packet_at-define, packet_at-read, packet_at-start, is_read-below, is_read-past}
 use Rattle.upload_model.proofs.OneDrone.{accepts, Effect, OnCourse, follows, status-write_answer, pieces_make_load, write_count-below}
 use Rattle.upload_model.proofs.OneRead.{reads}

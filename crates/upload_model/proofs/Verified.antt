@@ -1,23 +1,6 @@
 -- Each read that is right was right when it was answered, whoever else alters a byte.
-use Rattle.std.proofs.lemmas.Grind.{common_steps}
-use Rattle.std.proofs.Common.{◌≡◌, ℕ, ◌+◌, ◌<◌, ◌≤◌, true, false, List, [], ◌∷◌, ◌++◌, length, take, drop, refl, ap, sym, ◌∙◌, arith, Option, Some, None, inl, inr, subst, IfSome}
-use Rattle.std.specs.Prelude.{slice_get}
-use Rattle.std.proofs.lemmas.Bool.{cases_Bool, false≢true}
-use Rattle.std.proofs.lemmas.List.{take-append-le}
-use Rattle.std.proofs.lemmas.Option.{slice_get_within}
-use Rattle.crtp_packets.specs.Packets.{read_answer_of}
-use Rattle.crtp_packets.specs.Reading.{up_of}
-use Rattle.upload_model.specs.declared.events.Event.{Event}
+use Rattle.upload_model.proofs.Prelude.{common_steps, ◌≡◌, ℕ, ◌+◌, ◌<◌, ◌≤◌, true, false, List, [], ◌∷◌, ◌++◌, length, take, drop, refl, ap, sym, ◌∙◌, arith, Option, Some, inl, inr, subst, IfSome, slice_get, cases_Bool, false≢true, take-append-le, slice_get_within, read_answer_of, up_of, Event, Silent, WorldEvent, Hear, DroneState, Handled, handled, Upload, IsSession, drone_count, load_count, read_count, packet_at, read_address, wanted, read_at, ReadBack, read_in, reply_to, is_good, World, happens, world, IsCase, is_right, HasRange, WasRight, VerifiedLaw, StartsLastLaw}
 use Rattle.upload_model.specs.declared.events.Event.TheVariants as event
-use Rattle.upload_model.specs.declared.events.Reply.TheVariants.{Silent}
-use Rattle.upload_model.specs.declared.events.WorldEvent.{WorldEvent}
-use Rattle.upload_model.specs.declared.events.WorldEvent.TheVariants.{Hear}
-use Rattle.upload_model.specs.Drones.{DroneState, Handled, handled}
-use Rattle.upload_model.specs.Sessions.{Upload, IsSession, drone_count, load_count, read_count, start_number, packet_count, packet_at, read_address, wanted, read_at}
-use Rattle.upload_model.specs.Replies.{ReadBack, read_in, reply_to, is_good}
-use Rattle.upload_model.specs.Worlds.{World, happens, world}
-use Rattle.upload_model.specs.Theorem.{IsCase}
-use Rattle.upload_model.specs.Readback.{is_right, HasRange, WasRight, VerifiedLaw, StartsLastLaw}
 use Rattle.upload_model.proofs.Readings.{Kind, a_write, a_define, a_read, a_start, packet_kind, packet_at-read, is_read-below, is_read-past, count-reads}
 use Rattle.upload_model.proofs.OneRead.{read-fits, reads, read_answer_says, NoRead, session-no_read, range-from}
 use Rattle.upload_model.proofs.Answers.{reply-read, Brought, brought, good-heard}
@@ -50,9 +33,6 @@ good_brought s d k i a l g =
 
 -- ---- what the drone had when it gave the answer
 
-none_some : (r : ReadBack) → None ≡ Some r → ⊥
-none_some r h = cc
-
 if_some : (o : Option (List ℕ)) (a : List ℕ) (P : List ℕ → Type 0) → o ≡ Some a → IfSome o P → P a
 if_some o a P e h = subst (λ (q : Option (List ℕ)). IfSome q P) e h
 
@@ -67,7 +47,7 @@ had_range s h d k x packet a r ok l b sent answers says good same = by_kind (pac
   plain : Rattle.upload_model.specs.Sessions.is_read s d sent.number ≡ false → HasRange s d k x
   plain is =
       let n : NoRead s d a = if_some (handled x (packet_at s d sent.number)).answer a (NoRead s d) (at (packet_at s d sent.number) refl) (session-no_read s d sent.number x ok l sent.inside is) in
-      absurd (none_some r (sym (n k) ∙ says))
+      absurd (cc (n k, says))
 
   by_kind : Kind s d sent.number → HasRange s d k x
   by_kind (a_write w) = plain (is_read-below s d sent.number (omega arith))

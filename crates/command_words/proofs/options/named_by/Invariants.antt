@@ -1,4 +1,3 @@
--- What holds whenever the loop of `named_by` begins a turn.
 use Rattle.std.proofs.Common.{◌≡◌, drop}
 use Rattle.std.specs.Prelude.{find, bytes_eq}
 use Rattle.command_words.specs.Commands.{named_by, word_of}

@@ -1,4 +1,3 @@
--- What holds whenever the loop of `options_for` begins a turn.
 use Rattle.std.proofs.Common.{◌≡◌, length, map}
 use Rattle.std.specs.Prelude.{string_bytes}
 use Rattle.command_words.specs.Commands.{options_for}

@@ -1,4 +1,3 @@
--- What holds whenever the loop of `takes` begins a turn.
 use Rattle.std.proofs.Common.{◌≡◌, drop}
 use Rattle.command_words.specs.Commands.{takes}
 use Rattle.command_words.proofs.options.takes.Given as goal

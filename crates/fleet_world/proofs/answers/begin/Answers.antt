@@ -1,6 +1,4 @@
--- Why `begin` keeps its contract, at the places where the check needs to be told.
-use Rattle.std.proofs.Common.{◌≡◌, ◌∙◌, ◌-◌, suc, sym, ap, arith}
-use Rattle.fleet_world.specs.Steps.{begin_of}
+use Rattle.fleet_world.proofs.Prelude.{◌≡◌, ◌∙◌, ◌-◌, suc, sym, ap, arith, begin_of}
 use Rattle.fleet_world.proofs.CutLemmas.{begin-later}
 use Rattle.fleet_world.proofs.answers.begin.Goals as goal
 

@@ -1,6 +1,4 @@
--- What holds whenever a loop of `drone_of` begins a turn.
-use Rattle.std.proofs.Common.{◌≡◌, drop, map}
-use Rattle.fleet_world.specs.Schedules.{place_from}
+use Rattle.fleet_world.proofs.Prelude.{◌≡◌, drop, map, place_from}
 use Rattle.fleet_world.proofs.schedule.drone_of.Given as goal
 
 abbrev pub invariant-loop-drone : goal.invariant-loop-drone

@@ -1,6 +1,4 @@
--- Why `number_of` keeps its contract, at the places where the check needs to be told.
-use Rattle.std.proofs.lemmas.Grind.{common_steps}
-use Rattle.std.proofs.Common.{◌∙◌, sym, arith}
+use Rattle.fleet_world.proofs.Prelude.{common_steps, ◌∙◌, sym, arith}
 use Rattle.fleet_world.proofs.ScheduleLaws.{natural-read, number_of-read}
 use Rattle.fleet_world.proofs.schedule.number_of.Goals as goal
 

@@ -1,11 +1,4 @@
--- Why `put_line` keeps its contract, at the places where the check needs to be told.
-use Rattle.std.proofs.Common.{◌∙◌, ◌+◌, ◌<◌, ℕ, List, Option, Result, length, map, sym, ap, arith}
-use Rattle.std.proofs.lemmas.Grind.{common_steps}
-use Rattle.text_lines.specs.declared.token.Comments.TheVariants.{Absent}
-use Rattle.text_lines.specs.Words.{Line, numbered}
-use Rattle.upload_model.specs.declared.events.WorldEvent.{WorldEvent}
-use Rattle.fleet_world.specs.Schedules.{events_of, put_event}
-use Rattle.fleet_world.specs.Steps.{behind}
+use Rattle.fleet_world.proofs.Prelude.{◌∙◌, ◌+◌, ◌<◌, ℕ, List, Option, Result, length, map, sym, ap, arith, common_steps, Absent, Line, numbered, WorldEvent, events_of, put_event, behind}
 use Rattle.fleet_world.proofs.LineLemmas.{blank_line, line_front}
 use Rattle.fleet_world.proofs.ScheduleLaws.{behind-more}
 use Rattle.fleet_world.proofs.schedule.put_line.Goals as goal

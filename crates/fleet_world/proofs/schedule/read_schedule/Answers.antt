@@ -1,5 +1,4 @@
--- Why `read_schedule` keeps its contract, at the places where the check needs to be told.
-use Rattle.std.proofs.Common.{arith}
+use Rattle.fleet_world.proofs.Prelude.{arith}
 use Rattle.fleet_world.proofs.schedule.read_schedule.Goals as goal
 
 pub put_line-requires-clause-short : goal.put_line-requires-clause-short

@@ -1,10 +1,4 @@
--- What holds whenever a loop of `read_schedule` begins a turn.
-use Rattle.std.proofs.Common.{◌≡◌, ◌+◌, ◌≤◌, map, length}
-use Rattle.text_lines.specs.declared.token.Comments.TheVariants.{Absent}
-use Rattle.text_lines.specs.Lines.{lines_of}
-use Rattle.text_lines.specs.Words.{numbered}
-use Rattle.fleet_world.specs.Schedules.{events_of, schedule_of}
-use Rattle.fleet_world.specs.Steps.{behind}
+use Rattle.fleet_world.proofs.Prelude.{◌≡◌, ◌+◌, ◌≤◌, map, length, Absent, lines_of, numbered, events_of, schedule_of, behind}
 use Rattle.fleet_world.proofs.schedule.read_schedule.Given as goal
 
 abbrev pub decreases-lines : goal.decreases-lines

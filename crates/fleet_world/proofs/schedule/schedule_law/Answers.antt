@@ -1,4 +1,3 @@
--- Why `schedule_law` keeps its contract.
 use Rattle.fleet_world.proofs.Unaltered.{unaltered_law}
 use Rattle.fleet_world.proofs.schedule.schedule_law.Goals as goal
 

@@ -1,11 +1,4 @@
--- Why `make_room` keeps its contract, at the places where the check needs to be told.
-use Rattle.std.proofs.lemmas.Grind.{common_steps}
-use Rattle.std.proofs.Common.{◌≡◌, ◌∙◌, ◌+◌, ◌≤◌, List, get_or, set, take, refl, subst, arith}
-use Rattle.std.specs.Prelude.{All, vec_len, vec_capacity}
-use Rattle.std.proofs.lemmas.List.{length-set, take_more_set, take_all}
-use Rattle.std.proofs.lemmas.List.Elements.{All-push}
-use Rattle.fleet_world.specs.declared.traffic.Traffic.{Traffic}
-use Rattle.fleet_world.specs.Traffics.{sent_of, given_of}
+use Rattle.fleet_world.proofs.Prelude.{common_steps, ◌≡◌, ◌∙◌, ◌+◌, ◌≤◌, List, get_or, set, take, refl, subst, arith, All, vec_len, vec_capacity, length-set, take_more_set, take_all, All-push, Traffic, sent_of, given_of}
 use Rattle.fleet_world.proofs.RowLemmas.{rows-set_kept}
 use Rattle.fleet_world.proofs.traffic.make_room.Goals as goal
 use Rattle.fleet_world.proofs.traffic.make_room.Goals.{After-reserve}

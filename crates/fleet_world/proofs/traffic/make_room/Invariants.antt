@@ -1,7 +1,4 @@
--- What holds whenever the loop of `make_room` begins a turn.
-use Rattle.std.proofs.Common.{◌≡◌, ◌+◌, ◌≤◌, take, length}
-use Rattle.std.specs.Prelude.{All, vec_len, vec_capacity}
-use Rattle.fleet_world.specs.Traffics.{sent_of, given_of}
+use Rattle.fleet_world.proofs.Prelude.{◌≡◌, ◌+◌, ◌≤◌, take, length, All, vec_len, vec_capacity, sent_of, given_of}
 use Rattle.fleet_world.proofs.traffic.make_room.Given as goal
 
 abbrev pub invariant-loop-drone : goal.invariant-loop-drone

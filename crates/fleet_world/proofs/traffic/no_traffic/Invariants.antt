@@ -1,6 +1,4 @@
--- What holds whenever the loop of `no_traffic` begins a turn.
-use Rattle.std.proofs.Common.{◌≡◌, [], length, replicate}
-use Rattle.fleet_world.specs.Traffics.{sent_of, given_of}
+use Rattle.fleet_world.proofs.Prelude.{◌≡◌, [], length, replicate, sent_of, given_of}
 use Rattle.fleet_world.proofs.traffic.no_traffic.Given as goal
 
 abbrev pub invariant-loop : goal.invariant-loop

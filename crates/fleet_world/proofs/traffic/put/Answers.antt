@@ -1,6 +1,4 @@
--- Why `put` keeps its contract, at the places where the check needs to be told.
-use Rattle.std.proofs.Common.{◌∙◌, ◌∷◌, ◌++◌, [], ℕ, List, refl, ap, sym}
-use Rattle.fleet_world.specs.declared.traffic.Traffic.{Traffic}
+use Rattle.fleet_world.proofs.Prelude.{◌∙◌, ◌∷◌, ◌++◌, [], ℕ, List, refl, ap, sym, Traffic}
 use Rattle.fleet_world.proofs.RowLemmas.{row-kept, rows-set_kept, row-set_same, row-set_other}
 use Rattle.fleet_world.proofs.traffic.put.Goals as goal
 

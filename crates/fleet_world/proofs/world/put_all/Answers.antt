@@ -1,10 +1,4 @@
--- Why `put_all` keeps its contract, at the places where the check needs to be told.
-use Rattle.std.proofs.lemmas.Grind.{common_steps}
-use Rattle.std.proofs.Common.{◌≡◌, ◌∙◌, ◌+◌, ◌-◌, ◌∷◌, ◌++◌, [], ℕ, List, length, take, get_or, subst, arith}
-use Rattle.std.proofs.lemmas.Bool.{cases_eq}
-use Rattle.std.proofs.lemmas.List.{take_more, append_assoc}
-use Rattle.upload_model.specs.declared.events.Sent.{Sent}
-use Rattle.fleet_world.specs.Traffics.{HasRoom}
+use Rattle.fleet_world.proofs.Prelude.{common_steps, ◌≡◌, ◌∙◌, ◌+◌, ◌-◌, ◌∷◌, ◌++◌, [], ℕ, List, length, take, get_or, subst, arith, cases_eq, take_more, append_assoc, Sent, HasRoom}
 use Rattle.fleet_world.proofs.Points.{numbers_for-here, numbers_for-other}
 use Rattle.fleet_world.proofs.world.put_all.Goals as goal
 

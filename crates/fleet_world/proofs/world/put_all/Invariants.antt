@@ -1,6 +1,4 @@
--- What holds whenever a loop of `put_all` begins a turn.
-use Rattle.std.proofs.Common.{◌≡◌, ℕ, ◌-◌, ◌++◌, take, length}
-use Rattle.fleet_world.specs.Traffics.{sent_of, given_of, row_of, numbers_for, HasRoom}
+use Rattle.fleet_world.proofs.Prelude.{◌≡◌, ℕ, ◌-◌, ◌++◌, take, length, sent_of, given_of, row_of, numbers_for, HasRoom}
 use Rattle.fleet_world.proofs.world.put_all.Given as goal
 
 abbrev pub invariant-loop-x : goal.invariant-loop-x

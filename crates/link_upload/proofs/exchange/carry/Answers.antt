@@ -1,9 +1,4 @@
-use Rattle.std.proofs.Common.{refl, sym, ap, ◌∙◌, arith}
-use Rattle.fleet_io.proofs.TakenLemmas.{TakesFront-none, TakesFront-trans}
-use Rattle.link_upload.specs.Sends.{events_in}
-use Rattle.link_upload.specs.Links.{link_of}
-use Rattle.upload_core.specs.HostStandsFor.{HostStandsFor}
-use Rattle.upload_core.specs.HostState.{view_of}
+use Rattle.link_upload.proofs.Prelude.{refl, sym, ap, ◌∙◌, arith, TakesFront-none, TakesFront-trans, events_in, link_of, HostStandsFor, view_of}
 use Rattle.link_upload.proofs.CarryLemmas.{Carries-none, Carries-push, Rose-later, answered, breaks, breaks_first, end_answered, end_faulty, end_full, end_known, end_none, fails, grown_by, grown_front, grown_more, prompt_answered, prompt_broken, prompt_carried, prompt_first, short_begun, short_end, short_faulty, short_frame, short_waiting, stops_before, stops_first, stops_waiting}
 use Rattle.link_upload.proofs.exchange.carry.Goals as goal
 

@@ -1,11 +1,4 @@
-use Rattle.std.proofs.Common.{◌≡◌, ◌≤◌, false, length}
-use Rattle.std.specs.Prelude.{IsTrue}
-use Rattle.std.specs.Io.KnownBytes.{IsAtEnd}
-use Rattle.fleet_io.specs.Held.{stream}
-use Rattle.fleet_io.specs.Taken.{TakesFront}
-use Rattle.link_upload.specs.Links.{link_of}
-use Rattle.upload_core.specs.HostStandsFor.{HostStandsFor}
-use Rattle.upload_core.specs.HostState.{view_of}
+use Rattle.link_upload.proofs.Prelude.{◌≡◌, ◌≤◌, false, length, IsTrue, IsAtEnd, stream, TakesFront, link_of, HostStandsFor, view_of}
 use Rattle.link_upload.proofs.CarryLemmas.{Carries}
 use Rattle.link_upload.proofs.exchange.carry.Given as goal
 

@@ -1,7 +1,4 @@
-use Rattle.std.proofs.lemmas.Grind.{common_steps}
-use Rattle.std.proofs.Common.{refl, sym, ◌∙◌, arith}
-use Rattle.link_frames.specs.Frames.{end_frame}
-use Rattle.link_upload.specs.Links.{link_of}
+use Rattle.link_upload.proofs.Prelude.{common_steps, refl, sym, ◌∙◌, arith, end_frame, link_of}
 use Rattle.link_upload.proofs.CarryLemmas.{Rose-later, grown_more}
 use Rattle.link_upload.proofs.FinishLemmas.{cut_broken, cut_ended, cut_failed, ended, failed, grew_ended, grew_failed, is_end, known_by, prompt_kept}
 use Rattle.link_upload.proofs.exchange.upload.Goals as goal

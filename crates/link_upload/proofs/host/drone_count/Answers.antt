@@ -1,7 +1,6 @@
 -- Why `drone_count` keeps its contract: with a drone an upload goes on before any event.
-use Rattle.std.proofs.Common.{ap}
+use Rattle.link_upload.proofs.Prelude.{ap, status_of}
 use Rattle.upload_model.proofs.HostSteps.{progress-nil}
-use Rattle.link_upload.specs.Links.{status_of}
 use Rattle.link_upload.proofs.host.drone_count.Goals as goal
 
 pub returns-clause-going : goal.returns-clause-going

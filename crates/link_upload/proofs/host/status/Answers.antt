@@ -1,5 +1,5 @@
 -- Why `status` keeps its contract: a refusal is one of the ends.
-use Rattle.std.proofs.Common.{refl, arith}
+use Rattle.link_upload.proofs.Prelude.{refl, arith}
 use Rattle.link_upload.proofs.host.status.Goals as goal
 
 pub returns-in-Refused-clause-statuses : goal.returns-in-Refused-clause-statuses

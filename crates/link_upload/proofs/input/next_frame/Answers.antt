@@ -1,7 +1,5 @@
-use Rattle.std.proofs.Common.{◌≡◌, ◌++◌, ◌∷◌, [], length-append, sym, ◌∙◌, arith, rules}
-use Rattle.fleet_io.proofs.TakenLemmas.{Consumes-append, TakesFront-trans}
+use Rattle.link_upload.proofs.Prelude.{◌≡◌, ◌++◌, ◌∷◌, [], length-append, sym, ◌∙◌, arith, rules, Consumes-append, TakesFront-trans, fed}
 use Rattle.link_frames.specs.declared.frame.Fed.TheVariants as fed_is
-use Rattle.link_frames.specs.Frames.{fed}
 use Rattle.link_upload.proofs.StepLemmas.{bad_front, short}
 use Rattle.link_upload.proofs.input.next_frame.Goals as goal
 

@@ -1,9 +1,4 @@
-use Rattle.std.proofs.Common.{◌≡◌, ◌≤◌, false, length}
-use Rattle.std.specs.Prelude.{IsTrue}
-use Rattle.std.specs.Io.KnownBytes.{Consumes, IsAtEnd}
-use Rattle.fleet_io.specs.Held.{stream}
-use Rattle.fleet_io.specs.Taken.{TakesFront}
-use Rattle.link_frames.specs.Frames.{IsBegun}
+use Rattle.link_upload.proofs.Prelude.{◌≡◌, ◌≤◌, false, length, IsTrue, Consumes, IsAtEnd, stream, TakesFront, IsBegun}
 use Rattle.link_upload.proofs.input.next_frame.Given as goal
 
 -- the bytes that were taken are those of the frame that is begun

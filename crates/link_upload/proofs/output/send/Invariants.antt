@@ -1,6 +1,4 @@
-use Rattle.std.proofs.Common.{◌≡◌, ◌*◌, ◌≤◌, length, take}
-use Rattle.link_upload.specs.Sends.{packet_frames}
-use Rattle.link_upload.specs.Links.{link_of}
+use Rattle.link_upload.proofs.Prelude.{◌≡◌, ◌*◌, ◌≤◌, length, take, packet_frames, link_of}
 use Rattle.link_upload.proofs.output.send.Given as goal
 
 -- the frames of the packets so far

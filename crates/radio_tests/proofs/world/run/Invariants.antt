@@ -1,4 +1,3 @@
--- What holds whenever the loop of `run` begins a turn.
 use Rattle.std.proofs.Common.{◌≡◌, length}
 use Rattle.radio_tests.proofs.world.run.Given as goal
 

@@ -1,11 +1,8 @@
-use Rattle.std.proofs.Common.{[], ◌∷◌, codes, decimal, refl, arith}
-use Rattle.fleet_io.proofs.WordLaws.{decimal_is_word}
+use Rattle.refusals.proofs.Prelude.{arith, rules, [], ◌∷◌, codes, decimal, decimal_is_word}
 use Rattle.refusals.proofs.RefusalLaws.{refusal_made}
 use Rattle.refusals.proofs.singles.show_line.Goals as goal
 
 pub returns : goal.returns
 returns c =
-    let word = c.args.word.now in
-    let number = decimal_is_word c.args.line (omega arith) in
-    let e = refusal_made (codes "3") (codes "line" ∷ decimal c.args.line ∷ word ∷ []) (refl, (refl, (number, (c.requires.is_word, tt)))) in
+    let e = refusal_made (codes "3") (codes "line" ∷ decimal c.args.line ∷ c.args.word.now ∷ []) (search (rules, arith, decimal_is_word)) in
     cc

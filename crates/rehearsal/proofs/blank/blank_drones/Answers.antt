@@ -1,9 +1,5 @@
 -- Why the loop of `blank_drones` goes on: one blank drone more.
-use Rattle.std.proofs.Common.{◌≡◌, ◌∙◌, ℕ, None, replicate, ap, rules}
-use Rattle.std.proofs.lemmas.List.Elements.{All-push}
-use Rattle.firmware_memory.specs.declared.drone.Drone.{Drone}
-use Rattle.firmware_memory.specs.Shown.{shown}
-use Rattle.rehearsal.specs.Rehearsed.{blank_drone}
+use Rattle.rehearsal.proofs.Prelude.{◌≡◌, ◌∙◌, ℕ, None, replicate, ap, rules, All-push, Drone, shown, blank_drone}
 use Rattle.rehearsal.proofs.blank.blank_drones.Goals as goal
 
 pub loop-preserved : goal.loop-preserved

@@ -1,8 +1,4 @@
--- What holds whenever the loop of `blank_drones` begins a turn.
-use Rattle.std.proofs.Common.{◌≡◌, All, length}
-use Rattle.firmware_memory.specs.declared.drone.Drone.{Drone}
-use Rattle.firmware_memory.specs.Shown.{shown}
-use Rattle.rehearsal.specs.Rehearsed.{blank_drone}
+use Rattle.rehearsal.proofs.Prelude.{◌≡◌, All, length, Drone, shown, blank_drone}
 use Rattle.rehearsal.proofs.blank.blank_drones.Given as goal
 
 abbrev pub invariant-loop : goal.invariant-loop

@@ -1,7 +1,4 @@
--- What holds whenever the loop of `ends_of` begins a turn.
-use Rattle.std.proofs.Common.{◌≡◌, ℕ, ℤ, ◌<◌, take}
-use Rattle.std.specs.List.{fold}
-use Rattle.fleet_math.specs.Bernstein.{at}
+use Rattle.rehearsal.proofs.Prelude.{◌≡◌, ℕ, ℤ, ◌<◌, take, fold, at}
 use Rattle.traj_codec.specs.declared.traj.Segment.{Segment}
 use Rattle.traj_codec.specs.Positions.{element_on, value_after}
 use Rattle.rehearsal.proofs.text.ends_of.Given as goal

@@ -1,9 +1,5 @@
 -- Why `memory_text` keeps its contract: drone by drone.
-use Rattle.std.proofs.Common.{◌≡◌, ◌∙◌, ◌+◌, ◌++◌, ℕ, List, map, take, ap, sym, subst, append_assoc, arith}
-use Rattle.upload_model.specs.Drones.{DroneState}
-use Rattle.firmware_memory.specs.Shown.{shown}
-use Rattle.fleet_world.specs.WorldState.{state_at, state_of}
-use Rattle.rehearsal.specs.Texts.{title_line, drone_text, AreTexts, IsFound}
+use Rattle.rehearsal.proofs.Prelude.{◌≡◌, ◌∙◌, ◌+◌, ◌++◌, ℕ, List, map, take, ap, sym, subst, append_assoc, arith, DroneState, shown, state_at, state_of, title_line, drone_text, AreTexts, IsFound}
 use Rattle.rehearsal.proofs.TextLemmas.{texts-next}
 use Rattle.rehearsal.proofs.text.memory_text.Goals as goal
 

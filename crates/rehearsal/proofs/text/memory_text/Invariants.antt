@@ -1,8 +1,4 @@
--- What holds whenever the loop of `memory_text` begins a turn.
-use Rattle.std.proofs.Common.{◌≡◌, ◌++◌, ℕ, List, map, take, true}
-use Rattle.fleet_io.specs.Words.{is_line_empty}
-use Rattle.fleet_world.specs.WorldState.{state_at}
-use Rattle.rehearsal.specs.Texts.{title_line, AreTexts}
+use Rattle.rehearsal.proofs.Prelude.{◌≡◌, ◌++◌, ℕ, List, map, take, true, is_line_empty, state_at, title_line, AreTexts}
 use Rattle.rehearsal.proofs.text.memory_text.Given as goal
 
 abbrev pub invariant-loop-d : goal.invariant-loop-d

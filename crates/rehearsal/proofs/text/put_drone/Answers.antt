@@ -1,9 +1,6 @@
 -- Why `put_drone` keeps its contract: after each of its parts the last line is empty.
-use Rattle.std.proofs.Common.{◌∙◌, [], ◌∷◌, ap, codes}
+use Rattle.rehearsal.proofs.Prelude.{◌∙◌, [], ◌∷◌, ap, codes, is_line_empty, fresh_after_line, started_word}
 use Rattle.std.proofs.lemmas.Result.{on_ok_weaker}
-use Rattle.fleet_io.specs.Words.{is_line_empty}
-use Rattle.fleet_io.proofs.WordLaws.{fresh_after_line}
-use Rattle.rehearsal.specs.Texts.{started_word}
 use Rattle.rehearsal.proofs.TextLemmas.{memory-fresh, entries-fresh, ending-fresh}
 use Rattle.rehearsal.proofs.text.put_drone.Goals as goal
 

@@ -1,12 +1,6 @@
 -- Why `put_ends` keeps its contract: its words make a line.
-use Rattle.std.proofs.Common.{◌≡◌, ◌∙◌, ◌++◌, [], ◌∷◌, List, ℕ, codes, OnOk, FitsSigned, get_or, pos, refl, rules, ap, subst, lit<}
+use Rattle.rehearsal.proofs.Prelude.{◌≡◌, ◌∙◌, ◌++◌, [], ◌∷◌, List, ℕ, codes, OnOk, FitsSigned, get_or, pos, refl, rules, ap, subst, lit<, w16, signed_decimal, at, with_word, line, words_make_line, last_value}
 use Rattle.std.proofs.lemmas.Int.{to_z-of_z}
-use mir.Syntax.{w16}
-use Rattle.std.specs.Fmt.{signed_decimal}
-use Rattle.fleet_math.specs.Bernstein.{at}
-use Rattle.fleet_io.specs.Words.{with_word, line}
-use Rattle.fleet_io.proofs.WordLaws.{words_make_line}
-use Rattle.firmware_memory.specs.Decoded.{last_value}
 use Rattle.rehearsal.proofs.TextLemmas.{four-same}
 use Rattle.rehearsal.proofs.text.put_ends.Goals as goal
 

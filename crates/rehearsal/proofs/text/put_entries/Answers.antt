@@ -1,5 +1,5 @@
 -- Why `put_entries` keeps its contract: place by place.
-use Rattle.std.proofs.Common.{arith}
+use Rattle.rehearsal.proofs.Prelude.{arith}
 use Rattle.rehearsal.proofs.TextLemmas.{entries-next}
 use Rattle.rehearsal.proofs.text.put_entries.Goals as goal
 

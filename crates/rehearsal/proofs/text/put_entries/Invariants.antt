@@ -1,7 +1,4 @@
--- What holds whenever the loop of `put_entries` begins a turn.
-use Rattle.std.proofs.Common.{◌≡◌, ◌++◌, drop, true}
-use Rattle.fleet_io.specs.Words.{is_line_empty}
-use Rattle.rehearsal.specs.Texts.{entry_lines}
+use Rattle.rehearsal.proofs.Prelude.{◌≡◌, ◌++◌, drop, true, is_line_empty, entry_lines}
 use Rattle.rehearsal.proofs.text.put_entries.Given as goal
 
 abbrev pub invariant-loop-id : goal.invariant-loop-id

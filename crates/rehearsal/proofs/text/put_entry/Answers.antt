@@ -1,7 +1,5 @@
 -- Why `put_entry` keeps its contract: its words make a line.
-use Rattle.std.proofs.Common.{◌≡◌, ◌++◌, [], ◌∷◌, List, ℕ, codes, decimal, OnOk, refl, ap, ◌∙◌, subst, arith}
-use Rattle.fleet_io.specs.Words.{with_word}
-use Rattle.fleet_io.proofs.WordLaws.{words_make_line, decimal_is_word}
+use Rattle.rehearsal.proofs.Prelude.{◌≡◌, ◌++◌, [], ◌∷◌, List, ℕ, codes, decimal, OnOk, refl, ap, ◌∙◌, subst, arith, with_word, words_make_line, decimal_is_word}
 use Rattle.rehearsal.proofs.text.put_entry.Goals as goal
 
 pub returns : goal.returns

@@ -1,7 +1,5 @@
 -- Why `put_memory` keeps its contract: row by row.
-use Rattle.std.proofs.Common.{◌≡◌, ◌∙◌, ◌++◌, ℕ, ap, arith}
-use Rattle.std.specs.List.{flat_map, range_with_len}
-use Rattle.rehearsal.specs.Texts.{memory_line, memory_lines}
+use Rattle.rehearsal.proofs.Prelude.{◌≡◌, ◌∙◌, ◌++◌, ℕ, ap, arith, flat_map, range_with_len, memory_line, memory_lines}
 use Rattle.rehearsal.proofs.TextLemmas.{rows-more}
 use Rattle.rehearsal.proofs.text.put_memory.Goals as goal
 

@@ -1,8 +1,4 @@
--- What holds whenever the loop of `put_memory` begins a turn.
-use Rattle.std.proofs.Common.{◌≡◌, ◌++◌, true}
-use Rattle.std.specs.List.{flat_map, range_with_len}
-use Rattle.fleet_io.specs.Words.{is_line_empty}
-use Rattle.rehearsal.specs.Texts.{memory_line}
+use Rattle.rehearsal.proofs.Prelude.{◌≡◌, ◌++◌, true, flat_map, range_with_len, is_line_empty, memory_line}
 use Rattle.rehearsal.proofs.text.put_memory.Given as goal
 
 abbrev pub invariant-loop-k : goal.invariant-loop-k

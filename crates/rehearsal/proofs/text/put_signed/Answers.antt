@@ -1,7 +1,5 @@
 -- Why `put_signed` keeps its contract: a number is a word.
-use Rattle.std.proofs.Common.{FitsSigned, arith}
-use Rattle.fleet_io.proofs.WordLaws.{signed_is_word}
-use mir.Syntax.{w16}
+use Rattle.rehearsal.proofs.Prelude.{FitsSigned, arith, signed_is_word, w16}
 use Rattle.rehearsal.proofs.text.put_signed.Goals as goal
 
 pub returns-clause-word : goal.returns-clause-word

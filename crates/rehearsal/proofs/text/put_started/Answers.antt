@@ -1,8 +1,5 @@
 -- Why `put_started` keeps its contract: its words make a line.
-use Rattle.std.proofs.Common.{◌≡◌, ◌++◌, [], ◌∷◌, List, ℕ, codes, OnOk, refl, ap, ◌∙◌, subst}
-use Rattle.fleet_io.specs.Words.{with_word}
-use Rattle.fleet_io.proofs.WordLaws.{words_make_line}
-use Rattle.rehearsal.specs.Texts.{started_word}
+use Rattle.rehearsal.proofs.Prelude.{◌≡◌, ◌++◌, [], ◌∷◌, List, ℕ, codes, OnOk, refl, ap, ◌∙◌, subst, with_word, words_make_line, started_word}
 use Rattle.rehearsal.proofs.text.put_started.Goals as goal
 
 pub returns : goal.returns

@@ -1,6 +1,5 @@
 -- Why `put_started_word` keeps its contract: an id is a word.
-use Rattle.std.proofs.Common.{arith}
-use Rattle.fleet_io.proofs.WordLaws.{decimal_is_word}
+use Rattle.rehearsal.proofs.Prelude.{arith, decimal_is_word}
 use Rattle.rehearsal.proofs.text.put_started_word.Goals as goal
 
 pub returns-in-Some-clause-word : goal.returns-in-Some-clause-word

@@ -1,5 +1,4 @@
-use Rattle.std.proofs.lemmas.Grind.{common_steps}
-use Rattle.std.proofs.Common.{arith}
+use Rattle.show_uploads.proofs.Prelude.{common_steps, arith}
 use Rattle.show_uploads.proofs.ScheduleLemmas.{events_of_show, schedule_gives}
 use Rattle.show_uploads.proofs.rehearsing.judge_part.Goals as goal
 

@@ -1,8 +1,4 @@
-use Rattle.std.proofs.Common.{◌∙◌, sym, map}
-use Rattle.choreo_lines.specs.Name.{Name}
-use Rattle.fleet_world.specs.WorldState.{state_at}
-use Rattle.rehearsal.specs.Texts.{IsRehearsalText}
-use Rattle.upload_model.specs.declared.events.Progress.TheVariants.{Differs, GaveUp, Refused}
+use Rattle.show_uploads.proofs.Prelude.{◌∙◌, sym, map, Name, state_at, IsRehearsalText, Differs, GaveUp, Refused}
 use Rattle.show_uploads.proofs.ScheduleLemmas.{StandsAfter, among_names, rehearses_done}
 use Rattle.show_uploads.proofs.rehearsing.rehearse_events.Goals as goal
 

@@ -1,12 +1,6 @@
-use Rattle.std.proofs.lemmas.Grind.{common_steps}
-use Rattle.std.proofs.Common.{ap, refl, arith}
-use Rattle.link_upload.specs.Links.{link_of}
-use Rattle.fleet_io.specs.Held.{Held, stream}
+use Rattle.show_uploads.proofs.Prelude.{common_steps, ap, refl, arith, link_of, Held, stream, stream_new, during, upload_verb}
 use Rattle.fleet_io.proofs.TakenLemmas.{TakesFront-trans}
-use Rattle.show_judge.proofs.FewLemmas.{stream_new}
 use Rattle.show_judge.proofs.VerbLemmas.{outcomes}
-use Rattle.show_judge.specs.Verb.{during}
-use Rattle.show_uploads.specs.Upload.{upload_verb}
 use Rattle.show_uploads.proofs.BegunLemmas.{begun_link, never_same, never_wrote}
 use Rattle.show_uploads.proofs.UploadLemmas.{stops_failed, stops_late, stops_refused, upload_carried, upload_failed, upload_refused}
 use Rattle.show_uploads.proofs.uploading.carry.Goals as goal

@@ -1,6 +1,4 @@
-use Rattle.std.proofs.lemmas.Grind.{common_steps}
-use Rattle.std.proofs.Common.{arith}
-use Rattle.show_judge.proofs.FewLemmas.{few_after_long, stream_new}
+use Rattle.show_uploads.proofs.Prelude.{common_steps, arith, few_after_long, stream_new}
 use Rattle.show_uploads.proofs.UploadLemmas.{ready_of_text}
 use Rattle.show_uploads.proofs.uploading.read_ready.Goals as goal
 

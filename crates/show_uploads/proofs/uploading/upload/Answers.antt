@@ -1,5 +1,4 @@
-use Rattle.show_judge.proofs.HeadlineLemmas.{behaves_of}
-use Rattle.show_uploads.specs.Upload.{upload_verb}
+use Rattle.show_uploads.proofs.Prelude.{behaves_of, upload_verb}
 use Rattle.show_uploads.proofs.uploading.upload.Goals as goal
 
 pub returns-clause-behaves : goal.returns-clause-behaves

@@ -1,11 +1,4 @@
--- Why `acknowledge` keeps its contract, at the places where the check needs to be told.
-use Rattle.std.proofs.lemmas.Grind.{common_steps}
-use Rattle.std.proofs.Common.{◌≡◌, ◌∙◌, ◌<◌, Bool, true, false, cond, [], ap, sym, ℕ, arith}
-use Rattle.upload_model.specs.declared.events.Progress.TheVariants.{Going, Done}
-use Rattle.upload_model.specs.Sessions.{drone_count}
-use Rattle.upload_model.specs.Hosts.{phase_of}
-use Rattle.upload_core.specs.Rows.{row_at, marked}
-use Rattle.upload_core.specs.Steps.{in_windows}
+use Rattle.upload_core.proofs.Prelude.{common_steps, ◌≡◌, ◌∙◌, ◌<◌, Bool, true, false, cond, [], ap, sym, ℕ, arith, Going, Done, drone_count, phase_of, row_at, marked, in_windows}
 use Rattle.upload_core.proofs.Windows.{empty-all}
 use Rattle.upload_core.proofs.Phases.{phase-is, rows-complete, rows-open, all-open, all-done}
 use Rattle.upload_core.proofs.Settling.{IsLess, less-begun, less-counts_in, less-sent, later-counts, later-sent, low-rows}

@@ -1,8 +1,4 @@
--- Why `command_for` keeps its contract, at the places where the check needs to be told.
-use Rattle.std.proofs.lemmas.Grind.{common_steps}
-use Rattle.std.proofs.Common.{◌∙◌, cond, sym, arith}
-use Rattle.std.proofs.lemmas.Bool.{false≢true}
-use Rattle.upload_model.specs.Sessions.{packet_count}
+use Rattle.upload_core.proofs.Prelude.{common_steps, ◌∙◌, cond, sym, arith, false≢true, packet_count}
 use Rattle.upload_core.proofs.Candidates.{command-silent}
 use Rattle.upload_core.proofs.answers.command_for.Goals as goal
 

@@ -1,10 +1,5 @@
--- Why `first_other` keeps its contract, at the places where the check needs to be told.
-use Rattle.std.proofs.Common.{ℕ, ◌≡◌, ◌==◌, ◌∙◌, not, get_or, ap, sym, arith, length}
-use Rattle.std.specs.Prelude.{find}
-use Rattle.std.specs.List.{range_with_len}
-use Rattle.std.proofs.lemmas.Bool.{eq-eqb, ne_eqb}
+use Rattle.upload_core.proofs.Prelude.{ℕ, ◌≡◌, ◌==◌, ◌∙◌, not, get_or, ap, sym, arith, length, find, range_with_len, eq-eqb, ne_eqb, wanted}
 use Rattle.upload_core.proofs.Walks.{find-walk, find-at}
-use Rattle.upload_model.specs.Sessions.{wanted}
 use Rattle.upload_core.proofs.answers.first_other.Goals as goal
 
 pub returns-then-wanted_byte-bytes-clause-value : goal.returns-then-wanted_byte-bytes-clause-value

@@ -1,8 +1,4 @@
--- What holds whenever a loop of `first_other` begins a turn.
-use Rattle.std.proofs.Common.{◌≡◌, ◌==◌, None, not, get_or}
-use Rattle.std.specs.Prelude.{find}
-use Rattle.std.specs.List.{range_with_len}
-use Rattle.upload_model.specs.Sessions.{wanted}
+use Rattle.upload_core.proofs.Prelude.{◌≡◌, ◌==◌, None, not, get_or, find, range_with_len, wanted}
 use Rattle.upload_core.proofs.answers.first_other.Given as goal
 
 abbrev pub invariant-loop-i : goal.invariant-loop-i

@@ -1,21 +1,6 @@
--- Why `hear` keeps its contract, at the places where the check needs to be told.
-use Rattle.std.proofs.lemmas.Grind.{common_steps}
-use Rattle.std.proofs.Common.{◌≡◌, ◌∙◌, ◌<◌, ℕ, Bool, cond, List, get_or, ap, sym, subst, arith, Result, Some, None, Ok, inl, inr}
-use Rattle.crtp_packets.specs.Reading.{up_of}
-use Rattle.crtp_packets.specs.declared.reading.PacketFault.{PacketFault}
+use Rattle.upload_core.proofs.Prelude.{common_steps, ◌≡◌, ◌∙◌, ◌<◌, ℕ, Bool, cond, List, get_or, ap, sym, subst, arith, Result, Some, None, Ok, inl, inr, up_of, PacketFault, Going, Done, Reply, Silent, Good, Ends, Phase, Sent, Upload, drone_count, reply_in, reply_to, phase_of, flight_after, includes, Row, packets_in, among, marked, IsFor, RowsStand}
 use Rattle.crtp_packets.specs.declared.reading.Up.{Up}
 use Rattle.upload_model.specs.declared.events.Event.TheVariants as event
-use Rattle.upload_model.specs.declared.events.Progress.TheVariants.{Going, Done}
-use Rattle.upload_model.specs.declared.events.Reply.{Reply}
-use Rattle.upload_model.specs.declared.events.Reply.TheVariants.{Silent, Good, Ends}
-use Rattle.upload_model.specs.declared.events.Phase.{Phase}
-use Rattle.upload_model.specs.declared.events.Sent.{Sent}
-use Rattle.upload_model.specs.Sessions.{Upload, drone_count}
-use Rattle.upload_model.specs.Replies.{reply_in, reply_to}
-use Rattle.upload_model.specs.Hosts.{phase_of, flight_after, includes}
-use Rattle.upload_core.specs.declared.row.Row.{Row}
-use Rattle.upload_core.specs.Rows.{packets_in, among, marked}
-use Rattle.upload_core.specs.Steps.{IsFor, RowsStand}
 use Rattle.upload_core.proofs.Windows.{row-at}
 use Rattle.upload_core.proofs.Settling.{flight-includes}
 use Rattle.upload_core.proofs.Hearing.{IsOnly, silent-unknown, silent-fault, silent-none, only-some, only-silent, reply-here, hears-silent, hears-out, hears-past, hears-end, marks-more, unfinished-more}

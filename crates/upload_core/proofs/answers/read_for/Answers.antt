@@ -1,7 +1,4 @@
--- Why `read_for` keeps its contract, at the places where the check needs to be told.
-use Rattle.std.proofs.lemmas.Grind.{common_steps}
-use Rattle.std.proofs.Common.{arith}
-use Rattle.upload_model.specs.Sessions.{packet_count}
+use Rattle.upload_core.proofs.Prelude.{common_steps, arith, packet_count}
 use Rattle.upload_core.proofs.Candidates.{read-silent}
 use Rattle.upload_core.proofs.answers.read_for.Goals as goal
 

@@ -1,13 +1,4 @@
--- Why `settle` keeps its contract, at the places where the check needs to be told.
-use Rattle.std.proofs.lemmas.Grind.{common_steps}
-use Rattle.std.proofs.Common.{◌≡◌, ◌∙◌, ◌<◌, ◌≤◌, ◌-◌, not, length, set, get_or, filter, ap, sym, subst, arith, rules}
-use Rattle.std.specs.List.{range_with_len}
-use Rattle.std.proofs.lemmas.List.{length-set, length-map}
-use Rattle.upload_model.specs.Sessions.{first_of}
-use Rattle.upload_core.specs.declared.row.InFlight.{InFlight}
-use Rattle.upload_core.specs.declared.row.Row.{Row}
-use Rattle.upload_core.specs.Rows.{packets_in, among, row_at, window_at}
-use Rattle.upload_core.specs.Steps.{IsRow, RowStands}
+use Rattle.upload_core.proofs.Prelude.{common_steps, ◌≡◌, ◌∙◌, ◌<◌, ◌≤◌, ◌-◌, not, length, set, get_or, filter, ap, sym, subst, arith, rules, range_with_len, length-set, length-map, first_of, InFlight, Row, packets_in, among, row_at, window_at, IsRow, RowStands}
 use Rattle.upload_core.proofs.Windows.{row-at, row_at-set_same, row_at-set_other}
 use Rattle.upload_core.proofs.Settling.{row-from_zero, row-until, news-few, set-stands, set-marks, set-low}
 use Rattle.upload_core.proofs.answers.settle.Goals as goal

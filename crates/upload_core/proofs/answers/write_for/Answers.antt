@@ -1,6 +1,4 @@
--- Why `write_for` keeps its contract, at the places where the check needs to be told.
-use Rattle.std.proofs.lemmas.Grind.{common_steps}
-use Rattle.std.proofs.Common.{arith}
+use Rattle.upload_core.proofs.Prelude.{common_steps, arith}
 use Rattle.upload_core.proofs.Candidates.{write-silent}
 use Rattle.upload_core.proofs.answers.write_for.Goals as goal
 

@@ -1,9 +1,6 @@
--- Why `word_of` keeps its contract, at the places where the check needs to be told.
-use Rattle.std.proofs.Common.{◌+◌, ◌*◌, ◌&&◌, ◌∙◌, Bool, ap, sym, subst, arith}
-use Rattle.std.specs.Prelude.{nat_lt}
-use Rattle.std.proofs.lemmas.Bool.{lt-ltb, le-ltb}
-use Rattle.upload_core.specs.Rows.{is_marked}
-use Rattle.upload_core.proofs.Looking.{AreBits, bits-one, bits-other, shut}
+use Rattle.upload_core.proofs.Prelude.{◌+◌, ◌*◌, ◌&&◌, ◌∙◌, Bool, ap, sym, subst, arith, nat_lt, lt-ltb, le-ltb, is_marked}
+use Rattle.upload_core.proofs.Looking.{AreBits, bits-one, bits-other}
+use Rattle.upload_core.proofs.Numbers.{shut}
 use Rattle.upload_core.proofs.host.word_of.Goals as goal
 use Rattle.upload_core.proofs.host.word_of.Goals.{then-packet-count+then-is_past, else-packet-count, else-packet-count-via-then-packet-count+else-is_past, else-packet-count-via-else-packet-count}
 

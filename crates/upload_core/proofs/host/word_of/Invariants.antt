@@ -1,7 +1,4 @@
--- What holds whenever the loop of `word_of` begins a turn.
-use Rattle.std.proofs.Common.{◌+◌, ◌*◌, ◌&&◌}
-use Rattle.std.specs.Prelude.{nat_lt}
-use Rattle.upload_core.specs.Rows.{is_marked}
+use Rattle.upload_core.proofs.Prelude.{◌+◌, ◌*◌, ◌&&◌, nat_lt, is_marked}
 use Rattle.upload_core.proofs.Looking.{AreBits}
 use Rattle.upload_core.proofs.host.word_of.Given as goal
 

@@ -1,6 +1,4 @@
--- What holds whenever the loop of `age` begins a turn.
-use Rattle.std.proofs.Common.{◌≡◌, ◌≤◌, ◌++◌, ℕ, map, take, drop, get_or}
-use Rattle.upload_core.specs.Steps.{older}
+use Rattle.upload_core.proofs.Prelude.{◌≡◌, ◌≤◌, ◌++◌, ℕ, map, take, drop, get_or, older}
 use Rattle.upload_core.proofs.row.age.Given as goal
 
 abbrev pub invariant-loop-i : goal.invariant-loop-i

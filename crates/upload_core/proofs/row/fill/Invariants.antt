@@ -1,7 +1,4 @@
--- What holds whenever the loop of `fill` begins a turn.
-use Rattle.std.proofs.Common.{◌≡◌, ◌≤◌, ◌-◌, ◌++◌, map, length}
-use Rattle.std.specs.List.{range_with_len}
-use Rattle.upload_core.specs.Steps.{fresh}
+use Rattle.upload_core.proofs.Prelude.{◌≡◌, ◌≤◌, ◌-◌, ◌++◌, map, length, range_with_len, fresh}
 use Rattle.upload_core.proofs.row.fill.Given as goal
 
 abbrev pub invariant-loop-k : goal.invariant-loop-k

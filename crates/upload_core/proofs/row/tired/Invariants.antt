@@ -1,6 +1,4 @@
--- What holds whenever the loop of `tired` begins a turn.
-use Rattle.std.proofs.Common.{◌≡◌, drop}
-use Rattle.upload_core.specs.Steps.{tired_in}
+use Rattle.upload_core.proofs.Prelude.{◌≡◌, drop, tired_in}
 use Rattle.upload_core.proofs.row.tired.Given as goal
 
 abbrev pub invariant-loop-entry : goal.invariant-loop-entry

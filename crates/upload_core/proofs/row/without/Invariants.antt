@@ -1,5 +1,4 @@
--- What holds whenever the loop of `without` begins a turn.
-use Rattle.std.proofs.Common.{◌≡◌, ◌≤◌, ◌==◌, not, take, filter, length}
+use Rattle.upload_core.proofs.Prelude.{◌≡◌, ◌≤◌, ◌==◌, not, take, filter, length}
 use Rattle.upload_core.proofs.row.without.Given as goal
 
 abbrev pub invariant-loop-entry : goal.invariant-loop-entry

@@ -1,9 +1,4 @@
--- Why `advance` keeps its contract, at the places where the check needs to be told.
-use Rattle.std.proofs.Common.{◌∙◌, sym, subst}
-use Rattle.upload_model.specs.declared.events.Phase.{Phase}
-use Rattle.upload_model.specs.declared.events.Phase.TheVariants.{Loading, Reading, Starting}
-use Rattle.upload_core.specs.Rows.{marked}
-use Rattle.upload_core.specs.Steps.{IsBegun, RowsStand}
+use Rattle.upload_core.proofs.Prelude.{◌∙◌, sym, subst, Phase, Loading, Reading, Starting, marked, IsBegun, RowsStand}
 use Rattle.upload_core.proofs.Phases.{phase-is, phase-last, begun-more, rows-complete, rows-open}
 use Rattle.upload_core.proofs.rows.advance.Goals as goal
 

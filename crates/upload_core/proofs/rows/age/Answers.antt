@@ -1,7 +1,4 @@
--- Why `age` keeps its contract, at the places where the check needs to be told.
-use Rattle.std.proofs.lemmas.Grind.{common_steps}
-use Rattle.std.proofs.Common.{◌≡◌, ◌∙◌, sym, set, arith}
-use Rattle.upload_core.specs.Rows.{row_at}
+use Rattle.upload_core.proofs.Prelude.{common_steps, ◌≡◌, ◌∙◌, sym, set, arith, row_at}
 use Rattle.upload_core.proofs.Windows.{row-at, row_at-set_other}
 use Rattle.upload_core.proofs.Walks.{all-at, older-step}
 use Rattle.upload_core.proofs.rows.age.Goals as goal

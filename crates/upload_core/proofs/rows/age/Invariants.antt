@@ -1,7 +1,4 @@
--- What holds whenever the loop of `age` begins a turn.
-use Rattle.std.proofs.Common.{◌≡◌, ◌≤◌, ◌++◌, ℕ, map, take, drop}
-use Rattle.upload_core.specs.Rows.{row_at}
-use Rattle.upload_core.specs.Steps.{older_row}
+use Rattle.upload_core.proofs.Prelude.{◌≡◌, ◌≤◌, ◌++◌, ℕ, map, take, drop, row_at, older_row}
 use Rattle.upload_core.proofs.rows.age.Given as goal
 
 abbrev pub invariant-loop-i : goal.invariant-loop-i

@@ -1,11 +1,4 @@
--- Why `begin` keeps its contract, at the places where the check needs to be told.
-use Rattle.std.proofs.lemmas.Grind.{common_steps}
-use Rattle.std.proofs.Common.{◌≡◌, ◌∙◌, ◌<◌, [], ap, sym, set, get_or, arith}
-use Rattle.std.proofs.lemmas.Bool.{cases_eq, cases_lt}
-use Rattle.std.proofs.lemmas.List.{length-set}
-use Rattle.upload_model.specs.Sessions.{drone_count, first_of}
-use Rattle.upload_core.specs.declared.row.Row.{Row}
-use Rattle.upload_core.specs.Rows.{row_at}
+use Rattle.upload_core.proofs.Prelude.{common_steps, ◌≡◌, ◌∙◌, ◌<◌, [], ap, sym, set, get_or, arith, cases_eq, cases_lt, length-set, drone_count, first_of, Row, row_at}
 use Rattle.upload_core.proofs.RowLemmas.{row-settled}
 use Rattle.upload_core.proofs.Windows.{row-at, row_at-set_same, row_at-set_other}
 use Rattle.upload_core.proofs.Walks.{allowed-later, row_at-past, row-empty}

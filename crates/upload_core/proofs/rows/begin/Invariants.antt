@@ -1,7 +1,4 @@
--- What holds whenever the loop of `begin` begins a turn.
-use Rattle.std.proofs.Common.{◌≡◌, ◌<◌, ◌≤◌, ℕ, length}
-use Rattle.upload_core.specs.Rows.{row_at, marked, counted}
-use Rattle.upload_core.specs.Steps.{RowStands}
+use Rattle.upload_core.proofs.Prelude.{◌≡◌, ◌<◌, ◌≤◌, ℕ, length, row_at, marked, counted, RowStands}
 use Rattle.upload_core.proofs.rows.begin.Given as goal
 
 abbrev pub invariant-loop-drone : goal.invariant-loop-drone

@@ -1,9 +1,4 @@
--- Why `first_flight` keeps its contract, at the places where the check needs to be told.
-use Rattle.std.proofs.lemmas.Grind.{common_steps}
-use Rattle.std.proofs.Common.{◌≡◌, ◌≤◌, ◌∙◌, List, length, sym, subst, ap, arith}
-use Rattle.std.proofs.lemmas.List.{length-append, length-map}
-use Rattle.upload_model.specs.Sessions.{drone_count}
-use Rattle.upload_core.specs.declared.row.InFlight.{InFlight}
+use Rattle.upload_core.proofs.Prelude.{common_steps, ◌≡◌, ◌≤◌, ◌∙◌, List, length, sym, subst, ap, arith, length-append, length-map, drone_count, InFlight}
 use Rattle.upload_core.proofs.Beginning.{first_windows, first-window, first_windows-walk, first_windows-flight}
 use Rattle.upload_core.proofs.rows.first_flight.Goals as goal
 use Rattle.upload_core.proofs.rows.first_flight.Goals.{After-as_slice}

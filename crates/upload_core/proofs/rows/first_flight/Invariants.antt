@@ -1,5 +1,4 @@
--- What holds whenever the loop of `first_flight` begins a turn.
-use Rattle.std.proofs.Common.{◌≡◌, ◌≤◌, ◌*◌, length}
+use Rattle.upload_core.proofs.Prelude.{◌≡◌, ◌≤◌, ◌*◌, length}
 use Rattle.upload_core.proofs.Beginning.{first_windows}
 use Rattle.upload_core.proofs.rows.first_flight.Given as goal
 

@@ -1,7 +1,4 @@
--- What holds whenever the loop of `first_rows` begins a turn.
-use Rattle.std.proofs.Common.{◌≡◌, ◌<◌, ℕ, length}
-use Rattle.upload_core.specs.Rows.{row_at}
-use Rattle.upload_core.specs.Steps.{IsStarting}
+use Rattle.upload_core.proofs.Prelude.{◌≡◌, ◌<◌, ℕ, length, row_at, IsStarting}
 use Rattle.upload_core.proofs.rows.first_rows.Given as goal
 
 abbrev pub invariant-loop-drone : goal.invariant-loop-drone

@@ -1,8 +1,4 @@
--- Why `first_tired` keeps its contract, at the places where the check needs to be told.
-use Rattle.std.proofs.Common.{◌≡◌, ◌∙◌, length, ap, sym, arith}
-use Rattle.upload_core.specs.declared.row.Row.{Row}
-use Rattle.upload_core.specs.Rows.{row_at}
-use Rattle.upload_core.specs.Steps.{tired_in}
+use Rattle.upload_core.proofs.Prelude.{◌≡◌, ◌∙◌, length, ap, sym, arith, Row, row_at, tired_in}
 use Rattle.upload_core.proofs.Windows.{row-at}
 use Rattle.upload_core.proofs.Walks.{packet_of, tired-walk, tired-here}
 use Rattle.upload_core.proofs.rows.first_tired.Goals as goal

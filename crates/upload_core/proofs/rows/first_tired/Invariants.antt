@@ -1,8 +1,4 @@
--- What holds whenever the loop of `first_tired` begins a turn.
-use Rattle.std.proofs.Common.{◌≡◌, ◌==◌, None}
-use Rattle.std.specs.Prelude.{find}
-use Rattle.upload_core.specs.Rows.{counted}
-use Rattle.upload_core.specs.Steps.{in_windows}
+use Rattle.upload_core.proofs.Prelude.{◌≡◌, ◌==◌, None, find, counted, in_windows}
 use Rattle.upload_core.proofs.rows.first_tired.Given as goal
 
 abbrev pub invariant-loop-drone : goal.invariant-loop-drone

@@ -1,7 +1,4 @@
--- What holds whenever a loop of `is_settled` begins a turn.
-use Rattle.std.proofs.Common.{◌≡◌, ◌==◌, drop, length}
-use Rattle.std.specs.List.{list_all}
-use Rattle.upload_core.specs.declared.row.Row.{Row}
+use Rattle.upload_core.proofs.Prelude.{◌≡◌, ◌==◌, drop, length, list_all, Row}
 use Rattle.upload_core.proofs.rows.is_settled.Given as goal
 
 abbrev pub invariant-loop-row : goal.invariant-loop-row

@@ -1,10 +1,4 @@
--- Why `put_flight` keeps its contract, at the places where the check needs to be told.
-use Rattle.std.proofs.lemmas.Grind.{common_steps}
-use Rattle.std.proofs.Common.{◌≡◌, ◌≤◌, ◌∙◌, List, length, sym, subst, ap, arith}
-use Rattle.std.proofs.lemmas.List.{length-append, length-map}
-use Rattle.upload_core.specs.declared.row.InFlight.{InFlight}
-use Rattle.upload_core.specs.declared.row.Row.{Row}
-use Rattle.upload_core.specs.Rows.{row_at}
+use Rattle.upload_core.proofs.Prelude.{common_steps, ◌≡◌, ◌≤◌, ◌∙◌, List, length, sym, subst, ap, arith, length-append, length-map, InFlight, Row, row_at}
 use Rattle.upload_core.proofs.Windows.{row-at, windows-walk}
 use Rattle.upload_core.proofs.rows.put_flight.Goals as goal
 use Rattle.upload_core.proofs.rows.put_flight.Goals.{After-as_slice}

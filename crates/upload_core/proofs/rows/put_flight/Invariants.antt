@@ -1,6 +1,4 @@
--- What holds whenever a loop of `put_flight` begins a turn.
-use Rattle.std.proofs.Common.{◌≡◌, ◌≤◌, ◌*◌, length}
-use Rattle.upload_core.specs.Steps.{in_windows}
+use Rattle.upload_core.proofs.Prelude.{◌≡◌, ◌≤◌, ◌*◌, length, in_windows}
 use Rattle.upload_core.proofs.rows.put_flight.Given as goal
 
 abbrev pub invariant-loop-drone : goal.invariant-loop-drone

@@ -1,8 +1,4 @@
--- Why `put_news` keeps its contract, at the places where the check needs to be told.
-use Rattle.std.proofs.lemmas.Grind.{common_steps}
-use Rattle.std.proofs.Common.{◌≡◌, ◌∙◌, ◌-◌, ℕ, ap, arith}
-use Rattle.std.specs.List.{range_with_len}
-use Rattle.upload_model.specs.Hosts.{sent_to}
+use Rattle.upload_core.proofs.Prelude.{common_steps, ◌≡◌, ◌∙◌, ◌-◌, ℕ, ap, arith, range_with_len, sent_to}
 use Rattle.upload_core.proofs.Windows.{sent-more}
 use Rattle.upload_core.proofs.rows.put_news.Goals as goal
 

@@ -1,7 +1,4 @@
--- What holds whenever a loop of `put_news` begins a turn.
-use Rattle.std.proofs.Common.{◌≡◌, ◌≤◌, ◌+◌, ◌-◌, length}
-use Rattle.std.specs.List.{range_with_len}
-use Rattle.upload_model.specs.Hosts.{sent_to}
+use Rattle.upload_core.proofs.Prelude.{◌≡◌, ◌≤◌, ◌+◌, ◌-◌, length, range_with_len, sent_to}
 use Rattle.upload_core.proofs.rows.put_news.Given as goal
 
 abbrev pub invariant-loop-packet : goal.invariant-loop-packet

@@ -1,7 +1,4 @@
--- What holds whenever a loop of `put_window` begins a turn.
-use Rattle.std.proofs.Common.{◌≡◌, ◌≤◌, ◌+◌, ◌++◌, length, take}
-use Rattle.upload_model.specs.Hosts.{sent_to}
-use Rattle.upload_core.specs.Rows.{packets_in}
+use Rattle.upload_core.proofs.Prelude.{◌≡◌, ◌≤◌, ◌+◌, ◌++◌, length, take, sent_to, packets_in}
 use Rattle.upload_core.proofs.rows.put_window.Given as goal
 
 abbrev pub invariant-loop-entry : goal.invariant-loop-entry

@@ -1,11 +1,4 @@
--- Why `tick` keeps its contract, at the places where the check needs to be told.
-use Rattle.std.proofs.lemmas.Grind.{common_steps}
-use Rattle.std.proofs.Common.{◌≡◌, ◌∙◌, ◌==◌, length, ap, sym, arith}
-use Rattle.std.specs.Prelude.{find}
-use Rattle.std.proofs.lemmas.List.{length-map}
-use Rattle.upload_model.specs.Hosts.{gave_up}
-use Rattle.upload_core.specs.Rows.{counted}
-use Rattle.upload_core.specs.Steps.{in_windows}
+use Rattle.upload_core.proofs.Prelude.{common_steps, ◌≡◌, ◌∙◌, ◌==◌, length, ap, sym, arith, find, length-map, gave_up, counted, in_windows}
 use Rattle.upload_core.proofs.Standing.{row_at-older, older-row, older-windows}
 use Rattle.upload_core.proofs.rows.tick.Goals as goal
 use Rattle.upload_core.proofs.rows.tick.Goals.{After-first_tired}

@@ -1,4 +1,3 @@
--- Why `readback_law` keeps its contract.
 use Rattle.upload_model.proofs.OneRead as one_read
 use Rattle.upload_model.proofs.Verified as verified
 use Rattle.upload_model.proofs.law.readback_law.Goals as goal

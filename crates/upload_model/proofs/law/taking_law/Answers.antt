@@ -1,4 +1,3 @@
--- Why `taking_law` keeps its contract.
 use Rattle.upload_model.proofs.Taking as taking
 use Rattle.upload_model.proofs.law.taking_law.Goals as goal
 

@@ -1,4 +1,3 @@
--- Why `upload_law` keeps its contract.
 use Rattle.upload_model.proofs.Moments as moments
 use Rattle.upload_model.proofs.Later as later
 use Rattle.upload_model.proofs.Taken as taken

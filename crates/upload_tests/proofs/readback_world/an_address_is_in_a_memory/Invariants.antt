@@ -1,4 +1,3 @@
--- What holds whenever the loop of `an_address_is_in_a_memory` begins a turn.
 use Rattle.std.proofs.Common.{◌≡◌, length}
 use Rattle.upload_tests.proofs.readback_world.an_address_is_in_a_memory.Given as goal
 

@@ -1,4 +1,3 @@
--- What holds whenever a loop of `fly` begins a turn.
 use Rattle.std.proofs.Common.{◌≡◌, length}
 use Rattle.upload_tests.proofs.readback_world.fly.Given as goal
 

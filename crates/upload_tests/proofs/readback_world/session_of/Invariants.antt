@@ -1,4 +1,3 @@
--- What holds whenever the loop of `session_of` begins a turn.
 use Rattle.std.proofs.Common.{◌≡◌, All, length}
 use Rattle.upload_model.specs.Sessions.{IsLoad}
 use Rattle.upload_tests.proofs.readback_world.session_of.Given as goal

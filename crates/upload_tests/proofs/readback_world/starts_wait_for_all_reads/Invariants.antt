@@ -1,4 +1,3 @@
--- What holds whenever the loop of `starts_wait_for_all_reads` begins a turn.
 use Rattle.std.proofs.Common.{◌≡◌, length}
 use Rattle.upload_tests.proofs.readback_world.starts_wait_for_all_reads.Given as goal
 

@@ -1,8 +1,4 @@
--- Why `get` keeps its contract, at the places where the check needs to be told.
-use Rattle.std.proofs.lemmas.Grind.{common_steps}
-use Rattle.std.proofs.Common.{◌∙◌, ℕ, List, Some, length, get_or, ap, sym, subst, arith}
-use Rattle.std.specs.Prelude.{slice_get, slice_range}
-use Rattle.fleet_world.specs.Steps.{cut, AreEnds}
+use Rattle.fleet_world.proofs.Prelude.{common_steps, ◌∙◌, ℕ, List, Some, length, get_or, ap, sym, subst, arith, slice_get, slice_range, cut, AreEnds}
 use Rattle.fleet_world.proofs.CutLemmas.{IsPiece, piece-at, piece-past}
 use Rattle.fleet_world.proofs.answers.Answers.get.Goals as goal
 use Rattle.fleet_world.proofs.answers.Answers.get.Goals.{After-as_slice}

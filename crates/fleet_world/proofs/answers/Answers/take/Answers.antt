@@ -1,7 +1,4 @@
--- Why `take` keeps its contract, at the places where the check needs to be told.
-use Rattle.std.proofs.lemmas.Grind.{common_steps}
-use Rattle.std.proofs.Common.{◌≡◌, ◌∙◌, ◌∷◌, ◌++◌, ◌+◌, [], ℕ, List, length, ap, arith}
-use Rattle.std.proofs.lemmas.List.{length-append}
+use Rattle.fleet_world.proofs.Prelude.{common_steps, ◌≡◌, ◌∙◌, ◌∷◌, ◌++◌, ◌+◌, [], ℕ, List, length, ap, arith, length-append}
 use Rattle.fleet_world.proofs.CutLemmas.{ends-more, cut-more}
 use Rattle.fleet_world.proofs.answers.Answers.take.Goals as goal
 use Rattle.fleet_world.proofs.answers.Answers.take.Goals.{After-push_reserved}

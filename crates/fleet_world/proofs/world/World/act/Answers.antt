@@ -1,11 +1,5 @@
--- Why `act` keeps its contract, at the places where the check needs to be told.
-use Rattle.std.proofs.lemmas.Grind.{common_steps}
-use Rattle.std.proofs.Common.{◌≡◌, ◌∙◌, ◌≤◌, ap, sym, subst, arith}
-use Rattle.upload_model.specs.Sessions.{drone_count}
-use Rattle.upload_model.specs.Worlds.{happens}
-use Rattle.fleet_world.specs.WorldState.{WorldState, WorldStandsAt}
+use Rattle.fleet_world.proofs.Prelude.{common_steps, ◌≡◌, ◌∙◌, ◌≤◌, ap, sym, subst, arith, drone_count, happens, WorldState, WorldStandsAt, inl, inr}
 use Rattle.fleet_world.proofs.Points.{take-unknown, hear-unknown, take-named, hear-named, tick-happens, on_ok, alter-nothing, alter-there}
-use Rattle.std.proofs.Common.{inl, inr}
 use Rattle.fleet_world.proofs.world.World.act.Goals as goal
 use Rattle.fleet_world.proofs.world.World.act.Goals.{then-drone-drones-3-via-then-drone-drones-3, then-drone-drones-3-via-else-drone-drones-3+then-address-ge-MEMORY_BYTES}
 

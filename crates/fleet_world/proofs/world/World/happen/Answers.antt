@@ -1,13 +1,4 @@
--- Why `happen` keeps its contract, at the places where the check needs to be told.
-use Rattle.std.proofs.lemmas.Grind.{common_steps}
-use Rattle.std.proofs.Common.{◌≡◌, ◌∙◌, List, length, ap, sym, subst, arith}
-use Rattle.std.specs.Vec.{with_items}
-use Rattle.std.proofs.lemmas.List.{with_items_is}
-use Rattle.upload_model.specs.Sessions.{Upload, drone_count}
-use Rattle.upload_model.specs.Worlds.{host_event}
-use Rattle.fleet_world.specs.declared.traffic.Traffic.{Traffic}
-use Rattle.fleet_world.specs.Traffics.{sent_of, given_of, AreNumbersOf}
-use Rattle.fleet_world.specs.WorldState.{WorldState, WorldStandsAt}
+use Rattle.fleet_world.proofs.Prelude.{common_steps, ◌≡◌, ◌∙◌, List, length, ap, sym, subst, arith, with_items, with_items_is, Upload, drone_count, host_event, Traffic, sent_of, given_of, AreNumbersOf, WorldState, WorldStandsAt}
 use Rattle.fleet_world.proofs.Points.{AfterPut, known-put, stands-host_event}
 use Rattle.fleet_world.proofs.world.World.happen.Goals as goal
 use Rattle.fleet_world.proofs.world.World.happen.Goals.{After-put_all}

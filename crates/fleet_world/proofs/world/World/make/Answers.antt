@@ -1,18 +1,4 @@
--- Why `make` keeps its contract, at the places where the check needs to be told.
-use Rattle.std.proofs.lemmas.Grind.{common_steps}
-use Rattle.std.proofs.Common.{◌≡◌, ◌∙◌, [], List, length, replicate, ap, sym, subst, arith}
-use Rattle.std.specs.Prelude.{All}
-use Rattle.std.specs.Vec.{with_items}
-use Rattle.std.proofs.lemmas.List.{with_items_is}
-use Rattle.std.proofs.lemmas.List.Elements.{All-weaker}
-use Rattle.upload_model.specs.declared.events.Progress.TheVariants.{Going}
-use Rattle.upload_model.specs.Sessions.{IsSession, Upload, drone_count}
-use Rattle.upload_model.specs.Hosts.{flight}
-use Rattle.upload_model.specs.Worlds.{start_world}
-use Rattle.upload_core.specs.HostState.{IsPacketOf}
-use Rattle.fleet_world.specs.declared.traffic.Traffic.{Traffic}
-use Rattle.fleet_world.specs.Traffics.{sent_of, given_of, AreNumbersOf}
-use Rattle.fleet_world.specs.WorldState.{state_at, WorldStandsAt}
+use Rattle.fleet_world.proofs.Prelude.{common_steps, ◌≡◌, ◌∙◌, [], List, length, replicate, ap, sym, subst, arith, All, with_items, with_items_is, All-weaker, Going, IsSession, Upload, drone_count, flight, start_world, IsPacketOf, Traffic, sent_of, given_of, AreNumbersOf, state_at, WorldStandsAt}
 use Rattle.fleet_world.proofs.RowLemmas.{HasRoom-less}
 use Rattle.fleet_world.proofs.Points.{AfterPut, known-put, none-known, stands-start}
 use Rattle.fleet_world.proofs.world.World.make.Goals as goal

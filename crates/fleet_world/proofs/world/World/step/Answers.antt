@@ -1,6 +1,4 @@
--- Why `step` keeps its contract, at the places where the check needs to be told.
-use Rattle.std.proofs.lemmas.Grind.{common_steps}
-use Rattle.std.proofs.Common.{arith}
+use Rattle.fleet_world.proofs.Prelude.{common_steps, arith}
 use Rattle.upload_model.proofs.Sending.{world-last}
 use Rattle.fleet_world.proofs.Points.{on_ok, if_ok}
 use Rattle.fleet_world.proofs.world.World.step.Goals as goal

@@ -1,17 +1,7 @@
--- Why `take` keeps its contract, at the places where the check needs to be told.
-use Rattle.std.proofs.lemmas.Grind.{common_steps}
-use Rattle.std.proofs.Common.{◌≡◌, ◌∙◌, ◌++◌, ◌<◌, ℕ, List, set, refl, ap, sym, subst, arith, length}
-use Rattle.std.proofs.lemmas.List.{length-set, set-get_or}
-use Rattle.std.proofs.lemmas.Option.{slice_get_read}
-use Rattle.upload_model.specs.Drones.{DroneState, handled}
-use Rattle.upload_model.specs.Sessions.{Upload, drone_count}
-use Rattle.upload_model.specs.Worlds.{option_list}
-use Rattle.firmware_memory.specs.Shown.{shown}
-use Rattle.fleet_world.specs.declared.traffic.Traffic.{Traffic}
-use Rattle.fleet_world.specs.Traffics.{sent_of, given_of, row_of}
-use Rattle.fleet_world.specs.WorldState.{state_at, state_of, WorldState, WorldStandsAt}
+use Rattle.fleet_world.proofs.Prelude.{common_steps, ◌≡◌, ◌∙◌, ◌++◌, ◌<◌, ℕ, List, set, refl, ap, sym, subst, arith, length, length-set, set-get_or, slice_get_read, DroneState, handled, Upload, drone_count, option_list, shown, Traffic, sent_of, given_of, row_of, state_at, state_of, WorldState, WorldStandsAt}
 use Rattle.fleet_world.proofs.RowLemmas.{row-kept, rows-set_kept, row-set_same, row-set_other}
-use Rattle.fleet_world.proofs.Points.{stands-took, on_ok, on_err}
+use Rattle.std.proofs.lemmas.Result.{on_err_weaker}
+use Rattle.fleet_world.proofs.Points.{stands-took, on_ok}
 use Rattle.fleet_world.proofs.world.World.take.Goals as goal
 
 -- a drone of the session has its place
@@ -43,4 +33,4 @@ returns-clause-stands c =
     (λ i other. row-set_other (λ (x : Traffic). x.given) c.self.inside.traffic.items c.args.drone i t other))
 
 pub returns-clause-err : goal.returns-clause-err
-returns-clause-err c = grind (arith, common_steps, on_err, inside, set, set-get_or, rows-set_kept)
+returns-clause-err c = grind (arith, common_steps, on_err_weaker, inside, set, set-get_or, rows-set_kept)

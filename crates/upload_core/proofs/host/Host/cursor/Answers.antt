@@ -1,15 +1,4 @@
--- Why `cursor` keeps its contract, at the places where the check needs to be told.
-use Rattle.std.proofs.Common.{◌≡◌, ◌⊎◌, ◌<◌, ◌∙◌, ℕ, true, List, length, ap, sym, subst, arith, inl, inr}
-use Rattle.std.proofs.lemmas.Bool.{cases_lt}
-use Rattle.upload_model.specs.declared.events.Event.{Event}
-use Rattle.upload_model.specs.declared.events.Progress.TheVariants.{Going, Done}
-use Rattle.upload_model.specs.Sessions.{drone_count, packet_count}
-use Rattle.upload_model.specs.Hosts.{acked, progress}
-use Rattle.upload_core.specs.declared.row.Row.{Row}
-use Rattle.upload_core.specs.HostState.{HostState, view_of}
-use Rattle.upload_core.specs.HostStandsFor.{HostStandsFor}
-use Rattle.upload_core.specs.Rows.{is_marked, row_at, marked, cursor_of}
-use Rattle.upload_core.specs.Steps.{IsRow}
+use Rattle.upload_core.proofs.Prelude.{◌≡◌, ◌⊎◌, ◌<◌, ◌∙◌, ℕ, true, List, length, ap, sym, subst, arith, inl, inr, cases_lt, Event, Going, Done, drone_count, packet_count, acked, progress, Row, HostState, view_of, HostStandsFor, is_marked, row_at, marked, cursor_of, IsRow}
 use Rattle.upload_core.proofs.Windows.{row-at}
 use Rattle.upload_core.proofs.Standing.{row-shape}
 use Rattle.upload_core.proofs.Looking.{marks-stand, cursor-here, cursor-end}

@@ -1,8 +1,4 @@
--- Why `first` keeps its contract, at the places where the check needs to be told.
-use Rattle.std.proofs.lemmas.Grind.{common_steps}
-use Rattle.std.proofs.Common.{◌∙◌, [], ap, arith}
-use Rattle.upload_model.specs.Hosts.{flight}
-use Rattle.upload_core.specs.HostState.{HostState}
+use Rattle.upload_core.proofs.Prelude.{common_steps, ◌∙◌, [], ap, arith, flight, HostState}
 use Rattle.upload_core.proofs.Standing.{flight_after-known}
 use Rattle.upload_core.proofs.host.Host.first.Goals as goal
 

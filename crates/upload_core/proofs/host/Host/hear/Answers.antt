@@ -1,11 +1,5 @@
--- Why `hear` keeps its contract, at the places where the check needs to be told.
-use Rattle.std.proofs.Common.{◌≢◌, ◌∙◌, ap, sym, refl, subst, List}
-use Rattle.std.specs.Prelude.{All}
-use Rattle.std.proofs.lemmas.List.Elements.{All-nil}
-use Rattle.upload_model.specs.declared.events.Sent.{Sent}
+use Rattle.upload_core.proofs.Prelude.{◌≢◌, ◌∙◌, ap, sym, refl, subst, List, All, All-nil, Sent, Going, HostState, IsPacketOf, view_of}
 use Rattle.upload_model.specs.declared.events.Event.TheVariants as event
-use Rattle.upload_model.specs.declared.events.Progress.TheVariants.{Going}
-use Rattle.upload_core.specs.HostState.{HostState, IsPacketOf, view_of}
 use Rattle.upload_core.proofs.Standing.{stands-ended, sent-ended}
 use Rattle.upload_core.proofs.host.Host.hear.Goals as goal
 

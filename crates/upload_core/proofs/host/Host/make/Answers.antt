@@ -1,6 +1,4 @@
--- Why `make` keeps its contract, at the places where the check needs to be told.
-use Rattle.std.proofs.Common.{subst}
-use Rattle.upload_model.specs.Sessions.{IsSession}
+use Rattle.upload_core.proofs.Prelude.{subst, IsSession}
 use Rattle.upload_core.proofs.Beginning.{rows-begin, phase-begin, ready-begin, stands-begin}
 use Rattle.upload_core.proofs.host.Host.make.Goals as goal
 

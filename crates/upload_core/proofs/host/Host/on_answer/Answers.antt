@@ -1,20 +1,5 @@
--- Why `on_answer` keeps its contract, at the places where the check needs to be told.
-use Rattle.std.proofs.lemmas.Grind.{common_steps}
-use Rattle.std.proofs.Common.{◌≡◌, ◌∙◌, ◌∷◌, ◌++◌, [], List, length, not, ap, sym, subst, arith}
-use Rattle.std.specs.Prelude.{All, filter}
-use Rattle.std.specs.Vec.{with_items}
-use Rattle.std.proofs.lemmas.List.{with_items_is}
-use Rattle.std.proofs.lemmas.List.Elements.{All-filter}
+use Rattle.upload_core.proofs.Prelude.{common_steps, ◌≡◌, ◌∙◌, ◌∷◌, ◌++◌, [], List, length, not, ap, sym, subst, arith, All, filter, with_items, with_items_is, All-filter, Going, Sent, flight_after, includes, progress, if_going-fits, Row, HostState, IsPacketOf, view_of, HostStandsFor, marked, RowsStand, IsLow}
 use Rattle.upload_model.specs.declared.events.Event.TheVariants as event
-use Rattle.upload_model.specs.declared.events.Progress.TheVariants.{Going}
-use Rattle.upload_model.specs.declared.events.Sent.{Sent}
-use Rattle.upload_model.specs.Hosts.{flight_after, includes, progress}
-use Rattle.upload_model.proofs.HostLaws.{if_going-fits}
-use Rattle.upload_core.specs.declared.row.Row.{Row}
-use Rattle.upload_core.specs.HostState.{HostState, IsPacketOf, view_of}
-use Rattle.upload_core.specs.HostStandsFor.{HostStandsFor}
-use Rattle.upload_core.specs.Rows.{marked}
-use Rattle.upload_core.specs.Steps.{RowsStand, IsLow}
 use Rattle.upload_core.proofs.Standing.{flight_after-known, ready-hear, answer-hear, stands-hear, sent-hear}
 use Rattle.upload_core.proofs.host.Host.on_answer.Goals as goal
 use Rattle.upload_core.proofs.host.Host.on_answer.Goals.{After-hear-answer}

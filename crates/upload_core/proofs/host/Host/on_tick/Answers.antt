@@ -1,18 +1,5 @@
--- Why `on_tick` keeps its contract, at the places where the check needs to be told.
-use Rattle.std.proofs.lemmas.Grind.{common_steps}
-use Rattle.std.proofs.Common.{◌≡◌, ◌∙◌, ◌==◌, ◌<◌, ℕ, ◌∷◌, ◌++◌, [], List, length, map, ap, sym, subst, arith}
-use Rattle.std.specs.Prelude.{find}
-use Rattle.std.specs.Vec.{with_items}
-use Rattle.std.proofs.lemmas.List.{with_items_is, length-map}
+use Rattle.upload_core.proofs.Prelude.{common_steps, ◌≡◌, ◌∙◌, ◌==◌, ◌<◌, ℕ, ◌∷◌, ◌++◌, [], List, length, map, ap, sym, subst, arith, find, with_items, with_items_is, length-map, Going, phase_of, gave_up, if_going, progress, out, if_going-fits, Row, HostState, view_of, HostStandsFor, row_at, marked, counted, older_row, IsRow, RowsStand, IsReady, in_windows}
 use Rattle.upload_model.specs.declared.events.Event.TheVariants as event
-use Rattle.upload_model.specs.declared.events.Progress.TheVariants.{Going}
-use Rattle.upload_model.specs.Hosts.{phase_of, gave_up, if_going, progress, out}
-use Rattle.upload_model.proofs.HostLaws.{if_going-fits}
-use Rattle.upload_core.specs.declared.row.Row.{Row}
-use Rattle.upload_core.specs.HostState.{HostState, view_of}
-use Rattle.upload_core.specs.HostStandsFor.{HostStandsFor}
-use Rattle.upload_core.specs.Rows.{row_at, marked, counted}
-use Rattle.upload_core.specs.Steps.{older_row, IsRow, RowsStand, IsReady, in_windows}
 use Rattle.upload_core.proofs.Windows.{windows-flight}
 use Rattle.upload_core.proofs.Standing.{flight_after-known, older-rows, older-phase, row-shape, ready-tick, answer-tick, stands-tick, sent-tick}
 use Rattle.upload_core.proofs.host.Host.on_tick.Goals as goal

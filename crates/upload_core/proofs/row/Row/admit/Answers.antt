@@ -1,8 +1,4 @@
--- Why `admit` keeps its contract, at the places where the check needs to be told.
-use Rattle.std.proofs.lemmas.Grind.{common_steps}
-use Rattle.std.proofs.Common.{◌∙◌, List, ap, arith}
-use Rattle.upload_core.specs.declared.row.InFlight.{InFlight}
-use Rattle.upload_core.specs.Rows.{count_in}
+use Rattle.upload_core.proofs.Prelude.{common_steps, ◌∙◌, List, ap, arith, InFlight, count_in}
 use Rattle.upload_core.proofs.RowLemmas.{grows-rising, grows-past, grows-counts}
 use Rattle.upload_core.proofs.row.Row.admit.Goals as goal
 

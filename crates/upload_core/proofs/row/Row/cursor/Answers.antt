@@ -1,10 +1,4 @@
--- Why `cursor` keeps its contract, at the places where the check needs to be told.
-use Rattle.std.proofs.Common.{◌≡◌, ◌∙◌, ◌<◌, ◌∷◌, [], ℕ, List, Some, true, false, ap, sym, subst}
-use Rattle.std.specs.Option.{option_copied}
-use Rattle.std.specs.Prelude.{slice_get}
-use Rattle.upload_core.specs.declared.row.InFlight.{InFlight}
-use Rattle.upload_core.specs.Rows.{packets_in, is_past}
-use Rattle.upload_core.specs.Steps.{IsBetween}
+use Rattle.upload_core.proofs.Prelude.{◌≡◌, ◌∙◌, ◌<◌, ◌∷◌, [], ℕ, List, Some, true, false, ap, sym, subst, option_copied, slice_get, InFlight, packets_in, is_past, IsBetween}
 use Rattle.upload_core.proofs.Numbers.{head-first}
 use Rattle.upload_core.proofs.row.Row.cursor.Goals as goal
 

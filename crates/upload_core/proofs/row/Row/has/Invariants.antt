@@ -1,6 +1,4 @@
--- What holds whenever the loop of `has` begins a turn.
-use Rattle.std.proofs.Common.{◌≡◌, drop}
-use Rattle.upload_core.specs.Rows.{packets_in, among}
+use Rattle.upload_core.proofs.Prelude.{◌≡◌, drop, packets_in, among}
 use Rattle.upload_core.proofs.row.Row.has.Given as goal
 
 abbrev pub invariant-loop-entry : goal.invariant-loop-entry

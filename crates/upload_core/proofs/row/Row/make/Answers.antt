@@ -1,9 +1,4 @@
--- Why `make` keeps its contract, at the places where the check needs to be told.
-use Rattle.std.proofs.lemmas.Grind.{common_steps}
-use Rattle.std.proofs.Common.{◌∙◌, List, ap, sym, subst, arith}
-use Rattle.upload_core.specs.declared.row.InFlight.{InFlight}
-use Rattle.upload_core.specs.Rows.{packets_in, count_in}
-use Rattle.upload_core.specs.Steps.{IsBetween}
+use Rattle.upload_core.proofs.Prelude.{common_steps, ◌∙◌, List, ap, sym, subst, arith, InFlight, packets_in, count_in, IsBetween}
 use Rattle.upload_core.proofs.Numbers.{past-later}
 use Rattle.upload_core.proofs.RowLemmas.{grows-rising, grows-past, grows-counts}
 use Rattle.upload_core.proofs.row.Row.make.Goals as goal

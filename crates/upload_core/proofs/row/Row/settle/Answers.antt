@@ -1,9 +1,4 @@
--- Why `settle` keeps its contract, at the places where the check needs to be told.
-use Rattle.std.proofs.Common.{◌≡◌, ◌∙◌, ◌≤◌, ◌==◌, ◌∷◌, List, [], length, refl, inl, inr, not, filter, ap, sym, subst, arith}
-use Rattle.std.proofs.lemmas.Bool.{eqb-true}
-use Rattle.upload_core.specs.declared.row.InFlight.{InFlight}
-use Rattle.upload_core.specs.Rows.{packets_in, among}
-use Rattle.upload_core.specs.Steps.{IsBetween}
+use Rattle.upload_core.proofs.Prelude.{◌≡◌, ◌∙◌, ◌≤◌, ◌==◌, ◌∷◌, List, [], length, refl, inl, inr, not, filter, ap, sym, subst, arith, eqb-true, InFlight, packets_in, among, IsBetween}
 use Rattle.upload_core.proofs.Numbers.{past-yes}
 use Rattle.upload_core.proofs.RowLemmas.{packets-some, grows-past, grows-twice, Grows, less-marks, less-counts, less-low, less-news, less-rising, until-some, until-none}
 use Rattle.upload_core.proofs.row.Row.settle.Goals as goal

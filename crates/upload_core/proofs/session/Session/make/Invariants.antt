@@ -1,5 +1,4 @@
--- What holds whenever a loop of `make` begins a turn.
-use Rattle.std.proofs.Common.{◌≡◌, take}
+use Rattle.upload_core.proofs.Prelude.{◌≡◌, take}
 use Rattle.upload_core.proofs.session.Session.make.Given as goal
 
 abbrev pub invariant-loop-load : goal.invariant-loop-load

@@ -1,6 +1,4 @@
--- Why `wanted_byte` keeps its contract, at the places where the check needs to be told.
-use Rattle.std.proofs.Common.{◌∙◌, sym}
-use Rattle.upload_model.proofs.OneRead.{wanted-at}
+use Rattle.upload_core.proofs.Prelude.{◌∙◌, sym, wanted-at}
 use Rattle.upload_core.proofs.session.Session.wanted_byte.Goals as goal
 
 pub returns : goal.returns
