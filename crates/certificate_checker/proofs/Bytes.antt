@@ -1,6 +1,7 @@
 -- What a checker has read after a byte more, and what its verdict says.
 use Rattle.std.proofs.lemmas.Grind.{common_steps}
-use Rattle.std.proofs.Common.{◌≡◌, ℕ, ◌+◌, ◌*◌, ◌^◌, ◌≤◌, ◌<◌, arith, refl, sym, subst, List, [], ◌∷◌, ◌++◌, length}
+use Rattle.std.proofs.Common.{◌≡◌, ℕ, ◌+◌, ◌^◌, ◌≤◌, ◌<◌, arith, get_or, refl, sym, subst, List, [], ◌∷◌, ◌++◌, length, take}
+use Rattle.std.proofs.lemmas.List.{take_more}
 use Rattle.bezier_core.specs.declared.Bez.{Bez}
 use Rattle.fleet_curves.specs.Raised.{Raised}
 use Rattle.sep_parts.specs.declared.clearance.Clearance.{Clearance}
@@ -21,7 +22,7 @@ use Rattle.certificate_checker.specs.Checking.{Checking, FirstLine, Reading, che
 use Rattle.certificate_checker.specs.Bytes.{Seen, NamesFault, ApartWhereValid, HasRead, most_bytes}
 use Rattle.certificate_checker.specs.Judgments.{AreFew, AreWithin, IsNextIn}
 use Rattle.certificate_checker.specs.Steps.{HasRoom, IsReader, reading_by, reading_of}
-use Rattle.certificate_checker.proofs.Few.{few_read, within_wider}
+use Rattle.certificate_checker.proofs.Few.{few_read, few_within}
 use Rattle.certificate_checker.proofs.Verdicts.{checking_told}
 
 -- ---- what is kept, and what it stands for
@@ -48,21 +49,24 @@ pub next_of : (curves : Raised) (r : Reader) → IsReader curves r → IsNextIn 
 next_of curves r reader = next_in curves r r.stage refl reader
 
 -- ---- the bytes that a checker has read
-pub few_of : (c : Seen) (curves : Raised) (bytes : List ℕ) → length bytes ≤ most_bytes → HasRead c curves bytes → AreFew most_bytes c.checking.reading
-few_of c curves bytes short has_read =
-    let n : ℕ = length bytes + 0 in
-    let few : AreFew n (checked_all c.clearance curves nothing_checked bytes).reading = few_read c.clearance curves bytes 0 nothing_checked tt in
-    within_wider (1 + 2 * n) (1 + 3 * n) n (1 + 2 * most_bytes) (1 + 3 * most_bytes) most_bytes c.checking.reading (omega (arith, short)) (omega (arith, short)) (omega (arith, short))
-    (subst (λ (checking : Checking). AreFew n checking.reading) (sym has_read.read) few)
+pub few_of : (c : Seen) (curves : Raised) (bytes : List ℕ) → HasRead c curves bytes → AreFew (length bytes) c.checking.reading
+few_of c curves bytes has_read =
+    let few : AreFew (length bytes + 0) (checked_all c.clearance curves nothing_checked bytes).reading = few_read c.clearance curves bytes 0 nothing_checked tt in
+    few_within (length bytes + 0) (length bytes) c.checking.reading (omega arith) (subst (λ (checking : Checking). AreFew (length bytes + 0) checking.reading) (sym has_read.read) few)
 
-checked_more : (clearance : Clearance) (curves : Raised) (c : Checking) (bytes : List ℕ) (b : ℕ) → checked_all clearance curves c (bytes ++ b ∷ []) ≡ checked clearance curves (checked_all clearance curves c bytes) b
+pub checked_append : (clearance : Clearance) (curves : Raised) (c : Checking) (bytes more : List ℕ) → checked_all clearance curves c (bytes ++ more) ≡ checked_all clearance curves (checked_all clearance curves c bytes) more
 unfolding checked_all
-checked_more clearance curves c [] b = refl
-checked_more clearance curves c (x ∷ bytes) b = checked_more clearance curves (checked clearance curves c x) bytes b
+checked_append clearance curves c [] more = refl
+checked_append clearance curves c (b ∷ bytes) more = checked_append clearance curves (checked clearance curves c b) bytes more
 
-pub read_more : (old new : Seen) (curves : Raised) (bytes : List ℕ) (b : ℕ) → new.clearance ≡ old.clearance → HasRead old curves bytes →
-    new.checking ≡ checked old.clearance curves old.checking b → IsNextIn curves new.checking.reading new.diff → HasRead new curves (bytes ++ b ∷ [])
-read_more old new curves bytes b same has_read read next = grind (arith, common_steps, checked_more)
+pub checked_more : (clearance : Clearance) (curves : Raised) (c : Checking) (bytes : List ℕ) (i : ℕ) → i < length bytes →
+    checked_all clearance curves c (take (i + 1) bytes) ≡ checked clearance curves (checked_all clearance curves c (take i bytes)) (get_or bytes i 0)
+unfolding checked_all
+checked_more clearance curves c bytes i within = rw (take_more bytes i 0 within) (checked_append clearance curves c (take i bytes) (get_or bytes i 0 ∷ []))
+
+pub read_more : (old new : Seen) (curves : Raised) (read bytes : List ℕ) → new.clearance ≡ old.clearance → HasRead old curves read →
+    new.checking ≡ checked_all old.clearance curves old.checking bytes → IsNextIn curves new.checking.reading new.diff → HasRead new curves (read ++ bytes)
+read_more old new curves read bytes same has_read is next = grind (arith, common_steps, checked_append)
 
 -- ---- the verdict
 pub verdict_told : (c : Seen) (curves : Raised) (bytes : List ℕ) (verdict : Verdict) → 1 ≤ curves.drones → 1 ≤ curves.cues → length bytes ≤ most_bytes → HasRead c curves bytes →

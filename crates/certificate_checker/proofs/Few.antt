@@ -25,12 +25,16 @@ few_wider m n (Wrong fault) less few = tt
 few_wider m n (Clear slot places k) less few = omega (arith, less, few)
 
 -- ---- lines
-pub within_wider : (o l k o' l' k' : ℕ) (reading : Reading) → o ≤ o' → l ≤ l' → k ≤ k' → AreWithin o l k reading → AreWithin o' l' k' reading
+within_wider : (o l k o' l' k' : ℕ) (reading : Reading) → o ≤ o' → l ≤ l' → k ≤ k' → AreWithin o l k reading → AreWithin o' l' k' reading
 within_wider o l k o' l' k' (FirstLine head) owed line trees within = tt
 within_wider o l k o' l' k' (DepthLine head) owed line trees within = tt
 within_wider o l k o' l' k' (Faulty n) owed line trees within = tt
 within_wider o l k o' l' k' (TreeLine t) owed line trees (t_owed, t_line, t_trees) =
     (omega (arith, owed, t_owed), omega (arith, line, t_line), few_wider k k' t.judged trees t_trees)
+
+pub few_within : (m n : ℕ) (reading : Reading) → m ≤ n → AreFew m reading → AreFew n reading
+few_within m n reading less few =
+    within_wider (1 + 2 * m) (1 + 3 * m) m (1 + 2 * n) (1 + 3 * n) n reading (omega (arith, less)) (omega (arith, less)) less few
 
 module _ (clearance : Clearance) (curves : Raised) where
   -- a node after which this many trees are still to come

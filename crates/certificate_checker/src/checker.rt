@@ -1,6 +1,6 @@
 //! A certificate's text, judged byte by byte.
 
-ghost use Rattle.std.specs.Prelude.{◌≡◌, ℕ, ◌≤◌, ◌<◌, ◌++◌, ◌∷◌, [], List, length};
+ghost use Rattle.std.specs.Prelude.{◌≡◌, ℕ, ◌+◌, ◌≤◌, ◌++◌, [], List, length};
 ghost use Rattle.sep_parts.specs.Directions.{IsClearance};
 ghost use Rattle.fleet_curves.specs.Raised.{Raised};
 ghost use Rattle.certificate_checker.specs.Bytes.{NamesFault, ApartWhereValid, HasRead, most_bytes};
@@ -13,7 +13,7 @@ use fleet_curves::Curves;
 use sep_parts::Clearance;
 use std::marker::Model;
 
-/// Judges the text of a certificate byte by byte, for a clearance. It allocates nothing,
+/// Judges the text of a certificate in pieces, for a clearance. It allocates nothing,
 /// whatever the text's length: it keeps at most fifteen bytes of a line, a stack of at most nine levels, and counts.
 ///
 /// Contracts see the clearance, what is kept of the bytes that were read, and one difference of curves (`Seen`). Each call takes the
@@ -48,13 +48,13 @@ impl Checker {
         }
     }
 
-    /// Reads one byte more, of at most 400,000,000. The curves are those of the earlier calls.
-    pub fn feed(&mut self, curves: &Curves, byte: u8)
-        requires { (bytes : List ℕ) × (length bytes < most_bytes) × HasRead self.old curves.now bytes }
+    /// Reads more bytes, of at most 400,000,000 in all. The curves are those of the earlier calls.
+    pub fn feed(&mut self, curves: &Curves, bytes: &[u8])
+        requires { (read : List ℕ) × (length read + length bytes.now ≤ most_bytes) × HasRead self.old curves.now read }
         ensures clearance { self.new.clearance ≡ self.old.clearance }
-        ensures has_read { (bytes : List ℕ) → length bytes < most_bytes → HasRead self.old curves.now bytes → HasRead self.new curves.now (bytes ++ byte ∷ []) }
+        ensures has_read { (read : List ℕ) → length read + length bytes.now ≤ most_bytes → HasRead self.old curves.now read → HasRead self.new curves.now (read ++ bytes.now) }
     {
-        self.text.take(curves, &self.tables, byte);
+        self.text.take_all(curves, &self.tables, bytes);
     }
 
     /// The verdict on the bytes that were read, as a whole text: its first faulty line; or the first fault of the certificate; or that the

@@ -1,6 +1,6 @@
 //! Certificates judged as their texts are read, byte by byte, without holding them.
 //!
-//! A [`Checker`] takes the bytes of a certificate's text one after another. At the end it returns the text's first faulty line; or the
+//! A [`Checker`] takes a certificate's text in pieces. At the end it returns the text's first faulty line; or the
 //! first fault of the certificate; or that the certificate is valid, and then the drones are apart at every instant. The clause `gives`
 //! of [`Checker::end`] says this by the definitions of `sep_certificate`. What a checker keeps doesn't grow with the text, and it
 //! allocates nothing.

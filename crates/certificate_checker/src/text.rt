@@ -1,8 +1,8 @@
 //! The bytes of a certificate's text, of which some end lines.
 
-ghost use Rattle.std.specs.Prelude.{◌≡◌};
+ghost use Rattle.std.specs.Prelude.{◌≡◌, ℕ, ◌+◌, ◌≤◌, length};
 ghost use Rattle.certificate_checker.specs.Bytes.{most_bytes};
-ghost use Rattle.certificate_checker.specs.Checking.{checked, closed, nothing_checked, verdict_of};
+ghost use Rattle.certificate_checker.specs.Checking.{checked, checked_all, closed, nothing_checked, verdict_of};
 ghost use Rattle.certificate_checker.specs.Judgments.{AreFew};
 ghost use Rattle.certificate_checker.specs.Steps.{IsTextReader, IsTextSound, checking_of};
 
@@ -33,7 +33,7 @@ impl TextReader {
     }
 
     // One byte more.
-    pub fn take(&mut self, curves: &Curves, tables: &Tables, byte: u8)
+    fn take(&mut self, curves: &Curves, tables: &Tables, byte: u8)
         requires reader { IsTextReader curves.now self.old }
         requires few { AreFew most_bytes (checking_of self.old).reading }
         ensures read { checking_of self.new ≡ checked tables.now curves.now (checking_of self.old) byte }
@@ -53,6 +53,18 @@ impl TextReader {
         }
         self.reader.byte(curves, tables, byte);
         self.returned = false;
+    }
+
+    // More bytes.
+    pub fn take_all(&mut self, curves: &Curves, tables: &Tables, bytes: &[u8])
+        requires reader { IsTextReader curves.now self.old }
+        requires few { (n : ℕ) × (n + length bytes.now ≤ most_bytes) × AreFew n (checking_of self.old).reading }
+        ensures read { checking_of self.new ≡ checked_all tables.now curves.now (checking_of self.old) bytes.now }
+        ensures reader { IsTextReader curves.now self.new }
+    {
+        for byte in bytes {
+            self.take(curves, tables, *byte);
+        }
     }
 
     // The verdict where the text ends here, and with it its last line.

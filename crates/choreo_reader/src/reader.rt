@@ -31,6 +31,9 @@ const MOST_NESTED: usize = 8;
 // given back where the list is whole.
 const LEAST_ROOM: usize = MOST_DRONES;
 
+// The same for the lines of a cue, in which each drone has one. What is left of it is given back where the cue ends.
+const CUE_ROOM: usize = MOST_DRONES;
+
 /// An open block with what stands in it so far.
 #[derive(Drop)]
 pub enum OpenBlock {
@@ -198,12 +201,14 @@ fn is_empty_block(opened: &[OpenBlock]) -> bool
     }
 }
 
-// One more item at the end of a list. A full list takes room for a quarter more, where the standard library would double it.
-fn push<T: Drop>(list: &mut Vec<T>, item: T) -> Result<(), AllocError>
+// One more item at the end of a list. A full list takes room for a quarter more and at least this many items, where the
+// standard library would double it.
+fn push<T: Drop>(list: &mut Vec<T>, item: T, least: usize) -> Result<(), AllocError>
+    requires { least ≤ MOST_DRONES }
     ensures { OnOk result (list.new.items ≡ list.old.items ++ item ∷ []) }
 {
     if list.len() == list.capacity() {
-        list.reserve_exact(list.len() / 4 + LEAST_ROOM)?;
+        list.reserve_exact(list.len() / 4 + least)?;
     }
     list.push(item)?;
     Ok(())
@@ -222,7 +227,7 @@ fn set<T: Drop>(setting: &mut Option<T>, value: T) -> Result<(), AllocError>
 fn put(body: &mut Vec<Block>, block: Block) -> Result<(), AllocError>
     ensures { OnOk result (body_of body.new.items ≡ body_of body.old.items ⨾ block_of block plain.Done) }
 {
-    push(body, block)
+    push(body, block, LEAST_ROOM)
 }
 
 // A body that is whole, so that it needs no room for more blocks.
@@ -273,7 +278,7 @@ fn with_act(inner: OpenBlock, act: ActLine) -> Result<OpenBlock, AllocError>
 {
     match inner {
         OpenBlock::Cue { line, ms, mut acts } => {
-            push(&mut acts, act)?;
+            push(&mut acts, act, CUE_ROOM)?;
             Ok(OpenBlock::Cue { line, ms, acts })
         }
         other => Ok(other),
@@ -290,7 +295,7 @@ fn with_place(inner: OpenBlock, place: DroneLine) -> Result<OpenBlock, AllocErro
             name,
             mut places,
         } => {
-            push(&mut places, place)?;
+            push(&mut places, place, LEAST_ROOM)?;
             Ok(OpenBlock::Formation { line, name, places })
         }
         other => Ok(other),
@@ -343,6 +348,7 @@ impl Reader {
                         name,
                         places: Listed::from_vec(places),
                     },
+                    LEAST_ROOM,
                 )
             }
             OpenBlock::Figure {
@@ -359,6 +365,7 @@ impl Reader {
                         roles,
                         body: fitted(body),
                     },
+                    LEAST_ROOM,
                 )
             }
             OpenBlock::Repeat { line, times, body } => {
@@ -421,7 +428,7 @@ impl Reader {
     fn add_drone(&mut self, drone: DroneLine) -> Result<(), AllocError>
         ensures { OnOk result (built_of self.new ≡ record (built_of self.old) { drones = (built_of self.old).drones ++ drone ∷ [] }) }
     {
-        push(&mut self.drones, drone)
+        push(&mut self.drones, drone, LEAST_ROOM)
     }
 
     // What one more line says.

@@ -1,5 +1,5 @@
 -- The ends of a raised curve: its first and last steps are those of the curve.
-use Rattle.std.proofs.Common.{◌≡◌, ℕ, zero, suc, ◌-◌, ◌≤◌, ℤ, pos, ◌-ℤ◌, ◌*ℤ◌, arith}
+use Rattle.std.proofs.Common.{◌≡◌, ℕ, suc, ◌-◌, ◌≤◌, ℤ, pos, ◌-ℤ◌, ◌*ℤ◌, arith}
 use Rattle.fleet_math.proofs.RingLemmas.{linear}
 use Rattle.bezier_core.specs.Raised.{raised_value}
 

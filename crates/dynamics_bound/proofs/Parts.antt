@@ -1,8 +1,7 @@
 -- The same by the parts of a depth: what is known of both halves is known of the whole.
 use Rattle.std.proofs.lemmas.Grind.{common_steps}
-use Rattle.std.proofs.Common.{◌≡◌, ℕ, zero, suc, ◌+◌, ◌-◌, ◌*◌, ◌^◌, ◌≤◌, ◌<◌, ℤ, pos, ◌+ℤ◌, ◌-ℤ◌, ◌*ℤ◌, ◌≤ℤ◌, arith, refl, sym, ◌∙◌, ap}
+use Rattle.std.proofs.Common.{◌≡◌, ℕ, zero, suc, ◌+◌, ◌*◌, ◌^◌, ◌≤◌, ◌<◌, ℤ, pos, ◌+ℤ◌, ◌-ℤ◌, ◌*ℤ◌, ◌≤ℤ◌, arith, refl, sym, ◌∙◌, ap}
 use Rattle.std.proofs.lemmas.Int.{ints, by_lt_z}
-use Rattle.std.proofs.lemmas.Nat.{pow-add}
 use Rattle.std.proofs.Math.Nat.{pow-suc}
 use Rattle.fleet_math.specs.Sums.{power}
 use Rattle.fleet_math.specs.Bernstein.{bernstein}
@@ -10,7 +9,7 @@ use Rattle.fleet_math.proofs.RingLemmas.{ring, linear, one_mul_ℤ}
 use Rattle.fleet_math.proofs.BernsteinLemmas.{bernstein-same}
 use Rattle.bezier_core.specs.Steps.{IsWithin}
 use Rattle.bezier_core.proofs.BlendLemmas.{within_mul}
-use Rattle.halving.specs.Part.{polar, part_value}
+use Rattle.halving.specs.Part.{part_value}
 use Rattle.halving.proofs.PolarLemmas.{blossom, bernstein-blossom, polar-first, part-whole, left_half, right_half}
 use Rattle.sep_parts.proofs.PartBounds.{part-half}
 use Rattle.sep_parts.proofs.Leaf.{bernstein-scaled}

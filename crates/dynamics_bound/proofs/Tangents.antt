@@ -1,11 +1,10 @@
 -- How far a curve departs from its tangent: by the widest bend among its control values.
-use Rattle.std.proofs.Common.{◌≡◌, ℕ, zero, suc, ◌+◌, ◌≤◌, ℤ, pos, ◌+ℤ◌, ◌-ℤ◌, ◌*ℤ◌, ◌≤ℤ◌, neg_ℤ, arith, refl, ◌∙◌, ap}
-use Rattle.std.proofs.lemmas.Int.{ints, by_lt_z}
+use Rattle.std.proofs.Common.{◌≡◌, ℕ, zero, suc, ◌+◌, ◌≤◌, ℤ, pos, ◌+ℤ◌, ◌-ℤ◌, ◌*ℤ◌, ◌≤ℤ◌, arith, refl, ◌∙◌, ap}
+use Rattle.std.proofs.lemmas.Int.{ints}
 use Rattle.fleet_math.specs.Sums.{power}
 use Rattle.fleet_math.specs.Bernstein.{bernstein}
-use Rattle.fleet_math.proofs.RingLemmas.{ring, linear, le_mul_ℤ, zero_mul_ℤ, mul_comm_ℤ, neg_mul_ℤ}
+use Rattle.fleet_math.proofs.RingLemmas.{ring, linear, zero_mul_ℤ}
 use Rattle.bezier_core.specs.Steps.{IsWithin}
-use Rattle.bezier_core.proofs.BlendLemmas.{within_mul}
 use Rattle.halving.specs.Part.{polar}
 use Rattle.halving.proofs.PolarLemmas.{polar-first}
 use Rattle.speed_bound.proofs.Slopes.{steps, count_more, exchange, exchanged, minus_same, polar-second, within_add, within_product, within_same}

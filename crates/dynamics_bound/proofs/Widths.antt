@@ -1,9 +1,8 @@
 -- The widest bends of the parts of a curve, and the widths of what is computed from them.
-use Rattle.std.proofs.Common.{◌≡◌, ℕ, zero, suc, ◌+◌, ◌-◌, ◌*◌, ◌^◌, ◌≤◌, ◌<◌, max, ℤ, pos, ◌-ℤ◌, ◌*ℤ◌, unsigned_abs, arith, lit<, refl, sym, ◌∙◌, ap}
-use Rattle.std.specs.Int.{div_ceil}
+use Rattle.std.proofs.Common.{◌≡◌, ℕ, zero, suc, ◌+◌, ◌*◌, ◌^◌, ◌≤◌, ◌<◌, max, ℤ, pos, ◌-ℤ◌, ◌*ℤ◌, unsigned_abs, arith, lit<, refl, ap}
 use Rattle.std.proofs.lemmas.Int.{ints}
 use Rattle.std.proofs.lemmas.Nat.{pow-add, pow_pos, mul-le}
-use Rattle.std.proofs.lemmas.Grind.{div_ceil_times, common_steps}
+use Rattle.std.proofs.lemmas.Grind.{common_steps}
 use Rattle.std.proofs.Math.Nat.{pow-suc, pow-zero, pow-le-pow_right}
 use Rattle.fleet_math.proofs.BernsteinLemmas.{by_lt}
 use Rattle.bezier_core.specs.Steps.{IsWithin}

@@ -1,14 +1,15 @@
 -- What comes next of a part, from the bytes that wait.
 use Rattle.std.proofs.lemmas.Grind.{common_steps}
-use Rattle.std.proofs.Common.{◌≡◌, ℕ, suc, ◌+◌, Bool, true, false, eqb, ◌||◌, List, [], ◌∷◌, ◌++◌, length, take, drop, append-nil, Option, Some, None, refl, sym, ap, ◌∙◌, inl, inr, ◌⊎◌, arith}
+use Rattle.std.proofs.Common.{◌≡◌, ℕ, zero, suc, ◌<◌, Bool, true, false, cond, eqb, ◌||◌, get_or, List, [], ◌∷◌, ◌++◌, length, take, drop, append_assoc, append-nil, Option, Some, None, refl, sym, ap, ◌∙◌, inl, inr, ◌⊎◌, arith}
 use Rattle.std.specs.Prelude.{IfSome, IsTrue}
 use Rattle.std.specs.Io.KnownBytes.{Keeps, IsAtEnd, prepend_known}
 use Rattle.std.specs.List.{position_or_len}
 use Rattle.std.proofs.lemmas.Bool.{cases_Bool}
+use Rattle.std.proofs.lemmas.List.{take-append-drop}
 use Rattle.std.proofs.lemmas.Slice.Eq.{bytes_eq-Decides}
 use Rattle.text_lines.specs.Marker.{is_marker}
 use Rattle.fleet_io.specs.declared.parts.Ask.TheVariants as ask
-use Rattle.fleet_io.specs.PartBytes.{NextMarker, next_of, first_piece, after_piece, is_marked_here, may_be_marker, AsksNext}
+use Rattle.fleet_io.specs.PartBytes.{ArePlain, AsksNext, begins_after, first_piece, is_marked_here, is_untold, may_be_marker, plain_len}
 
 -- ---- the first line
 
@@ -19,25 +20,9 @@ position_is (b ∷ bytes) = elim (cases_Bool (eqb b 10)) [
   | inr other ↦ rw other (omega (arith, position_is bytes))
 ]
 
-pub take_piece : (bytes : List ℕ) → take (length (first_piece bytes)) bytes ≡ first_piece bytes
-take_piece [] = refl
-take_piece (b ∷ bytes) = grind (arith, common_steps, cases_Bool, eqb, (take_piece bytes))
-
-pub drop_piece : (bytes : List ℕ) → drop (suc (length (first_piece bytes))) bytes ≡ after_piece bytes
-drop_piece [] = refl
-drop_piece (b ∷ bytes) = grind (arith, common_steps, cases_Bool, eqb, (drop_piece bytes))
-
 -- a line feed ends the first line, or all bytes belong to it
-record HasFeed (bytes : List ℕ) : Type 0 where
-  first : (more : List ℕ) → first_piece (bytes ++ more) ≡ first_piece bytes
-  after : (more : List ℕ) → after_piece (bytes ++ more) ≡ after_piece bytes ++ more
-
-record HasNone (bytes : List ℕ) : Type 0 where
-  first : (more : List ℕ) → first_piece (bytes ++ more) ≡ bytes ++ first_piece more
-  all : first_piece bytes ≡ bytes
-
-fed : (bytes : List ℕ) → HasFeed bytes ⊎ HasNone bytes
-fed [] = inr (record { first = λ more. refl; all = refl })
+fed : (bytes : List ℕ) → ((more : List ℕ) → first_piece (bytes ++ more) ≡ first_piece bytes) ⊎ (((more : List ℕ) → first_piece (bytes ++ more) ≡ bytes ++ first_piece more) × (first_piece bytes ≡ bytes))
+fed [] = inr ((λ more. refl), refl)
 fed (b ∷ bytes) = grind (arith, common_steps, cases_Bool, eqb, (fed bytes))
 
 -- ---- what may be a marker line yet
@@ -67,57 +52,62 @@ never bytes more off = grind (arith, common_steps, cases_Bool, marker_front)
 
 -- ---- what waits tells whether a marker line stands here
 
-record Settled (bytes more : List ℕ) : Type 0 where
-  same : is_marker (first_piece (bytes ++ more)) ≡ is_marker (first_piece bytes)
-  after : is_marker (first_piece bytes) ≡ true → after_piece (bytes ++ more) ≡ after_piece bytes ++ more
-
-settled : (bytes more : List ℕ) → (may_be_marker bytes ≡ false) ⊎ (more ≡ []) → Settled bytes more
+settled : (bytes more : List ℕ) → (may_be_marker bytes ≡ false) ⊎ (more ≡ []) → is_marker (first_piece (bytes ++ more)) ≡ is_marker (first_piece bytes)
 settled bytes more why = elim why [
-  | inr none ↦
-      let all : bytes ++ more ≡ bytes = ap (λ (xs : List ℕ). bytes ++ xs) none ∙ append-nil bytes in
-      record { same = ap (λ (xs : List ℕ). is_marker (first_piece xs)) all; after = λ _. ap after_piece all ∙ sym (ap (λ (xs : List ℕ). after_piece bytes ++ xs) none ∙ append-nil (after_piece bytes)) }
+  | inr none ↦ ap (λ (xs : List ℕ). is_marker (first_piece (bytes ++ xs))) none ∙ ap (λ (xs : List ℕ). is_marker (first_piece xs)) (append-nil bytes)
   | inl off ↦ elim (fed bytes) [
-    | inl has ↦ record { same = ap is_marker (has.first more); after = λ _. has.after more }
+    | inl has ↦ ap is_marker (has more)
     | inr none ↦ grind (arith, common_steps, append-nil, never)
   ]
 ]
 
-next_marked : (all : List ℕ) → is_marker (first_piece all) ≡ true → next_of true all ≡ NextMarker (after_piece all)
-next_marked [] is = absurd (let e : false ≡ true = is in cc)
-next_marked (b ∷ bytes) is = rw is refl
-
--- why what waits tells it, with what the source still has
-told : (bytes rest : List ℕ) → (may_be_marker bytes ≡ false) ⊎ IsAtEnd (Some rest) → (may_be_marker bytes ≡ false) ⊎ (rest ≡ [])
-told bytes rest why = why
-
--- the marker line stands here, and is taken
-pub asks_marker : (old left : Option (List ℕ)) (waiting kept : List ℕ) → Keeps old (prepend_known waiting left) → (may_be_marker waiting ≡ false) ⊎ IsAtEnd left → is_marker (first_piece waiting) ≡ true →
-    kept ≡ after_piece waiting → IfSome old (λ all. AsksNext ask.Marker (next_of true all) (prepend_known kept left))
-asks_marker None left waiting kept same why is taken = tt
-asks_marker (Some all) None waiting kept same why is taken = absurd same
-asks_marker (Some all) (Some rest) waiting kept same why is taken = grind (arith, common_steps, settled, next_marked)
-
--- no marker line stands here
-pub asks_plain : (old left : Option (List ℕ)) (waiting : List ℕ) (P : Bool → List ℕ → Type 0) → Keeps old (prepend_known waiting left) → (may_be_marker waiting ≡ false) ⊎ IsAtEnd left →
-    is_marker (first_piece waiting) ≡ false → IfSome (prepend_known waiting left) (λ all. (at_line : Bool) → is_marked_here at_line all ≡ false → P at_line all) → IfSome old (λ all. P true all)
-asks_plain None left waiting P same why off then = tt
-asks_plain (Some all) None waiting P same why off then = absurd same
-asks_plain (Some all) (Some rest) waiting P same why off then =
-    let s = settled waiting rest why in
-    rw (← same) (then true (s.same ∙ off))
-
--- ---- from the code's tests
+-- what waits tells it, with what the source still has
+told : (waiting rest : List ℕ) → (is_untold true waiting ≡ false) ⊎ IsAtEnd (Some rest) → (may_be_marker waiting ≡ false) ⊎ (rest ≡ [])
+told waiting rest (inr none) = inr none
+told [] rest (inl tells) = inl tells
+told (b ∷ waiting) rest (inl tells) = inl tells
 
 -- what tells it
-pub tells : (waiting : List ℕ) (left : Option (List ℕ)) (ended : Bool) → (may_be_marker waiting ≡ false) ⊎ IsTrue ended → (IsTrue ended → IsAtEnd left) → (may_be_marker waiting ≡ false) ⊎ IsAtEnd left
-tells waiting left ended why at_end = grind (arith, common_steps)
+pub tells : (at_line : Bool) (waiting : List ℕ) (left : Option (List ℕ)) (ended : Bool) → (is_untold at_line waiting ≡ false) ⊎ IsTrue ended → (IsTrue ended → IsAtEnd left) → (is_untold at_line waiting ≡ false) ⊎ IsAtEnd left
+tells at_line waiting left ended why at_end = grind (arith, common_steps)
 
--- the bytes before the first line feed
-pub line_is : (bytes : List ℕ) (len : ℕ) → len ≡ length (first_piece bytes) → is_marker (take len bytes) ≡ is_marker (first_piece bytes)
-line_is bytes len is = ap (λ (n : ℕ). is_marker (take n bytes)) is ∙ ap is_marker (take_piece bytes)
+-- no marker line stands here
+no_marker : (at_line : Bool) (waiting rest : List ℕ) → (is_untold at_line waiting ≡ false) ⊎ IsAtEnd (Some rest) → is_marked_here at_line waiting ≡ false → is_marked_here at_line (waiting ++ rest) ≡ false
+no_marker false waiting rest why off = refl
+no_marker true waiting rest why off = settled waiting rest (told waiting rest why) ∙ off
 
--- the bytes after it
-pub after_is : (bytes : List ℕ) (len : ℕ) → len ≡ length (first_piece bytes) → drop (len + 1) bytes ≡ after_piece bytes
-after_is bytes len is =
-    let at : len + 1 ≡ suc (length (first_piece bytes)) = omega (arith, is) in
-    ap (λ (n : ℕ). drop n bytes) at ∙ drop_piece bytes
+-- nor at a byte that begins none
+no_start : (b : ℕ) (bytes : List ℕ) (at_line : Bool) → eqb b 37 ≡ false → is_marked_here at_line (b ∷ bytes) ≡ false
+no_start b bytes false off = refl
+no_start b bytes true off = go (eqb b 10)
+  where
+    go : (feed : Bool) → is_marker (cond feed [] (b ∷ first_piece bytes)) ≡ false
+    go true = refl
+    go false = rw off refl
+
+run_plain : (bytes rest : List ℕ) (at_line : Bool) → ArePlain at_line (take (position_or_len (λ b. eqb b 37) bytes) bytes) rest
+run_plain [] rest at_line = tt
+run_plain (b ∷ bytes) rest at_line = elim (cases_Bool (eqb b 37)) [
+  | inl is ↦ rw is tt
+  | inr off ↦
+      let run : position_or_len (λ b. eqb b 37) (b ∷ bytes) ≡ suc (position_or_len (λ b. eqb b 37) bytes) = rw off (omega arith) in
+      rw run (no_start b (take (position_or_len (λ b. eqb b 37) bytes) bytes ++ rest) at_line off, run_plain bytes rest (eqb b 10))
+]
+
+-- bytes stand here
+pub asks_bytes : (at_line : Bool) (old left : Option (List ℕ)) (waiting : List ℕ) (count : ℕ) → eqb (length waiting) 0 ≡ false → count ≡ plain_len waiting → Keeps old (prepend_known waiting left) →
+    (is_untold at_line waiting ≡ false) ⊎ IsAtEnd left → is_marked_here at_line waiting ≡ false → IfSome old (λ all. AsksNext (ask.Bytes count) at_line all waiting left)
+asks_bytes at_line old left [] count some is same why off = absurd (let e : true ≡ false = some in cc)
+asks_bytes at_line None left (b ∷ waiting) count some is same why off = tt
+asks_bytes at_line (Some all) None (b ∷ waiting) count some is same why off = absurd same
+asks_bytes at_line (Some all) (Some rest) (b ∷ waiting) count some is same why off =
+    let run : ℕ = position_or_len (λ b. eqb b 37) waiting in
+    let after : List ℕ = drop run waiting ++ rest in
+    let whole : (b ∷ waiting) ++ rest ≡ b ∷ take run waiting ++ after = ap (λ (xs : List ℕ). b ∷ (xs ++ rest)) (sym (take-append-drop run waiting)) ∙ ap (λ (xs : List ℕ). b ∷ xs) (append_assoc (take run waiting) (drop run waiting) rest) in
+    rw is (after, sym same ∙ whole, refl, (ap (is_marked_here at_line) (sym whole) ∙ no_marker at_line (b ∷ waiting) rest why off, run_plain waiting after (eqb b 10)))
+
+-- whether a line begins after bytes is told by the last of them
+pub last_tells : (at_line : Bool) (bytes : List ℕ) (n : ℕ) → n < length bytes → begins_after at_line (take (suc n) bytes) ≡ eqb (get_or bytes n 0) 10
+last_tells at_line [] n within = absurd (omega (arith, within))
+last_tells at_line (b ∷ bytes) zero within = refl
+last_tells at_line (b ∷ bytes) (suc n) within = last_tells (eqb b 10) bytes n (omega (arith, within))

@@ -6,7 +6,7 @@ use Rattle.std.proofs.lemmas.Bool.{eqb-true}
 use Rattle.std.proofs.lemmas.List.Splits.{join_with_byte-slice_split}
 use Rattle.text_lines.specs.Lines.{between_feeds}
 use Rattle.text_lines.specs.Marker.{is_marker, has_marker, lines_before, lines_after, ended, part_of, rest_of}
-use Rattle.fleet_io.specs.PartBytes.{first_piece, after_piece, part_left, is_marked_left, rest_left, PartLaw}
+use Rattle.fleet_io.specs.PartBytes.{ArePlain, begins_after, first_piece, after_piece, part_left, is_marked_left, rest_left, PartLaw}
 
 -- the pieces after the first
 abbrev tail_pieces : List ℕ → List (List ℕ)
@@ -118,3 +118,19 @@ rest_law all = grind (arith, common_steps, rest_is, tail_pieces, cond, split_is)
 
 pub part_by_bytes : PartLaw
 part_by_bytes = grind (arith, common_steps, part_law, marked_is, split_is, rest_law)
+
+-- ---- bytes at which no marker line stands
+pub record Passes (at_line : Bool) (bytes rest : List ℕ) : Type 0 where
+  pub part : part_left at_line (bytes ++ rest) ≡ bytes ++ part_left (begins_after at_line bytes) rest
+  pub marked : is_marked_left at_line (bytes ++ rest) ≡ is_marked_left (begins_after at_line bytes) rest
+  pub after : rest_left at_line (bytes ++ rest) ≡ rest_left (begins_after at_line bytes) rest
+
+pub passed : (at_line : Bool) (bytes rest : List ℕ) → ArePlain at_line bytes rest → Passes at_line bytes rest
+passed at_line [] rest plain = record { part = refl; marked = refl; after = refl }
+passed at_line (b ∷ bytes) rest plain =
+    let more = passed (eqb b 10) bytes rest plain.1 in
+    record {
+      part = rw plain.0 (ap (λ (xs : List ℕ). b ∷ xs) more.part);
+      marked = rw plain.0 more.marked;
+      after = rw plain.0 more.after;
+    }

@@ -1,15 +1,11 @@
 -- A part of a text byte by byte.
-use Rattle.std.specs.Prelude.{◌≡◌, ℕ, ◌==◌, Bool, true, false, ◌&&◌, ◌||◌, bytes_eq, List, [], ◌∷◌, Option, Some, if◌then◌else◌}
+use Rattle.std.specs.Prelude.{◌≡◌, ℕ, suc, ◌<◌, ◌≤◌, ◌==◌, Bool, true, false, ◌&&◌, ◌||◌, bytes_eq, List, [], ◌∷◌, ◌++◌, length, take, drop, Option, Some, if◌then◌else◌}
+use Rattle.std.specs.Io.KnownBytes.{prepend_known}
+use Rattle.std.specs.List.{position_or_len}
 use Rattle.text_lines.specs.Lines.{between_feeds}
 use Rattle.text_lines.specs.Marker.{is_marker, has_marker, part_of, rest_of}
 use Rattle.fleet_io.specs.declared.parts.Ask.{Ask}
 use Rattle.fleet_io.specs.declared.parts.Ask.TheVariants as ask
-
--- What comes next of a part, and what stands after it: a byte, the marker line that ends it, or the end of the text.
-pub data Next : Type 0 where
-  NextByte : ℕ → List ℕ → Next
-  NextMarker : List ℕ → Next
-  NextEnd : Next
 
 -- the bytes up to the first line feed, and those after it
 abbrev pub first_piece : List ℕ → List ℕ
@@ -23,11 +19,6 @@ after_piece (b ∷ bytes) = if b == 10 then bytes else after_piece bytes
 -- a marker line stands here, where a line begins
 abbrev pub is_marked_here : Bool → List ℕ → Bool
 is_marked_here at_line bytes = at_line && is_marker (first_piece bytes)
-
--- what comes next, where a line begins here or not
-abbrev pub next_of : Bool → List ℕ → Next
-next_of at_line [] = NextEnd
-next_of at_line (b ∷ bytes) = if is_marked_here at_line (b ∷ bytes) then NextMarker (after_piece (b ∷ bytes)) else NextByte b bytes
 
 -- What is left of the part, whether a marker line ends it, and what stands after that, where a line begins here or
 -- not.
@@ -43,18 +34,35 @@ abbrev pub rest_left : Bool → List ℕ → List ℕ
 rest_left at_line [] = []
 rest_left at_line (b ∷ bytes) = if is_marked_here at_line (b ∷ bytes) then after_piece (b ∷ bytes) else rest_left (b == 10) bytes
 
--- what a call gives is what comes next, and what stands after it is still to come
-abbrev pub AsksNext : Ask → Next → Option (List ℕ) → Type 0
-AsksNext (ask.Byte b) (NextByte c rest) new = (b ≡ c) × (new ≡ Some rest)
-AsksNext ask.Marker (NextMarker rest) new = new ≡ Some rest
-AsksNext ask.«End» NextEnd new = new ≡ Some []
-AsksNext given next new = ⊥
+-- a line begins after these bytes, where one begins before them or not
+abbrev pub begins_after : Bool → List ℕ → Bool
+begins_after at_line [] = at_line
+begins_after at_line (b ∷ bytes) = begins_after (b == 10) bytes
 
--- a line begins after what a call gives
-abbrev pub begins_line : Ask → Bool
-begins_line (ask.Byte b) = b == 10
-begins_line ask.Marker = true
-begins_line ask.«End» = true
+-- a marker line stands at none of these bytes, after which others stand, where a line begins here or not
+abbrev pub ArePlain : Bool → List ℕ → List ℕ → Type 0
+ArePlain at_line [] rest = Unit {0}
+ArePlain at_line (b ∷ bytes) rest = (is_marked_here at_line (b ∷ bytes ++ rest) ≡ false) × ArePlain (b == 10) bytes rest
+
+-- What a call gives is what comes next of all bytes to come: the first of those that wait, at none of which a marker line
+-- stands; the marker line, after which the others are still to come; or the end.
+abbrev pub AsksNext : Ask → Bool → List ℕ → List ℕ → Option (List ℕ) → Type 0
+AsksNext (ask.Bytes count) at_line all waiting left =
+    (rest : List ℕ) × (all ≡ take count waiting ++ rest) × (prepend_known (drop count waiting) left ≡ Some rest) × ArePlain at_line (take count waiting) rest
+AsksNext ask.Marker at_line all waiting left = (is_marked_here at_line all ≡ true) × (prepend_known waiting left ≡ Some (after_piece all))
+AsksNext ask.«End» at_line all waiting left = (all ≡ []) × (prepend_known waiting left ≡ Some [])
+
+-- the bytes that a call gives wait, and are some
+abbrev pub IsWithin : Ask → List ℕ → Type 0
+IsWithin (ask.Bytes count) waiting = (0 < count) × (count ≤ length waiting)
+IsWithin ask.Marker waiting = Unit {0}
+IsWithin ask.«End» waiting = Unit {0}
+
+-- a line begins where the bytes begin that a call gives, or after its marker line or the end
+abbrev pub begins_line : Bool → Ask → Bool
+begins_line at_line (ask.Bytes count) = at_line
+begins_line at_line ask.Marker = true
+begins_line at_line ask.«End» = true
 
 -- Byte by byte a part is the same as by lines.
 pub record PartLaw : Type 0 where
@@ -65,3 +73,11 @@ pub record PartLaw : Type 0 where
 -- these bytes, where a line begins, can still be followed by the rest of a marker line
 abbrev pub may_be_marker : List ℕ → Bool
 may_be_marker bytes = bytes_eq bytes [] || (bytes_eq bytes (37 ∷ []) || (bytes_eq bytes (37 ∷ 37 ∷ []) || bytes_eq bytes (37 ∷ 37 ∷ 13 ∷ [])))
+
+-- these bytes that wait don't tell yet what comes next, where a line begins or not
+abbrev pub is_untold : Bool → List ℕ → Bool
+is_untold at_line bytes = bytes_eq bytes [] || (at_line && may_be_marker bytes)
+
+-- the first byte, and those after it before the next `%`, with which a marker line begins
+abbrev pub plain_len : List ℕ → ℕ
+plain_len bytes = suc (position_or_len (λ b. b == 37) (drop 1 bytes))

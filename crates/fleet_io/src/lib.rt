@@ -2,7 +2,7 @@
 //!
 //! A `Source` gives bytes and a `Sink` takes them; each counts its faults, and a call fails only where that count
 //! rose, so that a failed read is never taken for the end of the input. `Parts` cuts an input into the parts that
-//! marker lines divide, whole by `text` or byte by byte by `part_byte`; `byte` takes the bytes after them.
+//! marker lines divide, whole by `text` or in pieces by `part_bytes`; `byte` takes the bytes after them.
 //! `write_whole` writes all or says that it failed. `Lines` and `ShortLine` build texts of words. Over memory every
 //! call is exact (`MemSource`, `MemSink`; `SureSource` and `SureSink` never fail). Over std (`StdSource`, `StdSink`) it
 //! is as exact as what the reader or writer says of its bytes; standard input and output say nothing of them.

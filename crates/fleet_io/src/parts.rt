@@ -6,7 +6,7 @@ ghost use Rattle.fleet_io.specs.Causes.{HasCause, Rose};
 ghost use Rattle.fleet_io.specs.Taken.{TakesAtMost, TakesFront};
 ghost use Rattle.text_lines.specs.Marker.{is_marker, part_of};
 ghost use Rattle.fleet_io.specs.Held.{stream, given, Asked, has_whole_marker, buffer_bytes, text_limit};
-ghost use Rattle.fleet_io.specs.PartBytes.{AsksNext, begins_line, first_piece, is_marked_here, may_be_marker, next_of, PartLaw};
+ghost use Rattle.fleet_io.specs.PartBytes.{AsksNext, begins_after, begins_line, first_piece, is_marked_here, is_untold, IsWithin, may_be_marker, PartLaw, plain_len};
 ghost use Rattle.fleet_io.specs.Parts.{MarkerLaw, TakesFewAfter, TakesMarked, TakesPart};
 ghost use Rattle.fleet_io.specs.Steps.{Goes, Refills, Runs};
 
@@ -41,8 +41,8 @@ pub enum IoFault {
 /// What comes next of a part.
 #[derive(Clone, Copy)]
 pub enum Ask {
-    /// A byte of the part.
-    Byte { b: u8 },
+    /// Bytes of the part, at least one: the first `count` of those that wait.
+    Bytes { count: usize },
     /// The marker line that ends the part. It is taken.
     Marker,
     /// The end of the input, which ends the part.
@@ -199,18 +199,18 @@ impl Parts {
         }
     }
 
-    // Reads until what waits tells whether a marker line stands there, where a line begins.
+    // Reads until what waits tells what comes next of the part.
     fn fill<S: Source>(&mut self, source: &mut S) -> Result<(), Failed>
         requires { IsTrue self.old.ended → IsAtEnd (S.left source.old) }
         ensures keeps { Keeps (stream self.old (S.left source.old)) (stream self.new (S.left source.new)) }
-        ensures tells { OnOk result ((may_be_marker self.new.waiting ≡ false) ⊎ IsTrue self.new.ended) }
-        ensures unasked { may_be_marker self.old.waiting ≡ false → (self.new.waiting ≡ self.old.waiting) × (S.left source.new ≡ S.left source.old) × (S.faults source.new ≡ S.faults source.old) }
+        ensures tells { OnOk result ((is_untold self.new.at_line self.new.waiting ≡ false) ⊎ IsTrue self.new.ended) }
+        ensures unasked { is_untold self.old.at_line self.old.waiting ≡ false → (self.new.waiting ≡ self.old.waiting) × (S.left source.new ≡ S.left source.old) × (S.faults source.new ≡ S.faults source.old) }
         ensures goes { Goes self.old self.new (S.left source.old) (S.left source.new) (S.faults source.old) (S.faults source.new) }
         ensures cause { HasCause (S.faults source.old) (S.faults source.new) result }
         ensures at_line { self.new.at_line ≡ self.old.at_line }
         ensures most { length self.new.waiting ≤ buffer_bytes }
     {
-        'reads: while !self.ended && may_be_marker(self.waiting()) {
+        'reads: while !self.ended && is_untold(self.at_line, self.waiting()) {
             match self.more(source) {
                 Ok(()) => {}
                 Err(Failed) => return Err(Failed),
@@ -382,67 +382,49 @@ impl Parts {
         self.start += count;
     }
 
-    // The next byte of the part, or its end, where no marker line stands.
-    fn plain<S: Source>(&mut self, source: &mut S) -> Result<Ask, Failed>
-        requires { IsTrue self.old.ended → IsAtEnd (S.left source.old) }
-        ensures asks { IfOk result (λ ask. IfSome (stream self.old (S.left source.old)) (λ all. (at_line : Bool) → is_marked_here at_line all ≡ false → AsksNext ask (next_of at_line all) (stream self.new (S.left source.new)))) }
-        ensures unasked { 0 < length self.old.waiting → (S.left source.new ≡ S.left source.old) × (S.faults source.new ≡ S.faults source.old) }
-        ensures line { IfOk result (λ ask. self.new.at_line ≡ begins_line ask) }
-        ensures ended { IfOk result (λ ask. ask ≡ Ask.«End» → IsTrue self.new.ended) }
-        ensures goes { Goes self.old self.new (S.left source.old) (S.left source.new) (S.faults source.old) (S.faults source.new) }
-        ensures cause { HasCause (S.faults source.old) (S.faults source.new) result }
-        ensures most { length self.new.waiting ≤ buffer_bytes }
-    {
-        match self.next(source) {
-            Ok(Some(byte)) => {
-                self.at_line = byte == b'\n';
-                Ok(Ask::Byte { b: byte })
-            }
-            Ok(None) => {
-                self.at_line = true;
-                Ok(Ask::End)
-            }
-            Err(Failed) => Err(Failed),
-        }
-    }
-
     // What comes next of the part, where `sound` isn't kept.
     fn ask<S: Source>(&mut self, source: &mut S) -> Result<Ask, Failed>
         requires { IsTrue self.old.ended → IsAtEnd (S.left source.old) }
-        ensures asks { IfOk result (λ ask. IfSome (stream self.old (S.left source.old)) (λ all. AsksNext ask (next_of self.old.at_line all) (stream self.new (S.left source.new)))) }
-        ensures unasked { 0 < length self.old.waiting → (self.old.at_line && may_be_marker self.old.waiting) ≡ false → (S.left source.new ≡ S.left source.old) × (S.faults source.new ≡ S.faults source.old) }
-        ensures line { IfOk result (λ ask. self.new.at_line ≡ begins_line ask) }
+        ensures asks { IfOk result (λ ask. IfSome (stream self.old (S.left source.old)) (λ all. AsksNext ask self.old.at_line all self.new.waiting (S.left source.new))) }
+        ensures within { IfOk result (λ ask. IsWithin ask self.new.waiting) }
+        ensures unasked { is_untold self.old.at_line self.old.waiting ≡ false → (S.left source.new ≡ S.left source.old) × (S.faults source.new ≡ S.faults source.old) }
+        ensures line { IfOk result (λ ask. self.new.at_line ≡ begins_line self.old.at_line ask) }
         ensures ended { IfOk result (λ ask. ask ≡ Ask.«End» → IsTrue self.new.ended) }
         ensures goes { Goes self.old self.new (S.left source.old) (S.left source.new) (S.faults source.old) (S.faults source.new) }
         ensures cause { HasCause (S.faults source.old) (S.faults source.new) result }
         ensures most { length self.new.waiting ≤ buffer_bytes }
     {
-        if !self.at_line {
-            return self.plain(source);
-        }
         match self.fill(source) {
             Ok(()) => {}
             Err(Failed) => return Err(Failed),
         }
-        let len = line_len(self.waiting());
-        if !is_marker(&self.waiting()[..len]) {
-            return self.plain(source);
+        if is_marked_here(self.at_line, self.waiting()) {
+            let len = line_len(self.waiting());
+            self.skip(len + 1);
+            return Ok(Ask::Marker);
         }
-        self.skip(len + 1);
-        Ok(Ask::Marker)
+        if self.waiting().is_empty() {
+            self.at_line = true;
+            return Ok(Ask::End);
+        }
+        Ok(Ask::Bytes {
+            count: plain_len(self.waiting()),
+        })
     }
 
-    /// What comes next of the part: a byte, the marker line that ends it, which is taken, or the end of the input. It takes
-    /// no memory. Byte by byte a part is what `text` gives of it (`part_law`), where the calls begin at the part's first
-    /// byte: the lines that `text` cuts begin where its call begins. After `Failed` the reader isn't `sound`.
-    pub fn part_byte<S: Source>(&mut self, source: &mut S) -> Result<Ask, Failed>
+    /// What comes next of the part: bytes, the marker line that ends it, which is taken, or the end of the input. It takes no
+    /// memory. The bytes are the first of those that wait, and `consume` takes them. So a part is what `text` gives of it
+    /// (`part_law`), where the calls begin at the part's first byte: the lines that `text` cuts begin where its call begins.
+    /// After `Failed` the reader isn't `sound`.
+    pub fn part_bytes<S: Source>(&mut self, source: &mut S) -> Result<Ask, Failed>
         requires sound { IsTrue self.old.sound }
         requires lines { IsTrue self.old.lines }
         requires at_end { IsTrue self.old.ended → IsAtEnd (S.left source.old) }
-        ensures asks { IfOk result (λ ask. IfSome (stream self.old (S.left source.old)) (λ all. AsksNext ask (next_of self.old.at_line all) (stream self.new (S.left source.new)))) }
+        ensures asks { IfOk result (λ ask. IfSome (stream self.old (S.left source.old)) (λ all. AsksNext ask self.old.at_line all self.new.waiting (S.left source.new))) }
+        ensures within { IfOk result (λ ask. IsWithin ask self.new.waiting) }
         // It asks the source only where no byte waits, or where a line begins and what waits may still be a marker line.
-        ensures unasked { 0 < length self.old.waiting → (self.old.at_line && may_be_marker self.old.waiting) ≡ false → (S.left source.new ≡ S.left source.old) × (S.faults source.new ≡ S.faults source.old) }
-        ensures line { IfOk result (λ ask. self.new.at_line ≡ begins_line ask) }
+        ensures unasked { is_untold self.old.at_line self.old.waiting ≡ false → (S.left source.new ≡ S.left source.old) × (S.faults source.new ≡ S.faults source.old) }
+        ensures line { IfOk result (λ ask. self.new.at_line ≡ begins_line self.old.at_line ask) }
         ensures ended { IfOk result (λ ask. ask ≡ Ask.«End» → IsTrue self.new.ended) }
         ensures left { TakesFront (S.left source.old) (S.left source.new) }
         ensures cause { HasCause (S.faults source.old) (S.faults source.new) result }
@@ -459,6 +441,21 @@ impl Parts {
                 Err(Failed)
             }
         }
+    }
+
+    /// Takes the first bytes of those that wait, at least one, as bytes of the part.
+    pub fn consume(&mut self, count: usize)
+        requires some { 0 < count }
+        requires within { count ≤ length self.old.waiting }
+        ensures waiting { self.new.waiting ≡ drop count self.old.waiting }
+        ensures line { self.new.at_line ≡ begins_after self.old.at_line (take count self.old.waiting) }
+        ensures sound { self.new.sound ≡ self.old.sound }
+        ensures lines { self.new.lines ≡ self.old.lines }
+        ensures ended { self.new.ended ≡ self.old.ended }
+    {
+        let last = self.waiting()[count - 1];
+        self.start += count;
+        self.at_line = last == b'\n';
     }
 }
 
@@ -490,6 +487,30 @@ fn may_be_marker(bytes: &[u8]) -> bool
     ensures { result ≡ may_be_marker bytes.now }
 {
     matches!(bytes, b"" | b"%" | b"%%" | b"%%\r")
+}
+
+// Whether these bytes don't tell yet what comes next of a part, where a line begins or not.
+fn is_untold(at_line: bool, bytes: &[u8]) -> bool
+    ensures { result ≡ is_untold at_line bytes.now }
+{
+    bytes.is_empty() || at_line && may_be_marker(bytes)
+}
+
+// Whether a marker line stands here, where a line begins or not.
+fn is_marked_here(at_line: bool, bytes: &[u8]) -> bool
+    ensures { result ≡ is_marked_here at_line bytes.now }
+{
+    at_line && is_marker(&bytes[..line_len(bytes)])
+}
+
+// The first byte, and those after it before the next `%`, with which a marker line begins.
+fn plain_len(bytes: &[u8]) -> usize
+    requires { 0 < length bytes.now }
+    ensures value { result ≡ plain_len bytes.now }
+    ensures some { 0 < result }
+    ensures within { result ≤ length bytes.now }
+{
+    1 + len_before(&bytes[1..], b'%')
 }
 
 // How many bytes stand before the first line feed.
@@ -531,7 +552,7 @@ pub fn marker_law()
     ensures { MarkerLaw }
 {}
 
-/// A law. Byte by byte a part is the same as by lines: what `part_byte` gives, call by call, is what `text` gives.
+/// A law. Byte by byte a part is the same as by lines: what `part_bytes` gives, call by call, is what `text` gives.
 pub fn part_law()
     ensures { PartLaw }
 {}

@@ -116,14 +116,17 @@ fn a_read_that_fails_between_bytes(rt: HostRuntime) -> Result<(), Fail> {
     Ok(())
 }
 
-// What `part_byte` gives of an input to its end: its bytes, and `^` for each marker line.
+// What `part_bytes` gives of an input to its end: its bytes, and `^` for each marker line.
 fn asked(alloc: Global, input: &[u8], cut: usize, fails: u64) -> Result<Vec<u8>, IoFault> {
     let mut source = source_of(alloc, input, cut, fails)?;
     let mut parts = Parts::make();
     let mut given = Vec::new(alloc);
     'asks: for _ in 0..5000 {
-        match parts.part_byte(&mut source) {
-            Ok(Ask::Byte { b }) => given.push(b)?,
+        match parts.part_bytes(&mut source) {
+            Ok(Ask::Bytes { count }) => {
+                given.extend_from_slice(&parts.waiting()[..count])?;
+                parts.consume(count);
+            }
             Ok(Ask::Marker) => given.push(b'^')?,
             Ok(Ask::End) => return Ok(given),
             Err(Failed) => return Err(IoFault::Read),

@@ -1,17 +1,18 @@
 -- A certificate's text that is judged as it is taken.
-use Rattle.std.proofs.Common.{◌≡◌, ℕ, suc, ◌+◌, ◌<◌, ◌≤◌, Bool, true, false, cond, nat_lt, ◌==◌, List, [], ◌∷◌, ◌++◌, append_assoc, append-nil, length, length-append, All, Option, Some, None, Result, Ok, Err, IfOk, IfSome, refl, sym, ap, subst, ◌∙◌, arith}
+use Rattle.std.proofs.Common.{◌≡◌, ℕ, suc, ◌+◌, ◌<◌, ◌≤◌, Bool, true, false, cond, nat_lt, ◌==◌, List, [], ◌∷◌, ◌++◌, append_assoc, append-nil, length, length-append, All, get_or, take, drop, Option, Some, None, Result, Ok, Err, IfOk, IfSome, refl, sym, ap, subst, ◌∙◌, arith}
 use Rattle.std.specs.Io.KnownBytes.{IsAtEnd, prepend_known}
 use Rattle.std.specs.Option.{option_map, option_or}
 use Rattle.std.specs.Str.Lines.{lines}
 use Rattle.std.proofs.lemmas.Bool.Decides.{nat_tests}
+use Rattle.std.proofs.lemmas.List.{take_more}
 use Rattle.text_lines.specs.Lines.{between_feeds}
 use Rattle.text_lines.specs.Marker.{has_marker, part_of, rest_of}
-use Rattle.fleet_io.specs.PartBytes.{AsksNext, PartLaw, after_piece, is_marked_here, is_marked_left, next_of, part_left, rest_left, NextByte, NextMarker}
-use Rattle.fleet_io.specs.Held.{Held, buffer_bytes, stream}
+use Rattle.fleet_io.specs.PartBytes.{AsksNext, PartLaw, begins_after, is_marked_left, part_left, rest_left}
+use Rattle.fleet_io.specs.Held.{buffer_bytes}
 use Rattle.fleet_io.specs.Parts.{TakesFewAfter}
 use Rattle.fleet_io.specs.Taken.{TakesFront}
-use Rattle.fleet_io.specs.declared.parts.Ask.{Ask}
 use Rattle.fleet_io.specs.declared.parts.Ask.TheVariants as ask
+use Rattle.fleet_io.proofs.PartLemmas.{passed}
 use Rattle.choreo_lines.specs.Name.{Name}
 use Rattle.choreo_show.specs.Plain.{PlainShow}
 use Rattle.choreo_show.specs.declared.show.Settings.{Settings}
@@ -44,68 +45,22 @@ use Rattle.show_judge.specs.Input.{GoesOn, IsReadBoth, IsReadWhole, IsShowText, 
 use Rattle.show_judge.specs.Verb.{Outcome, outcome}
 use Rattle.show_judge.specs.Outcome.{refused}
 use Rattle.show_judge.specs.Refused.{IsOfInput, second_refusal}
-use Rattle.show_verify.specs.SecondTexts.{Feeds, GivesSecond, IsFed, IsFewTaken, IsMarkedBy, IsTakenToEnd, IsTakenWhole, Skips, TakenGives, line_after, taken_by, unless_marked, verdict_outcome}
+use Rattle.show_verify.specs.SecondTexts.{GivesSecond, IsFed, IsFewTaken, IsMarkedBy, IsTakenToEnd, IsTakenWhole, Skips, TakenGives, unless_marked, verdict_outcome}
 use Rattle.show_judge.specs.Shows.{Cut, cut_of, feeds, marker_number, names_of, trajectories_of}
 use Rattle.show_judge.proofs.AnswerLemmas.{apart_of_show, fitted_outcome, fitted_safe, plain_outcome, refused_some, some_by}
 use Rattle.show_verify.proofs.CertificateLemmas.{judged_same}
 
 -- ---- what comes next of a part
--- a byte
-record IsByteNext (at_line : Bool) (rest : List ℕ) (b : ℕ) (new : Option (List ℕ)) : Type 0 where
-  bytes : List ℕ
-  new_is : new ≡ Some bytes
-  part : part_left at_line rest ≡ b ∷ part_left (b == 10) bytes
-  marked : is_marked_left at_line rest ≡ is_marked_left (b == 10) bytes
-  after : rest_left at_line rest ≡ rest_left (b == 10) bytes
-
-byte_next : (at_line : Bool) (rest : List ℕ) (b : ℕ) (new : Option (List ℕ)) → AsksNext (ask.Byte b) (next_of at_line rest) new → IsByteNext at_line rest b new
-byte_next at_line [] b new asks = absurd asks
-byte_next at_line (c ∷ bytes) b new asks = go (is_marked_here at_line (c ∷ bytes)) refl asks
-  where
-    go : (s : Bool) → is_marked_here at_line (c ∷ bytes) ≡ s → AsksNext (ask.Byte b) (cond s (NextMarker (after_piece (c ∷ bytes))) (NextByte c bytes)) new → IsByteNext at_line (c ∷ bytes) b new
-    go true here asks = absurd asks
-    go false here asks = record {
-      bytes = bytes;
-      new_is = asks.1;
-      part = ap (λ (s : Bool). cond s [] (c ∷ part_left (c == 10) bytes)) here ∙ ap (λ (x : ℕ). x ∷ part_left (x == 10) bytes) (sym asks.0);
-      marked = ap (λ (s : Bool). cond s true (is_marked_left (c == 10) bytes)) here ∙ ap (λ (x : ℕ). is_marked_left (x == 10) bytes) (sym asks.0);
-      after = ap (λ (s : Bool). cond s (after_piece (c ∷ bytes)) (rest_left (c == 10) bytes)) here ∙ ap (λ (x : ℕ). rest_left (x == 10) bytes) (sym asks.0);
-    }
-
 -- the marker line, or the end
-marker_next : (at_line : Bool) (rest : List ℕ) (new : Option (List ℕ)) → AsksNext ask.Marker (next_of at_line rest) new → (part_left at_line rest ≡ []) × (is_marked_left at_line rest ≡ true)
-marker_next at_line [] new asks = absurd asks
-marker_next at_line (c ∷ bytes) new asks = go (is_marked_here at_line (c ∷ bytes)) asks
-  where
-    go : (s : Bool) → AsksNext ask.Marker (cond s (NextMarker (after_piece (c ∷ bytes))) (NextByte c bytes)) new →
-        (cond s [] (c ∷ part_left (c == 10) bytes) ≡ []) × (cond s true (is_marked_left (c == 10) bytes) ≡ true)
-    go true asks = (refl, refl)
-    go false asks = absurd asks
+marker_next : (at_line : Bool) (rest waiting : List ℕ) (left : Option (List ℕ)) → AsksNext ask.Marker at_line rest waiting left →
+    (part_left at_line rest ≡ []) × (is_marked_left at_line rest ≡ true) × (prepend_known waiting left ≡ Some (rest_left at_line rest))
+marker_next true [] waiting left asks = absurd (let e : false ≡ true = asks.0 in cc)
+marker_next false [] waiting left asks = absurd (let e : false ≡ true = asks.0 in cc)
+marker_next at_line (c ∷ bytes) waiting left asks = rw asks.0 (refl, refl, asks.1)
 
-end_next : (at_line : Bool) (rest : List ℕ) (new : Option (List ℕ)) → AsksNext ask.«End» (next_of at_line rest) new → (part_left at_line rest ≡ []) × (is_marked_left at_line rest ≡ false)
-end_next at_line [] new asks = (refl, refl)
-end_next at_line (c ∷ bytes) new asks = absurd (go (is_marked_here at_line (c ∷ bytes)) asks)
-  where
-    go : (s : Bool) → AsksNext ask.«End» (cond s (NextMarker (after_piece (c ∷ bytes))) (NextByte c bytes)) new → ⊥
-    go true asks = asks
-    go false asks = asks
-
--- what is still to come then stands after the part
-after_marker : (at_line : Bool) (rest : List ℕ) (new : Option (List ℕ)) → AsksNext ask.Marker (next_of at_line rest) new → new ≡ Some (rest_left at_line rest)
-after_marker at_line [] new asks = absurd asks
-after_marker at_line (c ∷ bytes) new asks = go (is_marked_here at_line (c ∷ bytes)) asks
-  where
-    go : (s : Bool) → AsksNext ask.Marker (cond s (NextMarker (after_piece (c ∷ bytes))) (NextByte c bytes)) new → new ≡ Some (cond s (after_piece (c ∷ bytes)) (rest_left (c == 10) bytes))
-    go true asks = asks
-    go false asks = absurd asks
-
-after_end : (at_line : Bool) (rest : List ℕ) (new : Option (List ℕ)) → AsksNext ask.«End» (next_of at_line rest) new → new ≡ Some (rest_left at_line rest)
-after_end at_line [] new asks = asks
-after_end at_line (c ∷ bytes) new asks = absurd (go (is_marked_here at_line (c ∷ bytes)) asks)
-  where
-    go : (s : Bool) → AsksNext ask.«End» (cond s (NextMarker (after_piece (c ∷ bytes))) (NextByte c bytes)) new → ⊥
-    go true asks = asks
-    go false asks = asks
+end_next : (at_line : Bool) (rest waiting : List ℕ) (left : Option (List ℕ)) → AsksNext ask.«End» at_line rest waiting left →
+    (part_left at_line rest ≡ []) × (is_marked_left at_line rest ≡ false) × (prepend_known waiting left ≡ Some (rest_left at_line rest))
+end_next at_line rest waiting left asks = rw asks.0 (refl, refl, asks.1)
 
 -- ---- what was taken
 -- what holds of what comes next, where it is known
@@ -122,27 +77,27 @@ fed_none law (Some all) at_line is = record {
   after = ap (λ (b : Bool). rest_left b all) is ∙ law.rest all;
 }
 
-pub fed_more : (coming : Option (List ℕ)) (at_line : Bool) (now new : Option (List ℕ)) (fed : List ℕ) (b : ℕ) → IfSome coming (λ all. IsFed all at_line now fed) →
-    IfSome now (λ all. AsksNext (ask.Byte b) (next_of at_line all) new) → IfSome coming (λ all. IsFed all (b == 10) new (fed ++ b ∷ []))
-fed_more None at_line now new fed b is asks = tt
-fed_more (Some all) at_line now new fed b is asks =
-    let next = byte_next at_line is.rest b new (asked_of all at_line now fed (λ rest. AsksNext (ask.Byte b) (next_of at_line rest) new) is asks) in
+pub fed_more : (coming : Option (List ℕ)) (at_line : Bool) (now : Option (List ℕ)) (fed waiting : List ℕ) (left : Option (List ℕ)) (count : ℕ) → IfSome coming (λ all. IsFed all at_line now fed) →
+    IfSome now (λ all. AsksNext (ask.Bytes count) at_line all waiting left) →
+    IfSome coming (λ all. IsFed all (begins_after at_line (take count waiting)) (prepend_known (drop count waiting) left) (fed ++ take count waiting))
+fed_more None at_line now fed waiting left count is asks = tt
+fed_more (Some all) at_line now fed waiting left count is asks =
+    let next = asked_of all at_line now fed (λ rest. AsksNext (ask.Bytes count) at_line rest waiting left) is asks in
+    let piece : List ℕ = take count waiting in
+    let passes = passed at_line piece next.0 next.3 in
     record {
-      rest = next.bytes;
-      now_is = next.new_is;
-      part = append_assoc fed (b ∷ []) (part_left (b == 10) next.bytes) ∙ ap (λ (xs : List ℕ). fed ++ xs) (sym next.part) ∙ is.part;
-      marked = sym next.marked ∙ is.marked;
-      after = sym next.after ∙ is.after;
+      rest = next.0;
+      now_is = next.2;
+      part = append_assoc fed piece _ ∙ ap (λ (xs : List ℕ). fed ++ xs) (sym passes.part ∙ ap (part_left at_line) (sym next.1)) ∙ is.part;
+      marked = sym passes.marked ∙ ap (is_marked_left at_line) (sym next.1) ∙ is.marked;
+      after = sym passes.after ∙ ap (rest_left at_line) (sym next.1) ∙ is.after;
     }
 
--- a byte more than a text may have
-pub fed_over : (limit : ℕ) (coming : Option (List ℕ)) (at_line : Bool) (now new : Option (List ℕ)) (fed : List ℕ) (b : ℕ) → length fed ≡ limit → IfSome coming (λ all. IsFed all at_line now fed) →
-    IfSome now (λ all. AsksNext (ask.Byte b) (next_of at_line all) new) → IfSome coming (λ all. limit < length (part_of all))
-fed_over limit None at_line now new fed b count is asks = tt
-fed_over limit (Some all) at_line now new fed b count is asks =
-    let next = byte_next at_line is.rest b new (asked_of all at_line now fed (λ rest. AsksNext (ask.Byte b) (next_of at_line rest) new) is asks) in
-    let whole : fed ++ b ∷ part_left (b == 10) next.bytes ≡ part_of all = ap (λ (xs : List ℕ). fed ++ xs) (sym next.part) ∙ is.part in
-    omega (arith, count, ap (λ (xs : List ℕ). length xs) whole, length-append fed (b ∷ part_left (b == 10) next.bytes))
+-- more bytes than a text may have
+pub fed_over : (limit : ℕ) (coming : Option (List ℕ)) (at_line : Bool) (now : Option (List ℕ)) (fed : List ℕ) → limit < length fed → IfSome coming (λ all. IsFed all at_line now fed) →
+    IfSome coming (λ all. limit < length (part_of all))
+fed_over limit None at_line now fed over is = tt
+fed_over limit (Some all) at_line now fed over is = omega (arith, over, ap (λ (xs : List ℕ). length xs) is.part, length-append fed (part_left at_line is.rest))
 
 whole_by : (coming : Option (List ℕ)) (fed : List ℕ) (at_line : Bool) (now : Option (List ℕ)) (marker : Option ℕ) (is_marked : Bool) → IsMarkedBy fed marker is_marked →
     IfSome coming (λ all. IsFed all at_line now fed) → ((rest : List ℕ) → now ≡ Some rest → (part_left at_line rest ≡ []) × (is_marked_left at_line rest ≡ is_marked)) →
@@ -155,14 +110,15 @@ whole_by (Some all) fed at_line now marker is_marked marked is last =
     )
 
 -- the part ends at a marker line, or at the end of the input
-pub fed_marked : (coming : Option (List ℕ)) (at_line : Bool) (now new : Option (List ℕ)) (fed : List ℕ) (number : ℕ) → number ≡ marker_number fed → IfSome coming (λ all. IsFed all at_line now fed) →
-    IfSome now (λ all. AsksNext ask.Marker (next_of at_line all) new) → IfSome coming (λ all. (part_of all ≡ fed) × IsMarkedBy fed (Some number) (has_marker (between_feeds all)))
-fed_marked coming at_line now new fed number is_number is asks =
-    whole_by coming fed at_line now (Some number) true (refl, is_number) is (λ rest now_is. marker_next at_line rest new (rw now_is at asks))
+pub fed_marked : (coming : Option (List ℕ)) (at_line : Bool) (now : Option (List ℕ)) (fed waiting : List ℕ) (left : Option (List ℕ)) (number : ℕ) → number ≡ marker_number fed → IfSome coming (λ all. IsFed all at_line now fed) →
+    IfSome now (λ all. AsksNext ask.Marker at_line all waiting left) → IfSome coming (λ all. (part_of all ≡ fed) × IsMarkedBy fed (Some number) (has_marker (between_feeds all)))
+fed_marked coming at_line now fed waiting left number is_number is asks =
+    whole_by coming fed at_line now (Some number) true (refl, is_number) is (λ rest now_is. let next = marker_next at_line rest waiting left (rw now_is at asks) in (next.0, next.1))
 
-pub fed_whole : (coming : Option (List ℕ)) (at_line : Bool) (now new : Option (List ℕ)) (fed : List ℕ) → IfSome coming (λ all. IsFed all at_line now fed) →
-    IfSome now (λ all. AsksNext ask.«End» (next_of at_line all) new) → IfSome coming (λ all. (part_of all ≡ fed) × IsMarkedBy fed None (has_marker (between_feeds all)))
-fed_whole coming at_line now new fed is asks = whole_by coming fed at_line now None false refl is (λ rest now_is. end_next at_line rest new (rw now_is at asks))
+pub fed_whole : (coming : Option (List ℕ)) (at_line : Bool) (now : Option (List ℕ)) (fed waiting : List ℕ) (left : Option (List ℕ)) → IfSome coming (λ all. IsFed all at_line now fed) →
+    IfSome now (λ all. AsksNext ask.«End» at_line all waiting left) → IfSome coming (λ all. (part_of all ≡ fed) × IsMarkedBy fed None (has_marker (between_feeds all)))
+fed_whole coming at_line now fed waiting left is asks =
+    whole_by coming fed at_line now None false refl is (λ rest now_is. let next = end_next at_line rest waiting left (rw now_is at asks) in (next.0, next.1))
 
 -- of what stands after the part at most 4,096 bytes were taken, which wait
 few_of : (all waiting : List ℕ) (left : Option (List ℕ)) → prepend_known waiting left ≡ Some (rest_of all) → length waiting ≤ buffer_bytes → TakesFewAfter (Some all) left
@@ -171,52 +127,34 @@ few_of all waiting (Some rest) is most =
     let same : waiting ++ rest ≡ rest_of all = cc in
     omega (arith, most, length-append waiting rest, ap (λ (xs : List ℕ). length xs) same)
 
-pub few_marked : (coming : Option (List ℕ)) (at_line : Bool) (now : Option (List ℕ)) (fed : List ℕ) (held : Held) (left : Option (List ℕ)) → IfSome coming (λ all. IsFed all at_line now fed) →
-    IfSome now (λ all. AsksNext ask.Marker (next_of at_line all) (stream held left)) → length held.waiting ≤ buffer_bytes → TakesFewAfter coming left
-few_marked None at_line now fed held left is asks most = tt
-few_marked (Some all) at_line now fed held left is asks most =
-    few_of all held.waiting left
-    (after_marker at_line is.rest (stream held left) (asked_of all at_line now fed (λ rest. AsksNext ask.Marker (next_of at_line rest) (stream held left)) is asks) ∙ ap (λ (xs : List ℕ). Some xs) is.after) most
+pub few_marked : (coming : Option (List ℕ)) (at_line : Bool) (now : Option (List ℕ)) (fed waiting : List ℕ) (left : Option (List ℕ)) → IfSome coming (λ all. IsFed all at_line now fed) →
+    IfSome now (λ all. AsksNext ask.Marker at_line all waiting left) → length waiting ≤ buffer_bytes → TakesFewAfter coming left
+few_marked None at_line now fed waiting left is asks most = tt
+few_marked (Some all) at_line now fed waiting left is asks most =
+    let next = marker_next at_line is.rest waiting left (asked_of all at_line now fed (λ rest. AsksNext ask.Marker at_line rest waiting left) is asks) in
+    few_of all waiting left (next.2 ∙ ap (λ (xs : List ℕ). Some xs) is.after) most
 
-pub few_whole : (coming : Option (List ℕ)) (at_line : Bool) (now : Option (List ℕ)) (fed : List ℕ) (held : Held) (left : Option (List ℕ)) → IfSome coming (λ all. IsFed all at_line now fed) →
-    IfSome now (λ all. AsksNext ask.«End» (next_of at_line all) (stream held left)) → length held.waiting ≤ buffer_bytes → TakesFewAfter coming left
-few_whole None at_line now fed held left is asks most = tt
-few_whole (Some all) at_line now fed held left is asks most =
-    few_of all held.waiting left
-    (after_end at_line is.rest (stream held left) (asked_of all at_line now fed (λ rest. AsksNext ask.«End» (next_of at_line rest) (stream held left)) is asks) ∙ ap (λ (xs : List ℕ). Some xs) is.after) most
+pub few_whole : (coming : Option (List ℕ)) (at_line : Bool) (now : Option (List ℕ)) (fed waiting : List ℕ) (left : Option (List ℕ)) → IfSome coming (λ all. IsFed all at_line now fed) →
+    IfSome now (λ all. AsksNext ask.«End» at_line all waiting left) → length waiting ≤ buffer_bytes → TakesFewAfter coming left
+few_whole None at_line now fed waiting left is asks most = tt
+few_whole (Some all) at_line now fed waiting left is asks most =
+    let next = end_next at_line is.rest waiting left (asked_of all at_line now fed (λ rest. AsksNext ask.«End» at_line rest waiting left) is asks) in
+    few_of all waiting left (next.2 ∙ ap (λ (xs : List ℕ). Some xs) is.after) most
 
-pub ended_few : (coming : Option (List ℕ)) (at_line : Bool) (now : Option (List ℕ)) (fed : List ℕ) (held : Held) (left : Option (List ℕ)) (number : ℕ) → IfSome coming (λ all. IsFed all at_line now fed) →
-    (given : Ask) → IfSome now (λ all. AsksNext given (next_of at_line all) (stream held left)) → length held.waiting ≤ buffer_bytes → IsFewTaken coming left (taken_by number given)
-ended_few coming at_line now fed held left number is (ask.Byte b) asks most = tt
-ended_few coming at_line now fed held left number is ask.Marker asks most = few_marked coming at_line now fed held left is asks most
-ended_few coming at_line now fed held left number is ask.«End» asks most = few_whole coming at_line now fed held left is asks most
-
--- the number of the line after a byte more
-feeds_more : (fed : List ℕ) (b : ℕ) → feeds (fed ++ b ∷ []) ≡ cond (b == 10) (suc (feeds fed)) (feeds fed)
-feeds_more [] b = refl
-feeds_more (x ∷ fed) b = ap (λ (n : ℕ). cond (x == 10) (suc n) n) (feeds_more fed b) ∙ by_both (x == 10) (b == 10)
+-- ---- line feeds
+feeds_more : (fed bytes : List ℕ) → feeds (fed ++ bytes) ≡ feeds fed + feeds bytes
+feeds_more [] bytes = omega arith
+feeds_more (b ∷ fed) bytes = by_test (b == 10) (feeds_more fed bytes)
   where
-    by_both : (s t : Bool) → cond s (suc (cond t (suc (feeds fed)) (feeds fed))) (cond t (suc (feeds fed)) (feeds fed)) ≡ cond t (suc (cond s (suc (feeds fed)) (feeds fed))) (cond s (suc (feeds fed)) (feeds fed))
-    by_both true true = refl
-    by_both true false = refl
-    by_both false true = refl
-    by_both false false = refl
+    by_test : (s : Bool) → feeds (fed ++ bytes) ≡ feeds fed + feeds bytes → cond s (suc (feeds (fed ++ bytes))) (feeds (fed ++ bytes)) ≡ cond s (suc (feeds fed)) (feeds fed) + feeds bytes
+    by_test true more = omega (arith, more)
+    by_test false more = more
 
-pub number_more : (fed : List ℕ) (b number : ℕ) → number ≡ marker_number fed → line_after number b ≡ marker_number (fed ++ b ∷ [])
-number_more fed b number number_is = go (b == 10) (feeds_more fed b)
-  where
-    go : (s : Bool) → feeds (fed ++ b ∷ []) ≡ cond s (suc (feeds fed)) (feeds fed) → cond s (number + 1) number ≡ marker_number (fed ++ b ∷ [])
-    go true more = omega (arith, number_is, more)
-    go false more = omega (arith, number_is, more)
+pub feeds_next : (bytes : List ℕ) (i : ℕ) → i < length bytes → feeds (take (i + 1) bytes) ≡ feeds (take i bytes) + cond (get_or bytes i 0 == 10) 1 0
+feeds_next bytes i within = rw (take_more bytes i 0 within) (feeds_more (take i bytes) (get_or bytes i 0 ∷ []))
 
--- what was taken where this comes after the most bytes
-pub ended_gives : (curves : Raised) (coming : Option (List ℕ)) (c : Seen) (at_line : Bool) (now new : Option (List ℕ)) (number : ℕ) → Feeds curves coming certificate_limit c at_line now number →
-    (given : Ask) → IfSome now (λ all. AsksNext given (next_of at_line all) new) → TakenGives curves coming c (taken_by number given)
-ended_gives curves coming c at_line now new number feeds (ask.Byte b) asks = fed_over certificate_limit coming at_line now new feeds.fed b feeds.count feeds.is_fed asks
-ended_gives curves coming c at_line now new number feeds ask.Marker asks =
-    (feeds.fed, omega (arith, feeds.count), feeds.has_read, fed_marked coming at_line now new feeds.fed number feeds.number_is feeds.is_fed asks)
-ended_gives curves coming c at_line now new number feeds ask.«End» asks =
-    (feeds.fed, omega (arith, feeds.count), feeds.has_read, fed_whole coming at_line now new feeds.fed feeds.is_fed asks)
+pub number_more : (fed bytes : List ℕ) (number more : ℕ) → number ≡ marker_number fed → more ≡ feeds bytes → number + more ≡ marker_number (fed ++ bytes)
+number_more fed bytes number more is more_is = omega (arith, is, more_is, feeds_more fed bytes)
 
 -- ---- what a verdict is said as
 within : (n : ℕ) → n ≤ certificate_limit → nat_lt certificate_limit n ≡ false
@@ -297,11 +235,11 @@ ended_whole None left at_end few = tt
 ended_whole (Some all) left at_end few = λ short. ((λ unmarked. at_end), few)
 
 -- at a marker line nothing is left to show
-pub skipped_marked : (coming : Option (List ℕ)) (n : ℕ) (at_line : Bool) (now new left : Option (List ℕ)) → Skips coming n at_line now →
-    IfSome now (λ all. AsksNext ask.Marker (next_of at_line all) new) → TakesFewAfter coming left → IsTakenWhole coming left
-skipped_marked None n at_line now new left skips asks few = tt
-skipped_marked (Some all) n at_line now new left skips asks few = λ short. (
-  (λ unmarked. absurd (clash (has_marker (between_feeds all)) (fed_marked (Some all) at_line now new skips.fed (marker_number skips.fed) refl skips.is_fed asks).1.0 unmarked)),
+pub skipped_marked : (coming : Option (List ℕ)) (n : ℕ) (at_line : Bool) (now : Option (List ℕ)) (waiting : List ℕ) (left : Option (List ℕ)) → Skips coming n at_line now →
+    IfSome now (λ all. AsksNext ask.Marker at_line all waiting left) → TakesFewAfter coming left → IsTakenWhole coming left
+skipped_marked None n at_line now waiting left skips asks few = tt
+skipped_marked (Some all) n at_line now waiting left skips asks few = λ short. (
+  (λ unmarked. absurd (clash (has_marker (between_feeds all)) (fed_marked (Some all) at_line now skips.fed waiting left (marker_number skips.fed) refl skips.is_fed asks).1.0 unmarked)),
   few,
 )
 

@@ -1,13 +1,11 @@
--- A certificate's text that is judged as it is taken, byte by byte. Only private functions of `verify` use it.
-use Rattle.std.specs.Prelude.{◌≡◌, ℕ, ◌+◌, ◌<◌, ◌≤◌, ◌==◌, Bool, true, false, List, ◌++◌, length, Option, Some, None, IfSome, if◌then◌else◌}
+-- A certificate's text that is judged as it is taken, piece by piece. Only private functions of `verify` use it.
+use Rattle.std.specs.Prelude.{◌≡◌, ℕ, ◌<◌, ◌≤◌, Bool, true, false, List, ◌++◌, length, Option, Some, None, IfSome}
 use Rattle.std.specs.Io.KnownBytes.{IsAtEnd}
 use Rattle.std.specs.Str.Lines.{lines}
 use Rattle.text_lines.specs.Lines.{between_feeds}
 use Rattle.text_lines.specs.Marker.{has_marker, part_of, rest_of}
 use Rattle.fleet_io.specs.PartBytes.{is_marked_left, part_left, rest_left}
 use Rattle.fleet_io.specs.Parts.{TakesFewAfter}
-use Rattle.fleet_io.specs.declared.parts.Ask.{Ask}
-use Rattle.fleet_io.specs.declared.parts.Ask.TheVariants as ask
 use Rattle.choreo_lines.specs.Name.{Name}
 use Rattle.choreo_show.specs.Plain.{PlainShow}
 use Rattle.fleet_curves.specs.Raised.{Raised}
@@ -53,16 +51,6 @@ TakenGives curves coming c TooLarge = IfSome coming (λ all. certificate_limit <
 TakenGives curves coming c (Whole marker) =
     (fed : List ℕ) × (length fed ≤ certificate_limit) × HasRead c curves fed
     × IfSome coming (λ all. (part_of all ≡ fed) × IsMarkedBy fed marker (has_marker (between_feeds all)))
-
--- the number of the line after a byte more
-abbrev pub line_after : ℕ → ℕ → ℕ
-line_after number b = if b == 10 then number + 1 else number
-
--- what was taken where this comes after the most bytes that a text may have
-abbrev pub taken_by : ℕ → Ask → Taken
-taken_by number (ask.Byte b) = TooLarge
-taken_by number ask.Marker = Whole (Some number)
-taken_by number ask.«End» = Whole None
 
 -- Of a part these many bytes were taken.
 pub record Skips (coming : Option (List ℕ)) (n : ℕ) (at_line : Bool) (now : Option (List ℕ)) : Type 0 where

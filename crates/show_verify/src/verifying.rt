@@ -14,9 +14,10 @@ ghost use Rattle.show_judge.specs.Input.{IsReadBoth, IsWholeText, TakesOneText};
 ghost use Rattle.show_judge.specs.Outcome.{refused};
 ghost use Rattle.text_lines.specs.Marker.{part_of};
 ghost use Rattle.show_judge.specs.Runs.{Behaves};
+ghost use Rattle.show_judge.specs.Shows.{feeds};
 ghost use Rattle.show_judge.specs.Verb.{during};
 ghost use Rattle.show_verify.specs.Verify.{VerifyLaw, certificate_limit, verify_verb};
-ghost use Rattle.show_verify.specs.SecondTexts.{GivesSecond, IsFewTaken, IsTakenToEnd, IsTakenWhole, TakenGives, line_after, taken_by, verdict_outcome};
+ghost use Rattle.show_verify.specs.SecondTexts.{GivesSecond, IsFewTaken, IsTakenToEnd, IsTakenWhole, TakenGives, verdict_outcome};
 ghost use Rattle.fleet_math.specs.Limits.{most_text};
 
 use crate::faults::not_valid;
@@ -85,27 +86,20 @@ fn judge(fitted: &Fitted, curves: &Curves, verdict: Verdict, marker: Option<u32>
     }
 }
 
-// The number of the line after a byte more.
-fn line_after(line: u32, byte: u8) -> u32
-    requires { line ≤ 2 ^ 31 }
-    ensures exact { result ≡ line_after line byte }
-    ensures most { result ≤ line + 1 }
+// How many line feeds there are.
+fn feeds(bytes: &[u8]) -> u32
+    requires { length bytes.now < 2 ^ 31 }
+    ensures exact { result ≡ feeds bytes.now }
+    ensures most { result ≤ length bytes.now }
 {
-    if byte == b'\n' { line + 1 } else { line }
-}
-
-// What was taken of a text of the greatest length: one byte more is too many.
-fn ended(ask: Ask, line: u32) -> Taken
-    ensures { result ≡ taken_by line ask }
-{
-    match ask {
-        Ask::Byte { .. } => Taken::TooLarge,
-        Ask::Marker => Taken::Whole { marker: Some(line) },
-        Ask::End => Taken::Whole { marker: None },
+    let mut count = 0;
+    for b in bytes {
+        count += u32::from(*b == b'\n');
     }
+    count
 }
 
-// Takes the certificate's text to its end, and hands each byte to the checker.
+// Takes the certificate's text to its end, and hands it to the checker.
 fn take_second<S: Source>(
     parts: &mut Parts,
     source: &mut S,
@@ -127,20 +121,23 @@ fn take_second<S: Source>(
     part_law();
     let mut line: u32 = 1;
     let mut count = 0;
-    'bytes: while count < CERTIFICATE_LIMIT {
-        let ask = parts.part_byte(source)?;
+    'pieces: loop {
+        let ask = parts.part_bytes(source)?;
         match ask {
-            Ask::Byte { b } => {
-                checker.feed(curves, b);
-                count += 1;
-                line = line_after(line, b);
+            Ask::Bytes { count: more } => {
+                if more > CERTIFICATE_LIMIT - count {
+                    return Ok(Taken::TooLarge);
+                }
+                let piece = &parts.waiting()[..more];
+                checker.feed(curves, piece);
+                line += feeds(piece);
+                count += more;
+                parts.consume(more);
             }
             Ask::Marker => return Ok(Taken::Whole { marker: Some(line) }),
             Ask::End => return Ok(Taken::Whole { marker: None }),
         }
     }
-    let last = parts.part_byte(source)?;
-    Ok(ended(last, line))
 }
 
 // What a certificate's text is for a show that fits. It is judged as it is taken, and never held.
@@ -193,10 +190,13 @@ fn skip_second<S: Source>(parts: &mut Parts, source: &mut S) -> Result<(), Faile
 {
     part_law();
     let mut count = 0;
-    'bytes: while count <= CERTIFICATE_LIMIT {
-        let ask = parts.part_byte(source)?;
+    'pieces: while count <= CERTIFICATE_LIMIT {
+        let ask = parts.part_bytes(source)?;
         match ask {
-            Ask::Byte { .. } => count += 1,
+            Ask::Bytes { count: more } => {
+                parts.consume(more);
+                count += more;
+            }
             Ask::Marker => return Ok(()),
             Ask::End => return Ok(()),
         }

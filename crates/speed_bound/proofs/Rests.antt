@@ -1,6 +1,5 @@
 -- The bound of a trajectory, segment by segment.
 use Rattle.std.proofs.Common.{◌≡◌, ℕ, zero, suc, ◌+◌, ◌*◌, ◌^◌, ◌≤◌, ◌<◌, max, ℤ, pos, ◌-ℤ◌, unsigned_abs, arith, refl, sym, ◌∙◌, ap, subst, List, [], ◌∷◌, length, map, get_or, drop, All}
-use Rattle.std.proofs.lemmas.Int.{ints}
 use Rattle.std.proofs.Math.Seq.{drop-cons}
 use Rattle.std.proofs.lemmas.Nat.{pow_pos, mul-le}
 use Rattle.std.proofs.lemmas.Grind.{div_ceil_times, common_steps}
@@ -11,7 +10,6 @@ use Rattle.fleet_math.specs.Decoded.{Piece, IsPiece, points_from}
 use Rattle.fleet_math.specs.Decoded as plain
 use Rattle.fleet_math.specs.Moments.{moment}
 use Rattle.bezier_core.specs.Raised.{raised}
-use Rattle.bezier_core.specs.Steps.{IsWithin}
 use Rattle.halving.specs.Part.{part_value}
 use Rattle.traj_codec.specs.declared.traj.Segment.{Segment}
 use Rattle.traj_codec.specs.declared.traj.Traj.{Traj}

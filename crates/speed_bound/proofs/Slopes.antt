@@ -118,7 +118,7 @@ polar-second n f b d s = bernstein-zero (λ i. bernstein n (λ l. f (i + l)) d s
 pub slope : (f : ℕ → ℤ) (m b d s : ℤ) → pos 0 ≤ℤ d → d ≤ℤ b → b ≤ℤ s → ((i : ℕ) → i ≤ 6 → IsWithin m (steps f i)) →
     IsWithin (pos 7 *ℤ ((b -ℤ d) *ℤ (power s 6 *ℤ m))) (bernstein 7 f b s -ℤ bernstein 7 f d s)
 slope f m b d s low order high within =
-    within_same refl (minus_same (polar-first 7 f b d s) (polar-second 7 f b d s)) 
+    within_same refl (minus_same (polar-first 7 f b d s) (polar-second 7 f b d s))
     (exchanged 7 0 6 f m (b -ℤ d) b d s refl (omega (arith, linear)) high low (omega (arith, linear)) (omega (arith, linear), omega (arith, linear)) within)
 
 -- ---- by the parts of a depth

@@ -1,5 +1,5 @@
 use Rattle.std.proofs.lemmas.Grind.{common_steps}
-use Rattle.std.proofs.Common.{arith, rules, ◌≡◌, ◌+◌, ◌*◌, ◌^◌, ℤ, pos, sym, subst, ◌∙◌, ap, List, length, All}
+use Rattle.std.proofs.Common.{arith, rules, ◌≡◌, ◌*◌, ◌^◌, ℤ, sym, subst, List, length, All}
 use Rattle.fleet_math.specs.Bernstein.{at}
 use Rattle.fleet_math.proofs.BernsteinLemmas.{bernstein-zero}
 use Rattle.fleet_math.specs.Numbers.{IsBelow}

@@ -1,7 +1,7 @@
 use Rattle.std.proofs.lemmas.Grind.{common_steps}
-use Rattle.std.proofs.Common.{arith, rules, refl, ◌≡◌, ◌∙◌, ◌-◌, ◌^◌, ℤ, pos, ◌+ℤ◌, FitsSigned}
+use Rattle.std.proofs.Common.{arith, ◌^◌, ℤ, pos, ◌+ℤ◌, FitsSigned}
 use Rattle.std.proofs.lemmas.Int.{ints, to_z-of_z}
-use mir.Syntax.{w64, w128}
+use mir.Syntax.{w64}
 use Rattle.bezier_core.specs.Steps.{IsWithin}
 use Rattle.halving.proofs.sum.Goals as goal
 

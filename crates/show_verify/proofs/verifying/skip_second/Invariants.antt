@@ -6,10 +6,9 @@ use Rattle.fleet_io.specs.Taken.{TakesFront}
 use Rattle.show_verify.specs.SecondTexts.{Skips}
 use Rattle.show_verify.proofs.verifying.skip_second.Given as goal
 
-abbrev pub invariant-bytes : goal.invariant-bytes
-invariant-bytes g l = record {
+abbrev pub invariant-pieces : goal.invariant-pieces
+invariant-pieces g l = record {
   skips : Skips (stream l.initial.parts (g.S.Source.left l.initial.source)) l.count l.parts.at_line (stream l.parts (g.S.Source.left l.source));
-  most : l.count ≤ 400000001;
   sound : IsTrue l.parts.sound;
   lines : IsTrue l.parts.lines;
   at_end : IsTrue l.parts.ended → IsAtEnd (g.S.Source.left l.source);
@@ -17,5 +16,5 @@ invariant-bytes g l = record {
   later : g.S.Source.faults l.initial.source ≤ g.S.Source.faults l.source;
 }
 
-abbrev pub decreases-bytes : goal.decreases-bytes
-decreases-bytes g l = 400000001 - l.count
+abbrev pub decreases-pieces : goal.decreases-pieces
+decreases-pieces g l = 400000001 - l.count

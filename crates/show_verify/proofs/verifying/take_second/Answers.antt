@@ -1,13 +1,13 @@
-use Rattle.std.proofs.Common.{◌≡◌, ◌∷◌, ◌++◌, [], ◌<◌, ◌==◌, ℕ, Bool, length, length-append, IfSome, refl, sym, subst, ◌∙◌, arith}
+use Rattle.std.proofs.Common.{◌≡◌, ◌+◌, ◌++◌, ◌<◌, ◌≤◌, Bool, [], length, length-append, take, refl, ap, ◌∙◌, arith}
+use Rattle.std.proofs.lemmas.List.{length-take-le}
 use Rattle.fleet_io.specs.Held.{stream}
+use Rattle.fleet_io.specs.PartBytes.{begins_after}
 use Rattle.fleet_io.proofs.TakenLemmas.{TakesFront-none, TakesFront-trans}
-use Rattle.show_verify.specs.SecondTexts.{Feeds, IsFed, IsFewTaken, TakenGives}
-use Rattle.show_verify.specs.declared.verifying.Taken.{Taken}
-use Rattle.show_verify.proofs.SecondLemmas.{ended_few, ended_gives, fed_marked, fed_more, fed_none, fed_whole, few_marked, few_whole, number_more}
+use Rattle.show_verify.proofs.SecondLemmas.{fed_marked, fed_more, fed_none, fed_over, fed_whole, few_marked, few_whole, number_more}
 use Rattle.show_verify.proofs.verifying.take_second.Goals as goal
 
-pub bytes-init : goal.bytes-init
-bytes-init g c = record {
+pub pieces-init : goal.pieces-init
+pieces-init g c = record {
   feeds = record { fed = []; count = refl; has_read = c.requires.unfed; number_is = refl; is_fed = fed_none c.part_law.ensures _ _ c.requires.at_line };
   most = omega arith;
   small = omega arith;
@@ -19,87 +19,83 @@ bytes-init g c = record {
   later = omega arith;
 }
 
-pub feed-requires : goal.feed-requires
-feed-requires g c = (c.bytes.invariant.feeds.fed, omega (arith, c.bytes.invariant.feeds.count), c.bytes.invariant.feeds.has_read)
+pub returns-then-more-count-clause-gives : goal.returns-then-more-count-clause-gives
+returns-then-more-count-clause-gives g c =
+    let f = c.pieces.invariant.feeds in
+    let waiting = c.part_bytes.new.self.waiting in
+    let within = rw c.in-Bytes.is at c.in_ok-ask.ensures.within in
+    let sized : length (take c.in-Bytes.more waiting) ≡ c.in-Bytes.more = length-take-le c.in-Bytes.more waiting within.1 in
+    let over : 400000000 < length (f.fed ++ take c.in-Bytes.more waiting) = omega (arith, c.if-more-count.true, f.count, c.pieces.invariant.most, sized, length-append f.fed (take c.in-Bytes.more waiting)) in
+    fed_over 400000000 (stream c.args.parts.now (g.S.Source.left c.args.source.now)) _ _ _ over
+    (fed_more (stream c.args.parts.now (g.S.Source.left c.args.source.now)) c.pieces.parts.at_line (stream c.pieces.parts (g.S.Source.left c.pieces.source)) f.fed waiting (g.S.Source.left c.part_bytes.new.source) c.in-Bytes.more f.is_fed (rw c.in-Bytes.is at c.in_ok-ask.ensures.asks))
 
-pub bytes-preserved : goal.bytes-preserved
-bytes-preserved g c =
-    let fed = c.bytes.invariant.feeds.fed in
-    let short : length fed < 400000000 = omega (arith, c.bytes.invariant.feeds.count) in
-    let line : c.part_byte.new.self.at_line ≡ (c.in-Byte.b == 10) = rw c.in-Byte.is at c.in_ok-ask.ensures.line in
-    let coming = stream c.args.parts.now (g.S.Source.left c.args.source.now) in
-    let new = stream c.part_byte.new.self (g.S.Source.left c.part_byte.new.source) in
+pub pieces-preserved : goal.pieces-preserved
+pieces-preserved g c =
+    let f = c.pieces.invariant.feeds in
+    let waiting = c.part_bytes.new.self.waiting in
+    let piece = take c.in-Bytes.more waiting in
+    let within = rw c.in-Bytes.is at c.in_ok-ask.ensures.within in
+    let sized : length piece ≡ c.in-Bytes.more = length-take-le c.in-Bytes.more waiting within.1 in
+    let short : length f.fed + length piece ≤ 400000000 = omega (arith, c.if-more-count.false, f.count, c.pieces.invariant.most, sized) in
+    let line : c.consume.new.self.at_line ≡ begins_after c.pieces.parts.at_line piece = c.consume.ensures.line ∙ ap (λ (b : Bool). begins_after b piece) (rw c.in-Bytes.is at c.in_ok-ask.ensures.line) in
+    let feeds : c.feeds-line.result ≤ length piece = rw c.waiting.ensures.value at c.feeds-line.ensures.most in
     record {
       feeds = record {
-        fed = fed ++ c.in-Byte.b ∷ [];
-        count = omega (arith, c.bytes.invariant.feeds.count, length-append fed (c.in-Byte.b ∷ []));
-        has_read = c.feed.ensures.has_read fed short c.bytes.invariant.feeds.has_read;
-        number_is = c.line_after-line.ensures.exact ∙ number_more fed c.in-Byte.b c.bytes.line c.bytes.invariant.feeds.number_is;
-        is_fed = subst (λ (at_line : Bool). IfSome coming (λ all. IsFed all at_line new (fed ++ c.in-Byte.b ∷ []))) (sym line)
-            (fed_more coming c.bytes.parts.at_line (stream c.bytes.parts (g.S.Source.left c.bytes.source)) new fed c.in-Byte.b c.bytes.invariant.feeds.is_fed (rw c.in-Byte.is at c.in_ok-ask.ensures.asks));
+        fed = f.fed ++ piece;
+        count = omega (arith, f.count, sized, length-append f.fed piece);
+        has_read = (rw c.waiting.ensures.value at c.feed.ensures.has_read) f.fed short f.has_read;
+        number_is = number_more f.fed piece c.pieces.line c.feeds-line.result f.number_is (rw c.waiting.ensures.value at c.feeds-line.ensures.exact);
+        is_fed = rw (line, c.consume.ensures.waiting)
+            (fed_more (stream c.args.parts.now (g.S.Source.left c.args.source.now)) c.pieces.parts.at_line (stream c.pieces.parts (g.S.Source.left c.pieces.source)) f.fed waiting (g.S.Source.left c.part_bytes.new.source) c.in-Bytes.more f.is_fed (rw c.in-Bytes.is at c.in_ok-ask.ensures.asks));
       };
-      most = omega arith;
-      small = omega (arith, c.line_after-line.ensures.most);
-      clearance = c.feed.ensures.clearance ∙ c.bytes.invariant.clearance;
-      sound = c.in_ok-ask.ensures.sound;
-      lines = c.part_byte.ensures.lines ∙ c.bytes.invariant.lines;
-      at_end = c.part_byte.ensures.at_end;
-      left = TakesFront-trans _ _ _ c.bytes.invariant.left c.part_byte.ensures.left;
-      later = omega (arith, c.part_byte.ensures.cause.later);
+      most = omega (arith, c.if-more-count.false, c.pieces.invariant.most);
+      small = omega (arith, feeds, sized, c.pieces.invariant.small);
+      clearance = c.feed.ensures.clearance ∙ c.pieces.invariant.clearance;
+      sound = c.consume.ensures.sound ∙ c.in_ok-ask.ensures.sound;
+      lines = c.consume.ensures.lines ∙ c.part_bytes.ensures.lines ∙ c.pieces.invariant.lines;
+      at_end = λ ended. c.part_bytes.ensures.at_end (rw c.consume.ensures.ended at ended);
+      left = TakesFront-trans _ _ _ c.pieces.invariant.left c.part_bytes.ensures.left;
+      later = omega (arith, c.part_bytes.ensures.cause.later, c.pieces.invariant.later);
     }
 
 pub returns-in-Marker-clause-gives : goal.returns-in-Marker-clause-gives
-returns-in-Marker-clause-gives g c = (
-  c.bytes.invariant.feeds.fed,
-  omega (arith, c.bytes.invariant.feeds.count),
-  c.bytes.invariant.feeds.has_read,
-  fed_marked _ c.bytes.parts.at_line (stream c.bytes.parts (g.S.Source.left c.bytes.source)) (stream c.part_byte.new.self (g.S.Source.left c.part_byte.new.source))
-      c.bytes.invariant.feeds.fed c.bytes.line c.bytes.invariant.feeds.number_is c.bytes.invariant.feeds.is_fed (rw c.in-Marker.is at c.in_ok-ask.ensures.asks),
-)
-
-pub returns-in-End-clause-gives : goal.returns-in-End-clause-gives
-returns-in-End-clause-gives g c = (
-  c.bytes.invariant.feeds.fed,
-  omega (arith, c.bytes.invariant.feeds.count),
-  c.bytes.invariant.feeds.has_read,
-  fed_whole _ c.bytes.parts.at_line (stream c.bytes.parts (g.S.Source.left c.bytes.source)) (stream c.part_byte.new.self (g.S.Source.left c.part_byte.new.source))
-      c.bytes.invariant.feeds.fed c.bytes.invariant.feeds.is_fed (rw c.in-End.is at c.in_ok-ask.ensures.asks),
-)
-
-pub returns-clause-gives : goal.returns-clause-gives
-returns-clause-gives g c =
-    let coming = stream c.args.parts.now (g.S.Source.left c.args.source.now) in
-    let now = stream c.bytes.parts (g.S.Source.left c.bytes.source) in
-    let full : c.bytes.count ≡ 400000000 = omega (arith, c.bytes-test.false) in
-    subst (λ (t : Taken). TakenGives c.args.curves.now coming c.bytes.checker t) (sym c.ended.ensures)
-    (ended_gives c.args.curves.now coming c.bytes.checker c.bytes.parts.at_line now (stream c.part_byte-2.new.self (g.S.Source.left c.part_byte-2.new.source)) c.bytes.line
-    (subst (λ (n : ℕ). Feeds c.args.curves.now coming n c.bytes.checker c.bytes.parts.at_line now c.bytes.line) full c.bytes.invariant.feeds) c.in_ok-last.last c.in_ok-last.ensures.asks)
-
-pub returns-in_err-ask-clause-left : goal.returns-in_err-ask-clause-left
-returns-in_err-ask-clause-left g c = TakesFront-trans _ _ _ c.bytes.invariant.left c.part_byte.ensures.left
-
-pub returns-in-Marker-clause-left : goal.returns-in-Marker-clause-left
-returns-in-Marker-clause-left g c = TakesFront-trans _ _ _ c.bytes.invariant.left c.part_byte.ensures.left
-
-pub returns-in_err-last-clause-left : goal.returns-in_err-last-clause-left
-returns-in_err-last-clause-left g c = TakesFront-trans _ _ _ c.bytes.invariant.left c.part_byte-2.ensures.left
-
-pub returns-clause-left : goal.returns-clause-left
-returns-clause-left g c = TakesFront-trans _ _ _ c.bytes.invariant.left c.part_byte-2.ensures.left
+returns-in-Marker-clause-gives g c =
+    let f = c.pieces.invariant.feeds in (
+      f.fed,
+      omega (arith, f.count, c.pieces.invariant.most),
+      f.has_read,
+      fed_marked (stream c.args.parts.now (g.S.Source.left c.args.source.now)) c.pieces.parts.at_line (stream c.pieces.parts (g.S.Source.left c.pieces.source)) f.fed c.part_bytes.new.self.waiting (g.S.Source.left c.part_bytes.new.source)
+          c.pieces.line f.number_is f.is_fed (rw c.in-Marker.is at c.in_ok-ask.ensures.asks),
+    )
 
 pub returns-in-Marker-clause-few : goal.returns-in-Marker-clause-few
 returns-in-Marker-clause-few g c =
-    few_marked _ c.bytes.parts.at_line (stream c.bytes.parts (g.S.Source.left c.bytes.source)) c.bytes.invariant.feeds.fed c.part_byte.new.self _ c.bytes.invariant.feeds.is_fed
-    (rw c.in-Marker.is at c.in_ok-ask.ensures.asks) c.part_byte.ensures.most
+    few_marked (stream c.args.parts.now (g.S.Source.left c.args.source.now)) c.pieces.parts.at_line (stream c.pieces.parts (g.S.Source.left c.pieces.source)) c.pieces.invariant.feeds.fed c.part_bytes.new.self.waiting (g.S.Source.left c.part_bytes.new.source) c.pieces.invariant.feeds.is_fed
+    (rw c.in-Marker.is at c.in_ok-ask.ensures.asks) c.part_bytes.ensures.most
+
+pub returns-in-End-clause-gives : goal.returns-in-End-clause-gives
+returns-in-End-clause-gives g c =
+    let f = c.pieces.invariant.feeds in (
+      f.fed,
+      omega (arith, f.count, c.pieces.invariant.most),
+      f.has_read,
+      fed_whole (stream c.args.parts.now (g.S.Source.left c.args.source.now)) c.pieces.parts.at_line (stream c.pieces.parts (g.S.Source.left c.pieces.source)) f.fed c.part_bytes.new.self.waiting (g.S.Source.left c.part_bytes.new.source)
+          f.is_fed (rw c.in-End.is at c.in_ok-ask.ensures.asks),
+    )
 
 pub returns-in-End-clause-few : goal.returns-in-End-clause-few
 returns-in-End-clause-few g c =
-    few_whole _ c.bytes.parts.at_line (stream c.bytes.parts (g.S.Source.left c.bytes.source)) c.bytes.invariant.feeds.fed c.part_byte.new.self _ c.bytes.invariant.feeds.is_fed
-    (rw c.in-End.is at c.in_ok-ask.ensures.asks) c.part_byte.ensures.most
+    few_whole (stream c.args.parts.now (g.S.Source.left c.args.source.now)) c.pieces.parts.at_line (stream c.pieces.parts (g.S.Source.left c.pieces.source)) c.pieces.invariant.feeds.fed c.part_bytes.new.self.waiting (g.S.Source.left c.part_bytes.new.source) c.pieces.invariant.feeds.is_fed
+    (rw c.in-End.is at c.in_ok-ask.ensures.asks) c.part_bytes.ensures.most
 
-pub returns-clause-few : goal.returns-clause-few
-returns-clause-few g c =
-    let coming = stream c.args.parts.now (g.S.Source.left c.args.source.now) in
-    subst (λ (t : Taken). IsFewTaken coming (g.S.Source.left c.part_byte-2.new.source) t) (sym c.ended.ensures)
-    (ended_few coming c.bytes.parts.at_line (stream c.bytes.parts (g.S.Source.left c.bytes.source)) c.bytes.invariant.feeds.fed c.part_byte-2.new.self _ c.bytes.line c.bytes.invariant.feeds.is_fed
-    c.in_ok-last.last c.in_ok-last.ensures.asks c.part_byte-2.ensures.most)
+pub returns-in_err-ask-clause-left : goal.returns-in_err-ask-clause-left
+returns-in_err-ask-clause-left g c = TakesFront-trans _ _ _ c.pieces.invariant.left c.part_bytes.ensures.left
+
+pub returns-then-more-count-clause-left : goal.returns-then-more-count-clause-left
+returns-then-more-count-clause-left g c = TakesFront-trans _ _ _ c.pieces.invariant.left c.part_bytes.ensures.left
+
+pub returns-in-Marker-clause-left : goal.returns-in-Marker-clause-left
+returns-in-Marker-clause-left g c = TakesFront-trans _ _ _ c.pieces.invariant.left c.part_bytes.ensures.left
+
+pub returns-in-End-clause-left : goal.returns-in-End-clause-left
+returns-in-End-clause-left g c = TakesFront-trans _ _ _ c.pieces.invariant.left c.part_bytes.ensures.left

@@ -6,8 +6,8 @@ use Rattle.fleet_io.specs.Taken.{TakesFront}
 use Rattle.show_verify.specs.SecondTexts.{Feeds}
 use Rattle.show_verify.proofs.verifying.take_second.Given as goal
 
-abbrev pub invariant-bytes : goal.invariant-bytes
-invariant-bytes g l = record {
+abbrev pub invariant-pieces : goal.invariant-pieces
+invariant-pieces g l = record {
   feeds : Feeds l.curves (stream l.initial.parts (g.S.Source.left l.initial.source)) l.count l.checker l.parts.at_line (stream l.parts (g.S.Source.left l.source)) l.line;
   most : l.count ≤ 400000000;
   small : l.line ≤ 1 + l.count;
@@ -19,5 +19,5 @@ invariant-bytes g l = record {
   later : g.S.Source.faults l.initial.source ≤ g.S.Source.faults l.source;
 }
 
-abbrev pub decreases-bytes : goal.decreases-bytes
-decreases-bytes g l = 400000000 - l.count
+abbrev pub decreases-pieces : goal.decreases-pieces
+decreases-pieces g l = 400000000 - l.count

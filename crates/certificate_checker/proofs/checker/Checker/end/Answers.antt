@@ -4,12 +4,13 @@ use Rattle.certificate_checker.specs.Bytes.{Seen, most_bytes}
 use Rattle.certificate_checker.specs.Checking.{closed, verdict_of}
 use Rattle.certificate_checker.specs.Judgments.{AreFew}
 use Rattle.certificate_checker.proofs.Bytes.{few_of, named_told, safe_told, verdict_told}
+use Rattle.certificate_checker.proofs.Few.{few_within}
 use Rattle.certificate_checker.proofs.checker.Checker.end.Goals as goal
 
 pub verdict-requires-clause-few : goal.verdict-requires-clause-few
 verdict-requires-clause-few c =
     subst (λ (s : Seen). AreFew most_bytes s.checking.reading) (sym c.self.view_is)
-    (few_of c.args.self.now c.args.curves.now c.requires.0 c.requires.1 c.requires.2)
+    (few_within _ most_bytes _ c.requires.1 (few_of c.args.self.now c.args.curves.now c.requires.0 c.requires.2))
 
 pub returns-clause-gives : goal.returns-clause-gives
 returns-clause-gives c = grind (arith, common_steps, verdict_told)

@@ -1,18 +1,21 @@
-use Rattle.std.proofs.Common.{◌≡◌, ap, arith, sym, subst}
-use Rattle.certificate_checker.specs.Bytes.{Seen, most_bytes}
-use Rattle.certificate_checker.specs.Checking.{checked}
+use Rattle.std.proofs.Common.{◌≡◌, ap, length, sym, subst}
+use Rattle.certificate_checker.specs.Bytes.{Seen}
+use Rattle.certificate_checker.specs.Checking.{checked_all}
 use Rattle.certificate_checker.specs.Judgments.{AreFew}
 use Rattle.certificate_checker.specs.Steps.{checking_of}
 use Rattle.certificate_checker.proofs.Bytes.{few_of, next_of, read_more}
 use Rattle.certificate_checker.proofs.checker.Checker.feed.Goals as goal
 
-pub take-requires-clause-few : goal.take-requires-clause-few
-take-requires-clause-few c =
-    subst (λ (s : Seen). AreFew most_bytes s.checking.reading) (sym c.self.view_is)
-    (few_of c.args.self.now c.args.curves.now c.requires.0 (omega (arith, c.requires.1)) c.requires.2)
+pub take_all-requires-clause-few : goal.take_all-requires-clause-few
+take_all-requires-clause-few c =
+    let read = c.requires.0 in (
+      length read,
+      c.requires.1,
+      subst (λ (s : Seen). AreFew (length read) s.checking.reading) (sym c.self.view_is) (few_of c.args.self.now c.args.curves.now read c.requires.2),
+    )
 
 pub returns-clause-has_read : goal.returns-clause-has_read
-returns-clause-has_read c = λ bytes short has_read.
-    read_more c.args.self.now _ c.args.curves.now bytes c.args.byte (ap (λ (s : Seen). s.clearance) c.self.view_is) has_read
-    (subst (λ (s : Seen). checking_of c.take.new.self ≡ checked s.clearance c.args.curves.now s.checking c.args.byte) c.self.view_is c.take.ensures.read)
-    (next_of c.args.curves.now c.take.new.self.reader c.take.ensures.reader)
+returns-clause-has_read c = λ read short has_read.
+    read_more c.args.self.now _ c.args.curves.now read c.args.bytes.now (ap (λ (s : Seen). s.clearance) c.self.view_is) has_read
+    (subst (λ (s : Seen). checking_of c.take_all.new.self ≡ checked_all s.clearance c.args.curves.now s.checking c.args.bytes.now) c.self.view_is c.take_all.ensures.read)
+    (next_of c.args.curves.now c.take_all.new.self.reader c.take_all.ensures.reader)

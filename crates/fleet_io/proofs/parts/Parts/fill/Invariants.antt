@@ -1,7 +1,7 @@
 use Rattle.std.proofs.Common.{◌≡◌, false, ◌-◌, cond, length}
 use Rattle.std.specs.Io.KnownBytes.{Keeps}
 use Rattle.fleet_io.specs.Held.{stream}
-use Rattle.fleet_io.specs.PartBytes.{may_be_marker}
+use Rattle.fleet_io.specs.PartBytes.{is_untold}
 use Rattle.fleet_io.specs.Steps.{Goes}
 use Rattle.fleet_io.proofs.parts.Parts.fill.Given as goal
 
@@ -10,7 +10,7 @@ invariant-reads g l = record {
   keeps : Keeps (stream l.initial.self (g.S.Source.left l.initial.source)) (stream l.self (g.S.Source.left l.source));
   goes : Goes l.initial.self l.self (g.S.Source.left l.initial.source) (g.S.Source.left l.source) (g.S.Source.faults l.initial.source) (g.S.Source.faults l.source);
   at_line : l.self.at_line ≡ l.initial.self.at_line;
-  unasked : may_be_marker l.initial.self.waiting ≡ false →
+  unasked : is_untold l.initial.self.at_line l.initial.self.waiting ≡ false →
       (l.self.waiting ≡ l.initial.self.waiting) × (g.S.Source.left l.source ≡ g.S.Source.left l.initial.source) × (g.S.Source.faults l.source ≡ g.S.Source.faults l.initial.source);
 }
 

@@ -1,0 +1,7 @@
+use Rattle.std.proofs.lemmas.Grind.{common_steps}
+use Rattle.std.proofs.Common.{cond, arith}
+use Rattle.show_verify.proofs.SecondLemmas.{feeds_next}
+use Rattle.show_verify.proofs.verifying.feeds.Goals as goal
+
+pub loop-b-preserved : goal.loop-b-preserved
+loop-b-preserved c = grind (arith, common_steps, cond, feeds_next)

@@ -1,0 +1,6 @@
+use Rattle.std.proofs.Common.{◌≡◌, ◌≤◌, take}
+use Rattle.show_judge.specs.Shows.{feeds}
+use Rattle.show_verify.proofs.verifying.feeds.Given as goal
+
+abbrev pub invariant-loop-b : goal.invariant-loop-b
+invariant-loop-b l = (l.count ≡ feeds (take l.b-index l.bytes)) × (l.count ≤ l.b-index)
