@@ -1,18 +1,7 @@
 -- Products and their sums that fit an `i128`.
-use Rattle.std.proofs.lemmas.Grind.{common_steps}
-use Rattle.std.proofs.Common.{◌≡◌, ℕ, ◌^◌, ◌<◌, ◌≤◌, ◌+◌, ℤ, pos, ◌+ℤ◌, ◌-ℤ◌, ◌*ℤ◌, ◌<ℤ◌, ◌≤ℤ◌, neg_ℤ, FitsSigned, to_z, arith, refl, sym, ◌∙◌, ap}
-use Rattle.std.proofs.lemmas.Int.{ints, to_z_pos}
-use mir.Syntax.{w128}
-use Rattle.fleet_math.proofs.RingLemmas.{ring, linear, le_mul_ℤ, mul_comm_ℤ, mul_neg_ℤ, mul_left_comm_ℤ}
-use Rattle.std.proofs.Common.{zero, suc, ◌*◌, negsuc, lit<}
-use Rattle.std.proofs.lemmas.Nat.{mul-le}
-use Rattle.fleet_math.specs.Numbers.{IsBelow}
-use Rattle.fleet_math.specs.Sums.{power}
-use Rattle.fleet_math.specs.Bernstein.{bernstein}
-use Rattle.fleet_math.proofs.BernsteinLemmas.{bernstein-same, bernstein-step}
+use Rattle.bezier_core.proofs.Prelude.{common_steps, ◌≡◌, ℕ, ◌^◌, ◌<◌, ◌≤◌, ◌+◌, ℤ, pos, ◌+ℤ◌, ◌-ℤ◌, ◌*ℤ◌, ◌<ℤ◌, ◌≤ℤ◌, neg_ℤ, FitsSigned, to_z, arith, refl, sym, ◌∙◌, ap, ints, to_z_pos, w128, ring, linear, le_mul_ℤ, mul_comm_ℤ, mul_neg_ℤ, mul_left_comm_ℤ, zero, suc, ◌*◌, negsuc, lit<, mul-le, IsBelow, power, bernstein, bernstein-same, bernstein-step, IsWithin, FitsTimes}
 use Rattle.std.proofs.Math.Nat.{pow-zero, pow-succ', pow-le-pow_left, pow-le-pow_right}
 use Rattle.bezier_core.specs.Curves.{IsLength}
-use Rattle.bezier_core.specs.Steps.{IsWithin, FitsTimes}
 
 -- a product by a factor that is not negative keeps a bound
 pub within_mul : (a m x : ℤ) → pos 0 ≤ℤ a → IsWithin m x → IsWithin (a *ℤ m) (a *ℤ x)

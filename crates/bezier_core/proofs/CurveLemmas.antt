@@ -1,12 +1,5 @@
 -- The laws of curves, over lists.
-use Rattle.std.proofs.Common.{◌≡◌, ℕ, suc, ◌≤◌, ◌-◌, ℤ, pos, ◌+ℤ◌, ◌*ℤ◌, ◌≤ℤ◌, arith, refl, ◌∙◌, List, [], ◌∷◌, length, All}
-use Rattle.std.proofs.lemmas.Grind.{common_steps}
-use Rattle.std.proofs.lemmas.List.Elements.{All-get_or}
-use Rattle.fleet_math.specs.Sums.{power}
-use Rattle.fleet_math.proofs.RingLemmas.{linear}
-use Rattle.fleet_math.specs.Bernstein.{at, bern, bernstein}
-use Rattle.fleet_math.proofs.BernsteinLemmas.{bernstein-at_least, bernstein-same, bernstein-add, bernstein-scale, bernstein-mix}
-use Rattle.bezier_core.specs.Raised.{eight, raised, raised_value}
+use Rattle.bezier_core.proofs.Prelude.{◌≡◌, ℕ, suc, ◌≤◌, ◌-◌, ℤ, pos, ◌+ℤ◌, ◌*ℤ◌, ◌≤ℤ◌, arith, refl, ◌∙◌, List, [], ◌∷◌, length, All, common_steps, All-get_or, power, linear, at, bern, bernstein, bernstein-at_least, bernstein-same, bernstein-add, bernstein-scale, bernstein-mix, eight, raised, raised_value}
 use Rattle.bezier_core.proofs.RaisedLemmas.{bernstein-raised}
 
 -- an entry of the eight values of f

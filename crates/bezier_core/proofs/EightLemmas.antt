@@ -1,19 +1,6 @@
 -- Lists of eight control values, entry by entry.
-use Rattle.std.proofs.lemmas.Grind.{common_steps}
-use Rattle.std.proofs.Common.{◌≡◌, ℕ, ◌<◌, ◌≤◌, ◌^◌, ℤ, pos, ◌+ℤ◌, ◌-ℤ◌, ◌*ℤ◌, FitsSigned, to_z, of_z, arith, refl, ◌∙◌, List, [], ◌∷◌, length, All}
-use Rattle.std.proofs.lemmas.Int.{ints}
-use Rattle.std.proofs.Common.{◌*◌, unsigned_abs, lit<}
-use Rattle.std.proofs.lemmas.Int.{unsigned_abs-mul}
-use Rattle.std.proofs.lemmas.Nat.{mul-le}
+use Rattle.bezier_core.proofs.Prelude.{common_steps, ◌≡◌, ℕ, ◌<◌, ◌≤◌, ◌^◌, ℤ, pos, ◌+ℤ◌, ◌-ℤ◌, ◌*ℤ◌, FitsSigned, to_z, of_z, arith, refl, ◌∙◌, List, [], ◌∷◌, length, All, ints, ◌*◌, unsigned_abs, lit<, unsigned_abs-mul, mul-le, All-get_or, Bez, controls, by_lt, w128, at, IsBelow, eight}
 use Rattle.std.proofs.lemmas.List.{get_or_past}
-use Rattle.std.proofs.lemmas.List.Elements.{All-get_or}
-use Rattle.bezier_core.specs.declared.Bez.{Bez}
-use Rattle.bezier_core.specs.Along.{controls}
-use Rattle.fleet_math.proofs.BernsteinLemmas.{by_lt}
-use mir.Syntax.{w128}
-use Rattle.fleet_math.specs.Bernstein.{at}
-use Rattle.fleet_math.specs.Numbers.{IsBelow}
-use Rattle.bezier_core.specs.Raised.{eight}
 
 pub same_eight : (f g : ℕ → ℤ) → ((k : ℕ) → k < 8 → f k ≡ g k) → eight f ≡ eight g
 same_eight f g same = grind (arith, common_steps)

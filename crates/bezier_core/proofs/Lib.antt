@@ -1,3 +1,4 @@
+mod Prelude
 pub mod BlendLemmas
 pub mod RaisedLemmas
 pub mod EightLemmas

@@ -1,6 +1,5 @@
 -- Values of the definitions, computed here and compared with numbers that were computed elsewhere.
-use Rattle.std.proofs.Common.{◌≡◌, pos, negsuc, [], ◌∷◌, refl}
-use Rattle.bezier_core.specs.Raised.{raised, raised_value}
+use Rattle.bezier_core.proofs.Prelude.{◌≡◌, pos, negsuc, [], ◌∷◌, refl, raised, raised_value}
 
 -- a cubic, raised
 cubic-row : raised (pos 5 ∷ negsuc 2 ∷ pos 100 ∷ negsuc 6 ∷ [])

@@ -1,16 +1,5 @@
 -- How a bound on control values grows.
-use Rattle.std.proofs.lemmas.Grind.{common_steps}
-use Rattle.std.proofs.Common.{◌≡◌, ℕ, ◌*◌, ◌-◌, ◌≤◌, ℤ, pos, ◌+ℤ◌, ◌-ℤ◌, ◌*ℤ◌, unsigned_abs, ◌+◌, arith, refl, sym, subst, ◌∙◌, ap, List, All, length, lit<}
-use Rattle.std.proofs.lemmas.Int.{ints, unsigned_abs-mul}
-use Rattle.std.proofs.lemmas.Nat.{mul-le}
-use Rattle.std.proofs.lemmas.List.Elements.{All-from_get_or}
-use Rattle.fleet_math.specs.Bernstein.{at}
-use Rattle.fleet_math.specs.Numbers.{IsBelow}
-use Rattle.fleet_math.proofs.RingLemmas.{linear, mul_assoc_ℤ}
-use Rattle.bezier_core.specs.declared.Bez.{Bez}
-use Rattle.bezier_core.specs.Along.{along_value, controls}
-use Rattle.bezier_core.specs.Raised.{eight, fact, raised, raised_value}
-use Rattle.bezier_core.specs.Steps.{IsWithin}
+use Rattle.bezier_core.proofs.Prelude.{common_steps, ◌≡◌, ℕ, ◌*◌, ◌-◌, ◌≤◌, ℤ, pos, ◌+ℤ◌, ◌-ℤ◌, ◌*ℤ◌, unsigned_abs, ◌+◌, arith, refl, sym, subst, ◌∙◌, ap, List, All, length, lit<, ints, unsigned_abs-mul, mul-le, All-from_get_or, at, IsBelow, linear, mul_assoc_ℤ, Bez, along_value, controls, eight, fact, raised, raised_value, IsWithin}
 use Rattle.bezier_core.proofs.BlendLemmas.{within_mul}
 use Rattle.bezier_core.proofs.CurveLemmas.{at-eight}
 use Rattle.bezier_core.proofs.EightLemmas.{below_at, controls_below}

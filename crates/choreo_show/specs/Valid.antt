@@ -41,7 +41,8 @@ FitsFrame f = (f.turns ≤ 3) × FitsCoordinate f.dx × FitsCoordinate f.dy × F
 
 -- a line with a first word of its own: its values are as its row wants them, and so many names stand after them
 abbrev pub FitsLine : Entry → Type 0
-FitsLine e = IsTrue (has_count (row_of (keyword_in e)) (length (fields_of e))) × AllFit (row_of (keyword_in e)).places (fields_of e)
+FitsLine e =
+    IsTrue (has_count (row_of (keyword_in e)) (length (fields_of e))) × AllFit (row_of (keyword_in e)).places (fields_of e)
 
 -- an act line
 abbrev pub FitsActLine : ActLine → Type 0
@@ -74,7 +75,8 @@ FitFormations (f ∷ fs) = IsName f.name × (1 ≤ length f.places) × FitDroneL
 abbrev pub FitFigures : List PlainFigure → Type 0
 FitFigures [] = Unit {0}
 FitFigures (f ∷ fs) =
-    FitsLine (entry.Figure f.name f.roles) × IsTrue (has_block f.body) × IsTrue (is_filled f.body) × (depth f.body ≤ most_nested) × IsTrue (fits_figure f.body)
+    FitsLine (entry.Figure f.name f.roles)
+    × IsTrue (has_block f.body) × IsTrue (is_filled f.body) × (depth f.body ≤ most_nested) × IsTrue (fits_figure f.body)
     × FitsBody f.body × FitFigures fs
 
 -- settings in their ranges

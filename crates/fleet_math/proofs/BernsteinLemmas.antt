@@ -1,10 +1,6 @@
 -- Laws of Bernstein sums of any degree. Each goes by a step of one degree.
-use Rattle.std.proofs.Common.{◌≡◌, ℕ, zero, suc, ◌<◌, ◌≤◌, ◌-◌, ℤ, pos, ◌+ℤ◌, ◌-ℤ◌, ◌*ℤ◌, ◌≤ℤ◌, arith, refl, sym, ◌∙◌, ap}
-use Rattle.std.proofs.lemmas.Int.{ints}
+use Rattle.fleet_math.proofs.Prelude.{◌≡◌, ℕ, zero, suc, ◌<◌, ◌≤◌, ◌-◌, ℤ, pos, ◌+ℤ◌, ◌-ℤ◌, ◌*ℤ◌, ◌≤ℤ◌, arith, refl, sym, ◌∙◌, ap, ints, inl, inr, sum_below, power, choose, weight, bernstein}
 use Rattle.std.proofs.lemmas.Bool.{cases_lt}
-use Rattle.std.proofs.Common.{inl, inr}
-use Rattle.fleet_math.specs.Sums.{sum_below, power}
-use Rattle.fleet_math.specs.Bernstein.{choose, weight, bernstein}
 use Rattle.fleet_math.proofs.RingLemmas.{ring, linear, mul_add_ℤ, zero_mul_ℤ, mul_zero_ℤ, mul_comm_ℤ, mul_left_comm_ℤ, le_mul_ℤ, one_mul_ℤ, add_mul_ℤ, mul_assoc_ℤ}
 use Rattle.fleet_math.proofs.SumLemmas.{sum_below-same, sum_below-add, sum_below-scale, sum_below-first}
 

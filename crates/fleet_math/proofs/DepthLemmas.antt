@@ -1,5 +1,5 @@
 -- Depths, for walks down the halves.
-use Rattle.std.proofs.Common.{◌≡◌, ◌≢◌, ℕ, suc, ◌-◌, ◌≤◌, arith}
+use Rattle.fleet_math.proofs.Prelude.{◌≡◌, ◌≢◌, ℕ, suc, ◌-◌, ◌≤◌, arith}
 
 -- the number of a depth is at most 8
 pub shallow : {n depth : ℕ} → n ≡ depth → n ≤ 8 → depth ≤ 8

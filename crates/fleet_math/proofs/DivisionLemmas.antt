@@ -1,10 +1,5 @@
 -- Floors of quotients, and roots, over whole numbers.
-use Rattle.std.proofs.Common.{◌≡◌, ◌<◌, ℤ, pos, ◌+ℤ◌, ◌-ℤ◌, ◌*ℤ◌, ◌<ℤ◌, ◌≤ℤ◌, neg_ℤ, unsigned_abs, int_div, int_rem, arith, sym, ◌∙◌, ap}
-use Rattle.std.proofs.lemmas.Int.{ints, by_lt_z, quot-rem, rem_below, quot_fits, fits_signed_mul, to_z-of_z}
-use Rattle.std.proofs.Common.{true, false, to_z, of_z, lit<}
-use lib.Signed.{le_z}
-use Rattle.std.proofs.Common.{FitsSigned, ◌^◌}
-use mir.Syntax.{w128}
+use Rattle.fleet_math.proofs.Prelude.{◌≡◌, ◌<◌, ℤ, pos, ◌+ℤ◌, ◌-ℤ◌, ◌*ℤ◌, ◌<ℤ◌, ◌≤ℤ◌, neg_ℤ, unsigned_abs, int_div, int_rem, arith, sym, ◌∙◌, ap, ints, by_lt_z, quot-rem, rem_below, quot_fits, fits_signed_mul, to_z-of_z, true, false, to_z, of_z, lit<, le_z, FitsSigned, ◌^◌, w128}
 use Rattle.fleet_math.proofs.RingLemmas.{linear, le_mul_ℤ, le_mul_pos, mul_comm_ℤ, add_mul_ℤ}
 
 -- a positive factor is cancelled from an order

@@ -1,11 +1,5 @@
 -- At an edge of a trajectory both neighbouring pieces give the same position.
-use Rattle.std.proofs.Common.{◌≡◌, ℕ, zero, suc, ◌+◌, ◌-◌, ◌*◌, ◌≤◌, ◌<◌, ℤ, pos, ◌*ℤ◌, true, false, nat_le, arith, refl, sym, ◌∙◌, ap, List, [], ◌∷◌, length, All, get_or, zero-add}
-use Rattle.std.proofs.lemmas.Bool.Decides.{nat_tests}
-use Rattle.std.proofs.lemmas.List.Elements.{All-nil, All-cons, All-head, All-tail}
-use Rattle.fleet_math.specs.Sums.{power}
-use Rattle.fleet_math.specs.Bernstein.{at}
-use Rattle.fleet_math.specs.Moments.{moment, moment_from, moment_in, time_before, edge}
-use Rattle.fleet_math.specs.Decoded.{Piece, IsPiece, last_value, points, durations, decoded, IsSamePosition}
+use Rattle.fleet_math.proofs.Prelude.{◌≡◌, ℕ, zero, suc, ◌+◌, ◌-◌, ◌*◌, ◌≤◌, ◌<◌, ℤ, pos, ◌*ℤ◌, true, false, nat_le, arith, refl, sym, ◌∙◌, ap, List, [], ◌∷◌, length, All, get_or, zero-add, nat_tests, All-nil, All-cons, All-head, All-tail, power, at, moment, moment_from, moment_in, time_before, edge, Piece, IsPiece, last_value, points, durations, decoded, IsSamePosition}
 use Rattle.fleet_math.proofs.RingLemmas.{mul_left_comm_ℤ, mul_assoc_ℤ}
 use Rattle.fleet_math.proofs.SumLemmas.{power-add}
 use Rattle.fleet_math.proofs.BernsteinLemmas.{bernstein-at_zero, bernstein-at_end}

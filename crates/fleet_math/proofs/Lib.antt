@@ -1,3 +1,4 @@
+mod Prelude
 pub mod RingLemmas
 pub mod SumLemmas
 pub mod BernsteinLemmas

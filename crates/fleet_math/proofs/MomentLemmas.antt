@@ -1,9 +1,6 @@
 -- An instant of a row of durations lies in one of them.
-use Rattle.std.proofs.Common.{◌≡◌, ℕ, suc, ◌+◌, ◌-◌, ◌*◌, ◌≤◌, ◌<◌, Bool, true, false, cond, nat_le, arith, refl, List, [], ◌∷◌, length, All, sum}
-use Rattle.std.proofs.lemmas.Bool.Decides.{nat_tests}
-use Rattle.std.proofs.lemmas.List.Elements.{All-head, All-tail}
+use Rattle.fleet_math.proofs.Prelude.{◌≡◌, ℕ, suc, ◌+◌, ◌-◌, ◌*◌, ◌≤◌, ◌<◌, Bool, true, false, cond, nat_le, arith, refl, List, [], ◌∷◌, length, All, sum, nat_tests, All-head, All-tail, Moment, moment, moment_from}
 use Rattle.std.proofs.lemmas.List.Sums.{sum_by-cons}
-use Rattle.fleet_math.specs.Moments.{Moment, moment, moment_from}
 
 -- the moment lies in one of the cues below n
 pub record IsInside (n : ℕ) (m : Moment) : Type 0 where

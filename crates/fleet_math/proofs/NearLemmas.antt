@@ -1,6 +1,5 @@
 -- Nearness by another cutting into segments.
-use Rattle.std.proofs.Common.{◌≡◌, ℤ, pos, ◌+ℤ◌, ◌-ℤ◌, ◌*ℤ◌, ◌≤ℤ◌, arith, refl, sym, ap, ◌∙◌}
-use Rattle.fleet_math.specs.Sums.{power}
+use Rattle.fleet_math.proofs.Prelude.{◌≡◌, ℤ, pos, ◌+ℤ◌, ◌-ℤ◌, ◌*ℤ◌, ◌≤ℤ◌, arith, refl, sym, ap, ◌∙◌, power}
 use Rattle.fleet_math.specs.Near.{NearLaw}
 use Rattle.fleet_math.proofs.RingLemmas.{ring, linear, le_mul_ℤ}
 use Rattle.fleet_math.proofs.SumLemmas.{power-mul, power_natural}

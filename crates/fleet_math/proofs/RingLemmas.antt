@@ -1,9 +1,7 @@
 -- The laws of a ring for whole numbers, and the two rule sets that close polynomial identities:
 -- `simp ring (omega (arith, linear))`.
-use Rattle.std.proofs.Common.{◌≡◌, ℕ, ◌+◌, ◌*◌, ℤ, pos, negsuc, ◌+ℤ◌, ◌-ℤ◌, ◌*ℤ◌, neg_ℤ, arith, sym, ◌∙◌, ap, subst}
-use Rattle.std.proofs.Common.{◌≤ℤ◌, ◌<ℤ◌}
+use Rattle.fleet_math.proofs.Prelude.{◌≡◌, ℕ, ◌+◌, ◌*◌, ℤ, pos, negsuc, ◌+ℤ◌, ◌-ℤ◌, ◌*ℤ◌, neg_ℤ, arith, sym, ◌∙◌, ap, subst, ◌≤ℤ◌, ◌<ℤ◌, ints, by_lt_z}
 use Rattle.std.proofs.Math.Nat.{mul-le-mul_left}
-use Rattle.std.proofs.lemmas.Int.{ints, by_lt_z}
 use borrow.Author.Differences.{up, down, sum_is_lem, product_is, neg_is, same_in, same_out, Apart-out, lt_out, le_out, below_in, at_most_in}
 
 -- the difference of two naturals

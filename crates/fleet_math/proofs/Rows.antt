@@ -1,8 +1,5 @@
 -- Values of the definitions, computed here and compared with numbers that were computed elsewhere.
-use Rattle.std.proofs.Common.{◌≡◌, pos, negsuc, List, [], ◌∷◌, refl}
-use Rattle.fleet_math.specs.Bernstein.{choose, bern, bernstein}
-use Rattle.fleet_math.specs.Moments.{moment, moment_in, edge}
-use Rattle.fleet_math.specs.Decoded.{Piece, durations, decoded}
+use Rattle.fleet_math.proofs.Prelude.{◌≡◌, pos, negsuc, List, [], ◌∷◌, refl, choose, bern, bernstein, moment, moment_in, edge, Piece, durations, decoded}
 
 -- three things chosen from seven
 choose-row : choose 7 3 ≡ 35

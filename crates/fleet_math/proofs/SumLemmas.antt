@@ -1,7 +1,5 @@
 -- Laws of sums and powers.
-use Rattle.std.proofs.Common.{◌≡◌, ℕ, zero, suc, ◌<◌, ℤ, pos, ◌+ℤ◌, ◌*ℤ◌, ◌≤ℤ◌, ◌<ℤ◌, ◌+◌, arith, refl, sym, ◌∙◌, ap}
-use Rattle.std.proofs.lemmas.Int.{ints}
-use Rattle.fleet_math.specs.Sums.{sum_below, power}
+use Rattle.fleet_math.proofs.Prelude.{◌≡◌, ℕ, zero, suc, ◌<◌, ℤ, pos, ◌+ℤ◌, ◌*ℤ◌, ◌≤ℤ◌, ◌<ℤ◌, ◌+◌, arith, refl, sym, ◌∙◌, ap, ints, sum_below, power}
 use Rattle.fleet_math.proofs.RingLemmas.{ring, linear, mul_add_ℤ, mul_assoc_ℤ, mul_not_negative, mul_positive, one_mul_ℤ}
 
 -- the sum depends on no more than its terms

@@ -1,18 +1,8 @@
 -- The triangle of de Casteljau's rule, and its two edges.
-use Rattle.std.proofs.Common.{◌≡◌, inl, inr, refl, ℕ, zero, suc, ◌≤◌, ◌+◌, ◌-◌, ◌*◌, ◌^◌, ℤ, pos, ◌+ℤ◌, ◌*ℤ◌, ◌≤ℤ◌, arith, sym, subst, ◌∙◌, ap, All, List, lit<}
-use Rattle.std.proofs.lemmas.Int.{ints}
+use Rattle.halving.proofs.Prelude.{◌≡◌, inl, inr, refl, ℕ, zero, suc, ◌≤◌, ◌+◌, ◌-◌, ◌*◌, ◌^◌, ℤ, pos, ◌+ℤ◌, ◌*ℤ◌, ◌≤ℤ◌, arith, sym, subst, ◌∙◌, ap, All, List, lit<, ints, mul-le-mul_right, mul_assoc, pow-le-pow_right, power, at, bernstein, linear, one_mul_ℤ, mul_assoc_ℤ, bernstein-zero, bernstein-same, bernstein-scale, bernstein-suc, bernstein-at_zero, bernstein-at_end, IsBelow, IsWithin, below_at, polar, part_value}
 use Rattle.std.proofs.lemmas.Nat.{pow-add}
-use Rattle.std.proofs.Math.Nat.{mul-le-mul_right, mul_assoc, pow-le-pow_right}
-use Rattle.fleet_math.specs.Sums.{power}
-use Rattle.fleet_math.specs.Bernstein.{at, bernstein}
-use Rattle.fleet_math.proofs.RingLemmas.{linear, one_mul_ℤ, mul_assoc_ℤ}
-use Rattle.fleet_math.proofs.BernsteinLemmas.{bernstein-zero, bernstein-same, bernstein-scale, bernstein-suc, bernstein-at_zero, bernstein-at_end}
 use Rattle.fleet_math.proofs.SumLemmas.{power-add}
-use Rattle.fleet_math.specs.Numbers.{IsBelow}
-use Rattle.bezier_core.specs.Steps.{IsWithin}
 use Rattle.bezier_core.proofs.BlendLemmas.{within_blend, within_mul, power_pos}
-use Rattle.bezier_core.proofs.EightLemmas.{below_at}
-use Rattle.halving.specs.Part.{polar, part_value}
 use Rattle.halving.specs.Steps.{IsWord}
 
 -- the sums of a row keep a bound, scaled

@@ -1,3 +1,4 @@
+mod Prelude
 pub mod PolarLemmas
 pub mod HalfLemmas
 pub mod SeparationLemmas

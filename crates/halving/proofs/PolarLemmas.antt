@@ -1,15 +1,6 @@
 -- The polar form, step by step: the order of the steps does not matter, a part of a part is a part of the whole, and
 -- halving along a path gives the part at its end.
-use Rattle.std.proofs.lemmas.Grind.{common_steps}
-use Rattle.std.proofs.Common.{◌≡◌, ℕ, zero, suc, ◌<◌, ◌≤◌, ◌+◌, ◌-◌, ◌*◌, ◌/◌, ◌%◌, ◌^◌, ℤ, pos, ◌+ℤ◌, ◌-ℤ◌, ◌*ℤ◌, arith, refl, sym, ◌∙◌, ap}
-use Rattle.std.proofs.lemmas.Int.{ints}
-use Rattle.fleet_math.specs.Bernstein.{bernstein}
-use Rattle.fleet_math.proofs.RingLemmas.{ring, linear, one_mul_ℤ}
-use Rattle.fleet_math.proofs.BernsteinLemmas.{bernstein-zero, bernstein-same, bernstein-mix, bernstein-step, bernstein-at_zero, bernstein-at_end}
-use Rattle.std.proofs.Common.{zero-add}
-use Rattle.std.proofs.Math.Nat.{pow-suc}
-use Rattle.fleet_math.specs.Sums.{power}
-use Rattle.halving.specs.Part.{polar, part_value, halved_along}
+use Rattle.halving.proofs.Prelude.{common_steps, ◌≡◌, ℕ, zero, suc, ◌<◌, ◌≤◌, ◌+◌, ◌-◌, ◌*◌, ◌/◌, ◌%◌, ◌^◌, ℤ, pos, ◌+ℤ◌, ◌-ℤ◌, ◌*ℤ◌, arith, refl, sym, ◌∙◌, ap, ints, bernstein, ring, linear, one_mul_ℤ, bernstein-zero, bernstein-same, bernstein-mix, bernstein-step, bernstein-at_zero, bernstein-at_end, zero-add, pow-suc, power, polar, part_value, halved_along}
 
 -- one step of de Casteljau's rule at b / s
 abbrev pub step : ℤ → ℤ → (ℕ → ℤ) → ℕ → ℤ

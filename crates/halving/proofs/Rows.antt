@@ -1,8 +1,6 @@
 -- Values of the definitions, computed here and compared with numbers that were computed elsewhere.
-use Rattle.std.proofs.Common.{◌≡◌, ℤ, pos, negsuc, List, [], ◌∷◌, refl}
-use Rattle.fleet_math.specs.Bernstein.{at, bernstein}
+use Rattle.halving.proofs.Prelude.{◌≡◌, ℤ, pos, negsuc, List, [], ◌∷◌, refl, at, bernstein, polar, part_value}
 use Rattle.bezier_core.specs.Raised.{eight}
-use Rattle.halving.specs.Part.{polar, part_value}
 
 -- a curve of degree seven with control values of both signs
 waves : List ℤ

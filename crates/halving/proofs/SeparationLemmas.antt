@@ -1,10 +1,5 @@
 -- The halves of a part keep a lower bound, scaled: the halves of a separated place are separated.
-use Rattle.std.proofs.lemmas.Grind.{common_steps}
-use Rattle.std.proofs.Common.{ℕ, suc, ◌≤◌, ◌+◌, ◌-◌, ◌*◌, ℤ, pos, ◌*ℤ◌, ◌≤ℤ◌, arith}
-use Rattle.std.proofs.lemmas.Int.{ints}
-use Rattle.fleet_math.specs.Sums.{power}
-use Rattle.fleet_math.proofs.BernsteinLemmas.{bernstein-at_least}
-use Rattle.halving.specs.Part.{polar, part_value}
+use Rattle.halving.proofs.Prelude.{common_steps, ℕ, suc, ◌≤◌, ◌+◌, ◌-◌, ◌*◌, ℤ, pos, ◌*ℤ◌, ◌≤ℤ◌, arith, ints, power, bernstein-at_least, polar, part_value}
 use Rattle.halving.proofs.PolarLemmas.{part-part}
 
 -- where each control value is at least low, so is the polar form, scaled: the hull property of parts

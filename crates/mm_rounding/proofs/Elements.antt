@@ -1,24 +1,16 @@
 -- An element is the curve of its control values.
-use Rattle.std.proofs.Common.{get_or, ◌≡◌, ℕ, zero, suc, ◌<◌, ◌≤◌, Bool, true, false, cond, ◌&&◌, Some, None, if◌then◌else◌, nat_le, ℤ, pos, List, [], ◌∷◌, map, length, arith, refl, sym, ap, ◌∙◌, subst}
-use Rattle.std.specs.List.{list_all}
+use Rattle.mm_rounding.proofs.Prelude.{get_or, ◌≡◌, ℕ, zero, suc, ◌<◌, ◌≤◌, Bool, true, false, cond, ◌&&◌, Some, None, if◌then◌else◌, nat_le, ℤ, pos, List, [], ◌∷◌, map, length, arith, refl, sym, ap, ◌∙◌, subst, list_all, All, by_lt, at, IsNear, Constant, Linear, Cubic, Seven, millimetres, is_short, short, shorts, controls, first_control, rounded, all_equal, behind_first, element_of, fits, fitted, axis_on, segment_of, IsAxis, position, KeepsNear, KeepsEqual, last_control, EndsThere, IsPiece, StaysNear}
 use Rattle.std.specs.Ordering.{int_eq}
 use Rattle.std.proofs.lemmas.Bool.Decides.{Decides-int_eq, nat_tests}
-use Rattle.std.specs.List.{All}
 use Rattle.std.proofs.lemmas.List.Elements.{All-get_or}
-use Rattle.fleet_math.proofs.BernsteinLemmas.{by_lt}
-use Rattle.fleet_math.specs.Bernstein.{at}
 use Rattle.fleet_math.specs.Decoded.{last_value}
-use Rattle.fleet_math.specs.Near.{IsNear}
 use Rattle.traj_codec.specs.declared.traj.Element.{Element}
-use Rattle.traj_codec.specs.declared.traj.Element.TheVariants.{Constant, Linear, Cubic, Seven}
 use Rattle.traj_codec.specs.declared.traj.Segment.{Segment}
 use Rattle.traj_codec.specs.Spelling.{stored}
 use Rattle.traj_codec.specs.Positions.{value_after}
 use Rattle.mm_rounding.specs.declared.piece.Axis.{Axis}
 use Rattle.mm_rounding.specs.declared.piece.Axis.TheVariants.{One, Two, Four, Eight}
 use Rattle.mm_rounding.specs.declared.piece.MicroPiece.{MicroPiece}
-use Rattle.mm_rounding.specs.Rounding.{millimetres, is_short, short, shorts, controls, first_control, rounded, all_equal, behind_first, element_of, fits, fitted, axis_on, segment_of}
-use Rattle.mm_rounding.specs.Near.{IsAxis, position, KeepsNear, KeepsEqual, last_control, EndsThere, IsPiece, StaysNear}
 use Rattle.mm_rounding.proofs.Curves.{near_curve, position-constant}
 
 int_eq_true : (x y : ℤ) → int_eq x y ≡ true → x ≡ y

@@ -1,3 +1,4 @@
+mod Prelude
 pub mod Millimetres
 pub mod Curves
 pub mod Elements

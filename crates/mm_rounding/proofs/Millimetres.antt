@@ -1,8 +1,6 @@
 -- Rounding to millimetres errs by half a millimetre at most.
-use Rattle.std.proofs.Common.{ℤ, pos, negsuc, ◌+ℤ◌, ◌-ℤ◌, ◌*ℤ◌, ◌≤ℤ◌, ◌<ℤ◌, arith}
-use Rattle.std.proofs.lemmas.Int.{ints}
+use Rattle.mm_rounding.proofs.Prelude.{ℤ, pos, negsuc, ◌+ℤ◌, ◌-ℤ◌, ◌*ℤ◌, ◌≤ℤ◌, ◌<ℤ◌, arith, ints, millimetres}
 use Rattle.std.specs.Int.{int_div_euclid}
-use Rattle.mm_rounding.specs.Rounding.{millimetres}
 
 -- the floor of a thousandth
 pub floor_of : (v : ℤ) → ((int_div_euclid v (pos 1000) *ℤ pos 1000) ≤ℤ v) × (v <ℤ ((int_div_euclid v (pos 1000) *ℤ pos 1000) +ℤ pos 1000))

@@ -1,10 +1,5 @@
 -- The words of a line on its own.
-use Rattle.std.proofs.Common.{◌≡◌, ℕ, List, [], ◌∷◌, append-nil, refl, ap, ◌∙◌}
-use Rattle.text_lines.specs.declared.token.Comments.{Comments}
-use Rattle.text_lines.specs.declared.token.Comments.TheVariants.{FromHash, Absent}
-use Rattle.text_lines.specs.Lines.{between_feeds, without_empty_end}
-use Rattle.text_lines.specs.Words.{visible}
-use Rattle.text_lines.specs.Tokens.{line_tokens, tokens_from, tokens_of}
+use Rattle.text_lines.proofs.Prelude.{◌≡◌, ℕ, List, [], ◌∷◌, append-nil, refl, ap, ◌∙◌, Comments, FromHash, Absent, between_feeds, without_empty_end, visible, line_tokens, tokens_from, tokens_of}
 
 by_pieces : (comments : Comments) (line : List ℕ) → tokens_from comments 1 0 (without_empty_end (line ∷ [])) ≡ line_tokens 1 0 (visible comments line)
 by_pieces FromHash [] = refl

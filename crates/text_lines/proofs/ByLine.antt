@@ -1,9 +1,5 @@
 -- Words by their lines.
-use Rattle.std.proofs.Common.{◌≡◌, ◌≢◌, ℕ, zero, suc, ◌<◌, ◌≤◌, Bool, true, false, List, [], ◌∷◌, length, get_or, take, drop, refl, sym, ap, ◌∙◌, arith, cond, eq-eqb, eqb-true, ne_eqb}
-use Rattle.std.specs.Prelude.{◌==◌}
-use Rattle.text_lines.specs.Words.{Line}
-use Rattle.text_lines.specs.Tokens.{word_in, words_in, joined, lines_in}
-use Rattle.text_lines.specs.declared.token.Token.{Token}
+use Rattle.text_lines.proofs.Prelude.{◌≡◌, ◌≢◌, ℕ, zero, suc, ◌<◌, ◌≤◌, Bool, true, false, List, [], ◌∷◌, length, get_or, take, drop, refl, sym, ap, ◌∙◌, arith, cond, eq-eqb, eqb-true, ne_eqb, ◌==◌, Line, word_in, words_in, joined, lines_in, Token}
 
 abbrev line_with : List ℕ → Token → Line
 line_with text t = record { number = t.line; words = word_in text t ∷ [] }

@@ -1,17 +1,8 @@
 -- The first piece of bytes that are cut, and what stands after it.
-use Rattle.std.proofs.Common.{◌≡◌, ℕ, ◌+◌, ◌<◌, ◌≤◌, Bool, true, false, cond, ltb, List, [], ◌∷◌, ◌++◌, length, take, drop, refl, sym, ap, ◌∙◌, append_assoc, append-nil, Option, Some, None, inl, inr, arith}
-use Rattle.std.specs.Prelude.{unwrap_or, not}
-use Rattle.std.proofs.lemmas.Bool.{cases_lt, lt-ltb, le-ltb, false_from_ne_true}
+use Rattle.text_lines.proofs.Prelude.{◌≡◌, ℕ, ◌+◌, ◌<◌, ◌≤◌, Bool, true, false, cond, ltb, List, [], ◌∷◌, ◌++◌, length, take, drop, refl, sym, ap, ◌∙◌, append_assoc, append-nil, Option, Some, None, inl, inr, arith, unwrap_or, not, cases_lt, lt-ltb, le-ltb, false_from_ne_true, slice_split, onto_first, position_or_len, length-take, Token, Comments, is_line_feed, lines_of, without_empty_end, is_blank, visible, word_token, words_at, line_tokens, tokens_from}
 use Rattle.memchr.specs.Find.{IsFirstByte}
-use Rattle.std.specs.List.{slice_split, onto_first, position_or_len}
-use Rattle.std.proofs.lemmas.List.{length-take}
 use Rattle.std.proofs.lemmas.List.Splits.{slice_split_first, slice_split_none}
 use Rattle.std.proofs.lemmas.List.Sums.{fails_before_first, position_or_len_is, prefix_len-le-length}
-use Rattle.text_lines.specs.declared.token.Token.{Token}
-use Rattle.text_lines.specs.declared.token.Comments.{Comments}
-use Rattle.text_lines.specs.Lines.{is_line_feed, lines_of, without_empty_end}
-use Rattle.text_lines.specs.Words.{is_blank, visible}
-use Rattle.text_lines.specs.Tokens.{word_token, words_at, line_tokens, tokens_from}
 
 pub position_within : (p : ℕ → Bool) (xs : List ℕ) → position_or_len p xs ≤ length xs
 position_within p xs = prefix_len-le-length (λ x. not (p x)) xs

@@ -1,8 +1,5 @@
 -- Decimal digits that are read from a place on.
-use Rattle.std.proofs.Common.{◌≡◌, ℕ, ◌+◌, ◌-◌, ◌*◌, ◌<◌, ◌≤◌, Bool, true, false, ◌&&◌, List, length, get_or, drop, drop-cons, add-one, refl, ap, ◌∙◌, arith}
-use Rattle.std.specs.Prelude.{min}
-use Rattle.text_lines.specs.Numbers.{is_digit, digits_after}
-use Rattle.text_lines.specs.Steps.{are_digits_at, number_at}
+use Rattle.text_lines.proofs.Prelude.{◌≡◌, ℕ, ◌+◌, ◌-◌, ◌*◌, ◌<◌, ◌≤◌, Bool, true, false, ◌&&◌, List, length, get_or, drop, drop-cons, add-one, refl, ap, ◌∙◌, arith, min, is_digit, digits_after, are_digits_at, number_at}
 
 both : (a b : Bool) → (a && b) ≡ true → (a ≡ true) × (b ≡ true)
 both true b h = (refl, h)

@@ -1,16 +1,6 @@
 -- The words of a text, by their lines, are its lines with words.
-use Rattle.std.proofs.Common.{◌≡◌, ℕ, suc, ◌+◌, ◌-◌, ◌<◌, ◌≤◌, Bool, true, false, List, [], ◌∷◌, ◌++◌, length, take, drop, refl, sym, ap, subst, ◌∙◌, arith, append_assoc, cond}
-use Rattle.std.specs.Prelude.{◌&&◌, ◌==◌, nat_le, slice_range}
-use Rattle.std.proofs.lemmas.List.{drop-drop, append-nil, length-drop, length-append, take_at, take-append-drop}
-use Rattle.std.proofs.lemmas.Bool.Decides.{nat_tests}
-use Rattle.std.specs.List.{slice_split, onto_first, position_or_len}
-use Rattle.text_lines.specs.declared.token.Comments.{Comments}
-use Rattle.text_lines.specs.declared.token.Comments.TheVariants.{FromHash, Absent}
-use Rattle.text_lines.specs.Lines.{is_line_feed, lines_of, without_empty_end}
-use Rattle.text_lines.specs.Words.{Line, is_blank, visible, without_empty, words_of, line_with, numbered}
-use Rattle.text_lines.specs.Tokens.{words_at, tokens_from, tokens_of, word_in, joined, lines_in}
+use Rattle.text_lines.proofs.Prelude.{◌≡◌, ℕ, suc, ◌+◌, ◌-◌, ◌<◌, ◌≤◌, Bool, true, false, List, [], ◌∷◌, ◌++◌, length, take, drop, refl, sym, ap, subst, ◌∙◌, arith, append_assoc, cond, ◌&&◌, ◌==◌, nat_le, slice_range, drop-drop, append-nil, length-drop, length-append, take_at, take-append-drop, nat_tests, slice_split, onto_first, position_or_len, Comments, FromHash, Absent, is_line_feed, lines_of, without_empty_end, Line, is_blank, visible, without_empty, words_of, line_with, numbered, words_at, tokens_from, tokens_of, word_in, joined, lines_in, Token}
 use Rattle.text_lines.proofs.ByLine.{Begins, joined_same, other_line}
-use Rattle.text_lines.specs.declared.token.Token.{Token}
 
 -- these pieces stand in the text from a place on, with one byte between them
 abbrev StandAt : List ℕ → ℕ → List (List ℕ) → Type 0

@@ -1,8 +1,5 @@
 -- What is read of a word as a number is that number, and the other way round.
-use Rattle.std.proofs.Common.{◌≡◌, ℕ, Bool, true, false, List, Option, Some, None, Ok, Err, refl, ap, ◌∙◌, cond}
-use Rattle.std.specs.Prelude.{T, ◌&&◌, ℤ, ◌≤ℤ◌, int_le}
-use Rattle.std.proofs.lemmas.Bool.{and_parts}
-use Rattle.text_lines.specs.Numbers.{number_of, IsNumber, in_range, number_in}
+use Rattle.text_lines.proofs.Prelude.{◌≡◌, ℕ, Bool, true, false, List, Option, Some, None, Ok, Err, refl, ap, ◌∙◌, cond, T, ◌&&◌, ℤ, ◌≤ℤ◌, int_le, and_parts, number_of, IsNumber, in_range, number_in}
 use Rattle.text_lines.specs.declared.number.NumberFault.TheVariants.{OutOfRange}
 
 true_of : (b : Bool) → T b → b ≡ true

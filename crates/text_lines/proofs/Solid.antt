@@ -1,9 +1,5 @@
 -- Bytes before the first blank.
-use Rattle.std.proofs.Common.{◌≡◌, ℕ, suc, ◌+◌, ◌<◌, ◌≤◌, true, false, List, length, get_or, drop, drop-cons, refl, arith}
-use Rattle.std.proofs.lemmas.List.{drop_all}
-use Rattle.std.proofs.lemmas.Bool.Decides.{nat_tests}
-use Rattle.std.specs.List.{position_or_len}
-use Rattle.text_lines.specs.Words.{is_blank}
+use Rattle.text_lines.proofs.Prelude.{◌≡◌, ℕ, suc, ◌+◌, ◌<◌, ◌≤◌, true, false, List, length, get_or, drop, drop-cons, refl, arith, drop_all, nat_tests, position_or_len, is_blank}
 
 -- these bytes are passed, and none of them is blank
 abbrev pub IsPassed : List ℕ → ℕ → Type 0

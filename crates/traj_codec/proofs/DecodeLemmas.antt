@@ -1,16 +1,5 @@
 -- A trajectory's start and its segments, and why bytes that begin with a spelling have no fault and stand for one trajectory.
-use Rattle.std.proofs.lemmas.Grind.{common_steps}
-use Rattle.std.proofs.Common.{◌≡◌, ℕ, ◌+◌, ◌≤◌, ℤ, List, length, drop, Option, None, Result, Ok, Err, sym, ap, ◌∙◌, subst, length-append, arith}
-use Rattle.std.specs.Option.{option_or}
-use Rattle.std.specs.List.{flat_map}
-use Rattle.std.proofs.lemmas.List.{drop_at}
-use Rattle.traj_codec.specs.declared.reading.CodecFault.{CodecFault}
-use Rattle.traj_codec.specs.declared.reading.CodecFault.TheVariants.{Short, ZeroDuration, Memory}
-use Rattle.traj_codec.specs.declared.traj.Segment.{Segment}
-use Rattle.traj_codec.specs.declared.traj.Traj.{Traj}
-use Rattle.traj_codec.specs.Spelling.{numbers, segment, spelling}
-use Rattle.traj_codec.specs.Reading.{BeginsWith, DecodeGives, IsDecoded, segments_fault, decode_fault}
-use Rattle.traj_codec.specs.Reading.{Spans, NumbersStand, SegmentsStand, SegmentsGive}
+use Rattle.traj_codec.proofs.Prelude.{common_steps, ◌≡◌, ℕ, ◌+◌, ◌≤◌, ℤ, List, length, drop, Option, None, Result, Ok, Err, sym, ap, ◌∙◌, subst, length-append, arith, option_or, flat_map, drop_at, CodecFault, Short, ZeroDuration, Memory, Segment, Traj, numbers, segment, spelling, BeginsWith, DecodeGives, IsDecoded, segments_fault, decode_fault, Spans, NumbersStand, SegmentsStand, SegmentsGive}
 use Rattle.traj_codec.proofs.Sizes.{length-numbers}
 use Rattle.traj_codec.proofs.SpellingLemmas.{spelling_is_one}
 use Rattle.traj_codec.proofs.ReadingLemmas.{spans_on, spans_length, spans_split, numbers_whole, segments_whole}

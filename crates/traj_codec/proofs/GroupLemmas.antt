@@ -1,13 +1,5 @@
 -- The fold joins groups of holds from the left.
-use Rattle.std.proofs.lemmas.Grind.{common_steps}
-use Rattle.std.proofs.Common.{◌≡◌, inl, inr, ℕ, ◌+◌, ◌≤◌, ◌<◌, Bool, true, false, cond, nat_le, arith, refl, sym, ap, subst, ◌∙◌, List, [], ◌∷◌, ◌++◌, append_assoc, length, length-append, map, All}
-use Rattle.std.specs.List.{flat_map, sum}
-use Rattle.std.proofs.lemmas.Bool.Decides.{nat_tests}
-use Rattle.std.proofs.lemmas.List.Sums.{sum_by-cons}
-use Rattle.std.proofs.lemmas.List.Elements.{All-nil, All-cons, All-head, All-tail, All-append}
-use Rattle.traj_codec.specs.declared.traj.Segment.{Segment}
-use Rattle.traj_codec.specs.Positions.{durations}
-use Rattle.traj_codec.specs.Joined.{is_hold, hold, most_ms, put_held, joined_from, IsGroup, one_of, first_ms, FromTheLeft, GroupLaw}
+use Rattle.traj_codec.proofs.Prelude.{common_steps, ◌≡◌, inl, inr, ℕ, ◌+◌, ◌≤◌, ◌<◌, Bool, true, false, cond, nat_le, arith, refl, sym, ap, subst, ◌∙◌, List, [], ◌∷◌, ◌++◌, append_assoc, length, length-append, map, All, flat_map, sum, nat_tests, sum_by-cons, All-nil, All-cons, All-head, All-tail, All-append, Segment, durations, is_hold, hold, most_ms, put_held, joined_from, IsGroup, one_of, first_ms, FromTheLeft, GroupLaw}
 
 abbrev IsHold : Segment → Type 0
 IsHold s = is_hold s ≡ true

@@ -1,25 +1,8 @@
 -- A trajectory with its holds joined is the same curve.
-use Rattle.std.proofs.lemmas.Grind.{common_steps}
-use Rattle.std.proofs.Common.{◌≡◌, ◌⊎◌, inl, inr, ℕ, zero, suc, ◌+◌, ◌-◌, ◌*◌, ◌≤◌, ◌<◌, ℤ, pos, ◌*ℤ◌, Bool, true, false, cond, ◌&&◌, nat_le, arith, refl, sym, ap, subst, ◌∙◌, List, [], ◌∷◌, length, map, All, get_or}
-use Rattle.std.specs.List.{list_all}
-use Rattle.std.proofs.lemmas.Bool.Decides.{nat_tests}
-use Rattle.std.specs.List.{sum}
-use Rattle.std.proofs.lemmas.List.Sums.{sum_by-cons}
-use Rattle.std.proofs.lemmas.List.Elements.{All-head, All-tail, All-nil, All-cons}
-use Rattle.fleet_math.specs.Sums.{power}
-use Rattle.fleet_math.specs.Bernstein.{at, bern}
-use Rattle.fleet_math.specs.Moments.{Moment, moment, moment_from}
-use Rattle.fleet_math.specs.Decoded.{points_from, last_value}
+use Rattle.traj_codec.proofs.Prelude.{common_steps, ◌≡◌, ◌⊎◌, inl, inr, ℕ, zero, suc, ◌+◌, ◌-◌, ◌*◌, ◌≤◌, ◌<◌, ℤ, pos, ◌*ℤ◌, Bool, true, false, cond, ◌&&◌, nat_le, arith, refl, sym, ap, subst, ◌∙◌, List, [], ◌∷◌, length, map, All, get_or, list_all, nat_tests, sum, sum_by-cons, All-head, All-tail, All-nil, All-cons, power, at, bern, Moment, moment, moment_from, points_from, last_value, Element, Constant, Segment, Traj, stored, HasDuration, IsSegment, element_on, value_after, piece_on, durations, points, decoded, stays, is_hold, hold, most_ms, put_held, joined_from, joined, own, SameCurve, IsLasting, JoinLaw}
 use Rattle.fleet_math.proofs.RingLemmas.{mul_left_comm_ℤ}
 use Rattle.fleet_math.proofs.BernsteinLemmas.{bernstein-zero}
-use Rattle.traj_codec.specs.declared.traj.Element.{Element}
-use Rattle.traj_codec.specs.declared.traj.Element.TheVariants.{Constant}
-use Rattle.traj_codec.specs.declared.traj.Segment.{Segment}
-use Rattle.traj_codec.specs.declared.traj.Traj.{Traj}
-use Rattle.traj_codec.specs.Spelling.{stored, HasDuration, IsSegment}
-use Rattle.traj_codec.specs.Positions.{element_on, value_after, piece_on, durations, points, decoded}
 use Rattle.traj_codec.proofs.PositionLemmas.{decoded-points}
-use Rattle.traj_codec.specs.Joined.{stays, is_hold, hold, most_ms, put_held, joined_from, joined, own, SameCurve, IsLasting, JoinLaw}
 
 -- ---- where segments are at an instant: control points, and the part a / c
 

@@ -1,13 +1,6 @@
 -- The control points of a trajectory on an axis, segment by segment.
-use Rattle.std.proofs.Common.{◌≡◌, ℕ, ◌-◌, ℤ, pos, ◌*ℤ◌, List, [], ◌∷◌, length, map, refl, ap}
-use Rattle.fleet_math.specs.Sums.{power}
-use Rattle.fleet_math.specs.Bernstein.{at, bern}
-use Rattle.fleet_math.specs.Moments.{Moment}
-use Rattle.fleet_math.specs.Decoded.{last_value}
+use Rattle.traj_codec.proofs.Prelude.{◌≡◌, ℕ, ◌-◌, ℤ, pos, ◌*ℤ◌, List, [], ◌∷◌, length, map, refl, ap, power, at, bern, Moment, last_value, Segment, Traj, piece_on, durations, points, decoded}
 use Rattle.fleet_math.specs.Decoded as plain
-use Rattle.traj_codec.specs.declared.traj.Segment.{Segment}
-use Rattle.traj_codec.specs.declared.traj.Traj.{Traj}
-use Rattle.traj_codec.specs.Positions.{piece_on, durations, points, decoded}
 
 -- a list ends with its last number
 last_is : (first z : ℤ) (zs : List ℤ) → last_value first (z ∷ zs) ≡ at (z ∷ zs) (length zs)

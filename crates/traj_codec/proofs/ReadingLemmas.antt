@@ -1,21 +1,5 @@
 -- What stands in bytes, one thing after another, and the first fault among fields.
-use Rattle.std.proofs.Common.{◌≡◌, ℕ, zero, suc, ◌+◌, ◌*◌, ◌/◌, ◌%◌, ◌^◌, ◌<◌, ◌≤◌, List, [], ◌∷◌, ◌++◌, length, get_or, slice_index, drop, ◌==◌, if◌then◌else◌, Option, Some, None, Err, refl, sym, ap, subst, ◌∙◌, append_assoc, length-append, length-drop, arith}
-use Rattle.std.specs.Option.{option_or}
-use Rattle.std.specs.List.{flat_map, All}
-use Rattle.std.proofs.lemmas.Bool.Decides.{nat_tests}
-use Rattle.std.proofs.lemmas.Grind.{flat_map-append, common_steps}
-use Rattle.std.proofs.lemmas.List.{append-nil, drop-drop, drop_at, get_or-drop}
-use Rattle.std.proofs.lemmas.List.Elements.{All-head, All-tail, All-append}
-use Rattle.byteorder.specs.Endian.{little_bytes, little_number}
-use Rattle.byteorder.specs.Numbers.{little_number-reads_back}
-use Rattle.traj_codec.specs.declared.reading.CodecFault.{CodecFault}
-use Rattle.traj_codec.specs.declared.reading.CodecFault.TheVariants.{Short, ZeroDuration, Memory}
-use Rattle.traj_codec.specs.declared.traj.Element.{Element}
-use Rattle.traj_codec.specs.declared.traj.Element.TheVariants.{Constant, Linear, Cubic, Seven}
-use Rattle.traj_codec.specs.declared.traj.Segment.{Segment}
-use Rattle.traj_codec.specs.Spelling.{numbers, kind, stored, header, bodies, segment, HasDuration, IsElement, IsSegment}
-use Rattle.traj_codec.specs.Reading.{field_fault, numbers_fault, duration_fault, count_of_kind, count_under, segment_fault, segment_length, segments_fault}
-use Rattle.traj_codec.specs.Reading.{Spans, ElementStands, SegmentsStand, SegmentsGive}
+use Rattle.traj_codec.proofs.Prelude.{◌≡◌, ℕ, zero, suc, ◌+◌, ◌*◌, ◌/◌, ◌%◌, ◌^◌, ◌<◌, ◌≤◌, List, [], ◌∷◌, ◌++◌, length, get_or, slice_index, drop, ◌==◌, if◌then◌else◌, Option, Some, None, Err, refl, sym, ap, subst, ◌∙◌, append_assoc, length-append, length-drop, arith, option_or, flat_map, All, nat_tests, flat_map-append, common_steps, append-nil, drop-drop, drop_at, get_or-drop, All-head, All-tail, All-append, little_bytes, little_number, little_number-reads_back, CodecFault, Short, ZeroDuration, Memory, Element, Constant, Linear, Cubic, Seven, Segment, numbers, kind, stored, header, bodies, segment, HasDuration, IsElement, IsSegment, field_fault, numbers_fault, duration_fault, count_of_kind, count_under, segment_fault, segment_length, segments_fault, Spans, ElementStands, SegmentsStand, SegmentsGive}
 use Rattle.traj_codec.proofs.Sizes.{length-numbers, length-elements}
 use Rattle.traj_codec.proofs.SpellingLemmas.{kind_small}
 

@@ -1,9 +1,5 @@
 -- How many bytes numbers take.
-use Rattle.std.proofs.lemmas.Grind.{common_steps}
-use Rattle.std.proofs.Common.{◌≡◌, ℕ, ◌+◌, ◌*◌, ℤ, List, [], ◌∷◌, ◌++◌, length, get_or, refl, ap, ◌∙◌, length-append, arith}
-use Rattle.std.specs.List.{flat_map}
-use Rattle.traj_codec.specs.declared.traj.Element.{Element}
-use Rattle.traj_codec.specs.Spelling.{number, numbers, stored, bodies}
+use Rattle.traj_codec.proofs.Prelude.{common_steps, ◌≡◌, ℕ, ◌+◌, ◌*◌, ℤ, List, [], ◌∷◌, ◌++◌, length, get_or, refl, ap, ◌∙◌, length-append, arith, flat_map, Element, number, numbers, stored, bodies}
 
 pub length-numbers : (zs : List ℤ) → length (numbers zs) ≡ 2 * length zs
 length-numbers [] = refl

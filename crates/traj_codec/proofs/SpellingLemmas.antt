@@ -1,19 +1,8 @@
 -- A spelling stands for one trajectory, and none of as many segments is a front of another.
-use Rattle.std.proofs.lemmas.Grind.{common_steps}
-use Rattle.std.proofs.Common.{◌≡◌, ℕ, ◌<◌, ◌^◌, ℤ, List, [], ◌∷◌, ◌++◌, length, drop, refl, sym, ap, ◌∙◌, append_assoc, arith, to_z, FitsSigned}
-use Rattle.std.specs.List.{flat_map, All}
+use Rattle.traj_codec.proofs.Prelude.{common_steps, ◌≡◌, ℕ, ◌<◌, ◌^◌, ℤ, List, [], ◌∷◌, ◌++◌, length, drop, refl, sym, ap, ◌∙◌, append_assoc, arith, to_z, FitsSigned, flat_map, All, append_cancel_left, All-head, All-tail, little_bytes, little_number, little_number-reads_back, Element, Constant, Linear, Cubic, Seven, Segment, number, numbers, kind, stored, header, bodies, segment, IsNumber, IsElement, IsSegment, SpellingLaw}
 use Rattle.std.specs.Int.{w16, cast_unsigned}
 use Rattle.std.proofs.Math.Facts.{Fits-of_z, Fits-lt-pow}
 use Rattle.std.proofs.lemmas.Int.{ints, to_z-of_z}
-use Rattle.std.proofs.lemmas.List.{append_cancel_left}
-use Rattle.std.proofs.lemmas.List.Elements.{All-head, All-tail}
-use Rattle.byteorder.specs.Endian.{little_bytes, little_number}
-use Rattle.byteorder.specs.Numbers.{little_number-reads_back}
-use Rattle.traj_codec.specs.declared.traj.Element.{Element}
-use Rattle.traj_codec.specs.declared.traj.Element.TheVariants.{Constant, Linear, Cubic, Seven}
-use Rattle.traj_codec.specs.declared.traj.Segment.{Segment}
-use Rattle.traj_codec.specs.Spelling.{number, numbers, kind, stored, header, bodies, segment}
-use Rattle.traj_codec.specs.Spelling.{IsNumber, IsElement, IsSegment, SpellingLaw}
 
 fits : (z : ℤ) → IsNumber z → FitsSigned w16 z
 fits z is = omega (arith, ints, is)

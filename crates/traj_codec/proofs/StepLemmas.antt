@@ -1,10 +1,6 @@
 -- The loop of join_holds.
-use Rattle.std.proofs.lemmas.Grind.{common_steps}
-use Rattle.std.proofs.Common.{◌≡◌, ℕ, ◌+◌, ◌<◌, ◌≤◌, arith, refl, List, [], ◌∷◌, ◌++◌, append-nil, length, drop, get_or}
+use Rattle.traj_codec.proofs.Prelude.{common_steps, ◌≡◌, ℕ, ◌+◌, ◌<◌, ◌≤◌, arith, refl, List, [], ◌∷◌, ◌++◌, append-nil, length, drop, get_or, drop_all, Segment, joined_from, next_held, put_held, put_next}
 use Rattle.std.proofs.Math.Seq.{drop-cons}
-use Rattle.std.proofs.lemmas.List.{drop_all}
-use Rattle.traj_codec.specs.declared.traj.Segment.{Segment}
-use Rattle.traj_codec.specs.Joined.{joined_from, next_held, put_held, put_next}
 
 unfold_one : (held : ℕ) (s : Segment) (rest : List Segment) → joined_from held (s ∷ rest) ≡ put_next held s (joined_from (next_held held s) rest)
 unfolding joined_from

@@ -1,6 +1,4 @@
-use Rattle.std.proofs.Common.{rules, ◌*◌, ℤ, sym, subst, List, All}
-use Rattle.fleet_math.specs.Numbers.{IsBelow}
-use Rattle.bezier_core.specs.Along.{along_value}
+use Rattle.bezier_core.proofs.Prelude.{rules, ◌*◌, ℤ, sym, subst, List, All, IsBelow, along_value}
 use Rattle.bezier_core.proofs.SizeLemmas.{eight_below, along_below}
 use Rattle.bezier_core.proofs.along.Goals as goal
 

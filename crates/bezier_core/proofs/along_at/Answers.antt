@@ -1,12 +1,6 @@
-use Rattle.std.proofs.lemmas.Grind.{common_steps}
-use Rattle.std.proofs.Common.{◌≡◌, ◌*◌, ◌^◌, ℤ, ◌+ℤ◌, ◌*ℤ◌, FitsSigned, sym, subst, lit<, arith}
-use Rattle.std.proofs.lemmas.Int.{to_z-of_z}
-use Rattle.fleet_math.specs.Bernstein.{at}
-use Rattle.fleet_math.specs.Numbers.{IsBelow}
-use Rattle.bezier_core.specs.Along.{controls}
+use Rattle.bezier_core.proofs.Prelude.{common_steps, ◌≡◌, ◌*◌, ◌^◌, ℤ, ◌+ℤ◌, ◌*ℤ◌, FitsSigned, sym, subst, lit<, arith, to_z-of_z, at, IsBelow, controls, w128}
 use Rattle.bezier_core.proofs.EightLemmas.{below_at, controls_below, sum_fits, weight_fits, value_fits, product_fits}
 use Rattle.bezier_core.proofs.SizeLemmas.{along_below}
-use mir.Syntax.{w128}
 use Rattle.bezier_core.proofs.along_at.Goals as goal
 
 pub weighted-x-requires : goal.weighted-x-requires

@@ -1,6 +1,4 @@
-use Rattle.std.proofs.Common.{arith, ◌+ℤ◌, ◌-ℤ◌, ◌*ℤ◌, FitsSigned}
-use Rattle.std.proofs.lemmas.Int.{ints, to_z-of_z}
-use mir.Syntax.{w128}
+use Rattle.bezier_core.proofs.Prelude.{arith, ◌+ℤ◌, ◌-ℤ◌, ◌*ℤ◌, FitsSigned, ints, to_z-of_z, w128}
 use Rattle.bezier_core.proofs.BlendLemmas.{fits_part, fits_blend}
 use Rattle.bezier_core.proofs.blend.Goals as goal
 

@@ -1,6 +1,4 @@
-use Rattle.std.proofs.lemmas.Grind.{common_steps}
-use Rattle.std.proofs.Common.{arith, pos, to_z}
-use Rattle.std.proofs.lemmas.Int.{to_z-of_z}
+use Rattle.bezier_core.proofs.Prelude.{common_steps, arith, pos, to_z, to_z-of_z}
 use Rattle.bezier_core.proofs.BlendLemmas.{multiple_fits, multiples_fit, cast_count}
 use Rattle.bezier_core.proofs.combine.Goals as goal
 

@@ -1,5 +1,4 @@
-use Rattle.std.proofs.Common.{rules, ◌≡◌, length}
-use Rattle.fleet_math.proofs.BernsteinLemmas.{bernstein-at_least}
+use Rattle.bezier_core.proofs.Prelude.{rules, ◌≡◌, length, bernstein-at_least}
 use Rattle.bezier_core.proofs.CurveLemmas.{hull}
 use Rattle.bezier_core.proofs.hull_law.Goals as goal
 

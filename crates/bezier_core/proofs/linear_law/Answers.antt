@@ -1,5 +1,4 @@
-use Rattle.fleet_math.specs.Bernstein.{at}
-use Rattle.bezier_core.specs.Along.{controls}
+use Rattle.bezier_core.proofs.Prelude.{at, controls}
 use Rattle.bezier_core.proofs.CurveLemmas.{linear_sum}
 use Rattle.bezier_core.proofs.linear_law.Goals as goal
 

@@ -1,8 +1,4 @@
-use Rattle.std.proofs.lemmas.Grind.{common_steps}
-use Rattle.std.proofs.Common.{arith, pos, FitsSigned, get_or-set_other, get_or-set_same, below_more}
-use Rattle.std.proofs.Math.ListN.{length-set}
-use Rattle.std.proofs.lemmas.Int.{to_z-of_z}
-use mir.Syntax.{w128}
+use Rattle.bezier_core.proofs.Prelude.{common_steps, arith, pos, FitsSigned, get_or-set_other, get_or-set_same, below_more, length-set, to_z-of_z, w128}
 use Rattle.bezier_core.proofs.lower.Goals as goal
 
 pub blend-requires-clause-room : goal.blend-requires-clause-room

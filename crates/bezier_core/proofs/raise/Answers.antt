@@ -1,10 +1,4 @@
-use Rattle.std.proofs.lemmas.Grind.{common_steps}
-use Rattle.std.proofs.Common.{arith, rules, ◌≡◌, ◌≢◌, ◌<◌, ◌≤◌, ◌+◌, ◌-◌, ℕ, ℤ, pos, ◌+ℤ◌, ◌*ℤ◌, FitsSigned, ◌∙◌, set, to_z, of_z, length, get_or, get_or-set_other, get_or-set_same}
-use Rattle.std.proofs.Math.ListN.{length-set}
-use Rattle.std.proofs.lemmas.Int.{to_z-of_z}
-use Rattle.fleet_math.specs.Bernstein.{at}
-use Rattle.fleet_math.proofs.BernsteinLemmas.{by_lt}
-use mir.Syntax.{w128}
+use Rattle.bezier_core.proofs.Prelude.{common_steps, arith, rules, ◌≡◌, ◌≢◌, ◌<◌, ◌≤◌, ◌+◌, ◌-◌, ℕ, ℤ, pos, ◌+ℤ◌, ◌*ℤ◌, FitsSigned, ◌∙◌, set, to_z, of_z, length, get_or, get_or-set_other, get_or-set_same, length-set, to_z-of_z, at, by_lt, w128}
 use Rattle.bezier_core.proofs.raise.Goals as goal
 
 top : (d k : ℕ) (f : ℕ → ℤ) (r : ℤ) → k ≡ d + 1 → r ≡ pos (d + 1) *ℤ f d +ℤ pos 0 → r ≡ pos k *ℤ f (k - 1) +ℤ pos (d + 1 - k) *ℤ f k

@@ -1,5 +1,4 @@
-use Rattle.std.proofs.lemmas.Grind.{common_steps}
-use Rattle.std.proofs.Common.{arith}
+use Rattle.bezier_core.proofs.Prelude.{common_steps, arith}
 use Rattle.bezier_core.proofs.BlendLemmas.{length_bounds}
 use Rattle.bezier_core.proofs.RaisedLemmas.{bernstein-raised}
 use Rattle.bezier_core.proofs.CurveLemmas.{raise}

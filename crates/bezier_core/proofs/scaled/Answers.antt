@@ -1,8 +1,4 @@
-use Rattle.std.proofs.lemmas.Grind.{common_steps}
-use Rattle.std.proofs.Common.{arith, ◌≡◌, ℕ, ℤ, pos, ◌+ℤ◌, ◌*ℤ◌, get_or-set_other, get_or-set_same, below_more}
-use Rattle.std.proofs.Math.ListN.{length-set}
-use Rattle.std.proofs.lemmas.Int.{to_z-of_z}
-use Rattle.fleet_math.proofs.RingLemmas.{linear}
+use Rattle.bezier_core.proofs.Prelude.{common_steps, arith, ◌≡◌, ℕ, ℤ, pos, ◌+ℤ◌, ◌*ℤ◌, get_or-set_other, get_or-set_same, below_more, length-set, to_z-of_z, linear}
 use Rattle.bezier_core.proofs.BlendLemmas.{length_bounds}
 use Rattle.bezier_core.proofs.scaled.Goals as goal
 

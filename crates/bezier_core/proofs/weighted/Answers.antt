@@ -1,6 +1,4 @@
-use Rattle.std.proofs.lemmas.Grind.{common_steps}
-use Rattle.std.proofs.Common.{arith}
-use Rattle.std.proofs.lemmas.Int.{to_z-of_z}
+use Rattle.bezier_core.proofs.Prelude.{common_steps, arith, to_z-of_z}
 use Rattle.bezier_core.proofs.EightLemmas.{weighted_below, weighted_fits}
 use Rattle.bezier_core.proofs.weighted.Goals as goal
 

@@ -1,4 +1,4 @@
-use Rattle.std.proofs.Common.{arith, ◌≡◌, ◌+◌, suc}
+use Rattle.fleet_math.proofs.Prelude.{arith, ◌≡◌, ◌+◌, suc}
 use Rattle.fleet_math.proofs.EdgeLemmas.{moment-edge, edge-same}
 use Rattle.fleet_math.proofs.edge_law.Goals as goal
 

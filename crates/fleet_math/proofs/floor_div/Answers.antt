@@ -1,8 +1,4 @@
-use Rattle.std.proofs.Common.{arith, ◌≡◌, ◌∙◌, ap, sym, subst, ℤ, pos, ◌-ℤ◌, ◌*ℤ◌, ◌<ℤ◌, ◌≤ℤ◌, FitsSigned, to_z, of_z, int_div, int_rem}
-use Rattle.std.proofs.lemmas.Int.{ints, quot_is, rem_is, quot_fits, to_z-of_z}
-use Rattle.std.proofs.Common.{true, false}
-use lib.Signed.{lt_z}
-use mir.Syntax.{w128}
+use Rattle.fleet_math.proofs.Prelude.{arith, ◌≡◌, ◌∙◌, ap, sym, subst, ℤ, pos, ◌-ℤ◌, ◌*ℤ◌, ◌<ℤ◌, ◌≤ℤ◌, FitsSigned, to_z, of_z, int_div, int_rem, ints, quot_is, rem_is, quot_fits, to_z-of_z, true, false, lt_z, w128}
 use Rattle.fleet_math.proofs.DivisionLemmas.{floor_below, floor_below_negative, floor_greatest, floor_greatest_negative, fits_less}
 use Rattle.fleet_math.proofs.floor_div.Goals as goal
 

@@ -1,6 +1,4 @@
-use Rattle.std.proofs.Common.{arith, ℤ, pos, ◌+ℤ◌, to_z, of_z, int_div, ℕ}
-use mir.Syntax.{w128}
-use Rattle.std.proofs.lemmas.Int.{ints}
+use Rattle.fleet_math.proofs.Prelude.{arith, ℤ, pos, ◌+ℤ◌, to_z, of_z, int_div, ℕ, w128, ints}
 use Rattle.fleet_math.proofs.DivisionLemmas.{square_at_most, square_above, root_least}
 use Rattle.fleet_math.proofs.least_root_above.Goals as goal
 

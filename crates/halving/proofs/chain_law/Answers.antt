@@ -1,4 +1,4 @@
-use Rattle.fleet_math.specs.Bernstein.{at}
+use Rattle.halving.proofs.Prelude.{at}
 use Rattle.halving.proofs.PolarLemmas.{chain}
 use Rattle.halving.proofs.chain_law.Goals as goal
 

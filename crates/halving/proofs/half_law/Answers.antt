@@ -1,4 +1,4 @@
-use Rattle.fleet_math.specs.Bernstein.{at}
+use Rattle.halving.proofs.Prelude.{at}
 use Rattle.halving.proofs.PolarLemmas.{left_half, right_half}
 use Rattle.halving.proofs.half_law.Goals as goal
 

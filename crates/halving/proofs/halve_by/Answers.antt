@@ -1,11 +1,5 @@
-use Rattle.std.proofs.lemmas.Grind.{common_steps}
-use Rattle.std.proofs.Common.{arith, rules, ◌≡◌, ◌*◌, ◌^◌, ℤ, sym, subst, List, length, All}
-use Rattle.fleet_math.specs.Bernstein.{at}
-use Rattle.fleet_math.proofs.BernsteinLemmas.{bernstein-zero}
-use Rattle.fleet_math.specs.Numbers.{IsBelow}
-use Rattle.bezier_core.proofs.EightLemmas.{eight_from_entries, below_at}
+use Rattle.halving.proofs.Prelude.{common_steps, arith, rules, ◌≡◌, ◌*◌, ◌^◌, ℤ, sym, subst, List, length, All, at, bernstein-zero, IsBelow, eight_from_entries, below_at, part_value}
 use Rattle.bezier_core.proofs.SizeLemmas.{eight_below}
-use Rattle.halving.specs.Part.{part_value}
 use Rattle.halving.proofs.HalfLemmas.{half_below}
 use Rattle.halving.proofs.halve_by.Goals as goal
 

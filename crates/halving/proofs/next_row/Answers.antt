@@ -1,10 +1,5 @@
-use Rattle.std.proofs.Common.{arith, rules, ◌≡◌, ◌≢◌, ◌<◌, ◌≤◌, ◌+◌, ◌-◌, ◌^◌, ℤ, pos, ◌+ℤ◌, ◌*ℤ◌, FitsSigned, sym, ◌∙◌, ap, length, get_or, get_or-set_other, get_or-set_same, below_more}
-use Rattle.std.proofs.lemmas.Int.{to_z-of_z}
-use Rattle.fleet_math.specs.Bernstein.{at}
-use Rattle.fleet_math.proofs.BernsteinLemmas.{by_lt}
-use Rattle.halving.specs.Part.{part_value}
+use Rattle.halving.proofs.Prelude.{arith, rules, ◌≡◌, ◌≢◌, ◌<◌, ◌≤◌, ◌+◌, ◌-◌, ◌^◌, ℤ, pos, ◌+ℤ◌, ◌*ℤ◌, FitsSigned, sym, ◌∙◌, ap, length, get_or, get_or-set_other, get_or-set_same, below_more, to_z-of_z, at, by_lt, part_value, w128}
 use Rattle.halving.proofs.HalfLemmas.{row_small, row_room, row_after, left_edge, right_edge}
-use mir.Syntax.{w128}
 use Rattle.halving.proofs.next_row.Goals as goal
 
 pub doubled-requires-clause-room : goal.doubled-requires-clause-room

@@ -1,8 +1,4 @@
-use Rattle.std.proofs.lemmas.Grind.{common_steps}
-use Rattle.std.proofs.Common.{arith, ◌^◌, ℤ, pos, ◌+ℤ◌, FitsSigned}
-use Rattle.std.proofs.lemmas.Int.{ints, to_z-of_z}
-use mir.Syntax.{w64}
-use Rattle.bezier_core.specs.Steps.{IsWithin}
+use Rattle.halving.proofs.Prelude.{common_steps, arith, ◌^◌, ℤ, pos, ◌+ℤ◌, FitsSigned, ints, to_z-of_z, w64, IsWithin}
 use Rattle.halving.proofs.sum.Goals as goal
 
 is_short : (z : ℤ) → IsWithin (pos (2 ^ 61)) z → FitsSigned w64 z

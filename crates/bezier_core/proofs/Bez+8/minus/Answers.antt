@@ -1,9 +1,4 @@
-use Rattle.std.proofs.lemmas.Grind.{common_steps}
-use Rattle.std.proofs.Common.{arith, ◌*◌, ◌^◌, ℕ, ℤ, ◌-ℤ◌, sym, subst, List, All, FitsSigned, to_z, of_z, lit<}
-use Rattle.std.proofs.lemmas.Int.{ints}
-use mir.Syntax.{w128}
-use Rattle.fleet_math.specs.Bernstein.{at}
-use Rattle.fleet_math.specs.Numbers.{IsBelow}
+use Rattle.bezier_core.proofs.Prelude.{common_steps, arith, ◌*◌, ◌^◌, ℕ, ℤ, ◌-ℤ◌, sym, subst, List, All, FitsSigned, to_z, of_z, lit<, ints, w128, at, IsBelow}
 use Rattle.bezier_core.proofs.EightLemmas.{same_eight, below_at, difference}
 use Rattle.bezier_core.proofs.SizeLemmas.{eight_below, difference_below}
 use Rattle.bezier_core.proofs.Bez+8.minus.Goals as goal

@@ -1,10 +1,4 @@
-use Rattle.std.proofs.Common.{arith, rules, ◌≡◌, ◌≤◌, ◌-◌, ◌*◌, ◌^◌, ℤ, pos, ◌*ℤ◌, sym, subst, ◌∙◌, FitsSigned, List, length, All, lit<}
-use Rattle.std.proofs.lemmas.Int.{ints, to_z-of_z}
-use mir.Syntax.{w128}
-use Rattle.fleet_math.specs.Bernstein.{at}
-use Rattle.fleet_math.specs.Numbers.{IsBelow}
-use Rattle.bezier_core.specs.Steps.{IsWithin}
-use Rattle.bezier_core.specs.Raised.{fact, raised_value}
+use Rattle.bezier_core.proofs.Prelude.{arith, rules, ◌≡◌, ◌≤◌, ◌-◌, ◌*◌, ◌^◌, ℤ, pos, ◌*ℤ◌, sym, subst, ◌∙◌, FitsSigned, List, length, All, lit<, ints, to_z-of_z, w128, at, IsBelow, IsWithin, fact, raised_value}
 use Rattle.bezier_core.proofs.BlendLemmas.{length_bounds}
 use Rattle.bezier_core.proofs.EightLemmas.{below_at, eight_from_entries}
 use Rattle.bezier_core.proofs.RaisedLemmas.{raised_by-small, raised_by-seven, next_matches}

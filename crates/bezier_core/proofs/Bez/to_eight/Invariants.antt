@@ -1,6 +1,4 @@
-use Rattle.std.proofs.Common.{◌≡◌, length, ℕ, ◌-◌, ◌≤◌, pos, ◌*ℤ◌}
-use Rattle.fleet_math.specs.Bernstein.{at}
-use Rattle.bezier_core.specs.Raised.{fact}
+use Rattle.bezier_core.proofs.Prelude.{◌≡◌, length, ℕ, ◌-◌, ◌≤◌, pos, ◌*ℤ◌, at, fact}
 use Rattle.bezier_core.proofs.RaisedLemmas.{raised_by}
 use Rattle.bezier_core.proofs.Bez.to_eight.Given as goal
 

@@ -1,11 +1,5 @@
-use Rattle.std.proofs.Common.{arith, rules, ◌≡◌, ◌<◌, ◌≤◌, ◌+◌, ◌-◌, ℕ, suc, pos, ◌+ℤ◌, ◌-ℤ◌, ◌*ℤ◌, FitsSigned, sym, ◌∙◌, get_or}
-use Rattle.std.proofs.lemmas.Int.{ints, to_z-of_z}
-use Rattle.fleet_math.specs.Sums.{power}
-use Rattle.fleet_math.specs.Bernstein.{at, bernstein, bern}
-use Rattle.fleet_math.proofs.BernsteinLemmas.{bernstein-zero}
-use Rattle.bezier_core.specs.Steps.{HasRoom, IsWithin}
+use Rattle.bezier_core.proofs.Prelude.{arith, rules, ◌≡◌, ◌<◌, ◌≤◌, ◌+◌, ◌-◌, ℕ, suc, pos, ◌+ℤ◌, ◌-ℤ◌, ◌*ℤ◌, FitsSigned, sym, ◌∙◌, get_or, ints, to_z-of_z, power, at, bernstein, bern, bernstein-zero, HasRoom, IsWithin, w128}
 use Rattle.bezier_core.proofs.BlendLemmas.{sum_kept, bound_kept, room_left, value_below, length_bounds}
-use mir.Syntax.{w128}
 use Rattle.bezier_core.proofs.Bez.value.Goals as goal
 
 pub lower-requires : goal.lower-requires

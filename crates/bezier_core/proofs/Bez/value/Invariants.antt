@@ -1,7 +1,4 @@
-use Rattle.std.proofs.Common.{◌≡◌, ℕ, ◌-◌, ◌<◌, ◌≤◌, pos, ◌*ℤ◌}
-use Rattle.fleet_math.specs.Sums.{power}
-use Rattle.fleet_math.specs.Bernstein.{at, bernstein, bern}
-use Rattle.bezier_core.specs.Steps.{IsWithin}
+use Rattle.bezier_core.proofs.Prelude.{◌≡◌, ℕ, ◌-◌, ◌<◌, ◌≤◌, pos, ◌*ℤ◌, power, at, bernstein, bern, IsWithin}
 use Rattle.bezier_core.proofs.Bez.value.Given as goal
 
 abbrev pub invariant-loop-last : goal.invariant-loop-last

@@ -1,5 +1,4 @@
-use Rattle.std.proofs.Common.{sym, ◌∙◌}
-use Rattle.mm_rounding.specs.Rounding.{rounded, axis_on, segment_of}
+use Rattle.mm_rounding.proofs.Prelude.{sym, ◌∙◌, rounded, axis_on, segment_of}
 use Rattle.mm_rounding.proofs.Elements.{all_fitted, third_unfitted}
 use Rattle.mm_rounding.proofs.rounding.round_piece.Goals as goal
 

@@ -1,9 +1,4 @@
-use Rattle.std.proofs.Common.{rules, sym, ap, ◌∙◌, FitsSigned}
-use Rattle.std.proofs.lemmas.Int.{to_z-of_z}
-use mir.Syntax.{w16}
-use Rattle.fleet_math.specs.Bernstein.{at}
-use Rattle.traj_codec.specs.declared.traj.Element.TheVariants.{Seven}
-use Rattle.mm_rounding.specs.Rounding.{all_equal, behind_first}
+use Rattle.mm_rounding.proofs.Prelude.{rules, sym, ap, ◌∙◌, FitsSigned, to_z-of_z, w16, at, Seven, all_equal, behind_first}
 use Rattle.mm_rounding.proofs.Elements.{seven_behind, unequal}
 use Rattle.mm_rounding.proofs.rounding.seven.Goals as goal
 

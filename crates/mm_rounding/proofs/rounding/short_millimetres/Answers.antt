@@ -1,7 +1,4 @@
-use Rattle.std.proofs.Common.{rules, FitsSigned, arith}
-use Rattle.std.proofs.lemmas.Int.{to_z-of_z}
-use mir.Syntax.{w64}
-use Rattle.fleet_math.specs.Bernstein.{at}
+use Rattle.mm_rounding.proofs.Prelude.{rules, FitsSigned, arith, to_z-of_z, w64, at}
 use Rattle.mm_rounding.proofs.Elements.{one_unfitted}
 use Rattle.mm_rounding.proofs.rounding.short_millimetres.Goals as goal
 

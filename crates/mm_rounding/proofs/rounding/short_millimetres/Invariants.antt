@@ -1,6 +1,4 @@
-use Rattle.std.proofs.Common.{◌≡◌, true, map, length, take}
-use Rattle.std.specs.List.{list_all}
-use Rattle.mm_rounding.specs.Rounding.{millimetres, is_short}
+use Rattle.mm_rounding.proofs.Prelude.{◌≡◌, true, map, length, take, list_all, millimetres, is_short}
 use Rattle.mm_rounding.proofs.rounding.short_millimetres.Given as goal
 
 -- this many numbers fit, and are kept

@@ -1,6 +1,4 @@
-use Rattle.std.proofs.Common.{◌≡◌, true, length, take}
-use Rattle.std.specs.List.{list_all}
-use Rattle.mm_rounding.specs.Rounding.{is_short}
+use Rattle.mm_rounding.proofs.Prelude.{◌≡◌, true, length, take, list_all, is_short}
 use Rattle.mm_rounding.proofs.rounding.shorts.Given as goal
 
 -- this many numbers fit, and are kept

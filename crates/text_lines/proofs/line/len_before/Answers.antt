@@ -1,5 +1,4 @@
-use Rattle.std.proofs.Common.{◌∙◌, arith}
-use Rattle.std.specs.Prelude.{◌==◌}
+use Rattle.text_lines.proofs.Prelude.{◌∙◌, arith, ◌==◌}
 use Rattle.text_lines.proofs.Cuts.{first_found, position_within}
 use Rattle.text_lines.proofs.line.len_before.Goals as goal
 

@@ -1,5 +1,4 @@
-use Rattle.std.proofs.Common.{◌≡◌, ◌+◌, ◌<◌, length, take, drop, ap, sym, arith, rules}
-use Rattle.std.proofs.lemmas.List.{take_rest, length-take, length-drop, drop_all}
+use Rattle.text_lines.proofs.Prelude.{◌≡◌, ◌+◌, ◌<◌, length, take, drop, ap, sym, arith, rules, take_rest, length-take, length-drop, drop_all}
 use Rattle.text_lines.proofs.Cuts.{line_more, line_last}
 use Rattle.text_lines.proofs.line.split_line.Goals as goal
 

@@ -1,6 +1,4 @@
-use Rattle.std.proofs.Common.{◌+◌, ◌*◌, ◌-◌, ◌≤◌, sym, ◌∙◌, drop, length, get_or, arith}
-use Rattle.std.proofs.lemmas.List.{take_rest}
-use Rattle.text_lines.specs.Steps.{number_at}
+use Rattle.text_lines.proofs.Prelude.{◌+◌, ◌*◌, ◌-◌, ◌≤◌, sym, ◌∙◌, drop, length, get_or, arith, take_rest, number_at}
 use Rattle.text_lines.proofs.Digits.{digit_more, four_more, capped, capped_one}
 use Rattle.text_lines.proofs.number.natural.Goals as goal
 

@@ -1,6 +1,4 @@
-use Rattle.std.proofs.Common.{◌≡◌, ℕ, ◌-◌, ◌≤◌, length, drop}
-use Rattle.std.specs.Prelude.{min}
-use Rattle.text_lines.specs.Numbers.{natural_of, digits_after}
+use Rattle.text_lines.proofs.Prelude.{◌≡◌, ℕ, ◌-◌, ◌≤◌, length, drop, min, natural_of, digits_after}
 use Rattle.text_lines.proofs.number.natural.Given as goal
 
 abbrev pub invariant-fours : goal.invariant-fours

@@ -1,6 +1,5 @@
-use Rattle.std.proofs.Common.{◌≡◌, ℕ, ◌-◌, true, false, List, drop, take, length, option_map, rules, arith}
+use Rattle.text_lines.proofs.Prelude.{◌≡◌, ℕ, ◌-◌, true, false, List, drop, take, length, option_map, rules, arith, signed, natural_of, number_of, begins_with_minus as begins_with_minus_of}
 use Rattle.std.proofs.lemmas.Grind.{common_steps}
-use Rattle.text_lines.specs.Numbers.{signed, natural_of, number_of, begins_with_minus as begins_with_minus_of}
 use Rattle.text_lines.proofs.number.number_in.Goals as goal
 
 negative : (w : List ℕ) → true ≡ begins_with_minus_of w → number_of w ≡ option_map (signed true) (natural_of (take (length w - 1) (drop 1 w)))

@@ -1,4 +1,4 @@
-use Rattle.std.proofs.Common.{arith}
+use Rattle.text_lines.proofs.Prelude.{arith}
 use Rattle.text_lines.proofs.ByLine.{lines_front}
 use Rattle.text_lines.proofs.token.line_word_count.Goals as goal
 

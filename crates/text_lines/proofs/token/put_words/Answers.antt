@@ -1,5 +1,4 @@
-use Rattle.std.proofs.Common.{ℕ, arith}
-use Rattle.std.proofs.lemmas.List.{take_rest, length-take, length-drop}
+use Rattle.text_lines.proofs.Prelude.{ℕ, arith, take_rest, length-take, length-drop}
 use Rattle.text_lines.proofs.Cuts.{word_more, word_last}
 use Rattle.text_lines.proofs.token.put_words.Goals as goal
 

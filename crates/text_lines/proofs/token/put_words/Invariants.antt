@@ -1,5 +1,4 @@
-use Rattle.std.proofs.Common.{◌≡◌, ◌+◌, ◌++◌, length}
-use Rattle.text_lines.specs.Tokens.{line_tokens}
+use Rattle.text_lines.proofs.Prelude.{◌≡◌, ◌+◌, ◌++◌, length, line_tokens}
 use Rattle.text_lines.proofs.token.put_words.Given as goal
 
 abbrev pub invariant-words : goal.invariant-words

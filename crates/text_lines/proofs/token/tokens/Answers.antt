@@ -1,5 +1,4 @@
-use Rattle.std.proofs.Common.{◌≡◌, ◌+◌, ◌-◌, ◌≤◌, length, ap, ◌∙◌, arith}
-use Rattle.std.proofs.lemmas.List.{length-drop}
+use Rattle.text_lines.proofs.Prelude.{◌≡◌, ◌+◌, ◌-◌, ◌≤◌, length, ap, ◌∙◌, arith, length-drop}
 use Rattle.text_lines.proofs.Cuts.{line_put}
 use Rattle.text_lines.proofs.token.tokens.Goals as goal
 

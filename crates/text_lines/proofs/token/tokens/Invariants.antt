@@ -1,6 +1,4 @@
-use Rattle.std.proofs.Common.{◌≡◌, ◌+◌, ◌<◌, ◌≤◌, ◌++◌, length}
-use Rattle.text_lines.specs.Lines.{lines_of}
-use Rattle.text_lines.specs.Tokens.{tokens_from, tokens_of}
+use Rattle.text_lines.proofs.Prelude.{◌≡◌, ◌+◌, ◌<◌, ◌≤◌, ◌++◌, length, lines_of, tokens_from, tokens_of}
 use Rattle.text_lines.proofs.token.tokens.Given as goal
 
 abbrev pub invariant-lines : goal.invariant-lines

@@ -1,4 +1,4 @@
-use Rattle.std.proofs.Common.{◌+◌, ◌≤◌, length, arith}
+use Rattle.text_lines.proofs.Prelude.{◌+◌, ◌≤◌, length, arith}
 use Rattle.text_lines.proofs.Solid.{passed_four}
 use Rattle.text_lines.proofs.token.word_len.Goals as goal
 

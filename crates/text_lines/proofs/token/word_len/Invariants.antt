@@ -1,4 +1,4 @@
-use Rattle.std.proofs.Common.{◌-◌, ◌≤◌, length}
+use Rattle.text_lines.proofs.Prelude.{◌-◌, ◌≤◌, length}
 use Rattle.text_lines.proofs.Solid.{IsPassed}
 use Rattle.text_lines.proofs.token.word_len.Given as goal
 

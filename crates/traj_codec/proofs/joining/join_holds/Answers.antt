@@ -1,7 +1,4 @@
-use Rattle.std.proofs.Common.{◌≡◌, ap, subst, List, arith, ◌∙◌, sym}
-use Rattle.traj_codec.specs.declared.traj.Segment.{Segment}
-use Rattle.traj_codec.specs.declared.traj.Traj.{Traj}
-use Rattle.traj_codec.specs.Joined.{SameCurve, joined}
+use Rattle.traj_codec.proofs.Prelude.{◌≡◌, ap, subst, List, arith, ◌∙◌, sym, Segment, Traj, SameCurve, joined}
 use Rattle.traj_codec.proofs.JoinedLemmas.{join_same, lasting_of}
 use Rattle.traj_codec.proofs.StepLemmas.{joined_step, joined_end}
 use Rattle.traj_codec.proofs.joining.join_holds.Goals as goal

@@ -1,5 +1,4 @@
-use Rattle.std.proofs.Common.{◌≡◌, ◌++◌, drop}
-use Rattle.traj_codec.specs.Joined.{joined_from}
+use Rattle.traj_codec.proofs.Prelude.{◌≡◌, ◌++◌, drop, joined_from}
 use Rattle.traj_codec.proofs.joining.join_holds.Given as goal
 
 -- what is put so far and what is left are all

@@ -1,6 +1,4 @@
-use Rattle.std.proofs.Common.{◌≡◌, length, Err, Ok, arith}
-use Rattle.std.proofs.lemmas.Result.{err_from_is_err_and}
-use Rattle.traj_codec.specs.Reading.{DecodeGives}
+use Rattle.traj_codec.proofs.Prelude.{◌≡◌, length, Err, Ok, arith, err_from_is_err_and, DecodeGives}
 use Rattle.traj_codec.proofs.DecodeLemmas.{gives_ok, gives_fault, only_one}
 use Rattle.traj_codec.proofs.reading.decode.Goals as goal
 

@@ -1,6 +1,4 @@
-use Rattle.std.proofs.Common.{◌+◌, ◌/◌, ◌%◌, ◌≤◌, length, arith}
-use Rattle.std.proofs.lemmas.Result.{err_from_is_err_and}
-use Rattle.traj_codec.specs.Reading.{count_of_kind, count_under}
+use Rattle.traj_codec.proofs.Prelude.{◌+◌, ◌/◌, ◌%◌, ◌≤◌, length, arith, err_from_is_err_and, count_of_kind, count_under}
 use Rattle.traj_codec.proofs.ReadingLemmas.{fault_among, element_next}
 use Rattle.traj_codec.proofs.reading.elements_at.Goals as goal
 

@@ -1,7 +1,4 @@
-use Rattle.std.proofs.Common.{◌+◌, ◌-◌, length, Option, None, ap, arith}
-use Rattle.std.specs.Option.{option_or}
-use Rattle.std.proofs.lemmas.Result.{err_from_is_err_and}
-use Rattle.traj_codec.specs.declared.reading.CodecFault.{CodecFault}
+use Rattle.traj_codec.proofs.Prelude.{◌+◌, ◌-◌, length, Option, None, ap, arith, option_or, err_from_is_err_and, CodecFault}
 use Rattle.traj_codec.proofs.ReadingLemmas.{fault_among}
 use Rattle.traj_codec.proofs.reading.numbers_at.Goals as goal
 

@@ -1,5 +1,4 @@
-use Rattle.std.proofs.Common.{◌≡◌, ◌+◌, ◌*◌, take}
-use Rattle.traj_codec.specs.Reading.{NumbersStand}
+use Rattle.traj_codec.proofs.Prelude.{◌≡◌, ◌+◌, ◌*◌, take, NumbersStand}
 use Rattle.traj_codec.proofs.reading.numbers_at.Given as goal
 
 abbrev pub invariant-loop-z : goal.invariant-loop-z

@@ -1,7 +1,4 @@
-use Rattle.std.proofs.Common.{◌≡◌, suc, ◌+◌, ◌-◌, ◌≤◌, List, length, ap, ◌∙◌, sym, subst, arith}
-use Rattle.std.proofs.lemmas.Result.{err_from_is_err_and}
-use Rattle.traj_codec.specs.declared.traj.Segment.{Segment}
-use Rattle.traj_codec.specs.Reading.{SegmentsStand, segments_fault}
+use Rattle.traj_codec.proofs.Prelude.{◌≡◌, suc, ◌+◌, ◌-◌, ◌≤◌, List, length, ap, ◌∙◌, sym, subst, arith, err_from_is_err_and, Segment, SegmentsStand, segments_fault}
 use Rattle.traj_codec.proofs.ReadingLemmas.{segments_more, segment_step, segments_fault-among}
 use Rattle.traj_codec.proofs.reading.segments_at.Goals as goal
 

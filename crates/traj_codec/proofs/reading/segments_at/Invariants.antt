@@ -1,5 +1,4 @@
-use Rattle.std.proofs.Common.{◌≡◌, ℕ, ◌+◌, length}
-use Rattle.traj_codec.specs.Reading.{SegmentsStand, segments_fault}
+use Rattle.traj_codec.proofs.Prelude.{◌≡◌, ℕ, ◌+◌, length, SegmentsStand, segments_fault}
 use Rattle.traj_codec.proofs.reading.segments_at.Given as goal
 
 abbrev pub invariant-loop : goal.invariant-loop

@@ -1,7 +1,4 @@
-use Rattle.std.proofs.Common.{◌≡◌, ◌+◌, length, take, ap, ◌∙◌, sym, arith}
-use Rattle.std.specs.List.{flat_map}
-use Rattle.std.proofs.lemmas.List.{take_all}
-use Rattle.traj_codec.specs.Spelling.{segment}
+use Rattle.traj_codec.proofs.Prelude.{◌≡◌, ◌+◌, length, take, ap, ◌∙◌, sym, arith, flat_map, take_all, segment}
 use Rattle.traj_codec.proofs.Sizes.{total_size}
 use Rattle.traj_codec.proofs.writing.size_of.Goals as goal
 

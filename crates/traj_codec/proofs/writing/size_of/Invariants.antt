@@ -1,6 +1,4 @@
-use Rattle.std.proofs.Common.{◌≡◌, ◌+◌, ◌*◌, ◌≤◌, length, take}
-use Rattle.std.specs.List.{flat_map}
-use Rattle.traj_codec.specs.Spelling.{segment}
+use Rattle.traj_codec.proofs.Prelude.{◌≡◌, ◌+◌, ◌*◌, ◌≤◌, length, take, flat_map, segment}
 use Rattle.traj_codec.proofs.writing.size_of.Given as goal
 
 abbrev pub invariant-loop-s : goal.invariant-loop-s
