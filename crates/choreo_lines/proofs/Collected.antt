@@ -1,13 +1,6 @@
 -- Words that are read from the left, one by one.
-use Rattle.std.proofs.Common.{◌≡◌, ℕ, suc, ◌+◌, ◌<◌, ◌≤◌, List, [], ◌∷◌, ◌++◌, length, get_or, drop, refl, sym, ap, ◌∙◌, append_assoc, add-one, drop-cons, Result, Ok, Err}
-use Rattle.std.proofs.lemmas.List.{drop_all, append-nil}
-use Rattle.text_lines.specs.Tokens.{words_in, word_in}
+use Rattle.choreo_lines.proofs.Prelude.{◌≡◌, ℕ, suc, ◌+◌, ◌<◌, ◌≤◌, List, [], ◌∷◌, ◌++◌, length, get_or, drop, refl, sym, ap, ◌∙◌, append_assoc, add-one, drop-cons, Result, Ok, Err, drop_all, append-nil, words_in, word_in, ◌>>=◌, name_in, names_in, value_in, values_in, LineKind, Want, Value, Name}
 use Rattle.text_lines.specs.declared.token.Token.{Token}
-use Rattle.choreo_lines.specs.Fields.{◌>>=◌, name_in, names_in, value_in, values_in}
-use Rattle.choreo_lines.specs.declared.line.LineKind.{LineKind}
-use Rattle.choreo_lines.specs.declared.table.Want.{Want}
-use Rattle.choreo_lines.specs.declared.table.Value.{Value}
-use Rattle.choreo_lines.specs.Name.{Name}
 
 -- what is read after what was read so far
 abbrev pub with_front : {A : Type 0} → List A → Result (List A) LineKind → Result (List A) LineKind

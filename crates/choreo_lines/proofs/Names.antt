@@ -1,13 +1,10 @@
 -- A name is a word: it has a byte, and no byte of it is a blank or a line feed.
-use Rattle.std.proofs.lemmas.Grind.{common_steps}
-use Rattle.std.proofs.Common.{◌≡◌, ℕ, ◌<◌, ◌≤◌, true, false, List, [], ◌∷◌, length, get_or, arith}
+use Rattle.choreo_lines.proofs.Prelude.{common_steps, ◌≡◌, ℕ, ◌<◌, ◌≤◌, true, false, List, [], ◌∷◌, length, get_or, arith, and_parts, cases_Bool, goes_in_name, begins_lower, is_name}
 use Rattle.std.specs.List.{list_all}
-use Rattle.std.proofs.lemmas.Bool.{and_parts, cases_Bool}
 use Rattle.std.proofs.lemmas.Bool.Decides.{nat_tests}
 use Rattle.std.proofs.lemmas.List.Folds.{list_all_at}
 use Rattle.text_lines.specs.Lines.{is_line_feed}
 use Rattle.text_lines.specs.Words.{is_blank}
-use Rattle.choreo_lines.specs.Name.{goes_in_name, begins_lower, is_name}
 
 -- a name begins with a letter, and all its bytes go in a name
 name_parts : (word : List ℕ) → is_name word ≡ true → (begins_lower word ≡ true) × (list_all goes_in_name word ≡ true)

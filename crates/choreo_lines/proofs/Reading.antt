@@ -1,24 +1,10 @@
 -- How a line is read, step by step: what each step gave, and by which first word.
-use Rattle.std.proofs.lemmas.Grind.{common_steps}
-use Rattle.std.proofs.Common.{◌≡◌, Bool, true, false, List, drop, Result, Ok, Err, refl, sym, ap, subst, ◌∙◌, cond, arith}
-use Rattle.std.specs.Prelude.{not, length}
-use Rattle.std.proofs.lemmas.Bool.{and_parts}
-use Rattle.choreo_lines.specs.Name.{Name, is_name}
+use Rattle.choreo_lines.proofs.Prelude.{common_steps, ◌≡◌, Bool, true, false, List, drop, Result, Ok, Err, refl, sym, ap, subst, ◌∙◌, cond, arith, not, length, and_parts, Name, is_name, Word, word, row_of, has_count, may_stand, as_read, keyword_in, entry_with, ◌>>=◌, name_in, values_in, names_in, act_in, act_line, row_line, line_in, line_at, entry_of, may_say, LineKind, Keyword, Place, Entry, Act, Value}
 use Rattle.choreo_lines.specs.FirstWord.{keyword_of}
-use Rattle.choreo_lines.specs.Table.{Word, word, row_of, has_count, may_stand, as_read}
-use Rattle.choreo_lines.specs.Values.{keyword_in, entry_with}
-use Rattle.choreo_lines.specs.Fields.{◌>>=◌, name_in, values_in, names_in, act_in, act_line, row_line, line_in, line_at, entry_of}
-use Rattle.choreo_lines.specs.Says.{may_say}
-use Rattle.choreo_lines.specs.declared.line.LineKind.{LineKind}
 use Rattle.choreo_lines.specs.declared.line.LineKind.TheVariants as kind
-use Rattle.choreo_lines.specs.declared.line.Keyword.{Keyword}
 use Rattle.choreo_lines.specs.declared.line.Keyword.TheVariants as first
-use Rattle.choreo_lines.specs.declared.line.Place.{Place}
 use Rattle.choreo_lines.specs.declared.line.Place.TheVariants as place
-use Rattle.choreo_lines.specs.declared.line.Entry.{Entry}
 use Rattle.choreo_lines.specs.declared.line.Entry.TheVariants as entry
-use Rattle.choreo_lines.specs.declared.parts.Act.{Act}
-use Rattle.choreo_lines.specs.declared.table.Value.{Value}
 
 -- Steps that gave a value.
 

@@ -1,9 +1,6 @@
 -- Lines whose entries and faults were worked out by hand from the page of the language.
-use Rattle.std.proofs.Common.{◌≡◌, List, [], ◌∷◌, Some, Ok, refl}
-use Rattle.std.specs.Prelude.{List, ℕ, ℤ, ◌≤ℤ◌, pos, neg_ℤ, true, false, codes}
-use Rattle.choreo_lines.specs.Fields.{values_in, names_in, act_in, act_line, row_line, entry_of, kind_in}
+use Rattle.choreo_lines.proofs.Prelude.{◌≡◌, List, [], ◌∷◌, Some, Ok, refl, ℕ, ℤ, ◌≤ℤ◌, pos, neg_ℤ, true, false, codes, values_in, names_in, act_in, act_line, row_line, entry_of, kind_in, Says}
 use Rattle.text_lines.specs.Numbers.{IsNumber, number_of}
-use Rattle.choreo_lines.specs.Says.{Says}
 use Rattle.choreo_lines.specs.declared.line.LineKind.TheVariants as kind
 use Rattle.choreo_lines.specs.declared.line.Place.TheVariants.{Top, InRepeat, InCue, InFigureCue}
 use Rattle.choreo_lines.specs.declared.line.Entry.TheVariants as entry

@@ -1,31 +1,15 @@
 -- The words of a line say an entry exactly where the line is read as that entry.
-use Rattle.std.proofs.lemmas.Grind.{common_steps}
-use Rattle.std.proofs.Common.{◌≡◌, ℕ, suc, ◌+◌, ◌≤◌, Bool, true, false, List, [], ◌∷◌, ◌++◌, map, take, drop, Some, None, Option, Result, Ok, Err, refl, sym, ap, subst, ◌∙◌, cond, arith, eqb-true, eq-eqb, le-leb}
-use Rattle.std.specs.Prelude.{◌&&◌, ◌==◌, bytes_eq, codes, length, nat_le, nat_abs, ℤ, pos, negsuc, ◌≤ℤ◌, IsTrue}
-use Rattle.std.proofs.lemmas.Bool.{and_parts, leb-true}
+use Rattle.choreo_lines.proofs.Prelude.{common_steps, ◌≡◌, ℕ, suc, ◌+◌, ◌≤◌, Bool, true, false, List, [], ◌∷◌, ◌++◌, map, take, drop, Some, None, Option, Result, Ok, Err, refl, sym, ap, subst, ◌∙◌, cond, arith, eqb-true, eq-eqb, le-leb, ◌&&◌, ◌==◌, bytes_eq, codes, length, nat_le, nat_abs, ℤ, pos, negsuc, ◌≤ℤ◌, IsTrue, and_parts, leb-true, drop_all, take_all, append-nil, Name, is_name, Word, word, Row, row_of, act_places, has_count, act_of, Fits, AllFit, name_of, act_fields, act_with, keyword_in, fields_of, entry_with, ◌>>=◌, judged, name_in, mirror_in, smooth_in, ccw_in, value_in, values_in, names_in, act_by, act_in, act_line, row_line, entry_of, Holds, AllHold, SaysAct, Says, may_say, LineKind, Keyword, Place, Entry, Act, Want, Value}
 use Rattle.std.proofs.lemmas.Slice.Eq.{bytes_eq-Decides}
-use Rattle.std.proofs.lemmas.List.{drop_all, take_all, append-nil}
 use Rattle.text_lines.specs.declared.number.NumberFault.{NumberFault}
 use Rattle.text_lines.proofs.NumberLaws.{read_is_number, number_is_read}
-use Rattle.choreo_lines.specs.Name.{Name, is_name}
-use Rattle.choreo_lines.specs.Table.{Word, word, Row, row_of, act_places, has_count, act_of}
-use Rattle.choreo_lines.specs.Values.{Fits, AllFit, name_of, act_fields, act_with, keyword_in, fields_of, entry_with}
-use Rattle.choreo_lines.specs.Fields.{◌>>=◌, judged, name_in, mirror_in, smooth_in, ccw_in, value_in, values_in, names_in, act_by, act_in, act_line, row_line, entry_of}
-use Rattle.choreo_lines.specs.Says.{Holds, AllHold, SaysAct, Says, may_say}
 use Rattle.choreo_lines.proofs.Reading.{two, passed, name_read, acted, Rowed, rowed, IsRead, read_of, read_entry}
-use Rattle.choreo_lines.specs.declared.line.LineKind.{LineKind}
 use Rattle.choreo_lines.specs.declared.line.LineKind.TheVariants as kind
-use Rattle.choreo_lines.specs.declared.line.Keyword.{Keyword}
 use Rattle.choreo_lines.specs.declared.line.Keyword.TheVariants as first
-use Rattle.choreo_lines.specs.declared.line.Place.{Place}
-use Rattle.choreo_lines.specs.declared.line.Entry.{Entry}
 use Rattle.choreo_lines.specs.declared.line.Entry.TheVariants as entry
-use Rattle.choreo_lines.specs.declared.parts.Act.{Act}
 use Rattle.choreo_lines.specs.declared.parts.Mirror.{Mirror}
 use Rattle.choreo_lines.specs.declared.parts.Mirror.TheVariants as mirror
-use Rattle.choreo_lines.specs.declared.table.Want.{Want}
 use Rattle.choreo_lines.specs.declared.table.Want.TheVariants as want
-use Rattle.choreo_lines.specs.declared.table.Value.{Value}
 use Rattle.choreo_lines.specs.declared.table.Value.TheVariants.{Name as Named, Mirror as Mirrored, Smooth, Ccw, Number}
 use Rattle.choreo_lines.specs.declared.table.ActWord.{ActWord}
 use Rattle.choreo_lines.specs.declared.table.ActWord.TheVariants as word_of

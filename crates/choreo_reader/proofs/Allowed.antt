@@ -1,14 +1,6 @@
 -- Which texts have no forbidden byte; among them are those whose bytes may all stand anywhere.
-use Rattle.std.proofs.Common.{◌≡◌, ℕ, zero, suc, ◌+◌, Bool, true, false, cond, List, [], ◌∷◌, take, Option, Some, None, refl, sym, ap, ◌∙◌}
-use Rattle.std.specs.Prelude.{◌&&◌, ◌||◌, ◌==◌}
-use Rattle.std.specs.List.{list_all, onto_first, position_or_len}
-use Rattle.std.proofs.lemmas.Bool.{false≢true}
-use Rattle.text_lines.specs.Lines.{is_line_feed, between_feeds, without_empty_end, lines_of}
-use Rattle.text_lines.specs.Words.{visible}
-use Rattle.text_lines.specs.declared.token.Comments.TheVariants.{FromHash}
+use Rattle.choreo_reader.proofs.Prelude.{◌≡◌, ℕ, zero, suc, ◌+◌, Bool, true, false, cond, List, [], ◌∷◌, take, Option, Some, None, refl, sym, ap, ◌∙◌, ◌&&◌, ◌||◌, ◌==◌, list_all, onto_first, position_or_len, false≢true, is_line_feed, between_feeds, without_empty_end, lines_of, visible, FromHash, Fault, are_allowed, forbidden, forbidden_from, fault_at, stands_anywhere}
 use Rattle.choreo_lines.specs.declared.line.LineKind.TheVariants as kind
-use Rattle.choreo_reader.specs.Text.{Fault, are_allowed, forbidden, forbidden_from, fault_at}
-use Rattle.choreo_reader.specs.Steps.{stands_anywhere}
 
 both : (a b : Bool) → (a && b) ≡ true → (a ≡ true) × (b ≡ true)
 both true b h = (refl, h)

@@ -1,27 +1,10 @@
 -- What the grammar says is read.
-use Rattle.std.proofs.lemmas.Grind.{common_steps}
-use Rattle.std.proofs.Common.{◌≡◌, ℕ, ◌+◌, ◌<◌, ◌≤◌, Bool, true, false, List, [], ◌∷◌, ◌++◌, map, Option, Some, None, Ok, refl, sym, ap, ◌∙◌, arith, append_assoc}
-use Rattle.std.specs.Prelude.{◌&&◌, nat_le}
-use Rattle.std.proofs.lemmas.List.{append-nil}
-use Rattle.std.proofs.lemmas.Bool.{and_parts, false≢true}
-use Rattle.std.specs.List.{list_all}
-use Rattle.text_lines.specs.Words.{Line}
+use Rattle.choreo_reader.proofs.Prelude.{common_steps, ◌≡◌, ℕ, ◌+◌, ◌<◌, ◌≤◌, Bool, true, false, List, [], ◌∷◌, ◌++◌, map, Option, Some, None, Ok, refl, sym, ap, ◌∙◌, arith, append_assoc, ◌&&◌, nat_le, append-nil, and_parts, false≢true, list_all, Line, Body, PlainFigure, PlainShow, has_block, ◌⨾◌, SaidLine, IsSaid, at, anywhere, act_said, body_said, is_filled, depth, fits_figure, names_one, may_say, Opening, OpenRepeat, OpenCue, fault_if, place_of, place_in, in_figure, repeats, is_empty_block, Open, InFormation, InFigure, InRepeat, InCue, Built, Step, context_of, openings_of, outer_openings, add_block, with_block, close, build, line_step, lines_step, then_step, built_by, unless, entry_fault, body_assoc, body_done, says_entry, Entry, nat_tests, ActLine}
 use Rattle.choreo_show.specs.Plain as plain
-use Rattle.choreo_show.specs.Plain.{Body, PlainFigure, PlainShow, has_block, ◌⨾◌}
-use Rattle.choreo_reader.specs.Grammar.{SaidLine, IsSaid, at, anywhere, act_said, body_said}
 use Rattle.choreo_reader.proofs.Items.{closing, AreSaid}
-use Rattle.choreo_show.specs.Shape.{is_filled, depth, fits_figure, names_one}
-use Rattle.choreo_lines.specs.Says.{may_say}
-use Rattle.choreo_reader.specs.Context.{Opening, OpenRepeat, OpenCue, fault_if, place_of, place_in, in_figure, repeats, is_empty_block}
-use Rattle.choreo_reader.specs.Reading.{Open, InFormation, InFigure, InRepeat, InCue, Built, Step, context_of, openings_of, outer_openings, add_block, with_block, close, build, line_step, lines_step, then_step, built_by, unless, entry_fault}
-use Rattle.choreo_show.proofs.Blocks.{body_assoc, body_done}
-use Rattle.choreo_lines.proofs.Saying.{says_entry}
 use Rattle.choreo_lines.specs.declared.line.Place.TheVariants as place
-use Rattle.choreo_lines.specs.declared.line.Entry.{Entry}
 use Rattle.choreo_lines.specs.declared.line.Entry.TheVariants as entry
 use Rattle.choreo_lines.specs.declared.line.LineKind.TheVariants as kind
-use Rattle.std.proofs.lemmas.Bool.Decides.{nat_tests}
-use Rattle.choreo_show.specs.declared.show.ActLine.{ActLine}
 use Rattle.choreo_show.specs.declared.show.ActLine.TheVariants as on
 
 -- the lines lead from one state to another, whatever follows

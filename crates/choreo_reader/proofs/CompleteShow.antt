@@ -1,22 +1,11 @@
 -- Every show's texts are read as that show.
-use Rattle.std.proofs.lemmas.Grind.{common_steps}
-use Rattle.std.proofs.Common.{◌≡◌, ℕ, ◌+◌, ◌≤◌, Bool, true, false, List, [], ◌∷◌, ◌++◌, length, map, Option, Some, None, Ok, refl, sym, ap, ◌∙◌, arith, cond, append_assoc}
-use Rattle.std.proofs.lemmas.List.Elements.{recursion_from_All}
-use Rattle.std.specs.Prelude.{not, is_some, codes}
-use Rattle.std.proofs.lemmas.List.{append-nil}
-use Rattle.text_lines.specs.Words.{Line}
+use Rattle.choreo_reader.proofs.Prelude.{common_steps, ◌≡◌, ℕ, ◌+◌, ◌≤◌, Bool, true, false, List, [], ◌∷◌, ◌++◌, length, map, Option, Some, None, Ok, refl, sym, ap, ◌∙◌, arith, cond, append_assoc, recursion_from_All, not, is_some, codes, append-nil, Line, Name, Body, PlainFigure, PlainShow, has_block, ◌⨾◌, body_said, Item, Memory, Trajectory, Ellipsoid, Stray, Late, Drone, Formed, Figured, Blocks, item_said, show_of, IsItem, HasSingleSettings, StandsFor, parts_of, fault_if, is_header, end_fault, InFormation, InFigure, Built, nothing, built_show, is_any, lines_step, finish, finish_with, openings_of, reading, DroneLine}
 use Rattle.choreo_show.specs.Plain as plain
-use Rattle.choreo_lines.specs.Name.{Name}
-use Rattle.choreo_show.specs.Plain.{Body, PlainFigure, PlainShow, has_block, ◌⨾◌}
-use Rattle.choreo_reader.specs.Grammar.{body_said, Item, Memory, Trajectory, Ellipsoid, Stray, Late, Drone, Formed, Figured, Blocks, item_said, show_of, IsItem, HasSingleSettings, StandsFor, parts_of}
 use Rattle.choreo_reader.proofs.Items.{closing, place_said, items_said, AreItems, AreSaid, add_item, Fresh, parts_in, show_in, item_in, with_last, parts_of-more}
-use Rattle.choreo_reader.specs.Context.{fault_if, is_header, end_fault}
-use Rattle.choreo_reader.specs.Reading.{InFormation, InFigure, Built, nothing, built_show, is_any, lines_step, finish, finish_with, openings_of, reading}
 use Rattle.choreo_reader.proofs.Allowed.{clean_none}
 use Rattle.choreo_reader.proofs.Complete.{Reads, reads_none, reads_then, reads_to, reads_list, split, first_said, numbered_step, said_anywhere, with_open, enclosed, block_lines, body_reads}
 use Rattle.choreo_lines.specs.declared.line.Entry.TheVariants as entry
 use Rattle.choreo_lines.specs.declared.line.LineKind.TheVariants as kind
-use Rattle.choreo_show.specs.declared.show.DroneLine.{DroneLine}
 
 -- the lines `at` of a formation
 places_read : (places done : List DroneLine) (s : Built) (line : ℕ) (name : Name) (ls : List Line) → AreSaid ls (map place_said places) → Reads (with_open s (InFormation line name done ∷ [])) ls (with_open s (InFormation line name (done ++ places) ∷ []))

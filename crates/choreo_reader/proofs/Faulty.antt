@@ -1,33 +1,16 @@
 -- The fault of a reading is the first fault of the text by the contexts of its lines.
-use Rattle.std.proofs.lemmas.Grind.{common_steps}
-use Rattle.std.proofs.Common.{◌≡◌, ℕ, Bool, true, false, List, [], ◌∷◌, ◌++◌, Option, Some, None, Result, Ok, Err, refl, sym, ap, subst, ◌∙◌, cond, arith}
-use Rattle.std.specs.Prelude.{◌&&◌, ◌||◌, is_some}
-use Rattle.text_lines.specs.Words.{Line}
-use Rattle.choreo_reader.specs.Text.{show_lines}
+use Rattle.choreo_reader.proofs.Prelude.{common_steps, ◌≡◌, ℕ, Bool, true, false, List, [], ◌∷◌, ◌++◌, Option, Some, None, Result, Ok, Err, refl, sym, ap, subst, ◌∙◌, cond, arith, ◌&&◌, ◌||◌, is_some, Line, show_lines, Name, Body, PlainShow, has_block, ◌⨾◌, keyword_in, Says, may_say, Fault, fault_at, forbidden, Context, open_fault, line_fault, Opened, OpenFormation, OpenFigure, OpenRepeat, OpenCue, this_or, fault_from, fault_of_lines, end_fault, either_fault, fault, is_header, place_of, place_in, opened_by, is_end, is_top, fill, opens, blocks_after, sets_memory, sets_trajectory, sets_ellipsoid, sets_stray, sets_late, context_after, first_word, in_figure, word, as_read, Open, InFormation, InFigure, InRepeat, InCue, Built, nothing, context_of, openings_of, outer_openings, is_any, add_block, close_innermost, build, built_by, unless, lines_step, then_step, finish, finish_with, read_lines, reading, unless_forbidden, entry_fault, fault_with, entry_of, kind_of, or_else, says_of, says_read, LineKind, Entry, ActLine}
 use Rattle.choreo_lines.specs.FirstWord.{keyword_of}
 use Rattle.choreo_show.specs.Plain as plain
-use Rattle.choreo_lines.specs.Name.{Name}
-use Rattle.choreo_show.specs.Plain.{Body, PlainShow, has_block, ◌⨾◌}
-use Rattle.choreo_lines.specs.Values.{keyword_in}
-use Rattle.choreo_lines.specs.Says.{Says, may_say}
-use Rattle.choreo_reader.specs.Text.{Fault, fault_at, forbidden}
-use Rattle.choreo_reader.specs.Context.{Context, open_fault, line_fault, Opened, OpenFormation, OpenFigure, OpenRepeat, OpenCue, this_or, fault_from, fault_of_lines, end_fault, either_fault, fault, is_header, place_of, place_in, opened_by, is_end, is_top, fill, opens, blocks_after, sets_memory, sets_trajectory, sets_ellipsoid, sets_stray, sets_late, context_after, first_word, in_figure}
-use Rattle.choreo_lines.specs.Table.{word, as_read}
 use Rattle.choreo_lines.specs.declared.line.Place.{Place}
-use Rattle.choreo_reader.specs.Reading.{Open, InFormation, InFigure, InRepeat, InCue, Built, nothing, context_of, openings_of, outer_openings, is_any, add_block, close_innermost, build, built_by, unless, lines_step, then_step, finish, finish_with, read_lines, reading, unless_forbidden, entry_fault, fault_with}
-use Rattle.choreo_lines.specs.Fields.{entry_of, kind_of, or_else}
 use Rattle.choreo_reader.proofs.Complete.{TakesBlocks, with_open}
 use Rattle.choreo_lines.proofs.Reading.{IsFirst, is_other, name_keyword, read_as_name}
-use Rattle.choreo_lines.proofs.Saying.{says_of, says_read}
 use Rattle.choreo_reader.proofs.Sound.{InOrder, Holds, step_holds, at_start, IsOutside, top_is, not_in_repeat, not_in_cue, takes_is}
 use Rattle.choreo_lines.specs.declared.line.Keyword.{Keyword}
 use Rattle.choreo_lines.specs.declared.line.Keyword.TheVariants as first
-use Rattle.choreo_lines.specs.declared.line.LineKind.{LineKind}
 use Rattle.choreo_lines.specs.declared.line.LineKind.TheVariants as kind
 use Rattle.choreo_lines.specs.declared.line.Place.TheVariants as place
-use Rattle.choreo_lines.specs.declared.line.Entry.{Entry}
 use Rattle.choreo_lines.specs.declared.line.Entry.TheVariants as entry
-use Rattle.choreo_show.specs.declared.show.ActLine.{ActLine}
 
 -- The first word of a line, by what it says.
 

@@ -1,16 +1,6 @@
 -- The items of a show, word by word for the proofs: the lines of all, and what is read of them.
-use Rattle.std.proofs.lemmas.Grind.{common_steps}
-use Rattle.std.proofs.Common.{◌≡◌, ◌≤◌, List, [], ◌∷◌, ◌++◌, length, Option, Some, None, refl, sym, ap, ◌∙◌, arith}
-use Rattle.std.specs.Prelude.{option_to_list, unwrap_or, slice_index_or}
-use Rattle.std.specs.List.{AllByRecursion, AllZip, flat_map}
-use Rattle.text_lines.specs.Words.{Line}
-use Rattle.choreo_show.specs.Plain.{Body, PlainFigure, ◌⨾◌}
-use Rattle.choreo_show.specs.declared.show.DroneLine.{DroneLine}
-use Rattle.choreo_show.specs.declared.show.Formation.{Formation}
-use Rattle.choreo_show.proofs.Blocks.{body_assoc, body_done}
+use Rattle.choreo_reader.proofs.Prelude.{common_steps, ◌≡◌, ◌≤◌, List, [], ◌∷◌, ◌++◌, length, Option, Some, None, refl, sym, ap, ◌∙◌, arith, option_to_list, unwrap_or, slice_index_or, AllByRecursion, AllZip, flat_map, Line, Body, PlainFigure, ◌⨾◌, DroneLine, Formation, body_assoc, body_done, SaidLine, IsSaid, at, anywhere, Item, Memory, Trajectory, Ellipsoid, Stray, Late, Drone, Formed, Figured, Blocks, item_said, Parts, parts_of, show_of, IsItem, HasSingleSettings, Built, add_block, built_show}
 use Rattle.choreo_lines.specs.declared.line.Entry.TheVariants as entry
-use Rattle.choreo_reader.specs.Grammar.{SaidLine, IsSaid, at, anywhere, Item, Memory, Trajectory, Ellipsoid, Stray, Late, Drone, Formed, Figured, Blocks, item_said, Parts, parts_of, show_of, IsItem, HasSingleSettings}
-use Rattle.choreo_reader.specs.Reading.{Built, add_block, built_show}
 
 -- the line that closes a block
 abbrev pub closing : SaidLine

@@ -1,10 +1,5 @@
 -- The words of a line on its own are its words in the text.
-use Rattle.text_lines.specs.declared.token.Comments.TheVariants.{FromHash}
-use Rattle.std.proofs.Common.{◌≡◌, ℕ, Bool, true, false, cond, List, [], ◌∷◌, ◌++◌, append-nil, refl, sym, ap, subst, ◌∙◌}
-use Rattle.std.specs.Prelude.{◌==◌}
-use Rattle.std.specs.List.{slice_split, onto_first}
-use Rattle.text_lines.specs.Lines.{is_line_feed, between_feeds, without_empty_end, lines_of}
-use Rattle.text_lines.specs.Words.{Line, visible, words_of, line_with, numbered}
+use Rattle.choreo_reader.proofs.Prelude.{FromHash, ◌≡◌, ℕ, Bool, true, false, cond, List, [], ◌∷◌, ◌++◌, append-nil, refl, sym, ap, subst, ◌∙◌, ◌==◌, slice_split, onto_first, is_line_feed, between_feeds, without_empty_end, lines_of, Line, visible, words_of, line_with, numbered}
 use Rattle.text_lines.specs.Tokens.{word_in, words_in, joined, lines_in, tokens_of}
 use Rattle.text_lines.specs.declared.token.Token.{Token}
 use Rattle.text_lines.proofs.Grouped.{lines_grouped}

@@ -1,38 +1,14 @@
 -- What is read is what the text stands for.
-use Rattle.std.proofs.lemmas.Grind.{common_steps}
-use Rattle.std.proofs.Common.{◌≡◌, ℕ, ◌+◌, ◌<◌, ◌≤◌, Bool, true, false, List, [], ◌∷◌, ◌++◌, length, map, Option, Some, None, Result, Ok, Err, refl, sym, ap, subst, ◌∙◌, arith, cond, append_assoc}
-use Rattle.std.proofs.lemmas.List.Elements.{All-from_recursion}
-use Rattle.std.specs.Prelude.{◌&&◌, not, nat_le, is_some, codes}
-use Rattle.std.proofs.lemmas.List.{append-nil, map-append}
-use Rattle.std.proofs.lemmas.Bool.{and_parts, eqb-true}
-use Rattle.std.proofs.lemmas.Bool.Decides.{nat_tests}
+use Rattle.choreo_reader.proofs.Prelude.{common_steps, ◌≡◌, ℕ, ◌+◌, ◌<◌, ◌≤◌, Bool, true, false, List, [], ◌∷◌, ◌++◌, length, map, Option, Some, None, Result, Ok, Err, refl, sym, ap, subst, ◌∙◌, arith, cond, append_assoc, All-from_recursion, ◌&&◌, not, nat_le, is_some, codes, append-nil, map-append, and_parts, eqb-true, nat_tests, list_all, Line, show_lines, Name, Body, PlainFigure, PlainShow, has_block, ◌⨾◌, SaidLine, IsSaid, at, anywhere, act_said, body_said, Item, Memory, Trajectory, Ellipsoid, Stray, Late, Drone, Formed, Figured, Blocks, item_said, show_of, IsItem, HasSingleSettings, StandsFor, parts_of, is_filled, depth, fits_figure, names_one, Says, may_say, Fault, fault_at, forbidden, OpenRepeat, OpenCue, fault_if, is_header, end_fault, place_of, place_in, in_figure, repeats, Open, InFormation, InFigure, InRepeat, InCue, Built, Step, nothing, context_of, openings_of, is_any, add_block, build, built_by, unless, built_show, line_step, lines_step, then_step, finish, finish_with, read_lines, reading, unless_forbidden, entry_fault, Word, word, entry_of, says_of, Entry, LineKind, ActLine, DroneLine}
 use Rattle.std.proofs.lemmas.Slice.Eq.{bytes_eq-Decides}
-use Rattle.std.specs.List.{list_all}
-use Rattle.text_lines.specs.Words.{Line}
-use Rattle.choreo_reader.specs.Text.{show_lines}
 use Rattle.choreo_show.specs.Plain as plain
-use Rattle.choreo_lines.specs.Name.{Name}
-use Rattle.choreo_show.specs.Plain.{Body, PlainFigure, PlainShow, has_block, ◌⨾◌}
-use Rattle.choreo_reader.specs.Grammar.{SaidLine, IsSaid, at, anywhere, act_said, body_said, Item, Memory, Trajectory, Ellipsoid, Stray, Late, Drone, Formed, Figured, Blocks, item_said, show_of, IsItem, HasSingleSettings, StandsFor, parts_of}
 use Rattle.choreo_reader.proofs.Items.{closing, place_said, items_said, AreItems, AreSaid, add_item, Fresh, parts_in, show_in, single_in, item_in, with_last, parts_of-more}
-use Rattle.choreo_show.specs.Shape.{is_filled, depth, fits_figure, names_one}
-use Rattle.choreo_lines.specs.Says.{Says, may_say}
-use Rattle.choreo_reader.specs.Text.{Fault, fault_at, forbidden}
-use Rattle.choreo_reader.specs.Context.{OpenRepeat, OpenCue, fault_if, is_header, end_fault, place_of, place_in, in_figure, repeats}
-use Rattle.choreo_reader.specs.Reading.{Open, InFormation, InFigure, InRepeat, InCue, Built, Step, nothing, context_of, openings_of, is_any, add_block, build, built_by, unless, built_show, line_step, lines_step, then_step, finish, finish_with, read_lines, reading, unless_forbidden, entry_fault}
-use Rattle.choreo_lines.specs.Table.{Word, word}
-use Rattle.choreo_lines.specs.Fields.{entry_of}
 use Rattle.choreo_reader.proofs.Complete.{TakesBlocks, Kept, with_open, outer_figure, outer_repeats}
-use Rattle.choreo_lines.proofs.Saying.{says_of}
 use Rattle.choreo_reader.proofs.Allowed.{none_clean}
 use Rattle.choreo_lines.specs.declared.line.Place.TheVariants as place
-use Rattle.choreo_lines.specs.declared.line.Entry.{Entry}
 use Rattle.choreo_lines.specs.declared.line.Entry.TheVariants as entry
-use Rattle.choreo_lines.specs.declared.line.LineKind.{LineKind}
 use Rattle.choreo_lines.specs.declared.line.LineKind.TheVariants as kind
-use Rattle.choreo_show.specs.declared.show.ActLine.{ActLine}
 use Rattle.choreo_show.specs.declared.show.ActLine.TheVariants as on
-use Rattle.choreo_show.specs.declared.show.DroneLine.{DroneLine}
 
 -- the lines of an open block so far, and those of all open blocks, the outermost first
 abbrev pub open_said : Open → List SaidLine

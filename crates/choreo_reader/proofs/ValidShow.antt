@@ -1,33 +1,14 @@
 -- A show that a text stands for is valid.
-use Rattle.std.proofs.lemmas.Grind.{common_steps}
-use Rattle.std.proofs.Common.{◌≡◌, ℕ, ◌+◌, ◌<◌, ◌≤◌, Bool, true, false, cond, eqb-true, ne_eqb, List, [], ◌∷◌, ◌++◌, map, Option, Some, None, refl, sym, ap, subst, ◌∙◌, arith, append_assoc}
-use Rattle.std.proofs.lemmas.List.Elements.{recursion_from_All}
-use Rattle.std.specs.Prelude.{◌==◌, slice_index_or, IfSome, IsTrue}
+use Rattle.choreo_reader.proofs.Prelude.{common_steps, ◌≡◌, ℕ, ◌+◌, ◌<◌, ◌≤◌, Bool, true, false, cond, eqb-true, ne_eqb, List, [], ◌∷◌, ◌++◌, map, Option, Some, None, refl, sym, ap, subst, ◌∙◌, arith, append_assoc, recursion_from_All, ◌==◌, slice_index_or, IfSome, IsTrue, append-nil, FromHash, visible, Line, line_with, numbered, words_of, lines_of, Body, PlainFigure, PlainShow, has_block, ◌⨾◌, Word, row_of, act_places, has_count, act_fields, keyword_in, fields_of, SaysAct, Says, held_fit, held_length, holds_fits, SaidLine, act_said, body_said, Item, Memory, Trajectory, Ellipsoid, Stray, Late, Drone, Formed, Figured, Blocks, item_said, show_of, IsItem, StandsFor, parts_of, is_filled, depth, IsName, FitsAct, FitsLine, FitActLines, FitsBody, FitDroneLines, FitFormations, FitFigures, FitsSettings, act_lines, body_lines, drone_lines, formation_lines, figure_lines, AllAbove, times, all_lines, IsValid, Entry, ActLine, DroneLine, Formation}
 use Rattle.std.proofs.lemmas.Int.{ints}
-use Rattle.std.proofs.lemmas.List.{append-nil}
-use Rattle.text_lines.specs.declared.token.Comments.TheVariants.{FromHash}
-use Rattle.text_lines.specs.Words.{visible, Line, line_with, numbered, words_of}
-use Rattle.text_lines.specs.Lines.{lines_of}
 use Rattle.choreo_show.specs.Plain as plain
-use Rattle.choreo_show.specs.Plain.{Body, PlainFigure, PlainShow, has_block, ◌⨾◌}
-use Rattle.choreo_lines.specs.Table.{Word, row_of, act_places, has_count}
-use Rattle.choreo_lines.specs.Values.{act_fields, keyword_in, fields_of}
-use Rattle.choreo_lines.specs.Says.{SaysAct, Says}
-use Rattle.choreo_lines.proofs.Saying.{held_fit, held_length, holds_fits}
 use Rattle.choreo_lines.specs.declared.table.Want.TheVariants as want
 use Rattle.choreo_lines.specs.declared.table.Value.TheVariants.{Name as Named}
-use Rattle.choreo_reader.specs.Grammar.{SaidLine, act_said, body_said, Item, Memory, Trajectory, Ellipsoid, Stray, Late, Drone, Formed, Figured, Blocks, item_said, show_of, IsItem, StandsFor, parts_of}
 use Rattle.choreo_reader.proofs.Items.{closing, place_said, items_said, drones, formations, figures, body, AreItems, AreSaid}
-use Rattle.choreo_show.specs.Shape.{is_filled, depth}
-use Rattle.choreo_show.specs.Valid.{IsName, FitsAct, FitsLine, FitActLines, FitsBody, FitDroneLines, FitFormations, FitFigures, FitsSettings, act_lines, body_lines, drone_lines, formation_lines, figure_lines, AllAbove, times, all_lines, IsValid}
 use Rattle.choreo_reader.proofs.Sound.{filled_then, depth_then}
-use Rattle.choreo_lines.specs.declared.line.Entry.{Entry}
 use Rattle.choreo_lines.specs.declared.line.Entry.TheVariants as entry
 use Rattle.choreo_lines.specs.declared.parts.Act.{Act}
-use Rattle.choreo_show.specs.declared.show.ActLine.{ActLine}
 use Rattle.choreo_show.specs.declared.show.ActLine.TheVariants as on
-use Rattle.choreo_show.specs.declared.show.DroneLine.{DroneLine}
-use Rattle.choreo_show.specs.declared.show.Formation.{Formation}
 
 -- The ranges of what a line says.
 

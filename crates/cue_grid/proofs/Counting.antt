@@ -1,19 +1,7 @@
 -- Counts of cues.
-use Rattle.std.proofs.lemmas.Grind.{common_steps}
-use Rattle.std.proofs.Common.{◌≡◌, ℕ, zero, suc, ◌+◌, ◌*◌, ◌<◌, ◌≤◌, false, List, length, get_or, take, ap, ◌∙◌, arith, ◌⊎◌, inl, inr}
-use Rattle.std.specs.Prelude.{min, nat_lt, Vec}
-use Rattle.std.proofs.lemmas.List.{take_more, take_all}
-use Rattle.std.proofs.lemmas.Bool.{cases_lt}
-use Rattle.std.proofs.lemmas.Bool.Decides.{nat_tests}
+use Rattle.cue_grid.proofs.Prelude.{common_steps, ◌≡◌, ℕ, zero, suc, ◌+◌, ◌*◌, ◌<◌, ◌≤◌, false, List, length, get_or, take, ap, ◌∙◌, arith, ◌⊎◌, inl, inr, min, nat_lt, Vec, take_more, take_all, cases_lt, nat_tests, Name, Body, PlainFigure, ◌⨾◌, block_of, block_step, blocks_then, body_of, body_push, repeat_is, Block, Global, most_cues, count_in}
 use Rattle.choreo_show.specs.Plain as plain
-use Rattle.choreo_lines.specs.Name.{Name}
-use Rattle.choreo_show.specs.Plain.{Body, PlainFigure, ◌⨾◌, block_of, block_step, blocks_then, body_of}
-use Rattle.choreo_show.proofs.Blocks.{body_push, repeat_is}
-use Rattle.choreo_show.specs.declared.show.Block.{Block}
 use Rattle.choreo_show.specs.declared.show.Block.TheVariants as block
-use Rattle.std.specs.declared.alloc.Global.{Global}
-use Rattle.fleet_math.specs.Limits.{most_cues}
-use Rattle.cue_grid.specs.Counts.{count_in}
 
 -- blocks one after the other count their sum
 pub count_in-then : (performed : Name → ℕ) (a b : Body) → count_in performed (a ⨾ b) ≡ count_in performed a + count_in performed b

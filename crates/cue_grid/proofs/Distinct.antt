@@ -1,15 +1,5 @@
 -- No two drones of a show without a fault have one name.
-use Rattle.std.proofs.lemmas.Grind.{common_steps}
-use Rattle.std.proofs.Common.{◌≡◌, ℕ, zero, suc, ◌<◌, Bool, true, false, refl, sym, ap, ◌∙◌, List, [], ◌∷◌, ◌++◌, length, get_or, arith, Option, None}
-use Rattle.std.specs.Prelude.{◌||◌}
-use Rattle.std.proofs.lemmas.Slice.Eq.{bytes_eq-Decides}
-use Rattle.choreo_lines.specs.Name.{Name}
-use Rattle.choreo_show.specs.declared.show.DroneLine.{DroneLine}
-use Rattle.choreo_show.specs.Plain.{PlainShow}
-use Rattle.cue_grid.specs.declared.grid.GridFault.{GridFault}
-use Rattle.cue_grid.specs.declared.grid.GridFault.TheVariants.{DoubleName}
-use Rattle.cue_grid.specs.Faults.{fault_if, drone_faults, grid_fault}
-use Rattle.cue_grid.specs.Names.{same_name, has_name, has_double, names_of}
+use Rattle.cue_grid.proofs.Prelude.{common_steps, ◌≡◌, ℕ, zero, suc, ◌<◌, Bool, true, false, refl, sym, ap, ◌∙◌, List, [], ◌∷◌, ◌++◌, length, get_or, arith, Option, None, ◌||◌, bytes_eq-Decides, Name, DroneLine, PlainShow, GridFault, DoubleName, fault_if, drone_faults, grid_fault, same_name, has_name, has_double, names_of}
 use Rattle.cue_grid.proofs.Fits.{neither, both_empty, no_earliest}
 use Rattle.cue_grid.proofs.Tables.{same_is}
 

@@ -1,21 +1,7 @@
 -- In a valid show the fault of the earliest line is the earliest of the first faults of the four lists.
-use Rattle.std.proofs.lemmas.Grind.{common_steps}
-use Rattle.std.proofs.Common.{◌≡◌, ℕ, ◌<◌, Bool, true, false, cond, List, [], ◌∷◌, ◌++◌, Option, Some, None, refl, sym, ap, subst, ◌∙◌, ◌⊎◌, inl, inr, arith}
-use Rattle.std.specs.Prelude.{nat_lt}
-use Rattle.std.proofs.lemmas.Bool.Decides.{nat_tests}
+use Rattle.cue_grid.proofs.Prelude.{common_steps, ◌≡◌, ℕ, ◌<◌, Bool, true, false, cond, List, [], ◌∷◌, ◌++◌, Option, Some, None, refl, sym, ap, subst, ◌∙◌, ◌⊎◌, inl, inr, arith, nat_lt, nat_tests, Name, Body, PlainFigure, PlainShow, AllAbove, act_lines, body_lines, drone_lines, formation_lines, figure_lines, IsValid, ActLine, DroneLine, Formation, has_name, has_some, names_of, figure_named, line_of, fault_if, drone_faults, place_faults, formation_faults, form_faults, acted_by, act_faults, perform_faults, body_faults, figure_faults, drones_faults, formations_faults, figures_faults, show_faults, name_faults, earlier_of, earliest, first_of, name_fault, GridFault, DoubleName, DoubleAct}
 use Rattle.choreo_show.specs.Plain as plain
-use Rattle.choreo_lines.specs.Name.{Name}
-use Rattle.choreo_show.specs.Plain.{Body, PlainFigure, PlainShow}
-use Rattle.choreo_show.specs.Valid.{AllAbove, act_lines, body_lines, drone_lines, formation_lines, figure_lines, IsValid}
-use Rattle.choreo_show.specs.declared.show.ActLine.{ActLine}
 use Rattle.choreo_show.specs.declared.show.ActLine.TheVariants as on
-use Rattle.choreo_show.specs.declared.show.DroneLine.{DroneLine}
-use Rattle.choreo_show.specs.declared.show.Formation.{Formation}
-use Rattle.cue_grid.specs.Names.{has_name, has_some, names_of, figure_named}
-use Rattle.cue_grid.specs.Faults.{line_of, fault_if, drone_faults, place_faults, formation_faults, form_faults, acted_by, act_faults, perform_faults, body_faults, figure_faults, drones_faults, formations_faults, figures_faults, show_faults, name_faults, earlier_of, earliest}
-use Rattle.cue_grid.specs.Steps.{first_of, name_fault}
-use Rattle.cue_grid.specs.declared.grid.GridFault.{GridFault}
-use Rattle.cue_grid.specs.declared.grid.GridFault.TheVariants.{DoubleName, DoubleAct}
 
 -- The faults stand at some of these lines, in their order.
 abbrev Within : List GridFault → List ℕ → Type 0

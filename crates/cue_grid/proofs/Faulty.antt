@@ -1,19 +1,7 @@
 -- The first fault of some blocks.
-use Rattle.std.proofs.lemmas.Grind.{common_steps}
-use Rattle.std.proofs.Common.{◌≡◌, ℕ, ◌+◌, ◌<◌, ◌≤◌, List, [], ◌∷◌, ◌++◌, length, get_or, drop, drop-cons, add-one, Option, Some, None, refl, sym, ap, ◌∙◌, append_assoc, arith}
-use Rattle.std.specs.Prelude.{Vec}
-use Rattle.std.proofs.lemmas.List.{drop_all, append-nil}
+use Rattle.cue_grid.proofs.Prelude.{common_steps, ◌≡◌, ℕ, ◌+◌, ◌<◌, ◌≤◌, List, [], ◌∷◌, ◌++◌, length, get_or, drop, drop-cons, add-one, Option, Some, None, refl, sym, ap, ◌∙◌, append_assoc, arith, Vec, drop_all, append-nil, Name, Body, PlainShow, ◌⨾◌, block_of, body_of, block_then, repeat_is, Block, Global, names_of, figure_named, first_of, act_faults, perform_faults, body_faults, GridFault}
 use Rattle.choreo_show.specs.Plain as plain
-use Rattle.choreo_lines.specs.Name.{Name}
-use Rattle.choreo_show.specs.Plain.{Body, PlainShow, ◌⨾◌, block_of, body_of}
-use Rattle.choreo_show.proofs.Blocks.{block_then, repeat_is}
-use Rattle.choreo_show.specs.declared.show.Block.{Block}
 use Rattle.choreo_show.specs.declared.show.Block.TheVariants as block
-use Rattle.std.specs.declared.alloc.Global.{Global}
-use Rattle.cue_grid.specs.Names.{names_of, figure_named}
-use Rattle.cue_grid.specs.Steps.{first_of}
-use Rattle.cue_grid.specs.Faults.{act_faults, perform_faults, body_faults}
-use Rattle.cue_grid.specs.declared.grid.GridFault.{GridFault}
 
 pub first_here : (xs ys : List GridFault) (f : GridFault) → first_of xs ≡ Some f → first_of (xs ++ ys) ≡ Some f
 first_here [] ys f h = cc

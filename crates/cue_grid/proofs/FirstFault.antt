@@ -1,21 +1,7 @@
 -- The first fault of a show, of the faults of its parts.
-use Rattle.std.proofs.lemmas.Grind.{common_steps}
-use Rattle.std.proofs.Common.{◌≡◌, ℕ, ◌≤◌, false, cond, List, length, map, Option, Some, None, refl, sym, ap, subst, ◌∙◌, arith}
-use Rattle.std.specs.Prelude.{not, ◌==◌}
-use Rattle.std.proofs.lemmas.List.{drop_all}
+use Rattle.cue_grid.proofs.Prelude.{common_steps, ◌≡◌, ℕ, ◌≤◌, false, cond, List, length, map, Option, Some, None, refl, sym, ap, subst, ◌∙◌, arith, not, ◌==◌, drop_all, Body, PlainShow, has_block, body_of, figure_of, IsValid, blocks_none, Block, Figure, DroneLine, over_at, most_drones, no_drone, many_drones, too_many, no_cue, many_cues, or_else, grid_fault, name_fault, GridFault}
 use Rattle.choreo_show.specs.Plain as plain
-use Rattle.choreo_show.specs.Plain.{Body, PlainShow, has_block, body_of, figure_of}
-use Rattle.choreo_show.specs.Valid.{IsValid}
-use Rattle.choreo_show.proofs.Blocks.{blocks_none}
-use Rattle.choreo_show.specs.declared.show.Block.{Block}
-use Rattle.choreo_show.specs.declared.show.Figure.{Figure}
-use Rattle.choreo_show.specs.declared.show.DroneLine.{DroneLine}
-use Rattle.cue_grid.specs.Counts.{over_at}
-use Rattle.fleet_math.specs.Limits.{most_drones}
-use Rattle.cue_grid.specs.Faults.{no_drone, many_drones, too_many, no_cue, many_cues, or_else, grid_fault}
-use Rattle.cue_grid.specs.Steps.{name_fault}
 use Rattle.cue_grid.proofs.Earliest.{earliest_name}
-use Rattle.cue_grid.specs.declared.grid.GridFault.{GridFault}
 use Rattle.cue_grid.specs.declared.grid.GridFault.TheVariants as fault
 
 pub few_drones : (s : PlainShow) (ds : List DroneLine) → ds ≡ s.drones → (length ds == 0) ≡ false → length ds ≤ most_drones → None ≡ or_else (no_drone s) (many_drones s)

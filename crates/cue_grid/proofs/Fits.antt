@@ -1,38 +1,13 @@
 -- The grid of a valid show without a fault is valid.
-use Rattle.std.proofs.lemmas.Grind.{common_steps}
-use Rattle.std.proofs.Common.{◌≡◌, ℕ, zero, suc, ◌+◌, ◌*◌, ◌≤◌, Bool, true, false, cond, List, [], ◌∷◌, ◌++◌, map, length, drop, Option, Some, None, refl, sym, ap, subst, ◌∙◌, arith}
-use Rattle.std.specs.Prelude.{IfSome, ◌&&◌, nat_lt, ◌==◌, IsTrue, neg_ℤ, pos, ◌≤ℤ◌}
-use Rattle.std.specs.List.{All}
-use Rattle.std.proofs.lemmas.List.{length-append, length-map}
+use Rattle.cue_grid.proofs.Prelude.{common_steps, ◌≡◌, ℕ, zero, suc, ◌+◌, ◌*◌, ◌≤◌, Bool, true, false, cond, List, [], ◌∷◌, ◌++◌, map, length, drop, Option, Some, None, refl, sym, ap, subst, ◌∙◌, arith, IfSome, ◌&&◌, nat_lt, ◌==◌, IsTrue, neg_ℤ, pos, ◌≤ℤ◌, All, length-append, length-map, nat_tests, Name, Body, PlainFigure, PlainShow, has_block, IsName, FitsCoordinate, FitsPoint, FitsAct, FitsFrame, FitsLine, FitsActLine, FitActLines, FitsBody, FitDroneLines, FitFormations, FitFigures, IsValid, ActLine, Act, DroneLine, Formation, Frame, Point, same_name, formation_named, figure_named, place_named, places_in, names_of, no_frame, Playing, player, job_of, times_over, cues_in, cues_of_figure, cues_of, grid_of, as_written, way_if, act_if, act_by, act_line_number, job_or, nothing_performed, performed_cues, most_cues, most_drones, count_in, none_performed, figure_count, count_of_figure, perform_count, body_count, line_if_over, over_at, line_of, perform_faults, body_faults, drones_faults, formations_faults, figures_faults, show_faults, name_faults, earlier_of, earliest, no_drone, too_many, many_drones, no_cue, many_cues, or_else, grid_fault, GridFault, NoDrone, Job, Cue}
 use Rattle.std.proofs.lemmas.List.Elements.{All-nil, All-cons}
 use Rattle.std.proofs.lemmas.Int.{ints}
-use Rattle.std.proofs.lemmas.Bool.Decides.{nat_tests}
 use Rattle.choreo_show.specs.Plain as plain
-use Rattle.choreo_lines.specs.Name.{Name}
-use Rattle.choreo_show.specs.Plain.{Body, PlainFigure, PlainShow, has_block}
 use Rattle.choreo_show.specs.Shape.{is_filled, fits_figure}
-use Rattle.choreo_show.specs.Valid.{IsName, FitsCoordinate, FitsPoint, FitsAct, FitsFrame, FitsLine, FitsActLine, FitActLines, FitsBody, FitDroneLines, FitFormations, FitFigures, IsValid}
-use Rattle.choreo_show.specs.declared.show.ActLine.{ActLine}
 use Rattle.choreo_show.specs.declared.show.ActLine.TheVariants as on
 use Rattle.choreo_lines.specs.declared.line.Entry.TheVariants as entry
-use Rattle.choreo_lines.specs.declared.parts.Act.{Act}
-use Rattle.choreo_show.specs.declared.show.DroneLine.{DroneLine}
-use Rattle.choreo_show.specs.declared.show.Formation.{Formation}
-use Rattle.choreo_lines.specs.declared.parts.Frame.{Frame}
-use Rattle.choreo_lines.specs.declared.parts.Point.{Point}
-use Rattle.cue_grid.specs.Names.{same_name, formation_named, figure_named, place_named, places_in, names_of}
-use Rattle.cue_grid.specs.Frames.{no_frame}
-use Rattle.cue_grid.specs.Cues.{Playing, player, job_of, times_over, cues_in, cues_of_figure, cues_of, grid_of}
 use Rattle.cue_grid.proofs.Placing.{job_first}
-use Rattle.cue_grid.specs.Steps.{as_written, way_if, act_if, act_by, act_line_number, job_or, nothing_performed, performed_cues}
-use Rattle.fleet_math.specs.Limits.{most_cues, most_drones}
-use Rattle.cue_grid.specs.Counts.{count_in, none_performed, figure_count, count_of_figure, perform_count, body_count, line_if_over, over_at}
-use Rattle.cue_grid.specs.Faults.{line_of, perform_faults, body_faults, drones_faults, formations_faults, figures_faults, show_faults, name_faults, earlier_of, earliest, no_drone, too_many, many_drones, no_cue, many_cues, or_else, grid_fault}
 use Rattle.cue_grid.specs.Grids.{FitsJob, FitJobs, FitCues, IsGrid}
-use Rattle.cue_grid.specs.declared.grid.GridFault.{GridFault}
-use Rattle.cue_grid.specs.declared.grid.GridFault.TheVariants.{NoDrone}
-use Rattle.cue_grid.specs.declared.grid.Job.{Job}
-use Rattle.cue_grid.specs.declared.grid.Cue.{Cue}
 use Rattle.cue_grid.specs.declared.grid.Grid.{Grid}
 
 -- What no fault says.

@@ -1,20 +1,6 @@
 -- Who has an act in a cue: the marks and the other names of the code are the names of the list of the definition.
-use Rattle.std.proofs.Common.{◌≡◌, ℕ, suc, ◌+◌, ◌<◌, Bool, true, false, cond, List, [], ◌∷◌, ◌++◌, length, get_or, set, take, drop, drop-cons, add-one, Option, Some, None, refl, sym, ap, subst, ◌∙◌, append_assoc, arith}
-use Rattle.std.specs.Prelude.{◌||◌}
-use Rattle.std.proofs.lemmas.List.{take_more, append-nil, length-set, get_or-set_other}
-use Rattle.std.proofs.lemmas.Grind.{get_or-set_at, common_steps}
-use Rattle.indexmap.specs.IndexSet.{insert_key}
-use Rattle.choreo_lines.specs.Name.{Name}
-use Rattle.choreo_show.specs.declared.show.ActLine.{ActLine}
+use Rattle.cue_grid.proofs.Prelude.{◌≡◌, ℕ, suc, ◌+◌, ◌<◌, Bool, true, false, cond, List, [], ◌∷◌, ◌++◌, length, get_or, set, take, drop, drop-cons, add-one, Option, Some, None, refl, sym, ap, subst, ◌∙◌, append_assoc, arith, ◌||◌, take_more, append-nil, length-set, get_or-set_other, get_or-set_at, common_steps, insert_key, Name, ActLine, Formation, Act, same_name, has_name, has_some, names_of, formation_named, places_in, number_in, HasNumbers, IsPlaced, has_act, has_mark, marked, IsActed, first_of, fault_if, form_faults, act_line_faults, acted_by, act_faults, GridFault, DoubleAct}
 use Rattle.choreo_show.specs.declared.show.ActLine.TheVariants as on
-use Rattle.choreo_show.specs.declared.show.Formation.{Formation}
-use Rattle.choreo_lines.specs.declared.parts.Act.{Act}
-use Rattle.cue_grid.specs.Names.{same_name, has_name, has_some, names_of, formation_named, places_in}
-use Rattle.cue_grid.specs.Marks.{number_in, HasNumbers, IsPlaced, has_act, has_mark, marked, IsActed}
-use Rattle.cue_grid.specs.Steps.{first_of}
-use Rattle.cue_grid.specs.Faults.{fault_if, form_faults, act_line_faults, acted_by, act_faults}
-use Rattle.cue_grid.specs.declared.grid.GridFault.{GridFault}
-use Rattle.cue_grid.specs.declared.grid.GridFault.TheVariants.{DoubleAct}
 use Rattle.cue_grid.proofs.Tables.{same_is, same_self}
 use Rattle.cue_grid.proofs.Numbering.{found, one_name}
 use Rattle.cue_grid.proofs.Faulty.{first_here, first_later}

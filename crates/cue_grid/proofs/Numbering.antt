@@ -1,20 +1,8 @@
 -- Names on `at` lines and their numbers: a number is one name's alone, and new names leave the numbers of others.
-use Rattle.std.proofs.lemmas.Grind.{common_steps}
-use Rattle.std.proofs.Common.{◌≡◌, ℕ, zero, suc, ◌+◌, ◌<◌, Bool, true, false, cond, List, [], ◌∷◌, ◌++◌, length, get_or, take, Option, Some, None, refl, sym, ap, subst, ◌∙◌, arith, option_map, slice_get, option_copied, MatchOption, Bor, position, ◌||◌, nat_lt, map}
-use Rattle.std.specs.Map.{lookup}
-use Rattle.std.specs.List.{position_or_len}
-use Rattle.std.proofs.lemmas.List.{map-append, take_more}
+use Rattle.cue_grid.proofs.Prelude.{common_steps, ◌≡◌, ℕ, zero, suc, ◌+◌, ◌<◌, Bool, true, false, cond, List, [], ◌∷◌, ◌++◌, length, get_or, take, Option, Some, None, refl, sym, ap, subst, ◌∙◌, arith, option_map, slice_get, option_copied, MatchOption, Bor, position, ◌||◌, nat_lt, map, lookup, position_or_len, map-append, take_more, insert_key, Name, DroneLine, Formation, same_name, has_name, names_of, formation_named, number_from, number_or, formation_names, IsNumbered, number_in, Keeps, HasNumbers, IsPlaced, ArePlaced, AllPlaced, cases_lt}
 use Rattle.std.proofs.lemmas.List.Quantifiers.{position-Some}
 use Rattle.std.proofs.lemmas.List.Recursion.{is_position_or_len}
-use Rattle.indexmap.specs.IndexSet.{insert_key}
-use Rattle.choreo_lines.specs.Name.{Name}
-use Rattle.choreo_show.specs.declared.show.DroneLine.{DroneLine}
-use Rattle.choreo_show.specs.declared.show.Formation.{Formation}
-use Rattle.cue_grid.specs.Names.{same_name, has_name, names_of, formation_named}
-use Rattle.cue_grid.specs.Numbers.{number_from, number_or, formation_names, IsNumbered}
-use Rattle.cue_grid.specs.Marks.{number_in, Keeps, HasNumbers, IsPlaced, ArePlaced, AllPlaced}
 use Rattle.cue_grid.proofs.Tables.{same_is, same_self, number_more, number_shift, both_suc, first_below, formation_at, at_number}
-use Rattle.std.proofs.lemmas.Bool.{cases_lt}
 
 -- The number of a name is where it stands first.
 

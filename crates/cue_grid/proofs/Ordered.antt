@@ -1,14 +1,6 @@
 -- Lines of a cue that stand in the order of distinct names have no fault.
-use Rattle.std.proofs.Common.{◌≡◌, Bool, true, false, List, [], ◌∷◌, ◌++◌, append_assoc, refl, sym, subst, ◌∙◌, inl, inr}
-use Rattle.std.proofs.lemmas.Bool.{cases_Bool}
-use Rattle.std.specs.Prelude.{◌||◌}
-use Rattle.choreo_lines.specs.Name.{Name}
-use Rattle.choreo_show.specs.declared.show.ActLine.{ActLine}
+use Rattle.cue_grid.proofs.Prelude.{◌≡◌, Bool, true, false, List, [], ◌∷◌, ◌++◌, append_assoc, refl, sym, subst, ◌∙◌, inl, inr, cases_Bool, ◌||◌, Name, ActLine, Formation, same_name, has_name, has_double, gives, lines_after, act_faults}
 use Rattle.choreo_show.specs.declared.show.ActLine.TheVariants as on
-use Rattle.choreo_show.specs.declared.show.Formation.{Formation}
-use Rattle.cue_grid.specs.Names.{same_name, has_name, has_double}
-use Rattle.cue_grid.specs.Steps.{gives, lines_after}
-use Rattle.cue_grid.specs.Faults.{act_faults}
 use Rattle.cue_grid.proofs.Tables.{same_is, same_self}
 use Rattle.cue_grid.proofs.Marking.{has_append}
 

@@ -1,19 +1,6 @@
 -- What the lines of a cue give the drones to do, put into the places of the drones line by line.
-use Rattle.std.proofs.lemmas.Grind.{common_steps}
-use Rattle.std.proofs.Common.{◌≡◌, ℕ, zero, suc, ◌+◌, ◌-◌, ◌<◌, Bool, true, false, List, [], ◌∷◌, length, get_or, set, take, drop, drop-cons, add-one, map, Option, Some, None, refl, sym, ap, ◌∙◌, arith}
-use Rattle.std.specs.Prelude.{◌||◌, cond}
-use Rattle.choreo_lines.specs.Name.{Name}
-use Rattle.choreo_lines.specs.declared.parts.Act.{Act}
-use Rattle.choreo_lines.specs.declared.parts.Frame.{Frame}
-use Rattle.choreo_lines.specs.declared.parts.Point.{Point}
-use Rattle.choreo_show.specs.declared.show.ActLine.{ActLine}
+use Rattle.cue_grid.proofs.Prelude.{common_steps, ◌≡◌, ℕ, zero, suc, ◌+◌, ◌-◌, ◌<◌, Bool, true, false, List, [], ◌∷◌, length, get_or, set, take, drop, drop-cons, add-one, map, Option, Some, None, refl, sym, ap, ◌∙◌, arith, ◌||◌, cond, Name, Act, Frame, Point, ActLine, DroneLine, Formation, same_name, has_name, has_double, names_of, formation_named, places_in, place_named, player, Playing, job_of, act_by, act_line_number, stands_at, put_acts, put_line_of, way_to, act_if, way_if, job_or, Job}
 use Rattle.choreo_show.specs.declared.show.ActLine.TheVariants as on
-use Rattle.choreo_show.specs.declared.show.DroneLine.{DroneLine}
-use Rattle.choreo_show.specs.declared.show.Formation.{Formation}
-use Rattle.cue_grid.specs.Names.{same_name, has_name, has_double, names_of, formation_named, places_in, place_named}
-use Rattle.cue_grid.specs.Cues.{player, Playing, job_of}
-use Rattle.cue_grid.specs.Steps.{act_by, act_line_number, stands_at, put_acts, put_line_of, way_to, act_if, way_if, job_or}
-use Rattle.cue_grid.specs.declared.grid.Job.{Job}
 use Rattle.cue_grid.proofs.Tables.{same_is, same_self}
 
 -- a job

@@ -1,20 +1,6 @@
 -- Names and their numbers.
-use Rattle.std.proofs.lemmas.Grind.{common_steps}
-use Rattle.std.proofs.Common.{◌≡◌, ℕ, zero, suc, ◌+◌, ◌<◌, Bool, true, false, cond, List, [], ◌∷◌, ◌++◌, map, length, get_or, take, Option, Some, None, refl, sym, ap, ◌∙◌, arith, slice_get, is_some, option_map, add-one, MatchOption, Bor, ◌≤◌, ◌⊎◌, inl, inr}
-use Rattle.std.specs.Prelude.{nat_lt, IfSome, ◌||◌}
+use Rattle.cue_grid.proofs.Prelude.{common_steps, ◌≡◌, ℕ, zero, suc, ◌+◌, ◌<◌, Bool, true, false, cond, List, [], ◌∷◌, ◌++◌, map, length, get_or, take, Option, Some, None, refl, sym, ap, ◌∙◌, arith, slice_get, is_some, option_map, add-one, MatchOption, Bor, ◌≤◌, ◌⊎◌, inl, inr, nat_lt, IfSome, ◌||◌, cases_lt, nat_tests, lookup, take-map, map-append, take_more, length-map, length-take-le, bytes_eq-Decides, option_copied, Name, figure_of as plain_figure, Figure, Formation, same_name, has_name, formation_named, figure_named, number_from, number_or, IsNumbered, IsNoted, formation_names, figure_names}
 use Rattle.std.proofs.lemmas.Option.{slice_get_past, slice_get-get_or}
-use Rattle.std.proofs.lemmas.Bool.{cases_lt}
-use Rattle.std.proofs.lemmas.Bool.Decides.{nat_tests}
-use Rattle.std.specs.Map.{lookup}
-use Rattle.std.proofs.lemmas.List.{take-map, map-append, take_more, length-map, length-take-le}
-use Rattle.std.proofs.lemmas.Slice.Eq.{bytes_eq-Decides}
-use Rattle.std.specs.Option.{option_copied}
-use Rattle.choreo_lines.specs.Name.{Name}
-use Rattle.choreo_show.specs.Plain.{figure_of as plain_figure}
-use Rattle.choreo_show.specs.declared.show.Figure.{Figure}
-use Rattle.choreo_show.specs.declared.show.Formation.{Formation}
-use Rattle.cue_grid.specs.Names.{same_name, has_name, formation_named, figure_named}
-use Rattle.cue_grid.specs.Numbers.{number_from, number_or, IsNumbered, IsNoted, formation_names, figure_names}
 
 -- equal bytes are equal names
 pub same_is : (a b : Name) → same_name a b ≡ true → a ≡ b

@@ -1,18 +1,6 @@
 -- Cues written out, block by block.
-use Rattle.std.proofs.lemmas.Grind.{common_steps}
-use Rattle.std.proofs.Common.{◌≡◌, ℕ, zero, suc, ◌+◌, ◌<◌, ◌≤◌, false, cond, List, [], ◌∷◌, ◌++◌, length, get_or, take, drop, refl, sym, ap, ◌∙◌, append_assoc, add-one, drop-cons, arith}
-use Rattle.std.proofs.lemmas.List.{take_more, take_all, drop_all, append-nil}
+use Rattle.cue_grid.proofs.Prelude.{common_steps, ◌≡◌, ℕ, zero, suc, ◌+◌, ◌<◌, ◌≤◌, false, cond, List, [], ◌∷◌, ◌++◌, length, get_or, take, drop, refl, sym, ap, ◌∙◌, append_assoc, add-one, drop-cons, arith, take_more, take_all, drop_all, append-nil, Name, Body, PlainShow, ◌⨾◌, block_of, body_of, body_push, Block, Frame, Cue, same_name, Playing, cue_of, times_over, cues_in, player, as_written, performed_cues, no_frame}
 use Rattle.choreo_show.specs.Plain as plain
-use Rattle.choreo_lines.specs.Name.{Name}
-use Rattle.choreo_show.specs.Plain.{Body, PlainShow, ◌⨾◌, block_of, body_of}
-use Rattle.choreo_show.proofs.Blocks.{body_push}
-use Rattle.choreo_show.specs.declared.show.Block.{Block}
-use Rattle.choreo_lines.specs.declared.parts.Frame.{Frame}
-use Rattle.cue_grid.specs.declared.grid.Cue.{Cue}
-use Rattle.cue_grid.specs.Names.{same_name}
-use Rattle.cue_grid.specs.Cues.{Playing, cue_of, times_over, cues_in, player}
-use Rattle.cue_grid.specs.Steps.{as_written, performed_cues}
-use Rattle.cue_grid.specs.Frames.{no_frame}
 
 times_last : {A : Type 0} (n : ℕ) (xs : List A) → times_over (suc n) xs ≡ times_over n xs ++ xs
 times_last zero xs = append-nil xs

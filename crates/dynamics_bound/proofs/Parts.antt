@@ -11,8 +11,7 @@ use Rattle.bezier_core.specs.Steps.{IsWithin}
 use Rattle.bezier_core.proofs.BlendLemmas.{within_mul}
 use Rattle.halving.specs.Part.{part_value}
 use Rattle.halving.proofs.PolarLemmas.{blossom, bernstein-blossom, polar-first, part-whole, left_half, right_half}
-use Rattle.sep_parts.proofs.PartBounds.{part-half}
-use Rattle.sep_parts.proofs.Leaf.{bernstein-scaled}
+use Rattle.halving.proofs.PartBounds.{part-half, bernstein-scaled}
 use Rattle.speed_bound.proofs.Halves.{steps-half}
 use Rattle.speed_bound.proofs.Slopes.{steps, exchanged, minus_same, next_scale, polar-second, within_add, within_same}
 use Rattle.dynamics_bound.specs.Accelerations.{bend}

@@ -1,18 +1,6 @@
 -- The value of a refusal is on one of four axes.
-use Rattle.std.proofs.Common.{◌≡◌, ℕ, ◌+◌, ◌≤◌, ℤ, Bool, true, false, cond, All, List, [], ◌∷◌, length, Option, Some, None, sym, subst, arith}
+use Rattle.figure_expand.proofs.Prelude.{◌≡◌, ℕ, ◌+◌, ◌≤◌, ℤ, Bool, true, false, cond, All, List, [], ◌∷◌, length, Option, Some, None, sym, subst, arith, All-nil, All-cons, All-head, All-tail, All-append, All-from_recursion, Point, DroneLine, Cue, Grid, Job, controls, Axis, AxisValue, act_of, axes_of, cue_values, first_unfit, fits, point_values, points_after, range_fault, start_points, start_values, values, values_from, values_of, values_on}
 use Rattle.std.specs.Prelude.{IfSome}
-use Rattle.std.proofs.lemmas.List.Elements.{All-nil, All-cons, All-head, All-tail, All-append, All-from_recursion}
-use Rattle.choreo_lines.specs.declared.parts.Point.{Point}
-use Rattle.choreo_show.specs.declared.show.DroneLine.{DroneLine}
-use Rattle.cue_grid.specs.declared.grid.Cue.{Cue}
-use Rattle.cue_grid.specs.declared.grid.Grid.{Grid}
-use Rattle.cue_grid.specs.declared.grid.Job.{Job}
-use Rattle.mm_rounding.specs.Rounding.{controls}
-use Rattle.mm_rounding.specs.declared.piece.Axis.{Axis}
-use Rattle.figure_expand.specs.declared.fault.AxisValue.{AxisValue}
-use Rattle.figure_expand.specs.Acts.{act_of}
-use Rattle.figure_expand.specs.Controls.{axes_of}
-use Rattle.figure_expand.specs.Expanded.{cue_values, first_unfit, fits, point_values, points_after, range_fault, start_points, start_values, values, values_from, values_of, values_on}
 
 -- the value stands on x, y, z or yaw
 abbrev IsOnAxis : AxisValue → Type 0

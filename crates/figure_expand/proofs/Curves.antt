@@ -1,12 +1,6 @@
 -- The curve from rest to rest, as a closed polynomial and as a Bernstein sum: both are the first value times c^7, and the way times
 -- the share of it that is done.
-use Rattle.std.proofs.lemmas.Grind.{common_steps}
-use Rattle.std.proofs.Common.{◌≡◌, ℕ, zero, suc, ◌≤◌, ℤ, pos, ◌+ℤ◌, ◌-ℤ◌, ◌*ℤ◌, [], ◌∷◌, arith, sym, ap, ◌∙◌}
-use Rattle.std.proofs.lemmas.Int.{ints}
-use Rattle.fleet_math.specs.Sums.{power}
-use Rattle.fleet_math.specs.Bernstein.{bern, bernstein, weight}
-use Rattle.fleet_math.proofs.RingLemmas.{ring, linear, mul_add_ℤ, add_mul_ℤ, mul_assoc_ℤ, mul_zero_ℤ, mul_comm_ℤ}
-use Rattle.fleet_math.proofs.BernsteinLemmas.{bernstein-suc, bernstein-zero, bernstein-same, bernstein-mix, cong_add}
+use Rattle.figure_expand.proofs.Prelude.{common_steps, ◌≡◌, ℕ, zero, suc, ◌≤◌, ℤ, pos, ◌+ℤ◌, ◌-ℤ◌, ◌*ℤ◌, [], ◌∷◌, arith, sym, ap, ◌∙◌, ints, power, bern, bernstein, weight, ring, linear, mul_add_ℤ, add_mul_ℤ, mul_assoc_ℤ, mul_zero_ℤ, mul_comm_ℤ, bernstein-suc, bernstein-zero, bernstein-same, bernstein-mix, cong_add}
 
 -- the way from rest to rest in closed form
 abbrev pub closed_rest : ℤ → ℤ → ℤ → ℤ → ℤ

@@ -1,28 +1,10 @@
 -- Where no value of a grid is out of range, each of its starts and pieces fits a trajectory.
-use Rattle.std.proofs.lemmas.Grind.{common_steps}
-use Rattle.std.proofs.Common.{◌≡◌, ℕ, zero, suc, ◌+◌, ◌<◌, ◌≤◌, Bool, true, false, cond, ◌&&◌, nat_le, Some, None, ℤ, pos, List, [], ◌∷◌, ◌++◌, map, length, get_or, arith, refl, sym, ap, ◌∙◌, subst}
-use Rattle.std.specs.List.{list_all, All}
+use Rattle.figure_expand.proofs.Prelude.{common_steps, ◌≡◌, ℕ, zero, suc, ◌+◌, ◌<◌, ◌≤◌, Bool, true, false, cond, ◌&&◌, nat_le, Some, None, ℤ, pos, List, [], ◌∷◌, ◌++◌, map, length, get_or, arith, refl, sym, ap, ◌∙◌, subst, list_all, All, All-head, All-tail, All-get_or, Point, DroneLine, Job, Cue, Grid, FitCues, IsGrid, millimetres, is_short, short, controls, rounded, axis_on, counted, segment_of, Axis, One, Two, Four, Eight, MicroPiece, act_of, end_of, axes_of, piece_of, fits_axis, values_on, values_of, point_values, start_values, start_points, cue_values, points_after, values_from, first_unfit, range_fault, job_in, no_job, pieces_from, expanded_from, expanded, AxisValue, RoundsWell, StartsWell, FitsWell}
 use Rattle.std.proofs.lemmas.Bool.{and_parts}
 use Rattle.std.proofs.lemmas.Bool.Decides.{nat_tests}
-use Rattle.std.proofs.lemmas.List.Elements.{All-head, All-tail, All-get_or}
-use Rattle.choreo_lines.specs.declared.parts.Point.{Point}
-use Rattle.choreo_show.specs.declared.show.DroneLine.{DroneLine}
-use Rattle.cue_grid.specs.declared.grid.Job.{Job}
-use Rattle.cue_grid.specs.declared.grid.Cue.{Cue}
-use Rattle.cue_grid.specs.declared.grid.Grid.{Grid}
-use Rattle.cue_grid.specs.Grids.{FitCues, IsGrid}
 use Rattle.traj_codec.specs.declared.traj.Segment.{Segment}
-use Rattle.mm_rounding.specs.Rounding.{millimetres, is_short, short, controls, rounded, fits, axis_on, counted, segment_of}
-use Rattle.mm_rounding.specs.declared.piece.Axis.{Axis}
-use Rattle.mm_rounding.specs.declared.piece.Axis.TheVariants.{One, Two, Four, Eight}
-use Rattle.mm_rounding.specs.declared.piece.MicroPiece.{MicroPiece}
-use Rattle.figure_expand.specs.Acts.{act_of}
-use Rattle.figure_expand.specs.Written.{end_of}
-use Rattle.figure_expand.specs.Controls.{axes_of, piece_of}
+use Rattle.mm_rounding.specs.Rounding.{fits}
 use Rattle.figure_expand.specs.Expanded as expanding
-use Rattle.figure_expand.specs.Expanded.{fits_axis, values_on, values_of, point_values, start_values, start_points, cue_values, points_after, values_from, first_unfit, range_fault, job_in, no_job, pieces_from, expanded_from, expanded}
-use Rattle.figure_expand.specs.declared.fault.AxisValue.{AxisValue}
-use Rattle.figure_expand.specs.Flown.{RoundsWell, StartsWell, FitsWell}
 use Rattle.figure_expand.proofs.Reach.{length-points_after, length-start_points}
 use Rattle.figure_expand.proofs.Pieces.{row_is}
 use Rattle.figure_expand.proofs.Unfit.{none_before}

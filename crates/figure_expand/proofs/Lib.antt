@@ -1,3 +1,4 @@
+mod Prelude
 pub mod Reach
 pub mod Unfit
 pub mod Curves

@@ -1,29 +1,7 @@
 -- The pieces of a grid are where the text says.
-use Rattle.std.proofs.lemmas.Grind.{common_steps}
-use Rattle.std.proofs.Common.{◌≡◌, ℕ, zero, suc, ◌+◌, ◌<◌, ℤ, pos, ◌+ℤ◌, ◌-ℤ◌, ◌*ℤ◌, List, [], ◌∷◌, map, take, length, get_or, arith, refl, sym, ap, ◌∙◌}
-use Rattle.std.specs.List.{All}
-use Rattle.std.proofs.lemmas.List.Elements.{All-from_recursion}
-use Rattle.fleet_math.specs.Sums.{power}
-use Rattle.fleet_math.specs.Bernstein.{at}
-use Rattle.fleet_math.proofs.RingLemmas.{mul_comm_ℤ, one_mul_ℤ}
-use Rattle.fleet_math.proofs.BernsteinLemmas.{bernstein-zero, bernstein-suc, cong_add}
-use Rattle.choreo_lines.specs.declared.parts.Point.{Point}
-use Rattle.choreo_lines.specs.declared.parts.Act.{Act}
+use Rattle.figure_expand.proofs.Prelude.{common_steps, ◌≡◌, ℕ, zero, suc, ◌+◌, ◌<◌, ℤ, pos, ◌+ℤ◌, ◌-ℤ◌, ◌*ℤ◌, List, [], ◌∷◌, map, take, length, get_or, arith, refl, sym, ap, ◌∙◌, All, All-from_recursion, power, at, mul_comm_ℤ, one_mul_ℤ, bernstein-zero, bernstein-suc, cong_add, Point, Act, DroneLine, Job, Cue, Grid, controls, axis_on, first_control, Axis, One, MicroPiece, act_of, on_axis, from_rest, written_points, ClosedForms, end_of, point_after, axes_of, piece_of, job_in, no_job, pieces_from, expanded_from, expanded, start_of, jobs_in, job_at, point_before, FliesAsWritten}
 use Rattle.choreo_lines.specs.declared.parts.Act.TheVariants as act
-use Rattle.choreo_show.specs.declared.show.DroneLine.{DroneLine}
-use Rattle.cue_grid.specs.declared.grid.Job.{Job}
-use Rattle.cue_grid.specs.declared.grid.Cue.{Cue}
-use Rattle.cue_grid.specs.declared.grid.Grid.{Grid}
-use Rattle.mm_rounding.specs.Rounding.{controls, axis_on, first_control}
 use Rattle.mm_rounding.specs.Near.{position, IsAxis, IsPiece, last_control}
-use Rattle.mm_rounding.specs.declared.piece.Axis.{Axis}
-use Rattle.mm_rounding.specs.declared.piece.Axis.TheVariants.{One}
-use Rattle.mm_rounding.specs.declared.piece.MicroPiece.{MicroPiece}
-use Rattle.figure_expand.specs.Acts.{act_of, on_axis}
-use Rattle.figure_expand.specs.Written.{from_rest, written_points, ClosedForms, end_of, point_after}
-use Rattle.figure_expand.specs.Controls.{axes_of, piece_of}
-use Rattle.figure_expand.specs.Expanded.{job_in, no_job, pieces_from, expanded_from, expanded}
-use Rattle.figure_expand.specs.Flown.{start_of, jobs_in, job_at, point_before, FliesAsWritten}
 use Rattle.figure_expand.proofs.Curves.{closed_rest, bern-steps, from_rest-share}
 
 -- ---- the polynomial of each kind of control points

@@ -1,27 +1,10 @@
 -- How far the numbers of points and acts are from 0.
-use Rattle.std.proofs.lemmas.Grind.{common_steps}
-use Rattle.std.proofs.Common.{◌≡◌, ℕ, zero, suc, ◌+◌, ◌*◌, ◌^◌, ◌<◌, ◌≤◌, true, ℤ, pos, ◌+ℤ◌, List, [], ◌∷◌, length, get_or, to_z, of_z, w64, arith, refl, sym, ap, subst}
-use Rattle.std.specs.List.{All}
-use Rattle.std.proofs.lemmas.Int.{ints, to_z-of_z}
-use Rattle.std.proofs.lemmas.List.Elements.{All-nil, All-cons, All-get_or, All-tail}
-use Rattle.fleet_math.specs.Bernstein.{at}
+use Rattle.figure_expand.proofs.Prelude.{common_steps, ◌≡◌, ℕ, zero, suc, ◌+◌, ◌*◌, ◌^◌, ◌<◌, ◌≤◌, true, ℤ, pos, ◌+ℤ◌, List, [], ◌∷◌, length, get_or, to_z, of_z, w64, arith, refl, sym, ap, subst, All, ints, to_z-of_z, All-nil, All-cons, All-get_or, All-tail, at, Point, Act, DroneLine, FitsFrame, FitsPoint, FitsCoordinate, FitsAct, Job, Cue, mirrored, turned_once, turned, IsUpTo, IsPointUpTo, IsShiftUpTo, FitsJob, FitJobs, FitsCue, FitCues, act_in, act_of, end_of, start_points, points_after, FitsYaw, FitsTriple, IsActUpTo, reach, AreInReach}
 use Rattle.fleet_math.specs.Limits.{most_cues}
-use Rattle.choreo_lines.specs.declared.parts.Point.{Point}
 use Rattle.choreo_lines.specs.declared.parts.Frame.{Frame}
 use Rattle.choreo_lines.specs.declared.parts.Mirror.{Mirror}
 use Rattle.choreo_lines.specs.declared.parts.Mirror.TheVariants as mirror
-use Rattle.choreo_lines.specs.declared.parts.Act.{Act}
 use Rattle.choreo_lines.specs.declared.parts.Act.TheVariants as act
-use Rattle.choreo_show.specs.declared.show.DroneLine.{DroneLine}
-use Rattle.choreo_show.specs.Valid.{FitsFrame, FitsPoint, FitsCoordinate, FitsAct}
-use Rattle.cue_grid.specs.declared.grid.Job.{Job}
-use Rattle.cue_grid.specs.declared.grid.Cue.{Cue}
-use Rattle.cue_grid.specs.Frames.{mirrored, turned_once, turned, IsUpTo, IsPointUpTo, IsShiftUpTo}
-use Rattle.cue_grid.specs.Grids.{FitsJob, FitJobs, FitsCue, FitCues}
-use Rattle.figure_expand.specs.Acts.{act_in, act_of}
-use Rattle.figure_expand.specs.Written.{end_of}
-use Rattle.figure_expand.specs.Expanded.{start_points, points_after}
-use Rattle.figure_expand.specs.Bounds.{FitsYaw, FitsTriple, IsActUpTo, reach, AreInReach}
 
 -- ---- the points of a show
 

@@ -1,19 +1,6 @@
 -- The first value that does not fit, step by step.
-use Rattle.std.proofs.lemmas.Grind.{common_steps}
-use Rattle.std.proofs.Common.{◌≡◌, ℕ, zero, suc, ◌+◌, ◌<◌, ◌≤◌, Bool, true, false, cond, Some, None, List, [], ◌∷◌, ◌++◌, length, get_or, set, drop, arith, refl, sym, ap, ◌∙◌}
-use Rattle.choreo_lines.specs.declared.parts.Point.{Point}
-use Rattle.cue_grid.specs.declared.grid.Job.{Job}
-use Rattle.figure_expand.specs.declared.fault.AxisValue.{AxisValue}
-use Rattle.cue_grid.specs.declared.grid.Grid.{Grid}
-use Rattle.figure_expand.specs.Acts.{act_of}
-use Rattle.figure_expand.specs.Written.{end_of}
+use Rattle.figure_expand.proofs.Prelude.{common_steps, ◌≡◌, ℕ, zero, suc, ◌+◌, ◌<◌, ◌≤◌, Bool, true, false, cond, Some, None, List, [], ◌∷◌, ◌++◌, length, get_or, set, drop, arith, refl, sym, ap, ◌∙◌, Point, Job, AxisValue, Grid, act_of, end_of, DroneLine, Cue, controls, Axis, axes_of, fits, values_on, values_of, point_values, start_values, cue_values, values_from, start_points, first_unfit, points_after, range_fault}
 use Rattle.std.proofs.lemmas.List.{drop_more}
-use Rattle.choreo_show.specs.declared.show.DroneLine.{DroneLine}
-use Rattle.cue_grid.specs.declared.grid.Cue.{Cue}
-use Rattle.mm_rounding.specs.Rounding.{controls}
-use Rattle.mm_rounding.specs.declared.piece.Axis.{Axis}
-use Rattle.figure_expand.specs.Controls.{axes_of}
-use Rattle.figure_expand.specs.Expanded.{fits, values_on, values_of, point_values, start_values, cue_values, values_from, start_points, first_unfit, points_after, range_fault}
 
 -- values that fit are passed over
 pub none_before : (xs ys : List AxisValue) → first_unfit xs ≡ None → first_unfit (xs ++ ys) ≡ first_unfit ys

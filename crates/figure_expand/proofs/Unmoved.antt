@@ -1,13 +1,7 @@
 -- The frame that changes nothing leaves each act.
-use Rattle.std.proofs.Common.{◌≡◌, [], ◌∷◌, refl, ap, ◌∙◌, arith}
+use Rattle.figure_expand.proofs.Prelude.{◌≡◌, [], ◌∷◌, refl, ap, ◌∙◌, arith, Act, FitsAct, no_frame, FitsJob, Job, act_in, act_of}
 use Rattle.std.proofs.Math.IntN.{+ℤ_idr}
-use Rattle.choreo_lines.specs.declared.parts.Act.{Act}
 use Rattle.choreo_lines.specs.declared.parts.Act.TheVariants as act
-use Rattle.choreo_show.specs.Valid.{FitsAct}
-use Rattle.cue_grid.specs.Frames.{no_frame}
-use Rattle.cue_grid.specs.Grids.{FitsJob}
-use Rattle.cue_grid.specs.declared.grid.Job.{Job}
-use Rattle.figure_expand.specs.Acts.{act_in, act_of}
 
 act_stays : (a : Act) → FitsAct a → act_in no_frame a ≡ a
 act_stays act.Hold fits = refl

@@ -1,16 +1,9 @@
 -- How large raised control values are: their weights add up to 5,040.
-use Rattle.std.proofs.Common.{◌≡◌, inl, inr, ℕ, zero, suc, ◌-◌, ◌*◌, ◌/◌, ◌^◌, ◌≤◌, ◌<◌, ℤ, pos, neg_ℤ, ◌*ℤ◌, ◌≤ℤ◌, arith, refl, List, length, All, lit<}
-use Rattle.std.proofs.lemmas.Int.{ints}
-use Rattle.std.proofs.lemmas.List.Elements.{All-from_get_or}
+use Rattle.fleet_curves.proofs.Prelude.{◌≡◌, inl, inr, ℕ, zero, suc, ◌-◌, ◌*◌, ◌/◌, ◌^◌, ◌≤◌, ◌<◌, ℤ, pos, neg_ℤ, ◌*ℤ◌, ◌≤ℤ◌, arith, refl, List, length, All, lit<, ints, All-from_get_or, at, choose, IsBelow, raised, raised_value, at-eight, below_at}
 use Rattle.fleet_math.specs.Sums.{sum_below}
-use Rattle.fleet_math.specs.Bernstein.{at, choose}
 use Rattle.fleet_math.proofs.RingLemmas.{linear, le_mul_pos, add_mul_ℤ, mul_neg_ℤ, zero_mul_ℤ}
 use Rattle.bezier_core.specs.Curves.{IsLength}
 use Rattle.bezier_core.specs.Steps.{IsWithin}
-use Rattle.fleet_math.specs.Numbers.{IsBelow}
-use Rattle.bezier_core.specs.Raised.{raised, raised_value}
-use Rattle.bezier_core.proofs.CurveLemmas.{at-eight}
-use Rattle.bezier_core.proofs.EightLemmas.{below_at}
 
 sum_within : (n : ℕ) (w : ℕ → ℕ) (f : ℕ → ℤ) (m : ℤ) → ((k : ℕ) → k < n → IsWithin m (f k)) → IsWithin (sum_below n (λ j. pos (w j)) *ℤ m) (sum_below n (λ j. pos (w j) *ℤ f j))
 sum_within zero w f m within = (omega (arith, linear, zero_mul_ℤ m), omega (arith, linear, zero_mul_ℤ m))

@@ -1,17 +1,5 @@
 -- The differences of raised curves.
-use Rattle.std.proofs.lemmas.Grind.{common_steps}
-use Rattle.std.proofs.Common.{◌≡◌, ℕ, zero, suc, ◌^◌, ◌<◌, ◌≤◌, ◌-◌, ℤ, pos, ◌-ℤ◌, arith, refl, ◌∙◌, ap, List, [], ◌∷◌, length, get_or, All, lit<}
-use Rattle.std.proofs.lemmas.Int.{ints}
-use Rattle.std.proofs.lemmas.List.Elements.{All-from_get_or}
-use Rattle.fleet_math.specs.Bernstein.{at}
-use Rattle.fleet_math.specs.Decoded.{last_value}
-use Rattle.bezier_core.specs.declared.Bez.{Bez}
-use Rattle.fleet_math.specs.Numbers.{IsBelow}
-use Rattle.bezier_core.specs.Along.{controls}
-use Rattle.bezier_core.specs.Raised.{eight}
-use Rattle.bezier_core.proofs.CurveLemmas.{at-eight}
-use Rattle.bezier_core.proofs.EightLemmas.{controls_below}
-use Rattle.fleet_curves.specs.Raised.{less}
+use Rattle.fleet_curves.proofs.Prelude.{common_steps, ◌≡◌, ℕ, zero, suc, ◌^◌, ◌<◌, ◌≤◌, ◌-◌, ℤ, pos, ◌-ℤ◌, arith, refl, ◌∙◌, ap, List, [], ◌∷◌, length, get_or, All, lit<, ints, All-from_get_or, at, last_value, Bez, IsBelow, controls, eight, at-eight, controls_below, less}
 
 below_less : (x y : ℤ) → IsBelow (2 ^ 28) x → IsBelow (2 ^ 28) y → IsBelow (2 ^ 30) (x -ℤ y)
 below_less x y first second = (omega (arith, ints), omega (arith, ints))

@@ -1,16 +1,6 @@
 -- The raised curves of a list of trajectories, one after the other.
-use Rattle.std.proofs.Common.{◌≡◌, ℕ, suc, ◌+◌, ◌*◌, ◌<◌, ◌≤◌, ℤ, arith, sym, subst, ◌∙◌, ap, List, [], ◌∷◌, ◌++◌, append_assoc, append-nil, length, length-append, drop, take, get_or, All}
-use Rattle.std.specs.List.{flat_map}
+use Rattle.fleet_curves.proofs.Prelude.{◌≡◌, ℕ, suc, ◌+◌, ◌*◌, ◌<◌, ◌≤◌, ℤ, arith, sym, subst, ◌∙◌, ap, List, [], ◌∷◌, ◌++◌, append_assoc, append-nil, length, length-append, drop, take, get_or, All, flat_map, take_more, All-head, All-tail, All-append, All-cons, Bez, Segment, element_on, value_after, flat_map-append, common_steps, Traj, AreOneShow, raised_element, raised_from, raised_traj, cues_in, AreHeld, AreSmallCurves}
 use Rattle.std.proofs.Math.Seq.{drop-cons}
-use Rattle.std.proofs.lemmas.List.{take_more}
-use Rattle.std.proofs.lemmas.List.Elements.{All-head, All-tail, All-append, All-cons}
-use Rattle.bezier_core.specs.declared.Bez.{Bez}
-use Rattle.traj_codec.specs.declared.traj.Segment.{Segment}
-use Rattle.traj_codec.specs.Positions.{element_on, value_after}
-use Rattle.std.proofs.lemmas.Grind.{flat_map-append, common_steps}
-use Rattle.traj_codec.specs.declared.traj.Traj.{Traj}
-use Rattle.fleet_curves.specs.Raised.{AreOneShow, raised_element, raised_from, raised_traj, cues_in}
-use Rattle.fleet_curves.specs.Steps.{AreHeld, AreSmallCurves}
 use Rattle.fleet_curves.proofs.Standing.{length-durations, fleet_lengths}
 
 all_one : {X : Type 0} (P : X → Type 0) (x : X) → P x → All P (x ∷ [])

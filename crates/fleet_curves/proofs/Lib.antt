@@ -1,3 +1,4 @@
+mod Prelude
 pub mod Differences
 pub mod Rows
 pub mod Fleets

@@ -1,14 +1,5 @@
 -- Curves that are kept as rows of control values.
-use Rattle.std.proofs.Common.{◌≡◌, ◌≢◌, ℕ, zero, suc, ◌+◌, ◌≤◌, ◌<◌, ℤ, ◌-ℤ◌, ◌^◌, arith, below_more, get_or-set_other, get_or-set_same, slice_set, refl, sym, ◌∙◌, ap, subst, All, List, [], ◌∷◌, ◌++◌, length, take, get_or, map}
-use Rattle.std.proofs.lemmas.List.{length-map, map-append, take_all}
-use Rattle.std.proofs.lemmas.List.Elements.{All-get_or}
-use Rattle.fleet_math.specs.Bernstein.{at}
-use Rattle.fleet_math.specs.Numbers.{IsBelow}
-use Rattle.bezier_core.specs.declared.Bez.{Bez}
-use Rattle.bezier_core.specs.Along.{controls}
-use Rattle.bezier_core.specs.Raised.{eight}
-use Rattle.fleet_curves.specs.Raised.{AreRaised, curves_of, less}
-use Rattle.fleet_curves.specs.Steps.{AreSmallCurves, all_curves}
+use Rattle.fleet_curves.proofs.Prelude.{◌≡◌, ◌≢◌, ℕ, zero, suc, ◌+◌, ◌≤◌, ◌<◌, ℤ, ◌-ℤ◌, ◌^◌, arith, below_more, get_or-set_other, get_or-set_same, slice_set, refl, sym, ◌∙◌, ap, subst, All, List, [], ◌∷◌, ◌++◌, length, take, get_or, map, length-map, map-append, take_all, All-get_or, at, IsBelow, Bez, controls, eight, AreRaised, curves_of, less, AreSmallCurves, all_curves}
 use Rattle.fleet_curves.proofs.Differences.{same_default}
 
 -- what holds of the entries so far and of the new one

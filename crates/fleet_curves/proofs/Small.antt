@@ -1,9 +1,5 @@
 -- Small numbers, and what holds of three of anything.
-use Rattle.std.proofs.Common.{◌≡◌, ℕ, zero, suc, ℤ, ◌-ℤ◌, ◌^◌, List, arith, ◌∙◌, [], ◌∷◌, All, FitsSigned, to_z, of_z}
-use Rattle.std.proofs.lemmas.Int.{ints}
-use Rattle.std.proofs.lemmas.Int.{to_z-of_z}
-use mir.Syntax.{w16, w32, w128}
-use Rattle.fleet_math.specs.Numbers.{IsBelow}
+use Rattle.fleet_curves.proofs.Prelude.{◌≡◌, ℕ, zero, suc, ℤ, ◌-ℤ◌, ◌^◌, List, arith, ◌∙◌, [], ◌∷◌, All, FitsSigned, to_z, of_z, ints, to_z-of_z, w16, w32, w128, IsBelow}
 
 -- what holds of three values
 pub three : {X : Type 0} (P : X → Type 0) (x y z : X) → P x → P y → P z → All P (x ∷ y ∷ z ∷ [])

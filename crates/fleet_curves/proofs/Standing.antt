@@ -1,21 +1,6 @@
 -- The curves that are made of trajectories stand for them: each is the raised curve of its control points.
-use Rattle.std.proofs.lemmas.Grind.{common_steps}
-use Rattle.std.proofs.Common.{◌≡◌, ℕ, zero, suc, ◌+◌, ◌*◌, ◌≤◌, ◌<◌, ℤ, arith, refl, sym, ◌∙◌, ap, subst, List, [], ◌∷◌, length, get_or, map, All, Some, slice_get}
-use Rattle.std.specs.List.{flat_map}
-use Rattle.std.proofs.lemmas.List.{get_or-append-add}
+use Rattle.fleet_curves.proofs.Prelude.{common_steps, ◌≡◌, ℕ, zero, suc, ◌+◌, ◌*◌, ◌≤◌, ◌<◌, ℤ, arith, refl, sym, ◌∙◌, ap, subst, List, [], ◌∷◌, length, get_or, map, All, Some, slice_get, flat_map, get_or-append-add, All-head, All-tail, at, points_from, Bez, controls, raised, Segment, Traj, stored, durations, element_on, piece_on, points, value_after, Raised, AreOneShow, CurvesStandFor, curves_at, raised_in, raised_from, raised_traj, IsFormed}
 use Rattle.std.proofs.Math.ListN.{get_or-append}
-use Rattle.std.proofs.lemmas.List.Elements.{All-head, All-tail}
-use Rattle.fleet_math.specs.Bernstein.{at}
-use Rattle.fleet_math.specs.Decoded.{points_from}
-use Rattle.bezier_core.specs.declared.Bez.{Bez}
-use Rattle.bezier_core.specs.Along.{controls}
-use Rattle.bezier_core.specs.Raised.{raised}
-use Rattle.traj_codec.specs.declared.traj.Segment.{Segment}
-use Rattle.traj_codec.specs.declared.traj.Traj.{Traj}
-use Rattle.traj_codec.specs.Spelling.{stored}
-use Rattle.traj_codec.specs.Positions.{durations, element_on, piece_on, points, value_after}
-use Rattle.fleet_curves.specs.Raised.{Raised, AreOneShow, CurvesStandFor, curves_at, raised_in, raised_from, raised_traj}
-use Rattle.fleet_curves.specs.Steps.{IsFormed}
 
 -- there are as many durations as segments
 pub length-durations : (segments : List Segment) → length (durations segments) ≡ length segments

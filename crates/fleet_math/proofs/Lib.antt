@@ -8,3 +8,4 @@ pub mod EdgeLemmas
 pub mod Rows
 pub mod NearLemmas
 pub mod DepthLemmas
+pub mod Instants

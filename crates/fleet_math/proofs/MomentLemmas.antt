@@ -1,6 +1,5 @@
 -- An instant of a row of durations lies in one of them.
-use Rattle.fleet_math.proofs.Prelude.{◌≡◌, ℕ, suc, ◌+◌, ◌-◌, ◌*◌, ◌≤◌, ◌<◌, Bool, true, false, cond, nat_le, arith, refl, List, [], ◌∷◌, length, All, sum, nat_tests, All-head, All-tail, Moment, moment, moment_from}
-use Rattle.std.proofs.lemmas.List.Sums.{sum_by-cons}
+use Rattle.fleet_math.proofs.Prelude.{◌≡◌, ℕ, suc, ◌+◌, ◌-◌, ◌*◌, ◌≤◌, ◌<◌, Bool, true, false, cond, nat_le, arith, refl, List, [], ◌∷◌, length, All, sum, nat_tests, All-head, All-tail, Moment, moment, moment_from, sum_by-cons}
 
 -- the moment lies in one of the cues below n
 pub record IsInside (n : ℕ) (m : Moment) : Type 0 where

@@ -3,6 +3,7 @@ pub use Rattle.std.proofs.Common.{All, Bool, FitsSigned, List, [], ap, arith, co
 pub use Rattle.std.proofs.lemmas.Bool.Decides.{nat_tests}
 pub use Rattle.std.proofs.lemmas.Int.{by_lt_z, fits_signed_mul, ints, quot-rem, quot_fits, quot_is, rem_below, rem_is, to_z-of_z}
 pub use Rattle.std.proofs.lemmas.List.Elements.{All-cons, All-head, All-nil, All-tail}
+pub use Rattle.std.proofs.lemmas.List.Sums.{sum_by-cons}
 pub use lib.Signed.{le_z, lt_z}
 pub use mir.Syntax.{w128}
 unfoldable pub use Rattle.fleet_math.specs.Bernstein.{bernstein}

@@ -16,12 +16,11 @@ use Rattle.halving.specs.Part.{part_value}
 use Rattle.traj_codec.specs.declared.traj.Traj.{Traj}
 use Rattle.traj_codec.specs.Positions.{decoded, durations}
 use Rattle.fleet_curves.specs.Raised.{HasFewPoints, Raised, curves_at, raised_in}
-use Rattle.sep_parts.proofs.Leaf.{part-instant, power_seven}
+use Rattle.halving.proofs.PartBounds.{part-instant, power_seven, bernstein-at_most}
 use Rattle.fleet_curves.proofs.Standing.{at_place, segments_of}
 use Rattle.keepout_boxes.specs.declared.region.Region.{Region}
 use Rattle.keepout_boxes.specs.declared.region.Region.TheVariants.{Keepout, Volume}
 use Rattle.keepout_boxes.specs.Kept.{AllAbove, AllBelow, AllBetween, IsKept, IsSpot, KeepsTo, KeptAt, Spot, StaysClear, extent, part_of}
-use Rattle.sep_parts.proofs.PartBounds.{bernstein-at_most}
 use Rattle.sep_parts.proofs.Positions.{curve_value}
 use Rattle.keepout_boxes.proofs.Hulls.{less_scaled, more_scaled}
 

@@ -3,7 +3,7 @@ use Rattle.std.proofs.lemmas.Grind.{common_steps}
 use Rattle.std.proofs.Common.{◌≡◌, ℕ, suc, ◌+◌, ◌-◌, ◌*◌, ◌^◌, ◌≤◌, ◌<◌, ℤ, pos, ◌+ℤ◌, ◌-ℤ◌, ◌*ℤ◌, ◌≤ℤ◌, ◌<ℤ◌, true, false, arith, refl, sym, subst, ◌∙◌, ap, inl, inr, List, Option, Some, None, All, lit<, MatchOption, FitsSigned, [], length}
 use Rattle.std.proofs.lemmas.List.{get_or_past}
 use mir.Syntax.{w128}
-use Rattle.sep_parts.proofs.Parts.{part-within}
+use Rattle.halving.proofs.PartBounds.{part-within, part-at_least, part-at_most, part-half}
 use Rattle.std.specs.Prelude.{is_some}
 use Rattle.std.specs.Option.{option_map}
 use Rattle.std.proofs.lemmas.Int.{ints}
@@ -26,7 +26,6 @@ use Rattle.keepout_boxes.specs.declared.region.Region.TheVariants.{Keepout, Volu
 use Rattle.keepout_boxes.specs.Kept.{AllAbove, AllBelow, IsKept, extent, part_of}
 use Rattle.fleet_curves.specs.Raised.{Raised, curves_at}
 use Rattle.keepout_boxes.specs.Steps.{AllKeptIn, CueKept, IsFirstIn, IsFirstOfCue, KeptHere, KeptIn, values_of}
-use Rattle.sep_parts.proofs.PartBounds.{part-at_least, part-at_most, part-half}
 use Rattle.keepout_boxes.proofs.Hulls.{less_scaled, more_scaled}
 
 -- the same of equal control values at an equal scale

@@ -1,23 +1,6 @@
 -- Drones that are far apart on an axis are separated by its direction.
-use Rattle.std.proofs.lemmas.Grind.{common_steps}
-use Rattle.std.proofs.Common.{◌≡◌, ◌⊎◌, inl, inr, ℕ, zero, suc, ◌+◌, ◌*◌, ◌≤◌, ℤ, pos, negsuc, neg_ℤ, ◌+ℤ◌, ◌-ℤ◌, ◌*ℤ◌, ◌≤ℤ◌, ◌<ℤ◌, unsigned_abs, arith, refl, sym, ◌∙◌, ap, List, [], ◌∷◌}
-use Rattle.std.proofs.lemmas.Int.{ints, unsigned_abs-mul}
-use Rattle.fleet_math.specs.Bernstein.{at}
-use Rattle.fleet_math.proofs.RingLemmas.{linear, le_mul_pos, mul_comm_ℤ, mul_neg_ℤ, neg_mul_ℤ, one_mul_ℤ, zero_mul_ℤ}
-use Rattle.bezier_core.specs.declared.Bez.{Bez}
-use Rattle.bezier_core.specs.Along.{controls}
-use Rattle.bezier_core.proofs.CurveLemmas.{at-eight}
-use Rattle.halving.specs.Part.{part_value}
-use Rattle.halving.proofs.PolarLemmas.{part-whole}
-use Rattle.sep_parts.specs.declared.clearance.Clearance.{Clearance}
-use Rattle.sep_parts.specs.Directions.{IsAxis, IsClearance, Stands, for_reach, length_squared, limit_along, reach_on, root_above, stray_limit, threshold, weights}
-use Rattle.sep_parts.specs.Separates.{Separates, part_along}
-use Rattle.sep_parts.specs.Levels.{root}
+use Rattle.pair_search.proofs.Prelude.{common_steps, ◌≡◌, ◌⊎◌, inl, inr, ℕ, zero, suc, ◌+◌, ◌*◌, ◌≤◌, ℤ, pos, negsuc, neg_ℤ, ◌+ℤ◌, ◌-ℤ◌, ◌*ℤ◌, ◌≤ℤ◌, ◌<ℤ◌, unsigned_abs, arith, refl, sym, ◌∙◌, ap, List, [], ◌∷◌, ints, unsigned_abs-mul, at, linear, le_mul_pos, mul_comm_ℤ, mul_neg_ℤ, neg_mul_ℤ, one_mul_ℤ, zero_mul_ℤ, Bez, controls, at-eight, part_value, part-whole, Clearance, IsAxis, IsClearance, Stands, for_reach, length_squared, limit_along, reach_on, root_above, stray_limit, threshold, weights, Separates, part_along, root, Raised, curves_at, difference, Extent, HasAxes, IsExtent, IsFar, IsFarOn, gap_of, room_on, HasDirection}
 use Rattle.sep_parts.proofs.Limits.{root_above-least}
-use Rattle.fleet_curves.specs.Raised.{Raised, curves_at, difference}
-use Rattle.pair_search.specs.declared.extents.Extent.{Extent}
-use Rattle.pair_search.specs.Extents.{HasAxes, IsExtent, IsFar, IsFarOn, gap_of, room_on}
-use Rattle.pair_search.specs.Search.{HasDirection}
 
 -- (2 p + 1)^2 is above 4 p^2
 square_above : (r h : ℕ) → (pos (4 * (r * r) * (h * h)) *ℤ pos 1) <ℤ pos ((2 * (r * h) + 1) * (2 * (r * h) + 1))

@@ -1,16 +1,5 @@
 -- How many slots a fleet has at most, and how many nodes their trees.
-use Rattle.std.proofs.Common.{◌≡◌, ℕ, zero, suc, ◌+◌, ◌*◌, ◌^◌, ◌≤◌, ◌<◌, arith, refl, ap, List, [], ◌∷◌, length, length-append, map, Option, Some, None}
-use Rattle.std.specs.Option.{option_map, option_or}
-use Rattle.std.proofs.lemmas.List.Sums.{sum_by-cons}
-use Rattle.halving.specs.declared.Place.{Place}
-use Rattle.sep_parts.specs.declared.slot.Slot.{Slot}
-use Rattle.sep_parts.specs.Levels.{left_half, right_half, root}
-use Rattle.fleet_curves.specs.Raised.{Raised}
-use Rattle.sep_parts.specs.Slots.{cues_from, drones_from, pairs_from, slots}
-use Rattle.sep_parts.specs.Trees.{Tree, leaf, split, preorder}
-use Rattle.pair_search.specs.Search.{best_tree, split_of}
-use Rattle.sep_parts.specs.Rulers.{Measure}
-use Rattle.pair_search.specs.Fleets.{best_nodes, direction_at, nodes_in, nodes_of}
+use Rattle.pair_search.proofs.Prelude.{◌≡◌, ℕ, zero, suc, ◌+◌, ◌*◌, ◌^◌, ◌≤◌, ◌<◌, arith, refl, ap, List, [], ◌∷◌, length, length-append, map, Option, Some, None, option_map, option_or, sum_by-cons, Place, Slot, left_half, right_half, root, Raised, cues_from, drones_from, pairs_from, slots, Tree, leaf, split, preorder, best_tree, split_of, Measure, best_nodes, direction_at, nodes_in, nodes_of}
 
 -- ---- how many slots there are
 

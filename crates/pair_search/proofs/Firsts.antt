@@ -1,24 +1,6 @@
 -- The first direction that separates a place.
-use Rattle.std.proofs.lemmas.Grind.{common_steps}
-use Rattle.std.proofs.Common.{◌≡◌, ℕ, ◌+◌, ◌-◌, ◌≤◌, ◌<◌, ℤ, pos, ◌≤ℤ◌, ◌<ℤ◌, Bool, true, false, zero, suc, ◌∷◌, cond, nat_lt, arith, refl, sym, subst, List, [], length, get_or, Option, Some, None, is_none, not}
+use Rattle.pair_search.proofs.Prelude.{common_steps, ◌≡◌, ℕ, ◌+◌, ◌-◌, ◌≤◌, ◌<◌, ℤ, pos, ◌≤ℤ◌, ◌<ℤ◌, Bool, true, false, zero, suc, ◌∷◌, cond, nat_lt, arith, refl, sym, subst, List, [], length, get_or, Option, Some, None, is_none, not, position_or_len_is, nat_tests, at, by_lt, linear, Bez, Place, direction_of, IsLevel, Measure, low_value, Level, Lanes, Point, AreLanes, IsLowAt, IsPoint, first_by, first_direction, FindsFrom, NoneFrom, does_separate}
 use Rattle.std.specs.List.{position, position_or_len}
-use Rattle.std.proofs.lemmas.List.Sums.{position_or_len_is}
-use Rattle.std.proofs.lemmas.Bool.Decides.{nat_tests}
-use Rattle.fleet_math.specs.Bernstein.{at}
-use Rattle.fleet_math.proofs.BernsteinLemmas.{by_lt}
-use Rattle.fleet_math.proofs.RingLemmas.{linear}
-use Rattle.bezier_core.specs.declared.Bez.{Bez}
-use Rattle.halving.specs.declared.Place.{Place}
-use Rattle.sep_parts.specs.Directions.{direction_of}
-use Rattle.sep_parts.specs.Levels.{IsLevel}
-use Rattle.sep_parts.specs.Rulers.{Measure}
-use Rattle.sep_parts.specs.Separates.{low_value}
-use Rattle.sep_parts.specs.declared.stack.Level.{Level}
-use Rattle.pair_search.specs.declared.lanes.Lanes.{Lanes}
-use Rattle.pair_search.specs.declared.lanes.Point.{Point}
-use Rattle.pair_search.specs.Lanes.{AreLanes, IsLowAt, IsPoint}
-use Rattle.pair_search.specs.Search.{first_by, first_direction}
-use Rattle.pair_search.specs.Steps.{FindsFrom, NoneFrom, does_separate}
 use Rattle.pair_search.proofs.LaneLemmas.{lane_fails_at}
 
 -- the first place where a test passes

@@ -1,25 +1,8 @@
 -- The walk over the slots of a fleet: what is found at one of them, and what has been found of those before it.
-use Rattle.std.proofs.lemmas.Grind.{common_steps}
-use Rattle.std.proofs.Common.{◌≡◌, ℕ, zero, suc, ◌+◌, ◌-◌, ◌*◌, ◌^◌, ◌<◌, ◌≤◌, arith, length, refl, sym, ◌∙◌, ap, subst, List, [], ◌∷◌, ◌++◌, append_assoc, map, Option, Some, None, Result, Ok, Err}
-use Rattle.std.specs.Option.{option_map, option_or}
-use Rattle.std.proofs.lemmas.List.Sums.{sum_by-cons}
-use Rattle.bezier_core.specs.declared.Bez.{Bez}
-use Rattle.halving.specs.declared.Place.{Place}
-use Rattle.sep_parts.specs.declared.slot.Slot.{Slot}
-use Rattle.fleet_curves.specs.Raised.{Raised, difference}
-use Rattle.sep_parts.specs.Rulers.{Measure}
-use Rattle.sep_parts.specs.Levels.{root}
-use Rattle.sep_parts.specs.Slots.{cues_from, following, following_pair, slot_at, slots}
-use Rattle.sep_parts.specs.declared.node.Node.{Node}
-use Rattle.sep_parts.specs.Trees.{Tree, preorder}
-use Rattle.sep_parts.proofs.Orders.{IsAhead, next_ahead, pair_ahead, some_ahead}
+use Rattle.pair_search.proofs.Prelude.{common_steps, ◌≡◌, ℕ, zero, suc, ◌+◌, ◌-◌, ◌*◌, ◌^◌, ◌<◌, ◌≤◌, arith, length, refl, sym, ◌∙◌, ap, subst, List, [], ◌∷◌, ◌++◌, append_assoc, map, Option, Some, None, Result, Ok, Err, option_map, option_or, sum_by-cons, Bez, Place, Slot, Raised, difference, Measure, root, cues_from, following, following_pair, slot_at, slots, Node, Tree, preorder, IsAhead, next_ahead, pair_ahead, some_ahead, Found, HasDirection, SearchGives, first_by, StopsBy, best_nodes, blocked_in, direction_at, nodes_in, nodes_of, CountGives, FindsCount, IsPairFar, blocked_slot}
 use Rattle.pair_search.specs.declared.fleet.SearchFault.{SearchFault}
 use Rattle.pair_search.specs.declared.fleet.SearchFault.TheVariants as fault
-use Rattle.pair_search.specs.declared.walk.Found.{Found}
 use Rattle.pair_search.specs.declared.walk.Found.TheVariants as found
-use Rattle.pair_search.specs.Search.{HasDirection, SearchGives, first_by}
-use Rattle.pair_search.specs.Fleets.{StopsBy, best_nodes, blocked_in, direction_at, nodes_in, nodes_of}
-use Rattle.pair_search.specs.Steps.{CountGives, FindsCount, IsPairFar, blocked_slot}
 use Rattle.pair_search.proofs.Counted.{nodes_fit}
 use Rattle.pair_search.proofs.Marks.{root_counted}
 

@@ -1,25 +1,10 @@
 -- The halves of a separated place are separated.
-use Rattle.std.proofs.Common.{◌≡◌, ℕ, suc, ◌+◌, ◌-◌, ◌*◌, ◌^◌, ◌≤◌, ◌<◌, ℤ, pos, ◌+ℤ◌, ◌*ℤ◌, ◌≤ℤ◌, true, false, arith, refl, sym, ◌∙◌, ap, List, [], length, get_or, Option, Some, None, is_none}
-use Rattle.std.proofs.lemmas.Nat.{pow-add}
+use Rattle.pair_search.proofs.Prelude.{◌≡◌, ℕ, suc, ◌+◌, ◌-◌, ◌*◌, ◌^◌, ◌≤◌, ◌<◌, ℤ, pos, ◌+ℤ◌, ◌*ℤ◌, ◌≤ℤ◌, true, false, arith, refl, sym, ◌∙◌, ap, List, [], length, get_or, Option, Some, None, is_none, pow-add, at, mul_assoc_ℤ, one_mul_ℤ, Bez, controls, Place, part_value, polar-mix, polar-same, Clearance, direction_of, threshold, position-Some, Separates, least_value, low_value, part_along, first_low-none, first_low-values, first_direction, left_half, right_half}
 use Rattle.fleet_math.specs.Sums.{power}
-use Rattle.fleet_math.specs.Bernstein.{at}
-use Rattle.fleet_math.proofs.RingLemmas.{mul_assoc_ℤ, one_mul_ℤ}
 use Rattle.fleet_math.proofs.SumLemmas.{power-add}
-use Rattle.bezier_core.specs.declared.Bez.{Bez}
-use Rattle.bezier_core.specs.Along.{controls}
-use Rattle.halving.specs.declared.Place.{Place}
-use Rattle.halving.specs.Part.{part_value}
-use Rattle.halving.proofs.PolarLemmas.{polar-mix, polar-same}
 use Rattle.halving.proofs.SeparationLemmas.{half-at_least}
-use Rattle.sep_parts.specs.declared.clearance.Clearance.{Clearance}
-use Rattle.sep_parts.specs.Directions.{direction_of, threshold}
-use Rattle.std.proofs.lemmas.List.Quantifiers.{position-Some}
-use Rattle.sep_parts.specs.Separates.{Separates, least_value, low_value, part_along}
-use Rattle.sep_parts.proofs.Lows.{first_low-none, first_low-values}
-use Rattle.pair_search.specs.Search.{first_direction}
 use Rattle.pair_search.proofs.Firsts.{position-there}
 use Rattle.pair_search.proofs.Trees.{Has}
-use Rattle.sep_parts.specs.Levels.{left_half, right_half}
 
 -- a part of a weighted sum of three curves is the weighted sum of their parts
 part-sum : (e m k : ℕ) (u v w : ℤ) (f g h : ℕ → ℤ) →

@@ -1,29 +1,6 @@
 -- Numbers of lanes, and what they tell of a direction.
-use Rattle.std.proofs.lemmas.Grind.{common_steps}
-use Rattle.std.proofs.Common.{lit<, ◌≡◌, ◌≢◌, inl, inr, ℕ, zero, suc, ◌+◌, ◌*◌, ◌^◌, ◌≤◌, ◌<◌, ℤ, pos, negsuc, neg_ℤ, ◌+ℤ◌, ◌-ℤ◌, ◌*ℤ◌, ◌≤ℤ◌, ◌<ℤ◌, unsigned_abs, FitsSigned, to_z, of_z, arith, refl, sym, ◌∙◌, ap, subst, List, length, get_or-set_other, get_or-set_same, slice_set, replicate, is_none, false, true, Option, Some, None}
+use Rattle.pair_search.proofs.Prelude.{common_steps, lit<, ◌≡◌, ◌≢◌, inl, inr, ℕ, zero, suc, ◌+◌, ◌*◌, ◌^◌, ◌≤◌, ◌<◌, ℤ, pos, negsuc, neg_ℤ, ◌+ℤ◌, ◌-ℤ◌, ◌*ℤ◌, ◌≤ℤ◌, ◌<ℤ◌, unsigned_abs, FitsSigned, to_z, of_z, arith, refl, sym, ◌∙◌, ap, subst, List, length, get_or-set_other, get_or-set_same, slice_set, replicate, is_none, false, true, Option, Some, None, ints, unsigned_abs-mul, to_z-of_z, mul-le, pow-add, pow_pos, pow-le-pow_right, w32, w64, at, IsBelow, by_lt, Clearance, threshold, weights, least_value, low_value, part_along, IsLevel, Level, first_low-values, Bez, controls, at-eight, part_value, linear, le_mul_pos, mul_add_ℤ, mul_assoc_ℤ, mul_comm_ℤ, mul_left_comm_ℤ, mul_neg_ℤ, neg_mul_ℤ, one_mul_ℤ, IsWithin, Lanes, Point, IsFloor, IsLane, IsLowAt, IsPoint, IsSmallLane, lane_value, slack_on, slack_of}
 use lib.Signed.{lt_z}
-use Rattle.std.proofs.lemmas.Int.{ints, unsigned_abs-mul, to_z-of_z}
-use Rattle.std.proofs.lemmas.Nat.{mul-le, pow-add, pow_pos}
-use Rattle.std.proofs.Math.Nat.{pow-le-pow_right}
-use mir.Syntax.{w32, w64}
-use Rattle.fleet_math.specs.Bernstein.{at}
-use Rattle.fleet_math.specs.Numbers.{IsBelow}
-use Rattle.fleet_math.proofs.BernsteinLemmas.{by_lt}
-use Rattle.sep_parts.specs.declared.clearance.Clearance.{Clearance}
-use Rattle.sep_parts.specs.Directions.{threshold, weights}
-use Rattle.sep_parts.specs.Separates.{least_value, low_value, part_along}
-use Rattle.sep_parts.specs.Levels.{IsLevel}
-use Rattle.sep_parts.specs.declared.stack.Level.{Level}
-use Rattle.sep_parts.proofs.Lows.{first_low-values}
-use Rattle.bezier_core.specs.declared.Bez.{Bez}
-use Rattle.bezier_core.specs.Along.{controls}
-use Rattle.bezier_core.proofs.CurveLemmas.{at-eight}
-use Rattle.halving.specs.Part.{part_value}
-use Rattle.fleet_math.proofs.RingLemmas.{linear, le_mul_pos, mul_add_ℤ, mul_assoc_ℤ, mul_comm_ℤ, mul_left_comm_ℤ, mul_neg_ℤ, neg_mul_ℤ, one_mul_ℤ}
-use Rattle.bezier_core.specs.Steps.{IsWithin}
-use Rattle.pair_search.specs.declared.lanes.Lanes.{Lanes}
-use Rattle.pair_search.specs.declared.lanes.Point.{Point}
-use Rattle.pair_search.specs.Lanes.{IsFloor, IsLane, IsLowAt, IsPoint, IsSmallLane, lane_value, slack_on, slack_of}
 
 -- ---- sizes
 pub lane_product : (w x : ℤ) → IsBelow 4001 w → IsWithin (pos 65536) x → IsWithin (pos 262144000) (w *ℤ x)

@@ -1,20 +1,5 @@
 -- A search that asks only whether a place has a direction finds trees of the same shape.
-use Rattle.std.proofs.lemmas.Grind.{common_steps}
-use Rattle.std.proofs.Common.{◌≡◌, ℕ, zero, suc, ◌+◌, ◌≤◌, ◌<◌, ◌^◌, arith, refl, sym, ◌∙◌, ap, List, [], ◌∷◌, ◌++◌, length, length-append, Option, Some, None, is_none, true, false, cond, nat_lt, ℤ, Ok}
-use Rattle.std.specs.Option.{is_some, option_map, option_or}
-use Rattle.bezier_core.specs.declared.Bez.{Bez}
-use Rattle.halving.specs.declared.Place.{Place}
-use Rattle.sep_parts.specs.declared.clearance.Clearance.{Clearance}
-use Rattle.sep_parts.specs.Directions.{direction_of}
-use Rattle.sep_parts.specs.Separates.{low_value}
-use Rattle.sep_parts.specs.declared.stack.Level.{Level}
-use Rattle.sep_parts.specs.declared.node.Node.{Node}
-use Rattle.sep_parts.specs.declared.node.Node.TheVariants.{Split, Leaf}
-use Rattle.sep_parts.specs.Levels.{left_half, places_of, right_half, root}
-use Rattle.sep_parts.specs.Trees.{Tree, leaf, places_below, preorder}
-use Rattle.pair_search.specs.Search.{HasDirection, best_tree, blocked_place, first_direction, first_without, place_at, split_of}
-use Rattle.pair_search.specs.Fleets.{nodes_of}
-use Rattle.pair_search.specs.Steps.{CountGives, marked, node_for}
+use Rattle.pair_search.proofs.Prelude.{common_steps, ◌≡◌, ℕ, zero, suc, ◌+◌, ◌≤◌, ◌<◌, ◌^◌, arith, refl, sym, ◌∙◌, ap, List, [], ◌∷◌, ◌++◌, length, length-append, Option, Some, None, is_none, true, false, cond, nat_lt, ℤ, Ok, is_some, option_map, option_or, Bez, Place, Clearance, direction_of, low_value, Level, Node, Split, Leaf, left_half, places_of, right_half, root, Tree, leaf, places_below, preorder, HasDirection, best_tree, blocked_place, first_direction, first_without, place_at, split_of, nodes_of, CountGives, marked, node_for}
 use Rattle.pair_search.proofs.Halves.{first-there, left_has, right_has}
 use Rattle.pair_search.proofs.Firsts.{position-none, position-there}
 use Rattle.pair_search.proofs.Trees.{Has, IsWalk, work, size, begun, blocked_pending, ended, ended_pending, past, past_pending, less_pending}

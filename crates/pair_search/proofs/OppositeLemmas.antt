@@ -1,25 +1,6 @@
 -- Directions with their opposites, and what their lanes tell.
-use Rattle.std.proofs.Common.{◌≡◌, ◌⊎◌, inl, inr, ℕ, zero, suc, ◌+◌, ◌-◌, ◌≤◌, ◌<◌, ◌^◌, ℤ, pos, negsuc, neg_ℤ, ◌+ℤ◌, ◌-ℤ◌, ◌*ℤ◌, ◌<ℤ◌, FitsSigned, to_z, of_z, bit_or, arith, subst, List, length, replicate, true, false, Option, Some}
-use Rattle.std.specs.Option.{is_some}
-use Rattle.std.proofs.lemmas.Int.{ints, to_z_pos}
-use Rattle.std.proofs.lemmas.Nat.{or_lt}
-use mir.Syntax.{w32}
-use Rattle.fleet_math.specs.Bernstein.{at}
-use Rattle.fleet_math.specs.Numbers.{IsBelow}
-use Rattle.fleet_math.proofs.BernsteinLemmas.{by_lt}
-use Rattle.fleet_math.proofs.RingLemmas.{linear, neg_mul_ℤ}
-use Rattle.bezier_core.specs.declared.Bez.{Bez}
-use Rattle.halving.specs.declared.Place.{Place}
-use Rattle.sep_parts.specs.Levels.{IsLevel}
-use Rattle.sep_parts.specs.Rulers.{Measure}
-use Rattle.sep_parts.specs.declared.stack.Level.{Level}
-use Rattle.pair_search.specs.declared.lanes.Lanes.{Lanes}
-use Rattle.pair_search.specs.declared.lanes.Point.{Point}
+use Rattle.pair_search.proofs.Prelude.{◌≡◌, ◌⊎◌, inl, inr, ℕ, zero, suc, ◌+◌, ◌-◌, ◌≤◌, ◌<◌, ◌^◌, ℤ, pos, negsuc, neg_ℤ, ◌+ℤ◌, ◌-ℤ◌, ◌*ℤ◌, ◌<ℤ◌, FitsSigned, to_z, of_z, bit_or, arith, subst, List, length, replicate, true, false, Option, Some, is_some, ints, to_z_pos, or_lt, w32, at, IsBelow, by_lt, linear, neg_mul_ℤ, Bez, Place, IsLevel, Measure, Level, Lanes, Point, IsLowAt, IsPoint, IsSmallLane, IsSmallPoint, lane_value, CancelAt, AreOpposites, IsHigh, IsHighAt, IsSmallHigh, first_by, FindsAmong, NeitherAt, NeitherFrom, does_separate}
 use Rattle.pair_search.specs.declared.opposites.Opposites.{Opposites}
-use Rattle.pair_search.specs.Lanes.{IsLowAt, IsPoint, IsSmallLane, IsSmallPoint, lane_value}
-use Rattle.pair_search.specs.Opposites.{CancelAt, AreOpposites, IsHigh, IsHighAt, IsSmallHigh}
-use Rattle.pair_search.specs.Search.{first_by}
-use Rattle.pair_search.specs.Steps.{FindsAmong, NeitherAt, NeitherFrom, does_separate}
 use Rattle.pair_search.proofs.Firsts.{low_lane}
 use Rattle.pair_search.proofs.LaneLemmas.{lane_product, lane_sum}
 use Rattle.pair_search.proofs.Marks.{none_there, some_there}

@@ -1,16 +1,6 @@
 -- The extents of curves.
-use Rattle.std.proofs.Common.{◌≡◌, ◌⊎◌, inl, inr, ℕ, ◌^◌, ◌≤◌, ℤ, ◌≤ℤ◌, arith, sym, subst, List, [], ◌∷◌, get_or, FitsSigned, to_z, of_z}
-use Rattle.std.proofs.lemmas.Int.{ints, to_z-of_z}
-use mir.Syntax.{w32}
-use Rattle.fleet_math.specs.Bernstein.{at}
-use Rattle.fleet_math.specs.Numbers.{IsBelow}
-use Rattle.bezier_core.specs.declared.Bez.{Bez}
-use Rattle.bezier_core.specs.Along.{controls}
-use Rattle.fleet_curves.specs.Raised.{curves_of}
+use Rattle.pair_search.proofs.Prelude.{◌≡◌, ◌⊎◌, inl, inr, ℕ, ◌^◌, ◌≤◌, ℤ, ◌≤ℤ◌, arith, sym, subst, List, [], ◌∷◌, get_or, FitsSigned, to_z, of_z, ints, to_z-of_z, w32, at, IsBelow, Bez, controls, curves_of, controls_row, Extent, IsExtent}
 use Rattle.fleet_curves.proofs.Differences.{three_axes}
-use Rattle.fleet_curves.proofs.Rows.{controls_row}
-use Rattle.pair_search.specs.declared.extents.Extent.{Extent}
-use Rattle.pair_search.specs.Extents.{IsExtent}
 
 pub told : (x : ℤ) → IsBelow (2 ^ 28) x → to_z w32 (of_z w32 x) ≡ x
 told x small = let fits : FitsSigned w32 x = omega (arith, ints) in to_z-of_z w32 x fits

@@ -1,24 +1,9 @@
 -- The laws of a search.
-use Rattle.std.proofs.Common.{◌≡◌, ◌↔◌, ℕ, zero, suc, ◌+◌, ◌*◌, ◌^◌, ◌≤◌, ◌<◌, ℤ, Bool, true, false, nat_lt, arith, refl, sym, ◌∙◌, ap, subst, List, [], ◌∷◌, length, take, get_or, Option, Some, None, is_none, Result, Ok, Err, IfOk}
-use Rattle.std.specs.Option.{option_map, option_or}
-use Rattle.std.proofs.lemmas.Bool.Decides.{nat_tests}
-use Rattle.std.proofs.lemmas.List.Quantifiers.{position-Some}
+use Rattle.pair_search.proofs.Prelude.{◌≡◌, ◌↔◌, ℕ, zero, suc, ◌+◌, ◌*◌, ◌^◌, ◌≤◌, ◌<◌, ℤ, Bool, true, false, nat_lt, arith, refl, sym, ◌∙◌, ap, subst, List, [], ◌∷◌, length, take, get_or, Option, Some, None, is_none, Result, Ok, Err, IfOk, option_map, option_or, nat_tests, position-Some, Bez, Place, Clearance, direction_of, threshold, Separates, least_value, low_value, part_along, left_half, right_half, root, first_low-none, first_low-values, Node, Tree, leaf, split, IsValidTree, Found, HasDirection, IsClear, best_tree, blocked_place, first_direction, first_without, place_at, split_of, WalkGives}
 use Rattle.std.specs.declared.alloc.AllocError.{AllocError}
-use Rattle.bezier_core.specs.declared.Bez.{Bez}
-use Rattle.halving.specs.declared.Place.{Place}
-use Rattle.sep_parts.specs.declared.clearance.Clearance.{Clearance}
-use Rattle.sep_parts.specs.Directions.{direction_of, threshold}
-use Rattle.sep_parts.specs.Separates.{Separates, least_value, low_value, part_along}
-use Rattle.sep_parts.specs.Levels.{left_half, right_half, root}
-use Rattle.sep_parts.proofs.Lows.{first_low-none, first_low-values}
-use Rattle.sep_parts.specs.declared.node.Node.{Node}
 use Rattle.sep_parts.specs.declared.rules.Rules.{Rules}
-use Rattle.sep_parts.specs.Trees.{Tree, leaf, split, IsValidTree}
-use Rattle.pair_search.specs.declared.walk.Found.{Found}
 use Rattle.pair_search.specs.declared.walk.Found.TheVariants.{Clear, Blocked}
-use Rattle.pair_search.specs.Search.{HasDirection, IsClear, best_tree, blocked_place, first_direction, first_without, place_at, split_of}
 use Rattle.pair_search.specs.Laws.{IsFirstBlocked, IsFirstDirection, IsLargest, SearchLaw, half_of, leaf_on, part_on}
-use Rattle.pair_search.specs.Steps.{WalkGives}
 use Rattle.pair_search.proofs.Firsts.{position-is}
 use Rattle.pair_search.proofs.Trees.{Has, all_have, first_without-some, first_without-none, start, start-is, start-zero}
 use Rattle.pair_search.proofs.Halves.{first-separates, first-there, left_has, right_has}

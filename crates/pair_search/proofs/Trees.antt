@@ -1,17 +1,5 @@
 -- The walk over the places of a tree: what is pending, what is done, and what is found at the end.
-use Rattle.std.proofs.lemmas.Grind.{common_steps}
-use Rattle.std.proofs.Common.{◌≡◌, ℕ, zero, suc, ◌+◌, ◌-◌, ◌*◌, ◌^◌, ◌≤◌, ◌<◌, Bool, true, false, cond, nat_lt, arith, refl, sym, ◌∙◌, ap, subst, List, [], ◌∷◌, ◌++◌, append_assoc, append-nil, Option, Some, None}
-use Rattle.std.specs.Option.{option_map}
-use Rattle.std.proofs.Math.Nat.{pow-suc}
-use Rattle.std.proofs.lemmas.Bool.Decides.{nat_tests}
-use Rattle.halving.specs.declared.Place.{Place}
-use Rattle.sep_parts.specs.declared.stack.Level.{Level}
-use Rattle.sep_parts.specs.Levels.{left_half, places_of, right_half, root}
-use Rattle.sep_parts.specs.declared.node.Node.{Node}
-use Rattle.sep_parts.specs.declared.node.Node.TheVariants.{Split, Leaf}
-use Rattle.sep_parts.specs.Trees.{Tree, leaf, preorder, places_below}
-use Rattle.pair_search.specs.Search.{best_tree, blocked_place, first_without, place_at, split_of}
-use Rattle.pair_search.specs.Steps.{node_for}
+use Rattle.pair_search.proofs.Prelude.{common_steps, ◌≡◌, ℕ, zero, suc, ◌+◌, ◌-◌, ◌*◌, ◌^◌, ◌≤◌, ◌<◌, Bool, true, false, cond, nat_lt, arith, refl, sym, ◌∙◌, ap, subst, List, [], ◌∷◌, ◌++◌, append_assoc, append-nil, Option, Some, None, option_map, pow-suc, nat_tests, Place, Level, left_half, places_of, right_half, root, Node, Split, Leaf, Tree, leaf, preorder, places_below, best_tree, blocked_place, first_without, place_at, split_of, node_for}
 
 -- something is given for the place
 abbrev pub Has : (Place → Option ℕ) → Place → Type 0

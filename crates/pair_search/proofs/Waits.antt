@@ -1,12 +1,5 @@
 -- Parts that wait.
-use Rattle.std.proofs.lemmas.Grind.{common_steps}
-use Rattle.std.proofs.Common.{◌≡◌, ◌≤◌, ℕ, arith, List, ◌∷◌, Option, Some}
-use Rattle.halving.specs.declared.Place.{Place}
-use Rattle.sep_parts.specs.declared.node.Node.{Node}
-use Rattle.sep_parts.specs.declared.stack.Level.{Level}
-use Rattle.sep_parts.specs.Trees.{IsShallow}
-use Rattle.sep_parts.proofs.Stacks.{next_same}
-use Rattle.pair_search.specs.Steps.{node_for}
+use Rattle.pair_search.proofs.Prelude.{common_steps, ◌≡◌, ◌≤◌, ℕ, arith, List, ◌∷◌, Option, Some, Place, Node, Level, IsShallow, next_same, node_for}
 use Rattle.pair_search.proofs.Trees.{split_for}
 
 -- a part that is split is less deep than 8

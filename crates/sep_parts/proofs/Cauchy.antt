@@ -1,7 +1,5 @@
 -- Cauchy's inequality in three terms, by Lagrange's identity.
-use Rattle.std.proofs.Common.{◌≡◌, ℤ, pos, negsuc, ◌+ℤ◌, ◌-ℤ◌, ◌*ℤ◌, ◌≤ℤ◌, arith}
-use Rattle.std.proofs.lemmas.Int.{ints}
-use Rattle.fleet_math.proofs.RingLemmas.{ring, linear}
+use Rattle.sep_parts.proofs.Prelude.{◌≡◌, ℤ, pos, negsuc, ◌+ℤ◌, ◌-ℤ◌, ◌*ℤ◌, ◌≤ℤ◌, arith, ints, ring, linear}
 
 pub square_positive : (x : ℤ) → pos 0 ≤ℤ (x *ℤ x)
 square_positive (pos n) = omega (arith, ints)

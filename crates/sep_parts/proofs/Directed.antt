@@ -1,12 +1,5 @@
 -- The words of the argument on one leaf: three curves as functions, and a direction as a record of three whole numbers.
-use Rattle.std.proofs.Common.{ℕ, ◌≤◌, ◌*◌, ◌^◌, ℤ, pos, ◌+ℤ◌, ◌*ℤ◌, ◌≤ℤ◌, List}
-use Rattle.fleet_math.specs.Sums.{power}
-use Rattle.fleet_math.specs.Bernstein.{at, bernstein}
-use Rattle.bezier_core.specs.declared.Bez.{Bez}
-use Rattle.bezier_core.specs.Along.{controls}
-use Rattle.halving.specs.Part.{part_value}
-use Rattle.sep_parts.specs.declared.clearance.Clearance.{Clearance}
-use Rattle.sep_parts.specs.Directions.{AreSmall, threshold}
+use Rattle.sep_parts.proofs.Prelude.{ℕ, ◌≤◌, ◌*◌, ◌^◌, ℤ, pos, ◌+ℤ◌, ◌*ℤ◌, ◌≤ℤ◌, List, power, at, bernstein, Bez, controls, part_value, Clearance, AreSmall, threshold}
 
 -- a direction of three whole numbers
 pub record Direction : Type 0 where

@@ -1,10 +1,5 @@
 -- What the program reads of a direction: each entry is itself, and is small.
-use Rattle.std.proofs.lemmas.Grind.{common_steps}
-use Rattle.std.proofs.Common.{◌≡◌, ℕ, ◌≤◌, ℤ, pos, neg_ℤ, List, [], ◌∷◌, refl, get_or, arith, FitsSigned, to_z, of_z}
-use Rattle.std.proofs.lemmas.Int.{ints, to_z-of_z}
-use mir.Syntax.{Width, w8}
-use Rattle.fleet_math.specs.Numbers.{IsBelow}
-use Rattle.sep_parts.specs.Directions.{AreSmall}
+use Rattle.sep_parts.proofs.Prelude.{common_steps, ◌≡◌, ℕ, ◌≤◌, ℤ, pos, neg_ℤ, List, [], ◌∷◌, refl, get_or, arith, FitsSigned, to_z, of_z, ints, to_z-of_z, Width, w8, IsBelow, AreSmall}
 
 pub entry_fits : (n : List ℤ) (k : ℕ) → AreSmall n → k ≤ 2 → FitsSigned w8 (get_or n k (pos 0))
 entry_fits n k small within = grind (arith, common_steps, ints, pos, neg_ℤ)

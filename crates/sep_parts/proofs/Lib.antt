@@ -1,3 +1,4 @@
+mod Prelude
 pub mod Cauchy
 pub mod Directed
 pub mod Strays
@@ -16,8 +17,6 @@ pub mod Positions
 pub mod Weighted
 pub mod Sizes
 pub mod Rulers
-pub mod Instants
-pub mod PartBounds
 pub mod Entries
 pub mod NarrowLemmas
 pub mod Cuts

@@ -1,17 +1,5 @@
 -- From one cutting into segments to another.
-use Rattle.std.proofs.lemmas.Grind.{common_steps}
-use Rattle.std.proofs.Common.{◌≡◌, ℕ, suc, zero, ◌+◌, ◌-◌, ◌*◌, ◌≤◌, ℤ, pos, negsuc, ◌+ℤ◌, ◌-ℤ◌, ◌*ℤ◌, ◌≤ℤ◌, ◌<ℤ◌, unsigned_abs, arith, refl, sym, ap, ◌∙◌, subst, Bool, true, false, cond, nat_le, List, [], ◌∷◌, All, map, Option, Some, slice_get}
-use Rattle.std.specs.List.{sum}
-use Rattle.std.proofs.lemmas.List.Elements.{All-head, All-tail}
-use Rattle.std.proofs.lemmas.Int.{ints}
-use Rattle.fleet_math.specs.Sums.{power}
-use Rattle.fleet_math.specs.Moments.{Moment, moment, moment_from}
-use Rattle.fleet_math.proofs.RingLemmas.{ring, linear, le_from_mul_ℤ, le_mul_ℤ, mul_comm_ℤ, mul_positive}
-use Rattle.fleet_math.proofs.SumLemmas.{power-add, power-mul, power_positive}
-use Rattle.traj_codec.specs.declared.traj.Traj.{Traj}
-use Rattle.traj_codec.specs.Positions.{decoded, durations}
-use Rattle.traj_codec.specs.Joined.{own, IsLasting, SameCurve, joined, JoinLaw}
-use Rattle.sep_parts.specs.Apart.{ApartLaw, FlyApart, FlyApartExactly, MayBeAt, Point, SentLaw, ShareNoPoint, aside, gap, square}
+use Rattle.sep_parts.proofs.Prelude.{common_steps, ◌≡◌, ℕ, suc, zero, ◌+◌, ◌-◌, ◌*◌, ◌≤◌, ℤ, pos, negsuc, ◌+ℤ◌, ◌-ℤ◌, ◌*ℤ◌, ◌≤ℤ◌, ◌<ℤ◌, unsigned_abs, arith, refl, sym, ap, ◌∙◌, subst, Bool, true, false, cond, nat_le, List, [], ◌∷◌, All, map, Option, Some, slice_get, sum, All-head, All-tail, ints, power, Moment, moment, moment_from, ring, linear, le_from_mul_ℤ, le_mul_ℤ, mul_comm_ℤ, mul_positive, power-add, power-mul, power_positive, Traj, decoded, durations, own, IsLasting, SameCurve, joined, JoinLaw, ApartLaw, FlyApart, FlyApartExactly, MayBeAt, Point, SentLaw, ShareNoPoint, aside, gap, square}
 use Rattle.sep_parts.proofs.Cauchy.{square_positive}
 
 -- ---- numbers

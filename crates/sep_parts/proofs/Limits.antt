@@ -1,17 +1,5 @@
 -- How large thresholds are.
-use Rattle.std.proofs.lemmas.Grind.{common_steps}
-use Rattle.std.proofs.Common.{◌≡◌, ℕ, zero, suc, ◌*◌, ◌^◌, ◌≤◌, ◌<◌, ℤ, pos, negsuc, neg_ℤ, ◌+ℤ◌, ◌-ℤ◌, ◌*ℤ◌, ◌≤ℤ◌, ◌<ℤ◌, Bool, true, false, cond, int_lt, unsigned_abs, arith, ◌∙◌, FitsSigned, to_z, of_z, refl, ap, List, map, length, get_or, [], All}
-use Rattle.std.proofs.lemmas.Int.{ints, to_z-of_z, unsigned_abs-mul}
-use Rattle.std.proofs.lemmas.Nat.{mul-le}
-use Rattle.std.proofs.lemmas.List.Elements.{All-get_or, All-from_get_or}
-use mir.Syntax.{w128}
-use Rattle.std.proofs.lemmas.List.{get_or-map, length-map}
-use Rattle.fleet_math.specs.Bernstein.{at}
-use Rattle.fleet_math.proofs.RingLemmas.{linear, le_mul_ℤ}
-use Rattle.fleet_math.proofs.BernsteinLemmas.{by_lt}
-use Rattle.fleet_math.specs.Numbers.{IsBelow}
-use Rattle.sep_parts.specs.declared.clearance.Clearance.{Clearance}
-use Rattle.sep_parts.specs.Directions.{AreSmall, IsAxis, IsClearance, IsSquare, for_ellipsoids, for_reach, for_strays, length_squared, limit_along, root_from, root_above, stray_limit, threshold, weights}
+use Rattle.sep_parts.proofs.Prelude.{common_steps, ◌≡◌, ℕ, zero, suc, ◌*◌, ◌^◌, ◌≤◌, ◌<◌, ℤ, pos, negsuc, neg_ℤ, ◌+ℤ◌, ◌-ℤ◌, ◌*ℤ◌, ◌≤ℤ◌, ◌<ℤ◌, Bool, true, false, cond, int_lt, unsigned_abs, arith, ◌∙◌, FitsSigned, to_z, of_z, refl, ap, List, map, length, get_or, [], All, ints, to_z-of_z, unsigned_abs-mul, mul-le, All-get_or, All-from_get_or, w128, get_or-map, length-map, at, linear, le_mul_ℤ, by_lt, IsBelow, Clearance, AreSmall, IsAxis, IsClearance, IsSquare, for_ellipsoids, for_reach, for_strays, length_squared, limit_along, root_from, root_above, stray_limit, threshold, weights}
 use Rattle.sep_parts.proofs.Cauchy.{square_positive}
 
 root_from-least : (v : ℤ) (n k s : ℕ) → k ≤ s → v <ℤ pos (s * s) → root_from v n k ≤ s

@@ -1,21 +1,7 @@
 -- The first control value below a number.
-use Rattle.std.proofs.lemmas.Grind.{common_steps}
-use Rattle.std.proofs.Common.{◌≡◌, ℕ, zero, suc, ◌+◌, ◌^◌, ◌≤◌, ◌<◌, ℤ, pos, ◌≤ℤ◌, Bool, true, false, cond, not, int_le, int_lt, nat_lt, arith, refl, ap, subst, List, [], ◌∷◌, length, get_or, Option, Some, None, IsTrue}
-use Rattle.std.specs.Prelude.{◌↔◌}
-use Rattle.std.specs.List.{list_all, position, position_or_len}
-use Rattle.std.proofs.lemmas.Int.{ints}
+use Rattle.sep_parts.proofs.Prelude.{common_steps, ◌≡◌, ℕ, zero, suc, ◌+◌, ◌^◌, ◌≤◌, ◌<◌, ℤ, pos, ◌≤ℤ◌, Bool, true, false, cond, not, int_le, int_lt, nat_lt, arith, refl, ap, subst, List, [], ◌∷◌, length, get_or, Option, Some, None, IsTrue, ◌↔◌, list_all, position, position_or_len, ints, All-from_get_or, nat_tests, at, IsBelow, Bez, along_value, eight, at-eight, same_eight, first_low}
 use Rattle.std.proofs.lemmas.List.Sums.{AllPass-from_list_all, list_all-from_AllPass, position_or_len_is}
-use Rattle.std.proofs.lemmas.List.Elements.{All-from_get_or}
 use Rattle.std.proofs.lemmas.List.Quantifiers.{position-Some}
-use Rattle.std.proofs.lemmas.Bool.Decides.{nat_tests}
-use Rattle.fleet_math.specs.Bernstein.{at}
-use Rattle.fleet_math.specs.Numbers.{IsBelow}
-use Rattle.bezier_core.specs.declared.Bez.{Bez}
-use Rattle.bezier_core.specs.Along.{along_value}
-use Rattle.bezier_core.specs.Raised.{eight}
-use Rattle.bezier_core.proofs.CurveLemmas.{at-eight}
-use Rattle.bezier_core.proofs.EightLemmas.{same_eight}
-use Rattle.sep_parts.specs.Separates.{first_low}
 
 -- where no place is found, no element passes
 pub none_passes : {X : Type 0} (p : X → Bool) (xs : List X) (k : ℕ) (d : X) → k < length xs → length xs ≤ position_or_len p xs → p (get_or xs k d) ≡ false

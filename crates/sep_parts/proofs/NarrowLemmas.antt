@@ -1,12 +1,6 @@
 -- What fits into 64 bits of a part that is halved at most twice.
-use Rattle.std.proofs.lemmas.Grind.{common_steps}
+use Rattle.sep_parts.proofs.Prelude.{common_steps, true, ◌≡◌, ℕ, ◌*◌, ◌^◌, zero, suc, ◌≤◌, ℤ, pos, ◌≤ℤ◌, ◌<ℤ◌, ◌+ℤ◌, ◌*ℤ◌, unsigned_abs, FitsSigned, to_z, of_z, arith, ints, unsigned_abs-mul, to_z-of_z, mul-le, w32, w64, w128, IsBelow, least_value}
 use Rattle.std.specs.Int.Signed.{le_z}
-use Rattle.std.proofs.Common.{true, ◌≡◌, ℕ, ◌*◌, ◌^◌, zero, suc, ◌≤◌, ℤ, pos, ◌≤ℤ◌, ◌<ℤ◌, ◌+ℤ◌, ◌*ℤ◌, unsigned_abs, FitsSigned, to_z, of_z, arith}
-use Rattle.std.proofs.lemmas.Int.{ints, unsigned_abs-mul, to_z-of_z}
-use Rattle.std.proofs.lemmas.Nat.{mul-le}
-use mir.Syntax.{w32, w64, w128}
-use Rattle.fleet_math.specs.Numbers.{IsBelow}
-use Rattle.sep_parts.specs.Separates.{least_value}
 
 -- a weight up to 4,000 times a value below 2^46 is below 2^58
 pub narrow_product : (w x : ℤ) → IsBelow 4001 w → IsBelow (2 ^ 46) x → IsBelow (2 ^ 58) (w *ℤ x)

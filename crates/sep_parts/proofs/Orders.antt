@@ -1,8 +1,5 @@
 -- The slots of a show in order: those from a slot on, and the slot after it.
-use Rattle.std.proofs.lemmas.Grind.{common_steps}
-use Rattle.std.proofs.Common.{◌≡◌, ◌⊎◌, inl, inr, ℕ, zero, suc, ◌+◌, ◌≤◌, ◌<◌, nat_lt, true, false, arith, refl, List, [], ◌∷◌, ◌++◌, append_assoc, All}
-use Rattle.std.proofs.lemmas.List.Elements.{All-nil, All-cons, All-append}
-use Rattle.std.proofs.lemmas.Bool.Decides.{nat_tests}
+use Rattle.sep_parts.proofs.Prelude.{common_steps, ◌≡◌, ◌⊎◌, inl, inr, ℕ, zero, suc, ◌+◌, ◌≤◌, ◌<◌, nat_lt, true, false, arith, refl, List, [], ◌∷◌, ◌++◌, append_assoc, All, All-nil, All-cons, All-append, nat_tests}
 use Rattle.sep_parts.specs.declared.slot.Slot.{Slot}
 use Rattle.sep_parts.specs.Slots.{IsSlot, following, following_pair, slots, slot_at, cues_from, pairs_from, drones_from}
 

@@ -1,47 +1,10 @@
 -- The parts of the curves at a place: how large they are, their halves, and their values along a direction.
-use Rattle.std.proofs.lemmas.Grind.{common_steps}
-use Rattle.std.proofs.Common.{◌≡◌, ℕ, suc, ◌+◌, ◌-◌, ◌*◌, ◌^◌, ◌≤◌, ◌<◌, ℤ, pos, ◌+ℤ◌, ◌*ℤ◌, arith, sym, ◌∙◌, ap, List, [], length, All, lit<}
-use Rattle.std.proofs.lemmas.Int.{ints}
-use Rattle.std.proofs.Math.Nat.{pow-le-pow_right, pow-suc}
-use Rattle.std.proofs.lemmas.List.Elements.{All-from_get_or, All-get_or}
-use Rattle.fleet_math.specs.Sums.{power}
-use Rattle.fleet_math.proofs.SumLemmas.{power-add}
-use Rattle.fleet_math.specs.Bernstein.{at, bernstein}
-use Rattle.fleet_math.proofs.RingLemmas.{mul_assoc_ℤ}
-use Rattle.bezier_core.specs.declared.Bez.{Bez}
+use Rattle.sep_parts.proofs.Prelude.{common_steps, ◌≡◌, ℕ, suc, ◌+◌, ◌-◌, ◌*◌, ◌^◌, ◌≤◌, ◌<◌, ℤ, pos, ◌+ℤ◌, ◌*ℤ◌, arith, sym, ◌∙◌, ap, List, [], length, All, lit<, ints, pow-le-pow_right, pow-suc, All-from_get_or, All-get_or, power, power-add, at, bernstein, mul_assoc_ℤ, Bez, IsBelow, along_value, controls, eight, at-eight, same_eight, list_of_eight, controls_below, part_value, polar, IsPlace, polar-same, part-part, part-whole, AreRaised, Level, weights, first_low, part_along, IsLevel, left_half, right_half, root, part-within}
 use Rattle.bezier_core.specs.Steps.{IsWithin}
-use Rattle.fleet_math.specs.Numbers.{IsBelow}
-use Rattle.bezier_core.specs.Along.{along_value, controls}
-use Rattle.bezier_core.specs.Raised.{eight}
-use Rattle.bezier_core.proofs.CurveLemmas.{at-eight}
-use Rattle.bezier_core.proofs.EightLemmas.{same_eight, list_of_eight, controls_below}
-use Rattle.halving.specs.Part.{part_value, polar}
-use Rattle.halving.specs.Places.{IsPlace}
 use Rattle.halving.proofs.HalfLemmas.{bernstein-within}
-use Rattle.halving.proofs.PolarLemmas.{polar-same, part-part, part-whole}
-use Rattle.fleet_curves.specs.Raised.{AreRaised}
-use Rattle.sep_parts.specs.declared.stack.Level.{Level}
-use Rattle.sep_parts.specs.Directions.{weights}
-use Rattle.sep_parts.specs.Separates.{first_low, part_along}
-use Rattle.sep_parts.specs.Levels.{IsLevel, left_half, right_half, root}
-use Rattle.sep_parts.proofs.Leaf.{power_seven}
 use Rattle.sep_parts.proofs.Lows.{first_low-same}
 
-power_split : (s : ℤ) (k : ℕ) → k ≤ 7 → power s (7 - k) *ℤ power s k ≡ power s 7
-power_split s k small = let e : 7 - k + k ≡ 7 = omega arith in sym (power-add s (7 - k) k) ∙ ap (λ (n : ℕ). power s n) e
-
 -- ---- how large the values of a part are
-pub part-within : (e m k : ℕ) (f : ℕ → ℤ) (b : ℤ) → m < 2 ^ e → k ≤ 7 → ((i : ℕ) → i ≤ 7 → IsWithin b (f i)) → IsWithin (pos (2 ^ (7 * e)) *ℤ b) (part_value e m f k)
-unfolding polar
-part-within e m k f b inside small within =
-    let s : ℤ = pos (2 ^ e) in
-    let inner : (i : ℕ) → i ≤ 7 - k → IsWithin (power s k *ℤ b) (bernstein k (λ l. f (i + l)) (pos (m + 1)) s) =
-    λ i low. bernstein-within k (λ l. f (i + l)) b (pos (m + 1)) s (omega (arith, ints)) (omega (arith, ints)) (λ l few. within (i + l) (omega arith)) in
-    let outer : IsWithin (power s (7 - k) *ℤ (power s k *ℤ b)) (part_value e m f k) =
-    bernstein-within (7 - k) (λ i. bernstein k (λ l. f (i + l)) (pos (m + 1)) s) (power s k *ℤ b) (pos m) s (omega (arith, ints)) (omega (arith, ints)) inner in
-    let e1 : power s (7 - k) *ℤ (power s k *ℤ b) ≡ pos (2 ^ (7 * e)) *ℤ b =
-    sym (mul_assoc_ℤ (power s (7 - k)) (power s k) b) ∙ ap (λ (z : ℤ). z *ℤ b) (power_split s k small ∙ power_seven e) in
-    rw e1 at outer
 
 below_wide : (p : ℕ) (x : ℤ) → p ≤ 2 ^ 56 → IsWithin (pos p *ℤ pos (2 ^ 30 - 1)) x → IsBelow (2 ^ 86) x
 below_wide p x few within = (omega (arith, ints), omega (arith, ints))

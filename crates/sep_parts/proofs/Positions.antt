@@ -1,22 +1,6 @@
 -- From the raised differences to the decoded positions.
-use Rattle.std.proofs.lemmas.Grind.{common_steps}
-use Rattle.std.proofs.Common.{◌≡◌, refl, ℕ, zero, suc, ◌≤◌, ◌<◌, ℤ, pos, negsuc, neg_ℤ, ◌+ℤ◌, ◌-ℤ◌, ◌*ℤ◌, ◌≤ℤ◌, ◌<ℤ◌, arith, sym, ◌∙◌, ap, List, length}
-use Rattle.std.proofs.lemmas.Int.{ints}
-use Rattle.fleet_math.specs.Sums.{power}
-use Rattle.fleet_math.specs.Bernstein.{at, bernstein}
-use Rattle.fleet_math.specs.Moments.{Moment}
+use Rattle.sep_parts.proofs.Prelude.{common_steps, ◌≡◌, refl, ℕ, zero, suc, ◌≤◌, ◌<◌, ℤ, pos, negsuc, neg_ℤ, ◌+ℤ◌, ◌-ℤ◌, ◌*ℤ◌, ◌≤ℤ◌, ◌<ℤ◌, arith, sym, ◌∙◌, ap, List, length, ints, power, at, bernstein, Moment, ring, linear, le_from_mul_ℤ, one_mul_ℤ, neg_mul_ℤ, bernstein-same, bernstein-mix, cong_add, Bez, controls, eight, raised, at-eight, raise, Traj, decoded, points, Raised, curves_at, difference, less, raised_in, Clearance, AreSmall, threshold, weights}
 use Rattle.fleet_math.specs.Decoded as plain
-use Rattle.fleet_math.proofs.RingLemmas.{ring, linear, le_from_mul_ℤ, one_mul_ℤ, neg_mul_ℤ}
-use Rattle.fleet_math.proofs.BernsteinLemmas.{bernstein-same, bernstein-mix, cong_add}
-use Rattle.bezier_core.specs.declared.Bez.{Bez}
-use Rattle.bezier_core.specs.Along.{controls}
-use Rattle.bezier_core.specs.Raised.{eight, raised}
-use Rattle.bezier_core.proofs.CurveLemmas.{at-eight, raise}
-use Rattle.traj_codec.specs.declared.traj.Traj.{Traj}
-use Rattle.traj_codec.specs.Positions.{decoded, points}
-use Rattle.fleet_curves.specs.Raised.{Raised, curves_at, difference, less, raised_in}
-use Rattle.sep_parts.specs.declared.clearance.Clearance.{Clearance}
-use Rattle.sep_parts.specs.Directions.{AreSmall, threshold, weights}
 use Rattle.sep_parts.proofs.Lifts.{near_gap}
 use Rattle.sep_parts.proofs.Strays.{dot}
 use Rattle.sep_parts.proofs.Directed.{IsSeenRaised, cue_of}

@@ -1,12 +1,5 @@
 -- The least number whose square is above another.
-use Rattle.std.proofs.lemmas.Grind.{common_steps}
-use Rattle.std.proofs.Common.{◌≡◌, ℕ, zero, suc, ◌+◌, ◌*◌, ◌≤◌, ◌<◌, ℤ, pos, negsuc, ◌+ℤ◌, ◌-ℤ◌, ◌*ℤ◌, ◌≤ℤ◌, ◌<ℤ◌, Bool, true, false, cond, int_lt, unsigned_abs, arith, refl, sym, ap, ◌∙◌, List}
-use Rattle.std.proofs.lemmas.Int.{ints}
-use Rattle.fleet_math.proofs.BernsteinLemmas.{by_lt}
-use Rattle.fleet_math.specs.Bernstein.{at}
-use Rattle.fleet_math.proofs.RingLemmas.{zero_mul_ℤ}
-use Rattle.sep_parts.specs.declared.clearance.Clearance.{Clearance}
-use Rattle.sep_parts.specs.Directions.{IsLeastReaching, IsLeastRoot, IsStill, ThresholdLaw, for_ellipsoids, length_squared, limit_along, root_from, root_above, root_reaching, stray_limit, threshold, weights}
+use Rattle.sep_parts.proofs.Prelude.{common_steps, ◌≡◌, ℕ, zero, suc, ◌+◌, ◌*◌, ◌≤◌, ◌<◌, ℤ, pos, negsuc, ◌+ℤ◌, ◌-ℤ◌, ◌*ℤ◌, ◌≤ℤ◌, ◌<ℤ◌, Bool, true, false, cond, int_lt, unsigned_abs, arith, refl, sym, ap, ◌∙◌, List, ints, by_lt, at, zero_mul_ℤ, Clearance, IsLeastReaching, IsLeastRoot, IsStill, ThresholdLaw, for_ellipsoids, length_squared, limit_along, root_from, root_above, root_reaching, stray_limit, threshold, weights}
 use Rattle.sep_parts.proofs.Limits.{root_above-least}
 
 square_from : (m : ℕ) → m ≤ m * m

@@ -1,15 +1,5 @@
 -- What a ruler tells of a part.
-use Rattle.std.proofs.Common.{◌≡◌, ℕ, ◌^◌, ◌≤◌, ◌<◌, ℤ, pos, ◌≤ℤ◌, ◌<ℤ◌, ◌↔◌, IsTrue, Bool, true, false, refl, sym, ◌∙◌, ap, List, [], length, get_or, Option, Some, None, is_none, to_z, of_z}
-use Rattle.std.proofs.lemmas.List.Elements.{All-get_or}
-use mir.Syntax.{w128}
-use Rattle.fleet_math.specs.Bernstein.{at}
-use Rattle.bezier_core.specs.declared.Bez.{Bez}
-use Rattle.bezier_core.specs.Along.{along_value}
-use Rattle.sep_parts.specs.declared.stack.Level.{Level}
-use Rattle.sep_parts.specs.declared.clearance.Clearance.{Clearance}
-use Rattle.sep_parts.specs.Directions.{threshold, weights, AreSmall}
-use Rattle.sep_parts.specs.Separates.{first_low, least_value, low_value}
-use Rattle.sep_parts.specs.Levels.{IsLevel}
+use Rattle.sep_parts.proofs.Prelude.{◌≡◌, ℕ, ◌^◌, ◌≤◌, ◌<◌, ℤ, pos, ◌≤ℤ◌, ◌<ℤ◌, ◌↔◌, IsTrue, Bool, true, false, refl, sym, ◌∙◌, ap, List, [], length, get_or, Option, Some, None, is_none, to_z, of_z, All-get_or, w128, at, Bez, along_value, Level, Clearance, threshold, weights, AreSmall, first_low, least_value, low_value, IsLevel}
 use Rattle.sep_parts.specs.Rulers.{IsRuler}
 use Rattle.sep_parts.proofs.Parts.{low-along}
 use Rattle.sep_parts.proofs.Lows.{first_low-none, first_low-values}

@@ -1,19 +1,6 @@
 -- How large the numbers of a search get.
-use Rattle.std.proofs.Common.{ℕ, ◌*◌, ◌^◌, ◌≤◌, ℤ, pos, ◌*ℤ◌, ◌≤ℤ◌, ◌<ℤ◌, unsigned_abs, arith, List, All, lit<}
-use Rattle.std.proofs.lemmas.Int.{ints, unsigned_abs-mul}
-use Rattle.std.proofs.lemmas.Nat.{mul-le}
-use Rattle.std.proofs.Math.Nat.{pow-le-pow_right}
-use Rattle.fleet_math.specs.Bernstein.{at}
-use Rattle.fleet_math.specs.Numbers.{IsBelow}
-use Rattle.bezier_core.specs.declared.Bez.{Bez}
-use Rattle.bezier_core.specs.Along.{controls}
-use Rattle.bezier_core.proofs.EightLemmas.{controls_below}
+use Rattle.sep_parts.proofs.Prelude.{ℕ, ◌*◌, ◌^◌, ◌≤◌, ℤ, pos, ◌*ℤ◌, ◌≤ℤ◌, ◌<ℤ◌, unsigned_abs, arith, List, All, lit<, ints, unsigned_abs-mul, mul-le, pow-le-pow_right, at, IsBelow, Bez, controls, controls_below, part_value, IsPlace, Clearance, AreSmall, IsClearance, threshold, least_value}
 use Rattle.halving.specs.declared.Place.{Place}
-use Rattle.halving.specs.Part.{part_value}
-use Rattle.halving.specs.Places.{IsPlace}
-use Rattle.sep_parts.specs.declared.clearance.Clearance.{Clearance}
-use Rattle.sep_parts.specs.Directions.{AreSmall, IsClearance, threshold}
-use Rattle.sep_parts.specs.Separates.{least_value}
 use Rattle.sep_parts.specs.Sizes.{HasSmallNumbers}
 use Rattle.sep_parts.proofs.Limits.{threshold_low, threshold_small, weight_small}
 use Rattle.sep_parts.proofs.Parts.{part-small}

@@ -1,11 +1,5 @@
 -- The stack of the places of a tree.
-use Rattle.std.proofs.lemmas.Grind.{common_steps}
-use Rattle.std.proofs.Common.{◌≡◌, ℕ, ◌+◌, ◌≤◌, arith, sym, subst, ◌∙◌, ap, List, [], ◌∷◌, length, drop, All}
-use Rattle.std.proofs.lemmas.List.{drop-drop}
-use Rattle.std.proofs.lemmas.List.Elements.{All-get_or}
-use Rattle.bezier_core.specs.declared.Bez.{Bez}
-use Rattle.sep_parts.specs.declared.stack.Level.{Level}
-use Rattle.sep_parts.specs.Levels.{IsLevel, IsStack, left_half, right_half, root}
+use Rattle.sep_parts.proofs.Prelude.{common_steps, ◌≡◌, ℕ, ◌+◌, ◌≤◌, arith, sym, subst, ◌∙◌, ap, List, [], ◌∷◌, length, drop, All, drop-drop, All-get_or, Bez, Level, IsLevel, IsStack, left_half, right_half, root}
 use Rattle.sep_parts.proofs.Parts.{root_level}
 
 -- a stack with the two halves of a level on it

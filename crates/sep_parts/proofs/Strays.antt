@@ -1,8 +1,5 @@
 -- What strays and late starts take from a distance along a direction: the algebra, over plain whole numbers.
-use Rattle.std.proofs.Common.{◌≡◌, ℕ, suc, ◌≤◌, ℤ, pos, negsuc, neg_ℤ, ◌+ℤ◌, ◌-ℤ◌, ◌*ℤ◌, ◌≤ℤ◌, ◌<ℤ◌, unsigned_abs, arith, refl}
-use Rattle.std.proofs.lemmas.Int.{ints, by_lt_z}
-use Rattle.fleet_math.specs.Numbers.{IsIn}
-use Rattle.fleet_math.proofs.RingLemmas.{ring, linear, le_mul_ℤ, lt_mul_ℤ, le_from_mul_ℤ, mul_positive, mul_not_negative, mul_comm_ℤ, mul_assoc_ℤ, mul_neg_ℤ, neg_mul_ℤ}
+use Rattle.sep_parts.proofs.Prelude.{◌≡◌, ℕ, suc, ◌≤◌, ℤ, pos, negsuc, neg_ℤ, ◌+ℤ◌, ◌-ℤ◌, ◌*ℤ◌, ◌≤ℤ◌, ◌<ℤ◌, unsigned_abs, arith, refl, ints, by_lt_z, IsIn, ring, linear, le_mul_ℤ, lt_mul_ℤ, le_from_mul_ℤ, mul_positive, mul_not_negative, mul_comm_ℤ, mul_assoc_ℤ, mul_neg_ℤ, neg_mul_ℤ}
 use Rattle.sep_parts.proofs.Cauchy.{cauchy, square_positive}
 
 -- the sum of three products: of weights with the values on the three axes

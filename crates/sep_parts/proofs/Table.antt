@@ -1,10 +1,5 @@
 -- The entries of the tables are small.
-use Rattle.std.proofs.lemmas.Grind.{common_steps}
-use Rattle.std.proofs.Common.{◌≡◌, ℕ, zero, suc, ℤ, pos, negsuc, neg_ℤ, ◌≤ℤ◌, Bool, true, false, ◌&&◌, not, int_lt, cond, arith, refl, List, [], ◌∷◌, All}
-use Rattle.std.proofs.lemmas.Int.{ints}
-use Rattle.std.proofs.lemmas.List.Elements.{All-cons, All-head, All-tail}
-use Rattle.fleet_math.specs.Bernstein.{at}
-use Rattle.sep_parts.specs.Directions.{AreSmall, direction_of}
+use Rattle.sep_parts.proofs.Prelude.{common_steps, ◌≡◌, ℕ, zero, suc, ℤ, pos, negsuc, neg_ℤ, ◌≤ℤ◌, Bool, true, false, ◌&&◌, not, int_lt, cond, arith, refl, List, [], ◌∷◌, All, ints, All-cons, All-head, All-tail, at, AreSmall, direction_of}
 use Rattle.sep_parts.specs.Versions.{table_of}
 
 abbrev is_small : ℤ → Bool

@@ -1,11 +1,7 @@
 -- Nodes spell a tree exactly where they are its preorder.
-use Rattle.std.proofs.lemmas.Grind.{common_steps}
-use Rattle.std.proofs.Common.{◌≡◌, ℕ, refl, sym, ◌∙◌, ap, List, [], ◌∷◌, ◌++◌, append_assoc, append-nil, Option, Some, None, arith}
-use Rattle.std.specs.List.{flat_map}
+use Rattle.sep_parts.proofs.Prelude.{common_steps, ◌≡◌, ℕ, refl, sym, ◌∙◌, ap, List, [], ◌∷◌, ◌++◌, append_assoc, append-nil, Option, Some, None, arith, flat_map, Node, Tree, only_tree, preorder, spelled_tree, spelled_trees, split_before}
 use Rattle.std.specs.Option.{option_flatten, option_map}
-use Rattle.sep_parts.specs.declared.node.Node.{Node}
 use Rattle.sep_parts.specs.declared.node.Node.TheVariants.{Split, Leaf}
-use Rattle.sep_parts.specs.Trees.{Tree, only_tree, preorder, spelled_tree, spelled_trees, split_before}
 use Rattle.sep_parts.specs.Trees.Tree.{leaf, split}
 
 both_before : (left right : Tree) (o : Option (List Tree)) →

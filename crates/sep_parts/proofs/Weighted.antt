@@ -1,15 +1,5 @@
 -- How large weighted sums are.
-use Rattle.std.proofs.Common.{◌≡◌, ℕ, ◌*◌, ◌^◌, ◌≤◌, ℤ, ◌+ℤ◌, ◌*ℤ◌, unsigned_abs, arith, sym, subst, List, pos, All, lit<}
-use Rattle.std.proofs.lemmas.Int.{ints, unsigned_abs-mul}
-use Rattle.std.proofs.lemmas.Nat.{mul-le}
-use Rattle.std.proofs.lemmas.List.Elements.{All-from_get_or}
-use Rattle.fleet_math.specs.Bernstein.{at}
-use Rattle.fleet_math.specs.Numbers.{IsBelow}
-use Rattle.bezier_core.specs.declared.Bez.{Bez}
-use Rattle.bezier_core.specs.Along.{along_value, controls}
-use Rattle.bezier_core.specs.Raised.{eight}
-use Rattle.bezier_core.proofs.CurveLemmas.{at-eight}
-use Rattle.bezier_core.proofs.EightLemmas.{below_at, controls_below}
+use Rattle.sep_parts.proofs.Prelude.{◌≡◌, ℕ, ◌*◌, ◌^◌, ◌≤◌, ℤ, ◌+ℤ◌, ◌*ℤ◌, unsigned_abs, arith, sym, subst, List, pos, All, lit<, ints, unsigned_abs-mul, mul-le, All-from_get_or, at, IsBelow, Bez, along_value, controls, eight, at-eight, below_at, controls_below}
 
 -- a weight up to 4,000 times a value below 2^86 is below 2^100
 pub product_small : (w x : ℤ) → IsBelow 4001 w → IsBelow (2 ^ 86) x → IsBelow (2 ^ 100) (w *ℤ x)

@@ -14,7 +14,7 @@ use Rattle.bezier_core.specs.Steps.{IsWithin}
 use Rattle.bezier_core.proofs.CurveLemmas.{at-eight, raised-level}
 use Rattle.halving.specs.Part.{polar, part_value}
 use Rattle.halving.proofs.PolarLemmas.{blossom}
-use Rattle.sep_parts.proofs.Parts.{part-within}
+use Rattle.halving.proofs.PartBounds.{part-within}
 use Rattle.traj_codec.specs.declared.traj.Element.{Element}
 use Rattle.traj_codec.specs.declared.traj.Element.TheVariants.{Constant}
 use Rattle.traj_codec.specs.Spelling.{stored}

@@ -28,7 +28,7 @@ use Rattle.traj_codec.specs.Positions.{decoded, durations, element_on, piece_on,
 use Rattle.traj_codec.specs.Joined.{own}
 use Rattle.fleet_curves.specs.Steps.{IsFormed}
 use Rattle.sep_parts.specs.Apart.{MovesWithin, way}
-use Rattle.sep_parts.proofs.Instants.{Lies, moment-lies, time_before-suc}
+use Rattle.fleet_math.proofs.Instants.{Lies, moment-lies, time_before-suc}
 use Rattle.speed_bound.specs.Reach.{IsMoving, ReachLaw, farthest, reach, reach_of, traj_at}
 use Rattle.speed_bound.specs.Speed.{KeepsSpeed, greatest_below, speed}
 use Rattle.speed_bound.proofs.Rests.{keeps_speed, pieces_formed}

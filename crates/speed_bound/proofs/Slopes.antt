@@ -14,8 +14,7 @@ use Rattle.bezier_core.proofs.BlendLemmas.{bound_positive, within_mul}
 use Rattle.halving.specs.Part.{polar, part_value}
 use Rattle.halving.proofs.HalfLemmas.{bernstein-within}
 use Rattle.halving.proofs.PolarLemmas.{step, polar-same, polar-suc_first, polar-suc_second, polar-mix, polar-first, part-whole, left_half, right_half}
-use Rattle.sep_parts.proofs.PartBounds.{part-half}
-use Rattle.sep_parts.proofs.Leaf.{bernstein-scaled}
+use Rattle.halving.proofs.PartBounds.{part-half, bernstein-scaled}
 
 -- two differences
 pub minus_same : {x y z w : ℤ} → x ≡ y → z ≡ w → x -ℤ z ≡ y -ℤ w

@@ -16,7 +16,7 @@ use Rattle.bezier_core.specs.Steps.{IsWithin}
 use Rattle.bezier_core.proofs.BlendLemmas.{within_mul}
 use Rattle.bezier_core.proofs.CurveLemmas.{raise}
 use Rattle.speed_bound.proofs.Slopes.{AreFlat, minus_same, steep_between, within_add, within_same}
-use Rattle.sep_parts.proofs.Instants.{Lies, moment-lies, time_before-suc}
+use Rattle.fleet_math.proofs.Instants.{Lies, moment-lies, time_before-suc}
 
 -- ---- a positive factor cancels
 -- from an order

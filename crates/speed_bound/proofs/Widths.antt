@@ -12,9 +12,8 @@ use Rattle.bezier_core.specs.Steps.{IsWithin}
 use Rattle.halving.specs.Part.{part_value}
 use Rattle.fleet_math.proofs.BernsteinLemmas.{by_lt}
 use Rattle.halving.proofs.PolarLemmas.{polar-same, part-whole}
-use Rattle.sep_parts.proofs.Parts.{part-within}
+use Rattle.halving.proofs.PartBounds.{part-within, part-half}
 use Rattle.speed_bound.specs.Speed.{greatest_below, widest_step, widest_part, speed_of, segment_speed}
-use Rattle.sep_parts.proofs.PartBounds.{part-half}
 
 -- ---- the greatest of some numbers
 -- it depends on no more than the numbers

@@ -15,7 +15,7 @@ use Rattle.fleet_math.proofs.SumLemmas.{power-add, power-mul, power_positive}
 use Rattle.fleet_math.proofs.DivisionLemmas.{lt_from_mul_ℤ}
 use Rattle.fleet_math.proofs.BernsteinLemmas.{by_lt}
 use Rattle.fleet_math.proofs.EdgeLemmas.{points-count, points-joined, decoded-at_start, decoded-at_end}
-use Rattle.sep_parts.proofs.Leaf.{bernstein-scaled}
+use Rattle.halving.proofs.PartBounds.{bernstein-scaled}
 use Rattle.fleet_math.proofs.MomentLemmas.{IsInside, moment-inside}
 use Rattle.bezier_core.proofs.BlendLemmas.{power_pos}
 use Rattle.std.proofs.Math.Nat.{pow-zero, pow-suc}
@@ -28,7 +28,7 @@ use Rattle.fleet_curves.specs.Steps.{IsFormed}
 use Rattle.traj_codec.specs.Joined.{own}
 use Rattle.fleet_curves.specs.Raised.{IsOneShow, cues_in}
 use Rattle.sep_parts.specs.Apart.{AreApart, FlyApartExactly}
-use Rattle.sep_parts.proofs.Instants.{Lies, moment-lies, time_before-suc}
+use Rattle.fleet_math.proofs.Instants.{Lies, moment-lies, time_before-suc}
 use Rattle.fleet_curves.proofs.Standing.{at_place, segments_of}
 use Rattle.std.specs.Prelude.{MatchOption, Option, None}
 use Rattle.touch_witness.specs.declared.site.Touch.{Touch}

@@ -1,11 +1,5 @@
-use Rattle.std.proofs.Common.{◌≡◌, List, ℕ, true, Result, Ok, Err, subst}
-use Rattle.std.specs.Prelude.{IfOk}
-use Rattle.text_lines.specs.Tokens.{words_in}
-use Rattle.choreo_lines.specs.Fields.{Gives, entry_of}
-use Rattle.choreo_lines.specs.Says.{Says, may_say}
+use Rattle.choreo_lines.proofs.Prelude.{◌≡◌, List, ℕ, true, Result, Ok, Err, subst, IfOk, words_in, Gives, entry_of, Says, may_say, Place, Entry}
 use Rattle.choreo_lines.proofs.Saying.{says_of, says_entry}
-use Rattle.choreo_lines.specs.declared.line.Place.{Place}
-use Rattle.choreo_lines.specs.declared.line.Entry.{Entry}
 use Rattle.choreo_lines.specs.declared.line.LineError.{LineError}
 use Rattle.choreo_lines.proofs.entry.entry_of.Goals as goal
 

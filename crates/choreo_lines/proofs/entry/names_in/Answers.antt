@@ -1,7 +1,4 @@
-use Rattle.std.proofs.lemmas.Grind.{common_steps}
-use Rattle.std.proofs.Common.{◌≤◌, sym, ap, ◌∙◌, drop, length, arith, Ok}
-use Rattle.std.proofs.lemmas.Result.{err_from_is_err_and}
-use Rattle.choreo_lines.specs.Fields.{name_in}
+use Rattle.choreo_lines.proofs.Prelude.{common_steps, ◌≤◌, sym, ap, ◌∙◌, drop, length, arith, Ok, err_from_is_err_and, name_in}
 use Rattle.choreo_lines.proofs.Collected.{names_more, names_err, names_all, with_front}
 use Rattle.choreo_lines.proofs.entry.names_in.Goals as goal
 

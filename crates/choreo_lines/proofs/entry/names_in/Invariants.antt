@@ -1,6 +1,4 @@
-use Rattle.std.proofs.Common.{◌≡◌, drop}
-use Rattle.text_lines.specs.Tokens.{words_in}
-use Rattle.choreo_lines.specs.Fields.{names_in}
+use Rattle.choreo_lines.proofs.Prelude.{◌≡◌, drop, words_in, names_in}
 use Rattle.choreo_lines.proofs.Collected.{with_front}
 use Rattle.choreo_lines.proofs.entry.names_in.Given as goal
 

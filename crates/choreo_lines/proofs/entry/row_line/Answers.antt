@@ -1,5 +1,4 @@
-use Rattle.std.proofs.Common.{sym, subst}
-use Rattle.choreo_lines.specs.Values.{AllFit}
+use Rattle.choreo_lines.proofs.Prelude.{sym, subst, AllFit}
 use Rattle.choreo_lines.proofs.Saying.{values_fit}
 use Rattle.choreo_lines.proofs.entry.row_line.Goals as goal
 

@@ -1,7 +1,4 @@
-use Rattle.std.proofs.lemmas.Grind.{common_steps}
-use Rattle.std.proofs.Common.{◌<◌, ◌≤◌, sym, ap, ◌∙◌, length, arith}
-use Rattle.std.proofs.lemmas.Result.{err_from_is_err_and}
-use Rattle.choreo_lines.specs.Fields.{value_in}
+use Rattle.choreo_lines.proofs.Prelude.{common_steps, ◌<◌, ◌≤◌, sym, ap, ◌∙◌, length, arith, err_from_is_err_and, value_in}
 use Rattle.choreo_lines.proofs.Collected.{values_more, values_err, values_all, with_front, rest}
 use Rattle.choreo_lines.proofs.entry.values_in.Goals as goal
 

@@ -1,6 +1,4 @@
-use Rattle.std.proofs.Common.{◌≡◌, length}
-use Rattle.text_lines.specs.Tokens.{words_in}
-use Rattle.choreo_lines.specs.Fields.{values_in}
+use Rattle.choreo_lines.proofs.Prelude.{◌≡◌, length, words_in, values_in}
 use Rattle.choreo_lines.proofs.Collected.{with_front, rest}
 use Rattle.choreo_lines.proofs.entry.values_in.Given as goal
 

@@ -1,4 +1,4 @@
-use Rattle.std.proofs.Common.{arith}
+use Rattle.choreo_reader.proofs.Prelude.{arith}
 use Rattle.choreo_reader.proofs.OneLine.{one_piece}
 use Rattle.choreo_reader.proofs.reader.behind_header.Goals as goal
 

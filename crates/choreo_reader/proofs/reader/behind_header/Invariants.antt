@@ -1,8 +1,4 @@
-use Rattle.std.proofs.Common.{◌≡◌, ◌+◌, ◌≤◌, length}
-use Rattle.text_lines.specs.declared.token.Comments.TheVariants.{FromHash}
-use Rattle.text_lines.specs.Lines.{lines_of}
-use Rattle.text_lines.specs.Words.{numbered}
-use Rattle.choreo_reader.specs.Text.{show_lines}
+use Rattle.choreo_reader.proofs.Prelude.{◌≡◌, ◌+◌, ◌≤◌, length, FromHash, lines_of, numbered, show_lines}
 use Rattle.choreo_reader.proofs.reader.behind_header.Given as goal
 
 abbrev pub invariant-lines : goal.invariant-lines

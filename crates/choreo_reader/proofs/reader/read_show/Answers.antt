@@ -1,12 +1,4 @@
-use Rattle.std.proofs.Common.{ℕ, List, ap, subst, ◌∙◌, Result, Ok, Err}
-use Rattle.std.specs.Prelude.{IfOk}
-use Rattle.choreo_show.specs.Plain.{PlainShow, plain}
-use Rattle.choreo_reader.specs.Grammar.{StandsFor}
-use Rattle.choreo_show.specs.Valid.{IsValid}
-use Rattle.choreo_reader.specs.Text.{Fault}
-use Rattle.choreo_reader.specs.Context.{fault}
-use Rattle.choreo_reader.specs.Reading.{reading}
-use Rattle.choreo_reader.specs.Reader.{ShowGives, FaultGives}
+use Rattle.choreo_reader.proofs.Prelude.{ℕ, List, ap, subst, ◌∙◌, Result, Ok, Err, IfOk, PlainShow, plain, StandsFor, IsValid, Fault, fault, reading, ShowGives, FaultGives}
 use Rattle.choreo_reader.proofs.CompleteShow.{complete}
 use Rattle.choreo_reader.proofs.Sound.{sound}
 use Rattle.choreo_reader.proofs.ValidShow.{valid}

@@ -1,8 +1,4 @@
-use Rattle.std.proofs.Common.{◌≡◌, ℕ, List, None, Result, Ok, Err, refl, sym, ap, ◌∙◌}
-use Rattle.choreo_show.specs.Plain.{PlainShow}
-use Rattle.choreo_reader.specs.Grammar.{StandsFor}
-use Rattle.choreo_reader.specs.Reading.{reading}
-use Rattle.choreo_reader.specs.Text.{Fault}
+use Rattle.choreo_reader.proofs.Prelude.{◌≡◌, ℕ, List, None, Result, Ok, Err, refl, sym, ap, ◌∙◌, PlainShow, StandsFor, reading, Fault}
 use Rattle.choreo_reader.proofs.CompleteShow.{complete}
 use Rattle.choreo_reader.proofs.Faulty.{fault_in, faulty}
 use Rattle.choreo_reader.proofs.Sound.{sound}

@@ -1,6 +1,4 @@
-use Rattle.std.proofs.Common.{◌≡◌, ◌+◌, ◌≤◌, length}
-use Rattle.text_lines.specs.Lines.{lines_of}
-use Rattle.choreo_reader.specs.Text.{forbidden, forbidden_from}
+use Rattle.choreo_reader.proofs.Prelude.{◌≡◌, ◌+◌, ◌≤◌, length, lines_of, forbidden, forbidden_from}
 use Rattle.choreo_reader.proofs.token.first_bad_line.Given as goal
 
 abbrev pub invariant-lines : goal.invariant-lines

@@ -1,7 +1,4 @@
-use Rattle.std.proofs.Common.{◌≡◌, drop}
-use Rattle.std.specs.Prelude.{◌&&◌}
-use Rattle.std.specs.List.{list_all}
-use Rattle.choreo_reader.specs.Steps.{stands_anywhere}
+use Rattle.choreo_reader.proofs.Prelude.{◌≡◌, drop, ◌&&◌, list_all, stands_anywhere}
 use Rattle.choreo_reader.proofs.token.is_plain.Given as goal
 
 abbrev pub invariant-loop-byte : goal.invariant-loop-byte

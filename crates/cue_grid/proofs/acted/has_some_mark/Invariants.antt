@@ -1,5 +1,4 @@
-use Rattle.std.proofs.Common.{◌≡◌, drop}
-use Rattle.cue_grid.specs.Marks.{has_mark}
+use Rattle.cue_grid.proofs.Prelude.{◌≡◌, drop, has_mark}
 use Rattle.cue_grid.proofs.acted.has_some_mark.Given as goal
 
 abbrev pub invariant-loop-number : goal.invariant-loop-number

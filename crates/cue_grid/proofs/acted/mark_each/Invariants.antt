@@ -1,5 +1,4 @@
-use Rattle.std.proofs.Common.{◌≡◌, drop}
-use Rattle.cue_grid.specs.Marks.{marked}
+use Rattle.cue_grid.proofs.Prelude.{◌≡◌, drop, marked}
 use Rattle.cue_grid.proofs.acted.mark_each.Given as goal
 
 abbrev pub invariant-loop-number : goal.invariant-loop-number

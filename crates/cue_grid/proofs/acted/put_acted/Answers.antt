@@ -1,4 +1,4 @@
-use Rattle.cue_grid.specs.Shown.{shown, place_names}
+use Rattle.cue_grid.proofs.Prelude.{shown, place_names}
 use Rattle.cue_grid.proofs.Marking.{one_other, one_marked, form_marked}
 use Rattle.cue_grid.proofs.acted.put_acted.Goals as goal
 

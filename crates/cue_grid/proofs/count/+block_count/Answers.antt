@@ -1,7 +1,4 @@
-use Rattle.std.proofs.Common.{◌+◌, ◌∙◌, arith}
-use Rattle.cue_grid.specs.Shown.{shown}
-use Rattle.fleet_math.specs.Limits.{most_cues}
-use Rattle.cue_grid.specs.Counts.{perform_count}
+use Rattle.cue_grid.proofs.Prelude.{◌+◌, ◌∙◌, arith, shown, most_cues, perform_count}
 use Rattle.cue_grid.proofs.Counting.{added, stays_full, repeat_count}
 use Rattle.cue_grid.proofs.count.+block_count.Goals as goal
 use Rattle.cue_grid.proofs.count.+block_count.Goals.{then-inside-le-MOST_CUES, else-inside-le-MOST_CUES}

@@ -1,6 +1,4 @@
-use Rattle.std.proofs.Common.{◌+◌, ◌∙◌, arith}
-use Rattle.fleet_math.specs.Limits.{most_cues}
-use Rattle.cue_grid.specs.Counts.{none_performed}
+use Rattle.cue_grid.proofs.Prelude.{◌+◌, ◌∙◌, arith, most_cues, none_performed}
 use Rattle.cue_grid.proofs.Counting.{added, stays_full, repeat_count}
 use Rattle.cue_grid.proofs.count.+figure_count.Goals as goal
 use Rattle.cue_grid.proofs.count.+figure_count.Goals.{then-inside-le-MOST_CUES, else-inside-le-MOST_CUES}

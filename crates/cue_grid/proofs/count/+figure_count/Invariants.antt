@@ -1,8 +1,4 @@
-use Rattle.std.proofs.Common.{◌≡◌, ◌+◌, take}
-use Rattle.std.specs.Prelude.{min}
-use Rattle.choreo_show.specs.Plain.{body_of}
-use Rattle.fleet_math.specs.Limits.{most_cues}
-use Rattle.cue_grid.specs.Counts.{figure_count}
+use Rattle.cue_grid.proofs.Prelude.{◌≡◌, ◌+◌, take, min, body_of, most_cues, figure_count}
 use Rattle.cue_grid.proofs.count.+figure_count.Given as goal
 
 abbrev pub invariant-loop-inner : goal.invariant-loop-inner

@@ -1,6 +1,4 @@
-use Rattle.std.proofs.Common.{◌+◌, ◌∙◌, arith}
-use Rattle.fleet_math.specs.Limits.{most_cues}
-use Rattle.cue_grid.specs.Counts.{none_performed}
+use Rattle.cue_grid.proofs.Prelude.{◌+◌, ◌∙◌, arith, most_cues, none_performed}
 use Rattle.cue_grid.proofs.Counting.{added, stays_full}
 use Rattle.cue_grid.proofs.count.figure_total.Goals as goal
 use Rattle.cue_grid.proofs.count.figure_total.Goals.{then-total-le-MOST_CUES, else-total-le-MOST_CUES}

@@ -1,8 +1,4 @@
-use Rattle.std.proofs.Common.{◌≡◌, ◌≤◌, drop}
-use Rattle.choreo_show.specs.Plain.{body_of}
-use Rattle.cue_grid.specs.Shown.{shown}
-use Rattle.fleet_math.specs.Limits.{most_cues}
-use Rattle.cue_grid.specs.Counts.{over_at}
+use Rattle.cue_grid.proofs.Prelude.{◌≡◌, ◌≤◌, drop, body_of, shown, most_cues, over_at}
 use Rattle.cue_grid.proofs.count.over_line.Given as goal
 
 abbrev pub invariant-loop-block : goal.invariant-loop-block

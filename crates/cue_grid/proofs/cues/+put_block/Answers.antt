@@ -1,5 +1,4 @@
-use Rattle.cue_grid.specs.Steps.{performed_cues}
-use Rattle.cue_grid.specs.Shown.{shown, played}
+use Rattle.cue_grid.proofs.Prelude.{performed_cues, shown, played}
 use Rattle.cue_grid.proofs.Written.{cues_put, cues_turn}
 use Rattle.cue_grid.proofs.cues.+put_block.Goals as goal
 

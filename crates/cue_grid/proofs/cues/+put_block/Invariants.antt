@@ -1,8 +1,4 @@
-use Rattle.std.proofs.Common.{◌≡◌, ◌++◌, take}
-use Rattle.choreo_show.specs.Plain.{body_of}
-use Rattle.cue_grid.specs.Cues.{cues_in, times_over}
-use Rattle.cue_grid.specs.Steps.{performed_cues}
-use Rattle.cue_grid.specs.Shown.{shown, played}
+use Rattle.cue_grid.proofs.Prelude.{◌≡◌, ◌++◌, take, body_of, cues_in, times_over, performed_cues, shown, played}
 use Rattle.cue_grid.proofs.cues.+put_block.Given as goal
 
 abbrev pub invariant-loop-inner : goal.invariant-loop-inner

@@ -1,8 +1,4 @@
-use Rattle.std.proofs.Common.{◌≡◌, ◌++◌, take}
-use Rattle.choreo_show.specs.Plain.{body_of}
-use Rattle.cue_grid.specs.Cues.{times_over}
-use Rattle.cue_grid.specs.Steps.{figure_cues}
-use Rattle.cue_grid.specs.Shown.{shown, played}
+use Rattle.cue_grid.proofs.Prelude.{◌≡◌, ◌++◌, take, body_of, times_over, figure_cues, shown, played}
 use Rattle.cue_grid.proofs.cues.+put_figure_block.Given as goal
 
 abbrev pub invariant-loop-inner : goal.invariant-loop-inner

@@ -1,5 +1,4 @@
-use Rattle.std.proofs.Common.{arith}
-use Rattle.cue_grid.specs.Shown.{shown, played}
+use Rattle.cue_grid.proofs.Prelude.{arith, shown, played}
 use Rattle.cue_grid.proofs.Placing.{line_put}
 use Rattle.cue_grid.proofs.cues.cue.Goals as goal
 

@@ -1,6 +1,4 @@
-use Rattle.std.proofs.Common.{◌≡◌, drop, map}
-use Rattle.cue_grid.specs.Cues.{job_of}
-use Rattle.cue_grid.specs.Shown.{shown, played}
+use Rattle.cue_grid.proofs.Prelude.{◌≡◌, drop, map, job_of, shown, played}
 use Rattle.cue_grid.proofs.cues.cue.Given as goal
 
 abbrev pub invariant-loop-k : goal.invariant-loop-k

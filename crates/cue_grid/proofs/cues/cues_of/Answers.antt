@@ -1,4 +1,4 @@
-use Rattle.cue_grid.specs.Shown.{shown}
+use Rattle.cue_grid.proofs.Prelude.{shown}
 use Rattle.cue_grid.proofs.Written.{written_put}
 use Rattle.cue_grid.proofs.cues.cues_of.Goals as goal
 

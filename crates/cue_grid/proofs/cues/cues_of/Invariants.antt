@@ -1,8 +1,4 @@
-use Rattle.std.proofs.Common.{◌≡◌, take}
-use Rattle.choreo_show.specs.Plain.{body_of}
-use Rattle.cue_grid.specs.Cues.{cues_in}
-use Rattle.cue_grid.specs.Shown.{shown}
-use Rattle.cue_grid.specs.Steps.{as_written, performed_cues}
+use Rattle.cue_grid.proofs.Prelude.{◌≡◌, take, body_of, cues_in, shown, as_written, performed_cues}
 use Rattle.cue_grid.proofs.cues.cues_of.Given as goal
 
 abbrev pub invariant-loop-block : goal.invariant-loop-block

@@ -1,4 +1,4 @@
-use Rattle.std.proofs.Common.{get_or, sym, ap, ◌∙◌}
+use Rattle.cue_grid.proofs.Prelude.{get_or, sym, ap, ◌∙◌}
 use Rattle.cue_grid.proofs.Placing.{stands_here}
 use Rattle.cue_grid.proofs.cues.drone_at.Goals as goal
 

@@ -1,5 +1,4 @@
-use Rattle.std.proofs.Common.{◌≡◌, drop}
-use Rattle.cue_grid.specs.Names.{has_name, names_of}
+use Rattle.cue_grid.proofs.Prelude.{◌≡◌, drop, has_name, names_of}
 use Rattle.cue_grid.proofs.cues.drone_at.Given as goal
 
 abbrev pub invariant-loop-k : goal.invariant-loop-k

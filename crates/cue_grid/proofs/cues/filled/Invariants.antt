@@ -1,4 +1,4 @@
-use Rattle.std.proofs.Common.{◌≡◌, take, map}
+use Rattle.cue_grid.proofs.Prelude.{◌≡◌, take, map}
 use Rattle.cue_grid.proofs.cues.filled.Given as goal
 
 abbrev pub invariant-loop-drone : goal.invariant-loop-drone

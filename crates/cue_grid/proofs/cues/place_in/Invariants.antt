@@ -1,5 +1,4 @@
-use Rattle.std.proofs.Common.{◌≡◌, drop}
-use Rattle.cue_grid.specs.Names.{place_named}
+use Rattle.cue_grid.proofs.Prelude.{◌≡◌, drop, place_named}
 use Rattle.cue_grid.proofs.cues.place_in.Given as goal
 
 abbrev pub invariant-loop-place : goal.invariant-loop-place

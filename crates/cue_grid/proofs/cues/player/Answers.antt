@@ -1,5 +1,4 @@
-use Rattle.std.proofs.lemmas.Grind.{common_steps}
-use Rattle.std.proofs.Common.{arith}
+use Rattle.cue_grid.proofs.Prelude.{common_steps, arith}
 use Rattle.cue_grid.proofs.Written.{role_later, role_behind}
 use Rattle.cue_grid.proofs.cues.player.Goals as goal
 use Rattle.cue_grid.proofs.cues.player.Goals.{else-i-drones-via-then-i-drones+else-same_name, else-i-drones-via-else-i-drones}

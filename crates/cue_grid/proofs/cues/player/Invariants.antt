@@ -1,5 +1,4 @@
-use Rattle.std.proofs.Common.{◌≡◌, drop}
-use Rattle.cue_grid.specs.Cues.{player}
+use Rattle.cue_grid.proofs.Prelude.{◌≡◌, drop, player}
 use Rattle.cue_grid.proofs.cues.player.Given as goal
 
 abbrev pub invariant-loop-i : goal.invariant-loop-i

@@ -1,5 +1,4 @@
-use Rattle.cue_grid.specs.Steps.{nothing_performed}
-use Rattle.cue_grid.specs.Shown.{shown, played}
+use Rattle.cue_grid.proofs.Prelude.{nothing_performed, shown, played}
 use Rattle.cue_grid.proofs.Written.{cues_put}
 use Rattle.cue_grid.proofs.cues.put_figure.Goals as goal
 

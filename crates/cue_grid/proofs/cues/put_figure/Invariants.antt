@@ -1,7 +1,4 @@
-use Rattle.std.proofs.Common.{◌≡◌, ◌++◌, take}
-use Rattle.choreo_show.specs.Plain.{body_of}
-use Rattle.cue_grid.specs.Steps.{figure_cues}
-use Rattle.cue_grid.specs.Shown.{shown, played}
+use Rattle.cue_grid.proofs.Prelude.{◌≡◌, ◌++◌, take, body_of, figure_cues, shown, played}
 use Rattle.cue_grid.proofs.cues.put_figure.Given as goal
 
 abbrev pub invariant-loop-block : goal.invariant-loop-block

@@ -1,4 +1,4 @@
-use Rattle.cue_grid.specs.Shown.{shown, played}
+use Rattle.cue_grid.proofs.Prelude.{shown, played}
 use Rattle.cue_grid.proofs.Placing.{line_none}
 use Rattle.cue_grid.proofs.cues.put_line.Goals as goal
 

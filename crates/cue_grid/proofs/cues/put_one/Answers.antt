@@ -1,4 +1,4 @@
-use Rattle.std.proofs.Common.{sym, ◌∙◌}
+use Rattle.cue_grid.proofs.Prelude.{sym, ◌∙◌}
 use Rattle.cue_grid.proofs.Placing.{put_nobody, put_somebody}
 use Rattle.cue_grid.proofs.cues.put_one.Goals as goal
 

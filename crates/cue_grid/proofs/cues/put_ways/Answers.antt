@@ -1,7 +1,4 @@
-use Rattle.std.proofs.Common.{sym, ap, ◌∙◌}
-use Rattle.std.specs.Prelude.{Vec}
-use Rattle.std.specs.declared.alloc.Global.{Global}
-use Rattle.cue_grid.specs.declared.grid.Job.{Job}
+use Rattle.cue_grid.proofs.Prelude.{sym, ap, ◌∙◌, Vec, Global, Job}
 use Rattle.cue_grid.proofs.Placing.{way_put, way_none}
 use Rattle.cue_grid.proofs.cues.put_ways.Goals.{in-Some, in_default}
 use Rattle.cue_grid.proofs.cues.put_ways.Goals as goal

@@ -1,6 +1,4 @@
-use Rattle.std.proofs.Common.{◌≡◌, take}
-use Rattle.cue_grid.specs.Names.{place_named}
-use Rattle.cue_grid.specs.Steps.{put_acts, way_if}
+use Rattle.cue_grid.proofs.Prelude.{◌≡◌, take, place_named, put_acts, way_if}
 use Rattle.cue_grid.proofs.cues.put_ways.Given as goal
 
 abbrev pub invariant-loop-k : goal.invariant-loop-k

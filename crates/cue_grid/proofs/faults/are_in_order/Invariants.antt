@@ -1,5 +1,4 @@
-use Rattle.std.proofs.Common.{◌≡◌, ◌≤◌, length, drop}
-use Rattle.cue_grid.specs.Steps.{lines_after}
+use Rattle.cue_grid.proofs.Prelude.{◌≡◌, ◌≤◌, length, drop, lines_after}
 use Rattle.cue_grid.proofs.faults.are_in_order.Given as goal
 
 abbrev pub invariant-loop-name : goal.invariant-loop-name

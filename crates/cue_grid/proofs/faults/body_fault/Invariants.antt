@@ -1,8 +1,4 @@
-use Rattle.cue_grid.specs.Shown.{shown}
-use Rattle.std.proofs.Common.{◌≡◌, drop}
-use Rattle.choreo_show.specs.Plain.{body_of}
-use Rattle.cue_grid.specs.Steps.{first_of}
-use Rattle.cue_grid.specs.Faults.{body_faults}
+use Rattle.cue_grid.proofs.Prelude.{shown, ◌≡◌, drop, body_of, first_of, body_faults}
 use Rattle.cue_grid.proofs.faults.body_fault.Given as goal
 
 abbrev pub invariant-loop-block : goal.invariant-loop-block

@@ -1,5 +1,4 @@
-use Rattle.std.proofs.Common.{sym, subst, ◌∙◌, arith, take, ◌+◌}
-use Rattle.cue_grid.specs.Shown.{shown, place_names, HaveActs}
+use Rattle.cue_grid.proofs.Prelude.{sym, subst, ◌∙◌, arith, take, ◌+◌, shown, place_names, HaveActs}
 use Rattle.cue_grid.proofs.Marking.{acted_all, acted_more, line_here, line_later}
 use Rattle.cue_grid.proofs.faults.cue_fault.Goals.{then-i-acts+in_ok-put_acted, else-i-acts}
 use Rattle.cue_grid.proofs.faults.cue_fault.Goals as goal

@@ -1,7 +1,4 @@
-use Rattle.std.proofs.Common.{◌≡◌, ◌<◌, [], drop, length, take}
-use Rattle.cue_grid.specs.Shown.{shown, place_names, HaveActs}
-use Rattle.cue_grid.specs.Steps.{first_of}
-use Rattle.cue_grid.specs.Faults.{act_faults}
+use Rattle.cue_grid.proofs.Prelude.{◌≡◌, ◌<◌, [], drop, length, take, shown, place_names, HaveActs, first_of, act_faults}
 use Rattle.cue_grid.proofs.Marking.{acted_all}
 use Rattle.cue_grid.proofs.faults.cue_fault.Given as goal
 

@@ -1,9 +1,4 @@
-use Rattle.std.proofs.Common.{◌≡◌, [], drop, take, map}
-use Rattle.choreo_show.specs.Plain.{figure_of as plain_figure}
-use Rattle.cue_grid.specs.Numbers.{figure_names}
-use Rattle.cue_grid.specs.Shown.{shown}
-use Rattle.cue_grid.specs.Steps.{first_of}
-use Rattle.cue_grid.specs.Faults.{figure_faults}
+use Rattle.cue_grid.proofs.Prelude.{◌≡◌, [], drop, take, map, figure_of as plain_figure, figure_names, shown, first_of, figure_faults}
 use Rattle.cue_grid.proofs.faults.figure_fault.Given as goal
 
 abbrev pub invariant-loop-i : goal.invariant-loop-i

@@ -1,6 +1,4 @@
-use Rattle.std.proofs.Common.{true, false}
-use Rattle.cue_grid.specs.Names.{formation_named}
-use Rattle.cue_grid.specs.Shown.{shown, place_names}
+use Rattle.cue_grid.proofs.Prelude.{true, false, formation_named, shown, place_names}
 use Rattle.cue_grid.proofs.Marking.{form_is}
 use Rattle.cue_grid.proofs.faults.form_fault.Goals as goal
 

@@ -1,9 +1,4 @@
-use Rattle.std.proofs.Common.{◌≡◌, [], drop, take}
-use Rattle.cue_grid.specs.Names.{names_of}
-use Rattle.cue_grid.specs.Numbers.{formation_names}
-use Rattle.cue_grid.specs.Shown.{shown}
-use Rattle.cue_grid.specs.Steps.{first_of}
-use Rattle.cue_grid.specs.Faults.{formation_faults}
+use Rattle.cue_grid.proofs.Prelude.{◌≡◌, [], drop, take, names_of, formation_names, shown, first_of, formation_faults}
 use Rattle.cue_grid.proofs.faults.formation_fault.Given as goal
 
 abbrev pub invariant-loop-i : goal.invariant-loop-i

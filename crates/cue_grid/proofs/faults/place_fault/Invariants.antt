@@ -1,7 +1,4 @@
-use Rattle.std.proofs.Common.{◌≡◌, [], drop, take}
-use Rattle.cue_grid.specs.Names.{names_of}
-use Rattle.cue_grid.specs.Steps.{first_of}
-use Rattle.cue_grid.specs.Faults.{place_faults}
+use Rattle.cue_grid.proofs.Prelude.{◌≡◌, [], drop, take, names_of, first_of, place_faults}
 use Rattle.cue_grid.proofs.faults.place_fault.Given as goal
 
 abbrev pub invariant-loop-i : goal.invariant-loop-i

@@ -1,5 +1,4 @@
-use Rattle.std.proofs.Common.{arith}
-use Rattle.std.proofs.lemmas.Grind.{common_steps}
+use Rattle.cue_grid.proofs.Prelude.{arith, common_steps}
 use Rattle.cue_grid.proofs.Numbering.{keeps_then, place_numbered}
 use Rattle.cue_grid.proofs.lookup.numbers_of.Goals as goal
 

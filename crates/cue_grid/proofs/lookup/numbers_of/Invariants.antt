@@ -1,6 +1,4 @@
-use Rattle.std.proofs.Common.{take}
-use Rattle.cue_grid.specs.Names.{names_of}
-use Rattle.cue_grid.specs.Marks.{Keeps, HasNumbers}
+use Rattle.cue_grid.proofs.Prelude.{take, names_of, Keeps, HasNumbers}
 use Rattle.cue_grid.proofs.lookup.numbers_of.Given as goal
 
 abbrev pub invariant-loop-place : goal.invariant-loop-place

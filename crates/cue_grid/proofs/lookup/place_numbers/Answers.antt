@@ -1,4 +1,4 @@
-use Rattle.std.proofs.Common.{vec_items}
+use Rattle.cue_grid.proofs.Prelude.{vec_items}
 use Rattle.cue_grid.proofs.Numbering.{formation_placed}
 use Rattle.cue_grid.proofs.lookup.place_numbers.Goals as goal
 

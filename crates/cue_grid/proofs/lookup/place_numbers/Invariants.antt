@@ -1,5 +1,4 @@
-use Rattle.std.proofs.Common.{take, vec_items}
-use Rattle.cue_grid.specs.Marks.{ArePlaced}
+use Rattle.cue_grid.proofs.Prelude.{take, vec_items, ArePlaced}
 use Rattle.cue_grid.proofs.lookup.place_numbers.Given as goal
 
 abbrev pub invariant-loop-formation : goal.invariant-loop-formation

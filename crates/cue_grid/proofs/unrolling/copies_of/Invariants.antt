@@ -1,4 +1,4 @@
-use Rattle.std.proofs.Common.{◌≡◌, take}
+use Rattle.cue_grid.proofs.Prelude.{◌≡◌, take}
 use Rattle.cue_grid.proofs.unrolling.copies_of.Given as goal
 
 abbrev pub invariant-loop-drone : goal.invariant-loop-drone

@@ -1,4 +1,4 @@
-use Rattle.std.proofs.Common.{refl, sym, ◌∙◌}
+use Rattle.cue_grid.proofs.Prelude.{refl, sym, ◌∙◌}
 use Rattle.cue_grid.proofs.FirstFault.{few_cues}
 use Rattle.cue_grid.proofs.unrolling.cue_count_fault.Goals as goal
 

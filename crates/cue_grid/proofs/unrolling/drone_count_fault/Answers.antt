@@ -1,5 +1,4 @@
-use Rattle.cue_grid.specs.Shown.{shown}
-use Rattle.std.proofs.Common.{sym, ◌∙◌}
+use Rattle.cue_grid.proofs.Prelude.{shown, sym, ◌∙◌}
 use Rattle.cue_grid.proofs.FirstFault.{few_drones}
 use Rattle.cue_grid.proofs.unrolling.drone_count_fault.Goals as goal
 

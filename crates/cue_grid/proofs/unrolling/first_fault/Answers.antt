@@ -1,4 +1,4 @@
-use Rattle.cue_grid.specs.Shown.{shown}
+use Rattle.cue_grid.proofs.Prelude.{shown}
 use Rattle.cue_grid.proofs.FirstFault.{name_fault_by, count_fault_by}
 use Rattle.cue_grid.proofs.unrolling.first_fault.Goals as goal
 

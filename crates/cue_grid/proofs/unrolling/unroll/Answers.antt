@@ -1,8 +1,4 @@
-use Rattle.std.proofs.Common.{◌≡◌, ap, sym, ◌∙◌}
-use Rattle.choreo_show.specs.Plain.{plain}
-use Rattle.cue_grid.specs.Cues.{cues_of}
-use Rattle.cue_grid.specs.Faults.{grid_fault}
-use Rattle.cue_grid.specs.Shown.{shown}
+use Rattle.cue_grid.proofs.Prelude.{◌≡◌, ap, sym, ◌∙◌, plain, cues_of, grid_fault, shown}
 use Rattle.cue_grid.proofs.Distinct.{answered_distinct, names_apart}
 use Rattle.cue_grid.proofs.Fits.{answered, answered_names}
 use Rattle.cue_grid.proofs.unrolling.unroll.Goals as goal

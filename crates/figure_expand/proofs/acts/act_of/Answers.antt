@@ -1,5 +1,4 @@
-use Rattle.std.proofs.Common.{◌^◌, sym, subst}
-use Rattle.figure_expand.specs.Bounds.{IsActUpTo}
+use Rattle.figure_expand.proofs.Prelude.{◌^◌, sym, subst, IsActUpTo}
 use Rattle.figure_expand.proofs.Reach.{act_small}
 use Rattle.figure_expand.proofs.Unmoved.{unmoved}
 use Rattle.figure_expand.proofs.acts.act_of.Goals as goal

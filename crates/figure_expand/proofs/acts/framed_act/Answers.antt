@@ -1,5 +1,4 @@
-use Rattle.std.proofs.Common.{subst}
-use Rattle.choreo_show.specs.Valid.{FitsAct}
+use Rattle.figure_expand.proofs.Prelude.{subst, FitsAct}
 use Rattle.figure_expand.proofs.Reach.{curve_fits}
 use Rattle.figure_expand.proofs.acts.framed_act.Goals as goal
 

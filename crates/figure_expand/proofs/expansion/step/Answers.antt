@@ -1,8 +1,4 @@
-use Rattle.std.proofs.Common.{sym, subst, List, length, ◌<◌, ◌+◌, ◌^◌}
-use Rattle.cue_grid.specs.Frames.{IsPointUpTo}
-use Rattle.cue_grid.specs.declared.grid.Job.{Job}
-use Rattle.cue_grid.specs.Grids.{FitJobs}
-use Rattle.figure_expand.specs.Expanded.{no_job}
+use Rattle.figure_expand.proofs.Prelude.{sym, subst, List, length, ◌<◌, ◌+◌, ◌^◌, IsPointUpTo, Job, FitJobs, no_job}
 use Rattle.figure_expand.proofs.Reach.{end_small, job_fits}
 use Rattle.figure_expand.proofs.expansion.step.Goals as goal
 

@@ -1,11 +1,4 @@
-use Rattle.std.proofs.lemmas.Grind.{common_steps}
-use Rattle.std.proofs.Common.{◌≡◌, pos, List, get_or, set, arith, ap, ◌∙◌}
-use Rattle.std.proofs.lemmas.List.Elements.{All-get_or}
-use Rattle.choreo_lines.specs.declared.parts.Point.{Point}
-use Rattle.choreo_lines.specs.declared.parts.Act.{Act}
-use Rattle.figure_expand.specs.Acts.{act_of}
-use Rattle.figure_expand.specs.Written.{end_of}
-use Rattle.figure_expand.specs.Expanded.{no_job}
+use Rattle.figure_expand.proofs.Prelude.{common_steps, ◌≡◌, pos, List, get_or, set, arith, ap, ◌∙◌, All-get_or, Point, Act, act_of, end_of, no_job}
 use Rattle.figure_expand.proofs.Reach.{job_fits}
 use Rattle.figure_expand.proofs.Unfit.{moved, not_moved, moved_more, moved_all}
 use Rattle.figure_expand.proofs.range.advance.Goals as goal

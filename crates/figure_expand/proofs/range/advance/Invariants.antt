@@ -1,4 +1,4 @@
-use Rattle.std.proofs.Common.{◌≡◌}
+use Rattle.figure_expand.proofs.Prelude.{◌≡◌}
 use Rattle.figure_expand.proofs.Unfit.{moved}
 use Rattle.figure_expand.proofs.range.advance.Given as goal
 

@@ -1,7 +1,4 @@
-use Rattle.std.proofs.Common.{ℕ, pos, get_or, arith, sym, ap, ◌∙◌}
-use Rattle.mm_rounding.specs.Rounding.{controls}
-use Rattle.mm_rounding.specs.declared.piece.Axis.TheVariants.{One}
-use Rattle.figure_expand.specs.Expanded.{values_on, first_unfit}
+use Rattle.figure_expand.proofs.Prelude.{ℕ, pos, get_or, arith, sym, ap, ◌∙◌, controls, One, values_on, first_unfit}
 use Rattle.figure_expand.proofs.Unfit.{axes_here, axes_later}
 use Rattle.figure_expand.proofs.range.axes_fault.Goals as goal
 

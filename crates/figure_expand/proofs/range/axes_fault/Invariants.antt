@@ -1,5 +1,4 @@
-use Rattle.std.proofs.Common.{◌≡◌, drop}
-use Rattle.figure_expand.specs.Expanded.{values_of, first_unfit}
+use Rattle.figure_expand.proofs.Prelude.{◌≡◌, drop, values_of, first_unfit}
 use Rattle.figure_expand.proofs.range.axes_fault.Given as goal
 
 -- the axes so far fit

@@ -1,10 +1,4 @@
-use Rattle.std.proofs.lemmas.Grind.{common_steps}
-use Rattle.std.proofs.Common.{pos, List, get_or, arith, sym, ap, ◌∙◌}
-use Rattle.choreo_lines.specs.declared.parts.Point.{Point}
-use Rattle.choreo_lines.specs.declared.parts.Act.{Act}
-use Rattle.mm_rounding.specs.declared.piece.Axis.{Axis}
-use Rattle.figure_expand.specs.Controls.{axes_of}
-use Rattle.figure_expand.specs.Expanded.{no_job, values_of, first_unfit}
+use Rattle.figure_expand.proofs.Prelude.{common_steps, pos, List, get_or, arith, sym, ap, ◌∙◌, Point, Act, Axis, axes_of, no_job, values_of, first_unfit}
 use Rattle.figure_expand.proofs.Reach.{job_fits}
 use Rattle.figure_expand.proofs.Unfit.{drone_here, drone_later}
 use Rattle.figure_expand.proofs.range.cue_fault.Goals as goal

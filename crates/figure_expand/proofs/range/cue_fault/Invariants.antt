@@ -1,5 +1,4 @@
-use Rattle.std.proofs.Common.{◌≡◌, drop}
-use Rattle.figure_expand.specs.Expanded.{cue_values, first_unfit}
+use Rattle.figure_expand.proofs.Prelude.{◌≡◌, drop, cue_values, first_unfit}
 use Rattle.figure_expand.proofs.range.cue_fault.Given as goal
 
 -- the drones so far fit

@@ -1,10 +1,4 @@
-use Rattle.std.proofs.lemmas.Grind.{common_steps}
-use Rattle.std.proofs.Common.{◌≡◌, ◌+◌, List, length, drop, arith, sym, ap, ◌∙◌, subst}
-use Rattle.choreo_lines.specs.declared.parts.Point.{Point}
-use Rattle.cue_grid.specs.declared.grid.Job.{Job}
-use Rattle.cue_grid.specs.Grids.{FitJobs}
-use Rattle.figure_expand.specs.Bounds.{AreInReach}
-use Rattle.figure_expand.specs.Expanded.{cue_values, points_after, first_unfit}
+use Rattle.figure_expand.proofs.Prelude.{common_steps, ◌≡◌, ◌+◌, List, length, drop, arith, sym, ap, ◌∙◌, subst, Point, Job, FitJobs, AreInReach, cue_values, points_after, first_unfit}
 use Rattle.figure_expand.proofs.Reach.{next_fits, all_small, points_in_reach, length-points_after}
 use Rattle.figure_expand.proofs.Unfit.{cue_here, cue_later}
 use Rattle.figure_expand.proofs.range.cues_fault.Goals as goal

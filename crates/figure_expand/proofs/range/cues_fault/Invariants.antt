@@ -1,6 +1,4 @@
-use Rattle.std.proofs.Common.{◌≡◌, length, drop}
-use Rattle.figure_expand.specs.Bounds.{AreInReach}
-use Rattle.figure_expand.specs.Expanded.{values_from, first_unfit}
+use Rattle.figure_expand.proofs.Prelude.{◌≡◌, length, drop, AreInReach, values_from, first_unfit}
 use Rattle.figure_expand.proofs.range.cues_fault.Given as goal
 
 -- the cues so far fit, and the drones are where they leave them

@@ -1,5 +1,4 @@
-use Rattle.std.proofs.Common.{◌≡◌, ◌++◌, drop}
-use Rattle.figure_expand.specs.Expanded.{start_points}
+use Rattle.figure_expand.proofs.Prelude.{◌≡◌, ◌++◌, drop, start_points}
 use Rattle.figure_expand.proofs.range.points_of.Given as goal
 
 -- the points so far

@@ -1,7 +1,4 @@
-use Rattle.std.proofs.lemmas.Grind.{common_steps}
-use Rattle.std.proofs.Common.{◌≡◌, Some, sym, ap, ◌∙◌, subst, arith}
-use Rattle.figure_expand.specs.Bounds.{AreInReach}
-use Rattle.figure_expand.specs.Expanded.{start_points}
+use Rattle.figure_expand.proofs.Prelude.{common_steps, ◌≡◌, Some, sym, ap, ◌∙◌, subst, arith, AreInReach, start_points}
 use Rattle.figure_expand.proofs.Reach.{starts_in_reach, length-start_points}
 use Rattle.figure_expand.proofs.Unfit.{starts_unfit, cues_unfit}
 use Rattle.figure_expand.proofs.Axes.{fault_axis}

@@ -1,5 +1,4 @@
-use Rattle.std.proofs.lemmas.Grind.{common_steps}
-use Rattle.std.proofs.Common.{arith}
+use Rattle.figure_expand.proofs.Prelude.{common_steps, arith}
 use Rattle.figure_expand.proofs.Unfit.{start_here}
 use Rattle.figure_expand.proofs.range.starts_fault.Goals as goal
 

@@ -1,5 +1,4 @@
-use Rattle.std.proofs.Common.{◌≡◌, drop}
-use Rattle.figure_expand.specs.Expanded.{start_values, first_unfit}
+use Rattle.figure_expand.proofs.Prelude.{◌≡◌, drop, start_values, first_unfit}
 use Rattle.figure_expand.proofs.range.starts_fault.Given as goal
 
 -- the starts so far fit

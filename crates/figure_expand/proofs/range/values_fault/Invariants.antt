@@ -1,5 +1,4 @@
-use Rattle.std.proofs.Common.{◌≡◌, drop}
-use Rattle.figure_expand.specs.Expanded.{values_on, first_unfit}
+use Rattle.figure_expand.proofs.Prelude.{◌≡◌, drop, values_on, first_unfit}
 use Rattle.figure_expand.proofs.range.values_fault.Given as goal
 
 -- the values so far fit

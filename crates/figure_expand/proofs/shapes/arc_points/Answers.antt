@@ -1,5 +1,4 @@
-use Rattle.std.proofs.Common.{◌≡◌, ℤ, ◌^◌, ◌∷◌, [], ◌+ℤ◌, arith, ap, ◌∙◌}
-use Rattle.figure_expand.specs.Acts.{handle}
+use Rattle.figure_expand.proofs.Prelude.{◌≡◌, ℤ, ◌^◌, ◌∷◌, [], ◌+ℤ◌, arith, ap, ◌∙◌, handle}
 use Rattle.figure_expand.proofs.Reach.{arc_kept, kept, wider}
 use Rattle.figure_expand.proofs.shapes.arc_points.Goals as goal
 

@@ -1,7 +1,4 @@
-use Rattle.std.proofs.lemmas.Grind.{common_steps}
-use Rattle.std.proofs.Common.{◌≡◌, [], ◌∷◌, w64, arith}
-use Rattle.std.proofs.lemmas.Int.{to_z-of_z}
-use Rattle.mm_rounding.specs.declared.piece.Axis.{Axis}
+use Rattle.figure_expand.proofs.Prelude.{common_steps, ◌≡◌, [], ◌∷◌, w64, arith, to_z-of_z, Axis}
 use Rattle.figure_expand.proofs.shapes.axes.Goals as goal
 
 -- four axes, one by one

@@ -1,10 +1,4 @@
-use Rattle.std.proofs.Common.{All, FitsSigned, rules, subst, ◌∙◌, List, to_z, of_z}
-use Rattle.std.proofs.lemmas.Int.{to_z-of_z}
-use Rattle.std.proofs.lemmas.List.{take_all}
-use mir.Syntax.{w16}
-use Rattle.traj_codec.specs.declared.traj.Segment.{Segment}
-use Rattle.fleet_curves.specs.Raised.{curves_of}
-use Rattle.fleet_curves.specs.Steps.{IsFormed, AreSmallCurves, all_curves}
+use Rattle.fleet_curves.proofs.Prelude.{All, FitsSigned, rules, subst, ◌∙◌, List, to_z, of_z, to_z-of_z, take_all, w16, Segment, curves_of, IsFormed, AreSmallCurves, all_curves}
 use Rattle.fleet_curves.proofs.Fleets.{next_curves, all_more, all_push}
 use Rattle.fleet_curves.proofs.Rows.{curves_push}
 use Rattle.fleet_curves.proofs.curves.add_traj.Goals as goal

@@ -1,6 +1,4 @@
-use Rattle.std.proofs.Common.{◌≡◌, ◌++◌, drop, take, All}
-use Rattle.fleet_curves.specs.Raised.{raised_from, raised_traj}
-use Rattle.fleet_curves.specs.Steps.{IsFormed, AreSmallCurves, all_curves}
+use Rattle.fleet_curves.proofs.Prelude.{◌≡◌, ◌++◌, drop, take, All, raised_from, raised_traj, IsFormed, AreSmallCurves, all_curves}
 use Rattle.fleet_curves.proofs.curves.add_traj.Given as goal
 
 abbrev pub invariant-loop-s : goal.invariant-loop-s

@@ -1,5 +1,4 @@
-use Rattle.std.proofs.Common.{◌^◌, All, List, ℤ}
-use Rattle.fleet_math.specs.Numbers.{IsBelow}
+use Rattle.fleet_curves.proofs.Prelude.{◌^◌, All, List, ℤ, IsBelow}
 use Rattle.fleet_curves.proofs.Small.{three}
 use Rattle.fleet_curves.proofs.curves.differences.Goals as goal
 

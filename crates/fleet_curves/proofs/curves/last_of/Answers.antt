@@ -1,6 +1,4 @@
-use Rattle.std.proofs.Common.{◌-◌, rules, length, get_or, pos, FitsSigned, ◌∙◌, sym}
-use Rattle.std.proofs.lemmas.Int.{to_z-of_z}
-use mir.Syntax.{w16}
+use Rattle.fleet_curves.proofs.Prelude.{◌-◌, rules, length, get_or, pos, FitsSigned, ◌∙◌, sym, to_z-of_z, w16}
 use Rattle.fleet_curves.proofs.Differences.{last_is}
 use Rattle.fleet_curves.proofs.curves.last_of.Goals as goal
 

@@ -1,7 +1,4 @@
-use Rattle.std.proofs.lemmas.Grind.{common_steps}
-use Rattle.std.proofs.Common.{ap, length, List, arith}
-use Rattle.std.proofs.lemmas.Int.{to_z-of_z}
-use Rattle.bezier_core.specs.declared.Bez.{Bez}
+use Rattle.fleet_curves.proofs.Prelude.{common_steps, ap, length, List, arith, to_z-of_z, Bez}
 use Rattle.fleet_curves.proofs.Differences.{same_curves}
 use Rattle.fleet_curves.proofs.Small.{three, wider}
 use Rattle.fleet_curves.proofs.Rows.{small_among, three_curves}

@@ -1,7 +1,4 @@
-use Rattle.std.proofs.Common.{rules, ◌≡◌, ◌^◌, length, sym, subst, All, List, ℤ, arith}
-use Rattle.bezier_core.specs.declared.Bez.{Bez}
-use Rattle.fleet_math.specs.Numbers.{IsBelow}
-use Rattle.fleet_curves.specs.Raised.{curves_of}
+use Rattle.fleet_curves.proofs.Prelude.{rules, ◌≡◌, ◌^◌, length, sym, subst, All, List, ℤ, arith, Bez, IsBelow, curves_of}
 use Rattle.fleet_curves.proofs.Differences.{less_small}
 use Rattle.fleet_curves.proofs.Rows.{controls_row, rows_less, small_row}
 use Rattle.fleet_curves.proofs.curves.one_less.Goals as goal

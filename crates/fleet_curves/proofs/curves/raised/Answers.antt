@@ -1,5 +1,4 @@
-use Rattle.std.proofs.lemmas.Grind.{common_steps}
-use Rattle.std.proofs.Common.{arith}
+use Rattle.fleet_curves.proofs.Prelude.{common_steps, arith}
 use Rattle.fleet_curves.proofs.Small.{told_short}
 use Rattle.fleet_curves.proofs.Differences.{same_two}
 use Rattle.fleet_curves.proofs.curves.raised.Goals as goal

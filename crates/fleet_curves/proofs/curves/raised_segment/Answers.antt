@@ -1,10 +1,4 @@
-use Rattle.std.proofs.lemmas.Grind.{common_steps}
-use Rattle.std.proofs.Common.{◌≤◌, ◌^◌, length, All, arith}
-use Rattle.std.proofs.lemmas.Int.{to_z-of_z}
-use Rattle.bezier_core.specs.declared.Bez.{Bez}
-use Rattle.fleet_math.specs.Numbers.{IsBelow}
-use Rattle.traj_codec.specs.Spelling.{stored}
-use Rattle.traj_codec.specs.Positions.{element_on}
+use Rattle.fleet_curves.proofs.Prelude.{common_steps, ◌≤◌, ◌^◌, length, All, arith, to_z-of_z, Bez, IsBelow, stored, element_on}
 use Rattle.fleet_curves.proofs.Small.{three}
 use Rattle.fleet_curves.proofs.Differences.{same_curves, three_axes}
 use Rattle.fleet_curves.proofs.curves.raised_segment.Goals as goal

@@ -1,6 +1,4 @@
-use Rattle.std.proofs.Common.{◌≡◌, ◌^◌, ◌-ℤ◌, ℕ, ℤ, arith, rules, lit<}
-use Rattle.fleet_math.specs.Bernstein.{at}
-use Rattle.bezier_core.proofs.EightLemmas.{below_at, eight_from_entries}
+use Rattle.fleet_curves.proofs.Prelude.{◌≡◌, ◌^◌, ◌-ℤ◌, ℕ, ℤ, arith, rules, lit<, at, below_at, eight_from_entries}
 use Rattle.fleet_curves.proofs.Small.{told_gap}
 use Rattle.fleet_curves.proofs.Rows.{set_below}
 use Rattle.fleet_curves.proofs.curves.row_less.Goals as goal

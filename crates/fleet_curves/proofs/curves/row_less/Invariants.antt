@@ -1,5 +1,4 @@
-use Rattle.std.proofs.Common.{◌≡◌, ℕ, ◌<◌, ◌-ℤ◌, length}
-use Rattle.fleet_math.specs.Bernstein.{at}
+use Rattle.fleet_curves.proofs.Prelude.{◌≡◌, ℕ, ◌<◌, ◌-ℤ◌, length, at}
 use Rattle.fleet_curves.proofs.curves.row_less.Given as goal
 
 abbrev pub invariant-loop-k : goal.invariant-loop-k

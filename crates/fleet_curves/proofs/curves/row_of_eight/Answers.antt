@@ -1,6 +1,4 @@
-use Rattle.std.proofs.Common.{◌≡◌, length, rules, List, ℤ, pos, get_or, ◌∷◌, FitsSigned, ap, sym, ◌∙◌}
-use mir.Syntax.{w16, w128}
-use Rattle.fleet_math.specs.Numbers.{IsBelow}
+use Rattle.fleet_curves.proofs.Prelude.{◌≡◌, length, rules, List, ℤ, pos, get_or, ◌∷◌, FitsSigned, ap, sym, ◌∙◌, w16, w128, IsBelow}
 use Rattle.fleet_curves.proofs.Small.{told_short, kept}
 use Rattle.fleet_curves.proofs.Differences.{list_of_seven, eight_all, same_eight_numbers}
 use Rattle.fleet_curves.proofs.curves.row_of_eight.Goals as goal

@@ -1,5 +1,4 @@
-use Rattle.std.proofs.Common.{◌≡◌, length, rules, List, ℤ, pos, get_or, ◌∷◌, FitsSigned, ap, sym, ◌∙◌}
-use mir.Syntax.{w16}
+use Rattle.fleet_curves.proofs.Prelude.{◌≡◌, length, rules, List, ℤ, pos, get_or, ◌∷◌, FitsSigned, ap, sym, ◌∙◌, w16}
 use Rattle.fleet_curves.proofs.Small.{told_short}
 use Rattle.fleet_curves.proofs.Differences.{list_of_three, same_four}
 use Rattle.fleet_curves.proofs.curves.row_of_four.Goals as goal

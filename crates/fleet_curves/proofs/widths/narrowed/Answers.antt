@@ -1,7 +1,4 @@
-use Rattle.std.proofs.Common.{rules, ◌≡◌, ◌^◌, length, arith, FitsSigned, lit<}
-use mir.Syntax.{w128}
-use Rattle.fleet_math.specs.Bernstein.{at}
-use Rattle.bezier_core.proofs.EightLemmas.{below_at}
+use Rattle.fleet_curves.proofs.Prelude.{rules, ◌≡◌, ◌^◌, length, arith, FitsSigned, lit<, w128, at, below_at}
 use Rattle.fleet_curves.proofs.Small.{kept}
 use Rattle.fleet_curves.proofs.Rows.{copied}
 use Rattle.fleet_curves.proofs.widths.narrowed.Goals as goal

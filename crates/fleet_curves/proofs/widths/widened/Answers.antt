@@ -1,4 +1,4 @@
-use Rattle.std.proofs.Common.{rules, ◌≡◌, length, arith}
+use Rattle.fleet_curves.proofs.Prelude.{rules, ◌≡◌, length, arith}
 use Rattle.fleet_curves.proofs.Rows.{copied}
 use Rattle.fleet_curves.proofs.widths.widened.Goals as goal
 

@@ -1,4 +1,4 @@
-use Rattle.std.proofs.Common.{◌≡◌, length, take}
+use Rattle.fleet_curves.proofs.Prelude.{◌≡◌, length, take}
 use Rattle.fleet_curves.proofs.widths.widened.Given as goal
 
 abbrev pub invariant-loop-k : goal.invariant-loop-k

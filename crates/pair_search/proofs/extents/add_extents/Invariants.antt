@@ -1,5 +1,4 @@
-use Rattle.std.proofs.Common.{◌+◌, ◌*◌}
-use Rattle.pair_search.specs.Extents.{HasExtents}
+use Rattle.pair_search.proofs.Prelude.{◌+◌, ◌*◌, HasExtents}
 use Rattle.pair_search.proofs.extents.add_extents.Given as goal
 
 abbrev pub invariant-loop-cue : goal.invariant-loop-cue

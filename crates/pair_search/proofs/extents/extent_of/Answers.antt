@@ -1,8 +1,5 @@
-use Rattle.std.proofs.Common.{◌^◌, ◌<◌, arith, subst, All, List, ℤ, ℕ, length, get_or, []}
-use Rattle.fleet_math.specs.Numbers.{IsBelow}
-use Rattle.fleet_curves.specs.Raised.{curves_of}
+use Rattle.pair_search.proofs.Prelude.{◌^◌, ◌<◌, arith, subst, All, List, ℤ, ℕ, length, get_or, [], IsBelow, curves_of, controls_row, small_row}
 use Rattle.fleet_curves.specs.Steps.{AreSmallCurves}
-use Rattle.fleet_curves.proofs.Rows.{controls_row, small_row}
 use Rattle.pair_search.proofs.Reaches.{extent_made}
 use Rattle.pair_search.proofs.extents.extent_of.Goals as goal
 

@@ -1,5 +1,4 @@
-use Rattle.std.proofs.Common.{◌*◌}
-use Rattle.pair_search.specs.Extents.{HasExtents}
+use Rattle.pair_search.proofs.Prelude.{◌*◌, HasExtents}
 use Rattle.pair_search.proofs.extents.extents_of.Given as goal
 
 abbrev pub invariant-loop-drone : goal.invariant-loop-drone

@@ -1,6 +1,4 @@
-use Rattle.std.proofs.Common.{ℕ, below_more}
-use Rattle.fleet_curves.specs.Raised.{curves_at}
-use Rattle.pair_search.specs.Extents.{IsExtent}
+use Rattle.pair_search.proofs.Prelude.{ℕ, below_more, curves_at, IsExtent}
 use Rattle.pair_search.proofs.extents.flight_of.Goals as goal
 
 pub loop-cue-preserved : goal.loop-cue-preserved

@@ -1,6 +1,4 @@
-use Rattle.std.proofs.Common.{◌<◌, ℕ}
-use Rattle.fleet_curves.specs.Raised.{curves_at}
-use Rattle.pair_search.specs.Extents.{IsExtent}
+use Rattle.pair_search.proofs.Prelude.{◌<◌, ℕ, curves_at, IsExtent}
 use Rattle.pair_search.proofs.extents.flight_of.Given as goal
 
 abbrev pub invariant-loop-cue : goal.invariant-loop-cue

@@ -1,6 +1,4 @@
-use Rattle.std.proofs.Common.{rules, ◌<◌, ◌≢◌, ℕ, length, arith, below_more, get_or, get_or-set_other, get_or-set_same, slice_set}
-use Rattle.pair_search.specs.declared.extents.Extent.{Extent}
-use Rattle.pair_search.specs.Extents.{IsFlight}
+use Rattle.pair_search.proofs.Prelude.{rules, ◌<◌, ◌≢◌, ℕ, length, arith, below_more, get_or, get_or-set_other, get_or-set_same, slice_set, Extent, IsFlight}
 use Rattle.pair_search.proofs.extents.flights_of.Goals as goal
 
 pub loop-drone-preserved : goal.loop-drone-preserved

@@ -1,5 +1,4 @@
-use Rattle.std.proofs.Common.{◌≡◌, length}
-use Rattle.pair_search.specs.Extents.{HaveFlights}
+use Rattle.pair_search.proofs.Prelude.{◌≡◌, length, HaveFlights}
 use Rattle.pair_search.proofs.extents.flights_of.Given as goal
 
 abbrev pub invariant-loop-drone : goal.invariant-loop-drone

@@ -1,6 +1,4 @@
-use Rattle.std.proofs.Common.{ℕ, ◌<◌, ◌^◌, ◌≤ℤ◌}
-use Rattle.fleet_math.specs.Bernstein.{at}
-use Rattle.fleet_math.specs.Numbers.{IsBelow}
+use Rattle.pair_search.proofs.Prelude.{ℕ, ◌<◌, ◌^◌, ◌≤ℤ◌, at, IsBelow}
 use Rattle.pair_search.proofs.extents.least.Given as goal
 
 abbrev pub invariant-loop-k : goal.invariant-loop-k

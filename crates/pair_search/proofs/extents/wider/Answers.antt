@@ -1,4 +1,4 @@
-use Rattle.std.proofs.Common.{arith}
+use Rattle.pair_search.proofs.Prelude.{arith}
 use Rattle.pair_search.proofs.Reaches.{among, extent_wider, told}
 use Rattle.pair_search.proofs.extents.wider.Goals as goal
 

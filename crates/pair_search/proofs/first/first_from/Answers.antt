@@ -1,5 +1,4 @@
-use Rattle.std.proofs.lemmas.Grind.{common_steps}
-use Rattle.std.proofs.Common.{arith}
+use Rattle.pair_search.proofs.Prelude.{common_steps, arith}
 use Rattle.pair_search.proofs.Firsts.{none_more}
 use Rattle.pair_search.proofs.first.first_from.Goals as goal
 use Rattle.pair_search.proofs.first.first_from.Goals.{else-dir-count-via-then-dir-count+else-holds, else-dir-count-via-else-dir-count}

@@ -1,5 +1,4 @@
-use Rattle.std.proofs.Common.{◌+◌, ◌*◌, arith, subst, Option, ℕ}
-use Rattle.pair_search.specs.Steps.{FindsFrom}
+use Rattle.pair_search.proofs.Prelude.{◌+◌, ◌*◌, arith, subst, Option, ℕ, FindsFrom}
 use Rattle.pair_search.proofs.Firsts.{found_first, none_first, none_on}
 use Rattle.pair_search.proofs.first.first_near.Goals as goal
 

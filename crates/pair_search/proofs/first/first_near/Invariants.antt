@@ -1,5 +1,4 @@
-use Rattle.std.proofs.Common.{◌*◌}
-use Rattle.pair_search.specs.Steps.{NoneFrom}
+use Rattle.pair_search.proofs.Prelude.{◌*◌, NoneFrom}
 use Rattle.pair_search.proofs.first.first_near.Given as goal
 
 abbrev pub invariant-loop-group : goal.invariant-loop-group

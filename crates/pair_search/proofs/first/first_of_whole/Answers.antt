@@ -1,5 +1,4 @@
-use Rattle.std.proofs.Common.{arith, refl, sym, ◌∙◌, ◌+◌, Some}
-use Rattle.sep_parts.specs.Levels.{root}
+use Rattle.pair_search.proofs.Prelude.{arith, refl, sym, ◌∙◌, ◌+◌, Some, root}
 use Rattle.pair_search.proofs.Firsts.{found_first, none_first, none_next}
 use Rattle.pair_search.proofs.first.first_of_whole.Goals as goal
 

@@ -1,5 +1,4 @@
-use Rattle.sep_parts.specs.Levels.{root}
-use Rattle.pair_search.specs.Steps.{NoneFrom}
+use Rattle.pair_search.proofs.Prelude.{root, NoneFrom}
 use Rattle.pair_search.proofs.first.first_of_whole.Given as goal
 
 abbrev pub invariant-loop-dir : goal.invariant-loop-dir

@@ -1,8 +1,4 @@
-use Rattle.std.proofs.lemmas.Grind.{common_steps}
-use Rattle.std.proofs.Common.{refl, arith}
-use Rattle.std.proofs.lemmas.Result.{err_from_is_err_and}
-use Rattle.sep_parts.proofs.Orders.{first_ahead}
-use Rattle.pair_search.specs.Fleets.{best_nodes, slots_in}
+use Rattle.pair_search.proofs.Prelude.{common_steps, refl, arith, err_from_is_err_and, first_ahead, best_nodes, slots_in}
 use Rattle.pair_search.proofs.Fleets.{past, past_pair, pair_fits, stopped, count_fits, count_next}
 use Rattle.pair_search.proofs.fleet.count_all.Goals as goal
 

@@ -1,6 +1,4 @@
-use Rattle.std.proofs.Common.{◌≡◌, ◌+◌, List, []}
-use Rattle.sep_parts.specs.declared.slot.Slot.{Slot}
-use Rattle.pair_search.specs.Fleets.{nodes_in, slots_in}
+use Rattle.pair_search.proofs.Prelude.{◌≡◌, ◌+◌, List, [], Slot, nodes_in, slots_in}
 use Rattle.pair_search.proofs.Fleets.{IsPending, left}
 use Rattle.pair_search.proofs.fleet.count_all.Given as goal
 

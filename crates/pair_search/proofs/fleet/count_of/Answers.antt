@@ -1,5 +1,4 @@
-use Rattle.std.proofs.Common.{refl, Ok}
-use Rattle.fleet_curves.specs.Raised.{difference}
+use Rattle.pair_search.proofs.Prelude.{refl, Ok, difference}
 use Rattle.pair_search.proofs.Marks.{root_counted}
 use Rattle.pair_search.proofs.Fleets.{counted_found, uncounted_found}
 use Rattle.pair_search.proofs.fleet.count_of.Goals as goal

@@ -1,7 +1,4 @@
-use Rattle.std.proofs.Common.{subst}
-use Rattle.sep_parts.specs.declared.clearance.Clearance.{Clearance}
-use Rattle.sep_parts.specs.Directions.{IsClearance}
-use Rattle.pair_search.specs.Extents.{IsFar}
+use Rattle.pair_search.proofs.Prelude.{subst, Clearance, IsClearance, IsFar}
 use Rattle.pair_search.proofs.Axes.{far_separates}
 use Rattle.pair_search.proofs.fleet.is_far.Goals as goal
 

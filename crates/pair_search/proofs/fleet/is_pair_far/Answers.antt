@@ -1,8 +1,4 @@
-use Rattle.std.proofs.Common.{arith, get_or, subst}
-use Rattle.sep_parts.specs.declared.clearance.Clearance.{Clearance}
-use Rattle.sep_parts.specs.Directions.{IsClearance}
-use Rattle.pair_search.specs.declared.extents.Extent.{Extent}
-use Rattle.pair_search.specs.Extents.{IsFar, no_extent}
+use Rattle.pair_search.proofs.Prelude.{arith, get_or, subst, Clearance, IsClearance, Extent, IsFar, no_extent}
 use Rattle.pair_search.proofs.Axes.{far_separates}
 use Rattle.pair_search.proofs.fleet.is_pair_far.Goals as goal
 

@@ -1,8 +1,4 @@
-use Rattle.std.proofs.lemmas.Grind.{common_steps}
-use Rattle.std.proofs.Common.{refl, arith}
-use Rattle.std.proofs.lemmas.Result.{err_from_is_err_and}
-use Rattle.sep_parts.proofs.Orders.{first_ahead}
-use Rattle.pair_search.specs.Fleets.{slots_in}
+use Rattle.pair_search.proofs.Prelude.{common_steps, refl, arith, err_from_is_err_and, first_ahead, slots_in}
 use Rattle.pair_search.proofs.Fleets.{past, stopped, tree_next}
 use Rattle.pair_search.proofs.fleet.search_all.Goals as goal
 

@@ -1,6 +1,4 @@
-use Rattle.std.proofs.Common.{◌≡◌, List, ◌++◌, map}
-use Rattle.sep_parts.specs.declared.slot.Slot.{Slot}
-use Rattle.pair_search.specs.Fleets.{best_nodes, slots_in}
+use Rattle.pair_search.proofs.Prelude.{◌≡◌, List, ◌++◌, map, Slot, best_nodes, slots_in}
 use Rattle.pair_search.proofs.Fleets.{IsPending, left}
 use Rattle.pair_search.proofs.fleet.search_all.Given as goal
 

@@ -1,9 +1,4 @@
-use Rattle.std.proofs.Common.{◌≡◌, ◌+◌, ◌<◌, ◌≤ℤ◌, ◌<ℤ◌, ℤ, ℕ, pos, arith, rules, subst, length, FitsSigned, to_z, of_z}
-use Rattle.std.proofs.lemmas.Int.{to_z-of_z}
-use mir.Syntax.{w32}
-use Rattle.fleet_math.proofs.RingLemmas.{linear}
-use Rattle.pair_search.specs.Lanes.{IsLowAt}
-use Rattle.fleet_curves.proofs.Rows.{set_below}
+use Rattle.pair_search.proofs.Prelude.{◌≡◌, ◌+◌, ◌<◌, ◌≤ℤ◌, ◌<ℤ◌, ℤ, ℕ, pos, arith, rules, subst, length, FitsSigned, to_z, of_z, to_z-of_z, w32, linear, IsLowAt, set_below}
 use Rattle.pair_search.proofs.lanes.fill.Goals as goal
 
 pub loop-i-preserved : goal.loop-i-preserved

@@ -1,6 +1,4 @@
-use Rattle.std.proofs.Common.{◌≡◌, ℕ, ◌+◌, ◌<◌, pos, ◌≤ℤ◌, ◌<ℤ◌, length}
-use Rattle.fleet_math.specs.Bernstein.{at}
-use Rattle.pair_search.specs.Lanes.{IsLowAt}
+use Rattle.pair_search.proofs.Prelude.{◌≡◌, ℕ, ◌+◌, ◌<◌, pos, ◌≤ℤ◌, ◌<ℤ◌, length, at, IsLowAt}
 use Rattle.pair_search.proofs.lanes.fill.Given as goal
 
 abbrev pub invariant-loop-i : goal.invariant-loop-i

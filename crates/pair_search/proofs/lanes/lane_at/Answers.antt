@@ -1,9 +1,4 @@
-use Rattle.std.proofs.lemmas.Grind.{common_steps}
-use Rattle.std.proofs.Common.{◌≡◌, ◌*ℤ◌, ◌+ℤ◌, ◌∙◌, FitsSigned, refl, arith}
-use Rattle.std.proofs.lemmas.Int.{to_z-of_z}
-use mir.Syntax.{w32}
-use Rattle.fleet_math.specs.Bernstein.{at}
-use Rattle.pair_search.specs.Lanes.{lane_value}
+use Rattle.pair_search.proofs.Prelude.{common_steps, ◌≡◌, ◌*ℤ◌, ◌+ℤ◌, ◌∙◌, FitsSigned, refl, arith, to_z-of_z, w32, at, lane_value}
 use Rattle.pair_search.proofs.LaneLemmas.{lane_fits, lane_sum, point_fits, weight_fits}
 use Rattle.pair_search.proofs.lanes.lane_at.Goals as goal
 

@@ -1,6 +1,4 @@
-use Rattle.std.proofs.Common.{◌*ℤ◌, FitsSigned}
-use Rattle.std.proofs.lemmas.Int.{to_z-of_z}
-use mir.Syntax.{w32}
+use Rattle.pair_search.proofs.Prelude.{◌*ℤ◌, FitsSigned, to_z-of_z, w32}
 use Rattle.pair_search.proofs.LaneLemmas.{lane_fits, lane_product}
 use Rattle.pair_search.proofs.lanes.lane_times.Goals as goal
 

@@ -1,11 +1,4 @@
-use Rattle.std.proofs.Common.{◌≡◌, ◌≢◌, ℕ, ◌^◌, ◌<◌, ℤ, pos, ◌+ℤ◌, ◌*ℤ◌, ◌≤ℤ◌, arith, rules, refl, subst, ap, ◌∙◌, List, replicate, FitsSigned, to_z, of_z, below_more, lit<}
-use Rattle.std.proofs.lemmas.Int.{ints, to_z-of_z}
-use mir.Syntax.{w32, w64, w128}
-use Rattle.fleet_math.specs.Bernstein.{at}
-use Rattle.fleet_math.specs.Numbers.{IsBelow}
-use Rattle.bezier_core.proofs.EightLemmas.{below_at}
-use Rattle.sep_parts.specs.Directions.{direction_of, threshold, weights}
-use Rattle.pair_search.specs.Lanes.{slack_of}
+use Rattle.pair_search.proofs.Prelude.{◌≡◌, ◌≢◌, ℕ, ◌^◌, ◌<◌, ℤ, pos, ◌+ℤ◌, ◌*ℤ◌, ◌≤ℤ◌, arith, rules, refl, subst, ap, ◌∙◌, List, replicate, FitsSigned, to_z, of_z, below_more, lit<, ints, to_z-of_z, w32, w64, w128, at, IsBelow, below_at, direction_of, threshold, weights, slack_of}
 use Rattle.pair_search.proofs.LaneLemmas.{kept_lane, long_fits, low_fits, new_lane, ones_small, small_lane, weight_fits, zeros}
 use Rattle.pair_search.proofs.lanes.lanes_of.Goals as goal
 

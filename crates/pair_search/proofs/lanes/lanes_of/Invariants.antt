@@ -1,6 +1,4 @@
-use Rattle.std.proofs.Common.{◌≡◌, ℕ, ◌<◌, length}
-use Rattle.sep_parts.specs.Directions.{direction_of}
-use Rattle.pair_search.specs.Lanes.{IsLane, IsSmallLane}
+use Rattle.pair_search.proofs.Prelude.{◌≡◌, ℕ, ◌<◌, length, direction_of, IsLane, IsSmallLane}
 use Rattle.pair_search.proofs.lanes.lanes_of.Given as goal
 
 abbrev pub invariant-loop-i : goal.invariant-loop-i

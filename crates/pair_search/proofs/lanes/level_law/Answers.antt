@@ -1,5 +1,4 @@
-use Rattle.std.proofs.Common.{◌*◌, ◌^◌, arith}
-use Rattle.std.proofs.lemmas.Nat.{pow_pos}
+use Rattle.pair_search.proofs.Prelude.{◌*◌, ◌^◌, arith, pow_pos}
 use Rattle.sep_parts.proofs.Parts.{level_below}
 use Rattle.pair_search.proofs.lanes.level_law.Goals as goal
 

@@ -1,7 +1,4 @@
-use Rattle.std.proofs.lemmas.Grind.{common_steps}
-use Rattle.std.proofs.Common.{pos, lit<, arith}
-use Rattle.std.proofs.lemmas.Int.{to_z-of_z}
-use Rattle.bezier_core.proofs.EightLemmas.{below_at}
+use Rattle.pair_search.proofs.Prelude.{common_steps, pos, lit<, arith, to_z-of_z, below_at}
 use Rattle.pair_search.proofs.LaneLemmas.{long_fits, low_reach, low_small, low_told}
 use Rattle.pair_search.proofs.lanes.low_of.Goals as goal
 

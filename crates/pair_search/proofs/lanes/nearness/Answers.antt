@@ -1,7 +1,4 @@
-use Rattle.std.proofs.Common.{◌-ℤ◌, inl, inr, subst, ◌<ℤ◌, ℤ}
-use Rattle.std.proofs.lemmas.Int.{to_z-of_z}
-use mir.Syntax.{w32}
-use Rattle.fleet_math.specs.Bernstein.{at}
+use Rattle.pair_search.proofs.Prelude.{◌-ℤ◌, inl, inr, subst, ◌<ℤ◌, ℤ, to_z-of_z, w32, at}
 use Rattle.pair_search.proofs.LaneLemmas.{below_zero, less_fits, low_fits, value_fits}
 use Rattle.pair_search.proofs.lanes.nearness.Goals as goal
 

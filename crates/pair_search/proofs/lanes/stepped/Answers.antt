@@ -1,9 +1,4 @@
-use Rattle.std.proofs.lemmas.Grind.{common_steps}
-use Rattle.std.proofs.Common.{rules, subst, FitsSigned, ℕ, pos, arith}
-use Rattle.std.proofs.lemmas.Int.{to_z-of_z}
-use mir.Syntax.{w32, w64, w128}
-use Rattle.bezier_core.specs.Steps.{IsWithin}
-use Rattle.pair_search.specs.Lanes.{IsFloor, steps_of}
+use Rattle.pair_search.proofs.Prelude.{common_steps, rules, subst, FitsSigned, ℕ, pos, arith, to_z-of_z, w32, w64, w128, IsWithin, IsFloor, steps_of}
 use Rattle.pair_search.proofs.LaneLemmas.{floor_small, point_fits, value_short}
 use Rattle.pair_search.proofs.lanes.stepped.Goals.{After-floor_by, After-floor_short}
 use Rattle.pair_search.proofs.lanes.stepped.Goals as goal

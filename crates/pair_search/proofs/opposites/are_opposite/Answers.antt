@@ -1,6 +1,4 @@
-use Rattle.std.proofs.lemmas.Grind.{common_steps}
-use Rattle.std.proofs.Common.{arith}
-use Rattle.std.proofs.lemmas.Int.{to_z-of_z}
+use Rattle.pair_search.proofs.Prelude.{common_steps, arith, to_z-of_z}
 use Rattle.pair_search.proofs.LaneLemmas.{weight_fits}
 use Rattle.pair_search.proofs.opposites.are_opposite.Goals as goal
 

@@ -1,6 +1,4 @@
-use Rattle.std.proofs.lemmas.Grind.{common_steps}
-use Rattle.std.proofs.Common.{neg_ℤ, arith}
-use Rattle.std.proofs.lemmas.Int.{to_z-of_z}
+use Rattle.pair_search.proofs.Prelude.{common_steps, neg_ℤ, arith, to_z-of_z}
 use Rattle.pair_search.proofs.LaneLemmas.{low_fits}
 use Rattle.pair_search.proofs.OppositeLemmas.{high_fits, high_never, high_opposite}
 use Rattle.pair_search.proofs.opposites.high_of.Goals as goal

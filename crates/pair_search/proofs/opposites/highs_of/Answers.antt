@@ -1,8 +1,4 @@
-use Rattle.std.proofs.Common.{◌≡◌, ◌+◌, ◌-◌, ◌<◌, ℤ, ℕ, arith, refl, rules, subst, length, FitsSigned, to_z, of_z}
-use Rattle.std.proofs.lemmas.Int.{to_z-of_z}
-use mir.Syntax.{w32}
-use Rattle.pair_search.specs.Opposites.{IsHigh, IsSmallHigh}
-use Rattle.fleet_curves.proofs.Rows.{set_below}
+use Rattle.pair_search.proofs.Prelude.{◌≡◌, ◌+◌, ◌-◌, ◌<◌, ℤ, ℕ, arith, refl, rules, subst, length, FitsSigned, to_z, of_z, to_z-of_z, w32, IsHigh, IsSmallHigh, set_below}
 use Rattle.pair_search.proofs.LaneLemmas.{set_all}
 use Rattle.pair_search.proofs.OppositeLemmas.{high_fits, minus_small}
 use Rattle.pair_search.proofs.opposites.highs_of.Goals as goal

@@ -1,6 +1,4 @@
-use Rattle.std.proofs.Common.{◌≡◌, ℕ, ◌+◌, ◌-◌, ◌<◌, length}
-use Rattle.fleet_math.specs.Bernstein.{at}
-use Rattle.pair_search.specs.Opposites.{AreSmallHighs, IsHigh}
+use Rattle.pair_search.proofs.Prelude.{◌≡◌, ℕ, ◌+◌, ◌-◌, ◌<◌, length, at, AreSmallHighs, IsHigh}
 use Rattle.pair_search.proofs.opposites.highs_of.Given as goal
 
 abbrev pub invariant-loop-i : goal.invariant-loop-i

@@ -1,9 +1,4 @@
-use Rattle.std.proofs.lemmas.Grind.{common_steps}
-use Rattle.std.proofs.Common.{◌^◌, pos, arith}
-use Rattle.std.proofs.lemmas.Int.{to_z-of_z}
-use mir.Syntax.{w32}
-use Rattle.fleet_math.specs.Bernstein.{at}
-use Rattle.fleet_math.specs.Numbers.{IsBelow}
+use Rattle.pair_search.proofs.Prelude.{common_steps, ◌^◌, pos, arith, to_z-of_z, w32, at, IsBelow}
 use Rattle.pair_search.proofs.LaneLemmas.{low_fits, value_fits}
 use Rattle.pair_search.proofs.OppositeLemmas.{high_fits, high_moved, low_moved}
 use Rattle.pair_search.proofs.opposites.nearness.Goals as goal

@@ -1,6 +1,4 @@
-use Rattle.std.proofs.lemmas.Grind.{common_steps}
-use Rattle.std.proofs.Common.{pos, arith}
-use Rattle.std.proofs.lemmas.Int.{to_z-of_z}
+use Rattle.pair_search.proofs.Prelude.{common_steps, pos, arith, to_z-of_z}
 use Rattle.pair_search.proofs.LaneLemmas.{value_fits}
 use Rattle.pair_search.proofs.OppositeLemmas.{high_fits, high_less_fits, room_high}
 use Rattle.pair_search.proofs.opposites.room_below.Goals as goal

@@ -1,10 +1,4 @@
-use Rattle.std.proofs.lemmas.Grind.{common_steps}
-use Rattle.std.proofs.Common.{◌≡◌, ◌+◌, ◌<◌, ◌<ℤ◌, ℤ, ℕ, pos, arith, rules, subst, length, FitsSigned, to_z, of_z}
-use Rattle.std.proofs.lemmas.Int.{to_z-of_z}
-use mir.Syntax.{w32}
-use Rattle.pair_search.specs.Lanes.{IsLowAt}
-use Rattle.pair_search.specs.Opposites.{IsHighAt}
-use Rattle.fleet_curves.proofs.Rows.{set_below}
+use Rattle.pair_search.proofs.Prelude.{common_steps, ◌≡◌, ◌+◌, ◌<◌, ◌<ℤ◌, ℤ, ℕ, pos, arith, rules, subst, length, FitsSigned, to_z, of_z, to_z-of_z, w32, IsLowAt, IsHighAt, set_below}
 use Rattle.pair_search.proofs.opposites.weigh.Goals as goal
 
 pub loop-i-preserved : goal.loop-i-preserved

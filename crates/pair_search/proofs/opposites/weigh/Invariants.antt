@@ -1,7 +1,4 @@
-use Rattle.std.proofs.Common.{◌≡◌, ℕ, ◌+◌, ◌<◌, pos, ◌<ℤ◌, length}
-use Rattle.fleet_math.specs.Bernstein.{at}
-use Rattle.pair_search.specs.Lanes.{IsLowAt}
-use Rattle.pair_search.specs.Opposites.{IsHighAt}
+use Rattle.pair_search.proofs.Prelude.{◌≡◌, ℕ, ◌+◌, ◌<◌, pos, ◌<ℤ◌, length, at, IsLowAt, IsHighAt}
 use Rattle.pair_search.proofs.opposites.weigh.Given as goal
 
 abbrev pub invariant-loop-i : goal.invariant-loop-i

@@ -1,15 +1,7 @@
-use Rattle.std.proofs.lemmas.Grind.{common_steps}
-use Rattle.std.proofs.Common.{◌∷◌, sym, ◌∙◌, subst, refl, drop, List, arith}
-use Rattle.bezier_core.specs.declared.Bez.{Bez}
-use Rattle.sep_parts.specs.declared.stack.Level.{Level}
-use Rattle.sep_parts.specs.Levels.{IsStack, root}
-use Rattle.sep_parts.proofs.Stacks.{first_stack}
-use Rattle.pair_search.specs.Search.{first_by}
-use Rattle.pair_search.specs.Steps.{marked}
+use Rattle.pair_search.proofs.Prelude.{common_steps, ◌∷◌, sym, ◌∙◌, subst, refl, drop, List, arith, Bez, Level, IsStack, root, first_stack, first_by, marked, some_next}
 use Rattle.pair_search.proofs.Halves.{left_has, right_has}
 use Rattle.pair_search.proofs.Marks.{has_counted, has_there, count_begun, count_blocked, count_ended, count_past}
 use Rattle.pair_search.proofs.Trees.{begun, less_pending}
-use Rattle.sep_parts.proofs.Stacks.{some_next}
 use Rattle.pair_search.proofs.Waits.{next_shallow}
 use Rattle.pair_search.proofs.shape.count_with.Goals as goal
 

@@ -1,5 +1,4 @@
-use Rattle.sep_parts.specs.Levels.{IsStack, places_of}
-use Rattle.pair_search.specs.Search.{first_by}
+use Rattle.pair_search.proofs.Prelude.{IsStack, places_of, first_by}
 use Rattle.pair_search.proofs.Marks.{IsCount}
 use Rattle.pair_search.proofs.Trees.{work}
 use Rattle.pair_search.proofs.shape.count_with.Given as goal

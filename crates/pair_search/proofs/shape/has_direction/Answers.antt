@@ -1,4 +1,4 @@
-use Rattle.std.proofs.Common.{arith, sym, ◌∙◌}
+use Rattle.pair_search.proofs.Prelude.{arith, sym, ◌∙◌}
 use Rattle.pair_search.proofs.Marks.{some_there}
 use Rattle.pair_search.proofs.shape.has_direction.Goals as goal
 

@@ -1,5 +1,4 @@
-use Rattle.std.proofs.Common.{◌+◌, rules, FitsSigned}
-use mir.Syntax.{w32}
+use Rattle.pair_search.proofs.Prelude.{◌+◌, rules, FitsSigned, w32}
 use Rattle.pair_search.proofs.LaneLemmas.{told_less}
 use Rattle.pair_search.proofs.OppositeLemmas.{low_pair, neither_near}
 use Rattle.pair_search.proofs.some.some_among.Goals as goal

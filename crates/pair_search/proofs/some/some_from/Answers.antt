@@ -1,5 +1,4 @@
-use Rattle.std.proofs.Common.{◌+◌, Option, ℕ, subst}
-use Rattle.pair_search.specs.Steps.{FindsOne}
+use Rattle.pair_search.proofs.Prelude.{◌+◌, Option, ℕ, subst, FindsOne}
 use Rattle.pair_search.proofs.OppositeLemmas.{neither_more}
 use Rattle.pair_search.proofs.some.some_from.Goals as goal
 

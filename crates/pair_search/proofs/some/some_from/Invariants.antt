@@ -1,5 +1,4 @@
-use Rattle.std.proofs.Common.{◌+◌}
-use Rattle.pair_search.specs.Steps.{NeitherFrom}
+use Rattle.pair_search.proofs.Prelude.{◌+◌, NeitherFrom}
 use Rattle.pair_search.proofs.some.some_from.Given as goal
 
 abbrev pub invariant-loop-i : goal.invariant-loop-i

@@ -1,5 +1,4 @@
-use Rattle.std.proofs.Common.{◌+◌, ◌*◌, arith, subst, Option, ℕ}
-use Rattle.pair_search.specs.Steps.{FindsAmong}
+use Rattle.pair_search.proofs.Prelude.{◌+◌, ◌*◌, arith, subst, Option, ℕ, FindsAmong}
 use Rattle.pair_search.proofs.OppositeLemmas.{found_some, neither_on, none_of_halves}
 use Rattle.pair_search.proofs.some.some_near.Goals as goal
 

@@ -1,5 +1,4 @@
-use Rattle.std.proofs.Common.{◌*◌}
-use Rattle.pair_search.specs.Steps.{NeitherFrom}
+use Rattle.pair_search.proofs.Prelude.{◌*◌, NeitherFrom}
 use Rattle.pair_search.proofs.some.some_near.Given as goal
 
 abbrev pub invariant-loop-group : goal.invariant-loop-group

@@ -1,5 +1,4 @@
-use Rattle.std.proofs.Common.{◌≡◌, ℕ, ◌+◌, ◌-◌, false, arith, length, sym, ◌∙◌, subst}
-use Rattle.pair_search.specs.Steps.{does_separate}
+use Rattle.pair_search.proofs.Prelude.{◌≡◌, ℕ, ◌+◌, ◌-◌, false, arith, length, sym, ◌∙◌, subst, does_separate}
 use Rattle.pair_search.proofs.some.some_of.Goals as goal
 
 pub returns : goal.returns

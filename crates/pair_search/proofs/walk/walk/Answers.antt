@@ -1,10 +1,4 @@
-use Rattle.std.proofs.Common.{◌∷◌, ◌++◌, [], sym, ◌∙◌, ap, refl, arith, List, Some}
-use Rattle.bezier_core.specs.declared.Bez.{Bez}
-use Rattle.sep_parts.specs.Levels.{root}
-use Rattle.sep_parts.specs.declared.node.Node.{Node}
-use Rattle.sep_parts.specs.declared.node.Node.TheVariants.{Leaf}
-use Rattle.sep_parts.specs.declared.stack.Level.{Level}
-use Rattle.pair_search.specs.Search.{first_by}
+use Rattle.pair_search.proofs.Prelude.{◌∷◌, ◌++◌, [], sym, ◌∙◌, ap, refl, arith, List, Some, Bez, root, Node, Leaf, Level, first_by}
 use Rattle.pair_search.proofs.Halves.{left_has, right_has}
 use Rattle.pair_search.proofs.Trees.{begun, past_pending, blocked_pending, ended_pending}
 use Rattle.pair_search.proofs.walk.walk.Goals as goal

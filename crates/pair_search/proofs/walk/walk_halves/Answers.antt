@@ -1,15 +1,6 @@
-use Rattle.std.proofs.lemmas.Grind.{common_steps}
-use Rattle.std.proofs.Common.{sym, ◌∙◌, subst, refl, ap, arith, drop, List, [], ◌∷◌, ◌++◌}
-use Rattle.sep_parts.specs.declared.stack.Level.{Level}
-use Rattle.bezier_core.specs.declared.Bez.{Bez}
-use Rattle.sep_parts.specs.Trees.{IsShallow}
-use Rattle.sep_parts.specs.Levels.{IsStack, root}
-use Rattle.sep_parts.specs.declared.node.Node.{Node}
-use Rattle.sep_parts.specs.declared.node.Node.TheVariants.{Split}
-use Rattle.pair_search.specs.Search.{first_by}
+use Rattle.pair_search.proofs.Prelude.{common_steps, sym, ◌∙◌, subst, refl, ap, arith, drop, List, [], ◌∷◌, ◌++◌, Level, Bez, IsShallow, IsStack, root, Node, Split, first_by, first_stack, next_same, some_next}
 use Rattle.pair_search.proofs.Halves.{left_has, right_has}
 use Rattle.pair_search.proofs.Trees.{begun, less_pending, past_pending, blocked_pending, ended_pending}
-use Rattle.sep_parts.proofs.Stacks.{first_stack, next_same, some_next}
 use Rattle.pair_search.proofs.Waits.{next_shallow}
 use Rattle.pair_search.proofs.walk.walk_halves.Goals as goal
 

@@ -1,8 +1,4 @@
-use Rattle.std.proofs.lemmas.Grind.{common_steps}
-use Rattle.std.proofs.Common.{rules, ℤ, pos, ◌*ℤ◌, ◌≤ℤ◌, ◌<ℤ◌, ◌≡◌, FitsSigned, arith}
-use Rattle.std.proofs.lemmas.Int.{to_z-of_z}
-use mir.Syntax.{w128}
-use Rattle.sep_parts.specs.Directions.{for_ellipsoids}
+use Rattle.sep_parts.proofs.Prelude.{common_steps, rules, ℤ, pos, ◌*ℤ◌, ◌≤ℤ◌, ◌<ℤ◌, ◌≡◌, FitsSigned, arith, to_z-of_z, w128, for_ellipsoids}
 use Rattle.sep_parts.proofs.Limits.{ellipsoids_small}
 use Rattle.sep_parts.proofs.Roots.{root_of}
 use Rattle.sep_parts.proofs.directions.for_ellipsoids.Goals as goal

@@ -1,6 +1,4 @@
-use Rattle.std.proofs.lemmas.Grind.{common_steps}
-use Rattle.std.proofs.Common.{lit<, arith}
-use Rattle.bezier_core.proofs.EightLemmas.{below_at}
+use Rattle.sep_parts.proofs.Prelude.{common_steps, lit<, arith, below_at}
 use Rattle.sep_parts.proofs.Limits.{weight_kept}
 use Rattle.sep_parts.proofs.directions.for_reach.Goals as goal
 

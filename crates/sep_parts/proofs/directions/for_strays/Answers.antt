@@ -1,6 +1,4 @@
-use Rattle.std.proofs.lemmas.Grind.{common_steps}
-use Rattle.std.proofs.Common.{pos, arith}
-use Rattle.std.proofs.lemmas.Int.{to_z-of_z}
+use Rattle.sep_parts.proofs.Prelude.{common_steps, pos, arith, to_z-of_z}
 use Rattle.sep_parts.proofs.Limits.{strays_small}
 use Rattle.sep_parts.proofs.directions.for_strays.Goals as goal
 

@@ -1,7 +1,4 @@
-use Rattle.std.proofs.Common.{rules, arith, refl, ap, sym, ◌∙◌, ◌≡◌, ℤ, pos, ◌-ℤ◌, ◌*ℤ◌, ◌≤ℤ◌, ◌<ℤ◌, FitsSigned}
-use Rattle.std.proofs.lemmas.Int.{ints, to_z-of_z}
-use mir.Syntax.{w128}
-use Rattle.sep_parts.specs.Directions.{root_reaching}
+use Rattle.sep_parts.proofs.Prelude.{rules, arith, refl, ap, sym, ◌∙◌, ◌≡◌, ℤ, pos, ◌-ℤ◌, ◌*ℤ◌, ◌≤ℤ◌, ◌<ℤ◌, FitsSigned, ints, to_z-of_z, w128, root_reaching}
 use Rattle.sep_parts.proofs.Roots.{reaching_none, root_of}
 use Rattle.sep_parts.proofs.directions.root_reaching.Goals as goal
 

@@ -1,4 +1,4 @@
-use Rattle.std.proofs.Common.{refl}
+use Rattle.sep_parts.proofs.Prelude.{refl}
 use Rattle.sep_parts.specs.declared.directions.TheConstants.{DIRECTIONS, WIDE}
 use Rattle.sep_parts.proofs.Table.{small_table}
 use Rattle.sep_parts.proofs.directions.table_law.Goals as goal

@@ -1,6 +1,4 @@
-use Rattle.std.proofs.Common.{rules, ◌≡◌, ℕ, ◌≤◌, List, ℤ, length, take, map, arith, sym, ◌∙◌, ap}
-use Rattle.std.proofs.lemmas.List.{take_all}
-use Rattle.sep_parts.specs.Directions.{threshold}
+use Rattle.sep_parts.proofs.Prelude.{rules, ◌≡◌, ℕ, ◌≤◌, List, ℤ, length, take, map, arith, sym, ◌∙◌, ap, take_all, threshold}
 use Rattle.sep_parts.proofs.Limits.{thresholds_small}
 use Rattle.sep_parts.proofs.directions.thresholds.Goals as goal
 

@@ -1,5 +1,4 @@
-use Rattle.std.proofs.Common.{◌≡◌, length, take, map}
-use Rattle.sep_parts.specs.Directions.{threshold}
+use Rattle.sep_parts.proofs.Prelude.{◌≡◌, length, take, map, threshold}
 use Rattle.sep_parts.proofs.directions.thresholds.Given as goal
 
 abbrev pub invariant-loop-k : goal.invariant-loop-k

@@ -1,5 +1,4 @@
-use Rattle.std.proofs.Common.{◌≡◌, ◌∙◌, ◌-◌, suc, sym, ap, arith}
-use Rattle.sep_parts.specs.Steps.{begin_of}
+use Rattle.sep_parts.proofs.Prelude.{◌≡◌, ◌∙◌, ◌-◌, suc, sym, ap, arith, begin_of}
 use Rattle.sep_parts.proofs.Cuts.{begin-later}
 use Rattle.sep_parts.proofs.forest.begin.Goals as goal
 

@@ -1,8 +1,4 @@
-use Rattle.std.proofs.Common.{arith, ◌≡◌, refl, subst, ℤ, ◌≤ℤ◌, to_z, of_z}
-use Rattle.std.proofs.lemmas.Int.{to_z-of_z}
-use mir.Syntax.{w64}
-use Rattle.bezier_core.specs.Along.{along_value}
-use Rattle.fleet_curves.specs.Raised.{curves_of}
+use Rattle.sep_parts.proofs.Prelude.{arith, ◌≡◌, refl, subst, ℤ, ◌≤ℤ◌, to_z, of_z, to_z-of_z, w64, along_value, curves_of}
 use Rattle.sep_parts.proofs.Lows.{ends_and_others, one_refuses}
 use Rattle.sep_parts.proofs.narrow.all_reach_rows.Goals as goal
 

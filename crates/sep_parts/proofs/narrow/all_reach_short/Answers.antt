@@ -1,7 +1,4 @@
-use Rattle.std.proofs.Common.{◌≡◌, refl, subst, ℤ, ◌≤ℤ◌, to_z, of_z}
-use Rattle.std.proofs.lemmas.Int.{to_z-of_z}
-use mir.Syntax.{w128}
-use Rattle.bezier_core.specs.Along.{along_value}
+use Rattle.sep_parts.proofs.Prelude.{◌≡◌, refl, subst, ℤ, ◌≤ℤ◌, to_z, of_z, to_z-of_z, w128, along_value}
 use Rattle.sep_parts.proofs.Lows.{ends_and_others}
 use Rattle.sep_parts.proofs.narrow.all_reach_short.Goals as goal
 

@@ -1,9 +1,4 @@
-use Rattle.std.proofs.lemmas.Grind.{common_steps}
-use Rattle.std.proofs.Common.{rules, arith, pos, FitsSigned}
-use Rattle.std.proofs.lemmas.Int.{to_z-of_z}
-use mir.Syntax.{w64}
-use Rattle.fleet_math.specs.Numbers.{IsBelow}
-use Rattle.fleet_curves.proofs.Small.{three}
+use Rattle.sep_parts.proofs.Prelude.{common_steps, rules, arith, pos, FitsSigned, to_z-of_z, w64, IsBelow, three}
 use Rattle.sep_parts.proofs.NarrowLemmas.{narrow_kept}
 use Rattle.sep_parts.proofs.Entries.{entry_fits, entry_small, told_three}
 use Rattle.sep_parts.proofs.narrow.narrow_weights.Goals as goal

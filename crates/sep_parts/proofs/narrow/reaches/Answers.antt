@@ -1,12 +1,5 @@
-use Rattle.std.proofs.lemmas.Grind.{common_steps}
-use Rattle.std.proofs.Common.{◌≡◌, ◌^◌, ℤ, ◌+ℤ◌, ◌*ℤ◌, FitsSigned, lit<, arith}
-use Rattle.std.proofs.lemmas.Int.{to_z-of_z}
-use Rattle.fleet_math.specs.Bernstein.{at}
-use Rattle.fleet_math.specs.Numbers.{IsBelow}
-use Rattle.bezier_core.specs.Along.{along_value, controls}
-use Rattle.bezier_core.proofs.EightLemmas.{below_at, controls_below}
+use Rattle.sep_parts.proofs.Prelude.{common_steps, ◌≡◌, ◌^◌, ℤ, ◌+ℤ◌, ◌*ℤ◌, FitsSigned, lit<, arith, to_z-of_z, at, IsBelow, along_value, controls, below_at, controls_below, w64, w128}
 use Rattle.sep_parts.proofs.NarrowLemmas.{narrow_sum as sum_fits, narrow_weight_fits as weight_fits, narrow_fits as product_fits, narrow_value_fits as value_fits, reach_told}
-use mir.Syntax.{w64, w128}
 use Rattle.sep_parts.proofs.narrow.reaches.Goals as goal
 
 pub weighted-x-requires : goal.weighted-x-requires

@@ -1,9 +1,4 @@
-use Rattle.std.proofs.Common.{rules, ◌≡◌, ◌↔◌, ◌≤ℤ◌, ◌+ℤ◌, ◌*ℤ◌, ℕ, ℤ, [], List, FitsSigned, IsTrue, get_or, ap, sym, subst}
-use Rattle.std.proofs.lemmas.Int.{to_z-of_z}
-use mir.Syntax.{w32, w64}
-use Rattle.fleet_math.specs.Bernstein.{at}
-use Rattle.bezier_core.specs.Along.{along_value, controls}
-use Rattle.fleet_curves.specs.Raised.{curves_of}
+use Rattle.sep_parts.proofs.Prelude.{rules, ◌≡◌, ◌↔◌, ◌≤ℤ◌, ◌+ℤ◌, ◌*ℤ◌, ℕ, ℤ, [], List, FitsSigned, IsTrue, get_or, ap, sym, subst, to_z-of_z, w32, w64, at, along_value, controls, curves_of}
 use Rattle.fleet_curves.proofs.Rows.{controls_row}
 use Rattle.sep_parts.proofs.narrow.reaches_rows.Goals as goal
 

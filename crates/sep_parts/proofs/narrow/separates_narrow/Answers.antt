@@ -1,9 +1,4 @@
-use Rattle.std.proofs.lemmas.Grind.{common_steps}
-use Rattle.std.proofs.Common.{◌≡◌, FitsSigned, rules, ◌∙◌, ap, ℤ, to_z, of_z, arith}
-use Rattle.std.proofs.lemmas.Int.{to_z-of_z}
-use mir.Syntax.{w64, w128}
-use Rattle.sep_parts.specs.Directions.{weights}
-use Rattle.sep_parts.specs.Separates.{least_value}
+use Rattle.sep_parts.proofs.Prelude.{common_steps, ◌≡◌, FitsSigned, rules, ◌∙◌, ap, ℤ, to_z, of_z, arith, to_z-of_z, w64, w128, weights, least_value}
 use Rattle.sep_parts.proofs.Lows.{reach_same}
 use Rattle.sep_parts.proofs.NarrowLemmas.{narrow_least}
 use Rattle.sep_parts.proofs.narrow.separates_narrow.Goals as goal

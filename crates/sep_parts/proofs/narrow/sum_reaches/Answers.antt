@@ -1,11 +1,5 @@
-use Rattle.std.proofs.lemmas.Grind.{common_steps}
-use Rattle.std.proofs.Common.{◌≡◌, ℕ, ℤ, List, All, ◌+ℤ◌, ◌*ℤ◌, FitsSigned, lit<, arith}
-use Rattle.std.proofs.lemmas.Int.{to_z-of_z}
-use Rattle.fleet_math.specs.Bernstein.{at}
-use Rattle.fleet_math.specs.Numbers.{IsBelow}
-use Rattle.bezier_core.proofs.EightLemmas.{below_at}
+use Rattle.sep_parts.proofs.Prelude.{common_steps, ◌≡◌, ℕ, ℤ, List, All, ◌+ℤ◌, ◌*ℤ◌, FitsSigned, lit<, arith, to_z-of_z, at, IsBelow, below_at, w32, w64}
 use Rattle.sep_parts.proofs.NarrowLemmas.{narrow_fits, narrow_kept, narrow_sum, narrow_weight_fits, reach_told}
-use mir.Syntax.{w32, w64}
 use Rattle.sep_parts.proofs.narrow.sum_reaches.Goals as goal
 
 -- a weight is small

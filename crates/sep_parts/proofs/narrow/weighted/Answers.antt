@@ -1,6 +1,4 @@
-use Rattle.std.proofs.lemmas.Grind.{common_steps}
-use Rattle.std.proofs.Common.{arith}
-use Rattle.std.proofs.lemmas.Int.{to_z-of_z}
+use Rattle.sep_parts.proofs.Prelude.{common_steps, arith, to_z-of_z}
 use Rattle.sep_parts.proofs.NarrowLemmas.{narrow_fits, narrow_product, narrow_value}
 use Rattle.sep_parts.proofs.narrow.weighted.Goals as goal
 

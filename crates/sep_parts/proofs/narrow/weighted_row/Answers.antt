@@ -1,6 +1,4 @@
-use Rattle.std.proofs.lemmas.Grind.{common_steps}
-use Rattle.std.proofs.Common.{arith}
-use Rattle.std.proofs.lemmas.Int.{to_z-of_z}
+use Rattle.sep_parts.proofs.Prelude.{common_steps, arith, to_z-of_z}
 use Rattle.sep_parts.proofs.NarrowLemmas.{narrow_fits, narrow_weight_fits, row_fits, row_product}
 use Rattle.sep_parts.proofs.narrow.weighted_row.Goals as goal
 

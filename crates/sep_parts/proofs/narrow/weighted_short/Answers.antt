@@ -1,6 +1,4 @@
-use Rattle.std.proofs.lemmas.Grind.{common_steps}
-use Rattle.std.proofs.Common.{arith}
-use Rattle.std.proofs.lemmas.Int.{to_z-of_z}
+use Rattle.sep_parts.proofs.Prelude.{common_steps, arith, to_z-of_z}
 use Rattle.sep_parts.proofs.NarrowLemmas.{short_product, short_told, short_value}
 use Rattle.sep_parts.proofs.narrow.weighted_short.Goals as goal
 

@@ -1,5 +1,4 @@
-use Rattle.std.proofs.Common.{◌∙◌, ap}
-use Rattle.sep_parts.specs.Trees.{spelled_tree}
+use Rattle.sep_parts.proofs.Prelude.{◌∙◌, ap, spelled_tree}
 use Rattle.sep_parts.proofs.Trees.{tree_back, tree_told}
 use Rattle.sep_parts.proofs.node.tree_law.Goals as goal
 

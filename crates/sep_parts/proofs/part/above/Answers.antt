@@ -1,6 +1,4 @@
-use Rattle.std.proofs.lemmas.Grind.{common_steps}
-use Rattle.std.proofs.Common.{tests, int_le, to_z, of_z, arith}
-use Rattle.std.proofs.lemmas.Int.{to_z-of_z}
+use Rattle.sep_parts.proofs.Prelude.{common_steps, tests, int_le, to_z, of_z, arith, to_z-of_z}
 use Rattle.std.proofs.lemmas.Iterator.{YieldsList-from_slice}
 use Rattle.std.proofs.lemmas.Iterator.Search.{all_from_yields_List}
 use Rattle.sep_parts.proofs.Lows.{all_above}

@@ -1,8 +1,4 @@
-use Rattle.std.proofs.Common.{FitsSigned, ◌∙◌, ap, List, ℤ, int_lt}
-use Rattle.std.specs.List.{position}
-use Rattle.std.proofs.lemmas.Int.{to_z-of_z}
-use mir.Syntax.{w128}
-use Rattle.sep_parts.specs.Separates.{first_low, least_value}
+use Rattle.sep_parts.proofs.Prelude.{FitsSigned, ◌∙◌, ap, List, ℤ, int_lt, position, to_z-of_z, w128, first_low, least_value}
 use Rattle.sep_parts.proofs.part.low_control.Goals as goal
 
 pub returns : goal.returns

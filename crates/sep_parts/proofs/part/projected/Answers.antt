@@ -1,4 +1,4 @@
-use Rattle.sep_parts.specs.Directions.{weights}
+use Rattle.sep_parts.proofs.Prelude.{weights}
 use Rattle.sep_parts.proofs.Lows.{wider}
 use Rattle.sep_parts.proofs.Weighted.{along_small}
 use Rattle.sep_parts.proofs.part.projected.Goals as goal

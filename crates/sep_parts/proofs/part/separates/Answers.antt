@@ -1,8 +1,4 @@
-use Rattle.std.proofs.Common.{◌≡◌, FitsSigned, rules, ◌∙◌, to_z, of_z}
-use Rattle.std.proofs.lemmas.Int.{to_z-of_z}
-use mir.Syntax.{w128}
-use Rattle.sep_parts.specs.Directions.{weights}
-use Rattle.sep_parts.specs.Separates.{least_value}
+use Rattle.sep_parts.proofs.Prelude.{◌≡◌, FitsSigned, rules, ◌∙◌, to_z, of_z, to_z-of_z, w128, weights, least_value}
 use Rattle.sep_parts.proofs.Lows.{reach_same}
 use Rattle.sep_parts.proofs.part.separates.Goals as goal
 

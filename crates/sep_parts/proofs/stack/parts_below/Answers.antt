@@ -1,6 +1,6 @@
 use Rattle.sep_parts.proofs.Lows.{wide_enough}
 use Rattle.sep_parts.proofs.Parts.{left_level, level_halved, level_small, right_level}
-use Rattle.sep_parts.specs.Levels.{left_half, right_half}
+use Rattle.sep_parts.proofs.Prelude.{left_half, right_half}
 use Rattle.sep_parts.proofs.stack.parts_below.Goals as goal
 
 pub halves_short-requires : goal.halves_short-requires

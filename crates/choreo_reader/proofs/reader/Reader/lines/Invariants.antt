@@ -1,9 +1,4 @@
-use Rattle.std.proofs.Common.{◌≡◌, ◌+◌, ◌≤◌, length}
-use Rattle.text_lines.specs.declared.token.Comments.TheVariants.{FromHash}
-use Rattle.text_lines.specs.Lines.{lines_of}
-use Rattle.text_lines.specs.Words.{numbered}
-use Rattle.choreo_reader.specs.Reading.{lines_step}
-use Rattle.choreo_reader.specs.Reader.{built_of}
+use Rattle.choreo_reader.proofs.Prelude.{◌≡◌, ◌+◌, ◌≤◌, length, FromHash, lines_of, numbered, lines_step, built_of}
 use Rattle.choreo_reader.proofs.reader.Reader.lines.Given as goal
 
 abbrev pub invariant-lines : goal.invariant-lines

@@ -1,4 +1,4 @@
-use Rattle.std.proofs.Common.{◌∙◌}
+use Rattle.cue_grid.proofs.Prelude.{◌∙◌}
 use Rattle.cue_grid.proofs.Numbering.{place_is}
 use Rattle.cue_grid.proofs.lookup.Lookup.find_number.Goals as goal
 

@@ -1,7 +1,4 @@
-use Rattle.std.proofs.Common.{refl, sym, ap, subst, ◌∙◌, Some, None, vec_items}
-use Rattle.std.specs.Option.{option_copied}
-use Rattle.cue_grid.specs.Names.{formation_named}
-use Rattle.cue_grid.specs.Marks.{IsPlaced}
+use Rattle.cue_grid.proofs.Prelude.{refl, sym, ap, subst, ◌∙◌, Some, None, vec_items, option_copied, formation_named, IsPlaced}
 use Rattle.cue_grid.proofs.Tables.{no_formation, got}
 use Rattle.cue_grid.proofs.Numbering.{places_found}
 use Rattle.cue_grid.proofs.lookup.Lookup.find_places.Goals as goal

@@ -1,6 +1,4 @@
-use Rattle.std.proofs.Common.{sym, ap, ◌∙◌}
-use Rattle.std.specs.Option.{option_copied}
-use Rattle.choreo_show.specs.declared.show.Formation.{Formation}
+use Rattle.cue_grid.proofs.Prelude.{sym, ap, ◌∙◌, option_copied, Formation}
 use Rattle.cue_grid.proofs.Tables.{not_before, is_before}
 use Rattle.cue_grid.proofs.lookup.Lookup.has_formation_before.Goals as goal
 

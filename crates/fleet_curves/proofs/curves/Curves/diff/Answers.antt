@@ -1,5 +1,4 @@
-use Rattle.std.proofs.Common.{◌∙◌, refl}
-use Rattle.fleet_curves.specs.Raised.{difference}
+use Rattle.fleet_curves.proofs.Prelude.{◌∙◌, refl, difference}
 use Rattle.fleet_curves.proofs.curves.Curves.diff.Goals as goal
 
 pub returns : goal.returns

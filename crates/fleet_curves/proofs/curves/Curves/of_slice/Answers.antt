@@ -1,11 +1,4 @@
-use Rattle.std.proofs.lemmas.Grind.{common_steps}
-use Rattle.std.proofs.Common.{◌≡◌, refl, ℕ, All, length, ap, subst, sym, ◌∙◌, List, arith}
-use Rattle.std.specs.List.{flat_map}
-use Rattle.std.proofs.lemmas.List.{take_all}
-use Rattle.bezier_core.specs.declared.Bez.{Bez}
-use Rattle.traj_codec.specs.declared.traj.Traj.{Traj}
-use Rattle.fleet_curves.specs.Raised.{raised_traj, cues_in, raised_of}
-use Rattle.fleet_curves.specs.Steps.{IsFormed, all_curves}
+use Rattle.fleet_curves.proofs.Prelude.{common_steps, ◌≡◌, refl, ℕ, All, length, ap, subst, sym, ◌∙◌, List, arith, flat_map, take_all, Bez, Traj, raised_traj, cues_in, raised_of, IsFormed, all_curves}
 use Rattle.fleet_curves.proofs.Fleets.{fleet_more, fleet_held, first_cues, first_cues_in, all_more}
 use Rattle.fleet_curves.proofs.Standing.{stands}
 use Rattle.fleet_curves.proofs.curves.Curves.of_slice.Goals as goal

@@ -1,8 +1,4 @@
-use Rattle.std.proofs.Common.{◌≡◌, take, All}
-use Rattle.std.specs.List.{flat_map}
-use Rattle.traj_codec.specs.declared.traj.Traj.{Traj}
-use Rattle.fleet_curves.specs.Raised.{raised_traj}
-use Rattle.fleet_curves.specs.Steps.{IsFormed, AreSmallCurves, all_curves}
+use Rattle.fleet_curves.proofs.Prelude.{◌≡◌, take, All, flat_map, Traj, raised_traj, IsFormed, AreSmallCurves, all_curves}
 use Rattle.fleet_curves.proofs.curves.Curves.of_slice.Given as goal
 
 abbrev pub invariant-loop-t : goal.invariant-loop-t

@@ -1,6 +1,4 @@
-use Rattle.std.proofs.Common.{◌^◌, ◌∙◌, sym, subst, All, List}
-use Rattle.bezier_core.specs.declared.Bez.{Bez}
-use Rattle.fleet_math.specs.Numbers.{IsBelow}
+use Rattle.fleet_curves.proofs.Prelude.{◌^◌, ◌∙◌, sym, subst, All, List, Bez, IsBelow}
 use Rattle.fleet_curves.proofs.curves.Curves.one.Goals as goal
 
 pub returns-clause-small : goal.returns-clause-small

@@ -1,6 +1,4 @@
-use Rattle.std.proofs.Common.{◌+◌, ◌*◌, arith, []}
-use Rattle.std.proofs.lemmas.List.Elements.{All-get_or}
-use Rattle.fleet_curves.specs.Steps.{AreSmallCurves, all_curves}
+use Rattle.fleet_curves.proofs.Prelude.{◌+◌, ◌*◌, arith, [], All-get_or, AreSmallCurves, all_curves}
 use Rattle.fleet_curves.proofs.curves.Curves.rows.Goals as goal
 
 pub returns-clause-small : goal.returns-clause-small

@@ -1,4 +1,4 @@
-use Rattle.std.proofs.Common.{rules, ◌≡◌, length}
+use Rattle.fleet_curves.proofs.Prelude.{rules, ◌≡◌, length}
 use Rattle.fleet_curves.proofs.Rows.{rows_raised}
 use Rattle.fleet_curves.proofs.difference.Difference.of_rows.Goals as goal
 

@@ -1,5 +1,4 @@
-use Rattle.std.proofs.Common.{List, length, ap, arith}
-use Rattle.sep_parts.specs.declared.node.Node.{Node}
+use Rattle.sep_parts.proofs.Prelude.{List, length, ap, arith, Node}
 use Rattle.sep_parts.proofs.Cuts.{length-cut}
 use Rattle.sep_parts.proofs.forest.Forest.len.Goals as goal
 

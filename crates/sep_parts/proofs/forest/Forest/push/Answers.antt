@@ -1,7 +1,4 @@
-use Rattle.std.proofs.lemmas.Grind.{common_steps}
-use Rattle.std.proofs.Common.{◌≡◌, ◌∙◌, ◌+◌, ◌++◌, ◌∷◌, [], ℕ, List, length, ap, arith}
-use Rattle.std.proofs.lemmas.List.{length-append}
-use Rattle.sep_parts.specs.declared.node.Node.{Node}
+use Rattle.sep_parts.proofs.Prelude.{common_steps, ◌≡◌, ◌∙◌, ◌+◌, ◌++◌, ◌∷◌, [], ℕ, List, length, ap, arith, length-append, Node}
 use Rattle.sep_parts.proofs.Cuts.{cut-more, ends-more}
 use Rattle.sep_parts.proofs.forest.Forest.push.Goals as goal
 use Rattle.sep_parts.proofs.forest.Forest.push.Goals.{After-push_reserved}

@@ -1,5 +1,4 @@
-use Rattle.std.proofs.Common.{◌∙◌, [], List, get_or, sym, ap}
-use Rattle.sep_parts.specs.declared.node.Node.{Node}
+use Rattle.sep_parts.proofs.Prelude.{◌∙◌, [], List, get_or, sym, ap, Node}
 use Rattle.sep_parts.proofs.Cuts.{piece-of}
 use Rattle.sep_parts.proofs.forest.Forest.tree.Goals as goal
 

@@ -1,4 +1,4 @@
-use Rattle.std.proofs.Common.{◌≡◌, ◌<◌, sym, ◌∙◌, ap, subst, arith, length, List, ℤ, get_or, []}
+use Rattle.sep_parts.proofs.Prelude.{◌≡◌, ◌<◌, sym, ◌∙◌, ap, subst, arith, length, List, ℤ, get_or, []}
 use Rattle.std.specs.Cmp.Rules.{signed_items}
 use Rattle.sep_parts.proofs.ruler.Ruler.has.Goals as goal
 

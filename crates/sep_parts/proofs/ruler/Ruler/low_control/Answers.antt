@@ -1,5 +1,4 @@
-use Rattle.std.proofs.lemmas.Grind.{common_steps}
-use Rattle.std.proofs.Common.{◌<◌, length, sym, arith}
+use Rattle.sep_parts.proofs.Prelude.{common_steps, ◌<◌, length, sym, arith}
 use Rattle.sep_parts.proofs.Parts.{level_small}
 use Rattle.sep_parts.proofs.Rulers.{positive, small, low}
 use Rattle.sep_parts.proofs.ruler.Ruler.low_control.Goals as goal

@@ -1,4 +1,4 @@
-use Rattle.std.proofs.Common.{◌<◌, length, sym}
+use Rattle.sep_parts.proofs.Prelude.{◌<◌, length, sym}
 use Rattle.sep_parts.proofs.Parts.{level_narrow, level_short, level_small}
 use Rattle.sep_parts.proofs.Rulers.{positive, small, none_low}
 use Rattle.sep_parts.proofs.ruler.Ruler.separates.Goals as goal

@@ -1,4 +1,4 @@
-use Rattle.std.proofs.Common.{◌<◌, length, sym}
+use Rattle.sep_parts.proofs.Prelude.{◌<◌, length, sym}
 use Rattle.sep_parts.proofs.Parts.{raised_level}
 use Rattle.sep_parts.proofs.Rulers.{positive, small, none_low}
 use Rattle.sep_parts.proofs.ruler.Ruler.separates_whole.Goals as goal

@@ -1,4 +1,4 @@
-use Rattle.std.proofs.Common.{◌<◌, length, sym}
+use Rattle.sep_parts.proofs.Prelude.{◌<◌, length, sym}
 use Rattle.sep_parts.proofs.Rulers.{positive, small}
 use Rattle.sep_parts.proofs.ruler.Ruler.threshold_along.Goals as goal
 

@@ -1,15 +1,44 @@
 -- Bounds of a curve bound its parts and its values, and a part of a half is a part of the whole.
-use Rattle.std.proofs.Common.{◌≡◌, ℕ, suc, ◌+◌, ◌-◌, ◌*◌, ◌^◌, ◌≤◌, ◌<◌, ℤ, pos, negsuc, neg_ℤ, ◌+ℤ◌, ◌-ℤ◌, ◌*ℤ◌, ◌≤ℤ◌, arith, sym, subst, ◌∙◌, ap}
-use Rattle.std.proofs.lemmas.Int.{ints}
-use Rattle.std.proofs.Math.Nat.{pow-suc}
-use Rattle.fleet_math.specs.Sums.{power}
-use Rattle.fleet_math.specs.Bernstein.{bernstein}
-use Rattle.fleet_math.proofs.RingLemmas.{ring, linear, mul_assoc_ℤ, neg_mul_ℤ, one_mul_ℤ}
-use Rattle.fleet_math.proofs.SumLemmas.{power-add}
-use Rattle.fleet_math.proofs.BernsteinLemmas.{bernstein-at_least, bernstein-scale}
-use Rattle.halving.specs.Part.{polar, part_value}
-use Rattle.halving.proofs.PolarLemmas.{polar-blossom}
-use Rattle.sep_parts.proofs.Leaf.{power_seven}
+use Rattle.halving.proofs.Prelude.{◌≡◌, ℕ, suc, ◌+◌, ◌-◌, ◌*◌, ◌^◌, ◌≤◌, ◌<◌, ℤ, pos, negsuc, neg_ℤ, ◌+ℤ◌, ◌-ℤ◌, ◌*ℤ◌, ◌≤ℤ◌, arith, sym, subst, ◌∙◌, ap, zero, refl, ints, pow-suc, power, bernstein, ring, linear, mul_assoc_ℤ, neg_mul_ℤ, one_mul_ℤ, add_mul_ℤ, mul_comm_ℤ, power-add, power-mul, bernstein-at_least, bernstein-scale, bernstein-zero, bernstein-suc, polar, part_value, pow-add, IsWithin}
+use Rattle.halving.proofs.PolarLemmas.{polar-blossom, bernstein-blossom}
+use Rattle.halving.proofs.HalfLemmas.{bernstein-within}
+
+-- scaling both numbers scales the sum
+scale_ring : (x p a u f g : ℤ) → (x *ℤ u) *ℤ (p *ℤ f) +ℤ (x *ℤ a) *ℤ (p *ℤ g) ≡ (x *ℤ p) *ℤ (u *ℤ f +ℤ a *ℤ g)
+scale_ring x p a u f g = simp ring (omega (arith, linear))
+
+scale_minus : (x a c : ℤ) → x *ℤ c -ℤ x *ℤ a ≡ x *ℤ (c -ℤ a)
+scale_minus x a c = simp ring (omega (arith, linear))
+
+pub bernstein-scaled : (n : ℕ) (f : ℕ → ℤ) (x a c : ℤ) → bernstein n f (x *ℤ a) (x *ℤ c) ≡ power x n *ℤ bernstein n f a c
+bernstein-scaled zero f x a c = bernstein-zero f (x *ℤ a) (x *ℤ c) ∙ sym (one_mul_ℤ (bernstein 0 f a c) ∙ bernstein-zero f a c)
+bernstein-scaled (suc n) f x a c =
+    bernstein-suc n f (x *ℤ a) (x *ℤ c)
+    ∙ rw (bernstein-scaled n f x a c, bernstein-scaled n (λ k. f (suc k)) x a c, scale_minus x a c, bernstein-suc n f a c)
+    (scale_ring x (power x n) a (c -ℤ a) (bernstein n f a c) (bernstein n (λ k. f (suc k)) a c))
+
+-- the sum over the control values of a part, at the instant of the part
+place_ring : (m s a c : ℤ) → m *ℤ (c -ℤ (s *ℤ a -ℤ m *ℤ c)) +ℤ (m +ℤ pos 1) *ℤ (s *ℤ a -ℤ m *ℤ c) ≡ s *ℤ a
+place_ring m s a c = between (s *ℤ a -ℤ m *ℤ c) ∙ omega (arith, linear)
+  where
+    between : (x : ℤ) → m *ℤ (c -ℤ x) +ℤ (m +ℤ pos 1) *ℤ x ≡ m *ℤ c +ℤ x
+    between x = rw (add_mul_ℤ m (pos 1) x, one_mul_ℤ x) (simp ring (omega (arith, linear)))
+
+pub part-instant : (e m : ℕ) (f : ℕ → ℤ) (a c : ℤ) →
+    bernstein 7 (part_value e m f) (pos (2 ^ e) *ℤ a -ℤ pos m *ℤ c) c ≡ power (pos (2 ^ e)) 7 *ℤ bernstein 7 f a c
+part-instant e m f a c =
+    bernstein-blossom 7 f (pos m) (pos (m + 1)) (pos (2 ^ e)) (pos (2 ^ e) *ℤ a -ℤ pos m *ℤ c) c
+    ∙ ap (λ (z : ℤ). bernstein 7 f z (pos (2 ^ e) *ℤ c)) (place_ring (pos m) (pos (2 ^ e)) a c)
+    ∙ bernstein-scaled 7 f (pos (2 ^ e)) a c
+
+pub power_seven : (e : ℕ) → power (pos (2 ^ e)) 7 ≡ pos (2 ^ (7 * e))
+power_seven zero = refl
+power_seven (suc e) =
+    let d : 7 * suc e ≡ 7 * e + 7 = omega arith in
+    rw (d, pow-add 2 (7 * e) 7, pow-suc 2 e) (doubled (pos (2 ^ e)) ∙ ap (λ (z : ℤ). z *ℤ pos 128) (power_seven e))
+  where
+    doubled : (x : ℤ) → power (x *ℤ pos 2) 7 ≡ power x 7 *ℤ pos 128
+    doubled x = power-mul x (pos 2) 7
 
 minus_one : (x : ℤ) → negsuc 0 *ℤ x ≡ neg_ℤ x
 minus_one x = neg_mul_ℤ (pos 1) x ∙ ap (λ (z : ℤ). neg_ℤ z) (one_mul_ℤ x)
@@ -66,3 +95,17 @@ part-half e r m k f small =
 
     places : {b d s b' d' s' : ℤ} → b ≡ b' → d ≡ d' → s ≡ s' → polar (7 - k) k f b d s ≡ polar (7 - k) k f b' d' s'
     places {b} {d} {s} {b'} {d'} {s'} p q r = cc
+
+-- a bound of the control values, scaled, bounds those of each part
+pub part-within : (e m k : ℕ) (f : ℕ → ℤ) (b : ℤ) → m < 2 ^ e → k ≤ 7 → ((i : ℕ) → i ≤ 7 → IsWithin b (f i)) → IsWithin (pos (2 ^ (7 * e)) *ℤ b) (part_value e m f k)
+unfolding polar
+part-within e m k f b inside small within =
+    let s : ℤ = pos (2 ^ e) in
+    let inner : (i : ℕ) → i ≤ 7 - k → IsWithin (power s k *ℤ b) (bernstein k (λ l. f (i + l)) (pos (m + 1)) s) =
+    λ i low. bernstein-within k (λ l. f (i + l)) b (pos (m + 1)) s (omega (arith, ints)) (omega (arith, ints)) (λ l few. within (i + l) (omega arith)) in
+    let outer : IsWithin (power s (7 - k) *ℤ (power s k *ℤ b)) (part_value e m f k) =
+    bernstein-within (7 - k) (λ i. bernstein k (λ l. f (i + l)) (pos (m + 1)) s) (power s k *ℤ b) (pos m) s (omega (arith, ints)) (omega (arith, ints)) inner in
+    let e1 : power s (7 - k) *ℤ (power s k *ℤ b) ≡ pos (2 ^ (7 * e)) *ℤ b =
+    sym (mul_assoc_ℤ (power s (7 - k)) (power s k) b) ∙ ap (λ (z : ℤ). z *ℤ b) (mul_comm_ℤ (power s (7 - k)) (power s k) ∙ power_split s k small ∙ power_seven e) in
+    rw e1 at outer
+
