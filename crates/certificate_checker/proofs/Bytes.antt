@@ -1,14 +1,6 @@
 -- What a checker has read after a byte more, and what its verdict says.
-use Rattle.std.proofs.lemmas.Grind.{common_steps}
-use Rattle.std.proofs.Common.{◌≡◌, ℕ, ◌+◌, ◌^◌, ◌≤◌, ◌<◌, arith, get_or, refl, sym, subst, List, [], ◌∷◌, ◌++◌, length, take}
-use Rattle.std.proofs.lemmas.List.{take_more}
+use Rattle.certificate_checker.proofs.Prelude.{common_steps, ◌≡◌, ℕ, ◌+◌, ◌^◌, ◌≤◌, ◌<◌, arith, get_or, refl, sym, subst, List, [], ◌∷◌, ◌++◌, length, take, take_more, Raised, Clearance, slots, table_of, table_small, rules_of, Valid, Line, Refused, VerdictGives, Checking, FirstLine, Reading, checked, checked_all, closed, nothing_checked, verdict_of, Seen, NamesFault, ApartWhereValid, HasRead, most_bytes, AreFew, AreWithin, IsNextIn, HasRoom, IsReader, reading_by, reading_of}
 use Rattle.bezier_core.specs.declared.Bez.{Bez}
-use Rattle.fleet_curves.specs.Raised.{Raised}
-use Rattle.sep_parts.specs.declared.clearance.Clearance.{Clearance}
-use Rattle.sep_parts.specs.Slots.{slots}
-use Rattle.sep_parts.specs.Versions.{table_of}
-use Rattle.sep_parts.proofs.Table.{table_small}
-use Rattle.sep_certificate.specs.Certificates.{rules_of}
 use Rattle.sep_certificate.proofs.Keeping.{keeps}
 use Rattle.sep_certificate.proofs.Named.{fault_named}
 use Rattle.sep_certificate.proofs.Verdicts.{valid_of}
@@ -16,12 +8,6 @@ use Rattle.certificate_checker.specs.declared.reader.Reader.{Reader}
 use Rattle.certificate_checker.specs.declared.reader.Stage.{Stage}
 use Rattle.certificate_checker.specs.declared.reader.Stage.TheVariants as stage
 use Rattle.certificate_checker.specs.declared.verdict.Verdict.{Verdict}
-use Rattle.certificate_checker.specs.declared.verdict.Verdict.TheVariants.{Valid, Line, Refused}
-use Rattle.certificate_checker.specs.Verdicts.{VerdictGives}
-use Rattle.certificate_checker.specs.Checking.{Checking, FirstLine, Reading, checked, checked_all, closed, nothing_checked, verdict_of}
-use Rattle.certificate_checker.specs.Bytes.{Seen, NamesFault, ApartWhereValid, HasRead, most_bytes}
-use Rattle.certificate_checker.specs.Judgments.{AreFew, AreWithin, IsNextIn}
-use Rattle.certificate_checker.specs.Steps.{HasRoom, IsReader, reading_by, reading_of}
 use Rattle.certificate_checker.proofs.Few.{few_read, few_within}
 use Rattle.certificate_checker.proofs.Verdicts.{checking_told}
 

@@ -1,24 +1,11 @@
 -- The first fault that the machine finds in trees is that of the definition.
-use Rattle.std.proofs.Common.{◌≡◌, inl, inr, ℕ, suc, ◌+◌, ◌≤◌, ◌<◌, Bool, true, false, cond, nat_lt, arith, refl, sym, ◌∙◌, ap, subst, List, [], ◌∷◌, ◌++◌, append-nil, append_assoc, length, All, Option, Some, None, ℤ}
+use Rattle.certificate_checker.proofs.Prelude.{◌≡◌, inl, inr, ℕ, suc, ◌+◌, ◌≤◌, ◌<◌, Bool, true, false, cond, nat_lt, arith, refl, sym, ◌∙◌, ap, subst, List, [], ◌∷◌, ◌++◌, append-nil, append_assoc, length, All, Option, Some, None, ℤ, nat_tests, All-head, All-tail, Node, Split, Leaf, Rules, Raised, difference, following, IsTree, Tree, preorder, IsAhead, next_ahead, CertFault, Missing, Extra, first_fault_of, node_fault, spelled_fault, tree_fault, Judged, Clear, Wrong, after_node, at_places, before_tree, with_node, with_tree}
 use Rattle.std.specs.Option.{option_or}
-use Rattle.std.proofs.lemmas.Bool.Decides.{nat_tests}
-use Rattle.std.proofs.lemmas.List.Elements.{All-head, All-tail}
 use Rattle.halving.specs.declared.Place.{Place}
-use Rattle.sep_parts.specs.declared.node.Node.{Node}
-use Rattle.sep_parts.specs.declared.node.Node.TheVariants.{Split, Leaf}
-use Rattle.sep_parts.specs.declared.rules.Rules.{Rules}
 use Rattle.sep_parts.specs.declared.slot.Slot.{Slot}
 use Rattle.sep_parts.specs.Levels.{left_half, right_half, root}
-use Rattle.fleet_curves.specs.Raised.{Raised, difference}
-use Rattle.sep_parts.specs.Slots.{following}
-use Rattle.sep_parts.specs.Trees.{IsTree, Tree, preorder}
 use Rattle.sep_parts.specs.Trees.Tree.{leaf, split}
-use Rattle.sep_parts.proofs.Orders.{IsAhead, next_ahead}
-use Rattle.sep_certificate.specs.declared.certificate.CertFault.{CertFault}
-use Rattle.sep_certificate.specs.declared.certificate.CertFault.TheVariants.{Missing, Extra}
-use Rattle.sep_certificate.specs.Certificates.{first_fault_of, node_fault, spelled_fault, tree_fault}
 use Rattle.sep_certificate.proofs.Trees.{fault_of_tree}
-use Rattle.certificate_checker.specs.Checking.{Judged, Clear, Wrong, after_node, at_places, before_tree, with_node, with_tree}
 use Rattle.certificate_checker.proofs.Folds.{nodes_judged, trees_judged, wrong_nodes, wrong_trees}
 
 -- the fault that is found, where the text ends here

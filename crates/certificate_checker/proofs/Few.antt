@@ -1,15 +1,5 @@
 -- The numbers that are kept of a text are small: a byte adds at most two trees that are still to come, three lines and one whole tree.
-use Rattle.std.proofs.lemmas.Grind.{common_steps}
-use Rattle.std.proofs.Common.{◌≡◌, ℕ, zero, suc, ◌+◌, ◌*◌, ◌≤◌, ◌==◌, Bool, true, false, cond, nat_lt, bytes_eq, arith, subst, List, [], ◌∷◌, length, ℤ, Option, Some, None, slice_index, ◌-◌}
-use Rattle.sep_parts.specs.declared.clearance.Clearance.{Clearance}
-use Rattle.sep_parts.specs.declared.node.Node.{Node}
-use Rattle.sep_parts.specs.declared.node.Node.TheVariants.{Split, Leaf}
-use Rattle.sep_parts.specs.declared.rules.Rules.{Rules}
-use Rattle.fleet_curves.specs.Raised.{Raised}
-use Rattle.sep_parts.specs.Versions.{table_of}
-use Rattle.sep_certificate.specs.Texts.{is_depth_line, is_digit, is_letter, is_wide_leaf, two_digits, version_line}
-use Rattle.certificate_checker.specs.Checking.{Checking, Clear, DepthLine, Faulty, FirstLine, Judged, Reading, TreeLine, TreesRead, Wrong, byte_read, checked, checked_all, depth_read, digit_read, first_tree, fresh, letter_read, line_byte, line_read, node_read, rules_in, with_node, with_return, with_tree}
-use Rattle.certificate_checker.specs.Judgments.{AreFew, AreWithin, HasAtMost}
+use Rattle.certificate_checker.proofs.Prelude.{common_steps, ◌≡◌, ℕ, zero, suc, ◌+◌, ◌*◌, ◌≤◌, ◌==◌, Bool, true, false, cond, nat_lt, bytes_eq, arith, subst, List, [], ◌∷◌, length, ℤ, Option, Some, None, slice_index, ◌-◌, Clearance, Node, Split, Leaf, Rules, Raised, table_of, is_depth_line, is_digit, is_letter, is_wide_leaf, two_digits, version_line, Checking, Clear, DepthLine, Faulty, FirstLine, Judged, Reading, TreeLine, TreesRead, Wrong, byte_read, checked, checked_all, depth_read, digit_read, first_tree, fresh, letter_read, line_byte, line_read, node_read, rules_in, with_node, with_return, with_tree, AreFew, AreWithin, HasAtMost}
 
 -- ---- trees
 few_node : (rules : Rules) (dirs : List (List ℤ)) (curves : Raised) (most : ℕ) (j : Judged) (node : Node) → HasAtMost most j → HasAtMost most (with_node rules dirs curves j node)

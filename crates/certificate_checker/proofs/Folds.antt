@@ -1,12 +1,5 @@
 -- The machine over lists: nodes, trees, the bytes of a line, lines.
-use Rattle.std.proofs.Common.{◌≡◌, ℕ, ◌==◌, cond, refl, List, [], ◌∷◌, ◌++◌, map, Option, ℤ}
-use Rattle.sep_parts.specs.declared.clearance.Clearance.{Clearance}
-use Rattle.sep_parts.specs.declared.node.Node.{Node}
-use Rattle.sep_parts.specs.declared.rules.Rules.{Rules}
-use Rattle.fleet_curves.specs.Raised.{Raised}
-use Rattle.sep_certificate.specs.Steps.{node_of_byte, wide_nodes}
-use Rattle.sep_certificate.specs.declared.certificate.CertFault.{CertFault}
-use Rattle.certificate_checker.specs.Checking.{Judged, Wrong, Reading, Faulty, TreesRead, byte_read, line_read, with_node, with_tree}
+use Rattle.certificate_checker.proofs.Prelude.{◌≡◌, ℕ, ◌==◌, cond, refl, List, [], ◌∷◌, ◌++◌, map, Option, ℤ, Clearance, Node, Rules, Raised, node_of_byte, wide_nodes, CertFault, Judged, Wrong, Reading, Faulty, TreesRead, byte_read, line_read, with_node, with_tree}
 
 -- ---- nodes and trees
 abbrev pub nodes_judged : Rules → List (List ℤ) → Raised → Judged → List Node → Judged

@@ -1,12 +1,5 @@
 -- The lines before the trees, of which fifteen bytes are kept.
-use Rattle.std.proofs.lemmas.Grind.{common_steps}
-use Rattle.sep_parts.specs.declared.clearance.Clearance.{Clearance}
-use Rattle.std.proofs.Common.{◌≡◌, ℕ, ◌+◌, ◌≤◌, ◌<◌, Bool, true, false, cond, nat_lt, bytes_eq, arith, refl, sym, ◌∙◌, ap, List, [], ◌∷◌, ◌++◌, append_assoc, append-nil, length, length-append}
-use Rattle.std.proofs.lemmas.Bool.Decides.{nat_tests}
-use Rattle.fleet_curves.specs.Raised.{Raised}
-use Rattle.sep_certificate.specs.Texts.{is_depth_line, version_line}
-use Rattle.sep_certificate.proofs.Readers.{header_from, same_told}
-use Rattle.certificate_checker.specs.Checking.{FirstLine, DepthLine, Faulty, kept, line_read, depth_read}
+use Rattle.certificate_checker.proofs.Prelude.{common_steps, Clearance, ◌≡◌, ℕ, ◌+◌, ◌≤◌, ◌<◌, Bool, true, false, cond, nat_lt, bytes_eq, arith, refl, sym, ◌∙◌, ap, List, [], ◌∷◌, ◌++◌, append_assoc, append-nil, length, length-append, nat_tests, Raised, is_depth_line, version_line, header_from, same_told, FirstLine, DepthLine, Faulty, kept, line_read, depth_read}
 use Rattle.certificate_checker.proofs.Folds.{bytes_read}
 
 -- what is kept of these bytes after others

@@ -1,15 +1,5 @@
 -- One line of a tree, byte by byte.
-use Rattle.std.proofs.Common.{◌≡◌, inl, inr, ℕ, zero, suc, ◌-◌, Bool, true, false, cond, ◌==◌, arith, refl, sym, ◌∙◌, ap, subst, List, [], ◌∷◌, map, Some, None}
-use Rattle.std.proofs.lemmas.Bool.Decides.{nat_tests}
-use Rattle.sep_parts.specs.declared.clearance.Clearance.{Clearance}
-use Rattle.sep_parts.specs.declared.node.Node.{Node}
-use Rattle.sep_parts.specs.declared.node.Node.TheVariants.{Split, Leaf}
-use Rattle.fleet_curves.specs.Raised.{Raised}
-use Rattle.sep_parts.specs.Versions.{IsVersion, table_of}
-use Rattle.sep_certificate.specs.Steps.{is_spelled, is_spelled_wide, node_of_byte, wide_nodes}
-use Rattle.sep_certificate.specs.Texts.{is_digit, is_letter, is_tree_line, is_wide_leaf, two_digits}
-use Rattle.sep_certificate.proofs.Grammar.{counted_old, counted_wide}
-use Rattle.certificate_checker.specs.Checking.{Judged, Reading, TreeLine, Faulty, byte_read, line_read, node_read, with_node, with_tree}
+use Rattle.certificate_checker.proofs.Prelude.{◌≡◌, inl, inr, ℕ, zero, suc, ◌-◌, Bool, true, false, cond, ◌==◌, arith, refl, sym, ◌∙◌, ap, subst, List, [], ◌∷◌, map, Some, None, nat_tests, Clearance, Node, Split, Leaf, Raised, IsVersion, table_of, is_spelled, is_spelled_wide, node_of_byte, wide_nodes, is_digit, is_letter, is_tree_line, is_wide_leaf, two_digits, counted_old, counted_wide, Judged, Reading, TreeLine, Faulty, byte_read, line_read, node_read, with_node, with_tree}
 use Rattle.certificate_checker.proofs.Folds.{bytes_read, faulty_bytes, line_at, nodes_in, nodes_judged}
 
 owes : (n : ℕ) → (suc n == 0) ≡ false

@@ -1,21 +1,7 @@
 -- The machine over the lines of a text: it stops at the first faulty one, and else has judged each tree.
-use Rattle.std.proofs.Common.{◌≡◌, inl, inr, ℕ, suc, ◌+◌, ◌-◌, ◌≤◌, Bool, true, false, cond, bytes_eq, arith, refl, sym, ◌∙◌, ap, subst, List, [], ◌∷◌, ◌++◌, map, slice_index, Some, None, All}
-use Rattle.std.proofs.lemmas.List.Elements.{All-head, All-tail}
-use Rattle.sep_parts.specs.declared.clearance.Clearance.{Clearance}
-use Rattle.sep_parts.specs.declared.node.Node.{Node}
-use Rattle.fleet_curves.specs.Raised.{Raised}
-use Rattle.sep_parts.specs.Slots.{slot_at}
-use Rattle.sep_parts.specs.Trees.{IsKnown, IsTree}
-use Rattle.sep_parts.specs.Versions.{IsVersion, known_in, table_of}
-use Rattle.sep_certificate.specs.declared.certificate.Certificate.{Certificate}
-use Rattle.sep_certificate.specs.Certificates.{IsWhole}
-use Rattle.sep_certificate.specs.Texts.{bad_from, bad_line, bad_tree, depth_line, head_lines, is_depth_line, is_tree_line, tree_line, version_line}
+use Rattle.certificate_checker.proofs.Prelude.{◌≡◌, inl, inr, ℕ, suc, ◌+◌, ◌-◌, ◌≤◌, Bool, true, false, cond, bytes_eq, arith, refl, sym, ◌∙◌, ap, subst, List, [], ◌∷◌, ◌++◌, map, slice_index, Some, None, All, All-head, All-tail, Clearance, Node, Raised, slot_at, IsKnown, IsTree, IsVersion, known_in, table_of, Certificate, IsWhole, bad_from, bad_line, bad_tree, depth_line, head_lines, is_depth_line, is_tree_line, tree_line, version_line, line_spelled, header_told, Line, Judged, Reading, DepthLine, Faulty, FirstLine, TreeLine, before_tree, depth_read, first_tree, line_read, verdict_of, with_tree}
 use Rattle.sep_certificate.proofs.Digits.{wide_back}
-use Rattle.sep_certificate.proofs.Grammar.{line_spelled}
-use Rattle.sep_certificate.proofs.Readers.{header_told}
 use Rattle.sep_certificate.proofs.Spelled.{all_back}
-use Rattle.certificate_checker.specs.declared.verdict.Verdict.TheVariants.{Line}
-use Rattle.certificate_checker.specs.Checking.{Judged, Reading, DepthLine, Faulty, FirstLine, TreeLine, before_tree, depth_read, first_tree, line_read, verdict_of, with_tree}
 use Rattle.certificate_checker.proofs.Folds.{bytes_read, faulty_lines, line_at, lines_read, nodes_in, nodes_judged, trees_judged}
 use Rattle.certificate_checker.proofs.Heads.{depth_bytes, depth_line_read, first_bytes, first_line}
 use Rattle.certificate_checker.proofs.Letters.{line_told, next_line}

@@ -1,11 +1,6 @@
 -- What the checker's parts are made of.
-use Rattle.std.proofs.Common.{◌≡◌, sym, subst, length}
-use Rattle.sep_parts.specs.declared.clearance.Clearance.{Clearance}
-use Rattle.sep_parts.specs.declared.node.Node.{Node}
+use Rattle.certificate_checker.proofs.Prelude.{◌≡◌, sym, subst, length, Clearance, Node, IsKnown, table_of, measure_of}
 use Rattle.sep_parts.specs.Rulers.{Measure}
-use Rattle.sep_parts.specs.Trees.{IsKnown}
-use Rattle.sep_parts.specs.Versions.{table_of}
-use Rattle.certificate_checker.specs.Steps.{measure_of}
 
 -- a node that a version knows names a direction of its table
 pub known_old : (m : Measure) (clearance : Clearance) (node : Node) → m ≡ measure_of 1 clearance → IsKnown 26 node → IsKnown (length m.directions) node

@@ -1,14 +1,8 @@
 -- The machine over the bytes of a text is the machine over its lines.
-use Rattle.sep_parts.specs.declared.clearance.Clearance.{Clearance}
-use Rattle.std.proofs.Common.{◌≡◌, ℕ, ◌-◌, Bool, true, false, cond, ◌==◌, take, slice_index, arith, refl, sym, ◌∙◌, ap, List, [], ◌∷◌, ◌++◌, append_assoc, append-nil, length, length-append, All}
+use Rattle.certificate_checker.proofs.Prelude.{Clearance, ◌≡◌, ℕ, ◌-◌, Bool, true, false, cond, ◌==◌, take, slice_index, arith, refl, sym, ◌∙◌, ap, List, [], ◌∷◌, ◌++◌, append_assoc, append-nil, length, length-append, All, lines, lines_of_parts, strip_carriage_return, nat_tests, All-nil, All-cons, All-append, Raised, Checking, Reading, byte_read, checked_all, closed, fresh, line_byte, line_read, with_return}
 use Rattle.std.specs.List.{slice_split}
-use Rattle.std.specs.Str.Lines.{lines, lines_of_parts, strip_carriage_return}
-use Rattle.std.proofs.lemmas.Bool.Decides.{nat_tests}
-use Rattle.std.proofs.lemmas.List.Elements.{All-nil, All-cons, All-append}
 use Rattle.std.proofs.lemmas.List.Splits.{slice_split_at, slice_split_none, length-slice_split}
-use Rattle.fleet_curves.specs.Raised.{Raised}
 use Rattle.sep_certificate.proofs.FirstLines.{strip_first}
-use Rattle.certificate_checker.specs.Checking.{Checking, Reading, byte_read, checked_all, closed, fresh, line_byte, line_read, with_return}
 use Rattle.certificate_checker.proofs.Folds.{bytes_more, bytes_read, lines_read}
 
 abbrev is_feed : ℕ → Bool

@@ -1,19 +1,6 @@
 -- The verdict after the bytes of a text is what the text is.
-use Rattle.std.proofs.Common.{◌≡◌, ℕ, ◌+◌, ◌^◌, ◌≤◌, ◌<◌, Bool, true, false, cond, nat_lt, arith, refl, sym, ◌∙◌, ap, List, [], length, Option, Some, None}
-use Rattle.std.specs.Str.Lines.{lines}
-use Rattle.fleet_curves.specs.Raised.{Raised}
-use Rattle.sep_parts.specs.declared.clearance.Clearance.{Clearance}
-use Rattle.sep_parts.specs.Slots.{slot_at, slots}
-use Rattle.sep_parts.specs.Versions.{table_of}
-use Rattle.sep_parts.proofs.Orders.{first_ahead}
-use Rattle.sep_certificate.specs.declared.certificate.Certificate.{Certificate}
-use Rattle.sep_certificate.specs.declared.certificate.CertFault.TheVariants.{Missing}
-use Rattle.sep_certificate.specs.Certificates.{fault_of, rules_of}
-use Rattle.sep_certificate.specs.Texts.{Says, bad_line}
+use Rattle.certificate_checker.proofs.Prelude.{◌≡◌, ℕ, ◌+◌, ◌^◌, ◌≤◌, ◌<◌, Bool, true, false, cond, nat_lt, arith, refl, sym, ◌∙◌, ap, List, [], length, Option, Some, None, lines, Raised, Clearance, slot_at, slots, table_of, first_ahead, Certificate, Missing, fault_of, rules_of, Says, bad_line, Valid, Refused, VerdictGives, Clear, FirstLine, Judged, Wrong, before_tree, checked_all, closed, judged_verdict, nothing_checked, verdict_of}
 use Rattle.sep_certificate.proofs.Sayings.{said}
-use Rattle.certificate_checker.specs.declared.verdict.Verdict.TheVariants.{Valid, Refused}
-use Rattle.certificate_checker.specs.Verdicts.{VerdictGives}
-use Rattle.certificate_checker.specs.Checking.{Clear, FirstLine, Judged, Wrong, before_tree, checked_all, closed, judged_verdict, nothing_checked, verdict_of}
 use Rattle.certificate_checker.proofs.Folds.{lines_read}
 use Rattle.certificate_checker.proofs.Faults.{IsCount, count_trees, fault_in, faults_told}
 use Rattle.certificate_checker.proofs.Lines.{all_judged, faulty_told, said_told}

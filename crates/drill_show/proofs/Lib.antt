@@ -1,2 +1,3 @@
+mod Prelude
 pub mod Rows
 pub mod DrillLemmas

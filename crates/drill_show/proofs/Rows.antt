@@ -1,8 +1,5 @@
 -- The drill of one drone.
-use Rattle.std.proofs.Common.{◌≡◌, refl}
-use Rattle.std.specs.Prelude.{codes}
-use Rattle.std.specs.Fmt.{digits}
-use Rattle.drill_show.specs.Drill.{cue_lines, drill_line, drill_text, drone_line}
+use Rattle.drill_show.proofs.Prelude.{◌≡◌, refl, codes, digits, cue_lines, drill_line, drill_text, drone_line}
 
 one : drill_text 1 ≡ codes "choreo 1\ndrone d1 0 0 1000000 0\nrepeat 10\ncue 3000\nd1 move 0 0 1000000 0\nend\ncue 3000\nd1 move 500000 0 1000000 0\nend\ncue 3000\nd1 move 500000 0 1000000 0\nend\ncue 3000\nd1 move 0 0 1000000 0\nend\nend\n"
 unfolding digits drill_text

@@ -1,7 +1,5 @@
 -- The ends of a raised curve: its first and last steps are those of the curve.
-use Rattle.std.proofs.Common.{◌≡◌, ℕ, suc, ◌-◌, ◌≤◌, ℤ, pos, ◌-ℤ◌, ◌*ℤ◌, arith}
-use Rattle.fleet_math.proofs.RingLemmas.{linear}
-use Rattle.bezier_core.specs.Raised.{raised_value}
+use Rattle.dynamics_bound.proofs.Prelude.{◌≡◌, ℕ, suc, ◌-◌, ◌≤◌, ℤ, pos, ◌-ℤ◌, ◌*ℤ◌, arith, linear, raised_value}
 
 -- at the beginning
 pub first : (n : ℕ) (f : ℕ → ℤ) → n ≤ 7 → pos 7 *ℤ (raised_value n f 1 -ℤ raised_value n f 0) ≡ pos 5040 *ℤ (pos n *ℤ (f 1 -ℤ f 0))

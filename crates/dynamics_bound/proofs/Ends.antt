@@ -1,24 +1,6 @@
 -- The speeds at the two ends of a segment.
-use Rattle.std.proofs.Common.{◌≡◌, ℕ, ◌-◌, ◌*◌, ◌^◌, ◌≤◌, ◌<◌, ℤ, pos, ◌-ℤ◌, ◌*ℤ◌, ◌≤ℤ◌, neg_ℤ, arith, refl, ◌∙◌, ap, List, length, All}
-use Rattle.std.proofs.lemmas.Int.{ints}
-use Rattle.std.proofs.lemmas.Nat.{mul-le}
-use Rattle.std.proofs.lemmas.List.{length-map}
-use Rattle.fleet_math.specs.Sums.{power}
-use Rattle.fleet_math.specs.Bernstein.{at}
-use Rattle.fleet_math.proofs.RingLemmas.{ring, linear, mul_not_negative}
-use Rattle.fleet_math.proofs.BernsteinLemmas.{bernstein-at_zero, bernstein-at_end}
+use Rattle.dynamics_bound.proofs.Prelude.{◌≡◌, ℕ, ◌-◌, ◌*◌, ◌^◌, ◌≤◌, ◌<◌, ℤ, pos, ◌-ℤ◌, ◌*ℤ◌, ◌≤ℤ◌, neg_ℤ, arith, refl, ◌∙◌, ap, List, length, All, ints, mul-le, length-map, power, at, ring, linear, mul_not_negative, bernstein-at_zero, bernstein-at_end, raised, IsWithin, IsPiece, Traj, piece_on, pieces_on, points, duration, greatest_below, steps, piece_value, power_low, greatest-at, widest_bend_part, segment_acceleration, acceleration_in, acceleration, after, HasVelocities, first_step, last_step}
 use Rattle.fleet_math.proofs.EdgeLemmas.{points-count}
-use Rattle.bezier_core.specs.Raised.{raised}
-use Rattle.bezier_core.specs.Steps.{IsWithin}
-use Rattle.fleet_math.specs.Decoded.{IsPiece}
-use Rattle.traj_codec.specs.declared.traj.Traj.{Traj}
-use Rattle.traj_codec.specs.Positions.{piece_on, pieces_on, points}
-use Rattle.speed_bound.specs.Speed.{duration, greatest_below}
-use Rattle.speed_bound.proofs.Slopes.{steps}
-use Rattle.speed_bound.proofs.Speeds.{piece_value, power_low}
-use Rattle.speed_bound.proofs.Widths.{greatest-at}
-use Rattle.dynamics_bound.specs.Accelerations.{widest_bend_part, segment_acceleration, acceleration_in, acceleration, after}
-use Rattle.dynamics_bound.specs.Edges.{HasVelocities, first_step, last_step}
 use Rattle.dynamics_bound.proofs.Parts.{Departs, IsGentle, room_of, position, speed, gentle}
 use Rattle.dynamics_bound.proofs.Edges as ends
 use Rattle.dynamics_bound.proofs.Segments.{in_time, in_units, bends_at, fast_at, lasts}

@@ -1,17 +1,7 @@
 -- The first excess, and that nothing exceeds a limit where there is none.
-use Rattle.std.proofs.lemmas.Grind.{common_steps}
-use Rattle.std.proofs.Common.{inl, inr, ◌⊎◌, ◌≡◌, ℕ, zero, suc, ◌+◌, ◌≤◌, ◌<◌, max, nat_lt, cond, pos, arith, refl, Option, Some, None, IfSome, length}
+use Rattle.dynamics_bound.proofs.Prelude.{common_steps, inl, inr, ◌⊎◌, ◌≡◌, ℕ, zero, suc, ◌+◌, ◌≤◌, ◌<◌, max, nat_lt, cond, pos, arith, refl, Option, Some, None, IfSome, length, nat_tests, by_lt, Traj, greatest-most, Excess, Limits, acceleration, acceleration_in, jump, IsWithinLimits, above, excess_before, first_excess, jumps_at, sharp_at}
 use Rattle.std.specs.Option.{option_or}
-use Rattle.std.proofs.lemmas.Bool.Decides.{nat_tests}
-use Rattle.fleet_math.proofs.BernsteinLemmas.{by_lt}
-use Rattle.traj_codec.specs.declared.traj.Traj.{Traj}
-use Rattle.speed_bound.proofs.Widths.{greatest-most}
-use Rattle.dynamics_bound.specs.declared.excess.Excess.{Excess}
 use Rattle.dynamics_bound.specs.declared.excess.Kind.{Kind}
-use Rattle.dynamics_bound.specs.declared.excess.Limits.{Limits}
-use Rattle.dynamics_bound.specs.Accelerations.{acceleration, acceleration_in}
-use Rattle.dynamics_bound.specs.Edges.{jump}
-use Rattle.dynamics_bound.specs.Excesses.{IsWithinLimits, above, excess_before, first_excess, jumps_at, sharp_at}
 
 -- what is found in a segment is the first, where nothing was found before
 pub found : (limits : Limits) (depth : ℕ) (t : Traj) (n k : ℕ) (e : Excess) → excess_before limits depth t k ≡ None →

@@ -1,11 +1,5 @@
 -- The first of the greatest numbers.
-use Rattle.std.proofs.lemmas.Grind.{common_steps}
-use Rattle.std.proofs.Common.{◌≡◌, ℕ, zero, suc, ◌≤◌, ◌<◌, max, Bool, nat_lt, true, false, cond, pos, arith, refl, sym, ◌∙◌, ap, length}
-use Rattle.std.proofs.lemmas.Bool.Decides.{nat_tests}
-use Rattle.traj_codec.specs.declared.traj.Traj.{Traj}
-use Rattle.speed_bound.specs.Speed.{greatest_below}
-use Rattle.speed_bound.proofs.Widths.{greatest-at}
-use Rattle.dynamics_bound.specs.Edges.{IsGreatestJump, first_greatest, greatest_jump, jump}
+use Rattle.dynamics_bound.proofs.Prelude.{common_steps, ◌≡◌, ℕ, zero, suc, ◌≤◌, ◌<◌, max, Bool, nat_lt, true, false, cond, pos, arith, refl, sym, ◌∙◌, ap, length, nat_tests, Traj, greatest_below, greatest-at, IsGreatestJump, first_greatest, greatest_jump, jump}
 
 -- the first of the greatest is one of the numbers
 first-inside : (n : ℕ) (f : ℕ → ℕ) → first_greatest (suc n) f ≤ n

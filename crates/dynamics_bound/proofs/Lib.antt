@@ -1,3 +1,4 @@
+mod Prelude
 pub mod Tangents
 pub mod Parts
 pub mod Segments

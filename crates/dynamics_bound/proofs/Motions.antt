@@ -1,12 +1,7 @@
 -- Words of a line, and the extremes of trajectories that come one after another.
-use Rattle.std.proofs.lemmas.Grind.{common_steps}
-use Rattle.std.proofs.Common.{◌≡◌, ℕ, ◌+◌, ◌<◌, max, List, [], ◌∷◌, ◌++◌, length, get_or, drop, sym, ap, ◌∙◌, arith}
-use Rattle.std.proofs.lemmas.List.{drop_more}
-use Rattle.traj_codec.specs.declared.traj.Traj.{Traj}
-use Rattle.fleet_io.specs.Words.{AreWords}
+use Rattle.dynamics_bound.proofs.Prelude.{common_steps, ◌≡◌, ℕ, ◌+◌, ◌<◌, max, List, [], ◌∷◌, ◌++◌, length, get_or, drop, sym, ap, ◌∙◌, arith, drop_more, Traj, AreWords, extremes, extremes_of, greater}
 use Rattle.dynamics_bound.specs.declared.motion.Axes.{Axes}
 use Rattle.dynamics_bound.specs.declared.motion.Extremes.{Extremes}
-use Rattle.dynamics_bound.specs.Motions.{extremes, extremes_of, greater}
 
 -- words, and words after them
 pub words_both : (words more : List (List ℕ)) → AreWords words → AreWords more → AreWords (words ++ more)

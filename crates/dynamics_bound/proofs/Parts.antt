@@ -1,20 +1,6 @@
 -- The same by the parts of a depth: what is known of both halves is known of the whole.
-use Rattle.std.proofs.lemmas.Grind.{common_steps}
-use Rattle.std.proofs.Common.{◌≡◌, ℕ, zero, suc, ◌+◌, ◌*◌, ◌^◌, ◌≤◌, ◌<◌, ℤ, pos, ◌+ℤ◌, ◌-ℤ◌, ◌*ℤ◌, ◌≤ℤ◌, arith, refl, sym, ◌∙◌, ap}
-use Rattle.std.proofs.lemmas.Int.{ints, by_lt_z}
-use Rattle.std.proofs.Math.Nat.{pow-suc}
-use Rattle.fleet_math.specs.Sums.{power}
-use Rattle.fleet_math.specs.Bernstein.{bernstein}
-use Rattle.fleet_math.proofs.RingLemmas.{ring, linear, one_mul_ℤ}
-use Rattle.fleet_math.proofs.BernsteinLemmas.{bernstein-same}
-use Rattle.bezier_core.specs.Steps.{IsWithin}
-use Rattle.bezier_core.proofs.BlendLemmas.{within_mul}
-use Rattle.halving.specs.Part.{part_value}
-use Rattle.halving.proofs.PolarLemmas.{blossom, bernstein-blossom, polar-first, part-whole, left_half, right_half}
+use Rattle.dynamics_bound.proofs.Prelude.{common_steps, ◌≡◌, ℕ, zero, suc, ◌+◌, ◌*◌, ◌^◌, ◌≤◌, ◌<◌, ℤ, pos, ◌+ℤ◌, ◌-ℤ◌, ◌*ℤ◌, ◌≤ℤ◌, arith, refl, sym, ◌∙◌, ap, ints, by_lt_z, pow-suc, power, bernstein, ring, linear, one_mul_ℤ, bernstein-same, IsWithin, within_mul, part_value, blossom, bernstein-blossom, polar-first, part-whole, left_half, right_half, steps-half, steps, exchanged, minus_same, next_scale, polar-second, within_add, within_same, bend}
 use Rattle.halving.proofs.PartBounds.{part-half, bernstein-scaled}
-use Rattle.speed_bound.proofs.Halves.{steps-half}
-use Rattle.speed_bound.proofs.Slopes.{steps, exchanged, minus_same, next_scale, polar-second, within_add, within_same}
-use Rattle.dynamics_bound.specs.Accelerations.{bend}
 use Rattle.dynamics_bound.proofs.Tangents.{tangent}
 
 -- ---- the speeds of a half

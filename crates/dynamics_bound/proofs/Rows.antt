@@ -1,10 +1,5 @@
 -- Values of the definitions, compared with numbers that were computed elsewhere.
-use Rattle.std.proofs.Common.{◌≡◌, pos, refl, [], ◌∷◌}
-use Rattle.fleet_math.specs.Bernstein.{at, bernstein}
-use Rattle.bezier_core.specs.Raised.{raised, raised_value}
-use Rattle.halving.specs.Part.{polar}
-use Rattle.dynamics_bound.specs.Accelerations.{acceleration_of, segment_acceleration, widest_bend, widest_bend_part}
-use Rattle.dynamics_bound.specs.Edges.{jump_between, rest}
+use Rattle.dynamics_bound.proofs.Prelude.{◌≡◌, pos, refl, [], ◌∷◌, at, bernstein, raised, raised_value, polar, acceleration_of, segment_acceleration, widest_bend, widest_bend_part, jump_between, rest}
 
 -- a metre from rest to rest in two seconds, by its four control values in the middle: a bend of 1,000 mm, times 5,040
 whole-row : acceleration_of 0 2000 5040000 ≡ 10500000

@@ -1,27 +1,5 @@
 -- From the bends of the parts to the acceleration between each three instants of a segment.
-use Rattle.std.proofs.Common.{◌≡◌, ℕ, zero, suc, ◌*◌, ◌^◌, ◌≤◌, ◌<◌, ℤ, pos, ◌-ℤ◌, ◌*ℤ◌, ◌≤ℤ◌, ◌<ℤ◌, unsigned_abs, arith, refl, sym, ◌∙◌, ap, List, [], ◌∷◌, length, map, get_or, All}
-use Rattle.std.proofs.lemmas.Int.{ints}
-use Rattle.std.proofs.lemmas.Nat.{pow_pos, mul-le}
-use Rattle.std.proofs.lemmas.Grind.{div_ceil_times, common_steps}
-use Rattle.std.proofs.lemmas.List.{length-map}
-use Rattle.std.proofs.lemmas.List.Elements.{All-head, All-tail}
-use Rattle.fleet_math.specs.Sums.{power}
-use Rattle.fleet_math.specs.Bernstein.{at, bernstein}
-use Rattle.fleet_math.specs.Decoded.{IsPiece}
-use Rattle.fleet_math.proofs.RingLemmas.{ring, linear, le_mul_ℤ, mul_assoc_ℤ, mul_comm_ℤ, mul_not_negative}
-use Rattle.bezier_core.specs.Raised.{raised}
-use Rattle.bezier_core.specs.Steps.{IsWithin}
-use Rattle.bezier_core.proofs.BlendLemmas.{within_mul}
-use Rattle.halving.specs.Part.{part_value}
-use Rattle.traj_codec.specs.declared.traj.Segment.{Segment}
-use Rattle.traj_codec.specs.declared.traj.Traj.{Traj}
-use Rattle.traj_codec.specs.Positions.{durations, piece_on, pieces_on, points}
-use Rattle.speed_bound.specs.Speed.{duration, greatest_below}
-use Rattle.speed_bound.proofs.Halves.{within_abs}
-use Rattle.speed_bound.proofs.Slopes.{within_same}
-use Rattle.speed_bound.proofs.Speeds.{piece_value, power_low, within_cancel, within_wider}
-use Rattle.speed_bound.proofs.Widths.{greatest-at}
-use Rattle.dynamics_bound.specs.Accelerations.{KeepsAcceleration, bend, widest_bend, widest_bend_part, acceleration_of, segment_acceleration, acceleration_in, acceleration, after}
+use Rattle.dynamics_bound.proofs.Prelude.{◌≡◌, ℕ, zero, suc, ◌*◌, ◌^◌, ◌≤◌, ◌<◌, ℤ, pos, ◌-ℤ◌, ◌*ℤ◌, ◌≤ℤ◌, ◌<ℤ◌, unsigned_abs, arith, refl, sym, ◌∙◌, ap, List, [], ◌∷◌, length, map, get_or, All, ints, pow_pos, mul-le, div_ceil_times, common_steps, length-map, All-head, All-tail, power, at, bernstein, IsPiece, ring, linear, le_mul_ℤ, mul_assoc_ℤ, mul_comm_ℤ, mul_not_negative, raised, IsWithin, within_mul, part_value, Segment, Traj, durations, piece_on, pieces_on, points, duration, greatest_below, within_abs, within_same, piece_value, power_low, within_cancel, within_wider, greatest-at, KeepsAcceleration, bend, widest_bend, widest_bend_part, acceleration_of, segment_acceleration, acceleration_in, acceleration, after}
 use Rattle.dynamics_bound.proofs.Parts.{BendsWithin, three_by_parts}
 
 -- ---- units

@@ -1,14 +1,5 @@
 -- A half bends no more than the whole: in half the time, a quarter, of 2 ^ 7 times the values.
-use Rattle.std.proofs.Common.{◌≡◌, ℕ, suc, ◌+◌, ◌-◌, ◌≤◌, ℤ, pos, ◌-ℤ◌, ◌*ℤ◌, arith, sym, ◌∙◌, ap}
-use Rattle.std.proofs.lemmas.Int.{ints}
-use Rattle.fleet_math.specs.Sums.{power}
-use Rattle.fleet_math.proofs.RingLemmas.{one_mul_ℤ}
-use Rattle.bezier_core.specs.Steps.{IsWithin}
-use Rattle.halving.specs.Part.{polar, part_value}
-use Rattle.halving.proofs.PolarLemmas.{blossom}
-use Rattle.speed_bound.proofs.Halves.{polar_step, steps-half}
-use Rattle.speed_bound.proofs.Slopes.{steps, exchange, minus_same, polar-within, within_same}
-use Rattle.dynamics_bound.specs.Accelerations.{bend}
+use Rattle.dynamics_bound.proofs.Prelude.{◌≡◌, ℕ, suc, ◌+◌, ◌-◌, ◌≤◌, ℤ, pos, ◌-ℤ◌, ◌*ℤ◌, arith, sym, ◌∙◌, ap, ints, power, one_mul_ℤ, IsWithin, polar, part_value, blossom, polar_step, steps-half, steps, exchange, minus_same, polar-within, within_same, bend}
 
 -- the bends of a half are the polar form of those of the whole
 bend-half : (r k : ℕ) (f : ℕ → ℤ) → k ≤ 5 → bend (part_value 1 r f) k ≡ polar (5 - k) k (steps (steps f)) (pos r) (pos (r + 1)) (pos 2)

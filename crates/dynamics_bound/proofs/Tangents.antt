@@ -1,14 +1,5 @@
 -- How far a curve departs from its tangent: by the widest bend among its control values.
-use Rattle.std.proofs.Common.{◌≡◌, ℕ, zero, suc, ◌+◌, ◌≤◌, ℤ, pos, ◌+ℤ◌, ◌-ℤ◌, ◌*ℤ◌, ◌≤ℤ◌, arith, refl, ◌∙◌, ap}
-use Rattle.std.proofs.lemmas.Int.{ints}
-use Rattle.fleet_math.specs.Sums.{power}
-use Rattle.fleet_math.specs.Bernstein.{bernstein}
-use Rattle.fleet_math.proofs.RingLemmas.{ring, linear, zero_mul_ℤ}
-use Rattle.bezier_core.specs.Steps.{IsWithin}
-use Rattle.halving.specs.Part.{polar}
-use Rattle.halving.proofs.PolarLemmas.{polar-first}
-use Rattle.speed_bound.proofs.Slopes.{steps, count_more, exchange, exchanged, minus_same, polar-second, within_add, within_product, within_same}
-use Rattle.dynamics_bound.specs.Accelerations.{bend}
+use Rattle.dynamics_bound.proofs.Prelude.{◌≡◌, ℕ, zero, suc, ◌+◌, ◌≤◌, ℤ, pos, ◌+ℤ◌, ◌-ℤ◌, ◌*ℤ◌, ◌≤ℤ◌, arith, refl, ◌∙◌, ap, ints, power, bernstein, ring, linear, zero_mul_ℤ, IsWithin, polar, polar-first, steps, count_more, exchange, exchanged, minus_same, polar-second, within_add, within_product, within_same, bend}
 
 -- ---- the tangent
 -- 0 + 1 + .. + (j - 1)

@@ -1,17 +1,6 @@
 -- Velocities: the steps of elements, and how much two velocities differ.
-use Rattle.std.proofs.Common.{◌≡◌, ℕ, suc, ◌+◌, ◌-◌, ◌*◌, ◌^◌, ◌≤◌, ◌<◌, ℤ, pos, ◌-ℤ◌, ◌*ℤ◌, unsigned_abs, arith, sym, ◌∙◌, ap, List, ◌∷◌, length, FitsSigned, to_z, of_z}
-use Rattle.std.proofs.lemmas.Int.{ints, to_z-of_z}
-use mir.Syntax.{w32}
-use Rattle.std.proofs.lemmas.Nat.{mul-le}
-use Rattle.std.proofs.lemmas.Grind.{div_ceil_times, common_steps}
-use Rattle.fleet_math.specs.Bernstein.{at}
-use Rattle.fleet_math.specs.Numbers.{IsBelow}
-use Rattle.fleet_math.proofs.RingLemmas.{mul_comm_ℤ, one_mul_ℤ}
-use Rattle.bezier_core.proofs.BlendLemmas.{within_mul}
-use Rattle.fleet_math.proofs.BernsteinLemmas.{by_lt}
-use Rattle.bezier_core.specs.Steps.{IsWithin}
+use Rattle.dynamics_bound.proofs.Prelude.{◌≡◌, ℕ, suc, ◌+◌, ◌-◌, ◌*◌, ◌^◌, ◌≤◌, ◌<◌, ℤ, pos, ◌-ℤ◌, ◌*ℤ◌, unsigned_abs, arith, sym, ◌∙◌, ap, List, ◌∷◌, length, FitsSigned, to_z, of_z, ints, to_z-of_z, w32, mul-le, div_ceil_times, common_steps, at, IsBelow, mul_comm_ℤ, one_mul_ℤ, within_mul, by_lt, IsWithin, AreSame, first_step, jump_between, last_step}
 use Rattle.dynamics_bound.specs.declared.velocity.Velocity.{Velocity}
-use Rattle.dynamics_bound.specs.Edges.{AreSame, first_step, jump_between, last_step}
 
 -- the last step of a cubic, and that of degree seven
 pub last_cubic : (x : ℤ) (v : List ℤ) → length v ≡ 3 → last_step (x ∷ v) ≡ pos 3 *ℤ (at v 2 -ℤ at v 1)

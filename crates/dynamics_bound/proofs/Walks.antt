@@ -1,22 +1,5 @@
 -- How a walk goes from edge to edge.
-use Rattle.std.proofs.lemmas.Grind.{common_steps}
-use Rattle.std.proofs.Common.{◌≡◌, ℕ, zero, suc, ◌+◌, ◌≤◌, ◌<◌, max, ℤ, nat_lt, true, false, arith, refl, sym, ◌∙◌, ap, List, [], ◌∷◌, length, map, get_or, All}
-use Rattle.std.proofs.lemmas.Bool.Decides.{nat_tests}
-use Rattle.std.proofs.lemmas.List.Elements.{All-head, All-tail, All-nil, All-cons, All-get_or}
-use Rattle.fleet_math.specs.Bernstein.{at}
-use Rattle.fleet_math.specs.Decoded.{points_from}
-use Rattle.fleet_math.proofs.BernsteinLemmas.{by_lt}
-use Rattle.bezier_core.specs.declared.Bez.{Bez}
-use Rattle.bezier_core.specs.Raised.{raised}
-use Rattle.traj_codec.specs.declared.traj.Segment.{Segment}
-use Rattle.traj_codec.specs.declared.traj.Traj.{Traj}
-use Rattle.traj_codec.specs.Spelling.{stored, HasDuration}
-use Rattle.traj_codec.specs.Positions.{durations, element_on, piece_on, points, value_after}
-use Rattle.speed_bound.specs.Speed.{duration, greatest_below}
-use Rattle.dynamics_bound.specs.declared.walk.Reached.{Reached}
-use Rattle.dynamics_bound.specs.Accelerations.{acceleration, acceleration_in, segment_acceleration}
-use Rattle.dynamics_bound.specs.Edges.{arrival, departure, first_step, first_velocity, jump, jump_between, last_step, rest}
-use Rattle.dynamics_bound.specs.Steps.{reached_at, three, value_at, value_before}
+use Rattle.dynamics_bound.proofs.Prelude.{common_steps, ◌≡◌, ℕ, zero, suc, ◌+◌, ◌≤◌, ◌<◌, max, ℤ, nat_lt, true, false, arith, refl, sym, ◌∙◌, ap, List, [], ◌∷◌, length, map, get_or, All, nat_tests, All-head, All-tail, All-nil, All-cons, All-get_or, at, points_from, by_lt, Bez, raised, Segment, Traj, stored, HasDuration, durations, element_on, piece_on, points, value_after, duration, greatest_below, Reached, acceleration, acceleration_in, segment_acceleration, arrival, departure, first_step, first_velocity, jump, jump_between, last_step, rest, reached_at, three, value_at, value_before}
 
 -- ---- values, points and durations by the number of a segment
 points_before : (first : ℤ) (axis : ℕ) (segments : List Segment) (k : ℕ) (d : Segment) → k < length segments →

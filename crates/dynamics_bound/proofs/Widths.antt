@@ -1,16 +1,5 @@
 -- The widest bends of the parts of a curve, and the widths of what is computed from them.
-use Rattle.std.proofs.Common.{◌≡◌, ℕ, zero, suc, ◌+◌, ◌*◌, ◌^◌, ◌≤◌, ◌<◌, max, ℤ, pos, ◌-ℤ◌, ◌*ℤ◌, unsigned_abs, arith, lit<, refl, ap}
-use Rattle.std.proofs.lemmas.Int.{ints}
-use Rattle.std.proofs.lemmas.Nat.{pow-add, pow_pos, mul-le}
-use Rattle.std.proofs.lemmas.Grind.{common_steps}
-use Rattle.std.proofs.Math.Nat.{pow-suc, pow-zero, pow-le-pow_right}
-use Rattle.fleet_math.proofs.BernsteinLemmas.{by_lt}
-use Rattle.bezier_core.specs.Steps.{IsWithin}
-use Rattle.halving.specs.Part.{part_value}
-use Rattle.speed_bound.specs.Speed.{greatest_below}
-use Rattle.speed_bound.proofs.Widths.{div_ceil-least, greatest-same, greatest-at, greatest-most, parts-halves, parts-shrink, parts-whole}
-use Rattle.speed_bound.proofs.Halves.{within_abs}
-use Rattle.dynamics_bound.specs.Accelerations.{bend, widest_bend, widest_bend_part, acceleration_of}
+use Rattle.dynamics_bound.proofs.Prelude.{◌≡◌, ℕ, zero, suc, ◌+◌, ◌*◌, ◌^◌, ◌≤◌, ◌<◌, max, ℤ, pos, ◌-ℤ◌, ◌*ℤ◌, unsigned_abs, arith, lit<, refl, ap, ints, pow-add, pow_pos, mul-le, common_steps, pow-suc, pow-zero, pow-le-pow_right, by_lt, IsWithin, part_value, greatest_below, div_ceil-least, greatest-same, greatest-at, greatest-most, parts-halves, parts-shrink, parts-whole, within_abs, bend, widest_bend, widest_bend_part, acceleration_of}
 use Rattle.dynamics_bound.proofs.Shrinks.{bend_shrinks}
 
 -- ---- the parts of a depth

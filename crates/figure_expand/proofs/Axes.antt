@@ -45,7 +45,7 @@ unfit_axis (x ∷ vs) v all is = by_test (fits x) is (unfit_axis vs v (All-tail 
         subst IsOnAxis e (All-head IsOnAxis x vs all)
 
 -- so does the value that a grid is refused for
-range_axis : (g : Grid) (v : AxisValue) → range_fault g ≡ Some v → v.axis ≤ 3
+pub range_axis : (g : Grid) (v : AxisValue) → range_fault g ≡ Some v → v.axis ≤ 3
 unfolding range_fault
 range_axis g v is =
     unfit_axis (values g) v (All-append IsOnAxis (start_values g.starts) (values_from (start_points g.starts) g.cues) (of_starts g.starts) (in_cues (start_points g.starts) g.cues)) is

@@ -14,9 +14,9 @@ use choreo_lines::Point;
 use cue_grid::Cue;
 use mm_rounding::MicroPiece;
 
-/// What drone `d` does in a cue, from where it is at the end of the cue before, or from its start: the control values of
-/// its act in the show's frame, in micrometres and tenths of a degree (docs/LANGUAGE.md). The point moves to the end of the
-/// cue.
+/// What drone `d` does in a cue, from where it is at the end of the cue before, or from its start: the control values
+/// of its act in the show's frame, in micrometres and tenths of a degree (docs/LANGUAGE.md). The point moves to the
+/// end of the cue.
 pub fn step(point: &mut Point, d: usize, cue: &Cue) -> MicroPiece
     requires point { IsPointUpTo (2 ^ 40) point.old }
     requires drone { d < length cue.now.jobs }

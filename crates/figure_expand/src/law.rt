@@ -14,8 +14,8 @@ ghost use Rattle.figure_expand.specs.Flown.{FliesAsWritten, FitsWell};
 ghost use Rattle.figure_expand.specs.Written.{end_of, ClosedForms};
 
 /// A law. The pieces of each grid are at the written position, on each axis and at each fraction of each cue. A piece
-/// begins where its drone is, and ends where the drone is before the next cue. No value is out of range exactly where each
-/// start and each piece fits a trajectory. The curves that no arc or control point makes have these closed forms.
+/// begins where its drone is, and ends where the drone is before the next cue. No value is out of range exactly where
+/// each start and each piece fits a trajectory. The curves that no arc or control point makes have these closed forms.
 pub fn expansion_law()
     ensures written { (g : Grid) → FliesAsWritten g }
     ensures fits { (g : Grid) → IsGrid g → range_fault g ≡ None → FitsWell g }

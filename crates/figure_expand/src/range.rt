@@ -159,8 +159,8 @@ fn points_of(alloc: Global, starts: &[DroneLine]) -> Result<Vec<Point>, AllocErr
     Ok(points)
 }
 
-/// The first value of a grid that no trajectory can hold, which rounds outside two bytes: starts by drone and axis first,
-/// then cues, drones, axes and control points. Its axis is one of 0 to 3, for x, y, z and yaw.
+/// The first value of a grid that no trajectory can hold, which rounds outside two bytes: starts by drone and axis
+/// first, then cues, drones, axes and control points. Its axis is one of 0 to 3, for x, y, z and yaw.
 pub fn range_fault(alloc: Global, grid: &Grid) -> Result<Option<AxisValue>, AllocError>
     requires { IsGrid grid.now }
     ensures first { IfOk result (λ fault. fault ≡ range_fault grid.now) }

@@ -1,7 +1,5 @@
 -- A reader that holds nothing.
-use Rattle.std.proofs.Common.{◌≡◌, ℕ, Bool, true, false, List, [], ◌++◌, Option, Some, None, refl, sym, ap, ◌∙◌}
-use Rattle.std.specs.Prelude.{IsTrue}
-use Rattle.std.specs.Io.KnownBytes.{Consumes, Keeps, prepend_known}
+use Rattle.fleet_io.proofs.Prelude.{◌≡◌, ℕ, Bool, true, false, List, [], ◌++◌, Option, Some, None, refl, sym, ap, ◌∙◌, IsTrue, Consumes, Keeps, prepend_known}
 
 -- what was taken of the stream was taken of the source, where nothing waits
 pub taken_alone : (a mid : Option (List ℕ)) (waiting t : List ℕ) (left : Option (List ℕ)) → waiting ≡ [] → Consumes a mid t → Keeps mid (prepend_known waiting left) → Consumes a left t

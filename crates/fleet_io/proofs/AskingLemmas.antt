@@ -1,9 +1,5 @@
 -- How a reader of parts asked its source, step by step.
-use Rattle.std.proofs.lemmas.Grind.{common_steps}
-use Rattle.std.proofs.Common.{◌≡◌, ℕ, ◌<◌, ◌≤◌, true, false, List, [], ◌∷◌, ◌++◌, length, drop, Option, refl, sym, ap, ◌∙◌, append_assoc, append-nil, inl, inr, ◌⊎◌, arith}
-use Rattle.std.specs.Io.KnownBytes.{Consumes}
-use Rattle.fleet_io.specs.Held.{Asked, without_last, has_whole_marker, buffer_bytes}
-use Rattle.fleet_io.specs.Steps.{Runs}
+use Rattle.fleet_io.proofs.Prelude.{common_steps, ◌≡◌, ℕ, ◌<◌, ◌≤◌, true, false, List, [], ◌∷◌, ◌++◌, length, drop, Option, refl, sym, ap, ◌∙◌, append_assoc, append-nil, inl, inr, ◌⊎◌, arith, Consumes, Asked, without_last, has_whole_marker, buffer_bytes, Runs}
 use Rattle.fleet_io.proofs.TakenLemmas.{Consumes-append}
 use Rattle.fleet_io.proofs.MarkLemmas.{Gathers}
 

@@ -1,15 +1,6 @@
 -- What comes next of a part, from the bytes that wait.
-use Rattle.std.proofs.lemmas.Grind.{common_steps}
-use Rattle.std.proofs.Common.{◌≡◌, ℕ, zero, suc, ◌<◌, Bool, true, false, cond, eqb, ◌||◌, get_or, List, [], ◌∷◌, ◌++◌, length, take, drop, append_assoc, append-nil, Option, Some, None, refl, sym, ap, ◌∙◌, inl, inr, ◌⊎◌, arith}
-use Rattle.std.specs.Prelude.{IfSome, IsTrue}
-use Rattle.std.specs.Io.KnownBytes.{Keeps, IsAtEnd, prepend_known}
-use Rattle.std.specs.List.{position_or_len}
-use Rattle.std.proofs.lemmas.Bool.{cases_Bool}
-use Rattle.std.proofs.lemmas.List.{take-append-drop}
-use Rattle.std.proofs.lemmas.Slice.Eq.{bytes_eq-Decides}
-use Rattle.text_lines.specs.Marker.{is_marker}
+use Rattle.fleet_io.proofs.Prelude.{common_steps, ◌≡◌, ℕ, zero, suc, ◌<◌, Bool, true, false, cond, eqb, ◌||◌, get_or, List, [], ◌∷◌, ◌++◌, length, take, drop, append_assoc, append-nil, Option, Some, None, refl, sym, ap, ◌∙◌, inl, inr, ◌⊎◌, arith, IfSome, IsTrue, Keeps, IsAtEnd, prepend_known, position_or_len, cases_Bool, take-append-drop, bytes_eq-Decides, is_marker, ArePlain, AsksNext, begins_after, first_piece, is_marked_here, is_untold, may_be_marker, plain_len}
 use Rattle.fleet_io.specs.declared.parts.Ask.TheVariants as ask
-use Rattle.fleet_io.specs.PartBytes.{ArePlain, AsksNext, begins_after, first_piece, is_marked_here, is_untold, may_be_marker, plain_len}
 
 -- ---- the first line
 

@@ -1,7 +1,5 @@
 -- Lines of joined texts.
-use Rattle.std.proofs.lemmas.Grind.{common_steps}
-use Rattle.std.proofs.Common.{◌≡◌, ℕ, Bool, cond, List, [], ◌∷◌, ◌++◌, refl, sym, ap, ◌∙◌, arith}
-use Rattle.std.specs.List.{slice_split, onto_first}
+use Rattle.fleet_io.proofs.Prelude.{common_steps, ◌≡◌, ℕ, Bool, cond, List, [], ◌∷◌, ◌++◌, refl, sym, ap, ◌∙◌, arith, slice_split, onto_first}
 
 -- the last line of one text goes on with the first of another
 abbrev pub meet : List (List ℕ) → List (List ℕ) → List (List ℕ)

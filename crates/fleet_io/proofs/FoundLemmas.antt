@@ -1,16 +1,7 @@
 -- The part that a reader of parts returns.
-use Rattle.std.proofs.lemmas.Grind.{common_steps}
-use Rattle.std.proofs.Common.{◌≡◌, ℕ, ◌+◌, ◌<◌, ◌≤◌, Bool, true, false, List, [], ◌∷◌, ◌++◌, length, take, drop, Option, Some, None, Result, Ok, Err, refl, ap, ◌∙◌, append-nil, arith}
-use Rattle.std.specs.Prelude.{IfOk, IfErr, IfSome}
-use Rattle.std.specs.Io.KnownBytes.{Consumes, Keeps, IsAtEnd}
-use Rattle.std.proofs.lemmas.List.{length-take}
-use Rattle.std.proofs.lemmas.Bool.{cases_Bool}
+use Rattle.fleet_io.proofs.Prelude.{common_steps, ◌≡◌, ℕ, ◌+◌, ◌<◌, ◌≤◌, Bool, true, false, List, [], ◌∷◌, ◌++◌, length, take, drop, Option, Some, None, Result, Ok, Err, refl, ap, ◌∙◌, append-nil, arith, IfOk, IfErr, IfSome, Consumes, Keeps, IsAtEnd, length-take, cases_Bool, Part, IoFault, is_marker, part_of, TakesPart}
 use Rattle.std.proofs.lemmas.Result.{IfErr-weaker}
-use Rattle.fleet_io.specs.declared.parts.Part.{Part}
-use Rattle.fleet_io.specs.declared.parts.IoFault.{IoFault}
 use Rattle.fleet_io.specs.declared.parts.IoFault.TheVariants.{TooLong}
-use Rattle.text_lines.specs.Marker.{is_marker, part_of}
-use Rattle.fleet_io.specs.Parts.{TakesPart}
 use Rattle.fleet_io.proofs.MarkLemmas.{Gathers, Finds, Finds-marker, Finds-last_marker, Finds-none, too_long}
 
 -- the part that was found in a text is the part that is taken

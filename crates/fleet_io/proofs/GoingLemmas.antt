@@ -1,10 +1,5 @@
 -- What steps of a reader of parts keep adds up.
-use Rattle.std.proofs.lemmas.Grind.{common_steps}
-use Rattle.std.proofs.Common.{◌≡◌, ℕ, List, Option, ◌∙◌, arith}
-use Rattle.std.specs.Prelude.{IsTrue}
-use Rattle.std.specs.Io.KnownBytes.{IsAtEnd}
-use Rattle.fleet_io.specs.Held.{Held}
-use Rattle.fleet_io.specs.Steps.{Goes}
+use Rattle.fleet_io.proofs.Prelude.{common_steps, ◌≡◌, ℕ, List, Option, ◌∙◌, arith, IsTrue, IsAtEnd, Held, Goes}
 use Rattle.fleet_io.proofs.TakenLemmas.{TakesFront-none, TakesFront-trans}
 
 -- two steps, one after the other

@@ -1,3 +1,4 @@
+mod Prelude
 pub mod SentLemmas
 pub mod TextLemmas
 pub mod FoundLemmas

@@ -1,16 +1,6 @@
 -- The lines that were gathered so far, and the part that they make.
-use Rattle.std.proofs.lemmas.Grind.{common_steps}
-use Rattle.std.proofs.Common.{◌≡◌, ℕ, zero, suc, ◌+◌, ◌≤◌, Bool, true, false, cond, ◌||◌, ◌&&◌, eqb, List, [], ◌∷◌, ◌++◌, length, take, drop, refl, sym, ap, ◌∙◌, append_assoc, length-append, inl, inr, ◌⊎◌, arith}
-use Rattle.std.specs.List.{join_with_byte}
-use Rattle.std.proofs.lemmas.List.{append-nil, take-append-le, drop-append-le, take-append-drop, drop_all, take_all, length-drop, length-take}
-use Rattle.std.proofs.lemmas.List.Splits.{join_with_byte-slice_split}
+use Rattle.fleet_io.proofs.Prelude.{common_steps, ◌≡◌, ℕ, zero, suc, ◌+◌, ◌≤◌, Bool, true, false, cond, ◌||◌, ◌&&◌, eqb, List, [], ◌∷◌, ◌++◌, length, take, drop, refl, sym, ap, ◌∙◌, append_assoc, length-append, inl, inr, ◌⊎◌, arith, join_with_byte, append-nil, take-append-le, drop-append-le, take-append-drop, drop_all, take_all, length-drop, length-take, join_with_byte-slice_split, cases_Bool, eqb-true, bytes_eq-Decides, between_feeds, is_marker, has_marker, lines_before, lines_after, ended, part_of, rest_of, first_piece, Runs}
 use Rattle.std.proofs.lemmas.List.Concat.{flat_map-append}
-use Rattle.std.proofs.lemmas.Bool.{cases_Bool, eqb-true}
-use Rattle.std.proofs.lemmas.Slice.Eq.{bytes_eq-Decides}
-use Rattle.text_lines.specs.Lines.{between_feeds}
-use Rattle.text_lines.specs.Marker.{is_marker, has_marker, lines_before, lines_after, ended, part_of, rest_of}
-use Rattle.fleet_io.specs.PartBytes.{first_piece}
-use Rattle.fleet_io.specs.Steps.{Runs}
 use Rattle.fleet_io.proofs.CutLemmas.{split-goes_on, IsFull-split}
 
 -- These bytes are lines without a marker line, and then the line that begins at start.

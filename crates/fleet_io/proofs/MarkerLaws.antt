@@ -1,16 +1,5 @@
 -- A marker line with its line feed cuts a text, whatever comes after it.
-use Rattle.std.proofs.lemmas.Grind.{common_steps}
-use Rattle.std.proofs.Common.{◌≡◌, ℕ, Bool, true, false, cond, eqb, ◌||◌, List, [], ◌∷◌, ◌++◌, drop, Option, refl, sym, ap, ◌∙◌, append_assoc, append-nil, arith}
-use Rattle.std.specs.List.{join_with_byte}
-use Rattle.std.specs.Prelude.{Result, Ok, Err, IfOk}
-use Rattle.std.specs.Io.KnownBytes.{Consumes}
-use Rattle.std.proofs.lemmas.List.Splits.{join_with_byte-slice_split}
-use Rattle.text_lines.specs.Lines.{between_feeds}
-use Rattle.text_lines.specs.Marker.{is_marker, has_marker, lines_before, lines_after, ended, part_of, rest_of}
-use Rattle.fleet_io.specs.declared.parts.Part.{Part}
-use Rattle.fleet_io.specs.declared.parts.IoFault.{IoFault}
-use Rattle.fleet_io.specs.Held.{has_whole_marker, without_last}
-use Rattle.fleet_io.specs.Parts.{MarkerLaw, TakesMarked}
+use Rattle.fleet_io.proofs.Prelude.{common_steps, ◌≡◌, ℕ, Bool, true, false, cond, eqb, ◌||◌, List, [], ◌∷◌, ◌++◌, drop, Option, refl, sym, ap, ◌∙◌, append_assoc, append-nil, arith, join_with_byte, Result, Ok, Err, IfOk, Consumes, join_with_byte-slice_split, between_feeds, is_marker, has_marker, lines_before, lines_after, ended, part_of, rest_of, Part, IoFault, has_whole_marker, without_last, MarkerLaw, TakesMarked}
 use Rattle.fleet_io.proofs.AskingLemmas.{without_last-push}
 use Rattle.fleet_io.proofs.CutLemmas.{IsFull-split, split-goes_on}
 use Rattle.fleet_io.proofs.MarkLemmas.{Gathers}

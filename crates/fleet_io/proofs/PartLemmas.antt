@@ -1,12 +1,5 @@
 -- A part byte by byte is the part by lines.
-use Rattle.std.proofs.lemmas.Grind.{common_steps}
-use Rattle.std.proofs.Common.{◌≡◌, ℕ, Bool, true, false, cond, ◌&&◌, ◌||◌, eqb, List, [], ◌∷◌, ◌++◌, append_assoc, refl, sym, ap, ◌∙◌, arith}
-use Rattle.std.specs.List.{join_with_byte, onto_first}
-use Rattle.std.proofs.lemmas.Bool.{eqb-true}
-use Rattle.std.proofs.lemmas.List.Splits.{join_with_byte-slice_split}
-use Rattle.text_lines.specs.Lines.{between_feeds}
-use Rattle.text_lines.specs.Marker.{is_marker, has_marker, lines_before, lines_after, ended, part_of, rest_of}
-use Rattle.fleet_io.specs.PartBytes.{ArePlain, begins_after, first_piece, after_piece, part_left, is_marked_left, rest_left, PartLaw}
+use Rattle.fleet_io.proofs.Prelude.{common_steps, ◌≡◌, ℕ, Bool, true, false, cond, ◌&&◌, ◌||◌, eqb, List, [], ◌∷◌, ◌++◌, append_assoc, refl, sym, ap, ◌∙◌, arith, join_with_byte, onto_first, eqb-true, join_with_byte-slice_split, between_feeds, is_marker, has_marker, lines_before, lines_after, ended, part_of, rest_of, ArePlain, begins_after, first_piece, after_piece, part_left, is_marked_left, rest_left, PartLaw}
 
 -- the pieces after the first
 abbrev tail_pieces : List ℕ → List (List ℕ)

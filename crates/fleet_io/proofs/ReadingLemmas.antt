@@ -1,12 +1,5 @@
 -- How much a reader of parts takes from its source.
-use Rattle.std.proofs.lemmas.Grind.{common_steps}
-use Rattle.std.proofs.Common.{◌≡◌, ℕ, ◌+◌, ◌≤◌, Bool, true, false, List, ◌++◌, length, length-append, Option, Some, None, refl, ap, ◌⊎◌, arith}
-use Rattle.std.specs.Prelude.{IfSome}
-use Rattle.std.specs.Io.KnownBytes.{Consumes, prepend_known}
-use Rattle.text_lines.specs.Marker.{rest_of}
-use Rattle.fleet_io.specs.Held.{has_whole_marker}
-use Rattle.fleet_io.specs.Parts.{TakesFewAfter, TakesMarked}
-use Rattle.fleet_io.specs.Taken.{TakesAtMost}
+use Rattle.fleet_io.proofs.Prelude.{common_steps, ◌≡◌, ℕ, ◌+◌, ◌≤◌, Bool, true, false, List, ◌++◌, length, length-append, Option, Some, None, refl, ap, ◌⊎◌, arith, IfSome, Consumes, prepend_known, rest_of, has_whole_marker, TakesFewAfter, TakesMarked, TakesAtMost}
 use Rattle.fleet_io.proofs.MarkerLaws.{whole_marker-front}
 
 -- what was taken of the source was gathered, or waits

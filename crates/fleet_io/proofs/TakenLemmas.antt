@@ -1,8 +1,5 @@
 -- What was taken adds up.
-use Rattle.std.proofs.Common.{ℕ, List, [], ◌∷◌, ◌++◌, Option, Some, None, refl, sym, ap, ◌∙◌, append_assoc}
-use Rattle.std.specs.Io.KnownBytes.{Consumes, prepend_known}
-use Rattle.fleet_io.specs.Steps.{Runs}
-use Rattle.fleet_io.specs.Taken.{TakesFront}
+use Rattle.fleet_io.proofs.Prelude.{ℕ, List, [], ◌∷◌, ◌++◌, Option, Some, None, refl, sym, ap, ◌∙◌, append_assoc, Consumes, prepend_known, Runs, TakesFront}
 
 -- what two reads took was taken in their order
 pub Consumes-append : (a b c : Option (List ℕ)) (xs ys : List ℕ) → Consumes a b xs → Consumes b c ys → Consumes a c (xs ++ ys)

@@ -1,8 +1,5 @@
 -- A text that grows keeps what it had.
-use Rattle.std.proofs.Common.{◌≡◌, ℕ, ◌+◌, ◌<◌, ◌≤◌, get_or, cond, List, [], ◌∷◌, ◌++◌, length, take, arith}
-use Rattle.std.proofs.lemmas.List.{take-append-le, length-append, take_more}
-use Rattle.fleet_io.specs.Words.{with_word, with_hex, hex_word}
-use Rattle.std.proofs.lemmas.Grind.{fold-append, common_steps}
+use Rattle.fleet_io.proofs.Prelude.{◌≡◌, ℕ, ◌+◌, ◌<◌, ◌≤◌, get_or, cond, List, [], ◌∷◌, ◌++◌, length, take, arith, take-append-le, length-append, take_more, with_word, with_hex, hex_word, fold-append, common_steps}
 
 -- The text begins with the old one.
 pub record Keeps (old text : List ℕ) : Type 0 where

@@ -1,13 +1,6 @@
 -- The bytes that wait in a buffer.
-use Rattle.std.proofs.lemmas.Grind.{common_steps}
-use Rattle.std.proofs.Common.{◌≡◌, ℕ, ◌+◌, ◌-◌, ◌≤◌, min, List, ◌++◌, length, take, drop, append_assoc, length-append, Option, Some, None, refl, sym, ap, ◌∙◌, arith}
-use Rattle.std.specs.List.{copy_within}
-use Rattle.std.specs.Io.KnownBytes.{Consumes, Keeps, prepend_known}
-use Rattle.std.proofs.lemmas.Bool.{cases_lt}
-use Rattle.std.proofs.Math.Seq.{take-append-add}
-use Rattle.std.proofs.lemmas.List.{drop_all, drop-drop, drop-take, length-drop, length-take, length-take-le, take_at, take-take}
+use Rattle.fleet_io.proofs.Prelude.{common_steps, ◌≡◌, ℕ, ◌+◌, ◌-◌, ◌≤◌, min, List, ◌++◌, length, take, drop, append_assoc, length-append, Option, Some, None, refl, sym, ap, ◌∙◌, arith, copy_within, Consumes, Keeps, prepend_known, cases_lt, take-append-add, drop_all, drop-drop, drop-take, length-drop, length-take, length-take-le, take_at, take-take, Refills}
 use Rattle.std.proofs.lemmas.Slice.{take-put_mid, take-put_mid_below}
-use Rattle.fleet_io.specs.Steps.{Refills}
 use borrow.Rule.Slice.PartMut.{put_mid}
 
 -- the bytes between two places, cut from either side

@@ -1,12 +1,8 @@
 -- Texts are made of words, one by one. These laws say which lines the words make.
-use Rattle.std.proofs.lemmas.Grind.{common_steps}
-use Rattle.std.proofs.Common.{◌≡◌, ℕ, suc, ◌+◌, ◌≤◌, ◌-◌, ◌%◌, ◌^◌, ◌<◌, true, false, cond, eqb, List, [], ◌∷◌, ◌++◌, length, map, ltb, refl, sym, ap, ◌∙◌, append_assoc, append-nil, length-append, arith, ℤ, pos, negsuc, flat_map}
+use Rattle.fleet_io.proofs.Prelude.{common_steps, ◌≡◌, ℕ, suc, ◌+◌, ◌≤◌, ◌-◌, ◌%◌, ◌^◌, ◌<◌, true, false, cond, eqb, List, [], ◌∷◌, ◌++◌, length, map, ltb, refl, sym, ap, ◌∙◌, append_assoc, append-nil, length-append, arith, ℤ, pos, negsuc, flat_map, ne_eqb, get_or-append-add, is_line_empty, with_word, with_words, with_hex, hex_word, hex_digit, IsWord, AreWords, line}
 use lib.Signed.{mag}
 use Rattle.std.specs.Fmt.{decimal, signed_decimal}
-use Rattle.std.proofs.lemmas.Bool.{ne_eqb}
 use Rattle.std.proofs.lemmas.Fmt.{decimal_by_steps, length-decimal-le, length_signed_le}
-use Rattle.std.proofs.lemmas.List.{get_or-append-add}
-use Rattle.fleet_io.specs.Words.{is_line_empty, with_word, with_words, with_hex, hex_word, hex_digit, IsWord, AreWords, line}
 
 -- ---- the last line of a text
 

@@ -1,3 +1,4 @@
+mod Prelude
 pub mod FloorLemmas
 pub mod WeightLemmas
 pub mod CurveLemmas

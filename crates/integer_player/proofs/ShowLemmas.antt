@@ -1,17 +1,9 @@
 -- What goes out through the buffer of rows, and the places of all drones.
-use Rattle.std.proofs.Common.{◌≡◌, ℕ, zero, suc, ◌+◌, ◌*◌, ◌/◌, ◌%◌, ◌==◌, if◌then◌else◌, false, ◌<◌, ◌≤◌, ℤ, List, [], ◌∷◌, ◌++◌, length, take, drop, map, get_or, Option, Result, Ok, Err, OnErr, refl, sym, ap, subst, ◌∙◌, append_assoc, arith, slice_set}
-use Rattle.std.proofs.lemmas.Bool.Decides.{nat_tests}
+use Rattle.integer_player.proofs.Prelude.{◌≡◌, ℕ, zero, suc, ◌+◌, ◌*◌, ◌/◌, ◌%◌, ◌==◌, if◌then◌else◌, false, ◌<◌, ◌≤◌, ℤ, List, [], ◌∷◌, ◌++◌, length, take, drop, map, get_or, Option, Result, Ok, Err, OnErr, refl, sym, ap, subst, ◌∙◌, append_assoc, arith, slice_set, nat_tests, flat_map, range_with_len, append-nil, take-append-drop, flat_map-append, common_steps, Traj, Place, IsPlaceIn, ArePlaces, played, row, rows_at, play_text, Passes}
 use Rattle.std.specs.Io.KnownBytes.{Appends}
-use Rattle.std.specs.List.{flat_map, range_with_len}
-use Rattle.std.proofs.lemmas.List.{append-nil, take-append-drop}
 use Rattle.std.proofs.lemmas.List.FromFn.{map-range_with_len_more, take-map-range_with_len}
-use Rattle.std.proofs.lemmas.Grind.{flat_map-append, common_steps}
 use Rattle.fleet_io.specs.Taken.{AppendsFront}
 use Rattle.fleet_io.proofs.SentLemmas.{Appends-append}
-use Rattle.traj_codec.specs.declared.traj.Traj.{Traj}
-use Rattle.integer_player.specs.Places.{Place, IsPlaceIn, ArePlaces}
-use Rattle.integer_player.specs.Played.{played, row, rows_at, play_text}
-use Rattle.integer_player.specs.Steps.{Passes}
 
 -- ---- what goes out
 

@@ -1,12 +1,6 @@
 -- The first part that isn't kept, of all regions.
-use Rattle.std.proofs.lemmas.Grind.{common_steps}
-use Rattle.std.proofs.Common.{◌≡◌, ℕ, ◌^◌, ◌<◌, sym, subst, ◌∙◌, ap, inl, inr, List, length, get_or, Some, slice_get, arith}
-use Rattle.fleet_curves.specs.Raised.{Raised}
+use Rattle.keepout_boxes.proofs.Prelude.{common_steps, ◌≡◌, ℕ, ◌^◌, ◌<◌, sym, subst, ◌∙◌, ap, inl, inr, List, length, get_or, Some, slice_get, arith, Raised, item_there, same_item, Region, IsBefore, IsFirstEntry, IsSpot, KeptAt, Spot, IsFirstOfRegion, KeptHere, RegionsKept}
 use Rattle.fleet_curves.proofs.Differences.{same_default}
-use Rattle.fleet_curves.proofs.Standing.{item_there, same_item}
-use Rattle.keepout_boxes.specs.declared.region.Region.{Region}
-use Rattle.keepout_boxes.specs.Kept.{IsBefore, IsFirstEntry, IsSpot, KeptAt, Spot}
-use Rattle.keepout_boxes.specs.Steps.{IsFirstOfRegion, KeptHere, RegionsKept}
 
 -- one region more is kept
 pub region_more : (c : Raised) (r h depth : ℕ) (regions : List Region) (k : ℕ) (x : Region) → x ≡ get_or regions k x → ((drone : ℕ) → drone < c.drones → (cue : ℕ) → cue < c.cues → (index : ℕ) → index < 2 ^ depth → KeptHere c r h depth x drone cue index) →

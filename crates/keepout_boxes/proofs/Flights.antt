@@ -1,15 +1,5 @@
 -- The box of a flight: what is known of it is known of each cue.
-use Rattle.std.proofs.Common.{◌≡◌, ℕ, zero, suc, ◌+◌, ◌≤◌, ◌<◌, ℤ, pos, arith, refl, subst, inl, inr, List, [], ◌∷◌, below_more}
-use Rattle.std.proofs.lemmas.Int.{ints}
-use Rattle.fleet_math.specs.Numbers.{IsIn}
-use Rattle.fleet_math.specs.Bernstein.{at}
-use Rattle.fleet_math.proofs.RingLemmas.{linear}
-use Rattle.bezier_core.specs.declared.Bez.{Bez}
-use Rattle.fleet_curves.specs.Raised.{Raised, curves_at}
-use Rattle.keepout_boxes.specs.declared.region.Region.{Region}
-use Rattle.keepout_boxes.specs.declared.region.Region.TheVariants.{Keepout, Volume}
-use Rattle.keepout_boxes.specs.Kept.{IsKept}
-use Rattle.keepout_boxes.specs.Steps.{Covers, DroneKept, IsWider, values_of}
+use Rattle.keepout_boxes.proofs.Prelude.{◌≡◌, ℕ, zero, suc, ◌+◌, ◌≤◌, ◌<◌, ℤ, pos, arith, refl, subst, inl, inr, List, [], ◌∷◌, below_more, ints, IsIn, at, linear, Bez, Raised, curves_at, Region, Keepout, Volume, IsKept, Covers, DroneKept, IsWider, values_of}
 use Rattle.keepout_boxes.proofs.Walks.{kept_within, to_here}
 
 -- values that lie between the first two of kept ones, on each axis, are kept

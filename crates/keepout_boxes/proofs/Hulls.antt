@@ -1,7 +1,5 @@
 -- One less or one more, scaled.
-use Rattle.std.proofs.lemmas.Grind.{common_steps}
-use Rattle.std.proofs.Common.{◌≡◌, ℤ, pos, negsuc, neg_ℤ, ◌+ℤ◌, ◌-ℤ◌, ◌*ℤ◌, ◌≤ℤ◌, ◌<ℤ◌, arith, ◌∙◌, ap}
-use Rattle.fleet_math.proofs.RingLemmas.{mul_comm_ℤ, neg_mul_ℤ, one_mul_ℤ, mul_add_ℤ}
+use Rattle.keepout_boxes.proofs.Prelude.{common_steps, ◌≡◌, ℤ, pos, negsuc, neg_ℤ, ◌+ℤ◌, ◌-ℤ◌, ◌*ℤ◌, ◌≤ℤ◌, ◌<ℤ◌, arith, ◌∙◌, ap, mul_comm_ℤ, neg_mul_ℤ, one_mul_ℤ, mul_add_ℤ}
 
 minus_one : (x : ℤ) → negsuc 0 *ℤ x ≡ neg_ℤ x
 minus_one x = neg_mul_ℤ (pos 1) x ∙ ap (λ (z : ℤ). neg_ℤ z) (one_mul_ℤ x)

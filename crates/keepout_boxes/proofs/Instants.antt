@@ -1,26 +1,8 @@
 -- From parts that are kept to positions that keep to a region.
-use Rattle.std.proofs.Common.{◌≡◌, ℕ, zero, suc, ◌+◌, ◌*◌, ◌^◌, ◌≤◌, ◌<◌, ℤ, pos, ◌+ℤ◌, ◌-ℤ◌, ◌*ℤ◌, ◌≤ℤ◌, ◌<ℤ◌, arith, refl, sym, subst, ◌∙◌, ap, inl, inr, List, [], ◌∷◌, length, get_or, Some, slice_get, All}
-use Rattle.std.proofs.lemmas.Int.{ints, by_lt_z}
-use Rattle.std.proofs.lemmas.Nat.{pow_pos}
+use Rattle.keepout_boxes.proofs.Prelude.{◌≡◌, ℕ, zero, suc, ◌+◌, ◌*◌, ◌^◌, ◌≤◌, ◌<◌, ℤ, pos, ◌+ℤ◌, ◌-ℤ◌, ◌*ℤ◌, ◌≤ℤ◌, ◌<ℤ◌, arith, refl, sym, subst, ◌∙◌, ap, inl, inr, List, [], ◌∷◌, length, get_or, Some, slice_get, All, ints, by_lt_z, pow_pos, power, IsIn, at, bernstein, ring, linear, le_mul_ℤ, mul_assoc_ℤ, mul_comm_ℤ, mul_left_comm_ℤ, mul_add_ℤ, one_mul_ℤ, by_lt, bernstein-at_least, Bez, controls, part_value, Traj, decoded, durations, HasFewPoints, Raised, curves_at, raised_in, part-instant, power_seven, bernstein-at_most, at_place, segments_of, Region, Keepout, Volume, AllAbove, AllBelow, AllBetween, IsKept, IsSpot, KeepsTo, KeptAt, Spot, StaysClear, extent, part_of}
 use Rattle.std.proofs.lemmas.Option.{slice_get_within}
-use Rattle.fleet_math.specs.Sums.{power}
-use Rattle.fleet_math.specs.Numbers.{IsIn}
-use Rattle.fleet_math.specs.Bernstein.{at, bernstein}
 use Rattle.fleet_math.specs.Moments.{Moment, moment}
-use Rattle.fleet_math.proofs.RingLemmas.{ring, linear, le_mul_ℤ, mul_assoc_ℤ, mul_comm_ℤ, mul_left_comm_ℤ, mul_add_ℤ, one_mul_ℤ}
-use Rattle.fleet_math.proofs.BernsteinLemmas.{by_lt, bernstein-at_least}
 use Rattle.fleet_math.proofs.MomentLemmas.{IsInside, moment-inside}
-use Rattle.bezier_core.specs.declared.Bez.{Bez}
-use Rattle.bezier_core.specs.Along.{controls}
-use Rattle.halving.specs.Part.{part_value}
-use Rattle.traj_codec.specs.declared.traj.Traj.{Traj}
-use Rattle.traj_codec.specs.Positions.{decoded, durations}
-use Rattle.fleet_curves.specs.Raised.{HasFewPoints, Raised, curves_at, raised_in}
-use Rattle.halving.proofs.PartBounds.{part-instant, power_seven, bernstein-at_most}
-use Rattle.fleet_curves.proofs.Standing.{at_place, segments_of}
-use Rattle.keepout_boxes.specs.declared.region.Region.{Region}
-use Rattle.keepout_boxes.specs.declared.region.Region.TheVariants.{Keepout, Volume}
-use Rattle.keepout_boxes.specs.Kept.{AllAbove, AllBelow, AllBetween, IsKept, IsSpot, KeepsTo, KeptAt, Spot, StaysClear, extent, part_of}
 use Rattle.sep_parts.proofs.Positions.{curve_value}
 use Rattle.keepout_boxes.proofs.Hulls.{less_scaled, more_scaled}
 

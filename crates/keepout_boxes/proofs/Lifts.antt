@@ -1,16 +1,9 @@
 -- From one cutting into segments to another.
-use Rattle.std.proofs.Common.{◌≡◌, ℕ, ◌*◌, ◌≤◌, ℤ, pos, ◌+ℤ◌, ◌-ℤ◌, ◌*ℤ◌, ◌<ℤ◌, ◌≤ℤ◌, arith, refl, sym, subst, ◌∙◌, ap, inl, inr, get_or}
+use Rattle.keepout_boxes.proofs.Prelude.{◌≡◌, ℕ, ◌*◌, ◌≤◌, ℤ, pos, ◌+ℤ◌, ◌-ℤ◌, ◌*ℤ◌, ◌<ℤ◌, ◌≤ℤ◌, arith, refl, sym, subst, ◌∙◌, ap, inl, inr, get_or, power, at, ring, linear, lt_mul_ℤ, le_mul_ℤ, le_from_mul_ℤ, mul_comm_ℤ, Traj, decoded, durations, Keepout, Volume, KeepsLaw, KeepsTo, SentLaw, extent}
 use Rattle.std.specs.List.{sum}
-use Rattle.fleet_math.specs.Sums.{power}
-use Rattle.fleet_math.specs.Bernstein.{at}
-use Rattle.fleet_math.proofs.RingLemmas.{ring, linear, lt_mul_ℤ, le_mul_ℤ, le_from_mul_ℤ, mul_comm_ℤ}
 use Rattle.fleet_math.proofs.DivisionLemmas.{lt_from_mul_ℤ}
-use Rattle.traj_codec.specs.declared.traj.Traj.{Traj}
-use Rattle.traj_codec.specs.Positions.{decoded, durations}
 use Rattle.traj_codec.specs.Joined.{IsLasting, JoinLaw, joined, own}
 use Rattle.sep_parts.proofs.Lifts.{lasting_at, own_some, sent_at, seventh_positive}
-use Rattle.keepout_boxes.specs.declared.region.Region.TheVariants.{Keepout, Volume}
-use Rattle.keepout_boxes.specs.Kept.{KeepsLaw, KeepsTo, SentLaw, extent}
 
 -- x over P and y over Q are the same number: what holds of the one against a limit holds of the other
 turn : (l p q : ℤ) → (l *ℤ p) *ℤ q ≡ (l *ℤ q) *ℤ p

@@ -1,9 +1,6 @@
 -- Values of the definitions, compared with lines and numbers that were written down elsewhere.
-use Rattle.std.proofs.Common.{◌≡◌, pos, negsuc, [], ◌∷◌, ◌++◌, refl}
+use Rattle.keepout_boxes.proofs.Prelude.{◌≡◌, pos, negsuc, [], ◌∷◌, ◌++◌, refl, codes, Ok, Err, Keepout, Volume, regions_of}
 use Rattle.std.specs.Fmt.{digits}
-use Rattle.std.specs.Prelude.{codes, Ok, Err}
-use Rattle.keepout_boxes.specs.declared.region.Region.TheVariants.{Keepout, Volume}
-use Rattle.keepout_boxes.specs.Regions.{regions_of}
 use Rattle.keepout_boxes.specs.Lines.{kept_line}
 
 -- the line of one region

@@ -1,31 +1,11 @@
 -- Parts of parts: what is known of the halves of a part is known of the part.
-use Rattle.std.proofs.lemmas.Grind.{common_steps}
-use Rattle.std.proofs.Common.{◌≡◌, ℕ, suc, ◌+◌, ◌-◌, ◌*◌, ◌^◌, ◌≤◌, ◌<◌, ℤ, pos, ◌+ℤ◌, ◌-ℤ◌, ◌*ℤ◌, ◌≤ℤ◌, ◌<ℤ◌, true, false, arith, refl, sym, subst, ◌∙◌, ap, inl, inr, List, Option, Some, None, All, lit<, MatchOption, FitsSigned, [], length}
-use Rattle.std.proofs.lemmas.List.{get_or_past}
-use mir.Syntax.{w128}
-use Rattle.halving.proofs.PartBounds.{part-within, part-at_least, part-at_most, part-half}
-use Rattle.std.specs.Prelude.{is_some}
+use Rattle.keepout_boxes.proofs.Prelude.{common_steps, ◌≡◌, ℕ, suc, ◌+◌, ◌-◌, ◌*◌, ◌^◌, ◌≤◌, ◌<◌, ℤ, pos, ◌+ℤ◌, ◌-ℤ◌, ◌*ℤ◌, ◌≤ℤ◌, ◌<ℤ◌, true, false, arith, refl, sym, subst, ◌∙◌, ap, inl, inr, List, Option, Some, None, All, lit<, MatchOption, FitsSigned, [], length, get_or_past, w128, part-within, part-at_least, part-at_most, part-half, is_some, ints, pow-add, pow_pos, All-from_get_or, All-get_or, IsIn, IsBelow, at, ring, linear, mul_assoc_ℤ, one_mul_ℤ, by_lt, Bez, controls, part_value, Region, Keepout, Volume, AllAbove, AllBelow, IsKept, extent, part_of, Raised, curves_at, AllKeptIn, CueKept, IsFirstIn, IsFirstOfCue, KeptHere, KeptIn, values_of}
 use Rattle.std.specs.Option.{option_map}
-use Rattle.std.proofs.lemmas.Int.{ints}
-use Rattle.std.proofs.lemmas.Nat.{pow-add, pow_pos}
 use Rattle.std.proofs.Math.Nat.{pow-suc, pow-le-pow_right}
-use Rattle.std.proofs.lemmas.List.Elements.{All-from_get_or, All-get_or}
-use Rattle.fleet_math.specs.Numbers.{IsIn, IsBelow}
-use Rattle.fleet_math.specs.Bernstein.{at}
-use Rattle.fleet_math.proofs.RingLemmas.{ring, linear, mul_assoc_ℤ, one_mul_ℤ}
-use Rattle.fleet_math.proofs.BernsteinLemmas.{by_lt}
-use Rattle.bezier_core.specs.declared.Bez.{Bez}
-use Rattle.bezier_core.specs.Along.{controls}
 use Rattle.bezier_core.specs.Raised.{eight}
 use Rattle.bezier_core.specs.Steps.{IsWithin}
 use Rattle.bezier_core.proofs.CurveLemmas.{at-eight}
-use Rattle.halving.specs.Part.{part_value}
 use Rattle.halving.proofs.PolarLemmas.{polar-same, part-whole}
-use Rattle.keepout_boxes.specs.declared.region.Region.{Region}
-use Rattle.keepout_boxes.specs.declared.region.Region.TheVariants.{Keepout, Volume}
-use Rattle.keepout_boxes.specs.Kept.{AllAbove, AllBelow, IsKept, extent, part_of}
-use Rattle.fleet_curves.specs.Raised.{Raised, curves_at}
-use Rattle.keepout_boxes.specs.Steps.{AllKeptIn, CueKept, IsFirstIn, IsFirstOfCue, KeptHere, KeptIn, values_of}
 use Rattle.keepout_boxes.proofs.Hulls.{less_scaled, more_scaled}
 
 -- the same of equal control values at an equal scale

@@ -1,19 +1,6 @@
 -- One tree: its leaves cover the cue.
-use Rattle.std.proofs.Common.{◌≡◌, ℕ, suc, ◌+◌, ◌*◌, ◌^◌, ℤ, pos, ◌+ℤ◌, ◌*ℤ◌, ◌≤ℤ◌, arith, List, All}
-use Rattle.fleet_math.specs.Sums.{power}
-use Rattle.fleet_math.specs.Bernstein.{at, bernstein}
+use Rattle.sep_certificate.proofs.Prelude.{◌≡◌, ℕ, suc, ◌+◌, ◌*◌, ◌^◌, ℤ, pos, ◌+ℤ◌, ◌*ℤ◌, ◌≤ℤ◌, arith, List, All, power, at, bernstein, by_lt_z, linear, Bez, Place, Clearance, Rules, AreSmall, direction_of, threshold, left_half, right_half, Tree, IsValidTree, leaf, split, Cue, IsSeenRaised, cue_of, direction}
 use Rattle.std.proofs.Math.Nat.{pow-suc}
-use Rattle.std.proofs.lemmas.Int.{by_lt_z}
-use Rattle.fleet_math.proofs.RingLemmas.{linear}
-use Rattle.bezier_core.specs.declared.Bez.{Bez}
-use Rattle.halving.specs.declared.Place.{Place}
-use Rattle.sep_parts.specs.declared.clearance.Clearance.{Clearance}
-use Rattle.sep_parts.specs.declared.rules.Rules.{Rules}
-use Rattle.sep_parts.specs.Directions.{AreSmall, direction_of, threshold}
-use Rattle.sep_parts.specs.Levels.{left_half, right_half}
-use Rattle.sep_parts.specs.Trees.{Tree, IsValidTree}
-use Rattle.sep_parts.specs.Trees.Tree.{leaf, split}
-use Rattle.sep_parts.proofs.Directed.{Cue, IsSeenRaised, cue_of, direction}
 use Rattle.sep_parts.proofs.Leaf.{along_instant}
 use Rattle.sep_parts.proofs.Table.{direction_small}
 

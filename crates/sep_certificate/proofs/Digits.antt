@@ -1,14 +1,5 @@
 -- Bytes that spell trees of version 2: leaves are two digits.
-use Rattle.std.proofs.lemmas.Grind.{common_steps}
-use Rattle.std.proofs.Common.{◌≡◌, ℕ, zero, suc, ◌+◌, ◌-◌, ◌*◌, ◌/◌, ◌%◌, ◌≤◌, ◌<◌, Bool, true, false, cond, ◌&&◌, ◌==◌, nat_le, arith, refl, sym, ◌∙◌, ap, List, [], ◌∷◌, ◌++◌, append-nil, All}
-use Rattle.std.proofs.lemmas.Bool.Decides.{nat_tests}
-use Rattle.std.proofs.lemmas.List.Elements.{All-nil, All-cons}
-use Rattle.sep_parts.specs.declared.node.Node.{Node}
-use Rattle.sep_parts.specs.declared.node.Node.TheVariants.{Split, Leaf}
-use Rattle.sep_parts.specs.Trees.{Tree, IsTree, IsKnown, preorder}
-use Rattle.sep_parts.specs.Trees.Tree.{leaf}
-use Rattle.sep_certificate.specs.Steps.{is_spelled_wide, wide_nodes}
-use Rattle.sep_certificate.specs.Texts.{is_digit, is_wide_leaf, tree_line, two_digits}
+use Rattle.sep_certificate.proofs.Prelude.{common_steps, ◌≡◌, ℕ, zero, suc, ◌+◌, ◌-◌, ◌*◌, ◌/◌, ◌%◌, ◌≤◌, ◌<◌, Bool, true, false, cond, ◌&&◌, ◌==◌, nat_le, arith, refl, sym, ◌∙◌, ap, List, [], ◌∷◌, ◌++◌, append-nil, All, nat_tests, All-nil, All-cons, Node, Split, Leaf, Tree, IsTree, IsKnown, preorder, leaf, is_spelled_wide, wide_nodes, is_digit, is_wide_leaf, tree_line, two_digits}
 use Rattle.sep_certificate.proofs.Spelled.{IsForest, dot_told, two_in_one}
 
 -- ---- two digits

@@ -1,37 +1,12 @@
 -- Where a certificate is valid by any table of directions, the ellipsoids around any two drones are disjoint throughout the show.
-use Rattle.std.proofs.lemmas.Grind.{common_steps}
-use Rattle.std.proofs.Common.{◌≡◌, refl, ℕ, ◌*◌, ◌≤◌, ◌<◌, ℤ, pos, negsuc, neg_ℤ, ◌+ℤ◌, ◌-ℤ◌, ◌*ℤ◌, ◌≤ℤ◌, ◌<ℤ◌, unsigned_abs, arith, sym, ◌∙◌, ap, subst, List, length, All, Some, slice_get, sum}
-use Rattle.std.proofs.lemmas.Int.{ints, by_lt_z}
-use Rattle.fleet_math.specs.Sums.{power}
+use Rattle.sep_certificate.proofs.Prelude.{common_steps, ◌≡◌, refl, ℕ, ◌*◌, ◌≤◌, ◌<◌, ℤ, pos, negsuc, neg_ℤ, ◌+ℤ◌, ◌-ℤ◌, ◌*ℤ◌, ◌≤ℤ◌, ◌<ℤ◌, unsigned_abs, arith, sym, ◌∙◌, ap, subst, List, length, All, Some, slice_get, sum, ints, by_lt_z, power, at, bernstein, Moment, moment, ring, linear, le_mul_ℤ, le_from_mul_ℤ, mul_assoc_ℤ, mul_comm_ℤ, mul_positive, mul_not_negative, neg_mul_ℤ, one_mul_ℤ, bernstein-mix, bernstein-same, by_lt, cong_add, moment-inside, IsInside, Bez, Traj, decoded, durations, points, own, IsLasting, CurvesStandFor, HasFewPoints, Raised, curves_at, difference, less, raised_in, at_place, segments_of, Clearance, Node, Rules, AreTogether, KeepReach, MayBeAt, MovesWithin, Point, between, square, way, direction_of, for_ellipsoids, for_reach, for_strays, length_squared, limit_along, reach_on, threshold, weights, slots, cue_of, near_gap, own_some, seventh_positive, curve_value, above_from, together_turned, AreValid}
 use Rattle.fleet_math.specs.Numbers.{IsIn}
-use Rattle.fleet_math.specs.Bernstein.{at, bernstein}
-use Rattle.fleet_math.specs.Moments.{Moment, moment}
-use Rattle.fleet_math.proofs.RingLemmas.{ring, linear, le_mul_ℤ, le_from_mul_ℤ, mul_assoc_ℤ, mul_comm_ℤ, mul_positive, mul_not_negative, neg_mul_ℤ, one_mul_ℤ}
-use Rattle.fleet_math.proofs.BernsteinLemmas.{bernstein-mix, bernstein-same, by_lt, cong_add}
-use Rattle.fleet_math.proofs.MomentLemmas.{moment-inside, IsInside}
-use Rattle.bezier_core.specs.declared.Bez.{Bez}
 use Rattle.bezier_core.specs.Along.{controls}
 use Rattle.bezier_core.specs.Raised.{eight}
 use Rattle.bezier_core.proofs.CurveLemmas.{at-eight}
-use Rattle.traj_codec.specs.declared.traj.Traj.{Traj}
-use Rattle.traj_codec.specs.Positions.{decoded, durations, points}
-use Rattle.traj_codec.specs.Joined.{own, IsLasting}
-use Rattle.fleet_curves.specs.Raised.{CurvesStandFor, HasFewPoints, Raised, curves_at, difference, less, raised_in}
-use Rattle.fleet_curves.proofs.Standing.{at_place, segments_of}
-use Rattle.sep_parts.specs.declared.clearance.Clearance.{Clearance}
-use Rattle.sep_parts.specs.declared.node.Node.{Node}
-use Rattle.sep_parts.specs.declared.rules.Rules.{Rules}
-use Rattle.sep_parts.specs.Apart.{AreTogether, KeepReach, MayBeAt, MovesWithin, Point, between, square, way}
-use Rattle.sep_parts.specs.Directions.{direction_of, for_ellipsoids, for_reach, for_strays, length_squared, limit_along, reach_on, threshold, weights}
-use Rattle.sep_parts.specs.Slots.{slots}
 use Rattle.sep_parts.proofs.Cauchy.{cauchy, square_positive}
-use Rattle.sep_parts.proofs.Directed.{cue_of}
-use Rattle.sep_parts.proofs.Lifts.{near_gap, own_some, seventh_positive}
-use Rattle.sep_parts.proofs.Positions.{curve_value}
 use Rattle.sep_parts.proofs.Roots.{laws}
-use Rattle.sep_parts.proofs.Seen.{above_from, together_turned}
 use Rattle.sep_parts.proofs.Strays.{dot, dot_within, points_apart, sizes_dot, way_low}
-use Rattle.sep_certificate.specs.Certificates.{AreValid}
 use Rattle.sep_certificate.specs.Disjoint.{AreEllipsoidsDisjoint, KeepsDisjoint}
 use Rattle.sep_certificate.proofs.Covers.{IsSeenBy}
 use Rattle.sep_certificate.proofs.Keeping.{seen_by}

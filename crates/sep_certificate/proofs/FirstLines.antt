@@ -1,6 +1,5 @@
 -- The first line of a text.
-use Rattle.std.proofs.Common.{◌≡◌, ℕ, ◌≤◌, Bool, ◌==◌, arith, refl, List, [], ◌∷◌, length}
-use Rattle.std.specs.Str.Lines.{lines_of_parts, strip_carriage_return}
+use Rattle.sep_certificate.proofs.Prelude.{◌≡◌, ℕ, ◌≤◌, Bool, ◌==◌, arith, refl, List, [], ◌∷◌, length, lines_of_parts, strip_carriage_return}
 
 abbrev is_feed : ℕ → Bool
 is_feed b = b == 10

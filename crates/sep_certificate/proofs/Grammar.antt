@@ -1,20 +1,9 @@
 -- A line is one whole tree by its grammar exactly where what the reader counts says so.
-use Rattle.std.proofs.lemmas.Grind.{common_steps}
-use Rattle.std.proofs.Common.{◌≡◌, inl, inr, ℕ, suc, ◌+◌, ◌-◌, ◌/◌, ◌%◌, ◌<◌, Bool, true, false, cond, ◌==◌, arith, refl, sym, ◌∙◌, ap, subst, List, [], ◌∷◌, ◌++◌, append_assoc, append-nil, Option, Some, None, All}
-use Rattle.std.specs.Option.{is_some, option_flatten, option_map}
+use Rattle.sep_certificate.proofs.Prelude.{common_steps, ◌≡◌, inl, inr, ℕ, suc, ◌+◌, ◌-◌, ◌/◌, ◌%◌, ◌<◌, Bool, true, false, cond, ◌==◌, arith, refl, sym, ◌∙◌, ap, subst, List, [], ◌∷◌, ◌++◌, append_assoc, append-nil, Option, Some, None, All, is_some, option_flatten, option_map, All-nil, All-cons, All-head, All-tail, IsVersion, known_in, Node, Split, Leaf, IsKnown, IsTree, Tree, preorder, spelled_tree, leaf, split, is_spelled, is_spelled_wide, IsTreeLine, digit_nodes, is_letter, is_tree_line, is_wide_leaf, letter_nodes, node_text, tree_line, two_digits, tree_back, tree_told}
 use Rattle.std.proofs.lemmas.List.Concat.{flat_map-append}
-use Rattle.std.proofs.lemmas.List.Elements.{All-nil, All-cons, All-head, All-tail}
-use Rattle.sep_parts.specs.Versions.{IsVersion, known_in}
-use Rattle.sep_parts.specs.declared.node.Node.{Node}
-use Rattle.sep_parts.specs.declared.node.Node.TheVariants.{Split, Leaf}
-use Rattle.sep_parts.specs.Trees.{IsKnown, IsTree, Tree, preorder, spelled_tree}
-use Rattle.sep_parts.specs.Trees.Tree.{leaf, split}
-use Rattle.sep_certificate.specs.Steps.{is_spelled, is_spelled_wide}
-use Rattle.sep_certificate.specs.Texts.{IsTreeLine, digit_nodes, is_letter, is_tree_line, is_wide_leaf, letter_nodes, node_text, tree_line, two_digits}
 use Rattle.sep_certificate.proofs.Digits.{IsLeafOf, dot_spelled, leaf_is, leaf_told, not_dot, wide_nodes_told, word_back, word_is, word_no_dot, word_spelled}
 use Rattle.sep_certificate.proofs.Named.{all_front, all_rest}
 use Rattle.sep_certificate.proofs.Spelled.{dot_told, leaf_test, letter_is, letter_told, tree_of_line}
-use Rattle.sep_parts.proofs.Trees.{tree_back, tree_told}
 
 -- ---- nodes that a line spells
 -- what a line is that spells these nodes

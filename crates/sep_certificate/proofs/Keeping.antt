@@ -1,28 +1,6 @@
 -- Where a certificate is valid, any two drones are apart throughout the show.
-use Rattle.std.proofs.lemmas.Grind.{common_steps}
-use Rattle.std.proofs.Common.{◌≡◌, ℕ, ◌*◌, ◌≤◌, ◌<◌, ℤ, pos, arith, refl, sym, ◌∙◌, ap, subst, List, length, All, Some, slice_get, sum}
-use Rattle.std.proofs.lemmas.Int.{ints}
+use Rattle.sep_certificate.proofs.Prelude.{common_steps, ◌≡◌, ℕ, ◌*◌, ◌≤◌, ◌<◌, ℤ, pos, arith, refl, sym, ◌∙◌, ap, subst, List, length, All, Some, slice_get, sum, ints, Moment, moment, by_lt, moment-inside, IsInside, Traj, durations, Rules, Node, CurvesStandFor, HasFewPoints, Raised, difference, IsLasting, AreSmall, reach_on, AreTogether, KeepReach, KeepsApart, MayBeAt, MovesWithin, Point, ShareNoPoint, root, slots, AreValid, Tree, at_place, segments_of, cue_of, own_some, IsSeenAt, decoded_seen, seen_apart, share_none_turned, together_turned}
 use Rattle.std.proofs.lemmas.Option.{slice_get_within}
-use Rattle.fleet_math.specs.Moments.{Moment, moment}
-use Rattle.fleet_math.proofs.BernsteinLemmas.{by_lt}
-use Rattle.fleet_math.proofs.MomentLemmas.{moment-inside, IsInside}
-use Rattle.traj_codec.specs.declared.traj.Traj.{Traj}
-use Rattle.traj_codec.specs.Positions.{durations}
-use Rattle.sep_parts.specs.declared.rules.Rules.{Rules}
-use Rattle.sep_parts.specs.declared.node.Node.{Node}
-use Rattle.fleet_curves.specs.Raised.{CurvesStandFor, HasFewPoints, Raised, difference}
-use Rattle.traj_codec.specs.Joined.{IsLasting}
-use Rattle.sep_parts.specs.Directions.{AreSmall, reach_on}
-use Rattle.sep_parts.specs.Apart.{AreTogether, KeepReach, KeepsApart, MayBeAt, MovesWithin, Point, ShareNoPoint}
-use Rattle.sep_parts.specs.Levels.{root}
-use Rattle.sep_parts.specs.Slots.{slots}
-use Rattle.sep_certificate.specs.Certificates.{AreValid}
-use Rattle.sep_parts.specs.Trees.{Tree}
-use Rattle.fleet_curves.proofs.Standing.{at_place, segments_of}
-use Rattle.sep_parts.proofs.Directed.{cue_of}
-use Rattle.sep_parts.proofs.Lifts.{own_some}
-use Rattle.sep_parts.proofs.Positions.{IsSeenAt, decoded_seen}
-use Rattle.sep_parts.proofs.Seen.{seen_apart, share_none_turned, together_turned}
 use Rattle.sep_certificate.proofs.Covers.{IsSeenBy, seen_in_tree, seen_small}
 use Rattle.sep_certificate.proofs.Members.{tree_of}
 

@@ -1,3 +1,4 @@
+mod Prelude
 pub mod Covers
 pub mod Trees
 pub mod Verdicts

@@ -1,13 +1,5 @@
 -- Each pair and cue of a show has a slot, and so a valid tree.
-use Rattle.std.proofs.Common.{◌≡◌, ◌⊎◌, inl, inr, ℕ, zero, suc, ◌+◌, ◌-◌, ◌<◌, arith, sym, subst, ap, List, [], ◌∷◌, ◌++◌, ℤ}
-use Rattle.sep_parts.specs.declared.slot.Slot.{Slot}
-use Rattle.sep_parts.specs.declared.rules.Rules.{Rules}
-use Rattle.sep_parts.specs.declared.node.Node.{Node}
-use Rattle.fleet_curves.specs.Raised.{Raised, difference}
-use Rattle.sep_parts.specs.Levels.{root}
-use Rattle.sep_parts.specs.Slots.{slots, slot_at, cues_from, pairs_from, drones_from}
-use Rattle.sep_certificate.specs.Certificates.{AreValid}
-use Rattle.sep_parts.specs.Trees.{Tree, IsValidTree}
+use Rattle.sep_certificate.proofs.Prelude.{◌≡◌, ◌⊎◌, inl, inr, ℕ, zero, suc, ◌+◌, ◌-◌, ◌<◌, arith, sym, subst, ap, List, [], ◌∷◌, ◌++◌, ℤ, Slot, Rules, Node, Raised, difference, root, slots, slot_at, cues_from, pairs_from, drones_from, AreValid, Tree, IsValidTree}
 
 -- the slot stands in the list
 abbrev IsAmong : Slot → List Slot → Type 0

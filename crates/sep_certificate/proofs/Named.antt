@@ -1,27 +1,5 @@
 -- What a fault of a certificate names is there.
-use Rattle.std.proofs.Common.{◌≡◌, ℕ, suc, ◌+◌, ◌≤◌, ℤ, Bool, true, false, cond, nat_lt, All, List, [], ◌∷◌, ◌++◌, length, Option, Some, None, refl, subst, arith}
-use Rattle.std.specs.Option.{option_flatten, option_map, option_or}
-use Rattle.std.proofs.lemmas.List.Elements.{All-nil, All-cons, All-head, All-tail}
-use Rattle.bezier_core.specs.declared.Bez.{Bez}
-use Rattle.halving.specs.declared.Place.{Place}
-use Rattle.sep_parts.specs.declared.slot.Slot.{Slot}
-use Rattle.sep_parts.specs.Directions.{direction_of, threshold}
-use Rattle.sep_parts.specs.Levels.{left_half, right_half, root}
-use Rattle.fleet_curves.specs.Raised.{Raised, difference}
-use Rattle.sep_parts.specs.Separates.{least_value, low_value, part_along}
-use Rattle.sep_parts.specs.Slots.{IsSlot, slots}
-use Rattle.sep_parts.specs.Versions.{known_in}
-use Rattle.sep_parts.proofs.Lows.{first_low-small}
-use Rattle.sep_certificate.specs.declared.certificate.Certificate.{Certificate}
-use Rattle.sep_parts.specs.declared.rules.Rules.{Rules}
-use Rattle.sep_parts.specs.declared.node.Node.{Node}
-use Rattle.sep_parts.specs.declared.node.Node.TheVariants.{Split, Leaf}
-use Rattle.sep_certificate.specs.declared.certificate.CertFault.{CertFault}
-use Rattle.sep_certificate.specs.declared.certificate.CertFault.TheVariants.{Missing, Extra, TooDeep, Fails}
-use Rattle.sep_certificate.specs.Certificates.{IsFaultOf, first_fault_of, node_fault, spelled_fault, tree_fault}
-use Rattle.sep_parts.specs.Trees.{IsKnown, Tree, preorder, spelled_tree}
-use Rattle.sep_parts.specs.Trees.Tree.{leaf, split}
-use Rattle.sep_parts.proofs.Trees.{tree_told}
+use Rattle.sep_certificate.proofs.Prelude.{◌≡◌, ℕ, suc, ◌+◌, ◌≤◌, ℤ, Bool, true, false, cond, nat_lt, All, List, [], ◌∷◌, ◌++◌, length, Option, Some, None, refl, subst, arith, option_flatten, option_map, option_or, All-nil, All-cons, All-head, All-tail, Bez, Place, Slot, direction_of, threshold, left_half, right_half, root, Raised, difference, least_value, low_value, part_along, IsSlot, slots, known_in, first_low-small, Certificate, Rules, Node, Split, Leaf, CertFault, Missing, Extra, TooDeep, Fails, IsFaultOf, first_fault_of, node_fault, spelled_fault, tree_fault, IsKnown, Tree, preorder, spelled_tree, leaf, split, tree_told}
 use Rattle.sep_parts.proofs.Orders.{slots_named}
 
 pub all_front : {X : Type 0} (P : X → Type 0) (xs ys : List X) → All P (xs ++ ys) → All P xs

@@ -1,9 +1,6 @@
 -- One line more of a certificate text.
-use Rattle.std.proofs.Common.{◌≡◌, ℕ, zero, suc, ◌-◌, ◌≤◌, ◌<◌, Bool, true, false, ◌&&◌, nat_le, slice_index, arith, refl, List}
-use Rattle.std.specs.Str.{bytes_eq}
-use Rattle.std.proofs.lemmas.Bool.Decides.{nat_tests}
+use Rattle.sep_certificate.proofs.Prelude.{◌≡◌, ℕ, zero, suc, ◌-◌, ◌≤◌, ◌<◌, Bool, true, false, ◌&&◌, nat_le, slice_index, arith, refl, List, bytes_eq, nat_tests, depth_line, is_depth_line}
 use Rattle.std.proofs.lemmas.Slice.Eq.{bytes_eq-Decides}
-use Rattle.sep_certificate.specs.Texts.{depth_line, is_depth_line}
 
 -- the first line of each depth passes
 pub header_told : (depth : ℕ) → depth ≤ 8 → is_depth_line (depth_line depth) ≡ true

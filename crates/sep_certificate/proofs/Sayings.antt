@@ -1,18 +1,6 @@
 -- A text without a faulty line says a certificate.
-use Rattle.std.proofs.lemmas.Grind.{common_steps}
-use Rattle.std.proofs.Common.{◌≡◌, inl, inr, ℕ, suc, ◌+◌, ◌^◌, ◌≤◌, ◌<◌, Bool, true, false, cond, ◌==◌, arith, refl, ◌∙◌, ap, List, [], ◌∷◌, length, map, Some, None, All}
-use Rattle.std.specs.List.{slice_split}
-use Rattle.std.specs.Str.{bytes_eq}
-use Rattle.std.specs.Str.Lines.{lines, lines_of_parts}
-use Rattle.std.proofs.lemmas.List.{length-map}
+use Rattle.sep_certificate.proofs.Prelude.{common_steps, ◌≡◌, inl, inr, ℕ, suc, ◌+◌, ◌^◌, ◌≤◌, ◌<◌, Bool, true, false, cond, ◌==◌, arith, refl, ◌∙◌, ap, List, [], ◌∷◌, length, map, Some, None, All, slice_split, bytes_eq, lines, lines_of_parts, length-map, length-slice_split, All-nil, All-cons, IsVersion, known_in, IsKnown, IsTree, preorder, Node, Certificate, Says, bad_from, bad_line, bad_tree, depth_line, is_tree_line, tree_line, version_line}
 use Rattle.std.proofs.lemmas.List.Sums.{count_by-le-length}
-use Rattle.std.proofs.lemmas.List.Splits.{length-slice_split}
-use Rattle.std.proofs.lemmas.List.Elements.{All-nil, All-cons}
-use Rattle.sep_parts.specs.Versions.{IsVersion, known_in}
-use Rattle.sep_parts.specs.Trees.{IsKnown, IsTree, preorder}
-use Rattle.sep_parts.specs.declared.node.Node.{Node}
-use Rattle.sep_certificate.specs.declared.certificate.Certificate.{Certificate}
-use Rattle.sep_certificate.specs.Texts.{Says, bad_from, bad_line, bad_tree, depth_line, is_tree_line, tree_line, version_line}
 use Rattle.sep_certificate.proofs.Grammar.{told_line}
 use Rattle.sep_certificate.proofs.Readers.{header_from, same_told}
 

@@ -1,14 +1,5 @@
 -- Bytes that spell trees.
-use Rattle.std.proofs.lemmas.Grind.{common_steps}
-use Rattle.std.proofs.Common.{◌≡◌, ℕ, zero, suc, ◌+◌, ◌-◌, ◌≤◌, ◌<◌, Bool, true, false, cond, ◌==◌, nat_le, arith, refl, sym, ◌∙◌, ap, List, [], ◌∷◌, ◌++◌, append_assoc, append-nil, map, All}
-use Rattle.std.proofs.lemmas.Bool.Decides.{nat_tests}
-use Rattle.std.proofs.lemmas.List.Elements.{All-cons}
-use Rattle.sep_parts.specs.declared.node.Node.{Node}
-use Rattle.sep_parts.specs.declared.node.Node.TheVariants.{Split, Leaf}
-use Rattle.sep_parts.specs.Trees.{Tree, IsTree, IsKnown, preorder}
-use Rattle.sep_parts.specs.Trees.Tree.{leaf, split}
-use Rattle.sep_certificate.specs.Steps.{is_spelled, node_of_byte}
-use Rattle.sep_certificate.specs.Texts.{is_letter, tree_line}
+use Rattle.sep_certificate.proofs.Prelude.{common_steps, ◌≡◌, ℕ, zero, suc, ◌+◌, ◌-◌, ◌≤◌, ◌<◌, Bool, true, false, cond, ◌==◌, nat_le, arith, refl, sym, ◌∙◌, ap, List, [], ◌∷◌, ◌++◌, append_assoc, append-nil, map, All, nat_tests, All-cons, Node, Split, Leaf, Tree, IsTree, IsKnown, preorder, leaf, split, is_spelled, node_of_byte, is_letter, tree_line}
 
 letter_tests : (b : ℕ) → 97 ≤ b → b ≤ 122 → ((b == 46) ≡ false) × (nat_le 97 b ≡ true) × (nat_le b 122 ≡ true)
 letter_tests b low high = (grind (arith, nat_tests), grind (arith, nat_tests), grind (arith, nat_tests))

@@ -1,19 +1,5 @@
 -- The law of certificate texts.
-use Rattle.std.proofs.lemmas.Grind.{common_steps}
-use Rattle.std.proofs.Common.{◌≡◌, ℕ, zero, suc, ◌+◌, ◌/◌, ◌%◌, ◌≤◌, inl, inr, Bool, true, false, cond, not, ◌&&◌, ◌==◌, slice_index, take, arith, refl, sym, ◌∙◌, ap, List, [], ◌∷◌, ◌++◌, append_assoc, append-nil, map, Some, None, All}
-use Rattle.std.specs.List.{flat_map}
-use Rattle.std.specs.Str.Lines.{lines}
-use Rattle.std.proofs.lemmas.Bool.Decides.{nat_tests}
-use Rattle.std.proofs.lemmas.List.Splits.{slice_split_at, length-slice_split}
-use Rattle.std.proofs.lemmas.List.Elements.{All-cons, All-head, All-tail}
-use Rattle.sep_parts.specs.Versions.{IsVersion, known_in}
-use Rattle.sep_parts.specs.declared.node.Node.{Node}
-use Rattle.sep_parts.specs.declared.node.Node.TheVariants.{Split, Leaf}
-use Rattle.sep_certificate.specs.declared.certificate.Certificate.{Certificate}
-use Rattle.sep_certificate.specs.Certificates.{IsWhole}
-use Rattle.sep_parts.specs.Trees.{IsKnown, IsTree}
-use Rattle.sep_certificate.specs.Steps.{node_of_byte, wide_nodes}
-use Rattle.sep_certificate.specs.Texts.{Says, bad_from, bad_line, bad_tree, depth_line, fed, head_lines, text_of, tree_line, version_line}
+use Rattle.sep_certificate.proofs.Prelude.{common_steps, ◌≡◌, ℕ, zero, suc, ◌+◌, ◌/◌, ◌%◌, ◌≤◌, inl, inr, Bool, true, false, cond, not, ◌&&◌, ◌==◌, slice_index, take, arith, refl, sym, ◌∙◌, ap, List, [], ◌∷◌, ◌++◌, append_assoc, append-nil, map, Some, None, All, flat_map, lines, nat_tests, slice_split_at, length-slice_split, All-cons, All-head, All-tail, IsVersion, known_in, Node, Split, Leaf, Certificate, IsWhole, IsKnown, IsTree, node_of_byte, wide_nodes, Says, bad_from, bad_line, bad_tree, depth_line, fed, head_lines, text_of, tree_line, version_line}
 use Rattle.sep_certificate.specs.Readings.{TextLaw}
 use Rattle.sep_certificate.proofs.FirstLines.{strip_first}
 use Rattle.sep_certificate.proofs.Readers.{header_told}

@@ -1,19 +1,5 @@
 -- What the checker finds with its stack is the fault of the tree.
-use Rattle.std.proofs.Common.{◌≡◌, refl, sym, ◌∙◌, ap, List, [], ◌∷◌, ◌++◌, append_assoc, append-nil, Option, Some, None, ℤ}
-use Rattle.std.specs.Option.{option_flatten, option_map, option_or}
-use Rattle.bezier_core.specs.declared.Bez.{Bez}
-use Rattle.halving.specs.declared.Place.{Place}
-use Rattle.sep_parts.specs.declared.slot.Slot.{Slot}
-use Rattle.sep_parts.specs.Levels.{left_half, right_half, root}
-use Rattle.sep_parts.specs.declared.rules.Rules.{Rules}
-use Rattle.sep_parts.specs.declared.node.Node.{Node}
-use Rattle.sep_parts.specs.declared.node.Node.TheVariants.{Split}
-use Rattle.sep_certificate.specs.declared.certificate.CertFault.{CertFault}
-use Rattle.sep_certificate.specs.Certificates.{node_fault, spelled_fault, tree_fault}
-use Rattle.sep_parts.specs.Trees.{Tree, IsTree, preorder, spelled_tree}
-use Rattle.sep_parts.specs.Trees.Tree.{leaf, split}
-use Rattle.sep_certificate.specs.Steps.{first_fault}
-use Rattle.sep_parts.proofs.Trees.{tree_back}
+use Rattle.sep_certificate.proofs.Prelude.{◌≡◌, refl, sym, ◌∙◌, ap, List, [], ◌∷◌, ◌++◌, append_assoc, append-nil, Option, Some, None, ℤ, option_flatten, option_map, option_or, Bez, Place, Slot, left_half, right_half, root, Rules, Node, Split, CertFault, node_fault, spelled_fault, tree_fault, Tree, IsTree, preorder, spelled_tree, leaf, split, first_fault, tree_back}
 
 -- ---- the fault of a tree
 module _ (rules : Rules) (dirs : List (List ℤ)) (diff : List (Bez 8)) (slot : Slot) where

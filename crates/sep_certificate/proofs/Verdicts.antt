@@ -1,23 +1,5 @@
 -- No fault is found exactly where a certificate is valid.
-use Rattle.std.proofs.Common.{◌≡◌, ℕ, suc, ◌<◌, Bool, true, false, cond, nat_lt, arith, refl, sym, ◌∙◌, ap, List, [], ◌∷◌, Option, Some, None, ℤ, All}
-use Rattle.std.specs.Option.{option_or, option_map}
-use Rattle.std.proofs.lemmas.Bool.Decides.{nat_tests}
-use Rattle.std.proofs.lemmas.List.Elements.{All-head, All-tail}
-use Rattle.bezier_core.specs.declared.Bez.{Bez}
-use Rattle.halving.specs.declared.Place.{Place}
-use Rattle.sep_parts.specs.declared.slot.Slot.{Slot}
-use Rattle.sep_parts.specs.declared.rules.Rules.{Rules}
-use Rattle.sep_parts.specs.declared.node.Node.{Node}
-use Rattle.sep_certificate.specs.declared.certificate.CertFault.{CertFault}
-use Rattle.sep_certificate.specs.declared.certificate.CertFault.TheVariants.{TooDeep, Fails}
-use Rattle.sep_parts.specs.Directions.{direction_of, threshold}
-use Rattle.sep_parts.specs.Separates.{low_value, least_value, part_along}
-use Rattle.sep_parts.specs.Levels.{left_half, right_half, root}
-use Rattle.fleet_curves.specs.Raised.{Raised, difference}
-use Rattle.sep_certificate.specs.Certificates.{AreValid, first_fault_of, spelled_fault, tree_fault}
-use Rattle.sep_parts.specs.Trees.{Tree, IsTree, IsValidTree}
-use Rattle.sep_parts.specs.Trees.Tree.{leaf, split}
-use Rattle.sep_parts.proofs.Lows.{first_low-values, first_low-none}
+use Rattle.sep_certificate.proofs.Prelude.{◌≡◌, ℕ, suc, ◌<◌, Bool, true, false, cond, nat_lt, arith, refl, sym, ◌∙◌, ap, List, [], ◌∷◌, Option, Some, None, ℤ, All, option_or, option_map, nat_tests, All-head, All-tail, Bez, Place, Slot, Rules, Node, CertFault, TooDeep, Fails, direction_of, threshold, low_value, least_value, part_along, left_half, right_half, root, Raised, difference, AreValid, first_fault_of, spelled_fault, tree_fault, Tree, IsTree, IsValidTree, leaf, split, first_low-values, first_low-none}
 use Rattle.sep_certificate.proofs.Trees.{fault_of_tree}
 
 or_none : {X : Type 0} (a b : Option X) → option_or a b ≡ None → (a ≡ None) × (b ≡ None)

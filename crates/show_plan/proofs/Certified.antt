@@ -1,18 +1,8 @@
 -- What is true of the certificate with the largest leaves, where no part of a show is blocked.
-use Rattle.std.proofs.lemmas.Grind.{common_steps}
-use Rattle.std.proofs.Common.{◌≡◌, inr, ℕ, zero, suc, ◌≤◌, ◌<◌, arith, refl, sym, ap, subst, List, [], ◌∷◌, ◌++◌, map, All, Option, Some, None, Result, Ok, Err, IsOk}
-use Rattle.std.specs.Option.{option_map, option_or}
-use Rattle.std.proofs.lemmas.List.{length-map}
-use Rattle.std.proofs.lemmas.List.Elements.{All-nil, All-cons, All-head, All-tail, All-append}
+use Rattle.show_plan.proofs.Prelude.{common_steps, ◌≡◌, inr, ℕ, zero, suc, ◌≤◌, ◌<◌, arith, refl, sym, ap, subst, List, [], ◌∷◌, ◌++◌, map, All, Option, Some, None, Result, Ok, Err, IsOk, option_map, option_or, length-map, All-nil, All-cons, All-head, All-tail, All-append, Traj, KeepReach, KeepsApart, SentLaw, Clearance, Slot, table_of, CurvesStandFor, Raised, difference, raised_of, SearchLaw, best_tree, split_of, Settings, Fitted, IsValidFitted, CountGives, FlyApart, IsShowClear, IsSlotClear, best_certificate, best_nodes, blocked_in, blocked_part, clearance_of, direction_at, measure_of, slots_of, searched, FindsNodes, blocked_slot}
 use Rattle.halving.specs.declared.Place.{Place}
-use Rattle.traj_codec.specs.declared.traj.Traj.{Traj}
-use Rattle.sep_parts.specs.Apart.{KeepReach, KeepsApart, SentLaw}
-use Rattle.sep_parts.specs.declared.clearance.Clearance.{Clearance}
-use Rattle.sep_parts.specs.declared.slot.Slot.{Slot}
-use Rattle.sep_parts.specs.Versions.{table_of}
 use Rattle.sep_parts.proofs.Table.{table_small}
 use Rattle.sep_parts.specs.Levels.{left_half, right_half, root}
-use Rattle.fleet_curves.specs.Raised.{CurvesStandFor, Raised, difference, raised_of}
 use Rattle.sep_parts.specs.Slots.{slots}
 use Rattle.sep_certificate.specs.declared.certificate.Certificate.{Certificate}
 use Rattle.sep_parts.specs.declared.node.Node.{Node}
@@ -20,17 +10,10 @@ use Rattle.sep_parts.specs.declared.node.Node.TheVariants.{Split, Leaf}
 use Rattle.sep_certificate.specs.Certificates.{AreValid, IsValid, IsWhole}
 use Rattle.sep_parts.specs.Trees.{IsKnown, IsTree, IsValidTree, Tree, leaf, split, preorder}
 use Rattle.sep_certificate.specs.Laws.{CertificateLaw}
-use Rattle.pair_search.specs.Laws.{SearchLaw}
 use Rattle.pair_search.specs.Fleets as fleet
 use Rattle.pair_search.specs.Fleets.{nodes_of}
-use Rattle.pair_search.specs.Search.{best_tree, split_of}
 use Rattle.pair_search.proofs.Counted.{few_slots}
-use Rattle.choreo_show.specs.declared.show.Settings.{Settings}
-use Rattle.show_plan.specs.declared.fitted.Fitted.{Fitted}
 use Rattle.show_plan.specs.declared.separation.SeparationFault.{SeparationFault}
-use Rattle.show_plan.specs.Fitting.{IsValidFitted}
-use Rattle.show_plan.specs.Separation.{CountGives, FlyApart, IsShowClear, IsSlotClear, best_certificate, best_nodes, blocked_in, blocked_part, clearance_of, direction_at, measure_of, slots_of, searched}
-use Rattle.show_plan.specs.Steps.{FindsNodes, blocked_slot}
 use Rattle.show_plan.proofs.SeparationLaws.{all_clear, none_first, slot_law}
 
 -- ---- the leaves of a best tree

@@ -1,22 +1,7 @@
 -- The clearance of a show that fits.
-use Rattle.std.proofs.lemmas.Grind.{common_steps}
-use Rattle.std.proofs.Common.{◌≡◌, ℕ, ◌≤◌, arith, sym, ap, subst, ◌∙◌, List, [], ◌∷◌, length, All}
-use Rattle.std.proofs.lemmas.List.Elements.{All-nil, All-cons, All-head, All-tail}
-use Rattle.traj_codec.specs.declared.traj.Segment.{Segment}
-use Rattle.traj_codec.specs.declared.traj.Traj.{Traj}
-use Rattle.traj_codec.specs.Spelling.{HasDuration, IsTrajectory}
-use Rattle.traj_codec.specs.Positions.{durations}
+use Rattle.show_plan.proofs.Prelude.{common_steps, ◌≡◌, ℕ, ◌≤◌, arith, sym, ap, subst, ◌∙◌, List, [], ◌∷◌, length, All, All-nil, All-cons, All-head, All-tail, Segment, Traj, HasDuration, IsTrajectory, durations, Clearance, KeepReach, IsClearance, IsMoving, ReachLaw, reach_of, Settings, FitsSettings, Fitted, IsValidFitted, clearance_of, reach_depth}
 use Rattle.fleet_curves.proofs.Standing.{length-durations}
-use Rattle.sep_parts.specs.declared.clearance.Clearance.{Clearance}
-use Rattle.sep_parts.specs.Apart.{KeepReach}
-use Rattle.sep_parts.specs.Directions.{IsClearance}
-use Rattle.speed_bound.specs.Reach.{IsMoving, ReachLaw, reach_of}
 use Rattle.speed_bound.proofs.Reaches.{reach_few}
-use Rattle.choreo_show.specs.declared.show.Settings.{Settings}
-use Rattle.choreo_show.specs.Valid.{FitsSettings}
-use Rattle.show_plan.specs.declared.fitted.Fitted.{Fitted}
-use Rattle.show_plan.specs.Fitting.{IsValidFitted}
-use Rattle.show_plan.specs.Separation.{clearance_of, reach_depth}
 
 lasting : (segments : List Segment) → All (λ ms. 1 ≤ ms) (durations segments) → All HasDuration segments
 lasting [] all = All-nil HasDuration

@@ -1,9 +1,5 @@
 -- The trajectories of a grid are near to what the show says, at every instant.
-use Rattle.std.proofs.lemmas.Grind.{common_steps}
-use Rattle.std.proofs.Common.{◌≡◌, ℕ, zero, suc, ◌+◌, ◌*◌, ◌<◌, ◌≤◌, ℤ, pos, ◌*ℤ◌, List, [], ◌∷◌, map, take, length, get_or, sum, arith, refl, sym, ap, ◌∙◌, subst}
-use Rattle.std.specs.List.{All}
-use Rattle.std.proofs.lemmas.List.{get_or-map, length-map}
-use Rattle.std.proofs.lemmas.List.Elements.{All-nil, All-cons, All-get_or, All-from_get_or}
+use Rattle.show_plan.proofs.Prelude.{common_steps, ◌≡◌, ℕ, zero, suc, ◌+◌, ◌*◌, ◌<◌, ◌≤◌, ℤ, pos, ◌*ℤ◌, List, [], ◌∷◌, map, take, length, get_or, sum, arith, refl, sym, ap, ◌∙◌, subst, All, get_or-map, length-map, All-nil, All-cons, All-get_or, All-from_get_or, Point, DroneLine, Cue, Grid, FitCues, IsGrid, Traj, stored, element_on, value_after, piece_on, durations, decoded, own, joined, IsLasting, SameCurve, join_holds_law, MicroPiece, millimetres, controls, first_control, rounded, element_of, axis_on, segment_of, act_of, on_axis, end_of, point_after, axes_of, piece_of, job_in, no_job, pieces_from, expanded_from, expanded, start_of, jobs_in, job_at, point_before, piece_at, written_at, StartsWell, RoundsWell, FitsWell, start_at, trajectory_of, trajectories_of, by_cue, sent, cue_times, FitsDrone, flight, FliesNearOn, FliesNear, written, no_trajectory, KeepsNearShow}
 use Rattle.fleet_math.specs.Bernstein.{at}
 use Rattle.fleet_math.specs.Moments.{Moment, moment}
 use Rattle.fleet_math.specs.Near.{IsNear}
@@ -13,34 +9,14 @@ use Rattle.fleet_math.proofs.RingLemmas.{mul_comm_ℤ}
 use Rattle.fleet_math.specs.Decoded.{last_value}
 use Rattle.fleet_math.specs.Decoded as plain
 use Rattle.fleet_math.proofs.MomentLemmas.{IsInside, moment-inside}
-use Rattle.choreo_lines.specs.declared.parts.Point.{Point}
-use Rattle.choreo_show.specs.declared.show.DroneLine.{DroneLine}
 use Rattle.cue_grid.specs.declared.grid.Job.{Job}
-use Rattle.cue_grid.specs.declared.grid.Cue.{Cue}
-use Rattle.cue_grid.specs.declared.grid.Grid.{Grid}
-use Rattle.cue_grid.specs.Grids.{FitCues, IsGrid}
 use Rattle.traj_codec.specs.declared.traj.Element.{Element}
-use Rattle.traj_codec.specs.declared.traj.Traj.{Traj}
-use Rattle.traj_codec.specs.Spelling.{stored}
-use Rattle.traj_codec.specs.Positions.{element_on, value_after, piece_on, durations, decoded}
-use Rattle.traj_codec.specs.Joined.{own, joined, IsLasting, SameCurve}
-use Rattle.traj_codec.proofs.JoinedLemmas.{join_holds_law}
 use Rattle.traj_codec.proofs.PositionLemmas.{decoded-points}
 use Rattle.mm_rounding.specs.declared.piece.Axis.{Axis}
 use Rattle.mm_rounding.specs.declared.piece.Axis.TheVariants.{One}
-use Rattle.mm_rounding.specs.declared.piece.MicroPiece.{MicroPiece}
-use Rattle.mm_rounding.specs.Rounding.{millimetres, controls, first_control, rounded, element_of, axis_on, segment_of}
 use Rattle.mm_rounding.specs.Near.{IsAxis, position, last_control}
 use Rattle.mm_rounding.proofs.Elements.{rounded_is_axis, rounded_edges, ends_there, stays_near}
-use Rattle.figure_expand.specs.Acts.{act_of, on_axis}
-use Rattle.figure_expand.specs.Written.{end_of, point_after}
-use Rattle.figure_expand.specs.Controls.{axes_of, piece_of}
-use Rattle.figure_expand.specs.Expanded.{job_in, no_job, pieces_from, expanded_from, expanded}
-use Rattle.figure_expand.specs.Flown.{start_of, jobs_in, job_at, point_before, piece_at, written_at, StartsWell, RoundsWell, FitsWell}
 use Rattle.figure_expand.proofs.Pieces.{row_is, piece_begins, piece_ends, piece_whole, flies_as_written}
-use Rattle.show_plan.specs.Trajectories.{start_at, trajectory_of, trajectories_of, by_cue, sent, cue_times}
-use Rattle.show_plan.specs.Steps.{FitsDrone, flight}
-use Rattle.show_plan.specs.Flight.{FliesNearOn, FliesNear, written, no_trajectory, KeepsNearShow}
 
 -- ---- the ends of axes
 

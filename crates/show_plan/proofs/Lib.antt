@@ -1,3 +1,4 @@
+mod Prelude
 pub mod Flight
 pub mod Sendable
 pub mod Valid

@@ -1,22 +1,10 @@
 -- The packet lines of a drone, one after another.
-use Rattle.std.proofs.Common.{◌≡◌, ℕ, suc, ◌+◌, ◌-◌, ◌<◌, arith, false, true, List, [], ◌∷◌, ◌++◌, map, length, take, drop, get_or, codes, sym, ap, ◌∙◌}
-use Rattle.std.specs.Prelude.{◌==◌, nat_lt, if◌then◌else◌}
-use Rattle.std.specs.List.{flat_map, range_with_len}
-use Rattle.std.proofs.lemmas.List.{flat_map_more, get_or-map}
-use Rattle.fleet_io.specs.Words.{hex_word, is_line_empty, line}
-use Rattle.fleet_io.proofs.WordLaws.{fresh_after_line}
+use Rattle.show_plan.proofs.Prelude.{◌≡◌, ℕ, suc, ◌+◌, ◌-◌, ◌<◌, arith, false, true, List, [], ◌∷◌, ◌++◌, map, length, take, drop, get_or, codes, sym, ap, ◌∙◌, ◌==◌, nat_lt, if◌then◌else◌, flat_map, range_with_len, flat_map_more, get_or-map, hex_word, is_line_empty, line, fresh_after_line, Load, Upload, load_of, packet_at, packet_count, read_count, read_start, write_count, Traj, load_for, Settings, session_for, packet_line, packet_lines, packet_word}
 use Rattle.crtp_packets.specs.Chunks.{chunk_count_of, chunk_of, chunk_start}
 use Rattle.crtp_packets.specs.Packets.{read_request_of, write_request_of}
 use Rattle.crtp_packets.specs.declared.packet.TheConstants.{READ_BYTES}
 use Rattle.crtp_packets.specs.Commands.{define_of, start_of}
-use Rattle.upload_model.specs.declared.loads.Load.{Load}
-use Rattle.upload_model.specs.Sessions.{Upload, load_of, packet_at, packet_count, read_count, read_start, write_count}
 use Rattle.upload_model.proofs.HostSteps.{range-more}
-use Rattle.traj_codec.specs.declared.traj.Traj.{Traj}
-use Rattle.firmware_memory.specs.Decoded.{load_for}
-use Rattle.choreo_show.specs.declared.show.Settings.{Settings}
-use Rattle.show_plan.specs.Landing.{session_for}
-use Rattle.show_plan.specs.Texts.{packet_line, packet_lines, packet_word}
 
 -- the lines of the first packets
 abbrev pub first_lines : Upload → ℕ → ℕ → List ℕ

@@ -1,13 +1,5 @@
 -- The lines of drones, one drone after another.
-use Rattle.std.proofs.lemmas.Grind.{common_steps}
-use Rattle.std.proofs.Common.{◌≡◌, ℕ, ◌+◌, ◌<◌, ◌≤◌, List, ◌++◌, length, map, codes, drop, get_or, append_assoc, append-nil, arith, ap, ◌∙◌}
-use Rattle.std.proofs.lemmas.List.{drop_all, drop_more}
-use Rattle.fleet_io.specs.Words.{hex_word, line}
-use Rattle.choreo_lines.specs.Name.{Name}
-use Rattle.traj_codec.specs.declared.traj.Traj.{Traj}
-use Rattle.traj_codec.specs.Spelling.{ending, spelling}
-use Rattle.upload_model.specs.Sessions.{Upload}
-use Rattle.show_plan.specs.Texts.{drone_line, drone_part, drone_parts, packet_lines}
+use Rattle.show_plan.proofs.Prelude.{common_steps, ◌≡◌, ℕ, ◌+◌, ◌<◌, ◌≤◌, List, ◌++◌, length, map, codes, drop, get_or, append_assoc, append-nil, arith, ap, ◌∙◌, drop_all, drop_more, hex_word, line, Name, Traj, ending, spelling, Upload, drone_line, drone_part, drone_parts, packet_lines}
 
 -- the line of a drone, that of its bytes and those of its packets are its lines
 pub part_is : (text first sent : List ℕ) (s : Upload) (d : ℕ) (name : List ℕ) (t : Traj) → first ≡ text ++ drone_line name (spelling t ++ ending) (length t.segments) →

@@ -1,40 +1,8 @@
 -- Trajectories and their bytes one after another, and what is known of those of a valid grid.
-use Rattle.std.proofs.lemmas.Grind.{common_steps}
-use Rattle.std.proofs.Common.{◌≡◌, ◌⊎◌, inl, inr, ℕ, suc, ◌+◌, ◌<◌, ◌≤◌, Bool, true, false, cond, Option, Some, None, IfOk, Ok, Err, Result, List, [], ◌∷◌, ◌++◌, map, drop, append_assoc, length, get_or, nat_le, arith, refl, sym, ap, ◌∙◌, subst}
-use Rattle.std.specs.List.{All, list_all}
-use Rattle.std.specs.Option.{option_or}
-use Rattle.std.specs.Prelude.{nat_lt, ◌&&◌, ℤ, MatchOption}
+use Rattle.show_plan.proofs.Prelude.{common_steps, ◌≡◌, ◌⊎◌, inl, inr, ℕ, suc, ◌+◌, ◌<◌, ◌≤◌, Bool, true, false, cond, Option, Some, None, IfOk, Ok, Err, Result, List, [], ◌∷◌, ◌++◌, map, drop, append_assoc, length, get_or, nat_le, arith, refl, sym, ap, ◌∙◌, subst, All, list_all, option_or, nat_lt, ◌&&◌, ℤ, MatchOption, drop_more, All-nil, All-cons, All-head, All-tail, All-from_get_or, Point, PlainShow, Cue, Grid, grid_of, grid_fault, FitCues, IsGrid, Segment, Traj, joined, HasDuration, durations_of, join_holds_law, lasting_of, MicroPiece, millimetres, is_short, short, fits, counted, rounding, segment_of, act_of, end_of, piece_of, job_in, pieces_from, range_fault, start_of, RoundsWell, StartsWell, Fitted, FitError, PlanFault, start_at, by_cue, sent, no_trajectory, KeepsNearShow, IsFlown, IsSendable, size, room, send_fault, first_unsendable, plan_fault, FitGives, flight}
 use Rattle.std.proofs.lemmas.Bool.Decides.{nat_tests}
-use Rattle.std.proofs.lemmas.List.{drop_more}
-use Rattle.std.proofs.lemmas.List.Elements.{All-nil, All-cons, All-head, All-tail, All-from_get_or}
-use Rattle.choreo_lines.specs.declared.parts.Point.{Point}
-use Rattle.choreo_show.specs.Plain.{PlainShow}
-use Rattle.cue_grid.specs.declared.grid.Cue.{Cue}
-use Rattle.cue_grid.specs.declared.grid.Grid.{Grid}
-use Rattle.cue_grid.specs.Cues.{grid_of}
-use Rattle.cue_grid.specs.Faults.{grid_fault}
-use Rattle.cue_grid.specs.Grids.{FitCues, IsGrid}
-use Rattle.traj_codec.specs.declared.traj.Segment.{Segment}
-use Rattle.traj_codec.specs.declared.traj.Traj.{Traj}
-use Rattle.traj_codec.specs.Joined.{joined}
-use Rattle.traj_codec.specs.Spelling.{HasDuration}
 use Rattle.fleet_math.specs.Limits.{most_segments}
-use Rattle.traj_codec.proofs.JoinedLemmas.{durations_of, join_holds_law, lasting_of}
-use Rattle.mm_rounding.specs.declared.piece.MicroPiece.{MicroPiece}
-use Rattle.mm_rounding.specs.Rounding.{millimetres, is_short, short, fits, counted, rounding, segment_of}
-use Rattle.figure_expand.specs.Acts.{act_of}
-use Rattle.figure_expand.specs.Written.{end_of}
-use Rattle.figure_expand.specs.Controls.{piece_of}
-use Rattle.figure_expand.specs.Expanded.{job_in, pieces_from, range_fault}
-use Rattle.figure_expand.specs.Flown.{start_of, RoundsWell, StartsWell}
-use Rattle.show_plan.specs.declared.fitted.Fitted.{Fitted}
-use Rattle.show_plan.specs.declared.fitted.FitError.{FitError}
-use Rattle.show_plan.specs.declared.fitted.PlanFault.{PlanFault}
 use Rattle.show_plan.specs.declared.fitted.PlanFault.TheVariants as fault
-use Rattle.show_plan.specs.Trajectories.{start_at, by_cue, sent}
-use Rattle.show_plan.specs.Flight.{no_trajectory, KeepsNearShow}
-use Rattle.show_plan.specs.Fitting.{IsFlown, IsSendable, size, room, send_fault, first_unsendable, plan_fault, FitGives}
-use Rattle.show_plan.specs.Steps.{flight}
 use Rattle.show_plan.proofs.Flight.{by_cue_counted, flight_at_is, keeps_near_show}
 
 -- ---- one drone

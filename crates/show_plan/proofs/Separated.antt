@@ -1,16 +1,8 @@
 -- What a search of a fleet finds, in the words of a plan.
-use Rattle.std.proofs.Common.{◌≡◌, ℕ, refl, ◌∙◌, ap, List, [], ◌∷◌, Option, Some, None}
-use Rattle.std.specs.Option.{option_and_then, option_map, option_or}
-use Rattle.sep_parts.specs.declared.slot.Slot.{Slot}
-use Rattle.fleet_curves.specs.Raised.{Raised}
+use Rattle.show_plan.proofs.Prelude.{◌≡◌, ℕ, refl, ◌∙◌, ap, List, [], ◌∷◌, Option, Some, None, option_and_then, option_map, option_or, Slot, Raised, blocked_place, Clearance, BlockedPart, FailsBy, blocked_at, blocked_in, direction_at, measure_of, separation_fault}
 use Rattle.pair_search.specs.declared.fleet.SearchFault.{SearchFault}
 use Rattle.pair_search.specs.declared.fleet.SearchFault.TheVariants as search
 use Rattle.pair_search.specs.Fleets as fleet
-use Rattle.pair_search.specs.Search.{blocked_place}
-use Rattle.sep_parts.specs.declared.clearance.Clearance.{Clearance}
-use Rattle.show_plan.specs.declared.separation.BlockedPart.{BlockedPart}
-use Rattle.show_plan.specs.Separation.{FailsBy, blocked_at, blocked_in, direction_at, measure_of}
-use Rattle.show_plan.specs.Steps.{separation_fault}
 
 -- the part at which a search stops
 abbrev part_of : SearchFault → Option BlockedPart

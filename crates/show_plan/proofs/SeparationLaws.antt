@@ -1,19 +1,7 @@
 -- What the recursion over the slots of a show means: it finds the first part that no direction separates.
-use Rattle.std.proofs.Common.{◌≡◌, ◌↔◌, ℕ, ap, refl, subst, ◌∙◌, List, [], ◌∷◌, ◌++◌, All, Option, Some, None}
-use Rattle.std.specs.Option.{option_map, option_or}
-use Rattle.std.proofs.lemmas.List.Elements.{All-nil, All-cons, All-head, All-tail}
-use Rattle.traj_codec.specs.declared.traj.Traj.{Traj}
-use Rattle.sep_parts.specs.declared.clearance.Clearance.{Clearance}
-use Rattle.sep_parts.specs.declared.slot.Slot.{Slot}
-use Rattle.fleet_curves.specs.Raised.{Raised, difference, raised_of}
-use Rattle.pair_search.specs.Laws.{IsFirstBlocked}
+use Rattle.show_plan.proofs.Prelude.{◌≡◌, ◌↔◌, ℕ, ap, refl, subst, ◌∙◌, List, [], ◌∷◌, ◌++◌, All, Option, Some, None, option_map, option_or, All-nil, All-cons, All-head, All-tail, Traj, Clearance, Slot, Raised, difference, raised_of, IsFirstBlocked, blocked_place, Settings, BlockedPart, IsSlotClear, blocked_at, blocked_in, blocked_part, clearance_of, direction_at, measure_of, slots_of, searched, blocked_slot}
 use Rattle.pair_search.specs.Fleets as fleet
-use Rattle.pair_search.specs.Search.{blocked_place}
 use Rattle.pair_search.proofs.SearchLaws.{laws}
-use Rattle.choreo_show.specs.declared.show.Settings.{Settings}
-use Rattle.show_plan.specs.declared.separation.BlockedPart.{BlockedPart}
-use Rattle.show_plan.specs.Separation.{IsSlotClear, blocked_at, blocked_in, blocked_part, clearance_of, direction_at, measure_of, slots_of, searched}
-use Rattle.show_plan.specs.Steps.{blocked_slot}
 use Rattle.show_plan.specs.Laws.{IsFirstPart, SeparationLaw}
 
 none_mapped : (slot : Slot) (o : Option ℕ) → option_map (blocked_at slot) o ≡ None → o ≡ None

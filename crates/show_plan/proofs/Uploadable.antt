@@ -1,17 +1,6 @@
 -- What fits can be uploaded.
-use Rattle.std.proofs.Common.{◌≡◌, ℕ, ◌≤◌, List, [], ◌∷◌, map, length, arith, sym, ap, subst, ◌∙◌}
-use Rattle.std.specs.List.{All, sum}
-use Rattle.std.proofs.lemmas.List.{length-map}
+use Rattle.show_plan.proofs.Prelude.{◌≡◌, ℕ, ◌≤◌, List, [], ◌∷◌, map, length, arith, sym, ap, subst, ◌∙◌, All, sum, length-map, All-nil, All-cons, All-head, All-tail, Segment, Traj, IsLasting, JoinLaw, joined, durations, IsTrajectory, Fitted, IsValidFitted, AreUploadable}
 use Rattle.std.proofs.lemmas.List.Sums.{sum_by-cons}
-use Rattle.std.proofs.lemmas.List.Elements.{All-nil, All-cons, All-head, All-tail}
-use Rattle.traj_codec.specs.declared.traj.Segment.{Segment}
-use Rattle.traj_codec.specs.declared.traj.Traj.{Traj}
-use Rattle.traj_codec.specs.Joined.{IsLasting, JoinLaw, joined}
-use Rattle.traj_codec.specs.Positions.{durations}
-use Rattle.traj_codec.specs.Spelling.{IsTrajectory}
-use Rattle.show_plan.specs.declared.fitted.Fitted.{Fitted}
-use Rattle.show_plan.specs.Fitting.{IsValidFitted}
-use Rattle.show_plan.specs.Landing.{AreUploadable}
 
 -- durations that are some milliseconds together are those of some segments
 some_segments : (ss : List Segment) → 1 ≤ sum (durations ss) → 1 ≤ length ss

@@ -1,9 +1,6 @@
 -- What can be uploaded is a session, so what holds of every session holds of it.
-use Rattle.std.proofs.Common.{arith}
+use Rattle.show_plan.proofs.Prelude.{arith, Upload, IsCase, TakenLaw, UploadLaw, LandingLaw, OrderLaw, session_for}
 use Rattle.upload_model.specs.Readback.{ReadsCover, StartsLastLaw, VerifiedLaw}
-use Rattle.upload_model.specs.Sessions.{Upload}
-use Rattle.upload_model.specs.Theorem.{IsCase, TakenLaw, UploadLaw}
-use Rattle.show_plan.specs.Landing.{LandingLaw, OrderLaw, session_for}
 use Rattle.show_plan.specs.Uploading.{UploadsLaw}
 use Rattle.show_plan.proofs.Landing.{counted, is_session}
 

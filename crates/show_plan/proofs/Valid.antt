@@ -1,37 +1,13 @@
 -- What fits is valid.
-use Rattle.std.proofs.lemmas.Grind.{common_steps}
-use Rattle.std.proofs.Common.{◌≡◌, ℕ, suc, ◌+◌, ◌-◌, ◌≤◌, true, Option, Some, None, IfOk, Ok, Err, Result, List, [], ◌∷◌, ◌++◌, map, length, eqb, arith, refl, sym, ap, ◌∙◌, subst}
-use Rattle.std.specs.List.{All}
-use Rattle.std.proofs.lemmas.List.{get_or_default}
-use Rattle.std.proofs.lemmas.List.Elements.{All-head, All-tail, All-nil, All-cons, All-from_get_or}
+use Rattle.show_plan.proofs.Prelude.{common_steps, ◌≡◌, ℕ, suc, ◌+◌, ◌-◌, ◌≤◌, true, Option, Some, None, IfOk, Ok, Err, Result, List, [], ◌∷◌, ◌++◌, map, length, eqb, arith, refl, sym, ap, ◌∙◌, subst, All, get_or_default, All-head, All-tail, All-nil, All-cons, All-from_get_or, IsWord, Name, is_name, DroneLine, Settings, PlainShow, FitDroneLines, FitsSettings, Grid, grid_of, grid_fault, IsGrid, Traj, durations, joined, ending, IsEncoding, IsTrajectory, range_fault, Fitted, FitError, PlanFault, by_cue, sent, cue_times, no_trajectory, StandsAsWord, size, room, first_unsendable, unsendable, in_order, IsFitted, IsSendable, FitGives, IsValidFitted}
 use Rattle.crtp_packets.specs.declared.chunks.TheConstants.{MEMORY_BYTES}
-use Rattle.fleet_io.specs.Words.{IsWord}
-use Rattle.choreo_lines.specs.Name.{Name, is_name}
 use Rattle.choreo_lines.proofs.Names.{name_has_bytes, name_has_no_line_feed}
-use Rattle.choreo_show.specs.declared.show.DroneLine.{DroneLine}
-use Rattle.choreo_show.specs.declared.show.Settings.{Settings}
-use Rattle.choreo_show.specs.Plain.{PlainShow}
-use Rattle.choreo_show.specs.Valid.{FitDroneLines, FitsSettings, IsValid}
-use Rattle.cue_grid.specs.declared.grid.Grid.{Grid}
+use Rattle.choreo_show.specs.Valid.{IsValid}
 use Rattle.cue_grid.specs.declared.grid.GridFault.{GridFault}
-use Rattle.cue_grid.specs.Cues.{grid_of}
-use Rattle.cue_grid.specs.Faults.{grid_fault}
-use Rattle.cue_grid.specs.Grids.{IsGrid}
 use Rattle.cue_grid.specs.Names.{has_double}
 use Rattle.cue_grid.proofs.Distinct.{names_apart}
 use Rattle.cue_grid.proofs.Fits.{fit_grid}
-use Rattle.traj_codec.specs.declared.traj.Traj.{Traj}
-use Rattle.traj_codec.specs.Positions.{durations}
-use Rattle.traj_codec.specs.Joined.{joined}
-use Rattle.traj_codec.specs.Spelling.{ending, IsEncoding, IsTrajectory}
 use Rattle.figure_expand.specs.declared.fault.AxisValue.{AxisValue}
-use Rattle.figure_expand.specs.Expanded.{range_fault}
-use Rattle.show_plan.specs.declared.fitted.Fitted.{Fitted}
-use Rattle.show_plan.specs.declared.fitted.FitError.{FitError}
-use Rattle.show_plan.specs.declared.fitted.PlanFault.{PlanFault}
-use Rattle.show_plan.specs.Trajectories.{by_cue, sent, cue_times}
-use Rattle.show_plan.specs.Flight.{no_trajectory}
-use Rattle.show_plan.specs.Fitting.{StandsAsWord, size, room, first_unsendable, unsendable, in_order, IsFitted, IsSendable, FitGives, IsValidFitted}
 use Rattle.show_plan.proofs.Flight.{by_cue_counted, cues_last, flight_lasts, times_counted}
 use Rattle.show_plan.proofs.Sendable.{sendable, sent_flown, none_unsendable, one_sendable}
 

@@ -34,7 +34,8 @@ use traj_codec::{Segment, Traj, join_holds, segment_law, size_of, start_law};
 
 // Where a trajectory starts that begins at this point, if a trajectory can hold it.
 fn start_at(p: &Point) -> Option<[i16; 4]>
-    ensures { MatchOption result (StartsWell p.now → ⊥) (λ start. StartsWell p.now × (start ≡ start_at p.now) × AreNumbers 4 start) }
+    ensures { MatchOption result (StartsWell p.now → ⊥)
+        (λ start. StartsWell p.now × (start ≡ start_at p.now) × AreNumbers 4 start) }
 {
     let x = to_mm(p.x)?;
     let y = to_mm(p.y)?;

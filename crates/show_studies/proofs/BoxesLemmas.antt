@@ -1,26 +1,8 @@
 -- The laws of `boxes`.
-use Rattle.std.proofs.lemmas.Grind.{common_steps}
-use Rattle.std.proofs.Common.{◌≡◌, ℕ, List, length, Option, Some, None, Result, Ok, Err, refl, sym, ap, subst, ◌∙◌, arith}
-use Rattle.std.specs.Io.KnownBytes.{Appends}
-use Rattle.choreo_show.specs.Plain.{PlainShow}
-use Rattle.fleet_curves.specs.Raised.{raised_of}
-use Rattle.keepout_boxes.specs.declared.judging.Judged.{Judged}
-use Rattle.keepout_boxes.specs.declared.judging.Judged.TheVariants.{Kept, Enters}
-use Rattle.keepout_boxes.specs.declared.region.Region.{Region}
-use Rattle.keepout_boxes.specs.Kept.{JudgeGives}
+use Rattle.show_studies.proofs.Prelude.{common_steps, ◌≡◌, ℕ, List, length, Option, Some, None, Result, Ok, Err, refl, sym, ap, subst, ◌∙◌, arith, Appends, PlainShow, raised_of, Judged, Kept, Enters, Region, JudgeGives, regions_of, Refusal, IsSafe, second_refusal, Cut, cut_of, name_at, names_of, trajectories_of, Outcome, refused_some, none_both, most_text, BoxesLaw, RegionsGive, StaysInRegions, aside_of, boxes_verb, faulty_region, regions_end, upwards_of}
 use Rattle.keepout_boxes.specs.Lines.{kept_line}
-use Rattle.keepout_boxes.specs.Regions.{regions_of}
-use Rattle.refusals.specs.declared.refusal.Refusal.{Refusal}
 use Rattle.refusals.specs.declared.refusal.Refusal.TheVariants as refusal
-use Rattle.show_judge.specs.Outcome.{IsSafe}
-use Rattle.show_judge.specs.Refused.{second_refusal}
-use Rattle.show_judge.specs.Shows.{Cut, cut_of, name_at, names_of, trajectories_of}
-use Rattle.show_judge.specs.Verb.{Outcome}
-use Rattle.show_judge.proofs.AnswerLemmas.{refused_some}
-use Rattle.show_judge.proofs.HeadlineLemmas.{none_both}
 use Rattle.show_judge.proofs.VerbLemmas.{none_mapped, within_limit}
-use Rattle.fleet_math.specs.Limits.{most_text}
-use Rattle.show_studies.specs.Boxes.{BoxesLaw, RegionsGive, StaysInRegions, aside_of, boxes_verb, faulty_region, regions_end, upwards_of}
 use Rattle.show_studies.proofs.DecidingLemmas.{judge_some}
 use Rattle.show_studies.proofs.StudyLemmas.{judge_one, regions_given_one, regions_one}
 

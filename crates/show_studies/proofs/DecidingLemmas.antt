@@ -1,16 +1,8 @@
 -- Drones are judged for any regions in some way: each part is kept, or there is a first one that isn't.
-use Rattle.std.proofs.lemmas.Grind.{common_steps}
-use Rattle.std.proofs.Common.{◌≡◌, ◌⊎◌, inl, inr, ℕ, zero, suc, ◌*◌, ◌^◌, ◌<◌, ◌≤◌, ℤ, pos, ◌+ℤ◌, ◌-ℤ◌, ◌*ℤ◌, ◌≤ℤ◌, ◌<ℤ◌, List, length, Option, Some, None, refl, subst, arith}
-use Rattle.std.specs.Prelude.{slice_get}
-use Rattle.std.proofs.lemmas.Int.{by_lt_z, ints}
+use Rattle.show_studies.proofs.Prelude.{common_steps, ◌≡◌, ◌⊎◌, inl, inr, ℕ, zero, suc, ◌*◌, ◌^◌, ◌<◌, ◌≤◌, ℤ, pos, ◌+ℤ◌, ◌-ℤ◌, ◌*ℤ◌, ◌≤ℤ◌, ◌<ℤ◌, List, length, Option, Some, None, refl, subst, arith, slice_get, by_lt_z, ints, Raised, curves_at, Judged, Kept, Enters, Region, AllAbove, AllBelow, AllBetween, IsKept, JudgeGives, KeptAt, Spot, extent, part_of}
 use Rattle.fleet_math.specs.Bernstein.{at}
 use Rattle.fleet_math.specs.Numbers.{IsIn}
-use Rattle.fleet_curves.specs.Raised.{Raised, curves_at}
-use Rattle.keepout_boxes.specs.declared.judging.Judged.{Judged}
-use Rattle.keepout_boxes.specs.declared.judging.Judged.TheVariants.{Kept, Enters}
-use Rattle.keepout_boxes.specs.declared.region.Region.{Region}
 use Rattle.keepout_boxes.specs.declared.region.Region.TheVariants.{Keepout, Volume}
-use Rattle.keepout_boxes.specs.Kept.{AllAbove, AllBelow, AllBetween, IsKept, JudgeGives, KeptAt, Spot, extent, part_of}
 use Rattle.show_studies.proofs.StudyLemmas.{compared}
 
 -- ---- what can be decided

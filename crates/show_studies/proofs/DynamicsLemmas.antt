@@ -1,28 +1,10 @@
 -- What `dynamics` answers, drone by drone.
-use Rattle.std.proofs.lemmas.Grind.{common_steps}
-use Rattle.std.proofs.Common.{◌≡◌, ℕ, ◌+◌, ◌<◌, ◌≤◌, List, [], ◌∷◌, ◌++◌, All, length, get_or, drop, Option, Some, None, Result, Ok, Err, IfOk, sym, ap, subst, ◌∙◌, arith, append_assoc}
-use Rattle.std.specs.declared.alloc.AllocError.{AllocError}
-use Rattle.std.proofs.lemmas.List.{drop_all, drop_more}
-use Rattle.std.proofs.lemmas.List.Elements.{All-cons, All-head, All-nil}
-use Rattle.choreo_lines.specs.Name.{Name}
-use Rattle.choreo_show.specs.Plain.{PlainShow}
+use Rattle.show_studies.proofs.Prelude.{common_steps, ◌≡◌, ℕ, ◌+◌, ◌<◌, ◌≤◌, List, [], ◌∷◌, ◌++◌, All, length, get_or, drop, Option, Some, None, Result, Ok, Err, IfOk, sym, ap, subst, ◌∙◌, arith, append_assoc, AllocError, drop_all, drop_more, All-cons, All-head, All-nil, Name, PlainShow, motion_line, KeepsMotion, motion, Refusal, Traj, durations, Fitted, IsFitted, Answer, outcome_of, sent_of, refused_or, dynamics_of, dynamics_text, excess_by, excess_in, first_excess_of, limits_of, motion_lines, times_of}
 use Rattle.dynamics_bound.specs.declared.excess.Limits.{Limits}
-use Rattle.dynamics_bound.specs.Lines.{motion_line}
-use Rattle.dynamics_bound.specs.Motions.{KeepsMotion, motion}
 use Rattle.cue_grid.specs.declared.grid.Grid.{Grid}
-use Rattle.refusals.specs.declared.refusal.Refusal.{Refusal}
-use Rattle.traj_codec.specs.declared.traj.Traj.{Traj}
-use Rattle.traj_codec.specs.Positions.{durations}
-use Rattle.show_plan.specs.declared.fitted.Fitted.{Fitted}
-use Rattle.show_plan.specs.Fitting.{IsFitted}
 use Rattle.show_plan.specs.Flight.{no_trajectory}
 use Rattle.show_plan.specs.Trajectories.{by_cue, cue_times}
 use Rattle.show_plan.proofs.Flight.{by_cue_counted, flight_lasts}
-use Rattle.show_judge.specs.declared.ends.Answer.{Answer}
-use Rattle.show_judge.specs.Answers.{outcome_of}
-use Rattle.show_judge.specs.Shows.{sent_of}
-use Rattle.show_studies.specs.Speeds.{refused_or}
-use Rattle.show_studies.specs.Dynamics.{dynamics_of, dynamics_text, excess_by, excess_in, first_excess_of, limits_of, motion_lines, times_of}
 use Rattle.show_studies.proofs.SpeedLemmas.{after_none, first_there, left_from}
 
 -- the cues of a show last as long as the segments by cue of each of its drones

@@ -1,25 +1,13 @@
 -- What `explain` answers, from what its steps do.
-use Rattle.std.proofs.Common.{◌≡◌, ℕ, ◌+◌, ◌*◌, ◌<◌, ◌≤◌, All, sum, List, [], ◌∷◌, ◌++◌, codes, decimal, ◌^◌, true, length, Option, Some, None, sym, ap, subst, ◌∙◌, arith}
+use Rattle.show_studies.proofs.Prelude.{◌≡◌, ℕ, ◌+◌, ◌*◌, ◌<◌, ◌≤◌, All, sum, List, [], ◌∷◌, ◌++◌, codes, decimal, ◌^◌, true, length, Option, Some, None, sym, ap, subst, ◌∙◌, arith, length-map, All-cons, All-head, All-nil, All-tail, Name, is_line_empty, fresh_after_line, Fitted, IsValidFitted, NoTouch, instant_of, Segment, durations, Traj, separation_line, word_at}
 use Rattle.std.proofs.Math.Nat.{one-le-pow}
-use Rattle.std.proofs.lemmas.List.{length-map}
-use Rattle.std.proofs.lemmas.List.Elements.{All-cons, All-head, All-nil, All-tail}
 use Rattle.traj_codec.specs.Joined.{IsLasting}
-use Rattle.choreo_lines.specs.Name.{Name}
-use Rattle.fleet_io.specs.Words.{is_line_empty}
-use Rattle.fleet_io.proofs.WordLaws.{fresh_after_line}
-use Rattle.show_plan.specs.declared.fitted.Fitted.{Fitted}
 use Rattle.show_plan.specs.declared.separation.BlockedPart.{BlockedPart}
-use Rattle.show_plan.specs.Fitting.{IsValidFitted}
 use Rattle.show_plan.specs.Separation.{FlyApart}
-use Rattle.touch_witness.specs.Sites.{NoTouch, instant_of}
 use Rattle.touch_witness.proofs.Shows.{apart_disjoint, instant_inside}
-use Rattle.traj_codec.specs.declared.traj.Segment.{Segment}
-use Rattle.traj_codec.specs.Positions.{durations}
 use Rattle.upload_model.proofs.Moments.{All-slice_get}
 use Rattle.fleet_curves.specs.Raised as raised
-use Rattle.traj_codec.specs.declared.traj.Traj.{Traj}
 use Rattle.sep_parts.proofs.Lifts.{exactly_apart, lasting_at, own_some}
-use Rattle.show_studies.specs.Explained.{separation_line, word_at}
 
 -- ---- lines
 

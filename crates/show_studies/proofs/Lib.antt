@@ -1,3 +1,4 @@
+mod Prelude
 pub mod StudyLemmas
 pub mod DecidingLemmas
 pub mod RegionLemmas

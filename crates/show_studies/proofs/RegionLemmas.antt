@@ -1,23 +1,7 @@
 -- What `boxes` answers, from what its steps do.
-use Rattle.std.proofs.lemmas.Grind.{common_steps}
-use Rattle.std.proofs.Common.{◌≡◌, ℕ, ◌≤◌, Bool, false, cond, nat_lt, List, length, Option, Some, None, Result, Ok, Err, IfOk, refl, arith}
-use Rattle.std.specs.Option.{option_map, option_or}
-use Rattle.std.specs.declared.alloc.AllocError.{AllocError}
+use Rattle.show_studies.proofs.Prelude.{common_steps, ◌≡◌, ℕ, ◌≤◌, Bool, false, cond, nat_lt, List, length, Option, Some, None, Result, Ok, Err, IfOk, refl, arith, option_map, option_or, AllocError, PlainShow, Region, KeepClear, regions_of, Refusal, Fitted, IsFitted, Answer, outcome_of, most_text, RegionsGive, aside_of, faulty_region, upwards_of, second_refusal, Cut, sent_of}
 use Rattle.std.proofs.lemmas.Bool.{le-ltb}
-use Rattle.choreo_show.specs.Plain.{PlainShow}
-use Rattle.keepout_boxes.specs.declared.region.Region.{Region}
-use Rattle.keepout_boxes.specs.Kept.{KeepClear}
-use Rattle.keepout_boxes.specs.Regions.{regions_of}
-use Rattle.refusals.specs.declared.refusal.Refusal.{Refusal}
 use Rattle.refusals.specs.declared.refusal.Refusal.TheVariants as refusal
-use Rattle.show_plan.specs.declared.fitted.Fitted.{Fitted}
-use Rattle.show_plan.specs.Fitting.{IsFitted}
-use Rattle.show_judge.specs.declared.ends.Answer.{Answer}
-use Rattle.show_judge.specs.Answers.{outcome_of}
-use Rattle.fleet_math.specs.Limits.{most_text}
-use Rattle.show_studies.specs.Boxes.{RegionsGive, aside_of, faulty_region, upwards_of}
-use Rattle.show_judge.specs.Refused.{second_refusal}
-use Rattle.show_judge.specs.Shows.{Cut, sent_of}
 use Rattle.show_studies.specs.Steps.{EndsRegions}
 
 -- so each drone of its show keeps to each region of the text

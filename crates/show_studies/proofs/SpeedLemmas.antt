@@ -1,23 +1,6 @@
 -- What `speed` answers, drone by drone.
-use Rattle.std.proofs.lemmas.Grind.{common_steps}
-use Rattle.std.proofs.Common.{◌≡◌, ℕ, zero, suc, ◌+◌, ◌<◌, ◌≤◌, cond, nat_lt, pos, List, ◌∷◌, ◌++◌, All, length, get_or, drop, Option, Some, None, Result, Ok, Err, IfOk, IfSome, refl, sym, ap, subst, ◌∙◌, arith, append_assoc}
-use Rattle.std.specs.Option.{option_or}
-use Rattle.std.specs.declared.alloc.AllocError.{AllocError}
+use Rattle.show_studies.proofs.Prelude.{common_steps, ◌≡◌, ℕ, zero, suc, ◌+◌, ◌<◌, ◌≤◌, cond, nat_lt, pos, List, ◌∷◌, ◌++◌, All, length, get_or, drop, Option, Some, None, Result, Ok, Err, IfOk, IfSome, refl, sym, ap, subst, ◌∙◌, arith, append_assoc, option_or, AllocError, drop_all, drop_more, All-cons, All-nil, Name, PlainShow, Refusal, Fitted, IsFitted, speed, Traj, Answer, outcome_of, KeepsBounds, above, first_too_fast, speed_of_drone, speed_text, too_fast_by, sent_of, none_both}
 use Rattle.std.proofs.lemmas.Bool.Decides.{nat_tests}
-use Rattle.std.proofs.lemmas.List.{drop_all, drop_more}
-use Rattle.std.proofs.lemmas.List.Elements.{All-cons, All-nil}
-use Rattle.choreo_lines.specs.Name.{Name}
-use Rattle.choreo_show.specs.Plain.{PlainShow}
-use Rattle.refusals.specs.declared.refusal.Refusal.{Refusal}
-use Rattle.show_plan.specs.declared.fitted.Fitted.{Fitted}
-use Rattle.show_plan.specs.Fitting.{IsFitted}
-use Rattle.speed_bound.specs.Speed.{speed}
-use Rattle.traj_codec.specs.declared.traj.Traj.{Traj}
-use Rattle.show_judge.specs.declared.ends.Answer.{Answer}
-use Rattle.show_judge.specs.Answers.{outcome_of}
-use Rattle.show_studies.specs.Speeds.{KeepsBounds, above, first_too_fast, speed_of_drone, speed_text, too_fast_by}
-use Rattle.show_judge.specs.Shows.{sent_of}
-use Rattle.show_judge.proofs.HeadlineLemmas.{none_both}
 
 -- what is left of drones and names from a drone on, as that drone and what comes after it
 pub left_from : {Y : Type 0} (F : List Traj → List Name → Y) (sent : List Traj) (names : List Name) (d : ℕ) (t : Traj) (name : Name) → d < length sent → d < length names →

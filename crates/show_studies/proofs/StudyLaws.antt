@@ -1,16 +1,6 @@
 -- The laws of `speed`, of `dynamics` and of `explain`.
-use Rattle.std.proofs.Common.{◌≡◌, ℕ, List, Option, Some, None, refl, sym, ap, subst, ◌∙◌}
-use Rattle.std.specs.Io.KnownBytes.{Appends}
+use Rattle.show_studies.proofs.Prelude.{◌≡◌, ℕ, List, Option, Some, None, refl, sym, ap, subst, ◌∙◌, Appends, Refusal, IsSafe, IsVerb, cut_of, names_of, sent_of, Outcome, outcome, refused_some, whole_input, KeepsDynamics, dynamics_of, dynamics_verb, excess_in, limits_of, TellsTouches, explain_verb, KeepsSpeeds, speed_text, speed_verb, refused_or, too_fast}
 use Rattle.choreo_reader.specs.Grammar.{StandsFor}
-use Rattle.refusals.specs.declared.refusal.Refusal.{Refusal}
-use Rattle.show_judge.specs.Outcome.{IsSafe, IsVerb}
-use Rattle.show_judge.specs.Shows.{cut_of, names_of, sent_of}
-use Rattle.show_judge.specs.Verb.{Outcome, outcome}
-use Rattle.show_judge.proofs.AnswerLemmas.{refused_some}
-use Rattle.show_judge.proofs.HeadlineLemmas.{whole_input}
-use Rattle.show_studies.specs.Dynamics.{KeepsDynamics, dynamics_of, dynamics_verb, excess_in, limits_of}
-use Rattle.show_studies.specs.Explained.{TellsTouches, explain_verb}
-use Rattle.show_studies.specs.Speeds.{KeepsSpeeds, speed_text, speed_verb, refused_or, too_fast}
 use Rattle.show_studies.proofs.StudyLemmas.{explained_one}
 
 -- outcomes of one status and one output are one

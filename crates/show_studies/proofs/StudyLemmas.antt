@@ -1,25 +1,10 @@
 -- What `boxes` and `explain` say of a show is one thing alone.
-use Rattle.std.proofs.lemmas.Grind.{common_steps}
-use Rattle.std.proofs.Common.{◌≡◌, ◌⊎◌, inl, inr, ℕ, zero, suc, ◌+◌, ◌<◌, ◌≤◌, ℤ, pos, ◌*ℤ◌, ◌≤ℤ◌, ◌<ℤ◌, List, [], length, get_or, Option, Some, None, Result, Ok, refl, sym, ap, subst, ◌∙◌, arith}
-use Rattle.std.specs.Prelude.{MatchOption, slice_get}
-use Rattle.std.proofs.lemmas.Int.{ints}
+use Rattle.show_studies.proofs.Prelude.{common_steps, ◌≡◌, ◌⊎◌, inl, inr, ℕ, zero, suc, ◌+◌, ◌<◌, ◌≤◌, ℤ, pos, ◌*ℤ◌, ◌≤ℤ◌, ◌<ℤ◌, List, [], length, get_or, Option, Some, None, Result, Ok, refl, sym, ap, subst, ◌∙◌, arith, MatchOption, slice_get, ints, PlainShow, Judged, Kept, Enters, Region, IsFirstEntry, JudgeGives, Spot, Refusal, Raised, DisjointAt, IsBefore, IsClosest, IsFirstTouch, IsListed, LeftAbove, LeftFrom, LeftIs, NoTouch, TouchAt, left_of, listed, right_of, site_of, Traj, Outcome, RegionsGive, Cut, Explains}
 use Rattle.std.proofs.lemmas.Option.{slice_get-get_or}
 use Rattle.fleet_math.proofs.RingLemmas.{le_mul_ℤ, mul_comm_ℤ}
-use Rattle.choreo_show.specs.Plain.{PlainShow}
-use Rattle.keepout_boxes.specs.declared.judging.Judged.{Judged}
-use Rattle.keepout_boxes.specs.declared.judging.Judged.TheVariants.{Kept, Enters}
-use Rattle.keepout_boxes.specs.declared.region.Region.{Region}
-use Rattle.keepout_boxes.specs.Kept.{IsBefore as Precedes, IsFirstEntry, JudgeGives, Spot}
-use Rattle.refusals.specs.declared.refusal.Refusal.{Refusal}
-use Rattle.fleet_curves.specs.Raised.{Raised}
+use Rattle.keepout_boxes.specs.Kept.{IsBefore as Precedes}
 use Rattle.touch_witness.specs.declared.site.Closest.{Closest}
 use Rattle.touch_witness.specs.declared.site.Touch.{Touch}
-use Rattle.touch_witness.specs.Sites.{DisjointAt, IsBefore, IsClosest, IsFirstTouch, IsListed, LeftAbove, LeftFrom, LeftIs, NoTouch, TouchAt, left_of, listed, right_of, site_of}
-use Rattle.traj_codec.specs.declared.traj.Traj.{Traj}
-use Rattle.show_judge.specs.Verb.{Outcome}
-use Rattle.show_studies.specs.Boxes.{RegionsGive}
-use Rattle.show_judge.specs.Shows.{Cut}
-use Rattle.show_studies.specs.Explained.{Explains}
 
 -- ---- orders
 

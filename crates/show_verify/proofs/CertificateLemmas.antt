@@ -1,16 +1,5 @@
 -- What a certificate gives for a show.
-use Rattle.std.proofs.Common.{◌≡◌, List, Option, ap, sym, ◌∙◌}
-use Rattle.choreo_lines.specs.Name.{Name}
-use Rattle.choreo_show.specs.Plain.{PlainShow}
-use Rattle.sep_parts.specs.declared.clearance.Clearance.{Clearance}
-use Rattle.sep_parts.specs.Versions.{table_of}
-use Rattle.fleet_curves.specs.Raised.{Raised, raised_of}
-use Rattle.sep_certificate.specs.declared.certificate.CertFault.{CertFault}
-use Rattle.sep_certificate.specs.declared.certificate.Certificate.{Certificate}
-use Rattle.sep_certificate.specs.Certificates.{fault_of}
-use Rattle.show_plan.specs.Separation.{clearance_of}
-use Rattle.show_verify.specs.Verify.{judged, judged_for}
-use Rattle.show_judge.specs.Shows.{names_of, trajectories_of}
+use Rattle.show_verify.proofs.Prelude.{◌≡◌, List, Option, ap, sym, ◌∙◌, Name, PlainShow, Clearance, table_of, Raised, raised_of, CertFault, Certificate, fault_of, clearance_of, judged, judged_for, names_of, trajectories_of}
 
 -- a certificate that is judged by the curves and settings of a show gives what it gives for the show
 pub judged_same : (s : PlainShow) (c : Certificate) (names : List Name) (curves : Raised) (clear : Clearance) (o : Option CertFault) →

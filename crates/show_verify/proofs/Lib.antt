@@ -1,3 +1,4 @@
+mod Prelude
 pub mod CertificateLemmas
 pub mod SecondLemmas
 pub mod VerifyLemmas

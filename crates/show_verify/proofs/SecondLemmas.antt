@@ -1,52 +1,30 @@
 -- A certificate's text that is judged as it is taken.
-use Rattle.std.proofs.Common.{◌≡◌, ℕ, suc, ◌+◌, ◌<◌, ◌≤◌, Bool, true, false, cond, nat_lt, ◌==◌, List, [], ◌∷◌, ◌++◌, append_assoc, append-nil, length, length-append, All, get_or, take, drop, Option, Some, None, Result, Ok, Err, IfOk, IfSome, refl, sym, ap, subst, ◌∙◌, arith}
-use Rattle.std.specs.Io.KnownBytes.{IsAtEnd, prepend_known}
+use Rattle.show_verify.proofs.Prelude.{◌≡◌, ℕ, suc, ◌+◌, ◌<◌, ◌≤◌, Bool, true, false, cond, nat_lt, ◌==◌, List, [], ◌∷◌, ◌++◌, append_assoc, append-nil, length, length-append, All, get_or, take, drop, Option, Some, None, Result, Ok, Err, IfOk, IfSome, refl, sym, ap, subst, ◌∙◌, arith, IsAtEnd, prepend_known, lines, take_more, AsksNext, PartLaw, begins_after, is_marked_left, part_left, rest_left, buffer_bytes, TakesFront, Name, PlainShow, CurvesStandFor, Raised, raised_of, Clearance, KeepReach, KeepsApart, SentLaw, Certificate, Says, bad_line, Refusal, FlyApart, clearance_of, CertificateGives, certificate_limit, judged_for, not_valid, valid_line, verify_verb, AnswersInput, IsRefusedBy, IsSaid, outcome_of, TooLarge as TakenTooLarge, Whole as TakenWhole, GoesOn, IsReadBoth, IsReadWhole, IsShowText, IsWholeText, Outcome, outcome, IsOfInput, second_refusal, GivesSecond, IsFed, IsFewTaken, IsMarkedBy, IsTakenToEnd, IsTakenWhole, Skips, TakenGives, unless_marked, verdict_outcome, Cut, cut_of, feeds, marker_number, names_of, trajectories_of}
 use Rattle.std.specs.Option.{option_map, option_or}
-use Rattle.std.specs.Str.Lines.{lines}
 use Rattle.std.proofs.lemmas.Bool.Decides.{nat_tests}
-use Rattle.std.proofs.lemmas.List.{take_more}
 use Rattle.text_lines.specs.Lines.{between_feeds}
 use Rattle.text_lines.specs.Marker.{has_marker, part_of, rest_of}
-use Rattle.fleet_io.specs.PartBytes.{AsksNext, PartLaw, begins_after, is_marked_left, part_left, rest_left}
-use Rattle.fleet_io.specs.Held.{buffer_bytes}
 use Rattle.fleet_io.specs.Parts.{TakesFewAfter}
-use Rattle.fleet_io.specs.Taken.{TakesFront}
 use Rattle.fleet_io.specs.declared.parts.Ask.TheVariants as ask
 use Rattle.fleet_io.proofs.PartLemmas.{passed}
-use Rattle.choreo_lines.specs.Name.{Name}
-use Rattle.choreo_show.specs.Plain.{PlainShow}
 use Rattle.choreo_show.specs.declared.show.Settings.{Settings}
-use Rattle.fleet_curves.specs.Raised.{CurvesStandFor, Raised, raised_of}
 use Rattle.traj_codec.specs.declared.traj.Traj.{Traj}
-use Rattle.sep_parts.specs.declared.clearance.Clearance.{Clearance}
-use Rattle.sep_parts.specs.Apart.{KeepReach, KeepsApart, SentLaw}
-use Rattle.sep_certificate.specs.declared.certificate.Certificate.{Certificate}
-use Rattle.sep_certificate.specs.Texts.{Says, bad_line}
 use Rattle.sep_certificate.proofs.TextLaws.{texts}
 use Rattle.certificate_checker.specs.declared.verdict.Verdict.{Verdict}
 use Rattle.certificate_checker.specs.declared.verdict.Verdict.TheVariants as verdict
 use Rattle.certificate_checker.specs.Bytes.{Seen}
 use Rattle.certificate_checker.specs.Verdicts.{VerdictGives}
-use Rattle.refusals.specs.declared.refusal.Refusal.{Refusal}
 use Rattle.refusals.specs.declared.refusal.Refusal.TheVariants as refusal
 use Rattle.show_plan.specs.declared.fitted.Fitted.{Fitted}
 use Rattle.show_plan.specs.Fitting.{IsValidFitted}
-use Rattle.show_plan.specs.Separation.{FlyApart, clearance_of}
-use Rattle.show_verify.specs.Verify.{CertificateGives, certificate_limit, judged_for, not_valid, valid_line, verify_verb}
 use Rattle.show_judge.specs.declared.ends.Answer.{Answer}
 use Rattle.show_judge.specs.declared.ends.Answer.TheVariants.{Refused}
 use Rattle.show_judge.specs.declared.ends.Failure.{Failure}
 use Rattle.show_judge.specs.declared.input.Text.{Text}
 use Rattle.show_judge.specs.declared.input.Text.TheVariants.{TooLarge, Whole}
-use Rattle.show_judge.specs.Answers.{AnswersInput, Fits, IsRefusedBy, IsSaid, outcome_of}
+use Rattle.show_judge.specs.Answers.{Fits}
 use Rattle.show_verify.specs.declared.verifying.Taken.{Taken}
-use Rattle.show_verify.specs.declared.verifying.Taken.TheVariants.{TooLarge as TakenTooLarge, Whole as TakenWhole}
-use Rattle.show_judge.specs.Input.{GoesOn, IsReadBoth, IsReadWhole, IsShowText, IsWholeText}
-use Rattle.show_judge.specs.Verb.{Outcome, outcome}
 use Rattle.show_judge.specs.Outcome.{refused}
-use Rattle.show_judge.specs.Refused.{IsOfInput, second_refusal}
-use Rattle.show_verify.specs.SecondTexts.{GivesSecond, IsFed, IsFewTaken, IsMarkedBy, IsTakenToEnd, IsTakenWhole, Skips, TakenGives, unless_marked, verdict_outcome}
-use Rattle.show_judge.specs.Shows.{Cut, cut_of, feeds, marker_number, names_of, trajectories_of}
 use Rattle.show_judge.proofs.AnswerLemmas.{apart_of_show, fitted_outcome, fitted_safe, plain_outcome, refused_some, some_by}
 use Rattle.show_verify.proofs.CertificateLemmas.{judged_same}
 

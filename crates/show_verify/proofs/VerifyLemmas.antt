@@ -1,24 +1,10 @@
 -- The laws of `verify`.
-use Rattle.std.proofs.Common.{◌≡◌, ℕ, ◌==◌, Bool, true, false, cond, List, length, Option, Some, None, refl, sym, ap, subst, ◌∙◌, arith}
-use Rattle.std.specs.Str.Lines.{lines}
-use Rattle.choreo_show.specs.Plain.{PlainShow}
-use Rattle.fleet_curves.specs.Raised.{raised_of}
-use Rattle.refusals.specs.declared.refusal.Refusal.{Refusal}
-use Rattle.sep_parts.specs.Versions.{known_in, table_of}
+use Rattle.show_verify.proofs.Prelude.{◌≡◌, ℕ, ◌==◌, Bool, true, false, cond, List, length, Option, Some, None, refl, sym, ap, subst, ◌∙◌, arith, lines, PlainShow, raised_of, Refusal, known_in, table_of, CertFault, Certificate, IsWholeIn, fault_of, Says, bad_line, clearance_of, second_refusal, Cut, names_of, trajectories_of, Outcome, CertificateGives, VerifyGives, VerifyLaw, VerifySucceeds, certificate_limit, judged, judged_for, verify_verb}
 use Rattle.sep_parts.specs.declared.directions.TheConstants.{DIRECTIONS, WIDE}
-use Rattle.sep_certificate.specs.declared.certificate.CertFault.{CertFault}
-use Rattle.sep_certificate.specs.declared.certificate.Certificate.{Certificate}
-use Rattle.sep_certificate.specs.Certificates.{IsWholeIn, fault_of}
 use Rattle.sep_certificate.specs.Laws.{CertificateLaw}
 use Rattle.sep_certificate.specs.Readings.{TextLaw}
-use Rattle.sep_certificate.specs.Texts.{Says, bad_line}
-use Rattle.show_plan.specs.Separation.{clearance_of}
-use Rattle.show_judge.specs.Refused.{second_refusal}
-use Rattle.show_judge.specs.Shows.{Cut, names_of, trajectories_of}
-use Rattle.show_judge.specs.Verb.{Outcome}
 use Rattle.show_judge.proofs.HeadlineLemmas.{flies_text, none_both}
 use Rattle.show_judge.proofs.VerbLemmas.{none_mapped, within_limit}
-use Rattle.show_verify.specs.Verify.{CertificateGives, VerifyGives, VerifyLaw, VerifySucceeds, certificate_limit, judged, judged_for, verify_verb}
 
 -- ---- one outcome
 

@@ -1,24 +1,5 @@
 -- How wide the steps of a half are, and so those of all parts; and what is no faster than a speed that was found.
-use Rattle.std.proofs.lemmas.Grind.{common_steps}
-use Rattle.std.proofs.Common.{◌≡◌, ◌≢◌, ℕ, zero, suc, ◌+◌, ◌-◌, ◌*◌, ◌/◌, ◌^◌, ◌≤◌, ◌<◌, max, ℤ, pos, ◌+ℤ◌, ◌-ℤ◌, ◌*ℤ◌, unsigned_abs, arith, lit<, refl, sym, ◌∙◌, ap, List, [], ◌∷◌, All}
-use Rattle.std.proofs.lemmas.Int.{ints}
-use Rattle.std.proofs.lemmas.List.Elements.{All-from_get_or}
-use Rattle.std.proofs.lemmas.Nat.{mul-le, pow-add, pow_pos}
-use Rattle.std.proofs.Math.Nat.{pow-le-pow_right, pow-suc}
-use Rattle.fleet_math.specs.Bernstein.{at}
-use Rattle.fleet_math.specs.Numbers.{IsBelow}
-use Rattle.fleet_math.specs.Sums.{power}
-use Rattle.fleet_math.proofs.RingLemmas.{ring, linear, one_mul_ℤ}
-use Rattle.bezier_core.specs.Raised.{eight, raised}
-use Rattle.bezier_core.specs.Steps.{IsWithin}
-use Rattle.bezier_core.proofs.CurveLemmas.{at-eight, raised-level}
-use Rattle.halving.specs.Part.{polar, part_value}
-use Rattle.halving.proofs.PolarLemmas.{blossom}
-use Rattle.halving.proofs.PartBounds.{part-within}
-use Rattle.traj_codec.specs.declared.traj.Element.{Element}
-use Rattle.traj_codec.specs.declared.traj.Element.TheVariants.{Constant}
-use Rattle.traj_codec.specs.Spelling.{stored}
-use Rattle.speed_bound.specs.Speed.{greatest_below, segment_speed, speed_of, widest_part, widest_step}
+use Rattle.speed_bound.proofs.Prelude.{common_steps, ◌≡◌, ◌≢◌, ℕ, zero, suc, ◌+◌, ◌-◌, ◌*◌, ◌/◌, ◌^◌, ◌≤◌, ◌<◌, max, ℤ, pos, ◌+ℤ◌, ◌-ℤ◌, ◌*ℤ◌, unsigned_abs, arith, lit<, refl, sym, ◌∙◌, ap, List, [], ◌∷◌, All, ints, All-from_get_or, mul-le, pow-add, pow_pos, pow-le-pow_right, pow-suc, at, IsBelow, power, ring, linear, one_mul_ℤ, eight, raised, IsWithin, at-eight, raised-level, polar, part_value, blossom, part-within, Element, Constant, stored, greatest_below, segment_speed, speed_of, widest_part, widest_step}
 use Rattle.speed_bound.proofs.Slopes.{exchange, polar-within, steps, within_same}
 use Rattle.speed_bound.proofs.Widths.{div_ceil-least, greatest-at, greatest-most, parts-shrink, segment_speed-is, some_time, widest-whole, widest_part-small, widest_step-same, within_at}
 

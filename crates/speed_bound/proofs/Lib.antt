@@ -1,3 +1,4 @@
+mod Prelude
 pub mod Slopes
 pub mod Speeds
 pub mod Widths

@@ -1,36 +1,6 @@
 -- How far a trajectory moves in some time: by its speed, and never farther than two positions are apart.
-use Rattle.std.proofs.Common.{◌≡◌, ℕ, zero, suc, ◌+◌, ◌-◌, ◌*◌, ◌≤◌, ◌<◌, min, ℤ, pos, neg_ℤ, ◌-ℤ◌, ◌*ℤ◌, ◌≤ℤ◌, unsigned_abs, arith, sym, ◌∙◌, ap, subst, List, [], ◌∷◌, length, map, get_or, All, sum}
-use Rattle.std.specs.Int.{div_ceil}
-use Rattle.std.proofs.lemmas.Int.{ints}
-use Rattle.std.proofs.lemmas.Nat.{mul-le}
-use Rattle.std.proofs.lemmas.Grind.{div_ceil_times, common_steps}
-use Rattle.std.proofs.lemmas.List.{get_or_past, length-map}
-use Rattle.std.proofs.lemmas.List.Elements.{All-nil, All-cons, All-head, All-tail, All-from_get_or, All-get_or}
-use Rattle.fleet_math.specs.Sums.{power}
-use Rattle.fleet_math.specs.Numbers.{IsIn}
-use Rattle.fleet_math.specs.Bernstein.{at, bern}
-use Rattle.fleet_math.specs.Moments.{Moment, time_before}
-use Rattle.fleet_math.specs.Decoded.{IsPiece, last_value, points_from}
+use Rattle.speed_bound.proofs.Prelude.{◌≡◌, ℕ, zero, suc, ◌+◌, ◌-◌, ◌*◌, ◌≤◌, ◌<◌, min, ℤ, pos, neg_ℤ, ◌-ℤ◌, ◌*ℤ◌, ◌≤ℤ◌, unsigned_abs, arith, sym, ◌∙◌, ap, subst, List, [], ◌∷◌, length, map, get_or, All, sum, div_ceil, ints, mul-le, div_ceil_times, common_steps, get_or_past, length-map, All-nil, All-cons, All-head, All-tail, All-from_get_or, All-get_or, power, IsIn, at, bern, Moment, time_before, IsPiece, last_value, points_from, linear, le_mul_ℤ, mul_assoc_ℤ, mul_comm_ℤ, mul_not_negative, by_lt, power-add, points-count, IsWithin, within_mul, bernstein-within, Element, Constant, Linear, Cubic, Seven, Segment, Traj, IsElement, IsNumber, IsSegment, IsTrajectory, stored, decoded, durations, element_on, piece_on, pieces_on, own, IsFormed, MovesWithin, way, Lies, moment-lies, time_before-suc, IsMoving, ReachLaw, farthest, reach, reach_of, traj_at, KeepsSpeed, greatest_below, speed}
 use Rattle.fleet_math.specs.Decoded as plain
-use Rattle.fleet_math.proofs.RingLemmas.{linear, le_mul_ℤ, mul_assoc_ℤ, mul_comm_ℤ, mul_not_negative}
-use Rattle.fleet_math.proofs.BernsteinLemmas.{by_lt}
-use Rattle.fleet_math.proofs.SumLemmas.{power-add}
-use Rattle.fleet_math.proofs.EdgeLemmas.{points-count}
-use Rattle.bezier_core.specs.Steps.{IsWithin}
-use Rattle.bezier_core.proofs.BlendLemmas.{within_mul}
-use Rattle.halving.proofs.HalfLemmas.{bernstein-within}
-use Rattle.traj_codec.specs.declared.traj.Element.{Element}
-use Rattle.traj_codec.specs.declared.traj.Element.TheVariants.{Constant, Linear, Cubic, Seven}
-use Rattle.traj_codec.specs.declared.traj.Segment.{Segment}
-use Rattle.traj_codec.specs.declared.traj.Traj.{Traj}
-use Rattle.traj_codec.specs.Spelling.{IsElement, IsNumber, IsSegment, IsTrajectory, stored}
-use Rattle.traj_codec.specs.Positions.{decoded, durations, element_on, piece_on, pieces_on}
-use Rattle.traj_codec.specs.Joined.{own}
-use Rattle.fleet_curves.specs.Steps.{IsFormed}
-use Rattle.sep_parts.specs.Apart.{MovesWithin, way}
-use Rattle.fleet_math.proofs.Instants.{Lies, moment-lies, time_before-suc}
-use Rattle.speed_bound.specs.Reach.{IsMoving, ReachLaw, farthest, reach, reach_of, traj_at}
-use Rattle.speed_bound.specs.Speed.{KeepsSpeed, greatest_below, speed}
 use Rattle.speed_bound.proofs.Rests.{keeps_speed, pieces_formed}
 use Rattle.speed_bound.proofs.Speeds.{le_from_mul, power_low, product_of}
 use Rattle.speed_bound.proofs.Widths.{div_ceil-least, greatest-at, greatest-map, greatest-most}

@@ -1,23 +1,8 @@
 -- The bound of a trajectory, segment by segment.
-use Rattle.std.proofs.Common.{◌≡◌, ℕ, zero, suc, ◌+◌, ◌*◌, ◌^◌, ◌≤◌, ◌<◌, max, ℤ, pos, ◌-ℤ◌, unsigned_abs, arith, refl, sym, ◌∙◌, ap, subst, List, [], ◌∷◌, length, map, get_or, drop, All}
+use Rattle.speed_bound.proofs.Prelude.{◌≡◌, ℕ, zero, suc, ◌+◌, ◌*◌, ◌^◌, ◌≤◌, ◌<◌, max, ℤ, pos, ◌-ℤ◌, unsigned_abs, arith, refl, sym, ◌∙◌, ap, subst, List, [], ◌∷◌, length, map, get_or, drop, All, pow_pos, mul-le, div_ceil_times, common_steps, length-map, All-head, All-tail, All-nil, All-cons, at, Piece, IsPiece, points_from, moment, raised, part_value, Segment, Traj, stored, HasDuration, durations, element_on, piece_on, pieces_on, points, value_after, IsFormed, KeepsSpeed, greatest_below, segment_speed, speed, speed_of, widest_part, widest_step}
 use Rattle.std.proofs.Math.Seq.{drop-cons}
-use Rattle.std.proofs.lemmas.Nat.{pow_pos, mul-le}
-use Rattle.std.proofs.lemmas.Grind.{div_ceil_times, common_steps}
-use Rattle.std.proofs.lemmas.List.{length-map}
-use Rattle.std.proofs.lemmas.List.Elements.{All-head, All-tail, All-nil, All-cons}
-use Rattle.fleet_math.specs.Bernstein.{at}
-use Rattle.fleet_math.specs.Decoded.{Piece, IsPiece, points_from}
 use Rattle.fleet_math.specs.Decoded as plain
-use Rattle.fleet_math.specs.Moments.{moment}
-use Rattle.bezier_core.specs.Raised.{raised}
-use Rattle.halving.specs.Part.{part_value}
-use Rattle.traj_codec.specs.declared.traj.Segment.{Segment}
-use Rattle.traj_codec.specs.declared.traj.Traj.{Traj}
-use Rattle.traj_codec.specs.Spelling.{stored, HasDuration}
-use Rattle.traj_codec.specs.Positions.{durations, element_on, piece_on, pieces_on, points, value_after}
 use Rattle.traj_codec.proofs.PositionLemmas.{durations_on}
-use Rattle.fleet_curves.specs.Steps.{IsFormed}
-use Rattle.speed_bound.specs.Speed.{KeepsSpeed, greatest_below, segment_speed, speed, speed_of, widest_part, widest_step}
 use Rattle.speed_bound.proofs.Halves.{within_abs}
 use Rattle.speed_bound.proofs.Slopes.{AreFlat}
 use Rattle.speed_bound.proofs.Speeds.{AreSlow, Within, keeps}

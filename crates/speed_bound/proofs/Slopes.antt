@@ -1,20 +1,6 @@
 -- How much a curve of degree seven changes between two instants: by the widest step between neighbours among its control values,
 -- and by those of its parts.
-use Rattle.std.proofs.Common.{◌≡◌, ℕ, zero, suc, ◌+◌, ◌*◌, ◌^◌, ◌≤◌, ◌<◌, ℤ, pos, ◌+ℤ◌, ◌-ℤ◌, ◌*ℤ◌, ◌≤ℤ◌, neg_ℤ, arith, refl, sym, ◌∙◌, ap, zero-add}
-use Rattle.std.proofs.lemmas.Int.{ints, by_lt_z}
-use Rattle.std.proofs.Math.Nat.{pow-suc}
-use Rattle.fleet_math.specs.Sums.{power}
-use Rattle.fleet_math.specs.Bernstein.{bernstein}
-use Rattle.fleet_math.proofs.RingLemmas.{ring, linear, le_mul_ℤ, mul_not_negative, mul_add_ℤ, add_mul_ℤ, mul_assoc_ℤ, one_mul_ℤ, zero_mul_ℤ, mul_comm_ℤ, neg_mul_ℤ}
-use Rattle.std.proofs.lemmas.Nat.{pow-add}
-use Rattle.fleet_math.proofs.SumLemmas.{power-add}
-use Rattle.fleet_math.proofs.BernsteinLemmas.{bernstein-zero, bernstein-same}
-use Rattle.bezier_core.specs.Steps.{IsWithin}
-use Rattle.bezier_core.proofs.BlendLemmas.{bound_positive, within_mul}
-use Rattle.halving.specs.Part.{polar, part_value}
-use Rattle.halving.proofs.HalfLemmas.{bernstein-within}
-use Rattle.halving.proofs.PolarLemmas.{step, polar-same, polar-suc_first, polar-suc_second, polar-mix, polar-first, part-whole, left_half, right_half}
-use Rattle.halving.proofs.PartBounds.{part-half, bernstein-scaled}
+use Rattle.speed_bound.proofs.Prelude.{◌≡◌, ℕ, zero, suc, ◌+◌, ◌*◌, ◌^◌, ◌≤◌, ◌<◌, ℤ, pos, ◌+ℤ◌, ◌-ℤ◌, ◌*ℤ◌, ◌≤ℤ◌, neg_ℤ, arith, refl, sym, ◌∙◌, ap, zero-add, ints, by_lt_z, pow-suc, power, bernstein, ring, linear, le_mul_ℤ, mul_not_negative, mul_add_ℤ, add_mul_ℤ, mul_assoc_ℤ, one_mul_ℤ, zero_mul_ℤ, mul_comm_ℤ, neg_mul_ℤ, pow-add, power-add, bernstein-zero, bernstein-same, IsWithin, bound_positive, within_mul, polar, part_value, bernstein-within, step, polar-same, polar-suc_first, polar-suc_second, polar-mix, polar-first, part-whole, left_half, right_half, part-half, bernstein-scaled}
 
 -- two differences
 pub minus_same : {x y z w : ℤ} → x ≡ y → z ≡ w → x -ℤ z ≡ y -ℤ w

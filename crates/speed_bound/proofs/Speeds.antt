@@ -1,22 +1,7 @@
 -- From the steps of the parts to the speed between each two instants of a trajectory.
-use Rattle.std.proofs.lemmas.Grind.{common_steps}
-use Rattle.std.proofs.Common.{◌≡◌, ℕ, zero, suc, ◌+◌, ◌-◌, ◌*◌, ◌^◌, ◌≤◌, ◌<◌, ℤ, pos, negsuc, ◌+ℤ◌, ◌-ℤ◌, ◌*ℤ◌, ◌≤ℤ◌, ◌<ℤ◌, neg_ℤ, unsigned_abs, arith, refl, sym, ◌∙◌, ap, subst, List, length, get_or, All, sum}
-use Rattle.std.proofs.lemmas.Int.{ints, by_lt_z}
-use Rattle.std.proofs.lemmas.List.{length-map}
-use Rattle.std.proofs.lemmas.Nat.{pow_pos}
-use Rattle.fleet_math.specs.Sums.{power}
-use Rattle.fleet_math.specs.Bernstein.{at, bernstein}
-use Rattle.fleet_math.specs.Moments.{Moment, moment, time_before}
-use Rattle.fleet_math.specs.Decoded.{Piece, IsPiece, points, durations, decoded}
-use Rattle.fleet_math.proofs.RingLemmas.{ring, linear, le_mul_ℤ, le_mul_pos, mul_not_negative, mul_add_ℤ, mul_assoc_ℤ, one_mul_ℤ, zero_mul_ℤ, mul_comm_ℤ, mul_neg_ℤ}
-use Rattle.fleet_math.proofs.BernsteinLemmas.{by_lt}
-use Rattle.fleet_math.proofs.EdgeLemmas.{points-count, points-joined, decoded-at_start, decoded-at_end}
-use Rattle.bezier_core.specs.Raised.{raised}
-use Rattle.bezier_core.specs.Steps.{IsWithin}
-use Rattle.bezier_core.proofs.BlendLemmas.{within_mul}
-use Rattle.bezier_core.proofs.CurveLemmas.{raise}
+use Rattle.speed_bound.proofs.Prelude.{common_steps, ◌≡◌, ℕ, zero, suc, ◌+◌, ◌-◌, ◌*◌, ◌^◌, ◌≤◌, ◌<◌, ℤ, pos, negsuc, ◌+ℤ◌, ◌-ℤ◌, ◌*ℤ◌, ◌≤ℤ◌, ◌<ℤ◌, neg_ℤ, unsigned_abs, arith, refl, sym, ◌∙◌, ap, subst, List, length, get_or, All, sum, ints, by_lt_z, length-map, pow_pos, power, at, bernstein, Moment, moment, time_before, Piece, IsPiece, ring, linear, le_mul_ℤ, le_mul_pos, mul_not_negative, mul_add_ℤ, mul_assoc_ℤ, one_mul_ℤ, zero_mul_ℤ, mul_comm_ℤ, mul_neg_ℤ, by_lt, points-count, points-joined, decoded-at_start, decoded-at_end, raised, IsWithin, within_mul, raise, Lies, moment-lies, time_before-suc}
+use Rattle.fleet_math.specs.Decoded.{points, durations, decoded}
 use Rattle.speed_bound.proofs.Slopes.{AreFlat, minus_same, steep_between, within_add, within_same}
-use Rattle.fleet_math.proofs.Instants.{Lies, moment-lies, time_before-suc}
 
 -- ---- a positive factor cancels
 -- from an order

@@ -1,21 +1,9 @@
 -- Where nobody strays or is late, drones that fly apart exactly fly apart.
-use Rattle.std.proofs.lemmas.Grind.{common_steps}
-use Rattle.std.proofs.Common.{◌≡◌, ℕ, zero, suc, ◌+◌, ◌*◌, ◌≤◌, ℤ, pos, negsuc, neg_ℤ, ◌+ℤ◌, ◌-ℤ◌, ◌*ℤ◌, ◌≤ℤ◌, ◌<ℤ◌, arith, refl, ◌∙◌, ap, subst, sum}
-use Rattle.std.proofs.lemmas.Int.{ints}
-use Rattle.std.proofs.lemmas.Nat.{mul-le}
-use Rattle.fleet_math.specs.Sums.{power}
-use Rattle.fleet_math.specs.Numbers.{IsIn}
-use Rattle.fleet_math.proofs.RingLemmas.{ring, linear, le_from_mul_ℤ, mul_positive, zero_mul_ℤ}
-use Rattle.traj_codec.specs.declared.traj.Traj.{Traj}
-use Rattle.traj_codec.specs.Positions.{decoded, durations}
-use Rattle.traj_codec.specs.Joined.{own, IsLasting}
+use Rattle.speed_bound.proofs.Prelude.{common_steps, ◌≡◌, ℕ, zero, suc, ◌+◌, ◌*◌, ◌≤◌, ℤ, pos, negsuc, neg_ℤ, ◌+ℤ◌, ◌-ℤ◌, ◌*ℤ◌, ◌≤ℤ◌, ◌<ℤ◌, arith, refl, ◌∙◌, ap, subst, sum, ints, mul-le, power, IsIn, ring, linear, le_from_mul_ℤ, mul_positive, zero_mul_ℤ, Traj, decoded, durations, own, IsLasting, AreApart, AreTogether, aside, between, gap, square, way, IsMoving, StillLaw, speed}
 use Rattle.traj_codec.proofs.JoinedLemmas.{lasting_of}
 use Rattle.fleet_curves.proofs.Standing.{at_place}
-use Rattle.sep_parts.specs.Apart.{AreApart, AreTogether, aside, between, gap, square, way}
 use Rattle.sep_parts.proofs.Cauchy.{square_positive}
 use Rattle.sep_parts.proofs.Lifts.{lift, own_some, seventh_positive, whole_of}
-use Rattle.speed_bound.specs.Reach.{IsMoving, StillLaw}
-use Rattle.speed_bound.specs.Speed.{speed}
 use Rattle.speed_bound.proofs.Reaches.{formed_of, moves_by_speed}
 use Rattle.speed_bound.proofs.Rests.{keeps_speed}
 

@@ -1,19 +1,5 @@
 -- The greatest of some numbers, and the widest steps of the parts of a curve.
-use Rattle.std.proofs.Common.{◌≡◌, ℕ, zero, suc, ◌+◌, ◌-◌, ◌*◌, ◌^◌, ◌≤◌, ◌<◌, max, ℤ, pos, ◌-ℤ◌, ◌*ℤ◌, unsigned_abs, arith, refl, sym, ◌∙◌, ap, List, All}
-use Rattle.std.proofs.lemmas.List.{get_or_past}
-use Rattle.std.proofs.lemmas.List.Elements.{All-get_or}
-use Rattle.fleet_math.specs.Bernstein.{at}
-use Rattle.std.proofs.lemmas.Int.{ints}
-use Rattle.std.proofs.lemmas.Nat.{pow_pos, mul-le}
-use Rattle.std.proofs.lemmas.Grind.{div_ceil_times, common_steps}
-use Rattle.std.proofs.Math.Nat.{pow-suc, pow-zero}
-use Rattle.std.specs.Int.{div_ceil}
-use Rattle.bezier_core.specs.Steps.{IsWithin}
-use Rattle.halving.specs.Part.{part_value}
-use Rattle.fleet_math.proofs.BernsteinLemmas.{by_lt}
-use Rattle.halving.proofs.PolarLemmas.{polar-same, part-whole}
-use Rattle.halving.proofs.PartBounds.{part-within, part-half}
-use Rattle.speed_bound.specs.Speed.{greatest_below, widest_step, widest_part, speed_of, segment_speed}
+use Rattle.speed_bound.proofs.Prelude.{◌≡◌, ℕ, zero, suc, ◌+◌, ◌-◌, ◌*◌, ◌^◌, ◌≤◌, ◌<◌, max, ℤ, pos, ◌-ℤ◌, ◌*ℤ◌, unsigned_abs, arith, refl, sym, ◌∙◌, ap, List, All, get_or_past, All-get_or, at, ints, pow_pos, mul-le, div_ceil_times, common_steps, pow-suc, pow-zero, div_ceil, IsWithin, part_value, by_lt, polar-same, part-whole, part-within, part-half, greatest_below, widest_step, widest_part, speed_of, segment_speed}
 
 -- ---- the greatest of some numbers
 -- it depends on no more than the numbers

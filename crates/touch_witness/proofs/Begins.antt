@@ -1,18 +1,5 @@
 -- Where drones begin a cue, and where they are in it.
-use Rattle.std.proofs.lemmas.Grind.{common_steps}
-use Rattle.std.proofs.Common.{◌≡◌, ℕ, zero, suc, ◌+◌, ◌^◌, ◌<◌, ℤ, pos, arith, sym, subst, ap, List, [], ◌∷◌, length, map, get_or, set, Some, slice_get, below_more, get_or-set_other, get_or-set_same, All, replicate}
-use Rattle.std.proofs.lemmas.List.{get_or-replicate, length-replicate}
-use Rattle.fleet_math.specs.Bernstein.{at}
-use Rattle.fleet_math.specs.Decoded.{points_from}
-use Rattle.traj_codec.specs.declared.traj.Segment.{Segment}
-use Rattle.traj_codec.specs.declared.traj.Traj.{Traj}
-use Rattle.traj_codec.specs.Spelling.{stored}
-use Rattle.traj_codec.specs.Positions.{decoded, element_on, piece_on, value_after}
-use Rattle.traj_codec.proofs.PositionLemmas.{decoded-points}
-use Rattle.fleet_curves.proofs.Differences.{same_default}
-use Rattle.fleet_curves.proofs.Standing.{same_item}
-use Rattle.touch_witness.specs.Sites.{listed}
-use Rattle.touch_witness.specs.Steps.{begin_of, position}
+use Rattle.touch_witness.proofs.Prelude.{common_steps, ◌≡◌, ℕ, zero, suc, ◌+◌, ◌^◌, ◌<◌, ℤ, pos, arith, sym, subst, ap, List, [], ◌∷◌, length, map, get_or, set, Some, slice_get, below_more, get_or-set_other, get_or-set_same, All, replicate, get_or-replicate, length-replicate, at, points_from, Segment, Traj, stored, decoded, element_on, piece_on, value_after, decoded-points, same_default, same_item, listed, begin_of, position}
 
 -- the next segment begins with the value with which this one ends
 pub begin-next : (axis : ℕ) (first : ℤ) (segments : List Segment) (cue : ℕ) (s : Segment) → s ≡ get_or segments cue s → cue < length segments →

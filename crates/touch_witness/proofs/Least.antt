@@ -1,21 +1,6 @@
 -- The least of pairs and of listed instants, one more at a time.
-use Rattle.std.proofs.lemmas.Grind.{common_steps}
-use Rattle.std.proofs.Common.{◌≡◌, ℕ, ◌+◌, ◌^◌, ◌≤◌, ◌<◌, inl, inr, ℤ, pos, ◌*ℤ◌, ◌≤ℤ◌, ◌<ℤ◌, arith, refl, sym, subst, ◌∙◌, List, [], ◌∷◌, length, get_or, FitsSigned, true, false}
-use Rattle.std.proofs.lemmas.Int.{ints}
-use mir.Syntax.{w128}
-use Rattle.std.specs.Prelude.{◌⊎◌}
+use Rattle.touch_witness.proofs.Prelude.{common_steps, ◌≡◌, ℕ, ◌+◌, ◌^◌, ◌≤◌, ◌<◌, inl, inr, ℤ, pos, ◌*ℤ◌, ◌≤ℤ◌, ◌<ℤ◌, arith, refl, sym, subst, ◌∙◌, List, [], ◌∷◌, length, get_or, FitsSigned, true, false, ints, w128, ◌⊎◌, IsIn, linear, by_lt, Traj, Point, Touch, Pair, Best, cues_in, IsBefore, IsListed, LeftAbove, LeftFrom, left_of, listed, ArePlaces, IsBest, IsLeastPair, IsNearestAt, PairBefore, left_at, most_ratio, point_at, right_side}
 use lib.Signed.{lt_z}
-use Rattle.fleet_math.specs.Numbers.{IsIn}
-use Rattle.fleet_math.proofs.RingLemmas.{linear}
-use Rattle.fleet_math.proofs.BernsteinLemmas.{by_lt}
-use Rattle.traj_codec.specs.declared.traj.Traj.{Traj}
-use Rattle.touch_witness.specs.declared.places.Point.{Point}
-use Rattle.touch_witness.specs.declared.site.Touch.{Touch}
-use Rattle.touch_witness.specs.declared.nearest.Pair.{Pair}
-use Rattle.touch_witness.specs.declared.nearest.Best.{Best}
-use Rattle.fleet_curves.specs.Raised.{cues_in}
-use Rattle.touch_witness.specs.Sites.{IsBefore, IsListed, LeftAbove, LeftFrom, left_of, listed}
-use Rattle.touch_witness.specs.Steps.{ArePlaces, IsBest, IsLeastPair, IsNearestAt, PairBefore, left_at, most_ratio, point_at, right_side}
 use Rattle.touch_witness.proofs.Pairs.{sides}
 
 lt_le : (x y z : ℤ) → x <ℤ y → y ≤ℤ z → x <ℤ z

@@ -1,25 +1,6 @@
 -- The level: the floor of 1,000 times the left side over the right side.
-use Rattle.std.proofs.lemmas.Grind.{common_steps}
-use Rattle.std.proofs.Common.{◌≡◌, ℕ, ◌+◌, ◌*◌, ◌/◌, ◌%◌, ◌^◌, ◌≤◌, ◌<◌, ℤ, pos, ◌<ℤ◌, ◌+ℤ◌, ◌-ℤ◌, ◌*ℤ◌, ◌≤ℤ◌, unsigned_abs, arith, ap, sym, subst, ◌∙◌, pow-add, List, length, get_or}
-use Rattle.std.proofs.lemmas.Int.{ints, unsigned_abs-mul}
-use Rattle.std.proofs.lemmas.Nat.{mul-le}
-use Rattle.std.proofs.Math.Nat.{div-le_of_le-mul}
-use Rattle.fleet_math.specs.Sums.{power}
-use Rattle.fleet_math.proofs.RingLemmas.{le_mul_pos, linear}
-use Rattle.bezier_core.specs.Steps.{IsWithin}
-use Rattle.bezier_core.proofs.BlendLemmas.{power_pos}
-use Rattle.touch_witness.specs.declared.places.Point.{Point}
-use Rattle.fleet_math.specs.Numbers.{IsIn}
-use Rattle.traj_codec.specs.declared.traj.Segment.{Segment}
-use Rattle.traj_codec.specs.declared.traj.Traj.{Traj}
-use Rattle.touch_witness.specs.declared.site.Touch.{Touch}
-use Rattle.touch_witness.specs.declared.nearest.Best.{Best}
-use Rattle.fleet_curves.specs.Raised.{cues_in}
-use Rattle.touch_witness.specs.Sites.{IsClosest, IsListed, LeftFrom}
+use Rattle.touch_witness.proofs.Prelude.{common_steps, ◌≡◌, ℕ, ◌+◌, ◌*◌, ◌/◌, ◌%◌, ◌^◌, ◌≤◌, ◌<◌, ℤ, pos, ◌<ℤ◌, ◌+ℤ◌, ◌-ℤ◌, ◌*ℤ◌, ◌≤ℤ◌, unsigned_abs, arith, ap, sym, subst, ◌∙◌, pow-add, List, length, get_or, ints, unsigned_abs-mul, mul-le, div-le_of_le-mul, power, le_mul_pos, linear, IsWithin, power_pos, Point, IsIn, Segment, Traj, Touch, Best, cues_in, IsClosest, IsListed, LeftFrom, inl, FitsSigned, w128, IsBest, IsNear, left_side, most_ratio, right_side}
 use Rattle.touch_witness.proofs.Least.{cues_are}
-use Rattle.std.proofs.Common.{inl, FitsSigned}
-use mir.Syntax.{w128}
-use Rattle.touch_witness.specs.Steps.{IsBest, IsNear, left_side, most_ratio, right_side}
 
 -- the level fits 64 bits
 pub level_small : (left right : ℕ) → 1 ≤ right → left ≤ most_ratio * right → 1000 * (left / right) + 1000 * (left % right) / right ≤ 1000 * most_ratio + 1000

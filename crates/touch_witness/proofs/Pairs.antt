@@ -1,10 +1,5 @@
 -- From points to drones: two points are apart exactly where the drones there are.
-use Rattle.std.proofs.lemmas.Grind.{common_steps}
-use Rattle.std.proofs.Common.{◌≡◌, ℕ, ℤ, pos, ◌≤ℤ◌, ◌<ℤ◌, subst, List, arith}
-use Rattle.traj_codec.specs.declared.traj.Traj.{Traj}
-use Rattle.touch_witness.specs.declared.places.Point.{Point}
-use Rattle.touch_witness.specs.Sites.{left_of, listed}
-use Rattle.touch_witness.specs.Steps.{ArePlaces, IsPlace, PairDisjoint, PairTouches, SidesDisjoint, SidesTouch, left_side, point_at, right_side}
+use Rattle.touch_witness.proofs.Prelude.{common_steps, ◌≡◌, ℕ, ℤ, pos, ◌≤ℤ◌, ◌<ℤ◌, subst, List, arith, Traj, Point, left_of, listed, ArePlaces, IsPlace, PairDisjoint, PairTouches, SidesDisjoint, SidesTouch, left_side, point_at, right_side}
 
 -- the left side is that of the drones
 pub sides : (t u : Traj) (r h fine cue at : ℕ) (p q : Point) → IsPlace t fine cue at p → IsPlace u fine cue at q →

@@ -1,18 +1,5 @@
 -- Where two drones are not disjoint, their closed ellipsoids share a point: the middle between the centres.
-use Rattle.std.proofs.Common.{◌≡◌, ℕ, zero, suc, ◌+◌, ◌*◌, ◌^◌, ◌≤◌, ℤ, pos, neg_ℤ, ◌+ℤ◌, ◌-ℤ◌, ◌*ℤ◌, ◌≤ℤ◌, arith, refl, sym, subst, ◌∙◌, ap}
-use Rattle.std.proofs.lemmas.Int.{ints, by_lt_z}
-use Rattle.std.proofs.lemmas.Nat.{mul-le}
-use Rattle.std.proofs.Math.Nat.{pow-zero, pow-suc}
-use Rattle.fleet_math.specs.Sums.{power}
-use Rattle.fleet_math.proofs.RingLemmas.{ring, linear, le_mul_ℤ, mul_comm_ℤ}
-use Rattle.fleet_math.proofs.SumLemmas.{power-add, power-mul}
-use Rattle.bezier_core.proofs.BlendLemmas.{power_pos}
-use Rattle.traj_codec.specs.declared.traj.Traj.{Traj}
-use Rattle.traj_codec.specs.Positions.{decoded}
-use Rattle.traj_codec.specs.Joined.{own}
-use Rattle.sep_parts.specs.Apart.{gap}
-use Rattle.sep_parts.proofs.Cauchy.{square_positive}
-use Rattle.touch_witness.specs.Sites.{AreDisjoint, SharePoint, from_centre, over}
+use Rattle.touch_witness.proofs.Prelude.{◌≡◌, ℕ, zero, suc, ◌+◌, ◌*◌, ◌^◌, ◌≤◌, ℤ, pos, neg_ℤ, ◌+ℤ◌, ◌-ℤ◌, ◌*ℤ◌, ◌≤ℤ◌, arith, refl, sym, subst, ◌∙◌, ap, ints, by_lt_z, mul-le, pow-zero, pow-suc, power, ring, linear, le_mul_ℤ, mul_comm_ℤ, power-add, power-mul, power_pos, Traj, decoded, own, gap, square_positive, AreDisjoint, SharePoint, from_centre, over}
 
 -- the squares of three numbers, each times another number
 scaled_squares : (h r k x y z : ℤ) → h *ℤ ((k *ℤ x) *ℤ (k *ℤ x) +ℤ (k *ℤ y) *ℤ (k *ℤ y)) +ℤ r *ℤ ((k *ℤ z) *ℤ (k *ℤ z)) ≡ (h *ℤ (x *ℤ x +ℤ y *ℤ y) +ℤ r *ℤ (z *ℤ z)) *ℤ (k *ℤ k)

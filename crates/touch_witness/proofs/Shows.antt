@@ -1,39 +1,14 @@
 -- A listed instant is an instant of the show: the drones are at the same places there.
-use Rattle.std.proofs.lemmas.Grind.{common_steps}
-use Rattle.std.proofs.Common.{◌≡◌, ℕ, zero, suc, ◌+◌, ◌-◌, ◌*◌, ◌^◌, ◌≤◌, ◌<◌, ℤ, pos, ◌+ℤ◌, ◌-ℤ◌, ◌*ℤ◌, ◌≤ℤ◌, ◌<ℤ◌, arith, refl, sym, subst, ◌∙◌, ap, List, [], ◌∷◌, length, map, get_or, All, sum, Some, slice_get}
-use Rattle.std.proofs.lemmas.Int.{ints}
-use Rattle.std.proofs.lemmas.Nat.{mul-le, pow_pos}
-use Rattle.std.proofs.lemmas.List.{length-map}
+use Rattle.touch_witness.proofs.Prelude.{common_steps, ◌≡◌, ℕ, zero, suc, ◌+◌, ◌-◌, ◌*◌, ◌^◌, ◌≤◌, ◌<◌, ℤ, pos, ◌+ℤ◌, ◌-ℤ◌, ◌*ℤ◌, ◌≤ℤ◌, ◌<ℤ◌, arith, refl, sym, subst, ◌∙◌, ap, List, [], ◌∷◌, length, map, get_or, All, sum, Some, slice_get, ints, mul-le, pow_pos, length-map, All-head, All-tail, All-nil, All-cons, power, at, bernstein, Piece, IsPiece, points, durations, ring, linear, le_mul_ℤ, mul_add_ℤ, mul_comm_ℤ, mul_left_comm_ℤ, mul_positive, one_mul_ℤ, power-add, power-mul, power_positive, by_lt, power_pos, pow-zero, pow-suc, Segment, Traj, piece_on, pieces_on, durations_on, IsFormed, own, IsOneShow, cues_in, AreApart, FlyApartExactly, at_place, segments_of, MatchOption, Option, None, Touch, AreDisjoint, DisjointAt, IsFirstTouch, IsListed, NoTouch, SharePoint, TouchAt, gap_at, instant_of, left_of, listed, right_of, IsFirstSite, NoneTouch, SidesDisjoint, SidesTouch}
 use Rattle.std.proofs.lemmas.List.Sums.{sum_by-cons}
-use Rattle.std.proofs.lemmas.List.Elements.{All-head, All-tail, All-nil, All-cons}
-use Rattle.fleet_math.specs.Sums.{power}
-use Rattle.fleet_math.specs.Bernstein.{at, bernstein}
 use Rattle.fleet_math.specs.Moments.{Moment, moment, time_before}
-use Rattle.fleet_math.specs.Decoded.{Piece, IsPiece, points, durations, decoded}
-use Rattle.fleet_math.proofs.RingLemmas.{ring, linear, le_mul_ℤ, mul_add_ℤ, mul_comm_ℤ, mul_left_comm_ℤ, mul_positive, one_mul_ℤ}
-use Rattle.fleet_math.proofs.SumLemmas.{power-add, power-mul, power_positive}
+use Rattle.fleet_math.specs.Decoded.{decoded}
 use Rattle.fleet_math.proofs.DivisionLemmas.{lt_from_mul_ℤ}
-use Rattle.fleet_math.proofs.BernsteinLemmas.{by_lt}
 use Rattle.fleet_math.proofs.EdgeLemmas.{points-count, points-joined, decoded-at_start, decoded-at_end}
 use Rattle.halving.proofs.PartBounds.{bernstein-scaled}
 use Rattle.fleet_math.proofs.MomentLemmas.{IsInside, moment-inside}
-use Rattle.bezier_core.proofs.BlendLemmas.{power_pos}
-use Rattle.std.proofs.Math.Nat.{pow-zero, pow-suc}
-use Rattle.traj_codec.specs.declared.traj.Segment.{Segment}
-use Rattle.traj_codec.specs.declared.traj.Traj.{Traj}
 use Rattle.traj_codec.specs.Positions as traj
-use Rattle.traj_codec.specs.Positions.{piece_on, pieces_on}
-use Rattle.traj_codec.proofs.PositionLemmas.{durations_on}
-use Rattle.fleet_curves.specs.Steps.{IsFormed}
-use Rattle.traj_codec.specs.Joined.{own}
-use Rattle.fleet_curves.specs.Raised.{IsOneShow, cues_in}
-use Rattle.sep_parts.specs.Apart.{AreApart, FlyApartExactly}
 use Rattle.fleet_math.proofs.Instants.{Lies, moment-lies, time_before-suc}
-use Rattle.fleet_curves.proofs.Standing.{at_place, segments_of}
-use Rattle.std.specs.Prelude.{MatchOption, Option, None}
-use Rattle.touch_witness.specs.declared.site.Touch.{Touch}
-use Rattle.touch_witness.specs.Sites.{AreDisjoint, DisjointAt, IsFirstTouch, IsListed, NoTouch, SharePoint, TouchAt, gap_at, instant_of, left_of, listed, right_of}
-use Rattle.touch_witness.specs.Steps.{IsFirstSite, NoneTouch, SidesDisjoint, SidesTouch}
 use Rattle.touch_witness.proofs.Sharing.{share_point}
 
 -- ---- one axis

@@ -1,10 +1,6 @@
 -- What stands in a line can stand as a word.
-use Rattle.std.proofs.lemmas.Grind.{common_steps}
-use Rattle.std.proofs.Common.{ℕ, ◌^◌, ◌<◌, ◌≤◌, List, ◌++◌, arith}
+use Rattle.touch_witness.proofs.Prelude.{common_steps, ℕ, ◌^◌, ◌<◌, ◌≤◌, List, ◌++◌, arith, AreWords, IsWord, decimal_is_word, site_words}
 use Rattle.std.proofs.Math.Pow.{pow_mono}
-use Rattle.fleet_io.specs.Words.{AreWords, IsWord}
-use Rattle.fleet_io.proofs.WordLaws.{decimal_is_word}
-use Rattle.touch_witness.specs.Lines.{site_words}
 
 -- a cue has few parts
 pub parts_short : (depth : ℕ) → depth ≤ 8 → 2 ^ depth < 2 ^ 64

@@ -1,6 +1,5 @@
-use Rattle.std.proofs.Common.{[], ◌∷◌, codes, decimal, refl, arith}
+use Rattle.drill_show.proofs.Prelude.{[], ◌∷◌, codes, decimal, refl, arith, drill_line}
 use Rattle.fleet_io.proofs.WordLaws.{words_make_line, decimal_is_word}
-use Rattle.drill_show.specs.Drill.{drill_line}
 use Rattle.drill_show.proofs.line.drill_line.Goals as goal
 
 pub returns : goal.returns

@@ -1,6 +1,4 @@
-use Rattle.std.proofs.Common.{◌++◌, List, ℕ, ◌∙◌, ap, codes, Vec, Global}
-use Rattle.std.specs.List.{flat_map, range_with_len}
-use Rattle.drill_show.specs.Drill.{drone_line, cue_lines}
+use Rattle.drill_show.proofs.Prelude.{◌++◌, List, ℕ, ◌∙◌, ap, codes, Vec, Global, flat_map, range_with_len, drone_line, cue_lines}
 use Rattle.drill_show.proofs.DrillLemmas.{show_made}
 use Rattle.drill_show.proofs.show.drill_text.Goals as goal
 

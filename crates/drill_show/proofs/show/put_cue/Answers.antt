@@ -1,6 +1,4 @@
-use Rattle.std.proofs.Common.{◌≡◌, ◌++◌, List, ℕ, ◌∙◌, ap, sym, string_bytes, arith, codes}
-use Rattle.std.specs.List.{flat_map, range_with_len}
-use Rattle.drill_show.specs.Drill.{move_line}
+use Rattle.drill_show.proofs.Prelude.{◌≡◌, ◌++◌, List, ℕ, ◌∙◌, ap, sym, string_bytes, arith, codes, flat_map, range_with_len, move_line}
 use Rattle.drill_show.proofs.DrillLemmas.{part_next, parts_over, cue_made, pushed}
 use Rattle.drill_show.proofs.show.put_cue.Goals as goal
 

@@ -1,7 +1,4 @@
-use Rattle.std.proofs.Common.{◌≡◌, ◌++◌, ◌-◌}
-use Rattle.std.specs.List.{flat_map, range_with_len}
-use Rattle.std.specs.Prelude.{string_bytes}
-use Rattle.drill_show.specs.Drill.{cue_lines}
+use Rattle.drill_show.proofs.Prelude.{◌≡◌, ◌++◌, ◌-◌, flat_map, range_with_len, string_bytes, cue_lines}
 use Rattle.drill_show.proofs.show.put_cues.Given as goal
 
 -- the lines so far

@@ -1,4 +1,4 @@
-use Rattle.std.proofs.Common.{◌≡◌, ◌++◌, List, ℕ, string_bytes, OnOk, subst}
+use Rattle.drill_show.proofs.Prelude.{◌≡◌, ◌++◌, List, ℕ, string_bytes, OnOk, subst}
 use Rattle.drill_show.proofs.DrillLemmas.{drone_made}
 use Rattle.drill_show.proofs.show.put_drone.Goals as goal
 

@@ -1,5 +1,4 @@
-use Rattle.std.proofs.Common.{◌∙◌, string_bytes, arith}
-use Rattle.drill_show.specs.Drill.{drone_line}
+use Rattle.drill_show.proofs.Prelude.{◌∙◌, string_bytes, arith, drone_line}
 use Rattle.drill_show.proofs.DrillLemmas.{part_next}
 use Rattle.drill_show.proofs.show.put_drones.Goals as goal
 

@@ -1,4 +1,4 @@
-use Rattle.std.proofs.Common.{◌≡◌, ◌+◌, ◌++◌, ◌∷◌, List, ℕ, codes, decimal, string_bytes, OnOk, subst}
+use Rattle.drill_show.proofs.Prelude.{◌≡◌, ◌+◌, ◌++◌, ◌∷◌, List, ℕ, codes, decimal, string_bytes, OnOk, subst}
 use Rattle.drill_show.proofs.DrillLemmas.{move_made}
 use Rattle.drill_show.proofs.show.put_move.Goals as goal
 

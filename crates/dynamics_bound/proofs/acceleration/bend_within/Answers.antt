@@ -1,5 +1,4 @@
-use Rattle.std.proofs.lemmas.Grind.{common_steps}
-use Rattle.std.proofs.Common.{◌≡◌, ◌*◌, ◌^◌, ◌≤◌, ◌<◌, ℕ, arith}
+use Rattle.dynamics_bound.proofs.Prelude.{common_steps, ◌≡◌, ◌*◌, ◌^◌, ◌≤◌, ◌<◌, ℕ, arith}
 use Rattle.dynamics_bound.proofs.Widths.{allowed_small, depth_small, square_small}
 use Rattle.dynamics_bound.proofs.acceleration.bend_within.Goals as goal
 

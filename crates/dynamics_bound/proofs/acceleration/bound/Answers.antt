@@ -1,11 +1,4 @@
-use Rattle.std.proofs.lemmas.Grind.{common_steps}
-use Rattle.std.proofs.Common.{◌≡◌, ℕ, ◌^◌, ◌<◌, pos, arith, ◌∙◌, ap, List, length, to_z}
-use Rattle.std.proofs.lemmas.Int.{to_z_pos}
-use mir.Syntax.{w64}
-use Rattle.traj_codec.specs.declared.traj.Segment.{Segment}
-use Rattle.speed_bound.proofs.Rests.{pieces_formed}
-use Rattle.dynamics_bound.specs.Accelerations.{acceleration}
-use Rattle.dynamics_bound.specs.Steps.{three}
+use Rattle.dynamics_bound.proofs.Prelude.{common_steps, ◌≡◌, ℕ, ◌^◌, ◌<◌, pos, arith, ◌∙◌, ap, List, length, to_z, to_z_pos, w64, Segment, pieces_formed, acceleration, three}
 use Rattle.dynamics_bound.proofs.Segments.{keeps_acceleration}
 use Rattle.dynamics_bound.proofs.Walks.{all_segments, one_more, small_at, three_told}
 use Rattle.dynamics_bound.proofs.acceleration.bound.Goals as goal

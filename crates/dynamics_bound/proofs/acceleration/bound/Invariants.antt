@@ -1,7 +1,4 @@
-use Rattle.std.proofs.Common.{◌≡◌, ◌<◌, ◌^◌, All}
-use Rattle.speed_bound.specs.Speed.{greatest_below}
-use Rattle.dynamics_bound.specs.Accelerations.{acceleration_in}
-use Rattle.dynamics_bound.specs.Steps.{three, walk_at}
+use Rattle.dynamics_bound.proofs.Prelude.{◌≡◌, ◌<◌, ◌^◌, All, greatest_below, acceleration_in, three, walk_at}
 use Rattle.dynamics_bound.proofs.acceleration.bound.Given as goal
 
 abbrev pub invariant-loop-k : goal.invariant-loop-k

@@ -1,7 +1,4 @@
-use Rattle.std.proofs.Common.{◌≡◌, ◌*◌, ◌^◌, ◌≤◌, ◌<◌, ℕ, arith}
-use Rattle.std.specs.Int.{div_ceil}
-use Rattle.std.proofs.lemmas.Nat.{mul-le, pow_pos}
-use Rattle.std.proofs.lemmas.Grind.{div_ceil_times, common_steps}
+use Rattle.dynamics_bound.proofs.Prelude.{◌≡◌, ◌*◌, ◌^◌, ◌≤◌, ◌<◌, ℕ, arith, div_ceil, mul-le, pow_pos, div_ceil_times, common_steps}
 use Rattle.dynamics_bound.proofs.Widths.{acceleration_small, depth_small, force_small, powers, some_power, some_time, square_small}
 use Rattle.dynamics_bound.proofs.acceleration.per_second_squared.Goals as goal
 

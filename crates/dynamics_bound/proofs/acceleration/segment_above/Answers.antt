@@ -1,12 +1,5 @@
-use Rattle.std.proofs.lemmas.Grind.{common_steps}
-use Rattle.std.proofs.Common.{◌≡◌, ℕ, ◌-◌, ◌*◌, ◌^◌, ◌/◌, ◌≤◌, ℤ, pos, max, arith, lit<}
-use Rattle.std.proofs.lemmas.Int.{ints}
-use Rattle.std.proofs.Math.Nat.{div-mul-le_self, pow-le-pow_right}
-use Rattle.fleet_math.specs.Bernstein.{at}
-use Rattle.fleet_math.specs.Numbers.{IsBelow}
-use Rattle.bezier_core.specs.Steps.{IsWithin}
+use Rattle.dynamics_bound.proofs.Prelude.{common_steps, ◌≡◌, ℕ, ◌-◌, ◌*◌, ◌^◌, ◌/◌, ◌≤◌, ℤ, pos, max, arith, lit<, ints, div-mul-le_self, pow-le-pow_right, at, IsBelow, IsWithin, segment_acceleration, widest_bend_part}
 use Rattle.bezier_core.proofs.EightLemmas.{below_at}
-use Rattle.dynamics_bound.specs.Accelerations.{segment_acceleration, widest_bend_part}
 use Rattle.dynamics_bound.proofs.Widths.{allowed, widest_part-small}
 use Rattle.dynamics_bound.proofs.acceleration.segment_above.Goals as goal
 

@@ -1,16 +1,6 @@
-use Rattle.std.proofs.Common.{◌≡◌, ℕ, ◌-◌, ◌*◌, ◌^◌, ◌≤◌, ℤ, pos, max, arith, lit<, ◌∙◌, ap, List, Fits}
-use Rattle.std.proofs.lemmas.Nat.{mul-le}
-use mir.Syntax.{w128}
-use Rattle.std.proofs.lemmas.Int.{ints}
-use Rattle.std.proofs.Math.Nat.{pow-le-pow_right}
-use Rattle.fleet_math.specs.Bernstein.{at}
+use Rattle.dynamics_bound.proofs.Prelude.{◌≡◌, ℕ, ◌-◌, ◌*◌, ◌^◌, ◌≤◌, ℤ, pos, max, arith, lit<, ◌∙◌, ap, List, Fits, mul-le, w128, ints, pow-le-pow_right, at, IsWithin, part_value, half_within, room_of, within_at, widest_bend, widest_bend_part}
 use Rattle.fleet_math.proofs.DepthLemmas.{less, shallow}
-use Rattle.bezier_core.specs.Steps.{IsWithin}
 use Rattle.bezier_core.proofs.CurveLemmas.{at-eight}
-use Rattle.halving.specs.Part.{part_value}
-use Rattle.speed_bound.proofs.Halves.{half_within, room_of}
-use Rattle.speed_bound.proofs.Widths.{within_at}
-use Rattle.dynamics_bound.specs.Accelerations.{widest_bend, widest_bend_part}
 use Rattle.dynamics_bound.proofs.Widths.{bends_shrink, depth_small, widest-halves, widest-whole, widest_bend-small}
 use Rattle.dynamics_bound.proofs.bends.+widest_above.Goals as goal
 

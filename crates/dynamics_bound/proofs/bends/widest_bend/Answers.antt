@@ -1,11 +1,4 @@
-use Rattle.std.proofs.Common.{◌≡◌, ℕ, suc, ◌+◌, ◌^◌, ℤ, ◌-ℤ◌, pos, unsigned_abs, max, arith, ◌∙◌, ap, FitsSigned}
-use Rattle.std.proofs.lemmas.Int.{ints, to_z-of_z}
-use mir.Syntax.{w128}
-use Rattle.fleet_math.specs.Bernstein.{at}
-use Rattle.bezier_core.specs.Steps.{IsWithin}
-use Rattle.speed_bound.specs.Speed.{greatest_below}
-use Rattle.speed_bound.proofs.Widths.{within_at}
-use Rattle.dynamics_bound.specs.Accelerations.{bend, widest_bend}
+use Rattle.dynamics_bound.proofs.Prelude.{◌≡◌, ℕ, suc, ◌+◌, ◌^◌, ℤ, ◌-ℤ◌, pos, unsigned_abs, max, arith, ◌∙◌, ap, FitsSigned, ints, to_z-of_z, w128, at, IsWithin, greatest_below, within_at, bend, widest_bend}
 use Rattle.dynamics_bound.proofs.bends.widest_bend.Goals as goal
 
 fits : (x : ℤ) → IsWithin (pos (2 ^ 84)) x → FitsSigned w128 x

@@ -1,4 +1,4 @@
-use Rattle.std.proofs.Common.{ℕ, ◌<◌, ◌≤◌, get_or}
+use Rattle.dynamics_bound.proofs.Prelude.{ℕ, ◌<◌, ◌≤◌, get_or}
 use Rattle.dynamics_bound.proofs.excess.above.Given as goal
 
 abbrev pub invariant-loop-axis : goal.invariant-loop-axis

@@ -1,10 +1,4 @@
-use Rattle.std.proofs.lemmas.Grind.{common_steps}
-use Rattle.std.proofs.Common.{◌≡◌, ℕ, ◌<◌, sym, arith, ◌∙◌, ap, Option, Some, None, IfNone, IfSome, ◌≤◌, List, length}
-use Rattle.traj_codec.specs.declared.traj.Segment.{Segment}
-use Rattle.traj_codec.specs.declared.traj.Traj.{Traj}
-use Rattle.dynamics_bound.specs.declared.excess.Excess.{Excess}
-use Rattle.dynamics_bound.specs.declared.excess.Limits.{Limits}
-use Rattle.dynamics_bound.specs.Excesses.{IsWithinLimits, excess_before, first_excess, jumps_at, sharp_at}
+use Rattle.dynamics_bound.proofs.Prelude.{common_steps, ◌≡◌, ℕ, ◌<◌, sym, arith, ◌∙◌, ap, Option, Some, None, IfNone, IfSome, ◌≤◌, List, length, Segment, Traj, Excess, Limits, IsWithinLimits, excess_before, first_excess, jumps_at, sharp_at}
 use Rattle.dynamics_bound.proofs.Excesses.{by_first, by_second, first_named, found_first, found_last, none_more, none_within}
 use Rattle.dynamics_bound.proofs.excess.first_above.Goals as goal
 

@@ -1,6 +1,4 @@
-use Rattle.std.proofs.Common.{◌≡◌, None}
-use Rattle.dynamics_bound.specs.Excesses.{excess_before}
-use Rattle.dynamics_bound.specs.Steps.{walk_at}
+use Rattle.dynamics_bound.proofs.Prelude.{◌≡◌, None, excess_before, walk_at}
 use Rattle.dynamics_bound.proofs.excess.first_above.Given as goal
 
 abbrev pub invariant-loop-k : goal.invariant-loop-k

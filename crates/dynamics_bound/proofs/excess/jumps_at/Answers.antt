@@ -1,6 +1,4 @@
-use Rattle.std.proofs.Common.{ℕ, sym, ◌∙◌, ap, Option}
-use Rattle.dynamics_bound.specs.Edges.{jump}
-use Rattle.dynamics_bound.specs.Excesses.{jumps_at}
+use Rattle.dynamics_bound.proofs.Prelude.{ℕ, sym, ◌∙◌, ap, Option, jump, jumps_at}
 use Rattle.dynamics_bound.proofs.excess.jumps_at.Goals as goal
 
 pub returns : goal.returns

@@ -1,7 +1,5 @@
-use Rattle.std.proofs.Common.{ℕ, ◌≤◌, max, arith, sym, ◌∙◌, ap, Option}
+use Rattle.dynamics_bound.proofs.Prelude.{ℕ, ◌≤◌, max, arith, sym, ◌∙◌, ap, Option, acceleration_in, sharp_at}
 use Rattle.dynamics_bound.specs.declared.excess.Kind.TheVariants as kind
-use Rattle.dynamics_bound.specs.Accelerations.{acceleration_in}
-use Rattle.dynamics_bound.specs.Excesses.{sharp_at}
 use Rattle.dynamics_bound.proofs.Excesses.{above_least}
 use Rattle.dynamics_bound.proofs.excess.sharp_at.Goals as goal
 

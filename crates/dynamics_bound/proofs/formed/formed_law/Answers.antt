@@ -1,7 +1,4 @@
-use Rattle.std.proofs.Common.{All, List, subst, ◌∙◌}
-use Rattle.std.proofs.lemmas.List.{take_all}
-use Rattle.traj_codec.specs.declared.traj.Segment.{Segment}
-use Rattle.fleet_curves.specs.Steps.{IsFormed}
+use Rattle.dynamics_bound.proofs.Prelude.{All, List, subst, ◌∙◌, take_all, Segment, IsFormed}
 use Rattle.fleet_curves.proofs.Fleets.{all_more}
 use Rattle.dynamics_bound.proofs.formed.formed_law.Goals as goal
 

@@ -1,6 +1,4 @@
-use Rattle.std.proofs.Common.{◌≤◌, length}
-use Rattle.traj_codec.specs.Spelling.{stored}
-use Rattle.traj_codec.specs.Positions.{element_on}
+use Rattle.dynamics_bound.proofs.Prelude.{◌≤◌, length, stored, element_on}
 use Rattle.fleet_curves.proofs.Differences.{three_axes}
 use Rattle.dynamics_bound.proofs.formed.segment_law.Goals as goal
 

@@ -1,11 +1,6 @@
-use Rattle.std.proofs.Common.{◌≡◌, ℕ, suc, ◌+◌, arith, ◌∙◌, ap, List, [], ◌∷◌, length}
-use Rattle.traj_codec.specs.declared.traj.Segment.{Segment}
-use Rattle.traj_codec.specs.declared.traj.Traj.{Traj}
-use Rattle.speed_bound.proofs.Rests.{pieces_formed}
+use Rattle.dynamics_bound.proofs.Prelude.{◌≡◌, ℕ, suc, ◌+◌, arith, ◌∙◌, ap, List, [], ◌∷◌, length, Segment, Traj, pieces_formed, arrival, departure, greatest_jump, jump, greatest_before}
 use Rattle.dynamics_bound.specs.declared.jumping.Greatest.{Greatest}
 use Rattle.dynamics_bound.specs.declared.jumping.Jump.{Jump}
-use Rattle.dynamics_bound.specs.Edges.{arrival, departure, greatest_jump, jump}
-use Rattle.dynamics_bound.specs.Steps.{greatest_before}
 use Rattle.dynamics_bound.proofs.Ends.{has_velocities}
 use Rattle.dynamics_bound.proofs.Greatest.{is_greatest}
 use Rattle.dynamics_bound.proofs.Velocities.{none_same, same_none}

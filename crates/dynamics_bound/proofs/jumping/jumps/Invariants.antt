@@ -1,5 +1,4 @@
-use Rattle.std.proofs.Common.{◌≡◌}
-use Rattle.dynamics_bound.specs.Steps.{greatest_before, walk_at}
+use Rattle.dynamics_bound.proofs.Prelude.{◌≡◌, greatest_before, walk_at}
 use Rattle.dynamics_bound.proofs.jumping.jumps.Given as goal
 
 abbrev pub invariant-loop-k : goal.invariant-loop-k

@@ -1,6 +1,4 @@
-use Rattle.std.proofs.Common.{◌≡◌, ℕ, ◌∙◌, ap, List, length}
-use Rattle.traj_codec.specs.declared.traj.Segment.{Segment}
-use Rattle.dynamics_bound.specs.Edges.{is_rest_at, jump}
+use Rattle.dynamics_bound.proofs.Prelude.{◌≡◌, ℕ, ◌∙◌, ap, List, length, Segment, is_rest_at, jump}
 use Rattle.dynamics_bound.proofs.jumping.rests.Goals as goal
 
 pub returns-clause-first : goal.returns-clause-first

@@ -1,7 +1,4 @@
-use Rattle.std.proofs.Common.{◌≡◌, ◌++◌, [], ◌∷◌, List, ℕ, codes, OnOk, refl, ap, ◌∙◌, subst}
-use Rattle.fleet_io.specs.Words.{with_word, with_words}
-use Rattle.fleet_io.proofs.WordLaws.{words_make_line}
-use Rattle.dynamics_bound.specs.Lines.{axes_words}
+use Rattle.dynamics_bound.proofs.Prelude.{◌≡◌, ◌++◌, [], ◌∷◌, List, ℕ, codes, OnOk, refl, ap, ◌∙◌, subst, with_word, with_words, words_make_line, axes_words}
 use Rattle.dynamics_bound.proofs.Motions.{words_both}
 use Rattle.dynamics_bound.proofs.lines.put_extremes.Goals as goal
 

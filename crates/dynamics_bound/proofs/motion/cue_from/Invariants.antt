@@ -1,7 +1,5 @@
 -- What holds whenever the loop of `cue_from` begins a turn: the cues that have begun, and those to come, are all that begin before the instant.
-use Rattle.std.proofs.Common.{◌≡◌, ◌+◌, drop}
-use Rattle.traj_codec.specs.Positions.{durations}
-use Rattle.dynamics_bound.specs.Motions.{cue_from}
+use Rattle.dynamics_bound.proofs.Prelude.{◌≡◌, ◌+◌, drop, durations, cue_from}
 use Rattle.dynamics_bound.proofs.motion.cue_from.Given as goal
 
 abbrev pub invariant-loop-cue : goal.invariant-loop-cue

@@ -1,5 +1,4 @@
-use Rattle.std.proofs.Common.{◌≡◌, ◌*◌, ◌≤◌, take, sum}
-use Rattle.traj_codec.specs.Positions.{durations}
+use Rattle.dynamics_bound.proofs.Prelude.{◌≡◌, ◌*◌, ◌≤◌, take, sum, durations}
 use Rattle.dynamics_bound.proofs.motion.lasting.Given as goal
 
 -- the milliseconds so far

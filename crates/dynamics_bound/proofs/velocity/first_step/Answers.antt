@@ -1,6 +1,4 @@
-use Rattle.std.proofs.lemmas.Grind.{common_steps}
-use Rattle.std.proofs.Common.{arith}
-use Rattle.std.proofs.lemmas.Int.{to_z-of_z}
+use Rattle.dynamics_bound.proofs.Prelude.{common_steps, arith, to_z-of_z}
 use Rattle.dynamics_bound.proofs.Velocities.{first_cubic, first_seven, once, thrice, seven_times}
 use Rattle.dynamics_bound.proofs.velocity.first_step.Goals as goal
 

@@ -1,9 +1,5 @@
-use Rattle.std.proofs.lemmas.Grind.{common_steps}
-use Rattle.std.proofs.Common.{◌≡◌, pos, ◌-ℤ◌, unsigned_abs, rules, FitsSigned, arith}
-use Rattle.std.proofs.lemmas.Int.{to_z-of_z}
-use mir.Syntax.{w64}
+use Rattle.dynamics_bound.proofs.Prelude.{common_steps, ◌≡◌, pos, ◌-ℤ◌, unsigned_abs, rules, FitsSigned, arith, to_z-of_z, w64, jump_between}
 use Rattle.dynamics_bound.proofs.Velocities.{gap_small}
-use Rattle.dynamics_bound.specs.Edges.{jump_between}
 use Rattle.dynamics_bound.proofs.velocity.jump_between.Goals as goal
 
 pub per_second-requires-clause-gap : goal.per_second-requires-clause-gap

@@ -1,10 +1,5 @@
-use Rattle.std.proofs.lemmas.Grind.{common_steps}
-use Rattle.std.proofs.Common.{◌≡◌, ◌-ℤ◌, rules, sym, ◌∙◌, ap, ◌∷◌, FitsSigned, arith}
-use Rattle.std.proofs.lemmas.Int.{to_z-of_z}
-use mir.Syntax.{w16}
-use Rattle.traj_codec.specs.Spelling.{stored}
+use Rattle.dynamics_bound.proofs.Prelude.{common_steps, ◌≡◌, ◌-ℤ◌, rules, sym, ◌∙◌, ap, ◌∷◌, FitsSigned, arith, to_z-of_z, w16, stored, last_step}
 use Rattle.traj_codec.specs.declared.traj.Element.{Element}
-use Rattle.dynamics_bound.specs.Edges.{last_step}
 use Rattle.dynamics_bound.proofs.Velocities.{last_cubic, last_seven, once, thrice, seven_times}
 use Rattle.dynamics_bound.proofs.velocity.last_step.Goals as goal
 

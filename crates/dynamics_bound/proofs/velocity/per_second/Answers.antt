@@ -1,6 +1,4 @@
-use Rattle.std.proofs.Common.{◌≡◌, ◌*◌, ◌^◌, ◌≤◌, ◌<◌, ℕ, arith}
-use Rattle.std.specs.Int.{div_ceil}
-use Rattle.std.proofs.lemmas.Grind.{div_ceil_times}
+use Rattle.dynamics_bound.proofs.Prelude.{◌≡◌, ◌*◌, ◌^◌, ◌≤◌, ◌<◌, ℕ, arith, div_ceil, div_ceil_times}
 use Rattle.dynamics_bound.proofs.Velocities.{jump_small, some_product}
 use Rattle.dynamics_bound.proofs.velocity.per_second.Goals as goal
 

@@ -1,6 +1,4 @@
-use Rattle.std.proofs.lemmas.Grind.{common_steps}
-use Rattle.std.proofs.Common.{pos, arith}
-use Rattle.std.proofs.lemmas.Int.{to_z-of_z}
+use Rattle.dynamics_bound.proofs.Prelude.{common_steps, pos, arith, to_z-of_z}
 use Rattle.dynamics_bound.proofs.Velocities.{product_small}
 use Rattle.dynamics_bound.proofs.velocity.product.Goals as goal
 

@@ -1,8 +1,4 @@
-use Rattle.std.proofs.lemmas.Grind.{common_steps}
-use Rattle.std.proofs.Common.{arith, ◌≤◌, ◌*◌, ◌^◌, ◌*ℤ◌, ℕ, ℤ, pos, unsigned_abs, Fits, FitsSigned}
-use Rattle.std.proofs.lemmas.Int.{ints, unsigned_abs-mul, to_z-of_z}
-use Rattle.std.proofs.lemmas.Nat.{mul-le}
-use mir.Syntax.{w16, w32, w64}
+use Rattle.dynamics_bound.proofs.Prelude.{common_steps, arith, ◌≤◌, ◌*◌, ◌^◌, ◌*ℤ◌, ℕ, ℤ, pos, unsigned_abs, Fits, FitsSigned, ints, unsigned_abs-mul, to_z-of_z, mul-le, w16, w32, w64}
 use Rattle.dynamics_bound.proofs.velocity.times.Goals as goal
 
 product_fits : (step : ℤ) (ms : ℕ) → FitsSigned w32 step → Fits w16 ms → FitsSigned w64 (step *ℤ pos ms)

@@ -1,6 +1,4 @@
-use Rattle.std.proofs.lemmas.Grind.{common_steps}
-use Rattle.std.proofs.Common.{take, arith}
-use Rattle.std.proofs.lemmas.List.{take-take}
+use Rattle.fleet_io.proofs.Prelude.{common_steps, take, arith, take-take}
 use Rattle.fleet_io.proofs.TextLemmas.{Keeps-with_word, with_hex_more}
 use Rattle.fleet_io.proofs.lines.put_hex.Goals as goal
 

@@ -1,5 +1,4 @@
-use Rattle.std.proofs.Common.{◌≡◌, length, take}
-use Rattle.fleet_io.specs.Words.{with_hex}
+use Rattle.fleet_io.proofs.Prelude.{◌≡◌, length, take, with_hex}
 use Rattle.fleet_io.proofs.TextLemmas.{Keeps}
 use Rattle.fleet_io.proofs.lines.put_hex.Given as goal
 

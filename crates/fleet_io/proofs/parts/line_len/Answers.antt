@@ -1,4 +1,4 @@
-use Rattle.std.proofs.Common.{◌∙◌}
+use Rattle.fleet_io.proofs.Prelude.{◌∙◌}
 use Rattle.fleet_io.proofs.ByteLemmas.{position_is}
 use Rattle.fleet_io.proofs.parts.line_len.Goals as goal
 

@@ -1,5 +1,4 @@
-use Rattle.std.proofs.Common.{arith}
-use Rattle.std.proofs.lemmas.List.{take_rest}
+use Rattle.fleet_io.proofs.Prelude.{arith, take_rest}
 use Rattle.fleet_io.proofs.SentLemmas.{HasSent-more}
 use Rattle.fleet_io.proofs.stream.write_whole.Goals as goal
 

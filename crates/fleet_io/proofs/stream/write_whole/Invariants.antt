@@ -1,4 +1,4 @@
-use Rattle.std.proofs.Common.{◌≤◌, length}
+use Rattle.fleet_io.proofs.Prelude.{◌≤◌, length}
 use Rattle.fleet_io.proofs.SentLemmas.{HasSent}
 use Rattle.fleet_io.proofs.stream.write_whole.Given as goal
 

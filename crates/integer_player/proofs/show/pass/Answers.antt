@@ -1,6 +1,5 @@
 -- Why `pass` keeps its contract, where a write fails.
-use Rattle.std.proofs.Common.{arith}
-use Rattle.std.proofs.lemmas.Grind.{common_steps}
+use Rattle.integer_player.proofs.Prelude.{arith, common_steps}
 use Rattle.integer_player.proofs.ShowLemmas.{fails-with, front-more}
 use Rattle.integer_player.proofs.show.pass.Goals as goal
 

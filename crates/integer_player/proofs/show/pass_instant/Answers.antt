@@ -1,10 +1,5 @@
 -- Why `pass_instant` keeps its contract.
-use Rattle.std.proofs.Common.{◌∙◌, get_or, ap, sym, subst, arith, rules}
-use Rattle.std.proofs.lemmas.List.{length-set}
-use Rattle.fleet_io.specs.Words.{IsWord}
-use Rattle.traj_codec.specs.declared.traj.Traj.{Traj}
-use Rattle.integer_player.specs.Places.{IsPlaceIn}
-use Rattle.integer_player.specs.Played.{played}
+use Rattle.integer_player.proofs.Prelude.{◌∙◌, get_or, ap, sym, subst, arith, rules, length-set, IsWord, Traj, IsPlaceIn, played}
 use Rattle.integer_player.proofs.ShowLemmas.{fails-with, places-at, places-set, row-same, row-passes, row-fails}
 use Rattle.integer_player.proofs.show.pass_instant.Goals as goal
 

@@ -1,8 +1,5 @@
 -- What holds whenever the loop of `pass_instant` begins a turn.
-use Rattle.std.proofs.Common.{◌≡◌, ◌≤◌, length, map, take}
-use Rattle.integer_player.specs.Places.{ArePlaces}
-use Rattle.integer_player.specs.Played.{rows_at}
-use Rattle.integer_player.specs.Steps.{Passes}
+use Rattle.integer_player.proofs.Prelude.{◌≡◌, ◌≤◌, length, map, take, ArePlaces, rows_at, Passes}
 use Rattle.integer_player.proofs.show.pass_instant.Given as goal
 
 abbrev pub invariant-loop-d : goal.invariant-loop-d

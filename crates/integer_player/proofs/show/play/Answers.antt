@@ -1,8 +1,6 @@
 -- Why `play` keeps its contract.
-use Rattle.std.proofs.Common.{◌∙◌, [], arith, map}
+use Rattle.integer_player.proofs.Prelude.{◌∙◌, [], arith, map, rows_at, play_text, Passes}
 use Rattle.std.proofs.lemmas.Result.{on_ok_weaker, on_err_weaker}
-use Rattle.integer_player.specs.Played.{rows_at, play_text}
-use Rattle.integer_player.specs.Steps.{Passes}
 use Rattle.integer_player.proofs.ShowLemmas.{fails-with, instant-passes, play-fails, last-fails, odd-passes, even-passes, ends, ends-fails}
 use Rattle.integer_player.proofs.show.play.Given as given
 use Rattle.integer_player.proofs.show.play.Goals as goal

@@ -1,9 +1,5 @@
 -- What holds whenever the loop of `play` begins a turn.
-use Rattle.std.proofs.Common.{◌≡◌, ◌≤◌, ◌*◌, length, map, []}
-use Rattle.std.specs.List.{flat_map, range_with_len}
-use Rattle.integer_player.specs.Places.{ArePlaces}
-use Rattle.integer_player.specs.Played.{rows_at}
-use Rattle.integer_player.specs.Steps.{Passes}
+use Rattle.integer_player.proofs.Prelude.{◌≡◌, ◌≤◌, ◌*◌, length, map, [], flat_map, range_with_len, ArePlaces, rows_at, Passes}
 use Rattle.integer_player.proofs.show.play.Given as goal
 
 abbrev pub invariant-loop-k : goal.invariant-loop-k

@@ -1,7 +1,5 @@
 -- Why the loop of `players_of` goes on.
-use Rattle.std.proofs.Common.{◌≡◌, suc, ◌+◌, ◌++◌, ◌∷◌, [], take, arith, rules, subst}
-use Rattle.traj_codec.specs.declared.traj.Traj.{Traj}
-use Rattle.integer_player.specs.Places.{IsPlaceIn, ArePlaces}
+use Rattle.integer_player.proofs.Prelude.{◌≡◌, suc, ◌+◌, ◌++◌, ◌∷◌, [], take, arith, rules, subst, Traj, IsPlaceIn, ArePlaces}
 use Rattle.integer_player.proofs.ShowLemmas.{places-push}
 use Rattle.integer_player.proofs.show.players_of.Goals as goal
 

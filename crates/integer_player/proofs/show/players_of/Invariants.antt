@@ -1,6 +1,5 @@
 -- What holds whenever the loop of `players_of` begins a turn.
-use Rattle.std.proofs.Common.{◌≡◌, length, take}
-use Rattle.integer_player.specs.Places.{ArePlaces}
+use Rattle.integer_player.proofs.Prelude.{◌≡◌, length, take, ArePlaces}
 use Rattle.integer_player.proofs.show.players_of.Given as goal
 
 abbrev pub invariant-loop-t : goal.invariant-loop-t

@@ -1,4 +1,4 @@
-use Rattle.std.proofs.Common.{arith}
+use Rattle.keepout_boxes.proofs.Prelude.{arith}
 use Rattle.keepout_boxes.proofs.Flights.{cue_more, row_covers, rows_cover}
 use Rattle.keepout_boxes.proofs.flight.box_of.Goals as goal
 

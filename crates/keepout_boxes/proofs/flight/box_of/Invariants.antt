@@ -1,7 +1,4 @@
-use Rattle.std.proofs.Common.{ℕ, ◌<◌, ◌≤◌}
-use Rattle.fleet_math.specs.Numbers.{IsIn}
-use Rattle.fleet_curves.specs.Raised.{curves_at}
-use Rattle.keepout_boxes.specs.Steps.{values_of}
+use Rattle.keepout_boxes.proofs.Prelude.{ℕ, ◌<◌, ◌≤◌, IsIn, curves_at, values_of}
 use Rattle.keepout_boxes.proofs.flight.box_of.Given as goal
 
 abbrev pub invariant-loop-cue : goal.invariant-loop-cue

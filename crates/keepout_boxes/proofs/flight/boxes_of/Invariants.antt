@@ -1,5 +1,4 @@
-use Rattle.std.proofs.Common.{◌≡◌, length}
-use Rattle.keepout_boxes.specs.Steps.{CoverAll}
+use Rattle.keepout_boxes.proofs.Prelude.{◌≡◌, length, CoverAll}
 use Rattle.keepout_boxes.proofs.flight.boxes_of.Given as goal
 
 abbrev pub invariant-loop-drone : goal.invariant-loop-drone

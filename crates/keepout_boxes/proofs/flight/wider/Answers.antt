@@ -1,7 +1,4 @@
-use Rattle.std.proofs.Common.{rules, ◌≡◌, ℕ, pos, ◌≤ℤ◌, arith, get_or, below_more, FitsSigned, to_z, of_z}
-use Rattle.std.proofs.lemmas.Int.{ints, to_z-of_z}
-use mir.Syntax.{w128}
-use Rattle.fleet_math.specs.Numbers.{IsIn}
+use Rattle.keepout_boxes.proofs.Prelude.{rules, ◌≡◌, ℕ, pos, ◌≤ℤ◌, arith, get_or, below_more, FitsSigned, to_z, of_z, ints, to_z-of_z, w128, IsIn}
 use Rattle.keepout_boxes.proofs.flight.wider.Goals as goal
 
 pub loop-k-preserved : goal.loop-k-preserved

@@ -1,5 +1,4 @@
-use Rattle.std.proofs.Common.{ℕ, ◌<◌, pos, ◌≤ℤ◌, get_or}
-use Rattle.fleet_math.specs.Numbers.{IsIn}
+use Rattle.keepout_boxes.proofs.Prelude.{ℕ, ◌<◌, pos, ◌≤ℤ◌, get_or, IsIn}
 use Rattle.keepout_boxes.proofs.flight.wider.Given as goal
 
 abbrev pub invariant-loop-k : goal.invariant-loop-k

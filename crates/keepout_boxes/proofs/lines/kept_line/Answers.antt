@@ -1,4 +1,4 @@
-use Rattle.std.proofs.Common.{[], ◌∷◌, codes, decimal, refl, arith}
+use Rattle.keepout_boxes.proofs.Prelude.{[], ◌∷◌, codes, decimal, refl, arith}
 use Rattle.fleet_io.proofs.WordLaws.{words_make_line, decimal_is_word}
 use Rattle.keepout_boxes.proofs.lines.kept_line.Goals as goal
 

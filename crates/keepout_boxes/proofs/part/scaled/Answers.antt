@@ -1,8 +1,4 @@
-use Rattle.std.proofs.Common.{arith, ◌≤◌, ◌*◌, ◌^◌, ◌*ℤ◌, ℤ, pos, unsigned_abs, FitsSigned}
-use Rattle.std.proofs.lemmas.Int.{ints, unsigned_abs-mul, to_z-of_z}
-use Rattle.std.proofs.lemmas.Nat.{mul-le}
-use mir.Syntax.{w32, w128}
-use Rattle.fleet_math.specs.Numbers.{IsBelow, IsIn}
+use Rattle.keepout_boxes.proofs.Prelude.{arith, ◌≤◌, ◌*◌, ◌^◌, ◌*ℤ◌, ℤ, pos, unsigned_abs, FitsSigned, ints, unsigned_abs-mul, to_z-of_z, mul-le, w32, w128, IsBelow, IsIn}
 use Rattle.keepout_boxes.proofs.part.scaled.Goals as goal
 
 product_fits : (limit scale : ℤ) → IsBelow 43001 limit → IsIn (pos 0) (pos (2 ^ 70)) scale → FitsSigned w128 (limit *ℤ scale)

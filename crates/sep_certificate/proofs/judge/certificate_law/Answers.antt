@@ -1,6 +1,4 @@
-use Rattle.std.proofs.Common.{arith}
-use Rattle.std.proofs.lemmas.Grind.{common_steps}
-use Rattle.sep_certificate.specs.Certificates.{rules_of}
+use Rattle.sep_certificate.proofs.Prelude.{arith, common_steps, rules_of}
 use Rattle.sep_certificate.proofs.Disjoint.{keeps_disjoint}
 use Rattle.sep_certificate.proofs.Keeping.{keeps}
 use Rattle.sep_certificate.proofs.Verdicts.{valid_of, none_of_valid}

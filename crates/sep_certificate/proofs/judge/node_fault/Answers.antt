@@ -1,12 +1,6 @@
-use Rattle.std.proofs.lemmas.Grind.{common_steps}
-use Rattle.std.proofs.Common.{rules, ◌≡◌, ℕ, ◌<◌, ℤ, length, Option, Some, None, Bool, true, refl, sym, ◌∙◌, ap, arith}
+use Rattle.sep_certificate.proofs.Prelude.{common_steps, rules, ◌≡◌, ℕ, ◌<◌, ℤ, length, Option, Some, None, Bool, true, refl, sym, ◌∙◌, ap, arith, option_map, Fails, first_low, IsControl, first_low-small}
 use Rattle.std.proofs.lemmas.Bool.{false≢true}
 use Rattle.std.specs.Prelude.{is_none}
-use Rattle.std.specs.Option.{option_map}
-use Rattle.sep_certificate.specs.declared.certificate.CertFault.TheVariants.{Fails}
-use Rattle.sep_parts.specs.Separates.{first_low}
-use Rattle.sep_certificate.specs.Steps.{IsControl}
-use Rattle.sep_parts.proofs.Lows.{first_low-small}
 use Rattle.sep_certificate.proofs.judge.node_fault.Goals as goal
 
 -- nothing is low where no control value is said to be

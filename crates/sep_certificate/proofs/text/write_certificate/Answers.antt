@@ -1,13 +1,6 @@
-use Rattle.std.proofs.Common.{◌≡◌, ◌++◌, ◌+◌, ◌<◌, [], List, ℕ, sym, subst, refl, ◌∙◌, ap, append_assoc, take, get_or, length, arith, All}
-use Rattle.std.specs.List.{flat_map}
-use Rattle.std.proofs.lemmas.List.{take_all}
-use Rattle.std.proofs.lemmas.List.Elements.{All-get_or}
+use Rattle.sep_certificate.proofs.Prelude.{◌≡◌, ◌++◌, ◌+◌, ◌<◌, [], List, ℕ, sym, subst, refl, ◌∙◌, ap, append_assoc, take, get_or, length, arith, All, flat_map, take_all, All-get_or, Node, IsKnown, known_in, Says, fed, head_lines, text_of, tree_line}
 use Rattle.fleet_curves.proofs.Differences.{same_default}
 use Rattle.fleet_curves.proofs.Fleets.{fleet_more}
-use Rattle.sep_parts.specs.declared.node.Node.{Node}
-use Rattle.sep_parts.specs.Trees.{IsKnown}
-use Rattle.sep_parts.specs.Versions.{known_in}
-use Rattle.sep_certificate.specs.Texts.{Says, fed, head_lines, text_of, tree_line}
 use Rattle.sep_certificate.proofs.TextLaws.{texts}
 use Rattle.sep_certificate.proofs.text.write_certificate.Goals as goal
 

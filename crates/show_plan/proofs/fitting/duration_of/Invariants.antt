@@ -1,5 +1,4 @@
-use Rattle.std.proofs.Common.{◌≡◌, ◌*◌, ◌≤◌, map, take, sum}
-use Rattle.cue_grid.specs.declared.grid.Cue.{Cue}
+use Rattle.show_plan.proofs.Prelude.{◌≡◌, ◌*◌, ◌≤◌, map, take, sum, Cue}
 use Rattle.show_plan.proofs.fitting.duration_of.Given as goal
 
 -- the milliseconds so far

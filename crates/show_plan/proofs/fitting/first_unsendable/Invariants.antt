@@ -1,5 +1,4 @@
-use Rattle.std.proofs.Common.{◌≡◌, drop}
-use Rattle.show_plan.specs.Fitting.{first_unsendable}
+use Rattle.show_plan.proofs.Prelude.{◌≡◌, drop, first_unsendable}
 use Rattle.show_plan.proofs.fitting.first_unsendable.Given as goal
 
 -- the trajectories so far can be sent

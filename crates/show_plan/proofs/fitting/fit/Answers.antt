@@ -1,4 +1,4 @@
-use Rattle.choreo_show.specs.Plain.{plain}
+use Rattle.show_plan.proofs.Prelude.{plain}
 use Rattle.show_plan.proofs.Valid.{valid_given}
 use Rattle.show_plan.proofs.Sendable.{near_given}
 use Rattle.show_plan.proofs.fitting.fit.Goals as goal

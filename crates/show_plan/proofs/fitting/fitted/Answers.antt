@@ -1,12 +1,4 @@
-use Rattle.std.proofs.lemmas.Grind.{common_steps}
-use Rattle.std.proofs.Common.{◌≡◌, None, ◌≤◌, ◌∙◌, List, length, map, sum, ap, sym, subst, arith}
-use Rattle.std.specs.List.{All}
-use Rattle.traj_codec.specs.declared.traj.Traj.{Traj}
-use Rattle.choreo_show.specs.Plain.{plain}
-use Rattle.cue_grid.specs.Cues.{grid_of}
-use Rattle.cue_grid.specs.declared.grid.Cue.{Cue}
-use Rattle.cue_grid.specs.declared.grid.Grid.{Grid}
-use Rattle.show_plan.specs.Fitting.{IsFlown, plan_fault}
+use Rattle.show_plan.proofs.Prelude.{common_steps, ◌≡◌, None, ◌≤◌, ◌∙◌, List, length, map, sum, ap, sym, subst, arith, All, Traj, plain, grid_of, Cue, Grid, IsFlown, plan_fault}
 use Rattle.show_plan.proofs.Flight.{sent_counted}
 use Rattle.show_plan.proofs.Sendable.{fits_given, flown, has_segments, sent_are, sent_flown, unsendable_given}
 use Rattle.show_plan.proofs.fitting.fitted.Goals as goal

@@ -1,5 +1,4 @@
-use Rattle.std.proofs.Common.{◌≡◌, map, take}
-use Rattle.traj_codec.specs.Joined.{joined}
+use Rattle.show_plan.proofs.Prelude.{◌≡◌, map, take, joined}
 use Rattle.show_plan.proofs.fitting.joined_all.Given as goal
 
 -- those so far

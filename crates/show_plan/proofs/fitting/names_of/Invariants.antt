@@ -1,5 +1,4 @@
-use Rattle.std.proofs.Common.{◌≡◌, map, take}
-use Rattle.choreo_show.specs.declared.show.DroneLine.{DroneLine}
+use Rattle.show_plan.proofs.Prelude.{◌≡◌, map, take, DroneLine}
 use Rattle.show_plan.proofs.fitting.names_of.Given as goal
 
 -- the names so far

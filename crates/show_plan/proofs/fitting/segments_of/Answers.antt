@@ -1,17 +1,4 @@
-use Rattle.std.proofs.Common.{◌≡◌, ℕ, ◌+◌, ◌^◌, ◌<◌, List, ◌∷◌, drop, arith, sym, ap, ◌∙◌, subst}
-use Rattle.std.specs.List.{All}
-use Rattle.std.proofs.lemmas.List.Elements.{All-cons, All-head, All-tail, All-push}
-use Rattle.choreo_lines.specs.declared.parts.Point.{Point}
-use Rattle.cue_grid.specs.Frames.{IsPointUpTo}
-use Rattle.mm_rounding.specs.declared.piece.MicroPiece.{MicroPiece}
-use Rattle.mm_rounding.specs.Rounding.{rounding}
-use Rattle.traj_codec.specs.Spelling.{IsSegment}
-use Rattle.figure_expand.specs.Acts.{act_of}
-use Rattle.figure_expand.specs.Written.{end_of}
-use Rattle.figure_expand.specs.Bounds.{reach}
-use Rattle.figure_expand.specs.Controls.{piece_of}
-use Rattle.figure_expand.specs.Expanded.{job_in, pieces_from}
-use Rattle.figure_expand.specs.Flown.{RoundsWell}
+use Rattle.show_plan.proofs.Prelude.{◌≡◌, ℕ, ◌+◌, ◌^◌, ◌<◌, List, ◌∷◌, drop, arith, sym, ap, ◌∙◌, subst, All, All-cons, All-head, All-tail, All-push, Point, IsPointUpTo, MicroPiece, rounding, IsSegment, act_of, end_of, reach, piece_of, job_in, pieces_from, RoundsWell}
 use Rattle.figure_expand.proofs.Reach.{next_fits, point_in_reach}
 use Rattle.show_plan.proofs.Sendable.{pieces_next, rounds, rounds_not, segments_next}
 use Rattle.show_plan.proofs.fitting.segments_of.Goals as goal

@@ -1,10 +1,4 @@
-use Rattle.std.proofs.Common.{◌≡◌, All, ◌++◌, map, drop}
-use Rattle.cue_grid.specs.Frames.{IsPointUpTo}
-use Rattle.mm_rounding.specs.Rounding.{segment_of}
-use Rattle.traj_codec.specs.Spelling.{IsSegment}
-use Rattle.figure_expand.specs.Bounds.{reach}
-use Rattle.figure_expand.specs.Expanded.{pieces_from}
-use Rattle.figure_expand.specs.Flown.{RoundsWell}
+use Rattle.show_plan.proofs.Prelude.{◌≡◌, All, ◌++◌, map, drop, IsPointUpTo, segment_of, IsSegment, reach, pieces_from, RoundsWell}
 use Rattle.show_plan.proofs.fitting.segments_of.Given as goal
 
 -- the segments so far, and where the drone is after them

@@ -1,4 +1,4 @@
-use Rattle.std.proofs.Common.{rules, sym, ◌∙◌, FitsSigned}
+use Rattle.show_plan.proofs.Prelude.{rules, sym, ◌∙◌, FitsSigned}
 use Rattle.std.proofs.lemmas.Int.{to_z-of_z}
 use mir.Syntax.{w16, w64}
 use Rattle.show_plan.proofs.Sendable.{starts}

@@ -1,14 +1,5 @@
-use Rattle.std.proofs.Common.{◌≡◌, ◌<◌, List, [], ◌∷◌, ◌++◌, length, take, sym, ap, ◌∙◌, subst, arith}
-use Rattle.std.specs.List.{All}
-use Rattle.std.proofs.lemmas.List.{take_more, take_all}
-use Rattle.std.proofs.lemmas.List.Elements.{All-push}
+use Rattle.show_plan.proofs.Prelude.{◌≡◌, ◌<◌, List, [], ◌∷◌, ◌++◌, length, take, sym, ap, ◌∙◌, subst, arith, All, take_more, take_all, All-push, DroneLine, Traj, IsTrajectory, no_trajectory, FitsDrone, by_cue}
 use Rattle.fleet_math.proofs.BernsteinLemmas.{by_lt}
-use Rattle.choreo_show.specs.declared.show.DroneLine.{DroneLine}
-use Rattle.traj_codec.specs.declared.traj.Traj.{Traj}
-use Rattle.traj_codec.specs.Spelling.{IsTrajectory}
-use Rattle.show_plan.specs.Flight.{no_trajectory}
-use Rattle.show_plan.specs.Steps.{FitsDrone}
-use Rattle.show_plan.specs.Trajectories.{by_cue}
 use Rattle.show_plan.proofs.Flight.{all_fit, by_cue_counted, drone_fits, flight_at_is}
 use Rattle.show_plan.proofs.Sendable.{none_of, some_of}
 use Rattle.show_plan.proofs.fitting.trajectories_of.Goals as goal

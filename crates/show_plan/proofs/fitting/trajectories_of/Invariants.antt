@@ -1,7 +1,4 @@
-use Rattle.std.proofs.Common.{◌≡◌, ℕ, ◌<◌, All, take}
-use Rattle.traj_codec.specs.Spelling.{IsTrajectory}
-use Rattle.show_plan.specs.Steps.{FitsDrone}
-use Rattle.show_plan.specs.Trajectories.{by_cue}
+use Rattle.show_plan.proofs.Prelude.{◌≡◌, ℕ, ◌<◌, All, take, IsTrajectory, FitsDrone, by_cue}
 use Rattle.show_plan.proofs.fitting.trajectories_of.Given as goal
 
 -- the trajectories so far

@@ -1,6 +1,4 @@
-use Rattle.std.proofs.lemmas.Grind.{common_steps}
-use Rattle.std.proofs.Common.{arith, append-nil, sym}
-use Rattle.upload_model.specs.Sessions.{packet_count, read_count, write_count}
+use Rattle.show_plan.proofs.Prelude.{common_steps, arith, append-nil, sym, packet_count, read_count, write_count}
 use Rattle.show_plan.proofs.PacketLines.{first_lines, fresh_after_packet, one_line_more}
 use Rattle.show_plan.proofs.packets.put_packets.Goals as goal
 

@@ -1,5 +1,4 @@
-use Rattle.std.proofs.Common.{◌≡◌, ◌++◌, true}
-use Rattle.fleet_io.specs.Words.{is_line_empty}
+use Rattle.show_plan.proofs.Prelude.{◌≡◌, ◌++◌, true, is_line_empty}
 use Rattle.show_plan.proofs.PacketLines.{first_lines}
 use Rattle.show_plan.proofs.packets.put_packets.Given as goal
 

@@ -1,10 +1,4 @@
-use Rattle.std.proofs.Common.{List, Ok, subst, ◌∙◌, ap}
-use Rattle.traj_codec.specs.declared.traj.Traj.{Traj}
-use Rattle.fleet_curves.specs.Raised.{CurvesStandFor, raised_of}
-use Rattle.sep_parts.specs.declared.clearance.Clearance.{Clearance}
-use Rattle.sep_parts.specs.Apart.{KeepReach}
-use Rattle.show_plan.specs.Separation.{clearance_of}
-use Rattle.show_plan.specs.Steps.{FindsTrees}
+use Rattle.show_plan.proofs.Prelude.{List, Ok, subst, ◌∙◌, ap, Traj, CurvesStandFor, raised_of, Clearance, KeepReach, clearance_of, FindsTrees}
 use Rattle.show_plan.proofs.Certified.{IsCertified, certified, sent_flies_apart}
 use Rattle.show_plan.proofs.separation.certificate.Goals as goal
 

@@ -1,8 +1,4 @@
-use Rattle.std.proofs.Common.{All, subst, sym}
-use Rattle.sep_parts.specs.declared.clearance.Clearance.{Clearance}
-use Rattle.sep_parts.specs.Apart.{KeepReach}
-use Rattle.sep_parts.specs.Directions.{IsClearance}
-use Rattle.speed_bound.specs.Reach.{IsMoving}
+use Rattle.show_plan.proofs.Prelude.{All, subst, sym, Clearance, KeepReach, IsClearance, IsMoving}
 use Rattle.show_plan.proofs.Clearances.{exactly, is_clearance, keep_reach, moving}
 use Rattle.show_plan.proofs.separation.clearance_of.Goals as goal
 

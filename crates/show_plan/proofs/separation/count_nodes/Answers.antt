@@ -1,10 +1,4 @@
-use Rattle.std.proofs.Common.{IsOk, List, subst, ◌∙◌, ap}
-use Rattle.traj_codec.specs.declared.traj.Traj.{Traj}
-use Rattle.fleet_curves.specs.Raised.{CurvesStandFor, Raised, raised_of}
-use Rattle.sep_parts.specs.declared.clearance.Clearance.{Clearance}
-use Rattle.sep_parts.specs.Apart.{KeepReach}
-use Rattle.show_plan.specs.Separation.{best_certificate, clearance_of}
-use Rattle.show_plan.specs.Steps.{FindsNodes}
+use Rattle.show_plan.proofs.Prelude.{IsOk, List, subst, ◌∙◌, ap, Traj, CurvesStandFor, Raised, raised_of, Clearance, KeepReach, best_certificate, clearance_of, FindsNodes}
 use Rattle.show_plan.proofs.Certified.{IsCertified, count_certified, count_gives, sent_flies_apart}
 use Rattle.show_plan.proofs.separation.count_nodes.Goals as goal
 

@@ -1,5 +1,4 @@
-use Rattle.sep_parts.specs.Versions.{table_of}
-use Rattle.show_plan.specs.Separation.{measure_of}
+use Rattle.show_plan.proofs.Prelude.{table_of, measure_of}
 use Rattle.show_plan.proofs.separation.ruler_of.Goals as goal
 
 pub returns : goal.returns

@@ -1,5 +1,4 @@
-use Rattle.std.proofs.lemmas.Grind.{common_steps}
-use Rattle.std.proofs.Common.{arith}
+use Rattle.show_plan.proofs.Prelude.{common_steps, arith}
 use Rattle.show_plan.proofs.Separated.{none_blocked, stopped_by}
 use Rattle.show_plan.proofs.separation.trees_of.Goals as goal
 

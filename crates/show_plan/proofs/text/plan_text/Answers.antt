@@ -1,11 +1,4 @@
-use Rattle.std.proofs.lemmas.Grind.{common_steps}
-use Rattle.std.proofs.Common.{List, codes, append_assoc, ap, sym, subst, length, ◌∙◌, arith}
-use Rattle.std.proofs.lemmas.List.{length-map}
-use Rattle.choreo_lines.specs.Name.{Name}
-use Rattle.traj_codec.specs.declared.traj.Traj.{Traj}
-use Rattle.traj_codec.specs.Joined.{joined}
-use Rattle.show_plan.specs.Landing.{AreUploadable}
-use Rattle.show_plan.specs.Texts.{plan_text}
+use Rattle.show_plan.proofs.Prelude.{common_steps, List, codes, append_assoc, ap, sym, subst, length, ◌∙◌, arith, length-map, Name, Traj, joined, AreUploadable, plan_text}
 use Rattle.show_plan.proofs.Uploadable.{uploadable}
 use Rattle.show_plan.proofs.text.plan_text.Goals as goal
 

@@ -1,6 +1,4 @@
-use Rattle.std.proofs.Common.{◌≡◌, ◌++◌, [], ◌∷◌, List, ℕ, length, codes, decimal, OnOk, refl, ap, ◌∙◌, subst, arith}
-use Rattle.fleet_io.specs.Words.{with_word}
-use Rattle.fleet_io.proofs.WordLaws.{words_make_line, decimal_is_word}
+use Rattle.show_plan.proofs.Prelude.{◌≡◌, ◌++◌, [], ◌∷◌, List, ℕ, length, codes, decimal, OnOk, refl, ap, ◌∙◌, subst, arith, with_word, words_make_line, decimal_is_word}
 use Rattle.show_plan.proofs.text.put_drone.Goals as goal
 
 pub returns : goal.returns

@@ -1,5 +1,4 @@
-use Rattle.std.proofs.Common.{◌≡◌, ◌++◌, [], ◌∷◌, List, ℕ, codes, OnOk, refl, ap, ◌∙◌, subst}
-use Rattle.fleet_io.proofs.WordLaws.{words_make_line}
+use Rattle.show_plan.proofs.Prelude.{◌≡◌, ◌++◌, [], ◌∷◌, List, ℕ, codes, OnOk, refl, ap, ◌∙◌, subst, words_make_line}
 use Rattle.show_plan.proofs.text.put_end.Goals as goal
 
 pub returns : goal.returns

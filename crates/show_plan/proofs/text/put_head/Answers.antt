@@ -1,6 +1,4 @@
-use Rattle.std.proofs.Common.{◌≡◌, ◌++◌, [], ◌∷◌, List, ℕ, codes, OnOk, refl, ap, ◌∙◌, subst}
-use Rattle.fleet_io.specs.Words.{with_word}
-use Rattle.fleet_io.proofs.WordLaws.{words_make_line}
+use Rattle.show_plan.proofs.Prelude.{◌≡◌, ◌++◌, [], ◌∷◌, List, ℕ, codes, OnOk, refl, ap, ◌∙◌, subst, with_word, words_make_line}
 use Rattle.show_plan.proofs.text.put_head.Goals as goal
 
 pub returns : goal.returns

@@ -1,13 +1,4 @@
-use Rattle.std.proofs.Common.{◌≡◌, ◌∷◌, ◌++◌, [], List, ℕ, OnOk, false, true, length, map, codes, decimal, ap, sym, subst, ◌∙◌}
-use Rattle.std.proofs.lemmas.List.Elements.{All-head}
-use Rattle.fleet_io.specs.Words.{hex_word, is_line_empty, line}
-use Rattle.fleet_io.proofs.WordLaws.{fresh_after_line}
-use Rattle.traj_codec.specs.declared.traj.Segment.{Segment}
-use Rattle.traj_codec.specs.Spelling.{ending, spelling}
-use Rattle.upload_model.specs.declared.loads.Load.{Load}
-use Rattle.upload_model.specs.Sessions.{IsSession, Upload}
-use Rattle.show_plan.specs.Fitting.{IsSendable}
-use Rattle.show_plan.specs.Texts.{drone_line, packet_lines}
+use Rattle.show_plan.proofs.Prelude.{◌≡◌, ◌∷◌, ◌++◌, [], List, ℕ, OnOk, false, true, length, map, codes, decimal, ap, sym, subst, ◌∙◌, All-head, hex_word, is_line_empty, line, fresh_after_line, Segment, ending, spelling, Load, IsSession, Upload, IsSendable, drone_line, packet_lines}
 use Rattle.show_plan.proofs.Landing.{is_session, session_is}
 use Rattle.show_plan.proofs.PlanLines.{part_is}
 use Rattle.show_plan.proofs.text.put_part.Goals as goal

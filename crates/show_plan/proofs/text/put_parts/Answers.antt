@@ -1,6 +1,4 @@
-use Rattle.std.proofs.Common.{◌++◌, ◌<◌, length, false, true, List, ℕ, refl, sym, ap, ◌∙◌, arith}
-use Rattle.show_plan.specs.Landing.{session_for}
-use Rattle.show_plan.specs.Texts.{drone_part}
+use Rattle.show_plan.proofs.Prelude.{◌++◌, ◌<◌, length, false, true, List, ℕ, refl, sym, ap, ◌∙◌, arith, session_for, drone_part}
 use Rattle.show_plan.proofs.PacketLines.{packets_at}
 use Rattle.show_plan.proofs.PlanLines.{parts_next, parts_over}
 use Rattle.show_plan.proofs.Landing.{alone_uploadable}

@@ -1,7 +1,4 @@
-use Rattle.std.proofs.Common.{◌≡◌, ◌++◌, false, true, drop}
-use Rattle.fleet_io.specs.Words.{is_line_empty}
-use Rattle.show_plan.specs.Landing.{session_for}
-use Rattle.show_plan.specs.Texts.{drone_parts}
+use Rattle.show_plan.proofs.Prelude.{◌≡◌, ◌++◌, false, true, drop, is_line_empty, session_for, drone_parts}
 use Rattle.show_plan.proofs.text.put_parts.Given as goal
 
 -- the lines so far

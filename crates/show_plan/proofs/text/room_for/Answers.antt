@@ -1,8 +1,4 @@
-use Rattle.std.proofs.lemmas.Grind.{common_steps}
-use Rattle.std.proofs.Common.{◌≤◌, All, arith, sym, subst}
-use Rattle.std.proofs.lemmas.List.{length-map}
-use Rattle.traj_codec.specs.declared.traj.Traj.{Traj}
-use Rattle.show_plan.specs.Fitting.{IsSendable, size}
+use Rattle.show_plan.proofs.Prelude.{common_steps, ◌≤◌, All, arith, sym, subst, length-map, Traj, IsSendable, size}
 use Rattle.show_plan.proofs.Valid.{short_all}
 use Rattle.show_plan.proofs.text.room_for.Goals as goal
 

@@ -1,4 +1,4 @@
-use Rattle.std.proofs.Common.{◌*◌, ◌≤◌}
+use Rattle.show_plan.proofs.Prelude.{◌*◌, ◌≤◌}
 use Rattle.show_plan.proofs.text.total.Given as goal
 
 -- 4,096 bytes a trajectory at most

@@ -1,5 +1,4 @@
-use Rattle.std.proofs.Common.{◌≡◌, map, take}
-use Rattle.firmware_memory.specs.Decoded.{load_for}
+use Rattle.show_plan.proofs.Prelude.{◌≡◌, map, take, load_for}
 use Rattle.show_plan.proofs.upload.loads_of.Given as goal
 
 -- the loads so far

@@ -1,7 +1,4 @@
-use Rattle.std.proofs.Common.{List, map, ap, sym, subst, ◌∙◌}
-use Rattle.traj_codec.specs.declared.traj.Traj.{Traj}
-use Rattle.upload_model.specs.Sessions.{IsSession}
-use Rattle.firmware_memory.specs.Decoded.{load_for}
+use Rattle.show_plan.proofs.Prelude.{List, map, ap, sym, subst, ◌∙◌, Traj, IsSession, load_for}
 use Rattle.show_plan.proofs.Landing.{is_session, session_is}
 use Rattle.show_plan.proofs.Uploadable.{uploadable}
 use Rattle.show_plan.proofs.upload.session.Goals as goal

@@ -1,13 +1,7 @@
-use Rattle.std.proofs.Common.{List, None, Option, arith, length, sym, ℕ, ◌++◌, ◌<◌, ◌∙◌, ◌≡◌, ◌+◌, ap, drop}
-use Rattle.refusals.specs.declared.refusal.Refusal.{Refusal}
-use Rattle.traj_codec.specs.Positions.{durations}
+use Rattle.show_studies.proofs.Prelude.{List, None, Option, arith, length, sym, ℕ, ◌++◌, ◌<◌, ◌∙◌, ◌≡◌, ◌+◌, ap, drop, Refusal, durations, motion_line, extremes_of, greater, dynamics_text, excess_by, refused_or}
 use Rattle.dynamics_bound.specs.declared.motion.Extremes.{Extremes}
 use Rattle.dynamics_bound.specs.declared.motion.Motion.{Motion}
-use Rattle.dynamics_bound.specs.Lines.{motion_line}
-use Rattle.dynamics_bound.specs.Motions.{extremes_of, greater}
 use Rattle.dynamics_bound.proofs.Motions.{extremes_next}
-use Rattle.show_studies.specs.Dynamics.{dynamics_text, excess_by}
-use Rattle.show_studies.specs.Speeds.{refused_or}
 use Rattle.show_studies.proofs.DynamicsLemmas.{excess_here, excess_next, keeps_next, keeps_over, motions_next}
 use Rattle.show_studies.proofs.accelerating.answer_drones.Goals as goal
 

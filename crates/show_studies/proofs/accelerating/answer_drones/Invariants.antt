@@ -1,10 +1,6 @@
 -- What holds whenever the loop of `answer_drones` begins a turn: what is still to come completes the lines, the extremes, the refusal and what
 -- the drones keep to.
-use Rattle.std.proofs.Common.{◌≡◌, ◌++◌, All, drop, true}
-use Rattle.fleet_io.specs.Words.{is_line_empty}
-use Rattle.traj_codec.specs.Positions.{durations}
-use Rattle.dynamics_bound.specs.Motions.{KeepsMotion, extremes_of, greater}
-use Rattle.show_studies.specs.Dynamics.{first_excess_of, motion_lines}
+use Rattle.show_studies.proofs.Prelude.{◌≡◌, ◌++◌, All, drop, true, is_line_empty, durations, KeepsMotion, extremes_of, greater, first_excess_of, motion_lines}
 use Rattle.show_studies.proofs.accelerating.answer_drones.Given as goal
 
 abbrev pub invariant-loop-d : goal.invariant-loop-d

@@ -1,5 +1,4 @@
-use Rattle.std.proofs.Common.{arith}
-use Rattle.std.proofs.lemmas.Grind.{common_steps}
+use Rattle.show_studies.proofs.Prelude.{arith, common_steps}
 use Rattle.show_studies.proofs.DynamicsLemmas.{keeps_of_show, motions_of_show}
 use Rattle.show_studies.proofs.accelerating.answer_fitted.Goals as goal
 

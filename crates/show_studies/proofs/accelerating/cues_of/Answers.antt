@@ -1,8 +1,5 @@
-use Rattle.std.proofs.Common.{◌≡◌, ◌≤◌, List, get_or, length, sym, ap, ◌∙◌, arith}
+use Rattle.show_studies.proofs.Prelude.{◌≡◌, ◌≤◌, List, get_or, length, sym, ap, ◌∙◌, arith, durations, Segment, Traj}
 use Rattle.cue_grid.specs.Cues.{grid_of}
-use Rattle.traj_codec.specs.Positions.{durations}
-use Rattle.traj_codec.specs.declared.traj.Segment.{Segment}
-use Rattle.traj_codec.specs.declared.traj.Traj.{Traj}
 use Rattle.show_studies.proofs.DynamicsLemmas.{first_has, times_are}
 use Rattle.show_studies.proofs.accelerating.cues_of.Goals as goal
 

@@ -1,6 +1,4 @@
-use Rattle.fleet_math.specs.Limits.{most_text}
-use Rattle.show_studies.specs.Boxes.{boxes_verb}
-use Rattle.show_judge.proofs.AnswerLemmas.{input_two}
+use Rattle.show_studies.proofs.Prelude.{most_text, boxes_verb, input_two}
 use Rattle.show_judge.proofs.ReadLemmas.{two_read}
 use Rattle.show_studies.proofs.keeping.answer_input.Goals as goal
 

@@ -1,9 +1,5 @@
-use Rattle.std.proofs.Common.{None, refl}
-use Rattle.fleet_math.specs.Limits.{most_text}
-use Rattle.show_studies.specs.Boxes.{boxes_verb}
+use Rattle.show_studies.proofs.Prelude.{None, refl, most_text, boxes_verb, EndsWell, two_fitted}
 use Rattle.show_judge.specs.declared.judging.Planned.TheVariants.{Fits}
-use Rattle.show_judge.specs.Answers.{EndsWell}
-use Rattle.show_judge.proofs.AnswerLemmas.{two_fitted}
 use Rattle.show_studies.proofs.keeping.answer_two.Goals as goal
 
 pub returns-in-Fits : goal.returns-in-Fits

@@ -1,7 +1,5 @@
-use Rattle.std.proofs.Common.{None, refl}
+use Rattle.show_studies.proofs.Prelude.{None, refl, most_text, boxes_verb}
 use Rattle.show_judge.proofs.DriverLemmas.{two_behaves}
-use Rattle.fleet_math.specs.Limits.{most_text}
-use Rattle.show_studies.specs.Boxes.{boxes_verb}
 use Rattle.show_studies.proofs.keeping.boxes.Goals as goal
 
 pub returns : goal.returns

@@ -1,5 +1,4 @@
-use Rattle.std.proofs.lemmas.Grind.{common_steps}
-use Rattle.std.proofs.Common.{arith}
+use Rattle.show_studies.proofs.Prelude.{common_steps, arith}
 use Rattle.show_studies.proofs.RegionLemmas.{regions_give, regions_promised}
 use Rattle.show_studies.proofs.keeping.judge_part.Goals as goal
 

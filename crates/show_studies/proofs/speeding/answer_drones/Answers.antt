@@ -1,8 +1,4 @@
-use Rattle.std.proofs.Common.{List, None, [], arith, codes, decimal, length, subst, sym, true, ℕ, ◌<◌, ◌∙◌, ◌∷◌, ◌≡◌}
-use Rattle.fleet_io.specs.Words.{is_line_empty}
-use Rattle.fleet_io.proofs.WordLaws.{fresh_after_line}
-use Rattle.speed_bound.specs.Speed.{speed}
-use Rattle.show_studies.specs.Speeds.{too_fast_by}
+use Rattle.show_studies.proofs.Prelude.{List, None, [], arith, codes, decimal, length, subst, sym, true, ℕ, ◌<◌, ◌∙◌, ◌∷◌, ◌≡◌, is_line_empty, fresh_after_line, speed, too_fast_by}
 use Rattle.show_studies.proofs.SpeedLemmas.{bounds_within, keeps_next, keeps_over, refusal_next, speeds_next}
 use Rattle.show_studies.proofs.speeding.answer_drones.Goals as goal
 

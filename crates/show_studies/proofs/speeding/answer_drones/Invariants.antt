@@ -1,7 +1,5 @@
 -- What holds whenever the loop of `answer_drones` begins a turn: what is still to come completes the lines, the refusal and the bounds.
-use Rattle.std.proofs.Common.{◌≡◌, ◌++◌, All, drop, true}
-use Rattle.fleet_io.specs.Words.{is_line_empty}
-use Rattle.show_studies.specs.Speeds.{KeepsBounds, first_too_fast, speed_text}
+use Rattle.show_studies.proofs.Prelude.{◌≡◌, ◌++◌, All, drop, true, is_line_empty, KeepsBounds, first_too_fast, speed_text}
 use Rattle.show_studies.proofs.speeding.answer_drones.Given as goal
 
 abbrev pub invariant-loop-d : goal.invariant-loop-d

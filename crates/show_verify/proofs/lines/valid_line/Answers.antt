@@ -1,6 +1,5 @@
-use Rattle.std.proofs.Common.{[], ◌∷◌, codes, decimal, refl, arith}
+use Rattle.show_verify.proofs.Prelude.{[], ◌∷◌, codes, decimal, refl, arith, valid_line}
 use Rattle.fleet_io.proofs.WordLaws.{words_make_line, decimal_is_word}
-use Rattle.show_verify.specs.Verify.{valid_line}
 use Rattle.show_verify.proofs.lines.valid_line.Goals as goal
 
 pub returns : goal.returns

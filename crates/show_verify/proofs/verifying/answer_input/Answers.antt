@@ -1,10 +1,5 @@
-use Rattle.std.proofs.Common.{ap}
-use Rattle.fleet_io.proofs.TakenLemmas.{TakesFront-trans}
-use Rattle.fleet_io.specs.Held.{Held, stream}
-use Rattle.show_verify.specs.Verify.{verify_verb}
+use Rattle.show_verify.proofs.Prelude.{ap, TakesFront-trans, Held, stream, verify_verb, EndsWell, IsWholeText}
 use Rattle.show_judge.specs.declared.judging.Planned.TheVariants.{Fits}
-use Rattle.show_judge.specs.Answers.{EndsWell}
-use Rattle.show_judge.specs.Input.{IsWholeText}
 use Rattle.show_verify.proofs.SecondLemmas.{both_read, input_fitted, input_refused, there}
 use Rattle.show_judge.proofs.FewLemmas.{stream_new}
 use Rattle.show_verify.proofs.verifying.answer_input.Goals as goal

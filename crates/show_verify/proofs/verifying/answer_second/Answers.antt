@@ -1,9 +1,4 @@
-use Rattle.std.proofs.Common.{ap, ◌∙◌}
-use Rattle.fleet_curves.specs.Raised.{raised_of}
-use Rattle.fleet_io.specs.Held.{stream}
-use Rattle.show_judge.specs.Answers.{outcome_of}
-use Rattle.show_verify.specs.SecondTexts.{TakenGives}
-use Rattle.show_verify.specs.declared.verifying.Taken.TheVariants.{Whole}
+use Rattle.show_verify.proofs.Prelude.{ap, ◌∙◌, raised_of, stream, outcome_of, TakenGives, Whole}
 use Rattle.show_verify.proofs.SecondLemmas.{taken_whole, whole_gives}
 use Rattle.show_verify.proofs.verifying.answer_second.Goals as goal
 

@@ -1,5 +1,5 @@
 use Rattle.std.proofs.lemmas.Grind.{common_steps}
-use Rattle.std.proofs.Common.{cond, arith}
+use Rattle.show_verify.proofs.Prelude.{cond, arith}
 use Rattle.show_verify.proofs.SecondLemmas.{feeds_next}
 use Rattle.show_verify.proofs.verifying.feeds.Goals as goal
 

@@ -1,5 +1,4 @@
-use Rattle.std.proofs.Common.{◌≡◌, ◌≤◌, take}
-use Rattle.show_judge.specs.Shows.{feeds}
+use Rattle.show_verify.proofs.Prelude.{◌≡◌, ◌≤◌, take, feeds}
 use Rattle.show_verify.proofs.verifying.feeds.Given as goal
 
 abbrev pub invariant-loop-b : goal.invariant-loop-b

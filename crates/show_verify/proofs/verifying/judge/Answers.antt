@@ -1,5 +1,4 @@
-use Rattle.sep_parts.specs.Apart.{KeepReach, KeepsApart}
-use Rattle.show_plan.specs.Separation.{clearance_of}
+use Rattle.show_verify.proofs.Prelude.{KeepReach, KeepsApart, clearance_of}
 use Rattle.show_plan.proofs.Clearances.{keep_reach, moving}
 use Rattle.show_verify.proofs.SecondLemmas.{apart_of}
 use Rattle.show_verify.proofs.verifying.judge.Goals as goal

@@ -1,10 +1,4 @@
-use Rattle.std.proofs.Common.{◌≡◌, ◌++◌, ◌<◌, Bool, [], length, length-append, take, refl, ap, ◌∙◌, arith}
-use Rattle.std.specs.Prelude.{IsTrue}
-use Rattle.std.specs.Io.KnownBytes.{IsAtEnd}
-use Rattle.std.proofs.lemmas.List.{length-take-le}
-use Rattle.fleet_io.specs.Held.{stream}
-use Rattle.fleet_io.specs.PartBytes.{begins_after}
-use Rattle.fleet_io.proofs.TakenLemmas.{TakesFront-none, TakesFront-trans}
+use Rattle.show_verify.proofs.Prelude.{◌≡◌, ◌++◌, ◌<◌, Bool, [], length, length-append, take, refl, ap, ◌∙◌, arith, IsTrue, IsAtEnd, length-take-le, stream, begins_after, TakesFront-none, TakesFront-trans}
 use Rattle.show_verify.proofs.SecondLemmas.{ended_whole, fed_more, fed_none, few_marked, few_whole, skipped_marked, skipped_over}
 use Rattle.show_verify.proofs.verifying.skip_second.Goals as goal
 

@@ -1,8 +1,4 @@
-use Rattle.std.proofs.Common.{◌≡◌, ◌+◌, ◌++◌, ◌<◌, ◌≤◌, Bool, [], length, length-append, take, refl, ap, ◌∙◌, arith}
-use Rattle.std.proofs.lemmas.List.{length-take-le}
-use Rattle.fleet_io.specs.Held.{stream}
-use Rattle.fleet_io.specs.PartBytes.{begins_after}
-use Rattle.fleet_io.proofs.TakenLemmas.{TakesFront-none, TakesFront-trans}
+use Rattle.show_verify.proofs.Prelude.{◌≡◌, ◌+◌, ◌++◌, ◌<◌, ◌≤◌, Bool, [], length, length-append, take, refl, ap, ◌∙◌, arith, length-take-le, stream, begins_after, TakesFront-none, TakesFront-trans}
 use Rattle.show_verify.proofs.SecondLemmas.{fed_marked, fed_more, fed_none, fed_over, fed_whole, few_marked, few_whole, number_more}
 use Rattle.show_verify.proofs.verifying.take_second.Goals as goal
 

@@ -1,9 +1,4 @@
-use Rattle.std.proofs.Common.{◌≡◌, ◌+◌, ◌-◌, ◌≤◌}
-use Rattle.std.specs.Prelude.{IsTrue}
-use Rattle.std.specs.Io.KnownBytes.{IsAtEnd}
-use Rattle.fleet_io.specs.Held.{stream}
-use Rattle.fleet_io.specs.Taken.{TakesFront}
-use Rattle.show_verify.specs.SecondTexts.{Feeds}
+use Rattle.show_verify.proofs.Prelude.{◌≡◌, ◌+◌, ◌-◌, ◌≤◌, IsTrue, IsAtEnd, stream, TakesFront, Feeds}
 use Rattle.show_verify.proofs.verifying.take_second.Given as goal
 
 abbrev pub invariant-pieces : goal.invariant-pieces

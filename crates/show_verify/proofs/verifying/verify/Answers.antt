@@ -1,6 +1,5 @@
-use Rattle.std.proofs.Common.{None, refl}
+use Rattle.show_verify.proofs.Prelude.{None, refl, certificate_limit, verify_verb}
 use Rattle.show_judge.proofs.DriverLemmas.{two_behaves}
-use Rattle.show_verify.specs.Verify.{certificate_limit, verify_verb}
 use Rattle.show_verify.proofs.verifying.verify.Goals as goal
 
 pub returns : goal.returns

@@ -1,7 +1,4 @@
-use Rattle.std.proofs.Common.{ℤ, subst}
-use Rattle.std.specs.Fmt.{signed_decimal}
-use Rattle.fleet_io.specs.Words.{IsWord}
-use Rattle.fleet_io.proofs.WordLaws.{signed_is_word}
+use Rattle.speed_bound.proofs.Prelude.{ℤ, subst, signed_decimal, IsWord, signed_is_word}
 use Rattle.speed_bound.proofs.lines.put_speed.Goals as goal
 
 pub returns-clause-is_word : goal.returns-clause-is_word

@@ -1,7 +1,5 @@
-use Rattle.std.proofs.Common.{◌≡◌, ◌++◌, [], ◌∷◌, List, ℕ, codes, decimal, pos, w64, to_z, of_z, OnOk, refl, ap, ◌∙◌, subst}
-use Rattle.std.proofs.lemmas.Int.{to_z-of_z}
-use Rattle.fleet_io.specs.Words.{with_word}
-use Rattle.fleet_io.proofs.WordLaws.{words_make_line}
+use Rattle.speed_bound.proofs.Prelude.{◌≡◌, ◌++◌, [], ◌∷◌, List, ℕ, codes, decimal, pos, to_z, of_z, OnOk, refl, ap, ◌∙◌, subst, to_z-of_z, with_word, words_make_line}
+use Rattle.std.proofs.Common.{w64}
 use Rattle.speed_bound.proofs.lines.put_speeds.Goals as goal
 
 pub returns : goal.returns

@@ -1,9 +1,4 @@
-use Rattle.std.proofs.lemmas.Grind.{common_steps}
-use Rattle.std.proofs.Common.{◌≡◌, ℕ, zero, suc, ◌+◌, ◌*◌, ◌<◌, max, min, arith, refl, ap, ◌∙◌, List, [], ◌∷◌, length, get_or}
-use Rattle.std.specs.Int.{div_ceil}
-use Rattle.traj_codec.specs.declared.traj.Traj.{Traj}
-use Rattle.speed_bound.specs.Reach.{farthest, reach_of, traj_at}
-use Rattle.speed_bound.specs.Speed.{greatest_below, speed}
+use Rattle.speed_bound.proofs.Prelude.{common_steps, ◌≡◌, ℕ, zero, suc, ◌+◌, ◌*◌, ◌<◌, max, min, arith, refl, ap, ◌∙◌, List, [], ◌∷◌, length, get_or, div_ceil, Traj, farthest, reach_of, traj_at, greatest_below, speed}
 use Rattle.speed_bound.proofs.Reaches.{reach_by_speed, reach_none}
 use Rattle.speed_bound.proofs.reaching.reach.Goals as goal
 

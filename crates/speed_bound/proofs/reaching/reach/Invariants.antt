@@ -1,6 +1,4 @@
-use Rattle.std.proofs.Common.{◌≡◌, ℕ, ◌≤◌, ◌<◌, ◌^◌, [], ◌∷◌, get_or}
-use Rattle.speed_bound.specs.Reach.{traj_at}
-use Rattle.speed_bound.specs.Speed.{greatest_below, speed}
+use Rattle.speed_bound.proofs.Prelude.{◌≡◌, ℕ, ◌≤◌, ◌<◌, ◌^◌, [], ◌∷◌, get_or, traj_at, greatest_below, speed}
 use Rattle.speed_bound.proofs.reaching.reach.Given as goal
 
 abbrev pub invariant-loop-t : goal.invariant-loop-t

@@ -1,16 +1,5 @@
-use Rattle.std.proofs.lemmas.Grind.{common_steps}
-use Rattle.std.proofs.Common.{suc, zero, ◌≡◌, ℕ, ◌+◌, ◌≤◌, ◌<◌, max, ℤ, pos, arith, rules, subst, ◌∙◌, ap, List, [], ◌∷◌, drop, take, length, All, FitsSigned, to_z, get_or}
-use Rattle.std.proofs.lemmas.Int.{to_z-of_z}
-use Rattle.std.proofs.lemmas.List.{drop_all, take_all}
-use mir.Syntax.{w16}
-use Rattle.fleet_math.specs.Bernstein.{at}
-use Rattle.traj_codec.specs.declared.traj.Segment.{Segment}
-use Rattle.traj_codec.specs.declared.traj.Traj.{Traj}
-use Rattle.traj_codec.specs.Spelling.{stored}
-use Rattle.traj_codec.specs.Positions.{element_on}
-use Rattle.fleet_curves.specs.Steps.{IsFormed}
+use Rattle.speed_bound.proofs.Prelude.{common_steps, suc, zero, ◌≡◌, ℕ, ◌+◌, ◌≤◌, ◌<◌, max, ℤ, pos, arith, rules, subst, ◌∙◌, ap, List, [], ◌∷◌, drop, take, length, All, FitsSigned, to_z, get_or, to_z-of_z, drop_all, take_all, w16, at, Segment, Traj, stored, element_on, IsFormed, speed}
 use Rattle.fleet_curves.proofs.Fleets.{all_more}
-use Rattle.speed_bound.specs.Speed.{speed}
 use Rattle.speed_bound.proofs.Rests.{next_speed, speed_from, speed_from-none, speed_from-whole}
 use Rattle.speed_bound.proofs.trajectory.faster.Goals as goal
 

@@ -1,7 +1,5 @@
-use Rattle.std.proofs.Common.{◌≡◌, max, drop, take, All, ◌<◌, ◌^◌, get_or}
-use Rattle.speed_bound.specs.Speed.{speed}
+use Rattle.speed_bound.proofs.Prelude.{◌≡◌, max, drop, take, All, ◌<◌, ◌^◌, get_or, speed, IsFormed}
 use Rattle.speed_bound.proofs.Rests.{speed_from}
-use Rattle.fleet_curves.specs.Steps.{IsFormed}
 use Rattle.speed_bound.proofs.trajectory.faster.Given as goal
 
 abbrev pub invariant-loop-s : goal.invariant-loop-s

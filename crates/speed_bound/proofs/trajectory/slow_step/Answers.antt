@@ -1,4 +1,4 @@
-use Rattle.std.proofs.Common.{◌≡◌, ℕ, ◌^◌, ◌≤◌, arith}
+use Rattle.speed_bound.proofs.Prelude.{◌≡◌, ℕ, ◌^◌, ◌≤◌, arith}
 use Rattle.speed_bound.proofs.Halves.{scale_small, slow_small}
 use Rattle.speed_bound.proofs.trajectory.slow_step.Goals as goal
 

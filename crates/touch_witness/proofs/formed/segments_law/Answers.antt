@@ -1,8 +1,4 @@
-use Rattle.std.proofs.Common.{All, List, subst, ◌∙◌}
-use Rattle.std.proofs.lemmas.List.{take_all}
-use Rattle.traj_codec.specs.declared.traj.Segment.{Segment}
-use Rattle.fleet_curves.specs.Steps.{IsFormed}
-use Rattle.fleet_curves.proofs.Fleets.{all_more}
+use Rattle.touch_witness.proofs.Prelude.{All, List, subst, ◌∙◌, take_all, Segment, IsFormed, all_more}
 use Rattle.touch_witness.proofs.formed.segments_law.Goals as goal
 
 pub loop-s-preserved : goal.loop-s-preserved

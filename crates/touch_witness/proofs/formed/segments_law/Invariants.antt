@@ -1,5 +1,4 @@
-use Rattle.std.proofs.Common.{take, All}
-use Rattle.fleet_curves.specs.Steps.{IsFormed}
+use Rattle.touch_witness.proofs.Prelude.{take, All, IsFormed}
 use Rattle.touch_witness.proofs.formed.segments_law.Given as goal
 
 abbrev pub invariant-loop-s : goal.invariant-loop-s

@@ -1,6 +1,4 @@
-use Rattle.std.proofs.Common.{◌≡◌, ◌+◌, ◌^◌, ◌++◌, [], ◌∷◌, List, ℕ, codes, decimal, OnOk, refl, ap, ◌∙◌, subst, arith}
-use Rattle.fleet_io.specs.Words.{with_words}
-use Rattle.fleet_io.proofs.WordLaws.{decimal_is_word, words_make_line}
+use Rattle.touch_witness.proofs.Prelude.{◌≡◌, ◌+◌, ◌^◌, ◌++◌, [], ◌∷◌, List, ℕ, codes, decimal, OnOk, refl, ap, ◌∙◌, subst, arith, with_words, decimal_is_word, words_make_line}
 use Rattle.touch_witness.proofs.Words.{parts_short}
 use Rattle.touch_witness.proofs.lines.put_blocked.Goals as goal
 

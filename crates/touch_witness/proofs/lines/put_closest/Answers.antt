@@ -1,7 +1,4 @@
-use Rattle.std.proofs.Common.{◌≡◌, ◌++◌, [], ◌∷◌, List, ℕ, codes, decimal, OnOk, refl, ap, ◌∙◌, subst, arith}
-use Rattle.fleet_io.specs.Words.{with_word, with_words}
-use Rattle.fleet_io.proofs.WordLaws.{words_make_line}
-use Rattle.touch_witness.specs.Lines.{site_words}
+use Rattle.touch_witness.proofs.Prelude.{◌≡◌, ◌++◌, [], ◌∷◌, List, ℕ, codes, decimal, OnOk, refl, ap, ◌∙◌, subst, arith, with_word, with_words, words_make_line, site_words}
 use Rattle.touch_witness.proofs.Words.{site_are_words}
 use Rattle.touch_witness.proofs.lines.put_closest.Goals as goal
 

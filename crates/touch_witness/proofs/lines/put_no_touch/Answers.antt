@@ -1,6 +1,4 @@
-use Rattle.std.proofs.Common.{◌≡◌, ◌+◌, ◌*◌, ◌^◌, ◌++◌, [], ◌∷◌, List, ℕ, codes, decimal, OnOk, refl, ap, ◌∙◌, subst}
-use Rattle.fleet_io.specs.Words.{IsWord, with_word}
-use Rattle.fleet_io.proofs.WordLaws.{words_make_line}
+use Rattle.touch_witness.proofs.Prelude.{◌≡◌, ◌+◌, ◌*◌, ◌^◌, ◌++◌, [], ◌∷◌, List, ℕ, codes, decimal, OnOk, refl, ap, ◌∙◌, subst, IsWord, with_word, words_make_line}
 use Rattle.touch_witness.proofs.lines.put_no_touch.Goals as goal
 
 pub returns : goal.returns

@@ -1,5 +1,4 @@
-use Rattle.std.proofs.Common.{arith}
-use Rattle.fleet_io.proofs.WordLaws.{decimal_is_word}
+use Rattle.touch_witness.proofs.Prelude.{arith, decimal_is_word}
 use Rattle.touch_witness.proofs.lines.put_number.Goals as goal
 
 pub returns-clause-is_word : goal.returns-clause-is_word

@@ -1,7 +1,4 @@
-use Rattle.std.proofs.Common.{FitsSigned, arith, refl, ap, sym, ◌∙◌}
-use Rattle.std.proofs.lemmas.Int.{to_z-of_z}
-use mir.Syntax.{w128}
-use Rattle.traj_codec.specs.declared.traj.Traj.{Traj}
+use Rattle.touch_witness.proofs.Prelude.{FitsSigned, arith, refl, ap, sym, ◌∙◌, to_z-of_z, w128, Traj}
 use Rattle.touch_witness.proofs.Least.{fits_126}
 use Rattle.touch_witness.proofs.Levels.{closest_told, fits_116}
 use Rattle.touch_witness.proofs.nearest.closest_of.Goals as goal

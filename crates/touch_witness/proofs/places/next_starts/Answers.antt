@@ -1,9 +1,4 @@
-use Rattle.std.proofs.Common.{◌≡◌, ◌+◌, ◌<◌, length, length-set, arith, ◌∙◌}
-use Rattle.std.proofs.lemmas.Option.{slice_get_within}
-use Rattle.traj_codec.specs.declared.traj.Traj.{Traj}
-use Rattle.touch_witness.specs.declared.places.Start.{Start}
-use Rattle.touch_witness.specs.Steps.{IsStart, no_start}
-use Rattle.fleet_curves.proofs.Standing.{item_there}
+use Rattle.touch_witness.proofs.Prelude.{◌≡◌, ◌+◌, ◌<◌, length, length-set, arith, ◌∙◌, slice_get_within, Traj, Start, IsStart, no_start, item_there}
 use Rattle.touch_witness.proofs.Begins.{filled_more}
 use Rattle.touch_witness.proofs.places.next_starts.Goals as goal
 

@@ -1,13 +1,5 @@
-use Rattle.std.proofs.lemmas.Grind.{common_steps}
-use Rattle.std.proofs.Common.{◌≡◌, ◌<◌, ℕ, pos, length, length-set, refl, ◌∙◌, arith}
-use Rattle.std.proofs.lemmas.Int.{ints}
-use Rattle.std.proofs.lemmas.Option.{slice_get_within}
-use Rattle.traj_codec.specs.declared.traj.Traj.{Traj}
-use Rattle.touch_witness.specs.declared.places.Point.{Point}
-use Rattle.touch_witness.specs.Steps.{IsNear, IsPlace, IsShort, no_point}
-use Rattle.fleet_curves.proofs.Standing.{item_there}
+use Rattle.touch_witness.proofs.Prelude.{common_steps, ◌≡◌, ◌<◌, ℕ, pos, length, length-set, refl, ◌∙◌, arith, ints, slice_get_within, Traj, Point, IsNear, IsPlace, IsShort, no_point, item_there, All-set}
 use Rattle.touch_witness.proofs.Begins.{filled_more, all_copies}
-use Rattle.std.proofs.lemmas.List.Elements.{All-set}
 use Rattle.touch_witness.proofs.places.places.Goals as goal
 
 short_none : IsShort no_point

@@ -1,4 +1,4 @@
-use Rattle.std.proofs.Common.{below_more}
+use Rattle.touch_witness.proofs.Prelude.{below_more}
 use Rattle.touch_witness.proofs.touch.first_site.Goals as goal
 
 pub loop-cue-preserved : goal.loop-cue-preserved

@@ -1,5 +1,4 @@
-use Rattle.std.proofs.Common.{ℕ, ◌+◌, ◌^◌, ◌<◌}
-use Rattle.touch_witness.specs.Steps.{DisjointInCue, AreStarts}
+use Rattle.touch_witness.proofs.Prelude.{ℕ, ◌+◌, ◌^◌, ◌<◌, DisjointInCue, AreStarts}
 use Rattle.touch_witness.proofs.touch.first_site.Given as goal
 
 abbrev pub invariant-loop-cue : goal.invariant-loop-cue

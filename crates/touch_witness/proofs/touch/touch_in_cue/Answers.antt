@@ -1,9 +1,4 @@
-use Rattle.std.proofs.lemmas.Grind.{common_steps}
-use Rattle.std.proofs.Common.{ℕ, ◌<◌, inl, inr, arith, sym, subst, List, length, below_more}
-use Rattle.traj_codec.specs.declared.traj.Traj.{Traj}
-use Rattle.touch_witness.specs.declared.places.Point.{Point}
-use Rattle.touch_witness.specs.Steps.{SidesDisjoint}
-use Rattle.touch_witness.specs.Steps.{AllDisjoint, ArePlaces, IsFirstPair, PairDisjoint, PairBefore}
+use Rattle.touch_witness.proofs.Prelude.{common_steps, ℕ, ◌<◌, inl, inr, arith, sym, subst, List, length, below_more, Traj, Point, SidesDisjoint, AllDisjoint, ArePlaces, IsFirstPair, PairDisjoint, PairBefore}
 use Rattle.touch_witness.proofs.Pairs.{pair_disjoint, pair_touches}
 use Rattle.touch_witness.proofs.touch.touch_in_cue.Goals as goal
 

@@ -1,8 +1,4 @@
-use Rattle.std.proofs.lemmas.Grind.{common_steps}
-use Rattle.std.proofs.Common.{◌≡◌, arith, sym, subst}
-use Rattle.certificate_checker.specs.Bytes.{Seen, most_bytes}
-use Rattle.certificate_checker.specs.Checking.{closed, verdict_of}
-use Rattle.certificate_checker.specs.Judgments.{AreFew}
+use Rattle.certificate_checker.proofs.Prelude.{common_steps, ◌≡◌, arith, sym, subst, Seen, most_bytes, closed, verdict_of, AreFew}
 use Rattle.certificate_checker.proofs.Bytes.{few_of, named_told, safe_told, verdict_told}
 use Rattle.certificate_checker.proofs.Few.{few_within}
 use Rattle.certificate_checker.proofs.checker.Checker.end.Goals as goal

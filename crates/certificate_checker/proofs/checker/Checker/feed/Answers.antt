@@ -1,8 +1,4 @@
-use Rattle.std.proofs.Common.{◌≡◌, ap, length, sym, subst}
-use Rattle.certificate_checker.specs.Bytes.{Seen}
-use Rattle.certificate_checker.specs.Checking.{checked_all}
-use Rattle.certificate_checker.specs.Judgments.{AreFew}
-use Rattle.certificate_checker.specs.Steps.{checking_of}
+use Rattle.certificate_checker.proofs.Prelude.{◌≡◌, ap, length, sym, subst, Seen, checked_all, AreFew, checking_of}
 use Rattle.certificate_checker.proofs.Bytes.{few_of, next_of, read_more}
 use Rattle.certificate_checker.proofs.checker.Checker.feed.Goals as goal
 

@@ -1,6 +1,4 @@
-use Rattle.std.proofs.lemmas.Grind.{common_steps}
-use Rattle.std.proofs.Common.{arith}
-use Rattle.certificate_checker.specs.Checking.{checked_all}
+use Rattle.certificate_checker.proofs.Prelude.{common_steps, arith, checked_all}
 use Rattle.certificate_checker.proofs.Bytes.{first_next}
 use Rattle.certificate_checker.proofs.checker.Checker.make.Goals as goal
 

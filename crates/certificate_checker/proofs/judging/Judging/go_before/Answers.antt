@@ -1,4 +1,4 @@
-use Rattle.sep_parts.proofs.Stacks.{first_stack}
+use Rattle.certificate_checker.proofs.Prelude.{first_stack}
 use Rattle.certificate_checker.proofs.judging.Judging.go_before.Goals as goal
 
 pub invariant_of-self : goal.invariant_of-self

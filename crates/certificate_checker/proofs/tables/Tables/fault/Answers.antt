@@ -1,7 +1,4 @@
-use Rattle.std.proofs.Common.{◌≡◌, inl, inr, ℕ, lit<}
-use Rattle.sep_parts.specs.declared.node.Node.{Node}
-use Rattle.sep_parts.specs.Trees.{IsKnown}
-use Rattle.sep_parts.specs.Versions.{IsVersion, known_in}
+use Rattle.certificate_checker.proofs.Prelude.{◌≡◌, inl, inr, ℕ, lit<, Node, IsKnown, IsVersion, known_in}
 use Rattle.certificate_checker.proofs.Parts.{known_old, known_wide}
 use Rattle.certificate_checker.proofs.tables.Tables.fault.Goals as goal
 

@@ -1,7 +1,5 @@
-use Rattle.std.proofs.Common.{inl, inr, refl, lit<}
+use Rattle.certificate_checker.proofs.Prelude.{inl, inr, refl, lit<, table_of, small_table}
 use Rattle.sep_parts.specs.declared.directions.TheConstants.{DIRECTIONS, WIDE}
-use Rattle.sep_parts.specs.Versions.{table_of}
-use Rattle.sep_parts.proofs.Table.{small_table}
 use Rattle.certificate_checker.proofs.tables.Tables.make.Goals as goal
 
 pub make-requires : goal.make-requires

@@ -1,9 +1,4 @@
-use Rattle.std.proofs.Common.{◌+◌, get_or, length, sym, subst, take, ap, refl, ◌∙◌, arith}
-use Rattle.std.proofs.lemmas.List.{length-take-le}
-use Rattle.certificate_checker.specs.Bytes.{most_bytes}
-use Rattle.certificate_checker.specs.Checking.{Checking, checked, checked_all}
-use Rattle.certificate_checker.specs.Judgments.{AreFew}
-use Rattle.certificate_checker.specs.Steps.{checking_of}
+use Rattle.certificate_checker.proofs.Prelude.{◌+◌, get_or, length, sym, subst, take, ap, refl, ◌∙◌, arith, length-take-le, most_bytes, Checking, checked, checked_all, AreFew, checking_of}
 use Rattle.certificate_checker.proofs.Bytes.{checked_more}
 use Rattle.certificate_checker.proofs.Few.{few_read, few_within}
 use Rattle.certificate_checker.proofs.text.TextReader.take_all.Goals as goal

@@ -1,6 +1,4 @@
-use Rattle.std.proofs.Common.{◌≡◌, take}
-use Rattle.certificate_checker.specs.Checking.{checked_all}
-use Rattle.certificate_checker.specs.Steps.{IsTextReader, checking_of}
+use Rattle.certificate_checker.proofs.Prelude.{◌≡◌, take, checked_all, IsTextReader, checking_of}
 use Rattle.certificate_checker.proofs.text.TextReader.take_all.Given as goal
 
 abbrev pub invariant-loop-byte : goal.invariant-loop-byte

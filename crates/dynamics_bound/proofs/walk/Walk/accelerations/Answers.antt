@@ -1,13 +1,5 @@
-use Rattle.std.proofs.Common.{◌≡◌, ℕ, ◌^◌, ◌<◌, ap, arith, rules, List, [], ◌∷◌, length, get_or, All, FitsSigned}
-use Rattle.std.proofs.lemmas.Int.{to_z-of_z}
-use Rattle.std.proofs.lemmas.List.Elements.{All-get_or}
-use mir.Syntax.{w16}
-use Rattle.fleet_math.specs.Numbers.{IsBelow}
-use Rattle.bezier_core.specs.declared.Bez.{Bez}
-use Rattle.traj_codec.specs.Spelling.{HasDuration}
-use Rattle.traj_codec.specs.Positions.{element_on}
+use Rattle.dynamics_bound.proofs.Prelude.{◌≡◌, ℕ, ◌^◌, ◌<◌, ap, arith, rules, List, [], ◌∷◌, length, get_or, All, FitsSigned, to_z-of_z, All-get_or, w16, IsBelow, Bez, HasDuration, element_on, Walk}
 use Rattle.fleet_curves.specs.Raised.{raised_element}
-use Rattle.dynamics_bound.specs.declared.walk.Walk.{Walk}
 use Rattle.dynamics_bound.proofs.Walks.{acceleration-at, three_small, three_told}
 use Rattle.dynamics_bound.proofs.walk.Walk.accelerations.Goals as goal
 

@@ -1,7 +1,4 @@
-use Rattle.std.proofs.lemmas.Grind.{common_steps}
-use Rattle.std.proofs.Common.{◌<◌, arith, ap, List, length}
-use Rattle.traj_codec.specs.declared.traj.Segment.{Segment}
-use Rattle.dynamics_bound.specs.declared.walk.Walk.{Walk}
+use Rattle.dynamics_bound.proofs.Prelude.{common_steps, ◌<◌, arith, ap, List, length, Segment, Walk}
 use Rattle.dynamics_bound.proofs.Walks.{jump-inside, jump-last, reached-lasts, three_told}
 use Rattle.dynamics_bound.proofs.walk.Walk.jumps.Goals as goal
 

@@ -1,6 +1,4 @@
-use Rattle.std.proofs.Common.{◌≡◌, ap}
-use Rattle.dynamics_bound.specs.declared.walk.Reached.{Reached}
-use Rattle.dynamics_bound.specs.declared.walk.Walk.{Walk}
+use Rattle.dynamics_bound.proofs.Prelude.{◌≡◌, ap, Reached, Walk}
 use Rattle.dynamics_bound.proofs.Walks.{reached_next}
 use Rattle.dynamics_bound.proofs.walk.Walk.next.Goals as goal
 

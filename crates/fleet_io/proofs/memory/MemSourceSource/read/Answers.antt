@@ -1,5 +1,4 @@
-use Rattle.std.proofs.Common.{ℕ, List, drop, ap, ◌∙◌, arith}
-use Rattle.std.proofs.lemmas.List.{take_rest}
+use Rattle.fleet_io.proofs.Prelude.{ℕ, List, drop, ap, ◌∙◌, arith, take_rest}
 use Rattle.fleet_io.proofs.CopiedLemmas.{gives}
 use Rattle.fleet_io.proofs.memory.MemSourceSource.read.Goals as goal
 

@@ -1,6 +1,4 @@
-use Rattle.std.proofs.lemmas.Grind.{common_steps}
-use Rattle.std.proofs.Common.{take, append_assoc, arith}
-use Rattle.std.proofs.lemmas.List.{take-append-drop}
+use Rattle.fleet_io.proofs.Prelude.{common_steps, take, append_assoc, arith, take-append-drop}
 use Rattle.fleet_io.proofs.MarkLemmas.{front_whole}
 use Rattle.fleet_io.proofs.parts.Parts.add_run.Goals as goal
 

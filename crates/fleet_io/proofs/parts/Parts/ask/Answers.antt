@@ -1,6 +1,4 @@
-use Rattle.std.proofs.Common.{◌≡◌, eqb, false, length, sym, ap, ◌∙◌}
-use Rattle.fleet_io.specs.Held.{Held, stream}
-use Rattle.fleet_io.specs.PartBytes.{is_marked_here, plain_len}
+use Rattle.fleet_io.proofs.Prelude.{◌≡◌, eqb, false, length, sym, ap, ◌∙◌, Held, stream, is_marked_here, plain_len}
 use Rattle.fleet_io.proofs.ByteLemmas.{asks_bytes, tells}
 use Rattle.fleet_io.proofs.parts.Parts.ask.Goals as goal
 

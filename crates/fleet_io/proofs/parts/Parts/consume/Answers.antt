@@ -1,5 +1,4 @@
-use Rattle.std.proofs.Common.{◌≡◌, ◌-◌, suc, take, sym, ◌∙◌, ap, arith}
-use Rattle.fleet_io.specs.PartBytes.{begins_after}
+use Rattle.fleet_io.proofs.Prelude.{◌≡◌, ◌-◌, suc, take, sym, ◌∙◌, ap, arith, begins_after}
 use Rattle.fleet_io.proofs.ByteLemmas.{last_tells}
 use Rattle.fleet_io.proofs.parts.Parts.consume.Goals as goal
 

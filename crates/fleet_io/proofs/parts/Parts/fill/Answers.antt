@@ -1,6 +1,4 @@
-use Rattle.std.proofs.lemmas.Grind.{common_steps}
-use Rattle.std.proofs.Common.{◌∙◌, arith}
-use Rattle.std.proofs.KnownBytes.{Keeps-refl, Keeps-trans}
+use Rattle.fleet_io.proofs.Prelude.{common_steps, ◌∙◌, arith, Keeps-refl, Keeps-trans}
 use Rattle.fleet_io.proofs.GoingLemmas.{Goes-trans, Goes-unasked}
 use Rattle.fleet_io.proofs.WaitingLemmas.{Keeps-refilled}
 use Rattle.fleet_io.proofs.parts.Parts.fill.Goals as goal

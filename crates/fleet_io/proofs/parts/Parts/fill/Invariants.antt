@@ -1,8 +1,4 @@
-use Rattle.std.proofs.Common.{◌≡◌, false, ◌-◌, cond, length}
-use Rattle.std.specs.Io.KnownBytes.{Keeps}
-use Rattle.fleet_io.specs.Held.{stream}
-use Rattle.fleet_io.specs.PartBytes.{is_untold}
-use Rattle.fleet_io.specs.Steps.{Goes}
+use Rattle.fleet_io.proofs.Prelude.{◌≡◌, false, ◌-◌, cond, length, Keeps, stream, is_untold, Goes}
 use Rattle.fleet_io.proofs.parts.Parts.fill.Given as goal
 
 abbrev pub invariant-reads : goal.invariant-reads

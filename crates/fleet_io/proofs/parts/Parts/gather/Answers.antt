@@ -1,7 +1,4 @@
-use Rattle.std.proofs.lemmas.Grind.{common_steps}
-use Rattle.std.proofs.Common.{inl, inr, true, [], ◌∷◌, ◌++◌, ◌+◌, take, drop, length, length-append, refl, sym, ap, ◌∙◌, arith}
-use Rattle.std.proofs.lemmas.List.{length-drop, length-take}
-use Rattle.fleet_io.specs.Held.{given}
+use Rattle.fleet_io.proofs.Prelude.{common_steps, inl, inr, true, [], ◌∷◌, ◌++◌, ◌+◌, take, drop, length, length-append, refl, sym, ap, ◌∙◌, arith, length-drop, length-take, given, Consumes-kept}
 use Rattle.fleet_io.proofs.TakenLemmas.{Consumes-append, Consumes-nil, Consumes-runs}
 use Rattle.fleet_io.proofs.GoingLemmas.{Goes-trans, Goes-unasked}
 use Rattle.fleet_io.proofs.AskingLemmas.{Asking-runs, Asking-none, Gathers-unmarked, promised, promised_after}
@@ -10,7 +7,6 @@ use Rattle.fleet_io.proofs.MarkLemmas.{Gathers-runs, Gathers-none, ends_marker_i
 use Rattle.fleet_io.proofs.MarkerLaws.{fed_marked, ok_marked}
 use Rattle.fleet_io.proofs.FoundLemmas.{at_marker, at_end, made, refused_at_start, long_already}
 use Rattle.fleet_io.proofs.ReadingLemmas.{takes_at_most}
-use Rattle.std.proofs.KnownBytes.{Consumes-kept}
 use Rattle.fleet_io.proofs.parts.Parts.gather.Goals as goal
 
 pub returns-in-Err-clause-goes : goal.returns-in-Err-clause-goes

@@ -1,7 +1,4 @@
-use Rattle.std.proofs.Common.{◌≡◌, ◌+◌, ◌-◌, ◌≤◌, length}
-use Rattle.std.specs.Io.KnownBytes.{Consumes}
-use Rattle.fleet_io.specs.Held.{stream}
-use Rattle.fleet_io.specs.Steps.{Goes}
+use Rattle.fleet_io.proofs.Prelude.{◌≡◌, ◌+◌, ◌-◌, ◌≤◌, length, Consumes, stream, Goes}
 use Rattle.fleet_io.proofs.MarkLemmas.{Gathers}
 use Rattle.fleet_io.proofs.AskingLemmas.{Asking}
 use Rattle.fleet_io.proofs.parts.Parts.gather.Given as goal

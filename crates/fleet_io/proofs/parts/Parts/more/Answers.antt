@@ -1,6 +1,4 @@
-use Rattle.std.proofs.lemmas.Grind.{common_steps}
-use Rattle.std.proofs.Common.{[], ◌-◌, append-nil, sym, ◌∙◌, take, arith}
-use Rattle.std.proofs.KnownBytes.{Consumes-kept}
+use Rattle.fleet_io.proofs.Prelude.{common_steps, [], ◌-◌, append-nil, sym, ◌∙◌, take, arith, Consumes-kept}
 use Rattle.fleet_io.proofs.TakenLemmas.{Consumes-nil}
 use Rattle.fleet_io.proofs.WaitingLemmas.{moved, unmoved}
 use Rattle.fleet_io.proofs.parts.Parts.more.Goals as goal

@@ -1,4 +1,4 @@
-use Rattle.std.proofs.Common.{arith}
+use Rattle.fleet_io.proofs.Prelude.{arith}
 use Rattle.fleet_io.proofs.WaitingLemmas.{skipped}
 use Rattle.fleet_io.proofs.parts.Parts.skip.Goals as goal
 

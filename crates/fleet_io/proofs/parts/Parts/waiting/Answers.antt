@@ -1,4 +1,4 @@
-use Rattle.std.proofs.Common.{arith}
+use Rattle.fleet_io.proofs.Prelude.{arith}
 use Rattle.fleet_io.proofs.WaitingLemmas.{between_is}
 use Rattle.fleet_io.proofs.parts.Parts.waiting.Goals as goal
 

@@ -1,5 +1,4 @@
-use Rattle.std.proofs.lemmas.Grind.{common_steps}
-use Rattle.std.proofs.Common.{take, arith}
+use Rattle.fleet_io.proofs.Prelude.{common_steps, take, arith}
 use Rattle.fleet_io.proofs.CopiedLemmas.{keeps}
 use Rattle.fleet_io.proofs.sure.SureSinkSink.write.Goals as goal
 

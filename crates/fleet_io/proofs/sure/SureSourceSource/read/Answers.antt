@@ -1,6 +1,4 @@
-use Rattle.std.proofs.lemmas.Grind.{common_steps}
-use Rattle.std.proofs.Common.{drop, arith}
-use Rattle.std.proofs.lemmas.List.{length-drop, length-take, take_rest}
+use Rattle.fleet_io.proofs.Prelude.{common_steps, drop, arith, length-drop, length-take, take_rest}
 use Rattle.fleet_io.proofs.CopiedLemmas.{gives}
 use Rattle.fleet_io.proofs.sure.SureSourceSource.read.Goals as goal
 

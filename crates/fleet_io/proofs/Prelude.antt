@@ -1,0 +1,24 @@
+-- What the proofs of this crate cite from elsewhere, passed on from one place. Declares nothing.
+pub use Rattle.std.proofs.Common.{Bool, List, None, Option, Some, [], ap, append-nil, append_assoc, arith, cond, drop, eqb, false, flat_map, get_or, inl, inr, length, length-append, ltb, map, min, negsuc, pos, refl, suc, sym, take, true, zero, ℕ, ℤ, ◌%◌, ◌&&◌, ◌++◌, ◌+◌, ◌-◌, ◌<◌, ◌^◌, ◌||◌, ◌∙◌, ◌∷◌, ◌≡◌, ◌≤◌, ◌⊎◌}
+pub use Rattle.std.proofs.KnownBytes.{Consumes-kept, Keeps-refl, Keeps-trans}
+pub use Rattle.std.proofs.Math.Seq.{take-append-add}
+pub use Rattle.std.proofs.lemmas.Bool.{cases_Bool, cases_lt, eqb-true, ne_eqb}
+pub use Rattle.std.proofs.lemmas.Grind.{common_steps, fold-append}
+pub use Rattle.std.proofs.lemmas.List.{drop-append-le, drop-drop, drop-take, drop_all, get_or-append-add, length-drop, length-take, length-take-le, take-append-drop, take-append-le, take-take, take_all, take_at, take_min, take_more, take_rest}
+pub use Rattle.std.proofs.lemmas.List.Splits.{join_with_byte-slice_split}
+pub use Rattle.std.proofs.lemmas.Slice.Eq.{bytes_eq-Decides}
+pub use Rattle.std.specs.Io.KnownBytes.{Appends, Consumes, IsAtEnd, Keeps, prepend_known}
+pub use Rattle.std.specs.List.{copy_within, join_with_byte, onto_first, position_or_len, slice_split}
+pub use Rattle.std.specs.Prelude.{Err, IfErr, IfOk, IfSome, IsTrue, Ok, Result}
+pub use Rattle.text_lines.specs.Lines.{between_feeds}
+unfoldable pub use Rattle.text_lines.specs.Marker.{part_of, rest_of}
+pub use Rattle.text_lines.specs.Marker.{ended, has_marker, is_marker, lines_after, lines_before}
+pub use Rattle.fleet_io.specs.Held.{Asked, Held, buffer_bytes, given, has_whole_marker, stream, without_last}
+pub use Rattle.fleet_io.specs.PartBytes.{ArePlain, AsksNext, PartLaw, after_piece, begins_after, first_piece, is_marked_here, is_marked_left, is_untold, may_be_marker, part_left, plain_len, rest_left}
+pub use Rattle.fleet_io.specs.Parts.{MarkerLaw, TakesFewAfter, TakesMarked, TakesPart}
+pub use Rattle.fleet_io.specs.Steps.{Goes, Refills, Runs}
+pub use Rattle.fleet_io.specs.Taken.{TakesAtMost, TakesFront}
+unfoldable pub use Rattle.fleet_io.specs.Words.{with_word}
+pub use Rattle.fleet_io.specs.Words.{AreWords, IsWord, hex_digit, hex_word, is_line_empty, line, with_hex, with_words}
+pub use Rattle.fleet_io.specs.declared.parts.IoFault.{IoFault}
+pub use Rattle.fleet_io.specs.declared.parts.Part.{Part}
