@@ -1,35 +1,9 @@
 -- What a command gives, from what its steps do.
-use Rattle.std.proofs.lemmas.Grind.{common_steps}
-use Rattle.std.proofs.Common.{◌≡◌, inl, inr, ℕ, ◌≤◌, false, List, length, Option, Some, None, Result, Ok, Err, IfOk, IfSome, refl, sym, ap, subst, ◌∙◌, arith}
-use Rattle.std.specs.declared.alloc.AllocError.{AllocError}
-use Rattle.choreo_show.specs.Plain.{PlainShow}
-use Rattle.choreo_reader.specs.Grammar.{StandsFor}
-use Rattle.refusals.specs.declared.refusal.Refusal.{Refusal}
+use Rattle.show_judge.proofs.Prelude.{common_steps, ◌≡◌, inl, inr, ℕ, ◌≤◌, false, List, length, Option, Some, None, Result, Ok, Err, IfOk, IfSome, refl, sym, ap, subst, ◌∙◌, arith, AllocError, PlainShow, StandsFor, Refusal, status_of, Fitted, IsFitted, FlyApart, Judged, Answer, Refused, Input, Text, TooLarge, Whole, Ways, grid_of, Lands, AnswersInput, AnswersText, AnswersTwo, EndsJudged, Fits, IsAccepted, IsRefusedBy, IsSaid, JudgedGives, JudgesInput, outcome_of, IsShowText, IsText, IsUnmarked, IsWholeText, IsWithin, ReadsShow, ReadsTwo, IsOutcomeOf, IsSafe, IsVerb, ShowGives, refused, said, FliesApart, Outcome, Verb, Settings, IsOfInput, blocked_by, show_refusal, most_text, Cut, cut_of, nodes_of, sent_of}
 use Rattle.refusals.specs.declared.refusal.Refusal.TheVariants as refusal
-use Rattle.refusals.specs.Refusals.{status_of}
-use Rattle.show_plan.specs.declared.fitted.Fitted.{Fitted}
-use Rattle.show_plan.specs.Fitting.{IsFitted}
-use Rattle.show_plan.specs.Separation.{FlyApart}
 use Rattle.show_judge.specs.declared.judging.Accepted.{Accepted}
-use Rattle.show_judge.specs.declared.judging.Judged.{Judged}
-use Rattle.show_judge.specs.declared.ends.Answer.{Answer}
-use Rattle.show_judge.specs.declared.ends.Answer.TheVariants.{Refused}
-use Rattle.show_judge.specs.declared.input.Input.{Input}
-use Rattle.show_judge.specs.declared.input.Text.{Text}
-use Rattle.show_judge.specs.declared.input.Text.TheVariants.{TooLarge, Whole}
-use Rattle.show_judge.specs.declared.ways.Ways.{Ways}
 use Rattle.cue_grid.specs.declared.grid.Grid.{Grid}
-use Rattle.cue_grid.specs.Cues.{grid_of}
-use Rattle.show_plan.specs.Landing.{Lands}
 use Rattle.show_judge.proofs.PlanLemmas.{cut_at}
-use Rattle.show_judge.specs.Answers.{AnswersInput, AnswersText, AnswersTwo, EndsJudged, Fits, IsAccepted, IsRefusedBy, IsSaid, JudgedGives, JudgesInput, outcome_of}
-use Rattle.show_judge.specs.Input.{IsShowText, IsText, IsUnmarked, IsWholeText, IsWithin, ReadsShow, ReadsTwo}
-use Rattle.show_judge.specs.Outcome.{IsOutcomeOf, IsSafe, IsVerb, ShowGives, refused, said}
-use Rattle.show_judge.specs.Verb.{FliesApart, Outcome, Verb}
-use Rattle.choreo_show.specs.declared.show.Settings.{Settings}
-use Rattle.show_judge.specs.Refused.{IsOfInput, blocked_by, show_refusal}
-use Rattle.fleet_math.specs.Limits.{most_text}
-use Rattle.show_judge.specs.Shows.{Cut, cut_of, nodes_of, sent_of}
 
 -- a refusal has no status 0
 pub refused_some : (r : Refusal) → status_of r ≡ 0 → ⊥

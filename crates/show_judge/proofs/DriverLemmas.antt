@@ -1,23 +1,5 @@
 -- A command that reads a show and writes one text of it.
-use Rattle.std.proofs.lemmas.Grind.{common_steps}
-use Rattle.std.proofs.Common.{Option, ◌≡◌, ℕ, List, Result, Err, IfOk, refl, sym, ◌∙◌, ap, ◌<◌, IfSome, length, true, false, arith}
-use Rattle.choreo_reader.specs.Laws.{ShowLaw}
-use Rattle.choreo_show.specs.Plain.{PlainShow}
-use Rattle.fleet_io.specs.Causes.{Rose}
-use Rattle.fleet_io.specs.Parts.{TakesFewAfter}
-use Rattle.fleet_io.specs.Taken.{TakesFront}
-use Rattle.std.proofs.Common.{◌≤◌}
-use Rattle.show_judge.specs.declared.ends.Answer.{Answer}
-use Rattle.show_judge.specs.declared.ends.Failure.{Failure}
-use Rattle.show_judge.specs.declared.ends.Failure.TheVariants.{Read}
-use Rattle.show_judge.specs.Answers.{AnswersInput, Responds}
-use Rattle.show_judge.specs.Input.{IsReadBoth, TakesOneText}
-use Rattle.text_lines.specs.Marker.{part_of}
-use Rattle.show_judge.specs.declared.ways.Ways.{Ways}
-use Rattle.fleet_math.specs.Limits.{most_text}
-use Rattle.show_judge.specs.Runs.{Behaves}
-use Rattle.show_judge.specs.Verb.{IsAny, IsTwo, Outcome, Run, Verb, of_show, outcome}
-use Rattle.show_judge.specs.Outcome.{IsVerb}
+use Rattle.show_judge.proofs.Prelude.{common_steps, Option, ◌≡◌, ℕ, List, Result, Err, IfOk, refl, sym, ◌∙◌, ap, ◌<◌, IfSome, length, true, false, arith, ShowLaw, PlainShow, Rose, TakesFewAfter, TakesFront, ◌≤◌, Answer, Failure, Read, AnswersInput, Responds, IsReadBoth, TakesOneText, part_of, Ways, most_text, Behaves, IsAny, IsTwo, Outcome, Run, Verb, of_show, outcome, IsVerb}
 use Rattle.show_judge.proofs.HeadlineLemmas.{headlines, says_of}
 use Rattle.show_judge.proofs.ReadLemmas.{judged_answer}
 use Rattle.show_judge.proofs.RunLemmas.{IsPlain, completes, runs_answer}

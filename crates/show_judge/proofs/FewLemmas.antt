@@ -1,16 +1,8 @@
 -- How much was read of a text that is too long.
-use Rattle.std.proofs.lemmas.Grind.{common_steps}
-use Rattle.std.proofs.Common.{◌≡◌, ◌⊎◌, inl, inr, ℕ, ◌+◌, ◌<◌, ◌≤◌, Bool, true, false, cond, ◌||◌, List, [], ◌∷◌, ◌++◌, length, length-append, Option, Some, None, IfSome, refl, subst, arith}
+use Rattle.show_judge.proofs.Prelude.{common_steps, ◌≡◌, ◌⊎◌, inl, inr, ℕ, ◌+◌, ◌<◌, ◌≤◌, Bool, true, false, cond, ◌||◌, List, [], ◌∷◌, ◌++◌, length, length-append, Option, Some, None, IfSome, refl, subst, arith, between_feeds, has_marker, is_marker, lines_after, lines_before, part_of, rest_of, ended as ended_lines, Held, stream, TakesFewAfter, TakesAtMost, most_text}
 use Rattle.std.specs.List.{join_with_byte}
 use Rattle.std.proofs.lemmas.Slice.Eq.{bytes_eq-Decides}
 use Rattle.std.proofs.lemmas.List.Splits.{join_with_byte-slice_split}
-use Rattle.text_lines.specs.Lines.{between_feeds}
-use Rattle.text_lines.specs.Marker.{has_marker, is_marker, lines_after, lines_before, part_of, rest_of}
-use Rattle.text_lines.specs.Marker.{ended as ended_lines}
-use Rattle.fleet_io.specs.Held.{Held, stream}
-use Rattle.fleet_io.specs.Parts.{TakesFewAfter}
-use Rattle.fleet_io.specs.Taken.{TakesAtMost}
-use Rattle.fleet_math.specs.Limits.{most_text}
 
 -- where nothing waits the bytes to come are those of the source
 pub stream_new : (held : Held) (left : Option (List ℕ)) → held.waiting ≡ [] → stream held left ≡ left

@@ -1,20 +1,6 @@
 -- What status 0 says, from what a run promises.
-use Rattle.std.proofs.lemmas.Grind.{common_steps}
-use Rattle.std.proofs.Common.{◌≡◌, ℕ, Bool, true, false, cond, List, Option, Some, None, IfSome, refl, subst, ◌∙◌, arith}
-use Rattle.std.specs.Io.KnownBytes.{Appends}
-use Rattle.std.specs.Option.{option_or}
-use Rattle.text_lines.specs.Lines.{between_feeds}
-use Rattle.text_lines.specs.Marker.{has_marker, part_of}
-use Rattle.choreo_reader.specs.Laws.{ShowLaw}
-use Rattle.choreo_show.specs.Plain.{PlainShow}
-use Rattle.refusals.specs.declared.refusal.Refusal.{Refusal}
-use Rattle.show_judge.specs.declared.ways.Ways.{Ways}
+use Rattle.show_judge.proofs.Prelude.{common_steps, ◌≡◌, ℕ, Bool, true, false, cond, List, Option, Some, None, IfSome, refl, subst, ◌∙◌, arith, Appends, option_or, between_feeds, has_marker, part_of, ShowLaw, PlainShow, Refusal, Ways, IsSafe, IsSafeBy, IsSafeOutcome, IsVerb, show_refusal, Behaves, Runs, StopsAtMarker, TakesLittle, told, Cut, cut_of, FliesApart, Judges, Outcome, Run, Verb, of_own, outcome, the_input}
 use Rattle.show_judge.specs.Headline.{FliesText, SaysOf, UploadsText}
-use Rattle.show_judge.specs.Outcome.{IsSafe, IsSafeBy, IsSafeOutcome, IsVerb}
-use Rattle.show_judge.specs.Refused.{show_refusal}
-use Rattle.show_judge.specs.Runs.{Behaves, Runs, StopsAtMarker, TakesLittle, told}
-use Rattle.show_judge.specs.Shows.{Cut, cut_of}
-use Rattle.show_judge.specs.Verb.{FliesApart, Judges, Outcome, Run, Verb, of_own, outcome, the_input}
 use Rattle.show_judge.proofs.RunLemmas.{completes, some_map, told_is}
 use Rattle.show_judge.proofs.VerbLemmas.{outcomes}
 

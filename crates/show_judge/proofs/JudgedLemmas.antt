@@ -1,21 +1,7 @@
 -- A run of a command that judges its input and then writes as it goes.
-use Rattle.std.proofs.Common.{◌≡◌, ℕ, ◌≤◌, false, List, Ok, Err, refl, sym, true, ◌∙◌, arith}
-use Rattle.fleet_io.specs.Causes.{Rose}
-use Rattle.fleet_io.specs.Taken.{TakesFront}
-use Rattle.choreo_show.specs.Plain.{PlainShow}
-use Rattle.refusals.specs.declared.refusal.Refusal.{Refusal}
-use Rattle.refusals.specs.Refusals.{line_of, status_of}
-use Rattle.show_plan.specs.Fitting.{IsFitted}
+use Rattle.show_judge.proofs.Prelude.{◌≡◌, ℕ, ◌≤◌, false, List, Ok, Err, refl, sym, true, ◌∙◌, arith, Rose, TakesFront, PlainShow, Refusal, line_of, status_of, IsFitted, Accepted as accepted, Failure, Read, Memory, JudgesInput, Responds, Wrote, IsVerb, OutcomeLaw, refused, Run, Verb, outcome, IsOfInput, Runs, Cut, cut_of, nodes_of}
 use Rattle.show_judge.specs.declared.judging.Accepted.{Accepted}
-use Rattle.show_judge.specs.declared.judging.Judged.TheVariants.{Accepted as accepted, Refused as refused_judged}
-use Rattle.show_judge.specs.declared.ends.Failure.{Failure}
-use Rattle.show_judge.specs.declared.ends.Failure.TheVariants.{Read, Memory}
-use Rattle.show_judge.specs.Answers.{JudgesInput, Responds, Wrote}
-use Rattle.show_judge.specs.Outcome.{IsVerb, OutcomeLaw, refused}
-use Rattle.show_judge.specs.Verb.{Run, Verb, outcome}
-use Rattle.show_judge.specs.Refused.{IsOfInput}
-use Rattle.show_judge.specs.Runs.{Runs}
-use Rattle.show_judge.specs.Shows.{Cut, cut_of, nodes_of}
+use Rattle.show_judge.specs.declared.judging.Judged.TheVariants.{Refused as refused_judged}
 use Rattle.show_judge.proofs.AnswerLemmas.{accepted_outcome, accepted_safe, plain_outcome, refused_some}
 use Rattle.show_judge.proofs.RunLemmas.{IsPlain, judges_input, refused_among, refused_judged as refused_is_judged, runs_memory, runs_stopped, runs_wrote, some_map}
 

@@ -1,3 +1,4 @@
+mod Prelude
 pub mod SlotLemmas
 pub mod RefusalLemmas
 pub mod PlanLemmas

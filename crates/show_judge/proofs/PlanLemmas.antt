@@ -1,28 +1,11 @@
 -- From a show that fits to one that is accepted.
-use Rattle.std.proofs.lemmas.Grind.{common_steps}
-use Rattle.std.proofs.Common.{◌≡◌, inr, ℕ, ◌≤◌, Bool, true, false, cond, [], length, Option, Some, None, Result, Ok, Err, IfOk, refl, ap, subst, ◌∙◌, arith}
-use Rattle.std.specs.declared.alloc.AllocError.{AllocError}
+use Rattle.show_judge.proofs.Prelude.{common_steps, ◌≡◌, inr, ℕ, ◌≤◌, Bool, false, cond, [], length, Option, Some, None, Result, Ok, Err, IfOk, refl, ap, subst, ◌∙◌, arith, AllocError, PlainShow, StandsFor, Settings, grid_of, Ways, Refusal, Fitted, IsFitted, AreUploadable, FlyApart, Judged, Fits, JudgedGives, PlanGives, blocked_by, show_refusal, most_text, Cut, sent_of}
 use Rattle.fleet_io.specs.declared.parts.Part.{Part}
-use Rattle.choreo_show.specs.Plain.{PlainShow}
-use Rattle.choreo_reader.specs.Grammar.{StandsFor}
-use Rattle.choreo_show.specs.declared.show.Settings.{Settings}
-use Rattle.cue_grid.specs.Cues.{grid_of}
-use Rattle.show_judge.specs.declared.ways.Ways.{Ways}
-use Rattle.refusals.specs.declared.refusal.Refusal.{Refusal}
-use Rattle.show_plan.specs.declared.fitted.Fitted.{Fitted}
-use Rattle.show_plan.specs.Fitting.{IsFitted}
 use Rattle.show_plan.specs.Flight.{KeepsNearShow}
-use Rattle.show_plan.specs.Landing.{AreUploadable}
-use Rattle.show_plan.specs.Separation.{FlyApart}
 use Rattle.show_plan.specs.Uploading.{UploadsLaw}
-use Rattle.show_judge.specs.declared.judging.Judged.{Judged}
 use Rattle.show_judge.specs.declared.judging.Judged.TheVariants as judged
 use Rattle.show_judge.specs.declared.judging.Planned.{Planned}
 use Rattle.show_judge.specs.declared.judging.Planned.TheVariants as planned
-use Rattle.show_judge.specs.Answers.{Fits, JudgedGives, PlanGives}
-use Rattle.show_judge.specs.Refused.{blocked_by, show_refusal}
-use Rattle.fleet_math.specs.Limits.{most_text}
-use Rattle.show_judge.specs.Shows.{Cut, sent_of}
 use Rattle.show_judge.specs.Steps.{FitsAs, Separated, ShowPlanned}
 
 -- the input that is cut after a show's text

@@ -1,19 +1,5 @@
 -- How much a run reads.
-use Rattle.std.proofs.lemmas.Grind.{common_steps}
-use Rattle.std.proofs.Common.{◌≡◌, ℕ, ◌<◌, List, Option, Some, None, Result, Ok, Err, IfOk, IfSome, length, sym, subst, arith}
-use Rattle.fleet_io.specs.Parts.{TakesFewAfter}
-use Rattle.fleet_io.specs.Taken.{TakesAtMost}
-use Rattle.show_judge.specs.declared.ends.Answer.{Answer}
-use Rattle.show_judge.specs.declared.ends.Failure.{Failure}
-use Rattle.show_judge.specs.declared.ends.Failure.TheVariants.{Read, Memory}
-use Rattle.show_judge.specs.Answers.{Responds}
-use Rattle.text_lines.specs.Marker.{part_of, rest_of}
-use Rattle.show_judge.specs.declared.input.Text.{Text}
-use Rattle.show_judge.specs.declared.input.Text.TheVariants.{TooLarge, Whole}
-use Rattle.show_judge.specs.declared.input.Input.{Input}
-use Rattle.show_judge.specs.Input.{GoesOn, IsNextText, IsReadBoth, IsWholeText, ReadsTwo, TakesOneText}
-use Rattle.fleet_math.specs.Limits.{most_text}
-use Rattle.show_judge.specs.Verb.{IsJudged}
+use Rattle.show_judge.proofs.Prelude.{common_steps, ◌≡◌, ℕ, ◌<◌, List, Option, Some, None, Result, Ok, Err, IfOk, IfSome, length, sym, subst, arith, TakesFewAfter, TakesAtMost, Answer, Failure, Read, Memory, Responds, part_of, rest_of, Text, TooLarge, Whole, Input, GoesOn, IsNextText, IsReadBoth, IsWholeText, ReadsTwo, TakesOneText, most_text, IsJudged}
 
 -- where an answer was judged, it is there
 pub judged_answer : (answer : Result Answer Failure) (old new : Option (List ℕ)) (before after status : ℕ) (P : Type 0) → Responds answer old new before after status →

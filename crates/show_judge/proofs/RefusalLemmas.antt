@@ -1,31 +1,19 @@
 -- In which order a show's refusals come.
-use Rattle.std.proofs.lemmas.Grind.{common_steps}
-use Rattle.std.proofs.Common.{◌≡◌, ◌⊎◌, inl, inr, ℕ, ◌+◌, ◌<◌, ◌≤◌, List, [], length, get_or, map, Option, Some, None, refl, sym, ap, subst, ◌∙◌, arith}
-use Rattle.std.specs.Option.{option_map, option_or}
+use Rattle.show_judge.proofs.Prelude.{common_steps, ◌≡◌, ◌⊎◌, inl, inr, ℕ, ◌+◌, ◌<◌, ◌≤◌, List, [], length, get_or, map, Option, Some, None, refl, sym, ap, subst, ◌∙◌, arith, option_map, option_or, DroneLine, PlainShow, grid_of, All-get_or, StandsAsWord, in_order, plan_fault, room, unsendable, Name, Ways, Refusal, blocked_by, marker_refusal, no_plan, show_refusal, Cut, name_at, names_of}
 use Rattle.std.proofs.lemmas.List.{length-map}
 use Rattle.fleet_io.specs.Words.{IsWord}
-use Rattle.choreo_show.specs.declared.show.DroneLine.{DroneLine}
 use Rattle.choreo_show.specs.Valid.{FitDroneLines}
-use Rattle.choreo_show.specs.Plain.{PlainShow}
 use Rattle.cue_grid.specs.declared.grid.GridFault.{GridFault}
-use Rattle.cue_grid.specs.Cues.{grid_of}
 use Rattle.cue_grid.specs.Faults.{grid_fault}
 use Rattle.figure_expand.specs.declared.fault.AxisValue.{AxisValue}
 use Rattle.figure_expand.specs.Expanded.{range_fault}
 use Rattle.show_plan.specs.declared.fitted.PlanFault.{PlanFault}
 use Rattle.show_plan.specs.declared.fitted.PlanFault.TheVariants as fault
-use Rattle.std.proofs.lemmas.List.Elements.{All-get_or}
-use Rattle.show_plan.specs.Fitting.{StandsAsWord, in_order, plan_fault, room, unsendable}
 use Rattle.show_plan.specs.Trajectories.{sent}
 use Rattle.show_plan.proofs.Flight.{sent_counted}
 use Rattle.show_plan.proofs.Sendable.{IsSendFault, unsendable_names}
 use Rattle.show_plan.proofs.Valid.{names_are_words}
 use Rattle.figure_expand.proofs.Axes.{range_axis}
-use Rattle.choreo_lines.specs.Name.{Name}
-use Rattle.show_judge.specs.declared.ways.Ways.{Ways}
-use Rattle.refusals.specs.declared.refusal.Refusal.{Refusal}
-use Rattle.show_judge.specs.Refused.{blocked_by, marker_refusal, no_plan, show_refusal}
-use Rattle.show_judge.specs.Shows.{Cut, name_at, names_of}
 
 -- ---- four refusals in order
 

@@ -1,24 +1,7 @@
 -- What a run of a command is, from what it read and wrote.
-use Rattle.std.proofs.lemmas.Grind.{common_steps}
-use Rattle.std.proofs.Common.{◌≡◌, ◌⊎◌, inl, inr, ℕ, zero, suc, ◌≤◌, true, false, List, [], ◌∷◌, Contains, Option, Some, None, Result, Ok, Err, IfSome, refl, sym, ap, subst, ◌∙◌, arith}
-use Rattle.std.specs.Io.KnownBytes.{Appends}
-use Rattle.fleet_io.specs.Causes.{Rose}
-use Rattle.fleet_io.specs.Taken.{AppendsFront, TakesFront}
-use Rattle.refusals.specs.declared.refusal.Refusal.{Refusal}
+use Rattle.show_judge.proofs.Prelude.{common_steps, ◌≡◌, ◌⊎◌, inl, inr, ℕ, zero, suc, ◌≤◌, true, false, List, [], ◌∷◌, Contains, Option, Some, None, Result, Ok, Err, IfSome, refl, sym, ap, subst, ◌∙◌, arith, Appends, Rose, AppendsFront, TakesFront, Refusal, status_of, Answer, Done, Refused, Failure, Read, Memory, AnswersInput, IsSaid, Responds, Wrote, outcome_of, IsReadWhole, IsComplete, IsOutcome, IsOutcomeBy, IsOutcomeOf, IsSafe, IsSafeBy, IsSafeOutcome, OutcomeLaw, judged_text, IsJudged, Judges, Outcome, Run, Verb, nothing, own_text, the_input, IsOfInput, Completes, IsOutput, IsStopped, Runs, reads, told, cut_of}
 use Rattle.refusals.specs.declared.refusal.Refusal.TheVariants as refusal
-use Rattle.refusals.specs.Refusals.{status_of}
 use Rattle.refusals.specs.Lines.{read_line}
-use Rattle.show_judge.specs.declared.ends.Answer.{Answer}
-use Rattle.show_judge.specs.declared.ends.Answer.TheVariants.{Done, Refused}
-use Rattle.show_judge.specs.declared.ends.Failure.{Failure}
-use Rattle.show_judge.specs.declared.ends.Failure.TheVariants.{Read, Memory}
-use Rattle.show_judge.specs.Answers.{AnswersInput, IsSaid, Responds, Wrote, outcome_of}
-use Rattle.show_judge.specs.Input.{IsReadWhole}
-use Rattle.show_judge.specs.Outcome.{IsComplete, IsOutcome, IsOutcomeBy, IsOutcomeOf, IsSafe, IsSafeBy, IsSafeOutcome, OutcomeLaw, judged_text}
-use Rattle.show_judge.specs.Verb.{IsJudged, Judges, Outcome, Run, Verb, nothing, own_text, the_input}
-use Rattle.show_judge.specs.Refused.{IsOfInput}
-use Rattle.show_judge.specs.Runs.{Completes, IsOutput, IsStopped, Runs, reads, told}
-use Rattle.show_judge.specs.Shows.{cut_of}
 
 -- what holds of known bytes gives what follows from it
 pub some_map : (a : Option (List ℕ)) (P Q : List ℕ → Type 0) → ((x : List ℕ) → P x → Q x) → IfSome a P → IfSome a Q
@@ -157,8 +140,8 @@ runs_wrote c r status o plain law answered wrote =
         writes_later = later;
       }
       | inr (e, rose, front, later) ↦
-        runs_failed c r status o.output e rose (inl (rw told_so (some_map r.left _ _ (λ input is_o. (o, outcome_for c input o plain is_o, refl)) answered.is))) front
-        (plain.prompt r) (λ none. absurd (let f : true ≡ false = sym plain.reads ∙ none in cc)) answered.taken answered.later later
+          runs_failed c r status o.output e rose (inl (rw told_so (some_map r.left _ _ (λ input is_o. (o, outcome_for c input o plain is_o, refl)) answered.is))) front
+          (plain.prompt r) (λ none. absurd (let f : true ≡ false = sym plain.reads ∙ none in cc)) answered.taken answered.later later
     ]
 
 -- what was taken where a read failed, with the line that is written then
@@ -191,7 +174,7 @@ runs_stopped c r status plain rose taken reads_later wrote = elim wrote [
     writes_later = later;
   }
   | inr (e, failed, front, later) ↦
-    runs_failed c r status read_line e failed (inr (rose, stopped_by c r plain taken)) front (plain.prompt r) (λ none. absurd (let f : true ≡ false = sym plain.reads ∙ none in cc)) taken reads_later later
+      runs_failed c r status read_line e failed (inr (rose, stopped_by c r plain taken)) front (plain.prompt r) (λ none. absurd (let f : true ≡ false = sym plain.reads ∙ none in cc)) taken reads_later later
 ]
 
 -- Out of memory, and nothing was written; what a command that reads nothing leaves of its source.

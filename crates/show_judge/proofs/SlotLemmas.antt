@@ -1,8 +1,5 @@
 -- The drones that slots name, and so those that a blocked part names.
-use Rattle.std.proofs.Common.{◌≡◌, ℕ, zero, suc, ◌+◌, ◌<◌, ◌≤◌, All, List, [], ◌∷◌, length, Option, Some, None, subst, arith}
-use Rattle.std.specs.Option.{option_map, option_or}
-use Rattle.std.proofs.lemmas.List.Elements.{All-nil, All-cons, All-head, All-tail, All-append}
-use Rattle.choreo_show.specs.declared.show.Settings.{Settings}
+use Rattle.show_judge.proofs.Prelude.{◌≡◌, ℕ, zero, suc, ◌+◌, ◌<◌, ◌≤◌, All, List, [], ◌∷◌, length, Option, Some, None, subst, arith, option_map, option_or, All-nil, All-cons, All-head, All-tail, All-append, Settings, blocked_at, blocked_in, blocked_part, clearance_of, direction_at, slots_of}
 use Rattle.traj_codec.specs.declared.traj.Traj.{Traj}
 use Rattle.sep_parts.specs.declared.clearance.Clearance.{Clearance}
 use Rattle.sep_parts.specs.declared.slot.Slot.{Slot}
@@ -10,7 +7,6 @@ use Rattle.fleet_curves.specs.Raised.{Raised, raised_of}
 use Rattle.sep_parts.specs.Slots.{slots, slot_at, cues_from, pairs_from, drones_from}
 use Rattle.pair_search.specs.Search.{blocked_place}
 use Rattle.show_plan.specs.declared.separation.BlockedPart.{BlockedPart}
-use Rattle.show_plan.specs.Separation.{blocked_at, blocked_in, blocked_part, clearance_of, direction_at, slots_of}
 
 -- both drones of the slot are among this many
 abbrev pub IsAmong : ℕ → Slot → Type 0

@@ -1,17 +1,5 @@
 -- Whether a show's text is refused.
-use Rattle.std.proofs.lemmas.Grind.{common_steps}
-use Rattle.std.proofs.Common.{◌≡◌, ℕ, ◌≤◌, cond, nat_lt, List, length, Option, Some, None, ap, ◌∙◌, arith}
-use Rattle.std.specs.Option.{option_map}
-use Rattle.std.proofs.lemmas.Bool.Decides.{nat_tests}
-use Rattle.choreo_show.specs.Plain.{PlainShow}
-use Rattle.choreo_reader.specs.Grammar.{StandsFor}
-use Rattle.choreo_reader.specs.Laws.{ShowLaw}
-use Rattle.choreo_reader.specs.Context.{fault}
-use Rattle.refusals.specs.declared.refusal.Refusal.{Refusal}
-use Rattle.show_judge.specs.Outcome.{said}
-use Rattle.show_judge.specs.Verb.{Outcome, Verb}
-use Rattle.show_judge.specs.Refused.{faulty, text_refusal}
-use Rattle.fleet_math.specs.Limits.{most_text}
+use Rattle.show_judge.proofs.Prelude.{common_steps, ◌≡◌, ℕ, ◌≤◌, cond, nat_lt, List, length, Option, Some, None, ap, ◌∙◌, arith, option_map, nat_tests, PlainShow, StandsFor, ShowLaw, fault, Refusal, said, Outcome, Verb, faulty, text_refusal, most_text}
 
 -- a text that isn't too long is refused for its first fault alone
 refusal_is : (text : List ℕ) → length text ≤ most_text → text_refusal text ≡ option_map faulty (fault text)

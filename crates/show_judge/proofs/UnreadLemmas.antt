@@ -1,19 +1,5 @@
 -- A run of a command that reads nothing.
-use Rattle.std.proofs.lemmas.Grind.{common_steps}
-use Rattle.std.proofs.Common.{◌≡◌, inl, inr, ℕ, List, Option, Some, None, Result, Ok, Err, IfOk, refl, sym, ap, subst, ◌∙◌, arith}
-use Rattle.std.specs.Io.KnownBytes.{Appends}
-use Rattle.choreo_reader.specs.Laws.{ShowLaw}
-use Rattle.choreo_show.specs.Plain.{PlainShow}
-use Rattle.fleet_io.proofs.TakenLemmas.{TakesFront-none}
-use Rattle.show_judge.specs.declared.ends.Answer.{Answer}
-use Rattle.show_judge.specs.declared.ends.Failure.{Failure}
-use Rattle.show_judge.specs.declared.ends.Failure.TheVariants.{Read, Memory}
-use Rattle.show_judge.specs.Answers.{IsSaid, Responds, Wrote, outcome_of}
-use Rattle.show_judge.specs.Outcome.{IsOutcomeOf, IsSafe, IsVerb, OutcomeLaw}
-use Rattle.show_judge.specs.Input.{TakesOneText}
-use Rattle.show_judge.specs.Runs.{Behaves, Runs}
-use Rattle.show_judge.specs.Shows.{cut_of}
-use Rattle.show_judge.specs.Verb.{Outcome, Run, nothing, of_nothing, of_own, outcome, run_of}
+use Rattle.show_judge.proofs.Prelude.{common_steps, ◌≡◌, inl, inr, ℕ, List, Option, Some, None, Result, Ok, Err, IfOk, refl, sym, ap, subst, ◌∙◌, arith, Appends, ShowLaw, PlainShow, TakesFront-none, Answer, Failure, Read, Memory, IsSaid, Responds, Wrote, outcome_of, IsOutcomeOf, IsSafe, IsVerb, OutcomeLaw, TakesOneText, Behaves, Runs, cut_of, Outcome, Run, nothing, of_nothing, of_own, outcome, run_of}
 use Rattle.show_judge.proofs.HeadlineLemmas.{headlines, says_of}
 use Rattle.show_judge.proofs.RunLemmas.{answer_among, answer_judged, completes, runs_failed, runs_memory}
 use Rattle.show_judge.proofs.VerbLemmas.{outcomes}
@@ -37,7 +23,7 @@ runs_nothing : (bytes : List ℕ) (left : Option (List ℕ)) (faults : ℕ) (old
 runs_nothing bytes left faults old new before after status wrote = elim wrote [
   | inl (e, appends, later) ↦ grind (arith, common_steps, same_bytes, TakesFront-none)
   | inr (e, rose, front, later) ↦
-    runs_failed (of_nothing bytes) (run_of left left faults faults old new before after) status bytes e rose (inl (outcome 0 bytes, refl, refl)) front tt (λ none. (refl, refl)) (TakesFront-none left) (omega arith) later
+      runs_failed (of_nothing bytes) (run_of left left faults faults old new before after) status bytes e rose (inl (outcome 0 bytes, refl, refl)) front tt (λ none. (refl, refl)) (TakesFront-none left) (omega arith) later
 ]
 
 -- What was written of it.
@@ -90,8 +76,8 @@ runs_own show depth own text (Ok a) left faults old new before after status is s
         writes_later = later;
       }
       | inr (e, rose, front, later) ↦
-        runs_failed (of_own depth own text) (run_of left left faults faults old new before after) status (outcome_of a).output e rose (inl (outcome_of a, is, refl)) front tt
-        (λ none. (refl, refl)) (TakesFront-none left) (omega arith) later
+          runs_failed (of_own depth own text) (run_of left left faults faults old new before after) status (outcome_of a).output e rose (inl (outcome_of a, is, refl)) front tt
+          (λ none. (refl, refl)) (TakesFront-none left) (omega arith) later
     ]
 
 -- What was answered for it and written.

@@ -1,19 +1,5 @@
 -- An input gives a command one outcome, from the command's own laws.
-use Rattle.std.proofs.lemmas.Grind.{common_steps}
-use Rattle.std.proofs.Common.{◌≡◌, inl, inr, ℕ, ◌≤◌, cond, nat_lt, length, Option, Some, None, refl, sym, ap, subst, ◌∙◌}
-use Rattle.std.specs.Option.{option_map}
-use Rattle.std.proofs.lemmas.Bool.Decides.{nat_tests}
-use Rattle.std.proofs.Common.{arith}
-use Rattle.choreo_reader.specs.Context.{fault}
-use Rattle.choreo_reader.specs.Grammar.{StandsFor}
-use Rattle.choreo_reader.specs.Laws.{ShowLaw}
-use Rattle.choreo_show.specs.Plain.{PlainShow}
-use Rattle.refusals.specs.declared.refusal.Refusal.{Refusal}
-use Rattle.show_judge.specs.Outcome.{IsComplete, IsOutcomeOf, IsVerb, OutcomeLaw, ShowGives, said}
-use Rattle.show_judge.specs.Refused.{faulty, show_refusal, text_refusal}
-use Rattle.fleet_math.specs.Limits.{most_text}
-use Rattle.show_judge.specs.Shows.{Cut}
-use Rattle.show_judge.specs.Verb.{Outcome, Verb}
+use Rattle.show_judge.proofs.Prelude.{common_steps, ◌≡◌, inl, inr, ℕ, ◌≤◌, cond, nat_lt, length, Option, Some, None, refl, sym, ap, subst, ◌∙◌, option_map, nat_tests, arith, fault, StandsFor, ShowLaw, PlainShow, Refusal, IsComplete, IsOutcomeOf, IsVerb, OutcomeLaw, ShowGives, said, faulty, show_refusal, text_refusal, most_text, Cut, Outcome, Verb}
 use Rattle.show_judge.proofs.TextLemmas.{none_said, stands_unrefused}
 
 show_one : (v : Verb) → IsVerb v → (r : Option Refusal) (s : PlainShow) (cut : Cut) (o p : Outcome) → ShowGives v r s cut o → ShowGives v r s cut p → o ≡ p

@@ -1,18 +1,11 @@
 -- What `certify` gives and promises.
-use Rattle.std.proofs.Common.{◌≡◌, ℕ, Result, Ok, Err, IfOk, refl, sym, ap, ◌∙◌}
+use Rattle.show_looks.proofs.Prelude.{◌≡◌, ℕ, Result, Ok, Err, IfOk, refl, sym, ap, ◌∙◌, PlainShow, Fitted, IsFitted, sent_of, FliesApart, Outcome, outcome, IsVerb, says_of}
 use Rattle.std.specs.declared.alloc.AllocError.{AllocError}
-use Rattle.choreo_show.specs.Plain.{PlainShow}
 use Rattle.cue_grid.specs.Cues.{grid_of}
-use Rattle.show_plan.specs.declared.fitted.Fitted.{Fitted}
-use Rattle.show_plan.specs.Fitting.{IsFitted}
 use Rattle.show_plan.specs.Separation.{FlyApart}
 use Rattle.show_plan.specs.Uploading.{Uploads}
 use Rattle.show_judge.specs.declared.ends.Answer.{Answer}
 use Rattle.show_judge.specs.Answers.{outcome_of}
-use Rattle.show_judge.specs.Shows.{sent_of}
-use Rattle.show_judge.specs.Verb.{FliesApart, Outcome, outcome}
-use Rattle.show_judge.specs.Outcome.{IsVerb}
-use Rattle.show_judge.proofs.HeadlineLemmas.{says_of}
 use Rattle.show_judge.proofs.PlanLemmas.{apart_of}
 use Rattle.show_looks.specs.Certify.{certify_text, certify_verb}
 

@@ -1,12 +1,8 @@
 -- What status 0 of `compile` says.
-use Rattle.std.proofs.Common.{◌≡◌, ℕ, List, Option, Some, refl, ap, subst}
+use Rattle.show_looks.proofs.Prelude.{◌≡◌, ℕ, List, Option, Some, refl, ap, subst, IsSafe, IsSafeOutcome, cut_of, sent_of, Outcome, Run, show_ways, whole_input}
 use Rattle.std.specs.Io.KnownBytes.{Appends}
 use Rattle.choreo_reader.specs.Grammar.{StandsFor}
-use Rattle.show_judge.specs.Outcome.{IsSafe, IsSafeOutcome}
 use Rattle.show_judge.specs.Runs.{Runs}
-use Rattle.show_judge.specs.Shows.{cut_of, sent_of}
-use Rattle.show_judge.specs.Verb.{Outcome, Run, show_ways}
-use Rattle.show_judge.proofs.HeadlineLemmas.{whole_input}
 use Rattle.show_looks.specs.Compile.{Headline, compile_verb}
 
 -- what was written safely is a plan that is stored

@@ -1,3 +1,4 @@
+mod Prelude
 mod ReportLemmas
 pub mod CertifyLemmas
 pub mod CompileLemmas

@@ -1,16 +1,8 @@
 -- What `play` needs of what is sent.
-use Rattle.std.proofs.Common.{◌≡◌, ℕ, List, [], ◌∷◌, map, sum, All, ap, ◌∙◌}
-use Rattle.std.proofs.lemmas.List.Elements.{All-nil, All-cons, All-head, All-tail}
-use Rattle.choreo_lines.specs.Name.{Name}
-use Rattle.choreo_show.specs.Plain.{PlainShow}
-use Rattle.integer_player.specs.Played.{duration_of, play_text}
-use Rattle.traj_codec.specs.declared.traj.Traj.{Traj}
+use Rattle.show_looks.proofs.Prelude.{common_steps, ◌≡◌, ℕ, List, [], ◌∷◌, map, sum, All, ap, ◌∙◌, arith, All-nil, All-cons, All-head, All-tail, Name, PlainShow, duration_of, play_text, Traj, Fitted, IsFitted, sent_of, words_of}
 use Rattle.traj_codec.specs.Joined.{JoinLaw, joined}
 use Rattle.traj_codec.specs.Positions.{durations}
-use Rattle.show_plan.specs.declared.fitted.Fitted.{Fitted}
-use Rattle.show_plan.specs.Fitting.{IsFitted}
 use Rattle.show_looks.specs.Reports as reports
-use Rattle.show_judge.specs.Shows.{sent_of, words_of}
 
 -- what is sent lasts as long as the cues
 pub sent_lasts : JoinLaw → (times : List ℕ) (total : ℕ) → sum times ≡ total → (ts : List Traj) → All (λ (t : Traj). durations t.segments ≡ times) ts → All (λ (t : Traj). duration_of t ≡ total) (map joined ts)
@@ -23,7 +15,4 @@ sent_lasts law times total is (t ∷ ts) lasting =
 -- the rows of what fits are those of the show
 pub rows_of : (f : Fitted) (s : PlainShow) (step : ℕ) → IsFitted f s →
     play_text f.duration step (map (λ (name : Name). name.items) f.names) f.sent ≡ play_text (reports.duration_of s) step (words_of s) (sent_of s)
-rows_of f s step is =
-    ap (λ (total : ℕ). play_text total step (map (λ (name : Name). name.items) f.names) f.sent) is.duration
-    ∙ ap (λ (names : List Name). play_text (reports.duration_of s) step (map (λ (name : Name). name.items) names) f.sent) is.names
-    ∙ ap (λ (ts : List Traj). play_text (reports.duration_of s) step (words_of s) ts) is.sent
+rows_of f s step is = grind (arith, common_steps)

@@ -1,15 +1,7 @@
 -- The numbers of what fits are those of the show.
-use Rattle.std.proofs.Common.{◌≡◌, ℕ, ◌+◌, ◌≤◌, List, [], ◌∷◌, map, All, refl, ap, ◌∙◌, arith}
-use Rattle.std.proofs.lemmas.List.Elements.{All-nil, All-cons, All-head, All-tail}
-use Rattle.choreo_lines.specs.Name.{Name}
-use Rattle.choreo_show.specs.Plain.{PlainShow}
-use Rattle.crtp_packets.specs.Chunks.{chunk_count_of}
+use Rattle.show_looks.proofs.Prelude.{◌≡◌, ℕ, ◌+◌, ◌≤◌, List, [], ◌∷◌, map, All, refl, ap, ◌∙◌, arith, All-nil, All-cons, All-head, All-tail, Name, PlainShow, chunk_count_of, Traj, Fitted, IsFitted, size, packets_for, report_of, cues_in, nodes_of, sent_of, words_of}
 use Rattle.report_text.specs.Report.{Report}
-use Rattle.traj_codec.specs.declared.traj.Traj.{Traj}
-use Rattle.show_plan.specs.declared.fitted.Fitted.{Fitted}
-use Rattle.show_plan.specs.Fitting.{IsFitted, size}
-use Rattle.show_looks.specs.Reports.{duration_of, packets_for, report_of}
-use Rattle.show_judge.specs.Shows.{cues_in, nodes_of, sent_of, words_of}
+use Rattle.show_looks.specs.Reports.{duration_of}
 
 -- the packets of this many bytes: their writes and a define
 abbrev pub packets_of : ℕ → ℕ

@@ -34,8 +34,7 @@ unfoldable pub use Rattle.halving.specs.Part.{polar}
 pub use Rattle.halving.specs.Part.{part_value}
 pub use Rattle.sep_parts.specs.Apart.{AreApart, AreTogether, MovesWithin, aside, between, gap, square, way}
 pub use Rattle.traj_codec.specs.Joined.{IsLasting, own}
-unfoldable pub use Rattle.traj_codec.specs.Positions.{decoded}
-pub use Rattle.traj_codec.specs.Positions.{durations, element_on, piece_on, pieces_on, points, value_after}
+pub use Rattle.traj_codec.specs.Positions.{decoded, durations, element_on, piece_on, pieces_on, points, value_after}
 pub use Rattle.traj_codec.specs.Spelling.{HasDuration, IsElement, IsNumber, IsSegment, IsTrajectory, stored}
 pub use Rattle.traj_codec.specs.declared.traj.Element.{Element}
 pub use Rattle.traj_codec.specs.declared.traj.Element.TheVariants.{Constant, Cubic, Linear, Seven}

@@ -28,8 +28,7 @@ pub use Rattle.sep_parts.proofs.Cauchy.{square_positive}
 pub use Rattle.sep_parts.specs.Apart.{AreApart, FlyApartExactly, gap}
 pub use Rattle.traj_codec.proofs.PositionLemmas.{decoded-points, durations_on}
 pub use Rattle.traj_codec.specs.Joined.{own}
-unfoldable pub use Rattle.traj_codec.specs.Positions.{decoded}
-pub use Rattle.traj_codec.specs.Positions.{element_on, piece_on, pieces_on, value_after}
+pub use Rattle.traj_codec.specs.Positions.{decoded, element_on, piece_on, pieces_on, value_after}
 pub use Rattle.traj_codec.specs.Spelling.{IsNumber, stored}
 pub use Rattle.traj_codec.specs.declared.traj.Element.{Element}
 pub use Rattle.traj_codec.specs.declared.traj.Segment.{Segment}

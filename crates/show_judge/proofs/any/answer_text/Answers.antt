@@ -1,8 +1,5 @@
-use Rattle.std.proofs.lemmas.Grind.{common_steps}
-use Rattle.std.proofs.Common.{ap, refl, subst, ◌∙◌, arith}
+use Rattle.show_judge.proofs.Prelude.{common_steps, ap, refl, subst, ◌∙◌, arith, Ways, EndsWell, Fits}
 use Rattle.show_judge.specs.declared.judging.Planned.TheVariants.{Fits as fits_as}
-use Rattle.show_judge.specs.declared.ways.Ways.{Ways}
-use Rattle.show_judge.specs.Answers.{EndsWell, Fits}
 use Rattle.show_judge.proofs.AnswerLemmas.{answers_fitted, answers_refused}
 use Rattle.show_judge.proofs.any.answer_text.Goals as goal
 

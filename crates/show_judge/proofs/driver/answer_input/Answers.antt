@@ -1,4 +1,4 @@
-use Rattle.show_judge.specs.Verb.{of_show}
+use Rattle.show_judge.proofs.Prelude.{of_show}
 use Rattle.show_judge.proofs.AnswerLemmas.{input_text}
 use Rattle.show_judge.proofs.driver.answer_input.Goals as goal
 

@@ -1,5 +1,4 @@
-use Rattle.std.proofs.lemmas.Grind.{common_steps}
-use Rattle.std.proofs.Common.{arith}
+use Rattle.show_judge.proofs.Prelude.{common_steps, arith}
 use Rattle.show_judge.proofs.AnswerLemmas.{answers_accepted, answers_refused}
 use Rattle.show_judge.proofs.DriverLemmas.{show_verb}
 use Rattle.show_judge.proofs.driver.answer_text.Goals as goal

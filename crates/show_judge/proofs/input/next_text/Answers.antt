@@ -1,5 +1,4 @@
-use Rattle.std.proofs.lemmas.Grind.{common_steps}
-use Rattle.std.proofs.Common.{arith}
+use Rattle.show_judge.proofs.Prelude.{common_steps, arith}
 use Rattle.show_judge.proofs.FewLemmas.{few_after_long, stream_new}
 use Rattle.show_judge.proofs.input.next_text.Goals as goal
 

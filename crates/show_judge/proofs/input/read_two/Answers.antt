@@ -1,7 +1,4 @@
-use Rattle.std.proofs.lemmas.Grind.{common_steps}
-use Rattle.fleet_io.proofs.TakenLemmas.{TakesFront-trans}
-use Rattle.std.proofs.Common.{ap, arith}
-use Rattle.fleet_io.specs.Held.{Held}
+use Rattle.show_judge.proofs.Prelude.{common_steps, TakesFront-trans, ap, arith, Held}
 use Rattle.show_judge.proofs.ReadLemmas.{few_both, little_two}
 use Rattle.show_judge.proofs.FewLemmas.{stream_new}
 use Rattle.show_judge.proofs.input.read_two.Goals as goal

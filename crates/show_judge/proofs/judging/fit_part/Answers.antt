@@ -1,5 +1,4 @@
-use Rattle.std.proofs.Common.{◌∙◌, sym}
-use Rattle.choreo_show.specs.Plain.{plain}
+use Rattle.show_judge.proofs.Prelude.{◌∙◌, sym, plain}
 use Rattle.show_judge.proofs.PlanLemmas.{plan_of_text}
 use Rattle.show_judge.proofs.judging.fit_part.Goals as goal
 

@@ -1,5 +1,4 @@
-use Rattle.std.proofs.Common.{refl, sym}
-use Rattle.choreo_show.specs.Plain.{plain}
+use Rattle.show_judge.proofs.Prelude.{refl, sym, plain}
 use Rattle.show_judge.proofs.PlanLemmas.{cut_at, fits_as, no_marker}
 use Rattle.show_judge.proofs.RefusalLemmas.{fits_early, marker_refused, search_left}
 use Rattle.show_judge.proofs.judging.fit_show.Goals as goal

@@ -1,5 +1,4 @@
-use Rattle.std.proofs.Common.{◌≡◌, ◌+◌, ◌≤◌, drop}
-use Rattle.show_judge.specs.Shows.{feeds, marker_number}
+use Rattle.show_judge.proofs.Prelude.{◌≡◌, ◌+◌, ◌≤◌, drop, feeds, marker_number}
 use Rattle.show_judge.proofs.refusing.marker_number.Given as goal
 
 -- the line feeds so far are counted, and those of the rest are still to come

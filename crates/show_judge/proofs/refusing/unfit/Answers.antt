@@ -1,6 +1,5 @@
-use Rattle.std.proofs.Common.{◌≡◌, ◌≤◌, arith, rules, SFits, w64, to_z, of_z}
+use Rattle.show_judge.proofs.Prelude.{◌≡◌, ◌≤◌, arith, rules, SFits, w64, to_z, of_z, plain}
 use Rattle.std.proofs.lemmas.Int.{to_z-of_z}
-use Rattle.choreo_show.specs.Plain.{plain}
 use Rattle.show_plan.specs.declared.fitted.PlanFault.TheVariants as fault
 use Rattle.show_judge.proofs.RefusalLemmas.{early_refused, refused_axis}
 use Rattle.show_judge.proofs.refusing.unfit.Goals as goal

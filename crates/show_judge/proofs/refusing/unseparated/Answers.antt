@@ -1,5 +1,4 @@
-use Rattle.std.proofs.lemmas.Grind.{common_steps}
-use Rattle.std.proofs.Common.{arith}
+use Rattle.show_judge.proofs.Prelude.{common_steps, arith}
 use Rattle.show_judge.proofs.SlotLemmas.{part_among}
 use Rattle.show_judge.proofs.refusing.unseparated.Goals as goal
 

@@ -1,7 +1,4 @@
-use Rattle.std.proofs.Common.{◌<◌, ◌∙◌, List, length, ap, sym, arith, Some}
-use Rattle.choreo_lines.specs.Name.{Name}
-use Rattle.choreo_show.specs.Plain.{plain}
-use Rattle.choreo_show.specs.declared.show.DroneLine.{DroneLine}
+use Rattle.show_judge.proofs.Prelude.{◌<◌, ◌∙◌, List, length, ap, sym, arith, Some, Name, plain, DroneLine}
 use Rattle.refusals.specs.declared.refusal.Refusal.TheVariants as refusal
 use Rattle.show_plan.specs.declared.fitted.PlanFault.TheVariants as fault
 use Rattle.show_judge.proofs.RefusalLemmas.{late_drone, late_is, late_refused, marker_refused, name_read, word_read}

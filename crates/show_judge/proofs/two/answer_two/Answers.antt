@@ -1,10 +1,4 @@
-use Rattle.std.proofs.lemmas.Grind.{common_steps}
-use Rattle.std.proofs.Common.{sym, Some, subst, arith}
-use Rattle.show_judge.specs.declared.judging.Judged.TheVariants.{Accepted}
-use Rattle.show_judge.specs.declared.ways.Ways.{Ways}
-use Rattle.show_judge.specs.Answers.{EndsJudged}
-use Rattle.show_judge.specs.Verb.{two_ways}
-use Rattle.show_judge.specs.Answers.{IsAccepted}
+use Rattle.show_judge.proofs.Prelude.{common_steps, sym, Some, subst, arith, Accepted, Ways, EndsJudged, two_ways, IsAccepted}
 use Rattle.show_judge.proofs.AnswerLemmas.{accepted_lands, two_accepted, two_refused}
 use Rattle.show_judge.proofs.two.answer_two.Goals as goal
 

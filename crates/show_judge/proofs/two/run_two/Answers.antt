@@ -1,4 +1,4 @@
-use Rattle.std.proofs.Common.{Some}
+use Rattle.show_judge.proofs.Prelude.{Some}
 use Rattle.show_judge.proofs.DriverLemmas.{two_behaves}
 use Rattle.show_judge.proofs.two.run_two.Goals as goal
 

@@ -1,7 +1,5 @@
-use Rattle.std.proofs.Common.{ℕ, List, subst, ◌∙◌}
-use Rattle.drill_show.specs.Drill.{drill_text}
+use Rattle.show_looks.proofs.Prelude.{ℕ, List, subst, ◌∙◌, drill_text, cut_of}
 use Rattle.show_judge.specs.Input.{IsShowText}
-use Rattle.show_judge.specs.Shows.{cut_of}
 use Rattle.show_looks.proofs.drilling.answer_drill.Goals as goal
 
 pub returns-clause-gives : goal.returns-clause-gives

@@ -1,7 +1,5 @@
-use Rattle.drill_show.specs.Drill.{drill_text}
-use Rattle.show_judge.proofs.UnreadLemmas.{own_behaves}
+use Rattle.show_looks.proofs.Prelude.{drill_text, own_behaves, report_of}
 use Rattle.show_looks.specs.Drilled.{drill_of}
-use Rattle.show_looks.specs.Reports.{report_of}
 use Rattle.show_looks.proofs.drilling.drill.Goals as goal
 
 pub returns : goal.returns

@@ -1,4 +1,4 @@
-use Rattle.show_judge.proofs.UnreadLemmas.{nothing_behaves}
+use Rattle.show_looks.proofs.Prelude.{nothing_behaves}
 use Rattle.show_looks.proofs.helping.tell.Goals as goal
 
 pub returns : goal.returns

@@ -1,6 +1,5 @@
-use Rattle.std.proofs.Common.{[], ◌∷◌, codes, decimal, refl, arith}
+use Rattle.show_looks.proofs.Prelude.{[], ◌∷◌, codes, decimal, refl, arith, ok_line}
 use Rattle.fleet_io.proofs.WordLaws.{words_make_line, decimal_is_word}
-use Rattle.show_looks.specs.Reports.{ok_line}
 use Rattle.show_looks.proofs.lines.ok_line.Goals as goal
 
 pub returns : goal.returns

@@ -1,5 +1,4 @@
-use Rattle.std.proofs.Common.{◌≡◌, ◌+◌, map, take}
-use Rattle.crtp_packets.specs.Chunks.{chunk_count_of}
+use Rattle.show_looks.proofs.Prelude.{◌≡◌, ◌+◌, map, take, chunk_count_of}
 use Rattle.show_looks.proofs.numbers.packets.Given as goal
 
 -- the packets so far

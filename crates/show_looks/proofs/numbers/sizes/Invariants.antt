@@ -1,5 +1,4 @@
-use Rattle.std.proofs.Common.{◌≡◌, map, take}
-use Rattle.show_plan.specs.Fitting.{size}
+use Rattle.show_looks.proofs.Prelude.{◌≡◌, map, take, size}
 use Rattle.show_looks.proofs.numbers.sizes.Given as goal
 
 -- the sizes so far

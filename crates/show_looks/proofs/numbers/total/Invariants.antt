@@ -1,4 +1,4 @@
-use Rattle.std.proofs.Common.{◌≡◌, ◌*◌, ◌≤◌, sum, take}
+use Rattle.show_looks.proofs.Prelude.{◌≡◌, ◌*◌, ◌≤◌, sum, take}
 use Rattle.show_looks.proofs.numbers.total.Given as goal
 
 -- the sum so far

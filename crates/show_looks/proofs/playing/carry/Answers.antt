@@ -1,9 +1,6 @@
-use Rattle.std.proofs.Common.{refl, ap, Err}
-use Rattle.show_looks.specs.Play.{play_verb, rows}
-use Rattle.show_judge.proofs.DriverLemmas.{show_plain, show_verb}
+use Rattle.show_looks.proofs.Prelude.{refl, ap, Err, play_verb, rows, show_plain, show_verb, during, outcome}
 use Rattle.show_judge.proofs.VerbLemmas.{outcomes}
 use Rattle.show_judge.specs.declared.ends.Failure.{Failure}
-use Rattle.show_judge.specs.Verb.{during, outcome}
 use Rattle.show_judge.proofs.JudgedLemmas.{runs_accepted, runs_failed, runs_refused}
 use Rattle.show_looks.proofs.PlayLemmas.{rows_of}
 use Rattle.show_looks.proofs.playing.carry.Goals as goal

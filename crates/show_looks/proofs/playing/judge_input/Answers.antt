@@ -1,6 +1,4 @@
-use Rattle.std.proofs.Common.{refl}
-use Rattle.show_judge.specs.Verb.{show_ways}
-use Rattle.show_judge.proofs.AnswerLemmas.{judges_text}
+use Rattle.show_looks.proofs.Prelude.{refl, show_ways, judges_text}
 use Rattle.show_looks.proofs.playing.judge_input.Goals as goal
 
 pub returns-clause-judges : goal.returns-clause-judges

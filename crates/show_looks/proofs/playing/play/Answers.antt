@@ -1,6 +1,4 @@
-use Rattle.show_judge.proofs.DriverLemmas.{show_verb}
-use Rattle.show_judge.proofs.HeadlineLemmas.{behaves_of}
-use Rattle.show_looks.specs.Play.{play_verb, rows}
+use Rattle.show_looks.proofs.Prelude.{show_verb, behaves_of, play_verb, rows}
 use Rattle.show_looks.proofs.playing.play.Goals as goal
 
 pub returns : goal.returns

@@ -1,6 +1,4 @@
-use Rattle.std.proofs.Common.{All, subst, sym, ◌∙◌, ◌≡◌}
-use Rattle.integer_player.specs.Played.{duration_of}
-use Rattle.traj_codec.specs.declared.traj.Traj.{Traj}
+use Rattle.show_looks.proofs.Prelude.{All, subst, sym, ◌∙◌, ◌≡◌, duration_of, Traj}
 use Rattle.show_looks.proofs.PlayLemmas.{sent_lasts}
 use Rattle.show_looks.proofs.playing.write_rows.Goals as goal
 
