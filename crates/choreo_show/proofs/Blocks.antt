@@ -30,10 +30,6 @@ pub repeat_is : (line times : ℕ) (v : Vec Block Global) (rest : Body) → bloc
 repeat_is line times v rest =
     ap (λ b. block_of b rest) (sym (block.rolls-Repeat line times v)) ∙ ap (λ (f : Body → Body). f rest) (block_roll (layer.Repeat line times v))
 
-pub perform_is : (line : ℕ) (figure : Name) (frame : Frame) (drones : List Name) (rest : Body) → block_of (block.Perform line figure frame drones) rest ≡ plain.Perform line figure frame drones rest
-perform_is line figure frame drones rest =
-    ap (λ b. block_of b rest) (sym (block.rolls-Perform line figure frame drones)) ∙ ap (λ (f : Body → Body). f rest) (block_roll (layer.Perform line figure frame drones))
-
 step_then : (x : Block-F (Body → Body)) (rest : Body) → block_step x rest ≡ block_step x plain.Done ⨾ rest
 step_then (layer.Cue line ms acts) rest = refl
 step_then (layer.Repeat line times v) rest = refl

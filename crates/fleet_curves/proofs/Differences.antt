@@ -57,11 +57,6 @@ same_default [] i d e inside = absurd (omega arith)
 same_default (x ∷ xs) zero d e inside = refl
 same_default (x ∷ xs) (suc i) d e inside = same_default xs i d e (omega arith)
 
-pub differences_at : (xs : List (List (Bez 8))) (i j : ℕ) (second first : List (Bez 8)) → j < length xs → i < length xs → second ≡ get_or xs j second → first ≡ get_or xs i first →
-    (less second first 0 ∷ less second first 1 ∷ less second first 2 ∷ [])
-    ≡ (less (get_or xs j []) (get_or xs i []) 0 ∷ less (get_or xs j []) (get_or xs i []) 1 ∷ less (get_or xs j []) (get_or xs i []) 2 ∷ [])
-differences_at xs i j second first j_in i_in second_is first_is = grind (arith, common_steps, same_default)
-
 pub same_curves : (a b c : Bez 8) (x y z : List ℤ) → a.b ≡ x → b.b ≡ y → c.b ≡ z →
     ◌≡◌ {A = List (Bez 8)} (a ∷ b ∷ c ∷ []) (record { b = x } ∷ record { b = y } ∷ record { b = z } ∷ [])
 same_curves a b c x y z p q r =

@@ -12,11 +12,6 @@ Appends-append (Some a) None c xs ys p q = absurd p
 Appends-append (Some a) (Some b) None xs ys p q = absurd q
 Appends-append (Some a) (Some b) (Some c) xs ys p q = q ∙ ap (λ (z : List ℕ). z ++ ys) p ∙ append_assoc a xs ys
 
--- no bytes went out
-pub Appends-nil : (a : Option (List ℕ)) → Appends a a []
-Appends-nil None = tt
-Appends-nil (Some a) = sym (append-nil a)
-
 -- what a write takes is no longer in the rest
 pub HasSent-more : (a b c : Option (List ℕ)) (bytes rest : List ℕ) (n : ℕ) → HasSent a b bytes rest → Appends b c (take n rest) → HasSent a c bytes (drop n rest)
 HasSent-more a b c bytes rest n p q = (

@@ -108,4 +108,3 @@ part-within e m k f b inside small within =
     let e1 : power s (7 - k) *ℤ (power s k *ℤ b) ≡ pos (2 ^ (7 * e)) *ℤ b =
     sym (mul_assoc_ℤ (power s (7 - k)) (power s k) b) ∙ ap (λ (z : ℤ). z *ℤ b) (mul_comm_ℤ (power s (7 - k)) (power s k) ∙ power_split s k small ∙ power_seven e) in
     rw e1 at outer
-

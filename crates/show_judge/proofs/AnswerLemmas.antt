@@ -91,11 +91,6 @@ apart_of_show c cut f fits apart =
     let of_show : FlyApart fits.s.settings (sent_of fits.s) = subst (λ (e : Settings). FlyApart e (sent_of fits.s)) fits.fitted.settings (subst (FlyApart f.settings) fits.fitted.sent apart) in
     record { apart = of_show; uploads = fits.uploads of_show }
 
-pub apart_promised : (c : Verb) (cut : Cut) (f : Fitted) (result : Result Answer AllocError) → ((s : PlainShow) → FliesApart s → c.promises s cut) → (fits : Fits c.ways cut f) →
-    IfOk result (λ a. (outcome_of a).status ≡ 0 → FlyApart f.settings f.sent) → IfOk result (λ a. (outcome_of a).status ≡ 0 → c.promises fits.s cut)
-apart_promised c cut f (Err e) promises fits apart = tt
-apart_promised c cut f (Ok a) promises fits apart = λ done. promises fits.s (apart_of_show c cut f fits (apart done))
-
 pub answers_fitted : (c : Verb) (d : Option ℕ) (text : Text) (f : Fitted) (result : Result Answer AllocError) → c.ways.by_frames ≡ false → c.ways.depth ≡ d →
     ((cut : Cut) → IsShowText text cut → Fits c.ways cut f) → ((s : PlainShow) (cut : Cut) → IsFitted f s → IfOk result (λ a. ShowGives c (blocked_by d s) s cut (outcome_of a))) →
     ((cut : Cut) → IsShowText text cut → (fits : Fits c.ways cut f) → IfOk result (λ a. (outcome_of a).status ≡ 0 → c.promises fits.s cut)) → IfOk result IsSaid → IsUnmarked text →

@@ -20,11 +20,6 @@ few_both None mid after show whole goes few = tt
 few_both (Some all) mid after TooLarge whole goes few = absurd whole
 few_both (Some all) mid after (Whole part) whole goes few = rw goes at few
 
--- nothing was taken
-pub takes_nothing : (left : Option (List ℕ)) (most : ℕ) → TakesAtMost most left left
-takes_nothing None most = tt
-takes_nothing (Some x) most = omega arith
-
 -- after a show's text that is too long nothing is taken
 pub little_two : (left mid after : Option (List ℕ)) (show : Text) → IsNextText most_text show left → TakesOneText left mid → ((IsWholeText show → ⊥) → after ≡ mid) →
     IfSome left (λ all. most_text < length (part_of all)) → TakesOneText left after

@@ -7,4 +7,3 @@ pub mod Verb
 pub mod Outcome
 pub mod Runs
 pub mod Answers
-pub mod Prelude

@@ -43,9 +43,6 @@ names_counted (d ∷ ds) = ap suc (names_counted ds)
 
 -- ---- bytes
 
-pub encoding_size : (bytes : List ℕ) (t : Traj) → IsEncoding bytes t → length bytes ≡ size t
-encoding_size bytes t is = ap (λ (xs : List ℕ). length xs) (is.ended ∙ ap (λ (spelled : List ℕ). spelled ++ ending) is.spells.text)
-
 -- where each trajectory can be sent, its bytes have room
 all_fit : (space d : ℕ) (ts : List Traj) → first_unsendable space d ts ≡ None → All (λ (t : Traj). size t ≤ space) ts
 all_fit space d [] none = All-nil (λ (t : Traj). size t ≤ space)

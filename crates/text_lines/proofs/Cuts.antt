@@ -7,13 +7,6 @@ use Rattle.std.proofs.lemmas.List.Sums.{fails_before_first, position_or_len_is, 
 pub position_within : (p : ℕ → Bool) (xs : List ℕ) → position_or_len p xs ≤ length xs
 position_within p xs = prefix_len-le-length (λ x. not (p x)) xs
 
--- the place that `position` finds, or the length
-pub unwrap_position : (p : ℕ → Bool) (xs : List ℕ) (o : Option ℕ) → o ≡ cond (ltb (position_or_len p xs) (length xs)) (Some (position_or_len p xs)) None → unwrap_or o (length xs) ≡ position_or_len p xs
-unwrap_position p xs o is = elim (cases_lt (position_or_len p xs) (length xs)) [
-  | inl lt ↦ rw (is, lt-ltb _ _ lt) refl
-  | inr le ↦ rw (is, le-ltb _ _ le) (omega (arith, position_within p xs))
-]
-
 -- the first byte that passes is at the place that a search finds, or there is none
 pub first_found : (p : ℕ → Bool) (xs : List ℕ) (o : Option ℕ) → IsFirstByte p xs o → unwrap_or o (length xs) ≡ position_or_len p xs
 first_found p xs None none =

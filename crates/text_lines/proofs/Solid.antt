@@ -16,18 +16,6 @@ passed_one bytes at next lt is plain so_far =
 pub not_blank : (b : ℕ) → 32 < b → is_blank b ≡ false
 not_blank b lt = grind (arith, nat_tests)
 
--- at the end no byte is left
-pub passed_all : (bytes : List ℕ) (at : ℕ) → length bytes ≤ at → at ≤ length bytes → IsPassed bytes at → at ≡ position_or_len is_blank bytes
-passed_all bytes at end within so_far =
-    let none : position_or_len is_blank (drop at bytes) ≡ 0 = rw (drop_all at bytes end) refl in
-    omega (arith, so_far, none)
-
--- a blank ends the word
-pub passed_blank : (bytes : List ℕ) (at : ℕ) → at < length bytes → is_blank (get_or bytes at 0) ≡ true → IsPassed bytes at → at ≡ position_or_len is_blank bytes
-passed_blank bytes at lt blank so_far =
-    let none : position_or_len is_blank (drop at bytes) ≡ 0 = rw (drop-cons bytes at 0 lt, blank) refl in
-    omega (arith, so_far, none)
-
 -- four bytes after the space are passed
 pub passed_four : (bytes : List ℕ) (at : ℕ) → at + 4 ≤ length bytes → ((k : ℕ) → at ≤ k → k < at + 4 → 32 < get_or bytes k 0) → IsPassed bytes at → IsPassed bytes (at + 4)
 passed_four bytes at within solid so_far =
