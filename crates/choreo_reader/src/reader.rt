@@ -27,9 +27,8 @@ use text_lines::{Token, split_line, word_at};
 /// How many repeats may stand inside each other (docs/LANGUAGE.md, "A repeat").
 const MOST_NESTED: usize = 8;
 
-// For how many items a list without any takes room: the lines of a cue in which each drone has one. What is left of it is
-// given back where the list is whole.
-const LEAST_ROOM: usize = MOST_DRONES;
+// For how many items a list without any takes room.
+const LEAST_ROOM: usize = 4;
 
 // The same for the lines of a cue, in which each drone has one. What is left of it is given back where the cue ends.
 const CUE_ROOM: usize = MOST_DRONES;

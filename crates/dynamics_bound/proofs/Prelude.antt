@@ -4,7 +4,7 @@ pub use Rattle.std.proofs.Math.Nat.{div-mul-le_self, pow-le-pow_right, pow-suc, 
 pub use Rattle.std.proofs.lemmas.Bool.Decides.{nat_tests}
 pub use Rattle.std.proofs.lemmas.Grind.{common_steps, div_ceil_times}
 pub use Rattle.std.proofs.lemmas.Int.{by_lt_z, ints, to_z-of_z, to_z_pos, unsigned_abs-mul}
-pub use Rattle.std.proofs.lemmas.List.{drop_more, length-map, take_all}
+pub use Rattle.std.proofs.lemmas.List.{drop_more, length-map}
 pub use Rattle.std.proofs.lemmas.List.Elements.{All-cons, All-get_or, All-head, All-nil, All-tail}
 pub use Rattle.std.proofs.lemmas.Nat.{mul-le, pow-add, pow_pos}
 pub use Rattle.std.specs.Int.{div_ceil}
@@ -13,7 +13,6 @@ unfoldable pub use Rattle.bezier_core.specs.Raised.{raised_value}
 pub use Rattle.bezier_core.specs.Raised.{raised}
 pub use Rattle.bezier_core.specs.Steps.{IsWithin}
 pub use Rattle.bezier_core.specs.declared.Bez.{Bez}
-pub use Rattle.fleet_curves.specs.Steps.{IsFormed}
 pub use Rattle.fleet_io.proofs.WordLaws.{decimal_is_word, words_make_line}
 pub use Rattle.fleet_io.specs.Words.{AreWords, IsWord, with_word, with_words}
 pub use Rattle.fleet_math.proofs.BernsteinLemmas.{bernstein-at_end, bernstein-at_zero, bernstein-same, by_lt}

@@ -8,9 +8,9 @@ ghost use Rattle.traj_codec.specs.Spelling.{HasDuration};
 ghost use Rattle.dynamics_bound.specs.Accelerations.{KeepsAcceleration, acceleration, acceleration_of, segment_acceleration};
 
 use crate::bends::widest_above;
-use crate::formed::formed_law;
 use crate::walk::Walk;
 use bezier_core::Bez;
+use fleet_curves::formed_law;
 use fleet_math::Depth;
 use traj_codec::Traj;
 

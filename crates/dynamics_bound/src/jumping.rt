@@ -6,8 +6,8 @@ ghost use Rattle.dynamics_bound.specs.Edges.{AreSame, HasVelocities, IsGreatestJ
 ghost use Rattle.dynamics_bound.specs.Steps.{greatest_before, three};
 ghost use Rattle.traj_codec.specs.declared.traj.Traj.{Traj};
 
-use crate::formed::formed_law;
 use crate::walk::Walk;
+use fleet_curves::formed_law;
 use traj_codec::Traj;
 
 /// The greatest jump of a velocity on an axis.

@@ -16,7 +16,6 @@
 mod acceleration;
 mod bends;
 mod excess;
-mod formed;
 mod jumping;
 mod lines;
 mod motion;

@@ -7,7 +7,9 @@
 
 mod curves;
 mod difference;
+mod formed;
 mod widths;
 
 pub use curves::{Curves, raised, raised_segment, row_of_four, value_after};
 pub use difference::Difference;
+pub use formed::formed_law;

@@ -10,8 +10,7 @@ pub use Rattle.std.proofs.lemmas.Option.{slice_get_within}
 pub use Rattle.std.specs.Prelude.{MatchOption, None, Option, slice_index_or, ◌⊎◌}
 pub use Rattle.bezier_core.proofs.BlendLemmas.{length_bounds, power_pos, within_mul}
 pub use Rattle.bezier_core.specs.Steps.{IsWithin}
-pub use Rattle.fleet_curves.proofs.Differences.{eight_all, list_of_seven, same_default, same_eight_numbers, three_axes}
-pub use Rattle.fleet_curves.proofs.Fleets.{all_more}
+pub use Rattle.fleet_curves.proofs.Differences.{eight_all, list_of_seven, same_default, same_eight_numbers}
 pub use Rattle.fleet_curves.proofs.Standing.{at_place, item_there, same_item, segments_of}
 pub use Rattle.fleet_curves.specs.Raised.{IsOneShow, cues_in}
 pub use Rattle.fleet_curves.specs.Steps.{IsFormed}
