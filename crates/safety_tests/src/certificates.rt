@@ -51,16 +51,14 @@ enum Outcome {
     Other,
 }
 
-// A text judged byte by byte.
+// A text judged.
 fn judged(curves: &Curves, clearance: Clearance, text: &[u8]) -> Verdict
     requires clearance { IsClearance clearance }
     requires short { length text.now ≤ most_bytes }
     ensures { VerdictGives curves.now clearance text.now result }
 {
     let mut checker = Checker::make(clearance);
-    for byte in text {
-        checker.feed(curves, *byte);
-    }
+    checker.feed(curves, text);
     checker.end(curves)
 }
 

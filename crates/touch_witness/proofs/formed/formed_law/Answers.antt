@@ -1,5 +1,5 @@
 use Rattle.touch_witness.proofs.Prelude.{All, List, subst, take_all, Traj, IsFormed}
-use Rattle.touch_witness.proofs.Prelude.{all_more}
+use Rattle.fleet_curves.proofs.Fleets.{all_more}
 use Rattle.touch_witness.proofs.formed.formed_law.Goals as goal
 
 pub loop-t-preserved : goal.loop-t-preserved
