@@ -1,6 +1,6 @@
 -- How a reader of parts asked its source, step by step.
-use Rattle.fleet_io.proofs.Prelude.{common_steps, ◌≡◌, ℕ, ◌<◌, ◌≤◌, true, false, List, [], ◌∷◌, ◌++◌, length, drop, Option, refl, sym, ap, ◌∙◌, append_assoc, append-nil, inl, inr, ◌⊎◌, arith, Consumes, Asked, without_last, has_whole_marker, buffer_bytes, Runs}
-use Rattle.fleet_io.proofs.TakenLemmas.{Consumes-append}
+use Rattle.fleet_io.proofs.Prelude.{common_steps, ◌≡◌, ℕ, ◌<◌, ◌≤◌, true, false, List, [], ◌∷◌, ◌++◌, length, drop, refl, sym, ap, ◌∙◌, append_assoc, append-nil, inl, inr, ◌⊎◌, arith, Asked, Told, Took, without_last, has_whole_marker, buffer_bytes, Runs}
+use Rattle.fleet_io.proofs.ToldLemmas.{unread}
 use Rattle.fleet_io.proofs.MarkLemmas.{Gathers}
 
 -- all but the last of these are a prefix of them
@@ -14,19 +14,19 @@ pub Gathers-unmarked : (bytes : List ℕ) (start : ℕ) → Gathers bytes start 
 Gathers-unmarked bytes start g = rw (g.lines, without_last-push g.done (drop start bytes)) g.none
 
 -- The source was asked: the call began with these first bytes, gathered these, and holds these still.
-pub record AskedYet (first bytes waiting : List ℕ) (old new : Option (List ℕ)) : Type 0 where
+pub record AskedYet (first bytes waiting : List ℕ) (old new : Told) : Type 0 where
   pub asked : Asked first old new
   pub plain : has_whole_marker first ≡ false
   pub held : first ++ (asked.before ++ asked.last) ≡ bytes ++ waiting
 
 -- The source was not asked, or it was.
-abbrev pub Asking : List ℕ → List ℕ → List ℕ → Option (List ℕ) → Option (List ℕ) → ℕ → ℕ → Type 0
-Asking first bytes waiting old new f g = ((first ≡ bytes ++ waiting) × (new ≡ old) × (g ≡ f)) ⊎ AskedYet first bytes waiting old new
+abbrev pub Asking : List ℕ → List ℕ → List ℕ → Told → Told → Type 0
+Asking first bytes waiting old new = ((first ≡ bytes ++ waiting) × (new ≡ old)) ⊎ AskedYet first bytes waiting old new
 
 -- one byte more, or none, where some bytes were waiting
-from_waiting : (first bytes waiting byte after : List ℕ) (old mid new : Option (List ℕ)) (f g h : ℕ) → Asking first bytes waiting old mid f g → new ≡ mid → h ≡ g → waiting ≡ byte ++ after → Asking first (bytes ++ byte) after old new f h
-from_waiting first bytes waiting byte after old mid new f g h asking same count is = elim asking [
-  | inl none ↦ inl (none.0 ∙ ap (λ (xs : List ℕ). bytes ++ xs) is ∙ sym (append_assoc bytes byte after), same ∙ none.1, count ∙ none.2)
+from_waiting : (first bytes waiting byte after : List ℕ) (old mid new : Told) → Asking first bytes waiting old mid → new ≡ mid → waiting ≡ byte ++ after → Asking first (bytes ++ byte) after old new
+from_waiting first bytes waiting byte after old mid new asking same is = elim asking [
+  | inl none ↦ inl (none.0 ∙ ap (λ (xs : List ℕ). bytes ++ xs) is ∙ sym (append_assoc bytes byte after), same ∙ none.1)
   | inr yet ↦ inr (record {
     asked = record { before = yet.asked.before; last = yet.asked.last; taken = rw same yet.asked.taken; most = yet.asked.most; unmarked = yet.asked.unmarked };
     plain = yet.plain;
@@ -35,13 +35,13 @@ from_waiting first bytes waiting byte after old mid new f g h asking same count 
 ]
 
 -- one byte more, or none, where no byte was waiting
-from_source : (first bytes byte after : List ℕ) (start : ℕ) (old mid new : Option (List ℕ)) (f g h : ℕ) → Gathers bytes start → Asking first bytes [] old mid f g → Consumes mid new (byte ++ after) → length (byte ++ after) ≤ buffer_bytes → Asking first (bytes ++ byte) after old new f h
-from_source first bytes byte after start old mid new f g h gathers asking taken most = elim asking [
+from_source : (first bytes byte after : List ℕ) (start : ℕ) (old mid new : Told) → Gathers bytes start → Asking first bytes [] old mid → new.given ≡ mid.given ++ (byte ++ after) → length (byte ++ after) ≤ buffer_bytes → Asking first (bytes ++ byte) after old new
+from_source first bytes byte after start old mid new gathers asking taken most = elim asking [
   | inl none ↦
       let is : first ≡ bytes = none.0 ∙ append-nil bytes in
       let plain : has_whole_marker first ≡ false = rw is (Gathers-unmarked bytes start gathers) in
       inr (record {
-        asked = record { before = []; last = byte ++ after; taken = rw (← none.1) taken; most = most; unmarked = rw (append-nil first) plain };
+        asked = record { before = []; last = byte ++ after; taken = taken ∙ ap (λ (t : Told). t.given ++ (byte ++ after)) none.1; most = most; unmarked = rw (append-nil first) plain };
         plain = plain;
         held = rw is (sym (append_assoc bytes byte after));
       })
@@ -51,7 +51,7 @@ from_source first bytes byte after start old mid new f g h gathers asking taken 
         asked = record {
           before = yet.asked.before ++ yet.asked.last;
           last = byte ++ after;
-          taken = Consumes-append old mid new (yet.asked.before ++ yet.asked.last) (byte ++ after) yet.asked.taken taken;
+          taken = taken ∙ ap (λ (g : List ℕ). g ++ (byte ++ after)) yet.asked.taken ∙ append_assoc old.given (yet.asked.before ++ yet.asked.last) (byte ++ after);
           most = most;
           unmarked = rw is (Gathers-unmarked bytes start gathers);
         };
@@ -61,42 +61,47 @@ from_source first bytes byte after start old mid new f g h gathers asking taken 
 ]
 
 -- one step: a byte more, or none
-pub Asking-step : (first bytes waiting byte after : List ℕ) (start : ℕ) (old mid new : Option (List ℕ)) (f g h : ℕ) → Gathers bytes start → Asking first bytes waiting old mid f g
-    → (0 < length waiting → (new ≡ mid) × (h ≡ g) × (waiting ≡ byte ++ after))
-    → (waiting ≡ [] → Consumes mid new (byte ++ after))
+pub Asking-step : (first bytes waiting byte after : List ℕ) (start : ℕ) (old mid new : Told) → Gathers bytes start → Asking first bytes waiting old mid
+    → (0 < length waiting → new ≡ mid)
+    → Took waiting after mid new byte
     → length (byte ++ after) ≤ buffer_bytes
-    → Asking first (bytes ++ byte) after old new f h
-Asking-step first bytes [] byte after start old mid new f g h gathers asking unasked asked most = from_source first bytes byte after start old mid new f g h gathers asking (asked refl) most
-Asking-step first bytes (w ∷ ws) byte after start old mid new f g h gathers asking unasked asked most =
-    let is = unasked (omega arith) in
-    from_waiting first bytes (w ∷ ws) byte after old mid new f g h asking is.0 is.1 is.2
+    → Asking first (bytes ++ byte) after old new
+Asking-step first bytes [] byte after start old mid new gathers asking unasked took most =
+    from_source first bytes byte after start old mid new gathers asking (took.given ∙ ap (λ (xs : List ℕ). mid.given ++ xs) took.wait) most
+Asking-step first bytes (w ∷ ws) byte after start old mid new gathers asking unasked took most =
+    let same : new ≡ mid = unasked (omega arith) in
+    let none : took.read ≡ [] = unread mid new took.read same took.given in
+    from_waiting first bytes (w ∷ ws) byte after old mid new asking same (sym (append-nil (w ∷ ws)) ∙ ap (λ (xs : List ℕ). (w ∷ ws) ++ xs) (sym none) ∙ took.wait)
 
 -- a byte more, and a run of those that wait after it
-pub Asking-runs : (first bytes waiting byte after waits gathered : List ℕ) (b start : ℕ) (old mid new : Option (List ℕ)) (f g h : ℕ) → Gathers bytes start → Asking first bytes waiting old mid f g
-    → (0 < length waiting → (new ≡ mid) × (h ≡ g) × (waiting ≡ byte ++ after))
-    → (waiting ≡ [] → Consumes mid new (byte ++ after))
+pub Asking-runs : (first bytes waiting byte after waits gathered : List ℕ) (b start : ℕ) (old mid new : Told) → Gathers bytes start → Asking first bytes waiting old mid
+    → (0 < length waiting → new ≡ mid)
+    → Took waiting after mid new byte
     → length (byte ++ after) ≤ buffer_bytes
     → byte ≡ b ∷ []
     → Runs after waits bytes gathered b
-    → Asking first gathered waits old new f h
-Asking-runs first bytes waiting byte after waits gathered b start old mid new f g h gathers asking unasked asked most is runs =
+    → Asking first gathered waits old new
+Asking-runs first bytes waiting byte after waits gathered b start old mid new gathers asking unasked took most is runs =
     let put : gathered ≡ (bytes ++ byte) ++ runs.run = runs.put ∙ rw is (sym (append_assoc bytes (b ∷ []) runs.run)) in
-    let step = Asking-step first bytes waiting byte after start old mid new f g h gathers asking unasked asked most in
-    rw put (from_waiting first (bytes ++ byte) after runs.run waits old new new f h h step refl refl runs.wait)
+    let step = Asking-step first bytes waiting byte after start old mid new gathers asking unasked took most in
+    rw put (from_waiting first (bytes ++ byte) after runs.run waits old new new step refl runs.wait)
 
 -- at the beginning nothing was asked
-pub Asking-none : (first : List ℕ) (old : Option (List ℕ)) (f : ℕ) → Asking first [] first old old f f
-Asking-none first old f = inl (refl, refl, refl)
+pub Asking-none : (first : List ℕ) (old : Told) → Asking first [] first old old
+Asking-none first old = inl (refl, refl)
 
 -- what is promised of asking, and of a call that began with a whole marker line
-pub promised : (first bytes waiting : List ℕ) (old new : Option (List ℕ)) (f g : ℕ) → Asking first bytes waiting old new f g → (((new ≡ old) × (g ≡ f)) ⊎ Asked first old new) × (has_whole_marker first ≡ true → (new ≡ old) × (g ≡ f))
-promised first bytes waiting old new f g asking = grind (arith, common_steps)
+pub promised : (first bytes waiting : List ℕ) (old new : Told) → Asking first bytes waiting old new → ((new ≡ old) ⊎ Asked first old new) × (has_whole_marker first ≡ true → new ≡ old)
+promised first bytes waiting old new asking = elim asking [
+  | inl none ↦ (inl none.1, λ _. none.1)
+  | inr yet ↦ (inr yet.asked, λ is. absurd (let e : false ≡ true = sym yet.plain ∙ is in cc))
+]
 
 -- what is promised after one more step
-pub promised_after : (first bytes waiting byte after : List ℕ) (start : ℕ) (old mid new : Option (List ℕ)) (f g h : ℕ) → Gathers bytes start → Asking first bytes waiting old mid f g
-    → (0 < length waiting → (new ≡ mid) × (h ≡ g) × (waiting ≡ byte ++ after))
-    → (waiting ≡ [] → Consumes mid new (byte ++ after))
+pub promised_after : (first bytes waiting byte after : List ℕ) (start : ℕ) (old mid new : Told) → Gathers bytes start → Asking first bytes waiting old mid
+    → (0 < length waiting → new ≡ mid)
+    → Took waiting after mid new byte
     → length (byte ++ after) ≤ buffer_bytes
-    → (((new ≡ old) × (h ≡ f)) ⊎ Asked first old new) × (has_whole_marker first ≡ true → (new ≡ old) × (h ≡ f))
-promised_after first bytes waiting byte after start old mid new f g h gathers asking unasked asked most =
-    promised first (bytes ++ byte) after old new f h (Asking-step first bytes waiting byte after start old mid new f g h gathers asking unasked asked most)
+    → ((new ≡ old) ⊎ Asked first old new) × (has_whole_marker first ≡ true → new ≡ old)
+promised_after first bytes waiting byte after start old mid new gathers asking unasked took most =
+    promised first (bytes ++ byte) after old new (Asking-step first bytes waiting byte after start old mid new gathers asking unasked took most)

@@ -1,5 +1,5 @@
 -- What comes next of a part, from the bytes that wait.
-use Rattle.fleet_io.proofs.Prelude.{common_steps, ◌≡◌, ℕ, zero, suc, ◌<◌, Bool, true, false, cond, eqb, ◌||◌, get_or, List, [], ◌∷◌, ◌++◌, length, take, drop, append_assoc, append-nil, Option, Some, None, refl, sym, ap, ◌∙◌, inl, inr, ◌⊎◌, arith, IfSome, IsTrue, Keeps, IsAtEnd, prepend_known, position_or_len, cases_Bool, take-append-drop, bytes_eq-Decides, is_marker, ArePlain, AsksNext, begins_after, first_piece, is_marked_here, is_untold, may_be_marker, plain_len}
+use Rattle.fleet_io.proofs.Prelude.{common_steps, ◌≡◌, ℕ, zero, suc, ◌+◌, ◌<◌, Bool, true, false, cond, eqb, ◌||◌, get_or, List, [], ◌∷◌, ◌++◌, length, take, drop, append_assoc, append-nil, Option, Some, None, refl, sym, ap, ◌∙◌, inl, inr, ◌⊎◌, arith, IfSome, IsTrue, Keeps, IsAtEnd, prepend_known, position_or_len, cases_Bool, take-append-drop, drop_all, bytes_eq-Decides, is_marker, ArePlain, AsksNext, after_piece, begins_after, first_piece, is_marked_here, is_untold, may_be_marker, plain_len}
 use Rattle.fleet_io.specs.declared.parts.Ask.TheVariants as ask
 
 -- ---- the first line
@@ -96,6 +96,42 @@ asks_bytes at_line (Some all) (Some rest) (b ∷ waiting) count some is same why
     let after : List ℕ = drop run waiting ++ rest in
     let whole : (b ∷ waiting) ++ rest ≡ b ∷ take run waiting ++ after = ap (λ (xs : List ℕ). b ∷ (xs ++ rest)) (sym (take-append-drop run waiting)) ∙ ap (λ (xs : List ℕ). b ∷ xs) (append_assoc (take run waiting) (drop run waiting) rest) in
     rw is (after, sym same ∙ whole, refl, (ap (is_marked_here at_line) (sym whole) ∙ no_marker at_line (b ∷ waiting) rest why off, run_plain waiting after (eqb b 10)))
+
+-- what stands after the first line
+after : (bytes more : List ℕ) → (after_piece (bytes ++ more) ≡ drop (length (first_piece bytes) + 1) bytes ++ more) ⊎ ((first_piece bytes ≡ bytes) × (after_piece bytes ≡ []))
+after [] more = inr (refl, refl)
+after (b ∷ bytes) more = elim (cases_Bool (eqb b 10)) [
+  | inl feed ↦ inl (rw feed refl)
+  | inr other ↦
+      let long : length (b ∷ first_piece bytes) + 1 ≡ suc (length (first_piece bytes) + 1) = omega arith in
+      elim (after bytes more) [
+        | inl is ↦ inl (rw (other, long) is)
+        | inr none ↦ inr (rw other (ap (λ (xs : List ℕ). b ∷ xs) none.0, none.1))
+      ]
+]
+
+-- a marker line stands here
+marked_after : (waiting rest : List ℕ) → (is_untold true waiting ≡ false) ⊎ IsAtEnd (Some rest) → is_marker (first_piece waiting) ≡ true → drop (length (first_piece waiting) + 1) waiting ++ rest ≡ after_piece (waiting ++ rest)
+marked_after waiting rest why is = elim (after waiting rest) [
+  | inl has ↦ sym has
+  | inr none ↦ elim (told waiting rest why) [
+    | inl off ↦
+        let may : may_be_marker waiting ≡ true = marker_front waiting [] (ap is_marker (append-nil waiting ∙ sym none.0) ∙ is) in
+        absurd (let e : false ≡ true = sym off ∙ may in cc)
+    | inr nil ↦
+        let gone : drop (length (first_piece waiting) + 1) waiting ≡ [] = drop_all (length (first_piece waiting) + 1) waiting (omega (arith, ap length none.0)) in
+        rw (nil, gone, append-nil waiting) (sym none.1)
+  ]
+]
+
+pub asks_marker : (at_line : Bool) (old left : Option (List ℕ)) (waiting waits : List ℕ) → Keeps old (prepend_known waiting left) →
+    (is_untold at_line waiting ≡ false) ⊎ IsAtEnd left → is_marked_here at_line waiting ≡ true → waits ≡ drop (length (first_piece waiting) + 1) waiting →
+    IfSome old (λ all. AsksNext ask.Marker at_line all waits left)
+asks_marker at_line None left waiting waits same why is skips = tt
+asks_marker at_line (Some all) None waiting waits same why is skips = absurd same
+asks_marker false (Some all) (Some rest) waiting waits same why is skips = absurd (let e : false ≡ true = is in cc)
+asks_marker true (Some all) (Some rest) waiting waits same why is skips =
+    rw (← same, skips) (settled waiting rest (told waiting rest why) ∙ is, ap Some (marked_after waiting rest why is))
 
 -- whether a line begins after bytes is told by the last of them
 pub last_tells : (at_line : Bool) (bytes : List ℕ) (n : ℕ) → n < length bytes → begins_after at_line (take (suc n) bytes) ≡ eqb (get_or bytes n 0) 10

@@ -3,6 +3,7 @@ pub mod SentLemmas
 pub mod TextLemmas
 pub mod FoundLemmas
 pub mod TakenLemmas
+pub mod ToldLemmas
 pub mod GoingLemmas
 pub mod CutLemmas
 pub mod MarkLemmas
@@ -15,3 +16,4 @@ pub mod MarkerLaws
 pub mod ReadingLemmas
 pub mod PartLemmas
 pub mod ByteLemmas
+mod Walks

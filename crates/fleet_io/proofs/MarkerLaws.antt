@@ -1,9 +1,9 @@
 -- A marker line with its line feed cuts a text, whatever comes after it.
-use Rattle.fleet_io.proofs.Prelude.{common_steps, ◌≡◌, ℕ, Bool, true, false, cond, eqb, ◌||◌, List, [], ◌∷◌, ◌++◌, drop, Option, refl, sym, ap, ◌∙◌, append_assoc, append-nil, arith, join_with_byte, Result, Ok, Err, IfOk, Consumes, join_with_byte-slice_split, between_feeds, is_marker, has_marker, lines_before, lines_after, ended, part_of, rest_of, Part, IoFault, has_whole_marker, without_last, MarkerLaw, TakesMarked}
+use Rattle.fleet_io.proofs.Prelude.{common_steps, ◌≡◌, ℕ, Bool, true, false, cond, eqb, ◌||◌, List, [], ◌∷◌, ◌++◌, drop, refl, sym, ap, ◌∙◌, append_assoc, append-nil, arith, join_with_byte, Result, Ok, Err, IfOk, join_with_byte-slice_split, between_feeds, is_marker, has_marker, lines_before, lines_after, ended, part_of, rest_of, Part, IoFault, has_whole_marker, without_last, MarkerLaw, TookMarked, Told, Took}
 use Rattle.fleet_io.proofs.AskingLemmas.{without_last-push}
 use Rattle.fleet_io.proofs.CutLemmas.{IsFull-split, split-goes_on}
 use Rattle.fleet_io.proofs.MarkLemmas.{Gathers}
-use Rattle.fleet_io.proofs.TakenLemmas.{Consumes-append}
+use Rattle.fleet_io.proofs.ToldLemmas.{Took-trans}
 
 -- ---- what was gathered up to the line feed of a marker line
 
@@ -23,9 +23,9 @@ Gathers-marked bytes start g is =
     rw (plain, without_last-push (g.done ++ drop start bytes ∷ []) []) (any-last g.done (drop start bytes) is)
 
 -- a marker line that ended a part with its line feed
-pub fed_marked : (old mid new : Option (List ℕ)) (bytes : List ℕ) (start : ℕ) → Consumes old mid bytes → Consumes mid new (10 ∷ []) → is_marker (drop start bytes) ≡ true → Gathers bytes start →
-    TakesMarked old new
-fed_marked old mid new bytes start before now is g = (bytes ++ 10 ∷ [], Consumes-append old mid new bytes (10 ∷ []) before now, Gathers-marked bytes start g is)
+pub fed_marked : (a b c : List ℕ) (t u v : Told) (bytes : List ℕ) (start : ℕ) → Took a b t u bytes → Took b c u v (10 ∷ []) → is_marker (drop start bytes) ≡ true → Gathers bytes start →
+    TookMarked a c t v
+fed_marked a b c t u v bytes start before now is g = (bytes ++ 10 ∷ [], Took-trans a b c t u v bytes (10 ∷ []) before now, Gathers-marked bytes start g is)
 
 -- a part that is given, whose marker line has this
 pub ok_marked : (result : Result Part IoFault) (P : Type 0) → P → IfOk result (λ part. part.marker ≡ true → P)

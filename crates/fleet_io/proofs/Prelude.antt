@@ -1,5 +1,5 @@
 -- What the proofs of this crate cite from elsewhere, passed on from one place. Declares nothing.
-pub use Rattle.std.proofs.Common.{Bool, List, None, Option, Some, [], ap, append-nil, append_assoc, arith, cond, drop, eqb, false, flat_map, get_or, inl, inr, length, length-append, ltb, map, min, negsuc, pos, refl, suc, sym, take, true, zero, ℕ, ℤ, ◌%◌, ◌&&◌, ◌++◌, ◌+◌, ◌-◌, ◌<◌, ◌^◌, ◌||◌, ◌∙◌, ◌∷◌, ◌≡◌, ◌≤◌, ◌⊎◌}
+pub use Rattle.std.proofs.Common.{Bool, List, None, Option, Some, [], ap, append-nil, append_assoc, arith, cond, drop, eqb, false, flat_map, get_or, inl, inr, length, length-append, ltb, map, min, negsuc, pos, refl, subst, suc, sym, take, true, zero, ℕ, ℤ, ◌%◌, ◌&&◌, ◌++◌, ◌+◌, ◌-◌, ◌<◌, ◌^◌, ◌||◌, ◌∙◌, ◌∷◌, ◌≡◌, ◌≤◌, ◌⊎◌}
 pub use Rattle.std.proofs.KnownBytes.{Consumes-kept, Keeps-refl, Keeps-trans}
 pub use Rattle.std.proofs.Math.Seq.{take-append-add}
 pub use Rattle.std.proofs.lemmas.Bool.{cases_Bool, cases_lt, eqb-true, ne_eqb}
@@ -15,9 +15,9 @@ unfoldable pub use Rattle.text_lines.specs.Marker.{part_of, rest_of}
 pub use Rattle.text_lines.specs.Marker.{ended, has_marker, is_marker, lines_after, lines_before}
 pub use Rattle.fleet_io.specs.Held.{Asked, Held, buffer_bytes, given, has_whole_marker, stream, without_last}
 pub use Rattle.fleet_io.specs.PartBytes.{ArePlain, AsksNext, PartLaw, after_piece, begins_after, first_piece, is_marked_here, is_marked_left, is_untold, may_be_marker, part_left, plain_len, rest_left}
-pub use Rattle.fleet_io.specs.Parts.{MarkerLaw, TakesFewAfter, TakesMarked, TakesPart}
-pub use Rattle.fleet_io.specs.Steps.{Goes, Refills, Runs}
-pub use Rattle.fleet_io.specs.Taken.{TakesAtMost, TakesFront}
+pub use Rattle.fleet_io.specs.Parts.{MarkerLaw, TakesFewAfter, TakesPart, TookMarked}
+pub use Rattle.fleet_io.specs.Steps.{Goes, Runs}
+pub use Rattle.fleet_io.specs.Told.{MayGive, Reads, Told, Took, Went, gave, to_come}
 unfoldable pub use Rattle.fleet_io.specs.Words.{with_word}
 pub use Rattle.fleet_io.specs.Words.{AreWords, IsWord, hex_digit, hex_word, is_line_empty, line, with_hex, with_words}
 pub use Rattle.fleet_io.specs.declared.parts.IoFault.{IoFault}

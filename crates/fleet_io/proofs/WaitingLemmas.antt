@@ -1,5 +1,5 @@
 -- The bytes that wait in a buffer.
-use Rattle.fleet_io.proofs.Prelude.{common_steps, ◌≡◌, ℕ, ◌+◌, ◌-◌, ◌≤◌, min, List, ◌++◌, length, take, drop, append_assoc, length-append, Option, Some, None, refl, sym, ap, ◌∙◌, arith, copy_within, Consumes, Keeps, prepend_known, cases_lt, take-append-add, drop_all, drop-drop, drop-take, length-drop, length-take, length-take-le, take_at, take-take, Refills}
+use Rattle.fleet_io.proofs.Prelude.{common_steps, ◌≡◌, ℕ, ◌+◌, ◌-◌, ◌≤◌, min, List, ◌++◌, length, take, drop, length-append, refl, sym, ap, ◌∙◌, arith, copy_within, cases_lt, take-append-add, drop_all, drop-drop, drop-take, length-drop, length-take, length-take-le, take_at, take-take}
 use Rattle.std.proofs.lemmas.Slice.{take-put_mid, take-put_mid_below}
 use borrow.Rule.Slice.PartMut.{put_mid}
 
@@ -27,15 +27,6 @@ moved buf shifted given start end n k order within is long few =
     ∙ ap (λ (xs : List ℕ). take (size + n) xs) (whole ∙ ap (λ (xs : List ℕ). xs ++ given) kept)
     ∙ ap (λ (m : ℕ). take (m + n) (front ++ given)) (sym sized) ∙ take-append-add front given n
     ∙ ap (λ (xs : List ℕ). xs ++ take n given) (between_is start end buf order)
-
--- what was read is still to come
-Keeps-read : (waiting given : List ℕ) (old new : Option (List ℕ)) → Consumes old new given → Keeps (prepend_known waiting old) (prepend_known (waiting ++ given) new)
-Keeps-read waiting given None new is = tt
-Keeps-read waiting given (Some old) None is = absurd is
-Keeps-read waiting given (Some old) (Some new) is = append_assoc waiting given new ∙ ap (λ (xs : List ℕ). waiting ++ xs) (sym is)
-
-pub Keeps-refilled : (waited waits : List ℕ) (old new : Option (List ℕ)) → Refills waited waits old new → Keeps (prepend_known waited old) (prepend_known waits new)
-Keeps-refilled waited waits old new r = rw r.wait (Keeps-read waited r.bytes old new r.taken)
 
 -- what waits where a read after what was moved to the front failed
 pub unmoved : (buf shifted given : List ℕ) (start end k : ℕ) → start ≤ end → end ≤ length buf → shifted ≡ copy_within buf start end 0 →

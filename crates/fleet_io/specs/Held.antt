@@ -1,6 +1,7 @@
 -- What a reader of parts holds, and how it asks its source.
 use Rattle.std.specs.Prelude.{◌≡◌, ℕ, ◌≤◌, List, [], ◌∷◌, ◌++◌, length, Bool, false, Option, Some, None, Result, Ok, Err}
-use Rattle.std.specs.Io.KnownBytes.{prepend_known, Consumes}
+use Rattle.std.specs.Io.KnownBytes.{prepend_known}
+use Rattle.fleet_io.specs.Told.{Told}
 use Rattle.text_lines.specs.Lines.{between_feeds}
 use Rattle.text_lines.specs.Marker.{has_marker}
 
@@ -40,10 +41,10 @@ has_whole_marker bytes = has_marker (without_last (between_feeds bytes))
 
 -- A call that began with these waiting bytes asked its source, and each time what it held had no whole marker line:
 -- when it asked last it had taken the bytes before, and then it got the last ones.
-pub record Asked (waiting : List ℕ) (old new : Option (List ℕ)) : Type 0 where
+pub record Asked (waiting : List ℕ) (old new : Told) : Type 0 where
   pub before : List ℕ
   pub last : List ℕ
-  pub taken : Consumes old new (before ++ last)
+  pub taken : new.given ≡ old.given ++ (before ++ last)
   pub most : length last ≤ buffer_bytes
   pub unmarked : has_whole_marker (waiting ++ before) ≡ false
 

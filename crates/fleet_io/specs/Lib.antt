@@ -1,4 +1,5 @@
 pub mod Causes
+pub mod Told
 pub mod Taken
 pub mod Held
 pub mod Parts

@@ -1,7 +1,8 @@
 -- Sources and sinks over memory: what one holds, and what a call makes of it.
-use Rattle.std.specs.Prelude.{Option, ℕ, List, ◌++◌, Bool, ◌||◌, ◌&&◌, ◌==◌, nat_lt, nat_le, length, take, drop}
+use Rattle.std.specs.Prelude.{Option, Some, ℕ, List, ◌++◌, Bool, ◌||◌, ◌&&◌, ◌==◌, nat_lt, nat_le, length, take, drop}
 use Rattle.std.specs.List.{list_any}
 use Rattle.fleet_io.specs.Causes.{counted}
+use Rattle.fleet_io.specs.Told.{Told}
 
 -- A number stands in a list.
 abbrev pub is_listed : List ℕ → ℕ → Bool
@@ -9,6 +10,8 @@ is_listed numbers n = list_any (λ m. m == n) numbers
 
 -- what a source over memory holds
 pub record MemoryIn : Type 0 where
+  -- the bytes that it has given
+  pub given : List ℕ
   -- the bytes still to come
   pub left : List ℕ
   -- the most bytes that a call gives
@@ -26,11 +29,11 @@ read_fails s = is_listed s.fails (counted s.calls)
 
 -- after a call that failed
 abbrev pub read_failed : MemoryIn → MemoryIn
-read_failed s = record { left = s.left; cut = s.cut; fails = s.fails; calls = counted s.calls; faults = counted s.faults }
+read_failed s = record { given = s.given; left = s.left; cut = s.cut; fails = s.fails; calls = counted s.calls; faults = counted s.faults }
 
 -- after a call that gave n bytes
 abbrev pub read_gave : MemoryIn → ℕ → MemoryIn
-read_gave s n = record { left = drop n s.left; cut = s.cut; fails = s.fails; calls = counted s.calls; faults = s.faults }
+read_gave s n = record { given = s.given ++ take n s.left; left = drop n s.left; cut = s.cut; fails = s.fails; calls = counted s.calls; faults = s.faults }
 
 -- what a sink over memory holds
 pub record MemoryOut : Type 0 where
@@ -72,6 +75,10 @@ sure_took s bytes = record { kept = take s.room (s.kept ++ bytes); room = s.room
 
 -- a source over a reader of std
 pub record StdIn : Type 0 where
+  -- the bytes that it has given
+  pub given : List ℕ
+  -- the last call met the reader's end
+  pub ended : Bool
   -- the bytes that the reader says are still to come
   pub remaining : Option (List ℕ)
   -- how many reads failed
@@ -79,7 +86,31 @@ pub record StdIn : Type 0 where
 
 -- a sink over a writer of std
 pub record StdOut : Type 0 where
+  -- the bytes that the writer took
+  pub written : List ℕ
   -- the bytes that the writer says it holds
   pub contents : Option (List ℕ)
   -- how many writes failed
   pub faults : ℕ
+
+-- ---- what they tell
+
+abbrev pub told_std : StdIn → Told
+told_std s = record { given = s.given; ended = s.ended; left = s.remaining; faults = s.faults }
+
+abbrev pub told_memory : MemoryIn → Told
+told_memory s = record { given = s.given; ended = length s.left == 0; left = Some s.left; faults = s.faults }
+
+-- a source over memory that never fails
+pub record SureIn : Type 0 where
+  -- the bytes that it has given
+  pub given : List ℕ
+  -- the bytes still to come
+  pub left : List ℕ
+
+abbrev pub told_sure : SureIn → Told
+told_sure s = record { given = s.given; ended = length s.left == 0; left = Some s.left; faults = 0 }
+
+-- after a call that had room for n bytes
+abbrev pub sure_gave : SureIn → ℕ → SureIn
+sure_gave s n = record { given = s.given ++ take n s.left; left = drop n s.left }

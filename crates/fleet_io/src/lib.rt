@@ -12,6 +12,7 @@
 #![tactic(auto)]
 
 mod lines;
+mod log;
 mod memory;
 mod parts;
 mod short_line;

@@ -1,9 +1,10 @@
 //! Sources and sinks over memory, with failures where they are asked for.
 ghost use Rattle.std.specs.Prelude.{◌≡◌, ◌≤◌, ◌<◌, ◌-◌, ◌++◌, [], length, take, drop, min, Some, IfOk, OnErr, is_err, vec_len, vec_capacity};
 ghost use Rattle.std.specs.Io.{ReadsAtMost};
-ghost use Rattle.std.specs.Io.KnownBytes.{ReadConsumes, WriteAppends};
+ghost use Rattle.std.specs.Io.KnownBytes.{WriteAppends};
 ghost use Rattle.fleet_io.specs.Causes.{HasCause};
-ghost use Rattle.fleet_io.specs.Memory.{read_fails, read_failed, read_gave, write_fails, write_failed, write_took, is_listed};
+ghost use Rattle.fleet_io.specs.Memory.{told_memory, read_fails, read_failed, read_gave, write_fails, write_failed, write_took, is_listed};
+ghost use Rattle.fleet_io.specs.Told.{Reads};
 
 use crate::stream::{Failed, Sink, Source};
 use std::alloc::{AllocError, Global};
@@ -40,12 +41,12 @@ pub struct MemSource {
 }
 
 impl Model for MemSource {
-    ghost use Rattle.std.specs.Prelude.{◌≤◌, drop, length};
+    ghost use Rattle.std.specs.Prelude.{◌≤◌, drop, length, take};
     ghost use Rattle.fleet_io.specs.Memory.{MemoryIn};
 
     ghost Value = { MemoryIn };
 
-    ghost view = { λ s. record { left = drop s.at s.bytes.items; cut = s.cut; fails = s.fails.items; calls = s.calls; faults = s.faults } };
+    ghost view = { λ s. record { given = take s.at s.bytes.items; left = drop s.at s.bytes.items; cut = s.cut; fails = s.fails.items; calls = s.calls; faults = s.faults } };
 
     ghost invariant = { λ s. (s.at ≤ length s.bytes.items) × (1 ≤ s.cut) };
 }
@@ -54,7 +55,7 @@ impl MemSource {
     /// A source of these bytes, of which no call was made yet.
     pub fn make(bytes: Vec<u8>, cut: usize, fails: Vec<u64>) -> MemSource
         requires { 1 ≤ cut }
-        ensures { result ≡ record { left = bytes.items; cut = cut; fails = fails.items; calls = 0; faults = 0 } }
+        ensures { result ≡ record { given = []; left = bytes.items; cut = cut; fails = fails.items; calls = 0; faults = 0 } }
     {
         MemSource {
             bytes,
@@ -68,14 +69,11 @@ impl MemSource {
 }
 
 impl Source for MemSource {
-    ghost left = { λ s. Some s.left };
-
-    ghost faults = { λ s. s.faults };
+    ghost told = { told_memory };
 
     fn read(&mut self, buf: &mut [u8]) -> Result<usize, Failed>
         ensures bound { ReadsAtMost result buf.new }
-        ensures bytes { ReadConsumes (Some self.old.left) (Some self.new.left) result buf.new }
-        ensures cause { HasCause self.old.faults self.new.faults result }
+        ensures reads { Reads (told_memory self.old) (told_memory self.new) result buf.new }
         // It fails exactly where the call's number is listed.
         ensures fails { is_err result ≡ read_fails self.old }
         ensures failed { OnErr result (self.new ≡ read_failed self.old) }

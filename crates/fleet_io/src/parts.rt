@@ -1,14 +1,13 @@
 //! The parts of an input, which marker lines divide.
 ghost use Rattle.std.specs.Prelude.{◌≡◌, ℕ, ◌<◌, ◌≤◌, ◌+◌, ◌∷◌, [], List, length, Bool, true, false, IsTrue, IfOk, IfSome, IfNone, OnOk, OnErr, IfErr, ◌++◌, ◌⊎◌, ◌==◌, ◌&&◌, if◌then◌else◌, take, drop, is_ok, Some};
 ghost use Rattle.fleet_io.specs.declared.parts.IoFault.TheVariants.{Memory};
-ghost use Rattle.std.specs.Io.KnownBytes.{Consumes, Keeps, IsAtEnd};
-ghost use Rattle.fleet_io.specs.Causes.{HasCause, Rose};
-ghost use Rattle.fleet_io.specs.Taken.{TakesAtMost, TakesFront};
+ghost use Rattle.fleet_io.specs.Causes.{Rose};
+ghost use Rattle.fleet_io.specs.Told.{MayGive, Took, Went, to_come};
 ghost use Rattle.text_lines.specs.Marker.{is_marker, part_of};
 ghost use Rattle.fleet_io.specs.Held.{stream, given, Asked, has_whole_marker, buffer_bytes, text_limit};
 ghost use Rattle.fleet_io.specs.PartBytes.{AsksNext, begins_after, begins_line, first_piece, is_marked_here, is_untold, IsWithin, may_be_marker, PartLaw, plain_len};
-ghost use Rattle.fleet_io.specs.Parts.{MarkerLaw, TakesFewAfter, TakesMarked, TakesPart};
-ghost use Rattle.fleet_io.specs.Steps.{Goes, Refills, Runs};
+ghost use Rattle.fleet_io.specs.Parts.{MarkerLaw, TakesFewAfter, TakesPart, TookMarked};
+ghost use Rattle.fleet_io.specs.Steps.{Goes, Runs};
 
 use crate::stream::{Failed, Source};
 use std::alloc::{AllocError, AllocFailed, Global};
@@ -130,16 +129,14 @@ impl Parts {
 
     // The next of the bytes to come. It asks the source only where none is waiting.
     fn next<S: Source>(&mut self, source: &mut S) -> Result<Option<u8>, Failed>
-        requires { IsTrue self.old.ended → IsAtEnd (S.left source.old) }
-        ensures some { IfOk result (λ next. IfSome next (λ byte. Consumes (stream self.old (S.left source.old)) (stream self.new (S.left source.new)) (byte ∷ []))) }
-        ensures none { IfOk result (λ next. IfNone next (IsAtEnd (stream self.old (S.left source.old)) × Keeps (stream self.old (S.left source.old)) (stream self.new (S.left source.new)) × IsTrue self.new.ended)) }
-        ensures err { OnErr result (Keeps (stream self.old (S.left source.old)) (stream self.new (S.left source.new))) }
+        requires { IsTrue self.old.ended → IsTrue (S.told source.old).ended }
+        ensures took { Took self.old.waiting self.new.waiting (S.told source.old) (S.told source.new) (given result) }
+        ensures none { IfOk result (λ next. IfNone next ((self.old.waiting ≡ []) × (self.new.waiting ≡ []) × IsTrue self.new.ended)) }
         ensures alone { OnErr result ((self.old.waiting ≡ []) × (self.new.waiting ≡ []) × (self.old.ended ≡ false)) }
-        ensures goes { Goes self.old self.new (S.left source.old) (S.left source.new) (S.faults source.old) (S.faults source.new) }
-        ensures cause { HasCause (S.faults source.old) (S.faults source.new) result }
+        ensures goes { Goes self.old self.new (S.told source.old) (S.told source.new) }
+        ensures failed { OnErr result (Rose (S.told source.old).faults (S.told source.new).faults) }
         ensures at_line { self.new.at_line ≡ self.old.at_line }
-        ensures unasked { 0 < length self.old.waiting → (S.left source.new ≡ S.left source.old) × (S.faults source.new ≡ S.faults source.old) × (self.old.waiting ≡ given result ++ self.new.waiting) }
-        ensures asked { self.old.waiting ≡ [] → Consumes (S.left source.old) (S.left source.new) (given result ++ self.new.waiting) }
+        ensures unasked { 0 < length self.old.waiting → S.told source.new ≡ S.told source.old }
         ensures most { length (given result ++ self.new.waiting) ≤ buffer_bytes }
     {
         if let Some(byte) = self.first() {
@@ -174,12 +171,12 @@ impl Parts {
     // Reads after the few bytes that wait.
     fn more<S: Source>(&mut self, source: &mut S) -> Result<(), Failed>
         requires few { length self.old.waiting < 4 }
-        requires at_end { IsTrue self.old.ended → IsAtEnd (S.left source.old) }
-        ensures refills { Refills self.old.waiting self.new.waiting (S.left source.old) (S.left source.new) }
+        requires at_end { IsTrue self.old.ended → IsTrue (S.told source.old).ended }
+        ensures took { Took self.old.waiting self.new.waiting (S.told source.old) (S.told source.new) [] }
         ensures grew { OnOk result (length self.old.waiting < length self.new.waiting ⊎ IsTrue self.new.ended) }
-        ensures failed { OnErr result ((self.new.waiting ≡ self.old.waiting) × (self.old.ended ≡ false)) }
-        ensures goes { Goes self.old self.new (S.left source.old) (S.left source.new) (S.faults source.old) (S.faults source.new) }
-        ensures cause { HasCause (S.faults source.old) (S.faults source.new) result }
+        ensures kept { OnErr result ((self.new.waiting ≡ self.old.waiting) × (self.old.ended ≡ false)) }
+        ensures goes { Goes self.old self.new (S.told source.old) (S.told source.new) }
+        ensures failed { OnErr result (Rose (S.told source.old).faults (S.told source.new).faults) }
         ensures at_line { self.new.at_line ≡ self.old.at_line }
         ensures most { length self.new.waiting ≤ buffer_bytes }
     {
@@ -201,12 +198,12 @@ impl Parts {
 
     // Reads until what waits tells what comes next of the part.
     fn fill<S: Source>(&mut self, source: &mut S) -> Result<(), Failed>
-        requires { IsTrue self.old.ended → IsAtEnd (S.left source.old) }
-        ensures keeps { Keeps (stream self.old (S.left source.old)) (stream self.new (S.left source.new)) }
+        requires { IsTrue self.old.ended → IsTrue (S.told source.old).ended }
+        ensures took { Took self.old.waiting self.new.waiting (S.told source.old) (S.told source.new) [] }
         ensures tells { OnOk result ((is_untold self.new.at_line self.new.waiting ≡ false) ⊎ IsTrue self.new.ended) }
-        ensures unasked { is_untold self.old.at_line self.old.waiting ≡ false → (self.new.waiting ≡ self.old.waiting) × (S.left source.new ≡ S.left source.old) × (S.faults source.new ≡ S.faults source.old) }
-        ensures goes { Goes self.old self.new (S.left source.old) (S.left source.new) (S.faults source.old) (S.faults source.new) }
-        ensures cause { HasCause (S.faults source.old) (S.faults source.new) result }
+        ensures unasked { is_untold self.old.at_line self.old.waiting ≡ false → (self.new.waiting ≡ self.old.waiting) × (S.told source.new ≡ S.told source.old) }
+        ensures goes { Goes self.old self.new (S.told source.old) (S.told source.new) }
+        ensures failed { OnErr result (Rose (S.told source.old).faults (S.told source.new).faults) }
         ensures at_line { self.new.at_line ≡ self.old.at_line }
         ensures most { length self.new.waiting ≤ buffer_bytes }
     {
@@ -255,19 +252,19 @@ impl Parts {
         limit: usize,
     ) -> Result<Part, IoFault>
         requires limit { limit ≤ text_limit }
-        requires at_end { IsTrue self.old.ended → IsAtEnd (S.left source.old) }
-        ensures part { IfOk result (λ part. TakesPart (stream self.old (S.left source.old)) (stream self.new (S.left source.new)) part.bytes.items part.marker) }
+        requires at_end { IsTrue self.old.ended → IsTrue (S.told source.old).ended }
+        ensures part { (all : List ℕ) → MayGive self.new.ended (S.told source.new) all → IfOk result (λ part. TakesPart (stream self.old (to_come all (S.told source.old))) (stream self.new (to_come all (S.told source.new))) part.bytes.items part.marker) }
         ensures fits { IfOk result (λ part. length part.bytes.items ≤ limit) }
-        ensures too_long { result ≡ Err IoFault.TooLong → IfSome (stream self.old (S.left source.old)) (λ all. limit < length (part_of all)) }
-        ensures read { result ≡ Err IoFault.Read → Rose (S.faults source.old) (S.faults source.new) }
-        ensures goes { Goes self.old self.new (S.left source.old) (S.left source.new) (S.faults source.old) (S.faults source.new) }
+        ensures too_long { (all : List ℕ) → MayGive self.new.ended (S.told source.new) all → result ≡ Err IoFault.TooLong → IfSome (stream self.old (to_come all (S.told source.old))) (λ comes. limit < length (part_of comes)) }
+        ensures read { result ≡ Err IoFault.Read → Rose (S.told source.old).faults (S.told source.new).faults }
+        ensures goes { Goes self.old self.new (S.told source.old) (S.told source.new) }
         ensures at_line { self.new.at_line ≡ self.old.at_line }
-        ensures unmarked { result ≡ Err IoFault.Read → (self.old.ended ≡ false) × (self.new.waiting ≡ []) × ((taken : List ℕ) × Consumes (stream self.old (S.left source.old)) (S.left source.new) taken × (has_whole_marker taken ≡ false)) }
-        ensures fed { IfOk result (λ part. part.marker ≡ true → IsTrue self.new.ended ⊎ TakesMarked (stream self.old (S.left source.old)) (stream self.new (S.left source.new))) }
+        ensures unmarked { result ≡ Err IoFault.Read → (self.old.ended ≡ false) × (self.new.waiting ≡ []) × ((taken : List ℕ) × Took self.old.waiting [] (S.told source.old) (S.told source.new) taken × (has_whole_marker taken ≡ false)) }
+        ensures fed { IfOk result (λ part. part.marker ≡ true → IsTrue self.new.ended ⊎ TookMarked self.old.waiting self.new.waiting (S.told source.old) (S.told source.new)) }
         ensures to_end { IfOk result (λ part. part.marker ≡ false → IsTrue self.new.ended) }
-        ensures asks { ((S.left source.new ≡ S.left source.old) × (S.faults source.new ≡ S.faults source.old)) ⊎ Asked self.old.waiting (S.left source.old) (S.left source.new) }
-        ensures patient { has_whole_marker self.old.waiting ≡ true → (S.left source.new ≡ S.left source.old) × (S.faults source.new ≡ S.faults source.old) }
-        ensures few { TakesAtMost (limit + 4 + buffer_bytes) (S.left source.old) (S.left source.new) }
+        ensures asks { (S.told source.new ≡ S.told source.old) ⊎ Asked self.old.waiting (S.told source.old) (S.told source.new) }
+        ensures patient { has_whole_marker self.old.waiting ≡ true → S.told source.new ≡ S.told source.old }
+        ensures few { length (S.told source.new).given ≤ length (S.told source.old).given + (limit + 4 + buffer_bytes) }
         ensures most { length self.new.waiting ≤ buffer_bytes }
     {
         let _ = &self.buf;
@@ -303,30 +300,27 @@ impl Parts {
         requires sound { IsTrue self.old.sound }
         requires lines { IsTrue self.old.lines }
         requires limit { limit ≤ text_limit }
-        requires at_end { IsTrue self.old.ended → IsAtEnd (S.left source.old) }
-        ensures part { IfOk result (λ part. TakesPart (stream self.old (S.left source.old)) (stream self.new (S.left source.new)) part.bytes.items part.marker) }
+        requires at_end { IsTrue self.old.ended → IsTrue (S.told source.old).ended }
+        ensures part { (all : List ℕ) → MayGive self.new.ended (S.told source.new) all → IfOk result (λ part. TakesPart (stream self.old (to_come all (S.told source.old))) (stream self.new (to_come all (S.told source.new))) part.bytes.items part.marker) }
         ensures fits { IfOk result (λ part. length part.bytes.items ≤ limit) }
-        ensures too_long { result ≡ Err IoFault.TooLong → IfSome (stream self.old (S.left source.old)) (λ all. limit < length (part_of all)) }
-        ensures read { result ≡ Err IoFault.Read → Rose (S.faults source.old) (S.faults source.new) }
-        ensures later { S.faults source.old ≤ S.faults source.new }
-        ensures left { TakesFront (S.left source.old) (S.left source.new) }
+        ensures too_long { (all : List ℕ) → MayGive self.new.ended (S.told source.new) all → result ≡ Err IoFault.TooLong → IfSome (stream self.old (to_come all (S.told source.old))) (λ comes. limit < length (part_of comes)) }
+        ensures read { result ≡ Err IoFault.Read → Rose (S.told source.old).faults (S.told source.new).faults }
+        ensures went { Went self.old.ended self.new.ended (S.told source.old) (S.told source.new) }
         ensures sound { self.new.sound ≡ is_ok result }
         ensures lines { self.new.lines ≡ self.old.lines }
         ensures at_line { OnOk result (self.new.at_line ≡ true) }
-        ensures unmarked { result ≡ Err IoFault.Read → (self.old.ended ≡ false) × (self.new.waiting ≡ []) × ((taken : List ℕ) × Consumes (stream self.old (S.left source.old)) (S.left source.new) taken × (has_whole_marker taken ≡ false)) }
+        ensures unmarked { result ≡ Err IoFault.Read → (self.old.ended ≡ false) × (self.new.waiting ≡ []) × ((taken : List ℕ) × Took self.old.waiting [] (S.told source.old) (S.told source.new) taken × (has_whole_marker taken ≡ false)) }
         // Where a marker line ended the part before the source's end was met, it had its line feed.
-        ensures fed { IfOk result (λ part. part.marker ≡ true → IsTrue self.new.ended ⊎ TakesMarked (stream self.old (S.left source.old)) (stream self.new (S.left source.new))) }
+        ensures fed { IfOk result (λ part. part.marker ≡ true → IsTrue self.new.ended ⊎ TookMarked self.old.waiting self.new.waiting (S.told source.old) (S.told source.new)) }
         ensures to_end { IfOk result (λ part. part.marker ≡ false → IsTrue self.new.ended) }
-        ensures at_end { IsTrue self.new.ended → IsAtEnd (S.left source.new) }
-        ensures stays_ended { IsTrue self.old.ended → IsTrue self.new.ended × (S.left source.new ≡ S.left source.old) × (S.faults source.new ≡ S.faults source.old) }
-        ensures asks { ((S.left source.new ≡ S.left source.old) × (S.faults source.new ≡ S.faults source.old)) ⊎ Asked self.old.waiting (S.left source.old) (S.left source.new) }
-        ensures patient { has_whole_marker self.old.waiting ≡ true → (S.left source.new ≡ S.left source.old) × (S.faults source.new ≡ S.faults source.old) }
+        ensures asks { (S.told source.new ≡ S.told source.old) ⊎ Asked self.old.waiting (S.told source.old) (S.told source.new) }
+        ensures patient { has_whole_marker self.old.waiting ≡ true → S.told source.new ≡ S.told source.old }
         ensures most { length self.new.waiting ≤ buffer_bytes }
         // How much it reads: in any case at most 4,096 bytes more than `limit` and a marker line; of what stands after the
         // part and its marker line at most 4,096 bytes; and to the end where no marker line is whole.
-        ensures few { TakesAtMost (limit + 4 + buffer_bytes) (S.left source.old) (S.left source.new) }
-        ensures after { IfOk result (λ _. TakesFewAfter (stream self.old (S.left source.old)) (S.left source.new)) }
-        ensures met { IfOk result (λ _. IfSome (stream self.old (S.left source.old)) (λ all. has_whole_marker all ≡ false → IsTrue self.new.ended)) }
+        ensures few { length (S.told source.new).given ≤ length (S.told source.old).given + (limit + 4 + buffer_bytes) }
+        ensures after { (all : List ℕ) → MayGive self.new.ended (S.told source.new) all → IfOk result (λ _. TakesFewAfter (stream self.old (to_come all (S.told source.old))) (to_come all (S.told source.new))) }
+        ensures met { (all : List ℕ) → MayGive self.new.ended (S.told source.new) all → IfOk result (λ _. IfSome (stream self.old (to_come all (S.told source.old))) (λ comes. has_whole_marker comes ≡ false → IsTrue self.new.ended)) }
     {
         match self.gather(alloc, source, limit) {
             Ok(part) => {
@@ -344,19 +338,16 @@ impl Parts {
     /// memory. After `Failed` the reader isn't `sound`; after a byte no part can be read.
     pub fn byte<S: Source>(&mut self, source: &mut S) -> Result<Option<u8>, Failed>
         requires sound { IsTrue self.old.sound }
-        requires at_end { IsTrue self.old.ended → IsAtEnd (S.left source.old) }
-        ensures some { IfOk result (λ next. IfSome next (λ byte. Consumes (stream self.old (S.left source.old)) (stream self.new (S.left source.new)) (byte ∷ []))) }
-        ensures none { IfOk result (λ next. IfNone next (IsAtEnd (stream self.old (S.left source.old)) × Keeps (stream self.old (S.left source.old)) (stream self.new (S.left source.new)) × IsTrue self.new.ended)) }
-        ensures err { OnErr result (Keeps (stream self.old (S.left source.old)) (stream self.new (S.left source.new))) }
+        requires at_end { IsTrue self.old.ended → IsTrue (S.told source.old).ended }
+        ensures took { Took self.old.waiting self.new.waiting (S.told source.old) (S.told source.new) (given result) }
+        ensures none { IfOk result (λ next. IfNone next ((self.old.waiting ≡ []) × (self.new.waiting ≡ []) × IsTrue self.new.ended)) }
         // It failed while nothing was waiting, and before the end was met.
         ensures alone { OnErr result ((self.old.waiting ≡ []) × (self.new.waiting ≡ []) × (self.old.ended ≡ false)) }
-        ensures left { TakesFront (S.left source.old) (S.left source.new) }
-        ensures cause { HasCause (S.faults source.old) (S.faults source.new) result }
+        ensures went { Went self.old.ended self.new.ended (S.told source.old) (S.told source.new) }
+        ensures failed { OnErr result (Rose (S.told source.old).faults (S.told source.new).faults) }
         ensures sound { self.new.sound ≡ is_ok result }
         ensures lines { self.new.lines ≡ false }
-        ensures at_end { IsTrue self.new.ended → IsAtEnd (S.left source.new) }
-        ensures stays_ended { IsTrue self.old.ended → IsTrue self.new.ended × (S.left source.new ≡ S.left source.old) × (S.faults source.new ≡ S.faults source.old) }
-        ensures unasked { 0 < length self.old.waiting → (S.left source.new ≡ S.left source.old) × (S.faults source.new ≡ S.faults source.old) × (self.old.waiting ≡ given result ++ self.new.waiting) }
+        ensures unasked { 0 < length self.old.waiting → S.told source.new ≡ S.told source.old }
         ensures most { length self.new.waiting ≤ buffer_bytes }
     {
         self.lines = false;
@@ -384,14 +375,14 @@ impl Parts {
 
     // What comes next of the part, where `sound` isn't kept.
     fn ask<S: Source>(&mut self, source: &mut S) -> Result<Ask, Failed>
-        requires { IsTrue self.old.ended → IsAtEnd (S.left source.old) }
-        ensures asks { IfOk result (λ ask. IfSome (stream self.old (S.left source.old)) (λ all. AsksNext ask self.old.at_line all self.new.waiting (S.left source.new))) }
+        requires { IsTrue self.old.ended → IsTrue (S.told source.old).ended }
+        ensures asks { (all : List ℕ) → MayGive self.new.ended (S.told source.new) all → IfOk result (λ ask. IfSome (stream self.old (to_come all (S.told source.old))) (λ comes. AsksNext ask self.old.at_line comes self.new.waiting (to_come all (S.told source.new)))) }
         ensures within { IfOk result (λ ask. IsWithin ask self.new.waiting) }
-        ensures unasked { is_untold self.old.at_line self.old.waiting ≡ false → (S.left source.new ≡ S.left source.old) × (S.faults source.new ≡ S.faults source.old) }
+        ensures unasked { is_untold self.old.at_line self.old.waiting ≡ false → S.told source.new ≡ S.told source.old }
         ensures line { IfOk result (λ ask. self.new.at_line ≡ begins_line self.old.at_line ask) }
         ensures ended { IfOk result (λ ask. ask ≡ Ask.«End» → IsTrue self.new.ended) }
-        ensures goes { Goes self.old self.new (S.left source.old) (S.left source.new) (S.faults source.old) (S.faults source.new) }
-        ensures cause { HasCause (S.faults source.old) (S.faults source.new) result }
+        ensures goes { Goes self.old self.new (S.told source.old) (S.told source.new) }
+        ensures failed { OnErr result (Rose (S.told source.old).faults (S.told source.new).faults) }
         ensures most { length self.new.waiting ≤ buffer_bytes }
     {
         match self.fill(source) {
@@ -419,19 +410,17 @@ impl Parts {
     pub fn part_bytes<S: Source>(&mut self, source: &mut S) -> Result<Ask, Failed>
         requires sound { IsTrue self.old.sound }
         requires lines { IsTrue self.old.lines }
-        requires at_end { IsTrue self.old.ended → IsAtEnd (S.left source.old) }
-        ensures asks { IfOk result (λ ask. IfSome (stream self.old (S.left source.old)) (λ all. AsksNext ask self.old.at_line all self.new.waiting (S.left source.new))) }
+        requires at_end { IsTrue self.old.ended → IsTrue (S.told source.old).ended }
+        ensures asks { (all : List ℕ) → MayGive self.new.ended (S.told source.new) all → IfOk result (λ ask. IfSome (stream self.old (to_come all (S.told source.old))) (λ comes. AsksNext ask self.old.at_line comes self.new.waiting (to_come all (S.told source.new)))) }
         ensures within { IfOk result (λ ask. IsWithin ask self.new.waiting) }
         // It asks the source only where no byte waits, or where a line begins and what waits may still be a marker line.
-        ensures unasked { is_untold self.old.at_line self.old.waiting ≡ false → (S.left source.new ≡ S.left source.old) × (S.faults source.new ≡ S.faults source.old) }
+        ensures unasked { is_untold self.old.at_line self.old.waiting ≡ false → S.told source.new ≡ S.told source.old }
         ensures line { IfOk result (λ ask. self.new.at_line ≡ begins_line self.old.at_line ask) }
         ensures ended { IfOk result (λ ask. ask ≡ Ask.«End» → IsTrue self.new.ended) }
-        ensures left { TakesFront (S.left source.old) (S.left source.new) }
-        ensures cause { HasCause (S.faults source.old) (S.faults source.new) result }
+        ensures went { Went self.old.ended self.new.ended (S.told source.old) (S.told source.new) }
+        ensures failed { OnErr result (Rose (S.told source.old).faults (S.told source.new).faults) }
         ensures sound { self.new.sound ≡ is_ok result }
         ensures lines { self.new.lines ≡ self.old.lines }
-        ensures at_end { IsTrue self.new.ended → IsAtEnd (S.left source.new) }
-        ensures stays_ended { IsTrue self.old.ended → IsTrue self.new.ended × (S.left source.new ≡ S.left source.old) × (S.faults source.new ≡ S.faults source.old) }
         ensures most { length self.new.waiting ≤ buffer_bytes }
     {
         match self.ask(source) {

@@ -1,9 +1,10 @@
 //! Where bytes come from and where they go.
 ghost use Rattle.std.specs.Prelude.{◌≡◌, ℕ, ◌<◌, ◌≤◌, List, length, Option, IfOk, OnOk, OnErr};
 ghost use Rattle.std.specs.Io.{ReadsAtMost};
-ghost use Rattle.std.specs.Io.KnownBytes.{ReadConsumes, WriteAppends, Appends};
+ghost use Rattle.std.specs.Io.KnownBytes.{WriteAppends, Appends};
 ghost use Rattle.fleet_io.specs.Causes.{HasCause};
 ghost use Rattle.fleet_io.specs.Taken.{AppendsFront};
+ghost use Rattle.fleet_io.specs.Told.{Reads, Told};
 
 /// A read or a write failed, and the count of faults of what it was asked of rose.
 #[derive(Clone, Copy, Debug, PartialEq, Eq)]
@@ -11,17 +12,14 @@ pub struct Failed;
 
 /// Bytes that come in.
 pub trait Source {
-    /// The bytes still to come, where the source tells them.
-    ghost left: { Self → Option (List ℕ) };
-
-    /// How often it has failed. The count never falls.
-    ghost faults: { Self → ℕ };
+    /// What it tells of itself: the bytes that it has given, and how often it has failed; and where it tells them, the bytes
+    /// still to come.
+    ghost told: { Self → Told };
 
     /// Takes bytes from the front into `buf`. No byte for a non-empty `buf` is the end.
     fn read(&mut self, buf: &mut [u8]) -> Result<usize, Failed>
         ensures bound { ReadsAtMost result buf.new }
-        ensures bytes { ReadConsumes (left self.old) (left self.new) result buf.new }
-        ensures cause { HasCause (faults self.old) (faults self.new) result };
+        ensures reads { Reads (told self.old) (told self.new) result buf.new };
 }
 
 /// Bytes that go out.

@@ -1,9 +1,10 @@
 //! A source and a sink over memory that never fail.
 ghost use Rattle.std.specs.Prelude.{◌≡◌, ◌≤◌, ◌<◌, ◌++◌, [], Ok, length, take, drop, min, Some, None, IfOk};
 ghost use Rattle.std.specs.Io.{ReadsAtMost};
-ghost use Rattle.std.specs.Io.KnownBytes.{ReadConsumes, WriteAppends};
+ghost use Rattle.std.specs.Io.KnownBytes.{WriteAppends};
 ghost use Rattle.fleet_io.specs.Causes.{HasCause};
-ghost use Rattle.fleet_io.specs.Memory.{sure_took};
+ghost use Rattle.fleet_io.specs.Memory.{sure_gave, sure_took, told_sure};
+ghost use Rattle.fleet_io.specs.Told.{Reads};
 
 use crate::memory::copy_front;
 use crate::stream::{Failed, Sink, Source};
@@ -18,11 +19,12 @@ pub struct SureSource {
 }
 
 impl Model for SureSource {
-    ghost use Rattle.std.specs.Prelude.{ℕ, List, ◌≤◌, drop, length};
+    ghost use Rattle.std.specs.Prelude.{◌≤◌, drop, length, take};
+    ghost use Rattle.fleet_io.specs.Memory.{SureIn};
 
-    ghost Value = { List ℕ };
+    ghost Value = { SureIn };
 
-    ghost view = { λ s. drop s.at s.bytes.items };
+    ghost view = { λ s. record { given = take s.at s.bytes.items; left = drop s.at s.bytes.items } };
 
     ghost invariant = { λ s. s.at ≤ length s.bytes.items };
 }
@@ -30,24 +32,21 @@ impl Model for SureSource {
 impl SureSource {
     /// A source of these bytes.
     pub fn make(bytes: Vec<u8>) -> SureSource
-        ensures { result ≡ bytes.items }
+        ensures { result ≡ record { given = []; left = bytes.items } }
     {
         SureSource { bytes, at: 0 }
     }
 }
 
 impl Source for SureSource {
-    ghost left = { λ s. Some s };
-
-    ghost faults = { λ _. 0 };
+    ghost told = { told_sure };
 
     fn read(&mut self, buf: &mut [u8]) -> Result<usize, Failed>
         ensures bound { ReadsAtMost result buf.new }
-        ensures bytes { ReadConsumes (Some self.old) (Some self.new) result buf.new }
-        ensures cause { HasCause 0 0 result }
+        ensures reads { Reads (told_sure self.old) (told_sure self.new) result buf.new }
         // It gives all that it has, or fills the buffer.
-        ensures count { result ≡ Ok (min (length self.old) (length buf.old)) }
-        ensures left { self.new ≡ drop (length buf.old) self.old }
+        ensures count { result ≡ Ok (min (length self.old.left) (length buf.old)) }
+        ensures gave { self.new ≡ sure_gave self.old (length buf.old) }
     {
         let left = &self.bytes[self.at..];
         let count = copy_front(buf, left, left.len());

@@ -1,4 +1,4 @@
-use Rattle.fleet_io.proofs.Prelude.{◌≡◌, ◌+◌, ◌-◌, ◌≤◌, length, Consumes, stream, Goes}
+use Rattle.fleet_io.proofs.Prelude.{◌≡◌, ◌+◌, ◌-◌, ◌≤◌, length, Goes, Took}
 use Rattle.fleet_io.proofs.MarkLemmas.{Gathers}
 use Rattle.fleet_io.proofs.AskingLemmas.{Asking}
 use Rattle.fleet_io.proofs.parts.Parts.gather.Given as goal
@@ -6,10 +6,10 @@ use Rattle.fleet_io.proofs.parts.Parts.gather.Given as goal
 abbrev pub invariant-bytes : goal.invariant-bytes
 invariant-bytes g l = record {
   gathers : Gathers l.bytes.items l.start;
-  taken : Consumes (stream l.initial.self (g.S.Source.left l.initial.source)) (stream l.self (g.S.Source.left l.source)) l.bytes.items;
-  goes : Goes l.initial.self l.self (g.S.Source.left l.initial.source) (g.S.Source.left l.source) (g.S.Source.faults l.initial.source) (g.S.Source.faults l.source);
+  took : Took l.initial.self.waiting l.self.waiting (g.S.Source.told l.initial.source) (g.S.Source.told l.source) l.bytes.items;
+  goes : Goes l.initial.self l.self (g.S.Source.told l.initial.source) (g.S.Source.told l.source);
   at_line : l.self.at_line ≡ l.initial.self.at_line;
-  asking : Asking l.initial.self.waiting l.bytes.items l.self.waiting (g.S.Source.left l.initial.source) (g.S.Source.left l.source) (g.S.Source.faults l.initial.source) (g.S.Source.faults l.source);
+  asking : Asking l.initial.self.waiting l.bytes.items l.self.waiting (g.S.Source.told l.initial.source) (g.S.Source.told l.source);
   short : length l.bytes.items ≤ l.limit + 4;
   most : length l.self.waiting ≤ 4096;
 }

@@ -1,19 +1,29 @@
-use Rattle.fleet_io.proofs.Prelude.{common_steps, [], ◌-◌, append-nil, sym, ◌∙◌, take, arith, Consumes-kept}
-use Rattle.fleet_io.proofs.TakenLemmas.{Consumes-nil}
+use Rattle.fleet_io.proofs.Prelude.{common_steps, ◌≡◌, [], ◌++◌, ◌-◌, append-nil, sym, ◌∙◌, take, arith, gave}
+use Rattle.fleet_io.proofs.GoingLemmas.{Goes-unasked}
+use Rattle.fleet_io.proofs.ToldLemmas.{Took-none, Went-read}
 use Rattle.fleet_io.proofs.WaitingLemmas.{moved, unmoved}
 use Rattle.fleet_io.proofs.parts.Parts.more.Goals as goal
 
-pub returns-then-self-clause-refills : goal.returns-then-self-clause-refills
-returns-then-self-clause-refills g c = record { bytes = []; wait = sym (append-nil _); taken = Consumes-nil _ }
+pub returns-then-self-clause-took : goal.returns-then-self-clause-took
+returns-then-self-clause-took g c = Took-none _ _
 
-pub returns-in-Err-clause-refills : goal.returns-in-Err-clause-refills
-returns-in-Err-clause-refills g c =
+pub returns-in-Err-clause-took : goal.returns-in-Err-clause-took
+returns-in-Err-clause-took g c =
     let s = c.self.inside in
     rw (← c.self.view_is) (record {
-      bytes = [];
-      wait = sym (unmoved s.buf c.copy_within.new.self c.read.new.buf s.start s.end (4096 - (s.end - s.start)) (omega arith) (omega arith) c.copy_within.ensures.after) ∙ sym (append-nil _);
-      taken = Consumes-kept _ _ _ [] (Consumes-nil _) c.in-Err.ensures.bytes;
+      read = [];
+      given = c.in-Err.ensures.reads.given;
+      wait = append-nil _ ∙ unmoved s.buf c.copy_within.new.self c.read.new.buf s.start s.end (4096 - (s.end - s.start)) (omega arith) (omega arith) c.copy_within.ensures.after;
     })
 
-pub returns-in-Ok-clause-refills : goal.returns-in-Ok-clause-refills
-returns-in-Ok-clause-refills g c = grind (arith, common_steps, take, moved)
+pub returns-in-Err-clause-kept : goal.returns-in-Err-clause-kept
+returns-in-Err-clause-kept g c =
+    let s = c.self.inside in
+    rw (← c.self.view_is) (sym (unmoved s.buf c.copy_within.new.self c.read.new.buf s.start s.end (4096 - (s.end - s.start)) (omega arith) (omega arith) c.copy_within.ensures.after), c.if-self.false)
+
+pub returns-in-Ok-clause-took : goal.returns-in-Ok-clause-took
+returns-in-Ok-clause-took g c = record {
+  read = take c.in-Ok.count c.read.new.buf;
+  given = c.in-Ok.ensures.reads.given;
+  wait = grind (arith, common_steps, take, moved);
+}
