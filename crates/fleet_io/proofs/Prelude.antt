@@ -17,7 +17,7 @@ pub use Rattle.fleet_io.specs.Held.{Asked, Held, buffer_bytes, given, has_whole_
 pub use Rattle.fleet_io.specs.PartBytes.{ArePlain, AsksNext, PartLaw, after_piece, begins_after, first_piece, is_marked_here, is_marked_left, is_untold, may_be_marker, part_left, plain_len, rest_left}
 pub use Rattle.fleet_io.specs.Parts.{MarkerLaw, TakesFewAfter, TakesPart, TookMarked}
 pub use Rattle.fleet_io.specs.Steps.{Goes, Runs}
-pub use Rattle.fleet_io.specs.Told.{MayGive, Reads, Told, Took, Went, gave, to_come}
+pub use Rattle.fleet_io.specs.Told.{Gives, IsInput, MayGive, Reads, Told, Took, Went, gave, to_come}
 unfoldable pub use Rattle.fleet_io.specs.Words.{with_word}
 pub use Rattle.fleet_io.specs.Words.{AreWords, IsWord, hex_digit, hex_word, is_line_empty, line, with_hex, with_words}
 pub use Rattle.fleet_io.specs.declared.parts.IoFault.{IoFault}

@@ -1,4 +1,5 @@
 -- What was taken adds up.
+use Rattle.fleet_io.specs.Taken.{TakesFront}
 use Rattle.fleet_io.proofs.Prelude.{List, [], ◌++◌, ℕ, Option, Some, None, refl, sym, ap, ◌∙◌, append_assoc, Consumes}
 
 -- what two reads took was taken in their order
@@ -12,3 +13,11 @@ Consumes-append (Some a) (Some b) (Some c) xs ys p q = p ∙ ap (λ (z : List �
 pub Consumes-nil : (a : Option (List ℕ)) → Consumes a a []
 Consumes-nil None = tt
 Consumes-nil (Some a) = refl
+
+-- two fronts that were taken, one after the other, are a front
+pub TakesFront-trans : (a b c : Option (List ℕ)) → TakesFront a b → TakesFront b c → TakesFront a c
+TakesFront-trans a b c p q = (p.0 ++ q.0, Consumes-append a b c p.0 q.0 p.1 q.1)
+
+-- taking nothing takes a front
+pub TakesFront-none : (a : Option (List ℕ)) → TakesFront a a
+TakesFront-none a = ([], Consumes-nil a)

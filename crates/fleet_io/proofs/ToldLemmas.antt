@@ -1,5 +1,6 @@
 -- What a source gave, and what it may still give.
-use Rattle.fleet_io.proofs.Prelude.{common_steps, ◌≡◌, ℕ, ◌<◌, Bool, true, false, List, [], ◌∷◌, ◌++◌, append_assoc, append-nil, length, length-append, drop, Option, Some, refl, sym, ap, ◌∙◌, subst, arith, IsTrue, IfOk, Consumes, Keeps, IsAtEnd, prepend_known, Result, Ok, Err, Told, Reads, gave, Went, MayGive, to_come, Took, Runs}
+use Rattle.fleet_io.proofs.Prelude.{common_steps, ◌≡◌, ℕ, ◌<◌, Bool, true, false, List, [], ◌∷◌, ◌++◌, append_assoc, append-nil, length, length-append, drop, Option, Some, refl, sym, ap, ◌∙◌, subst, ◌+◌, ◌≤◌, arith, IsTrue, Consumes, Keeps, IsAtEnd, prepend_known, Gives, IsInput, Told, Went, MayGive, to_come, Took, Runs}
+use Rattle.fleet_io.specs.Taken.{TakesAtMost, TakesFront}
 use Rattle.fleet_io.proofs.TakenLemmas.{Consumes-append, Consumes-nil}
 
 -- ---- what was read
@@ -36,47 +37,35 @@ Took-runs a b waited waits before after t u v byte had one runs =
 
 -- ---- a reader and its source
 
-pub Went-none : (met meets : Bool) (t : Told) → meets ≡ met → (IsTrue met → IsTrue t.ended) → Went met meets t t
-Went-none met meets t same at_end = record {
-  bytes = [];
-  given = sym (append-nil t.given);
-  left = Consumes-nil t.left;
-  at_left = λ end. end;
-  later = omega arith;
-  at_end = rw same at_end;
-  stays = rw same (λ is. (is, refl));
-}
+pub Gives-none : (t u : Told) → u ≡ t → Gives t u
+Gives-none t u same = rw same (record { bytes = []; given = sym (append-nil t.given); left = Consumes-nil t.left; at_end = λ end. end; later = omega arith })
 
-pub Went-trans : (a b c : Bool) (t u v : Told) → Went a b t u → Went b c u v → Went a c t v
-Went-trans a b c t u v p q = record {
+pub Gives-trans : (t u v : Told) → Gives t u → Gives u v → Gives t v
+Gives-trans t u v p q = record {
   bytes = p.bytes ++ q.bytes;
   given = q.given ∙ ap (λ (g : List ℕ). g ++ q.bytes) p.given ∙ append_assoc t.given p.bytes q.bytes;
   left = Consumes-append t.left u.left v.left p.bytes q.bytes p.left q.left;
-  at_left = λ end. q.at_left (p.at_left end);
+  at_end = λ end. q.at_end (p.at_end end);
   later = omega (arith, p.later, q.later);
-  at_end = q.at_end;
-  stays = λ is. (let first = p.stays is in let then = q.stays first.0 in (then.0, then.1 ∙ first.1));
 }
 
--- one read, of a reader that has not met the end
-pub Went-read : {E : Type 0} (meets : Bool) (t u : Told) (result : Result ℕ E) (buf : List ℕ) → Reads t u result buf → (IsTrue meets → IsTrue u.ended) → Went false meets t u
-Went-read meets t u result buf r at_end = record {
-  bytes = gave result buf;
-  given = r.given;
-  left = r.left;
-  at_left = λ _. r.at_end;
-  later = r.later;
-  at_end = at_end;
-  stays = λ is. absurd (let e : false ≡ true = is in cc);
+pub Went-none : (met meets : Bool) (t : Told) → meets ≡ met → (IsTrue met → IsTrue t.ended) → Went met meets t t
+Went-none met meets t same at_end = record { gives = Gives-none t t refl; at_end = rw same at_end; stays = rw same (λ is. (is, refl)) }
+
+pub Went-trans : (a b c : Bool) (t u v : Told) → Went a b t u → Went b c u v → Went a c t v
+Went-trans a b c t u v p q = record {
+  gives = Gives-trans t u v p.gives q.gives;
+  at_end = q.at_end;
+  stays = λ is. (let first = p.stays is in let then = q.stays first.0 in (then.0, then.1 ∙ first.1));
 }
 
 -- ---- what may still come
 
 pub back : (met meets : Bool) (t u : Told) (all : List ℕ) → Went met meets t u → MayGive meets u all → MayGive met t all
 back met meets t u all w m = record {
-  rest = w.bytes ++ m.rest;
-  is = m.is ∙ ap (λ (g : List ℕ). g ++ m.rest) w.given ∙ append_assoc t.given w.bytes m.rest;
-  none = λ is. (let stays = w.stays is in rw (unread t u w.bytes stays.1 w.given, m.none stays.0) refl);
+  rest = w.gives.bytes ++ m.rest;
+  is = m.is ∙ ap (λ (g : List ℕ). g ++ m.rest) w.gives.given ∙ append_assoc t.given w.gives.bytes m.rest;
+  none = λ is. (let stays = w.stays is in rw (unread t u w.gives.bytes stays.1 w.gives.given, m.none stays.0) refl);
 }
 
 dropped : (xs ys : List ℕ) → drop (length xs) (xs ++ ys) ≡ ys
@@ -119,3 +108,29 @@ nothing_before met t u all waited waits taken p nil m is none =
 -- what was taken before a read that gave nothing
 pub took_alone : (a b c : List ℕ) (t u v : Told) (bytes : List ℕ) → Took a b t u bytes → Took b c u v [] → c ≡ [] → Took a [] t v bytes
 took_alone a b c t u v bytes p q none = subst (λ (ws : List ℕ). Took a ws t v bytes) none (subst (λ (xs : List ℕ). Took a c t v xs) (append-nil bytes) (Took-trans a b c t u v bytes [] p q))
+
+-- a source that has met its end gives no more to its reader
+pub of_source : (met : Bool) (t : Told) (all : List ℕ) → (IsTrue met → IsTrue t.ended) → IsInput t all → MayGive met t all
+of_source met t all at_end m = record { rest = m.rest; is = m.is; none = λ is. m.none (at_end is) }
+
+-- all that a source gave until now may be all that it gives
+pub IsInput-now : (t : Told) → IsInput t t.given
+IsInput-now t = record { rest = []; is = sym (append-nil t.given); none = λ _. refl }
+
+-- what was given in between comes first
+pub gives_of : (met : Bool) (t u : Told) (all : List ℕ) (w : Gives t u) → (m : MayGive met u all) → (drop (length t.given) all ≡ w.bytes ++ m.rest) × (drop (length u.given) all ≡ m.rest)
+gives_of met t u all w m = (comes_before met t u all w.bytes m w.given, comes u all m.rest m.is)
+
+-- so it was taken of what was to come
+pub takes_front : (met : Bool) (t u : Told) (all : List ℕ) → Gives t u → MayGive met u all → TakesFront (to_come all t) (to_come all u)
+takes_front met t u all w m = let is = gives_of met t u all w m in (w.bytes, rw is.1 is.0)
+
+-- where a source gave few bytes, few were taken
+pub takes_at_most : (met : Bool) (t u : Told) (all : List ℕ) (most : ℕ) → Gives t u → MayGive met u all → length u.given ≤ length t.given + most → TakesAtMost most (to_come all t) (to_come all u)
+takes_at_most met t u all most w m few =
+    let is = gives_of met t u all w m in
+    omega (arith, ap length is.0, ap length is.1, length-append w.bytes m.rest, ap length w.given, length-append t.given w.bytes, few)
+
+-- what a source that tells its bytes may give is what it has given and those
+pub IsInput-left : (t : Told) (bytes : List ℕ) → t.left ≡ Some bytes → (IsTrue t.ended → IsAtEnd t.left) → IsInput t (t.given ++ bytes)
+IsInput-left t bytes told at_end = record { rest = bytes; is = refl; none = rw told at at_end }

@@ -27,13 +27,17 @@ pub record Reads {E : Type 0} (old new : Told) (result : Result ℕ E) (buf : Li
   pub later : old.faults ≤ new.faults
   pub failed : OnErr result (Rose old.faults new.faults)
 
--- What any number of reads did, of a reader that had met the end or not, and has met it now or not. After the end it doesn't read.
-pub record Went (met meets : Bool) (old new : Told) : Type 0 where
+-- What a source did from one moment to a later one.
+pub record Gives (old new : Told) : Type 0 where
   pub bytes : List ℕ
   pub given : new.given ≡ old.given ++ bytes
   pub left : Consumes old.left new.left bytes
-  pub at_left : (IsTrue old.ended → IsAtEnd old.left) → IsTrue new.ended → IsAtEnd new.left
+  pub at_end : (IsTrue old.ended → IsAtEnd old.left) → IsTrue new.ended → IsAtEnd new.left
   pub later : old.faults ≤ new.faults
+
+-- What it did for a reader that had met the end or not, and has met it now or not. After the end the reader doesn't ask.
+pub record Went (met meets : Bool) (old new : Told) : Type 0 where
+  pub gives : Gives old new
   pub at_end : IsTrue meets → IsTrue new.ended
   pub stays : IsTrue met → IsTrue meets × (new ≡ old)
 
@@ -42,6 +46,10 @@ pub record MayGive (met : Bool) (t : Told) (all : List ℕ) : Type 0 where
   pub rest : List ℕ
   pub is : all ≡ t.given ++ rest
   pub none : IsTrue met → rest ≡ []
+
+-- what it has said of its end counts
+abbrev pub IsInput : Told → List ℕ → Type 0
+IsInput t all = MayGive t.ended t all
 
 -- the bytes still to come, where these are all that a source ever gives
 abbrev pub to_come : List ℕ → Told → Option (List ℕ)

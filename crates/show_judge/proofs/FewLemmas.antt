@@ -9,6 +9,10 @@ pub stream_new : (held : Held) (left : Option (List ℕ)) → held.waiting ≡ [
 stream_new held None none = refl
 stream_new held (Some bytes) none = rw none refl
 
+-- so what holds of the one holds of the other
+pub at_new : (P : Option (List ℕ) → Type 0) (held : Held) (left : Option (List ℕ)) → held.waiting ≡ [] → P (stream held left) → P left
+at_new P held left none p = subst P (stream_new held left none) p
+
 or_true : (a b : Bool) → (a || b) ≡ true → (a ≡ true) ⊎ (b ≡ true)
 or_true true b e = inl refl
 or_true false b e = inr e
@@ -56,3 +60,10 @@ pub few_after_long : (old new : Option (List ℕ)) → IfSome old (λ all. most_
 few_after_long None new long few = tt
 few_after_long (Some all) None long few = tt
 few_after_long (Some all) (Some rest) long few = grind (arith, common_steps, apart_text)
+
+-- so it is of the first text of an input
+pub long_text : (held : Held) (old new : Option (List ℕ)) (limit : ℕ) → held.waiting ≡ [] → limit ≡ most_text → IfSome (stream held old) (λ comes. limit < length (part_of comes)) →
+    TakesAtMost (limit + 4 + 4096) old new → TakesFewAfter old new
+long_text held old new limit none is long few =
+    few_after_long old new (at_new (λ (left : Option (List ℕ)). IfSome left (λ comes. most_text < length (part_of comes))) held old none (subst (λ (n : ℕ). IfSome (stream held old) (λ comes. n < length (part_of comes))) is long))
+    (subst (λ (n : ℕ). TakesAtMost (n + 4 + 4096) old new) is few)

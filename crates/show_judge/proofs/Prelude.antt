@@ -15,10 +15,12 @@ pub use Rattle.choreo_show.specs.declared.show.DroneLine.{DroneLine}
 pub use Rattle.choreo_show.specs.declared.show.Settings.{Settings}
 pub use Rattle.cue_grid.specs.Cues.{grid_of}
 pub use Rattle.fleet_io.proofs.TakenLemmas.{TakesFront-none, TakesFront-trans}
+pub use Rattle.fleet_io.proofs.ToldLemmas.{Gives-none, Gives-trans, IsInput-now, at_its_end, back, of_source, takes_at_most, takes_front}
 pub use Rattle.fleet_io.specs.Causes.{Rose}
 pub use Rattle.fleet_io.specs.Held.{Held, stream}
 pub use Rattle.fleet_io.specs.Parts.{TakesFewAfter}
 pub use Rattle.fleet_io.specs.Taken.{AppendsFront, TakesAtMost, TakesFront}
+pub use Rattle.fleet_io.specs.Told.{Gives, IsInput, MayGive, Told, Went, to_come}
 pub use Rattle.fleet_math.specs.Limits.{most_text}
 pub use Rattle.refusals.specs.Refusals.{line_of, status_of}
 pub use Rattle.refusals.specs.declared.refusal.Refusal.{Refusal}
@@ -33,9 +35,9 @@ pub use Rattle.show_judge.specs.Answers.{AnswersInput, AnswersText, AnswersTwo, 
 pub use Rattle.show_judge.specs.Input.{GoesOn, IsNextText, IsReadBoth, IsReadWhole, IsShowText, IsText, IsUnmarked, IsWholeText, IsWithin, ReadsShow, ReadsTwo, TakesOneText}
 pub use Rattle.show_judge.specs.Outcome.{IsComplete, IsOutcome, IsOutcomeBy, IsOutcomeOf, IsSafe, IsSafeBy, IsSafeOutcome, IsVerb, OutcomeLaw, ShowGives, judged_text, refused, said}
 pub use Rattle.show_judge.specs.Refused.{IsOfInput, blocked_by, faulty, marker_refusal, no_plan, show_refusal, text_refusal}
-pub use Rattle.show_judge.specs.Runs.{Behaves, Completes, IsOutput, IsStopped, Runs, StopsAtMarker, TakesLittle, reads, told}
+pub use Rattle.show_judge.specs.Runs.{Behaves, Completes, Does, IsOutput, IsStopped, Runs, StopsAtMarker, TakesLittle, reads, told}
 pub use Rattle.show_judge.specs.Shows.{Cut, cut_of, feeds, marker_number, name_at, names_of, nodes_of, sent_of}
-pub use Rattle.show_judge.specs.Verb.{FliesApart, IsAny, IsJudged, IsTwo, Judges, Outcome, Run, Verb, nothing, of_nothing, of_own, of_show, outcome, own_text, run_of, the_input, two_ways}
+pub use Rattle.show_judge.specs.Verb.{FliesApart, IsAny, IsJudged, IsTwo, Judges, Outcome, Run, Span, Verb, run_on, nothing, of_nothing, of_own, of_show, outcome, own_text, run_of, the_input, two_ways}
 pub use Rattle.show_judge.specs.declared.ends.Answer.{Answer}
 pub use Rattle.show_judge.specs.declared.ends.Answer.TheVariants.{Done, Refused}
 pub use Rattle.show_judge.specs.declared.ends.Failure.{Failure}

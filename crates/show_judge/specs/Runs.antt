@@ -5,11 +5,12 @@ use Rattle.text_lines.specs.Marker.{part_of}
 use Rattle.fleet_io.specs.Causes.{Rose}
 use Rattle.fleet_io.specs.Parts.{TakesFewAfter}
 use Rattle.fleet_io.specs.Taken.{AppendsFront, TakesFront}
+use Rattle.fleet_io.specs.Told.{Gives, IsInput}
 use Rattle.show_judge.specs.Input.{TakesOneText}
 use Rattle.fleet_math.specs.Limits.{most_text}
 use Rattle.show_judge.specs.Shows.{cut_of}
 use Rattle.show_judge.specs.Outcome.{IsComplete, IsOutcome, IsSafeOutcome, judged_text}
-use Rattle.show_judge.specs.Verb.{IsJudged, Outcome, Run, Verb, nothing}
+use Rattle.show_judge.specs.Verb.{IsJudged, Outcome, Run, Span, Verb, nothing, run_on}
 
 -- no fault was counted
 abbrev pub IsQuiet : Run → Type 0
@@ -107,3 +108,9 @@ pub record Behaves (c : Verb) (r : Run) (status : ℕ) : Type 0 where
   pub reading : c.reading r status
   pub complete : Completes c r status
   pub headline : status ≡ 0 → IfSome (told c r) (λ input. c.headline input r.written r.written_after)
+
+-- The same of a source and a sink, whichever they are: so it behaves on all bytes that the source may ever give. These are what it gave, and
+-- where it wasn't asked until its end any others after that.
+pub record Does (c : Verb) (m : Span) (status : ℕ) : Type 0 where
+  pub gives : Gives m.told m.tells
+  pub behaves : (all : List ℕ) → IsInput m.tells all → Behaves c (run_on m all) status

@@ -3,6 +3,7 @@ use Rattle.std.specs.Prelude.{◌≡◌, ◌≢◌, ℕ, true, false, List, Opti
 use Rattle.std.specs.Io.KnownBytes.{Appends}
 use Rattle.choreo_show.specs.Plain.{PlainShow}
 use Rattle.cue_grid.specs.Cues.{grid_of}
+use Rattle.fleet_io.specs.Told.{Told, to_come}
 use Rattle.refusals.specs.Lines.{read_line}
 use Rattle.show_plan.specs.Flight.{KeepsNearShow}
 use Rattle.show_plan.specs.Separation.{FlyApart}
@@ -45,10 +46,29 @@ run_of left left_after reads reads_after written written_after writes writes_aft
   writes_failed_after = writes_after;
 }
 
+-- What a source and a sink tell before a run and after it.
+pub record Span : Type 0 where
+  pub told : Told
+  pub tells : Told
+  pub written : Option (List ℕ)
+  pub written_after : Option (List ℕ)
+  pub writes_failed : ℕ
+  pub writes_failed_after : ℕ
+
 -- What was read and written between two states of a source and a sink, by the members that tell it.
-abbrev pub during : {S K : Type 0} → (S → Option (List ℕ)) → (S → ℕ) → (K → Option (List ℕ)) → (K → ℕ) → S → S → K → K → Run
-during left reads written writes source source_after sink sink_after =
-    run_of (left source) (left source_after) (reads source) (reads source_after) (written sink) (written sink_after) (writes sink) (writes sink_after)
+abbrev pub during : {S K : Type 0} → (S → Told) → (K → Option (List ℕ)) → (K → ℕ) → S → S → K → K → Span
+during told written writes source source_after sink sink_after = record {
+  told = told source;
+  tells = told source_after;
+  written = written sink;
+  written_after = written sink_after;
+  writes_failed = writes sink;
+  writes_failed_after = writes sink_after;
+}
+
+-- the run, where these are all bytes that the source ever gives
+abbrev pub run_on : Span → List ℕ → Run
+run_on m all = run_of (to_come all m.told) (to_come all m.tells) m.told.faults m.tells.faults m.written m.written_after m.writes_failed m.writes_failed_after
 
 -- the program wasn't out of memory, nor did a read or a write fail
 abbrev pub IsJudged : ℕ → Type 0

@@ -3,11 +3,11 @@ ghost use Rattle.std.specs.Prelude.{◌≡◌, ◌≤◌, ℕ, List, Err, IfOk};
 ghost use Rattle.choreo_show.specs.Plain.{PlainShow};
 ghost use Rattle.fleet_io.specs.Causes.{Rose};
 ghost use Rattle.fleet_io.specs.Parts.{TakesFewAfter};
-ghost use Rattle.fleet_io.specs.Taken.{TakesFront};
+ghost use Rattle.fleet_io.specs.Told.{Gives, IsInput, to_come};
 ghost use Rattle.show_plan.specs.Fitting.{IsFitted, IsValidFitted};
 ghost use Rattle.show_judge.specs.Answers.{AnswersInput, AnswersText, IsSaid, outcome_of};
 ghost use Rattle.show_judge.specs.Input.{IsWithin, TakesOneText};
-ghost use Rattle.show_judge.specs.Runs.{Behaves};
+ghost use Rattle.show_judge.specs.Runs.{Does};
 ghost use Rattle.fleet_math.specs.Limits.{most_text};
 ghost use Rattle.show_judge.specs.Shows.{nodes_of};
 ghost use Rattle.show_judge.specs.Verb.{during, of_show, outcome};
@@ -65,12 +65,12 @@ fn answer_input<V: OneText, S: Source>(
     verb: &V,
     source: &mut S,
 ) -> Result<Answer, Failure>
-    ensures answers { AnswersInput (of_show (V.searched verb.now) (V.text verb.now)) (S.left source.old) (S.left source.new) result }
-    ensures failed { result ≡ Err Failure.Read → Rose (S.faults source.old) (S.faults source.new) }
-    ensures later { S.faults source.old ≤ S.faults source.new }
-    ensures few { TakesOneText (S.left source.old) (S.left source.new) }
-    ensures after { IfOk result (λ _. TakesFewAfter (S.left source.old) (S.left source.new)) }
-    ensures left { TakesFront (S.left source.old) (S.left source.new) }
+    ensures answers { (all : List ℕ) → IsInput (S.told source.new) all → AnswersInput (of_show (V.searched verb.now) (V.text verb.now)) (to_come all (S.told source.old)) (to_come all (S.told source.new)) result }
+    ensures said { IfOk result IsSaid }
+    ensures failed { result ≡ Err Failure.Read → Rose (S.told source.old).faults (S.told source.new).faults }
+    ensures few { (all : List ℕ) → IsInput (S.told source.new) all → TakesOneText (to_come all (S.told source.old)) (to_come all (S.told source.new)) }
+    ensures after { (all : List ℕ) → IsInput (S.told source.new) all → IfOk result (λ _. TakesFewAfter (to_come all (S.told source.old)) (to_come all (S.told source.new))) }
+    ensures gives { Gives (S.told source.old) (S.told source.new) }
 {
     let text = read_show_text(alloc, source)?;
     Ok(answer_text(alloc, verb, &text)?)
@@ -83,7 +83,7 @@ pub fn run_one<V: OneText, S: Source, K: Sink>(
     source: &mut S,
     sink: &mut K,
 ) -> u8
-    ensures { Behaves (of_show (V.searched verb.now) (V.text verb.now)) (during S.left S.faults K.written K.faults source.old source.new sink.old sink.new) result }
+    ensures { Does (of_show (V.searched verb.now) (V.text verb.now)) (during S.told K.written K.faults source.old source.new sink.old sink.new) result }
 {
     show_law();
     let answer = answer_input(alloc, verb, source);

@@ -1,10 +1,9 @@
 //! What the program reads before it judges: a show's text, and for some commands a second text after it.
-ghost use Rattle.std.specs.Prelude.{◌≡◌, ◌+◌, ◌<◌, ◌≤◌, [], length, IsTrue, IfOk, IfSome, Some};
-ghost use Rattle.std.specs.Io.KnownBytes.{IsAtEnd};
+ghost use Rattle.std.specs.Prelude.{◌≡◌, ℕ, List, ◌+◌, ◌<◌, ◌≤◌, [], length, IsTrue, IfOk, IfSome, Some};
 ghost use Rattle.fleet_io.specs.Held.{buffer_bytes, stream, text_limit};
 ghost use Rattle.fleet_io.specs.Causes.{Rose};
 ghost use Rattle.fleet_io.specs.Parts.{TakesFewAfter};
-ghost use Rattle.fleet_io.specs.Taken.{TakesAtMost, TakesFront};
+ghost use Rattle.fleet_io.specs.Told.{Gives, IsInput, MayGive, Went, to_come};
 ghost use Rattle.text_lines.specs.Marker.{part_of, rest_of};
 ghost use Rattle.fleet_math.specs.Limits.{most_text};
 ghost use Rattle.show_judge.specs.Input.{GoesOn, IsNextText, IsUnmarked, IsWholeText, IsWithin, ReadsShow, ReadsTwo, TakesOneText};
@@ -42,21 +41,19 @@ pub fn next_text<S: Source>(
     requires sound { IsTrue parts.old.sound }
     requires lines { IsTrue parts.old.lines }
     requires limit { limit ≤ text_limit }
-    requires at_end { IsTrue parts.old.ended → IsAtEnd (S.left source.old) }
-    ensures text { IfOk result (λ text. IsNextText limit text (stream parts.old (S.left source.old))) }
+    requires at_end { IsTrue parts.old.ended → IsTrue (S.told source.old).ended }
+    ensures text { (all : List ℕ) → MayGive parts.new.ended (S.told source.new) all → IfOk result (λ text. IsNextText limit text (stream parts.old (to_come all (S.told source.old)))) }
     ensures within { IfOk result (λ text. IsWithin limit text) }
-    ensures rest { IfOk result (λ text. GoesOn text (stream parts.old (S.left source.old)) (stream parts.new (S.left source.new))) }
+    ensures rest { (all : List ℕ) → MayGive parts.new.ended (S.told source.new) all → IfOk result (λ text. GoesOn text (stream parts.old (to_come all (S.told source.old))) (stream parts.new (to_come all (S.told source.new)))) }
     ensures sound { IfOk result (λ text. IsWholeText text → IsTrue parts.new.sound) }
     ensures lines { parts.new.lines ≡ parts.old.lines }
     ensures at_line { IfOk result (λ text. IsWholeText text → IsTrue parts.new.at_line) }
-    ensures at_end { IsTrue parts.new.ended → IsAtEnd (S.left source.new) }
-    ensures whole { IfOk result (λ text. IsUnmarked text → IsAtEnd (S.left source.new)) }
-    ensures few { TakesAtMost (limit + 4 + buffer_bytes) (S.left source.old) (S.left source.new) }
-    ensures after { parts.old.waiting ≡ [] → limit ≡ most_text → IfOk result (λ _. TakesFewAfter (S.left source.old) (S.left source.new)) }
-    ensures past { IfOk result (λ text. IsWholeText text → TakesFewAfter (stream parts.old (S.left source.old)) (S.left source.new)) }
-    ensures failed { result ≡ Err Failure.Read → Rose (S.faults source.old) (S.faults source.new) }
-    ensures later { S.faults source.old ≤ S.faults source.new }
-    ensures left { TakesFront (S.left source.old) (S.left source.new) }
+    ensures whole { IfOk result (λ text. IsUnmarked text → IsTrue parts.new.ended) }
+    ensures few { length (S.told source.new).given ≤ length (S.told source.old).given + (limit + 4 + buffer_bytes) }
+    ensures after { (all : List ℕ) → MayGive parts.new.ended (S.told source.new) all → parts.old.waiting ≡ [] → limit ≡ most_text → IfOk result (λ _. TakesFewAfter (to_come all (S.told source.old)) (to_come all (S.told source.new))) }
+    ensures past { (all : List ℕ) → MayGive parts.new.ended (S.told source.new) all → IfOk result (λ text. IsWholeText text → TakesFewAfter (stream parts.old (to_come all (S.told source.old))) (to_come all (S.told source.new))) }
+    ensures failed { result ≡ Err Failure.Read → Rose (S.told source.old).faults (S.told source.new).faults }
+    ensures went { Went parts.old.ended parts.new.ended (S.told source.old) (S.told source.new) }
 {
     match parts.text(alloc, source, limit) {
         Ok(part) => Ok(Text::Whole { part }),
@@ -89,15 +86,14 @@ fn read_second<S: Source>(
     requires limit { limit ≤ text_limit }
     requires sound { IsWholeText show.now → IsTrue parts.old.sound }
     requires lines { IsTrue parts.old.lines }
-    requires at_end { IsTrue parts.old.ended → IsAtEnd (S.left source.old) }
-    ensures text { IsWholeText show.now → IfOk result (λ text. IsNextText limit text (stream parts.old (S.left source.old))) }
+    requires at_end { IsTrue parts.old.ended → IsTrue (S.told source.old).ended }
+    ensures text { (all : List ℕ) → MayGive parts.new.ended (S.told source.new) all → IsWholeText show.now → IfOk result (λ text. IsNextText limit text (stream parts.old (to_come all (S.told source.old)))) }
     ensures within { IfOk result (λ text. IsWithin limit text) }
-    ensures whole { IsWholeText show.now → IfOk result (λ text. IsUnmarked text → IsAtEnd (S.left source.new)) }
-    ensures past { IsWholeText show.now → IfOk result (λ text. IsWholeText text → TakesFewAfter (stream parts.old (S.left source.old)) (S.left source.new)) }
-    ensures stays { (IsWholeText show.now → ⊥) → S.left source.new ≡ S.left source.old }
-    ensures failed { result ≡ Err Failure.Read → Rose (S.faults source.old) (S.faults source.new) }
-    ensures later { S.faults source.old ≤ S.faults source.new }
-    ensures left { TakesFront (S.left source.old) (S.left source.new) }
+    ensures whole { IsWholeText show.now → IfOk result (λ text. IsUnmarked text → IsTrue parts.new.ended) }
+    ensures past { (all : List ℕ) → MayGive parts.new.ended (S.told source.new) all → IsWholeText show.now → IfOk result (λ text. IsWholeText text → TakesFewAfter (stream parts.old (to_come all (S.told source.old))) (to_come all (S.told source.new))) }
+    ensures stays { (IsWholeText show.now → ⊥) → S.told source.new ≡ S.told source.old }
+    ensures failed { result ≡ Err Failure.Read → Rose (S.told source.old).faults (S.told source.new).faults }
+    ensures went { Went parts.old.ended parts.new.ended (S.told source.old) (S.told source.new) }
 {
     match show {
         Text::Whole { .. } => next_text(alloc, parts, source, limit),
@@ -107,12 +103,12 @@ fn read_second<S: Source>(
 
 /// Reads the show's text. A text that is too large ends the reading. `Read` where a read failed.
 pub fn read_show_text<S: Source>(alloc: Global, source: &mut S) -> Result<Text, Failure>
-    ensures show { IfOk result (λ text. ReadsShow (S.left source.old) (S.left source.new) text) }
-    ensures few { TakesOneText (S.left source.old) (S.left source.new) }
-    ensures after { IfOk result (λ _. TakesFewAfter (S.left source.old) (S.left source.new)) }
-    ensures failed { result ≡ Err Failure.Read → Rose (S.faults source.old) (S.faults source.new) }
-    ensures later { S.faults source.old ≤ S.faults source.new }
-    ensures left { TakesFront (S.left source.old) (S.left source.new) }
+    ensures show { (all : List ℕ) → IsInput (S.told source.new) all → IfOk result (λ text. ReadsShow (to_come all (S.told source.old)) (to_come all (S.told source.new)) text) }
+    ensures within { IfOk result (λ text. IsWithin most_text text) }
+    ensures few { (all : List ℕ) → IsInput (S.told source.new) all → TakesOneText (to_come all (S.told source.old)) (to_come all (S.told source.new)) }
+    ensures after { (all : List ℕ) → IsInput (S.told source.new) all → IfOk result (λ _. TakesFewAfter (to_come all (S.told source.old)) (to_come all (S.told source.new))) }
+    ensures failed { result ≡ Err Failure.Read → Rose (S.told source.old).faults (S.told source.new).faults }
+    ensures gives { Gives (S.told source.old) (S.told source.new) }
 {
     let mut parts = Parts::make();
     next_text(alloc, &mut parts, source, MOST_TEXT)
@@ -122,12 +118,13 @@ pub fn read_show_text<S: Source>(alloc: Global, source: &mut S) -> Result<Text, 
 /// reading. `Read` where a read failed.
 pub fn read_two<S: Source>(alloc: Global, source: &mut S, limit: usize) -> Result<Input, Failure>
     requires { limit ≤ text_limit }
-    ensures texts { IfOk result (λ input. ReadsTwo limit (S.left source.old) (S.left source.new) input) }
-    ensures few { IfSome (S.left source.old) (λ all. most_text < length (part_of all)) → TakesOneText (S.left source.old) (S.left source.new) }
-    ensures past { IfOk result (λ input. IsWholeText input.show → IsWholeText input.second → IfSome (S.left source.old) (λ all. TakesFewAfter (Some (rest_of all)) (S.left source.new))) }
-    ensures failed { result ≡ Err Failure.Read → Rose (S.faults source.old) (S.faults source.new) }
-    ensures later { S.faults source.old ≤ S.faults source.new }
-    ensures left { TakesFront (S.left source.old) (S.left source.new) }
+    ensures texts { (all : List ℕ) → IsInput (S.told source.new) all → IfOk result (λ input. ReadsTwo limit (to_come all (S.told source.old)) (to_come all (S.told source.new)) input) }
+    ensures show { IfOk result (λ input. IsWithin most_text input.show) }
+    ensures second { IfOk result (λ input. IsWithin limit input.second) }
+    ensures few { (all : List ℕ) → IsInput (S.told source.new) all → IfSome (to_come all (S.told source.old)) (λ comes. most_text < length (part_of comes)) → TakesOneText (to_come all (S.told source.old)) (to_come all (S.told source.new)) }
+    ensures past { (all : List ℕ) → IsInput (S.told source.new) all → IfOk result (λ input. IsWholeText input.show → IsWholeText input.second → IfSome (to_come all (S.told source.old)) (λ comes. TakesFewAfter (Some (rest_of comes)) (to_come all (S.told source.new)))) }
+    ensures failed { result ≡ Err Failure.Read → Rose (S.told source.old).faults (S.told source.new).faults }
+    ensures gives { Gives (S.told source.old) (S.told source.new) }
 {
     let mut parts = Parts::make();
     let show = next_text(alloc, &mut parts, source, MOST_TEXT)?;

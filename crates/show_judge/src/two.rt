@@ -1,16 +1,16 @@
 //! A command that reads a show's text and a second one, and answers.
-ghost use Rattle.std.specs.Prelude.{◌≡◌, ◌≤◌, ℕ, Err, IfOk, IfSome, length, ◌<◌, false, true, Some};
+ghost use Rattle.std.specs.Prelude.{List, ◌≡◌, ◌≤◌, ℕ, Err, IfOk, IfSome, length, ◌<◌, false, true, Some};
 ghost use Rattle.choreo_show.specs.Plain.{PlainShow};
 ghost use Rattle.fleet_io.specs.Causes.{Rose};
 ghost use Rattle.fleet_io.specs.Held.{text_limit};
-ghost use Rattle.fleet_io.specs.Taken.{TakesFront};
+ghost use Rattle.fleet_io.specs.Told.{Gives, IsInput, to_come};
 ghost use Rattle.text_lines.specs.Marker.{part_of};
 ghost use Rattle.cue_grid.specs.declared.grid.Grid.{Grid};
 ghost use Rattle.show_plan.specs.Fitting.{IsFitted, IsValidFitted};
 ghost use Rattle.show_plan.specs.Landing.{Lands};
 ghost use Rattle.show_judge.specs.Answers.{AnswersInput, AnswersTwo, IsSaid, outcome_of};
 ghost use Rattle.show_judge.specs.Input.{IsReadBoth, IsText, IsUnmarked, IsWithin, TakesOneText};
-ghost use Rattle.show_judge.specs.Runs.{Behaves};
+ghost use Rattle.show_judge.specs.Runs.{Does};
 ghost use Rattle.fleet_math.specs.Limits.{most_text};
 ghost use Rattle.show_judge.specs.Shows.{Cut};
 ghost use Rattle.show_judge.specs.Verb.{IsTwo, Verb, during};
@@ -87,12 +87,12 @@ fn answer_input<V: TwoTexts, S: Source>(
 ) -> Result<Answer, Failure>
     requires verb { IsVerb (V.verb verb.now) }
     requires two { IsTwo (Some (V.searched verb.now)) (V.most verb.now) (V.verb verb.now) }
-    ensures answers { AnswersInput (V.verb verb.now) (S.left source.old) (S.left source.new) result }
-    ensures both { IfOk result (λ _. IsReadBoth (V.most verb.now) (S.left source.old) (S.left source.new)) }
-    ensures failed { result ≡ Err Failure.Read → Rose (S.faults source.old) (S.faults source.new) }
-    ensures later { S.faults source.old ≤ S.faults source.new }
-    ensures few { IfSome (S.left source.old) (λ all. most_text < length (part_of all)) → TakesOneText (S.left source.old) (S.left source.new) }
-    ensures left { TakesFront (S.left source.old) (S.left source.new) }
+    ensures answers { (all : List ℕ) → IsInput (S.told source.new) all → AnswersInput (V.verb verb.now) (to_come all (S.told source.old)) (to_come all (S.told source.new)) result }
+    ensures both { (all : List ℕ) → IsInput (S.told source.new) all → IfOk result (λ _. IsReadBoth (V.most verb.now) (to_come all (S.told source.old)) (to_come all (S.told source.new))) }
+    ensures said { IfOk result IsSaid }
+    ensures failed { result ≡ Err Failure.Read → Rose (S.told source.old).faults (S.told source.new).faults }
+    ensures few { (all : List ℕ) → IsInput (S.told source.new) all → IfSome (to_come all (S.told source.old)) (λ comes. most_text < length (part_of comes)) → TakesOneText (to_come all (S.told source.old)) (to_come all (S.told source.new)) }
+    ensures gives { Gives (S.told source.old) (S.told source.new) }
 {
     let limit = verb.limit();
     let input = read_two(alloc, source, limit)?;
@@ -108,7 +108,7 @@ pub fn run_two<V: TwoTexts, S: Source, K: Sink>(
 ) -> u8
     requires verb { IsVerb (V.verb verb.now) }
     requires two { IsTwo (Some (V.searched verb.now)) (V.most verb.now) (V.verb verb.now) }
-    ensures { Behaves (V.verb verb.now) (during S.left S.faults K.written K.faults source.old source.new sink.old sink.new) result }
+    ensures { Does (V.verb verb.now) (during S.told K.written K.faults source.old source.new sink.old sink.new) result }
 {
     show_law();
     let answer = answer_input(alloc, verb, source);

@@ -108,7 +108,7 @@ pub fn drill<S: Source, K: Sink>(
 ) -> u8
     requires some { 1 ≤ drones }
     requires few { drones ≤ most_drones }
-    ensures { Behaves (drill_verb drones depth) (during S.left S.faults K.written K.faults source.old source.new sink.old sink.new) result }
+    ensures { Does (drill_verb drones depth) (during S.told K.written K.faults source.old source.new sink.old sink.new) result }
 {
     show_law();
     let _ = &source;

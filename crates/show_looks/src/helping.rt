@@ -11,7 +11,7 @@ use show_judge::finish;
 
 // Writes these bytes, whatever the input is.
 fn tell<S: Source, K: Sink>(bytes: &[u8], source: &mut S, sink: &mut K) -> u8
-    ensures { Behaves (of_nothing bytes.now) (during S.left S.faults K.written K.faults source.old source.new sink.old sink.new) result }
+    ensures { Does (of_nothing bytes.now) (during S.told K.written K.faults source.old source.new sink.old sink.new) result }
 {
     show_law();
     let _ = &source;
@@ -20,14 +20,14 @@ fn tell<S: Source, K: Sink>(bytes: &[u8], source: &mut S, sink: &mut K) -> u8
 
 /// Runs `help` (docs/COMMANDS.md): these lines, the forms of the commands. It takes no memory and reads nothing.
 pub fn help<S: Source, K: Sink>(lines: &[u8], source: &mut S, sink: &mut K) -> u8
-    ensures { Behaves (help_verb lines.now) (during S.left S.faults K.written K.faults source.old source.new sink.old sink.new) result }
+    ensures { Does (help_verb lines.now) (during S.told K.written K.faults source.old source.new sink.old sink.new) result }
 {
     tell(lines, source, sink)
 }
 
 /// Runs `version` (docs/COMMANDS.md): one line, the program's name and its version. It takes no memory and reads nothing.
 pub fn version<S: Source, K: Sink>(source: &mut S, sink: &mut K) -> u8
-    ensures { Behaves version_verb (during S.left S.faults K.written K.faults source.old source.new sink.old sink.new) result }
+    ensures { Does version_verb (during S.told K.written K.faults source.old source.new sink.old sink.new) result }
 {
     tell(b"hemtoghai 0.1.0\n", source, sink)
 }

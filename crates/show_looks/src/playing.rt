@@ -23,13 +23,12 @@ use traj_codec::join_law;
 
 // What `play` judges of what its source gives.
 fn judge_input<S: Source>(alloc: Global, depth: Depth, source: &mut S) -> Result<Judged, Failure>
-    ensures judges { JudgesInput (show_ways depth) depth (S.left source.old) (S.left source.new) result }
+    ensures judges { (all : List ℕ) → IsInput (S.told source.new) all → JudgesInput (show_ways depth) depth (to_come all (S.told source.old)) (to_come all (S.told source.new)) result }
     ensures sound { IfOk result IsSoundJudged }
-    ensures failed { result ≡ Err Failure.Read → Rose (S.faults source.old) (S.faults source.new) }
-    ensures later { S.faults source.old ≤ S.faults source.new }
-    ensures few { TakesOneText (S.left source.old) (S.left source.new) }
-    ensures after { IfOk result (λ _. TakesFewAfter (S.left source.old) (S.left source.new)) }
-    ensures left { TakesFront (S.left source.old) (S.left source.new) }
+    ensures failed { result ≡ Err Failure.Read → Rose (S.told source.old).faults (S.told source.new).faults }
+    ensures few { (all : List ℕ) → IsInput (S.told source.new) all → TakesOneText (to_come all (S.told source.old)) (to_come all (S.told source.new)) }
+    ensures after { (all : List ℕ) → IsInput (S.told source.new) all → IfOk result (λ _. TakesFewAfter (to_come all (S.told source.old)) (to_come all (S.told source.new))) }
+    ensures gives { Gives (S.told source.old) (S.told source.new) }
 {
     let text = read_show_text(alloc, source)?;
     let ways = Ways {
@@ -67,9 +66,9 @@ fn carry<S: Source, K: Sink>(
     sink: &mut K,
 ) -> u8
     requires step { 1 ≤ step }
-    ensures runs { Runs (play_verb depth step) (during S.left S.faults K.written K.faults source.old source.new sink.old sink.new) result }
-    ensures few { TakesLittle (play_verb depth step) (during S.left S.faults K.written K.faults source.old source.new sink.old sink.new) }
-    ensures marker { StopsAtMarker (play_verb depth step) (during S.left S.faults K.written K.faults source.old source.new sink.old sink.new) result }
+    ensures runs { Runs (play_verb depth step) (during S.told K.written K.faults source.old source.new sink.old sink.new) result }
+    ensures few { TakesLittle (play_verb depth step) (during S.told K.written K.faults source.old source.new sink.old sink.new) }
+    ensures marker { StopsAtMarker (play_verb depth step) (during S.told K.written K.faults source.old source.new sink.old sink.new) result }
 {
     show_law();
     match judge_input(alloc, depth, source) {
@@ -89,7 +88,7 @@ pub fn play<S: Source, K: Sink>(
     sink: &mut K,
 ) -> u8
     requires step { 1 ≤ step }
-    ensures { Behaves (play_verb depth step) (during S.left S.faults K.written K.faults source.old source.new sink.old sink.new) result }
+    ensures { Does (play_verb depth step) (during S.told K.written K.faults source.old source.new sink.old sink.new) result }
 {
     show_law();
     carry(alloc, depth, step, source, sink)
