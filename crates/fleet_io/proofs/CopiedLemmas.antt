@@ -32,7 +32,7 @@ gave_on bytes from buf to at cut n front count made within =
     given_on bytes at n within ∙ ap (λ (xs : List ℕ). take at bytes ++ take n xs) (sym front) ∙ ap (λ (xs : List ℕ). take at bytes ++ xs) (sym given)
 
 -- no bytes are left
-empty : (xs : List ℕ) → eqb (length xs) 0 ≡ true → xs ≡ []
+pub empty : (xs : List ℕ) → eqb (length xs) 0 ≡ true → xs ≡ []
 empty [] is = refl
 empty (x ∷ xs) is = absurd (omega (arith, eqb-true (length (x ∷ xs)) 0 is))
 

@@ -1,5 +1,5 @@
 -- What a source gave, and what it may still give.
-use Rattle.fleet_io.proofs.Prelude.{common_steps, ◌≡◌, ℕ, ◌<◌, Bool, true, false, List, [], ◌∷◌, ◌++◌, append_assoc, append-nil, length, length-append, drop, Option, Some, refl, sym, ap, ◌∙◌, subst, ◌+◌, ◌≤◌, arith, IsTrue, Consumes, Keeps, IsAtEnd, prepend_known, Gives, IsInput, Told, Went, MayGive, to_come, Took, Runs}
+use Rattle.fleet_io.proofs.Prelude.{common_steps, ◌≡◌, ℕ, ◌<◌, Bool, true, false, List, [], ◌∷◌, ◌++◌, append_assoc, append-nil, length, length-append, drop, Option, Some, None, refl, sym, ap, ◌∙◌, subst, ◌+◌, ◌≤◌, arith, IsTrue, Consumes, Keeps, IsAtEnd, prepend_known, Gives, IsInput, Told, Went, MayGive, to_come, Took, Runs}
 use Rattle.fleet_io.specs.Taken.{TakesAtMost, TakesFront}
 use Rattle.fleet_io.proofs.TakenLemmas.{Consumes-append, Consumes-nil}
 
@@ -131,6 +131,26 @@ takes_at_most met t u all most w m few =
     let is = gives_of met t u all w m in
     omega (arith, ap length is.0, ap length is.1, length-append w.bytes m.rest, ap length w.given, length-append t.given w.bytes, few)
 
--- what a source that tells its bytes may give is what it has given and those
-pub IsInput-left : (t : Told) (bytes : List ℕ) → t.left ≡ Some bytes → (IsTrue t.ended → IsAtEnd t.left) → IsInput t (t.given ++ bytes)
-IsInput-left t bytes told at_end = record { rest = bytes; is = refl; none = rw told at at_end }
+-- the bytes that a source has left are known, where they were
+record HasLeft (given bytes : List ℕ) (left : Option (List ℕ)) : Type 0 where
+  rest : List ℕ
+  is : left ≡ Some rest
+  all : bytes ≡ given ++ rest
+
+has_left : (old new : Option (List ℕ)) (given bytes : List ℕ) → Consumes old new given → old ≡ Some bytes → HasLeft given bytes new
+has_left None new given bytes took told = absurd (cc)
+has_left (Some xs) None given bytes took told = absurd took
+has_left (Some xs) (Some ys) given bytes took told = let same : xs ≡ bytes = cc in record { rest = ys; is = refl; all = sym same ∙ took }
+
+-- A source that tells its bytes gives these and no others: what holds on each input holds on them.
+pub told_input : (t u : Told) (bytes : List ℕ) → Gives t u → t.left ≡ Some bytes → (IsTrue t.ended → IsAtEnd t.left) → IsInput u (t.given ++ bytes)
+told_input t u bytes w told at_end =
+    let has = has_left t.left u.left w.bytes bytes w.left told in
+    record {
+      rest = has.rest;
+      is = ap (λ (xs : List ℕ). t.given ++ xs) has.all ∙ sym (append_assoc t.given w.bytes has.rest) ∙ ap (λ (g : List ℕ). g ++ has.rest) (sym w.given);
+      none = λ is. subst (λ (left : Option (List ℕ)). IsAtEnd left) has.is (w.at_end at_end is);
+    }
+
+pub told_to_come : (t : Told) (bytes : List ℕ) → to_come (t.given ++ bytes) t ≡ Some bytes
+told_to_come t bytes = ap Some (dropped t.given bytes)

@@ -15,7 +15,7 @@ pub use Rattle.choreo_show.specs.declared.show.DroneLine.{DroneLine}
 pub use Rattle.choreo_show.specs.declared.show.Settings.{Settings}
 pub use Rattle.cue_grid.specs.Cues.{grid_of}
 pub use Rattle.fleet_io.proofs.TakenLemmas.{TakesFront-none, TakesFront-trans}
-pub use Rattle.fleet_io.proofs.ToldLemmas.{Gives-none, Gives-trans, IsInput-now, at_its_end, back, of_source, takes_at_most, takes_front}
+pub use Rattle.fleet_io.proofs.ToldLemmas.{Gives-none, Gives-trans, IsInput-now, at_its_end, back, comes, of_source, told_input, told_to_come, takes_at_most, takes_front}
 pub use Rattle.fleet_io.specs.Causes.{Rose}
 pub use Rattle.fleet_io.specs.Held.{Held, stream}
 pub use Rattle.fleet_io.specs.Parts.{TakesFewAfter}

@@ -13,7 +13,7 @@ pub use Rattle.show_judge.proofs.HeadlineLemmas.{behaves_of, says_of, whole_inpu
 pub use Rattle.show_judge.proofs.UnreadLemmas.{nothing_behaves, own_behaves, own_verb}
 pub use Rattle.show_judge.specs.Outcome.{IsSafe, IsSafeOutcome, IsVerb}
 pub use Rattle.show_judge.specs.Shows.{cues_in, cut_of, nodes_of, sent_of, words_of}
-pub use Rattle.show_judge.specs.Verb.{FliesApart, Outcome, Run, during, outcome, show_ways}
+pub use Rattle.show_judge.specs.Verb.{FliesApart, Outcome, Run, during, outcome, run_on, show_ways}
 pub use Rattle.show_plan.proofs.Valid.{short_all}
 pub use Rattle.show_plan.specs.Fitting.{IsFitted, IsSendable, IsValidFitted, size}
 pub use Rattle.show_plan.specs.declared.fitted.Fitted.{Fitted}
@@ -21,3 +21,5 @@ pub use Rattle.traj_codec.specs.declared.traj.Traj.{Traj}
 pub use Rattle.show_looks.specs.Play.{play_verb, rows}
 unfoldable pub use Rattle.show_looks.specs.Reports.{ok_line}
 pub use Rattle.show_looks.specs.Reports.{packets_for, report_of}
+pub use Rattle.fleet_io.proofs.ToldLemmas.{Gives-none, takes_front, told_input}
+pub use Rattle.fleet_io.specs.Told.{Gives, IsInput, Told, to_come}

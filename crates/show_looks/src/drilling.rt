@@ -11,7 +11,7 @@ ghost use Rattle.fleet_math.specs.Limits.{most_drones, most_text};
 ghost use Rattle.show_looks.specs.Drilled.{drill_of, drill_verb};
 ghost use Rattle.show_judge.specs.Shows.{cut_of, nodes_of};
 ghost use Rattle.show_looks.specs.Reports.{report_of};
-ghost use Rattle.show_judge.specs.Runs.{Behaves};
+ghost use Rattle.show_judge.specs.Runs.{Does};
 
 use crate::numbers::{packets, sizes, total};
 use choreo_reader::{Name, show_law};

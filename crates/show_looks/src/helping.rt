@@ -1,5 +1,5 @@
 //! `help` and `version`: the forms of the commands, and the program's version.
-ghost use Rattle.show_judge.specs.Runs.{Behaves};
+ghost use Rattle.show_judge.specs.Runs.{Does};
 ghost use Rattle.show_judge.specs.Verb.{during, of_nothing};
 ghost use Rattle.show_looks.specs.Help.{help_verb};
 ghost use Rattle.show_looks.specs.Version.{version_verb};

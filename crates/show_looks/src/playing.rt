@@ -1,15 +1,15 @@
 //! `play`: the positions of a show in whole numbers.
-ghost use Rattle.std.specs.Prelude.{◌≡◌, ◌≤◌, map, IfOk};
+ghost use Rattle.std.specs.Prelude.{◌≡◌, ◌≤◌, ℕ, List, map, IfOk};
 ghost use Rattle.choreo_lines.specs.Name.{Name};
 ghost use Rattle.fleet_io.specs.Causes.{Rose};
 ghost use Rattle.fleet_io.specs.Parts.{TakesFewAfter};
-ghost use Rattle.fleet_io.specs.Taken.{TakesFront};
+ghost use Rattle.fleet_io.specs.Told.{Gives, IsInput, to_come};
 ghost use Rattle.integer_player.specs.Played.{play_text};
 ghost use Rattle.show_plan.specs.Fitting.{IsValidFitted};
 ghost use Rattle.show_judge.specs.Answers.{IsSoundJudged, JudgesInput, Wrote};
 ghost use Rattle.show_judge.specs.Input.{TakesOneText};
-ghost use Rattle.show_judge.specs.Runs.{Behaves, Runs, StopsAtMarker, TakesLittle};
-ghost use Rattle.show_judge.specs.Verb.{during, show_ways};
+ghost use Rattle.show_judge.specs.Runs.{Does, Runs, StopsAtMarker, TakesLittle};
+ghost use Rattle.show_judge.specs.Verb.{during, run_on, show_ways};
 ghost use Rattle.show_looks.specs.Play.{play_verb};
 
 use choreo_reader::show_law;
@@ -66,9 +66,10 @@ fn carry<S: Source, K: Sink>(
     sink: &mut K,
 ) -> u8
     requires step { 1 ≤ step }
-    ensures runs { Runs (play_verb depth step) (during S.told K.written K.faults source.old source.new sink.old sink.new) result }
-    ensures few { TakesLittle (play_verb depth step) (during S.told K.written K.faults source.old source.new sink.old sink.new) }
-    ensures marker { StopsAtMarker (play_verb depth step) (during S.told K.written K.faults source.old source.new sink.old sink.new) result }
+    ensures gives { Gives (S.told source.old) (S.told source.new) }
+    ensures runs { (all : List ℕ) → IsInput (S.told source.new) all → Runs (play_verb depth step) (run_on (during S.told K.written K.faults source.old source.new sink.old sink.new) all) result }
+    ensures few { (all : List ℕ) → IsInput (S.told source.new) all → TakesLittle (play_verb depth step) (run_on (during S.told K.written K.faults source.old source.new sink.old sink.new) all) }
+    ensures marker { (all : List ℕ) → IsInput (S.told source.new) all → StopsAtMarker (play_verb depth step) (run_on (during S.told K.written K.faults source.old source.new sink.old sink.new) all) result }
 {
     show_law();
     match judge_input(alloc, depth, source) {

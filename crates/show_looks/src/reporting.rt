@@ -4,7 +4,7 @@ ghost use Rattle.choreo_show.specs.Plain.{PlainShow};
 ghost use Rattle.report_text.specs.Report.{report_text};
 ghost use Rattle.show_plan.specs.Fitting.{IsFitted, IsValidFitted};
 ghost use Rattle.show_judge.specs.Answers.{IsSaid, outcome_of};
-ghost use Rattle.show_judge.specs.Runs.{Behaves};
+ghost use Rattle.show_judge.specs.Runs.{Does};
 ghost use Rattle.show_judge.specs.Shows.{nodes_of};
 ghost use Rattle.show_judge.specs.Verb.{during, outcome};
 ghost use Rattle.show_looks.specs.Report.{report_verb};

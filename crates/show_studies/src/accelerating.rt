@@ -194,7 +194,7 @@ pub fn dynamics<S: Source, K: Sink>(
     source: &mut S,
     sink: &mut K,
 ) -> u8
-    ensures { Behaves (dynamics_verb depth accel jump) (during S.left S.faults K.written K.faults source.old source.new sink.old sink.new) result }
+    ensures { Does (dynamics_verb depth accel jump) (during S.told K.written K.faults source.old source.new sink.old sink.new) result }
 {
     run_any(alloc, &DynamicsVerb { depth, accel, jump }, source, sink)
 }

@@ -156,12 +156,11 @@ fn answer_two(alloc: Global, depth: Depth, input: &Input) -> Result<Answer, Allo
 
 // What `boxes` ends with for what its source gives.
 fn answer_input<S: Source>(alloc: Global, depth: Depth, source: &mut S) -> Result<Answer, Failure>
-    ensures answers { AnswersInput (boxes_verb depth) (S.left source.old) (S.left source.new) result }
-    ensures both { IfOk result (λ _. IsReadBoth most_text (S.left source.old) (S.left source.new)) }
-    ensures failed { result ≡ Err Failure.Read → Rose (S.faults source.old) (S.faults source.new) }
-    ensures later { S.faults source.old ≤ S.faults source.new }
-    ensures few { IfSome (S.left source.old) (λ all. most_text < length (part_of all)) → TakesOneText (S.left source.old) (S.left source.new) }
-    ensures left { TakesFront (S.left source.old) (S.left source.new) }
+    ensures answers { (all : List ℕ) → IsInput (S.told source.new) all → AnswersInput (boxes_verb depth) (to_come all (S.told source.old)) (to_come all (S.told source.new)) result }
+    ensures both { (all : List ℕ) → IsInput (S.told source.new) all → IfOk result (λ _. IsReadBoth most_text (to_come all (S.told source.old)) (to_come all (S.told source.new))) }
+    ensures failed { result ≡ Err Failure.Read → Rose (S.told source.old).faults (S.told source.new).faults }
+    ensures few { (all : List ℕ) → IsInput (S.told source.new) all → IfSome (to_come all (S.told source.old)) (λ comes. most_text < length (part_of comes)) → TakesOneText (to_come all (S.told source.old)) (to_come all (S.told source.new)) }
+    ensures gives { Gives (S.told source.old) (S.told source.new) }
 {
     let input = read_two(alloc, source, MOST_TEXT)?;
     Ok(answer_two(alloc, depth, &input)?)
@@ -175,7 +174,7 @@ pub fn boxes_law()
 /// Runs `boxes` (docs/COMMANDS.md): the number of regions, where each drone keeps to each of them throughout the show; or the first
 /// thing that is wrong with either text, or the first part of a cue in which a drone isn't kept.
 pub fn boxes<S: Source, K: Sink>(alloc: Global, depth: Depth, source: &mut S, sink: &mut K) -> u8
-    ensures { Behaves (boxes_verb depth) (during S.left S.faults K.written K.faults source.old source.new sink.old sink.new) result }
+    ensures { Does (boxes_verb depth) (during S.told K.written K.faults source.old source.new sink.old sink.new) result }
 {
     show_law();
     boxes_law();

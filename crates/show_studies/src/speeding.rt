@@ -170,7 +170,7 @@ pub fn speed<S: Source, K: Sink>(
     source: &mut S,
     sink: &mut K,
 ) -> u8
-    ensures { Behaves (speed_verb depth limit) (during S.left S.faults K.written K.faults source.old source.new sink.old sink.new) result }
+    ensures { Does (speed_verb depth limit) (during S.told K.written K.faults source.old source.new sink.old sink.new) result }
 {
     run_any(alloc, &SpeedVerb { depth, limit }, source, sink)
 }

@@ -1,4 +1,4 @@
-use Rattle.show_looks.proofs.Prelude.{refl, ap, Err, play_verb, rows, show_plain, show_verb, during, outcome}
+use Rattle.show_looks.proofs.Prelude.{refl, ap, Err, play_verb, rows, show_plain, show_verb, during, run_on, takes_front, outcome}
 use Rattle.show_judge.proofs.VerbLemmas.{outcomes}
 use Rattle.show_judge.specs.declared.ends.Failure.{Failure}
 use Rattle.show_judge.proofs.JudgedLemmas.{runs_accepted, runs_failed, runs_refused}
@@ -6,25 +6,25 @@ use Rattle.show_looks.proofs.PlayLemmas.{rows_of}
 use Rattle.show_looks.proofs.playing.carry.Goals as goal
 
 pub returns-in-Ok-Accepted-clause-runs : goal.returns-in-Ok-Accepted-clause-runs
-returns-in-Ok-Accepted-clause-runs g c =
+returns-in-Ok-Accepted-clause-runs g c all is =
     let it = c.in-Ok-Accepted in
     runs_accepted (play_verb c.args.depth c.args.step) (show_verb c.args.depth (rows c.args.step)) c.args.depth
-    (during g.S.Source.left g.S.Source.faults g.K.Sink.written g.K.Sink.faults c.args.source.now c.judge_input.new.source c.args.sink.now c.write_rows.new.sink)
+    (run_on (during g.S.Source.told g.K.Sink.written g.K.Sink.faults c.args.source.now c.judge_input.new.source c.args.sink.now c.write_rows.new.sink) all)
     it.accepted _ c.write_rows.result (show_plain c.args.depth (rows c.args.step)) (outcomes c.show_law.ensures (play_verb c.args.depth c.args.step) (show_verb c.args.depth (rows c.args.step)))
-    (rw it.field-0-is at it.ensures.judges) (λ cut s fitted nodes. ap (outcome 0) (rows_of it.accepted.fitted s c.args.step fitted))
-    c.judge_input.ensures.left c.judge_input.ensures.later c.write_rows.ensures
+    (rw it.field-0-is at (it.ensures.judges all is)) (λ cut s fitted nodes. ap (outcome 0) (rows_of it.accepted.fitted s c.args.step fitted))
+    (takes_front _ _ _ all c.judge_input.ensures.gives is) c.judge_input.ensures.gives.later c.write_rows.ensures
 
 pub returns-in-Ok-Refused-clause-runs : goal.returns-in-Ok-Refused-clause-runs
-returns-in-Ok-Refused-clause-runs g c =
+returns-in-Ok-Refused-clause-runs g c all is =
     let it = c.in-Ok-Refused in
     runs_refused (play_verb c.args.depth c.args.step) c.args.depth
-    (during g.S.Source.left g.S.Source.faults g.K.Sink.written g.K.Sink.faults c.args.source.now c.judge_input.new.source c.args.sink.now c.refuse.new.sink)
+    (run_on (during g.S.Source.told g.K.Sink.written g.K.Sink.faults c.args.source.now c.judge_input.new.source c.args.sink.now c.refuse.new.sink) all)
     it.refusal c.refuse.result (show_plain c.args.depth (rows c.args.step)) refl (outcomes c.show_law.ensures (play_verb c.args.depth c.args.step) (show_verb c.args.depth (rows c.args.step)))
-    (rw it.field-0-is at it.ensures.judges) (rw it.field-0-is at it.ensures.sound) c.judge_input.ensures.left c.judge_input.ensures.later c.refuse.ensures
+    (rw it.field-0-is at (it.ensures.judges all is)) (rw it.field-0-is at it.ensures.sound) (takes_front _ _ _ all c.judge_input.ensures.gives is) c.judge_input.ensures.gives.later c.refuse.ensures
 
 pub returns-in-Err-clause-runs : goal.returns-in-Err-clause-runs
-returns-in-Err-clause-runs g c =
+returns-in-Err-clause-runs g c all is =
     runs_failed (play_verb c.args.depth c.args.step)
-    (during g.S.Source.left g.S.Source.faults g.K.Sink.written g.K.Sink.faults c.args.source.now c.judge_input.new.source c.args.sink.now c.fail.new.sink)
+    (run_on (during g.S.Source.told g.K.Sink.written g.K.Sink.faults c.args.source.now c.judge_input.new.source c.args.sink.now c.fail.new.sink) all)
     c.in-Err.failure c.fail.result (show_plain c.args.depth (rows c.args.step))
-    (λ is. c.in-Err.ensures.failed (ap (λ (f : Failure). Err f) is)) c.judge_input.ensures.left c.judge_input.ensures.later c.fail.ensures
+    (λ is. c.in-Err.ensures.failed (ap (λ (f : Failure). Err f) is)) (takes_front _ _ _ all c.judge_input.ensures.gives is) c.judge_input.ensures.gives.later c.fail.ensures
