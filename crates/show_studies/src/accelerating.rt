@@ -9,7 +9,7 @@ ghost use Rattle.show_plan.specs.Fitting.{IsFitted, IsSendable, IsValidFitted, S
 ghost use Rattle.traj_codec.specs.Positions.{durations};
 ghost use Rattle.show_judge.specs.Answers.{IsSaid, outcome_of};
 ghost use Rattle.show_judge.specs.Refused.{IsOfInput};
-ghost use Rattle.show_judge.specs.Runs.{Behaves};
+ghost use Rattle.show_judge.specs.Runs.{Does};
 ghost use Rattle.show_judge.specs.Shows.{Cut};
 ghost use Rattle.show_judge.specs.Verb.{during};
 ghost use Rattle.show_studies.specs.Dynamics.{dynamics_text, dynamics_verb, excess_by, first_excess_of, in_micrometres, limits_of, refusal_as, times_of};

@@ -8,7 +8,7 @@ ghost use Rattle.show_plan.specs.Uploading.{Uploads};
 ghost use Rattle.show_judge.specs.Answers.{IsSaid, outcome_of};
 ghost use Rattle.show_judge.specs.Outcome.{ShowGives};
 ghost use Rattle.show_judge.specs.Refused.{blocked_by};
-ghost use Rattle.show_judge.specs.Runs.{Behaves};
+ghost use Rattle.show_judge.specs.Runs.{Does};
 ghost use Rattle.show_judge.specs.Shows.{Cut, sent_of};
 ghost use Rattle.show_judge.specs.Verb.{during};
 ghost use Rattle.show_studies.specs.Explained.{explain_verb};

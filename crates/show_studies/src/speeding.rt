@@ -13,7 +13,7 @@ ghost use Rattle.show_judge.specs.Answers.{IsSaid, outcome_of};
 ghost use Rattle.show_judge.specs.Outcome.{ShowGives};
 ghost use Rattle.show_studies.specs.Speeds.{KeepsBounds, above, first_too_fast, speed_of_drone, speed_text, speed_verb, refused_or, too_fast_by, too_fast_of};
 ghost use Rattle.show_judge.specs.Refused.{IsOfInput, blocked_by};
-ghost use Rattle.show_judge.specs.Runs.{Behaves};
+ghost use Rattle.show_judge.specs.Runs.{Does};
 ghost use Rattle.show_judge.specs.Shows.{Cut, sent_of};
 ghost use Rattle.show_judge.specs.Verb.{during};
 
