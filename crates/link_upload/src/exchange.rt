@@ -1,10 +1,11 @@
 //! An upload between a source and a sink, from the first packets to the end frame.
 
 ghost use Rattle.std.specs.Prelude.{◌≡◌, ◌≢◌, ◌⊎◌, ◌≤◌, ◌++◌, [], ◌∷◌, ℕ, List, length, false, None, IsTrue, All, Contains, IfOk, IfSome, OnOk, OnErr, Err};
-ghost use Rattle.std.specs.Io.KnownBytes.{Appends, Consumes, IsAtEnd};
-ghost use Rattle.fleet_io.specs.Causes.{HasCause, Rose};
+ghost use Rattle.std.specs.Io.KnownBytes.{Appends, Consumes};
+ghost use Rattle.fleet_io.specs.Causes.{Rose};
 ghost use Rattle.fleet_io.specs.Held.{buffer_bytes, stream};
-ghost use Rattle.fleet_io.specs.Taken.{AppendsFront, TakesFront};
+ghost use Rattle.fleet_io.specs.Taken.{AppendsFront};
+ghost use Rattle.fleet_io.specs.Told.{MayGive, Took, Went, to_come};
 ghost use Rattle.link_frames.specs.Frames.{IsBegun, IsFrame, end_frame, frame_of};
 ghost use Rattle.upload_core.specs.HostStandsFor.{HostStandsFor};
 ghost use Rattle.upload_core.specs.HostState.{IsPacketOf, view_of};
@@ -64,18 +65,17 @@ fn step<S: Source>(
     out: &mut Out,
 ) -> Result<Stepped, Failed>
     requires sound { IsTrue parts.old.sound }
-    requires at_end { IsTrue parts.old.ended → IsAtEnd (S.left source.old) }
+    requires at_end { IsTrue parts.old.ended → IsTrue (S.told source.old).ended }
     requires holds { length parts.old.waiting ≤ buffer_bytes }
-    ensures gives { IfOk result (λ stepped. StepGives stepped host.old host.new out.new.items
-        (stream parts.old (S.left source.old)) (stream parts.new (S.left source.new))) }
+    ensures gives { (all : List ℕ) → MayGive parts.new.ended (S.told source.new) all → IfOk result (λ stepped. StepGives stepped host.old host.new out.new.items
+        (stream parts.old (to_come all (S.told source.old))) (stream parts.new (to_come all (S.told source.new)))) }
     ensures failed { OnErr result ((parts.old.ended ≡ false) × (parts.new.waiting ≡ [])
-        × ((begun : List ℕ) × IsBegun begun × Consumes (stream parts.old (S.left source.old)) (S.left source.new) begun)) }
+        × ((begun : List ℕ) × IsBegun begun × Took parts.old.waiting [] (S.told source.old) (S.told source.new) begun)) }
     ensures sound { OnOk result (IsTrue parts.new.sound) }
     ensures holds { length parts.new.waiting ≤ buffer_bytes }
-    ensures at_end { IsTrue parts.new.ended → IsAtEnd (S.left source.new) }
     ensures began { parts.new.ended ≡ false → parts.old.ended ≡ false }
-    ensures cause { HasCause (S.faults source.old) (S.faults source.new) result }
-    ensures left { TakesFront (S.left source.old) (S.left source.new) }
+    ensures cause { OnErr result (Rose (S.told source.old).faults (S.told source.new).faults) }
+    ensures went { Went parts.old.ended parts.new.ended (S.told source.old) (S.told source.new) }
 {
     if let Some(frame) = whole_frame(parts.waiting()) {
         let size = frame.size();
@@ -112,20 +112,19 @@ fn carry<S: Source, K: Sink>(
     sink: &mut K,
 ) -> Result<u8, Broken>
     requires sound { IsTrue parts.old.sound }
-    requires at_end { IsTrue parts.old.ended → IsAtEnd (S.left source.old) }
+    requires at_end { IsTrue parts.old.ended → IsTrue (S.told source.old).ended }
     requires holds { length parts.old.waiting ≤ buffer_bytes }
     requires new { HostStandsFor (view_of host) [] }
-    ensures ends { IfOk result (λ status. Ends (link_of host.session) status (stream parts.old (S.left source.old)) (K.written sink.old) (K.written sink.new)) }
-    ensures read { result ≡ Err Broken.Read → Rose (S.faults source.old) (S.faults source.new) × (parts.old.ended ≡ false)
-        × Fails (link_of host.session) (stream parts.old (S.left source.old)) (S.left source.new) (K.written sink.old) (K.written sink.new) }
-    ensures write { result ≡ Err Broken.Write → Rose (K.faults sink.old) (K.faults sink.new)
-        × Breaks (link_of host.session) (stream parts.old (S.left source.old)) (K.written sink.old) (K.written sink.new) }
-    ensures prompt { StaysPrompt (link_of host.session) (stream parts.old (S.left source.old)) (S.left source.new) (K.written sink.old) (K.written sink.new) }
-    ensures stops { StopsAtEnd (link_of host.session) (stream parts.old (S.left source.old)) (S.left source.new) }
+    ensures ends { (all : List ℕ) → MayGive parts.new.ended (S.told source.new) all → IfOk result (λ status. Ends (link_of host.session) status (stream parts.old (to_come all (S.told source.old))) (K.written sink.old) (K.written sink.new)) }
+    ensures read { (all : List ℕ) → MayGive parts.new.ended (S.told source.new) all → result ≡ Err Broken.Read → Rose (S.told source.old).faults (S.told source.new).faults × (parts.old.ended ≡ false)
+        × Fails (link_of host.session) (stream parts.old (to_come all (S.told source.old))) (to_come all (S.told source.new)) (K.written sink.old) (K.written sink.new) }
+    ensures write { (all : List ℕ) → MayGive parts.new.ended (S.told source.new) all → result ≡ Err Broken.Write → Rose (K.faults sink.old) (K.faults sink.new)
+        × Breaks (link_of host.session) (stream parts.old (to_come all (S.told source.old))) (K.written sink.old) (K.written sink.new) }
+    ensures prompt { (all : List ℕ) → MayGive parts.new.ended (S.told source.new) all → StaysPrompt (link_of host.session) (stream parts.old (to_come all (S.told source.old))) (to_come all (S.told source.new)) (K.written sink.old) (K.written sink.new) }
+    ensures stops { (all : List ℕ) → MayGive parts.new.ended (S.told source.new) all → StopsAtEnd (link_of host.session) (stream parts.old (to_come all (S.told source.old))) (to_come all (S.told source.new)) }
     ensures grown { (sent : List ℕ) × Appends (K.written sink.old) (K.written sink.new) sent }
     ensures known { IfOk result (λ status. Contains (0 ∷ 8 ∷ 9 ∷ 10 ∷ 11 ∷ 13 ∷ 14 ∷ []) status) }
-    ensures left { TakesFront (S.left source.old) (S.left source.new) }
-    ensures source_later { S.faults source.old ≤ S.faults source.new }
+    ensures went { Went parts.old.ended parts.new.ended (S.told source.old) (S.told source.new) }
     ensures sink_later { K.faults sink.old ≤ K.faults sink.new }
 {
     // There is a drone, so the upload goes on before any frame.
@@ -180,31 +179,30 @@ fn finish<K: Sink>(sink: &mut K, status: u8) -> u8
 /// with that status goes out last. It returns the status, or 7 where a write failed. It takes no memory.
 pub fn upload<S: Source, K: Sink>(parts: &mut Parts, source: &mut S, host: Host, sink: &mut K) -> u8
     requires sound { IsTrue parts.old.sound }
-    requires at_end { IsTrue parts.old.ended → IsAtEnd (S.left source.old) }
+    requires at_end { IsTrue parts.old.ended → IsTrue (S.told source.old).ended }
     requires holds { length parts.old.waiting ≤ buffer_bytes }
     requires new { HostStandsFor (view_of host) [] }
     // Each status but 6 and 7 is that to which the bytes lead, and all that they lead to was sent.
-    ensures ends { result ≢ 6 → result ≢ 7 → IfSome (stream parts.old (S.left source.old)) (λ bytes. (output : List ℕ)
+    ensures ends { (all : List ℕ) → MayGive parts.new.ended (S.told source.new) all → result ≢ 6 → result ≢ 7 → IfSome (stream parts.old (to_come all (S.told source.old))) (λ bytes. (output : List ℕ)
         × UploadGives (link_of host.session) bytes result output × Appends (K.written sink.old) (K.written sink.new) output) }
     // A read failed: what the frames before it lead to was sent, and the end frame of 6.
-    ensures six { result ≡ 6 → Rose (S.faults source.old) (S.faults source.new) × (parts.old.ended ≡ false)
-        × IfSome (stream parts.old (S.left source.old)) (λ _. (taken output : List ℕ) × Consumes (stream parts.old (S.left source.old)) (S.left source.new) taken
+    ensures six { (all : List ℕ) → MayGive parts.new.ended (S.told source.new) all → result ≡ 6 → Rose (S.told source.old).faults (S.told source.new).faults × (parts.old.ended ≡ false)
+        × IfSome (stream parts.old (to_come all (S.told source.old))) (λ _. (taken output : List ℕ) × Consumes (stream parts.old (to_come all (S.told source.old))) (to_come all (S.told source.new)) taken
         × UploadFails (link_of host.session) taken output × Appends (K.written sink.old) (K.written sink.new) output) }
     // A write failed: a prefix was sent of what the bytes lead to, or those before a failed read.
-    ensures seven { result ≡ 7 → Rose (K.faults sink.old) (K.faults sink.new)
-        × IfSome (stream parts.old (S.left source.old)) (λ bytes. (output : List ℕ) × AppendsFront (K.written sink.old) (K.written sink.new) output
+    ensures seven { (all : List ℕ) → MayGive parts.new.ended (S.told source.new) all → result ≡ 7 → Rose (K.faults sink.old) (K.faults sink.new)
+        × IfSome (stream parts.old (to_come all (S.told source.old))) (λ bytes. (output : List ℕ) × AppendsFront (K.written sink.old) (K.written sink.new) output
         × (((status : ℕ) × UploadGives (link_of host.session) bytes status output)
-        ⊎ (Rose (S.faults source.old) (S.faults source.new) × (parts.old.ended ≡ false)
-        × ((taken : List ℕ) × Consumes (stream parts.old (S.left source.old)) (S.left source.new) taken × UploadFails (link_of host.session) taken output)))) }
+        ⊎ (Rose (S.told source.old).faults (S.told source.new).faults × (parts.old.ended ≡ false)
+        × ((taken : List ℕ) × Consumes (stream parts.old (to_come all (S.told source.old))) (to_come all (S.told source.new)) taken × UploadFails (link_of host.session) taken output)))) }
     // No answer waits for much further input.
-    ensures prompt { StaysPrompt (link_of host.session) (stream parts.old (S.left source.old)) (S.left source.new) (K.written sink.old) (K.written sink.new) }
+    ensures prompt { (all : List ℕ) → MayGive parts.new.ended (S.told source.new) all → StaysPrompt (link_of host.session) (stream parts.old (to_come all (S.told source.old))) (to_come all (S.told source.new)) (K.written sink.old) (K.written sink.new) }
     // Once the upload is over no more is read: at most 4,096 bytes after its frames were taken.
-    ensures stops { StopsAtEnd (link_of host.session) (stream parts.old (S.left source.old)) (S.left source.new) }
+    ensures stops { (all : List ℕ) → MayGive parts.new.ended (S.told source.new) all → StopsAtEnd (link_of host.session) (stream parts.old (to_come all (S.told source.old))) (to_come all (S.told source.new)) }
     // Whether or not the source tells its bytes: what the sink holds only grows.
     ensures grown { (sent : List ℕ) × Appends (K.written sink.old) (K.written sink.new) sent }
     ensures known { Contains (0 ∷ 6 ∷ 7 ∷ 8 ∷ 9 ∷ 10 ∷ 11 ∷ 13 ∷ 14 ∷ []) result }
-    ensures taken { TakesFront (S.left source.old) (S.left source.new) }
-    ensures source_later { S.faults source.old ≤ S.faults source.new }
+    ensures went { Went parts.old.ended parts.new.ended (S.told source.old) (S.told source.new) }
     ensures sink_later { K.faults sink.old ≤ K.faults sink.new }
 {
     match carry(parts, source, host, sink) {

@@ -1,10 +1,9 @@
 //! Frames that come in.
 
 ghost use Rattle.std.specs.Prelude.{◌≡◌, ◌≤◌, ℕ, [], List, length, true, false, IsTrue, IfOk, OnOk, OnErr};
-ghost use Rattle.std.specs.Io.KnownBytes.{Consumes, IsAtEnd};
-ghost use Rattle.fleet_io.specs.Causes.{HasCause};
+ghost use Rattle.fleet_io.specs.Causes.{Rose};
 ghost use Rattle.fleet_io.specs.Held.{buffer_bytes, stream};
-ghost use Rattle.fleet_io.specs.Taken.{TakesFront};
+ghost use Rattle.fleet_io.specs.Told.{MayGive, Took, Went, to_come};
 ghost use Rattle.link_frames.specs.Frames.{IsBegun};
 ghost use Rattle.link_upload.specs.Steps.{NextGives};
 
@@ -23,17 +22,16 @@ pub enum Next {
 #[inline(never)]
 pub fn next_frame<S: Source>(parts: &mut Parts, source: &mut S) -> Result<Next, Failed>
     requires sound { IsTrue parts.old.sound }
-    requires at_end { IsTrue parts.old.ended → IsAtEnd (S.left source.old) }
+    requires at_end { IsTrue parts.old.ended → IsTrue (S.told source.old).ended }
     requires holds { length parts.old.waiting ≤ buffer_bytes }
-    ensures gives { IfOk result (λ next. NextGives next (stream parts.old (S.left source.old)) (stream parts.new (S.left source.new))) }
+    ensures gives { (all : List ℕ) → MayGive parts.new.ended (S.told source.new) all → IfOk result (λ next. NextGives next (stream parts.old (to_come all (S.told source.old))) (stream parts.new (to_come all (S.told source.new)))) }
     ensures failed { OnErr result ((parts.old.ended ≡ false) × (parts.new.waiting ≡ [])
-        × ((begun : List ℕ) × IsBegun begun × Consumes (stream parts.old (S.left source.old)) (S.left source.new) begun)) }
+        × ((begun : List ℕ) × IsBegun begun × Took parts.old.waiting [] (S.told source.old) (S.told source.new) begun)) }
     ensures sound { OnOk result (IsTrue parts.new.sound) }
     ensures holds { length parts.new.waiting ≤ buffer_bytes }
-    ensures at_end { IsTrue parts.new.ended → IsAtEnd (S.left source.new) }
     ensures began { parts.new.ended ≡ false → parts.old.ended ≡ false }
-    ensures cause { HasCause (S.faults source.old) (S.faults source.new) result }
-    ensures left { TakesFront (S.left source.old) (S.left source.new) }
+    ensures cause { OnErr result (Rose (S.told source.old).faults (S.told source.new).faults) }
+    ensures went { Went parts.old.ended parts.new.ended (S.told source.old) (S.told source.new) }
 {
     frame_law();
     let mut frames = Frames::make();

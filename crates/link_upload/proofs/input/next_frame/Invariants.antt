@@ -1,4 +1,4 @@
-use Rattle.link_upload.proofs.Prelude.{◌≡◌, ◌≤◌, false, length, IsTrue, Consumes, IsAtEnd, stream, TakesFront, IsBegun}
+use Rattle.link_upload.proofs.Prelude.{◌≡◌, ◌≤◌, false, length, IsTrue, Took, Went, IsBegun}
 use Rattle.link_upload.proofs.input.next_frame.Given as goal
 
 -- the bytes that were taken are those of the frame that is begun
@@ -6,11 +6,10 @@ abbrev pub invariant-bytes : goal.invariant-bytes
 invariant-bytes g l = record {
   begun : IsBegun l.frames;
   counted : length l.frames ≡ l.n;
-  taken : Consumes (stream l.initial.parts (g.S.Source.left l.initial.source)) (stream l.parts (g.S.Source.left l.source)) l.frames;
+  took : Took l.initial.parts.waiting l.parts.waiting (g.S.Source.told l.initial.source) (g.S.Source.told l.source) l.frames;
   sound : IsTrue l.parts.sound;
   holds : length l.parts.waiting ≤ 4096;
-  at_end : IsTrue l.parts.ended → IsAtEnd (g.S.Source.left l.source);
+  at_end : IsTrue l.parts.ended → IsTrue (g.S.Source.told l.source).ended;
   began : l.parts.ended ≡ false → l.initial.parts.ended ≡ false;
-  left : TakesFront (g.S.Source.left l.initial.source) (g.S.Source.left l.source);
-  later : g.S.Source.faults l.initial.source ≤ g.S.Source.faults l.source;
+  went : Went l.initial.parts.ended l.parts.ended (g.S.Source.told l.initial.source) (g.S.Source.told l.source);
 }
