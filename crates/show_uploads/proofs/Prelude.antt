@@ -21,7 +21,7 @@ pub use Rattle.link_upload.specs.Uploads.{EndsWith, IsPrompt, StaysPrompt, Stops
 pub use Rattle.refusals.specs.declared.refusal.Refusal.{Refusal}
 pub use Rattle.rehearsal.specs.Rehearsed.{blank_drone, rehearsed}
 pub use Rattle.rehearsal.specs.Texts.{AreTexts, IsFound, IsRehearsalText, drone_text, title_line}
-pub use Rattle.show_judge.proofs.FewLemmas.{few_after_long, stream_new}
+pub use Rattle.show_judge.proofs.FewLemmas.{few_after_long, at_new, stream_new}
 pub use Rattle.show_judge.proofs.HeadlineLemmas.{behaves_of, flies_text}
 pub use Rattle.show_judge.proofs.RunLemmas.{refused_among, refused_judged, some_map, statuses}
 pub use Rattle.show_judge.specs.Answers.{IsAccepted, IsRefusedBy, Wrote, outcome_of}
@@ -47,3 +47,7 @@ pub use Rattle.show_uploads.specs.Ready.{IsLinkOf, ReadyGives}
 pub use Rattle.show_uploads.specs.Rehearse.{AllDecode, RehearsalEnds, RehearseGives, RehearseLaw, RehearseSucceeds, Rehearses, SaysHeld, ScheduleGives, rehearse_known, schedule_refusal}
 pub use Rattle.show_uploads.specs.Sessions.{link_in, session_of}
 pub use Rattle.show_uploads.specs.Upload.{HasBegun, UploadStops, UploadStopsReading, UploadSucceeds, UploadingLaw, UploadsPromptly, upload_verb, upload_ways}
+pub use Rattle.show_uploads.specs.Ready.{TakesMarked}
+pub use Rattle.fleet_io.proofs.ToldLemmas.{Gives-trans, IsInput-now, back, comes, consumed, of_source, takes_at_most, takes_front}
+pub use Rattle.fleet_io.specs.Told.{Gives, IsInput, MayGive, Told, Took, Went, to_come}
+pub use Rattle.show_judge.specs.Verb.{run_on}

@@ -5,7 +5,10 @@ use Rattle.choreo_reader.specs.Grammar.{StandsFor}
 use Rattle.choreo_reader.specs.Laws.{ShowLaw}
 use Rattle.fleet_io.specs.Causes.{Rose}
 use Rattle.fleet_io.specs.declared.parts.Part.{Part}
-use Rattle.fleet_io.specs.Parts.{MarkerLaw, TakesFewAfter, TakesMarked, TakesPart}
+use Rattle.fleet_io.specs.Parts.{MarkerLaw, TakesFewAfter, TakesPart}
+use Rattle.show_uploads.specs.Ready.{GoesOnReady, TakesMarked}
+use Rattle.fleet_io.specs.Held.{Held}
+use Rattle.std.specs.Prelude.{IsTrue}
 use Rattle.fleet_io.proofs.MarkerLaws.{whole_marker-front}
 use Rattle.refusals.specs.Refusals.{status_of}
 use Rattle.show_uploads.specs.declared.uploading.Ready.{Ready}
@@ -25,6 +28,19 @@ pub ready_of_text : (depth : ℕ) (start readback : Bool) (old new : Option (Lis
 ready_of_text depth start readback None new part ready takes short gives = tt
 ready_of_text depth start readback (Some all) new part ready takes short gives =
     gives (cut_of all) (takes.part, takes.marker, omega (arith, short, ap (λ (xs : List ℕ). length xs) takes.part))
+
+-- the bytes after the marker line are still to come
+pub goes_on_ready : (ready : Ready) (held : Held) (old new : Option (List ℕ)) → held.sound ≡ true → IfSome old (λ all. new ≡ Some (rest_of all)) → (held.ended ≡ false → TakesMarked old new) → GoesOnReady ready held old new
+goes_on_ready (ready.Host host) held old new sound rest fed = (sound, rest, fed)
+goes_on_ready (ready.Refused r) held old new sound rest fed = tt
+
+-- where the end wasn't met, a marker line ended the part
+pub fed_before : (marked met : Bool) (P : Type 0) → (marked ≡ false → IsTrue met) → (marked ≡ true → IsTrue met ⊎ P) → met ≡ false → P
+fed_before false met P to_end fed off = absurd (let e : false ≡ true = sym off ∙ to_end refl in cc)
+fed_before true met P to_end fed off = elim (fed refl) [
+  | inl is ↦ absurd (let e : false ≡ true = sym off ∙ is in cc)
+  | inr p ↦ p
+]
 
 -- what fits of a show is uploaded as the show is
 session_is : (f : Fitted) (s : PlainShow) (readback start : Bool) → IsFitted f s → session_for f.settings f.sent readback start ≡ session_of s readback start

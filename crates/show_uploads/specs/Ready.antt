@@ -3,8 +3,8 @@ use Rattle.std.specs.Prelude.{◌≡◌, ℕ, ◌≤◌, Bool, true, false, List
 use Rattle.text_lines.specs.Marker.{rest_of}
 use Rattle.choreo_show.specs.Plain.{PlainShow}
 use Rattle.choreo_reader.specs.Grammar.{StandsFor}
-use Rattle.fleet_io.specs.Held.{Held}
-use Rattle.fleet_io.specs.Parts.{TakesMarked}
+use Rattle.std.specs.Io.KnownBytes.{Consumes}
+use Rattle.fleet_io.specs.Held.{Held, has_whole_marker}
 use Rattle.show_judge.specs.declared.ways.Ways.{Ways}
 use Rattle.upload_core.specs.HostStandsFor.{HostStandsFor}
 use Rattle.upload_core.specs.HostState.{view_of}
@@ -36,6 +36,10 @@ ReadyGives c start readback cut (ready.Refused r) = IsRefusedBy c cut r
 abbrev pub IsSoundReady : Ready → Type 0
 IsSoundReady (ready.Host host) = HostStandsFor (view_of host) []
 IsSoundReady (ready.Refused r) = IsOfInput r
+
+-- Of the bytes to come some were taken in which a marker line stands with its line feed.
+abbrev pub TakesMarked : Option (List ℕ) → Option (List ℕ) → Type 0
+TakesMarked old new = (taken : List ℕ) × Consumes old new taken × (has_whole_marker taken ≡ true)
 
 -- Where frames are wanted, the bytes after the marker line are still to come; and unless the input's end was met, the marker line had its line
 -- feed.

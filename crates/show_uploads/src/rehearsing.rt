@@ -7,7 +7,7 @@ ghost use Rattle.show_plan.specs.Landing.{Lands};
 ghost use Rattle.show_judge.specs.Answers.{IsSaid, outcome_of};
 ghost use Rattle.show_judge.specs.Input.{IsText, IsUnmarked, IsWithin};
 ghost use Rattle.show_uploads.specs.Rehearse.{RehearseGives, Rehearses, rehearse_verb};
-ghost use Rattle.show_judge.specs.Runs.{Behaves};
+ghost use Rattle.show_judge.specs.Runs.{Does};
 ghost use Rattle.show_judge.specs.Shows.{Cut};
 ghost use Rattle.show_judge.specs.Verb.{during};
 ghost use Rattle.show_judge.specs.Outcome.{IsVerb};
@@ -185,7 +185,7 @@ pub fn rehearse<S: Source, K: Sink>(
     source: &mut S,
     sink: &mut K,
 ) -> u8
-    ensures { Behaves (rehearse_verb depth start readback) (during S.left S.faults K.written K.faults source.old source.new sink.old sink.new) result }
+    ensures { Does (rehearse_verb depth start readback) (during S.told K.written K.faults source.old source.new sink.old sink.new) result }
 {
     rehearse_law();
     run_two(

@@ -1,11 +1,10 @@
 //! `upload`: an upload of a show through link frames.
-ghost use Rattle.std.specs.Prelude.{◌≡◌, ◌≤◌, ℕ, List, [], length, false, IsTrue, IfOk, IfSome};
-ghost use Rattle.std.specs.Io.KnownBytes.{Consumes, IsAtEnd};
+ghost use Rattle.std.specs.Prelude.{◌≡◌, ◌≤◌, ◌++◌, ℕ, List, [], length, false, IsTrue, IfOk, IfSome};
 ghost use Rattle.text_lines.specs.Marker.{part_of};
 ghost use Rattle.fleet_io.specs.Causes.{Rose};
 ghost use Rattle.fleet_io.specs.Held.{buffer_bytes, has_whole_marker, stream};
 ghost use Rattle.fleet_io.specs.Parts.{TakesFewAfter};
-ghost use Rattle.fleet_io.specs.Taken.{TakesFront};
+ghost use Rattle.fleet_io.specs.Told.{Gives, IsInput, MayGive, Took, Went, to_come};
 ghost use Rattle.link_frames.specs.Frames.{end_frame};
 ghost use Rattle.refusals.specs.Refusals.{status_of};
 ghost use Rattle.show_plan.specs.Fitting.{IsValidFitted};
@@ -13,10 +12,10 @@ ghost use Rattle.show_plan.specs.Landing.{session_for};
 ghost use Rattle.show_judge.specs.Answers.{Wrote};
 ghost use Rattle.show_judge.specs.Headline.{UploadsText};
 ghost use Rattle.show_judge.specs.Input.{IsShowText, IsWithin, TakesOneText};
-ghost use Rattle.show_judge.specs.Runs.{Behaves, Runs, TakesLittle};
+ghost use Rattle.show_judge.specs.Runs.{Does, Runs, TakesLittle};
 ghost use Rattle.fleet_math.specs.Limits.{most_text};
 ghost use Rattle.show_judge.specs.Shows.{Cut, cut_of};
-ghost use Rattle.show_judge.specs.Verb.{IsJudged, during};
+ghost use Rattle.show_judge.specs.Verb.{IsJudged, during, run_on};
 ghost use Rattle.show_uploads.specs.Ready.{GoesOnReady, IsSoundReady, ReadyGives};
 ghost use Rattle.upload_core.specs.HostStandsFor.{HostStandsFor};
 ghost use Rattle.upload_core.specs.HostState.{view_of};
@@ -95,18 +94,16 @@ fn read_ready<S: Source>(
     requires new { parts.old.waiting ≡ [] }
     requires sound { IsTrue parts.old.sound }
     requires lines { IsTrue parts.old.lines }
-    requires at_end { IsTrue parts.old.ended → IsAtEnd (S.left source.old) }
-    ensures gives { IfOk result (λ ready. IfSome (stream parts.old (S.left source.old)) (λ all. ReadyGives (upload_ways depth) start readback (cut_of all) ready)) }
+    requires at_end { IsTrue parts.old.ended → IsTrue (S.told source.old).ended }
+    ensures gives { (all : List ℕ) → MayGive parts.new.ended (S.told source.new) all → IfOk result (λ ready. IfSome (stream parts.old (to_come all (S.told source.old))) (λ comes. ReadyGives (upload_ways depth) start readback (cut_of comes) ready)) }
     ensures sound { IfOk result IsSoundReady }
-    ensures goes_on { IfOk result (λ ready. GoesOnReady ready parts.new (stream parts.old (S.left source.old)) (stream parts.new (S.left source.new))) }
-    ensures few { IfOk result (λ _. TakesFewAfter (stream parts.old (S.left source.old)) (S.left source.new)) }
-    ensures taken { TakesOneText (S.left source.old) (S.left source.new) }
+    ensures goes_on { (all : List ℕ) → MayGive parts.new.ended (S.told source.new) all → IfOk result (λ ready. GoesOnReady ready parts.new (stream parts.old (to_come all (S.told source.old))) (stream parts.new (to_come all (S.told source.new)))) }
+    ensures few { (all : List ℕ) → MayGive parts.new.ended (S.told source.new) all → IfOk result (λ _. TakesFewAfter (stream parts.old (to_come all (S.told source.old))) (to_come all (S.told source.new))) }
+    ensures taken { (all : List ℕ) → MayGive parts.new.ended (S.told source.new) all → TakesOneText (to_come all (S.told source.old)) (to_come all (S.told source.new)) }
     ensures most { length parts.new.waiting ≤ buffer_bytes }
-    ensures at_end { IsTrue parts.new.ended → IsAtEnd (S.left source.new) }
-    ensures failed { result ≡ Err Failure.Read → Rose (S.faults source.old) (S.faults source.new) }
-    ensures unmarked { result ≡ Err Failure.Read → (taken : List ℕ) × Consumes (stream parts.old (S.left source.old)) (S.left source.new) taken × (has_whole_marker taken ≡ false) }
-    ensures later { S.faults source.old ≤ S.faults source.new }
-    ensures left { TakesFront (S.left source.old) (S.left source.new) }
+    ensures failed { result ≡ Err Failure.Read → Rose (S.told source.old).faults (S.told source.new).faults }
+    ensures unmarked { result ≡ Err Failure.Read → (taken : List ℕ) × Took parts.old.waiting [] (S.told source.old) (S.told source.new) taken × (has_whole_marker taken ≡ false) }
+    ensures went { Went parts.old.ended parts.new.ended (S.told source.old) (S.told source.new) }
 {
     match parts.text(alloc, source, MOST_TEXT) {
         Ok(part) => Ok(make_ready(alloc, depth, start, readback, &Text::Whole { part })?),
@@ -135,10 +132,11 @@ fn carry<S: Source, K: Sink>(
     source: &mut S,
     sink: &mut K,
 ) -> u8
-    ensures runs { Runs (upload_verb depth start readback) (during S.left S.faults K.written K.faults source.old source.new sink.old sink.new) result }
-    ensures few { TakesLittle (upload_verb depth start readback) (during S.left S.faults K.written K.faults source.old source.new sink.old sink.new) }
-    ensures stops { IsJudged result → IfSome (S.left source.old) (λ input. UploadStopsReading (upload_ways depth) start readback input (S.left source.new)) }
-    ensures begun { HasBegun (K.written sink.old) (K.written sink.new) → IfSome (S.left source.old) (λ input. UploadsText (part_of input)) }
+    ensures gives { Gives (S.told source.old) (S.told source.new) }
+    ensures runs { (all : List ℕ) → IsInput (S.told source.new) all → Runs (upload_verb depth start readback) (run_on (during S.told K.written K.faults source.old source.new sink.old sink.new) all) result }
+    ensures few { (all : List ℕ) → IsInput (S.told source.new) all → TakesLittle (upload_verb depth start readback) (run_on (during S.told K.written K.faults source.old source.new sink.old sink.new) all) }
+    ensures stops { (all : List ℕ) → IsInput (S.told source.new) all → IsJudged result → IfSome (to_come all (S.told source.old)) (λ input. UploadStopsReading (upload_ways depth) start readback input (to_come all (S.told source.new))) }
+    ensures begun { (all : List ℕ) → IsInput (S.told source.new) all → HasBegun (K.written sink.old) (K.written sink.new) → IfSome (to_come all (S.told source.old)) (λ input. UploadsText (part_of input)) }
 {
     uploading_law();
     marker_law();
@@ -170,8 +168,8 @@ pub fn upload<S: Source, K: Sink>(
     source: &mut S,
     sink: &mut K,
 ) -> u8
-    ensures behaves { Behaves (upload_verb depth start readback) (during S.left S.faults K.written K.faults source.old source.new sink.old sink.new) result }
-    ensures begun { HasBegun (K.written sink.old) (K.written sink.new) → IfSome (S.left source.old) (λ input. UploadsText (part_of input)) }
+    ensures behaves { Does (upload_verb depth start readback) (during S.told K.written K.faults source.old source.new sink.old sink.new) result }
+    ensures begun { (given : List ℕ) → (S.told source.new).given ≡ (S.told source.old).given ++ given → HasBegun (K.written sink.old) (K.written sink.new) → UploadsText (part_of given) }
 {
     show_law();
     uploading_law();

@@ -31,3 +31,5 @@ pub use Rattle.show_verify.specs.SecondTexts.{Feeds, GivesSecond, IsFed, IsFewTa
 unfoldable pub use Rattle.show_verify.specs.Verify.{valid_line}
 pub use Rattle.show_verify.specs.Verify.{CertificateGives, VerifyGives, VerifyLaw, VerifySucceeds, certificate_limit, judged, judged_for, not_valid, verify_verb}
 pub use Rattle.show_verify.specs.declared.verifying.Taken.TheVariants.{TooLarge, Whole}
+pub use Rattle.fleet_io.proofs.ToldLemmas.{Gives-trans, IsInput-now, Went-none, Went-trans, at_its_end, back, of_source, takes_at_most, takes_front}
+pub use Rattle.fleet_io.specs.Told.{Gives, IsInput, MayGive, Told, Went, to_come}

@@ -1,9 +1,9 @@
 //! `verify`: whether a certificate is valid for a show.
-ghost use Rattle.std.specs.Prelude.{◌≡◌, ◌+◌, ◌^◌, ◌<◌, ◌≤◌, [], None, length, IfOk, IfSome, IsTrue};
+ghost use Rattle.std.specs.Prelude.{OnErr, List, ℕ, ◌≡◌, ◌+◌, ◌^◌, ◌<◌, ◌≤◌, [], None, length, IfOk, IfSome, IsTrue};
 ghost use Rattle.std.specs.Io.KnownBytes.{IsAtEnd};
-ghost use Rattle.fleet_io.specs.Causes.{HasCause, Rose};
+ghost use Rattle.fleet_io.specs.Causes.{Rose};
 ghost use Rattle.fleet_io.specs.Held.{stream};
-ghost use Rattle.fleet_io.specs.Taken.{TakesFront};
+ghost use Rattle.fleet_io.specs.Told.{Gives, IsInput, MayGive, Went, to_come};
 ghost use Rattle.fleet_curves.specs.Raised.{CurvesStandFor};
 ghost use Rattle.certificate_checker.specs.Bytes.{ApartWhereValid, HasRead, NamesFault};
 ghost use Rattle.refusals.specs.declared.refusal.Refusal.{Refusal};
@@ -13,7 +13,7 @@ ghost use Rattle.show_judge.specs.Answers.{AnswersInput, IsSaid, outcome_of};
 ghost use Rattle.show_judge.specs.Input.{IsReadBoth, IsWholeText, TakesOneText};
 ghost use Rattle.show_judge.specs.Outcome.{refused};
 ghost use Rattle.text_lines.specs.Marker.{part_of};
-ghost use Rattle.show_judge.specs.Runs.{Behaves};
+ghost use Rattle.show_judge.specs.Runs.{Does};
 ghost use Rattle.show_judge.specs.Shows.{feeds};
 ghost use Rattle.show_judge.specs.Verb.{during};
 ghost use Rattle.show_verify.specs.Verify.{VerifyLaw, certificate_limit, verify_verb};
@@ -109,14 +109,14 @@ fn take_second<S: Source>(
     requires sound { IsTrue parts.old.sound }
     requires lines { IsTrue parts.old.lines }
     requires at_line { IsTrue parts.old.at_line }
-    requires at_end { IsTrue parts.old.ended → IsAtEnd (S.left source.old) }
+    requires at_end { IsTrue parts.old.ended → IsTrue (S.told source.old).ended }
     requires unfed { HasRead checker.old curves.now [] }
-    ensures gives { IfOk result (TakenGives curves.now (stream parts.old (S.left source.old)) checker.new) }
+    ensures gives { (all : List ℕ) → MayGive parts.new.ended (S.told source.new) all → IfOk result (TakenGives curves.now (stream parts.old (to_come all (S.told source.old))) checker.new) }
     ensures clearance { checker.new.clearance ≡ checker.old.clearance }
-    ensures whole { IfOk result (IsTakenToEnd (S.left source.new)) }
-    ensures few { IfOk result (IsFewTaken (stream parts.old (S.left source.old)) (S.left source.new)) }
-    ensures cause { HasCause (S.faults source.old) (S.faults source.new) result }
-    ensures left { TakesFront (S.left source.old) (S.left source.new) }
+    ensures whole { (all : List ℕ) → MayGive parts.new.ended (S.told source.new) all → IfOk result (IsTakenToEnd (to_come all (S.told source.new))) }
+    ensures few { (all : List ℕ) → MayGive parts.new.ended (S.told source.new) all → IfOk result (IsFewTaken (stream parts.old (to_come all (S.told source.old))) (to_come all (S.told source.new))) }
+    ensures failed { OnErr result (Rose (S.told source.old).faults (S.told source.new).faults) }
+    ensures went { Went parts.old.ended parts.new.ended (S.told source.old) (S.told source.new) }
 {
     part_law();
     let mut line: u32 = 1;
@@ -151,15 +151,14 @@ fn answer_second<S: Source>(
     requires sound { IsTrue parts.old.sound }
     requires lines { IsTrue parts.old.lines }
     requires at_line { IsTrue parts.old.at_line }
-    requires at_end { IsTrue parts.old.ended → IsAtEnd (S.left source.old) }
-    ensures gives { IfSome (stream parts.old (S.left source.old)) (λ all. IfOk result (λ a. GivesSecond fitted.now all (outcome_of a))) }
+    requires at_end { IsTrue parts.old.ended → IsTrue (S.told source.old).ended }
+    ensures gives { (all : List ℕ) → MayGive parts.new.ended (S.told source.new) all → IfSome (stream parts.old (to_come all (S.told source.old))) (λ comes. IfOk result (λ a. GivesSecond fitted.now comes (outcome_of a))) }
     ensures apart { IfOk result (λ a. (outcome_of a).status ≡ 0 → FlyApart fitted.now.settings fitted.now.sent) }
-    ensures whole { IfOk result (λ a. (outcome_of a).status ≡ 0 → IsAtEnd (S.left source.new)) }
-    ensures both { IfOk result (λ _. IsTakenWhole (stream parts.old (S.left source.old)) (S.left source.new)) }
+    ensures whole { (all : List ℕ) → MayGive parts.new.ended (S.told source.new) all → IfOk result (λ a. (outcome_of a).status ≡ 0 → IsAtEnd (to_come all (S.told source.new))) }
+    ensures both { (all : List ℕ) → MayGive parts.new.ended (S.told source.new) all → IfOk result (λ _. IsTakenWhole (stream parts.old (to_come all (S.told source.old))) (to_come all (S.told source.new))) }
     ensures said { IfOk result IsSaid }
-    ensures failed { result ≡ Err Failure.Read → Rose (S.faults source.old) (S.faults source.new) }
-    ensures later { S.faults source.old ≤ S.faults source.new }
-    ensures left { TakesFront (S.left source.old) (S.left source.new) }
+    ensures failed { result ≡ Err Failure.Read → Rose (S.told source.old).faults (S.told source.new).faults }
+    ensures went { Went parts.old.ended parts.new.ended (S.told source.old) (S.told source.new) }
 {
     let curves = Curves::of_slice(alloc, fitted.trajs.as_slice())?;
     let mut checker = Checker::make(clearance_of(fitted));
@@ -183,10 +182,10 @@ fn skip_second<S: Source>(parts: &mut Parts, source: &mut S) -> Result<(), Faile
     requires sound { IsTrue parts.old.sound }
     requires lines { IsTrue parts.old.lines }
     requires at_line { IsTrue parts.old.at_line }
-    requires at_end { IsTrue parts.old.ended → IsAtEnd (S.left source.old) }
-    ensures whole { IfOk result (λ _. IsTakenWhole (stream parts.old (S.left source.old)) (S.left source.new)) }
-    ensures cause { HasCause (S.faults source.old) (S.faults source.new) result }
-    ensures left { TakesFront (S.left source.old) (S.left source.new) }
+    requires at_end { IsTrue parts.old.ended → IsTrue (S.told source.old).ended }
+    ensures whole { (all : List ℕ) → MayGive parts.new.ended (S.told source.new) all → IfOk result (λ _. IsTakenWhole (stream parts.old (to_come all (S.told source.old))) (to_come all (S.told source.new))) }
+    ensures failed { OnErr result (Rose (S.told source.old).faults (S.told source.new).faults) }
+    ensures went { Went parts.old.ended parts.new.ended (S.told source.old) (S.told source.new) }
 {
     part_law();
     let mut count = 0;
@@ -214,13 +213,12 @@ fn answer_refused<S: Source>(
     requires sound { IsWholeText show.now → IsTrue parts.old.sound }
     requires lines { IsTrue parts.old.lines }
     requires at_line { IsWholeText show.now → IsTrue parts.old.at_line }
-    requires at_end { IsTrue parts.old.ended → IsAtEnd (S.left source.old) }
+    requires at_end { IsTrue parts.old.ended → IsTrue (S.told source.old).ended }
     ensures answer { IfOk result (λ a. a ≡ Answer.Refused refusal) }
-    ensures both { IsWholeText show.now → IfOk result (λ _. IsTakenWhole (stream parts.old (S.left source.old)) (S.left source.new)) }
-    ensures stays { (IsWholeText show.now → ⊥) → S.left source.new ≡ S.left source.old }
-    ensures failed { result ≡ Err Failure.Read → Rose (S.faults source.old) (S.faults source.new) }
-    ensures later { S.faults source.old ≤ S.faults source.new }
-    ensures left { TakesFront (S.left source.old) (S.left source.new) }
+    ensures both { (all : List ℕ) → MayGive parts.new.ended (S.told source.new) all → IsWholeText show.now → IfOk result (λ _. IsTakenWhole (stream parts.old (to_come all (S.told source.old))) (to_come all (S.told source.new))) }
+    ensures stays { (IsWholeText show.now → ⊥) → S.told source.new ≡ S.told source.old }
+    ensures failed { result ≡ Err Failure.Read → Rose (S.told source.old).faults (S.told source.new).faults }
+    ensures went { Went parts.old.ended parts.new.ended (S.told source.old) (S.told source.new) }
 {
     if let Text::TooLarge = show {
         return Ok(Answer::Refused { refusal });
@@ -233,12 +231,12 @@ fn answer_refused<S: Source>(
 
 // What `verify` ends with for what its source gives. A failed read comes before what is wrong with the show.
 fn answer_input<S: Source>(alloc: Global, source: &mut S) -> Result<Answer, Failure>
-    ensures answers { AnswersInput verify_verb (S.left source.old) (S.left source.new) result }
-    ensures both { IfOk result (λ _. IsReadBoth certificate_limit (S.left source.old) (S.left source.new)) }
-    ensures failed { result ≡ Err Failure.Read → Rose (S.faults source.old) (S.faults source.new) }
-    ensures later { S.faults source.old ≤ S.faults source.new }
-    ensures few { IfSome (S.left source.old) (λ all. most_text < length (part_of all)) → TakesOneText (S.left source.old) (S.left source.new) }
-    ensures left { TakesFront (S.left source.old) (S.left source.new) }
+    ensures answers { (all : List ℕ) → IsInput (S.told source.new) all → AnswersInput verify_verb (to_come all (S.told source.old)) (to_come all (S.told source.new)) result }
+    ensures both { (all : List ℕ) → IsInput (S.told source.new) all → IfOk result (λ _. IsReadBoth certificate_limit (to_come all (S.told source.old)) (to_come all (S.told source.new))) }
+    ensures said { IfOk result IsSaid }
+    ensures failed { result ≡ Err Failure.Read → Rose (S.told source.old).faults (S.told source.new).faults }
+    ensures few { (all : List ℕ) → IsInput (S.told source.new) all → IfSome (to_come all (S.told source.old)) (λ comes. most_text < length (part_of comes)) → TakesOneText (to_come all (S.told source.old)) (to_come all (S.told source.new)) }
+    ensures gives { Gives (S.told source.old) (S.told source.new) }
 {
     let mut parts = Parts::make();
     let show = next_text(alloc, &mut parts, source, MOST_TEXT)?;
@@ -265,7 +263,7 @@ pub fn verify_law()
 /// Runs `verify` (docs/COMMANDS.md): the depth and the number of trees of a certificate that is valid for the show, or the first thing
 /// that is wrong with either text.
 pub fn verify<S: Source, K: Sink>(alloc: Global, source: &mut S, sink: &mut K) -> u8
-    ensures { Behaves verify_verb (during S.left S.faults K.written K.faults source.old source.new sink.old sink.new) result }
+    ensures { Does verify_verb (during S.told K.written K.faults source.old source.new sink.old sink.new) result }
 {
     show_law();
     verify_law();
