@@ -1,4 +1,4 @@
--- A step that the walks of `src/log.rt` share. 
+-- A step that the walks of `src/log.rt` share.
 use Rattle.std.proofs.Common.{List, [], ◌∷◌, refl}
 use seplogic.Ra.Ura.{Ura}
 use mir.Val.{Val, vstruct, vnil}

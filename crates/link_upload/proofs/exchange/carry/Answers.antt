@@ -123,12 +123,12 @@ frames-preserved g c =
     let kept = rw c.in-Answered.is at (c.in-Ok-step.ensures.gives (g.S.Source.told c.step.new.source).given (of_source _ _ _ c.step.ensures.went.at_end (IsInput-now (g.S.Source.told c.step.new.source)))) in
     record {
       carries = λ all may. (
-        let carries = inv.carries all (back _ _ _ _ all c.step.ensures.went may) in
-        let took = rw c.in-Answered.is at (c.in-Ok-step.ensures.gives all may) in
-        let a = answered (link_of c.args.host.session) (link_of c.frames.host.session) (HostStandsFor (view_of c.frames.host)) (HostStandsFor (view_of c.step.new.host)) took.frame c.in-Answered.status c.step.new.out.items
-        (events_in (link_of c.args.host.session) carries.frames) (ap link_of inv.session) carries.stands carries.going took.stands took.answer took.sends in
-        let out = rw (took.session, inv.session, c.as_slice-in-frames.ensures.value, a.sent) at c.in-Ok-send.ensures.ok in
-        Carries-push (link_of c.args.host.session) _ _ _ _ _ _ _ _ _ _ carries took.frame took.formed took.taken out (omega arith) (sym a.answer ∙ c.in-None.is) a.stands);
+          let carries = inv.carries all (back _ _ _ _ all c.step.ensures.went may) in
+          let took = rw c.in-Answered.is at (c.in-Ok-step.ensures.gives all may) in
+          let a = answered (link_of c.args.host.session) (link_of c.frames.host.session) (HostStandsFor (view_of c.frames.host)) (HostStandsFor (view_of c.step.new.host)) took.frame c.in-Answered.status c.step.new.out.items
+          (events_in (link_of c.args.host.session) carries.frames) (ap link_of inv.session) carries.stands carries.going took.stands took.answer took.sends in
+          let out = rw (took.session, inv.session, c.as_slice-in-frames.ensures.value, a.sent) at c.in-Ok-send.ensures.ok in
+          Carries-push (link_of c.args.host.session) _ _ _ _ _ _ _ _ _ _ carries took.frame took.formed took.taken out (omega arith) (sym a.answer ∙ c.in-None.is) a.stands);
       session = kept.session ∙ inv.session;
       sound = c.in-Ok-step.ensures.sound;
       holds = c.step.ensures.holds;
