@@ -4,10 +4,11 @@ ghost use Rattle.std.specs.Prelude.{[], IfOk, None};
 ghost use Rattle.upload_core.specs.HostState.{view_of};
 ghost use Rattle.upload_core.specs.HostStandsFor.{HostStandsFor};
 
-use fleet_io::{Failed, MemSink, MemSource, Parts, Sink, Source};
+use fleet_io::{Failed, MemSink, MemSource, Parts, Sink, StdSource};
 use link_upload::upload;
 use std::alloc::{AllocError, Global};
 use std::cell::Cell;
+use std::io::{self, Read};
 use std::test::Fail;
 use upload_core::{Host, Listed, Load, Session, Settings};
 
@@ -430,25 +431,22 @@ const STEPS: [(u64, &[u8]); 4] = [
 #[derive(Drop)]
 struct Waiting<'a> {
     sent: &'a Cell<u64>,
-    given: usize,
+    given: &'a Cell<usize>,
     reads: u32,
 }
 
-impl<'a> Source for Waiting<'a> {
-    ghost left = { λ _. None };
-
-    ghost faults = { λ _. 0 };
-
-    fn read(&mut self, buf: &mut [u8]) -> Result<usize, Failed> {
+impl<'a> Read for Waiting<'a> {
+    fn read(&mut self, buf: &mut [u8]) -> io::Result<usize> {
         self.reads = self.reads.saturating_add(1);
-        if self.reads > 1000 || self.given >= STEPS.len() {
+        let given = self.given.get();
+        if self.reads > 1000 || given >= STEPS.len() {
             return Ok(0);
         }
-        let (before, frame) = STEPS[self.given];
+        let (before, frame) = STEPS[given];
         if self.sent.get() < before {
             return Ok(0);
         }
-        self.given += 1;
+        self.given.set(given + 1);
         let count = frame.len().min(buf.len());
         buf[..count].copy_from_slice(&frame[..count]);
         Ok(count)
@@ -477,11 +475,12 @@ impl<'a> Sink for Counting<'a> {
 #[test]
 fn ends_share_a_count(rt: HostRuntime) -> Result<(), Fail> {
     let sent = Cell::new(0);
-    let mut source = Waiting {
+    let given = Cell::new(0);
+    let mut source = StdSource::make(Waiting {
         sent: &sent,
-        given: 0,
+        given: &given,
         reads: 0,
-    };
+    });
     let mut sink = Counting { sent: &sent };
     let mut parts = Parts::make();
     let status = upload(
@@ -491,7 +490,7 @@ fn ends_share_a_count(rt: HostRuntime) -> Result<(), Fail> {
         &mut sink,
     );
     assert_eq!(rt; status, 0);
-    assert_eq!(rt; source.given, 4);
+    assert_eq!(rt; given.get(), 4);
     assert_eq!(rt; sent.get(), 74);
     Ok(())
 }
