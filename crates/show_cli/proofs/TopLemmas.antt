@@ -3,8 +3,8 @@ use Rattle.std.proofs.Common.{◌≡◌, ◌⊎◌, inl, inr, ℕ, ◌≤◌, Co
 use Rattle.std.proofs.lemmas.List.Elements.{All-contains, All-from_recursion}
 use Rattle.fleet_io.specs.Causes.{Rose}
 use Rattle.command_words.specs.declared.command.Command.{Command}
-use Rattle.show_judge.specs.Runs.{Behaves}
-use Rattle.show_judge.specs.Verb.{Run}
+use Rattle.show_judge.specs.Runs.{Behaves, Does}
+use Rattle.show_judge.specs.Verb.{Run, Span}
 use Rattle.show_judge.proofs.RunLemmas.{statuses}
 use Rattle.show_cli.specs.Verbs.{verb_of}
 
@@ -48,6 +48,9 @@ never_seventeen n among = All-contains (λ (k : ℕ). k ≡ 17 → ⊥) statuses
 -- a run of a command is one of the same command by another name
 pub behaves_as : (c d : Command) (r : Run) (status : ℕ) → c ≡ d → Behaves (verb_of c) r status → Behaves (verb_of d) r status
 behaves_as c d r status same behaves = subst (λ (e : Command). Behaves (verb_of e) r status) same behaves
+
+pub does_as : (c d : Command) (m : Span) (status : ℕ) → c ≡ d → Does (verb_of c) m status → Does (verb_of d) m status
+does_as c d m status same does = subst (λ (e : Command). Does (verb_of e) m status) same does
 
 -- words are one command
 pub one_command : (words : Option Command) (c d : Command) → words ≡ Some c → words ≡ Some d → c ≡ d

@@ -1,16 +1,18 @@
 //! The program over any source and any sink.
-ghost use Rattle.std.specs.Prelude.{◌≡◌, ◌≢◌, ◌⊎◌, ℕ, ◌≤◌, Bool, List, Option, Some, None, IfSome, Contains, codes};
+ghost use Rattle.std.specs.Prelude.{◌≡◌, ◌++◌, ◌≢◌, ◌⊎◌, ℕ, ◌≤◌, Bool, List, Option, Some, None, IfSome, Contains, codes};
 ghost use Rattle.std.specs.Io.KnownBytes.{Appends};
 ghost use Rattle.text_lines.specs.Marker.{part_of};
 ghost use Rattle.fleet_io.specs.Causes.{Rose};
-ghost use Rattle.fleet_io.specs.Taken.{AppendsFront, TakesFront};
+ghost use Rattle.fleet_io.specs.Memory.{told_sure};
+ghost use Rattle.fleet_io.specs.Taken.{AppendsFront};
+ghost use Rattle.fleet_io.specs.Told.{Gives};
 ghost use Rattle.command_words.specs.Commands.{IsCommand};
 ghost use Rattle.drill_show.specs.Drill.{drill_text};
 ghost use Rattle.refusals.specs.Lines.{usage_line};
 ghost use Rattle.show_judge.specs.Headline.{FliesText, UploadsText};
 ghost use Rattle.show_judge.specs.Outcome.{IsVerb, OutcomeLaw};
-ghost use Rattle.show_judge.specs.Runs.{Behaves};
-ghost use Rattle.show_judge.specs.Verb.{during, run_of};
+ghost use Rattle.show_judge.specs.Runs.{Does};
+ghost use Rattle.show_judge.specs.Verb.{during};
 ghost use Rattle.show_looks.specs.Compile.{Headline};
 ghost use Rattle.show_studies.specs.Boxes.{StaysInRegions};
 ghost use Rattle.show_studies.specs.Dynamics.{KeepsDynamics};
@@ -38,8 +40,8 @@ fn run_command<S: Source, K: Sink>(
     sink: &mut K,
 ) -> u8
     requires { IsCommand command }
-    ensures behaves { Behaves (verb_of command) (during S.left S.faults K.written K.faults source.old source.new sink.old sink.new) result }
-    ensures begun { (depth : ℕ) (start readback : Bool) → command ≡ Command.Upload depth start readback → HasBegun (K.written sink.old) (K.written sink.new) → IfSome (S.left source.old) (λ input. UploadsText (part_of input)) }
+    ensures behaves { Does (verb_of command) (during S.told K.written K.faults source.old source.new sink.old sink.new) result }
+    ensures begun { (depth : ℕ) (start readback : Bool) (input : List ℕ) → command ≡ Command.Upload depth start readback → (S.told source.new).given ≡ (S.told source.old).given ++ input → HasBegun (K.written sink.old) (K.written sink.new) → UploadsText (part_of input) }
 {
     match command {
         Command::Help => help(help_text(), source, sink),
@@ -78,49 +80,48 @@ pub fn run<S: Source, K: Sink>(
     sink: &mut K,
 ) -> u8
     // 2, or 7 in its place, exactly where the words are no command; then nothing is read, and at 7 a prefix of the line went out.
-    ensures usage { command_in words.now.items ≡ None → ((result ≡ 2) ⊎ (result ≡ 7)) × (S.left source.new ≡ S.left source.old) × (S.faults source.new ≡ S.faults source.old) }
+    ensures usage { command_in words.now.items ≡ None → ((result ≡ 2) ⊎ (result ≡ 7)) × (S.told source.new ≡ S.told source.old) }
     ensures two { result ≡ 2 → (command_in words.now.items ≡ None) × Appends (K.written sink.old) (K.written sink.new) usage_line }
     ensures usage_failed { command_in words.now.items ≡ None → result ≡ 7 → Rose (K.faults sink.old) (K.faults sink.new) × AppendsFront (K.written sink.old) (K.written sink.new) usage_line }
 
     // The words are a command: what it gives, reads and writes. The fields of `Behaves` say it one by one, and `verb_of` has a line a command.
-    ensures behaves { (c : Command) → command_in words.now.items ≡ Some c → Behaves (verb_of c) (during S.left S.faults K.written K.faults source.old source.new sink.old sink.new) result }
+    ensures behaves { (c : Command) → command_in words.now.items ≡ Some c → Does (verb_of c) (during S.told K.written K.faults source.old source.new sink.old sink.new) result }
 
     // A show gives a command one outcome; an input gives it one, and no other; and one that lacks nothing gives status 0.
     ensures law { (c : Command) → IsVerb (verb_of c) }
     ensures outcomes { (c : Command) → OutcomeLaw (verb_of c) }
 
-    // 0 of a command that judges whether drones keep apart: the show's text stands for a show, near to which they fly and apart, at every instant.
-    ensures flies { (name input : List ℕ) → IsCalled words.now.items name → Contains judges_apart name → S.left source.old ≡ Some input → result ≡ 0 → FliesText (part_of input) }
+    // 0 of a command that judges whether drones keep apart: what the source gave is the text of a show, near to which they fly and apart, at every instant.
+    ensures flies { (name input : List ℕ) → IsCalled words.now.items name → Contains judges_apart name → (S.told source.new).given ≡ (S.told source.old).given ++ input → result ≡ 0 → FliesText (part_of input) }
     ensures drilled { (drones depth : ℕ) → command_in words.now.items ≡ Some (Command.Drill drones depth) → result ≡ 0 → FliesText (part_of (drill_text drones)) }
 
     // The same 0 of each upload of that show. When one with read-back is done, each byte of each load was right when it was read, whoever else
     // alters a byte; no start was sent before. When one with starts is done, each drone took a start. Where nobody alters a byte, each moment
     // of an upload, with read-back or without, is safe, and when it is done each memory decodes to the curve of its drone.
-    ensures uploads { (name input : List ℕ) → IsCalled words.now.items name → Contains judges_apart name → S.left source.old ≡ Some input → result ≡ 0 → UploadsText (part_of input) }
+    ensures uploads { (name input : List ℕ) → IsCalled words.now.items name → Contains judges_apart name → (S.told source.new).given ≡ (S.told source.old).given ++ input → result ≡ 0 → UploadsText (part_of input) }
     // Of `upload` it holds whatever the status, once the first byte of a packet was written.
-    ensures begun { (depth : ℕ) (start readback : Bool) (input : List ℕ) → command_in words.now.items ≡ Some (Command.Upload depth start readback) → S.left source.old ≡ Some input
+    ensures begun { (depth : ℕ) (start readback : Bool) (input : List ℕ) → command_in words.now.items ≡ Some (Command.Upload depth start readback) → (S.told source.new).given ≡ (S.told source.old).given ++ input
         → HasBegun (K.written sink.old) (K.written sink.new) → UploadsText (part_of input) }
 
     // 0 of `compile`: the input stands for a show, and its plan was written. Whoever sends its packets, in whatever order and however often,
     // once each drone accepted all of its own, its memory decodes to one curve, near to the show and apart from every other, at every instant.
-    ensures headline { (input : List ℕ) → IsCalled words.now.items (codes "compile") → S.left source.old ≡ Some input → result ≡ 0
+    ensures headline { (input : List ℕ) → IsCalled words.now.items (codes "compile") → (S.told source.new).given ≡ (S.told source.old).given ++ input → result ≡ 0
         → Headline input (K.written sink.old) (K.written sink.new) }
 
     // 0 of `boxes`, `speed`, `explain` and `dynamics`: what was written holds at every instant of the flight.
-    ensures regions { (depth : ℕ) (input : List ℕ) → command_in words.now.items ≡ Some (Command.Boxes depth) → S.left source.old ≡ Some input → result ≡ 0
+    ensures regions { (depth : ℕ) (input : List ℕ) → command_in words.now.items ≡ Some (Command.Boxes depth) → (S.told source.new).given ≡ (S.told source.old).given ++ input → result ≡ 0
         → StaysInRegions input (K.written sink.old) (K.written sink.new) }
-    ensures speeds { (depth : ℕ) (limit : Option ℕ) (input : List ℕ) → command_in words.now.items ≡ Some (Command.Speed depth limit) → S.left source.old ≡ Some input → result ≡ 0
+    ensures speeds { (depth : ℕ) (limit : Option ℕ) (input : List ℕ) → command_in words.now.items ≡ Some (Command.Speed depth limit) → (S.told source.new).given ≡ (S.told source.old).given ++ input → result ≡ 0
         → KeepsSpeeds limit depth input (K.written sink.old) (K.written sink.new) }
-    ensures touches { (depth fine : ℕ) (input : List ℕ) → command_in words.now.items ≡ Some (Command.Explain depth fine) → S.left source.old ≡ Some input → result ≡ 0
+    ensures touches { (depth fine : ℕ) (input : List ℕ) → command_in words.now.items ≡ Some (Command.Explain depth fine) → (S.told source.new).given ≡ (S.told source.old).given ++ input → result ≡ 0
         → TellsTouches depth fine input (K.written sink.old) (K.written sink.new) }
-    ensures motions { (depth : ℕ) (accel jump : Option ℕ) (input : List ℕ) → command_in words.now.items ≡ Some (Command.Dynamics depth accel jump) → S.left source.old ≡ Some input → result ≡ 0
+    ensures motions { (depth : ℕ) (accel jump : Option ℕ) (input : List ℕ) → command_in words.now.items ≡ Some (Command.Dynamics depth accel jump) → (S.told source.new).given ≡ (S.told source.old).given ++ input → result ≡ 0
         → KeepsDynamics depth accel jump input (K.written sink.old) (K.written sink.new) }
 
     // There is no status above 18; 17 is that of words that the system doesn't give.
     ensures known { result ≤ 18 }
     ensures given { result ≢ 17 }
-    ensures taken { TakesFront (S.left source.old) (S.left source.new) }
-    ensures source_later { S.faults source.old ≤ S.faults source.new }
+    ensures gives { Gives (S.told source.old) (S.told source.new) }
     ensures sink_later { K.faults sink.old ≤ K.faults sink.new }
 {
     show_law();
@@ -142,7 +143,7 @@ pub fn run_surely(
     sink: &mut SureSink,
 ) -> u8
     ensures usage { command_in words.now.items ≡ None → result ≡ 2 }
-    ensures behaves { (c : Command) → command_in words.now.items ≡ Some c → Behaves (verb_of c) (run_of (Some source.old) (Some source.new) 0 0 None None 0 0) result }
+    ensures behaves { (c : Command) → command_in words.now.items ≡ Some c → Does (verb_of c) (during told_sure (λ _. None) (λ _. 0) source.old source.new sink.old sink.new) result }
     ensures read { result ≢ 6 }
     ensures write { result ≢ 7 }
 {

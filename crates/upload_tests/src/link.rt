@@ -4,7 +4,7 @@ ghost use Rattle.std.specs.Prelude.{[], IfOk, None};
 ghost use Rattle.upload_core.specs.HostState.{view_of};
 ghost use Rattle.upload_core.specs.HostStandsFor.{HostStandsFor};
 
-use fleet_io::{Failed, MemSink, MemSource, Parts, Sink, StdSource};
+use fleet_io::{Failed, MemSink, MemSource, Parts, Sink, Source, StdSource};
 use link_upload::upload;
 use std::alloc::{AllocError, Global};
 use std::cell::Cell;

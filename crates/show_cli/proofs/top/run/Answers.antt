@@ -1,4 +1,5 @@
-use Rattle.std.proofs.Common.{sym, ◌∙◌}
+use Rattle.std.proofs.Common.{Some, ap, sym, ◌∙◌}
+use Rattle.fleet_io.proofs.ToldLemmas.{IsInput-now, comes}
 use Rattle.command_words.specs.declared.command.Command.TheVariants.{Boxes, Compile, Drill, Dynamics, Explain, Speed, Upload}
 use Rattle.drill_show.specs.Drill.{drill_text}
 use Rattle.show_judge.proofs.HeadlineLemmas.{flies_own}
@@ -7,17 +8,17 @@ use Rattle.show_looks.specs.Drilled.{drill_of}
 use Rattle.show_looks.specs.Reports.{report_of}
 use Rattle.show_looks.proofs.CompileLemmas.{headline_of}
 use Rattle.show_cli.specs.Verbs.{verb_of}
-use Rattle.show_cli.proofs.TopLemmas.{behaves_as, known_small, never_seventeen, never_two, one_command}
+use Rattle.show_cli.proofs.TopLemmas.{behaves_as, does_as, known_small, never_seventeen, never_two, one_command}
 use Rattle.show_cli.proofs.NameLemmas.{compiles, uploads}
 use Rattle.show_cli.proofs.VerbLaws.{laws}
 use Rattle.show_cli.proofs.top.run.Goals as goal
 
 pub returns-in-Some-clause-two : goal.returns-in-Some-clause-two
-returns-in-Some-clause-two g c = λ two. absurd (never_two _ c.run_command.ensures.behaves.runs.known two)
+returns-in-Some-clause-two g c = λ two. absurd (never_two _ (c.run_command.ensures.behaves.behaves (g.S.Source.told c.run_command.new.source).given (IsInput-now (g.S.Source.told c.run_command.new.source))).runs.known two)
 
 pub returns-in-Some-clause-behaves : goal.returns-in-Some-clause-behaves
 returns-in-Some-clause-behaves g c = λ d is.
-    behaves_as c.in-Some.command d _ _ (one_command _ c.in-Some.command d (sym c.command_of.ensures.value ∙ c.in-Some.is) is) c.run_command.ensures.behaves
+    does_as c.in-Some.command d _ _ (one_command _ c.in-Some.command d (sym c.command_of.ensures.value ∙ c.in-Some.is) is) c.run_command.ensures.behaves
 
 pub returns-in-Some-clause-law : goal.returns-in-Some-clause-law
 returns-in-Some-clause-law g c = laws c.verify_law.ensures c.rehearse_law.ensures c.uploading_law.ensures c.boxes_law.ensures
@@ -33,49 +34,53 @@ returns-in-None-clause-outcomes g c = λ d. outcomes c.show_law.ensures (verb_of
 
 pub returns-in-Some-clause-flies : goal.returns-in-Some-clause-flies
 returns-in-Some-clause-flies g c = λ name input called judges left done.
-    (uploads _ c.in-Some.command name called judges (sym c.command_of.ensures.value ∙ c.in-Some.is) input _ _ c.run_command.ensures.behaves.runs left done).flies
+    (uploads _ c.in-Some.command name called judges (sym c.command_of.ensures.value ∙ c.in-Some.is) input _ _ (c.run_command.ensures.behaves.behaves (g.S.Source.told c.run_command.new.source).given (IsInput-now (g.S.Source.told c.run_command.new.source))).runs (ap Some (comes (g.S.Source.told c.args.source.now) (g.S.Source.told c.run_command.new.source).given input left)) done).flies
 
 pub returns-in-Some-clause-uploads : goal.returns-in-Some-clause-uploads
 returns-in-Some-clause-uploads g c = λ name input called judges left done.
-    uploads _ c.in-Some.command name called judges (sym c.command_of.ensures.value ∙ c.in-Some.is) input _ _ c.run_command.ensures.behaves.runs left done
+    uploads _ c.in-Some.command name called judges (sym c.command_of.ensures.value ∙ c.in-Some.is) input _ _ (c.run_command.ensures.behaves.behaves (g.S.Source.told c.run_command.new.source).given (IsInput-now (g.S.Source.told c.run_command.new.source))).runs (ap Some (comes (g.S.Source.told c.args.source.now) (g.S.Source.told c.run_command.new.source).given input left)) done
 
 pub returns-in-Some-clause-begun : goal.returns-in-Some-clause-begun
 returns-in-Some-clause-begun g c = λ depth start readback input is left begun.
-    rw left at (c.run_command.ensures.begun depth start readback (one_command _ c.in-Some.command (Upload depth start readback) (sym c.command_of.ensures.value ∙ c.in-Some.is) is) begun)
+    c.run_command.ensures.begun depth start readback input (one_command _ c.in-Some.command (Upload depth start readback) (sym c.command_of.ensures.value ∙ c.in-Some.is) is) left begun
 
 pub returns-in-Some-clause-drilled : goal.returns-in-Some-clause-drilled
 returns-in-Some-clause-drilled g c = λ drones depth is done.
     flies_own depth (drill_text drones) (λ s. drill_of (report_of s depth)) _ _
-    (behaves_as c.in-Some.command (Drill drones depth) _ _ (one_command _ c.in-Some.command (Drill drones depth) (sym c.command_of.ensures.value ∙ c.in-Some.is) is) c.run_command.ensures.behaves).runs done
+    (behaves_as c.in-Some.command (Drill drones depth) _ _ (one_command _ c.in-Some.command (Drill drones depth) (sym c.command_of.ensures.value ∙ c.in-Some.is) is) (c.run_command.ensures.behaves.behaves (g.S.Source.told c.run_command.new.source).given (IsInput-now (g.S.Source.told c.run_command.new.source)))).runs done
 
 pub returns-in-Some-clause-headline : goal.returns-in-Some-clause-headline
 returns-in-Some-clause-headline g c = λ input called left done.
     let compile = compiles _ c.in-Some.command called (sym c.command_of.ensures.value ∙ c.in-Some.is) in
-    headline_of compile.0 input _ _ (behaves_as c.in-Some.command (Compile compile.0) _ _ (sym compile.1) c.run_command.ensures.behaves).runs left done
+    headline_of compile.0 input _ _ (behaves_as c.in-Some.command (Compile compile.0) _ _ (sym compile.1) (c.run_command.ensures.behaves.behaves (g.S.Source.told c.run_command.new.source).given (IsInput-now (g.S.Source.told c.run_command.new.source)))).runs (ap Some (comes (g.S.Source.told c.args.source.now) (g.S.Source.told c.run_command.new.source).given input left)) done
 
 pub returns-in-Some-clause-regions : goal.returns-in-Some-clause-regions
 returns-in-Some-clause-regions g c = λ depth input is left done.
-    let behaves = behaves_as c.in-Some.command (Boxes depth) _ _ (one_command _ c.in-Some.command (Boxes depth) (sym c.command_of.ensures.value ∙ c.in-Some.is) is) c.run_command.ensures.behaves in
-    rw left at (behaves.headline done)
+    let behaves = behaves_as c.in-Some.command (Boxes depth) _ _ (one_command _ c.in-Some.command (Boxes depth) (sym c.command_of.ensures.value ∙ c.in-Some.is) is) (c.run_command.ensures.behaves.behaves (g.S.Source.told c.run_command.new.source).given (IsInput-now (g.S.Source.told c.run_command.new.source))) in
+    rw (comes (g.S.Source.told c.args.source.now) (g.S.Source.told c.run_command.new.source).given input left) at (behaves.headline done)
 
 pub returns-in-Some-clause-speeds : goal.returns-in-Some-clause-speeds
 returns-in-Some-clause-speeds g c = λ depth limit input is left done.
-    let behaves = behaves_as c.in-Some.command (Speed depth limit) _ _ (one_command _ c.in-Some.command (Speed depth limit) (sym c.command_of.ensures.value ∙ c.in-Some.is) is) c.run_command.ensures.behaves in
-    rw left at (behaves.headline done)
+    let behaves = behaves_as c.in-Some.command (Speed depth limit) _ _ (one_command _ c.in-Some.command (Speed depth limit) (sym c.command_of.ensures.value ∙ c.in-Some.is) is) (c.run_command.ensures.behaves.behaves (g.S.Source.told c.run_command.new.source).given (IsInput-now (g.S.Source.told c.run_command.new.source))) in
+    rw (comes (g.S.Source.told c.args.source.now) (g.S.Source.told c.run_command.new.source).given input left) at (behaves.headline done)
 
 pub returns-in-Some-clause-touches : goal.returns-in-Some-clause-touches
 returns-in-Some-clause-touches g c = λ depth fine input is left done.
-    let behaves = behaves_as c.in-Some.command (Explain depth fine) _ _ (one_command _ c.in-Some.command (Explain depth fine) (sym c.command_of.ensures.value ∙ c.in-Some.is) is) c.run_command.ensures.behaves in
-    rw left at (behaves.headline done)
+    let behaves = behaves_as c.in-Some.command (Explain depth fine) _ _ (one_command _ c.in-Some.command (Explain depth fine) (sym c.command_of.ensures.value ∙ c.in-Some.is) is) (c.run_command.ensures.behaves.behaves (g.S.Source.told c.run_command.new.source).given (IsInput-now (g.S.Source.told c.run_command.new.source))) in
+    rw (comes (g.S.Source.told c.args.source.now) (g.S.Source.told c.run_command.new.source).given input left) at (behaves.headline done)
 
 pub returns-in-Some-clause-motions : goal.returns-in-Some-clause-motions
 returns-in-Some-clause-motions g c = λ depth accel jump input is left done.
     let behaves = behaves_as c.in-Some.command (Dynamics depth accel jump) _ _
-    (one_command _ c.in-Some.command (Dynamics depth accel jump) (sym c.command_of.ensures.value ∙ c.in-Some.is) is) c.run_command.ensures.behaves in
-    rw left at (behaves.headline done)
+    (one_command _ c.in-Some.command (Dynamics depth accel jump) (sym c.command_of.ensures.value ∙ c.in-Some.is) is) (c.run_command.ensures.behaves.behaves (g.S.Source.told c.run_command.new.source).given (IsInput-now (g.S.Source.told c.run_command.new.source))) in
+    rw (comes (g.S.Source.told c.args.source.now) (g.S.Source.told c.run_command.new.source).given input left) at (behaves.headline done)
 
 pub returns-in-Some-clause-given : goal.returns-in-Some-clause-given
-returns-in-Some-clause-given g c = λ seventeen. never_seventeen _ c.run_command.ensures.behaves.runs.known seventeen
+returns-in-Some-clause-given g c = λ seventeen. never_seventeen _ (c.run_command.ensures.behaves.behaves (g.S.Source.told c.run_command.new.source).given (IsInput-now (g.S.Source.told c.run_command.new.source))).runs.known seventeen
 
 pub returns-in-Some-clause-known : goal.returns-in-Some-clause-known
-returns-in-Some-clause-known g c = known_small _ c.run_command.ensures.behaves.runs.known
+returns-in-Some-clause-known g c = known_small _ (c.run_command.ensures.behaves.behaves (g.S.Source.told c.run_command.new.source).given (IsInput-now (g.S.Source.told c.run_command.new.source))).runs.known
+
+pub returns-in-Some-clause-sink_later : goal.returns-in-Some-clause-sink_later
+returns-in-Some-clause-sink_later g c =
+    (c.run_command.ensures.behaves.behaves (g.S.Source.told c.run_command.new.source).given (IsInput-now (g.S.Source.told c.run_command.new.source))).runs.writes_later

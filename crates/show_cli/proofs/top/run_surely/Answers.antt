@@ -1,12 +1,14 @@
+use Rattle.fleet_io.proofs.ToldLemmas.{IsInput-now}
+use Rattle.fleet_io.specs.Memory.{told_sure}
 use Rattle.std.proofs.Common.{inl, inr}
 use Rattle.show_cli.proofs.TopLemmas.{never_rose, never_seven, never_six}
 use Rattle.show_cli.proofs.top.run_surely.Goals as goal
 
 pub returns-clause-read : goal.returns-clause-read
-returns-clause-read c = λ six. never_six _ _ _ (λ none. (c.run.ensures.usage none).0) c.run.ensures.behaves never_rose six
+returns-clause-read c = λ six. never_six _ _ _ (λ none. (c.run.ensures.usage none).0) (λ d is. (c.run.ensures.behaves d is).behaves (told_sure c.run.new.source).given (IsInput-now (told_sure c.run.new.source))) never_rose six
 
 pub returns-clause-write : goal.returns-clause-write
-returns-clause-write c = λ seven. never_seven _ _ _ (λ none failed. (c.run.ensures.usage_failed none failed).0) c.run.ensures.behaves never_rose seven
+returns-clause-write c = λ seven. never_seven _ _ _ (λ none failed. (c.run.ensures.usage_failed none failed).0) (λ d is. (c.run.ensures.behaves d is).behaves (told_sure c.run.new.source).given (IsInput-now (told_sure c.run.new.source))) never_rose seven
 
 pub returns-clause-usage : goal.returns-clause-usage
 returns-clause-usage c = λ none. elim (c.run.ensures.usage none).0 [
