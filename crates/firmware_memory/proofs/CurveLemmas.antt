@@ -1,6 +1,6 @@
 -- What was loaded is there, byte by byte, and decodes to what was sent.
 use Rattle.std.proofs.lemmas.Grind.{common_steps}
-use Rattle.std.proofs.Common.{◌≡◌, ℕ, zero, suc, ◌+◌, ◌<◌, ◌≤◌, List, [], ◌∷◌, ◌++◌, length, drop, get_or, slice_get, Option, Some, None, Result, Ok, Err, IfOk, refl, ap, subst, append_assoc, arith}
+use Rattle.std.proofs.Common.{◌≡◌, ℕ, zero, suc, ◌+◌, ◌<◌, ◌≤◌, List, [], ◌∷◌, ◌++◌, length, drop, get_or, slice_get, Option, Some, None, Result, Ok, Err, IfOk, refl, ap, subst, ◌∙◌, append_assoc, arith}
 use Rattle.std.specs.List.{All}
 use Rattle.std.specs.Prelude.{IfNone}
 use Rattle.traj_codec.specs.declared.traj.Traj.{Traj}
@@ -12,7 +12,7 @@ use Rattle.upload_model.specs.declared.loads.Def.{Def}
 use Rattle.upload_model.specs.Drones.{DroneState}
 use Rattle.upload_model.specs.Sessions.{IsSession, Upload, drone_count, load_of}
 use Rattle.upload_model.specs.Memories.{HasEntry, HasLoad}
-use Rattle.firmware_memory.specs.Decoded.{DecodesTo, load_for}
+use Rattle.firmware_memory.specs.Decoded.{Carries, DecodesTo, load_for}
 
 -- bytes that stand in a list from its front on
 at_front : (xs ys : List ℕ) → length ys ≤ length xs → ((i : ℕ) → i < length ys → get_or xs i 0 ≡ get_or ys i 0) → xs ≡ ys ++ drop (length ys) xs
@@ -38,17 +38,22 @@ pub one_curve : SpellingLaw → (drone : DroneState) (id : ℕ) (t u : Traj) →
 one_curve law drone id t u first second = grind (arith, common_steps, one_entry, drop)
 
 pub loaded_curve : (s : Upload) (drone : DroneState) (d : ℕ) (t : Traj) → IsSession s → d < drone_count s → load_of s d ≡ load_for t → IsTrajectory t →
-    All HasDuration t.segments → length drone.memory ≡ 4096 → HasLoad s (load_of s d) drone → HasEntry s (load_of s d) drone → DecodesTo drone s.trajectory_id t
+    All HasDuration t.segments → length drone.memory ≡ 4096 → HasLoad s (load_of s d) drone → HasEntry s (load_of s d) drone → Carries drone s.trajectory_id t
 loaded_curve s drone d t session known load formed last whole there listed =
     let room = (session.loads d known).has_room in
     let bytes : List ℕ = spelling t ++ ending in
     let stands : drop s.offset drone.memory ≡ bytes ++ drop (length bytes) (drop s.offset drone.memory) =
     stands_at drone.memory bytes s.offset (let fits : s.offset + length bytes ≤ 4096 = rw load at room in omega (arith, fits, whole)) (rw load at there) in
+    let rest : List ℕ = drop (length bytes) (drop s.offset drone.memory) in
     record {
-      entry = record { offset = s.offset; pieces = length t.segments };
-      used = length (spelling t);
-      listed = rw load at listed;
-      begins = grind (arith, common_steps, drop, append_assoc);
+      decodes = record {
+        entry = record { offset = s.offset; pieces = length t.segments };
+        used = length (spelling t);
+        listed = rw load at listed;
+        begins = grind (arith, common_steps, drop, append_assoc);
+      };
+      rest = rest;
+      whole = stands ∙ append_assoc (spelling t) ending rest;
     }
 
 -- ---- what is read

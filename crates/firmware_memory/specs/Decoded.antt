@@ -1,5 +1,5 @@
 -- What a drone's memory decodes to, and that what was loaded decodes to the trajectory that was sent.
-use Rattle.std.specs.Prelude.{◌≡◌, ℕ, ◌<◌, ℤ, ◌++◌, drop, length, slice_get, Some}
+use Rattle.std.specs.Prelude.{◌≡◌, ℕ, ◌<◌, ℤ, List, ◌++◌, drop, length, slice_get, Some}
 use Rattle.std.specs.List.{All, fold}
 use Rattle.fleet_math.specs.Bernstein.{at}
 use Rattle.crtp_packets.specs.declared.chunks.TheConstants.{MEMORY_BYTES}
@@ -22,6 +22,13 @@ pub record DecodesTo (drone : DroneState) (id : ℕ) (t : Traj) : Type 0 where
   pub listed : slice_get drone.table id ≡ Some (Some entry)
   pub begins : BeginsWith (drop entry.offset drone.memory) entry.pieces t used
 
+-- A drone carries this trajectory: its memory decodes to it, and right after its bytes stand the three zero bytes at which a flight ends.
+-- Firmware flies on until it reads them, whatever number of segments the entry says.
+pub record Carries (drone : DroneState) (id : ℕ) (t : Traj) : Type 0 where
+  pub decodes : DecodesTo drone id t
+  pub rest : List ℕ
+  pub whole : drop decodes.entry.offset drone.memory ≡ spelling t ++ (ending ++ rest)
+
 -- what is uploaded of a trajectory: its bytes with the ending, and how many segments it has
 abbrev pub load_for : Traj → Load
 load_for t = record { bytes = spelling t ++ ending; pieces = length t.segments }
@@ -30,9 +37,9 @@ load_for t = record { bytes = spelling t ++ ending; pieces = length t.segments }
 abbrev pub last_value : Traj → ℕ → ℤ
 last_value t axis = fold (λ (v : ℤ) (s : Segment). value_after v (element_on s axis)) (at t.start axis) t.segments
 
--- A memory decodes to one trajectory alone, and one that has the load and the entry of a trajectory decodes to it.
+-- A memory decodes to one trajectory alone, and a drone that has the load and the entry of a trajectory carries it.
 pub record CurveLaw : Type 0 where
   pub one : (drone : DroneState) (id : ℕ) (t u : Traj) → DecodesTo drone id t → DecodesTo drone id u → t ≡ u
   pub loaded : (s : Upload) (drone : DroneState) (d : ℕ) (t : Traj) → IsSession s → d < drone_count s →
       load_of s d ≡ load_for t → IsTrajectory t → All HasDuration t.segments → length drone.memory ≡ MEMORY_BYTES → HasLoad s (load_of s d) drone →
-      HasEntry s (load_of s d) drone → DecodesTo drone s.trajectory_id t
+      HasEntry s (load_of s d) drone → Carries drone s.trajectory_id t

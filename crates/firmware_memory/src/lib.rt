@@ -5,7 +5,8 @@
 //! is no statement about which checks the firmware makes. A drone's memory decodes to a trajectory
 //! under an id where its table has an entry of this id, and the bytes from the entry's offset on
 //! begin with the spelling of the trajectory (`DecodesTo`). [`curve_of`] is that trajectory; by
-//! [`curve_law`] it is the only one, and what was loaded decodes to what was sent.
+//! [`curve_law`] it is the only one, and what was loaded decodes to what was sent, with the ending
+//! after it (`Carries`).
 //!
 //! The crate stands on `upload_model` and `crtp_packets` for the drone, and on `traj_codec` for
 //! trajectories and their bytes (docs/TRAJECTORY.md). Of its calls `curve_of` alone takes memory.

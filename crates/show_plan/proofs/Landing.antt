@@ -1,5 +1,5 @@
 -- What is acknowledged has landed, and so has what is accepted.
-use Rattle.show_plan.proofs.Prelude.{common_steps, ◌≡◌, ℕ, ◌-◌, ◌<◌, ◌≤◌, Bool, false, true, List, [], ◌∷◌, ◌++◌, All, length, length-append, get_or, Some, sym, subst, ◌∙◌, arith, map, get_or-map, length-map, All-cons, All-get_or, All-nil, Settings, Traj, IsTrajectory, ending, spelling, CurveLaw, DecodesTo, load_for, IsLoad, IsSession, Upload, drone_count, is_read, load_of, packet_count, start_number, write_count, Load, IsSafe, LastingLaw, UploadLaw, Grid, IsSendable, size, KeepsNearShow, no_trajectory, AreUploadable, IsLanded, LandingLaw, OrderLaw, session_for, FlyApart}
+use Rattle.show_plan.proofs.Prelude.{common_steps, ◌≡◌, ℕ, ◌-◌, ◌<◌, ◌≤◌, Bool, false, true, List, [], ◌∷◌, ◌++◌, All, length, length-append, get_or, Some, sym, subst, ◌∙◌, arith, map, get_or-map, length-map, All-cons, All-get_or, All-nil, Settings, Traj, IsTrajectory, ending, spelling, CurveLaw, Carries, load_for, IsLoad, IsSession, Upload, drone_count, is_read, load_of, packet_count, start_number, write_count, Load, IsSafe, LastingLaw, UploadLaw, Grid, IsSendable, size, KeepsNearShow, no_trajectory, AreUploadable, IsLanded, LandingLaw, OrderLaw, session_for, FlyApart}
 use Rattle.upload_core.specs.declared.session.Settings.{Settings as Place}
 use Rattle.upload_core.specs.Uploads.{upload_of}
 use Rattle.upload_model.specs.Drones.{DroneState}
@@ -55,6 +55,17 @@ alone_uploadable e trajs d t u is within = record {
     one : (P : Traj → Type 0) → All P trajs → All P (t ∷ [])
     one P all = All-cons P t [] (subst P (sym is) (All-get_or P trajs d t within all)) (All-nil P)
 
+-- a drone that has the load and the entry of its trajectory carries it
+pub carried : CurveLaw → (e : Settings) (trajs : List Traj) → AreUploadable e trajs → (readback start : Bool) (d : ℕ) (old new : DroneState) → d < length trajs → IsDrone old →
+    OnlyLoads (session_for e trajs readback start) (load_of (session_for e trajs readback start) d) old new →
+    HasLoad (session_for e trajs readback start) (load_of (session_for e trajs readback start) d) new →
+    HasEntry (session_for e trajs readback start) (load_of (session_for e trajs readback start) d) new → Carries new e.trajectory_id (get_or trajs d no_trajectory)
+carried curve e trajs u readback start d old new within fresh only loaded listed =
+    curve.loaded (session_for e trajs readback start) new d (get_or trajs d no_trajectory) (is_session e trajs readback start u) (omega (arith, counted e trajs readback start, within))
+    (load_is e trajs readback start d within)
+    (All-get_or IsTrajectory trajs d no_trajectory within u.formed) (All-get_or IsSendable trajs d no_trajectory within u.sendable).last
+    (only.length_kept ∙ fresh.memory) loaded listed
+
 -- memories that have the loads and the entries of trajectories are as they have to be
 landed : CurveLaw → (g : Grid) (e : Settings) (trajs : List Traj) → AreUploadable e trajs → KeepsNearShow g trajs → FlyApart e trajs → (readback start : Bool) (old new : ℕ → DroneState) →
     ((d : ℕ) → d < length trajs → IsDrone (old d)) →
@@ -63,17 +74,14 @@ landed : CurveLaw → (g : Grid) (e : Settings) (trajs : List Traj) → AreUploa
     ((d : ℕ) → d < length trajs → HasEntry (session_for e trajs readback start) (load_of (session_for e trajs readback start) d) (new d)) →
     (start ≡ true → (d : ℕ) → d < length trajs → (new d).started ≡ Some e.trajectory_id) → IsLanded g e trajs readback start old new
 landed curve g e trajs u near apart readback start old new fresh only loaded listed started =
-    let s : Upload = session_for e trajs readback start in
-    let decodes : (d : ℕ) → d < length trajs → DecodesTo (new d) e.trajectory_id (get_or trajs d no_trajectory) = λ d within.
-    curve.loaded s (new d) d (get_or trajs d no_trajectory) (is_session e trajs readback start u) (omega (arith, counted e trajs readback start, within)) (load_is e trajs readback start d within)
-    (All-get_or IsTrajectory trajs d no_trajectory within u.formed) (All-get_or IsSendable trajs d no_trajectory within u.sendable).last
-    ((only d within).length_kept ∙ (fresh d within).memory) (loaded d within) (listed d within) in
+    let carries : (d : ℕ) → d < length trajs → Carries (new d) e.trajectory_id (get_or trajs d no_trajectory) = λ d within.
+    carried curve e trajs u readback start d (old d) (new d) within (fresh d within) (only d within) (loaded d within) (listed d within) in
     record {
       untouched = only;
       started = started;
       counted = near.drones;
-      decoded = decodes;
-      only = λ d t within other. curve.one (new d) e.trajectory_id t (get_or trajs d no_trajectory) other (decodes d within);
+      carried = carries;
+      only = λ d t within other. curve.one (new d) e.trajectory_id t (get_or trajs d no_trajectory) other (carries d within).decodes;
       near = near;
       apart = apart;
     }

@@ -25,7 +25,7 @@ unfoldable pub use Rattle.figure_expand.specs.Expanded.{expanded}
 pub use Rattle.figure_expand.specs.Expanded.{expanded_from, job_in, no_job, pieces_from, range_fault}
 pub use Rattle.figure_expand.specs.Flown.{FitsWell, RoundsWell, StartsWell, job_at, jobs_in, piece_at, point_before, start_of, written_at}
 pub use Rattle.figure_expand.specs.Written.{end_of, point_after}
-pub use Rattle.firmware_memory.specs.Decoded.{CurveLaw, DecodesTo, load_for}
+pub use Rattle.firmware_memory.specs.Decoded.{Carries, CurveLaw, load_for}
 pub use Rattle.fleet_curves.specs.Raised.{CurvesStandFor, Raised, difference, raised_of}
 pub use Rattle.fleet_io.proofs.WordLaws.{decimal_is_word, fresh_after_line, hex_makes_line, words_make_line}
 pub use Rattle.fleet_io.specs.Words.{IsWord, hex_word, is_line_empty, line, with_word}

@@ -6,7 +6,7 @@ use Rattle.fleet_math.specs.Limits.{most_drones}
 use Rattle.crtp_packets.specs.declared.chunks.TheConstants.{MEMORY_BYTES}
 use Rattle.traj_codec.specs.declared.traj.Traj.{Traj}
 use Rattle.traj_codec.specs.Spelling.{IsTrajectory}
-use Rattle.firmware_memory.specs.Decoded.{DecodesTo, load_for}
+use Rattle.firmware_memory.specs.Decoded.{Carries, DecodesTo, load_for}
 use Rattle.upload_model.specs.declared.events.Progress.TheVariants.{Done}
 use Rattle.upload_model.specs.declared.events.WorldEvent.{WorldEvent}
 use Rattle.upload_model.specs.Drones.{DroneState}
@@ -34,14 +34,14 @@ session_for e trajs readback start = record {
   start = start;
 }
 
--- The drones, which were the old ones, are the new ones: each one's memory decodes to its trajectory of this list and to no other, and all else
--- in it is as it was. These trajectories keep near to what the show says at every instant, and keep any two drones apart at every instant.
+-- The drones, which were the old ones, are the new ones: each one carries its trajectory of this list, the ending after it; its memory decodes
+-- to no other, and all else in it is as it was. These trajectories keep near to what the show says at every instant, and keep any two drones apart at every instant.
 pub record IsLanded (g : Grid) (e : Settings) (trajs : List Traj) (readback start : Bool) (old new : ℕ → DroneState) : Type 0 where
   pub untouched : (d : ℕ) → d < length trajs →
       OnlyLoads (session_for e trajs readback start) (load_of (session_for e trajs readback start) d) (old d) (new d)
   pub started : start ≡ true → (d : ℕ) → d < length trajs → (new d).started ≡ Some e.trajectory_id
   pub counted : length trajs ≡ length g.starts
-  pub decoded : (d : ℕ) → d < length trajs → DecodesTo (new d) e.trajectory_id (slice_index_or trajs d no_trajectory)
+  pub carried : (d : ℕ) → d < length trajs → Carries (new d) e.trajectory_id (slice_index_or trajs d no_trajectory)
   pub only : (d : ℕ) (t : Traj) → d < length trajs → DecodesTo (new d) e.trajectory_id t → t ≡ slice_index_or trajs d no_trajectory
   pub near : KeepsNearShow g trajs
   pub apart : FlyApart e trajs

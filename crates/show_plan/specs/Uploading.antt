@@ -1,21 +1,40 @@
 -- What holds of each upload of a show's trajectories, while it goes on and when it is done.
-use Rattle.std.specs.Prelude.{◌≡◌, ℕ, ◌-◌, ◌<◌, Bool, true, List, length, take, slice_get, slice_index, Some, Contains}
+use Rattle.std.specs.Prelude.{◌≡◌, ℕ, ◌-◌, ◌<◌, Bool, true, List, ◌++◌, length, take, slice_get, slice_index, slice_index_or, Some, Contains}
+use Rattle.std.specs.List.{All}
 use Rattle.crtp_packets.specs.Commands.{start_of}
 use Rattle.cue_grid.specs.declared.grid.Grid.{Grid}
 use Rattle.traj_codec.specs.declared.traj.Traj.{Traj}
+use Rattle.firmware_memory.specs.Decoded.{Carries}
 use Rattle.upload_model.specs.declared.events.Progress.TheVariants.{Done}
 use Rattle.upload_model.specs.declared.events.WorldEvent.{WorldEvent}
 use Rattle.upload_model.specs.Drones.{DroneState}
 use Rattle.upload_model.specs.Hosts.{progress}
 use Rattle.upload_model.specs.Readback.{WasRight, is_right}
-use Rattle.upload_model.specs.Sessions.{Upload, drone_count, load_of, read_count, read_start, wanted}
+use Rattle.upload_model.specs.Sessions.{Upload, drone_count, load_count, load_of, packet_count, read_count, read_start, wanted}
+use Rattle.upload_model.specs.Starts.{TakesOneStart, beginnings}
+use Rattle.upload_model.specs.Taking.{IsAccepted, taken}
 use Rattle.upload_model.specs.Memories.{IsDrone, IsInside}
 use Rattle.upload_model.specs.Theorem.{IsSafe, IsUnaltered, TakesStart}
-use Rattle.upload_model.specs.Worlds.{world}
+use Rattle.upload_model.specs.Worlds.{start_world, world}
 use Rattle.choreo_show.specs.declared.show.Settings.{Settings}
-use Rattle.show_plan.specs.Flight.{KeepsNearShow}
+use Rattle.show_plan.specs.Flight.{KeepsNearShow, no_trajectory}
 use Rattle.show_plan.specs.Landing.{AreUploadable, Lands, LandsInAnyOrder, session_for}
 use Rattle.show_plan.specs.Separation.{FlyApart}
+
+-- What is flown. A drone that takes a start flies what it carries.
+pub record FlyTheirOwn (e : Settings) (trajs : List Traj) : Type 0 where
+  -- In an upload where nobody else alters a byte: once a start was sent to any drone, each drone carries its own trajectory, then and at each
+  -- later moment. A drone takes only what was sent to it, so each start that it takes starts its own trajectory.
+  pub once_sent : (readback start : Bool) (drones : ℕ → DroneState) (events later : List WorldEvent) (i d : ℕ) →
+      ((n : ℕ) → n < length trajs → IsDrone (drones n)) → IsUnaltered (events ++ later) → i < length trajs → d < length trajs →
+      Contains ((world (session_for e trajs readback start) drones events).sent i) (start_of e.trajectory_id) →
+      Carries ((world (session_for e trajs readback start) drones (events ++ later)).drones d) e.trajectory_id (slice_index_or trajs d no_trajectory)
+  -- Whoever sends a drone its packets, in whatever order: once it accepted its writes and its define it carries its own trajectory, then and
+  -- after whatever packets of the session it takes later, starts among them. A start before that starts what the drone carried before.
+  pub once_accepted : (readback start : Bool) (drone : DroneState) (order later : List ℕ) (d : ℕ) → IsDrone drone → d < length trajs →
+      All (λ k. k < packet_count (session_for e trajs readback start) d) (order ++ later) →
+      ((k : ℕ) → k < load_count (session_for e trajs readback start) d → IsAccepted (session_for e trajs readback start) d drone order k) →
+      Carries (taken (session_for e trajs readback start) d drone (order ++ later)) e.trajectory_id (slice_index_or trajs d no_trajectory)
 
 -- What holds of an upload of this session, to drones that are so at the start, after these events. Only the last field
 -- asks that nobody else alters a byte. A moment of an upload is the end of one of its beginnings, so what holds after
@@ -37,17 +56,21 @@ pub record GoesRight (s : Upload) (drones : ℕ → DroneState) (events : List W
   -- how often.
   pub starts_taken : s.start ≡ true → progress s (world s drones events).heard ≡ Done → (d : ℕ) → d < drone_count s →
       (i : ℕ) × (e : WorldEvent) × (slice_get events i ≡ Some e) × TakesStart s (world s drones (take i events)) d e
+  -- And a drone to which the link hands one start at most has begun exactly once.
+  pub begun_once : s.start ≡ true → progress s (world s drones events).heard ≡ Done → (d : ℕ) → d < drone_count s →
+      TakesOneStart s drones events d → beginnings s (start_world s drones) d events ≡ 1
   -- Where nobody else alters a byte this moment is safe: only loads are written, what is acknowledged is there, starts
   -- come last, and no read differs.
   pub unaltered : IsUnaltered events → IsSafe s drones (world s drones events)
 
 -- Whatever the drones hold at the start, and whatever the link loses, repeats, delays or reorders: once all packets of
 -- the session of these trajectories are acknowledged, where nobody else alters a byte, they are stored, near to the
--- show and apart. So they are whoever sends the packets, once all but the reads are accepted. And each upload of this
--- session goes right, with read-back or without and with starts or without.
+-- show and apart. So they are whoever sends the packets, once all but the reads are accepted. What a drone flies is its own
+-- trajectory. And each upload of this session goes right, with read-back or without and with starts or without.
 pub record Uploads (g : Grid) (e : Settings) (trajs : List Traj) : Type 0 where
   pub stored : Lands g e trajs
   pub in_any_order : LandsInAnyOrder g e trajs
+  pub flown : FlyTheirOwn e trajs
   pub each : (readback start : Bool) (drones : ℕ → DroneState) (events : List WorldEvent) →
       ((d : ℕ) → d < length trajs → IsDrone (drones d)) → GoesRight (session_for e trajs readback start) drones events
 

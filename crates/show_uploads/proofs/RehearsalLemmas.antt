@@ -75,7 +75,7 @@ decoded_after g e trajs readback start events lands unaltered done d within =
     lands readback start (λ (n : ℕ). blank_drone s) events [] (λ n known. blank_is_drone s) (subst IsUnaltered (sym (append-nil events)) unaltered) done in
     let here : IsLanded g e trajs readback start (λ n. blank_drone s) (rehearsed s events).drones =
     subst (λ (es : List WorldEvent). IsLanded g e trajs readback start (λ n. blank_drone s) (rehearsed s es).drones) (append-nil events) landed in
-    (get_or trajs d _, here.decoded d within)
+    (get_or trajs d _, (here.carried d within).decodes)
 
 ends_some : (q : Progress) (s : PlainShow) (events : List WorldEvent) (w : World) → (q ≡ Done → AllDecode w.drones s.settings.trajectory_id (words_of s)) → (o : Outcome) × RehearsalEnds q s events w o
 ends_some Going s events w decoded = (refused refusal.Ended, refl)

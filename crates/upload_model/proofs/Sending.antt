@@ -1,7 +1,9 @@
 -- What the host sends, whoever else alters a byte: packets of the session; reads only after the first
 -- phase; starts only after all reads.
 use Rattle.upload_model.proofs.Prelude.{common_steps, ◌≡◌, ℕ, ◌<◌, ◌≤◌, Bool, true, false, cond, ◌&&◌, eqb, ltb, List, [], ◌∷◌, ◌++◌, map, get_or, refl, ap, sym, ◌∙◌, arith, Option, Some, None, subst, slice_get, All, Contains, filter, cond_both, eqb-true, append-nil, append_assoc, All-nil, All-cons, All-head, All-tail, All-append, All-weaker, All-contains, start_of, Event, Loading, Reading, Sent, WorldEvent, Tick, Take, Hear, Alter, DroneState, Upload, drone_count, load_count, start_number, packet_count, packet_at, acked, flight, out, World, changed, packets_for, start_world, host_event, take_named, hear_named, altered, happens, run, world}
+use Rattle.std.proofs.lemmas.List.Elements.{Contains-append_left}
 use Rattle.upload_model.specs.declared.events.Event.TheVariants as event
+use Rattle.upload_model.specs.Theorem.{StaysSentLaw}
 use Rattle.upload_model.proofs.Readings.{Kind, a_write, a_define, a_read, a_start, packet_kind, packet_at-write, packet_at-define, packet_at-read}
 use Rattle.upload_model.proofs.HostLaws.{Settled, Settled-more, IsFlight, flight-fits, out-fits}
 
@@ -118,3 +120,39 @@ sends-world s drones events =
 pub start_sent : (s : Upload) (w : World) → Sends s w → (d : ℕ) → d < drone_count s → Contains (w.sent d) (start_of s.trajectory_id) →
     Settled s Loading (acked s w.heard) × Settled s Reading (acked s w.heard)
 start_sent s w sends d l has = grind (arith, common_steps, All-contains, last_number)
+
+-- ---- what was sent stays so
+
+-- where a packet stands among those that were sent to drone d
+abbrev WasSent : ℕ → List ℕ → World → Type 0
+WasSent d packet w = Contains (w.sent d) packet
+
+still-host : (s : Upload) (w : World) (e : Event) (d : ℕ) (packet : List ℕ) → WasSent d packet w → WasSent d packet (host_event s w e)
+unfolding host_event
+still-host s w e d packet h = Contains-append_left (w.sent d) (packets_for s (out s w.heard e) d) packet h
+
+still-take : (w : World) (i : ℕ) (o : Option (List ℕ)) (d : ℕ) (packet : List ℕ) → WasSent d packet w → WasSent d packet (take_named w i o)
+still-take w i None d packet h = h
+still-take w i (Some p) d packet h = h
+
+still-hear : (s : Upload) (w : World) (i : ℕ) (o : Option (List ℕ)) (d : ℕ) (packet : List ℕ) → WasSent d packet w → WasSent d packet (hear_named s w i o)
+still-hear s w i None d packet h = h
+still-hear s w i (Some p) d packet h = still-host s w (event.Up i p) d packet h
+
+still-happens : (s : Upload) (w : World) (e : WorldEvent) (d : ℕ) (packet : List ℕ) → WasSent d packet w → WasSent d packet (happens s w e)
+unfolding happens
+still-happens s w Tick d packet h = still-host s w event.Tick d packet h
+still-happens s w (Take i n) d packet h =
+    cond_both (ltb i (drone_count s)) (take_named w i (slice_get (w.sent i) n)) w (WasSent d packet) (λ b. still-take w i (slice_get (w.sent i) n) d packet h) (λ b. h)
+still-happens s w (Hear i n) d packet h =
+    cond_both (ltb i (drone_count s)) (hear_named s w i (slice_get (w.given i) n)) w (WasSent d packet) (λ b. still-hear s w i (slice_get (w.given i) n) d packet h) (λ b. h)
+still-happens s w (Alter i address value) d packet h =
+    cond_both (ltb i (drone_count s) && ltb address 4096) (record w { drones = changed w.drones i (altered (w.drones i) address value) }) w (WasSent d packet) (λ b. h) (λ b. h)
+
+pub stays_sent : StaysSentLaw
+stays_sent s drones events later d packet h =
+    by_last (λ es. WasSent d packet (world s drones (events ++ es)))
+    (subst (λ (es : List WorldEvent). WasSent d packet (world s drones es)) (sym (append-nil events)) h)
+    (λ es e before.
+    subst (λ (fs : List WorldEvent). WasSent d packet (world s drones fs)) (append_assoc events es (e ∷ []))
+    (subst (WasSent d packet) (sym (world-last s drones (events ++ es) e)) (still-happens s (world s drones (events ++ es)) e d packet before))) later

@@ -1,6 +1,6 @@
 -- Starts that drones take. A drone that takes a start again begins its trajectory anew, as real firmware does: so how
 -- many it took says how often it began (docs/RADIO.md, "What the upload theorem says").
-use Rattle.std.specs.Prelude.{◌≡◌, ℕ, ◌+◌, ◌<◌, ◌≤◌, ◌==◌, ◌&&◌, if◌then◌else◌, Bool, true, false, List, [], ◌∷◌, Option, Some, None, slice_get}
+use Rattle.std.specs.Prelude.{◌≡◌, ℕ, ◌+◌, ◌<◌, ◌≤◌, ◌==◌, ◌&&◌, if◌then◌else◌, Bool, true, false, List, [], ◌∷◌, Option, Some, None, slice_get, take}
 use Rattle.std.specs.Str.{bytes_eq}
 use Rattle.crtp_packets.specs.Commands.{start_of}
 use Rattle.upload_model.specs.declared.events.Progress.TheVariants.{Done}
@@ -10,7 +10,7 @@ use Rattle.upload_model.specs.Drones.{DroneState}
 use Rattle.upload_model.specs.Sessions.{Upload, drone_count}
 use Rattle.upload_model.specs.Hosts.{progress}
 use Rattle.upload_model.specs.Worlds.{World, start_world, happens, world}
-use Rattle.upload_model.specs.Theorem.{IsCase}
+use Rattle.upload_model.specs.Theorem.{IsCase, TakesStart}
 
 -- Whether this is the session's start, if it is a packet.
 abbrev pub is_start : Upload → Option (List ℕ) → Bool
@@ -35,3 +35,16 @@ abbrev pub BeginLaw : Type 0
 BeginLaw =
     (s : Upload) (drones : ℕ → DroneState) → IsCase s drones → (events : List WorldEvent) (d : ℕ) → d < drone_count s →
     s.start ≡ true → progress s (world s drones events).heard ≡ Done → 1 ≤ beginnings s (start_world s drones) d events
+
+-- The link hands drone d one start at most: there are no two of these events at which it takes one.
+abbrev pub TakesOneStart : Upload → (ℕ → DroneState) → List WorldEvent → ℕ → Type 0
+TakesOneStart s drones events d =
+    (i j : ℕ) (e f : WorldEvent) → slice_get events i ≡ Some e → slice_get events j ≡ Some f →
+    TakesStart s (world s drones (take i events)) d e → TakesStart s (world s drones (take j events)) d f → i ≡ j
+
+-- At Done, where the session starts, a drone to which the link hands one start at most has begun exactly once.
+abbrev pub OnceLaw : Type 0
+OnceLaw =
+    (s : Upload) (drones : ℕ → DroneState) → IsCase s drones → (events : List WorldEvent) (d : ℕ) → d < drone_count s →
+    s.start ≡ true → progress s (world s drones events).heard ≡ Done → TakesOneStart s drones events d →
+    beginnings s (start_world s drones) d events ≡ 1

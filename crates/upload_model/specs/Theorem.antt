@@ -79,3 +79,9 @@ LastingLaw =
     (s : Upload) (drones : ℕ → DroneState) (events later : List WorldEvent) →
     ((d k : ℕ) → acked s (world s drones events).heard d k ≡ true → acked s (world s drones (events ++ later)).heard d k ≡ true)
     × (progress s (world s drones events).heard ≡ Done → progress s (world s drones (events ++ later)).heard ≡ Done)
+
+-- What was sent to a drone stays so.
+abbrev pub StaysSentLaw : Type 0
+StaysSentLaw =
+    (s : Upload) (drones : ℕ → DroneState) (events later : List WorldEvent) (d : ℕ) (packet : List ℕ) →
+    Contains ((world s drones events).sent d) packet → Contains ((world s drones (events ++ later)).sent d) packet

@@ -1,8 +1,8 @@
 //! The laws of an upload.
 
 ghost use Rattle.std.specs.Prelude.{◌≡◌};
-ghost use Rattle.upload_model.specs.Theorem.{UploadLaw, StartLaw, UnstartedLaw, TakenLaw, LastingLaw};
-ghost use Rattle.upload_model.specs.Starts.{BeginLaw};
+ghost use Rattle.upload_model.specs.Theorem.{UploadLaw, StartLaw, UnstartedLaw, TakenLaw, LastingLaw, StaysSentLaw};
+ghost use Rattle.upload_model.specs.Starts.{BeginLaw, OnceLaw};
 ghost use Rattle.upload_model.specs.Readback.{ReadsCover, VerifiedLaw, StartsLastLaw};
 ghost use Rattle.upload_model.specs.Taking.{TakingLaw};
 
@@ -16,7 +16,9 @@ pub fn upload_law()
     ensures unstarted { UnstartedLaw }
     ensures taken { TakenLaw }
     ensures begins { BeginLaw }
+    ensures once { OnceLaw }
     ensures lasts { LastingLaw }
+    ensures sent { StaysSentLaw }
 {}
 
 /// What read-back says, whoever else alters a byte of a memory: each byte of each load was right when it

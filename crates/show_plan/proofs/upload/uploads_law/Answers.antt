@@ -4,4 +4,8 @@ use Rattle.show_plan.proofs.upload.uploads_law.Goals as goal
 
 pub returns : goal.returns
 returns c =
-    uploads c.landing_law.ensures (in_any_order c.curve_law.ensures c.taking_law.ensures) c.upload_law.ensures.safe c.upload_law.ensures.taken c.readback_law.ensures.cover c.readback_law.ensures.verified c.readback_law.ensures.starts
+    let upload = c.upload_law.ensures in
+    let reads = c.readback_law.ensures in
+    let curve = c.curve_law.ensures in
+    let taking = c.taking_law.ensures in
+    uploads curve c.landing_law.ensures (in_any_order curve taking) upload.safe upload.sent taking upload.taken upload.once reads.cover reads.verified reads.starts
