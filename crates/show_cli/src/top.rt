@@ -103,8 +103,9 @@ pub fn run<S: Source, K: Sink>(
     ensures begun { (depth : ℕ) (start readback : Bool) (input : List ℕ) → command_in words.now.items ≡ Some (Command.Upload depth start readback) → (S.told source.new).given ≡ (S.told source.old).given ++ input
         → HasBegun (K.written sink.old) (K.written sink.new) → UploadsText (part_of input) }
 
-    // 0 of `compile`: the input stands for a show, and its plan was written. Whoever sends its packets, in whatever order and however often,
-    // once each drone accepted all of its own, its memory decodes to one curve, near to the show and apart from every other, at every instant.
+    // 0 of `compile`: the input stands for a show, and its plan was written. Of the trajectories of this plan each upload goes right, as `uploads`
+    // says: once it is done, or once each drone accepted its packets, whoever sent them, each drone carries one curve and flies no other, near to
+    // the show and apart from every other drone, at every instant.
     ensures headline { (input : List ℕ) → IsCalled words.now.items (codes "compile") → (S.told source.new).given ≡ (S.told source.old).given ++ input → result ≡ 0
         → Headline input (K.written sink.old) (K.written sink.new) }
 
