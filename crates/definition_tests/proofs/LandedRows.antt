@@ -1,0 +1,23 @@
+-- What is not stored, computed.
+use Rattle.std.proofs.Common.{◌≡◌, pos, None, Some, arith, refl}
+use Rattle.fleet_math.specs.Bernstein.{bernstein}
+use Rattle.fleet_math.specs.Decoded.{decoded}
+use Rattle.fleet_math.specs.Moments.{moment}
+use Rattle.definition_tests.specs.Flights.{flight, place}
+use Rattle.definition_tests.specs.Stored.{LandedRows}
+use Rattle.definition_tests.proofs.NearRows.{show}
+use Rattle.definition_tests.proofs.StoredRows.{third}
+
+pub landed : LandedRows
+unfolding bernstein decoded moment
+landed = record {
+  no_ending = λ g readback start old is. third (is.carried 0 (omega arith));
+  other_byte = λ g readback start is. let same = (is.untouched 0 (omega arith)).outside 18 (λ inside. let high = inside.1 in absurd (omega (arith, high))) in absurd (omega (arith, same));
+  not_started = λ g readback old is. let started : None ≡ Some 0 = is.started refl 0 (omega arith) in absurd (cc);
+  far = λ readback start old new is. show.x is.near;
+  touching = λ g readback start old new is.
+      let share = is.apart 0 1 (flight (pos 50) (pos 50)) (flight (pos 51) (pos 51)) (λ e. absurd (omega (arith, e))) refl refl 0 1 0 1 (omega arith) (omega arith) (omega arith) (omega arith)
+      (record { before = omega arith; after = omega arith }) (place (pos 50) (pos 0) (pos 0)) (place (pos 51) (pos 0) (pos 0))
+      (record { some = omega arith; near = omega arith }) (record { some = omega arith; near = omega arith }) in
+      let low = share.apart in absurd (omega (arith, low));
+}

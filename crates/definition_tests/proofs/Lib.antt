@@ -1,0 +1,9 @@
+pub mod KeptRows
+pub mod ApartRows
+pub mod NearRows
+pub mod StoredRows
+pub mod MotionRows
+pub mod BeginRows
+pub mod LandedRows
+pub mod UploadRows
+pub mod JoinedRows

@@ -1,0 +1,5 @@
+use Rattle.definition_tests.proofs.StoredRows.{carries}
+use Rattle.definition_tests.proofs.carries_rows.Goals as goal
+
+pub returns : goal.returns
+returns c = carries

@@ -1,0 +1,5 @@
+use Rattle.definition_tests.proofs.NearRows.{half}
+use Rattle.definition_tests.proofs.half_rows.Goals as goal
+
+pub returns : goal.returns
+returns c = half
