@@ -1,19 +1,15 @@
 //! The program: it checks, compiles, certifies, plays and reports choreographies of drones, verifies their certificates, and
 //! rehearses and carries their uploads.
 //!
-//! `run` (in `top`) is the program over any source and any sink, and has its contract: each command is a value of `Verb`
-//! (`specs/Verbs.antt` has a line a command), and what a run of it gives, reads and writes is `Behaves` of `show_judge`. The commands
-//! stand in `show_looks`, `show_uploads`, `show_verify` and `show_studies`. `main` is the trusted edge: it hands in the words and
-//! standard input and output, and ends with the status.
+//! `run` of `show_run` is the program over any source and any sink, and has its contract. `main` is the trusted edge: it hands in the words
+//! and standard input and output, and ends with the status. The tests of the whole program stand here.
 #![tactic(auto)]
-
-mod top;
 
 use fleet_io::status::{NO_MEMORY, NO_WORDS};
 use fleet_io::{StdSink, StdSource};
+use show_run::run;
 use std::process::ExitCode;
 use std::{env, io};
-use top::run;
 
 fn main(rt: HostRuntime) -> ExitCode {
     let mut args = match env::args(&rt) {

@@ -1,6 +1,6 @@
 //! Runs of the whole program over memory, with results that are known from outside.
-use crate::top::{run, run_surely};
 use fleet_io::{MemSink, MemSource, SureSink, SureSource};
+use show_run::{run, run_surely};
 use std::alloc::{AllocError, Global};
 use std::test::Fail;
 

@@ -6,7 +6,7 @@ use Rattle.command_words.specs.declared.command.Command.{Command}
 use Rattle.show_judge.specs.Runs.{Behaves, Does}
 use Rattle.show_judge.specs.Verb.{Run, Span}
 use Rattle.show_judge.proofs.RunLemmas.{statuses}
-use Rattle.show_cli.specs.Verbs.{verb_of}
+use Rattle.show_run.specs.Verbs.{verb_of}
 
 -- a count that never rises doesn't rise
 pub never_rose : Rose 0 0 → ⊥

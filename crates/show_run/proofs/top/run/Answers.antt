@@ -7,11 +7,11 @@ use Rattle.show_judge.proofs.VerbLemmas.{outcomes}
 use Rattle.show_looks.specs.Drilled.{drill_of}
 use Rattle.show_looks.specs.Reports.{report_of}
 use Rattle.show_looks.proofs.CompileLemmas.{headline_of}
-use Rattle.show_cli.specs.Verbs.{verb_of}
-use Rattle.show_cli.proofs.TopLemmas.{behaves_as, does_as, known_small, never_seventeen, never_two, one_command}
-use Rattle.show_cli.proofs.NameLemmas.{compiles, uploads}
-use Rattle.show_cli.proofs.VerbLaws.{laws}
-use Rattle.show_cli.proofs.top.run.Goals as goal
+use Rattle.show_run.specs.Verbs.{verb_of}
+use Rattle.show_run.proofs.TopLemmas.{behaves_as, does_as, known_small, never_seventeen, never_two, one_command}
+use Rattle.show_run.proofs.NameLemmas.{compiles, uploads}
+use Rattle.show_run.proofs.VerbLaws.{laws}
+use Rattle.show_run.proofs.top.run.Goals as goal
 
 pub returns-in-Some-clause-two : goal.returns-in-Some-clause-two
 returns-in-Some-clause-two g c = λ two. absurd (never_two _ (c.run_command.ensures.behaves.behaves (g.S.Source.told c.run_command.new.source).given (IsInput-now (g.S.Source.told c.run_command.new.source))).runs.known two)

@@ -1,8 +1,8 @@
 use Rattle.fleet_io.proofs.ToldLemmas.{IsInput-now}
 use Rattle.fleet_io.specs.Memory.{told_sure}
 use Rattle.std.proofs.Common.{inl, inr}
-use Rattle.show_cli.proofs.TopLemmas.{never_rose, never_seven, never_six}
-use Rattle.show_cli.proofs.top.run_surely.Goals as goal
+use Rattle.show_run.proofs.TopLemmas.{never_rose, never_seven, never_six}
+use Rattle.show_run.proofs.top.run_surely.Goals as goal
 
 pub returns-clause-read : goal.returns-clause-read
 returns-clause-read c = λ six. never_six _ _ _ (λ none. (c.run.ensures.usage none).0) (λ d is. (c.run.ensures.behaves d is).behaves (told_sure c.run.new.source).given (IsInput-now (told_sure c.run.new.source))) never_rose six

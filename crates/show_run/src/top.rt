@@ -19,7 +19,7 @@ ghost use Rattle.show_studies.specs.Dynamics.{KeepsDynamics};
 ghost use Rattle.show_studies.specs.Explained.{TellsTouches};
 ghost use Rattle.show_studies.specs.Speeds.{KeepsSpeeds};
 ghost use Rattle.show_uploads.specs.Upload.{HasBegun};
-ghost use Rattle.show_cli.specs.Verbs.{IsCalled, command_in, judges_apart, verb_of};
+ghost use Rattle.show_run.specs.Verbs.{IsCalled, command_in, judges_apart, verb_of};
 
 use choreo_reader::show_law;
 use command_words::{Command, command_of, help_text};

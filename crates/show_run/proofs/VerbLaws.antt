@@ -19,7 +19,7 @@ use Rattle.show_studies.proofs.StudyLaws.{dynamics_laws, explain_laws, speed_law
 use Rattle.show_uploads.specs.Rehearse.{RehearseLaw}
 use Rattle.show_uploads.specs.Upload.{UploadingLaw}
 use Rattle.show_verify.specs.Verify.{VerifyLaw}
-use Rattle.show_cli.specs.Verbs.{verb_of}
+use Rattle.show_run.specs.Verbs.{verb_of}
 
 pub laws : VerifyLaw → RehearseLaw → UploadingLaw → BoxesLaw → (c : Command) → IsVerb (verb_of c)
 laws verify rehearse uploading boxes Help = nothing_verb help_text

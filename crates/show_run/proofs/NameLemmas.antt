@@ -15,7 +15,7 @@ use Rattle.show_judge.specs.Headline.{UploadsText}
 use Rattle.show_judge.specs.Runs.{Runs}
 use Rattle.show_judge.specs.Verb.{Run}
 use Rattle.show_judge.proofs.HeadlineLemmas.{uploads_of}
-use Rattle.show_cli.specs.Verbs.{IsCalled, command_in, judges_apart, verb_of}
+use Rattle.show_run.specs.Verbs.{IsCalled, command_in, judges_apart, verb_of}
 
 -- what a value was made of
 made_of : {A B : Type 0} (f : A → B) (x : Option A) (y : B) → option_map f x ≡ Some y → (a : A) × (f a ≡ y)
