@@ -1,0 +1,35 @@
+-- What the director chooses, phase by phase.
+use Rattle.std.proofs.Common.{◌≡◌, ◌||◌, Bool, true, false, cond, refl}
+use Rattle.flight_model.specs.declared.events.Event.{Event}
+use Rattle.flight_model.specs.declared.flights.Flight.{Flight}
+use Rattle.flight_model.specs.Directors.{Steps, Landing, Off, Halted, State, Choice, Rest, Begin, Descend, Cut, Quit, Finish, chosen, is_stop, is_land, is_due, is_over, all_seen, is_down}
+
+-- what holds of each choice that may be made
+cond-has : (P : Choice → Type 0) (b : Bool) (x y : Choice) → (b ≡ true → P x) → (b ≡ false → P y) → P (cond b x y)
+cond-has P true x y f g = f refl
+cond-has P false x y f g = g refl
+
+pub steps-has : (P : Choice → Type 0) (f : Flight) (h : State) (e : Event) (fault : Bool) →
+    (is_stop e ≡ true → P Cut) →
+    (is_stop e ≡ false → is_land e || fault ≡ true → P Descend) →
+    (is_stop e ≡ false → is_land e || fault ≡ false → is_due f h e ≡ true → P Begin) →
+    P Rest → P (chosen f h e fault Steps)
+steps-has P f h e fault cut descend begin rest =
+    cond-has P (is_stop e) Cut (cond (is_land e || fault) Descend (cond (is_due f h e) Begin Rest)) cut
+    (λ go. cond-has P (is_land e || fault) Descend (cond (is_due f h e) Begin Rest) (descend go)
+    (λ on. cond-has P (is_due f h e) Begin Rest (begin go on) (λ no. rest)))
+
+pub landing-has : (P : Choice → Type 0) (f : Flight) (h : State) (e : Event) (fault : Bool) →
+    (is_stop e ≡ true → P Cut) → (is_stop e ≡ false → P Quit) → (is_stop e ≡ false → P Rest) → P (chosen f h e fault Landing)
+landing-has P f h e fault cut quit rest =
+    cond-has P (is_stop e) Cut (cond (all_seen f.silence is_down h.tracks) Quit Rest) cut
+    (λ go. cond-has P (all_seen f.silence is_down h.tracks) Quit Rest (λ b. quit go) (λ b. rest go))
+
+pub off-has : (P : Choice → Type 0) (f : Flight) (h : State) (e : Event) (fault : Bool) →
+    (is_stop e ≡ true → P Cut) → (is_stop e ≡ false → P Finish) → (is_stop e ≡ false → P Rest) → P (chosen f h e fault Off)
+off-has P f h e fault cut finish rest =
+    cond-has P (is_stop e) Cut (cond (is_over f h) Finish Rest) cut
+    (λ go. cond-has P (is_over f h) Finish Rest (λ b. finish go) (λ b. rest go))
+
+pub halted-has : (P : Choice → Type 0) (f : Flight) (h : State) (e : Event) (fault : Bool) → P Finish → P Rest → P (chosen f h e fault Halted)
+halted-has P f h e fault finish rest = cond-has P (is_over f h) Finish Rest (λ b. finish) (λ b. rest)

@@ -1,0 +1,7 @@
+mod Rows
+mod Orders
+mod Choices
+mod Telling
+mod Beginning
+mod Ending
+mod Flown

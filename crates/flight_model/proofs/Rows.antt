@@ -1,0 +1,184 @@
+-- The definitions at a small flight: two drones, one leg up, a show of one cue, one leg down.
+use Rattle.std.proofs.Common.{◌≡◌, ◌∷◌, ◌++◌, [], List, Bool, true, false, refl, None, Some, ℕ}
+use Rattle.std.specs.Prelude.{ℤ, pos}
+use Rattle.traj_codec.specs.declared.traj.Traj.{Traj}
+use Rattle.traj_codec.specs.declared.traj.Element.{Element}
+use Rattle.traj_codec.specs.declared.traj.Element.TheVariants.{Constant, Cubic, Seven}
+use Rattle.flight_model.specs.declared.events.Order.{Order}
+use Rattle.flight_model.specs.declared.events.Order.TheVariants as order
+use Rattle.flight_model.specs.declared.events.Sample.{Sample}
+use Rattle.flight_model.specs.declared.events.Word.TheVariants as word
+use Rattle.flight_model.specs.declared.events.Event.{Event}
+use Rattle.flight_model.specs.declared.events.Event.TheVariants.{Clock, Seen, Answered, Said}
+use Rattle.flight_model.specs.declared.events.Fault.{Fault}
+use Rattle.flight_model.specs.declared.events.Fault.TheVariants as fault
+use Rattle.flight_model.specs.declared.events.Frame.{Frame}
+use Rattle.flight_model.specs.declared.events.Frame.TheVariants.{To, ToAll, Noted, Over}
+use Rattle.flight_model.specs.declared.flights.Flight.{Flight}
+unfoldable use Rattle.flight_model.specs.Legs.{steps_of}
+use Rattle.flight_model.specs.Legs.{Ways}
+unfoldable use Rattle.flight_model.specs.Samples.{is_fit_by, is_kept}
+unfoldable use Rattle.flight_model.specs.Directors.{tracks_after, heard, is_due, notes, is_fault, choice, done, led, happens, says}
+use Rattle.flight_model.specs.Directors.{start, sent, after, State, Track, Steps}
+unfoldable use Rattle.fleet_math.specs.Decoded.{decoded}
+unfoldable use Rattle.fleet_math.specs.Moments.{moment}
+unfoldable use Rattle.fleet_math.specs.Bernstein.{bernstein}
+use Rattle.flight_model.specs.Law.{ordered}
+
+-- from rest to rest, to this value
+abbrev rest : ℤ → ℤ → Element
+rest a b = Seven (a ∷ a ∷ a ∷ b ∷ b ∷ b ∷ b ∷ [])
+
+abbrev up_at : ℤ → Traj
+up_at x = record {
+  start = x ∷ pos 0 ∷ pos 0 ∷ pos 0 ∷ [];
+  segments = record { ms = 2000; elements = Constant ∷ Constant ∷ rest (pos 0) (pos 1000) ∷ Constant ∷ [] } ∷ [];
+}
+
+-- aside and back again
+abbrev show_at : ℤ → Traj
+show_at x = record {
+  start = x ∷ pos 0 ∷ pos 1000 ∷ pos 0 ∷ [];
+  segments = record { ms = 1000; elements = Constant ∷ Cubic (pos 300 ∷ pos 300 ∷ pos 0 ∷ []) ∷ Constant ∷ Constant ∷ [] } ∷ [];
+}
+
+abbrev down_at : ℤ → Traj
+down_at x = record {
+  start = x ∷ pos 0 ∷ pos 1000 ∷ pos 0 ∷ [];
+  segments = record { ms = 2500; elements = Constant ∷ Constant ∷ rest (pos 1000) (pos 0) ∷ Constant ∷ [] } ∷ [];
+}
+
+abbrev two : (ℤ → Traj) → List Traj
+two t = t (pos 0) ∷ t (pos 2000) ∷ []
+
+abbrev ways : Ways
+ways = record { up = two up_at; show = two show_at; down = two down_at; near = 100; at_place = 50 }
+
+unfoldable flight : Bool → Flight
+unfolding steps_of
+flight flies_on = record {
+  steps = steps_of ways;
+  curves = two show_at;
+  show_ms = 1000;
+  stray = 30;
+  late = 2;
+  silence = 500;
+  flies_on = flies_on;
+  floor = pos 0;
+  descent = 4000;
+}
+
+abbrev sample : ℤ → ℤ → ℤ → Bool → Bool → Sample
+sample x y z armed down = record { age = 0; x = x; y = y; z = z; ready = true; armed = armed; lost = false; down = down }
+
+-- both are at this height, and so far aside
+abbrev both : ℤ → ℤ → Bool → Bool → List Event
+both y z armed down = Seen 0 (sample (pos 0) y z armed down) ∷ Seen 1 (sample (pos 2000) y z armed down) ∷ []
+
+abbrev go : List Event
+go = Said word.Go ∷ []
+
+-- half a second, and both are still there
+abbrev half : ℤ → Bool → Bool → List Event
+half z armed down = Clock 500 ∷ both (pos 0) z armed down
+
+abbrev lift_off : List Event
+lift_off = both (pos 0) (pos 0) false true ++ go ++ both (pos 0) (pos 0) true true
+
+abbrev second : ℤ → Bool → Bool → List Event
+second z armed down = both (pos 0) z armed down ++ half z armed down ++ half z armed down
+
+abbrev ready : List Event
+ready = lift_off ++ (Clock 2000 ∷ second (pos 1000) true false)
+
+abbrev seen_at : ℤ → ℤ → Track
+seen_at x z = record { seen = Some (sample x (pos 0) z true false); off = None }
+
+-- both hover at their first places, and have done so for a second
+abbrev at_ready : State
+at_ready = record {
+  phase = Steps;
+  next = 2;
+  waited = 3000;
+  steady = 1000;
+  showing = false;
+  kept = true;
+  tracks = seen_at (pos 0) (pos 1000) ∷ seen_at (pos 2000) (pos 1000) ∷ [];
+}
+
+-- the show is over, with both at its last places
+abbrev at_last : State
+at_last = record at_ready { next = 3; waited = 1000; steady = 0; showing = true }
+
+unfoldable says_all : Bool → State → List Event → List Frame
+says_all flies_on s events = sent (flight flies_on) s events
+
+unfoldable comes_to : State → List Event → State
+comes_to s events = after (flight true) s events
+
+unfoldable begun : State
+begun = start (flight true)
+
+unfoldable plan : ℕ → List Order
+plan d = ordered d (flight true).steps
+
+abbrev note : ℕ → Fault → Frame
+note d fault = Noted (record { drone = d; fault = fault })
+
+abbrev all_land : List Frame
+all_land = To 0 (order.Land (pos 0) 4000) ∷ To 1 (order.Land (pos 0) 4000) ∷ []
+
+abbrev show : List Event
+show = both (pos 0) (pos 1000) true false ++ (Clock 500 ∷ both (pos 225) (pos 1000) true false) ++ half (pos 1000) true false
+
+abbrev sinking : List Event
+sinking = half (pos 500) true false ++ half (pos 500) true false
+
+abbrev way_down : List Event
+way_down = half (pos 1000) true false ++ half (pos 1000) true false ++ sinking ++ sinking ++ half (pos 0) true true ++ half (pos 0) true true ++ half (pos 0) true true ++ both (pos 0) (pos 0) false true
+
+pub record Rows : Type 0 where
+  -- the orders to a drone
+  planned : plan 1 ≡ order.Arm ∷ order.Rise (pos 1000) 2000 ∷ order.Start ∷ order.Land (pos 0) 2500 ∷ order.Disarm ∷ []
+  -- nothing before go; arm at go; rise once both are armed
+  rises : says_all true begun lift_off ≡ To 0 order.Arm ∷ To 1 order.Arm ∷ To 0 (order.Rise (pos 1000) 2000) ∷ To 1 (order.Rise (pos 1000) 2000) ∷ []
+  readies : comes_to begun ready ≡ at_ready
+  -- the show, at the operator's go
+  starts : says_all true at_ready (go ++ show) ≡ ToAll order.Start ∷ []
+  shows : comes_to at_ready (go ++ show) ≡ at_last
+  -- down, off, and the end
+  downs : says_all true at_last way_down ≡ To 0 (order.Land (pos 0) 2500) ∷ To 1 (order.Land (pos 0) 2500) ∷ ToAll order.Disarm ∷ Over true true ∷ []
+  -- the operator's land in the middle, and stop after it
+  lands : says_all true at_last (Said word.Land ∷ Said word.Go ∷ Said word.Stop ∷ Said word.Land ∷ []) ≡ all_land ++ ToAll order.Halt ∷ []
+  -- too early
+  early : says_all true (record at_ready { steady = 999 }) go ≡ []
+  -- a drone that is silent is noted, and the show goes on; it isn't kept
+  silent : says_all true at_ready (go ++ Clock 400 ∷ Seen 0 (sample (pos 0) (pos 216) (pos 1000) true false) ∷ Clock 200 ∷ Clock 100 ∷ []) ≡
+      ToAll order.Start ∷ note 1 fault.Silent ∷ []
+  unkept : (comes_to at_ready (go ++ Clock 600 ∷ [])).kept ≡ false
+  -- one astray: all land after 300 ms of it, where the show doesn't fly on
+  astray : says_all false at_ready (go ++ Clock 100 ∷ both (pos 150) (pos 1000) true false ++ Clock 299 ∷ both (pos 150) (pos 1000) true false ++ Clock 1 ∷ both (pos 150) (pos 1000) true false) ≡
+      ToAll order.Start ∷ note 0 fault.Astray ∷ all_land
+  -- one that refuses an order: all land
+  refuses : says_all true at_ready (Answered 1 5 ∷ []) ≡ note 1 fault.Refused ∷ all_land
+  -- one that doesn't come to its place
+  lates : says_all true (record at_last { showing = false; next = 3 }) (both (pos 51) (pos 1000) true false ++ Clock 8999 ∷ Clock 1 ∷ []) ≡
+      note 0 fault.Silent ∷ note 1 fault.Silent ∷ note 0 fault.Late ∷ all_land
+
+pub rows : Rows
+unfolding steps_of is_fit_by is_kept tracks_after heard is_due notes is_fault choice done led happens says flight says_all comes_to begun plan decoded moment bernstein
+rows = record {
+  planned = refl;
+  rises = refl;
+  readies = refl;
+  starts = refl;
+  shows = refl;
+  downs = refl;
+  lands = refl;
+  early = refl;
+  silent = refl;
+  unkept = refl;
+  astray = refl;
+  refuses = refl;
+  lates = refl;
+}

@@ -1,0 +1,26 @@
+use Rattle.flight_model.proofs.Telling as telling
+use Rattle.flight_model.proofs.Beginning as beginning
+use Rattle.flight_model.proofs.Ending as ending
+use Rattle.flight_model.proofs.Flown as flown
+use Rattle.flight_model.proofs.law.director_law.Goals as goal
+
+pub returns-clause-only : goal.returns-clause-only
+returns-clause-only c = telling.only_law
+
+pub returns-clause-due : goal.returns-clause-due
+returns-clause-due c = beginning.due_law
+
+pub returns-clause-land : goal.returns-clause-land
+returns-clause-land c = ending.land_law
+
+pub returns-clause-fault : goal.returns-clause-fault
+returns-clause-fault c = ending.fault_law
+
+pub returns-clause-halt : goal.returns-clause-halt
+returns-clause-halt c = ending.halt_law
+
+pub returns-clause-kept : goal.returns-clause-kept
+returns-clause-kept c = ending.kept_law
+
+pub returns-clause-over : goal.returns-clause-over
+returns-clause-over c = flown.over_law

@@ -1,0 +1,377 @@
+-- The director, as a machine: what it is after a list of events, and what went out by then.
+use Rattle.std.specs.Prelude.{ℕ, suc, ◌+◌, ◌-◌, Bool, true, false, not, ◌&&◌, ◌||◌, nat_le, nat_lt, ◌==◌, if◌then◌else◌, List, [], ◌∷◌, ◌++◌, length, map, take, slice_get, slice_set, Option, Some, None, min, replicate}
+use Rattle.std.specs.List.{list_any, list_all, range_with_len}
+use Rattle.flight_model.specs.declared.events.Order.{Order}
+use Rattle.flight_model.specs.declared.events.Order.TheVariants as order
+use Rattle.flight_model.specs.declared.events.Sample.{Sample}
+use Rattle.flight_model.specs.declared.events.Word.TheVariants as word
+use Rattle.flight_model.specs.declared.events.Event.{Event}
+use Rattle.flight_model.specs.declared.events.Event.TheVariants.{Clock, Seen, Answered, Said}
+use Rattle.flight_model.specs.declared.events.Fault.{Fault}
+use Rattle.flight_model.specs.declared.events.Fault.TheVariants.{Silent, Astray, Lost, Refused, Late}
+use Rattle.flight_model.specs.declared.events.Note.{Note}
+use Rattle.flight_model.specs.declared.events.Frame.{Frame}
+use Rattle.flight_model.specs.declared.events.Frame.TheVariants.{To, ToAll, Noted, Over}
+use Rattle.flight_model.specs.declared.flights.Want.{Want}
+use Rattle.flight_model.specs.declared.flights.Deed.{Deed}
+use Rattle.flight_model.specs.declared.flights.Deed.TheVariants.{Each, All as ToEach}
+use Rattle.flight_model.specs.declared.flights.Step.{Step}
+use Rattle.flight_model.specs.declared.flights.Flight.{Flight}
+use Rattle.flight_model.specs.Samples.{is_fit, is_kept}
+pub use Rattle.flight_model.specs.declared.states.Phase.{Phase}
+pub use Rattle.flight_model.specs.declared.states.Phase.TheVariants.{Steps, Landing, Off, Halted, Ended}
+pub use Rattle.flight_model.specs.declared.states.Track.{Track}
+pub use Rattle.flight_model.specs.declared.states.Choice.{Choice}
+pub use Rattle.flight_model.specs.declared.states.Choice.TheVariants.{Rest, Begin, Descend, Cut, Quit, Finish}
+
+-- ---- what the director knows
+
+pub record State : Type 0 where
+  pub phase : Phase
+  -- how many steps have begun
+  pub next : ℕ
+  -- how long ago the last of them did, or the phase
+  pub waited : ℕ
+  -- for how long the drones have been as the next step wants them
+  pub steady : ℕ
+  -- the show is on
+  pub showing : Bool
+  -- each sample of the show was at its drone's curve, and no drone was silent
+  pub kept : Bool
+  pub tracks : List Track
+
+-- how many drones fly
+abbrev pub drones : Flight → ℕ
+drones f = length f.curves
+
+abbrev pub start : Flight → State
+start f = record {
+  phase = Steps;
+  next = 0;
+  waited = 0;
+  steady = 0;
+  showing = false;
+  kept = true;
+  tracks = replicate (drones f) (record { seen = None; off = None });
+}
+
+-- times are counted up to twelve days
+abbrev pub most_ms : ℕ
+most_ms = 1000000000
+
+abbrev pub later : ℕ → ℕ → ℕ
+later ms more = min (ms + more) most_ms
+
+-- ---- hearing
+
+abbrev pub older : ℕ → Option Sample → Option Sample
+older ms None = None
+older ms (Some x) = Some (record x { age = later x.age ms })
+
+abbrev pub aged : ℕ → Track → Track
+aged ms t = record t { seen = older ms t.seen }
+
+-- the instant of the show at which a sample was taken, if the show was on then
+abbrev pub in_show : Flight → State → Sample → Bool
+in_show f s x = s.showing && nat_le x.age s.waited && nat_le (s.waited - x.age) f.show_ms
+
+-- the sample was taken in the show, and off the drone's curve
+abbrev pub is_off : Flight → State → ℕ → Sample → Bool
+is_off f s d x = in_show f s x && not (is_kept f d (s.waited - x.age) x)
+
+-- for how long samples have been off the curve, with this one after the last
+abbrev pub off_with : Option ℕ → Option Sample → Sample → ℕ
+off_with (Some ms) (Some last) x = later ms (last.age - x.age)
+off_with off last x = 0
+
+abbrev pub track_with : Flight → State → ℕ → Track → Sample → Track
+track_with f s d t x = record { seen = Some x; off = if is_off f s d x then Some (off_with t.off t.seen x) else None }
+
+abbrev pub tracked : Flight → State → ℕ → Sample → Option Track → List Track
+tracked f s d x None = s.tracks
+tracked f s d x (Some t) = slice_set s.tracks d (track_with f s d t x)
+
+-- the tracks after an event
+unfoldable pub tracks_after : Flight → State → Event → List Track
+tracks_after f s (Clock ms) = map (aged ms) s.tracks
+tracks_after f s (Seen d x) = tracked f s d x (slice_get s.tracks d)
+tracks_after f s (Answered d status) = s.tracks
+tracks_after f s (Said w) = s.tracks
+
+-- how much time an event says has passed
+abbrev pub passed : Event → ℕ
+passed (Clock ms) = ms
+passed (Seen d x) = 0
+passed (Answered d status) = 0
+passed (Said w) = 0
+
+-- each drone is as wanted, by drone
+abbrev pub all_fit : ℕ → List Want → List Track → Bool
+all_fit silence [] tracks = true
+all_fit silence (w ∷ ws) [] = false
+all_fit silence (w ∷ ws) (t ∷ ts) = is_fit silence w t.seen && all_fit silence ws ts
+
+-- the step that is next, if there is one, wants the drones as they are
+abbrev pub fits : ℕ → Option Step → List Track → Bool
+fits silence None tracks = false
+fits silence (Some step) tracks = all_fit silence step.wants tracks
+
+abbrev pub next_step : Flight → State → Option Step
+next_step f s = slice_get f.steps s.next
+
+-- the drone was silent for too long before the time passed, or is so after it
+abbrev pub is_silent : ℕ → Option Sample → Bool
+is_silent silence None = false
+is_silent silence (Some x) = nat_lt silence x.age
+
+-- what harms a show: a sample off its curve, or a silent drone before the show's end
+abbrev pub harms : Flight → State → Event → Bool
+harms f s (Clock ms) =
+    s.showing && nat_le (later s.waited ms) f.show_ms && list_any (λ (t : Track). is_silent f.silence (older ms t.seen)) s.tracks
+harms f s (Seen d x) = is_off f s d x
+harms f s (Answered d status) = false
+harms f s (Said w) = false
+
+-- the state with an event heard, and nothing done yet; these are the tracks after it
+abbrev pub heard_with : Flight → State → Event → List Track → State
+heard_with f s e tracks = record s {
+  waited = later s.waited (passed e);
+  steady = if fits f.silence (next_step f s) tracks then later s.steady (passed e) else 0;
+  kept = s.kept && not (harms f s e);
+  tracks = tracks;
+}
+
+unfoldable pub heard : Flight → State → Event → State
+heard f s e = heard_with f s e (tracks_after f s e)
+
+-- ---- what people are told
+
+abbrev pub note_if : Bool → ℕ → Fault → List Note
+note_if b d fault = if b then record { drone = d; fault = fault } ∷ [] else []
+
+-- a drone falls silent while this time passes
+abbrev pub falls_silent : ℕ → ℕ → Option Sample → Bool
+falls_silent silence ms seen = not (is_silent silence seen) && is_silent silence (older ms seen)
+
+abbrev pub silent_from : ℕ → ℕ → ℕ → List Track → List Note
+silent_from silence ms d [] = []
+silent_from silence ms d (t ∷ ts) = note_if (falls_silent silence ms t.seen) d Silent ++ silent_from silence ms (suc d) ts
+
+abbrev pub is_lost : Option Sample → Bool
+is_lost None = false
+is_lost (Some x) = x.lost
+
+-- samples have been off the curve for 300 ms
+abbrev pub is_astray : Option ℕ → Bool
+is_astray None = false
+is_astray (Some ms) = nat_le 300 ms
+
+-- it becomes so with a sample
+abbrev pub sample_notes : ℕ → Track → Track → List Note
+sample_notes d t u =
+    note_if (not (is_lost t.seen) && is_lost u.seen) d Lost ++ note_if (not (is_astray t.off) && is_astray u.off) d Astray
+
+abbrev pub seen_notes : Flight → State → ℕ → Sample → Option Track → List Note
+seen_notes f s d x None = []
+seen_notes f s d x (Some t) = sample_notes d t (track_with f s d t x)
+
+abbrev pub noticed : Flight → State → Event → List Note
+noticed f s (Clock ms) = silent_from f.silence ms 0 s.tracks
+noticed f s (Seen d x) = seen_notes f s d x (slice_get s.tracks d)
+noticed f s (Answered d status) = note_if (not (status == 0)) d Refused
+noticed f s (Said w) = []
+
+-- ---- when a step begins
+
+abbrev pub is_go : Event → Bool
+is_go (Said word.Go) = true
+is_go e = false
+
+abbrev pub is_land : Event → Bool
+is_land (Said word.Land) = true
+is_land e = false
+
+abbrev pub is_stop : Event → Bool
+is_stop (Said word.Stop) = true
+is_stop e = false
+
+-- The step may begin with this event, where the state has heard it: the operator says go, where the step waits for that;
+-- the step before is over; the drones have settled; and each is as it has to be.
+abbrev pub is_due_step : Flight → State → Event → Option Step → Bool
+is_due_step f s e None = false
+is_due_step f s e (Some step) =
+    (not step.asked || is_go e) && nat_le step.after s.waited && nat_le step.settle s.steady && all_fit f.silence step.wants s.tracks
+
+unfoldable pub is_due : Flight → State → Event → Bool
+is_due f s e = is_due_step f s e (next_step f s)
+
+-- the step waits for no word, and its time was over 8 seconds ago
+abbrev pub is_late_step : State → Option Step → Bool
+is_late_step s None = false
+is_late_step s (Some step) = not step.asked && nat_le (step.after + step.settle + 8000) s.waited
+
+-- the first drone that isn't as it has to be
+abbrev pub first_unfit : ℕ → ℕ → List Want → List Track → ℕ
+first_unfit silence d [] tracks = d
+first_unfit silence d (w ∷ ws) [] = d
+first_unfit silence d (w ∷ ws) (t ∷ ts) = if is_fit silence w t.seen then first_unfit silence (suc d) ws ts else d
+
+abbrev pub unfit_in : Flight → State → Option Step → ℕ
+unfit_in f s None = 0
+unfit_in f s (Some step) = first_unfit f.silence 0 step.wants s.tracks
+
+abbrev pub is_flying : Phase → Bool
+is_flying Steps = true
+is_flying p = false
+
+-- the next step is due no more
+abbrev pub overdue : Flight → State → Event → List Note
+overdue f s e =
+    note_if (is_flying s.phase && not (is_due f s e) && is_late_step s (next_step f s)) (unfit_in f s (next_step f s)) Late
+
+-- all notes of an event
+unfoldable pub notes : Flight → State → Event → List Note
+notes f s e = noticed f s e ++ overdue f (heard f s e) e
+
+-- Whether a fault ends the flight: silence never does, since a silent drone's way is part of what was proved; and in a
+-- show that flies on a lost drone or one astray doesn't.
+abbrev pub is_grave : Flight → State → Fault → Bool
+is_grave f s Silent = false
+is_grave f s Astray = not (s.showing && f.flies_on)
+is_grave f s Lost = not (s.showing && f.flies_on)
+is_grave f s Refused = true
+is_grave f s Late = true
+
+unfoldable pub is_fault : Flight → State → Event → Bool
+is_fault f s e = list_any (λ (n : Note). is_grave f s n.fault) (notes f s e)
+
+-- ---- what is done
+
+abbrev pub is_down : Option Sample → Bool
+is_down None = false
+is_down (Some x) = x.down
+
+abbrev pub is_disarmed : Option Sample → Bool
+is_disarmed None = false
+is_disarmed (Some x) = not x.armed
+
+-- each drone has been seen so, in a fresh sample
+abbrev pub all_seen : ℕ → (Option Sample → Bool) → List Track → Bool
+all_seen silence p tracks = list_all (λ (t : Track). p t.seen && not (is_silent silence t.seen)) tracks
+
+-- each is seen disarmed, or five seconds are over
+abbrev pub is_over : Flight → State → Bool
+is_over f s = all_seen f.silence is_disarmed s.tracks || nat_le 5000 s.waited
+
+-- on the way: what the state s, which heard e, does; `fault` says whether a fault ends the flight
+abbrev pub on_the_way : Flight → State → Event → Bool → Choice
+on_the_way f s e fault =
+    if is_stop e then Cut
+    else (if is_land e || fault then Descend
+    else (if is_due f s e then Begin else Rest))
+
+abbrev pub chosen : Flight → State → Event → Bool → Phase → Choice
+chosen f s e fault Steps = on_the_way f s e fault
+chosen f s e fault Landing = if is_stop e then Cut else (if all_seen f.silence is_down s.tracks then Quit else Rest)
+chosen f s e fault Off = if is_stop e then Cut else (if is_over f s then Finish else Rest)
+chosen f s e fault Halted = if is_over f s then Finish else Rest
+chosen f s e fault Ended = Rest
+
+unfoldable pub choice : Flight → State → Event → Choice
+choice f s e = chosen f (heard f s e) e (is_fault f s e) s.phase
+
+-- ---- what goes out
+
+-- what a deed orders of drone d
+abbrev pub order_in : Deed → ℕ → Option (Option Order)
+order_in (Each orders) d = slice_get orders d
+order_in (ToEach o) d = Some (Some o)
+
+abbrev pub is_rise : Option (Option Order) → Bool
+is_rise (Some (Some (order.Rise z ms))) = true
+is_rise o = false
+
+-- drone d was told to rise in the first n steps
+abbrev pub has_risen : Flight → ℕ → ℕ → Bool
+has_risen f n d = list_any (λ (step : Step). is_rise (order_in step.deed d)) (take n f.steps)
+
+abbrev pub frames_from : ℕ → List (Option Order) → List Frame
+frames_from d [] = []
+frames_from d (None ∷ orders) = frames_from (suc d) orders
+frames_from d (Some o ∷ orders) = To d o ∷ frames_from (suc d) orders
+
+abbrev pub frames_of : Deed → List Frame
+frames_of (Each orders) = frames_from 0 orders
+frames_of (ToEach o) = ToAll o ∷ []
+
+abbrev pub frames_of_step : Option Step → List Frame
+frames_of_step None = []
+frames_of_step (Some step) = frames_of step.deed
+
+-- all that have risen land where they are
+abbrev pub land_order : Flight → Order
+land_order f = order.Land f.floor f.descent
+
+abbrev pub landings : Flight → ℕ → List (Option Order)
+landings f n = map (λ d. if has_risen f n d then Some (land_order f) else None) (range_with_len 0 (drones f))
+
+abbrev pub is_off_phase : Phase → Bool
+is_off_phase Off = true
+is_off_phase p = false
+
+-- it was flown: all steps have begun, and nothing stopped it
+abbrev pub is_flown : Flight → State → Bool
+is_flown f s = is_off_phase s.phase && s.next == length f.steps
+
+unfoldable pub done : Flight → State → Choice → List Frame
+done f s Rest = []
+done f s Begin = frames_of_step (next_step f s)
+done f s Descend = frames_from 0 (landings f s.next)
+done f s Cut = ToAll order.Halt ∷ []
+done f s Quit = ToAll order.Disarm ∷ []
+done f s Finish = Over (is_flown f s) s.kept ∷ []
+
+-- ---- where that leads
+
+abbrev pub starts : Option Step → Bool
+starts None = false
+starts (Some step) = is_start step.deed where
+  is_start : Deed → Bool
+  is_start (ToEach order.Start) = true
+  is_start d = false
+
+-- a new phase
+abbrev pub into : State → Phase → State
+into s p = record s { phase = p; waited = 0; steady = 0; showing = false }
+
+unfoldable pub led : Flight → State → Choice → State
+led f s Rest = s
+led f s Begin = record s {
+  phase = if suc s.next == length f.steps then Off else Steps;
+  next = suc s.next;
+  waited = 0;
+  steady = 0;
+  showing = starts (next_step f s);
+}
+led f s Descend = into s Landing
+led f s Cut = into s Halted
+led f s Quit = into s Off
+led f s Finish = into s Ended
+
+-- ---- one event, and all of a list
+
+-- the state after the event
+unfoldable pub happens : Flight → State → Event → State
+happens f s e = led f (heard f s e) (choice f s e)
+
+-- what goes out at the event: what people are told, and then what is done
+unfoldable pub says : Flight → State → Event → List Frame
+says f s e = map Noted (notes f s e) ++ done f (heard f s e) (choice f s e)
+
+abbrev pub after : Flight → State → List Event → State
+after f s [] = s
+after f s (e ∷ es) = after f (happens f s e) es
+
+abbrev pub sent : Flight → State → List Event → List Frame
+sent f s [] = []
+sent f s (e ∷ es) = says f s e ++ sent f (happens f s e) es

@@ -1,0 +1,139 @@
+-- What holds of every flight and every list of events.
+use Rattle.std.specs.Prelude.{◌≡◌, ◌≢◌, ◌⊎◌, ℕ, ◌<◌, ◌≤◌, Bool, true, false, not, ◌&&◌, ◌==◌, if◌then◌else◌, List, [], ◌∷◌, ◌++◌, length, map, take, slice_get, Option, Some, None, ℤ, pos, ◌-ℤ◌, ◌≤ℤ◌, All, Contains}
+use Rattle.std.specs.List.{flat_map}
+use Rattle.flight_model.specs.declared.events.Order.{Order}
+use Rattle.flight_model.specs.declared.events.Order.TheVariants as order
+use Rattle.flight_model.specs.declared.events.Sample.{Sample}
+use Rattle.flight_model.specs.declared.events.Word.TheVariants as word
+use Rattle.flight_model.specs.declared.events.Event.{Event}
+use Rattle.flight_model.specs.declared.events.Event.TheVariants.{Said}
+use Rattle.flight_model.specs.declared.events.Frame.{Frame}
+use Rattle.flight_model.specs.declared.events.Frame.TheVariants.{To, ToAll, Noted, Over}
+use Rattle.flight_model.specs.declared.flights.Want.{Want}
+use Rattle.flight_model.specs.declared.flights.Step.{Step}
+use Rattle.flight_model.specs.declared.flights.Flight.{Flight}
+use Rattle.flight_model.specs.Directors.{Steps, Landing, Off, Track, State, start, drones, order_in, land_order, landings, frames_from, has_risen, heard, harms, notes, is_fault, happens, says, after, sent}
+
+-- ---- what a drone is told
+
+-- what a frame tells drone d
+abbrev pub told_by : ℕ → Frame → List Order
+told_by d (To drone o) = if drone == d then o ∷ [] else []
+told_by d (ToAll o) = o ∷ []
+told_by d (Noted n) = []
+told_by d (Over flown kept) = []
+
+-- what frames tell drone d, in order
+abbrev pub orders_to : ℕ → List Frame → List Order
+orders_to d frames = flat_map (told_by d) frames
+
+abbrev pub in_step : Option (Option Order) → List Order
+in_step None = []
+in_step (Some None) = []
+in_step (Some (Some o)) = o ∷ []
+
+-- what these steps order of drone d, in order
+abbrev pub ordered : ℕ → List Step → List Order
+ordered d steps = flat_map (λ (step : Step). in_step (order_in step.deed d)) steps
+
+abbrev pub only_if : Bool → Order → List Order
+only_if b o = if b then o ∷ [] else []
+
+-- Nothing else and nothing twice: the orders to a drone are those of the first n steps, then possibly the landing, then
+-- possibly disarm, then possibly halt.
+pub record OnlyOrders (f : Flight) (d : ℕ) (orders : List Order) : Type 0 where
+  pub n : ℕ
+  pub landed : Bool
+  pub disarmed : Bool
+  pub halted : Bool
+  pub are :
+      orders ≡ ordered d (take n f.steps)
+      ++ (only_if landed (land_order f) ++ (only_if disarmed order.Disarm ++ only_if halted order.Halt))
+
+abbrev pub OnlyLaw : Type 0
+OnlyLaw = (f : Flight) (events : List Event) (d : ℕ) → OnlyOrders f d (orders_to d (sent f (start f) events))
+
+-- ---- when a step begins
+
+-- a and b differ by at most this
+abbrev pub DifferBy : ℕ → ℤ → ℤ → Type 0
+DifferBy most a b = ((a -ℤ b) ≤ℤ pos most) × ((b -ℤ a) ≤ℤ pos most)
+
+-- The drone's last sample is fresh, and as is wanted.
+pub record IsFit (silence : ℕ) (w : Want) (x : Sample) : Type 0 where
+  pub fresh : x.age ≤ silence
+  pub x_near : DifferBy w.bound x.x w.place.x
+  pub y_near : DifferBy w.bound x.y w.place.y
+  pub z_near : DifferBy w.bound x.z w.place.z
+  pub not_lost : x.lost ≡ false
+  pub ready : w.ready ≡ true → x.ready ≡ true
+  pub armed : w.armed ≡ true → x.armed ≡ true
+
+-- With the event e the state s begins its next step, and may: it is on its way; the operator says go, where the step
+-- waits for that; the step before is over; and each drone was heard, and is fit.
+pub record MayBegin (f : Flight) (s : State) (e : Event) : Type 0 where
+  pub flying : s.phase ≡ Steps
+  pub step : Step
+  pub is_next : slice_get f.steps s.next ≡ Some step
+  pub asked : step.asked ≡ true → e ≡ Said word.Go
+  pub time : step.after ≤ (heard f s e).waited
+  pub settled : step.settle ≤ (heard f s e).steady
+  pub fit : (d : ℕ) (w : Want) → slice_get step.wants d ≡ Some w →
+      (t : Track) × (x : Sample) × (slice_get (heard f s e).tracks d ≡ Some t) × (t.seen ≡ Some x) × IsFit f.silence w x
+
+-- what only steps order
+pub data IsOnward : Order → Type 0 where
+  Arms : IsOnward order.Arm
+  Rises : (z : ℤ) (ms : ℕ) → IsOnward (order.Rise z ms)
+  Goes : (x y z yaw : ℤ) (ms : ℕ) → IsOnward (order.Go x y z yaw ms)
+  Starts : IsOnward order.Start
+
+-- In every state an event that tells a drone to arm, rise, go or start begins a step that may begin; and no other event
+-- begins one.
+pub record DueLaw : Type 0 where
+  pub orders : (f : Flight) (s : State) (e : Event) (d : ℕ) (o : Order) → IsOnward o → Contains (orders_to d (says f s e)) o → MayBegin f s e
+  pub steps : (f : Flight) (s : State) (e : Event) → ((happens f s e).next ≡ s.next) ⊎ MayBegin f s e
+
+-- ---- land and halt
+
+-- The operator's land, and a fault that lands, at once: in every state on the way, what goes out at the event ends with
+-- the landing of each drone that has risen, and the director has left the way.
+abbrev pub Lands : Flight → State → Event → Type 0
+Lands f s e = (says f s e ≡ map Noted (notes f s e) ++ frames_from 0 (landings f s.next)) × ((happens f s e).phase ≡ Landing)
+
+-- disarm or halt
+abbrev pub IsLast : Order → Type 0
+IsLast o = (o ≡ order.Disarm) ⊎ (o ≡ order.Halt)
+
+pub record LandLaw : Type 0 where
+  pub now : (f : Flight) (s : State) → s.phase ≡ Steps → Lands f s (Said word.Land)
+  -- off the way a drone is told nothing but disarm and halt, whatever comes
+  pub afterwards : (f : Flight) (s : State) → s.phase ≢ Steps → (events : List Event) (d : ℕ) → All IsLast (orders_to d (sent f s events))
+  -- the landing reaches each drone that has risen
+  pub each : (f : Flight) (n d : ℕ) → has_risen f n d ≡ true → d < drones f → orders_to d (frames_from 0 (landings f n)) ≡ land_order f ∷ []
+
+abbrev pub FaultLaw : Type 0
+FaultLaw = (f : Flight) (s : State) (e : Event) → s.phase ≡ Steps → e ≢ Said word.Stop → is_fault f s e ≡ true → Lands f s e
+
+-- The operator's stop goes out at once, in every phase before a halt or the end; and after it nothing does.
+pub record HaltLaw : Type 0 where
+  pub now : (f : Flight) (s : State) → (s.phase ≡ Steps) ⊎ ((s.phase ≡ Landing) ⊎ (s.phase ≡ Off)) →
+      (d : ℕ) → orders_to d (says f s (Said word.Stop)) ≡ order.Halt ∷ []
+  pub afterwards : (f : Flight) (s : State) (events : List Event) (d : ℕ) → orders_to d (sent f (happens f s (Said word.Stop)) events) ≡ []
+
+-- ---- the end
+
+-- A flight that is said to be flown was flown: all steps have begun, and each drone was told all of them, and nothing else.
+abbrev pub OverLaw : Type 0
+OverLaw =
+    (f : Flight) → 1 ≤ length f.steps → (events : List Event) (kept : Bool) → Contains (sent f (start f) events) (Over true kept) →
+    (d : ℕ) → orders_to d (sent f (start f) events) ≡ ordered d f.steps
+
+-- no event of these harms the show
+abbrev pub none_harms : Flight → State → List Event → Bool
+none_harms f s [] = true
+none_harms f s (e ∷ es) = not (harms f s e) && none_harms f (happens f s e) es
+
+-- Kept says that no event has harmed the show: no sample of it was off its drone's curve, and no drone was silent.
+abbrev pub KeptLaw : Type 0
+KeptLaw = (f : Flight) (events : List Event) → (after f (start f) events).kept ≡ none_harms f (start f) events

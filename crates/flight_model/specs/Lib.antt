@@ -1,0 +1,4 @@
+pub mod Legs
+pub mod Samples
+pub mod Directors
+pub mod Law

@@ -1,0 +1,15 @@
+//! The laws of a flight.
+
+ghost use Rattle.std.specs.Prelude.{◌≡◌};
+ghost use Rattle.flight_model.specs.Law.{OnlyLaw, DueLaw, LandLaw, FaultLaw, HaltLaw, OverLaw, KeptLaw};
+
+/// What holds of every flight and every list of events, whatever is lost, late or wrong.
+pub fn director_law()
+    ensures only { OnlyLaw }
+    ensures due { DueLaw }
+    ensures land { LandLaw }
+    ensures fault { FaultLaw }
+    ensures halt { HaltLaw }
+    ensures over { OverLaw }
+    ensures kept { KeptLaw }
+{}

@@ -1,0 +1,42 @@
+//! What the director keeps, and what it chooses.
+
+use crate::events::Sample;
+
+/// Where a flight is.
+#[derive(Clone, Copy, Debug, PartialEq, Eq)]
+pub enum Phase {
+    /// On the way, from the pads to the pads.
+    Steps,
+    /// All that had risen were told to land.
+    Landing,
+    /// All were told to disarm.
+    Off,
+    /// All motors were stopped.
+    Halted,
+    /// The end went out.
+    Ended,
+}
+
+/// A drone's last sample, as old as it is now, and for how long its samples have been off its curve.
+#[derive(Clone, Copy, Debug, PartialEq, Eq)]
+pub struct Track {
+    pub seen: Option<Sample>,
+    pub off: Option<u32>,
+}
+
+/// What is done at an event.
+#[derive(Clone, Copy, Debug, PartialEq, Eq)]
+pub enum Choice {
+    /// Nothing.
+    Rest,
+    /// The next step begins.
+    Begin,
+    /// All that have risen land.
+    Descend,
+    /// All motors stop.
+    Cut,
+    /// All disarm.
+    Quit,
+    /// The end.
+    Finish,
+}
