@@ -30,7 +30,7 @@ pub enum Order {
 }
 
 /// What is known of a drone: how old it is, where the drone is, and what the bridge judges.
-#[derive(Clone, Copy, Debug, PartialEq, Eq)]
+#[derive(Clone, Copy, Debug, Default, PartialEq, Eq)]
 pub struct Sample {
     pub age: u32,
     pub x: i16,
@@ -67,9 +67,10 @@ pub enum Event {
 }
 
 /// What people are told of a drone.
-#[derive(Clone, Copy, Debug, PartialEq, Eq)]
+#[derive(Clone, Copy, Debug, Default, PartialEq, Eq)]
 pub enum Fault {
     /// It has been silent for too long.
+    #[default]
     Silent,
     /// It has left its curve.
     Astray,
@@ -81,7 +82,7 @@ pub enum Fault {
 }
 
 /// A fault of a drone.
-#[derive(Clone, Copy, Debug, PartialEq, Eq)]
+#[derive(Clone, Copy, Debug, Default, PartialEq, Eq)]
 pub struct Note {
     pub drone: u8,
     pub fault: Fault,
@@ -95,4 +96,13 @@ pub enum Frame {
     Noted { note: Note },
     /// The flight is over: whether it was flown to its last step, and whether the show was kept.
     Over { flown: bool, kept: bool },
+}
+
+impl Default for Frame {
+    fn default() -> Self {
+        Frame::Over {
+            flown: false,
+            kept: false,
+        }
+    }
 }

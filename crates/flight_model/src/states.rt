@@ -18,7 +18,7 @@ pub enum Phase {
 }
 
 /// A drone's last sample, as old as it is now, and for how long its samples have been off its curve.
-#[derive(Clone, Copy, Debug, PartialEq, Eq)]
+#[derive(Clone, Copy, Debug, Default, PartialEq, Eq)]
 pub struct Track {
     pub seen: Option<Sample>,
     pub off: Option<u32>,

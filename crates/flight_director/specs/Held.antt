@@ -1,0 +1,32 @@
+-- What the machine's functions are given.
+use Rattle.std.specs.Prelude.{◌≡◌, ℕ, ◌≤◌, ◌<◌, List, length, Option, Some, None, slice_get, All}
+use Rattle.integer_player.specs.Played.{IsPlayable, duration_of}
+use Rattle.traj_codec.specs.declared.traj.Traj.{Traj}
+use Rattle.flight_model.specs.declared.flights.Deed.{Deed}
+use Rattle.flight_model.specs.declared.flights.Deed.TheVariants.{Each, All as ToEach}
+use Rattle.flight_model.specs.declared.flights.Step.{Step}
+use Rattle.flight_model.specs.declared.flights.Flight.{Flight}
+use Rattle.flight_model.specs.declared.events.Event.{Event}
+use Rattle.flight_model.specs.declared.events.Event.TheVariants.{Clock, Seen, Answered, Said}
+use Rattle.flight_model.specs.Directors.{State, drones}
+
+-- a deed orders something of 32 drones at most
+abbrev pub IsSmallDeed : Deed → Type 0
+IsSmallDeed (Each orders) = length orders ≤ 32
+IsSmallDeed (ToEach o) = Unit {0}
+
+-- Each curve of the show may be played, up to the show's end.
+pub record IsCurve (f : Flight) (t : Traj) : Type 0 where
+  pub playable : IsPlayable t
+  pub lasts : f.show_ms ≤ duration_of t
+
+-- A flight that fits the machine: at most 32 drones, and curves that last as long as the show.
+pub record IsHeld (f : Flight) : Type 0 where
+  pub few : drones f ≤ 32
+  pub deeds : All (λ (step : Step). IsSmallDeed step.deed) f.steps
+  pub curves : All (IsCurve f) f.curves
+
+-- the director as a contract sees it
+pub record Directed : Type 0 where
+  pub flight : Flight
+  pub state : State

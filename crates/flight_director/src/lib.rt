@@ -1,0 +1,21 @@
+//! The director: it flies a flight, as `flight_model` defines it.
+//!
+//! [`Director::event`] hears one event and gives the frames that go out; it takes no memory. What it does is
+//! `happens` and `says` of `flight_model`, so the laws of every list of events hold of it.
+#![tactic(auto)]
+
+mod curve;
+mod director;
+mod fit;
+mod notes;
+mod state;
+#[cfg(test)]
+mod tests;
+mod tracks;
+
+pub use director::Director;
+pub use flight_model::{
+    Deed, Event, Fault, Flight, Frame, Note, Order, Phase, Place, Sample, Step, Track, Want, Word,
+};
+pub use notes::{MOST_NOTES, Notes};
+pub use state::{MOST_OUT, Out, State};

@@ -1,0 +1,501 @@
+//! The director's state, and one event.
+
+ghost use Rattle.std.specs.Prelude.{◌≡◌, ◌≤◌, ◌+◌, ◌++◌, ◌<◌, ◌&&◌, length, map, [], Some};
+ghost use Rattle.std.specs.List.{list_any, list_all};
+ghost use Rattle.flight_model.specs.declared.events.Note.{Note};
+ghost use Rattle.flight_model.specs.declared.events.Frame.TheVariants.{Noted};
+ghost use Rattle.flight_model.specs.Directors.{start, drones, in_show, is_off as word_off, track_with as word_track, tracks_after, harms as word_harms, heard, fits, next_step, noticed as word_noticed, overdue as word_overdue, notes as word_notes, is_due as word_due, is_due_step, is_late_step, is_grave as word_grave, is_over as word_over, chosen, has_risen as word_risen, frames_of, landings, done, led, happens, says, is_fault, State as StateWord};
+ghost use Rattle.flight_director.specs.Held.{IsHeld, IsSmallDeed};
+
+use crate::curve::is_kept;
+use crate::fit::{all_fit, first_unfit};
+use crate::notes::{Notes, note_if, note_sample, note_silent};
+use crate::tracks::{age, all_disarmed, all_down, any_silent, later, off_with};
+use arrayvec::ArrayVec;
+use flight_model::{
+    Choice, Deed, Event, Fault, Flight, Frame, Note, Order, Phase, Sample, Step, Track, Word,
+};
+use std::marker::Model;
+
+/// The most frames of one event: 33 notes, and one order for each drone.
+pub const MOST_OUT: usize = 65;
+
+/// What goes out at an event.
+pub type Out = ArrayVec<Frame, MOST_OUT>;
+
+// The most drones of a flight.
+const MOST_DRONES: usize = 32;
+
+// How long the director waits for drones after a step is over, and for the last of them to disarm.
+const PATIENCE_MS: u64 = 8000;
+
+const OFF_MS: u32 = 5000;
+
+/// What the director knows.
+#[derive(Drop)]
+pub struct State {
+    phase: Phase,
+    next: usize,
+    waited: u32,
+    steady: u32,
+    showing: bool,
+    kept: bool,
+    tracks: ArrayVec<Track, MOST_DRONES>,
+}
+
+impl Model for State {
+    ghost use Rattle.flight_model.specs.Directors.{State as StateWord};
+
+    ghost Value = { StateWord };
+
+    ghost view = { λ s. record {
+      phase = s.phase;
+      next = s.next;
+      waited = s.waited;
+      steady = s.steady;
+      showing = s.showing;
+      kept = s.kept;
+      tracks = s.tracks.items;
+    } };
+}
+
+fn is_go(e: &Event) -> bool {
+    matches!(e, Event::Said { word: Word::Go })
+}
+
+fn is_land(e: &Event) -> bool {
+    matches!(e, Event::Said { word: Word::Land })
+}
+
+fn is_stop(e: &Event) -> bool {
+    matches!(e, Event::Said { word: Word::Stop })
+}
+
+// How much time an event says has passed.
+fn passed(e: &Event) -> u32 {
+    match e {
+        Event::Clock { ms } => *ms,
+        _ => 0,
+    }
+}
+
+// The order of a deed to a drone, if it orders something of it.
+fn is_rise(deed: &Deed, d: usize) -> bool {
+    match deed {
+        Deed::All { order } => matches!(order, Order::Rise { .. }),
+        Deed::Each { orders } => match orders.as_slice().get(d) {
+            Some(Some(order)) => matches!(order, Order::Rise { .. }),
+            _ => false,
+        },
+    }
+}
+
+// Whether a drone was told to rise in the first n steps.
+fn has_risen(f: &Flight, n: usize, d: usize) -> bool
+    ensures { result ≡ word_risen f.now n d }
+{
+    let steps = f.steps.as_slice();
+    for k in 0..n.min(steps.len()) {
+        if is_rise(&steps[k].deed, d) {
+            return true;
+        }
+    }
+    false
+}
+
+// Puts the landing of all that have risen after the others.
+fn put_landings(out: &mut Out, f: &Flight, n: usize) {
+    for d in 0..f.curves.as_slice().len() {
+        if has_risen(f, n, d) && d < MOST_DRONES && !out.is_full() {
+            out.push(Frame::To {
+                drone: d as u8,
+                order: Order::Land {
+                    z: f.floor,
+                    ms: f.descent,
+                },
+            });
+        }
+    }
+}
+
+// Puts what a deed orders after the others.
+fn put_deed(out: &mut Out, deed: &Deed) {
+    match deed {
+        Deed::All { order } => {
+            if !out.is_full() {
+                out.push(Frame::ToAll { order: *order });
+            }
+        }
+        Deed::Each { orders } => {
+            let orders = orders.as_slice();
+            for d in 0..orders.len() {
+                if let Some(order) = orders[d] {
+                    if d < MOST_DRONES && !out.is_full() {
+                        out.push(Frame::To {
+                            drone: d as u8,
+                            order,
+                        });
+                    }
+                }
+            }
+        }
+    }
+}
+
+fn put_one(out: &mut Out, frame: Frame) {
+    if !out.is_full() {
+        out.push(frame);
+    }
+}
+
+impl State {
+    /// The state of a flight to which nothing has happened.
+    pub fn start(f: &Flight) -> State
+        requires { IsHeld f.now }
+        ensures { result ≡ start f.now }
+    {
+        let mut tracks = ArrayVec::new();
+        for _ in 0..f.curves.as_slice().len() {
+            if !tracks.is_full() {
+                tracks.push(Track {
+                    seen: None,
+                    off: None,
+                });
+            }
+        }
+        State {
+            phase: Phase::Steps,
+            next: 0,
+            waited: 0,
+            steady: 0,
+            showing: false,
+            kept: true,
+            tracks,
+        }
+    }
+
+    // Whether a sample was taken in the show.
+    fn in_show(&self, f: &Flight, x: &Sample) -> bool
+        ensures { result ≡ in_show f.now self.now x.now }
+    {
+        self.showing && x.age <= self.waited && self.waited - x.age <= f.show_ms
+    }
+
+    // Whether it was taken in the show, and off the drone's curve.
+    fn is_off(&self, f: &Flight, d: usize, x: &Sample) -> bool
+        requires { IsHeld f.now }
+        ensures { result ≡ word_off f.now self.now d x.now }
+    {
+        self.in_show(f, x) && !is_kept(f, d, self.waited - x.age, x)
+    }
+
+    // A track with one sample more.
+    fn track_with(&self, f: &Flight, d: usize, t: &Track, x: &Sample) -> Track
+        requires { IsHeld f.now }
+        ensures { result ≡ word_track f.now self.now d t.now x.now }
+    {
+        Track {
+            seen: Some(*x),
+            off: if self.is_off(f, d, x) {
+                Some(off_with(&t.off, &t.seen, x))
+            } else {
+                None
+            },
+        }
+    }
+
+    // Whether an event harms the show.
+    fn harms(&self, f: &Flight, e: &Event) -> bool
+        requires { IsHeld f.now }
+        ensures { result ≡ word_harms f.now self.now e.now }
+    {
+        match e {
+            Event::Clock { ms } => {
+                self.showing
+                    && later(self.waited, *ms) <= f.show_ms
+                    && any_silent(f.silence, *ms, self.tracks.as_slice())
+            }
+            Event::Seen { drone, sample } => self.is_off(f, *drone as usize, sample),
+            _ => false,
+        }
+    }
+
+    // The tracks take an event.
+    fn take(&mut self, f: &Flight, e: &Event)
+        requires { IsHeld f.now }
+    {
+        match e {
+            Event::Clock { ms } => age(self.tracks.as_mut_slice(), *ms),
+            Event::Seen { drone, sample } => {
+                let d = *drone as usize;
+                if d < self.tracks.len() {
+                    let track = self.track_with(f, d, &self.tracks.as_slice()[d], sample);
+                    self.tracks.as_mut_slice()[d] = track;
+                }
+            }
+            _ => {}
+        }
+    }
+
+    // The step that is next wants the drones as they are.
+    fn fits(&self, f: &Flight) -> bool
+        ensures { result ≡ fits f.now.silence (next_step f.now self.now) self.now.tracks }
+    {
+        match f.steps.as_slice().get(self.next) {
+            None => false,
+            Some(step) => all_fit(f.silence, step.wants.as_slice(), self.tracks.as_slice()),
+        }
+    }
+
+    // Hears an event, and does nothing yet.
+    fn hear(&mut self, f: &Flight, e: &Event)
+        requires { IsHeld f.now }
+        ensures { self.new ≡ heard f.now self.old e.now }
+    {
+        let harm = self.harms(f, e);
+        self.take(f, e);
+        self.waited = later(self.waited, passed(e));
+        self.steady = if self.fits(f) {
+            later(self.steady, passed(e))
+        } else {
+            0
+        };
+        self.kept = self.kept && !harm;
+    }
+
+    // What becomes known with an event, before it is heard.
+    fn noticed(&self, f: &Flight, e: &Event, out: &mut Notes)
+        requires held { IsHeld f.now }
+        requires empty { out.old.items ≡ [] }
+        ensures { out.new.items ≡ word_noticed f.now self.now e.now }
+    {
+        match e {
+            Event::Clock { ms } => note_silent(out, f.silence, *ms, self.tracks.as_slice()),
+            Event::Seen { drone, sample } => {
+                let d = *drone as usize;
+                if d < self.tracks.len() {
+                    let before = self.tracks.as_slice()[d];
+                    let after = self.track_with(f, d, &before, sample);
+                    note_sample(out, d, &before, &after);
+                }
+            }
+            Event::Answered { drone, status } => {
+                note_if(out, *status != 0, *drone as usize, Fault::Refused);
+            }
+            Event::Said { .. } => {}
+        }
+    }
+
+    // Whether this step may begin with an event that was heard.
+    fn is_due_step(&self, f: &Flight, e: &Event, step: &Step) -> bool
+        ensures { result ≡ is_due_step f.now self.now e.now (Some step.now) }
+    {
+        (!step.asked || is_go(e))
+            && step.after <= self.waited
+            && step.settle <= self.steady
+            && all_fit(f.silence, step.wants.as_slice(), self.tracks.as_slice())
+    }
+
+    fn is_due(&self, f: &Flight, e: &Event) -> bool
+        ensures { result ≡ word_due f.now self.now e.now }
+    {
+        match f.steps.as_slice().get(self.next) {
+            None => false,
+            Some(step) => self.is_due_step(f, e, step),
+        }
+    }
+
+    fn is_late(&self, step: &Step) -> bool
+        ensures { result ≡ is_late_step self.now (Some step.now) }
+    {
+        !step.asked && step.after as u64 + step.settle as u64 + PATIENCE_MS <= self.waited as u64
+    }
+
+    // Puts a note where the next step is due no more, in a state that has heard an event.
+    fn overdue(&self, f: &Flight, e: &Event, out: &mut Notes)
+        requires room { length out.old.items ≤ 32 }
+        ensures { out.new.items ≡ out.old.items ++ word_overdue f.now self.now e.now }
+    {
+        match f.steps.as_slice().get(self.next) {
+            None => {}
+            Some(step) => {
+                if self.phase == Phase::Steps
+                    && !self.is_due_step(f, e, step)
+                    && self.is_late(step)
+                {
+                    let wants = step.wants.as_slice();
+                    let d = first_unfit(f.silence, wants, self.tracks.as_slice());
+                    note_if(out, true, d, Fault::Late);
+                }
+            }
+        }
+    }
+
+    // Whether a fault ends the flight.
+    fn is_grave(&self, f: &Flight, fault: Fault) -> bool
+        ensures { result ≡ word_grave f.now self.now fault }
+    {
+        match fault {
+            Fault::Silent => false,
+            Fault::Astray | Fault::Lost => !(self.showing && f.flies_on),
+            Fault::Refused | Fault::Late => true,
+        }
+    }
+
+    // Whether one of these does.
+    fn any_grave(&self, f: &Flight, notes: &[Note]) -> bool
+        ensures { result ≡ list_any (λ (n : Note). word_grave f.now self.now n.fault) notes.now }
+    {
+        for n in notes {
+            if self.is_grave(f, n.fault) {
+                return true;
+            }
+        }
+        false
+    }
+
+    fn is_over(&self, f: &Flight) -> bool
+        ensures { result ≡ word_over f.now self.now }
+    {
+        all_disarmed(f.silence, self.tracks.as_slice()) || OFF_MS <= self.waited
+    }
+
+    // What is done, in a state that has heard an event.
+    fn choose(&self, f: &Flight, e: &Event, fault: bool) -> Choice
+        ensures { result ≡ chosen f.now self.now e.now fault self.now.phase }
+    {
+        match self.phase {
+            Phase::Steps => {
+                if is_stop(e) {
+                    Choice::Cut
+                } else if is_land(e) || fault {
+                    Choice::Descend
+                } else if self.is_due(f, e) {
+                    Choice::Begin
+                } else {
+                    Choice::Rest
+                }
+            }
+            Phase::Landing => {
+                if is_stop(e) {
+                    Choice::Cut
+                } else if all_down(f.silence, self.tracks.as_slice()) {
+                    Choice::Quit
+                } else {
+                    Choice::Rest
+                }
+            }
+            Phase::Off => {
+                if is_stop(e) {
+                    Choice::Cut
+                } else if self.is_over(f) {
+                    Choice::Finish
+                } else {
+                    Choice::Rest
+                }
+            }
+            Phase::Halted => {
+                if self.is_over(f) {
+                    Choice::Finish
+                } else {
+                    Choice::Rest
+                }
+            }
+            Phase::Ended => Choice::Rest,
+        }
+    }
+
+    // Puts what a choice sends after the others.
+    fn put(&self, f: &Flight, choice: Choice, out: &mut Out)
+        requires held { IsHeld f.now }
+        requires room { length out.old.items ≤ 33 }
+        ensures { out.new.items ≡ out.old.items ++ done f.now self.now choice }
+    {
+        match choice {
+            Choice::Rest => {}
+            Choice::Begin => match f.steps.as_slice().get(self.next) {
+                None => {}
+                Some(step) => put_deed(out, &step.deed),
+            },
+            Choice::Descend => put_landings(out, f, self.next),
+            Choice::Cut => put_one(out, Frame::ToAll { order: Order::Halt }),
+            Choice::Quit => put_one(
+                out,
+                Frame::ToAll {
+                    order: Order::Disarm,
+                },
+            ),
+            Choice::Finish => put_one(
+                out,
+                Frame::Over {
+                    flown: self.phase == Phase::Off && self.next == f.steps.as_slice().len(),
+                    kept: self.kept,
+                },
+            ),
+        }
+    }
+
+    // To a new phase.
+    fn to_phase(&mut self, phase: Phase) {
+        self.phase = phase;
+        self.waited = 0;
+        self.steady = 0;
+        self.showing = false;
+    }
+
+    // The next step has begun.
+    fn begin(&mut self, f: &Flight) {
+        let steps = f.steps.as_slice();
+        self.showing = match steps.get(self.next) {
+            None => false,
+            Some(step) => matches!(
+                step.deed,
+                Deed::All {
+                    order: Order::Start
+                }
+            ),
+        };
+        self.next = self.next.saturating_add(1);
+        self.waited = 0;
+        self.steady = 0;
+        self.phase = if self.next == steps.len() {
+            Phase::Off
+        } else {
+            Phase::Steps
+        };
+    }
+
+    // Where a choice leads.
+    fn lead(&mut self, f: &Flight, choice: Choice)
+        ensures { self.new ≡ led f.now self.old choice }
+    {
+        match choice {
+            Choice::Rest => {}
+            Choice::Begin => self.begin(f),
+            Choice::Descend => self.to_phase(Phase::Landing),
+            Choice::Cut => self.to_phase(Phase::Halted),
+            Choice::Quit => self.to_phase(Phase::Off),
+            Choice::Finish => self.to_phase(Phase::Ended),
+        }
+    }
+
+    /// One event: the state after it, and what goes out.
+    pub fn happen(&mut self, f: &Flight, e: &Event, out: &mut Out)
+        requires { IsHeld f.now }
+        ensures state { self.new ≡ happens f.now self.old e.now }
+        ensures out { out.new.items ≡ says f.now self.old e.now }
+    {
+        out.clear();
+        let mut notes = Notes::new();
+        self.noticed(f, e, &mut notes);
+        self.hear(f, e);
+        self.overdue(f, e, &mut notes);
+        let fault = self.any_grave(f, notes.as_slice());
+        let choice = self.choose(f, e, fault);
+        for n in notes.as_slice() {
+            put_one(out, Frame::Noted { note: *n });
+        }
+        self.put(f, choice, out);
+        self.lead(f, choice);
+    }
+}
