@@ -5,3 +5,4 @@ mod Telling
 mod Beginning
 mod Ending
 mod Flown
+mod Quiet

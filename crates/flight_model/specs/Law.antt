@@ -1,18 +1,19 @@
 -- What holds of every flight and every list of events.
-use Rattle.std.specs.Prelude.{◌≡◌, ◌≢◌, ◌⊎◌, ℕ, ◌<◌, ◌≤◌, Bool, true, false, not, ◌&&◌, ◌==◌, if◌then◌else◌, List, [], ◌∷◌, ◌++◌, length, map, take, slice_get, Option, Some, None, ℤ, pos, ◌-ℤ◌, ◌≤ℤ◌, All, Contains}
-use Rattle.std.specs.List.{flat_map}
+use Rattle.std.specs.Prelude.{◌≡◌, ◌≢◌, ◌⊎◌, ℕ, ◌<◌, ◌≤◌, Bool, true, false, not, ◌&&◌, ◌==◌, if◌then◌else◌, List, [], ◌∷◌, ◌++◌, length, map, take, slice_get, Option, Some, None, ℤ, pos, ◌-ℤ◌, ◌≤ℤ◌, All, Contains, ◌+◌, suc}
+use Rattle.std.specs.List.{flat_map, list_any}
 use Rattle.flight_model.specs.declared.events.Order.{Order}
 use Rattle.flight_model.specs.declared.events.Order.TheVariants as order
 use Rattle.flight_model.specs.declared.events.Sample.{Sample}
 use Rattle.flight_model.specs.declared.events.Word.TheVariants as word
 use Rattle.flight_model.specs.declared.events.Event.{Event}
-use Rattle.flight_model.specs.declared.events.Event.TheVariants.{Said}
+use Rattle.flight_model.specs.declared.events.Event.TheVariants.{Seen, Answered, Said}
+use Rattle.flight_model.specs.declared.events.Note.{Note}
 use Rattle.flight_model.specs.declared.events.Frame.{Frame}
 use Rattle.flight_model.specs.declared.events.Frame.TheVariants.{To, ToAll, Noted, Over}
 use Rattle.flight_model.specs.declared.flights.Want.{Want}
 use Rattle.flight_model.specs.declared.flights.Step.{Step}
 use Rattle.flight_model.specs.declared.flights.Flight.{Flight}
-use Rattle.flight_model.specs.Directors.{Steps, Landing, Off, Track, State, start, drones, order_in, land_order, landings, frames_from, has_risen, heard, harms, notes, is_fault, happens, says, after, sent}
+use Rattle.flight_model.specs.Directors.{Phase, is_off, next_step, is_silent, all_fit, Steps, Landing, Off, Halted, Ended, Track, State, start, drones, order_in, land_order, landings, frames_from, has_risen, heard, harms, notes, is_fault, happens, says, after, sent}
 
 -- ---- what a drone is told
 
@@ -137,3 +138,51 @@ none_harms f s (e ∷ es) = not (harms f s e) && none_harms f (happens f s e) es
 -- Kept says that no event has harmed the show: no sample of it was off its drone's curve, and no drone was silent.
 abbrev pub KeptLaw : Type 0
 KeptLaw = (f : Flight) (events : List Event) → (after f (start f) events).kept ≡ none_harms f (start f) events
+
+-- ---- no false alarm
+
+-- The drones that a frame notes.
+abbrev pub noted_by : Frame → List Note
+noted_by (To d o) = []
+noted_by (ToAll o) = []
+noted_by (Noted n) = n ∷ []
+noted_by (Over flown kept) = []
+
+abbrev pub notes_in : List Frame → List Note
+notes_in frames = flat_map noted_by frames
+
+-- Nothing is wrong with the event e in the state s: an answer is good; the operator says neither land nor stop; a sample
+-- is of a drone that isn't lost, and in the show at its curve; no drone is silent; and from `slack` after the end of the
+-- step before on, each drone is as the next one wants it, where that waits for no word.
+pub record IsQuiet (f : Flight) (slack : ℕ) (s : State) (e : Event) : Type 0 where
+  pub answer : (d status : ℕ) → e ≡ Answered d status → status ≡ 0
+  pub no_land : e ≢ Said word.Land
+  pub no_stop : e ≢ Said word.Stop
+  pub sample : (d : ℕ) (x : Sample) → e ≡ Seen d x → (x.lost ≡ false) × (is_off f s d x ≡ false)
+  pub fresh : list_any (λ (t : Track). is_silent f.silence t.seen) (heard f s e).tracks ≡ false
+  pub in_time : (step : Step) → next_step f s ≡ Some step → step.asked ≡ false → step.after + slack ≤ (heard f s e).waited →
+      all_fit f.silence step.wants (heard f s e).tracks ≡ true
+
+abbrev pub AllQuiet : Flight → ℕ → State → List Event → Type 0
+AllQuiet f slack s [] = Unit {0}
+AllQuiet f slack s (e ∷ es) = IsQuiet f slack s e × AllQuiet f slack (happens f s e) es
+
+-- on the way, or off, or at the end
+abbrev pub is_on_course : Phase → Bool
+is_on_course Steps = true
+is_on_course Landing = false
+is_on_course Off = true
+is_on_course Halted = false
+is_on_course Ended = true
+
+-- Where nothing is wrong, with a slack of 8 seconds at most, nobody is told of a fault, the flight isn't broken off, the
+-- show is kept, and no step is held up: one that waits for no word begins once its time is over and the drones have
+-- settled.
+pub record QuietLaw : Type 0 where
+  pub noted : (f : Flight) (slack : ℕ) (events : List Event) → slack ≤ 8000 → AllQuiet f slack (start f) events → notes_in (sent f (start f) events) ≡ []
+  pub goes_on : (f : Flight) (slack : ℕ) (events : List Event) → slack ≤ 8000 → AllQuiet f slack (start f) events → is_on_course (after f (start f) events).phase ≡ true
+  pub kept : (f : Flight) (slack : ℕ) (events : List Event) → slack ≤ 8000 → AllQuiet f slack (start f) events → (after f (start f) events).kept ≡ true
+  pub prompt : (f : Flight) (slack : ℕ) (events : List Event) (e : Event) (step : Step) → slack ≤ 8000 → AllQuiet f slack (start f) (events ++ e ∷ []) →
+      (after f (start f) events).phase ≡ Steps → next_step f (after f (start f) events) ≡ Some step → step.asked ≡ false →
+      step.after + slack + step.settle ≤ (heard f (after f (start f) events) e).waited →
+      (after f (start f) (events ++ e ∷ [])).next ≡ suc (after f (start f) events).next

@@ -1,7 +1,7 @@
 //! The laws of a flight.
 
 ghost use Rattle.std.specs.Prelude.{◌≡◌};
-ghost use Rattle.flight_model.specs.Law.{OnlyLaw, DueLaw, LandLaw, FaultLaw, HaltLaw, OverLaw, KeptLaw};
+ghost use Rattle.flight_model.specs.Law.{OnlyLaw, DueLaw, LandLaw, FaultLaw, HaltLaw, OverLaw, KeptLaw, QuietLaw};
 
 /// What holds of every flight and every list of events, whatever is lost, late or wrong.
 pub fn director_law()
@@ -12,4 +12,5 @@ pub fn director_law()
     ensures halt { HaltLaw }
     ensures over { OverLaw }
     ensures kept { KeptLaw }
+    ensures quiet { QuietLaw }
 {}

@@ -2,6 +2,7 @@ use Rattle.flight_model.proofs.Telling as telling
 use Rattle.flight_model.proofs.Beginning as beginning
 use Rattle.flight_model.proofs.Ending as ending
 use Rattle.flight_model.proofs.Flown as flown
+use Rattle.flight_model.proofs.Quiet as quiet
 use Rattle.flight_model.proofs.law.director_law.Goals as goal
 
 pub returns-clause-only : goal.returns-clause-only
@@ -24,3 +25,6 @@ returns-clause-kept c = ending.kept_law
 
 pub returns-clause-over : goal.returns-clause-over
 returns-clause-over c = flown.over_law
+
+pub returns-clause-quiet : goal.returns-clause-quiet
+returns-clause-quiet c = quiet.quiet_law
