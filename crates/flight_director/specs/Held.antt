@@ -9,6 +9,7 @@ use Rattle.flight_model.specs.declared.flights.Flight.{Flight}
 use Rattle.flight_model.specs.declared.events.Event.{Event}
 use Rattle.flight_model.specs.declared.events.Event.TheVariants.{Clock, Seen, Answered, Said}
 use Rattle.flight_model.specs.Directors.{State, drones}
+use Rattle.flight_model.specs.declared.states.Track.{Track}
 
 -- a deed orders something of 32 drones at most
 abbrev pub IsSmallDeed : Deed → Type 0
@@ -23,10 +24,16 @@ pub record IsCurve (f : Flight) (t : Traj) : Type 0 where
 -- A flight that fits the machine: at most 32 drones, and curves that last as long as the show.
 pub record IsHeld (f : Flight) : Type 0 where
   pub few : drones f ≤ 32
+  pub short : f.show_ms ≤ 1000000000
   pub deeds : All (λ (step : Step). IsSmallDeed step.deed) f.steps
+  pub wants : All (λ (step : Step). length step.wants ≤ 32) f.steps
   pub curves : All (IsCurve f) f.curves
 
 -- the director as a contract sees it
 pub record Directed : Type 0 where
   pub flight : Flight
   pub state : State
+
+-- the state, with these tracks
+abbrev pub with_tracks : State → List Track → State
+with_tracks s tracks = record s { tracks = tracks }

@@ -1,16 +1,23 @@
 //! Whether drones are as a step wants them.
 
-ghost use Rattle.std.specs.Prelude.{◌≡◌, ℕ, ◌+◌, ◌≤◌, length};
+ghost use Rattle.std.specs.Prelude.{◌≡◌, ℕ, ◌+◌, ◌≤◌, length, ◌-ℤ◌, pos, int_le};
 ghost use Rattle.flight_model.specs.Samples.{differ_by as words_differ, is_at as word_at, is_fit_by, is_fit as word_fit};
 ghost use Rattle.flight_model.specs.Directors.{all_fit as word_all, first_unfit as word_first};
 
 use flight_model::{Place, Sample, Track, Want};
 
+// Whether the second number is at least the first less this.
+fn is_less_by(most: u16, a: i16, b: i16) -> bool
+    ensures { result ≡ int_le (a -ℤ b) (pos most) }
+{
+    a as i32 - b as i32 <= most as i32
+}
+
 // Whether two numbers differ by at most so much.
 fn differ_by(most: u16, a: i16, b: i16) -> bool
     ensures { result ≡ words_differ most a b }
 {
-    a as i32 - b as i32 <= most as i32 && b as i32 - a as i32 <= most as i32
+    is_less_by(most, a, b) && is_less_by(most, b, a)
 }
 
 // Whether a sample is at a place.
@@ -46,7 +53,10 @@ pub fn all_fit(silence: u32, wants: &[Want], tracks: &[Track]) -> bool
     ensures { result ≡ word_all silence wants.now tracks.now }
 {
     for d in 0..wants.len() {
-        if d >= tracks.len() || !is_fit(silence, &wants[d], &tracks[d].seen) {
+        if d >= tracks.len() {
+            return false;
+        }
+        if !is_fit(silence, &wants[d], &tracks[d].seen) {
             return false;
         }
     }
@@ -59,7 +69,10 @@ pub fn first_unfit(silence: u32, wants: &[Want], tracks: &[Track]) -> usize
     ensures few { result ≤ length wants.now }
 {
     for d in 0..wants.len() {
-        if d >= tracks.len() || !is_fit(silence, &wants[d], &tracks[d].seen) {
+        if d >= tracks.len() {
+            return d;
+        }
+        if !is_fit(silence, &wants[d], &tracks[d].seen) {
             return d;
         }
     }

@@ -19,7 +19,8 @@ pub type Notes = ArrayVec<Note, MOST_NOTES>;
 pub fn note_if(out: &mut Notes, noted: bool, drone: usize, fault: Fault)
     requires known { drone < 256 }
     requires room { length out.old.items < 33 }
-    ensures { out.new.items ≡ out.old.items ++ word_note noted drone fault }
+    ensures noted { out.new.items ≡ out.old.items ++ word_note noted drone fault }
+    ensures few { length out.new.items ≤ length out.old.items + 1 }
 {
     if noted {
         out.push(Note {
@@ -40,7 +41,8 @@ fn falls_silent(silence: u32, ms: u32, seen: &Option<Sample>) -> bool
 pub fn note_silent(out: &mut Notes, silence: u32, ms: u32, tracks: &[Track])
     requires few { length tracks.now ≤ 32 }
     requires room { length out.old.items + length tracks.now ≤ 32 }
-    ensures { out.new.items ≡ out.old.items ++ silent_from silence ms 0 tracks.now }
+    ensures noted { out.new.items ≡ out.old.items ++ silent_from silence ms 0 tracks.now }
+    ensures few { length out.new.items ≤ length out.old.items + length tracks.now }
 {
     for d in 0..tracks.len() {
         note_if(
@@ -56,7 +58,8 @@ pub fn note_silent(out: &mut Notes, silence: u32, ms: u32, tracks: &[Track])
 pub fn note_sample(out: &mut Notes, d: usize, before: &Track, after: &Track)
     requires known { d < 256 }
     requires room { length out.old.items ≤ 31 }
-    ensures { out.new.items ≡ out.old.items ++ sample_notes d before.now after.now }
+    ensures noted { out.new.items ≡ out.old.items ++ sample_notes d before.now after.now }
+    ensures few { length out.new.items ≤ length out.old.items + 2 }
 {
     note_if(
         out,

@@ -1,11 +1,13 @@
 //! The director's state, and one event.
 
-ghost use Rattle.std.specs.Prelude.{◌≡◌, ◌≤◌, ◌+◌, ◌++◌, ◌<◌, ◌&&◌, length, map, [], Some};
+ghost use Rattle.std.specs.Prelude.{slice_set, slice_get, All, true, if◌then◌else◌, None, ◌≡◌, ◌≤◌, ◌+◌, ◌++◌, ◌<◌, ◌&&◌, ◌∷◌, length, map, [], Some};
 ghost use Rattle.std.specs.List.{list_any, list_all};
 ghost use Rattle.flight_model.specs.declared.events.Note.{Note};
+ghost use Rattle.flight_model.specs.declared.flights.Step.{Step as StepWord};
 ghost use Rattle.flight_model.specs.declared.events.Frame.TheVariants.{Noted};
-ghost use Rattle.flight_model.specs.Directors.{start, drones, in_show, is_off as word_off, track_with as word_track, tracks_after, harms as word_harms, heard, fits, next_step, noticed as word_noticed, overdue as word_overdue, notes as word_notes, is_due as word_due, is_due_step, is_late_step, is_grave as word_grave, is_over as word_over, chosen, has_risen as word_risen, frames_of, landings, done, led, happens, says, is_fault, State as StateWord};
-ghost use Rattle.flight_director.specs.Held.{IsHeld, IsSmallDeed};
+ghost use Rattle.flight_model.specs.declared.states.Choice.TheVariants.{Begin};
+ghost use Rattle.flight_model.specs.Directors.{start, drones, in_show, is_off as word_off, track_with as word_track, tracks_after, harms as word_harms, heard, fits, next_step, noticed as word_noticed, overdue as word_overdue, notes as word_notes, is_due as word_due, is_due_step, is_late_step, is_grave as word_grave, is_over as word_over, chosen, has_risen as word_risen, frames_of, landings, done, led, happens, says, is_fault, is_go as word_go, is_land as word_land, is_stop as word_stop, passed as word_passed, is_rise as word_rise, order_in, frames_of_step, frames_from, into, starts_with, unfit_in, is_flying as word_flying, land_order, State as StateWord};
+ghost use Rattle.flight_director.specs.Held.{IsHeld, IsSmallDeed, with_tracks};
 
 use crate::curve::is_kept;
 use crate::fit::{all_fit, first_unfit};
@@ -59,33 +61,51 @@ impl Model for State {
     } };
 }
 
-fn is_go(e: &Event) -> bool {
+fn is_go(e: &Event) -> bool
+    ensures { result ≡ word_go e.now }
+{
     matches!(e, Event::Said { word: Word::Go })
 }
 
-fn is_land(e: &Event) -> bool {
+fn is_land(e: &Event) -> bool
+    ensures { result ≡ word_land e.now }
+{
     matches!(e, Event::Said { word: Word::Land })
 }
 
-fn is_stop(e: &Event) -> bool {
+fn is_stop(e: &Event) -> bool
+    ensures { result ≡ word_stop e.now }
+{
     matches!(e, Event::Said { word: Word::Stop })
 }
 
 // How much time an event says has passed.
-fn passed(e: &Event) -> u32 {
+fn passed(e: &Event) -> u32
+    ensures { result ≡ word_passed e.now }
+{
     match e {
         Event::Clock { ms } => *ms,
         _ => 0,
     }
 }
 
-// The order of a deed to a drone, if it orders something of it.
-fn is_rise(deed: &Deed, d: usize) -> bool {
+// Whether this is a rise.
+fn is_rise_order(order: &Order) -> bool
+    ensures { result ≡ word_rise (Some (Some order.now)) }
+{
+    matches!(order, Order::Rise { .. })
+}
+
+// Whether a deed has a drone rise.
+fn is_rise(deed: &Deed, d: usize) -> bool
+    ensures { result ≡ word_rise (order_in deed.now d) }
+{
     match deed {
-        Deed::All { order } => matches!(order, Order::Rise { .. }),
+        Deed::All { order } => is_rise_order(order),
         Deed::Each { orders } => match orders.as_slice().get(d) {
-            Some(Some(order)) => matches!(order, Order::Rise { .. }),
-            _ => false,
+            None => false,
+            Some(None) => false,
+            Some(Some(order)) => is_rise_order(order),
         },
     }
 }
@@ -103,48 +123,120 @@ fn has_risen(f: &Flight, n: usize, d: usize) -> bool
     false
 }
 
+// The landing of a drone, where it has risen.
+fn landing(f: &Flight, n: usize, d: usize) -> Option<Order>
+    ensures { result ≡ (if word_risen f.now n d then Some (land_order f.now) else None) }
+{
+    if has_risen(f, n, d) {
+        Some(Order::Land {
+            z: f.floor,
+            ms: f.descent,
+        })
+    } else {
+        None
+    }
+}
+
+// Puts an order to one drone after the others, if there is one.
+fn put_order(out: &mut Out, d: usize, order: Option<Order>)
+    requires known { d < 256 }
+    requires room { length out.old.items < 65 }
+    ensures put { out.new.items ≡ out.old.items ++ frames_from d (order ∷ []) }
+    ensures few { length out.new.items ≤ length out.old.items + 1 }
+{
+    if let Some(order) = order {
+        out.push(Frame::To {
+            drone: d as u8,
+            order,
+        });
+    }
+}
+
 // Puts the landing of all that have risen after the others.
-fn put_landings(out: &mut Out, f: &Flight, n: usize) {
+fn put_landings(out: &mut Out, f: &Flight, n: usize)
+    requires few { drones f.now ≤ 32 }
+    requires room { length out.old.items ≤ 33 }
+    ensures { out.new.items ≡ out.old.items ++ frames_from 0 (landings f.now n) }
+{
     for d in 0..f.curves.as_slice().len() {
-        if has_risen(f, n, d) && d < MOST_DRONES && !out.is_full() {
+        put_order(out, d, landing(f, n, d));
+    }
+}
+
+// Puts what is ordered of each drone after the others.
+fn put_orders(out: &mut Out, orders: &[Option<Order>])
+    requires few { length orders.now ≤ 32 }
+    requires room { length out.old.items ≤ 33 }
+    ensures { out.new.items ≡ out.old.items ++ frames_from 0 orders.now }
+{
+    for d in 0..orders.len() {
+        if let Some(order) = orders[d] {
             out.push(Frame::To {
                 drone: d as u8,
-                order: Order::Land {
-                    z: f.floor,
-                    ms: f.descent,
-                },
+                order,
             });
         }
     }
 }
 
 // Puts what a deed orders after the others.
-fn put_deed(out: &mut Out, deed: &Deed) {
+fn put_deed(out: &mut Out, deed: &Deed)
+    requires small { IsSmallDeed deed.now }
+    requires room { length out.old.items ≤ 33 }
+    ensures { out.new.items ≡ out.old.items ++ frames_of deed.now }
+{
     match deed {
-        Deed::All { order } => {
-            if !out.is_full() {
-                out.push(Frame::ToAll { order: *order });
-            }
-        }
-        Deed::Each { orders } => {
-            let orders = orders.as_slice();
-            for d in 0..orders.len() {
-                if let Some(order) = orders[d] {
-                    if d < MOST_DRONES && !out.is_full() {
-                        out.push(Frame::To {
-                            drone: d as u8,
-                            order,
-                        });
-                    }
-                }
-            }
-        }
+        Deed::All { order } => put_one(out, Frame::ToAll { order: *order }),
+        Deed::Each { orders } => put_orders(out, orders.as_slice()),
     }
 }
 
-fn put_one(out: &mut Out, frame: Frame) {
-    if !out.is_full() {
-        out.push(frame);
+// Puts what step k orders after the others, if there is one.
+fn put_step_at(out: &mut Out, steps: &[Step], k: usize)
+    requires small { All (λ (step : StepWord). IsSmallDeed step.deed) steps.now }
+    requires room { length out.old.items ≤ 33 }
+    ensures { out.new.items ≡ out.old.items ++ frames_of_step (slice_get steps.now k) }
+{
+    if k >= steps.len() {
+        return;
+    }
+    put_deed(out, &steps[k].deed);
+}
+
+// Puts one frame after the others.
+fn put_one(out: &mut Out, frame: Frame)
+    requires { length out.old.items < 65 }
+    ensures { out.new.items ≡ out.old.items ++ frame ∷ [] }
+{
+    out.push(frame);
+}
+
+// Puts the notes of an event first.
+fn put_notes(out: &mut Out, notes: &[Note])
+    requires few { length notes.now ≤ 33 }
+    requires empty { out.old.items ≡ [] }
+    ensures { out.new.items ≡ map Noted notes.now }
+{
+    for n in notes {
+        put_one(out, Frame::Noted { note: *n });
+    }
+}
+
+// Puts one drone's track in its place.
+fn put_track(tracks: &mut [Track], d: usize, track: Track)
+    requires { d < length tracks.old }
+    ensures { tracks.new ≡ slice_set tracks.old d track }
+{
+    tracks[d] = track;
+}
+
+// Whether a deed is the start.
+fn is_start(deed: &Deed) -> bool
+    ensures { result ≡ starts_with deed.now }
+{
+    match deed {
+        Deed::All { order } => matches!(order, Order::Start),
+        Deed::Each { .. } => false,
     }
 }
 
@@ -155,13 +247,11 @@ impl State {
         ensures { result ≡ start f.now }
     {
         let mut tracks = ArrayVec::new();
-        for _ in 0..f.curves.as_slice().len() {
-            if !tracks.is_full() {
-                tracks.push(Track {
-                    seen: None,
-                    off: None,
-                });
-            }
+        for d in 0..f.curves.as_slice().len() {
+            tracks.push(Track {
+                seen: None,
+                off: None,
+            });
         }
         State {
             phase: Phase::Steps,
@@ -221,8 +311,10 @@ impl State {
     }
 
     // The tracks take an event.
+    #[tactic(auto, unfolding(flight_model::specs::Directors::tracks_after))]
     fn take(&mut self, f: &Flight, e: &Event)
         requires { IsHeld f.now }
+        ensures { self.new ≡ with_tracks self.old (tracks_after f.now self.old e.now) }
     {
         match e {
             Event::Clock { ms } => age(self.tracks.as_mut_slice(), *ms),
@@ -230,7 +322,7 @@ impl State {
                 let d = *drone as usize;
                 if d < self.tracks.len() {
                     let track = self.track_with(f, d, &self.tracks.as_slice()[d], sample);
-                    self.tracks.as_mut_slice()[d] = track;
+                    put_track(self.tracks.as_mut_slice(), d, track);
                 }
             }
             _ => {}
@@ -248,6 +340,7 @@ impl State {
     }
 
     // Hears an event, and does nothing yet.
+    #[tactic(auto, unfolding(flight_model::specs::Directors::heard))]
     fn hear(&mut self, f: &Flight, e: &Event)
         requires { IsHeld f.now }
         ensures { self.new ≡ heard f.now self.old e.now }
@@ -267,7 +360,8 @@ impl State {
     fn noticed(&self, f: &Flight, e: &Event, out: &mut Notes)
         requires held { IsHeld f.now }
         requires empty { out.old.items ≡ [] }
-        ensures { out.new.items ≡ word_noticed f.now self.now e.now }
+        ensures noted { out.new.items ≡ word_noticed f.now self.now e.now }
+        ensures few { length out.new.items ≤ 32 }
     {
         match e {
             Event::Clock { ms } => note_silent(out, f.silence, *ms, self.tracks.as_slice()),
@@ -296,8 +390,10 @@ impl State {
             && all_fit(f.silence, step.wants.as_slice(), self.tracks.as_slice())
     }
 
+    #[tactic(auto, unfolding(flight_model::specs::Directors::is_due))]
     fn is_due(&self, f: &Flight, e: &Event) -> bool
-        ensures { result ≡ word_due f.now self.now e.now }
+        ensures value { result ≡ word_due f.now self.now e.now }
+        ensures inside { result ≡ true → self.now.next < length f.now.steps }
     {
         match f.steps.as_slice().get(self.next) {
             None => false,
@@ -311,24 +407,44 @@ impl State {
         !step.asked && step.after as u64 + step.settle as u64 + PATIENCE_MS <= self.waited as u64
     }
 
-    // Puts a note where the next step is due no more, in a state that has heard an event.
-    fn overdue(&self, f: &Flight, e: &Event, out: &mut Notes)
-        requires room { length out.old.items ≤ 32 }
-        ensures { out.new.items ≡ out.old.items ++ word_overdue f.now self.now e.now }
+    // Whether the step that is next waits for no word, and its time was over long ago.
+    fn is_next_late(&self, f: &Flight) -> bool
+        ensures { result ≡ is_late_step self.now (next_step f.now self.now) }
     {
         match f.steps.as_slice().get(self.next) {
-            None => {}
-            Some(step) => {
-                if self.phase == Phase::Steps
-                    && !self.is_due_step(f, e, step)
-                    && self.is_late(step)
-                {
-                    let wants = step.wants.as_slice();
-                    let d = first_unfit(f.silence, wants, self.tracks.as_slice());
-                    note_if(out, true, d, Fault::Late);
-                }
-            }
+            None => false,
+            Some(step) => self.is_late(step),
         }
+    }
+
+    // The first drone that isn't as the next step wants it.
+    fn unfit(&self, f: &Flight) -> usize
+        requires { IsHeld f.now }
+        ensures value { result ≡ unfit_in f.now self.now (next_step f.now self.now) }
+        ensures few { result ≤ 32 }
+    {
+        match f.steps.as_slice().get(self.next) {
+            None => 0,
+            Some(step) => first_unfit(f.silence, step.wants.as_slice(), self.tracks.as_slice()),
+        }
+    }
+
+    // Whether it is on its way.
+    fn is_flying(&self) -> bool
+        ensures { result ≡ word_flying self.now.phase }
+    {
+        matches!(self.phase, Phase::Steps)
+    }
+
+    // Puts a note where the next step is due no more, in a state that has heard an event.
+    fn overdue(&self, f: &Flight, e: &Event, out: &mut Notes)
+        requires held { IsHeld f.now }
+        requires room { length out.old.items ≤ 32 }
+        ensures noted { out.new.items ≡ out.old.items ++ word_overdue f.now self.now e.now }
+        ensures few { length out.new.items ≤ length out.old.items + 1 }
+    {
+        let late = self.is_flying() && !self.is_due(f, e) && self.is_next_late(f);
+        note_if(out, late, self.unfit(f), Fault::Late);
     }
 
     // Whether a fault ends the flight.
@@ -362,7 +478,8 @@ impl State {
 
     // What is done, in a state that has heard an event.
     fn choose(&self, f: &Flight, e: &Event, fault: bool) -> Choice
-        ensures { result ≡ chosen f.now self.now e.now fault self.now.phase }
+        ensures value { result ≡ chosen f.now self.now e.now fault self.now.phase }
+        ensures begins { result ≡ Begin → self.now.next < length f.now.steps }
     {
         match self.phase {
             Phase::Steps => {
@@ -405,7 +522,17 @@ impl State {
         }
     }
 
+    // Puts what the next step orders after the others.
+    fn put_step(&self, f: &Flight, out: &mut Out)
+        requires held { IsHeld f.now }
+        requires room { length out.old.items ≤ 33 }
+        ensures { out.new.items ≡ out.old.items ++ frames_of_step (next_step f.now self.now) }
+    {
+        put_step_at(out, f.steps.as_slice(), self.next);
+    }
+
     // Puts what a choice sends after the others.
+    #[tactic(auto, unfolding(flight_model::specs::Directors::done))]
     fn put(&self, f: &Flight, choice: Choice, out: &mut Out)
         requires held { IsHeld f.now }
         requires room { length out.old.items ≤ 33 }
@@ -413,10 +540,7 @@ impl State {
     {
         match choice {
             Choice::Rest => {}
-            Choice::Begin => match f.steps.as_slice().get(self.next) {
-                None => {}
-                Some(step) => put_deed(out, &step.deed),
-            },
+            Choice::Begin => self.put_step(f, out),
             Choice::Descend => put_landings(out, f, self.next),
             Choice::Cut => put_one(out, Frame::ToAll { order: Order::Halt }),
             Choice::Quit => put_one(
@@ -436,7 +560,9 @@ impl State {
     }
 
     // To a new phase.
-    fn to_phase(&mut self, phase: Phase) {
+    fn to_phase(&mut self, phase: Phase)
+        ensures { self.new ≡ into self.old phase }
+    {
         self.phase = phase;
         self.waited = 0;
         self.steady = 0;
@@ -444,18 +570,17 @@ impl State {
     }
 
     // The next step has begun.
-    fn begin(&mut self, f: &Flight) {
+    #[tactic(auto, unfolding(flight_model::specs::Directors::led))]
+    fn begin(&mut self, f: &Flight)
+        requires { self.old.next < length f.now.steps }
+        ensures { self.new ≡ led f.now self.old Begin }
+    {
         let steps = f.steps.as_slice();
         self.showing = match steps.get(self.next) {
             None => false,
-            Some(step) => matches!(
-                step.deed,
-                Deed::All {
-                    order: Order::Start
-                }
-            ),
+            Some(step) => is_start(&step.deed),
         };
-        self.next = self.next.saturating_add(1);
+        self.next += 1;
         self.waited = 0;
         self.steady = 0;
         self.phase = if self.next == steps.len() {
@@ -466,7 +591,9 @@ impl State {
     }
 
     // Where a choice leads.
+    #[tactic(auto, unfolding(flight_model::specs::Directors::led))]
     fn lead(&mut self, f: &Flight, choice: Choice)
+        requires { choice ≡ Begin → self.old.next < length f.now.steps }
         ensures { self.new ≡ led f.now self.old choice }
     {
         match choice {
@@ -492,9 +619,7 @@ impl State {
         self.overdue(f, e, &mut notes);
         let fault = self.any_grave(f, notes.as_slice());
         let choice = self.choose(f, e, fault);
-        for n in notes.as_slice() {
-            put_one(out, Frame::Noted { note: *n });
-        }
+        put_notes(out, notes.as_slice());
         self.put(f, choice, out);
         self.lead(f, choice);
     }

@@ -333,12 +333,13 @@ done f s Finish = Over (is_flown f s) s.kept ∷ []
 
 -- ---- where that leads
 
+abbrev pub starts_with : Deed → Bool
+starts_with (ToEach order.Start) = true
+starts_with d = false
+
 abbrev pub starts : Option Step → Bool
 starts None = false
-starts (Some step) = is_start step.deed where
-  is_start : Deed → Bool
-  is_start (ToEach order.Start) = true
-  is_start d = false
+starts (Some step) = starts_with step.deed
 
 -- a new phase
 abbrev pub into : State → Phase → State

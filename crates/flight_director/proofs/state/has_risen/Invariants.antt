@@ -1,0 +1,6 @@
+use Rattle.std.proofs.Common.{◌≡◌, false, take}
+use Rattle.flight_model.specs.Directors.{has_risen}
+use Rattle.flight_director.proofs.state.has_risen.Given as goal
+
+abbrev pub invariant-loop-k : goal.invariant-loop-k
+invariant-loop-k l = has_risen l.f l.k l.d ≡ false

@@ -1,0 +1,6 @@
+use Rattle.std.proofs.Common.{◌≡◌, drop}
+use Rattle.flight_model.specs.Directors.{all_seen, is_disarmed}
+use Rattle.flight_director.proofs.tracks.all_disarmed.Given as goal
+
+abbrev pub invariant-loop-t : goal.invariant-loop-t
+invariant-loop-t l = all_seen l.silence is_disarmed (drop l.t-index l.tracks) ≡ all_seen l.silence is_disarmed l.tracks
