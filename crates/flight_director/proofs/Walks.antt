@@ -125,10 +125,10 @@ chosen-heard : (f : Flight) (s h : State) (e : Event) (ns : List Note) (fault : 
 unfolding choice is_fault
 chosen-heard f s h e ns fault hs nss fs =
     let fault_is : fault ≡ list_any (λ (n : Note). is_grave f s n.fault) (notes f s e) =
-        fs ∙ (ap (λ g. list_any (λ (n : Note). is_grave f g n.fault) ns) hs ∙ (same_grave f s e ns ∙ ap (λ xs. list_any (λ (n : Note). is_grave f s n.fault) xs) nss)) in
+    fs ∙ (ap (λ g. list_any (λ (n : Note). is_grave f g n.fault) ns) hs ∙ (same_grave f s e ns ∙ ap (λ xs. list_any (λ (n : Note). is_grave f s n.fault) xs) nss)) in
     ap (λ g. chosen f g e fault g.phase) hs ∙ (phase_same f s e fault ∙ ap (λ b. chosen f (heard f s e) e b s.phase) fault_is) where
-  phase_same : (f : Flight) (s : State) (e : Event) (fault : Bool) → chosen f (heard f s e) e fault (heard f s e).phase ≡ chosen f (heard f s e) e fault s.phase
-  phase_same f s e fault = ap (λ p. chosen f (heard f s e) e fault p) (phase_heard f s e)
+      phase_same : (f : Flight) (s : State) (e : Event) (fault : Bool) → chosen f (heard f s e) e fault (heard f s e).phase ≡ chosen f (heard f s e) e fault s.phase
+      phase_same f s e fault = ap (λ p. chosen f (heard f s e) e fault p) (phase_heard f s e)
 
 pub happens-by : (f : Flight) (s h : State) (e : Event) (ns : List Note) (fault : Bool) (c : Choice) → h ≡ heard f s e → ns ≡ notes f s e →
     fault ≡ list_any (λ (n : Note). is_grave f h n.fault) ns → c ≡ chosen f h e fault h.phase → led f h c ≡ happens f s e

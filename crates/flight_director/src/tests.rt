@@ -1,6 +1,12 @@
 //! Whole flights of two drones: one leg up, a show of one cue, one leg down. The values are those that
 //! `flight_model`'s rows compute from the definitions.
 
+ghost use Rattle.std.specs.Prelude.{◌≡◌, ◌≤◌, length, IfOk, All};
+ghost use Rattle.traj_codec.specs.declared.traj.Traj.{Traj as TrajWord};
+ghost use Rattle.integer_player.specs.Played.{IsPlayable, duration_of};
+ghost use Rattle.flight_model.specs.declared.flights.Step.{Step as StepWord};
+ghost use Rattle.flight_director.specs.Held.{IsSmallDeed, IsHeld};
+
 use crate::{
     Deed, Director, Event, Fault, Flight, Frame, Note, Order, Out, Place, Sample, Step, Want, Word,
 };
@@ -32,14 +38,18 @@ fn both(
     bound: u16,
     ready: bool,
     armed: bool,
-) -> Result<Listed<Want>, AllocError> {
+) -> Result<Listed<Want>, AllocError>
+    ensures { IfOk result (λ ws. length ws ≡ 2) }
+{
     let mut wants = Vec::new(alloc);
     wants.push(want(0, z, bound, ready, armed))?;
     wants.push(want(2000, z, bound, ready, armed))?;
     Ok(Listed::from_vec(wants))
 }
 
-fn each(alloc: Global, order: Order) -> Result<Deed, AllocError> {
+fn each(alloc: Global, order: Order) -> Result<Deed, AllocError>
+    ensures { IfOk result (λ d. IsSmallDeed d) }
+{
     let mut orders = Vec::new(alloc);
     orders.push(Some(order))?;
     orders.push(Some(order))?;
@@ -48,7 +58,10 @@ fn each(alloc: Global, order: Order) -> Result<Deed, AllocError> {
     })
 }
 
-fn step(asked: bool, after: u32, settle: u32, wants: Listed<Want>, deed: Deed) -> Step {
+fn step(asked: bool, after: u32, settle: u32, wants: Listed<Want>, deed: Deed) -> Step
+    ensures wants { result.wants ≡ wants }
+    ensures deed { result.deed ≡ deed }
+{
     Step {
         asked,
         after,
@@ -59,7 +72,10 @@ fn step(asked: bool, after: u32, settle: u32, wants: Listed<Want>, deed: Deed) -
 }
 
 // Aside by 300 mm control points, and back again.
-fn curve(alloc: Global, x: i16) -> Result<Traj, AllocError> {
+fn curve(alloc: Global, x: i16) -> Result<Traj, AllocError>
+    ensures playable { IfOk result (λ t. IsPlayable t) }
+    ensures lasts { IfOk result (λ t. 1000 ≤ duration_of t) }
+{
     let mut segments = Vec::new(alloc);
     segments.push(Segment {
         ms: 1000,
@@ -76,55 +92,68 @@ fn curve(alloc: Global, x: i16) -> Result<Traj, AllocError> {
     })
 }
 
-fn flight(alloc: Global, flies_on: bool) -> Result<Flight, AllocError> {
+fn steps(alloc: Global) -> Result<Listed<Step>, AllocError>
+    ensures deeds { IfOk result (λ ss. All (λ (s : StepWord). IsSmallDeed s.deed) ss) }
+    ensures wants { IfOk result (λ ss. All (λ (s : StepWord). length s.wants ≤ 32) ss) }
+{
     let rise = Order::Rise { z: TOP, ms: 2000 };
     let land = Order::Land { z: 0, ms: 2500 };
-    let mut steps = Vec::new(alloc);
-    steps.push(step(
+    let start = Deed::All {
+        order: Order::Start,
+    };
+    let disarm = Deed::All {
+        order: Order::Disarm,
+    };
+    let arming = step(
         true,
         0,
         0,
         both(alloc, 0, 100, true, false)?,
         each(alloc, Order::Arm)?,
-    ))?;
-    steps.push(step(
+    );
+    let rising = step(
         false,
         0,
         0,
         both(alloc, 0, 100, false, true)?,
         each(alloc, rise)?,
-    ))?;
-    steps.push(step(
-        true,
-        2000,
-        1000,
-        both(alloc, TOP, 50, false, true)?,
-        Deed::All {
-            order: Order::Start,
-        },
-    ))?;
-    steps.push(step(
+    );
+    let starting = step(true, 2000, 1000, both(alloc, TOP, 50, false, true)?, start);
+    let landing = step(
         false,
         1000,
         1000,
         both(alloc, TOP, 50, false, true)?,
         each(alloc, land)?,
-    ))?;
-    steps.push(step(
+    );
+    let ending = step(
         false,
         2500,
         1000,
         both(alloc, 0, 100, false, false)?,
-        Deed::All {
-            order: Order::Disarm,
-        },
-    ))?;
-    let mut curves = Vec::new(alloc);
-    curves.push(curve(alloc, 0)?)?;
-    curves.push(curve(alloc, 2000)?)?;
+        disarm,
+    );
+    Ok(Listed::from_vec(Vec::from_array(alloc, [arming, rising, starting, landing, ending])?))
+}
+
+fn curves(alloc: Global) -> Result<Listed<Traj>, AllocError>
+    ensures few { IfOk result (λ ts. length ts ≤ 32) }
+    ensures playable { IfOk result (λ ts. All IsPlayable ts) }
+    ensures lasts { IfOk result (λ ts. All (λ (t : TrajWord). 1000 ≤ duration_of t) ts) }
+{
+    let first = curve(alloc, 0)?;
+    let second = curve(alloc, 2000)?;
+    Ok(Listed::from_vec(Vec::from_array(alloc, [first, second])?))
+}
+
+fn flight(alloc: Global, flies_on: bool) -> Result<Flight, AllocError>
+    ensures { IfOk result (λ f. IsHeld f) }
+{
+    let steps = steps(alloc)?;
+    let curves = curves(alloc)?;
     Ok(Flight {
-        steps: Listed::from_vec(steps),
-        curves: Listed::from_vec(curves),
+        steps,
+        curves,
         show_ms: 1000,
         stray: 30,
         late: 2,
@@ -438,12 +467,13 @@ fn keeps_the_law(alloc: Global, seed: &mut u64, counts: &mut [u32; 4]) -> Result
         let e = random_event(seed, armed, z);
         match &e {
             Event::Clock { ms } => {
-                ages[0] += *ms;
-                ages[1] += *ms;
+                ages[0] = ages[0].saturating_add(*ms);
+                ages[1] = ages[1].saturating_add(*ms);
             }
             Event::Seen { drone, sample } => {
-                ages[*drone as usize] = sample.age;
-                near[*drone as usize] = sample.y == 0 && !sample.lost;
+                let k = (*drone % 2) as usize;
+                ages[k] = sample.age;
+                near[k] = sample.y == 0 && !sample.lost;
             }
             _ => {}
         }
@@ -458,9 +488,9 @@ fn keeps_the_law(alloc: Global, seed: &mut u64, counts: &mut [u32; 4]) -> Result
                 _ => None,
             };
             if let Frame::Over { flown, .. } = frame {
-                counts[1] += 1;
+                counts[1] = counts[1].saturating_add(1);
                 if *flown {
-                    counts[0] += 1;
+                    counts[0] = counts[0].saturating_add(1);
                 }
             }
             if let Some(order) = order {
@@ -494,11 +524,11 @@ fn keeps_the_law(alloc: Global, seed: &mut u64, counts: &mut [u32; 4]) -> Result
         }
         // land and halt at once
         if matches!(e, Event::Said { word: Word::Stop }) {
-            counts[2] += 1;
+            counts[2] = counts[2].saturating_add(1);
             halted = true;
         }
         if matches!(e, Event::Said { word: Word::Land }) {
-            counts[3] += 1;
+            counts[3] = counts[3].saturating_add(1);
             landed = true;
         }
         if halts && !halted {

@@ -78,14 +78,14 @@ returns c =
     let h1 : FitsSigned w64 c.aside-2.result = search rules in
     let h2 : FitsSigned w64 c.aside-3.result = search rules in
     let v0 : c.squared-dx.result ≡ square (pos 1000 *ℤ c.args.x.now.x -ℤ get_or c.args.p.now 0 (pos 0)) =
-        (simp to_z-of_z at c.squared-dx.ensures.value) ∙ ap (λ z. square z) (simp to_z-of_z at c.aside.ensures.value) in
+    (simp to_z-of_z at c.squared-dx.ensures.value) ∙ ap (λ z. square z) (simp to_z-of_z at c.aside.ensures.value) in
     let v1 : c.squared-dy.result ≡ square (pos 1000 *ℤ c.args.x.now.y -ℤ get_or c.args.p.now 1 (pos 0)) =
-        (simp to_z-of_z at c.squared-dy.ensures.value) ∙ ap (λ z. square z) (simp to_z-of_z at c.aside-2.ensures.value) in
+    (simp to_z-of_z at c.squared-dy.ensures.value) ∙ ap (λ z. square z) (simp to_z-of_z at c.aside-2.ensures.value) in
     let v2 : c.squared-dz.result ≡ square (pos 1000 *ℤ c.args.x.now.z -ℤ get_or c.args.p.now 2 (pos 0)) =
-        (simp to_z-of_z at c.squared-dz.ensures.value) ∙ ap (λ z. square z) (simp to_z-of_z at c.aside-3.ensures.value) in
+    (simp to_z-of_z at c.squared-dz.ensures.value) ∙ ap (λ z. square z) (simp to_z-of_z at c.aside-3.ensures.value) in
     let thousand : pos 1000 *ℤ pos c.args.stray ≡ pos (1000 * c.args.stray) = omega (arith, ints) in
     let v3 : c.squared.result ≡ square (pos (1000 * c.args.stray)) =
-        (simp to_z-of_z at (rw stray at c.squared.ensures.value)) ∙ ap (λ z. square z) thousand in
+    (simp to_z-of_z at (rw stray at c.squared.ensures.value)) ∙ ap (λ z. square z) thousand in
     simp to_z-of_z (ap4 c.squared-dx.result c.squared-dy.result c.squared-dz.result c.squared.result _ _ _ _ v0 v1 v2 v3) where
-  ap4 : (a b c d e f g h : ℤ) → a ≡ e → b ≡ f → c ≡ g → d ≡ h → int_le (a +ℤ b +ℤ c) d ≡ int_le (e +ℤ f +ℤ g) h
-  ap4 a b c d e f g h p q r s = cc
+      ap4 : (a b c d e f g h : ℤ) → a ≡ e → b ≡ f → c ≡ g → d ≡ h → int_le (a +ℤ b +ℤ c) d ≡ int_le (e +ℤ f +ℤ g) h
+      ap4 a b c d e f g h p q r s = cc

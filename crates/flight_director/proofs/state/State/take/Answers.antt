@@ -12,15 +12,20 @@ pub returns-then-d-len : goal.returns-then-d-len
 returns-then-d-len c =
     let d = c.in-Seen.drone in
     let v : State = record {
-      phase = c.self.inside.phase; next = c.self.inside.next; waited = c.self.inside.waited; steady = c.self.inside.steady;
-      showing = c.self.inside.showing; kept = c.self.inside.kept; tracks = c.self.inside.tracks.items;
+      phase = c.self.inside.phase;
+      next = c.self.inside.next;
+      waited = c.self.inside.waited;
+      steady = c.self.inside.steady;
+      showing = c.self.inside.showing;
+      kept = c.self.inside.kept;
+      tracks = c.self.inside.tracks.items;
     } in
     let same : v ≡ c.args.self.now = c.self.view_is in
     let tracks : c.self.inside.tracks.items ≡ c.args.self.now.tracks = ap (λ (s : State). s.tracks) same in
     let put : c.put_track.new.tracks ≡ set c.self.inside.tracks.items d c.track_with-track.result =
-        c.put_track.ensures ∙ ap (λ ts. set ts d c.track_with-track.result) c.as_mut_slice-then-d-len.ensures.value in
+    c.put_track.ensures ∙ ap (λ ts. set ts d c.track_with-track.result) c.as_mut_slice-then-d-len.ensures.value in
     let long : length c.put_track.new.tracks ≡ length c.self.inside.tracks.items =
-        ap (λ (ts : List Track). length ts) put ∙ length-set c.self.inside.tracks.items d c.track_with-track.result in
+    ap (λ (ts : List Track). length ts) put ∙ length-set c.self.inside.tracks.items d c.track_with-track.result in
     let inside : d < length c.self.inside.tracks.items = omega (arith, c.len.ensures.value, c.if-d-len.true) in
     let t : Track = get_or c.args.self.now.tracks d (record { seen = None; off = None }) in
     let at : slice_get c.args.self.now.tracks d ≡ Some t = slice_get-get_or c.args.self.now.tracks d (record { seen = None; off = None }) (omega (arith, ap (λ (ts : List Track). length ts) tracks, inside)) in
