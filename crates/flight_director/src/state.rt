@@ -302,8 +302,12 @@ impl State {
         match e {
             Event::Clock { ms } => {
                 self.showing
-                    && later(self.waited, *ms) <= f.show_ms
-                    && any_silent(f.silence, *ms, self.tracks.as_slice())
+                    && self.waited < f.show_ms
+                    && any_silent(
+                        f.silence,
+                        (*ms).min(f.show_ms - self.waited),
+                        self.tracks.as_slice(),
+                    )
             }
             Event::Seen { drone, sample } => self.is_off(f, *drone as usize, sample),
             _ => false,

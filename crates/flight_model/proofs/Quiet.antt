@@ -1,6 +1,6 @@
 -- No false alarm.
-use Rattle.std.proofs.Common.{◌≡◌, ◌≤◌, ◌+◌, ◌∷◌, ◌++◌, ◌∙◌, ◌||◌, ◌&&◌, [], List, Bool, true, false, cond, not, refl, sym, ap, subst, None, Some, Option, ℕ, suc, leb, eqb, length, arith}
-use Rattle.std.proofs.lemmas.Bool.{not-true, and_parts, leb-true, le-leb, leb-false}
+use Rattle.std.proofs.Common.{◌-◌, min, ltb, ◌≡◌, ◌≤◌, ◌+◌, ◌∷◌, ◌++◌, ◌∙◌, ◌||◌, ◌&&◌, [], List, Bool, true, false, cond, not, refl, sym, ap, subst, None, Some, Option, ℕ, suc, leb, eqb, length, arith}
+use Rattle.std.proofs.lemmas.Bool.{ltb-false, le-ltb, not-true, and_parts, leb-true, le-leb, leb-false}
 use Rattle.std.proofs.Math.Bool.{and-false}
 use Rattle.std.specs.Prelude.{map, slice_get}
 use Rattle.std.specs.List.{list_any}
@@ -222,11 +222,26 @@ module _ (slack : ℕ) (few : slack ≤ 8000) where
   any-aged silence ms [] = refl
   any-aged silence ms (t ∷ ts) = ap (λ b. is_silent silence (older ms t.seen) || b) (any-aged silence ms ts)
 
+  -- who isn't silent after some time isn't so after less of it
+  silent-less : (silence a b : ℕ) (seen : Option Sample) → a ≤ b → is_silent silence (older b seen) ≡ false → is_silent silence (older a seen) ≡ false
+  silent-less silence a b None l h = refl
+  silent-less silence a b (Some x) l h =
+      let m : later x.age b ≤ silence = ltb-false silence (later x.age b) h in
+      le-ltb silence (later x.age a) (omega arith)
+
+  any-less : (silence a b : ℕ) (ts : List Track) → a ≤ b → list_any (λ (t : Track). is_silent silence (older b t.seen)) ts ≡ false →
+      list_any (λ (t : Track). is_silent silence (older a t.seen)) ts ≡ false
+  any-less silence a b [] l h = refl
+  any-less silence a b (t ∷ ts) l h =
+      let p = or-false (is_silent silence (older b t.seen)) (list_any (λ (u : Track). is_silent silence (older b u.seen)) ts) h in
+      rw (silent-less silence a b t.seen l p.0) (any-less silence a b ts l p.1)
+
   no_harm : (f : Flight) (s : State) (e : Event) → IsQuiet f slack s e → harms f s e ≡ false
   unfolding heard tracks_after
   no_harm f s (Clock ms) q =
       let none : list_any (λ (t : Track). is_silent f.silence (older ms t.seen)) s.tracks ≡ false = sym (any-aged f.silence ms s.tracks) ∙ q.fresh in
-      rw none (and-false (s.showing && leb (later s.waited ms) f.show_ms))
+      let less = any-less f.silence (min ms (f.show_ms - s.waited)) ms s.tracks (omega arith) none in
+      rw less (and-false (s.showing && ltb s.waited f.show_ms))
   no_harm f s (Seen d x) q = (q.sample d x refl).1
   no_harm f s (Answered d status) q = refl
   no_harm f s (Said w) q = refl

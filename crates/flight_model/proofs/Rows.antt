@@ -156,6 +156,7 @@ pub record Rows : Type 0 where
   silent : says_all true at_ready (go ++ Clock 400 ∷ Seen 0 (sample (pos 0) (pos 216) (pos 1000) true false) ∷ Clock 200 ∷ Clock 100 ∷ []) ≡
       ToAll order.Start ∷ note 1 fault.Silent ∷ []
   unkept : (comes_to at_ready (go ++ Clock 600 ∷ [])).kept ≡ false
+  leapt : (comes_to at_ready (go ++ Clock 5000 ∷ [])).kept ≡ false
   -- one astray: all land after 300 ms of it, where the show doesn't fly on
   astray : says_all false at_ready (go ++ Clock 100 ∷ both (pos 150) (pos 1000) true false ++ Clock 299 ∷ both (pos 150) (pos 1000) true false ++ Clock 1 ∷ both (pos 150) (pos 1000) true false) ≡
       ToAll order.Start ∷ note 0 fault.Astray ∷ all_land
@@ -178,6 +179,7 @@ rows = record {
   early = refl;
   silent = refl;
   unkept = refl;
+  leapt = refl;
   astray = refl;
   refuses = refl;
   lates = refl;

@@ -124,10 +124,10 @@ abbrev pub is_silent : ℕ → Option Sample → Bool
 is_silent silence None = false
 is_silent silence (Some x) = nat_lt silence x.age
 
--- what harms a show: a sample off its curve, or a silent drone before the show's end
+-- what harms a show: a sample off its curve, or a drone that becomes silent before the show's end
 abbrev pub harms : Flight → State → Event → Bool
 harms f s (Clock ms) =
-    s.showing && nat_le (later s.waited ms) f.show_ms && list_any (λ (t : Track). is_silent f.silence (older ms t.seen)) s.tracks
+    s.showing && nat_lt s.waited f.show_ms && list_any (λ (t : Track). is_silent f.silence (older (min ms (f.show_ms - s.waited)) t.seen)) s.tracks
 harms f s (Seen d x) = is_off f s d x
 harms f s (Answered d status) = false
 harms f s (Said w) = false
