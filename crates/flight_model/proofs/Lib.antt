@@ -6,3 +6,4 @@ mod Beginning
 mod Ending
 mod Flown
 mod Quiet
+mod Planned

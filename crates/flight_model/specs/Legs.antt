@@ -227,9 +227,7 @@ lasts (t ∷ rest) = sum (durations t.segments)
 abbrev pub steps_between : Ways → List (List Leg) → List (List Leg) → List Step
 steps_between w ups downs =
     flat_map (λ k. arm_step w ups k ∷ up_step w ups k ∷ []) (range_with_len 0 (leg_count ups))
-    ++ (start_step w ups ∷ [])
-    ++ map (down_step w (lasts w.show) downs) (range_with_len 0 (leg_count downs))
-    ++ (last_step w downs ∷ [])
+    ++ start_step w ups ∷ (map (down_step w (lasts w.show) downs) (range_with_len 0 (leg_count downs)) ++ last_step w downs ∷ [])
 
 -- All steps of a flight: leg by leg up, each after its drones are armed; the start; leg by leg down; and the end.
 unfoldable pub steps_of : Ways → List Step

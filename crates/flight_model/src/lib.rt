@@ -11,5 +11,5 @@ mod states;
 
 pub use events::{Event, Fault, Frame, Note, Order, Sample, Word};
 pub use flights::{Deed, Flight, Place, Step, Want};
-pub use law::director_law;
+pub use law::{director_law, plan_law};
 pub use states::{Choice, Phase, Track};
