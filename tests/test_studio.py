@@ -1,0 +1,533 @@
+"""tools/studio over HTTP: who may ask, what is judged and in which order, saving, watching, cures, sizes and faults.
+How the page behaves is tested in tests/test_studio_page.py."""
+import hashlib
+import http.client
+import json
+import os
+import re
+import signal
+import subprocess
+import sys
+import tempfile
+import threading
+import time
+import unittest
+
+sys.dont_write_bytecode = True
+sys.path.insert(0, os.path.dirname(os.path.abspath(__file__)))
+from common import TOP, choreo, wants_program
+
+STAND_IN = os.path.join(TOP, ".ci", "stand_in")
+GOOD = "choreo 1\ndrone a 0 0 1000000 0\ndrone b 1000000 0 1000000 0\ncue 2000\na move 0 1000000 1000000 0\nend\n"
+NEAR = "choreo 1\ndrone a 0 0 1000000 0\ndrone b 1000000 0 1000000 0\ncue 3000\na move 1000000 0 1000000 0\n" \
+       "b move 0 0 1000000 0\nend\n"
+
+
+def example(name):
+    """An example's text."""
+    with open(os.path.join(TOP, "examples", name + ".choreo")) as file:
+        return file.read()
+
+
+def children(parent):
+    """The processes that a process started and that still run."""
+    found = []
+    for name in filter(str.isdigit, os.listdir("/proc")):
+        try:
+            with open("/proc/%s/stat" % name) as file:
+                if int(file.read().rpartition(")")[2].split()[1]) == parent:
+                    found.append(int(name))
+        except OSError:
+            pass
+    return found
+
+
+class Running:
+    """A studio that runs, over a file in a folder of its own."""
+
+    def __init__(self, text=GOOD, words=("--program", STAND_IN), name="show.choreo"):
+        self.folder = tempfile.TemporaryDirectory()
+        self.path = os.path.join(self.folder.name, name)
+        if text is not None:
+            self.write(text)
+        self.process = subprocess.Popen([os.path.join(TOP, "tools", "studio"), "--no-open", *words, self.path],
+                                        stdout=subprocess.PIPE, stderr=subprocess.PIPE, universal_newlines=True)
+        self.port, self.token = re.search(r"127\.0\.0\.1:(\d+)/([\w-]+)/", self.process.stdout.readline()).groups()
+        self.number = 0
+
+    def write(self, text):
+        """Writes the file, as another program does."""
+        with open(self.path, "wb") as file:
+            file.write(text if isinstance(text, bytes) else text.encode())
+
+    def read(self, end=""):
+        """The file's bytes, or those of its backup."""
+        with open(self.path + end, "rb") as file:
+            return file.read()
+
+    def ask(self, method, name, body=None, **heads):
+        """The status, the heads and the body of an answer; a head that is None isn't sent."""
+        link = http.client.HTTPConnection("127.0.0.1", int(self.port), timeout=60)
+        given = {"Host": "127.0.0.1:" + self.port, "Origin": "http://127.0.0.1:" + self.port, **heads}
+        data = None if body is None else body if isinstance(body, bytes) else json.dumps(body).encode()
+        link.putrequest(method, "/%s/%s" % (self.token, name) if not name.startswith("/") else name, skip_host=True,
+                        skip_accept_encoding=True)
+        for key, word in given.items():
+            if word is not None:
+                link.putheader(key, word)
+        if data is not None and "Content-Length" not in heads:
+            link.putheader("Content-Length", str(len(data)))
+        link.endheaders(data)
+        answer = link.getresponse()
+        return answer.status, answer.headers, answer.read()
+
+    def post(self, name, **more):
+        """The status and the data of an answer."""
+        status, _, body = self.ask("POST", name, more)
+        return status, json.loads(body)
+
+    def stages(self, text, page="p", number=None):
+        """What is known of a text, by stage."""
+        self.number += 1
+        status, _, body = self.ask("POST", "judge", {"page": page, "number": number or self.number, "text": text})
+        if status != 200:
+            return {"status": status}
+        rows = [json.loads(line) for line in body.decode().splitlines()]
+        found = {row["stage"]: row for row in rows}
+        found["margins"] = {row["name"]: row["most"] for row in rows if row["stage"] == "margin"}
+        return found
+
+    def end(self, number=signal.SIGINT):
+        """Ends it; the status and all that it wrote."""
+        if self.process.poll() is None:
+            self.process.send_signal(number)
+        said, told = self.process.communicate(timeout=20)
+        self.folder.cleanup()
+        return self.process.returncode, said, told
+
+
+class Case(unittest.TestCase):
+    """A test with a studio that runs."""
+    TEXT, WORDS = GOOD, ("--program", STAND_IN)
+
+    def setUp(self):
+        self.studio = Running(self.TEXT, self.WORDS)
+        self.addCleanup(self.studio.end)
+
+
+class WhoAsks(Case):
+    def test_page(self):
+        status, heads, body = self.studio.ask("GET", "", Origin=None)
+        self.assertEqual(status, 200)
+        nonce = re.search("script-src 'nonce-([^']+)'", heads["Content-Security-Policy"])[1]
+        self.assertIn(('<script nonce="%s">' % nonce).encode(), body)
+        self.assertIn(b"default-src 'none'", heads["Content-Security-Policy"].encode())
+        self.assertNotIn(b"/*VIEW*/", body)
+        self.assertNotIn(b"NONCE", body)
+        # The page needs nothing else.
+        self.assertFalse(re.search(rb"(src|href)=|https?://(?!www\.w3\.org/2000/svg)", body))
+        self.assertEqual((heads["Cache-Control"], heads["Referrer-Policy"]), ("no-store", "no-referrer"))
+
+    def test_token(self):
+        for path in ("/", "/text", "/%00/text", "/[/text", "/x/text", "/%s/text" % self.studio.token[:-1], "/%sx/" % self.studio.token,
+                     "/../%s/text" % self.studio.token):
+            status, _, body = self.studio.ask("GET", path)
+            self.assertEqual((status, b"drone" in body), (403, False), path)
+        for name in ("judge", "save", "cure", "deal", "fly", "compile", "certify", "end"):
+            status, _, _ = self.studio.ask("POST", "/wrong/" + name, {"text": "", "page": "p", "number": 1})
+            self.assertEqual(status, 403, name)
+        self.assertEqual(self.studio.read(), GOOD.encode())
+        self.assertIsNone(self.studio.process.poll())
+
+    def test_host(self):
+        for host in ("evil.example", "evil.example:" + self.studio.port, "127.0.0.1", "127.0.0.1:1", "0.0.0.0:80",
+                     None):
+            self.assertEqual(self.studio.ask("GET", "text", Host=host)[0], 421, host)
+        self.assertEqual(self.studio.ask("GET", "text", Host="localhost:" + self.studio.port)[0], 200)
+
+    def test_origin(self):
+        for origin in ("http://evil.example", "null", "https://127.0.0.1:" + self.studio.port, "http://127.0.0.1:1",
+                       None):
+            status, _, _ = self.studio.ask("POST", "save", {"text": "x", "force": True}, Origin=origin)
+            self.assertEqual(status, 403, origin)
+        self.assertEqual(self.studio.ask("GET", "text", Origin="http://evil.example")[0], 403)
+        self.assertEqual(self.studio.read(), GOOD.encode())
+
+    def test_paths(self):
+        for name in ("nothing", "../show.choreo", "%2e%2e/x", "text/x", "show.choreo", "judge"):
+            status, _, body = self.studio.ask("GET", name)
+            self.assertEqual((status, b"drone" in body), (404, False), name)
+        self.assertEqual(self.studio.ask("DELETE", "text")[0], 501)
+
+
+class Judging(Case):
+    def test_accepted(self):
+        found = self.studio.stages(GOOD)
+        self.assertEqual((found["verdict"]["status"], found["verdict"]["judge"], found["verdict"]["proved"]),
+                         (0, "check", False))  # nothing is known of the stand-in's proof
+        flight = found["flight"]["flight"]
+        self.assertEqual((flight["source"], flight["names"], flight["end"], flight["lines"]),
+                         ("play", ["a", "b"], 2000, [[[4, 6]]]))
+        self.assertEqual((len(flight["xyz"][0]), flight["xyz"][0][-3:]), (3 * len(flight["times"]), [0, 1000, 1000]))
+        self.assertEqual([it["left"] for it in found["notes"]["drones"]], [4068, 4082])
+        self.assertEqual(set(found["margins"]), {"stray", "late"})
+
+    def test_margins(self):
+        # The numbers of docs/LANGUAGE.md, How to choose stray and late.
+        self.assertEqual(self.studio.stages(example("crossing_cured"))["margins"], {"stray": 99, "late": 227})
+
+    def test_near(self):
+        found = self.studio.stages(NEAR)
+        self.assertEqual(found["verdict"]["line"], "error 5 pair a b cue 1 part 28 of 64")
+        mark, = found["marks"]["marks"]
+        self.assertEqual((mark["pair"], mark["nearest"], mark["lines"], mark["touch"], mark["named"]),
+                         ([0, 1], 1500, [5, 6], True, True))
+        self.assertEqual(found["flight"]["flight"]["source"], "tool")
+        self.assertEqual(found["margins"], {})
+
+    def test_lines_of_formations(self):
+        found = self.studio.stages(example("grid_to_ring"))
+        lines = example("grid_to_ring").split("\n")
+        first = next(it for it in found["marks"]["marks"] if it["named"])
+        names = [found["flight"]["flight"]["names"][k] for k in first["pair"]]
+        said = [lines[number - 1].split()[:2] for number in first["lines"]]
+        self.assertEqual(sorted(said), sorted([["at", names[0]], ["at", names[1]], ["form", "ring"]]))
+        self.assertEqual(found["marks"]["many"], 40)  # as docs/TOOLS.md says
+
+    def test_blocks(self):
+        # In a cue a drone may be called as a word that opens a block elsewhere.
+        text = "choreo 1\ndrone cue 0 0 1000000 0\nfigure f r\ncue 9\nend\nend\nrepeat 2\ncue 50\ncue hold\nend\n" \
+               "perform f none 0 0 0 0 cue\nend\n"
+        lines = self.studio.stages(text)["flight"]["flight"]["lines"]
+        self.assertEqual(lines, [[[8, 10]], [[4, 5], [11, 11]]] * 2)
+
+    def test_faults(self):
+        found = self.studio.stages(GOOD.replace("2000", "2.5s"))
+        self.assertEqual(set(found), {"verdict", "margins"})
+        fault = found["verdict"]["fault"]
+        self.assertEqual((fault["line"], fault["word"], fault["text"]), (4, "bad-number", "cue 2.5s"))
+        self.assertIn("whole numbers", fault["row"][2])
+        self.assertEqual(self.studio.stages("")["verdict"]["line"], "error 3 line 1 header")
+        found = self.studio.stages(GOOD + "# <script>alert(1)</script>\n<b> 1\n")
+        self.assertEqual(found["verdict"]["fault"]["text"], "<b> 1")
+
+    def test_room(self):
+        text = "choreo 1\nmemory 2 4090\ndrone a 0 0 1000000 0\ncue 1000\na move 1 1 1 0\nend\n"
+        found = self.studio.stages(text)
+        self.assertEqual((found["verdict"]["status"], found["notes"]["drones"][0]["left"]), (4, -22))
+
+    def test_warnings(self):
+        text = "choreo 1\ndrone a 0 0 1000000 0\ncue 1000\na line 2000000 0 -1000000 0\nend\n"
+        faults = self.studio.stages(text)["notes"]["faults"]
+        self.assertEqual([(it["line"], it["cue"]) for it in faults], [(3, 0), (3, 0)])
+        self.assertIn("a jumps by 2.00 m/s on x", faults[0]["words"])
+        self.assertIn("a goes below z 0", faults[1]["words"])
+
+    def test_stale(self):
+        slow = example("grid_to_ring")  # the stand-in takes seconds for it
+        older = {}
+
+        def run():
+            older.update(self.studio.stages(slow, "q", 1))
+        thread = threading.Thread(target=run)
+        thread.start()
+        time.sleep(0.4)
+        newer = self.studio.stages(GOOD, "q", 2)
+        thread.join(20)
+        self.assertEqual(newer["verdict"]["status"], 0)
+        self.assertEqual(older.get("stale"), {"stage": "stale"})
+        self.assertNotIn("marks", older)
+        # A text that comes late is not judged at all; another page isn't disturbed.
+        self.assertEqual(self.studio.stages(GOOD, "q", 1)["status"], 409)
+        self.assertEqual(self.studio.stages(GOOD, "r", 1)["verdict"]["status"], 0)
+
+    @unittest.skipUnless(os.path.isdir("/proc/self"), "no /proc to look for processes")
+    def test_ended(self):
+        """Processes of an older text are ended, with all that they started."""
+        slow = example("grid_to_ring")
+        thread = threading.Thread(target=lambda: self.studio.stages(slow, "q", 1))
+        thread.start()
+        time.sleep(0.3)
+        self.studio.stages("choreo 2", "q", 2)
+        thread.join(20)
+        time.sleep(0.3)
+        self.assertLessEqual(len(children(self.studio.process.pid)), 1)  # the worker that is kept ready
+
+
+class Saving(Case):
+    def test_save(self):
+        os.chmod(self.studio.path, 0o640)
+        stamp = json.loads(self.studio.ask("GET", "text")[2])["stamp"]
+        status, said = self.studio.post("save", text=NEAR, stamp=stamp)
+        self.assertEqual((status, self.studio.read(), self.studio.read("~")), (200, NEAR.encode(), GOOD.encode()))
+        self.assertEqual(os.stat(self.studio.path).st_mode & 0o777, 0o640)
+        self.assertEqual(sorted(os.listdir(self.studio.folder.name)), ["show.choreo", "show.choreo~"])
+        self.assertEqual(self.studio.post("save", text=GOOD, stamp=said["stamp"])[0], 200)
+
+    def test_conflict(self):
+        stamp = json.loads(self.studio.ask("GET", "text")[2])["stamp"]
+        self.studio.write("theirs\n")
+        status, said = self.studio.post("save", text=NEAR, stamp=stamp)
+        self.assertEqual((status, self.studio.read()), (409, b"theirs\n"))
+        self.assertNotEqual(said["stamp"], stamp)
+        self.assertEqual(self.studio.post("save", text=NEAR, stamp=stamp, force=True)[0], 200)
+        self.assertEqual((self.studio.read(), self.studio.read("~")), (NEAR.encode(), b"theirs\n"))
+
+    def test_bytes(self):
+        """Bytes of comments and line ends stay as they were."""
+        for data in (b"choreo 1 # \xff\xc3\xa4 \xe2\x82\xac\n", b"choreo 1\r\n# x\r\n", b"choreo 1", b""):
+            self.studio.write(data)
+            text = json.loads(self.studio.ask("GET", "text")[2])
+            self.assertNotIn("\r", text["text"])
+            self.studio.post("save", text=text["text"], stamp=text["stamp"], ends=text["ends"])
+            self.assertEqual(self.studio.read(), data)
+
+    def test_link(self):
+        """A link stays a link, and its file is written."""
+        with tempfile.TemporaryDirectory() as folder:
+            target, link = os.path.join(folder, "target"), os.path.join(folder, "link")
+            with open(target, "w") as file:
+                file.write(GOOD)
+            os.symlink(target, link)
+            studio = Running(None, ("--program", STAND_IN), link)
+            self.addCleanup(studio.end)
+            self.assertEqual(studio.post("save", text=NEAR, force=True)[0], 200)
+            self.assertTrue(os.path.islink(link))
+            with open(target) as file:
+                self.assertEqual(file.read(), NEAR)
+
+    def test_stampless(self):
+        """Nothing is written by a page that doesn't say what it read."""
+        for more in ({}, {"stamp": None}, {"force": "yes"}, {"force": 1}):
+            self.assertEqual(self.studio.ask("POST", "save", {"text": NEAR, **more})[0], 400, more)
+        self.assertEqual(self.studio.post("save", text=NEAR, stamp="other")[0], 409)
+        self.assertEqual(self.studio.read(), GOOD.encode())
+
+    def test_backup_is_no_way_out(self):
+        """A backup that is a link is replaced, and what it leads to stays."""
+        other = self.studio.path + "other"
+        with open(other, "w") as file:
+            file.write("other\n")
+        os.symlink(other, self.studio.path + "~")
+        self.assertEqual(self.studio.post("save", text=NEAR, force=True)[0], 200)
+        with open(other) as file:
+            self.assertEqual(file.read(), "other\n")
+        self.assertEqual(self.studio.read("~"), GOOD.encode())
+
+    def test_no_folder(self):
+        os.rename(self.studio.folder.name, self.studio.folder.name + "x")
+        status, said = self.studio.post("save", text=NEAR, force=True)
+        os.rename(self.studio.folder.name + "x", self.studio.folder.name)
+        self.assertEqual((status, "show.choreo" in said["words"]), (500, True))
+        self.assertEqual(self.studio.read(), GOOD.encode())
+
+
+class New(unittest.TestCase):
+    def test_template(self):
+        studio = Running(None)
+        self.addCleanup(studio.end)
+        text = json.loads(studio.ask("GET", "text")[2])
+        self.assertEqual((text["new"], text["stamp"], os.listdir(studio.folder.name)), (True, "", []))
+        self.assertEqual(studio.stages(text["text"])["verdict"]["status"], 0)
+        self.assertEqual(studio.post("save", text=text["text"], stamp="")[0], 200)
+        self.assertEqual(os.listdir(studio.folder.name), ["show.choreo"])
+        self.assertIn("there is no file", studio.end()[2])
+
+
+class Watching(Case):
+    WORDS = ("--program", STAND_IN, "--watch")
+
+    def events(self, link):
+        """The data of the events of a connection, one by one."""
+        for line in link:
+            if line.startswith(b"data: "):
+                yield json.loads(line[6:])
+
+    def test_follows(self):
+        link = http.client.HTTPConnection("127.0.0.1", int(self.studio.port), timeout=20)
+        link.request("GET", "/%s/events" % self.studio.token)
+        answer = link.getresponse()
+        self.assertEqual(answer.headers["Content-Type"], "text/event-stream")
+        events = self.events(answer)
+        self.assertEqual(next(events)["text"], GOOD)
+        before = time.monotonic()
+        self.studio.write(NEAR)
+        self.assertEqual(next(events)["text"], NEAR)
+        self.assertLess(time.monotonic() - before, 3)
+        os.remove(self.studio.path)
+        self.assertFalse(next(events)["there"])
+        link.close()
+
+    def test_never_writes(self):
+        self.assertEqual(self.studio.ask("POST", "save", {"text": NEAR, "force": True})[0], 403)
+        self.assertEqual(self.studio.read(), GOOD.encode())
+
+
+class Buttons(Case):
+    def test_cure(self):
+        status, made = self.studio.post("cure", text=NEAR)
+        self.assertEqual((status, made["changed"]), (200, True))
+        self.assertIn("cured in cue 1", made["said"])
+        self.assertEqual(self.studio.stages(made["text"])["verdict"]["status"], 0)
+        self.assertTrue(any(kind == "+" and "move" in words for kind, words in made["diff"]))
+        self.assertFalse(self.studio.post("cure", text=GOOD)[1]["changed"])
+
+    def test_deal(self):
+        status, made = self.studio.post("deal", text=example("grid_to_ring"))
+        self.assertEqual((status, made["status"], made["changed"]), (200, 0, True))
+        self.assertIn("dealt anew", made["said"])
+        status, made = self.studio.post("deal", text=GOOD)
+        self.assertEqual((made["changed"], "no formation" in made["said"]), (False, True))
+        self.assertEqual(self.studio.read(), GOOD.encode())
+
+    def test_fly(self):
+        """A flight with simulated drones, as docs/TOOLS.md says it of tools/fly."""
+        status, made = self.studio.post("fly", text=GOOD)
+        self.assertEqual((status, made["changed"]), (200, False))
+        self.assertIn("landed", made["said"])
+        self.assertIn("a at (0.00, 1.00, 0.00) m, disarmed, 1 start", made["said"])
+
+    def test_downloads(self):
+        status, _, plan = self.studio.ask("POST", "compile", {"text": GOOD})
+        self.assertEqual((status, plan[:7]), (200, b"plan 1\n"))
+        self.assertEqual(self.studio.post("compile", text=NEAR),
+                         (409, {"words": "error 5 pair a b cue 1 part 28 of 64"}))
+
+    def test_end(self):
+        self.assertEqual(self.studio.post("end", text="")[1], {"ended": True})
+        self.assertEqual(self.studio.process.wait(20), 0)
+
+
+class Sizes(Case):
+    def test_text(self):
+        long = GOOD + "#" * (1048576 - len(GOOD))
+        self.assertEqual(self.studio.stages(long)["verdict"]["status"], 0)
+        self.assertEqual(self.studio.stages(long + "#")["verdict"]["line"], "error 3 too-large")
+        self.assertEqual(self.studio.stages(long + "#" * 5000)["status"], 413)
+
+    def test_bodies(self):
+        for body, heads, wanted in ((b"{}", {"Content-Length": "4000000000"}, 411), (b" " * 3200000, {}, 413),
+                                    (b"{", {}, 400), (b"[]", {}, 400), (b'{"text":1}', {}, 400), (b"\xff", {}, 400),
+                                    (b"[" * 100000, {}, 400), (b'{"text":""}', {}, 400),
+                                    (b'{"text":"\\ud800","page":"p","number":1}', {}, 400),
+                                    (b'{"text":"","page":"p","number":"1"}', {}, 400),
+                                    (b"{}", {"Content-Length": "-1"}, 411), (b"{}", {"Content-Length": "x"}, 411)):
+            self.assertEqual(self.studio.ask("POST", "judge", body, **heads)[0], wanted, (body[:40], heads))
+        self.assertEqual(self.studio.stages(GOOD)["verdict"]["status"], 0)
+
+
+class Program(unittest.TestCase):
+    @wants_program
+    def test_proved(self):
+        studio = Running(GOOD, ())
+        self.addCleanup(studio.end)
+        found = studio.stages(GOOD)
+        self.assertEqual((found["verdict"]["proved"], found["notes"]["asked"], found["flight"]["flight"]["source"]),
+                         (os.path.exists(choreo.PROGRAM + ".built"), True, "play"))
+        self.assertTrue(found["notes"]["drones"][0]["speed"] > 1)  # 1.09 m/s by docs/LANGUAGE.md, How fast
+        self.assertEqual(found["notes"]["faults"], [])
+        self.assertEqual(studio.stages(NEAR)["verdict"]["line"], "error 5 pair a b cue 1 part 28 of 64")
+        fast = studio.stages(example("too_fast"))["notes"]["faults"]
+        self.assertEqual([(it["line"], it["cue"]) for it in fast], [(7, 0)])
+        status, _, certificate = studio.ask("POST", "certify", {"text": GOOD})
+        self.assertEqual((status, certificate[:10]), (200, b"version 2\n"))
+
+    @wants_program
+    def test_regions(self):
+        # The two of docs/COMMANDS.md, boxes.
+        for name, said in (("shelf", "kept regions 2"),
+                           ("shelf_straight", "error 15 region 2 drone solo cue 1 part 27 of 64")):
+            studio = Running(example(name), ("--regions", os.path.join(TOP, "examples", "shelf.regions")))
+            found = studio.stages(example(name))
+            self.assertEqual((found["regions"]["line"], len(found["flight"]["flight"]["regions"])), (said, 2))
+            studio.end()
+
+    def test_none(self):
+        studio = Running(GOOD, ("--program", os.path.join(TOP, "no_program")))
+        self.addCleanup(studio.end)
+        found = studio.stages(GOOD)
+        self.assertEqual((found["verdict"]["status"], found["verdict"]["judge"], found["verdict"]["proved"],
+                          found["verdict"]["program"]), (0, "tools", False, False))
+        self.assertEqual((found["flight"]["flight"]["source"], found["notes"]["asked"]), ("tool", False))
+        self.assertEqual(studio.stages(NEAR)["verdict"]["line"], "error 5 pair a b cue 1 part 28 of 64")
+        self.assertEqual(studio.stages("choreo 1\nx\n")["verdict"]["fault"]["word"], "bad-word")
+        self.assertEqual(studio.stages(GOOD + "%%\n")["verdict"]["status"], 11)
+        self.assertEqual(studio.post("compile", text=GOOD)[0], 409)
+        self.assertIn("NOT PROVED", studio.end()[2])
+
+    def test_record(self):
+        """Proved is a program whose record has its own SHA-256 and the last line of its proof."""
+        with tempfile.TemporaryDirectory() as folder:
+            program = os.path.join(folder, "program")
+            with open(program, "w") as file:
+                file.write("#!/bin/sh\ncat > /dev/null\necho ok drones 2 cues 1 duration_ms 2000\n")
+            os.chmod(program, 0o755)
+            with open(program, "rb") as file:
+                good = hashlib.sha256(file.read()).hexdigest()
+            for record, proved in (({"sha256": good, "rests_on": "logic=proved and so on"}, True),
+                                   ({"sha256": good, "rests_on": ""}, False),
+                                   ({"sha256": "0", "rests_on": "logic=proved "}, False), ({}, False), ([], False)):
+                with open(program + ".built", "w") as file:
+                    json.dump(record, file)
+                studio = Running(GOOD, ("--program", program))
+                self.assertEqual(studio.stages(GOOD)["verdict"]["proved"], proved, record)
+                studio.end()
+
+    def test_fails(self):
+        """A program that says nothing, and one that is ended."""
+        with tempfile.TemporaryDirectory() as folder:
+            program = os.path.join(folder, "program")
+            for body in ("kill -9 $$", "exit 1"):
+                with open(program, "w") as file:
+                    file.write("#!/bin/sh\n%s\n" % body)
+                os.chmod(program, 0o755)
+                studio = Running(GOOD, ("--program", program))
+                found = studio.stages(GOOD)
+                self.assertTrue("none" in found or found["verdict"]["status"] == 1, found)
+                studio.end()
+
+
+class Words(unittest.TestCase):
+    def run_it(self, *words):
+        """The status and standard error of the tool, where it ends by itself."""
+        done = subprocess.run([os.path.join(TOP, "tools", "studio"), *words], stdout=subprocess.PIPE,
+                              stderr=subprocess.PIPE, universal_newlines=True, timeout=30)
+        return done.returncode, done.stdout + done.stderr
+
+    def test_words(self):
+        self.assertEqual(self.run_it()[0], 2)
+        self.assertEqual(self.run_it("--port", "0", "x")[0], 2)
+        self.assertEqual(self.run_it("--port", "70000", "x")[0], 2)
+        self.assertEqual(self.run_it("--depth", "9", "x")[0], 2)
+        self.assertEqual(self.run_it("--help")[0], 0)
+        for path in ("-", TOP, os.path.join(TOP, "no", "folder", "x")):
+            status, said = self.run_it("--no-open", path)
+            self.assertEqual((status, said.startswith("studio: ")), (70, True), path)
+
+    def test_port(self):
+        first = Running(GOOD)
+        status, said = self.run_it("--no-open", "--port", first.port, first.path)
+        self.assertEqual((status, "port %s" % first.port in said), (70, True))
+        first.end()
+
+    def test_same_port(self):
+        """The same file has the same port, so that the browser finds the text that wasn't saved; two studios get two."""
+        first = Running(GOOD)
+        second = subprocess.Popen([os.path.join(TOP, "tools", "studio"), "--no-open", first.path], stdout=subprocess.PIPE,
+                                  stderr=subprocess.DEVNULL, universal_newlines=True)
+        other = re.search(r":(\d+)/", second.stdout.readline())[1]
+        second.send_signal(signal.SIGINT)
+        second.communicate(timeout=20)
+        self.assertNotEqual(first.port, other)
+        first.end()
+
+    def test_signals(self):
+        for number in (signal.SIGINT, signal.SIGTERM):
+            studio = Running(GOOD)
+            studio.stages(GOOD)
+            status, said, told = studio.end(number)
+            self.assertEqual((status, said.strip().split("\n")[-1], "Traceback" in told), (0, "studio: ended", False))
+
+
+if __name__ == "__main__":
+    unittest.main()
