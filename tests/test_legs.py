@@ -1,0 +1,347 @@
+"""tools/legs, legs.py and landings.py: ways up and down that `check` accepts, refusals that say what to change, and
+landings that are judged."""
+import math
+import os
+import random
+import re
+import subprocess
+import tempfile
+import unittest
+
+import common
+import choreo
+import curves
+import landings
+import legs
+
+ABOVE = """choreo 1
+drone a 0 0 500000 0
+drone b 0 0 1500000 0
+cue 3000
+end
+"""
+UNDER = """choreo 1
+drone a 0 0 1600000 0
+drone b -1500000 0 750000 0
+cue 4000
+end
+cue 4000
+b move 1500000 0 750000 0
+end
+cue 2000
+end
+"""
+
+
+def rules(stray=30, late=40):
+    """Rules of a show with these lines."""
+    return legs.Rules({"ellipsoid": (120, 300), "stray": (stray,), "late": (late,)})
+
+
+def up(pads, firsts, given=None):
+    """The way up of drones d0, d1 and so on."""
+    return legs.way_up(["d%d" % k for k in range(len(pads))], pads, firsts, [0] * len(pads), given or rules())
+
+
+def check(text):
+    """The status of the proved program's check, asked by itself."""
+    return subprocess.run([choreo.PROGRAM, "check"], input=text, stdout=subprocess.PIPE).returncode
+
+
+def nearest(leg):
+    """How near two ellipsoids of a leg's drones, each stage at its own instants, come to touching: below 1 they do. Two
+    that both stand on the floor aren't looked at."""
+    low, half = math.inf, leg.rules
+    for number, stage in enumerate(leg.stages):
+        at = leg.places(number)
+        for n in range(41):
+            u = n / 40
+            s = u ** 4 * (35 - 84 * u + 70 * u ** 2 - 20 * u ** 3)
+            here = {k: [v + (w - v) * s for v, w in zip(place, stage.to.get(k, place))] for k, place in at.items()}
+            for i in here:
+                for j in here:
+                    if i < j and (i in stage.to or j in stage.to or max(here[i][2], here[j][2]) > 100):
+                        a, b = here[i], here[j]
+                        low = min(low, math.hypot((a[0] - b[0]) / half.radius, (a[1] - b[1]) / half.radius,
+                                                  (a[2] - b[2]) / half.height) / 2)
+    return low
+
+
+@common.wants_program
+class Legs(unittest.TestCase):
+    def good(self, leg, whole=None):
+        """That a leg begins and ends where it should, is apart at instants that are looked at, and is accepted by
+        `check` as it would be written."""
+        self.assertGreater(nearest(leg), 1)
+        self.assertEqual(check(leg.text()), 0)
+        if whole is not None:
+            self.assertEqual(leg.whole, whole)
+        return leg
+
+    def test_all_at_once(self):
+        at = [(600 * (k % 6), 600 * (k // 6), 1000) for k in range(32)]
+        leg = self.good(up(legs.below(at), at), True)
+        self.assertEqual([(stage.kind, len(stage.to)) for stage in leg.stages], [("take-off", 32), ("go-to", 32)])
+        self.assertEqual(leg.places(), dict(enumerate(at)))
+
+    def test_back(self):
+        # The way down is the way up backwards: its stages land where the others took off.
+        at = [(700 * k, 100 * k, 1000 + 300 * k) for k in range(4)]
+        names, pads = ["d%d" % k for k in range(4)], [(650 * k, 0, 0) for k in range(4)]
+        leg = self.good(legs.way_down(names, pads, at, [0] * 4, rules()))
+        self.assertEqual(leg.places(), dict(enumerate(pads)))
+        self.assertEqual([stage.kind for stage in leg.stages], ["go-to", "landing"])
+
+    def test_above_each_other(self):
+        # The pads aside of the stack: accepted. Straight below: nobody takes off, and it says what to change.
+        firsts = [(0, 0, 500), (0, 0, 1500)]
+        self.good(up([(600, 0, 0), (0, 0, 0)], firsts))
+        with self.assertRaisesRegex(legs.NoWay, "d0 and d1 come too near: pads 0 mm apart from above, places 0; put their pads "
+                                    "[0-9]+ mm apart, or"):
+            up(legs.below(firsts), firsts)
+
+    def test_who_goes_first(self):
+        # d0's first place is above d1's pad, and lower than d1's place: d1 goes first.
+        leg = self.good(up([(900, 0, 0), (0, 0, 0)], [(0, 0, 800), (0, 900, 1500)]))
+        self.assertLess([1 in stage.to for stage in leg.stages].index(True) - 0.5,
+                        [0 in stage.to for stage in leg.stages].index(True))
+
+    def test_crossed_pads(self):
+        # Each stands below the other's place at one height: one is lifted over the other, and comes down last.
+        leg = self.good(up([(0, 0, 0), (1000, 0, 0)], [(1000, 0, 1000), (0, 0, 1000)]), False)
+        self.assertEqual([stage.kind for stage in leg.stages], ["take-off", "go-to", "take-off", "go-to", "go-to"])
+        self.assertTrue(all(len(stage.to) == 1 for stage in leg.stages))
+
+    def test_pads_have_a_rule_of_their_own(self):
+        # Two stand 400 mm apart. In the stage in which two others go aside `check` gives all pairs their lateness, also
+        # the two that stand: those aren't judged with each other.
+        pads = [(0, 0, 0), (3000, 0, 0), (1000, 0, 0), (1400, 0, 0)]
+        leg = up(pads, [(1600, 1600, 1000), (4600, 1600, 1000), *pads[2:]])
+        self.assertEqual([sorted(stage.to) for stage in leg.stages], [[0, 1]] * 2)
+        self.assertFalse(leg.whole)
+        self.assertNotEqual(check(legs.text_of(leg.names, leg.places(1), leg.yaws, leg.stages[1:], leg.rules)), 0)
+        with self.assertRaisesRegex(legs.NoWay, "pads of d0 and d1 are 100 mm apart, and 150 are wanted"):
+            up([(100 * k, 0, 0) for k in range(3)], [(700 * k, 0, 1000) for k in range(3)])
+        # 250 mm aside of one that stands a drone with this ellipsoid and stray can't go up
+        with self.assertRaisesRegex(legs.NoWay, "come too near.*put their pads [0-9]+ mm apart"):
+            up([(250 * k, 0, 0) for k in range(3)], [(700 * k, 0, 1000) for k in range(3)])
+
+    def test_an_exchange_is_named(self):
+        # Three in a row whose pads go round: with two of them exchanged all can go.
+        pads, firsts = [(0, 0, 0), (500, 0, 0)], [(500, 0, 1000), (0, 0, 1000)]
+        planner = legs.Planner(["a", "b"], pads, firsts, [0, 0], rules())
+        self.assertTrue(planner.swapped(0, 1))
+
+    def test_heights(self):
+        # Between the floor and 200 mm above it there is no first place; on the floor a drone has to stand at it.
+        for height, word in ((90, "have it 110 mm higher"), (150, "have it 50 mm higher"), (199, "have it 1 mm higher")):
+            with self.assertRaisesRegex(legs.NoWay, "a take-off needs 200: %s" % word):
+                up([(0, 0, 0)], [(0, 0, height)])
+        self.assertEqual(up([(0, 0, 0)], [(0, 0, 50)]).stages, [])
+        self.assertEqual(len(up([(0, 0, 0)], [(0, 0, 200)]).stages), 2)
+        with self.assertRaisesRegex(legs.NoWay, "100 mm aside of its pad"):
+            up([(100, 0, 0)], [(0, 0, 0)])
+
+    def test_ends_on_the_floor(self):
+        # Who ends the show on the floor stays there; a landing from 150 mm is a landing.
+        leg = legs.way_down(["a", "b"], [(0, 0, 0), (900, 0, 0)], [(500, 800, 0), (900, 0, 150)], [0, 0], rules())
+        self.assertEqual(leg.places(), {0: (500, 800, 0), 1: (900, 0, 0)})
+        self.assertTrue(all(0 not in stage.to for stage in leg.stages))
+
+    def test_ceiling(self):
+        pads, firsts, settings = [(0, 0, 0), (1000, 0, 0)], [(1000, 0, 1000), (0, 0, 1000)], {
+            "ellipsoid": (120, 300), "stray": (30,), "late": (40,)}
+        leg = up(pads, firsts, legs.Rules(settings, ceiling=1900))
+        self.assertEqual(leg.top(), 1820)
+        with self.assertRaisesRegex(legs.NoWay, "exchange the two on their pads"):
+            up(pads, firsts, legs.Rules(settings, ceiling=1800))
+
+    def test_risers(self):
+        leg = self.good(up([(0, 0, 0), (700, 0, 500)], [(0, 0, 1000), (700, 0, 1000)]))
+        self.assertEqual(leg.reversed().places(), {0: (0, 0, 0), 1: (700, 0, 500)})
+
+    def test_fixed(self):
+        # One that hovers, and isn't led, is kept clear of; where it hovers in the only column there is no way.
+        names, lasts = ["a", "b"], [(0, 0, 1500), (600, 0, 1000)]
+        leg = legs.way_down(names, legs.below(lasts), lasts, [0, 0], rules(), fixed={1})
+        self.assertTrue(all(1 not in stage.to for stage in leg.stages))
+        with self.assertRaises(legs.NoWay):
+            legs.down(names, legs.below(lasts), [(0, 0, 1500), (0, 0, 700)], [0, 0], rules(), fixed={1})
+
+    def test_by_chance(self):
+        # Pads and places by chance: what is planned is accepted as written, and apart where it is looked at.
+        chance, planned = random.Random(4), 0
+        for _ in range(25):
+            n = chance.randint(2, 6)
+            pads = [(500 * k, 500 * chance.randint(0, 2), 0) for k in range(n)]
+            firsts = [(chance.randint(0, 5) * 500, chance.randint(0, 3) * 500, chance.choice((700, 1000, 1700, 2400))) for _ in pads]
+            try:
+                leg = up(pads, firsts)
+            except legs.NoWay:
+                continue
+            planned += 1
+            back = self.good(leg).reversed()
+            self.assertIsNone(back.judge(dict(enumerate(pads))))
+            self.good(back)
+        self.assertGreater(planned, 5)
+
+    def test_packets_are_what_is_judged(self):
+        # The simulated planner flies a take-off and a go-to as the leg's show has them, to a tenth of a millimetre.
+        leg = up([(0, 0, 0)], [(40, -30, 1000)])
+        flown = choreo.flown_of(leg.text())
+        curve, t = curves.curves_of(flown)["d0"], 0
+        for number, stage in enumerate(leg.stages):
+            a, b = leg.places(number)[0], stage.to[0]
+            for n in range(11):
+                s = common.air.smooth(n / 10)
+                self.assertLess(math.dist(curve.at(t + stage.milliseconds * n / 10), [v + (w - v) * s for v, w in zip(a, b)]), 0.1)
+            t += stage.milliseconds
+
+
+@common.wants_program
+class AllLand(unittest.TestCase):
+    def of(self, text, **words):
+        flown = choreo.flown_of(text.encode() if isinstance(text, str) else text)
+        return landings.Landings(flown, [0] * len(flown.names), legs.Rules(flown.show.settings), **words)
+
+    def test_below_each_other(self):
+        # b flies through a's column from 5.5 to 6.4 s: there all fly on.
+        it = self.of(UNDER)
+        self.assertEqual([it.now(t) is None for t in (0, 4000, 5000, 5800, 6000, 6200, 7000, 10000)],
+                         [True, True, True, False, False, False, True, True])
+        self.assertEqual(it.next(5900), 6400)
+        self.assertEqual(list(it.lines()), [
+            "cue 1, 0.0 to 4.0 s: land now", "cue 2, 4.0 to 8.0 s: land now, but from 5.5 to 6.3 s fly on to 6.4 s: a and b",
+            "cue 3, 8.0 to 10.0 s: land now"])
+        self.assertEqual(self.of(ABOVE).next(0), None)
+        self.assertIn("fly on to the way down", "".join(self.of(ABOVE).lines()))
+
+    def test_carried_on(self):
+        # 2 m/s: 400 mm to brake, and 200 until it begins.
+        self.assertAlmostEqual(landings.carried(2000), 600)
+        text = "choreo 1\ndrone a 0 0 1000000 0\ncue 3000\na move 2740000 0 1000000 0\nend\n"
+        it = self.of(text)
+        middle, far = it.reach(0, 1500)
+        at = it.curves[0].at(1500)
+        self.assertTrue(240 < middle[0] - at[0] < 360 and 360 < far < 480, (middle, far))
+        self.assertLess(it.reach(0, 3000)[1], 1)
+
+    def test_speed_widens(self):
+        # Two that meet head on at 400 mm are apart where they hover so, and not at speed.
+        text = "choreo 1\ndrone a 0 0 1000000 0\ndrone b 3000000 400000 1000000 0\ncue 3000\na move 3000000 0 1000000 0\n" \
+               "b move 0 400000 1000000 0\nend\n"
+        it = self.of(text)
+        self.assertEqual([it.now(t) is None for t in (0, 1500, 3000)], [True, False, True])
+
+    def test_side_by_side_at_speed(self):
+        # Side by side at one speed they are carried on alike: half of it is stray, and not all.
+        text = "choreo 1\n" + "".join("drone d%d %d 0 1000000 0\n" % (k, 1000000 * k) for k in range(3)) + "cue 3000\n" + "".join(
+            "d%d move %d 2500000 1000000 0\n" % (k, 1000000 * k) for k in range(3)) + "end\n"
+        self.assertIsNone(self.of(text).now(1500))
+
+    def test_silent(self):
+        # b is silent and flies on below a: while b is still to come, a must not land; once b is past, it may.
+        it = self.of(UNDER)
+        self.assertIsNotNone(it.with_silent(4500, {1}))
+        self.assertIsNone(it.with_silent(6800, {1}))
+        self.assertIsNone(it.with_silent(500, {1}), "a is on the floor when b comes, 750 mm higher")
+
+    def test_what_flies_is_apart(self):
+        # Landings by chance at instants that are said to be good: each drone up to half of `late` earlier or later, carried
+        # on along its way as the simulated drones are, and as far aside as `stray` says. Their ellipsoids share no point.
+        chance, looked, nearest = random.Random(5), 0, math.inf
+        swap = "choreo 1\nstray 30\nlate 80\n" + "".join("drone d%d %d 0 %d 0\n" % (k, 450000 * k, 1000000 + 700000 * (k % 2))
+                                                        for k in range(4))
+        for dx in (250000, -200000, 150000, 0):
+            swap += "cue 1500\n" + "".join("d%d move %d %d %d 0\n" % (
+                k, 450000 * k + dx, (k % 2) * dx, 1000000 + 700000 * (k % 2)) for k in range(4)) + "end\n"
+        for text in (UNDER, swap, common.example("crossing_cured")[0], common.example("formation_change")[0]):
+            it = self.of(text)
+            low, half = it.rules, it.rules.show_late / 2
+            for _ in range(150):
+                t = chance.uniform(0, it.end)
+                if it.now(t):
+                    continue
+                rows = []
+                for k, curve in enumerate(it.curves):
+                    at = min(max(t + chance.uniform(-half, half), 0), it.end)
+                    turn = [chance.gauss(0, 1) for _ in range(3)]
+                    size = math.hypot(*turn)
+                    aside = [low.show_stray * v / size for v in turn]
+                    rows.append((curve.at(at), it.speed(k, at), aside))
+                length = landings.landing_ms([row[0][2] for row in rows]) / 1000
+                for n in range(60):
+                    seconds = length * n / 59
+                    s, here = common.air.smooth(n / 59), []
+                    for place, speed, aside in rows:
+                        size = math.hypot(*speed)
+                        on = common.air.carried_on(size / 1000, seconds) / (size / 1000) if size > 1 else 0.0
+                        here.append([v + on * w + a for v, w, a in zip((*place[:2], place[2] * (1 - s)), speed, aside)])
+                    for i in range(len(here)):
+                        for j in range(i):
+                            looked += 1
+                            nearest = min(nearest, math.hypot((here[i][0] - here[j][0]) / low.radius, (here[i][1] - here[j][1])
+                                                              / low.radius, (here[i][2] - here[j][2]) / low.height) / 2)
+        self.assertGreater(looked, 50000)
+        self.assertGreater(nearest, 1)
+
+    def test_curves_that_are_cut(self):
+        # What is judged of a silent drone is its curve, as far as the stray is larger for it; also where cues are short.
+        short = "choreo 1\ndrone a 0 0 1000000 0\ndrone b 0 3000000 1000000 0\n" + "".join(
+            "cue 400\nb move %d 3000000 %d 0\nend\n" % (200000 * (k % 2), 1000000 + 100000 * (k % 3)) for k in range(1, 20))
+        for text, silent, most in ((UNDER, 1, 4), (short, 1, 8), (common.example("eased")[0], 0, 5)):
+            it = self.of(text)
+            for t in (0, 777, 2345):
+                flown = choreo.flown_of(it.cut_text(it.times(t, 3000), {}, {silent}, 0.0))
+                more = flown.show.settings["stray"][0] - it.rules.show_stray
+                self.assertLessEqual(more, most)
+                (cut,) = curves.curves_of(flown).values()
+                for at in range(t, it.end, 7):
+                    self.assertLess(math.dist(cut.at(at - t), it.curves[silent].at(at)), more, (at, more))
+
+    def test_long_shows(self):
+        # Ten minutes: the language's thousand cues are enough.
+        it = self.of("choreo 1\ndrone a 0 0 1000000 0\ndrone b 1000000 0 1000000 0\nrepeat 60\ncue 10000\nb move 1000000 500000 1000000 0\n"
+                     "end\nend\n", step=60000)
+        self.assertIsNone(it.with_silent(100, {1}))
+
+    def test_examples(self):
+        for name in ("wave", "ring", "grid_to_ring_dealt"):
+            it = self.of(common.example(name)[0])
+            self.assertTrue(all(why is None for _, why in it.table()), name)
+
+
+@common.wants_program
+class Tool(unittest.TestCase):
+    def test_files(self):
+        with tempfile.TemporaryDirectory() as room:
+            status, out, error = common.run("tools/legs", "--out", room, "examples/crossing_cured.choreo")
+            self.assertEqual((status, error), (0, ""))
+            for name in ("up", "down"):
+                with open(os.path.join(room, name + ".choreo"), "rb") as file:
+                    self.assertEqual(check(file.read()), 0)
+            self.assertIn("way up: 2 stages, 4.0 s; judged as a whole; ", out)
+            self.assertIn("way down: 5 stages, 11.6 s; judged stage by stage", out)
+            self.assertIn("cue 2, 2.0 to 5.0 s: land now, but from 3.1 to 3.8 s fly on to 3.8 s: a and b", out)
+            pads = os.path.join(room, "pads")
+            with open(pads, "w") as file:
+                file.write("# a on a riser\na 100000 0 300000\nb 1000000 -50000 0\n")
+            status, out, _ = common.run("tools/legs", "--dry", "examples/crossing_cured.choreo", pads)
+            self.assertEqual((status, "a to (0.10, 0.00, 1.00)" in out), (0, True), out)
+            self.assertEqual(sorted(os.listdir(room)), ["down.choreo", "pads", "up.choreo"])
+            for text, said in (("a 0 0\n", "line 1: `NAME X Y Z` in micrometres is wanted"), ("a 0 0 0\n", "no pad for b")):
+                with open(pads, "w") as file:
+                    file.write(text)
+                status, _, error = common.run("tools/legs", "--dry", "examples/crossing_cured.choreo", pads)
+                self.assertEqual((status, said in error), (70, True), error)
+
+    def test_refused(self):
+        status, out, _ = common.run("tools/legs", "--dry", "-", text=ABOVE)
+        self.assertEqual(status, 16)
+        self.assertTrue(re.search("no way up: a and b come too near.*\nno way down: a and b", out), out)
+        self.assertEqual(common.run("tools/legs", "--dry", "examples/crossing.choreo")[:2][0], 5)
+        self.assertEqual(common.run("tools/legs", "--dry", "no such file")[0], 70)
+
+
+if __name__ == "__main__":
+    unittest.main()
