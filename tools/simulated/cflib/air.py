@@ -1,14 +1,17 @@
 """The simulated air, and drones that fly: their firmware's side of the packets, from memory, and the places where
 they are.
 
-A drone stands on the floor, takes off, goes to places, flies the trajectory that its own memory decodes to, lands,
-and keeps a small way off all the while. Time is that of tools/clock.py. Nothing of a drone's dynamics is simulated:
-it is where its commander has it, but for the stray that it is given.
+A drone stands on its pad, takes off, goes to places, flies the trajectory that its own memory decodes to, lands,
+and keeps a small way off all the while. Time is that of tools/clock.py. Of a drone's dynamics one thing is simulated: a
+landing begins at the setpoint with speed 0, and what flew at speed is carried on and comes back. Else a drone is where
+its commander has it, but for the stray that it is given. The commander takes off from idle alone, and refuses a landing
+while it is idle or lands; at the end of a landing it is idle, and motors stop, at whatever height.
 """
 import math
 import random
 import struct
 import threading
+import time
 
 import clock
 import firmware
@@ -18,12 +21,13 @@ EBUSY, EIO, ENOEXEC, EACCES = 16, 5, 8, 13
 MEMORIES = [(0x00, 8192), (0x10, 36), (0x12, 4096), (0x15, 4096)]
 PARAMETERS = [("commander.enHighLevel", 0x08, 0), ("kalman.resetEstimation", 0x08, 0),
               ("stabilizer.estimator", 0x08, 2)]
-LOGGED = [("stateEstimate.x", 7), ("stateEstimate.y", 7), ("stateEstimate.z", 7), ("pm.vbat", 7),
-          ("supervisor.info", 2),
+LOGGED = [("stateEstimate.x", 7), ("stateEstimate.y", 7), ("stateEstimate.z", 7), ("stateEstimate.yaw", 7),
+          ("pm.vbat", 7), ("supervisor.info", 2),
           ("kalman.varPX", 7), ("kalman.varPY", 7), ("kalman.varPZ", 7)]
 PADDING = 20  # further items of the tables, so that reading them is no single packet
 NOTHING = b"\xF3\x01\x3C"  # what an acknowledgement carries where a drone has nothing to say
 FULL, SINKS = 4.1, 0.0008  # volts, and volts a second in flight
+FORGETS, TIMEOUT, OFF = 2.0, 30.0, 1.0  # seconds: without a poll until logs go, from arming to flight, of a reboot
 # What --fault and tests can ask for; the number behind some is seconds after the start of the show.
 FAULTS = {
     "dead": "answers nothing",
@@ -47,6 +51,15 @@ FAULTS = {
     "refuses": "refuses its start",
     "falls": "its motors stop so many seconds after its start",
     "old": "has answers of an earlier upload under way",
+    "gap": "its link is gone for three seconds, so many seconds after its start, and its logs with it",
+    "sag": "says for a moment that its battery is empty, so many seconds after its start",
+    "high": "believes to be higher than it is, by so many metres",
+    "riser": "stands on a riser of half a metre",
+    "turned": "looks another way",
+    "flying": "says on the floor that it flies",
+    "auto": "arms by itself, and can't be disarmed",
+    "timeout": "disarms half a minute after it was armed, unless it flies",
+    "reboots": "starts anew once its memory was read back",
 }
 
 
@@ -54,6 +67,13 @@ def smooth(u):
     """From 0 to 1 from rest to rest."""
     u = min(1.0, max(0.0, u))
     return u ** 4 * (35 - 84 * u + 70 * u ** 2 - 20 * u ** 3)
+
+
+def carried_on(speed, seconds):
+    """How far a drone is from its setpoint, along the way that it flew, so long after this has stopped: 0.07 s of speed
+    and 0.06 s^2/m of its square at most, from memory of what others saw (0.4 m at 2 m/s)."""
+    last = 0.2 + 0.163 * speed
+    return speed * seconds * math.exp(-seconds / last)
 
 
 def segments_at(memory, offset, pieces):
@@ -78,10 +98,12 @@ class Drone:
 
     def __init__(self, world, uri, home, faults):
         self.world, self.uri, self.faults, self.lock = world, uri, faults, threading.RLock()
-        home = [home[0] + (0.5 if "astray" in faults else 0), home[1], home[2]]
+        home = [home[0] + (0.5 if "astray" in faults else 0), home[1], 0.5 if "riser" in faults else home[2]]
         self.place, self.plan, self.began, self.armed, self.cut = home, None, 0.0, False, False
         self.floor, self.flies, self.curve, self.curve_began, self.starts = home[2], False, None, None, []
         self.memories = [(kind, self.memory_bytes(b"\xFF" * size)) for kind, size in MEMORIES]
+        self.lands, self.thrown, self.hits, self.armed_at, self.off_until, self.yaw = False, None, 0.0, None, None, 0.0
+        self.polled, self.refused, self.is_read = clock.now(), [], False
         if "memory" in faults:
             self.memories.insert(2, (0x11, self.memory_bytes(b"\xFF" * 8192)))
         self.table, self.parameters = [None] * 10, [row[2] for row in PARAMETERS]
@@ -105,7 +127,18 @@ class Drone:
 
     def is_gone(self):
         """Whether its link is gone."""
-        return "dead" in self.faults or self.is_due("silent") or "lost" in self.faults and self.is_written
+        if "reboots" in self.faults and self.is_read and self.table[0] is not None:
+            self.reboot()
+        gap = self.is_due("gap") and self.flown() < self.faults["gap"] + 3
+        off = self.off_until is not None and clock.now() < self.off_until
+        return gap or off or "dead" in self.faults or self.is_due("silent") or "lost" in self.faults and self.is_written
+
+    def reboot(self):
+        """Starts anew: its memory is zero, and all that it was told is gone."""
+        del self.faults["reboots"]
+        self.memories = [(kind, self.memory_bytes(size)) for kind, size in MEMORIES]
+        self.table, self.blocks, self.up_queue, self.parameters = [None] * 10, {}, [], [row[2] for row in PARAMETERS]
+        self.safelink, self.armed, self.booted, self.off_until = False, False, clock.now(), clock.now() + OFF
 
     def planned(self, now=None):
         """Where its commander has it."""
@@ -126,6 +159,7 @@ class Drone:
 
     def is_at(self, now=None):
         """Where it is: as planned, but for its stray."""
+        self.is_idle()
         now = now or clock.now()
         at = self.planned(now)
         if self.cut or self.is_due("falls"):
@@ -133,6 +167,10 @@ class Drone:
                 self.drop()
             fallen = now - self.cut
             return [self.place[0], self.place[1], max(self.floor, self.place[2] - 4.9 * fallen * fallen)]
+        if self.thrown is not None and now >= self.thrown[0]:
+            seconds, speed = now - self.thrown[0], math.hypot(*self.thrown[1])
+            far = carried_on(speed, seconds) / speed
+            at = [v + far * w for v, w in zip(at, self.thrown[1])]
         if self.flies and self.world.stray:
             a, b = self.phase + 0.9 * now, self.phase + 0.37 * now
             way = [math.cos(a) * math.cos(b), math.sin(a) * math.cos(b), math.sin(b)]
@@ -143,11 +181,33 @@ class Drone:
 
     def drop(self):
         """The motors stop."""
-        self.place, self.cut, self.armed, self.plan = self.planned(), clock.now(), False, None
+        self.place, self.lands = self.planned(), False
+        self.cut, self.armed, self.plan = clock.now(), False, None
 
     def go(self, to, seconds):
-        """Flies from where it is to a place."""
-        self.plan = "way", clock.now(), self.planned(), to, max(0.01, seconds)
+        """Flies from where its setpoint is to a place. A way begins with speed 0, and the drone is carried on."""
+        now = clock.now()
+        here, before = self.planned(now), self.planned(now - 0.01)
+        speed = [100 * (a - b) for a, b in zip(here, before)]
+        self.thrown = (now, speed) if self.flies and 0.02 < math.hypot(*speed) < 20 else None
+        self.plan = "way", now, here, to, max(0.01, seconds)
+
+    def is_idle(self):
+        """Whether its commander has nothing to fly: on the floor, and after a landing has ended."""
+        plan = self.plan
+        if self.lands and plan is not None and clock.now() >= plan[1] + plan[4]:
+            self.end_landing(plan)
+        return self.plan is None
+
+    def end_landing(self, plan):
+        """The landing ends, and its motors stop, at whatever height it is."""
+        _, _, first, last, seconds = plan
+        if last[2] < self.floor - 0.05 and first[2] > self.floor:
+            # It met what it stands on before the end: at the speed that its way had there.
+            u = next(k / 100 for k in range(101) if first[2] + (last[2] - first[2]) * smooth(k / 100) <= self.floor)
+            rate = 140 * u ** 3 * (1 - u) ** 3 * (first[2] - last[2]) / seconds
+            self.hits = max(self.hits, rate)
+        self.place, self.plan, self.lands, self.flies = [last[0], last[1], self.floor], None, False, False
 
     # ---- the radio
 
@@ -193,8 +253,10 @@ class Drone:
         if channel == 0 and data[0] == 1:
             if not data[1] and self.flies and not self.cut and self.is_at()[2] > self.floor + 0.05:
                 self.drop()  # disarmed in the air
-            self.armed = bool(data[1]) and not {"locked", "unarmed"} & set(self.faults) and not self.cut
-            return bytes([1, 1, self.armed])
+            can = not {"locked", "unarmed"} & set(self.faults) and not self.cut
+            self.armed_at = clock.now() if data[1] and not self.armed else self.armed_at
+            self.armed = can and (bool(data[1]) or "auto" in self.faults)
+            return bytes([1, int(can), self.armed])
         return None
 
     def memory(self, channel, data):
@@ -207,7 +269,7 @@ class Drone:
         number, address = struct.unpack_from("<BI", data)
         whole = self.memories[number][1] if number < len(self.memories) else b""
         if channel == 1:
-            good = address + data[5] <= len(whole)
+            good, self.is_read = address + data[5] <= len(whole), self.is_read or 1 < data[5] < 20  # the last read
             return data[:5] + (b"\0" + bytes(whole[address:address + data[5]]) if good else bytes([EIO]))
         good = address + len(data) - 5 <= len(whole)
         if good and "forgets" not in self.faults:
@@ -254,7 +316,10 @@ class Drone:
         return data[:2] + b"\0"
 
     def log_what_is_due(self):
-        """Puts log blocks that are due into what goes up."""
+        """Puts log blocks that are due into what goes up. Where nobody polled for two seconds, they are gone."""
+        if self.is_due("gap") and clock.now() - self.polled > FORGETS:
+            self.blocks, self.up_queue = {}, []
+        self.polled = clock.now()
         for block, row in self.blocks.items():
             items, period, at = row
             if period is not None and clock.now() >= at and len(self.up_queue) < 50:
@@ -269,15 +334,26 @@ class Drone:
     def variable(self, name, now):
         """The value of a log variable at an instant."""
         group, _, item = name.partition(".")
+        if item == "yaw":
+            return self.yaw + (90.0 if "turned" in self.faults else 0.0)
         if group == "stateEstimate":
-            return self.is_at(now)["xyz".index(item)]
+            high = self.faults.get("high", 0.0) if item == "z" else 0.0
+            return self.is_at(now)["xyz".index(item)] + high
         if group == "kalman":
             return 0.05 if "unsettled" in self.faults else 0.00002
         if name == "pm.vbat":
             low = 3.3 if "empty" in self.faults else 3.0 if self.is_due("drains") else FULL
+            if self.is_due("sag") and self.flown() < self.faults["sag"] + 0.5:
+                low = 3.1
             return low - SINKS * (self.flown() or 0)
-        info = firmware.CAN_ARM * ("locked" not in self.faults) | firmware.IS_ARMED * self.armed
         flying = self.flies and not self.cut and self.is_at()[2] > self.floor + 0.05
+        if "auto" in self.faults and not self.cut:
+            self.armed = True
+        if "timeout" in self.faults and self.armed and not self.flies and now > (self.armed_at or now) + TIMEOUT:
+            self.armed = False
+        info = firmware.CAN_ARM * ("locked" not in self.faults) | firmware.IS_ARMED * self.armed
+        info |= firmware.AUTO_ARM * ("auto" in self.faults)
+        flying = flying or "flying" in self.faults
         return info | firmware.CAN_FLY * self.armed | firmware.IS_FLYING * flying | firmware.IS_TUMBLED * bool(self.cut)
 
     def command(self, channel, data):
@@ -290,7 +366,10 @@ class Drone:
         if kind == 0:
             return 0
         if kind == 3:
-            self.drop()
+            if self.is_at()[2] > self.floor + 0.05:
+                self.drop()
+            elif not self.cut:
+                self.place, self.plan, self.lands, self.flies = self.planned()[:2] + [self.floor], None, False, False
             return 0
         if kind == 6:
             number, where, form, offset, pieces = struct.unpack_from("<BBBIB", data, 1)
@@ -301,20 +380,24 @@ class Drone:
         if not self.parameters[0]:
             return 0  # the commander is off: taken, and nothing is done
         if not self.armed:
-            return ENOEXEC
+            return EBUSY
         if kind == 7 and "stays" in self.faults:
             return EBUSY
         if kind == 7 and "stuck" in self.faults or kind == 8 and "hovers" in self.faults:
             return 0
+        if kind in (7, 8) and (self.is_idle() == (kind == 8) or self.lands):
+            self.refused.append(kind)
+            return 1
         if kind in (7, 8):
             height, seconds = struct.unpack_from("<f", data, 2)[0], struct.unpack_from("<f", data, 11)[0]
-            self.flies = True
             here = self.planned()
-            self.go([here[0], here[1], max(height, self.floor)], seconds)
+            self.go([here[0], here[1], height], seconds)
+            self.flies, self.lands = True, kind == 8
             return 0
         if kind == 4:
-            x, y, z, _, seconds = struct.unpack_from("<fffff", data, 3)
+            x, y, z, yaw, seconds = struct.unpack_from("<fffff", data, 3)
             self.go([x, y, z], seconds)
+            self.flies, self.lands, self.yaw = True, False, math.degrees(yaw)
             return 0
         return self.begin(data) if kind == 5 else ENOEXEC
 
@@ -330,7 +413,7 @@ class Drone:
         if not segments:
             return ENOEXEC
         self.curve_began = clock.now() + self.world.late / 1000 * self.late_share
-        self.plan, self.flies = ("curve", self.curve_began, segments), True
+        self.plan, self.flies, self.lands, self.thrown = ("curve", self.curve_began, segments), True, False, None
         self.starts.append(self.curve_began)
         return 0
 
@@ -341,8 +424,11 @@ class World:
     def __init__(self):
         self.reset({}, {})
 
-    def reset(self, homes, faults, stray=0.0, late=0.0, loss=0.0, rate=900.0, seed=1, unplugged=()):
-        """Sets drones at places (metres) by their URIs, each with its faults and their numbers."""
+    def reset(self, homes, faults, stray=0.0, late=0.0, loss=0.0, rate=900.0, seed=1, unplugged=(), blocks=None,
+              dies=None):
+        """Sets drones at places (metres) by their URIs, each with its faults and their numbers. So many seconds after
+        the first start calls of dongle 0 don't return any more (blocks), or return and nothing is sent (dies)."""
+        self.blocks, self.dies, self.nearest, self.watching = blocks, dies, None, False
         self.stray, self.late, self.loss, self.rate, self.unplugged = stray, late, loss, rate, unplugged
         self.chance, self.lock, self.free = random.Random(seed), threading.Lock(), {}
         self.drones = {uri: Drone(self, uri, home, faults.get(uri, {})) for uri, home in homes.items()}
@@ -351,6 +437,28 @@ class World:
         self.chance.shuffle(shares)
         for drone, share in zip(self.drones.values(), shares):
             drone.late_share = share
+
+    def ails(self, dongle, after):
+        """Whether something that comes over dongle 0 so long after the first start has come over this one."""
+        starts = [drone.starts[0] for drone in self.drones.values() if drone.starts]
+        return str(dongle) == "0" and after is not None and bool(starts) and clock.now() >= min(starts) + after
+
+    def watch(self):
+        """Notes how near two drones of which one flies come to each other, looking all the while."""
+        self.watching = True
+        threading.Thread(target=self.look, daemon=True).start()
+
+    def look(self):
+        """Looks, every twenty-five real milliseconds."""
+        while self.watching:
+            time.sleep(0.025)
+            rows = [(drone.is_at(), drone) for drone in list(self.drones.values())]
+            for k, (at, drone) in enumerate(rows):
+                for n, (other, second) in enumerate(rows[:k]):
+                    if max(at[2] - drone.floor, other[2] - second.floor) > 0.15:
+                        far = math.dist(at, other)
+                        if self.nearest is None or far < self.nearest[0]:
+                            self.nearest = far, n, k
 
     def lines(self, names):
         """Where the drones are, whether they are armed, how often they began a trajectory, and how long after the
@@ -361,6 +469,12 @@ class World:
             yield "simulated: %s at (%.2f, %.2f, %.2f) m, %s, %d start%s%s" % (
                 name, *drone.is_at(), "cut" if drone.cut else "armed" if drone.armed else "disarmed",
                 len(drone.starts), "" if len(drone.starts) == 1 else "s", after)
+            if drone.hits:
+                yield "simulated: %s hit what it stands on at %.1f m/s" % (name, drone.hits)
+        self.watching = False
+        if self.nearest:
+            yield "simulated: nearest two of which one flew: %s and %s, %.2f m" % (
+                names[self.nearest[1]], names[self.nearest[2]], self.nearest[0])
 
     def take_turn(self, dongle):
         """Waits for a dongle's next transfer."""
@@ -375,7 +489,7 @@ class World:
         """A packet to a drone: whether it was acknowledged, and what came back."""
         lost, lost_back = self.take_turn(uri.split("/")[2])
         drone = self.drones.get(uri)
-        if lost or drone is None or drone.is_gone():
+        if lost or drone is None or drone.is_gone() or self.ails(uri.split("/")[2], self.dies):
             return False, b""
         came = drone.poll(raw)
         return (False, b"") if lost_back else (True, came)
@@ -387,6 +501,7 @@ class World:
         for uri, drone in self.drones.items():
             if uri.split("/")[2:4] == [str(dongle), str(channel)] and "deaf" not in drone.faults:
                 is_deaf = drone.is_gone() or "deafens" in drone.faults and drone.flies
+                is_deaf = is_deaf or self.ails(dongle, self.dies)
                 if not is_deaf and self.chance.random() >= self.loss ** 4:
                     with drone.lock:
                         drone.take(raw)

@@ -2,6 +2,7 @@
 import queue
 import re
 import threading
+import time
 
 import clock
 
@@ -63,7 +64,9 @@ class _RadioDriverThread(threading.Thread):
         self.safelink = False
 
     def exchange(self, data):
-        """A transfer, with safelink's numbers."""
+        """A transfer, with safelink's numbers; none ends where the dongle is gone and the library waits for it."""
+        while air.WORLD.ails(self.uri.split("/")[2], air.WORLD.blocks):
+            time.sleep(0.05)
         if not self.safelink:
             return air.WORLD.transfer(self.uri, data)
         ack, came = air.WORLD.transfer(self.uri, bytes([data[0] & 0xF3 | self.up << 3 | self.down << 2]) + data[1:])
@@ -122,6 +125,8 @@ class _SharedRadioInstance:
         self.rate = dr
 
     def send_packet(self, data):
+        while air.WORLD.ails(self.devid, air.WORLD.blocks):
+            time.sleep(0.05)
         if self.address == (0xFF, 0xE7, 0xE7, 0xE7, 0xE7):
             air.WORLD.broadcast(self.devid, self.channel, bytes(data))
 
