@@ -7,6 +7,7 @@ import runpy
 import struct
 import sys
 import tempfile
+import threading
 import time
 import unittest
 import unittest.mock
@@ -300,6 +301,62 @@ class Links(Closed):
         self.assertTrue(all(begin <= one.starts[-1] <= end for one in common.drones(self.flown)))
         radio.close()
 
+    def test_broadcast_over_a_dongle_that_is_gone(self):
+        # Its calls never return: the other dongle's drones get the packet all the same, in time, and it is named.
+        where = [uri.replace("//0", "//%d" % k) for k, uri in enumerate(common.world(self.flown))]
+        air.WORLD.reset({uri: [start[0] / 1e6, start[1] / 1e6, 0.0] for uri, start in zip(where, self.flown.starts)}, {}, blocks=0.0)
+        radio = crazyradio.Radio(self.flown.names, where)
+        for one, data, segments in zip(air.WORLD.drones.values(), self.flown.data(), self.flown.sent):
+            one.armed, one.parameters[0], one.table[0] = True, 1, (1, 1, 0, len(segments))
+            one.memories[2][1][:len(data)] = data
+        first, second = air.WORLD.drones.values()
+        first.begin(bytes(START[1:]))  # from now on dongle 0 is gone
+        begin = time.monotonic()
+        with self.assertRaisesRegex(crazyradio.Dead, "dongle 0 doesn't send"):
+            radio.broadcast(START)
+        self.assertLess(time.monotonic() - begin, 0.8)
+        self.assertEqual((len(first.starts), len(second.starts)), (1, 1))
+        begin = time.monotonic()
+        with contextlib.redirect_stdout(io.StringIO()) as out:
+            radio.close()
+        self.assertLess(time.monotonic() - begin, 8)
+        self.assertIn("closing failed: a dongle doesn't answer", out.getvalue())
+        air.WORLD.blocks = None  # the driver's thread goes on, and ends
+        until = time.monotonic() + 5
+        while radiodriver.OPEN and time.monotonic() < until:
+            time.sleep(0.05)
+
+    def test_questions_that_are_dropped(self):
+        # What is asked again and again isn't asked any more once it isn't wanted.
+        where = common.world(self.flown)
+        radio, _ = opened(self.flown, where)
+        common.drone(self.flown, "b").faults["dead"] = 0
+        begin, failed = clock.now(), []
+
+        def ask():
+            try:
+                radio.ask(1, firmware.COMMANDER, 0, firmware.group(), 1, seconds=60)
+            except crazyradio.Dead as error:
+                failed.append(error)
+        thread = threading.Thread(target=ask)
+        thread.start()
+        clock.wait(1)
+        radio.drop()
+        thread.join(5)
+        self.assertEqual(len(failed), 1)
+        self.assertLess(clock.now() - begin, 20)
+        with self.assertRaises(KeyboardInterrupt):  # what the look raises ends the wait
+            radio.each(lambda drone: clock.wait(20), unittest.mock.Mock(side_effect=KeyboardInterrupt))
+        radio.close()
+
+    def test_crowded(self):
+        where = common.world(self.flown)
+        radio, _ = opened(self.flown, where)
+        self.assertEqual(radio.crowded(), [])
+        with unittest.mock.patch.object(crazyradio, "MANY", 1):
+            self.assertEqual(radio.crowded(), [("0", 2)])
+        radio.close()
+
 
 class Starts(unittest.TestCase):
     def test_lines(self):
@@ -575,6 +632,7 @@ class Addresses(unittest.TestCase):
     def test_addresses(self):
         x, y = "radio://0/80/2M/E7E7E7E701", "radio://0/80/2M/E7E7E7E702"
         self.assertEqual(self.of("# drones\na %s\nb %s # the new one\n" % (x, y)), [x])
+        self.assertEqual(self.of("a radio://0/80/2M/e7E7e7e701\n"), [x])
         for text, words in (("a\n", "line 1"), ("a %s\na %s\n" % (x, y), "line 2"), ("a %s\nb %s\n" % (x, x), "line 2"),
                             ("b %s\n" % x, "for a"), ("a usb://0\n", "line 1: usb://0 isn't radio://"),
                             ("a radio://0/80/2M/E7E7\n", "isn't radio://")):

@@ -23,6 +23,7 @@ import queue
 import random
 import re
 import threading
+import time
 
 import clock
 import firmware
@@ -34,7 +35,10 @@ QUIET = 2.0  # seconds without any packet until a drone counts as silent
 LOOK = 0.05  # seconds between two looks at who is silent
 BROADCAST = (0xFF, 0xE7, 0xE7, 0xE7, 0xE7)
 RATES = {"250K": 0, "1M": 1, "2M": 2}
-URI = re.compile("radio://[0-9]+/[0-9]+/(250K|1M|2M)/[0-9A-F]{10}")
+URI = re.compile("radio://[0-9]+/[0-9]+/(250K|1M|2M)/[0-9A-Fa-f]{10}")
+LIMIT = 0.3  # real seconds in which a dongle has sent a broadcast, or counts as gone
+CLOSES = 3.0  # real seconds in which all is closed, or left open
+MANY = 15  # drones of one dongle above which somebody is to know
 
 
 def addresses(path, names):
@@ -43,6 +47,8 @@ def addresses(path, names):
     with open(path, encoding="utf-8") as lines:
         for number, line in enumerate(lines, 1):
             words = line.partition("#")[0].split()
+            if len(words) == 2 and URI.fullmatch(words[1]):
+                words[1] = words[1][:-10] + words[1][-10:].upper()
             if words and (len(words) != 2 or words[0] in found or words[1] in found.values()):
                 raise ValueError("%s, line %d: `NAME URI` is wanted, each once" % (path, number))
             found.update([words] if words else [])
@@ -57,6 +63,54 @@ def addresses(path, names):
 
 class Dead(Exception):
     """Drones that don't answer."""
+
+
+class Dongle:
+    """A dongle with a channel and a rate, opened once more for broadcasts. It is used by a thread of its own: where it
+    was pulled out, the library's calls may never return."""
+
+    def __init__(self, number, channel, rate):
+        self.name, self.shared, self.jobs = "dongle %s" % number, None, queue.Queue()
+        self.thread = threading.Thread(target=self.run, args=(int(number), int(channel), RATES[rate]), daemon=True)
+        self.thread.start()
+
+    def run(self, number, channel, rate):
+        """Opens it, and sends what is to be sent."""
+        from cflib.crtp.radiodriver import RadioManager
+        while True:
+            job = self.jobs.get()
+            if job is None:
+                return
+            raw, copies, row, done = job
+            try:
+                if self.shared is None:
+                    # THE LEAST CERTAIN LINES HERE: the library shares one dongle among its drivers in this way (70 %).
+                    shared = RadioManager.open(number)
+                    shared.set_channel(channel)
+                    shared.set_address(BROADCAST)
+                    shared.set_data_rate(rate)
+                    self.shared = shared
+                row.append(clock.now())
+                for _ in range(copies):
+                    self.shared.send_packet(tuple(raw))
+                row.append(clock.now())
+            except Exception as error:
+                row.append(error)
+            done.set()
+
+    def send(self, raw, copies):
+        """Has a packet sent; a list that gets when the first copy went and when the last had, and an event once it
+        has."""
+        row, done = [], threading.Event()
+        self.jobs.put((raw, copies, row, done))
+        return row, done
+
+    def close(self):
+        """Closes it."""
+        self.jobs.put(None)
+        self.thread.join(LIMIT)
+        if self.shared is not None and not self.thread.is_alive():
+            self.shared.close()
 
 
 class Silence:
@@ -81,7 +135,7 @@ class Radio:
     complained of last, and `last` when it was last heard.
     """
 
-    def __init__(self, names, uris):
+    def __init__(self, names, uris, all_wanted=True):
         try:
             import cflib.crtp  # only here, so that all else runs without the library
             from cflib.crtp.crtpstack import CRTPPacket
@@ -91,11 +145,12 @@ class Radio:
         self.open, self.listeners, self.faults = True, [], {}
         self.last, self.answers, self.changed = [None] * len(names), {}, threading.Condition()
         self.waiting, self.drivers, self.threads, self.shared = [queue.Queue() for _ in names], [], [], {}
+        self.asked = 0
         try:
             if not getattr(cflib.crtp, "CLASSES", None):
                 cflib.crtp.init_drivers()
             self.connect(cflib.crtp.get_link_driver)
-            self.wait_for_all()
+            self.wait_for_all(all_wanted)
         except BaseException:
             self.close()
             raise
@@ -113,14 +168,17 @@ class Radio:
                 self.threads.append(thread)
                 thread.start()
 
-    def wait_for_all(self):
-        """Waits until each drone was heard, and names those that weren't within two seconds."""
+    def wait_for_all(self, all_wanted=True):
+        """Waits until each drone was heard, and names those that weren't within two seconds; raises where all are
+        wanted, and where none was heard."""
         silence = Silence(len(self.names), LOOK)
         while None in self.last:
             quiet = silence.look(self.last)
             self.nudge([drone for drone, last in enumerate(self.last) if last is None])
             if max(quiet) > QUIET:
                 dead = [name for name, last in zip(self.names, self.last) if last is None]
+                if not all_wanted and len(dead) < len(self.names):
+                    return
                 raise Dead("no answer from %s: on, charged, in reach, on its channel?" % ", ".join(dead))
             clock.wait(LOOK)
 
@@ -169,9 +227,9 @@ class Radio:
         key, found = (drone, port, channel, length, bytes(data[:same])), []
         with self.changed:
             self.answers[key] = found
-        until = clock.now() + seconds
+        until, asked = clock.now() + seconds, self.asked
         try:
-            while clock.now() < until:
+            while clock.now() < until and asked == self.asked:
                 self.send(drone, firmware.packet(port, channel, data))
                 with self.changed:
                     if self.changed.wait_for(lambda: found, clock.real(ANSWER)):
@@ -182,8 +240,19 @@ class Radio:
         raise Dead("%s doesn't answer a question on port %d: %s" % (
             self.names[drone], port, self.faults.get(drone, "packets are lost")))
 
-    def each(self, work):
-        """What a function gives for each drone, side by side; the first failure is raised once all have ended."""
+    def drop(self):
+        """Has all questions end that are still put again: what they ask isn't wanted any more."""
+        self.asked += 1
+        for waiting in self.waiting:
+            try:
+                while True:
+                    waiting.get_nowait()
+            except queue.Empty:
+                pass
+
+    def each(self, work, look=None):
+        """What a function gives for each drone, side by side; the first failure is raised once all have ended. All the
+        while `look` is called, where one is given, and what it raises ends the wait."""
         out, failed = [None] * len(self.names), []
 
         def run(drone):
@@ -195,7 +264,10 @@ class Radio:
         for thread in threads:
             thread.start()
         for thread in threads:
-            thread.join()
+            thread.join(0.02 if look else None)
+            while thread.is_alive():
+                look()
+                thread.join(0.02)
         if failed:
             raise failed[0]
         return out
@@ -213,40 +285,65 @@ class Radio:
         self.ask(drone, firmware.MEMORY, 1, firmware.read(memory, mark, 1), 5, length=7)
         self.ask(drone, firmware.COMMANDER, 0, firmware.group() + bytes([0x80 | mark & 0x7F]), 3)
 
-    def share_radios(self):
-        """Opens each dongle once more, for broadcasts."""
-        from cflib.crtp.radiodriver import RadioManager
-        for radio, channel, rate in sorted({tuple(uri.split("/")[2:5]) for uri in self.uris}):
-            # THE LEAST CERTAIN LINES HERE: the library shares one dongle among its drivers in this way (70 %).
-            shared = self.shared[radio, channel, rate] = RadioManager.open(int(radio))
-            shared.set_channel(int(channel))
-            shared.set_address(BROADCAST)
-            shared.set_data_rate(RATES[rate])
+    def dongles(self):
+        """The dongles, channels and rates of all drones, opened for broadcasts."""
+        for key in sorted({tuple(uri.split("/")[2:5]) for uri in self.uris}):
+            if key not in self.shared:
+                self.shared[key] = Dongle(*key)
+        return list(self.shared.values())
+
+    def crowded(self):
+        """The dongles with more drones than are usual, and how many these are."""
+        counts = {}
+        for uri in self.uris:
+            counts[uri.split("/")[2]] = counts.get(uri.split("/")[2], 0) + 1
+        return [(number, count) for number, count in sorted(counts.items()) if count > MANY]
+
+    def broadcast_beside(self, raw, copies=1):
+        """Has a packet sent to all drones at once, so many times, by each dongle, and returns at once: for each dongle
+        its row and its event."""
+        return [(dongle, *dongle.send(raw, copies)) for dongle in self.dongles()]
 
     def broadcast(self, raw, copies=1):
-        """Sends a packet to all drones at once, so many times, by each radio and channel; when the first went out and
-        when the last had. It has no answer by itself; drones answer by their own links."""
-        if not self.shared:
-            self.share_radios()
-        begin = clock.now()
-        for copy in range(copies):
-            for shared in self.shared.values():
-                shared.send_packet(tuple(raw))
-        return begin, clock.now()
+        """Sends a packet to all drones at once, so many times, by each dongle and channel; when the first went out and
+        when the last had. It has no answer by itself; drones answer by their own links. A dongle that doesn't send it
+        in time is named, after all others have sent it."""
+        sent, until, gone = self.broadcast_beside(raw, copies), time.monotonic() + LIMIT, []
+        for dongle, row, done in sent:
+            if not done.wait(max(0.0, until - time.monotonic())):
+                gone.append("%s doesn't send" % dongle.name)
+            elif isinstance(row[-1], Exception):
+                gone.append("%s: %s" % (dongle.name, row[-1]))
+        if gone:
+            raise Dead("; ".join(gone))
+        return min(row[0] for _, row, _ in sent), max(row[1] for _, row, _ in sent)
 
     def close(self):
-        """Closes all that was opened."""
+        """Closes all that was opened, as far as it can be closed in time."""
         self.open = False
         for waiting in self.waiting:
             waiting.put(None)
+        closing = [threading.Thread(target=self.close_one, args=(it,), daemon=True)
+                   for it in [*self.drivers, *self.shared.values()]]
+        until = time.monotonic() + CLOSES
         for thread in self.threads:
-            thread.join(3)
-        for driver in [*self.drivers, *self.shared.values()]:
-            try:
-                driver.close()
-            except Exception as error:
-                print("radio: closing failed: %s" % error)
+            thread.join(max(0.01, until - time.monotonic()))
+        until = time.monotonic() + CLOSES
+        for thread in closing:
+            thread.start()
+        for thread in closing:
+            thread.join(max(0.01, until - time.monotonic()))
+        if any(thread.is_alive() for thread in closing):
+            print("radio: closing failed: a dongle doesn't answer")
         self.drivers, self.shared = [], {}
+
+    @staticmethod
+    def close_one(driver):
+        """Closes a driver."""
+        try:
+            driver.close()
+        except Exception as error:
+            print("radio: closing failed: %s" % error)
 
 
 class Link(Asked):
