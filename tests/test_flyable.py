@@ -46,6 +46,13 @@ class Warnings(unittest.TestCase):
         text = b"choreo 1\ndrone a 0 0 1000 0\ncue 2000\na move 1000 0 1000 0\nend\n"
         self.assertEqual(flyable.warning(STAND_IN, text), "all is within 10 mm of the origin: lengths are micrometres")
 
+    def test_above_each_other(self):
+        rows = ["choreo 1", "drone a 0 0 1000000 0", "drone b 100000 0 2000000 0", "cue 1000", "end", ""]
+        self.assertEqual(flyable.warning(STAND_IN, "\n".join(rows).encode()), "a and b begin 100 mm apart from above: "
+                         "tools/legs SHOW PADS says from which pads they can go up")
+        rows[2] = "drone b 241000 0 2000000 0"
+        self.assertIsNone(flyable.warning(STAND_IN, "\n".join(rows).encode()))
+
     def test_several(self):
         text = b"choreo 1\ndrone a 0 0 -1000 0\ncue 1\na line 1000 0 -1000 0\nend\n"
         self.assertEqual(flyable.warning(STAND_IN, text), "line 3, cue 1: a jumps by 1.00 m/s on x, more than 0.3; "

@@ -1,5 +1,6 @@
 """./show with a stand-in for rt and one for the program: what is built and when, what signals leave, words and files.
 The real rt is not run here."""
+import contextlib
 import os
 import pty
 import re
@@ -438,6 +439,24 @@ class Words(Processes):
         self.calls()
         self.assertEqual(self.show("chek", "good")[:2], (2, ""))
         self.assertEqual(self.calls(), [])
+
+    def test_upload_at_a_terminal(self):
+        # It would write frames there: nothing of the show is read, and the tool that carries them is named.
+        child, terminal = pty.fork()
+        if child == 0:
+            os.chdir(self.place)
+            os.execvpe("./show", ["./show", "upload", "good"], self.settings(self.place))
+        out = b""
+        with contextlib.suppress(OSError):  # at the end of a terminal
+            while True:
+                came = os.read(terminal, 4096)
+                if not came:
+                    break
+                out += came
+        os.close(terminal)
+        _, status = os.waitpid(child, 0)
+        self.assertEqual((os.waitstatus_to_exitcode(status), out.decode().replace("\r", "")), (
+            2, "show: upload writes frames for a bridge, and nothing for people: tools/bridge good\nerror 2 usage\n"))
 
     def test_files(self):
         self.assertEqual(self.show("verify", "good", "bad")[1:2], ("error 3 line 2 bad-number\n",))

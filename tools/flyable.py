@@ -2,6 +2,7 @@
 those of the program's `dynamics`, places those of the tools' own reader."""
 import re
 import subprocess
+from math import hypot
 
 import choreo
 from curves import powers
@@ -16,9 +17,10 @@ def line_of_cue(flown, cue):
     return flown.cues[min(cue, len(flown.cues)) - 1].number
 
 
-def motion(program, flown, text):
-    """What `dynamics` refuses with these limits, or None."""
-    words = ["dynamics", "--accel", str(MOST["accel"]), "--jump", str(MOST["jump"])]
+def motion(program, flown, text, most=None):
+    """What `dynamics` refuses with limits, those of MOST where none are given, or None."""
+    most = most or MOST
+    words = ["dynamics", "--accel", str(most["accel"]), "--jump", str(most["jump"])]
     done = subprocess.run([program, *words], input=text, stdout=subprocess.PIPE, stderr=subprocess.DEVNULL)
     found = re.match(rb"error 18 drone (\S+) cue (\d+) (accel|jump) ([xyz]) (\d+)\n", done.stdout)
     if not found:
@@ -27,7 +29,7 @@ def motion(program, flown, text):
     said = "needs up to %.2f m/s^2 on %s, more than %g" if what == "accel" else "jumps by %.2f m/s on %s, more than %g"
     when = "cue %s" % cue if int(cue) <= len(flown.cues) else "the end"
     return "line %d, %s: %s %s" % (line_of_cue(flown, int(cue)), when, name,
-                                   said % (int(number) / 1e6, axis, MOST[what] / 1000))
+                                   said % (int(number) / 1e6, axis, most[what] / 1000))
 
 
 def lowest(row):
@@ -57,11 +59,25 @@ def small(flown):
     return None
 
 
+def stacked(flown):
+    """The first two drones that begin so near to each other from above that they can't go up below their places, or
+    None; `tools/legs` plans their ways, and judges them."""
+    (radius, _), (stray,) = flown.show.settings["ellipsoid"], flown.show.settings["stray"]
+    for k, (name, flight) in enumerate(zip(flown.names, flown.sent)):
+        for other, second in zip(flown.names[:k], flown.sent):
+            far = hypot(*(flight[0][1][axis][0] - second[0][1][axis][0] for axis in (0, 1)))
+            if far <= 2 * (radius + stray):
+                return "%s and %s begin %.0f mm apart from above: tools/legs SHOW PADS says from which pads they can " \
+                       "go up" % (other, name, far)
+    return None
+
+
 def warning(program, text):
     """The line on what no drone flies, or None where nothing of that is found."""
     try:
         flown = choreo.flown_of(text)
     except choreo.Refused:
         return None
-    found = [words for words in (motion(program, flown, text), below(flown), small(flown)) if words]
+    found = [words for words in (motion(program, flown, text), below(flown), small(flown),
+                                 None if small(flown) else stacked(flown)) if words]
     return "; ".join(found) or None
