@@ -120,8 +120,9 @@ def arm(on):
     return bytes([1, 1 if on else 0])
 
 
-# The bits of the log variable supervisor.info (85 %).
-CAN_ARM, IS_ARMED, AUTO_ARM, CAN_FLY, IS_FLYING, IS_TUMBLED, IS_LOCKED = (1 << k for k in range(7))
+# The bits of the log variable supervisor.info (85 %; the last one is of newer firmware, 65 %).
+CAN_ARM, IS_ARMED, AUTO_ARM, CAN_FLY, IS_FLYING, IS_TUMBLED, IS_LOCKED, IS_CRASHED = (1 << k for k in range(8))
+WRECKED = IS_TUMBLED | IS_LOCKED | IS_CRASHED
 
 
 # ---- the high-level commander, port 8 channel 0 (90 %); metres, seconds, radians

@@ -7,12 +7,17 @@ import threading
 
 import clock
 import firmware
+from crazyradio import ANSWER
 
 FLIGHT, SETTLING = 1, 2  # log blocks
 MARK = 0x5A  # a byte by which the answer to a broadcast is told from others
-LOGGED = {FLIGHT: ["stateEstimate.x", "stateEstimate.y", "stateEstimate.z", "pm.vbat", "supervisor.info"],
+LOGGED = {FLIGHT: ["stateEstimate.x", "stateEstimate.y", "stateEstimate.z", "stateEstimate.yaw", "pm.vbat",
+                   "supervisor.info"],
           SETTLING: ["kalman.varPX", "kalman.varPY", "kalman.varPZ"]}
-OPTIONAL = ("supervisor.info",)  # old firmware hasn't it
+OPTIONAL = ("supervisor.info", "stateEstimate.yaw")  # old firmware hasn't them all
+REVIVE = 1.0  # seconds without samples of a drone whose link is heard, after which its blocks are made anew
+SAME_FLOOR = 0.03  # metres between floors up to which all may be landed by one broadcast
+TAKEN = (0, 1)  # statuses of a landing: carried out; refused, since the drone lands already or is on the floor
 WRAP = 2 ** 24  # milliseconds after which a drone's stamps begin anew
 HISTORY = 20  # samples that are kept to see whether a drone is settled
 
@@ -22,14 +27,24 @@ class Trouble(Exception):
 
 
 class State:
-    """What a drone said of itself last: place in metres, volts, the supervisor's bits or None, and the estimator's
-    variances, with when it was heard; `places` are its last ones. `measured` is when the place was measured, by the
-    drone's own clock: its packets are late by chance, and the least late one sets that clock."""
+    """What a drone said of itself last: place in metres, yaw in degrees, volts, the supervisor's bits or None, and the
+    estimator's variances, with when it was heard; `low` is since when all samples were below its least voltage, and
+    `places` are its last ones. `measured` is when the place was measured, by the drone's own clock: its packets are
+    late by chance, and the least late one sets that clock."""
 
     def __init__(self):
         self.place, self.volts, self.info, self.heard, self.measured = None, None, None, None, None
-        self.places, self.variances = [], []
+        self.places, self.variances, self.yaw, self.low, self.least_volts = [], [], None, None, 0.0
         self.stamp, self.least = None, None
+
+    def weigh(self, volts, at):
+        """Notes a voltage: under thrust single samples sag."""
+        self.volts = volts
+        self.low = None if volts >= self.least_volts else self.low if self.low is not None else at
+
+    def is_empty(self, seconds):
+        """Whether the voltage was too low for so long."""
+        return self.low is not None and self.heard - self.low >= seconds
 
     def measure(self, heard, stamp):
         """Notes when a sample came, and the drone's milliseconds in it, which begin anew after WRAP."""
@@ -90,6 +105,7 @@ class Fleet:
         self.radio, self.names, self.log = radio, radio.names, log
         self.states, self.tables, self.kinds = [State() for _ in self.names], {}, [{} for _ in self.names]
         self.started, self.heard_broadcast, self.lock = {}, set(), threading.Lock()
+        self.every, self.revived, self.told = 100, [0.0] * len(self.names), []
         radio.listeners.append(self.came)
 
     # ---- what drones say
@@ -114,8 +130,9 @@ class Fleet:
             state.variances = (state.variances + [max(values)])[-HISTORY:]
             return
         state.place = [by_name["stateEstimate." + axis] for axis in "xyz"]
-        state.volts, state.info = by_name["pm.vbat"], by_name.get("supervisor.info")
+        state.info, state.yaw = by_name.get("supervisor.info"), by_name.get("stateEstimate.yaw")
         state.measure(clock.now(), stamp)
+        state.weigh(by_name["pm.vbat"], state.heard)
         state.places = (state.places + [state.place])[-HISTORY:]
         self.log.put(state.heard, self.names[drone], state.place, stamp)
 
@@ -143,11 +160,40 @@ class Fleet:
             data = firmware.write_parameter(*found, value)
             self.radio.ask(drone, firmware.PARAMETERS, 2, data, 2)
 
-    def begin_logs(self, drone, milliseconds):
+    def reset_estimator(self, drone):
+        """Has a drone's estimator begin anew, where it has one that can."""
+        self.set(drone, "kalman.resetEstimation", 1)
+        clock.wait(0.1)
+        self.set(drone, "kalman.resetEstimation", 0)
+
+    def revive(self):
+        """Makes the logs of drones anew that are heard and send no samples: a link that was gone for two seconds, or a
+        drone that started anew, has lost them."""
+        now = clock.now()
+        for drone, state in enumerate(self.states):
+            last = self.radio.last[drone]
+            if last is None or now - last > REVIVE or state.heard is None or now - state.heard < REVIVE:
+                continue
+            if now - self.revived[drone] < 3 * REVIVE:
+                continue
+            self.revived[drone] = now
+            threading.Thread(target=self.try_logs, args=(drone,), daemon=True).start()
+
+    def try_logs(self, drone):
+        """Makes a drone's logs anew, if it lets that be done."""
+        try:
+            self.begin_logs(drone, self.every, (FLIGHT,))
+        except Exception:
+            pass
+
+    def begin_logs(self, drone, milliseconds, blocks=(FLIGHT, SETTLING)):
         """Has a drone send its places, battery and estimator's variances."""
+        self.every = milliseconds
         table = self.table(drone, firmware.LOGS)
         self.radio.ask(drone, firmware.LOGS, 1, firmware.RESET_LOGS, 1)
         for block, names in LOGGED.items():
+            if block not in blocks:
+                continue
             missing = [name for name in names if name not in table and name not in OPTIONAL]
             if missing:
                 raise Trouble("%s has no log %s: another firmware or estimator?" % (
@@ -181,21 +227,48 @@ class Fleet:
     # ---- commands
 
     def command(self, drone, data, word):
-        """A command to one drone, until it is answered."""
+        """A command to one drone, until it is answered; when it went out first and when it was answered. A take-off
+        that is asked for once more, since its answer was lost, is refused: then it was taken."""
+        begin = clock.now()
         answer = self.radio.ask(drone, firmware.COMMANDER, 0, data, 3, seconds=2)
-        if answer[3]:
+        again = answer[3] == 1 and clock.now() - begin > 0.9 * ANSWER
+        if answer[3] and not again:
             raise Trouble("%s refuses to %s: status %d" % (self.names[drone], word, answer[3]))
+        return begin, clock.now()
 
-    def arm(self, on, drones):
-        """Arms or disarms drones; which of them aren't as they should be afterwards, by their own supervisors."""
-        self.radio.each(lambda drone: drone in drones and self.radio.ask(
-            drone, firmware.PLATFORM, 0, firmware.arm(on), 1, seconds=2))
-        until = clock.now() + 2
+    def commands(self, rows, word, look):
+        """Commands to drones, side by side: data by drone. The seconds within which all went out and were answered."""
+        times = self.radio.each(lambda k: self.command(k, rows[k], word) if k in rows else None, look)
+        times = [row for row in times if row]
+        return max(row[1] for row in times) - min(row[0] for row in times)
+
+    def holds(self, drone, memory, data):
+        """Whether a drone's memory still begins with these bytes: one that started anew has lost them."""
+        data = data[:20]
+        return self.radio.ask(drone, firmware.MEMORY, 1, firmware.read(memory[0], memory[1], len(data)), 5, seconds=2,
+                              length=6 + len(data))[6:] == data
+
+    def arm(self, on, drones, look=None):
+        """Arms or disarms drones; which of them aren't as they should be afterwards, by their own supervisors, or
+        didn't answer where they have none. A drone that arms by itself can't be disarmed."""
+        quiet = set()
+
+        def arm(drone):
+            try:
+                return drone in drones and self.radio.ask(drone, firmware.PLATFORM, 0, firmware.arm(on), 1, seconds=2)
+            except Exception:
+                quiet.add(drone)
+        self.radio.each(arm, look)
+        until, wrong = clock.now() + 2, []
         while clock.now() < until:
-            wrong = [self.names[drone] for drone in drones if self.states[drone].info is not None
-                     and bool(self.states[drone].info & firmware.IS_ARMED) != on]
+            wrong = [self.names[drone] for drone in drones if (
+                drone in quiet if self.states[drone].info is None else
+                bool(self.states[drone].info & firmware.IS_ARMED) != on
+                and (on or not self.states[drone].info & firmware.AUTO_ARM))]
             if not wrong:
                 break
+            if look:
+                look()
             clock.wait(0.05)
         return wrong
 
@@ -223,37 +296,50 @@ class Fleet:
         except Exception:
             pass
 
-    def try_broadcast(self, raw, copies):
-        """A broadcast that is followed by commands to each drone, so that nothing rests on it."""
+    def beside(self, raw, copies):
+        """A broadcast that goes out beside commands to each drone, so that nothing rests on it, nor waits for it."""
         try:
-            self.radio.broadcast(raw, copies)
+            self.radio.broadcast_beside(raw, copies)
         except Exception:
             pass
 
-    def land(self, floors, drones, speed=0.4, least=2.0):
-        """Lands drones where they are, each by a command of its own, and before that by a broadcast where all land. The
-        seconds that it takes, and who didn't answer."""
-        highest = max([state.place[2] - floor for state, floor in zip(self.states, floors) if state.place] or [2.0])
-        seconds, quiet = max(least, highest / speed), []
-        if len(drones) == len(self.names):
-            self.try_broadcast(firmware.packet(firmware.COMMANDER, 0, firmware.land(min(floors), seconds)), 2)
+    def land(self, floors, drones, seconds=None, speed=0.4, least=2.0):
+        """Lands drones where they are, each by a command of its own, and beside that by a broadcast where all land on
+        floors of one height. The seconds that it takes, who didn't answer, and who refused, with the status."""
+        self.radio.drop()
+        highest = max([self.states[k].place[2] - floors[k] for k in drones if self.states[k].place] or [2.0])
+        seconds, quiet, refused = seconds or max(least, highest / speed), [], []
+        if len(drones) == len(self.names) and max(floors) - min(floors) <= SAME_FLOOR:
+            self.beside(firmware.packet(firmware.COMMANDER, 0, firmware.land(min(floors), seconds)), 2)
 
         def land(drone):
+            if drone not in drones:
+                return
             try:
-                if drone in drones:
-                    self.radio.ask(drone, firmware.COMMANDER, 0, firmware.land(floors[drone], seconds), 3, seconds=1.5)
+                status = self.radio.ask(
+                    drone, firmware.COMMANDER, 0, firmware.land(floors[drone], seconds), 3, seconds=1.5)[3]
+                if status not in TAKEN:
+                    refused.append("%s with status %d" % (self.names[drone], status))
             except Exception:
                 quiet.append(self.names[drone])
         self.radio.each(land)
-        return seconds, quiet
+        return seconds, quiet, refused
+
+    def rest(self, drones):
+        """Has the commanders of drones that are down stop: some let motors idle until then."""
+        for drone in drones:
+            self.radio.send(drone, firmware.packet(firmware.COMMANDER, 0, firmware.STOP))
 
     def cut(self):
         """Stops all motors, at once and for good: each drone falls, and has to be started anew."""
+        self.radio.drop()
         for port, channel, data in ((firmware.PLACES, 1, firmware.EMERGENCY_STOP),
                                     (firmware.COMMANDER, 0, firmware.STOP)):
             raw = firmware.packet(port, channel, data)
-            self.try_broadcast(raw, 2)
-            for _ in range(3):
+            for drone in range(len(self.names)):
+                self.radio.send(drone, raw)
+            self.beside(raw, 2)
+            for _ in range(2):
                 for drone in range(len(self.names)):
                     self.radio.send(drone, raw)
         clock.wait(0.5)
