@@ -385,7 +385,7 @@ class Buttons(Case):
         status, made = self.studio.post("fly", text=GOOD)
         self.assertEqual((status, made["changed"]), (200, False))
         self.assertIn("landed", made["said"])
-        self.assertIn("a at (0.00, 1.00, 0.00) m, disarmed, 1 start", made["said"])
+        self.assertIn("a at (0.00, 0.00, 0.00) m, disarmed, 1 start", made["said"])
 
     def test_downloads(self):
         status, _, plan = self.studio.ask("POST", "compile", {"text": GOOD})
