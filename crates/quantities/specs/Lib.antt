@@ -1,0 +1,4 @@
+pub mod Units
+pub mod Quantities
+pub mod Laws
+pub mod Steps

@@ -1,0 +1,118 @@
+-- Quantities: decimal numbers with a unit, which are a whole number of what a place counts.
+use Rattle.std.specs.Prelude.{◌≡◌, ℕ, ◌*◌, ◌/◌, ◌%◌, ◌^◌, ◌<◌, ◌⊎◌, Bool, true, false, List, [], ◌∷◌, ◌++◌, length, take, drop, ◌==◌, Option, Some, None, option_map, Result, ℤ, pos, ◌≤ℤ◌, int_le, ◌&&◌, if◌then◌else◌}
+use Rattle.std.specs.List.{prefix_len}
+use Rattle.text_lines.specs.Numbers.{is_digit, natural_of, signed, begins_with_minus, number_of, in_range}
+use Rattle.text_lines.specs.declared.number.NumberFault.{NumberFault}
+use Rattle.quantities.specs.declared.unit.Counts.{Counts}
+use Rattle.quantities.specs.Units.{Measure, measure_of}
+
+-- What a quantity is.
+
+-- the sign of a word: `-`, or nothing
+abbrev pub sign : Bool → List ℕ
+sign true = 45 ∷ []
+sign false = []
+
+-- a point and the digits after it, or nothing where there are none
+abbrev pub point : List ℕ → List ℕ
+point [] = []
+point (d ∷ ds) = 46 ∷ d ∷ ds
+
+-- The word is a sign, digits, perhaps a point and more digits, and a unit. Without their point the digits are a whole
+-- number. The size of the value is that number, divided by ten for each digit after the point, as its unit counts.
+pub record IsMeasured (counts : Counts) (word : List ℕ) (value : ℤ) : Type 0 where
+  pub negative : Bool
+  pub whole : List ℕ
+  pub fraction : List ℕ
+  pub unit : List ℕ
+  pub digits : ℕ
+  pub measure : Measure
+  pub size : ℕ
+  pub word_is : word ≡ sign negative ++ (whole ++ (point fraction ++ unit))
+  pub some : 0 < length whole
+  pub digits_are : natural_of (whole ++ fraction) ≡ Some digits
+  pub unit_is : measure_of counts unit ≡ Some measure
+  pub size_is : size * (measure.units * 10 ^ length fraction) ≡ digits * measure.counted
+  pub value_is : value ≡ signed negative size
+
+-- the word is this value, where a place counts this: zeros alone, or a number with a unit
+abbrev pub IsQuantity : Counts → List ℕ → ℤ → Type 0
+IsQuantity counts word value = ((number_of word ≡ Some value) × (value ≡ pos 0)) ⊎ IsMeasured counts word value
+
+-- the word is this value, which lies from low to high
+pub record IsQuantityIn (counts : Counts) (low high : ℤ) (word : List ℕ) (value : ℤ) : Type 0 where
+  pub is : IsQuantity counts word value
+  pub from : low ≤ℤ value
+  pub to : value ≤ℤ high
+
+-- The value of a word, as a function.
+
+-- the digits that some bytes begin with
+abbrev pub front_digits : List ℕ → List ℕ
+front_digits bytes = take (prefix_len is_digit bytes) bytes
+
+-- what stands after them
+abbrev pub after_digits : List ℕ → List ℕ
+after_digits bytes = drop (prefix_len is_digit bytes) bytes
+
+abbrev pub is_empty : List ℕ → Bool
+is_empty [] = true
+is_empty (b ∷ bs) = false
+
+abbrev pub begins_with_point : List ℕ → Bool
+begins_with_point [] = false
+begins_with_point (b ∷ bs) = b == 46
+
+-- a quotient, where it is a whole number
+abbrev pub exactly : ℕ → ℕ → Option ℕ
+exactly a b = if a % b == 0 then Some (a / b) else None
+
+-- digits of which so many stand after the point, and their unit
+abbrev pub size_by : Option ℕ → ℕ → Option Measure → Option ℕ
+size_by (Some digits) places (Some measure) = exactly (digits * measure.counted) (measure.units * 10 ^ places)
+size_by digits places measure = None
+
+-- digits before the point and after it, and their unit
+abbrev pub size_with : Counts → List ℕ → List ℕ → List ℕ → Option ℕ
+size_with counts whole fraction unit =
+    size_by (natural_of (whole ++ fraction)) (length fraction) (measure_of counts unit)
+
+-- digits before the point, and what stands after it
+abbrev pub size_at_point : Counts → List ℕ → List ℕ → Option ℕ
+size_at_point counts whole rest =
+    if is_empty (front_digits rest) then None else size_with counts whole (front_digits rest) (after_digits rest)
+
+-- the digits in front, and what stands after them
+abbrev pub size_at : Counts → List ℕ → List ℕ → Option ℕ
+size_at counts whole rest =
+    if begins_with_point rest then size_at_point counts whole (drop 1 rest) else size_with counts whole [] rest
+
+-- a word without its sign
+abbrev pub size_of : Counts → List ℕ → Option ℕ
+size_of counts bytes =
+    if is_empty (front_digits bytes) then None else size_at counts (front_digits bytes) (after_digits bytes)
+
+-- a number with a unit
+abbrev pub measured_of : Counts → List ℕ → Option ℤ
+measured_of counts word =
+    if begins_with_minus word
+    then option_map (signed true) (size_of counts (drop 1 word))
+    else option_map (signed false) (size_of counts word)
+
+-- the first of two values that there is
+abbrev pub or_else : Option ℤ → Option ℤ → Option ℤ
+or_else (Some value) later = Some value
+or_else None later = later
+
+-- a value that is zero
+abbrev pub zero_alone : Option ℤ → Option ℤ
+zero_alone None = None
+zero_alone (Some value) = if int_le (pos 0) value && int_le value (pos 0) then Some value else None
+
+-- zeros alone, or a number with a unit
+abbrev pub quantity_of : Counts → List ℕ → Option ℤ
+quantity_of counts word = or_else (zero_alone (number_of word)) (measured_of counts word)
+
+-- the quantity that a word is, or what is wrong with it
+abbrev pub quantity_in : Counts → ℤ → ℤ → List ℕ → Result ℤ NumberFault
+quantity_in counts low high word = in_range low high (quantity_of counts word)
