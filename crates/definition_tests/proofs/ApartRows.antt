@@ -4,19 +4,16 @@ use Rattle.fleet_math.specs.Bernstein.{bernstein}
 use Rattle.fleet_math.specs.Decoded.{decoded}
 use Rattle.fleet_math.specs.Moments.{moment}
 use Rattle.definition_tests.specs.Apart.{LateRows, MarginRows, StrayRows, TouchRows}
-use Rattle.definition_tests.specs.Flights.{flight, place}
-use Rattle.speed_bound.specs.Reach.{ReachLaw}
-use Rattle.sep_certificate.specs.Laws.{CertificateLaw}
-use Rattle.definition_tests.proofs.KeptRows.{behind_apart, beside_apart}
+use Rattle.definition_tests.specs.Flights.{flight}
+use Rattle.definition_tests.specs.Places.{place}
 
-pub late : CertificateLaw → ReachLaw → LateRows
+pub late : LateRows
 unfolding bernstein decoded moment
-late law reaches = record {
+late = record {
   together = record { before = omega arith; after = omega arith };
   not_together = λ together. let before = together.before in absurd (omega (arith, before));
   together_turned = record { before = omega arith; after = omega arith };
   not_together_turned = λ together. let after = together.after in absurd (omega (arith, after));
-  apart = behind_apart law reaches;
   touch_turned = λ apart.
       let share = apart 0 1 (flight (pos 7) (pos 17)) (flight (pos 0) (pos 10)) (λ e. absurd (omega (arith, e))) refl refl 0 1 5 1 (omega arith) (omega arith) (omega arith) (omega arith)
       (record { before = omega arith; after = omega arith }) (place (pos 7) (pos 0) (pos 0)) (place (pos 5) (pos 0) (pos 0))
@@ -29,12 +26,11 @@ late law reaches = record {
       let low = share.apart in absurd (omega (arith, low));
 }
 
-pub stray : CertificateLaw → ReachLaw → StrayRows
+pub stray : StrayRows
 unfolding bernstein decoded moment
-stray law reaches = record {
+stray = record {
   near = record { some = omega arith; near = omega arith };
   far = λ may. let near = may.near in absurd (omega (arith, near));
-  apart = beside_apart law reaches;
   touch = λ apart.
       let share = apart 0 1 (flight (pos 0) (pos 0)) (flight (pos 7) (pos 7)) (λ e. absurd (omega (arith, e))) refl refl 0 1 0 1 (omega arith) (omega arith) (omega arith) (omega arith)
       (record { before = omega arith; after = omega arith }) (place (pos 3) (pos 0) (pos 0)) (place (pos 4) (pos 0) (pos 0))

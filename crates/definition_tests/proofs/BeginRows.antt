@@ -1,16 +1,18 @@
 -- Small uploads, computed.
-use Rattle.std.proofs.Common.{◌≡◌, ℕ, suc, zero, ◌+◌, false, true, None, Some, [], ◌∷◌, take, arith, refl, sym, ◌∙◌, slice_get}
+use Rattle.std.proofs.Common.{◌≡◌, ℕ, suc, zero, ◌+◌, ◌<◌, List, false, true, Option, None, Some, [], ◌∷◌, ap, get_or, take, arith, refl, sym, ◌∙◌, slice_get}
 use Rattle.upload_model.specs.declared.events.WorldEvent.{WorldEvent}
 use Rattle.upload_model.specs.declared.events.WorldEvent.TheVariants.{Take, Hear}
 use Rattle.crtp_packets.specs.Commands.{start_of}
-use Rattle.upload_model.specs.Readback.{is_right}
+use Rattle.upload_model.specs.Readback.{WasRight, is_right}
+use Rattle.std.proofs.lemmas.List.Elements.{All-cons, All-head, All-nil}
+use Rattle.upload_model.specs.Taking.{AcceptsLoad, IsAccepted}
 use Rattle.upload_model.specs.Theorem.{TakesStart}
-use Rattle.upload_model.specs.Drones.{handled}
+use Rattle.upload_model.specs.Drones.{DroneState, handled}
 use Rattle.upload_model.specs.Hosts.{acked, acked_from, acknowledges, all_packets, all_settled, ending, flight_at, flight_in, out, phase_of, progress, progress_within, ticks}
 use Rattle.upload_model.specs.Replies.{reply_in, reply_to}
 use Rattle.upload_model.specs.Sessions.{packet_at, packet_count, part_count, read_count, write_count}
 use Rattle.upload_model.specs.Worlds.{happens, host_event, start_world, world}
-use Rattle.definition_tests.specs.Begins.{BeginRows, SafeRows, blank, loaded, session, started}
+use Rattle.definition_tests.specs.Begins.{BeginRows, OrderRows, ReadRows, SafeRows, blank, byte_after, loaded, reading, session, started}
 
 -- the number of the packet that is taken
 number_of : (m n : ℕ) → Take 0 m ≡ Take 0 n → n ≡ m
@@ -46,10 +48,53 @@ begins = record {
   one = λ i j e f is at takes also. only_fourth i e is takes ∙ sym (only_fourth j f at also);
   two = λ one. let same : 4 ≡ 5 = one 4 5 (Take 0 2) (Take 0 2) refl refl (2, refl, refl) (2, refl, refl) in absurd (omega (arith, same));
   altered = λ unaltered. unaltered 1 0 1 2 refl;
+  accepted = refl;
+  refused = refl;
+}
+
+-- in either order the write and the define are accepted
+accepts : AcceptsLoad session 0 (blank 0) (1 ∷ 0 ∷ [])
+unfolding handled packet_at write_count
+accepts zero below = (1, refl, refl)
+accepts (suc zero) below = (0, refl, refl)
+accepts (suc (suc k)) below = absurd (let low : suc (suc k) < 2 = below in omega (arith, low))
+
+-- the define isn't among these
+no_define : IsAccepted session 0 (blank 0) (0 ∷ 2 ∷ []) 1 → ⊥
+no_define (zero, is, answered) = let e : ◌≡◌ {A = Option ℕ} (Some 0) (Some 1) = is in let f : ◌≡◌ {A = ℕ} 0 1 = cc in omega (arith, f)
+no_define (suc zero, is, answered) = let e : ◌≡◌ {A = Option ℕ} (Some 2) (Some 1) = is in let f : ◌≡◌ {A = ℕ} 2 1 = cc in omega (arith, f)
+no_define (suc (suc i), is, answered) = let e : ◌≡◌ {A = Option ℕ} None (Some 1) = is in cc
+
+-- the status of an answer to a command
+abbrev status_of : Option (List ℕ) → ℕ
+status_of None = 9
+status_of (Some answer) = get_or answer 4 9
+
+-- the start isn't accepted at any place of these
+early : IsAccepted session 0 (blank 0) (2 ∷ 0 ∷ 1 ∷ []) 2 → ⊥
+unfolding handled packet_at packet_count write_count read_count part_count
+early (zero, is, answered) = let same : ◌≡◌ {A = ℕ} 2 0 = ap status_of answered in omega (arith, same)
+early (suc zero, is, answered) = let e : ◌≡◌ {A = Option ℕ} (Some 0) (Some 2) = is in let f : ◌≡◌ {A = ℕ} 0 2 = cc in omega (arith, f)
+early (suc (suc zero), is, answered) = let e : ◌≡◌ {A = Option ℕ} (Some 1) (Some 2) = is in let f : ◌≡◌ {A = ℕ} 1 2 = cc in omega (arith, f)
+early (suc (suc (suc i)), is, answered) = let e : ◌≡◌ {A = Option ℕ} None (Some 2) = is in cc
+
+pub orders : OrderRows
+unfolding handled part_count write_count read_count packet_at packet_count
+orders = record {
+  none = refl;
+  once = refl;
+  twice = refl;
+  early = refl;
+  from_before = refl;
+  counted = refl;
+  accepts = accepts;
+  no_define = λ all. no_define (all 1 (omega arith));
+  refused = early;
+  own = (All-cons (λ k. k < 3) 2 [] (omega arith) (All-nil (λ k. k < 3)), λ own. let low : 3 < 3 = All-head (λ k. k < 3) 3 [] own in omega (arith, low));
 }
 
 -- the writes and the define acknowledge no read
-unread : (i n : ℕ) → slice_get loaded i ≡ Some (Hear 0 n) → is_right (record session { readback = true }) (world (record session { readback = true }) blank (take (i + 1) loaded)).heard 0 0 ≡ true → ⊥
+unread : (i n : ℕ) → slice_get loaded i ≡ Some (Hear 0 n) → is_right reading (world reading blank (take (i + 1) loaded)).heard 0 0 ≡ true → ⊥
 unfolding handled part_count write_count read_count packet_at packet_count reply_in reply_to all_settled phase_of flight_in flight_at acknowledges acked_from acked ticks all_packets ending progress_within progress out start_world host_event happens
 unread zero n is right = absurd (let e : Some (Take 0 0) ≡ Some (Hear 0 n) = is in cc)
 unread (suc zero) n is right = absurd (let e : false ≡ true = right in cc)
@@ -64,5 +109,15 @@ safe = record {
   outside = λ safe. let same : 254 ≡ 255 = (safe.only 0 (omega arith)).outside 3 (λ inside. let high = inside.1 in absurd (omega (arith, high))) in absurd (omega (arith, same));
   not_loaded = λ safe. let same : 255 ≡ 1 = safe.loaded 0 (omega arith) refl 0 (omega arith) in absurd (omega (arith, same));
   not_started = λ safe. let same : None ≡ Some 0 = safe.started 0 (omega arith) refl refl in absurd (cc);
+}
+
+-- a read that was right found the bytes of the load
+pub found : (drones : ℕ → DroneState) (events : List WorldEvent) → WasRight reading drones events 0 0 →
+    (i : ℕ) × (byte_after drones (take i events) 0 ≡ 1) × (byte_after drones (take i events) 1 ≡ 2) × (byte_after drones (take i events) 2 ≡ 3)
+found drones events right = (right.given_at, right.had 0 (omega arith), right.had 1 (omega arith), right.had 2 (omega arith))
+
+pub reads : ReadRows
+reads = record {
+  found = found;
   unread = λ right. unread right.heard_at right.n right.hears right.after;
 }

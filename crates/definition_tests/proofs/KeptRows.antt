@@ -1,6 +1,6 @@
 -- Two drones 7 mm apart, by a certificate of one leaf: the direction of x.
 use Rattle.std.proofs.lemmas.Grind.{common_steps}
-use Rattle.std.proofs.Common.{◌≡◌, ℕ, zero, suc, ℤ, pos, ◌≤◌, List, [], ◌∷◌, All, get_or, arith, refl}
+use Rattle.std.proofs.Common.{◌≡◌, ℕ, zero, suc, pos, ◌≤◌, List, [], ◌∷◌, ◌++◌, All, ap, get_or, length, length-append, subst, arith, refl}
 use Rattle.std.proofs.lemmas.List.Elements.{All-cons, All-nil}
 use Rattle.fleet_math.specs.Bernstein.{bernstein}
 use Rattle.bezier_core.specs.Raised.{raised_value}
@@ -13,16 +13,19 @@ use Rattle.fleet_curves.proofs.Standing.{stands}
 use Rattle.sep_parts.specs.Apart.{FlyApart, KeepReach, MovesWithin}
 use Rattle.sep_parts.specs.Directions.{AreSmall, root_above}
 use Rattle.sep_parts.specs.Slots.{slots}
-use Rattle.sep_parts.specs.Trees.Tree.{leaf}
-use Rattle.sep_parts.specs.declared.clearance.Clearance.{Clearance}
-use Rattle.sep_parts.specs.declared.node.Node.TheVariants.{Leaf}
+use Rattle.sep_parts.specs.Trees.Tree.{leaf, split}
+use Rattle.sep_parts.specs.declared.node.Node.{Node}
+use Rattle.sep_parts.specs.declared.node.Node.TheVariants.{Leaf, Split}
+use Rattle.sep_parts.specs.Levels.{root}
+use Rattle.sep_parts.specs.Trees.{IsValidTree, Tree, preorder}
 use Rattle.sep_certificate.specs.declared.certificate.Certificate.{Certificate}
-use Rattle.sep_certificate.specs.Certificates.{IsValid}
+use Rattle.sep_certificate.specs.Certificates.{IsValid, rules_of}
 use Rattle.sep_certificate.specs.Laws.{CertificateLaw}
 use Rattle.speed_bound.specs.Reach.{IsMoving, ReachLaw, reach, reach_of}
 use Rattle.speed_bound.specs.Speed.{segment_speed, speed, speed_of, widest_step}
 use Rattle.speed_bound.proofs.Reaches.{formed_of}
-use Rattle.definition_tests.specs.Apart.{behind, beside}
+use Rattle.definition_tests.specs.Apart.{ApartRows, behind, beside}
+use Rattle.definition_tests.specs.Certified.{ValidRows, along_x, kept, with_trees}
 use Rattle.definition_tests.specs.Flights.{flight}
 
 -- ---- the trajectories
@@ -47,7 +50,7 @@ show from to from' to' = record {
   same_times = two (λ (t : Traj). durations t.segments ≡ 10 ∷ []) _ _ refl refl;
 }
 
-stand : (from to from' to' : ℕ) → from ≤ 17 → to ≤ 17 → from' ≤ 17 → to' ≤ 17 →
+pub stand : (from to from' to' : ℕ) → from ≤ 17 → to ≤ 17 → from' ≤ 17 → to' ≤ 17 →
     CurvesStandFor (raised_of (flight (pos from) (pos to) ∷ flight (pos from') (pos to') ∷ [])) (flight (pos from) (pos to) ∷ flight (pos from') (pos to') ∷ [])
 unfolding raised_of
 stand from to from' to' a b c d =
@@ -58,7 +61,7 @@ stand from to from' to' a b c d =
 -- ---- the certificate
 
 -- what holds of each number up to seven
-to_seven : (P : ℕ → Type 0) → P 0 → P 1 → P 2 → P 3 → P 4 → P 5 → P 6 → P 7 → (k : ℕ) → k ≤ 7 → P k
+pub to_seven : (P : ℕ → Type 0) → P 0 → P 1 → P 2 → P 3 → P 4 → P 5 → P 6 → P 7 → (k : ℕ) → k ≤ 7 → P k
 to_seven P a b c d e f g h zero small = a
 to_seven P a b c d e f g h (suc zero) small = b
 to_seven P a b c d e f g h (suc (suc zero)) small = c
@@ -69,14 +72,11 @@ to_seven P a b c d e f g h (suc (suc (suc (suc (suc (suc zero)))))) small = g
 to_seven P a b c d e f g h (suc (suc (suc (suc (suc (suc (suc zero))))))) small = h
 to_seven P a b c d e f g h (suc (suc (suc (suc (suc (suc (suc (suc k)))))))) small = absurd (omega (arith, small))
 
-to_two : (P : ℕ → Type 0) → P 0 → P 1 → P 2 → (k : ℕ) → k ≤ 2 → P k
+pub to_two : (P : ℕ → Type 0) → P 0 → P 1 → P 2 → (k : ℕ) → k ≤ 2 → P k
 to_two P a b c zero small = a
 to_two P a b c (suc zero) small = b
 to_two P a b c (suc (suc zero)) small = c
 to_two P a b c (suc (suc (suc k))) small = absurd (omega (arith, small))
-
-abbrev along_x : List ℤ
-along_x = pos 1 ∷ pos 0 ∷ pos 0 ∷ []
 
 small_x : All AreSmall (along_x ∷ [])
 small_x = All-cons AreSmall along_x [] (record {
@@ -85,10 +85,7 @@ small_x = All-cons AreSmall along_x [] (record {
 }) (All-nil AreSmall)
 
 abbrev one_leaf : Certificate
-one_leaf = record { version = 2; depth = 0; trees = (Leaf 0 ∷ []) ∷ [] }
-
-abbrev kept : ℕ → ℕ → ℕ → Clearance
-kept stray late reach_x = record { r = 1; h = 1; stray = stray; late = late; reach = reach_x ∷ 0 ∷ 0 ∷ [] }
+one_leaf = with_trees ((Leaf 0 ∷ []) ∷ [])
 
 behind_valid : IsValid (along_x ∷ []) (raised_of behind) (kept 0 4 4) one_leaf
 unfolding raised_of slots difference root_above polar bernstein raised_value
@@ -97,6 +94,52 @@ behind_valid = ((leaf 0, refl, to_seven _ (omega arith) (omega arith) (omega ari
 beside_valid : IsValid (along_x ∷ []) (raised_of beside) (kept 2 0 0) one_leaf
 unfolding raised_of slots difference root_above polar bernstein raised_value
 beside_valid = ((leaf 0, refl, to_seven _ (omega arith) (omega arith) (omega arith) (omega arith) (omega arith) (omega arith) (omega arith) (omega arith)), tt)
+
+-- a leaf of these numbers is a leaf of the first direction
+leaf_is : (n : ℕ) → ◌≡◌ {A = List Node} (Leaf 0 ∷ []) (Leaf n ∷ []) → n ≡ 0
+leaf_is n same = cc
+
+no_split : (nodes : List Node) → ◌≡◌ {A = List Node} (Leaf 0 ∷ []) (Split ∷ nodes) → ⊥
+no_split nodes same = cc
+
+no_leaf : (n : ℕ) → ◌≡◌ {A = List Node} (Split ∷ Leaf 0 ∷ []) (Leaf n ∷ []) → ⊥
+no_leaf n same = cc
+
+some_node : (tree : Tree) → 1 ≤ length (preorder tree)
+some_node (leaf n) = let one : 1 ≤ 1 = omega arith in one
+some_node (split left right) = let more : 1 ≤ suc (length (preorder left ++ preorder right)) = omega arith in more
+
+late_leaf : (tree : Tree) → (Leaf 0 ∷ []) ≡ preorder tree → IsValidTree (rules_of (kept 0 5 5) one_leaf) (along_x ∷ []) (difference (raised_of behind) 0 1 0) root tree → ⊥
+unfolding raised_of slots difference root_above polar bernstein raised_value
+late_leaf (split left right) spelled valid = no_split (preorder left ++ preorder right) spelled
+late_leaf (leaf n) spelled valid =
+    let here = subst (λ (m : ℕ). IsValidTree (rules_of (kept 0 5 5) one_leaf) (along_x ∷ []) (difference (raised_of behind) 0 1 0) root (leaf m)) (leaf_is n spelled) valid in
+    let low = here 0 (omega arith) in omega (arith, low)
+
+strayed_leaf : (tree : Tree) → (Leaf 0 ∷ []) ≡ preorder tree → IsValidTree (rules_of (kept 3 0 0) one_leaf) (along_x ∷ []) (difference (raised_of beside) 0 1 0) root tree → ⊥
+unfolding raised_of slots difference root_above polar bernstein raised_value
+strayed_leaf (split left right) spelled valid = no_split (preorder left ++ preorder right) spelled
+strayed_leaf (leaf n) spelled valid =
+    let here = subst (λ (m : ℕ). IsValidTree (rules_of (kept 3 0 0) one_leaf) (along_x ∷ []) (difference (raised_of beside) 0 1 0) root (leaf m)) (leaf_is n spelled) valid in
+    let low = here 0 (omega arith) in omega (arith, low)
+
+half_a_tree : (tree : Tree) → (Split ∷ Leaf 0 ∷ []) ≡ preorder tree → ⊥
+half_a_tree (leaf n) spelled = no_leaf n spelled
+half_a_tree (split left right) spelled =
+    let nodes : 2 ≡ suc (length (preorder left ++ preorder right)) = ap length spelled in
+    omega (arith, nodes, length-append (preorder left) (preorder right), some_node left, some_node right)
+
+pub valid : ValidRows
+unfolding raised_of slots
+valid = record {
+  behind_by_four = behind_valid;
+  behind_by_five = λ valid. late_leaf valid.0.0 valid.0.1 valid.0.2;
+  strayed_by_two = beside_valid;
+  strayed_by_three = λ valid. strayed_leaf valid.0.0 valid.0.1 valid.0.2;
+  no_tree = λ valid. absurd valid;
+  half_a_tree = λ valid. half_a_tree valid.0.0 valid.0.1;
+  two_trees = λ valid. absurd valid.1;
+}
 
 -- ---- the reach
 
@@ -109,7 +152,7 @@ behind_reach law k d inside = to_two _ (moves 0 (omega arith)) (moves 1 (omega a
   moves : (axis : ℕ) → axis ≤ 2 → MovesWithin 4 (reach_of 0 4 behind axis) (get_or behind k d) axis
   moves = law 0 4 behind (all_moving 0 10 7 17 (omega arith) (omega arith) (omega arith) (omega arith)) k d inside
 
-pub behind_apart : CertificateLaw → ReachLaw → FlyApart 1 1 0 4 behind
+behind_apart : CertificateLaw → ReachLaw → FlyApart 1 1 0 4 behind
 behind_apart law reaches =
     law.apart (along_x ∷ []) (raised_of behind) (kept 0 4 4) one_leaf small_x behind_valid behind (stand 0 10 7 17 (omega arith) (omega arith) (omega arith) (omega arith)) (behind_reach reaches)
 
@@ -119,6 +162,9 @@ beside_reach law k d inside = to_two _ (moves 0 (omega arith)) (moves 1 (omega a
   moves : (axis : ℕ) → axis ≤ 2 → MovesWithin 0 (reach_of 0 0 beside axis) (get_or beside k d) axis
   moves = law 0 0 beside (all_moving 0 0 7 7 (omega arith) (omega arith) (omega arith) (omega arith)) k d inside
 
-pub beside_apart : CertificateLaw → ReachLaw → FlyApart 1 1 2 0 beside
+beside_apart : CertificateLaw → ReachLaw → FlyApart 1 1 2 0 beside
 beside_apart law reaches =
     law.apart (along_x ∷ []) (raised_of beside) (kept 2 0 0) one_leaf small_x beside_valid beside (stand 0 0 7 7 (omega arith) (omega arith) (omega arith) (omega arith)) (beside_reach reaches)
+
+pub apart : CertificateLaw → ReachLaw → ApartRows
+apart law reaches = record { late_by_four = behind_apart law reaches; strayed_by_two = beside_apart law reaches }

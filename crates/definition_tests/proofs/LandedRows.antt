@@ -1,12 +1,19 @@
 -- What is not stored, computed.
-use Rattle.std.proofs.Common.{◌≡◌, pos, None, Some, arith, refl}
+use Rattle.std.proofs.Common.{◌≡◌, ℕ, pos, None, Some, ap, get_or, arith, refl}
 use Rattle.fleet_math.specs.Bernstein.{bernstein}
 use Rattle.fleet_math.specs.Decoded.{decoded}
 use Rattle.fleet_math.specs.Moments.{moment}
-use Rattle.definition_tests.specs.Flights.{flight, place}
+use Rattle.traj_codec.specs.Spelling.{spelling}
+use Rattle.traj_codec.specs.declared.traj.Traj.{Traj}
+use Rattle.definition_tests.specs.Flights.{flight}
+use Rattle.definition_tests.specs.Places.{place}
 use Rattle.definition_tests.specs.Stored.{LandedRows}
 use Rattle.definition_tests.proofs.NearRows.{show}
-use Rattle.definition_tests.proofs.StoredRows.{third}
+use Rattle.definition_tests.proofs.CarriedRows.{third}
+
+-- the flights differ in the lower byte of their last number
+distinct : flight (pos 0) (pos 2) ≡ flight (pos 0) (pos 1) → ⊥
+distinct same = let bytes : ◌≡◌ {A = ℕ} 2 1 = ap (λ (t : Traj). get_or (spelling t) 11 0) same in omega (arith, bytes)
 
 pub landed : LandedRows
 unfolding bernstein decoded moment
@@ -15,6 +22,8 @@ landed = record {
   other_byte = λ g readback start is. let same = (is.untouched 0 (omega arith)).outside 18 (λ inside. let high = inside.1 in absurd (omega (arith, high))) in absurd (omega (arith, same));
   not_started = λ g readback old is. let started : None ≡ Some 0 = is.started refl 0 (omega arith) in absurd (cc);
   far = λ readback start old new is. show.x is.near;
+  other = λ g readback start old new is decodes. let same = is.only 0 (flight (pos 0) (pos 2)) (omega arith) decodes in distinct same;
+  fewer = λ readback start old new is. let count = is.near.drones in absurd (omega (arith, count));
   touching = λ g readback start old new is.
       let share = is.apart 0 1 (flight (pos 50) (pos 50)) (flight (pos 51) (pos 51)) (λ e. absurd (omega (arith, e))) refl refl 0 1 0 1 (omega arith) (omega arith) (omega arith) (omega arith)
       (record { before = omega arith; after = omega arith }) (place (pos 50) (pos 0) (pos 0)) (place (pos 51) (pos 0) (pos 0))

@@ -1,26 +1,39 @@
 -- Near and far, computed.
-use Rattle.std.proofs.Common.{◌≡◌, pos, arith}
+use Rattle.std.proofs.Common.{◌≡◌, pos, negsuc, [], arith, refl}
 use Rattle.fleet_math.specs.Bernstein.{bernstein}
 use Rattle.fleet_math.specs.Decoded.{decoded}
 use Rattle.fleet_math.specs.Moments.{moment}
 use Rattle.figure_expand.specs.Written.{end_of}
-use Rattle.definition_tests.specs.Near.{HalfRows, ShowRows}
+use Rattle.std.proofs.lemmas.List.Elements.{All-cons, All-nil}
+use Rattle.choreo_show.specs.Valid.{FitsPoint}
+use Rattle.choreo_show.specs.declared.show.DroneLine.{DroneLine}
+use Rattle.cue_grid.specs.Grids.{IsGrid}
+use Rattle.show_plan.proofs.Flight.{keeps_near_show}
+use Rattle.definition_tests.specs.Near.{ShowRows, begins_at, half_off, spot}
 
-pub half : HalfRows
-half = record {
-  above = record { below = omega arith; above = omega arith };
-  past_above = λ near. let low = near.below in absurd (omega (arith, low));
-  below = record { below = omega arith; above = omega arith };
-  past_below = λ near. let high = near.above in absurd (omega (arith, high));
-  above_over = record { below = omega arith; above = omega arith };
-  past_above_over = λ near. let low = near.below in absurd (omega (arith, low));
-  below_over = record { below = omega arith; above = omega arith };
-  past_below_over = λ near. let high = near.above in absurd (omega (arith, high));
+is_grid : IsGrid half_off
+is_grid = record {
+  some_start = omega arith;
+  few_starts = omega arith;
+  starts = All-cons (λ (s : DroneLine). FitsPoint s.at) (begins_at (spot (pos 500) (negsuc 499) (pos 0) (pos 7))) []
+      ((omega arith, omega arith), ((omega arith, omega arith), ((omega arith, omega arith), ((omega arith, omega arith), tt)))) (All-nil (λ (s : DroneLine). FitsPoint s.at));
+  some_cue = omega arith;
+  few_cues = omega arith;
+  cues = (
+    record {
+      lasts = omega arith;
+      short = omega arith;
+      count = refl;
+      jobs = (((omega arith, (omega arith, omega arith), (omega arith, omega arith), (omega arith, omega arith)), tt), tt);
+    },
+    tt,
+  );
 }
 
 pub show : ShowRows
 unfolding bernstein decoded moment end_of
 show = record {
+  everywhere = keeps_near_show half_off is_grid;
   half = record { below = omega arith; above = omega arith };
   x = λ keeps. let near = (keeps.near 0 (omega arith)).x 0 1 (omega arith) (omega arith) in let low = near.below in absurd (omega (arith, low));
   y = λ keeps. let near = (keeps.near 0 (omega arith)).y 0 1 (omega arith) (omega arith) in let high = near.above in absurd (omega (arith, high));

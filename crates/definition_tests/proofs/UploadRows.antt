@@ -45,6 +45,14 @@ own t zero two within =
     All-cons (λ k. k < n) 0 (1 ∷ []) (omega (arith, two)) (All-cons (λ k. k < n) 1 [] (omega (arith, two)) (All-nil (λ k. k < n)))
 own t (suc d) two within = absurd (omega (arith, within))
 
+-- where there is a start besides, so are these
+own_start : packet_count (session_for settings (flight (pos 0) (pos 0) ∷ []) false true) 0 ≡ 3 →
+    All (λ k. k < packet_count (session_for settings (flight (pos 0) (pos 0) ∷ []) false true) 0) (0 ∷ 1 ∷ 2 ∷ 0 ∷ [])
+own_start three =
+    let n : ℕ = packet_count (session_for settings (flight (pos 0) (pos 0) ∷ []) false true) 0 in
+    All-cons (λ k. k < n) 0 (1 ∷ 2 ∷ 0 ∷ []) (omega (arith, three)) (All-cons (λ k. k < n) 1 (2 ∷ 0 ∷ []) (omega (arith, three))
+    (All-cons (λ k. k < n) 2 (0 ∷ []) (omega (arith, three)) (All-cons (λ k. k < n) 0 [] (omega (arith, three)) (All-nil (λ k. k < n)))))
+
 -- and both are accepted
 accepted : (t : Traj) → IsAccepted (session_for settings (t ∷ []) false false) 0 (blank 0) (0 ∷ 1 ∷ []) 0 → IsAccepted (session_for settings (t ∷ []) false false) 0 (blank 0) (0 ∷ 1 ∷ []) 1 →
     (d k : ℕ) → d < 1 → k < 2 → IsAccepted (session_for settings (t ∷ []) false false) d (blank d) (0 ∷ 1 ∷ []) k
@@ -65,6 +73,7 @@ uploads = record {
   once_sent = λ fly. no_hold (fly.once_sent false true blank events [] 0 0 (λ d within. is_drone d) unaltered (omega arith) (omega arith) (2, omega arith, refl)).decodes.begins.spells.durations;
   once_accepted = λ fly. no_hold (fly.once_accepted false false (blank 0) (0 ∷ 1 ∷ []) [] 0 (is_drone 0) (omega arith) (own no_time 0 refl (omega arith))
       (λ k below. accepted no_time (0, refl, refl) (1, refl, refl) 0 k (omega arith) below)).decodes.begins.spells.durations;
+  begins_once = λ drone fly fresh accepts. fly.begins_once false true drone (0 ∷ 1 ∷ []) (2 ∷ 0 ∷ []) 0 fresh (omega arith) (own_start refl) accepts refl;
 }
   where
     by : (d k : ℕ) → d < 1 → k < packet_count (session_for settings (flight (pos 0) (pos 0) ∷ []) false false) d → IsAccepted (session_for settings (flight (pos 0) (pos 0) ∷ []) false false) d (blank d) (0 ∷ 1 ∷ []) k

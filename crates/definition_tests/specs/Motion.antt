@@ -22,8 +22,8 @@ parabola = record {
   segments = record { ms = 10; elements = Cubic (pos 0 ∷ pos 1 ∷ pos 3 ∷ []) ∷ Constant ∷ Constant ∷ Constant ∷ [] } ∷ [];
 }
 
--- Its acceleration is 6 / 100 mm per square millisecond, 6 10^7 micrometres per second squared, and not one less; it departs from its tangent by
--- half of that times the square of the time.
+-- Its acceleration is 6 / 100 mm per square millisecond, 6 10^7 micrometres per second squared, and not one less; it
+-- departs from its tangent by half of that times the square of the time.
 pub record AccelerationRows : Type 0 where
   pub keeps : KeepsAcceleration parabola 0 60000000
   pub sharper : KeepsAcceleration parabola 0 59999999 → ⊥

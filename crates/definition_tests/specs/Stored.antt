@@ -1,42 +1,26 @@
 -- What the definitions of stored flights say of small memories.
-use Rattle.std.specs.Prelude.{ℕ, ◌∷◌, ◌++◌, [], Bool, true, List, None, Some, pos}
+use Rattle.std.specs.Prelude.{◌≡◌, ℕ, ◌∷◌, [], Bool, false, true, pos}
 use Rattle.cue_grid.specs.declared.grid.Grid.{Grid}
 use Rattle.choreo_show.specs.declared.show.Settings.{Settings}
-use Rattle.traj_codec.specs.Spelling.{spelling}
-use Rattle.firmware_memory.specs.Decoded.{Carries, DecodesTo}
+use Rattle.firmware_memory.specs.Decoded.{DecodesTo}
 use Rattle.upload_model.specs.Drones.{DroneState}
 use Rattle.traj_codec.specs.Joined.{hold}
 use Rattle.traj_codec.specs.declared.traj.Traj.{Traj}
-use Rattle.show_plan.specs.Landing.{IsLanded, Lands, LandsInAnyOrder}
+use Rattle.upload_model.specs.Memories.{IsDrone}
+use Rattle.upload_model.specs.Starts.{beginnings_in}
+use Rattle.upload_model.specs.Taking.{AcceptsLoad}
+use Rattle.show_plan.specs.Landing.{IsLanded, Lands, LandsInAnyOrder, session_for}
 use Rattle.show_plan.specs.Uploading.{FlyTheirOwn}
+use Rattle.definition_tests.specs.Carried.{loaded_with}
 use Rattle.definition_tests.specs.Flights.{flight}
-use Rattle.definition_tests.specs.Near.{holding_at, spot}
-
--- A drone with an entry of one segment at the offset 2 of its memory, in which these bytes stand after a flight.
-abbrev pub loaded_with : List ℕ → DroneState
-loaded_with rest = record {
-  memory_id = 0;
-  memory = 9 ∷ 9 ∷ spelling (flight (pos 0) (pos 1)) ++ rest;
-  table = Some (record { offset = 2; pieces = 1 }) ∷ None ∷ [];
-  started = None;
-}
-
--- Where three zero bytes stand after its bytes a drone carries the flight. Where one of them is another or lacks it doesn't, though its memory
--- decodes to the flight; nor does it carry another flight, or this one under an id without an entry.
-pub record CarriesRows : Type 0 where
-  pub whole : Carries (loaded_with (0 ∷ 0 ∷ 0 ∷ 7 ∷ [])) 0 (flight (pos 0) (pos 1))
-  pub decodes : DecodesTo (loaded_with (0 ∷ 0 ∷ 1 ∷ [])) 0 (flight (pos 0) (pos 1))
-  pub third : Carries (loaded_with (0 ∷ 0 ∷ 1 ∷ [])) 0 (flight (pos 0) (pos 1)) → ⊥
-  pub first : Carries (loaded_with (1 ∷ 0 ∷ 0 ∷ [])) 0 (flight (pos 0) (pos 1)) → ⊥
-  pub two : Carries (loaded_with (0 ∷ 0 ∷ [])) 0 (flight (pos 0) (pos 1)) → ⊥
-  pub other : DecodesTo (loaded_with (0 ∷ 0 ∷ 0 ∷ [])) 0 (flight (pos 0) (pos 2)) → ⊥
-  pub unlisted : DecodesTo (loaded_with (0 ∷ 0 ∷ 0 ∷ [])) 1 (flight (pos 0) (pos 1)) → ⊥
+use Rattle.definition_tests.specs.Near.{going_to, holding_at, spot}
 
 abbrev pub settings : Settings
 settings = record { memory_id = 0; offset = 2; trajectory_id = 0; r = 1; h = 1; stray = 0; late = 0 }
 
--- A flight whose ending isn't whole is not stored, whatever the show. Nor is one of which a byte outside of the load changed, one whose drone
--- hasn't started where starts are wanted, one that isn't near to the show, or two that touch.
+-- A flight whose ending isn't whole is not stored, whatever the show. Nor is one of which a byte outside of the load
+-- changed, one whose drone hasn't started where starts are wanted, one that isn't near to the show, or two that touch.
+-- A drone's memory decodes to no other flight.
 pub record LandedRows : Type 0 where
   pub no_ending : (g : Grid) (readback start : Bool) (old : ℕ → DroneState) →
       IsLanded g settings (flight (pos 0) (pos 1) ∷ []) readback start old (λ d. loaded_with (0 ∷ 0 ∷ 1 ∷ [])) → ⊥
@@ -46,6 +30,10 @@ pub record LandedRows : Type 0 where
       IsLanded g settings (flight (pos 0) (pos 1) ∷ []) readback true old (λ d. loaded_with (0 ∷ 0 ∷ 0 ∷ [])) → ⊥
   pub far : (readback start : Bool) (old new : ℕ → DroneState) →
       IsLanded (holding_at (spot (pos 501) (pos 0) (pos 0) (pos 0))) settings (flight (pos 0) (pos 0) ∷ []) readback start old new → ⊥
+  pub other : (g : Grid) (readback start : Bool) (old new : ℕ → DroneState) →
+      IsLanded g settings (flight (pos 0) (pos 1) ∷ []) readback start old new → DecodesTo (new 0) 0 (flight (pos 0) (pos 2)) → ⊥
+  pub fewer : (readback start : Bool) (old new : ℕ → DroneState) →
+      IsLanded (going_to (spot (pos 0) (pos 0) (pos 0) (pos 0))) settings (flight (pos 0) (pos 0) ∷ []) readback start old new → ⊥
   pub touching : (g : Grid) (readback start : Bool) (old new : ℕ → DroneState) →
       IsLanded g settings (flight (pos 50) (pos 50) ∷ flight (pos 51) (pos 51) ∷ []) readback start old new → ⊥
 
@@ -53,10 +41,15 @@ pub record LandedRows : Type 0 where
 abbrev pub no_time : Traj
 no_time = record { start = pos 0 ∷ pos 0 ∷ pos 0 ∷ pos 0 ∷ []; segments = hold 0 ∷ [] }
 
--- What is said of uploads is said of some: there are uploads that are done, orders in which all is accepted, and starts that are sent. So it is
--- not true of a flight that isn't near to its show, or that can't be decoded. The last two rows say the same, and are proved by the two fields.
+-- What is said of uploads is said of some: there are uploads that are done, orders in which all is accepted, and starts
+-- that are sent. So it is not true of a flight that isn't near to its show, or that can't be decoded. Two rows say the
+-- same, and are proved by two fields. The last one says that a drone begins once, whatever it was before, by one start
+-- after its define.
 pub record UploadRows : Type 0 where
   pub lands : Lands (holding_at (spot (pos 501) (pos 0) (pos 0) (pos 0))) settings (flight (pos 0) (pos 0) ∷ []) → ⊥
   pub in_any_order : LandsInAnyOrder (holding_at (spot (pos 501) (pos 0) (pos 0) (pos 0))) settings (flight (pos 0) (pos 0) ∷ []) → ⊥
   pub once_sent : FlyTheirOwn settings (no_time ∷ []) → ⊥
   pub once_accepted : FlyTheirOwn settings (no_time ∷ []) → ⊥
+  pub begins_once : (drone : DroneState) → FlyTheirOwn settings (flight (pos 0) (pos 0) ∷ []) → IsDrone drone →
+      AcceptsLoad (session_for settings (flight (pos 0) (pos 0) ∷ []) false true) 0 drone (0 ∷ 1 ∷ []) →
+      beginnings_in (session_for settings (flight (pos 0) (pos 0) ∷ []) false true) 0 drone (0 ∷ 1 ∷ 2 ∷ 0 ∷ []) ≡ 1

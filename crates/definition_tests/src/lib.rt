@@ -1,31 +1,46 @@
-//! The definitions of the main theorems at small values: what each has to refuse it refuses, and what stands beside that it accepts. So none
-//! of them can be weakened without a proof that breaks: a lateness, a stray, a half millimetre or an ending that a definition no longer asks
-//! for is refuted here (docs/PROMISES.md, "What is only tested, and what is neither"). The functions are laws, whose contracts are rows of
-//! specs/; nothing calls them.
+//! The definitions of the main theorems at small values: what each has to refuse it refuses, and what stands beside
+//! that it accepts. So none of them can be weakened without a proof that breaks: a lateness, a stray, a half millimetre
+//! or an ending that a definition no longer asks for is refuted here (docs/PROMISES.md, "What is only tested, and what
+//! is neither"). The functions are laws, whose contracts are rows of specs/; nothing calls them.
 #![tactic(auto)]
 
-ghost use Rattle.definition_tests.specs.Apart.{LateRows, MarginRows, StrayRows, TouchRows};
-ghost use Rattle.definition_tests.specs.Begins.{BeginRows, SafeRows};
+ghost use Rattle.definition_tests.specs.Apart.{ApartRows, LateRows, MarginRows, StrayRows, TouchRows};
+ghost use Rattle.definition_tests.specs.Begins.{BeginRows, OrderRows, ReadRows, SafeRows};
+ghost use Rattle.definition_tests.specs.Carried.{CarriesRows};
+ghost use Rattle.definition_tests.specs.Certified.{ValidRows};
+ghost use Rattle.definition_tests.specs.Ends.{EndsLaw};
+ghost use Rattle.definition_tests.specs.Headlines.{HeadlineRows};
 ghost use Rattle.definition_tests.specs.Joined.{JoinedRows};
 ghost use Rattle.definition_tests.specs.Motion.{AccelerationRows, JumpRows, SpeedRows};
-ghost use Rattle.definition_tests.specs.Near.{HalfRows, ShowRows};
-ghost use Rattle.definition_tests.specs.Stored.{CarriesRows, LandedRows, UploadRows};
+ghost use Rattle.definition_tests.specs.Halves.{HalfRows};
+ghost use Rattle.definition_tests.specs.Meetings.{ExplainRows, MeetRows};
+ghost use Rattle.definition_tests.specs.Near.{ShowRows};
+ghost use Rattle.definition_tests.specs.Regions.{RegionRows};
+ghost use Rattle.definition_tests.specs.Rights.{RightRows};
+ghost use Rattle.definition_tests.specs.Shows.{CueRows, PlanRows, WholeRows};
+ghost use Rattle.definition_tests.specs.Stands.{StandsRows};
+ghost use Rattle.definition_tests.specs.Stored.{LandedRows, UploadRows};
 
+use choreo_reader::show_law;
 use sep_certificate::certificate_law;
+use show_plan::uploads_law;
 use speed_bound::reach_law;
 use traj_codec::join_law;
 
-/// A law. Two drones fly one line one behind the other: apart where one is 4 ms late, and not where it is 5.
+/// A law. Instants that are farther apart than the lateness are not together; two drones that fly one line one behind
+/// the other touch where one is 5 ms late.
 pub fn late_rows()
     ensures { LateRows }
-{
-    certificate_law();
-    reach_law();
-}
+{}
 
 /// A law. A drone that strays by 3 mm may be 3 mm off, and no farther: two that are 7 mm apart may touch then.
 pub fn stray_rows()
     ensures { StrayRows }
+{}
+
+/// A law. The same drones fly apart where one is 4 ms late, and where they stray by 2 mm.
+pub fn apart_rows()
+    ensures { ApartRows }
 {
     certificate_law();
     reach_law();
@@ -41,22 +56,38 @@ pub fn margin_rows()
     ensures { MarginRows }
 {}
 
+/// A law. A certificate is valid where its leaf separates by all that is wanted, and has one whole tree for each pair
+/// and cue.
+pub fn valid_rows()
+    ensures { ValidRows }
+{}
+
 /// A law. Half a millimetre is near, and a micrometre more is not.
 pub fn half_rows()
     ensures { HalfRows }
 {}
 
-/// A law. What is sent isn't near to a show that is more than half a millimetre off, turned otherwise, or of other drones.
+/// A law. What is sent isn't near to a show that is more than half a millimetre off, turned otherwise, or of other
+/// drones.
 pub fn show_rows()
     ensures { ShowRows }
 {}
+
+/// A law. A short text is that of one show and not of its neighbour; texts without the header, or with a byte that may
+/// not stand there, are that of none.
+pub fn stands_rows()
+    ensures { StandsRows }
+{
+    show_law();
+}
 
 /// A law. A drone carries a flight where the three zero bytes stand after its bytes, and nowhere else.
 pub fn carries_rows()
     ensures { CarriesRows }
 {}
 
-/// A law. A flight without its whole ending is not stored, nor one that is far, touches another, hasn't started or comes with another byte.
+/// A law. A flight without its whole ending is not stored, nor one that is far, touches another, hasn't started or
+/// comes with another byte.
 pub fn landed_rows()
     ensures { LandedRows }
 {}
@@ -81,6 +112,21 @@ pub fn begin_rows()
     ensures { BeginRows }
 {}
 
+/// A law. In any order a drone begins once for each start after its define, and refuses one before.
+pub fn order_rows()
+    ensures { OrderRows }
+{}
+
+/// A law. A read that was right found the bytes of the load.
+pub fn read_rows()
+    ensures { ReadRows }
+{}
+
+/// A law. What is said of an upload that goes right is said of its bytes, its reads and its starts.
+pub fn right_rows()
+    ensures { RightRows }
+{}
+
 /// A law. What is said of uploads, of orders and of starts is said of some.
 pub fn upload_rows()
     ensures { UploadRows }
@@ -96,4 +142,54 @@ pub fn joined_rows()
     ensures { JoinedRows }
 {
     join_law();
+}
+
+/// A law. Until it begins a drone is at the first place of its curve, and from its end on at the last one: drones that
+/// fly apart do so before the first of them begins and after the last has ended.
+pub fn ends_law()
+    ensures { EndsLaw }
+{}
+
+/// A law. A flight keeps to a volume and out of a box where it has just room for itself, and not where a side is a
+/// millimetre nearer.
+pub fn region_rows()
+    ensures { RegionRows }
+{}
+
+/// A law. A text of each line of the language is that of one show.
+pub fn whole_rows()
+    ensures { WholeRows }
+{
+    show_law();
+}
+
+/// A law. A show's cues are its own, and each figure's as often as it is repeated, in its frame, by the drones of its
+/// roles.
+pub fn cue_rows()
+    ensures { CueRows }
+{}
+
+/// A law. The plan of a small flight, byte by byte.
+pub fn plan_rows()
+    ensures { PlanRows }
+{}
+
+/// A law. Drones that meet touch first where they do, and are closest there.
+pub fn meet_rows()
+    ensures { MeetRows }
+{}
+
+/// A law. What explains a show is what it has to say, of that show, and of nothing else.
+pub fn explain_rows()
+    ensures { ExplainRows }
+{
+    show_law();
+}
+
+/// A law. The headline holds of a small show and its plan, and not of a text that isn't a show or of a plan that isn't
+/// there.
+pub fn headline_rows()
+    ensures { HeadlineRows }
+{
+    uploads_law();
 }

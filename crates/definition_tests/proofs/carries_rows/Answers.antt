@@ -1,4 +1,4 @@
-use Rattle.definition_tests.proofs.StoredRows.{carries}
+use Rattle.definition_tests.proofs.CarriedRows.{carries}
 use Rattle.definition_tests.proofs.carries_rows.Goals as goal
 
 pub returns : goal.returns

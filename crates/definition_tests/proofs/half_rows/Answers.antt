@@ -1,4 +1,4 @@
-use Rattle.definition_tests.proofs.NearRows.{half}
+use Rattle.definition_tests.proofs.HalfRows.{half}
 use Rattle.definition_tests.proofs.half_rows.Goals as goal
 
 pub returns : goal.returns

@@ -2,4 +2,4 @@ use Rattle.definition_tests.proofs.ApartRows.{late}
 use Rattle.definition_tests.proofs.late_rows.Goals as goal
 
 pub returns : goal.returns
-returns c = late c.certificate_law.ensures c.reach_law.ensures
+returns c = late

@@ -2,4 +2,4 @@ use Rattle.definition_tests.proofs.ApartRows.{stray}
 use Rattle.definition_tests.proofs.stray_rows.Goals as goal
 
 pub returns : goal.returns
-returns c = stray c.certificate_law.ensures c.reach_law.ensures
+returns c = stray

@@ -1,0 +1,124 @@
+-- A show of one drone, explained.
+use Rattle.std.proofs.Common.{◌≡◌, ℕ, zero, suc, pos, List, [], ◌∷◌, Option, None, Some, codes, ap, get_or, length, arith, refl, subst, ◌∙◌, slice_get}
+use Rattle.std.specs.Prelude.{MatchOption}
+use Rattle.std.proofs.lemmas.List.Elements.{All-cons, All-nil}
+use Rattle.fleet_curves.specs.Raised.{raised_of}
+use Rattle.figure_expand.specs.Expanded.{expanded}
+use Rattle.sep_parts.specs.Apart as exact
+use Rattle.sep_parts.specs.Slots.{slots}
+use Rattle.traj_codec.specs.declared.traj.Traj.{Traj}
+use Rattle.touch_witness.specs.declared.site.Closest.{Closest}
+use Rattle.touch_witness.specs.Sites.{IsClosest, NoTouch}
+use Rattle.choreo_show.specs.Plain.{PlainShow}
+use Rattle.choreo_show.specs.declared.show.DroneLine.{DroneLine}
+use Rattle.choreo_reader.specs.Grammar.{IsItem, StandsFor}
+use Rattle.choreo_reader.specs.Grammar.Item.{Drone}
+use Rattle.choreo_reader.specs.Laws.{ShowLaw}
+use Rattle.text_lines.specs.Words.{Line}
+use Rattle.show_judge.specs.Shows.{trajectories_of}
+use Rattle.show_plan.specs.Separation.{FlyApart}
+use Rattle.show_judge.specs.Shows.{sent_of}
+use Rattle.show_studies.specs.Explained.{Explains, TellsTouches, blocked_of}
+use Rattle.definition_tests.specs.Meetings.{ExplainRows, solo, solo_text}
+use Rattle.definition_tests.specs.Near.{spot}
+use Rattle.definition_tests.specs.Stands.{line_of, nobody}
+
+-- the only drone
+abbrev only : DroneLine
+only = record { line = 2; name = record { items = codes "a" }; at = spot (pos 0) (pos 0) (pos 0) (pos 0) }
+
+solo_stands : StandsFor solo_text solo
+solo_stands = record {
+  items = Drone only ∷ [];
+  header = record { number = 1; words = codes "choreo" ∷ codes "1" ∷ [] };
+  lines = record { number = 2; words = codes "drone" ∷ codes "a" ∷ codes "0" ∷ codes "0" ∷ codes "0" ∷ codes "0" ∷ [] } ∷ [];
+  bytes = refl;
+  cut = refl;
+  first = refl;
+  said = (record { number = refl; says = (refl, refl, ((refl, refl), (record { is = refl; from = omega arith; to = omega arith }, (record { is = refl; from = omega arith; to = omega arith }, (record { is = refl; from = omega arith; to = omega arith }, (record { is = refl; from = omega arith; to = omega arith }, tt)))))) }, tt);
+  each = All-cons IsItem (Drone only) [] tt (All-nil IsItem);
+  single = record { memory = omega arith; trajectory = omega arith; ellipsoid = omega arith; stray = omega arith; late = omega arith };
+  makes = refl;
+}
+
+nobody_stands : StandsFor (line_of (codes "choreo 1")) (nobody 0)
+nobody_stands = record {
+  items = [];
+  header = record { number = 1; words = codes "choreo" ∷ codes "1" ∷ [] };
+  lines = [];
+  bytes = refl;
+  cut = refl;
+  first = refl;
+  said = tt;
+  each = All-nil IsItem;
+  single = record { memory = omega arith; trajectory = omega arith; ellipsoid = omega arith; stray = omega arith; late = omega arith };
+  makes = refl;
+}
+
+-- no two drones of a list of one differ
+no_two : (x t u : Traj) (a b : ℕ) → (a ≡ b → ⊥) → slice_get (x ∷ []) a ≡ Some t → slice_get (x ∷ []) b ≡ Some u → ⊥
+no_two x t u zero zero other first second = other refl
+no_two x t u (suc a) b other first second = let none : None ≡ Some t = first in absurd (cc)
+no_two x t u zero (suc b) other first second = let none : None ≡ Some u = second in absurd (cc)
+
+lone : (x : Traj) (r h stray late : ℕ) → exact.FlyApart r h stray late (x ∷ [])
+lone x r h stray late = λ a b t u other first second. absurd (no_two x t u a b other first second)
+
+-- no listed instant has one drone
+no_touch : (x : Traj) (r h fine : ℕ) → NoTouch (x ∷ []) r h fine
+no_touch x r h fine = λ s is. let low = is.pair in let high = is.drone in absurd (omega (arith, low, high))
+
+alone : TellsTouches 6 5 solo_text (Some []) (Some (line_of (codes "separated")))
+unfolding raised_of slots expanded
+alone = record {
+  s = solo;
+  text = line_of (codes "separated");
+  stands = solo_stands;
+  explains = record { closest = None; touch = None; is_closest = refl; is_first = no_touch _ 120 300 5; is = refl };
+  apart = λ blocked. lone _ 120 300 0 0;
+  written = refl;
+}
+
+-- nothing is closest, and nothing touches, in a list of one
+is_none : (x : Traj) (r h fine : ℕ) (c : Option Closest) → MatchOption c (length (x ∷ []) ≡ 1) (IsClosest (x ∷ []) r h fine) → c ≡ None
+is_none x r h fine None is = refl
+is_none x r h fine (Some c) is = let low = is.among.pair in let high = is.among.drone in absurd (omega (arith, low, high))
+
+-- so one text explains the show
+one_text : (text : List ℕ) → Explains 6 5 solo text → text ≡ line_of (codes "separated")
+unfolding raised_of slots expanded
+one_text text explains = rw (is_none _ 120 300 5 explains.closest explains.is_closest) at explains.is
+
+text_is : ShowLaw → (new : List ℕ) → TellsTouches 6 5 solo_text (Some []) (Some new) → new ≡ line_of (codes "separated")
+text_is law new tells =
+    let same : tells.s ≡ solo = law.one solo_text tells.s solo tells.stands solo_stands in
+    let written : new ≡ tells.text = tells.written in
+    written ∙ one_text tells.text (subst (λ (s : PlainShow). Explains 6 5 s tells.text) same tells.explains)
+
+none_of_nobody : (text : List ℕ) → Explains 6 5 (nobody 0) text → ⊥
+unfolding expanded
+none_of_nobody text explains = by explains.closest explains.is_closest where
+  by : (c : Option Closest) → MatchOption c (length (trajectories_of (nobody 0)) ≡ 1) (IsClosest (trajectories_of (nobody 0)) 120 300 5) → ⊥
+  by None is = let same : ◌≡◌ {A = ℕ} 0 1 = is in omega (arith, same)
+  by (Some c) is = let low = is.among.pair in let high = is.among.drone in absurd (omega (arith, low, high))
+
+-- the words of the first of these lines
+abbrev first_words : List Line → List (List ℕ)
+first_words [] = []
+first_words (line ∷ lines) = line.words
+
+pub explains : ShowLaw → ExplainRows
+explains law = record {
+  alone = alone;
+  unwritten = λ tells. let same = ap (λ (bytes : List ℕ). length bytes) (text_is law [] tells) in absurd (omega (arith, same));
+  touching = λ tells. let same = ap (λ (bytes : List ℕ). length bytes) (text_is law _ tells) in absurd (omega (arith, same));
+  no_show = λ old new tells.
+      let words : [] ≡ codes "choreo" ∷ codes "1" ∷ [] = ap first_words tells.stands.cut ∙ tells.stands.first in
+      let letters : ◌≡◌ {A = ℕ} 0 99 = ap (λ (ws : List (List ℕ)). get_or (get_or ws 0 []) 0 0) words in absurd (omega (arith, letters));
+  no_drone = λ old new tells.
+      let same : tells.s ≡ nobody 0 = law.one (line_of (codes "choreo 1")) tells.s (nobody 0) tells.stands nobody_stands in
+      none_of_nobody tells.text (subst (λ (s : PlainShow). Explains 6 5 s tells.text) same tells.explains);
+  apart = λ depth fine input s old new stands tells none.
+      let same : tells.s ≡ s = law.one input tells.s s tells.stands stands in
+      (subst (λ (x : PlainShow). blocked_of depth x ≡ None → FlyApart x.settings (sent_of x)) same tells.apart) none;
+}

@@ -1,0 +1,147 @@
+-- A show of one drone that stays, and its plan.
+use Rattle.std.proofs.lemmas.Grind.{common_steps}
+use Rattle.std.proofs.Common.{◌≡◌, ℕ, zero, suc, ◌-◌, ◌≤◌, length, pos, List, [], ◌∷◌, All, None, Some, codes, ap, get_or, arith, refl, ◌∙◌, slice_get}
+use Rattle.std.proofs.lemmas.List.Elements.{All-cons, All-nil}
+use Rattle.std.specs.Fmt.{digits}
+use Rattle.text_lines.specs.Words.{Line}
+use Rattle.traj_codec.specs.declared.traj.Traj.{Traj}
+use Rattle.traj_codec.specs.Joined.{hold, joined_from}
+use Rattle.traj_codec.specs.Spelling.{HasDuration, IsTrajectory}
+use Rattle.choreo_show.specs.Valid.{FitsPoint}
+use Rattle.choreo_show.specs.declared.show.DroneLine.{DroneLine}
+use Rattle.choreo_reader.specs.Grammar.{IsItem, StandsFor}
+use Rattle.choreo_reader.specs.Grammar.Item.{Blocks, Drone}
+use Rattle.cue_grid.specs.Cues.{grid_of}
+use Rattle.cue_grid.specs.Grids.{IsGrid}
+use Rattle.figure_expand.specs.Expanded.{expanded}
+use Rattle.upload_model.specs.Sessions.{packet_at, packet_count, part_count, read_count, write_count}
+use Rattle.show_plan.specs.Fitting.{IsSendable, size}
+use Rattle.show_plan.specs.Flight.{KeepsNearShow}
+use Rattle.show_plan.specs.Landing.{AreUploadable}
+use Rattle.show_plan.specs.Texts.{plan_text}
+use Rattle.show_plan.specs.Trajectories.{sent}
+use Rattle.show_plan.specs.Uploading.{Uploads, UploadsLaw}
+use Rattle.show_plan.proofs.Flight.{keeps_near_show}
+use Rattle.show_looks.specs.Compile.{Headline}
+use Rattle.definition_tests.specs.Headlines.{HeadlineRows, stay, stay_plan, stay_text}
+use Rattle.definition_tests.specs.Near.{spot}
+
+-- the only drone
+abbrev only : DroneLine
+only = record { line = 2; name = record { items = codes "a" }; at = spot (pos 0) (pos 0) (pos 0) (pos 0) }
+
+stay_stands : StandsFor stay_text stay
+stay_stands = record {
+  items = Drone only ∷ Blocks stay.body ∷ [];
+  header = record { number = 1; words = codes "choreo" ∷ codes "1" ∷ [] };
+  lines = record { number = 2; words = codes "drone" ∷ codes "a" ∷ codes "0" ∷ codes "0" ∷ codes "0" ∷ codes "0" ∷ [] }
+      ∷ record { number = 3; words = codes "cue" ∷ codes "10" ∷ [] } ∷ record { number = 4; words = codes "end" ∷ [] } ∷ [];
+  bytes = refl;
+  cut = refl;
+  first = refl;
+  said = (
+    record {
+      number = refl;
+      says = (
+        refl,
+        refl,
+        (
+          (refl, refl),
+          (
+            record { is = refl; from = omega arith; to = omega arith },
+            (
+              record { is = refl; from = omega arith; to = omega arith },
+              (record { is = refl; from = omega arith; to = omega arith }, (record { is = refl; from = omega arith; to = omega arith }, tt)),
+            ),
+          ),
+        ),
+      );
+    },
+    (record { number = refl; says = (refl, refl, (record { is = refl; from = omega arith; to = omega arith }, tt)) }, (record { number = tt; says = (refl, refl, tt) }, tt)),
+  );
+  each = All-cons IsItem (Drone only) (Blocks stay.body ∷ []) tt (All-cons IsItem (Blocks stay.body) [] (refl, omega arith) (All-nil IsItem));
+  single = record { memory = omega arith; trajectory = omega arith; ellipsoid = omega arith; stray = omega arith; late = omega arith };
+  makes = refl;
+}
+
+is_grid : IsGrid (grid_of stay)
+is_grid = record {
+  some_start = omega arith;
+  few_starts = omega arith;
+  starts = All-cons (λ (s : DroneLine). FitsPoint s.at) only []
+      ((omega arith, omega arith), ((omega arith, omega arith), ((omega arith, omega arith), ((omega arith, omega arith), tt)))) (All-nil (λ (s : DroneLine). FitsPoint s.at));
+  some_cue = omega arith;
+  few_cues = omega arith;
+  cues = (
+    record {
+      lasts = omega arith;
+      short = omega arith;
+      count = refl;
+      jobs = (((omega arith, (omega arith, omega arith), (omega arith, omega arith), (omega arith, omega arith)), tt), tt);
+    },
+    tt,
+  );
+}
+
+-- what the drone is sent
+abbrev flown : Traj
+flown = record { start = pos 0 ∷ pos 0 ∷ pos 0 ∷ pos 0 ∷ []; segments = hold 10 ∷ [] }
+
+sent_is : sent (grid_of stay) ≡ flown ∷ []
+unfolding expanded joined_from
+sent_is = refl
+
+formed : IsTrajectory flown
+formed = grind (arith, common_steps, All-cons, All-nil)
+
+lasts : All HasDuration flown.segments
+lasts = grind (arith, common_steps, All-cons, All-nil)
+
+uploadable : AreUploadable stay.settings (flown ∷ [])
+uploadable = record {
+  settings = (omega arith, omega arith, omega arith, omega arith, omega arith, omega arith, omega arith, omega arith);
+  some = omega arith;
+  few = omega arith;
+  formed = All-cons IsTrajectory flown [] formed (All-nil IsTrajectory);
+  sendable = All-cons IsSendable flown [] (record { few = omega arith; last = lasts }) (All-nil IsSendable);
+  segments = All-cons (λ (t : Traj). 1 ≤ length t.segments) flown [] (omega arith) (All-nil (λ (t : Traj). 1 ≤ length t.segments));
+  room = All-cons (λ (t : Traj). size t ≤ 4096 - 0) flown [] (omega arith) (All-nil (λ (t : Traj). size t ≤ 4096 - 0));
+}
+
+-- no two drones of a list of one differ
+no_two : (x t u : Traj) (a b : ℕ) → (a ≡ b → ⊥) → slice_get (x ∷ []) a ≡ Some t → slice_get (x ∷ []) b ≡ Some u → ⊥
+no_two x t u zero zero other first second = other refl
+no_two x t u (suc a) b other first second = let none : None ≡ Some t = first in absurd (cc)
+no_two x t u zero (suc b) other first second = let none : None ≡ Some u = second in absurd (cc)
+
+near : KeepsNearShow (grid_of stay) (flown ∷ [])
+unfolding expanded joined_from
+near = keeps_near_show (grid_of stay) is_grid
+
+uploads : UploadsLaw → Uploads (grid_of stay) stay.settings (flown ∷ [])
+uploads law = law (grid_of stay) stay.settings (flown ∷ []) uploadable near (λ a b t u other first second. absurd (no_two flown t u a b other first second))
+
+holds : UploadsLaw → Headline stay_text (Some []) (Some stay_plan)
+unfolding digits plan_text packet_at packet_count part_count read_count write_count
+holds law = record { s = stay; sent = flown ∷ []; stands = stay_stands; planned = refl; uploads = uploads law }
+
+after_others : UploadsLaw → Headline stay_text (Some (1 ∷ 2 ∷ [])) (Some (1 ∷ 2 ∷ stay_plan))
+unfolding digits plan_text packet_at packet_count part_count read_count write_count
+after_others law = record { s = stay; sent = flown ∷ []; stands = stay_stands; planned = refl; uploads = uploads law }
+
+-- the words of the first of these lines
+abbrev first_words : List Line → List (List ℕ)
+first_words [] = []
+first_words (line ∷ lines) = line.words
+
+pub headlines : UploadsLaw → HeadlineRows
+unfolding plan_text
+headlines law = record {
+  holds = holds law;
+  after_others = after_others law;
+  unwritten = λ is. let same : ◌≡◌ {A = ℕ} 0 112 = ap (λ (bytes : List ℕ). get_or bytes 0 0) is.planned in absurd (omega (arith, same));
+  cut = λ is. let same : ◌≡◌ {A = ℕ} 108 112 = ap (λ (bytes : List ℕ). get_or bytes 0 0) is.planned in absurd (omega (arith, same));
+  no_show = λ old new is.
+      let words : (codes "late" ∷ codes "3" ∷ []) ≡ codes "choreo" ∷ codes "1" ∷ [] = ap first_words is.stands.cut ∙ is.stands.first in
+      let letters : ◌≡◌ {A = ℕ} 108 99 = ap (λ (ws : List (List ℕ)). get_or (get_or ws 0 []) 0 0) words in absurd (omega (arith, letters));
+}
